@@ -1,0 +1,11 @@
+pub mod Rows
+pub mod Numbers
+pub mod Trim
+pub mod LineEnds
+pub mod FirstFeed
+pub mod Digits
+pub mod DigitSum
+pub mod Refusals
+pub mod RoundTrip
+pub mod NamesRead
+pub mod WritingLemmas

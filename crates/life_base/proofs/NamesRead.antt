@@ -1,0 +1,63 @@
+-- A name is the rule text that says it.
+use Rattle.std.proofs.Common.{◌≡◌, ℕ, List, [], ◌∷◌, length, Bool, true, false, cond, not, ◌&&◌, ◌||◌, refl, ap, sym, ◌∙◌, arith}
+use Rattle.std.specs.Prelude.{nat_le, nat_lt, ◌==◌, Option, Some, None, Result, Ok, Err}
+use Rattle.std.specs.List.{list_all, list_any}
+use Rattle.std.proofs.lemmas.Bool.Decides.{nat_tests}
+use Rattle.life_base.proofs.Numbers.{first, second}
+use Rattle.life_base.proofs.RoundTrip.{none_passes}
+use Rattle.life_base.specs.Text.{is_whitespace, without_last, trim, trim_start, is_empty}
+use Rattle.life_base.specs.Rules.{life_sets, rule_of, rule_of_trimmed, is_bad_text, life_or_other, other_rule, names_other_neighbours}
+use Rattle.life_base.specs.declared.kind.Kind.{Kind}
+use Rattle.life_base.specs.declared.kind.Kind.TheVariants.{BadRule, BoundedGrid, UnsupportedRule}
+use Rattle.life_base.specs.declared.rule.Rule.{Rule}
+use Rattle.life_base.specs.declared.rule.Rule.TheVariants.{Named}
+
+-- what follows from one test for each byte follows for all of them
+pub all_pass : (p q : ℕ → Bool) → ((b : ℕ) → p b ≡ true → q b ≡ true) → (xs : List ℕ) → list_all p xs ≡ true → list_all q xs ≡ true
+all_pass p q f [] h = refl
+all_pass p q f (b ∷ xs) h = ap (λ v. v && list_all q xs) (f b (first _ _ h)) ∙ all_pass p q f xs (second _ _ h)
+
+abbrev pub solid : ℕ → Bool
+solid b = not (is_whitespace b)
+
+not_true : (v : Bool) → not v ≡ true → v ≡ false
+not_true true h = cc
+not_true false h = refl
+
+-- a text whose first byte is no whitespace
+start_stays : (b : ℕ) (text : List ℕ) → is_whitespace b ≡ false → trim_start (b ∷ text) ≡ b ∷ text
+start_stays b text h = ap (λ v. cond v (trim_start text) (b ∷ text)) h
+
+-- a text without whitespace is its own trimmed form
+pub solid_trimmed : (text : List ℕ) → list_all solid text ≡ true → trim text ≡ text
+solid_trimmed [] h = refl
+solid_trimmed (b ∷ text) h =
+    ap (without_last is_whitespace) (start_stays b text (not_true (is_whitespace b) (first _ _ h))) ∙ none_passes is_whitespace (b ∷ text) h
+
+abbrev visible : ℕ → Bool
+visible b = nat_le 33 b && nat_le b 126
+
+visible_solid : (b : ℕ) → visible b ≡ true → solid b ≡ true
+visible_solid b h = grind (arith, nat_tests)
+
+last_of_or : (a b c : Bool) → (a || b || not c) ≡ false → c ≡ true
+last_of_or true b c h = cc
+last_of_or false true c h = cc
+last_of_or false false true h = refl
+last_of_or false false false h = cc
+
+pub rule_text_trimmed : (text : List ℕ) → is_bad_text text ≡ false → trim text ≡ text
+rule_text_trimmed text h =
+    solid_trimmed text (all_pass visible solid visible_solid text (last_of_or (is_empty text) (nat_lt 255 (length text)) (list_all visible text) h))
+
+-- the last step of `rule_of`
+pub name_says : (text : List ℕ) → is_bad_text text ≡ false → list_any (λ b. b == 58) text ≡ false → life_sets text ≡ None
+    → names_other_neighbours text ≡ false → list_any (λ b. b == 47) text ≡ false → rule_of text ≡ Ok (Named text)
+unfolding rule_of
+name_says text shape colon none other slash =
+    ap rule_of_trimmed (rule_text_trimmed text shape)
+    ∙ ap (λ v. cond v (Err BadRule) (cond (list_any (λ b. b == 58) text) (Err BoundedGrid) (life_or_other text (life_sets text)))) shape
+    ∙ ap (λ v. cond v (Err BoundedGrid) (life_or_other text (life_sets text))) colon
+    ∙ ap (life_or_other text) none
+    ∙ ap (λ v. cond v (Err UnsupportedRule) (cond (list_any (λ b. b == 47) text) (Err UnsupportedRule) (Ok (Named text)))) other
+    ∙ ap (λ v. cond v (Err UnsupportedRule) (Ok (Named text))) slash

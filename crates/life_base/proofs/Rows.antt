@@ -1,0 +1,136 @@
+-- The definitions at worked examples, by computation.
+use Rattle.std.proofs.Common.{◌≡◌, ℕ, ◌^◌, List, [], ◌∷◌, ◌++◌, refl, true, false}
+use Rattle.std.specs.Prelude.{codes, Result, Ok, Err}
+use Rattle.life_base.specs.Sets.{DigitSets}
+use Rattle.life_base.specs.Text.{lines_of, words_of, trim, value_of, is_digit_text}
+use Rattle.life_base.specs.Rules.{rule_of, rule_text, life_sets, is_bad_text}
+use Rattle.life_base.specs.declared.kind.Kind.{Kind}
+use Rattle.life_base.specs.declared.kind.Kind.TheVariants.{BadRule, BoundedGrid, UnsupportedRule, BirthOnZero}
+use Rattle.life_base.specs.declared.rule.Rule.{Rule}
+use Rattle.life_base.specs.declared.rule.Rule.TheVariants.{Life, Named}
+
+abbrev text_of : Result Rule Kind → Result (List ℕ) Kind
+text_of (Ok rule) = Ok (rule_text rule)
+text_of (Err kind) = Err kind
+
+row_0 : text_of (rule_of (codes "B/S")) ≡ Ok (codes "B/S")
+unfolding rule_of life_sets
+row_0 = refl
+
+row_1 : text_of (rule_of (codes "BS")) ≡ Ok (codes "B/S")
+unfolding rule_of life_sets
+row_1 = refl
+
+row_2 : text_of (rule_of (codes "/")) ≡ Ok (codes "B/S")
+unfolding rule_of life_sets
+row_2 = refl
+
+row_3 : text_of (rule_of (codes "23/")) ≡ Ok (codes "B/S23")
+unfolding rule_of life_sets
+row_3 = refl
+
+row_4 : text_of (rule_of (codes "23/3")) ≡ Ok (codes "B3/S23")
+unfolding rule_of life_sets
+row_4 = refl
+
+row_5 : text_of (rule_of (codes "b3s23")) ≡ Ok (codes "B3/S23")
+unfolding rule_of life_sets
+row_5 = refl
+
+row_6 : text_of (rule_of (codes "S23/B3")) ≡ Ok (codes "B3/S23")
+unfolding rule_of life_sets
+row_6 = refl
+
+row_7 : text_of (rule_of (codes "s32B333")) ≡ Ok (codes "B3/S23")
+unfolding rule_of life_sets
+row_7 = refl
+
+row_8 : text_of (rule_of (codes " B3/S23\t")) ≡ Ok (codes "B3/S23")
+unfolding rule_of life_sets
+row_8 = refl
+
+row_9 : text_of (rule_of (codes "b012/s")) ≡ Err BirthOnZero
+unfolding rule_of life_sets
+row_9 = refl
+
+row_10 : text_of (rule_of (codes "B3")) ≡ Ok (codes "B3")
+unfolding rule_of life_sets
+row_10 = refl
+
+row_11 : text_of (rule_of (codes "Life")) ≡ Ok (codes "Life")
+unfolding rule_of life_sets
+row_11 = refl
+
+row_12 : text_of (rule_of (codes "B2-a/S12")) ≡ Err UnsupportedRule
+unfolding rule_of life_sets
+row_12 = refl
+
+row_13 : text_of (rule_of (codes "B2/")) ≡ Err UnsupportedRule
+unfolding rule_of life_sets
+row_13 = refl
+
+row_14 : text_of (rule_of (codes "B9/S1")) ≡ Err UnsupportedRule
+unfolding rule_of life_sets
+row_14 = refl
+
+row_15 : text_of (rule_of (codes "B3S23V")) ≡ Err UnsupportedRule
+unfolding rule_of life_sets
+row_15 = refl
+
+row_16 : text_of (rule_of (codes "23/3V")) ≡ Err UnsupportedRule
+unfolding rule_of life_sets
+row_16 = refl
+
+row_17 : text_of (rule_of (codes "B3/S23h")) ≡ Err UnsupportedRule
+unfolding rule_of life_sets
+row_17 = refl
+
+row_18 : text_of (rule_of (codes "a/b/c")) ≡ Err UnsupportedRule
+unfolding rule_of life_sets
+row_18 = refl
+
+row_19 : text_of (rule_of (codes "B3/S23:T20")) ≡ Err BoundedGrid
+unfolding rule_of life_sets
+row_19 = refl
+
+row_20 : text_of (rule_of (codes "")) ≡ Err BadRule
+unfolding rule_of life_sets
+row_20 = refl
+
+row_21 : text_of (rule_of (codes "B3 S23")) ≡ Err BadRule
+unfolding rule_of life_sets
+row_21 = refl
+
+row_22 : text_of (rule_of (codes "B36/S125")) ≡ Ok (codes "B36/S125")
+unfolding rule_of life_sets
+row_22 = refl
+
+row_23 : text_of (rule_of (codes "W110")) ≡ Ok (codes "W110")
+unfolding rule_of life_sets
+row_23 = refl
+
+row_24 : text_of (rule_of (codes "B2-aS12")) ≡ Ok (codes "B2-aS12")
+unfolding rule_of life_sets
+row_24 = refl
+
+life_is_a_name : rule_of (codes "Life") ≡ Ok (Named (codes "Life"))
+unfolding rule_of life_sets
+life_is_a_name = refl
+
+lines_row : lines_of (codes "a\n\nb\r\nc") ≡ codes "a" ∷ [] ∷ codes "b\r" ∷ codes "c" ∷ []
+lines_row = refl
+
+no_lines : lines_of [] ≡ []
+no_lines = refl
+
+last_feed : lines_of (codes "a\n") ≡ codes "a" ∷ []
+last_feed = refl
+
+one_feed : lines_of (codes "\n") ≡ [] ∷ []
+one_feed = refl
+
+words_row : words_of (codes " 4  0 0\t1 21\r") ≡ codes "4" ∷ codes "0" ∷ codes "0" ∷ codes "1" ∷ codes "21" ∷ []
+words_row = refl
+
+value_row : value_of (codes "0018446744073709551616") ≡ 2 ^ 64
+value_row = refl

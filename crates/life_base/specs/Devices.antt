@@ -1,0 +1,12 @@
+-- What one call on a device does to its count of failures.
+use Rattle.std.specs.Prelude.{◌≡◌, ℕ, ◌+◌, ◌≤◌, Bool, true, false, Result, MatchResult}
+use Rattle.life_base.specs.declared.kind.Kind.{Kind}
+
+-- a call adds one failure exactly where it fails, and then answers this kind
+abbrev pub CountsFailure : {A : Type 0} → ℕ → ℕ → Result A Kind → Kind → Type 0
+CountsFailure old new r kind = MatchResult r (λ _. new ≡ old) (λ k. (new ≡ old + 1) × (k ≡ kind))
+
+-- a flag as a count
+abbrev pub count_of : Bool → ℕ
+count_of true = 1
+count_of false = 0

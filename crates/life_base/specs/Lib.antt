@@ -1,0 +1,11 @@
+pub mod Text
+pub mod Kinds
+pub mod Numbers
+pub mod Sets
+pub mod Rules
+pub mod Refusal
+pub mod Tree
+pub mod Devices
+pub mod DeviceState
+pub mod Inputs
+pub mod Writing

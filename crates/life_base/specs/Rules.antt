@@ -1,0 +1,125 @@
+-- Rule texts: what each text says, and the text of each rule.
+use Rattle.std.specs.Prelude.{◌≡◌, ℕ, ◌+◌, ◌-◌, ◌*◌, ◌/◌, ◌%◌, ◌^◌, ◌<◌, ◌≤◌, Bool, true, false, not, ◌&&◌, ◌||◌, List, [], ◌∷◌, ◌++◌, length, take, drop, map, filter, sum_by, nat_le, nat_lt, ◌==◌, if◌then◌else◌, bytes_eq, codes, is_some, get_or, Option, Some, None, Result, Ok, Err}
+use Rattle.std.specs.List.{list_all, list_any, slice_split}
+use Rattle.life_base.specs.Sets.{DigitSets}
+use Rattle.life_base.specs.Text.{trim, is_empty}
+use Rattle.life_base.specs.declared.kind.Kind.{Kind}
+use Rattle.life_base.specs.declared.kind.Kind.TheVariants.{BadRule, BoundedGrid, UnsupportedRule, BirthOnZero}
+use Rattle.life_base.specs.declared.rule.Rule.{Rule}
+use Rattle.life_base.specs.declared.rule.Rule.TheVariants.{Life, Named}
+
+-- the digits that a rule may name, the counts of eight neighbours
+abbrev pub counts : List ℕ
+counts = 0 ∷ 1 ∷ 2 ∷ 3 ∷ 4 ∷ 5 ∷ 6 ∷ 7 ∷ 8 ∷ []
+
+-- a set of digits contains this one
+abbrev pub has_digit : ℕ → ℕ → Bool
+has_digit set d = set / 2 ^ d % 2 == 1
+
+-- the set of the digits that a text names, in any order and any number of times
+abbrev pub digit_set : List ℕ → ℕ
+digit_set text = sum_by (λ d. if list_any (λ b. b == 48 + d) text then 2 ^ d else 0) counts
+
+-- the digits of a set, in rising order
+abbrev pub digits_of : ℕ → List ℕ
+digits_of set = map (λ d. 48 + d) (filter (has_digit set) counts)
+
+-- `0` to `8`
+abbrev pub is_count_digit : ℕ → Bool
+is_count_digit b = nat_le 48 b && nat_le b 56
+
+-- a letter in upper case
+abbrev pub upper : ℕ → ℕ
+upper b = if nat_le 97 b && nat_le b 122 then b - 32 else b
+
+-- the digits before, between and behind the bytes that are no digits
+abbrev pub digit_groups : List ℕ → List (List ℕ)
+digit_groups text = slice_split (λ b. not (is_count_digit b)) text
+
+-- the bytes that are no digits, letters in upper case
+abbrev pub marks : List ℕ → List ℕ
+marks text = map upper (filter (λ b. not (is_count_digit b)) text)
+
+abbrev pub sets : List ℕ → List ℕ → Option DigitSets
+sets births survivals = Some (record { births = digit_set births; survivals = digit_set survivals })
+
+-- The five forms of a B/S rule: `B3/S23`, `S23/B3`, `B3S23`, `S23B3` and `23/3`.
+abbrev pub life_form : List (List ℕ) → List ℕ → Option DigitSets
+life_form ([] ∷ first ∷ [] ∷ second ∷ []) marks =
+    if bytes_eq marks (codes "B/S") then sets first second
+    else (if bytes_eq marks (codes "S/B") then sets second first else None)
+life_form ([] ∷ first ∷ second ∷ []) marks =
+    if bytes_eq marks (codes "BS") then sets first second
+    else (if bytes_eq marks (codes "SB") then sets second first else None)
+life_form (first ∷ second ∷ []) marks = if bytes_eq marks (codes "/") then sets second first else None
+life_form _ marks = None
+
+-- the births and survivals of a text of one of the five forms
+unfoldable pub life_sets : List ℕ → Option DigitSets
+life_sets text = life_form (digit_groups text) (marks text)
+
+-- a B/S text followed by `V`, `v`, `H` or `h`
+abbrev pub names_other_neighbours : List ℕ → Bool
+names_other_neighbours text =
+    is_some (life_sets (take (length text - 1) text))
+    && (bytes_eq (map upper (drop (length text - 1) text)) (codes "V") || bytes_eq (map upper (drop (length text - 1) text)) (codes "H"))
+
+-- a text that no rule has: empty, above 255 bytes, or with a byte that is no visible ASCII character
+abbrev pub is_bad_text : List ℕ → Bool
+is_bad_text text = is_empty text || nat_lt 255 (length text) || not (list_all (λ b. nat_le 33 b && nat_le b 126) text)
+
+-- a B/S rule, unless cells are born on 0
+abbrev pub life_rule : DigitSets → Result Rule Kind
+life_rule sets = if has_digit sets.births 0 then Err BirthOnZero else Ok (Life sets)
+
+-- a text that is no B/S rule: a name, unless it names other neighbours or has a slash
+abbrev pub other_rule : List ℕ → Result Rule Kind
+other_rule text =
+    if names_other_neighbours text then Err UnsupportedRule
+    else (if list_any (λ b. b == 47) text then Err UnsupportedRule else Ok (Named text))
+
+abbrev pub life_or_other : List ℕ → Option DigitSets → Result Rule Kind
+life_or_other text (Some sets) = life_rule sets
+life_or_other text None = other_rule text
+
+-- the rule of a text without whitespace at its ends, or why it is none: the first of these tests that decides
+abbrev pub rule_of_trimmed : List ℕ → Result Rule Kind
+rule_of_trimmed text =
+    if is_bad_text text then Err BadRule
+    else (if list_any (λ b. b == 58) text then Err BoundedGrid else life_or_other text (life_sets text))
+
+-- the rule of a text, or why it is none
+unfoldable pub rule_of : List ℕ → Result Rule Kind
+rule_of text = rule_of_trimmed (trim text)
+
+-- the canonical text of a B/S rule
+abbrev pub sets_text : ℕ → ℕ → List ℕ
+sets_text births survivals = codes "B" ++ digits_of births ++ codes "/S" ++ digits_of survivals
+
+-- the canonical text of a rule
+abbrev pub rule_text : Rule → List ℕ
+rule_text (Life sets) = sets_text sets.births sets.survivals
+rule_text (Named name) = name
+
+-- the rule of a file that names none, B3/S23
+abbrev pub default_rule : Rule
+default_rule = Life (record { births = 8; survivals = 12 })
+
+-- The sets of a B/S rule: digits 0 to 8 alone, and no birth on 0.
+pub record AreLifeSets (sets : DigitSets) : Type 0 where
+  pub births : sets.births < 512
+  pub survivals : sets.survivals < 512
+  pub no_birth_on_zero : has_digit sets.births 0 ≡ false
+
+-- the bytes of a name are a rule text that says that name
+abbrev pub IsName : List ℕ → Type 0
+IsName name = rule_of name ≡ Ok (Named name)
+
+-- what holds of every rule value
+abbrev pub IsRule : Rule → Type 0
+IsRule (Life sets) = AreLifeSets sets
+IsRule (Named name) = IsName name
+
+-- what reading back a rule's text gives
+abbrev pub RulesReadBack : Type 0
+RulesReadBack = (rule : Rule) → IsRule rule → rule_of (rule_text rule) ≡ Ok rule

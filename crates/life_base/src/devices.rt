@@ -1,0 +1,160 @@
+//! Devices: what bytes are read from and written to.
+ghost use Rattle.std.specs.Prelude.{◌≡◌, ℕ, ◌<◌, ◌≤◌, ◌↔◌, List, Option, None, IsTrue, Bool, true, false, IfOk, OnOk, length};
+ghost use Rattle.std.specs.Io.{ReadsAtMost, WritesAtMost};
+ghost use Rattle.std.specs.Io.KnownBytes.{ReadConsumes, WriteAppends, Keeps};
+ghost use Rattle.std.proofs.Common.{rules};
+ghost use Rattle.life_base.specs.Devices.{CountsFailure, count_of};
+
+use crate::kind::Kind;
+use std::io::{Read, Write};
+
+/// What bytes are read from. A source that has failed isn't read again.
+pub trait Source {
+    // How many calls have failed: 0 or 1.
+    ghost failures: { Self → ℕ };
+
+    // The bytes that are left to read, where the source tells them.
+    ghost remaining: { Self → Option (List ℕ) } = { λ _. None };
+
+    /// Whether a call has failed.
+    fn failed(&self) -> bool
+        ensures { IsTrue result ↔ (failures self.now ≡ 1) };
+
+    /// Reads some of the next bytes into `buf`. A count of 0 into a nonempty `buf` is the end.
+    fn read(&mut self, buf: &mut [u8]) -> Result<usize, Kind>
+        requires { failures self.old ≡ 0 }
+        ensures count { ReadsAtMost result buf.new }
+        ensures failure { CountsFailure (failures self.old) (failures self.new) result Kind.ReadFault }
+        ensures bytes { ReadConsumes (remaining self.old) (remaining self.new) result buf.new };
+
+    ghost at_most_one: { (s : Self) → failures s ≤ 1 };
+}
+
+/// What bytes are written to. A sink that has failed isn't written to again.
+pub trait Sink {
+    // How many calls have failed: 0 or 1.
+    ghost failures: { Self → ℕ };
+
+    // The bytes that were written, where the sink tells them.
+    ghost contents: { Self → Option (List ℕ) } = { λ _. None };
+
+    // Whether a write took none of the bytes that it was given.
+    ghost stalled: { Self → Bool };
+
+    // Whether the last call was a flush that didn't fail.
+    ghost flushed: { Self → Bool };
+
+    /// Whether a call has failed.
+    fn failed(&self) -> bool
+        ensures { IsTrue result ↔ (failures self.now ≡ 1) };
+
+    /// Writes the first bytes of `buf`, and answers how many.
+    fn write(&mut self, buf: &[u8]) -> Result<usize, Kind>
+        requires { failures self.old ≡ 0 }
+        ensures count { WritesAtMost result buf.now }
+        ensures failure { CountsFailure (failures self.old) (failures self.new) result Kind.WriteFault }
+        ensures bytes { WriteAppends (contents self.old) (contents self.new) result buf.now }
+        ensures none { IfOk result (λ n. n ≡ 0 → 0 < length buf.now → stalled self.new ≡ true) };
+
+    /// Makes sure of what was written.
+    fn flush(&mut self) -> Result<(), Kind>
+        requires { failures self.old ≡ 0 }
+        ensures failure { CountsFailure (failures self.old) (failures self.new) result Kind.WriteFault }
+        ensures bytes { Keeps (contents self.old) (contents self.new) }
+        ensures flushed { OnOk result (flushed self.new ≡ true) };
+
+    ghost at_most_one: { (s : Self) → failures s ≤ 1 };
+}
+
+/// A device over any reader or writer of `std`.
+#[derive(Drop)]
+pub struct Device<T> {
+    inner: T,
+    failed: bool,
+    stalled: bool,
+    flushed: bool,
+}
+
+impl<T> Device<T> {
+    ghost use Rattle.life_base.specs.DeviceState.{device_inner, IsFresh};
+
+    /// A device over `inner` that has not failed.
+    pub fn new(inner: T) -> Device<T>
+        ensures inner { device_inner result ≡ inner }
+        ensures fresh { IsFresh result }
+    {
+        Device {
+            inner,
+            failed: false,
+            stalled: false,
+            flushed: false,
+        }
+    }
+}
+
+impl<R: Read> Source for Device<R> {
+    ghost failures = { λ d. count_of d.failed };
+
+    ghost remaining = { λ d. R.remaining d.inner };
+
+    ghost at_most_one = { λ d. elim d.failed as (λ f. count_of f ≤ 1) [ true ↦ Prim.search rules | false ↦ Prim.search rules ] };
+
+    fn failed(&self) -> bool {
+        self.failed
+    }
+
+    fn read(&mut self, buf: &mut [u8]) -> Result<usize, Kind> {
+        match self.inner.read(buf) {
+            Ok(count) => Ok(count),
+            Err(_) => {
+                self.failed = true;
+                Err(Kind::ReadFault)
+            }
+        }
+    }
+}
+
+impl<W: Write> Sink for Device<W> {
+    ghost failures = { λ d. count_of d.failed };
+
+    ghost contents = { λ d. W.contents d.inner };
+
+    ghost stalled = { λ d. d.stalled };
+
+    ghost flushed = { λ d. d.flushed };
+
+    ghost at_most_one = { λ d. elim d.failed as (λ f. count_of f ≤ 1) [ true ↦ Prim.search rules | false ↦ Prim.search rules ] };
+
+    fn failed(&self) -> bool {
+        self.failed
+    }
+
+    fn write(&mut self, buf: &[u8]) -> Result<usize, Kind> {
+        self.flushed = false;
+        match self.inner.write(buf) {
+            Ok(count) => {
+                if count == 0 && !buf.is_empty() {
+                    self.stalled = true;
+                }
+                Ok(count)
+            }
+            Err(_) => {
+                self.failed = true;
+                Err(Kind::WriteFault)
+            }
+        }
+    }
+
+    fn flush(&mut self) -> Result<(), Kind> {
+        match self.inner.flush() {
+            Ok(()) => {
+                self.flushed = true;
+                Ok(())
+            }
+            Err(_) => {
+                self.failed = true;
+                Err(Kind::WriteFault)
+            }
+        }
+    }
+}

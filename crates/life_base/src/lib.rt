@@ -1,0 +1,29 @@
+//! What every layer speaks of: text, lines, numbers, rules, faults, cells, and the devices that bytes are read from and
+//! written to.
+#![tactic(auto)]
+
+mod cell;
+mod devices;
+mod fault;
+mod items;
+mod kind;
+pub mod laws;
+mod line_iterator;
+mod reading;
+mod rule;
+mod rule_reading;
+mod rule_text;
+mod text;
+mod writing;
+
+pub use cell::{Cell, State};
+pub use devices::{Device, Sink, Source};
+pub use fault::{Fault, Place};
+pub use items::Items;
+pub use kind::Kind;
+pub use line_iterator::Lines;
+pub use reading::read_within;
+pub use rule::{LifeRule, Name, Rule};
+pub use rule_text::append;
+pub use text::{begins_with, is_blank, is_digit_text, is_whitespace, lines, read_i64, read_u64, trimmed, trimmed_start};
+pub use writing::{deliver, write_text, write_texts};

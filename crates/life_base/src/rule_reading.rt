@@ -1,0 +1,202 @@
+//! Rules, read from texts.
+
+ghost use Rattle.std.specs.Prelude.{◌≡◌, ◌<◌, ◌^◌, ◌==◌, ◌+◌, map, if◌then◌else◌, nat_le, ◌&&◌, ◌∷◌, [], IfSome, IfOk, IfErr, MatchResult, Some, None, Ok, Err, false, true, is_some};
+ghost use Rattle.std.specs.List.{list_any, list_all};
+ghost use Rattle.std.specs.Option.{option_map};
+ghost use Rattle.life_base.specs.Sets.{DigitSets};
+ghost use Rattle.life_base.specs.Rules.{is_count_digit as is_counted, digit_set as digits_named, digit_groups as groups_of, marks as marks_of, upper as upper_case, life_form as form_of, life_sets as sets_of, names_other_neighbours as has_other_neighbours, is_bad_text as breaks_rules, life_rule as rule_of_sets, other_rule as rule_of_others, rule_of_trimmed, rule_of};
+ghost use Rattle.life_base.specs.Refusal.{Answers};
+ghost use Rattle.life_base.specs.declared.kind.Kind.TheVariants.{Memory};
+
+use crate::kind::Kind;
+use crate::rule::{LifeRule, Name, Rule};
+use crate::text::trimmed;
+use std::alloc::{AllocError, Global};
+
+/// Whether a byte is one of `0` to `8`.
+fn is_count_digit(byte: u8) -> bool
+    ensures { result ≡ is_counted byte }
+{
+    48 <= byte && byte <= 56
+}
+
+/// The bit of a digit that a text names, else 0.
+fn digit_bit(text: &[u8], digit: u8) -> u16
+    requires { digit < 9 }
+    ensures { result ≡ (if list_any (λ b. b == 48 + digit) text.now then 2 ^ digit else 0) }
+{
+    if text.contains(&(48 + digit)) {
+        1 << digit
+    } else {
+        0
+    }
+}
+
+/// The set of the digits that a text names.
+fn digit_set(text: &[u8]) -> u16
+    ensures set { result ≡ digits_named text.now }
+    ensures bound { result < 512 }
+{
+    let mut set = 0;
+    for digit in 0..9u8 {
+        set += digit_bit(text, digit);
+    }
+    set
+}
+
+/// The digits before, between and behind the bytes that are no digits.
+fn digit_groups(alloc: Global, text: &[u8]) -> Result<Vec<&[u8]>, AllocError>
+    ensures { IfOk result (λ groups. map (λ group. group.now) groups.items ≡ groups_of text.now) }
+{
+    text.split(|b| !is_count_digit(*b)).collect(alloc)
+}
+
+/// The byte, a letter in upper case.
+fn upper(byte: u8) -> u8
+    ensures { result ≡ upper_case byte }
+{
+    if 97 <= byte && byte <= 122 { byte - 32 } else { byte }
+}
+
+/// The bytes that are no digits, letters in upper case.
+fn marks(alloc: Global, text: &[u8]) -> Result<Vec<u8>, AllocError>
+    ensures { IfOk result (λ marks. marks.items ≡ marks_of text.now) }
+{
+    text.iter().filter(|b| !is_count_digit(**b)).map(|b| upper(*b)).collect(alloc)
+}
+
+/// The births and the survivals of two texts of digits, by the two letters around a slash.
+fn form_with_slash(marks: &[u8], first: &[u8], second: &[u8]) -> Option<(u16, u16)>
+    ensures bounds { IfSome result (λ p. (p.0 < 512) × (p.1 < 512)) }
+    ensures form { option_map (λ p. record { births = p.0; survivals = p.1 }) result ≡ form_of ([] ∷ first.now ∷ [] ∷ second.now ∷ []) marks.now }
+{
+    match marks {
+        b"B/S" => Some((digit_set(first), digit_set(second))),
+        b"S/B" => Some((digit_set(second), digit_set(first))),
+        _ => None,
+    }
+}
+
+/// The same, by the two letters alone.
+fn form_without_slash(marks: &[u8], first: &[u8], second: &[u8]) -> Option<(u16, u16)>
+    ensures bounds { IfSome result (λ p. (p.0 < 512) × (p.1 < 512)) }
+    ensures form { option_map (λ p. record { births = p.0; survivals = p.1 }) result ≡ form_of ([] ∷ first.now ∷ second.now ∷ []) marks.now }
+{
+    match marks {
+        b"BS" => Some((digit_set(first), digit_set(second))),
+        b"SB" => Some((digit_set(second), digit_set(first))),
+        _ => None,
+    }
+}
+
+/// The births and the survivals of a text of one of the five forms, by its digits and its marks.
+fn life_form(groups: &[&[u8]], marks: &[u8]) -> Option<(u16, u16)>
+    ensures bounds { IfSome result (λ p. (p.0 < 512) × (p.1 < 512)) }
+    ensures form { option_map (λ p. record { births = p.0; survivals = p.1 }) result ≡ form_of (map (λ group. group.now) groups.now) marks.now }
+{
+    match groups {
+        [[], first, [], second] => form_with_slash(marks, first, second),
+        [[], first, second] => form_without_slash(marks, first, second),
+        [first, second] => match marks {
+            b"/" => Some((digit_set(second), digit_set(first))),
+            _ => None,
+        },
+        _ => None,
+    }
+}
+
+/// The births and the survivals of a text of one of the five forms.
+fn life_sets(alloc: Global, text: &[u8]) -> Result<Option<(u16, u16)>, Kind>
+    ensures ok { IfOk result (λ found. option_map (λ p. record { births = p.0; survivals = p.1 }) found ≡ sets_of text.now) }
+    ensures bounds { IfOk result (λ found. IfSome found (λ p. (p.0 < 512) × (p.1 < 512))) }
+    ensures err { IfErr result (λ kind. kind ≡ Memory) }
+{
+    let Ok(groups) = digit_groups(alloc, text) else {
+        return Err(Kind::Memory);
+    };
+    let Ok(marks) = marks(alloc, text) else {
+        return Err(Kind::Memory);
+    };
+    Ok(life_form(&groups, &marks))
+}
+
+/// Whether a text is a B/S text followed by `V`, `v`, `H` or `h`.
+fn names_other_neighbours(alloc: Global, text: &[u8]) -> Result<bool, Kind>
+    ensures ok { IfOk result (λ yes. yes ≡ has_other_neighbours text.now) }
+    ensures err { IfErr result (λ kind. kind ≡ Memory) }
+{
+    match text {
+        [front @ .., b'V' | b'v' | b'H' | b'h'] => Ok(life_sets(alloc, front)?.is_some()),
+        _ => Ok(false),
+    }
+}
+
+/// Whether no rule has this text.
+fn is_bad_text(text: &[u8]) -> bool
+    ensures { result ≡ breaks_rules text.now }
+{
+    text.is_empty() || 255 < text.len() || !is_visible(text)
+}
+
+/// Whether each byte is a visible ASCII character.
+fn is_visible(text: &[u8]) -> bool
+    ensures { result ≡ list_all (λ b. nat_le 33 b && nat_le b 126) text.now }
+{
+    text.iter().all(|b| 33 <= *b && *b <= 126)
+}
+
+/// The B/S rule of two sets, unless cells are born on 0.
+fn life_rule(births: u16, survivals: u16) -> Result<Rule, Kind>
+    requires births { births < 512 }
+    requires survivals { survivals < 512 }
+    ensures { result ≡ rule_of_sets (record { births = births; survivals = survivals }) }
+{
+    if births & 1 == 1 {
+        return Err(Kind::BirthOnZero);
+    }
+    Ok(Rule::Life(LifeRule { births, survivals }))
+}
+
+/// The rule of a text that is no B/S text: a name, unless it names other neighbours or has a slash.
+fn other_rule(alloc: Global, text: &[u8]) -> Result<Rule, Kind>
+    requires shape { breaks_rules text.now ≡ false }
+    requires unbounded { list_any (λ b. b == 58) text.now ≡ false }
+    requires named { sets_of text.now ≡ None }
+    ensures { Answers result (rule_of_others text.now) }
+{
+    if names_other_neighbours(alloc, text)? {
+        return Err(Kind::UnsupportedRule);
+    }
+    if text.contains(&b'/') {
+        return Err(Kind::UnsupportedRule);
+    }
+    match Vec::from_slice(alloc, text) {
+        Ok(text) => Ok(Rule::Named(Name { text })),
+        Err(_) => Err(Kind::Memory),
+    }
+}
+
+/// The rule of a text without whitespace at its ends.
+fn trimmed_rule(alloc: Global, text: &[u8]) -> Result<Rule, Kind>
+    ensures { Answers result (rule_of_trimmed text.now) }
+{
+    if is_bad_text(text) {
+        return Err(Kind::BadRule);
+    }
+    if text.contains(&b':') {
+        return Err(Kind::BoundedGrid);
+    }
+    match life_sets(alloc, text)? {
+        Some((births, survivals)) => life_rule(births, survivals),
+        None => other_rule(alloc, text),
+    }
+}
+
+impl Rule {
+    /// The rule of a text.
+    pub fn parse(alloc: Global, text: &[u8]) -> Result<Rule, Kind>
+        ensures { Answers result (rule_of text.now) }
+    {
+        trimmed_rule(alloc, trimmed(text))
+    }
+}

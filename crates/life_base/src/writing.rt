@@ -1,0 +1,55 @@
+//! Texts written to a sink.
+ghost use Rattle.std.specs.Prelude.{◌≡◌, ◌⊎◌, true, OnOk, OnErr, IfErr};
+ghost use Rattle.std.specs.List.{flat_map};
+ghost use Rattle.life_base.specs.Writing.{WritesText};
+
+use crate::devices::Sink;
+use crate::kind::Kind;
+
+/// Writes the whole text.
+pub fn write_text<W: Sink>(writer: &mut W, text: &[u8]) -> Result<(), Kind>
+    requires { W.failures writer.old ≡ 0 }
+    ensures text { WritesText (W.contents writer.old) (W.contents writer.new) text.now result }
+    ensures works { OnOk result (W.failures writer.new ≡ 0) }
+    ensures kind { IfErr result (λ k. k ≡ Kind.WriteFault) }
+    ensures cause { OnErr result ((W.failures writer.new ≡ 1) ⊎ (W.stalled writer.new ≡ true)) }
+{
+    let mut at = 0;
+    while at < text.len() {
+        let count = writer.write(&text[at..])?;
+        if count == 0 {
+            return Err(Kind::WriteFault);
+        }
+        at += count;
+    }
+    Ok(())
+}
+
+/// Writes the texts, one after another.
+pub fn write_texts<W: Sink>(writer: &mut W, texts: &[&[u8]]) -> Result<(), Kind>
+    requires { W.failures writer.old ≡ 0 }
+    ensures text { WritesText (W.contents writer.old) (W.contents writer.new) (flat_map (λ text. text.now) texts.now) result }
+    ensures works { OnOk result (W.failures writer.new ≡ 0) }
+    ensures kind { IfErr result (λ k. k ≡ Kind.WriteFault) }
+    ensures cause { OnErr result ((W.failures writer.new ≡ 1) ⊎ (W.stalled writer.new ≡ true)) }
+{
+    for text in texts {
+        if let Err(kind) = write_text(writer, text) {
+            return Err(kind);
+        }
+    }
+    Ok(())
+}
+
+/// Writes the whole text and flushes.
+pub fn deliver<W: Sink>(writer: &mut W, text: &[u8]) -> Result<(), Kind>
+    requires { W.failures writer.old ≡ 0 }
+    ensures text { WritesText (W.contents writer.old) (W.contents writer.new) text.now result }
+    ensures works { OnOk result (W.failures writer.new ≡ 0) }
+    ensures flushed { OnOk result (W.flushed writer.new ≡ true) }
+    ensures kind { IfErr result (λ k. k ≡ Kind.WriteFault) }
+    ensures cause { OnErr result ((W.failures writer.new ≡ 1) ⊎ (W.stalled writer.new ≡ true)) }
+{
+    write_text(writer, text)?;
+    writer.flush()
+}
