@@ -9,3 +9,4 @@ pub mod Refusals
 pub mod RoundTrip
 pub mod NamesRead
 pub mod WritingLemmas
+pub mod RuleKinds

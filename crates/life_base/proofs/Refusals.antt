@@ -38,16 +38,16 @@ module _ (Grammar : List (List ℕ) → Type 0) (broken : List (List ℕ) → Li
     place_at : (lines : List (List ℕ)) (n : ℕ) (kind : Kind) → n < length lines → UnbrokenBelow lines n
         → broken (take n lines) (get_or lines n []) ≡ Some kind → IsPlace Grammar lines (n + 1)
     place_at lines n kind h u b = record {
-        counted = omega arith;
-        within = omega arith;
-        before = λ k l. by_lines.complete (take k lines) (cut lines k (omega arith) (λ j m. u j (omega arith)));
-        here = λ l p.
+      counted = omega arith;
+      within = omega arith;
+      before = λ k l. by_lines.complete (take k lines) (cut lines k (omega arith) (λ j m. u j (omega arith)));
+      here = λ l p.
           let m : n + 1 ≤ length lines = l in
           let v : broken (take n (take (n + 1) lines)) (get_or (take (n + 1) lines) n []) ≡ None =
-              front_unbroken (take (n + 1) lines) p n (omega (arith, length-take-le (n + 1) lines m)) in
+          front_unbroken (take (n + 1) lines) p n (omega (arith, length-take-le (n + 1) lines m)) in
           let w : broken (take n lines) (get_or lines n []) ≡ None = rw (take-take n (n + 1) lines (omega arith), get_or-take (n + 1) lines n [] (omega arith)) at v in
-          cc
-      }
+          cc;
+    }
 
     -- Why a file is refused whose line n + 1 is the first that breaks a rule.
     pub refusal_at : (lines : List (List ℕ)) (n : ℕ) (kind : Kind) → n < length lines → UnbrokenBelow lines n
@@ -61,7 +61,7 @@ module _ (Grammar : List (List ℕ) → Type 0) (broken : List (List ℕ) → Li
           place = place_at lines n kind h u b;
           line = refl;
           at_line = λ l. rw back b;
-          at_end = λ l. absurd (omega arith)
+          at_end = λ l. absurd (omega arith);
         }
 
     -- Why a file is refused whose lines break no rule.
@@ -69,15 +69,15 @@ module _ (Grammar : List (List ℕ) → Type 0) (broken : List (List ℕ) → Li
         → missing lines ≡ Some kind
         → IsRefusal Grammar (BreaksBy broken) missing lines (record { place = record { line = min (length lines + 1) (2 ^ 64 - 1) }; kind = kind })
     refusal_at_end lines kind u r lacks = record {
-        refused = r;
-        n = length lines + 1;
-        place = record {
-          counted = omega arith;
-          within = omega arith;
-          before = λ k l. by_lines.complete (take k lines) (cut lines k (omega arith) (λ j m. u j (omega arith)));
-          here = λ l p. absurd (omega arith)
-        };
-        line = refl;
-        at_line = λ l. absurd (omega arith);
-        at_end = λ l. lacks
-      }
+      refused = r;
+      n = length lines + 1;
+      place = record {
+        counted = omega arith;
+        within = omega arith;
+        before = λ k l. by_lines.complete (take k lines) (cut lines k (omega arith) (λ j m. u j (omega arith)));
+        here = λ l p. absurd (omega arith);
+      };
+      line = refl;
+      at_line = λ l. absurd (omega arith);
+      at_end = λ l. lacks;
+    }

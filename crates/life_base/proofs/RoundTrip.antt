@@ -26,8 +26,9 @@ at_or_below k n h = grind arith
 all_below_at : (n : ℕ) (p : ℕ → Bool) (k : ℕ) → all_below n p ≡ true → k < n → p k ≡ true
 all_below_at zero p k h l = absurd (omega arith)
 all_below_at (suc n) p k h l = elim (at_or_below k n l) [
-    inl e ↦ ap p e ∙ first _ _ h
-  | inr m ↦ all_below_at n p k (second _ _ h) m ]
+  | inl e ↦ ap p e ∙ first _ _ h
+  | inr m ↦ all_below_at n p k (second _ _ h) m
+]
 
 abbrev set_test : ℕ → Bool
 set_test set = digit_set (digits_of set) == set && (list_all is_count_digit (digits_of set) && nat_le (length (digits_of set)) 9)
@@ -64,9 +65,9 @@ text_passes : (q : ℕ → Bool) → ((b : ℕ) → is_count_digit b ≡ true �
     → (ds es : List ℕ) → list_all is_count_digit ds ≡ true → list_all is_count_digit es ≡ true → list_all q (66 ∷ (ds ++ 47 ∷ 83 ∷ es)) ≡ true
 text_passes q f m ds es d e =
     both (q 66) _ (first _ _ m)
-      (list_all-append q ds (47 ∷ 83 ∷ es)
-      ∙ both (list_all q ds) _ (digits_pass q f ds d)
-        (both (q 47) _ (first (q 47) _ (second (q 66) _ m)) (both (q 83) _ (first (q 83) true (second (q 47) _ (second (q 66) _ m))) (digits_pass q f es e))))
+    (list_all-append q ds (47 ∷ 83 ∷ es)
+    ∙ both (list_all q ds) _ (digits_pass q f ds d)
+    (both (q 47) _ (first (q 47) _ (second (q 66) _ m)) (both (q 83) _ (first (q 83) true (second (q 47) _ (second (q 66) _ m))) (digits_pass q f es e))))
 
 -- a text of which no byte passes stays whole
 pub none_passes : (test : ℕ → Bool) (xs : List ℕ) → list_all (λ b. not (test b)) xs ≡ true → without_last test xs ≡ xs
@@ -75,17 +76,17 @@ none_passes test (b ∷ xs) h =
     ap (λ v. cond (v && list_all test xs) [] (b ∷ without_last test xs)) (not-true (test b) (first _ _ h))
     ∙ ap (λ (t : List ℕ). b ∷ t) (none_passes test xs (second _ _ h))
   where
-  not-true : (v : Bool) → not v ≡ true → v ≡ false
-  not-true true k = cc
-  not-true false k = refl
+    not-true : (v : Bool) → not v ≡ true → v ≡ false
+    not-true true k = cc
+    not-true false k = refl
 
 no_any : (test : ℕ → Bool) (xs : List ℕ) → list_all (λ b. not (test b)) xs ≡ true → list_any test xs ≡ false
 no_any test [] h = refl
 no_any test (b ∷ xs) h = ap (λ v. v || list_any test xs) (not-true (test b) (first _ _ h)) ∙ no_any test xs (second _ _ h)
   where
-  not-true : (v : Bool) → not v ≡ true → v ≡ false
-  not-true true k = cc
-  not-true false k = refl
+    not-true : (v : Bool) → not v ≡ true → v ≡ false
+    not-true true k = cc
+    not-true false k = refl
 
 -- ---- the groups of digits and the marks
 

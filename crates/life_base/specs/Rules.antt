@@ -5,6 +5,7 @@ use Rattle.life_base.specs.Sets.{DigitSets}
 use Rattle.life_base.specs.Text.{trim, is_empty}
 use Rattle.life_base.specs.declared.kind.Kind.{Kind}
 use Rattle.life_base.specs.declared.kind.Kind.TheVariants.{BadRule, BoundedGrid, UnsupportedRule, BirthOnZero}
+use Rattle.life_base.specs.declared.kind.Kind.TheVariants as kinds
 use Rattle.life_base.specs.declared.rule.Rule.{Rule}
 use Rattle.life_base.specs.declared.rule.Rule.TheVariants.{Life, Named}
 
@@ -123,3 +124,15 @@ IsRule (Named name) = IsName name
 -- what reading back a rule's text gives
 abbrev pub RulesReadBack : Type 0
 RulesReadBack = (rule : Rule) → IsRule rule → rule_of (rule_text rule) ≡ Ok rule
+
+-- the kinds with which a rule text is refused
+abbrev pub is_rule_kind : Kind → Bool
+is_rule_kind kinds.BadRule = true
+is_rule_kind kinds.BoundedGrid = true
+is_rule_kind kinds.UnsupportedRule = true
+is_rule_kind kinds.BirthOnZero = true
+is_rule_kind _ = false
+
+-- a text that is no rule is refused with one of these
+abbrev pub RuleTextsRefused : Type 0
+RuleTextsRefused = (text : List ℕ) (kind : Kind) → rule_of text ≡ Err kind → is_rule_kind kind ≡ true

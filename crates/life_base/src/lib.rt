@@ -16,7 +16,7 @@ mod rule_text;
 mod text;
 mod writing;
 
-pub use cell::{Cell, State};
+pub use cell::{Cell, MAX_LEVEL, State};
 pub use devices::{Device, Sink, Source};
 pub use fault::{Fault, Place};
 pub use items::Items;
@@ -25,5 +25,8 @@ pub use line_iterator::Lines;
 pub use reading::read_within;
 pub use rule::{LifeRule, Name, Rule};
 pub use rule_text::append;
-pub use text::{begins_with, is_blank, is_digit_text, is_whitespace, lines, read_i64, read_u64, trimmed, trimmed_start};
+pub use text::{
+    begins_with, is_blank, is_digit_text, is_whitespace, lines, read_i64, read_u64, trimmed,
+    trimmed_start,
+};
 pub use writing::{deliver, write_text, write_texts};

@@ -55,14 +55,21 @@ fn digit_groups(alloc: Global, text: &[u8]) -> Result<Vec<&[u8]>, AllocError>
 fn upper(byte: u8) -> u8
     ensures { result ≡ upper_case byte }
 {
-    if 97 <= byte && byte <= 122 { byte - 32 } else { byte }
+    if 97 <= byte && byte <= 122 {
+        byte - 32
+    } else {
+        byte
+    }
 }
 
 /// The bytes that are no digits, letters in upper case.
 fn marks(alloc: Global, text: &[u8]) -> Result<Vec<u8>, AllocError>
     ensures { IfOk result (λ marks. marks.items ≡ marks_of text.now) }
 {
-    text.iter().filter(|b| !is_count_digit(**b)).map(|b| upper(*b)).collect(alloc)
+    text.iter()
+        .filter(|b| !is_count_digit(**b))
+        .map(|b| upper(*b))
+        .collect(alloc)
 }
 
 /// The births and the survivals of two texts of digits, by the two letters around a slash.

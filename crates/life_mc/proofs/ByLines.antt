@@ -1,0 +1,31 @@
+-- The macrocell format is a grammar of lines.
+use Rattle.std.proofs.Common.{◌≡◌, ℕ, zero, suc, ◌+◌, ◌<◌, List, [], ◌∷◌, ◌++◌, length, take, get_or, true, refl, ap, sym, subst, ◌∙◌, arith}
+use Rattle.std.specs.Prelude.{codes, Option, Some, None}
+use Rattle.life_base.specs.Refusal.{Prefix}
+use Rattle.life_base.proofs.Refusals.{UnbrokenBelow, IsByLines}
+use Rattle.life_mc.specs.Macrocell.{Macrocell}
+use Rattle.life_mc.specs.Reading.{AreMacrocell, Accepts, broken, missing, rule_in_force, generation_in_force, squares_of}
+
+module _ (top : ℕ) where
+  -- lines that break no rule are a file, where there are any
+  pub accepted : (lines : List (List ℕ)) → 0 < length lines → UnbrokenBelow (Accepts top) (broken top) missing lines (length lines) → Accepts top lines
+  accepted lines h u = (
+    record { rule = rule_in_force lines; generation = generation_in_force lines; lines = squares_of lines },
+    record { header = h; unbroken = u; rule = refl; generation = refl; squares = refl },
+  )
+
+  header_line : UnbrokenBelow (Accepts top) (broken top) missing (codes "[M2]" ∷ []) 1
+  unfolding broken
+  header_line zero h = refl
+  header_line (suc k) h = absurd (omega arith)
+
+  append_none : (lines : List (List ℕ)) → lines ≡ lines ++ []
+  append_none [] = refl
+  append_none (line ∷ lines) = ap (λ (t : List (List ℕ)). line ∷ t) (append_none lines)
+
+  front : (lines : List (List ℕ)) → UnbrokenBelow (Accepts top) (broken top) missing lines (length lines) → Prefix (Accepts top) lines
+  front [] u = (true ∷ [], accepted (codes "[M2]" ∷ []) (omega arith) header_line)
+  front (line ∷ lines) u = ([], subst (Accepts top) (append_none (line ∷ lines)) (accepted (line ∷ lines) (omega arith) u))
+
+  pub by_lines : IsByLines (Accepts top) (broken top) missing
+  by_lines = record { sound = λ lines g. g.1.unbroken; complete = front }

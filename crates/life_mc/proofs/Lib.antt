@@ -1,0 +1,11 @@
+pub mod Rows
+pub mod Words
+pub mod Leaves
+pub mod ByLines
+pub mod RowCells
+pub mod ReadLines
+pub mod Valid
+pub mod Nodes
+pub mod Stands
+pub mod ReadBack
+pub mod LineKinds

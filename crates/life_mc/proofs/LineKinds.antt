@@ -1,0 +1,164 @@
+-- The kinds with which a macrocell line breaks a rule.
+use Rattle.std.proofs.Common.{◌≡◌, ℕ, List, ◌∷◌, [], ◌||◌, length, drop, Bool, true, false, cond, refl, sym, ap, ◌∙◌, subst, map}
+use Rattle.std.specs.Prelude.{◌==◌, nat_le, nat_lt, not, ◌&&◌, codes, slice_index, Option, Some, None, Result, Ok, Err}
+use Rattle.std.specs.List.{list_all}
+use Rattle.life_base.specs.Text.{is_too_long, is_empty, is_blank, begins_with, trim, is_digit_text, value_of}
+use Rattle.life_base.specs.Numbers.{u64_of}
+use Rattle.life_base.specs.Rules.{rule_of, is_rule_kind}
+use Rattle.life_base.specs.Refusal.{is_placeless}
+use Rattle.life_base.specs.declared.kind.Kind.{Kind}
+use Rattle.life_base.specs.declared.kind.Kind.TheVariants as kinds
+use Rattle.life_base.specs.declared.rule.Rule.{Rule}
+use Rattle.life_base.proofs.RuleKinds.{errs_by, errs_by_cases, rule_errs}
+use Rattle.life_mc.specs.Macrocell.{is_quarter, level_of}
+use Rattle.life_mc.specs.Reading.{broken, broken_behind, broken_by_node, broken_by_square, fault_in, is_command, is_leaf_byte, is_leaf, square_of, squares_of, rule_in_force, is_macrocell_kind}
+use Rattle.life_mc.specs.declared.line.Line.{Line}
+use Rattle.life_mc.specs.declared.line.Line.TheVariants.{Leaf, Quad}
+
+-- no fault, or one of these kinds
+abbrev pub kind_in : Option Kind → Bool
+kind_in None = true
+kind_in (Some kind) = is_macrocell_kind kind
+
+cases : (b : Bool) (o p : Option Kind) → kind_in o ≡ true → kind_in p ≡ true → kind_in (cond b o p) ≡ true
+cases true o p h k = h
+cases false o p h k = k
+
+wider : (kind : Kind) → is_rule_kind kind ≡ true → is_macrocell_kind kind ≡ true
+wider kinds.NoHeader h = refl
+wider kinds.BadHeader h = cc
+wider kinds.BadRule h = refl
+wider kinds.BoundedGrid h = refl
+wider kinds.UnsupportedRule h = refl
+wider kinds.BirthOnZero h = refl
+wider kinds.BadNumber h = refl
+wider kinds.TooLarge h = refl
+wider kinds.BadItem h = cc
+wider kinds.ZeroCount h = cc
+wider kinds.StateRange h = refl
+wider kinds.OutOfPlane h = cc
+wider kinds.LateHeader h = refl
+wider kinds.SecondHeader h = cc
+wider kinds.BadNode h = refl
+wider kinds.BadLevel h = refl
+wider kinds.BadChild h = refl
+wider kinds.BadLeaf h = refl
+wider kinds.Timeline h = refl
+wider kinds.LineTooLong h = refl
+wider kinds.Full h = cc
+wider kinds.Memory h = cc
+wider kinds.Spent h = cc
+wider kinds.NoRuleLine h = cc
+wider kinds.NoTable h = cc
+wider kinds.BadDescriptor h = cc
+wider kinds.UnsupportedNeighborhood h = cc
+wider kinds.UnsupportedSymmetry h = cc
+wider kinds.BadVariable h = cc
+wider kinds.BadTransition h = cc
+wider kinds.UnboundOutput h = cc
+wider kinds.NotQuiet h = cc
+wider kinds.RuleMismatch h = cc
+wider kinds.NeedsTable h = cc
+wider kinds.Ambiguous h = cc
+wider kinds.TooManyCells h = cc
+wider kinds.GenerationTooLarge h = cc
+wider kinds.StateBeyondTable h = cc
+wider kinds.ReadFault h = cc
+wider kinds.WriteFault h = cc
+wider kinds.InputTooLong h = cc
+
+in_rule : (r : Result Rule Kind) → errs_by is_rule_kind r ≡ true → kind_in (fault_in r) ≡ true
+in_rule (Ok rule) h = refl
+in_rule (Err kind) h = wider kind h
+
+in_number : (r : Result ℕ Kind) → errs_by is_macrocell_kind r ≡ true → kind_in (fault_in r) ≡ true
+in_number (Ok n) h = refl
+in_number (Err kind) h = h
+
+number_errs : (text : List ℕ) → errs_by is_macrocell_kind (u64_of text) ≡ true
+number_errs text =
+    errs_by_cases is_macrocell_kind (not (is_digit_text text)) (Err kinds.BadNumber) (cond (nat_le (value_of text) 18446744073709551615) (Ok (value_of text)) (Err kinds.TooLarge)) refl
+    (errs_by_cases is_macrocell_kind (nat_le (value_of text) 18446744073709551615) (Ok (value_of text)) (Err kinds.TooLarge) refl refl)
+
+in_square : (top : ℕ) (rule : Rule) (levels : List ℕ) (square : Option Line) → kind_in (broken_by_square top rule levels square) ≡ true
+in_square top rule levels (Some (Quad level nw ne sw se)) =
+    cases (not (nat_le 1 level && nat_le level top)) (Some kinds.BadLevel) (cond (list_all (is_quarter rule levels level) (nw ∷ ne ∷ sw ∷ se ∷ [])) None (cond (level == 1) (Some kinds.StateRange) (Some kinds.BadChild))) refl
+    (cases (list_all (is_quarter rule levels level) (nw ∷ ne ∷ sw ∷ se ∷ [])) None (cond (level == 1) (Some kinds.StateRange) (Some kinds.BadChild)) refl
+    (cases (level == 1) (Some kinds.StateRange) (Some kinds.BadChild) refl refl))
+in_square top rule levels (Some (Leaf rows)) = refl
+in_square top rule levels None = refl
+
+in_node : (top : ℕ) (rule : Rule) (levels text : List ℕ) → kind_in (broken_by_node top rule levels text) ≡ true
+in_node top rule levels text =
+    cases (is_leaf_byte (slice_index text 0) && not (is_leaf text)) (Some kinds.BadLeaf) (broken_by_square top rule levels (square_of text)) refl (in_square top rule levels (square_of text))
+
+behind : (top : ℕ) (front : List (List ℕ)) (line : List ℕ) → kind_in (broken_behind top front line) ≡ true
+behind top front line =
+    let node : Option Kind = broken_by_node top (rule_in_force front) (map level_of (squares_of front)) (trim line) in
+    let hash : Option Kind = cond (begins_with line (codes "#")) None node in
+    let number : Option Kind = cond (is_command 71 line) (fault_in (u64_of (trim (drop 2 line)))) hash in
+    let rule : Option Kind = cond (is_command 82 line) (fault_in (rule_of (drop 2 line))) number in
+    let late : Option Kind = cond ((is_command 82 line || is_command 71 line) && nat_lt 0 (length (squares_of front))) (Some kinds.LateHeader) rule in
+    let frame : Option Kind = cond (begins_with line (codes "#FRAME")) (Some kinds.Timeline) late in
+    cases (is_blank line) None frame refl
+    (cases (begins_with line (codes "#FRAME")) (Some kinds.Timeline) late refl
+    (cases ((is_command 82 line || is_command 71 line) && nat_lt 0 (length (squares_of front))) (Some kinds.LateHeader) rule refl
+    (cases (is_command 82 line) (fault_in (rule_of (drop 2 line))) number (in_rule (rule_of (drop 2 line)) (rule_errs (drop 2 line)))
+    (cases (is_command 71 line) (fault_in (u64_of (trim (drop 2 line)))) hash (in_number (u64_of (trim (drop 2 line))) (number_errs (trim (drop 2 line))))
+    (cases (begins_with line (codes "#")) None node refl (in_node top (rule_in_force front) (map level_of (squares_of front)) (trim line)))))))
+
+broken_in : (top : ℕ) (front : List (List ℕ)) (line : List ℕ) → kind_in (broken top front line) ≡ true
+unfolding broken
+broken_in top front line =
+    cases (is_too_long line) (Some kinds.LineTooLong) (cond (is_empty front) (cond (begins_with line (codes "[M2]")) None (Some kinds.NoHeader)) (broken_behind top front line)) refl
+    (cases (is_empty front) (cond (begins_with line (codes "[M2]")) None (Some kinds.NoHeader)) (broken_behind top front line)
+    (cases (begins_with line (codes "[M2]")) None (Some kinds.NoHeader) refl refl)
+    (behind top front line))
+
+-- a line breaks a rule with a kind of the format
+pub broken_kind : (top : ℕ) (front : List (List ℕ)) (line : List ℕ) (kind : Kind) → broken top front line ≡ Some kind → is_macrocell_kind kind ≡ true
+broken_kind top front line kind e = sym (ap kind_in e) ∙ broken_in top front line
+
+-- each of these kinds names a line
+pub names_line : (kind : Kind) → is_macrocell_kind kind ≡ true → is_placeless kind ≡ false
+names_line kinds.NoHeader h = refl
+names_line kinds.BadHeader h = refl
+names_line kinds.BadRule h = refl
+names_line kinds.BoundedGrid h = refl
+names_line kinds.UnsupportedRule h = refl
+names_line kinds.BirthOnZero h = refl
+names_line kinds.BadNumber h = refl
+names_line kinds.TooLarge h = refl
+names_line kinds.BadItem h = refl
+names_line kinds.ZeroCount h = refl
+names_line kinds.StateRange h = refl
+names_line kinds.OutOfPlane h = refl
+names_line kinds.LateHeader h = refl
+names_line kinds.SecondHeader h = refl
+names_line kinds.BadNode h = refl
+names_line kinds.BadLevel h = refl
+names_line kinds.BadChild h = refl
+names_line kinds.BadLeaf h = refl
+names_line kinds.Timeline h = refl
+names_line kinds.LineTooLong h = refl
+names_line kinds.Full h = cc
+names_line kinds.Memory h = cc
+names_line kinds.Spent h = cc
+names_line kinds.NoRuleLine h = refl
+names_line kinds.NoTable h = refl
+names_line kinds.BadDescriptor h = refl
+names_line kinds.UnsupportedNeighborhood h = refl
+names_line kinds.UnsupportedSymmetry h = refl
+names_line kinds.BadVariable h = refl
+names_line kinds.BadTransition h = refl
+names_line kinds.UnboundOutput h = refl
+names_line kinds.NotQuiet h = refl
+names_line kinds.RuleMismatch h = cc
+names_line kinds.NeedsTable h = cc
+names_line kinds.Ambiguous h = refl
+names_line kinds.TooManyCells h = cc
+names_line kinds.GenerationTooLarge h = cc
+names_line kinds.StateBeyondTable h = cc
+names_line kinds.ReadFault h = cc
+names_line kinds.WriteFault h = cc
+names_line kinds.InputTooLong h = cc

@@ -1,0 +1,192 @@
+-- Node lines whose numbers are read into a type with a greatest number.
+use Rattle.std.proofs.Common.{◌≡◌, ℕ, zero, suc, ◌+◌, ◌-◌, ◌^◌, ◌<◌, ◌≤◌, min, List, [], ◌∷◌, length, map, get_or, Bool, true, false, cond, not, ◌&&◌, ◌||◌, refl, ap, sym, subst, ◌∙◌, arith, ◌⊎◌, inl, inr}
+use Rattle.std.specs.Prelude.{Option, Some, None, ◌==◌, nat_le, slice_index, Result, Ok, Err, MatchResult}
+use Rattle.std.specs.List.{list_all, slice_get}
+use Rattle.std.proofs.lemmas.Bool.{le-leb, lt-leb}
+use Rattle.std.proofs.lemmas.Bool.Decides.{nat_tests}
+use Rattle.life_base.specs.Text.{words_of, value_of, is_digit_text}
+use Rattle.life_base.specs.declared.kind.Kind.{Kind}
+use Rattle.life_base.specs.declared.kind.Kind.TheVariants.{BadLevel, BadChild, BadNode, BadLeaf, StateRange}
+use Rattle.life_base.specs.declared.rule.Rule.{Rule}
+use Rattle.life_base.specs.declared.rule.Rule.TheVariants.{Life, Named}
+use Rattle.life_base.proofs.Numbers.{first, second}
+use Rattle.life_mc.specs.Macrocell.{is_quarter, is_child, is_level, numbered, largest_state}
+use Rattle.life_mc.specs.Reading.{broken_by_square, broken_by_node, square_of, quad_of, is_leaf_byte, is_leaf, leaf_bytes}
+use Rattle.life_mc.specs.Standing.{capped, quad_words}
+use Rattle.life_mc.specs.declared.line.Line.{Line}
+use Rattle.life_mc.specs.declared.line.Line.TheVariants.{Leaf, Quad}
+
+pub match_map : {X E : Type 0} {P P' : X → Type 0} {Q Q' : E → Type 0} (r : Result X E) → MatchResult r P Q → ((x : X) → P x → P' x) → ((e : E) → Q e → Q' e) → MatchResult r P' Q'
+match_map (Ok x) h f g = f x h
+match_map (Err e) h f g = g e h
+
+abbrev top_number : ℕ
+top_number = 2 ^ 64 - 1
+
+-- a number is told as it is, or it is above each bound that matters
+small_or_large : (n : ℕ) → (capped n ≡ n) ⊎ ((top_number < n) × (capped n ≡ top_number))
+small_or_large n = grind arith
+
+past : (levels : List ℕ) (i : ℕ) → length levels ≤ i → slice_get levels i ≡ None
+past [] i h = refl
+past (l ∷ levels) zero h = absurd (omega arith)
+past (l ∷ levels) (suc i) h = past levels i (omega arith)
+
+numbered_past : (levels : List ℕ) (n : ℕ) → length levels < n → numbered levels n ≡ None
+numbered_past levels zero h = absurd (omega arith)
+numbered_past levels (suc i) h = past levels i (omega arith)
+
+not_zero_number : (n : ℕ) → 0 < n → (n == 0) ≡ false
+not_zero_number n h = grind (arith, nat_tests)
+
+no_child : (levels : List ℕ) (level n : ℕ) → length levels < n → is_child levels level n ≡ false
+no_child levels level n h =
+    ap (λ v. v || is_level level (numbered levels n)) (not_zero_number n (omega arith)) ∙ ap (is_level level) (numbered_past levels n h)
+
+few_states : (rule : Rule) → largest_state rule ≤ 255
+few_states (Life sets) = omega arith
+few_states (Named name) = omega arith
+
+no_quarter : (rule : Rule) (levels : List ℕ) (level n : ℕ) → length levels < n → 255 < n → is_quarter rule levels level n ≡ false
+no_quarter rule levels level n h l = by (level == 1)
+  where
+    by : (v : Bool) → cond v (nat_le n (largest_state rule)) (is_child levels (level - 1) n) ≡ false
+    by true = lt-leb n (largest_state rule) (omega (arith, few_states rule))
+    by false = no_child levels (level - 1) n h
+
+module _ (top : ℕ) (rule : Rule) (levels : List ℕ) (low : top ≤ 255) (few : length levels < top_number) where
+  -- a number as it is told may stand for a quarter just if it may itself
+  quarter_same : (level n : ℕ) → is_quarter rule levels level (capped n) ≡ is_quarter rule levels level n
+  quarter_same level n = elim (small_or_large n) [
+    | inl e ↦ ap (is_quarter rule levels level) e
+    | inr l ↦ ap (is_quarter rule levels level) l.1 ∙ no_quarter rule levels level top_number few (omega arith)
+        ∙ sym (no_quarter rule levels level n (omega (arith, l.0)) (omega (arith, l.0)))
+  ]
+
+  quarter_is : (level n : ℕ) → is_quarter rule levels level (capped n) ≡ true → capped n ≡ n
+  quarter_is level n h = elim (small_or_large n) [
+    | inl e ↦ e
+    | inr l ↦ (let f : is_quarter rule levels level (capped n) ≡ false = ap (is_quarter rule levels level) l.1 ∙ no_quarter rule levels level top_number few (omega arith) in
+        absurd (no (sym h ∙ f)))
+  ]
+    where
+      no : true ≡ false → ⊥
+      no e = cc
+
+  abbrev judged : Bool → Bool → Bool → Option Kind
+  judged v w one = cond (not v) (Some BadLevel) (cond w None (cond one (Some StateRange) (Some BadChild)))
+
+  quarters_same : (level nw ne sw se : ℕ)
+      → list_all (is_quarter rule levels level) (capped nw ∷ capped ne ∷ capped sw ∷ capped se ∷ []) ≡ list_all (is_quarter rule levels level) (nw ∷ ne ∷ sw ∷ se ∷ [])
+  quarters_same level nw ne sw se = rw (quarter_same level nw, quarter_same level ne, quarter_same level sw, quarter_same level se) refl
+
+  level_low : (n : ℕ) → top_number < n → (nat_le 1 n && nat_le n top) ≡ false
+  level_low n h = ap (λ v. nat_le 1 n && v) (lt-leb n top (omega arith)) ∙ and-false (nat_le 1 n)
+    where
+      and-false : (a : Bool) → (a && false) ≡ false
+      and-false true = refl
+      and-false false = refl
+
+  level_high : (nat_le 1 top_number && nat_le top_number top) ≡ false
+  level_high = lt-leb top_number top (omega arith)
+
+  abbrev judge : ℕ → ℕ → ℕ → ℕ → ℕ → Option Kind
+  judge level nw ne sw se = broken_by_square top rule levels (Some (Quad level nw ne sw se))
+
+  -- the same of a level and four quarters
+  numbers_same : (level nw ne sw se : ℕ) → judge (capped level) (capped nw) (capped ne) (capped sw) (capped se) ≡ judge level nw ne sw se
+  numbers_same level nw ne sw se = elim (small_or_large level) [
+    | inl e ↦ ap (λ l. judge l (capped nw) (capped ne) (capped sw) (capped se)) e
+        ∙ ap (λ w. judged (nat_le 1 level && nat_le level top) w (level == 1)) (quarters_same level nw ne sw se)
+    | inr l ↦ ap (λ k. judge k (capped nw) (capped ne) (capped sw) (capped se)) l.1
+        ∙ ap (λ v. judged v (list_all (is_quarter rule levels top_number) (capped nw ∷ capped ne ∷ capped sw ∷ capped se ∷ [])) (top_number == 1)) level_high
+        ∙ sym (ap (λ v. judged v (list_all (is_quarter rule levels level) (nw ∷ ne ∷ sw ∷ se ∷ [])) (level == 1)) (level_low level l.0))
+  ]
+
+  none_judged : (v w one : Bool) → judged v w one ≡ None → (v ≡ true) × (w ≡ true)
+  none_judged true true one h = (refl, refl)
+  none_judged true false true h = cc
+  none_judged true false false h = cc
+  none_judged false w one h = cc
+
+  level_is : (level : ℕ) → (nat_le 1 (capped level) && nat_le (capped level) top) ≡ true → capped level ≡ level
+  level_is level h = elim (small_or_large level) [
+    | inl e ↦ e
+    | inr l ↦ absurd (no (sym h ∙ ap (λ n. nat_le 1 n && nat_le n top) l.1 ∙ level_high))
+  ]
+    where
+      no : true ≡ false → ⊥
+      no e = cc
+
+  all_four : (a b c d : Bool) → (a && (b && (c && (d && true)))) ≡ true → (a ≡ true) × (b ≡ true) × (c ≡ true) × (d ≡ true)
+  all_four true true true true h = (refl, refl, refl, refl)
+  all_four true true true false h = cc
+  all_four true true false d h = cc
+  all_four true false c d h = cc
+  all_four false b c d h = cc
+
+  -- numbers that break no rule are told as they are
+  numbers_are : (level nw ne sw se : ℕ) → judge (capped level) (capped nw) (capped ne) (capped sw) (capped se) ≡ None
+      → Quad (capped level) (capped nw) (capped ne) (capped sw) (capped se) ≡ Quad level nw ne sw se
+  numbers_are level nw ne sw se h =
+      let k = capped level in
+      let p = none_judged (nat_le 1 k && nat_le k top) (list_all (is_quarter rule levels k) (capped nw ∷ capped ne ∷ capped sw ∷ capped se ∷ [])) (k == 1) h in
+      let q = all_four (is_quarter rule levels k (capped nw)) (is_quarter rule levels k (capped ne)) (is_quarter rule levels k (capped sw)) (is_quarter rule levels k (capped se)) p.1 in
+      rw (level_is level p.0, quarter_is k nw q.0, quarter_is k ne q.1, quarter_is k sw q.2, quarter_is k se q.3) refl
+
+  abbrev plain : Bool → List (List ℕ) → Option Line
+  plain v words = cond v (quad_of (map value_of words)) None
+
+  abbrev told : Bool → List (List ℕ) → Option Line
+  told v words = cond v (quad_of (map (λ word. capped (value_of word)) words)) None
+
+  some_is : (a b : Line) → Some a ≡ Some b → a ≡ b
+  some_is a b h = cc
+
+  quad_by : (v : Bool) (words : List (List ℕ)) (q : Line) → Some q ≡ told v words
+      → (broken_by_square top rule levels (Some q) ≡ broken_by_square top rule levels (plain v words))
+      × (broken_by_square top rule levels (Some q) ≡ None → plain v words ≡ Some q)
+  quad_by false words q h = absurd (no h)
+    where
+      no : Some q ≡ None → ⊥
+      no e = cc
+  quad_by true (a ∷ b ∷ c ∷ d ∷ e ∷ []) q h =
+      let is = some_is q (Quad (capped (value_of a)) (capped (value_of b)) (capped (value_of c)) (capped (value_of d)) (capped (value_of e))) h in (
+        ap (λ s. broken_by_square top rule levels (Some s)) is ∙ numbers_same (value_of a) (value_of b) (value_of c) (value_of d) (value_of e),
+        λ n. ap Some (sym (is ∙ numbers_are (value_of a) (value_of b) (value_of c) (value_of d) (value_of e) (ap (λ s. broken_by_square top rule levels (Some s)) (sym is) ∙ n))),
+      )
+  quad_by true [] q h = cc
+  quad_by true (a ∷ []) q h = cc
+  quad_by true (a ∷ b ∷ []) q h = cc
+  quad_by true (a ∷ b ∷ c ∷ []) q h = cc
+  quad_by true (a ∷ b ∷ c ∷ d ∷ []) q h = cc
+  quad_by true (a ∷ b ∷ c ∷ d ∷ e ∷ f ∷ words) q h = cc
+
+  none_by : (v : Bool) (words : List (List ℕ)) → None ≡ told v words → plain v words ≡ None
+  none_by false words h = refl
+  none_by true (a ∷ b ∷ c ∷ d ∷ e ∷ []) h = cc
+  none_by true [] h = refl
+  none_by true (a ∷ []) h = refl
+  none_by true (a ∷ b ∷ []) h = refl
+  none_by true (a ∷ b ∷ c ∷ []) h = refl
+  none_by true (a ∷ b ∷ c ∷ d ∷ []) h = refl
+  none_by true (a ∷ b ∷ c ∷ d ∷ e ∷ f ∷ words) h = refl
+
+  module _ (text : List ℕ) (no_leaf : is_leaf_byte (slice_index text 0) ≡ false) where
+    abbrev digits : Bool
+    digits = list_all is_digit_text (words_of text)
+
+    is_plain : square_of text ≡ plain digits (words_of text)
+    is_plain = ap (λ v. cond v (cond (is_leaf text) (Some (Leaf (leaf_bytes text))) None) (plain digits (words_of text))) no_leaf
+
+    is_judged : broken_by_node top rule levels text ≡ broken_by_square top rule levels (plain digits (words_of text))
+    is_judged = ap (λ v. cond (v && not (is_leaf text)) (Some BadLeaf) (broken_by_square top rule levels (square_of text))) no_leaf ∙ ap (broken_by_square top rule levels) is_plain
+
+    -- five numbers
+    pub quad_read : (q : Line) → Some q ≡ quad_words (words_of text)
+        → (broken_by_square top rule levels (Some q) ≡ broken_by_node top rule levels text) × (broken_by_square top rule levels (Some q) ≡ None → square_of text ≡ Some q)
+    quad_read q h = let r = quad_by digits (words_of text) q h in (r.0 ∙ sym is_judged, λ n. is_plain ∙ r.1 n)
+
+    -- no five numbers
+    pub none_read : None ≡ quad_words (words_of text) → broken_by_node top rule levels text ≡ Some BadNode
+    none_read h = is_judged ∙ ap (broken_by_square top rule levels) (none_by digits (words_of text) h)

@@ -1,0 +1,125 @@
+-- The text of a file, read back: the parts.
+use Rattle.std.proofs.Common.{◌≡◌, ℕ, zero, suc, ◌+◌, ◌^◌, ◌<◌, ◌≤◌, List, [], ◌∷◌, ◌++◌, length, Bool, true, false, cond, not, ◌&&◌, refl, ap, sym, ◌∙◌, arith, ◌⊎◌, inl, inr, append_assoc}
+use Rattle.std.specs.Prelude.{nat_le, ◌==◌, flat_map, map}
+use Rattle.std.specs.List.{list_all, slice_split, AllByRecursion, onto_first as onto_first_byte}
+use Rattle.std.proofs.lemmas.Bool.Decides.{nat_tests}
+use Rattle.life_base.proofs.Numbers.{first, second}
+use Rattle.life_base.specs.Text.{lines_of, onto_first, without_last, words_of, is_whitespace}
+use Rattle.life_mc.specs.Reading.{row_byte, leaf_rows, is_leaf, leaf_bytes}
+use Rattle.life_mc.specs.Writing.{row_cells, row_text}
+use Rattle.life_mc.specs.Standing.{is_row, are_rows, row_bytes}
+use Rattle.life_mc.proofs.Leaves.{is_cell, leaf_is, leaf_bytes_are}
+use Rattle.life_base.proofs.NamesRead.{all_pass, solid}
+
+is_false : (v : Bool) → not v ≡ true → v ≡ false
+is_false true h = cc
+is_false false h = refl
+
+abbrev pub has_no_feed : List ℕ → Bool
+has_no_feed text = list_all (λ b. not (b == 10)) text
+
+-- a text without line feeds, ended by one, is the first line
+pub line_ended : (text rest : List ℕ) → has_no_feed text ≡ true → lines_of (text ++ 10 ∷ rest) ≡ text ∷ lines_of rest
+line_ended [] rest h = refl
+line_ended (b ∷ text) rest h =
+    let e : (b == 10) ≡ false = is_false (b == 10) (first _ _ h) in
+    ap (λ v. cond v ([] ∷ lines_of (text ++ 10 ∷ rest)) (onto_first b (lines_of (text ++ 10 ∷ rest)))) e ∙ ap (onto_first b) (line_ended text rest (second _ _ h))
+
+-- the cells of a row that are written
+abbrev pub written : ℕ → List ℕ
+written row = without_last (λ b. b == 46) (row_cells row)
+
+abbrev all_below : ℕ → (ℕ → Bool) → Bool
+all_below zero p = true
+all_below (suc n) p = p n && all_below n p
+
+at_or_below : (k n : ℕ) → k < suc n → (k ≡ n) ⊎ (k < n)
+at_or_below k n h = grind arith
+
+all_below_at : (n : ℕ) (p : ℕ → Bool) (k : ℕ) → all_below n p ≡ true → k < n → p k ≡ true
+all_below_at zero p k h l = absurd (omega arith)
+all_below_at (suc n) p k h l = elim (at_or_below k n l) [
+  | inl e ↦ ap p e ∙ first _ _ h
+  | inr m ↦ all_below_at n p k (second _ _ h) m
+]
+
+abbrev row_test : ℕ → Bool
+row_test row = (row_byte (written row) == row) && is_row (written row)
+
+each_row : all_below 256 row_test ≡ true
+unfolding row_cells
+each_row = refl
+
+eq-true : (a b : ℕ) → (a == b) ≡ true → a ≡ b
+eq-true a b h = grind (arith, nat_tests)
+
+-- a row's text says the row
+pub row_again : (row : ℕ) → row < 256 → row_byte (written row) ≡ row
+row_again row h = eq-true _ _ (first _ _ (all_below_at 256 row_test row each_row h))
+
+pub row_is_row : (row : ℕ) → row < 256 → is_row (written row) ≡ true
+row_is_row row h = second (row_byte (written row) == row) _ (all_below_at 256 row_test row each_row h)
+
+-- cells, ended by `$`, are the first row
+pub row_ended : (cells rest : List ℕ) → list_all (λ b. not (b == 36)) cells ≡ true → leaf_rows (cells ++ 36 ∷ rest) ≡ cells ∷ leaf_rows rest
+row_ended [] rest h = refl
+row_ended (b ∷ cells) rest h =
+    let e : (b == 36) ≡ false = is_false (b == 36) (first _ _ h) in
+    ap (λ v. cond v ([] ∷ leaf_rows (cells ++ 36 ∷ rest)) (onto_first_byte b (leaf_rows (cells ++ 36 ∷ rest)))) e
+    ∙ ap (onto_first_byte b) (row_ended cells rest (second (not (b == 36)) _ h))
+
+cell_no_dollar : (b : ℕ) → is_cell b ≡ true → not (b == 36) ≡ true
+cell_no_dollar b h = grind (arith, nat_tests)
+
+no_dollar : (row : ℕ) → row < 256 → list_all (λ b. not (b == 36)) (written row) ≡ true
+no_dollar row h = all_pass is_cell (λ b. not (b == 36)) cell_no_dollar (written row) (first (list_all is_cell (written row)) _ (row_is_row row h))
+
+-- the rows of a leaf's text, and the empty one behind the last `$`
+rows_again : (rows : List ℕ) → AllByRecursion (λ row. row < 256) rows → leaf_rows (flat_map row_text rows) ≡ map written rows ++ [] ∷ []
+rows_again [] h = refl
+rows_again (row ∷ rows) h =
+    ap leaf_rows (append_assoc (written row) (36 ∷ []) (flat_map row_text rows))
+    ∙ row_ended (written row) (flat_map row_text rows) (no_dollar row h.0) ∙ ap (λ (t : List (List ℕ)). written row ∷ t) (rows_again rows h.1)
+
+bytes_again : (n : ℕ) (rows : List ℕ) → length rows ≡ n → AllByRecursion (λ row. row < 256) rows → row_bytes n (map written rows ++ [] ∷ []) ≡ rows
+bytes_again zero [] e h = refl
+bytes_again zero (row ∷ rows) e h = absurd (omega arith)
+bytes_again (suc n) [] e h = absurd (omega arith)
+bytes_again (suc n) (row ∷ rows) e h =
+    ap (λ b. b ∷ row_bytes n (map written rows ++ [] ∷ [])) (row_again row h.0) ∙ ap (λ (t : List ℕ). row ∷ t) (bytes_again n rows (omega arith) h.1)
+
+are_rows_again : (n : ℕ) (rows : List ℕ) → length rows ≡ n → AllByRecursion (λ row. row < 256) rows → are_rows n (map written rows ++ [] ∷ []) ≡ true
+are_rows_again zero [] e h = refl
+are_rows_again zero (row ∷ rows) e h = absurd (omega arith)
+are_rows_again (suc n) [] e h = absurd (omega arith)
+are_rows_again (suc n) (row ∷ rows) e h =
+    ap (λ v. v && are_rows n (map written rows ++ [] ∷ [])) (row_is_row row h.0) ∙ are_rows_again n rows (omega arith) h.1
+
+-- the text of a leaf says the leaf
+pub leaf_again : (rows : List ℕ) → length rows ≡ 8 → AllByRecursion (λ row. row < 256) rows
+    → (is_leaf (flat_map row_text rows) ≡ true) × (leaf_bytes (flat_map row_text rows) ≡ rows)
+leaf_again rows e h = (
+  leaf_is (flat_map row_text rows) ∙ ap (are_rows 8) (rows_again rows h) ∙ are_rows_again 8 rows e h,
+  leaf_bytes_are (flat_map row_text rows) ∙ ap (row_bytes 8) (rows_again rows h) ∙ bytes_again 8 rows e h,
+)
+
+-- ---- words with one space between them
+
+abbrev step_to : ℕ → List ℕ → Bool → Bool → List (List ℕ)
+step_to b text v w = cond v (words_of text) (cond w ((b ∷ []) ∷ words_of text) (onto_first b (words_of text)))
+
+pub word_then : (b : ℕ) (word rest : List ℕ) → list_all solid (b ∷ word) ≡ true → words_of ((b ∷ word) ++ 32 ∷ rest) ≡ (b ∷ word) ∷ words_of rest
+word_then b [] rest h = ap (λ v. step_to b (32 ∷ rest) v true) (is_false (is_whitespace b) (first _ _ h))
+word_then b (c ∷ word) rest h =
+    let more : list_all solid (c ∷ word) ≡ true = second (solid b) _ h in
+    ap (λ v. step_to b (c ∷ (word ++ 32 ∷ rest)) v (is_whitespace c && true)) (is_false (is_whitespace b) (first _ _ h))
+    ∙ ap (λ v. step_to b (c ∷ (word ++ 32 ∷ rest)) false (v && true)) (is_false (is_whitespace c) (first _ _ more))
+    ∙ ap (onto_first b) (word_then c word rest more)
+
+pub word_alone : (b : ℕ) (word : List ℕ) → list_all solid (b ∷ word) ≡ true → words_of (b ∷ word) ≡ (b ∷ word) ∷ []
+word_alone b [] h = ap (λ v. step_to b [] v true) (is_false (is_whitespace b) (first _ _ h))
+word_alone b (c ∷ word) h =
+    let more : list_all solid (c ∷ word) ≡ true = second (solid b) _ h in
+    ap (λ v. step_to b (c ∷ word) v (is_whitespace c && true)) (is_false (is_whitespace b) (first _ _ h))
+    ∙ ap (λ v. step_to b (c ∷ word) false (v && true)) (is_false (is_whitespace c) (first _ _ more))
+    ∙ ap (onto_first b) (word_alone c word more)

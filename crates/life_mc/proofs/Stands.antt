@@ -1,0 +1,243 @@
+-- What a reader keeps, line after line.
+use Rattle.std.proofs.Common.{◌≡◌, ℕ, zero, suc, ◌+◌, ◌-◌, ◌^◌, ◌<◌, ◌≤◌, List, [], ◌∷◌, ◌++◌, length, take, drop, get_or, map, Bool, true, false, cond, not, ◌&&◌, ◌||◌, refl, ap, sym, subst, ◌∙◌, arith, length-append, ◌⊎◌, inl, inr}
+use Rattle.std.specs.Prelude.{Option, Some, None, codes, nat_lt, nat_le, Result, Ok, Err, MatchResult, filter_map, IfOk, OnOk, ◌==◌}
+use Rattle.std.specs.Result.{result_ok}
+use Rattle.std.specs.List.{slice_index_or, list_all}
+use Rattle.std.proofs.lemmas.Bool.{ltb-true, ltb-false}
+use Rattle.std.proofs.lemmas.Bool.Decides.{nat_tests}
+use Rattle.std.proofs.Math.Seq.{take-append_seam, get_or-append_seam}
+use Rattle.std.proofs.Math.ListN.{get_or-append}
+use Rattle.std.proofs.lemmas.List.{take-append-le, map-append}
+use Rattle.std.proofs.lemmas.List.Elements.{filter_map-append}
+use Rattle.life_base.specs.Text.{is_empty, begins_with, is_too_long, trim, is_blank, is_digit_text, value_of}
+use Rattle.life_base.specs.Numbers.{u64_of}
+use Rattle.life_base.specs.Rules.{default_rule, rule_of}
+use Rattle.life_base.specs.declared.kind.Kind.{Kind}
+use Rattle.life_base.specs.declared.kind.Kind.TheVariants.{LineTooLong, NoHeader, LateHeader, BadNumber, TooLarge, Timeline}
+use Rattle.life_base.specs.declared.rule.Rule.{Rule}
+use Rattle.life_mc.specs.Macrocell.{level_of}
+use Rattle.life_mc.specs.Reading.{broken, broken_behind, broken_by_node, fault_in, is_command, rule_in_force, generation_in_force, squares_of, square_behind, square_on, rule_on, generation_on, last_or, square_of}
+use Rattle.life_mc.specs.Standing.{Standing, StandsAfter, broken_after, Tells, told_rule, told_generation, told_square, or_value, level_told}
+use Rattle.life_mc.specs.declared.told.Told.{Told}
+use Rattle.life_mc.specs.declared.line.Line.{Line}
+use Rattle.life_mc.proofs.Valid.{command_is_hash}
+use Rattle.life_mc.proofs.ReadLines.{squares_none, squares_some}
+
+-- ---- a generation
+
+abbrev by_tests : Bool → Bool → ℕ → Result ℕ Kind
+by_tests u v n = cond (not u) (Err BadNumber) (cond v (Ok n) (Err TooLarge))
+
+test_each : (u v : Bool) (n : ℕ) → MatchResult (by_tests u v n) (λ m. (m ≡ n) × (fault_in (by_tests u v n) ≡ None)) (λ kind. fault_in (by_tests u v n) ≡ Some kind)
+test_each false v n = refl
+test_each true true n = (refl, refl)
+test_each true false n = refl
+
+pub generation_read : (text : List ℕ) (r : Result ℕ Kind) → r ≡ u64_of text
+    → MatchResult r (λ n. (n ≡ value_of text) × (fault_in (u64_of text) ≡ None)) (λ kind. fault_in (u64_of text) ≡ Some kind)
+generation_read text r e =
+    let P : Result ℕ Kind → Type 0 = λ s. MatchResult s (λ n. (n ≡ value_of text) × (fault_in (u64_of text) ≡ None)) (λ kind. fault_in (u64_of text) ≡ Some kind) in
+    subst P (sym e) (test_each (is_digit_text text) (nat_le (value_of text) (2 ^ 64 - 1)) (value_of text))
+
+-- ---- which rule a line breaks
+
+fits : (line : List ℕ) → length line ≤ 2 ^ 20 → is_too_long line ≡ false
+fits line h = grind (arith, nat_tests)
+
+too_large : (line : List ℕ) → 2 ^ 20 < length line → is_too_long line ≡ true
+too_large line h = grind (arith, nat_tests)
+
+module _ (top : ℕ) (lines : List (List ℕ)) (line : List ℕ) where
+  abbrev rest : Option Kind
+  rest = cond (is_empty lines) (cond (begins_with line (codes "[M2]")) None (Some NoHeader)) (broken_behind top lines line)
+
+  pub breaks_length : 2 ^ 20 < length line → broken top lines line ≡ Some LineTooLong
+  unfolding broken
+  breaks_length h = ap (λ v. cond v (Some LineTooLong) rest) (too_large line h)
+
+  short : length line ≤ 2 ^ 20 → broken top lines line ≡ rest
+  unfolding broken
+  short h = ap (λ v. cond v (Some LineTooLong) rest) (fits line h)
+
+not-not : (v w : Bool) → v ≡ not w → v ≡ false → w ≡ true
+not-not v true h k = refl
+not-not v false h k = cc
+
+not-true : (v w : Bool) → v ≡ not w → v ≡ true → w ≡ false
+not-true v true h k = cc
+not-true v false h k = refl
+
+nothing : (lines : List (List ℕ)) → is_empty lines ≡ true → lines ≡ []
+nothing [] h = refl
+nothing (line ∷ lines) h = cc
+
+any_squares : (xs : List Line) → nat_lt 0 (length xs) ≡ nat_lt 0 (length (map level_of xs))
+any_squares [] = refl
+any_squares (x ∷ xs) = length_same x xs
+  where
+    length_map : (xs : List Line) → length (map level_of xs) ≡ length xs
+    length_map [] = refl
+    length_map (x ∷ xs) = ap suc (length_map xs)
+
+    length_same : (x : Line) (xs : List Line) → nat_lt 0 (length (x ∷ xs)) ≡ nat_lt 0 (length (map level_of (x ∷ xs)))
+    length_same x xs = ap (λ n. nat_lt 0 (suc n)) (sym (length_map xs))
+
+abbrev cascade : ℕ → Rule → List ℕ → List ℕ → Bool → Option Kind
+cascade top rule levels line some =
+    cond (is_blank line) None
+    (cond (begins_with line (codes "#FRAME")) (Some Timeline)
+    (cond ((is_command 82 line || is_command 71 line) && some) (Some LateHeader)
+    (cond (is_command 82 line) (fault_in (rule_of (drop 2 line)))
+    (cond (is_command 71 line) (fault_in (u64_of (trim (drop 2 line))))
+    (cond (begins_with line (codes "#")) None (broken_by_node top rule levels (trim line)))))))
+
+behind_is : (top : ℕ) (before : List (List ℕ)) (line : List ℕ) → broken_behind top before line ≡ broken_after top (rule_in_force before) (map level_of (squares_of before)) line
+behind_is top before line = ap (cascade top (rule_in_force before) (map level_of (squares_of before)) line) (any_squares (squares_of before))
+
+module _ (top : ℕ) (lines : List (List ℕ)) (line : List ℕ) (old : Standing) (s : StandsAfter top lines old) (h : length line ≤ 2 ^ 20) where
+  before_header : old.started ≡ false → lines ≡ []
+  before_header f = nothing lines (not-not old.started (is_empty lines) s.started f)
+
+  pub breaks_header : old.started ≡ false → begins_with line (codes "[M2]") ≡ false → broken top lines line ≡ Some NoHeader
+  breaks_header f b =
+      short top lines line h ∙ ap (λ v. cond v (cond (begins_with line (codes "[M2]")) None (Some NoHeader)) (broken_behind top lines line)) (not-not old.started (is_empty lines) s.started f)
+      ∙ ap (λ v. cond v None (Some NoHeader)) b
+
+  is_header : old.started ≡ false → begins_with line (codes "[M2]") ≡ true → broken top lines line ≡ None
+  is_header f b =
+      short top lines line h ∙ ap (λ v. cond v (cond (begins_with line (codes "[M2]")) None (Some NoHeader)) (broken_behind top lines line)) (not-not old.started (is_empty lines) s.started f)
+      ∙ ap (λ v. cond v None (Some NoHeader)) b
+
+  -- behind the header what is kept decides
+  pub broken_is : old.started ≡ true → broken top lines line ≡ broken_after top old.rule old.levels line
+  broken_is t =
+      short top lines line h ∙ ap (λ v. cond v (cond (begins_with line (codes "[M2]")) None (Some NoHeader)) (broken_behind top lines line)) (not-true old.started (is_empty lines) s.started t)
+      ∙ behind_is top lines line ∙ ap (λ r. broken_after top r (map level_of (squares_of lines)) line) (sym s.rule) ∙ ap (λ ls. broken_after top old.rule ls line) (sym s.levels)
+
+-- ---- one line more
+
+unbroken_more : (top : ℕ) (lines : List (List ℕ)) (line : List ℕ) → ((k : ℕ) → k < length lines → broken top (take k lines) (slice_index_or lines k []) ≡ None) → broken top lines line ≡ None
+    → (k : ℕ) → k < length (lines ++ line ∷ []) → broken top (take k (lines ++ line ∷ [])) (slice_index_or (lines ++ line ∷ []) k []) ≡ None
+unbroken_more top lines line u b k l = elim (below_or_at k (length lines) (omega (arith, length-append lines (line ∷ [])))) [
+  | inl m ↦ (let e : take k (lines ++ line ∷ []) ≡ take k lines = take-append-le k lines (line ∷ []) (omega arith) in
+      let f : get_or (lines ++ line ∷ []) k [] ≡ get_or lines k [] = get_or-append lines (line ∷ []) [] k m in
+      rw (e, f) (u k m))
+  | inr m ↦ (let e : take (length lines) (lines ++ line ∷ []) ≡ lines = take-append_seam lines (line ∷ []) in
+      let f : get_or (lines ++ line ∷ []) (length lines) [] ≡ line = get_or-append_seam lines line [] [] in
+      rw (m, e, f) b)
+]
+  where
+    below_or_at : (k n : ℕ) → k < n + 1 → (k < n) ⊎ (k ≡ n)
+    below_or_at k n h = grind arith
+
+last_of : {X : Type 0} (x y : X) (xs : List X) → last_or x (xs ++ y ∷ []) ≡ y
+last_of x y [] = refl
+last_of x y (z ∷ xs) = last_of z y xs
+
+append_nothing : {X : Type 0} (xs : List X) → xs ++ [] ≡ xs
+append_nothing [] = refl
+append_nothing {X = X} (x ∷ xs) = ap (λ (t : List X). x ∷ t) (append_nothing xs)
+
+-- the last of some values, with one more or none
+one_more : {X Y : Type 0} (f : Y → Option X) (x : X) (ys : List Y) (y : Y) (o : Option X) → f y ≡ o
+    → last_or x (filter_map f (ys ++ y ∷ [])) ≡ or_value o (last_or x (filter_map f ys))
+one_more {X = X} f x ys y None h =
+    ap (last_or x) (filter_map-append f ys (y ∷ []) ∙ ap (λ (t : List X). filter_map f ys ++ t) (none_on h) ∙ append_nothing (filter_map f ys))
+  where
+    none_on : f y ≡ None → filter_map f (y ∷ []) ≡ []
+    none_on e = rw e refl
+one_more {X = X} f x ys y (Some z) h =
+    ap (last_or x) (filter_map-append f ys (y ∷ []) ∙ ap (λ (t : List X). filter_map f ys ++ t) (one_on h)) ∙ last_of x z (filter_map f ys)
+  where
+    one_on : f y ≡ Some z → filter_map f (y ∷ []) ≡ z ∷ []
+    one_on e = rw e refl
+
+rule_more : (lines : List (List ℕ)) (line : List ℕ) (o : Option Rule) → is_empty lines ≡ false → rule_on line ≡ o → rule_in_force (lines ++ line ∷ []) ≡ or_value o (rule_in_force lines)
+rule_more [] line o h e = cc
+rule_more (header ∷ lines) line o h e = one_more rule_on default_rule lines line o e
+
+generation_more : (lines : List (List ℕ)) (line : List ℕ) (o : Option ℕ) → is_empty lines ≡ false → generation_on line ≡ o → generation_in_force (lines ++ line ∷ []) ≡ or_value o (generation_in_force lines)
+generation_more [] line o h e = cc
+generation_more (header ∷ lines) line o h e = one_more generation_on 0 lines line o e
+
+square_here : (lines : List (List ℕ)) (line : List ℕ) → is_empty lines ≡ false → square_behind lines line ≡ square_on line
+square_here [] line h = cc
+square_here (header ∷ lines) line h = refl
+
+levels_more : (lines : List (List ℕ)) (line : List ℕ) (o : Option Line) → square_behind lines line ≡ o
+    → map level_of (squares_of (lines ++ line ∷ [])) ≡ map level_of (squares_of lines) ++ level_told o
+levels_more lines line None h = ap (map level_of) (squares_none lines line h) ∙ sym (append_nothing (map level_of (squares_of lines)))
+levels_more lines line (Some square) h = ap (map level_of) (squares_some lines line square h) ∙ map-append level_of (squares_of lines) (square ∷ [])
+
+some_lines : (lines : List (List ℕ)) (line : List ℕ) → true ≡ not (is_empty (lines ++ line ∷ []))
+some_lines [] line = refl
+some_lines (header ∷ lines) line = refl
+
+module _ (top : ℕ) (lines : List (List ℕ)) (line : List ℕ) (old new : Standing) (s : StandsAfter top lines old) (h : length line ≤ 2 ^ 20) where
+  -- the header
+  pub stands_first : old.started ≡ false → begins_with line (codes "[M2]") ≡ true → new.started ≡ true → new.rule ≡ old.rule → new.generation ≡ old.generation → new.levels ≡ old.levels
+      → (None ≡ square_behind lines line) × StandsAfter top (lines ++ line ∷ []) new
+  stands_first f b st r g l =
+      let none = before_header top lines line old s h f in (
+        sym (ap (λ ls. square_behind ls line) none),
+        record {
+          unbroken = unbroken_more top lines line s.unbroken (is_header top lines line old s h f b);
+          started = st ∙ some_lines lines line;
+          rule = r ∙ s.rule ∙ ap rule_in_force none ∙ sym (ap (λ ls. rule_in_force (ls ++ line ∷ [])) none);
+          generation = g ∙ s.generation ∙ ap generation_in_force none ∙ sym (ap (λ ls. generation_in_force (ls ++ line ∷ [])) none);
+          levels = l ∙ s.levels ∙ ap (λ ls. map level_of (squares_of ls)) none ∙ sym (ap (λ ls. map level_of (squares_of (ls ++ line ∷ []))) none);
+        },
+      )
+
+  -- a line behind it
+  pub stands_next : (told : Told) → old.started ≡ true → broken_after top old.rule old.levels line ≡ None → Tells line told → new.started ≡ old.started
+      → new.rule ≡ or_value (told_rule told) old.rule → new.generation ≡ or_value (told_generation told) old.generation → new.levels ≡ old.levels ++ level_told (told_square told)
+      → (told_square told ≡ square_behind lines line) × StandsAfter top (lines ++ line ∷ []) new
+  stands_next told t b tells st r g l =
+      let some : is_empty lines ≡ false = not-true old.started (is_empty lines) s.started t in
+      let here : square_behind lines line ≡ told_square told = square_here lines line some ∙ tells.2 in (
+        sym here,
+        record {
+          unbroken = unbroken_more top lines line s.unbroken (broken_is top lines line old s h t ∙ b);
+          started = st ∙ t ∙ some_lines lines line;
+          rule = r ∙ ap (or_value (told_rule told)) s.rule ∙ sym (rule_more lines line (told_rule told) some tells.0);
+          generation = g ∙ ap (or_value (told_generation told)) s.generation ∙ sym (generation_more lines line (told_generation told) some tells.1);
+          levels = l ∙ ap (λ (ls : List ℕ). ls ++ level_told (told_square told)) s.levels ∙ sym (levels_more lines line (told_square told) here);
+        },
+      )
+
+-- ---- a generation line
+
+pub generation_breaks : (top : ℕ) (rule : Rule) (levels : List ℕ) (line : List ℕ) → is_blank line ≡ false → begins_with line (codes "#FRAME") ≡ false → is_command 82 line ≡ false
+    → is_command 71 line ≡ true → nat_lt 0 (length levels) ≡ false → broken_after top rule levels line ≡ fault_in (u64_of (trim (drop 2 line)))
+generation_breaks top rule levels line b f r g l =
+    by (is_blank line) (begins_with line (codes "#FRAME")) (is_command 82 line) (is_command 71 line) (nat_lt 0 (length levels)) b f r g l
+  where
+    by : (b f r g l : Bool) → b ≡ false → f ≡ false → r ≡ false → g ≡ true → l ≡ false
+        → cond b None (cond f (Some Timeline) (cond ((r || g) && l) (Some LateHeader) (cond r (fault_in (rule_of (drop 2 line))) (cond g (fault_in (u64_of (trim (drop 2 line)))) (cond (begins_with line (codes "#")) None (broken_by_node top rule levels (trim line)))))))
+        ≡ fault_in (u64_of (trim (drop 2 line)))
+    by false false false true false p q r s t = refl
+    by true f r g l p q u s t = cc
+    by false true r g l p q u s t = cc
+    by false false true g l p q u s t = cc
+    by false false false false l p q u s t = cc
+    by false false false true true p q u s t = cc
+
+pub tells_generation : (line : List ℕ) (n : ℕ) → is_command 82 line ≡ false → is_command 71 line ≡ true → n ≡ value_of (trim (drop 2 line))
+    → (rule_on line ≡ None) × (generation_on line ≡ Some n) × (square_on line ≡ None)
+tells_generation line n r g e = (
+  ap (λ v. cond v (result_ok (rule_of (drop 2 line))) None) r,
+  ap (λ v. cond v (Some (value_of (trim (drop 2 line)))) None) g ∙ ap Some (sym e),
+  ap (λ v. cond (not (is_blank line) && not v) (square_of (trim line)) None) (command_is_hash 0 71 line g) ∙ none (not (is_blank line)),
+)
+  where
+    none : (v : Bool) → cond (v && false) (square_of (trim line)) None ≡ None
+    none true = refl
+    none false = refl
+
+pub combine : {X E : Type 0} {P Q : X → Type 0} {A B C : Type 0} (r : Result X E) → IfOk r P → OnOk r A → OnOk r B → OnOk r C → ((x : X) → P x → A → B → C → Q x) → IfOk r Q
+combine (Ok x) p a b c f = f x p a b c
+combine (Err e) p a b c f = tt
+
+pub none_left : (levels : List ℕ) (v : Bool) → v ≡ (length levels == 0) → v ≡ true → nat_lt 0 (length levels) ≡ false
+none_left levels v e h = grind (arith, nat_tests)

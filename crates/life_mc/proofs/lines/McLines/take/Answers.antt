@@ -1,0 +1,54 @@
+use Rattle.std.proofs.Common.{◌≡◌, ◌∙◌, ◌⊎◌, ◌++◌, ap, sym, inl, inr, refl, List, ℕ, true, false}
+use Rattle.std.specs.Prelude.{Some, None}
+use Rattle.std.proofs.lemmas.Result.{err_from_is_err_and}
+use Rattle.life_base.specs.declared.kind.Kind.{Kind}
+use Rattle.life_base.specs.declared.kind.Kind.TheVariants.{Memory}
+use Rattle.life_mc.specs.Reading.{broken}
+use Rattle.life_mc.specs.Standing.{Standing, broken_after, or_value, told_rule, told_generation, told_square, level_told}
+use Rattle.life_mc.proofs.Stands.{breaks_length, breaks_header, broken_is, stands_first, stands_next, combine}
+use Rattle.life_base.specs.declared.cell.TheConstants.{MAX_LEVEL}
+use Rattle.life_mc.proofs.lines.McLines.take.Goals as goal
+
+pub returns-then-line-gt-LONGEST_LINE-clause-err : goal.returns-then-line-gt-LONGEST_LINE-clause-err
+returns-then-line-gt-LONGEST_LINE-clause-err c = λ lines s. inr (breaks_length MAX_LEVEL lines c.args.line.now c.if-line-gt-LONGEST_LINE.true)
+
+pub returns-then-not-begins_with-clause-err : goal.returns-then-not-begins_with-clause-err
+returns-then-not-begins_with-clause-err c = λ lines s.
+    let started : c.args.self.now.started ≡ false = ap (λ (v : Standing). v.started) (sym c.self.view_is) ∙ c.if-not-self.true in
+    inr (breaks_header MAX_LEVEL lines c.args.line.now c.args.self.now s c.if-line-gt-LONGEST_LINE.false started (sym c.begins_with.ensures ∙ c.if-not-begins_with.true))
+
+pub returns-then-not-self-clause-ok : goal.returns-then-not-self-clause-ok
+returns-then-not-self-clause-ok c = λ lines s.
+    let started : c.args.self.now.started ≡ false = ap (λ (v : Standing). v.started) (sym c.self.view_is) ∙ c.if-not-self.true in
+    stands_first MAX_LEVEL lines c.args.line.now c.args.self.now _ s c.if-line-gt-LONGEST_LINE.false started (sym c.begins_with.ensures ∙ c.if-not-begins_with.false) refl
+    (ap (λ (v : Standing). v.rule) c.self.view_is) (ap (λ (v : Standing). v.generation) c.self.view_is) (ap (λ (v : Standing). v.levels) c.self.view_is)
+
+pub returns-in_err-told-clause-err : goal.returns-in_err-told-clause-err
+returns-in_err-told-clause-err c = λ lines s.
+    let now = c.args.self.now in
+    let line = c.args.line.now in
+    let kind : Kind = c.in_err-told.field-0.0 in
+    let started : now.started ≡ true = ap (λ (v : Standing). v.started) (sym c.self.view_is) ∙ c.if-not-self.false in
+    let same : broken_after MAX_LEVEL now.rule now.levels line ≡ broken_after MAX_LEVEL c.self.inside.rule c.deref.result.now line =
+    ap (λ (v : Standing). broken_after MAX_LEVEL v.rule v.levels line) (sym c.self.view_is) ∙ ap (λ (ls : List ℕ). broken_after MAX_LEVEL c.self.inside.rule ls line) (sym c.deref.ensures.value) in
+    let told : (kind ≡ Memory) ⊎ (broken_after MAX_LEVEL c.self.inside.rule c.deref.result.now line ≡ Some kind) = c.in_err-told.ensures in
+    let p = err_from_is_err_and c.from_residual.result c.from_residual.ensures.1 in
+    let answer : (kind ≡ Memory) ⊎ (broken MAX_LEVEL lines line ≡ Some kind) = elim told [
+      | inl m ↦ inl m
+      | inr b ↦ inr (broken_is MAX_LEVEL lines line now s c.if-line-gt-LONGEST_LINE.false started ∙ same ∙ b)
+    ] in
+    rw (p.1, p.2) answer
+
+pub returns-clause-ok : goal.returns-clause-ok
+returns-clause-ok c = λ lines s.
+    let now = c.args.self.now in
+    let line = c.args.line.now in
+    let told = c.in_ok-told.told in
+    let started : now.started ≡ true = ap (λ (v : Standing). v.started) (sym c.self.view_is) ∙ c.if-not-self.false in
+    let same : broken_after MAX_LEVEL now.rule now.levels line ≡ broken_after MAX_LEVEL c.self.inside.rule c.deref.result.now line =
+    ap (λ (v : Standing). broken_after MAX_LEVEL v.rule v.levels line) (sym c.self.view_is) ∙ ap (λ (ls : List ℕ). broken_after MAX_LEVEL c.self.inside.rule ls line) (sym c.deref.ensures.value) in
+    combine c.keep.result c.keep.ensures.square c.keep.ensures.rule c.keep.ensures.generation c.keep.ensures.levels
+    (λ square p r g l.
+    let n = stands_next MAX_LEVEL lines line now c.keep.new.self s c.if-line-gt-LONGEST_LINE.false told started (same ∙ c.in_ok-told.ensures.1) c.in_ok-told.ensures.0
+    c.keep.ensures.started r g l in
+    (p ∙ n.0, n.1))

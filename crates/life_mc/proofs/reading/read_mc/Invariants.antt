@@ -1,0 +1,18 @@
+use Rattle.std.proofs.Common.{◌≡◌, ◌++◌, ◌∷◌, [], List, ℕ, map, false, Bor}
+use Rattle.life_base.specs.Text.{lines_of, numbered_from}
+use Rattle.life_mc.specs.Reading.{squares_of}
+use Rattle.life_mc.specs.Standing.{StandsAfter}
+use Rattle.life_mc.proofs.ReadLines.{texts}
+use Rattle.life_base.specs.declared.cell.TheConstants.{MAX_LEVEL}
+use Rattle.life_mc.proofs.reading.read_mc.Given as goal
+
+abbrev pub numbered : ℕ × Bor (List ℕ) → ℕ × List ℕ
+numbered p = (p.0, p.1.now)
+
+abbrev pub invariant-loop-number : goal.invariant-loop-number
+invariant-loop-number l = record {
+  all : map numbered l.yielded ++ numbered_from l.number-iterator.number (lines_of l.number-iterator.rest.now) ≡ numbered_from 1 (lines_of l.bytes);
+  stands : StandsAfter MAX_LEVEL (texts (map numbered l.yielded)) l.reader;
+  squares : l.squares.items ≡ squares_of (texts (map numbered l.yielded));
+  fresh : l.reader.spent ≡ false;
+}

@@ -1,0 +1,113 @@
+//! One node line.
+
+ghost use Rattle.std.specs.Prelude.{◌≡◌, ◌<◌, ◌≤◌, ◌-◌, ◌^◌, ◌∷◌, [], ℕ, length, Some, None, MatchResult, slice_index, true};
+ghost use Rattle.life_mc.specs.Macrocell.{largest_state as greatest_state, is_child as names_child, is_quarter as stands_for_quarter};
+ghost use Rattle.life_mc.specs.Reading.{broken_by_square, broken_by_node, is_leaf_byte as begins_leaf, square_of};
+ghost use Rattle.life_mc.specs.declared.line.Line.TheVariants.{Quad};
+ghost use Rattle.std.specs.List.{list_all};
+
+use crate::leaf::read_leaf;
+use crate::line::Line;
+use crate::numbers::{Numbers, read_numbers};
+use life_base::{Kind, MAX_LEVEL, Rule};
+
+/// The greatest state under a rule.
+fn largest_state(rule: &Rule) -> u64
+    ensures { result ≡ greatest_state rule.now }
+{
+    match rule {
+        Rule::Life(_) => 1,
+        Rule::Named(_) => 255,
+    }
+}
+
+/// Whether a number is 0 or that of an earlier square of this level.
+fn is_child(levels: &[u8], level: u8, number: u64) -> bool
+    ensures { result ≡ names_child levels.now level number }
+{
+    if number == 0 {
+        return true;
+    }
+    match levels.get((number - 1) as usize) {
+        Some(found) => *found == level,
+        None => false,
+    }
+}
+
+/// Whether a number may stand for a quarter of a square of this level.
+fn is_quarter(rule: &Rule, levels: &[u8], level: u8, number: u64) -> bool
+    requires { 1 ≤ level }
+    ensures { result ≡ stands_for_quarter rule.now levels.now level number }
+{
+    if level == 1 {
+        number <= largest_state(rule)
+    } else {
+        is_child(levels, level - 1, number)
+    }
+}
+
+/// Whether four numbers may stand for the quarters of a square of this level.
+fn are_quarters(rule: &Rule, levels: &[u8], level: u8, numbers: Numbers) -> bool
+    requires { 1 ≤ level }
+    ensures { result ≡ list_all (stands_for_quarter rule.now levels.now level) (numbers.nw ∷ numbers.ne ∷ numbers.sw ∷ numbers.se ∷ []) }
+{
+    is_quarter(rule, levels, level, numbers.nw)
+        && is_quarter(rule, levels, level, numbers.ne)
+        && is_quarter(rule, levels, level, numbers.sw)
+        && is_quarter(rule, levels, level, numbers.se)
+}
+
+/// The square of a level and four quarters, where the squares before it have these levels.
+fn square_of_numbers(rule: &Rule, levels: &[u8], numbers: Numbers) -> Result<Line, Kind>
+    ensures { MatchResult result
+        (λ square. (square ≡ Quad numbers.level numbers.nw numbers.ne numbers.sw numbers.se) × (broken_by_square MAX_LEVEL rule.now levels.now (Some square) ≡ None))
+        (λ kind. broken_by_square MAX_LEVEL rule.now levels.now (Some (Quad numbers.level numbers.nw numbers.ne numbers.sw numbers.se)) ≡ Some kind) }
+{
+    if numbers.level < 1 || u64::from(MAX_LEVEL) < numbers.level {
+        return Err(Kind::BadLevel);
+    }
+    let level = numbers.level as u8;
+    if are_quarters(rule, levels, level, numbers) {
+        return Ok(Line::Quad {
+            level,
+            nw: numbers.nw,
+            ne: numbers.ne,
+            sw: numbers.sw,
+            se: numbers.se,
+        });
+    }
+    if level == 1 {
+        Err(Kind::StateRange)
+    } else {
+        Err(Kind::BadChild)
+    }
+}
+
+/// Whether a node line begins as a leaf.
+fn is_leaf_line(text: &[u8]) -> bool
+    ensures { result ≡ begins_leaf (slice_index text.now 0) }
+{
+    match text {
+        [first, ..] => *first == b'.' || *first == b'*' || *first == b'$',
+        [] => false,
+    }
+}
+
+/// The square of a node line, taken without whitespace at its ends.
+pub(crate) fn read_node(rule: &Rule, levels: &[u8], text: &[u8]) -> Result<Line, Kind>
+    requires { length levels.now < 2 ^ 64 - 1 }
+    ensures { MatchResult result
+        (λ square. (square_of text.now ≡ Some square) × (broken_by_node MAX_LEVEL rule.now levels.now text.now ≡ None))
+        (λ kind. broken_by_node MAX_LEVEL rule.now levels.now text.now ≡ Some kind) }
+{
+    if is_leaf_line(text) {
+        return match read_leaf(text) {
+            Some(rows) => Ok(Line::Leaf(rows)),
+            None => Err(Kind::BadLeaf),
+        };
+    }
+    match read_numbers(text) {
+        Some(numbers) => square_of_numbers(rule, levels, numbers),
+        None => Err(Kind::BadNode),
+    }
+}

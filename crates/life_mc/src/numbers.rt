@@ -1,0 +1,93 @@
+//! The numbers of a quarter line, of any length.
+
+ghost use Rattle.std.specs.Prelude.{◌≡◌, ◌∷◌, ◌-◌, ◌^◌, [], List, ℕ, true, false, min, position, length, MatchOption};
+ghost use Rattle.std.specs.List.{list_all};
+ghost use Rattle.std.specs.Char.{is_ascii_digit};
+ghost use Rattle.life_base.specs.Text.{is_whitespace as is_blank_byte, is_digit_text as has_digits_alone, value_of, words_of, is_empty};
+ghost use Rattle.life_mc.specs.Standing.{capped, begins_with_number, with_word, quad_words};
+ghost use Rattle.std.specs.Option.{option_map};
+ghost use Rattle.life_mc.specs.declared.line.Line.TheVariants.{Quad};
+
+use life_base::{is_digit_text, is_whitespace, trimmed_start};
+
+/// Five numbers as they are written; one above the greatest of the type stands as that.
+#[derive(Clone, Copy)]
+pub(crate) struct Numbers {
+    pub(crate) level: u64,
+    pub(crate) nw: u64,
+    pub(crate) ne: u64,
+    pub(crate) sw: u64,
+    pub(crate) se: u64,
+}
+
+/// The number that a digit text writes, or the greatest of the type.
+fn capped_value(text: &[u8]) -> u64
+    requires { list_all is_ascii_digit text.now ≡ true }
+    ensures { result ≡ capped (value_of text.now) }
+{
+    let mut number = 0u64;
+    for byte in text {
+        number = number
+            .saturating_mul(10)
+            .saturating_add(u64::from(*byte - b'0'));
+    }
+    number
+}
+
+/// Where the first whitespace stands.
+fn word_end(text: &[u8]) -> Option<usize>
+    ensures { result ≡ position is_blank_byte text.now }
+{
+    text.iter().position(|byte| is_whitespace(*byte))
+}
+
+/// The first word of a text and what stands behind it; an empty word, if there is none.
+fn split_word(text: &[u8]) -> (&[u8], &[u8])
+    ensures { words_of text.now ≡ with_word result.0.now (words_of result.1.now) }
+{
+    let text = trimmed_start(text);
+    match word_end(text) {
+        Some(end) => (&text[..end], &text[end..]),
+        None => (text, &[]),
+    }
+}
+
+/// The first number of a text and what stands behind it, if the first word is a digit text.
+fn next_number(text: &[u8]) -> Option<(u64, &[u8])>
+    ensures { MatchOption result (begins_with_number (words_of text.now) ≡ false)
+        (λ p. (word : List ℕ) × (words_of text.now ≡ word ∷ words_of p.1.now) × (has_digits_alone word ≡ true) × (p.0 ≡ capped (value_of word))) }
+{
+    let (word, rest) = split_word(text);
+    if !is_digit_text(word) {
+        return None;
+    }
+    Some((capped_value(word), rest))
+}
+
+/// Whether a text has no word.
+fn has_no_word(text: &[u8]) -> bool
+    ensures { result ≡ is_empty (words_of text.now) }
+{
+    trimmed_start(text).is_empty()
+}
+
+/// The five numbers of a quarter line, if it has exactly five and nothing else.
+pub(crate) fn read_numbers(text: &[u8]) -> Option<Numbers>
+    ensures { option_map (λ n. Quad n.level n.nw n.ne n.sw n.se) result ≡ quad_words (words_of text.now) }
+{
+    let (level, rest) = next_number(text)?;
+    let (nw, rest) = next_number(rest)?;
+    let (ne, rest) = next_number(rest)?;
+    let (sw, rest) = next_number(rest)?;
+    let (se, rest) = next_number(rest)?;
+    if !has_no_word(rest) {
+        return None;
+    }
+    Some(Numbers {
+        level,
+        nw,
+        ne,
+        sw,
+        se,
+    })
+}

@@ -1,0 +1,166 @@
+//! Macrocell files as texts.
+
+ghost use Rattle.std.specs.Prelude.{◌≡◌, ◌++◌, ◌∷◌, [], ◌<◌, ◌≤◌, ◌==◌, take, flat_map, decimal, codes, OnOk, IfOk, IfErr, Err};
+ghost use Rattle.life_base.specs.Refusal.{fault_of};
+ghost use Rattle.life_base.specs.declared.kind.Kind.TheVariants.{Memory};
+ghost use Rattle.life_mc.specs.Writing.{mc_text, file_text, line_text, row_text, row_cells, generation_text, is_live as is_live_cell, cell_byte as byte_of_cell};
+ghost use Rattle.life_base.specs.Text.{without_last};
+
+use crate::file::McFile;
+use crate::line::Line;
+use itoa::Buffer;
+use life_base::{Fault, Kind, Rule, append};
+use std::alloc::Global;
+
+/// Adds a number at the end.
+fn append_number(out: &mut Vec<u8>, number: u64) -> Result<(), Kind>
+    ensures ok { OnOk result (out.new.items ≡ out.old.items ++ decimal number) }
+    ensures err { IfErr result (λ kind. kind ≡ Memory) }
+{
+    let mut buffer = Buffer::new();
+    append(out, buffer.format(number).as_bytes())
+}
+
+/// Whether the cell in a column of a row is live.
+fn is_live(row: u8, column: u8) -> bool
+    requires { column < 8 }
+    ensures { result ≡ is_live_cell row column }
+{
+    (row >> (7 - column)) & 1 == 1
+}
+
+/// The byte for a cell.
+fn cell_byte(row: u8, column: u8) -> u8
+    requires { column < 8 }
+    ensures { result ≡ byte_of_cell row column }
+{
+    if is_live(row, column) { b'*' } else { b'.' }
+}
+
+/// How many cells of a row are written: those up to the last live one.
+fn row_width(row: u8) -> u8
+    ensures within { result ≤ 8 }
+    ensures cells { without_last (λ b. b == 46) (row_cells row) ≡ take result (row_cells row) }
+{
+    let mut width = 8;
+    while width > 0 {
+        if is_live(row, width - 1) {
+            break;
+        }
+        width -= 1;
+    }
+    width
+}
+
+/// Adds the first cells of a row at the end.
+fn append_cells(out: &mut Vec<u8>, row: u8, width: u8) -> Result<(), Kind>
+    requires { width ≤ 8 }
+    ensures ok { OnOk result (out.new.items ≡ out.old.items ++ take width (row_cells row)) }
+    ensures err { IfErr result (λ kind. kind ≡ Memory) }
+{
+    for column in 0..width {
+        append(out, &[cell_byte(row, column)])?;
+    }
+    Ok(())
+}
+
+/// Adds a row of a leaf at the end.
+fn append_row(out: &mut Vec<u8>, row: u8) -> Result<(), Kind>
+    ensures ok { OnOk result (out.new.items ≡ out.old.items ++ row_text row) }
+    ensures err { IfErr result (λ kind. kind ≡ Memory) }
+{
+    append_cells(out, row, row_width(row))?;
+    append(out, b"$")
+}
+
+/// Adds the rows of a leaf at the end.
+fn append_leaf(out: &mut Vec<u8>, rows: &[u8]) -> Result<(), Kind>
+    ensures ok { OnOk result (out.new.items ≡ out.old.items ++ flat_map row_text rows.now) }
+    ensures err { IfErr result (λ kind. kind ≡ Memory) }
+{
+    for row in rows {
+        append_row(out, *row)?;
+    }
+    Ok(())
+}
+
+/// Adds a space and a number at the end.
+fn append_quarter(out: &mut Vec<u8>, number: u64) -> Result<(), Kind>
+    ensures ok { OnOk result (out.new.items ≡ out.old.items ++ codes " " ++ decimal number) }
+    ensures err { IfErr result (λ kind. kind ≡ Memory) }
+{
+    append(out, b" ")?;
+    append_number(out, number)
+}
+
+/// Adds a square's text at the end.
+fn append_line(out: &mut Vec<u8>, line: &Line) -> Result<(), Kind>
+    ensures ok { OnOk result (out.new.items ≡ out.old.items ++ line_text line.now) }
+    ensures err { IfErr result (λ kind. kind ≡ Memory) }
+{
+    match line {
+        Line::Leaf(rows) => append_leaf(out, rows),
+        Line::Quad {
+            level,
+            nw,
+            ne,
+            sw,
+            se,
+        } => {
+            append_number(out, u64::from(*level))?;
+            append_quarter(out, *nw)?;
+            append_quarter(out, *ne)?;
+            append_quarter(out, *sw)?;
+            append_quarter(out, *se)
+        }
+    }
+}
+
+/// Adds the texts of squares at the end, each with a line feed.
+fn append_lines(out: &mut Vec<u8>, lines: &[Line]) -> Result<(), Kind>
+    ensures ok { OnOk result (out.new.items ≡ out.old.items ++ flat_map (λ line. line_text line ++ codes "\n") lines.now) }
+    ensures err { IfErr result (λ kind. kind ≡ Memory) }
+{
+    for line in lines {
+        append_line(out, line)?;
+        append(out, b"\n")?;
+    }
+    Ok(())
+}
+
+/// Adds the line that tells a generation.
+fn append_generation(out: &mut Vec<u8>, generation: u64) -> Result<(), Kind>
+    ensures ok { OnOk result (out.new.items ≡ out.old.items ++ generation_text generation) }
+    ensures err { IfErr result (λ kind. kind ≡ Memory) }
+{
+    if generation == 0 {
+        return Ok(());
+    }
+    append(out, b"#G ")?;
+    append_number(out, generation)?;
+    append(out, b"\n")
+}
+
+/// Adds the text of a rule, a generation and squares at the end.
+fn append_parts(out: &mut Vec<u8>, rule: &Rule, generation: u64, lines: &[Line]) -> Result<(), Kind>
+    ensures ok { OnOk result (out.new.items ≡ out.old.items ++ file_text rule.now generation lines.now) }
+    ensures err { IfErr result (λ kind. kind ≡ Memory) }
+{
+    append(out, b"[M2] (canonical 1)\n#R ")?;
+    rule.write(out)?;
+    append(out, b"\n")?;
+    append_generation(out, generation)?;
+    append_lines(out, lines)
+}
+
+/// The text of a file.
+pub fn write_mc(alloc: Global, file: &McFile) -> Result<Vec<u8>, Fault>
+    ensures ok { IfOk result (λ out. out.items ≡ mc_text file.now) }
+    ensures err { IfErr result (λ fault. fault ≡ fault_of Memory) }
+{
+    let mut out = Vec::new(alloc);
+    match append_parts(&mut out, &file.rule, file.generation, file.lines.as_slice()) {
+        Ok(()) => Ok(out),
+        Err(kind) => Err(Fault::of(kind)),
+    }
+}
