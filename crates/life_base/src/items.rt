@@ -48,7 +48,8 @@ impl<T> Items<T> {
     pub fn into_vec(self) -> Vec<T>
         ensures { result.items ≡ self }
     {
-        self.items
+        let Self { items } = self;
+        items
     }
 }
 

@@ -13,6 +13,8 @@ mod reading;
 mod rule;
 mod rule_reading;
 mod rule_text;
+#[cfg(test)]
+mod tests;
 mod text;
 mod writing;
 

@@ -83,7 +83,7 @@ impl Name {
     pub fn bytes(&self) -> &[u8]
         ensures { result.now ≡ self.now }
     {
-        &self.text
+        self.text.as_slice()
     }
 }
 
