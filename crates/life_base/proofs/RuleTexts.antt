@@ -1,10 +1,10 @@
 -- What the canonical texts of rules are like.
-use Rattle.std.proofs.Common.{◌≡◌, ℕ, List, ◌++◌, ◌∷◌, Bool, true, false, cond, refl, ap, sym, ◌∙◌, append_assoc}
+use Rattle.std.proofs.Common.{◌≡◌, ℕ, List, ◌∷◌, Bool, true, false, cond, refl, ap, sym, ◌∙◌, append_assoc}
 use Rattle.std.specs.Prelude.{codes, ◌==◌, Option, Some, None, Result, Ok, Err}
 use Rattle.std.specs.List.{list_any}
 use Rattle.life_base.specs.Sets.{DigitSets}
 use Rattle.life_base.specs.Text.{trim}
-use Rattle.life_base.specs.Rules.{rule_of, rule_text, life_sets, life_rule, other_rule, life_or_other, is_bad_text, has_digit, digits_of, names_other_neighbours, AreLifeSets, IsRule, RuleTextsTellRules, RuleTextsAreVisible}
+use Rattle.life_base.specs.Rules.{rule_of, rule_text, life_sets, life_or_other, is_bad_text, has_digit, digits_of, names_other_neighbours, AreLifeSets, RuleTextsTellRules, RuleTextsAreVisible}
 use Rattle.life_base.specs.declared.kind.Kind.{Kind}
 use Rattle.life_base.specs.declared.kind.Kind.TheVariants.{BadRule, BoundedGrid, UnsupportedRule, BirthOnZero}
 use Rattle.life_base.specs.declared.rule.Rule.{Rule}
