@@ -117,6 +117,9 @@ impl<R: Read> Source for Device<R> {
 }
 
 impl<W: Write> Sink for Device<W> {
+    ghost use Rattle.std.specs.Prelude.{◌||◌, is_ok};
+    ghost use Rattle.life_base.specs.DeviceState.{device_inner, has_failed, has_stalled, is_flushed, takes_none};
+
     ghost failures = { λ d. count_of d.failed };
 
     ghost contents = { λ d. W.contents d.inner };
@@ -131,7 +134,15 @@ impl<W: Write> Sink for Device<W> {
         self.failed
     }
 
-    fn write(&mut self, buf: &[u8]) -> Result<usize, Kind> {
+    // What was written last is not flushed yet.
+    fn write(&mut self, buf: &[u8]) -> Result<usize, Kind>
+        requires { count_of (has_failed self.old) ≡ 0 }
+        ensures count { WritesAtMost result buf.now }
+        ensures failure { CountsFailure (count_of (has_failed self.old)) (count_of (has_failed self.new)) result Kind.WriteFault }
+        ensures bytes { WriteAppends (W.contents (device_inner self.old)) (W.contents (device_inner self.new)) result buf.now }
+        ensures stalled { has_stalled self.new ≡ (has_stalled self.old || takes_none result buf.now) }
+        ensures flushed { is_flushed self.new ≡ false }
+    {
         self.flushed = false;
         match self.inner.write(buf) {
             Ok(count) => {
@@ -147,7 +158,14 @@ impl<W: Write> Sink for Device<W> {
         }
     }
 
-    fn flush(&mut self) -> Result<(), Kind> {
+    fn flush(&mut self) -> Result<(), Kind>
+        requires { count_of (has_failed self.old) ≡ 0 }
+        ensures failure { CountsFailure (count_of (has_failed self.old)) (count_of (has_failed self.new)) result Kind.WriteFault }
+        ensures bytes { Keeps (W.contents (device_inner self.old)) (W.contents (device_inner self.new)) }
+        ensures stalled { has_stalled self.new ≡ has_stalled self.old }
+        ensures flushed { is_flushed self.new ≡ is_ok result }
+    {
+        self.flushed = false;
         match self.inner.flush() {
             Ok(()) => {
                 self.flushed = true;
