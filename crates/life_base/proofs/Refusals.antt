@@ -5,7 +5,6 @@ use Rattle.std.proofs.Math.ListN.{get_or-append}
 use Rattle.life_base.specs.Refusal.{Prefix, IsPlace, IsRefusal, BreaksBy, kept, continuations}
 use Rattle.life_base.specs.declared.kind.Kind.{Kind}
 use Rattle.life_base.specs.declared.fault.Fault.{Fault}
-use Rattle.life_base.specs.declared.fault.Place.{Place}
 
 module _ (Grammar : List (List ℕ) → Type 0) (broken : List (List ℕ) → List ℕ → Option Kind) (missing : List (List ℕ) → Option Kind) where
   -- none of the first n lines breaks a rule
