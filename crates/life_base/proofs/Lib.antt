@@ -6,6 +6,7 @@ pub mod FirstFeed
 pub mod Digits
 pub mod DigitSum
 pub mod Refusals
+pub mod OneRefusal
 pub mod RoundTrip
 pub mod NamesRead
 pub mod WritingLemmas

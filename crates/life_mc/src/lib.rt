@@ -2,6 +2,7 @@
 #![tactic(auto)]
 
 mod file;
+pub mod laws;
 mod leaf;
 mod line;
 mod lines;
@@ -13,6 +14,5 @@ mod writing;
 
 pub use file::McFile;
 pub use line::Line;
-pub use lines::McLines;
 pub use reading::read_mc;
 pub use writing::write_mc;
