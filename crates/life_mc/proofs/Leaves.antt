@@ -173,7 +173,7 @@ some_cond true b rows = omega arith
 some_cond false b [] = omega arith
 some_cond false b (r ∷ rs) = omega arith
 
-some_rows : (text : List ℕ) → 0 < length (leaf_rows text)
+pub some_rows : (text : List ℕ) → 0 < length (leaf_rows text)
 some_rows [] = omega arith
 some_rows (b ∷ text) = some_cond (is_dollar b) b (leaf_rows text)
 

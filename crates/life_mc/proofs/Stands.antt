@@ -152,7 +152,7 @@ one_more {X = X} f x ys y (Some z) h =
     one_on : f y ≡ Some z → filter_map f (y ∷ []) ≡ z ∷ []
     one_on e = rw e refl
 
-rule_more : (lines : List (List ℕ)) (line : List ℕ) (o : Option Rule) → is_empty lines ≡ false → rule_on line ≡ o → rule_in_force (lines ++ line ∷ []) ≡ or_value o (rule_in_force lines)
+pub rule_more : (lines : List (List ℕ)) (line : List ℕ) (o : Option Rule) → is_empty lines ≡ false → rule_on line ≡ o → rule_in_force (lines ++ line ∷ []) ≡ or_value o (rule_in_force lines)
 rule_more [] line o h e = cc
 rule_more (header ∷ lines) line o h e = one_more rule_on default_rule lines line o e
 

@@ -52,13 +52,13 @@ module _ (top : ℕ) where
   command_is_hash c (a ∷ []) h = let k : (a == 35) ≡ true = first _ _ (first _ _ h) in true_true _ k
   command_is_hash c (a ∷ b ∷ rest) h = let k : (a == 35) ≡ true = first _ _ (first _ _ h) in true_true _ k
 
-  no_command : (c : ℕ) (line : List ℕ) → begins_with line (codes "#") ≡ false → is_command c line ≡ false
+  pub no_command : (c : ℕ) (line : List ℕ) → begins_with line (codes "#") ≡ false → is_command c line ≡ false
   no_command c line h = contradicts _ (λ k. let t = command_is_hash c line k in cc)
 
   eq_true : (a b : ℕ) → (a == b) ≡ true → a ≡ b
   eq_true a b h = grind (arith, nat_tests)
 
-  hash_not_blank : (line : List ℕ) → begins_with line (codes "#") ≡ true → is_blank line ≡ false
+  pub hash_not_blank : (line : List ℕ) → begins_with line (codes "#") ≡ true → is_blank line ≡ false
   hash_not_blank [] h = cc
   hash_not_blank (a ∷ line) h = let e : a ≡ 35 = eq_true a 35 (first _ _ h) in ap (λ b. is_whitespace b && list_all is_whitespace line) e
 

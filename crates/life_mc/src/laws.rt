@@ -1,8 +1,15 @@
 //! Laws of the macrocell format, over the definitions alone.
 
 ghost use Rattle.life_base.specs.declared.cell.TheConstants.{MAX_LEVEL};
+ghost use Rattle.life_mc.specs.Grammar.{GrammarsAgree};
 ghost use Rattle.life_mc.specs.Laws.{FilesAreUnique, FaultsAreUnique, FrontsAreUnbroken};
 ghost use Rattle.life_mc.specs.Reading.{LinesBreakByKinds};
+
+/// The format told as a whole and the format told by the rule that a line breaks accept the same lines, with the same
+/// meaning.
+pub fn grammars_agree()
+    ensures { GrammarsAgree MAX_LEVEL }
+{}
 
 /// The lines of a file say one rule, one generation and one list of squares.
 pub fn files_are_unique()
