@@ -25,10 +25,6 @@ length_cells : (row : ℕ) → length (row_cells row) ≡ 8
 unfolding row_cells
 length_cells row = refl
 
--- one cell more
-pub cell_more : (row c : ℕ) → c < 8 → take (c + 1) (row_cells row) ≡ take c (row_cells row) ++ cell_byte row c ∷ []
-cell_more row c h = take_more (row_cells row) c 0 (omega (arith, length_cells row)) ∙ ap (λ b. take c (row_cells row) ++ b ∷ []) (cell_at row c h)
-
 last_of : (row n : ℕ) → n < 8 → get_or (take (n + 1) (row_cells row)) n 0 ≡ cell_byte row n
 last_of row n h = get_or-take (n + 1) (row_cells row) n 0 (omega arith) ∙ cell_at row n h
 

@@ -9,6 +9,8 @@ mod lines;
 mod node;
 mod numbers;
 mod reading;
+#[cfg(test)]
+mod tests;
 mod told;
 mod writing;
 
