@@ -258,6 +258,18 @@ record Five (numbers : List ℕ) : Type 0 where
   pub se : ℕ
   pub is : numbers ≡ level ∷ nw ∷ ne ∷ sw ∷ se ∷ []
 
+-- five numbers are a quarter line
+quarter_line : (line : List ℕ) (words : List (List ℕ)) → words ≡ words_of line → list_all is_digit_text words ≡ true → Five (map value_of words) → (square : Line) × IsNodeLine line square
+quarter_line line words e d five = (
+  Quad five.level five.nw five.ne five.sw five.se,
+  record {
+    texts = words_of line;
+    separated = words_separate line;
+    digits = sym (ap (list_all is_digit_text) e) ∙ d;
+    values = sym (ap (map value_of) e) ∙ five.is;
+  },
+)
+
 leaf_passes : (v w : Bool) → v ≡ true → (v && not w) ≡ false → w ≡ true
 leaf_passes v true e h = refl
 leaf_passes true false e h = cc
@@ -289,17 +301,8 @@ module _ (top : ℕ) (rule : Rule) (levels : List ℕ) where
         | inl p ↦ absurd (some_none BadLeaf p.1)
         | inr p ↦ (let text : List ℕ = trim line in
             let d = digits_pass (list_all is_digit_text (words_of text)) (map value_of (words_of text))
-                (sym (ap (λ u. broken_by_square top rule levels (chosen text u (is_leaf text) (list_all is_digit_text (words_of text)))) e) ∙ p.1) in
-            let five = d.1 in
-            let words = words_trimmed line in (
-              Quad five.level five.nw five.ne five.sw five.se,
-              record {
-                texts = words_of line;
-                separated = words_separate line;
-                digits = sym (ap (list_all is_digit_text) words) ∙ d.0;
-                values = sym (ap (map value_of) words) ∙ five.is;
-              },
-            ))
+            (sym (ap (λ u. broken_by_square top rule levels (chosen text u (is_leaf text) (list_all is_digit_text (words_of text)))) e) ∙ p.1) in
+            quarter_line line (words_of text) (words_trimmed line) d.0 d.1)
       ]
 
 -- a line that tells a rule or a generation and breaks no rule stands in front of all squares
@@ -339,14 +342,14 @@ form_on top before line h = elim (split (is_blank line) None _ h) [
               ))
           | inr t ↦ elim (split (begins_with line (codes "#")) None _ t.1) [
             | inl u ↦ (
-                comment_line,
-                record {
-                  hash = begins (codes "#") line u.0;
-                  no_frame = λ b. no (sym (begun (codes "#FRAME") line b) ∙ q.0);
-                  no_rule = λ rest c. no (sym (commanded 82 rest line c) ∙ s.0);
-                  no_generation = λ rest c. no (sym (commanded 71 rest line c) ∙ t.0);
-                },
-              )
+              comment_line,
+              record {
+                hash = begins (codes "#") line u.0;
+                no_frame = λ b. no (sym (begun (codes "#FRAME") line b) ∙ q.0);
+                no_rule = λ rest c. no (sym (commanded 82 rest line c) ∙ s.0);
+                no_generation = λ rest c. no (sym (commanded 71 rest line c) ∙ t.0);
+              },
+            )
             | inr u ↦ (let n = node_on top (rule_in_force before) (map level_of (squares_of before)) line u.1 in (node_line n.0, n.1))
           ]
         ]

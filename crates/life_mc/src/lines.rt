@@ -10,7 +10,7 @@ use std::alloc::Global;
 use std::marker::Model;
 
 /// The greatest length of a line, without its line feed.
-const LONGEST_LINE: usize = 1048576;
+const LONGEST_LINE: usize = 1 << 20;
 
 /// Takes the lines of a file one after another, and keeps the levels of its squares and no text.
 #[derive(Drop)]
@@ -79,7 +79,7 @@ impl McLines {
     }
 
     /// Takes the next line, without its line feed, and answers its square, if it has one. After an error each later
-    /// call answers Spent.
+    /// call answers Spent. A line feed in the line is a byte like any other, so a caller that has bytes cuts them first.
     pub(crate) fn line(&mut self, line: &[u8]) -> Result<Option<Line>, Kind>
         ensures ok { (lines : List (List ℕ)) → StandsAfter MAX_LEVEL lines self.old
             → IfOk result (λ square. (square ≡ square_behind lines line.now) × StandsAfter MAX_LEVEL (lines ++ line.now ∷ []) self.new) }

@@ -110,16 +110,8 @@ fn files_are_refused(rt: HostRuntime) {
             4,
             Kind::BadChild,
         ),
-        (
-            b"[M2]\n#R B3/S23\n....*$$$$$$$$\n4 0 0",
-            4,
-            Kind::BadNode,
-        ),
-        (
-            b"[M2]\n#FRAMES 10 0 1\n#R B3/S23\n",
-            2,
-            Kind::Timeline,
-        ),
+        (b"[M2]\n#R B3/S23\n....*$$$$$$$$\n4 0 0", 4, Kind::BadNode),
+        (b"[M2]\n#FRAMES 10 0 1\n#R B3/S23\n", 2, Kind::Timeline),
         (
             b"[M2]\n$\n4 1 0 0 0\n4 18446744073709551617 0 0 0\n",
             4,
@@ -161,10 +153,28 @@ fn filled(alloc: Global, front: &[u8], count: usize) -> Result<Vec<u8>, Fail> {
 fn lengths_are_bounded(rt: HostRuntime) -> Result<(), Fail> {
     let alloc = rt.alloc();
     assert!(rt; read_mc(alloc, &filled(alloc, b"[M2]\n#R ", 255)?).is_ok());
-    refused(&rt, alloc, &filled(alloc, b"[M2]\n#R ", 256)?, 2, Kind::BadRule);
+    refused(
+        &rt,
+        alloc,
+        &filled(alloc, b"[M2]\n#R ", 256)?,
+        2,
+        Kind::BadRule,
+    );
     assert!(rt; read_mc(alloc, &filled(alloc, b"[M2]\n#", 1048575)?).is_ok());
-    refused(&rt, alloc, &filled(alloc, b"[M2]\n#", 1048576)?, 2, Kind::LineTooLong);
-    refused(&rt, alloc, &filled(alloc, b"", 1048577)?, 1, Kind::LineTooLong);
+    refused(
+        &rt,
+        alloc,
+        &filled(alloc, b"[M2]\n#", 1048576)?,
+        2,
+        Kind::LineTooLong,
+    );
+    refused(
+        &rt,
+        alloc,
+        &filled(alloc, b"", 1048577)?,
+        1,
+        Kind::LineTooLong,
+    );
     Ok(())
 }
 

@@ -161,7 +161,8 @@ fn append_parts(out: &mut Vec<u8>, rule: &Rule, generation: u64, lines: &[Line])
     append_lines(out, lines)
 }
 
-/// The text of a file.
+/// The text of a file: the header, the rule, the generation if it isn't 0, and the squares as they stand, each line ended by
+/// a line feed. The one fault is `Memory`.
 pub fn write_mc(alloc: Global, file: &McFile) -> Result<Vec<u8>, Fault>
     ensures ok { IfOk result (λ out. out.items ≡ mc_text file.now) }
     ensures err { IfErr result (λ fault. fault ≡ fault_of Memory) }
