@@ -1,6 +1,6 @@
 -- Lines and their parts: what stands at the front, between whitespace, and word by word.
-use Rattle.std.proofs.Common.{◌≡◌, ℕ, List, [], ◌∷◌, ◌++◌, length, take, drop, Bool, true, false, cond, not, ◌&&◌, ◌||◌, refl, ap, sym, ◌∙◌, append_assoc}
-use Rattle.std.specs.Prelude.{codes, slice_index, ◌==◌}
+use Rattle.std.proofs.Common.{◌≡◌, ℕ, List, [], ◌∷◌, ◌++◌, length, take, drop, Bool, true, false, cond, not, ◌&&◌, refl, ap, sym, ◌∙◌}
+use Rattle.std.specs.Prelude.{codes, slice_index}
 use Rattle.std.specs.List.{list_all}
 use Rattle.std.specs.Char.{is_ascii_digit}
 use Rattle.std.proofs.Math.Seq.{take-append_seam}
@@ -9,7 +9,7 @@ use Rattle.std.proofs.lemmas.List.Folds.{list_all-append}
 use Rattle.std.proofs.lemmas.Slice.Eq.{bytes_eq-Decides}
 use Rattle.std.proofs.lemmas.Bool.Decides.{nat_tests}
 use Rattle.std.proofs.Common.{arith}
-use Rattle.life_base.specs.Text.{is_whitespace, is_blank, begins_with, trim, trim_start, trim_end, without_last, words_of, onto_first, is_digit_text}
+use Rattle.life_base.specs.Text.{is_whitespace, is_blank, begins_with, trim, trim_start, trim_end, words_of, onto_first, is_digit_text}
 use Rattle.life_base.proofs.Numbers.{first, second}
 use Rattle.life_base.proofs.NamesRead.{solid, solid_trimmed}
 use Rattle.life_mc.specs.Grammar.{Begins, IsCommand, IsAround, Separates}

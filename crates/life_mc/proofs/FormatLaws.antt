@@ -1,10 +1,9 @@
 -- The laws of the macrocell format.
-use Rattle.std.proofs.Common.{◌≡◌, ℕ, List, length, ap, sym, ◌∙◌}
+use Rattle.std.proofs.Common.{ℕ, List, ap, sym, ◌∙◌}
 use Rattle.life_base.specs.declared.rule.Rule.{Rule}
 use Rattle.life_base.proofs.Refusals.{front_unbroken}
 use Rattle.life_base.proofs.OneRefusal.{one_fault}
-use Rattle.life_mc.specs.Macrocell.{Macrocell}
-use Rattle.life_mc.specs.Reading.{AreMacrocell, Accepts, broken, missing}
+use Rattle.life_mc.specs.Reading.{Accepts, broken, missing}
 use Rattle.life_mc.specs.Laws.{FilesAreUnique, FaultsAreUnique, FrontsAreUnbroken}
 use Rattle.life_mc.specs.declared.line.Line.{Line}
 use Rattle.life_mc.proofs.ByLines.{by_lines}

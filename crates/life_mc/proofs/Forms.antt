@@ -1,6 +1,6 @@
 -- What each form of a line gives, and that it breaks no rule.
-use Rattle.std.proofs.Common.{◌≡◌, ℕ, ◌+◌, ◌-◌, ◌^◌, ◌<◌, ◌≤◌, List, [], ◌∷◌, ◌++◌, length, take, drop, map, Bool, true, false, cond, not, ◌&&◌, ◌||◌, refl, ap, sym, ◌∙◌, arith, ◌⊎◌, inl, inr}
-use Rattle.std.specs.Prelude.{codes, nat_le, nat_lt, slice_index, ◌==◌, Option, Some, None, Result, Ok, Err}
+use Rattle.std.proofs.Common.{◌≡◌, ℕ, ◌-◌, ◌^◌, ◌<◌, List, [], ◌∷◌, ◌++◌, length, drop, map, Bool, true, false, cond, not, ◌&&◌, ◌||◌, refl, ap, sym, ◌∙◌, arith, ◌⊎◌, inl, inr}
+use Rattle.std.specs.Prelude.{codes, nat_le, nat_lt, slice_index, Option, Some, None, Result, Ok, Err}
 use Rattle.std.specs.List.{list_all}
 use Rattle.std.specs.Result.{result_ok}
 use Rattle.std.proofs.lemmas.Bool.{leb-true, le-leb}
@@ -8,17 +8,16 @@ use Rattle.life_base.specs.Text.{is_blank, begins_with, trim, words_of, is_digit
 use Rattle.life_base.specs.Numbers.{u64_of}
 use Rattle.life_base.specs.Rules.{rule_of}
 use Rattle.life_base.specs.declared.kind.Kind.{Kind}
-use Rattle.life_base.specs.declared.kind.Kind.TheVariants.{BadNumber, TooLarge, Timeline, LateHeader, BadLeaf, BadNode}
+use Rattle.life_base.specs.declared.kind.Kind.TheVariants.{BadNumber, TooLarge, Timeline, LateHeader, BadLeaf}
 use Rattle.life_base.specs.declared.rule.Rule.{Rule}
 use Rattle.life_mc.specs.Macrocell.{level_of}
-use Rattle.life_mc.specs.Grammar.{Begins, IsCommand, IsAround, IsComment, IsRuleLine, IsGenerationLine, IsLeafLine, IsQuarterLine, IsNodeLine, Form, blank_line, comment_line, rule_line, generation_line, node_line, HasForm, form_rule, form_generation, form_square, is_no_command}
+use Rattle.life_mc.specs.Grammar.{IsCommand, IsAround, IsComment, IsGenerationLine, IsLeafLine, IsQuarterLine, IsNodeLine, Form, blank_line, comment_line, rule_line, generation_line, node_line, HasForm, form_rule, form_generation, form_square, is_no_command}
 use Rattle.life_mc.specs.Reading.{broken_behind, broken_by_node, broken_by_square, fault_in, is_command, is_leaf_byte, is_leaf, leaf_bytes, quad_of, square_of, square_on, rule_on, generation_on, squares_of, rule_in_force}
 use Rattle.life_mc.specs.declared.line.Line.{Line}
 use Rattle.life_mc.specs.declared.line.Line.TheVariants.{Leaf, Quad}
 use Rattle.life_mc.proofs.Around.{begins, begun, commands, commanded, behind_command, around_trim, trimmed_around, blank_trimmed, words_trimmed, separated_words, words_separate, numbers_first, blank_no_words, hash_no_numbers, hash_trimmed, digits_solid}
 use Rattle.life_mc.proofs.LeafLines.{leaf_says, is_leaf_line}
 use Rattle.life_mc.proofs.Valid.{command_is_hash, hash_not_blank, no_command}
-use Rattle.life_base.proofs.Numbers.{second}
 
 no : true ≡ false → ⊥
 no e = cc

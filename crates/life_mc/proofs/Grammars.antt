@@ -1,6 +1,6 @@
 -- The format as a whole, and line by line, accept the same files.
-use Rattle.std.proofs.Common.{◌≡◌, ℕ, zero, suc, ◌+◌, ◌-◌, ◌^◌, ◌<◌, ◌≤◌, List, [], ◌∷◌, ◌++◌, length, take, get_or, map, Bool, true, false, cond, not, ◌&&◌, refl, ap, sym, subst, ◌∙◌, arith, append_assoc, length-append, ◌⊎◌, inl, inr}
-use Rattle.std.specs.Prelude.{codes, nat_le, nat_lt, Option, Some, None, filter_map, ◌==◌}
+use Rattle.std.proofs.Common.{◌≡◌, ℕ, zero, suc, ◌^◌, ◌<◌, List, [], ◌∷◌, ◌++◌, length, take, get_or, map, Bool, true, false, cond, not, ◌&&◌, refl, ap, sym, subst, ◌∙◌, arith, append_assoc, length-append, ◌⊎◌, inl, inr}
+use Rattle.std.specs.Prelude.{codes, nat_le, Option, Some, None, filter_map, ◌==◌}
 use Rattle.std.specs.List.{list_all, AllZip, slice_get}
 use Rattle.std.proofs.Math.Seq.{take-append_seam}
 use Rattle.std.proofs.lemmas.Bool.{le-leb, ltb-false}
@@ -13,7 +13,7 @@ use Rattle.life_base.specs.declared.rule.Rule.{Rule}
 use Rattle.life_base.proofs.Numbers.{second}
 use Rattle.life_mc.specs.Macrocell.{Macrocell, AreSquares, IsSquare, level_of, is_quarter}
 use Rattle.life_mc.specs.Grammar.{IsFile, Form, blank_line, comment_line, rule_line, generation_line, node_line, HasForm, form_rule, form_generation, form_square, is_no_command, are_in_order, GrammarsAgree}
-use Rattle.life_mc.specs.Reading.{AreMacrocell, broken, broken_behind, broken_by_square, last_or, rule_in_force, generation_in_force, squares_of, rule_on, generation_on, square_on}
+use Rattle.life_mc.specs.Reading.{AreMacrocell, broken, broken_behind, broken_by_square, last_or, rule_in_force, squares_of, rule_on, generation_on, square_on}
 use Rattle.life_mc.specs.Standing.{or_value}
 use Rattle.life_mc.specs.declared.line.Line.{Line}
 use Rattle.life_mc.specs.declared.line.Line.TheVariants.{Leaf, Quad}

@@ -1,12 +1,11 @@
 -- Leaf lines as rows of cells.
-use Rattle.std.proofs.Common.{◌≡◌, ℕ, zero, suc, ◌+◌, ◌-◌, ◌*◌, ◌/◌, ◌%◌, ◌^◌, ◌<◌, ◌≤◌, List, [], ◌∷◌, ◌++◌, length, get_or, map, Bool, true, false, cond, not, ◌&&◌, ◌||◌, refl, ap, sym, subst, ◌∙◌, arith, append_assoc}
-use Rattle.std.specs.Prelude.{codes, slice_index, ◌==◌, nat_le, flat_map, Option, Some, None}
+use Rattle.std.proofs.Common.{◌≡◌, ℕ, zero, suc, ◌+◌, ◌-◌, ◌*◌, ◌/◌, ◌%◌, ◌^◌, ◌<◌, ◌≤◌, List, [], ◌∷◌, ◌++◌, length, Bool, true, false, cond, not, ◌&&◌, refl, ap, sym, subst, ◌∙◌, arith, append_assoc}
+use Rattle.std.specs.Prelude.{codes, slice_index, ◌==◌, nat_le, flat_map}
 use Rattle.std.specs.List.{list_all, AllByRecursion, onto_first as onto_first_byte, slice_index_or}
-use Rattle.std.proofs.lemmas.Bool.{leb-true, le-leb}
 use Rattle.std.proofs.lemmas.Bool.Decides.{nat_tests}
 use Rattle.life_base.proofs.Numbers.{first, second}
 use Rattle.life_base.proofs.NamesRead.{solid, all_pass}
-use Rattle.life_base.specs.Text.{is_whitespace, trim}
+use Rattle.life_base.specs.Text.{trim}
 use Rattle.life_mc.specs.Cells.{leaf_cell}
 use Rattle.life_mc.specs.Grammar.{IsAround, IsLeafLine, are_cells, state_in}
 use Rattle.life_mc.specs.Reading.{is_leaf, is_leaf_byte, leaf_bytes, leaf_rows, row_byte, is_at_end}

@@ -1,7 +1,7 @@
 -- The cells of a leaf's row, as they are written.
-use Rattle.std.proofs.Common.{◌≡◌, ℕ, zero, suc, ◌+◌, ◌-◌, ◌<◌, ◌≤◌, List, [], ◌∷◌, ◌++◌, length, take, get_or, Bool, true, false, cond, refl, ap, sym, subst, ◌∙◌, arith}
+use Rattle.std.proofs.Common.{◌≡◌, ℕ, zero, suc, ◌+◌, ◌-◌, ◌<◌, ◌≤◌, length, take, get_or, Bool, true, false, cond, refl, ap, sym, subst, ◌∙◌, arith}
 use Rattle.std.specs.Prelude.{◌==◌}
-use Rattle.std.proofs.lemmas.List.{take_more, take-take, get_or-take, length-take-le}
+use Rattle.std.proofs.lemmas.List.{take-take, get_or-take, length-take-le}
 use Rattle.life_base.specs.Text.{without_last}
 use Rattle.life_base.proofs.Trim.{without_last-take, without_last-whole}
 use Rattle.life_mc.specs.Writing.{row_cells, is_live, cell_byte}

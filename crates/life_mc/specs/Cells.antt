@@ -1,5 +1,5 @@
 -- The state of each cell of the plane in a macrocell file.
-use Rattle.std.specs.Prelude.{◌≡◌, ℕ, zero, suc, ◌+◌, ◌-◌, ◌/◌, ◌%◌, ◌^◌, Bool, ◌&&◌, List, [], ◌∷◌, length, map, nat_lt, if◌then◌else◌, slice_index, Option, Some, None, ℤ, pos, negsuc, ◌+ℤ◌}
+use Rattle.std.specs.Prelude.{ℕ, zero, suc, ◌-◌, ◌/◌, ◌%◌, ◌^◌, ◌&&◌, List, [], ◌∷◌, length, nat_lt, if◌then◌else◌, slice_index, Some, None, ℤ, pos, negsuc, ◌+ℤ◌}
 use Rattle.life_mc.specs.Macrocell.{Macrocell, level_of, numbered}
 use Rattle.life_mc.specs.declared.line.Line.{Line}
 use Rattle.life_mc.specs.declared.line.Line.TheVariants.{Leaf, Quad}

@@ -1,9 +1,8 @@
 -- The macrocell format a second time and as a whole: what each line of a file is, without any word of how a fault is named.
-use Rattle.std.specs.Prelude.{◌≡◌, ◌↔◌, ℕ, ◌+◌, ◌-◌, ◌^◌, ◌<◌, ◌≤◌, Bool, true, false, not, ◌&&◌, ◌||◌, List, [], ◌∷◌, ◌++◌, length, take, map, flat_map, filter_map, nat_le, ◌==◌, if◌then◌else◌, slice_index, codes, Option, Some, None, Result, Ok}
+use Rattle.std.specs.Prelude.{◌≡◌, ◌↔◌, ℕ, ◌+◌, ◌^◌, ◌<◌, ◌≤◌, Bool, true, false, ◌&&◌, ◌||◌, List, [], ◌∷◌, ◌++◌, length, take, map, flat_map, filter_map, nat_le, ◌==◌, if◌then◌else◌, slice_index, codes, Option, Some, None, Ok}
 use Rattle.std.specs.List.{list_all, AllByRecursion, AllZip, slice_index_or}
 use Rattle.life_base.specs.Text.{is_blank, is_digit_text, value_of}
 use Rattle.life_base.specs.Rules.{rule_of, default_rule}
-use Rattle.life_base.specs.declared.kind.Kind.{Kind}
 use Rattle.life_base.specs.declared.rule.Rule.{Rule}
 use Rattle.life_mc.specs.Macrocell.{Macrocell, AreSquares}
 use Rattle.life_mc.specs.Cells.{leaf_cell}

@@ -1,5 +1,5 @@
 -- Laws of the macrocell format.
-use Rattle.std.specs.Prelude.{◌≡◌, ◌↔◌, ◌<◌, ℕ, List, [], length, take, Option, None}
+use Rattle.std.specs.Prelude.{◌≡◌, ◌↔◌, ◌<◌, ℕ, List, [], length, take, None}
 use Rattle.std.specs.List.{slice_index_or}
 use Rattle.life_base.specs.Refusal.{Prefix}
 use Rattle.life_base.specs.declared.fault.Fault.{Fault}

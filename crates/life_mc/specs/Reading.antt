@@ -1,9 +1,8 @@
 -- The macrocell format: which lines a file may have, and what it says.
-use Rattle.std.specs.Prelude.{◌≡◌, ℕ, ◌+◌, ◌-◌, ◌*◌, ◌^◌, ◌<◌, ◌≤◌, Bool, true, false, not, ◌&&◌, ◌||◌, List, [], ◌∷◌, ◌++◌, length, take, drop, map, replicate, sum_by, filter_map, nat_le, nat_lt, ◌==◌, if◌then◌else◌, slice_index, codes, Option, Some, None, Result, Ok, Err, MatchResult, is_some}
+use Rattle.std.specs.Prelude.{◌≡◌, ℕ, ◌-◌, ◌^◌, ◌<◌, Bool, true, false, not, ◌&&◌, ◌||◌, List, [], ◌∷◌, ◌++◌, length, take, drop, map, replicate, sum_by, filter_map, nat_le, nat_lt, ◌==◌, if◌then◌else◌, slice_index, codes, Option, Some, None, Result, Ok, Err}
 use Rattle.std.specs.List.{list_all, slice_split, slice_index_or}
 use Rattle.std.specs.Result.{result_ok}
-use Rattle.life_base.specs.Text.{is_empty, is_whitespace, is_blank, trim, begins_with, is_digit_text, value_of, words_of, lines_of, is_too_long}
-use Rattle.life_base.specs.Sets.{DigitSets}
+use Rattle.life_base.specs.Text.{is_empty, is_blank, trim, begins_with, is_digit_text, value_of, words_of, lines_of, is_too_long}
 use Rattle.life_base.specs.Numbers.{u64_of}
 use Rattle.life_base.specs.Rules.{rule_of, default_rule}
 use Rattle.life_base.specs.Refusal.{IsRefusal, BreaksBy}
@@ -12,8 +11,7 @@ use Rattle.life_base.specs.declared.kind.Kind.{Kind}
 use Rattle.life_base.specs.declared.kind.Kind.TheVariants.{NoHeader, BadNumber, TooLarge, StateRange, LateHeader, BadNode, BadLevel, BadChild, BadLeaf, Timeline, LineTooLong}
 use Rattle.life_base.specs.declared.kind.Kind.TheVariants as kinds
 use Rattle.life_base.specs.declared.rule.Rule.{Rule}
-use Rattle.life_base.specs.declared.rule.Rule.TheVariants.{Life, Named}
-use Rattle.life_mc.specs.Macrocell.{Macrocell, level_of, largest_state, is_quarter}
+use Rattle.life_mc.specs.Macrocell.{Macrocell, level_of, is_quarter}
 use Rattle.life_mc.specs.declared.line.Line.{Line}
 use Rattle.life_mc.specs.declared.line.Line.TheVariants.{Leaf, Quad}
 

@@ -1,10 +1,10 @@
-use Rattle.std.proofs.Common.{◌≡◌, ◌++◌, ◌∷◌, [], List, ℕ, map, sym, ◌∙◌, ap, subst, ◌⊎◌, inl, inr, true}
+use Rattle.std.proofs.Common.{◌≡◌, ◌++◌, ◌∷◌, [], List, ℕ, map, sym, ◌∙◌, ap, subst, inl, inr, true}
 use Rattle.std.specs.Prelude.{Some}
 use Rattle.std.proofs.lemmas.Result.{err_from_is_err_and}
 use Rattle.life_base.specs.Text.{lines_of, numbered_from}
-use Rattle.life_base.specs.Refusal.{fault_of, fault_at, OrMemory}
+use Rattle.life_base.specs.Refusal.{fault_at, OrMemory}
 use Rattle.life_base.specs.declared.fault.Fault.{Fault}
-use Rattle.life_base.specs.declared.kind.Kind.TheVariants.{Memory, NoHeader}
+use Rattle.life_base.specs.declared.kind.Kind.TheVariants.{NoHeader}
 use Rattle.life_mc.specs.Reading.{broken, Refuses, AreMacrocell, squares_of, rule_in_force, is_macrocell_kind}
 use Rattle.life_mc.proofs.LineKinds.{broken_kind}
 use Rattle.life_mc.specs.Macrocell.{Macrocell, AreSquares}
