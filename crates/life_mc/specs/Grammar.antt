@@ -1,4 +1,6 @@
 -- The macrocell format a second time and as a whole: what each line of a file is, without any word of how a fault is named.
+-- Golly Help, "File Formats", states the header, `#R`, `#G` and both kinds of node line. This project's own are the limits of
+-- lengths, levels and generations, the order of lines, that blank lines may stand anywhere, and that `#FRAME` is refused.
 use Rattle.std.specs.Prelude.{◌≡◌, ◌↔◌, ℕ, ◌+◌, ◌^◌, ◌<◌, ◌≤◌, Bool, true, false, ◌&&◌, ◌||◌, List, [], ◌∷◌, ◌++◌, length, take, map, flat_map, filter_map, nat_le, ◌==◌, if◌then◌else◌, slice_index, codes, Option, Some, None, Ok}
 use Rattle.std.specs.List.{list_all, AllByRecursion, AllZip, slice_index_or}
 use Rattle.life_base.specs.Text.{is_blank, is_digit_text, value_of}

@@ -64,7 +64,7 @@ square_of text =
     if is_leaf_byte (slice_index text 0) then (if is_leaf text then Some (Leaf (leaf_bytes text)) else None)
     else (if list_all is_digit_text (words_of text) then quad_of (map value_of (words_of text)) else None)
 
--- the square, the rule and the generation that a line gives
+-- the square, the rule and the generation that a line gives, if it breaks no rule
 abbrev pub square_on : List ℕ → Option Line
 square_on line = if is_node_line line then square_of (trim line) else None
 
@@ -127,7 +127,8 @@ broken_behind top before line =
     else (if begins_with line (codes "#") then None
     else broken_by_node top (rule_in_force before) (map level_of (squares_of before)) (trim line))))))
 
--- The first rule of the format that a line breaks behind these lines, if it breaks one.
+-- The first rule of the format that a line breaks behind these lines, if it breaks one. Behind lines of which one breaks a rule
+-- it means nothing.
 unfoldable pub broken : ℕ → List (List ℕ) → List ℕ → Option Kind
 broken top before line =
     if is_too_long line then Some LineTooLong
