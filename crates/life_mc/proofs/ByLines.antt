@@ -1,10 +1,9 @@
 -- The macrocell format is a grammar of lines.
-use Rattle.std.proofs.Common.{◌≡◌, ℕ, zero, suc, ◌+◌, ◌<◌, List, [], ◌∷◌, ◌++◌, length, take, get_or, true, refl, ap, sym, subst, ◌∙◌, arith}
-use Rattle.std.specs.Prelude.{codes, Option, Some, None}
+use Rattle.std.proofs.Common.{◌≡◌, ℕ, zero, suc, ◌<◌, List, [], ◌∷◌, ◌++◌, length, true, refl, ap, subst, arith}
+use Rattle.std.specs.Prelude.{codes}
 use Rattle.life_base.specs.Refusal.{Prefix}
 use Rattle.life_base.proofs.Refusals.{UnbrokenBelow, IsByLines}
-use Rattle.life_mc.specs.Macrocell.{Macrocell}
-use Rattle.life_mc.specs.Reading.{AreMacrocell, Accepts, broken, missing, rule_in_force, generation_in_force, squares_of}
+use Rattle.life_mc.specs.Reading.{Accepts, broken, missing, rule_in_force, generation_in_force, squares_of}
 
 module _ (top : ℕ) where
   -- lines that break no rule are a file, where there are any

@@ -1,12 +1,11 @@
 -- The rows of a leaf, read one after another.
-use Rattle.std.proofs.Common.{◌≡◌, ℕ, zero, suc, ◌+◌, ◌-◌, ◌*◌, ◌/◌, ◌<◌, ◌≤◌, List, [], ◌∷◌, ◌++◌, length, take, drop, get_or, map, Bool, true, false, cond, not, ◌&&◌, ◌||◌, refl, ap, sym, subst, ◌∙◌, arith, add-one, drop-cons, ltb, Bor, set}
-use Rattle.std.specs.Prelude.{position, Option, Some, None, ◌==◌, nat_le, replicate}
-use Rattle.std.specs.List.{list_all, position_or_len, slice_split}
+use Rattle.std.proofs.Common.{◌≡◌, ℕ, zero, suc, ◌+◌, ◌-◌, ◌/◌, ◌<◌, ◌≤◌, List, [], ◌∷◌, ◌++◌, length, take, drop, get_or, map, Bool, true, false, cond, not, ◌&&◌, ◌||◌, refl, ap, sym, ◌∙◌, arith, add-one, drop-cons, ltb, set}
+use Rattle.std.specs.Prelude.{position, Some, None, ◌==◌, nat_le, replicate}
+use Rattle.std.specs.List.{list_all, position_or_len}
 use Rattle.std.proofs.lemmas.List.Quantifiers.{position-Some}
 use Rattle.std.proofs.lemmas.List.Sums.{position_or_len_is}
 use Rattle.std.proofs.lemmas.List.{drop_all, take_all}
 use Rattle.std.proofs.lemmas.Bool.{ltb-false, le-leb, lt-leb}
-use Rattle.std.proofs.lemmas.Bool.Decides.{nat_tests}
 use Rattle.life_base.specs.Text.{onto_first}
 use Rattle.life_mc.specs.Reading.{is_leaf, is_leaf_byte, leaf_rows, leaf_bytes, row_byte, is_at_end}
 use Rattle.life_mc.specs.Standing.{is_row, are_rows, row_bytes}
@@ -173,7 +172,7 @@ some_cond true b rows = omega arith
 some_cond false b [] = omega arith
 some_cond false b (r ∷ rs) = omega arith
 
-some_rows : (text : List ℕ) → 0 < length (leaf_rows text)
+pub some_rows : (text : List ℕ) → 0 < length (leaf_rows text)
 some_rows [] = omega arith
 some_rows (b ∷ text) = some_cond (is_dollar b) b (leaf_rows text)
 

@@ -9,3 +9,8 @@ pub mod Nodes
 pub mod Stands
 pub mod ReadBack
 pub mod LineKinds
+pub mod Around
+pub mod LeafLines
+pub mod Forms
+pub mod Grammars
+pub mod FormatLaws

@@ -1,5 +1,5 @@
 -- The kinds with which a macrocell line breaks a rule.
-use Rattle.std.proofs.Common.{◌≡◌, ℕ, List, ◌∷◌, [], ◌||◌, length, drop, Bool, true, false, cond, refl, sym, ap, ◌∙◌, subst, map}
+use Rattle.std.proofs.Common.{◌≡◌, ℕ, List, ◌∷◌, [], ◌||◌, length, drop, Bool, true, false, cond, refl, sym, ap, ◌∙◌, map}
 use Rattle.std.specs.Prelude.{◌==◌, nat_le, nat_lt, not, ◌&&◌, codes, slice_index, Option, Some, None, Result, Ok, Err}
 use Rattle.std.specs.List.{list_all}
 use Rattle.life_base.specs.Text.{is_too_long, is_empty, is_blank, begins_with, trim, is_digit_text, value_of}

@@ -1,7 +1,7 @@
 -- The cells of a leaf's row, as they are written.
-use Rattle.std.proofs.Common.{◌≡◌, ℕ, zero, suc, ◌+◌, ◌-◌, ◌<◌, ◌≤◌, List, [], ◌∷◌, ◌++◌, length, take, get_or, Bool, true, false, cond, refl, ap, sym, subst, ◌∙◌, arith}
+use Rattle.std.proofs.Common.{◌≡◌, ℕ, zero, suc, ◌+◌, ◌-◌, ◌<◌, ◌≤◌, length, take, get_or, Bool, true, false, cond, refl, ap, sym, subst, ◌∙◌, arith}
 use Rattle.std.specs.Prelude.{◌==◌}
-use Rattle.std.proofs.lemmas.List.{take_more, take-take, get_or-take, length-take-le}
+use Rattle.std.proofs.lemmas.List.{take-take, get_or-take, length-take-le}
 use Rattle.life_base.specs.Text.{without_last}
 use Rattle.life_base.proofs.Trim.{without_last-take, without_last-whole}
 use Rattle.life_mc.specs.Writing.{row_cells, is_live, cell_byte}
@@ -24,10 +24,6 @@ cell_at row (suc (suc (suc (suc (suc (suc (suc (suc c)))))))) h = absurd (omega 
 length_cells : (row : ℕ) → length (row_cells row) ≡ 8
 unfolding row_cells
 length_cells row = refl
-
--- one cell more
-pub cell_more : (row c : ℕ) → c < 8 → take (c + 1) (row_cells row) ≡ take c (row_cells row) ++ cell_byte row c ∷ []
-cell_more row c h = take_more (row_cells row) c 0 (omega (arith, length_cells row)) ∙ ap (λ b. take c (row_cells row) ++ b ∷ []) (cell_at row c h)
 
 last_of : (row n : ℕ) → n < 8 → get_or (take (n + 1) (row_cells row)) n 0 ≡ cell_byte row n
 last_of row n h = get_or-take (n + 1) (row_cells row) n 0 (omega arith) ∙ cell_at row n h

@@ -1,9 +1,8 @@
 -- What a reader keeps, line after line.
-use Rattle.std.proofs.Common.{◌≡◌, ℕ, zero, suc, ◌+◌, ◌-◌, ◌^◌, ◌<◌, ◌≤◌, List, [], ◌∷◌, ◌++◌, length, take, drop, get_or, map, Bool, true, false, cond, not, ◌&&◌, ◌||◌, refl, ap, sym, subst, ◌∙◌, arith, length-append, ◌⊎◌, inl, inr}
+use Rattle.std.proofs.Common.{◌≡◌, ℕ, suc, ◌+◌, ◌-◌, ◌^◌, ◌<◌, ◌≤◌, List, [], ◌∷◌, ◌++◌, length, take, drop, get_or, map, Bool, true, false, cond, not, ◌&&◌, ◌||◌, refl, ap, sym, subst, ◌∙◌, arith, length-append, ◌⊎◌, inl, inr}
 use Rattle.std.specs.Prelude.{Option, Some, None, codes, nat_lt, nat_le, Result, Ok, Err, MatchResult, filter_map, IfOk, OnOk, ◌==◌}
 use Rattle.std.specs.Result.{result_ok}
-use Rattle.std.specs.List.{slice_index_or, list_all}
-use Rattle.std.proofs.lemmas.Bool.{ltb-true, ltb-false}
+use Rattle.std.specs.List.{slice_index_or}
 use Rattle.std.proofs.lemmas.Bool.Decides.{nat_tests}
 use Rattle.std.proofs.Math.Seq.{take-append_seam, get_or-append_seam}
 use Rattle.std.proofs.Math.ListN.{get_or-append}
@@ -152,7 +151,7 @@ one_more {X = X} f x ys y (Some z) h =
     one_on : f y ≡ Some z → filter_map f (y ∷ []) ≡ z ∷ []
     one_on e = rw e refl
 
-rule_more : (lines : List (List ℕ)) (line : List ℕ) (o : Option Rule) → is_empty lines ≡ false → rule_on line ≡ o → rule_in_force (lines ++ line ∷ []) ≡ or_value o (rule_in_force lines)
+pub rule_more : (lines : List (List ℕ)) (line : List ℕ) (o : Option Rule) → is_empty lines ≡ false → rule_on line ≡ o → rule_in_force (lines ++ line ∷ []) ≡ or_value o (rule_in_force lines)
 rule_more [] line o h e = cc
 rule_more (header ∷ lines) line o h e = one_more rule_on default_rule lines line o e
 

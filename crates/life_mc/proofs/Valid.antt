@@ -1,23 +1,23 @@
 -- The squares of a file are squares.
-use Rattle.std.proofs.Common.{◌≡◌, ℕ, zero, suc, ◌+◌, ◌-◌, ◌*◌, ◌/◌, ◌%◌, ◌^◌, ◌<◌, ◌≤◌, List, [], ◌∷◌, ◌++◌, length, take, drop, get_or, map, Bool, true, false, cond, not, ◌&&◌, ◌||◌, refl, ap, sym, subst, ◌∙◌, arith, length-append, add-one, ◌⊎◌, inl, inr}
-use Rattle.std.specs.Prelude.{codes, nat_le, nat_lt, ◌==◌, Option, Some, None, Result, Ok, Err, filter_map, slice_index, replicate, bytes_eq}
+use Rattle.std.proofs.Common.{◌≡◌, ℕ, zero, suc, ◌<◌, ◌≤◌, List, [], ◌∷◌, ◌++◌, length, take, drop, get_or, map, Bool, true, false, cond, not, ◌&&◌, ◌||◌, refl, ap, sym, subst, ◌∙◌, arith, length-append, add-one, ◌⊎◌, inl, inr}
+use Rattle.std.specs.Prelude.{codes, nat_le, nat_lt, ◌==◌, Option, Some, None, filter_map, slice_index, replicate}
 use Rattle.std.specs.List.{list_all, AllByRecursion, slice_get}
 use Rattle.std.proofs.lemmas.Bool.Decides.{nat_tests}
 use Rattle.std.specs.Result.{result_ok}
 use Rattle.std.proofs.Math.Seq.{take-length, take-append_seam}
 use Rattle.std.proofs.lemmas.List.{take_more, length-take-le, take-append-le}
 use Rattle.std.proofs.lemmas.List.Elements.{filter_map-append}
-use Rattle.std.proofs.lemmas.Bool.{leb-true, ltb-false, ltb-true}
-use Rattle.life_base.specs.Text.{is_blank, is_whitespace, begins_with, trim, is_too_long, words_of, value_of, is_digit_text, is_empty}
+use Rattle.std.proofs.lemmas.Bool.{leb-true, ltb-false}
+use Rattle.life_base.specs.Text.{is_blank, is_whitespace, begins_with, trim, is_too_long, words_of, value_of, is_digit_text}
 use Rattle.life_base.specs.Rules.{rule_of, default_rule}
 use Rattle.life_base.specs.Numbers.{u64_of}
 use Rattle.life_base.specs.declared.kind.Kind.{Kind}
-use Rattle.life_base.specs.declared.kind.Kind.TheVariants.{NoHeader, BadLevel, BadChild, BadNode, BadLeaf, StateRange, Timeline, LateHeader, LineTooLong}
+use Rattle.life_base.specs.declared.kind.Kind.TheVariants.{BadLevel, BadChild, BadLeaf, StateRange, Timeline, LateHeader, LineTooLong}
 use Rattle.life_base.specs.declared.rule.Rule.{Rule}
 use Rattle.life_base.proofs.Numbers.{first, second}
 use Rattle.life_base.proofs.Refusals.{UnbrokenBelow}
 use Rattle.life_mc.specs.Macrocell.{AreSquares, IsSquare, level_of, is_quarter}
-use Rattle.life_mc.specs.Reading.{Accepts, broken, broken_behind, broken_by_node, broken_by_square, missing, squares_of, square_on, square_of, square_behind, rule_in_force, rule_on, last_or, is_command, is_node_line, is_leaf_byte, is_leaf, leaf_bytes, leaf_rows, row_byte, fault_in, quad_of}
+use Rattle.life_mc.specs.Reading.{Accepts, broken, broken_behind, broken_by_node, broken_by_square, missing, squares_of, square_on, square_of, rule_in_force, rule_on, last_or, is_command, is_node_line, is_leaf_byte, is_leaf, leaf_bytes, leaf_rows, row_byte, fault_in, quad_of}
 use Rattle.life_mc.specs.declared.line.Line.{Line}
 use Rattle.life_mc.specs.declared.line.Line.TheVariants.{Leaf, Quad}
 use Rattle.life_mc.proofs.ReadLines.{squares_none, squares_some}
@@ -52,13 +52,13 @@ module _ (top : ℕ) where
   command_is_hash c (a ∷ []) h = let k : (a == 35) ≡ true = first _ _ (first _ _ h) in true_true _ k
   command_is_hash c (a ∷ b ∷ rest) h = let k : (a == 35) ≡ true = first _ _ (first _ _ h) in true_true _ k
 
-  no_command : (c : ℕ) (line : List ℕ) → begins_with line (codes "#") ≡ false → is_command c line ≡ false
+  pub no_command : (c : ℕ) (line : List ℕ) → begins_with line (codes "#") ≡ false → is_command c line ≡ false
   no_command c line h = contradicts _ (λ k. let t = command_is_hash c line k in cc)
 
   eq_true : (a b : ℕ) → (a == b) ≡ true → a ≡ b
   eq_true a b h = grind (arith, nat_tests)
 
-  hash_not_blank : (line : List ℕ) → begins_with line (codes "#") ≡ true → is_blank line ≡ false
+  pub hash_not_blank : (line : List ℕ) → begins_with line (codes "#") ≡ true → is_blank line ≡ false
   hash_not_blank [] h = cc
   hash_not_blank (a ∷ line) h = let e : a ≡ 35 = eq_true a 35 (first _ _ h) in ap (λ b. is_whitespace b && list_all is_whitespace line) e
 

@@ -1,5 +1,5 @@
 -- The state of each cell of the plane in a macrocell file.
-use Rattle.std.specs.Prelude.{◌≡◌, ℕ, zero, suc, ◌+◌, ◌-◌, ◌/◌, ◌%◌, ◌^◌, Bool, ◌&&◌, List, [], ◌∷◌, length, map, nat_lt, if◌then◌else◌, slice_index, Option, Some, None, ℤ, pos, negsuc, ◌+ℤ◌}
+use Rattle.std.specs.Prelude.{ℕ, zero, suc, ◌-◌, ◌/◌, ◌%◌, ◌^◌, ◌&&◌, List, [], ◌∷◌, length, nat_lt, if◌then◌else◌, slice_index, Some, None, ℤ, pos, negsuc, ◌+ℤ◌}
 use Rattle.life_mc.specs.Macrocell.{Macrocell, level_of, numbered}
 use Rattle.life_mc.specs.declared.line.Line.{Line}
 use Rattle.life_mc.specs.declared.line.Line.TheVariants.{Leaf, Quad}
@@ -36,12 +36,17 @@ cell_from lines level (pos x) (pos y) = if nat_lt x (2 ^ level) && nat_lt y (2 ^
 cell_from lines level (pos x) (negsuc y) = 0
 cell_from lines level (negsuc x) y = 0
 
--- The state of the cell (x, y). A root of level k covers x and y from -2 ^ (k - 1) to 2 ^ (k - 1) - 1; all cells outside are 0.
-abbrev pub cell : Macrocell → ℤ → ℤ → ℕ
-cell file x y =
-    let level = root_level file.lines in
+-- The state of the cell (x, y). A root of level k covers x and y from -2 ^ (k - 1) to 2 ^ (k - 1) - 1; all cells outside
+-- are 0, and so is every cell where there are no squares.
+abbrev pub cell_of : List Line → ℤ → ℤ → ℕ
+cell_of [] x y = 0
+cell_of (line ∷ lines) x y =
+    let level = root_level (line ∷ lines) in
     let half = pos (2 ^ (level - 1)) in
-    cell_from file.lines level (x +ℤ half) (y +ℤ half)
+    cell_from (line ∷ lines) level (x +ℤ half) (y +ℤ half)
+
+abbrev pub cell : Macrocell → ℤ → ℤ → ℕ
+cell file x y = cell_of file.lines x y
 
 -- the number of node lines
 abbrev pub node_lines : Macrocell → ℕ

@@ -1,9 +1,8 @@
 -- The macrocell format: which lines a file may have, and what it says.
-use Rattle.std.specs.Prelude.{◌≡◌, ℕ, ◌+◌, ◌-◌, ◌*◌, ◌^◌, ◌<◌, ◌≤◌, Bool, true, false, not, ◌&&◌, ◌||◌, List, [], ◌∷◌, ◌++◌, length, take, drop, map, replicate, sum_by, filter_map, nat_le, nat_lt, ◌==◌, if◌then◌else◌, slice_index, codes, Option, Some, None, Result, Ok, Err, MatchResult, is_some}
+use Rattle.std.specs.Prelude.{◌≡◌, ℕ, ◌-◌, ◌^◌, ◌<◌, Bool, true, false, not, ◌&&◌, ◌||◌, List, [], ◌∷◌, ◌++◌, length, take, drop, map, replicate, sum_by, filter_map, nat_le, nat_lt, ◌==◌, if◌then◌else◌, slice_index, codes, Option, Some, None, Result, Ok, Err}
 use Rattle.std.specs.List.{list_all, slice_split, slice_index_or}
 use Rattle.std.specs.Result.{result_ok}
-use Rattle.life_base.specs.Text.{is_empty, is_whitespace, is_blank, trim, begins_with, is_digit_text, value_of, words_of, lines_of, is_too_long}
-use Rattle.life_base.specs.Sets.{DigitSets}
+use Rattle.life_base.specs.Text.{is_empty, is_blank, trim, begins_with, is_digit_text, value_of, words_of, lines_of, is_too_long}
 use Rattle.life_base.specs.Numbers.{u64_of}
 use Rattle.life_base.specs.Rules.{rule_of, default_rule}
 use Rattle.life_base.specs.Refusal.{IsRefusal, BreaksBy}
@@ -12,8 +11,7 @@ use Rattle.life_base.specs.declared.kind.Kind.{Kind}
 use Rattle.life_base.specs.declared.kind.Kind.TheVariants.{NoHeader, BadNumber, TooLarge, StateRange, LateHeader, BadNode, BadLevel, BadChild, BadLeaf, Timeline, LineTooLong}
 use Rattle.life_base.specs.declared.kind.Kind.TheVariants as kinds
 use Rattle.life_base.specs.declared.rule.Rule.{Rule}
-use Rattle.life_base.specs.declared.rule.Rule.TheVariants.{Life, Named}
-use Rattle.life_mc.specs.Macrocell.{Macrocell, level_of, largest_state, is_quarter}
+use Rattle.life_mc.specs.Macrocell.{Macrocell, level_of, is_quarter}
 use Rattle.life_mc.specs.declared.line.Line.{Line}
 use Rattle.life_mc.specs.declared.line.Line.TheVariants.{Leaf, Quad}
 
@@ -66,7 +64,7 @@ square_of text =
     if is_leaf_byte (slice_index text 0) then (if is_leaf text then Some (Leaf (leaf_bytes text)) else None)
     else (if list_all is_digit_text (words_of text) then quad_of (map value_of (words_of text)) else None)
 
--- the square, the rule and the generation that a line gives
+-- the square, the rule and the generation that a line gives, if it breaks no rule
 abbrev pub square_on : List ℕ → Option Line
 square_on line = if is_node_line line then square_of (trim line) else None
 
@@ -129,7 +127,8 @@ broken_behind top before line =
     else (if begins_with line (codes "#") then None
     else broken_by_node top (rule_in_force before) (map level_of (squares_of before)) (trim line))))))
 
--- The first rule of the format that a line breaks behind these lines, if it breaks one.
+-- The first rule of the format that a line breaks behind these lines, if it breaks one. Behind lines of which one breaks a rule
+-- it means nothing.
 unfoldable pub broken : ℕ → List (List ℕ) → List ℕ → Option Kind
 broken top before line =
     if is_too_long line then Some LineTooLong

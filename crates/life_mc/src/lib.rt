@@ -2,17 +2,19 @@
 #![tactic(auto)]
 
 mod file;
+pub mod laws;
 mod leaf;
 mod line;
 mod lines;
 mod node;
 mod numbers;
 mod reading;
+#[cfg(test)]
+mod tests;
 mod told;
 mod writing;
 
 pub use file::McFile;
 pub use line::Line;
-pub use lines::McLines;
 pub use reading::read_mc;
 pub use writing::write_mc;

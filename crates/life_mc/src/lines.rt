@@ -10,11 +10,11 @@ use std::alloc::Global;
 use std::marker::Model;
 
 /// The greatest length of a line, without its line feed.
-const LONGEST_LINE: usize = 1048576;
+const LONGEST_LINE: usize = 1 << 20;
 
 /// Takes the lines of a file one after another, and keeps the levels of its squares and no text.
 #[derive(Drop)]
-pub struct McLines {
+pub(crate) struct McLines {
     started: bool,
     rule: Rule,
     generation: u64,
@@ -48,7 +48,7 @@ impl McLines {
     ghost use Rattle.life_mc.specs.Reading.{broken, square_behind, rule_in_force, generation_in_force};
 
     /// A reader that no line came to.
-    pub fn new(alloc: Global) -> McLines
+    pub(crate) fn new(alloc: Global) -> McLines
         ensures stands { StandsAfter MAX_LEVEL [] result }
         ensures fresh { result.spent ≡ false }
     {
@@ -63,7 +63,7 @@ impl McLines {
     }
 
     /// The rule and the generation of the file whose lines came.
-    pub fn end(self) -> Result<(Rule, u64), Kind>
+    pub(crate) fn end(self) -> Result<(Rule, u64), Kind>
         ensures said { (lines : List (List ℕ)) → StandsAfter MAX_LEVEL lines self → self.spent ≡ false
             → MatchResult result (λ r. (0 < length lines) × (r.0 ≡ rule_in_force lines) × (r.1 ≡ generation_in_force lines))
             (λ kind. (kind ≡ NoHeader) × (lines ≡ [])) }
@@ -79,8 +79,8 @@ impl McLines {
     }
 
     /// Takes the next line, without its line feed, and answers its square, if it has one. After an error each later
-    /// call answers Spent.
-    pub fn line(&mut self, line: &[u8]) -> Result<Option<Line>, Kind>
+    /// call answers Spent. A line feed in the line is a byte like any other, so a caller that has bytes cuts them first.
+    pub(crate) fn line(&mut self, line: &[u8]) -> Result<Option<Line>, Kind>
         ensures ok { (lines : List (List ℕ)) → StandsAfter MAX_LEVEL lines self.old
             → IfOk result (λ square. (square ≡ square_behind lines line.now) × StandsAfter MAX_LEVEL (lines ++ line.now ∷ []) self.new) }
         ensures err { (lines : List (List ℕ)) → StandsAfter MAX_LEVEL lines self.old → self.old.spent ≡ false

@@ -52,16 +52,22 @@ fn row_width(row: u8) -> u8
     width
 }
 
-/// Adds the first cells of a row at the end.
-fn append_cells(out: &mut Vec<u8>, row: u8, width: u8) -> Result<(), Kind>
-    requires { width ≤ 8 }
-    ensures ok { OnOk result (out.new.items ≡ out.old.items ++ take width (row_cells row)) }
-    ensures err { IfErr result (λ kind. kind ≡ Memory) }
+/// The eight cells of a row, and `$`.
+#[tactic(auto, unfolding(crate::specs::Writing::row_cells))]
+fn cells_and_end(row: u8) -> [u8; 9]
+    ensures { result ≡ row_cells row ++ codes "$" }
 {
-    for column in 0..width {
-        append(out, &[cell_byte(row, column)])?;
-    }
-    Ok(())
+    [
+        cell_byte(row, 0),
+        cell_byte(row, 1),
+        cell_byte(row, 2),
+        cell_byte(row, 3),
+        cell_byte(row, 4),
+        cell_byte(row, 5),
+        cell_byte(row, 6),
+        cell_byte(row, 7),
+        b'$',
+    ]
 }
 
 /// Adds a row of a leaf at the end.
@@ -69,8 +75,10 @@ fn append_row(out: &mut Vec<u8>, row: u8) -> Result<(), Kind>
     ensures ok { OnOk result (out.new.items ≡ out.old.items ++ row_text row) }
     ensures err { IfErr result (λ kind. kind ≡ Memory) }
 {
-    append_cells(out, row, row_width(row))?;
-    append(out, b"$")
+    let mut text = cells_and_end(row);
+    let width = usize::from(row_width(row));
+    text[width] = b'$';
+    append(out, &text[..width + 1])
 }
 
 /// Adds the rows of a leaf at the end.
@@ -153,7 +161,8 @@ fn append_parts(out: &mut Vec<u8>, rule: &Rule, generation: u64, lines: &[Line])
     append_lines(out, lines)
 }
 
-/// The text of a file.
+/// The text of a file: the header, the rule, the generation if it isn't 0, and the squares as they stand, each line ended by
+/// a line feed. The one fault is `Memory`.
 pub fn write_mc(alloc: Global, file: &McFile) -> Result<Vec<u8>, Fault>
     ensures ok { IfOk result (λ out. out.items ≡ mc_text file.now) }
     ensures err { IfErr result (λ fault. fault ≡ fault_of Memory) }

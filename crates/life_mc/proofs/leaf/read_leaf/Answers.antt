@@ -1,7 +1,7 @@
-use Rattle.std.proofs.Common.{◌≡◌, ◌∙◌, sym, ap, List, ℕ, suc, ◌+◌, ◌-◌, ◌<◌, ◌≤◌, ◌++◌, ◌∷◌, take, length, true, false, arith, refl, length-set}
+use Rattle.std.proofs.Common.{◌≡◌, ◌∙◌, sym, ap, List, ℕ, suc, ◌+◌, ◌-◌, ◌<◌, ◌++◌, take, length, true, false, arith, refl, length-set}
 use Rattle.std.proofs.lemmas.Bool.Decides.{nat_tests}
 use Rattle.life_base.proofs.Numbers.{not_zero}
-use Rattle.std.specs.Prelude.{◌==◌, Option, Some, None}
+use Rattle.std.specs.Prelude.{◌==◌}
 use Rattle.life_mc.specs.Reading.{is_leaf, is_at_end}
 use Rattle.life_mc.specs.Standing.{are_rows, row_bytes, rows_left}
 use Rattle.life_mc.proofs.Leaves.{leaf_is, leaf_bytes_are, row_set, whole_leaf, no_leaf_at_end, not_at_end, at_end_empty}

@@ -1,7 +1,6 @@
-use Rattle.std.proofs.Common.{◌≡◌, ◌∷◌, ◌∙◌, List, ℕ, ap, sym, rules}
+use Rattle.std.proofs.Common.{◌≡◌, ◌∷◌, ◌∙◌, List, ℕ, ap, sym}
 use Rattle.life_base.specs.Text.{words_of}
-use Rattle.life_mc.specs.Standing.{capped}
-use Rattle.life_mc.proofs.Words.{quad_short, quad_long, quad_whole, all_five}
+use Rattle.life_mc.proofs.Words.{quad_short, quad_long, quad_whole}
 use Rattle.life_mc.proofs.numbers.read_numbers.Goals as goal
 
 -- one word more in front

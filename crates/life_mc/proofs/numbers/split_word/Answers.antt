@@ -1,8 +1,7 @@
 use Rattle.std.proofs.Common.{◌≡◌, ◌∙◌, ap, sym, List, ℕ}
-use Rattle.std.specs.Prelude.{position, Option, Some, None}
-use Rattle.life_base.specs.Text.{is_whitespace, words_of, trim_start}
+use Rattle.std.specs.Prelude.{position, Some, None}
+use Rattle.life_base.specs.Text.{is_whitespace, trim_start}
 use Rattle.life_base.proofs.LineEnds.{all_behind}
-use Rattle.life_mc.specs.Standing.{with_word}
 use Rattle.life_mc.proofs.Words.{words_at, words_without}
 use Rattle.life_mc.proofs.numbers.split_word.Goals as goal
 

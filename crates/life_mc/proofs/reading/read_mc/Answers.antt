@@ -1,11 +1,12 @@
-use Rattle.std.proofs.Common.{◌≡◌, ◌++◌, ◌∷◌, [], List, ℕ, map, sym, ◌∙◌, ap, subst, ◌⊎◌, inl, inr}
+use Rattle.std.proofs.Common.{◌≡◌, ◌++◌, ◌∷◌, [], List, ℕ, map, sym, ◌∙◌, ap, subst, inl, inr, true}
 use Rattle.std.specs.Prelude.{Some}
 use Rattle.std.proofs.lemmas.Result.{err_from_is_err_and}
 use Rattle.life_base.specs.Text.{lines_of, numbered_from}
-use Rattle.life_base.specs.Refusal.{fault_of, fault_at, OrMemory}
+use Rattle.life_base.specs.Refusal.{fault_at, OrMemory}
 use Rattle.life_base.specs.declared.fault.Fault.{Fault}
-use Rattle.life_base.specs.declared.kind.Kind.TheVariants.{Memory, NoHeader}
-use Rattle.life_mc.specs.Reading.{broken, Refuses, AreMacrocell, squares_of, rule_in_force}
+use Rattle.life_base.specs.declared.kind.Kind.TheVariants.{NoHeader}
+use Rattle.life_mc.specs.Reading.{broken, Refuses, AreMacrocell, squares_of, rule_in_force, is_macrocell_kind}
+use Rattle.life_mc.proofs.LineKinds.{broken_kind}
 use Rattle.life_mc.specs.Macrocell.{Macrocell, AreSquares}
 use Rattle.life_mc.specs.declared.line.Line.{Line}
 use Rattle.life_base.specs.declared.rule.Rule.{Rule}
@@ -64,3 +65,16 @@ returns-in-Err-clause-err c =
     let P : Fault → Type 0 = λ fault. Refuses MAX_LEVEL lines fault in
     let Q : List (List ℕ) → Type 0 = λ ls. Refuses MAX_LEVEL ls (fault_at 1 NoHeader) in
     inr (subst P (sym e) (subst Q t (no_lines MAX_LEVEL)))
+
+pub returns-in_err-take_line-clause-kinds : goal.returns-in_err-take_line-clause-kinds
+returns-in_err-take_line-clause-kinds c =
+    let p = err_from_is_err_and c.from_residual.result c.from_residual.ensures.1 in
+    let pairs : List (ℕ × List ℕ) = map numbered c.loop-number.yielded in
+    let fault : Fault = c.in_err-take_line.field-0.0 in
+    let told : OrMemory fault ((broken MAX_LEVEL (texts pairs) c.in-Some.line.now ≡ Some fault.kind) × (fault.place.line ≡ c.in-Some.number)) =
+    c.in_err-take_line.ensures.err (texts pairs) c.loop-number.invariant.stands c.loop-number.invariant.fresh in
+    let answer : OrMemory fault (is_macrocell_kind fault.kind ≡ true) = elim told [
+      | inl m ↦ inl m
+      | inr w ↦ inr (broken_kind MAX_LEVEL (texts pairs) c.in-Some.line.now fault.kind w.0)
+    ] in
+    rw (p.1, p.2) answer

@@ -1,4 +1,4 @@
-use Rattle.std.proofs.Common.{◌≡◌, ◌++◌, ◌∷◌, [], List, ℕ, map, false, Bor}
+use Rattle.std.proofs.Common.{◌≡◌, ◌++◌, List, ℕ, map, false, Bor}
 use Rattle.life_base.specs.Text.{lines_of, numbered_from}
 use Rattle.life_mc.specs.Reading.{squares_of}
 use Rattle.life_mc.specs.Standing.{StandsAfter}

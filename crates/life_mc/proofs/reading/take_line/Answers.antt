@@ -1,13 +1,12 @@
 use Rattle.std.proofs.Common.{◌≡◌, ◌++◌, ◌∷◌, [], List, sym, ◌∙◌, ap}
 use Rattle.life_mc.specs.declared.line.Line.{Line}
 use Rattle.life_mc.proofs.ReadLines.{squares_none, squares_some}
-use Rattle.std.proofs.Common.{◌⊎◌, inl, inr, ℕ, cond, false, ◌≡◌}
+use Rattle.std.proofs.Common.{inl, inr, ℕ, cond, false, ◌≡◌}
 use Rattle.std.specs.Prelude.{Some}
 use Rattle.life_base.specs.Refusal.{is_placeless, fault_at}
 use Rattle.life_base.specs.declared.kind.Kind.{Kind}
 use Rattle.life_base.specs.declared.fault.Fault.{Fault}
 use Rattle.life_base.specs.declared.cell.TheConstants.{MAX_LEVEL}
-use Rattle.life_mc.specs.Reading.{broken}
 use Rattle.life_mc.proofs.LineKinds.{broken_kind, names_line}
 use Rattle.life_mc.proofs.reading.take_line.Goals as goal
 

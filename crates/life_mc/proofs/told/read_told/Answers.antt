@@ -1,5 +1,5 @@
-use Rattle.std.proofs.Common.{◌≡◌, ◌∙◌, ap, sym, inl, inr, ◌-◌, take, drop, length, false, true, List, ℕ, ◌⊎◌}
-use Rattle.std.specs.Prelude.{codes, nat_lt, Some, None}
+use Rattle.std.proofs.Common.{◌≡◌, ◌∙◌, ap, sym, inr, drop, length, false, true, List, ℕ, ◌⊎◌}
+use Rattle.std.specs.Prelude.{codes, nat_lt, Some}
 use Rattle.std.proofs.lemmas.Result.{err_from_is_err_and}
 use Rattle.life_base.specs.Text.{is_blank, begins_with, trim, value_of}
 use Rattle.life_base.specs.Numbers.{u64_of}

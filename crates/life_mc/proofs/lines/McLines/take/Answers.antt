@@ -1,10 +1,10 @@
-use Rattle.std.proofs.Common.{◌≡◌, ◌∙◌, ◌⊎◌, ◌++◌, ap, sym, inl, inr, refl, List, ℕ, true, false}
-use Rattle.std.specs.Prelude.{Some, None}
+use Rattle.std.proofs.Common.{◌≡◌, ◌∙◌, ◌⊎◌, ap, sym, inl, inr, refl, List, ℕ, true, false}
+use Rattle.std.specs.Prelude.{Some}
 use Rattle.std.proofs.lemmas.Result.{err_from_is_err_and}
 use Rattle.life_base.specs.declared.kind.Kind.{Kind}
 use Rattle.life_base.specs.declared.kind.Kind.TheVariants.{Memory}
 use Rattle.life_mc.specs.Reading.{broken}
-use Rattle.life_mc.specs.Standing.{Standing, broken_after, or_value, told_rule, told_generation, told_square, level_told}
+use Rattle.life_mc.specs.Standing.{Standing, broken_after}
 use Rattle.life_mc.proofs.Stands.{breaks_length, breaks_header, broken_is, stands_first, stands_next, combine}
 use Rattle.life_base.specs.declared.cell.TheConstants.{MAX_LEVEL}
 use Rattle.life_mc.proofs.lines.McLines.take.Goals as goal

@@ -1,0 +1,230 @@
+-- Lines and their parts: what stands at the front, between whitespace, and word by word.
+use Rattle.std.proofs.Common.{◌≡◌, ℕ, List, [], ◌∷◌, ◌++◌, length, take, drop, Bool, true, false, cond, not, ◌&&◌, refl, ap, sym, ◌∙◌}
+use Rattle.std.specs.Prelude.{codes, slice_index}
+use Rattle.std.specs.List.{list_all}
+use Rattle.std.specs.Char.{is_ascii_digit}
+use Rattle.std.proofs.Math.Seq.{take-append_seam}
+use Rattle.std.proofs.lemmas.List.{take-append-drop}
+use Rattle.std.proofs.lemmas.List.Folds.{list_all-append}
+use Rattle.std.proofs.lemmas.Slice.Eq.{bytes_eq-Decides}
+use Rattle.std.proofs.lemmas.Bool.Decides.{nat_tests}
+use Rattle.std.proofs.Common.{arith}
+use Rattle.life_base.specs.Text.{is_whitespace, is_blank, begins_with, trim, trim_start, trim_end, words_of, onto_first, is_digit_text}
+use Rattle.life_base.proofs.Numbers.{first, second}
+use Rattle.life_base.proofs.NamesRead.{solid, solid_trimmed}
+use Rattle.life_mc.specs.Grammar.{Begins, IsCommand, IsAround, Separates}
+use Rattle.life_mc.specs.Reading.{is_command, is_leaf_byte}
+use Rattle.life_mc.proofs.Words.{trimmed_words}
+
+is_false : (v : Bool) → not v ≡ true → v ≡ false
+is_false true h = cc
+is_false false h = refl
+
+no : true ≡ false → ⊥
+no e = cc
+
+append_nothing : (xs : List ℕ) → xs ++ [] ≡ xs
+append_nothing [] = refl
+append_nothing (x ∷ xs) = ap (λ (t : List ℕ). x ∷ t) (append_nothing xs)
+
+-- ---- at the front
+
+pub begins : (front line : List ℕ) → begins_with line front ≡ true → Begins front line
+begins front line h =
+    (drop (length front) line, sym (take-append-drop (length front) line) ∙ ap (λ (t : List ℕ). t ++ drop (length front) line) ((bytes_eq-Decides (take (length front) line) front).0 h))
+
+pub begun : (front line : List ℕ) → Begins front line → begins_with line front ≡ true
+begun front line b = (bytes_eq-Decides (take (length front) line) front).1 (ap (take (length front)) b.1 ∙ take-append_seam front b.0)
+
+pub commands : (letter : ℕ) (line : List ℕ) → is_command letter line ≡ true → IsCommand (35 ∷ letter ∷ []) (drop 2 line) line
+commands letter line h = (
+  sym (take-append-drop 2 line) ∙ ap (λ (t : List ℕ). t ++ drop 2 line) ((bytes_eq-Decides (take 2 line) (35 ∷ letter ∷ [])).0 (first (begins_with line (35 ∷ letter ∷ [])) _ h)),
+  second (begins_with line (35 ∷ letter ∷ [])) _ h,
+)
+
+pub commanded : (letter : ℕ) (rest line : List ℕ) → IsCommand (35 ∷ letter ∷ []) rest line → is_command letter line ≡ true
+commanded letter rest line c =
+    ap (is_command letter) c.0 ∙ ap (λ v. v && is_blank (take 1 rest)) ((bytes_eq-Decides (35 ∷ letter ∷ []) (35 ∷ letter ∷ [])).1 refl) ∙ c.1
+
+pub behind_command : (letter : ℕ) (rest line : List ℕ) → IsCommand (35 ∷ letter ∷ []) rest line → drop 2 line ≡ rest
+behind_command letter rest line c = ap (drop 2) c.0
+
+-- ---- between whitespace
+
+pub blank_front : (before text : List ℕ) → is_blank before ≡ true → trim_start (before ++ text) ≡ trim_start text
+blank_front [] text h = refl
+blank_front (b ∷ before) text h =
+    ap (λ v. cond v (trim_start (before ++ text)) (b ∷ (before ++ text))) (first (is_whitespace b) _ h) ∙ blank_front before text (second (is_whitespace b) _ h)
+
+blank_ends : (text : List ℕ) → is_blank text ≡ true → trim_end text ≡ []
+blank_ends [] h = refl
+blank_ends (b ∷ text) h = ap (λ v. cond v [] (b ∷ trim_end text)) h
+
+and-true : (v : Bool) → (v && true) ≡ v
+and-true true = refl
+and-true false = refl
+
+blank_back : (text behind : List ℕ) → is_blank behind ≡ true → trim_end (text ++ behind) ≡ trim_end text
+blank_back [] behind h = blank_ends behind h
+blank_back (b ∷ text) behind h =
+    let all : is_blank (text ++ behind) ≡ is_blank text = list_all-append is_whitespace text behind ∙ ap (λ v. is_blank text && v) h ∙ and-true (is_blank text) in
+    ap (λ v. cond (is_whitespace b && v) [] (b ∷ trim_end (text ++ behind))) all
+    ∙ ap (λ (t : List ℕ). cond (is_blank (b ∷ text)) [] (b ∷ t)) (blank_back text behind h)
+
+-- a text without whitespace, taken out of the whitespace around it
+pub around_trim : (line : List ℕ) (b : ℕ) (text : List ℕ) → list_all solid (b ∷ text) ≡ true → IsAround line (b ∷ text) → trim line ≡ b ∷ text
+around_trim line b text s a =
+    ap trim a.is ∙ ap trim_end (blank_front a.before ((b ∷ text) ++ a.behind) a.blank_before)
+    ∙ ap (λ v. trim_end (cond v (trim_start (text ++ a.behind)) (b ∷ (text ++ a.behind)))) (is_false (is_whitespace b) (first (solid b) _ s))
+    ∙ blank_back (b ∷ text) a.behind a.blank_behind
+    ∙ ap (λ v. trim_end (cond v (trim_start text) (b ∷ text))) (sym (is_false (is_whitespace b) (first (solid b) _ s)))
+    ∙ solid_trimmed (b ∷ text) s
+
+start_split : (text : List ℕ) → (before : List ℕ) × (text ≡ before ++ trim_start text) × (is_blank before ≡ true)
+start_split [] = ([], refl, refl)
+start_split (b ∷ text) = by (is_whitespace b) refl (start_split text)
+  where
+    by : (v : Bool) → is_whitespace b ≡ v → (before : List ℕ) × (text ≡ before ++ trim_start text) × (is_blank before ≡ true)
+        → (before : List ℕ) × (b ∷ text ≡ before ++ cond v (trim_start text) (b ∷ text)) × (is_blank before ≡ true)
+    by true e s = (b ∷ s.0, ap (λ (t : List ℕ). b ∷ t) s.1, ap (λ v. v && is_blank s.0) e ∙ s.2)
+    by false e s = ([], refl, refl)
+
+end_split : (text : List ℕ) → (behind : List ℕ) × (text ≡ trim_end text ++ behind) × (is_blank behind ≡ true)
+end_split [] = ([], refl, refl)
+end_split (b ∷ text) = by (is_blank (b ∷ text)) refl (end_split text)
+  where
+    by : (v : Bool) → is_blank (b ∷ text) ≡ v → (behind : List ℕ) × (text ≡ trim_end text ++ behind) × (is_blank behind ≡ true)
+        → (behind : List ℕ) × (b ∷ text ≡ cond v [] (b ∷ trim_end text) ++ behind) × (is_blank behind ≡ true)
+    by true e s = (b ∷ text, refl, e)
+    by false e s = (s.0, ap (λ (t : List ℕ). b ∷ t) s.1, s.2)
+
+pub trimmed_around : (line : List ℕ) → IsAround line (trim line)
+trimmed_around line =
+    let s = start_split line in
+    let e = end_split (trim_start line) in
+    record { before = s.0; behind = e.0; is = s.1 ∙ ap (λ (t : List ℕ). s.0 ++ t) e.1; blank_before = s.2; blank_behind = e.2 }
+
+pub blank_trimmed : (line : List ℕ) → is_blank line ≡ true → trim line ≡ []
+blank_trimmed line h = ap trim (sym (append_nothing line)) ∙ ap trim_end (blank_front line [] h)
+
+-- ---- words
+
+abbrev step_to : ℕ → List ℕ → Bool → Bool → List (List ℕ)
+step_to b text v w = cond v (words_of text) (cond w ((b ∷ []) ∷ words_of text) (onto_first b (words_of text)))
+
+blank_words : (before text : List ℕ) → is_blank before ≡ true → words_of (before ++ text) ≡ words_of text
+blank_words [] text h = refl
+blank_words (b ∷ before) text h =
+    ap (λ v. step_to b (before ++ text) v (is_blank (take 1 (before ++ text)))) (first (is_whitespace b) _ h) ∙ blank_words before text (second (is_whitespace b) _ h)
+
+no_words : (text : List ℕ) → is_blank text ≡ true → words_of text ≡ []
+no_words text h = ap words_of (sym (append_nothing text)) ∙ blank_words text [] h
+
+take_blank : (text : List ℕ) → is_blank text ≡ true → is_blank (take 1 text) ≡ true
+take_blank [] h = refl
+take_blank (b ∷ text) h = ap (λ v. v && true) (first (is_whitespace b) _ h)
+
+same_take : (text behind : List ℕ) → is_blank behind ≡ true → is_blank (take 1 (text ++ behind)) ≡ is_blank (take 1 text)
+same_take [] behind h = take_blank behind h
+same_take (b ∷ text) behind h = refl
+
+words_back : (text behind : List ℕ) → is_blank behind ≡ true → words_of (text ++ behind) ≡ words_of text
+words_back [] behind h = no_words behind h
+words_back (b ∷ text) behind h =
+    ap (λ w. step_to b (text ++ behind) (is_whitespace b) w) (same_take text behind h)
+    ∙ ap (λ (ws : List (List ℕ)). cond (is_whitespace b) ws (cond (is_blank (take 1 text)) ((b ∷ []) ∷ ws) (onto_first b ws))) (words_back text behind h)
+
+-- the words of a line are those of its trimmed text
+pub words_trimmed : (line : List ℕ) → words_of (trim line) ≡ words_of line
+words_trimmed line =
+    let e = end_split (trim_start line) in
+    sym (words_back (trim line) e.0 e.2) ∙ ap words_of (sym e.1) ∙ trimmed_words line
+
+first_word : (b : ℕ) (word rest : List ℕ) → list_all solid (b ∷ word) ≡ true → is_blank (take 1 rest) ≡ true → words_of ((b ∷ word) ++ rest) ≡ (b ∷ word) ∷ words_of rest
+first_word b [] rest h k =
+    ap (λ v. step_to b rest v (is_blank (take 1 rest))) (is_false (is_whitespace b) (first (solid b) _ h)) ∙ ap (λ w. step_to b rest false w) k
+first_word b (c ∷ word) rest h k =
+    let more : list_all solid (c ∷ word) ≡ true = second (solid b) _ h in
+    ap (λ v. step_to b (c ∷ (word ++ rest)) v (is_whitespace c && true)) (is_false (is_whitespace b) (first (solid b) _ h))
+    ∙ ap (λ v. step_to b (c ∷ (word ++ rest)) false (v && true)) (is_false (is_whitespace c) (first (solid c) _ more))
+    ∙ ap (onto_first b) (first_word c word rest more k)
+
+digit_solid : (b : ℕ) → is_ascii_digit b ≡ true → solid b ≡ true
+digit_solid b h = grind (arith, nat_tests)
+
+pub digits_solid : (text : List ℕ) → list_all is_ascii_digit text ≡ true → list_all solid text ≡ true
+digits_solid [] h = refl
+digits_solid (b ∷ text) h = ap (λ v. v && list_all solid text) (digit_solid b (first (is_ascii_digit b) _ h)) ∙ digits_solid text (second (is_ascii_digit b) _ h)
+
+digit_word : (text rest : List ℕ) → is_digit_text text ≡ true → is_blank (take 1 rest) ≡ true → words_of (text ++ rest) ≡ text ∷ words_of rest
+digit_word [] rest h k = cc
+digit_word (b ∷ text) rest h k = first_word b text rest (digits_solid (b ∷ text) h) k
+
+-- digit texts between whitespace are the words
+pub separated_words : (texts : List (List ℕ)) (line : List ℕ) → list_all is_digit_text texts ≡ true → Separates texts line → words_of line ≡ texts
+separated_words [] line d s = no_words line s
+separated_words (text ∷ texts) line d s =
+    ap words_of s.2 ∙ blank_words s.0 (text ++ s.1) s.3 ∙ digit_word text s.1 (first (is_digit_text text) _ d) s.4
+    ∙ ap (λ (ws : List (List ℕ)). text ∷ ws) (separated_words texts s.1 (second (is_digit_text text) _ d) s.5)
+
+one_blank : (b : ℕ) (texts : List (List ℕ)) (text : List ℕ) → is_whitespace b ≡ true → Separates texts text → Separates texts (b ∷ text)
+one_blank b [] text h s = ap (λ v. v && is_blank text) h ∙ s
+one_blank b (t ∷ texts) text h s = (b ∷ s.0, s.1, ap (λ (u : List ℕ). b ∷ u) s.2, ap (λ v. v && is_blank s.0) h ∙ s.3, s.4, s.5)
+
+one_byte : (b : ℕ) (texts : List (List ℕ)) (text : List ℕ) → is_blank (take 1 text) ≡ false → Separates texts text → Separates (onto_first b texts) (b ∷ text)
+one_byte b [] text h s = absurd (no (sym (take_blank text s) ∙ h))
+one_byte b (t ∷ texts) text h s = by s.0 s.2 s.3
+  where
+    by : (before : List ℕ) → text ≡ before ++ (t ++ s.1) → is_blank before ≡ true → Separates ((b ∷ t) ∷ texts) (b ∷ text)
+    by [] e w = ([], s.1, ap (λ (u : List ℕ). b ∷ u) e, refl, s.4, s.5)
+    by (c ∷ before) e w = absurd (no (sym (ap (λ v. v && true) (first (is_whitespace c) _ w)) ∙ sym (ap (λ (u : List ℕ). is_blank (take 1 u)) e) ∙ h))
+
+step_word : (b : ℕ) (text : List ℕ) (v w : Bool) → is_whitespace b ≡ v → is_blank (take 1 text) ≡ w → Separates (words_of text) text → Separates (step_to b text v w) (b ∷ text)
+step_word b text true w h k s = one_blank b (words_of text) text h s
+step_word b text false true h k s = ([], text, refl, refl, k, s)
+step_word b text false false h k s = one_byte b (words_of text) text k s
+
+-- the words of a line stand between whitespace
+pub words_separate : (line : List ℕ) → Separates (words_of line) line
+words_separate [] = refl
+words_separate (b ∷ text) = step_word b text (is_whitespace b) (is_blank (take 1 text)) refl refl (words_separate text)
+
+-- ---- the first byte of numbers
+
+no_digit : (c : ℕ) (text : List ℕ) (w : Bool) → is_ascii_digit c ≡ false → list_all is_digit_text (step_to c text false w) ≡ false
+no_digit c text true h = ap (λ v. (v && true) && list_all is_digit_text (words_of text)) h
+no_digit c text false h = onto (words_of text)
+  where
+    onto : (ws : List (List ℕ)) → list_all is_digit_text (onto_first c ws) ≡ false
+    onto [] = ap (λ v. (v && true) && true) h
+    onto (word ∷ ws) = ap (λ v. (v && list_all is_ascii_digit word) && list_all is_digit_text ws) h
+
+-- a text whose first byte is no whitespace and no digit isn't numbers
+pub not_numbers : (c : ℕ) (text : List ℕ) → is_whitespace c ≡ false → is_ascii_digit c ≡ false → list_all is_digit_text (words_of (c ∷ text)) ≡ false
+not_numbers c text w h = ap (λ v. list_all is_digit_text (step_to c text v (is_blank (take 1 text)))) w ∙ no_digit c text (is_blank (take 1 text)) h
+
+leaf_byte_solid : (c : ℕ) → is_leaf_byte c ≡ true → is_whitespace c ≡ false
+leaf_byte_solid c h = grind (arith, nat_tests)
+
+leaf_byte_no_digit : (c : ℕ) → is_leaf_byte c ≡ true → is_ascii_digit c ≡ false
+leaf_byte_no_digit c h = grind (arith, nat_tests)
+
+-- numbers don't begin as a leaf
+pub numbers_first : (text : List ℕ) → list_all is_digit_text (words_of text) ≡ true → is_leaf_byte (slice_index text 0) ≡ false
+numbers_first [] h = refl
+numbers_first (c ∷ text) h = by (is_leaf_byte c) refl
+  where
+    by : (v : Bool) → is_leaf_byte c ≡ v → v ≡ false
+    by false e = refl
+    by true e = absurd (no (sym h ∙ not_numbers c text (leaf_byte_solid c e) (leaf_byte_no_digit c e)))
+
+-- a blank line has no words, and one that begins with `#` no numbers
+pub blank_no_words : (line : List ℕ) → is_blank line ≡ true → words_of line ≡ []
+blank_no_words = no_words
+
+pub hash_no_numbers : (line : List ℕ) → begins_with line (codes "#") ≡ true → list_all is_digit_text (words_of line) ≡ false
+hash_no_numbers line h = let b = begins (codes "#") line h in ap (λ l. list_all is_digit_text (words_of l)) b.1 ∙ not_numbers 35 b.0 refl refl
+
+-- the trimmed text of a line that begins with `#` begins so
+pub hash_trimmed : (line : List ℕ) → begins_with line (codes "#") ≡ true → slice_index (trim line) 0 ≡ 35
+hash_trimmed line h = let b = begins (codes "#") line h in ap (λ l. slice_index (trim l) 0) b.1

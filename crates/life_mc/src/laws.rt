@@ -1,0 +1,32 @@
+//! Laws of the macrocell format, over the definitions alone.
+
+ghost use Rattle.life_base.specs.declared.cell.TheConstants.{MAX_LEVEL};
+ghost use Rattle.life_mc.specs.Grammar.{GrammarsAgree};
+ghost use Rattle.life_mc.specs.Laws.{FilesAreUnique, FaultsAreUnique, FrontsAreUnbroken};
+ghost use Rattle.life_mc.specs.Reading.{LinesBreakByKinds};
+
+/// The format told as a whole and the format told by the rule that a line breaks accept the same lines, with the same
+/// meaning.
+pub fn grammars_agree()
+    ensures { GrammarsAgree MAX_LEVEL }
+{}
+
+/// The lines of a file say one rule, one generation and one list of squares.
+pub fn files_are_unique()
+    ensures { FilesAreUnique MAX_LEVEL }
+{}
+
+/// Lines that are no file have one fault: one place and one kind.
+pub fn faults_are_unique()
+    ensures { FaultsAreUnique MAX_LEVEL }
+{}
+
+/// Lines can be continued to a file exactly if none of them breaks a rule.
+pub fn fronts_are_unbroken()
+    ensures { FrontsAreUnbroken MAX_LEVEL }
+{}
+
+/// A line that breaks a rule breaks it with one of the kinds of the format.
+pub fn lines_break_by_kinds()
+    ensures { LinesBreakByKinds MAX_LEVEL }
+{}
