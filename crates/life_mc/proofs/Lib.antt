@@ -10,3 +10,4 @@ pub mod Stands
 pub mod ReadBack
 pub mod LineKinds
 pub mod LineTexts
+pub mod HeaderLines
