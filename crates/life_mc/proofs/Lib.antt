@@ -11,3 +11,4 @@ pub mod ReadBack
 pub mod LineKinds
 pub mod LineTexts
 pub mod HeaderLines
+pub mod TextBack
