@@ -12,3 +12,5 @@ pub mod LineKinds
 pub mod LineTexts
 pub mod HeaderLines
 pub mod TextBack
+pub mod Squares
+pub mod SquareRows
