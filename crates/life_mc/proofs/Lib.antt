@@ -14,3 +14,4 @@ pub mod HeaderLines
 pub mod TextBack
 pub mod Squares
 pub mod SquareRows
+pub mod NodeLines

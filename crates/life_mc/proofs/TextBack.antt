@@ -93,7 +93,7 @@ and-true true = refl
 and-true false = refl
 
 -- a line that doesn't begin with `#` is neither `#FRAME` nor a command
-no_mark : (line : List ℕ) → begins_with line (codes "#") ≡ false → is_blank line ≡ false
+pub no_mark : (line : List ℕ) → begins_with line (codes "#") ≡ false → is_blank line ≡ false
     → (begins_with line (codes "#FRAME") ≡ false) × (is_command 82 line ≡ false) × (is_command 71 line ≡ false)
 no_mark [] h b = cc
 no_mark (c ∷ line) h b =

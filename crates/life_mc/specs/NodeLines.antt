@@ -1,0 +1,10 @@
+-- How many node lines a macrocell file has.
+use Rattle.std.specs.Prelude.{◌≡◌, ℕ, List, drop, count_by}
+use Rattle.life_base.specs.Text.{lines_of}
+use Rattle.life_mc.specs.Macrocell.{Macrocell}
+use Rattle.life_mc.specs.Cells.{node_lines}
+use Rattle.life_mc.specs.Reading.{IsMacrocell, is_node_line}
+
+-- each node line behind the header counts, whether the root reaches its square or not
+abbrev pub NodeLinesCounted : ℕ → Type 0
+NodeLinesCounted top = (bytes : List ℕ) (file : Macrocell) → IsMacrocell top bytes file → node_lines file ≡ count_by is_node_line (drop 1 (lines_of bytes))
