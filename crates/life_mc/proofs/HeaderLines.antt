@@ -22,15 +22,13 @@ use Rattle.life_mc.specs.declared.told.Told.{Told}
 use Rattle.life_mc.specs.declared.told.Told.TheVariants.{ToldRule, ToldGeneration}
 use Rattle.life_mc.proofs.ReadBack.{has_no_feed}
 use Rattle.life_mc.proofs.LineTexts.{decimal_digits, decimal_value, decimal_short, digits_trimmed, digits_have_no_feed}
+use Rattle.life_mc.proofs.Tests.{both}
 
 -- ---- the text of a rule is short and has no line feed
 
 pub record IsShortText (text : List ℕ) : Type 0 where
   pub short : length text ≤ 255
   pub feed : has_no_feed text ≡ true
-
-both : (a b : Bool) → a ≡ true → b ≡ true → (a && b) ≡ true
-both a b h k = ap (λ v. v && b) h ∙ k
 
 kept_by : (v : Bool) (d : ℕ) (ds : List ℕ) (n : ℕ) → length (map (λ d. 48 + d) ds) ≤ n → length (map (λ d. 48 + d) (cond v (d ∷ ds) ds)) ≤ suc n
 kept_by true d ds n h = omega arith

@@ -9,6 +9,7 @@ pub mod Nodes
 pub mod Stands
 pub mod ReadBack
 pub mod LineKinds
+pub mod Tests
 pub mod LineTexts
 pub mod HeaderLines
 pub mod TextBack

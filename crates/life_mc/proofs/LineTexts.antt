@@ -16,6 +16,7 @@ use Rattle.life_mc.specs.Writing.{row_text, line_text}
 use Rattle.life_mc.specs.declared.line.Line.{Line}
 use Rattle.life_mc.specs.declared.line.Line.TheVariants.{Leaf, Quad}
 use Rattle.life_mc.proofs.ReadBack.{has_no_feed, written, row_is_row, leaf_again, word_then, word_alone}
+use Rattle.life_mc.proofs.Tests.{is_false, and-false, both}
 
 -- What a text needs to be the node line of a square.
 pub record IsTextOf (square : Line) (text : List ℕ) : Type 0 where
@@ -26,17 +27,6 @@ pub record IsTextOf (square : Line) (text : List ℕ) : Type 0 where
   pub trimmed : trim text ≡ text
   pub no_bad_leaf : (is_leaf_byte (slice_index text 0) && not (is_leaf text)) ≡ false
   pub says : square_of text ≡ Some square
-
-is_false : (v : Bool) → not v ≡ true → v ≡ false
-is_false true h = cc
-is_false false h = refl
-
-and-false : (a : Bool) → (a && false) ≡ false
-and-false true = refl
-and-false false = refl
-
-both : (a b : Bool) → a ≡ true → b ≡ true → (a && b) ≡ true
-both a b h k = ap (λ v. v && b) h ∙ k
 
 -- a text whose first byte is neither whitespace nor `#`
 no_blank : (b : ℕ) (text : List ℕ) → is_whitespace b ≡ false → is_blank (b ∷ text) ≡ false

@@ -15,6 +15,7 @@ use Rattle.life_mc.specs.NodeLines.{NodeLinesCounted}
 use Rattle.life_mc.specs.Reading.{IsMacrocell, broken, broken_behind, broken_by_node, broken_by_square, fault_in, is_command, is_leaf, is_leaf_byte, is_node_line, rule_in_force, square_of, square_on, squares_of}
 use Rattle.life_mc.specs.declared.line.Line.{Line}
 use Rattle.life_mc.proofs.TextBack.{no_mark}
+use Rattle.life_mc.proofs.Tests.{is_false}
 
 abbrev IsThere : Option Line → Type 0
 IsThere o = (square : Line) × (o ≡ Some square)
@@ -22,10 +23,6 @@ IsThere o = (square : Line) × (o ≡ Some square)
 passed : (v : Bool) (kind : Kind) (rest : Option Kind) → cond v (Some kind) rest ≡ None → rest ≡ None
 passed true kind rest h = cc
 passed false kind rest h = h
-
-is_false : (v : Bool) → not v ≡ true → v ≡ false
-is_false true h = cc
-is_false false h = refl
 
 there_by : (top : ℕ) (rule : Rule) (levels : List ℕ) (v : Bool) (o : Option Line) → cond v (Some BadLeaf) (broken_by_square top rule levels o) ≡ None → IsThere o
 there_by top rule levels true o h = cc

@@ -15,6 +15,7 @@ use Rattle.life_mc.specs.Cells.{cell, cell_in, cell_from, leaf_cell, quarter_at,
 use Rattle.life_mc.specs.Squares.{tree_at, leaf_tree, line_tree, tree_of, root_tree, tree_cell, HasStatesUpTo, StandsForSquare, HasSquares, LinesStandForSquares}
 use Rattle.life_mc.specs.declared.line.Line.{Line}
 use Rattle.life_mc.specs.declared.line.Line.TheVariants.{Leaf, Quad}
+use Rattle.life_mc.proofs.Tests.{all_four, not_zero, few_states}
 
 twice : (k : ℕ) → 2 ^ suc k ≡ 2 ^ k + 2 ^ k
 twice k = two-pow-succ k
@@ -176,10 +177,6 @@ leaf_shows most some low rows =
 
 -- ---- the line of a number
 
-few_states : (rule : Rule) → (1 ≤ largest_state rule) × (largest_state rule ≤ 255)
-few_states (Life sets) = (omega arith, omega arith)
-few_states (Named name) = (omega arith, omega arith)
-
 -- the line of a place among the first ones
 get_take : (lines : List Line) (m i : ℕ) → i < m → slice_get (take m lines) i ≡ slice_get lines i
 get_take lines zero i h = absurd (omega arith)
@@ -206,9 +203,6 @@ Names most lines zero number = number ≤ most
 Names most lines (suc k) zero = Unit {0}
 Names most lines (suc k) (suc i) = HasLevel lines (suc k) i
 
-not_zero : (i : ℕ) → (suc i == 0) ≡ false
-not_zero i = grind (arith, nat_tests)
-
 not_one : (k : ℕ) → (suc (suc k) == 1) ≡ false
 not_one k = grind (arith, nat_tests)
 
@@ -230,13 +224,6 @@ quarter_names rule lines m (suc k) (suc i) h =
 
     less : (k : ℕ) → suc k ≡ suc (suc k) - 1
     less k = omega arith
-
-all_four : (a b c d : Bool) → (a && (b && (c && (d && true)))) ≡ true → (a ≡ true) × (b ≡ true) × (c ≡ true) × (d ≡ true)
-all_four true true true true h = (refl, refl, refl, refl)
-all_four true true true false h = cc
-all_four true true false d h = cc
-all_four true false c d h = cc
-all_four false b c d h = cc
 
 joined : {a b c d a' b' c' d' : Tree} → a ≡ a' → b ≡ b' → c ≡ c' → d ≡ d' → quad a b c d ≡ quad a' b' c' d'
 joined p q r s = λ i. quad (p i) (q i) (r i) (s i)
@@ -401,8 +388,16 @@ plane top rule generation (line ∷ lines) valid x y =
     let some : 1 ≤ level = omega (arith, some_level top rule (map level_of (take (length lines) (line ∷ lines))) r.0 (valid (length lines) r.0 r.1), r.2) in
     on_plane (largest_state rule) level some (root_tree (line ∷ lines)) (line ∷ lines) (sound_at top rule (line ∷ lines) valid (length lines) r.0 r.1 level r.2).shows x y
 
+root_stands : (top : ℕ) (rule : Rule) (lines : List Line) → AreSquares top rule lines → StandsForSquare rule lines (root_level lines) (length lines)
+root_stands top rule [] valid = record { depth_is = refl; full = omega arith; states = omega arith; cells = λ x y l m. refl; by_front = refl }
+root_stands top rule (line ∷ lines) valid =
+    let r = root_at line lines in
+    let level = root_level (line ∷ lines) in
+    stands top rule (line ∷ lines) valid level (length (line ∷ lines)) (sound_at top rule (line ∷ lines) valid (length lines) r.0 r.1 level r.2)
+
 pub lines_stand_for_squares : (top : ℕ) → LinesStandForSquares top
 lines_stand_for_squares top = λ file v. record {
   each = each_stands top file.rule file.lines v.squares;
+  root = root_stands top file.rule file.lines v.squares;
   plane = plane top file.rule file.generation file.lines v.squares;
 }

@@ -28,12 +28,9 @@ use Rattle.life_mc.proofs.LineTexts.{IsTextOf, leaf_text, quad_text}
 use Rattle.life_mc.proofs.ReadBack.{has_no_feed, line_ended}
 use Rattle.life_mc.proofs.ReadLines.{squares_none, squares_some}
 use Rattle.life_mc.proofs.Stands.{stands_first, stands_next}
+use Rattle.life_mc.proofs.Tests.{and-true, all_four, not_zero, few_states}
 
 -- ---- a square's text, where the squares before it have these levels
-
-few_states : (rule : Rule) → largest_state rule ≤ 255
-few_states (Life sets) = omega arith
-few_states (Named name) = omega arith
 
 level_within : (levels : List ℕ) (i level : ℕ) → is_level level (slice_get levels i) ≡ true → i < length levels
 level_within [] i level h = cc
@@ -48,23 +45,13 @@ child_within levels level (suc i) h = omega (arith, level_within levels i level 
     by true w p q = cc
     by false w p q = q
 
-    not_zero : (i : ℕ) → (suc i == 0) ≡ false
-    not_zero i = grind (arith, nat_tests)
-
 module _ (rule : Rule) (levels : List ℕ) (few : length levels < 10 ^ 64) where
   quarter_small : (level n : ℕ) → is_quarter rule levels level n ≡ true → n < 10 ^ 64
   quarter_small level n h = by (level == 1) h
     where
       by : (v : Bool) → cond v (nat_le n (largest_state rule)) (is_child levels (level - 1) n) ≡ true → n < 10 ^ 64
-      by true e = omega (arith, leb-true n (largest_state rule) e, few_states rule)
+      by true e = omega (arith, leb-true n (largest_state rule) e, (few_states rule).1)
       by false e = omega (arith, child_within levels (level - 1) n e)
-
-  all_four : (a b c d : Bool) → (a && (b && (c && (d && true)))) ≡ true → (a ≡ true) × (b ≡ true) × (c ≡ true) × (d ≡ true)
-  all_four true true true true h = (refl, refl, refl, refl)
-  all_four true true true false h = cc
-  all_four true true false d h = cc
-  all_four true false c d h = cc
-  all_four false b c d h = cc
 
   -- the text of a square is a line that gives it back
   square_text : (top : ℕ) (line : Line) → top < 10 ^ 64 → IsSquare top rule levels line → IsTextOf line (line_text line)
@@ -83,14 +70,6 @@ square_stands top rule levels (Quad level nw ne sw se) h =
     by u v w one p q r = rw (p, q, r) refl
 
 -- ---- a node line
-
-is_false : (v : Bool) → not v ≡ true → v ≡ false
-is_false true h = cc
-is_false false h = refl
-
-and-true : (v : Bool) → (v && true) ≡ v
-and-true true = refl
-and-true false = refl
 
 -- a line that doesn't begin with `#` is neither `#FRAME` nor a command
 pub no_mark : (line : List ℕ) → begins_with line (codes "#") ≡ false → is_blank line ≡ false

@@ -55,9 +55,11 @@ pub record StandsForSquare (rule : Rule) (lines : List Line) (level number : ℕ
   pub cells : (column row : ℕ) → column < 2 ^ level → row < 2 ^ level → state_at (tree_of lines level number) column row ≡ cell_in lines level number column row
   pub by_front : tree_of (take number lines) level number ≡ tree_of lines level number
 
--- The number of each line stands for a square of its level, and the cells of the file are those of the root's square.
+-- The number of each line stands for a square of its level, so does that of the root, and the cells of the file are those
+-- of the root's square.
 pub record HasSquares (file : Macrocell) : Type 0 where
   pub each : (number : ℕ) (line : Line) → numbered file.lines number ≡ Some line → StandsForSquare file.rule file.lines (level_of line) number
+  pub root : StandsForSquare file.rule file.lines (root_level file.lines) (length file.lines)
   pub plane : (x y : ℤ) → cell file x y ≡ tree_cell (root_tree file.lines) x y
 
 -- each node line of a valid file stands for one square
