@@ -1,6 +1,6 @@
 -- The lines of a written file that tell its rule and its generation.
-use Rattle.std.proofs.Common.{◌≡◌, ℕ, zero, suc, ◌+◌, ◌-◌, ◌^◌, ◌<◌, ◌≤◌, List, [], ◌∷◌, ◌++◌, length, drop, Bool, true, false, cond, not, ◌&&◌, ◌||◌, refl, ap, sym, subst, ◌∙◌, arith, append_assoc, length-append, decimal}
-use Rattle.std.specs.Prelude.{nat_le, nat_lt, ◌==◌, map, filter, codes, Option, Some, None, Result, Ok, Err}
+use Rattle.std.proofs.Common.{◌≡◌, ℕ, suc, ◌+◌, ◌-◌, ◌^◌, ◌<◌, ◌≤◌, List, [], ◌∷◌, ◌++◌, length, Bool, true, false, cond, not, ◌&&◌, ◌||◌, refl, ap, sym, subst, ◌∙◌, arith, append_assoc, length-append, decimal}
+use Rattle.std.specs.Prelude.{nat_le, nat_lt, ◌==◌, map, filter, codes, Option, Some, None, Ok, Err}
 use Rattle.std.specs.List.{list_all, list_any}
 use Rattle.std.specs.Result.{result_ok}
 use Rattle.std.proofs.lemmas.Bool.Decides.{nat_tests}
@@ -11,14 +11,12 @@ use Rattle.life_base.proofs.RoundTrip.{rules_read_back}
 use Rattle.life_base.specs.Sets.{DigitSets}
 use Rattle.life_base.specs.Text.{is_empty, is_digit_text, value_of, trim}
 use Rattle.life_base.specs.Numbers.{u64_of}
-use Rattle.life_base.specs.Rules.{rule_of, rule_text, digits_of, counts, has_digit, is_bad_text, life_sets, life_rule, life_or_other, other_rule, names_other_neighbours, IsRule}
-use Rattle.life_base.specs.declared.kind.Kind.{Kind}
+use Rattle.life_base.specs.Rules.{rule_of, rule_text, digits_of, counts, has_digit, is_bad_text, life_sets, life_or_other, names_other_neighbours, IsRule}
 use Rattle.life_base.specs.declared.kind.Kind.TheVariants.{BadRule, BoundedGrid, UnsupportedRule, BirthOnZero, BadNumber, TooLarge}
 use Rattle.life_base.specs.declared.rule.Rule.{Rule}
 use Rattle.life_base.specs.declared.rule.Rule.TheVariants.{Life, Named}
-use Rattle.life_mc.specs.Reading.{fault_in, rule_on, generation_on, square_on}
+use Rattle.life_mc.specs.Reading.{fault_in}
 use Rattle.life_mc.specs.Standing.{broken_after, Tells}
-use Rattle.life_mc.specs.declared.told.Told.{Told}
 use Rattle.life_mc.specs.declared.told.Told.TheVariants.{ToldRule, ToldGeneration}
 use Rattle.life_mc.proofs.ReadBack.{has_no_feed}
 use Rattle.life_mc.proofs.LineTexts.{decimal_digits, decimal_value, decimal_short, digits_trimmed, digits_have_no_feed}

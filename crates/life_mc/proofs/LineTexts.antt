@@ -1,6 +1,6 @@
 -- The text of a square is a line that gives the square back.
-use Rattle.std.proofs.Common.{◌≡◌, ℕ, zero, suc, ◌+◌, ◌*◌, ◌^◌, ◌<◌, ◌≤◌, List, [], ◌∷◌, ◌++◌, length, Bool, true, false, cond, not, ◌&&◌, ◌||◌, refl, ap, sym, subst, ◌∙◌, arith, append_assoc, length-append, decimal}
-use Rattle.std.specs.Prelude.{nat_le, ◌==◌, flat_map, map, slice_index, codes, Option, Some, None}
+use Rattle.std.proofs.Common.{◌≡◌, ℕ, ◌*◌, ◌^◌, ◌<◌, ◌≤◌, List, [], ◌∷◌, ◌++◌, length, Bool, true, false, cond, not, ◌&&◌, refl, ap, sym, subst, ◌∙◌, arith, append_assoc, length-append, decimal}
+use Rattle.std.specs.Prelude.{◌==◌, flat_map, map, slice_index, codes, Option, Some, None}
 use Rattle.std.specs.List.{list_all, AllByRecursion}
 use Rattle.std.specs.Char.{is_ascii_digit}
 use Rattle.std.proofs.lemmas.Bool.Decides.{nat_tests}
@@ -197,7 +197,12 @@ module _ (a b c d e : List ℕ) (level nw ne sw se : ℕ) (p : Spells a level) (
 
   five_short : length text ≤ 2 ^ 20
   five_short = omega (
-    arith, p.short, q.short, r.short, s.short, t.short,
+    arith,
+    p.short,
+    q.short,
+    r.short,
+    s.short,
+    t.short,
     length-append a (32 ∷ (b ++ 32 ∷ (c ++ 32 ∷ (d ++ 32 ∷ e)))),
     length-append b (32 ∷ (c ++ 32 ∷ (d ++ 32 ∷ e))),
     length-append c (32 ∷ (d ++ 32 ∷ e)),
@@ -221,8 +226,8 @@ module _ (a b c d e : List ℕ) (level nw ne sw se : ℕ) (p : Spells a level) (
         trimmed = ap (without_last is_whitespace) n.2 ∙ five_ends.whole;
         no_bad_leaf = ap (λ v. v && not (is_leaf text)) n.3;
         says =
-          ap (λ v. cond v (cond (is_leaf text) (Some (Leaf (leaf_bytes text))) None) (cond (list_all is_digit_text (words_of text)) (quad_of (map value_of (words_of text))) None)) n.3
-          ∙ ap (λ v. cond v (quad_of (map value_of (words_of text))) None) five_square ∙ five_values;
+            ap (λ v. cond v (cond (is_leaf text) (Some (Leaf (leaf_bytes text))) None) (cond (list_all is_digit_text (words_of text)) (quad_of (map value_of (words_of text))) None)) n.3
+            ∙ ap (λ v. cond v (quad_of (map value_of (words_of text))) None) five_square ∙ five_values;
       }
 
 regroup : (a b c d e : List ℕ) → a ++ codes " " ++ b ++ codes " " ++ c ++ codes " " ++ d ++ codes " " ++ e ≡ five a b c d e

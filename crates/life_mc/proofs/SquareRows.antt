@@ -4,7 +4,7 @@ use Rattle.std.specs.Prelude.{codes, pos, negsuc}
 use Rattle.std.specs.Fmt.{digits}
 use Rattle.life_base.specs.Text.{lines_of}
 use Rattle.life_base.specs.Rules.{rule_of, life_sets}
-use Rattle.life_base.specs.Tree.{Tree, point, quad, blank, depth, state_at}
+use Rattle.life_base.specs.Tree.{point, quad, blank, depth, state_at}
 use Rattle.life_mc.specs.Macrocell.{Macrocell}
 use Rattle.life_mc.specs.Cells.{node_lines}
 use Rattle.life_mc.specs.Reading.{squares_of, rule_in_force, generation_in_force}

@@ -1,18 +1,16 @@
 -- Each node line of a valid file stands for one square.
-use Rattle.std.proofs.Common.{◌≡◌, ℕ, zero, suc, ◌+◌, ◌-◌, ◌*◌, ◌/◌, ◌%◌, ◌^◌, ◌<◌, ◌≤◌, List, [], ◌∷◌, length, take, map, Bool, true, false, cond, not, ◌&&◌, ◌||◌, refl, ap, sym, subst, ◌∙◌, arith, ◌⊎◌, inl, inr}
+use Rattle.std.proofs.Common.{◌≡◌, ℕ, zero, suc, ◌+◌, ◌-◌, ◌%◌, ◌^◌, ◌<◌, ◌≤◌, List, [], ◌∷◌, length, take, map, Bool, true, false, cond, ◌&&◌, ◌||◌, refl, ap, sym, subst, ◌∙◌, arith}
 use Rattle.std.specs.Prelude.{nat_le, nat_lt, ◌==◌, Option, Some, None, ℤ, pos, negsuc, neg_ℤ, ◌+ℤ◌, int_le, int_lt, unsigned_abs}
 use Rattle.std.specs.List.{list_all, slice_get}
 use Rattle.std.proofs.lemmas.Bool.Decides.{nat_tests}
-use Rattle.std.proofs.lemmas.Bool.{leb-true, ltb-true, ltb-false}
+use Rattle.std.proofs.lemmas.Bool.{leb-true}
 use Rattle.std.proofs.lemmas.Int.{ints}
 use Rattle.std.proofs.Math.Nat.{two-pow-succ, mod-eq_of_lt, mod-eq-sub-mod}
 use Rattle.life_base.specs.Tree.{Tree, point, quad, depth, blank, state_at, IsFull}
 use Rattle.life_base.specs.declared.rule.Rule.{Rule}
-use Rattle.life_base.specs.declared.rule.Rule.TheVariants.{Life, Named}
-use Rattle.life_base.proofs.Numbers.{first, second}
-use Rattle.life_mc.specs.Macrocell.{Macrocell, AreSquares, IsSquare, IsValid, level_of, numbered, is_quarter, is_child, is_level, largest_state}
+use Rattle.life_mc.specs.Macrocell.{AreSquares, IsSquare, level_of, numbered, is_quarter, is_level, largest_state}
 use Rattle.life_mc.specs.Cells.{cell, cell_in, cell_from, leaf_cell, quarter_at, root_level}
-use Rattle.life_mc.specs.Squares.{tree_at, leaf_tree, line_tree, tree_of, root_tree, tree_cell, HasStatesUpTo, StandsForSquare, HasSquares, LinesStandForSquares}
+use Rattle.life_mc.specs.Squares.{tree_at, leaf_tree, line_tree, tree_of, root_tree, tree_cell, HasStatesUpTo, StandsForSquare, LinesStandForSquares}
 use Rattle.life_mc.specs.declared.line.Line.{Line}
 use Rattle.life_mc.specs.declared.line.Line.TheVariants.{Leaf, Quad}
 use Rattle.life_mc.proofs.Tests.{all_four, not_zero, few_states}
@@ -75,8 +73,8 @@ module _ (most k : ℕ) (tree_for : ℕ → Tree) (cells_for : ℕ → ℕ → �
     full = (a.full, b.full, c.full, d.full, b.depth_is ∙ sym a.depth_is, c.depth_is ∙ sym a.depth_is, d.depth_is ∙ sym a.depth_is);
     states = (a.states, b.states, c.states, d.states);
     same = λ x y l m.
-      state_in k (tree_for nw) (tree_for ne) (tree_for sw) (tree_for se) a.depth_is x y
-      ∙ same_at x y l m (nat_lt y (2 ^ k)) (nat_lt x (2 ^ k)) refl refl;
+        state_in k (tree_for nw) (tree_for ne) (tree_for sw) (tree_for se) a.depth_is x y
+        ∙ same_at x y l m (nat_lt y (2 ^ k)) (nat_lt x (2 ^ k)) refl refl;
   }
 
 blank_state : (k x y : ℕ) → state_at (blank k) x y ≡ 0
@@ -134,8 +132,8 @@ module _ (most : ℕ) (low : most ≤ 255) (states : ℕ → ℕ → ℕ) (few :
         full = (a.full, b.full, c.full, d.full, b.depth_is ∙ sym a.depth_is, c.depth_is ∙ sym a.depth_is, d.depth_is ∙ sym a.depth_is);
         states = (a.states, b.states, c.states, d.states);
         same = λ x y l m.
-          state_in k (tree_at states k column row) (tree_at states k (column + 2 ^ k) row) (tree_at states k column (row + 2 ^ k)) (tree_at states k (column + 2 ^ k) (row + 2 ^ k)) a.depth_is x y
-          ∙ by x y l m a b c d (nat_lt y (2 ^ k)) (nat_lt x (2 ^ k)) refl refl;
+            state_in k (tree_at states k column row) (tree_at states k (column + 2 ^ k) row) (tree_at states k column (row + 2 ^ k)) (tree_at states k (column + 2 ^ k) (row + 2 ^ k)) a.depth_is x y
+            ∙ by x y l m a b c d (nat_lt y (2 ^ k)) (nat_lt x (2 ^ k)) refl refl;
       }
     where
       back : (n x : ℕ) → nat_lt x (2 ^ k) ≡ false → n + 2 ^ k + (x - 2 ^ k) ≡ n + x
@@ -169,7 +167,7 @@ leaf_shows most some low rows =
       full = t.full;
       states = t.states;
       same = λ x y l m. t.same x y l m ∙ shifted_same most low (leaf_cell rows) (λ x y. omega (arith, bit_small rows x y)) 0 0 x y x y 0 0 (omega arith) (omega arith)
-        ∙ ap (λ n. leaf_cell rows n (y + 0)) (plus_none x) ∙ ap (leaf_cell rows x) (plus_none y);
+          ∙ ap (λ n. leaf_cell rows n (y + 0)) (plus_none x) ∙ ap (leaf_cell rows x) (plus_none y);
     }
   where
     plus_none : (n : ℕ) → n + 0 ≡ n
@@ -277,10 +275,10 @@ module _ (top : ℕ) (rule : Rule) (lines : List Line) (valid : AreSquares top r
       record {
         shows = subst Q (sym g) (quad_shows most k (tree_of lines k) (cell_in lines k) a b c d nw.0.shows ne.0.shows sw.0.shows se.0.shows);
         front = λ m some.
-          let l : i < m = omega (arith, some (omega arith)) in
-          ap (tree_by (take m lines) k) (get_take lines m i l ∙ g)
-          ∙ joined (nw.0.front m (λ h. omega (arith, nw.1 h))) (ne.0.front m (λ h. omega (arith, ne.1 h))) (sw.0.front m (λ h. omega (arith, sw.1 h))) (se.0.front m (λ h. omega (arith, se.1 h)))
-          ∙ sym (ap (tree_by lines k) g);
+            let l : i < m = omega (arith, some (omega arith)) in
+            ap (tree_by (take m lines) k) (get_take lines m i l ∙ g)
+            ∙ joined (nw.0.front m (λ h. omega (arith, nw.1 h))) (ne.0.front m (λ h. omega (arith, ne.1 h))) (sw.0.front m (λ h. omega (arith, sw.1 h))) (se.0.front m (λ h. omega (arith, se.1 h)))
+            ∙ sym (ap (tree_by lines k) g);
       }
 
   sound : (k number : ℕ) → Names most lines k number → IsSound k number

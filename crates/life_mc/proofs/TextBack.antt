@@ -1,32 +1,28 @@
 -- The text of a file is a macrocell file that says the same.
-use Rattle.std.proofs.Common.{◌≡◌, ℕ, zero, suc, ◌+◌, ◌-◌, ◌^◌, ◌<◌, ◌≤◌, List, [], ◌∷◌, ◌++◌, length, take, drop, Bool, true, false, cond, not, ◌&&◌, ◌||◌, refl, ap, sym, subst, ◌∙◌, arith, append_assoc, decimal}
-use Rattle.std.specs.Prelude.{nat_le, nat_lt, ◌==◌, map, flat_map, codes, bytes_eq, slice_index, Option, Some, None, Result, Ok, Err}
-use Rattle.std.specs.List.{list_all, AllByRecursion, slice_get}
+use Rattle.std.proofs.Common.{◌≡◌, ℕ, zero, suc, ◌-◌, ◌^◌, ◌<◌, ◌≤◌, List, [], ◌∷◌, ◌++◌, length, take, drop, Bool, true, false, cond, not, ◌&&◌, ◌||◌, refl, ap, sym, subst, ◌∙◌, arith, append_assoc, decimal}
+use Rattle.std.specs.Prelude.{nat_le, nat_lt, ◌==◌, map, flat_map, codes, bytes_eq, Some, None}
+use Rattle.std.specs.List.{list_all, slice_get}
 use Rattle.std.specs.Result.{result_ok}
 use Rattle.std.proofs.lemmas.Bool.Decides.{nat_tests}
 use Rattle.std.proofs.lemmas.Bool.{leb-true, le-leb}
 use Rattle.std.proofs.lemmas.List.{map-append, append-nil}
 use Rattle.std.proofs.Math.Seq.{take-append_seam}
-use Rattle.life_base.proofs.Numbers.{first, second}
 use Rattle.life_base.specs.Text.{lines_of, is_empty, is_blank, begins_with, trim, value_of}
 use Rattle.life_base.specs.Numbers.{u64_of}
 use Rattle.life_base.specs.Rules.{rule_of, rule_text, default_rule, IsRule}
-use Rattle.life_base.specs.declared.kind.Kind.{Kind}
 use Rattle.life_base.specs.declared.kind.Kind.TheVariants.{Timeline, LateHeader, BadLevel, BadChild, BadLeaf, StateRange}
 use Rattle.life_base.specs.declared.rule.Rule.{Rule}
-use Rattle.life_base.specs.declared.rule.Rule.TheVariants.{Life, Named}
-use Rattle.life_mc.specs.Macrocell.{Macrocell, AreSquares, IsSquare, IsValid, level_of, numbered, is_quarter, is_child, is_level, largest_state}
-use Rattle.life_mc.specs.Reading.{AreMacrocell, IsMacrocell, broken_by_node, broken_by_square, fault_in, is_command, is_leaf, is_leaf_byte, squares_of, square_of, square_behind}
-use Rattle.life_mc.specs.Standing.{Standing, StandsAfter, Tells, broken_after, told_square, level_told}
-use Rattle.life_mc.specs.Writing.{mc_text, file_text, generation_text, line_text, TextsReadBack}
+use Rattle.life_mc.specs.Macrocell.{Macrocell, AreSquares, IsSquare, IsValid, level_of, is_quarter, is_child, is_level, largest_state}
+use Rattle.life_mc.specs.Reading.{IsMacrocell, broken_by_node, broken_by_square, fault_in, is_command, squares_of, square_of}
+use Rattle.life_mc.specs.Standing.{Standing, StandsAfter, Tells, broken_after}
+use Rattle.life_mc.specs.Writing.{mc_text, line_text, TextsReadBack}
 use Rattle.life_mc.specs.declared.line.Line.{Line}
 use Rattle.life_mc.specs.declared.line.Line.TheVariants.{Leaf, Quad}
-use Rattle.life_mc.specs.declared.told.Told.{Told}
-use Rattle.life_mc.specs.declared.told.Told.TheVariants.{Nothing, ToldRule, ToldGeneration, ToldSquare}
-use Rattle.life_mc.proofs.HeaderLines.{IsShortText, rule_short, rule_line, rule_stands, rule_told, generation_line, generation_stands, generation_told, generation_short}
+use Rattle.life_mc.specs.declared.told.Told.TheVariants.{ToldRule, ToldGeneration, ToldSquare}
+use Rattle.life_mc.proofs.HeaderLines.{rule_short, rule_line, rule_stands, rule_told, generation_line, generation_stands, generation_told, generation_short}
 use Rattle.life_mc.proofs.LineTexts.{IsTextOf, leaf_text, quad_text}
 use Rattle.life_mc.proofs.ReadBack.{has_no_feed, line_ended}
-use Rattle.life_mc.proofs.ReadLines.{squares_none, squares_some}
+use Rattle.life_mc.proofs.ReadLines.{squares_some}
 use Rattle.life_mc.proofs.Stands.{stands_first, stands_next}
 use Rattle.life_mc.proofs.Tests.{and-true, all_four, not_zero, few_states}
 
@@ -131,14 +127,14 @@ module _ (top : ℕ) where
   header_says : Says top (header_line ∷ []) default_rule 0 []
   header_says = record {
     stands = (stands_first top [] header_line (record { started = false; rule = default_rule; generation = 0; levels = []; spent = false }) (state default_rule 0 []) nothing_yet (omega arith)
-      refl refl refl refl refl refl).1;
+        refl refl refl refl refl refl).1;
     squares_are = refl;
   }
 
   rule_says : (rule : Rule) → IsRule rule → Says top (header_line ∷ rule_line rule ∷ []) rule 0 []
   rule_says rule h = record {
     stands = (stands_next top (header_line ∷ []) (rule_line rule) (state default_rule 0 []) (state rule 0 []) header_says.stands (omega (arith, (rule_short rule h).short))
-      (ToldRule rule) refl (rule_stands top rule default_rule h) (rule_told top rule default_rule h) refl refl refl refl).1;
+        (ToldRule rule) refl (rule_stands top rule default_rule h) (rule_told top rule default_rule h) refl refl refl refl).1;
     squares_are = refl;
   }
 
@@ -146,8 +142,8 @@ module _ (top : ℕ) where
       → Says top (header_line ∷ rule_line rule ∷ generation_line generation ∷ []) rule generation []
   generation_says rule generation h g = record {
     stands = (stands_next top (header_line ∷ rule_line rule ∷ []) (generation_line generation) (state rule 0 []) (state rule generation []) (rule_says rule h).stands
-      (omega (arith, (generation_short top rule generation g).short))
-      (ToldGeneration generation) refl (generation_stands top rule generation g) (generation_told top rule generation g) refl refl refl refl).1;
+        (omega (arith, (generation_short top rule generation g).short))
+        (ToldGeneration generation) refl (generation_stands top rule generation g) (generation_told top rule generation g) refl refl refl refl).1;
     squares_are = refl;
   }
 
@@ -176,8 +172,8 @@ module _ (top : ℕ) (low : top < 10 ^ 64) (rule : Rule) (generation : ℕ) (all
       let is : IsSquare top rule (map level_of done) line = subst R f (valid (length done) line g) in
       let t : IsTextOf line (line_text line) = text_at (length done) line g in
       let next = stands_next top lines (line_text line) (state rule generation done) (state rule generation (done ++ line ∷ [])) s.stands t.short (ToldSquare line)
-          refl (node_stands top rule (map level_of done) line (line_text line) t is) (node_told top rule (map level_of done) line (line_text line) t)
-          refl refl refl (map-append level_of done (line ∷ [])) in
+      refl (node_stands top rule (map level_of done) line (line_text line) t is) (node_told top rule (map level_of done) line (line_text line) t)
+      refl refl refl (map-append level_of done (line ∷ [])) in
       record {
         stands = next.1;
         squares_are = squares_some lines (line_text line) line (sym next.0) ∙ ap (λ (xs : List Line). xs ++ line ∷ []) s.squares_are;
