@@ -8,6 +8,7 @@ use Rattle.std.proofs.lemmas.Bool.{ltb-false, le-leb}
 use Rattle.std.proofs.lemmas.List.Folds.{list_all-append}
 use Rattle.life_base.proofs.NamesRead.{all_pass}
 use Rattle.life_base.proofs.RoundTrip.{rules_read_back}
+use Rattle.life_base.proofs.RuleValues.{named_is}
 use Rattle.life_base.specs.Sets.{DigitSets}
 use Rattle.life_base.specs.Text.{is_empty, is_digit_text, value_of, trim}
 use Rattle.life_base.specs.Numbers.{u64_of}
@@ -56,27 +57,7 @@ life_short sets =
       feed = list_all-append (λ b. not (b == 10)) ds (47 ∷ 83 ∷ es) ∙ both _ _ (digits_no_feed (filter (has_digit sets.births) counts)) (digits_no_feed (filter (has_digit sets.survivals) counts));
     })
 
--- a name is the text that is read, and that text is no bad one
-named_by : (text name : List ℕ) (v w : Bool) (o : Option DigitSets)
-    → cond v (Err BadRule) (cond w (Err BoundedGrid) (life_or_other text o)) ≡ Ok (Named name) → (v ≡ false) × (text ≡ name)
-named_by text name true w o h = cc
-named_by text name false true o h = cc
-named_by text name false false (Some sets) h = absurd (by (has_digit sets.births 0) h)
-  where
-    by : (v : Bool) → cond v (Err BirthOnZero) (Ok (Life sets)) ≡ Ok (Named name) → ⊥
-    by true e = cc
-    by false e = cc
-named_by text name false false None h = (refl, by (names_other_neighbours text) (list_any (λ b. b == 47) text) h)
-  where
-    by : (v w : Bool) → cond v (Err UnsupportedRule) (cond w (Err UnsupportedRule) (Ok (Named text))) ≡ Ok (Named name) → text ≡ name
-    by true w e = cc
-    by false true e = cc
-    by false false e = cc
-
-named_is : (text name : List ℕ) → rule_of text ≡ Ok (Named name) → (is_bad_text (trim text) ≡ false) × (trim text ≡ name)
-unfolding rule_of
-named_is text name h = named_by (trim text) name (is_bad_text (trim text)) (list_any (λ b. b == 58) (trim text)) (life_sets (trim text)) h
-
+-- a text that is no bad one
 abbrev visible : ℕ → Bool
 visible b = nat_le 33 b && nat_le b 126
 

@@ -16,3 +16,4 @@ pub mod TextBack
 pub mod Squares
 pub mod SquareRows
 pub mod NodeLines
+pub mod Accepted

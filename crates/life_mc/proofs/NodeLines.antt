@@ -11,7 +11,7 @@ use Rattle.life_base.specs.declared.kind.Kind.{Kind}
 use Rattle.life_base.specs.declared.kind.Kind.TheVariants.{BadLeaf, LateHeader, LineTooLong, Timeline}
 use Rattle.life_base.specs.declared.rule.Rule.{Rule}
 use Rattle.life_mc.specs.Macrocell.{level_of}
-use Rattle.life_mc.specs.NodeLines.{NodeLinesCounted}
+use Rattle.life_mc.specs.Accepted.{NodeLinesCounted}
 use Rattle.life_mc.specs.Reading.{broken, broken_behind, broken_by_node, broken_by_square, fault_in, is_command, is_leaf, is_leaf_byte, is_node_line, rule_in_force, square_of, square_on, squares_of}
 use Rattle.life_mc.specs.declared.line.Line.{Line}
 use Rattle.life_mc.proofs.TextBack.{no_mark}
@@ -20,7 +20,7 @@ use Rattle.life_mc.proofs.Tests.{is_false}
 abbrev IsThere : Option Line → Type 0
 IsThere o = (square : Line) × (o ≡ Some square)
 
-passed : (v : Bool) (kind : Kind) (rest : Option Kind) → cond v (Some kind) rest ≡ None → rest ≡ None
+pub passed : (v : Bool) (kind : Kind) (rest : Option Kind) → cond v (Some kind) rest ≡ None → rest ≡ None
 passed true kind rest h = cc
 passed false kind rest h = h
 

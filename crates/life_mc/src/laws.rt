@@ -1,21 +1,26 @@
-//! Laws over the definitions alone.
+//! Laws of the macrocell format, over the definitions alone.
 
 ghost use Rattle.life_base.specs.declared.cell.TheConstants.{MAX_LEVEL};
-ghost use Rattle.life_mc.specs.NodeLines.{NodeLinesCounted};
+ghost use Rattle.life_mc.specs.Accepted.{FilesAreValid, NodeLinesCounted};
 ghost use Rattle.life_mc.specs.Squares.{LinesStandForSquares};
 ghost use Rattle.life_mc.specs.Writing.{TextsReadBack};
 
-/// The text of each file of fewer than 10^64 node lines says that file.
+/// The rule, the generation and the squares that the bytes of a file say are valid.
+pub fn files_are_valid()
+    ensures { FilesAreValid MAX_LEVEL }
+{}
+
+/// The text of each valid file of fewer than 10^64 node lines says that file.
 pub fn texts_read_back()
     ensures { TextsReadBack MAX_LEVEL }
 {}
 
-/// Each node line of a file stands for one square, and the last one's square has the cells of the file.
+/// Each node line of a valid file stands for one square, and the cells of the file are those of the root's square.
 pub fn lines_stand_for_squares()
     ensures { LinesStandForSquares MAX_LEVEL }
 {}
 
-/// A file has as many node lines as its bytes, whether the root reaches them or not.
+/// The number of node lines of a file counts those of its bytes, whether the root reaches them or not.
 pub fn node_lines_counted()
     ensures { NodeLinesCounted MAX_LEVEL }
 {}
