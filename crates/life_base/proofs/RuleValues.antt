@@ -1,12 +1,11 @@
 -- What a rule text says is a rule.
-use Rattle.std.proofs.Common.{◌≡◌, ℕ, ◌+◌, ◌^◌, ◌<◌, ◌≤◌, List, [], ◌∷◌, Bool, true, false, cond, refl, ap, sym, subst, ◌∙◌, arith}
-use Rattle.std.specs.Prelude.{◌==◌, codes, bytes_eq, Option, Some, None, Result, Ok, Err}
+use Rattle.std.proofs.Common.{◌≡◌, ℕ, ◌<◌, ◌≤◌, List, [], ◌∷◌, Bool, true, false, cond, refl, ap, subst, ◌∙◌, arith}
+use Rattle.std.specs.Prelude.{◌==◌, codes, bytes_eq, Option, Some, None, Ok, Err}
 use Rattle.std.specs.List.{list_any}
 use Rattle.life_base.proofs.NamesRead.{rule_text_trimmed}
 use Rattle.life_base.specs.Sets.{DigitSets}
 use Rattle.life_base.specs.Text.{trim}
-use Rattle.life_base.specs.Rules.{rule_of, rule_of_trimmed, is_bad_text, has_digit, digit_set, digit_groups, marks, sets, life_form, life_sets, life_rule, life_or_other, names_other_neighbours, AreLifeSets, IsRule}
-use Rattle.life_base.specs.declared.kind.Kind.{Kind}
+use Rattle.life_base.specs.Rules.{rule_of, rule_of_trimmed, is_bad_text, has_digit, digit_set, digit_groups, marks, sets, life_form, life_sets, life_or_other, names_other_neighbours, AreLifeSets, IsRule}
 use Rattle.life_base.specs.declared.kind.Kind.TheVariants.{BadRule, BoundedGrid, UnsupportedRule, BirthOnZero}
 use Rattle.life_base.specs.declared.rule.Rule.{Rule}
 use Rattle.life_base.specs.declared.rule.Rule.TheVariants.{Life, Named}

@@ -1,6 +1,6 @@
 -- What the bytes of a file say is valid.
-use Rattle.std.proofs.Common.{◌≡◌, ℕ, zero, suc, ◌+◌, ◌-◌, ◌^◌, ◌<◌, ◌≤◌, List, [], ◌∷◌, length, take, drop, get_or, map, Bool, true, false, cond, not, ◌&&◌, ◌||◌, refl, ap, sym, subst, ◌∙◌, arith}
-use Rattle.std.specs.Prelude.{codes, nat_le, nat_lt, ◌==◌, bytes_eq, Option, Some, None, Result, Ok, Err, filter_map}
+use Rattle.std.proofs.Common.{◌≡◌, ℕ, suc, ◌-◌, ◌^◌, ◌<◌, List, [], ◌∷◌, length, take, drop, get_or, map, Bool, true, false, cond, not, ◌&&◌, ◌||◌, refl, ap, sym, subst, ◌∙◌, arith}
+use Rattle.std.specs.Prelude.{codes, nat_le, nat_lt, ◌==◌, Option, Some, None, Result, Ok, Err, filter_map}
 use Rattle.std.specs.List.{cons_option}
 use Rattle.std.specs.Result.{result_ok}
 use Rattle.std.proofs.lemmas.Bool.{leb-true}
@@ -14,8 +14,8 @@ use Rattle.life_base.specs.declared.kind.Kind.{Kind}
 use Rattle.life_base.specs.declared.kind.Kind.TheVariants.{BadNumber, LateHeader, LineTooLong, Timeline, TooLarge}
 use Rattle.life_base.specs.declared.rule.Rule.{Rule}
 use Rattle.life_mc.specs.Accepted.{FilesAreValid}
-use Rattle.life_mc.specs.Macrocell.{Macrocell, AreSquares, IsValid, level_of}
-use Rattle.life_mc.specs.Reading.{IsMacrocell, broken, broken_behind, broken_by_node, fault_in, generation_in_force, generation_on, is_command, last_or, rule_in_force, rule_on, squares_of}
+use Rattle.life_mc.specs.Macrocell.{AreSquares, level_of}
+use Rattle.life_mc.specs.Reading.{broken, broken_behind, broken_by_node, fault_in, generation_in_force, generation_on, is_command, last_or, rule_in_force, rule_on, squares_of}
 use Rattle.life_mc.specs.declared.line.Line.{Line}
 use Rattle.life_mc.proofs.NodeLines.{passed}
 use Rattle.life_mc.proofs.Valid.{squares_valid}
@@ -124,12 +124,12 @@ generation_valid top (header ∷ lines) u =
 
 pub files_are_valid : (top : ℕ) → FilesAreValid top
 files_are_valid top = λ bytes file m.
-  let R : Rule → Type 0 = λ rule. IsRule rule in
-  let G : ℕ → Type 0 = λ generation. generation < 2 ^ 64 in
-  let S : Rule → Type 0 = λ rule. AreSquares top rule (squares_of (lines_of bytes)) in
-  let T : List Line → Type 0 = λ lines. AreSquares top file.rule lines in
-  record {
-    rule = subst R (sym m.rule) (rule_valid (lines_of bytes));
-    generation = subst G (sym m.generation) (generation_valid top (lines_of bytes) m.unbroken);
-    squares = subst T (sym m.squares) (subst S (sym m.rule) (squares_valid top (lines_of bytes) m.unbroken));
-  }
+    let R : Rule → Type 0 = λ rule. IsRule rule in
+    let G : ℕ → Type 0 = λ generation. generation < 2 ^ 64 in
+    let S : Rule → Type 0 = λ rule. AreSquares top rule (squares_of (lines_of bytes)) in
+    let T : List Line → Type 0 = λ lines. AreSquares top file.rule lines in
+    record {
+      rule = subst R (sym m.rule) (rule_valid (lines_of bytes));
+      generation = subst G (sym m.generation) (generation_valid top (lines_of bytes) m.unbroken);
+      squares = subst T (sym m.squares) (subst S (sym m.rule) (squares_valid top (lines_of bytes) m.unbroken));
+    }

@@ -1,7 +1,7 @@
 -- The lines of a written file that tell its rule and its generation.
 use Rattle.std.proofs.Common.{◌≡◌, ℕ, suc, ◌+◌, ◌-◌, ◌^◌, ◌<◌, ◌≤◌, List, [], ◌∷◌, ◌++◌, length, Bool, true, false, cond, not, ◌&&◌, ◌||◌, refl, ap, sym, subst, ◌∙◌, arith, append_assoc, length-append, decimal}
-use Rattle.std.specs.Prelude.{nat_le, nat_lt, ◌==◌, map, filter, codes, Option, Some, None, Ok, Err}
-use Rattle.std.specs.List.{list_all, list_any}
+use Rattle.std.specs.Prelude.{nat_le, nat_lt, ◌==◌, map, filter, codes, Some, None, Ok, Err}
+use Rattle.std.specs.List.{list_all}
 use Rattle.std.specs.Result.{result_ok}
 use Rattle.std.proofs.lemmas.Bool.Decides.{nat_tests}
 use Rattle.std.proofs.lemmas.Bool.{ltb-false, le-leb}
@@ -12,8 +12,8 @@ use Rattle.life_base.proofs.RuleValues.{named_is}
 use Rattle.life_base.specs.Sets.{DigitSets}
 use Rattle.life_base.specs.Text.{is_empty, is_digit_text, value_of, trim}
 use Rattle.life_base.specs.Numbers.{u64_of}
-use Rattle.life_base.specs.Rules.{rule_of, rule_text, digits_of, counts, has_digit, is_bad_text, life_sets, life_or_other, names_other_neighbours, IsRule}
-use Rattle.life_base.specs.declared.kind.Kind.TheVariants.{BadRule, BoundedGrid, UnsupportedRule, BirthOnZero, BadNumber, TooLarge}
+use Rattle.life_base.specs.Rules.{rule_of, rule_text, digits_of, counts, has_digit, is_bad_text, IsRule}
+use Rattle.life_base.specs.declared.kind.Kind.TheVariants.{BadNumber, TooLarge}
 use Rattle.life_base.specs.declared.rule.Rule.{Rule}
 use Rattle.life_base.specs.declared.rule.Rule.TheVariants.{Life, Named}
 use Rattle.life_mc.specs.Reading.{fault_in}
