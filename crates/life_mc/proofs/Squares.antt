@@ -379,7 +379,8 @@ plane : (top : ℕ) (rule : Rule) (generation : ℕ) (lines : List Line) → Are
     → cell (record { rule = rule; generation = generation; lines = lines }) x y ≡ tree_cell (root_tree lines) x y
 plane top rule generation [] valid x y =
     let h = pos (2 ^ (0 - 1)) in
-    no_cells (x +ℤ h) (y +ℤ h) ∙ sym (either (int_le (neg_ℤ h) x && int_lt x h && int_le (neg_ℤ h) y && int_lt y h) 0)
+    let none : cell (record { rule = rule; generation = generation; lines = [] }) x y ≡ 0 = search no_cells in
+    none ∙ sym (either (int_le (neg_ℤ h) x && int_lt x h && int_le (neg_ℤ h) y && int_lt y h) 0)
 plane top rule generation (line ∷ lines) valid x y =
     let r = root_at line lines in
     let level = root_level (line ∷ lines) in
