@@ -13,3 +13,4 @@ pub mod NamesRead
 pub mod WritingLemmas
 pub mod RuleKinds
 pub mod RuleTexts
+pub mod RuleValues

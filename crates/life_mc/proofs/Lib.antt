@@ -14,3 +14,11 @@ pub mod LeafLines
 pub mod Forms
 pub mod Grammars
 pub mod FormatLaws
+pub mod Tests
+pub mod LineTexts
+pub mod HeaderLines
+pub mod TextBack
+pub mod Squares
+pub mod SquareRows
+pub mod NodeLines
+pub mod Accepted

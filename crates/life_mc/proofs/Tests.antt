@@ -1,0 +1,37 @@
+-- Small facts on tests.
+use Rattle.std.proofs.Common.{◌≡◌, ℕ, suc, ◌≤◌, Bool, true, false, not, ◌&&◌, refl, ap, ◌∙◌, arith}
+use Rattle.std.specs.Prelude.{◌==◌}
+use Rattle.std.proofs.lemmas.Bool.Decides.{nat_tests}
+use Rattle.life_base.specs.declared.rule.Rule.{Rule}
+use Rattle.life_base.specs.declared.rule.Rule.TheVariants.{Life, Named}
+use Rattle.life_mc.specs.Macrocell.{largest_state}
+
+pub is_false : (v : Bool) → not v ≡ true → v ≡ false
+is_false true h = cc
+is_false false h = refl
+
+pub and-true : (v : Bool) → (v && true) ≡ v
+and-true true = refl
+and-true false = refl
+
+pub and-false : (v : Bool) → (v && false) ≡ false
+and-false true = refl
+and-false false = refl
+
+pub both : (v w : Bool) → v ≡ true → w ≡ true → (v && w) ≡ true
+both v w h k = ap (λ u. u && w) h ∙ k
+
+pub all_four : (a b c d : Bool) → (a && (b && (c && (d && true)))) ≡ true → (a ≡ true) × (b ≡ true) × (c ≡ true) × (d ≡ true)
+all_four true true true true h = (refl, refl, refl, refl)
+all_four true true true false h = cc
+all_four true true false d h = cc
+all_four true false c d h = cc
+all_four false b c d h = cc
+
+pub not_zero : (i : ℕ) → (suc i == 0) ≡ false
+not_zero i = grind (arith, nat_tests)
+
+-- a rule has states 0 and 1 at the least, and 0 to 255 at most
+pub few_states : (rule : Rule) → (1 ≤ largest_state rule) × (largest_state rule ≤ 255)
+few_states (Life sets) = (omega arith, omega arith)
+few_states (Named name) = (omega arith, omega arith)
