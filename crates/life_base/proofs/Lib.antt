@@ -7,7 +7,6 @@ pub mod Digits
 pub mod DigitSum
 pub mod Refusals
 pub mod NumberedLines
-pub mod OneRefusal
 pub mod RoundTrip
 pub mod NamesRead
 pub mod WritingLemmas

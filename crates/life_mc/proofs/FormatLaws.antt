@@ -1,8 +1,7 @@
 -- The laws of the macrocell format.
 use Rattle.std.proofs.Common.{ℕ, List, ap, sym, ◌∙◌}
 use Rattle.life_base.specs.declared.rule.Rule.{Rule}
-use Rattle.life_base.proofs.Refusals.{front_unbroken}
-use Rattle.life_base.proofs.OneRefusal.{one_fault}
+use Rattle.life_base.proofs.Refusals.{front_unbroken, refusal_unique}
 use Rattle.life_mc.specs.Reading.{Accepts, broken, missing}
 use Rattle.life_mc.specs.Laws.{FilesAreUnique, FaultsAreUnique, FrontsAreUnbroken}
 use Rattle.life_mc.specs.declared.line.Line.{Line}
@@ -15,7 +14,7 @@ files_are_unique top lines a b p q =
     ∙ ap (λ (ls : List Line). record { rule = b.rule; generation = b.generation; lines = ls }) (p.squares ∙ sym q.squares)
 
 pub faults_are_unique : (top : ℕ) → FaultsAreUnique top
-faults_are_unique top lines a b = one_fault (Accepts top) lines (broken top) missing a b
+faults_are_unique top = refusal_unique (Accepts top) (broken top) missing
 
 pub fronts_are_unbroken : (top : ℕ) → FrontsAreUnbroken top
 fronts_are_unbroken top lines = (front_unbroken (Accepts top) (broken top) missing (by_lines top) lines, (by_lines top).complete lines)

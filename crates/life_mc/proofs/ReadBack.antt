@@ -1,7 +1,7 @@
 -- The text of a file, read back: the parts.
-use Rattle.std.proofs.Common.{◌≡◌, ℕ, zero, suc, ◌+◌, ◌^◌, ◌<◌, ◌≤◌, List, [], ◌∷◌, ◌++◌, length, Bool, true, false, cond, not, ◌&&◌, refl, ap, sym, ◌∙◌, arith, ◌⊎◌, inl, inr, append_assoc}
-use Rattle.std.specs.Prelude.{nat_le, ◌==◌, flat_map, map}
-use Rattle.std.specs.List.{list_all, slice_split, AllByRecursion, onto_first as onto_first_byte}
+use Rattle.std.proofs.Common.{◌≡◌, ℕ, zero, suc, ◌<◌, List, [], ◌∷◌, ◌++◌, length, Bool, true, false, cond, not, ◌&&◌, refl, ap, ◌∙◌, arith, ◌⊎◌, inl, inr, append_assoc}
+use Rattle.std.specs.Prelude.{◌==◌, flat_map, map}
+use Rattle.std.specs.List.{list_all, AllByRecursion, onto_first as onto_first_byte}
 use Rattle.std.proofs.lemmas.Bool.Decides.{nat_tests}
 use Rattle.life_base.proofs.Numbers.{first, second}
 use Rattle.life_base.specs.Text.{lines_of, onto_first, without_last, words_of, is_whitespace}

@@ -370,16 +370,11 @@ either : (v : Bool) (n : ℕ) → cond v n n ≡ n
 either true n = refl
 either false n = refl
 
-no_cells : (a b : ℤ) → cell_from [] 0 a b ≡ 0
-no_cells (pos x) (pos y) = either (nat_lt x (2 ^ 0) && nat_lt y (2 ^ 0)) 0
-no_cells (pos x) (negsuc y) = refl
-no_cells (negsuc x) y = refl
-
 plane : (top : ℕ) (rule : Rule) (generation : ℕ) (lines : List Line) → AreSquares top rule lines → (x y : ℤ)
     → cell (record { rule = rule; generation = generation; lines = lines }) x y ≡ tree_cell (root_tree lines) x y
 plane top rule generation [] valid x y =
     let h = pos (2 ^ (0 - 1)) in
-    let none : cell (record { rule = rule; generation = generation; lines = [] }) x y ≡ 0 = search no_cells in
+    let none : cell (record { rule = rule; generation = generation; lines = [] }) x y ≡ 0 = refl in
     none ∙ sym (either (int_le (neg_ℤ h) x && int_lt x h && int_le (neg_ℤ h) y && int_lt y h) 0)
 plane top rule generation (line ∷ lines) valid x y =
     let r = root_at line lines in

@@ -10,7 +10,8 @@ use Rattle.life_mc.proofs.LineKinds.{broken_kind}
 use Rattle.life_mc.specs.Macrocell.{Macrocell, AreSquares}
 use Rattle.life_mc.specs.declared.line.Line.{Line}
 use Rattle.life_base.specs.declared.rule.Rule.{Rule}
-use Rattle.life_mc.proofs.ReadLines.{refused_at, all_read, no_lines, texts}
+use Rattle.life_base.proofs.NumberedLines.{all_read, texts}
+use Rattle.life_mc.proofs.ReadLines.{refused_at, no_lines}
 use Rattle.life_mc.proofs.Valid.{squares_valid}
 use Rattle.life_mc.proofs.reading.read_mc.Invariants.{numbered}
 use Rattle.life_base.specs.declared.cell.TheConstants.{MAX_LEVEL}

@@ -2,7 +2,7 @@ use Rattle.std.proofs.Common.{◌≡◌, ◌++◌, List, ℕ, map, false, Bor}
 use Rattle.life_base.specs.Text.{lines_of, numbered_from}
 use Rattle.life_mc.specs.Reading.{squares_of}
 use Rattle.life_mc.specs.Standing.{StandsAfter}
-use Rattle.life_mc.proofs.ReadLines.{texts}
+use Rattle.life_base.proofs.NumberedLines.{texts}
 use Rattle.life_base.specs.declared.cell.TheConstants.{MAX_LEVEL}
 use Rattle.life_mc.proofs.reading.read_mc.Given as goal
 
