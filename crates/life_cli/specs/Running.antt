@@ -1,5 +1,5 @@
 -- What a run of `canon` over a source and a sink may leave, by its outcome.
-use Rattle.std.specs.Prelude.{◌≡◌, ◌≢◌, ◌⊎◌, ℕ, List, Option, Bool, true, false}
+use Rattle.std.specs.Prelude.{◌≡◌, ◌≢◌, ◌⊎◌, ℕ, List, Option, Bool, true, false, ◌||◌}
 use Rattle.std.specs.Io.KnownBytes.{Appends}
 use Rattle.life_base.specs.Inputs.{ReadAll, CameBeyond}
 use Rattle.life_base.specs.Text.{lines_of}
@@ -33,19 +33,19 @@ pub record RefusesAll (most : ℕ) (in_old in_new : Option (List ℕ)) (fault : 
   pub read : ReadAll most in_old in_new bytes
   pub refuses : Refuses MAX_LEVEL (lines_of bytes) fault
 
--- the kinds that a run answers: those of the format, and those of memory and devices, which name no line
-abbrev pub is_run_kind : Kind → Bool
-is_run_kind Memory = true
-is_run_kind ReadFault = true
-is_run_kind WriteFault = true
-is_run_kind InputTooLong = true
-is_run_kind kind = is_macrocell_kind kind
+-- the kinds of memory and of devices
+abbrev pub is_outer_kind : Kind → Bool
+is_outer_kind Memory = true
+is_outer_kind ReadFault = true
+is_outer_kind WriteFault = true
+is_outer_kind InputTooLong = true
+is_outer_kind _ = false
 
 -- Why a run is refused with this fault, and what it left: the source's bytes and how often the source failed; what the sink
 -- holds, how often it failed, and whether a write took no bytes.
 pub record RunRefuses (most : ℕ) (in_old in_new : Option (List ℕ)) (in_failures : ℕ) (out_old out_new : Option (List ℕ))
     (out_failures : ℕ) (out_stalled : Bool) (fault : Fault) : Type 0 where
-  pub kinds : is_run_kind fault.kind ≡ true
+  pub kinds : (is_macrocell_kind fault.kind || is_outer_kind fault.kind) ≡ true
   pub refused : is_macrocell_kind fault.kind ≡ true → RefusesAll most in_old in_new fault
   pub placeless : is_macrocell_kind fault.kind ≡ false → fault.place.line ≡ 0
   pub long : fault.kind ≡ InputTooLong → CameBeyond most in_old in_new

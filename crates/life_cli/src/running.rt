@@ -2,14 +2,30 @@
 
 ghost use Rattle.std.specs.Prelude.{◌≡◌, ◌≢◌, ◌⊎◌, ◌≤◌, ◌^◌, List, ℕ, true, false, IfOk, IfErr, OnOk, OnErr, IsErrAnd};
 ghost use Rattle.life_base.specs.Inputs.{ReadAll, CameBeyond};
+ghost use Rattle.life_base.specs.Refusal.{OrMemory};
+ghost use Rattle.life_base.specs.Text.{lines_of};
+ghost use Rattle.life_mc.specs.Reading.{Refuses};
+ghost use Rattle.life_cli.specs.Keeping.{Keeps};
 ghost use Rattle.life_cli.specs.Running.{Ran, RunRefuses};
 
-use life_base::{Fault, Kind, Sink, Source, deliver, read_within};
+use life_base::{Fault, Kind, MAX_LEVEL, Sink, Source, deliver, read_within};
 use life_mc::{read_mc, write_mc};
 use std::alloc::Global;
 
 /// The most bytes that an input has.
 const LONGEST_INPUT: u64 = 1_073_741_824;
+
+/// The text of the macrocell file that the bytes are. The bytes are let go before the text is made.
+fn rewritten(alloc: Global, bytes: Vec<u8>) -> Result<Vec<u8>, Fault>
+    ensures ok { IfOk result (λ text. Keeps bytes.items text.items) }
+    ensures err { IfErr result (λ fault. OrMemory fault (Refuses MAX_LEVEL (lines_of bytes.items) fault)) }
+{
+    let file = read_mc(alloc, &bytes)?;
+    drop(bytes);
+    let text = write_mc(alloc, &file)?;
+    drop(file);
+    Ok(text)
+}
 
 /// Reads to the end of the input, then writes its pattern as a macrocell file and flushes. It reads at most `most` bytes and a
 /// piece, and writes nothing before all is read and accepted.
@@ -34,10 +50,7 @@ fn run_canon_within<R: Source, W: Sink>(
         Ok(bytes) => bytes,
         Err(kind) => return Err(Fault::of(kind)),
     };
-    let file = read_mc(alloc, &bytes)?;
-    drop(bytes);
-    let text = write_mc(alloc, &file)?;
-    drop(file);
+    let text = rewritten(alloc, bytes)?;
     match deliver(writer, &text) {
         Ok(()) => Ok(()),
         Err(kind) => Err(Fault::of(kind)),

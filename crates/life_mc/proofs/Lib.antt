@@ -9,3 +9,4 @@ pub mod Nodes
 pub mod Stands
 pub mod ReadBack
 pub mod LineKinds
+pub mod RuleInForce

@@ -1,18 +1,17 @@
 -- The kinds with which a macrocell line breaks a rule.
-use Rattle.std.proofs.Common.{◌≡◌, ℕ, List, ◌∷◌, [], ◌||◌, ◌-◌, length, take, drop, Bool, true, false, cond, refl, sym, ap, ◌∙◌, map, ◌⊎◌, inl, inr, ◌≤◌, ◌<◌, arith}
+use Rattle.std.proofs.Common.{◌≡◌, ℕ, List, ◌∷◌, [], ◌||◌, length, drop, Bool, true, false, cond, refl, sym, ap, ◌∙◌, subst, map}
 use Rattle.std.specs.Prelude.{◌==◌, nat_le, nat_lt, not, ◌&&◌, codes, slice_index, Option, Some, None, Result, Ok, Err}
-use Rattle.std.specs.List.{list_all, slice_index_or}
+use Rattle.std.specs.List.{list_all}
 use Rattle.life_base.specs.Text.{is_too_long, is_empty, is_blank, begins_with, trim, is_digit_text, value_of}
 use Rattle.life_base.specs.Numbers.{u64_of}
 use Rattle.life_base.specs.Rules.{rule_of, is_rule_kind}
-use Rattle.life_base.specs.Refusal.{is_placeless, OrMemory}
-use Rattle.life_base.specs.declared.fault.Fault.{Fault}
+use Rattle.life_base.specs.Refusal.{is_placeless}
 use Rattle.life_base.specs.declared.kind.Kind.{Kind}
 use Rattle.life_base.specs.declared.kind.Kind.TheVariants as kinds
 use Rattle.life_base.specs.declared.rule.Rule.{Rule}
 use Rattle.life_base.proofs.RuleKinds.{errs_by, errs_by_cases, rule_errs}
 use Rattle.life_mc.specs.Macrocell.{is_quarter, level_of}
-use Rattle.life_mc.specs.Reading.{broken, broken_behind, broken_by_node, broken_by_square, fault_in, is_command, is_leaf_byte, is_leaf, square_of, squares_of, rule_in_force, is_macrocell_kind, Refuses, missing}
+use Rattle.life_mc.specs.Reading.{broken, broken_behind, broken_by_node, broken_by_square, fault_in, is_command, is_leaf_byte, is_leaf, square_of, squares_of, rule_in_force, is_macrocell_kind}
 use Rattle.life_mc.specs.declared.line.Line.{Line}
 use Rattle.life_mc.specs.declared.line.Line.TheVariants.{Leaf, Quad}
 
@@ -163,23 +162,3 @@ names_line kinds.StateBeyondTable h = cc
 names_line kinds.ReadFault h = cc
 names_line kinds.WriteFault h = cc
 names_line kinds.InputTooLong h = cc
-
-missing_kind : (lines : List (List ℕ)) (kind : Kind) → missing lines ≡ Some kind → is_macrocell_kind kind ≡ true
-missing_kind [] kind e = sym (ap kind_in e)
-missing_kind (line ∷ lines) kind e = cc
-
-within_or_not : (m n : ℕ) → (n ≤ m) ⊎ (m < n)
-within_or_not m n = grind arith
-
--- lines that are no macrocell file are refused with a kind of the format
-pub refused_kind : (top : ℕ) (lines : List (List ℕ)) (fault : Fault) → Refuses top lines fault → is_macrocell_kind fault.kind ≡ true
-refused_kind top lines fault r = elim (within_or_not (length lines) r.n) [
-  | inl within ↦ broken_kind top (take (r.n - 1) lines) (slice_index_or lines (r.n - 1) []) fault.kind (r.at_line within)
-  | inr beyond ↦ missing_kind lines fault.kind (r.at_end beyond)
-]
-
--- the same, unless memory was refused
-pub kind_or_memory : (top : ℕ) (lines : List (List ℕ)) (fault : Fault) → OrMemory fault (Refuses top lines fault)
-    → (fault.kind ≡ kinds.Memory) ⊎ (is_macrocell_kind fault.kind ≡ true)
-kind_or_memory top lines fault (inl m) = inl (ap (λ (f : Fault). f.kind) m)
-kind_or_memory top lines fault (inr r) = inr (refused_kind top lines fault r)

@@ -1,10 +1,9 @@
 //! Macrocell files, read whole.
 
-ghost use Rattle.std.specs.Prelude.{◌≡◌, ◌++◌, ◌∷◌, [], List, ℕ, OnOk, IfOk, IfErr, Some, false, true, ◌⊎◌};
+ghost use Rattle.std.specs.Prelude.{◌≡◌, ◌++◌, ◌∷◌, [], List, ℕ, OnOk, IfOk, IfErr, Some, false};
 ghost use Rattle.life_base.specs.Refusal.{fault_of, OrMemory};
 ghost use Rattle.life_base.specs.Text.{lines_of};
-ghost use Rattle.life_base.specs.declared.kind.Kind.TheVariants.{Memory};
-ghost use Rattle.life_mc.specs.Reading.{IsMacrocell, Refuses, broken, squares_of, is_macrocell_kind};
+ghost use Rattle.life_mc.specs.Reading.{IsMacrocell, Refuses, broken, squares_of};
 ghost use Rattle.life_mc.specs.Standing.{StandsAfter};
 
 use crate::file::McFile;
@@ -40,7 +39,6 @@ fn take_line(
 pub fn read_mc(alloc: Global, bytes: &[u8]) -> Result<McFile, Fault>
     ensures ok { IfOk result (λ file. IsMacrocell MAX_LEVEL bytes.now file) }
     ensures err { IfErr result (λ fault. OrMemory fault (Refuses MAX_LEVEL (lines_of bytes.now) fault)) }
-    ensures kinds { IfErr result (λ fault. (fault.kind ≡ Memory) ⊎ (is_macrocell_kind fault.kind ≡ true)) }
 {
     let mut reader = McLines::new(alloc);
     let mut squares = Vec::new(alloc);

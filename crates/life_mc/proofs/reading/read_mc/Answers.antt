@@ -1,45 +1,33 @@
-use Rattle.std.proofs.Common.{◌≡◌, ◌++◌, ◌∷◌, [], List, ℕ, map, sym, ◌∙◌, ap, subst, inl, inr, refl}
+use Rattle.std.proofs.Common.{◌≡◌, ◌++◌, ◌∷◌, [], List, ℕ, map, sym, ◌∙◌, ap, subst, ◌⊎◌, inl, inr}
 use Rattle.std.specs.Prelude.{Some}
 use Rattle.std.proofs.lemmas.Result.{err_from_is_err_and}
 use Rattle.life_base.specs.Text.{lines_of, numbered_from}
-use Rattle.life_base.specs.Refusal.{fault_at, OrMemory}
+use Rattle.life_base.specs.Refusal.{fault_of, fault_at, OrMemory}
 use Rattle.life_base.specs.declared.fault.Fault.{Fault}
-use Rattle.life_base.specs.declared.kind.Kind.TheVariants.{NoHeader}
+use Rattle.life_base.specs.declared.kind.Kind.TheVariants.{Memory, NoHeader}
 use Rattle.life_mc.specs.Reading.{broken, Refuses, AreMacrocell, squares_of, rule_in_force}
 use Rattle.life_mc.specs.Macrocell.{Macrocell, AreSquares}
 use Rattle.life_mc.specs.declared.line.Line.{Line}
 use Rattle.life_base.specs.declared.rule.Rule.{Rule}
 use Rattle.life_mc.proofs.ReadLines.{refused_at, all_read, no_lines, texts}
-use Rattle.life_mc.proofs.LineKinds.{kind_or_memory}
 use Rattle.life_mc.proofs.Valid.{squares_valid}
 use Rattle.life_mc.proofs.reading.read_mc.Invariants.{numbered}
 use Rattle.life_base.specs.declared.cell.TheConstants.{MAX_LEVEL}
 use Rattle.life_mc.proofs.reading.read_mc.Goals as goal
 
--- why the line was refused is why the file is
-refused : (c : goal.After-drop-reader-inside-in_err-take_line) → OrMemory c.in_err-take_line.field-0.0 (Refuses MAX_LEVEL (lines_of c.args.bytes.now) c.in_err-take_line.field-0.0)
-refused c =
+pub returns-in_err-take_line-clause-err : goal.returns-in_err-take_line-clause-err
+returns-in_err-take_line-clause-err c =
+    let p = err_from_is_err_and c.from_residual.result c.from_residual.ensures.1 in
     let pairs : List (ℕ × List ℕ) = map numbered c.loop-number.yielded in
     let fault : Fault = c.in_err-take_line.field-0.0 in
     let told : OrMemory fault ((broken MAX_LEVEL (texts pairs) c.in-Some.line.now ≡ Some fault.kind) × (fault.place.line ≡ c.in-Some.number)) =
     c.in_err-take_line.ensures.err (texts pairs) c.loop-number.invariant.stands c.loop-number.invariant.fresh in
     let all : pairs ++ (c.in-Some.number, c.in-Some.line.now) ∷ numbered_from c.next.new.self.number (lines_of c.next.new.self.rest.now) ≡ numbered_from 1 (lines_of c.args.bytes.now) =
     ap (λ (t : List (ℕ × List ℕ)). pairs ++ t) (sym c.in-Some.ensures.steps) ∙ c.loop-number.invariant.all in
-    elim told [
+    let answer : OrMemory fault (Refuses MAX_LEVEL (lines_of c.args.bytes.now) fault) = elim told [
       | inl m ↦ inl m
       | inr w ↦ inr (refused_at MAX_LEVEL (lines_of c.args.bytes.now) pairs c.in-Some.number c.in-Some.line.now _ fault all c.loop-number.invariant.stands.unbroken w.0 w.1)
-    ]
-
-pub returns-in_err-take_line-clause-err : goal.returns-in_err-take_line-clause-err
-returns-in_err-take_line-clause-err c =
-    let p = err_from_is_err_and c.from_residual.result c.from_residual.ensures.1 in
-    let answer = refused c in
-    rw (p.1, p.2) answer
-
-pub returns-in_err-take_line-clause-kinds : goal.returns-in_err-take_line-clause-kinds
-returns-in_err-take_line-clause-kinds c =
-    let p = err_from_is_err_and c.from_residual.result c.from_residual.ensures.1 in
-    let answer = kind_or_memory MAX_LEVEL (lines_of c.args.bytes.now) c.in_err-take_line.field-0.0 (refused c) in
+    ] in
     rw (p.1, p.2) answer
 
 pub invariant_of-result : goal.invariant_of-result
@@ -76,10 +64,3 @@ returns-in-Err-clause-err c =
     let P : Fault → Type 0 = λ fault. Refuses MAX_LEVEL lines fault in
     let Q : List (List ℕ) → Type 0 = λ ls. Refuses MAX_LEVEL ls (fault_at 1 NoHeader) in
     inr (subst P (sym e) (subst Q t (no_lines MAX_LEVEL)))
-
-pub returns-in-Err-clause-kinds : goal.returns-in-Err-clause-kinds
-returns-in-Err-clause-kinds c =
-    let pairs : List (ℕ × List ℕ) = map numbered c.loop-number.yielded in
-    let said = c.in-Err.ensures.said (texts pairs) c.loop-number.invariant.stands c.loop-number.invariant.fresh in
-    let e : c.at.result ≡ fault_at 1 NoHeader = c.at.ensures ∙ ap (fault_at 1) said.0 in
-    rw e (inr refl)
