@@ -104,3 +104,6 @@ fn main(rt: HostRuntime) -> ExitCode {
         }
     }
 }
+
+#[cfg(test)]
+mod tests;

@@ -29,7 +29,7 @@ fn rewritten(alloc: Global, bytes: Vec<u8>) -> Result<Vec<u8>, Fault>
 
 /// Reads to the end of the input, then writes its pattern as a macrocell file and flushes. It reads at most `most` bytes and a
 /// piece, and writes nothing before all is read and accepted.
-fn run_canon_within<R: Source, W: Sink>(
+pub(crate) fn run_canon_within<R: Source, W: Sink>(
     alloc: Global,
     reader: &mut R,
     writer: &mut W,

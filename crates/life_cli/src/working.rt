@@ -31,8 +31,8 @@ pub fn work<A: Source, B: Source, O: Sink, E: Sink>(
     ensures quiet { result < 2 → err.new ≡ err.old }
     ensures refused { 1 < result → (fault : Fault) × (result ≡ status_of fault.kind)
         × JobRefuses job.now (A.remaining first.old) (A.remaining first.new) (A.failures first.new)
-            (option_and_then B.remaining second.old) (option_and_then B.remaining second.new) (option_map_or B.failures second.new 0)
-            (O.contents out.old) (O.contents out.new) (O.failures out.new) (O.stalled out.new) fault
+        (option_and_then B.remaining second.old) (option_and_then B.remaining second.new) (option_map_or B.failures second.new 0)
+        (O.contents out.old) (O.contents out.new) (O.failures out.new) (O.stalled out.new) fault
         × Tells (E.contents err.old) (E.contents err.new) (E.failures err.new) (E.stalled err.new) (fault_line fault) }
 {
     let done = match (job, second) {

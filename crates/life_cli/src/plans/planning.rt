@@ -98,11 +98,7 @@ fn from_matches(alloc: Global, matches: &ArgMatches<'_>) -> Result<Plan, Usage>
     if let Some(found) = matches.subcommand_matches("canon") {
         return canon(alloc, found);
     }
-    Err(refusal(
-        alloc,
-        ErrorKind::MissingSubcommand,
-        "a command is missing",
-    ))
+    Err(refusal(alloc, ErrorKind::MissingSubcommand, "a command is missing"))
 }
 
 /// What the words ask for. They begin with the program's own name.
