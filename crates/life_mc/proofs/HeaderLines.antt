@@ -21,7 +21,7 @@ use Rattle.life_mc.specs.Standing.{broken_after, Tells}
 use Rattle.life_mc.specs.declared.told.Told.TheVariants.{ToldRule, ToldGeneration}
 use Rattle.life_mc.proofs.ReadBack.{has_no_feed}
 use Rattle.life_mc.proofs.LineTexts.{decimal_digits, decimal_value, decimal_short, digits_trimmed, digits_have_no_feed}
-use Rattle.life_mc.proofs.Tests.{both}
+use Rattle.life_mc.proofs.TestFacts.{both}
 
 -- ---- the text of a rule is short and has no line feed
 

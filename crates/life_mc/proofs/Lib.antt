@@ -14,7 +14,7 @@ pub mod LeafLines
 pub mod Forms
 pub mod Grammars
 pub mod FormatLaws
-pub mod Tests
+pub mod TestFacts
 pub mod LineTexts
 pub mod HeaderLines
 pub mod TextBack

@@ -16,7 +16,7 @@ use Rattle.life_mc.specs.Writing.{row_text, line_text}
 use Rattle.life_mc.specs.declared.line.Line.{Line}
 use Rattle.life_mc.specs.declared.line.Line.TheVariants.{Leaf, Quad}
 use Rattle.life_mc.proofs.ReadBack.{has_no_feed, written, row_is_row, leaf_again, word_then, word_alone}
-use Rattle.life_mc.proofs.Tests.{is_false, and-false, both}
+use Rattle.life_mc.proofs.TestFacts.{is_false, and-false, both}
 
 -- What a text needs to be the node line of a square.
 pub record IsTextOf (square : Line) (text : List ℕ) : Type 0 where

@@ -15,7 +15,7 @@ use Rattle.life_mc.specs.Accepted.{NodeLinesCounted}
 use Rattle.life_mc.specs.Reading.{broken, broken_behind, broken_by_node, broken_by_square, fault_in, is_command, is_leaf, is_leaf_byte, is_node_line, rule_in_force, square_of, square_on, squares_of}
 use Rattle.life_mc.specs.declared.line.Line.{Line}
 use Rattle.life_mc.proofs.TextBack.{no_mark}
-use Rattle.life_mc.proofs.Tests.{is_false}
+use Rattle.life_mc.proofs.TestFacts.{is_false}
 
 abbrev IsThere : Option Line → Type 0
 IsThere o = (square : Line) × (o ≡ Some square)

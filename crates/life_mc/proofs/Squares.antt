@@ -13,7 +13,7 @@ use Rattle.life_mc.specs.Cells.{cell, cell_in, cell_from, leaf_cell, quarter_at,
 use Rattle.life_mc.specs.Squares.{tree_at, leaf_tree, line_tree, tree_of, root_tree, tree_cell, HasStatesUpTo, StandsForSquare, LinesStandForSquares}
 use Rattle.life_mc.specs.declared.line.Line.{Line}
 use Rattle.life_mc.specs.declared.line.Line.TheVariants.{Leaf, Quad}
-use Rattle.life_mc.proofs.Tests.{all_four, not_zero, few_states}
+use Rattle.life_mc.proofs.TestFacts.{all_four, not_zero, few_states}
 
 twice : (k : ℕ) → 2 ^ suc k ≡ 2 ^ k + 2 ^ k
 twice k = two-pow-succ k

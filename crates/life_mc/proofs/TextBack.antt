@@ -24,7 +24,7 @@ use Rattle.life_mc.proofs.LineTexts.{IsTextOf, leaf_text, quad_text}
 use Rattle.life_mc.proofs.ReadBack.{has_no_feed, line_ended}
 use Rattle.life_mc.proofs.ReadLines.{squares_some}
 use Rattle.life_mc.proofs.Stands.{stands_first, stands_next}
-use Rattle.life_mc.proofs.Tests.{and-true, all_four, not_zero, few_states}
+use Rattle.life_mc.proofs.TestFacts.{and-true, all_four, not_zero, few_states}
 
 -- ---- a square's text, where the squares before it have these levels
 

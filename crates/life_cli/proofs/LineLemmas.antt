@@ -1,0 +1,13 @@
+-- How a command line grows.
+use Rattle.std.proofs.Common.{ap, ap₂, ◌∙◌, refl}
+use Rattle.clap.specs.Words.{AddsSubcommand, App, with_subcommand}
+use Rattle.clap.specs.declared.builder.command.Command.{Command}
+use Rattle.life_cli.specs.CommandLine.{ReadsAs}
+
+-- a command with one more subcommand
+pub reads-subcommand : (line sub_line : App) (old sub new : Command) → ReadsAs line old → AddsSubcommand old sub new → ReadsAs sub_line sub
+    → ReadsAs (with_subcommand line sub_line.top) new
+reads-subcommand line sub_line old sub new reads adds below = record {
+  app = adds.shape below.local ∙ ap₂ with_subcommand reads.app (ap (λ (a : App). a.top) below.app);
+  local = adds.globals ∙ rw (reads.local, below.local) refl;
+}

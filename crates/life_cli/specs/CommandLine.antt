@@ -1,0 +1,29 @@
+-- The program's command line, as `clap` reads it.
+use Rattle.std.specs.Prelude.{◌≡◌, true, false, codes, Some}
+use Rattle.clap.specs.Words.{App, Rule, Text, app_of, new_app, new_rule, with_rule, with_subcommand}
+use Rattle.clap.specs.declared.builder.ArgAction.TheVariants.{Set}
+use Rattle.clap.specs.declared.builder.command.Command.{Command}
+use Rattle.clap.specs.declared.builder.command.Command.TheViews.{out-Command}
+
+-- a file that has to be named, by its place
+abbrev pub required_file : Text → Rule
+required_file id = record (new_rule id) { required = true; action = Some Set }
+
+-- canon FILE
+abbrev pub one_file_line : Text → App
+one_file_line name = with_rule (new_app name) (required_file (codes "FILE"))
+
+-- the program without its commands, of which it wants one; it has a version
+abbrev pub named : App
+named =
+    let bare = new_app (codes "golly_canon") in
+    record bare { top = record bare.top { subcommand_required = true; has_version = true } }
+
+-- the program
+abbrev pub program : App
+program = with_subcommand named (one_file_line (codes "canon")).top
+
+-- the command is read as this one, and none of its arguments is global
+pub record ReadsAs (line : App) (command : Command) : Type 0 where
+  pub app : app_of command ≡ line
+  pub local : (out-Command command).has_globals ≡ false

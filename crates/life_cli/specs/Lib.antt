@@ -1,0 +1,6 @@
+pub mod Keeping
+pub mod Running
+pub mod Faults
+pub mod Jobs
+pub mod CommandLine
+pub mod Plans

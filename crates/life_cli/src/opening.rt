@@ -1,0 +1,29 @@
+//! The files that the words name.
+
+use std::fs::File;
+use std::io::{Read, Result};
+use std::rt::Stdin;
+
+/// A file, or standard input.
+#[derive(Drop)]
+pub enum Input {
+    File(File),
+    Standard(Stdin),
+}
+
+impl Read for Input {
+    fn read(&mut self, buf: &mut [u8]) -> Result<usize> {
+        match self {
+            Input::File(file) => file.read(buf),
+            Input::Standard(stdin) => stdin.read(buf),
+        }
+    }
+}
+
+/// Opens the file of that name. `-` is standard input.
+pub fn open(rt: &HostRuntime, name: &str) -> Result<Input> {
+    if name == "-" {
+        return Ok(Input::Standard(rt.stdin()));
+    }
+    Ok(Input::File(File::open(rt, name)?))
+}
