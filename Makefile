@@ -2,7 +2,7 @@
 #
 #   make           builds the proved program as ./golly_canon and runs it on an example
 #   make test      the merge gate, and every other check
-#   make quick     builds the same program without proving it, as ./golly_canon_unproved
+#   make quick     builds the same program without proving it, runs it on FILE=.. and keeps nothing
 #   make bench     times the program beside plain programs in C
 #   make install   installs the proved program to $(DESTDIR)$(PREFIX)/bin
 #   make clean     removes what was built; the proofs' work in crates/*/out stays
@@ -21,7 +21,7 @@ golly_canon: FORCE
 	@RT="$(RT)" sh scripts/build
 
 quick:
-	@RT="$(RT)" sh scripts/quick
+	@RT="$(RT)" FILE="$(FILE)" sh scripts/quick
 
 test:
 	@RT="$(RT)" sh tests/all
@@ -34,7 +34,7 @@ install: golly_canon
 	install -m 755 golly_canon "$(DESTDIR)$(PREFIX)/bin/golly_canon"
 
 clean:
-	rm -rf golly_canon golly_canon_unproved out
+	rm -rf golly_canon out
 
 distclean: clean
 	rm -rf crates/*/out
