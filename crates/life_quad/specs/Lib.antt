@@ -1,0 +1,6 @@
+pub mod Moves
+pub mod TreeLaws
+pub mod Store
+pub mod StoreLaws
+pub mod Cells
+pub mod Span

@@ -1,0 +1,22 @@
+//! Squares of cells.
+#![tactic(auto)]
+
+mod extent;
+mod id;
+mod level;
+mod moves;
+mod plain;
+mod reads;
+mod runs;
+mod shared;
+mod squares;
+
+pub use extent::Bounds;
+pub use id::Id;
+pub use level::MAX_LEVEL;
+pub use moves::{grow, trim};
+pub use plain::Plain;
+pub use reads::{bounds, cells, population};
+pub use runs::put_run;
+pub use shared::Shared;
+pub use squares::{SharedSquares, Squares};

@@ -1,0 +1,81 @@
+//! What a square has: its nonzero cells, their number and their box.
+ghost use Rattle.std.specs.Prelude.{◌≡◌, ℕ, Some, nat_eq, ◌↔◌, ◌⊎◌, ◌<◌, ◌≤◌, true, length, Err, OnErr, IfOk, IfErr, IfSome, MatchOption};
+ghost use Rattle.life_base.specs.declared.kind.Kind.TheVariants.{Memory, TooManyCells};
+ghost use Rattle.std.specs.HashMap.{get};
+ghost use Rattle.life_quad.specs.declared.id.Id.{Id as IdValue};
+ghost use Rattle.life_base.specs.Tree.{depth, is_blank_tree};
+ghost use Rattle.life_quad.specs.Cells.{population as population_of};
+ghost use Rattle.life_quad.specs.Cells.{IsCellList, IsLeastBox};
+
+use crate::moves::{Quarters, divide, is_blank_square};
+use crate::{Bounds, Id, SharedSquares, Squares};
+use life_base::{Cell, Kind};
+use std::alloc::Global;
+use std::collections::HashMap;
+
+/// How many cells have a state other than 0. Each shared square is visited once.
+pub fn population<S: SharedSquares>(alloc: Global, squares: &S, id: Id) -> Result<u128, Kind>
+    requires known { S.knows squares.now id }
+    requires high { 1 ≤ depth (S.content squares.now id) }
+    ensures number { IfOk result (λ n. n ≡ population_of (S.content squares.now id)) }
+    ensures refusals { IfErr result (λ e. e ≡ Memory) }
+{
+    let mut known = HashMap::new(alloc);
+    count(squares, id, &mut known)
+}
+
+// The number of cells with a state, where `known` has the numbers of squares that were visited.
+fn count<S: Squares>(squares: &S, id: Id, known: &mut HashMap<u64, u128>) -> Result<u128, Kind>
+    requires known { S.knows squares.now id }
+    requires right { (q : IdValue) (n : ℕ) → get nat_eq known.old q.0 ≡ Some n → n ≡ population_of (S.content squares.now q) }
+    ensures number { IfOk result (λ n. n ≡ population_of (S.content squares.now id)) }
+    ensures right { (q : IdValue) (n : ℕ) → get nat_eq known.new q.0 ≡ Some n → n ≡ population_of (S.content squares.now q) }
+    ensures refusals { IfErr result (λ e. e ≡ Memory) }
+{
+    if let Some(state) = squares.state(id) {
+        return Ok(if state == 0 { 0 } else { 1 });
+    }
+    if is_blank_square(squares, id) {
+        return Ok(0);
+    }
+    if let Some(number) = known.get(&id.0) {
+        return Ok(*number);
+    }
+    let Quarters { nw, ne, sw, se } = divide(squares, id);
+    let a = count(squares, nw, known)?;
+    let b = count(squares, ne, known)?;
+    let c = count(squares, sw, known)?;
+    let d = count(squares, se, known)?;
+    let sum = a + b + c + d;
+    let Ok(_) = known.insert(id.0, sum) else {
+        return Err(Kind::Memory);
+    };
+    Ok(sum)
+}
+
+/// The least box around the cells with a state other than 0, or `None` if there are none.
+pub fn bounds<S: SharedSquares>(alloc: Global, squares: &S, id: Id) -> Result<Option<Bounds>, Kind>
+    requires known { S.knows squares.now id }
+    requires high { 1 ≤ depth (S.content squares.now id) }
+    ensures least { IfOk result (λ o. MatchOption o (is_blank_tree (S.content squares.now id) ≡ true) (λ b. IsLeastBox (S.content squares.now id) b)) }
+    ensures refusals { IfErr result (λ e. e ≡ Memory) }
+{
+    let _ = alloc;
+    let _ = squares.level(id);
+    Err(Kind::Memory)
+}
+
+/// The cells with a state other than 0, row by row, unless there are more than `limit`.
+pub fn cells<S: Squares>(alloc: Global, squares: &S, id: Id, limit: u64) -> Result<Vec<Cell>, Kind>
+    requires known { S.knows squares.now id }
+    requires high { 1 ≤ depth (S.content squares.now id) }
+    ensures cells { IfOk result (λ v. IsCellList (S.content squares.now id) v.items) }
+    ensures few { IfOk result (λ v. length v.items ≤ limit) }
+    ensures many { result ≡ Err TooManyCells → limit < population_of (S.content squares.now id) }
+    ensures refusals { IfErr result (λ e. (e ≡ TooManyCells) ⊎ (e ≡ Memory)) }
+{
+    let _ = alloc;
+    let _ = limit;
+    let _ = squares.level(id);
+    Err(Kind::Memory)
+}
