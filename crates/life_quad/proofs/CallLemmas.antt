@@ -1,6 +1,7 @@
 -- What the calls of a shared store answer.
 use Rattle.std.proofs.Common.{◌≡◌, ◌≢◌, length-append, Contains, ◌⊎◌, inl, inr, true≢false, ◌&&◌, ℕ, zero, suc, ◌+◌, ◌-◌, ◌≤◌, ◌<◌, Bool, true, false, List, [], ◌∷◌, ◌++◌, length, Some, slice_get, get_or, Result, Ok, Err, OnOk, OnErr, IfOk, refl, sym, ◌∙◌, ap, subst, arith, map}
-use Rattle.std.proofs.lemmas.List.Elements.{All-cons, All-nil}
+use Rattle.std.proofs.lemmas.List.Elements.{All-cons, All-nil, Contains-append_left}
+use Rattle.std.proofs.lemmas.List.{get_or_append_left}
 use Rattle.std.specs.List.{list_any, position, All, AllPairs}
 use Rattle.std.proofs.lemmas.List.Quantifiers.{position-Some}
 use Rattle.std.specs.Prelude.{if◌then◌else◌}
@@ -324,3 +325,30 @@ held-complete s id h full deep = by (names s id h)
     by (the_node i n j at node f) =
         let sq = h.sound.square i n at in
         (i, slice_get_within (squares s.nodes) i _ sq, get_or_from_slice_get (squares s.nodes) i _ _ (sq ∙ ap Some (sym f)))
+
+-- whatever was answered, no stored square is taken away
+pub stays_held : {T E : Type 0} (r : Result T E) (old new : Nodes) (n : Node) → OnOk r (Interned old new n) → OnErr r (new ≡ old)
+    → (t : Tree) → Contains (held old) t → Contains (held new) t
+stays_held (Ok x) old new n i same t h =
+    let m = held-more old new n i in subst (λ S. Contains S t) (sym m.1) (Contains-append_left (squares old.nodes) m.0 t h)
+stays_held (Err x) old new n i same t h = subst (λ s. Contains (held s) t) (sym same) h
+
+pub stays_added : {T E : Type 0} (r : Result T E) (old new : Nodes) (n : Node) → OnOk r (new.nodes ≡ old.nodes ++ n ∷ []) → OnErr r (new ≡ old)
+    → (t : Tree) → Contains (held old) t → Contains (held new) t
+stays_added (Ok x) old new n i same t h =
+    subst (λ S. Contains S t) (sym (ap squares i ∙ squares-push old.nodes n)) (Contains-append_left (squares old.nodes) (node_square (squares old.nodes) n ∷ []) t h)
+stays_added (Err x) old new n i same t h = subst (λ s. Contains (held s) t) (sym same) h
+
+-- a node that was not there gets an Id that named nothing
+pub fresh_id : (old new : Nodes) (n : Node) (id : Id) → IsSound old → Interned old new n → IsIdOf new n id → ¬ Contains (held old) (node_square (held old) n) → ¬ Knows old id
+fresh_id old new n id h i (k, e, at) absent known = by i
+  where
+    below : k < length old.nodes
+    below = omega (arith, known.named.below, e)
+
+    by : Interned old new n → ⊥
+    by (was_there c same) = absent (Contains-node old n h c)
+    by (is_new a l same) =
+        let here : get_or new.nodes k n ≡ n = get_or_from_slice_get new.nodes k n n at in
+        let there : get_or new.nodes k n ≡ get_or old.nodes k n = ap (λ ns. get_or ns k n) same ∙ get_or_append_left old.nodes (n ∷ []) n k below in
+        a (k, below, sym there ∙ here)

@@ -57,6 +57,7 @@ impl Plain {
         requires { IsNode (squares self.old.nodes) (length self.old.nodes) node }
         ensures stored { OnOk result (self.new.nodes ≡ self.old.nodes ++ node ∷ []) }
         ensures id { IfOk result (λ id. IsIdOf self.new node id) }
+        ensures last { IfOk result (λ id. id.0 ≡ 512 + length self.old.nodes) }
         ensures sound { IsSound self.new }
         ensures limit { self.new.limit ≡ self.old.limit }
         ensures full { (result ≡ Err Full) ↔ (length self.old.nodes ≡ self.old.limit) }

@@ -1,5 +1,5 @@
 //! Runs of cells.
-ghost use Rattle.std.specs.Prelude.{◌≡◌, ◌⊎◌, ℤ, pos, neg_ℤ, ◌≤ℤ◌, ◌<ℤ◌, ◌+ℤ◌, ◌-◌, ◌+◌, ◌^◌, ◌<◌, ◌≤◌, length, Err, IfOk, IfErr};
+ghost use Rattle.std.specs.Prelude.{◌≡◌, ◌⊎◌, ℤ, pos, neg_ℤ, ◌≤ℤ◌, ◌<ℤ◌, ◌+ℤ◌, ◌-◌, ◌+◌, ◌^◌, ◌<◌, ◌≤◌, length, Contains, Err, IfOk, IfErr};
 ghost use Rattle.life_base.specs.declared.kind.Kind.TheVariants.{Full, Memory};
 ghost use Rattle.life_quad.specs.declared.id.Id.{Id as IdValue};
 ghost use Rattle.life_base.specs.Tree.{Tree, depth};
@@ -47,6 +47,7 @@ fn set_span<S: Squares>(
     ensures known { IfOk result (S.knows squares.new) }
     ensures square { IfOk result (λ r. SetsSpan (S.content squares.old id) (S.content squares.new r) column row len state) }
     ensures keeps { (q : IdValue) → S.knows squares.old q → S.knows squares.new q × (S.content squares.new q ≡ S.content squares.old q) }
+    ensures stays { (t : Tree) → Contains (S.stored squares.old) t → Contains (S.stored squares.new) t }
     ensures most { S.most squares.new ≡ S.most squares.old }
     ensures refusals { IfErr result (λ e. (e ≡ Full) ⊎ (e ≡ Memory)) }
     ensures full { result ≡ Err Full → length (S.stored squares.new) ≡ S.most squares.new }
@@ -90,6 +91,7 @@ fn set_halves<S: Squares>(
     ensures right { IfOk result (λ r. S.knows squares.new r.1) }
     ensures squares { IfOk result (λ r. SetsHalves (S.content squares.old left) (S.content squares.old right) (S.content squares.new r.0) (S.content squares.new r.1) column row len state) }
     ensures keeps { (q : IdValue) → S.knows squares.old q → S.knows squares.new q × (S.content squares.new q ≡ S.content squares.old q) }
+    ensures stays { (t : Tree) → Contains (S.stored squares.old) t → Contains (S.stored squares.new) t }
     ensures most { S.most squares.new ≡ S.most squares.old }
     ensures refusals { IfErr result (λ e. (e ≡ Full) ⊎ (e ≡ Memory)) }
     ensures full { result ≡ Err Full → length (S.stored squares.new) ≡ S.most squares.new }
@@ -129,6 +131,7 @@ pub fn put_run<S: Squares>(
     ensures known { IfOk result (S.knows squares.new) }
     ensures square { IfOk result (λ r. SetsRun (S.content squares.old root) (S.content squares.new r) x y len state) }
     ensures keeps { (q : IdValue) → S.knows squares.old q → S.knows squares.new q × (S.content squares.new q ≡ S.content squares.old q) }
+    ensures stays { (t : Tree) → Contains (S.stored squares.old) t → Contains (S.stored squares.new) t }
     ensures most { S.most squares.new ≡ S.most squares.old }
     ensures refusals { IfErr result (λ e. (e ≡ Full) ⊎ (e ≡ Memory)) }
     ensures full { result ≡ Err Full → length (S.stored squares.new) ≡ S.most squares.new }

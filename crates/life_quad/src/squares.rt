@@ -1,5 +1,5 @@
 //! What a store of squares offers.
-ghost use Rattle.std.specs.Prelude.{◌≡◌, ◌↔◌, ◌⊎◌, ℕ, ◌<◌, ◌≤◌, List, [], ◌∷◌, ◌++◌, length, map, All, Ok, Err, MatchOption, IfOk, IfErr, OnOk, OnErr};
+ghost use Rattle.std.specs.Prelude.{◌≡◌, ◌↔◌, ◌⊎◌, ℕ, ◌<◌, ◌≤◌, List, [], ◌∷◌, ◌++◌, length, map, All, Contains, Ok, Err, MatchOption, IfOk, IfErr, OnOk, OnErr};
 ghost use Rattle.life_base.specs.declared.kind.Kind.TheVariants.{Full, Memory};
 ghost use Rattle.life_quad.specs.declared.id.Id.{Id as IdValue};
 ghost use Rattle.life_base.specs.Tree.{Tree, point, quad, depth, blank, quarters, IsFull};
@@ -52,11 +52,15 @@ pub trait Squares {
         ensures known { IfOk result (λ id. knows self.new id) }
         ensures square { IfOk result (λ id. content self.new id ≡ quad (content self.old nw) (content self.old ne) (content self.old sw) (content self.old se)) }
         ensures keeps { (id : IdValue) → knows self.old id → knows self.new id × (content self.new id ≡ content self.old id) }
+        ensures stays { (t : Tree) → Contains (stored self.old) t → Contains (stored self.new) t }
         ensures most { most self.new ≡ most self.old }
 
         // The nodes that are stored.
         ensures added { let t = quad (content self.old nw) (content self.old ne) (content self.old sw) (content self.old se) in OnOk result (needs_node self.old t → stored self.new ≡ stored self.old ++ t ∷ []) }
         ensures there { let t = quad (content self.old nw) (content self.old ne) (content self.old sw) (content self.old se) in OnOk result (¬ needs_node self.old t → stored self.new ≡ stored self.old) }
+
+        // A new node gets an Id that named nothing before.
+        ensures fresh { let t = quad (content self.old nw) (content self.old ne) (content self.old sw) (content self.old se) in IfOk result (λ id. needs_node self.old t → ¬ knows self.old id) }
 
         // A refusal is want of room or of memory, for a new node alone.
         ensures full { let t = quad (content self.old nw) (content self.old ne) (content self.old sw) (content self.old se) in (result ≡ Err Full) ↔ (needs_node self.old t × (length (stored self.old) ≡ most self.old)) }

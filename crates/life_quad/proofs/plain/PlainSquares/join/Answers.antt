@@ -2,7 +2,7 @@ use Rattle.std.proofs.Common.{◌≡◌, arith, sym, ◌∙◌, ap, true≢false
 use Rattle.life_quad.specs.Store.{squares, square_of, IsNode}
 use Rattle.life_quad.specs.StoreLaws.{length-squares, squares-push}
 use Rattle.life_base.specs.Tree.{depth, blank}
-use Rattle.life_quad.proofs.CallLemmas.{on_ok, on_err, if_ok, is_blank-joined, blank_joined, IsNode-joined, keeps_added, knows_id, square_of-added}
+use Rattle.life_quad.proofs.CallLemmas.{on_ok, on_err, if_ok, is_blank-joined, blank_joined, IsNode-joined, keeps_added, knows_id, square_of-added, stays_added}
 use Rattle.life_quad.proofs.plain.PlainSquares.join.Goals as goal
 
 pub returns-then-are_blank-clause-square : goal.returns-then-are_blank-clause-square
@@ -58,3 +58,14 @@ returns-clause-full c =
 
 pub returns-clause-needed : goal.returns-clause-needed
 returns-clause-needed c = on_err c.add.result (λ same. (IsNode-there c).not_blank) c.add.ensures.unchanged
+
+pub returns-clause-stays : goal.returns-clause-stays
+returns-clause-stays c = stays_added c.add.result _ _ _ c.add.ensures.stored c.add.ensures.unchanged
+
+pub returns-clause-fresh : goal.returns-clause-fresh
+returns-clause-fresh c = if_ok c.add.result (λ id i last needs known. let b = known.named.below in let e : id.0 ≡ 512 + length c.args.self.now.nodes = last in absurd (omega arith)) c.add.ensures.stored c.add.ensures.last
+
+pub returns-then-are_blank-clause-fresh : goal.returns-then-are_blank-clause-fresh
+returns-then-are_blank-clause-fresh c = λ needs known.
+    let r = c.requires in
+    absurd (true≢false (sym (is_blank-joined _ _ _ _ _ r.nw r.ne r.sw r.se r.ne_level r.sw_level r.se_level ∙ sym c.are_blank.ensures ∙ c.if-are_blank.true) ∙ needs))

@@ -2,7 +2,7 @@ use Rattle.std.proofs.Common.{◌≡◌, arith, sym, ◌∙◌, ap, true≢false
 use Rattle.life_quad.specs.Store.{squares, square_of, IsNode}
 use Rattle.life_quad.specs.StoreLaws.{length-squares}
 use Rattle.life_base.specs.Tree.{depth, blank}
-use Rattle.life_quad.proofs.CallLemmas.{on_ok, on_err, if_ok, is_blank-joined, blank_joined, IsNode-joined, held-added, held-there, absent_square, Contains-node, knows_id, square_of-interned, keeps_known}
+use Rattle.life_quad.proofs.CallLemmas.{on_ok, on_err, if_ok, is_blank-joined, blank_joined, IsNode-joined, held-added, held-there, absent_square, Contains-node, knows_id, square_of-interned, keeps_known, stays_held, fresh_id}
 use Rattle.life_quad.proofs.shared.SharedSquaresImpl.join.Goals as goal
 
 pub returns-then-are_blank-clause-square : goal.returns-then-are_blank-clause-square
@@ -70,3 +70,14 @@ pub returns-clause-needed : goal.returns-clause-needed
 returns-clause-needed c =
     let node = IsNode-there c in
     on_err c.intern.result (λ absent. (node.not_blank, absent_square _ _ c.requires.nw.0.sound c.requires.nw.1 node absent)) c.intern.ensures.needed
+
+pub returns-clause-stays : goal.returns-clause-stays
+returns-clause-stays c = stays_held c.intern.result _ _ _ c.intern.ensures.stored c.intern.ensures.unchanged
+
+pub returns-clause-fresh : goal.returns-clause-fresh
+returns-clause-fresh c = if_ok c.intern.result (λ id i at needs known. fresh_id _ _ _ id c.requires.nw.0.sound i at needs.1 known.0) c.intern.ensures.stored c.intern.ensures.id
+
+pub returns-then-are_blank-clause-fresh : goal.returns-then-are_blank-clause-fresh
+returns-then-are_blank-clause-fresh c = λ needs known.
+    let r = c.requires in
+    absurd (true≢false (sym (is_blank-joined _ _ _ _ _ r.nw.0 r.ne.0 r.sw.0 r.se.0 r.ne_level r.sw_level r.se_level ∙ sym c.are_blank.ensures ∙ c.if-are_blank.true) ∙ needs.0))
