@@ -44,7 +44,7 @@ span_facts column row len i j e = (grind arith, grind arith, grind arith)
 in_span : (column row len i j : ℕ) → j ≡ row → column ≤ i → i < column + len → is_in_span column row len i j ≡ true
 in_span column row len i j a b c = grind arith
 
-side : (k : ℕ) → 1 ≤ k → 2 ^ (k - 1) + 2 ^ (k - 1) ≡ 2 ^ k
+pub side : (k : ℕ) → 1 ≤ k → 2 ^ (k - 1) + 2 ^ (k - 1) ≡ 2 ^ k
 side zero h = absurd (omega arith)
 side (suc k) h =
     let e : suc k - 1 ≡ k = omega arith in

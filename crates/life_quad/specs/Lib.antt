@@ -4,3 +4,4 @@ pub mod Store
 pub mod StoreLaws
 pub mod Cells
 pub mod Span
+pub mod Boxes

@@ -11,10 +11,11 @@ use crate::{Id, MAX_LEVEL, Squares};
 use life_base::{Kind, State};
 
 // Half of the side of a square of a level.
-fn half_side(level: u8) -> u64
+pub(crate) fn half_side(level: u8) -> u64
     requires low { 1 ≤ level }
     requires high { level ≤ MAX_LEVEL }
-    ensures { result ≡ 2 ^ (level - 1) }
+    ensures half { result ≡ 2 ^ (level - 1) }
+    ensures small { result ≤ 2 ^ 61 }
 {
     1 << (level - 1)
 }

@@ -15,7 +15,7 @@ set_span-returns-in_ok-left-clause-square g t c =
     let full : IsFull (quad (C o c.divide.result.nw) (C o c.divide.result.ne) (C o c.divide.result.sw) (C o c.divide.result.se)) =
     subst IsFull d.square (g.met.S.Squares.full o c.args.id c.requires.known) in
     let half = half_of _ _ _ c.level-level.ensures.level d.nw_level in
-    let low : c.args.row < 2 ^ depth (C o c.divide.result.nw) = subst (λ n. c.args.row < n) (c.half_side-half.ensures ∙ half) c.if-row-half.true in
+    let low : c.args.row < 2 ^ depth (C o c.divide.result.nw) = subst (λ n. c.args.row < n) (c.half_side-half.ensures.half ∙ half) c.if-row-half.true in
     let sw = (h.keeps c.divide.result.sw d.sw).1 in
     let se = (h.keeps c.divide.result.se d.se).1 in
     let span = SetsSpan-north _ _ _ _ _ _ c.args.column c.args.row c.args.len c.args.state full low h.squares in
@@ -34,10 +34,10 @@ set_span-returns-in_ok-left-2-clause-square g t c =
     let full : IsFull (quad (C o c.divide.result.nw) (C o c.divide.result.ne) (C o c.divide.result.sw) (C o c.divide.result.se)) =
     subst IsFull d.square (g.met.S.Squares.full o c.args.id c.requires.known) in
     let half = half_of _ _ _ c.level-level.ensures.level d.nw_level in
-    let low : 2 ^ depth (C o c.divide.result.nw) ≤ c.args.row = subst (λ n. n ≤ c.args.row) (c.half_side-half.ensures ∙ half) c.if-row-half.false in
+    let low : 2 ^ depth (C o c.divide.result.nw) ≤ c.args.row = subst (λ n. n ≤ c.args.row) (c.half_side-half.ensures.half ∙ half) c.if-row-half.false in
     let nw = (h.keeps c.divide.result.nw d.nw).1 in
     let ne = (h.keeps c.divide.result.ne d.ne).1 in
-    let halves = subst (λ n. SetsHalves (C o c.divide.result.sw) (C o c.divide.result.se) (C c.set_halves-else-row-half.new.squares c.in_ok-left-2.left) (C c.set_halves-else-row-half.new.squares c.in_ok-left-2.right) c.args.column (c.args.row - n) c.args.len c.args.state) (c.half_side-half.ensures ∙ half) h.squares in
+    let halves = subst (λ n. SetsHalves (C o c.divide.result.sw) (C o c.divide.result.se) (C c.set_halves-else-row-half.new.squares c.in_ok-left-2.left) (C c.set_halves-else-row-half.new.squares c.in_ok-left-2.right) c.args.column (c.args.row - n) c.args.len c.args.state) (c.half_side-half.ensures.half ∙ half) h.squares in
     let span = SetsSpan-south _ _ _ _ _ _ c.args.column c.args.row c.args.len c.args.state full low halves in
     if_ok_map c.join-else-row-half.result
     (λ r e. subst (λ s. SetsSpan s (C c.join-else-row-half.new.self r) c.args.column c.args.row c.args.len c.args.state) (sym d.square)

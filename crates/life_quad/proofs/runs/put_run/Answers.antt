@@ -10,17 +10,17 @@ pub offset-requires-clause-small : goal.offset-requires-clause-small
 offset-requires-clause-small g c =
     let low = c.level.ensures.low in
     let small = pow_mono {i = c.level.result - 1} {j = 61} (omega arith) in
-    let e = c.half_side-half.ensures in omega arith
+    let e = c.half_side-half.ensures.half in omega arith
 
 pub offset-requires-2-clause-small : goal.offset-requires-2-clause-small
 offset-requires-2-clause-small g c =
     let low = c.level.ensures.low in
     let small = pow_mono {i = c.level.result - 1} {j = 61} (omega arith) in
-    let e = c.half_side-half.ensures in omega arith
+    let e = c.half_side-half.ensures.half in omega arith
 
 pub returns-clause-square : goal.returns-clause-square
 returns-clause-square g c =
-    let half : c.half_side-half.result ≡ half_side (g.S.Squares.content c.args.squares.now c.args.root) = c.half_side-half.ensures ∙ ap (λ l. 2 ^ (l - 1)) c.level.ensures.level in
+    let half : c.half_side-half.result ≡ half_side (g.S.Squares.content c.args.squares.now c.args.root) = c.half_side-half.ensures.half ∙ ap (λ l. 2 ^ (l - 1)) c.level.ensures.level in
     let ex : pos c.offset.result ≡ c.args.x +ℤ pos c.half_side-half.result = omega (arith, ints, c.offset.ensures, c.ranges.x) in
     let ey : pos c.offset-2.result ≡ c.args.y +ℤ pos c.half_side-half.result = omega (arith, ints, c.offset-2.ensures, c.ranges.y) in
     if_ok_map c.set_span.result
