@@ -15,6 +15,29 @@ pub data InQuarter (a b c d : Tree) (half i j : ℕ) : Type 0 where
   in_sw : (n : ℕ) → j ≡ half + n → IsNonzeroAt c i n → InQuarter a b c d half i j
   in_se : (m n : ℕ) → i ≡ half + m → j ≡ half + n → IsNonzeroAt d m n → InQuarter a b c d half i j
 
+-- the state of a place in each quarter
+module _ (a b c d : Tree) (full : IsFull (quad a b c d)) where
+  pub state_nw : (i j : ℕ) → i < 2 ^ depth a → j < 2 ^ depth a → state_at (quad a b c d) i j ≡ state_at a i j
+  state_nw i j li lj = at_nw a b c d i j (grind arith) (grind arith)
+
+  pub state_ne : (i m j : ℕ) → i ≡ 2 ^ depth a + m → j < 2 ^ depth b → state_at (quad a b c d) i j ≡ state_at b m j
+  state_ne i m j e lj =
+      let s = ap (λ k. 2 ^ k) full.4 in
+      let back : i - 2 ^ depth a ≡ m = omega arith in
+      at_ne a b c d i j (grind arith) (grind arith) ∙ ap (λ z. state_at b z j) back
+
+  pub state_sw : (i j n : ℕ) → j ≡ 2 ^ depth a + n → i < 2 ^ depth c → state_at (quad a b c d) i j ≡ state_at c i n
+  state_sw i j n e li =
+      let s = ap (λ k. 2 ^ k) full.5 in
+      let back : j - 2 ^ depth a ≡ n = omega arith in
+      at_sw a b c d i j (grind arith) (grind arith) ∙ ap (λ z. state_at c i z) back
+
+  pub state_se : (i m j n : ℕ) → i ≡ 2 ^ depth a + m → j ≡ 2 ^ depth a + n → state_at (quad a b c d) i j ≡ state_at d m n
+  state_se i m j n e f =
+      let back_i : i - 2 ^ depth a ≡ m = omega arith in
+      let back_j : j - 2 ^ depth a ≡ n = omega arith in
+      at_se a b c d i j (grind arith) (grind arith) ∙ (λ z. state_at d (back_i z) (back_j z))
+
 module _ (a b c d : Tree) (full : IsFull (quad a b c d)) where
   half : ℕ
   half = 2 ^ depth a

@@ -5,3 +5,4 @@ pub mod StoreLaws
 pub mod Cells
 pub mod Span
 pub mod Boxes
+pub mod Bands
