@@ -1,25 +1,16 @@
 -- The cells of a band are its nonzero cells, row by row.
-use Rattle.std.proofs.Common.{◌≡◌, ◌≢◌, ◌==◌, ℕ, zero, suc, ◌+◌, ◌-◌, ◌^◌, ◌≤◌, ◌<◌, Bool, true, false, ◌⊎◌, inl, inr, ℤ, pos, neg_ℤ, ◌+ℤ◌, ◌-ℤ◌, ◌≤ℤ◌, ◌<ℤ◌, List, [], ◌∷◌, ◌++◌, map, length, length-append, Contains, refl, sym, ◌∙◌, ap, subst, arith, true≢false, add-one}
+use Rattle.std.proofs.Common.{◌≡◌, ◌==◌, ℕ, zero, suc, ◌+◌, ◌-◌, ◌^◌, ◌≤◌, Bool, true, false, ◌⊎◌, inl, inr, ℤ, pos, ◌+ℤ◌, ◌≤ℤ◌, List, [], ◌∷◌, ◌++◌, refl, sym, ◌∙◌, ap, subst, arith, true≢false}
 use Rattle.std.specs.Prelude.{if◌then◌else◌}
-use Rattle.std.specs.List.{flat_map, AllPairs}
 use Rattle.std.proofs.lemmas.Int.{ints}
 use Rattle.std.proofs.lemmas.List.{append_assoc}
 use Rattle.life_base.specs.declared.cell.Cell.{Cell}
 use Rattle.life_base.specs.Tree.{Tree, point, quad, depth, state_at, is_blank_tree, IsFull}
-use Rattle.life_quad.specs.Cells.{IsBefore, population}
 use Rattle.life_quad.specs.Boxes.{IsNonzeroAt}
-use Rattle.life_quad.specs.Bands.{Piece, kept, northern, southern, upper, lower, row_cells, band_cells}
-use Rattle.life_quad.proofs.NonzeroLemmas.{InQuarter, in_nw, in_ne, in_sw, in_se, quarter_of, from_quarter, others_have_one, blank_has_none, double, state_nw, state_ne, state_sw, state_se}
-use Rattle.life_quad.proofs.CountLemmas.{population-blank}
+use Rattle.life_quad.specs.Bands.{Piece, kept, northern, southern, upper, lower, row_cells, band_cells, IsBand, InBand}
+use Rattle.life_quad.proofs.NonzeroLemmas.{InQuarter, in_nw, in_ne, in_sw, in_se, quarter_of, from_quarter, blank_has_none, double, state_nw, state_ne, state_sw, state_se}
 
 abbrev piece : Tree → ℤ → Piece
 piece t column = record { square = t; column = column }
-
--- full squares of one level that aren't blank, none of them west of a column or of the end of the one before it
-abbrev pub IsBand : ℕ → ℤ → List Piece → Type 0
-IsBand k west [] = Unit
-IsBand k west (p ∷ band) =
-    IsFull p.square × (depth p.square ≡ k) × (is_blank_tree p.square ≡ false) × (west ≤ℤ p.column) × IsBand k (p.column +ℤ pos (2 ^ k)) band
 
 IsBand-west : (k : ℕ) (west other : ℤ) (band : List Piece) → other ≤ℤ west → IsBand k west band → IsBand k other band
 IsBand-west k west other [] le h = tt
@@ -40,7 +31,7 @@ two_kept k west a b column band fa da fb db le h =
     let twice = double k in
     let end : column +ℤ pos (2 ^ suc k) ≡ (column +ℤ pos (2 ^ k)) +ℤ pos (2 ^ k) = omega (arith, ints) in
     subst (IsBand k west) (sym (append_assoc (kept a column) (kept b (column +ℤ pos (2 ^ k))) band))
-      (IsBand-kept k west a column _ fa da le (IsBand-kept k _ b (column +ℤ pos (2 ^ k)) band fb db (omega (arith, ints)) (subst (λ z. IsBand k z band) end h)))
+    (IsBand-kept k west a column _ fa da le (IsBand-kept k _ b (column +ℤ pos (2 ^ k)) band fb db (omega (arith, ints)) (subst (λ z. IsBand k z band) end h)))
 
 upper_step : (k : ℕ) (west : ℤ) (t : Tree) (column : ℤ) (rest : List Piece) → IsFull t → depth t ≡ suc k → west ≤ℤ column
     → IsBand k (column +ℤ pos (2 ^ suc k)) rest → IsBand k west (northern (2 ^ k) t column ++ rest)
@@ -144,15 +135,23 @@ northern_from k top (quad a b d g) column c f e h = by (OnBand-cases top (kept a
     by (inl o) =
         let q = kept_from top a column c o in
         record {
-          i = q.i; j = q.j; nonzero = from_quarter a b d g f q.i q.j (in_nw q.nonzero); x = q.x; y = q.y;
-          state = state_nw a b d g f _ _ q.nonzero.column q.nonzero.row ∙ q.state
+          i = q.i;
+          j = q.j;
+          nonzero = from_quarter a b d g f q.i q.j (in_nw q.nonzero);
+          x = q.x;
+          y = q.y;
+          state = state_nw a b d g f _ _ q.nonzero.column q.nonzero.row ∙ q.state;
         }
     by (inr o) =
         let q = kept_from top b (column +ℤ pos (2 ^ k)) c o in
         let x = q.x in
         record {
-          i = 2 ^ depth a + q.i; j = q.j; nonzero = from_quarter a b d g f _ q.j (in_ne q.i refl q.nonzero); x = omega (arith, ints, x, half); y = q.y;
-          state = state_ne a b d g f _ q.i _ refl q.nonzero.row ∙ q.state
+          i = 2 ^ depth a + q.i;
+          j = q.j;
+          nonzero = from_quarter a b d g f _ q.j (in_ne q.i refl q.nonzero);
+          x = omega (arith, ints, x, half);
+          y = q.y;
+          state = state_ne a b d g f _ q.i _ refl q.nonzero.row ∙ q.state;
         }
 
 southern_from : (k : ℕ) (top : ℤ) (t : Tree) (column : ℤ) (c : Cell) → IsFull t → depth t ≡ suc k → OnBand (top +ℤ pos (2 ^ k)) (southern (2 ^ k) t column) c → IsCellOf top (piece t column) c
@@ -167,17 +166,24 @@ southern_from k top (quad a b d g) column c f e h = by (OnBand-cases _ (kept d c
         let q = kept_from _ d column c o in
         let y = q.y in
         record {
-          i = q.i; j = 2 ^ depth a + q.j; nonzero = from_quarter a b d g f q.i _ (in_sw q.j refl q.nonzero); x = q.x; y = omega (arith, ints, y, half);
-          state = state_sw a b d g f _ _ q.j refl q.nonzero.column ∙ q.state
+          i = q.i;
+          j = 2 ^ depth a + q.j;
+          nonzero = from_quarter a b d g f q.i _ (in_sw q.j refl q.nonzero);
+          x = q.x;
+          y = omega (arith, ints, y, half);
+          state = state_sw a b d g f _ _ q.j refl q.nonzero.column ∙ q.state;
         }
     by (inr o) =
         let q = kept_from _ g (column +ℤ pos (2 ^ k)) c o in
         let x = q.x in
         let y = q.y in
         record {
-          i = 2 ^ depth a + q.i; j = 2 ^ depth a + q.j; nonzero = from_quarter a b d g f _ _ (in_se q.i q.j refl refl q.nonzero);
-          x = omega (arith, ints, x, half); y = omega (arith, ints, y, half);
-          state = state_se a b d g f _ q.i _ q.j refl refl ∙ q.state
+          i = 2 ^ depth a + q.i;
+          j = 2 ^ depth a + q.j;
+          nonzero = from_quarter a b d g f _ _ (in_se q.i q.j refl refl q.nonzero);
+          x = omega (arith, ints, x, half);
+          y = omega (arith, ints, y, half);
+          state = state_se a b d g f _ q.i _ q.j refl refl ∙ q.state;
         }
 
 -- a cell of a band is one of its upper or of its lower half
@@ -257,8 +263,12 @@ cell_of_only : (top : ℤ) (t : Tree) (column : ℤ) (c : Cell) → IsFull t →
 cell_of_only top (quad a b u v) column c f d n h = absurd (omega arith)
 cell_of_only top (point s) column c f d n h =
     record {
-      i = 0; j = 0; nonzero = record { column = omega arith; row = omega arith; state = λ e. true≢false (sym (ap (λ n. n == 0) e) ∙ n) };
-      x = let e = ap (λ c. c.x) h in omega (arith, ints, e); y = let e = ap (λ c. c.y) h in omega (arith, ints, e); state = ap (λ c. c.state) h
+      i = 0;
+      j = 0;
+      nonzero = record { column = omega arith; row = omega arith; state = λ e. true≢false (sym (ap (λ n. n == 0) e) ∙ n) };
+      x = let e = ap (λ c. c.x) h in omega (arith, ints, e);
+      y = let e = ap (λ c. c.y) h in omega (arith, ints, e);
+      state = ap (λ c. c.state) h;
     }
 
 row_has : (top west : ℤ) (band : List Piece) (c : Cell) → IsBand 0 west band → OnBand top band c → Has (row_cells top band) c
@@ -291,3 +301,27 @@ band_from (suc k) top west band c w h =
         → (Has (band_cells k (top +ℤ pos (2 ^ k)) (lower (2 ^ k) band)) c → OnBand (top +ℤ pos (2 ^ k)) (lower (2 ^ k) band) c) → OnBand top band c
     by (inl o) f g = upper_from k top west band c w (f o)
     by (inr o) f g = lower_from k top west band c w (g o)
+
+-- a band without squares has no cells
+pub no_cells : (k : ℕ) (top : ℤ) → band_cells k top [] ≡ []
+no_cells zero top = refl
+no_cells (suc k) top = (λ i. no_cells k top i ++ no_cells k (top +ℤ pos (2 ^ k)) i)
+
+-- the cells of a band by those of its halves
+pub band_step : (level : ℕ) (top middle : ℤ) (band : List Piece) → 1 ≤ level → middle ≡ top +ℤ pos (2 ^ (level - 1))
+    → band_cells level top band ≡ band_cells (level - 1) top (upper (2 ^ (level - 1)) band) ++ band_cells (level - 1) middle (lower (2 ^ (level - 1)) band)
+band_step zero top middle band low e = absurd (omega arith)
+band_step (suc k) top middle band low e =
+    let same : k ≡ suc k - 1 = omega arith in
+    (λ i. band_cells (same i) top (upper (2 ^ same i) band) ++ band_cells (same i) (top +ℤ pos (2 ^ same i)) (lower (2 ^ same i) band))
+    ∙ ap (λ m. band_cells (suc k - 1) top (upper (2 ^ (suc k - 1)) band) ++ band_cells (suc k - 1) m (lower (2 ^ (suc k - 1)) band)) (sym e)
+
+pub InBand-upper : (level : ℕ) (band : List Piece) → 1 ≤ level → InBand level band → InBand (level - 1) (upper (2 ^ (level - 1)) band)
+InBand-upper zero band low h = absurd (omega arith)
+InBand-upper (suc k) band low (west, h) =
+    let same : k ≡ suc k - 1 = omega arith in (west, subst (λ n. IsBand n west (upper (2 ^ n) band)) same (IsBand-upper k west band h))
+
+pub InBand-lower : (level : ℕ) (band : List Piece) → 1 ≤ level → InBand level band → InBand (level - 1) (lower (2 ^ (level - 1)) band)
+InBand-lower zero band low h = absurd (omega arith)
+InBand-lower (suc k) band low (west, h) =
+    let same : k ≡ suc k - 1 = omega arith in (west, subst (λ n. IsBand n west (lower (2 ^ n) band)) same (IsBand-lower k west band h))

@@ -1,19 +1,25 @@
 -- The list of the cells of a square.
-use Rattle.std.proofs.Common.{◌≡◌, ◌≢◌, ◌==◌, ℕ, zero, suc, ◌+◌, ◌-◌, ◌^◌, ◌≤◌, ◌<◌, Bool, true, false, ◌&&◌, ◌⊎◌, inl, inr, ℤ, pos, neg_ℤ, ◌+ℤ◌, ◌-ℤ◌, ◌≤ℤ◌, ◌<ℤ◌, List, [], ◌∷◌, ◌++◌, map, length, length-append, Contains, get_or, refl, sym, ◌∙◌, ap, subst, arith, true≢false, add-one}
+use Rattle.std.proofs.Common.{◌≡◌, ◌≢◌, ℕ, zero, suc, ◌+◌, ◌-◌, ◌^◌, ◌≤◌, ◌<◌, Bool, true, false, ◌&&◌, ◌⊎◌, inl, inr, ℤ, pos, neg_ℤ, ◌+ℤ◌, ◌≤ℤ◌, ◌<ℤ◌, List, [], ◌∷◌, ◌++◌, length, length-append, Contains, get_or, refl, sym, ◌∙◌, ap, subst, arith}
 use Rattle.std.specs.Prelude.{if◌then◌else◌}
-use Rattle.std.specs.List.{flat_map, All, AllPairs}
+use Rattle.std.specs.List.{AllPairs}
 use Rattle.std.proofs.lemmas.Int.{ints}
+use Rattle.std.proofs.lemmas.List.{append_assoc, append-nil}
 use Rattle.std.proofs.lemmas.List.Kept.{AllPairs-cons}
 use Rattle.std.proofs.lemmas.List.Elements.{Contains-get_or}
 use Rattle.life_base.specs.declared.cell.Cell.{Cell}
 use Rattle.life_base.specs.Tree.{Tree, point, quad, depth, state_at, is_blank_tree, IsFull}
 use Rattle.life_quad.specs.Cells.{IsBefore, IsCellList, population, cell, half_side}
-use Rattle.life_quad.specs.Boxes.{IsNonzeroAt}
-use Rattle.life_quad.specs.Bands.{Piece, kept, northern, southern, upper, lower, row_cells, band_cells}
+use Rattle.life_quad.specs.Bands.{Piece, kept, northern, southern, upper, lower, row_cells, band_cells, IsBand, InBand, pieces}
+use Rattle.life_quad.specs.declared.id.Id.{Id}
+use Rattle.life_quad.specs.declared.listing.Placed.{Placed}
+use Rattle.life_base.specs.declared.kind.Kind.{Kind}
+use Rattle.life_base.specs.declared.kind.Kind.TheVariants.{TooManyCells}
+use Rattle.std.specs.Prelude.{Result, IfErr}
+use Rattle.life_quad.proofs.MoveLemmas.{if_err_map}
 use Rattle.life_quad.proofs.RunLemmas.{side}
 use Rattle.life_quad.proofs.CountLemmas.{population-blank}
-use Rattle.life_quad.proofs.PlaneLemmas.{IsPlace, place_of, nonzero_on_plane, cell_at}
-use Rattle.life_quad.proofs.BandLemmas.{IsBand, IsBand-upper, IsBand-lower, IsCellOf, OnBand, Has, Has-cases, Has-append_left, Has-append_right, band_from, band_has, kept_has, kept_from}
+use Rattle.life_quad.proofs.PlaneLemmas.{IsPlace, place_of, cell_at}
+use Rattle.life_quad.proofs.BandLemmas.{IsBand-upper, IsBand-lower, IsCellOf, OnBand, Has, Has-cases, band_from, band_has, kept_has, kept_from, no_cells, band_step}
 
 -- each cell is before the later ones
 abbrev pub InOrder : List Cell → Type 0
@@ -59,12 +65,12 @@ pub band_in_order : (k : ℕ) (top west : ℤ) (band : List Piece) → IsBand k 
 band_in_order zero top west band w = row_in_order top west band w
 band_in_order (suc k) top west band w =
     InOrder-append _ _ (band_in_order k top west (upper (2 ^ k) band) (IsBand-upper k west band w)) (band_in_order k (top +ℤ pos (2 ^ k)) west (lower (2 ^ k) band) (IsBand-lower k west band w))
-      (λ c d hc hd.
-      let a = row_of k top west _ c (IsBand-upper k west band w) (band_from k top west _ c (IsBand-upper k west band w) hc) in
-      let b = row_of k (top +ℤ pos (2 ^ k)) west _ d (IsBand-lower k west band w) (band_from k (top +ℤ pos (2 ^ k)) west _ d (IsBand-lower k west band w) hd) in
-      let ya = a.1 in
-      let yb = b.0 in
-      inl (omega (arith, ints)))
+    (λ c d hc hd.
+    let a = row_of k top west _ c (IsBand-upper k west band w) (band_from k top west _ c (IsBand-upper k west band w) hc) in
+    let b = row_of k (top +ℤ pos (2 ^ k)) west _ d (IsBand-lower k west band w) (band_from k (top +ℤ pos (2 ^ k)) west _ d (IsBand-lower k west band w) hd) in
+    let ya = a.1 in
+    let yb = b.0 in
+    inl (omega (arith, ints)))
 
 -- how many nonzero cells the squares of a band have
 abbrev pub band_population : List Piece → ℕ
@@ -165,7 +171,7 @@ AllPairs-InOrder (c ∷ cells) h = AllPairs-cons IsBefore c cells (λ k d lt. h.
 abbrev pub whole : Tree → List Piece
 whole t = kept t (neg_ℤ (pos (half_side t)))
 
-IsBand-whole : (t : Tree) → IsFull t → IsBand (depth t) (neg_ℤ (pos (half_side t))) (whole t)
+pub IsBand-whole : (t : Tree) → IsFull t → IsBand (depth t) (neg_ℤ (pos (half_side t))) (whole t)
 IsBand-whole t full = by (is_blank_tree t) refl
   where
     by : (b : Bool) → is_blank_tree t ≡ b → IsBand (depth t) (neg_ℤ (pos (half_side t))) (if b then [] else record { square = t; column = neg_ℤ (pos (half_side t)) } ∷ [])
@@ -183,9 +189,6 @@ pub square_length : (t : Tree) → IsFull t → length (square_cells t) ≡ popu
 square_length t full = band_length _ _ _ _ (IsBand-whole t full) ∙ whole_population t
 
 module _ (t : Tree) (full : IsFull t) (high : 1 ≤ depth t) where
-  west : ℤ
-  west = neg_ℤ (pos (half_side t))
-
   on_plane : (c : Cell) → IsCellOf (neg_ℤ (pos (half_side t))) (record { square = t; column = neg_ℤ (pos (half_side t)) }) c → (cell t c.x c.y ≡ c.state) × (c.state ≢ 0)
   on_plane c h =
       let x = h.x in
@@ -199,8 +202,12 @@ module _ (t : Tree) (full : IsFull t) (high : 1 ≤ depth t) where
       let column = p.2.column in
       let row = p.2.row in
       record {
-        i = p.0; j = p.1; nonzero = p.3; x = omega (arith, ints, column); y = omega (arith, ints, row);
-        state = sym (cell_at t c.x c.y p.0 p.1 high p.2 p.3.column p.3.row) ∙ e
+        i = p.0;
+        j = p.1;
+        nonzero = p.3;
+        x = omega (arith, ints, column);
+        y = omega (arith, ints, row);
+        state = sym (cell_at t c.x c.y p.0 p.1 high p.2 p.3.column p.3.row) ∙ e;
       }
 
   on_whole : (c : Cell) → IsCellOf (neg_ℤ (pos (half_side t))) (record { square = t; column = neg_ℤ (pos (half_side t)) }) c → OnBand (neg_ℤ (pos (half_side t))) (whole t) c
@@ -242,9 +249,11 @@ same_lists (x ∷ xs) (y ∷ ys) hx hy f g =
     head (inl e) q = sym e
     head (inr p) (inl e) = e
     head (inr p) (inr q) = absurd (not_before x y (hx.0 y q) (hy.0 x p))
+
     over : x ≡ y → (c : Cell) → Has xs c → (y ≡ c) ⊎ Has ys c → Has ys c
     over e c h (inl s) = let b = subst (IsBefore x) (sym (e ∙ s)) (hx.0 c h) in absurd (not_before x x b b)
     over e c h (inr k) = k
+
     back : x ≡ y → (c : Cell) → Has ys c → (x ≡ c) ⊎ Has xs c → Has xs c
     back e c h (inl s) = let b = subst (IsBefore y) (sym (sym e ∙ s)) (hy.0 c h) in absurd (not_before y y b b)
     back e c h (inr k) = k
@@ -254,8 +263,62 @@ pub one_list : (t : Tree) (cells : List Cell) → IsFull t → 1 ≤ depth t →
 one_list t cells full high h =
     let own = IsCellList-square t full high in
     same_lists cells (square_cells t) (InOrder-from _ h.in_order) (InOrder-from _ own.in_order)
-      (λ c k. let s = h.true_cells c (Contains-Has _ c k) in Has-Contains _ c (own.all_cells c s.0 s.1))
-      (λ c k. let s = own.true_cells c (Contains-Has _ c k) in Has-Contains _ c (h.all_cells c s.0 s.1))
+    (λ c k. let s = h.true_cells c (Contains-Has _ c k) in Has-Contains _ c (own.all_cells c s.0 s.1))
+    (λ c k. let s = own.true_cells c (Contains-Has _ c k) in Has-Contains _ c (h.all_cells c s.0 s.1))
 
 pub list_length : (t : Tree) (cells : List Cell) → IsFull t → 1 ≤ depth t → IsCellList t cells → length cells ≡ population t
 list_length t cells full high h = ap length (one_list t cells full high h) ∙ square_length t full
+
+-- a band has at least as many cells as squares
+pub band_least : (k : ℕ) (top : ℤ) (band : List Piece) → InBand k band → length band ≤ length (band_cells k top band)
+band_least k top band (west, w) = let l = band_length k top west band w in let m = band_length_least k west band w in omega (arith, l, m)
+
+-- a band without squares adds nothing to a list
+pub append_none : (cells : List Cell) (content : Id → Tree) (level : ℕ) (row : ℤ) (band : List Placed) → length band ≡ 0 → cells ≡ cells ++ band_cells level row (pieces content band)
+append_none cells content level row [] e = sym (append-nil cells) ∙ ap (λ more. cells ++ more) (sym (no_cells level row))
+append_none cells content level row (p ∷ band) e = absurd (omega arith)
+
+pub halves_side : (level : ℕ) → 1 ≤ level → 2 ^ level ≡ 2 ^ (level - 1) + 2 ^ (level - 1)
+halves_side level low = sym (side level low)
+
+-- the cells of a band by those of its halves
+module _ (level : ℕ) (row first middle : ℤ) (band north south : List Piece) (low : 1 ≤ level) (same : first ≡ row) (place : middle ≡ row +ℤ pos (2 ^ (level - 1)))
+    (upper_is : north ≡ upper (2 ^ (level - 1)) band) (lower_is : south ≡ lower (2 ^ (level - 1)) band) where
+  halves_are : band_cells level row band ≡ band_cells (level - 1) first north ++ band_cells (level - 1) middle south
+  halves_are = band_step level row middle band low place ∙ (λ i. band_cells (level - 1) (sym same i) (sym upper_is i) ++ band_cells (level - 1) middle (sym lower_is i))
+
+  pub both_halves : (old list new : List Cell) → list ≡ old ++ band_cells (level - 1) first north → new ≡ list ++ band_cells (level - 1) middle south → new ≡ old ++ band_cells level row band
+  both_halves old list new e f =
+      f ∙ ap (λ l. l ++ band_cells (level - 1) middle south) e ∙ append_assoc old (band_cells (level - 1) first north) (band_cells (level - 1) middle south) ∙ ap (λ l. old ++ l) (sym halves_are)
+
+  both_lengths : length (band_cells level row band) ≡ length (band_cells (level - 1) first north) + length (band_cells (level - 1) middle south)
+  both_lengths = ap length halves_are ∙ length-append (band_cells (level - 1) first north) (band_cells (level - 1) middle south)
+
+  -- more cells in a half than a limit leaves room for are more in the whole
+  pub more_in_first : {T : Type 0} (r : Result T Kind) (old limit : ℕ) → IfErr r (λ e. e ≡ TooManyCells → limit < old + length (band_cells (level - 1) first north))
+      → IfErr r (λ e. e ≡ TooManyCells → limit < old + length (band_cells level row band))
+  more_in_first r old limit h = if_err_map r (λ e f is. let n = f is in omega (arith, n, both_lengths)) h
+
+  pub more_in_second : {T : Type 0} (r : Result T Kind) (old list : List Cell) (limit : ℕ) → list ≡ old ++ band_cells (level - 1) first north
+      → IfErr r (λ e. e ≡ TooManyCells → limit < length list + length (band_cells (level - 1) middle south)) → IfErr r (λ e. e ≡ TooManyCells → limit < length old + length (band_cells level row band))
+  more_in_second r old list limit is h =
+      let l = ap length is ∙ length-append old (band_cells (level - 1) first north) in
+      if_err_map r (λ e f same. let n = f same in omega (arith, n, l, both_lengths)) h
+
+-- a band of the one square, and its cells
+pub whole_band : (content : Id → Tree) (band old : List Placed) (t : Tree) (west : ℤ) → old ≡ [] → west ≡ neg_ℤ (pos (half_side t)) → pieces content band ≡ pieces content old ++ kept t west
+    → pieces content band ≡ whole t
+whole_band content band old t west none w e = e ∙ (λ i. pieces content (none i) ++ kept t (w i))
+
+pub whole_list : (t : Tree) (level : ℕ) (row : ℤ) (band : List Piece) (old list : List Cell) → level ≡ depth t → row ≡ neg_ℤ (pos (half_side t)) → band ≡ whole t → old ≡ []
+    → list ≡ old ++ band_cells level row band → list ≡ square_cells t
+whole_list t level row band old list l r b none e = e ∙ (λ i. none i ++ band_cells (l i) (r i) (b i))
+
+pub whole_in_band : (t : Tree) (level : ℕ) (band : List Piece) → IsFull t → level ≡ depth t → band ≡ whole t → InBand level band
+whole_in_band t level band full l b = subst (InBand level) (sym b) (subst (λ n. InBand n (whole t)) (sym l) (neg_ℤ (pos (half_side t)), IsBand-whole t full))
+
+pub more_in_square : {T : Type 0} (r : Result T Kind) (t : Tree) (old limit level : ℕ) (row : ℤ) (band : List Piece) → IsFull t → old ≡ 0 → level ≡ depth t → row ≡ neg_ℤ (pos (half_side t)) → band ≡ whole t
+    → IfErr r (λ e. e ≡ TooManyCells → limit < old + length (band_cells level row band)) → IfErr r (λ e. e ≡ TooManyCells → limit < population t)
+more_in_square r t old limit level row band full none l w b h =
+    let same : length (band_cells level row band) ≡ population t = (λ i. length (band_cells (l i) (w i) (b i))) ∙ square_length t full in
+    if_err_map r (λ e f is. let n = f is in omega (arith, n, same)) h

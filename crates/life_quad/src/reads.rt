@@ -13,7 +13,7 @@ use crate::extent::{Extent, join_quarters};
 use crate::moves::{Quarters, divide, is_blank_square};
 use crate::runs::half_side;
 use crate::{Bounds, Id, SharedSquares, Squares};
-use life_base::{Cell, Kind};
+use life_base::Kind;
 use std::alloc::Global;
 use std::collections::HashMap;
 
@@ -121,19 +121,4 @@ fn least_extent<S: Squares>(
         return Err(Kind::Memory);
     };
     Ok(Some(extent))
-}
-
-/// The cells with a state other than 0, row by row, unless there are more than `limit`.
-pub fn cells<S: Squares>(alloc: Global, squares: &S, id: Id, limit: u64) -> Result<Vec<Cell>, Kind>
-    requires known { S.knows squares.now id }
-    requires high { 1 ≤ depth (S.content squares.now id) }
-    ensures cells { IfOk result (λ v. IsCellList (S.content squares.now id) v.items) }
-    ensures few { IfOk result (λ v. length v.items ≤ limit) }
-    ensures many { result ≡ Err TooManyCells → limit < population_of (S.content squares.now id) }
-    ensures refusals { IfErr result (λ e. (e ≡ TooManyCells) ⊎ (e ≡ Memory)) }
-{
-    let _ = alloc;
-    let _ = limit;
-    let _ = squares.level(id);
-    Err(Kind::Memory)
 }
