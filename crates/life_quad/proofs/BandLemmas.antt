@@ -67,12 +67,12 @@ abbrev pub OnBand : ℤ → List Piece → Cell → Type 0
 OnBand top [] c = ⊥
 OnBand top (p ∷ band) c = IsCellOf top p c ⊎ OnBand top band c
 
-OnBand-append_left : (top : ℤ) (xs ys : List Piece) (c : Cell) → OnBand top xs c → OnBand top (xs ++ ys) c
+pub OnBand-append_left : (top : ℤ) (xs ys : List Piece) (c : Cell) → OnBand top xs c → OnBand top (xs ++ ys) c
 OnBand-append_left top [] ys c h = absurd h
 OnBand-append_left top (p ∷ xs) ys c (inl h) = inl h
 OnBand-append_left top (p ∷ xs) ys c (inr h) = inr (OnBand-append_left top xs ys c h)
 
-OnBand-append_right : (top : ℤ) (xs ys : List Piece) (c : Cell) → OnBand top ys c → OnBand top (xs ++ ys) c
+pub OnBand-append_right : (top : ℤ) (xs ys : List Piece) (c : Cell) → OnBand top ys c → OnBand top (xs ++ ys) c
 OnBand-append_right top [] ys c h = h
 OnBand-append_right top (p ∷ xs) ys c h = inr (OnBand-append_right top xs ys c h)
 
@@ -102,7 +102,7 @@ kept_from top t column c h = by (is_blank_tree t) h
     by false (inr g) = absurd g
 
 -- a cell of a square is one of a northern or of a southern quarter
-quarters_have : (k : ℕ) (top : ℤ) (t : Tree) (column : ℤ) (c : Cell) → IsFull t → depth t ≡ suc k → IsCellOf top (piece t column) c
+pub quarters_have : (k : ℕ) (top : ℤ) (t : Tree) (column : ℤ) (c : Cell) → IsFull t → depth t ≡ suc k → IsCellOf top (piece t column) c
     → OnBand top (northern (2 ^ k) t column) c ⊎ OnBand (top +ℤ pos (2 ^ k)) (southern (2 ^ k) t column) c
 quarters_have k top (point s) column c f e h = absurd (omega arith)
 quarters_have k top (quad a b d g) column c f e h = by (quarter_of a b d g f h.i h.j h.nonzero)
@@ -124,7 +124,7 @@ quarters_have k top (quad a b d g) column c f e h = by (quarter_of a b d g f h.i
     by (in_se m o p q n) =
         inr (OnBand-append_right _ (kept d column) _ c (kept_has _ g _ c f.3 (record { i = m; j = o; nonzero = n; x = omega (arith, ints, x, p, half); y = omega (arith, ints, y, q, half); state = sym (state_se a b d g f _ _ _ _ p q) ∙ h.state })))
 
-northern_from : (k : ℕ) (top : ℤ) (t : Tree) (column : ℤ) (c : Cell) → IsFull t → depth t ≡ suc k → OnBand top (northern (2 ^ k) t column) c → IsCellOf top (piece t column) c
+pub northern_from : (k : ℕ) (top : ℤ) (t : Tree) (column : ℤ) (c : Cell) → IsFull t → depth t ≡ suc k → OnBand top (northern (2 ^ k) t column) c → IsCellOf top (piece t column) c
 northern_from k top (point s) column c f e h = absurd h
 northern_from k top (quad a b d g) column c f e h = by (OnBand-cases top (kept a column) _ c h)
   where
@@ -154,7 +154,7 @@ northern_from k top (quad a b d g) column c f e h = by (OnBand-cases top (kept a
           state = state_ne a b d g f _ q.i _ refl q.nonzero.row ∙ q.state;
         }
 
-southern_from : (k : ℕ) (top : ℤ) (t : Tree) (column : ℤ) (c : Cell) → IsFull t → depth t ≡ suc k → OnBand (top +ℤ pos (2 ^ k)) (southern (2 ^ k) t column) c → IsCellOf top (piece t column) c
+pub southern_from : (k : ℕ) (top : ℤ) (t : Tree) (column : ℤ) (c : Cell) → IsFull t → depth t ≡ suc k → OnBand (top +ℤ pos (2 ^ k)) (southern (2 ^ k) t column) c → IsCellOf top (piece t column) c
 southern_from k top (point s) column c f e h = absurd h
 southern_from k top (quad a b d g) column c f e h = by (OnBand-cases _ (kept d column) _ c h)
   where

@@ -189,14 +189,14 @@ pub square_length : (t : Tree) → IsFull t → length (square_cells t) ≡ popu
 square_length t full = band_length _ _ _ _ (IsBand-whole t full) ∙ whole_population t
 
 module _ (t : Tree) (full : IsFull t) (high : 1 ≤ depth t) where
-  on_plane : (c : Cell) → IsCellOf (neg_ℤ (pos (half_side t))) (record { square = t; column = neg_ℤ (pos (half_side t)) }) c → (cell t c.x c.y ≡ c.state) × (c.state ≢ 0)
+  pub on_plane : (c : Cell) → IsCellOf (neg_ℤ (pos (half_side t))) (record { square = t; column = neg_ℤ (pos (half_side t)) }) c → (cell t c.x c.y ≡ c.state) × (c.state ≢ 0)
   on_plane c h =
       let x = h.x in
       let y = h.y in
       let place : IsPlace (half_side t) c.x c.y h.i h.j = record { column = omega (arith, ints, x); row = omega (arith, ints, y) } in
       (cell_at t c.x c.y h.i h.j high place h.nonzero.column h.nonzero.row ∙ h.state, λ e. h.nonzero.state (h.state ∙ e))
 
-  from_plane : (c : Cell) → cell t c.x c.y ≡ c.state → c.state ≢ 0 → IsCellOf (neg_ℤ (pos (half_side t))) (record { square = t; column = neg_ℤ (pos (half_side t)) }) c
+  pub from_plane : (c : Cell) → cell t c.x c.y ≡ c.state → c.state ≢ 0 → IsCellOf (neg_ℤ (pos (half_side t))) (record { square = t; column = neg_ℤ (pos (half_side t)) }) c
   from_plane c e nonzero =
       let p = place_of t c.x c.y high (λ z. nonzero (sym e ∙ z)) in
       let column = p.2.column in

@@ -6,3 +6,4 @@ pub mod Cells
 pub mod Span
 pub mod Boxes
 pub mod Bands
+pub mod Laws

@@ -3,6 +3,7 @@
 
 mod extent;
 mod id;
+pub mod laws;
 mod level;
 mod listing;
 mod moves;
