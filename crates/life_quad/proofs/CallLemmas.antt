@@ -352,3 +352,18 @@ fresh_id old new n id h i (k, e, at) absent known = by i
         let here : get_or new.nodes k n ≡ n = get_or_from_slice_get new.nodes k n n at in
         let there : get_or new.nodes k n ≡ get_or old.nodes k n = ap (λ ns. get_or ns k n) same ∙ get_or_append_left old.nodes (n ∷ []) n k below in
         a (k, below, sym there ∙ here)
+
+-- a held square isn't blank, has level 1 or more and an Id
+pub held-only : (s : Nodes) → IsSound s → (t : Tree) → Contains (held s) t
+    → (is_blank_tree t ≡ false) × (0 < depth t) × ((id : Id) × Knows s id × (square_of (held s) id ≡ t))
+held-only s h t (k, lt, e) =
+    let any : Node = record { level = 0; nw = id_of 0; ne = id_of 0; sw = id_of 0; se = id_of 0 } in
+    let below : k < length s.nodes = omega (arith, lt, length-squares s.nodes) in
+    let m : Node = get_or s.nodes k any in
+    let at : slice_get s.nodes k ≡ Some m = slice_get-get_or s.nodes k any below in
+    let same : node_square (squares s.nodes) m ≡ t = sym (get_or_from_slice_get (squares s.nodes) k _ t (h.square k m at)) ∙ e in
+    let deep : 0 < depth (node_square (squares s.nodes) m) = omega arith in (
+      ap is_blank_tree (sym same) ∙ (h.entries k m at).not_blank,
+      subst (λ z. 0 < depth z) same deep,
+      (id_of (512 + k), knows_id s m (id_of (512 + k)) h (k, refl, at), square_of-node s k m (id_of (512 + k)) h at refl ∙ same),
+    )

@@ -5,15 +5,11 @@ ghost use Rattle.life_base.specs.Tree.{is_blank_tree};
 ghost use Rattle.life_quad.specs.StoreLaws.{full_content, low_content};
 ghost use Rattle.life_quad.specs.Store.{squares, square_of, held, Knows, IsNode, IsSound, IsIdOf};
 
-use crate::id::{Node, are_blank};
+use crate::id::{CELLS, FIRST_NODE, Node, are_blank};
 use crate::{Id, Squares};
 use life_base::{Kind, State};
 use std::alloc::Global;
 use std::marker::Model;
-
-const CELLS: u64 = 256;
-
-const FIRST_NODE: u64 = 512;
 
 /// Squares by their nodes, a node for each nonblank join.
 #[derive(Drop)]

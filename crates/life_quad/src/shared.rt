@@ -2,18 +2,14 @@
 ghost use Rattle.std.specs.Prelude.{◌≡◌, ◌≢◌, AllPairs, ℕ, ◌<◌, ◌≤◌, ◌^◌, [], length, Contains, false, ◌↔◌, ◌⊎◌, Err, OnOk, OnErr, IfOk, IfErr};
 ghost use Rattle.life_base.specs.declared.kind.Kind.TheVariants.{Full, Memory};
 ghost use Rattle.life_quad.specs.declared.id.Id.{Id as IdValue};
-ghost use Rattle.life_base.specs.Tree.{depth, is_blank_tree};
+ghost use Rattle.life_base.specs.Tree.{Tree, depth, is_blank_tree};
 
-use crate::id::{Node, are_blank};
+use crate::id::{CELLS, FIRST_NODE, Node, are_blank};
 use crate::{Id, SharedSquares, Squares};
 use indexmap::IndexSet;
 use life_base::{Kind, State};
 use std::alloc::Global;
 use std::marker::Model;
-
-const CELLS: u64 = 256;
-
-const FIRST_NODE: u64 = 512;
 
 /// Squares by their nodes, each nonblank square once.
 #[derive(Drop)]
@@ -48,11 +44,13 @@ impl Shared {
         }
     }
 
-    /// How many distinct nonblank squares of level 1 and up were joined.
+    /// How many distinct nonblank squares of level 1 and up were joined: none is counted twice, and each that has an Id is among
+    /// them.
     pub fn len(&self) -> u64
         ensures len { result ≡ length (held self.now) }
         ensures distinct { AllPairs ◌≢◌ (held self.now) }
         ensures all { (id : IdValue) → Knows self.now id → is_blank_tree (square_of (held self.now) id) ≡ false → 0 < depth (square_of (held self.now) id) → Contains (held self.now) (square_of (held self.now) id) }
+        ensures only { (t : Tree) → Contains (held self.now) t → (is_blank_tree t ≡ false) × (0 < depth t) × ((id : IdValue) × Knows self.now id × (square_of (held self.now) id ≡ t)) }
     {
         self.nodes.len() as u64
     }
