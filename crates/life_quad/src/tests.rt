@@ -140,23 +140,24 @@ fn one_cell<S: Squares>(alloc: Global, squares: &mut S) -> Result<Vec<Cell>, Kin
 
 #[test]
 fn cells_are_listed(rt: HostRuntime) -> Result<(), Fail> {
+    let west = Cell {
+        x: -4,
+        y: -2,
+        state: 1,
+    };
+    let east = Cell {
+        x: 3,
+        y: -2,
+        state: 7,
+    };
+    let middle = Cell {
+        x: 0,
+        y: 0,
+        state: 1,
+    };
     let mut squares = Shared::new(rt.alloc(), 1000);
     let list = two_cells(rt.alloc(), &mut squares, 2)?;
-    assert_eq!(rt;
-        list.as_slice(),
-        &[
-            Cell {
-                x: -4,
-                y: -2,
-                state: 1
-            },
-            Cell {
-                x: 3,
-                y: -2,
-                state: 7
-            }
-        ]
-    );
+    assert_eq!(rt; list.as_slice(), [west, east].as_slice());
     assert!(rt;
         matches!(
             two_cells(rt.alloc(), &mut squares, 1),
@@ -165,14 +166,7 @@ fn cells_are_listed(rt: HostRuntime) -> Result<(), Fail> {
     );
     let mut plain = Plain::new(rt.alloc(), 1000);
     let list = one_cell(rt.alloc(), &mut plain)?;
-    assert_eq!(rt;
-        list.as_slice(),
-        &[Cell {
-            x: 0,
-            y: 0,
-            state: 1
-        }]
-    );
+    assert_eq!(rt; list.as_slice(), [middle].as_slice());
     let mut small = Plain::new(rt.alloc(), 4);
     assert!(rt; matches!(one_cell(rt.alloc(), &mut small), Err(Kind::Full)));
     Ok(())
