@@ -1,18 +1,16 @@
 -- Growing and trimming keep the cells.
-use Rattle.std.proofs.Common.{◌≡◌, ◌≢◌, ◌==◌, ℕ, zero, suc, ◌+◌, ◌-◌, ◌^◌, ◌≤◌, ◌<◌, Bool, true, false, ◌&&◌, nat_lt, ◌⊎◌, inl, inr, ℤ, pos, neg_ℤ, ◌+ℤ◌, List, [], ◌∷◌, ◌++◌, refl, sym, ◌∙◌, ap, subst, arith, true≢false, ◌↔◌}
+use Rattle.std.proofs.Common.{◌≡◌, ◌≢◌, ℕ, zero, suc, ◌+◌, ◌^◌, ◌≤◌, ◌<◌, Bool, true, false, ◌&&◌, nat_lt, ◌⊎◌, inl, inr, ℤ, pos, neg_ℤ, ◌+ℤ◌, List, [], ◌∷◌, ◌++◌, refl, sym, ◌∙◌, ap, subst, arith}
 use Rattle.std.specs.List.{list_all}
 use Rattle.std.specs.Prelude.{if◌then◌else◌}
 use Rattle.std.proofs.lemmas.Int.{ints}
 use Rattle.life_base.specs.declared.cell.Cell.{Cell}
-use Rattle.life_base.specs.Tree.{Tree, point, quad, depth, blank, state_at, is_blank_tree, IsFull}
+use Rattle.life_base.specs.Tree.{Tree, point, quad, depth, state_at, is_blank_tree, IsFull}
 use Rattle.life_quad.specs.Moves.{outer, inner, can_trim, trimmed, trim_up_to, grown}
 use Rattle.life_quad.specs.Cells.{cell, half_side}
 use Rattle.life_quad.specs.Laws.{BlankByCells, EqualByCells, GrowingKeepsCells, TrimmingKeepsCells, TrimmingIgnoresGrowth}
-use Rattle.life_quad.specs.Boxes.{IsNonzeroAt}
-use Rattle.life_quad.specs.Bands.{Piece, kept, northern, southern}
+use Rattle.life_quad.specs.Bands.{Piece, kept}
 use Rattle.life_quad.specs.TreeLaws.{depth-blank, full-blank, is_blank-blank, and_left, and_right}
-use Rattle.life_quad.proofs.RunLemmas.{side}
-use Rattle.life_quad.proofs.MoveLemmas.{depth-inner, trimmed-smaller}
+use Rattle.life_quad.proofs.MoveLemmas.{trimmed-smaller}
 use Rattle.life_quad.proofs.NonzeroLemmas.{blank_has_none, others_have_one, double, state_nw, state_ne, state_sw, state_se}
 use Rattle.life_quad.proofs.BandLemmas.{IsCellOf, OnBand, OnBand-cases, OnBand-append_left, OnBand-append_right, kept_has, kept_from, quarters_have, northern_from, southern_from}
 use Rattle.life_quad.proofs.CellListLemmas.{on_plane, from_plane}
