@@ -1,0 +1,74 @@
+//! Times the calls of a shared store. It prints, a line each: what was done, how many nodes the store holds, milliseconds.
+#![tactic(auto)]
+
+ghost use Rattle.std.specs.Prelude.{◌≡◌, ◌≤◌, ◌<◌, IfOk};
+ghost use Rattle.life_base.specs.Tree.{depth};
+ghost use Rattle.life_quad.specs.declared.id.Id.{Id as IdValue};
+
+use life_base::Kind;
+use life_quad::{Id, MAX_LEVEL, Shared, SharedSquares, Squares, bounds, population, put_run};
+use std::alloc::Global;
+use std::io;
+use std::time::Instant;
+
+const JOINS: u32 = 4_000_000;
+
+// Joins that many different squares of level 1, or finds them where they were joined before.
+fn fill<S: Squares>(squares: &mut S, count: u32) -> Result<(), Kind> {
+    for i in 0..count {
+        let a = squares.cell((i & 255) as u8);
+        let b = squares.cell((i >> 8 & 255) as u8);
+        let c = squares.cell((i >> 16 & 255) as u8);
+        let d = squares.cell(1);
+        let _id = squares.join(a, b, c, d)?;
+    }
+    Ok(())
+}
+
+// Puts a run of one cell into each row of a square of the greatest level.
+fn put_runs<S: Squares>(squares: &mut S, rows: u16) -> Result<(), Kind> {
+    let mut root = squares.empty(MAX_LEVEL);
+    for y in 0..rows {
+        root = put_run(squares, root, 0, y as i64, 1000, 1)?;
+    }
+    Ok(())
+}
+
+// The greatest square with each cell in state 1.
+fn full_square<S: Squares>(squares: &mut S) -> Result<Id, Kind>
+    ensures known { IfOk result (S.knows squares.new) }
+    ensures level { IfOk result (λ r. depth (S.content squares.new r) ≡ MAX_LEVEL) }
+{
+    let mut id = squares.cell(1);
+    for _level in 0..MAX_LEVEL {
+        id = squares.join(id, id, id, id)?;
+    }
+    Ok(id)
+}
+
+// Its number of cells and whether it has a box.
+fn measure<S: SharedSquares>(alloc: Global, squares: &mut S) -> Result<(u128, bool), Kind> {
+    let id = full_square(squares)?;
+    let number = population(alloc, squares, id)?;
+    Ok((number, bounds(alloc, squares, id)?.is_some()))
+}
+
+fn main(rt: HostRuntime) -> io::Result<()> {
+    let mut squares = Shared::new(rt.alloc(), 1 << 31);
+    let start = Instant::now(&rt)?;
+    let fresh = fill(&mut squares, JOINS).is_ok();
+    println!(rt; "fresh joins {fresh} {} {}", squares.len(), start.elapsed(&rt)?.as_millis())?;
+
+    let start = Instant::now(&rt)?;
+    let found = fill(&mut squares, JOINS).is_ok();
+    println!(rt; "found joins {found} {} {}", squares.len(), start.elapsed(&rt)?.as_millis())?;
+
+    let start = Instant::now(&rt)?;
+    let runs = put_runs(&mut squares, 10_000).is_ok();
+    println!(rt; "runs {runs} {} {}", squares.len(), start.elapsed(&rt)?.as_millis())?;
+
+    let start = Instant::now(&rt)?;
+    let (number, has_box) = measure(rt.alloc(), &mut squares).unwrap_or((0, false));
+    println!(rt; "full square {number} {has_box} {}", start.elapsed(&rt)?.as_millis())?;
+    Ok(())
+}

@@ -1,0 +1,41 @@
+-- Facts about the number of cells.
+use Rattle.std.proofs.Common.{◌≡◌, ℕ, suc, ◌+◌, ◌^◌, ◌≤◌, true, ◌&&◌, subst, arith}
+use Rattle.std.proofs.Math.Nat.{pow-le-pow_right}
+use Rattle.life_quad.specs.declared.level.TheConstants.{MAX_LEVEL}
+use Rattle.life_base.specs.Tree.{Tree, point, quad, depth, is_blank_tree, IsFull}
+use Rattle.life_quad.specs.Cells.{population}
+use Rattle.life_quad.specs.TreeLaws.{and_left, and_right}
+
+-- a blank square has no cell with a state
+pub population-blank : (t : Tree) → is_blank_tree t ≡ true → population t ≡ 0
+population-blank (point s) h = grind (arith, h)
+population-blank (quad a b c d) h =
+    let l = and_left (is_blank_tree a && is_blank_tree b && is_blank_tree c) (is_blank_tree d) h in
+    let m = and_left (is_blank_tree a && is_blank_tree b) (is_blank_tree c) l in
+    let pa = population-blank a (and_left (is_blank_tree a) (is_blank_tree b) m) in
+    let pb = population-blank b (and_right (is_blank_tree a) (is_blank_tree b) m) in
+    let pc = population-blank c (and_right (is_blank_tree a && is_blank_tree b) (is_blank_tree c) l) in
+    let pd = population-blank d (and_right (is_blank_tree a && is_blank_tree b && is_blank_tree c) (is_blank_tree d) h) in
+    omega (arith, pa, pb, pc, pd)
+
+four : (n : ℕ) → 4 ^ suc n ≡ 4 ^ n + 4 ^ n + 4 ^ n + 4 ^ n
+four n = grind arith
+
+-- a full square has no more cells than its side allows
+pub population-small : (t : Tree) → IsFull t → population t ≤ 4 ^ depth t
+population-small (point s) f = grind arith
+population-small (quad a b c d) f =
+    let pa = population-small a f.0 in
+    let pb : population b ≤ 4 ^ depth a = subst (λ n. population b ≤ 4 ^ n) f.4 (population-small b f.1) in
+    let pc : population c ≤ 4 ^ depth a = subst (λ n. population c ≤ 4 ^ n) f.5 (population-small c f.2) in
+    let pd : population d ≤ 4 ^ depth a = subst (λ n. population d ≤ 4 ^ n) f.6 (population-small d f.3) in
+    let e = four (depth a) in
+    omega (arith, pa, pb, pc, pd, e)
+
+-- the number of a quarter, of level 61 at most
+pub quarter_small : (t : Tree) (whole n : ℕ) → IsFull t → depth t + 1 ≡ whole → whole ≤ MAX_LEVEL → n ≡ population t → n ≤ 4 ^ 61
+quarter_small t whole n f e l h =
+    let p = population-small t f in
+    let low : depth t ≤ 61 = omega (arith, e, l) in
+    let q : 4 ^ depth t ≤ 4 ^ 61 = pow-le-pow_right (omega arith) low in
+    omega (arith, p, q, h)

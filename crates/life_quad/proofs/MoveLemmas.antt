@@ -1,0 +1,56 @@
+-- Facts about squares made of other squares.
+use Rattle.std.proofs.Common.{◌≡◌, ℕ, zero, suc, ◌+◌, ◌≤◌, Bool, true, false, nat_lt, Result, Ok, Err, IfOk, IfErr, OnOk, refl, sym, ◌∙◌, ap, arith}
+use Rattle.std.specs.List.{list_all}
+use Rattle.life_base.specs.Tree.{Tree, point, quad, depth, blank, is_blank_tree, IsFull}
+use Rattle.life_quad.specs.Moves.{outer, inner, can_trim, trimmed, trim_up_to}
+use Rattle.life_quad.specs.TreeLaws.{is_blank-blank, blank_is, and_left}
+
+-- what holds of every answer of a call
+pub if_ok_map : {T E : Type 0} {P Q : T → Type 0} (r : Result T E) → ((x : T) → P x → Q x) → IfOk r P → IfOk r Q
+if_ok_map (Ok x) f p = f x p
+if_ok_map (Err e) f p = tt
+
+pub if_err_map : {T E : Type 0} {P Q : E → Type 0} (r : Result T E) → ((e : E) → P e → Q e) → IfErr r P → IfErr r Q
+if_err_map (Ok x) f p = tt
+if_err_map (Err e) f p = f e p
+
+pub on_ok_map : {T E P Q : Type 0} (r : Result T E) → (P → Q) → OnOk r P → OnOk r Q
+on_ok_map (Ok x) f p = f p
+on_ok_map (Err e) f p = tt
+
+-- a test for the blank square of a level
+pub blank_test : (t : Tree) (l : ℕ) (same : Bool) → IsFull t → l ≡ depth t → (same ≡ true → t ≡ blank l) → (same ≡ false → t ≡ blank l → ⊥) → same ≡ is_blank_tree t
+blank_test t l true full e holds fails = sym (ap is_blank_tree (holds refl) ∙ is_blank-blank l)
+blank_test t l false full e holds fails = by (is_blank_tree t) refl
+  where
+    by : (b : Bool) → is_blank_tree t ≡ b → false ≡ is_blank_tree t
+    by true f = absurd (fails refl (blank_is t full f ∙ ap blank (sym e)))
+    by false f = sym f
+
+-- the square of the inner grandchildren is one level lower
+pub depth-inner : (t : Tree) → IsFull t → 2 ≤ depth t → depth (inner t) + 1 ≡ depth t
+depth-inner (point s) full deep = absurd (omega arith)
+depth-inner (quad (point a) b c d) full deep = absurd (omega arith)
+depth-inner (quad (quad a b c d) (point e) f g) full deep = absurd (let x = full.4 in omega arith)
+depth-inner (quad (quad a b c d) (quad e h i j) (point f) g) full deep = absurd (let x = full.5 in omega arith)
+depth-inner (quad (quad a b c d) (quad e h i j) (quad k l m n) (point g)) full deep = absurd (let x = full.6 in omega arith)
+depth-inner (quad (quad a b c d) (quad e h i j) (quad k l m n) (quad o p q r)) full deep = let f = full.0.6 in omega arith
+
+-- a square that can't be trimmed stays
+pub trimmed-stays : (t : Tree) (least : ℕ) → can_trim t least ≡ false → trimmed t least ≡ t
+trimmed-stays t least h = by (depth t)
+  where
+    by : (n : ℕ) → trim_up_to n t least ≡ t
+    by zero = refl
+    by (suc n) = grind (arith, h)
+
+-- a square that can be trimmed has the trimmed form of its inner grandchildren
+pub trimmed-smaller : (t : Tree) (least : ℕ) → IsFull t → 1 ≤ least → can_trim t least ≡ true → trimmed (inner t) least ≡ trimmed t least
+trimmed-smaller t least full positive h =
+    let above : nat_lt least (depth t) ≡ true = and_left _ (list_all is_blank_tree (outer t)) h in
+    let deep : 2 ≤ depth t = grind arith in
+    let one : depth t ≡ suc (depth (inner t)) = sym (depth-inner t full deep) ∙ (omega arith) in
+    sym (ap (λ n. trim_up_to n t least) one ∙ step (depth (inner t)))
+  where
+    step : (n : ℕ) → trim_up_to (suc n) t least ≡ trim_up_to n (inner t) least
+    step n = grind (arith, h)

@@ -1,0 +1,158 @@
+-- Facts about the nonzero cells of a square.
+use Rattle.std.proofs.Common.{◌≡◌, ℕ, suc, ◌+◌, ◌-◌, ◌^◌, ◌<◌, Bool, true, false, ◌&&◌, ◌==◌, nat_lt, refl, sym, ◌∙◌, ap, arith, true≢false}
+use Rattle.life_base.specs.Tree.{Tree, point, quad, depth, state_at, is_blank_tree, IsFull}
+use Rattle.life_quad.specs.TreeLaws.{and_left, and_right}
+use Rattle.life_quad.specs.Boxes.{IsNonzeroAt}
+use Rattle.life_quad.proofs.SpanLemmas.{at_nw, at_ne, at_sw, at_se}
+
+pub double : (n : ℕ) → 2 ^ suc n ≡ 2 ^ n + 2 ^ n
+double n = grind arith
+
+-- the quarter in which a nonzero cell lies, and where in it
+pub data InQuarter (a b c d : Tree) (half i j : ℕ) : Type 0 where
+  in_nw : IsNonzeroAt a i j → InQuarter a b c d half i j
+  in_ne : (m : ℕ) → i ≡ half + m → IsNonzeroAt b m j → InQuarter a b c d half i j
+  in_sw : (n : ℕ) → j ≡ half + n → IsNonzeroAt c i n → InQuarter a b c d half i j
+  in_se : (m n : ℕ) → i ≡ half + m → j ≡ half + n → IsNonzeroAt d m n → InQuarter a b c d half i j
+
+-- the state of a place in each quarter
+module _ (a b c d : Tree) (full : IsFull (quad a b c d)) where
+  pub state_nw : (i j : ℕ) → i < 2 ^ depth a → j < 2 ^ depth a → state_at (quad a b c d) i j ≡ state_at a i j
+  state_nw i j li lj = at_nw a b c d i j (grind arith) (grind arith)
+
+  pub state_ne : (i m j : ℕ) → i ≡ 2 ^ depth a + m → j < 2 ^ depth b → state_at (quad a b c d) i j ≡ state_at b m j
+  state_ne i m j e lj =
+      let s = ap (λ k. 2 ^ k) full.4 in
+      let back : i - 2 ^ depth a ≡ m = omega arith in
+      at_ne a b c d i j (grind arith) (grind arith) ∙ ap (λ z. state_at b z j) back
+
+  pub state_sw : (i j n : ℕ) → j ≡ 2 ^ depth a + n → i < 2 ^ depth c → state_at (quad a b c d) i j ≡ state_at c i n
+  state_sw i j n e li =
+      let s = ap (λ k. 2 ^ k) full.5 in
+      let back : j - 2 ^ depth a ≡ n = omega arith in
+      at_sw a b c d i j (grind arith) (grind arith) ∙ ap (λ z. state_at c i z) back
+
+  pub state_se : (i m j n : ℕ) → i ≡ 2 ^ depth a + m → j ≡ 2 ^ depth a + n → state_at (quad a b c d) i j ≡ state_at d m n
+  state_se i m j n e f =
+      let back_i : i - 2 ^ depth a ≡ m = omega arith in
+      let back_j : j - 2 ^ depth a ≡ n = omega arith in
+      at_se a b c d i j (grind arith) (grind arith) ∙ (λ z. state_at d (back_i z) (back_j z))
+
+module _ (a b c d : Tree) (full : IsFull (quad a b c d)) where
+  half : ℕ
+  half = 2 ^ depth a
+
+  side_b : 2 ^ depth b ≡ 2 ^ depth a
+  side_b = ap (λ k. 2 ^ k) full.4
+
+  side_c : 2 ^ depth c ≡ 2 ^ depth a
+  side_c = ap (λ k. 2 ^ k) full.5
+
+  side_d : 2 ^ depth d ≡ 2 ^ depth a
+  side_d = ap (λ k. 2 ^ k) full.6
+
+  pub quarter_of : (i j : ℕ) → IsNonzeroAt (quad a b c d) i j → InQuarter a b c d (2 ^ depth a) i j
+  quarter_of i j h = by (nat_lt j (2 ^ depth a)) refl (nat_lt i (2 ^ depth a)) refl
+    where
+      twice : 2 ^ suc (depth a) ≡ 2 ^ depth a + 2 ^ depth a
+      twice = double (depth a)
+
+      li : i < 2 ^ suc (depth a)
+      li = h.column
+
+      lj : j < 2 ^ suc (depth a)
+      lj = h.row
+
+      by : (p : Bool) → nat_lt j (2 ^ depth a) ≡ p → (q : Bool) → nat_lt i (2 ^ depth a) ≡ q → InQuarter a b c d (2 ^ depth a) i j
+      by true g true f =
+          in_nw (record { column = grind arith; row = grind arith; state = λ e. h.state (at_nw a b c d i j g f ∙ e) })
+      by true g false f =
+          in_ne (i - 2 ^ depth a) (grind arith)
+          (record { column = let s = side_b in grind arith; row = let s = side_b in grind arith; state = λ e. h.state (at_ne a b c d i j g f ∙ e) })
+      by false g true f =
+          in_sw (j - 2 ^ depth a) (grind arith)
+          (record { column = let s = side_c in grind arith; row = let s = side_c in grind arith; state = λ e. h.state (at_sw a b c d i j g f ∙ e) })
+      by false g false f =
+          in_se (i - 2 ^ depth a) (j - 2 ^ depth a) (grind arith) (grind arith)
+          (record { column = let s = side_d in grind arith; row = let s = side_d in grind arith; state = λ e. h.state (at_se a b c d i j g f ∙ e) })
+
+  pub from_quarter : (i j : ℕ) → InQuarter a b c d (2 ^ depth a) i j → IsNonzeroAt (quad a b c d) i j
+  from_quarter i j (in_nw h) =
+      let twice : 2 ^ suc (depth a) ≡ 2 ^ depth a + 2 ^ depth a = double (depth a) in
+      let li = h.column in let lj = h.row in
+      let g : nat_lt j (2 ^ depth a) ≡ true = grind arith in
+      let f : nat_lt i (2 ^ depth a) ≡ true = grind arith in
+      record { column = omega arith; row = omega arith; state = λ e. h.state (sym (at_nw a b c d i j g f) ∙ e) }
+  from_quarter i j (in_ne m p h) =
+      let twice : 2 ^ suc (depth a) ≡ 2 ^ depth a + 2 ^ depth a = double (depth a) in
+      let s = side_b in let li = h.column in let lj = h.row in
+      let g : nat_lt j (2 ^ depth a) ≡ true = grind arith in
+      let f : nat_lt i (2 ^ depth a) ≡ false = grind arith in
+      let back : i - 2 ^ depth a ≡ m = omega arith in
+      record { column = omega arith; row = omega arith; state = λ e. h.state (ap (λ z. state_at b z j) (sym back) ∙ sym (at_ne a b c d i j g f) ∙ e) }
+  from_quarter i j (in_sw n q h) =
+      let twice : 2 ^ suc (depth a) ≡ 2 ^ depth a + 2 ^ depth a = double (depth a) in
+      let s = side_c in let li = h.column in let lj = h.row in
+      let g : nat_lt j (2 ^ depth a) ≡ false = grind arith in
+      let f : nat_lt i (2 ^ depth a) ≡ true = grind arith in
+      let back : j - 2 ^ depth a ≡ n = omega arith in
+      record { column = omega arith; row = omega arith; state = λ e. h.state (ap (λ z. state_at c i z) (sym back) ∙ sym (at_sw a b c d i j g f) ∙ e) }
+  from_quarter i j (in_se m n p q h) =
+      let twice : 2 ^ suc (depth a) ≡ 2 ^ depth a + 2 ^ depth a = double (depth a) in
+      let s = side_d in let li = h.column in let lj = h.row in
+      let g : nat_lt j (2 ^ depth a) ≡ false = grind arith in
+      let f : nat_lt i (2 ^ depth a) ≡ false = grind arith in
+      let back_i : i - 2 ^ depth a ≡ m = omega arith in
+      let back_j : j - 2 ^ depth a ≡ n = omega arith in
+      record {
+        column = omega arith;
+        row = omega arith;
+        state = λ e. h.state (ap (λ z. state_at d z n) (sym back_i) ∙ ap (λ z. state_at d (i - 2 ^ depth a) z) (sym back_j) ∙ sym (at_se a b c d i j g f) ∙ e);
+      }
+
+abbrev HasNone : Tree → Type 0
+HasNone t = (i j : ℕ) → IsNonzeroAt t i j → ⊥
+
+quarters_have_none : (a b c d : Tree) → IsFull (quad a b c d) → HasNone a → HasNone b → HasNone c → HasNone d → HasNone (quad a b c d)
+quarters_have_none a b c d full na nb nc nd i j n = by (quarter_of a b c d full i j n)
+  where
+    by : InQuarter a b c d (2 ^ depth a) i j → ⊥
+    by (in_nw k) = na i j k
+    by (in_ne p e k) = nb p j k
+    by (in_sw q e k) = nc i q k
+    by (in_se p q e f k) = nd p q k
+
+-- a blank square has no nonzero cell
+pub blank_has_none : (t : Tree) → IsFull t → is_blank_tree t ≡ true → (i j : ℕ) → IsNonzeroAt t i j → ⊥
+blank_has_none (point s) full h = λ i j n. n.state (grind (arith, h))
+blank_has_none (quad a b c d) full h =
+    let l = and_left _ (is_blank_tree d) h in
+    let m = and_left _ (is_blank_tree c) l in
+    quarters_have_none a b c d full (blank_has_none a full.0 (and_left _ (is_blank_tree b) m)) (blank_has_none b full.1 (and_right (is_blank_tree a) _ m))
+    (blank_has_none c full.2 (and_right (is_blank_tree a && is_blank_tree b) _ l)) (blank_has_none d full.3 (and_right (is_blank_tree a && is_blank_tree b && is_blank_tree c) _ h))
+
+abbrev HasOne : Tree → Type 0
+HasOne t = (i : ℕ) × (j : ℕ) × IsNonzeroAt t i j
+
+quarters_have_one : (a b c d : Tree) → IsFull (quad a b c d) → is_blank_tree (quad a b c d) ≡ false
+    → (is_blank_tree a ≡ false → HasOne a) → (is_blank_tree b ≡ false → HasOne b) → (is_blank_tree c ≡ false → HasOne c) → (is_blank_tree d ≡ false → HasOne d)
+    → HasOne (quad a b c d)
+quarters_have_one a b c d full h ha hb hc hd = by (is_blank_tree a) refl (is_blank_tree b) refl (is_blank_tree c) refl
+  where
+    whole : (i j : ℕ) → InQuarter a b c d (2 ^ depth a) i j → HasOne (quad a b c d)
+    whole i j q = (i, j, from_quarter a b c d full i j q)
+
+    by : (p : Bool) → is_blank_tree a ≡ p → (q : Bool) → is_blank_tree b ≡ q → (r : Bool) → is_blank_tree c ≡ r → HasOne (quad a b c d)
+    by false e q f r g = let n = ha e in whole n.0 n.1 (in_nw n.2)
+    by true e false f r g = let n = hb f in whole (2 ^ depth a + n.0) n.1 (in_ne n.0 refl n.2)
+    by true e true f false g = let n = hc g in whole n.0 (2 ^ depth a + n.1) (in_sw n.1 refl n.2)
+    by true e true f true g =
+        let rest : is_blank_tree d ≡ false = sym (λ i. e i && f i && g i && is_blank_tree d) ∙ h in
+        let n = hd rest in
+        whole (2 ^ depth a + n.0) (2 ^ depth a + n.1) (in_se n.0 n.1 refl refl n.2)
+
+-- each other square has one
+pub others_have_one : (t : Tree) → IsFull t → is_blank_tree t ≡ false → (i : ℕ) × (j : ℕ) × IsNonzeroAt t i j
+others_have_one (point s) full h = (0, 0, record { column = omega arith; row = omega arith; state = λ e. true≢false (sym (ap (λ n. n == 0) e) ∙ h) })
+others_have_one (quad a b c d) full h =
+    quarters_have_one a b c d full h (others_have_one a full.0) (others_have_one b full.1) (others_have_one c full.2) (others_have_one d full.3)

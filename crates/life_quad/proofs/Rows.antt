@@ -1,0 +1,55 @@
+-- Worked examples of the definitions.
+use Rattle.std.proofs.Common.{◌≡◌, pos, negsuc, refl}
+use Rattle.life_base.specs.Tree.{Tree, point, quad, depth, blank}
+use Rattle.life_quad.specs.Moves.{trimmed, grown}
+use Rattle.life_quad.specs.Cells.{population}
+use Rattle.life_quad.specs.Cells.{cell}
+
+-- a square of level 2 with the one cell (0, 0) of state 7
+abbrev one : Tree
+one = quad (blank 1) (blank 1) (blank 1) (quad (point 7) (point 0) (point 0) (point 0))
+
+one-depth : depth one ≡ 2
+one-depth = refl
+
+one-corner : cell one (pos 0) (pos 0) ≡ 7
+one-corner = refl
+
+one-west : cell one (negsuc 0) (pos 0) ≡ 0
+one-west = refl
+
+one-last : cell one (negsuc 1) (negsuc 1) ≡ 0
+one-last = refl
+
+-- outside the square
+one-outside : cell one (pos 2) (pos 0) ≡ 0
+one-outside = refl
+
+one-population : population (grown one) ≡ 1
+one-population = refl
+
+-- growing keeps the cell, and trimming takes every growth away
+grown-corner : cell (grown one) (pos 0) (pos 0) ≡ 7
+grown-corner = refl
+
+grown-trimmed : trimmed (grown (grown one)) 1 ≡ quad (point 0) (point 0) (point 0) (point 7)
+grown-trimmed = refl
+
+-- a least level stops the trimming
+grown-least : depth (trimmed (grown (grown (grown one))) 3) ≡ 3
+grown-least = refl
+
+blank-trimmed : trimmed (blank 3) 1 ≡ blank 1
+blank-trimmed = refl
+
+-- a cell of column 2 is in the way of the last step
+far : Tree
+far = quad (blank 2) (blank 2) (blank 2) (quad (blank 1) (quad (point 1) (point 0) (point 0) (point 0)) (blank 1) (blank 1))
+
+far-cell : cell far (pos 2) (pos 0) ≡ 1
+unfolding far
+far-cell = refl
+
+far-trimmed : depth (trimmed (grown (grown far)) 1) ≡ 3
+unfolding far
+far-trimmed = refl

@@ -1,0 +1,117 @@
+-- Facts about runs of cells on the plane.
+use Rattle.std.proofs.Common.{◌≡◌, ℕ, zero, suc, ◌+◌, ◌-◌, ◌^◌, ◌≤◌, ◌<◌, Bool, true, false, ◌&&◌, ℤ, pos, negsuc, neg_ℤ, ◌+ℤ◌, ◌≤ℤ◌, ◌<ℤ◌, refl, sym, ◌∙◌, ap, subst, arith}
+use Rattle.std.specs.Prelude.{if◌then◌else◌, int_le, int_lt, unsigned_abs}
+use Rattle.std.proofs.lemmas.Int.{ints}
+use Rattle.life_base.specs.Tree.{Tree, depth, state_at}
+use Rattle.life_quad.specs.Cells.{half_side, cell, IsInRun, IsRunInside, SetsRun}
+use Rattle.life_quad.specs.Span.{is_in_span, SetsSpan}
+
+-- whether a pair is inside the square of this half
+abbrev pub is_inside : ℕ → ℤ → ℤ → Bool
+is_inside h x y = int_le (neg_ℤ (pos h)) x && int_lt x (pos h) && int_le (neg_ℤ (pos h)) y && int_lt y (pos h)
+
+-- the distance of a coordinate inside
+pub inside_offset : (h : ℕ) (x : ℤ) → neg_ℤ (pos h) ≤ℤ x → x <ℤ pos h → (n : ℕ) × (x +ℤ pos h ≡ pos n) × (n < h + h)
+inside_offset h (pos a) l u = (a + h, refl, omega (arith, ints))
+inside_offset h (negsuc a) l u = (h - suc a, omega (arith, ints), omega (arith, ints))
+
+pub record Inside (h : ℕ) (x y : ℤ) : Type 0 where
+  pub west : neg_ℤ (pos h) ≤ℤ x
+  pub east : x <ℤ pos h
+  pub north : neg_ℤ (pos h) ≤ℤ y
+  pub south : y <ℤ pos h
+
+pub inside_facts : (h : ℕ) (x y : ℤ) → is_inside h x y ≡ true → Inside h x y
+inside_facts h x y e =
+    record { west = grind (arith, ints); east = grind (arith, ints); north = grind (arith, ints); south = grind (arith, ints) }
+
+pub inside_test : (h : ℕ) (x y : ℤ) → Inside h x y → is_inside h x y ≡ true
+inside_test h x y i = grind (arith, ints, i.west, i.east, i.north, i.south)
+
+-- the state of a pair inside
+pub cell_inside : (t : Tree) (x y : ℤ) (n m : ℕ) → is_inside (half_side t) x y ≡ true → x +ℤ pos (half_side t) ≡ pos n → y +ℤ pos (half_side t) ≡ pos m → cell t x y ≡ state_at t n m
+cell_inside t x y n m i e f =
+    ap (λ b. if b then state_at t (unsigned_abs (x +ℤ pos (half_side t))) (unsigned_abs (y +ℤ pos (half_side t))) else 0) i
+    ∙ (λ j. state_at t (unsigned_abs (e j)) (unsigned_abs (f j)))
+
+pub cell_outside : (t : Tree) (x y : ℤ) → is_inside (half_side t) x y ≡ false → cell t x y ≡ 0
+cell_outside t x y i = ap (λ b. if b then state_at t (unsigned_abs (x +ℤ pos (half_side t))) (unsigned_abs (y +ℤ pos (half_side t))) else 0) i
+
+span_facts : (column row len i j : ℕ) → is_in_span column row len i j ≡ true → (j ≡ row) × (column ≤ i) × (i < column + len)
+span_facts column row len i j e = (grind arith, grind arith, grind arith)
+
+-- a cell in the columns and the row of a span
+in_span : (column row len i j : ℕ) → j ≡ row → column ≤ i → i < column + len → is_in_span column row len i j ≡ true
+in_span column row len i j a b c = grind arith
+
+pub side : (k : ℕ) → 1 ≤ k → 2 ^ (k - 1) + 2 ^ (k - 1) ≡ 2 ^ k
+side zero h = absurd (omega arith)
+side (suc k) h =
+    let e : suc k - 1 ≡ k = omega arith in
+    (λ j. 2 ^ e j + 2 ^ e j) ∙ (grind arith)
+
+-- a span of columns sets a run of cells
+pub SetsRun-span : (old new : Tree) (x y : ℤ) (column row len state : ℕ) → 1 ≤ depth old → IsRunInside old x y len
+    → pos column ≡ x +ℤ pos (half_side old) → pos row ≡ y +ℤ pos (half_side old) → SetsSpan old new column row len state → SetsRun old new x y len state
+SetsRun-span old new x y column row len state high inside e f s =
+    record { full = s.full; level = s.level; run = in_run; others = out_of_run }
+  where
+    h : ℕ
+    h = half_side old
+
+    same : half_side new ≡ half_side old
+    same = ap (λ d. 2 ^ (d - 1)) s.level
+
+    at : (i j : ℤ) (n m : ℕ) → is_inside h i j ≡ true → i +ℤ pos h ≡ pos n → j +ℤ pos h ≡ pos m → n < h + h → m < h + h
+        → cell new i j ≡ (if is_in_span column row len n m then state else state_at old n m)
+    at i j n m t p q a b =
+        let w = side (depth old) high in
+        cell_inside new i j n m (ap (λ z. is_inside z i j) same ∙ t) (ap (λ z. i +ℤ pos z) same ∙ p) (ap (λ z. j +ℤ pos z) same ∙ q)
+        ∙ s.cells n m (subst (λ z. n < z) w a) (subst (λ z. m < z) w b)
+
+    in_run : (i j : ℤ) → IsInRun x y len i j → cell new i j ≡ state
+    in_run i j r =
+        let w : neg_ℤ (pos h) ≤ℤ i = omega (arith, ints, inside.west, r.from) in
+        let u : i <ℤ pos h = omega (arith, ints, inside.east, r.to) in
+        let v : neg_ℤ (pos h) ≤ℤ j = subst (λ z. neg_ℤ (pos h) ≤ℤ z) (sym r.same_row) inside.north in
+        let z : j <ℤ pos h = subst (λ k. k <ℤ pos h) (sym r.same_row) inside.south in
+        let a = inside_offset h i w u in
+        let b = inside_offset h j v z in
+        let row_is : b.0 ≡ row = let k = b.1 in let l = r.same_row in omega (arith, ints) in
+        let from : column ≤ a.0 = let k = a.1 in let l = r.from in omega (arith, ints) in
+        let to : a.0 < column + len = let k = a.1 in let l = r.to in omega (arith, ints) in
+        let t = in_span column row len a.0 b.0 row_is from to in
+        at i j a.0 b.0 (inside_test h i j (record { west = w; east = u; north = v; south = z })) a.1 b.1 a.2 b.2
+        ∙ ap (λ c. if c then state else state_at old a.0 b.0) t
+
+    out_of_run : (i j : ℤ) → ¬ IsInRun x y len i j → cell new i j ≡ cell old i j
+    out_of_run i j r = by (is_inside h i j) refl
+      where
+        by : (c : Bool) → is_inside h i j ≡ c → cell new i j ≡ cell old i j
+        by false t = cell_outside new i j (ap (λ z. is_inside z i j) same ∙ t) ∙ sym (cell_outside old i j t)
+        by true t =
+            let k = inside_facts h i j t in
+            let a = inside_offset h i k.west k.east in
+            let b = inside_offset h j k.north k.south in
+            at i j a.0 b.0 t a.1 b.1 a.2 b.2 ∙ out (is_in_span column row len a.0 b.0) refl ∙ sym (cell_inside old i j a.0 b.0 t a.1 b.1)
+          where
+            n : ℕ
+            n = (inside_offset h i (inside_facts h i j t).west (inside_facts h i j t).east).0
+
+            m : ℕ
+            m = (inside_offset h j (inside_facts h i j t).north (inside_facts h i j t).south).0
+
+            p : i +ℤ pos h ≡ pos n
+            p = (inside_offset h i (inside_facts h i j t).west (inside_facts h i j t).east).1
+
+            q : j +ℤ pos h ≡ pos m
+            q = (inside_offset h j (inside_facts h i j t).north (inside_facts h i j t).south).1
+
+            out : (d : Bool) → is_in_span column row len n m ≡ d → (if is_in_span column row len n m then state else state_at old n m) ≡ state_at old n m
+            out false g = ap (λ c. if c then state else state_at old n m) g
+            out true g =
+                let k = span_facts column row len n m g in
+                let row_is = k.0 in
+                let from = k.1 in
+                let to = k.2 in
+                absurd (r (record { same_row = omega (arith, ints, p, q, e, f, row_is); from = omega (arith, ints, p, q, e, f, from); to = omega (arith, ints, p, q, e, f, to) }))

@@ -1,0 +1,113 @@
+-- Facts about spans of cells.
+use Rattle.std.proofs.Common.{◌≡◌, ℕ, suc, ◌+◌, ◌-◌, ◌^◌, ◌≤◌, ◌<◌, Bool, true, false, ◌&&◌, ◌==◌, nat_lt, nat_le, refl, sym, ◌∙◌, ap, arith}
+use Rattle.std.specs.Prelude.{if◌then◌else◌}
+use Rattle.life_base.specs.Tree.{Tree, quad, depth, state_at, IsFull}
+use Rattle.life_quad.specs.Span.{is_in_span, SetsSpan, SetsHalves}
+
+module _ (a b c d : Tree) (i j : ℕ) where
+  -- the state in each quarter
+  pub at_nw : nat_lt j (2 ^ depth a) ≡ true → nat_lt i (2 ^ depth a) ≡ true → state_at (quad a b c d) i j ≡ state_at a i j
+  at_nw g h = grind (arith, g, h)
+
+  pub at_ne : nat_lt j (2 ^ depth a) ≡ true → nat_lt i (2 ^ depth a) ≡ false → state_at (quad a b c d) i j ≡ state_at b (i - 2 ^ depth a) j
+  at_ne g h = grind (arith, g, h)
+
+  pub at_sw : nat_lt j (2 ^ depth a) ≡ false → nat_lt i (2 ^ depth a) ≡ true → state_at (quad a b c d) i j ≡ state_at c i (j - 2 ^ depth a)
+  at_sw g h = grind (arith, g, h)
+
+  pub at_se : nat_lt j (2 ^ depth a) ≡ false → nat_lt i (2 ^ depth a) ≡ false → state_at (quad a b c d) i j ≡ state_at d (i - 2 ^ depth a) (j - 2 ^ depth a)
+  at_se g h = grind (arith, g, h)
+
+-- a cell of another row is in no span
+pub other_row : (column row len i j : ℕ) → (j == row) ≡ false → is_in_span column row len i j ≡ false
+other_row column row len i j h = grind (arith, h)
+
+double : (n : ℕ) → 2 ^ suc n ≡ 2 ^ n + 2 ^ n
+double n = grind arith
+
+-- a span in the two northern quarters
+pub SetsSpan-north : (a b c d a' b' : Tree) (column row len state : ℕ) → IsFull (quad a b c d) → row < 2 ^ depth a
+    → SetsHalves a b a' b' column row len state → SetsSpan (quad a b c d) (quad a' b' c d) column row len state
+SetsSpan-north a b c d a' b' column row len state full low h =
+    record {
+      full = (h.left_full, h.right_full, full.2, full.3, h.right_level ∙ full.4 ∙ sym h.left_level, full.5 ∙ sym h.left_level, full.6 ∙ sym h.left_level);
+      level = ap suc h.left_level;
+      cells = λ i j li lj. by i j li lj (nat_lt j (2 ^ depth a)) refl (nat_lt i (2 ^ depth a)) refl;
+    }
+  where
+    half : ℕ
+    half = 2 ^ depth a
+
+    new_half : 2 ^ depth a' ≡ 2 ^ depth a
+    new_half = ap (λ n. 2 ^ n) h.left_level
+
+    by : (i j : ℕ) → i < 2 ^ suc (depth a) → j < 2 ^ suc (depth a) → (p : Bool) → nat_lt j (2 ^ depth a) ≡ p → (q : Bool) → nat_lt i (2 ^ depth a) ≡ q
+        → state_at (quad a' b' c d) i j ≡ (if is_in_span column row len i j then state else state_at (quad a b c d) i j)
+    by i j li lj true g true f =
+        at_nw a' b' c d i j (ap (nat_lt j) new_half ∙ g) (ap (nat_lt i) new_half ∙ f) ∙ h.left_cells i j (grind arith) (grind arith)
+        ∙ ap (λ s. if is_in_span column row len i j then state else s) (sym (at_nw a b c d i j g f))
+    by i j li lj true g false f =
+        let below : i - 2 ^ depth a < 2 ^ depth a = let e = double (depth a) in grind arith in
+        let back : 2 ^ depth a + (i - 2 ^ depth a) ≡ i = grind arith in
+        at_ne a' b' c d i j (ap (nat_lt j) new_half ∙ g) (ap (nat_lt i) new_half ∙ f) ∙ ap (λ n. state_at b' (i - n) j) new_half
+        ∙ h.right_cells (i - 2 ^ depth a) j below (grind arith)
+        ∙ ap (λ n. if is_in_span column row len n j then state else state_at b (i - 2 ^ depth a) j) back
+        ∙ ap (λ s. if is_in_span column row len i j then state else s) (sym (at_ne a b c d i j g f))
+    by i j li lj false g true f =
+        let other = other_row column row len i j (grind arith) in
+        at_sw a' b' c d i j (ap (nat_lt j) new_half ∙ g) (ap (nat_lt i) new_half ∙ f) ∙ ap (λ n. state_at c i (j - n)) new_half
+        ∙ sym (at_sw a b c d i j g f) ∙ sym (ap (λ t. if t then state else state_at (quad a b c d) i j) other)
+    by i j li lj false g false f =
+        let other = other_row column row len i j (grind arith) in
+        at_se a' b' c d i j (ap (nat_lt j) new_half ∙ g) (ap (nat_lt i) new_half ∙ f) ∙ ap (λ n. state_at d (i - n) (j - n)) new_half
+        ∙ sym (at_se a b c d i j g f) ∙ sym (ap (λ t. if t then state else state_at (quad a b c d) i j) other)
+
+-- the rows of the southern quarters begin at half of the side
+pub shifted_row : (column row len half i j : ℕ) → half ≤ row → half ≤ j → is_in_span column (row - half) len i (j - half) ≡ is_in_span column row len i j
+shifted_row column row len half i j r s =
+    let same : (j - half == row - half) ≡ (j == row) = grind arith in
+    ap (λ b. b && nat_le column i && nat_lt i (column + len)) same
+
+-- a span in the two southern quarters
+pub SetsSpan-south : (a b c d c' d' : Tree) (column row len state : ℕ) → IsFull (quad a b c d) → 2 ^ depth a ≤ row
+    → SetsHalves c d c' d' column (row - 2 ^ depth a) len state → SetsSpan (quad a b c d) (quad a b c' d') column row len state
+SetsSpan-south a b c d c' d' column row len state full low h =
+    record {
+      full = (full.0, full.1, h.left_full, h.right_full, full.4, h.left_level ∙ full.5, h.right_level ∙ full.6);
+      level = refl;
+      cells = λ i j li lj. by i j li lj (nat_lt j (2 ^ depth a)) refl (nat_lt i (2 ^ depth a)) refl;
+    }
+  where
+    side : 2 ^ depth c ≡ 2 ^ depth a
+    side = ap (λ n. 2 ^ n) full.5
+
+    by : (i j : ℕ) → i < 2 ^ suc (depth a) → j < 2 ^ suc (depth a) → (p : Bool) → nat_lt j (2 ^ depth a) ≡ p → (q : Bool) → nat_lt i (2 ^ depth a) ≡ q
+        → state_at (quad a b c' d') i j ≡ (if is_in_span column row len i j then state else state_at (quad a b c d) i j)
+    by i j li lj true g true f =
+        let other = other_row column row len i j (grind arith) in
+        at_nw a b c' d' i j g f ∙ sym (at_nw a b c d i j g f) ∙ sym (ap (λ t. if t then state else state_at (quad a b c d) i j) other)
+    by i j li lj true g false f =
+        let other = other_row column row len i j (grind arith) in
+        at_ne a b c' d' i j g f ∙ sym (at_ne a b c d i j g f) ∙ sym (ap (λ t. if t then state else state_at (quad a b c d) i j) other)
+    by i j li lj false g true f =
+        let e = double (depth a) in
+        let jj : j - 2 ^ depth a < 2 ^ depth c = grind arith in
+        let ii : i < 2 ^ depth c = grind arith in
+        let jl : 2 ^ depth a ≤ j = grind arith in
+        at_sw a b c' d' i j g f ∙ h.left_cells i (j - 2 ^ depth a) ii jj
+        ∙ ap (λ t. if t then state else state_at c i (j - 2 ^ depth a)) (shifted_row column row len (2 ^ depth a) i j low jl)
+        ∙ ap (λ s. if is_in_span column row len i j then state else s) (sym (at_sw a b c d i j g f))
+    by i j li lj false g false f =
+        let e = double (depth a) in
+        let jj : j - 2 ^ depth a < 2 ^ depth c = grind arith in
+        let ii : i - 2 ^ depth a < 2 ^ depth c = grind arith in
+        let jl : 2 ^ depth a ≤ j = grind arith in
+        let back : 2 ^ depth c + (i - 2 ^ depth a) ≡ i = grind arith in
+        at_se a b c' d' i j g f ∙ h.right_cells (i - 2 ^ depth a) (j - 2 ^ depth a) ii jj
+        ∙ ap (λ n. if is_in_span column (row - 2 ^ depth a) len n (j - 2 ^ depth a) then state else state_at d (i - 2 ^ depth a) (j - 2 ^ depth a)) back
+        ∙ ap (λ t. if t then state else state_at d (i - 2 ^ depth a) (j - 2 ^ depth a)) (shifted_row column row len (2 ^ depth a) i j low jl)
+        ∙ ap (λ s. if is_in_span column row len i j then state else s) (sym (at_se a b c d i j g f))
+
+-- half of the side of a square is the side of its quarters
+pub half_of : (level whole part : ℕ) → level ≡ whole → part + 1 ≡ whole → 2 ^ (level - 1) ≡ 2 ^ part
+half_of level whole part e f = let same : level - 1 ≡ part = omega arith in ap (λ n. 2 ^ n) same

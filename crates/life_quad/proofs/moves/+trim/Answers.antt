@@ -1,0 +1,11 @@
+use Rattle.std.proofs.Common.{◌≡◌, arith, ◌∙◌, ap, true}
+use Rattle.life_quad.specs.Moves.{trimmed, can_trim}
+use Rattle.life_quad.proofs.MoveLemmas.{if_ok_map, trimmed-smaller}
+use Rattle.life_quad.proofs.moves.+trim.Goals as goal
+
+pub returns-clause-square : goal.returns-clause-square
+returns-clause-square g t c =
+    let test = c.can_be_trimmed.ensures in
+    let can : can_trim (g.S.Squares.content c.args.squares.now c.args.id) c.args.least ≡ true = grind arith in
+    let full = g.met.S.Squares.full _ _ c.requires.known in
+    if_ok_map c.trim.result (λ r e. e ∙ ap (λ t. trimmed t c.args.least) c.in_ok-smaller.ensures.square ∙ trimmed-smaller _ _ full c.requires.positive can) c.trim.ensures.square

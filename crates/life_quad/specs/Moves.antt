@@ -1,0 +1,34 @@
+-- Squares made of other squares: one level higher, and without blank outer grandchildren.
+use Rattle.std.specs.Prelude.{ℕ, zero, suc, Bool, ◌&&◌, nat_lt, if◌then◌else◌, List, [], ◌∷◌}
+use Rattle.std.specs.List.{list_all}
+use Rattle.life_base.specs.Tree.{Tree, point, quad, depth, blank, is_blank_tree}
+
+-- the twelve outer grandchildren
+abbrev pub outer : Tree → List Tree
+outer (quad (quad a b c _) (quad d e _ f) (quad g _ h i) (quad _ j k l)) =
+    a ∷ b ∷ c ∷ d ∷ e ∷ f ∷ g ∷ h ∷ i ∷ j ∷ k ∷ l ∷ []
+outer _ = []
+
+-- the square of the four inner grandchildren
+abbrev pub inner : Tree → Tree
+inner (quad (quad _ _ _ nw) (quad _ _ ne _) (quad _ sw _ _) (quad se _ _ _)) = quad nw ne sw se
+inner t = t
+
+-- the square is above the least level, and its outer grandchildren are blank
+abbrev pub can_trim : Tree → ℕ → Bool
+can_trim t least = nat_lt least (depth t) && list_all is_blank_tree (outer t)
+
+-- the square after at most n steps of trimming
+abbrev pub trim_up_to : ℕ → Tree → ℕ → Tree
+trim_up_to zero t least = t
+trim_up_to (suc n) t least = if can_trim t least then trim_up_to n (inner t) least else t
+
+-- while the square can be trimmed, the square of its inner grandchildren
+abbrev pub trimmed : Tree → ℕ → Tree
+trimmed t least = trim_up_to (depth t) t least
+
+-- one level higher, with t in the middle of blank squares
+abbrev pub grown : Tree → Tree
+grown (point s) = point s
+grown (quad nw ne sw se) =
+    let e = blank (depth nw) in quad (quad e e e nw) (quad e e ne e) (quad e sw e e) (quad se e e e)

@@ -1,0 +1,299 @@
+-- Facts about stores of nodes.
+use Rattle.std.proofs.Common.{◌≡◌, length-append, Contains, ◌⊎◌, inl, inr, true≢false, ℕ, suc, ◌+◌, ◌-◌, ◌≤◌, ◌<◌, Bool, true, false, nat_lt, List, [], ◌∷◌, ◌++◌, length, fold, Some, slice_get, get_or, refl, sym, ◌∙◌, ap, subst, arith}
+use Rattle.std.proofs.lemmas.List.Sums.{fold-append}
+use Rattle.std.proofs.lemmas.List.{get_or_append_left}
+use Rattle.std.proofs.Math.Seq.{get_or-append_seam}
+use Rattle.std.proofs.lemmas.Option.{slice_get-get_or, slice_get_within, get_or_from_slice_get}
+use Rattle.life_quad.specs.declared.level.TheConstants.{MAX_LEVEL}
+use Rattle.life_quad.specs.declared.id.Id.{Id}
+use Rattle.life_quad.specs.declared.id.Node.{Node}
+use Rattle.life_base.specs.Tree.{Tree, point, quad, depth, blank, is_blank_tree, IsFull}
+use Rattle.life_quad.specs.Store.{Nodes, square_of, node_square, squares, is_blank_id, IsNamed, IsNode, IsSound, IsShared, Knows}
+use Rattle.life_quad.specs.TreeLaws.{depth-blank, full-blank, is_blank-blank, quad_nw, quad_ne, quad_sw, quad_se, point_state, point≢quad}
+
+abbrev push_square : List Tree → Node → List Tree
+push_square stored n = stored ++ node_square stored n ∷ []
+
+-- a new node adds its square last
+pub squares-push : (ns : List Node) (n : Node) → squares (ns ++ n ∷ []) ≡ squares ns ++ node_square (squares ns) n ∷ []
+unfolding squares
+squares-push ns n = fold-append push_square [] ns (n ∷ [])
+
+length-fold : (acc : List Tree) (ns : List Node) → length (fold push_square acc ns) ≡ length acc + length ns
+length-fold acc [] = omega arith
+length-fold acc (n ∷ ns) =
+    let one : length (acc ++ node_square acc n ∷ []) ≡ length acc + 1 = length-append acc (node_square acc n ∷ []) in
+    length-fold (push_square acc n) ns ∙ omega (arith, one)
+
+-- each node has its square
+pub length-squares : (ns : List Node) → length (squares ns) ≡ length ns
+unfolding squares
+length-squares ns = length-fold [] ns ∙ omega arith
+
+-- a new store has no square
+pub squares-nil : squares [] ≡ []
+unfolding squares
+squares-nil = refl
+
+-- what kind of square an Id names
+pub data Kinds (stored : List Tree) (id : Id) : Type 0 where
+  a_state : id.0 < 256 → square_of stored id ≡ point id.0 → Kinds stored id
+  a_blank : 256 ≤ id.0 → id.0 < 512 → square_of stored id ≡ blank (id.0 - 255) → Kinds stored id
+  a_node : 512 ≤ id.0 → square_of stored id ≡ get_or stored (id.0 - 512) (point 0) → Kinds stored id
+
+pub kind_of : (stored : List Tree) (id : Id) → Kinds stored id
+unfolding square_of
+kind_of stored id = by (nat_lt id.0 256) refl (nat_lt id.0 512) refl
+  where
+    by : (b : Bool) → nat_lt id.0 256 ≡ b → (c : Bool) → nat_lt id.0 512 ≡ c → Kinds stored id
+    by true e c f = a_state (grind arith) (grind arith)
+    by false e true f = a_blank (grind arith) (grind arith) (grind arith)
+    by false e false f = a_node (grind arith) (grind arith)
+
+-- an Id keeps its square when squares are added
+pub square_of-append : (stored more : List Tree) (id : Id) → id.0 < 512 + length stored → square_of (stored ++ more) id ≡ square_of stored id
+unfolding square_of
+square_of-append stored more id h = by (kind_of stored id)
+  where
+    by : Kinds stored id → square_of (stored ++ more) id ≡ square_of stored id
+    by (a_state l e) = grind arith
+    by (a_blank l u e) = grind arith
+    by (a_node l e) =
+        let at : get_or (stored ++ more) (id.0 - 512) (point 0) ≡ get_or stored (id.0 - 512) (point 0) = get_or_append_left stored more (point 0) (id.0 - 512) (omega arith) in
+        grind arith
+
+-- a node keeps its square when squares are added
+pub node_square-append : (stored more : List Tree) (i : ℕ) (n : Node) → i ≤ length stored → IsNamed i n.nw → IsNamed i n.ne → IsNamed i n.sw → IsNamed i n.se
+    → node_square (stored ++ more) n ≡ node_square stored n
+node_square-append stored more i n le a b c d =
+    let ea = square_of-append stored more n.nw (omega (arith, a.below)) in
+    let eb = square_of-append stored more n.ne (omega (arith, b.below)) in
+    let ec = square_of-append stored more n.sw (omega (arith, c.below)) in
+    let ed = square_of-append stored more n.se (omega (arith, d.below)) in
+    λ j. quad (ea j) (eb j) (ec j) (ed j)
+
+module _ {X : Type 0} (xs : List X) where
+  -- an element stays at its index
+  pub slice_get-append : (ys : List X) (i : ℕ) (x : X) → slice_get xs i ≡ Some x → slice_get (xs ++ ys) i ≡ Some x
+  slice_get-append ys i x e =
+      let lt = slice_get_within xs i x e in
+      let here = get_or_from_slice_get xs i x x e in
+      let there = get_or_append_left xs ys x i lt in
+      slice_get-get_or (xs ++ ys) i x (omega (arith, length-append xs ys)) ∙ ap Some (there ∙ here)
+
+  -- the last element
+  pub slice_get-last : (x : X) → slice_get (xs ++ x ∷ []) (length xs) ≡ Some x
+  slice_get-last x =
+      slice_get-get_or (xs ++ x ∷ []) (length xs) x (omega (arith, length-append xs (x ∷ []))) ∙ ap Some (get_or-append_seam xs x [] x)
+
+  -- an element was there before, or it is the one that was added
+  pub slice_get-push_cases : (x y : X) (i : ℕ) → slice_get (xs ++ x ∷ []) i ≡ Some y → (slice_get xs i ≡ Some y) ⊎ ((i ≡ length xs) × (y ≡ x))
+  slice_get-push_cases x y i e = by (nat_lt i (length xs)) refl
+    where
+      lt : i < length (xs ++ x ∷ [])
+      lt = slice_get_within (xs ++ x ∷ []) i y e
+
+      here : get_or (xs ++ x ∷ []) i y ≡ y
+      here = get_or_from_slice_get (xs ++ x ∷ []) i y y e
+
+      by : (b : Bool) → nat_lt i (length xs) ≡ b → (slice_get xs i ≡ Some y) ⊎ ((i ≡ length xs) × (y ≡ x))
+      by true h =
+          let below : i < length xs = grind arith in
+          inl (slice_get-get_or xs i y below ∙ ap Some (sym (get_or_append_left xs (x ∷ []) y i below) ∙ here))
+      by false h =
+          let above : length xs ≤ i = grind arith in
+          let same : i ≡ length xs = omega (arith, lt, length-append xs (x ∷ [])) in
+          inr (same, sym here ∙ ap (λ k. get_or (xs ++ x ∷ []) k y) same ∙ get_or-append_seam xs x [] y)
+
+-- a node stays sound when squares are added
+pub IsNode-append : (stored more : List Tree) (i : ℕ) (n : Node) → i ≤ length stored → IsNode stored i n → IsNode (stored ++ more) i n
+IsNode-append stored more i n le e =
+    let same = node_square-append stored more i n le e.nw e.ne e.sw e.se in
+    record {
+      nw = e.nw;
+      ne = e.ne;
+      sw = e.sw;
+      se = e.se;
+      full = subst IsFull (sym same) e.full;
+      level = ap depth same ∙ e.level;
+      low = e.low;
+      not_blank = ap is_blank_tree same ∙ e.not_blank;
+    }
+
+-- the square of a known Id, which is a state, a blank square or the square of a node
+pub data Names (s : Nodes) (id : Id) : Type 0 where
+  the_state : id.0 < 256 → square_of (squares s.nodes) id ≡ point id.0 → Names s id
+  the_blank : (k : ℕ) → k < MAX_LEVEL → id.0 ≡ 256 + k → square_of (squares s.nodes) id ≡ blank (suc k) → Names s id
+  the_node : (i : ℕ) (n : Node) → id.0 ≡ 512 + i → slice_get s.nodes i ≡ Some n → IsNode (squares s.nodes) i n
+      → square_of (squares s.nodes) id ≡ node_square (squares s.nodes) n → Names s id
+
+pub names : (s : Nodes) (id : Id) → Knows s id → Names s id
+names s id h = by (kind_of (squares s.nodes) id)
+  where
+    by : Kinds (squares s.nodes) id → Names s id
+    by (a_state l e) = the_state l e
+    by (a_blank l u e) =
+        let low = h.named.blank u in
+        let k : id.0 - 255 ≡ suc (id.0 - 256) = omega arith in
+        the_blank (id.0 - 256) (omega arith) (omega arith) (e ∙ ap blank k)
+    by (a_node l e) =
+        let i = id.0 - 512 in
+        let lt : i < length s.nodes = omega (arith, h.named.below) in
+        let n : Node = get_or s.nodes i (record { level = 0; nw = id; ne = id; sw = id; se = id }) in
+        let at : slice_get s.nodes i ≡ Some n = slice_get-get_or s.nodes i _ lt in
+        the_node i n (omega arith) at (h.sound.entries i n at) (e ∙ get_or_from_slice_get (squares s.nodes) i _ (point 0) (h.sound.square i n at))
+
+-- the square of a node's Id
+pub square_of-node : (s : Nodes) (i : ℕ) (n : Node) (id : Id) → IsSound s → slice_get s.nodes i ≡ Some n → id.0 ≡ 512 + i → square_of (squares s.nodes) id ≡ node_square (squares s.nodes) n
+square_of-node s i n id h at e = by (kind_of (squares s.nodes) id)
+  where
+    by : Kinds (squares s.nodes) id → square_of (squares s.nodes) id ≡ node_square (squares s.nodes) n
+    by (a_state l f) = absurd (omega arith)
+    by (a_blank l u f) = absurd (omega arith)
+    by (a_node l f) =
+        let same : id.0 - 512 ≡ i = omega arith in
+        f ∙ ap (λ k. get_or (squares s.nodes) k (point 0)) same ∙ get_or_from_slice_get (squares s.nodes) i _ (point 0) (h.square i n at)
+
+-- a known Id names a full square
+pub full_content : (s : Nodes) (id : Id) → Knows s id → IsFull (square_of (squares s.nodes) id)
+full_content s id h = by (names s id h)
+  where
+    by : Names s id → IsFull (square_of (squares s.nodes) id)
+    by (the_state l e) = subst IsFull (sym e) l
+    by (the_blank k l i e) = subst IsFull (sym e) (full-blank (suc k))
+    by (the_node i n j at node e) = subst IsFull (sym e) node.full
+
+-- of the greatest level at most
+pub low_content : (s : Nodes) (id : Id) → Knows s id → depth (square_of (squares s.nodes) id) ≤ MAX_LEVEL
+low_content s id h = by (names s id h)
+  where
+    by : Names s id → depth (square_of (squares s.nodes) id) ≤ MAX_LEVEL
+    by (the_state l e) = let f = ap depth e in omega arith
+    by (the_blank k l i e) = let f : depth (square_of (squares s.nodes) id) ≡ suc k = ap depth e ∙ depth-blank (suc k) in omega arith
+    by (the_node i n j at node e) = let f : depth (square_of (squares s.nodes) id) ≡ n.level = ap depth e ∙ node.level in omega (arith, node.low)
+
+-- a known Id is that of a blank square exactly if its square is blank
+pub is_blank-content : (s : Nodes) (id : Id) → Knows s id → is_blank_tree (square_of (squares s.nodes) id) ≡ is_blank_id id
+is_blank-content s id h = by (names s id h)
+  where
+    by : Names s id → is_blank_tree (square_of (squares s.nodes) id) ≡ is_blank_id id
+    by (the_state l e) = ap is_blank_tree e ∙ grind arith
+    by (the_blank k l i e) = ap is_blank_tree e ∙ is_blank-blank (suc k) ∙ grind arith
+    by (the_node i n j at node e) = ap is_blank_tree e ∙ node.not_blank ∙ grind arith
+
+-- Ids with one number are equal
+pub same_ids : {a b : Id} → a.0 ≡ b.0 → a ≡ b
+same_ids e = λ i. record { 0 = e i }
+
+blank≢false : (t : Tree) → is_blank_tree t ≡ true → is_blank_tree t ≡ false → ⊥
+blank≢false t a b = true≢false (sym a ∙ b)
+
+-- two known Ids of the square t are equal
+abbrev IsAlone : Nodes → Tree → Type 0
+IsAlone s t = (a b : Id) → Knows s a → Knows s b → square_of (squares s.nodes) a ≡ t → square_of (squares s.nodes) b ≡ t → a ≡ b
+
+same_quads : (s : Nodes) → IsShared s → (p q r u : Tree) (a b : Id) → Knows s a → Knows s b
+    → square_of (squares s.nodes) a ≡ quad p q r u → square_of (squares s.nodes) b ≡ quad p q r u
+    → IsAlone s p → IsAlone s q → IsAlone s r → IsAlone s u → a ≡ b
+same_quads s shared p q r u a b ha hb ea eb on_nw on_ne on_sw on_se = by (names s a ha) (names s b hb)
+  where
+    child : (i : ℕ) (n : Node) (id : Id) → slice_get s.nodes i ≡ Some n → IsNamed i id → Knows s id
+    child i n id at h =
+        let lt = slice_get_within s.nodes i n at in
+        record { sound = ha.sound; named = record { below = omega (arith, h.below, lt); blank = h.blank } }
+
+    by : Names s a → Names s b → a ≡ b
+    by (the_state l e) other = absurd (point≢quad (sym e ∙ ea))
+    by (the_blank k l i e) (the_state m f) = absurd (point≢quad (sym f ∙ eb))
+    by (the_blank k l i e) (the_blank k' l' i' f) =
+        let d : suc k ≡ suc k' = sym (depth-blank (suc k)) ∙ ap depth (sym e ∙ ea ∙ sym eb ∙ f) ∙ depth-blank (suc k') in
+        same_ids (omega arith)
+    by (the_blank k l i e) (the_node i' n' j' at' node' f) =
+        absurd (blank≢false (node_square (squares s.nodes) n') (ap is_blank_tree (sym f ∙ eb ∙ sym ea ∙ e) ∙ is_blank-blank (suc k)) node'.not_blank)
+    by (the_node i n j at node e) (the_state m f) = absurd (point≢quad (sym f ∙ eb))
+    by (the_node i n j at node e) (the_blank k' l' i' f) =
+        absurd (blank≢false (node_square (squares s.nodes) n) (ap is_blank_tree (sym e ∙ ea ∙ sym eb ∙ f) ∙ is_blank-blank (suc k')) node.not_blank)
+    by (the_node i n j at node e) (the_node i' n' j' at' node' f) =
+        let left = sym e ∙ ea in
+        let right = sym f ∙ eb in
+        let nw = on_nw n.nw n'.nw (child i n n.nw at node.nw) (child i' n' n'.nw at' node'.nw) (quad_nw left) (quad_nw right) in
+        let ne = on_ne n.ne n'.ne (child i n n.ne at node.ne) (child i' n' n'.ne at' node'.ne) (quad_ne left) (quad_ne right) in
+        let sw = on_sw n.sw n'.sw (child i n n.sw at node.sw) (child i' n' n'.sw at' node'.sw) (quad_sw left) (quad_sw right) in
+        let se = on_se n.se n'.se (child i n n.se at node.se) (child i' n' n'.se at' node'.se) (quad_se left) (quad_se right) in
+        let level = sym node.level ∙ ap depth (left ∙ sym right) ∙ node'.level in
+        let same : n ≡ n' = λ x. record { level = level x; nw = nw x; ne = ne x; sw = sw x; se = se x } in
+        let index : i ≡ i' = shared i i' n' (at ∙ ap Some same) at' in
+        same_ids (omega arith)
+
+-- two known Ids of one square are equal
+pub same_id_at : (s : Nodes) → IsShared s → (t : Tree) (a b : Id) → Knows s a → Knows s b
+    → square_of (squares s.nodes) a ≡ t → square_of (squares s.nodes) b ≡ t → a ≡ b
+same_id_at s shared (point v) a b ha hb ea eb = same_ids (only a (names s a ha) ea ∙ sym (only b (names s b hb) eb))
+  where
+    only : (id : Id) → Names s id → square_of (squares s.nodes) id ≡ point v → id.0 ≡ v
+    only id (the_state l e) f = point_state (sym e ∙ f)
+    only id (the_blank k l i e) f = absurd (point≢quad (sym f ∙ e))
+    only id (the_node i n j at node e) f = absurd (point≢quad (sym f ∙ e))
+same_id_at s shared (quad p q r u) a b ha hb ea eb =
+    same_quads s shared p q r u a b ha hb ea eb
+    (λ x y hx hy ex ey. same_id_at s shared p x y hx hy ex ey) (λ x y hx hy ex ey. same_id_at s shared q x y hx hy ex ey)
+    (λ x y hx hy ex ey. same_id_at s shared r x y hx hy ex ey) (λ x y hx hy ex ey. same_id_at s shared u x y hx hy ex ey)
+
+pub same_id : (s : Nodes) → IsShared s → (a b : Id) → Knows s a → Knows s b → square_of (squares s.nodes) a ≡ square_of (squares s.nodes) b → a ≡ b
+same_id s shared a b ha hb e = same_id_at s shared (square_of (squares s.nodes) b) a b ha hb e refl
+
+abbrev with_node : Nodes → Node → Nodes
+with_node s n = record { nodes = s.nodes ++ n ∷ []; limit = s.limit }
+
+-- a store stays sound when a node is added
+pub IsSound-push : (s : Nodes) (n : Node) → IsSound s → IsNode (squares s.nodes) (length s.nodes) n → length s.nodes < s.limit → IsSound (with_node s n)
+IsSound-push s n h new room =
+    record { entries = all_nodes; square = all_squares; len = omega (arith, length-append s.nodes (n ∷ [])); limit = h.limit }
+  where
+    S : List Tree
+    S = squares s.nodes
+
+    more : squares (s.nodes ++ n ∷ []) ≡ S ++ node_square S n ∷ []
+    more = squares-push s.nodes n
+
+    len : length S ≡ length s.nodes
+    len = length-squares s.nodes
+
+    all_nodes : (i : ℕ) (m : Node) → slice_get (s.nodes ++ n ∷ []) i ≡ Some m → IsNode (squares (s.nodes ++ n ∷ [])) i m
+    all_nodes i m at = by (slice_get-push_cases s.nodes n m i at)
+      where
+        by : (slice_get s.nodes i ≡ Some m) ⊎ ((i ≡ length s.nodes) × (m ≡ n)) → IsNode (squares (s.nodes ++ n ∷ [])) i m
+        by (inl old) =
+            let lt = slice_get_within s.nodes i m old in
+            subst (λ z. IsNode z i m) (sym more) (IsNode-append S _ i m (omega (arith, lt, len)) (h.entries i m old))
+        by (inr last) =
+            let added : IsNode (S ++ node_square S n ∷ []) (length s.nodes) n = IsNode-append S _ (length s.nodes) n (omega (arith, len)) new in
+            subst (λ z. IsNode z i m) (sym more) (subst (λ k. IsNode (S ++ node_square S n ∷ []) k m) (sym last.0) (subst (IsNode (S ++ node_square S n ∷ []) (length s.nodes)) (sym last.1) added))
+
+    all_squares : (i : ℕ) (m : Node) → slice_get (s.nodes ++ n ∷ []) i ≡ Some m → slice_get (squares (s.nodes ++ n ∷ [])) i ≡ Some (node_square (squares (s.nodes ++ n ∷ [])) m)
+    all_squares i m at = by (slice_get-push_cases s.nodes n m i at)
+      where
+        by : (slice_get s.nodes i ≡ Some m) ⊎ ((i ≡ length s.nodes) × (m ≡ n)) → slice_get (squares (s.nodes ++ n ∷ [])) i ≡ Some (node_square (squares (s.nodes ++ n ∷ [])) m)
+        by (inl old) =
+            let lt = slice_get_within s.nodes i m old in
+            let e = h.entries i m old in
+            let same = node_square-append S (node_square S n ∷ []) i m (omega (arith, lt, len)) e.nw e.ne e.sw e.se in
+            ap (λ z. slice_get z i) more ∙ slice_get-append S _ i _ (h.square i m old) ∙ ap Some (sym same ∙ ap (λ z. node_square z m) (sym more))
+        by (inr last) =
+            let same = node_square-append S (node_square S n ∷ []) (length s.nodes) n (omega (arith, len)) new.nw new.ne new.sw new.se in
+            let place : i ≡ length S = last.0 ∙ sym len in
+            ap (λ z. slice_get z i) more ∙ ap (slice_get (S ++ node_square S n ∷ [])) place ∙ slice_get-last S (node_square S n)
+            ∙ ap Some (sym same ∙ ap (node_square (S ++ node_square S n ∷ [])) (sym last.1) ∙ ap (λ z. node_square z m) (sym more))
+
+-- and no node is there twice
+pub IsShared-push : (s : Nodes) (n : Node) → IsShared s → ¬ Contains s.nodes n → IsShared (with_node s n)
+IsShared-push s n shared absent i j m ai aj = by (slice_get-push_cases s.nodes n m i ai) (slice_get-push_cases s.nodes n m j aj)
+  where
+    among : (k : ℕ) → slice_get s.nodes k ≡ Some m → Contains s.nodes m
+    among k e = (k, slice_get_within s.nodes k m e, get_or_from_slice_get s.nodes k m m e)
+
+    by : (slice_get s.nodes i ≡ Some m) ⊎ ((i ≡ length s.nodes) × (m ≡ n)) → (slice_get s.nodes j ≡ Some m) ⊎ ((j ≡ length s.nodes) × (m ≡ n)) → i ≡ j
+    by (inl a) (inl b) = shared i j m a b
+    by (inl a) (inr b) = absurd (absent (subst (Contains s.nodes) b.1 (among i a)))
+    by (inr a) (inl b) = absurd (absent (subst (Contains s.nodes) a.1 (among j b)))
+    by (inr a) (inr b) = a.0 ∙ sym b.0

@@ -1,0 +1,28 @@
+//! Squares of cells.
+#![tactic(auto)]
+
+mod extent;
+mod id;
+pub mod laws;
+mod level;
+mod listing;
+mod moves;
+mod plain;
+mod reads;
+mod runs;
+mod shared;
+mod squares;
+
+pub use extent::Bounds;
+pub use id::Id;
+pub use level::MAX_LEVEL;
+pub use listing::cells;
+pub use moves::{grow, trim};
+pub use plain::Plain;
+pub use reads::{bounds, population};
+pub use runs::put_run;
+pub use shared::Shared;
+pub use squares::{SharedSquares, Squares};
+
+#[cfg(test)]
+mod tests;

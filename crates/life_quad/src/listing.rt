@@ -1,0 +1,212 @@
+//! The nonzero cells of a square, row by row.
+//!
+//! A band is a row of squares of one level, from the west to the east, without blank ones. Its upper half, and then its lower
+//! half, are bands of the level below; a band of level 0 is a row of cells. So no cell is sorted and no blank square is
+//! entered, and each band has at most as many squares as there are cells.
+ghost use Rattle.std.specs.Prelude.{◌≡◌, ◌⊎◌, ◌≢◌, ◌+◌, ◌-◌, ◌^◌, ◌<◌, ◌≤◌, ◌+ℤ◌, ◌≤ℤ◌, pos, neg_ℤ, [], ◌∷◌, ◌++◌, false, length, All, Err, OnOk, IfOk, IfErr};
+ghost use Rattle.life_base.specs.declared.kind.Kind.TheVariants.{Memory, TooManyCells};
+ghost use Rattle.life_base.specs.Tree.{depth, is_blank_tree};
+ghost use Rattle.life_quad.specs.Cells.{IsCellList, population as population_of};
+ghost use Rattle.life_quad.specs.Bands.{InBand, IsPlaced, pieces, kept, northern, southern, upper, lower, row_cells, band_cells};
+
+use crate::moves::{Quarters, divide, is_blank_square};
+use crate::runs::half_side;
+use crate::{Id, MAX_LEVEL, Squares};
+use life_base::{Cell, Kind};
+use std::alloc::Global;
+
+// A square and the column of its western side.
+#[derive(Clone, Copy)]
+struct Placed {
+    square: Id,
+    column: i64,
+}
+
+/// The cells with a state other than 0, row by row, unless there are more than `limit`.
+pub fn cells<S: Squares>(alloc: Global, squares: &S, id: Id, limit: u64) -> Result<Vec<Cell>, Kind>
+    requires known { S.knows squares.now id }
+    requires high { 1 ≤ depth (S.content squares.now id) }
+    ensures cells { IfOk result (λ v. IsCellList (S.content squares.now id) v.items) }
+    ensures number { IfOk result (λ v. length v.items ≡ population_of (S.content squares.now id)) }
+    ensures few { IfOk result (λ v. length v.items ≤ limit) }
+    ensures many { IfErr result (λ e. e ≡ TooManyCells → limit < population_of (S.content squares.now id)) }
+    ensures refusals { IfErr result (λ e. (e ≡ TooManyCells) ⊎ (e ≡ Memory)) }
+{
+    let level = squares.level(id);
+    let west = least_coordinate(level);
+    let mut band = Vec::new(alloc);
+    keep(squares, &mut band, level, id, west)?;
+    let mut list = Vec::new(alloc);
+    append_band(alloc, squares, band, level, west, limit, &mut list)?;
+    Ok(list)
+}
+
+// The least column and row of a square.
+fn least_coordinate(level: u8) -> i64
+    requires low { 1 ≤ level }
+    requires high { level ≤ MAX_LEVEL }
+    ensures half { result ≡ neg_ℤ (pos (2 ^ (level - 1))) }
+    ensures west { neg_ℤ (pos (2 ^ 61)) ≤ℤ result }
+    ensures east { (result +ℤ pos (2 ^ level)) ≤ℤ pos (2 ^ 61) }
+{
+    -(half_side(level) as i64)
+}
+
+// The column or row that is half a side further.
+fn further(coordinate: i64, level: u8) -> i64
+    requires low { 1 ≤ level }
+    requires high { level ≤ MAX_LEVEL }
+    requires west { neg_ℤ (pos (2 ^ 61)) ≤ℤ coordinate }
+    requires east { (coordinate +ℤ pos (2 ^ level)) ≤ℤ pos (2 ^ 61) }
+    ensures { result ≡ (coordinate +ℤ pos (2 ^ (level - 1))) }
+{
+    coordinate + half_side(level) as i64
+}
+
+// One more square at the end of a band.
+fn place(band: &mut Vec<Placed>, square: Id, column: i64) -> Result<(), Kind>
+    ensures ok { OnOk result (band.new.items ≡ band.old.items ++ (record { square = square; column = column }) ∷ []) }
+    ensures refusals { IfErr result (λ e. e ≡ Memory) }
+{
+    let Ok(()) = band.push(Placed { square, column }) else {
+        return Err(Kind::Memory);
+    };
+    Ok(())
+}
+
+// The same, unless the square is blank.
+fn keep<S: Squares>(
+    squares: &S,
+    band: &mut Vec<Placed>,
+    level: u8,
+    square: Id,
+    column: i64,
+) -> Result<(), Kind>
+    requires known { S.knows squares.now square }
+    requires level { depth (S.content squares.now square) ≡ level }
+    requires west { neg_ℤ (pos (2 ^ 61)) ≤ℤ column }
+    requires east { (column +ℤ pos (2 ^ level)) ≤ℤ pos (2 ^ 61) }
+    requires each { All (IsPlaced (S.knows squares.now) (S.content squares.now) level) band.old.items }
+    ensures each { OnOk result (All (IsPlaced (S.knows squares.now) (S.content squares.now) level) band.new.items) }
+    ensures pieces { OnOk result (pieces (S.content squares.now) band.new.items ≡ pieces (S.content squares.now) band.old.items ++ kept (S.content squares.now square) column) }
+    ensures refusals { IfErr result (λ e. e ≡ Memory) }
+{
+    if is_blank_square(squares, square) {
+        return Ok(());
+    }
+    place(band, square, column)
+}
+
+// The northern quarters of a square at the end of one band, and its southern ones at the end of another.
+fn split<S: Squares>(
+    squares: &S,
+    placed: Placed,
+    level: u8,
+    north: &mut Vec<Placed>,
+    south: &mut Vec<Placed>,
+) -> Result<(), Kind>
+    requires low { 1 ≤ level }
+    requires placed { IsPlaced (S.knows squares.now) (S.content squares.now) level placed }
+    requires north { All (IsPlaced (S.knows squares.now) (S.content squares.now) (level - 1)) north.old.items }
+    requires south { All (IsPlaced (S.knows squares.now) (S.content squares.now) (level - 1)) south.old.items }
+    ensures north { OnOk result (All (IsPlaced (S.knows squares.now) (S.content squares.now) (level - 1)) north.new.items) }
+    ensures south { OnOk result (All (IsPlaced (S.knows squares.now) (S.content squares.now) (level - 1)) south.new.items) }
+    ensures northern { OnOk result (pieces (S.content squares.now) north.new.items ≡ pieces (S.content squares.now) north.old.items ++ northern (2 ^ (level - 1)) (S.content squares.now placed.square) placed.column) }
+    ensures southern { OnOk result (pieces (S.content squares.now) south.new.items ≡ pieces (S.content squares.now) south.old.items ++ southern (2 ^ (level - 1)) (S.content squares.now placed.square) placed.column) }
+    ensures refusals { IfErr result (λ e. e ≡ Memory) }
+{
+    let Quarters { nw, ne, sw, se } = divide(squares, placed.square);
+    let west = placed.column;
+    let east = further(west, level);
+    keep(squares, north, level - 1, nw, west)?;
+    keep(squares, north, level - 1, ne, east)?;
+    keep(squares, south, level - 1, sw, west)?;
+    keep(squares, south, level - 1, se, east)
+}
+
+// The upper and the lower half of a band.
+fn halves<S: Squares>(
+    alloc: Global,
+    squares: &S,
+    band: &[Placed],
+    level: u8,
+) -> Result<(Vec<Placed>, Vec<Placed>), Kind>
+    requires low { 1 ≤ level }
+    requires each { All (IsPlaced (S.knows squares.now) (S.content squares.now) level) band.now }
+    ensures north { IfOk result (λ r. All (IsPlaced (S.knows squares.now) (S.content squares.now) (level - 1)) r.0.items) }
+    ensures south { IfOk result (λ r. All (IsPlaced (S.knows squares.now) (S.content squares.now) (level - 1)) r.1.items) }
+    ensures upper { IfOk result (λ r. pieces (S.content squares.now) r.0.items ≡ upper (2 ^ (level - 1)) (pieces (S.content squares.now) band.now)) }
+    ensures lower { IfOk result (λ r. pieces (S.content squares.now) r.1.items ≡ lower (2 ^ (level - 1)) (pieces (S.content squares.now) band.now)) }
+    ensures refusals { IfErr result (λ e. e ≡ Memory) }
+{
+    let mut north = Vec::new(alloc);
+    let mut south = Vec::new(alloc);
+    for placed in band {
+        split(squares, *placed, level, &mut north, &mut south)?;
+    }
+    Ok((north, south))
+}
+
+// The cells of a band of level 0 at the end of a list.
+fn append_row<S: Squares>(
+    squares: &S,
+    band: &[Placed],
+    row: i64,
+    list: &mut Vec<Cell>,
+) -> Result<(), Kind>
+    requires each { All (IsPlaced (S.knows squares.now) (S.content squares.now) 0) band.now }
+    ensures cells { OnOk result (list.new.items ≡ list.old.items ++ row_cells row (pieces (S.content squares.now) band.now)) }
+    ensures refusals { IfErr result (λ e. e ≡ Memory) }
+{
+    for placed in band {
+        let Some(state) = squares.state(placed.square) else {
+            unreachable!();
+        };
+        let cell = Cell {
+            x: placed.column,
+            y: row,
+            state,
+        };
+        let Ok(()) = list.push(cell) else {
+            return Err(Kind::Memory);
+        };
+    }
+    Ok(())
+}
+
+// The cells of a band at the end of a list that may have at most `limit`.
+fn append_band<S: Squares>(
+    alloc: Global,
+    squares: &S,
+    band: Vec<Placed>,
+    level: u8,
+    row: i64,
+    limit: u64,
+    list: &mut Vec<Cell>,
+) -> Result<(), Kind>
+    requires top { level ≤ MAX_LEVEL }
+    requires each { All (IsPlaced (S.knows squares.now) (S.content squares.now) level) band.items }
+    requires band { InBand level (pieces (S.content squares.now) band.items) }
+    requires north { neg_ℤ (pos (2 ^ 61)) ≤ℤ row }
+    requires south { (row +ℤ pos (2 ^ level)) ≤ℤ pos (2 ^ 61) }
+    requires few { length list.old.items ≤ limit }
+    ensures cells { OnOk result (list.new.items ≡ list.old.items ++ band_cells level row (pieces (S.content squares.now) band.items)) }
+    ensures few { OnOk result (length list.new.items ≤ limit) }
+    ensures many { IfErr result (λ e. e ≡ TooManyCells → limit < length list.old.items + length (band_cells level row (pieces (S.content squares.now) band.items))) }
+    ensures refusals { IfErr result (λ e. (e ≡ TooManyCells) ⊎ (e ≡ Memory)) }
+{
+    if limit - (list.len() as u64) < band.len() as u64 {
+        return Err(Kind::TooManyCells);
+    }
+    if band.is_empty() {
+        return Ok(());
+    }
+    if level == 0 {
+        return append_row(squares, &band, row, list);
+    }
+    let (north, south) = halves(alloc, squares, &band, level)?;
+    drop(band);
+    let middle = further(row, level);
+    append_band(alloc, squares, north, level - 1, row, limit, list)?;
+    append_band(alloc, squares, south, level - 1, middle, limit, list)
+}

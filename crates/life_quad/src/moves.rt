@@ -1,0 +1,142 @@
+//! Squares made of other squares.
+ghost use Rattle.std.specs.Prelude.{◌≡◌, ◌+◌, ◌&&◌, ◌⊎◌, ◌<◌, ◌≤◌, length, Contains, Err, IfOk, IfErr, OnErr};
+ghost use Rattle.life_base.specs.declared.kind.Kind.TheVariants.{Full, Memory};
+ghost use Rattle.life_quad.specs.declared.id.Id.{Id as IdValue};
+ghost use Rattle.life_base.specs.Tree.{Tree, quad, depth, is_blank_tree};
+ghost use Rattle.life_quad.specs.Moves.{grown, trimmed, inner, can_trim};
+
+use crate::{Id, MAX_LEVEL, Squares};
+use life_base::Kind;
+
+// The Ids of the four quarters of a square.
+#[derive(Clone, Copy)]
+pub(crate) struct Quarters {
+    pub(crate) nw: Id,
+    pub(crate) ne: Id,
+    pub(crate) sw: Id,
+    pub(crate) se: Id,
+}
+
+// The quarters of a square of level 1 or more.
+pub(crate) fn divide<S: Squares>(squares: &S, id: Id) -> Quarters
+    requires known { S.knows squares.now id }
+    requires deep { 1 ≤ depth (S.content squares.now id) }
+    ensures square { S.content squares.now id ≡ quad (S.content squares.now result.nw) (S.content squares.now result.ne) (S.content squares.now result.sw) (S.content squares.now result.se) }
+    ensures nw { S.knows squares.now result.nw }
+    ensures ne { S.knows squares.now result.ne }
+    ensures sw { S.knows squares.now result.sw }
+    ensures se { S.knows squares.now result.se }
+    ensures nw_level { depth (S.content squares.now result.nw) + 1 ≡ depth (S.content squares.now id) }
+    ensures ne_level { depth (S.content squares.now result.ne) + 1 ≡ depth (S.content squares.now id) }
+    ensures sw_level { depth (S.content squares.now result.sw) + 1 ≡ depth (S.content squares.now id) }
+    ensures se_level { depth (S.content squares.now result.se) + 1 ≡ depth (S.content squares.now id) }
+{
+    match squares.parts(id) {
+        Some(parts) => Quarters {
+            nw: parts[0],
+            ne: parts[1],
+            sw: parts[2],
+            se: parts[3],
+        },
+        None => unreachable!(),
+    }
+}
+
+/// One level higher, with the square in the middle. A refused call leaves the square of every Id.
+pub fn grow<S: Squares>(squares: &mut S, id: Id) -> Result<Id, Kind>
+    requires known { S.knows squares.old id }
+    requires low { 1 ≤ depth (S.content squares.old id) }
+    requires high { depth (S.content squares.old id) < MAX_LEVEL }
+    ensures known { IfOk result (S.knows squares.new) }
+    ensures square { IfOk result (λ r. S.content squares.new r ≡ grown (S.content squares.old id)) }
+    ensures keeps { (q : IdValue) → S.knows squares.old q → S.knows squares.new q × (S.content squares.new q ≡ S.content squares.old q) }
+    ensures stays { (t : Tree) → Contains (S.stored squares.old) t → Contains (S.stored squares.new) t }
+    ensures most { S.most squares.new ≡ S.most squares.old }
+    ensures refusals { IfErr result (λ e. (e ≡ Full) ⊎ (e ≡ Memory)) }
+    ensures full { result ≡ Err Full → length (S.stored squares.new) ≡ S.most squares.new }
+{
+    let Quarters { nw, ne, sw, se } = divide(squares, id);
+    let e = squares.empty(squares.level(nw));
+    let north_west = squares.join(e, e, e, nw)?;
+    let north_east = squares.join(e, e, ne, e)?;
+    let south_west = squares.join(e, sw, e, e)?;
+    let south_east = squares.join(se, e, e, e)?;
+    squares.join(north_west, north_east, south_west, south_east)
+}
+
+// The square of the four inner grandchildren.
+fn middle<S: Squares>(squares: &mut S, id: Id) -> Result<Id, Kind>
+    requires known { S.knows squares.old id }
+    requires deep { 2 ≤ depth (S.content squares.old id) }
+    ensures known { IfOk result (S.knows squares.new) }
+    ensures square { IfOk result (λ r. S.content squares.new r ≡ inner (S.content squares.old id)) }
+    ensures keeps { (q : IdValue) → S.knows squares.old q → S.knows squares.new q × (S.content squares.new q ≡ S.content squares.old q) }
+    ensures stays { (t : Tree) → Contains (S.stored squares.old) t → Contains (S.stored squares.new) t }
+    ensures most { S.most squares.new ≡ S.most squares.old }
+    ensures refusals { IfErr result (λ e. (e ≡ Full) ⊎ (e ≡ Memory)) }
+    ensures full { result ≡ Err Full → length (S.stored squares.new) ≡ S.most squares.new }
+{
+    let whole = divide(squares, id);
+    let nw = divide(squares, whole.nw);
+    let ne = divide(squares, whole.ne);
+    let sw = divide(squares, whole.sw);
+    let se = divide(squares, whole.se);
+    squares.join(nw.se, ne.sw, sw.ne, se.nw)
+}
+
+// Whether every cell of a square has state 0.
+pub(crate) fn is_blank_square<S: Squares>(squares: &S, id: Id) -> bool
+    requires { S.knows squares.now id }
+    ensures { result ≡ is_blank_tree (S.content squares.now id) }
+{
+    id == squares.empty(squares.level(id))
+}
+
+// Whether a square is above the least level, and its twelve outer grandchildren are blank.
+fn can_be_trimmed<S: Squares>(squares: &S, id: Id, least: u8) -> bool
+    requires known { S.knows squares.now id }
+    requires positive { 1 ≤ least }
+    ensures { result ≡ can_trim (S.content squares.now id) least }
+{
+    if squares.level(id) <= least {
+        return false;
+    }
+    let whole = divide(squares, id);
+    let nw = divide(squares, whole.nw);
+    let ne = divide(squares, whole.ne);
+    let sw = divide(squares, whole.sw);
+    let se = divide(squares, whole.se);
+    are_three_blank(squares, nw.nw, nw.ne, nw.sw)
+        && are_three_blank(squares, ne.nw, ne.ne, ne.se)
+        && are_three_blank(squares, sw.nw, sw.sw, sw.se)
+        && are_three_blank(squares, se.ne, se.sw, se.se)
+}
+
+// Whether three squares are blank.
+fn are_three_blank<S: Squares>(squares: &S, a: Id, b: Id, c: Id) -> bool
+    requires a { S.knows squares.now a }
+    requires b { S.knows squares.now b }
+    requires c { S.knows squares.now c }
+    ensures { result ≡ (is_blank_tree (S.content squares.now a) && (is_blank_tree (S.content squares.now b) && is_blank_tree (S.content squares.now c))) }
+{
+    is_blank_square(squares, a) && is_blank_square(squares, b) && is_blank_square(squares, c)
+}
+
+/// While the square is above the least level and its outer grandchildren are blank, the square of its inner ones.
+pub fn trim<S: Squares>(squares: &mut S, id: Id, least: u8) -> Result<Id, Kind>
+    requires known { S.knows squares.old id }
+    requires positive { 1 ≤ least }
+    ensures known { IfOk result (S.knows squares.new) }
+    ensures square { IfOk result (λ r. S.content squares.new r ≡ trimmed (S.content squares.old id) least) }
+    ensures keeps { (q : IdValue) → S.knows squares.old q → S.knows squares.new q × (S.content squares.new q ≡ S.content squares.old q) }
+    ensures stays { (t : Tree) → Contains (S.stored squares.old) t → Contains (S.stored squares.new) t }
+    ensures most { S.most squares.new ≡ S.most squares.old }
+    ensures refusals { IfErr result (λ e. (e ≡ Full) ⊎ (e ≡ Memory)) }
+    ensures full { result ≡ Err Full → length (S.stored squares.new) ≡ S.most squares.new }
+{
+    if !can_be_trimmed(squares, id, least) {
+        return Ok(id);
+    }
+    let smaller = middle(squares, id)?;
+    trim(squares, smaller, least)
+}

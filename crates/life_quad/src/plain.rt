@@ -1,0 +1,145 @@
+//! A store that keeps each join as a node of its own.
+ghost use Rattle.std.specs.Prelude.{◌≡◌, ℕ, ◌<◌, ◌≤◌, ◌^◌, ◌+◌, [], ◌∷◌, ◌++◌, length, false, ◌↔◌, ◌⊎◌, Err, OnOk, OnErr, IfOk, IfErr, slice_get, option_copied};
+ghost use Rattle.life_base.specs.declared.kind.Kind.TheVariants.{Full, Memory};
+ghost use Rattle.life_base.specs.Tree.{is_blank_tree};
+ghost use Rattle.life_quad.specs.StoreLaws.{full_content, low_content};
+ghost use Rattle.life_quad.specs.Store.{squares, square_of, held, Knows, IsNode, IsSound, IsIdOf};
+
+use crate::id::{CELLS, FIRST_NODE, Node, are_blank};
+use crate::{Id, Squares};
+use life_base::{Kind, State};
+use std::alloc::Global;
+use std::marker::Model;
+
+/// Squares by their nodes, a node for each nonblank join.
+#[derive(Drop)]
+pub struct Plain {
+    nodes: Vec<Node>,
+    limit: u64,
+}
+
+impl Model for Plain {
+    ghost use Rattle.life_quad.specs.Store.{Nodes, IsSound};
+
+    ghost Value = { Nodes };
+
+    ghost view = { λ s. record { nodes = s.nodes.items; limit = s.limit } };
+
+    ghost invariant = { λ s. IsSound (record { nodes = s.nodes.items; limit = s.limit }) };
+}
+
+// The node at an index.
+fn node_at(nodes: &[Node], index: usize) -> Option<&Node>
+    ensures { option_copied result ≡ slice_get nodes.now index }
+{
+    nodes.get(index)
+}
+
+impl Plain {
+    /// An empty store for at most `limit` nodes.
+    pub fn new(alloc: Global, limit: u64) -> Plain
+        requires { limit ≤ 2 ^ 62 }
+        ensures stored { held result ≡ [] }
+        ensures most { result.limit ≡ limit }
+    {
+        Plain {
+            nodes: Vec::new(alloc),
+            limit,
+        }
+    }
+
+    // The Id of a new node.
+    fn add(&mut self, node: Node) -> Result<Id, Kind>
+        requires { IsNode (squares self.old.nodes) (length self.old.nodes) node }
+        ensures stored { OnOk result (self.new.nodes ≡ self.old.nodes ++ node ∷ []) }
+        ensures id { IfOk result (λ id. IsIdOf self.new node id) }
+        ensures last { IfOk result (λ id. id.0 ≡ 512 + length self.old.nodes) }
+        ensures sound { IsSound self.new }
+        ensures limit { self.new.limit ≡ self.old.limit }
+        ensures full { (result ≡ Err Full) ↔ (length self.old.nodes ≡ self.old.limit) }
+        ensures refusals { IfErr result (λ e. (e ≡ Full) ⊎ (e ≡ Memory)) }
+        ensures unchanged { OnErr result (self.new ≡ self.old) }
+    {
+        let index = self.nodes.len() as u64;
+        if index == self.limit {
+            return Err(Kind::Full);
+        }
+        let Ok(()) = self.nodes.push(node) else {
+            return Err(Kind::Memory);
+        };
+        Ok(Id(FIRST_NODE + index))
+    }
+}
+
+impl Squares for Plain {
+    ghost knows = { Knows };
+
+    ghost content = { λ s id. square_of (squares s.nodes) id };
+
+    ghost stored = { held };
+
+    ghost most = { λ s. s.limit };
+
+    ghost needs_node = { λ s t. is_blank_tree t ≡ false };
+
+    fn empty(&self, level: u8) -> Id {
+        let _ = &self.limit;
+        if level == 0 {
+            Id(0)
+        } else {
+            Id(255 + level as u64)
+        }
+    }
+
+    fn cell(&self, state: State) -> Id {
+        let _ = &self.limit;
+        Id(state as u64)
+    }
+
+    fn join(&mut self, nw: Id, ne: Id, sw: Id, se: Id) -> Result<Id, Kind> {
+        let level = self.level(nw) + 1;
+        if are_blank(nw, ne, sw, se) {
+            return Ok(self.empty(level));
+        }
+        self.add(Node {
+            level,
+            nw,
+            ne,
+            sw,
+            se,
+        })
+    }
+
+    fn parts(&self, id: Id) -> Option<[Id; 4]> {
+        if id.0 < CELLS {
+            return None;
+        }
+        if id.0 < FIRST_NODE {
+            let e = self.empty((id.0 - CELLS) as u8);
+            return Some([e, e, e, e]);
+        }
+        let node = node_at(self.nodes.as_slice(), (id.0 - FIRST_NODE) as usize)?;
+        Some([node.nw, node.ne, node.sw, node.se])
+    }
+
+    fn state(&self, id: Id) -> Option<State> {
+        if id.0 < CELLS { Some(id.0 as u8) } else { None }
+    }
+
+    fn level(&self, id: Id) -> u8 {
+        if id.0 < CELLS {
+            0
+        } else if id.0 < FIRST_NODE {
+            (id.0 - CELLS) as u8 + 1
+        } else {
+            match node_at(self.nodes.as_slice(), (id.0 - FIRST_NODE) as usize) {
+                Some(node) => node.level,
+                None => 0,
+            }
+        }
+    }
+
+    ghost full = { full_content };
+
+    ghost low = { low_content };
+}

@@ -1,0 +1,142 @@
+//! Runs of cells.
+ghost use Rattle.std.specs.Prelude.{◌≡◌, ◌⊎◌, ℤ, pos, neg_ℤ, ◌≤ℤ◌, ◌<ℤ◌, ◌+ℤ◌, ◌-◌, ◌+◌, ◌^◌, ◌<◌, ◌≤◌, length, Contains, Err, IfOk, IfErr};
+ghost use Rattle.life_base.specs.declared.kind.Kind.TheVariants.{Full, Memory};
+ghost use Rattle.life_quad.specs.declared.id.Id.{Id as IdValue};
+ghost use Rattle.life_base.specs.Tree.{Tree, depth};
+ghost use Rattle.life_quad.specs.Span.{SetsSpan, SetsHalves};
+ghost use Rattle.life_quad.specs.Cells.{IsRunInside, SetsRun};
+
+use crate::moves::{Quarters, divide};
+use crate::{Id, MAX_LEVEL, Squares};
+use life_base::{Kind, State};
+
+// Half of the side of a square of a level.
+pub(crate) fn half_side(level: u8) -> u64
+    requires low { 1 ≤ level }
+    requires high { level ≤ MAX_LEVEL }
+    ensures half { result ≡ 2 ^ (level - 1) }
+    ensures small { result ≤ 2 ^ 61 }
+{
+    1 << (level - 1)
+}
+
+// How far a coordinate is from the west or north side.
+fn offset(x: i64, half: u64) -> u64
+    requires small { half ≤ 2 ^ 61 }
+    requires low { neg_ℤ (pos half) ≤ℤ x }
+    requires high { x <ℤ pos half }
+    ensures { pos result ≡ (x +ℤ pos half) }
+{
+    (x + half as i64) as u64
+}
+
+#[cycle(span)]
+// The square with a span of one row set. The span goes down both halves, and one half serves for
+// both where it covers both and they are one square.
+fn set_span<S: Squares>(
+    squares: &mut S,
+    id: Id,
+    column: u64,
+    row: u64,
+    len: u64,
+    state: State,
+) -> Result<Id, Kind>
+    requires known { S.knows squares.old id }
+    requires positive { 1 ≤ len }
+    requires columns { column + len ≤ 2 ^ depth (S.content squares.old id) }
+    requires rows { row < 2 ^ depth (S.content squares.old id) }
+    ensures known { IfOk result (S.knows squares.new) }
+    ensures square { IfOk result (λ r. SetsSpan (S.content squares.old id) (S.content squares.new r) column row len state) }
+    ensures keeps { (q : IdValue) → S.knows squares.old q → S.knows squares.new q × (S.content squares.new q ≡ S.content squares.old q) }
+    ensures stays { (t : Tree) → Contains (S.stored squares.old) t → Contains (S.stored squares.new) t }
+    ensures most { S.most squares.new ≡ S.most squares.old }
+    ensures refusals { IfErr result (λ e. (e ≡ Full) ⊎ (e ≡ Memory)) }
+    ensures full { result ≡ Err Full → length (S.stored squares.new) ≡ S.most squares.new }
+{
+    let level = squares.level(id);
+    if level == 0 {
+        return Ok(squares.cell(state));
+    }
+    let half = half_side(level);
+    let Quarters { nw, ne, sw, se } = divide(squares, id);
+    if row < half {
+        let (left, right) = set_halves(squares, nw, ne, half, column, row, len, state)?;
+        squares.join(left, right, sw, se)
+    } else {
+        let (left, right) = set_halves(squares, sw, se, half, column, row - half, len, state)?;
+        squares.join(nw, ne, left, right)
+    }
+}
+
+#[cycle(span)]
+// Two squares side by side, of side `half`, with a span of one row set.
+fn set_halves<S: Squares>(
+    squares: &mut S,
+    left: Id,
+    right: Id,
+    half: u64,
+    column: u64,
+    row: u64,
+    len: u64,
+    state: State,
+) -> Result<(Id, Id), Kind>
+    requires left { S.knows squares.old left }
+    requires right { S.knows squares.old right }
+    requires one_level { depth (S.content squares.old right) ≡ depth (S.content squares.old left) }
+    requires side { half ≡ 2 ^ depth (S.content squares.old left) }
+    requires low { depth (S.content squares.old left) < MAX_LEVEL }
+    requires positive { 1 ≤ len }
+    requires columns { column + len ≤ half + half }
+    requires rows { row < half }
+    ensures left { IfOk result (λ r. S.knows squares.new r.0) }
+    ensures right { IfOk result (λ r. S.knows squares.new r.1) }
+    ensures squares { IfOk result (λ r. SetsHalves (S.content squares.old left) (S.content squares.old right) (S.content squares.new r.0) (S.content squares.new r.1) column row len state) }
+    ensures keeps { (q : IdValue) → S.knows squares.old q → S.knows squares.new q × (S.content squares.new q ≡ S.content squares.old q) }
+    ensures stays { (t : Tree) → Contains (S.stored squares.old) t → Contains (S.stored squares.new) t }
+    ensures most { S.most squares.new ≡ S.most squares.old }
+    ensures refusals { IfErr result (λ e. (e ≡ Full) ⊎ (e ≡ Memory)) }
+    ensures full { result ≡ Err Full → length (S.stored squares.new) ≡ S.most squares.new }
+{
+    let end = column + len;
+    if end <= half {
+        return Ok((set_span(squares, left, column, row, len, state)?, right));
+    }
+    if half <= column {
+        return Ok((
+            left,
+            set_span(squares, right, column - half, row, len, state)?,
+        ));
+    }
+    if left == right && len == half + half {
+        let both = set_span(squares, left, 0, row, half, state)?;
+        return Ok((both, both));
+    }
+    let new_left = set_span(squares, left, column, row, half - column, state)?;
+    let new_right = set_span(squares, right, 0, row, end - half, state)?;
+    Ok((new_left, new_right))
+}
+
+/// The root's square with the cells (x, y) to (x + len - 1, y) set.
+pub fn put_run<S: Squares>(
+    squares: &mut S,
+    root: Id,
+    x: i64,
+    y: i64,
+    len: u64,
+    state: State,
+) -> Result<Id, Kind>
+    requires known { S.knows squares.old root }
+    requires high { 1 ≤ depth (S.content squares.old root) }
+    requires positive { 1 ≤ len }
+    requires inside { IsRunInside (S.content squares.old root) x y len }
+    ensures known { IfOk result (S.knows squares.new) }
+    ensures square { IfOk result (λ r. SetsRun (S.content squares.old root) (S.content squares.new r) x y len state) }
+    ensures keeps { (q : IdValue) → S.knows squares.old q → S.knows squares.new q × (S.content squares.new q ≡ S.content squares.old q) }
+    ensures stays { (t : Tree) → Contains (S.stored squares.old) t → Contains (S.stored squares.new) t }
+    ensures most { S.most squares.new ≡ S.most squares.old }
+    ensures refusals { IfErr result (λ e. (e ≡ Full) ⊎ (e ≡ Memory)) }
+    ensures full { result ≡ Err Full → length (S.stored squares.new) ≡ S.most squares.new }
+{
+    let half = half_side(squares.level(root));
+    set_span(squares, root, offset(x, half), offset(y, half), len, state)
+}

@@ -1,0 +1,97 @@
+//! What a store of squares offers.
+ghost use Rattle.std.specs.Prelude.{◌≡◌, ◌↔◌, ◌⊎◌, ℕ, ◌<◌, ◌≤◌, List, [], ◌∷◌, ◌++◌, length, map, All, Contains, Ok, Err, MatchOption, IfOk, IfErr, OnOk, OnErr};
+ghost use Rattle.life_base.specs.declared.kind.Kind.TheVariants.{Full, Memory};
+ghost use Rattle.life_quad.specs.declared.id.Id.{Id as IdValue};
+ghost use Rattle.life_base.specs.Tree.{Tree, point, quad, depth, blank, quarters, IsFull};
+
+use crate::{Id, MAX_LEVEL};
+use life_base::{Kind, State};
+
+/// A store of squares. A square is named by an `Id`.
+pub trait Squares {
+    ghost use Rattle.life_quad.specs.declared.level.TheConstants.{MAX_LEVEL};
+
+    // The Id names a square of the store.
+    ghost knows: { Self → IdValue → Type 0 };
+
+    // The square for which an Id stands.
+    ghost content: { Self → IdValue → Tree };
+
+    // The squares of the stored nodes, oldest first.
+    ghost stored: { Self → List Tree };
+
+    // How many nodes the store may hold.
+    ghost most: { Self → ℕ };
+
+    // A join that gives this square stores a new node.
+    ghost needs_node: { Self → Tree → Type 0 };
+
+    /// The blank square of a level.
+    fn empty(&self, level: u8) -> Id
+        requires { level ≤ MAX_LEVEL }
+        ensures known { knows self.now result }
+        ensures square { content self.now result ≡ blank level }
+        ensures level { depth (content self.now result) ≡ level }
+        ensures alone { (id : IdValue) → knows self.now id → content self.now id ≡ blank level → id ≡ result };
+
+    /// The square of one cell.
+    fn cell(&self, state: State) -> Id
+        ensures known { knows self.now result }
+        ensures square { content self.now result ≡ point state };
+
+    /// The square of four quarters. A refused call leaves the store as it was.
+    fn join(&mut self, nw: Id, ne: Id, sw: Id, se: Id) -> Result<Id, Kind>
+        requires nw { knows self.old nw }
+        requires ne { knows self.old ne }
+        requires sw { knows self.old sw }
+        requires se { knows self.old se }
+        requires ne_level { depth (content self.old ne) ≡ depth (content self.old nw) }
+        requires sw_level { depth (content self.old sw) ≡ depth (content self.old nw) }
+        requires se_level { depth (content self.old se) ≡ depth (content self.old nw) }
+        requires room { depth (content self.old nw) < MAX_LEVEL }
+        ensures known { IfOk result (λ id. knows self.new id) }
+        ensures square { IfOk result (λ id. content self.new id ≡ quad (content self.old nw) (content self.old ne) (content self.old sw) (content self.old se)) }
+        ensures keeps { (id : IdValue) → knows self.old id → knows self.new id × (content self.new id ≡ content self.old id) }
+        ensures stays { (t : Tree) → Contains (stored self.old) t → Contains (stored self.new) t }
+        ensures most { most self.new ≡ most self.old }
+
+        // The nodes that are stored.
+        ensures added { let t = quad (content self.old nw) (content self.old ne) (content self.old sw) (content self.old se) in OnOk result (needs_node self.old t → stored self.new ≡ stored self.old ++ t ∷ []) }
+        ensures there { let t = quad (content self.old nw) (content self.old ne) (content self.old sw) (content self.old se) in OnOk result (¬ needs_node self.old t → stored self.new ≡ stored self.old) }
+
+        // A new node gets an Id that named nothing before.
+        ensures fresh { let t = quad (content self.old nw) (content self.old ne) (content self.old sw) (content self.old se) in IfOk result (λ id. needs_node self.old t → ¬ knows self.old id) }
+
+        // A refusal is want of room or of memory, for a new node alone.
+        ensures full { let t = quad (content self.old nw) (content self.old ne) (content self.old sw) (content self.old se) in (result ≡ Err Full) ↔ (needs_node self.old t × (length (stored self.old) ≡ most self.old)) }
+        ensures refusals { IfErr result (λ e. (e ≡ Full) ⊎ (e ≡ Memory)) }
+        ensures needed { let t = quad (content self.old nw) (content self.old ne) (content self.old sw) (content self.old se) in OnErr result (needs_node self.old t) }
+        ensures unchanged { OnErr result (self.new ≡ self.old) };
+
+    /// The four quarters, which a square of level 0 lacks.
+    fn parts(&self, id: Id) -> Option<[Id; 4]>
+        requires { knows self.now id }
+        ensures { MatchOption result (quarters (content self.now id) ≡ []) (λ ids. All (knows self.now) ids × (map (content self.now) ids ≡ quarters (content self.now id))) };
+
+    /// The state of a square of level 0.
+    fn state(&self, id: Id) -> Option<State>
+        requires { knows self.now id }
+        ensures { MatchOption result (0 < depth (content self.now id)) (λ s. content self.now id ≡ point s) };
+
+    /// The level of a square.
+    fn level(&self, id: Id) -> u8
+        requires { knows self.now id }
+        ensures level { result ≡ depth (content self.now id) }
+        ensures low { result ≤ MAX_LEVEL };
+
+    // Each Id stands for a full square of the greatest level at most.
+    ghost full: { (store : Self) (id : IdValue) → knows store id → IsFull (content store id) };
+
+    ghost low: { (store : Self) (id : IdValue) → knows store id → depth (content store id) ≤ MAX_LEVEL };
+}
+
+/// A store that keeps each square once.
+pub trait SharedSquares: Squares {
+    // Two Ids are equal if their squares are.
+    ghost same_id: { (store : Self) (a b : IdValue) → Self.knows store a → Self.knows store b → Self.content store a ≡ Self.content store b → a ≡ b };
+}

@@ -1,0 +1,235 @@
+//! Worked examples, and each public call once at each store.
+
+ghost use Rattle.std.specs.Prelude.{◌≡◌, ◌≤◌, IfOk};
+ghost use Rattle.life_base.specs.Tree.{depth};
+ghost use Rattle.life_quad.specs.declared.id.Id.{Id as IdValue};
+
+use crate::{
+    Bounds, Id, Plain, Shared, SharedSquares, Squares, bounds, cells, grow, population, put_run,
+    trim,
+};
+use life_base::{Cell, Kind};
+use std::alloc::Global;
+use std::test::Fail;
+
+// A run put into a square, and refused where it does not lie in it.
+fn put<S: Squares>(
+    squares: &mut S,
+    root: Id,
+    x: i64,
+    y: i64,
+    len: u64,
+    state: u8,
+) -> Result<Id, Kind>
+    requires { S.knows squares.old root }
+    ensures known { IfOk result (S.knows squares.new) }
+    ensures level { IfOk result (λ r. depth (S.content squares.new r) ≡ depth (S.content squares.old root)) }
+    ensures high { IfOk result (λ r. 1 ≤ depth (S.content squares.new r)) }
+    ensures keeps { (q : IdValue) → S.knows squares.old q → S.knows squares.new q × (S.content squares.new q ≡ S.content squares.old q) }
+{
+    let level = squares.level(root);
+    if level == 0 || len == 0 {
+        return Err(Kind::OutOfPlane);
+    }
+    let half = crate::runs::half_side(level) as i64;
+    if x < -half || half <= x || y < -half || half <= y || len > (half - x) as u64 {
+        return Err(Kind::OutOfPlane);
+    }
+    put_run(squares, root, x, y, len, state)
+}
+
+// Two long runs in the greatest square.
+fn long_runs(alloc: Global, squares: &mut Shared) -> Result<(u128, Option<Bounds>, u128), Kind> {
+    let root = squares.empty(60);
+    let west = -(1 << 59);
+    let one = put(squares, root, west, 0, 1 << 60, 1)?;
+    let first = population(alloc, squares, one)?;
+    let least = bounds(alloc, squares, one)?;
+    let two = put(squares, one, west, 1, 1 << 60, 1)?;
+    Ok((first, least, population(alloc, squares, two)?))
+}
+
+#[test]
+fn long_runs_share(rt: HostRuntime) -> Result<(), Fail> {
+    let mut squares = Shared::new(rt.alloc(), 1000);
+    let (first, least, second) = long_runs(rt.alloc(), &mut squares)?;
+    assert_eq!(rt; first, 1152921504606846976);
+    assert_eq!(rt;
+        least,
+        Some(Bounds {
+            left: -576460752303423488,
+            top: 0,
+            right: 576460752303423487,
+            bottom: 0
+        })
+    );
+    assert_eq!(rt; second, 2305843009213693952);
+    assert_eq!(rt; squares.limit(), 1000);
+    let mut small = Shared::new(rt.alloc(), 59);
+    assert_eq!(rt; long_runs(rt.alloc(), &mut small), Err(Kind::Full));
+    assert_eq!(rt; small.len(), 59);
+    Ok(())
+}
+
+// Two cells in either order, and both cleared again.
+fn orders<S: SharedSquares>(squares: &mut S) -> Result<(bool, bool), Kind> {
+    let blank = squares.empty(5);
+    let a = put(squares, blank, 0, 0, 1, 1)?;
+    let ab = put(squares, a, 5, 3, 1, 1)?;
+    let b = put(squares, blank, 5, 3, 1, 1)?;
+    let ba = put(squares, b, 0, 0, 1, 1)?;
+    let without_a = put(squares, ab, 0, 0, 1, 0)?;
+    let none = put(squares, without_a, 5, 3, 1, 0)?;
+    Ok((ab == ba, none == blank))
+}
+
+#[test]
+fn orders_do_not_matter(rt: HostRuntime) -> Result<(), Fail> {
+    let mut squares = Shared::new(rt.alloc(), 1000);
+    assert_eq!(rt; orders(&mut squares)?, (true, true));
+    Ok(())
+}
+
+// The levels of squares with one cell after trimming, and a square grown and trimmed again.
+fn trims<S: Squares>(squares: &mut S) -> Result<([u8; 5], Id, Id), Kind> {
+    let blank = squares.empty(9);
+    let a = put(squares, blank, 4, 0, 1, 1)?;
+    let a1 = trim(squares, a, 1)?;
+    let a3 = trim(squares, a, 3)?;
+    let b = put(squares, blank, 0, 0, 1, 1)?;
+    let b1 = trim(squares, b, 1)?;
+    let b3 = trim(squares, b, 3)?;
+    let small = squares.empty(4);
+    let four = put(squares, small, 4, 0, 1, 1)?;
+    let grown = grow(squares, four)?;
+    let back = trim(squares, grown, 1)?;
+    let levels = [
+        squares.level(a1),
+        squares.level(a3),
+        squares.level(b1),
+        squares.level(b3),
+        squares.level(grown),
+    ];
+    Ok((levels, back, a1))
+}
+
+#[test]
+fn squares_are_trimmed(rt: HostRuntime) -> Result<(), Fail> {
+    let mut squares = Shared::new(rt.alloc(), 1000);
+    let (levels, back, square) = trims(&mut squares)?;
+    assert_eq!(rt; levels, [4, 4, 1, 3, 5]);
+    assert_eq!(rt; back, square);
+    let mut plain = Plain::new(rt.alloc(), 1000);
+    assert_eq!(rt; trims(&mut plain)?.0, [4, 4, 1, 3, 5]);
+    Ok(())
+}
+
+// The cells of a square in which two cells were set.
+fn two_cells<S: Squares>(alloc: Global, squares: &mut S, limit: u64) -> Result<Vec<Cell>, Kind> {
+    let blank = squares.empty(5);
+    let one = put(squares, blank, 3, -2, 1, 7)?;
+    let two = put(squares, one, -4, -2, 1, 1)?;
+    cells(alloc, squares, two, limit)
+}
+
+fn one_cell<S: Squares>(alloc: Global, squares: &mut S) -> Result<Vec<Cell>, Kind> {
+    let blank = squares.empty(5);
+    let one = put(squares, blank, 0, 0, 1, 1)?;
+    cells(alloc, squares, one, 1)
+}
+
+#[test]
+fn cells_are_listed(rt: HostRuntime) -> Result<(), Fail> {
+    let west = Cell {
+        x: -4,
+        y: -2,
+        state: 1,
+    };
+    let east = Cell {
+        x: 3,
+        y: -2,
+        state: 7,
+    };
+    let middle = Cell {
+        x: 0,
+        y: 0,
+        state: 1,
+    };
+    let mut squares = Shared::new(rt.alloc(), 1000);
+    let list = two_cells(rt.alloc(), &mut squares, 2)?;
+    assert_eq!(rt; list.as_slice(), [west, east].as_slice());
+    assert!(rt;
+        matches!(
+            two_cells(rt.alloc(), &mut squares, 1),
+            Err(Kind::TooManyCells)
+        )
+    );
+    let mut plain = Plain::new(rt.alloc(), 1000);
+    let list = one_cell(rt.alloc(), &mut plain)?;
+    assert_eq!(rt; list.as_slice(), [middle].as_slice());
+    let mut small = Plain::new(rt.alloc(), 4);
+    assert!(rt; matches!(one_cell(rt.alloc(), &mut small), Err(Kind::Full)));
+    Ok(())
+}
+
+// A square of level 1 by its quarters.
+fn quarters<S: Squares>(squares: &mut S) -> Result<(bool, Option<u8>, u8, bool), Kind> {
+    let one = squares.cell(1);
+    let none = squares.empty(0);
+    let square = squares.join(none, one, none, none)?;
+    let parts = squares.parts(square);
+    Ok((
+        parts == Some([none, one, none, none]),
+        squares.state(one),
+        squares.level(square),
+        squares.parts(one).is_none(),
+    ))
+}
+
+#[test]
+fn squares_have_quarters(rt: HostRuntime) -> Result<(), Fail> {
+    let mut squares = Shared::new(rt.alloc(), 1);
+    assert_eq!(rt; quarters(&mut squares)?, (true, Some(1), 1, true));
+    assert_eq!(rt; quarters(&mut squares)?, (true, Some(1), 1, true));
+    assert_eq!(rt; squares.len(), 1);
+    let mut plain = Plain::new(rt.alloc(), 1);
+    assert_eq!(rt; quarters(&mut plain)?, (true, Some(1), 1, true));
+    assert!(rt; matches!(quarters(&mut plain), Err(Kind::Full)));
+    Ok(())
+}
+
+// The population and the box of a blank square and of one with a block of cells of states above 1.
+fn measures<S: SharedSquares>(
+    alloc: Global,
+    squares: &mut S,
+) -> Result<(u128, Option<Bounds>, u128, Option<Bounds>), Kind> {
+    let blank = squares.empty(7);
+    let none = (
+        population(alloc, squares, blank)?,
+        bounds(alloc, squares, blank)?,
+    );
+    let one = put(squares, blank, -9, 4, 6, 200)?;
+    let two = put(squares, one, 11, -30, 2, 3)?;
+    Ok((
+        none.0,
+        none.1,
+        population(alloc, squares, two)?,
+        bounds(alloc, squares, two)?,
+    ))
+}
+
+#[test]
+fn squares_are_measured(rt: HostRuntime) -> Result<(), Fail> {
+    let mut squares = Shared::new(rt.alloc(), 1000);
+    let least = Bounds {
+        left: -9,
+        top: -30,
+        right: 12,
+        bottom: 4,
+    };
+    assert_eq!(rt;
+        measures(rt.alloc(), &mut squares)?,
+        (0, None, 8, Some(least))
+    );
+    Ok(())
+}
