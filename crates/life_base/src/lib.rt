@@ -16,7 +16,7 @@ mod rule_text;
 mod text;
 mod writing;
 
-pub use cell::{Cell, State};
+pub use cell::{Cell, MAX_LEVEL, State};
 pub use devices::{Device, Sink, Source};
 pub use fault::{Fault, Place};
 pub use items::Items;
