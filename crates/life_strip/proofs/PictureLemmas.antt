@@ -1,4 +1,5 @@
 -- Facts about strips one below the other.
+use Rattle.life_base.specs.declared.cell.TheConstants.{MAX_LEVEL}
 use Rattle.std.proofs.Common.{length-append, Result, Ok, Err, OnOk, ◌≡◌, ℕ, zero, suc, ◌+◌, ◌-◌, ◌*◌, ◌/◌, ◌%◌, ◌^◌, ◌≤◌, ◌<◌, Bool, true, false, nat_lt, List, [], ◌∷◌, ◌++◌, length, get_or, All, refl, sym, ◌∙◌, ap, subst, arith}
 use Rattle.std.specs.Prelude.{if◌then◌else◌}
 use Rattle.std.proofs.lemmas.Nat.{div-mul-add, mod-mul-add, mod_below, div-add-mod'}
@@ -8,11 +9,10 @@ use Rattle.std.proofs.Math.Seq.{get_or-append_seam}
 use Rattle.std.proofs.lemmas.List.{get_or_append_left}
 use Rattle.std.proofs.lemmas.List.Quantifiers.{all_pairs_push}
 use Rattle.life_quad.specs.declared.id.Id.{Id}
-use Rattle.life_base.specs.Tree.{Tree, point, quad, depth, blank, state_at}
-use Rattle.life_strip.specs.declared.spans.Span.{Span}
+use Rattle.life_base.specs.Tree.{Tree, quad, depth, blank, state_at}
 use Rattle.life_strip.specs.declared.spans.Strip.{Strip}
 use Rattle.life_strip.specs.declared.spans.Found.{Found}
-use Rattle.life_strip.specs.Strip.{square_at, quad_at, IsStrip, IsPaired, IsFound}
+use Rattle.life_strip.specs.Strip.{square_at, IsStrip, IsPaired, IsFound}
 use Rattle.life_strip.specs.Picture.{state_in, picture, height, AreFalling, IsLowest, IsSound, IsStack}
 use Rattle.life_strip.proofs.SpanLemmas.{Keeps, depth-square_at, square-keeps, strip-keeps, found-known, found-depth, found-content}
 
@@ -36,7 +36,7 @@ east i m positive h =
     let whole : i ≡ (q * 2 + 1) * m + (r - m) = omega (arith, first, one, h) in
     (ap (λ z. z / m) whole ∙ div-mul-add (q * 2 + 1) m (r - m) small ∙ (omega arith), ap (λ z. z % m) whole ∙ mod-mul-add (q * 2 + 1) m (r - m) small)
 
-positive_power : (k : ℕ) → 0 < 2 ^ k
+pub positive_power : (k : ℕ) → 0 < 2 ^ k
 positive_power zero = omega arith
 positive_power (suc k) = let h = positive_power k in let e : 2 ^ suc k ≡ 2 ^ k + 2 ^ k = grind arith in omega (arith, h, e)
 
@@ -55,42 +55,50 @@ pub stack : (knows : Id → Type 0) (old new : Id → Tree) (upper lower both : 
     → IsPaired old new upper.level upper.spans.items lower.spans.items both.spans.items → IsStack old new upper lower both
 stack knows old new upper lower both sound same level paired column row =
     first ∙ ap (λ t. state_at t (column % (2 * m)) row) (paired (column / (2 * m)))
-      ∙ quad-row (u (2 * c)) (u (2 * c + 1)) (l (2 * c)) (l (2 * c + 1)) (column % (2 * m)) row m deep ∙ by (nat_lt (column % (2 * m)) m) refl
+    ∙ quad-row (u (2 * c)) (u (2 * c + 1)) (l (2 * c)) (l (2 * c + 1)) (column % (2 * m)) row m deep ∙ by (nat_lt (column % (2 * m)) m) refl
   where
     k : ℕ
     k = upper.level
+
     m : ℕ
     m = 2 ^ upper.level
+
     u : ℕ → Tree
     u = square_at old upper.level upper.spans.items
+
     l : ℕ → Tree
     l = square_at old upper.level lower.spans.items
+
     c : ℕ
     c = column / (2 * 2 ^ upper.level)
+
     first : state_in new both column row ≡ state_at (square_at new (suc upper.level) both.spans.items (column / (2 * m))) (column % (2 * m)) row
     first =
         (λ x. state_at (square_at new (level x) both.spans.items (column / 2 ^ level x)) (column % 2 ^ level x) row)
-          ∙ ap (λ w. state_at (square_at new (suc upper.level) both.spans.items (column / w)) (column % w) row) (double upper.level)
+        ∙ ap (λ w. state_at (square_at new (suc upper.level) both.spans.items (column / w)) (column % w) row) (double upper.level)
+
     deep : m ≡ 2 ^ depth (u (2 * c))
     deep = ap (λ z. 2 ^ z) (sym (depth-square_at knows old upper.level upper.spans.items sound (2 * c)))
+
     below : state_in old lower column (row - m) ≡ state_at (l (column / m)) (column % m) (row - m)
     below = λ x. state_at (square_at old (same x) lower.spans.items (column / 2 ^ same x)) (column % 2 ^ same x) (row - m)
+
     by : (b : Bool) → nat_lt (column % (2 * m)) m ≡ b
         → (if nat_lt row m then (if nat_lt (column % (2 * m)) m then state_at (u (2 * c)) (column % (2 * m)) row else state_at (u (2 * c + 1)) (column % (2 * m) - m) row)
-           else (if nat_lt (column % (2 * m)) m then state_at (l (2 * c)) (column % (2 * m)) (row - m) else state_at (l (2 * c + 1)) (column % (2 * m) - m) (row - m)))
-          ≡ (if nat_lt row m then state_in old upper column row else state_in old lower column (row - m))
+        else (if nat_lt (column % (2 * m)) m then state_at (l (2 * c)) (column % (2 * m)) (row - m) else state_at (l (2 * c + 1)) (column % (2 * m) - m) (row - m)))
+        ≡ (if nat_lt row m then state_in old upper column row else state_in old lower column (row - m))
     by true e =
         let w = west column m (grind arith) in
         ap (λ t. if nat_lt row m then (if t then state_at (u (2 * c)) (column % (2 * m)) row else state_at (u (2 * c + 1)) (column % (2 * m) - m) row)
-           else (if t then state_at (l (2 * c)) (column % (2 * m)) (row - m) else state_at (l (2 * c + 1)) (column % (2 * m) - m) (row - m))) e
-          ∙ (λ x. if nat_lt row m then state_at (u (sym w.0 x)) (sym w.1 x) row else state_at (l (sym w.0 x)) (sym w.1 x) (row - m))
-          ∙ ap (λ z. if nat_lt row m then state_in old upper column row else z) (sym below)
+        else (if t then state_at (l (2 * c)) (column % (2 * m)) (row - m) else state_at (l (2 * c + 1)) (column % (2 * m) - m) (row - m))) e
+        ∙ (λ x. if nat_lt row m then state_at (u (sym w.0 x)) (sym w.1 x) row else state_at (l (sym w.0 x)) (sym w.1 x) (row - m))
+        ∙ ap (λ z. if nat_lt row m then state_in old upper column row else z) (sym below)
     by false e =
         let w = east column m (positive_power upper.level) (grind arith) in
         ap (λ t. if nat_lt row m then (if t then state_at (u (2 * c)) (column % (2 * m)) row else state_at (u (2 * c + 1)) (column % (2 * m) - m) row)
-           else (if t then state_at (l (2 * c)) (column % (2 * m)) (row - m) else state_at (l (2 * c + 1)) (column % (2 * m) - m) (row - m))) e
-          ∙ (λ x. if nat_lt row m then state_at (u (sym w.0 x)) (sym w.1 x) row else state_at (l (sym w.0 x)) (sym w.1 x) (row - m))
-          ∙ ap (λ z. if nat_lt row m then state_in old upper column row else z) (sym below)
+        else (if t then state_at (l (2 * c)) (column % (2 * m)) (row - m) else state_at (l (2 * c + 1)) (column % (2 * m) - m) (row - m))) e
+        ∙ (λ x. if nat_lt row m then state_at (u (sym w.0 x)) (sym w.1 x) row else state_at (l (sym w.0 x)) (sym w.1 x) (row - m))
+        ∙ ap (λ z. if nat_lt row m then state_in old upper column row else z) (sym below)
 
 -- the height of one strip more
 pub height-push : (xs : List Strip) (s : Strip) → height (xs ++ s ∷ []) ≡ height xs + 2 ^ s.level
@@ -115,8 +123,10 @@ module _ {knows knows' : Id → Type 0} {old new : Id → Tree} (keeps : Keeps k
     where
       w : 2 ^ ab.level ≡ 2 ^ a.level + 2 ^ a.level
       w = ap (λ n. 2 ^ n) level ∙ double a.level ∙ (omega arith)
+
       v : 2 ^ b.level ≡ 2 ^ a.level
       v = ap (λ n. 2 ^ n) same
+
       by : (p : Bool) → nat_lt j (2 ^ a.level) ≡ p → (q : Bool) → nat_lt j (2 ^ ab.level) ≡ q → picture new (ab ∷ []) i j ≡ picture old (a ∷ b ∷ []) i j
       by true e true f = ap (λ t. if t then state_in new ab i j else 0) f ∙ st i j ∙ ap (λ t. if t then state_in old a i j else state_in old b i (j - 2 ^ a.level)) e ∙ sym (ap (λ t. if t then state_in old a i j else picture old (b ∷ []) i (j - 2 ^ a.level)) e)
       by true e false f = absurd (let x : j < 2 ^ a.level = grind arith in let y : 2 ^ ab.level ≤ j = grind arith in omega (arith, w, x, y))
@@ -126,14 +136,14 @@ module _ {knows knows' : Id → Type 0} {old new : Id → Tree} (keeps : Keeps k
           let z : j - 2 ^ a.level < 2 ^ b.level = omega (arith, v, w, x, y) in
           let t : nat_lt (j - 2 ^ a.level) (2 ^ b.level) ≡ true = grind arith in
           ap (λ t. if t then state_in new ab i j else 0) f ∙ st i j ∙ ap (λ t. if t then state_in old a i j else state_in old b i (j - 2 ^ a.level)) e
-            ∙ sym (ap (λ t. if t then state_in old a i j else picture old (b ∷ []) i (j - 2 ^ a.level)) e ∙ ap (λ t. if t then state_in old b i (j - 2 ^ a.level) else 0) t)
+          ∙ sym (ap (λ t. if t then state_in old a i j else picture old (b ∷ []) i (j - 2 ^ a.level)) e ∙ ap (λ t. if t then state_in old b i (j - 2 ^ a.level) else 0) t)
       by false e false f =
           let x : 2 ^ a.level ≤ j = grind arith in
           let y : 2 ^ ab.level ≤ j = grind arith in
           let z : 2 ^ b.level ≤ j - 2 ^ a.level = omega (arith, v, w, x, y) in
           let t : nat_lt (j - 2 ^ a.level) (2 ^ b.level) ≡ false = grind arith in
           ap (λ t. if t then state_in new ab i j else 0) f
-            ∙ sym (ap (λ t. if t then state_in old a i j else picture old (b ∷ []) i (j - 2 ^ a.level)) e ∙ ap (λ t. if t then state_in old b i (j - 2 ^ a.level) else 0) t)
+          ∙ sym (ap (λ t. if t then state_in old a i j else picture old (b ∷ []) i (j - 2 ^ a.level)) e ∙ ap (λ t. if t then state_in old b i (j - 2 ^ a.level) else 0) t)
   picture-merge (x ∷ xs) a b ab h same level st i j =
       let here = state_in-keeps x (h 0 x (omega arith)) i j in
       let more = picture-merge xs a b ab (λ k d lt. h (suc k) d (omega (arith, lt))) same level st i (j - 2 ^ x.level) in
@@ -144,13 +154,13 @@ pub on_ok_map : {T E : Type 0} {P Q : Type 0} (r : Result T E) → (P → Q) →
 on_ok_map (Ok x) f p = f p
 on_ok_map (Err e) f p = tt
 
--- two strips of a level within 2^60 rows are of a level below 60
-pub fits_below : (h k : ℕ) → h + 2 ^ k + 2 ^ k ≤ 2 ^ 60 → k < 60
-fits_below h k le = by (nat_lt k 60) refl
+-- two strips of a level within the plane are of a level below the greatest
+pub fits_below : (h k : ℕ) → h + 2 ^ k + 2 ^ k ≤ 2 ^ MAX_LEVEL → k < MAX_LEVEL
+fits_below h k le = by (nat_lt k MAX_LEVEL) refl
   where
-    by : (b : Bool) → nat_lt k 60 ≡ b → k < 60
+    by : (b : Bool) → nat_lt k MAX_LEVEL ≡ b → k < MAX_LEVEL
     by true e = grind arith
-    by false e = absurd (let above : 60 ≤ k = grind arith in let more = pow_mono {i = 60} {j = k} above in omega (arith, more, le))
+    by false e = absurd (let above : MAX_LEVEL ≤ k = grind arith in let more = pow_mono {i = MAX_LEVEL} {j = k} above in omega (arith, more, le))
 
 -- all but the last
 pub all_init : {X : Type 0} (P : X → Type 0) (xs : List X) (x : X) → All P (xs ++ x ∷ []) → All P xs
@@ -167,6 +177,7 @@ state_at-blank (suc k) i j = by (λ n m. state_at-blank k n m) (nat_lt j (2 ^ de
   where
     h : ℕ
     h = 2 ^ depth (blank k)
+
     by : ((n m : ℕ) → state_at (blank k) n m ≡ 0) → (p q : Bool)
         → (if p then (if q then state_at (blank k) i j else state_at (blank k) (i - h) j) else (if q then state_at (blank k) i (j - h) else state_at (blank k) (i - h) (j - h))) ≡ 0
     by f true true = f i j
@@ -180,6 +191,7 @@ picture-blank content [] s e i j = by (nat_lt j (2 ^ s.level))
   where
     none : state_in content s i j ≡ 0
     none = ap (λ z. state_at (square_at content s.level z (i / 2 ^ s.level)) (i % 2 ^ s.level) j) e ∙ state_at-blank s.level (i % 2 ^ s.level) j
+
     by : (b : Bool) → (if b then state_in content s i j else 0) ≡ 0
     by true = none
     by false = refl
@@ -187,13 +199,13 @@ picture-blank content (x ∷ xs) s e i j =
     let more = picture-blank content xs s e i (j - 2 ^ x.level) in
     λ y. if nat_lt j (2 ^ x.level) then state_in content x i j else more y
 
--- 2^60 is the power of 60
-pub at_most_60 : (k n : ℕ) → 2 ^ k ≤ n → n ≤ 2 ^ 60 → k ≤ 60
-at_most_60 k n a b = by (nat_lt k 61) refl
+-- a power within the rows of the plane is of the greatest level at most
+pub at_most_greatest : (k n : ℕ) → 2 ^ k ≤ n → n ≤ 2 ^ MAX_LEVEL → k ≤ MAX_LEVEL
+at_most_greatest k n a b = by (nat_lt k (suc MAX_LEVEL)) refl
   where
-    by : (t : Bool) → nat_lt k 61 ≡ t → k ≤ 60
+    by : (t : Bool) → nat_lt k (suc MAX_LEVEL) ≡ t → k ≤ MAX_LEVEL
     by true e = grind arith
-    by false e = absurd (let above : 61 ≤ k = grind arith in let more = pow_mono {i = 61} {j = k} above in omega (arith, more, a, b))
+    by false e = absurd (let above : suc MAX_LEVEL ≤ k = grind arith in let more = pow_mono {i = suc MAX_LEVEL} {j = k} above in omega (arith, more, a, b))
 
 -- the level of a strip among others, and of the last
 level_left : (xs : List Strip) (x : Strip) (k : ℕ) (d : Strip) → k < length xs → (get_or (xs ++ x ∷ []) k d).level ≡ (get_or xs k d).level
@@ -231,14 +243,17 @@ falling-push xs x y fall low other = all_pairs_push (λ s t. t.level < s.level) 
   where
     n : length (xs ++ x ∷ []) ≡ length xs + 1
     n = length-append xs (x ∷ [])
+
     most : (d : Strip) → y.level ≤ x.level
     most d = let a = low (length xs) d (omega (arith, n)) in let q = level_last xs x d in omega (arith, a, q)
+
     less : (d : Strip) → y.level < x.level
     less d = at (nat_lt y.level x.level) refl
       where
         at : (b : Bool) → nat_lt y.level x.level ≡ b → y.level < x.level
         at true e = grind arith
         at false e = absurd (other (let m = most d in let f : x.level ≤ y.level = grind arith in omega (arith, m, f)))
+
     by : (k : ℕ) (d : Strip) → k < length (xs ++ x ∷ []) → (b : Bool) → nat_lt k (length xs) ≡ b → y.level < (get_or (xs ++ x ∷ []) k d).level
     by k d lt true e =
         let kl : k < length xs = grind arith in
@@ -264,42 +279,45 @@ height-falling (x ∷ xs) n fall low =
     omega (arith, rest, two, more)
 
 -- strips of falling levels that fill the plane are one
-pub one_strip : (xs : List Strip) → AreFalling xs → height xs ≡ 2 ^ 60 → (s : Strip) × (xs ≡ s ∷ []) × (s.level ≡ 60)
+pub one_strip : (xs : List Strip) → AreFalling xs → height xs ≡ 2 ^ MAX_LEVEL → (s : Strip) × (xs ≡ s ∷ []) × (s.level ≡ MAX_LEVEL)
 one_strip [] fall full = absurd (omega (arith, full))
-one_strip (x ∷ []) fall full = (x, refl, by (nat_lt x.level 60) refl (nat_lt 60 x.level) refl)
+one_strip (x ∷ []) fall full = (x, refl, by (nat_lt x.level MAX_LEVEL) refl (nat_lt MAX_LEVEL x.level) refl)
   where
-    by : (p : Bool) → nat_lt x.level 60 ≡ p → (q : Bool) → nat_lt 60 x.level ≡ q → x.level ≡ 60
-    by true e q f = absurd (let a : suc x.level ≤ 60 = grind arith in let m = pow_mono {i = suc x.level} {j = 60} a in let t = double x.level in let z = positive_power x.level in omega (arith, m, t, z, full))
-    by false e true f = absurd (let a : 61 ≤ x.level = grind arith in let m = pow_mono {i = 61} {j = x.level} a in omega (arith, m, full))
+    by : (p : Bool) → nat_lt x.level MAX_LEVEL ≡ p → (q : Bool) → nat_lt MAX_LEVEL x.level ≡ q → x.level ≡ MAX_LEVEL
+    by true e q f = absurd (let a : suc x.level ≤ MAX_LEVEL = grind arith in let m = pow_mono {i = suc x.level} {j = MAX_LEVEL} a in let t = double x.level in let z = positive_power x.level in omega (arith, m, t, z, full))
+    by false e true f = absurd (let a : suc MAX_LEVEL ≤ x.level = grind arith in let m = pow_mono {i = suc MAX_LEVEL} {j = x.level} a in omega (arith, m, full))
     by false e false f = grind arith
-one_strip (x ∷ y ∷ xs) fall full = absurd (by (nat_lt x.level 60) refl)
+one_strip (x ∷ y ∷ xs) fall full = absurd (by (nat_lt x.level MAX_LEVEL) refl)
   where
     rest : height (y ∷ xs) < 2 ^ x.level
     rest = height-falling (y ∷ xs) x.level (λ i j d ij jl. fall (suc i) (suc j) d (omega (arith, ij)) (omega (arith, jl))) (λ k d lt. fall 0 (suc k) d (omega arith) (omega (arith, lt)))
-    by : (p : Bool) → nat_lt x.level 60 ≡ p → ⊥
-    by true e = let a : suc x.level ≤ 60 = grind arith in let m = pow_mono {i = suc x.level} {j = 60} a in let t = double x.level in let r = rest in omega (arith, m, t, r, full)
-    by false e = let a : 60 ≤ x.level = grind arith in let m = pow_mono {i = 60} {j = x.level} a in let z = positive_power y.level in omega (arith, m, z, full)
 
--- the first square of one strip of level 60 has the cells of the plane
+    by : (p : Bool) → nat_lt x.level MAX_LEVEL ≡ p → ⊥
+    by true e = let a : suc x.level ≤ MAX_LEVEL = grind arith in let m = pow_mono {i = suc x.level} {j = MAX_LEVEL} a in let t = double x.level in let r = rest in omega (arith, m, t, r, full)
+    by false e = let a : MAX_LEVEL ≤ x.level = grind arith in let m = pow_mono {i = MAX_LEVEL} {j = x.level} a in let z = positive_power y.level in omega (arith, m, z, full)
+
+-- the first square of one strip of the greatest level has the cells of the plane
 pub record IsWhole (knows : Id → Type 0) (content : Id → Tree) (strips : List Strip) (id : Id) : Type 0 where
   pub known : knows id
-  pub level : depth (content id) ≡ 60
-  pub cells : (i j : ℕ) → i < 2 ^ 60 → j < 2 ^ 60 → state_at (content id) i j ≡ picture content strips i j
+  pub level : depth (content id) ≡ MAX_LEVEL
+  pub cells : (i j : ℕ) → i < 2 ^ MAX_LEVEL → j < 2 ^ MAX_LEVEL → state_at (content id) i j ≡ picture content strips i j
 
-pub whole-strip : (knows : Id → Type 0) (content : Id → Tree) (s : Strip) (b : Id) (f : Found) → IsSound knows content s → s.level ≡ 60 → knows b → content b ≡ blank 60
+pub whole-strip : (knows : Id → Type 0) (content : Id → Tree) (s : Strip) (b : Id) (f : Found) → IsSound knows content s → s.level ≡ MAX_LEVEL → knows b → content b ≡ blank MAX_LEVEL
     → IsFound s.spans.items 0 b f → IsWhole knows content (s ∷ []) f.square
 whole-strip knows content s b f sound e known is_blank h =
     record {
       known = found-known knows content s.level s.spans.items sound.squares b known at_level 0 f h;
       level = found-depth knows content s.level s.spans.items sound.squares b known at_level 0 f h ∙ e;
-      cells = at
+      cells = at;
     }
   where
     at_level : content b ≡ blank s.level
     at_level = is_blank ∙ ap blank (sym e)
-    side : 2 ^ s.level ≡ 2 ^ 60
+
+    side : 2 ^ s.level ≡ 2 ^ MAX_LEVEL
     side = ap (λ n. 2 ^ n) e
-    at : (i j : ℕ) → i < 2 ^ 60 → j < 2 ^ 60 → state_at (content f.square) i j ≡ picture content (s ∷ []) i j
+
+    at : (i j : ℕ) → i < 2 ^ MAX_LEVEL → j < 2 ^ MAX_LEVEL → state_at (content f.square) i j ≡ picture content (s ∷ []) i j
     at i j il jl =
         let below : i < 2 ^ s.level = omega (arith, il, side) in
         let row : nat_lt j (2 ^ s.level) ≡ true = let l : j < 2 ^ s.level = omega (arith, jl, side) in grind arith in
@@ -307,5 +325,5 @@ whole-strip knows content s b f sound e known is_blank h =
         let q : i / 2 ^ s.level ≡ 0 = ap (λ z. z / 2 ^ s.level) p ∙ div-mul-add 0 (2 ^ s.level) i below in
         let r : i % 2 ^ s.level ≡ i = ap (λ z. z % 2 ^ s.level) p ∙ mod-mul-add 0 (2 ^ s.level) i below in
         ap (λ t. state_at t i j) (found-content knows content s.level s.spans.items sound.squares b known at_level 0 f h)
-          ∙ (λ x. state_at (square_at content s.level s.spans.items (sym q x)) (sym r x) j)
-          ∙ sym (ap (λ t. if t then state_in content s i j else 0) row)
+        ∙ (λ x. state_at (square_at content s.level s.spans.items (sym q x)) (sym r x) j)
+        ∙ sym (ap (λ t. if t then state_in content s i j else 0) row)

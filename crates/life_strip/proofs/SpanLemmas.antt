@@ -1,9 +1,10 @@
 -- Facts about spans and strips.
-use Rattle.std.proofs.Common.{◌≡◌, ℕ, zero, suc, ◌+◌, ◌-◌, ◌*◌, ◌^◌, ◌≤◌, ◌<◌, ◌⊎◌, inl, inr, Bool, true, false, nat_lt, List, [], ◌∷◌, ◌++◌, length, drop, get_or, All, Option, Some, None, refl, sym, ◌∙◌, ap, subst, arith, append-nil}
+use Rattle.life_base.specs.declared.cell.TheConstants.{MAX_LEVEL}
+use Rattle.std.proofs.Common.{◌≡◌, ℕ, suc, ◌+◌, ◌-◌, ◌*◌, ◌^◌, ◌≤◌, ◌<◌, ◌⊎◌, inl, inr, Bool, true, false, nat_lt, List, [], ◌∷◌, ◌++◌, Option, Some, None, refl, sym, ◌∙◌, ap, subst, arith, append-nil}
 use Rattle.std.specs.Prelude.{if◌then◌else◌}
 use Rattle.std.proofs.lemmas.List.Elements.{All-push}
 use Rattle.life_quad.specs.declared.id.Id.{Id}
-use Rattle.life_base.specs.Tree.{Tree, point, quad, depth, blank}
+use Rattle.life_base.specs.Tree.{Tree, quad, depth, blank}
 use Rattle.life_quad.specs.TreeLaws.{depth-blank}
 use Rattle.life_strip.specs.declared.spans.Span.{Span}
 use Rattle.life_strip.specs.declared.spans.Found.{Found}
@@ -47,8 +48,8 @@ append_one : (spans more : List Span) (s : Span) (c : ℕ) → id_at ((spans ++ 
 append_one [] more s c = refl
 append_one (t ∷ rest) more s c = ap (λ o. if nat_lt c t.end then Some t.square else o) (append_one rest more s c)
 
-within_one : (spans : List Span) (s : Span) → AreWithin spans → s.end ≤ 2 ^ 60 → AreWithin (spans ++ s ∷ [])
-within_one spans s h le = All-push (λ t. t.end ≤ 2 ^ 60) spans s h le
+within_one : (spans : List Span) (s : Span) → AreWithin spans → s.end ≤ 2 ^ MAX_LEVEL → AreWithin (spans ++ s ∷ [])
+within_one spans s h le = All-push (λ t. t.end ≤ 2 ^ MAX_LEVEL) spans s h le
 
 module _ {knows knows' : Id → Type 0} {old now : Id → Tree} (keeps : Keeps knows knows' old now) (level : ℕ) where
   -- a strip stays one
@@ -122,13 +123,14 @@ PairedTo-start knows old level upper lower =
 pub PairedTo-push : {knows knows' : Id → Type 0} {old now now' : Id → Tree} (level : ℕ) (upper lower spans : List Span) (column next : ℕ) (r : Id)
     → PairedTo knows old now level upper lower spans column → Keeps knows knows' now now'
     → knows' r → now' r ≡ quad_at old level upper lower column
-    → column < next → next ≤ 2 ^ 60 → ((c : ℕ) → column < c → c < next → quad_at old level upper lower c ≡ quad_at old level upper lower column)
+    → column < next → next ≤ 2 ^ MAX_LEVEL → ((c : ℕ) → column < c → c < next → quad_at old level upper lower c ≡ quad_at old level upper lower column)
     → PairedTo knows' old now' level upper lower (spans ++ record { end = next; square = r } ∷ []) next
 PairedTo-push {knows} {knows'} {old} {now} {now'} level upper lower spans column next r p keeps kr er lt within same =
     record { done = done; rest = rest; within = within_one spans s p.within within }
   where
     s : Span
     s = record { end = next; square = r }
+
     done : (c : ℕ) → c < next → (id : Id) × ((more : List Span) → id_at ((spans ++ s ∷ []) ++ more) c ≡ Some id) × knows' id × (now' id ≡ quad_at old level upper lower c)
     done c h = by (nat_lt c column) refl
       where
@@ -143,6 +145,7 @@ PairedTo-push {knows} {knows'} {old} {now} {now'} level upper lower spans column
             at : (b : Bool) → nat_lt column c ≡ b → column ≤ c → quad_at old level upper lower c ≡ quad_at old level upper lower column
             at true f above = same c (grind arith) h
             at false f above = let e : c ≡ column = grind arith in ap (quad_at old level upper lower) e
+
     rest : (c : ℕ) → next ≤ c → (more : List Span) → id_at ((spans ++ s ∷ []) ++ more) c ≡ id_at more c
     rest c h more = append_one spans more s c ∙ p.rest c (omega arith) (s ∷ more) ∙ id_at-after s more c h
 
@@ -162,7 +165,7 @@ module _ (knows : Id → Type 0) (old now : Id → Tree) (level : ℕ) (upper lo
           let d = l (2 * c) (omega (arith, above)) in
           let f = l (2 * c + 1) (omega (arith, above)) in
           ap (λ z. square_or_blank now (suc level) (id_at z c)) (sym (append-nil spans)) ∙ ap (square_or_blank now (suc level)) (p.rest c above [])
-            ∙ (λ i. quad (square_or_blank old level (sym a i)) (square_or_blank old level (sym b i)) (square_or_blank old level (sym d i)) (square_or_blank old level (sym f i)))
+          ∙ (λ i. quad (square_or_blank old level (sym a i)) (square_or_blank old level (sym b i)) (square_or_blank old level (sym d i)) (square_or_blank old level (sym f i)))
 
   pub PairedTo-strip : (k : Id → Type 0) → IsStrip k old level upper → IsStrip knows now (level + 1) spans
   PairedTo-strip k u c id at = by (nat_lt c column) refl
@@ -192,6 +195,6 @@ quad-same knows content level upper lower u l b known is_blank column c n s hn h
 pub none-left : (spans : List Span) (column : ℕ) (b : Id) (f : Found) → IsFound spans column b f → 2 ^ 64 - 1 ≤ f.end → (c : ℕ) → column ≤ c → id_at spans c ≡ None
 none-left spans column b f h le = by h.last
   where
-    by : (f.end ≤ 2 ^ 60) ⊎ ((f.end ≡ 2 ^ 64 - 1) × ((c : ℕ) → column ≤ c → id_at spans c ≡ None)) → (c : ℕ) → column ≤ c → id_at spans c ≡ None
+    by : (f.end ≤ 2 ^ MAX_LEVEL) ⊎ ((f.end ≡ 2 ^ 64 - 1) × ((c : ℕ) → column ≤ c → id_at spans c ≡ None)) → (c : ℕ) → column ≤ c → id_at spans c ≡ None
     by (inl small) = absurd (omega (arith, small, le))
     by (inr none) = none.1

@@ -1,7 +1,8 @@
 -- Strips: rows of squares of one level, side by side.
-use Rattle.std.specs.Prelude.{◌≡◌, ℕ, suc, ◌+◌, ◌-◌, ◌*◌, ◌/◌, ◌%◌, ◌^◌, ◌<◌, ◌≤◌, ◌⊎◌, nat_lt, if◌then◌else◌, List, [], ◌∷◌, ◌++◌, length, drop, All, AllPairs, Option, Some, None}
+use Rattle.life_base.specs.declared.cell.TheConstants.{MAX_LEVEL}
+use Rattle.std.specs.Prelude.{◌≡◌, ℕ, suc, ◌+◌, ◌-◌, ◌*◌, ◌^◌, ◌<◌, ◌≤◌, ◌⊎◌, nat_lt, if◌then◌else◌, List, [], ◌∷◌, drop, All, Option, Some, None}
 use Rattle.life_quad.specs.declared.id.Id.{Id}
-use Rattle.life_base.specs.Tree.{Tree, point, quad, depth, blank, state_at}
+use Rattle.life_base.specs.Tree.{Tree, quad, depth, blank}
 use Rattle.life_strip.specs.declared.spans.Span.{Span}
 use Rattle.life_strip.specs.declared.spans.Found.{Found}
 
@@ -23,15 +24,15 @@ square_at content level spans column = square_or_blank content level (id_at span
 abbrev pub IsStrip : (Id → Type 0) → (Id → Tree) → ℕ → List Span → Type 0
 IsStrip knows content level spans = (column : ℕ) (id : Id) → id_at spans column ≡ Some id → knows id × (depth (content id) ≡ level)
 
--- no span ends beyond 2^60 columns
+-- no span ends beyond the last column of the plane
 abbrev pub AreWithin : List Span → Type 0
-AreWithin spans = All (λ s. s.end ≤ 2 ^ 60) spans
+AreWithin spans = All (λ s. s.end ≤ 2 ^ MAX_LEVEL) spans
 
 -- the square of two columns of two strips, one above the other
 abbrev pub quad_at : (Id → Tree) → ℕ → List Span → List Span → ℕ → Tree
 quad_at content level upper lower column =
     quad (square_at content level upper (2 * column)) (square_at content level upper (2 * column + 1))
-         (square_at content level lower (2 * column)) (square_at content level lower (2 * column + 1))
+    (square_at content level lower (2 * column)) (square_at content level lower (2 * column + 1))
 
 -- each column of a strip of the next level has the four squares of the two strips
 abbrev pub IsPaired : (Id → Tree) → (Id → Tree) → ℕ → List Span → List Span → List Span → Type 0
@@ -51,4 +52,4 @@ pub record IsFound (spans : List Span) (column : ℕ) (blank : Id) (found : Foun
   pub past : IsPast spans found.index column
   pub square : (c : ℕ) → column ≤ c → c < found.end → id_or blank (id_at spans c) ≡ found.square
   pub beyond : column < found.end
-  pub last : (found.end ≤ 2 ^ 60) ⊎ ((found.end ≡ 2 ^ 64 - 1) × ((c : ℕ) → column ≤ c → id_at spans c ≡ None))
+  pub last : (found.end ≤ 2 ^ MAX_LEVEL) ⊎ ((found.end ≡ 2 ^ 64 - 1) × ((c : ℕ) → column ≤ c → id_at spans c ≡ None))

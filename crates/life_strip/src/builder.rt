@@ -1,110 +1,54 @@
 //! A builder that fills a store row by row.
-ghost use Rattle.std.specs.Prelude.{◌≡◌, ℕ, ℤ, suc, ◌+◌, ◌^◌, ◌<◌, ◌≤◌, ◌⊎◌, ◌++◌, ◌∷◌, [], List, All, AllPairs, length, Err, IfOk, IfErr, OnOk};
+ghost use Rattle.std.specs.Prelude.{◌≡◌, ℕ, ℤ, pos, neg_ℤ, ◌+ℤ◌, ◌<ℤ◌, ◌≤ℤ◌, suc, ◌+◌, ◌^◌, ◌<◌, ◌≤◌, ◌⊎◌, ◌++◌, ◌∷◌, [], List, All, Contains, length, Err, IfOk, IfErr, OnOk};
 ghost use Rattle.life_base.specs.declared.kind.Kind.TheVariants.{Full, Memory};
+ghost use Rattle.life_base.specs.Tree.{Tree, depth};
 ghost use Rattle.life_quad.specs.declared.id.Id.{Id as IdValue};
-ghost use Rattle.life_base.specs.Tree.{Tree, depth, state_at};
 ghost use Rattle.life_quad.specs.Cells.{cell as cell_of};
-ghost use Rattle.life_strip.specs.Picture.{picture, height, AreFalling, IsLowest, IsSound};
-ghost use Rattle.life_strip.specs.Filling.{IsEmpty, IsFilling, IsOnPlane, IsNext, AddsRun, cell_so_far};
+ghost use Rattle.life_strip.specs.Picture.{picture};
+ghost use Rattle.life_strip.specs.Filling.{IsEmpty, IsFilling, IsOnPlane, IsNext, IsAfterRun, AddsRun, cell_so_far, half_plane};
 
-use crate::rows::push_strip;
-use crate::spans::{Strip, find};
-use life_base::{Kind, State};
+use crate::rows::{end_row, whole};
+use crate::spans::{Strip, push_span};
+use life_base::{Kind, MAX_LEVEL, State};
 use life_quad::{Id, Squares};
 use std::alloc::Global;
+use std::mem;
 
-const MAX_LEVEL: u8 = 60;
+// Half of the side of the plane: the column and the row of the cell (0, 0).
+const HALF: i64 = 1 << (MAX_LEVEL - 1);
 
-// The column and the row of the cell (0, 0).
-const HALF: i64 = 1 << 59;
+// The side of the plane.
+const SIDE: u64 = 1 << MAX_LEVEL;
 
-/// Squares filled by runs of cells, row by row from the north and from west to east in a row.
+/// A pattern that is being filled into a store by runs of cells: row by row from the north, and in a row from west to east.
+///
+/// It keeps Ids of the store alone. Between two calls the store may be changed by calls that keep every Id.
 #[derive(Drop)]
 pub struct Builder {
     alloc: Global,
-    // the rows that are over, from the north, in strips of falling levels
+    // The rows that are over, from the north, in strips of falling levels.
     pub(crate) strips: Vec<Strip>,
-    // how many rows are over
+    // How many rows are over.
     pub(crate) rows: u64,
-    // the row that follows, as far as it was given
+    // The row that follows, as far as it was given.
     pub(crate) row: Strip,
 }
 
-// The largest level of a blank strip that fits below the others and into this many rows.
-fn blank_level(strips: &[Strip], rows: u64) -> u8
-    requires positive { 1 ≤ rows }
-    requires within { rows ≤ 2 ^ 60 }
-    requires falling { AreFalling strips.now }
-    ensures lowest { IsLowest result strips.now }
-    ensures most { result ≤ 60 }
-    ensures fits { 2 ^ result ≤ rows }
+// The column or the row of a coordinate, counted from the edge of the plane.
+fn offset(x: i64) -> u64
+    requires low { neg_ℤ (pos half_plane) ≤ℤ x }
+    requires high { x <ℤ pos half_plane }
+    ensures { pos result ≡ (x +ℤ pos half_plane) }
 {
-    let most = if strips.is_empty() {
-        MAX_LEVEL
-    } else {
-        strips[strips.len() - 1].level
-    };
-    let mut level = 0;
-    let mut side: u64 = 1;
-    while level < most && side <= rows / 2 {
-        level += 1;
-        side *= 2;
-    }
-    level
-}
-
-// Rows without cells, in the fewest strips.
-fn skip_rows<S: Squares>(
-    squares: &mut S,
-    alloc: Global,
-    strips: &mut Vec<Strip>,
-    count: u64,
-) -> Result<(), Kind>
-    requires sound { All (IsSound (S.knows squares.old) (S.content squares.old)) strips.old.items }
-    requires room { height strips.old.items + count ≤ 2 ^ 60 }
-    requires falling { AreFalling strips.old.items }
-    ensures falling { OnOk result (AreFalling strips.new.items) }
-    ensures sound { OnOk result (All (IsSound (S.knows squares.new) (S.content squares.new)) strips.new.items) }
-    ensures height { OnOk result (height strips.new.items ≡ height strips.old.items + count) }
-    ensures picture { OnOk result ((column row : ℕ) → picture (S.content squares.new) strips.new.items column row ≡ picture (S.content squares.old) strips.old.items column row) }
-    ensures keeps { (q : IdValue) → S.knows squares.old q → S.knows squares.new q × (S.content squares.new q ≡ S.content squares.old q) }
-    ensures most { S.most squares.new ≡ S.most squares.old }
-    ensures refusals { IfErr result (λ e. (e ≡ Full) ⊎ (e ≡ Memory)) }
-    ensures full { result ≡ Err Full → length (S.stored squares.new) ≡ S.most squares.new }
-{
-    if count == 0 {
-        return Ok(());
-    }
-    let level = blank_level(strips.as_slice(), count);
-    let strip = Strip {
-        level,
-        spans: Vec::new(alloc),
-    };
-    push_strip(squares, alloc, strips, strip)?;
-    skip_rows(squares, alloc, strips, count - (1 << level))
-}
-
-// The square of strips that fill the plane.
-fn whole<S: Squares>(squares: &S, strips: &[Strip]) -> Id
-    requires sound { All (IsSound (S.knows squares.now) (S.content squares.now)) strips.now }
-    requires falling { AreFalling strips.now }
-    requires full { height strips.now ≡ 2 ^ 60 }
-    ensures known { S.knows squares.now result }
-    ensures level { depth (S.content squares.now result) ≡ 60 }
-    ensures cells { (column row : ℕ) → column < 2 ^ 60 → row < 2 ^ 60 → state_at (S.content squares.now result) column row ≡ picture (S.content squares.now) strips.now column row }
-{
-    let blank = squares.empty(60);
-    if strips.is_empty() {
-        return blank;
-    }
-    find(strips[0].spans.as_slice(), 0, 0, blank).square
+    (x + HALF) as u64
 }
 
 impl Builder {
-    /// No cell yet.
+    /// No cell yet, and any cell of the plane may come first.
     pub fn new(alloc: Global) -> Builder
         ensures empty { IsEmpty result }
         ensures blank { (content : IdValue → Tree) (x y : ℤ) → cell_so_far content result x y ≡ 0 }
+        ensures next { (x y : ℤ) → neg_ℤ (pos half_plane) ≤ℤ x → neg_ℤ (pos half_plane) ≤ℤ y → IsNext result x y }
     {
         Builder {
             alloc,
@@ -117,7 +61,41 @@ impl Builder {
         }
     }
 
-    /// The cells (x, y) to (x + len - 1, y) get this state. After a refusal the builder is only to be dropped.
+    // Begins a row, if it isn't the one that was begun.
+    fn go_to_row<S: Squares>(&mut self, squares: &mut S, row: u64) -> Result<(), Kind>
+        requires filling { IsFilling (S.knows squares.old) (S.content squares.old) self.old }
+        requires later { self.old.rows ≤ row }
+        requires inside { row < 2 ^ MAX_LEVEL }
+        ensures filling { OnOk result (IsFilling (S.knows squares.new) (S.content squares.new) self.new) }
+        ensures rows { OnOk result (self.new.rows ≡ row) }
+        ensures ends { OnOk result ((n : ℕ) → (self.old.rows ≡ row → All (λ s. s.end ≤ n) self.old.row.spans.items) → All (λ s. s.end ≤ n) self.new.row.spans.items) }
+        ensures picture { OnOk result ((i j : ℕ) → picture (S.content squares.new) (self.new.strips.items ++ self.new.row ∷ []) i j ≡ picture (S.content squares.old) (self.old.strips.items ++ self.old.row ∷ []) i j) }
+        ensures keeps { (q : IdValue) → S.knows squares.old q → S.knows squares.new q × (S.content squares.new q ≡ S.content squares.old q) }
+        ensures stays { (t : Tree) → Contains (S.stored squares.old) t → Contains (S.stored squares.new) t }
+        ensures most { S.most squares.new ≡ S.most squares.old }
+        ensures refusals { IfErr result (λ e. (e ≡ Full) ⊎ (e ≡ Memory)) }
+        ensures full { result ≡ Err Full → length (S.stored squares.new) ≡ S.most squares.new }
+    {
+        if self.rows == row {
+            return Ok(());
+        }
+        let next = Strip {
+            level: 0,
+            spans: Vec::new(self.alloc),
+        };
+        let begun = mem::replace(&mut self.row, next);
+        end_row(
+            squares,
+            self.alloc,
+            &mut self.strips,
+            begun,
+            row - self.rows - 1,
+        )?;
+        self.rows = row;
+        Ok(())
+    }
+
+    /// Gives the cells (x, y) to (x + len - 1, y) a state. After a refusal the builder is only to be dropped.
     pub fn add_run<S: Squares>(
         &mut self,
         squares: &mut S,
@@ -132,27 +110,40 @@ impl Builder {
         requires next { IsNext self.old x y }
         ensures filling { OnOk result (IsFilling (S.knows squares.new) (S.content squares.new) self.new) }
         ensures cells { OnOk result (AddsRun (cell_so_far (S.content squares.old) self.old) (cell_so_far (S.content squares.new) self.new) x y len state) }
+        ensures next { OnOk result ((column row : ℤ) → IsAfterRun x y len column row → IsNext self.new column row) }
         ensures keeps { (q : IdValue) → S.knows squares.old q → S.knows squares.new q × (S.content squares.new q ≡ S.content squares.old q) }
+        ensures stays { (t : Tree) → Contains (S.stored squares.old) t → Contains (S.stored squares.new) t }
         ensures most { S.most squares.new ≡ S.most squares.old }
         ensures refusals { IfErr result (λ e. (e ≡ Full) ⊎ (e ≡ Memory)) }
         ensures full { result ≡ Err Full → length (S.stored squares.new) ≡ S.most squares.new }
     {
-        let _ = (squares.level(squares.cell(state)), x, y, len, HALF, self.rows);
-        Err(Kind::Memory)
+        let column = offset(x);
+        let row = offset(y);
+        self.go_to_row(squares, row)?;
+        let blank = squares.cell(0);
+        let square = squares.cell(state);
+        push_span(&mut self.row.spans, column, len, blank, square)
     }
 
     /// The square of the whole plane with the cells of the runs.
     pub fn finish<S: Squares>(self, squares: &mut S) -> Result<Id, Kind>
         requires filling { IsFilling (S.knows squares.old) (S.content squares.old) self }
         ensures known { IfOk result (S.knows squares.new) }
-        ensures level { IfOk result (λ r. depth (S.content squares.new r) ≡ 60) }
+        ensures level { IfOk result (λ r. depth (S.content squares.new r) ≡ MAX_LEVEL) }
         ensures cells { IfOk result (λ r. (x y : ℤ) → cell_of (S.content squares.new r) x y ≡ cell_so_far (S.content squares.old) self x y) }
         ensures keeps { (q : IdValue) → S.knows squares.old q → S.knows squares.new q × (S.content squares.new q ≡ S.content squares.old q) }
+        ensures stays { (t : Tree) → Contains (S.stored squares.old) t → Contains (S.stored squares.new) t }
         ensures most { S.most squares.new ≡ S.most squares.old }
         ensures refusals { IfErr result (λ e. (e ≡ Full) ⊎ (e ≡ Memory)) }
         ensures full { result ≡ Err Full → length (S.stored squares.new) ≡ S.most squares.new }
     {
-        let _ = squares.level(squares.cell(0));
-        Err(Kind::Memory)
+        let Builder {
+            alloc,
+            mut strips,
+            rows,
+            row,
+        } = self;
+        end_row(squares, alloc, &mut strips, row, SIDE - rows - 1)?;
+        Ok(whole(squares, strips.as_slice()))
     }
 }

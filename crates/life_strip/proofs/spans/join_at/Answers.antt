@@ -1,7 +1,7 @@
-use Rattle.std.proofs.Common.{◌≡◌, ◌+◌, ◌*◌, ◌<◌, ◌≤◌, ◌^◌, arith, refl, sym, ◌∙◌, ap, subst, IfOk}
-use Rattle.life_base.specs.Tree.{depth, quad}
+use Rattle.std.proofs.Common.{arith, sym, ◌∙◌}
+use Rattle.life_base.specs.Tree.{quad}
 use Rattle.life_quad.proofs.MoveLemmas.{if_ok_map}
-use Rattle.life_strip.proofs.SpanLemmas.{past_later, known_or, content_or, found-known, found-content, found-depth}
+use Rattle.life_strip.proofs.SpanLemmas.{past_later, found-known, found-content, found-depth}
 use Rattle.life_strip.proofs.spans.join_at.Goals as goal
 
 pub find-ne-requires-clause-past : goal.find-ne-requires-clause-past
@@ -30,19 +30,19 @@ pub join-requires-clause-ne_level : goal.join-requires-clause-ne_level
 join-requires-clause-ne_level g c =
     let r = c.requires in
     found-depth (g.S.Squares.knows c.args.squares.now) (g.S.Squares.content c.args.squares.now) c.args.level c.args.upper.now r.upper c.args.blank r.known r.blank _ c.find-ne.result c.find-ne.ensures
-      ∙ sym (found-depth (g.S.Squares.knows c.args.squares.now) (g.S.Squares.content c.args.squares.now) c.args.level c.args.upper.now r.upper c.args.blank r.known r.blank _ c.args.north r.north)
+    ∙ sym (found-depth (g.S.Squares.knows c.args.squares.now) (g.S.Squares.content c.args.squares.now) c.args.level c.args.upper.now r.upper c.args.blank r.known r.blank _ c.args.north r.north)
 
 pub join-requires-clause-sw_level : goal.join-requires-clause-sw_level
 join-requires-clause-sw_level g c =
     let r = c.requires in
     found-depth (g.S.Squares.knows c.args.squares.now) (g.S.Squares.content c.args.squares.now) c.args.level c.args.lower.now r.lower c.args.blank r.known r.blank _ c.args.south r.south
-      ∙ sym (found-depth (g.S.Squares.knows c.args.squares.now) (g.S.Squares.content c.args.squares.now) c.args.level c.args.upper.now r.upper c.args.blank r.known r.blank _ c.args.north r.north)
+    ∙ sym (found-depth (g.S.Squares.knows c.args.squares.now) (g.S.Squares.content c.args.squares.now) c.args.level c.args.upper.now r.upper c.args.blank r.known r.blank _ c.args.north r.north)
 
 pub join-requires-clause-se_level : goal.join-requires-clause-se_level
 join-requires-clause-se_level g c =
     let r = c.requires in
     found-depth (g.S.Squares.knows c.args.squares.now) (g.S.Squares.content c.args.squares.now) c.args.level c.args.lower.now r.lower c.args.blank r.known r.blank _ c.find-se.result c.find-se.ensures
-      ∙ sym (found-depth (g.S.Squares.knows c.args.squares.now) (g.S.Squares.content c.args.squares.now) c.args.level c.args.upper.now r.upper c.args.blank r.known r.blank _ c.args.north r.north)
+    ∙ sym (found-depth (g.S.Squares.knows c.args.squares.now) (g.S.Squares.content c.args.squares.now) c.args.level c.args.upper.now r.upper c.args.blank r.known r.blank _ c.args.north r.north)
 
 pub join-requires-clause-room : goal.join-requires-clause-room
 join-requires-clause-room g c =
