@@ -15,7 +15,7 @@ use Rattle.life_strip.specs.declared.spans.Strip.{Strip}
 use Rattle.life_strip.specs.declared.builder.Builder.{Builder}
 use Rattle.life_strip.specs.Strip.{id_at, id_or, square_at, IsStrip}
 use Rattle.life_strip.specs.Picture.{state_in, picture, height, IsSound}
-use Rattle.life_strip.specs.Filling.{half_plane, on_plane, cell_so_far, IsFilling, IsOnPlane, IsNext, IsAfterRun, AddsRun}
+use Rattle.life_strip.specs.Filling.{half_plane, on_plane, cell_so_far, IsFilling, IsOnPlane, IsNext, AddsRun}
 use Rattle.life_strip.proofs.SpanLemmas.{Keeps, content_or, known_or, id_at-before, id_at-after}
 use Rattle.life_strip.proofs.PictureLemmas.{state_in-keeps, sound-keeps, all-keeps, positive_power}
 
@@ -85,20 +85,18 @@ span_pushed old filled column len b id ends ends' filling c = by (nat_le column 
 
 -- the spans of the row that is gone on with end before the run
 pub next_ends : (b : Builder) (x y : ℤ) (column row : ℕ) → pos column ≡ x +ℤ pos half_plane → pos row ≡ y +ℤ pos half_plane → IsNext b x y → b.rows ≡ row → All (λ s. s.end ≤ column) b.row.spans.items
-next_ends b x y column row e f (inl later) same = absurd (omega (arith, ints, f, later, same))
-next_ends b x y column row e f (inr (here, ends)) same = λ k d lt. let h = ends k d lt in omega (arith, ints, e, h)
+next_ends b x y column row e f next same k d lt = let h = next.column (sym f ∙ ap pos (sym same)) k d lt in omega (arith, ints, e, h)
 
--- the run isn't in a row that is over
-pub next_row : (b : Builder) (x y : ℤ) (row : ℕ) → pos row ≡ y +ℤ pos half_plane → IsNext b x y → b.rows ≤ row
-next_row b x y row f (inl later) = omega (arith, ints, f, later)
-next_row b x y row f (inr (here, ends)) = omega (arith, ints, f, here)
+-- a cell below the run may come next
+pub below_run : (b : Builder) (y i j : ℤ) (row : ℕ) → pos row ≡ y +ℤ pos half_plane → b.rows ≡ row → y <ℤ j → IsNext b i j
+below_run b y i j row f same below =
+    record { row = omega (arith, ints, f, same, below); column = λ h. absurd (omega (arith, ints, f, same, below, h)) }
 
--- what comes after the run may come next
-pub after_run : (b : Builder) (x y : ℤ) (column row len : ℕ) (i j : ℤ) → pos column ≡ x +ℤ pos half_plane → pos row ≡ y +ℤ pos half_plane → b.rows ≡ row → All (λ s. s.end ≤ column + len) b.row.spans.items
-    → IsAfterRun x y len i j → IsNext b i j
-after_run b x y column row len i j e f same ends (inl later) = inl (omega (arith, ints, f, later, same))
-after_run b x y column row len i j e f same ends (inr (here, from)) =
-    inr (omega (arith, ints, f, here, same), λ k d lt. let h = ends k d lt in omega (arith, ints, e, h, from))
+-- and so may one east of it
+pub beside_run : (b : Builder) (x y i : ℤ) (column row len : ℕ) → pos column ≡ x +ℤ pos half_plane → pos row ≡ y +ℤ pos half_plane → b.rows ≡ row → All (λ s. s.end ≤ column + len) b.row.spans.items
+    → (x +ℤ pos len) ≤ℤ i → IsNext b i y
+beside_run b x y i column row len e f same ends beside =
+    record { row = omega (arith, ints, f, same); column = λ h k d lt. let end = ends k d lt in omega (arith, ints, e, end, beside) }
 
 -- a row with one span more has its state in the span's columns
 pub row_pushed : (knows : Id → Type 0) (content : Id → Tree) (old new : Strip) (column len state : ℕ) (b id : Id) → IsSound knows content old → old.level ≡ 0 → new.level ≡ 0

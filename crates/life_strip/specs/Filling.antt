@@ -46,14 +46,10 @@ pub record IsOnPlane (left top : ℤ) (len : ℕ) : Type 0 where
   pub north : neg_ℤ (pos half_plane) ≤ℤ top
   pub south : top <ℤ pos half_plane
 
--- a cell in a row below the one that was begun, or in that row and east of what it has
-abbrev pub IsNext : Builder → ℤ → ℤ → Type 0
-IsNext b left top =
-    (pos b.rows <ℤ (top +ℤ pos half_plane)) ⊎ ((top +ℤ pos half_plane ≡ pos b.rows) × All (λ s. pos s.end ≤ℤ (left +ℤ pos half_plane)) b.row.spans.items)
-
--- (x, y) is in a row below the run, or in its row and east of its cells
-abbrev pub IsAfterRun : ℤ → ℤ → ℕ → ℤ → ℤ → Type 0
-IsAfterRun left top len x y = (top <ℤ y) ⊎ ((y ≡ top) × ((left +ℤ pos len) ≤ℤ x))
+-- (left, top) is in no row that is over, and in the row that was begun it is east of what was given
+pub record IsNext (b : Builder) (left top : ℤ) : Type 0 where
+  pub row : pos b.rows ≤ℤ (top +ℤ pos half_plane)
+  pub column : top +ℤ pos half_plane ≡ pos b.rows → All (λ s. pos s.end ≤ℤ (left +ℤ pos half_plane)) b.row.spans.items
 
 -- the cells of the run have the state, and every other cell what it had
 pub record AddsRun (before after : ℤ → ℤ → ℕ) (left top : ℤ) (len state : ℕ) : Type 0 where

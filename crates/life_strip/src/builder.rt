@@ -5,7 +5,7 @@ ghost use Rattle.life_base.specs.Tree.{Tree, depth};
 ghost use Rattle.life_quad.specs.declared.id.Id.{Id as IdValue};
 ghost use Rattle.life_quad.specs.Cells.{cell as cell_of};
 ghost use Rattle.life_strip.specs.Picture.{picture};
-ghost use Rattle.life_strip.specs.Filling.{IsEmpty, IsFilling, IsOnPlane, IsNext, IsAfterRun, AddsRun, cell_so_far, half_plane};
+ghost use Rattle.life_strip.specs.Filling.{IsEmpty, IsFilling, IsOnPlane, IsNext, AddsRun, cell_so_far, half_plane};
 
 use crate::rows::{end_row, whole};
 use crate::spans::{Strip, push_span};
@@ -48,7 +48,7 @@ impl Builder {
     pub fn new(alloc: Global) -> Builder
         ensures empty { IsEmpty result }
         ensures blank { (content : IdValue → Tree) (x y : ℤ) → cell_so_far content result x y ≡ 0 }
-        ensures next { (x y : ℤ) → neg_ℤ (pos half_plane) ≤ℤ x → neg_ℤ (pos half_plane) ≤ℤ y → IsNext result x y }
+        ensures next { (x y : ℤ) → neg_ℤ (pos half_plane) ≤ℤ y → IsNext result x y }
     {
         Builder {
             alloc,
@@ -110,7 +110,8 @@ impl Builder {
         requires next { IsNext self.old x y }
         ensures filling { OnOk result (IsFilling (S.knows squares.new) (S.content squares.new) self.new) }
         ensures cells { OnOk result (AddsRun (cell_so_far (S.content squares.old) self.old) (cell_so_far (S.content squares.new) self.new) x y len state) }
-        ensures next { OnOk result ((column row : ℤ) → IsAfterRun x y len column row → IsNext self.new column row) }
+        ensures below { OnOk result ((column row : ℤ) → y <ℤ row → IsNext self.new column row) }
+        ensures beside { OnOk result ((column : ℤ) → (x +ℤ pos len) ≤ℤ column → IsNext self.new column y) }
         ensures keeps { (q : IdValue) → S.knows squares.old q → S.knows squares.new q × (S.content squares.new q ≡ S.content squares.old q) }
         ensures stays { (t : Tree) → Contains (S.stored squares.old) t → Contains (S.stored squares.new) t }
         ensures most { S.most squares.new ≡ S.most squares.old }

@@ -8,7 +8,7 @@ use Rattle.life_strip.specs.Strip.{IsStrip}
 use Rattle.life_strip.specs.Picture.{picture, height}
 use Rattle.life_strip.specs.Filling.{half_plane}
 use Rattle.life_strip.proofs.PictureLemmas.{on_ok_map}
-use Rattle.life_strip.proofs.FillingLemmas.{next_ends, after_run, row_pushed, row_strip, picture_pushed, AddsRun-span}
+use Rattle.life_strip.proofs.FillingLemmas.{next_ends, below_run, beside_run, row_pushed, row_strip, picture_pushed, AddsRun-span}
 use Rattle.life_strip.proofs.builder.Builder.add_run.Goals as goal
 
 pub push_span-requires-clause-ends : goal.push_span-requires-clause-ends
@@ -41,11 +41,18 @@ returns-clause-cells g c =
     ∙ (λ k. if is_in_span c.offset-column.result (height_is k) c.args.len i j then c.args.state else c.in_ok-go_to_row.ensures.picture i j k)))
     c.push_span.ensures.columns
 
-pub returns-clause-next : goal.returns-clause-next
-returns-clause-next g c =
+pub returns-clause-below : goal.returns-clause-below
+returns-clause-below g c =
+    let ey : pos c.offset-row.result ≡ c.args.y +ℤ pos half_plane = omega (arith, ints, c.offset-row.ensures, c.ranges.y) in
+    on_ok_map c.push_span.result
+      (λ ends i j below. below_run (record c.go_to_row.new.self { row = record c.go_to_row.new.self.row { spans = c.push_span.new.spans } }) c.args.y i j c.offset-row.result ey c.in_ok-go_to_row.ensures.rows below)
+      c.push_span.ensures.ends
+
+pub returns-clause-beside : goal.returns-clause-beside
+returns-clause-beside g c =
     let ex : pos c.offset-column.result ≡ c.args.x +ℤ pos half_plane = omega (arith, ints, c.offset-column.ensures, c.ranges.x) in
     let ey : pos c.offset-row.result ≡ c.args.y +ℤ pos half_plane = omega (arith, ints, c.offset-row.ensures, c.ranges.y) in
     on_ok_map c.push_span.result
-    (λ ends i j. after_run (record c.go_to_row.new.self { row = record c.go_to_row.new.self.row { spans = c.push_span.new.spans } }) c.args.x c.args.y c.offset-column.result c.offset-row.result c.args.len i j
-    ex ey c.in_ok-go_to_row.ensures.rows ends)
-    c.push_span.ensures.ends
+      (λ ends i beside. beside_run (record c.go_to_row.new.self { row = record c.go_to_row.new.self.row { spans = c.push_span.new.spans } }) c.args.x c.args.y i c.offset-column.result c.offset-row.result c.args.len
+         ex ey c.in_ok-go_to_row.ensures.rows ends beside)
+      c.push_span.ensures.ends
