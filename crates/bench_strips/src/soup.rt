@@ -1,28 +1,37 @@
-//! Runs made up by a fixed rule.
-ghost use Rattle.std.specs.Prelude.{◌≡◌, ℕ, ℤ, pos, ◌+◌, ◌<◌, ◌≤◌, ◌^◌, ◌⊎◌, Contains, IfOk};
+//! Patterns made up by a fixed rule.
+ghost use Rattle.std.specs.Prelude.{◌≡◌, ℕ, ℤ, pos, ◌+◌, ◌-◌, ◌<◌, ◌≤◌, ◌<ℤ◌, ◌≤ℤ◌, ◌^◌, ◌⊎◌, Contains, IfOk, OnOk};
 ghost use Rattle.life_quad.specs.declared.id.Id.{Id as IdValue};
+ghost use Rattle.bench_strips.specs.Soup.{HasCome};
 
 use life_base::Kind;
 use life_quad::{Id, Squares};
 use life_strip::Builder;
 use std::alloc::Global;
 
-// The cells `start` to `end - 1` of a row, and what the next ones are made from.
+// The cells `start` to `end - 1` of a row, and the number that the next ones are made from.
 #[derive(Clone, Copy)]
 pub struct Stretch {
-    seed: u64,
-    row: u32,
-    start: u32,
-    end: u32,
+    pub(crate) seed: u64,
+    pub(crate) row: u32,
+    pub(crate) start: u32,
+    pub(crate) end: u32,
 }
 
 // One of 0 to n - 1, from the bits of a number above `place`.
 fn pick(seed: u64, place: u32, n: u32) -> u32
     requires place { place < 64 }
-    requires n { 1 ≤ n }
+    requires positive { 1 ≤ n }
     ensures { result < n }
 {
     ((seed >> place) % u64::from(n)) as u32
+}
+
+// One or two cells more, with probability 1 / 4 each.
+fn sometimes(seed: u64, place: u32) -> u32
+    requires { place < 64 }
+    ensures { result < 2 }
+{
+    if pick(seed, place, 4) == 0 { 1 } else { 0 }
 }
 
 // The stretch after one: in its row, or from the first column of the next row.
@@ -39,8 +48,8 @@ fn next(last: Stretch, width: u32) -> Stretch
         .seed
         .wrapping_mul(6364136223846793005)
         .wrapping_add(1442695040888963407);
-    let gap = 1 + pick(seed, 33, 3) + pick(seed, 40, 3) * pick(seed, 50, 2);
-    let len = 1 + pick(seed, 55, 2) * pick(seed, 57, 2);
+    let gap = 1 + pick(seed, 33, 4);
+    let len = 1 + sometimes(seed, 50) + sometimes(seed, 55);
     let start = last.end + gap;
     if start + len <= width {
         Stretch {
@@ -59,7 +68,29 @@ fn next(last: Stretch, width: u32) -> Stretch
     }
 }
 
-/// The square of a soup of so many runs in rows of so many cells: one cell in three or four is alive.
+// Adds a stretch after another one.
+fn add<S: Squares>(
+    builder: &mut Builder,
+    squares: &mut S,
+    last: Stretch,
+    stretch: Stretch,
+) -> Result<(), Kind>
+    requires come { HasCome (S.knows squares.old) (S.content squares.old) builder.old (pos last.end) (pos last.row) }
+    requires end { stretch.end ≤ 2 ^ 20 + 4 }
+    requires some { stretch.start < stretch.end }
+    requires later { ((stretch.row ≡ last.row) × (last.end ≤ stretch.start)) ⊎ (last.row < stretch.row) }
+    ensures come { OnOk result (HasCome (S.knows squares.new) (S.content squares.new) builder.new (pos stretch.end) (pos stretch.row)) }
+{
+    builder.add_run(
+        squares,
+        i64::from(stretch.start),
+        i64::from(stretch.row),
+        u64::from(stretch.end - stretch.start),
+        1,
+    )
+}
+
+/// The square of a soup of so many runs in rows of so many cells: two cells in five are alive.
 pub fn soup<S: Squares>(
     alloc: Global,
     squares: &mut S,
@@ -76,15 +107,10 @@ pub fn soup<S: Squares>(
         start: 0,
         end: 0,
     };
-    for _ in 0..runs {
-        stretch = next(stretch, width);
-        builder.add_run(
-            squares,
-            i64::from(stretch.start),
-            i64::from(stretch.row),
-            u64::from(stretch.end - stretch.start),
-            1,
-        )?;
+    for made in 0..runs {
+        let following = next(stretch, width);
+        add(&mut builder, squares, stretch, following)?;
+        stretch = following;
     }
     builder.finish(squares)
 }
