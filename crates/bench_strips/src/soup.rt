@@ -87,7 +87,8 @@ fn add<S: Squares>(
         i64::from(stretch.row),
         u64::from(stretch.end - stretch.start),
         1,
-    )
+    )?;
+    Ok(())
 }
 
 /// The square of a soup of so many runs in rows of so many cells: two cells in five are alive.
