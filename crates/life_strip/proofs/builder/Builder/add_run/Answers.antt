@@ -45,14 +45,14 @@ pub returns-clause-below : goal.returns-clause-below
 returns-clause-below g c =
     let ey : pos c.offset-row.result ≡ c.args.y +ℤ pos half_plane = omega (arith, ints, c.offset-row.ensures, c.ranges.y) in
     on_ok_map c.push_span.result
-      (λ ends i j below. below_run (record c.go_to_row.new.self { row = record c.go_to_row.new.self.row { spans = c.push_span.new.spans } }) c.args.y i j c.offset-row.result ey c.in_ok-go_to_row.ensures.rows below)
-      c.push_span.ensures.ends
+    (λ ends i j below. below_run (record c.go_to_row.new.self { row = record c.go_to_row.new.self.row { spans = c.push_span.new.spans } }) c.args.y i j c.offset-row.result ey c.in_ok-go_to_row.ensures.rows below)
+    c.push_span.ensures.ends
 
 pub returns-clause-beside : goal.returns-clause-beside
 returns-clause-beside g c =
     let ex : pos c.offset-column.result ≡ c.args.x +ℤ pos half_plane = omega (arith, ints, c.offset-column.ensures, c.ranges.x) in
     let ey : pos c.offset-row.result ≡ c.args.y +ℤ pos half_plane = omega (arith, ints, c.offset-row.ensures, c.ranges.y) in
     on_ok_map c.push_span.result
-      (λ ends i beside. beside_run (record c.go_to_row.new.self { row = record c.go_to_row.new.self.row { spans = c.push_span.new.spans } }) c.args.x c.args.y i c.offset-column.result c.offset-row.result c.args.len
-         ex ey c.in_ok-go_to_row.ensures.rows ends beside)
-      c.push_span.ensures.ends
+    (λ ends i beside. beside_run (record c.go_to_row.new.self { row = record c.go_to_row.new.self.row { spans = c.push_span.new.spans } }) c.args.x c.args.y i c.offset-column.result c.offset-row.result c.args.len
+    ex ey c.in_ok-go_to_row.ensures.rows ends beside)
+    c.push_span.ensures.ends
