@@ -1,0 +1,44 @@
+use Rattle.std.proofs.Common.{◌≡◌, ℕ, ◌<◌, arith, sym, ◌∙◌, subst}
+use Rattle.life_strip.specs.Strip.{quad_at}
+use Rattle.life_strip.proofs.SpanLemmas.{PairedTo, PairedTo-push, PairedTo-strip, PairedTo-paired, quad-keeps, quad-same, none-left}
+use Rattle.life_strip.proofs.spans.pair.Goals as goal
+
+pub loop-north-preserved : goal.loop-north-preserved
+loop-north-preserved g c =
+    let r = c.requires in
+    let inv = c.loop-north.invariant in
+    let K = g.S.Squares.knows in
+    let C = g.S.Squares.content in
+    let old = c.args.squares.now in
+    let now = c.loop-north.squares in
+    let new = c.join_at.new.squares in
+    let h = c.in_ok-square.ensures in
+    let next = c.next_column-column.ensures in
+    let e = h.square ∙ quad-keeps {knows = K old} {knows' = K now} {old = C old} {now = C now} inv.3 c.args.level c.args.upper.now c.args.lower.now r.upper r.lower c.loop-north.column in
+    let same : (x : ℕ) → c.loop-north.column < x → x < c.next_column-column.result → quad_at (C old) c.args.level c.args.upper.now c.args.lower.now x ≡ quad_at (C old) c.args.level c.args.upper.now c.args.lower.now c.loop-north.column =
+    λ x lo hi. let on = next.goes_on x lo hi in
+    quad-same (K old) (C old) c.args.level c.args.upper.now c.args.lower.now r.upper r.lower c.empty-blank.result c.empty-blank.ensures.known c.empty-blank.ensures.square
+    c.loop-north.column x c.loop-north.north c.loop-north.south inv.1 inv.2 lo on.0 on.1 in
+    let pushed = PairedTo-push {knows = K now} {knows' = K new} {old = C old} {now = C now} {now' = C new} c.args.level c.args.upper.now c.args.lower.now c.loop-north.spans.items
+    c.loop-north.column c.next_column-column.result c.in_ok-square.square inv.0 h.keeps h.known e next.beyond next.within same in (
+      subst (λ z. PairedTo (K new) (C old) (C new) c.args.level c.args.upper.now c.args.lower.now z c.next_column-column.result) (sym c.in-Ok.ensures.items) pushed,
+      c.find-north-in-loop-north.ensures,
+      c.find-south-in-loop-north.ensures,
+      (λ q k. let a = inv.3 q k in let b = h.keeps q a.0 in (b.0, b.1 ∙ a.1)),
+      h.most ∙ inv.4,
+      next.within,
+      (λ t m. h.stays t (inv.6 t m)),
+    )
+
+pub returns-clause-strip : goal.returns-clause-strip
+returns-clause-strip g c =
+    PairedTo-strip (g.S.Squares.knows c.loop-north.squares) (g.S.Squares.content c.args.squares.now) (g.S.Squares.content c.loop-north.squares) c.args.level c.args.upper.now c.args.lower.now c.loop-north.spans.items
+    c.loop-north.column c.loop-north.invariant.0 (g.S.Squares.knows c.args.squares.now) c.requires.upper
+
+pub returns-clause-paired : goal.returns-clause-paired
+returns-clause-paired g c =
+    let inv = c.loop-north.invariant in
+    PairedTo-paired (g.S.Squares.knows c.loop-north.squares) (g.S.Squares.content c.args.squares.now) (g.S.Squares.content c.loop-north.squares) c.args.level c.args.upper.now c.args.lower.now c.loop-north.spans.items
+    c.loop-north.column inv.0
+    (none-left c.args.upper.now _ _ c.loop-north.north inv.1 (omega (arith, c.if-north-lt18446744073709551615.false)))
+    (none-left c.args.lower.now _ _ c.loop-north.south inv.2 (omega (arith, c.if-south-lt18446744073709551615.false)))

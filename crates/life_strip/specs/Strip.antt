@@ -1,0 +1,55 @@
+-- Strips: rows of squares of one level, side by side.
+use Rattle.life_base.specs.declared.cell.TheConstants.{MAX_LEVEL}
+use Rattle.std.specs.Prelude.{◌≡◌, ℕ, suc, ◌+◌, ◌-◌, ◌*◌, ◌^◌, ◌<◌, ◌≤◌, ◌⊎◌, nat_lt, if◌then◌else◌, List, [], ◌∷◌, drop, All, Option, Some, None}
+use Rattle.life_quad.specs.declared.id.Id.{Id}
+use Rattle.life_base.specs.Tree.{Tree, quad, depth, blank}
+use Rattle.life_strip.specs.declared.spans.Span.{Span}
+use Rattle.life_strip.specs.declared.spans.Found.{Found}
+
+-- the Id in a column: that of the first span that ends after it
+abbrev pub id_at : List Span → ℕ → Option Id
+id_at [] column = None
+id_at (s ∷ rest) column = if nat_lt column s.end then Some s.square else id_at rest column
+
+-- the square of a level for an Id, blank where there is none
+abbrev pub square_or_blank : (Id → Tree) → ℕ → Option Id → Tree
+square_or_blank content level None = blank level
+square_or_blank content level (Some id) = content id
+
+-- the square in a column of a strip
+abbrev pub square_at : (Id → Tree) → ℕ → List Span → ℕ → Tree
+square_at content level spans column = square_or_blank content level (id_at spans column)
+
+-- each column has a square of the level that the store knows
+abbrev pub IsStrip : (Id → Type 0) → (Id → Tree) → ℕ → List Span → Type 0
+IsStrip knows content level spans = (column : ℕ) (id : Id) → id_at spans column ≡ Some id → knows id × (depth (content id) ≡ level)
+
+-- no span ends beyond the last column of the plane
+abbrev pub AreWithin : List Span → Type 0
+AreWithin spans = All (λ s. s.end ≤ 2 ^ MAX_LEVEL) spans
+
+-- the square of two columns of two strips, one above the other
+abbrev pub quad_at : (Id → Tree) → ℕ → List Span → List Span → ℕ → Tree
+quad_at content level upper lower column =
+    quad (square_at content level upper (2 * column)) (square_at content level upper (2 * column + 1))
+    (square_at content level lower (2 * column)) (square_at content level lower (2 * column + 1))
+
+-- each column of a strip of the next level has the four squares of the two strips
+abbrev pub IsPaired : (Id → Tree) → (Id → Tree) → ℕ → List Span → List Span → List Span → Type 0
+IsPaired old new level upper lower spans = (column : ℕ) → square_at new (suc level) spans column ≡ quad_at old level upper lower column
+
+-- the spans from an index on have every column from this one on
+abbrev pub IsPast : List Span → ℕ → ℕ → Type 0
+IsPast spans index column = (c : ℕ) → column ≤ c → id_at spans c ≡ id_at (drop index spans) c
+
+-- the Id, or that of the blank square
+abbrev pub id_or : Id → Option Id → Id
+id_or blank None = blank
+id_or blank (Some id) = id
+
+-- one square goes on from the column to the end
+pub record IsFound (spans : List Span) (column : ℕ) (blank : Id) (found : Found) : Type 0 where
+  pub past : IsPast spans found.index column
+  pub square : (c : ℕ) → column ≤ c → c < found.end → id_or blank (id_at spans c) ≡ found.square
+  pub beyond : column < found.end
+  pub last : (found.end ≤ 2 ^ MAX_LEVEL) ⊎ ((found.end ≡ 2 ^ 64 - 1) × ((c : ℕ) → column ≤ c → id_at spans c ≡ None))

@@ -1,0 +1,183 @@
+//! Strips one below the other.
+ghost use Rattle.std.specs.Prelude.{◌≡◌, ℕ, suc, ◌+◌, ◌^◌, ◌<◌, ◌≤◌, ◌⊎◌, ◌++◌, ◌∷◌, [], All, Contains, length, Err, IfOk, IfErr, OnOk};
+ghost use Rattle.life_base.specs.declared.kind.Kind.TheVariants.{Full, Memory};
+ghost use Rattle.life_base.specs.Tree.{Tree, depth, state_at};
+ghost use Rattle.life_quad.specs.declared.id.Id.{Id as IdValue};
+ghost use Rattle.life_strip.specs.Picture.{picture, height, AreFalling, IsLowest, IsSound, IsStack};
+
+use crate::spans::{Strip, find, pair};
+use life_base::{Kind, MAX_LEVEL};
+use life_quad::{Id, Squares};
+use std::alloc::Global;
+
+// The strip of the next level with the upper strip above the lower.
+fn merge<S: Squares>(
+    squares: &mut S,
+    alloc: Global,
+    upper: &Strip,
+    lower: &Strip,
+) -> Result<Strip, Kind>
+    requires low { upper.now.level < MAX_LEVEL }
+    requires one_level { lower.now.level ≡ upper.now.level }
+    requires upper { IsSound (S.knows squares.old) (S.content squares.old) upper.now }
+    requires lower { IsSound (S.knows squares.old) (S.content squares.old) lower.now }
+    ensures sound { IfOk result (λ r. IsSound (S.knows squares.new) (S.content squares.new) r) }
+    ensures level { IfOk result (λ r. r.level ≡ suc upper.now.level) }
+    ensures stack { IfOk result (λ r. IsStack (S.content squares.old) (S.content squares.new) upper.now lower.now r) }
+    ensures keeps { (q : IdValue) → S.knows squares.old q → S.knows squares.new q × (S.content squares.new q ≡ S.content squares.old q) }
+    ensures stays { (t : Tree) → Contains (S.stored squares.old) t → Contains (S.stored squares.new) t }
+    ensures most { S.most squares.new ≡ S.most squares.old }
+    ensures refusals { IfErr result (λ e. (e ≡ Full) ⊎ (e ≡ Memory)) }
+    ensures full { result ≡ Err Full → length (S.stored squares.new) ≡ S.most squares.new }
+{
+    let spans = pair(
+        squares,
+        alloc,
+        upper.level,
+        upper.spans.as_slice(),
+        lower.spans.as_slice(),
+    )?;
+    Ok(Strip {
+        level: upper.level + 1,
+        spans,
+    })
+}
+
+// One strip more, below the others. While the last two have one level, they become one of the next.
+fn push_strip<S: Squares>(
+    squares: &mut S,
+    alloc: Global,
+    strips: &mut Vec<Strip>,
+    strip: Strip,
+) -> Result<(), Kind>
+    requires sound { All (IsSound (S.knows squares.old) (S.content squares.old)) strips.old.items }
+    requires strip { IsSound (S.knows squares.old) (S.content squares.old) strip }
+    requires room { height strips.old.items + 2 ^ strip.level ≤ 2 ^ MAX_LEVEL }
+    requires falling { AreFalling strips.old.items }
+    requires lowest { IsLowest strip.level strips.old.items }
+    ensures falling { OnOk result (AreFalling strips.new.items) }
+    ensures sound { OnOk result (All (IsSound (S.knows squares.new) (S.content squares.new)) strips.new.items) }
+    ensures height { OnOk result (height strips.new.items ≡ height strips.old.items + 2 ^ strip.level) }
+    ensures picture { OnOk result ((column row : ℕ) → picture (S.content squares.new) strips.new.items column row ≡ picture (S.content squares.old) (strips.old.items ++ strip ∷ []) column row) }
+    ensures keeps { (q : IdValue) → S.knows squares.old q → S.knows squares.new q × (S.content squares.new q ≡ S.content squares.old q) }
+    ensures stays { (t : Tree) → Contains (S.stored squares.old) t → Contains (S.stored squares.new) t }
+    ensures most { S.most squares.new ≡ S.most squares.old }
+    ensures refusals { IfErr result (λ e. (e ≡ Full) ⊎ (e ≡ Memory)) }
+    ensures full { result ≡ Err Full → length (S.stored squares.new) ≡ S.most squares.new }
+{
+    let Some(last) = strips.pop() else {
+        let Ok(()) = strips.push(strip) else {
+            return Err(Kind::Memory);
+        };
+        return Ok(());
+    };
+    if last.level == strip.level {
+        let merged = merge(squares, alloc, &last, &strip)?;
+        return push_strip(squares, alloc, strips, merged);
+    }
+    let Ok(()) = strips.push(last) else {
+        return Err(Kind::Memory);
+    };
+    let Ok(()) = strips.push(strip) else {
+        return Err(Kind::Memory);
+    };
+    Ok(())
+}
+
+// The largest level of a blank strip that fits below the others and into this many rows.
+fn blank_level(strips: &[Strip], rows: u64) -> u8
+    requires positive { 1 ≤ rows }
+    requires within { rows ≤ 2 ^ MAX_LEVEL }
+    requires falling { AreFalling strips.now }
+    ensures lowest { IsLowest result strips.now }
+    ensures most { result ≤ MAX_LEVEL }
+    ensures fits { 2 ^ result ≤ rows }
+{
+    let most = if strips.is_empty() {
+        MAX_LEVEL
+    } else {
+        strips[strips.len() - 1].level
+    };
+    let mut level = 0;
+    let mut side: u64 = 1;
+    while level < most && side <= rows / 2 {
+        level += 1;
+        side *= 2;
+    }
+    level
+}
+
+// Rows without cells, in the fewest strips.
+fn skip_rows<S: Squares>(
+    squares: &mut S,
+    alloc: Global,
+    strips: &mut Vec<Strip>,
+    count: u64,
+) -> Result<(), Kind>
+    requires sound { All (IsSound (S.knows squares.old) (S.content squares.old)) strips.old.items }
+    requires room { height strips.old.items + count ≤ 2 ^ MAX_LEVEL }
+    requires falling { AreFalling strips.old.items }
+    ensures falling { OnOk result (AreFalling strips.new.items) }
+    ensures sound { OnOk result (All (IsSound (S.knows squares.new) (S.content squares.new)) strips.new.items) }
+    ensures height { OnOk result (height strips.new.items ≡ height strips.old.items + count) }
+    ensures picture { OnOk result ((column row : ℕ) → picture (S.content squares.new) strips.new.items column row ≡ picture (S.content squares.old) strips.old.items column row) }
+    ensures keeps { (q : IdValue) → S.knows squares.old q → S.knows squares.new q × (S.content squares.new q ≡ S.content squares.old q) }
+    ensures stays { (t : Tree) → Contains (S.stored squares.old) t → Contains (S.stored squares.new) t }
+    ensures most { S.most squares.new ≡ S.most squares.old }
+    ensures refusals { IfErr result (λ e. (e ≡ Full) ⊎ (e ≡ Memory)) }
+    ensures full { result ≡ Err Full → length (S.stored squares.new) ≡ S.most squares.new }
+{
+    if count == 0 {
+        return Ok(());
+    }
+    let level = blank_level(strips.as_slice(), count);
+    let strip = Strip {
+        level,
+        spans: Vec::new(alloc),
+    };
+    push_strip(squares, alloc, strips, strip)?;
+    skip_rows(squares, alloc, strips, count - (1 << level))
+}
+
+// A row of cells, and below it rows without cells.
+pub(crate) fn end_row<S: Squares>(
+    squares: &mut S,
+    alloc: Global,
+    strips: &mut Vec<Strip>,
+    row: Strip,
+    blank_rows: u64,
+) -> Result<(), Kind>
+    requires sound { All (IsSound (S.knows squares.old) (S.content squares.old)) strips.old.items }
+    requires row { IsSound (S.knows squares.old) (S.content squares.old) row }
+    requires level { row.level ≡ 0 }
+    requires room { height strips.old.items + 1 + blank_rows ≤ 2 ^ MAX_LEVEL }
+    requires falling { AreFalling strips.old.items }
+    ensures falling { OnOk result (AreFalling strips.new.items) }
+    ensures sound { OnOk result (All (IsSound (S.knows squares.new) (S.content squares.new)) strips.new.items) }
+    ensures height { OnOk result (height strips.new.items ≡ height strips.old.items + 1 + blank_rows) }
+    ensures picture { OnOk result ((column row_below : ℕ) → picture (S.content squares.new) strips.new.items column row_below ≡ picture (S.content squares.old) (strips.old.items ++ row ∷ []) column row_below) }
+    ensures keeps { (q : IdValue) → S.knows squares.old q → S.knows squares.new q × (S.content squares.new q ≡ S.content squares.old q) }
+    ensures stays { (t : Tree) → Contains (S.stored squares.old) t → Contains (S.stored squares.new) t }
+    ensures most { S.most squares.new ≡ S.most squares.old }
+    ensures refusals { IfErr result (λ e. (e ≡ Full) ⊎ (e ≡ Memory)) }
+    ensures full { result ≡ Err Full → length (S.stored squares.new) ≡ S.most squares.new }
+{
+    push_strip(squares, alloc, strips, row)?;
+    skip_rows(squares, alloc, strips, blank_rows)
+}
+
+// The square of strips that fill the plane.
+pub(crate) fn whole<S: Squares>(squares: &S, strips: &[Strip]) -> Id
+    requires sound { All (IsSound (S.knows squares.now) (S.content squares.now)) strips.now }
+    requires falling { AreFalling strips.now }
+    requires full { height strips.now ≡ 2 ^ MAX_LEVEL }
+    ensures known { S.knows squares.now result }
+    ensures level { depth (S.content squares.now result) ≡ MAX_LEVEL }
+    ensures cells { (column row : ℕ) → column < 2 ^ MAX_LEVEL → row < 2 ^ MAX_LEVEL → state_at (S.content squares.now result) column row ≡ picture (S.content squares.now) strips.now column row }
+{
+    let blank = squares.empty(MAX_LEVEL);
+    if strips.is_empty() {
+        return blank;
+    }
+    find(strips[0].spans.as_slice(), 0, 0, blank).square
+}

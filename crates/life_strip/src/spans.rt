@@ -1,0 +1,204 @@
+//! Strips of squares, and how two of them make one of the next level.
+ghost use Rattle.std.specs.Prelude.{◌≡◌, ℕ, ◌+◌, ◌*◌, ◌^◌, ◌<◌, ◌≤◌, ◌⊎◌, ◌&&◌, nat_le, nat_lt, if◌then◌else◌, All, Contains, Some, length, Err, IfOk, IfErr, OnOk};
+ghost use Rattle.life_base.specs.declared.kind.Kind.TheVariants.{Full, Memory};
+ghost use Rattle.life_quad.specs.declared.id.Id.{Id as IdValue};
+ghost use Rattle.life_base.specs.Tree.{Tree, depth, blank as blank_square};
+ghost use Rattle.life_strip.specs.Strip.{IsStrip, AreWithin, IsPaired, IsPast, IsFound, id_at, id_or, quad_at};
+
+use life_base::{Kind, MAX_LEVEL};
+use life_quad::{Id, Squares};
+use std::alloc::Global;
+
+// Columns side by side with one square: those before `end` that no earlier span has.
+#[derive(Clone, Copy)]
+pub(crate) struct Span {
+    pub(crate) end: u64,
+    pub(crate) square: Id,
+}
+
+// A row of squares of one level, blank after the last span.
+#[derive(Drop)]
+pub(crate) struct Strip {
+    pub(crate) level: u8,
+    pub(crate) spans: Vec<Span>,
+}
+
+// The square in a column, how far it goes on, and where its span stands.
+#[derive(Clone, Copy)]
+pub(crate) struct Found {
+    pub(crate) index: usize,
+    pub(crate) end: u64,
+    pub(crate) square: Id,
+}
+
+// The square in a column, where the spans before `from` end before it.
+pub(crate) fn find(spans: &[Span], from: usize, column: u64, blank: Id) -> Found
+    requires past { IsPast spans.now from column }
+    requires within { AreWithin spans.now }
+    requires column { column ≤ 2 ^ 63 }
+    ensures { IsFound spans.now column blank result }
+{
+    let mut index = from;
+    while index < spans.len() && spans[index].end <= column {
+        index += 1;
+    }
+    if index < spans.len() {
+        Found {
+            index,
+            end: spans[index].end,
+            square: spans[index].square,
+        }
+    } else {
+        Found {
+            index,
+            end: u64::MAX,
+            square: blank,
+        }
+    }
+}
+
+// The square of two columns of the upper strip above two of the lower.
+fn join_at<S: Squares>(
+    squares: &mut S,
+    upper: &[Span],
+    lower: &[Span],
+    level: u8,
+    blank: Id,
+    column: u64,
+    north: Found,
+    south: Found,
+) -> Result<Id, Kind>
+    requires low { level < MAX_LEVEL }
+    requires column { column ≤ 2 ^ MAX_LEVEL }
+    requires upper { IsStrip (S.knows squares.old) (S.content squares.old) level upper.now }
+    requires lower { IsStrip (S.knows squares.old) (S.content squares.old) level lower.now }
+    requires upper_within { AreWithin upper.now }
+    requires lower_within { AreWithin lower.now }
+    requires known { S.knows squares.old blank }
+    requires blank { S.content squares.old blank ≡ blank_square level }
+    requires north { IsFound upper.now (2 * column) blank north }
+    requires south { IsFound lower.now (2 * column) blank south }
+    ensures known { IfOk result (λ r. S.knows squares.new r) }
+    ensures square { IfOk result (λ r. S.content squares.new r ≡ quad_at (S.content squares.old) level upper.now lower.now column) }
+    ensures keeps { (q : IdValue) → S.knows squares.old q → S.knows squares.new q × (S.content squares.new q ≡ S.content squares.old q) }
+    ensures stays { (t : Tree) → Contains (S.stored squares.old) t → Contains (S.stored squares.new) t }
+    ensures most { S.most squares.new ≡ S.most squares.old }
+    ensures refusals { IfErr result (λ e. (e ≡ Full) ⊎ (e ≡ Memory)) }
+    ensures full { result ≡ Err Full → length (S.stored squares.new) ≡ S.most squares.new }
+{
+    let east = 2 * column + 1;
+    let ne = find(upper, north.index, east, blank);
+    let se = find(lower, south.index, east, blank);
+    squares.join(north.square, ne.square, south.square, se.square)
+}
+
+// The column up to which one square goes on.
+fn next_column(column: u64, north: u64, south: u64) -> u64
+    requires north { 2 * column < north }
+    requires south { 2 * column < south }
+    requires last { (north ≤ 2 ^ MAX_LEVEL) ⊎ (south ≤ 2 ^ MAX_LEVEL) }
+    ensures beyond { column < result }
+    ensures within { result ≤ 2 ^ MAX_LEVEL }
+    ensures goes_on { (c : ℕ) → column < c → c < result → (2 * c + 1 < north) × (2 * c + 1 < south) }
+{
+    let end = if north < south { north } else { south };
+    if end / 2 > column {
+        end / 2
+    } else {
+        column + 1
+    }
+}
+
+// The strip of the next level whose squares have two squares of the upper strip above two of the lower.
+pub(crate) fn pair<S: Squares>(
+    squares: &mut S,
+    alloc: Global,
+    level: u8,
+    upper: &[Span],
+    lower: &[Span],
+) -> Result<Vec<Span>, Kind>
+    requires low { level < MAX_LEVEL }
+    requires upper { IsStrip (S.knows squares.old) (S.content squares.old) level upper.now }
+    requires lower { IsStrip (S.knows squares.old) (S.content squares.old) level lower.now }
+    requires upper_within { AreWithin upper.now }
+    requires lower_within { AreWithin lower.now }
+    ensures strip { IfOk result (λ r. IsStrip (S.knows squares.new) (S.content squares.new) (level + 1) r.items) }
+    ensures within { IfOk result (λ r. AreWithin r.items) }
+    ensures paired { IfOk result (λ r. IsPaired (S.content squares.old) (S.content squares.new) level upper.now lower.now r.items) }
+    ensures keeps { (q : IdValue) → S.knows squares.old q → S.knows squares.new q × (S.content squares.new q ≡ S.content squares.old q) }
+    ensures stays { (t : Tree) → Contains (S.stored squares.old) t → Contains (S.stored squares.new) t }
+    ensures most { S.most squares.new ≡ S.most squares.old }
+    ensures refusals { IfErr result (λ e. (e ≡ Full) ⊎ (e ≡ Memory)) }
+    ensures full { result ≡ Err Full → length (S.stored squares.new) ≡ S.most squares.new }
+{
+    let blank = squares.empty(level);
+    let mut spans = Vec::new(alloc);
+    let mut column: u64 = 0;
+    let mut north = find(upper, 0, 0, blank);
+    let mut south = find(lower, 0, 0, blank);
+    while north.end < u64::MAX || south.end < u64::MAX {
+        let square = join_at(squares, upper, lower, level, blank, column, north, south)?;
+        column = next_column(column, north.end, south.end);
+        let Ok(()) = spans.push(Span {
+            end: column,
+            square,
+        }) else {
+            return Err(Kind::Memory);
+        };
+        north = find(upper, north.index, 2 * column, blank);
+        south = find(lower, south.index, 2 * column, blank);
+    }
+    Ok(spans)
+}
+
+// How many columns from the west have a square.
+fn covered(spans: &[Span]) -> u64
+    ensures { (c : ℕ) → c < result → (id : IdValue) × (id_at spans.now c ≡ Some id) }
+{
+    match spans.last() {
+        Some(span) => span.end,
+        None => 0,
+    }
+}
+
+// The blank square in the columns before this one that have none.
+fn fill_gap(spans: &mut Vec<Span>, column: u64, blank: Id) -> Result<(), Kind>
+    requires ends { All (λ s. s.end ≤ column) spans.old.items }
+    ensures ends { OnOk result (All (λ s. s.end ≤ column) spans.new.items) }
+    ensures columns { OnOk result ((c : ℕ) → c < column → id_at spans.new.items c ≡ Some (id_or blank (id_at spans.old.items c))) }
+    ensures refusals { IfErr result (λ e. e ≡ Memory) }
+{
+    if covered(spans.as_slice()) < column {
+        let Ok(()) = spans.push(Span {
+            end: column,
+            square: blank,
+        }) else {
+            return Err(Kind::Memory);
+        };
+    }
+    Ok(())
+}
+
+// A square in `len` columns, east of the others.
+pub(crate) fn push_span(
+    spans: &mut Vec<Span>,
+    column: u64,
+    len: u64,
+    blank: Id,
+    square: Id,
+) -> Result<(), Kind>
+    requires ends { All (λ s. s.end ≤ column) spans.old.items }
+    requires within { column + len ≤ 2 ^ MAX_LEVEL }
+    ensures ends { OnOk result (All (λ s. s.end ≤ column + len) spans.new.items) }
+    ensures columns { OnOk result ((c : ℕ) → id_or blank (id_at spans.new.items c) ≡ (if nat_le column c && nat_lt c (column + len) then square else id_or blank (id_at spans.old.items c))) }
+    ensures refusals { IfErr result (λ e. e ≡ Memory) }
+{
+    fill_gap(spans, column, blank)?;
+    let Ok(()) = spans.push(Span {
+        end: column + len,
+        square,
+    }) else {
+        return Err(Kind::Memory);
+    };
+    Ok(())
+}

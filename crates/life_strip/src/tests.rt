@@ -1,0 +1,109 @@
+//! Runs by rows against runs put one by one, and against squares joined by hand.
+ghost use Rattle.std.specs.Prelude.{IfOk};
+
+use crate::Builder;
+use life_base::{Kind, MAX_LEVEL};
+use life_quad::{Id, Plain, Shared, Squares, put_run, trim};
+use std::alloc::Global;
+use std::test::Fail;
+
+// Adjacent runs, gaps in rows and columns, odd starts and lengths, several states, the corners of the plane and a whole row.
+fn by_rows<S: Squares>(alloc: Global, store: &mut S) -> Result<Id, Kind> {
+    let mut builder = Builder::new(alloc);
+    builder.add_run(store, -(1 << 59), -(1 << 59), 1, 1)?;
+    builder.add_run(store, (1 << 59) - 1, -(1 << 59), 1, 2)?;
+    builder.add_run(store, -3, -7, 5, 1)?;
+    builder.add_run(store, 2, -7, 2, 3)?;
+    builder.add_run(store, 5, -7, 1, 1)?;
+    builder.add_run(store, -3, -6, 5, 1)?;
+    builder.add_run(store, -(1 << 59), 4, 1 << 60, 255)?;
+    builder.add_run(store, 1, 9, 3, 1)?;
+    builder.add_run(store, -(1 << 59), (1 << 59) - 1, 3, 4)?;
+    builder.add_run(store, (1 << 59) - 2, (1 << 59) - 1, 2, 5)?;
+    builder.finish(store)
+}
+
+// The same runs, put into the plane one by one.
+fn one_by_one<S: Squares>(store: &mut S) -> Result<Id, Kind> {
+    let root = store.empty(MAX_LEVEL);
+    let root = put_run(store, root, -(1 << 59), -(1 << 59), 1, 1)?;
+    let root = put_run(store, root, (1 << 59) - 1, -(1 << 59), 1, 2)?;
+    let root = put_run(store, root, -3, -7, 5, 1)?;
+    let root = put_run(store, root, 2, -7, 2, 3)?;
+    let root = put_run(store, root, 5, -7, 1, 1)?;
+    let root = put_run(store, root, -3, -6, 5, 1)?;
+    let root = put_run(store, root, -(1 << 59), 4, 1 << 60, 255)?;
+    let root = put_run(store, root, 1, 9, 3, 1)?;
+    let root = put_run(store, root, -(1 << 59), (1 << 59) - 1, 3, 4)?;
+    put_run(store, root, (1 << 59) - 2, (1 << 59) - 1, 2, 5)
+}
+
+// Two cells that touch at the middle of the plane, in the least square with them.
+fn diagonal<S: Squares>(alloc: Global, store: &mut S) -> Result<Id, Kind>
+    ensures known { IfOk result (S.knows store.new) }
+{
+    let mut builder = Builder::new(alloc);
+    builder.add_run(store, -1, -1, 1, 1)?;
+    builder.add_run(store, 0, 0, 1, 2)?;
+    let root = builder.finish(store)?;
+    trim(store, root, 1)
+}
+
+fn one_cell(alloc: Global, store: &mut Shared) -> Result<Id, Kind> {
+    let mut builder = Builder::new(alloc);
+    builder.add_run(store, 0, 0, 1, 1)?;
+    builder.finish(store)
+}
+
+#[test]
+fn runs_by_rows_give_the_square_of_runs_one_by_one(rt: HostRuntime) -> Result<(), Fail> {
+    let mut store = Shared::new(rt.alloc(), 10_000);
+    let expected = one_by_one(&mut store)?;
+    let answer = by_rows(rt.alloc(), &mut store)?;
+    assert!(rt; answer == expected);
+    Ok(())
+}
+
+#[test]
+fn two_cells_give_the_square_joined_by_hand(rt: HostRuntime) -> Result<(), Fail> {
+    let mut store = Shared::new(rt.alloc(), 1000);
+    let answer = diagonal(rt.alloc(), &mut store)?;
+    let dead = store.cell(0);
+    let first = store.cell(1);
+    let second = store.cell(2);
+    let expected = store.join(first, dead, dead, second)?;
+    assert!(rt; answer == expected);
+
+    let mut plain = Plain::new(rt.alloc(), 1000);
+    let answer = diagonal(rt.alloc(), &mut plain)?;
+    let parts = plain.parts(answer).ok_or(Kind::Memory)?;
+    assert_eq!(rt; plain.state(parts[0]), Some(1));
+    assert_eq!(rt; plain.state(parts[1]), Some(0));
+    assert_eq!(rt; plain.state(parts[2]), Some(0));
+    assert_eq!(rt; plain.state(parts[3]), Some(2));
+    Ok(())
+}
+
+#[test]
+fn no_cell_gives_the_blank_square(rt: HostRuntime) -> Result<(), Fail> {
+    let mut store = Shared::new(rt.alloc(), 0);
+    let answer = Builder::new(rt.alloc()).finish(&mut store)?;
+    assert!(rt; answer == store.empty(MAX_LEVEL));
+    Ok(())
+}
+
+// A cell needs one square of each level.
+#[test]
+fn a_store_without_room_is_full(rt: HostRuntime) -> Result<(), Fail> {
+    let mut store = Shared::new(rt.alloc(), 59);
+    match one_cell(rt.alloc(), &mut store) {
+        Err(Kind::Full) => assert_eq!(rt; store.len(), 59),
+        answer => {
+            let _ = answer?;
+            assert!(rt; false, "a cell was stored without a square of each level");
+        }
+    }
+    let mut store = Shared::new(rt.alloc(), 60);
+    let _ = one_cell(rt.alloc(), &mut store)?;
+    Ok(())
+}
