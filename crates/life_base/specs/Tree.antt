@@ -1,6 +1,6 @@
 -- Full squares of cells, as trees without sharing, divided into quarters as macrocell files divide them (Golly Help, File
 -- Formats, macrocell).
-use Rattle.std.specs.Prelude.{◌≡◌, ◌==◌, ℕ, zero, suc, ◌-◌, ◌^◌, ◌<◌, Bool, ◌&&◌, nat_lt, if◌then◌else◌, List, [], ◌∷◌}
+use Rattle.std.specs.Prelude.{◌≡◌, ◌==◌, ℕ, zero, suc, ◌-◌, ◌^◌, ◌<◌, Bool, ◌&&◌, nat_lt, if◌then◌else◌, List, [], ◌∷◌, ℤ, pos, neg_ℤ, ◌+ℤ◌, int_le, int_lt, unsigned_abs}
 
 -- a full square: a point has one state; any other has four quarters, north-west, north-east, south-west, south-east
 pub data Tree : Type 0 where
@@ -41,3 +41,16 @@ state_at (quad nw ne sw se) column row =
     if nat_lt row half
     then (if nat_lt column half then state_at nw column row else state_at ne (column - half) row)
     else (if nat_lt column half then state_at sw column (row - half) else state_at se (column - half) (row - half))
+
+-- half of the side of a square
+abbrev pub half_side : Tree → ℕ
+half_side tree = 2 ^ (depth tree - 1)
+
+-- The state of the cell (x, y) of a square in whose middle (0, 0) lies: a square of depth k covers the columns and the rows from
+-- -2 ^ (k - 1) to 2 ^ (k - 1) - 1, and all cells outside are 0.
+abbrev pub tree_cell : Tree → ℤ → ℤ → ℕ
+tree_cell tree x y =
+    let half = pos (half_side tree) in
+    if int_le (neg_ℤ half) x && int_lt x half && int_le (neg_ℤ half) y && int_lt y half
+    then state_at tree (unsigned_abs (x +ℤ half)) (unsigned_abs (y +ℤ half))
+    else 0

@@ -8,7 +8,8 @@ use Rattle.life_base.specs.Tree.{point, quad, blank, depth, state_at}
 use Rattle.life_mc.specs.Macrocell.{Macrocell}
 use Rattle.life_mc.specs.Cells.{node_lines}
 use Rattle.life_mc.specs.Reading.{squares_of, rule_in_force, generation_in_force}
-use Rattle.life_mc.specs.Squares.{tree_of, root_tree, tree_cell}
+use Rattle.life_mc.specs.Squares.{tree_of, root_tree}
+use Rattle.life_base.specs.Tree.{tree_cell}
 use Rattle.life_mc.specs.Writing.{mc_text, row_cells}
 use Rattle.life_mc.specs.declared.line.Line.{Line}
 use Rattle.life_mc.specs.declared.line.Line.TheVariants.{Leaf, Quad}

@@ -10,7 +10,8 @@ use Rattle.life_base.specs.Tree.{Tree, point, quad, depth, blank, state_at, IsFu
 use Rattle.life_base.specs.declared.rule.Rule.{Rule}
 use Rattle.life_mc.specs.Macrocell.{AreSquares, IsSquare, level_of, numbered, is_quarter, is_level, largest_state}
 use Rattle.life_mc.specs.Cells.{cell, cell_in, cell_from, leaf_cell, quarter_at, root_level}
-use Rattle.life_mc.specs.Squares.{tree_at, leaf_tree, line_tree, tree_of, root_tree, tree_cell, HasStatesUpTo, StandsForSquare, LinesStandForSquares}
+use Rattle.life_mc.specs.Squares.{tree_at, leaf_tree, line_tree, tree_of, root_tree, HasStatesUpTo, StandsForSquare, LinesStandForSquares}
+use Rattle.life_base.specs.Tree.{tree_cell}
 use Rattle.life_mc.specs.declared.line.Line.{Line}
 use Rattle.life_mc.specs.declared.line.Line.TheVariants.{Leaf, Quad}
 use Rattle.life_mc.proofs.TestFacts.{all_four, not_zero, few_states}

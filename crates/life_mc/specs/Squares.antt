@@ -1,6 +1,6 @@
 -- The square that each node line of a macrocell file stands for, as a tree without sharing.
 use Rattle.std.specs.Prelude.{◌≡◌, ℕ, zero, suc, ◌+◌, ◌-◌, ◌^◌, ◌<◌, ◌≤◌, ◌&&◌, List, length, take, if◌then◌else◌, Some, None, ℤ, pos, neg_ℤ, ◌+ℤ◌, int_le, int_lt, unsigned_abs}
-use Rattle.life_base.specs.Tree.{Tree, point, quad, depth, blank, state_at, IsFull}
+use Rattle.life_base.specs.Tree.{Tree, point, quad, depth, blank, state_at, tree_cell, IsFull}
 use Rattle.life_base.specs.declared.rule.Rule.{Rule}
 use Rattle.life_mc.specs.Macrocell.{Macrocell, IsValid, level_of, largest_state, numbered}
 use Rattle.life_mc.specs.Cells.{cell, cell_in, leaf_cell, root_level}
@@ -36,15 +36,6 @@ root_tree lines = tree_of lines (root_level lines) (length lines)
 abbrev pub HasStatesUpTo : ℕ → Tree → Type 0
 HasStatesUpTo most (point state) = state ≤ most
 HasStatesUpTo most (quad nw ne sw se) = HasStatesUpTo most nw × HasStatesUpTo most ne × HasStatesUpTo most sw × HasStatesUpTo most se
-
--- The state of the cell (x, y) of a square in whose middle (0, 0) lies: at depth k it covers x and y from -2 ^ (k - 1) to
--- 2 ^ (k - 1) - 1, and all cells outside are 0.
-abbrev pub tree_cell : Tree → ℤ → ℤ → ℕ
-tree_cell tree x y =
-    let half = pos (2 ^ (depth tree - 1)) in
-    if int_le (neg_ℤ half) x && int_lt x half && int_le (neg_ℤ half) y && int_lt y half
-    then state_at tree (unsigned_abs (x +ℤ half)) (unsigned_abs (y +ℤ half))
-    else 0
 
 -- The number stands for a square of this level: a full one, with states of the rule and with the cells that the lines
 -- say, which the lines up to that of the number decide.

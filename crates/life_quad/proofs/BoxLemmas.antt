@@ -2,7 +2,7 @@
 use Rattle.std.proofs.Common.{◌≡◌, ◌≢◌, ◌==◌, ℕ, ◌+◌, ◌^◌, ◌≤◌, min, max, Bool, true, false, ◌⊎◌, inl, inr, Option, Some, None, refl, sym, ◌∙◌, ap, subst, arith, true≢false}
 use Rattle.std.specs.Prelude.{IfSome, nat_le, nat_eq, cond}
 use Rattle.std.proofs.Math.Pow.{pow_mono}
-use Rattle.life_quad.specs.declared.level.TheConstants.{MAX_LEVEL}
+use Rattle.life_base.specs.declared.cell.TheConstants.{MAX_LEVEL}
 use Rattle.life_base.specs.Tree.{Tree, point, quad, depth, is_blank_tree, IsFull}
 use Rattle.life_quad.specs.declared.extent.Extent.{Extent}
 use Rattle.life_quad.specs.Boxes.{IsNonzeroAt, IsExtent, IsExtentOf, moved_if, IsWithin, around_both, around_quarters}

@@ -8,7 +8,8 @@ use Rattle.std.proofs.lemmas.List.Kept.{AllPairs-cons}
 use Rattle.std.proofs.lemmas.List.Elements.{Contains-get_or}
 use Rattle.life_base.specs.declared.cell.Cell.{Cell}
 use Rattle.life_base.specs.Tree.{Tree, point, quad, depth, state_at, is_blank_tree, IsFull}
-use Rattle.life_quad.specs.Cells.{IsBefore, IsCellList, population, cell, half_side}
+use Rattle.life_quad.specs.Cells.{IsBefore, IsCellList, population}
+use Rattle.life_base.specs.Tree.{tree_cell as cell, half_side}
 use Rattle.life_quad.specs.Bands.{Piece, kept, northern, southern, upper, lower, row_cells, band_cells, IsBand, InBand, pieces}
 use Rattle.life_quad.specs.declared.id.Id.{Id}
 use Rattle.life_quad.specs.declared.listing.Placed.{Placed}

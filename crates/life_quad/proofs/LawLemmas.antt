@@ -6,7 +6,7 @@ use Rattle.std.proofs.lemmas.Int.{ints}
 use Rattle.life_base.specs.declared.cell.Cell.{Cell}
 use Rattle.life_base.specs.Tree.{Tree, point, quad, depth, state_at, is_blank_tree, IsFull}
 use Rattle.life_quad.specs.Moves.{outer, inner, can_trim, trimmed, trim_up_to, grown}
-use Rattle.life_quad.specs.Cells.{cell, half_side}
+use Rattle.life_base.specs.Tree.{tree_cell as cell, half_side}
 use Rattle.life_quad.specs.Laws.{BlankByCells, EqualByCells, GrowingKeepsCells, TrimmingKeepsCells, TrimmingIgnoresGrowth}
 use Rattle.life_quad.specs.Bands.{Piece, kept}
 use Rattle.life_quad.specs.TreeLaws.{depth-blank, full-blank, is_blank-blank, and_left, and_right}

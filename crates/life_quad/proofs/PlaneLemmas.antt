@@ -4,7 +4,8 @@ use Rattle.std.proofs.lemmas.Int.{ints}
 use Rattle.life_base.specs.Tree.{Tree, depth, state_at}
 use Rattle.life_quad.specs.declared.extent.Extent.{Extent}
 use Rattle.life_quad.specs.declared.extent.Bounds.{Bounds}
-use Rattle.life_quad.specs.Cells.{half_side, cell, IsLeastBox}
+use Rattle.life_quad.specs.Cells.{IsLeastBox}
+use Rattle.life_base.specs.Tree.{half_side, tree_cell as cell}
 use Rattle.life_quad.specs.Boxes.{IsNonzeroAt, IsExtent}
 use Rattle.life_quad.proofs.RunLemmas.{is_inside, inside_facts, inside_test, inside_offset, cell_inside, cell_outside, side}
 

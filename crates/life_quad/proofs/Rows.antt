@@ -3,7 +3,7 @@ use Rattle.std.proofs.Common.{◌≡◌, pos, negsuc, refl}
 use Rattle.life_base.specs.Tree.{Tree, point, quad, depth, blank}
 use Rattle.life_quad.specs.Moves.{trimmed, grown}
 use Rattle.life_quad.specs.Cells.{population}
-use Rattle.life_quad.specs.Cells.{cell}
+use Rattle.life_base.specs.Tree.{tree_cell as cell}
 
 -- a square of level 2 with the one cell (0, 0) of state 7
 abbrev one : Tree

@@ -3,7 +3,8 @@ use Rattle.std.proofs.Common.{◌≡◌, ℕ, zero, suc, ◌+◌, ◌-◌, ◌^�
 use Rattle.std.specs.Prelude.{if◌then◌else◌, int_le, int_lt, unsigned_abs}
 use Rattle.std.proofs.lemmas.Int.{ints}
 use Rattle.life_base.specs.Tree.{Tree, depth, state_at}
-use Rattle.life_quad.specs.Cells.{half_side, cell, IsInRun, IsRunInside, SetsRun}
+use Rattle.life_quad.specs.Cells.{IsInRun, IsRunInside, SetsRun}
+use Rattle.life_base.specs.Tree.{half_side, tree_cell as cell}
 use Rattle.life_quad.specs.Span.{is_in_span, SetsSpan}
 
 -- whether a pair is inside the square of this half

@@ -2,19 +2,7 @@
 use Rattle.std.specs.Prelude.{◌≡◌, ◌≢◌, ◌==◌, ℕ, ◌+◌, ◌-◌, ◌^◌, ◌&&◌, ◌⊎◌, if◌then◌else◌, ℤ, pos, neg_ℤ, ◌+ℤ◌, ◌<ℤ◌, ◌≤ℤ◌, unsigned_abs, int_lt, int_le, List, Contains, AllPairs}
 use Rattle.life_base.specs.declared.cell.Cell.{Cell}
 use Rattle.life_quad.specs.declared.extent.Bounds.{Bounds}
-use Rattle.life_base.specs.Tree.{Tree, point, quad, depth, state_at, IsFull}
-
--- half of the side of a square
-abbrev pub half_side : Tree → ℕ
-half_side t = 2 ^ (depth t - 1)
-
--- the state of a pair of whole numbers, 0 outside the square
-abbrev pub cell : Tree → ℤ → ℤ → ℕ
-cell t x y =
-    let half = pos (half_side t) in
-    if int_le (neg_ℤ half) x && int_lt x half && int_le (neg_ℤ half) y && int_lt y half
-    then state_at t (unsigned_abs (x +ℤ half)) (unsigned_abs (y +ℤ half))
-    else 0
+use Rattle.life_base.specs.Tree.{Tree, point, quad, depth, half_side, tree_cell as cell, IsFull}
 
 -- (x, y) is one of the cells (left, row) to (left + len - 1, row)
 pub record IsInRun (left row : ℤ) (len : ℕ) (x y : ℤ) : Type 0 where

@@ -3,7 +3,8 @@ use Rattle.std.specs.Prelude.{◌≡◌, ◌↔◌, ℕ, ◌^◌, ◌<◌, ◌�
 use Rattle.life_base.specs.declared.cell.Cell.{Cell}
 use Rattle.life_base.specs.Tree.{Tree, depth, IsFull, is_blank_tree, state_at}
 use Rattle.life_quad.specs.Moves.{trimmed, grown}
-use Rattle.life_quad.specs.Cells.{cell, population, IsCellList}
+use Rattle.life_quad.specs.Cells.{population, IsCellList}
+use Rattle.life_base.specs.Tree.{tree_cell as cell}
 
 -- a square is blank exactly if each of its cells has state 0
 abbrev pub BlankByCells : Type 0

@@ -1,6 +1,6 @@
 -- How a store of nodes stands for squares.
 use Rattle.std.specs.Prelude.{◌≡◌, ℕ, ◌+◌, ◌-◌, ◌<◌, ◌^◌, ◌≤◌, Bool, false, nat_lt, if◌then◌else◌, List, [], ◌∷◌, ◌++◌, length, fold, Some, slice_get, slice_index_or, Contains, ◌==◌, ◌||◌, ◌&&◌, nat_le}
-use Rattle.life_quad.specs.declared.level.TheConstants.{MAX_LEVEL}
+use Rattle.life_base.specs.declared.cell.TheConstants.{MAX_LEVEL}
 use Rattle.life_quad.specs.declared.id.Id.{Id}
 use Rattle.life_quad.specs.declared.id.Node.{Node}
 use Rattle.life_base.specs.Tree.{Tree, point, quad, depth, blank, is_blank_tree, IsFull}

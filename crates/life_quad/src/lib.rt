@@ -4,7 +4,6 @@
 mod extent;
 mod id;
 pub mod laws;
-mod level;
 mod listing;
 mod moves;
 mod plain;
@@ -15,7 +14,6 @@ mod squares;
 
 pub use extent::Bounds;
 pub use id::Id;
-pub use level::MAX_LEVEL;
 pub use listing::cells;
 pub use moves::{grow, trim};
 pub use plain::Plain;

@@ -11,8 +11,8 @@ ghost use Rattle.life_quad.specs.Bands.{InBand, IsPlaced, pieces, kept, northern
 
 use crate::moves::{Quarters, divide, is_blank_square};
 use crate::runs::half_side;
-use crate::{Id, MAX_LEVEL, Squares};
-use life_base::{Cell, Kind};
+use crate::{Id, Squares};
+use life_base::{Cell, Kind, MAX_LEVEL};
 use std::alloc::Global;
 
 // A square and the column of its western side.

@@ -5,8 +5,8 @@ ghost use Rattle.life_quad.specs.declared.id.Id.{Id as IdValue};
 ghost use Rattle.life_base.specs.Tree.{Tree, quad, depth, is_blank_tree};
 ghost use Rattle.life_quad.specs.Moves.{grown, trimmed, inner, can_trim};
 
-use crate::{Id, MAX_LEVEL, Squares};
-use life_base::Kind;
+use crate::{Id, Squares};
+use life_base::{Kind, MAX_LEVEL};
 
 // The Ids of the four quarters of a square.
 #[derive(Clone, Copy)]

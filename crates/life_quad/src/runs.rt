@@ -7,8 +7,8 @@ ghost use Rattle.life_quad.specs.Span.{SetsSpan, SetsHalves};
 ghost use Rattle.life_quad.specs.Cells.{IsRunInside, SetsRun};
 
 use crate::moves::{Quarters, divide};
-use crate::{Id, MAX_LEVEL, Squares};
-use life_base::{Kind, State};
+use crate::{Id, Squares};
+use life_base::{Kind, MAX_LEVEL, State};
 
 // Half of the side of a square of a level.
 pub(crate) fn half_side(level: u8) -> u64

@@ -4,12 +4,12 @@ ghost use Rattle.life_base.specs.declared.kind.Kind.TheVariants.{Full, Memory};
 ghost use Rattle.life_quad.specs.declared.id.Id.{Id as IdValue};
 ghost use Rattle.life_base.specs.Tree.{Tree, point, quad, depth, blank, quarters, IsFull};
 
-use crate::{Id, MAX_LEVEL};
-use life_base::{Kind, State};
+use crate::Id;
+use life_base::{Kind, MAX_LEVEL, State};
 
 /// A store of squares. A square is named by an `Id`.
 pub trait Squares {
-    ghost use Rattle.life_quad.specs.declared.level.TheConstants.{MAX_LEVEL};
+    ghost use Rattle.life_base.specs.declared.cell.TheConstants.{MAX_LEVEL};
 
     // The Id names a square of the store.
     ghost knows: { Self → IdValue → Type 0 };

@@ -3,7 +3,7 @@ ghost use Rattle.std.specs.Prelude.{◌≡◌, ℕ, ℤ, pos, neg_ℤ, ◌+ℤ�
 ghost use Rattle.life_base.specs.declared.kind.Kind.TheVariants.{Full, Memory};
 ghost use Rattle.life_base.specs.Tree.{Tree, depth};
 ghost use Rattle.life_quad.specs.declared.id.Id.{Id as IdValue};
-ghost use Rattle.life_quad.specs.Cells.{cell as cell_of};
+ghost use Rattle.life_base.specs.Tree.{tree_cell as cell_of};
 ghost use Rattle.life_strip.specs.Picture.{picture};
 ghost use Rattle.life_strip.specs.Filling.{IsEmpty, IsFilling, IsOnPlane, IsNext, AddsRun, cell_so_far, half_plane};
 

@@ -1,6 +1,7 @@
 use Rattle.std.proofs.Common.{◌≡◌, ◌-◌, ◌^◌, pos, neg_ℤ, length, arith, sym, ◌∙◌, ap, subst, rules, to_z, of_z, w64}
 use Rattle.std.proofs.lemmas.Int.{ints}
-use Rattle.life_quad.specs.Cells.{half_side, IsCellList}
+use Rattle.life_quad.specs.Cells.{IsCellList}
+use Rattle.life_base.specs.Tree.{half_side}
 use Rattle.life_quad.proofs.CellListLemmas.{square_length, IsCellList-square, whole_band, whole_list, whole_in_band, more_in_square}
 use Rattle.life_quad.proofs.listing.cells.Goals as goal
 

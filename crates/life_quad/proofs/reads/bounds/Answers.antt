@@ -1,6 +1,6 @@
 use Rattle.std.proofs.Common.{◌≡◌, ◌-◌, ◌^◌, arith, ◌∙◌, ap, subst}
 use Rattle.std.proofs.lemmas.Int.{ints}
-use Rattle.life_quad.specs.Cells.{half_side}
+use Rattle.life_base.specs.Tree.{half_side}
 use Rattle.life_quad.specs.Boxes.{IsNonzeroAt, IsExtentOf}
 use Rattle.life_quad.proofs.BoxLemmas.{no_extent}
 use Rattle.life_quad.proofs.PlaneLemmas.{least_box}

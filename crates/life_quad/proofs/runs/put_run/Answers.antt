@@ -1,7 +1,7 @@
 use Rattle.std.proofs.Common.{◌≡◌, ◌-◌, ◌^◌, pos, ◌+ℤ◌, arith, ◌∙◌, ap}
 use Rattle.std.proofs.lemmas.Int.{ints}
 use Rattle.std.proofs.Math.Pow.{pow_mono}
-use Rattle.life_quad.specs.Cells.{half_side}
+use Rattle.life_base.specs.Tree.{half_side}
 use Rattle.life_quad.proofs.MoveLemmas.{if_ok_map}
 use Rattle.life_quad.proofs.RunLemmas.{SetsRun-span}
 use Rattle.life_quad.proofs.runs.put_run.Goals as goal
