@@ -1,5 +1,5 @@
 -- How a command line grows.
-use Rattle.std.proofs.Common.{◌≡◌, ap, ap₂, ◌∙◌, refl, false}
+use Rattle.std.proofs.Common.{ap, ap₂, ◌∙◌, refl}
 use Rattle.clap.specs.Words.{AddsSubcommand, App, with_subcommand}
 use Rattle.clap.specs.declared.builder.command.Command.{Command}
 use Rattle.life_cli.specs.CommandLine.{ReadsAs}

@@ -1,5 +1,5 @@
 -- How a run of `canon` ends.
-use Rattle.std.proofs.Common.{◌≡◌, ◌⊎◌, inl, inr, ℕ, ◌-◌, ◌<◌, ◌≤◌, ◌^◌, List, [], ◌∷◌, length, take, Option, Some, None, Bool, true, false, ◌||◌, refl, sym, ap, ◌∙◌, subst, arith}
+use Rattle.std.proofs.Common.{◌≡◌, ◌⊎◌, inl, inr, ℕ, ◌-◌, ◌<◌, ◌≤◌, ◌^◌, List, [], ◌∷◌, length, take, Option, Some, Bool, true, false, ◌||◌, refl, sym, ap, subst, arith}
 use Rattle.std.specs.List.{slice_index_or}
 use Rattle.life_base.specs.Inputs.{ReadAll}
 use Rattle.life_base.specs.Refusal.{fault_of, OrMemory}
@@ -8,8 +8,8 @@ use Rattle.life_base.specs.Writing.{WritesPrefix}
 use Rattle.life_base.specs.declared.cell.TheConstants.{MAX_LEVEL}
 use Rattle.life_base.specs.declared.fault.Fault.{Fault}
 use Rattle.life_base.specs.declared.kind.Kind.{Kind}
-use Rattle.life_base.specs.declared.kind.Kind.TheVariants.{NoHeader, Memory, ReadFault, WriteFault, InputTooLong}
-use Rattle.life_mc.specs.Macrocell.{Macrocell, IsValid, AreSquares}
+use Rattle.life_base.specs.declared.kind.Kind.TheVariants.{ReadFault, WriteFault, InputTooLong}
+use Rattle.life_mc.specs.Macrocell.{Macrocell, AreSquares}
 use Rattle.life_mc.specs.Reading.{Refuses, missing, is_macrocell_kind, IsMacrocell}
 use Rattle.life_mc.specs.Writing.{mc_text}
 use Rattle.life_mc.proofs.LineKinds.{broken_kind, kind_in}

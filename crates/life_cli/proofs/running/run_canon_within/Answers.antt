@@ -1,9 +1,6 @@
-use Rattle.std.proofs.Common.{◌≡◌, ◌∙◌, ap, sym, subst}
+use Rattle.std.proofs.Common.{◌∙◌, ap}
 use Rattle.std.proofs.lemmas.Result.{err_from_is_err_and}
 use Rattle.life_base.specs.Refusal.{fault_of}
-use Rattle.life_base.specs.declared.fault.Fault.{Fault}
-use Rattle.life_base.specs.declared.kind.Kind.TheVariants.{WriteFault}
-use Rattle.life_base.specs.Writing.{WritesPrefix}
 use Rattle.life_cli.proofs.RunLemmas.{by_file, by_sink}
 use Rattle.life_cli.proofs.running.run_canon_within.Goals as goal
 
