@@ -1,8 +1,8 @@
 -- What the words of a command line ask for.
-use Rattle.std.specs.Prelude.{◌≡◌, ◌<◌, ◌∷◌, [], ℕ, Bool, false, List, Option, Some, None, codes, string_bytes, count_by}
+use Rattle.std.specs.Prelude.{◌≡◌, ◌≢◌, ◌⊎◌, ◌<◌, ◌∷◌, [], ℕ, Bool, false, List, Option, Some, None, codes, string_bytes, count_by}
 use Rattle.std.specs.Option.{option_map_or}
 use Rattle.std.specs.Str.{bytes_eq}
-use Rattle.clap.specs.Words.{Row, Text, first_of}
+use Rattle.clap.specs.Words.{Row, Text, Kinds, HasKind, first_of}
 use Rattle.life_cli.specs.declared.plans.Job.{Job}
 use Rattle.life_cli.specs.declared.plans.Job.TheVariants.{Canon}
 use Rattle.life_cli.specs.declared.plans.Plan.{Plan}
@@ -39,8 +39,14 @@ abbrev pub NamesInputTwice : Option (Text × List Row) → Type 0
 NamesInputTwice None = ⊥
 NamesInputTwice (Some matches) = 1 < input_count matches.1
 
--- the refusal is that of two inputs
-abbrev pub IsTwoInputs : Usage → Type 0
-IsTwoInputs (Words error) = ⊥
-IsTwoInputs TwoInputs = Unit {0}
-IsTwoInputs Memory = ⊥
+-- the matches lack the command or its file
+abbrev pub Lacks : Option (Text × List Row) → Type 0
+Lacks None = Unit {0}
+Lacks (Some matches) = (first_of (codes "FILE") matches.1 ≡ None) ⊎ (matches.0 ≢ codes "canon")
+
+-- why words are refused, where `clap` states these kinds of fault and these matches for them: by one of these kinds or for
+-- want of memory, or since the matches lack something or name standard input twice
+abbrev pub Explains : Kinds → Option (Text × List Row) → Usage → Type 0
+Explains kinds matches (Words error) = HasKind kinds error ⊎ Lacks matches
+Explains kinds matches TwoInputs = NamesInputTwice matches
+Explains kinds matches Memory = Unit {0}

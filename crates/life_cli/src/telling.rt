@@ -1,6 +1,6 @@
 //! Fault lines and statuses.
 
-ghost use Rattle.std.specs.Prelude.{◌≡◌, ◌⊎◌, true, OnErr};
+ghost use Rattle.std.specs.Prelude.{◌≡◌, ◌⊎◌, true, IfErr, OnErr};
 ghost use Rattle.life_base.specs.Writing.{WritesText};
 ghost use Rattle.life_cli.specs.Faults.{fault_line, status_of, Tells};
 
@@ -11,6 +11,7 @@ use life_base::{Fault, Kind, Sink, write_texts};
 fn write_fault<E: Sink>(err: &mut E, fault: &Fault) -> Result<(), Kind>
     requires { E.failures err.old ≡ 0 }
     ensures text { WritesText (E.contents err.old) (E.contents err.new) (fault_line fault.now) result }
+    ensures kind { IfErr result (λ kind. kind ≡ Kind.WriteFault) }
     ensures cause { OnErr result ((E.failures err.new ≡ 1) ⊎ (E.stalled err.new ≡ true)) }
 {
     let name = fault.kind.name().as_bytes();

@@ -1,6 +1,6 @@
 //! The work of a job.
 
-ghost use Rattle.std.specs.Prelude.{◌≡◌, ◌<◌, ◌↔◌, ◌^◌, IsSome, IfSome, option_and_then};
+ghost use Rattle.std.specs.Prelude.{◌≡◌, ◌<◌, ◌↔◌, ◌^◌, IsSome, IfSome, option_and_then, true};
 ghost use Rattle.std.specs.Option.{option_map_or};
 ghost use Rattle.life_base.specs.declared.fault.Fault.{Fault};
 ghost use Rattle.life_cli.specs.Faults.{fault_line, status_of, Tells};
@@ -28,6 +28,7 @@ pub fn work<A: Source, B: Source, O: Sink, E: Sink>(
     requires tells { E.failures err.old ≡ 0 }
     ensures done { result < 2 → Worked job.now result (A.remaining first.old) (A.remaining first.new)
         (option_and_then B.remaining second.old) (option_and_then B.remaining second.new) (O.contents out.old) (O.contents out.new) }
+    ensures flushed { result < 2 → O.flushed out.new ≡ true }
     ensures quiet { result < 2 → err.new ≡ err.old }
     ensures refused { 1 < result → (fault : Fault) × (result ≡ status_of fault.kind)
         × JobRefuses job.now (A.remaining first.old) (A.remaining first.new) (A.failures first.new)

@@ -1,7 +1,7 @@
 //! The commands, as `clap` reads them.
 
-ghost use Rattle.std.specs.Prelude.{◌≡◌, IfOk, map, false};
-ghost use Rattle.clap.specs.Words.{rule_of, HasMatchesOf};
+ghost use Rattle.std.specs.Prelude.{◌≡◌, IfOk, IfErr, map, false};
+ghost use Rattle.clap.specs.Words.{rule_of, HasMatchesOf, HasKind, fault_of};
 ghost use Rattle.life_cli.specs.CommandLine.{required_file, one_file_line, named, program, ReadsAs};
 
 use clap::{Arg, ArgAction, ArgMatches, Command, Error};
@@ -117,7 +117,8 @@ fn golly_canon<'a>(alloc: Global) -> Result<Command<'a>, AllocError>
 
 /// The matches of the program's words.
 pub fn parse<'a>(alloc: Global, words: &'a [&'a str]) -> Result<ArgMatches<'a>, Error>
-    ensures { IfOk result (HasMatchesOf program (map (λ word. word.now) words.entry.now)) }
+    ensures ok { IfOk result (HasMatchesOf program (map (λ word. word.now) words.entry.now)) }
+    ensures err { IfErr result (HasKind (fault_of program (map (λ word. word.now) words.entry.now))) }
 {
     let command = golly_canon(alloc)?;
     command.try_get_matches_from(words)

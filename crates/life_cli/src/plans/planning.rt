@@ -1,9 +1,9 @@
 //! The plan that the words ask for.
 
-ghost use Rattle.std.specs.Prelude.{◌≡◌, IfOk, IfErr, OnOk, Some, map, option_map, string_bytes, codes};
-ghost use Rattle.clap.specs.Words.{found_of, first_of, rows_of, subcommand_of, subcommand_rows_of};
+ghost use Rattle.std.specs.Prelude.{◌≡◌, List, [], Option, IfOk, IfErr, OnOk, Some, None, map, option_map, string_bytes, codes};
+ghost use Rattle.clap.specs.Words.{Row, Text, fault_of, found_of, first_of, rows_of, subcommand_of, subcommand_rows_of};
 ghost use Rattle.life_cli.specs.CommandLine.{program};
-ghost use Rattle.life_cli.specs.Plans.{IsPlanOf, NamesInputTwice, IsTwoInputs, input_count, is_input};
+ghost use Rattle.life_cli.specs.Plans.{IsPlanOf, NamesInputTwice, Explains, Lacks, input_count, is_input};
 
 use super::commands::parse;
 use super::{Job, Plan, Usage};
@@ -13,7 +13,7 @@ use std::alloc::Global;
 
 /// What stands for an answer of `clap` that it doesn't give.
 fn refusal(alloc: Global, kind: ErrorKind, message: &str) -> Usage
-    ensures { ¬ IsTwoInputs result }
+    ensures { (matches : Option (Text × List Row)) → Lacks matches → Explains [] matches result }
 {
     let mut command = Command::new(alloc, "golly_canon");
     match command.error(kind, message) {
@@ -24,7 +24,7 @@ fn refusal(alloc: Global, kind: ErrorKind, message: &str) -> Usage
 
 fn copied(alloc: Global, text: &str) -> Result<String, Usage>
     ensures ok { IfOk result (λ s. string_bytes s ≡ text.now) }
-    ensures err { IfErr result (λ u. ¬ IsTwoInputs u) }
+    ensures err { IfErr result (λ u. (matches : Option (Text × List Row)) → Explains [] matches u) }
 {
     match String::from_str(alloc, text) {
         Ok(copy) => Ok(copy),
@@ -41,7 +41,8 @@ fn value<'a>(found: &ArgMatches<'a>, id: &str) -> Option<&'a str>
 
 fn required(alloc: Global, found: &ArgMatches<'_>, id: &str) -> Result<String, Usage>
     ensures ok { IfOk result (λ s. first_of id.now (rows_of (found_of found.now)) ≡ Some (string_bytes s)) }
-    ensures err { IfErr result (λ u. ¬ IsTwoInputs u) }
+    ensures err { IfErr result (λ u. (matches : Option (Text × List Row)) → (first_of id.now (rows_of (found_of found.now)) ≡ None → Lacks matches)
+        → Explains [] matches u) }
 {
     match value(found, id) {
         Some(text) => copied(alloc, text),
@@ -55,7 +56,7 @@ fn required(alloc: Global, found: &ArgMatches<'_>, id: &str) -> Result<String, U
 
 fn canon(alloc: Global, found: &ArgMatches<'_>) -> Result<Plan, Usage>
     ensures ok { IfOk result (λ p. IsPlanOf (Some (codes "canon", rows_of (found_of found.now))) p) }
-    ensures err { IfErr result (λ u. ¬ IsTwoInputs u) }
+    ensures err { IfErr result (Explains [] (Some (codes "canon", rows_of (found_of found.now)))) }
 {
     let first = required(alloc, found, "FILE")?;
     Ok(Plan {
@@ -88,7 +89,7 @@ fn inputs(found: &ArgMatches<'_>) -> u8
 fn from_matches(alloc: Global, matches: &ArgMatches<'_>) -> Result<Plan, Usage>
     ensures ok { IfOk result (IsPlanOf (subcommand_rows_of matches.now)) }
     ensures once { OnOk result (¬ NamesInputTwice (subcommand_rows_of matches.now)) }
-    ensures twice { IfErr result (λ u. IsTwoInputs u → NamesInputTwice (subcommand_rows_of matches.now)) }
+    ensures refused { IfErr result (Explains [] (subcommand_rows_of matches.now)) }
 {
     if let Some((_, found)) = matches.subcommand() {
         if inputs(found) > 1 {
@@ -105,7 +106,7 @@ fn from_matches(alloc: Global, matches: &ArgMatches<'_>) -> Result<Plan, Usage>
 pub fn plan<'a>(alloc: Global, words: &'a [&'a str]) -> Result<Plan, Usage>
     ensures ok { IfOk result (IsPlanOf (subcommand_of program (map (λ word. word.now) words.entry.now))) }
     ensures once { OnOk result (¬ NamesInputTwice (subcommand_of program (map (λ word. word.now) words.entry.now))) }
-    ensures twice { IfErr result (λ u. IsTwoInputs u → NamesInputTwice (subcommand_of program (map (λ word. word.now) words.entry.now))) }
+    ensures refused { IfErr result (Explains (fault_of program (map (λ word. word.now) words.entry.now)) (subcommand_of program (map (λ word. word.now) words.entry.now))) }
 {
     match parse(alloc, words) {
         Ok(matches) => from_matches(alloc, &matches),

@@ -1,0 +1,14 @@
+use Rattle.std.proofs.Common.{◌≡◌, true, refl, map}
+use Rattle.clap.specs.Words.{is_simple_and_free}
+use Rattle.clap.proofs.OnLiterals.{clap_on_literals}
+use Rattle.life_cli.specs.CommandLine.{program}
+use Rattle.life_cli.proofs.MatchesLemmas.{fails_by_line}
+use Rattle.life_cli.proofs.plans.commands.parse.Goals as goal
+
+simple : is_simple_and_free program ≡ true
+unfolding clap_on_literals
+simple = refl
+
+pub returns-clause-err : goal.returns-clause-err
+returns-clause-err c =
+    fails_by_line program _ (map (λ word. word.now) c.args.words.now) _ c.in_ok-command.ensures.app c.try_get_matches_from.ensures.kinds simple
