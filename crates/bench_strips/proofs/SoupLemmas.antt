@@ -1,5 +1,5 @@
 -- What may come next.
-use Rattle.std.proofs.Common.{◌≡◌, ℕ, ◌+◌, ◌-◌, ◌*◌, ◌<◌, ◌≤◌, ◌⊎◌, inl, inr, ℤ, pos, ◌+ℤ◌, ◌<ℤ◌, ◌≤ℤ◌, sym, ◌∙◌, ap, subst, arith}
+use Rattle.std.proofs.Common.{◌≡◌, ℕ, ◌+◌, ◌<◌, ◌≤◌, ◌⊎◌, inl, inr, ℤ, pos, ◌+ℤ◌, ◌<ℤ◌, ◌≤ℤ◌, sym, ◌∙◌, ap, subst, arith}
 use Rattle.std.proofs.lemmas.Int.{ints}
 use Rattle.life_base.specs.Tree.{Tree}
 use Rattle.life_quad.specs.declared.id.Id.{Id}
@@ -19,5 +19,5 @@ come_after knows content b start end row len x y e f g filling beside below =
     record {
       filling = filling;
       beside = λ i h. subst (λ z. IsNext b i z) f (beside i (omega (arith, ints, e, g, h)));
-      below = λ i j h. below i j (omega (arith, ints, f, h))
+      below = λ i j h. below i j (omega (arith, ints, f, h));
     }

@@ -7,9 +7,8 @@ mod soup;
 
 use life_quad::Shared;
 use soup::{soup, stripes};
-use std::env;
-use std::io;
 use std::time::Instant;
+use std::{env, io};
 
 fn main(rt: HostRuntime) -> io::Result<()> {
     let mut runs = 1_000_000;

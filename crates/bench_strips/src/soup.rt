@@ -92,12 +92,7 @@ fn add<S: Squares>(
 }
 
 /// The square of a soup of so many runs in rows of so many cells: two cells in five are alive.
-pub fn soup<S: Squares>(
-    alloc: Global,
-    squares: &mut S,
-    runs: u32,
-    width: u32,
-) -> Result<Id, Kind>
+pub fn soup<S: Squares>(alloc: Global, squares: &mut S, runs: u32, width: u32) -> Result<Id, Kind>
     requires width { width ≤ 2 ^ 20 }
     ensures known { IfOk result (S.knows squares.new) }
 {
