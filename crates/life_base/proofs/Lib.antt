@@ -10,3 +10,4 @@ pub mod RoundTrip
 pub mod NamesRead
 pub mod WritingLemmas
 pub mod RuleKinds
+pub mod WordEnds

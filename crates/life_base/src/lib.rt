@@ -14,6 +14,7 @@ mod rule;
 mod rule_reading;
 mod rule_text;
 mod text;
+mod words;
 mod writing;
 
 pub use cell::{Cell, MAX_LEVEL, State};
@@ -29,4 +30,5 @@ pub use text::{
     begins_with, is_blank, is_digit_text, is_whitespace, lines, read_i64, read_u64, trimmed,
     trimmed_start,
 };
+pub use words::split_word;
 pub use writing::{deliver, write_text, write_texts};

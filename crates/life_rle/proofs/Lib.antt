@@ -1,0 +1,13 @@
+pub mod Places
+pub mod Reading
+pub mod Shrinks
+pub mod Progress
+pub mod Unique
+pub mod Refusal
+pub mod FrontDigits
+pub mod NumbersRead
+pub mod Fields
+pub mod PlaneLemmas
+pub mod ReadItems
+pub mod Advance
+pub mod LineKinds
