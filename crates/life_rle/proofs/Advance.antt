@@ -1,5 +1,5 @@
 -- One more line of a reader.
-use Rattle.std.proofs.Common.{◌≡◌, ℕ, zero, suc, ◌+◌, ◌^◌, Bool, true, false, cond, ◌&&◌, List, [], ◌∷◌, ◌++◌, drop, refl, sym, ap, ◌∙◌, subst, inl, inr, Some, None, Ok, Err, Option, Result, append_assoc, ◌⊎◌, ℤ, pos, neg_ℤ, ◌+ℤ◌, ◌≤ℤ◌, ◌<ℤ◌, arith, codes, eqb, leb, not, ◌-◌}
+use Rattle.std.proofs.Common.{◌≡◌, ℕ, ◌+◌, ◌^◌, Bool, true, false, cond, ◌&&◌, List, [], ◌∷◌, ◌++◌, drop, refl, sym, ap, ◌∙◌, subst, inl, inr, Some, None, Ok, Err, Option, Result, ℤ, pos, neg_ℤ, ◌+ℤ◌, ◌≤ℤ◌, ◌<ℤ◌, arith, codes, eqb, leb, not, ◌-◌}
 use Rattle.std.proofs.lemmas.List.{append-nil}
 use Rattle.std.proofs.lemmas.Int.{ints}
 use Rattle.std.specs.List.{before_first, after_first}
@@ -7,31 +7,27 @@ use Rattle.life_rle.specs.declared.reader.Phase.TheVariants as phases
 use Rattle.life_base.specs.declared.kind.Kind.{Kind}
 use Rattle.life_base.specs.declared.kind.Kind.TheVariants.{OutOfPlane, TooLarge, BadNumber}
 use Rattle.life_base.specs.declared.rule.Rule.{Rule}
-use Rattle.life_base.specs.Text.{begins_with, words_of, is_too_long, is_blank}
-use Rattle.life_rle.specs.Position.{signed_number, Field, Corner, Generation, Other, default_position, corner_of, corner_in, field_of, with_field, and_then, position_with, position_of, is_position_line}
-use Rattle.life_base.specs.Numbers.{u64_of, number_up_to}
+use Rattle.life_base.specs.Text.{begins_with, words_of}
+use Rattle.life_rle.specs.Position.{signed_number, Field, Corner, Generation, Other, default_position, corner_of, corner_in, field_of, with_field, and_then, position_with, position_of}
+use Rattle.life_base.specs.Numbers.{u64_of}
 use Rattle.life_base.specs.Text.{is_digit_text, value_of}
 use Rattle.life_base.specs.Refusal.{is_placeless}
 use Rattle.life_rle.specs.declared.file.Run.{Run}
 use Rattle.life_rle.specs.declared.cursor.Cursor.{Cursor}
-use Rattle.life_rle.specs.declared.reader.Phase.{Phase}
 use Rattle.life_rle.specs.declared.item.Item.{Item}
 use Rattle.life_rle.specs.declared.item.Item.TheVariants.{Cells, RowEnds}
-use Rattle.life_rle.specs.Items.{Next, End, Mark, Spelled, Broken, Spells}
+use Rattle.life_rle.specs.Items.{End, Mark}
 use Rattle.life_rle.specs.declared.position.Position.{Position}
 use Rattle.life_rle.specs.Plane.{edge, is_coordinate}
-use Rattle.life_rle.specs.Header.{header_of}
 use Rattle.life_rle.specs.Pattern.{Rle, Placed, placed, placed_item, placed_behind, first_fault, item_fault, rows_in, columns_in}
 use Rattle.life_rle.specs.Runs.{runs_of}
-use Rattle.life_rle.specs.declared.opening.Opening.{Opening}
 use Rattle.life_rle.specs.declared.opening.Opening.TheVariants.{Comment, PositionLine, Header}
-use Rattle.life_rle.specs.Grammar.{opening_of, later_of, IsPreamble, IsUnmarked, IsMarked, IsRle, fault_behind, Breaks, before_header, by_form, by_text, by_item}
-use Rattle.life_rle.specs.declared.opening.Later.{Later}
+use Rattle.life_rle.specs.Grammar.{opening_of, later_of, IsPreamble, IsUnmarked, IsRle, Breaks, before_header, by_form, by_text, by_item}
 use Rattle.life_rle.specs.declared.opening.Later.TheVariants.{Passed, Data}
 use Rattle.life_rle.specs.File.{HasRuns}
-use Rattle.life_rle.specs.Cursor.{IsNear, IsBehind, start_of, moved, moved_behind, placed_at}
+use Rattle.life_rle.specs.Cursor.{IsBehind, start_of, moved, moved_behind, placed_at}
 use Rattle.life_rle.specs.Standing.{StandsAt, Advances}
-use Rattle.life_rle.specs.Reading.{IsRead, last_of, ItemsBreak, no_item, bad_item}
+use Rattle.life_rle.specs.Reading.{IsRead, ItemsBreak, no_item, bad_item}
 use Rattle.life_rle.proofs.Progress.{with_items, with_items-nil, placed_behind-append, IsPreamble-push, IsUnmarked-push, IsMarked-begun, IsMarked-push, header-IsUnmarked}
 use Rattle.life_rle.proofs.Unique.{IsRle-unique, with_items-twice}
 use Rattle.life_rle.proofs.Refusal.{IsPreamble-refused}

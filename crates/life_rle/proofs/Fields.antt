@@ -1,10 +1,10 @@
 -- The fields of a position line.
-use Rattle.std.proofs.Common.{◌≡◌, ℕ, ◌&&◌, Bool, true, false, not, cond, List, [], ◌∷◌, length, drop, refl, sym, ap, ◌∙◌, subst, Some, None, Ok, Err, Option, Result, arith, ℤ, pos, codes, ◌<◌, ◌+◌, ◌≤◌}
+use Rattle.std.proofs.Common.{◌≡◌, ℕ, ◌&&◌, Bool, true, false, cond, List, [], ◌∷◌, length, drop, refl, sym, ap, ◌∙◌, Some, None, Ok, Err, Option, Result, arith, ℤ, codes}
 use Rattle.std.specs.Prelude.{◌==◌}
 use Rattle.std.proofs.lemmas.Bool.Decides.{nat_tests}
 use Rattle.life_base.specs.declared.kind.Kind.{Kind}
 use Rattle.life_base.specs.declared.kind.Kind.TheVariants.{BadNumber, OutOfPlane}
-use Rattle.life_base.specs.Text.{begins_with, is_empty}
+use Rattle.life_base.specs.Text.{begins_with}
 use Rattle.life_base.specs.Numbers.{u64_of}
 use Rattle.life_base.specs.Words.{with_word}
 use Rattle.life_rle.specs.declared.position.Position.{Position}

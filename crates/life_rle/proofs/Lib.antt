@@ -10,4 +10,11 @@ pub mod Fields
 pub mod PlaneLemmas
 pub mod ReadItems
 pub mod Advance
+pub mod Texts
+pub mod CellsLaw
+pub mod Sorting
+pub mod Lines
+pub mod ReadBack
+pub mod OneLine
+pub mod ReadPosition
 pub mod LineKinds

@@ -1,22 +1,20 @@
 -- Each rule that a line breaks is one of a line, and what a line is before the header stands in the plane.
-use Rattle.std.proofs.Common.{◌≡◌, ℕ, ◌+◌, ◌^◌, ◌<◌, Bool, true, false, not, cond, ◌&&◌, ◌||◌, List, [], ◌∷◌, ◌++◌, length, drop, refl, sym, ap, ◌∙◌, subst, inl, inr, Some, None, Ok, Err, Option, Result, ◌⊎◌, ℤ, pos, neg_ℤ, ◌+ℤ◌, arith, codes, eqb, ltb, w64, bit_and}
+use Rattle.std.proofs.Common.{◌≡◌, ℕ, Bool, true, false, not, cond, ◌&&◌, ◌||◌, List, [], ◌∷◌, ◌++◌, refl, sym, ◌∙◌, subst, inl, inr, Some, None, Ok, Err, Option, Result, ℤ, pos, ◌+ℤ◌, arith, codes, w64}
 use mir.Val.{to_z, of_z}
 use Rattle.std.proofs.lemmas.Int.{ints, to_z-of_z}
-use Rattle.std.specs.Prelude.{int_lt, int_le, nat_lt}
-use Rattle.std.specs.List.{list_any}
+use Rattle.std.specs.Prelude.{int_lt, int_le}
 use Rattle.life_base.specs.declared.kind.Kind.{Kind}
-use Rattle.life_base.specs.declared.kind.Kind.TheVariants.{Memory, Spent, LineTooLong, NoHeader, LateHeader, SecondHeader, BadRule, BoundedGrid, UnsupportedRule, BirthOnZero, BadHeader, StateRange, OutOfPlane}
+use Rattle.life_base.specs.declared.kind.Kind.TheVariants.{LineTooLong, NoHeader, LateHeader, SecondHeader, BadRule, BoundedGrid, UnsupportedRule, BirthOnZero, StateRange, OutOfPlane}
 use Rattle.life_base.specs.declared.rule.Rule.{Rule}
-use Rattle.life_base.specs.declared.rule.Rule.TheVariants.{Life, Named}
 use Rattle.life_base.specs.Rules.{rule_of}
 use Rattle.life_base.specs.Rules.{is_rule_kind}
 use Rattle.life_base.proofs.RuleKinds.{rule_kind}
 use Rattle.life_base.specs.Refusal.{is_placeless, Answers}
 use Rattle.life_base.specs.declared.cell.TheConstants.{MAX_LEVEL}
-use Rattle.life_base.specs.Text.{is_too_long, is_blank, begins_with, trim}
+use Rattle.life_base.specs.Text.{is_too_long, is_blank, begins_with}
 use Rattle.life_rle.specs.declared.item.Item.{Item}
 use Rattle.life_rle.specs.declared.item.Item.TheVariants.{Cells, RowEnds}
-use Rattle.life_rle.specs.Items.{Next, Broken, Spelled, next_of, Spells}
+use Rattle.life_rle.specs.Items.{Broken, Spells}
 use Rattle.life_rle.specs.declared.position.Position.{Position}
 use Rattle.life_rle.specs.Position.{and_then, is_position_line, position_of}
 use Rattle.life_rle.specs.Plane.{edge, is_coordinate}

@@ -1,6 +1,5 @@
 -- Signed numbers of any length, as the base layer reads them.
-use Rattle.std.proofs.Common.{◌≡◌, ℕ, ◌+◌, ◌-◌, ◌^◌, ◌<◌, ◌≤◌, Bool, true, false, not, cond, ◌&&◌, List, drop, refl, sym, ap, ◌∙◌, subst, Some, None, Ok, Err, Option, Result, arith, leb, ℤ, pos, neg_ℤ, codes}
-use Rattle.std.specs.Prelude.{int_lt, int_le}
+use Rattle.std.proofs.Common.{◌≡◌, ℕ, ◌-◌, ◌^◌, ◌≤◌, Bool, true, false, not, cond, List, drop, refl, sym, ◌∙◌, subst, Some, None, Ok, Err, Option, Result, arith, leb, ℤ, pos, neg_ℤ, codes}
 use Rattle.std.proofs.lemmas.Int.{ints}
 use Rattle.std.proofs.lemmas.Bool.Decides.{nat_tests}
 use Rattle.life_base.specs.declared.kind.Kind.{Kind}

@@ -1,12 +1,8 @@
 -- Reading the items of a line: one more item.
-use Rattle.std.proofs.Common.{◌≡◌, ℕ, zero, suc, ◌+◌, ◌^◌, ◌<◌, ◌≤◌, Bool, true, false, cond, List, [], ◌∷◌, ◌++◌, length, take, drop, ◌-◌, refl, sym, ap, ◌∙◌, subst, Some, None, Option, arith, append_assoc, eqb, ltb, ℤ, pos, ◌+ℤ◌, ◌⊎◌, inl, inr}
-use Rattle.std.proofs.lemmas.List.{length-drop, drop-drop}
-use Rattle.std.proofs.Math.Seq.{take-length}
+use Rattle.std.proofs.Common.{◌≡◌, ℕ, zero, suc, ◌^◌, ◌≤◌, true, false, cond, List, [], ◌∷◌, ◌++◌, refl, sym, ap, ◌∙◌, subst, Some, None, Option, arith, eqb, ltb, ℤ}
 use Rattle.std.proofs.lemmas.Bool.Decides.{nat_tests}
-use Rattle.std.proofs.lemmas.Int.{ints}
 use Rattle.life_base.specs.declared.kind.Kind.{Kind}
-use Rattle.life_base.specs.declared.kind.Kind.TheVariants.{ZeroCount, TooLarge, BadItem, Spent, StateRange, OutOfPlane}
-use Rattle.std.specs.Char.{is_ascii_digit}
+use Rattle.life_base.specs.declared.kind.Kind.TheVariants.{ZeroCount, TooLarge}
 use Rattle.life_base.specs.Text.{trim_start, value_of}
 use Rattle.life_base.specs.Refusal.{is_placeless}
 use Rattle.life_base.specs.declared.rule.Rule.{Rule}
@@ -16,11 +12,11 @@ use Rattle.life_rle.specs.declared.file.Run.{Run}
 use Rattle.life_rle.specs.States.{state_at}
 use Rattle.life_rle.specs.declared.item.Item.TheVariants.{Cells, RowEnds}
 use Rattle.life_rle.specs.Items.{front_digits, behind_digits, Next, End, Mark, Spelled, Broken, cells_of, item_behind, counted, item_in, next_of, Spells}
-use Rattle.life_rle.specs.Pattern.{Rle, Placed, item_fault, placed_fault, first_fault, first_kind, placed_behind, rows_in, columns_in}
+use Rattle.life_rle.specs.Pattern.{Placed, item_fault, first_fault, first_kind}
 use Rattle.life_rle.specs.Runs.{with_run, runs_of}
-use Rattle.life_rle.specs.Cursor.{IsNear, IsBehind, item_count, moved, moved_behind, placed_at}
+use Rattle.life_rle.specs.Cursor.{IsNear, item_count, moved, moved_behind, placed_at}
 use Rattle.life_rle.specs.Reading.{IsRead}
-use Rattle.life_rle.proofs.Shrinks.{Spells-push, next_of-shorter}
+use Rattle.life_rle.proofs.Shrinks.{Spells-push}
 use Rattle.life_rle.proofs.Progress.{first_fault-append}
 use Rattle.life_rle.proofs.PlaneLemmas.{power-positive}
 

@@ -1,5 +1,5 @@
 -- Reading the items of a line one after another: a plain function that computes, and that it reads what the line spells.
-use Rattle.std.proofs.Common.{◌≡◌, ℕ, zero, suc, List, [], ◌∷◌, refl, ap, ◌∙◌, sym}
+use Rattle.std.proofs.Common.{◌≡◌, ℕ, zero, suc, List, [], ◌∷◌, refl}
 use Rattle.life_rle.specs.declared.item.Item.{Item}
 use Rattle.life_rle.specs.Items.{Next, End, Mark, Spelled, Broken, next_of, Spells}
 

@@ -1,5 +1,5 @@
 -- The place of a fault: lines that break no rule can be continued, and the first line that breaks one is the place.
-use Rattle.std.proofs.Common.{◌≡◌, ℕ, zero, suc, ◌+◌, ◌<◌, ◌≤◌, List, [], ◌∷◌, ◌++◌, length, take, drop, Bool, true, false, min, ◌-◌, ◌^◌, refl, sym, ap, ◌∙◌, subst, inl, inr, Some, None, Ok, Err, Option, Result, append_assoc, ◌⊎◌, codes, arith}
+use Rattle.std.proofs.Common.{◌≡◌, ℕ, ◌+◌, ◌≤◌, List, [], ◌∷◌, ◌++◌, length, take, drop, true, false, min, ◌-◌, ◌^◌, refl, sym, ap, ◌∙◌, subst, inl, inr, Some, append_assoc, codes, arith}
 use Rattle.std.proofs.lemmas.List.{append-nil, take-append-drop, take-append-le, length-append}
 use Rattle.std.proofs.Math.Seq.{take-append_seam, get_or-append_seam}
 use Rattle.std.specs.List.{slice_index_or}
@@ -14,7 +14,7 @@ use Rattle.life_rle.specs.Pattern.{Rle}
 use Rattle.life_rle.specs.File.{missing}
 use Rattle.life_rle.specs.Grammar.{IsPreamble, IsUnmarked, IsMarked, IsRle, IsSomeRle, Breaks, before_header, by_form, by_text, by_item}
 use Rattle.life_rle.proofs.Progress.{Progress, Before, Begun, Ended, Refused, progress, start, Stands, progress-append, progress-Refused, header-IsUnmarked, lines-Stands}
-use Rattle.life_rle.proofs.Unique.{IsUnmarked-progress, IsMarked-progress, Breaks-progress, Breaks-no_prefix, Breaks-no_more, IsPreamble-progress}
+use Rattle.life_rle.proofs.Unique.{IsUnmarked-progress, IsMarked-progress, Breaks-no_prefix, Breaks-no_more, IsPreamble-progress}
 
 -- the lines break no rule
 abbrev pub Goes : Progress → Type 0

@@ -1,15 +1,15 @@
 -- Each item takes at least one byte, so a line is read in as many steps as it has bytes.
-use Rattle.std.proofs.Common.{◌≡◌, ℕ, zero, suc, ◌+◌, ◌-◌, ◌^◌, ◌≤◌, Bool, true, false, cond, List, [], ◌∷◌, ◌++◌, length, refl, sym, ap, ◌∙◌, subst, Some, None, Option, arith, append_assoc, eqb, ltb, leb}
+use Rattle.std.proofs.Common.{◌≡◌, ℕ, zero, suc, ◌+◌, ◌-◌, ◌^◌, ◌≤◌, true, false, cond, List, [], ◌∷◌, ◌++◌, length, refl, ap, ◌∙◌, subst, Some, None, Option, arith, eqb, ltb}
 use Rattle.std.proofs.lemmas.List.{append-nil}
 use Rattle.life_base.specs.declared.kind.Kind.TheVariants.{ZeroCount, TooLarge}
-use Rattle.life_base.specs.Text.{is_whitespace, trim_start, value_of}
+use Rattle.life_base.specs.Text.{trim_start, value_of}
 use Rattle.life_base.proofs.WordEnds.{length-trim_start}
 use Rattle.std.specs.Char.{is_ascii_digit}
 use Rattle.std.specs.List.{prefix_len}
 use Rattle.std.proofs.lemmas.List.{length-drop}
 use Rattle.life_rle.specs.States.{state_at, with_rest, first_state, single_state, prefixed_state}
 use Rattle.life_rle.specs.declared.item.Item.{Item}
-use Rattle.life_rle.specs.declared.item.Item.TheVariants.{Cells, RowEnds}
+use Rattle.life_rle.specs.declared.item.Item.TheVariants.{RowEnds}
 use Rattle.life_rle.specs.Items.{front_digits, behind_digits, Next, End, Mark, Spelled, Broken, cells_of, item_behind, counted, item_in, next_of, Spells}
 use Rattle.life_rle.proofs.Reading.{items_read, last_read}
 

@@ -1,21 +1,16 @@
 -- What lines are is what reading them line by line gives: so it is unique, and a line that breaks a rule has no continuation.
-use Rattle.std.proofs.Common.{◌≡◌, ℕ, zero, suc, List, [], ◌∷◌, ◌++◌, length, refl, sym, ap, ◌∙◌, subst, inl, inr, Some, None, Ok, Err, Option, Result, append_assoc, ◌⊎◌}
-use Rattle.std.proofs.lemmas.List.{append-nil}
+use Rattle.std.proofs.Common.{◌≡◌, ℕ, List, [], ◌∷◌, ◌++◌, refl, sym, ap, ◌∙◌, inl, inr, Some, None, Ok, Option, append_assoc}
 use Rattle.life_base.specs.declared.kind.Kind.{Kind}
 use Rattle.life_base.specs.Refusal.{Prefix, kept, continuations}
-use Rattle.life_base.specs.declared.rule.Rule.{Rule}
 use Rattle.life_rle.specs.declared.item.Item.{Item}
-use Rattle.life_rle.specs.Items.{Next, End, Mark, Spelled, Broken, next_of, Spells}
+use Rattle.life_rle.specs.Items.{Next, End, Mark, Spelled, Broken, Spells}
 use Rattle.life_rle.specs.declared.position.Position.{Position}
 use Rattle.life_rle.specs.Position.{default_position}
-use Rattle.life_rle.specs.Pattern.{Rle, Placed, placed, placed_item, placed_behind, placed_fault, first_fault, first_kind}
-use Rattle.life_rle.specs.declared.opening.Opening.{Opening}
-use Rattle.life_rle.specs.declared.opening.Opening.TheVariants.{Comment, PositionLine, Header}
-use Rattle.life_rle.specs.Grammar.{opening_of, later_of, IsPreamble, LineSpells, BodySpells, IsUnmarked, IsMarked, IsRle, IsSomeRle, fault_behind, Breaks, before_header, by_form, by_text, by_item}
-use Rattle.life_rle.specs.declared.opening.Later.{Later}
-use Rattle.life_rle.specs.declared.opening.Later.TheVariants.{Passed, Data}
+use Rattle.life_rle.specs.Pattern.{Rle, placed_behind, first_fault, first_kind}
+use Rattle.life_rle.specs.Grammar.{later_of, IsPreamble, LineSpells, BodySpells, IsUnmarked, IsMarked, IsRle, IsSomeRle, fault_behind, Breaks, before_header, by_form, by_text, by_item}
+use Rattle.life_rle.specs.declared.opening.Later.TheVariants.{Data}
 use Rattle.life_rle.proofs.Shrinks.{IsStop, items_read-line, last_read-line, items_read-before}
-use Rattle.life_rle.proofs.Progress.{Progress, Before, Begun, Ended, Refused, fault_of_next, items_fault, line_items, line_last, with_items, after_items, open_step, later_step, step, progress, start, Stands, progress-append, progress-Refused, progress-Ended, placed_behind-append, first_fault-append, first_kind-both, with_items-nil, header-IsUnmarked, first_fault-with_items, lines-Stands}
+use Rattle.life_rle.proofs.Progress.{Before, Begun, Ended, Refused, fault_of_next, items_fault, line_items, line_last, with_items, after_items, open_step, later_step, step, progress, start, progress-append, progress-Refused, progress-Ended, placed_behind-append, first_fault-append, first_kind-both, with_items-nil}
 
 pub IsPreamble-progress : (level : ℕ) (given o : Position) (lines : List (List ℕ)) → IsPreamble level given lines o → progress level (Before given) lines ≡ Before o
 IsPreamble-progress level given o [] h = ap Before (sym h)

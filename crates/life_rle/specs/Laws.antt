@@ -1,5 +1,5 @@
 -- The laws of the definitions.
-use Rattle.std.specs.Prelude.{◌≡◌, ℕ, ◌^◌, ◌<◌, ◌⊎◌, true, List, [], ◌∷◌, ◌++◌, ℤ, Ok, Some}
+use Rattle.std.specs.Prelude.{◌≡◌, ℕ, ◌^◌, ◌<◌, true, List, [], ◌∷◌, ◌++◌, ℤ, Some}
 use Rattle.life_base.specs.declared.kind.Kind.{Kind}
 use Rattle.life_base.specs.declared.cell.Cell.{Cell}
 use Rattle.life_base.specs.declared.cell.TheConstants.{MAX_LEVEL}
@@ -8,7 +8,7 @@ use Rattle.life_base.specs.Text.{lines_of}
 use Rattle.life_base.specs.Rules.{IsRule}
 use Rattle.life_rle.specs.States.{state_at, state_text, is_state_of}
 use Rattle.life_rle.specs.Pattern.{Rle, cell}
-use Rattle.life_rle.specs.Grammar.{IsRle, IsSomeRle, Breaks}
+use Rattle.life_rle.specs.Grammar.{IsRle, Breaks}
 use Rattle.life_rle.specs.Written.{rle_text}
 use Rattle.life_rle.specs.Sorted.{are_sorted_cells, state_in}
 

@@ -1,5 +1,5 @@
 -- The runs of an RLE file: its items of nonzero state.
-use Rattle.std.specs.Prelude.{ℕ, zero, suc, List, [], ◌∷◌, ℤ}
+use Rattle.std.specs.Prelude.{zero, suc, List, [], ◌∷◌, ℤ}
 use Rattle.life_rle.specs.declared.file.Run.{Run}
 use Rattle.life_rle.specs.declared.item.Item.{Item}
 use Rattle.life_rle.specs.declared.item.Item.TheVariants.{Cells, RowEnds}

@@ -1,5 +1,5 @@
 -- The text that is written for a rule, a generation and a list of cells.
-use Rattle.std.specs.Prelude.{◌≡◌, ℕ, zero, suc, ◌+◌, ◌-◌, Bool, List, [], ◌∷◌, ◌++◌, length, map, ℤ, pos, ◌+ℤ◌, ◌-ℤ◌, int_lt, nat_abs, Option, Some, None, if◌then◌else◌, ◌==◌, nat_le, codes, decimal, flat_map}
+use Rattle.std.specs.Prelude.{ℕ, zero, suc, ◌+◌, List, [], ◌∷◌, ◌++◌, length, map, ℤ, pos, ◌+ℤ◌, ◌-ℤ◌, nat_abs, if◌then◌else◌, ◌==◌, nat_le, codes, decimal, flat_map}
 use Rattle.std.specs.Ordering.{int_eq}
 use Rattle.std.specs.Fmt.{signed_decimal}
 use Rattle.std.specs.Int.{int_min, int_max}

@@ -1,10 +1,9 @@
-use Rattle.std.proofs.Common.{◌≡◌, ◌⊎◌, List, ℕ, Some, Err, sym, ap, ◌∙◌, subst, inl, inr, arith}
+use Rattle.std.proofs.Common.{◌≡◌, ◌⊎◌, Some, sym, subst, inl, inr, arith}
 use Rattle.std.proofs.lemmas.Result.{err_from_is_err_and}
 use Rattle.life_base.specs.declared.kind.Kind.{Kind}
 use Rattle.life_base.specs.declared.kind.Kind.TheVariants.{Memory}
 use Rattle.life_base.specs.declared.cell.TheConstants.{MAX_LEVEL}
 use Rattle.life_rle.specs.declared.cursor.Cursor.{Cursor}
-use Rattle.life_rle.specs.Items.{Broken, Spelled, next_of}
 use Rattle.life_rle.specs.Pattern.{item_fault}
 use Rattle.life_rle.specs.Reading.{ItemsBreak, no_item, bad_item}
 use Rattle.life_rle.proofs.Shrinks.{next_of-shorter}

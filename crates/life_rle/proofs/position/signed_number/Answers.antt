@@ -1,4 +1,4 @@
-use Rattle.std.proofs.Common.{Err, ◌≡◌, ◌∙◌, sym, subst, ℤ, Result}
+use Rattle.std.proofs.Common.{subst, ℤ, Result}
 use Rattle.life_base.specs.declared.kind.Kind.{Kind}
 use Rattle.life_rle.specs.Position.{signed_number}
 use Rattle.life_rle.proofs.NumbersRead.{Keeps, kept_number, kept_none}
