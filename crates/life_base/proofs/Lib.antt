@@ -11,3 +11,4 @@ pub mod NamesRead
 pub mod WritingLemmas
 pub mod RuleKinds
 pub mod WordEnds
+pub mod EmptyValues

@@ -1,15 +1,13 @@
 -- A name is the rule text that says it.
-use Rattle.std.proofs.Common.{◌≡◌, ℕ, List, [], ◌∷◌, length, Bool, true, false, cond, not, ◌&&◌, ◌||◌, refl, ap, sym, ◌∙◌, arith}
-use Rattle.std.specs.Prelude.{nat_le, nat_lt, ◌==◌, Option, Some, None, Result, Ok, Err}
+use Rattle.std.proofs.Common.{◌≡◌, ℕ, List, [], ◌∷◌, length, Bool, true, false, cond, not, ◌&&◌, ◌||◌, refl, ap, ◌∙◌, arith}
+use Rattle.std.specs.Prelude.{nat_le, nat_lt, ◌==◌, None, Ok, Err}
 use Rattle.std.specs.List.{list_all, list_any}
 use Rattle.std.proofs.lemmas.Bool.Decides.{nat_tests}
 use Rattle.life_base.proofs.Numbers.{first, second}
 use Rattle.life_base.proofs.RoundTrip.{none_passes}
 use Rattle.life_base.specs.Text.{is_whitespace, without_last, trim, trim_start, is_empty}
-use Rattle.life_base.specs.Rules.{life_sets, rule_of, rule_of_trimmed, is_bad_text, life_or_other, other_rule, names_other_neighbours}
-use Rattle.life_base.specs.declared.kind.Kind.{Kind}
+use Rattle.life_base.specs.Rules.{life_sets, rule_of, rule_of_trimmed, is_bad_text, life_or_other, names_other_neighbours}
 use Rattle.life_base.specs.declared.kind.Kind.TheVariants.{BadRule, BoundedGrid, UnsupportedRule}
-use Rattle.life_base.specs.declared.rule.Rule.{Rule}
 use Rattle.life_base.specs.declared.rule.Rule.TheVariants.{Named}
 
 -- what follows from one test for each byte follows for all of them

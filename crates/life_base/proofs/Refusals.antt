@@ -1,10 +1,8 @@
 -- Which line a refused file breaks at, for a grammar that says of each line whether it may stand where it stands.
-use Rattle.std.proofs.Common.{◌≡◌, ℕ, zero, suc, ◌+◌, ◌-◌, ◌^◌, ◌<◌, ◌≤◌, min, List, [], ◌∷◌, ◌++◌, length, take, get_or, Option, Some, None, refl, ap, sym, subst, ◌∙◌, arith, length-append}
+use Rattle.std.proofs.Common.{◌≡◌, ℕ, ◌+◌, ◌-◌, ◌^◌, ◌<◌, ◌≤◌, min, List, [], ◌++◌, length, take, get_or, Option, Some, None, refl, arith, length-append}
 use Rattle.std.proofs.lemmas.List.{take-take, get_or-take, take-append-le, length-take-le}
 use Rattle.std.proofs.Math.ListN.{get_or-append}
 use Rattle.life_base.specs.Refusal.{Prefix, IsPlace, IsRefusal, BreaksBy, kept, continuations}
-use Rattle.life_base.specs.declared.fault.Fault.{Fault}
-use Rattle.life_base.specs.declared.fault.Place.{Place}
 use Rattle.life_base.specs.declared.kind.Kind.{Kind}
 
 module _ (Grammar : List (List ℕ) → Type 0) (broken : List (List ℕ) → List ℕ → Option Kind) (missing : List (List ℕ) → Option Kind) where

@@ -1,17 +1,15 @@
 -- The text of a rule says that rule.
-use Rattle.std.proofs.Common.{◌≡◌, ℕ, zero, suc, ◌+◌, ◌<◌, ◌≤◌, List, [], ◌∷◌, ◌++◌, length, Bool, true, false, cond, not, ◌&&◌, ◌||◌, refl, ap, sym, subst, ◌∙◌, arith, length-append, append_assoc, ◌⊎◌, inl, inr}
-use Rattle.std.specs.Prelude.{codes, filter, nat_le, nat_lt, ◌==◌, Option, Some, None, Result, Ok, Err, map, bytes_eq}
+use Rattle.std.proofs.Common.{◌≡◌, ℕ, zero, suc, ◌<◌, ◌≤◌, List, [], ◌∷◌, ◌++◌, length, Bool, true, false, cond, not, ◌&&◌, ◌||◌, refl, ap, ◌∙◌, arith, length-append, append_assoc, ◌⊎◌, inl, inr}
+use Rattle.std.specs.Prelude.{codes, filter, nat_le, nat_lt, ◌==◌, Ok, Err, map}
 use Rattle.std.specs.List.{list_all, list_any, slice_split}
-use Rattle.std.proofs.lemmas.Bool.{leb-true, ltb-true, lt-leb, le-leb, ltb-false}
+use Rattle.std.proofs.lemmas.Bool.{leb-true}
 use Rattle.std.proofs.lemmas.Bool.Decides.{nat_tests}
 use Rattle.std.proofs.lemmas.List.Folds.{list_all-append}
 use Rattle.life_base.proofs.Numbers.{first, second}
 use Rattle.life_base.specs.Sets.{DigitSets}
-use Rattle.life_base.specs.Text.{is_whitespace, without_last, trim, is_empty}
-use Rattle.life_base.specs.Rules.{digits_of, digit_set, is_count_digit, digit_groups, marks, upper, life_sets, life_form, rule_of, rule_of_trimmed, rule_text, sets_text, is_bad_text, has_digit, life_rule, life_or_other, IsRule, AreLifeSets, RulesReadBack, sets}
-use Rattle.life_base.specs.declared.kind.Kind.{Kind}
+use Rattle.life_base.specs.Text.{is_whitespace, without_last, trim}
+use Rattle.life_base.specs.Rules.{digits_of, digit_set, is_count_digit, digit_groups, marks, upper, life_sets, life_form, rule_of, rule_of_trimmed, rule_text, is_bad_text, life_rule, life_or_other, AreLifeSets, RulesReadBack, sets}
 use Rattle.life_base.specs.declared.kind.Kind.TheVariants.{BadRule, BoundedGrid, BirthOnZero}
-use Rattle.life_base.specs.declared.rule.Rule.{Rule}
 use Rattle.life_base.specs.declared.rule.Rule.TheVariants.{Life, Named}
 
 -- ---- each set of digits, by a test of all 512

@@ -1,13 +1,12 @@
 -- The definitions at worked examples, by computation.
-use Rattle.std.proofs.Common.{◌≡◌, ℕ, ◌^◌, List, [], ◌∷◌, ◌++◌, refl, true, false}
+use Rattle.std.proofs.Common.{◌≡◌, ℕ, ◌^◌, List, [], ◌∷◌, refl}
 use Rattle.std.specs.Prelude.{codes, Result, Ok, Err}
-use Rattle.life_base.specs.Sets.{DigitSets}
-use Rattle.life_base.specs.Text.{lines_of, words_of, trim, value_of, is_digit_text}
-use Rattle.life_base.specs.Rules.{rule_of, rule_text, life_sets, is_bad_text}
+use Rattle.life_base.specs.Text.{lines_of, words_of, value_of}
+use Rattle.life_base.specs.Rules.{rule_of, rule_text, life_sets}
 use Rattle.life_base.specs.declared.kind.Kind.{Kind}
 use Rattle.life_base.specs.declared.kind.Kind.TheVariants.{BadRule, BoundedGrid, UnsupportedRule, BirthOnZero}
 use Rattle.life_base.specs.declared.rule.Rule.{Rule}
-use Rattle.life_base.specs.declared.rule.Rule.TheVariants.{Life, Named}
+use Rattle.life_base.specs.declared.rule.Rule.TheVariants.{Named}
 
 abbrev text_of : Result Rule Kind → Result (List ℕ) Kind
 text_of (Ok rule) = Ok (rule_text rule)

@@ -4,10 +4,9 @@ use Rattle.std.specs.Prelude.{◌==◌, Option, Some, None, Result, Ok, Err}
 use Rattle.std.specs.List.{list_any}
 use Rattle.life_base.specs.Sets.{DigitSets}
 use Rattle.life_base.specs.Text.{trim}
-use Rattle.life_base.specs.Rules.{rule_of, is_bad_text, life_or_other, other_rule, life_rule, life_sets, has_digit, names_other_neighbours, is_rule_kind}
+use Rattle.life_base.specs.Rules.{rule_of, is_bad_text, life_or_other, life_sets, has_digit, names_other_neighbours, is_rule_kind}
 use Rattle.life_base.specs.declared.kind.Kind.{Kind}
 use Rattle.life_base.specs.declared.kind.Kind.TheVariants.{BadRule, BoundedGrid, UnsupportedRule, BirthOnZero}
-use Rattle.life_base.specs.declared.rule.Rule.{Rule}
 use Rattle.life_base.specs.declared.rule.Rule.TheVariants.{Life, Named}
 
 -- an error is of a kind that passes the test

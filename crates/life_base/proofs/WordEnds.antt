@@ -1,12 +1,12 @@
 -- Where the first word of a text ends.
-use Rattle.std.proofs.Common.{◌≡◌, ℕ, zero, suc, ◌+◌, ◌-◌, ◌<◌, ◌≤◌, List, [], ◌∷◌, ◌++◌, length, take, drop, Bool, true, false, not, cond, ◌&&◌, refl, ap, sym, ◌∙◌, arith, ltb}
-use Rattle.std.specs.Prelude.{position, Option, Some, None, ◌==◌}
+use Rattle.std.proofs.Common.{◌≡◌, ℕ, suc, ◌+◌, ◌≤◌, List, [], ◌∷◌, length, take, drop, Bool, true, false, not, cond, ◌&&◌, refl, ap, sym, ◌∙◌, arith, ltb}
+use Rattle.std.specs.Prelude.{position, Some, None}
 use Rattle.std.specs.List.{position_or_len}
 use Rattle.std.proofs.lemmas.List.Quantifiers.{position-Some}
 use Rattle.std.proofs.lemmas.List.Sums.{position_or_len_is}
 use Rattle.std.proofs.lemmas.List.{take_all, drop_all, take-append-drop, length-append}
 use Rattle.std.proofs.lemmas.Bool.{ltb-false}
-use Rattle.life_base.specs.Text.{is_whitespace, is_blank, is_empty, trim_start, words_of, onto_first}
+use Rattle.life_base.specs.Text.{is_whitespace, is_blank, trim_start, words_of, onto_first}
 use Rattle.life_base.specs.Words.{with_word}
 
 skip : (v : Bool) (b : ℕ) (text : List ℕ) → is_whitespace b ≡ v → words_of (trim_start text) ≡ words_of text

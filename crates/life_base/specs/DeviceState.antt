@@ -1,5 +1,5 @@
 -- What a device over a reader or a writer of std keeps.
-use Rattle.std.specs.Prelude.{◌≡◌, Bool, false}
+use Rattle.std.specs.Prelude.{◌≡◌, false}
 use Rattle.life_base.specs.declared.devices.Device.{Device}
 
 -- the reader or writer in a device

@@ -1,5 +1,5 @@
 -- What one call on a device does to its count of failures.
-use Rattle.std.specs.Prelude.{◌≡◌, ℕ, ◌+◌, ◌≤◌, Bool, true, false, Result, MatchResult}
+use Rattle.std.specs.Prelude.{◌≡◌, ℕ, ◌+◌, Bool, true, false, Result, MatchResult}
 use Rattle.life_base.specs.declared.kind.Kind.{Kind}
 
 -- a call adds one failure exactly where it fails, and then answers this kind

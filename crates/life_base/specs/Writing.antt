@@ -1,7 +1,6 @@
 -- What a sink holds after a text was written to it.
-use Rattle.std.specs.Prelude.{◌≡◌, ◌≤◌, ◌⊎◌, ℕ, Bool, true, List, Option, Result, MatchResult, take, length}
+use Rattle.std.specs.Prelude.{◌≤◌, ℕ, List, Option, Result, MatchResult, take, length}
 use Rattle.std.specs.Io.KnownBytes.{Appends}
-use Rattle.life_base.specs.declared.kind.Kind.{Kind}
 
 -- a prefix of the text was written
 pub record WritesPrefix (old new : Option (List ℕ)) (text : List ℕ) : Type 0 where

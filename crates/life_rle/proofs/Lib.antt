@@ -18,3 +18,4 @@ pub mod ReadBack
 pub mod OneLine
 pub mod ReadPosition
 pub mod LineKinds
+pub mod Stands

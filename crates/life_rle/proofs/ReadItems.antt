@@ -1,5 +1,5 @@
 -- Reading the items of a line: one more item.
-use Rattle.std.proofs.Common.{◌≡◌, ℕ, zero, suc, ◌^◌, ◌≤◌, true, false, cond, List, [], ◌∷◌, ◌++◌, refl, sym, ap, ◌∙◌, subst, Some, None, Option, arith, eqb, ltb, ℤ}
+use Rattle.std.proofs.Common.{◌≡◌, ℕ, zero, suc, ◌^◌, ◌≤◌, true, false, cond, List, [], ◌∷◌, ◌++◌, refl, sym, ap, ◌∙◌, append_assoc, subst, Some, None, Option, arith, eqb, ltb, ℤ}
 use Rattle.std.proofs.lemmas.Bool.Decides.{nat_tests}
 use Rattle.life_base.specs.declared.kind.Kind.{Kind}
 use Rattle.life_base.specs.declared.kind.Kind.TheVariants.{ZeroCount, TooLarge}
@@ -15,7 +15,7 @@ use Rattle.life_rle.specs.Items.{front_digits, behind_digits, Next, End, Mark, S
 use Rattle.life_rle.specs.Pattern.{Placed, item_fault, first_fault, first_kind}
 use Rattle.life_rle.specs.Runs.{with_run, runs_of}
 use Rattle.life_rle.specs.Cursor.{IsNear, item_count, moved, moved_behind, placed_at}
-use Rattle.life_rle.specs.Reading.{IsRead}
+use Rattle.life_rle.specs.Reading.{IsRead, ReadsItems}
 use Rattle.life_rle.proofs.Shrinks.{Spells-push}
 use Rattle.life_rle.proofs.Progress.{first_fault-append}
 use Rattle.life_rle.proofs.PlaneLemmas.{power-positive}
@@ -112,3 +112,18 @@ spelled-as level line items next other h e = subst (Spells level line items) e h
 
 pub read-as : (level : ℕ) (rule : Rule) (from : Cursor) (line : List ℕ) (items : List Item) (next other : Next) (now : Cursor) (found : List Run) → IsRead level rule from line items next now found → next ≡ other → IsRead level rule from line items other now found
 read-as level rule from line items next other now found h e = subst (λ n. IsRead level rule from line items n now found) e h
+
+-- one more item, its run behind those that were there
+pub reads_more : (level : ℕ) (rule : Rule) (from now : Cursor) (line rest : List ℕ) (before found more : List Run) (item : Item) (next : Cursor)
+    → ReadsItems level rule from line (Spelled item rest) now before found → item_fault level rule now.y now.x item ≡ None
+    → next ≡ moved now item → IsNear level next → more ≡ found ++ with_run now.y now.x item []
+    → ReadsItems level rule from line (next_of level rest) next before more
+reads_more level rule from now line rest before found more item next h sound moves near adds = record {
+    items = h.items ++ item ∷ [];
+    found = h.found ++ with_run now.y now.x item [];
+    read = read_more level rule from now line rest h.items h.found (h.found ++ with_run now.y now.x item []) item next h.read sound moves near refl;
+    added = adds ∙ ap (λ (rs : List Run). rs ++ with_run now.y now.x item []) h.added ∙ append_assoc before h.found (with_run now.y now.x item []) }
+
+pub reads-as : (level : ℕ) (rule : Rule) (from : Cursor) (line : List ℕ) (next other : Next) (now : Cursor) (before found : List Run)
+    → ReadsItems level rule from line next now before found → next ≡ other → ReadsItems level rule from line other now before found
+reads-as level rule from line next other now before found h e = subst (λ n. ReadsItems level rule from line n now before found) e h

@@ -1,5 +1,5 @@
 -- What a value of the program says of an RLE file, and of its lines so far.
-use Rattle.std.specs.Prelude.{◌≡◌, ℕ, ◌⊎◌, Bool, List, [], Option, Some}
+use Rattle.std.specs.Prelude.{◌≡◌, ℕ, ◌⊎◌, Bool, List, [], ◌++◌, Option, Some}
 use Rattle.life_base.specs.declared.kind.Kind.{Kind}
 use Rattle.life_base.specs.declared.kind.Kind.TheVariants.{NoHeader}
 use Rattle.life_rle.specs.declared.file.Run.{Run}
@@ -27,6 +27,12 @@ abbrev pub HasRuns : ℕ → List (List ℕ) → List Run → Type 0
 HasRuns level lines runs =
     ((position : Position) × IsPreamble level default_position lines position × (runs ≡ []))
     ⊎ ((file : Rle) × IsRle level lines file × (runs ≡ runs_of (placed file)))
+
+-- the runs of further lines are put behind those that were there
+pub record AddsRuns (level : ℕ) (lines more : List (List ℕ)) (old new : List Run) : Type 0 where
+  pub runs : List Run
+  pub added : new ≡ old ++ runs
+  pub found : (before : List Run) → HasRuns level lines before → HasRuns level more (before ++ runs)
 
 -- the lines that a reader was given, and whether it refused one
 pub record LinesRead : Type 0 where

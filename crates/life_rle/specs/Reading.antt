@@ -1,5 +1,5 @@
 -- What a reader keeps while it goes over the items of a line.
-use Rattle.std.specs.Prelude.{◌≡◌, ℕ, Bool, true, false, List, Option, Some, None, ℤ}
+use Rattle.std.specs.Prelude.{◌≡◌, ℕ, Bool, true, false, List, ◌++◌, Option, Some, None, ℤ}
 use Rattle.life_base.specs.declared.kind.Kind.{Kind}
 use Rattle.life_base.specs.declared.rule.Rule.{Rule}
 use Rattle.life_rle.specs.declared.item.Item.{Item}
@@ -34,6 +34,13 @@ pub record IsRead (level : ℕ) (rule : Rule) (from : Cursor) (line : List ℕ) 
   pub cursor : now ≡ moved_behind from items
   pub near : IsNear level now
   pub runs : found ≡ runs_of (placed_at from items)
+
+-- the same, with the line's runs put behind those that were there
+pub record ReadsItems (level : ℕ) (rule : Rule) (from : Cursor) (line : List ℕ) (next : Next) (now : Cursor) (before after : List Run) : Type 0 where
+  pub items : List Item
+  pub found : List Run
+  pub read : IsRead level rule from line items next now found
+  pub added : after ≡ before ++ found
 
 -- what stands behind the last item of a line
 abbrev pub last_of : Bool → Next

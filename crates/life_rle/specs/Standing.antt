@@ -35,6 +35,12 @@ pub record Advances (level : ℕ) (phase : Phase) (cursor : Cursor) (line : List
   pub stands : (lines : List (List ℕ)) → StandsAt level phase cursor lines → StandsAt level next place (lines ++ line ∷ [])
   pub found : (lines : List (List ℕ)) (before : List Run) → StandsAt level phase cursor lines → HasRuns level lines before → HasRuns level (lines ++ line ∷ []) (before ++ runs)
 
+-- such a line, whose runs are put behind those that were there
+pub record TakesLine (level : ℕ) (phase : Phase) (cursor : Cursor) (line : List ℕ) (next : Phase) (place : Cursor) (before after : List Run) : Type 0 where
+  pub runs : List Run
+  pub advances : Advances level phase cursor line next place runs
+  pub added : after ≡ before ++ runs
+
 -- before the mark the cursor is in the plane or at its edge
 abbrev pub IsPlaced : ℕ → Phase → Cursor → Type 0
 IsPlaced level phases.Refused cursor = Unit {0}

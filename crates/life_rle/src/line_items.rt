@@ -1,23 +1,20 @@
 //! The items of a line, read one after another.
 
-ghost use Rattle.std.specs.Prelude.{◌≡◌, ◌≤◌, ◌⊎◌, ◌++◌, [], List, Some, None, IfOk, IfErr, OnOk};
-ghost use Rattle.life_rle.specs.declared.item.Item as item;
+ghost use Rattle.std.specs.Prelude.{◌≡◌, ◌≤◌, ◌⊎◌, ◌++◌, [], Some, None, IfOk, IfErr, OnOk};
 ghost use Rattle.life_rle.specs.Plane.{most_count};
 ghost use Rattle.life_rle.specs.Pattern.{item_fault};
 ghost use Rattle.life_rle.specs.Runs.{with_run};
 ghost use Rattle.life_rle.specs.Cursor.{IsNear, moved, item_count};
-ghost use Rattle.life_rle.specs.Reading.{IsRead, last_of, ItemsBreak};
+ghost use Rattle.life_rle.specs.Reading.{ReadsItems, last_of, ItemsBreak};
 
 use crate::cursor::{Cursor, item_fault, moved};
 use crate::file::Run;
 use crate::item::{Found, Item, next_item};
 use life_base::{Kind, MAX_LEVEL, Rule};
-use std::alloc::Global;
 
-/// What the items of a line give: their runs, the place behind them, and whether `!` stands there.
-#[derive(Drop)]
+/// Where the items of a line end: the place behind them, and whether `!` stands there.
+#[derive(Clone, Copy)]
 pub(crate) struct ItemsRead {
-    pub(crate) runs: Vec<Run>,
     pub(crate) cursor: Cursor,
     pub(crate) marked: bool,
 }
@@ -62,39 +59,36 @@ fn take_item(rule: &Rule, cursor: Cursor, item: Item, runs: &mut Vec<Run>) -> Re
     Ok(moved(cursor, item))
 }
 
-/// Reads the items of a line from the cursor on.
+/// Reads the items of a line from the cursor on, and puts their runs behind the runs.
 pub(crate) fn read_items(
-    alloc: Global,
     rule: &Rule,
     from: Cursor,
     line: &[u8],
+    runs: &mut Vec<Run>,
 ) -> Result<ItemsRead, Kind>
     requires { IsNear MAX_LEVEL from }
-    ensures read { IfOk result (λ read. (items : List item.Item) × IsRead MAX_LEVEL rule.now from line.now items (last_of read.marked) read.cursor read.runs.items) }
+    ensures read { IfOk result (λ read. ReadsItems MAX_LEVEL rule.now from line.now (last_of read.marked) read.cursor runs.old.items runs.new.items) }
     ensures fault { IfErr result (λ kind. (kind ≡ Kind.Memory) ⊎ ItemsBreak MAX_LEVEL rule.now from line.now kind) }
 {
-    let mut runs = Vec::new(alloc);
     let mut cursor = from;
     let mut rest = line;
     loop {
         match next_item(rest) {
             Found::Nothing => {
                 return Ok(ItemsRead {
-                    runs,
                     cursor,
                     marked: false,
                 });
             }
             Found::Mark => {
                 return Ok(ItemsRead {
-                    runs,
                     cursor,
                     marked: true,
                 });
             }
             Found::Broken(kind) => return Err(kind),
             Found::Spelled(item, behind) => {
-                cursor = take_item(rule, cursor, item, &mut runs)?;
+                cursor = take_item(rule, cursor, item, runs)?;
                 rest = behind;
             }
         }

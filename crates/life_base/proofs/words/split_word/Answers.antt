@@ -1,8 +1,7 @@
-use Rattle.std.proofs.Common.{◌≡◌, ◌≤◌, ◌+◌, ◌∙◌, ap, sym, List, ℕ, length, arith}
-use Rattle.std.specs.Prelude.{position, Option, Some, None}
-use Rattle.life_base.specs.Text.{is_whitespace, words_of, trim_start}
+use Rattle.std.proofs.Common.{◌≡◌, ◌∙◌, ap, sym, List, ℕ, length, arith}
+use Rattle.std.specs.Prelude.{position, Some, None}
+use Rattle.life_base.specs.Text.{is_whitespace, trim_start}
 use Rattle.life_base.proofs.LineEnds.{all_behind}
-use Rattle.life_base.specs.Words.{with_word}
 use Rattle.life_base.proofs.WordEnds.{words_at, words_without, split_length, length-trim_start}
 use Rattle.life_base.proofs.words.split_word.Goals as goal
 

@@ -1,4 +1,4 @@
-use Rattle.std.proofs.Common.{◌≡◌, List, ℕ, Bor, sym, subst}
+use Rattle.std.proofs.Common.{List, ℕ, Bor, sym, subst}
 use Rattle.life_base.specs.Writing.{WritesPrefix}
 use Rattle.life_base.proofs.WritingLemmas.{prefix-grows, prefix-after, flat_map-split}
 use Rattle.life_base.proofs.writing.write_texts.Goals as goal

@@ -1,13 +1,15 @@
-use Rattle.std.proofs.Common.{◌≡◌, ◌⊎◌, ℕ, true, List, Result, Ok, Err, sym, subst, inl, inr}
+use Rattle.std.proofs.Common.{◌≡◌, ◌⊎◌, ℕ, true, List, [], Result, Ok, Err, sym, subst, inl, inr}
 use Rattle.std.specs.Result.{IfErr}
+use Rattle.std.proofs.lemmas.List.{append-nil}
 use Rattle.life_base.specs.declared.kind.Kind.{Kind}
 use Rattle.life_base.specs.declared.kind.Kind.TheVariants.{Memory, Spent}
 use Rattle.life_base.specs.declared.cell.TheConstants.{MAX_LEVEL}
 use Rattle.life_rle.specs.declared.cursor.Cursor.{Cursor}
+use Rattle.life_rle.specs.declared.file.Run.{Run}
 use Rattle.life_rle.specs.declared.reader.Phase.{Phase}
 use Rattle.life_rle.specs.declared.reader.Phase.TheVariants as phases
 use Rattle.life_rle.specs.declared.opening.Later.TheVariants.{Data}
-use Rattle.life_rle.specs.Standing.{StandsAt, is_refused, Advances}
+use Rattle.life_rle.specs.Standing.{StandsAt, is_refused, TakesLine}
 use Rattle.life_rle.specs.Reading.{ItemsBreak}
 use Rattle.life_rle.specs.Grammar.{Breaks, opening_of, later_of}
 use Rattle.life_rle.proofs.Advance.{adv-over, breaks-before, breaks-form, breaks-items}
@@ -42,5 +44,6 @@ returns-in-Items-clause-fault c =
 
 pub returns-in-Over-clause-advance : goal.returns-in-Over-clause-advance
 returns-in-Over-clause-advance c =
-    subst (λ (p : Phase). Advances MAX_LEVEL p c.args.cursor c.args.line.now (phases.Over c.in-Over.rule c.in-Over.position) c.args.cursor c.new.result.items) (sym c.in-Over.is)
-    (rw c.new.ensures.items (adv-over MAX_LEVEL c.in-Over.rule c.in-Over.position c.args.cursor c.args.line.now))
+    let runs : List Run = c.args.runs.now.items in
+    subst (λ (p : Phase). TakesLine MAX_LEVEL p c.args.cursor c.args.line.now (phases.Over c.in-Over.rule c.in-Over.position) c.args.cursor runs runs) (sym c.in-Over.is)
+    (record { runs = []; advances = adv-over MAX_LEVEL c.in-Over.rule c.in-Over.position c.args.cursor c.args.line.now; added = sym (append-nil runs) })

@@ -10,7 +10,7 @@ pub returns-in-Ok-Comment-clause-advance : goal.returns-in-Ok-Comment-clause-adv
 returns-in-Ok-Comment-clause-advance c =
     let line = c.args.line.now in
     let e : opening_of MAX_LEVEL line ≡ Ok Comment = answered _ _ _ c.in-Ok-Comment.is c.opening_of.ensures ∙ ap Ok c.in-Ok-Comment.field-0-is in
-    rw c.new-runs.ensures.items (adv-comment MAX_LEVEL c.args.position c.args.cursor line e)
+    adv-comment MAX_LEVEL c.args.position c.args.cursor line e
 
 pub returns-in-Ok-PositionLine-clause-advance : goal.returns-in-Ok-PositionLine-clause-advance
 returns-in-Ok-PositionLine-clause-advance c =
@@ -20,10 +20,10 @@ returns-in-Ok-PositionLine-clause-advance c =
     let plane : IsInPlane MAX_LEVEL p = subst (IsTameOpening MAX_LEVEL) e (opening-tame MAX_LEVEL line) in
     let x = same_place p.x plane.0 in
     let y = same_place p.y plane.1 in
-    rw (c.new-runs.ensures.items, x, y) (adv-position MAX_LEVEL c.args.position c.args.cursor line p e plane)
+    rw (x, y) (adv-position MAX_LEVEL c.args.position c.args.cursor line p e plane)
 
 pub returns-in-Ok-Header-clause-advance : goal.returns-in-Ok-Header-clause-advance
 returns-in-Ok-Header-clause-advance c =
     let line = c.args.line.now in
     let e : opening_of MAX_LEVEL line ≡ Ok (Header c.in-Ok-Header.rule) = answered _ _ _ c.in-Ok-Header.is c.opening_of.ensures ∙ ap Ok c.in-Ok-Header.field-0-is in
-    rw c.new-runs.ensures.items (adv-header MAX_LEVEL c.args.position c.args.cursor line c.in-Ok-Header.rule e)
+    adv-header MAX_LEVEL c.args.position c.args.cursor line c.in-Ok-Header.rule e
