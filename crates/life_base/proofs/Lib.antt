@@ -6,9 +6,11 @@ pub mod FirstFeed
 pub mod Digits
 pub mod DigitSum
 pub mod Refusals
+pub mod NumberedLines
 pub mod RoundTrip
 pub mod NamesRead
 pub mod WritingLemmas
 pub mod RuleKinds
+pub mod RuleTexts
 pub mod WordEnds
 pub mod EmptyValues

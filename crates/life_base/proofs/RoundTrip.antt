@@ -43,10 +43,10 @@ eq-true a b h = grind (arith, nat_tests)
 set_again : (set : ℕ) → set < 512 → digit_set (digits_of set) ≡ set
 set_again set h = eq-true _ _ (first _ _ (set_at set h))
 
-set_digits : (set : ℕ) → set < 512 → list_all is_count_digit (digits_of set) ≡ true
+pub set_digits : (set : ℕ) → set < 512 → list_all is_count_digit (digits_of set) ≡ true
 set_digits set h = first _ _ (second _ _ (set_at set h))
 
-set_short : (set : ℕ) → set < 512 → length (digits_of set) ≤ 9
+pub set_short : (set : ℕ) → set < 512 → length (digits_of set) ≤ 9
 set_short set h = leb-true _ _ (second _ _ (second _ _ (set_at set h)))
 
 -- ---- what holds of each digit holds of a text of them
@@ -148,7 +148,7 @@ module _ (ds es : List ℕ) (d : list_all is_count_digit ds ≡ true) (e : list_
   text_short : length text ≤ 255
   text_short = omega (arith, length-append ds (47 ∷ 83 ∷ es))
 
-  text_is_rule : is_bad_text text ≡ false
+  pub text_is_rule : is_bad_text text ≡ false
   text_is_rule = ap (λ v. v || not (list_all visible text)) (not_more (length text) text_short) ∙ ap not (text_passes visible digit_visible refl ds es d e)
 
   text_rule : rule_of text ≡ life_rule (record { births = digit_set ds; survivals = digit_set es })

@@ -1,4 +1,4 @@
--- What a device over a reader or a writer of std keeps.
+-- What a device over a reader or a writer of std keeps. The project's own.
 use Rattle.std.specs.Prelude.{◌≡◌, false}
 use Rattle.life_base.specs.declared.devices.Device.{Device}
 

@@ -1,4 +1,4 @@
--- What one call on a device does to its count of failures.
+-- What one call on a device does to its count of failures. The rules of this file are the project's own.
 use Rattle.std.specs.Prelude.{◌≡◌, ℕ, ◌+◌, Bool, true, false, Result, MatchResult}
 use Rattle.life_base.specs.declared.kind.Kind.{Kind}
 

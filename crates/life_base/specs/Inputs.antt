@@ -1,4 +1,4 @@
--- What was read of a source, where it tells its bytes.
+-- What was read of a source, where it tells its bytes (of another source these say nothing). The project's own.
 use Rattle.std.specs.Prelude.{◌<◌, ◌≤◌, ℕ, List, Option, length}
 use Rattle.std.specs.Io.KnownBytes.{Consumes, IsAtEnd}
 

@@ -1,4 +1,5 @@
--- Which fault a refused file has, for any grammar of lines.
+-- Which fault a refused file has, for any grammar of lines: its place, by fronts of files, and its kind. The rules of this file
+-- are the project's own.
 use Rattle.std.specs.Prelude.{◌≡◌, ℕ, ◌+◌, ◌-◌, ◌^◌, ◌<◌, ◌≤◌, min, ◌⊎◌, Bool, true, false, cond, List, [], ◌∷◌, ◌++◌, length, take, codes, Option, Some, Result, Err}
 use Rattle.std.specs.List.{slice_index_or}
 use Rattle.life_base.specs.declared.kind.Kind.{Kind}
@@ -12,7 +13,7 @@ continuations =
     codes "[M2]" ∷ codes "x = 1, y = 1" ∷ codes "@RULE a" ∷ codes "@TABLE" ∷ codes "n_states:2"
     ∷ codes "neighborhood:vonNeumann" ∷ codes "neighborhood:Moore" ∷ codes "symmetries:none" ∷ []
 
--- those lines of a list, in order, that are marked to be kept
+-- those lines of a list, in their order, that are marked to be kept
 abbrev pub kept : List Bool → List (List ℕ) → List (List ℕ)
 kept [] lines = []
 kept (keep ∷ keeps) [] = []

@@ -1,4 +1,5 @@
--- Rule texts: what each text says, and the text of each rule.
+-- Rule texts: what each text says, and the text of each rule. The B/S notation, and what its digits mean, are of Golly Help,
+-- QuickLife. The order of the tests, the kinds of fault, names and canonical texts are the project's own.
 use Rattle.std.specs.Prelude.{◌≡◌, ℕ, ◌+◌, ◌-◌, ◌/◌, ◌%◌, ◌^◌, ◌<◌, Bool, true, false, not, ◌&&◌, ◌||◌, List, [], ◌∷◌, ◌++◌, length, take, drop, map, filter, sum_by, nat_le, nat_lt, ◌==◌, if◌then◌else◌, bytes_eq, codes, is_some, Option, Some, None, Result, Ok, Err}
 use Rattle.std.specs.List.{list_all, list_any, slice_split}
 use Rattle.life_base.specs.Sets.{DigitSets}
@@ -9,7 +10,7 @@ use Rattle.life_base.specs.declared.kind.Kind.TheVariants as kinds
 use Rattle.life_base.specs.declared.rule.Rule.{Rule}
 use Rattle.life_base.specs.declared.rule.Rule.TheVariants.{Life, Named}
 
--- the digits that a rule may name, the counts of eight neighbours
+-- the digits that a rule may name: how many of a cell's eight neighbours are alive (Golly Help, QuickLife)
 abbrev pub counts : List ℕ
 counts = 0 ∷ 1 ∷ 2 ∷ 3 ∷ 4 ∷ 5 ∷ 6 ∷ 7 ∷ 8 ∷ []
 
@@ -17,7 +18,7 @@ counts = 0 ∷ 1 ∷ 2 ∷ 3 ∷ 4 ∷ 5 ∷ 6 ∷ 7 ∷ 8 ∷ []
 abbrev pub has_digit : ℕ → ℕ → Bool
 has_digit set d = set / 2 ^ d % 2 == 1
 
--- the set of the digits that a text names, in any order and any number of times
+-- the set of the digits that a text names, in any order and any number of times (the project's own)
 abbrev pub digit_set : List ℕ → ℕ
 digit_set text = sum_by (λ d. if list_any (λ b. b == 48 + d) text then 2 ^ d else 0) counts
 
@@ -41,10 +42,12 @@ digit_groups text = slice_split (λ b. not (is_count_digit b)) text
 abbrev pub marks : List ℕ → List ℕ
 marks text = map upper (filter (λ b. not (is_count_digit b)) text)
 
+-- the sets of two texts of digits
 abbrev pub sets : List ℕ → List ℕ → Option DigitSets
 sets births survivals = Some (record { births = digit_set births; survivals = digit_set survivals })
 
--- The five forms of a B/S rule: `B3/S23`, `S23/B3`, `B3S23`, `S23B3` and `23/3`.
+-- The five forms of a B/S rule, by the texts between its marks and by the marks: `B3/S23` and, survivals first, `23/3` (Golly
+-- Help, QuickLife); `B3S23`, `S23/B3` and `S23B3` (the project's own). Each group of digits may be empty.
 abbrev pub life_form : List (List ℕ) → List ℕ → Option DigitSets
 life_form ([] ∷ first ∷ [] ∷ second ∷ []) marks =
     if bytes_eq marks (codes "B/S") then sets first second
@@ -59,31 +62,34 @@ life_form _ marks = None
 unfoldable pub life_sets : List ℕ → Option DigitSets
 life_sets text = life_form (digit_groups text) (marks text)
 
--- a B/S text followed by `V`, `v`, `H` or `h`
+-- a B/S text followed by `V` for the von Neumann neighbourhood, or by `H` for the hexagonal one, in either case (Golly Help,
+-- QuickLife)
 abbrev pub names_other_neighbours : List ℕ → Bool
 names_other_neighbours text =
     is_some (life_sets (take (length text - 1) text))
     && (bytes_eq (map upper (drop (length text - 1) text)) (codes "V") || bytes_eq (map upper (drop (length text - 1) text)) (codes "H"))
 
--- a text that no rule has: empty, above 255 bytes, or with a byte that is no visible ASCII character
+-- a text that no rule has: empty, above 255 bytes, or with a byte outside 0x21 to 0x7E, the visible characters of ASCII
 abbrev pub is_bad_text : List ℕ → Bool
 is_bad_text text = is_empty text || nat_lt 255 (length text) || not (list_all (λ b. nat_le 33 b && nat_le b 126) text)
 
--- a B/S rule, unless cells are born on 0
+-- a B/S rule, unless cells are born on 0: then the empty plane would not stay empty
 abbrev pub life_rule : DigitSets → Result Rule Kind
 life_rule sets = if has_digit sets.births 0 then Err BirthOnZero else Ok (Life sets)
 
--- a text that is no B/S rule: a name, unless it names other neighbours or has a slash
+-- a text that is no B/S rule: a name, kept byte for byte, unless it names other neighbours or has a slash
 abbrev pub other_rule : List ℕ → Result Rule Kind
 other_rule text =
     if names_other_neighbours text then Err UnsupportedRule
     else (if list_any (λ b. b == 47) text then Err UnsupportedRule else Ok (Named text))
 
+-- the rule of a text, by its sets if it is of one of the five forms
 abbrev pub life_or_other : List ℕ → Option DigitSets → Result Rule Kind
 life_or_other text (Some sets) = life_rule sets
 life_or_other text None = other_rule text
 
--- the rule of a text without whitespace at its ends, or why it is none: the first of these tests that decides
+-- the rule of a text without whitespace at its ends, or why it is none: the first of these tests decides. A colon is that of a
+-- bounded grid (Golly Help, Bounded Grids).
 abbrev pub rule_of_trimmed : List ℕ → Result Rule Kind
 rule_of_trimmed text =
     if is_bad_text text then Err BadRule
@@ -93,16 +99,16 @@ rule_of_trimmed text =
 unfoldable pub rule_of : List ℕ → Result Rule Kind
 rule_of text = rule_of_trimmed (trim text)
 
--- the canonical text of a B/S rule
+-- the canonical text of a B/S rule: its digits in rising order, each once
 abbrev pub sets_text : ℕ → ℕ → List ℕ
 sets_text births survivals = codes "B" ++ digits_of births ++ codes "/S" ++ digits_of survivals
 
--- the canonical text of a rule
+-- the canonical text of a rule: of a name its bytes
 abbrev pub rule_text : Rule → List ℕ
 rule_text (Life sets) = sets_text sets.births sets.survivals
 rule_text (Named name) = name
 
--- the rule of a file that names none, B3/S23
+-- the rule of a file that names none, B3/S23 (the project's own)
 abbrev pub default_rule : Rule
 default_rule = Life (record { births = 8; survivals = 12 })
 
@@ -121,9 +127,17 @@ abbrev pub IsRule : Rule → Type 0
 IsRule (Life sets) = AreLifeSets sets
 IsRule (Named name) = IsName name
 
--- what reading back a rule's text gives
+-- the canonical text of each rule says that rule
 abbrev pub RulesReadBack : Type 0
 RulesReadBack = (rule : Rule) → IsRule rule → rule_of (rule_text rule) ≡ Ok rule
+
+-- rules with one canonical text are one rule
+abbrev pub RuleTextsTellRules : Type 0
+RuleTextsTellRules = (one other : Rule) → IsRule one → IsRule other → rule_text one ≡ rule_text other → one ≡ other
+
+-- a canonical text has 1 to 255 visible characters, and so no whitespace and no line feed
+abbrev pub RuleTextsAreVisible : Type 0
+RuleTextsAreVisible = (rule : Rule) → IsRule rule → is_bad_text (rule_text rule) ≡ false
 
 -- the kinds with which a rule text is refused
 abbrev pub is_rule_kind : Kind → Bool

@@ -1,4 +1,5 @@
--- Full squares of cells, as trees without sharing.
+-- Full squares of cells, as trees without sharing, divided into quarters as macrocell files divide them (Golly Help, File
+-- Formats, macrocell).
 use Rattle.std.specs.Prelude.{◌≡◌, ◌==◌, ℕ, zero, suc, ◌-◌, ◌^◌, ◌<◌, Bool, ◌&&◌, nat_lt, if◌then◌else◌, List, [], ◌∷◌}
 
 -- a full square: a point has one state; any other has four quarters, north-west, north-east, south-west, south-east

@@ -1,4 +1,5 @@
--- What a sink holds after a text was written to it.
+-- What a sink holds after a text was written to it, where it tells its bytes (of another sink these say nothing). The project's
+-- own.
 use Rattle.std.specs.Prelude.{◌≤◌, ℕ, List, Option, Result, MatchResult, take, length}
 use Rattle.std.specs.Io.KnownBytes.{Appends}
 

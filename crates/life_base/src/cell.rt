@@ -9,7 +9,10 @@ pub type State = u8;
 /// A cell of the plane and its state: column `x`, row `y`, which grows downwards.
 #[derive(Clone, Copy, Debug, PartialEq, Eq)]
 pub struct Cell {
+    /// The column.
     pub x: i64,
+    /// The row.
     pub y: i64,
+    /// The state; 0 where the cell is dead.
     pub state: State,
 }

@@ -20,7 +20,8 @@ pub trait Source {
     fn failed(&self) -> bool
         ensures { IsTrue result ↔ (failures self.now ≡ 1) };
 
-    /// Reads some of the next bytes into `buf`. A count of 0 into a nonempty `buf` is the end.
+    /// Reads some of the next bytes into `buf`, and answers how many. A count of 0 into a nonempty `buf` is the end. A failure of
+    /// any cause is `ReadFault`.
     fn read(&mut self, buf: &mut [u8]) -> Result<usize, Kind>
         requires { failures self.old ≡ 0 }
         ensures count { ReadsAtMost result buf.new }
@@ -48,7 +49,7 @@ pub trait Sink {
     fn failed(&self) -> bool
         ensures { IsTrue result ↔ (failures self.now ≡ 1) };
 
-    /// Writes the first bytes of `buf`, and answers how many.
+    /// Writes the first bytes of `buf`, and answers how many. A failure of any cause is `WriteFault`, and then none was written.
     fn write(&mut self, buf: &[u8]) -> Result<usize, Kind>
         requires { failures self.old ≡ 0 }
         ensures count { WritesAtMost result buf.now }
@@ -56,7 +57,7 @@ pub trait Sink {
         ensures bytes { WriteAppends (contents self.old) (contents self.new) result buf.now }
         ensures none { IfOk result (λ n. n ≡ 0 → 0 < length buf.now → stalled self.new ≡ true) };
 
-    /// Makes sure of what was written.
+    /// Hands on what was written, as far as the sink still holds it. A failure of any cause is `WriteFault`.
     fn flush(&mut self) -> Result<(), Kind>
         requires { failures self.old ≡ 0 }
         ensures failure { CountsFailure (failures self.old) (failures self.new) result Kind.WriteFault }
@@ -66,7 +67,8 @@ pub trait Sink {
     ghost at_most_one: { (s : Self) → failures s ≤ 1 };
 }
 
-/// A device over any reader or writer of `std`.
+/// A device over any reader or writer of `std`. It tells its bytes where the reader or writer does. An interrupted call has failed
+/// like any other.
 #[derive(Drop)]
 pub struct Device<T> {
     inner: T,

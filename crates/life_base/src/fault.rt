@@ -6,6 +6,7 @@ use thiserror::Error;
 /// A line of the input, counted from 1; 0 where the fault isn't of a line.
 #[derive(Clone, Copy, Debug, PartialEq, Eq)]
 pub struct Place {
+    /// The line's number. A number above 2^64 - 1 is told as 2^64 - 1.
     pub line: u64,
 }
 
@@ -13,9 +14,14 @@ pub struct Place {
 #[derive(Clone, Copy, Debug, PartialEq, Eq, Drop, Error)]
 #[error("line {}: {}", .place.line, .kind.name())]
 pub struct Fault {
+    /// The line that the input is refused at: the first after which nothing makes a whole file of what came.
     pub place: Place,
+    /// The first rule that the line breaks.
     pub kind: Kind,
 }
+
+/// Why a step of a pattern was refused, and where.
+pub type StepFault = Fault;
 
 impl Fault {
     ghost use Rattle.std.specs.Prelude.{◌≡◌};

@@ -30,7 +30,7 @@ impl<T> Items<T> {
         }
     }
 
-    /// The items of a vector.
+    /// The items of a vector. It takes no memory.
     pub fn from_vec(items: Vec<T>) -> Items<T>
         ensures { result ≡ items.items }
     {
@@ -44,16 +44,17 @@ impl<T> Items<T> {
         self.items.as_slice()
     }
 
-    /// The vector of the items.
+    /// The vector of the items. It takes no memory.
     pub fn into_vec(self) -> Vec<T>
         ensures { result.items ≡ self }
     {
-        self.items
+        let Self { items } = self;
+        items
     }
 }
 
 impl<T: Drop> Items<T> {
-    /// Adds an item at the end; a refusal leaves the items as they were.
+    /// Adds an item at the end; a refusal, by `Memory` alone, leaves the items as they were and drops the item.
     pub fn push(&mut self, item: T) -> Result<(), Kind>
         ensures ok { OnOk result (self.new ≡ self.old ++ item ∷ []) }
         ensures err { OnErr result (self.new ≡ self.old) }

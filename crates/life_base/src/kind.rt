@@ -2,56 +2,98 @@
 
 ghost use Rattle.std.specs.Prelude.{◌≡◌};
 
-/// Why something was refused.
+/// Why something was refused. `number` and `name` tell the kind outside the program.
 #[derive(Clone, Copy, Debug, PartialEq, Eq)]
 pub enum Kind {
+    /// The first line of RLE that is no comment doesn't begin with `x`, line 1 of a macrocell file not with `[M2]`, or the input ends before a header.
     NoHeader,
+    /// A header line of RLE that isn't of its form.
     BadHeader,
+    /// A rule text that is empty, longer than 255 bytes, or has a byte outside 0x21 to 0x7E.
     BadRule,
+    /// A rule text with `:`.
     BoundedGrid,
+    /// A rule text with other neighbours than the eight (`V`, `H` at its end), or with `/` and of no known form.
     UnsupportedRule,
+    /// A B/S rule with 0 among its births.
     BirthOnZero,
+    /// A text that should be a number and is none.
     BadNumber,
+    /// A number outside its type, or a count above 2^60.
     TooLarge,
+    /// Data of RLE that is no item.
     BadItem,
+    /// A count of 0.
     ZeroCount,
+    /// A state above 1 under a B/S rule, or above 255.
     StateRange,
+    /// A position or a run outside the plane, or in a step a cell outside it that would not stay 0.
     OutOfPlane,
+    /// `#CXRLE` behind the header of RLE, or `#R` or `#G` behind the first node line.
     LateHeader,
+    /// A second header line in RLE.
     SecondHeader,
+    /// A macrocell line that is neither a leaf nor five numbers.
     BadNode,
+    /// A level of 0, or above the greatest.
     BadLevel,
+    /// A child that is no earlier line, or whose level isn't one less.
     BadChild,
+    /// A leaf line with another byte, a ninth cell in a row, or anything behind the eighth `$`.
     BadLeaf,
+    /// A macrocell line that begins with `#FRAME`.
     Timeline,
+    /// A line of more than 2^20 bytes.
     LineTooLong,
+    /// A new node was needed, and the store holds as many as it may.
     Full,
+    /// Memory was refused.
     Memory,
+    /// A reader that has refused was used again.
     Spent,
+    /// A rule file without its first line `@RULE` and a name.
     NoRuleLine,
+    /// A rule file without a line `@TABLE`.
     NoTable,
+    /// A descriptor of a table that is unknown, malformed, repeated, late or missing.
     BadDescriptor,
+    /// A neighbourhood other than `vonNeumann` and `Moore`.
     UnsupportedNeighborhood,
+    /// A symmetry that isn't listed for the neighbourhood.
     UnsupportedSymmetry,
+    /// A `var` line that isn't of its form.
     BadVariable,
+    /// A transition that isn't of its form.
     BadTransition,
+    /// An output variable that is no input of its line.
     UnboundOutput,
+    /// The first line that fits the all-zero neighbourhood gives another state.
     NotQuiet,
+    /// The table's name isn't the pattern's rule.
     RuleMismatch,
+    /// A named rule was stepped without a table.
     NeedsTable,
+    /// The first line of a table that fits gives two different states.
     Ambiguous,
+    /// More cells that aren't 0 than allowed.
     TooManyCells,
+    /// A step from generation 2^64 - 1.
     GenerationTooLarge,
+    /// A state of the pattern that the table doesn't have.
     StateBeyondTable,
+    /// The reader failed.
     ReadFault,
+    /// The writer failed, or took no bytes.
     WriteFault,
+    /// More bytes came than allowed.
     InputTooLong,
 }
 
 impl Kind {
     ghost use Rattle.life_base.specs.Kinds.{kind_number, kind_name};
 
-    /// The number of the kind.
+    /// The number of the kind: 1 to 23 of the pattern files and stores, 31 to 39 of rule tables, 41 to 46 of a step, 51 to 53 of
+    /// devices. No two kinds have one number.
     pub fn number(&self) -> u8
         ensures { result ≡ kind_number self.now }
     {
@@ -100,7 +142,7 @@ impl Kind {
         }
     }
 
-    /// The name of the kind.
+    /// The name of the kind, as it is spelled in `Kind`.
     pub fn name(&self) -> &'static str
         ensures { result.now ≡ kind_name self.now }
     {

@@ -14,13 +14,15 @@ mod reading;
 mod rule;
 mod rule_reading;
 mod rule_text;
+#[cfg(test)]
+mod tests;
 mod text;
 mod words;
 mod writing;
 
 pub use cell::{Cell, MAX_LEVEL, State};
 pub use devices::{Device, Sink, Source};
-pub use fault::{Fault, Place};
+pub use fault::{Fault, Place, StepFault};
 pub use items::Items;
 pub use kind::Kind;
 pub use line_iterator::Lines;

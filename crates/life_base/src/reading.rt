@@ -10,7 +10,8 @@ use std::alloc::Global;
 /// How many bytes are asked of a source at once.
 const PIECE: usize = 65536;
 
-/// Reads to the end of the input, or until more than `most` bytes came. It keeps at most `most` bytes and one piece.
+/// Reads to the end of the input, or until more than `most` bytes came, which is `InputTooLong`. It keeps at most `most` bytes and
+/// one piece of 64 KiB. A failed read is `ReadFault`, refused memory `Memory`.
 pub fn read_within<R: Source>(alloc: Global, reader: &mut R, most: u64) -> Result<Vec<u8>, Kind>
     requires working { R.failures reader.old ≡ 0 }
     requires bound { most ≤ 2 ^ 30 }

@@ -8,7 +8,9 @@ use std::marker::Model;
 /// Bit d of a set stands for the count d; no cell is born on 0.
 #[derive(Clone, Copy, PartialEq, Eq)]
 pub struct LifeRule {
+    /// The counts at which a dead cell is born; bits 0 and 9 to 15 are clear.
     pub births: u16,
+    /// The counts at which a live cell survives; bits 9 to 15 are clear.
     pub survivals: u16,
 }
 
@@ -26,7 +28,8 @@ impl Model for LifeRule {
     ghost inverse = { λ d. record { births = d.births; survivals = d.survivals } };
 }
 
-/// The name of a rule that is known by its name alone, as a rule table defines it.
+/// The name of a rule that is known by its name alone, as a rule table defines it: 1 to 255 visible characters of ASCII, kept byte
+/// for byte, which `Rule::parse` reads as that name.
 #[derive(Drop)]
 pub struct Name {
     pub(crate) text: Vec<u8>,
@@ -47,7 +50,9 @@ impl Model for Name {
 /// The rule of a pattern. Cells have states 0 and 1 under a B/S rule, and 0 to 255 under a name.
 #[derive(Drop)]
 pub enum Rule {
+    /// A B/S rule over the eight neighbours of a cell.
     Life(LifeRule),
+    /// A rule that only its name tells.
     Named(Name),
 }
 
@@ -55,7 +60,7 @@ impl LifeRule {
     ghost use Rattle.std.specs.Prelude.{◌≡◌, ◌≤◌, if◌then◌else◌};
     ghost use Rattle.life_base.specs.Rules.{has_digit};
 
-    /// Whether the cell is alive in the next generation.
+    /// Whether a cell is alive in the next generation, by whether it is `alive` now and how many of its eight neighbours are.
     pub fn next(&self, alive: bool, count: u8) -> bool
         requires { count ≤ 8 }
         ensures { result ≡ has_digit (if alive then self.now.survivals else self.now.births) count }
@@ -68,7 +73,7 @@ impl LifeRule {
 impl Name {
     ghost use Rattle.std.specs.Prelude.{◌≡◌, IfOk, IfErr};
 
-    /// The same name.
+    /// The same name, in memory of its own. `Memory` is the only refusal.
     pub fn copy(&self, alloc: Global) -> Result<Name, Kind>
         ensures ok { IfOk result (λ name. name ≡ self.now) }
         ensures err { IfErr result (λ kind. kind ≡ Kind.Memory) }
@@ -79,11 +84,11 @@ impl Name {
         }
     }
 
-    /// The bytes of the name.
+    /// The bytes of the name, which are its canonical text.
     pub fn bytes(&self) -> &[u8]
         ensures { result.now ≡ self.now }
     {
-        &self.text
+        self.text.as_slice()
     }
 }
 

@@ -200,7 +200,8 @@ fn trimmed_rule(alloc: Global, text: &[u8]) -> Result<Rule, Kind>
 }
 
 impl Rule {
-    /// The rule of a text.
+    /// The rule of a text, taken without whitespace at its ends. It is refused as `BadRule`, `BoundedGrid`, `UnsupportedRule` or
+    /// `BirthOnZero`, and as `Memory`.
     pub fn parse(alloc: Global, text: &[u8]) -> Result<Rule, Kind>
         ensures { Answers result (rule_of text.now) }
     {

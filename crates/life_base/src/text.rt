@@ -9,7 +9,7 @@ ghost use Rattle.life_base.specs.Text.{trim, trim_start, trim_end, begins_with a
 use crate::kind::Kind;
 use crate::line_iterator::Lines;
 
-/// Whether a byte is a space, a tab or a carriage return.
+/// Whether a byte is whitespace: a space, a tab or a carriage return.
 pub fn is_whitespace(byte: u8) -> bool
     ensures { result ≡ is_blank_byte byte }
 {
@@ -72,14 +72,15 @@ fn are_digits(text: &[u8]) -> bool
     text.iter().all(|byte| byte.is_ascii_digit())
 }
 
-/// Whether the text is one or more of `0` to `9`.
+/// Whether the text is a digit text: one or more of `0` to `9`.
 pub fn is_digit_text(text: &[u8]) -> bool
     ensures { result ≡ has_digits_alone text.now }
 {
     !text.is_empty() && are_digits(text)
 }
 
-/// The number that a digit text writes.
+/// The number that a digit text writes, with leading zeros or without. Another text is `BadNumber`, a number of 2^64 or more
+/// `TooLarge`.
 pub fn read_u64(text: &[u8]) -> Result<u64, Kind>
     ensures { result ≡ u64_of text.now }
 {
@@ -117,7 +118,8 @@ fn negated(size: u64) -> i64
     -(size as i64)
 }
 
-/// The number that a digit text writes, behind an optional `-`: from -2^63 to 2^63 - 1.
+/// The number that a digit text writes, behind an optional `-`: from -2^63 to 2^63 - 1. Another number is `TooLarge`, another text
+/// `BadNumber`.
 pub fn read_i64(text: &[u8]) -> Result<i64, Kind>
     ensures { result ≡ i64_of text.now }
 {
@@ -133,7 +135,7 @@ pub fn read_i64(text: &[u8]) -> Result<i64, Kind>
     }
 }
 
-/// The lines of an input, numbered from 1.
+/// The lines of an input, numbered from 1, each without its line feed.
 pub fn lines(bytes: &[u8]) -> Lines<'_>
     ensures number { result.number ≡ 1 }
     ensures rest { result.rest.now ≡ bytes.now }

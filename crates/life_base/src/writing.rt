@@ -6,7 +6,7 @@ ghost use Rattle.life_base.specs.Writing.{WritesText};
 use crate::devices::Sink;
 use crate::kind::Kind;
 
-/// Writes the whole text.
+/// Writes the whole text. `WriteFault` is the only refusal: the sink failed, or took no bytes. A front of the text was written then.
 pub fn write_text<W: Sink>(writer: &mut W, text: &[u8]) -> Result<(), Kind>
     requires { W.failures writer.old ≡ 0 }
     ensures text { WritesText (W.contents writer.old) (W.contents writer.new) text.now result }
@@ -25,7 +25,7 @@ pub fn write_text<W: Sink>(writer: &mut W, text: &[u8]) -> Result<(), Kind>
     Ok(())
 }
 
-/// Writes the texts, one after another.
+/// Writes the texts, one after another, as `write_text` writes one.
 pub fn write_texts<W: Sink>(writer: &mut W, texts: &[&[u8]]) -> Result<(), Kind>
     requires { W.failures writer.old ≡ 0 }
     ensures text { WritesText (W.contents writer.old) (W.contents writer.new) (flat_map (λ text. text.now) texts.now) result }
@@ -41,7 +41,7 @@ pub fn write_texts<W: Sink>(writer: &mut W, texts: &[&[u8]]) -> Result<(), Kind>
     Ok(())
 }
 
-/// Writes the whole text and flushes.
+/// Writes the whole text and flushes. `WriteFault` is the only refusal, and also that of a failed flush.
 pub fn deliver<W: Sink>(writer: &mut W, text: &[u8]) -> Result<(), Kind>
     requires { W.failures writer.old ≡ 0 }
     ensures text { WritesText (W.contents writer.old) (W.contents writer.new) text.now result }

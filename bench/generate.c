@@ -1,0 +1,109 @@
+// Makes the inputs that the benchmarks read, the same bytes each time.
+//   generate macrocell LINES   node lines of a two-state rule: leaves, then levels 4 and up, with sharing
+//   generate named LINES       node lines of a named rule from level 1 up, states 0 to 255, with sharing
+//   generate rle BYTES         an RLE soup of about BYTES bytes, one cell in three alive
+#include <stdint.h>
+#include <stdio.h>
+#include <stdlib.h>
+#include <string.h>
+
+static uint64_t state = 88172645463325252ull;
+
+static uint64_t next_random(void) {
+    state ^= state << 13;
+    state ^= state >> 7;
+    state ^= state << 17;
+    return state;
+}
+
+static void leaf(void) {
+    char text[73];
+    int length = 0;
+    for (int row = 0; row < 8; row++) {
+        unsigned cells = (unsigned)(next_random() >> 20) & (unsigned)(next_random() >> 30) & 255;
+        int last = -1;
+        for (int column = 0; column < 8; column++)
+            if (cells >> (7 - column) & 1) last = column;
+        for (int column = 0; column <= last; column++) text[length++] = cells >> (7 - column) & 1 ? '*' : '.';
+        text[length++] = '$';
+    }
+    text[length] = 0;
+    puts(text);
+}
+
+// Quarter lines of one level, each quarter one of the lines from `first` to `first + count - 1`, or 0.
+static void level_lines(int level, long first, long count, long lines) {
+    for (long i = 0; i < lines; i++) {
+        long child[4];
+        for (int q = 0; q < 4; q++) child[q] = next_random() % 8 == 0 ? 0 : first + (long)(next_random() % (uint64_t)count);
+        printf("%d %ld %ld %ld %ld\n", level, child[0], child[1], child[2], child[3]);
+    }
+}
+
+static void levels(int level, long first, long count, long left) {
+    while (left > 0 && level <= 60) {
+        long lines = left > 40 && level < 60 ? left / 2 : left;
+        if (left <= 40 || level == 60) lines = level < 60 ? 1 : left;
+        level_lines(level, first, count, lines);
+        first += count;
+        count = lines;
+        left -= lines;
+        level++;
+    }
+}
+
+static void macrocell(long lines) {
+    puts("[M2] (generated)\n#R B3/S23");
+    long leaves = lines / 3;
+    for (long i = 0; i < leaves; i++) leaf();
+    levels(4, 1, leaves, lines - leaves);
+}
+
+static void named(long lines) {
+    puts("[M2] (generated)\n#R Generated\n#G 7");
+    long points = lines / 3;
+    for (long i = 0; i < points; i++)
+        printf("1 %d %d %d %d\n", (int)(next_random() >> 40 & 255), (int)(next_random() >> 40 & 255), (int)(next_random() >> 40 & 255),
+               (int)(next_random() >> 40 & 255));
+    levels(2, 1, points, lines - points);
+}
+
+static void rle(long bytes) {
+    puts("x = 4096, y = 4096, rule = B3/S23");
+    long written = 0, column = 0, width = 0;
+    int alive = next_random() % 3 == 0;
+    while (written < bytes) {
+        long run = 1;
+        while (column + run < 4096 && (next_random() % 3 == 0) == alive) run++;
+        char item[24];
+        int length = run == 1 ? sprintf(item, "%c", alive ? 'o' : 'b') : sprintf(item, "%ld%c", run, alive ? 'o' : 'b');
+        column += run;
+        if (column >= 4096) {
+            item[length++] = '$';
+            item[length] = 0;
+            column = 0;
+        }
+        if (width + length > 70) {
+            putchar('\n');
+            written++;
+            width = 0;
+        }
+        fputs(item, stdout);
+        width += length;
+        written += length;
+        alive = !alive;
+    }
+    puts("!");
+}
+
+int main(int count, char **words) {
+    long size = count == 3 ? atol(words[2]) : 0;
+    if (count == 3 && strcmp(words[1], "macrocell") == 0) macrocell(size);
+    else if (count == 3 && strcmp(words[1], "named") == 0) named(size);
+    else if (count == 3 && strcmp(words[1], "rle") == 0) rle(size);
+    else {
+        fputs("usage: generate macrocell|named|rle SIZE\n", stderr);
+        return 2;
+    }
+    return 0;
+}

@@ -1,0 +1,195 @@
+//! Lines, whitespace and numbers.
+
+use crate::{
+    Cell, Items, Kind, MAX_LEVEL, Rule, append, begins_with, is_blank, is_digit_text,
+    is_whitespace, lines, read_i64, read_u64, trimmed, trimmed_start,
+};
+use std::test::Fail;
+
+#[test]
+fn lines_end_at_line_feeds_alone(rt: HostRuntime) {
+    let rows: [(&[u8], &[&[u8]]); 8] = [
+        (b"", &[]),
+        (b"\n", &[b""]),
+        (b"\n\n", &[b"", b""]),
+        (b"a", &[b"a"]),
+        (b"a\n", &[b"a"]),
+        (b"a\r\nb\r\n", &[b"a\r", b"b\r"]),
+        (b"a\n\nb", &[b"a", b"", b"b"]),
+        (b"\r\x0b\x0c", &[b"\r\x0b\x0c"]),
+    ];
+    for (input, wanted) in rows {
+        let mut rest = lines(input);
+        let mut number = 0u64;
+        for want in wanted {
+            number = number.saturating_add(1);
+            let Some((at, line)) = rest.next() else {
+                panic!(rt; "no line {number}");
+            };
+            assert_eq!(rt; at, number);
+            assert_eq!(rt; line, *want, "line {number}");
+        }
+        assert!(rt; rest.next().is_none());
+        assert!(rt; rest.next().is_none());
+    }
+}
+
+#[test]
+fn whitespace_is_three_bytes(rt: HostRuntime) {
+    for byte in 0..=255u8 {
+        let want = byte == 32 || byte == 9 || byte == 13;
+        assert_eq!(rt; is_whitespace(byte), want, "byte {byte}");
+        assert_eq!(rt; is_blank(&[b' ', byte]), want, "byte {byte}");
+        assert_eq!(rt;
+            trimmed(&[byte, b'x', byte]).len() == 1,
+            want,
+            "byte {byte}"
+        );
+        assert_eq!(rt;
+            trimmed_start(&[byte, b'x', byte]).len() == 2,
+            want,
+            "byte {byte}"
+        );
+        assert_eq!(rt;
+            is_digit_text(&[b'0', byte]),
+            48 <= byte && byte <= 57,
+            "byte {byte}"
+        );
+    }
+    assert!(rt; is_blank(b""));
+    assert!(rt; trimmed(b" \t\r").is_empty());
+    assert_eq!(rt; trimmed(b"\t a b \r"), b"a b".as_slice());
+    assert!(rt; !is_digit_text(b""));
+}
+
+#[test]
+fn a_text_begins_with_its_front(rt: HostRuntime) {
+    assert!(rt; begins_with(b"[M2] (golly 4.2)", b"[M2]"));
+    assert!(rt; begins_with(b"#R", b"#R"));
+    assert!(rt; begins_with(b"", b""));
+    assert!(rt; !begins_with(b"#", b"#R"));
+    assert!(rt; !begins_with(b" #R", b"#R"));
+}
+
+#[test]
+fn whole_numbers_below_2_to_64(rt: HostRuntime) {
+    let rows: [(&[u8], Result<u64, Kind>); 19] = [
+        (b"0", Ok(0)),
+        (b"000", Ok(0)),
+        (b"007", Ok(7)),
+        (b"18446744073709551615", Ok(18446744073709551615)),
+        (b"00018446744073709551615", Ok(18446744073709551615)),
+        (b"18446744073709551616", Err(Kind::TooLarge)),
+        (b"99999999999999999999999999", Err(Kind::TooLarge)),
+        (b"", Err(Kind::BadNumber)),
+        (b"-", Err(Kind::BadNumber)),
+        (b"-0", Err(Kind::BadNumber)),
+        (b"-1", Err(Kind::BadNumber)),
+        (b"+1", Err(Kind::BadNumber)),
+        (b" 1", Err(Kind::BadNumber)),
+        (b"1\r", Err(Kind::BadNumber)),
+        (b"1_0", Err(Kind::BadNumber)),
+        (b"0x1", Err(Kind::BadNumber)),
+        (b"1.0", Err(Kind::BadNumber)),
+        (b"99999999999999999999999999a", Err(Kind::BadNumber)),
+        (b"\xef\xbc\x91", Err(Kind::BadNumber)),
+    ];
+    for (text, want) in rows {
+        assert_eq!(rt; read_u64(text), want, "{text:?}");
+    }
+}
+
+#[test]
+fn whole_numbers_of_either_sign(rt: HostRuntime) {
+    let rows: [(&[u8], Result<i64, Kind>); 18] = [
+        (b"0", Ok(0)),
+        (b"-0", Ok(0)),
+        (b"-1", Ok(-1)),
+        (b"-00012", Ok(-12)),
+        (b"00012", Ok(12)),
+        (b"9223372036854775807", Ok(9223372036854775807)),
+        (b"9223372036854775808", Err(Kind::TooLarge)),
+        (b"-9223372036854775807", Ok(-9223372036854775807)),
+        (b"-9223372036854775808", Ok(-9223372036854775808)),
+        (b"-9223372036854775809", Err(Kind::TooLarge)),
+        (b"18446744073709551616", Err(Kind::TooLarge)),
+        (b"-18446744073709551616", Err(Kind::TooLarge)),
+        (b"", Err(Kind::BadNumber)),
+        (b"-", Err(Kind::BadNumber)),
+        (b"--1", Err(Kind::BadNumber)),
+        (b"+1", Err(Kind::BadNumber)),
+        (b"- 1", Err(Kind::BadNumber)),
+        (b"1-", Err(Kind::BadNumber)),
+    ];
+    for (text, want) in rows {
+        assert_eq!(rt; read_i64(text), want, "{text:?}");
+    }
+}
+
+#[test]
+fn a_million_digits(rt: HostRuntime) -> Result<(), Fail> {
+    let mut text = Vec::new(rt.alloc());
+    text.resize(1_000_000, b'0')?;
+    assert_eq!(rt; read_u64(&text), Ok(0));
+    text.push(b'7')?;
+    assert_eq!(rt; read_u64(&text), Ok(7));
+    assert_eq!(rt; read_i64(&text), Ok(7));
+    text.resize(2_000_000, b'9')?;
+    assert_eq!(rt; read_u64(&text), Err(Kind::TooLarge));
+    text.push(b'a')?;
+    assert_eq!(rt; read_u64(&text), Err(Kind::BadNumber));
+    Ok(())
+}
+
+#[test]
+fn items_are_those_of_a_vector(rt: HostRuntime) -> Result<(), Fail> {
+    let mut items = Items::<u64>::new(rt.alloc());
+    assert!(rt; items.as_slice().is_empty());
+    items.push(7)?;
+    items.push(8)?;
+    assert_eq!(rt; items.as_slice(), [7, 8].as_slice());
+    let mut items = Items::from_vec(items.into_vec());
+    items.push(9)?;
+    assert_eq!(rt; items.into_vec().as_slice(), [7, 8, 9].as_slice());
+
+    let mut rules = Items::<Rule>::new(rt.alloc());
+    rules.push(Rule::default_rule())?;
+    rules.push(Rule::parse(rt.alloc(), b"Life")?)?;
+    assert_eq!(rt; rules.as_slice().len(), 2);
+    Ok(())
+}
+
+#[test]
+fn a_refused_append_leaves_the_bytes(rt: HostRuntime) -> Result<(), Fail> {
+    let mut out = Vec::from_slice(rt.alloc(), b"ab")?;
+    match append(&mut out, b"cdefghijklmnopqrstuvwxyz0123456789") {
+        Ok(()) => assert_eq!(rt;
+            out.as_slice(),
+            b"abcdefghijklmnopqrstuvwxyz0123456789".as_slice()
+        ),
+        Err(kind) => {
+            assert!(rt; kind == Kind::Memory);
+            assert_eq!(rt; out.as_slice(), b"ab".as_slice());
+        }
+    }
+    let mut items = Items::from_vec(out);
+    match items.push(b'!') {
+        Ok(()) => assert!(rt; items.as_slice().ends_with(b"!")),
+        Err(kind) => {
+            assert!(rt; kind == Kind::Memory);
+            assert!(rt; !items.as_slice().ends_with(b"!"));
+        }
+    }
+    Ok(())
+}
+
+#[test]
+fn the_plane_is_the_square_of_level_60(rt: HostRuntime) {
+    assert_eq!(rt; MAX_LEVEL, 60);
+    let corner = Cell {
+        x: -(1 << (MAX_LEVEL - 1)),
+        y: 0,
+        state: 255,
+    };
+    assert_eq!(rt; corner.x, -576460752303423488);
+}
