@@ -1,5 +1,5 @@
 pub mod Places
-pub mod Reading
+pub mod ReadSteps
 pub mod Shrinks
 pub mod Progress
 pub mod Unique
@@ -19,3 +19,4 @@ pub mod OneLine
 pub mod ReadPosition
 pub mod LineKinds
 pub mod Stands
+pub mod ReadInputs

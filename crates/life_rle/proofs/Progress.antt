@@ -14,7 +14,7 @@ use Rattle.life_rle.specs.declared.opening.Opening.TheVariants.{Comment, Positio
 use Rattle.life_rle.specs.Grammar.{opening_of, later_of, IsPreamble, LineSpells, BodySpells, IsUnmarked, IsMarked}
 use Rattle.life_rle.specs.declared.opening.Later.{Later}
 use Rattle.life_rle.specs.declared.opening.Later.TheVariants.{Passed, Data}
-use Rattle.life_rle.proofs.Reading.{items_read, last_read, line-Spells}
+use Rattle.life_rle.proofs.ReadSteps.{items_read, last_read, line-Spells}
 
 abbrev pub fault_of_next : Next → Option Kind
 fault_of_next End = None

@@ -11,7 +11,7 @@ use Rattle.life_rle.specs.States.{state_at, with_rest, first_state, single_state
 use Rattle.life_rle.specs.declared.item.Item.{Item}
 use Rattle.life_rle.specs.declared.item.Item.TheVariants.{RowEnds}
 use Rattle.life_rle.specs.Items.{front_digits, behind_digits, Next, End, Mark, Spelled, Broken, cells_of, item_behind, counted, item_in, next_of, Spells}
-use Rattle.life_rle.proofs.Reading.{items_read, last_read}
+use Rattle.life_rle.proofs.ReadSteps.{items_read, last_read}
 
 length-behind_digits : (bytes : List ℕ) → length (behind_digits bytes) ≤ length bytes
 length-behind_digits bytes = omega (arith, length-drop (prefix_len is_ascii_digit bytes) bytes)

@@ -11,12 +11,12 @@ mod opening;
 mod plane;
 mod position;
 mod reader;
-//mod reading;
+mod reading;
 mod sorted;
 mod writing;
 
 pub use file::{RleFile, Run};
-//pub use reader::RleLines;
-//pub use reading::read_rle;
+pub use reader::RleLines;
+pub use reading::read_rle;
 pub use sorted::sorted_cells;
 pub use writing::write_rle;
