@@ -19,4 +19,5 @@ pub mod OneLine
 pub mod ReadPosition
 pub mod LineKinds
 pub mod Stands
+pub mod RunsLaws
 pub mod ReadInputs

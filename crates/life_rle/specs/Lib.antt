@@ -10,6 +10,7 @@ pub mod Written
 pub mod Sorted
 pub mod File
 pub mod Laws
+pub mod RunsLaw
 pub mod Cursor
 pub mod Reading
 pub mod Standing

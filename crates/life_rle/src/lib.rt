@@ -13,6 +13,8 @@ mod position;
 mod reader;
 mod reading;
 mod sorted;
+#[cfg(test)]
+mod tests;
 mod writing;
 
 pub use file::{RleFile, Run};

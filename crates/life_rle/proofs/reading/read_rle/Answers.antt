@@ -28,10 +28,11 @@ returns-in_err-take_numbered-clause-fault c =
     let fault : Fault = c.in_err-take_numbered.field-0.0 in
     let told : OrMemory fault (Breaks MAX_LEVEL front c.in-Some.line.now fault.kind × (fault.place.line ≡ c.in-Some.number)) = c.in_err-take_numbered.ensures.fault in
     let all : pairs ++ (c.in-Some.number, c.in-Some.line.now) ∷ numbered_from c.next.new.self.number (lines_of c.next.new.self.rest.now) ≡ numbered_from 1 lines =
-        ap (λ (t : List (ℕ × List ℕ)). pairs ++ t) (sym c.in-Some.ensures.steps) ∙ c.loop-number.invariant.all in
+    ap (λ (t : List (ℕ × List ℕ)). pairs ++ t) (sym c.in-Some.ensures.steps) ∙ c.loop-number.invariant.all in
     let answer : OrMemory fault (IsRefusal (IsSomeRle MAX_LEVEL) (Breaks MAX_LEVEL) missing lines fault) = elim told [
-        inl m ↦ inl m
-      | inr w ↦ inr (refused_here MAX_LEVEL lines pairs c.in-Some.number c.in-Some.line.now _ front fault all c.loop-number.invariant.taken w.0 w.1) ] in
+      | inl m ↦ inl m
+      | inr w ↦ inr (refused_here MAX_LEVEL lines pairs c.in-Some.number c.in-Some.line.now _ front fault all c.loop-number.invariant.taken w.0 w.1)
+    ] in
     rw (p.1, p.2) answer
 
 pub returns-in-Ok-clause-file : goal.returns-in-Ok-clause-file
@@ -43,13 +44,17 @@ returns-in-Ok-clause-file c =
     let told = c.in-Ok.ensures.file in
     let file : Rle = told.0 in
     let is : IsRle MAX_LEVEL lines file = subst (λ ls. IsRle MAX_LEVEL ls file) whole told.1 in
-    let runs : HasRuns MAX_LEVEL lines c.loop-number.runs.items = subst (λ ls. HasRuns MAX_LEVEL ls c.loop-number.runs.items) whole c.loop-number.invariant.found in
-    (file, is, subst (λ (v : RleFile). Shows v file) (sym c.file_of.ensures) (record {
+    let runs : HasRuns MAX_LEVEL lines c.loop-number.runs.items = subst (λ ls. HasRuns MAX_LEVEL ls c.loop-number.runs.items) whole c.loop-number.invariant.found in (
+      file,
+      is,
+      subst (λ (v : RleFile). Shows v file) (sym c.file_of.ensures) (record {
         rule = told.2;
         generation = ap (λ (p : Position). p.generation) told.3;
         x = ap (λ (p : Position). p.x) told.3;
         y = ap (λ (p : Position). p.y) told.3;
-        runs = known-runs MAX_LEVEL lines file c.loop-number.runs.items is runs }))
+        runs = known-runs MAX_LEVEL lines file c.loop-number.runs.items is runs;
+      }),
+    )
 
 pub returns-in-Err-clause-fault : goal.returns-in-Err-clause-fault
 returns-in-Err-clause-fault c =
@@ -62,10 +67,11 @@ returns-in-Err-clause-fault c =
     let e : c.at.result ≡ fault_at number kind = c.at.ensures in
     let only : (kind ≡ NoHeader) ⊎ (kind ≡ Spent) = c.in-Err.ensures.only in
     let answer : OrMemory c.at.result (IsRefusal (IsSomeRle MAX_LEVEL) (Breaks MAX_LEVEL) missing lines c.at.result) = elim only [
-        inl m ↦ (let pre = c.in-Err.ensures.missing (ap Err m) in
+      | inl m ↦ (let pre = c.in-Err.ensures.missing (ap Err m) in
           inr (subst (IsRefusal (IsSomeRle MAX_LEVEL) (Breaks MAX_LEVEL) missing lines) (sym e)
-            (refused_at_end MAX_LEVEL lines read pre.0 number c.loop-number.last kind whole pre.1 m c.loop-number.invariant.counted c.saturating_add.ensures)))
-      | inr s ↦ (let refused : c.loop-number.reader.refused ≡ true = c.in-Err.ensures.spent.0 (ap Err s) in let fresh : c.loop-number.reader.refused ≡ false = c.loop-number.invariant.fresh in cc) ] in
+          (refused_at_end MAX_LEVEL lines read pre.0 number c.loop-number.last kind whole pre.1 m c.loop-number.invariant.counted c.saturating_add.ensures)))
+      | inr s ↦ (let refused : c.loop-number.reader.refused ≡ true = c.in-Err.ensures.spent.0 (ap Err s) in let fresh : c.loop-number.reader.refused ≡ false = c.loop-number.invariant.fresh in cc)
+    ] in
     answer
 
 pub loop-number-init : goal.loop-number-init
@@ -78,7 +84,8 @@ loop-number-init c =
       taken = none;
       fresh = ap (λ (v : LinesRead). v.refused) e;
       found = no_runs MAX_LEVEL c.new-reader.result.lines c.new-runs.result.items none c.new-runs.ensures.items;
-      counted = omega arith }
+      counted = omega arith;
+    }
 
 pub loop-number-preserved : goal.loop-number-preserved
 loop-number-preserved c =
@@ -100,4 +107,5 @@ loop-number-preserved c =
       taken = new ∙ ap (λ ls. ls ++ line ∷ []) c.loop-number.invariant.taken ∙ sym (ap texts more ∙ map-append (λ (p : ℕ × List ℕ). p.1) pairs here);
       fresh = ap (λ (v : LinesRead). v.refused) e;
       found = c.in_ok-take_numbered.ensures.runs c.loop-number.invariant.found;
-      counted = omega (arith, number_at lines pairs 1 c.in-Some.number line rest (omega arith) all, length_texts pairs, long, same) }
+      counted = omega (arith, number_at lines pairs 1 c.in-Some.number line rest (omega arith) all, length_texts pairs, long, same);
+    }

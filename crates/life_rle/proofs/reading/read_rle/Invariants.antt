@@ -10,9 +10,9 @@ numbered p = (p.0, p.1.now)
 
 abbrev pub invariant-loop-number : goal.invariant-loop-number
 invariant-loop-number l = record {
-    all : map numbered l.yielded ++ numbered_from l.number-iterator.number (lines_of l.number-iterator.rest.now) ≡ numbered_from 1 (lines_of l.bytes);
-    taken : l.reader.lines ≡ texts (map numbered l.yielded);
-    fresh : l.reader.refused ≡ false;
-    found : HasRuns MAX_LEVEL l.reader.lines l.runs.items;
-    counted : l.last ≡ min (length l.reader.lines) (2 ^ 64 - 1)
-  }
+  all : map numbered l.yielded ++ numbered_from l.number-iterator.number (lines_of l.number-iterator.rest.now) ≡ numbered_from 1 (lines_of l.bytes);
+  taken : l.reader.lines ≡ texts (map numbered l.yielded);
+  fresh : l.reader.refused ≡ false;
+  found : HasRuns MAX_LEVEL l.reader.lines l.runs.items;
+  counted : l.last ≡ min (length l.reader.lines) (2 ^ 64 - 1);
+}

@@ -24,9 +24,13 @@ returns-in-Err-clause-fault c =
     let e : c.at.result ≡ fault_at number kind = c.at.ensures in
     let told : (kind ≡ Memory) ⊎ (kind ≡ Spent) ⊎ Breaks MAX_LEVEL lines line kind = c.in-Err.ensures.fault in
     let answer : OrMemory c.at.result (Breaks MAX_LEVEL lines line c.at.result.kind × (c.at.result.place.line ≡ number)) = elim told [
-        inl m ↦ inl (e ∙ ap (fault_at number) m)
+      | inl m ↦ inl (e ∙ ap (fault_at number) m)
       | inr t ↦ elim t [
-          inl s ↦ (let r : c.args.reader.now.refused ≡ true = c.in-Err.ensures.spent.0 (ap Err s) in let q : c.args.reader.now.refused ≡ false = c.requires in cc)
-        | inr b ↦ inr (subst (Breaks MAX_LEVEL lines line) (sym (ap (λ (f : Fault). f.kind) e)) b,
-            ap (λ (f : Fault). f.place.line) e ∙ ap (λ v. cond v 0 number) (Breaks-placed MAX_LEVEL lines line kind b)) ] ] in
+        | inl s ↦ (let r : c.args.reader.now.refused ≡ true = c.in-Err.ensures.spent.0 (ap Err s) in let q : c.args.reader.now.refused ≡ false = c.requires in cc)
+        | inr b ↦ inr (
+          subst (Breaks MAX_LEVEL lines line) (sym (ap (λ (f : Fault). f.kind) e)) b,
+          ap (λ (f : Fault). f.place.line) e ∙ ap (λ v. cond v 0 number) (Breaks-placed MAX_LEVEL lines line kind b),
+        )
+      ]
+    ] in
     answer
