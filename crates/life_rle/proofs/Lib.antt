@@ -20,4 +20,5 @@ pub mod ReadPosition
 pub mod LineKinds
 pub mod Stands
 pub mod RunsLaws
+pub mod DecidedLaw
 pub mod ReadInputs

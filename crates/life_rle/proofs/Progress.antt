@@ -200,7 +200,7 @@ later_step-Stands level lines file line (Err kind) b e = tt
 later_step-Stands level lines file line (Ok Passed) b e = subst (IsUnmarked level (lines ++ line ∷ [])) (with_items-nil file) (IsUnmarked-push level lines file line [] b (inl (e, refl, refl)) refl)
 later_step-Stands level lines file line (Ok Data) b e = after_items-Stands level lines file line (line_items level line) (line_last level line) (items_fault level file (line_items level line) (line_last level line)) b e (line-Spells level (length line) line) refl
 
-step-Stands : (level : ℕ) (lines : List (List ℕ)) (p : Progress) (line : List ℕ) → Stands level lines p → Stands level (lines ++ line ∷ []) (step level p line)
+pub step-Stands : (level : ℕ) (lines : List (List ℕ)) (p : Progress) (line : List ℕ) → Stands level lines p → Stands level (lines ++ line ∷ []) (step level p line)
 step-Stands level lines (Before o) line h = open_step-Stands level lines o line (opening_of level line) h refl
 step-Stands level lines (Begun file) line h = later_step-Stands level lines file line (later_of line) h refl
 step-Stands level lines (Ended file) line h = IsMarked-push level lines file line h

@@ -52,10 +52,11 @@ some_count n e = grind (arith, nat_tests)
 counted-count : (level : ℕ) (digits bytes : List ℕ) → HasCount (counted level digits bytes)
 counted-count level [] bytes = item_behind-count 1 bytes (omega arith)
 counted-count level (d ∷ digits) bytes =
-    elim (eqb (value_of (d ∷ digits)) 0) as (λ t. eqb (value_of (d ∷ digits)) 0 ≡ t → HasCount (cond t (Broken ZeroCount) (cond (ltb (2 ^ level) (value_of (d ∷ digits))) (Broken TooLarge) (item_behind (value_of (d ∷ digits)) bytes))))
-    [ true ↦ λ e. tt
-    | false ↦ λ e. elim (ltb (2 ^ level) (value_of (d ∷ digits))) as (λ t. HasCount (cond t (Broken TooLarge) (item_behind (value_of (d ∷ digits)) bytes)))
-      [ true ↦ tt | false ↦ item_behind-count (value_of (d ∷ digits)) bytes (some_count (value_of (d ∷ digits)) e) ] ] refl
+    elim (eqb (value_of (d ∷ digits)) 0) as (λ t. eqb (value_of (d ∷ digits)) 0 ≡ t → HasCount (cond t (Broken ZeroCount) (cond (ltb (2 ^ level) (value_of (d ∷ digits))) (Broken TooLarge) (item_behind (value_of (d ∷ digits)) bytes)))) [
+      | true ↦ λ e. tt
+      | false ↦ λ e. elim (ltb (2 ^ level) (value_of (d ∷ digits))) as (λ t. HasCount (cond t (Broken TooLarge) (item_behind (value_of (d ∷ digits)) bytes)))
+          [ true ↦ tt | false ↦ item_behind-count (value_of (d ∷ digits)) bytes (some_count (value_of (d ∷ digits)) e) ]
+    ] refl
 
 item_in-count : (level : ℕ) (bytes : List ℕ) → HasCount (item_in level bytes)
 item_in-count level [] = tt
@@ -147,9 +148,10 @@ runs-good : (level : ℕ) (rule : Rule) (left column row : ℤ) (items : List It
     → Good level rule left column row items → AreGoodRuns level rule (runs_of (placed_from left column row items))
 runs-good level rule left column row [] l x y g = tt
 runs-good level rule left column row (Cells n zero ∷ items) l x y g = runs-good level rule left (column +ℤ pos n) row items l (further (neg_ℤ (edge level)) column n x) y g.4
-runs-good level rule left column row (Cells n (suc s) ∷ items) l x y g =
-    (record { some = g.0; left = x; right = g.3; top = y; bottom = g.2; state = g.1; live = omega arith },
-     runs-good level rule left (column +ℤ pos n) row items l (further (neg_ℤ (edge level)) column n x) y g.4)
+runs-good level rule left column row (Cells n (suc s) ∷ items) l x y g = (
+  record { some = g.0; left = x; right = g.3; top = y; bottom = g.2; state = g.1; live = omega arith },
+  runs-good level rule left (column +ℤ pos n) row items l (further (neg_ℤ (edge level)) column n x) y g.4,
+)
 runs-good level rule left column row (RowEnds n ∷ items) l x y g = runs-good level rule left left (row +ℤ pos n) items l l (further (neg_ℤ (edge level)) row n y) g.1
 
 -- runs stand behind a place
@@ -163,11 +165,13 @@ Later column row column' row' = (row <ℤ row') ⊎ ((row ≡ row') × (column �
 
 Behind-later : (column row column' row' : ℤ) (runs : List Run) → Later column row column' row' → Behind column' row' runs → Behind column row runs
 Behind-later column row column' row' [] h b = tt
-Behind-later column row column' row' (run ∷ runs) h b =
-    (elim h as (λ _. (row <ℤ run.y) ⊎ ((row ≡ run.y) × (column ≤ℤ run.x))) [
-       inl less ↦ elim b.0 [ inl u ↦ inl (omega (arith, ints, less, u)) | inr u ↦ inl (omega (arith, ints, less, u.0)) ]
-     | inr same ↦ elim b.0 [ inl u ↦ inl (omega (arith, ints, same.0, u)) | inr u ↦ inr (same.0 ∙ u.0, omega (arith, ints, same.1, u.1)) ] ],
-     Behind-later column row column' row' runs h b.1)
+Behind-later column row column' row' (run ∷ runs) h b = (
+  elim h as (λ _. (row <ℤ run.y) ⊎ ((row ≡ run.y) × (column ≤ℤ run.x))) [
+    | inl less ↦ elim b.0 [ inl u ↦ inl (omega (arith, ints, less, u)) | inr u ↦ inl (omega (arith, ints, less, u.0)) ]
+    | inr same ↦ elim b.0 [ inl u ↦ inl (omega (arith, ints, same.0, u)) | inr u ↦ inr (same.0 ∙ u.0, omega (arith, ints, same.1, u.1)) ]
+  ],
+  Behind-later column row column' row' runs h b.1,
+)
 
 same-place : (z : ℤ) → z ≤ℤ z
 same-place z = omega (arith, ints)
@@ -194,9 +198,10 @@ before-all run (next ∷ runs) b = (b.0, before-all run runs b.1)
 runs-order : (level : ℕ) (rule : Rule) (left column row : ℤ) (items : List Item) → Good level rule left column row items → AreInOrder (runs_of (placed_from left column row items))
 runs-order level rule left column row [] g = tt
 runs-order level rule left column row (Cells n zero ∷ items) g = runs-order level rule left (column +ℤ pos n) row items g.4
-runs-order level rule left column row (Cells n (suc s) ∷ items) g =
-    (before-all (record { x = column; y = row; len = n; state = suc s }) (runs_of (placed_from left (column +ℤ pos n) row items)) (runs-Behind level rule left (column +ℤ pos n) row items g.4),
-     runs-order level rule left (column +ℤ pos n) row items g.4)
+runs-order level rule left column row (Cells n (suc s) ∷ items) g = (
+  before-all (record { x = column; y = row; len = n; state = suc s }) (runs_of (placed_from left (column +ℤ pos n) row items)) (runs-Behind level rule left (column +ℤ pos n) row items g.4),
+  runs-order level rule left (column +ℤ pos n) row items g.4,
+)
 runs-order level rule left column row (RowEnds n ∷ items) g = runs-order level rule left left (row +ℤ pos n) items g.1
 
 -- ---- their cells
@@ -206,8 +211,9 @@ before-zero : (column row : ℤ) (runs : List Run) (x y : ℤ) → Behind column
 before-zero column row [] x y b h = refl
 before-zero column row (run ∷ runs) x y b h =
     let off : has_cell run x y ≡ false = elim b.0 as (λ _. has_cell run x y ≡ false) [
-        inl u ↦ elim h [ inl v ↦ grind (arith, ints) | inr v ↦ grind (arith, ints) ]
-      | inr u ↦ elim h [ inl v ↦ grind (arith, ints) | inr v ↦ grind (arith, ints) ] ] in
+      | inl u ↦ elim h [ inl v ↦ grind (arith, ints) | inr v ↦ grind (arith, ints) ]
+      | inr u ↦ elim h [ inl v ↦ grind (arith, ints) | inr v ↦ grind (arith, ints) ]
+    ] in
     ap (λ t. cond t run.state (state_by runs x y)) off ∙ before-zero column row runs x y b.1 h
 
 dead : (covers : Bool) (n : ℕ) → (covers ≡ true → n ≡ 0) → cond covers 0 n ≡ n
@@ -259,10 +265,11 @@ runs_are_cells level lines file r =
     let plane = IsRle-plane level lines file r in
     let x = low-side (edge level) file.position.x plane.0 in
     let y = low-side (edge level) file.position.y plane.1 in
-    let e = sym (placed-from file) in
-    (subst (λ (ps : List Placed). AreGoodRuns level file.rule (runs_of ps)) e (runs-good level file.rule file.position.x file.position.x file.position.y file.items x x y good),
-     subst (λ (ps : List Placed). AreInOrder (runs_of ps)) e (runs-order level file.rule file.position.x file.position.x file.position.y file.items good),
-     λ x y. subst (λ (ps : List Placed). cell_among ps x y ≡ state_by (runs_of ps) x y) e (cells-runs level file.rule file.position.x file.position.x file.position.y file.items x y good))
+    let e = sym (placed-from file) in (
+      subst (λ (ps : List Placed). AreGoodRuns level file.rule (runs_of ps)) e (runs-good level file.rule file.position.x file.position.x file.position.y file.items x x y good),
+      subst (λ (ps : List Placed). AreInOrder (runs_of ps)) e (runs-order level file.rule file.position.x file.position.x file.position.y file.items good),
+      λ x y. subst (λ (ps : List Placed). cell_among ps x y ≡ state_by (runs_of ps) x y) e (cells-runs level file.rule file.position.x file.position.x file.position.y file.items x y good),
+    )
 
 outside-zero : (level : ℕ) (rule : Rule) (runs : List Run) (x y : ℤ) → AreGoodRuns level rule runs → IsOutside level x y → state_by runs x y ≡ 0
 outside-zero level rule [] x y g h = refl

@@ -11,6 +11,7 @@ pub mod Sorted
 pub mod File
 pub mod Laws
 pub mod RunsLaw
+pub mod Decided
 pub mod Cursor
 pub mod Reading
 pub mod Standing

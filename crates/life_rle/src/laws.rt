@@ -1,6 +1,7 @@
 //! Laws over the definitions alone.
 
 ghost use Rattle.life_rle.specs.Laws.{IsOneRle, BreaksForGood, StatesReadBack};
+ghost use Rattle.life_rle.specs.Decided.{IsDecided};
 ghost use Rattle.life_rle.specs.RunsLaw.{RunsAreCells, IsBlankOutside};
 
 /// Lines are an RLE file of at most one pattern.
@@ -21,11 +22,14 @@ pub fn states_read_back()
 /// The runs of a file lie in the plane, in order and apart, and its cells are what they say.
 pub fn runs_are_cells()
     ensures { RunsAreCells }
-{
-}
+{}
 
 /// Every cell outside the plane has state 0.
 pub fn blank_outside()
     ensures { IsBlankOutside }
-{
-}
+{}
+
+/// Lines are a file, or lack a header, or one of them breaks a rule: exactly one of the three.
+pub fn decided()
+    ensures { IsDecided }
+{}

@@ -171,15 +171,18 @@ fn files_are_read_by_the_format(rt: HostRuntime) -> Result<(), Fail> {
 }
 
 /// A header, a data line of this length, and a further line of that length.
-fn long_input(alloc: Global, front: &[u8], length: usize, next: usize) -> Result<Vec<u8>, Kind> {
+fn long_input(alloc: Global, front: &[u8], length: u32, next: u32) -> Result<Vec<u8>, Kind> {
     let mut input = Vec::new(alloc);
     append(&mut input, b"x = 1, y = 1\n")?;
     append(&mut input, front)?;
-    if input.resize(13 + length, b' ').is_err() {
+    if input.resize(13 + length as usize, b' ').is_err() {
         return Err(Kind::Memory);
     }
     append(&mut input, b"\n")?;
-    if input.resize(14 + length + next, b'0').is_err() {
+    if input
+        .resize(14 + length as usize + next as usize, b'0')
+        .is_err()
+    {
         return Err(Kind::Memory);
     }
     Ok(input)
@@ -187,7 +190,7 @@ fn long_input(alloc: Global, front: &[u8], length: usize, next: usize) -> Result
 
 #[test]
 fn a_line_has_at_most_a_mebibyte(rt: HostRuntime) -> Result<(), Fail> {
-    let most = 1 << 20;
+    let most = 1u32 << 20;
     for (front, length, next, answer) in [
         ("o!", most, 0, "B3/S23 0 0,0 0,0,1,1"),
         ("o!", most + 1, 0, "2 LineTooLong"),
