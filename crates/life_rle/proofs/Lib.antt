@@ -21,4 +21,5 @@ pub mod LineKinds
 pub mod Stands
 pub mod RunsLaws
 pub mod DecidedLaw
+pub mod Rows
 pub mod ReadInputs
