@@ -13,3 +13,5 @@ pub mod WritingLemmas
 pub mod RuleKinds
 pub mod RuleTexts
 pub mod RuleValues
+pub mod WordEnds
+pub mod EmptyValues

@@ -9,3 +9,4 @@ pub mod Devices
 pub mod DeviceState
 pub mod Inputs
 pub mod Writing
+pub mod Words

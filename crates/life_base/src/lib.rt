@@ -9,6 +9,7 @@ mod items;
 mod kind;
 pub mod laws;
 mod line_iterator;
+mod line_log;
 mod reading;
 mod rule;
 mod rule_reading;
@@ -16,6 +17,7 @@ mod rule_text;
 #[cfg(test)]
 mod tests;
 mod text;
+mod words;
 mod writing;
 
 pub use cell::{Cell, MAX_LEVEL, State};
@@ -24,6 +26,7 @@ pub use fault::{Fault, Place, StepFault};
 pub use items::Items;
 pub use kind::Kind;
 pub use line_iterator::Lines;
+pub use line_log::LineLog;
 pub use reading::read_within;
 pub use rule::{LifeRule, Name, Rule};
 pub use rule_text::append;
@@ -31,4 +34,5 @@ pub use text::{
     begins_with, is_blank, is_digit_text, is_whitespace, lines, read_i64, read_u64, trimmed,
     trimmed_start,
 };
+pub use words::split_word;
 pub use writing::{deliver, write_text, write_texts};

@@ -1,0 +1,124 @@
+-- Each rule that a line breaks is one of a line, and what a line is before the header stands in the plane.
+use Rattle.std.proofs.Common.{◌≡◌, ℕ, Bool, true, false, not, cond, ◌&&◌, ◌||◌, List, [], ◌∷◌, ◌++◌, refl, sym, ◌∙◌, subst, inl, inr, Some, None, Ok, Err, Option, Result, ℤ, pos, ◌+ℤ◌, arith, codes, w64}
+use mir.Val.{to_z, of_z}
+use Rattle.std.proofs.lemmas.Int.{ints, to_z-of_z}
+use Rattle.std.specs.Prelude.{int_lt, int_le}
+use Rattle.life_base.specs.declared.kind.Kind.{Kind}
+use Rattle.life_base.specs.declared.kind.Kind.TheVariants.{LineTooLong, NoHeader, LateHeader, SecondHeader, BadRule, BoundedGrid, UnsupportedRule, BirthOnZero, StateRange, OutOfPlane}
+use Rattle.life_base.specs.declared.rule.Rule.{Rule}
+use Rattle.life_base.specs.Rules.{rule_of}
+use Rattle.life_base.specs.Rules.{is_rule_kind}
+use Rattle.life_base.proofs.RuleKinds.{rule_kind}
+use Rattle.life_base.specs.Refusal.{is_placeless, Answers}
+use Rattle.life_base.specs.declared.cell.TheConstants.{MAX_LEVEL}
+use Rattle.life_base.specs.Text.{is_too_long, is_blank, begins_with}
+use Rattle.life_rle.specs.declared.item.Item.{Item}
+use Rattle.life_rle.specs.declared.item.Item.TheVariants.{Cells, RowEnds}
+use Rattle.life_rle.specs.Items.{Broken, Spells}
+use Rattle.life_rle.specs.declared.position.Position.{Position}
+use Rattle.life_rle.specs.Position.{and_then, is_position_line, position_of}
+use Rattle.life_rle.specs.Plane.{edge, is_coordinate}
+use Rattle.life_rle.specs.Header.{header_form, rule_in, header_of}
+use Rattle.life_rle.specs.Pattern.{item_fault, rows_in, columns_in}
+use Rattle.life_rle.specs.States.{is_state_of}
+use Rattle.life_rle.specs.declared.opening.Opening.{Opening}
+use Rattle.life_rle.specs.declared.opening.Opening.TheVariants.{Comment, PositionLine, Header}
+use Rattle.life_rle.specs.Grammar.{opening_of, later_of, Breaks, before_header, by_form, by_text, by_item}
+use Rattle.life_rle.specs.declared.opening.Later.{Later}
+use Rattle.life_rle.specs.declared.opening.Later.TheVariants.{Passed, Data}
+use Rattle.life_rle.proofs.ReadItems.{Broken-placed}
+use Rattle.life_rle.proofs.Advance.{IsInPlane, IsPlanePosition, position_of-plane}
+
+abbrev IsPlaced : {A : Type 0} → Result A Kind → Type 0
+IsPlaced (Ok a) = Unit {0}
+IsPlaced (Err kind) = is_placeless kind ≡ false
+
+rule-kind_placed : (kind : Kind) → is_rule_kind kind ≡ true → is_placeless kind ≡ false
+rule-kind_placed BadRule h = refl
+rule-kind_placed BoundedGrid h = refl
+rule-kind_placed UnsupportedRule h = refl
+rule-kind_placed BirthOnZero h = refl
+rule-kind_placed _ h = cc
+
+rule-placed_as : (text : List ℕ) (r : Result Rule Kind) → rule_of text ≡ r → IsPlaced r
+rule-placed_as text (Ok rule) e = tt
+rule-placed_as text (Err kind) e = rule-kind_placed kind (rule_kind text kind e)
+
+rule-placed : (text : List ℕ) → IsPlaced (rule_of text)
+rule-placed text = rule-placed_as text (rule_of text) refl
+
+header-placed : (o : Option (Option (List ℕ))) → IsPlaced (rule_in o)
+header-placed None = refl
+header-placed (Some None) = tt
+header-placed (Some (Some text)) = rule-placed text
+
+abbrev pub IsTameOpening : ℕ → Result Opening Kind → Type 0
+IsTameOpening level (Ok Comment) = Unit {0}
+IsTameOpening level (Ok (PositionLine o)) = IsInPlane level o
+IsTameOpening level (Ok (Header rule)) = Unit {0}
+IsTameOpening level (Err kind) = is_placeless kind ≡ false
+
+opening-choice : (level : ℕ) (long blank position comment header : Bool) (p h : Result Opening Kind) → IsTameOpening level p → IsTameOpening level h
+    → IsTameOpening level (cond long (Err LineTooLong) (cond blank (Ok Comment) (cond position p (cond comment (Ok Comment) (cond header h (Err NoHeader))))))
+opening-choice level true b c d e p h tp th = refl
+opening-choice level false true c d e p h tp th = tt
+opening-choice level false false true d e p h tp th = tp
+opening-choice level false false false true e p h tp th = tt
+opening-choice level false false false false true p h tp th = th
+opening-choice level false false false false false p h tp th = refl
+
+position-tame : (level : ℕ) (r : Result Position Kind) → IsPlanePosition level r → IsTameOpening level (and_then r (λ position. Ok (PositionLine position)))
+position-tame level (Ok o) h = h
+position-tame level (Err kind) h = h
+
+header-tame : (level : ℕ) (r : Result Rule Kind) → IsPlaced r → IsTameOpening level (and_then r (λ rule. Ok (Header rule)))
+header-tame level (Ok rule) h = tt
+header-tame level (Err kind) h = h
+
+pub opening-tame : (level : ℕ) (line : List ℕ) → IsTameOpening level (opening_of level line)
+opening-tame level line =
+    opening-choice level (is_too_long line) (is_blank line) (is_position_line line) (begins_with line (codes "#")) (begins_with line (codes "x"))
+    (and_then (position_of level line) (λ position. Ok (PositionLine position))) (and_then (header_of line) (λ rule. Ok (Header rule)))
+    (position-tame level (position_of level line) (position_of-plane level line)) (header-tame level (header_of line) (header-placed (header_form line)))
+
+later-choice : (long blank position comment header : Bool) → IsPlaced (cond long (Err LineTooLong) (cond blank (Ok Passed) (cond position (Err LateHeader) (cond comment (Ok Passed) (cond header (Err SecondHeader) (Ok Data))))))
+later-choice true b c d e = refl
+later-choice false true c d e = tt
+later-choice false false true d e = refl
+later-choice false false false true e = tt
+later-choice false false false false true = refl
+later-choice false false false false false = tt
+
+later-placed : (line : List ℕ) → IsPlaced (later_of line)
+later-placed line = later-choice (is_too_long line) (is_blank line) (is_position_line line) (begins_with line (codes "#")) (begins_with line (codes "x ") || begins_with line (codes "x="))
+
+text-placed : (level : ℕ) (items : List Item) (bytes : List ℕ) (kind : Kind) → Spells level bytes items (Broken kind) → is_placeless kind ≡ false
+text-placed level [] bytes kind h = Broken-placed level bytes kind h
+text-placed level (item ∷ items) bytes kind h = text-placed level items h.0 kind h.2
+
+abbrev IsLive : Option Kind → Type 0
+IsLive None = Unit {0}
+IsLive (Some kind) = is_placeless kind ≡ false
+
+cells-choice : (state inside : Bool) → IsLive (cond state (Some StateRange) (cond inside None (Some OutOfPlane)))
+cells-choice true inside = refl
+cells-choice false true = tt
+cells-choice false false = refl
+
+item-placed : (level : ℕ) (rule : Rule) (row column : ℤ) (item : Item) → IsLive (item_fault level rule row column item)
+item-placed level rule row column (Cells n s) = cells-choice (not (is_state_of rule s)) (int_lt row (edge level) && int_le (column +ℤ pos n) (edge level))
+item-placed level rule row column (RowEnds n) = elim (int_le (row +ℤ pos n) (edge level)) as (λ t. IsLive (cond t None (Some OutOfPlane))) [ true ↦ tt | false ↦ refl ]
+
+pub Breaks-placed : (level : ℕ) (front : List (List ℕ)) (line : List ℕ) (kind : Kind) → Breaks level front line kind → is_placeless kind ≡ false
+Breaks-placed level front line kind (before_header o h e) = subst (IsTameOpening level) e (opening-tame level line)
+Breaks-placed level front line kind (by_form file h e) = let P : Result Later Kind → Type 0 = λ r. IsPlaced r in subst P e (later-placed line)
+Breaks-placed level front line kind (by_text file items h form s sound) = text-placed level items line kind s
+Breaks-placed level front line kind (by_item file items item rest h form s sound fault) = subst IsLive fault (item-placed level file.rule (file.position.y +ℤ pos (rows_in (file.items ++ items))) (file.position.x +ℤ pos (columns_in (file.items ++ items))) item)
+
+pub same_place : (z : ℤ) → is_coordinate MAX_LEVEL z ≡ true → to_z w64 (of_z w64 z) ≡ z
+same_place z e = grind (arith, ints, to_z-of_z)
+
+-- an answer that isn't want of memory is the definition's
+pub answered : {X : Type 0} (r expected : Result X Kind) (x : X) → r ≡ Ok x → Answers r expected → expected ≡ Ok x
+answered r expected x e (inl m) = cc
+answered r expected x e (inr h) = sym h ∙ e

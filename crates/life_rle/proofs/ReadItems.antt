@@ -1,0 +1,132 @@
+-- Reading the items of a line: one more item.
+use Rattle.std.proofs.Common.{◌≡◌, ℕ, zero, suc, ◌^◌, ◌≤◌, true, false, cond, List, [], ◌∷◌, ◌++◌, refl, sym, ap, ◌∙◌, append_assoc, subst, Some, None, Option, arith, eqb, ltb, ℤ}
+use Rattle.std.proofs.lemmas.Bool.Decides.{nat_tests}
+use Rattle.life_base.specs.declared.kind.Kind.{Kind}
+use Rattle.life_base.specs.declared.kind.Kind.TheVariants.{ZeroCount, TooLarge}
+use Rattle.life_base.specs.Text.{trim_start, value_of}
+use Rattle.life_base.specs.Refusal.{is_placeless}
+use Rattle.life_base.specs.declared.rule.Rule.{Rule}
+use Rattle.life_rle.specs.declared.cursor.Cursor.{Cursor}
+use Rattle.life_rle.specs.declared.item.Item.{Item}
+use Rattle.life_rle.specs.declared.file.Run.{Run}
+use Rattle.life_rle.specs.States.{state_at}
+use Rattle.life_rle.specs.declared.item.Item.TheVariants.{Cells, RowEnds}
+use Rattle.life_rle.specs.Items.{front_digits, behind_digits, Next, End, Mark, Spelled, Broken, cells_of, item_behind, counted, item_in, next_of, Spells}
+use Rattle.life_rle.specs.Pattern.{Placed, item_fault, first_fault, first_kind}
+use Rattle.life_rle.specs.Runs.{with_run, runs_of}
+use Rattle.life_rle.specs.Cursor.{IsNear, item_count, moved, moved_behind, placed_at}
+use Rattle.life_rle.specs.Reading.{IsRead, ReadsItems}
+use Rattle.life_rle.proofs.Shrinks.{Spells-push}
+use Rattle.life_rle.proofs.Progress.{first_fault-append}
+use Rattle.life_rle.proofs.PlaneLemmas.{power-positive}
+
+-- counts are within the limit, and a fault is that of a line
+abbrev pub IsTame : ℕ → Next → Type 0
+IsTame level End = Unit {0}
+IsTame level Mark = Unit {0}
+IsTame level (Spelled item rest) = item_count item ≤ 2 ^ level
+IsTame level (Broken kind) = is_placeless kind ≡ false
+
+cells_of-tame : (level n : ℕ) (o : Option (ℕ × List ℕ)) → n ≤ 2 ^ level → IsTame level (cells_of n o)
+cells_of-tame level n None h = refl
+cells_of-tame level n (Some found) h = h
+
+item_behind-tame : (level n : ℕ) (bytes : List ℕ) → n ≤ 2 ^ level → IsTame level (item_behind n bytes)
+item_behind-tame level n [] h = refl
+item_behind-tame level n (b ∷ bytes) h =
+    elim (eqb b 36) as (λ t. IsTame level (cond t (Spelled (RowEnds n) bytes) (cells_of n (state_at (b ∷ bytes)))))
+    [ true ↦ h | false ↦ cells_of-tame level n (state_at (b ∷ bytes)) h ]
+
+not_more : (most n : ℕ) → ltb most n ≡ false → n ≤ most
+not_more most n e = grind (arith, nat_tests)
+
+counted-tame : (level : ℕ) (digits bytes : List ℕ) → IsTame level (counted level digits bytes)
+counted-tame level [] bytes = item_behind-tame level 1 bytes (power-positive level)
+counted-tame level (d ∷ digits) bytes =
+    elim (eqb (value_of (d ∷ digits)) 0) as (λ t. IsTame level (cond t (Broken ZeroCount) (cond (ltb (2 ^ level) (value_of (d ∷ digits))) (Broken TooLarge) (item_behind (value_of (d ∷ digits)) bytes)))) [
+      | true ↦ refl
+      | false ↦ elim (ltb (2 ^ level) (value_of (d ∷ digits))) as (λ t. ltb (2 ^ level) (value_of (d ∷ digits)) ≡ t → IsTame level (cond t (Broken TooLarge) (item_behind (value_of (d ∷ digits)) bytes)))
+          [ true ↦ λ _. refl | false ↦ λ h. item_behind-tame level (value_of (d ∷ digits)) bytes (not_more (2 ^ level) (value_of (d ∷ digits)) h) ] refl
+    ]
+
+item_in-tame : (level : ℕ) (bytes : List ℕ) → IsTame level (item_in level bytes)
+item_in-tame level [] = tt
+item_in-tame level (b ∷ bytes) =
+    elim (eqb b 33) as (λ t. IsTame level (cond t Mark (counted level (front_digits (b ∷ bytes)) (behind_digits (b ∷ bytes)))))
+    [ true ↦ tt | false ↦ counted-tame level (front_digits (b ∷ bytes)) (behind_digits (b ∷ bytes)) ]
+
+next_of-tame : (level : ℕ) (bytes : List ℕ) → IsTame level (next_of level bytes)
+next_of-tame level bytes = item_in-tame level (trim_start bytes)
+
+-- the item that was found counts at most the width of the plane
+pub found-small : (level : ℕ) (bytes rest : List ℕ) (item : Item) → Spelled item rest ≡ next_of level bytes → item_count item ≤ 2 ^ level
+found-small level bytes rest item e = subst (IsTame level) (sym e) (next_of-tame level bytes)
+
+pub Broken-placed : (level : ℕ) (bytes : List ℕ) (kind : Kind) → next_of level bytes ≡ Broken kind → is_placeless kind ≡ false
+Broken-placed level bytes kind e = subst (IsTame level) e (next_of-tame level bytes)
+
+pub placed_at-append : (c : Cursor) (xs ys : List Item) → placed_at c (xs ++ ys) ≡ placed_at c xs ++ placed_at (moved_behind c xs) ys
+placed_at-append c [] ys = refl
+placed_at-append c (x ∷ xs) ys = ap (λ (ps : List Placed). record { row = c.y; column = c.x; item = x } ∷ ps) (placed_at-append (moved c x) xs ys)
+
+pub moved_behind-append : (c : Cursor) (xs ys : List Item) → moved_behind c (xs ++ ys) ≡ moved_behind (moved_behind c xs) ys
+moved_behind-append c [] ys = refl
+moved_behind-append c (x ∷ xs) ys = moved_behind-append (moved c x) xs ys
+
+with_run-append : (row column : ℤ) (item : Item) (xs ys : List Run) → with_run row column item (xs ++ ys) ≡ with_run row column item xs ++ ys
+with_run-append row column (Cells count zero) xs ys = refl
+with_run-append row column (Cells count (suc n)) xs ys = refl
+with_run-append row column (RowEnds count) xs ys = refl
+
+pub runs_of-append : (ps qs : List Placed) → runs_of (ps ++ qs) ≡ runs_of ps ++ runs_of qs
+runs_of-append [] qs = refl
+runs_of-append (p ∷ ps) qs = ap (with_run p.row p.column p.item) (runs_of-append ps qs) ∙ with_run-append p.row p.column p.item (runs_of ps) (runs_of qs)
+
+-- nothing read yet
+pub read_none : (level : ℕ) (rule : Rule) (from : Cursor) (line : List ℕ) → IsNear level from → IsRead level rule from line [] (next_of level line) from []
+read_none level rule from line near = record { spelled = refl; sound = refl; cursor = refl; near = near; runs = refl }
+
+-- one more item
+pub read_more : (level : ℕ) (rule : Rule) (from now : Cursor) (line rest : List ℕ) (items : List Item) (found more : List Run) (item : Item) (next : Cursor)
+    → IsRead level rule from line items (Spelled item rest) now found → item_fault level rule now.y now.x item ≡ None
+    → next ≡ moved now item → IsNear level next → more ≡ found ++ with_run now.y now.x item []
+    → IsRead level rule from line (items ++ item ∷ []) (next_of level rest) next more
+read_more level rule from now line rest items found more item next h sound moves near adds =
+    let i = item in
+    let here : Cursor = moved_behind from items in
+    let fault : item_fault level rule here.y here.x i ≡ None = subst (λ (c : Cursor). item_fault level rule c.y c.x i ≡ None) h.cursor sound in
+    let one : List Placed = record { row = here.y; column = here.x; item = i } ∷ [] in
+    let all : placed_at from (items ++ i ∷ []) ≡ placed_at from items ++ one = placed_at-append from items (i ∷ []) in
+    record {
+      spelled = Spells-push level items line i rest h.spelled;
+      sound = ap (first_fault level rule) all ∙ first_fault-append level rule (placed_at from items) one
+          ∙ ap (λ k. first_kind k (first_kind (item_fault level rule here.y here.x i) None)) h.sound ∙ ap (λ k. first_kind k None) fault;
+      cursor = moves ∙ ap (λ c. moved c i) h.cursor ∙ sym (moved_behind-append from items (i ∷ []));
+      near = near;
+      runs = adds ∙ ap (λ (rs : List Run). rs ++ with_run now.y now.x i []) h.runs
+          ∙ ap (λ (c : Cursor). runs_of (placed_at from items) ++ with_run c.y c.x i []) h.cursor
+          ∙ sym (ap runs_of all ∙ runs_of-append (placed_at from items) one);
+    }
+
+-- the same next under another name
+pub spelled-as : (level : ℕ) (line : List ℕ) (items : List Item) (next other : Next) → Spells level line items next → next ≡ other → Spells level line items other
+spelled-as level line items next other h e = subst (Spells level line items) e h
+
+pub read-as : (level : ℕ) (rule : Rule) (from : Cursor) (line : List ℕ) (items : List Item) (next other : Next) (now : Cursor) (found : List Run) → IsRead level rule from line items next now found → next ≡ other → IsRead level rule from line items other now found
+read-as level rule from line items next other now found h e = subst (λ n. IsRead level rule from line items n now found) e h
+
+-- one more item, its run behind those that were there
+pub reads_more : (level : ℕ) (rule : Rule) (from now : Cursor) (line rest : List ℕ) (before found more : List Run) (item : Item) (next : Cursor)
+    → ReadsItems level rule from line (Spelled item rest) now before found → item_fault level rule now.y now.x item ≡ None
+    → next ≡ moved now item → IsNear level next → more ≡ found ++ with_run now.y now.x item []
+    → ReadsItems level rule from line (next_of level rest) next before more
+reads_more level rule from now line rest before found more item next h sound moves near adds = record {
+  items = h.items ++ item ∷ [];
+  found = h.found ++ with_run now.y now.x item [];
+  read = read_more level rule from now line rest h.items h.found (h.found ++ with_run now.y now.x item []) item next h.read sound moves near refl;
+  added = adds ∙ ap (λ (rs : List Run). rs ++ with_run now.y now.x item []) h.added ∙ append_assoc before h.found (with_run now.y now.x item []);
+}
+
+pub reads-as : (level : ℕ) (rule : Rule) (from : Cursor) (line : List ℕ) (next other : Next) (now : Cursor) (before found : List Run)
+    → ReadsItems level rule from line next now before found → next ≡ other → ReadsItems level rule from line other now before found
+reads-as level rule from line next other now before found h e = subst (λ n. ReadsItems level rule from line n now before found) e h

@@ -1,0 +1,118 @@
+-- The place of a fault: lines that break no rule can be continued, and the first line that breaks one is the place.
+use Rattle.std.proofs.Common.{◌≡◌, ℕ, ◌+◌, ◌≤◌, List, [], ◌∷◌, ◌++◌, length, take, drop, true, false, min, ◌-◌, ◌^◌, refl, sym, ap, ◌∙◌, subst, inl, inr, Some, append_assoc, codes, arith}
+use Rattle.std.proofs.lemmas.List.{append-nil, take-append-drop, take-append-le, length-append}
+use Rattle.std.proofs.Math.Seq.{take-append_seam, get_or-append_seam}
+use Rattle.std.specs.List.{slice_index_or}
+use Rattle.life_base.specs.declared.kind.Kind.{Kind}
+use Rattle.life_base.specs.declared.kind.Kind.TheVariants.{NoHeader}
+use Rattle.life_base.specs.declared.fault.Fault.{Fault}
+use Rattle.life_base.specs.Refusal.{Prefix, kept, continuations, IsPlace, IsRefusal}
+use Rattle.life_rle.specs.declared.position.Position.{Position}
+use Rattle.life_rle.specs.Position.{default_position}
+use Rattle.life_base.specs.Rules.{default_rule}
+use Rattle.life_rle.specs.Pattern.{Rle}
+use Rattle.life_rle.specs.File.{missing}
+use Rattle.life_rle.specs.Grammar.{IsPreamble, IsUnmarked, IsMarked, IsRle, IsSomeRle, Breaks, before_header, by_form, by_text, by_item}
+use Rattle.life_rle.proofs.Progress.{Progress, Before, Begun, Ended, Refused, progress, start, Stands, progress-append, progress-Refused, header-IsUnmarked, lines-Stands}
+use Rattle.life_rle.proofs.Unique.{IsUnmarked-progress, IsMarked-progress, Breaks-no_prefix, Breaks-no_more, IsPreamble-progress}
+
+-- the lines break no rule
+abbrev pub Goes : Progress → Type 0
+Goes (Before position) = Unit {0}
+Goes (Begun file) = Unit {0}
+Goes (Ended file) = Unit {0}
+Goes (Refused kind) = ⊥
+
+Stands-Prefix : (level : ℕ) (lines : List (List ℕ)) (p : Progress) → Stands level lines p → Goes p → Prefix (IsSomeRle level) lines
+Stands-Prefix level lines (Before position) h g = (false ∷ true ∷ [], (_, inl (header-IsUnmarked level lines position (codes "x = 1, y = 1") default_rule h refl)))
+Stands-Prefix level lines (Begun file) h g = ([], (file, inl (subst (λ ls. IsUnmarked level ls file) (sym (append-nil lines)) h)))
+Stands-Prefix level lines (Ended file) h g = ([], (file, inr (subst (λ ls. IsMarked level ls file) (sym (append-nil lines)) h)))
+Stands-Prefix level lines (Refused kind) h g = absurd g
+
+-- lines that break no rule can be continued
+pub Goes-Prefix : (level : ℕ) (lines : List (List ℕ)) → Goes (progress level start lines) → Prefix (IsSomeRle level) lines
+Goes-Prefix level lines g = Stands-Prefix level lines (progress level start lines) (lines-Stands level lines) g
+
+Goes-front_at : (level : ℕ) (p : Progress) (ys : List (List ℕ)) → Goes (progress level p ys) → Goes p
+Goes-front_at level (Before o) ys g = tt
+Goes-front_at level (Begun f) ys g = tt
+Goes-front_at level (Ended f) ys g = tt
+Goes-front_at level (Refused k) ys g = subst Goes (progress-Refused level k ys) g
+
+-- and so can their fronts
+pub Goes-front : (level : ℕ) (xs ys : List (List ℕ)) → Goes (progress level start (xs ++ ys)) → Goes (progress level start xs)
+Goes-front level xs ys g = Goes-front_at level (progress level start xs) ys (subst Goes (progress-append level start xs ys) g)
+
+IsRle-Goes : (level : ℕ) (lines : List (List ℕ)) (file : Rle) → IsRle level lines file → Goes (progress level start lines)
+IsRle-Goes level lines file (inl b) = subst Goes (sym (IsUnmarked-progress level lines file b)) tt
+IsRle-Goes level lines file (inr b) = subst Goes (sym (IsMarked-progress level lines file b)) tt
+
+-- lines that can be continued, by whatever lines, break no rule
+pub Prefix-Goes : (level : ℕ) (lines : List (List ℕ)) → Prefix (IsSomeRle level) lines → Goes (progress level start lines)
+Prefix-Goes level lines p = Goes-front level lines (kept p.0 continuations) (IsRle-Goes level (lines ++ kept p.0 continuations) p.1.0 p.1.1)
+
+Breaks-Goes : (level : ℕ) (front : List (List ℕ)) (line : List ℕ) (kind : Kind) → Breaks level front line kind → Goes (progress level start front)
+Breaks-Goes level front line kind (before_header o h e) = subst Goes (sym (IsPreamble-progress level default_position o front h)) tt
+Breaks-Goes level front line kind (by_form file h e) = subst Goes (sym (IsUnmarked-progress level front file h)) tt
+Breaks-Goes level front line kind (by_text file items h form s sound) = subst Goes (sym (IsUnmarked-progress level front file h)) tt
+Breaks-Goes level front line kind (by_item file items item rest h form s sound fault) = subst Goes (sym (IsUnmarked-progress level front file h)) tt
+
+take-Goes : (level : ℕ) (k : ℕ) (front : List (List ℕ)) → Goes (progress level start front) → Goes (progress level start (take k front))
+take-Goes level k front g = Goes-front level (take k front) (drop k front) (subst (λ ls. Goes (progress level start ls)) (sym (take-append-drop k front)) g)
+
+-- the number of a line behind a front
+behind-length : (front : List (List ℕ)) (line : List ℕ) (rest : List (List ℕ)) → length (front ++ line ∷ rest) ≡ length front + 1 + length rest
+behind-length front line rest = omega (arith, length-append front (line ∷ rest))
+
+behind-whole : (lines front : List (List ℕ)) (line : List ℕ) (rest : List (List ℕ)) → lines ≡ front ++ line ∷ rest → take (length front + 1) lines ≡ front ++ line ∷ []
+behind-whole lines front line rest e =
+    let whole : lines ≡ (front ++ line ∷ []) ++ rest = e ∙ sym (append_assoc front (line ∷ []) rest) in
+    let long : length front + 1 ≡ length (front ++ line ∷ []) = omega (arith, length-append front (line ∷ [])) in
+    rw (whole, long) (take-append_seam (front ++ line ∷ []) rest)
+
+-- the line that breaks a rule is the place
+pub Breaks-IsPlace : (level : ℕ) (lines front : List (List ℕ)) (line : List ℕ) (rest : List (List ℕ)) (kind : Kind) → lines ≡ front ++ line ∷ rest → Breaks level front line kind → IsPlace (IsSomeRle level) lines (length front + 1)
+Breaks-IsPlace level lines front line rest kind e b =
+    let len : length lines ≡ length front + 1 + length rest = ap length e ∙ behind-length front line rest in
+    record {
+      counted = omega arith;
+      within = omega arith;
+      before = λ k h. let short : k ≤ length front = omega arith in
+          let same : take k lines ≡ take k front = ap (take k) e ∙ take-append-le k front (line ∷ rest) short in
+          subst (Prefix (IsSomeRle level)) (sym same) (Goes-Prefix level (take k front) (take-Goes level k front (Breaks-Goes level front line kind b)));
+      here = λ _ p. Breaks-no_prefix level front line kind b (subst (Prefix (IsSomeRle level)) (behind-whole lines front line rest e) p);
+    }
+
+-- so the fault of such a line is the input's fault
+pub Breaks-IsRefusal : (level : ℕ) (lines front : List (List ℕ)) (line : List ℕ) (rest : List (List ℕ)) (fault : Fault) → lines ≡ front ++ line ∷ rest → Breaks level front line fault.kind → fault.place.line ≡ min (length front + 1) (2 ^ 64 - 1) → IsRefusal (IsSomeRle level) (Breaks level) missing lines fault
+Breaks-IsRefusal level lines front line rest fault e b at =
+    let len : length lines ≡ length front + 1 + length rest = ap length e ∙ behind-length front line rest in
+    let less : length front + 1 - 1 ≡ length front = omega arith in
+    let fore : take (length front) lines ≡ front = ap (take (length front)) e ∙ take-append_seam front (line ∷ rest) in
+    let item : slice_index_or lines (length front) [] ≡ line = ap (λ ls. slice_index_or ls (length front) []) e ∙ get_or-append_seam front line rest [] in
+    record {
+      refused = λ (file, h). Breaks-no_more level front line fault.kind rest file b (subst (λ ls. IsRle level ls file) (e ∙ sym (append_assoc front (line ∷ []) rest)) h);
+      n = length front + 1;
+      place = Breaks-IsPlace level lines front line rest fault.kind e b;
+      line = at;
+      at_line = λ _. subst (λ k. Breaks level (take k lines) (slice_index_or lines k []) fault.kind) (sym less) (subst (λ f. Breaks level f (slice_index_or lines (length front) []) fault.kind) (sym fore) (subst (λ l. Breaks level front l fault.kind) (sym item) b));
+      at_end = λ h. absurd (omega arith);
+    }
+
+-- without a header the end of the input is the place
+pub IsPreamble-Prefix : (level : ℕ) (lines : List (List ℕ)) (position : Position) → IsPreamble level default_position lines position → Prefix (IsSomeRle level) lines
+IsPreamble-Prefix level lines position h = Stands-Prefix level lines (Before position) h tt
+
+pub IsPreamble-refused : (level : ℕ) (lines : List (List ℕ)) (position : Position) → IsPreamble level default_position lines position → IsSomeRle level lines → ⊥
+IsPreamble-refused level lines position h (file, inl b) = let x = IsPreamble-progress level default_position position lines h in let y = IsUnmarked-progress level lines file b in cc
+IsPreamble-refused level lines position h (file, inr b) = let x = IsPreamble-progress level default_position position lines h in let y = IsMarked-progress level lines file b in cc
+
+pub IsPreamble-IsRefusal : (level : ℕ) (lines : List (List ℕ)) (position : Position) (fault : Fault) → IsPreamble level default_position lines position → fault.kind ≡ NoHeader → fault.place.line ≡ min (length lines + 1) (2 ^ 64 - 1) → IsRefusal (IsSomeRle level) (Breaks level) missing lines fault
+IsPreamble-IsRefusal level lines position fault h kind at = record {
+  refused = IsPreamble-refused level lines position h;
+  n = length lines + 1;
+  place = record { counted = omega arith; within = omega arith; before = λ k h'. Goes-Prefix level (take k lines) (take-Goes level k lines (subst Goes (sym (IsPreamble-progress level default_position position lines h)) tt)); here = λ long. absurd (omega arith) };
+  line = at;
+  at_line = λ long. absurd (omega arith);
+  at_end = λ _. ap Some (sym kind);
+}

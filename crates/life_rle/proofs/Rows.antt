@@ -1,0 +1,155 @@
+-- Worked examples of the definitions.
+use Rattle.std.proofs.Common.{◌≡◌, subst, ℕ, zero, suc, ◌+◌, List, [], ◌∷◌, ◌++◌, refl, inl, inr, pos, negsuc, neg_ℤ, ◌^◌, replicate, length, true, false, nat_lt, arith, Some, None, Ok, Err, codes}
+use Rattle.std.proofs.lemmas.Bool.Decides.{nat_tests}
+use Rattle.life_base.specs.declared.kind.Kind.TheVariants as kinds
+use Rattle.life_base.specs.declared.kind.Kind.{Kind}
+use Rattle.life_base.specs.declared.rule.Rule.{Rule}
+use Rattle.life_base.specs.Rules.{rule_of, life_sets, default_rule}
+use Rattle.life_base.specs.Text.{lines_of}
+use Rattle.life_rle.specs.declared.file.Run.{Run}
+use Rattle.life_rle.specs.States.{state_at, state_text}
+use Rattle.life_rle.specs.declared.item.Item.{Item}
+use Rattle.life_rle.specs.declared.item.Item.TheVariants.{Cells, RowEnds}
+use Rattle.life_rle.specs.Items.{Next, End, Mark, Spelled, Broken, next_of, Spells}
+use Rattle.life_rle.specs.declared.position.Position.{Position}
+use Rattle.life_rle.specs.Position.{position_of, default_position}
+use Rattle.life_rle.specs.Header.{header_of}
+use Rattle.life_rle.specs.Pattern.{Rle, placed, placed_behind, first_fault, cell}
+use Rattle.life_rle.specs.Runs.{runs_of}
+use Rattle.life_rle.specs.Grammar.{IsPreamble, IsUnmarked, IsMarked, IsRle, Breaks, fault_behind, before_header, by_form, by_text, by_item, opening_of, later_of}
+use Rattle.life_rle.specs.declared.opening.Opening.TheVariants.{PositionLine, Header, Comment}
+use Rattle.life_rle.specs.declared.opening.Later.TheVariants.{Data}
+use Rattle.life_rle.proofs.ReadSteps.{items_read, last_read, line-Spells}
+use Rattle.life_base.specs.declared.cell.TheConstants.{MAX_LEVEL}
+
+abbrev b3s23 : Rule
+b3s23 = default_rule
+
+rule_b3s23 : rule_of (codes "B3/S23") ≡ Ok b3s23
+unfolding rule_of life_sets
+rule_b3s23 = refl
+
+rule_23_3 : rule_of (codes "23/3") ≡ Ok b3s23
+unfolding rule_of life_sets
+rule_23_3 = refl
+
+-- a glider's five cells, with `!`
+abbrev glider : Rle
+glider = record { rule = b3s23; position = default_position; items = Cells 1 0 ∷ Cells 1 1 ∷ RowEnds 1 ∷ Cells 2 0 ∷ Cells 1 1 ∷ RowEnds 1 ∷ Cells 3 1 ∷ [] }
+
+glider-Spells : Spells MAX_LEVEL (codes "bo$2bo$3o!") glider.items Mark
+glider-Spells = line-Spells MAX_LEVEL 7 (codes "bo$2bo$3o!")
+
+glider-IsRle : IsRle MAX_LEVEL (lines_of (codes "x = 3, y = 3, rule = B3/S23\nbo$2bo$3o!\n")) glider
+unfolding rule_of life_sets
+glider-IsRle = inr (record {
+    front = codes "x = 3, y = 3, rule = B3/S23" ∷ []; last = codes "bo$2bo$3o!"; free = []; whole = refl;
+    earlier = []; final = glider.items; items = refl;
+    begun = record { before = []; header = codes "x = 3, y = 3, rule = B3/S23"; body = []; whole = refl; preamble = refl; rule = refl; items = refl; sound = refl };
+    marked = inr (refl, glider-Spells); sound = refl })
+
+glider-runs : runs_of (placed glider) ≡ record { x = pos 1; y = pos 0; len = 1; state = 1 } ∷ record { x = pos 2; y = pos 1; len = 1; state = 1 } ∷ record { x = pos 0; y = pos 2; len = 3; state = 1 } ∷ []
+glider-runs = refl
+
+glider-cell : cell glider (pos 2) (pos 1) ≡ 1
+glider-cell = refl
+
+glider-cell_dead : cell glider (pos 1) (pos 1) ≡ 0
+glider-cell_dead = refl
+
+-- a position line
+far_left : position_of MAX_LEVEL (codes "#CXRLE Pos=-4,0") ≡ Ok (record { x = neg_ℤ (pos 4); y = pos 0; generation = 0 })
+far_left = refl
+
+late : opening_of MAX_LEVEL (codes "#CXRLE Pos=-1,-1 Gen=7") ≡ Ok (PositionLine (record { x = neg_ℤ (pos 1); y = neg_ℤ (pos 1); generation = 7 }))
+late = refl
+
+outside : opening_of MAX_LEVEL (codes "#CXRLE Pos=576460752303423488,0") ≡ Err kinds.OutOfPlane
+outside = refl
+
+too_old : opening_of MAX_LEVEL (codes "#CXRLE Gen=18446744073709551616") ≡ Err kinds.TooLarge
+too_old = refl
+
+cut_corner : opening_of MAX_LEVEL (codes "#CXRLE Pos=-1,") ≡ Err kinds.BadNumber
+cut_corner = refl
+
+-- headers
+no_rule : opening_of MAX_LEVEL (codes "x = 1, y = 1") ≡ Ok (Header b3s23)
+no_rule = refl
+
+tight : opening_of MAX_LEVEL (codes "x=1,y=1,rule=B3/S23 ") ≡ Ok (Header b3s23)
+unfolding rule_of life_sets
+tight = refl
+
+cut_rule : opening_of MAX_LEVEL (codes "x = 2, y = 1, rule") ≡ Err kinds.BadHeader
+cut_rule = refl
+
+empty_rule : opening_of MAX_LEVEL (codes "x = 2, y = 1, rule = ") ≡ Err kinds.BadRule
+unfolding rule_of life_sets
+empty_rule = refl
+
+bounded : opening_of MAX_LEVEL (codes "x = 0, y = 0, rule = B3/S23:T30,20") ≡ Err kinds.BoundedGrid
+unfolding rule_of life_sets
+bounded = refl
+
+no_header : opening_of MAX_LEVEL (codes "y = 3") ≡ Err kinds.NoHeader
+no_header = refl
+
+second : later_of (codes "x = 1, y = 1") ≡ Err kinds.SecondHeader
+second = refl
+
+late_position : later_of (codes "#CXRLE Gen=1") ≡ Err kinds.LateHeader
+late_position = refl
+
+-- states
+last_state : state_at (codes "yO!") ≡ Some (255, codes "!")
+last_state = refl
+
+past_last : state_at (codes "yP!") ≡ None
+past_last = refl
+
+prefixed_x : state_at (codes "xA!") ≡ Some (217, codes "!")
+prefixed_x = refl
+
+-- faults of a line behind a header
+abbrev blank : Rule → Rle
+blank rule = record { rule = rule; position = default_position; items = [] }
+
+header-IsUnmarked : IsUnmarked MAX_LEVEL (codes "x = 1, y = 1, rule = B3/S23" ∷ []) (blank b3s23)
+unfolding rule_of life_sets
+header-IsUnmarked = record { before = []; header = codes "x = 1, y = 1, rule = B3/S23"; body = []; whole = refl; preamble = refl; rule = refl; items = refl; sound = refl }
+
+-- what breaks a line of items behind this header, where an item should stand
+broken_text : (n : ℕ) (line : List ℕ) (kind : Kind) → later_of line ≡ Ok Data → last_read MAX_LEVEL n (next_of MAX_LEVEL line) ≡ Broken kind → first_fault MAX_LEVEL b3s23 (placed_behind default_position [] (items_read MAX_LEVEL n (next_of MAX_LEVEL line))) ≡ None → Breaks MAX_LEVEL (codes "x = 1, y = 1, rule = B3/S23" ∷ []) line kind
+broken_text n line kind form last sound = by_text (blank b3s23) (items_read MAX_LEVEL n (next_of MAX_LEVEL line)) header-IsUnmarked form (subst (Spells MAX_LEVEL line (items_read MAX_LEVEL n (next_of MAX_LEVEL line))) last (line-Spells MAX_LEVEL n line)) sound
+
+state_range : Breaks MAX_LEVEL (codes "x = 1, y = 1, rule = B3/S23" ∷ []) (codes "B!") kinds.StateRange
+state_range = by_item (blank b3s23) [] (Cells 1 2) (codes "!") header-IsUnmarked refl refl refl refl
+
+zero_count : Breaks MAX_LEVEL (codes "x = 1, y = 1, rule = B3/S23" ∷ []) (codes "0o!") kinds.ZeroCount
+zero_count = broken_text 3 (codes "0o!") _ refl refl refl
+
+counted_mark : Breaks MAX_LEVEL (codes "x = 1, y = 1, rule = B3/S23" ∷ []) (codes "3!") kinds.BadItem
+counted_mark = broken_text 3 (codes "3!") _ refl refl refl
+
+split_count : Breaks MAX_LEVEL (codes "x = 1, y = 1, rule = B3/S23" ∷ []) (codes "2 o!") kinds.BadItem
+split_count = broken_text 3 (codes "2 o!") _ refl refl refl
+
+large_count : Breaks MAX_LEVEL (codes "x = 1, y = 1, rule = B3/S23" ∷ []) (codes "1152921504606846977b!") kinds.TooLarge
+large_count = broken_text 3 (codes "1152921504606846977b!") _ refl refl refl
+
+cut_count : Breaks MAX_LEVEL (codes "x = 1, y = 1, rule = B3/S23" ∷ []) (codes "bo$2") kinds.BadItem
+cut_count = broken_text 4 (codes "bo$2") _ refl refl refl
+
+-- at the last row a row end is accepted, and a second one or a cell behind it isn't
+abbrev at_bottom : Rle
+at_bottom = record { rule = b3s23; position = record { x = pos 0; y = pos 576460752303423487; generation = 0 }; items = [] }
+
+one_end : fault_behind MAX_LEVEL at_bottom [] (RowEnds 1) ≡ None
+one_end = refl
+
+two_ends : fault_behind MAX_LEVEL at_bottom [] (RowEnds 2) ≡ Some kinds.OutOfPlane
+two_ends = refl
+
+below : fault_behind MAX_LEVEL at_bottom (RowEnds 1 ∷ []) (Cells 1 0) ≡ Some kinds.OutOfPlane
+below = refl

@@ -1,0 +1,10 @@
+use Rattle.std.proofs.Common.{◌∙◌, ap}
+use Rattle.life_base.specs.Text.{trim_start}
+use Rattle.life_base.proofs.LineEnds.{all_behind}
+use Rattle.life_rle.proofs.FrontDigits.{after_number-some}
+use Rattle.life_rle.proofs.header.after_number.Goals as goal
+
+pub returns : goal.returns
+returns c =
+    after_number-some c.args.bytes.now c.trimmed_start.result.now c.digit_count-count.result c.digit_count-count.ensures.value c.if-count-eq0.false
+    (c.trimmed_start.ensures ∙ ap trim_start (all_behind c.args.bytes.now c.digit_count-count.result))

@@ -1,0 +1,18 @@
+use Rattle.std.proofs.Common.{◌≡◌, ◌++◌, ◌∷◌, ◌-◌, ◌^◌, [], List, ℕ, map, min, length, false, Bor}
+use Rattle.life_base.specs.Text.{lines_of, numbered_from}
+use Rattle.life_base.specs.declared.cell.TheConstants.{MAX_LEVEL}
+use Rattle.life_base.proofs.NumberedLines.{texts}
+use Rattle.life_rle.specs.File.{HasRuns}
+use Rattle.life_rle.proofs.reading.read_rle.Given as goal
+
+abbrev pub numbered : ℕ × Bor (List ℕ) → ℕ × List ℕ
+numbered p = (p.0, p.1.now)
+
+abbrev pub invariant-loop-number : goal.invariant-loop-number
+invariant-loop-number l = record {
+  all : map numbered l.yielded ++ numbered_from l.number-iterator.number (lines_of l.number-iterator.rest.now) ≡ numbered_from 1 (lines_of l.bytes);
+  taken : l.reader.lines ≡ texts (map numbered l.yielded);
+  fresh : l.reader.refused ≡ false;
+  found : HasRuns MAX_LEVEL l.reader.lines l.runs.items;
+  counted : l.last ≡ min (length l.reader.lines) (2 ^ 64 - 1);
+}

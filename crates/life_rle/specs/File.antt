@@ -1,0 +1,40 @@
+-- What a value of the program says of an RLE file, and of its lines so far.
+use Rattle.std.specs.Prelude.{◌≡◌, ℕ, ◌⊎◌, Bool, List, [], ◌++◌, Option, Some}
+use Rattle.life_base.specs.declared.kind.Kind.{Kind}
+use Rattle.life_base.specs.declared.kind.Kind.TheVariants.{NoHeader}
+use Rattle.life_rle.specs.declared.file.Run.{Run}
+use Rattle.life_rle.specs.declared.file.RleFile.{RleFile}
+use Rattle.life_rle.specs.declared.position.Position.{Position}
+use Rattle.life_rle.specs.Position.{default_position}
+use Rattle.life_rle.specs.Pattern.{Rle, placed}
+use Rattle.life_rle.specs.Runs.{runs_of}
+use Rattle.life_rle.specs.Grammar.{IsPreamble, IsRle}
+
+-- the value has the file's rule, generation and corner, and its runs
+pub record Shows (value : RleFile) (file : Rle) : Type 0 where
+  pub rule : value.rule ≡ file.rule
+  pub generation : value.generation ≡ file.position.generation
+  pub x : value.x ≡ file.position.x
+  pub y : value.y ≡ file.position.y
+  pub runs : value.runs ≡ runs_of (placed file)
+
+-- what lines lack that end before the header
+abbrev pub missing : List (List ℕ) → Option Kind
+missing lines = Some NoHeader
+
+-- the runs of lines so far: none before the header, and then those of the file
+abbrev pub HasRuns : ℕ → List (List ℕ) → List Run → Type 0
+HasRuns level lines runs =
+    ((position : Position) × IsPreamble level default_position lines position × (runs ≡ []))
+    ⊎ ((file : Rle) × IsRle level lines file × (runs ≡ runs_of (placed file)))
+
+-- the runs of further lines are put behind those that were there
+pub record AddsRuns (level : ℕ) (lines more : List (List ℕ)) (old new : List Run) : Type 0 where
+  pub runs : List Run
+  pub added : new ≡ old ++ runs
+  pub found : (before : List Run) → HasRuns level lines before → HasRuns level more (before ++ runs)
+
+-- the lines that a reader was given, and whether it refused one
+pub record LinesRead : Type 0 where
+  pub lines : List (List ℕ)
+  pub refused : Bool

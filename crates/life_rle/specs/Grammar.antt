@@ -1,0 +1,103 @@
+-- Which lines are an RLE file, of which pattern, and which rule a line breaks.
+use Rattle.std.specs.Prelude.{◌≡◌, ℕ, ◌⊎◌, ◌||◌, List, [], ◌∷◌, ◌++◌, Option, Some, None, Result, Ok, Err, if◌then◌else◌, codes}
+use Rattle.life_base.specs.declared.kind.Kind.{Kind}
+use Rattle.life_base.specs.declared.kind.Kind.TheVariants.{LineTooLong, NoHeader, LateHeader, SecondHeader}
+use Rattle.life_base.specs.Text.{is_too_long, is_blank, begins_with}
+use Rattle.life_rle.specs.declared.item.Item.{Item}
+use Rattle.life_rle.specs.declared.position.Position.{Position}
+use Rattle.life_rle.specs.declared.opening.Opening.{Opening}
+use Rattle.life_rle.specs.declared.opening.Opening.TheVariants.{Comment, PositionLine, Header}
+use Rattle.life_rle.specs.declared.opening.Later.{Later}
+use Rattle.life_rle.specs.declared.opening.Later.TheVariants.{Passed, Data}
+use Rattle.life_rle.specs.Items.{Next, End, Mark, Broken, Spelled, Spells}
+use Rattle.life_rle.specs.Position.{default_position, and_then, is_position_line, position_of}
+use Rattle.life_rle.specs.Header.{header_of}
+use Rattle.life_rle.specs.Pattern.{Rle, placed, placed_item, placed_fault, placed_behind, first_fault}
+
+-- what a line is before the header: a comment (or blank), a position line, or the header
+abbrev pub opening_of : ℕ → List ℕ → Result Opening Kind
+opening_of level line =
+    if is_too_long line then Err LineTooLong
+    else if is_blank line then Ok Comment
+    else if is_position_line line then and_then (position_of level line) (λ position. Ok (PositionLine position))
+    else if begins_with line (codes "#") then Ok Comment
+    else if begins_with line (codes "x") then and_then (header_of line) (λ rule. Ok (Header rule))
+    else Err NoHeader
+
+-- what a line is behind the header: passed over, or data
+abbrev pub later_of : List ℕ → Result Later Kind
+later_of line =
+    if is_too_long line then Err LineTooLong
+    else if is_blank line then Ok Passed
+    else if is_position_line line then Err LateHeader
+    else if begins_with line (codes "#") then Ok Passed
+    else if begins_with line (codes "x ") || begins_with line (codes "x=") then Err SecondHeader
+    else Ok Data
+
+-- comments and position lines; the last position line gives the position, and where there is none, the first argument does
+abbrev pub IsPreamble : ℕ → Position → List (List ℕ) → Position → Type 0
+IsPreamble level given [] position = position ≡ given
+IsPreamble level given (line ∷ lines) position =
+    ((opening_of level line ≡ Ok Comment) × IsPreamble level given lines position)
+    ⊎ ((here : Position) × (opening_of level line ≡ Ok (PositionLine here)) × IsPreamble level here lines position)
+
+-- a line behind the header that spells these items, and then `last` stands in an item's place
+abbrev pub LineSpells : ℕ → List ℕ → List Item → Next → Type 0
+LineSpells level line items last =
+    ((later_of line ≡ Ok Passed) × (items ≡ []) × (last ≡ End))
+    ⊎ ((later_of line ≡ Ok Data) × Spells level line items last)
+
+-- lines behind the header that spell these items together, with no `!` in an item's place
+abbrev pub BodySpells : ℕ → List (List ℕ) → List Item → Type 0
+BodySpells level [] items = items ≡ []
+BodySpells level (line ∷ lines) items =
+    (first rest : List Item) × (items ≡ first ++ rest) × LineSpells level line first End × BodySpells level lines rest
+
+-- a header stands in the lines, and no `!` has ended the pattern: the end of the input ends it
+pub record IsUnmarked (level : ℕ) (lines : List (List ℕ)) (file : Rle) : Type 0 where
+  pub before : List (List ℕ)
+  pub header : List ℕ
+  pub body : List (List ℕ)
+  pub whole : lines ≡ before ++ header ∷ body
+  pub preamble : IsPreamble level default_position before file.position
+  pub rule : opening_of level header ≡ Ok (Header file.rule)
+  pub items : BodySpells level body file.items
+  pub sound : first_fault level file.rule (placed file) ≡ None
+
+-- a line's `!` ends the pattern, and the lines behind it are free
+pub record IsMarked (level : ℕ) (lines : List (List ℕ)) (file : Rle) : Type 0 where
+  pub front : List (List ℕ)
+  pub last : List ℕ
+  pub free : List (List ℕ)
+  pub whole : lines ≡ front ++ last ∷ free
+  pub earlier : List Item
+  pub final : List Item
+  pub items : file.items ≡ earlier ++ final
+  pub begun : IsUnmarked level front (record file { items = earlier })
+  pub marked : LineSpells level last final Mark
+  pub sound : first_fault level file.rule (placed file) ≡ None
+
+-- the lines are an RLE file of this rule, position and list of items
+abbrev pub IsRle : ℕ → List (List ℕ) → Rle → Type 0
+IsRle level lines file = IsUnmarked level lines file ⊎ IsMarked level lines file
+
+-- the lines are an RLE file
+abbrev pub IsSomeRle : ℕ → List (List ℕ) → Type 0
+IsSomeRle level lines = (file : Rle) × IsRle level lines file
+
+-- which rule an item breaks first that follows more items of a file
+abbrev pub fault_behind : ℕ → Rle → List Item → Item → Option Kind
+fault_behind level file items item = placed_fault level file.rule (placed_item file.position (file.items ++ items) item)
+
+-- which rule the line breaks first behind these lines
+pub data Breaks (level : ℕ) (front : List (List ℕ)) (line : List ℕ) (kind : Kind) : Type 0 where
+  -- as a line before the header
+  before_header : (position : Position) → IsPreamble level default_position front position → opening_of level line ≡ Err kind → Breaks level front line kind
+  -- as a line behind the header, before its items
+  by_form : (file : Rle) → IsUnmarked level front file → later_of line ≡ Err kind → Breaks level front line kind
+  -- behind items that break none, in the place of an item
+  by_text : (file : Rle) (items : List Item) → IsUnmarked level front file → later_of line ≡ Ok Data → Spells level line items (Broken kind)
+      → first_fault level file.rule (placed_behind file.position file.items items) ≡ None → Breaks level front line kind
+  -- behind items that break none, by an item
+  by_item : (file : Rle) (items : List Item) (item : Item) (rest : List ℕ) → IsUnmarked level front file → later_of line ≡ Ok Data → Spells level line items (Spelled item rest)
+      → first_fault level file.rule (placed_behind file.position file.items items) ≡ None → fault_behind level file items item ≡ Some kind → Breaks level front line kind

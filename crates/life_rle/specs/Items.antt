@@ -1,0 +1,58 @@
+-- The items of a pattern, and how a line spells them.
+use Rattle.std.specs.Prelude.{◌≡◌, ℕ, List, [], ◌∷◌, drop, take_while, Option, Some, None, if◌then◌else◌, ◌==◌, nat_lt}
+use Rattle.std.specs.Char.{is_ascii_digit}
+use Rattle.std.specs.List.{prefix_len}
+use Rattle.life_base.specs.declared.kind.Kind.{Kind}
+use Rattle.life_base.specs.declared.kind.Kind.TheVariants.{ZeroCount, TooLarge, BadItem}
+use Rattle.life_base.specs.Text.{trim_start, value_of}
+use Rattle.life_rle.specs.declared.item.Item.{Item}
+use Rattle.life_rle.specs.declared.item.Item.TheVariants.{Cells, RowEnds}
+use Rattle.life_rle.specs.Plane.{most_count}
+use Rattle.life_rle.specs.States.{state_at}
+
+-- the digits in front of a text
+abbrev pub front_digits : List ℕ → List ℕ
+front_digits text = take_while is_ascii_digit text
+
+-- what stands behind the digits in front of a text
+abbrev pub behind_digits : List ℕ → List ℕ
+behind_digits text = drop (prefix_len is_ascii_digit text) text
+
+-- what stands in an item's place: nothing, the mark `!`, an item and the bytes behind it, or neither
+pub data Next : Type 0 where
+  End : Next
+  Mark : Next
+  Spelled : (item : Item) (rest : List ℕ) → Next
+  Broken : (kind : Kind) → Next
+
+-- cells of the state that was found, if one was
+abbrev pub cells_of : ℕ → Option (ℕ × List ℕ) → Next
+cells_of count None = Broken BadItem
+cells_of count (Some found) = Spelled (Cells count found.0) found.1
+
+-- an item with this count, whose `$` or state is in front of the bytes
+abbrev pub item_behind : ℕ → List ℕ → Next
+item_behind count [] = Broken BadItem
+item_behind count (b ∷ bytes) = if b == 36 then Spelled (RowEnds count) bytes else cells_of count (state_at (b ∷ bytes))
+
+-- an item with these digits in front; without digits the count is 1, and else from 1 to the width of the plane
+abbrev pub counted : ℕ → List ℕ → List ℕ → Next
+counted level [] bytes = item_behind 1 bytes
+counted level (d ∷ digits) bytes =
+    if value_of (d ∷ digits) == 0 then Broken ZeroCount
+    else if nat_lt (most_count level) (value_of (d ∷ digits)) then Broken TooLarge
+    else item_behind (value_of (d ∷ digits)) bytes
+
+-- what is in front of bytes that begin without whitespace
+abbrev pub item_in : ℕ → List ℕ → Next
+item_in level [] = End
+item_in level (b ∷ bytes) = if b == 33 then Mark else counted level (front_digits (b ∷ bytes)) (behind_digits (b ∷ bytes))
+
+-- what stands in the next item's place, whitespace passed over
+abbrev pub next_of : ℕ → List ℕ → Next
+next_of level bytes = item_in level (trim_start bytes)
+
+-- the bytes spell these items, one after another, and then `last` stands in an item's place
+abbrev pub Spells : ℕ → List ℕ → List Item → Next → Type 0
+Spells level bytes [] last = next_of level bytes ≡ last
+Spells level bytes (item ∷ items) last = (rest : List ℕ) × (next_of level bytes ≡ Spelled item rest) × Spells level rest items last

@@ -1,0 +1,17 @@
+pub mod Plane
+pub mod States
+pub mod Items
+pub mod Position
+pub mod Header
+pub mod Pattern
+pub mod Runs
+pub mod Grammar
+pub mod Written
+pub mod Sorted
+pub mod File
+pub mod Laws
+pub mod RunsLaw
+pub mod Decided
+pub mod Cursor
+pub mod Reading
+pub mod Standing

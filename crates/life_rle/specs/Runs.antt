@@ -1,0 +1,17 @@
+-- The runs of an RLE file: its items of nonzero state.
+use Rattle.std.specs.Prelude.{zero, suc, List, [], ◌∷◌, ℤ}
+use Rattle.life_rle.specs.declared.file.Run.{Run}
+use Rattle.life_rle.specs.declared.item.Item.{Item}
+use Rattle.life_rle.specs.declared.item.Item.TheVariants.{Cells, RowEnds}
+use Rattle.life_rle.specs.Pattern.{Placed}
+
+-- an item of nonzero state in front of runs
+abbrev pub with_run : ℤ → ℤ → Item → List Run → List Run
+with_run row column (Cells count zero) runs = runs
+with_run row column (Cells count (suc n)) runs = record { x = column; y = row; len = count; state = suc n } ∷ runs
+with_run row column (RowEnds count) runs = runs
+
+-- one run for each item of nonzero state, at its row and first column
+abbrev pub runs_of : List Placed → List Run
+runs_of [] = []
+runs_of (p ∷ ps) = with_run p.row p.column p.item (runs_of ps)

@@ -1,0 +1,55 @@
+-- The states of cells as texts (Golly Help, File Formats, Extended RLE).
+use Rattle.std.specs.Prelude.{ℕ, ◌+◌, ◌-◌, ◌*◌, ◌/◌, ◌%◌, Bool, ◌&&◌, ◌||◌, List, [], ◌∷◌, Option, Some, None, if◌then◌else◌, ◌==◌, nat_le}
+use Rattle.life_base.specs.declared.rule.Rule.{Rule}
+use Rattle.life_base.specs.declared.rule.Rule.TheVariants.{Life, Named}
+
+-- the state that one byte names: `b` and `.` are 0, `o` is 1, `A` to `X` are 1 to 24
+abbrev pub single_state : ℕ → Option ℕ
+single_state b =
+    if b == 98 || b == 46 then Some 0
+    else if b == 111 then Some 1
+    else if nat_le 65 b && nat_le b 88 then Some (b - 64)
+    else None
+
+-- 24 times the place of the prefix from `p` on, and the place of the letter, both counted from 1
+abbrev pub prefixed_number : ℕ → ℕ → ℕ
+prefixed_number prefix letter = 24 * (prefix - 111) + (letter - 64)
+
+-- the state that a prefix `p` to `y` and a letter `A` to `X` name, if it is no more than 255
+abbrev pub prefixed_state : ℕ → ℕ → Option ℕ
+prefixed_state prefix letter =
+    if (nat_le 112 prefix && nat_le prefix 121) && (nat_le 65 letter && nat_le letter 88) && nat_le (prefixed_number prefix letter) 255
+    then Some (prefixed_number prefix letter) else None
+
+-- a state and the bytes behind it
+abbrev pub with_rest : Option ℕ → List ℕ → Option (ℕ × List ℕ)
+with_rest None rest = None
+with_rest (Some state) rest = Some (state, rest)
+
+-- the first of two, if there is one
+abbrev pub first_state : Option (ℕ × List ℕ) → Option (ℕ × List ℕ) → Option (ℕ × List ℕ)
+first_state (Some found) other = Some found
+first_state None other = other
+
+-- the state in front of the bytes, and what stands behind it
+abbrev pub state_at : List ℕ → Option (ℕ × List ℕ)
+state_at [] = None
+state_at (b ∷ []) = with_rest (single_state b) []
+state_at (b ∷ c ∷ rest) = first_state (with_rest (single_state b) (c ∷ rest)) (with_rest (prefixed_state b c) rest)
+
+-- the states under a rule: 0 and 1 under a B/S rule, 0 to 255 under a name
+abbrev pub is_state_of : Rule → ℕ → Bool
+is_state_of (Life sets) state = nat_le state 1
+is_state_of (Named name) state = nat_le state 255
+
+-- the text of a state under a name: `.`, a letter, or a prefix and a letter
+abbrev pub lettered : ℕ → List ℕ
+lettered n =
+    if n == 0 then 46 ∷ []
+    else if nat_le n 24 then (64 + n) ∷ []
+    else (111 + (n - 1) / 24) ∷ (65 + (n - 1) % 24) ∷ []
+
+-- the text of a state that is written: `b` and `o` under a B/S rule
+abbrev pub state_text : Rule → ℕ → List ℕ
+state_text (Life sets) n = (if n == 0 then 98 else 111) ∷ []
+state_text (Named name) n = lettered n

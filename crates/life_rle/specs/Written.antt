@@ -1,0 +1,97 @@
+-- The text that is written for a rule, a generation and a list of cells.
+use Rattle.std.specs.Prelude.{ℕ, zero, suc, ◌+◌, List, [], ◌∷◌, ◌++◌, length, map, ℤ, pos, ◌+ℤ◌, ◌-ℤ◌, nat_abs, if◌then◌else◌, ◌==◌, nat_le, codes, decimal, flat_map}
+use Rattle.std.specs.Ordering.{int_eq}
+use Rattle.std.specs.Fmt.{signed_decimal}
+use Rattle.std.specs.Int.{int_min, int_max}
+use Rattle.life_base.specs.declared.cell.Cell.{Cell}
+use Rattle.life_base.specs.declared.rule.Rule.{Rule}
+use Rattle.life_base.specs.Rules.{rule_text}
+use Rattle.life_rle.specs.States.{state_text}
+use Rattle.life_rle.specs.declared.item.Item.{Item}
+use Rattle.life_rle.specs.declared.item.Item.TheVariants.{Cells, RowEnds}
+
+-- the least box around cells that are not blank
+pub record Box : Type 0 where
+  pub left : ℤ
+  pub top : ℤ
+  pub right : ℤ
+  pub bottom : ℤ
+
+abbrev pub box_of_cell : Cell → Box
+box_of_cell c = record { left = c.x; top = c.y; right = c.x; bottom = c.y }
+
+-- the least box around both
+abbrev pub joined : Box → Box → Box
+joined a b = record { left = int_min a.left b.left; top = int_min a.top b.top; right = int_max a.right b.right; bottom = int_max a.bottom b.bottom }
+
+-- the least box around a cell and more cells
+abbrev pub box_of : Cell → List Cell → Box
+box_of c [] = box_of_cell c
+box_of c (d ∷ cells) = joined (box_of_cell c) (box_of d cells)
+
+-- dead cells in front of items, if any
+abbrev pub with_gap : ℕ → List Item → List Item
+with_gap zero items = items
+with_gap (suc n) items = Cells (suc n) 0 ∷ items
+
+-- one cell in front of items, in one run with cells of the same state
+abbrev pub with_cell : ℕ → List Item → List Item
+with_cell state [] = Cells 1 state ∷ []
+with_cell state (Cells count other ∷ items) = if state == other then Cells (1 + count) state ∷ items else Cells 1 state ∷ Cells count other ∷ items
+with_cell state (RowEnds count ∷ items) = Cells 1 state ∷ RowEnds count ∷ items
+
+-- The items of cells that rise by row and column, from the place (x, y) on; rows begin at the column `left`. The cells do rise, so
+-- that each difference is a distance ahead.
+abbrev pub items_from : ℤ → ℤ → ℤ → List Cell → List Item
+items_from left x y [] = []
+items_from left x y (c ∷ cells) =
+    let rest = with_cell c.state (items_from left (c.x +ℤ pos 1) c.y cells) in
+    if int_eq c.y y then with_gap (nat_abs (c.x -ℤ x)) rest
+    else RowEnds (nat_abs (c.y -ℤ y)) ∷ with_gap (nat_abs (c.x -ℤ left)) rest
+
+-- a count of 1 is not written
+abbrev pub count_text : ℕ → List ℕ
+count_text n = if n == 1 then [] else decimal n
+
+abbrev pub item_text : Rule → Item → List ℕ
+item_text rule (Cells count state) = count_text count ++ state_text rule state
+item_text rule (RowEnds count) = count_text count ++ 36 ∷ []
+
+-- texts on lines: a text goes on the current line if the line then has at most 70 bytes, else it begins the next line
+abbrev pub wrapped : List ℕ → List (List ℕ) → List (List ℕ)
+wrapped line [] = line ∷ []
+wrapped line (text ∷ texts) = if nat_le (length line + length text) 70 then wrapped (line ++ text) texts else line ∷ wrapped text texts
+
+-- the lines of the items, with `!` behind them
+abbrev pub item_lines : Rule → List Item → List (List ℕ)
+item_lines rule items = wrapped [] (map (item_text rule) items ++ (33 ∷ []) ∷ [])
+
+-- ` Gen=G`, if the generation isn't 0
+abbrev pub generation_text : ℕ → List ℕ
+generation_text zero = []
+generation_text (suc n) = codes " Gen=" ++ decimal (suc n)
+
+abbrev pub position_text : ℤ → ℤ → ℕ → List ℕ
+position_text x y generation = ((codes "#CXRLE Pos=" ++ signed_decimal x) ++ (codes "," ++ signed_decimal y)) ++ generation_text generation
+
+abbrev pub header_text : ℕ → ℕ → Rule → List ℕ
+header_text width height rule = ((codes "x = " ++ decimal width) ++ (codes ", y = " ++ decimal height)) ++ (codes ", rule = " ++ rule_text rule)
+
+-- the number of whole numbers from one to another
+abbrev pub span : ℤ → ℤ → ℕ
+span low high = nat_abs (high -ℤ low) + 1
+
+abbrev pub lines_in_box : Rule → ℕ → Box → List Cell → List (List ℕ)
+lines_in_box rule generation box cells =
+    position_text box.left box.top generation
+    ∷ header_text (span box.left box.right) (span box.top box.bottom) rule
+    ∷ item_lines rule (items_from box.left box.left box.top cells)
+
+-- the lines that are written for cells that rise by row and column
+abbrev pub rle_lines : Rule → ℕ → List Cell → List (List ℕ)
+rle_lines rule generation [] = position_text (pos 0) (pos 0) generation ∷ header_text 0 0 rule ∷ item_lines rule []
+rle_lines rule generation (c ∷ cells) = lines_in_box rule generation (box_of c cells) (c ∷ cells)
+
+-- each line ended by a line feed
+abbrev pub rle_text : Rule → ℕ → List Cell → List ℕ
+rle_text rule generation cells = flat_map (λ line. line ++ 10 ∷ []) (rle_lines rule generation cells)

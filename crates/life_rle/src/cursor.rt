@@ -1,0 +1,78 @@
+//! The place where the next item stands.
+
+ghost use Rattle.std.specs.Prelude.{◌≡◌, ◌≤◌, Some, None};
+ghost use Rattle.life_rle.specs.Plane.{most_count};
+ghost use Rattle.life_rle.specs.Pattern.{item_fault};
+ghost use Rattle.life_rle.specs.Cursor.{IsNear, moved, item_count};
+ghost use Rattle.life_rle.specs.declared.item.Item.TheVariants.{Cells, RowEnds};
+
+use crate::item::Item;
+use crate::plane::{EDGE, is_state_of};
+use life_base::{Kind, MAX_LEVEL, Rule, State};
+
+/// The column at which rows begin, and the column and row of the next item.
+#[derive(Clone, Copy, Debug, PartialEq, Eq)]
+pub struct Cursor {
+    pub left: i64,
+    pub x: i64,
+    pub y: i64,
+}
+
+/// Which rule cells break that stand there.
+fn cells_fault(rule: &Rule, cursor: Cursor, count: u64, state: State) -> Option<Kind>
+    requires near { IsNear MAX_LEVEL cursor }
+    requires count { count ≤ most_count MAX_LEVEL }
+    ensures { result ≡ item_fault MAX_LEVEL rule.now cursor.y cursor.x (Cells count state) }
+{
+    if !is_state_of(rule, state) {
+        return Some(Kind::StateRange);
+    }
+    let inside = cursor.y < EDGE && cursor.x + count as i64 <= EDGE;
+    if inside { None } else { Some(Kind::OutOfPlane) }
+}
+
+/// Which rule row ends break that stand there, under any rule.
+fn row_ends_fault(rule: &Rule, cursor: Cursor, count: u64) -> Option<Kind>
+    requires near { IsNear MAX_LEVEL cursor }
+    requires count { count ≤ most_count MAX_LEVEL }
+    ensures { result ≡ item_fault MAX_LEVEL rule.now cursor.y cursor.x (RowEnds count) }
+{
+    let _ = rule;
+    if cursor.y + count as i64 <= EDGE {
+        None
+    } else {
+        Some(Kind::OutOfPlane)
+    }
+}
+
+/// Which rule an item breaks that stands there.
+pub(crate) fn item_fault(rule: &Rule, cursor: Cursor, item: Item) -> Option<Kind>
+    requires near { IsNear MAX_LEVEL cursor }
+    requires count { item_count item ≤ most_count MAX_LEVEL }
+    ensures { result ≡ item_fault MAX_LEVEL rule.now cursor.y cursor.x item }
+{
+    match item {
+        Item::Cells { count, state } => cells_fault(rule, cursor, count, state),
+        Item::RowEnds { count } => row_ends_fault(rule, cursor, count),
+    }
+}
+
+/// The place behind an item.
+pub(crate) fn moved(cursor: Cursor, item: Item) -> Cursor
+    requires near { IsNear MAX_LEVEL cursor }
+    requires count { item_count item ≤ most_count MAX_LEVEL }
+    ensures { result ≡ moved cursor item }
+{
+    match item {
+        Item::Cells { count, .. } => Cursor {
+            left: cursor.left,
+            x: cursor.x + count as i64,
+            y: cursor.y,
+        },
+        Item::RowEnds { count } => Cursor {
+            left: cursor.left,
+            x: cursor.left,
+            y: cursor.y + count as i64,
+        },
+    }
+}

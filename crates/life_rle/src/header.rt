@@ -1,0 +1,69 @@
+//! The header line.
+
+ghost use Rattle.std.specs.Prelude.{◌≡◌, Option, Some, None, codes};
+ghost use Rattle.std.specs.Option.{option_map};
+ghost use Rattle.life_base.specs.Refusal.{Answers};
+ghost use Rattle.life_rle.specs.Header.{after_word, after_number, rule_part, header_form, header_of};
+
+use crate::item::digit_count;
+use life_base::{Kind, Rule, begins_with, trimmed_start};
+use std::alloc::Global;
+
+/// What stands behind a word and the whitespace after it.
+fn after_word<'a>(word: &[u8], bytes: &'a [u8]) -> Option<&'a [u8]>
+    ensures { option_map (λ rest. rest.now) result ≡ after_word word.now bytes.now }
+{
+    if !begins_with(bytes, word) {
+        return None;
+    }
+    Some(trimmed_start(&bytes[word.len()..]))
+}
+
+/// What stands behind a digit text and the whitespace after it.
+fn after_number(bytes: &[u8]) -> Option<&[u8]>
+    ensures { option_map (λ rest. rest.now) result ≡ after_number bytes.now }
+{
+    let count = digit_count(bytes);
+    if count == 0 {
+        return None;
+    }
+    Some(trimmed_start(&bytes[count..]))
+}
+
+/// The text of the rule, if there is one.
+fn rule_part(bytes: &[u8]) -> Option<Option<&[u8]>>
+    ensures { option_map (λ part. option_map (λ rest. rest.now) part) result ≡ rule_part bytes.now }
+{
+    if bytes.is_empty() {
+        return Some(None);
+    }
+    let rest = after_word(b",", bytes)?;
+    let rest = after_word(b"rule", rest)?;
+    let rest = after_word(b"=", rest)?;
+    Some(Some(rest))
+}
+
+/// The rule part of a header line, where the line has the form of one.
+fn header_form(line: &[u8]) -> Option<Option<&[u8]>>
+    ensures { option_map (λ part. option_map (λ rest. rest.now) part) result ≡ header_form line.now }
+{
+    let rest = after_word(b"x", line)?;
+    let rest = after_word(b"=", rest)?;
+    let rest = after_number(rest)?;
+    let rest = after_word(b",", rest)?;
+    let rest = after_word(b"y", rest)?;
+    let rest = after_word(b"=", rest)?;
+    let rest = after_number(rest)?;
+    rule_part(rest)
+}
+
+/// The rule that a header line gives.
+pub(crate) fn header_of(alloc: Global, line: &[u8]) -> Result<Rule, Kind>
+    ensures { Answers result (header_of line.now) }
+{
+    match header_form(line) {
+        None => Err(Kind::BadHeader),
+        Some(None) => Ok(Rule::default_rule()),
+        Some(Some(text)) => Rule::parse(alloc, text),
+    }
+}

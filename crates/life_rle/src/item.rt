@@ -1,0 +1,126 @@
+//! The items of a line.
+
+ghost use Rattle.std.specs.Prelude.{◌≡◌, ℕ, ◌+◌, ◌≤◌, true, length, drop, Option};
+ghost use Rattle.std.specs.Option.{option_map};
+ghost use Rattle.std.specs.Char.{is_ascii_digit};
+ghost use Rattle.std.specs.List.{prefix_len};
+ghost use Rattle.life_base.specs.Text.{is_digit_text as has_digits_alone};
+ghost use Rattle.life_rle.specs.States.{single_state, prefixed_state, state_at};
+ghost use Rattle.life_rle.specs.Items.{item_behind, counted, next_of};
+ghost use Rattle.life_rle.specs.Reading.{next_value};
+
+use crate::plane::MOST_COUNT;
+use life_base::{Kind, MAX_LEVEL, State, read_u64, trimmed_start};
+
+/// Cells of one state side by side, or ends of rows, each with its count.
+#[derive(Clone, Copy, Debug, PartialEq, Eq)]
+pub enum Item {
+    Cells { count: u64, state: State },
+    RowEnds { count: u64 },
+}
+
+/// What stands in an item's place: nothing, the mark `!`, an item and the bytes behind it, or neither.
+pub(crate) enum Found<'a> {
+    Nothing,
+    Mark,
+    Spelled(Item, &'a [u8]),
+    Broken(Kind),
+}
+
+/// The state that one byte names.
+fn single_state(byte: u8) -> Option<State>
+    ensures { result ≡ single_state byte }
+{
+    match byte {
+        b'b' | b'.' => Some(0),
+        b'o' => Some(1),
+        b'A'..=b'X' => Some(byte - b'A' + 1),
+        _ => None,
+    }
+}
+
+/// The state that a prefix and a letter name.
+fn prefixed_state(prefix: u8, letter: u8) -> Option<State>
+    ensures { result ≡ prefixed_state prefix letter }
+{
+    if prefix < b'p' || prefix > b'y' || letter < b'A' || letter > b'X' {
+        return None;
+    }
+    let number = 24 * u16::from(prefix - b'o') + u16::from(letter - b'@');
+    if number <= 255 {
+        Some(number as u8)
+    } else {
+        None
+    }
+}
+
+/// The state in front of the bytes, and what stands behind it.
+fn state_at(bytes: &[u8]) -> Option<(State, &[u8])>
+    ensures { option_map (λ found. (found.0, found.1.now)) result ≡ state_at bytes.now }
+{
+    match bytes {
+        [] => None,
+        [byte] => Some((single_state(*byte)?, &[])),
+        [byte, next, ..] => match single_state(*byte) {
+            Some(state) => Some((state, &bytes[1..])),
+            None => Some((prefixed_state(*byte, *next)?, &bytes[2..])),
+        },
+    }
+}
+
+/// How many digits stand in front.
+pub(crate) fn digit_count(text: &[u8]) -> usize
+    ensures within { result ≤ length text.now }
+    ensures value { result ≡ prefix_len is_ascii_digit text.now }
+{
+    for (i, byte) in text.iter().enumerate() {
+        if !byte.is_ascii_digit() {
+            return i;
+        }
+    }
+    text.len()
+}
+
+/// The item with this count, whose `$` or state is in front of the bytes.
+fn item_behind(count: u64, bytes: &[u8]) -> Found<'_>
+    ensures { next_value result ≡ item_behind count bytes.now }
+{
+    match bytes {
+        [] => Found::Broken(Kind::BadItem),
+        [b'$', rest @ ..] => Found::Spelled(Item::RowEnds { count }, rest),
+        _ => match state_at(bytes) {
+            Some((state, rest)) => Found::Spelled(Item::Cells { count, state }, rest),
+            None => Found::Broken(Kind::BadItem),
+        },
+    }
+}
+
+/// The item with these digits as its count.
+fn counted_item<'a>(digits: &[u8], bytes: &'a [u8]) -> Found<'a>
+    requires { has_digits_alone digits.now ≡ true }
+    ensures { next_value result ≡ counted MAX_LEVEL digits.now bytes.now }
+{
+    match read_u64(digits) {
+        Ok(0) => Found::Broken(Kind::ZeroCount),
+        Ok(count) if count <= MOST_COUNT => item_behind(count, bytes),
+        _ => Found::Broken(Kind::TooLarge),
+    }
+}
+
+/// What stands in the next item's place.
+pub(crate) fn next_item(bytes: &[u8]) -> Found<'_>
+    ensures { next_value result ≡ next_of MAX_LEVEL bytes.now }
+{
+    let text = trimmed_start(bytes);
+    if text.is_empty() {
+        return Found::Nothing;
+    }
+    if text[0] == b'!' {
+        return Found::Mark;
+    }
+    let count = digit_count(text);
+    if count == 0 {
+        return item_behind(1, text);
+    }
+    counted_item(&text[..count], &text[count..])
+}

@@ -1,0 +1,35 @@
+//! Laws over the definitions alone.
+
+ghost use Rattle.life_rle.specs.Laws.{IsOneRle, BreaksForGood, StatesReadBack};
+ghost use Rattle.life_rle.specs.Decided.{IsDecided};
+ghost use Rattle.life_rle.specs.RunsLaw.{RunsAreCells, IsBlankOutside};
+
+/// Lines are an RLE file of at most one pattern.
+pub fn one_file()
+    ensures { IsOneRle }
+{}
+
+/// Behind a line that breaks a rule no lines make a file, and it breaks one rule first.
+pub fn broken_for_good()
+    ensures { BreaksForGood }
+{}
+
+/// States are read as they are written.
+pub fn states_read_back()
+    ensures { StatesReadBack }
+{}
+
+/// The runs of a file lie in the plane, in order and apart, and its cells are what they say.
+pub fn runs_are_cells()
+    ensures { RunsAreCells }
+{}
+
+/// Every cell outside the plane has state 0.
+pub fn blank_outside()
+    ensures { IsBlankOutside }
+{}
+
+/// Lines are a file, or lack a header, or one of them breaks a rule: exactly one of the three.
+pub fn decided()
+    ensures { IsDecided }
+{}

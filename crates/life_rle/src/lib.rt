@@ -1,0 +1,24 @@
+//! Patterns in extended RLE, read and written.
+#![tactic(auto)]
+
+mod cursor;
+mod file;
+mod header;
+mod item;
+pub mod laws;
+mod line_items;
+mod opening;
+mod plane;
+mod position;
+mod reader;
+mod reading;
+mod sorted;
+#[cfg(test)]
+mod tests;
+mod writing;
+
+pub use file::{RleFile, Run};
+pub use reader::RleLines;
+pub use reading::read_rle;
+pub use sorted::sorted_cells;
+pub use writing::write_rle;

@@ -1,0 +1,96 @@
+//! The items of a line, read one after another.
+
+ghost use Rattle.std.specs.Prelude.{◌≡◌, ◌≤◌, ◌⊎◌, ◌++◌, [], Some, None, IfOk, IfErr, OnOk};
+ghost use Rattle.life_rle.specs.Plane.{most_count};
+ghost use Rattle.life_rle.specs.Pattern.{item_fault};
+ghost use Rattle.life_rle.specs.Runs.{with_run};
+ghost use Rattle.life_rle.specs.Cursor.{IsNear, moved, item_count};
+ghost use Rattle.life_rle.specs.Reading.{ReadsItems, last_of, ItemsBreak};
+
+use crate::cursor::{Cursor, item_fault, moved};
+use crate::file::Run;
+use crate::item::{Found, Item, next_item};
+use life_base::{Kind, MAX_LEVEL, Rule};
+
+/// Where the items of a line end: the place behind them, and whether `!` stands there.
+#[derive(Clone, Copy)]
+pub(crate) struct ItemsRead {
+    pub(crate) cursor: Cursor,
+    pub(crate) marked: bool,
+}
+
+/// Puts the run of an item of nonzero state behind the runs.
+fn push_run(cursor: Cursor, item: Item, runs: &mut Vec<Run>) -> Result<(), Kind>
+    ensures runs { OnOk result (runs.new.items ≡ runs.old.items ++ with_run cursor.y cursor.x item []) }
+    ensures memory { IfErr result (λ kind. kind ≡ Kind.Memory) }
+{
+    let Item::Cells { count, state } = item else {
+        return Ok(());
+    };
+    if state == 0 {
+        return Ok(());
+    }
+    let run = Run {
+        x: cursor.x,
+        y: cursor.y,
+        len: count,
+        state,
+    };
+    match runs.push(run) {
+        Ok(()) => Ok(()),
+        Err(_) => Err(Kind::Memory),
+    }
+}
+
+/// Takes an item that stands at the cursor, and answers the place behind it.
+fn take_item(rule: &Rule, cursor: Cursor, item: Item, runs: &mut Vec<Run>) -> Result<Cursor, Kind>
+    requires near { IsNear MAX_LEVEL cursor }
+    requires count { item_count item ≤ most_count MAX_LEVEL }
+    ensures cursor { IfOk result (λ next. next ≡ moved cursor item) }
+    ensures near { IfOk result (λ next. IsNear MAX_LEVEL next) }
+    ensures sound { OnOk result (item_fault MAX_LEVEL rule.now cursor.y cursor.x item ≡ None) }
+    ensures runs { OnOk result (runs.new.items ≡ runs.old.items ++ with_run cursor.y cursor.x item []) }
+    ensures fault { IfErr result (λ kind. (kind ≡ Kind.Memory) ⊎ (item_fault MAX_LEVEL rule.now cursor.y cursor.x item ≡ Some kind)) }
+{
+    if let Some(kind) = item_fault(rule, cursor, item) {
+        return Err(kind);
+    }
+    push_run(cursor, item, runs)?;
+    Ok(moved(cursor, item))
+}
+
+/// Reads the items of a line from the cursor on, and puts their runs behind the runs.
+pub(crate) fn read_items(
+    rule: &Rule,
+    from: Cursor,
+    line: &[u8],
+    runs: &mut Vec<Run>,
+) -> Result<ItemsRead, Kind>
+    requires { IsNear MAX_LEVEL from }
+    ensures read { IfOk result (λ read. ReadsItems MAX_LEVEL rule.now from line.now (last_of read.marked) read.cursor runs.old.items runs.new.items) }
+    ensures fault { IfErr result (λ kind. (kind ≡ Kind.Memory) ⊎ ItemsBreak MAX_LEVEL rule.now from line.now kind) }
+{
+    let mut cursor = from;
+    let mut rest = line;
+    loop {
+        match next_item(rest) {
+            Found::Nothing => {
+                return Ok(ItemsRead {
+                    cursor,
+                    marked: false,
+                });
+            }
+            Found::Mark => {
+                return Ok(ItemsRead {
+                    cursor,
+                    marked: true,
+                });
+            }
+            Found::Broken(kind) => return Err(kind),
+            Found::Spelled(item, behind) => {
+                cursor = take_item(rule, cursor, item, runs)?;
+                rest = behind;
+            }
+        }
+    }
+}

@@ -1,0 +1,86 @@
+//! What a line is, before the header and behind it.
+
+ghost use Rattle.std.specs.Prelude.{◌≡◌};
+ghost use Rattle.life_base.specs.Refusal.{Answers};
+ghost use Rattle.life_base.specs.Text.{is_too_long};
+ghost use Rattle.life_rle.specs.Grammar.{opening_of, later_of};
+
+use crate::header::header_of;
+use crate::position::{Position, is_position_line, position_of};
+use life_base::{Kind, MAX_LEVEL, Rule, begins_with, is_blank};
+use std::alloc::Global;
+
+/// The greatest length of a line, without its line feed.
+const LONGEST_LINE: usize = 1 << 20;
+
+/// What a line is before the header: a comment (or blank), a position line, or the header.
+#[derive(Drop)]
+pub enum Opening {
+    Comment,
+    PositionLine(Position),
+    Header(Rule),
+}
+
+/// What a line is behind the header: passed over, or data.
+#[derive(Clone, Copy, Debug, PartialEq, Eq)]
+pub enum Later {
+    Passed,
+    Data,
+}
+
+/// Whether a line has too many bytes.
+fn is_too_long(line: &[u8]) -> bool
+    ensures { result ≡ is_too_long line.now }
+{
+    line.len() > LONGEST_LINE
+}
+
+/// What a line is before the header, or why it can't stand there.
+pub(crate) fn opening_of(alloc: Global, line: &[u8]) -> Result<Opening, Kind>
+    ensures { Answers result (opening_of MAX_LEVEL line.now) }
+{
+    if is_too_long(line) {
+        return Err(Kind::LineTooLong);
+    }
+    if is_blank(line) {
+        return Ok(Opening::Comment);
+    }
+    if is_position_line(line) {
+        return match position_of(line) {
+            Ok(position) => Ok(Opening::PositionLine(position)),
+            Err(kind) => Err(kind),
+        };
+    }
+    if begins_with(line, b"#") {
+        return Ok(Opening::Comment);
+    }
+    if begins_with(line, b"x") {
+        return match header_of(alloc, line) {
+            Ok(rule) => Ok(Opening::Header(rule)),
+            Err(kind) => Err(kind),
+        };
+    }
+    Err(Kind::NoHeader)
+}
+
+/// What a line is behind the header, or why it can't stand there.
+pub(crate) fn later_of(line: &[u8]) -> Result<Later, Kind>
+    ensures { result ≡ later_of line.now }
+{
+    if is_too_long(line) {
+        return Err(Kind::LineTooLong);
+    }
+    if is_blank(line) {
+        return Ok(Later::Passed);
+    }
+    if is_position_line(line) {
+        return Err(Kind::LateHeader);
+    }
+    if begins_with(line, b"#") {
+        return Ok(Later::Passed);
+    }
+    if begins_with(line, b"x ") || begins_with(line, b"x=") {
+        return Err(Kind::SecondHeader);
+    }
+    Ok(Later::Data)
+}

@@ -1,0 +1,63 @@
+//! RLE files, read whole.
+
+ghost use Rattle.std.specs.Prelude.{◌≡◌, ◌⊎◌, ◌++◌, ◌∷◌, [], false, IfOk, IfErr, OnOk};
+ghost use Rattle.life_base.specs.Refusal.{IsRefusal, OrMemory};
+ghost use Rattle.life_base.specs.Text.{lines_of};
+ghost use Rattle.life_rle.specs.File.{HasRuns, Shows, missing};
+ghost use Rattle.life_rle.specs.Grammar.{IsRle, IsSomeRle, Breaks};
+ghost use Rattle.life_rle.specs.Pattern.{Rle};
+
+use crate::file::{RleFile, Run};
+use crate::position::Position;
+use crate::reader::RleLines;
+use life_base::{Fault, Items, MAX_LEVEL, Rule, lines};
+use std::alloc::Global;
+
+/// Takes the line of this number, and puts its runs behind the runs.
+fn take_numbered(
+    reader: &mut RleLines,
+    runs: &mut Vec<Run>,
+    number: u64,
+    line: &[u8],
+) -> Result<(), Fault>
+    requires { reader.old.refused ≡ false }
+    ensures lines { OnOk result (reader.new ≡ record { lines = reader.old.lines ++ line.now ∷ []; refused = false }) }
+    ensures runs { OnOk result (HasRuns MAX_LEVEL reader.old.lines runs.old.items → HasRuns MAX_LEVEL reader.new.lines runs.new.items) }
+    ensures fault { IfErr result (λ fault. OrMemory fault (Breaks MAX_LEVEL reader.old.lines line.now fault.kind × (fault.place.line ≡ number))) }
+{
+    match reader.take_line(line, runs) {
+        Ok(()) => Ok(()),
+        Err(kind) => Err(Fault::at(number, kind)),
+    }
+}
+
+/// The file of these parts.
+fn file_of(rule: Rule, position: Position, runs: Vec<Run>) -> RleFile
+    ensures { result ≡ record { rule = rule; generation = position.generation; x = position.x; y = position.y; runs = runs.items } }
+{
+    RleFile {
+        rule,
+        generation: position.generation,
+        x: position.x,
+        y: position.y,
+        runs: Items::from_vec(runs),
+    }
+}
+
+/// What an RLE file says, or why the bytes are none.
+pub fn read_rle(alloc: Global, bytes: &[u8]) -> Result<RleFile, Fault>
+    ensures file { IfOk result (λ value. (file : Rle) × IsRle MAX_LEVEL (lines_of bytes.now) file × Shows value file) }
+    ensures fault { IfErr result (λ fault. OrMemory fault (IsRefusal (IsSomeRle MAX_LEVEL) (Breaks MAX_LEVEL) missing (lines_of bytes.now) fault)) }
+{
+    let mut reader = RleLines::new(alloc);
+    let mut runs = Vec::new(alloc);
+    let mut last = 0u64;
+    for (number, line) in lines(bytes) {
+        take_numbered(&mut reader, &mut runs, number, line)?;
+        last = number;
+    }
+    match reader.finish() {
+        Ok((rule, position)) => Ok(file_of(rule, position, runs)),
+        Err(kind) => Err(Fault::at(last.saturating_add(1), kind)),
+    }
+}
