@@ -1,4 +1,4 @@
-//! Times the calls of a shared store. It prints, a line each: what was done, how many nodes the store holds, milliseconds.
+//! Times the calls of a shared store: what was done goes to standard output, and how long it took to standard error.
 #![tactic(auto)]
 
 ghost use Rattle.std.specs.Prelude.{◌≡◌, ◌≤◌, ◌<◌, IfOk};
@@ -58,18 +58,26 @@ fn main(rt: HostRuntime) -> io::Result<()> {
     let mut squares = Shared::new(rt.alloc(), 1 << 31);
     let start = Instant::now(&rt)?;
     let fresh = fill(&mut squares, JOINS).is_ok();
-    println!(rt; "fresh joins {fresh} {} {}", squares.len(), start.elapsed(&rt)?.as_millis())?;
+    println!(rt; "fresh joins {fresh}, nodes {}", squares.len())?;
+    eprintln!(rt; "fresh joins: {} ms", start.elapsed(&rt)?.as_millis())?;
 
     let start = Instant::now(&rt)?;
     let found = fill(&mut squares, JOINS).is_ok();
-    println!(rt; "found joins {found} {} {}", squares.len(), start.elapsed(&rt)?.as_millis())?;
+    println!(rt; "found joins {found}, nodes {}", squares.len())?;
+    eprintln!(rt; "found joins: {} ms", start.elapsed(&rt)?.as_millis())?;
 
     let start = Instant::now(&rt)?;
     let runs = put_runs(&mut squares, 10_000).is_ok();
-    println!(rt; "runs {runs} {} {}", squares.len(), start.elapsed(&rt)?.as_millis())?;
+    println!(rt; "runs {runs}")?;
+    eprintln!(rt;
+        "runs: {} ms, nodes {}",
+        start.elapsed(&rt)?.as_millis(),
+        squares.len()
+    )?;
 
     let start = Instant::now(&rt)?;
     let (number, has_box) = measure(rt.alloc(), &mut squares).unwrap_or((0, false));
-    println!(rt; "full square {number} {has_box} {}", start.elapsed(&rt)?.as_millis())?;
+    println!(rt; "full square {number} {has_box}")?;
+    eprintln!(rt; "full square: {} ms", start.elapsed(&rt)?.as_millis())?;
     Ok(())
 }
