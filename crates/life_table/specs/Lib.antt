@@ -1,0 +1,7 @@
+pub mod Orders
+pub mod Meaning
+pub mod Valid
+pub mod Reading
+pub mod Laws
+pub mod Found
+pub mod Around
