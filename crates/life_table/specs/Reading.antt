@@ -2,7 +2,7 @@
 use Rattle.std.specs.Prelude.{◌≡◌, ℕ, ◌+◌, ◌-◌, ◌/◌, ◌%◌, ◌^◌, ◌<◌, ◌≤◌, Bool, true, false, not, min, ◌&&◌, ◌||◌, List, [], ◌∷◌, ◌++◌, length, take, drop, map, filter, filter_map, fold, find, position, take_while, nat_le, nat_lt, ◌==◌, if◌then◌else◌, slice_index, slice_index_or, slice_get, bit_or, bytes_eq, codes, Option, Some, None, Result, Ok, Err, is_some, is_none, option_map, option_and_then, option_to_list}
 use Rattle.std.specs.Char.{is_ascii_digit}
 use Rattle.std.specs.List.{list_all, list_any, slice_split, before_first, after_first}
-use Rattle.life_base.specs.Text.{is_empty, is_whitespace, is_blank, trim, trim_end, begins_with, is_digit_text, value_of, lines_of, is_too_long, numbered_from}
+use Rattle.life_base.specs.Text.{is_empty, is_whitespace, is_blank, trim, begins_with, is_digit_text, value_of, lines_of, is_too_long, numbered_from}
 use Rattle.life_base.specs.Rules.{rule_of}
 use Rattle.life_base.specs.Refusal.{IsRefusal, BreaksBy}
 use Rattle.life_base.specs.declared.rule.Rule.{Rule}
@@ -37,9 +37,13 @@ name_in (Ok (Named name)) = Some name
 name_in (Ok (Life sets)) = None
 name_in (Err kind) = None
 
--- the rule line is `@RULE`, whitespace, and a rule text that is a name
+-- `@RULE` and whitespace
+abbrev pub begins_rule_line : List ℕ → Bool
+begins_rule_line line = begins_with line (codes "@RULE") && list_any is_whitespace (take 1 (drop 5 line))
+
+-- the rule line has a rule text behind these that is a name
 abbrev pub name_on : List ℕ → Option (List ℕ)
-name_on line = if begins_with line (codes "@RULE") && list_any is_whitespace (take 1 (drop 5 line)) then name_in (rule_of (drop 5 line)) else None
+name_on line = if begins_rule_line line then name_in (rule_of (drop 5 line)) else None
 
 -- a section begins with a line whose first byte is `@`
 abbrev pub is_section_line : List ℕ → Bool
@@ -71,7 +75,7 @@ from_table lines = from_first (λ line. is_table_line line.1) (drop 1 (from_rule
 
 -- the lines of the table: behind the table line, up to the next section
 abbrev pub table_lines : List Numbered → List Numbered
-table_lines lines = take_while (λ line. not (is_section_line line.1)) (drop 1 (from_table lines))
+table_lines lines = before_first (λ line. is_section_line line.1) (drop 1 (from_table lines))
 
 -- a line of the table, without its comment and the whitespace at its ends
 abbrev pub content : List ℕ → List ℕ
@@ -103,23 +107,32 @@ is_descriptor text = list_any (λ b. b == 58) text
 
 -- what stands before the first colon, and behind it
 abbrev pub key_of : List ℕ → List ℕ
-key_of text = trim_end (before_first (λ b. b == 58) text)
+key_of text = trim (before_first (λ b. b == 58) text)
 
 abbrev pub setting_of : List ℕ → List ℕ
 setting_of text = trim (after_first (λ b. b == 58) text)
 
-abbrev pub is_states_line : List ℕ → Bool
-is_states_line text = is_descriptor text && bytes_eq (key_of text) (codes "n_states")
+-- the three keys
+abbrev pub is_states_key : List ℕ → Bool
+is_states_key key = bytes_eq key (codes "n_states")
 
-abbrev pub is_neighborhood_line : List ℕ → Bool
-is_neighborhood_line text = is_descriptor text && (bytes_eq (key_of text) (codes "neighborhood") || bytes_eq (key_of text) (codes "neighbourhood"))
+abbrev pub is_neighborhood_key : List ℕ → Bool
+is_neighborhood_key key = bytes_eq key (codes "neighborhood") || bytes_eq key (codes "neighbourhood")
 
-abbrev pub is_symmetry_line : List ℕ → Bool
-is_symmetry_line text = is_descriptor text && bytes_eq (key_of text) (codes "symmetries")
+abbrev pub is_symmetry_key : List ℕ → Bool
+is_symmetry_key key = bytes_eq key (codes "symmetries")
+
+-- a descriptor with one of these keys
+abbrev pub describes_by : (List ℕ → Bool) → List ℕ → Bool
+describes_by is_key text = is_descriptor text && is_key (key_of text)
+
+-- the number that a digit text writes, below a limit
+abbrev pub number_below : ℕ → List ℕ → Option ℕ
+number_below limit word = if is_digit_text word && nat_lt (value_of word) limit then Some (value_of word) else None
 
 -- a number of states is a digit text of value 2 to 256
 abbrev pub states_named : List ℕ → Option ℕ
-states_named word = if is_digit_text word && nat_le 2 (value_of word) && nat_le (value_of word) 256 then Some (value_of word) else None
+states_named word = if nat_le 2 (value_of word) then number_below 257 word else None
 
 abbrev pub neighborhood_named : List ℕ → Option Neighborhood
 neighborhood_named word =
@@ -138,13 +151,13 @@ symmetry_named word =
 
 -- what these lines describe
 abbrev pub states_of : List (List ℕ) → Option ℕ
-states_of texts = option_and_then (λ text. states_named (setting_of text)) (find is_states_line texts)
+states_of texts = option_and_then (λ text. states_named (setting_of text)) (find (describes_by is_states_key) texts)
 
 abbrev pub neighborhood_of : List (List ℕ) → Option Neighborhood
-neighborhood_of texts = option_and_then (λ text. neighborhood_named (setting_of text)) (find is_neighborhood_line texts)
+neighborhood_of texts = option_and_then (λ text. neighborhood_named (setting_of text)) (find (describes_by is_neighborhood_key) texts)
 
 abbrev pub symmetry_of : List (List ℕ) → Option Symmetry
-symmetry_of texts = option_and_then (λ text. symmetry_named (setting_of text)) (find is_symmetry_line texts)
+symmetry_of texts = option_and_then (λ text. symmetry_named (setting_of text)) (find (describes_by is_symmetry_key) texts)
 
 -- the symmetry is listed for the neighbourhood, where both are known
 abbrev pub agree : Option Neighborhood → Option Symmetry → Bool
@@ -167,7 +180,7 @@ variable_named vars word = position (λ var. bytes_eq var.name word) vars
 -- a digit text is a state below the number of states, another word the name of a variable
 unfoldable pub entry_of : ℕ → List Var → List ℕ → Option Entry
 entry_of n_states vars word =
-    if is_digit_text word then (if nat_lt (value_of word) n_states then Some (entries.Fixed (value_of word)) else None)
+    if is_digit_text word then option_map entries.Fixed (number_below n_states word)
     else option_map entries.Var (variable_named vars word)
 
 -- the texts between commas, without whitespace at their ends
@@ -222,12 +235,17 @@ unfoldable pub states_listed : ℕ → List Var → List ℕ → Option (List �
 states_listed n_states vars text =
     option_map union_of (all_some (map (λ word. option_and_then (states_of_entry vars) (entry_of n_states vars word)) (between_commas text)))
 
+-- the states of a new variable with this name and list, if both are of their form
+unfoldable pub variable_states : ℕ → List Var → List ℕ → List ℕ → Option (List ℕ)
+variable_states n_states vars name list =
+    if is_variable_name name then (if is_some (variable_named vars name) then None
+    else (if is_list list then states_listed n_states vars (within_braces list) else None))
+    else None
+
 -- the variable that a line writes behind these variables, if it writes one
 unfoldable pub variable_of : ℕ → List Var → List ℕ → Option Var
 variable_of n_states vars text =
-    if is_variable_name (name_text text) && is_none (variable_named vars (name_text text)) && is_list (list_text text)
-    then option_map (λ states. record { name = name_text text; states = states }) (states_listed n_states vars (within_braces (list_text text)))
-    else None
+    option_map (λ states. record { name = name_text text; states = states }) (variable_states n_states vars (name_text text) (list_text text))
 
 -- the variables that these lines write, in their order
 abbrev pub variables_written : ℕ → List (List ℕ) → List Var
@@ -241,11 +259,15 @@ variables_in (Some n_states) texts = variables_written n_states texts
 
 -- 5. Transitions
 
+-- each byte that isn't whitespace, alone
+abbrev pub bytes_alone : List ℕ → List (List ℕ)
+bytes_alone text = map (λ b. b ∷ []) (filter (λ b. not (is_whitespace b)) text)
+
 -- the words of a transition: between commas, or where there is none each byte that isn't whitespace
 abbrev pub transition_words : List ℕ → List (List ℕ)
 transition_words text =
     if list_any (λ b. b == 44) text then between_commas text
-    else map (λ b. b ∷ []) (filter (λ b. not (is_whitespace b)) text)
+    else bytes_alone text
 
 -- the entries of a transition, if each of its words is one
 unfoldable pub entries_of : ℕ → List Var → List ℕ → Option (List Entry)
@@ -325,9 +347,9 @@ if_symmetry neighborhood (Some symmetry) = if agree neighborhood (Some symmetry)
 -- were given.)
 unfoldable pub told_descriptor : Option ℕ → Option Neighborhood → Option Symmetry → List ℕ → Result Told Kind
 told_descriptor n_states neighborhood symmetry text =
-    if is_states_line text then (if is_some n_states then Err BadDescriptor else if_states (states_named (setting_of text)))
-    else (if is_neighborhood_line text then (if is_some neighborhood then Err BadDescriptor else if_neighborhood symmetry (neighborhood_named (setting_of text)))
-    else (if is_symmetry_line text then (if is_some symmetry then Err BadDescriptor else if_symmetry neighborhood (symmetry_named (setting_of text)))
+    if is_states_key (key_of text) then (if is_some n_states then Err BadDescriptor else if_states (states_named (setting_of text)))
+    else (if is_neighborhood_key (key_of text) then (if is_some neighborhood then Err BadDescriptor else if_neighborhood symmetry (neighborhood_named (setting_of text)))
+    else (if is_symmetry_key (key_of text) then (if is_some symmetry then Err BadDescriptor else if_symmetry neighborhood (symmetry_named (setting_of text)))
     else Err BadDescriptor))
 
 abbrev pub if_variable : Option Var → Result Told Kind
@@ -340,11 +362,15 @@ if_transition vars earlier (Some line) =
     if not (is_bound line.inputs line.output) then Err UnboundOutput
     else (if is_quiet vars (earlier ++ line ∷ []) then Ok (Line line) else Err NotQuiet)
 
--- a variable or a transition, which stand behind all three descriptors
-abbrev pub told_rest : Option ℕ → Option Neighborhood → Option Symmetry → List Var → List Transition → ℕ → List ℕ → Result Told Kind
-told_rest (Some n_states) (Some neighborhood) (Some symmetry) vars lines number text =
+-- a variable or a transition
+abbrev pub told_settled : ℕ → Neighborhood → List Var → List Transition → ℕ → List ℕ → Result Told Kind
+told_settled n_states neighborhood vars lines number text =
     if is_variable_line text then if_variable (variable_of n_states vars text)
     else if_transition vars lines (transition_of n_states (neighbour_count neighborhood) vars number text)
+
+-- they stand behind all three descriptors
+abbrev pub told_rest : Option ℕ → Option Neighborhood → Option Symmetry → List Var → List Transition → ℕ → List ℕ → Result Told Kind
+told_rest (Some n_states) (Some neighborhood) (Some symmetry) vars lines number text = told_settled n_states neighborhood vars lines number text
 told_rest _ _ _ vars lines number text = Err BadDescriptor
 
 abbrev pub is_described : Said → Bool

@@ -2,12 +2,18 @@
 #![tactic(auto)]
 
 mod choose;
+mod descriptors;
+mod entries;
 mod found;
 pub mod laws;
 mod next;
 mod said;
 mod table;
+mod telling;
+mod transitions;
 mod turn;
+mod variables;
+mod words;
 
 pub use next::Neighbours;
 pub use table::{Entry, Neighborhood, Symmetry, Table, Transition, Var};
