@@ -1,12 +1,15 @@
 -- What the reader of a rule table keeps from line to line, in words that its own functions use.
-use Rattle.std.specs.Prelude.{◌≡◌, ℕ, ◌+◌, ◌<◌, ◌≤◌, Bool, true, false, List, [], ◌∷◌, ◌++◌, length, map, Option, Some, None, IfSome, ◌==◌, Result, Ok, Err, is_some}
+use Rattle.std.specs.Prelude.{◌≡◌, ℕ, ◌+◌, ◌<◌, ◌≤◌, Bool, true, false, List, [], ◌∷◌, ◌++◌, length, map, Option, Some, None, IfSome, ◌==◌, ◌||◌, ◌≢◌, All, IsTrue, slice_get}
 use Rattle.std.proofs.Common.{Bor}
 use Rattle.std.specs.List.{list_any, slice_split}
-use Rattle.life_table.specs.Valid.{fits_zero, is_quiet}
+use Rattle.life_table.specs.Valid.{fits_zero, is_quiet, is_listed, neighbour_count, IsVariable, IsTransition}
 use Rattle.life_table.specs.declared.said.Said.{Said}
-use Rattle.life_table.specs.declared.said.Section.TheVariants.{Open, Behind}
+use Rattle.life_table.specs.declared.said.Section.TheVariants.{Ahead, Open, Behind}
 use Rattle.life_table.specs.declared.said.Told.{Told}
 use Rattle.life_table.specs.declared.said.Told.TheVariants.{Nothing, RuleName, TableOpens, TableEnds, States, Neighbors, Orders, Variable, Line}
+use Rattle.life_table.specs.declared.table.Neighborhood.{Neighborhood}
+use Rattle.life_table.specs.declared.table.Symmetry.{Symmetry}
+use Rattle.life_table.specs.declared.table.Var.{Var}
 use Rattle.life_table.specs.declared.table.Transition.{Transition}
 
 -- the texts between commas that are left, none behind the last
@@ -31,8 +34,26 @@ after said (Orders symmetry) = record said { symmetry = Some symmetry }
 after said (Variable var) = record said { vars = said.vars ++ var ∷ [] }
 after said (Line line) = record said { lines = said.lines ++ line ∷ [] }
 
+-- nothing was said
+abbrev pub nothing_said : Said
+nothing_said = record { name = None; section = Ahead; n_states = None; neighborhood = None; symmetry = None; vars = []; lines = [] }
+
+-- whether a transition fits the all-zero neighbourhood, one more line counted
+abbrev pub fits_after : Bool → List Var → Told → Bool
+fits_after fits vars (Line line) = fits || fits_zero vars line
+fits_after fits vars _ = fits
+
 -- the number of states is one, the transitions so far are quiet, and it is known whether one fits the all-zero neighbourhood
 pub record IsKept (said : Said) (fit : Bool) : Type 0 where
   pub most : IfSome said.n_states (λ n. n ≤ 256)
   pub fits : fit ≡ list_any (fits_zero said.vars) said.lines
+  pub quiet : is_quiet said.vars said.lines ≡ true
+
+-- what is said so far are parts of a rule table
+pub record IsGood (said : Said) : Type 0 where
+  pub states : (n : ℕ) → said.n_states ≡ Some n → (2 ≤ n) × (n ≤ 256)
+  pub listed : (n : Neighborhood) (s : Symmetry) → said.neighborhood ≡ Some n → said.symmetry ≡ Some s → IsTrue (is_listed n s)
+  pub names : (i j : ℕ) (x y : Var) → i < j → slice_get said.vars i ≡ Some x → slice_get said.vars j ≡ Some y → x.name ≢ y.name
+  pub variables : (n : ℕ) → said.n_states ≡ Some n → All (IsVariable n) said.vars
+  pub transitions : (n : ℕ) (h : Neighborhood) → said.n_states ≡ Some n → said.neighborhood ≡ Some h → All (IsTransition n (neighbour_count h) said.vars) said.lines
   pub quiet : is_quiet said.vars said.lines ≡ true

@@ -65,6 +65,22 @@ abbrev pub from_first : {X : Type 0} → (X → Bool) → List X → List X
 from_first p [] = []
 from_first p (x ∷ xs) = if p x then x ∷ xs else from_first p xs
 
+-- the elements before the first one that passes the test
+abbrev pub up_to : {X : Type 0} → (X → Bool) → List X → List X
+up_to p [] = []
+up_to p (x ∷ xs) = if p x then [] else x ∷ up_to p xs
+
+-- the first element
+abbrev pub first_of : {X : Type 0} → List X → Option X
+first_of [] = None
+first_of (x ∷ xs) = Some x
+
+-- the first of the options that there is
+abbrev pub first_some : {X : Type 0} → List (Option X) → Option X
+first_some [] = None
+first_some (None ∷ options) = first_some options
+first_some (Some x ∷ options) = Some x
+
 -- the first line that isn't passed over, and all behind it
 abbrev pub from_rule : List Numbered → List Numbered
 from_rule lines = from_first (λ line. not (is_passed_over line.1)) lines
@@ -75,7 +91,7 @@ from_table lines = from_first (λ line. is_table_line line.1) (drop 1 (from_rule
 
 -- the lines of the table: behind the table line, up to the next section
 abbrev pub table_lines : List Numbered → List Numbered
-table_lines lines = before_first (λ line. is_section_line line.1) (drop 1 (from_table lines))
+table_lines lines = up_to (λ line. is_section_line line.1) (drop 1 (from_table lines))
 
 -- a line of the table, without its comment and the whitespace at its ends
 abbrev pub content : List ℕ → List ℕ
@@ -91,7 +107,7 @@ table_texts lines = contents (table_lines lines)
 
 -- the name on the rule line
 unfoldable pub name_of : List Numbered → Option (List ℕ)
-name_of lines = option_and_then (λ line. name_on line.1) (find (λ line. not (is_passed_over line.1)) lines)
+name_of lines = option_and_then (λ line. name_on line.1) (first_of (from_rule lines))
 
 -- no table line came, or one, or one and a further section behind it
 unfoldable pub section_of : List Numbered → Section
@@ -149,15 +165,19 @@ symmetry_named word =
     else (if bytes_eq word (codes "rotate8") then Some symmetries.Rotate8
     else (if bytes_eq word (codes "rotate8reflect") then Some symmetries.Rotate8Reflect else None))))))
 
--- what these lines describe
+-- the value of a descriptor with one of these keys
+abbrev pub value_by : {X : Type 0} → (List ℕ → Bool) → (List ℕ → Option X) → List ℕ → Option X
+value_by is_key named text = if describes_by is_key text then named (setting_of text) else None
+
+-- what these lines describe: the first value of each
 abbrev pub states_of : List (List ℕ) → Option ℕ
-states_of texts = option_and_then (λ text. states_named (setting_of text)) (find (describes_by is_states_key) texts)
+states_of texts = first_some (map (value_by is_states_key states_named) texts)
 
 abbrev pub neighborhood_of : List (List ℕ) → Option Neighborhood
-neighborhood_of texts = option_and_then (λ text. neighborhood_named (setting_of text)) (find (describes_by is_neighborhood_key) texts)
+neighborhood_of texts = first_some (map (value_by is_neighborhood_key neighborhood_named) texts)
 
 abbrev pub symmetry_of : List (List ℕ) → Option Symmetry
-symmetry_of texts = option_and_then (λ text. symmetry_named (setting_of text)) (find (describes_by is_symmetry_key) texts)
+symmetry_of texts = first_some (map (value_by is_symmetry_key symmetry_named) texts)
 
 -- the symmetry is listed for the neighbourhood, where both are known
 abbrev pub agree : Option Neighborhood → Option Symmetry → Bool

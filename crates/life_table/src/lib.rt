@@ -7,6 +7,7 @@ mod entries;
 mod found;
 pub mod laws;
 mod next;
+mod reading;
 mod said;
 mod table;
 mod telling;
@@ -16,4 +17,5 @@ mod variables;
 mod words;
 
 pub use next::Neighbours;
+pub use reading::read_table;
 pub use table::{Entry, Neighborhood, Symmetry, Table, Transition, Var};

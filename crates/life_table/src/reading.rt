@@ -1,0 +1,145 @@
+//! Rule tables, read.
+
+ghost use Rattle.std.specs.Prelude.{◌≡◌, OnOk, IfOk, IfErr, MatchResult, Some, None, Ok, Err, false};
+ghost use Rattle.life_base.specs.Refusal.{OrMemory};
+ghost use Rattle.life_base.specs.Text.{lines_of};
+ghost use Rattle.life_base.specs.declared.kind.Kind.TheVariants.{Memory};
+ghost use Rattle.life_table.specs.Reading.{told_by, lacking, IsTable, Refuses, Describes};
+ghost use Rattle.life_table.specs.Reader.{IsKept, IsGood, after, fits_after, nothing_said};
+
+use crate::said::{Said, Section, Told};
+use crate::table::Table;
+use crate::telling::told_on;
+use crate::transitions::fits_zero;
+use life_base::{Fault, Items, Kind, Place, lines};
+use std::alloc::Global;
+
+/// Takes the lines of a rule table's file one after another.
+#[derive(Drop)]
+struct TableReader {
+    said: Said,
+    /// Whether a transition fits the neighbourhood in which each cell is 0.
+    fits: bool,
+}
+
+impl TableReader {
+    /// A reader that no line came to.
+    fn new(alloc: Global) -> TableReader
+        ensures said { result.said ≡ nothing_said }
+        ensures fits { result.fits ≡ false }
+    {
+        TableReader {
+            said: Said {
+                name: None,
+                section: Section::Ahead,
+                n_states: None,
+                neighborhood: None,
+                symmetry: None,
+                vars: Items::new(alloc),
+                lines: Items::new(alloc),
+            },
+            fits: false,
+        }
+    }
+
+    /// Keeps what a line says.
+    fn keep(&mut self, told: Told) -> Result<(), Kind>
+        ensures said { OnOk result (self.new.said ≡ after self.old.said told) }
+        ensures fits { OnOk result (self.new.fits ≡ fits_after self.old.fits self.old.said.vars told) }
+        ensures err { IfErr result (λ kind. kind ≡ Memory) }
+    {
+        match told {
+            Told::Nothing => {}
+            Told::RuleName(name) => self.said.name = Some(name),
+            Told::TableOpens => self.said.section = Section::Open,
+            Told::TableEnds => self.said.section = Section::Behind,
+            Told::States(n_states) => self.said.n_states = Some(n_states),
+            Told::Neighbors(neighborhood) => self.said.neighborhood = Some(neighborhood),
+            Told::Orders(symmetry) => self.said.symmetry = Some(symmetry),
+            Told::Variable(var) => self.said.vars.push(var)?,
+            Told::Line(line) => {
+                self.fits = self.fits || fits_zero(self.said.vars.as_slice(), line.inputs.as_slice());
+                self.said.lines.push(line)?;
+            }
+        }
+        Ok(())
+    }
+
+    /// Takes the next line.
+    fn take(&mut self, alloc: Global, number: u64, line: &[u8]) -> Result<(), Fault>
+        requires kept { IsKept self.old.said self.old.fits }
+        ensures ok {
+            OnOk result ((told : Told) × (told_by self.old.said number line.now ≡ Ok told) × (self.new.said ≡ after self.old.said told)
+                × (self.new.fits ≡ fits_after self.old.fits self.old.said.vars told))
+        }
+        ensures err { IfErr result (λ fault. OrMemory fault ((told_by self.old.said number line.now ≡ Err fault.kind) × (fault.place.line ≡ number))) }
+    {
+        let told = match told_on(alloc, &self.said, self.fits, number, line) {
+            Ok(told) => told,
+            Err(Kind::Memory) => return Err(Fault::of(Kind::Memory)),
+            Err(kind) => {
+                return Err(Fault {
+                    place: Place { line: number },
+                    kind,
+                });
+            }
+        };
+        match self.keep(told) {
+            Ok(()) => Ok(()),
+            Err(kind) => Err(Fault::of(kind)),
+        }
+    }
+}
+
+/// The table that lines describe, or what they lack.
+fn table_of(said: Said) -> Result<Table, Kind>
+    requires good { IsGood said }
+    ensures { MatchResult result (λ table. (lacking said ≡ None) × Describes said table) (λ kind. lacking said ≡ Some kind) }
+{
+    let Said {
+        name,
+        section,
+        n_states,
+        neighborhood,
+        symmetry,
+        vars,
+        lines,
+    } = said;
+    let Some(name) = name else {
+        return Err(Kind::NoRuleLine);
+    };
+    if section == Section::Ahead {
+        return Err(Kind::NoTable);
+    }
+    match (n_states, neighborhood, symmetry) {
+        (Some(n_states), Some(neighborhood), Some(symmetry)) => Ok(Table {
+            name,
+            n_states,
+            neighborhood,
+            symmetry,
+            vars,
+            lines,
+        }),
+        _ => Err(Kind::BadDescriptor),
+    }
+}
+
+/// The table that a `.rule` file writes, or why the bytes are none.
+pub fn read_table(alloc: Global, bytes: &[u8]) -> Result<Table, Fault>
+    ensures ok { IfOk result (λ table. IsTable bytes.now table) }
+    ensures err { IfErr result (λ fault. OrMemory fault (Refuses (lines_of bytes.now) fault)) }
+{
+    let mut reader = TableReader::new(alloc);
+    let mut next: u64 = 1;
+    for (number, line) in lines(bytes) {
+        reader.take(alloc, number, line)?;
+        next = number.saturating_add(1);
+    }
+    match table_of(reader.said) {
+        Ok(table) => Ok(table),
+        Err(kind) => Err(Fault {
+            place: Place { line: next },
+            kind,
+        }),
+    }
+}
