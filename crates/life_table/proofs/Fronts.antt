@@ -163,6 +163,9 @@ module _ (ps : List Numbered) (x : Numbered) where
     section = section_is (ps ++ x ∷ []) ∙ ap section_by a ∙ s;
     texts = texts_are (ps ++ x ∷ []) ∙ ap texts_by a ∙ t ∙ ap (λ (u : List Numbered). u ++ more) (sym (ap texts_by b) ∙ sym (texts_are ps)) }
 
+  pub rule_passed : from_rule ps ≡ [] → is_passed_over x.1 ≡ true → from_rule (ps ++ x ∷ []) ≡ []
+  rule_passed e p = rule_new e ∙ ap (λ (b : Bool). if not b then x ∷ [] else []) p
+
   pub grown_passed : from_rule ps ≡ [] → is_passed_over x.1 ≡ true → Grown ps x None Ahead []
   grown_passed e p =
       let r : from_rule (ps ++ x ∷ []) ≡ [] = rule_new e ∙ ap (λ (b : Bool). if not b then x ∷ [] else []) p in

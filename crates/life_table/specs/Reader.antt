@@ -55,5 +55,8 @@ pub record IsGood (said : Said) : Type 0 where
   pub listed : (n : Neighborhood) (s : Symmetry) → said.neighborhood ≡ Some n → said.symmetry ≡ Some s → IsTrue (is_listed n s)
   pub names : (i j : ℕ) (x y : Var) → i < j → slice_get said.vars i ≡ Some x → slice_get said.vars j ≡ Some y → x.name ≢ y.name
   pub variables : (n : ℕ) → said.n_states ≡ Some n → All (IsVariable n) said.vars
+  pub no_variables : said.n_states ≡ None → said.vars ≡ []
+  pub no_transitions : said.n_states ≡ None → said.lines ≡ []
+  pub none_without : said.neighborhood ≡ None → said.lines ≡ []
   pub transitions : (n : ℕ) (h : Neighborhood) → said.n_states ≡ Some n → said.neighborhood ≡ Some h → All (IsTransition n (neighbour_count h) said.vars) said.lines
   pub quiet : is_quiet said.vars said.lines ≡ true
