@@ -1,6 +1,6 @@
 -- The format of rule tables is a grammar of lines.
-use Rattle.std.proofs.Common.{◌≡◌, ℕ, zero, suc, ◌+◌, ◌-◌, ◌^◌, ◌<◌, ◌≤◌, min, List, [], ◌∷◌, ◌++◌, length, take, get_or, Bool, true, false, refl, ap, sym, subst, ◌∙◌, ◌&&◌, ◌⊎◌, inl, inr, arith, append_assoc, length-append, add-one}
-use Rattle.std.specs.Prelude.{codes, Option, Some, None, Result, Ok, Err, is_some}
+use Rattle.std.proofs.Common.{◌≡◌, ℕ, zero, suc, ◌+◌, ◌-◌, ◌^◌, ◌<◌, ◌≤◌, min, List, [], ◌∷◌, ◌++◌, length, take, get_or, Bool, true, false, refl, ap, sym, subst, ◌∙◌, ◌⊎◌, inl, inr, arith, append_assoc, length-append, add-one}
+use Rattle.std.specs.Prelude.{codes, Option, Some, None, Result, Ok, Err}
 use Rattle.std.proofs.lemmas.List.{append-nil, take-append-le, take_more, take_all}
 use Rattle.std.proofs.lemmas.Bool.Decides.{eqb_tells}
 use Rattle.std.proofs.Math.Seq.{take-append_seam, get_or-append_seam}
@@ -11,12 +11,12 @@ use Rattle.life_base.specs.Refusal.{Prefix, kept, continuations}
 use Rattle.life_base.specs.declared.kind.Kind.{Kind}
 use Rattle.life_base.proofs.Refusals.{UnbrokenBelow, IsByLines}
 use Rattle.life_table.specs.Reading.{Numbered, IsTableFile, broken, missing, lacking, said_by, told_by, told_descriptor, number_behind, fault_in, is_described, content}
-use Rattle.life_table.specs.Reader.{IsGood, after, nothing_said}
+use Rattle.life_table.specs.Reader.{IsGood, after}
 use Rattle.life_table.specs.declared.said.Said.{Said}
 use Rattle.life_table.specs.declared.said.Section.{Section}
 use Rattle.life_table.specs.declared.said.Section.TheVariants.{Ahead, Open, Behind}
 use Rattle.life_table.specs.declared.said.Told.{Told}
-use Rattle.life_table.specs.declared.said.Told.TheVariants.{Nothing, RuleName, TableOpens, TableEnds, States, Neighbors, Orders, Variable, Line}
+use Rattle.life_table.specs.declared.said.Told.TheVariants.{RuleName, TableOpens, States, Neighbors, Orders, Variable, Line}
 use Rattle.life_table.specs.declared.table.Neighborhood.{Neighborhood}
 use Rattle.life_table.specs.declared.table.Neighborhood.TheVariants.{VonNeumann, Moore}
 use Rattle.life_table.specs.declared.table.Symmetry.{Symmetry}

@@ -1,9 +1,9 @@
 -- One more line: the rule line, the table line, and the lines of the table.
-use Rattle.std.proofs.Common.{◌≡◌, ℕ, List, [], ◌∷◌, ◌++◌, map, drop, Bool, true, false, not, refl, ap, sym, ◌∙◌, subst, ◌||◌, ◌⊎◌, inl, inr}
-use Rattle.std.specs.Prelude.{Option, Some, None, if◌then◌else◌, filter, option_and_then}
+use Rattle.std.proofs.Common.{◌≡◌, ℕ, List, [], ◌∷◌, ◌++◌, drop, Bool, true, false, not, refl, ap, sym, ◌∙◌, ◌||◌, ◌⊎◌, inl, inr}
+use Rattle.std.specs.Prelude.{Option, None, if◌then◌else◌, option_and_then}
 use Rattle.std.specs.List.{list_any}
 use Rattle.life_base.specs.Text.{is_empty}
-use Rattle.life_table.specs.Reading.{Numbered, from_first, up_to, first_of, from_rule, from_table, table_lines, table_texts, contents, content, name_of, name_on, section_of, is_passed_over, is_table_line, is_section_line}
+use Rattle.life_table.specs.Reading.{Numbered, from_first, up_to, first_of, from_rule, from_table, table_texts, contents, content, name_of, name_on, section_of, is_passed_over, is_table_line, is_section_line}
 use Rattle.life_table.specs.declared.said.Section.{Section}
 use Rattle.life_table.specs.declared.said.Section.TheVariants.{Ahead, Open, Behind}
 

@@ -1,14 +1,14 @@
 -- The images of a symmetry are turns by multiples of a step, and their reflections.
-use Rattle.std.proofs.Common.{◌≡◌, ℕ, ◌+◌, ◌*◌, ◌/◌, ◌<◌, ◌≤◌, ◌∷◌, ◌++◌, List, [], map, length, Bool, true, false, cond, refl, ap, sym, ◌∙◌, subst, ◌⊎◌, inl, inr, arith}
+use Rattle.std.proofs.Common.{◌≡◌, ℕ, ◌*◌, ◌/◌, ◌<◌, ◌≤◌, ◌∷◌, ◌++◌, List, [], map, length, Bool, true, false, cond, refl, ap, sym, ◌∙◌, subst, ◌⊎◌, inl, inr, arith}
 use Rattle.std.specs.Prelude.{Contains, IsTrue}
 use Rattle.std.proofs.Math.Nat.{div_self, zero-mul}
-use Rattle.std.proofs.Common.{◌-◌, drop, slice_index, length-drop, zero-add}
-use Rattle.std.specs.List.{range_with_len, slice_index_or}
+use Rattle.std.proofs.Common.{drop, slice_index, zero-add}
+use Rattle.std.specs.List.{range_with_len}
 use Rattle.std.proofs.lemmas.List.FromFn.{length-range_with_len, get_or-range_with_len}
 use Rattle.std.proofs.lemmas.List.Elements.{Contains-append_left, Contains-append_right, Contains-append_cases}
 use Rattle.life_table.specs.Orders.{turn, turns, reflected_turn, reflected_turns, images}
-use Rattle.life_table.specs.Meaning.{Gives, GivesByCounts, IsChoice, state_of}
-use Rattle.life_table.specs.Found.{Tells, GivesAs, ImageGives}
+use Rattle.life_table.specs.Meaning.{Gives, GivesByCounts}
+use Rattle.life_table.specs.Found.{Tells, ImageGives}
 use Rattle.life_table.specs.Valid.{neighbour_count}
 use Rattle.life_table.proofs.Members.{in_map, from_map}
 use Rattle.life_table.proofs.Adding.{tells_same}
@@ -17,7 +17,7 @@ use Rattle.life_table.specs.declared.found.Found.{Found}
 use Rattle.life_table.specs.declared.table.Neighborhood.{Neighborhood}
 use Rattle.life_table.specs.declared.table.Neighborhood.TheVariants.{VonNeumann, Moore}
 use Rattle.life_table.specs.declared.table.Symmetry.{Symmetry}
-use Rattle.life_table.specs.declared.table.Symmetry.TheVariants.{Identity, Rotate4, Rotate4Reflect, ReflectHorizontal, Permute, Rotate8, Rotate8Reflect}
+use Rattle.life_table.specs.declared.table.Symmetry.TheVariants.{Identity, ReflectHorizontal, Permute}
 use Rattle.life_table.specs.declared.table.Var.{Var}
 use Rattle.life_table.specs.declared.table.Transition.{Transition}
 

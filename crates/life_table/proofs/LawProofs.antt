@@ -1,12 +1,11 @@
 -- Proofs of the laws of rule tables.
-use Rattle.std.proofs.Common.{◌≡◌, ℕ, List, [], ◌∷◌, ◌++◌, map, take, drop, refl, ap, sym, ◌∙◌, subst, ◌⊎◌, inl, inr}
-use Rattle.std.specs.Prelude.{All, Contains}
+use Rattle.std.proofs.Common.{◌≡◌, ℕ, List, [], ◌∷◌, ◌++◌, map, take, drop, ap, sym, ◌∙◌, subst, inl, inr}
+use Rattle.std.specs.Prelude.{All}
 use Rattle.std.proofs.lemmas.List.Elements.{All-head, All-tail}
 use Rattle.life_table.proofs.Counts.{count-order, order_by_counts}
 use Rattle.life_table.specs.Laws.{OrdersByCounts, PermuteByCounts, OneAnswer}
-use Rattle.life_table.specs.Meaning.{Gives, GivesByCounts, Answer, Becomes, Ambiguous, Decides, FirstToGive, GivesNothing, LineAnswers, count_of, state_of}
+use Rattle.life_table.specs.Meaning.{Gives, Answer, Becomes, Ambiguous, Decides, GivesNothing, LineAnswers, count_of, state_of}
 use Rattle.life_table.specs.declared.table.Symmetry.{Symmetry}
-use Rattle.life_table.specs.declared.table.Symmetry.TheVariants.{Permute}
 use Rattle.life_table.specs.declared.table.Var.{Var}
 use Rattle.life_table.specs.declared.table.Transition.{Transition}
 

@@ -1,5 +1,5 @@
 -- What the lines say together with one more that breaks no rule.
-use Rattle.std.proofs.Common.{◌≡◌, ℕ, List, [], ◌∷◌, ◌++◌, Bool, true, false, not, refl, ap, sym, ◌∙◌, subst, ◌&&◌, ◌⊎◌, inl, inr}
+use Rattle.std.proofs.Common.{◌≡◌, ℕ, List, [], ◌∷◌, ◌++◌, Bool, true, false, not, refl, ap, sym, ◌∙◌, subst}
 use Rattle.std.specs.Prelude.{Option, Some, None, if◌then◌else◌}
 use Rattle.std.specs.List.{list_any}
 use Rattle.std.proofs.lemmas.List.{append-nil}
@@ -7,12 +7,11 @@ use Rattle.std.proofs.lemmas.List.Elements.{All-nil}
 use Rattle.life_base.specs.Text.{is_empty}
 use Rattle.life_table.specs.Reading.{Numbered, said_in, said_by, name_of, name_on, section_of, table_texts, from_rule, from_first, contents, content, is_passed_over, is_section_line}
 use Rattle.life_table.specs.Reader.{after, nothing_said}
-use Rattle.life_table.specs.declared.said.Said.{Said}
 use Rattle.life_table.specs.declared.said.Section.{Section}
 use Rattle.life_table.specs.declared.said.Section.TheVariants.{Ahead, Open, Behind}
 use Rattle.life_table.specs.declared.said.Told.{Told}
-use Rattle.life_table.specs.declared.said.Told.TheVariants.{Nothing, RuleName, TableOpens, TableEnds, States, Neighbors, Orders, Variable, Line}
-use Rattle.life_table.proofs.Cases.{Says, Case, passed, named, ahead, opens, ends, silent, says, behind, known}
+use Rattle.life_table.specs.declared.said.Told.TheVariants.{Nothing, RuleName, TableOpens, TableEnds}
+use Rattle.life_table.proofs.Cases.{Says, Case, passed, named, ahead, opens, ends, silent, says, behind}
 use Rattle.life_table.proofs.Fronts.{Grown, Stage, start, ruled, tabled, stage, is_table, is_section, rule_passed, grown_passed, grown_named, grown_ahead, grown_opens, grown_behind, grown_ends, grown_text, name_at_start, section_at_start, section_ahead, section_within}
 use Rattle.life_table.proofs.Saying.{TextsStand, says_more}
 

@@ -1,5 +1,5 @@
 -- Reading a list of words one by one: what is read and what is left are the whole.
-use Rattle.std.proofs.Common.{◌≡◌, ℕ, ◌+◌, ◌<◌, List, [], ◌∷◌, ◌++◌, length, map, drop, Bool, true, false, not, refl, ap, sym, ◌∙◌, subst, append_assoc, cond, get_or, add-one}
+use Rattle.std.proofs.Common.{◌≡◌, ℕ, ◌+◌, ◌<◌, List, [], ◌∷◌, ◌++◌, length, map, drop, true, false, not, refl, ap, sym, ◌∙◌, append_assoc, get_or, add-one}
 use Rattle.std.specs.Prelude.{Option, Some, None, option_map, filter}
 use Rattle.std.specs.List.{fold}
 use Rattle.std.proofs.lemmas.List.{append-nil}

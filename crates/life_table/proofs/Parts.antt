@@ -1,12 +1,12 @@
 -- The first part of a text that a byte separates.
-use Rattle.std.proofs.Common.{◌≡◌, ℕ, zero, suc, ◌+◌, ◌<◌, List, [], ◌∷◌, ◌++◌, length, take, drop, ◌-◌, length-drop, ltb, add-one, ◌≤◌, Bool, true, false, cond, not, refl, ap, sym, ◌∙◌, arith, rules}
-use Rattle.std.specs.Prelude.{◌==◌, position, Option, Some, None}
+use Rattle.std.proofs.Common.{◌≡◌, ℕ, suc, ◌+◌, ◌<◌, List, [], ◌∷◌, length, take, drop, ◌-◌, length-drop, ltb, ◌≤◌, Bool, true, false, cond, not, refl, ap, sym, ◌∙◌, arith}
+use Rattle.std.specs.Prelude.{position, Some, None}
 use Rattle.std.proofs.lemmas.List.Quantifiers.{position-Some}
 use Rattle.std.proofs.lemmas.List.Sums.{position_or_len_is}
 use Rattle.std.proofs.lemmas.List.Splits.{slice_split_first}
 use Rattle.std.proofs.Math.Seq.{take-length}
 use Rattle.std.proofs.lemmas.Bool.{ltb-false}
-use Rattle.std.specs.List.{position_or_len, prefix_len, slice_split, onto_first, before_first, after_first}
+use Rattle.std.specs.List.{position_or_len, slice_split, onto_first}
 
 -- the first separator is at i
 pub parts_at : (p : ℕ → Bool) (text : List ℕ) (i : ℕ) → position p text ≡ Some i → slice_split p text ≡ take i text ∷ slice_split p (drop (i + 1) text)

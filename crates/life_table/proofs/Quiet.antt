@@ -1,14 +1,14 @@
 -- A cell of state 0 among neighbours of state 0 keeps it.
-use Rattle.std.proofs.Common.{◌≡◌, ◌≢◌, ℕ, zero, suc, ◌+◌, ◌<◌, ◌≤◌, ◌∷◌, ◌++◌, List, [], map, length, Bool, true, false, cond, refl, ap, sym, ◌∙◌, subst, ◌⊎◌, inl, inr, arith, lit<, ◌||◌, get_or}
-use Rattle.std.specs.Prelude.{Contains, All, IsTrue, IfSome, slice_get, replicate, Option, Some, None, nat_eq, ◌==◌, if◌then◌else◌, ◌&&◌}
+use Rattle.std.proofs.Common.{◌≡◌, ℕ, zero, suc, ◌+◌, ◌∷◌, ◌++◌, List, [], map, length, Bool, true, false, refl, ap, sym, ◌∙◌, subst, ◌⊎◌, inl, inr, arith, lit<, ◌||◌, get_or}
+use Rattle.std.specs.Prelude.{Contains, All, IsTrue, IfSome, slice_get, replicate, Option, Some, ◌==◌, if◌then◌else◌, ◌&&◌}
 use Rattle.std.specs.List.{list_any, list_all}
 use Rattle.std.specs.Option.{option_map_or}
 use Rattle.std.proofs.lemmas.Bool.Decides.{eqb_tells}
-use Rattle.std.proofs.lemmas.Option.{slice_get_within, slice_get_cases}
+use Rattle.std.proofs.lemmas.Option.{slice_get_cases}
 use Rattle.std.proofs.lemmas.List.Elements.{All-nil, All-cons, All-head, All-tail}
 use Rattle.life_table.specs.Orders.{images, orders, insertions}
-use Rattle.life_table.specs.Meaning.{IsChoice, HasState, has_state, state_of, Gives, GivesNothing, Decides, FirstToGive, Becomes}
-use Rattle.life_table.specs.Valid.{IsSound, IsVariable, IsEntry, IsTransition, allows_zero, fits_zero, is_quiet_output, is_quiet, neighbour_count, is_variable}
+use Rattle.life_table.specs.Meaning.{IsChoice, HasState, has_state, state_of, Gives, GivesNothing}
+use Rattle.life_table.specs.Valid.{IsVariable, IsEntry, IsTransition, allows_zero, fits_zero, is_quiet_output, is_quiet, neighbour_count, is_variable}
 use Rattle.life_table.specs.Laws.{ZeroStaysZero}
 use Rattle.life_table.proofs.Members.{in_one, in_none, in_cases, from_map, from_flat_map}
 use Rattle.life_table.proofs.Counts.{order_by_counts}

@@ -1,17 +1,15 @@
 -- Worked examples of the `.rule` format, computed.
-use Rattle.std.specs.Prelude.{◌≡◌, ℕ, ◌+◌, ◌^◌, List, [], ◌∷◌, ◌++◌, map, take, length, replicate, codes, Option, Some, None, refl}
+use Rattle.std.specs.Prelude.{◌≡◌, ℕ, ◌^◌, List, [], ◌∷◌, ◌++◌, map, take, length, replicate, codes, Option, Some, None, refl}
 use Rattle.std.specs.List.{range_with_len, slice_index_or}
 use Rattle.life_base.specs.Text.{numbered_from}
 use Rattle.life_base.specs.Rules.{rule_of, life_sets}
 use Rattle.life_base.specs.declared.kind.Kind.{Kind}
-use Rattle.life_base.specs.declared.kind.Kind.TheVariants.{LineTooLong, NoRuleLine, NoTable, BadDescriptor, UnsupportedNeighborhood, UnsupportedSymmetry, BadVariable, BadTransition, UnboundOutput, NotQuiet}
+use Rattle.life_base.specs.declared.kind.Kind.TheVariants.{NoRuleLine, NoTable, BadDescriptor, UnsupportedNeighborhood, UnsupportedSymmetry, BadVariable, BadTransition, UnboundOutput, NotQuiet}
 use Rattle.life_table.specs.Reading.{broken, missing, said_by, told_by, told_descriptor, name_of, section_of, table_texts, entry_of, states_listed, entries_of, variable_states, variable_of, transition_of}
 use Rattle.life_table.specs.declared.said.Said.{Said}
-use Rattle.life_table.specs.declared.said.Section.TheVariants.{Ahead, Open, Behind}
-use Rattle.life_table.specs.declared.table.Neighborhood.TheVariants.{VonNeumann, Moore}
+use Rattle.life_table.specs.declared.said.Section.TheVariants.{Open, Behind}
+use Rattle.life_table.specs.declared.table.Neighborhood.TheVariants.{VonNeumann}
 use Rattle.life_table.specs.declared.table.Symmetry.TheVariants as symmetries
-use Rattle.life_table.specs.declared.table.Var.{Var}
-use Rattle.life_table.specs.declared.table.Entry.{Entry}
 use Rattle.life_table.specs.declared.table.Entry.TheVariants.{Fixed}
 use Rattle.life_table.specs.declared.table.Entry.TheVariants as entries
 use Rattle.life_table.specs.declared.table.Transition.{Transition}

@@ -1,25 +1,22 @@
 -- What lines say together with one more that breaks no rule.
-use Rattle.std.proofs.Common.{◌≡◌, ℕ, List, [], ◌∷◌, ◌++◌, map, Bool, true, false, not, refl, ap, sym, ◌∙◌, subst, ◌&&◌, ◌||◌, ◌⊎◌, inl, inr}
+use Rattle.std.proofs.Common.{◌≡◌, ℕ, List, [], ◌∷◌, ◌++◌, Bool, true, false, not, refl, ap, sym, ◌∙◌, subst, ◌&&◌, ◌||◌, ◌⊎◌, inl, inr}
 use Rattle.std.specs.Prelude.{Option, Some, None, if◌then◌else◌, is_some, option_to_list, All, codes, bytes_eq}
-use Rattle.std.specs.List.{cons_option, list_any}
+use Rattle.std.specs.List.{cons_option}
 use Rattle.std.proofs.lemmas.List.{append-nil}
-use Rattle.std.proofs.lemmas.List.Elements.{All-nil}
 use Rattle.std.proofs.lemmas.Slice.Eq.{bytes_eq-Decides}
-use Rattle.life_base.specs.Text.{is_empty}
 use Rattle.life_table.specs.Valid.{neighbour_count}
-use Rattle.life_table.specs.Reading.{Numbered, texts_of, said_in, said_by, name_of, name_on, section_of, table_texts, from_rule, from_first, contents, content, is_described, is_table_line, is_section_line, is_passed_over, is_descriptor, key_of, setting_of, is_states_key, is_neighborhood_key, is_symmetry_key, states_named, neighborhood_named, symmetry_named, states_of, neighborhood_of, symmetry_of, is_variable_line, variable_of, variables_written, variables_in, is_transition_line, transition_of, transitions_written, transitions_in}
+use Rattle.life_table.specs.Reading.{Numbered, texts_of, said_in, is_descriptor, key_of, setting_of, is_states_key, is_neighborhood_key, is_symmetry_key, states_named, neighborhood_named, symmetry_named, states_of, neighborhood_of, symmetry_of, is_variable_line, variable_of, variables_written, variables_in, is_transition_line, transition_of, transitions_written, transitions_in}
 use Rattle.life_table.specs.Reader.{after}
 use Rattle.life_table.specs.declared.said.Said.{Said}
 use Rattle.life_table.specs.declared.said.Section.{Section}
-use Rattle.life_table.specs.declared.said.Section.TheVariants.{Ahead, Open, Behind}
+use Rattle.life_table.specs.declared.said.Section.TheVariants.{Open}
 use Rattle.life_table.specs.declared.said.Told.{Told}
-use Rattle.life_table.specs.declared.said.Told.TheVariants.{Nothing, RuleName, TableOpens, TableEnds, States, Neighbors, Orders, Variable, Line}
+use Rattle.life_table.specs.declared.said.Told.TheVariants.{States, Neighbors, Orders, Variable, Line}
 use Rattle.life_table.specs.declared.table.Neighborhood.{Neighborhood}
 use Rattle.life_table.specs.declared.table.Symmetry.{Symmetry}
 use Rattle.life_table.specs.declared.table.Var.{Var}
 use Rattle.life_table.specs.declared.table.Transition.{Transition}
-use Rattle.life_table.proofs.Cases.{Says, states, neighbors, orders, variable, transition, Case, passed, named, ahead, opens, ends, silent, says, behind}
-use Rattle.life_table.proofs.Fronts.{Grown, Stage, start, ruled, tabled, stage, grown_passed, grown_named, grown_ahead, grown_opens, grown_behind, grown_ends, grown_text, name_at_start, section_at_start, section_ahead, section_within}
+use Rattle.life_table.proofs.Cases.{Says, states, neighbors, orders, variable, transition}
 use Rattle.life_table.proofs.Texts.{setting_same, setting_new, this_key, other_key, no_descriptor, written, variables_more, transitions_more, IsRead, transitions_kept, AreDescriptors, no_variables, no_transitions, none_to_read, descriptors_more, all_more, on_line}
 
 -- the texts so far: all are descriptors until all three settings are given, and each transition's line is read

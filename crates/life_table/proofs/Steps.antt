@@ -1,5 +1,5 @@
 -- One more input of a line gets a state.
-use Rattle.std.proofs.Common.{◌≡◌, ◌≢◌, ℕ, zero, suc, ◌+◌, ◌-◌, ◌<◌, ◌≤◌, List, [], ◌∷◌, ◌++◌, map, take, drop, length, get_or, set, cond, Bool, true, false, refl, ap, sym, ◌∙◌, subst, ◌⊎◌, inl, inr, arith, eq-eqb, length-append}
+use Rattle.std.proofs.Common.{◌≡◌, ℕ, zero, suc, ◌+◌, ◌-◌, ◌<◌, List, [], ◌∷◌, ◌++◌, map, take, drop, length, get_or, cond, refl, ap, sym, ◌∙◌, subst, ◌⊎◌, inl, inr, arith, length-append}
 use Rattle.std.specs.Prelude.{slice_index, slice_set}
 use Rattle.std.proofs.lemmas.Bool.Decides.{eqb_tells}
 use Rattle.std.proofs.lemmas.List.{take_more, get_or-set_same, get_or-set_other}
@@ -18,7 +18,7 @@ use Rattle.std.proofs.lemmas.List.Elements.{Contains-append_right}
 use Rattle.std.specs.Prelude.{replicate}
 use Rattle.life_table.specs.declared.found.Found.{Found}
 use Rattle.life_table.proofs.Choices.{snoc_both}
-use Rattle.life_table.specs.Meaning.{IsChoice, state_of, count_of}
+use Rattle.life_table.specs.Meaning.{state_of, count_of}
 use Rattle.life_table.specs.Found.{GivesFrom, Consistent}
 use Rattle.life_table.proofs.Counts.{count-cons, is_one, is_one_same}
 use Rattle.life_table.specs.declared.table.Var.{Var}

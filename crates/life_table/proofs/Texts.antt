@@ -1,17 +1,15 @@
 -- One more text of the table: what it changes of what is said.
-use Rattle.std.proofs.Common.{◌≡◌, ℕ, ◌+◌, ◌<◌, ◌≤◌, List, [], ◌∷◌, ◌++◌, map, length, Bool, true, false, not, refl, ap, sym, ◌∙◌, subst, ◌&&◌, ◌⊎◌, inl, inr, arith, cond, append_assoc, eqb, length-append}
+use Rattle.std.proofs.Common.{◌≡◌, ℕ, ◌+◌, ◌<◌, List, [], ◌∷◌, ◌++◌, map, length, Bool, true, false, not, refl, ap, sym, ◌∙◌, ◌&&◌, ◌⊎◌, inl, inr, arith, cond, eqb, length-append}
 use Rattle.std.proofs.lemmas.Bool.{ltb-true, lt-ltb}
-use Rattle.std.specs.Prelude.{Option, Some, None, if◌then◌else◌, is_some, option_map, option_and_then, option_to_list, All, IsTrue, nat_lt, filter_map, bytes_eq}
+use Rattle.std.specs.Prelude.{Option, Some, None, if◌then◌else◌, option_map, option_and_then, option_to_list, All, nat_lt, bytes_eq}
 use Rattle.std.specs.List.{fold, position_or_len, position, cons_option}
-use Rattle.std.proofs.lemmas.List.{append-nil}
 use Rattle.std.proofs.lemmas.List.Folds.{position_or_len_push}
 use Rattle.std.proofs.lemmas.List.Sums.{fold-append}
 use Rattle.std.proofs.lemmas.List.Elements.{All-nil, All-cons, All-head, All-tail, filter_map-append}
 use Rattle.life_base.specs.Text.{is_digit_text}
 use Rattle.life_table.specs.Valid.{neighbour_count}
-use Rattle.life_table.specs.Reading.{Numbered, texts_of, first_some, value_by, describes_by, is_descriptor, key_of, setting_of, is_states_key, is_neighborhood_key, is_symmetry_key, states_named, neighborhood_named, symmetry_named, states_of, neighborhood_of, symmetry_of, is_variable_line, variable_of, variables_written, variables_in, is_transition_line, transition_of, transition_from, entries_of, entry_of, all_some, transition_words, transitions_written, transitions_in, variable_named, number_below}
+use Rattle.life_table.specs.Reading.{Numbered, texts_of, first_some, value_by, describes_by, is_descriptor, key_of, setting_of, is_variable_line, variable_of, variables_written, variables_in, is_transition_line, transition_of, transition_from, entries_of, entry_of, all_some, transition_words, transitions_written, transitions_in, variable_named, number_below}
 use Rattle.life_table.specs.declared.table.Neighborhood.{Neighborhood}
-use Rattle.life_table.specs.declared.table.Symmetry.{Symmetry}
 use Rattle.life_table.specs.declared.table.Var.{Var}
 use Rattle.life_table.specs.declared.table.Entry.{Entry}
 use Rattle.life_table.specs.declared.table.Entry.TheVariants as entries

@@ -1,17 +1,14 @@
 -- The values that lines write are parts of a rule table.
-use Rattle.std.proofs.Common.{◌≡◌, ◌≢◌, ℕ, zero, suc, ◌+◌, ◌-◌, ◌*◌, ◌/◌, ◌%◌, ◌^◌, ◌<◌, ◌≤◌, List, [], ◌∷◌, ◌++◌, map, take, length, Bool, true, false, not, refl, ap, sym, ◌∙◌, subst, ◌&&◌, ◌⊎◌, inl, inr, arith, cond, get_or, eqb, max, length-append, length-take}
-use Rattle.std.specs.Prelude.{Option, Some, None, if◌then◌else◌, is_some, option_map, option_and_then, All, IsTrue, nat_lt, nat_le, nat_eq, ◌==◌, slice_get, slice_index, bit_or, bytes_eq}
+use Rattle.std.proofs.Common.{◌≡◌, ℕ, zero, suc, ◌+◌, ◌/◌, ◌%◌, ◌^◌, ◌<◌, ◌≤◌, List, [], ◌∷◌, map, take, length, Bool, true, false, refl, ap, sym, ◌∙◌, subst, ◌&&◌, ◌⊎◌, inl, inr, arith, cond, get_or, max, length-take}
+use Rattle.std.specs.Prelude.{Option, Some, None, if◌then◌else◌, is_some, option_map, option_and_then, All, IsTrue, nat_lt, ◌==◌, slice_get, slice_index, bit_or, bytes_eq}
 use Rattle.std.specs.Int.{bit_at}
 use Rattle.std.specs.List.{fold, list_any, position, slice_split, position_or_len, onto_first}
 use Rattle.std.proofs.lemmas.Bool.{ltb-true}
 use Rattle.std.proofs.lemmas.Bool.Decides.{eqb_tells}
-use Rattle.std.proofs.lemmas.List.Quantifiers.{position-Some}
-use Rattle.std.proofs.lemmas.List.{get_or_append_left}
 use Rattle.std.proofs.lemmas.List.Elements.{All-nil, All-cons, All-head, All-tail, All-take}
-use Rattle.std.proofs.lemmas.Option.{slice_get_within, slice_get_cases, slice_get-get_or, get_or_from_slice_get}
+use Rattle.std.proofs.lemmas.Option.{get_or_from_slice_get}
 use Rattle.std.proofs.lemmas.Nat.Bits.{bit_at_or, bit_at-pow_same, bit_at-pow_other, bit_at-zero, bit_at-lt}
 use Rattle.life_base.specs.Text.{is_digit_text, value_of, trim}
-use Rattle.life_table.specs.Meaning.{HasState, has_state}
 use Rattle.life_table.specs.Valid.{IsEntry, IsTransition, IsVariable, is_variable}
 use Rattle.life_table.specs.Reading.{entry_of, number_below, variable_named, entries_of, all_some, transition_words, transition_of, transition_from, is_bound, single, union, union_of, states_of_entry, states_listed, between_commas, variable_states, variable_of, is_variable_name, is_list, within_braces, name_text, list_text}
 use Rattle.life_table.specs.declared.table.Var.{Var}

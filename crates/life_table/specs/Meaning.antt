@@ -1,5 +1,5 @@
 -- What a rule table makes of a cell and its neighbours.
-use Rattle.std.specs.Prelude.{◌≡◌, ◌≢◌, ℕ, ◌+◌, ◌/◌, ◌%◌, ◌<◌, List, [], ◌∷◌, ◌++◌, map, take, drop, slice_get, slice_index, length, IfSome, All, Contains, count_by, nat_eq, ◌⊎◌, Bool, ◌==◌, IsTrue}
+use Rattle.std.specs.Prelude.{◌≡◌, ◌≢◌, ℕ, ◌/◌, ◌%◌, ◌<◌, List, [], ◌∷◌, ◌++◌, map, take, drop, slice_get, slice_index, length, IfSome, All, Contains, count_by, nat_eq, ◌⊎◌, Bool, ◌==◌, IsTrue}
 use Rattle.std.specs.Int.{bit_at}
 use Rattle.life_table.specs.Orders.{images}
 use Rattle.life_table.specs.declared.table.Symmetry.{Symmetry}

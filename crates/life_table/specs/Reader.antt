@@ -1,5 +1,5 @@
 -- What the reader of a rule table keeps from line to line, in words that its own functions use.
-use Rattle.std.specs.Prelude.{◌≡◌, ℕ, ◌+◌, ◌<◌, ◌≤◌, Bool, true, false, List, [], ◌∷◌, ◌++◌, length, map, Option, Some, None, IfSome, ◌==◌, ◌||◌, ◌≢◌, All, IsTrue, slice_get}
+use Rattle.std.specs.Prelude.{◌≡◌, ℕ, ◌+◌, ◌<◌, ◌≤◌, Bool, true, List, [], ◌∷◌, ◌++◌, length, Option, Some, None, IfSome, ◌==◌, ◌||◌, ◌≢◌, All, IsTrue, slice_get}
 use Rattle.std.proofs.Common.{Bor}
 use Rattle.std.specs.List.{list_any, slice_split}
 use Rattle.life_table.specs.Valid.{fits_zero, is_quiet, is_listed, neighbour_count, IsVariable, IsTransition}
@@ -10,7 +10,6 @@ use Rattle.life_table.specs.declared.said.Told.TheVariants.{Nothing, RuleName, T
 use Rattle.life_table.specs.declared.table.Neighborhood.{Neighborhood}
 use Rattle.life_table.specs.declared.table.Symmetry.{Symmetry}
 use Rattle.life_table.specs.declared.table.Var.{Var}
-use Rattle.life_table.specs.declared.table.Transition.{Transition}
 
 -- the texts between commas that are left, none behind the last
 abbrev pub parts_left : Option (Bor (List ℕ)) → List (List ℕ)

@@ -1,5 +1,5 @@
 -- The `.rule` format: which lines a file may have, and which table they write.
-use Rattle.std.specs.Prelude.{◌≡◌, ℕ, ◌+◌, ◌-◌, ◌/◌, ◌%◌, ◌^◌, ◌<◌, ◌≤◌, Bool, true, false, not, min, ◌&&◌, ◌||◌, List, [], ◌∷◌, ◌++◌, length, take, drop, map, filter, filter_map, fold, find, position, take_while, nat_le, nat_lt, ◌==◌, if◌then◌else◌, slice_index, slice_index_or, slice_get, bit_or, bytes_eq, codes, Option, Some, None, Result, Ok, Err, is_some, is_none, option_map, option_and_then, option_to_list}
+use Rattle.std.specs.Prelude.{◌≡◌, ℕ, ◌+◌, ◌-◌, ◌/◌, ◌%◌, ◌^◌, ◌<◌, Bool, true, false, not, min, ◌&&◌, ◌||◌, List, [], ◌∷◌, ◌++◌, length, take, drop, map, filter, filter_map, fold, position, nat_le, nat_lt, ◌==◌, if◌then◌else◌, slice_index, slice_index_or, slice_get, bit_or, bytes_eq, codes, Option, Some, None, Result, Ok, Err, is_some, is_none, option_map, option_and_then, option_to_list}
 use Rattle.std.specs.Char.{is_ascii_digit}
 use Rattle.std.specs.List.{list_all, list_any, slice_split, before_first, after_first}
 use Rattle.life_base.specs.Text.{is_empty, is_whitespace, is_blank, trim, begins_with, is_digit_text, value_of, lines_of, is_too_long, numbered_from}

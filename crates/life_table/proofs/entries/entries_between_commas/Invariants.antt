@@ -1,4 +1,4 @@
-use Rattle.std.proofs.Common.{◌≡◌, List, map, ℕ}
+use Rattle.std.proofs.Common.{◌≡◌, map}
 use Rattle.life_base.specs.Text.{trim}
 use Rattle.life_table.specs.Reading.{entry_of, all_some, between_commas}
 use Rattle.life_table.specs.Reader.{parts_left, bytes_left}

@@ -1,4 +1,4 @@
-use Rattle.std.proofs.Common.{◌≡◌, List, map, drop}
+use Rattle.std.proofs.Common.{◌≡◌, map, drop}
 use Rattle.life_table.specs.Reading.{entry_of, all_some, bytes_alone}
 use Rattle.life_table.proofs.Listed.{joined, solid}
 use Rattle.life_table.proofs.entries.entries_of_bytes.Given as goal

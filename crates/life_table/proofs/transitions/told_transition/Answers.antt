@@ -1,9 +1,7 @@
-use Rattle.std.proofs.Common.{rules, ◌≡◌, ◌∙◌, ◌++◌, ◌∷◌, [], List, Bool, true, false, not, ◌||◌, sym, ap}
-use Rattle.std.specs.List.{list_any}
+use Rattle.std.proofs.Common.{◌≡◌, ◌∙◌, ◌++◌, ◌∷◌, [], List, Bool, true, false, not, ◌||◌, sym, ap}
 use Rattle.life_table.specs.Reading.{is_bound}
 use Rattle.life_table.specs.Valid.{fits_zero, is_quiet_output, is_quiet}
 use Rattle.life_table.specs.declared.table.Entry.{Entry}
-use Rattle.life_table.specs.declared.table.Transition.{Transition}
 use Rattle.life_table.proofs.Quietness.{quiet_more, told_so}
 use Rattle.life_table.proofs.transitions.told_transition.Goals as goal
 

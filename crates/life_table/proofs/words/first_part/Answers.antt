@@ -1,4 +1,4 @@
-use Rattle.std.proofs.Common.{◌≡◌, ◌==◌, ◌∷◌, ◌+◌, ◌∙◌, List, ℕ, ap, sym, take, refl}
+use Rattle.std.proofs.Common.{◌==◌, ◌∷◌, ◌+◌, ◌∙◌, List, ℕ, ap, sym, take}
 use Rattle.std.specs.List.{slice_split}
 use Rattle.life_table.proofs.Parts.{parts_at, parts_without, all_behind}
 use Rattle.life_table.proofs.words.first_part.Goals as goal
