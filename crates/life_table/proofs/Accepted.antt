@@ -45,17 +45,19 @@ whole_of (Some title) false (Some n) (Some h) (Some y) e = record { title = titl
 
 described_by : (said : Said) → IsGood said → lacking said ≡ None → (table : Table) × Describes said table
 described_by said g e =
-    let w = whole_of said.name (is_ahead said.section) said.n_states said.neighborhood said.symmetry e in
-    (record { name = w.title; n_states = w.n; neighborhood = w.h; symmetry = w.y; vars = said.vars; lines = said.lines; sound = sound_of said g w.n w.h w.y w.is_n w.is_h w.is_y },
-     record { name = w.is_title; n_states = w.is_n; neighborhood = w.is_h; symmetry = w.is_y; vars = refl; lines = refl })
+    let w = whole_of said.name (is_ahead said.section) said.n_states said.neighborhood said.symmetry e in (
+      record { name = w.title; n_states = w.n; neighborhood = w.h; symmetry = w.y; vars = said.vars; lines = said.lines; sound = sound_of said g w.n w.h w.y w.is_n w.is_h w.is_y },
+      record { name = w.is_title; n_states = w.is_n; neighborhood = w.is_h; symmetry = w.is_y; vars = refl; lines = refl },
+    )
 
 pub accepted : AcceptedWritesTable
 accepted lines = (
-    (λ file.
+  (λ file.
       let r = reach lines file.unbroken in
       let d = described_by (said_by (numbered_from 1 lines)) r.good (sym (missing_is lines) ∙ file.whole) in
       (d.0, record { file = file; says = d.1 })),
-    λ table are. are.file)
+  λ table are. are.file,
+)
 
 -- a transition has the number of its line
 parts_number : (k number : ℕ) (es : List Entry) (t : Transition) → transition_from k number es ≡ Some t → t.line ≡ number
@@ -99,9 +101,9 @@ nothing_dropped lines table are =
     let en : states_of (texts_of (table_texts (numbered_from 1 lines))) ≡ Some table.n_states = are.says.n_states in
     let eh : neighborhood_of (texts_of (table_texts (numbered_from 1 lines))) ≡ Some table.neighborhood = are.says.neighborhood in
     let lines_are : table.lines ≡ transitions_written table.n_states (neighbour_count table.neighborhood) (variables_written table.n_states (texts_of (table_texts (numbered_from 1 lines)))) (table_texts (numbered_from 1 lines)) =
-        sym are.says.lines
-        ∙ ap (λ (o : Option ℕ). transitions_in o (neighborhood_of (texts_of (table_texts (numbered_from 1 lines)))) (variables_in (states_of (texts_of (table_texts (numbered_from 1 lines)))) (texts_of (table_texts (numbered_from 1 lines)))) (table_texts (numbered_from 1 lines))) en
-        ∙ ap (λ (o : Option Neighborhood). transitions_in (Some table.n_states) o (variables_in (states_of (texts_of (table_texts (numbered_from 1 lines)))) (texts_of (table_texts (numbered_from 1 lines)))) (table_texts (numbered_from 1 lines))) eh
-        ∙ ap (λ (o : Option ℕ). transitions_written table.n_states (neighbour_count table.neighborhood) (variables_in o (texts_of (table_texts (numbered_from 1 lines)))) (table_texts (numbered_from 1 lines))) en in
+    sym are.says.lines
+    ∙ ap (λ (o : Option ℕ). transitions_in o (neighborhood_of (texts_of (table_texts (numbered_from 1 lines)))) (variables_in (states_of (texts_of (table_texts (numbered_from 1 lines)))) (texts_of (table_texts (numbered_from 1 lines)))) (table_texts (numbered_from 1 lines))) en
+    ∙ ap (λ (o : Option Neighborhood). transitions_in (Some table.n_states) o (variables_in (states_of (texts_of (table_texts (numbered_from 1 lines)))) (texts_of (table_texts (numbered_from 1 lines)))) (table_texts (numbered_from 1 lines))) eh
+    ∙ ap (λ (o : Option ℕ). transitions_written table.n_states (neighbour_count table.neighborhood) (variables_in o (texts_of (table_texts (numbered_from 1 lines)))) (table_texts (numbered_from 1 lines))) en in
     ap numbers_of lines_are ∙ numbers_are table.n_states (neighbour_count table.neighborhood) (variables_written table.n_states (texts_of (table_texts (numbered_from 1 lines)))) (table_texts (numbered_from 1 lines))
-        (r.stands.texts.read table.n_states table.neighborhood en eh)
+    (r.stands.texts.read table.n_states table.neighborhood en eh)

@@ -38,11 +38,12 @@ pub record IsStaged (said : Said) : Type 0 where
 
 staged_open : (said : Said) (next : Said) → IsStaged said → said.section ≡ Open → next.section ≡ said.section → next.name ≡ said.name → IsStaged next
 staged_open said next g s e n = record {
-    states_ahead = λ is. absurd (let z : Open ≡ Ahead = sym (e ∙ s) ∙ is in let w : ⊥ = cc in w);
-    neighbors_ahead = λ is. absurd (let z : Open ≡ Ahead = sym (e ∙ s) ∙ is in let w : ⊥ = cc in w);
-    orders_ahead = λ is. absurd (let z : Open ≡ Ahead = sym (e ∙ s) ∙ is in let w : ⊥ = cc in w);
-    described = λ is. absurd (let z : Open ≡ Behind = sym (e ∙ s) ∙ is in let w : ⊥ = cc in w);
-    unnamed = λ is. e ∙ g.unnamed (sym n ∙ is) }
+  states_ahead = λ is. absurd (let z : Open ≡ Ahead = sym (e ∙ s) ∙ is in let w : ⊥ = cc in w);
+  neighbors_ahead = λ is. absurd (let z : Open ≡ Ahead = sym (e ∙ s) ∙ is in let w : ⊥ = cc in w);
+  orders_ahead = λ is. absurd (let z : Open ≡ Ahead = sym (e ∙ s) ∙ is in let w : ⊥ = cc in w);
+  described = λ is. absurd (let z : Open ≡ Behind = sym (e ∙ s) ∙ is in let w : ⊥ = cc in w);
+  unnamed = λ is. e ∙ g.unnamed (sym n ∙ is);
+}
 
 staged_says : (said : Said) (number : ℕ) (text : List ℕ) (told : Told) → IsStaged said → said.section ≡ Open → Says said number text told → IsStaged (after said told)
 staged_says said number text told g s (states d k none n e is) = subst (λ (t : Told). IsStaged (after said t)) (sym is) (staged_open said (after said (States n)) g s refl refl)
@@ -54,18 +55,27 @@ staged_says said number text told g s (transition d n h y en eh ey v t e b q is)
 staged_more : (said : Said) (number : ℕ) (line : List ℕ) (told : Told) → IsStaged said → Case said number line told → IsStaged (after said told)
 staged_more said number line told g (passed s n p is) = subst (λ (t : Told). IsStaged (after said t)) (sym is) g
 staged_more said number line told g (named s n p name e is) = subst (λ (t : Told). IsStaged (after said t)) (sym is) (record {
-    states_ahead = g.states_ahead; neighbors_ahead = g.neighbors_ahead; orders_ahead = g.orders_ahead;
-    described = λ b. absurd (let z : Ahead ≡ Behind = sym s ∙ b in let w : ⊥ = cc in w);
-    unnamed = λ b. absurd (let w : ⊥ = cc in w) })
+  states_ahead = g.states_ahead;
+  neighbors_ahead = g.neighbors_ahead;
+  orders_ahead = g.orders_ahead;
+  described = λ b. absurd (let z : Ahead ≡ Behind = sym s ∙ b in let w : ⊥ = cc in w);
+  unnamed = λ b. absurd (let w : ⊥ = cc in w);
+})
 staged_more said number line told g (ahead s name n p is) = subst (λ (t : Told). IsStaged (after said t)) (sym is) g
 staged_more said number line told g (opens s name n p is) = subst (λ (t : Told). IsStaged (after said t)) (sym is) (record {
-    states_ahead = λ b. absurd (let w : ⊥ = cc in w); neighbors_ahead = λ b. absurd (let w : ⊥ = cc in w); orders_ahead = λ b. absurd (let w : ⊥ = cc in w);
-    described = λ b. absurd (let w : ⊥ = cc in w);
-    unnamed = λ b. absurd (let z : Some name ≡ None = sym n ∙ b in let w : ⊥ = cc in w) })
+  states_ahead = λ b. absurd (let w : ⊥ = cc in w);
+  neighbors_ahead = λ b. absurd (let w : ⊥ = cc in w);
+  orders_ahead = λ b. absurd (let w : ⊥ = cc in w);
+  described = λ b. absurd (let w : ⊥ = cc in w);
+  unnamed = λ b. absurd (let z : Some name ≡ None = sym n ∙ b in let w : ⊥ = cc in w);
+})
 staged_more said number line told g (ends s l d is) = subst (λ (t : Told). IsStaged (after said t)) (sym is) (record {
-    states_ahead = λ b. absurd (let w : ⊥ = cc in w); neighbors_ahead = λ b. absurd (let w : ⊥ = cc in w); orders_ahead = λ b. absurd (let w : ⊥ = cc in w);
-    described = λ b. d;
-    unnamed = λ b. absurd (let z : Open ≡ Ahead = sym s ∙ g.unnamed b in let w : ⊥ = cc in w) })
+  states_ahead = λ b. absurd (let w : ⊥ = cc in w);
+  neighbors_ahead = λ b. absurd (let w : ⊥ = cc in w);
+  orders_ahead = λ b. absurd (let w : ⊥ = cc in w);
+  described = λ b. d;
+  unnamed = λ b. absurd (let z : Open ≡ Ahead = sym s ∙ g.unnamed b in let w : ⊥ = cc in w);
+})
 staged_more said number line told g (silent s l e is) = subst (λ (t : Told). IsStaged (after said t)) (sym is) g
 staged_more said number line told g (says s l e more) = staged_says said number (content line) told g s more
 staged_more said number line told g (behind s is) = subst (λ (t : Told). IsStaged (after said t)) (sym is) g
@@ -76,8 +86,8 @@ pub number_next : (n : ℕ) (lines : List (List ℕ)) (line : List ℕ) → n �
 number_next n [] line h = ap (λ (k : ℕ). (k, line) ∷ []) (let e : n ≡ min (n + 0) (2 ^ 64 - 1) = omega arith in e)
 number_next n (l ∷ lines) line h =
     ap (λ (t : List Numbered). (n, l) ∷ t) (number_next (min (n + 1) (2 ^ 64 - 1)) lines line (omega arith)
-      ∙ ap (λ (k : ℕ). numbered_from (min (n + 1) (2 ^ 64 - 1)) lines ++ (k, line) ∷ [])
-          (let e : min (min (n + 1) (2 ^ 64 - 1) + length lines) (2 ^ 64 - 1) ≡ min (n + length (l ∷ lines)) (2 ^ 64 - 1) = omega arith in e))
+    ∙ ap (λ (k : ℕ). numbered_from (min (n + 1) (2 ^ 64 - 1)) lines ++ (k, line) ∷ [])
+    (let e : min (min (n + 1) (2 ^ 64 - 1) + length lines) (2 ^ 64 - 1) ≡ min (n + length (l ∷ lines)) (2 ^ 64 - 1) = omega arith in e))
 
 pub numbered_more : (lines : List (List ℕ)) (line : List ℕ) → numbered_from 1 (lines ++ line ∷ []) ≡ numbered_from 1 lines ++ (number_behind lines, line) ∷ []
 numbered_more lines line = number_next 1 lines line (omega arith)
@@ -92,21 +102,25 @@ pub record Reach (lines : List (List ℕ)) : Type 0 where
 
 pub reach_none : Reach []
 reach_none = record {
-    unbroken = λ k h. absurd (omega arith); stands = stands_start; good = subst IsGood (sym said_start) good_start;
-    staged = subst IsStaged (sym said_start) (record { states_ahead = λ _. refl; neighbors_ahead = λ _. refl; orders_ahead = λ _. refl; described = λ b. absurd (let w : ⊥ = cc in w); unnamed = λ _. refl }) }
+  unbroken = λ k h. absurd (omega arith);
+  stands = stands_start;
+  good = subst IsGood (sym said_start) good_start;
+  staged = subst IsStaged (sym said_start) (record { states_ahead = λ _. refl; neighbors_ahead = λ _. refl; orders_ahead = λ _. refl; described = λ b. absurd (let w : ⊥ = cc in w); unnamed = λ _. refl });
+}
 
 unbroken_more : (lines : List (List ℕ)) (line : List ℕ) → UnbrokenBelow IsTableFile broken missing lines (length lines) → broken lines line ≡ None
     → UnbrokenBelow IsTableFile broken missing (lines ++ line ∷ []) (length (lines ++ line ∷ []))
 unbroken_more lines line u b k h = elim (cases_lt k (length lines) (omega (arith, h, length-append lines (line ∷ [])))) [
-      inl before ↦
-        (let e : take k (lines ++ line ∷ []) ≡ take k lines = take-append-le k lines (line ∷ []) (omega (arith, before)) in
-         let f : get_or (lines ++ line ∷ []) k [] ≡ get_or lines k [] = get_or-append lines (line ∷ []) [] k before in
-         rw (e, f) (u k before))
-    | inr here ↦
-        (let e : take (length lines) (lines ++ line ∷ []) ≡ lines = take-append_seam lines (line ∷ []) in
-         let f : get_or (lines ++ line ∷ []) (length lines) [] ≡ line = get_or-append_seam lines line [] [] in
-         let at : broken (take (length lines) (lines ++ line ∷ [])) (get_or (lines ++ line ∷ []) (length lines) []) ≡ None = rw (e, f) b in
-         subst (λ (j : ℕ). broken (take j (lines ++ line ∷ [])) (get_or (lines ++ line ∷ []) j []) ≡ None) (sym here) at) ]
+  | inl before ↦
+      (let e : take k (lines ++ line ∷ []) ≡ take k lines = take-append-le k lines (line ∷ []) (omega (arith, before)) in
+      let f : get_or (lines ++ line ∷ []) k [] ≡ get_or lines k [] = get_or-append lines (line ∷ []) [] k before in
+      rw (e, f) (u k before))
+  | inr here ↦
+      (let e : take (length lines) (lines ++ line ∷ []) ≡ lines = take-append_seam lines (line ∷ []) in
+      let f : get_or (lines ++ line ∷ []) (length lines) [] ≡ line = get_or-append_seam lines line [] [] in
+      let at : broken (take (length lines) (lines ++ line ∷ [])) (get_or (lines ++ line ∷ []) (length lines) []) ≡ None = rw (e, f) b in
+      subst (λ (j : ℕ). broken (take j (lines ++ line ∷ [])) (get_or (lines ++ line ∷ []) j []) ≡ None) (sym here) at)
+]
   where
     cases_lt : (k n : ℕ) → k < n + 1 → (k < n) ⊎ (k ≡ n)
     cases_lt k n h = elim (eqb_tells k n) [ inl same ↦ inr same.1 | inr other ↦ inl (omega (arith, h, other.1)) ]
@@ -134,12 +148,15 @@ reach_more lines line told r h =
     let case : Case (said_by (numbered_from 1 lines)) (number_behind lines) line told = line_case (said_by (numbered_from 1 lines)) (number_behind lines) line told h in
     let m = line_more (numbered_from 1 lines) (number_behind lines, line) r.stands told case in
     let e : numbered_from 1 (lines ++ line ∷ []) ≡ numbered_from 1 lines ++ (number_behind lines, line) ∷ [] = numbered_more lines line in
-    let is : said_by (numbered_from 1 (lines ++ line ∷ [])) ≡ after (said_by (numbered_from 1 lines)) told = ap said_by e ∙ m.0 in
-    (is, record {
-      unbroken = unbroken_more lines line r.unbroken (told_unbroken lines line told h);
-      stands = subst Stands (sym e) m.1;
-      good = subst IsGood (sym is) (good_more (said_by (numbered_from 1 lines)) (number_behind lines) line told r.good case);
-      staged = subst IsStaged (sym is) (staged_more (said_by (numbered_from 1 lines)) (number_behind lines) line told r.staged case) })
+    let is : said_by (numbered_from 1 (lines ++ line ∷ [])) ≡ after (said_by (numbered_from 1 lines)) told = ap said_by e ∙ m.0 in (
+      is,
+      record {
+        unbroken = unbroken_more lines line r.unbroken (told_unbroken lines line told h);
+        stands = subst Stands (sym e) m.1;
+        good = subst IsGood (sym is) (good_more (said_by (numbered_from 1 lines)) (number_behind lines) line told r.good case);
+        staged = subst IsStaged (sym is) (staged_more (said_by (numbered_from 1 lines)) (number_behind lines) line told r.staged case);
+      },
+    )
 
 -- lines of which none breaks a rule are reached one by one
 reach_front : (lines : List (List ℕ)) → UnbrokenBelow IsTableFile broken missing lines (length lines) → (k : ℕ) → k ≤ length lines → Reach (take k lines)
@@ -202,15 +219,17 @@ module _ (vars : List Var) (lines : List Transition) where
 
   named_ends : (name : List ℕ) → Ends (said_parts (Some name) Ahead None None None vars lines)
   unfolding told_by told_descriptor
-  named_ends name =
-      (false ∷ false ∷ false ∷ true ∷ true ∷ false ∷ true ∷ true ∷ [],
-       (TableOpens, (λ _. refl), (States 2, (λ _. refl), (Neighbors Moore, (λ _. refl), (Orders symmetries.Identity, (λ _. refl), refl)))))
+  named_ends name = (
+    false ∷ false ∷ false ∷ true ∷ true ∷ false ∷ true ∷ true ∷ [],
+    (TableOpens, (λ _. refl), (States 2, (λ _. refl), (Neighbors Moore, (λ _. refl), (Orders symmetries.Identity, (λ _. refl), refl)))),
+  )
 
   start_ends : Ends (said_parts None Ahead None None None vars lines)
   unfolding told_by told_descriptor rule_of life_sets
-  start_ends =
-      (false ∷ false ∷ true ∷ true ∷ true ∷ false ∷ true ∷ true ∷ [],
-       (RuleName (codes "a"), (λ _. refl), (TableOpens, (λ _. refl), (States 2, (λ _. refl), (Neighbors Moore, (λ _. refl), (Orders symmetries.Identity, (λ _. refl), refl))))))
+  start_ends = (
+    false ∷ false ∷ true ∷ true ∷ true ∷ false ∷ true ∷ true ∷ [],
+    (RuleName (codes "a"), (λ _. refl), (TableOpens, (λ _. refl), (States 2, (λ _. refl), (Neighbors Moore, (λ _. refl), (Orders symmetries.Identity, (λ _. refl), refl))))),
+  )
 
   -- whatever is said at a stage, some of the continuations make it whole
   ends_at : (name : Option (List ℕ)) (section : Section) (on : Option ℕ) (oh : Option Neighborhood) (oy : Option Symmetry)
@@ -218,13 +237,13 @@ module _ (vars : List Var) (lines : List Transition) where
   ends_at None section on oh oy g =
       let s : section ≡ Ahead = g.unnamed refl in
       subst (λ (z : Section). Ends (said_parts None z on oh oy vars lines)) (sym s)
-        (subst (λ (o : Option ℕ). Ends (said_parts None Ahead o oh oy vars lines)) (sym (g.states_ahead s))
-          (subst (λ (o : Option Neighborhood). Ends (said_parts None Ahead None o oy vars lines)) (sym (g.neighbors_ahead s))
-            (subst (λ (o : Option Symmetry). Ends (said_parts None Ahead None None o vars lines)) (sym (g.orders_ahead s)) start_ends)))
+      (subst (λ (o : Option ℕ). Ends (said_parts None Ahead o oh oy vars lines)) (sym (g.states_ahead s))
+      (subst (λ (o : Option Neighborhood). Ends (said_parts None Ahead None o oy vars lines)) (sym (g.neighbors_ahead s))
+      (subst (λ (o : Option Symmetry). Ends (said_parts None Ahead None None o vars lines)) (sym (g.orders_ahead s)) start_ends)))
   ends_at (Some name) Ahead on oh oy g =
       subst (λ (o : Option ℕ). Ends (said_parts (Some name) Ahead o oh oy vars lines)) (sym (g.states_ahead refl))
-        (subst (λ (o : Option Neighborhood). Ends (said_parts (Some name) Ahead None o oy vars lines)) (sym (g.neighbors_ahead refl))
-          (subst (λ (o : Option Symmetry). Ends (said_parts (Some name) Ahead None None o vars lines)) (sym (g.orders_ahead refl)) (named_ends name)))
+      (subst (λ (o : Option Neighborhood). Ends (said_parts (Some name) Ahead None o oy vars lines)) (sym (g.neighbors_ahead refl))
+      (subst (λ (o : Option Symmetry). Ends (said_parts (Some name) Ahead None None o vars lines)) (sym (g.orders_ahead refl)) (named_ends name)))
   ends_at (Some name) Open on oh oy g = open_ends name on oh oy
   ends_at (Some name) Behind None oh oy g = absurd (let z : false ≡ true = g.described refl in let w : ⊥ = cc in w)
   ends_at (Some name) Behind (Some n) None oy g = absurd (let z : false ≡ true = g.described refl in let w : ⊥ = cc in w)

@@ -76,30 +76,33 @@ module _ (said : Said) (number : ℕ) (text : List ℕ) (told : Told) where
   states_case d k h =
       let a = no_fault (is_some said.n_states) BadDescriptor (if_states (states_named (setting_of text))) told h in
       elim (some_or_none (states_named (setting_of text))) [
-        inl n ↦ states d k (not_some said.n_states a.0) n.0 n.1 (let e : Ok told ≡ Ok (States n.0) = sym a.1 ∙ ap if_states n.1 in cc)
-      | inr none ↦ absurd (let e : Ok told ≡ Err BadDescriptor = sym a.1 ∙ ap if_states none in let z : ⊥ = cc in z) ]
+        | inl n ↦ states d k (not_some said.n_states a.0) n.0 n.1 (let e : Ok told ≡ Ok (States n.0) = sym a.1 ∙ ap if_states n.1 in cc)
+        | inr none ↦ absurd (let e : Ok told ≡ Err BadDescriptor = sym a.1 ∙ ap if_states none in let z : ⊥ = cc in z)
+      ]
 
   neighbors_case : is_descriptor text ≡ true → is_states_key (key_of text) ≡ false → is_neighborhood_key (key_of text) ≡ true
       → (if is_some said.neighborhood then Err BadDescriptor else if_neighborhood said.symmetry (neighborhood_named (setting_of text))) ≡ Ok told → Says said number text told
   neighbors_case d s k h =
       let a = no_fault (is_some said.neighborhood) BadDescriptor (if_neighborhood said.symmetry (neighborhood_named (setting_of text))) told h in
       elim (some_or_none (neighborhood_named (setting_of text))) [
-        inl n ↦
-          let e : if_neighborhood said.symmetry (Some n.0) ≡ Ok told = ap (if_neighborhood said.symmetry) (sym n.1) ∙ a.1 in
-          let f = not_fault (agree (Some n.0) said.symmetry) UnsupportedSymmetry (Ok (Neighbors n.0)) told e in
-          neighbors d s k (not_some said.neighborhood a.0) n.0 n.1 f.0 (let g : Ok (Neighbors n.0) ≡ Ok told = f.1 in cc)
-      | inr none ↦ absurd (let e : Ok told ≡ Err UnsupportedNeighborhood = sym a.1 ∙ ap (if_neighborhood said.symmetry) none in let z : ⊥ = cc in z) ]
+        | inl n ↦
+            let e : if_neighborhood said.symmetry (Some n.0) ≡ Ok told = ap (if_neighborhood said.symmetry) (sym n.1) ∙ a.1 in
+            let f = not_fault (agree (Some n.0) said.symmetry) UnsupportedSymmetry (Ok (Neighbors n.0)) told e in
+            neighbors d s k (not_some said.neighborhood a.0) n.0 n.1 f.0 (let g : Ok (Neighbors n.0) ≡ Ok told = f.1 in cc)
+        | inr none ↦ absurd (let e : Ok told ≡ Err UnsupportedNeighborhood = sym a.1 ∙ ap (if_neighborhood said.symmetry) none in let z : ⊥ = cc in z)
+      ]
 
   orders_case : is_descriptor text ≡ true → is_states_key (key_of text) ≡ false → is_neighborhood_key (key_of text) ≡ false → is_symmetry_key (key_of text) ≡ true
       → (if is_some said.symmetry then Err BadDescriptor else if_symmetry said.neighborhood (symmetry_named (setting_of text))) ≡ Ok told → Says said number text told
   orders_case d s n k h =
       let a = no_fault (is_some said.symmetry) BadDescriptor (if_symmetry said.neighborhood (symmetry_named (setting_of text))) told h in
       elim (some_or_none (symmetry_named (setting_of text))) [
-        inl y ↦
-          let e : if_symmetry said.neighborhood (Some y.0) ≡ Ok told = ap (if_symmetry said.neighborhood) (sym y.1) ∙ a.1 in
-          let f = not_fault (agree said.neighborhood (Some y.0)) UnsupportedSymmetry (Ok (Orders y.0)) told e in
-          orders d s n k (not_some said.symmetry a.0) y.0 y.1 f.0 (let g : Ok (Orders y.0) ≡ Ok told = f.1 in cc)
-      | inr none ↦ absurd (let e : Ok told ≡ Err UnsupportedSymmetry = sym a.1 ∙ ap (if_symmetry said.neighborhood) none in let z : ⊥ = cc in z) ]
+        | inl y ↦
+            let e : if_symmetry said.neighborhood (Some y.0) ≡ Ok told = ap (if_symmetry said.neighborhood) (sym y.1) ∙ a.1 in
+            let f = not_fault (agree said.neighborhood (Some y.0)) UnsupportedSymmetry (Ok (Orders y.0)) told e in
+            orders d s n k (not_some said.symmetry a.0) y.0 y.1 f.0 (let g : Ok (Orders y.0) ≡ Ok told = f.1 in cc)
+        | inr none ↦ absurd (let e : Ok told ≡ Err UnsupportedSymmetry = sym a.1 ∙ ap (if_symmetry said.neighborhood) none in let z : ⊥ = cc in z)
+      ]
 
   third_case : is_descriptor text ≡ true → is_states_key (key_of text) ≡ false → is_neighborhood_key (key_of text) ≡ false
       → (if is_symmetry_key (key_of text) then (if is_some said.symmetry then Err BadDescriptor else if_symmetry said.neighborhood (symmetry_named (setting_of text))) else Err BadDescriptor) ≡ Ok told
@@ -111,27 +114,31 @@ module _ (said : Said) (number : ℕ) (text : List ℕ) (told : Told) where
   descriptor_case : is_descriptor text ≡ true → told_descriptor said.n_states said.neighborhood said.symmetry text ≡ Ok told → Says said number text told
   unfolding told_descriptor
   descriptor_case d h = elim (known (is_states_key (key_of text))) [
-        inl yes_states ↦ states_case d yes_states (then_part (is_states_key (key_of text)) _ _ (Ok told) yes_states h)
-      | inr no_states ↦
-          let g = else_part (is_states_key (key_of text)) _ _ (Ok told) no_states h in
-          elim (known (is_neighborhood_key (key_of text))) [
-            inl yes_neighbors ↦ neighbors_case d no_states yes_neighbors (then_part (is_neighborhood_key (key_of text)) _ _ (Ok told) yes_neighbors g)
-          | inr no_neighbors ↦ third_case d no_states no_neighbors (else_part (is_neighborhood_key (key_of text)) _ _ (Ok told) no_neighbors g) ] ]
+    | inl yes_states ↦ states_case d yes_states (then_part (is_states_key (key_of text)) _ _ (Ok told) yes_states h)
+    | inr no_states ↦
+        let g = else_part (is_states_key (key_of text)) _ _ (Ok told) no_states h in
+        elim (known (is_neighborhood_key (key_of text))) [
+          | inl yes_neighbors ↦ neighbors_case d no_states yes_neighbors (then_part (is_neighborhood_key (key_of text)) _ _ (Ok told) yes_neighbors g)
+          | inr no_neighbors ↦ third_case d no_states no_neighbors (else_part (is_neighborhood_key (key_of text)) _ _ (Ok told) no_neighbors g)
+        ]
+  ]
 
   variable_case : is_descriptor text ≡ false → (n : ℕ) (h : Neighborhood) (y : Symmetry) → said.n_states ≡ Some n → said.neighborhood ≡ Some h → said.symmetry ≡ Some y
       → is_variable_line text ≡ true → if_variable (variable_of n said.vars text) ≡ Ok told → Says said number text told
   variable_case d n h y en eh ey v a = elim (some_or_none (variable_of n said.vars text)) [
-        inl var ↦ variable d n h y en eh ey v var.0 var.1 (let e : Ok told ≡ Ok (Variable var.0) = sym a ∙ ap if_variable var.1 in cc)
-      | inr none ↦ absurd (let e : Ok told ≡ Err BadVariable = sym a ∙ ap if_variable none in let z : ⊥ = cc in z) ]
+    | inl var ↦ variable d n h y en eh ey v var.0 var.1 (let e : Ok told ≡ Ok (Variable var.0) = sym a ∙ ap if_variable var.1 in cc)
+    | inr none ↦ absurd (let e : Ok told ≡ Err BadVariable = sym a ∙ ap if_variable none in let z : ⊥ = cc in z)
+  ]
 
   transition_case : is_descriptor text ≡ false → (n : ℕ) (h : Neighborhood) (y : Symmetry) → said.n_states ≡ Some n → said.neighborhood ≡ Some h → said.symmetry ≡ Some y
       → is_variable_line text ≡ false → if_transition said.vars said.lines (transition_of n (neighbour_count h) said.vars number text) ≡ Ok told → Says said number text told
   transition_case d n h y en eh ey v a = elim (some_or_none (transition_of n (neighbour_count h) said.vars number text)) [
-        inl t ↦
-          let e : if_transition said.vars said.lines (Some t.0) ≡ Ok told = ap (if_transition said.vars said.lines) (sym t.1) ∙ a in
-          let f = bound_and_quiet (is_bound t.0.inputs t.0.output) (is_quiet said.vars (said.lines ++ t.0 ∷ [])) t.0 e in
-          transition d n h y en eh ey v t.0 t.1 f.0 f.1 f.2
-      | inr none ↦ absurd (let e : Ok told ≡ Err BadTransition = sym a ∙ ap (if_transition said.vars said.lines) none in let z : ⊥ = cc in z) ]
+    | inl t ↦
+        let e : if_transition said.vars said.lines (Some t.0) ≡ Ok told = ap (if_transition said.vars said.lines) (sym t.1) ∙ a in
+        let f = bound_and_quiet (is_bound t.0.inputs t.0.output) (is_quiet said.vars (said.lines ++ t.0 ∷ [])) t.0 e in
+        transition d n h y en eh ey v t.0 t.1 f.0 f.1 f.2
+    | inr none ↦ absurd (let e : Ok told ≡ Err BadTransition = sym a ∙ ap (if_transition said.vars said.lines) none in let z : ⊥ = cc in z)
+  ]
     where
       bound_and_quiet : (bound quiet : Bool) (t : Transition) → (if not bound then Err UnboundOutput else (if quiet then Ok (Line t) else Err NotQuiet)) ≡ Ok told
           → (bound ≡ true) × (quiet ≡ true) × (told ≡ Line t)
@@ -142,8 +149,9 @@ module _ (said : Said) (number : ℕ) (text : List ℕ) (told : Told) where
   settled_case : is_descriptor text ≡ false → (n : ℕ) (h : Neighborhood) (y : Symmetry) → said.n_states ≡ Some n → said.neighborhood ≡ Some h → said.symmetry ≡ Some y
       → told_settled n h said.vars said.lines number text ≡ Ok told → Says said number text told
   settled_case d n h y en eh ey a = elim (known (is_variable_line text)) [
-        inl does ↦ variable_case d n h y en eh ey does (then_part (is_variable_line text) _ _ (Ok told) does a)
-      | inr does_not ↦ transition_case d n h y en eh ey does_not (else_part (is_variable_line text) _ _ (Ok told) does_not a) ]
+    | inl does ↦ variable_case d n h y en eh ey does (then_part (is_variable_line text) _ _ (Ok told) does a)
+    | inr does_not ↦ transition_case d n h y en eh ey does_not (else_part (is_variable_line text) _ _ (Ok told) does_not a)
+  ]
 
   rest_case : is_descriptor text ≡ false → (on : Option ℕ) (oh : Option Neighborhood) (oy : Option Symmetry) → said.n_states ≡ on → said.neighborhood ≡ oh → said.symmetry ≡ oy
       → told_rest on oh oy said.vars said.lines number text ≡ Ok told → Says said number text told
@@ -155,26 +163,30 @@ module _ (said : Said) (number : ℕ) (text : List ℕ) (told : Told) where
   pub text_case : (if is_descriptor text then told_descriptor said.n_states said.neighborhood said.symmetry text
       else told_rest said.n_states said.neighborhood said.symmetry said.vars said.lines number text) ≡ Ok told → Says said number text told
   text_case a = elim (known (is_descriptor text)) [
-        inl does ↦ descriptor_case does (then_part (is_descriptor text) _ _ (Ok told) does a)
-      | inr does_not ↦ rest_case does_not said.n_states said.neighborhood said.symmetry refl refl refl (else_part (is_descriptor text) _ _ (Ok told) does_not a) ]
+    | inl does ↦ descriptor_case does (then_part (is_descriptor text) _ _ (Ok told) does a)
+    | inr does_not ↦ rest_case does_not said.n_states said.neighborhood said.symmetry refl refl refl (else_part (is_descriptor text) _ _ (Ok told) does_not a)
+  ]
 
 module _ (said : Said) (number : ℕ) (line : List ℕ) (told : Told) where
   start_case : said.section ≡ Ahead → said.name ≡ None → (if is_passed_over line then Ok Nothing else if_named (name_on line)) ≡ Ok told → Case said number line told
   start_case s e a = elim (known (is_passed_over line)) [
-        inl does ↦ passed s e does (let g : Ok Nothing ≡ Ok told = then_part (is_passed_over line) _ _ (Ok told) does a in cc)
-      | inr does_not ↦
-          let g : if_named (name_on line) ≡ Ok told = else_part (is_passed_over line) _ _ (Ok told) does_not a in
-          elim (some_or_none (name_on line)) [
-            inl name ↦ named s e does_not name.0 name.1 (let f : Ok told ≡ Ok (RuleName name.0) = sym g ∙ ap if_named name.1 in cc)
-          | inr none ↦ absurd (let f : Ok told ≡ Err NoRuleLine = sym g ∙ ap if_named none in let z : ⊥ = cc in z) ] ]
+    | inl does ↦ passed s e does (let g : Ok Nothing ≡ Ok told = then_part (is_passed_over line) _ _ (Ok told) does a in cc)
+    | inr does_not ↦
+        let g : if_named (name_on line) ≡ Ok told = else_part (is_passed_over line) _ _ (Ok told) does_not a in
+        elim (some_or_none (name_on line)) [
+          | inl name ↦ named s e does_not name.0 name.1 (let f : Ok told ≡ Ok (RuleName name.0) = sym g ∙ ap if_named name.1 in cc)
+          | inr none ↦ absurd (let f : Ok told ≡ Err NoRuleLine = sym g ∙ ap if_named none in let z : ⊥ = cc in z)
+        ]
+  ]
 
   abbrev opening : Result Told Kind
   opening = if is_table_line line then Ok TableOpens else Ok Nothing
 
   behind_rule_case : said.section ≡ Ahead → (name : List ℕ) → said.name ≡ Some name → opening ≡ Ok told → Case said number line told
   behind_rule_case s name e a = elim (known (is_table_line line)) [
-        inl does ↦ opens s name e does (let g : Ok TableOpens ≡ Ok told = then_part (is_table_line line) _ _ (Ok told) does a in cc)
-      | inr does_not ↦ ahead s name e does_not (let g : Ok Nothing ≡ Ok told = else_part (is_table_line line) _ _ (Ok told) does_not a in cc) ]
+    | inl does ↦ opens s name e does (let g : Ok TableOpens ≡ Ok told = then_part (is_table_line line) _ _ (Ok told) does a in cc)
+    | inr does_not ↦ ahead s name e does_not (let g : Ok Nothing ≡ Ok told = else_part (is_table_line line) _ _ (Ok told) does_not a in cc)
+  ]
 
   ahead_case : (name : Option (List ℕ)) → said.section ≡ Ahead → said.name ≡ name → told_ahead name line ≡ Ok told → Case said number line told
   ahead_case None s e a = start_case s e a
@@ -182,17 +194,19 @@ module _ (said : Said) (number : ℕ) (line : List ℕ) (told : Told) where
 
   content_case : said.section ≡ Open → is_section_line line ≡ false
       → (if is_empty (content line) then Ok Nothing else (if is_descriptor (content line) then told_descriptor said.n_states said.neighborhood said.symmetry (content line)
-        else told_rest said.n_states said.neighborhood said.symmetry said.vars said.lines number (content line))) ≡ Ok told → Case said number line told
+      else told_rest said.n_states said.neighborhood said.symmetry said.vars said.lines number (content line))) ≡ Ok told → Case said number line told
   content_case s l a = elim (known (is_empty (content line))) [
-        inl does ↦ silent s l does (let g : Ok Nothing ≡ Ok told = then_part (is_empty (content line)) _ _ (Ok told) does a in cc)
-      | inr does_not ↦ says s l does_not (text_case said number (content line) told (else_part (is_empty (content line)) _ _ (Ok told) does_not a)) ]
+    | inl does ↦ silent s l does (let g : Ok Nothing ≡ Ok told = then_part (is_empty (content line)) _ _ (Ok told) does a in cc)
+    | inr does_not ↦ says s l does_not (text_case said number (content line) told (else_part (is_empty (content line)) _ _ (Ok told) does_not a))
+  ]
 
   table_case : said.section ≡ Open → told_in_table said number line ≡ Ok told → Case said number line told
   table_case s a = elim (known (is_section_line line)) [
-        inl does ↦
-          let g = not_fault (is_described said) BadDescriptor (Ok TableEnds) told (then_part (is_section_line line) _ _ (Ok told) does a) in
-          ends s does g.0 (let f : Ok TableEnds ≡ Ok told = g.1 in cc)
-      | inr does_not ↦ content_case s does_not (else_part (is_section_line line) _ _ (Ok told) does_not a) ]
+    | inl does ↦
+        let g = not_fault (is_described said) BadDescriptor (Ok TableEnds) told (then_part (is_section_line line) _ _ (Ok told) does a) in
+        ends s does g.0 (let f : Ok TableEnds ≡ Ok told = g.1 in cc)
+    | inr does_not ↦ content_case s does_not (else_part (is_section_line line) _ _ (Ok told) does_not a)
+  ]
 
   section_case : (section : Section) → said.section ≡ section → told_in section said number line ≡ Ok told → Case said number line told
   section_case Ahead s a = ahead_case said.name s refl a

@@ -48,14 +48,16 @@ changed_same choice i x = ap (λ b. cond b x (choice i)) (eq-eqb i i refl)
 
 changed_choice : (vars : List Var) (choice : ℕ → ℕ) (i x : ℕ) → IsChoice vars choice → IfSome (slice_get vars i) (λ var. HasState var x) → IsChoice vars (changed choice i x)
 changed_choice vars choice i x h k j below = elim (eqb_tells i j) [
-      inl same ↦ subst (λ n. IfSome (slice_get vars n) (λ var. HasState var (changed choice i x n))) same.1 (subst (λ s. IfSome (slice_get vars i) (λ var. HasState var s)) (sym (changed_same choice i x)) k)
-    | inr other ↦ subst (λ b. IfSome (slice_get vars j) (λ var. HasState var (cond b x (choice j)))) (sym other.0) (h j below) ]
+  | inl same ↦ subst (λ n. IfSome (slice_get vars n) (λ var. HasState var (changed choice i x n))) same.1 (subst (λ s. IfSome (slice_get vars i) (λ var. HasState var s)) (sym (changed_same choice i x)) k)
+  | inr other ↦ subst (λ b. IfSome (slice_get vars j) (λ var. HasState var (cond b x (choice j)))) (sym other.0) (h j below)
+]
 
 changed_other : (choice : ℕ → ℕ) (i x : ℕ) (e : Entry) → e ≢ entries.Var i → state_of (changed choice i x) e ≡ state_of choice e
 changed_other choice i x (entries.Fixed s) h = refl
 changed_other choice i x (entries.Var j) h = elim (eqb_tells i j) [
-      inl same ↦ absurd (h (ap entries.Var (sym same.1)))
-    | inr other ↦ ap (λ b. cond b x (choice j)) other.0 ]
+  | inl same ↦ absurd (h (ap entries.Var (sym same.1)))
+  | inr other ↦ ap (λ b. cond b x (choice j)) other.0
+]
 
 changed_others : (choice : ℕ → ℕ) (i x : ℕ) (es : List Entry) → ((k : ℕ) (d : Entry) → k < length es → get_or es k d ≢ entries.Var i) → map (state_of (changed choice i x)) es ≡ map (state_of choice) es
 changed_others choice i x [] h = refl
@@ -82,15 +84,17 @@ module _ (vars : List Var) (es : List Entry) (ws : List ℕ) (same : length es �
   pub old_next : (i x k : ℕ) (d : Entry) → k < length es → get_or es k d ≡ entries.Var i → Consistent vars es ws → (get_or ws k 0 ≡ x) ↔ Consistent vars (es ++ entries.Var i ∷ []) (ws ++ x ∷ [])
   old_next i x k d below at c =
       let known : (choice : ℕ → ℕ) → map (state_of choice) es ≡ ws → get_or ws k 0 ≡ choice i = λ (choice : ℕ → ℕ) (values : map (state_of choice) es ≡ ws).
-        ap (λ zs. get_or zs k 0) (sym values) ∙ value_at (state_of choice) es k d 0 below ∙ ap (state_of choice) at in
-      (λ h. join c.choice c.is_choice c.values (entries.Var i) x (sym (known c.choice c.values) ∙ h),
-       λ e. known e.choice (ends (entries.Var i) x e).0 ∙ (ends (entries.Var i) x e).1)
+      ap (λ zs. get_or zs k 0) (sym values) ∙ value_at (state_of choice) es k d 0 below ∙ ap (state_of choice) at in (
+        λ h. join c.choice c.is_choice c.values (entries.Var i) x (sym (known c.choice c.values) ∙ h),
+        λ e. known e.choice (ends (entries.Var i) x e).0 ∙ (ends (entries.Var i) x e).1,
+      )
 
   -- a variable that doesn't
   pub new_next : (i x : ℕ) → i < length vars → ((k : ℕ) (d : Entry) → k < length es → get_or es k d ≢ entries.Var i) → Consistent vars es ws → IfSome (slice_get vars i) (λ var. HasState var x) ↔ Consistent vars (es ++ entries.Var i ∷ []) (ws ++ x ∷ [])
-  new_next i x there none c =
-      (λ h. join (changed c.choice i x) (changed_choice vars c.choice i x c.is_choice h) (changed_others c.choice i x es none ∙ c.values) (entries.Var i) x (changed_same c.choice i x),
-       λ e. subst (λ s. IfSome (slice_get vars i) (λ var. HasState var s)) (ends (entries.Var i) x e).1 (e.is_choice i there))
+  new_next i x there none c = (
+    λ h. join (changed c.choice i x) (changed_choice vars c.choice i x c.is_choice h) (changed_others c.choice i x es none ∙ c.values) (entries.Var i) x (changed_same c.choice i x),
+    λ e. subst (λ s. IfSome (slice_get vars i) (λ var. HasState var s)) (ends (entries.Var i) x e).1 (e.is_choice i there),
+  )
 
 -- The next of several inputs, at the place where the states so far end.
 module _ (vars : List Var) (inputs : List Entry) (given : List ℕ) (short : length given < length inputs) (c : Consistent vars (take (length given) inputs) given) where
@@ -121,13 +125,14 @@ module _ (vars : List Var) (inputs : List Entry) (given : List ℕ) (short : len
   new_input i x d at there none =
       moved (entries.Var i) d x (IfSome (slice_get vars i) (λ var. HasState var x)) at
       (new_next vars (take (length given) inputs) given same_length i x there
-        (λ k f below found. none k f (within k below) (sym (get_or-take (length given) inputs k f (within k below)) ∙ found)) c)
+      (λ k f below found. none k f (within k below) (sym (get_or-take (length given) inputs k f (within k below)) ∙ found)) c)
 
 is_other : (i : ℕ) (e : Entry) → e ≢ entries.Var i → is_variable i e ≡ false
 is_other i (entries.Fixed s) h = refl
 is_other i (entries.Var j) h = elim (eqb_tells i j) [
-      inl same ↦ absurd (h (ap entries.Var (sym same.1)))
-    | inr other ↦ other.0 ]
+  | inl same ↦ absurd (h (ap entries.Var (sym same.1)))
+  | inr other ↦ other.0
+]
 
 -- a variable that is no input isn't found among them
 pub not_found : (i : ℕ) (es : List Entry) → ((k : ℕ) (d : Entry) → k < length es → get_or es k d ≢ entries.Var i) → IsTrue (list_any (is_variable i) es) → ⊥

@@ -120,10 +120,12 @@ pub data Stage (ps : List Numbered) : Type 0 where
 
 pub stage : (ps : List Numbered) → Stage ps
 stage ps = elim (split_list (from_rule ps)) [
-      inr none ↦ start none
-    | inl r ↦ elim (split_list (from_first is_table r.1)) [
-        inr none ↦ ruled r.0 r.1 r.2 none
-      | inl t ↦ tabled r.0 r.1 r.2 t.0 t.1 t.2 ] ]
+  | inr none ↦ start none
+  | inl r ↦ elim (split_list (from_first is_table r.1)) [
+    | inr none ↦ ruled r.0 r.1 r.2 none
+    | inl t ↦ tabled r.0 r.1 r.2 t.0 t.1 t.2
+  ]
+]
 
 -- one more line, and what it changes
 pub record Grown (ps : List Numbered) (x : Numbered) (new_name : Option (List ℕ)) (new_section : Section) (more : List Numbered) : Type 0 where
@@ -161,7 +163,8 @@ module _ (ps : List Numbered) (x : Numbered) where
   grown name section before after more n b a s t = record {
     name = name_is (ps ++ x ∷ []) ∙ n;
     section = section_is (ps ++ x ∷ []) ∙ ap section_by a ∙ s;
-    texts = texts_are (ps ++ x ∷ []) ∙ ap texts_by a ∙ t ∙ ap (λ (u : List Numbered). u ++ more) (sym (ap texts_by b) ∙ sym (texts_are ps)) }
+    texts = texts_are (ps ++ x ∷ []) ∙ ap texts_by a ∙ t ∙ ap (λ (u : List Numbered). u ++ more) (sym (ap texts_by b) ∙ sym (texts_are ps));
+  }
 
   pub rule_passed : from_rule ps ≡ [] → is_passed_over x.1 ≡ true → from_rule (ps ++ x ∷ []) ≡ []
   rule_passed e p = rule_new e ∙ ap (λ (b : Bool). if not b then x ∷ [] else []) p
@@ -195,23 +198,23 @@ module _ (ps : List Numbered) (x : Numbered) where
           → contents (up_to is_section (bs ++ x ∷ [])) ≡ contents (up_to is_section bs) ++ more → Grown ps x (name_of ps) section more
       in_table name section more s c =
           grown (name_of ps) section (t ∷ bs) (t ∷ (bs ++ x ∷ [])) more name_kept (table_of_rule ps (r ∷ rs) (t ∷ bs) e f)
-            (table_of_rule (ps ++ x ∷ []) (r ∷ (rs ++ x ∷ [])) (t ∷ (bs ++ x ∷ [])) (rule_kept r rs e) (first_kept is_table rs t bs x f)) s c
+          (table_of_rule (ps ++ x ∷ []) (r ∷ (rs ++ x ∷ [])) (t ∷ (bs ++ x ∷ [])) (rule_kept r rs e) (first_kept is_table rs t bs x f)) s c
 
       pub grown_behind : list_any is_section bs ≡ true → Grown ps x (name_of ps) Behind []
       grown_behind a =
           in_table None Behind [] (ap (λ (b : Bool). if b then Behind else Open) (any_more is_section bs x ∙ ap (λ (b : Bool). b || is_section x) a))
-            (ap contents (up_to_ended is_section bs x a) ∙ nothing_more (contents (up_to is_section bs)))
+          (ap contents (up_to_ended is_section bs x a) ∙ nothing_more (contents (up_to is_section bs)))
 
       pub grown_ends : list_any is_section bs ≡ false → is_section_line x.1 ≡ true → Grown ps x (name_of ps) Behind []
       grown_ends a p =
           in_table None Behind [] (ap (λ (b : Bool). if b then Behind else Open) (any_more is_section bs x ∙ ap (λ (b : Bool). b || is_section x) a ∙ p))
-            (ap contents (up_to_end is_section bs x p a ∙ sym (up_to_all is_section bs a)) ∙ nothing_more (contents (up_to is_section bs)))
+          (ap contents (up_to_end is_section bs x p a ∙ sym (up_to_all is_section bs a)) ∙ nothing_more (contents (up_to is_section bs)))
 
       pub grown_text : list_any is_section bs ≡ false → is_section_line x.1 ≡ false → Grown ps x (name_of ps) Open (contents (x ∷ []))
       grown_text a p =
           let none : list_any is_section (bs ++ x ∷ []) ≡ false = any_more is_section bs x ∙ ap (λ (b : Bool). b || is_section x) a ∙ p in
           in_table None Open (contents (x ∷ [])) (ap (λ (b : Bool). if b then Behind else Open) none)
-            (ap contents (up_to_all is_section (bs ++ x ∷ []) none) ∙ contents_more bs (x ∷ []) ∙ ap (λ (u : List Numbered). contents u ++ contents (x ∷ [])) (sym (up_to_all is_section bs a)))
+          (ap contents (up_to_all is_section (bs ++ x ∷ []) none) ∙ contents_more bs (x ∷ []) ∙ ap (λ (u : List Numbered). contents u ++ contents (x ∷ [])) (sym (up_to_all is_section bs a)))
 
   -- what the section tells of the stage
   pub section_at_start : from_rule ps ≡ [] → section_of ps ≡ Ahead

@@ -45,10 +45,11 @@ entry_more n vars v e is = record { fixed = is.fixed; variable = λ i eq. (let b
 
 transition_more : (n k : ℕ) (vars : List Var) (v : Var) (t : Transition) → IsTransition n k vars t → IsTransition n k (vars ++ v ∷ []) t
 transition_more n k vars v t is = record {
-    count = is.count;
-    inputs = λ j d below. entry_more n vars v (get_or t.inputs j d) (is.inputs j d below);
-    output = entry_more n vars v t.output is.output;
-    bound = is.bound }
+  count = is.count;
+  inputs = λ j d below. entry_more n vars v (get_or t.inputs j d) (is.inputs j d below);
+  output = entry_more n vars v t.output is.output;
+  bound = is.bound;
+}
 
 zero_more : (n : ℕ) (vars : List Var) (v : Var) (e : Entry) → IsEntry n vars e → allows_zero (vars ++ v ∷ []) e ≡ allows_zero vars e
 zero_more n vars v (entries.Fixed s) is = refl
@@ -98,13 +99,14 @@ apart_more vars v apart none i j x y less a b same =
     let before : i < length vars = omega (arith, less, within, size) in
     let a' : slice_get vars i ≡ Some x = sym (get_more vars v i before) ∙ a in
     elim (eqb_tells j (length vars)) [
-      inl last ↦
-        (let b' : Some v ≡ Some y = sym (get_last vars v j last.1) ∙ b in
-         let e : v ≡ y = cc in
-         none_named vars v.name none i x a' (same ∙ ap (λ (w : Var). w.name) (sym e)))
-    | inr other ↦
-        (let inside : j < length vars = omega (arith, within, size, other.1) in
-         apart i j x y less a' (sym (get_more vars v j inside) ∙ b) same) ]
+      | inl last ↦
+          (let b' : Some v ≡ Some y = sym (get_last vars v j last.1) ∙ b in
+          let e : v ≡ y = cc in
+          none_named vars v.name none i x a' (same ∙ ap (λ (w : Var). w.name) (sym e)))
+      | inr other ↦
+          (let inside : j < length vars = omega (arith, within, size, other.1) in
+          apart i j x y less a' (sym (get_more vars v j inside) ∙ b) same)
+    ]
 
 -- 2. What a number of states is
 
@@ -122,8 +124,16 @@ rest_of said name section = record { name = name; section = section; n_states = 
 
 good_elsewhere : (said : Said) (name : Option (List ℕ)) (section : Section) → IsGood said → IsGood (rest_of said name section)
 good_elsewhere said name section g = record {
-    states = g.states; listed = g.listed; names = g.names; variables = g.variables; no_variables = g.no_variables; no_transitions = g.no_transitions;
-    none_without = g.none_without; transitions = g.transitions; quiet = g.quiet }
+  states = g.states;
+  listed = g.listed;
+  names = g.names;
+  variables = g.variables;
+  no_variables = g.no_variables;
+  no_transitions = g.no_transitions;
+  none_without = g.none_without;
+  transitions = g.transitions;
+  quiet = g.quiet;
+}
 
 good_states : (said : Said) (n : ℕ) (word : List ℕ) → IsGood said → said.n_states ≡ None → states_named word ≡ Some n → IsGood (after said (States n))
 good_states said n word g none e =
@@ -137,59 +147,69 @@ good_states said n word g none e =
       no_transitions = λ is. absurd (let z : ⊥ = cc in z);
       none_without = g.none_without;
       transitions = λ m h is ih. subst (All (IsTransition m (neighbour_count h) said.vars)) (sym (g.no_transitions none)) (All-nil (IsTransition m (neighbour_count h) said.vars));
-      quiet = g.quiet }
+      quiet = g.quiet;
+    }
 
 good_neighbors : (said : Said) (h : Neighborhood) → IsGood said → said.neighborhood ≡ None → agree (Some h) said.symmetry ≡ true → IsGood (after said (Neighbors h))
 good_neighbors said h g none e = record {
-    states = g.states;
-    listed = λ k y ik iy. (let same : h ≡ k = (let z : Some h ≡ Some k = ik in cc) in
+  states = g.states;
+  listed = λ k y ik iy. (let same : h ≡ k = (let z : Some h ≡ Some k = ik in cc) in
       subst (λ (k : Neighborhood). IsTrue (is_listed k y)) same (sym (ap (agree (Some h)) iy) ∙ e));
-    names = g.names;
-    variables = g.variables;
-    no_variables = g.no_variables;
-    no_transitions = g.no_transitions;
-    none_without = λ is. absurd (let z : ⊥ = cc in z);
-    transitions = λ m k is ik. subst (All (IsTransition m (neighbour_count k) said.vars)) (sym (g.none_without none)) (All-nil (IsTransition m (neighbour_count k) said.vars));
-    quiet = g.quiet }
+  names = g.names;
+  variables = g.variables;
+  no_variables = g.no_variables;
+  no_transitions = g.no_transitions;
+  none_without = λ is. absurd (let z : ⊥ = cc in z);
+  transitions = λ m k is ik. subst (All (IsTransition m (neighbour_count k) said.vars)) (sym (g.none_without none)) (All-nil (IsTransition m (neighbour_count k) said.vars));
+  quiet = g.quiet;
+}
 
 good_orders : (said : Said) (y : Symmetry) → IsGood said → agree said.neighborhood (Some y) ≡ true → IsGood (after said (Orders y))
 good_orders said y g e = record {
-    states = g.states;
-    listed = λ k z ik iz. (let same : y ≡ z = (let w : Some y ≡ Some z = iz in cc) in
+  states = g.states;
+  listed = λ k z ik iz. (let same : y ≡ z = (let w : Some y ≡ Some z = iz in cc) in
       subst (λ (z : Symmetry). IsTrue (is_listed k z)) same (sym (ap (λ (o : Option Neighborhood). agree o (Some y)) ik) ∙ e));
-    names = g.names; variables = g.variables; no_variables = g.no_variables; no_transitions = g.no_transitions; none_without = g.none_without;
-    transitions = g.transitions; quiet = g.quiet }
+  names = g.names;
+  variables = g.variables;
+  no_variables = g.no_variables;
+  no_transitions = g.no_transitions;
+  none_without = g.none_without;
+  transitions = g.transitions;
+  quiet = g.quiet;
+}
 
 module _ (said : Said) (n : ℕ) (h : Neighborhood) (g : IsGood said) (en : said.n_states ≡ Some n) (eh : said.neighborhood ≡ Some h) where
   good_variable : (text : List ℕ) (var : Var) → IsVariable n var → variable_named said.vars var.name ≡ None → IsGood (after said (Variable var))
   good_variable text var is none = record {
-      states = g.states;
-      listed = g.listed;
-      names = apart_more said.vars var g.names none;
-      variables = λ m im. (let same : n ≡ m = (let z : Some n ≡ Some m = sym en ∙ im in cc) in
+    states = g.states;
+    listed = g.listed;
+    names = apart_more said.vars var g.names none;
+    variables = λ m im. (let same : n ≡ m = (let z : Some n ≡ Some m = sym en ∙ im in cc) in
         subst (λ (m : ℕ). All (IsVariable m) (said.vars ++ var ∷ [])) same (all_more (IsVariable n) said.vars var (g.variables n en) is));
-      no_variables = λ im. absurd (let z : Some n ≡ None = sym en ∙ im in let w : ⊥ = cc in w);
-      no_transitions = g.no_transitions;
-      none_without = g.none_without;
-      transitions = λ m k im ik. λ j d below. transition_more m (neighbour_count k) said.vars var (get_or said.lines j d) (g.transitions m k im ik j d below);
-      quiet = quiet_same n (neighbour_count h) said.vars var said.lines (g.transitions n h en eh) ∙ g.quiet }
+    no_variables = λ im. absurd (let z : Some n ≡ None = sym en ∙ im in let w : ⊥ = cc in w);
+    no_transitions = g.no_transitions;
+    none_without = g.none_without;
+    transitions = λ m k im ik. λ j d below. transition_more m (neighbour_count k) said.vars var (get_or said.lines j d) (g.transitions m k im ik j d below);
+    quiet = quiet_same n (neighbour_count h) said.vars var said.lines (g.transitions n h en eh) ∙ g.quiet;
+  }
 
   good_line : (t : Transition) → IsTransition n (neighbour_count h) said.vars t → is_quiet said.vars (said.lines ++ t ∷ []) ≡ true → IsGood (after said (Line t))
   good_line t is quiet = record {
-      states = g.states;
-      listed = g.listed;
-      names = g.names;
-      variables = g.variables;
-      no_variables = g.no_variables;
-      no_transitions = λ im. absurd (let z : Some n ≡ None = sym en ∙ im in let w : ⊥ = cc in w);
-      none_without = λ ik. absurd (let z : Some h ≡ None = sym eh ∙ ik in let w : ⊥ = cc in w);
-      transitions = λ m k im ik.
+    states = g.states;
+    listed = g.listed;
+    names = g.names;
+    variables = g.variables;
+    no_variables = g.no_variables;
+    no_transitions = λ im. absurd (let z : Some n ≡ None = sym en ∙ im in let w : ⊥ = cc in w);
+    none_without = λ ik. absurd (let z : Some h ≡ None = sym eh ∙ ik in let w : ⊥ = cc in w);
+    transitions = λ m k im ik.
         (let same_n : n ≡ m = (let z : Some n ≡ Some m = sym en ∙ im in cc) in
-         let same_h : h ≡ k = (let z : Some h ≡ Some k = sym eh ∙ ik in cc) in
-         subst (λ (m : ℕ). All (IsTransition m (neighbour_count k) said.vars) (said.lines ++ t ∷ [])) same_n
-           (subst (λ (k : Neighborhood). All (IsTransition n (neighbour_count k) said.vars) (said.lines ++ t ∷ [])) same_h
-             (all_more (IsTransition n (neighbour_count h) said.vars) said.lines t (g.transitions n h en eh) is)));
-      quiet = quiet }
+        let same_h : h ≡ k = (let z : Some h ≡ Some k = sym eh ∙ ik in cc) in
+        subst (λ (m : ℕ). All (IsTransition m (neighbour_count k) said.vars) (said.lines ++ t ∷ [])) same_n
+        (subst (λ (k : Neighborhood). All (IsTransition n (neighbour_count k) said.vars) (said.lines ++ t ∷ [])) same_h
+        (all_more (IsTransition n (neighbour_count h) said.vars) said.lines t (g.transitions n h en eh) is)));
+    quiet = quiet;
+  }
 
 good_says : (said : Said) (number : ℕ) (text : List ℕ) (told : Told) → IsGood said → Says said number text told → IsGood (after said told)
 good_says said number text told g (states d k none n e is) = subst (λ (t : Told). IsGood (after said t)) (sym is) (good_states said n (setting_of text) g none e)
@@ -213,22 +233,29 @@ good_more said number line told g (behind s is) = subst (λ (t : Told). IsGood (
 
 pub good_start : IsGood nothing_said
 good_start = record {
-    states = λ n is. absurd (let z : ⊥ = cc in z);
-    listed = λ n s is. absurd (let z : ⊥ = cc in z);
-    names = λ i j x y less a. absurd (let within : i < 0 = slice_get_within [] i x a in omega (arith, within));
-    variables = λ n is. absurd (let z : ⊥ = cc in z);
-    no_variables = λ is. refl;
-    no_transitions = λ is. refl;
-    none_without = λ is. refl;
-    transitions = λ n h is. absurd (let z : ⊥ = cc in z);
-    quiet = refl }
+  states = λ n is. absurd (let z : ⊥ = cc in z);
+  listed = λ n s is. absurd (let z : ⊥ = cc in z);
+  names = λ i j x y less a. absurd (let within : i < 0 = slice_get_within [] i x a in omega (arith, within));
+  variables = λ n is. absurd (let z : ⊥ = cc in z);
+  no_variables = λ is. refl;
+  no_transitions = λ is. refl;
+  none_without = λ is. refl;
+  transitions = λ n h is. absurd (let z : ⊥ = cc in z);
+  quiet = refl;
+}
 
 -- what is said makes a table
 pub sound_of : (said : Said) → IsGood said → (n : ℕ) (h : Neighborhood) (y : Symmetry) → said.n_states ≡ Some n → said.neighborhood ≡ Some h → said.symmetry ≡ Some y
     → IsSound n h y said.vars said.lines
 sound_of said g n h y en eh ey = record {
-    least = (g.states n en).0; most = (g.states n en).1; listed = g.listed h y eh ey; names = g.names; variables = g.variables n en;
-    transitions = g.transitions n h en eh; quiet = g.quiet }
+  least = (g.states n en).0;
+  most = (g.states n en).1;
+  listed = g.listed h y eh ey;
+  names = g.names;
+  variables = g.variables n en;
+  transitions = g.transitions n h en eh;
+  quiet = g.quiet;
+}
 
 -- what the reader keeps
 
@@ -255,10 +282,10 @@ fits_says said number text told fit g f (neighbors d s k none h e agrees is) = s
 fits_says said number text told fit g f (orders d s m k none y e agrees is) = subst (λ (t : Told). fits_after fit said.vars t ≡ list_any (fits_zero (after said t).vars) (after said t).lines) (sym is) f
 fits_says said number text told fit g f (variable d n h y en eh ey v var e is) =
     subst (λ (t : Told). fits_after fit said.vars t ≡ list_any (fits_zero (after said t).vars) (after said t).lines) (sym is)
-      (f ∙ sym (any_same n (neighbour_count h) said.vars var said.lines (g.transitions n h en eh)))
+    (f ∙ sym (any_same n (neighbour_count h) said.vars var said.lines (g.transitions n h en eh)))
 fits_says said number text told fit g f (transition d n h y en eh ey v t e bound quiet is) =
     subst (λ (t : Told). fits_after fit said.vars t ≡ list_any (fits_zero (after said t).vars) (after said t).lines) (sym is)
-      (ap (λ (b : Bool). b || fits_zero said.vars t) f ∙ sym (any_more (fits_zero said.vars) said.lines t))
+    (ap (λ (b : Bool). b || fits_zero said.vars t) f ∙ sym (any_more (fits_zero said.vars) said.lines t))
 
 fits_case : (said : Said) (number : ℕ) (line : List ℕ) (told : Told) (fit : Bool) → IsGood said → fit ≡ list_any (fits_zero said.vars) said.lines → Case said number line told
     → fits_after fit said.vars told ≡ list_any (fits_zero (after said told).vars) (after said told).lines

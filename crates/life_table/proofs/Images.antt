@@ -54,8 +54,9 @@ module _ (v : List ℕ) (step : ℕ) where
   found_in : (reflect : Bool) (w : List ℕ) → Contains (family reflect step v) w →
       (k : ℕ) × (k < length v / step) × ((turn v (k * step) ≡ w) ⊎ (IsTrue reflect × (reflected_turn v (k * step) ≡ w)))
   found_in true w h = elim (Contains-append_cases (turns v step) (reflected_turns v step) w h) [
-        inl a ↦ let r = from_turns w a in (r.0, r.1, inl r.2)
-      | inr b ↦ let r = from_reflected w b in (r.0, r.1, inr (refl, r.2)) ]
+    | inl a ↦ let r = from_turns w a in (r.0, r.1, inl r.2)
+    | inr b ↦ let r = from_reflected w b in (r.0, r.1, inr (refl, r.2))
+  ]
   found_in false w h = let r = from_turns w h in (r.0, r.1, inl r.2)
 
   turn_in : (reflect : Bool) (k : ℕ) → k < length v / step → Contains (family reflect step v) (turn v (k * step))
@@ -72,13 +73,19 @@ pub tells_family : (symmetry : Symmetry) (vars : List Var) (line : Transition) (
 tells_family symmetry vars line centre others step reflect found same h =
     tells_same (ImageGives vars line centre others step reflect (length others / step)) (Gives symmetry vars line centre others)
     (λ s g. elim g.gives [
-        inl a ↦ record { image = turn others (g.place * step); is_image = subst (λ ws. Contains ws (turn others (g.place * step))) (sym same) (turn_in others step reflect g.place g.below); choice = a.choice; is_choice = a.is_choice; inputs = a.inputs; output = a.output }
-      | inr b ↦ record { image = reflected_turn others (g.place * step); is_image = subst (λ ws. Contains ws (reflected_turn others (g.place * step))) (sym same) (reflected_in others step reflect g.place b.0 g.below); choice = b.1.choice; is_choice = b.1.is_choice; inputs = b.1.inputs; output = b.1.output } ])
+      | inl a ↦ record { image = turn others (g.place * step); is_image = subst (λ ws. Contains ws (turn others (g.place * step))) (sym same) (turn_in others step reflect g.place g.below); choice = a.choice; is_choice = a.is_choice; inputs = a.inputs; output = a.output }
+      | inr b ↦ record { image = reflected_turn others (g.place * step); is_image = subst (λ ws. Contains ws (reflected_turn others (g.place * step))) (sym same) (reflected_in others step reflect g.place b.0 g.below); choice = b.1.choice; is_choice = b.1.is_choice; inputs = b.1.inputs; output = b.1.output }
+    ])
     (λ s g.
-      let f = found_in others step reflect g.image (subst (λ ws. Contains ws g.image) same g.is_image) in
-      record { place = f.0; below = f.1; gives = elim f.2 [
-          inl e ↦ inl (record { choice = g.choice; is_choice = g.is_choice; inputs = g.inputs ∙ ap (λ w. centre ∷ w) (sym e); output = g.output })
-        | inr e ↦ inr (e.0, record { choice = g.choice; is_choice = g.is_choice; inputs = g.inputs ∙ ap (λ w. centre ∷ w) (sym e.1); output = g.output }) ] })
+    let f = found_in others step reflect g.image (subst (λ ws. Contains ws g.image) same g.is_image) in
+    record {
+      place = f.0;
+      below = f.1;
+      gives = elim f.2 [
+        | inl e ↦ inl (record { choice = g.choice; is_choice = g.is_choice; inputs = g.inputs ∙ ap (λ w. centre ∷ w) (sym e); output = g.output })
+        | inr e ↦ inr (e.0, record { choice = g.choice; is_choice = g.is_choice; inputs = g.inputs ∙ ap (λ w. centre ∷ w) (sym e.1); output = g.output })
+      ];
+    })
     found h
 
 pub tells_permute : (vars : List Var) (line : Transition) (centre : ℕ) (others : List ℕ) (found : Found) → Tells (GivesByCounts vars line centre others) found → Tells (Gives Permute vars line centre others) found
@@ -106,4 +113,4 @@ pub answer : (symmetry sort : Symmetry) → symmetry ≡ sort → (vars : List V
 answer symmetry sort is vars line cells passed step reflect found same images_are h =
     subst (λ y. Tells (Gives y vars line (slice_index cells 0) (drop 1 cells)) found) (sym is)
     (tells_family sort vars line (slice_index cells 0) (drop 1 cells) step reflect found images_are
-      (subst (λ k. Tells (ImageGives vars line (slice_index cells 0) (drop 1 cells) k reflect (length (drop 1 cells) / k)) found) same h))
+    (subst (λ k. Tells (ImageGives vars line (slice_index cells 0) (drop 1 cells) k reflect (length (drop 1 cells) / k)) found) same h))

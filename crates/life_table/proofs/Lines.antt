@@ -55,15 +55,17 @@ module _ (ps : List Numbered) (x : Numbered) (stands : Stands ps) where
   passed_more : section_of ps ≡ Ahead → name_of ps ≡ None → is_passed_over x.1 ≡ true → More Nothing
   passed_more s n p =
       let none = stands.named n in
-      let g = grown_passed ps x none p in
-      (said_still None Ahead g ∙ ap (λ (o : Option (List ℕ)). said_in o Ahead (table_texts ps)) (sym n) ∙ ap (λ (t : Section). said_in (name_of ps) t (table_texts ps)) (sym s),
-       record { named = λ _. rule_passed ps x none p; texts = texts_still None Ahead g })
+      let g = grown_passed ps x none p in (
+        said_still None Ahead g ∙ ap (λ (o : Option (List ℕ)). said_in o Ahead (table_texts ps)) (sym n) ∙ ap (λ (t : Section). said_in (name_of ps) t (table_texts ps)) (sym s),
+        record { named = λ _. rule_passed ps x none p; texts = texts_still None Ahead g },
+      )
 
   named_more : section_of ps ≡ Ahead → name_of ps ≡ None → is_passed_over x.1 ≡ false → (name : List ℕ) → name_on x.1 ≡ Some name → More (RuleName name)
   named_more s n p name e =
-      let g : Grown ps x (Some name) Ahead [] = subst (λ (o : Option (List ℕ)). Grown ps x o Ahead []) e (grown_named ps x (stands.named n) p) in
-      (said_still (Some name) Ahead g ∙ ap (λ (t : Section). said_in (Some name) t (table_texts ps)) (sym s),
-       record { named = still_named name Ahead [] g; texts = texts_still (Some name) Ahead g })
+      let g : Grown ps x (Some name) Ahead [] = subst (λ (o : Option (List ℕ)). Grown ps x o Ahead []) e (grown_named ps x (stands.named n) p) in (
+        said_still (Some name) Ahead g ∙ ap (λ (t : Section). said_in (Some name) t (table_texts ps)) (sym s),
+        record { named = still_named name Ahead [] g; texts = texts_still (Some name) Ahead g },
+      )
 
   -- the stage that a section tells
   if_ahead : {R : Type 0} (name : List ℕ) → section_of ps ≡ Ahead → name_of ps ≡ Some name
@@ -105,11 +107,13 @@ module _ (ps : List Numbered) (x : Numbered) (stands : Stands ps) where
       let g' : Grown ps x (name_of ps) Open ((x.0, content x.1) ∷ []) = subst (λ (ms : List Numbered). Grown ps x (name_of ps) Open ms) one g in
       let here : Says (said_in (name_of ps) Open (table_texts ps)) x.0 (content x.1) told = subst (λ (z : Section). Says (said_in (name_of ps) z (table_texts ps)) x.0 (content x.1) told) s more in
       let m = says_more (name_of ps) (table_texts ps) x.0 (content x.1) stands.texts told here in
-      let back : after (said_in (name_of ps) Open (table_texts ps)) told ≡ after (said_by ps) told = ap (λ (z : Section). after (said_in (name_of ps) z (table_texts ps)) told) (sym s) in
-      (said_grown (name_of ps) Open ((x.0, content x.1) ∷ []) g' ∙ m.0 ∙ back,
-       record {
-         named = still_named name Open ((x.0, content x.1) ∷ []) (subst (λ (o : Option (List ℕ)). Grown ps x o Open ((x.0, content x.1) ∷ [])) n g');
-         texts = subst TextsStand (sym g'.texts) m.1 })))
+      let back : after (said_in (name_of ps) Open (table_texts ps)) told ≡ after (said_by ps) told = ap (λ (z : Section). after (said_in (name_of ps) z (table_texts ps)) told) (sym s) in (
+        said_grown (name_of ps) Open ((x.0, content x.1) ∷ []) g' ∙ m.0 ∙ back,
+        record {
+          named = still_named name Open ((x.0, content x.1) ∷ []) (subst (λ (o : Option (List ℕ)). Grown ps x o Open ((x.0, content x.1) ∷ [])) n g');
+          texts = subst TextsStand (sym g'.texts) m.1;
+        },
+      )))
     where
       filter_one : Bool → List Numbered
       filter_one b = if not b then (x.0, content x.1) ∷ [] else []
@@ -136,8 +140,9 @@ module _ (ps : List Numbered) (x : Numbered) (stands : Stands ps) where
 pub stands_start : Stands []
 unfolding name_of section_of table_texts
 stands_start = record {
-    named = λ _. refl;
-    texts = record { early = λ _. All-nil _; read = λ n h en eh. All-nil _ } }
+  named = λ _. refl;
+  texts = record { early = λ _. All-nil _; read = λ n h en eh. All-nil _ };
+}
 
 pub said_start : said_by [] ≡ nothing_said
 unfolding name_of section_of table_texts

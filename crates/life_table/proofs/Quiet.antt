@@ -34,8 +34,9 @@ one_of_same z (suc k) w h = elim (in_cases z (replicate k z) w h) [ inl e ↦ e 
 zero_inserted : (n : ℕ) (w : List ℕ) → Contains (insertions 0 (replicate n 0)) w → replicate (suc n) 0 ≡ w
 zero_inserted zero w h = in_one (0 ∷ []) w h
 zero_inserted (suc n) w h = elim (in_cases (replicate (suc (suc n)) 0) (map (λ zs. 0 ∷ zs) (insertions 0 (replicate n 0))) w h) [
-      inl e ↦ e
-    | inr m ↦ let r = from_map (λ zs. 0 ∷ zs) (insertions 0 (replicate n 0)) w m in ap (λ z. 0 ∷ z) (zero_inserted n r.0 r.1) ∙ r.2 ]
+  | inl e ↦ e
+  | inr m ↦ let r = from_map (λ zs. 0 ∷ zs) (insertions 0 (replicate n 0)) w m in ap (λ z. 0 ∷ z) (zero_inserted n r.0 r.1) ∙ r.2
+]
 
 zero_orders : (n : ℕ) (w : List ℕ) → Contains (orders (replicate n 0)) w → replicate n 0 ≡ w
 unfolding orders
@@ -102,8 +103,9 @@ pub bound_zero : (choice : ℕ → ℕ) (i : ℕ) (es : List Entry) → IsTrue (
 bound_zero choice i [] there h = absurd (let z : ⊥ = cc in z)
 bound_zero choice i (entries.Fixed s ∷ es) there h = bound_zero choice i es there (All-tail (λ e. state_of choice e ≡ 0) (entries.Fixed s) es h)
 bound_zero choice i (entries.Var j ∷ es) there h = elim (eqb_tells i j) [
-      inl same ↦ ap choice same.1 ∙ All-head (λ e. state_of choice e ≡ 0) (entries.Var j) es h
-    | inr other ↦ bound_zero choice i es (subst (λ b. IsTrue (b || list_any (is_variable i) es)) other.0 there) (All-tail (λ e. state_of choice e ≡ 0) (entries.Var j) es h) ]
+  | inl same ↦ ap choice same.1 ∙ All-head (λ e. state_of choice e ≡ 0) (entries.Var j) es h
+  | inr other ↦ bound_zero choice i es (subst (λ b. IsTrue (b || list_any (is_variable i) es)) other.0 there) (All-tail (λ e. state_of choice e ≡ 0) (entries.Var j) es h)
+]
 
 -- a choice that takes 0 wherever it may
 
@@ -113,8 +115,9 @@ known false = inr refl
 
 quiet_state : (n : ℕ) (var : Var) → IsVariable n var → (s : ℕ) × HasState var s × (HasState var 0 → s ≡ 0)
 quiet_state n var v = elim (known (has_state var 0)) [
-      inl does ↦ (0, does, λ h. refl)
-    | inr not_so ↦ let s = some_state n var v in (s.0, s.1, λ h. absurd (let e : true ≡ false = sym h ∙ not_so in cc)) ]
+  | inl does ↦ (0, does, λ h. refl)
+  | inr not_so ↦ let s = some_state n var v in (s.0, s.1, λ h. absurd (let e : true ≡ false = sym h ∙ not_so in cc))
+]
 
 with_first : ℕ → (ℕ → ℕ) → ℕ → ℕ
 with_first s rest zero = s
@@ -146,20 +149,23 @@ quiet_choice n (v ∷ vars) h =
 zero_value : (n : ℕ) (vars : List Var) (choice : ℕ → ℕ) → IsChoice vars choice → (e : Entry) → IsEntry n vars e → state_of choice e ≡ 0 → allows_zero vars e ≡ true
 zero_value n vars choice is (entries.Fixed s) entry h = subst (λ (t : ℕ). (t == 0) ≡ true) (sym h) refl
 zero_value n vars choice is (entries.Var j) entry h = elim (slice_get_cases vars j).1 [
-      inl some ↦
-        let there : IfSome (slice_get vars j) (λ w. HasState w (choice j)) = is j (entry.variable j refl) in
-        let has : HasState some.0 (choice j) = subst (λ o. IfSome o (λ (w : Var). HasState w (choice j))) some.2 there in
-        let zero_there : has_state some.0 0 ≡ true = subst (HasState some.0) h has in
-        subst (λ (o : Option Var). option_map_or (λ (w : Var). has_state w 0) o false ≡ true) (sym some.2) zero_there
-    | inr none ↦ absurd (let below = entry.variable j refl in omega (arith, below, none.0)) ]
+  | inl some ↦
+      let there : IfSome (slice_get vars j) (λ w. HasState w (choice j)) = is j (entry.variable j refl) in
+      let has : HasState some.0 (choice j) = subst (λ o. IfSome o (λ (w : Var). HasState w (choice j))) some.2 there in
+      let zero_there : has_state some.0 0 ≡ true = subst (HasState some.0) h has in
+      subst (λ (o : Option Var). option_map_or (λ (w : Var). has_state w 0) o false ≡ true) (sym some.2) zero_there
+  | inr none ↦ absurd (let below = entry.variable j refl in omega (arith, below, none.0))
+]
 
 allowed_value : (vars : List Var) (choice : ℕ → ℕ) → TakesZero vars choice → (e : Entry) → allows_zero vars e ≡ true → state_of choice e ≡ 0
 allowed_value vars choice quiet (entries.Fixed s) h = elim (eqb_tells s 0) [
-      inl same ↦ same.1
-    | inr other ↦ absurd (let e : true ≡ false = sym h ∙ other.0 in let z : ⊥ = cc in z) ]
+  | inl same ↦ same.1
+  | inr other ↦ absurd (let e : true ≡ false = sym h ∙ other.0 in let z : ⊥ = cc in z)
+]
 allowed_value vars choice quiet (entries.Var i) h = elim (slice_get_cases vars i).1 [
-      inl some ↦ quiet i some.0 some.2 (subst (λ (o : Option Var). option_map_or (λ (w : Var). has_state w 0) o false ≡ true) some.2 h)
-    | inr none ↦ absurd (let e : false ≡ true = subst (λ (o : Option Var). option_map_or (λ (w : Var). has_state w 0) o false ≡ true) none.1 h in let z : ⊥ = cc in z) ]
+  | inl some ↦ quiet i some.0 some.2 (subst (λ (o : Option Var). option_map_or (λ (w : Var). has_state w 0) o false ≡ true) some.2 h)
+  | inr none ↦ absurd (let e : false ≡ true = subst (λ (o : Option Var). option_map_or (λ (w : Var). has_state w 0) o false ≡ true) none.1 h in let z : ⊥ = cc in z)
+]
 
 -- which line fits first
 
@@ -175,19 +181,28 @@ record FirstFit (vars : List Var) (lines : List Transition) : Type 0 where
 first_fit : (vars : List Var) (lines : List Transition) → is_quiet vars lines ≡ true → FirstFit vars lines ⊎ All (λ line. fits_zero vars line ≡ false) lines
 first_fit vars [] q = inr (All-nil (λ line. fits_zero vars line ≡ false))
 first_fit vars (x ∷ xs) q = elim (known (fits_zero vars x)) [
-      inl fits ↦ inl (record {
-        before = []; line = x; after = xs; split = refl; none = All-nil (λ line. fits_zero vars line ≡ false); fits = fits;
-        quiet = subst (λ (b : Bool). (if b then is_quiet_output x.output else is_quiet vars xs) ≡ true) fits q })
-    | inr not_so ↦ elim (first_fit vars xs (subst (λ (b : Bool). (if b then is_quiet_output x.output else is_quiet vars xs) ≡ true) not_so q)) [
-        inl f ↦ inl (record { before = x ∷ f.before; line = f.line; after = f.after; split = ap (λ z. x ∷ z) f.split; none = All-cons (λ line. fits_zero vars line ≡ false) x f.before not_so f.none; fits = f.fits; quiet = f.quiet })
-      | inr all ↦ inr (All-cons (λ line. fits_zero vars line ≡ false) x xs not_so all) ] ]
+  | inl fits ↦ inl (record {
+    before = [];
+    line = x;
+    after = xs;
+    split = refl;
+    none = All-nil (λ line. fits_zero vars line ≡ false);
+    fits = fits;
+    quiet = subst (λ (b : Bool). (if b then is_quiet_output x.output else is_quiet vars xs) ≡ true) fits q;
+  })
+  | inr not_so ↦ elim (first_fit vars xs (subst (λ (b : Bool). (if b then is_quiet_output x.output else is_quiet vars xs) ≡ true) not_so q)) [
+    | inl f ↦ inl (record { before = x ∷ f.before; line = f.line; after = f.after; split = ap (λ z. x ∷ z) f.split; none = All-cons (λ line. fits_zero vars line ≡ false) x f.before not_so f.none; fits = f.fits; quiet = f.quiet })
+    | inr all ↦ inr (All-cons (λ line. fits_zero vars line ≡ false) x xs not_so all)
+  ]
+]
 
 -- a test that each element passes, or one doesn't
 all_pass : (p : Entry → Bool) (es : List Entry) → list_all p es ≡ true → All (λ e. p e ≡ true) es
 all_pass p [] h = All-nil (λ e. p e ≡ true)
 all_pass p (e ∷ es) h = elim (known (p e)) [
-      inl does ↦ All-cons (λ e. p e ≡ true) e es does (all_pass p es (subst (λ (b : Bool). (b && list_all p es) ≡ true) does h))
-    | inr not_so ↦ absurd (let e : false ≡ true = subst (λ (b : Bool). (b && list_all p es) ≡ true) not_so h in let z : ⊥ = cc in z) ]
+  | inl does ↦ All-cons (λ e. p e ≡ true) e es does (all_pass p es (subst (λ (b : Bool). (b && list_all p es) ≡ true) does h))
+  | inr not_so ↦ absurd (let e : false ≡ true = subst (λ (b : Bool). (b && list_all p es) ≡ true) not_so h in let z : ⊥ = cc in z)
+]
 
 all_passed : (p : Entry → Bool) (es : List Entry) → All (λ e. p e ≡ true) es → list_all p es ≡ true
 all_passed p [] h = refl
@@ -221,8 +236,9 @@ module _ (n : Neighborhood) (symmetry : Symmetry) (vars : List Var) where
 
   quiet_fixed : (s : ℕ) (e : Entry) → e ≡ entries.Fixed s → is_quiet_output e ≡ true → s ≡ 0
   quiet_fixed s e is q = elim (eqb_tells s 0) [
-        inl same ↦ same.1
-      | inr other ↦ absurd (let no : is_quiet_output e ≡ false = ap is_quiet_output is ∙ other.0 in let z : true ≡ false = sym q ∙ no in let w : ⊥ = cc in w) ]
+    | inl same ↦ same.1
+    | inr other ↦ absurd (let no : is_quiet_output e ≡ false = ap is_quiet_output is ∙ other.0 in let z : true ≡ false = sym q ∙ no in let w : ⊥ = cc in w)
+  ]
 
   output_zero : (n_states : ℕ) (line : Transition) → IsTransition n_states (neighbour_count n) vars line → ((s : ℕ) → line.output ≡ entries.Fixed s → s ≡ 0) →
       (choice : ℕ → ℕ) → All (λ e. state_of choice e ≡ 0) line.inputs → (e : Entry) → line.output ≡ e → state_of choice e ≡ 0
@@ -231,20 +247,30 @@ module _ (n : Neighborhood) (symmetry : Symmetry) (vars : List Var) where
 
 pub zero_law : ZeroStaysZero
 zero_law n_states n symmetry vars lines sound = elim (first_fit vars lines sound.quiet) [
-      inr none ↦ inr (all_silent n symmetry vars n_states lines sound.transitions none, refl)
-    | inl f ↦
-        let all : All (IsTransition n_states (neighbour_count n) vars) (f.before ++ f.line ∷ f.after) = subst (All (IsTransition n_states (neighbour_count n) vars)) f.split sound.transitions in
-        let t : IsTransition n_states (neighbour_count n) vars f.line = at_split (IsTransition n_states (neighbour_count n) vars) f.before f.line f.after all in
-        let quiet = λ (s : ℕ) (is : f.line.output ≡ entries.Fixed s). quiet_fixed n symmetry vars s f.line.output is f.quiet in
-        let c = quiet_choice n_states vars sound.variables in
-        let fits : All (λ e. allows_zero vars e ≡ true) f.line.inputs = all_pass (allows_zero vars) f.line.inputs f.fits in
-        let values : All (λ e. state_of c.0 e ≡ 0) f.line.inputs = λ k d below. allowed_value vars c.0 c.2 (get_or f.line.inputs k d) (fits k d below) in
-        inl (record {
-          before = f.before; line = f.line; after = f.after; split = f.split;
-          silent = all_silent n symmetry vars n_states f.before (before_split (IsTransition n_states (neighbour_count n) vars) f.before f.line f.after all) f.none;
-          answers = (
-            record {
-              image = zeros n; is_image = zero_image n symmetry; choice = c.0; is_choice = c.1;
-              inputs = zero_map (state_of c.0) f.line.inputs values ∙ ap (λ k. replicate k 0) t.count ∙ all_zeros n;
-              output = output_zero n symmetry vars n_states f.line t quiet c.0 values f.line.output refl },
-            λ s g. sym g.output ∙ output_zero n symmetry vars n_states f.line t quiet g.choice (fits_if_gives n symmetry vars f.line s g) f.line.output refl) }) ]
+  | inr none ↦ inr (all_silent n symmetry vars n_states lines sound.transitions none, refl)
+  | inl f ↦
+      let all : All (IsTransition n_states (neighbour_count n) vars) (f.before ++ f.line ∷ f.after) = subst (All (IsTransition n_states (neighbour_count n) vars)) f.split sound.transitions in
+      let t : IsTransition n_states (neighbour_count n) vars f.line = at_split (IsTransition n_states (neighbour_count n) vars) f.before f.line f.after all in
+      let quiet = λ (s : ℕ) (is : f.line.output ≡ entries.Fixed s). quiet_fixed n symmetry vars s f.line.output is f.quiet in
+      let c = quiet_choice n_states vars sound.variables in
+      let fits : All (λ e. allows_zero vars e ≡ true) f.line.inputs = all_pass (allows_zero vars) f.line.inputs f.fits in
+      let values : All (λ e. state_of c.0 e ≡ 0) f.line.inputs = λ k d below. allowed_value vars c.0 c.2 (get_or f.line.inputs k d) (fits k d below) in
+      inl (record {
+        before = f.before;
+        line = f.line;
+        after = f.after;
+        split = f.split;
+        silent = all_silent n symmetry vars n_states f.before (before_split (IsTransition n_states (neighbour_count n) vars) f.before f.line f.after all) f.none;
+        answers = (
+          record {
+            image = zeros n;
+            is_image = zero_image n symmetry;
+            choice = c.0;
+            is_choice = c.1;
+            inputs = zero_map (state_of c.0) f.line.inputs values ∙ ap (λ k. replicate k 0) t.count ∙ all_zeros n;
+            output = output_zero n symmetry vars n_states f.line t quiet c.0 values f.line.output refl;
+          },
+          λ s g. sym g.output ∙ output_zero n symmetry vars n_states f.line t quiet g.choice (fits_if_gives n symmetry vars f.line s g) f.line.output refl,
+        );
+      })
+]

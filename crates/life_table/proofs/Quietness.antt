@@ -30,7 +30,7 @@ more : (vars : List Var) (earlier : List Transition) (line : Transition) → is_
 more vars [] line q = alone (fits_zero vars line) (is_quiet_output line.output)
 more vars (x ∷ xs) line q =
     step (fits_zero vars x) (is_quiet_output x.output) (is_quiet vars xs) (is_quiet vars (xs ++ line ∷ [])) (list_any (fits_zero vars) xs)
-      (not (fits_zero vars line) || is_quiet_output line.output) q (more vars xs line)
+    (not (fits_zero vars line) || is_quiet_output line.output) q (more vars xs line)
 
 pub quiet_more : (vars : List Var) (earlier : List Transition) (line : Transition) → is_quiet vars earlier ≡ true
     → is_quiet vars (earlier ++ line ∷ []) ≡ (list_any (fits_zero vars) earlier || not (fits_zero vars line) || is_quiet_output line.output)

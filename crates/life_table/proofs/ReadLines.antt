@@ -24,13 +24,13 @@ refused_line : (before : List (List ℕ)) (line : List ℕ) (rest : List (List �
     → Refuses (before ++ line ∷ rest) (record { place = record { line = min (length before + 1) (2 ^ 64 - 1) }; kind = kind })
 refused_line before line rest kind u b =
     refusal_at IsTableFile broken missing by_lines (before ++ line ∷ rest) (length before) kind (omega (arith, length-append before (line ∷ rest)))
-      (λ k h.
-        let e : take k (before ++ line ∷ rest) ≡ take k before = take-append-le k before (line ∷ rest) (omega arith) in
-        let f : get_or (before ++ line ∷ rest) k [] ≡ get_or before k [] = get_or-append before (line ∷ rest) [] k h in
-        rw (e, f) (u k h))
-      (let e : take (length before) (before ++ line ∷ rest) ≡ before = take-append_seam before (line ∷ rest) in
-       let f : get_or (before ++ line ∷ rest) (length before) [] ≡ line = get_or-append_seam before line rest [] in
-       rw (e, f) b)
+    (λ k h.
+    let e : take k (before ++ line ∷ rest) ≡ take k before = take-append-le k before (line ∷ rest) (omega arith) in
+    let f : get_or (before ++ line ∷ rest) k [] ≡ get_or before k [] = get_or-append before (line ∷ rest) [] k h in
+    rw (e, f) (u k h))
+    (let e : take (length before) (before ++ line ∷ rest) ≡ before = take-append_seam before (line ∷ rest) in
+    let f : get_or (before ++ line ∷ rest) (length before) [] ≡ line = get_or-append_seam before line rest [] in
+    rw (e, f) b)
 
 numbered_texts : (lines : List (List ℕ)) (n : ℕ) → texts_of (numbered_from n lines) ≡ lines
 numbered_texts [] n = refl
@@ -89,13 +89,14 @@ module _ (lines : List (List ℕ)) (pairs : List Numbered) (number : ℕ) (line 
       let m = reach_more (texts_of pairs) line told reads.reached (told_there (Ok told) h) in
       let t : texts_of (pairs ++ (number, line) ∷ []) ≡ texts_of pairs ++ line ∷ [] = map-append (λ (p : Numbered). p.1) pairs ((number, line) ∷ []) in
       let numbers : pairs ++ (number, line) ∷ [] ≡ numbered_from 1 (texts_of pairs ++ line ∷ []) =
-          ap (λ (ps : List Numbered). ps ++ (number, line) ∷ []) reads.numbers ∙ ap (λ (k : ℕ). numbered_from 1 (texts_of pairs) ++ (k, line) ∷ []) number_is ∙ sym (numbered_more (texts_of pairs) line) in
+      ap (λ (ps : List Numbered). ps ++ (number, line) ∷ []) reads.numbers ∙ ap (λ (k : ℕ). numbered_from 1 (texts_of pairs) ++ (k, line) ∷ []) number_is ∙ sym (numbered_more (texts_of pairs) line) in
       let k : IsKept (after said told) (fits_after fit said.vars told) = kept_more said number line told fit (good_reads pairs said fit reads) reads.keeps (line_case said number line told h) in
       record {
         numbers = numbers ∙ ap (numbered_from 1) (sym t);
         reached = subst Reach (sym t) m.1;
         is = n ∙ ap (λ (s : Said). after s told) (reads.is ∙ ap said_by reads.numbers) ∙ sym m.0 ∙ ap said_by (sym numbers);
-        keeps = subst (λ (s : Said). IsKept s next_fit) (sym n) (subst (IsKept (after said told)) (sym f) k) }
+        keeps = subst (λ (s : Said). IsKept s next_fit) (sym n) (subst (IsKept (after said told)) (sym f) k);
+      }
 
   pub next_number : (next : ℕ) → next ≡ min (number + 1) (2 ^ 64 - 1) → next ≡ min (length (pairs ++ (number, line) ∷ []) + 1) (2 ^ 64 - 1)
   next_number next h = let e = number_at lines pairs 1 number line rest (omega arith) all in omega (arith, h, e, length-append pairs ((number, line) ∷ []))
@@ -122,8 +123,9 @@ module _ (lines : List (List ℕ)) (pairs rest : List Numbered) (all : pairs ++ 
 
   pub read_whole : (table : Table) → lacking said ≡ None → Describes said table → AreTable lines table
   read_whole table l d = record {
-      file = record { unbroken = reached.unbroken; whole = missing_is lines ∙ ap lacking (sym said_is) ∙ l };
-      says = subst (λ (s : Said). Describes s table) said_is d }
+    file = record { unbroken = reached.unbroken; whole = missing_is lines ∙ ap lacking (sym said_is) ∙ l };
+    says = subst (λ (s : Said). Describes s table) said_is d;
+  }
 
   pub refused_at_end : (kind : Kind) (next : ℕ) → lacking said ≡ Some kind → next ≡ min (length pairs + 1) (2 ^ 64 - 1)
       → Refuses lines (record { place = record { line = next }; kind = kind })

@@ -44,8 +44,14 @@ unfolding broken missing told_by told_descriptor name_of section_of table_texts 
 spread_whole = refl
 
 spread_says : says spread ≡ record {
-  name = Some (codes "Spread"); section = Open; n_states = Some 3; neighborhood = Some VonNeumann; symmetry = Some symmetries.Rotate4;
-  vars = record { name = codes "a"; states = 6 ∷ 0 ∷ 0 ∷ 0 ∷ [] } ∷ []; lines = a_line ∷ [] }
+  name = Some (codes "Spread");
+  section = Open;
+  n_states = Some 3;
+  neighborhood = Some VonNeumann;
+  symmetry = Some symmetries.Rotate4;
+  vars = record { name = codes "a"; states = 6 ∷ 0 ∷ 0 ∷ 0 ∷ [] } ∷ [];
+  lines = a_line ∷ [];
+}
 unfolding broken missing told_by told_descriptor name_of section_of table_texts entry_of states_listed entries_of variable_states variable_of transition_of rule_of life_sets
 spread_says = refl
 

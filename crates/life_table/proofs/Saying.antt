@@ -38,14 +38,15 @@ or_cases false b e = inr e
 
 neighbors_alone : (key : List ℕ) → is_neighborhood_key key ≡ true → is_symmetry_key key ≡ false
 neighbors_alone key e = elim (or_cases (bytes_eq key (codes "neighborhood")) (bytes_eq key (codes "neighbourhood")) e) [
-      inl a ↦ (let k : key ≡ codes "neighborhood" = (bytes_eq-Decides key (codes "neighborhood")).0 a in subst (λ (w : List ℕ). is_symmetry_key w ≡ false) (sym k) refl)
-    | inr b ↦ (let k : key ≡ codes "neighbourhood" = (bytes_eq-Decides key (codes "neighbourhood")).0 b in subst (λ (w : List ℕ). is_symmetry_key w ≡ false) (sym k) refl) ]
+  | inl a ↦ (let k : key ≡ codes "neighborhood" = (bytes_eq-Decides key (codes "neighborhood")).0 a in subst (λ (w : List ℕ). is_symmetry_key w ≡ false) (sym k) refl)
+  | inr b ↦ (let k : key ≡ codes "neighbourhood" = (bytes_eq-Decides key (codes "neighbourhood")).0 b in subst (λ (w : List ℕ). is_symmetry_key w ≡ false) (sym k) refl)
+]
 
 -- one said of five equal parts
 said_same : (name : Option (List ℕ)) (section : Section) (a a' : Option ℕ) (b b' : Option Neighborhood) (c c' : Option Symmetry) (d d' : List Var) (e e' : List Transition)
     → a ≡ a' → b ≡ b' → c ≡ c' → d ≡ d' → e ≡ e'
     → (let s : Said = record { name = name; section = section; n_states = a; neighborhood = b; symmetry = c; vars = d; lines = e } in s)
-      ≡ record { name = name; section = section; n_states = a'; neighborhood = b'; symmetry = c'; vars = d'; lines = e' }
+    ≡ record { name = name; section = section; n_states = a'; neighborhood = b'; symmetry = c'; vars = d'; lines = e' }
 said_same name section a a' b b' c c' d d' e e' p q r s t = cc
 
 not_described : (a b c : Bool) → (a ≡ false) ⊎ ((b ≡ false) ⊎ (c ≡ false)) → (a && b && c) ≡ false
@@ -128,14 +129,15 @@ module _ (name : Option (List ℕ)) (ts : List Numbered) (number : ℕ) (text : 
     stand_then all = record {
       early = λ e. absurd (
           let t : (is_some on' && is_some oh' && is_some oy') ≡ true =
-              ap (λ (o : Option ℕ). is_some o && is_some oh' && is_some oy') (states_same ∙ en)
-              ∙ ap (λ (o : Option Neighborhood). is_some o && is_some oy') (neighbors_same ∙ eh) ∙ ap (λ (o : Option Symmetry). is_some o) (symmetry_same ∙ ey) in
+          ap (λ (o : Option ℕ). is_some o && is_some oh' && is_some oy') (states_same ∙ en)
+          ∙ ap (λ (o : Option Neighborhood). is_some o && is_some oy') (neighbors_same ∙ eh) ∙ ap (λ (o : Option Symmetry). is_some o) (symmetry_same ∙ ey) in
           let z : true ≡ false = sym t ∙ e in let w : ⊥ = cc in w);
       read = λ m g em eg.
-        let same_n : n ≡ m = (let z : Some n ≡ Some m = sym (states_same ∙ en) ∙ em in cc) in
-        let same_h : h ≡ g = (let z : Some h ≡ Some g = sym (neighbors_same ∙ eh) ∙ eg in cc) in
-        subst (λ (m : ℕ). All (IsRead m (neighbour_count g) (variables_written m (texts_of (ts ++ x ∷ [])))) (ts ++ x ∷ [])) same_n
-          (subst (λ (g : Neighborhood). All (IsRead n (neighbour_count g) (variables_written n (texts_of (ts ++ x ∷ [])))) (ts ++ x ∷ [])) same_h all) }
+          let same_n : n ≡ m = (let z : Some n ≡ Some m = sym (states_same ∙ en) ∙ em in cc) in
+          let same_h : h ≡ g = (let z : Some h ≡ Some g = sym (neighbors_same ∙ eh) ∙ eg in cc) in
+          subst (λ (m : ℕ). All (IsRead m (neighbour_count g) (variables_written m (texts_of (ts ++ x ∷ [])))) (ts ++ x ∷ [])) same_n
+          (subst (λ (g : Neighborhood). All (IsRead n (neighbour_count g) (variables_written n (texts_of (ts ++ x ∷ [])))) (ts ++ x ∷ [])) same_h all);
+    }
 
     variable_written : (var : Var) → is_variable_line text ≡ true → variable_of n (variables_in on (texts_of ts)) text ≡ Some var → written n V text ≡ var ∷ []
     variable_written var v e =
@@ -160,35 +162,38 @@ module _ (name : Option (List ℕ)) (ts : List Numbered) (number : ℕ) (text : 
 
   says_states : is_descriptor text ≡ true → is_states_key (key_of text) ≡ true → on ≡ None → (n : ℕ) → states_named (setting_of text) ≡ Some n → SaysMore (States n)
   says_states d k none n e =
-      let all : AreDescriptors ts = stand.early (not_described (is_some on) (is_some oh) (is_some oy) (inl (ap (λ (o : Option ℕ). is_some o) none))) in
-      (said_same name Open on' (Some n) oh' oh oy' oy _ _ _ _
-        (setting_new is_states_key states_named ts x (this_key is_states_key text d k) none ∙ e)
-        (setting_same is_neighborhood_key neighborhood_named ts x (other_key is_neighborhood_key text (states_alone (key_of text) k)))
-        (setting_same is_symmetry_key symmetry_named ts x (other_key is_symmetry_key text (states_alone_too (key_of text) k)))
-        (described_vars d all) (described_lines d all),
-       described_stand d all)
+      let all : AreDescriptors ts = stand.early (not_described (is_some on) (is_some oh) (is_some oy) (inl (ap (λ (o : Option ℕ). is_some o) none))) in (
+        said_same name Open on' (Some n) oh' oh oy' oy _ _ _ _
+            (setting_new is_states_key states_named ts x (this_key is_states_key text d k) none ∙ e)
+            (setting_same is_neighborhood_key neighborhood_named ts x (other_key is_neighborhood_key text (states_alone (key_of text) k)))
+            (setting_same is_symmetry_key symmetry_named ts x (other_key is_symmetry_key text (states_alone_too (key_of text) k)))
+            (described_vars d all) (described_lines d all),
+        described_stand d all,
+      )
 
   says_neighbors : is_descriptor text ≡ true → is_states_key (key_of text) ≡ false → is_neighborhood_key (key_of text) ≡ true → oh ≡ None → (h : Neighborhood)
       → neighborhood_named (setting_of text) ≡ Some h → SaysMore (Neighbors h)
   says_neighbors d s k none h e =
-      let all : AreDescriptors ts = stand.early (not_described (is_some on) (is_some oh) (is_some oy) (inr (inl (ap (λ (o : Option Neighborhood). is_some o) none)))) in
-      (said_same name Open on' on oh' (Some h) oy' oy _ _ _ _
-        (setting_same is_states_key states_named ts x (other_key is_states_key text s))
-        (setting_new is_neighborhood_key neighborhood_named ts x (this_key is_neighborhood_key text d k) none ∙ e)
-        (setting_same is_symmetry_key symmetry_named ts x (other_key is_symmetry_key text (neighbors_alone (key_of text) k)))
-        (described_vars d all) (described_lines d all),
-       described_stand d all)
+      let all : AreDescriptors ts = stand.early (not_described (is_some on) (is_some oh) (is_some oy) (inr (inl (ap (λ (o : Option Neighborhood). is_some o) none)))) in (
+        said_same name Open on' on oh' (Some h) oy' oy _ _ _ _
+            (setting_same is_states_key states_named ts x (other_key is_states_key text s))
+            (setting_new is_neighborhood_key neighborhood_named ts x (this_key is_neighborhood_key text d k) none ∙ e)
+            (setting_same is_symmetry_key symmetry_named ts x (other_key is_symmetry_key text (neighbors_alone (key_of text) k)))
+            (described_vars d all) (described_lines d all),
+        described_stand d all,
+      )
 
   says_orders : is_descriptor text ≡ true → is_states_key (key_of text) ≡ false → is_neighborhood_key (key_of text) ≡ false → is_symmetry_key (key_of text) ≡ true → oy ≡ None → (y : Symmetry)
       → symmetry_named (setting_of text) ≡ Some y → SaysMore (Orders y)
   says_orders d s m k none y e =
-      let all : AreDescriptors ts = stand.early (not_described (is_some on) (is_some oh) (is_some oy) (inr (inr (ap (λ (o : Option Symmetry). is_some o) none)))) in
-      (said_same name Open on' on oh' oh oy' (Some y) _ _ _ _
-        (setting_same is_states_key states_named ts x (other_key is_states_key text s))
-        (setting_same is_neighborhood_key neighborhood_named ts x (other_key is_neighborhood_key text m))
-        (setting_new is_symmetry_key symmetry_named ts x (this_key is_symmetry_key text d k) none ∙ e)
-        (described_vars d all) (described_lines d all),
-       described_stand d all)
+      let all : AreDescriptors ts = stand.early (not_described (is_some on) (is_some oh) (is_some oy) (inr (inr (ap (λ (o : Option Symmetry). is_some o) none)))) in (
+        said_same name Open on' on oh' oh oy' (Some y) _ _ _ _
+            (setting_same is_states_key states_named ts x (other_key is_states_key text s))
+            (setting_same is_neighborhood_key neighborhood_named ts x (other_key is_neighborhood_key text m))
+            (setting_new is_symmetry_key symmetry_named ts x (this_key is_symmetry_key text d k) none ∙ e)
+            (described_vars d all) (described_lines d all),
+        described_stand d all,
+      )
 
   says_variable : is_descriptor text ≡ false → (n : ℕ) (h : Neighborhood) (y : Symmetry) → on ≡ Some n → oh ≡ Some h → oy ≡ Some y → is_variable_line text ≡ true → (var : Var)
       → variable_of n (variables_in on (texts_of ts)) text ≡ Some var → SaysMore (Variable var)
@@ -198,16 +203,17 @@ module _ (name : Option (List ℕ)) (ts : List Numbered) (number : ℕ) (text : 
       let vars : variables_in on' (texts_of (ts ++ x ∷ [])) ≡ V d n h y en eh ey ++ var ∷ [] = vars_then d n h y en eh ey (var ∷ []) w in
       let kept = transitions_kept n (neighbour_count h) (V d n h y en eh ey) var ts (all_read d n h y en eh ey) in
       let lines = lines_then d n h y en eh ey (V d n h y en eh ey ++ var ∷ []) vars
-          ∙ ap (λ (o : Option Transition). transitions_written n (neighbour_count h) (V d n h y en eh ey ++ var ∷ []) ts ++ cons_option o []) (no_transition d n h y en eh ey (V d n h y en eh ey ++ var ∷ []) v)
-          ∙ append-nil (transitions_written n (neighbour_count h) (V d n h y en eh ey ++ var ∷ []) ts) ∙ kept.0 ∙ sym (lines_are d n h y en eh ey) in
+      ∙ ap (λ (o : Option Transition). transitions_written n (neighbour_count h) (V d n h y en eh ey ++ var ∷ []) ts ++ cons_option o []) (no_transition d n h y en eh ey (V d n h y en eh ey ++ var ∷ []) v)
+      ∙ append-nil (transitions_written n (neighbour_count h) (V d n h y en eh ey ++ var ∷ []) ts) ∙ kept.0 ∙ sym (lines_are d n h y en eh ey) in
       let there : variables_written n (texts_of (ts ++ x ∷ [])) ≡ V d n h y en eh ey ++ var ∷ [] = variables_more n ts x ∙ ap (λ (vs : List Var). V d n h y en eh ey ++ vs) w in
       let last : IsRead n (neighbour_count h) (V d n h y en eh ey ++ var ∷ []) x = λ is. absurd (
-          let no : is_transition_line text ≡ false = ap (λ (b : Bool). not (is_descriptor text) && not b) v ∙ and_false (not (is_descriptor text)) in
-          let z : true ≡ false = sym is ∙ no in let q : ⊥ = cc in q) in
-      (said_same name Open on' on oh' oh oy' oy _ _ _ _ (states_same d n h y en eh ey) (neighbors_same d n h y en eh ey) (symmetry_same d n h y en eh ey)
-        (vars ∙ ap (λ (vs : List Var). vs ++ var ∷ []) (sym (vars_are d n h y en eh ey))) lines,
-       stand_then d n h y en eh ey (subst (λ (vs : List Var). All (IsRead n (neighbour_count h) vs) (ts ++ x ∷ [])) (sym there)
-         (all_more (IsRead n (neighbour_count h) (V d n h y en eh ey ++ var ∷ [])) ts x kept.1 last)))
+      let no : is_transition_line text ≡ false = ap (λ (b : Bool). not (is_descriptor text) && not b) v ∙ and_false (not (is_descriptor text)) in
+      let z : true ≡ false = sym is ∙ no in let q : ⊥ = cc in q) in (
+        said_same name Open on' on oh' oh oy' oy _ _ _ _ (states_same d n h y en eh ey) (neighbors_same d n h y en eh ey) (symmetry_same d n h y en eh ey)
+            (vars ∙ ap (λ (vs : List Var). vs ++ var ∷ []) (sym (vars_are d n h y en eh ey))) lines,
+        stand_then d n h y en eh ey (subst (λ (vs : List Var). All (IsRead n (neighbour_count h) vs) (ts ++ x ∷ [])) (sym there)
+            (all_more (IsRead n (neighbour_count h) (V d n h y en eh ey ++ var ∷ [])) ts x kept.1 last)),
+      )
     where
       and_false : (b : Bool) → (b && false) ≡ false
       and_false true = refl
@@ -219,15 +225,16 @@ module _ (name : Option (List ℕ)) (ts : List Numbered) (number : ℕ) (text : 
       let w = nothing_written d n h y en eh ey v in
       let vars : variables_in on' (texts_of (ts ++ x ∷ [])) ≡ V d n h y en eh ey = vars_then d n h y en eh ey [] w ∙ append-nil (V d n h y en eh ey) in
       let read : transition_of n (neighbour_count h) (V d n h y en eh ey) number text ≡ Some t =
-          ap (λ (vs : List Var). transition_of n (neighbour_count h) vs number text) (sym (vars_are d n h y en eh ey)) ∙ e in
+      ap (λ (vs : List Var). transition_of n (neighbour_count h) vs number text) (sym (vars_are d n h y en eh ey)) ∙ e in
       let lines = lines_then d n h y en eh ey (V d n h y en eh ey) vars
-          ∙ ap (λ (o : Option Transition). transitions_written n (neighbour_count h) (V d n h y en eh ey) ts ++ cons_option o []) (transition_there d n h y en eh ey (V d n h y en eh ey) v ∙ read)
-          ∙ ap (λ (ls : List Transition). ls ++ t ∷ []) (sym (lines_are d n h y en eh ey)) in
-      let there : variables_written n (texts_of (ts ++ x ∷ [])) ≡ V d n h y en eh ey = variables_more n ts x ∙ ap (λ (vs : List Var). V d n h y en eh ey ++ vs) w ∙ append-nil (V d n h y en eh ey) in
-      (said_same name Open on' on oh' oh oy' oy _ _ _ _ (states_same d n h y en eh ey) (neighbors_same d n h y en eh ey) (symmetry_same d n h y en eh ey)
-        (vars ∙ sym (vars_are d n h y en eh ey)) lines,
-       stand_then d n h y en eh ey (subst (λ (vs : List Var). All (IsRead n (neighbour_count h) vs) (ts ++ x ∷ [])) (sym there)
-         (all_more (IsRead n (neighbour_count h) (V d n h y en eh ey)) ts x (all_read d n h y en eh ey) (λ is. (t, read)))))
+      ∙ ap (λ (o : Option Transition). transitions_written n (neighbour_count h) (V d n h y en eh ey) ts ++ cons_option o []) (transition_there d n h y en eh ey (V d n h y en eh ey) v ∙ read)
+      ∙ ap (λ (ls : List Transition). ls ++ t ∷ []) (sym (lines_are d n h y en eh ey)) in
+      let there : variables_written n (texts_of (ts ++ x ∷ [])) ≡ V d n h y en eh ey = variables_more n ts x ∙ ap (λ (vs : List Var). V d n h y en eh ey ++ vs) w ∙ append-nil (V d n h y en eh ey) in (
+        said_same name Open on' on oh' oh oy' oy _ _ _ _ (states_same d n h y en eh ey) (neighbors_same d n h y en eh ey) (symmetry_same d n h y en eh ey)
+            (vars ∙ sym (vars_are d n h y en eh ey)) lines,
+        stand_then d n h y en eh ey (subst (λ (vs : List Var). All (IsRead n (neighbour_count h) vs) (ts ++ x ∷ [])) (sym there)
+            (all_more (IsRead n (neighbour_count h) (V d n h y en eh ey)) ts x (all_read d n h y en eh ey) (λ is. (t, read)))),
+      )
 
   pub says_more : (told : Told) → Says (said_in name Open ts) number text told → SaysMore told
   says_more told (states d k none n e is) = subst SaysMore (sym is) (says_states d k none n e)

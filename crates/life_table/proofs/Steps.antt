@@ -36,17 +36,18 @@ fewer left x = slice_set left x (slice_index left x - 1)
 
 fewer_at : (left : List ℕ) (x t : ℕ) → 0 < slice_index left x → is_one t x + slice_index (fewer left x) t ≡ slice_index left t
 fewer_at left x t h = elim (eqb_tells t x) [
-      inl same ↦
-        let one : is_one t x ≡ 1 = ap (λ b. cond b 1 0) same.0 in
-        let inside : x < length left = in_range left x h in
-        let now : slice_index (fewer left x) x ≡ slice_index left x - 1 = get_or-set_same left x (slice_index left x - 1) 0 inside in
-        let at : slice_index (fewer left x) t ≡ slice_index (fewer left x) x = ap (slice_index (fewer left x)) same.1 in
-        let was : slice_index left t ≡ slice_index left x = ap (slice_index left) same.1 in
-        omega (arith, one, now, at, was, h)
-    | inr other ↦
-        let none : is_one t x ≡ 0 = ap (λ b. cond b 1 0) other.0 in
-        let kept : slice_index (fewer left x) t ≡ slice_index left t = get_or-set_other left x t (slice_index left x - 1) 0 other.1 in
-        omega (arith, none, kept) ]
+  | inl same ↦
+      let one : is_one t x ≡ 1 = ap (λ b. cond b 1 0) same.0 in
+      let inside : x < length left = in_range left x h in
+      let now : slice_index (fewer left x) x ≡ slice_index left x - 1 = get_or-set_same left x (slice_index left x - 1) 0 inside in
+      let at : slice_index (fewer left x) t ≡ slice_index (fewer left x) x = ap (slice_index (fewer left x)) same.1 in
+      let was : slice_index left t ≡ slice_index left x = ap (slice_index left) same.1 in
+      omega (arith, one, now, at, was, h)
+  | inr other ↦
+      let none : is_one t x ≡ 0 = ap (λ b. cond b 1 0) other.0 in
+      let kept : slice_index (fewer left x) t ≡ slice_index left t = get_or-set_other left x t (slice_index left x - 1) 0 other.1 in
+      omega (arith, none, kept)
+]
 
 drop_at : {X : Type 0} (xs : List X) (n : ℕ) (d : X) → n < length xs → drop n xs ≡ get_or xs n d ∷ drop (n + 1) xs
 drop_at xs n d h = rw add-one (drop-cons xs n d h)
@@ -69,24 +70,31 @@ module _ (vars : List Var) (line : Transition) (given left : List ℕ) (s : ℕ)
   pub to_next : (d : Entry) → length given < length line.inputs → GivesFrom vars line given left s → (x : ℕ) × (0 < slice_index left x) × GivesFrom vars line (given ++ x ∷ []) (fewer left x) s
   to_next d short g =
       let x : ℕ = state_of g.choice (get_or line.inputs (length given) d) in
-      let there : 0 < slice_index left x = omega (arith, split_count g.choice d x short, g.others x, is_one_same x) in
-      (x, there, record {
-        choice = g.choice; is_choice = g.is_choice;
-        first = rw length_snoc (ap (map (state_of g.choice)) (take_more line.inputs (length given) d short) ∙ map_snoc (state_of g.choice) (take (length given) line.inputs) (get_or line.inputs (length given) d) ∙ ap (λ zs. zs ++ x ∷ []) g.first);
-        others = λ t. rw length_snoc (omega (arith, split_count g.choice d t short, g.others t, fewer_at left x t there));
-        output = g.output })
+      let there : 0 < slice_index left x = omega (arith, split_count g.choice d x short, g.others x, is_one_same x) in (
+        x,
+        there,
+        record {
+          choice = g.choice;
+          is_choice = g.is_choice;
+          first = rw length_snoc (ap (map (state_of g.choice)) (take_more line.inputs (length given) d short) ∙ map_snoc (state_of g.choice) (take (length given) line.inputs) (get_or line.inputs (length given) d) ∙ ap (λ zs. zs ++ x ∷ []) g.first);
+          others = λ t. rw length_snoc (omega (arith, split_count g.choice d t short, g.others t, fewer_at left x t there));
+          output = g.output;
+        },
+      )
 
   pub from_next : (d : Entry) (x : ℕ) → length given < length line.inputs → 0 < slice_index left x → GivesFrom vars line (given ++ x ∷ []) (fewer left x) s → GivesFrom vars line given left s
   from_next d x short there g =
       let firsts : map (state_of g.choice) (take (length given) line.inputs) ++ state_of g.choice (get_or line.inputs (length given) d) ∷ [] ≡ given ++ x ∷ [] =
-        sym (map_snoc (state_of g.choice) (take (length given) line.inputs) (get_or line.inputs (length given) d)) ∙ sym (ap (map (state_of g.choice)) (take_more line.inputs (length given) d short))
-        ∙ (rw length_snoc at g.first) in
+      sym (map_snoc (state_of g.choice) (take (length given) line.inputs) (get_or line.inputs (length given) d)) ∙ sym (ap (map (state_of g.choice)) (take_more line.inputs (length given) d short))
+      ∙ (rw length_snoc at g.first) in
       let both = snoc_both (map (state_of g.choice) (take (length given) line.inputs)) given (state_of g.choice (get_or line.inputs (length given) d)) x (simp (length-map, length-take) (omega arith)) firsts in
       record {
-        choice = g.choice; is_choice = g.is_choice;
+        choice = g.choice;
+        is_choice = g.is_choice;
         first = both.0;
         others = λ t. omega (arith, split_count g.choice d t short, ap (is_one t) both.1, (rw length_snoc at (g.others t)), fewer_at left x t there);
-        output = g.output }
+        output = g.output;
+      }
 
   -- the inputs so far and the next one are consistent
   pub next_consistent : (x : ℕ) → GivesFrom vars line (given ++ x ∷ []) (fewer left x) s → Consistent vars (take (length given + 1) line.inputs) (given ++ x ∷ [])
@@ -103,8 +111,9 @@ module _ (vars : List Var) (line : Transition) (given left states : List ℕ) wh
   next_cases : (n s : ℕ) → NextGives vars line given left states (n + 1) s →
       NextGives vars line given left states n s ⊎ ((0 < slice_index left (slice_index states n)) × GivesFrom vars line (given ++ slice_index states n ∷ []) (fewer left (slice_index states n)) s)
   next_cases n s g = elim (lt_or_eq n g.place g.below) [
-        inl below ↦ inl (record { place = g.place; below = below; there = g.there; gives = g.gives })
-      | inr e ↦ inr (subst (λ k. (0 < slice_index left (slice_index states k)) × GivesFrom vars line (given ++ slice_index states k ∷ []) (fewer left (slice_index states k)) s) e (g.there, g.gives)) ] where
+    | inl below ↦ inl (record { place = g.place; below = below; there = g.there; gives = g.gives })
+    | inr e ↦ inr (subst (λ k. (0 < slice_index left (slice_index states k)) × GivesFrom vars line (given ++ slice_index states k ∷ []) (fewer left (slice_index states k)) s) e (g.there, g.gives))
+  ] where
     lt_or_eq : (n k : ℕ) → k < n + 1 → (k < n) ⊎ (k ≡ n)
     lt_or_eq n k h = elim (eqb_tells k n) [ inl e ↦ inr e.1 | inr d ↦ inl (omega (arith, h, d.1)) ]
 
@@ -137,16 +146,18 @@ module _ (vars : List Var) (line : Transition) (given left states : List ℕ) wh
       (λ s g. from_next vars line given left s d (slice_index states g.place) short g.there g.gives)
       (λ s g. let n = to_next vars line given left s d short g in let at = listed n.0 n.1 in placed s n.0 at.0 at.1 (in_place states n.0 at.0 at.1 at.2) n.1 n.2)
       old new h where
-    in_place : (states : List ℕ) (x k : ℕ) → k < length states → get_or states k x ≡ x → slice_index states k ≡ x
-    in_place [] x k below e = absurd (omega (arith, below))
-    in_place (y ∷ ys) x zero below e = e
-    in_place (y ∷ ys) x (suc k) below e = in_place ys x k (omega (arith, below)) e
+        in_place : (states : List ℕ) (x k : ℕ) → k < length states → get_or states k x ≡ x → slice_index states k ≡ x
+        in_place [] x k below e = absurd (omega (arith, below))
+        in_place (y ∷ ys) x zero below e = e
+        in_place (y ∷ ys) x (suc k) below e = in_place ys x k (omega (arith, below)) e
 
-    placed : (s x k : ℕ) → k < length states → slice_index states k ≡ x → 0 < slice_index left x → GivesFrom vars line (given ++ x ∷ []) (fewer left x) s → NextGives vars line given left states (length states) s
-    placed s x k below e there g = record {
-      place = k; below = below;
-      there = subst (λ z. 0 < slice_index left z) (sym e) there;
-      gives = subst (λ z. GivesFrom vars line (given ++ z ∷ []) (fewer left z) s) (sym e) g }
+        placed : (s x k : ℕ) → k < length states → slice_index states k ≡ x → 0 < slice_index left x → GivesFrom vars line (given ++ x ∷ []) (fewer left x) s → NextGives vars line given left states (length states) s
+        placed s x k below e there g = record {
+          place = k;
+          below = below;
+          there = subst (λ z. 0 < slice_index left z) (sym e) there;
+          gives = subst (λ z. GivesFrom vars line (given ++ z ∷ []) (fewer left z) s) (sym e) g;
+        }
 
 sum_zero : (xs : List ℕ) (t : ℕ) → sum xs ≡ 0 → slice_index xs t ≡ 0
 sum_zero [] t h = refl
@@ -162,10 +173,12 @@ adds_end vars line given left o old new whole none c only h =
     let out : state_of c.choice line.output ≡ o = only (state_of c.choice line.output) (record { choice = c.choice; is_choice = c.is_choice; inputs = c.values; output = refl }) in
     adds_same (λ s. s ≡ o) (GivesFrom vars line given left)
     (λ s e. record {
-      choice = c.choice; is_choice = c.is_choice;
+      choice = c.choice;
+      is_choice = c.is_choice;
       first = ap (map (state_of c.choice)) all ∙ c.values;
       others = λ t. ap (λ es. count_of t (map (state_of c.choice) es)) rest ∙ sym (sum_zero left t none);
-      output = out ∙ sym e })
+      output = out ∙ sym e;
+    })
     (λ s g. only s (record { choice = g.choice; is_choice = g.is_choice; inputs = ap (map (state_of g.choice)) (sym all) ∙ g.first; output = g.output }))
     old new h
 
@@ -177,16 +190,17 @@ zeros_at (suc n) (suc t) = zeros_at n t
 -- one more of the state x
 pub more_at : (left : List ℕ) (x t : ℕ) → x < length left → slice_index (slice_set left x (slice_index left x + 1)) t ≡ slice_index left t + is_one t x
 more_at left x t inside = elim (eqb_tells t x) [
-      inl same ↦
-        let one : is_one t x ≡ 1 = ap (λ b. cond b 1 0) same.0 in
-        let now : slice_index (slice_set left x (slice_index left x + 1)) x ≡ slice_index left x + 1 = get_or-set_same left x (slice_index left x + 1) 0 inside in
-        let at : slice_index (slice_set left x (slice_index left x + 1)) t ≡ slice_index (slice_set left x (slice_index left x + 1)) x = ap (slice_index (slice_set left x (slice_index left x + 1))) same.1 in
-        let was : slice_index left t ≡ slice_index left x = ap (slice_index left) same.1 in
-        omega (arith, one, now, at, was)
-    | inr other ↦
-        let none : is_one t x ≡ 0 = ap (λ b. cond b 1 0) other.0 in
-        let kept : slice_index (slice_set left x (slice_index left x + 1)) t ≡ slice_index left t = get_or-set_other left x t (slice_index left x + 1) 0 other.1 in
-        omega (arith, none, kept) ]
+  | inl same ↦
+      let one : is_one t x ≡ 1 = ap (λ b. cond b 1 0) same.0 in
+      let now : slice_index (slice_set left x (slice_index left x + 1)) x ≡ slice_index left x + 1 = get_or-set_same left x (slice_index left x + 1) 0 inside in
+      let at : slice_index (slice_set left x (slice_index left x + 1)) t ≡ slice_index (slice_set left x (slice_index left x + 1)) x = ap (slice_index (slice_set left x (slice_index left x + 1))) same.1 in
+      let was : slice_index left t ≡ slice_index left x = ap (slice_index left) same.1 in
+      omega (arith, one, now, at, was)
+  | inr other ↦
+      let none : is_one t x ≡ 0 = ap (λ b. cond b 1 0) other.0 in
+      let kept : slice_index (slice_set left x (slice_index left x + 1)) t ≡ slice_index left t = get_or-set_other left x t (slice_index left x + 1) 0 other.1 in
+      omega (arith, none, kept)
+]
 
 pub count_more : (xs : List ℕ) (i t : ℕ) → i < length xs → count_of t (take (i + 1) xs) ≡ count_of t (take i xs) + is_one t (slice_index xs i)
 count_more xs i t below =
@@ -214,8 +228,11 @@ starts vars line centre others left found counted h =
 pub no_image : (vars : List Var) (line : Transition) (states : List ℕ) (k : ℕ) → k < length states → (Consistent vars (take (k + 1) line.inputs) (take k states ++ slice_index states k ∷ []) → ⊥) →
     (s : ℕ) → GivesAs vars line states s → ⊥
 no_image vars line states k below none s g =
-    none (record { choice = g.choice; is_choice = g.is_choice;
-      values = sym (take-map (state_of g.choice) (k + 1) line.inputs) ∙ ap (take (k + 1)) g.inputs ∙ take_more states k 0 below })
+    none (record {
+      choice = g.choice;
+      is_choice = g.is_choice;
+      values = sym (take-map (state_of g.choice) (k + 1) line.inputs) ∙ ap (take (k + 1)) g.inputs ∙ take_more states k 0 below;
+    })
 
 -- inputs that are these states give one output
 pub one_image : (vars : List Var) (line : Transition) (states : List ℕ) (o : ℕ) (old new : Found) → Consistent vars line.inputs states →

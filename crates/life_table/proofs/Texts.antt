@@ -107,7 +107,7 @@ position_kept p vars v i h =
     let below : position_or_len p vars < length vars = ltb-true _ _ w.0 in
     let apart : eqb (position_or_len p vars) (length vars) ≡ false = grind (arith, below) in
     let same : position_or_len p (vars ++ v ∷ []) ≡ position_or_len p vars =
-        position_or_len_push p vars v ∙ ap (λ (b : Bool). cond b (length vars + cond (p v) 0 1) (position_or_len p vars)) apart in
+    position_or_len_push p vars v ∙ ap (λ (b : Bool). cond b (length vars + cond (p v) 0 1) (position_or_len p vars)) apart in
     let longer : length (vars ++ v ∷ []) ≡ length vars + 1 = length-append vars (v ∷ []) in
     let within : nat_lt (position_or_len p (vars ++ v ∷ [])) (length (vars ++ v ∷ [])) ≡ true = lt-ltb _ _ (omega (arith, same, longer, below)) in
     ap (λ (b : Bool). cond b (Some (position_or_len p (vars ++ v ∷ []))) None) within ∙ ap Some (same ∙ w.1)
@@ -128,7 +128,7 @@ pub entry_kept : (n : ℕ) (vars : List Var) (v : Var) (word : List ℕ) (e : En
 unfolding entry_of
 entry_kept n vars v word e h =
     entry_by (is_digit_text word) (option_map entries.Fixed (number_below n word)) (option_map entries.Var (variable_named vars word)) (option_map entries.Var (variable_named (vars ++ v ∷ []) word)) e
-      (map_kept (variable_named vars word) (variable_named (vars ++ v ∷ []) word) e (position_kept (λ (w : Var). bytes_eq w.name word) vars v)) h
+    (map_kept (variable_named vars word) (variable_named (vars ++ v ∷ []) word) e (position_kept (λ (w : Var). bytes_eq w.name word) vars v)) h
 
 -- the first of the words is an entry, and the others are
 pub split_entries : (o : Option Entry) (os : List (Option Entry)) (es : List Entry) → all_some (o ∷ os) ≡ Some es
@@ -182,10 +182,11 @@ pub transitions_kept : (n k : ℕ) (vars : List Var) (v : Var) (ts : List Number
 transitions_kept n k vars v [] h = (refl, All-nil (IsRead n k (vars ++ v ∷ [])))
 transitions_kept n k vars v (t ∷ ts) h =
     let head = All-head (IsRead n k vars) t ts h in
-    let rest = transitions_kept n k vars v ts (All-tail (IsRead n k vars) t ts h) in
-    (ap (λ (o : Option Transition). cons_option o (transitions_written n k (vars ++ v ∷ []) ts)) (on_line_kept n k vars v (is_transition_line t.1) t refl head)
-      ∙ ap (cons_option (on_line n k vars t)) rest.0,
-     All-cons (IsRead n k (vars ++ v ∷ [])) t ts (read_kept n k vars v t head) rest.1)
+    let rest = transitions_kept n k vars v ts (All-tail (IsRead n k vars) t ts h) in (
+      ap (λ (o : Option Transition). cons_option o (transitions_written n k (vars ++ v ∷ []) ts)) (on_line_kept n k vars v (is_transition_line t.1) t refl head)
+          ∙ ap (cons_option (on_line n k vars t)) rest.0,
+      All-cons (IsRead n k (vars ++ v ∷ [])) t ts (read_kept n k vars v t head) rest.1,
+    )
 
 -- 5. Before all settings are given
 
@@ -204,7 +205,7 @@ no_variables_from n [] h = refl
 no_variables_from n (t ∷ ts) h =
     let first : [] ++ written n [] t.1 ≡ [] = written_none n [] t.1 (All-head (λ (u : Numbered). is_descriptor u.1 ≡ true) t ts h) in
     ap (λ (vars : List Var). fold (λ (vs : List Var) (text : List ℕ). vs ++ written n vs text) vars (texts_of ts)) first
-      ∙ no_variables_from n ts (All-tail (λ (u : Numbered). is_descriptor u.1 ≡ true) t ts h)
+    ∙ no_variables_from n ts (All-tail (λ (u : Numbered). is_descriptor u.1 ≡ true) t ts h)
 
 pub no_variables : (on : Option ℕ) (ts : List Numbered) → AreDescriptors ts → variables_in on (texts_of ts) ≡ []
 no_variables None ts h = refl
@@ -215,7 +216,7 @@ no_transitions_written n k vars [] h = refl
 no_transitions_written n k vars (t ∷ ts) h =
     let d = All-head (λ (u : Numbered). is_descriptor u.1 ≡ true) t ts h in
     ap (λ (b : Bool). cons_option (if not b && not (is_variable_line t.1) then transition_of n k vars t.0 t.1 else None) (transitions_written n k vars ts)) d
-      ∙ no_transitions_written n k vars ts (All-tail (λ (u : Numbered). is_descriptor u.1 ≡ true) t ts h)
+    ∙ no_transitions_written n k vars ts (All-tail (λ (u : Numbered). is_descriptor u.1 ≡ true) t ts h)
 
 pub no_transitions : (on : Option ℕ) (oh : Option Neighborhood) (vars : List Var) (ts : List Numbered) → AreDescriptors ts → transitions_in on oh vars ts ≡ []
 no_transitions None oh vars ts h = refl
@@ -227,13 +228,13 @@ none_to_read n k vars [] h = All-nil (IsRead n k vars)
 none_to_read n k vars (t ∷ ts) h =
     let d = All-head (λ (u : Numbered). is_descriptor u.1 ≡ true) t ts h in
     All-cons (IsRead n k vars) t ts (λ is. absurd (let e : false ≡ true = sym (ap (λ (b : Bool). not b && not (is_variable_line t.1)) d) ∙ is in let z : ⊥ = cc in z))
-      (none_to_read n k vars ts (All-tail (λ (u : Numbered). is_descriptor u.1 ≡ true) t ts h))
+    (none_to_read n k vars ts (All-tail (λ (u : Numbered). is_descriptor u.1 ≡ true) t ts h))
 
 pub descriptors_more : (ts : List Numbered) (x : Numbered) → AreDescriptors ts → is_descriptor x.1 ≡ true → AreDescriptors (ts ++ x ∷ [])
 descriptors_more [] x h e = All-cons (λ (u : Numbered). is_descriptor u.1 ≡ true) x [] e h
 descriptors_more (t ∷ ts) x h e =
     All-cons (λ (u : Numbered). is_descriptor u.1 ≡ true) t (ts ++ x ∷ []) (All-head (λ (u : Numbered). is_descriptor u.1 ≡ true) t ts h)
-      (descriptors_more ts x (All-tail (λ (u : Numbered). is_descriptor u.1 ≡ true) t ts h) e)
+    (descriptors_more ts x (All-tail (λ (u : Numbered). is_descriptor u.1 ≡ true) t ts h) e)
 
 pub all_more : {X : Type 0} (P : X → Type 0) (xs : List X) (x : X) → All P xs → P x → All P (xs ++ x ∷ [])
 all_more P [] x h e = All-cons P x [] e h

@@ -59,7 +59,8 @@ fixed_entry n vars word e h =
     let b = below_limit n word m.0 m.1 in
     record {
       fixed = λ s is. (let same : m.0 ≡ s = (let z : entries.Fixed m.0 ≡ entries.Fixed s = sym m.2 ∙ is in cc) in omega (arith, same, b.1));
-      variable = λ i is. absurd (let z : entries.Fixed m.0 ≡ entries.Var i = sym m.2 ∙ is in let w : ⊥ = cc in w) }
+      variable = λ i is. absurd (let z : entries.Fixed m.0 ≡ entries.Var i = sym m.2 ∙ is in let w : ⊥ = cc in w);
+    }
 
 named_entry : (n : ℕ) (vars : List Var) (word : List ℕ) (e : Entry) → option_map entries.Var (variable_named vars word) ≡ Some e → IsEntry n vars e
 named_entry n vars word e h =
@@ -67,7 +68,8 @@ named_entry n vars word e h =
     let below : m.0 < length vars = position_below (λ (w : Var). bytes_eq w.name word) vars m.0 m.1 in
     record {
       fixed = λ s is. absurd (let z : entries.Var m.0 ≡ entries.Fixed s = sym m.2 ∙ is in let w : ⊥ = cc in w);
-      variable = λ i is. (let same : m.0 ≡ i = (let z : entries.Var m.0 ≡ entries.Var i = sym m.2 ∙ is in cc) in omega (arith, same, below)) }
+      variable = λ i is. (let same : m.0 ≡ i = (let z : entries.Var m.0 ≡ entries.Var i = sym m.2 ∙ is in cc) in omega (arith, same, below));
+    }
   where
     position_below : (p : Var → Bool) (vars : List Var) (i : ℕ) → position p vars ≡ Some i → i < length vars
     position_below p vars i h =
@@ -86,8 +88,9 @@ entry_cases false a b e h = inr h
 pub is_entry : (n : ℕ) (vars : List Var) (word : List ℕ) (e : Entry) → entry_of n vars word ≡ Some e → IsEntry n vars e
 unfolding entry_of
 is_entry n vars word e h = elim (entry_cases (is_digit_text word) (option_map entries.Fixed (number_below n word)) (option_map entries.Var (variable_named vars word)) e h) [
-      inl a ↦ fixed_entry n vars word e a
-    | inr b ↦ named_entry n vars word e b ]
+  | inl a ↦ fixed_entry n vars word e a
+  | inr b ↦ named_entry n vars word e b
+]
 
 words_are : (n : ℕ) (vars : List Var) (words : List (List ℕ)) (es : List Entry) → all_some (map (entry_of n vars) words) ≡ Some es → All (IsEntry n vars) es
 words_are n vars [] es h = subst (All (IsEntry n vars)) (let z : Some [] ≡ Some es = h in let e : [] ≡ es = cc in e) (All-nil (IsEntry n vars))
@@ -117,7 +120,8 @@ from_parts n k vars number es t all h bound =
       count = length-take (k + 1) es ∙ omega (arith, long);
       inputs = All-take (IsEntry n vars) (k + 1) es all;
       output = output;
-      bound = bound_variable (take (k + 1) es) m.0 b }) bound
+      bound = bound_variable (take (k + 1) es) m.0 b;
+    }) bound
 
 pub is_transition : (n k : ℕ) (vars : List Var) (number : ℕ) (text : List ℕ) (t : Transition) → transition_of n k vars number text ≡ Some t
     → is_bound t.inputs t.output ≡ true → IsTransition n k vars t
@@ -154,11 +158,12 @@ union_has a b s h = ap (λ (w : ℕ). bit_at w (s % 64)) (union_at a b (s / 64) 
 
 union_of_either : (a b : List ℕ) (s : ℕ) → bit_of (union a b) s ≡ 1 → (bit_of a s ≡ 1) ⊎ (bit_of b s ≡ 1)
 union_of_either a b s h = elim (known (nat_lt (s / 64) 4)) [
-      inl within ↦ one_of (bit_of a s) (bit_of b s) (sym (union_has a b s (ltb-true (s / 64) 4 within)) ∙ h)
-    | inr beyond ↦ absurd (
-        let past : slice_index (union a b) (s / 64) ≡ 0 = union_past a b (s / 64) (grind (arith, beyond)) in
-        let none : bit_of (union a b) s ≡ 0 = ap (λ (w : ℕ). bit_at w (s % 64)) past ∙ bit_at-zero (s % 64) in
-        omega (arith, none, h)) ]
+  | inl within ↦ one_of (bit_of a s) (bit_of b s) (sym (union_has a b s (ltb-true (s / 64) 4 within)) ∙ h)
+  | inr beyond ↦ absurd (
+      let past : slice_index (union a b) (s / 64) ≡ 0 = union_past a b (s / 64) (grind (arith, beyond)) in
+      let none : bit_of (union a b) s ≡ 0 = ap (λ (w : ℕ). bit_at w (s % 64)) past ∙ bit_at-zero (s % 64) in
+      omega (arith, none, h))
+]
   where
     one_of : (x y : ℕ) → max x y ≡ 1 → (x ≡ 1) ⊎ (y ≡ 1)
     one_of x y h = elim (eqb_tells x 1) [ inl same ↦ inl same.1 | inr other ↦ inr (omega (arith, h, other.1)) ]
@@ -179,31 +184,36 @@ single_past s (suc (suc (suc (suc k)))) h = refl
 
 single_alone : (s t : ℕ) → bit_of (single s) t ≡ 1 → t ≡ s
 single_alone s t h = elim (known (nat_lt (t / 64) 4)) [
-      inr beyond ↦ absurd (
-        let past : slice_index (single s) (t / 64) ≡ 0 = single_past s (t / 64) (grind (arith, beyond)) in
-        let none : bit_of (single s) t ≡ 0 = ap (λ (w : ℕ). bit_at w (t % 64)) past ∙ bit_at-zero (t % 64) in
+  | inr beyond ↦ absurd (
+      let past : slice_index (single s) (t / 64) ≡ 0 = single_past s (t / 64) (grind (arith, beyond)) in
+      let none : bit_of (single s) t ≡ 0 = ap (λ (w : ℕ). bit_at w (t % 64)) past ∙ bit_at-zero (t % 64) in
+      omega (arith, none, h))
+  | inl within ↦ elim (eqb_tells (t / 64) (s / 64)) [
+    | inr other ↦ absurd (
+        let none : bit_of (single s) t ≡ 0 = ap (λ (w : ℕ). bit_at w (t % 64)) (single_at s (t / 64) (ltb-true (t / 64) 4 within) ∙ ap (λ (b : Bool). if b then 2 ^ (s % 64) else 0) other.0) ∙ bit_at-zero (t % 64) in
         omega (arith, none, h))
-    | inl within ↦ elim (eqb_tells (t / 64) (s / 64)) [
-        inr other ↦ absurd (
-          let none : bit_of (single s) t ≡ 0 = ap (λ (w : ℕ). bit_at w (t % 64)) (single_at s (t / 64) (ltb-true (t / 64) 4 within) ∙ ap (λ (b : Bool). if b then 2 ^ (s % 64) else 0) other.0) ∙ bit_at-zero (t % 64) in
+    | inl same ↦ elim (eqb_tells (t % 64) (s % 64)) [
+      | inl rest ↦ (let a : t / 64 ≡ s / 64 = same.1 in let b : t % 64 ≡ s % 64 = rest.1 in omega (arith, a, b))
+      | inr apart ↦ absurd (
+          let none : bit_of (single s) t ≡ 0 = ap (λ (w : ℕ). bit_at w (t % 64)) (single_at s (t / 64) (ltb-true (t / 64) 4 within) ∙ ap (λ (b : Bool). if b then 2 ^ (s % 64) else 0) same.0) ∙ bit_at-pow_other (s % 64) (t % 64) apart.1 in
           omega (arith, none, h))
-      | inl same ↦ elim (eqb_tells (t % 64) (s % 64)) [
-          inl rest ↦ (let a : t / 64 ≡ s / 64 = same.1 in let b : t % 64 ≡ s % 64 = rest.1 in omega (arith, a, b))
-        | inr apart ↦ absurd (
-            let none : bit_of (single s) t ≡ 0 = ap (λ (w : ℕ). bit_at w (t % 64)) (single_at s (t / 64) (ltb-true (t / 64) 4 within) ∙ ap (λ (b : Bool). if b then 2 ^ (s % 64) else 0) same.0) ∙ bit_at-pow_other (s % 64) (t % 64) apart.1 in
-            omega (arith, none, h)) ] ] ]
+    ]
+  ]
+]
 
 single_there : (s : ℕ) → s < 256 → bit_of (single s) s ≡ 1
 single_there s h =
     let within : s / 64 < 4 = omega (arith, h) in
     elim (eqb_tells (s / 64) (s / 64)) [
-      inl same ↦ ap (λ (w : ℕ). bit_at w (s % 64)) (single_at s (s / 64) within ∙ ap (λ (b : Bool). if b then 2 ^ (s % 64) else 0) same.0) ∙ bit_at-pow_same (s % 64)
-    | inr other ↦ absurd (other.1 refl) ]
+      | inl same ↦ ap (λ (w : ℕ). bit_at w (s % 64)) (single_at s (s / 64) within ∙ ap (λ (b : Bool). if b then 2 ^ (s % 64) else 0) same.0) ∙ bit_at-pow_same (s % 64)
+      | inr other ↦ absurd (other.1 refl)
+    ]
 
 single_set : (n s : ℕ) → s < n → n ≤ 256 → IsSet n (single s)
 single_set n s h m = record {
-    some = λ none. none s (single_there s (omega (arith, h, m)));
-    below = λ t there. (let same : t ≡ s = single_alone s t there in omega (arith, same, h)) }
+  some = λ none. none s (single_there s (omega (arith, h, m)));
+  below = λ t there. (let same : t ≡ s = single_alone s t there in omega (arith, same, h));
+}
 
 -- a set of which something may be missing, with the states of one more
 abbrev IsBelow : ℕ → List ℕ → Type 0
@@ -235,8 +245,9 @@ fold_keeps acc (set ∷ sets) s h e = fold_keeps (union acc set) sets s h (union
 
 zeros_below : (n : ℕ) → IsBelow n (0 ∷ 0 ∷ 0 ∷ 0 ∷ [])
 zeros_below n s h = elim (known (nat_lt (s / 64) 4)) [
-      inl within ↦ absurd (let none : bit_of (0 ∷ 0 ∷ 0 ∷ 0 ∷ []) s ≡ 0 = ap (λ (w : ℕ). bit_at w (s % 64)) (word_zero (s / 64)) ∙ bit_at-zero (s % 64) in omega (arith, none, h))
-    | inr beyond ↦ absurd (let none : bit_of (0 ∷ 0 ∷ 0 ∷ 0 ∷ []) s ≡ 0 = ap (λ (w : ℕ). bit_at w (s % 64)) (word_zero (s / 64)) ∙ bit_at-zero (s % 64) in omega (arith, none, h)) ]
+  | inl within ↦ absurd (let none : bit_of (0 ∷ 0 ∷ 0 ∷ 0 ∷ []) s ≡ 0 = ap (λ (w : ℕ). bit_at w (s % 64)) (word_zero (s / 64)) ∙ bit_at-zero (s % 64) in omega (arith, none, h))
+  | inr beyond ↦ absurd (let none : bit_of (0 ∷ 0 ∷ 0 ∷ 0 ∷ []) s ≡ 0 = ap (λ (w : ℕ). bit_at w (s % 64)) (word_zero (s / 64)) ∙ bit_at-zero (s % 64) in omega (arith, none, h))
+]
   where
     word_zero : (k : ℕ) → slice_index (0 ∷ 0 ∷ 0 ∷ 0 ∷ []) k ≡ 0
     word_zero zero = refl
@@ -250,24 +261,27 @@ union_set n most set sets all =
     let first : IsSet n set = All-head (IsSet n) set sets all in
     record {
       some = λ none. first.some (λ s there.
-        (let small : s < n = first.below s there in
-         none s (fold_keeps (union (0 ∷ 0 ∷ 0 ∷ 0 ∷ []) set) sets s (omega (arith, small, most)) (union_adds (0 ∷ 0 ∷ 0 ∷ 0 ∷ []) set s (omega (arith, small, most)) there))));
-      below = fold_below n (0 ∷ 0 ∷ 0 ∷ 0 ∷ []) (set ∷ sets) (zeros_below n) all }
+          (let small : s < n = first.below s there in
+          none s (fold_keeps (union (0 ∷ 0 ∷ 0 ∷ 0 ∷ []) set) sets s (omega (arith, small, most)) (union_adds (0 ∷ 0 ∷ 0 ∷ 0 ∷ []) set s (omega (arith, small, most)) there))));
+      below = fold_below n (0 ∷ 0 ∷ 0 ∷ 0 ∷ []) (set ∷ sets) (zeros_below n) all;
+    }
 
 -- 5. Variables
 
 variable_set : (n : ℕ) (var : Var) → IsVariable n var → IsSet n var.states
 variable_set n var v = record {
-    some = λ none. v.some (λ s has. none s (one_is (bit_of var.states s) has));
-    below = λ s there. v.below s (ap (λ (b : ℕ). b == 1) there) }
+  some = λ none. v.some (λ s has. none s (one_is (bit_of var.states s) has));
+  below = λ s there. v.below s (ap (λ (b : ℕ). b == 1) there);
+}
   where
     one_is : (b : ℕ) → IsTrue (b == 1) → b ≡ 1
     one_is b h = elim (eqb_tells b 1) [ inl same ↦ same.1 | inr other ↦ absurd (let z : true ≡ false = sym h ∙ other.0 in let w : ⊥ = cc in w) ]
 
 set_variable : (n : ℕ) (name states : List ℕ) → IsSet n states → IsVariable n (record { name = name; states = states })
 set_variable n name states v = record {
-    some = λ none. v.some (λ s there. none s (ap (λ (b : ℕ). b == 1) there));
-    below = λ s has. v.below s (one_is (bit_of states s) has) }
+  some = λ none. v.some (λ s there. none s (ap (λ (b : ℕ). b == 1) there));
+  below = λ s has. v.below s (one_is (bit_of states s) has);
+}
   where
     one_is : (b : ℕ) → IsTrue (b == 1) → b ≡ 1
     one_is b h = elim (eqb_tells b 1) [ inl same ↦ same.1 | inr other ↦ absurd (let z : true ≡ false = sym h ∙ other.0 in let w : ⊥ = cc in w) ]
@@ -315,7 +329,7 @@ list_set : (n : ℕ) → n ≤ 256 → (vars : List Var) → All (IsVariable n) 
 list_set n most vars all words w ws e states h =
     let f = λ (word : List ℕ). option_and_then (states_of_entry vars) (entry_of n vars word) in
     let g : option_map union_of (all_some (map (λ (word : List ℕ). option_and_then (states_of_entry vars) (entry_of n vars word)) (w ∷ ws))) ≡ Some states =
-        ap (λ (us : List (List ℕ)). option_map union_of (all_some (map (λ (word : List ℕ). option_and_then (states_of_entry vars) (entry_of n vars word)) us))) (sym e) ∙ h in
+    ap (λ (us : List (List ℕ)). option_map union_of (all_some (map (λ (word : List ℕ). option_and_then (states_of_entry vars) (entry_of n vars word)) us))) (sym e) ∙ h in
     let m = mapped union_of (all_some (map (λ (word : List ℕ). option_and_then (states_of_entry vars) (entry_of n vars word)) (w ∷ ws))) states g in
     let s = split_sets (option_and_then (states_of_entry vars) (entry_of n vars w)) (map (λ (word : List ℕ). option_and_then (states_of_entry vars) (entry_of n vars word)) ws) m.0 m.1 in
     let sets : All (IsSet n) m.0 = words_sets n most vars all (w ∷ ws) m.0 m.1 in
@@ -343,6 +357,7 @@ pub is_variable_written : (n : ℕ) → n ≤ 256 → (vars : List Var) → All 
 unfolding variable_of
 is_variable_written n most vars all text var h =
     let m = mapped (λ (states : List ℕ). record { name = name_text text; states = states }) (variable_states n vars (name_text text) (list_text text)) var h in
-    let s = states_case n vars (name_text text) (list_text text) m.0 m.1 in
-    (subst (IsVariable n) (sym m.2) (set_variable n (name_text text) m.0 (listed_set n most vars all (within_braces (list_text text)) m.0 s.1)),
-     ap (λ (v : Var). variable_named vars v.name) m.2 ∙ s.0)
+    let s = states_case n vars (name_text text) (list_text text) m.0 m.1 in (
+      subst (IsVariable n) (sym m.2) (set_variable n (name_text text) m.0 (listed_set n most vars all (within_braces (list_text text)) m.0 s.1)),
+      ap (λ (v : Var). variable_named vars v.name) m.2 ∙ s.0,
+    )

@@ -332,8 +332,13 @@ said_in name section texts =
     let neighborhood = neighborhood_of (texts_of texts) in
     let vars = variables_in n_states (texts_of texts) in
     record {
-      name = name; section = section; n_states = n_states; neighborhood = neighborhood; symmetry = symmetry_of (texts_of texts);
-      vars = vars; lines = transitions_in n_states neighborhood vars texts
+      name = name;
+      section = section;
+      n_states = n_states;
+      neighborhood = neighborhood;
+      symmetry = symmetry_of (texts_of texts);
+      vars = vars;
+      lines = transitions_in n_states neighborhood vars texts;
     }
 
 -- what these lines say

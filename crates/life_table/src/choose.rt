@@ -8,9 +8,9 @@ ghost use Rattle.std.specs.Prelude.{List, Contains};
 ghost use Rattle.std.specs.List.{list_any};
 ghost use Rattle.life_table.specs.Valid.{IsEntry, is_variable};
 
-use life_base::State;
 use crate::found::Found;
 use crate::table::{Entry, Transition, Var};
+use life_base::State;
 
 /// Tells whether a variable may be a state.
 pub(crate) fn has_state(var: &Var, s: State) -> bool

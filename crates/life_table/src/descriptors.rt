@@ -59,7 +59,8 @@ fn agree(neighborhood: Option<Neighborhood>, symmetry: Option<Symmetry>) -> bool
     ensures { result ≡ are_listed neighborhood symmetry }
 {
     match (neighborhood, symmetry) {
-        (Some(Neighborhood::VonNeumann), Some(Symmetry::Rotate8 | Symmetry::Rotate8Reflect)) => false,
+        (Some(Neighborhood::VonNeumann), Some(Symmetry::Rotate8 | Symmetry::Rotate8Reflect)) =>
+            false,
         _ => true,
     }
 }
@@ -121,13 +122,25 @@ pub(crate) fn told_descriptor(said: &Said, text: &[u8]) -> Result<Told, Kind>
     let (key, setting) = split_at_byte(text, b':');
     let (key, word) = (trimmed(key), trimmed(setting));
     if is_word(key, b"n_states") {
-        return if said.n_states.is_some() { Err(Kind::BadDescriptor) } else { told_states(word) };
+        return if said.n_states.is_some() {
+            Err(Kind::BadDescriptor)
+        } else {
+            told_states(word)
+        };
     }
     if is_neighborhood_key(key) {
-        return if said.neighborhood.is_some() { Err(Kind::BadDescriptor) } else { told_neighborhood(said.symmetry, word) };
+        return if said.neighborhood.is_some() {
+            Err(Kind::BadDescriptor)
+        } else {
+            told_neighborhood(said.symmetry, word)
+        };
     }
     if is_word(key, b"symmetries") {
-        return if said.symmetry.is_some() { Err(Kind::BadDescriptor) } else { told_symmetry(said.neighborhood, word) };
+        return if said.symmetry.is_some() {
+            Err(Kind::BadDescriptor)
+        } else {
+            told_symmetry(said.neighborhood, word)
+        };
     }
     Err(Kind::BadDescriptor)
 }

@@ -1,7 +1,6 @@
 //! Entries of variables and transitions.
 
 ghost use Rattle.std.specs.Prelude.{◌≡◌, ◌≤◌, List, map, IfOk, IfErr, option_map, option_and_then};
-
 ghost use Rattle.life_base.specs.declared.kind.Kind.TheVariants.{Memory};
 ghost use Rattle.life_table.specs.Reading.{entry_of as entry_by_word, variable_named as variable_by_name, single as set_of_one, union as union_of_two, states_of_entry as states_of_place, states_listed as states_in_list, entries_of as entries_on, all_some, between_commas, bytes_alone};
 
@@ -100,7 +99,12 @@ pub(crate) fn states_listed(n_states: u16, vars: &[Var], list: &[u8]) -> Option<
 }
 
 /// The entries of a text between its commas, if each is one.
-fn entries_between_commas(alloc: Global, n_states: u16, vars: &[Var], text: &[u8]) -> Result<Option<Vec<Entry>>, Kind>
+fn entries_between_commas(
+    alloc: Global,
+    n_states: u16,
+    vars: &[Var],
+    text: &[u8],
+) -> Result<Option<Vec<Entry>>, Kind>
     requires most { n_states ≤ 256 }
     ensures ok { IfOk result (λ found. option_map (λ entries. entries.items) found ≡ all_some (map (entry_by_word n_states vars.now) (between_commas text.now))) }
     ensures err { IfErr result (λ kind. kind ≡ Memory) }
@@ -121,7 +125,12 @@ fn entries_between_commas(alloc: Global, n_states: u16, vars: &[Var], text: &[u8
 }
 
 /// The entries of a text without commas, one for each byte that isn't whitespace, if each is one.
-fn entries_of_bytes(alloc: Global, n_states: u16, vars: &[Var], text: &[u8]) -> Result<Option<Vec<Entry>>, Kind>
+fn entries_of_bytes(
+    alloc: Global,
+    n_states: u16,
+    vars: &[Var],
+    text: &[u8],
+) -> Result<Option<Vec<Entry>>, Kind>
     requires most { n_states ≤ 256 }
     ensures ok { IfOk result (λ found. option_map (λ entries. entries.items) found ≡ all_some (map (entry_by_word n_states vars.now) (bytes_alone text.now))) }
     ensures err { IfErr result (λ kind. kind ≡ Memory) }
@@ -142,7 +151,12 @@ fn entries_of_bytes(alloc: Global, n_states: u16, vars: &[Var], text: &[u8]) -> 
 
 /// The entries of a transition, if each of its words is one.
 #[tactic(auto, unfolding(crate::specs::Reading::entries_of))]
-pub(crate) fn entries_of(alloc: Global, n_states: u16, vars: &[Var], text: &[u8]) -> Result<Option<Vec<Entry>>, Kind>
+pub(crate) fn entries_of(
+    alloc: Global,
+    n_states: u16,
+    vars: &[Var],
+    text: &[u8],
+) -> Result<Option<Vec<Entry>>, Kind>
     requires most { n_states ≤ 256 }
     ensures ok { IfOk result (λ found. option_map (λ entries. entries.items) found ≡ entries_on n_states vars.now text.now) }
     ensures err { IfErr result (λ kind. kind ≡ Memory) }

@@ -6,11 +6,11 @@ ghost use Rattle.life_table.specs.Meaning.{Gives, Decides, Becomes, Ambiguous};
 ghost use Rattle.life_table.specs.Valid.{IsEntry, is_variable, neighbour_count};
 ghost use Rattle.life_table.specs.Around.{cells_of};
 
-use life_base::{Fault, Kind, Place, State};
 use crate::choose::by_counts;
 use crate::found::Found;
 use crate::table::{Entry, Symmetry, Table, Transition, Var};
 use crate::turn::by_turns;
+use life_base::{Fault, Kind, Place, State};
 
 /// A cell and its neighbours: the centre first, then from north clockwise.
 #[derive(Clone, Copy, Debug, PartialEq, Eq)]
@@ -32,7 +32,12 @@ impl Neighbours {
 }
 
 /// The states that a line gives at one cell: none, one or two.
-pub(crate) fn given_by(symmetry: Symmetry, vars: &[Var], line: &Transition, cells: &[State]) -> Found
+pub(crate) fn given_by(
+    symmetry: Symmetry,
+    vars: &[Var],
+    line: &Transition,
+    cells: &[State],
+) -> Found
     requires count { length line.now.inputs ≡ length cells.now }
     requires some { 4 < length cells.now }
     requires room { length cells.now ≤ 9 }

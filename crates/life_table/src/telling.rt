@@ -61,7 +61,11 @@ fn told_ahead(alloc: Global, named: &Option<Name>, line: &[u8]) -> Result<Told, 
     ensures { Answers result (told_before named.now line.now) }
 {
     if named.is_some() {
-        return if is_table_line(line) { Ok(Told::TableOpens) } else { Ok(Told::Nothing) };
+        return if is_table_line(line) {
+            Ok(Told::TableOpens)
+        } else {
+            Ok(Told::Nothing)
+        };
     }
     if is_passed_over(line) {
         return Ok(Told::Nothing);
@@ -102,7 +106,15 @@ fn told_rest(alloc: Global, said: &Said, fits: bool, number: u64, text: &[u8]) -
     ensures { Answers result (told_others said.now.n_states said.now.neighborhood said.now.symmetry said.now.vars said.now.lines number text.now) }
 {
     match (said.n_states, said.neighborhood, said.symmetry) {
-        (Some(n_states), Some(neighborhood), Some(_)) => told_where_settled(alloc, n_states, neighborhood, said, fits, number, text),
+        (Some(n_states), Some(neighborhood), Some(_)) => told_where_settled(
+            alloc,
+            n_states,
+            neighborhood,
+            said,
+            fits,
+            number,
+            text,
+        ),
         _ => Err(Kind::BadDescriptor),
     }
 }
@@ -115,12 +127,22 @@ pub(crate) fn is_described(said: &Said) -> bool
 }
 
 /// What a line of the table says.
-fn told_in_table(alloc: Global, said: &Said, fits: bool, number: u64, line: &[u8]) -> Result<Told, Kind>
+fn told_in_table(
+    alloc: Global,
+    said: &Said,
+    fits: bool,
+    number: u64,
+    line: &[u8],
+) -> Result<Told, Kind>
     requires kept { IsKept said.now fits }
     ensures { Answers result (told_inside said.now number line.now) }
 {
     if is_section_line(line) {
-        return if is_described(said) { Ok(Told::TableEnds) } else { Err(Kind::BadDescriptor) };
+        return if is_described(said) {
+            Ok(Told::TableEnds)
+        } else {
+            Err(Kind::BadDescriptor)
+        };
     }
     let text = content(line);
     if text.is_empty() {
@@ -135,7 +157,13 @@ fn told_in_table(alloc: Global, said: &Said, fits: bool, number: u64, line: &[u8
 /// What a line says behind others, or which rule it breaks. `fits` tells whether one of the transitions before it fits the
 /// neighbourhood in which each cell is 0.
 #[tactic(auto, unfolding(crate::specs::Reading::told_by))]
-pub(crate) fn told_on(alloc: Global, said: &Said, fits: bool, number: u64, line: &[u8]) -> Result<Told, Kind>
+pub(crate) fn told_on(
+    alloc: Global,
+    said: &Said,
+    fits: bool,
+    number: u64,
+    line: &[u8],
+) -> Result<Told, Kind>
     requires kept { IsKept said.now fits }
     ensures { Answers result (told_by said.now number line.now) }
 {

@@ -120,10 +120,8 @@ fn stays_quiet(vars: &[Var], fits: bool, line: &Transition) -> bool
 /// What a transition says behind others, or which rule it breaks. `fits` tells whether one of those fits the neighbourhood in which
 /// each cell is 0.
 pub(crate) fn told_transition(vars: &[Var], fits: bool, line: Transition) -> Result<Told, Kind>
-    ensures {
-        (earlier : List Transition) → fits ≡ list_any (fits_zeros vars.now) earlier → is_quiet vars.now earlier ≡ true
-        → result ≡ if_transition vars.now earlier (Some line)
-    }
+    ensures { (earlier : List Transition) → fits ≡ list_any (fits_zeros vars.now) earlier → is_quiet vars.now earlier ≡ true
+        → result ≡ if_transition vars.now earlier (Some line) }
 {
     if !is_bound(line.inputs.as_slice(), line.output) {
         return Err(Kind::UnboundOutput);

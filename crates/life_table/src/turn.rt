@@ -5,10 +5,10 @@ ghost use Rattle.life_table.specs.Found.{Tells, Consistent, ImageGives};
 ghost use Rattle.life_table.specs.Orders.{turn, reflected_turn};
 ghost use Rattle.life_table.specs.Valid.{IsEntry, is_variable};
 
-use life_base::State;
 use crate::choose::with_image;
 use crate::found::Found;
 use crate::table::{Entry, Transition, Var};
+use life_base::State;
 
 /// A cell with its neighbours turned by r, or reflected and then turned.
 pub(crate) fn image_of(cells: &[State], reflect: bool, r: usize) -> [State; 9]
@@ -21,14 +21,24 @@ pub(crate) fn image_of(cells: &[State], reflect: bool, r: usize) -> [State; 9]
     let mut image = [0; 9];
     image[0] = cells[0];
     for i in 0..n {
-        let from = if reflect { (n - i + r) % n } else { (i + r) % n };
+        let from = if reflect {
+            (n - i + r) % n
+        } else {
+            (i + r) % n
+        };
         image[i + 1] = cells[1 + from];
     }
     image
 }
 
 /// The states that a line gives over the turns by the multiples of a step, and over the reflected ones.
-pub(crate) fn by_turns(vars: &[Var], line: &Transition, cells: &[State], step: usize, reflect: bool) -> Found
+pub(crate) fn by_turns(
+    vars: &[Var],
+    line: &Transition,
+    cells: &[State],
+    step: usize,
+    reflect: bool,
+) -> Found
     requires count { length line.now.inputs ≡ length cells.now }
     requires some { 1 < length cells.now }
     requires room { length cells.now ≤ 9 }

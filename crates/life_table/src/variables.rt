@@ -75,7 +75,12 @@ fn variable_states(n_states: u16, vars: &[Var], name: &[u8], list: &[u8]) -> Opt
 
 /// The variable that a line writes behind these variables, if it writes one.
 #[tactic(auto, using(crate::proofs::Parts::all_behind), unfolding(crate::specs::Reading::variable_of))]
-pub(crate) fn variable_of(alloc: Global, n_states: u16, vars: &[Var], text: &[u8]) -> Result<Option<Var>, Kind>
+pub(crate) fn variable_of(
+    alloc: Global,
+    n_states: u16,
+    vars: &[Var],
+    text: &[u8],
+) -> Result<Option<Var>, Kind>
     requires most { n_states ≤ 256 }
     requires long { 3 ≤ length text.now }
     ensures ok { IfOk result (λ found. found ≡ variable_on n_states vars.now text.now) }

@@ -13,7 +13,7 @@ returns-then-len-as_slice t c =
     let size : length (take c.args.len c.args.given) ≡ c.args.len = length-take-le c.args.len c.args.given (omega arith) in
     let none : sum c.args.left ≡ 0 = omega (arith, c.requires.total, full) in
     let con : Consistent c.args.vars.now c.args.line.now.inputs (take c.args.len c.args.given) =
-      subst (λ es. Consistent c.args.vars.now es (take c.args.len c.args.given)) (take_all c.args.len c.args.line.now.inputs (omega (arith, full))) c.requires.consistent in
+    subst (λ es. Consistent c.args.vars.now es (take c.args.len c.args.given)) (take_all c.args.len c.args.line.now.inputs (omega (arith, full))) c.requires.consistent in
     adds_end c.args.vars.now c.args.line.now (take c.args.len c.args.given) c.args.left c.output_of.result c.args.found c.with_state.result (size ∙ full) none con (c.output_of.ensures c.args.vars.now) c.with_state.ensures
 
 pub loop-s-preserved : goal.loop-s-preserved
@@ -23,21 +23,23 @@ loop-s-preserved t c =
     let not_full : c.args.len ≢ length c.args.line.now.inputs = λ e. c.if-len-as_slice.false (e ∙ sym (ap length c.as_slice.ensures)) in
     let short : c.args.len < length c.args.line.now.inputs = omega (arith, not_full, c.requires.short) in
     elim c.if-left-s-gt0.branch [
-    then-left-s-gt0+then-allows w ↦
-      let shape : take (c.args.len + 1) (set c.args.given c.args.len s) ≡ take c.args.len c.args.given ++ s ∷ [] = take_more_set c.args.given c.args.len s (omega (arith, short, c.requires.room)) in
-      adds_next c.args.vars.now c.args.line.now (take c.args.len c.args.given) c.args.left c.args.states.now c.loop-s.s-index c.args.found c.loop-s.all c.if-left-s-gt0.all c.loop-s.invariant w.if-left-s-gt0.true
-      (subst (λ r. Adds (GivesFrom c.args.vars.now c.args.line.now (take c.args.len c.args.given ++ s ∷ []) (fewer c.args.left s)) c.loop-s.all r) (sym w.all-is)
-       (subst (λ g. Adds (GivesFrom c.args.vars.now c.args.line.now g (fewer c.args.left s)) c.loop-s.all w.with_choices-all.result) shape w.with_choices-all.ensures))
-  | else-left-s-gt0 w ↦
-      subst (λ r. Adds (NextGives c.args.vars.now c.args.line.now (take c.args.len c.args.given) c.args.left c.args.states.now (c.loop-s.s-index + 1)) c.args.found r) (sym w.all-is)
-      (adds_skip c.args.vars.now c.args.line.now (take c.args.len c.args.given) c.args.left c.args.states.now c.loop-s.s-index c.args.found c.loop-s.all c.loop-s.invariant
-      (λ there con. elim w.else-left-s-gt0.branch [
-        else-left-s-gt0-via-then-left-s-gt0+else-allows w' ↦
-          let con' : Consistent c.args.vars.now (take (length (take c.args.len c.args.given) + 1) c.args.line.now.inputs) (take c.args.len c.args.given ++ s ∷ []) = con in
-          let yes : w'.allows.result ≡ true = w'.allows.ensures.1 (subst (λ es. Consistent c.args.vars.now (take (length (take c.args.len c.args.given) + 1) es) (take c.args.len c.args.given ++ s ∷ [])) (sym w'.as_slice-then-left-s-gt0.ensures) con') in
-          let no : w'.allows.result ≡ false = w'.if-allows.false in
-          absurd (let e : true ≡ false = sym yes ∙ no in cc)
-      | else-left-s-gt0-via-else-left-s-gt0 w' ↦ absurd (omega (arith, there, w'.if-left-s-gt0.false)) ])) ]
+      | then-left-s-gt0+then-allows w ↦
+          let shape : take (c.args.len + 1) (set c.args.given c.args.len s) ≡ take c.args.len c.args.given ++ s ∷ [] = take_more_set c.args.given c.args.len s (omega (arith, short, c.requires.room)) in
+          adds_next c.args.vars.now c.args.line.now (take c.args.len c.args.given) c.args.left c.args.states.now c.loop-s.s-index c.args.found c.loop-s.all c.if-left-s-gt0.all c.loop-s.invariant w.if-left-s-gt0.true
+          (subst (λ r. Adds (GivesFrom c.args.vars.now c.args.line.now (take c.args.len c.args.given ++ s ∷ []) (fewer c.args.left s)) c.loop-s.all r) (sym w.all-is)
+          (subst (λ g. Adds (GivesFrom c.args.vars.now c.args.line.now g (fewer c.args.left s)) c.loop-s.all w.with_choices-all.result) shape w.with_choices-all.ensures))
+      | else-left-s-gt0 w ↦
+          subst (λ r. Adds (NextGives c.args.vars.now c.args.line.now (take c.args.len c.args.given) c.args.left c.args.states.now (c.loop-s.s-index + 1)) c.args.found r) (sym w.all-is)
+          (adds_skip c.args.vars.now c.args.line.now (take c.args.len c.args.given) c.args.left c.args.states.now c.loop-s.s-index c.args.found c.loop-s.all c.loop-s.invariant
+          (λ there con. elim w.else-left-s-gt0.branch [
+            | else-left-s-gt0-via-then-left-s-gt0+else-allows w' ↦
+                let con' : Consistent c.args.vars.now (take (length (take c.args.len c.args.given) + 1) c.args.line.now.inputs) (take c.args.len c.args.given ++ s ∷ []) = con in
+                let yes : w'.allows.result ≡ true = w'.allows.ensures.1 (subst (λ es. Consistent c.args.vars.now (take (length (take c.args.len c.args.given) + 1) es) (take c.args.len c.args.given ++ s ∷ [])) (sym w'.as_slice-then-left-s-gt0.ensures) con') in
+                let no : w'.allows.result ≡ false = w'.if-allows.false in
+                absurd (let e : true ≡ false = sym yes ∙ no in cc)
+            | else-left-s-gt0-via-else-left-s-gt0 w' ↦ absurd (omega (arith, there, w'.if-left-s-gt0.false))
+          ]))
+    ]
 
 pub returns : goal.returns
 returns t c =

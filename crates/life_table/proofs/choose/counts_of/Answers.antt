@@ -17,4 +17,5 @@ loop-s-preserved c =
     record {
       counts = λ t. more_at c.loop-s.counts x t inside ∙ ap (λ n. n + is_one t x) (c.loop-s.invariant.counts t) ∙ sym (count_more c.args.states.now i t c.loop-s-test.true);
       total = omega (arith, sums, c.loop-s.invariant.total);
-      size = length-set c.loop-s.counts x (slice_index c.loop-s.counts x + 1) ∙ c.loop-s.invariant.size }
+      size = length-set c.loop-s.counts x (slice_index c.loop-s.counts x + 1) ∙ c.loop-s.invariant.size;
+    }

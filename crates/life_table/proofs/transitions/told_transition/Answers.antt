@@ -11,7 +11,7 @@ returns-then-stays_quiet c = λ earlier f q.
     let vars = c.args.vars.now in
     let b : c.is_bound.result ≡ is_bound line.inputs line.output = c.is_bound.ensures ∙ ap (λ (es : List Entry). is_bound es line.output) c.as_slice.ensures in
     let k : c.stays_quiet.result ≡ is_quiet vars (earlier ++ line ∷ []) =
-        c.stays_quiet.ensures ∙ ap (λ (x : Bool). x || not (fits_zero vars line) || is_quiet_output line.output) f ∙ sym (quiet_more vars earlier line q) in
+    c.stays_quiet.ensures ∙ ap (λ (x : Bool). x || not (fits_zero vars line) || is_quiet_output line.output) f ∙ sym (quiet_more vars earlier line q) in
     let bound : true ≡ is_bound line.inputs line.output = cc in
     let quiet : true ≡ is_quiet vars (earlier ++ line ∷ []) = cc in
     told_so vars earlier line true true bound quiet
@@ -22,7 +22,7 @@ returns c = λ earlier f q.
     let vars = c.args.vars.now in
     let b : c.is_bound.result ≡ is_bound line.inputs line.output = c.is_bound.ensures ∙ ap (λ (es : List Entry). is_bound es line.output) c.as_slice.ensures in
     let k : c.stays_quiet.result ≡ is_quiet vars (earlier ++ line ∷ []) =
-        c.stays_quiet.ensures ∙ ap (λ (x : Bool). x || not (fits_zero vars line) || is_quiet_output line.output) f ∙ sym (quiet_more vars earlier line q) in
+    c.stays_quiet.ensures ∙ ap (λ (x : Bool). x || not (fits_zero vars line) || is_quiet_output line.output) f ∙ sym (quiet_more vars earlier line q) in
     let bound : true ≡ is_bound line.inputs line.output = cc in
     let quiet : false ≡ is_quiet vars (earlier ++ line ∷ []) = cc in
     told_so vars earlier line true false bound quiet

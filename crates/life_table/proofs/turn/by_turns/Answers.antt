@@ -11,15 +11,16 @@ loop-k-preserved c =
     let centre : ℕ = slice_index c.args.cells.now 0 in
     let k : ℕ = c.loop-k.k in
     let first : Adds (GivesAs c.args.vars.now c.args.line.now (centre ∷ turn others (k * c.args.step))) c.loop-k.found c.with_image-found.result =
-      subst (λ ws. Adds (GivesAs c.args.vars.now c.args.line.now ws) c.loop-k.found c.with_image-found.result) c.image_of-image.ensures c.with_image-found.ensures in
+    subst (λ ws. Adds (GivesAs c.args.vars.now c.args.line.now ws) c.loop-k.found c.with_image-found.result) c.image_of-image.ensures c.with_image-found.ensures in
     elim c.if-reflect.branch [
-      then-reflect w ↦
-        subst (Tells (ImageGives c.args.vars.now c.args.line.now centre others c.args.step c.args.reflect (k + 1))) (sym w.found-is)
-        (turned_twice c.args.vars.now c.args.line.now centre others c.args.step c.args.reflect k c.loop-k.found c.with_image-found.result w.with_image-found-then-reflect.result w.if-reflect.true c.loop-k.invariant first
+      | then-reflect w ↦
+          subst (Tells (ImageGives c.args.vars.now c.args.line.now centre others c.args.step c.args.reflect (k + 1))) (sym w.found-is)
+          (turned_twice c.args.vars.now c.args.line.now centre others c.args.step c.args.reflect k c.loop-k.found c.with_image-found.result w.with_image-found-then-reflect.result w.if-reflect.true c.loop-k.invariant first
           (subst (λ ws. Adds (GivesAs c.args.vars.now c.args.line.now ws) c.with_image-found.result w.with_image-found-then-reflect.result) w.image_of-image-then-reflect.ensures w.with_image-found-then-reflect.ensures))
-    | else-reflect w ↦
-        subst (Tells (ImageGives c.args.vars.now c.args.line.now centre others c.args.step c.args.reflect (k + 1))) (sym w.found-is)
-        (turned_once c.args.vars.now c.args.line.now centre others c.args.step c.args.reflect k c.loop-k.found c.with_image-found.result w.if-reflect.false c.loop-k.invariant first) ]
+      | else-reflect w ↦
+          subst (Tells (ImageGives c.args.vars.now c.args.line.now centre others c.args.step c.args.reflect (k + 1))) (sym w.found-is)
+          (turned_once c.args.vars.now c.args.line.now centre others c.args.step c.args.reflect k c.loop-k.found c.with_image-found.result w.if-reflect.false c.loop-k.invariant first)
+    ]
 
 pub returns : goal.returns
 returns c =

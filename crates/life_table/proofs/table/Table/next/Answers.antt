@@ -14,9 +14,11 @@ returns-in-One c = answer_here c.args.self.now.symmetry c.args.self.now.vars c.a
 
 pub returns-in-Two : goal.returns-in-Two
 returns-in-Two c =
-    let h = c.in-Two.ensures in
-    (refl, answer_here c.args.self.now.symmetry c.args.self.now.vars c.as_slice.result.now (cells_of c.args.around.now) c.as_slice-cells.result.now c.as_slice.ensures c.as_slice-cells.ensures
-    c.args.self.now.lines c.as_slice-line-items.result.now c.as_slice-line-items.ensures c.loop-line.line-index c.line-item.result c.loop-line-test.true c.line-item.is c.loop-line.invariant (Ambiguous c.line-item.result.line) (refl, h.0, h.1, h.2, h.3, h.4))
+    let h = c.in-Two.ensures in (
+      refl,
+      answer_here c.args.self.now.symmetry c.args.self.now.vars c.as_slice.result.now (cells_of c.args.around.now) c.as_slice-cells.result.now c.as_slice.ensures c.as_slice-cells.ensures
+          c.args.self.now.lines c.as_slice-line-items.result.now c.as_slice-line-items.ensures c.loop-line.line-index c.line-item.result c.loop-line-test.true c.line-item.is c.loop-line.invariant (Ambiguous c.line-item.result.line) (refl, h.0, h.1, h.2, h.3, h.4),
+    )
 
 pub loop-line-preserved : goal.loop-line-preserved
 loop-line-preserved c = silent_more c.args.self.now.symmetry c.args.self.now.vars c.as_slice.result.now (cells_of c.args.around.now) c.as_slice-cells.result.now c.as_slice.ensures c.as_slice-cells.ensures
