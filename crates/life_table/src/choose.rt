@@ -10,6 +10,7 @@ ghost use Rattle.life_table.specs.Valid.{IsEntry, is_variable};
 
 use crate::found::Found;
 use crate::table::{Entry, Transition, Var};
+use crate::words::has_byte;
 use life_base::State;
 
 /// Tells whether a variable may be a state.
@@ -137,6 +138,23 @@ pub(crate) fn counts_of(states: &[State]) -> [u8; 256]
     counts
 }
 
+/// The different ones of these states, and how many they are.
+fn distinct_states(states: &[State]) -> ([State; 8], usize)
+    requires { length states.now ≤ 8 }
+    ensures count { result.1 ≤ 8 }
+    ensures listed { (t : ℕ) → Contains states.now t → Contains (take result.1 result.0) t }
+{
+    let mut distinct = [0; 8];
+    let mut count = 0;
+    for state in states {
+        if !has_byte(&distinct[..count], *state) {
+            distinct[count] = *state;
+            count += 1;
+        }
+    }
+    (distinct, count)
+}
+
 /// The states that a line gives at one cell under `permute`, by the counts of the neighbours.
 pub(crate) fn by_counts(vars: &[Var], line: &Transition, cells: &[State]) -> Found
     requires count { length line.now.inputs ≡ length cells.now }
@@ -155,5 +173,14 @@ pub(crate) fn by_counts(vars: &[Var], line: &Transition, cells: &[State]) -> Fou
     let left = counts_of(others);
     let mut given = [0; 9];
     given[0] = centre;
-    with_choices(vars, line, others, given, 1, left, Found::Nothing)
+    let (distinct, count) = distinct_states(others);
+    with_choices(
+        vars,
+        line,
+        &distinct[..count],
+        given,
+        1,
+        left,
+        Found::Nothing,
+    )
 }

@@ -5,7 +5,7 @@ use Rattle.life_table.proofs.Steps.{listed_by_counts, starts}
 use Rattle.life_table.proofs.choose.by_counts.Goals as goal
 
 pub with_choices-requires-clause-listed : goal.with_choices-requires-clause-listed
-with_choices-requires-clause-listed c = λ t h. listed_by_counts _ t (subst (λ n. 0 < n) (c.counts_of-left.ensures.counts t) h)
+with_choices-requires-clause-listed c = λ t h. c.distinct_states-count.ensures.listed t (listed_by_counts _ t (subst (λ n. 0 < n) (c.counts_of-left.ensures.counts t) h))
 
 pub returns : goal.returns
 returns c =
