@@ -1,0 +1,109 @@
+-- Lines are accepted exactly if they write a table, and no transition is dropped.
+use Rattle.std.proofs.Common.{◌≡◌, ℕ, ◌+◌, List, [], ◌∷◌, ◌++◌, map, Bool, true, false, not, refl, ap, sym, ◌∙◌, subst, ◌&&◌, ◌⊎◌, inl, inr, length, take}
+use Rattle.std.specs.Prelude.{Option, Some, None, if◌then◌else◌, is_some, is_none, All, filter, slice_get, option_map, ◌==◌}
+use Rattle.std.specs.List.{cons_option}
+use Rattle.std.proofs.lemmas.List.Elements.{All-head, All-tail}
+use Rattle.life_base.specs.Text.{numbered_from}
+use Rattle.life_base.specs.declared.kind.Kind.{Kind}
+use Rattle.life_base.specs.declared.kind.Kind.TheVariants.{NoRuleLine, NoTable, BadDescriptor}
+use Rattle.life_table.specs.Valid.{IsSound, neighbour_count}
+use Rattle.life_table.specs.Reading.{Numbered, texts_of, table_texts, IsTableFile, AreTable, Describes, said_by, lacking, is_ahead, is_described, states_of, neighborhood_of, variables_in, variables_written, transitions_in, transitions_written, is_transition_line, transition_of, transition_from, entries_of}
+use Rattle.life_table.specs.Reader.{IsGood}
+use Rattle.life_table.specs.Laws.{AcceptedWritesTable, NothingDropped}
+use Rattle.life_table.specs.declared.said.Said.{Said}
+use Rattle.life_table.specs.declared.said.Section.{Section}
+use Rattle.life_table.specs.declared.table.Neighborhood.{Neighborhood}
+use Rattle.life_table.specs.declared.table.Symmetry.{Symmetry}
+use Rattle.life_table.specs.declared.table.Var.{Var}
+use Rattle.life_table.specs.declared.table.Entry.{Entry}
+use Rattle.life_table.specs.declared.table.Transition.{Transition}
+use Rattle.life_table.specs.declared.table.Table.{Table}
+use Rattle.life_table.proofs.ByLines.{reach, missing_is}
+use Rattle.life_table.proofs.Good.{sound_of}
+use Rattle.life_table.proofs.Texts.{IsRead, on_line}
+use Rattle.life_table.proofs.Values.{mapped, followed, tested}
+
+-- nothing is lacking: all parts are there
+record Whole (name : Option (List ℕ)) (on : Option ℕ) (oh : Option Neighborhood) (oy : Option Symmetry) : Type 0 where
+  title : List ℕ
+  is_title : name ≡ Some title
+  n : ℕ
+  is_n : on ≡ Some n
+  h : Neighborhood
+  is_h : oh ≡ Some h
+  y : Symmetry
+  is_y : oy ≡ Some y
+
+whole_of : (name : Option (List ℕ)) (a : Bool) (on : Option ℕ) (oh : Option Neighborhood) (oy : Option Symmetry)
+    → (if is_none name then Some NoRuleLine else (if a then Some NoTable else (if is_some on && is_some oh && is_some oy then None else Some BadDescriptor))) ≡ None → Whole name on oh oy
+whole_of None a on oh oy e = absurd (let z : ⊥ = cc in z)
+whole_of (Some title) true on oh oy e = absurd (let z : ⊥ = cc in z)
+whole_of (Some title) false None oh oy e = absurd (let z : ⊥ = cc in z)
+whole_of (Some title) false (Some n) None oy e = absurd (let z : ⊥ = cc in z)
+whole_of (Some title) false (Some n) (Some h) None e = absurd (let z : ⊥ = cc in z)
+whole_of (Some title) false (Some n) (Some h) (Some y) e = record { title = title; is_title = refl; n = n; is_n = refl; h = h; is_h = refl; y = y; is_y = refl }
+
+described_by : (said : Said) → IsGood said → lacking said ≡ None → (table : Table) × Describes said table
+described_by said g e =
+    let w = whole_of said.name (is_ahead said.section) said.n_states said.neighborhood said.symmetry e in (
+      record { name = w.title; n_states = w.n; neighborhood = w.h; symmetry = w.y; vars = said.vars; lines = said.lines; sound = sound_of said g w.n w.h w.y w.is_n w.is_h w.is_y },
+      record { name = w.is_title; n_states = w.is_n; neighborhood = w.is_h; symmetry = w.is_y; vars = refl; lines = refl },
+    )
+
+pub accepted : AcceptedWritesTable
+accepted lines = (
+  (λ file.
+      let r = reach lines file.unbroken in
+      let d = described_by (said_by (numbered_from 1 lines)) r.good (sym (missing_is lines) ∙ file.whole) in
+      (d.0, record { file = file; says = d.1 })),
+  λ table are. are.file,
+)
+
+-- a transition has the number of its line
+parts_number : (k number : ℕ) (es : List Entry) (t : Transition) → transition_from k number es ≡ Some t → t.line ≡ number
+parts_number k number es t h =
+    let q = tested (length es == k + 2) (option_map (λ (output : Entry). record { line = number; inputs = take (k + 1) es; output = output }) (slice_get es (k + 1))) t h in
+    let m = mapped (λ (output : Entry). record { line = number; inputs = take (k + 1) es; output = output }) (slice_get es (k + 1)) t q.1 in
+    ap (λ (u : Transition). u.line) m.2
+
+line_number : (n k : ℕ) (vars : List Var) (number : ℕ) (text : List ℕ) (t : Transition) → transition_of n k vars number text ≡ Some t → t.line ≡ number
+unfolding transition_of
+line_number n k vars number text t h = let f = followed (transition_from k number) (entries_of n vars text) t h in parts_number k number f.0 t f.2
+
+abbrev numbers_of : List Transition → List ℕ
+numbers_of lines = map (λ (line : Transition). line.line) lines
+
+abbrev told_numbers : List Numbered → List ℕ
+told_numbers ts = map (λ (text : Numbered). text.0) (filter (λ (text : Numbered). is_transition_line text.1) ts)
+
+numbers_step : (n k : ℕ) (vars : List Var) (b : Bool) (x : Numbered) (ts : List Numbered) → is_transition_line x.1 ≡ b → IsRead n k vars x
+    → numbers_of (transitions_written n k vars ts) ≡ told_numbers ts → numbers_of (transitions_written n k vars (x ∷ ts)) ≡ told_numbers (x ∷ ts)
+numbers_step n k vars false x ts e r ih =
+    ap (λ (b : Bool). numbers_of (cons_option (if b then transition_of n k vars x.0 x.1 else None) (transitions_written n k vars ts))) e ∙ ih
+    ∙ sym (ap (λ (b : Bool). map (λ (text : Numbered). text.0) (if b then x ∷ filter (λ (text : Numbered). is_transition_line text.1) ts else filter (λ (text : Numbered). is_transition_line text.1) ts)) e)
+numbers_step n k vars true x ts e r ih =
+    let t = r e in
+    ap (λ (b : Bool). numbers_of (cons_option (if b then transition_of n k vars x.0 x.1 else None) (transitions_written n k vars ts))) e
+    ∙ ap (λ (o : Option Transition). numbers_of (cons_option o (transitions_written n k vars ts))) t.1
+    ∙ ap (λ (m : ℕ). m ∷ numbers_of (transitions_written n k vars ts)) (line_number n k vars x.0 x.1 t.0 t.1)
+    ∙ ap (λ (ms : List ℕ). x.0 ∷ ms) ih
+    ∙ sym (ap (λ (b : Bool). map (λ (text : Numbered). text.0) (if b then x ∷ filter (λ (text : Numbered). is_transition_line text.1) ts else filter (λ (text : Numbered). is_transition_line text.1) ts)) e)
+
+numbers_are : (n k : ℕ) (vars : List Var) (ts : List Numbered) → All (IsRead n k vars) ts → numbers_of (transitions_written n k vars ts) ≡ told_numbers ts
+numbers_are n k vars [] h = refl
+numbers_are n k vars (x ∷ ts) h =
+    numbers_step n k vars (is_transition_line x.1) x ts refl (All-head (IsRead n k vars) x ts h) (numbers_are n k vars ts (All-tail (IsRead n k vars) x ts h))
+
+pub nothing_dropped : NothingDropped
+nothing_dropped lines table are =
+    let r = reach lines are.file.unbroken in
+    let ts : List Numbered = table_texts (numbered_from 1 lines) in
+    let en : states_of (texts_of (table_texts (numbered_from 1 lines))) ≡ Some table.n_states = are.says.n_states in
+    let eh : neighborhood_of (texts_of (table_texts (numbered_from 1 lines))) ≡ Some table.neighborhood = are.says.neighborhood in
+    let lines_are : table.lines ≡ transitions_written table.n_states (neighbour_count table.neighborhood) (variables_written table.n_states (texts_of (table_texts (numbered_from 1 lines)))) (table_texts (numbered_from 1 lines)) =
+    sym are.says.lines
+    ∙ ap (λ (o : Option ℕ). transitions_in o (neighborhood_of (texts_of (table_texts (numbered_from 1 lines)))) (variables_in (states_of (texts_of (table_texts (numbered_from 1 lines)))) (texts_of (table_texts (numbered_from 1 lines)))) (table_texts (numbered_from 1 lines))) en
+    ∙ ap (λ (o : Option Neighborhood). transitions_in (Some table.n_states) o (variables_in (states_of (texts_of (table_texts (numbered_from 1 lines)))) (texts_of (table_texts (numbered_from 1 lines)))) (table_texts (numbered_from 1 lines))) eh
+    ∙ ap (λ (o : Option ℕ). transitions_written table.n_states (neighbour_count table.neighborhood) (variables_in o (texts_of (table_texts (numbered_from 1 lines)))) (table_texts (numbered_from 1 lines))) en in
+    ap numbers_of lines_are ∙ numbers_are table.n_states (neighbour_count table.neighborhood) (variables_written table.n_states (texts_of (table_texts (numbered_from 1 lines)))) (table_texts (numbered_from 1 lines))
+    (r.stands.texts.read table.n_states table.neighborhood en eh)

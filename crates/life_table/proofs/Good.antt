@@ -1,0 +1,308 @@
+-- What is said so far are parts of a rule table.
+use Rattle.std.proofs.Common.{◌≡◌, ◌≢◌, ℕ, ◌+◌, ◌<◌, ◌≤◌, List, [], ◌∷◌, ◌++◌, length, Bool, true, false, refl, ap, sym, ◌∙◌, subst, ◌&&◌, ◌||◌, inl, inr, arith, cond, get_or, length-append}
+use Rattle.std.specs.Prelude.{Option, Some, None, if◌then◌else◌, All, IsTrue, IfSome, nat_lt, nat_le, slice_get, bytes_eq}
+use Rattle.std.specs.List.{list_any, list_all, position_or_len}
+use Rattle.std.specs.Option.{option_map_or}
+use Rattle.std.proofs.lemmas.Bool.{ltb-false}
+use Rattle.std.proofs.lemmas.List.{get_or_append_left, get_or_push}
+use Rattle.std.proofs.lemmas.List.Sums.{fails_before_first}
+use Rattle.std.proofs.lemmas.List.Elements.{All-nil, All-head, All-tail}
+use Rattle.std.proofs.lemmas.Bool.Decides.{eqb_tells}
+use Rattle.std.proofs.lemmas.Option.{slice_get_within, slice_get-get_or, get_or_from_slice_get}
+use Rattle.std.proofs.lemmas.Slice.Eq.{bytes_eq-Decides}
+use Rattle.life_base.specs.Text.{value_of}
+use Rattle.life_table.specs.Meaning.{has_state}
+use Rattle.life_table.specs.Valid.{IsEntry, IsTransition, IsVariable, IsSound, neighbour_count, is_listed, allows_zero, fits_zero, is_quiet_output, is_quiet}
+use Rattle.life_table.specs.Reading.{variable_named, states_named, number_below, agree, setting_of, content}
+use Rattle.life_table.specs.Reader.{IsGood, IsKept, after, fits_after, nothing_said}
+use Rattle.life_table.specs.declared.said.Said.{Said}
+use Rattle.life_table.specs.declared.said.Section.{Section}
+use Rattle.life_table.specs.declared.said.Section.TheVariants.{Open, Behind}
+use Rattle.life_table.specs.declared.said.Told.{Told}
+use Rattle.life_table.specs.declared.said.Told.TheVariants.{States, Neighbors, Orders, Variable, Line}
+use Rattle.life_table.specs.declared.table.Neighborhood.{Neighborhood}
+use Rattle.life_table.specs.declared.table.Symmetry.{Symmetry}
+use Rattle.life_table.specs.declared.table.Var.{Var}
+use Rattle.life_table.specs.declared.table.Entry.{Entry}
+use Rattle.life_table.specs.declared.table.Entry.TheVariants as entries
+use Rattle.life_table.specs.declared.table.Transition.{Transition}
+use Rattle.life_table.proofs.Cases.{Says, states, neighbors, orders, variable, transition, Case, passed, named, ahead, opens, ends, silent, says, behind}
+use Rattle.life_table.proofs.Texts.{all_more}
+use Rattle.life_table.proofs.Values.{tested, below_limit, is_variable_written, is_transition}
+
+-- 1. One more variable
+
+get_more : (vars : List Var) (v : Var) (i : ℕ) → i < length vars → slice_get (vars ++ v ∷ []) i ≡ slice_get vars i
+get_more vars v i h =
+    slice_get-get_or (vars ++ v ∷ []) i v (omega (arith, h, length-append vars (v ∷ [])))
+    ∙ ap Some (get_or_append_left vars (v ∷ []) v i h) ∙ sym (slice_get-get_or vars i v h)
+
+get_last : (vars : List Var) (v : Var) (i : ℕ) → i ≡ length vars → slice_get (vars ++ v ∷ []) i ≡ Some v
+get_last vars v i h = slice_get-get_or (vars ++ v ∷ []) i v (omega (arith, h, length-append vars (v ∷ []))) ∙ ap Some (get_or_push vars v v i (sym h))
+
+entry_more : (n : ℕ) (vars : List Var) (v : Var) (e : Entry) → IsEntry n vars e → IsEntry n (vars ++ v ∷ []) e
+entry_more n vars v e is = record { fixed = is.fixed; variable = λ i eq. (let below = is.variable i eq in omega (arith, below, length-append vars (v ∷ []))) }
+
+transition_more : (n k : ℕ) (vars : List Var) (v : Var) (t : Transition) → IsTransition n k vars t → IsTransition n k (vars ++ v ∷ []) t
+transition_more n k vars v t is = record {
+  count = is.count;
+  inputs = λ j d below. entry_more n vars v (get_or t.inputs j d) (is.inputs j d below);
+  output = entry_more n vars v t.output is.output;
+  bound = is.bound;
+}
+
+zero_more : (n : ℕ) (vars : List Var) (v : Var) (e : Entry) → IsEntry n vars e → allows_zero (vars ++ v ∷ []) e ≡ allows_zero vars e
+zero_more n vars v (entries.Fixed s) is = refl
+zero_more n vars v (entries.Var i) is = ap (λ (o : Option Var). option_map_or (λ (w : Var). has_state w 0) o false) (get_more vars v i (is.variable i refl))
+
+all_same : (p q : Entry → Bool) (es : List Entry) → All (λ e. p e ≡ q e) es → list_all p es ≡ list_all q es
+all_same p q [] h = refl
+all_same p q (e ∷ es) h = ap (λ (b : Bool). b && list_all p es) (All-head (λ e. p e ≡ q e) e es h) ∙ ap (λ (b : Bool). q e && b) (all_same p q es (All-tail (λ e. p e ≡ q e) e es h))
+
+fits_more : (n k : ℕ) (vars : List Var) (v : Var) (t : Transition) → IsTransition n k vars t → fits_zero (vars ++ v ∷ []) t ≡ fits_zero vars t
+fits_more n k vars v t is = all_same (allows_zero (vars ++ v ∷ [])) (allows_zero vars) t.inputs (λ j d below. zero_more n vars v (get_or t.inputs j d) (is.inputs j d below))
+
+quiet_same : (n k : ℕ) (vars : List Var) (v : Var) (ts : List Transition) → All (IsTransition n k vars) ts → is_quiet (vars ++ v ∷ []) ts ≡ is_quiet vars ts
+quiet_same n k vars v [] h = refl
+quiet_same n k vars v (t ∷ ts) h =
+    ap (λ (b : Bool). if b then is_quiet_output t.output else is_quiet (vars ++ v ∷ []) ts) (fits_more n k vars v t (All-head (IsTransition n k vars) t ts h))
+    ∙ ap (λ (b : Bool). if fits_zero vars t then is_quiet_output t.output else b) (quiet_same n k vars v ts (All-tail (IsTransition n k vars) t ts h))
+
+any_same : (n k : ℕ) (vars : List Var) (v : Var) (ts : List Transition) → All (IsTransition n k vars) ts → list_any (fits_zero (vars ++ v ∷ [])) ts ≡ list_any (fits_zero vars) ts
+any_same n k vars v [] h = refl
+any_same n k vars v (t ∷ ts) h =
+    ap (λ (b : Bool). b || list_any (fits_zero (vars ++ v ∷ [])) ts) (fits_more n k vars v t (All-head (IsTransition n k vars) t ts h))
+    ∙ ap (λ (b : Bool). fits_zero vars t || b) (any_same n k vars v ts (All-tail (IsTransition n k vars) t ts h))
+
+-- a name that no variable has
+none_named : (vars : List Var) (name : List ℕ) → variable_named vars name ≡ None → (i : ℕ) (x : Var) → slice_get vars i ≡ Some x → x.name ≢ name
+none_named vars name none i x there same =
+    let past : length vars ≤ position_or_len (λ (w : Var). bytes_eq w.name name) vars = ltb-false _ _ (is_false (nat_lt (position_or_len (λ (w : Var). bytes_eq w.name name) vars) (length vars)) _ none) in
+    let within : i < length vars = slice_get_within vars i x there in
+    let fails : bytes_eq (get_or vars i x).name name ≡ false = fails_before_first (λ (w : Var). bytes_eq w.name name) vars i x (omega (arith, past, within)) in
+    let at : get_or vars i x ≡ x = get_or_from_slice_get vars i x x there in
+    let fails_here : bytes_eq x.name name ≡ false = ap (λ (w : Var). bytes_eq w.name name) (sym at) ∙ fails in
+    let passes : bytes_eq x.name name ≡ true = (bytes_eq-Decides x.name name).1 same in
+    let z : true ≡ false = sym passes ∙ fails_here in cc
+  where
+    is_false : (b : Bool) (m : ℕ) → cond b (Some m) None ≡ None → b ≡ false
+    is_false true m h = absurd (let z : ⊥ = cc in z)
+    is_false false m h = refl
+
+abbrev AreApart : List Var → Type 0
+AreApart vars = (i j : ℕ) (x y : Var) → i < j → slice_get vars i ≡ Some x → slice_get vars j ≡ Some y → x.name ≢ y.name
+
+apart_more : (vars : List Var) (v : Var) → AreApart vars → variable_named vars v.name ≡ None → AreApart (vars ++ v ∷ [])
+apart_more vars v apart none i j x y less a b same =
+    let within : j < length (vars ++ v ∷ []) = slice_get_within (vars ++ v ∷ []) j y b in
+    let size : length (vars ++ v ∷ []) ≡ length vars + 1 = length-append vars (v ∷ []) in
+    let before : i < length vars = omega (arith, less, within, size) in
+    let a' : slice_get vars i ≡ Some x = sym (get_more vars v i before) ∙ a in
+    elim (eqb_tells j (length vars)) [
+      | inl last ↦
+          (let b' : Some v ≡ Some y = sym (get_last vars v j last.1) ∙ b in
+          let e : v ≡ y = cc in
+          none_named vars v.name none i x a' (same ∙ ap (λ (w : Var). w.name) (sym e)))
+      | inr other ↦
+          (let inside : j < length vars = omega (arith, within, size, other.1) in
+          apart i j x y less a' (sym (get_more vars v j inside) ∙ b) same)
+    ]
+
+-- 2. What a number of states is
+
+states_range : (word : List ℕ) (n : ℕ) → states_named word ≡ Some n → (2 ≤ n) × (n ≤ 256)
+states_range word n h =
+    let t = tested (nat_le 2 (value_of word)) (number_below 257 word) n h in
+    let b = below_limit 257 word n t.1 in
+    let least : 2 ≤ value_of word = grind (arith, t.0) in
+    (omega (arith, b.0, least), omega (arith, b.1))
+
+-- 3. One more line
+
+abbrev rest_of : Said → Option (List ℕ) → Section → Said
+rest_of said name section = record { name = name; section = section; n_states = said.n_states; neighborhood = said.neighborhood; symmetry = said.symmetry; vars = said.vars; lines = said.lines }
+
+good_elsewhere : (said : Said) (name : Option (List ℕ)) (section : Section) → IsGood said → IsGood (rest_of said name section)
+good_elsewhere said name section g = record {
+  states = g.states;
+  listed = g.listed;
+  names = g.names;
+  variables = g.variables;
+  no_variables = g.no_variables;
+  no_transitions = g.no_transitions;
+  none_without = g.none_without;
+  transitions = g.transitions;
+  quiet = g.quiet;
+}
+
+good_states : (said : Said) (n : ℕ) (word : List ℕ) → IsGood said → said.n_states ≡ None → states_named word ≡ Some n → IsGood (after said (States n))
+good_states said n word g none e =
+    let range = states_range word n e in
+    record {
+      states = λ m is. (let same : n ≡ m = (let z : Some n ≡ Some m = is in cc) in (omega (arith, same, range.0), omega (arith, same, range.1)));
+      listed = g.listed;
+      names = g.names;
+      variables = λ m is. subst (All (IsVariable m)) (sym (g.no_variables none)) (All-nil (IsVariable m));
+      no_variables = λ is. absurd (let z : ⊥ = cc in z);
+      no_transitions = λ is. absurd (let z : ⊥ = cc in z);
+      none_without = g.none_without;
+      transitions = λ m h is ih. subst (All (IsTransition m (neighbour_count h) said.vars)) (sym (g.no_transitions none)) (All-nil (IsTransition m (neighbour_count h) said.vars));
+      quiet = g.quiet;
+    }
+
+good_neighbors : (said : Said) (h : Neighborhood) → IsGood said → said.neighborhood ≡ None → agree (Some h) said.symmetry ≡ true → IsGood (after said (Neighbors h))
+good_neighbors said h g none e = record {
+  states = g.states;
+  listed = λ k y ik iy. (let same : h ≡ k = (let z : Some h ≡ Some k = ik in cc) in
+      subst (λ (k : Neighborhood). IsTrue (is_listed k y)) same (sym (ap (agree (Some h)) iy) ∙ e));
+  names = g.names;
+  variables = g.variables;
+  no_variables = g.no_variables;
+  no_transitions = g.no_transitions;
+  none_without = λ is. absurd (let z : ⊥ = cc in z);
+  transitions = λ m k is ik. subst (All (IsTransition m (neighbour_count k) said.vars)) (sym (g.none_without none)) (All-nil (IsTransition m (neighbour_count k) said.vars));
+  quiet = g.quiet;
+}
+
+good_orders : (said : Said) (y : Symmetry) → IsGood said → agree said.neighborhood (Some y) ≡ true → IsGood (after said (Orders y))
+good_orders said y g e = record {
+  states = g.states;
+  listed = λ k z ik iz. (let same : y ≡ z = (let w : Some y ≡ Some z = iz in cc) in
+      subst (λ (z : Symmetry). IsTrue (is_listed k z)) same (sym (ap (λ (o : Option Neighborhood). agree o (Some y)) ik) ∙ e));
+  names = g.names;
+  variables = g.variables;
+  no_variables = g.no_variables;
+  no_transitions = g.no_transitions;
+  none_without = g.none_without;
+  transitions = g.transitions;
+  quiet = g.quiet;
+}
+
+module _ (said : Said) (n : ℕ) (h : Neighborhood) (g : IsGood said) (en : said.n_states ≡ Some n) (eh : said.neighborhood ≡ Some h) where
+  good_variable : (text : List ℕ) (var : Var) → IsVariable n var → variable_named said.vars var.name ≡ None → IsGood (after said (Variable var))
+  good_variable text var is none = record {
+    states = g.states;
+    listed = g.listed;
+    names = apart_more said.vars var g.names none;
+    variables = λ m im. (let same : n ≡ m = (let z : Some n ≡ Some m = sym en ∙ im in cc) in
+        subst (λ (m : ℕ). All (IsVariable m) (said.vars ++ var ∷ [])) same (all_more (IsVariable n) said.vars var (g.variables n en) is));
+    no_variables = λ im. absurd (let z : Some n ≡ None = sym en ∙ im in let w : ⊥ = cc in w);
+    no_transitions = g.no_transitions;
+    none_without = g.none_without;
+    transitions = λ m k im ik. λ j d below. transition_more m (neighbour_count k) said.vars var (get_or said.lines j d) (g.transitions m k im ik j d below);
+    quiet = quiet_same n (neighbour_count h) said.vars var said.lines (g.transitions n h en eh) ∙ g.quiet;
+  }
+
+  good_line : (t : Transition) → IsTransition n (neighbour_count h) said.vars t → is_quiet said.vars (said.lines ++ t ∷ []) ≡ true → IsGood (after said (Line t))
+  good_line t is quiet = record {
+    states = g.states;
+    listed = g.listed;
+    names = g.names;
+    variables = g.variables;
+    no_variables = g.no_variables;
+    no_transitions = λ im. absurd (let z : Some n ≡ None = sym en ∙ im in let w : ⊥ = cc in w);
+    none_without = λ ik. absurd (let z : Some h ≡ None = sym eh ∙ ik in let w : ⊥ = cc in w);
+    transitions = λ m k im ik.
+        (let same_n : n ≡ m = (let z : Some n ≡ Some m = sym en ∙ im in cc) in
+        let same_h : h ≡ k = (let z : Some h ≡ Some k = sym eh ∙ ik in cc) in
+        subst (λ (m : ℕ). All (IsTransition m (neighbour_count k) said.vars) (said.lines ++ t ∷ [])) same_n
+        (subst (λ (k : Neighborhood). All (IsTransition n (neighbour_count k) said.vars) (said.lines ++ t ∷ [])) same_h
+        (all_more (IsTransition n (neighbour_count h) said.vars) said.lines t (g.transitions n h en eh) is)));
+    quiet = quiet;
+  }
+
+good_says : (said : Said) (number : ℕ) (text : List ℕ) (told : Told) → IsGood said → Says said number text told → IsGood (after said told)
+good_says said number text told g (states d k none n e is) = subst (λ (t : Told). IsGood (after said t)) (sym is) (good_states said n (setting_of text) g none e)
+good_says said number text told g (neighbors d s k none h e agrees is) = subst (λ (t : Told). IsGood (after said t)) (sym is) (good_neighbors said h g none agrees)
+good_says said number text told g (orders d s m k none y e agrees is) = subst (λ (t : Told). IsGood (after said t)) (sym is) (good_orders said y g agrees)
+good_says said number text told g (variable d n h y en eh ey v var e is) =
+    let w = is_variable_written n (g.states n en).1 said.vars (g.variables n en) text var e in
+    subst (λ (t : Told). IsGood (after said t)) (sym is) (good_variable said n h g en eh text var w.0 w.1)
+good_says said number text told g (transition d n h y en eh ey v t e bound quiet is) =
+    subst (λ (t : Told). IsGood (after said t)) (sym is) (good_line said n h g en eh t (is_transition n (neighbour_count h) said.vars number text t e bound) quiet)
+
+pub good_more : (said : Said) (number : ℕ) (line : List ℕ) (told : Told) → IsGood said → Case said number line told → IsGood (after said told)
+good_more said number line told g (passed s n p is) = subst (λ (t : Told). IsGood (after said t)) (sym is) g
+good_more said number line told g (named s n p name e is) = subst (λ (t : Told). IsGood (after said t)) (sym is) (good_elsewhere said (Some name) said.section g)
+good_more said number line told g (ahead s name n p is) = subst (λ (t : Told). IsGood (after said t)) (sym is) g
+good_more said number line told g (opens s name n p is) = subst (λ (t : Told). IsGood (after said t)) (sym is) (good_elsewhere said said.name Open g)
+good_more said number line told g (ends s l d is) = subst (λ (t : Told). IsGood (after said t)) (sym is) (good_elsewhere said said.name Behind g)
+good_more said number line told g (silent s l e is) = subst (λ (t : Told). IsGood (after said t)) (sym is) g
+good_more said number line told g (says s l e more) = good_says said number (content line) told g more
+good_more said number line told g (behind s is) = subst (λ (t : Told). IsGood (after said t)) (sym is) g
+
+pub good_start : IsGood nothing_said
+good_start = record {
+  states = λ n is. absurd (let z : ⊥ = cc in z);
+  listed = λ n s is. absurd (let z : ⊥ = cc in z);
+  names = λ i j x y less a. absurd (let within : i < 0 = slice_get_within [] i x a in omega (arith, within));
+  variables = λ n is. absurd (let z : ⊥ = cc in z);
+  no_variables = λ is. refl;
+  no_transitions = λ is. refl;
+  none_without = λ is. refl;
+  transitions = λ n h is. absurd (let z : ⊥ = cc in z);
+  quiet = refl;
+}
+
+-- what is said makes a table
+pub sound_of : (said : Said) → IsGood said → (n : ℕ) (h : Neighborhood) (y : Symmetry) → said.n_states ≡ Some n → said.neighborhood ≡ Some h → said.symmetry ≡ Some y
+    → IsSound n h y said.vars said.lines
+sound_of said g n h y en eh ey = record {
+  least = (g.states n en).0;
+  most = (g.states n en).1;
+  listed = g.listed h y eh ey;
+  names = g.names;
+  variables = g.variables n en;
+  transitions = g.transitions n h en eh;
+  quiet = g.quiet;
+}
+
+-- what the reader keeps
+
+kept_most : (o : Option ℕ) → ((n : ℕ) → o ≡ Some n → (2 ≤ n) × (n ≤ 256)) → IfSome o (λ n. n ≤ 256)
+kept_most None f = tt
+kept_most (Some n) f = (f n refl).1
+
+any_more : (p : Transition → Bool) (ts : List Transition) (t : Transition) → list_any p (ts ++ t ∷ []) ≡ (list_any p ts || p t)
+any_more p [] t = or_false (p t)
+  where
+    or_false : (b : Bool) → (b || false) ≡ b
+    or_false true = refl
+    or_false false = refl
+any_more p (u ∷ ts) t = ap (λ (b : Bool). p u || b) (any_more p ts t) ∙ or_assoc (p u) (list_any p ts) (p t)
+  where
+    or_assoc : (a b c : Bool) → (a || (b || c)) ≡ ((a || b) || c)
+    or_assoc true b c = refl
+    or_assoc false b c = refl
+
+fits_says : (said : Said) (number : ℕ) (text : List ℕ) (told : Told) (fit : Bool) → IsGood said → fit ≡ list_any (fits_zero said.vars) said.lines → Says said number text told
+    → fits_after fit said.vars told ≡ list_any (fits_zero (after said told).vars) (after said told).lines
+fits_says said number text told fit g f (states d k none n e is) = subst (λ (t : Told). fits_after fit said.vars t ≡ list_any (fits_zero (after said t).vars) (after said t).lines) (sym is) f
+fits_says said number text told fit g f (neighbors d s k none h e agrees is) = subst (λ (t : Told). fits_after fit said.vars t ≡ list_any (fits_zero (after said t).vars) (after said t).lines) (sym is) f
+fits_says said number text told fit g f (orders d s m k none y e agrees is) = subst (λ (t : Told). fits_after fit said.vars t ≡ list_any (fits_zero (after said t).vars) (after said t).lines) (sym is) f
+fits_says said number text told fit g f (variable d n h y en eh ey v var e is) =
+    subst (λ (t : Told). fits_after fit said.vars t ≡ list_any (fits_zero (after said t).vars) (after said t).lines) (sym is)
+    (f ∙ sym (any_same n (neighbour_count h) said.vars var said.lines (g.transitions n h en eh)))
+fits_says said number text told fit g f (transition d n h y en eh ey v t e bound quiet is) =
+    subst (λ (t : Told). fits_after fit said.vars t ≡ list_any (fits_zero (after said t).vars) (after said t).lines) (sym is)
+    (ap (λ (b : Bool). b || fits_zero said.vars t) f ∙ sym (any_more (fits_zero said.vars) said.lines t))
+
+fits_case : (said : Said) (number : ℕ) (line : List ℕ) (told : Told) (fit : Bool) → IsGood said → fit ≡ list_any (fits_zero said.vars) said.lines → Case said number line told
+    → fits_after fit said.vars told ≡ list_any (fits_zero (after said told).vars) (after said told).lines
+fits_case said number line told fit g f (passed s n p is) = subst (λ (t : Told). fits_after fit said.vars t ≡ list_any (fits_zero (after said t).vars) (after said t).lines) (sym is) f
+fits_case said number line told fit g f (named s n p name e is) = subst (λ (t : Told). fits_after fit said.vars t ≡ list_any (fits_zero (after said t).vars) (after said t).lines) (sym is) f
+fits_case said number line told fit g f (ahead s name n p is) = subst (λ (t : Told). fits_after fit said.vars t ≡ list_any (fits_zero (after said t).vars) (after said t).lines) (sym is) f
+fits_case said number line told fit g f (opens s name n p is) = subst (λ (t : Told). fits_after fit said.vars t ≡ list_any (fits_zero (after said t).vars) (after said t).lines) (sym is) f
+fits_case said number line told fit g f (ends s l d is) = subst (λ (t : Told). fits_after fit said.vars t ≡ list_any (fits_zero (after said t).vars) (after said t).lines) (sym is) f
+fits_case said number line told fit g f (silent s l e is) = subst (λ (t : Told). fits_after fit said.vars t ≡ list_any (fits_zero (after said t).vars) (after said t).lines) (sym is) f
+fits_case said number line told fit g f (says s l e more) = fits_says said number (content line) told fit g f more
+fits_case said number line told fit g f (behind s is) = subst (λ (t : Told). fits_after fit said.vars t ≡ list_any (fits_zero (after said t).vars) (after said t).lines) (sym is) f
+
+pub kept_start : IsKept nothing_said false
+kept_start = record { most = tt; fits = refl; quiet = refl }
+
+pub kept_more : (said : Said) (number : ℕ) (line : List ℕ) (told : Told) (fit : Bool) → IsGood said → IsKept said fit → Case said number line told
+    → IsKept (after said told) (fits_after fit said.vars told)
+kept_more said number line told fit g k case =
+    let next = good_more said number line told g case in
+    record { most = kept_most (after said told).n_states next.states; fits = fits_case said number line told fit g k.fits case; quiet = next.quiet }

@@ -1,0 +1,136 @@
+-- Reading the lines of a rule table one after another.
+use Rattle.std.proofs.Common.{◌≡◌, ℕ, suc, ◌+◌, ◌-◌, ◌^◌, ◌≤◌, min, List, [], ◌∷◌, ◌++◌, length, take, get_or, Bool, false, refl, ap, sym, subst, ◌∙◌, arith, length-append}
+use Rattle.std.specs.Prelude.{Some, None, Result, Ok, Err}
+use Rattle.std.proofs.Math.Seq.{take-append_seam, get_or-append_seam}
+use Rattle.std.proofs.Math.ListN.{get_or-append}
+use Rattle.std.proofs.lemmas.List.{take-append-le, map-append, append-nil}
+use Rattle.life_base.specs.Text.{numbered_from}
+use Rattle.life_base.specs.declared.kind.Kind.{Kind}
+use Rattle.life_base.specs.declared.fault.Fault.{Fault}
+use Rattle.life_base.proofs.Refusals.{UnbrokenBelow, refusal_at, refusal_at_end}
+use Rattle.life_table.specs.Reading.{Numbered, texts_of, IsTableFile, AreTable, Describes, broken, missing, lacking, said_by, told_by, number_behind, Refuses}
+use Rattle.life_table.specs.Reader.{IsGood, IsKept, after, fits_after, nothing_said}
+use Rattle.life_table.specs.declared.said.Said.{Said}
+use Rattle.life_table.specs.declared.said.Told.{Told}
+use Rattle.life_table.specs.declared.table.Table.{Table}
+use Rattle.life_table.proofs.Cases.{line_case}
+use Rattle.life_table.proofs.Lines.{said_start}
+use Rattle.life_table.proofs.Good.{kept_start, kept_more}
+use Rattle.life_table.proofs.ByLines.{by_lines, Reach, reach_none, reach_more, numbered_more, told_broken, missing_is}
+
+-- why a file is refused of which this line breaks a rule, and none before it
+refused_line : (before : List (List ℕ)) (line : List ℕ) (rest : List (List ℕ)) (kind : Kind)
+    → UnbrokenBelow IsTableFile broken missing before (length before) → broken before line ≡ Some kind
+    → Refuses (before ++ line ∷ rest) (record { place = record { line = min (length before + 1) (2 ^ 64 - 1) }; kind = kind })
+refused_line before line rest kind u b =
+    refusal_at IsTableFile broken missing by_lines (before ++ line ∷ rest) (length before) kind (omega (arith, length-append before (line ∷ rest)))
+    (λ k h.
+    let e : take k (before ++ line ∷ rest) ≡ take k before = take-append-le k before (line ∷ rest) (omega arith) in
+    let f : get_or (before ++ line ∷ rest) k [] ≡ get_or before k [] = get_or-append before (line ∷ rest) [] k h in
+    rw (e, f) (u k h))
+    (let e : take (length before) (before ++ line ∷ rest) ≡ before = take-append_seam before (line ∷ rest) in
+    let f : get_or (before ++ line ∷ rest) (length before) [] ≡ line = get_or-append_seam before line rest [] in
+    rw (e, f) b)
+
+numbered_texts : (lines : List (List ℕ)) (n : ℕ) → texts_of (numbered_from n lines) ≡ lines
+numbered_texts [] n = refl
+numbered_texts (line ∷ lines) n = ap (λ (t : List (List ℕ)). line ∷ t) (numbered_texts lines (min (n + 1) (2 ^ 64 - 1)))
+
+head_number : List Numbered → ℕ
+head_number [] = 0
+head_number (p ∷ ps) = p.0
+
+behind_head : List Numbered → List Numbered
+behind_head [] = []
+behind_head (p ∷ ps) = ps
+
+-- the number of the line behind those of a list
+number_at : (lines : List (List ℕ)) (before : List Numbered) (n : ℕ) (k : ℕ) (line : List ℕ) (rest : List Numbered)
+    → n ≤ 2 ^ 64 - 1 → before ++ (k, line) ∷ rest ≡ numbered_from n lines → k ≡ min (n + length before) (2 ^ 64 - 1)
+unfolding head_number behind_head
+number_at [] [] n k line rest h e = cc
+number_at [] (p ∷ before) n k line rest h e = cc
+number_at (x ∷ lines) [] n k line rest h e = let q : k ≡ n = ap head_number e in omega arith
+number_at (x ∷ lines) (p ∷ before) n k line rest h e =
+    let t : before ++ (k, line) ∷ rest ≡ numbered_from (min (n + 1) (2 ^ 64 - 1)) lines = ap behind_head e in
+    number_at lines before (min (n + 1) (2 ^ 64 - 1)) k line rest (omega arith) t ∙ omega arith
+
+length_texts : (ps : List Numbered) → length (texts_of ps) ≡ length ps
+length_texts [] = refl
+length_texts (p ∷ ps) = ap suc (length_texts ps)
+
+-- what was read of the lines so far
+pub record Reads (pairs : List Numbered) (said : Said) (fit : Bool) : Type 0 where
+  pub numbers : pairs ≡ numbered_from 1 (texts_of pairs)
+  pub reached : Reach (texts_of pairs)
+  pub is : said ≡ said_by pairs
+  pub keeps : IsKept said fit
+
+pub reads_none : Reads [] nothing_said false
+reads_none = record { numbers = refl; reached = reach_none; is = sym said_start; keeps = kept_start }
+
+pub good_reads : (pairs : List Numbered) (said : Said) (fit : Bool) → Reads pairs said fit → IsGood said
+good_reads pairs said fit reads = subst (λ (s : Said). IsGood s) (sym (reads.is ∙ ap said_by reads.numbers)) reads.reached.good
+
+module _ (lines : List (List ℕ)) (pairs : List Numbered) (number : ℕ) (line : List ℕ) (rest : List Numbered) (all : pairs ++ (number, line) ∷ rest ≡ numbered_from 1 lines)
+    (said : Said) (fit : Bool) (reads : Reads pairs said fit) where
+  pub number_is : number ≡ number_behind (texts_of pairs)
+  number_is = let e = number_at lines pairs 1 number line rest (omega arith) all in omega (arith, e, length_texts pairs)
+
+  -- what the line tells, as the definitions have it
+  told_there : (r : Result Told Kind) → told_by said number line ≡ r → told_by (said_by (numbered_from 1 (texts_of pairs))) (number_behind (texts_of pairs)) line ≡ r
+  told_there r h =
+      ap (λ (s : Said). told_by s (number_behind (texts_of pairs)) line) (sym (reads.is ∙ ap said_by reads.numbers))
+      ∙ ap (λ (k : ℕ). told_by said k line) (sym number_is) ∙ h
+
+  pub reads_more : (told : Told) (next : Said) (next_fit : Bool) → told_by said number line ≡ Ok told → next ≡ after said told → next_fit ≡ fits_after fit said.vars told
+      → Reads (pairs ++ (number, line) ∷ []) next next_fit
+  reads_more told next next_fit h n f =
+      let m = reach_more (texts_of pairs) line told reads.reached (told_there (Ok told) h) in
+      let t : texts_of (pairs ++ (number, line) ∷ []) ≡ texts_of pairs ++ line ∷ [] = map-append (λ (p : Numbered). p.1) pairs ((number, line) ∷ []) in
+      let numbers : pairs ++ (number, line) ∷ [] ≡ numbered_from 1 (texts_of pairs ++ line ∷ []) =
+      ap (λ (ps : List Numbered). ps ++ (number, line) ∷ []) reads.numbers ∙ ap (λ (k : ℕ). numbered_from 1 (texts_of pairs) ++ (k, line) ∷ []) number_is ∙ sym (numbered_more (texts_of pairs) line) in
+      let k : IsKept (after said told) (fits_after fit said.vars told) = kept_more said number line told fit (good_reads pairs said fit reads) reads.keeps (line_case said number line told h) in
+      record {
+        numbers = numbers ∙ ap (numbered_from 1) (sym t);
+        reached = subst Reach (sym t) m.1;
+        is = n ∙ ap (λ (s : Said). after s told) (reads.is ∙ ap said_by reads.numbers) ∙ sym m.0 ∙ ap said_by (sym numbers);
+        keeps = subst (λ (s : Said). IsKept s next_fit) (sym n) (subst (IsKept (after said told)) (sym f) k);
+      }
+
+  pub next_number : (next : ℕ) → next ≡ min (number + 1) (2 ^ 64 - 1) → next ≡ min (length (pairs ++ (number, line) ∷ []) + 1) (2 ^ 64 - 1)
+  next_number next h = let e = number_at lines pairs 1 number line rest (omega arith) all in omega (arith, h, e, length-append pairs ((number, line) ∷ []))
+
+  pub refused_at : (fault : Fault) → told_by said number line ≡ Err fault.kind → fault.place.line ≡ number → Refuses lines fault
+  refused_at fault h l =
+      let t : texts_of pairs ++ line ∷ texts_of rest ≡ lines = sym (map-append (λ (p : Numbered). p.1) pairs ((number, line) ∷ rest)) ∙ ap texts_of all ∙ numbered_texts lines 1 in
+      let m : min (length (texts_of pairs) + 1) (2 ^ 64 - 1) ≡ fault.place.line = sym number_is ∙ sym l in
+      let P : List (List ℕ) → Type 0 = λ ls. Refuses ls fault in
+      let Q : ℕ → Type 0 = λ n. Refuses (texts_of pairs ++ line ∷ texts_of rest) (record { place = record { line = n }; kind = fault.kind }) in
+      subst P t (subst Q m (refused_line (texts_of pairs) line (texts_of rest) fault.kind reads.reached.unbroken (told_broken (texts_of pairs) line fault.kind (told_there (Err fault.kind) h))))
+
+module _ (lines : List (List ℕ)) (pairs rest : List Numbered) (all : pairs ++ rest ≡ numbered_from 1 lines) (none : rest ≡ [])
+    (said : Said) (fit : Bool) (reads : Reads pairs said fit) where
+  -- all lines were read, once none is left
+  all_read : texts_of pairs ≡ lines
+  all_read = ap texts_of (sym (append-nil pairs) ∙ ap (λ (t : List Numbered). pairs ++ t) (sym none) ∙ all) ∙ numbered_texts lines 1
+
+  said_is : said ≡ said_by (numbered_from 1 lines)
+  said_is = reads.is ∙ ap said_by (reads.numbers ∙ ap (numbered_from 1) all_read)
+
+  reached : Reach lines
+  reached = subst Reach all_read reads.reached
+
+  pub read_whole : (table : Table) → lacking said ≡ None → Describes said table → AreTable lines table
+  read_whole table l d = record {
+    file = record { unbroken = reached.unbroken; whole = missing_is lines ∙ ap lacking (sym said_is) ∙ l };
+    says = subst (λ (s : Said). Describes s table) said_is d;
+  }
+
+  pub refused_at_end : (kind : Kind) (next : ℕ) → lacking said ≡ Some kind → next ≡ min (length pairs + 1) (2 ^ 64 - 1)
+      → Refuses lines (record { place = record { line = next }; kind = kind })
+  refused_at_end kind next l n =
+      let lacks : missing lines ≡ Some kind = missing_is lines ∙ ap lacking (sym said_is) ∙ l in
+      let r = refusal_at_end IsTableFile broken missing by_lines lines kind reached.unbroken (λ g. let z : None ≡ Some kind = sym g.whole ∙ lacks in cc) lacks in
+      let size : length lines ≡ length pairs = sym (ap length all_read) ∙ length_texts pairs in
+      subst (λ (k : ℕ). Refuses lines (record { place = record { line = k }; kind = kind })) (omega (arith, n, size)) r

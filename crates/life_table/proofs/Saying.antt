@@ -1,0 +1,244 @@
+-- What lines say together with one more that breaks no rule.
+use Rattle.std.proofs.Common.{◌≡◌, ℕ, List, [], ◌∷◌, ◌++◌, Bool, true, false, not, refl, ap, sym, ◌∙◌, subst, ◌&&◌, ◌||◌, ◌⊎◌, inl, inr}
+use Rattle.std.specs.Prelude.{Option, Some, None, if◌then◌else◌, is_some, option_to_list, All, codes, bytes_eq}
+use Rattle.std.specs.List.{cons_option}
+use Rattle.std.proofs.lemmas.List.{append-nil}
+use Rattle.std.proofs.lemmas.Slice.Eq.{bytes_eq-Decides}
+use Rattle.life_table.specs.Valid.{neighbour_count}
+use Rattle.life_table.specs.Reading.{Numbered, texts_of, said_in, is_descriptor, key_of, setting_of, is_states_key, is_neighborhood_key, is_symmetry_key, states_named, neighborhood_named, symmetry_named, states_of, neighborhood_of, symmetry_of, is_variable_line, variable_of, variables_written, variables_in, is_transition_line, transition_of, transitions_written, transitions_in}
+use Rattle.life_table.specs.Reader.{after}
+use Rattle.life_table.specs.declared.said.Said.{Said}
+use Rattle.life_table.specs.declared.said.Section.{Section}
+use Rattle.life_table.specs.declared.said.Section.TheVariants.{Open}
+use Rattle.life_table.specs.declared.said.Told.{Told}
+use Rattle.life_table.specs.declared.said.Told.TheVariants.{States, Neighbors, Orders, Variable, Line}
+use Rattle.life_table.specs.declared.table.Neighborhood.{Neighborhood}
+use Rattle.life_table.specs.declared.table.Symmetry.{Symmetry}
+use Rattle.life_table.specs.declared.table.Var.{Var}
+use Rattle.life_table.specs.declared.table.Transition.{Transition}
+use Rattle.life_table.proofs.Cases.{Says, states, neighbors, orders, variable, transition}
+use Rattle.life_table.proofs.Texts.{setting_same, setting_new, this_key, other_key, no_descriptor, written, variables_more, transitions_more, IsRead, transitions_kept, AreDescriptors, no_variables, no_transitions, none_to_read, descriptors_more, all_more, on_line}
+
+-- the texts so far: all are descriptors until all three settings are given, and each transition's line is read
+pub record TextsStand (ts : List Numbered) : Type 0 where
+  pub early : (is_some (states_of (texts_of ts)) && is_some (neighborhood_of (texts_of ts)) && is_some (symmetry_of (texts_of ts))) ≡ false → AreDescriptors ts
+  pub read : (n : ℕ) (h : Neighborhood) → states_of (texts_of ts) ≡ Some n → neighborhood_of (texts_of ts) ≡ Some h
+      → All (IsRead n (neighbour_count h) (variables_written n (texts_of ts))) ts
+
+-- no key is another
+states_alone : (key : List ℕ) → is_states_key key ≡ true → is_neighborhood_key key ≡ false
+states_alone key e = let k : key ≡ codes "n_states" = (bytes_eq-Decides key (codes "n_states")).0 e in subst (λ (w : List ℕ). is_neighborhood_key w ≡ false) (sym k) refl
+
+states_alone_too : (key : List ℕ) → is_states_key key ≡ true → is_symmetry_key key ≡ false
+states_alone_too key e = let k : key ≡ codes "n_states" = (bytes_eq-Decides key (codes "n_states")).0 e in subst (λ (w : List ℕ). is_symmetry_key w ≡ false) (sym k) refl
+
+or_cases : (a b : Bool) → (a || b) ≡ true → (a ≡ true) ⊎ (b ≡ true)
+or_cases true b e = inl refl
+or_cases false b e = inr e
+
+neighbors_alone : (key : List ℕ) → is_neighborhood_key key ≡ true → is_symmetry_key key ≡ false
+neighbors_alone key e = elim (or_cases (bytes_eq key (codes "neighborhood")) (bytes_eq key (codes "neighbourhood")) e) [
+  | inl a ↦ (let k : key ≡ codes "neighborhood" = (bytes_eq-Decides key (codes "neighborhood")).0 a in subst (λ (w : List ℕ). is_symmetry_key w ≡ false) (sym k) refl)
+  | inr b ↦ (let k : key ≡ codes "neighbourhood" = (bytes_eq-Decides key (codes "neighbourhood")).0 b in subst (λ (w : List ℕ). is_symmetry_key w ≡ false) (sym k) refl)
+]
+
+-- one said of five equal parts
+said_same : (name : Option (List ℕ)) (section : Section) (a a' : Option ℕ) (b b' : Option Neighborhood) (c c' : Option Symmetry) (d d' : List Var) (e e' : List Transition)
+    → a ≡ a' → b ≡ b' → c ≡ c' → d ≡ d' → e ≡ e'
+    → (let s : Said = record { name = name; section = section; n_states = a; neighborhood = b; symmetry = c; vars = d; lines = e } in s)
+    ≡ record { name = name; section = section; n_states = a'; neighborhood = b'; symmetry = c'; vars = d'; lines = e' }
+said_same name section a a' b b' c c' d d' e e' p q r s t = cc
+
+not_described : (a b c : Bool) → (a ≡ false) ⊎ ((b ≡ false) ⊎ (c ≡ false)) → (a && b && c) ≡ false
+not_described true true c (inl h) = cc
+not_described true true c (inr (inl h)) = cc
+not_described true true c (inr (inr h)) = h
+not_described true false c h = refl
+not_described false b c h = refl
+
+module _ (name : Option (List ℕ)) (ts : List Numbered) (number : ℕ) (text : List ℕ) (stand : TextsStand ts) where
+  abbrev x : Numbered
+  x = (number, text)
+
+  abbrev on : Option ℕ
+  on = states_of (texts_of ts)
+
+  abbrev oh : Option Neighborhood
+  oh = neighborhood_of (texts_of ts)
+
+  abbrev oy : Option Symmetry
+  oy = symmetry_of (texts_of ts)
+
+  abbrev on' : Option ℕ
+  on' = states_of (texts_of (ts ++ x ∷ []))
+
+  abbrev oh' : Option Neighborhood
+  oh' = neighborhood_of (texts_of (ts ++ x ∷ []))
+
+  abbrev oy' : Option Symmetry
+  oy' = symmetry_of (texts_of (ts ++ x ∷ []))
+
+  -- one more descriptor
+  module _ (d : is_descriptor text ≡ true) (all : AreDescriptors ts) where
+    more_described : AreDescriptors (ts ++ x ∷ [])
+    more_described = descriptors_more ts x all d
+
+    described_vars : variables_in on' (texts_of (ts ++ x ∷ [])) ≡ variables_in on (texts_of ts)
+    described_vars = no_variables on' (ts ++ x ∷ []) more_described ∙ sym (no_variables on ts all)
+
+    described_lines : transitions_in on' oh' (variables_in on' (texts_of (ts ++ x ∷ []))) (ts ++ x ∷ []) ≡ transitions_in on oh (variables_in on (texts_of ts)) ts
+    described_lines = no_transitions on' oh' (variables_in on' (texts_of (ts ++ x ∷ []))) (ts ++ x ∷ []) more_described ∙ sym (no_transitions on oh (variables_in on (texts_of ts)) ts all)
+
+    described_stand : TextsStand (ts ++ x ∷ [])
+    described_stand = record { early = λ _. more_described; read = λ n h en eh. none_to_read n (neighbour_count h) (variables_written n (texts_of (ts ++ x ∷ []))) (ts ++ x ∷ []) more_described }
+
+  -- one more variable or transition
+  module _ (d : is_descriptor text ≡ false) (n : ℕ) (h : Neighborhood) (y : Symmetry) (en : on ≡ Some n) (eh : oh ≡ Some h) (ey : oy ≡ Some y) where
+    abbrev V : List Var
+    V = variables_written n (texts_of ts)
+
+    vars_are : variables_in on (texts_of ts) ≡ V
+    vars_are = ap (λ (o : Option ℕ). variables_in o (texts_of ts)) en
+
+    states_same : on' ≡ on
+    states_same = setting_same is_states_key states_named ts x (no_descriptor is_states_key text d)
+
+    neighbors_same : oh' ≡ oh
+    neighbors_same = setting_same is_neighborhood_key neighborhood_named ts x (no_descriptor is_neighborhood_key text d)
+
+    symmetry_same : oy' ≡ oy
+    symmetry_same = setting_same is_symmetry_key symmetry_named ts x (no_descriptor is_symmetry_key text d)
+
+    vars_then : (new : List Var) → written n V text ≡ new → variables_in on' (texts_of (ts ++ x ∷ [])) ≡ V ++ new
+    vars_then new w = ap (λ (o : Option ℕ). variables_in o (texts_of (ts ++ x ∷ []))) (states_same ∙ en) ∙ variables_more n ts x ∙ ap (λ (vs : List Var). V ++ vs) w
+
+    lines_are : transitions_in on oh (variables_in on (texts_of ts)) ts ≡ transitions_written n (neighbour_count h) V ts
+    lines_are = ap (λ (o : Option ℕ). transitions_in o oh (variables_in on (texts_of ts)) ts) en ∙ ap (λ (o : Option Neighborhood). transitions_in (Some n) o (variables_in on (texts_of ts)) ts) eh
+        ∙ ap (λ (vs : List Var). transitions_written n (neighbour_count h) vs ts) vars_are
+
+    lines_then : (vars : List Var) → variables_in on' (texts_of (ts ++ x ∷ [])) ≡ vars
+        → transitions_in on' oh' (variables_in on' (texts_of (ts ++ x ∷ []))) (ts ++ x ∷ []) ≡ transitions_written n (neighbour_count h) vars ts ++ cons_option (on_line n (neighbour_count h) vars x) []
+    lines_then vars e = ap (λ (o : Option ℕ). transitions_in o oh' (variables_in on' (texts_of (ts ++ x ∷ []))) (ts ++ x ∷ [])) (states_same ∙ en)
+        ∙ ap (λ (o : Option Neighborhood). transitions_in (Some n) o (variables_in on' (texts_of (ts ++ x ∷ []))) (ts ++ x ∷ [])) (neighbors_same ∙ eh)
+        ∙ ap (λ (vs : List Var). transitions_written n (neighbour_count h) vs (ts ++ x ∷ [])) e ∙ transitions_more n (neighbour_count h) vars ts x
+
+    all_read : All (IsRead n (neighbour_count h) V) ts
+    all_read = stand.read n h en eh
+
+    stand_then : All (IsRead n (neighbour_count h) (variables_written n (texts_of (ts ++ x ∷ [])))) (ts ++ x ∷ []) → TextsStand (ts ++ x ∷ [])
+    stand_then all = record {
+      early = λ e. absurd (
+          let t : (is_some on' && is_some oh' && is_some oy') ≡ true =
+          ap (λ (o : Option ℕ). is_some o && is_some oh' && is_some oy') (states_same ∙ en)
+          ∙ ap (λ (o : Option Neighborhood). is_some o && is_some oy') (neighbors_same ∙ eh) ∙ ap (λ (o : Option Symmetry). is_some o) (symmetry_same ∙ ey) in
+          let z : true ≡ false = sym t ∙ e in let w : ⊥ = cc in w);
+      read = λ m g em eg.
+          let same_n : n ≡ m = (let z : Some n ≡ Some m = sym (states_same ∙ en) ∙ em in cc) in
+          let same_h : h ≡ g = (let z : Some h ≡ Some g = sym (neighbors_same ∙ eh) ∙ eg in cc) in
+          subst (λ (m : ℕ). All (IsRead m (neighbour_count g) (variables_written m (texts_of (ts ++ x ∷ [])))) (ts ++ x ∷ [])) same_n
+          (subst (λ (g : Neighborhood). All (IsRead n (neighbour_count g) (variables_written n (texts_of (ts ++ x ∷ [])))) (ts ++ x ∷ [])) same_h all);
+    }
+
+    variable_written : (var : Var) → is_variable_line text ≡ true → variable_of n (variables_in on (texts_of ts)) text ≡ Some var → written n V text ≡ var ∷ []
+    variable_written var v e =
+        ap (λ (b : Bool). if b && not (is_descriptor text) then option_to_list (variable_of n V text) else []) v
+        ∙ ap (λ (b : Bool). if not b then option_to_list (variable_of n V text) else []) d
+        ∙ ap option_to_list (ap (λ (vs : List Var). variable_of n vs text) (sym vars_are) ∙ e)
+
+    nothing_written : is_variable_line text ≡ false → written n V text ≡ []
+    nothing_written v = ap (λ (b : Bool). if b && not (is_descriptor text) then option_to_list (variable_of n V text) else []) v
+
+    no_transition : (vars : List Var) → is_variable_line text ≡ true → on_line n (neighbour_count h) vars x ≡ None
+    no_transition vars v = ap (λ (b : Bool). if not b && not (is_variable_line text) then transition_of n (neighbour_count h) vars number text else None) d
+        ∙ ap (λ (b : Bool). if not b then transition_of n (neighbour_count h) vars number text else None) v
+
+    transition_there : (vars : List Var) → is_variable_line text ≡ false → on_line n (neighbour_count h) vars x ≡ transition_of n (neighbour_count h) vars number text
+    transition_there vars v = ap (λ (b : Bool). if not b && not (is_variable_line text) then transition_of n (neighbour_count h) vars number text else None) d
+        ∙ ap (λ (b : Bool). if not b then transition_of n (neighbour_count h) vars number text else None) v
+
+  -- what the texts say together with one more, and that they stand
+  abbrev SaysMore : Told → Type 0
+  SaysMore told = (said_in name Open (ts ++ x ∷ []) ≡ after (said_in name Open ts) told) × TextsStand (ts ++ x ∷ [])
+
+  says_states : is_descriptor text ≡ true → is_states_key (key_of text) ≡ true → on ≡ None → (n : ℕ) → states_named (setting_of text) ≡ Some n → SaysMore (States n)
+  says_states d k none n e =
+      let all : AreDescriptors ts = stand.early (not_described (is_some on) (is_some oh) (is_some oy) (inl (ap (λ (o : Option ℕ). is_some o) none))) in (
+        said_same name Open on' (Some n) oh' oh oy' oy _ _ _ _
+            (setting_new is_states_key states_named ts x (this_key is_states_key text d k) none ∙ e)
+            (setting_same is_neighborhood_key neighborhood_named ts x (other_key is_neighborhood_key text (states_alone (key_of text) k)))
+            (setting_same is_symmetry_key symmetry_named ts x (other_key is_symmetry_key text (states_alone_too (key_of text) k)))
+            (described_vars d all) (described_lines d all),
+        described_stand d all,
+      )
+
+  says_neighbors : is_descriptor text ≡ true → is_states_key (key_of text) ≡ false → is_neighborhood_key (key_of text) ≡ true → oh ≡ None → (h : Neighborhood)
+      → neighborhood_named (setting_of text) ≡ Some h → SaysMore (Neighbors h)
+  says_neighbors d s k none h e =
+      let all : AreDescriptors ts = stand.early (not_described (is_some on) (is_some oh) (is_some oy) (inr (inl (ap (λ (o : Option Neighborhood). is_some o) none)))) in (
+        said_same name Open on' on oh' (Some h) oy' oy _ _ _ _
+            (setting_same is_states_key states_named ts x (other_key is_states_key text s))
+            (setting_new is_neighborhood_key neighborhood_named ts x (this_key is_neighborhood_key text d k) none ∙ e)
+            (setting_same is_symmetry_key symmetry_named ts x (other_key is_symmetry_key text (neighbors_alone (key_of text) k)))
+            (described_vars d all) (described_lines d all),
+        described_stand d all,
+      )
+
+  says_orders : is_descriptor text ≡ true → is_states_key (key_of text) ≡ false → is_neighborhood_key (key_of text) ≡ false → is_symmetry_key (key_of text) ≡ true → oy ≡ None → (y : Symmetry)
+      → symmetry_named (setting_of text) ≡ Some y → SaysMore (Orders y)
+  says_orders d s m k none y e =
+      let all : AreDescriptors ts = stand.early (not_described (is_some on) (is_some oh) (is_some oy) (inr (inr (ap (λ (o : Option Symmetry). is_some o) none)))) in (
+        said_same name Open on' on oh' oh oy' (Some y) _ _ _ _
+            (setting_same is_states_key states_named ts x (other_key is_states_key text s))
+            (setting_same is_neighborhood_key neighborhood_named ts x (other_key is_neighborhood_key text m))
+            (setting_new is_symmetry_key symmetry_named ts x (this_key is_symmetry_key text d k) none ∙ e)
+            (described_vars d all) (described_lines d all),
+        described_stand d all,
+      )
+
+  says_variable : is_descriptor text ≡ false → (n : ℕ) (h : Neighborhood) (y : Symmetry) → on ≡ Some n → oh ≡ Some h → oy ≡ Some y → is_variable_line text ≡ true → (var : Var)
+      → variable_of n (variables_in on (texts_of ts)) text ≡ Some var → SaysMore (Variable var)
+  says_variable d n h y en eh ey v var e =
+      let k : ℕ = neighbour_count h in
+      let w = variable_written d n h y en eh ey var v e in
+      let vars : variables_in on' (texts_of (ts ++ x ∷ [])) ≡ V d n h y en eh ey ++ var ∷ [] = vars_then d n h y en eh ey (var ∷ []) w in
+      let kept = transitions_kept n (neighbour_count h) (V d n h y en eh ey) var ts (all_read d n h y en eh ey) in
+      let lines = lines_then d n h y en eh ey (V d n h y en eh ey ++ var ∷ []) vars
+      ∙ ap (λ (o : Option Transition). transitions_written n (neighbour_count h) (V d n h y en eh ey ++ var ∷ []) ts ++ cons_option o []) (no_transition d n h y en eh ey (V d n h y en eh ey ++ var ∷ []) v)
+      ∙ append-nil (transitions_written n (neighbour_count h) (V d n h y en eh ey ++ var ∷ []) ts) ∙ kept.0 ∙ sym (lines_are d n h y en eh ey) in
+      let there : variables_written n (texts_of (ts ++ x ∷ [])) ≡ V d n h y en eh ey ++ var ∷ [] = variables_more n ts x ∙ ap (λ (vs : List Var). V d n h y en eh ey ++ vs) w in
+      let last : IsRead n (neighbour_count h) (V d n h y en eh ey ++ var ∷ []) x = λ is. absurd (
+      let no : is_transition_line text ≡ false = ap (λ (b : Bool). not (is_descriptor text) && not b) v ∙ and_false (not (is_descriptor text)) in
+      let z : true ≡ false = sym is ∙ no in let q : ⊥ = cc in q) in (
+        said_same name Open on' on oh' oh oy' oy _ _ _ _ (states_same d n h y en eh ey) (neighbors_same d n h y en eh ey) (symmetry_same d n h y en eh ey)
+            (vars ∙ ap (λ (vs : List Var). vs ++ var ∷ []) (sym (vars_are d n h y en eh ey))) lines,
+        stand_then d n h y en eh ey (subst (λ (vs : List Var). All (IsRead n (neighbour_count h) vs) (ts ++ x ∷ [])) (sym there)
+            (all_more (IsRead n (neighbour_count h) (V d n h y en eh ey ++ var ∷ [])) ts x kept.1 last)),
+      )
+    where
+      and_false : (b : Bool) → (b && false) ≡ false
+      and_false true = refl
+      and_false false = refl
+
+  says_transition : is_descriptor text ≡ false → (n : ℕ) (h : Neighborhood) (y : Symmetry) → on ≡ Some n → oh ≡ Some h → oy ≡ Some y → is_variable_line text ≡ false → (t : Transition)
+      → transition_of n (neighbour_count h) (variables_in on (texts_of ts)) number text ≡ Some t → SaysMore (Line t)
+  says_transition d n h y en eh ey v t e =
+      let w = nothing_written d n h y en eh ey v in
+      let vars : variables_in on' (texts_of (ts ++ x ∷ [])) ≡ V d n h y en eh ey = vars_then d n h y en eh ey [] w ∙ append-nil (V d n h y en eh ey) in
+      let read : transition_of n (neighbour_count h) (V d n h y en eh ey) number text ≡ Some t =
+      ap (λ (vs : List Var). transition_of n (neighbour_count h) vs number text) (sym (vars_are d n h y en eh ey)) ∙ e in
+      let lines = lines_then d n h y en eh ey (V d n h y en eh ey) vars
+      ∙ ap (λ (o : Option Transition). transitions_written n (neighbour_count h) (V d n h y en eh ey) ts ++ cons_option o []) (transition_there d n h y en eh ey (V d n h y en eh ey) v ∙ read)
+      ∙ ap (λ (ls : List Transition). ls ++ t ∷ []) (sym (lines_are d n h y en eh ey)) in
+      let there : variables_written n (texts_of (ts ++ x ∷ [])) ≡ V d n h y en eh ey = variables_more n ts x ∙ ap (λ (vs : List Var). V d n h y en eh ey ++ vs) w ∙ append-nil (V d n h y en eh ey) in (
+        said_same name Open on' on oh' oh oy' oy _ _ _ _ (states_same d n h y en eh ey) (neighbors_same d n h y en eh ey) (symmetry_same d n h y en eh ey)
+            (vars ∙ sym (vars_are d n h y en eh ey)) lines,
+        stand_then d n h y en eh ey (subst (λ (vs : List Var). All (IsRead n (neighbour_count h) vs) (ts ++ x ∷ [])) (sym there)
+            (all_more (IsRead n (neighbour_count h) (V d n h y en eh ey)) ts x (all_read d n h y en eh ey) (λ is. (t, read)))),
+      )
+
+  pub says_more : (told : Told) → Says (said_in name Open ts) number text told → SaysMore told
+  says_more told (states d k none n e is) = subst SaysMore (sym is) (says_states d k none n e)
+  says_more told (neighbors d s k none h e agree is) = subst SaysMore (sym is) (says_neighbors d s k none h e)
+  says_more told (orders d s m k none y e agree is) = subst SaysMore (sym is) (says_orders d s m k none y e)
+  says_more told (variable d n h y en eh ey v var e is) = subst SaysMore (sym is) (says_variable d n h y en eh ey v var e)
+  says_more told (transition d n h y en eh ey v t e bound quiet is) = subst SaysMore (sym is) (says_transition d n h y en eh ey v t e)

@@ -1,0 +1,241 @@
+-- One more text of the table: what it changes of what is said.
+use Rattle.std.proofs.Common.{◌≡◌, ℕ, ◌+◌, ◌<◌, List, [], ◌∷◌, ◌++◌, map, length, Bool, true, false, not, refl, ap, sym, ◌∙◌, ◌&&◌, ◌⊎◌, inl, inr, arith, cond, eqb, length-append}
+use Rattle.std.proofs.lemmas.Bool.{ltb-true, lt-ltb}
+use Rattle.std.specs.Prelude.{Option, Some, None, if◌then◌else◌, option_map, option_and_then, option_to_list, All, nat_lt, bytes_eq}
+use Rattle.std.specs.List.{fold, position_or_len, position, cons_option}
+use Rattle.std.proofs.lemmas.List.Folds.{position_or_len_push}
+use Rattle.std.proofs.lemmas.List.Sums.{fold-append}
+use Rattle.std.proofs.lemmas.List.Elements.{All-nil, All-cons, All-head, All-tail, filter_map-append}
+use Rattle.life_base.specs.Text.{is_digit_text}
+use Rattle.life_table.specs.Valid.{neighbour_count}
+use Rattle.life_table.specs.Reading.{Numbered, texts_of, first_some, value_by, describes_by, is_descriptor, key_of, setting_of, is_variable_line, variable_of, variables_written, variables_in, is_transition_line, transition_of, transition_from, entries_of, entry_of, all_some, transition_words, transitions_written, transitions_in, variable_named, number_below}
+use Rattle.life_table.specs.declared.table.Neighborhood.{Neighborhood}
+use Rattle.life_table.specs.declared.table.Var.{Var}
+use Rattle.life_table.specs.declared.table.Entry.{Entry}
+use Rattle.life_table.specs.declared.table.Entry.TheVariants as entries
+use Rattle.life_table.specs.declared.table.Transition.{Transition}
+
+known : (b : Bool) → (b ≡ true) ⊎ (b ≡ false)
+known true = inl refl
+known false = inr refl
+
+-- 1. Settings
+
+abbrev pub or_new : {X : Type 0} → Option X → Option X → Option X
+or_new None o = o
+or_new (Some x) o = Some x
+
+module _ {X : Type 0} (f : List ℕ → Option X) where
+  first_step : (o : Option X) (os : List (Option X)) (new : Option X) → first_some (os ++ new ∷ []) ≡ or_new (first_some os) new → first_some (o ∷ (os ++ new ∷ [])) ≡ or_new (first_some (o ∷ os)) new
+  first_step None os new ih = ih
+  first_step (Some x) os new ih = refl
+
+  first_end : (o : Option X) → first_some (o ∷ []) ≡ o
+  first_end None = refl
+  first_end (Some x) = refl
+
+  pub first_more : (ts : List Numbered) (x : Numbered) → first_some (map f (texts_of (ts ++ x ∷ []))) ≡ or_new (first_some (map f (texts_of ts))) (f x.1)
+  first_more [] x = first_end (f x.1)
+  first_more (t ∷ ts) x = first_again (f t.1) (first_some (map f (texts_of (ts ++ x ∷ [])))) (first_some (map f (texts_of ts))) (f x.1) (map f (texts_of (ts ++ x ∷ []))) (map f (texts_of ts)) refl refl (first_more ts x)
+    where
+      first_again : (o l r new : Option X) (ls rs : List (Option X)) → first_some ls ≡ l → first_some rs ≡ r → l ≡ or_new r new → first_some (o ∷ ls) ≡ or_new (first_some (o ∷ rs)) new
+      first_again None l r new ls rs el er e = el ∙ e ∙ ap (λ (q : Option X). or_new q new) (sym er)
+      first_again (Some y) l r new ls rs el er e = refl
+
+or_nothing : {X : Type 0} (o : Option X) → or_new o None ≡ o
+or_nothing None = refl
+or_nothing (Some x) = refl
+
+-- the value of a text that is no such descriptor
+pub value_none : {X : Type 0} (is_key : List ℕ → Bool) (named : List ℕ → Option X) (text : List ℕ) → describes_by is_key text ≡ false → value_by is_key named text ≡ None
+value_none is_key named text e = ap (λ (b : Bool). if b then named (setting_of text) else None) e
+
+pub value_some : {X : Type 0} (is_key : List ℕ → Bool) (named : List ℕ → Option X) (text : List ℕ) → describes_by is_key text ≡ true → value_by is_key named text ≡ named (setting_of text)
+value_some is_key named text e = ap (λ (b : Bool). if b then named (setting_of text) else None) e
+
+pub other_key : (is_key : List ℕ → Bool) (text : List ℕ) → is_key (key_of text) ≡ false → describes_by is_key text ≡ false
+other_key is_key text e = and_false (is_descriptor text) (is_key (key_of text)) e
+  where
+    and_false : (a b : Bool) → b ≡ false → (a && b) ≡ false
+    and_false true b e = e
+    and_false false b e = refl
+
+pub this_key : (is_key : List ℕ → Bool) (text : List ℕ) → is_descriptor text ≡ true → is_key (key_of text) ≡ true → describes_by is_key text ≡ true
+this_key is_key text d e = ap (λ (b : Bool). b && is_key (key_of text)) d ∙ e
+
+pub no_descriptor : (is_key : List ℕ → Bool) (text : List ℕ) → is_descriptor text ≡ false → describes_by is_key text ≡ false
+no_descriptor is_key text d = ap (λ (b : Bool). b && is_key (key_of text)) d
+
+module _ {X : Type 0} (is_key : List ℕ → Bool) (named : List ℕ → Option X) (ts : List Numbered) (x : Numbered) where
+  abbrev value_in : List Numbered → Option X
+  value_in qs = first_some (map (value_by is_key named) (texts_of qs))
+
+  pub setting_same : describes_by is_key x.1 ≡ false → value_in (ts ++ x ∷ []) ≡ value_in ts
+  setting_same e = first_more (value_by is_key named) ts x ∙ ap (or_new (value_in ts)) (value_none is_key named x.1 e) ∙ or_nothing (value_in ts)
+
+  pub setting_new : describes_by is_key x.1 ≡ true → value_in ts ≡ None → value_in (ts ++ x ∷ []) ≡ named (setting_of x.1)
+  setting_new e n = first_more (value_by is_key named) ts x ∙ ap (λ (o : Option X). or_new o (value_by is_key named x.1)) n ∙ value_some is_key named x.1 e
+
+-- 2. Variables
+
+abbrev pub written : ℕ → List Var → List ℕ → List Var
+written n vars text = if is_variable_line text && not (is_descriptor text) then option_to_list (variable_of n vars text) else []
+
+texts_more : (ts : List Numbered) (x : Numbered) → texts_of (ts ++ x ∷ []) ≡ texts_of ts ++ x.1 ∷ []
+texts_more [] x = refl
+texts_more (t ∷ ts) x = ap (λ (us : List (List ℕ)). t.1 ∷ us) (texts_more ts x)
+
+pub variables_more : (n : ℕ) (ts : List Numbered) (x : Numbered)
+    → variables_written n (texts_of (ts ++ x ∷ [])) ≡ variables_written n (texts_of ts) ++ written n (variables_written n (texts_of ts)) x.1
+variables_more n ts x =
+    ap (variables_written n) (texts_more ts x) ∙ fold-append (λ (vars : List Var) (text : List ℕ). vars ++ written n vars text) [] (texts_of ts) (x.1 ∷ [])
+
+-- 3. Transitions
+
+abbrev pub on_line : ℕ → ℕ → List Var → Numbered → Option Transition
+on_line n k vars text = if is_transition_line text.1 then transition_of n k vars text.0 text.1 else None
+
+pub transitions_more : (n k : ℕ) (vars : List Var) (ts : List Numbered) (x : Numbered)
+    → transitions_written n k vars (ts ++ x ∷ []) ≡ transitions_written n k vars ts ++ cons_option (on_line n k vars x) []
+transitions_more n k vars ts x = filter_map-append (on_line n k vars) ts (x ∷ [])
+
+-- 4. One more variable changes no entry that was read
+
+position_kept : (p : Var → Bool) (vars : List Var) (v : Var) (i : ℕ) → position p vars ≡ Some i → position p (vars ++ v ∷ []) ≡ Some i
+position_kept p vars v i h =
+    let w = in_front (nat_lt (position_or_len p vars) (length vars)) (position_or_len p vars) i h in
+    let below : position_or_len p vars < length vars = ltb-true _ _ w.0 in
+    let apart : eqb (position_or_len p vars) (length vars) ≡ false = grind (arith, below) in
+    let same : position_or_len p (vars ++ v ∷ []) ≡ position_or_len p vars =
+    position_or_len_push p vars v ∙ ap (λ (b : Bool). cond b (length vars + cond (p v) 0 1) (position_or_len p vars)) apart in
+    let longer : length (vars ++ v ∷ []) ≡ length vars + 1 = length-append vars (v ∷ []) in
+    let within : nat_lt (position_or_len p (vars ++ v ∷ [])) (length (vars ++ v ∷ [])) ≡ true = lt-ltb _ _ (omega (arith, same, longer, below)) in
+    ap (λ (b : Bool). cond b (Some (position_or_len p (vars ++ v ∷ []))) None) within ∙ ap Some (same ∙ w.1)
+  where
+    in_front : (b : Bool) (m i : ℕ) → cond b (Some m) None ≡ Some i → (b ≡ true) × (m ≡ i)
+    in_front true m i h = (refl, (let e : Some m ≡ Some i = h in cc))
+    in_front false m i h = absurd (let z : ⊥ = cc in z)
+
+map_kept : (o p : Option ℕ) (e : Entry) → ((i : ℕ) → o ≡ Some i → p ≡ Some i) → option_map entries.Var o ≡ Some e → option_map entries.Var p ≡ Some e
+map_kept None p e f h = absurd (let z : ⊥ = cc in z)
+map_kept (Some i) p e f h = ap (option_map entries.Var) (f i refl) ∙ h
+
+entry_by : (digits : Bool) (a o p : Option Entry) (e : Entry) → (o ≡ Some e → p ≡ Some e) → (if digits then a else o) ≡ Some e → (if digits then a else p) ≡ Some e
+entry_by true a o p e f h = h
+entry_by false a o p e f h = f h
+
+pub entry_kept : (n : ℕ) (vars : List Var) (v : Var) (word : List ℕ) (e : Entry) → entry_of n vars word ≡ Some e → entry_of n (vars ++ v ∷ []) word ≡ Some e
+unfolding entry_of
+entry_kept n vars v word e h =
+    entry_by (is_digit_text word) (option_map entries.Fixed (number_below n word)) (option_map entries.Var (variable_named vars word)) (option_map entries.Var (variable_named (vars ++ v ∷ []) word)) e
+    (map_kept (variable_named vars word) (variable_named (vars ++ v ∷ []) word) e (position_kept (λ (w : Var). bytes_eq w.name word) vars v)) h
+
+-- the first of the words is an entry, and the others are
+pub split_entries : (o : Option Entry) (os : List (Option Entry)) (es : List Entry) → all_some (o ∷ os) ≡ Some es
+    → (e : Entry) × (rest : List Entry) × (o ≡ Some e) × (all_some os ≡ Some rest) × (es ≡ e ∷ rest)
+split_entries None os es h = absurd (let z : ⊥ = cc in z)
+split_entries (Some e) os es h = split_again e (all_some os) es h
+  where
+    split_again : (e : Entry) (r : Option (List Entry)) (es : List Entry) → option_map (λ xs. e ∷ xs) r ≡ Some es → (f : Entry) × (rest : List Entry) × (Some e ≡ Some f) × (r ≡ Some rest) × (es ≡ f ∷ rest)
+    split_again e None es h = absurd (let z : ⊥ = cc in z)
+    split_again e (Some rest) es h = (e, rest, refl, refl, (let g : Some (e ∷ rest) ≡ Some es = h in cc))
+
+words_kept : (n : ℕ) (vars : List Var) (v : Var) (words : List (List ℕ)) (es : List Entry)
+    → all_some (map (entry_of n vars) words) ≡ Some es → all_some (map (entry_of n (vars ++ v ∷ [])) words) ≡ Some es
+words_kept n vars v [] es h = h
+words_kept n vars v (word ∷ words) es h =
+    let s = split_entries (entry_of n vars word) (map (entry_of n vars) words) es h in
+    let first = entry_kept n vars v word s.0 s.2 in
+    let rest = words_kept n vars v words s.1 s.3 in
+    ap (λ (o : Option Entry). all_some (o ∷ map (entry_of n (vars ++ v ∷ [])) words)) first ∙ ap (option_map (λ (xs : List Entry). s.0 ∷ xs)) rest ∙ ap Some (sym s.4)
+
+pub entries_kept : (n : ℕ) (vars : List Var) (v : Var) (text : List ℕ) (es : List Entry) → entries_of n vars text ≡ Some es → entries_of n (vars ++ v ∷ []) text ≡ Some es
+unfolding entries_of
+entries_kept n vars v text es h = words_kept n vars v (transition_words text) es h
+
+then_kept : (o p : Option (List Entry)) (f : List Entry → Option Transition) (t : Transition) → ((es : List Entry) → o ≡ Some es → p ≡ Some es) → option_and_then f o ≡ Some t → option_and_then f p ≡ Some t
+then_kept None p f t k h = absurd (let z : ⊥ = cc in z)
+then_kept (Some es) p f t k h = ap (option_and_then f) (k es refl) ∙ h
+
+pub transition_kept : (n k : ℕ) (vars : List Var) (v : Var) (number : ℕ) (text : List ℕ) (t : Transition)
+    → transition_of n k vars number text ≡ Some t → transition_of n k (vars ++ v ∷ []) number text ≡ Some t
+unfolding transition_of
+transition_kept n k vars v number text t h = then_kept (entries_of n vars text) (entries_of n (vars ++ v ∷ []) text) (transition_from k number) t (entries_kept n vars v text) h
+
+-- each transition's line is read
+abbrev pub IsRead : ℕ → ℕ → List Var → Numbered → Type 0
+IsRead n k vars text = is_transition_line text.1 ≡ true → (t : Transition) × (transition_of n k vars text.0 text.1 ≡ Some t)
+
+read_kept : (n k : ℕ) (vars : List Var) (v : Var) (text : Numbered) → IsRead n k vars text → IsRead n k (vars ++ v ∷ []) text
+read_kept n k vars v text r = λ is. let s = r is in (s.0, transition_kept n k vars v text.0 text.1 s.0 s.1)
+
+on_line_kept : (n k : ℕ) (vars : List Var) (v : Var) (b : Bool) (text : Numbered) → is_transition_line text.1 ≡ b → IsRead n k vars text → on_line n k (vars ++ v ∷ []) text ≡ on_line n k vars text
+on_line_kept n k vars v false text e r = rw e refl
+on_line_kept n k vars v true text e r =
+    let s = r e in
+    let a : on_line n k (vars ++ v ∷ []) text ≡ Some s.0 = rw e (transition_kept n k vars v text.0 text.1 s.0 s.1) in
+    let b : on_line n k vars text ≡ Some s.0 = rw e s.1 in
+    a ∙ sym b
+
+pub transitions_kept : (n k : ℕ) (vars : List Var) (v : Var) (ts : List Numbered) → All (IsRead n k vars) ts
+    → (transitions_written n k (vars ++ v ∷ []) ts ≡ transitions_written n k vars ts) × All (IsRead n k (vars ++ v ∷ [])) ts
+transitions_kept n k vars v [] h = (refl, All-nil (IsRead n k (vars ++ v ∷ [])))
+transitions_kept n k vars v (t ∷ ts) h =
+    let head = All-head (IsRead n k vars) t ts h in
+    let rest = transitions_kept n k vars v ts (All-tail (IsRead n k vars) t ts h) in (
+      ap (λ (o : Option Transition). cons_option o (transitions_written n k (vars ++ v ∷ []) ts)) (on_line_kept n k vars v (is_transition_line t.1) t refl head)
+          ∙ ap (cons_option (on_line n k vars t)) rest.0,
+      All-cons (IsRead n k (vars ++ v ∷ [])) t ts (read_kept n k vars v t head) rest.1,
+    )
+
+-- 5. Before all settings are given
+
+abbrev pub AreDescriptors : List Numbered → Type 0
+AreDescriptors ts = All (λ (t : Numbered). is_descriptor t.1 ≡ true) ts
+
+written_none : (n : ℕ) (vars : List Var) (text : List ℕ) → is_descriptor text ≡ true → written n vars text ≡ []
+written_none n vars text e = ap (λ (b : Bool). if b then option_to_list (variable_of n vars text) else []) (and_not (is_variable_line text) (is_descriptor text) e)
+  where
+    and_not : (a b : Bool) → b ≡ true → (a && not b) ≡ false
+    and_not true b e = ap not e
+    and_not false b e = refl
+
+no_variables_from : (n : ℕ) (ts : List Numbered) → AreDescriptors ts → fold (λ (vars : List Var) (text : List ℕ). vars ++ written n vars text) [] (texts_of ts) ≡ []
+no_variables_from n [] h = refl
+no_variables_from n (t ∷ ts) h =
+    let first : [] ++ written n [] t.1 ≡ [] = written_none n [] t.1 (All-head (λ (u : Numbered). is_descriptor u.1 ≡ true) t ts h) in
+    ap (λ (vars : List Var). fold (λ (vs : List Var) (text : List ℕ). vs ++ written n vs text) vars (texts_of ts)) first
+    ∙ no_variables_from n ts (All-tail (λ (u : Numbered). is_descriptor u.1 ≡ true) t ts h)
+
+pub no_variables : (on : Option ℕ) (ts : List Numbered) → AreDescriptors ts → variables_in on (texts_of ts) ≡ []
+no_variables None ts h = refl
+no_variables (Some n) ts h = no_variables_from n ts h
+
+no_transitions_written : (n k : ℕ) (vars : List Var) (ts : List Numbered) → AreDescriptors ts → transitions_written n k vars ts ≡ []
+no_transitions_written n k vars [] h = refl
+no_transitions_written n k vars (t ∷ ts) h =
+    let d = All-head (λ (u : Numbered). is_descriptor u.1 ≡ true) t ts h in
+    ap (λ (b : Bool). cons_option (if not b && not (is_variable_line t.1) then transition_of n k vars t.0 t.1 else None) (transitions_written n k vars ts)) d
+    ∙ no_transitions_written n k vars ts (All-tail (λ (u : Numbered). is_descriptor u.1 ≡ true) t ts h)
+
+pub no_transitions : (on : Option ℕ) (oh : Option Neighborhood) (vars : List Var) (ts : List Numbered) → AreDescriptors ts → transitions_in on oh vars ts ≡ []
+no_transitions None oh vars ts h = refl
+no_transitions (Some n) None vars ts h = refl
+no_transitions (Some n) (Some h) vars ts d = no_transitions_written n (neighbour_count h) vars ts d
+
+pub none_to_read : (n k : ℕ) (vars : List Var) (ts : List Numbered) → AreDescriptors ts → All (IsRead n k vars) ts
+none_to_read n k vars [] h = All-nil (IsRead n k vars)
+none_to_read n k vars (t ∷ ts) h =
+    let d = All-head (λ (u : Numbered). is_descriptor u.1 ≡ true) t ts h in
+    All-cons (IsRead n k vars) t ts (λ is. absurd (let e : false ≡ true = sym (ap (λ (b : Bool). not b && not (is_variable_line t.1)) d) ∙ is in let z : ⊥ = cc in z))
+    (none_to_read n k vars ts (All-tail (λ (u : Numbered). is_descriptor u.1 ≡ true) t ts h))
+
+pub descriptors_more : (ts : List Numbered) (x : Numbered) → AreDescriptors ts → is_descriptor x.1 ≡ true → AreDescriptors (ts ++ x ∷ [])
+descriptors_more [] x h e = All-cons (λ (u : Numbered). is_descriptor u.1 ≡ true) x [] e h
+descriptors_more (t ∷ ts) x h e =
+    All-cons (λ (u : Numbered). is_descriptor u.1 ≡ true) t (ts ++ x ∷ []) (All-head (λ (u : Numbered). is_descriptor u.1 ≡ true) t ts h)
+    (descriptors_more ts x (All-tail (λ (u : Numbered). is_descriptor u.1 ≡ true) t ts h) e)
+
+pub all_more : {X : Type 0} (P : X → Type 0) (xs : List X) (x : X) → All P xs → P x → All P (xs ++ x ∷ [])
+all_more P [] x h e = All-cons P x [] e h
+all_more P (y ∷ xs) x h e = All-cons P y (xs ++ x ∷ []) (All-head P y xs h) (all_more P xs x (All-tail P y xs h) e)

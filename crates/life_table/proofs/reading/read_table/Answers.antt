@@ -1,0 +1,67 @@
+use Rattle.std.proofs.Common.{rules, ◌≡◌, ◌++◌, ◌∷◌, ◌+◌, ◌-◌, ◌^◌, min, length, [], List, ℕ, Bool, map, sym, ◌∙◌, ap, subst, inl, inr, append_assoc, refl}
+use Rattle.std.specs.Prelude.{Err}
+use Rattle.std.proofs.lemmas.List.{map-append}
+use Rattle.std.proofs.lemmas.Result.{err_from_is_err_and}
+use Rattle.life_base.specs.Text.{lines_of, numbered_from}
+use Rattle.life_base.specs.Refusal.{OrMemory}
+use Rattle.life_base.specs.declared.fault.Fault.{Fault}
+use Rattle.life_table.specs.Reading.{Numbered, Refuses, told_by}
+use Rattle.life_table.specs.Reader.{nothing_said}
+use Rattle.life_table.specs.declared.said.Said.{Said}
+use Rattle.life_table.proofs.ReadLines.{Reads, reads_none, reads_more, next_number, refused_at, read_whole, refused_at_end, good_reads}
+use Rattle.life_table.proofs.reading.read_table.Invariants.{numbered}
+use Rattle.life_table.proofs.reading.read_table.Goals as goal
+
+pub loop-number-init : goal.loop-number-init
+loop-number-init c = record {
+  all = search rules;
+  reads = subst (λ (s : Said). Reads [] s c.new-reader.result.fits) (sym c.new-reader.ensures.said)
+      (subst (λ (b : Bool). Reads [] nothing_said b) (sym c.new-reader.ensures.fits) reads_none);
+  next = refl;
+}
+
+pub returns-in_err-take-clause-err : goal.returns-in_err-take-clause-err
+returns-in_err-take-clause-err c =
+    let p = err_from_is_err_and c.from_residual.result c.from_residual.ensures.1 in
+    let pairs : List Numbered = map numbered c.loop-number.yielded in
+    let fault : Fault = c.in_err-take.field-0.0 in
+    let told : OrMemory fault ((told_by c.loop-number.reader.said c.in-Some.number c.in-Some.line.now ≡ Err fault.kind) × (fault.place.line ≡ c.in-Some.number)) = c.in_err-take.ensures.err in
+    let all : pairs ++ (c.in-Some.number, c.in-Some.line.now) ∷ numbered_from c.next.new.self.number (lines_of c.next.new.self.rest.now) ≡ numbered_from 1 (lines_of c.args.bytes.now) =
+    ap (λ (t : List Numbered). pairs ++ t) (sym c.in-Some.ensures.steps) ∙ c.loop-number.invariant.all in
+    let answer : OrMemory fault (Refuses (lines_of c.args.bytes.now) fault) = elim told [
+      | inl m ↦ inl m
+      | inr w ↦ inr (refused_at (lines_of c.args.bytes.now) pairs c.in-Some.number c.in-Some.line.now _ all c.loop-number.reader.said c.loop-number.reader.fits c.loop-number.invariant.reads fault w.0 w.1)
+    ] in
+    rw (p.1, p.2) answer
+
+pub loop-number-preserved : goal.loop-number-preserved
+loop-number-preserved c =
+    let pairs : List Numbered = map numbered c.loop-number.yielded in
+    let lines : List (List ℕ) = lines_of c.args.bytes.now in
+    let number : ℕ = c.in-Some.number in
+    let line : List ℕ = c.in-Some.line.now in
+    let rest : List Numbered = numbered_from c.next.new.self.number (lines_of c.next.new.self.rest.now) in
+    let all : pairs ++ (number, line) ∷ rest ≡ numbered_from 1 lines = ap (λ (t : List Numbered). pairs ++ t) (sym c.in-Some.ensures.steps) ∙ c.loop-number.invariant.all in
+    let more : map numbered (c.loop-number.yielded ++ (c.in-Some.number, c.in-Some.line) ∷ []) ≡ pairs ++ (number, line) ∷ [] =
+    map-append numbered c.loop-number.yielded ((c.in-Some.number, c.in-Some.line) ∷ []) in
+    let ok = c.in_ok-take.ensures.ok in
+    record {
+      all = ap (λ (t : List Numbered). t ++ rest) more ∙ append_assoc pairs ((number, line) ∷ []) rest ∙ all;
+      reads = subst (λ (ps : List Numbered). Reads ps c.take.new.self.said c.take.new.self.fits) (sym more)
+          (reads_more lines pairs number line rest all c.loop-number.reader.said c.loop-number.reader.fits c.loop-number.invariant.reads ok.0 c.take.new.self.said c.take.new.self.fits ok.1 ok.2 ok.3);
+      next = next_number lines pairs number line rest all c.loop-number.reader.said c.loop-number.reader.fits c.loop-number.invariant.reads c.saturating_add-next.result c.saturating_add-next.ensures
+          ∙ ap (λ (ps : List Numbered). min (length ps + 1) (2 ^ 64 - 1)) (sym more);
+    }
+
+pub returns-in-Ok-clause-ok : goal.returns-in-Ok-clause-ok
+returns-in-Ok-clause-ok c =
+    read_whole (lines_of c.args.bytes.now) (map numbered c.loop-number.yielded) _ c.loop-number.invariant.all c.in-None.ensures.steps.0
+    c.loop-number.reader.said c.loop-number.reader.fits c.loop-number.invariant.reads c.in-Ok.table c.in-Ok.ensures.0 c.in-Ok.ensures.1
+
+pub returns-in-Err-clause-err : goal.returns-in-Err-clause-err
+returns-in-Err-clause-err c =
+    inr (refused_at_end (lines_of c.args.bytes.now) (map numbered c.loop-number.yielded) _ c.loop-number.invariant.all c.in-None.ensures.steps.0
+    c.loop-number.reader.said c.loop-number.reader.fits c.loop-number.invariant.reads c.in-Err.kind c.loop-number.next c.in-Err.ensures c.loop-number.invariant.next)
+
+pub table_of-requires : goal.table_of-requires
+table_of-requires c = record { good = good_reads (map numbered c.loop-number.yielded) c.loop-number.reader.said c.loop-number.reader.fits c.loop-number.invariant.reads }

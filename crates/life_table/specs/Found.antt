@@ -1,0 +1,48 @@
+-- What has been found of the states that a line gives.
+use Rattle.std.specs.Prelude.{◌≡◌, ◌≢◌, ℕ, ◌<◌, List, ◌∷◌, map, take, drop, length, slice_index, ◌⊎◌, ◌*◌, Bool, IsTrue}
+use Rattle.life_table.specs.Orders.{turn, reflected_turn}
+use Rattle.life_table.specs.Meaning.{IsChoice, state_of, count_of}
+use Rattle.life_table.specs.declared.table.Var.{Var}
+use Rattle.life_table.specs.declared.table.Entry.{Entry}
+use Rattle.life_table.specs.declared.table.Transition.{Transition}
+use Rattle.life_table.specs.declared.found.Found.{Found}
+use Rattle.life_table.specs.declared.found.Found.TheVariants.{Nothing, One, Two}
+
+-- nothing is given, or one state, or two different ones
+abbrev pub Tells : (ℕ → Type 0) → Found → Type 0
+Tells Given Nothing = (s : ℕ) → ¬ (Given s)
+Tells Given (One a) = Given a × ((s : ℕ) → Given s → s ≡ a)
+Tells Given Two = (s : ℕ) × (t : ℕ) × (s ≢ t) × Given s × Given t
+
+-- new tells of what old tells of and the given states together
+abbrev pub Adds : (ℕ → Type 0) → Found → Found → Type 0
+Adds Given Nothing new = Tells Given new
+Adds Given (One a) new = Tells (λ s. (s ≡ a) ⊎ Given s) new
+Adds Given Two new = new ≡ Two
+
+-- some choice makes these entries these states
+pub record Consistent (vars : List Var) (parts : List Entry) (states : List ℕ) : Type 0 where
+  pub choice : ℕ → ℕ
+  pub is_choice : IsChoice vars choice
+  pub values : map (state_of choice) parts ≡ states
+
+-- some choice makes the inputs these states, and the output s
+pub record GivesAs (vars : List Var) (line : Transition) (states : List ℕ) (s : ℕ) : Type 0 where
+  pub choice : ℕ → ℕ
+  pub is_choice : IsChoice vars choice
+  pub inputs : map (state_of choice) line.inputs ≡ states
+  pub output : state_of choice line.output ≡ s
+
+-- some choice makes the first inputs these states, gives each state as many of the others as are left, and makes the output s
+pub record GivesFrom (vars : List Var) (line : Transition) (given left : List ℕ) (s : ℕ) : Type 0 where
+  pub choice : ℕ → ℕ
+  pub is_choice : IsChoice vars choice
+  pub first : map (state_of choice) (take (length given) line.inputs) ≡ given
+  pub others : (t : ℕ) → count_of t (map (state_of choice) (drop (length given) line.inputs)) ≡ slice_index left t
+  pub output : state_of choice line.output ≡ s
+
+-- one of the first n turns by multiples of the step gives s, or one of the reflected ones where these count too
+pub record ImageGives (vars : List Var) (line : Transition) (centre : ℕ) (others : List ℕ) (step : ℕ) (reflect : Bool) (n s : ℕ) : Type 0 where
+  pub place : ℕ
+  pub below : place < n
+  pub gives : GivesAs vars line (centre ∷ turn others (place * step)) s ⊎ (IsTrue reflect × GivesAs vars line (centre ∷ reflected_turn others (place * step)) s)

@@ -1,0 +1,146 @@
+//! Descriptors: the number of states, the neighbourhood and the symmetry.
+
+ghost use Rattle.std.specs.Prelude.{◌≡◌};
+ghost use Rattle.life_table.specs.Reading.{states_named as states_by_name, neighborhood_named as neighborhood_by_name, symmetry_named as symmetry_by_name, agree as are_listed, if_states, if_neighborhood, if_symmetry, told_descriptor as told_by_descriptor, is_neighborhood_key as names_neighborhood};
+
+use crate::said::{Said, Told};
+use crate::table::{Neighborhood, Symmetry};
+use crate::words::{is_word, number_below, split_at_byte};
+use life_base::{Kind, trimmed};
+
+/// The number of states that a word writes.
+fn states_named(word: &[u8]) -> Option<u16>
+    ensures { result ≡ states_by_name word.now }
+{
+    match number_below(word, 257) {
+        Some(number) if 2 <= number => Some(number as u16),
+        _ => None,
+    }
+}
+
+/// The neighbourhood with this word.
+fn neighborhood_named(word: &[u8]) -> Option<Neighborhood>
+    ensures { result ≡ neighborhood_by_name word.now }
+{
+    if is_word(word, b"vonNeumann") {
+        Some(Neighborhood::VonNeumann)
+    } else if is_word(word, b"Moore") {
+        Some(Neighborhood::Moore)
+    } else {
+        None
+    }
+}
+
+/// The symmetry with this word.
+fn symmetry_named(word: &[u8]) -> Option<Symmetry>
+    ensures { result ≡ symmetry_by_name word.now }
+{
+    if is_word(word, b"none") {
+        Some(Symmetry::Identity)
+    } else if is_word(word, b"rotate4") {
+        Some(Symmetry::Rotate4)
+    } else if is_word(word, b"rotate4reflect") {
+        Some(Symmetry::Rotate4Reflect)
+    } else if is_word(word, b"reflect_horizontal") {
+        Some(Symmetry::ReflectHorizontal)
+    } else if is_word(word, b"permute") {
+        Some(Symmetry::Permute)
+    } else if is_word(word, b"rotate8") {
+        Some(Symmetry::Rotate8)
+    } else if is_word(word, b"rotate8reflect") {
+        Some(Symmetry::Rotate8Reflect)
+    } else {
+        None
+    }
+}
+
+/// Whether the symmetry is listed for the neighbourhood, where both are known.
+fn agree(neighborhood: Option<Neighborhood>, symmetry: Option<Symmetry>) -> bool
+    ensures { result ≡ are_listed neighborhood symmetry }
+{
+    match (neighborhood, symmetry) {
+        (Some(Neighborhood::VonNeumann), Some(Symmetry::Rotate8 | Symmetry::Rotate8Reflect)) =>
+            false,
+        _ => true,
+    }
+}
+
+/// What a number of states says, or which rule it breaks.
+fn told_states(word: &[u8]) -> Result<Told, Kind>
+    ensures { result ≡ if_states (states_by_name word.now) }
+{
+    match states_named(word) {
+        Some(number) => Ok(Told::States(number)),
+        None => Err(Kind::BadDescriptor),
+    }
+}
+
+/// The same of a neighbourhood behind this symmetry.
+fn told_neighborhood(symmetry: Option<Symmetry>, word: &[u8]) -> Result<Told, Kind>
+    ensures { result ≡ if_neighborhood symmetry (neighborhood_by_name word.now) }
+{
+    match neighborhood_named(word) {
+        Some(neighborhood) => {
+            if agree(Some(neighborhood), symmetry) {
+                Ok(Told::Neighbors(neighborhood))
+            } else {
+                Err(Kind::UnsupportedSymmetry)
+            }
+        }
+        None => Err(Kind::UnsupportedNeighborhood),
+    }
+}
+
+/// The same of a symmetry behind this neighbourhood.
+fn told_symmetry(neighborhood: Option<Neighborhood>, word: &[u8]) -> Result<Told, Kind>
+    ensures { result ≡ if_symmetry neighborhood (symmetry_by_name word.now) }
+{
+    match symmetry_named(word) {
+        Some(symmetry) => {
+            if agree(neighborhood, Some(symmetry)) {
+                Ok(Told::Orders(symmetry))
+            } else {
+                Err(Kind::UnsupportedSymmetry)
+            }
+        }
+        None => Err(Kind::UnsupportedSymmetry),
+    }
+}
+
+/// Whether a key stands before the neighbourhood.
+fn is_neighborhood_key(key: &[u8]) -> bool
+    ensures { result ≡ names_neighborhood key.now }
+{
+    is_word(key, b"neighborhood") || is_word(key, b"neighbourhood")
+}
+
+/// What a descriptor says, or which rule it breaks.
+#[tactic(auto, unfolding(crate::specs::Reading::told_descriptor))]
+pub(crate) fn told_descriptor(said: &Said, text: &[u8]) -> Result<Told, Kind>
+    ensures { result ≡ told_by_descriptor said.now.n_states said.now.neighborhood said.now.symmetry text.now }
+{
+    let (key, setting) = split_at_byte(text, b':');
+    let (key, word) = (trimmed(key), trimmed(setting));
+    if is_word(key, b"n_states") {
+        return if said.n_states.is_some() {
+            Err(Kind::BadDescriptor)
+        } else {
+            told_states(word)
+        };
+    }
+    if is_neighborhood_key(key) {
+        return if said.neighborhood.is_some() {
+            Err(Kind::BadDescriptor)
+        } else {
+            told_neighborhood(said.symmetry, word)
+        };
+    }
+    if is_word(key, b"symmetries") {
+        return if said.symmetry.is_some() {
+            Err(Kind::BadDescriptor)
+        } else {
+            told_symmetry(said.neighborhood, word)
+        };
+    }
+    Err(Kind::BadDescriptor)
+}

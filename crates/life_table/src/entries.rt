@@ -1,0 +1,169 @@
+//! Entries of variables and transitions.
+
+ghost use Rattle.std.specs.Prelude.{◌≡◌, ◌≤◌, List, map, IfOk, IfErr, option_map, option_and_then};
+ghost use Rattle.life_base.specs.declared.kind.Kind.TheVariants.{Memory};
+ghost use Rattle.life_table.specs.Reading.{entry_of as entry_by_word, variable_named as variable_by_name, single as set_of_one, union as union_of_two, states_of_entry as states_of_place, states_listed as states_in_list, entries_of as entries_on, all_some, between_commas, bytes_alone};
+
+use crate::table::{Entry, Var};
+use crate::words::{first_part, has_byte, number_below};
+use life_base::{Kind, State, is_digit_text, is_whitespace, trimmed};
+use std::alloc::Global;
+
+/// The number of the variable with this name.
+pub(crate) fn variable_named(vars: &[Var], word: &[u8]) -> Option<usize>
+    ensures { result ≡ variable_by_name vars.now word.now }
+{
+    vars.iter().position(|var| var.name.as_slice() == word)
+}
+
+/// The entry that a word writes.
+#[tactic(auto, unfolding(crate::specs::Reading::entry_of))]
+pub(crate) fn entry_of(n_states: u16, vars: &[Var], word: &[u8]) -> Option<Entry>
+    requires most { n_states ≤ 256 }
+    ensures { result ≡ entry_by_word n_states vars.now word.now }
+{
+    if is_digit_text(word) {
+        return match number_below(word, n_states as u64) {
+            Some(state) => Some(Entry::Fixed(state as State)),
+            None => None,
+        };
+    }
+    match variable_named(vars, word) {
+        Some(number) => Some(Entry::Var(number as u64)),
+        None => None,
+    }
+}
+
+/// The set of one state.
+fn single(state: State) -> [u64; 4]
+    ensures { result ≡ set_of_one state }
+{
+    let mut states = [0; 4];
+    states[state as usize / 64] = 1 << (state % 64);
+    states
+}
+
+/// Adds the states of another set.
+fn unite(states: &mut [u64; 4], more: &[u64; 4])
+    ensures { states.new ≡ union_of_two states.old more.now }
+{
+    *states = [
+        states[0] | more[0],
+        states[1] | more[1],
+        states[2] | more[2],
+        states[3] | more[3],
+    ];
+}
+
+/// The states of an entry.
+fn states_of_entry(vars: &[Var], entry: Entry) -> Option<[u64; 4]>
+    ensures { result ≡ states_of_place vars.now entry }
+{
+    match entry {
+        Entry::Fixed(state) => Some(single(state)),
+        Entry::Var(number) => match vars.get(number as usize) {
+            Some(var) => Some(var.states),
+            None => None,
+        },
+    }
+}
+
+/// The states of the entry that a word writes.
+fn states_named(n_states: u16, vars: &[Var], word: &[u8]) -> Option<[u64; 4]>
+    requires most { n_states ≤ 256 }
+    ensures { result ≡ option_and_then (states_of_place vars.now) (entry_by_word n_states vars.now word.now) }
+{
+    match entry_of(n_states, vars, word) {
+        Some(entry) => states_of_entry(vars, entry),
+        None => None,
+    }
+}
+
+/// The states of all entries in a list.
+#[tactic(auto, unfolding(crate::specs::Reading::states_listed))]
+pub(crate) fn states_listed(n_states: u16, vars: &[Var], list: &[u8]) -> Option<[u64; 4]>
+    requires most { n_states ≤ 256 }
+    ensures { result ≡ states_in_list n_states vars.now list.now }
+{
+    let mut states = [0; 4];
+    let mut rest = Some(list);
+    while let Some(left) = rest {
+        let (word, behind) = first_part(left);
+        match states_named(n_states, vars, trimmed(word)) {
+            Some(more) => unite(&mut states, &more),
+            None => return None,
+        }
+        rest = behind;
+    }
+    Some(states)
+}
+
+/// The entries of a text between its commas, if each is one.
+fn entries_between_commas(
+    alloc: Global,
+    n_states: u16,
+    vars: &[Var],
+    text: &[u8],
+) -> Result<Option<Vec<Entry>>, Kind>
+    requires most { n_states ≤ 256 }
+    ensures ok { IfOk result (λ found. option_map (λ entries. entries.items) found ≡ all_some (map (entry_by_word n_states vars.now) (between_commas text.now))) }
+    ensures err { IfErr result (λ kind. kind ≡ Memory) }
+{
+    let mut entries = Vec::new(alloc);
+    let mut rest = Some(text);
+    while let Some(left) = rest {
+        let (word, more) = first_part(left);
+        let Some(entry) = entry_of(n_states, vars, trimmed(word)) else {
+            return Ok(None);
+        };
+        if entries.push(entry).is_err() {
+            return Err(Kind::Memory);
+        }
+        rest = more;
+    }
+    Ok(Some(entries))
+}
+
+/// The entries of a text without commas, one for each byte that isn't whitespace, if each is one.
+fn entries_of_bytes(
+    alloc: Global,
+    n_states: u16,
+    vars: &[Var],
+    text: &[u8],
+) -> Result<Option<Vec<Entry>>, Kind>
+    requires most { n_states ≤ 256 }
+    ensures ok { IfOk result (λ found. option_map (λ entries. entries.items) found ≡ all_some (map (entry_by_word n_states vars.now) (bytes_alone text.now))) }
+    ensures err { IfErr result (λ kind. kind ≡ Memory) }
+{
+    let mut entries = Vec::new(alloc);
+    for byte in text {
+        if !is_whitespace(*byte) {
+            let Some(entry) = entry_of(n_states, vars, &[*byte]) else {
+                return Ok(None);
+            };
+            if entries.push(entry).is_err() {
+                return Err(Kind::Memory);
+            }
+        }
+    }
+    Ok(Some(entries))
+}
+
+/// The entries of a transition, if each of its words is one.
+#[tactic(auto, unfolding(crate::specs::Reading::entries_of))]
+pub(crate) fn entries_of(
+    alloc: Global,
+    n_states: u16,
+    vars: &[Var],
+    text: &[u8],
+) -> Result<Option<Vec<Entry>>, Kind>
+    requires most { n_states ≤ 256 }
+    ensures ok { IfOk result (λ found. option_map (λ entries. entries.items) found ≡ entries_on n_states vars.now text.now) }
+    ensures err { IfErr result (λ kind. kind ≡ Memory) }
+{
+    if has_byte(text, b',') {
+        entries_between_commas(alloc, n_states, vars, text)
+    } else {
+        entries_of_bytes(alloc, n_states, vars, text)
+    }
+}

@@ -1,0 +1,85 @@
+//! What a table makes of a cell and its neighbours.
+ghost use Rattle.std.specs.Prelude.{◌≡◌, ℕ, ◌+◌, ◌<◌, ◌≤◌, length, take, drop, All, MatchResult, slice_index, List, [], IsTrue};
+ghost use Rattle.std.specs.List.{list_any};
+ghost use Rattle.life_table.specs.Found.{Tells, Consistent};
+ghost use Rattle.life_table.specs.Meaning.{Gives, Decides, Becomes, Ambiguous};
+ghost use Rattle.life_table.specs.Valid.{IsEntry, is_variable, neighbour_count};
+ghost use Rattle.life_table.specs.Around.{cells_of};
+
+use crate::choose::by_counts;
+use crate::found::Found;
+use crate::table::{Entry, Symmetry, Table, Transition, Var};
+use crate::turn::by_turns;
+use life_base::{Fault, Kind, Place, State};
+
+/// A cell and its neighbours: the centre first, then from north clockwise.
+#[derive(Clone, Copy, Debug, PartialEq, Eq)]
+pub enum Neighbours {
+    Four([State; 5]),
+    Eight([State; 9]),
+}
+
+impl Neighbours {
+    /// The states, the centre's first.
+    pub fn as_slice(&self) -> &[State]
+        ensures { result.now ≡ cells_of self.now }
+    {
+        match self {
+            Neighbours::Four(cells) => cells,
+            Neighbours::Eight(cells) => cells,
+        }
+    }
+}
+
+/// The states that a line gives at one cell: none, one or two.
+pub(crate) fn given_by(
+    symmetry: Symmetry,
+    vars: &[Var],
+    line: &Transition,
+    cells: &[State],
+) -> Found
+    requires count { length line.now.inputs ≡ length cells.now }
+    requires some { 4 < length cells.now }
+    requires room { length cells.now ≤ 9 }
+    requires entries { All (IsEntry 256 vars.now) line.now.inputs }
+    requires bound { (i : ℕ) → line.now.output ≡ Entry.Var i → IsTrue (list_any (is_variable i) line.now.inputs) }
+    requires choosable { Consistent vars.now [] [] }
+    ensures { Tells (Gives symmetry vars.now line.now (slice_index cells.now 0) (drop 1 cells.now)) result }
+{
+    let n = cells.len() - 1;
+    match symmetry {
+        Symmetry::Identity => by_turns(vars, line, cells, n, false),
+        Symmetry::Rotate4 => by_turns(vars, line, cells, n / 4, false),
+        Symmetry::Rotate4Reflect => by_turns(vars, line, cells, n / 4, true),
+        Symmetry::ReflectHorizontal => by_turns(vars, line, cells, n, true),
+        Symmetry::Permute => by_counts(vars, line, cells),
+        Symmetry::Rotate8 => by_turns(vars, line, cells, 1, false),
+        Symmetry::Rotate8Reflect => by_turns(vars, line, cells, 1, true),
+    }
+}
+
+impl Table {
+    /// The next state of a cell, by the first line that gives anything.
+    pub fn next(&self, around: &Neighbours) -> Result<State, Fault>
+        requires neighbours { length (cells_of around.now) ≡ neighbour_count self.now.neighborhood + 1 }
+        requires states { All (λ s. s < self.now.n_states) (cells_of around.now) }
+        ensures { MatchResult result
+            (λ s. Decides self.now.symmetry self.now.vars (slice_index (cells_of around.now) 0) (drop 1 (cells_of around.now)) self.now.lines (Becomes s))
+            (λ fault. (fault.kind ≡ Kind.Ambiguous) × Decides self.now.symmetry self.now.vars (slice_index (cells_of around.now) 0) (drop 1 (cells_of around.now)) self.now.lines (Ambiguous fault.place.line)) }
+    {
+        let cells = around.as_slice();
+        for line in self.lines.as_slice() {
+            match given_by(self.symmetry, self.vars.as_slice(), line, cells) {
+                Found::Nothing => {}
+                Found::One(state) => return Ok(state),
+                Found::Two => {
+                    return Err(Fault {
+                        place: Place { line: line.line },
+                        kind: Kind::Ambiguous,
+                    });
+                }
+            }
+        }
+        Ok(cells[0])
+    }
+}

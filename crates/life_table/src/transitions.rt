@@ -1,0 +1,133 @@
+//! Transitions of a rule table.
+
+ghost use Rattle.std.specs.Prelude.{◌≡◌, ◌≤◌, List, IfOk, IfErr, Some, true, not, ◌||◌};
+ghost use Rattle.std.specs.List.{list_any, list_all};
+ghost use Rattle.life_base.specs.declared.kind.Kind.TheVariants.{Memory};
+ghost use Rattle.life_table.specs.Reading.{transition_of as transition_on, is_bound as has_input, if_transition};
+ghost use Rattle.life_table.specs.Valid.{neighbour_count as neighbours_in, is_variable as names, allows_zero as may_be_zero, fits_zero as fits_zeros, is_quiet_output as may_stay_zero, is_quiet};
+
+use crate::choose::has_state;
+use crate::entries::entries_of;
+use crate::said::Told;
+use crate::table::{Entry, Neighborhood, Transition, Var};
+use life_base::{Items, Kind};
+use std::alloc::Global;
+
+/// How many neighbours a cell has.
+pub(crate) fn neighbour_count(neighborhood: Neighborhood) -> usize
+    ensures { result ≡ neighbours_in neighborhood }
+{
+    match neighborhood {
+        Neighborhood::VonNeumann => 4,
+        Neighborhood::Moore => 8,
+    }
+}
+
+/// The transition that a line writes, if it writes one.
+#[tactic(auto, unfolding(crate::specs::Reading::transition_of))]
+pub(crate) fn transition_of(
+    alloc: Global,
+    n_states: u16,
+    neighborhood: Neighborhood,
+    vars: &[Var],
+    number: u64,
+    text: &[u8],
+) -> Result<Option<Transition>, Kind>
+    requires most { n_states ≤ 256 }
+    ensures ok { IfOk result (λ found. found ≡ transition_on n_states (neighbours_in neighborhood) vars.now number text.now) }
+    ensures err { IfErr result (λ kind. kind ≡ Memory) }
+{
+    let Some(mut parts) = entries_of(alloc, n_states, vars, text)? else {
+        return Ok(None);
+    };
+    if parts.len() != neighbour_count(neighborhood) + 2 {
+        return Ok(None);
+    }
+    match parts.pop() {
+        Some(output) => Ok(Some(Transition {
+            line: number,
+            inputs: Items::from_vec(parts),
+            output,
+        })),
+        None => Ok(None),
+    }
+}
+
+/// Whether an entry is the variable with this number.
+fn is_variable(number: u64, entry: Entry) -> bool
+    ensures { result ≡ names number entry }
+{
+    match entry {
+        Entry::Fixed(_) => false,
+        Entry::Var(other) => number == other,
+    }
+}
+
+/// Whether one of the entries is the variable with this number.
+fn has_variable(number: u64, entries: &[Entry]) -> bool
+    ensures { result ≡ list_any (names number) entries.now }
+{
+    entries.iter().any(|entry| is_variable(number, *entry))
+}
+
+/// Whether an output variable is an input.
+fn is_bound(inputs: &[Entry], output: Entry) -> bool
+    ensures { result ≡ has_input inputs.now output }
+{
+    match output {
+        Entry::Fixed(_) => true,
+        Entry::Var(number) => has_variable(number, inputs),
+    }
+}
+
+/// Whether an entry may be 0.
+fn allows_zero(vars: &[Var], entry: Entry) -> bool
+    ensures { result ≡ may_be_zero vars.now entry }
+{
+    match entry {
+        Entry::Fixed(state) => state == 0,
+        Entry::Var(number) => match vars.get(number as usize) {
+            Some(var) => has_state(var, 0),
+            None => false,
+        },
+    }
+}
+
+/// Whether the transition fits the neighbourhood in which each cell is 0.
+pub(crate) fn fits_zero(vars: &[Var], inputs: &[Entry]) -> bool
+    ensures { result ≡ list_all (may_be_zero vars.now) inputs.now }
+{
+    inputs.iter().all(|entry| allows_zero(vars, *entry))
+}
+
+/// Whether an output is no fixed state but 0.
+fn is_quiet_output(output: Entry) -> bool
+    ensures { result ≡ may_stay_zero output }
+{
+    match output {
+        Entry::Fixed(state) => state == 0,
+        Entry::Var(_) => true,
+    }
+}
+
+/// Whether a transition keeps the table quiet, where this tells whether an earlier one fits the neighbourhood in which each cell is 0.
+fn stays_quiet(vars: &[Var], fits: bool, line: &Transition) -> bool
+    ensures { result ≡ (fits || not (fits_zeros vars.now line.now) || may_stay_zero line.now.output) }
+{
+    fits || !fits_zero(vars, line.inputs.as_slice()) || is_quiet_output(line.output)
+}
+
+/// What a transition says behind others, or which rule it breaks. `fits` tells whether one of those fits the neighbourhood in which
+/// each cell is 0.
+pub(crate) fn told_transition(vars: &[Var], fits: bool, line: Transition) -> Result<Told, Kind>
+    ensures { (earlier : List Transition) → fits ≡ list_any (fits_zeros vars.now) earlier → is_quiet vars.now earlier ≡ true
+        → result ≡ if_transition vars.now earlier (Some line) }
+{
+    if !is_bound(line.inputs.as_slice(), line.output) {
+        return Err(Kind::UnboundOutput);
+    }
+    if stays_quiet(vars, fits, &line) {
+        return Ok(Told::Line(line));
+    }
+    Err(Kind::NotQuiet)
+}

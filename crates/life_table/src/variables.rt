@@ -1,0 +1,101 @@
+//! Variables of a rule table.
+
+ghost use Rattle.std.specs.Prelude.{◌≡◌, ◌≤◌, length, MatchOption, IfOk, IfErr, true, false};
+ghost use Rattle.std.specs.List.{list_all};
+ghost use Rattle.life_base.specs.declared.kind.Kind.TheVariants.{Memory};
+ghost use Rattle.life_table.specs.Reading.{is_variable_line as begins_variable, is_name_byte as may_name, is_variable_name as names_variable, is_list, within_braces as list_within, variable_states as states_of_new, variable_of as variable_on};
+
+use crate::entries::{states_listed, variable_named};
+use crate::table::Var;
+use crate::words::{has_byte, split_at_byte};
+use life_base::{Items, Kind, is_whitespace, trimmed};
+use std::alloc::Global;
+
+/// Whether a line is `var` and whitespace, followed by more.
+pub(crate) fn is_variable_line(text: &[u8]) -> bool
+    ensures { result ≡ begins_variable text.now }
+{
+    match text {
+        [b'v', b'a', b'r', next, ..] => is_whitespace(*next),
+        _ => false,
+    }
+}
+
+/// Whether a variable's name may have the byte.
+fn is_name_byte(byte: u8) -> bool
+    ensures { result ≡ may_name byte }
+{
+    33 <= byte && byte <= 126 && !has_byte(b",={}:#@", byte)
+}
+
+/// Whether each byte may stand in a variable's name.
+fn are_name_bytes(word: &[u8]) -> bool
+    ensures { result ≡ list_all may_name word.now }
+{
+    word.iter().all(|byte| is_name_byte(*byte))
+}
+
+/// Whether a word may name a variable.
+fn is_variable_name(word: &[u8]) -> bool
+    ensures { result ≡ names_variable word.now }
+{
+    match word {
+        [] => false,
+        [first, ..] => are_name_bytes(word) && !first.is_ascii_digit(),
+    }
+}
+
+/// What stands between the braces of a list.
+fn within_braces(text: &[u8]) -> Option<&[u8]>
+    ensures { MatchOption result (is_list text.now ≡ false) (λ within. (is_list text.now ≡ true) × (within.now ≡ list_within text.now)) }
+{
+    match text {
+        [b'{', within @ .., b'}'] => Some(within),
+        _ => None,
+    }
+}
+
+/// The states of a new variable with this name and list, if both are of their form.
+#[tactic(auto, unfolding(crate::specs::Reading::variable_states))]
+fn variable_states(n_states: u16, vars: &[Var], name: &[u8], list: &[u8]) -> Option<[u64; 4]>
+    requires most { n_states ≤ 256 }
+    ensures { result ≡ states_of_new n_states vars.now name.now list.now }
+{
+    if !is_variable_name(name) {
+        return None;
+    }
+    if variable_named(vars, name).is_some() {
+        return None;
+    }
+    match within_braces(list) {
+        Some(within) => states_listed(n_states, vars, within),
+        None => None,
+    }
+}
+
+/// The variable that a line writes behind these variables, if it writes one.
+#[tactic(auto, using(crate::proofs::Parts::all_behind), unfolding(crate::specs::Reading::variable_of))]
+pub(crate) fn variable_of(
+    alloc: Global,
+    n_states: u16,
+    vars: &[Var],
+    text: &[u8],
+) -> Result<Option<Var>, Kind>
+    requires most { n_states ≤ 256 }
+    requires long { 3 ≤ length text.now }
+    ensures ok { IfOk result (λ found. found ≡ variable_on n_states vars.now text.now) }
+    ensures err { IfErr result (λ kind. kind ≡ Memory) }
+{
+    let (before, behind) = split_at_byte(&text[3..], b'=');
+    let name = trimmed(before);
+    let Some(states) = variable_states(n_states, vars, name, trimmed(behind)) else {
+        return Ok(None);
+    };
+    match Vec::from_slice(alloc, name) {
+        Ok(bytes) => Ok(Some(Var {
+            name: Items::from_vec(bytes),
+            states,
+        })),
+        Err(_) => Err(Kind::Memory),
+    }
+}
