@@ -17,5 +17,8 @@ pub mod Lines
 pub mod ReadBack
 pub mod OneLine
 pub mod ReadPosition
+pub mod BoxOnto
+pub mod PutItems
+pub mod TakeCells
 pub mod LineKinds
 pub mod Stands

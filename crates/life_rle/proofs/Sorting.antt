@@ -1,9 +1,10 @@
 -- Sorted cells follow each other from the corner of their box, and items in the plane are sound.
-use Rattle.std.proofs.Common.{◌≡◌, ℕ, ◌⊎◌, inl, inr, true, false, not, cond, ◌&&◌, ◌||◌, List, [], ◌∷◌, refl, sym, ap, ◌∙◌, Some, None, ℤ, pos, neg_ℤ, ◌+ℤ◌, ◌≤ℤ◌, ◌<ℤ◌, arith, ltb}
+use Rattle.std.proofs.Common.{◌≡◌, ℕ, ◌<◌, ◌⊎◌, inl, inr, true, false, not, cond, ◌&&◌, ◌||◌, List, [], ◌∷◌, refl, sym, ap, ◌∙◌, Some, None, ℤ, pos, neg_ℤ, ◌+ℤ◌, ◌≤ℤ◌, ◌<ℤ◌, arith, ltb}
 use Rattle.std.specs.Prelude.{int_lt, int_le}
 use Rattle.std.specs.Ordering.{int_eq}
 use Rattle.std.specs.Int.{int_min}
 use Rattle.std.proofs.lemmas.Int.{ints}
+use Rattle.std.proofs.lemmas.Bool.Decides.{nat_tests}
 use Rattle.life_base.specs.declared.kind.Kind.TheVariants.{StateRange, OutOfPlane}
 use Rattle.life_base.specs.declared.cell.Cell.{Cell}
 use Rattle.life_base.specs.declared.rule.Rule.{Rule}
@@ -17,7 +18,8 @@ use Rattle.life_rle.specs.Sorted.{is_live_cell, rises, are_sorted_cells}
 use Rattle.life_rle.proofs.Texts.{both_true}
 use Rattle.life_rle.proofs.Places.{placed_from}
 use Rattle.life_rle.proofs.Lines.{AreWritten}
-use Rattle.life_rle.proofs.CellsLaw.{AreGood, IsGoodCell, Follow}
+use Rattle.life_rle.specs.Writing.{IsGoodCell, Follow}
+use Rattle.life_rle.proofs.CellsLaw.{AreGood}
 use Rattle.life_base.specs.declared.cell.TheConstants.{MAX_LEVEL}
 
 -- good items can be written
@@ -58,7 +60,9 @@ live-good rule c h =
     let state = both_true (ltb 0 c.state) (is_state_of rule c.state) parts.1 in
     let x = coordinate-range c.x place.0 in
     let y = coordinate-range c.y place.1 in
-    record { left = x.0; right = x.1; top = y.0; bottom = y.1; state = state.1 }
+    let some = state.0 in
+    let live : 0 < c.state = grind (arith, nat_tests) in
+    record { left = x.0; right = x.1; top = y.0; bottom = y.1; state = state.1; live = live }
 
 -- each cell's column is no less
 abbrev pub AllRight : ℤ → List Cell → Type 0

@@ -7,25 +7,20 @@ use Rattle.life_base.specs.declared.cell.Cell.{Cell}
 use Rattle.life_base.specs.declared.rule.Rule.{Rule}
 use Rattle.life_base.specs.Rules.{rule_text}
 use Rattle.life_rle.specs.States.{state_text}
+use Rattle.life_rle.specs.declared.bounds.Bounds.{Bounds}
 use Rattle.life_rle.specs.declared.item.Item.{Item}
 use Rattle.life_rle.specs.declared.item.Item.TheVariants.{Cells, RowEnds}
 
--- the least box around cells that are not blank
-pub record Box : Type 0 where
-  pub left : ℤ
-  pub top : ℤ
-  pub right : ℤ
-  pub bottom : ℤ
-
-abbrev pub box_of_cell : Cell → Box
+-- the box of one cell
+abbrev pub box_of_cell : Cell → Bounds
 box_of_cell c = record { left = c.x; top = c.y; right = c.x; bottom = c.y }
 
 -- the least box around both
-abbrev pub joined : Box → Box → Box
+abbrev pub joined : Bounds → Bounds → Bounds
 joined a b = record { left = int_min a.left b.left; top = int_min a.top b.top; right = int_max a.right b.right; bottom = int_max a.bottom b.bottom }
 
 -- the least box around a cell and more cells
-abbrev pub box_of : Cell → List Cell → Box
+abbrev pub box_of : Cell → List Cell → Bounds
 box_of c [] = box_of_cell c
 box_of c (d ∷ cells) = joined (box_of_cell c) (box_of d cells)
 
@@ -81,7 +76,7 @@ header_text width height rule = ((codes "x = " ++ decimal width) ++ (codes ", y 
 abbrev pub span : ℤ → ℤ → ℕ
 span low high = nat_abs (high -ℤ low) + 1
 
-abbrev pub lines_in_box : Rule → ℕ → Box → List Cell → List (List ℕ)
+abbrev pub lines_in_box : Rule → ℕ → Bounds → List Cell → List (List ℕ)
 lines_in_box rule generation box cells =
     position_text box.left box.top generation
     ∷ header_text (span box.left box.right) (span box.top box.bottom) rule

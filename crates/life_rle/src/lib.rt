@@ -1,6 +1,7 @@
 //! Patterns in extended RLE, read and written.
 #![tactic(auto)]
 
+mod bounds;
 mod cursor;
 mod file;
 mod header;
@@ -9,10 +10,12 @@ pub mod laws;
 mod line_items;
 mod opening;
 mod plane;
+mod pen;
 mod position;
 mod reader;
 //mod reading;
 mod sorted;
+mod wrapping;
 mod writing;
 
 pub use file::{RleFile, Run};
