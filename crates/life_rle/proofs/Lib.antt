@@ -18,6 +18,10 @@ pub mod ReadBack
 pub mod OneLine
 pub mod ReadPosition
 pub mod BoxOnto
+pub mod RuleTexts
+pub mod StatesRead
+pub mod GreedyLines
+pub mod TextBack
 pub mod PutItems
 pub mod TakeCells
 pub mod LineKinds

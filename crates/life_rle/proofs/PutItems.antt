@@ -7,7 +7,7 @@ use Rattle.life_base.specs.declared.rule.Rule.{Rule}
 use Rattle.life_rle.specs.declared.item.Item.{Item}
 use Rattle.life_rle.specs.declared.item.Item.TheVariants.{Cells, RowEnds}
 use Rattle.life_rle.specs.Cursor.{item_count}
-use Rattle.life_rle.specs.Written.{count_text, item_text, wrapped, with_gap}
+use Rattle.life_rle.specs.Written.{count_text, item_text, item_lines, wrapped, with_gap}
 use Rattle.life_rle.specs.Writing.{tag_text, feed, used_behind, text_from, items_text, Puts}
 use Rattle.life_rle.proofs.Lines.{state_text-short}
 
@@ -69,3 +69,18 @@ wrapped-text line (text ∷ texts) =
         ≡ line ++ (cond t [] (10 ∷ []) ++ (text ++ text_from (cond t (length line + length text) (length text)) texts)))
     [ true ↦ wrapped-text (line ++ text) texts ∙ append_assoc line text (text_from (length (line ++ text)) texts) ∙ ap (λ n. line ++ (text ++ text_from n texts)) (length-append line text)
     | false ↦ append_assoc line (10 ∷ []) (flat_map (λ line. line ++ 10 ∷ []) (wrapped text texts)) ∙ ap (λ t. line ++ (10 ∷ t)) (wrapped-text text texts) ]
+
+-- two lines in front, and items
+pub lines-text : (position header : List ℕ) (rule : Rule) (items : List Item) (old first second new : List ℕ) → first ≡ old ++ (position ++ 10 ∷ []) → second ≡ first ++ (header ++ 10 ∷ [])
+    → new ≡ second ++ items_text rule 0 items → new ≡ old ++ flat_map (λ line. line ++ 10 ∷ []) (position ∷ header ∷ item_lines rule items)
+lines-text position header rule items old first second new a b e =
+    let rest = items_text rule 0 items in
+    e ∙ ap (λ t. t ++ rest) (b ∙ ap (λ t. t ++ (header ++ 10 ∷ [])) a)
+    ∙ append_assoc (old ++ (position ++ 10 ∷ [])) (header ++ 10 ∷ []) rest
+    ∙ append_assoc old (position ++ 10 ∷ []) ((header ++ 10 ∷ []) ++ rest)
+    ∙ ap (λ t. old ++ ((position ++ 10 ∷ []) ++ ((header ++ 10 ∷ []) ++ t))) (sym (wrapped-text [] (map (item_text rule) items ++ (33 ∷ []) ∷ [])))
+
+-- four texts, one behind the other
+pub four-texts : (a b c d old first second third new : List ℕ) → first ≡ old ++ a → second ≡ first ++ b → third ≡ second ++ c → new ≡ third ++ d → new ≡ old ++ (((a ++ b) ++ c) ++ d)
+four-texts a b c d old first second third new e f g h =
+    h ∙ ap (λ t. t ++ d) (g ∙ ap (λ t. t ++ c) (f ∙ ap (λ t. t ++ b) e ∙ append_assoc old a b) ∙ append_assoc old (a ++ b) c) ∙ append_assoc old ((a ++ b) ++ c) d

@@ -85,6 +85,15 @@ abbrev pub Follow : Rule → ℤ → ℤ → ℤ → List Cell → Type 0
 Follow rule left x y [] = Unit {0}
 Follow rule left x y (c ∷ cells) = IsGoodCell rule c × IsAhead left x y c × Follow rule left (c.x +ℤ pos 1) c.y cells
 
+-- a box of the plane
+pub record IsInPlane (box : Bounds) : Type 0 where
+  pub left : neg_ℤ (edge MAX_LEVEL) ≤ℤ box.left
+  pub wide : box.left ≤ℤ box.right
+  pub right : box.right <ℤ edge MAX_LEVEL
+  pub top : neg_ℤ (edge MAX_LEVEL) ≤ℤ box.top
+  pub high : box.top ≤ℤ box.bottom
+  pub bottom : box.bottom <ℤ edge MAX_LEVEL
+
 -- the least box around a box and cells
 abbrev pub bounds_onto : Bounds → List Cell → Bounds
 bounds_onto box [] = box

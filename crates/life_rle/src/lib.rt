@@ -15,6 +15,8 @@ mod position;
 mod reader;
 //mod reading;
 mod sorted;
+#[cfg(test)]
+mod tests;
 mod wrapping;
 mod writing;
 

@@ -114,13 +114,23 @@ fn cells_ahead(pen: Pen, cell: &Cell) -> u64
 }
 
 /// How many dead cells lie in front of a cell that is the first of its row.
-fn cells_in_front(left: i64, cell: &Cell) -> u64
-    requires left { neg_ℤ (edge MAX_LEVEL) ≤ℤ left }
+fn cells_in_front(pen: Pen, cell: &Cell) -> u64
+    requires pen { IsPen pen }
     requires cell { cell.now.x <ℤ edge MAX_LEVEL }
-    requires rises { left ≤ℤ cell.now.x }
-    ensures { result ≡ nat_abs (cell.now.x -ℤ left) }
+    requires rises { pen.left ≤ℤ cell.now.x }
+    ensures { result ≡ nat_abs (cell.now.x -ℤ pen.left) }
 {
-    distance(left, cell.x)
+    distance(pen.left, cell.x)
+}
+
+/// How many dead cells lie in front of the first cell.
+fn first_gap(bounds: Bounds, cell: &Cell) -> u64
+    requires left { neg_ℤ (edge MAX_LEVEL) ≤ℤ bounds.left }
+    requires cell { cell.now.x <ℤ edge MAX_LEVEL }
+    requires rises { bounds.left ≤ℤ cell.now.x }
+    ensures { result ≡ nat_abs (cell.now.x -ℤ bounds.left) }
+{
+    distance(bounds.left, cell.x)
 }
 
 /// Writes what stands between the pen's run and a cell ahead of it.
@@ -143,7 +153,7 @@ fn put_way(
         return put_gap(out, rule, used, cells_ahead(pen, cell));
     }
     let next = put_item(out, rule, used, Item::RowEnds { count })?;
-    put_gap(out, rule, next, cells_in_front(pen.left, cell))
+    put_gap(out, rule, next, cells_in_front(pen, cell))
 }
 
 /// Takes the next cell: it joins the pen's run, or the run is written with what stands before the cell.
@@ -191,6 +201,6 @@ pub(crate) fn write_cells(
     ensures text { OnOk result (out.new.items ≡ out.old.items ++ items_text rule.now 0 (items_from bounds.left bounds.left bounds.top (first.now ∷ cells.now))) }
     ensures memory { IfErr result (λ kind. kind ≡ Kind.Memory) }
 {
-    let used = put_gap(out, rule, 0, cells_in_front(bounds.left, first))?;
+    let used = put_gap(out, rule, 0, first_gap(bounds, first))?;
     write_behind(out, rule, first_pen(bounds, used, first), cells)
 }

@@ -1,14 +1,15 @@
 //! RLE files, written.
 
-ghost use Rattle.std.specs.Prelude.{◌≡◌, ◌++◌, ◌∷◌, [], ◌≤ℤ◌, true, codes, decimal, OnOk, IfOk, IfErr};
+ghost use Rattle.std.specs.Prelude.{◌≡◌, ◌++◌, ◌∷◌, [], true, codes, decimal, OnOk, IfOk, IfErr};
 ghost use Rattle.std.specs.Fmt.{signed_decimal};
 ghost use Rattle.life_base.specs.Refusal.{fault_of};
-ghost use Rattle.life_rle.specs.Plane.{is_coordinate};
 ghost use Rattle.life_rle.specs.Sorted.{are_sorted_cells};
 ghost use Rattle.life_rle.specs.Written.{generation_text, position_text, header_text, rle_text, span};
+ghost use Rattle.life_rle.specs.Writing.{IsInPlane};
 
-use crate::bounds::bounds_of;
+use crate::bounds::{Bounds, bounds_of};
 use crate::pen::write_cells;
+use crate::position::Position;
 use crate::wrapping::put_mark;
 use itoa::Buffer;
 use life_base::{Cell, Fault, Kind, MAX_LEVEL, Rule, append};
@@ -44,16 +45,24 @@ fn append_generation(out: &mut Vec<u8>, generation: u64) -> Result<(), Kind>
     append_number(out, generation)
 }
 
+/// Adds a column and a row at the end.
+fn append_corner(out: &mut Vec<u8>, position: Position) -> Result<(), Kind>
+    ensures ok { OnOk result (out.new.items ≡ out.old.items ++ (signed_decimal position.x ++ (codes "," ++ signed_decimal position.y))) }
+    ensures memory { IfErr result (λ kind. kind ≡ Kind.Memory) }
+{
+    append_signed(out, position.x)?;
+    append(out, b",")?;
+    append_signed(out, position.y)
+}
+
 /// Adds the position line at the end, with its line feed.
-fn append_position(out: &mut Vec<u8>, x: i64, y: i64, generation: u64) -> Result<(), Kind>
-    ensures ok { OnOk result (out.new.items ≡ out.old.items ++ (position_text x y generation ++ codes "\n")) }
+fn append_position(out: &mut Vec<u8>, position: Position) -> Result<(), Kind>
+    ensures ok { OnOk result (out.new.items ≡ out.old.items ++ (position_text position.x position.y position.generation ++ codes "\n")) }
     ensures memory { IfErr result (λ kind. kind ≡ Kind.Memory) }
 {
     append(out, b"#CXRLE Pos=")?;
-    append_signed(out, x)?;
-    append(out, b",")?;
-    append_signed(out, y)?;
-    append_generation(out, generation)?;
+    append_corner(out, position)?;
+    append_generation(out, position.generation)?;
     append(out, b"\n")
 }
 
@@ -71,14 +80,31 @@ fn append_header(out: &mut Vec<u8>, width: u64, height: u64, rule: &Rule) -> Res
     append(out, b"\n")
 }
 
-/// How many whole numbers there are from one coordinate to another.
-fn span(low: i64, high: i64) -> u64
-    requires low { is_coordinate MAX_LEVEL low ≡ true }
-    requires high { is_coordinate MAX_LEVEL high ≡ true }
-    requires rises { low ≤ℤ high }
-    ensures { result ≡ span low high }
+/// How many columns a box has.
+fn width_of(bounds: Bounds) -> u64
+    requires { IsInPlane bounds }
+    ensures { result ≡ span bounds.left bounds.right }
 {
-    (high - low) as u64 + 1
+    (bounds.right - bounds.left) as u64 + 1
+}
+
+/// How many rows a box has.
+fn height_of(bounds: Bounds) -> u64
+    requires { IsInPlane bounds }
+    ensures { result ≡ span bounds.top bounds.bottom }
+{
+    (bounds.bottom - bounds.top) as u64 + 1
+}
+
+/// The corner of a box, in a generation.
+fn corner_of(bounds: Bounds, generation: u64) -> Position
+    ensures { result ≡ record { x = bounds.left; y = bounds.top; generation = generation } }
+{
+    Position {
+        x: bounds.left,
+        y: bounds.top,
+        generation,
+    }
 }
 
 /// Adds the text of no cells at the end.
@@ -86,7 +112,12 @@ fn append_blank(out: &mut Vec<u8>, rule: &Rule, generation: u64) -> Result<(), K
     ensures ok { OnOk result (out.new.items ≡ out.old.items ++ rle_text rule.now generation []) }
     ensures memory { IfErr result (λ kind. kind ≡ Kind.Memory) }
 {
-    append_position(out, 0, 0, generation)?;
+    let corner = Position {
+        x: 0,
+        y: 0,
+        generation,
+    };
+    append_position(out, corner)?;
     append_header(out, 0, 0, rule)?;
     put_mark(out, rule, 0)
 }
@@ -104,13 +135,8 @@ fn append_cells(
     ensures memory { IfErr result (λ kind. kind ≡ Kind.Memory) }
 {
     let bounds = bounds_of(first, cells);
-    append_position(out, bounds.left, bounds.top, generation)?;
-    append_header(
-        out,
-        span(bounds.left, bounds.right),
-        span(bounds.top, bounds.bottom),
-        rule,
-    )?;
+    append_position(out, corner_of(bounds, generation))?;
+    append_header(out, width_of(bounds), height_of(bounds), rule)?;
     write_cells(out, rule, bounds, first, cells)
 }
 

@@ -1,0 +1,3 @@
+//! Tests of what no clause says: that the definitions are those of the format, and that calls succeed where memory is there.
+
+mod written;
