@@ -44,13 +44,15 @@ plus_none z = omega (arith, ints)
 -- the cursor follows an item
 IsBehind-moved : (c : Cursor) (file : Rle) (item : Item) → IsBehind c file → IsBehind (moved c item) (with_items file (item ∷ []))
 IsBehind-moved c file (Cells n s) b = record {
-    left = b.left;
-    x = ap (λ z. z +ℤ pos n) b.x ∙ sym (regroup file.position.x (columns_in file.items) n) ∙ ap (λ k. file.position.x +ℤ pos k) (sym (columns_in-Cells file.items n s));
-    y = b.y ∙ ap (λ k. file.position.y +ℤ pos k) (sym (rows_in-Cells file.items n s)) }
+  left = b.left;
+  x = ap (λ z. z +ℤ pos n) b.x ∙ sym (regroup file.position.x (columns_in file.items) n) ∙ ap (λ k. file.position.x +ℤ pos k) (sym (columns_in-Cells file.items n s));
+  y = b.y ∙ ap (λ k. file.position.y +ℤ pos k) (sym (rows_in-Cells file.items n s));
+}
 IsBehind-moved c file (RowEnds n) b = record {
-    left = b.left;
-    x = b.left ∙ sym (plus_none file.position.x) ∙ ap (λ k. file.position.x +ℤ pos k) (sym (columns_in-RowEnds file.items n));
-    y = ap (λ z. z +ℤ pos n) b.y ∙ sym (regroup file.position.y (rows_in file.items) n) ∙ ap (λ k. file.position.y +ℤ pos k) (sym (rows_in-RowEnds file.items n)) }
+  left = b.left;
+  x = b.left ∙ sym (plus_none file.position.x) ∙ ap (λ k. file.position.x +ℤ pos k) (sym (columns_in-RowEnds file.items n));
+  y = ap (λ z. z +ℤ pos n) b.y ∙ sym (regroup file.position.y (rows_in file.items) n) ∙ ap (λ k. file.position.y +ℤ pos k) (sym (rows_in-RowEnds file.items n));
+}
 
 abbrev placed_of : ℤ → ℤ → Item → Placed
 placed_of r k item = record { row = r; column = k; item = item }
@@ -59,10 +61,11 @@ placed_of r k item = record { row = r; column = k; item = item }
 pub behind-items : (c : Cursor) (file : Rle) (items : List Item) → IsBehind c file → (placed_at c items ≡ placed_behind file.position file.items items) × IsBehind (moved_behind c items) (with_items file items)
 behind-items c file [] b = (refl, subst (IsBehind c) (sym (with_items-nil file)) b)
 behind-items c file (item ∷ items) b =
-    let more = behind-items (moved c item) (with_items file (item ∷ [])) items (IsBehind-moved c file item b) in
-    (ap (λ z. placed_of z c.x item ∷ placed_at (moved c item) items) b.y ∙ ap (λ z. placed_of (file.position.y +ℤ pos (rows_in file.items)) z item ∷ placed_at (moved c item) items) b.x
-     ∙ ap (λ ps. placed_item file.position file.items item ∷ ps) more.0,
-     subst (IsBehind (moved_behind (moved c item) items)) (with_items-twice file (item ∷ []) items) more.1)
+    let more = behind-items (moved c item) (with_items file (item ∷ [])) items (IsBehind-moved c file item b) in (
+      ap (λ z. placed_of z c.x item ∷ placed_at (moved c item) items) b.y ∙ ap (λ z. placed_of (file.position.y +ℤ pos (rows_in file.items)) z item ∷ placed_at (moved c item) items) b.x
+          ∙ ap (λ ps. placed_item file.position file.items item ∷ ps) more.0,
+      subst (IsBehind (moved_behind (moved c item) items)) (with_items-twice file (item ∷ []) items) more.1,
+    )
 
 -- the runs so far are those of the lines
 known-none : (level : ℕ) (lines : List (List ℕ)) (o : Position) (before : List Run) → IsPreamble level default_position lines o → HasRuns level lines before → before ≡ []
@@ -78,8 +81,9 @@ no_more before xs e = append-nil before ∙ e
 
 pub adv-comment : (level : ℕ) (g : Position) (c : Cursor) (line : List ℕ) → opening_of level line ≡ Ok Comment → Advances level (phases.Before g) c line (phases.Before g) c []
 adv-comment level g c line e = record {
-    stands = λ lines s. (s.0, IsPreamble-push level default_position g g lines line s.1 (inl (e, refl)), s.2);
-    found = λ lines before s h. inl (g, IsPreamble-push level default_position g g lines line s.1 (inl (e, refl)), no_more before [] (known-none level lines g before s.1 h)) }
+  stands = λ lines s. (s.0, IsPreamble-push level default_position g g lines line s.1 (inl (e, refl)), s.2);
+  found = λ lines before s h. inl (g, IsPreamble-push level default_position g g lines line s.1 (inl (e, refl)), no_more before [] (known-none level lines g before s.1 h));
+}
 
 -- the position of a position line is in the plane
 abbrev pub IsInPlane : ℕ → Position → Type 0
@@ -110,10 +114,11 @@ generation-plane level n true false = refl
 field_of-plane : (level : ℕ) (text : List ℕ) → IsPlaneField level (field_of level text)
 field_of-plane level text =
     let gen = drop 4 text in
-    elim (begins_with text (codes "Pos=")) as (λ t. IsPlaneField level (cond t (corner_in level gen) (cond (begins_with text (codes "Gen=")) (and_then (u64_of gen) (λ n. Ok (Generation n))) (Ok Other))))
-    [ true ↦ corner_of-plane level (signed_number (before_first (λ b. eqb b 44) gen)) (signed_number (after_first (λ b. eqb b 44) gen))
-    | false ↦ elim (begins_with text (codes "Gen=")) as (λ t. IsPlaneField level (cond t (and_then (u64_of gen) (λ n. Ok (Generation n))) (Ok Other)))
-        [ true ↦ generation-plane level (value_of gen) (is_digit_text gen) (leb (value_of gen) (2 ^ 64 - 1)) | false ↦ tt ] ]
+    elim (begins_with text (codes "Pos=")) as (λ t. IsPlaneField level (cond t (corner_in level gen) (cond (begins_with text (codes "Gen=")) (and_then (u64_of gen) (λ n. Ok (Generation n))) (Ok Other)))) [
+      | true ↦ corner_of-plane level (signed_number (before_first (λ b. eqb b 44) gen)) (signed_number (after_first (λ b. eqb b 44) gen))
+      | false ↦ elim (begins_with text (codes "Gen=")) as (λ t. IsPlaneField level (cond t (and_then (u64_of gen) (λ n. Ok (Generation n))) (Ok Other)))
+          [ true ↦ generation-plane level (value_of gen) (is_digit_text gen) (leb (value_of gen) (2 ^ 64 - 1)) | false ↦ tt ]
+    ]
 
 abbrev pub IsPlanePosition : ℕ → Result Position Kind → Type 0
 IsPlanePosition level (Ok o) = IsInPlane level o
@@ -140,27 +145,37 @@ at-edge level z e = (grind (arith, ints), grind (arith, ints))
 
 pub adv-position : (level : ℕ) (g : Position) (c : Cursor) (line : List ℕ) (o : Position) → opening_of level line ≡ Ok (PositionLine o) → IsInPlane level o → Advances level (phases.Before g) c line (phases.Before o) (start_of o) []
 adv-position level g c line o e p = record {
-    stands = λ lines s. (record { left = near-of level o.x p.0; x = at-edge level o.x p.0; y = at-edge level o.y p.1 }, IsPreamble-push level default_position g o lines line s.1 (inr e), refl);
-    found = λ lines before s h. inl (o, IsPreamble-push level default_position g o lines line s.1 (inr e), no_more before [] (known-none level lines g before s.1 h)) }
+  stands = λ lines s. (record { left = near-of level o.x p.0; x = at-edge level o.x p.0; y = at-edge level o.y p.1 }, IsPreamble-push level default_position g o lines line s.1 (inr e), refl);
+  found = λ lines before s h. inl (o, IsPreamble-push level default_position g o lines line s.1 (inr e), no_more before [] (known-none level lines g before s.1 h));
+}
 
 pub adv-header : (level : ℕ) (g : Position) (c : Cursor) (line : List ℕ) (rule : Rule) → opening_of level line ≡ Ok (Header rule) → Advances level (phases.Before g) c line (phases.Items rule g) c []
 adv-header level g c line rule e = record {
-    stands = λ lines s. (record { rule = rule; position = g; items = [] }, header-IsUnmarked level lines g line rule s.1 e, s.0,
-        record { left = ap (λ (p : Cursor). p.left) s.2; x = ap (λ (p : Cursor). p.x) s.2 ∙ sym (plus_none g.x); y = ap (λ (p : Cursor). p.y) s.2 ∙ sym (plus_none g.y) }, refl, refl);
-    found = λ lines before s h. inr (record { rule = rule; position = g; items = [] }, inl (header-IsUnmarked level lines g line rule s.1 e), no_more before [] (known-none level lines g before s.1 h)) }
+  stands = λ lines s. (
+    record { rule = rule; position = g; items = [] },
+    header-IsUnmarked level lines g line rule s.1 e,
+    s.0,
+    record { left = ap (λ (p : Cursor). p.left) s.2; x = ap (λ (p : Cursor). p.x) s.2 ∙ sym (plus_none g.x); y = ap (λ (p : Cursor). p.y) s.2 ∙ sym (plus_none g.y) },
+    refl,
+    refl,
+  );
+  found = λ lines before s h. inr (record { rule = rule; position = g; items = [] }, inl (header-IsUnmarked level lines g line rule s.1 e), no_more before [] (known-none level lines g before s.1 h));
+}
 
 passed-IsUnmarked : (level : ℕ) (lines : List (List ℕ)) (file : Rle) (line : List ℕ) → later_of line ≡ Ok Passed → IsUnmarked level lines file → IsUnmarked level (lines ++ line ∷ []) file
 passed-IsUnmarked level lines file line e b = subst (IsUnmarked level (lines ++ line ∷ [])) (with_items-nil file) (IsUnmarked-push level lines file line [] b (inl (e, refl, refl)) refl)
 
 pub adv-passed : (level : ℕ) (rule : Rule) (g : Position) (c : Cursor) (line : List ℕ) → later_of line ≡ Ok Passed → Advances level (phases.Items rule g) c line (phases.Items rule g) c []
 adv-passed level rule g c line e = record {
-    stands = λ lines s. (s.0, passed-IsUnmarked level lines s.0 line e s.1, s.2, s.3, s.4, s.5);
-    found = λ lines before s h. inr (s.0, inl (passed-IsUnmarked level lines s.0 line e s.1), no_more before (runs_of (placed s.0)) (known-runs level lines s.0 before (inl s.1) h)) }
+  stands = λ lines s. (s.0, passed-IsUnmarked level lines s.0 line e s.1, s.2, s.3, s.4, s.5);
+  found = λ lines before s h. inr (s.0, inl (passed-IsUnmarked level lines s.0 line e s.1), no_more before (runs_of (placed s.0)) (known-runs level lines s.0 before (inl s.1) h));
+}
 
 pub adv-over : (level : ℕ) (rule : Rule) (g : Position) (c : Cursor) (line : List ℕ) → Advances level (phases.Over rule g) c line (phases.Over rule g) c []
 adv-over level rule g c line = record {
-    stands = λ lines s. (s.0, IsMarked-push level lines s.0 line s.1, s.2, s.3);
-    found = λ lines before s h. inr (s.0, inr (IsMarked-push level lines s.0 line s.1), no_more before (runs_of (placed s.0)) (known-runs level lines s.0 before (inr s.1) h)) }
+  stands = λ lines s. (s.0, IsMarked-push level lines s.0 line s.1, s.2, s.3);
+  found = λ lines before s h. inr (s.0, inr (IsMarked-push level lines s.0 line s.1), no_more before (runs_of (placed s.0)) (known-runs level lines s.0 before (inr s.1) h));
+}
 
 -- the items are sound behind the file
 sound-behind : (level : ℕ) (rule : Rule) (c : Cursor) (file : Rle) (items : List Item) → IsBehind c file → rule ≡ file.rule → first_fault level rule (placed_at c items) ≡ None → first_fault level file.rule (placed_behind file.position file.items items) ≡ None
@@ -173,14 +188,22 @@ runs-behind level lines c file items before runs b r h e =
 
 pub adv-items : (level : ℕ) (rule : Rule) (g : Position) (c now : Cursor) (line : List ℕ) (items : List Item) (runs : List Run) → later_of line ≡ Ok Data → IsRead level rule c line items End now runs → Advances level (phases.Items rule g) c line (phases.Items rule g) now runs
 adv-items level rule g c now line items runs form read = record {
-    stands = λ lines s. (with_items s.0 items, IsUnmarked-push level lines s.0 line items s.1 (inr (form, read.spelled)) (sound-behind level rule c s.0 items s.3 s.4 read.sound), read.near,
-        subst (λ (p : Cursor). IsBehind p (with_items s.0 items)) (sym read.cursor) (behind-items c s.0 items s.3).1, s.4, s.5);
-    found = λ lines before s h. inr (with_items s.0 items, inl (IsUnmarked-push level lines s.0 line items s.1 (inr (form, read.spelled)) (sound-behind level rule c s.0 items s.3 s.4 read.sound)), runs-behind level lines c s.0 items before runs s.3 (inl s.1) h read.runs) }
+  stands = λ lines s. (
+    with_items s.0 items,
+    IsUnmarked-push level lines s.0 line items s.1 (inr (form, read.spelled)) (sound-behind level rule c s.0 items s.3 s.4 read.sound),
+    read.near,
+    subst (λ (p : Cursor). IsBehind p (with_items s.0 items)) (sym read.cursor) (behind-items c s.0 items s.3).1,
+    s.4,
+    s.5,
+  );
+  found = λ lines before s h. inr (with_items s.0 items, inl (IsUnmarked-push level lines s.0 line items s.1 (inr (form, read.spelled)) (sound-behind level rule c s.0 items s.3 s.4 read.sound)), runs-behind level lines c s.0 items before runs s.3 (inl s.1) h read.runs);
+}
 
 pub adv-mark : (level : ℕ) (rule : Rule) (g : Position) (c now : Cursor) (line : List ℕ) (items : List Item) (runs : List Run) → later_of line ≡ Ok Data → IsRead level rule c line items Mark now runs → Advances level (phases.Items rule g) c line (phases.Over rule g) now runs
 adv-mark level rule g c now line items runs form read = record {
-    stands = λ lines s. (with_items s.0 items, IsMarked-begun level lines s.0 line items s.1 (inr (form, read.spelled)) (sound-behind level rule c s.0 items s.3 s.4 read.sound), s.4, s.5);
-    found = λ lines before s h. inr (with_items s.0 items, inr (IsMarked-begun level lines s.0 line items s.1 (inr (form, read.spelled)) (sound-behind level rule c s.0 items s.3 s.4 read.sound)), runs-behind level lines c s.0 items before runs s.3 (inl s.1) h read.runs) }
+  stands = λ lines s. (with_items s.0 items, IsMarked-begun level lines s.0 line items s.1 (inr (form, read.spelled)) (sound-behind level rule c s.0 items s.3 s.4 read.sound), s.4, s.5);
+  found = λ lines before s h. inr (with_items s.0 items, inr (IsMarked-begun level lines s.0 line items s.1 (inr (form, read.spelled)) (sound-behind level rule c s.0 items s.3 s.4 read.sound)), runs-behind level lines c s.0 items before runs s.3 (inl s.1) h read.runs);
+}
 
 -- a fault of a line
 pub breaks-before : (level : ℕ) (g : Position) (c : Cursor) (line : List ℕ) (kind : Kind) → opening_of level line ≡ Err kind → (lines : List (List ℕ)) → StandsAt level (phases.Before g) c lines → Breaks level lines line kind
@@ -195,5 +218,5 @@ breaks-items level rule g c line kind form (bad_item items item rest spelled sou
     let b = (behind-items c s.0 items s.3).1 in
     by_item s.0 items item rest s.1 form spelled (sound-behind level rule c s.0 items s.3 s.4 sound)
     (ap (λ x. item_fault level s.0.rule x (s.0.position.x +ℤ pos (columns_in (s.0.items ++ items))) item) (sym b.y)
-     ∙ ap (λ x. item_fault level s.0.rule (moved_behind c items).y x item) (sym b.x)
-     ∙ ap (λ r. item_fault level r (moved_behind c items).y (moved_behind c items).x item) (sym s.4) ∙ fault)
+    ∙ ap (λ x. item_fault level s.0.rule (moved_behind c items).y x item) (sym b.x)
+    ∙ ap (λ r. item_fault level r (moved_behind c items).y (moved_behind c items).x item) (sym s.4) ∙ fault)

@@ -46,15 +46,16 @@ with_cell-state : (left column row : ℤ) (s : ℕ) (items : List Item) (x y : �
 with_cell-state left column row s [] x y = ap (λ t. cond (int_eq y row && t) s 0) (one_column column x)
 with_cell-state left column row s (RowEnds n ∷ items) x y = ap (λ t. cond (int_eq y row && t) s (state_from left left (row +ℤ pos n) items x y)) (one_column column x)
 with_cell-state left column row s (Cells m t ∷ items) x y =
-    elim (eqb s t) as (λ same. eqb s t ≡ same → state_from left column row (cond same (Cells (1 + m) s ∷ items) (Cells 1 s ∷ Cells m t ∷ items)) x y ≡ cond (int_eq y row && int_eq x column) s (state_from left (column +ℤ pos 1) row (Cells m t ∷ items) x y))
-    [ true ↦ λ e.
-        let same : s ≡ t = grind (arith, nat_tests) in
-        let far : column +ℤ pos (1 + m) ≡ (column +ℤ pos 1) +ℤ pos m = omega (arith, ints) in
-        ap (λ q. cond (int_eq y row && q) s (state_from left (column +ℤ pos (1 + m)) row items x y)) (more_columns column x m)
-        ∙ ap (λ c. cond (int_eq y row && (int_eq x column || (int_le (column +ℤ pos 1) x && int_lt x ((column +ℤ pos 1) +ℤ pos m)))) s (state_from left c row items x y)) far
-        ∙ merged (int_eq y row) (int_eq x column) (int_le (column +ℤ pos 1) x) (int_lt x ((column +ℤ pos 1) +ℤ pos m)) s (state_from left ((column +ℤ pos 1) +ℤ pos m) row items x y)
-        ∙ ap (λ u. cond (int_eq y row && int_eq x column) s (cond (int_eq y row && (int_le (column +ℤ pos 1) x && int_lt x ((column +ℤ pos 1) +ℤ pos m))) u (state_from left ((column +ℤ pos 1) +ℤ pos m) row items x y))) same
-    | false ↦ λ e. ap (λ q. cond (int_eq y row && q) s (state_from left (column +ℤ pos 1) row (Cells m t ∷ items) x y)) (one_column column x) ] refl
+    elim (eqb s t) as (λ same. eqb s t ≡ same → state_from left column row (cond same (Cells (1 + m) s ∷ items) (Cells 1 s ∷ Cells m t ∷ items)) x y ≡ cond (int_eq y row && int_eq x column) s (state_from left (column +ℤ pos 1) row (Cells m t ∷ items) x y)) [
+      | true ↦ λ e.
+          let same : s ≡ t = grind (arith, nat_tests) in
+          let far : column +ℤ pos (1 + m) ≡ (column +ℤ pos 1) +ℤ pos m = omega (arith, ints) in
+          ap (λ q. cond (int_eq y row && q) s (state_from left (column +ℤ pos (1 + m)) row items x y)) (more_columns column x m)
+          ∙ ap (λ c. cond (int_eq y row && (int_eq x column || (int_le (column +ℤ pos 1) x && int_lt x ((column +ℤ pos 1) +ℤ pos m)))) s (state_from left c row items x y)) far
+          ∙ merged (int_eq y row) (int_eq x column) (int_le (column +ℤ pos 1) x) (int_lt x ((column +ℤ pos 1) +ℤ pos m)) s (state_from left ((column +ℤ pos 1) +ℤ pos m) row items x y)
+          ∙ ap (λ u. cond (int_eq y row && int_eq x column) s (cond (int_eq y row && (int_le (column +ℤ pos 1) x && int_lt x ((column +ℤ pos 1) +ℤ pos m))) u (state_from left ((column +ℤ pos 1) +ℤ pos m) row items x y))) same
+      | false ↦ λ e. ap (λ q. cond (int_eq y row && q) s (state_from left (column +ℤ pos 1) row (Cells m t ∷ items) x y)) (one_column column x)
+    ] refl
 
 -- items that lie in the plane from a place on, each with a count that can be written
 abbrev pub AreGood : Rule → ℤ → ℤ → ℤ → List Item → Type 0
@@ -93,12 +94,13 @@ AreGood-with_cell : (rule : Rule) (left column row : ℤ) (s : ℕ) (items : Lis
 AreGood-with_cell rule left column row s [] low high inside state g = (omega arith, omega arith, state, inside, high, tt)
 AreGood-with_cell rule left column row s (RowEnds n ∷ items) low high inside state g = (omega arith, omega arith, state, inside, high, g)
 AreGood-with_cell rule left column row s (Cells m t ∷ items) low high inside state g =
-    elim (eqb s t) as (λ same. AreGood rule left column row (cond same (Cells (1 + m) s ∷ items) (Cells 1 s ∷ Cells m t ∷ items)))
-    [ true ↦
-        let far : (column +ℤ pos 1) +ℤ pos m ≡ column +ℤ pos (1 + m) = omega (arith, ints) in
-        let wide : (column +ℤ pos (1 + m)) ≤ℤ edge MAX_LEVEL = subst (λ c. c ≤ℤ edge MAX_LEVEL) far g.4 in
-        (omega arith, omega (arith, ints, wide, low), state, inside, wide, subst (λ c. AreGood rule left c row items) far g.5)
-    | false ↦ (omega arith, omega arith, state, inside, high, g) ]
+    elim (eqb s t) as (λ same. AreGood rule left column row (cond same (Cells (1 + m) s ∷ items) (Cells 1 s ∷ Cells m t ∷ items))) [
+      | true ↦
+          let far : (column +ℤ pos 1) +ℤ pos m ≡ column +ℤ pos (1 + m) = omega (arith, ints) in
+          let wide : (column +ℤ pos (1 + m)) ≤ℤ edge MAX_LEVEL = subst (λ c. c ≤ℤ edge MAX_LEVEL) far g.4 in
+          (omega arith, omega (arith, ints, wide, low), state, inside, wide, subst (λ c. AreGood rule left c row items) far g.5)
+      | false ↦ (omega arith, omega arith, state, inside, high, g)
+    ]
 
 state_of_zero : (rule : Rule) → is_state_of rule 0 ≡ true
 state_of_zero (Life sets) = refl
@@ -133,19 +135,20 @@ items_from-good rule left column row (c ∷ cells) l x y f =
     let next : neg_ℤ (edge MAX_LEVEL) ≤ℤ (c.x +ℤ pos 1) = omega (arith, ints, good.left) in
     let more = items_from-good rule left (c.x +ℤ pos 1) c.y cells l next good.top f.2 in
     let rest = AreGood-with_cell rule left c.x c.y c.state (items_from left (c.x +ℤ pos 1) c.y cells) good.left (omega (arith, ints, good.right)) good.bottom good.state more in
-    elim f.1 as (λ _. AreGood rule left column row (items_from left column row (c ∷ cells)))
-    [ inl h ↦
-        let on : int_eq c.y row ≡ true = eq_true c.y row h.0 in
-        subst (λ t. AreGood rule left column row (stepped t left column row c cells)) (sym on) (gap-good rule left column row c (behind left c cells) x good h.0 h.1 rest)
-    | inr h ↦
-        let off : int_eq c.y row ≡ false = grind (arith, ints) in
-        let below : row ≤ℤ c.y = omega (arith, ints, h.0) in
-        let down = distance row c.y below in
-        let some : 0 < nat_abs (c.y -ℤ row) = omega (arith, ints, down, h.0) in
-        let few : nat_abs (c.y -ℤ row) ≤ most_count MAX_LEVEL = omega (arith, ints, down, good.bottom, y) in
-        let inside : (row +ℤ pos (nat_abs (c.y -ℤ row))) ≤ℤ edge MAX_LEVEL = subst (λ z. z ≤ℤ edge MAX_LEVEL) (sym down) (omega (arith, ints, good.bottom)) in
-        subst (λ t. AreGood rule left column row (stepped t left column row c cells)) (sym off)
-        (some, few, inside, subst (λ r. AreGood rule left left r (with_gap (nat_abs (c.x -ℤ left)) (behind left c cells))) (sym down) (gap-good rule left left c.y c (behind left c cells) l good refl h.1 rest)) ]
+    elim f.1 as (λ _. AreGood rule left column row (items_from left column row (c ∷ cells))) [
+      | inl h ↦
+          let on : int_eq c.y row ≡ true = eq_true c.y row h.0 in
+          subst (λ t. AreGood rule left column row (stepped t left column row c cells)) (sym on) (gap-good rule left column row c (behind left c cells) x good h.0 h.1 rest)
+      | inr h ↦
+          let off : int_eq c.y row ≡ false = grind (arith, ints) in
+          let below : row ≤ℤ c.y = omega (arith, ints, h.0) in
+          let down = distance row c.y below in
+          let some : 0 < nat_abs (c.y -ℤ row) = omega (arith, ints, down, h.0) in
+          let few : nat_abs (c.y -ℤ row) ≤ most_count MAX_LEVEL = omega (arith, ints, down, good.bottom, y) in
+          let inside : (row +ℤ pos (nat_abs (c.y -ℤ row))) ≤ℤ edge MAX_LEVEL = subst (λ z. z ≤ℤ edge MAX_LEVEL) (sym down) (omega (arith, ints, good.bottom)) in
+          subst (λ t. AreGood rule left column row (stepped t left column row c cells)) (sym off)
+          (some, few, inside, subst (λ r. AreGood rule left left r (with_gap (nat_abs (c.x -ℤ left)) (behind left c cells))) (sym down) (gap-good rule left left c.y c (behind left c cells) l good refl h.1 rest))
+    ]
 
 gap-state : (rule : Rule) (left column row : ℤ) (c : Cell) (items : List Item) (x y : ℤ) → c.y ≡ row → column ≤ℤ c.x → AreGood rule left c.x c.y items → state_from left column row (with_gap (nat_abs (c.x -ℤ column)) items) x y ≡ state_from left c.x c.y items x y
 gap-state rule left column row c items x y same near g =
@@ -163,16 +166,17 @@ items_from-state rule left column row (c ∷ cells) x y lo1 lo2 lo3 f =
     let more = items_from-good rule left (c.x +ℤ pos 1) c.y cells lo1 next good.top f.2 in
     let rest = AreGood-with_cell rule left c.x c.y c.state (items_from left (c.x +ℤ pos 1) c.y cells) good.left (omega (arith, ints, good.right)) good.bottom good.state more in
     let here : state_from left c.x c.y (behind left c cells) x y ≡ state_in (c ∷ cells) x y =
-        with_cell-state left c.x c.y c.state (items_from left (c.x +ℤ pos 1) c.y cells) x y
-        ∙ ap (cond (int_eq y c.y && int_eq x c.x) c.state) (items_from-state rule left (c.x +ℤ pos 1) c.y cells x y lo1 next good.top f.2) in
-    elim f.1 as (λ _. state_from left column row (items_from left column row (c ∷ cells)) x y ≡ state_in (c ∷ cells) x y)
-    [ inl h ↦
-        let on : int_eq c.y row ≡ true = eq_true c.y row h.0 in
-        ap (λ t. state_from left column row (stepped t left column row c cells) x y) on
-        ∙ gap-state rule left column row c (behind left c cells) x y h.0 h.1 rest ∙ here
-    | inr h ↦
-        let off : int_eq c.y row ≡ false = grind (arith, ints) in
-        let below : row ≤ℤ c.y = omega (arith, ints, h.0) in
-        ap (λ t. state_from left column row (stepped t left column row c cells) x y) off
-        ∙ ap (λ r. state_from left left r (with_gap (nat_abs (c.x -ℤ left)) (behind left c cells)) x y) (distance row c.y below)
-        ∙ gap-state rule left left c.y c (behind left c cells) x y refl h.1 rest ∙ here ]
+    with_cell-state left c.x c.y c.state (items_from left (c.x +ℤ pos 1) c.y cells) x y
+    ∙ ap (cond (int_eq y c.y && int_eq x c.x) c.state) (items_from-state rule left (c.x +ℤ pos 1) c.y cells x y lo1 next good.top f.2) in
+    elim f.1 as (λ _. state_from left column row (items_from left column row (c ∷ cells)) x y ≡ state_in (c ∷ cells) x y) [
+      | inl h ↦
+          let on : int_eq c.y row ≡ true = eq_true c.y row h.0 in
+          ap (λ t. state_from left column row (stepped t left column row c cells) x y) on
+          ∙ gap-state rule left column row c (behind left c cells) x y h.0 h.1 rest ∙ here
+      | inr h ↦
+          let off : int_eq c.y row ≡ false = grind (arith, ints) in
+          let below : row ≤ℤ c.y = omega (arith, ints, h.0) in
+          ap (λ t. state_from left column row (stepped t left column row c cells) x y) off
+          ∙ ap (λ r. state_from left left r (with_gap (nat_abs (c.x -ℤ left)) (behind left c cells)) x y) (distance row c.y below)
+          ∙ gap-state rule left left c.y c (behind left c cells) x y refl h.1 rest ∙ here
+    ]

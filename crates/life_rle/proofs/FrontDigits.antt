@@ -10,11 +10,12 @@ use Rattle.life_rle.specs.Header.{after_number}
 pub list_all-front : (test : ℕ → Bool) (xs : List ℕ) → list_all test (take (prefix_len test xs) xs) ≡ true
 list_all-front test [] = refl
 list_all-front test (x ∷ xs) =
-    elim (test x) as (λ t. test x ≡ t → list_all test (take (cond t (1 + prefix_len test xs) 0) (x ∷ xs)) ≡ true)
-    [ true ↦ λ e.
-        let k : 1 + prefix_len test xs ≡ suc (prefix_len test xs) = omega arith in
-        rw k (ap (λ t. t && list_all test (take (prefix_len test xs) xs)) e ∙ list_all-front test xs)
-    | false ↦ λ e. refl ] refl
+    elim (test x) as (λ t. test x ≡ t → list_all test (take (cond t (1 + prefix_len test xs) 0) (x ∷ xs)) ≡ true) [
+      | true ↦ λ e.
+          let k : 1 + prefix_len test xs ≡ suc (prefix_len test xs) = omega arith in
+          rw k (ap (λ t. t && list_all test (take (prefix_len test xs) xs)) e ∙ list_all-front test xs)
+      | false ↦ λ e. refl
+    ] refl
 
 some_front : (n b : ℕ) (text : List ℕ) → 0 < n → is_empty (take n (b ∷ text)) ≡ false
 some_front zero b text h = absurd (omega arith)

@@ -33,16 +33,18 @@ groups-of group line (text ∷ texts) = cond (leb (length line + length text) 70
 groups-texts : (group : List (List ℕ)) (line : List ℕ) (texts : List (List ℕ)) → flat_map (λ group. group) (groups-of group line texts) ≡ group ++ texts
 groups-texts group line [] = refl
 groups-texts group line (text ∷ texts) =
-    elim (leb (length line + length text) 70) as (λ t. flat_map (λ group. group) (cond t (groups-of (group ++ text ∷ []) (line ++ text) texts) (group ∷ groups-of (text ∷ []) text texts)) ≡ group ++ text ∷ texts)
-    [ true ↦ groups-texts (group ++ text ∷ []) (line ++ text) texts ∙ append_assoc group (text ∷ []) texts
-    | false ↦ ap (λ xs. group ++ xs) (groups-texts (text ∷ []) text texts) ]
+    elim (leb (length line + length text) 70) as (λ t. flat_map (λ group. group) (cond t (groups-of (group ++ text ∷ []) (line ++ text) texts) (group ∷ groups-of (text ∷ []) text texts)) ≡ group ++ text ∷ texts) [
+      | true ↦ groups-texts (group ++ text ∷ []) (line ++ text) texts ∙ append_assoc group (text ∷ []) texts
+      | false ↦ ap (λ xs. group ++ xs) (groups-texts (text ∷ []) text texts)
+    ]
 
 groups-lines : (group : List (List ℕ)) (line : List ℕ) (texts : List (List ℕ)) → line ≡ joined-texts group → wrapped line texts ≡ map joined-texts (groups-of group line texts)
 groups-lines group line [] e = ap (λ l. l ∷ []) e
 groups-lines group line (text ∷ texts) e =
-    elim (leb (length line + length text) 70) as (λ t. cond t (wrapped (line ++ text) texts) (line ∷ wrapped text texts) ≡ map joined-texts (cond t (groups-of (group ++ text ∷ []) (line ++ text) texts) (group ∷ groups-of (text ∷ []) text texts)))
-    [ true ↦ groups-lines (group ++ text ∷ []) (line ++ text) texts (ap (λ l. l ++ text) e ∙ sym (joined-push group text))
-    | false ↦ ap (λ l. l ∷ wrapped text texts) e ∙ ap (λ ls. joined-texts group ∷ ls) (groups-lines (text ∷ []) text texts (sym (append-nil text))) ]
+    elim (leb (length line + length text) 70) as (λ t. cond t (wrapped (line ++ text) texts) (line ∷ wrapped text texts) ≡ map joined-texts (cond t (groups-of (group ++ text ∷ []) (line ++ text) texts) (group ∷ groups-of (text ∷ []) text texts))) [
+      | true ↦ groups-lines (group ++ text ∷ []) (line ++ text) texts (ap (λ l. l ++ text) e ∙ sym (joined-push group text))
+      | false ↦ ap (λ l. l ∷ wrapped text texts) e ∙ ap (λ ls. joined-texts group ∷ ls) (groups-lines (text ∷ []) text texts (sym (append-nil text)))
+    ]
 
 -- the first group begins with these texts
 abbrev BeginsWith : List ℕ → List (List (List ℕ)) → Type 0
@@ -64,15 +66,16 @@ next-line group text ((t ∷ texts) ∷ groups) short full b w = (short, subst (
 groups-wrapped : (group : List (List ℕ)) (line : List ℕ) (texts : List (List ℕ)) → line ≡ joined-texts group → length line ≤ 70 → AreShort texts → IsWrapped (groups-of group line texts)
 groups-wrapped group line [] e short s = subst (λ l. length l ≤ 70) e short
 groups-wrapped group line (text ∷ texts) e short s =
-    elim (leb (length line + length text) 70) as (λ t. leb (length line + length text) 70 ≡ t → IsWrapped (cond t (groups-of (group ++ text ∷ []) (line ++ text) texts) (group ∷ groups-of (text ∷ []) text texts)))
-    [ true ↦ λ f.
-        let size = length-append line text in
-        let fits : length line + length text ≤ 70 = grind (arith, nat_tests) in
-        groups-wrapped (group ++ text ∷ []) (line ++ text) texts (ap (λ l. l ++ text) e ∙ sym (joined-push group text)) (omega (arith, size, fits)) s.1
-    | false ↦ λ f.
-        let full : 70 < length line + length text = grind (arith, nat_tests) in
-        next-line group text (groups-of (text ∷ []) text texts) (subst (λ l. length l ≤ 70) e short) (subst (λ l. 70 < length l + length text) e full) (groups-begin text [] text texts)
-          (groups-wrapped (text ∷ []) text texts (sym (append-nil text)) s.0 s.1) ] refl
+    elim (leb (length line + length text) 70) as (λ t. leb (length line + length text) 70 ≡ t → IsWrapped (cond t (groups-of (group ++ text ∷ []) (line ++ text) texts) (group ∷ groups-of (text ∷ []) text texts))) [
+      | true ↦ λ f.
+          let size = length-append line text in
+          let fits : length line + length text ≤ 70 = grind (arith, nat_tests) in
+          groups-wrapped (group ++ text ∷ []) (line ++ text) texts (ap (λ l. l ++ text) e ∙ sym (joined-push group text)) (omega (arith, size, fits)) s.1
+      | false ↦ λ f.
+          let full : 70 < length line + length text = grind (arith, nat_tests) in
+          next-line group text (groups-of (text ∷ []) text texts) (subst (λ l. length l ≤ 70) e short) (subst (λ l. 70 < length l + length text) e full) (groups-begin text [] text texts)
+          (groups-wrapped (text ∷ []) text texts (sym (append-nil text)) s.0 s.1)
+    ] refl
 
 items-short : (rule : Rule) (items : List Item) → AreWritten rule items → AreShort (map (item_text rule) items ++ (33 ∷ []) ∷ [])
 items-short rule [] w = (omega arith, tt)

@@ -120,11 +120,13 @@ BeginsAsItem-count n tag high h =
 
 lettered-BeginsAsItem : (state : ℕ) → is_state_of (Named []) state ≡ true → BeginsAsItem (lettered state)
 lettered-BeginsAsItem state h =
-    elim (eqb state 0) as (λ t. BeginsAsItem (cond t (46 ∷ []) (cond (leb state 24) ((64 + state) ∷ []) ((111 + (state - 1) / 24) ∷ (65 + (state - 1) % 24) ∷ []))))
-    [ true ↦ (refl, refl, refl)
-    | false ↦ elim (leb state 24) as (λ t. leb state 24 ≡ t → BeginsAsItem (cond t ((64 + state) ∷ []) ((111 + (state - 1) / 24) ∷ (65 + (state - 1) % 24) ∷ [])))
-        [ true ↦ λ e. (grind (arith, nat_tests), grind (arith, nat_tests), grind (arith, nat_tests))
-        | false ↦ λ e. (grind (arith, nat_tests), grind (arith, nat_tests), inr (grind (arith, nat_tests), grind (arith, nat_tests))) ] refl ]
+    elim (eqb state 0) as (λ t. BeginsAsItem (cond t (46 ∷ []) (cond (leb state 24) ((64 + state) ∷ []) ((111 + (state - 1) / 24) ∷ (65 + (state - 1) % 24) ∷ [])))) [
+      | true ↦ (refl, refl, refl)
+      | false ↦ elim (leb state 24) as (λ t. leb state 24 ≡ t → BeginsAsItem (cond t ((64 + state) ∷ []) ((111 + (state - 1) / 24) ∷ (65 + (state - 1) % 24) ∷ []))) [
+        | true ↦ λ e. (grind (arith, nat_tests), grind (arith, nat_tests), grind (arith, nat_tests))
+        | false ↦ λ e. (grind (arith, nat_tests), grind (arith, nat_tests), inr (grind (arith, nat_tests), grind (arith, nat_tests)))
+      ] refl
+    ]
 
 state_text-BeginsAsItem : (rule : Rule) (state : ℕ) → is_state_of rule state ≡ true → BeginsAsItem (state_text rule state)
 state_text-BeginsAsItem (Life sets) state h = elim (eqb state 0) as (λ t. BeginsAsItem (cond t 98 111 ∷ [])) [ true ↦ (refl, refl, refl) | false ↦ (refl, refl, refl) ]
@@ -140,9 +142,10 @@ count_text-short n high = elim (eqb n 1) as (λ t. length (cond t [] (decimal n)
 
 lettered-short : (state : ℕ) → length (lettered state) ≤ 2
 lettered-short state =
-    elim (eqb state 0) as (λ t. length (cond t (46 ∷ []) (cond (leb state 24) ((64 + state) ∷ []) ((111 + (state - 1) / 24) ∷ (65 + (state - 1) % 24) ∷ []))) ≤ 2)
-    [ true ↦ omega arith
-    | false ↦ elim (leb state 24) as (λ t. length (cond t ((64 + state) ∷ []) ((111 + (state - 1) / 24) ∷ (65 + (state - 1) % 24) ∷ [])) ≤ 2) [ true ↦ omega arith | false ↦ omega arith ] ]
+    elim (eqb state 0) as (λ t. length (cond t (46 ∷ []) (cond (leb state 24) ((64 + state) ∷ []) ((111 + (state - 1) / 24) ∷ (65 + (state - 1) % 24) ∷ []))) ≤ 2) [
+      | true ↦ omega arith
+      | false ↦ elim (leb state 24) as (λ t. length (cond t ((64 + state) ∷ []) ((111 + (state - 1) / 24) ∷ (65 + (state - 1) % 24) ∷ [])) ≤ 2) [ true ↦ omega arith | false ↦ omega arith ]
+    ]
 
 pub state_text-short : (rule : Rule) (state : ℕ) → length (state_text rule state) ≤ 2
 state_text-short (Life sets) state = omega arith
@@ -186,13 +189,14 @@ wrapped-IsMarked states front file line now [] begun h start short w sound =
     let only : now ++ [] ≡ now = append-nil now in
     let sound' : first_fault MAX_LEVEL file.rule (placed_behind file.position file.items now) ≡ None = subst (λ xs. first_fault MAX_LEVEL file.rule (placed_behind file.position file.items xs) ≡ None) only sound in
     subst (λ xs. IsMarked MAX_LEVEL (front ++ wrapped line ((33 ∷ []) ∷ [])) (with_items file xs)) (sym only)
-    (elim (leb (length line + 1) 70) as (λ t. leb (length line + 1) 70 ≡ t → IsMarked MAX_LEVEL (front ++ cond t ((line ++ 33 ∷ []) ∷ []) (line ∷ (33 ∷ []) ∷ [])) (with_items file now))
-    [ true ↦ λ e. last-IsMarked front file line now begun h start (grind (arith, nat_tests)) sound'
-    | false ↦ λ e.
-        let full = full-IsUnmarked front file line now begun h (Starts-full line now 1 start (omega arith) e) short sound' in
-        let end = last-IsMarked (front ++ line ∷ []) (with_items file now) [] [] full (λ rest. refl) (inl (refl, refl)) (omega arith) refl in
-        subst (λ ls. IsMarked MAX_LEVEL ls (with_items file now)) (append_assoc front (line ∷ []) ((33 ∷ []) ∷ []))
-        (subst (λ f. IsMarked MAX_LEVEL ((front ++ line ∷ []) ++ (33 ∷ []) ∷ []) f) (with_items-nil (with_items file now)) end) ] refl)
+    (elim (leb (length line + 1) 70) as (λ t. leb (length line + 1) 70 ≡ t → IsMarked MAX_LEVEL (front ++ cond t ((line ++ 33 ∷ []) ∷ []) (line ∷ (33 ∷ []) ∷ [])) (with_items file now)) [
+      | true ↦ λ e. last-IsMarked front file line now begun h start (grind (arith, nat_tests)) sound'
+      | false ↦ λ e.
+          let full = full-IsUnmarked front file line now begun h (Starts-full line now 1 start (omega arith) e) short sound' in
+          let end = last-IsMarked (front ++ line ∷ []) (with_items file now) [] [] full (λ rest. refl) (inl (refl, refl)) (omega arith) refl in
+          subst (λ ls. IsMarked MAX_LEVEL ls (with_items file now)) (append_assoc front (line ∷ []) ((33 ∷ []) ∷ []))
+          (subst (λ f. IsMarked MAX_LEVEL ((front ++ line ∷ []) ++ (33 ∷ []) ∷ []) f) (with_items-nil (with_items file now)) end)
+    ] refl)
 wrapped-IsMarked states front file line now (item ∷ items) begun h start short w sound =
     let rule = file.rule in
     let text = item_text rule item in
@@ -200,15 +204,16 @@ wrapped-IsMarked states front file line now (item ∷ items) begun h start short
     let size = length-append line text in
     let group : (now ++ item ∷ []) ++ items ≡ now ++ item ∷ items = append_assoc now (item ∷ []) items in
     let parts = fault-parts MAX_LEVEL file now (item ∷ items) sound in
-    elim (leb (length line + length text) 70) as (λ t. leb (length line + length text) 70 ≡ t → IsMarked MAX_LEVEL (front ++ cond t (wrapped (line ++ text) texts) (line ∷ wrapped text texts)) (with_items file (now ++ item ∷ items)))
-    [ true ↦ λ e.
-        subst (λ xs. IsMarked MAX_LEVEL (front ++ wrapped (line ++ text) texts) (with_items file xs)) group
-        (wrapped-IsMarked states front file (line ++ text) (now ++ item ∷ []) items begun (Fronts-push states rule line now item h w.0)
-        (inr (Starts-append line text now start (item_text-BeginsAsItem rule item w.0))) (grind (arith, nat_tests)) w.1
-        (subst (λ xs. first_fault MAX_LEVEL rule (placed_behind file.position file.items xs) ≡ None) (sym group) sound))
-    | false ↦ λ e.
-        let full = full-IsUnmarked front file line now begun h (Starts-full line now (length text) start (item_text-short rule item w.0) e) short parts.0 in
-        subst (λ ls. IsMarked MAX_LEVEL ls (with_items file (now ++ item ∷ items))) (append_assoc front (line ∷ []) (wrapped text texts))
-        (subst (IsMarked MAX_LEVEL ((front ++ line ∷ []) ++ wrapped text texts)) (with_items-twice file now (item ∷ items))
-        (wrapped-IsMarked states (front ++ line ∷ []) (with_items file now) text (item ∷ []) items full (Fronts-push states rule [] [] item (λ rest. refl) w.0)
-        (inr (item_text-BeginsAsItem rule item w.0)) (item_text-short rule item w.0) w.1 parts.1)) ] refl
+    elim (leb (length line + length text) 70) as (λ t. leb (length line + length text) 70 ≡ t → IsMarked MAX_LEVEL (front ++ cond t (wrapped (line ++ text) texts) (line ∷ wrapped text texts)) (with_items file (now ++ item ∷ items))) [
+      | true ↦ λ e.
+          subst (λ xs. IsMarked MAX_LEVEL (front ++ wrapped (line ++ text) texts) (with_items file xs)) group
+          (wrapped-IsMarked states front file (line ++ text) (now ++ item ∷ []) items begun (Fronts-push states rule line now item h w.0)
+          (inr (Starts-append line text now start (item_text-BeginsAsItem rule item w.0))) (grind (arith, nat_tests)) w.1
+          (subst (λ xs. first_fault MAX_LEVEL rule (placed_behind file.position file.items xs) ≡ None) (sym group) sound))
+      | false ↦ λ e.
+          let full = full-IsUnmarked front file line now begun h (Starts-full line now (length text) start (item_text-short rule item w.0) e) short parts.0 in
+          subst (λ ls. IsMarked MAX_LEVEL ls (with_items file (now ++ item ∷ items))) (append_assoc front (line ∷ []) (wrapped text texts))
+          (subst (IsMarked MAX_LEVEL ((front ++ line ∷ []) ++ wrapped text texts)) (with_items-twice file now (item ∷ items))
+          (wrapped-IsMarked states (front ++ line ∷ []) (with_items file now) text (item ∷ []) items full (Fronts-push states rule [] [] item (λ rest. refl) w.0)
+          (inr (item_text-BeginsAsItem rule item w.0)) (item_text-short rule item w.0) w.1 parts.1))
+    ] refl

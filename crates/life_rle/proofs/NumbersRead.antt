@@ -49,7 +49,7 @@ positive text = keeps_by (λ n. pos n) (value_of text) (is_digit_text text) (leb
 
 by_sign : (sign : Bool) (text : List ℕ)
     → Keeps (cond sign (result_map (λ n. neg_ℤ (pos n)) (number_up_to (2 ^ 63) (drop 1 text))) (result_map (λ n. pos n) (number_up_to (2 ^ 63 - 1) text)))
-      (cond sign (told_by (λ n. neg_ℤ (pos n)) (value_of (drop 1 text)) (is_digit_text (drop 1 text))) (told_by (λ n. pos n) (value_of text) (is_digit_text text)))
+    (cond sign (told_by (λ n. neg_ℤ (pos n)) (value_of (drop 1 text)) (is_digit_text (drop 1 text))) (told_by (λ n. pos n) (value_of text) (is_digit_text text)))
 by_sign true text = negative (drop 1 text)
 by_sign false text = positive text
 

@@ -46,11 +46,13 @@ above-inner k n h = grind (arith, nat_tests)
 
 pub lettered-one_line : (n : ℕ) → is_one_line (lettered n) ≡ true
 lettered-one_line n =
-    elim (eqb n 0) as (λ t. is_one_line (cond t (46 ∷ []) (cond (leb n 24) ((64 + n) ∷ []) ((111 + (n - 1) / 24) ∷ (65 + (n - 1) % 24) ∷ []))) ≡ true)
-    [ true ↦ refl
-    | false ↦ elim (leb n 24) as (λ t. is_one_line (cond t ((64 + n) ∷ []) ((111 + (n - 1) / 24) ∷ (65 + (n - 1) % 24) ∷ [])) ≡ true)
-      [ true ↦ ap (λ t. t && true) (above-inner 64 n (omega arith))
-      | false ↦ ap (λ t. t && (not (eqb (65 + (n - 1) % 24) 10) && true)) (above-inner 111 ((n - 1) / 24) (omega arith)) ∙ ap (λ t. t && true) (above-inner 65 ((n - 1) % 24) (omega arith)) ] ]
+    elim (eqb n 0) as (λ t. is_one_line (cond t (46 ∷ []) (cond (leb n 24) ((64 + n) ∷ []) ((111 + (n - 1) / 24) ∷ (65 + (n - 1) % 24) ∷ []))) ≡ true) [
+      | true ↦ refl
+      | false ↦ elim (leb n 24) as (λ t. is_one_line (cond t ((64 + n) ∷ []) ((111 + (n - 1) / 24) ∷ (65 + (n - 1) % 24) ∷ [])) ≡ true) [
+        | true ↦ ap (λ t. t && true) (above-inner 64 n (omega arith))
+        | false ↦ ap (λ t. t && (not (eqb (65 + (n - 1) % 24) 10) && true)) (above-inner 111 ((n - 1) / 24) (omega arith)) ∙ ap (λ t. t && true) (above-inner 65 ((n - 1) % 24) (omega arith))
+      ]
+    ]
 
 pub state_text-one_line : (rule : Rule) (n : ℕ) → is_one_line (state_text rule n) ≡ true
 state_text-one_line (Life sets) n = elim (eqb n 0) as (λ t. is_one_line ((cond t 98 111) ∷ []) ≡ true) [ true ↦ refl | false ↦ refl ]

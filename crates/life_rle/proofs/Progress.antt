@@ -133,23 +133,43 @@ BodySpells-push level (l ∷ ls) items line more h s =
 
 pub IsUnmarked-push : (level : ℕ) (lines : List (List ℕ)) (file : Rle) (line : List ℕ) (more : List Item) → IsUnmarked level lines file → LineSpells level line more End → first_fault level file.rule (placed_behind file.position file.items more) ≡ None → IsUnmarked level (lines ++ line ∷ []) (with_items file more)
 IsUnmarked-push level lines file line more b s sound = record {
-    before = b.before; header = b.header; body = b.body ++ line ∷ [];
-    whole = ap (λ ls. ls ++ line ∷ []) b.whole ∙ append_assoc b.before (b.header ∷ b.body) (line ∷ []);
-    preamble = b.preamble; rule = b.rule;
-    items = BodySpells-push level b.body file.items line more b.items s;
-    sound = first_fault-with_items level file more ∙ ap (λ k. first_kind k (first_fault level file.rule (placed_behind file.position file.items more))) b.sound ∙ sound }
+  before = b.before;
+  header = b.header;
+  body = b.body ++ line ∷ [];
+  whole = ap (λ ls. ls ++ line ∷ []) b.whole ∙ append_assoc b.before (b.header ∷ b.body) (line ∷ []);
+  preamble = b.preamble;
+  rule = b.rule;
+  items = BodySpells-push level b.body file.items line more b.items s;
+  sound = first_fault-with_items level file more ∙ ap (λ k. first_kind k (first_fault level file.rule (placed_behind file.position file.items more))) b.sound ∙ sound;
+}
 
 pub IsMarked-begun : (level : ℕ) (lines : List (List ℕ)) (file : Rle) (line : List ℕ) (more : List Item) → IsUnmarked level lines file → LineSpells level line more Mark → first_fault level file.rule (placed_behind file.position file.items more) ≡ None → IsMarked level (lines ++ line ∷ []) (with_items file more)
 IsMarked-begun level lines file line more b s sound = record {
-    front = lines; last = line; free = []; whole = refl; earlier = file.items; final = more; items = refl;
-    begun = b; marked = s;
-    sound = first_fault-with_items level file more ∙ ap (λ k. first_kind k (first_fault level file.rule (placed_behind file.position file.items more))) b.sound ∙ sound }
+  front = lines;
+  last = line;
+  free = [];
+  whole = refl;
+  earlier = file.items;
+  final = more;
+  items = refl;
+  begun = b;
+  marked = s;
+  sound = first_fault-with_items level file more ∙ ap (λ k. first_kind k (first_fault level file.rule (placed_behind file.position file.items more))) b.sound ∙ sound;
+}
 
 pub IsMarked-push : (level : ℕ) (lines : List (List ℕ)) (file : Rle) (line : List ℕ) → IsMarked level lines file → IsMarked level (lines ++ line ∷ []) file
 IsMarked-push level lines file line b = record {
-    front = b.front; last = b.last; free = b.free ++ line ∷ [];
-    whole = ap (λ ls. ls ++ line ∷ []) b.whole ∙ append_assoc b.front (b.last ∷ b.free) (line ∷ []);
-    earlier = b.earlier; final = b.final; items = b.items; begun = b.begun; marked = b.marked; sound = b.sound }
+  front = b.front;
+  last = b.last;
+  free = b.free ++ line ∷ [];
+  whole = ap (λ ls. ls ++ line ∷ []) b.whole ∙ append_assoc b.front (b.last ∷ b.free) (line ∷ []);
+  earlier = b.earlier;
+  final = b.final;
+  items = b.items;
+  begun = b.begun;
+  marked = b.marked;
+  sound = b.sound;
+}
 
 pub header-IsUnmarked : (level : ℕ) (lines : List (List ℕ)) (o : Position) (line : List ℕ) (rule : Rule) → IsPreamble level default_position lines o → opening_of level line ≡ Ok (Header rule) → IsUnmarked level (lines ++ line ∷ []) (record { rule = rule; position = o; items = [] })
 header-IsUnmarked level lines o line rule h e = record { before = lines; header = line; body = []; whole = refl; preamble = h; rule = e; items = refl; sound = refl }

@@ -34,18 +34,18 @@ put-item rule used item count old room counted new next h short c n r k e =
     let tag = tag_text rule item in
     let small = tag-short rule item in
     let whole : length (item_text rule item) ≡ length count + length tag =
-        ap length (item_text-parts rule item) ∙ ap (λ (t : List ℕ). length (t ++ tag)) (sym c) ∙ length-append count tag in
+    ap length (item_text-parts rule item) ∙ ap (λ (t : List ℕ). length (t ++ tag)) (sym c) ∙ length-append count tag in
     let same : count ++ tag ≡ item_text rule item = ap (λ t. t ++ tag) c ∙ sym (item_text-parts rule item) in
     let fits : used_behind used (length count + length tag) ≤ 70 = used_behind-short used (length count + length tag) h (omega arith) in
     record {
       short = omega (arith, n, fits);
       text = λ more.
-        let rest = λ (m : ℕ). items_text rule (used_behind used m) more in
-        ap (λ t. t ++ items_text rule next more) (e ∙ ap (λ t. t ++ tag) (k ∙ ap (λ t. t ++ count) r))
-        ∙ ap (λ m. (((old ++ feed used (length count + length tag)) ++ count) ++ tag) ++ items_text rule m more) n
-        ∙ four old (feed used (length count + length tag)) count tag (rest (length count + length tag))
-        ∙ ap (λ t. old ++ (feed used (length count + length tag) ++ (t ++ rest (length count + length tag)))) same
-        ∙ ap (λ m. old ++ (feed used m ++ (item_text rule item ++ rest m))) (sym whole)
+          let rest = λ (m : ℕ). items_text rule (used_behind used m) more in
+          ap (λ t. t ++ items_text rule next more) (e ∙ ap (λ t. t ++ tag) (k ∙ ap (λ t. t ++ count) r))
+          ∙ ap (λ m. (((old ++ feed used (length count + length tag)) ++ count) ++ tag) ++ items_text rule m more) n
+          ∙ four old (feed used (length count + length tag)) count tag (rest (length count + length tag))
+          ∙ ap (λ t. old ++ (feed used (length count + length tag) ++ (t ++ rest (length count + length tag)))) same
+          ∙ ap (λ m. old ++ (feed used m ++ (item_text rule item ++ rest m))) (sym whole);
     }
 
 -- nothing
@@ -57,7 +57,7 @@ pub Puts-then : (rule : Rule) (used : ℕ) (xs : List Item) (old : List ℕ) (be
     → Puts rule used xs old between middle → Puts rule between ys middle next new → Puts rule used (xs ++ ys) old next new
 Puts-then rule used xs old between middle ys next new p q = record {
   short = q.short;
-  text = λ more. q.text more ∙ p.text (ys ++ more) ∙ ap (λ items. old ++ items_text rule used items) (sym (append_assoc xs ys more))
+  text = λ more. q.text more ∙ p.text (ys ++ more) ∙ ap (λ items. old ++ items_text rule used items) (sym (append_assoc xs ys more));
 }
 
 -- lines, each with its line feed, are the text from the first line's bytes on
@@ -65,10 +65,11 @@ pub wrapped-text : (line : List ℕ) (texts : List (List ℕ)) → flat_map (λ 
 wrapped-text line [] = append-nil (line ++ 10 ∷ [])
 wrapped-text line (text ∷ texts) =
     elim (leb (length line + length text) 70)
-      as (λ t. flat_map (λ line. line ++ 10 ∷ []) (cond t (wrapped (line ++ text) texts) (line ∷ wrapped text texts))
-        ≡ line ++ (cond t [] (10 ∷ []) ++ (text ++ text_from (cond t (length line + length text) (length text)) texts)))
-    [ true ↦ wrapped-text (line ++ text) texts ∙ append_assoc line text (text_from (length (line ++ text)) texts) ∙ ap (λ n. line ++ (text ++ text_from n texts)) (length-append line text)
-    | false ↦ append_assoc line (10 ∷ []) (flat_map (λ line. line ++ 10 ∷ []) (wrapped text texts)) ∙ ap (λ t. line ++ (10 ∷ t)) (wrapped-text text texts) ]
+    as (λ t. flat_map (λ line. line ++ 10 ∷ []) (cond t (wrapped (line ++ text) texts) (line ∷ wrapped text texts))
+    ≡ line ++ (cond t [] (10 ∷ []) ++ (text ++ text_from (cond t (length line + length text) (length text)) texts))) [
+      | true ↦ wrapped-text (line ++ text) texts ∙ append_assoc line text (text_from (length (line ++ text)) texts) ∙ ap (λ n. line ++ (text ++ text_from n texts)) (length-append line text)
+      | false ↦ append_assoc line (10 ∷ []) (flat_map (λ line. line ++ 10 ∷ []) (wrapped text texts)) ∙ ap (λ t. line ++ (10 ∷ t)) (wrapped-text text texts)
+    ]
 
 -- two lines in front, and items
 pub lines-text : (position header : List ℕ) (rule : Rule) (items : List Item) (old first second new : List ℕ) → first ≡ old ++ (position ++ 10 ∷ []) → second ≡ first ++ (header ++ 10 ∷ [])

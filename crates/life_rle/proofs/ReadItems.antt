@@ -43,10 +43,11 @@ not_more most n e = grind (arith, nat_tests)
 counted-tame : (level : ℕ) (digits bytes : List ℕ) → IsTame level (counted level digits bytes)
 counted-tame level [] bytes = item_behind-tame level 1 bytes (power-positive level)
 counted-tame level (d ∷ digits) bytes =
-    elim (eqb (value_of (d ∷ digits)) 0) as (λ t. IsTame level (cond t (Broken ZeroCount) (cond (ltb (2 ^ level) (value_of (d ∷ digits))) (Broken TooLarge) (item_behind (value_of (d ∷ digits)) bytes))))
-    [ true ↦ refl
-    | false ↦ elim (ltb (2 ^ level) (value_of (d ∷ digits))) as (λ t. ltb (2 ^ level) (value_of (d ∷ digits)) ≡ t → IsTame level (cond t (Broken TooLarge) (item_behind (value_of (d ∷ digits)) bytes)))
-      [ true ↦ λ _. refl | false ↦ λ h. item_behind-tame level (value_of (d ∷ digits)) bytes (not_more (2 ^ level) (value_of (d ∷ digits)) h) ] refl ]
+    elim (eqb (value_of (d ∷ digits)) 0) as (λ t. IsTame level (cond t (Broken ZeroCount) (cond (ltb (2 ^ level) (value_of (d ∷ digits))) (Broken TooLarge) (item_behind (value_of (d ∷ digits)) bytes)))) [
+      | true ↦ refl
+      | false ↦ elim (ltb (2 ^ level) (value_of (d ∷ digits))) as (λ t. ltb (2 ^ level) (value_of (d ∷ digits)) ≡ t → IsTame level (cond t (Broken TooLarge) (item_behind (value_of (d ∷ digits)) bytes)))
+          [ true ↦ λ _. refl | false ↦ λ h. item_behind-tame level (value_of (d ∷ digits)) bytes (not_more (2 ^ level) (value_of (d ∷ digits)) h) ] refl
+    ]
 
 item_in-tame : (level : ℕ) (bytes : List ℕ) → IsTame level (item_in level bytes)
 item_in-tame level [] = tt
@@ -99,12 +100,13 @@ read_more level rule from now line rest items found more item next h sound moves
     record {
       spelled = Spells-push level items line i rest h.spelled;
       sound = ap (first_fault level rule) all ∙ first_fault-append level rule (placed_at from items) one
-        ∙ ap (λ k. first_kind k (first_kind (item_fault level rule here.y here.x i) None)) h.sound ∙ ap (λ k. first_kind k None) fault;
+          ∙ ap (λ k. first_kind k (first_kind (item_fault level rule here.y here.x i) None)) h.sound ∙ ap (λ k. first_kind k None) fault;
       cursor = moves ∙ ap (λ c. moved c i) h.cursor ∙ sym (moved_behind-append from items (i ∷ []));
       near = near;
       runs = adds ∙ ap (λ (rs : List Run). rs ++ with_run now.y now.x i []) h.runs
-        ∙ ap (λ (c : Cursor). runs_of (placed_at from items) ++ with_run c.y c.x i []) h.cursor
-        ∙ sym (ap runs_of all ∙ runs_of-append (placed_at from items) one) }
+          ∙ ap (λ (c : Cursor). runs_of (placed_at from items) ++ with_run c.y c.x i []) h.cursor
+          ∙ sym (ap runs_of all ∙ runs_of-append (placed_at from items) one);
+    }
 
 -- the same next under another name
 pub spelled-as : (level : ℕ) (line : List ℕ) (items : List Item) (next other : Next) → Spells level line items next → next ≡ other → Spells level line items other
@@ -119,10 +121,11 @@ pub reads_more : (level : ℕ) (rule : Rule) (from now : Cursor) (line rest : Li
     → next ≡ moved now item → IsNear level next → more ≡ found ++ with_run now.y now.x item []
     → ReadsItems level rule from line (next_of level rest) next before more
 reads_more level rule from now line rest before found more item next h sound moves near adds = record {
-    items = h.items ++ item ∷ [];
-    found = h.found ++ with_run now.y now.x item [];
-    read = read_more level rule from now line rest h.items h.found (h.found ++ with_run now.y now.x item []) item next h.read sound moves near refl;
-    added = adds ∙ ap (λ (rs : List Run). rs ++ with_run now.y now.x item []) h.added ∙ append_assoc before h.found (with_run now.y now.x item []) }
+  items = h.items ++ item ∷ [];
+  found = h.found ++ with_run now.y now.x item [];
+  read = read_more level rule from now line rest h.items h.found (h.found ++ with_run now.y now.x item []) item next h.read sound moves near refl;
+  added = adds ∙ ap (λ (rs : List Run). rs ++ with_run now.y now.x item []) h.added ∙ append_assoc before h.found (with_run now.y now.x item []);
+}
 
 pub reads-as : (level : ℕ) (rule : Rule) (from : Cursor) (line : List ℕ) (next other : Next) (now : Cursor) (before found : List Run)
     → ReadsItems level rule from line next now before found → next ≡ other → ReadsItems level rule from line other now before found

@@ -75,12 +75,13 @@ pub Breaks-IsPlace : (level : ℕ) (lines front : List (List ℕ)) (line : List 
 Breaks-IsPlace level lines front line rest kind e b =
     let len : length lines ≡ length front + 1 + length rest = ap length e ∙ behind-length front line rest in
     record {
-    counted = omega arith;
-    within = omega arith;
-    before = λ k h. let short : k ≤ length front = omega arith in
-        let same : take k lines ≡ take k front = ap (take k) e ∙ take-append-le k front (line ∷ rest) short in
-        subst (Prefix (IsSomeRle level)) (sym same) (Goes-Prefix level (take k front) (take-Goes level k front (Breaks-Goes level front line kind b)));
-    here = λ _ p. Breaks-no_prefix level front line kind b (subst (Prefix (IsSomeRle level)) (behind-whole lines front line rest e) p) }
+      counted = omega arith;
+      within = omega arith;
+      before = λ k h. let short : k ≤ length front = omega arith in
+          let same : take k lines ≡ take k front = ap (take k) e ∙ take-append-le k front (line ∷ rest) short in
+          subst (Prefix (IsSomeRle level)) (sym same) (Goes-Prefix level (take k front) (take-Goes level k front (Breaks-Goes level front line kind b)));
+      here = λ _ p. Breaks-no_prefix level front line kind b (subst (Prefix (IsSomeRle level)) (behind-whole lines front line rest e) p);
+    }
 
 -- so the fault of such a line is the input's fault
 pub Breaks-IsRefusal : (level : ℕ) (lines front : List (List ℕ)) (line : List ℕ) (rest : List (List ℕ)) (fault : Fault) → lines ≡ front ++ line ∷ rest → Breaks level front line fault.kind → fault.place.line ≡ min (length front + 1) (2 ^ 64 - 1) → IsRefusal (IsSomeRle level) (Breaks level) missing lines fault
@@ -90,12 +91,13 @@ Breaks-IsRefusal level lines front line rest fault e b at =
     let fore : take (length front) lines ≡ front = ap (take (length front)) e ∙ take-append_seam front (line ∷ rest) in
     let item : slice_index_or lines (length front) [] ≡ line = ap (λ ls. slice_index_or ls (length front) []) e ∙ get_or-append_seam front line rest [] in
     record {
-    refused = λ (file, h). Breaks-no_more level front line fault.kind rest file b (subst (λ ls. IsRle level ls file) (e ∙ sym (append_assoc front (line ∷ []) rest)) h);
-    n = length front + 1;
-    place = Breaks-IsPlace level lines front line rest fault.kind e b;
-    line = at;
-    at_line = λ _. subst (λ k. Breaks level (take k lines) (slice_index_or lines k []) fault.kind) (sym less) (subst (λ f. Breaks level f (slice_index_or lines (length front) []) fault.kind) (sym fore) (subst (λ l. Breaks level front l fault.kind) (sym item) b));
-    at_end = λ h. absurd (omega arith) }
+      refused = λ (file, h). Breaks-no_more level front line fault.kind rest file b (subst (λ ls. IsRle level ls file) (e ∙ sym (append_assoc front (line ∷ []) rest)) h);
+      n = length front + 1;
+      place = Breaks-IsPlace level lines front line rest fault.kind e b;
+      line = at;
+      at_line = λ _. subst (λ k. Breaks level (take k lines) (slice_index_or lines k []) fault.kind) (sym less) (subst (λ f. Breaks level f (slice_index_or lines (length front) []) fault.kind) (sym fore) (subst (λ l. Breaks level front l fault.kind) (sym item) b));
+      at_end = λ h. absurd (omega arith);
+    }
 
 -- without a header the end of the input is the place
 pub IsPreamble-Prefix : (level : ℕ) (lines : List (List ℕ)) (position : Position) → IsPreamble level default_position lines position → Prefix (IsSomeRle level) lines
@@ -107,9 +109,10 @@ IsPreamble-refused level lines position h (file, inr b) = let x = IsPreamble-pro
 
 pub IsPreamble-IsRefusal : (level : ℕ) (lines : List (List ℕ)) (position : Position) (fault : Fault) → IsPreamble level default_position lines position → fault.kind ≡ NoHeader → fault.place.line ≡ min (length lines + 1) (2 ^ 64 - 1) → IsRefusal (IsSomeRle level) (Breaks level) missing lines fault
 IsPreamble-IsRefusal level lines position fault h kind at = record {
-    refused = IsPreamble-refused level lines position h;
-    n = length lines + 1;
-    place = record { counted = omega arith; within = omega arith; before = λ k h'. Goes-Prefix level (take k lines) (take-Goes level k lines (subst Goes (sym (IsPreamble-progress level default_position position lines h)) tt)); here = λ long. absurd (omega arith) };
-    line = at;
-    at_line = λ long. absurd (omega arith);
-    at_end = λ _. ap Some (sym kind) }
+  refused = IsPreamble-refused level lines position h;
+  n = length lines + 1;
+  place = record { counted = omega arith; within = omega arith; before = λ k h'. Goes-Prefix level (take k lines) (take-Goes level k lines (subst Goes (sym (IsPreamble-progress level default_position position lines h)) tt)); here = λ long. absurd (omega arith) };
+  line = at;
+  at_line = λ long. absurd (omega arith);
+  at_end = λ _. ap Some (sym kind);
+}

@@ -48,7 +48,7 @@ life-text sets =
     let b = kept-short (has_digit sets.survivals) (λ d. 48 + d) counts in
     subst IsRuleText (sym grouped) (record {
       short = omega (arith, length-append ds (47 ∷ 83 ∷ es), a, b);
-      visible = list_all-append is_visible ds (47 ∷ 83 ∷ es) ∙ both _ _ (kept (has_digit sets.births) is_visible (λ d. 48 + d) counts refl) (kept (has_digit sets.survivals) is_visible (λ d. 48 + d) counts refl)
+      visible = list_all-append is_visible ds (47 ∷ 83 ∷ es) ∙ both _ _ (kept (has_digit sets.births) is_visible (λ d. 48 + d) counts refl) (kept (has_digit sets.survivals) is_visible (λ d. 48 + d) counts refl);
     })
 
 -- ---- a name

@@ -89,9 +89,10 @@ box-left c (d ∷ cells) =
 
 rises-cases : (a b : Cell) → rises a b ≡ true → (a.y <ℤ b.y) ⊎ ((a.y ≡ b.y) × (a.x <ℤ b.x))
 rises-cases a b h =
-    elim (int_lt a.y b.y) as (λ t. int_lt a.y b.y ≡ t → (t || (int_eq a.y b.y && int_lt a.x b.x)) ≡ true → (a.y <ℤ b.y) ⊎ ((a.y ≡ b.y) × (a.x <ℤ b.x)))
-    [ true ↦ λ e k. inl (grind (arith, ints))
-    | false ↦ λ e k. let parts = both_true (int_eq a.y b.y) (int_lt a.x b.x) k in let same = parts.0 in let less = parts.1 in inr (grind (arith, ints), grind (arith, ints)) ] refl h
+    elim (int_lt a.y b.y) as (λ t. int_lt a.y b.y ≡ t → (t || (int_eq a.y b.y && int_lt a.x b.x)) ≡ true → (a.y <ℤ b.y) ⊎ ((a.y ≡ b.y) × (a.x <ℤ b.x))) [
+      | true ↦ λ e k. inl (grind (arith, ints))
+      | false ↦ λ e k. let parts = both_true (int_eq a.y b.y) (int_lt a.x b.x) k in let same = parts.0 in let less = parts.1 in inr (grind (arith, ints), grind (arith, ints))
+    ] refl h
 
 min-first : (a b : ℤ) → a ≤ℤ b → int_min a b ≡ a
 min-first a b h = grind (arith, ints)
@@ -114,10 +115,11 @@ Follow-rest : (rule : Rule) (left : ℤ) (c : Cell) (cells : List Cell) → are_
 Follow-rest rule left c [] h a = tt
 Follow-rest rule left c (d ∷ cells) h a =
     let parts = both_true (is_live_cell MAX_LEVEL rule c && rises c d) (are_sorted_cells MAX_LEVEL rule (d ∷ cells)) h in
-    let up = rises-cases c d (both_true (is_live_cell MAX_LEVEL rule c) (rises c d) parts.0).1 in
-    (live-good rule d (first-live rule d cells parts.1),
-     elim up as (λ _. ((d.y ≡ c.y) × ((c.x +ℤ pos 1) ≤ℤ d.x)) ⊎ ((c.y <ℤ d.y) × (left ≤ℤ d.x))) [ inl u ↦ inr (u, a.1.0) | inr u ↦ inl (sym u.0, omega (arith, ints, u.1)) ],
-     Follow-rest rule left d cells parts.1 a.1)
+    let up = rises-cases c d (both_true (is_live_cell MAX_LEVEL rule c) (rises c d) parts.0).1 in (
+      live-good rule d (first-live rule d cells parts.1),
+      elim up as (λ _. ((d.y ≡ c.y) × ((c.x +ℤ pos 1) ≤ℤ d.x)) ⊎ ((c.y <ℤ d.y) × (left ≤ℤ d.x))) [ inl u ↦ inr (u, a.1.0) | inr u ↦ inl (sym u.0, omega (arith, ints, u.1)) ],
+      Follow-rest rule left d cells parts.1 a.1,
+    )
 
 -- sorted cells follow the corner of their box
 pub sorted-Follow : (rule : Rule) (c : Cell) (cells : List Cell) → are_sorted_cells MAX_LEVEL rule (c ∷ cells) ≡ true → Follow rule (box_of c cells).left (box_of c cells).left (box_of c cells).top (c ∷ cells)

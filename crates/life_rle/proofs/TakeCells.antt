@@ -31,18 +31,20 @@ with_open-same : (n s : ℕ) (items : List Item) → with_open n s (with_cell s 
 with_open-same n s [] = ap (λ t. cond t (Cells (n + 1) s ∷ []) (Cells n s ∷ Cells 1 s ∷ [])) (eqb-same s)
 with_open-same n s (RowEnds k ∷ items) = ap (λ t. cond t (Cells (n + 1) s ∷ RowEnds k ∷ items) (Cells n s ∷ Cells 1 s ∷ RowEnds k ∷ items)) (eqb-same s)
 with_open-same n s (Cells m t ∷ items) =
-    elim (eqb s t) as (λ same. with_open n s (cond same (Cells (1 + m) s ∷ items) (Cells 1 s ∷ Cells m t ∷ items)) ≡ cond same (Cells ((n + 1) + m) s ∷ items) (Cells (n + 1) s ∷ Cells m t ∷ items))
-    [ true ↦ ap (λ c. cond c (Cells (n + (1 + m)) s ∷ items) (Cells n s ∷ Cells (1 + m) s ∷ items)) (eqb-same s) ∙ ap (λ k. Cells k s ∷ items) (more-cells n m)
-    | false ↦ ap (λ c. cond c (Cells (n + 1) s ∷ Cells m t ∷ items) (Cells n s ∷ Cells 1 s ∷ Cells m t ∷ items)) (eqb-same s) ]
+    elim (eqb s t) as (λ same. with_open n s (cond same (Cells (1 + m) s ∷ items) (Cells 1 s ∷ Cells m t ∷ items)) ≡ cond same (Cells ((n + 1) + m) s ∷ items) (Cells (n + 1) s ∷ Cells m t ∷ items)) [
+      | true ↦ ap (λ c. cond c (Cells (n + (1 + m)) s ∷ items) (Cells n s ∷ Cells (1 + m) s ∷ items)) (eqb-same s) ∙ ap (λ k. Cells k s ∷ items) (more-cells n m)
+      | false ↦ ap (λ c. cond c (Cells (n + 1) s ∷ Cells m t ∷ items) (Cells n s ∷ Cells 1 s ∷ Cells m t ∷ items)) (eqb-same s)
+    ]
 
 -- a cell of another state behind it
 with_open-other : (n s t : ℕ) (items : List Item) → eqb s t ≡ false → with_open n s (with_cell t items) ≡ Cells n s ∷ with_cell t items
 with_open-other n s t [] e = ap (λ c. cond c (Cells (n + 1) s ∷ []) (Cells n s ∷ Cells 1 t ∷ [])) e
 with_open-other n s t (RowEnds k ∷ items) e = ap (λ c. cond c (Cells (n + 1) s ∷ RowEnds k ∷ items) (Cells n s ∷ Cells 1 t ∷ RowEnds k ∷ items)) e
 with_open-other n s t (Cells m u ∷ items) e =
-    elim (eqb t u) as (λ same. with_open n s (cond same (Cells (1 + m) t ∷ items) (Cells 1 t ∷ Cells m u ∷ items)) ≡ Cells n s ∷ cond same (Cells (1 + m) t ∷ items) (Cells 1 t ∷ Cells m u ∷ items))
-    [ true ↦ ap (λ c. cond c (Cells (n + (1 + m)) s ∷ items) (Cells n s ∷ Cells (1 + m) t ∷ items)) e
-    | false ↦ ap (λ c. cond c (Cells (n + 1) s ∷ Cells m u ∷ items) (Cells n s ∷ Cells 1 t ∷ Cells m u ∷ items)) e ]
+    elim (eqb t u) as (λ same. with_open n s (cond same (Cells (1 + m) t ∷ items) (Cells 1 t ∷ Cells m u ∷ items)) ≡ Cells n s ∷ cond same (Cells (1 + m) t ∷ items) (Cells 1 t ∷ Cells m u ∷ items)) [
+      | true ↦ ap (λ c. cond c (Cells (n + (1 + m)) s ∷ items) (Cells n s ∷ Cells (1 + m) t ∷ items)) e
+      | false ↦ ap (λ c. cond c (Cells (n + 1) s ∷ Cells m u ∷ items) (Cells n s ∷ Cells 1 t ∷ Cells m u ∷ items)) e
+    ]
 
 -- dead cells behind a run of live ones
 with_open-gap : (n s k : ℕ) (items : List Item) → 0 < s → 0 < k → with_open n s (with_gap k items) ≡ Cells n s ∷ with_gap k items
@@ -88,35 +90,37 @@ cell-joins n s left x y c cells h =
 in_row : (n s : ℕ) (left x y : ℤ) (c : Cell) (items : List Item) → 0 < s → int_eq c.y y ≡ true → x ≤ℤ c.x → (int_eq c.x x && eqb c.state s) ≡ false
     → with_open n s (with_gap (nat_abs (c.x -ℤ x)) (with_cell c.state items)) ≡ Cells n s ∷ with_gap (nat_abs (c.x -ℤ x)) (with_cell c.state items)
 in_row n s left x y c items live row near apart =
-    elim (int_eq c.x x) as (λ t. int_eq c.x x ≡ t → (t && eqb c.state s) ≡ false → with_open n s (with_gap (nat_abs (c.x -ℤ x)) (with_cell c.state items)) ≡ Cells n s ∷ with_gap (nat_abs (c.x -ℤ x)) (with_cell c.state items))
-    [ true ↦ λ e f.
-        let column : c.x ≡ x = grind (arith, ints) in
-        let other : eqb s c.state ≡ false = grind (arith, nat_tests) in
-        ap (λ k. with_open n s (with_gap k (with_cell c.state items))) (no_gap c.x x column)
-        ∙ with_open-other n s c.state items other
-        ∙ ap (λ k. Cells n s ∷ with_gap k (with_cell c.state items)) (sym (no_gap c.x x column))
-    | false ↦ λ e f.
-        let some : 0 < nat_abs (c.x -ℤ x) = grind (arith, ints) in
-        with_open-gap n s (nat_abs (c.x -ℤ x)) (with_cell c.state items) live some ] refl apart
+    elim (int_eq c.x x) as (λ t. int_eq c.x x ≡ t → (t && eqb c.state s) ≡ false → with_open n s (with_gap (nat_abs (c.x -ℤ x)) (with_cell c.state items)) ≡ Cells n s ∷ with_gap (nat_abs (c.x -ℤ x)) (with_cell c.state items)) [
+      | true ↦ λ e f.
+          let column : c.x ≡ x = grind (arith, ints) in
+          let other : eqb s c.state ≡ false = grind (arith, nat_tests) in
+          ap (λ k. with_open n s (with_gap k (with_cell c.state items))) (no_gap c.x x column)
+          ∙ with_open-other n s c.state items other
+          ∙ ap (λ k. Cells n s ∷ with_gap k (with_cell c.state items)) (sym (no_gap c.x x column))
+      | false ↦ λ e f.
+          let some : 0 < nat_abs (c.x -ℤ x) = grind (arith, ints) in
+          with_open-gap n s (nat_abs (c.x -ℤ x)) (with_cell c.state items) live some
+    ] refl apart
 
 -- the next cell ends the run
 pub cell-ends : (n s : ℕ) (left x y : ℤ) (c : Cell) (cells : List Cell) → 0 < s → ((c.y ≡ y) × (x ≤ℤ c.x)) ⊎ ((y <ℤ c.y) × (left ≤ℤ c.x)) → joins s x y c ≡ false
     → with_open n s (items_from left x y (c ∷ cells)) ≡ Cells n s ∷ (way_to left x y c ++ with_open 1 c.state (items_from left (c.x +ℤ pos 1) c.y cells))
 cell-ends n s left x y c cells live ahead apart =
     let items = items_from left (c.x +ℤ pos 1) c.y cells in
-    elim ahead as (λ _. with_open n s (items_from left x y (c ∷ cells)) ≡ Cells n s ∷ (way_to left x y c ++ with_open 1 c.state items))
-    [ inl h ↦
-        let on = same_true c.y y h.0 in
-        let rest : (int_eq c.x x && eqb c.state s) ≡ false = sym (ap (λ t. (t && int_eq c.x x) && eqb c.state s) on) ∙ apart in
-        ap (λ t. with_open n s (stepped t left x y c (with_cell c.state items))) on
-        ∙ in_row n s left x y c items live on h.1 rest
-        ∙ ap (λ is. Cells n s ∷ is) (with_gap-append (nat_abs (c.x -ℤ x)) (with_cell c.state items) ∙ ap (λ is. with_gap (nat_abs (c.x -ℤ x)) [] ++ is) (with_cell-open c.state items))
-        ∙ ap (λ t. Cells n s ∷ (stepped t left x y c [] ++ with_open 1 c.state items)) (sym on)
-    | inr h ↦
-        let off : int_eq c.y y ≡ false = let below = h.0 in grind (arith, ints) in
-        ap (λ t. with_open n s (stepped t left x y c (with_cell c.state items))) off
-        ∙ ap (λ is. Cells n s ∷ RowEnds (nat_abs (c.y -ℤ y)) ∷ is) (with_gap-append (nat_abs (c.x -ℤ left)) (with_cell c.state items) ∙ ap (λ is. with_gap (nat_abs (c.x -ℤ left)) [] ++ is) (with_cell-open c.state items))
-        ∙ ap (λ t. Cells n s ∷ (stepped t left x y c [] ++ with_open 1 c.state items)) (sym off) ]
+    elim ahead as (λ _. with_open n s (items_from left x y (c ∷ cells)) ≡ Cells n s ∷ (way_to left x y c ++ with_open 1 c.state items)) [
+      | inl h ↦
+          let on = same_true c.y y h.0 in
+          let rest : (int_eq c.x x && eqb c.state s) ≡ false = sym (ap (λ t. (t && int_eq c.x x) && eqb c.state s) on) ∙ apart in
+          ap (λ t. with_open n s (stepped t left x y c (with_cell c.state items))) on
+          ∙ in_row n s left x y c items live on h.1 rest
+          ∙ ap (λ is. Cells n s ∷ is) (with_gap-append (nat_abs (c.x -ℤ x)) (with_cell c.state items) ∙ ap (λ is. with_gap (nat_abs (c.x -ℤ x)) [] ++ is) (with_cell-open c.state items))
+          ∙ ap (λ t. Cells n s ∷ (stepped t left x y c [] ++ with_open 1 c.state items)) (sym on)
+      | inr h ↦
+          let off : int_eq c.y y ≡ false = let below = h.0 in grind (arith, ints) in
+          ap (λ t. with_open n s (stepped t left x y c (with_cell c.state items))) off
+          ∙ ap (λ is. Cells n s ∷ RowEnds (nat_abs (c.y -ℤ y)) ∷ is) (with_gap-append (nat_abs (c.x -ℤ left)) (with_cell c.state items) ∙ ap (λ is. with_gap (nat_abs (c.x -ℤ left)) [] ++ is) (with_cell-open c.state items))
+          ∙ ap (λ t. Cells n s ∷ (stepped t left x y c [] ++ with_open 1 c.state items)) (sym off)
+    ]
 
 -- ---- the steps of the writer
 
@@ -132,7 +136,7 @@ take-longer rule pen cell old p good h =
     record {
       sound = record { short = p.short; corner = p.corner; left = omega (arith, ints, left); right = omega (arith, ints, column, inside); top = p.top; bottom = p.bottom; live = p.live };
       place = (refl, ap (λ z. z +ℤ pos 1) (sym column), row);
-      text = λ cells. ap (λ items. old ++ items_text rule pen.used items) (sym (cell-joins pen.count pen.state pen.left pen.x pen.y cell cells h))
+      text = λ cells. ap (λ items. old ++ items_text rule pen.used items) (sym (cell-joins pen.count pen.state pen.left pen.x pen.y cell cells h));
     }
 
 pub take-ended : (rule : Rule) (pen : Pen) (cell : Cell) (old : List ℕ) (between : ℕ) (middle : List ℕ) (used : ℕ) (new : List ℕ) → IsPen pen → IsGoodCell rule cell → IsAhead pen.left pen.x pen.y cell
@@ -145,8 +149,8 @@ take-ended rule pen cell old between middle used new p good ahead h run way =
       sound = record { short = both.short; corner = p.corner; left = omega (arith, ints, left); right = omega (arith, ints, right); top = good.top; bottom = good.bottom; live = good.live };
       place = (refl, refl, refl);
       text = λ cells.
-        both.text (with_open 1 cell.state (items_from pen.left (cell.x +ℤ pos 1) cell.y cells))
-        ∙ ap (λ items. old ++ items_text rule pen.used items) (sym (cell-ends pen.count pen.state pen.left pen.x pen.y cell cells p.live ahead h))
+          both.text (with_open 1 cell.state (items_from pen.left (cell.x +ℤ pos 1) cell.y cells))
+          ∙ ap (λ items. old ++ items_text rule pen.used items) (sym (cell-ends pen.count pen.state pen.left pen.x pen.y cell cells p.live ahead h));
     }
 
 -- the way in the pen's row
@@ -163,7 +167,7 @@ pub way-down : (rule : Rule) (left x y : ℤ) (cell : Cell) (used : ℕ) (old : 
 way-down rule left x y cell used old rows between middle gap next new e some g p q =
     let off : int_eq cell.y y ≡ false = grind (arith, ints) in
     let items : RowEnds rows ∷ with_gap gap [] ≡ way_to left x y cell =
-        ap (λ n. RowEnds n ∷ with_gap gap []) e ∙ ap (λ n. RowEnds (nat_abs (cell.y -ℤ y)) ∷ with_gap n []) g ∙ sym (ap (λ t. stepped t left x y cell []) off) in
+    ap (λ n. RowEnds n ∷ with_gap gap []) e ∙ ap (λ n. RowEnds (nat_abs (cell.y -ℤ y)) ∷ with_gap n []) g ∙ sym (ap (λ t. stepped t left x y cell []) off) in
     subst (λ is. Puts rule used is old next new) items (Puts-then rule used (RowEnds rows ∷ []) old between middle (with_gap gap []) next new p q)
 
 -- one step of the loop over the cells
@@ -172,7 +176,7 @@ pub up-to-more : (rule : Rule) (whole : List ℕ) (pen : Pen) (cell : Cell) (cel
 up-to-more rule whole pen cell cells old next new w s = record {
   sound = s.sound;
   follow = subst (λ left. Follow rule left next.x next.y cells) (sym s.place.0) (subst (λ x. Follow rule pen.left x next.y cells) (sym s.place.1) (subst (λ y. Follow rule pen.left (cell.x +ℤ pos 1) y cells) (sym s.place.2) w.follow.2));
-  text = s.text cells ∙ w.text
+  text = s.text cells ∙ w.text;
 }
 
 -- the last run and the mark
@@ -191,7 +195,7 @@ from-first rule bounds first cells old gap used middle last top g p e =
     let on : int_eq first.y bounds.top ≡ true = same_true first.y bounds.top (sym top) in
     e ∙ p.text (with_open 1 first.state items)
     ∙ ap (λ is. old ++ items_text rule 0 is)
-      (sym (ap (λ t. stepped t left left bounds.top first (with_cell first.state items)) on
-        ∙ ap (λ n. with_gap n (with_cell first.state items)) (sym g)
-        ∙ with_gap-append gap (with_cell first.state items)
-        ∙ ap (λ is. with_gap gap [] ++ is) (with_cell-open first.state items)))
+    (sym (ap (λ t. stepped t left left bounds.top first (with_cell first.state items)) on
+    ∙ ap (λ n. with_gap n (with_cell first.state items)) (sym g)
+    ∙ with_gap-append gap (with_cell first.state items)
+    ∙ ap (λ is. with_gap gap [] ++ is) (with_cell-open first.state items)))

@@ -74,8 +74,16 @@ generation-one_line (suc n) h = one_line-append (codes " Gen=") (decimal (suc n)
 position-short : (x y : ℤ) (g : ℕ) → IsShort x → IsShort y → g < 2 ^ 64 → length (position_text x y g) ≤ 100
 position-short x y g sx sy h =
     let a = signed-short x sx in let b = signed-short y sy in let c = generation-short g h in
-    omega (arith, length-append ((codes "#CXRLE Pos=" ++ signed_decimal x) ++ (codes "," ++ signed_decimal y)) (generation_text g),
-      length-append (codes "#CXRLE Pos=" ++ signed_decimal x) (codes "," ++ signed_decimal y), length-append (codes "#CXRLE Pos=") (signed_decimal x), length-append (codes ",") (signed_decimal y), a, b, c)
+    omega (
+      arith,
+      length-append ((codes "#CXRLE Pos=" ++ signed_decimal x) ++ (codes "," ++ signed_decimal y)) (generation_text g),
+      length-append (codes "#CXRLE Pos=" ++ signed_decimal x) (codes "," ++ signed_decimal y),
+      length-append (codes "#CXRLE Pos=") (signed_decimal x),
+      length-append (codes ",") (signed_decimal y),
+      a,
+      b,
+      c,
+    )
 
 position-one_line : (x y : ℤ) (g : ℕ) → IsShort x → IsShort y → g < 2 ^ 64 → is_one_line (position_text x y g) ≡ true
 position-one_line x y g sx sy h =
@@ -100,8 +108,17 @@ header-read : (w h : ℕ) (rule : Rule) → w < 2 ^ 64 → h < 2 ^ 64 → trim_s
 header-read w h rule sw sh bare short law =
     let a = decimal-short w sw in let b = decimal-short h sh in
     let size : length (header_text w h rule) ≤ 1000 =
-        omega (arith, length-append ((codes "x = " ++ decimal w) ++ (codes ", y = " ++ decimal h)) (codes ", rule = " ++ rule_text rule), length-append (codes "x = " ++ decimal w) (codes ", y = " ++ decimal h),
-          length-append (codes "x = ") (decimal w), length-append (codes ", y = ") (decimal h), length-append (codes ", rule = ") (rule_text rule), a, b, short) in
+    omega (
+      arith,
+      length-append ((codes "x = " ++ decimal w) ++ (codes ", y = " ++ decimal h)) (codes ", rule = " ++ rule_text rule),
+      length-append (codes "x = " ++ decimal w) (codes ", y = " ++ decimal h),
+      length-append (codes "x = ") (decimal w),
+      length-append (codes ", y = ") (decimal h),
+      length-append (codes ", rule = ") (rule_text rule),
+      a,
+      b,
+      short,
+    ) in
     ap (λ t. cond t (Err LineTooLong) (and_then (header_of (header_text w h rule)) (λ rule. Ok (Header rule)))) (not_long (length (header_text w h rule)) size)
     ∙ ap (λ r. and_then r (λ rule. Ok (Header rule))) (header_of-written w h rule sw sh bare law)
 
@@ -147,7 +164,7 @@ module _ (states : StatesReadBack) (rules : RulesReadBack) (rule : Rule) (r : Is
     preamble = inr (head.position, position-read x y g (short-coordinate x n.left n.right) (short-coordinate y n.top n.bottom) (is_coordinate-between x n.left n.right) (is_coordinate-between y n.top n.bottom) n.generation, refl);
     rule = header-read w h rule n.width n.height (visible-bare (rule_text rule) (rule_text-is rule r).visible) (rule_text-is rule r).short (rules rule r);
     items = refl;
-    sound = refl
+    sound = refl;
   }
 
   pub lines-IsMarked : first_fault MAX_LEVEL rule (placed_behind head.position [] items) ≡ None → IsMarked MAX_LEVEL lines file
@@ -156,8 +173,11 @@ module _ (states : StatesReadBack) (rules : RulesReadBack) (rule : Rule) (r : Is
   pub lines-AreLines : AreLines lines
   lines-AreLines = (
     position-one_line x y g (short-coordinate x n.left n.right) (short-coordinate y n.top n.bottom) n.generation,
-    (header-one_line w h rule n.width n.height (visible-one_line (rule_text rule) (rule_text-is rule r).visible),
-    wrapped-AreLines [] (map (item_text rule) items ++ (33 ∷ []) ∷ []) refl (written-one_line rule items written)))
+    (
+      header-one_line w h rule n.width n.height (visible-one_line (rule_text rule) (rule_text-is rule r).visible),
+      wrapped-AreLines [] (map (item_text rule) items ++ (33 ∷ []) ∷ []) refl (written-one_line rule items written),
+    ),
+  )
 
 corner-sum : (z : ℤ) → z +ℤ pos 0 ≡ z
 corner-sum z = omega (arith, ints)
@@ -184,13 +204,23 @@ text-back states rules rule g (c ∷ cells) r gs sorted =
     let left = inside.left in let wide = inside.wide in let right = inside.right in
     let top = inside.top in let high = inside.high in let bottom = inside.bottom in
     let small : AreSmall box.left box.top (span box.left box.right) (span box.top box.bottom) g = record {
-      left = left; right = omega (arith, ints, wide, right); top = top; bottom = omega (arith, ints, high, bottom);
-      width = span-small box.left box.right left wide right; height = span-small box.top box.bottom top high bottom; generation = gs } in
+      left = left;
+      right = omega (arith, ints, wide, right);
+      top = top;
+      bottom = omega (arith, ints, high, bottom);
+      width = span-small box.left box.right left wide right;
+      height = span-small box.top box.bottom top high bottom;
+      generation = gs;
+    } in
     let written = AreGood-AreWritten rule box.left box.left box.top items good in
     let where-placed = placed-corner (record { x = box.left; y = box.top; generation = g }) items in
     let sound = ap (first_fault MAX_LEVEL rule) where-placed ∙ AreGood-sound rule box.left box.left box.top items good in
     let f = file states rules rule r box.left box.top (span box.left box.right) (span box.top box.bottom) g small items written in
     let marked = lines-IsMarked states rules rule r box.left box.top (span box.left box.right) (span box.top box.bottom) g small items written sound in
-    let ended = lines-ended (rle_lines rule g (c ∷ cells)) (lines-AreLines states rules rule r box.left box.top (span box.left box.right) (span box.top box.bottom) g small items written) in
-    (f, inr (subst (λ ls. IsMarked MAX_LEVEL ls f) (sym ended) marked), refl, refl,
-     λ x y. ap (λ ps. cell_among ps x y) where-placed ∙ items_from-state rule box.left box.left box.top (c ∷ cells) x y left left top follow)
+    let ended = lines-ended (rle_lines rule g (c ∷ cells)) (lines-AreLines states rules rule r box.left box.top (span box.left box.right) (span box.top box.bottom) g small items written) in (
+      f,
+      inr (subst (λ ls. IsMarked MAX_LEVEL ls f) (sym ended) marked),
+      refl,
+      refl,
+      λ x y. ap (λ ps. cell_among ps x y) where-placed ∙ items_from-state rule box.left box.left box.top (c ∷ cells) x y left left top follow,
+    )

@@ -100,19 +100,21 @@ next_of-digits n (d ∷ digits) tag h v low high t =
 next_of-count : (n : ℕ) (tag : List ℕ) → 0 < n → n ≤ most_count MAX_LEVEL → IsTag tag → next_of MAX_LEVEL (count_text n ++ tag) ≡ item_behind n tag
 next_of-count n tag low high t =
     let small : n < 2 ^ 64 = omega arith in
-    elim (eqb n 1) as (λ b. eqb n 1 ≡ b → next_of MAX_LEVEL (cond b [] (decimal n) ++ tag) ≡ item_behind n tag)
-    [ true ↦ λ e. let one : 1 ≡ n = grind (arith, nat_tests) in next_of-tag tag t ∙ ap (λ m. item_behind m tag) one
-    | false ↦ λ e. next_of-digits n (decimal n) tag (decimal-is_digit_text n small) (value_of-decimal n small) low high t ] refl
+    elim (eqb n 1) as (λ b. eqb n 1 ≡ b → next_of MAX_LEVEL (cond b [] (decimal n) ++ tag) ≡ item_behind n tag) [
+      | true ↦ λ e. let one : 1 ≡ n = grind (arith, nat_tests) in next_of-tag tag t ∙ ap (λ m. item_behind m tag) one
+      | false ↦ λ e. next_of-digits n (decimal n) tag (decimal-is_digit_text n small) (value_of-decimal n small) low high t
+    ] refl
 
 pub IsTag-letter : (b : ℕ) (rest : List ℕ) → 57 < b → IsTag (b ∷ rest)
 IsTag-letter b rest h = (grind (arith, nat_tests), grind (arith, nat_tests), grind (arith, nat_tests))
 
 pub lettered-IsTag : (state : ℕ) (rest : List ℕ) → IsTag (lettered state ++ rest)
 lettered-IsTag state rest =
-    elim (eqb state 0) as (λ t. IsTag (cond t (46 ∷ []) (cond (leb state 24) ((64 + state) ∷ []) ((111 + (state - 1) / 24) ∷ (65 + (state - 1) % 24) ∷ [])) ++ rest))
-    [ true ↦ (refl, refl, refl)
-    | false ↦ elim (leb state 24) as (λ t. IsTag (cond t ((64 + state) ∷ []) ((111 + (state - 1) / 24) ∷ (65 + (state - 1) % 24) ∷ []) ++ rest))
-        [ true ↦ IsTag-letter (64 + state) rest (omega arith) | false ↦ IsTag-letter (111 + (state - 1) / 24) ((65 + (state - 1) % 24) ∷ rest) (omega arith) ] ]
+    elim (eqb state 0) as (λ t. IsTag (cond t (46 ∷ []) (cond (leb state 24) ((64 + state) ∷ []) ((111 + (state - 1) / 24) ∷ (65 + (state - 1) % 24) ∷ [])) ++ rest)) [
+      | true ↦ (refl, refl, refl)
+      | false ↦ elim (leb state 24) as (λ t. IsTag (cond t ((64 + state) ∷ []) ((111 + (state - 1) / 24) ∷ (65 + (state - 1) % 24) ∷ []) ++ rest))
+          [ true ↦ IsTag-letter (64 + state) rest (omega arith) | false ↦ IsTag-letter (111 + (state - 1) / 24) ((65 + (state - 1) % 24) ∷ rest) (omega arith) ]
+    ]
 
 state_text-IsTag : (rule : Rule) (state : ℕ) (rest : List ℕ) → is_state_of rule state ≡ true → IsTag (state_text rule state ++ rest)
 state_text-IsTag (Life sets) state rest h = elim (eqb state 0) as (λ t. IsTag (cond t 98 111 ∷ rest)) [ true ↦ (refl, refl, refl) | false ↦ (refl, refl, refl) ]
@@ -130,10 +132,11 @@ IsNoRowEnd (b ∷ bytes) = eqb b 36 ≡ false
 
 lettered-IsNoRowEnd : (state : ℕ) (rest : List ℕ) → IsNoRowEnd (lettered state ++ rest)
 lettered-IsNoRowEnd state rest =
-    elim (eqb state 0) as (λ t. IsNoRowEnd (cond t (46 ∷ []) (cond (leb state 24) ((64 + state) ∷ []) ((111 + (state - 1) / 24) ∷ (65 + (state - 1) % 24) ∷ [])) ++ rest))
-    [ true ↦ refl
-    | false ↦ elim (leb state 24) as (λ t. IsNoRowEnd (cond t ((64 + state) ∷ []) ((111 + (state - 1) / 24) ∷ (65 + (state - 1) % 24) ∷ []) ++ rest))
-        [ true ↦ grind (arith, nat_tests) | false ↦ grind (arith, nat_tests) ] ]
+    elim (eqb state 0) as (λ t. IsNoRowEnd (cond t (46 ∷ []) (cond (leb state 24) ((64 + state) ∷ []) ((111 + (state - 1) / 24) ∷ (65 + (state - 1) % 24) ∷ [])) ++ rest)) [
+      | true ↦ refl
+      | false ↦ elim (leb state 24) as (λ t. IsNoRowEnd (cond t ((64 + state) ∷ []) ((111 + (state - 1) / 24) ∷ (65 + (state - 1) % 24) ∷ []) ++ rest))
+          [ true ↦ grind (arith, nat_tests) | false ↦ grind (arith, nat_tests) ]
+    ]
 
 state_text-IsNoRowEnd : (rule : Rule) (state : ℕ) (rest : List ℕ) → IsNoRowEnd (state_text rule state ++ rest)
 state_text-IsNoRowEnd (Life sets) state rest = elim (eqb state 0) as (λ t. IsNoRowEnd (cond t 98 111 ∷ rest)) [ true ↦ refl | false ↦ refl ]

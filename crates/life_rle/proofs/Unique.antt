@@ -89,8 +89,8 @@ by_item-fault level file items item more next kind sound fault =
     let rest = placed_behind file.position (file.items ++ (items ++ item ∷ [])) more in
     let one = placed_behind file.position (file.items ++ items) (item ∷ []) in
     let total : first_fault level file.rule (placed_behind file.position file.items ((items ++ item ∷ []) ++ more)) ≡ Some kind =
-        ap (first_fault level file.rule) e1 ∙ first_fault-append level file.rule (placed_behind file.position file.items (items ++ item ∷ [])) rest
-        ∙ ap (λ k. first_kind k (first_fault level file.rule rest)) (ap (first_fault level file.rule) e2 ∙ first_fault-append level file.rule b one ∙ ap (λ k. first_kind k (first_fault level file.rule one)) sound ∙ ap (λ k. first_kind k None) fault) in
+    ap (first_fault level file.rule) e1 ∙ first_fault-append level file.rule (placed_behind file.position file.items (items ++ item ∷ [])) rest
+    ∙ ap (λ k. first_kind k (first_fault level file.rule rest)) (ap (first_fault level file.rule) e2 ∙ first_fault-append level file.rule b one ∙ ap (λ k. first_kind k (first_fault level file.rule one)) sound ∙ ap (λ k. first_kind k None) fault) in
     ap (λ k. first_kind k (fault_of_next next)) total
 
 after_items-Some : (file : Rle) (items : List Item) (next : Next) (kind : Kind) → after_items file items next (Some kind) ≡ Refused kind

@@ -32,7 +32,7 @@ abbrev pub RleTextReadsBack : Type 0
 RleTextReadsBack =
     (rule : Rule) (generation : ℕ) (cells : List Cell) → IsRule rule → generation < 2 ^ 64 → are_sorted_cells MAX_LEVEL rule cells ≡ true
     → (file : Rle) × IsRle MAX_LEVEL (lines_of (rle_text rule generation cells)) file × (file.rule ≡ rule) × (file.position.generation ≡ generation)
-      × ((x y : ℤ) → cell file x y ≡ state_in cells x y)
+    × ((x y : ℤ) → cell file x y ≡ state_in cells x y)
 
 -- The texts stand in groups, in their order, a group on each line: a line has at most 70 bytes, and the first text of the next
 -- group would not have fitted on it.

@@ -19,7 +19,6 @@ pub struct Position {
     pub generation: u64,
 }
 
-
 /// Whether a line is a position line.
 pub(crate) fn is_position_line(line: &[u8]) -> bool
     ensures { result ≡ is_position_line line.now }

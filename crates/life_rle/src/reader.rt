@@ -134,10 +134,8 @@ fn after_line(
     requires { IsPlaced MAX_LEVEL phase cursor }
     ensures advance { IfOk result (λ next. TakesLine MAX_LEVEL phase cursor line.now next.phase next.cursor runs.old.items runs.new.items) }
     ensures going { IfOk result (λ next. is_refused next.phase ≡ false) }
-    ensures fault {
-        IfErr result (λ kind. (kind ≡ Kind.Memory) ⊎ ((kind ≡ Kind.Spent) × (is_refused phase ≡ true))
-            ⊎ ((lines : List (List ℕ)) → StandsAt MAX_LEVEL phase cursor lines → Breaks MAX_LEVEL lines line.now kind))
-    }
+    ensures fault { IfErr result (λ kind. (kind ≡ Kind.Memory) ⊎ ((kind ≡ Kind.Spent) × (is_refused phase ≡ true))
+        ⊎ ((lines : List (List ℕ)) → StandsAt MAX_LEVEL phase cursor lines → Breaks MAX_LEVEL lines line.now kind)) }
     ensures unspent { IfOk result (λ _. is_refused phase ≡ false) }
     ensures spent { is_refused phase ≡ true → IsErrOf result Kind.Spent }
     ensures free { is_over phase ≡ true → IsOkAnd result (λ _. runs.new.items ≡ runs.old.items) }
@@ -210,10 +208,8 @@ impl RleLines {
         ensures fault { IfErr result (λ kind. (kind ≡ Kind.Memory) ⊎ (kind ≡ Kind.Spent) ⊎ Breaks MAX_LEVEL self.old.lines line.now kind) }
         ensures spent { IsErrOf result Kind.Spent ↔ (self.old.refused ≡ true) }
         ensures refused { OnErr result (self.new ≡ record { lines = self.old.lines; refused = true }) }
-        ensures free {
-            self.old.refused ≡ false → ((file : Rle) × IsMarked MAX_LEVEL self.old.lines file)
-            → IsOkAnd result (λ _. runs.new.items ≡ runs.old.items)
-        }
+        ensures free { self.old.refused ≡ false → ((file : Rle) × IsMarked MAX_LEVEL self.old.lines file)
+            → IsOkAnd result (λ _. runs.new.items ≡ runs.old.items) }
     {
         let phase = mem::replace(&mut self.phase, Phase::Refused);
         match after_line(self.alloc, phase, self.cursor, line, runs) {
@@ -242,10 +238,8 @@ impl RleLines {
         ensures refused { OnErr result (self.new ≡ record { lines = self.old.lines; refused = true }) }
 
         // Behind the mark nothing is refused, not even for want of memory.
-        ensures free {
-            self.old.refused ≡ false → ((file : Rle) × IsMarked MAX_LEVEL self.old.lines file)
-            → IsOkAnd result (λ runs. runs.items ≡ [])
-        }
+        ensures free { self.old.refused ≡ false → ((file : Rle) × IsMarked MAX_LEVEL self.old.lines file)
+            → IsOkAnd result (λ runs. runs.items ≡ []) }
     {
         let mut runs = Vec::new(self.alloc);
         match self.take_line(line, &mut runs) {

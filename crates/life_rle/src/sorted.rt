@@ -10,7 +10,10 @@ use life_base::{Cell, MAX_LEVEL, Rule};
 fn is_live_cell(rule: &Rule, cell: &Cell) -> bool
     ensures { result ≡ is_live_cell MAX_LEVEL rule.now cell.now }
 {
-    is_coordinate(cell.x) && is_coordinate(cell.y) && cell.state > 0 && is_state_of(rule, cell.state)
+    is_coordinate(cell.x)
+        && is_coordinate(cell.y)
+        && cell.state > 0
+        && is_state_of(rule, cell.state)
 }
 
 /// Whether the second cell stands in a later row, or behind the first in one row.

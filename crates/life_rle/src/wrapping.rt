@@ -19,13 +19,7 @@ fn state_len(rule: &Rule, state: State) -> usize
 {
     match rule {
         Rule::Life(_) => 1,
-        Rule::Named(_) => {
-            if state <= 24 {
-                1
-            } else {
-                2
-            }
-        }
+        Rule::Named(_) => { if state <= 24 { 1 } else { 2 } }
     }
 }
 

@@ -6,6 +6,7 @@ use std::alloc::Global;
 use std::test::Fail;
 
 const FIRST: i64 = -(1 << 59);
+
 const LAST: i64 = (1 << 59) - 1;
 
 fn cell(x: i64, y: i64, state: u8) -> Cell {
@@ -13,12 +14,7 @@ fn cell(x: i64, y: i64, state: u8) -> Cell {
 }
 
 /// The text of cells that can be written, or a kind: `Memory` of the writer, or `Spent` for cells that can't.
-fn text_of(
-    alloc: Global,
-    rule: &[u8],
-    generation: u64,
-    cells: &[Cell],
-) -> Result<Vec<u8>, Kind> {
+fn text_of(alloc: Global, rule: &[u8], generation: u64, cells: &[Cell]) -> Result<Vec<u8>, Kind> {
     let rule = Rule::parse(alloc, rule)?;
     if !sorted_cells(&rule, cells) {
         return Err(Kind::Spent);
@@ -39,16 +35,25 @@ fn a_glider_is_written(rt: HostRuntime) -> Result<(), Fail> {
         cell(2, 2, 1),
     ];
     let text = text_of(rt.alloc(), b"b3s23", 0, &cells)?;
-    assert_eq!(rt; &text[..], b"#CXRLE Pos=0,0\nx = 3, y = 3, rule = B3/S23\nbo$2bo$3o!\n");
+    assert_eq!(rt;
+        &text[..],
+        b"#CXRLE Pos=0,0\nx = 3, y = 3, rule = B3/S23\nbo$2bo$3o!\n".as_slice()
+    );
     Ok(())
 }
 
 #[test]
 fn no_cells_are_written(rt: HostRuntime) -> Result<(), Fail> {
     let text = text_of(rt.alloc(), b"B3/S23", 0, &[])?;
-    assert_eq!(rt; &text[..], b"#CXRLE Pos=0,0\nx = 0, y = 0, rule = B3/S23\n!\n");
+    assert_eq!(rt;
+        &text[..],
+        b"#CXRLE Pos=0,0\nx = 0, y = 0, rule = B3/S23\n!\n".as_slice()
+    );
     let text = text_of(rt.alloc(), b"Foo", 9, &[])?;
-    assert_eq!(rt; &text[..], b"#CXRLE Pos=0,0 Gen=9\nx = 0, y = 0, rule = Foo\n!\n");
+    assert_eq!(rt;
+        &text[..],
+        b"#CXRLE Pos=0,0 Gen=9\nx = 0, y = 0, rule = Foo\n!\n".as_slice()
+    );
     Ok(())
 }
 
@@ -56,7 +61,10 @@ fn no_cells_are_written(rt: HostRuntime) -> Result<(), Fail> {
 fn states_under_a_name_are_letters(rt: HostRuntime) -> Result<(), Fail> {
     let cells = [cell(0, 0, 25), cell(1, 2, 3)];
     let text = text_of(rt.alloc(), b"Foo", 0, &cells)?;
-    assert_eq!(rt; &text[..], b"#CXRLE Pos=0,0\nx = 2, y = 3, rule = Foo\npA2$.C!\n");
+    assert_eq!(rt;
+        &text[..],
+        b"#CXRLE Pos=0,0\nx = 2, y = 3, rule = Foo\npA2$.C!\n".as_slice()
+    );
     let cells = [
         cell(-1, -1, 1),
         cell(0, -1, 24),
@@ -72,7 +80,7 @@ fn states_under_a_name_are_letters(rt: HostRuntime) -> Result<(), Fail> {
     let text = text_of(rt.alloc(), b"WireWorld", 7, &cells)?;
     assert_eq!(rt;
         &text[..],
-        b"#CXRLE Pos=-1,-1 Gen=7\nx = 12, y = 1, rule = WireWorld\nAXpApXqAxXyAyO2.2yO!\n"
+        b"#CXRLE Pos=-1,-1 Gen=7\nx = 12, y = 1, rule = WireWorld\nAXpApXqAxXyAyO2.2yO!\n".as_slice()
     );
     Ok(())
 }
@@ -88,12 +96,14 @@ fn lines_have_at_most_70_bytes(rt: HostRuntime) -> Result<(), Fail> {
         &text[..],
         b"#CXRLE Pos=0,0\nx = 71, y = 1, rule = B3/S23\n\
         obobobobobobobobobobobobobobobobobobobobobobobobobobobobobobobobobobob\no!\n"
+            .as_slice()
     );
     let text = text_of(rt.alloc(), b"B3/S23", 0, &cells[..35])?;
     assert_eq!(rt;
         &text[..],
         b"#CXRLE Pos=0,0\nx = 69, y = 1, rule = B3/S23\n\
         obobobobobobobobobobobobobobobobobobobobobobobobobobobobobobobobobobo!\n"
+            .as_slice()
     );
     cells.truncate(34);
     cells.push(cell(67, 0, 1))?;
@@ -103,6 +113,7 @@ fn lines_have_at_most_70_bytes(rt: HostRuntime) -> Result<(), Fail> {
         &text[..],
         b"#CXRLE Pos=0,0\nx = 80, y = 1, rule = B3/S23\n\
         obobobobobobobobobobobobobobobobobobobobobobobobobobobobobobobobob2o\n11bo!\n"
+            .as_slice()
     );
     Ok(())
 }
@@ -116,6 +127,7 @@ fn the_corners_of_the_plane_are_written(rt: HostRuntime) -> Result<(), Fail> {
         b"#CXRLE Pos=-576460752303423488,-576460752303423488 Gen=18446744073709551615\n\
         x = 1152921504606846976, y = 1152921504606846976, rule = B3/S23\n\
         o1152921504606846975$1152921504606846975bo!\n"
+            .as_slice()
     );
     Ok(())
 }

@@ -15,5 +15,5 @@ returns-clause-way c =
     let pen = c.args.pen in
     IfOk-weaker c.put_gap-2.result _ _
     (λ next p. way-down c.args.rule.now pen.left pen.x pen.y c.args.cell.now c.args.used c.args.out.now.items c.rows_ahead-count.result c.in_ok-next.next c.put_item.new.out.items c.cells_in_front.result next c.put_gap-2.new.out.items
-        c.rows_ahead-count.ensures c.if-count-eq0.false c.cells_in_front.ensures c.in_ok-next.ensures.item p)
+    c.rows_ahead-count.ensures c.if-count-eq0.false c.cells_in_front.ensures c.in_ok-next.ensures.item p)
     c.put_gap-2.ensures.gap

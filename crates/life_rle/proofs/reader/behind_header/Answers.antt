@@ -25,5 +25,5 @@ returns-in-Ok-Data-clause-fault c =
     let line = c.args.line.now in
     let e : later_of line ≡ Ok Data = sym c.later_of.ensures ∙ c.in-Ok-Data.is ∙ ap Ok c.in-Ok-Data.field-0-is in
     IfErr-map (λ kind. (kind ≡ Memory) ⊎ ItemsBreak MAX_LEVEL c.args.rule c.args.cursor line kind)
-      (λ kind. (kind ≡ Memory) ⊎ (later_of line ≡ Err kind) ⊎ ((later_of line ≡ Ok Data) × ItemsBreak MAX_LEVEL c.args.rule c.args.cursor line kind)) c.behind_items.result
-      (λ kind h. elim h [ inl m ↦ inl m | inr b ↦ inr (inr (e, b)) ]) c.behind_items.ensures.fault
+    (λ kind. (kind ≡ Memory) ⊎ (later_of line ≡ Err kind) ⊎ ((later_of line ≡ Ok Data) × ItemsBreak MAX_LEVEL c.args.rule c.args.cursor line kind)) c.behind_items.result
+    (λ kind h. elim h [ inl m ↦ inl m | inr b ↦ inr (inr (e, b)) ]) c.behind_items.ensures.fault

@@ -20,11 +20,12 @@ returns-after-read-clause-advance c =
     let before : List Run = c.args.runs.now.items in
     let after : List Run = c.read_items.new.runs.items in
     elim c.if-read.branch [
-        then-read w ↦
-            let read : IsRead MAX_LEVEL rule c.args.cursor line h.items Mark now h.found = subst (λ b. IsRead MAX_LEVEL rule c.args.cursor line h.items (last_of b) now h.found) w.if-read.true h.read in
-            subst (λ (p : Phase). TakesLine MAX_LEVEL (phases.Items rule position) c.args.cursor line p now before after) (sym w.phase-is)
-            (record { runs = h.found; advances = adv-mark MAX_LEVEL rule position c.args.cursor now line h.items h.found c.requires.data read; added = h.added })
+      | then-read w ↦
+          let read : IsRead MAX_LEVEL rule c.args.cursor line h.items Mark now h.found = subst (λ b. IsRead MAX_LEVEL rule c.args.cursor line h.items (last_of b) now h.found) w.if-read.true h.read in
+          subst (λ (p : Phase). TakesLine MAX_LEVEL (phases.Items rule position) c.args.cursor line p now before after) (sym w.phase-is)
+          (record { runs = h.found; advances = adv-mark MAX_LEVEL rule position c.args.cursor now line h.items h.found c.requires.data read; added = h.added })
       | else-read w ↦
-            let read : IsRead MAX_LEVEL rule c.args.cursor line h.items End now h.found = subst (λ b. IsRead MAX_LEVEL rule c.args.cursor line h.items (last_of b) now h.found) w.if-read.false h.read in
-            subst (λ (p : Phase). TakesLine MAX_LEVEL (phases.Items rule position) c.args.cursor line p now before after) (sym w.phase-is)
-            (record { runs = h.found; advances = adv-items MAX_LEVEL rule position c.args.cursor now line h.items h.found c.requires.data read; added = h.added }) ]
+          let read : IsRead MAX_LEVEL rule c.args.cursor line h.items End now h.found = subst (λ b. IsRead MAX_LEVEL rule c.args.cursor line h.items (last_of b) now h.found) w.if-read.false h.read in
+          subst (λ (p : Phase). TakesLine MAX_LEVEL (phases.Items rule position) c.args.cursor line p now before after) (sym w.phase-is)
+          (record { runs = h.found; advances = adv-items MAX_LEVEL rule position c.args.cursor now line h.items h.found c.requires.data read; added = h.added })
+    ]

@@ -37,10 +37,10 @@ returns-clause-ok c =
     let text = λ (lines : List (List ℕ)). old ++ flat_map (λ line. line ++ 10 ∷ []) lines in
     on_ok_weaker c.write_cells.result
     (λ e.
-      lines-text (position_text corner.x corner.y corner.generation) (header_text c.width_of.result c.height_of.result rule) rule items old c.append_position.new.out.items c.append_header.new.out.items c.write_cells.new.out.items
-        c.in_ok-append_position.ensures.ok c.in_ok-append_header.ensures.ok e
-      ∙ ap (λ (p : Position). text (position_text p.x p.y p.generation ∷ header_text c.width_of.result c.height_of.result rule ∷ item_lines rule items)) c.corner_of.ensures
-      ∙ ap (λ w. text (position_text box.left box.top g ∷ header_text w c.height_of.result rule ∷ item_lines rule items)) c.width_of.ensures
-      ∙ ap (λ h. text (position_text box.left box.top g ∷ header_text (span box.left box.right) h rule ∷ item_lines rule items)) c.height_of.ensures
-      ∙ ap (λ (b : Bounds). text (lines_in_box rule g b (items_from b.left b.left b.top all))) c.bounds_of-bounds.ensures)
+    lines-text (position_text corner.x corner.y corner.generation) (header_text c.width_of.result c.height_of.result rule) rule items old c.append_position.new.out.items c.append_header.new.out.items c.write_cells.new.out.items
+    c.in_ok-append_position.ensures.ok c.in_ok-append_header.ensures.ok e
+    ∙ ap (λ (p : Position). text (position_text p.x p.y p.generation ∷ header_text c.width_of.result c.height_of.result rule ∷ item_lines rule items)) c.corner_of.ensures
+    ∙ ap (λ w. text (position_text box.left box.top g ∷ header_text w c.height_of.result rule ∷ item_lines rule items)) c.width_of.ensures
+    ∙ ap (λ h. text (position_text box.left box.top g ∷ header_text (span box.left box.right) h rule ∷ item_lines rule items)) c.height_of.ensures
+    ∙ ap (λ (b : Bounds). text (lines_in_box rule g b (items_from b.left b.left b.top all))) c.bounds_of-bounds.ensures)
     c.write_cells.ensures.text

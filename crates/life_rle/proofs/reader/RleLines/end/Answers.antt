@@ -13,5 +13,6 @@ returns-in-Err-clause-whole c = λ r g.
     let kind : Kind = c.in-Err.kind in
     let only : (kind ≡ NoHeader) ⊎ (kind ≡ Spent) = c.in-Err.ensures.only in
     elim only [
-        inl m ↦ (let pre = c.in-Err.ensures.missing (ap Err m) in absurd (IsPreamble-refused MAX_LEVEL c.args.self.lines pre.0 pre.1 g))
-      | inr s ↦ (let refused = c.in-Err.ensures.spent.0 (ap Err s) in cc) ]
+      | inl m ↦ (let pre = c.in-Err.ensures.missing (ap Err m) in absurd (IsPreamble-refused MAX_LEVEL c.args.self.lines pre.0 pre.1 g))
+      | inr s ↦ (let refused = c.in-Err.ensures.spent.0 (ap Err s) in cc)
+    ]

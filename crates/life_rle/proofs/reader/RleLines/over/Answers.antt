@@ -18,7 +18,9 @@ is_over-over (phases.Over rule position) n e = n rule position refl
 
 pub returns-in_default-clause-over : goal.returns-in_default-clause-over
 returns-in_default-clause-over c = λ r.
-    let inside = c.self.inside in
-    (λ t. search rules, λ h. absurd (is_over-over inside.phase c.in_default.not-Over
-      (marked-is_over MAX_LEVEL inside.phase inside.cursor inside.log.lines h.0 c.self.invariant (ap (λ (v : LinesRead). v.refused) c.self.view_is ∙ r)
-        (subst (λ (v : LinesRead). IsMarked MAX_LEVEL v.lines h.0) (sym c.self.view_is) h.1))))
+    let inside = c.self.inside in (
+      λ t. search rules,
+      λ h. absurd (is_over-over inside.phase c.in_default.not-Over
+          (marked-is_over MAX_LEVEL inside.phase inside.cursor inside.log.lines h.0 c.self.invariant (ap (λ (v : LinesRead). v.refused) c.self.view_is ∙ r)
+          (subst (λ (v : LinesRead). IsMarked MAX_LEVEL v.lines h.0) (sym c.self.view_is) h.1))),
+    )

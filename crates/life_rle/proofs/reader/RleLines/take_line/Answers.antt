@@ -35,8 +35,9 @@ returns-in-Ok-clause-runs c =
       runs = took.runs;
       added = took.added;
       found = λ before h.
-        let known : HasRuns MAX_LEVEL inside.log.lines before = subst (λ (v : LinesRead). HasRuns MAX_LEVEL v.lines before) (sym c.self.view_is) h in
-        subst (λ ls. HasRuns MAX_LEVEL ls (before ++ took.runs)) (sym c.then-self-inside.ensures) (took.advances.found inside.log.lines before stands known) }
+          let known : HasRuns MAX_LEVEL inside.log.lines before = subst (λ (v : LinesRead). HasRuns MAX_LEVEL v.lines before) (sym c.self.view_is) h in
+          subst (λ ls. HasRuns MAX_LEVEL ls (before ++ took.runs)) (sym c.then-self-inside.ensures) (took.advances.found inside.log.lines before stands known);
+    }
 
 pub returns-in-Err-clause-fault : goal.returns-in-Err-clause-fault
 returns-in-Err-clause-fault c =
@@ -47,7 +48,7 @@ returns-in-Err-clause-fault c =
     let stands : StandsAt MAX_LEVEL phase inside.cursor inside.log.lines = subst (λ p. StandsAt MAX_LEVEL p inside.cursor inside.log.lines) (sym c.replace-phase.ensures.value) c.self.invariant in
     let told : Told phase kind (λ lines. StandsAt MAX_LEVEL phase inside.cursor lines → Breaks MAX_LEVEL lines line kind) = c.in-Err.ensures.fault in
     let answer : (kind ≡ Memory) ⊎ (kind ≡ Spent) ⊎ Breaks MAX_LEVEL c.args.self.now.lines line kind =
-        elim told [ inl m ↦ inl m | inr e ↦ elim e [ inl s ↦ inr (inl s.0) | inr f ↦ inr (inr (subst (λ (v : LinesRead). Breaks MAX_LEVEL v.lines line kind) c.self.view_is (f inside.log.lines stands))) ] ] in
+    elim told [ inl m ↦ inl m | inr e ↦ elim e [ inl s ↦ inr (inl s.0) | inr f ↦ inr (inr (subst (λ (v : LinesRead). Breaks MAX_LEVEL v.lines line kind) c.self.view_is (f inside.log.lines stands))) ] ] in
     answer
 
 pub returns-in-Err-clause-spent : goal.returns-in-Err-clause-spent
@@ -60,11 +61,12 @@ returns-in-Err-clause-spent c =
     let refused : is_refused phase ≡ c.args.self.now.refused = ap is_refused c.replace-phase.ensures.value ∙ ap (λ (v : LinesRead). v.refused) c.self.view_is in
     let told : Told phase kind (λ lines. StandsAt MAX_LEVEL phase inside.cursor lines → Breaks MAX_LEVEL lines line kind) = c.in-Err.ensures.fault in
     let spent : kind ≡ Spent → c.args.self.now.refused ≡ true = λ e.
-        elim told [ inl m ↦ absurd (other kind m e) | inr t ↦ elim t [ inl s ↦ sym refused ∙ s.1 | inr f ↦ absurd (placed kind e (Breaks-placed MAX_LEVEL inside.log.lines line kind (f inside.log.lines stands))) ] ] in
+    elim told [ inl m ↦ absurd (other kind m e) | inr t ↦ elim t [ inl s ↦ sym refused ∙ s.1 | inr f ↦ absurd (placed kind e (Breaks-placed MAX_LEVEL inside.log.lines line kind (f inside.log.lines stands))) ] ] in
     (λ h. let e : kind ≡ Spent = cc in spent e, λ r. let s = c.in-Err.ensures.spent (refused ∙ r) in let e : kind ≡ Spent = cc in ap Err e)
   where
     other : (kind : Kind) → kind ≡ Memory → kind ≡ Spent → ⊥
     other kind m e = cc
+
     placed : (kind : Kind) → kind ≡ Spent → is_placeless kind ≡ false → ⊥
     placed kind e p = let t : true ≡ false = ap is_placeless (sym e) ∙ p in cc
 
