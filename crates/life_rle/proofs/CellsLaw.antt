@@ -14,6 +14,7 @@ use Rattle.life_rle.specs.Pattern.{cell_among}
 use Rattle.life_rle.specs.States.{is_state_of}
 use Rattle.life_rle.specs.Written.{with_gap, with_cell, items_from}
 use Rattle.life_rle.specs.Sorted.{state_in}
+use Rattle.life_rle.specs.Writing.{IsGoodCell, Follow}
 use Rattle.life_rle.proofs.Places.{placed_from}
 use Rattle.life_base.specs.declared.cell.TheConstants.{MAX_LEVEL}
 
@@ -108,20 +109,6 @@ state_of_zero (Named name) = refl
 AreGood-with_gap : (rule : Rule) (left column row : ℤ) (n : ℕ) (items : List Item) → neg_ℤ (edge MAX_LEVEL) ≤ℤ column → (column +ℤ pos n) ≤ℤ edge MAX_LEVEL → row <ℤ edge MAX_LEVEL → AreGood rule left (column +ℤ pos n) row items → AreGood rule left column row (with_gap n items)
 AreGood-with_gap rule left column row zero items low high inside g = subst (λ c. AreGood rule left c row items) (omega (arith, ints)) g
 AreGood-with_gap rule left column row (suc n) items low high inside g = (omega arith, omega (arith, ints, low, high), state_of_zero rule, inside, high, g)
-
--- a cell of a state under the rule, in the plane
-pub record IsGoodCell (rule : Rule) (c : Cell) : Type 0 where
-  pub left : neg_ℤ (edge MAX_LEVEL) ≤ℤ c.x
-  pub right : c.x <ℤ edge MAX_LEVEL
-  pub top : neg_ℤ (edge MAX_LEVEL) ≤ℤ c.y
-  pub bottom : c.y <ℤ edge MAX_LEVEL
-  pub state : is_state_of rule c.state ≡ true
-
--- good cells that rise from a place on
-abbrev pub Follow : Rule → ℤ → ℤ → ℤ → List Cell → Type 0
-Follow rule left column row [] = Unit {0}
-Follow rule left column row (c ∷ cells) =
-    IsGoodCell rule c × (((c.y ≡ row) × (column ≤ℤ c.x)) ⊎ ((row <ℤ c.y) × (left ≤ℤ c.x))) × Follow rule left (c.x +ℤ pos 1) c.y cells
 
 distance : (low high : ℤ) → low ≤ℤ high → low +ℤ pos (nat_abs (high -ℤ low)) ≡ high
 distance low high h = grind (arith, ints)

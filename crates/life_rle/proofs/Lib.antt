@@ -17,6 +17,13 @@ pub mod Lines
 pub mod ReadBack
 pub mod OneLine
 pub mod ReadPosition
+pub mod BoxOnto
+pub mod RuleTexts
+pub mod StatesRead
+pub mod GreedyLines
+pub mod TextBack
+pub mod PutItems
+pub mod TakeCells
 pub mod LineKinds
 pub mod Stands
 pub mod RunsLaws

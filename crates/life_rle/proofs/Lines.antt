@@ -147,11 +147,11 @@ lettered-short state =
       | false ↦ elim (leb state 24) as (λ t. length (cond t ((64 + state) ∷ []) ((111 + (state - 1) / 24) ∷ (65 + (state - 1) % 24) ∷ [])) ≤ 2) [ true ↦ omega arith | false ↦ omega arith ]
     ]
 
-state_text-short : (rule : Rule) (state : ℕ) → length (state_text rule state) ≤ 2
+pub state_text-short : (rule : Rule) (state : ℕ) → length (state_text rule state) ≤ 2
 state_text-short (Life sets) state = omega arith
 state_text-short (Named name) state = lettered-short state
 
-item_text-short : (rule : Rule) (item : Item) → IsWritten rule item → length (item_text rule item) ≤ 70
+pub item_text-short : (rule : Rule) (item : Item) → IsWritten rule item → length (item_text rule item) ≤ 70
 item_text-short rule (Cells n s) h =
     let a = count_text-short n h.1 in let b = state_text-short rule s in
     omega (arith, length-append (count_text n) (state_text rule s), a, b)

@@ -1,23 +1,26 @@
 -- Sorted cells follow each other from the corner of their box, and items in the plane are sound.
-use Rattle.std.proofs.Common.{◌≡◌, ℕ, ◌⊎◌, inl, inr, true, false, not, cond, ◌&&◌, ◌||◌, List, [], ◌∷◌, refl, sym, ap, ◌∙◌, Some, None, ℤ, pos, neg_ℤ, ◌+ℤ◌, ◌≤ℤ◌, ◌<ℤ◌, arith, ltb}
+use Rattle.std.proofs.Common.{◌≡◌, ℕ, ◌<◌, ◌⊎◌, inl, inr, true, false, not, cond, ◌&&◌, ◌||◌, List, [], ◌∷◌, refl, sym, ap, ◌∙◌, Some, None, ℤ, pos, neg_ℤ, ◌+ℤ◌, ◌≤ℤ◌, ◌<ℤ◌, arith, ltb}
 use Rattle.std.specs.Prelude.{int_lt, int_le}
 use Rattle.std.specs.Ordering.{int_eq}
-use Rattle.std.specs.Int.{int_min}
+use Rattle.std.specs.Int.{int_min, int_max}
 use Rattle.std.proofs.lemmas.Int.{ints}
+use Rattle.std.proofs.lemmas.Bool.Decides.{nat_tests}
 use Rattle.life_base.specs.declared.kind.Kind.TheVariants.{StateRange, OutOfPlane}
 use Rattle.life_base.specs.declared.cell.Cell.{Cell}
 use Rattle.life_base.specs.declared.rule.Rule.{Rule}
 use Rattle.life_rle.specs.declared.item.Item.{Item}
+use Rattle.life_rle.specs.declared.bounds.Bounds.{Bounds}
 use Rattle.life_rle.specs.declared.item.Item.TheVariants.{Cells, RowEnds}
 use Rattle.life_rle.specs.Plane.{edge, is_coordinate}
 use Rattle.life_rle.specs.Pattern.{item_fault, first_kind, first_fault}
 use Rattle.life_rle.specs.States.{is_state_of}
-use Rattle.life_rle.specs.Written.{box_of}
+use Rattle.life_rle.specs.Written.{box_of, joined, box_of_cell}
 use Rattle.life_rle.specs.Sorted.{is_live_cell, rises, are_sorted_cells}
 use Rattle.life_rle.proofs.Texts.{both_true}
 use Rattle.life_rle.proofs.Places.{placed_from}
 use Rattle.life_rle.proofs.Lines.{AreWritten}
-use Rattle.life_rle.proofs.CellsLaw.{AreGood, IsGoodCell, Follow}
+use Rattle.life_rle.specs.Writing.{IsGoodCell, Follow, IsInPlane}
+use Rattle.life_rle.proofs.CellsLaw.{AreGood}
 use Rattle.life_base.specs.declared.cell.TheConstants.{MAX_LEVEL}
 
 -- good items can be written
@@ -58,7 +61,9 @@ live-good rule c h =
     let state = both_true (ltb 0 c.state) (is_state_of rule c.state) parts.1 in
     let x = coordinate-range c.x place.0 in
     let y = coordinate-range c.y place.1 in
-    record { left = x.0; right = x.1; top = y.0; bottom = y.1; state = state.1 }
+    let some = state.0 in
+    let live : 0 < c.state = grind (arith, nat_tests) in
+    record { left = x.0; right = x.1; top = y.0; bottom = y.1; state = state.1; live = live }
 
 -- each cell's column is no less
 abbrev pub AllRight : ℤ → List Cell → Type 0
@@ -121,3 +126,23 @@ pub sorted-Follow : (rule : Rule) (c : Cell) (cells : List Cell) → are_sorted_
 sorted-Follow rule c cells h =
     let right = box-left c cells in
     (live-good rule c (first-live rule c cells h), inl (sym (box-top rule c cells h), right.0), Follow-rest rule (box_of c cells).left c cells h right)
+
+-- a cell and a box of the plane lie in a box of the plane
+IsInPlane-joined : (rule : Rule) (c : Cell) (box : Bounds) → IsGoodCell rule c → IsInPlane box → IsInPlane (joined (box_of_cell c) box)
+IsInPlane-joined rule c box g b =
+    let gl = g.left in let gr = g.right in let gt = g.top in let gb = g.bottom in
+    let bl = b.left in let br = b.right in let bt = b.top in let bb = b.bottom in
+    record { left = grind (arith, ints); wide = least-most c.x box.left box.right b.wide; right = grind (arith, ints); top = grind (arith, ints); high = least-most c.y box.top box.bottom b.high; bottom = grind (arith, ints) }
+  where
+    least-most : (z low high : ℤ) → low ≤ℤ high → int_min z low ≤ℤ int_max z high
+    least-most z low high h = grind (arith, ints)
+
+IsInPlane-cell : (rule : Rule) (c : Cell) → IsGoodCell rule c → IsInPlane (box_of_cell c)
+IsInPlane-cell rule c g = record { left = g.left; wide = grind (arith, ints); right = g.right; top = g.top; high = grind (arith, ints); bottom = g.bottom }
+
+-- the box of sorted cells
+pub sorted-IsInPlane : (rule : Rule) (c : Cell) (cells : List Cell) → are_sorted_cells MAX_LEVEL rule (c ∷ cells) ≡ true → IsInPlane (box_of c cells)
+sorted-IsInPlane rule c [] h = IsInPlane-cell rule c (live-good rule c h)
+sorted-IsInPlane rule c (d ∷ cells) h =
+    let parts = both_true (is_live_cell MAX_LEVEL rule c && rises c d) (are_sorted_cells MAX_LEVEL rule (d ∷ cells)) h in
+    IsInPlane-joined rule c (box_of d cells) (live-good rule c (first-live rule c (d ∷ cells) h)) (sorted-IsInPlane rule d cells parts.1)

@@ -1,5 +1,5 @@
 -- The laws of the definitions.
-use Rattle.std.specs.Prelude.{◌≡◌, ℕ, ◌^◌, ◌<◌, true, List, [], ◌∷◌, ◌++◌, ℤ, Some}
+use Rattle.std.specs.Prelude.{◌≡◌, ℕ, ◌+◌, ◌^◌, ◌<◌, ◌≤◌, true, List, [], ◌∷◌, ◌++◌, length, map, drop, flat_map, codes, ℤ, Some}
 use Rattle.life_base.specs.declared.kind.Kind.{Kind}
 use Rattle.life_base.specs.declared.cell.Cell.{Cell}
 use Rattle.life_base.specs.declared.cell.TheConstants.{MAX_LEVEL}
@@ -9,7 +9,7 @@ use Rattle.life_base.specs.Rules.{IsRule}
 use Rattle.life_rle.specs.States.{state_at, state_text, is_state_of}
 use Rattle.life_rle.specs.Pattern.{Rle, cell}
 use Rattle.life_rle.specs.Grammar.{IsRle, Breaks}
-use Rattle.life_rle.specs.Written.{rle_text}
+use Rattle.life_rle.specs.Written.{item_text, items_of, rle_lines, rle_text}
 use Rattle.life_rle.specs.Sorted.{are_sorted_cells, state_in}
 
 -- lines are an RLE file of at most one pattern
@@ -33,3 +33,25 @@ RleTextReadsBack =
     (rule : Rule) (generation : ℕ) (cells : List Cell) → IsRule rule → generation < 2 ^ 64 → are_sorted_cells MAX_LEVEL rule cells ≡ true
     → (file : Rle) × IsRle MAX_LEVEL (lines_of (rle_text rule generation cells)) file × (file.rule ≡ rule) × (file.position.generation ≡ generation)
     × ((x y : ℤ) → cell file x y ≡ state_in cells x y)
+
+-- The texts stand in groups, in their order, a group on each line: a line has at most 70 bytes, and the first text of the next
+-- group would not have fitted on it.
+abbrev pub IsWrapped : List (List (List ℕ)) → Type 0
+IsWrapped [] = Unit {0}
+IsWrapped (group ∷ []) = length (flat_map (λ text. text) group) ≤ 70
+IsWrapped (group ∷ [] ∷ groups) = ⊥
+IsWrapped (group ∷ (text ∷ texts) ∷ groups) =
+    (length (flat_map (λ text. text) group) ≤ 70) × (70 < length (flat_map (λ text. text) group) + length text) × IsWrapped ((text ∷ texts) ∷ groups)
+
+-- lines that are texts joined in such groups
+pub record AreWrapped (texts lines : List (List ℕ)) : Type 0 where
+  pub groups : List (List (List ℕ))
+  pub order : flat_map (λ group. group) groups ≡ texts
+  pub joined : lines ≡ map (λ group. flat_map (λ text. text) group) groups
+  pub full : IsWrapped groups
+
+-- behind the two lines in front the items of sorted cells and `!` are wrapped
+abbrev pub WrappedGreedily : Type 0
+WrappedGreedily =
+    (rule : Rule) (generation : ℕ) (cells : List Cell) → are_sorted_cells MAX_LEVEL rule cells ≡ true
+    → AreWrapped (map (item_text rule) (items_of cells) ++ codes "!" ∷ []) (drop 2 (rle_lines rule generation cells))

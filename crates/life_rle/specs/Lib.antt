@@ -7,6 +7,7 @@ pub mod Pattern
 pub mod Runs
 pub mod Grammar
 pub mod Written
+pub mod Writing
 pub mod Sorted
 pub mod File
 pub mod Laws

@@ -7,25 +7,20 @@ use Rattle.life_base.specs.declared.cell.Cell.{Cell}
 use Rattle.life_base.specs.declared.rule.Rule.{Rule}
 use Rattle.life_base.specs.Rules.{rule_text}
 use Rattle.life_rle.specs.States.{state_text}
+use Rattle.life_rle.specs.declared.bounds.Bounds.{Bounds}
 use Rattle.life_rle.specs.declared.item.Item.{Item}
 use Rattle.life_rle.specs.declared.item.Item.TheVariants.{Cells, RowEnds}
 
--- the least box around cells that are not blank
-pub record Box : Type 0 where
-  pub left : ℤ
-  pub top : ℤ
-  pub right : ℤ
-  pub bottom : ℤ
-
-abbrev pub box_of_cell : Cell → Box
+-- the box of one cell
+abbrev pub box_of_cell : Cell → Bounds
 box_of_cell c = record { left = c.x; top = c.y; right = c.x; bottom = c.y }
 
 -- the least box around both
-abbrev pub joined : Box → Box → Box
+abbrev pub joined : Bounds → Bounds → Bounds
 joined a b = record { left = int_min a.left b.left; top = int_min a.top b.top; right = int_max a.right b.right; bottom = int_max a.bottom b.bottom }
 
 -- the least box around a cell and more cells
-abbrev pub box_of : Cell → List Cell → Box
+abbrev pub box_of : Cell → List Cell → Bounds
 box_of c [] = box_of_cell c
 box_of c (d ∷ cells) = joined (box_of_cell c) (box_of d cells)
 
@@ -48,6 +43,11 @@ items_from left x y (c ∷ cells) =
     let rest = with_cell c.state (items_from left (c.x +ℤ pos 1) c.y cells) in
     if int_eq c.y y then with_gap (nat_abs (c.x -ℤ x)) rest
     else RowEnds (nat_abs (c.y -ℤ y)) ∷ with_gap (nat_abs (c.x -ℤ left)) rest
+
+-- the items of cells that rise by row and column, from the corner of their box on
+abbrev pub items_of : List Cell → List Item
+items_of [] = []
+items_of (c ∷ cells) = items_from (box_of c cells).left (box_of c cells).left (box_of c cells).top (c ∷ cells)
 
 -- a count of 1 is not written
 abbrev pub count_text : ℕ → List ℕ
@@ -81,16 +81,17 @@ header_text width height rule = ((codes "x = " ++ decimal width) ++ (codes ", y 
 abbrev pub span : ℤ → ℤ → ℕ
 span low high = nat_abs (high -ℤ low) + 1
 
-abbrev pub lines_in_box : Rule → ℕ → Box → List Cell → List (List ℕ)
-lines_in_box rule generation box cells =
+-- the lines of a pattern in this box
+abbrev pub lines_in_box : Rule → ℕ → Bounds → List Item → List (List ℕ)
+lines_in_box rule generation box items =
     position_text box.left box.top generation
     ∷ header_text (span box.left box.right) (span box.top box.bottom) rule
-    ∷ item_lines rule (items_from box.left box.left box.top cells)
+    ∷ item_lines rule items
 
--- the lines that are written for cells that rise by row and column
+-- the lines that are written for cells that rise by row and column; without cells the box lies at (0, 0), and its sides are 0
 abbrev pub rle_lines : Rule → ℕ → List Cell → List (List ℕ)
 rle_lines rule generation [] = position_text (pos 0) (pos 0) generation ∷ header_text 0 0 rule ∷ item_lines rule []
-rle_lines rule generation (c ∷ cells) = lines_in_box rule generation (box_of c cells) (c ∷ cells)
+rle_lines rule generation (c ∷ cells) = lines_in_box rule generation (box_of c cells) (items_of (c ∷ cells))
 
 -- each line ended by a line feed
 abbrev pub rle_text : Rule → ℕ → List Cell → List ℕ

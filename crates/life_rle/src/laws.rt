@@ -1,6 +1,6 @@
 //! Laws over the definitions alone.
 
-ghost use Rattle.life_rle.specs.Laws.{IsOneRle, BreaksForGood, StatesReadBack};
+ghost use Rattle.life_rle.specs.Laws.{IsOneRle, BreaksForGood, StatesReadBack, RleTextReadsBack, WrappedGreedily};
 ghost use Rattle.life_rle.specs.Decided.{IsDecided};
 ghost use Rattle.life_rle.specs.RunsLaw.{RunsAreCells, IsBlankOutside};
 
@@ -32,4 +32,14 @@ pub fn blank_outside()
 /// Lines are a file, or lack a header, or one of them breaks a rule: exactly one of the three.
 pub fn decided()
     ensures { IsDecided }
+{}
+
+/// The text of sorted cells is a file of the same rule, generation and cells.
+pub fn text_reads_back()
+    ensures { RleTextReadsBack }
+{}
+
+/// Items stand on lines of at most 70 bytes, in their order, and each line takes as many as it can.
+pub fn items_wrapped()
+    ensures { WrappedGreedily }
 {}

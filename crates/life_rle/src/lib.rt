@@ -1,6 +1,7 @@
 //! Patterns in extended RLE, read and written.
 #![tactic(auto)]
 
+mod bounds;
 mod cursor;
 mod file;
 mod header;
@@ -8,6 +9,7 @@ mod item;
 pub mod laws;
 mod line_items;
 mod opening;
+mod pen;
 mod plane;
 mod position;
 mod reader;
@@ -15,6 +17,7 @@ mod reading;
 mod sorted;
 #[cfg(test)]
 mod tests;
+mod wrapping;
 mod writing;
 
 pub use file::{RleFile, Run};

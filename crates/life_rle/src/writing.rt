@@ -1,14 +1,151 @@
 //! RLE files, written.
 
-ghost use Rattle.std.specs.Prelude.{◌≡◌, true, IfOk, IfErr};
+ghost use Rattle.std.specs.Prelude.{◌≡◌, ◌++◌, ◌∷◌, [], true, codes, decimal, OnOk, IfOk, IfErr};
+ghost use Rattle.std.specs.Fmt.{signed_decimal};
 ghost use Rattle.life_base.specs.Refusal.{fault_of};
 ghost use Rattle.life_rle.specs.Sorted.{are_sorted_cells};
-ghost use Rattle.life_rle.specs.Written.{rle_text};
+ghost use Rattle.life_rle.specs.Written.{generation_text, position_text, header_text, rle_text, span};
+ghost use Rattle.life_rle.specs.Writing.{IsInPlane};
 
-use life_base::{Cell, Fault, Kind, MAX_LEVEL, Rule};
+use crate::bounds::{Bounds, bounds_of};
+use crate::pen::write_cells;
+use crate::position::Position;
+use crate::wrapping::put_mark;
+use itoa::Buffer;
+use life_base::{Cell, Fault, Kind, MAX_LEVEL, Rule, append};
 use std::alloc::Global;
 
-/// The text of a rule, a generation and cells that `sorted_cells` accepts.
+/// Adds a number at the end.
+fn append_number(out: &mut Vec<u8>, number: u64) -> Result<(), Kind>
+    ensures ok { OnOk result (out.new.items ≡ out.old.items ++ decimal number) }
+    ensures memory { IfErr result (λ kind. kind ≡ Kind.Memory) }
+{
+    let mut buffer = Buffer::new();
+    append(out, buffer.format(number).as_bytes())
+}
+
+/// Adds a signed number at the end.
+fn append_signed(out: &mut Vec<u8>, number: i64) -> Result<(), Kind>
+    ensures ok { OnOk result (out.new.items ≡ out.old.items ++ signed_decimal number) }
+    ensures memory { IfErr result (λ kind. kind ≡ Kind.Memory) }
+{
+    let mut buffer = Buffer::new();
+    append(out, buffer.format(number).as_bytes())
+}
+
+/// Adds a generation at the end, if it isn't 0.
+fn append_generation(out: &mut Vec<u8>, generation: u64) -> Result<(), Kind>
+    ensures ok { OnOk result (out.new.items ≡ out.old.items ++ generation_text generation) }
+    ensures memory { IfErr result (λ kind. kind ≡ Kind.Memory) }
+{
+    if generation == 0 {
+        return Ok(());
+    }
+    append(out, b" Gen=")?;
+    append_number(out, generation)
+}
+
+/// Adds a column and a row at the end.
+fn append_corner(out: &mut Vec<u8>, position: Position) -> Result<(), Kind>
+    ensures ok { OnOk result (out.new.items ≡ out.old.items ++ (signed_decimal position.x ++ (codes "," ++ signed_decimal position.y))) }
+    ensures memory { IfErr result (λ kind. kind ≡ Kind.Memory) }
+{
+    append_signed(out, position.x)?;
+    append(out, b",")?;
+    append_signed(out, position.y)
+}
+
+/// Adds the position line at the end, with its line feed.
+fn append_position(out: &mut Vec<u8>, position: Position) -> Result<(), Kind>
+    ensures ok { OnOk result (out.new.items ≡ out.old.items ++ (position_text position.x position.y position.generation ++ codes "\n")) }
+    ensures memory { IfErr result (λ kind. kind ≡ Kind.Memory) }
+{
+    append(out, b"#CXRLE Pos=")?;
+    append_corner(out, position)?;
+    append_generation(out, position.generation)?;
+    append(out, b"\n")
+}
+
+/// Adds the header line at the end, with its line feed.
+fn append_header(out: &mut Vec<u8>, width: u64, height: u64, rule: &Rule) -> Result<(), Kind>
+    ensures ok { OnOk result (out.new.items ≡ out.old.items ++ (header_text width height rule.now ++ codes "\n")) }
+    ensures memory { IfErr result (λ kind. kind ≡ Kind.Memory) }
+{
+    append(out, b"x = ")?;
+    append_number(out, width)?;
+    append(out, b", y = ")?;
+    append_number(out, height)?;
+    append(out, b", rule = ")?;
+    rule.write(out)?;
+    append(out, b"\n")
+}
+
+/// How many columns a box has.
+fn width_of(bounds: Bounds) -> u64
+    requires { IsInPlane bounds }
+    ensures { result ≡ span bounds.left bounds.right }
+{
+    (bounds.right - bounds.left) as u64 + 1
+}
+
+/// How many rows a box has.
+fn height_of(bounds: Bounds) -> u64
+    requires { IsInPlane bounds }
+    ensures { result ≡ span bounds.top bounds.bottom }
+{
+    (bounds.bottom - bounds.top) as u64 + 1
+}
+
+/// The corner of a box, in a generation.
+fn corner_of(bounds: Bounds, generation: u64) -> Position
+    ensures { result ≡ record { x = bounds.left; y = bounds.top; generation = generation } }
+{
+    Position {
+        x: bounds.left,
+        y: bounds.top,
+        generation,
+    }
+}
+
+/// Adds the text of no cells at the end.
+fn append_blank(out: &mut Vec<u8>, rule: &Rule, generation: u64) -> Result<(), Kind>
+    ensures ok { OnOk result (out.new.items ≡ out.old.items ++ rle_text rule.now generation []) }
+    ensures memory { IfErr result (λ kind. kind ≡ Kind.Memory) }
+{
+    let corner = Position {
+        x: 0,
+        y: 0,
+        generation,
+    };
+    append_position(out, corner)?;
+    append_header(out, 0, 0, rule)?;
+    put_mark(out, rule, 0)
+}
+
+/// Adds the text of a cell and more cells at the end.
+fn append_cells(
+    out: &mut Vec<u8>,
+    rule: &Rule,
+    generation: u64,
+    first: &Cell,
+    cells: &[Cell],
+) -> Result<(), Kind>
+    requires { are_sorted_cells MAX_LEVEL rule.now (first.now ∷ cells.now) ≡ true }
+    ensures ok { OnOk result (out.new.items ≡ out.old.items ++ rle_text rule.now generation (first.now ∷ cells.now)) }
+    ensures memory { IfErr result (λ kind. kind ≡ Kind.Memory) }
+{
+    let bounds = bounds_of(first, cells);
+    append_position(out, corner_of(bounds, generation))?;
+    append_header(out, width_of(bounds), height_of(bounds), rule)?;
+    write_cells(out, rule, bounds, first, cells)
+}
+
+/// The text of a rule, a generation and cells that `sorted_cells` accepts: in extended RLE, with the upper left corner of the cells'
+/// least box and the generation in a position line, and items on lines of at most 70 bytes.
+///
+/// # Errors
+///
+/// `Memory` where the text found no room, and nothing else.
 pub fn write_rle(
     alloc: Global,
     rule: &Rule,
@@ -19,9 +156,13 @@ pub fn write_rle(
     ensures text { IfOk result (λ text. text.items ≡ rle_text rule.now generation cells.now) }
     ensures memory { IfErr result (λ fault. fault ≡ fault_of Kind.Memory) }
 {
-    let _ = alloc;
-    let _ = rule;
-    let _ = generation;
-    let _ = cells;
-    Err(Fault::of(Kind::Memory))
+    let mut out = Vec::new(alloc);
+    let written = match cells {
+        [] => append_blank(&mut out, rule, generation),
+        [first, rest @ ..] => append_cells(&mut out, rule, generation, first, rest),
+    };
+    match written {
+        Ok(()) => Ok(out),
+        Err(kind) => Err(Fault::of(kind)),
+    }
 }

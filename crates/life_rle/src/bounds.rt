@@ -1,0 +1,54 @@
+//! Boxes around cells.
+
+ghost use Rattle.std.specs.Prelude.{◌≡◌};
+ghost use Rattle.std.specs.Int.{int_min, int_max};
+ghost use Rattle.life_rle.specs.Written.{box_of, box_of_cell};
+
+use life_base::Cell;
+
+/// The first and the last column and row of a box.
+#[derive(Clone, Copy, Debug, PartialEq, Eq)]
+pub struct Bounds {
+    pub left: i64,
+    pub top: i64,
+    pub right: i64,
+    pub bottom: i64,
+}
+
+/// The box of one cell.
+fn bounds_of_cell(cell: &Cell) -> Bounds
+    ensures { result ≡ box_of_cell cell.now }
+{
+    Bounds {
+        left: cell.x,
+        top: cell.y,
+        right: cell.x,
+        bottom: cell.y,
+    }
+}
+
+/// The least box around a box and a cell.
+fn joined(bounds: Bounds, cell: &Cell) -> Bounds
+    ensures left { result.left ≡ int_min bounds.left cell.now.x }
+    ensures top { result.top ≡ int_min bounds.top cell.now.y }
+    ensures right { result.right ≡ int_max bounds.right cell.now.x }
+    ensures bottom { result.bottom ≡ int_max bounds.bottom cell.now.y }
+{
+    Bounds {
+        left: bounds.left.min(cell.x),
+        top: bounds.top.min(cell.y),
+        right: bounds.right.max(cell.x),
+        bottom: bounds.bottom.max(cell.y),
+    }
+}
+
+/// The least box around a cell and more cells.
+pub(crate) fn bounds_of(first: &Cell, cells: &[Cell]) -> Bounds
+    ensures { result ≡ box_of first.now cells.now }
+{
+    let mut bounds = bounds_of_cell(first);
+    for cell in cells {
+        bounds = joined(bounds, cell);
+    }
+    bounds
+}
