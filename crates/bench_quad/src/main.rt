@@ -5,8 +5,7 @@ ghost use Rattle.std.specs.Prelude.{◌≡◌, ◌≤◌, ◌<◌, IfOk};
 ghost use Rattle.life_base.specs.Tree.{depth};
 ghost use Rattle.life_quad.specs.declared.id.Id.{Id as IdValue};
 
-use life_base::Kind;
-use life_base::MAX_LEVEL;
+use life_base::{Kind, MAX_LEVEL};
 use life_quad::{Id, Shared, SharedSquares, Squares, bounds, population, put_run};
 use std::alloc::Global;
 use std::io;

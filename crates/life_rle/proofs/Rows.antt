@@ -43,10 +43,17 @@ glider-Spells = line-Spells MAX_LEVEL 7 (codes "bo$2bo$3o!")
 glider-IsRle : IsRle MAX_LEVEL (lines_of (codes "x = 3, y = 3, rule = B3/S23\nbo$2bo$3o!\n")) glider
 unfolding rule_of life_sets
 glider-IsRle = inr (record {
-    front = codes "x = 3, y = 3, rule = B3/S23" ∷ []; last = codes "bo$2bo$3o!"; free = []; whole = refl;
-    earlier = []; final = glider.items; items = refl;
-    begun = record { before = []; header = codes "x = 3, y = 3, rule = B3/S23"; body = []; whole = refl; preamble = refl; rule = refl; items = refl; sound = refl };
-    marked = inr (refl, glider-Spells); sound = refl })
+  front = codes "x = 3, y = 3, rule = B3/S23" ∷ [];
+  last = codes "bo$2bo$3o!";
+  free = [];
+  whole = refl;
+  earlier = [];
+  final = glider.items;
+  items = refl;
+  begun = record { before = []; header = codes "x = 3, y = 3, rule = B3/S23"; body = []; whole = refl; preamble = refl; rule = refl; items = refl; sound = refl };
+  marked = inr (refl, glider-Spells);
+  sound = refl;
+})
 
 glider-runs : runs_of (placed glider) ≡ record { x = pos 1; y = pos 0; len = 1; state = 1 } ∷ record { x = pos 2; y = pos 1; len = 1; state = 1 } ∷ record { x = pos 0; y = pos 2; len = 3; state = 1 } ∷ []
 glider-runs = refl
