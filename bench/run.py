@@ -1,22 +1,44 @@
 #!/usr/bin/env python3
-"""Times golly_canon beside cat and beside plain programs in C on the same files, in one run.
+"""Times golly_canon and the layers below it beside cat and beside plain programs in C on the same work, in one run.
 
 usage: bench/run.py PROGRAM FOLDER    (PROGRAM: the built golly_canon; FOLDER: where inputs and plain programs are made)
 
-Each command runs three times and the best time counts; the memory is the peak resident size of the process.
+Each command runs three times and the best time counts; the memory is the peak resident size of the process. The programs of
+crates/bench_* are proved and built first.
 """
 import os
+import re
 import subprocess
 import sys
 import time
 
 HERE = os.path.dirname(os.path.abspath(__file__))
+TOP = os.path.dirname(HERE)
+TIMES = 3
 
 
-def timed(words, source):
-    """The best of three times in seconds, and the peak memory in bytes."""
+def timed(words, source=os.devnull):
+    """The best time of a command in seconds, its peak memory in bytes, and what its best run printed."""
+    best, peak, printed = None, 0, ""
+    for _ in range(TIMES):
+        with open(source, "rb") as given:
+            start = time.monotonic()
+            child = subprocess.Popen(words, stdin=given, stdout=subprocess.PIPE, stderr=subprocess.STDOUT)
+            text = child.stdout.read()
+            _, status, usage = os.wait4(child.pid, 0)
+            took = time.monotonic() - start
+        if status != 0:
+            sys.exit(f"{' '.join(words)} on {source}: status {status}")
+        if best is None or took < best:
+            best, printed = took, text[:4096].decode("utf-8", "replace")
+        peak = max(peak, usage.ru_maxrss * 1024)
+    return best, peak, printed
+
+
+def written(words, source):
+    """The same of a command whose output is thrown away, so that the time to take it does not count."""
     best, peak = None, 0
-    for _ in range(3):
+    for _ in range(TIMES):
         with open(source, "rb") as given, open(os.devnull, "wb") as sink:
             start = time.monotonic()
             child = subprocess.Popen(words, stdin=given, stdout=sink)
@@ -29,7 +51,25 @@ def timed(words, source):
     return best, peak
 
 
+def plain(folder, name):
+    """A program of bench/ in C, compiled."""
+    path = os.path.join(folder, name)
+    subprocess.run([os.environ.get("CC", "cc"), "-O2", "-o", path, os.path.join(HERE, name + ".c")], check=True)
+    return path
+
+
+def proved(crate):
+    """A program of crates/, proved and built."""
+    folder = os.path.join(TOP, "crates", crate)
+    done = subprocess.run([os.environ.get("RT", "rt"), "run"], cwd=folder, stdin=subprocess.DEVNULL,
+                          stdout=subprocess.PIPE, stderr=subprocess.STDOUT)
+    if done.returncode != 0:
+        sys.exit(done.stdout.decode("utf-8", "replace"))
+    return os.path.join(folder, "out", crate)
+
+
 def made(folder, name, kind, size):
+    """An input, made once."""
     path = os.path.join(folder, name)
     if not os.path.exists(path):
         with open(path, "wb") as out:
@@ -37,35 +77,80 @@ def made(folder, name, kind, size):
     return path
 
 
-def row(words):
-    print("  ".join(f"{word:>{width}}" for word, width in zip(words, (26, 10, 9, 9, 9, 11, 11))))
+def macrocell(program, folder):
+    print("golly_canon canon, beside cat and a plain reader and writer in C that checks nothing")
+    reference = plain(folder, "plain_macrocell")
+    times = []
+    for label, name, kind, lines in (("100,000 node lines", "nodes_1e5.mc", "macrocell", 100_000),
+                                     ("1,000,000 node lines", "nodes_1e6.mc", "macrocell", 1_000_000),
+                                     ("1,000,000 of a named rule", "named_1e6.mc", "named", 1_000_000)):
+        path = made(folder, name, kind, lines)
+        size = os.path.getsize(path)
+        cat, _ = written(["cat"], path)
+        base, _ = written([reference], path)
+        took, peak = written([program, "canon", "-"], path)
+        times.append(took)
+        print(f"  {label:<26} {size / 1e6:6.1f} MB: {took:.3f} s ({size / took / 1e6:.0f} MB/s), plain {base:.3f} s, cat {cat:.3f} s;"
+              f" {took / base:.2f} times plain, peak memory {peak / 1e6:.0f} MB, {peak / size:.2f} times the input")
+    print(f"  10 times the lines take {times[1] / times[0]:.1f} times as long")
+
+
+def rle(folder):
+    print("reading RLE, beside a plain reader in C that checks nothing")
+    program, reference = proved("bench_rle"), plain(folder, "plain_rle")
+    times = []
+    for label, name, size in (("soup of 1 MB", "soup_1e6.rle", 1_000_000), ("soup of 10 MB", "soup_1e7.rle", 10_000_000)):
+        path = made(folder, name, "rle", size)
+        took, peak, _ = timed([program], path)
+        base, base_peak, _ = timed([reference], path)
+        times.append(took)
+        print(f"  {label:<26} {took:.3f} s, plain {base:.3f} s; {took / base:.2f} times plain, peak memory {peak / 1e6:.0f} MB, plain {base_peak / 1e6:.0f} MB")
+    print(f"  10 times the bytes take {times[1] / times[0]:.1f} times as long")
+
+
+def number(pattern, text):
+    found = re.search(pattern, text)
+    return float(found.group(1)) if found else float("nan")
+
+
+def store(folder):
+    print("the shared store, beside a plain hash-consing store in C")
+    _, peak, text = timed([proved("bench_quad")])
+    _, _, base = timed([plain(folder, "plain_quad")])
+    for what in ("fresh joins", "found joins"):
+        took, other = number(what + r": (\d+) ms", text), number(what + r" \d+ (\d+)", base)
+        print(f"  4,000,000 {what:<16} {took:.0f} ms, plain {other:.0f} ms; {took / other:.2f} times plain")
+    nodes = number(r"runs: \d+ ms, nodes (\d+)", text)
+    runs, full = number(r"runs: (\d+) ms", text), number(r"full square: (\d+) ms", text)
+    print(f"  10,000 calls of put_run    {runs:.0f} ms; {nodes:.0f} nodes at the end, {peak / nodes:.0f} bytes a node at the peak")
+    print(f"  population and bounds of a full square of level 60: {full:.0f} ms")
+
+
+def strips(folder):
+    print("filling a store row by row, beside a plain bottom-up filler in C")
+    program, reference = proved("bench_strips"), plain(folder, "plain_strips")
+    times = []
+    for runs in (1_000_000, 10_000_000):
+        _, peak, text = timed([program, str(runs), "time"])
+        _, _, base = timed([reference, str(runs)])
+        took, other = number(r"squares\n(\d+) ms", text), number(r"(\d+) ms", base)
+        squares, other_squares = number(r"(\d+) squares", text), number(r"(\d+) squares", base)
+        times.append(took)
+        print(f"  soup of {runs:>10,} runs: {took:.0f} ms, plain {other:.0f} ms; {took / other:.2f} times plain; {squares:.0f} squares, plain {other_squares:.0f};"
+              f" peak memory {peak / 1e6:.0f} MB")
+    print(f"  10 times the runs take {times[1] / times[0]:.1f} times as long")
 
 
 def main():
     if len(sys.argv) != 3:
         sys.exit(__doc__)
-    program, folder = os.path.abspath(sys.argv[1]), sys.argv[2]
+    program, folder = os.path.abspath(sys.argv[1]), os.path.abspath(sys.argv[2])
     os.makedirs(folder, exist_ok=True)
-    for name in ("generate", "plain_macrocell"):
-        subprocess.run(["cc", "-O2", "-o", os.path.join(folder, name), os.path.join(HERE, name + ".c")], check=True)
-    plain = [os.path.join(folder, "plain_macrocell")]
-    canon = [program, "canon", "-"]
-    files = [
-        ("100,000 node lines", made(folder, "nodes_1e5.mc", "macrocell", 100_000)),
-        ("1,000,000 node lines", made(folder, "nodes_1e6.mc", "macrocell", 1_000_000)),
-        ("1,000,000 of a named rule", made(folder, "named_1e6.mc", "named", 1_000_000)),
-    ]
-    row(("input", "bytes", "cat s", "plain s", "canon s", "canon/plain", "peak/input"))
-    times = []
-    for label, path in files:
-        size = os.path.getsize(path)
-        cat, _ = timed(["cat"], path)
-        reference, _ = timed(plain, path)
-        took, peak = timed(canon, path)
-        times.append((took, size))
-        row((label, size, f"{cat:.3f}", f"{reference:.3f}", f"{took:.3f}", f"{took / reference:.2f}", f"{peak / size:.2f}"))
-        print(f"{'':>26}  throughput {size / took / 1e6:.1f} MB/s, peak memory {peak / 1e6:.1f} MB")
-    print(f"10 times the lines take {times[1][0] / times[0][0]:.1f} times the time")
+    plain(folder, "generate")
+    macrocell(program, folder)
+    rle(folder)
+    store(folder)
+    strips(folder)
 
 
 if __name__ == "__main__":
