@@ -88,8 +88,8 @@ fn states_under_a_name_are_letters(rt: HostRuntime) -> Result<(), Fail> {
 #[test]
 fn lines_have_at_most_70_bytes(rt: HostRuntime) -> Result<(), Fail> {
     let mut cells = Vec::new(rt.alloc());
-    for i in 0..36i64 {
-        cells.push(cell(2 * i, 0, 1))?;
+    for i in 0..36u8 {
+        cells.push(cell(2 * i64::from(i), 0, 1))?;
     }
     let text = text_of(rt.alloc(), b"B3/S23", 0, &cells)?;
     assert_eq!(rt;
