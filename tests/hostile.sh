@@ -15,15 +15,18 @@ passed=0
 failed=0
 most_seconds=10
 most_times=6
+seconds=
+kilobytes=0
 
-verdict() { # NAME PROBLEMS
+verdict() { # NAME PROBLEMS, with the time and the memory of the last run where it was measured
     if [ -z "$2" ]; then
         passed=$((passed + 1))
-        echo "ok      $1"
+        echo "ok      $1${seconds:+ ($seconds s, $((kilobytes / 1024)) MB)}"
     else
         failed=$((failed + 1))
         echo "FAILED  $1:$2"
     fi
+    seconds=
 }
 
 # What the last run did against what it should have done: its status, standard error, the seconds and the memory that it took
