@@ -2,6 +2,7 @@
 //! written to.
 #![tactic(auto)]
 
+mod appending;
 mod cell;
 mod devices;
 mod fault;
@@ -20,6 +21,7 @@ mod text;
 mod words;
 mod writing;
 
+pub use appending::{append, append_number};
 pub use cell::{Cell, MAX_LEVEL, State};
 pub use devices::{Device, Sink, Source};
 pub use fault::{Fault, Place, StepFault};
@@ -29,7 +31,6 @@ pub use line_iterator::Lines;
 pub use line_log::LineLog;
 pub use reading::read_within;
 pub use rule::{LifeRule, Name, Rule};
-pub use rule_text::append;
 pub use text::{
     begins_with, is_blank, is_digit_text, is_whitespace, lines, read_i64, read_u64, trimmed,
     trimmed_start,

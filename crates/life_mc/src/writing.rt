@@ -8,18 +8,8 @@ ghost use Rattle.life_base.specs.Text.{without_last};
 
 use crate::file::McFile;
 use crate::line::Line;
-use itoa::Buffer;
-use life_base::{Fault, Kind, Rule, append};
+use life_base::{Fault, Kind, Rule, append, append_number};
 use std::alloc::Global;
-
-/// Adds a number at the end.
-fn append_number(out: &mut Vec<u8>, number: u64) -> Result<(), Kind>
-    ensures ok { OnOk result (out.new.items ≡ out.old.items ++ decimal number) }
-    ensures err { IfErr result (λ kind. kind ≡ Memory) }
-{
-    let mut buffer = Buffer::new();
-    append(out, buffer.format(number).as_bytes())
-}
 
 /// Whether the cell in a column of a row is live.
 fn is_live(row: u8, column: u8) -> bool

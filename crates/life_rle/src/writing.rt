@@ -12,17 +12,8 @@ use crate::pen::write_cells;
 use crate::position::Position;
 use crate::wrapping::put_mark;
 use itoa::Buffer;
-use life_base::{Cell, Fault, Kind, MAX_LEVEL, Rule, append};
+use life_base::{Cell, Fault, Kind, MAX_LEVEL, Rule, append, append_number};
 use std::alloc::Global;
-
-/// Adds a number at the end.
-fn append_number(out: &mut Vec<u8>, number: u64) -> Result<(), Kind>
-    ensures ok { OnOk result (out.new.items ≡ out.old.items ++ decimal number) }
-    ensures memory { IfErr result (λ kind. kind ≡ Kind.Memory) }
-{
-    let mut buffer = Buffer::new();
-    append(out, buffer.format(number).as_bytes())
-}
 
 /// Adds a signed number at the end.
 fn append_signed(out: &mut Vec<u8>, number: i64) -> Result<(), Kind>

@@ -1,8 +1,8 @@
 //! Lines, whitespace and numbers.
 
 use crate::{
-    Cell, Items, Kind, MAX_LEVEL, Rule, append, begins_with, is_blank, is_digit_text,
-    is_whitespace, lines, read_i64, read_u64, trimmed, trimmed_start,
+    Cell, Items, Kind, MAX_LEVEL, Rule, append, append_number, begins_with, is_blank,
+    is_digit_text, is_whitespace, lines, read_i64, read_u64, trimmed, trimmed_start,
 };
 use std::test::Fail;
 
@@ -192,4 +192,14 @@ fn the_plane_is_the_square_of_level_60(rt: HostRuntime) {
         state: 255,
     };
     assert_eq!(rt; corner.x, -576460752303423488);
+}
+
+#[test]
+fn numbers_are_added_in_digits(rt: HostRuntime) -> Result<(), Fail> {
+    let mut text = Vec::new(rt.alloc());
+    append(&mut text, b"#G ")?;
+    append_number(&mut text, 0)?;
+    append_number(&mut text, 18_446_744_073_709_551_615)?;
+    assert_eq!(rt; &text[..], b"#G 018446744073709551615".as_slice());
+    Ok(())
 }
