@@ -23,3 +23,4 @@ pub mod RunsLaws
 pub mod DecidedLaw
 pub mod Rows
 pub mod ReadInputs
+pub mod PlainItems

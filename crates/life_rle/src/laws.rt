@@ -3,6 +3,7 @@
 ghost use Rattle.life_rle.specs.Laws.{IsOneRle, BreaksForGood, StatesReadBack};
 ghost use Rattle.life_rle.specs.Decided.{IsDecided};
 ghost use Rattle.life_rle.specs.RunsLaw.{RunsAreCells, IsBlankOutside};
+ghost use Rattle.life_rle.specs.Plain.{ItemsArePlain};
 
 /// Lines are an RLE file of at most one pattern.
 pub fn one_file()
@@ -32,4 +33,9 @@ pub fn blank_outside()
 /// Lines are a file, or lack a header, or one of them breaks a rule: exactly one of the three.
 pub fn decided()
     ensures { IsDecided }
+{}
+
+/// A line spells items exactly if it is their texts with whitespace between, up to its end or up to `!`.
+pub fn items_are_plain()
+    ensures { ItemsArePlain }
 {}
