@@ -24,3 +24,4 @@ pub mod DecidedLaw
 pub mod Rows
 pub mod ReadInputs
 pub mod PlainItems
+pub mod PlainHeader

@@ -16,7 +16,7 @@ use Rattle.life_rle.proofs.FrontDigits.{list_all-front}
 use Rattle.life_rle.proofs.Texts.{both_true, Stops, front-stop, behind-stop, IsTag, digit-plain, IsTag-letter}
 
 -- whitespace in front is passed over
-trim_start-space : (space text : List ℕ) → is_blank space ≡ true → trim_start (space ++ text) ≡ trim_start text
+pub trim_start-space : (space text : List ℕ) → is_blank space ≡ true → trim_start (space ++ text) ≡ trim_start text
 trim_start-space [] text h = refl
 trim_start-space (b ∷ space) text h =
     let parts = both_true (is_whitespace b) (is_blank space) h in
@@ -124,7 +124,7 @@ IsTextOf-Spells level (item ∷ items) line rest last h i =
     (i.2, ap (next_of level) i.5 ∙ next_of-item level i.0 i.1 i.2 item i.3 i.4, IsTextOf-Spells level items i.2 rest last h i.6)
 
 -- what stands in front of a text without its whitespace is whitespace
-indented : (text : List ℕ) → (space : List ℕ) × (is_blank space ≡ true) × (text ≡ space ++ trim_start text)
+pub indented : (text : List ℕ) → (space : List ℕ) × (is_blank space ≡ true) × (text ≡ space ++ trim_start text)
 indented [] = ([], refl, refl)
 indented (b ∷ text) =
     elim (is_whitespace b) as (λ t. is_whitespace b ≡ t → (space : List ℕ) × (is_blank space ≡ true) × (b ∷ text ≡ space ++ cond t (trim_start text) (b ∷ text))) [
