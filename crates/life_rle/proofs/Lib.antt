@@ -25,3 +25,4 @@ pub mod Rows
 pub mod ReadInputs
 pub mod PlainItems
 pub mod PlainHeader
+pub mod MarkPlace
