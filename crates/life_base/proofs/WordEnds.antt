@@ -6,7 +6,7 @@ use Rattle.std.proofs.lemmas.List.Quantifiers.{position-Some}
 use Rattle.std.proofs.lemmas.List.Sums.{position_or_len_is}
 use Rattle.std.proofs.lemmas.List.{take_all, drop_all, take-append-drop, length-append}
 use Rattle.std.proofs.lemmas.Bool.{ltb-false}
-use Rattle.life_base.specs.Text.{is_whitespace, is_blank, trim_start, words_of, onto_first}
+use Rattle.life_base.specs.Text.{is_empty, is_whitespace, is_blank, trim_start, words_of, onto_first}
 use Rattle.life_base.specs.Words.{with_word}
 
 skip : (v : Bool) (b : ℕ) (text : List ℕ) → is_whitespace b ≡ v → words_of (trim_start text) ≡ words_of text
@@ -106,3 +106,11 @@ length-trim_start (b ∷ text) = trim_shorter (is_whitespace b) b text (length-t
 -- the two parts of a text at a place
 pub split_length : (text : List ℕ) (n : ℕ) → length (take n text) + length (drop n text) ≡ length text
 split_length text n = sym (length-append (take n text) (drop n text)) ∙ ap length (take-append-drop n text)
+
+-- a text has no words where it is empty without the whitespace at its front
+empty_by : (text : List ℕ) → Starts text → is_empty text ≡ is_empty (words_of text)
+empty_by [] s = refl
+empty_by (b ∷ text) s = sym (ap is_empty (first_word text b s))
+
+pub no_words : (text : List ℕ) → is_empty (trim_start text) ≡ is_empty (words_of text)
+no_words text = empty_by (trim_start text) (starts text) ∙ ap is_empty (trimmed_words text)

@@ -21,7 +21,7 @@ impl LineLog {
     pub fn new() -> LineLog
         ensures { result.lines ≡ [] }
     {
-        LineLog {}
+        Self {}
     }
 
     /// The lines so far, and one more.

@@ -14,7 +14,7 @@ use Rattle.life_base.proofs.Numbers.{first, second}
 use Rattle.life_base.proofs.NamesRead.{solid, solid_trimmed}
 use Rattle.life_mc.specs.Grammar.{Begins, IsCommand, IsAround, Separates}
 use Rattle.life_mc.specs.Reading.{is_command, is_leaf_byte}
-use Rattle.life_mc.proofs.Words.{trimmed_words}
+use Rattle.life_base.proofs.WordEnds.{trimmed_words}
 
 is_false : (v : Bool) → not v ≡ true → v ≡ false
 is_false true h = cc

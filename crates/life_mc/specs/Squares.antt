@@ -1,5 +1,5 @@
 -- The square that each node line of a macrocell file stands for, as a tree without sharing.
-use Rattle.std.specs.Prelude.{◌≡◌, ℕ, zero, suc, ◌+◌, ◌-◌, ◌^◌, ◌<◌, ◌≤◌, ◌&&◌, List, length, take, if◌then◌else◌, Some, None, ℤ, pos, neg_ℤ, ◌+ℤ◌, int_le, int_lt, unsigned_abs}
+use Rattle.std.specs.Prelude.{◌≡◌, ℕ, zero, suc, ◌+◌, ◌^◌, ◌<◌, ◌≤◌, List, length, take, Some, None, ℤ}
 use Rattle.life_base.specs.Tree.{Tree, point, quad, depth, blank, state_at, tree_cell, IsFull}
 use Rattle.life_base.specs.declared.rule.Rule.{Rule}
 use Rattle.life_mc.specs.Macrocell.{Macrocell, IsValid, level_of, largest_state, numbered}

@@ -1,14 +1,14 @@
 //! The numbers of a quarter line, of any length.
 
-ghost use Rattle.std.specs.Prelude.{◌≡◌, ◌∷◌, ◌-◌, ◌^◌, [], List, ℕ, true, false, min, position, length, MatchOption};
+ghost use Rattle.std.specs.Prelude.{◌≡◌, ◌∷◌, ◌-◌, ◌^◌, [], List, ℕ, true, false, min, length, MatchOption};
 ghost use Rattle.std.specs.List.{list_all};
 ghost use Rattle.std.specs.Char.{is_ascii_digit};
-ghost use Rattle.life_base.specs.Text.{is_whitespace as is_blank_byte, is_digit_text as has_digits_alone, value_of, words_of, is_empty};
-ghost use Rattle.life_mc.specs.Standing.{capped, begins_with_number, with_word, quad_words};
+ghost use Rattle.life_base.specs.Text.{is_digit_text as has_digits_alone, value_of, words_of, is_empty};
+ghost use Rattle.life_mc.specs.Standing.{capped, begins_with_number, quad_words};
 ghost use Rattle.std.specs.Option.{option_map};
 ghost use Rattle.life_mc.specs.declared.line.Line.TheVariants.{Quad};
 
-use life_base::{is_digit_text, is_whitespace, trimmed_start};
+use life_base::{is_digit_text, split_word, trimmed_start};
 
 /// Five numbers as they are written; one above the greatest of the type stands as that.
 #[derive(Clone, Copy)]
@@ -32,24 +32,6 @@ fn capped_value(text: &[u8]) -> u64
             .saturating_add(u64::from(*byte - b'0'));
     }
     number
-}
-
-/// Where the first whitespace stands.
-fn word_end(text: &[u8]) -> Option<usize>
-    ensures { result ≡ position is_blank_byte text.now }
-{
-    text.iter().position(|byte| is_whitespace(*byte))
-}
-
-/// The first word of a text and what stands behind it; an empty word, if there is none.
-fn split_word(text: &[u8]) -> (&[u8], &[u8])
-    ensures { words_of text.now ≡ with_word result.0.now (words_of result.1.now) }
-{
-    let text = trimmed_start(text);
-    match word_end(text) {
-        Some(end) => (&text[..end], &text[end..]),
-        None => (text, &[]),
-    }
 }
 
 /// The first number of a text and what stands behind it, if the first word is a digit text.

@@ -30,3 +30,6 @@ pub mod RunsLaws
 pub mod DecidedLaw
 pub mod Rows
 pub mod ReadInputs
+pub mod PlainItems
+pub mod PlainHeader
+pub mod MarkPlace

@@ -1,5 +1,5 @@
 -- A whole input, line by line.
-use Rattle.std.proofs.Common.{◌≡◌, ◌⊎◌, ℕ, ◌+◌, ◌-◌, ◌^◌, ◌≤◌, min, List, [], ◌∷◌, ◌++◌, length, refl, ap, sym, subst, ◌∙◌, inl, inr, arith}
+use Rattle.std.proofs.Common.{◌≡◌, ℕ, ◌+◌, ◌-◌, ◌^◌, min, List, [], ◌∷◌, ◌++◌, length, refl, ap, sym, subst, ◌∙◌, inl, arith}
 use Rattle.life_base.specs.Text.{numbered_from}
 use Rattle.life_base.specs.Refusal.{IsRefusal, fault_at}
 use Rattle.life_base.specs.declared.kind.Kind.{Kind}

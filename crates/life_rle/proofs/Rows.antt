@@ -1,23 +1,18 @@
 -- Worked examples of the definitions.
-use Rattle.std.proofs.Common.{◌≡◌, subst, ℕ, zero, suc, ◌+◌, List, [], ◌∷◌, ◌++◌, refl, inl, inr, pos, negsuc, neg_ℤ, ◌^◌, replicate, length, true, false, nat_lt, arith, Some, None, Ok, Err, codes}
-use Rattle.std.proofs.lemmas.Bool.Decides.{nat_tests}
+use Rattle.std.proofs.Common.{◌≡◌, subst, ℕ, List, [], ◌∷◌, refl, inr, pos, neg_ℤ, Some, None, Ok, Err, codes}
 use Rattle.life_base.specs.declared.kind.Kind.TheVariants as kinds
 use Rattle.life_base.specs.declared.kind.Kind.{Kind}
 use Rattle.life_base.specs.declared.rule.Rule.{Rule}
 use Rattle.life_base.specs.Rules.{rule_of, life_sets, default_rule}
 use Rattle.life_base.specs.Text.{lines_of}
-use Rattle.life_rle.specs.declared.file.Run.{Run}
-use Rattle.life_rle.specs.States.{state_at, state_text}
-use Rattle.life_rle.specs.declared.item.Item.{Item}
+use Rattle.life_rle.specs.States.{state_at}
 use Rattle.life_rle.specs.declared.item.Item.TheVariants.{Cells, RowEnds}
-use Rattle.life_rle.specs.Items.{Next, End, Mark, Spelled, Broken, next_of, Spells}
-use Rattle.life_rle.specs.declared.position.Position.{Position}
+use Rattle.life_rle.specs.Items.{Mark, Broken, next_of, Spells}
 use Rattle.life_rle.specs.Position.{position_of, default_position}
-use Rattle.life_rle.specs.Header.{header_of}
 use Rattle.life_rle.specs.Pattern.{Rle, placed, placed_behind, first_fault, cell}
 use Rattle.life_rle.specs.Runs.{runs_of}
-use Rattle.life_rle.specs.Grammar.{IsPreamble, IsUnmarked, IsMarked, IsRle, Breaks, fault_behind, before_header, by_form, by_text, by_item, opening_of, later_of}
-use Rattle.life_rle.specs.declared.opening.Opening.TheVariants.{PositionLine, Header, Comment}
+use Rattle.life_rle.specs.Grammar.{IsUnmarked, IsRle, Breaks, fault_behind, by_text, by_item, opening_of, later_of}
+use Rattle.life_rle.specs.declared.opening.Opening.TheVariants.{PositionLine, Header}
 use Rattle.life_rle.specs.declared.opening.Later.TheVariants.{Data}
 use Rattle.life_rle.proofs.ReadSteps.{items_read, last_read, line-Spells}
 use Rattle.life_base.specs.declared.cell.TheConstants.{MAX_LEVEL}

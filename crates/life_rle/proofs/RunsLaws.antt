@@ -1,5 +1,5 @@
 -- The runs of a file, and its cells.
-use Rattle.std.proofs.Common.{◌≡◌, ℕ, zero, suc, ◌+◌, ◌-◌, ◌^◌, ◌<◌, ◌≤◌, ◌⊎◌, inl, inr, Bool, true, false, not, cond, ◌&&◌, List, [], ◌∷◌, ◌++◌, refl, sym, ap, ◌∙◌, subst, Some, None, Ok, Err, Result, Option, ℤ, pos, neg_ℤ, ◌+ℤ◌, ◌≤ℤ◌, ◌<ℤ◌, arith, eqb, ltb}
+use Rattle.std.proofs.Common.{◌≡◌, ℕ, zero, suc, ◌^◌, ◌≤◌, ◌⊎◌, inl, inr, Bool, true, false, not, cond, ◌&&◌, List, [], ◌∷◌, ◌++◌, refl, sym, ap, ◌∙◌, subst, Some, None, Option, ℤ, pos, neg_ℤ, ◌+ℤ◌, ◌≤ℤ◌, ◌<ℤ◌, arith, eqb, ltb}
 use Rattle.std.specs.Prelude.{int_lt, int_le}
 use Rattle.std.specs.Ordering.{int_eq}
 use Rattle.std.proofs.lemmas.Int.{ints}
@@ -12,17 +12,15 @@ use Rattle.life_rle.specs.declared.item.Item.{Item}
 use Rattle.life_rle.specs.declared.item.Item.TheVariants.{Cells, RowEnds}
 use Rattle.life_rle.specs.declared.file.Run.{Run}
 use Rattle.life_rle.specs.declared.position.Position.{Position}
-use Rattle.life_rle.specs.declared.opening.Opening.{Opening}
-use Rattle.life_rle.specs.declared.opening.Opening.TheVariants.{Comment, PositionLine, Header}
-use Rattle.life_rle.specs.Plane.{edge, is_coordinate}
+use Rattle.life_rle.specs.Plane.{edge}
 use Rattle.life_rle.specs.States.{is_state_of, state_at}
-use Rattle.life_rle.specs.Items.{front_digits, behind_digits, Next, End, Mark, Spelled, Broken, cells_of, item_behind, counted, item_in, next_of, Spells}
+use Rattle.life_rle.specs.Items.{front_digits, behind_digits, Next, End, Mark, Spelled, Broken, cells_of, item_behind, counted, item_in, Spells}
 use Rattle.life_rle.specs.Position.{default_position}
-use Rattle.life_rle.specs.Pattern.{Rle, Placed, placed, placed_behind, placed_fault, item_fault, first_kind, first_fault, cell_among, cell}
-use Rattle.life_rle.specs.Runs.{with_run, runs_of}
+use Rattle.life_rle.specs.Pattern.{Rle, Placed, placed, item_fault, first_kind, first_fault, cell_among, cell}
+use Rattle.life_rle.specs.Runs.{runs_of}
 use Rattle.life_rle.specs.Cursor.{item_count}
-use Rattle.life_rle.specs.Grammar.{opening_of, IsPreamble, LineSpells, BodySpells, IsUnmarked, IsMarked, IsRle}
-use Rattle.life_rle.specs.RunsLaw.{IsGoodRun, AreGoodRuns, StandsBefore, StandsBeforeAll, AreInOrder, has_cell, state_by, IsOutside}
+use Rattle.life_rle.specs.Grammar.{IsPreamble, LineSpells, BodySpells, IsRle}
+use Rattle.life_rle.specs.RunsLaw.{AreGoodRuns, StandsBeforeAll, AreInOrder, has_cell, state_by, IsOutside}
 use Rattle.life_rle.proofs.Places.{placed_from, placed_behind-from}
 use Rattle.life_rle.proofs.Advance.{IsInPlane}
 use Rattle.life_rle.proofs.LineKinds.{IsTameOpening, opening-tame}

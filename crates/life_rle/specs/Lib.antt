@@ -16,3 +16,4 @@ pub mod Decided
 pub mod Cursor
 pub mod Reading
 pub mod Standing
+pub mod Plain

@@ -1,5 +1,5 @@
 -- The runs of an RLE file: its items of nonzero state.
-use Rattle.std.specs.Prelude.{zero, suc, List, [], ◌∷◌, ℤ}
+use Rattle.std.specs.Prelude.{ℕ, Bool, ◌==◌, ◌||◌, ◌&&◌, nat_le, zero, suc, List, [], ◌∷◌, ℤ}
 use Rattle.life_rle.specs.declared.file.Run.{Run}
 use Rattle.life_rle.specs.declared.item.Item.{Item}
 use Rattle.life_rle.specs.declared.item.Item.TheVariants.{Cells, RowEnds}
@@ -15,3 +15,7 @@ with_run row column (RowEnds count) runs = runs
 abbrev pub runs_of : List Placed → List Run
 runs_of [] = []
 runs_of (p ∷ ps) = with_run p.row p.column p.item (runs_of ps)
+
+-- the last byte of the text of a nonzero state: `o`, or `A` to `X`
+abbrev pub is_run_end : ℕ → Bool
+is_run_end b = b == 111 || (nat_le 65 b && nat_le b 88)

@@ -3,6 +3,7 @@
 ghost use Rattle.life_rle.specs.Laws.{IsOneRle, BreaksForGood, StatesReadBack, RleTextReadsBack, WrappedGreedily};
 ghost use Rattle.life_rle.specs.Decided.{IsDecided};
 ghost use Rattle.life_rle.specs.RunsLaw.{RunsAreCells, IsBlankOutside};
+ghost use Rattle.life_rle.specs.Plain.{ItemsArePlain, HeadersArePlain};
 
 /// Lines are an RLE file of at most one pattern.
 pub fn one_file()
@@ -42,4 +43,14 @@ pub fn text_reads_back()
 /// Items stand on lines of at most 70 bytes, in their order, and each line takes as many as it can.
 pub fn items_wrapped()
     ensures { WrappedGreedily }
+{}
+
+/// A line spells items exactly if it is their texts with whitespace between, up to its end or up to `!`.
+pub fn items_are_plain()
+    ensures { ItemsArePlain }
+{}
+
+/// A line has the form of a header exactly if it is the tokens of one with whitespace between.
+pub fn headers_are_plain()
+    ensures { HeadersArePlain }
 {}

@@ -1,9 +1,10 @@
 //! The items of a line, read one after another.
 
-ghost use Rattle.std.specs.Prelude.{◌≡◌, ◌≤◌, ◌⊎◌, ◌++◌, [], Some, None, IfOk, IfErr, OnOk};
+ghost use Rattle.std.specs.Prelude.{◌≡◌, ◌≤◌, ◌+◌, ◌⊎◌, ◌++◌, ◌==◌, not, [], Some, None, IfOk, IfErr, OnOk, length, filter, position, take_while};
+ghost use Rattle.std.specs.Vec.{vec_len, vec_capacity};
 ghost use Rattle.life_rle.specs.Plane.{most_count};
 ghost use Rattle.life_rle.specs.Pattern.{item_fault};
-ghost use Rattle.life_rle.specs.Runs.{with_run};
+ghost use Rattle.life_rle.specs.Runs.{with_run, is_run_end};
 ghost use Rattle.life_rle.specs.Cursor.{IsNear, moved, item_count};
 ghost use Rattle.life_rle.specs.Reading.{ReadsItems, last_of, ItemsBreak};
 
@@ -17,6 +18,44 @@ use life_base::{Kind, MAX_LEVEL, Rule};
 pub(crate) struct ItemsRead {
     pub(crate) cursor: Cursor,
     pub(crate) marked: bool,
+}
+
+/// Where the first `!` stands.
+fn mark_place(line: &[u8]) -> Option<usize>
+    ensures { result ≡ position (λ b. b == 33) line.now }
+{
+    line.iter().position(|byte| *byte == b'!')
+}
+
+/// The bytes of a line in front of its first `!`.
+fn before_mark(line: &[u8]) -> &[u8]
+    ensures { result.now ≡ take_while (λ b. not (b == 33)) line.now }
+{
+    match mark_place(line) {
+        Some(end) => &line[..end],
+        None => line,
+    }
+}
+
+/// How many bytes can end the text of a nonzero state.
+fn run_ends(text: &[u8]) -> usize
+    ensures { result ≡ length (filter is_run_end text.now) }
+{
+    text.iter()
+        .filter(|byte| matches!(**byte, b'o' | b'A'..=b'X'))
+        .count()
+}
+
+/// Makes room for the runs of a line, so that it takes memory once at most.
+fn reserve_runs(line: &[u8], runs: &mut Vec<Run>) -> Result<(), Kind>
+    ensures runs { runs.new.items ≡ runs.old.items }
+    ensures room { OnOk result (vec_len runs.old + length (filter is_run_end (take_while (λ b. not (b == 33)) line.now)) ≤ vec_capacity runs.new) }
+    ensures memory { IfErr result (λ kind. kind ≡ Kind.Memory) }
+{
+    match runs.reserve(run_ends(before_mark(line))) {
+        Ok(()) => Ok(()),
+        Err(_) => Err(Kind::Memory),
+    }
 }
 
 /// Puts the run of an item of nonzero state behind the runs.
@@ -70,6 +109,7 @@ pub(crate) fn read_items(
     ensures read { IfOk result (λ read. ReadsItems MAX_LEVEL rule.now from line.now (last_of read.marked) read.cursor runs.old.items runs.new.items) }
     ensures fault { IfErr result (λ kind. (kind ≡ Kind.Memory) ⊎ ItemsBreak MAX_LEVEL rule.now from line.now kind) }
 {
+    reserve_runs(line, runs)?;
     let mut cursor = from;
     let mut rest = line;
     loop {

@@ -1,9 +1,10 @@
 //! Lines, whitespace and numbers.
 
 use crate::{
-    Cell, Items, Kind, MAX_LEVEL, Rule, append, append_number, begins_with, is_blank,
-    is_digit_text, is_whitespace, lines, read_i64, read_u64, trimmed, trimmed_start,
+    Cell, Items, Kind, LineLog, MAX_LEVEL, Rule, append, append_number, begins_with, is_blank,
+    is_digit_text, is_whitespace, lines, read_i64, read_u64, split_word, trimmed, trimmed_start,
 };
+use std::mem::size_of_val;
 use std::test::Fail;
 
 #[test]
@@ -69,6 +70,30 @@ fn a_text_begins_with_its_front(rt: HostRuntime) {
     assert!(rt; begins_with(b"", b""));
     assert!(rt; !begins_with(b"#", b"#R"));
     assert!(rt; !begins_with(b" #R", b"#R"));
+}
+
+#[test]
+fn the_first_word_and_the_rest(rt: HostRuntime) {
+    let rows: [(&[u8], &[u8], &[u8]); 7] = [
+        (b"", b"", b""),
+        (b" \t\r", b"", b""),
+        (b"a", b"a", b""),
+        (b"\ta\r", b"a", b"\r"),
+        (b"Pos=1,2 Gen=3", b"Pos=1,2", b" Gen=3"),
+        (b"  3 0\t1 ", b"3", b" 0\t1 "),
+        (b"a\x0bb c", b"a\x0bb", b" c"),
+    ];
+    for (text, word, rest) in rows {
+        let (first, behind) = split_word(text);
+        assert_eq!(rt; first, word, "{text:?}");
+        assert_eq!(rt; behind, rest, "{text:?}");
+    }
+}
+
+#[test]
+fn a_log_of_lines_takes_no_memory(rt: HostRuntime) {
+    let log = LineLog::new().then(b"x = 3, y = 3").then(b"3o!");
+    assert_eq!(rt; size_of_val(&log), 0);
 }
 
 #[test]

@@ -1,4 +1,4 @@
-use Rattle.std.proofs.Common.{◌≡◌, ◌⊎◌, Some, sym, ◌∙◌, subst, inl, inr, arith}
+use Rattle.std.proofs.Common.{◌≡◌, ◌⊎◌, Some, sym, subst, inl, inr, arith}
 use Rattle.std.proofs.lemmas.Result.{err_from_is_err_and}
 use Rattle.life_base.specs.declared.kind.Kind.{Kind}
 use Rattle.life_base.specs.declared.kind.Kind.TheVariants.{Memory}
@@ -32,7 +32,7 @@ returns-in_err-cursor-in-Spelled-clause-fault c =
       | inr f ↦ inr (bad_item h.items item c.in-Spelled.behind.now (spelled-as MAX_LEVEL line h.items _ _ h.read.spelled (sym c.in-Spelled.ensures)) h.read.sound
           (subst (λ (c : Cursor). item_fault MAX_LEVEL rule c.y c.x item ≡ Some kind) h.read.cursor f))
     ] in
-    let p = err_from_is_err_and c.from_residual.result c.from_residual.ensures.1 in
+    let p = err_from_is_err_and c.from_residual-in_err-cursor-in-Spelled.result c.from_residual-in_err-cursor-in-Spelled.ensures.1 in
     rw (p.1, p.2) answer
 
 pub loop-kind-smaller : goal.loop-kind-smaller
@@ -45,5 +45,5 @@ loop-kind-preserved c =
     let line = c.args.line.now in
     let rule = c.args.rule.now in
     let said = c.in_ok-cursor-in-Spelled.ensures in
-    reads_more MAX_LEVEL rule c.args.from c.loop-kind.cursor line c.in-Spelled.behind.now c.args.runs.now.items c.loop-kind.runs.items c.take_item.new.runs.items c.in-Spelled.item c.in_ok-cursor-in-Spelled.cursor
-    (reads-as MAX_LEVEL rule c.args.from line _ _ c.loop-kind.cursor c.args.runs.now.items c.loop-kind.runs.items c.loop-kind.invariant (sym c.in-Spelled.ensures)) said.sound said.cursor said.near said.runs
+    reads_more MAX_LEVEL rule c.args.from c.loop-kind.cursor line c.in-Spelled.behind.now c.reserve_runs.new.runs.items c.loop-kind.runs.items c.take_item.new.runs.items c.in-Spelled.item c.in_ok-cursor-in-Spelled.cursor
+    (reads-as MAX_LEVEL rule c.args.from line _ _ c.loop-kind.cursor c.reserve_runs.new.runs.items c.loop-kind.runs.items c.loop-kind.invariant (sym c.in-Spelled.ensures)) said.sound said.cursor said.near said.runs

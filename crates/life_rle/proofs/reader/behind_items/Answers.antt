@@ -1,7 +1,7 @@
-use Rattle.std.proofs.Common.{◌≡◌, true, false, List, Ok, sym, subst}
+use Rattle.std.proofs.Common.{List, sym, subst}
 use Rattle.life_base.specs.declared.cell.TheConstants.{MAX_LEVEL}
 use Rattle.life_rle.specs.Items.{End, Mark}
-use Rattle.life_rle.specs.Reading.{IsRead, ReadsItems, last_of}
+use Rattle.life_rle.specs.Reading.{IsRead, last_of}
 use Rattle.life_rle.specs.Standing.{TakesLine}
 use Rattle.life_rle.specs.declared.reader.Phase.{Phase}
 use Rattle.life_rle.specs.declared.reader.Phase.TheVariants as phases

@@ -1,4 +1,4 @@
-use Rattle.std.proofs.Common.{◌≡◌, ◌++◌, ◌∷◌, ◌-◌, ◌^◌, [], List, ℕ, map, min, length, false, Bor}
+use Rattle.std.proofs.Common.{◌≡◌, ◌++◌, ◌-◌, ◌^◌, List, ℕ, map, min, length, false, Bor}
 use Rattle.life_base.specs.Text.{lines_of, numbered_from}
 use Rattle.life_base.specs.declared.cell.TheConstants.{MAX_LEVEL}
 use Rattle.life_base.proofs.NumberedLines.{texts}

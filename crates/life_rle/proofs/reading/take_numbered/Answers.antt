@@ -1,5 +1,5 @@
-use Rattle.std.proofs.Common.{◌≡◌, ◌⊎◌, ◌++◌, ℕ, true, false, List, Err, cond, sym, ap, ◌∙◌, subst, inl, inr}
-use Rattle.life_base.specs.Refusal.{OrMemory, is_placeless, fault_at}
+use Rattle.std.proofs.Common.{◌≡◌, ◌⊎◌, ℕ, true, false, List, Err, cond, sym, ap, ◌∙◌, subst, inl, inr}
+use Rattle.life_base.specs.Refusal.{OrMemory, fault_at}
 use Rattle.life_base.specs.declared.kind.Kind.{Kind}
 use Rattle.life_base.specs.declared.kind.Kind.TheVariants.{Memory, Spent}
 use Rattle.life_base.specs.declared.fault.Fault.{Fault}

@@ -1,13 +1,11 @@
 use Rattle.std.proofs.Common.{◌≡◌, ◌⊎◌, ℕ, true, false, List, [], ◌∷◌, ◌++◌, Err, sym, ap, ◌∙◌, subst, inl, inr}
-use Rattle.std.proofs.lemmas.List.{append-nil}
 use Rattle.life_base.specs.declared.kind.Kind.{Kind}
 use Rattle.life_base.specs.declared.kind.Kind.TheVariants.{Memory, Spent}
 use Rattle.life_base.specs.declared.cell.TheConstants.{MAX_LEVEL}
 use Rattle.life_base.specs.Refusal.{Prefix, is_placeless}
-use Rattle.life_rle.specs.declared.file.Run.{Run}
 use Rattle.life_rle.specs.declared.reader.Phase.{Phase}
-use Rattle.life_rle.specs.File.{HasRuns, AddsRuns, LinesRead}
-use Rattle.life_rle.specs.Standing.{StandsAt, is_refused, is_over, TakesLine}
+use Rattle.life_rle.specs.File.{HasRuns, LinesRead}
+use Rattle.life_rle.specs.Standing.{StandsAt, is_refused, is_over}
 use Rattle.life_rle.specs.Grammar.{IsSomeRle, IsMarked, Breaks}
 use Rattle.life_rle.specs.Pattern.{Rle}
 use Rattle.life_rle.proofs.LineKinds.{Breaks-placed}
