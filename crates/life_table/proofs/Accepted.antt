@@ -1,17 +1,15 @@
 -- Lines are accepted exactly if they write a table, and no transition is dropped.
-use Rattle.std.proofs.Common.{◌≡◌, ℕ, ◌+◌, List, [], ◌∷◌, ◌++◌, map, Bool, true, false, not, refl, ap, sym, ◌∙◌, subst, ◌&&◌, ◌⊎◌, inl, inr, length, take}
+use Rattle.std.proofs.Common.{◌≡◌, ℕ, ◌+◌, List, [], ◌∷◌, map, Bool, true, false, refl, ap, sym, ◌∙◌, subst, ◌&&◌, inl, inr, length, take}
 use Rattle.std.specs.Prelude.{Option, Some, None, if◌then◌else◌, is_some, is_none, All, filter, slice_get, option_map, ◌==◌}
 use Rattle.std.specs.List.{cons_option}
-use Rattle.std.proofs.lemmas.List.Elements.{All-head, All-tail}
+use Rattle.std.proofs.lemmas.List.Elements.{All-nil, All-cons, All-head, All-tail}
 use Rattle.life_base.specs.Text.{numbered_from}
-use Rattle.life_base.specs.declared.kind.Kind.{Kind}
 use Rattle.life_base.specs.declared.kind.Kind.TheVariants.{NoRuleLine, NoTable, BadDescriptor}
-use Rattle.life_table.specs.Valid.{IsSound, neighbour_count}
-use Rattle.life_table.specs.Reading.{Numbered, texts_of, table_texts, IsTableFile, AreTable, Describes, said_by, lacking, is_ahead, is_described, states_of, neighborhood_of, variables_in, variables_written, transitions_in, transitions_written, is_transition_line, transition_of, transition_from, entries_of}
+use Rattle.life_table.specs.Valid.{neighbour_count}
+use Rattle.life_table.specs.Reading.{Numbered, texts_of, table_texts, Describes, said_by, lacking, is_ahead, is_descriptor, states_of, neighborhood_of, symmetry_of, variables_in, variables_written, transitions_in, transitions_written, is_transition_line, transition_of, transition_from, entries_of}
 use Rattle.life_table.specs.Reader.{IsGood}
-use Rattle.life_table.specs.Laws.{AcceptedWritesTable, NothingDropped}
+use Rattle.life_table.specs.Laws.{AcceptedWritesTable, NothingDropped, HasAll, HasSetting}
 use Rattle.life_table.specs.declared.said.Said.{Said}
-use Rattle.life_table.specs.declared.said.Section.{Section}
 use Rattle.life_table.specs.declared.table.Neighborhood.{Neighborhood}
 use Rattle.life_table.specs.declared.table.Symmetry.{Symmetry}
 use Rattle.life_table.specs.declared.table.Var.{Var}
@@ -20,7 +18,9 @@ use Rattle.life_table.specs.declared.table.Transition.{Transition}
 use Rattle.life_table.specs.declared.table.Table.{Table}
 use Rattle.life_table.proofs.ByLines.{reach, missing_is}
 use Rattle.life_table.proofs.Good.{sound_of}
-use Rattle.life_table.proofs.Texts.{IsRead, on_line}
+use Rattle.life_table.proofs.Keeping.{Settled, AreSettled, AreVariables}
+use Rattle.life_table.proofs.Saying.{TextsStand}
+use Rattle.life_table.proofs.Texts.{IsRead}
 use Rattle.life_table.proofs.Values.{mapped, followed, tested}
 
 -- nothing is lacking: all parts are there
@@ -94,16 +94,75 @@ numbers_are n k vars [] h = refl
 numbers_are n k vars (x ∷ ts) h =
     numbers_step n k vars (is_transition_line x.1) x ts refl (All-head (IsRead n k vars) x ts h) (numbers_are n k vars ts (All-tail (IsRead n k vars) x ts h))
 
+-- the lines of transitions, read one by one
+lines_step : (n k : ℕ) (vars : List Var) (b : Bool) (x : Numbered) (ts : List Numbered) → is_transition_line x.1 ≡ b → IsRead n k vars x
+    → map Some (transitions_written n k vars ts) ≡ map (λ (text : Numbered). transition_of n k vars text.0 text.1) (filter (λ (text : Numbered). is_transition_line text.1) ts)
+    → map Some (transitions_written n k vars (x ∷ ts)) ≡ map (λ (text : Numbered). transition_of n k vars text.0 text.1) (filter (λ (text : Numbered). is_transition_line text.1) (x ∷ ts))
+lines_step n k vars false x ts e r ih =
+    ap (λ (b : Bool). map Some (cons_option (if b then transition_of n k vars x.0 x.1 else None) (transitions_written n k vars ts))) e ∙ ih
+    ∙ sym (ap (λ (b : Bool). map (λ (text : Numbered). transition_of n k vars text.0 text.1) (if b then x ∷ filter (λ (text : Numbered). is_transition_line text.1) ts else filter (λ (text : Numbered). is_transition_line text.1) ts)) e)
+lines_step n k vars true x ts e r ih =
+    let t = r e in
+    ap (λ (b : Bool). map Some (cons_option (if b then transition_of n k vars x.0 x.1 else None) (transitions_written n k vars ts))) e
+    ∙ ap (λ (o : Option Transition). map Some (cons_option o (transitions_written n k vars ts))) t.1
+    ∙ ap (λ (o : Option Transition). o ∷ map Some (transitions_written n k vars ts)) (sym t.1)
+    ∙ ap (λ (os : List (Option Transition)). transition_of n k vars x.0 x.1 ∷ os) ih
+    ∙ sym (ap (λ (b : Bool). map (λ (text : Numbered). transition_of n k vars text.0 text.1) (if b then x ∷ filter (λ (text : Numbered). is_transition_line text.1) ts else filter (λ (text : Numbered). is_transition_line text.1) ts)) e)
+
+lines_read : (n k : ℕ) (vars : List Var) (ts : List Numbered) → All (IsRead n k vars) ts
+    → map Some (transitions_written n k vars ts) ≡ map (λ (text : Numbered). transition_of n k vars text.0 text.1) (filter (λ (text : Numbered). is_transition_line text.1) ts)
+lines_read n k vars [] h = refl
+lines_read n k vars (x ∷ ts) h =
+    lines_step n k vars (is_transition_line x.1) x ts refl (All-head (IsRead n k vars) x ts h) (lines_read n k vars ts (All-tail (IsRead n k vars) x ts h))
+
+-- where all three settings are known, each descriptor gives one of them
+same_some : {X : Type 0} (o : Option X) (x y : X) → o ≡ Some x → o ≡ Some y → Some x ≡ Some y
+same_some o x y a b = sym a ∙ b
+
+has_setting : (table : Table) (on : Option ℕ) (oh : Option Neighborhood) (oy : Option Symmetry) (text : List ℕ)
+    → on ≡ Some table.n_states → oh ≡ Some table.neighborhood → oy ≡ Some table.symmetry → Settled on oh oy text → HasSetting table text
+has_setting table on oh oy text n h y (inl s) = inl (s.0, s.2 ∙ same_some on s.1 table.n_states s.3 n)
+has_setting table on oh oy text n h y (inr (inl s)) = inr (inl (s.0, s.2 ∙ same_some oh s.1 table.neighborhood s.3 h))
+has_setting table on oh oy text n h y (inr (inr s)) = inr (inr (s.0, s.2 ∙ same_some oy s.1 table.symmetry s.3 y))
+
+have_settings : (table : Table) (on : Option ℕ) (oh : Option Neighborhood) (oy : Option Symmetry) → on ≡ Some table.n_states → oh ≡ Some table.neighborhood → oy ≡ Some table.symmetry
+    → (ts : List Numbered) → AreSettled on oh oy ts → All (λ (text : Numbered). is_descriptor text.1 ≡ true → HasSetting table text.1) ts
+have_settings table on oh oy n h y [] a = All-nil (λ (text : Numbered). is_descriptor text.1 ≡ true → HasSetting table text.1)
+have_settings table on oh oy n h y (t ∷ ts) a =
+    All-cons (λ (text : Numbered). is_descriptor text.1 ≡ true → HasSetting table text.1) t ts
+    (λ d. has_setting table on oh oy t.1 n h y (All-head (λ (u : Numbered). is_descriptor u.1 ≡ true → Settled on oh oy u.1) t ts a d))
+    (have_settings table on oh oy n h y ts (All-tail (λ (u : Numbered). is_descriptor u.1 ≡ true → Settled on oh oy u.1) t ts a))
+
+module _ (table : Table) (ts : List Numbered) (en : states_of (texts_of ts) ≡ Some table.n_states) (eh : neighborhood_of (texts_of ts) ≡ Some table.neighborhood)
+    (ey : symmetry_of (texts_of ts) ≡ Some table.symmetry) where
+  abbrev V : List Var
+  V = variables_written table.n_states (texts_of ts)
+
+  vars_are : variables_in (states_of (texts_of ts)) (texts_of ts) ≡ V
+  vars_are = ap (λ (o : Option ℕ). variables_in o (texts_of ts)) en
+
+  lines_are : transitions_in (states_of (texts_of ts)) (neighborhood_of (texts_of ts)) (variables_in (states_of (texts_of ts)) (texts_of ts)) ts
+      ≡ transitions_written table.n_states (neighbour_count table.neighborhood) V ts
+  lines_are =
+      ap (λ (o : Option ℕ). transitions_in o (neighborhood_of (texts_of ts)) (variables_in (states_of (texts_of ts)) (texts_of ts)) ts) en
+      ∙ ap (λ (o : Option Neighborhood). transitions_in (Some table.n_states) o (variables_in (states_of (texts_of ts)) (texts_of ts)) ts) eh
+      ∙ ap (λ (vs : List Var). transitions_written table.n_states (neighbour_count table.neighborhood) vs ts) vars_are
+
+  has_all : TextsStand ts → variables_in (states_of (texts_of ts)) (texts_of ts) ≡ table.vars
+      → transitions_in (states_of (texts_of ts)) (neighborhood_of (texts_of ts)) (variables_in (states_of (texts_of ts)) (texts_of ts)) ts ≡ table.lines → HasAll ts table
+  has_all stand vs ls =
+      let k : ℕ = neighbour_count table.neighborhood in
+      let read = stand.read table.n_states table.neighborhood en eh in
+      let same : V ≡ table.vars = sym vars_are ∙ vs in
+      let written : transitions_written table.n_states (neighbour_count table.neighborhood) V ts ≡ table.lines = sym lines_are ∙ ls in
+      record {
+        settings = have_settings table (states_of (texts_of ts)) (neighborhood_of (texts_of ts)) (symmetry_of (texts_of ts)) en eh ey ts stand.settled;
+        variables = subst (λ (vars : List Var). AreVariables table.n_states vars ts) same (stand.variables table.n_states en);
+        transitions = ap (map Some) (sym written) ∙ lines_read table.n_states (neighbour_count table.neighborhood) V ts read
+            ∙ ap (λ (vars : List Var). map (λ (text : Numbered). transition_of table.n_states (neighbour_count table.neighborhood) vars text.0 text.1) (filter (λ (text : Numbered). is_transition_line text.1) ts)) same;
+        numbers = ap numbers_of (sym written) ∙ numbers_are table.n_states (neighbour_count table.neighborhood) V ts read;
+      }
+
 pub nothing_dropped : NothingDropped
 nothing_dropped lines table are =
-    let r = reach lines are.file.unbroken in
-    let ts : List Numbered = table_texts (numbered_from 1 lines) in
-    let en : states_of (texts_of (table_texts (numbered_from 1 lines))) ≡ Some table.n_states = are.says.n_states in
-    let eh : neighborhood_of (texts_of (table_texts (numbered_from 1 lines))) ≡ Some table.neighborhood = are.says.neighborhood in
-    let lines_are : table.lines ≡ transitions_written table.n_states (neighbour_count table.neighborhood) (variables_written table.n_states (texts_of (table_texts (numbered_from 1 lines)))) (table_texts (numbered_from 1 lines)) =
-    sym are.says.lines
-    ∙ ap (λ (o : Option ℕ). transitions_in o (neighborhood_of (texts_of (table_texts (numbered_from 1 lines)))) (variables_in (states_of (texts_of (table_texts (numbered_from 1 lines)))) (texts_of (table_texts (numbered_from 1 lines)))) (table_texts (numbered_from 1 lines))) en
-    ∙ ap (λ (o : Option Neighborhood). transitions_in (Some table.n_states) o (variables_in (states_of (texts_of (table_texts (numbered_from 1 lines)))) (texts_of (table_texts (numbered_from 1 lines)))) (table_texts (numbered_from 1 lines))) eh
-    ∙ ap (λ (o : Option ℕ). transitions_written table.n_states (neighbour_count table.neighborhood) (variables_in o (texts_of (table_texts (numbered_from 1 lines)))) (table_texts (numbered_from 1 lines))) en in
-    ap numbers_of lines_are ∙ numbers_are table.n_states (neighbour_count table.neighborhood) (variables_written table.n_states (texts_of (table_texts (numbered_from 1 lines)))) (table_texts (numbered_from 1 lines))
-    (r.stands.texts.read table.n_states table.neighborhood en eh)
+    has_all table (table_texts (numbered_from 1 lines)) are.says.n_states are.says.neighborhood are.says.symmetry (reach lines are.file.unbroken).stands.texts are.says.vars are.says.lines

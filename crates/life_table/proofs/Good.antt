@@ -32,7 +32,7 @@ use Rattle.life_table.proofs.Values.{tested, below_limit, is_variable_written, i
 
 -- 1. One more variable
 
-get_more : (vars : List Var) (v : Var) (i : ℕ) → i < length vars → slice_get (vars ++ v ∷ []) i ≡ slice_get vars i
+pub get_more : (vars : List Var) (v : Var) (i : ℕ) → i < length vars → slice_get (vars ++ v ∷ []) i ≡ slice_get vars i
 get_more vars v i h =
     slice_get-get_or (vars ++ v ∷ []) i v (omega (arith, h, length-append vars (v ∷ [])))
     ∙ ap Some (get_or_append_left vars (v ∷ []) v i h) ∙ sym (slice_get-get_or vars i v h)

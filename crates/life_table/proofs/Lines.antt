@@ -141,7 +141,7 @@ pub stands_start : Stands []
 unfolding name_of section_of table_texts
 stands_start = record {
   named = λ _. refl;
-  texts = record { early = λ _. All-nil _; read = λ n h en eh. All-nil _ };
+  texts = record { early = λ _. All-nil _; read = λ n h en eh. All-nil _; settled = All-nil _; variables = λ n en. refl };
 }
 
 pub said_start : said_by [] ≡ nothing_said

@@ -1,13 +1,13 @@
 -- Reading the lines of a rule table one after another.
-use Rattle.std.proofs.Common.{◌≡◌, ℕ, suc, ◌+◌, ◌-◌, ◌^◌, ◌≤◌, min, List, [], ◌∷◌, ◌++◌, length, take, get_or, Bool, false, refl, ap, sym, subst, ◌∙◌, arith, length-append}
+use Rattle.std.proofs.Common.{◌≡◌, ℕ, ◌+◌, ◌-◌, ◌^◌, min, List, [], ◌∷◌, ◌++◌, length, Bool, false, refl, ap, sym, subst, ◌∙◌, arith, length-append}
 use Rattle.std.specs.Prelude.{Some, None, Result, Ok, Err}
-use Rattle.std.proofs.Math.Seq.{take-append_seam, get_or-append_seam}
-use Rattle.std.proofs.Math.ListN.{get_or-append}
-use Rattle.std.proofs.lemmas.List.{take-append-le, map-append, append-nil}
+use Rattle.std.proofs.lemmas.List.{map-append}
 use Rattle.life_base.specs.Text.{numbered_from}
 use Rattle.life_base.specs.declared.kind.Kind.{Kind}
 use Rattle.life_base.specs.declared.fault.Fault.{Fault}
-use Rattle.life_base.proofs.Refusals.{UnbrokenBelow, refusal_at, refusal_at_end}
+use Rattle.life_base.proofs.Refusals.{refusal_at_end}
+use Rattle.life_base.proofs.NumberedLines.{number_at, length_texts, all_read}
+use Rattle.life_base.proofs.NumberedLines as numbered
 use Rattle.life_table.specs.Reading.{Numbered, texts_of, IsTableFile, AreTable, Describes, broken, missing, lacking, said_by, told_by, number_behind, Refuses}
 use Rattle.life_table.specs.Reader.{IsGood, IsKept, after, fits_after, nothing_said}
 use Rattle.life_table.specs.declared.said.Said.{Said}
@@ -17,47 +17,6 @@ use Rattle.life_table.proofs.Cases.{line_case}
 use Rattle.life_table.proofs.Lines.{said_start}
 use Rattle.life_table.proofs.Good.{kept_start, kept_more}
 use Rattle.life_table.proofs.ByLines.{by_lines, Reach, reach_none, reach_more, numbered_more, told_broken, missing_is}
-
--- why a file is refused of which this line breaks a rule, and none before it
-refused_line : (before : List (List ℕ)) (line : List ℕ) (rest : List (List ℕ)) (kind : Kind)
-    → UnbrokenBelow IsTableFile broken missing before (length before) → broken before line ≡ Some kind
-    → Refuses (before ++ line ∷ rest) (record { place = record { line = min (length before + 1) (2 ^ 64 - 1) }; kind = kind })
-refused_line before line rest kind u b =
-    refusal_at IsTableFile broken missing by_lines (before ++ line ∷ rest) (length before) kind (omega (arith, length-append before (line ∷ rest)))
-    (λ k h.
-    let e : take k (before ++ line ∷ rest) ≡ take k before = take-append-le k before (line ∷ rest) (omega arith) in
-    let f : get_or (before ++ line ∷ rest) k [] ≡ get_or before k [] = get_or-append before (line ∷ rest) [] k h in
-    rw (e, f) (u k h))
-    (let e : take (length before) (before ++ line ∷ rest) ≡ before = take-append_seam before (line ∷ rest) in
-    let f : get_or (before ++ line ∷ rest) (length before) [] ≡ line = get_or-append_seam before line rest [] in
-    rw (e, f) b)
-
-numbered_texts : (lines : List (List ℕ)) (n : ℕ) → texts_of (numbered_from n lines) ≡ lines
-numbered_texts [] n = refl
-numbered_texts (line ∷ lines) n = ap (λ (t : List (List ℕ)). line ∷ t) (numbered_texts lines (min (n + 1) (2 ^ 64 - 1)))
-
-head_number : List Numbered → ℕ
-head_number [] = 0
-head_number (p ∷ ps) = p.0
-
-behind_head : List Numbered → List Numbered
-behind_head [] = []
-behind_head (p ∷ ps) = ps
-
--- the number of the line behind those of a list
-number_at : (lines : List (List ℕ)) (before : List Numbered) (n : ℕ) (k : ℕ) (line : List ℕ) (rest : List Numbered)
-    → n ≤ 2 ^ 64 - 1 → before ++ (k, line) ∷ rest ≡ numbered_from n lines → k ≡ min (n + length before) (2 ^ 64 - 1)
-unfolding head_number behind_head
-number_at [] [] n k line rest h e = cc
-number_at [] (p ∷ before) n k line rest h e = cc
-number_at (x ∷ lines) [] n k line rest h e = let q : k ≡ n = ap head_number e in omega arith
-number_at (x ∷ lines) (p ∷ before) n k line rest h e =
-    let t : before ++ (k, line) ∷ rest ≡ numbered_from (min (n + 1) (2 ^ 64 - 1)) lines = ap behind_head e in
-    number_at lines before (min (n + 1) (2 ^ 64 - 1)) k line rest (omega arith) t ∙ omega arith
-
-length_texts : (ps : List Numbered) → length (texts_of ps) ≡ length ps
-length_texts [] = refl
-length_texts (p ∷ ps) = ap suc (length_texts ps)
 
 -- what was read of the lines so far
 pub record Reads (pairs : List Numbered) (said : Said) (fit : Bool) : Type 0 where
@@ -103,23 +62,15 @@ module _ (lines : List (List ℕ)) (pairs : List Numbered) (number : ℕ) (line 
 
   pub refused_at : (fault : Fault) → told_by said number line ≡ Err fault.kind → fault.place.line ≡ number → Refuses lines fault
   refused_at fault h l =
-      let t : texts_of pairs ++ line ∷ texts_of rest ≡ lines = sym (map-append (λ (p : Numbered). p.1) pairs ((number, line) ∷ rest)) ∙ ap texts_of all ∙ numbered_texts lines 1 in
-      let m : min (length (texts_of pairs) + 1) (2 ^ 64 - 1) ≡ fault.place.line = sym number_is ∙ sym l in
-      let P : List (List ℕ) → Type 0 = λ ls. Refuses ls fault in
-      let Q : ℕ → Type 0 = λ n. Refuses (texts_of pairs ++ line ∷ texts_of rest) (record { place = record { line = n }; kind = fault.kind }) in
-      subst P t (subst Q m (refused_line (texts_of pairs) line (texts_of rest) fault.kind reads.reached.unbroken (told_broken (texts_of pairs) line fault.kind (told_there (Err fault.kind) h))))
+      numbered.refused_at IsTableFile broken missing by_lines lines pairs number line rest fault all reads.reached.unbroken (told_broken (texts_of pairs) line fault.kind (told_there (Err fault.kind) h)) l
 
 module _ (lines : List (List ℕ)) (pairs rest : List Numbered) (all : pairs ++ rest ≡ numbered_from 1 lines) (none : rest ≡ [])
     (said : Said) (fit : Bool) (reads : Reads pairs said fit) where
-  -- all lines were read, once none is left
-  all_read : texts_of pairs ≡ lines
-  all_read = ap texts_of (sym (append-nil pairs) ∙ ap (λ (t : List Numbered). pairs ++ t) (sym none) ∙ all) ∙ numbered_texts lines 1
-
   said_is : said ≡ said_by (numbered_from 1 lines)
-  said_is = reads.is ∙ ap said_by (reads.numbers ∙ ap (numbered_from 1) all_read)
+  said_is = reads.is ∙ ap said_by (reads.numbers ∙ ap (numbered_from 1) (all_read lines pairs rest all none))
 
   reached : Reach lines
-  reached = subst Reach all_read reads.reached
+  reached = subst Reach (all_read lines pairs rest all none) reads.reached
 
   pub read_whole : (table : Table) → lacking said ≡ None → Describes said table → AreTable lines table
   read_whole table l d = record {
@@ -132,5 +83,5 @@ module _ (lines : List (List ℕ)) (pairs rest : List Numbered) (all : pairs ++ 
   refused_at_end kind next l n =
       let lacks : missing lines ≡ Some kind = missing_is lines ∙ ap lacking (sym said_is) ∙ l in
       let r = refusal_at_end IsTableFile broken missing by_lines lines kind reached.unbroken (λ g. let z : None ≡ Some kind = sym g.whole ∙ lacks in cc) lacks in
-      let size : length lines ≡ length pairs = sym (ap length all_read) ∙ length_texts pairs in
+      let size : length lines ≡ length pairs = sym (ap length (all_read lines pairs rest all none)) ∙ length_texts pairs in
       subst (λ (k : ℕ). Refuses lines (record { place = record { line = k }; kind = kind })) (omega (arith, n, size)) r

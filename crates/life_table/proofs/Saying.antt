@@ -17,6 +17,7 @@ use Rattle.life_table.specs.declared.table.Symmetry.{Symmetry}
 use Rattle.life_table.specs.declared.table.Var.{Var}
 use Rattle.life_table.specs.declared.table.Transition.{Transition}
 use Rattle.life_table.proofs.Cases.{Says, states, neighbors, orders, variable, transition}
+use Rattle.life_table.proofs.Keeping.{AreSettled, Settled, settled_more, Stays, stays_same, stays_none, AreVariables, variables_none, variables_new, variables_same}
 use Rattle.life_table.proofs.Texts.{setting_same, setting_new, this_key, other_key, no_descriptor, written, variables_more, transitions_more, IsRead, transitions_kept, AreDescriptors, no_variables, no_transitions, none_to_read, descriptors_more, all_more, on_line}
 
 -- the texts so far: all are descriptors until all three settings are given, and each transition's line is read
@@ -24,6 +25,8 @@ pub record TextsStand (ts : List Numbered) : Type 0 where
   pub early : (is_some (states_of (texts_of ts)) && is_some (neighborhood_of (texts_of ts)) && is_some (symmetry_of (texts_of ts))) ≡ false → AreDescriptors ts
   pub read : (n : ℕ) (h : Neighborhood) → states_of (texts_of ts) ≡ Some n → neighborhood_of (texts_of ts) ≡ Some h
       → All (IsRead n (neighbour_count h) (variables_written n (texts_of ts))) ts
+  pub settled : AreSettled (states_of (texts_of ts)) (neighborhood_of (texts_of ts)) (symmetry_of (texts_of ts)) ts
+  pub variables : (n : ℕ) → states_of (texts_of ts) ≡ Some n → AreVariables n (variables_written n (texts_of ts)) ts
 
 -- no key is another
 states_alone : (key : List ℕ) → is_states_key key ≡ true → is_neighborhood_key key ≡ false
@@ -89,8 +92,13 @@ module _ (name : Option (List ℕ)) (ts : List Numbered) (number : ℕ) (text : 
     described_lines : transitions_in on' oh' (variables_in on' (texts_of (ts ++ x ∷ []))) (ts ++ x ∷ []) ≡ transitions_in on oh (variables_in on (texts_of ts)) ts
     described_lines = no_transitions on' oh' (variables_in on' (texts_of (ts ++ x ∷ []))) (ts ++ x ∷ []) more_described ∙ sym (no_transitions on oh (variables_in on (texts_of ts)) ts all)
 
-    described_stand : TextsStand (ts ++ x ∷ [])
-    described_stand = record { early = λ _. more_described; read = λ n h en eh. none_to_read n (neighbour_count h) (variables_written n (texts_of (ts ++ x ∷ []))) (ts ++ x ∷ []) more_described }
+    described_stand : Stays on on' → Stays oh oh' → Stays oy oy' → Settled on' oh' oy' text → TextsStand (ts ++ x ∷ [])
+    described_stand n h y s = record {
+      early = λ _. more_described;
+      read = λ n h en eh. none_to_read n (neighbour_count h) (variables_written n (texts_of (ts ++ x ∷ []))) (ts ++ x ∷ []) more_described;
+      settled = settled_more on on' oh oh' oy oy' n h y ts x stand.settled (λ _. s);
+      variables = λ n en. variables_none n (variables_written n (texts_of (ts ++ x ∷ []))) (ts ++ x ∷ []) more_described (no_variables (Some n) (ts ++ x ∷ []) more_described);
+    }
 
   -- one more variable or transition
   module _ (d : is_descriptor text ≡ false) (n : ℕ) (h : Neighborhood) (y : Symmetry) (en : on ≡ Some n) (eh : oh ≡ Some h) (ey : oy ≡ Some y) where
@@ -125,8 +133,8 @@ module _ (name : Option (List ℕ)) (ts : List Numbered) (number : ℕ) (text : 
     all_read : All (IsRead n (neighbour_count h) V) ts
     all_read = stand.read n h en eh
 
-    stand_then : All (IsRead n (neighbour_count h) (variables_written n (texts_of (ts ++ x ∷ [])))) (ts ++ x ∷ []) → TextsStand (ts ++ x ∷ [])
-    stand_then all = record {
+    stand_then : All (IsRead n (neighbour_count h) (variables_written n (texts_of (ts ++ x ∷ [])))) (ts ++ x ∷ []) → AreVariables n (variables_written n (texts_of (ts ++ x ∷ []))) (ts ++ x ∷ []) → TextsStand (ts ++ x ∷ [])
+    stand_then all vars = record {
       early = λ e. absurd (
           let t : (is_some on' && is_some oh' && is_some oy') ≡ true =
           ap (λ (o : Option ℕ). is_some o && is_some oh' && is_some oy') (states_same ∙ en)
@@ -137,6 +145,11 @@ module _ (name : Option (List ℕ)) (ts : List Numbered) (number : ℕ) (text : 
           let same_h : h ≡ g = (let z : Some h ≡ Some g = sym (neighbors_same ∙ eh) ∙ eg in cc) in
           subst (λ (m : ℕ). All (IsRead m (neighbour_count g) (variables_written m (texts_of (ts ++ x ∷ [])))) (ts ++ x ∷ [])) same_n
           (subst (λ (g : Neighborhood). All (IsRead n (neighbour_count g) (variables_written n (texts_of (ts ++ x ∷ [])))) (ts ++ x ∷ [])) same_h all);
+      settled = settled_more on on' oh oh' oy oy' (stays_same on on' states_same) (stays_same oh oh' neighbors_same) (stays_same oy oy' symmetry_same) ts x stand.settled
+          (λ e. absurd (let z : false ≡ true = sym d ∙ e in let w : ⊥ = cc in w));
+      variables = λ m em.
+          let same_n : n ≡ m = (let z : Some n ≡ Some m = sym (states_same ∙ en) ∙ em in cc) in
+          subst (λ (m : ℕ). AreVariables m (variables_written m (texts_of (ts ++ x ∷ []))) (ts ++ x ∷ [])) same_n vars;
     }
 
     variable_written : (var : Var) → is_variable_line text ≡ true → variable_of n (variables_in on (texts_of ts)) text ≡ Some var → written n V text ≡ var ∷ []
@@ -162,37 +175,37 @@ module _ (name : Option (List ℕ)) (ts : List Numbered) (number : ℕ) (text : 
 
   says_states : is_descriptor text ≡ true → is_states_key (key_of text) ≡ true → on ≡ None → (n : ℕ) → states_named (setting_of text) ≡ Some n → SaysMore (States n)
   says_states d k none n e =
-      let all : AreDescriptors ts = stand.early (not_described (is_some on) (is_some oh) (is_some oy) (inl (ap (λ (o : Option ℕ). is_some o) none))) in (
-        said_same name Open on' (Some n) oh' oh oy' oy _ _ _ _
-            (setting_new is_states_key states_named ts x (this_key is_states_key text d k) none ∙ e)
-            (setting_same is_neighborhood_key neighborhood_named ts x (other_key is_neighborhood_key text (states_alone (key_of text) k)))
-            (setting_same is_symmetry_key symmetry_named ts x (other_key is_symmetry_key text (states_alone_too (key_of text) k)))
+      let all : AreDescriptors ts = stand.early (not_described (is_some on) (is_some oh) (is_some oy) (inl (ap (λ (o : Option ℕ). is_some o) none))) in
+      let states : on' ≡ Some n = setting_new is_states_key states_named ts x (this_key is_states_key text d k) none ∙ e in
+      let neighbors : oh' ≡ oh = setting_same is_neighborhood_key neighborhood_named ts x (other_key is_neighborhood_key text (states_alone (key_of text) k)) in
+      let symmetry : oy' ≡ oy = setting_same is_symmetry_key symmetry_named ts x (other_key is_symmetry_key text (states_alone_too (key_of text) k)) in (
+        said_same name Open on' (Some n) oh' oh oy' oy _ _ _ _ states neighbors symmetry
             (described_vars d all) (described_lines d all),
-        described_stand d all,
+        described_stand d all (stays_none on on' none) (stays_same oh oh' neighbors) (stays_same oy oy' symmetry) (inl (k, n, e, states)),
       )
 
   says_neighbors : is_descriptor text ≡ true → is_states_key (key_of text) ≡ false → is_neighborhood_key (key_of text) ≡ true → oh ≡ None → (h : Neighborhood)
       → neighborhood_named (setting_of text) ≡ Some h → SaysMore (Neighbors h)
   says_neighbors d s k none h e =
-      let all : AreDescriptors ts = stand.early (not_described (is_some on) (is_some oh) (is_some oy) (inr (inl (ap (λ (o : Option Neighborhood). is_some o) none)))) in (
-        said_same name Open on' on oh' (Some h) oy' oy _ _ _ _
-            (setting_same is_states_key states_named ts x (other_key is_states_key text s))
-            (setting_new is_neighborhood_key neighborhood_named ts x (this_key is_neighborhood_key text d k) none ∙ e)
-            (setting_same is_symmetry_key symmetry_named ts x (other_key is_symmetry_key text (neighbors_alone (key_of text) k)))
+      let all : AreDescriptors ts = stand.early (not_described (is_some on) (is_some oh) (is_some oy) (inr (inl (ap (λ (o : Option Neighborhood). is_some o) none)))) in
+      let states : on' ≡ on = setting_same is_states_key states_named ts x (other_key is_states_key text s) in
+      let neighbors : oh' ≡ Some h = setting_new is_neighborhood_key neighborhood_named ts x (this_key is_neighborhood_key text d k) none ∙ e in
+      let symmetry : oy' ≡ oy = setting_same is_symmetry_key symmetry_named ts x (other_key is_symmetry_key text (neighbors_alone (key_of text) k)) in (
+        said_same name Open on' on oh' (Some h) oy' oy _ _ _ _ states neighbors symmetry
             (described_vars d all) (described_lines d all),
-        described_stand d all,
+        described_stand d all (stays_same on on' states) (stays_none oh oh' none) (stays_same oy oy' symmetry) (inr (inl (k, h, e, neighbors))),
       )
 
   says_orders : is_descriptor text ≡ true → is_states_key (key_of text) ≡ false → is_neighborhood_key (key_of text) ≡ false → is_symmetry_key (key_of text) ≡ true → oy ≡ None → (y : Symmetry)
       → symmetry_named (setting_of text) ≡ Some y → SaysMore (Orders y)
   says_orders d s m k none y e =
-      let all : AreDescriptors ts = stand.early (not_described (is_some on) (is_some oh) (is_some oy) (inr (inr (ap (λ (o : Option Symmetry). is_some o) none)))) in (
-        said_same name Open on' on oh' oh oy' (Some y) _ _ _ _
-            (setting_same is_states_key states_named ts x (other_key is_states_key text s))
-            (setting_same is_neighborhood_key neighborhood_named ts x (other_key is_neighborhood_key text m))
-            (setting_new is_symmetry_key symmetry_named ts x (this_key is_symmetry_key text d k) none ∙ e)
+      let all : AreDescriptors ts = stand.early (not_described (is_some on) (is_some oh) (is_some oy) (inr (inr (ap (λ (o : Option Symmetry). is_some o) none)))) in
+      let states : on' ≡ on = setting_same is_states_key states_named ts x (other_key is_states_key text s) in
+      let neighbors : oh' ≡ oh = setting_same is_neighborhood_key neighborhood_named ts x (other_key is_neighborhood_key text m) in
+      let symmetry : oy' ≡ Some y = setting_new is_symmetry_key symmetry_named ts x (this_key is_symmetry_key text d k) none ∙ e in (
+        said_same name Open on' on oh' oh oy' (Some y) _ _ _ _ states neighbors symmetry
             (described_vars d all) (described_lines d all),
-        described_stand d all,
+        described_stand d all (stays_same on on' states) (stays_same oh oh' neighbors) (stays_none oy oy' none) (inr (inr (k, y, e, symmetry))),
       )
 
   says_variable : is_descriptor text ≡ false → (n : ℕ) (h : Neighborhood) (y : Symmetry) → on ≡ Some n → oh ≡ Some h → oy ≡ Some y → is_variable_line text ≡ true → (var : Var)
@@ -212,7 +225,10 @@ module _ (name : Option (List ℕ)) (ts : List Numbered) (number : ℕ) (text : 
         said_same name Open on' on oh' oh oy' oy _ _ _ _ (states_same d n h y en eh ey) (neighbors_same d n h y en eh ey) (symmetry_same d n h y en eh ey)
             (vars ∙ ap (λ (vs : List Var). vs ++ var ∷ []) (sym (vars_are d n h y en eh ey))) lines,
         stand_then d n h y en eh ey (subst (λ (vs : List Var). All (IsRead n (neighbour_count h) vs) (ts ++ x ∷ [])) (sym there)
-            (all_more (IsRead n (neighbour_count h) (V d n h y en eh ey ++ var ∷ [])) ts x kept.1 last)),
+            (all_more (IsRead n (neighbour_count h) (V d n h y en eh ey ++ var ∷ [])) ts x kept.1 last))
+            (subst (λ (vs : List Var). AreVariables n vs (ts ++ x ∷ [])) (sym there)
+            (variables_new n (V d n h y en eh ey) var ts x (stand.variables n en) (ap (λ (b : Bool). b && not (is_descriptor text)) v ∙ ap not d)
+            (ap (λ (vs : List Var). variable_of n vs text) (sym (vars_are d n h y en eh ey)) ∙ e))),
       )
     where
       and_false : (b : Bool) → (b && false) ≡ false
@@ -233,7 +249,9 @@ module _ (name : Option (List ℕ)) (ts : List Numbered) (number : ℕ) (text : 
         said_same name Open on' on oh' oh oy' oy _ _ _ _ (states_same d n h y en eh ey) (neighbors_same d n h y en eh ey) (symmetry_same d n h y en eh ey)
             (vars ∙ sym (vars_are d n h y en eh ey)) lines,
         stand_then d n h y en eh ey (subst (λ (vs : List Var). All (IsRead n (neighbour_count h) vs) (ts ++ x ∷ [])) (sym there)
-            (all_more (IsRead n (neighbour_count h) (V d n h y en eh ey)) ts x (all_read d n h y en eh ey) (λ is. (t, read)))),
+            (all_more (IsRead n (neighbour_count h) (V d n h y en eh ey)) ts x (all_read d n h y en eh ey) (λ is. (t, read))))
+            (subst (λ (vs : List Var). AreVariables n vs (ts ++ x ∷ [])) (sym there)
+            (variables_same n (V d n h y en eh ey) ts x (stand.variables n en) (ap (λ (b : Bool). b && not (is_descriptor text)) v))),
       )
 
   pub says_more : (told : Told) → Says (said_in name Open ts) number text told → SaysMore told

@@ -130,21 +130,20 @@ entry_kept n vars v word e h =
     entry_by (is_digit_text word) (option_map entries.Fixed (number_below n word)) (option_map entries.Var (variable_named vars word)) (option_map entries.Var (variable_named (vars ++ v ∷ []) word)) e
     (map_kept (variable_named vars word) (variable_named (vars ++ v ∷ []) word) e (position_kept (λ (w : Var). bytes_eq w.name word) vars v)) h
 
--- the first of the words is an entry, and the others are
-pub split_entries : (o : Option Entry) (os : List (Option Entry)) (es : List Entry) → all_some (o ∷ os) ≡ Some es
-    → (e : Entry) × (rest : List Entry) × (o ≡ Some e) × (all_some os ≡ Some rest) × (es ≡ e ∷ rest)
-split_entries None os es h = absurd (let z : ⊥ = cc in z)
-split_entries (Some e) os es h = split_again e (all_some os) es h
+-- the first of the options is there, and the others are
+pub split_some : {X : Type 0} (o : Option X) (os : List (Option X)) (xs : List X) → all_some (o ∷ os) ≡ Some xs → (x : X) × (rest : List X) × (o ≡ Some x) × (all_some os ≡ Some rest) × (xs ≡ x ∷ rest)
+split_some None os xs h = absurd (let z : ⊥ = cc in z)
+split_some (Some x) os xs h = split_again x (all_some os) xs h
   where
-    split_again : (e : Entry) (r : Option (List Entry)) (es : List Entry) → option_map (λ xs. e ∷ xs) r ≡ Some es → (f : Entry) × (rest : List Entry) × (Some e ≡ Some f) × (r ≡ Some rest) × (es ≡ f ∷ rest)
-    split_again e None es h = absurd (let z : ⊥ = cc in z)
-    split_again e (Some rest) es h = (e, rest, refl, refl, (let g : Some (e ∷ rest) ≡ Some es = h in cc))
+    split_again : {X : Type 0} (x : X) (r : Option (List X)) (xs : List X) → option_map (λ (ys : List X). x ∷ ys) r ≡ Some xs → (y : X) × (rest : List X) × (Some x ≡ Some y) × (r ≡ Some rest) × (xs ≡ y ∷ rest)
+    split_again x None xs h = absurd (let z : ⊥ = cc in z)
+    split_again {X} x (Some rest) xs h = (x, rest, refl, refl, (let g : Some (x ∷ rest) ≡ Some xs = h in cc))
 
 words_kept : (n : ℕ) (vars : List Var) (v : Var) (words : List (List ℕ)) (es : List Entry)
     → all_some (map (entry_of n vars) words) ≡ Some es → all_some (map (entry_of n (vars ++ v ∷ [])) words) ≡ Some es
 words_kept n vars v [] es h = h
 words_kept n vars v (word ∷ words) es h =
-    let s = split_entries (entry_of n vars word) (map (entry_of n vars) words) es h in
+    let s = split_some (entry_of n vars word) (map (entry_of n vars) words) es h in
     let first = entry_kept n vars v word s.0 s.2 in
     let rest = words_kept n vars v words s.1 s.3 in
     ap (λ (o : Option Entry). all_some (o ∷ map (entry_of n (vars ++ v ∷ [])) words)) first ∙ ap (option_map (λ (xs : List Entry). s.0 ∷ xs)) rest ∙ ap Some (sym s.4)

@@ -15,7 +15,7 @@ use Rattle.life_table.specs.declared.table.Var.{Var}
 use Rattle.life_table.specs.declared.table.Entry.{Entry}
 use Rattle.life_table.specs.declared.table.Entry.TheVariants as entries
 use Rattle.life_table.specs.declared.table.Transition.{Transition}
-use Rattle.life_table.proofs.Texts.{split_entries}
+use Rattle.life_table.proofs.Texts.{split_some}
 
 known : (b : Bool) → (b ≡ true) ⊎ (b ≡ false)
 known true = inl refl
@@ -95,7 +95,7 @@ is_entry n vars word e h = elim (entry_cases (is_digit_text word) (option_map en
 words_are : (n : ℕ) (vars : List Var) (words : List (List ℕ)) (es : List Entry) → all_some (map (entry_of n vars) words) ≡ Some es → All (IsEntry n vars) es
 words_are n vars [] es h = subst (All (IsEntry n vars)) (let z : Some [] ≡ Some es = h in let e : [] ≡ es = cc in e) (All-nil (IsEntry n vars))
 words_are n vars (word ∷ words) es h =
-    let s = split_entries (entry_of n vars word) (map (entry_of n vars) words) es h in
+    let s = split_some (entry_of n vars word) (map (entry_of n vars) words) es h in
     subst (All (IsEntry n vars)) (sym s.4) (All-cons (IsEntry n vars) s.0 s.1 (is_entry n vars word s.0 s.2) (words_are n vars words s.1 s.3))
 
 entries_are : (n : ℕ) (vars : List Var) (text : List ℕ) (es : List Entry) → entries_of n vars text ≡ Some es → All (IsEntry n vars) es
@@ -300,15 +300,11 @@ word_set n most vars all word set h =
     let f = followed (states_of_entry vars) (entry_of n vars word) set h in
     entry_set n most vars all f.0 (is_entry n vars word f.0 f.1) set f.2
 
-split_sets : {X : Type 0} (o : Option X) (os : List (Option X)) (xs : List X) → all_some (o ∷ os) ≡ Some xs → (x : X) × (rest : List X) × (o ≡ Some x) × (all_some os ≡ Some rest) × (xs ≡ x ∷ rest)
-split_sets None os xs h = absurd (let z : ⊥ = cc in z)
-split_sets (Some x) os xs h = let m = mapped (λ ys. x ∷ ys) (all_some os) xs h in (x, m.0, refl, m.1, m.2)
-
 words_sets : (n : ℕ) → n ≤ 256 → (vars : List Var) → All (IsVariable n) vars → (words : List (List ℕ)) (sets : List (List ℕ))
     → all_some (map (λ (word : List ℕ). option_and_then (states_of_entry vars) (entry_of n vars word)) words) ≡ Some sets → All (IsSet n) sets
 words_sets n most vars all [] sets h = subst (All (IsSet n)) (let z : Some [] ≡ Some sets = h in let e : [] ≡ sets = cc in e) (All-nil (IsSet n))
 words_sets n most vars all (word ∷ words) sets h =
-    let s = split_sets (option_and_then (states_of_entry vars) (entry_of n vars word)) (map (λ (w : List ℕ). option_and_then (states_of_entry vars) (entry_of n vars w)) words) sets h in
+    let s = split_some (option_and_then (states_of_entry vars) (entry_of n vars word)) (map (λ (w : List ℕ). option_and_then (states_of_entry vars) (entry_of n vars w)) words) sets h in
     subst (All (IsSet n)) (sym s.4) (All-cons (IsSet n) s.0 s.1 (word_set n most vars all word s.0 s.2) (words_sets n most vars all words s.1 s.3))
 
 -- a text between commas has one word at least
@@ -331,7 +327,7 @@ list_set n most vars all words w ws e states h =
     let g : option_map union_of (all_some (map (λ (word : List ℕ). option_and_then (states_of_entry vars) (entry_of n vars word)) (w ∷ ws))) ≡ Some states =
     ap (λ (us : List (List ℕ)). option_map union_of (all_some (map (λ (word : List ℕ). option_and_then (states_of_entry vars) (entry_of n vars word)) us))) (sym e) ∙ h in
     let m = mapped union_of (all_some (map (λ (word : List ℕ). option_and_then (states_of_entry vars) (entry_of n vars word)) (w ∷ ws))) states g in
-    let s = split_sets (option_and_then (states_of_entry vars) (entry_of n vars w)) (map (λ (word : List ℕ). option_and_then (states_of_entry vars) (entry_of n vars word)) ws) m.0 m.1 in
+    let s = split_some (option_and_then (states_of_entry vars) (entry_of n vars w)) (map (λ (word : List ℕ). option_and_then (states_of_entry vars) (entry_of n vars word)) ws) m.0 m.1 in
     let sets : All (IsSet n) m.0 = words_sets n most vars all (w ∷ ws) m.0 m.1 in
     subst (IsSet n) (sym (m.2 ∙ ap union_of s.4)) (union_set n most s.0 s.1 (subst (All (IsSet n)) s.4 sets))
 
@@ -343,7 +339,7 @@ not_some : {X : Type 0} (o : Option X) → is_some o ≡ false → o ≡ None
 not_some None h = refl
 not_some (Some x) h = absurd (let z : ⊥ = cc in z)
 
-states_case : (n : ℕ) (vars : List Var) (name list states : List ℕ) → variable_states n vars name list ≡ Some states → (variable_named vars name ≡ None) × (states_listed n vars (within_braces list) ≡ Some states)
+pub states_case : (n : ℕ) (vars : List Var) (name list states : List ℕ) → variable_states n vars name list ≡ Some states → (variable_named vars name ≡ None) × (states_listed n vars (within_braces list) ≡ Some states)
 unfolding variable_states
 states_case n vars name list states h =
     let a = tested (is_variable_name name) (if is_some (variable_named vars name) then None else (if is_list list then states_listed n vars (within_braces list) else None)) states h in

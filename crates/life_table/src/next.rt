@@ -21,7 +21,7 @@ pub enum Neighbours {
 
 impl Neighbours {
     /// The states, the centre's first.
-    pub fn as_slice(&self) -> &[State]
+    pub(crate) fn as_slice(&self) -> &[State]
         ensures { result.now ≡ cells_of self.now }
     {
         match self {

@@ -1,6 +1,6 @@
-use Rattle.std.proofs.Common.{rules, ◌≡◌, ◌+◌, ◌<◌, ◌==◌, List, ℕ, take, get_or, set, true, arith, refl, sym, ◌∙◌, ap, length-set}
+use Rattle.std.proofs.Common.{rules, ◌≡◌, ◌==◌, List, ℕ, take, get_or, true, arith, refl, ◌∙◌, length-set}
 use Rattle.std.specs.List.{list_any}
-use Rattle.life_table.proofs.Distinct.{Lists, lists_known, lists_new, lists_all}
+use Rattle.life_table.proofs.Distinct.{lists_known, lists_new, lists_all}
 use Rattle.life_table.proofs.choose.distinct_states.Goals as goal
 use Rattle.life_table.proofs.choose.distinct_states.Goals.{then-not-has_byte, else-not-has_byte}
 

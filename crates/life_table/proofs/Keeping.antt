@@ -1,0 +1,160 @@
+-- What descriptors and variables say is kept.
+use Rattle.std.proofs.Common.{◌≡◌, ℕ, List, [], ◌∷◌, ◌++◌, map, Bool, true, false, not, refl, ap, sym, ◌∙◌, ◌&&◌, ◌⊎◌, inl, inr}
+use Rattle.std.specs.Prelude.{Option, Some, None, if◌then◌else◌, option_map, option_and_then, All, slice_get, filter}
+use Rattle.std.proofs.lemmas.List.{map-append, append-nil}
+use Rattle.std.proofs.lemmas.List.Elements.{All-nil, All-cons, All-head, All-tail, filter-append}
+use Rattle.std.proofs.lemmas.Option.{slice_get_within}
+use Rattle.life_table.specs.Reading.{Numbered, all_some, is_descriptor, key_of, setting_of, is_states_key, is_neighborhood_key, is_symmetry_key, states_named, neighborhood_named, symmetry_named, is_variable_line, entry_of, states_of_entry, states_listed, between_commas, within_braces, name_text, list_text, variable_states, variable_of, union_of}
+use Rattle.life_table.specs.Laws.{is_variable_text, variable_on}
+use Rattle.life_table.specs.declared.table.Neighborhood.{Neighborhood}
+use Rattle.life_table.specs.declared.table.Symmetry.{Symmetry}
+use Rattle.life_table.specs.declared.table.Var.{Var}
+use Rattle.life_table.specs.declared.table.Entry.{Entry}
+use Rattle.life_table.specs.declared.table.Entry.TheVariants as entries
+use Rattle.life_table.proofs.Texts.{split_some, entry_kept, AreDescriptors, all_more}
+use Rattle.life_table.proofs.Values.{mapped, followed, states_case}
+use Rattle.life_table.proofs.Good.{get_more}
+
+-- 1. Descriptors
+
+-- what a descriptor gives is known
+abbrev pub Settled : Option ℕ → Option Neighborhood → Option Symmetry → List ℕ → Type 0
+Settled on oh oy text =
+    ((is_states_key (key_of text) ≡ true) × (n : ℕ) × (states_named (setting_of text) ≡ Some n) × (on ≡ Some n))
+    ⊎ (((is_neighborhood_key (key_of text) ≡ true) × (h : Neighborhood) × (neighborhood_named (setting_of text) ≡ Some h) × (oh ≡ Some h))
+    ⊎ ((is_symmetry_key (key_of text) ≡ true) × (y : Symmetry) × (symmetry_named (setting_of text) ≡ Some y) × (oy ≡ Some y)))
+
+abbrev pub AreSettled : Option ℕ → Option Neighborhood → Option Symmetry → List Numbered → Type 0
+AreSettled on oh oy ts = All (λ (t : Numbered). is_descriptor t.1 ≡ true → Settled on oh oy t.1) ts
+
+-- what is there stays
+abbrev pub Stays : {X : Type 0} → Option X → Option X → Type 0
+Stays {X} o p = (x : X) → o ≡ Some x → p ≡ Some x
+
+pub stays_same : {X : Type 0} (o p : Option X) → p ≡ o → Stays o p
+stays_same o p e x h = e ∙ h
+
+pub stays_none : {X : Type 0} (o p : Option X) → o ≡ None → Stays o p
+stays_none o p e x h = absurd (let z : None ≡ Some x = sym e ∙ h in let w : ⊥ = cc in w)
+
+module _ (on on' : Option ℕ) (oh oh' : Option Neighborhood) (oy oy' : Option Symmetry) (n : Stays on on') (h : Stays oh oh') (y : Stays oy oy') where
+  settled_kept : (text : List ℕ) → Settled on oh oy text → Settled on' oh' oy' text
+  settled_kept text (inl s) = inl (s.0, s.1, s.2, n s.1 s.3)
+  settled_kept text (inr (inl s)) = inr (inl (s.0, s.1, s.2, h s.1 s.3))
+  settled_kept text (inr (inr s)) = inr (inr (s.0, s.1, s.2, y s.1 s.3))
+
+  all_kept : (ts : List Numbered) → AreSettled on oh oy ts → AreSettled on' oh' oy' ts
+  all_kept [] a = All-nil (λ (t : Numbered). is_descriptor t.1 ≡ true → Settled on' oh' oy' t.1)
+  all_kept (t ∷ ts) a =
+      All-cons (λ (u : Numbered). is_descriptor u.1 ≡ true → Settled on' oh' oy' u.1) t ts
+      (λ d. settled_kept t.1 (All-head (λ (u : Numbered). is_descriptor u.1 ≡ true → Settled on oh oy u.1) t ts a d))
+      (all_kept ts (All-tail (λ (u : Numbered). is_descriptor u.1 ≡ true → Settled on oh oy u.1) t ts a))
+
+  pub settled_more : (ts : List Numbered) (x : Numbered) → AreSettled on oh oy ts → (is_descriptor x.1 ≡ true → Settled on' oh' oy' x.1) → AreSettled on' oh' oy' (ts ++ x ∷ [])
+  settled_more ts x a s = all_more (λ (t : Numbered). is_descriptor t.1 ≡ true → Settled on' oh' oy' t.1) ts x (all_kept ts a) s
+
+-- 2. One more variable changes no list of states that was read
+
+module _ {W X : Type 0} (f g : W → Option X) (more : (w : W) (x : X) → f w ≡ Some x → g w ≡ Some x) where
+  some_kept : (ws : List W) (xs : List X) → all_some (map f ws) ≡ Some xs → all_some (map g ws) ≡ Some xs
+  some_kept [] xs h = h
+  some_kept (w ∷ ws) xs h =
+      let s = split_some (f w) (map f ws) xs h in
+      ap (λ (o : Option X). all_some (o ∷ map g ws)) (more w s.0 s.2) ∙ ap (option_map (λ (ys : List X). s.0 ∷ ys)) (some_kept ws s.1 s.3) ∙ ap Some (sym s.4)
+
+module _ (n : ℕ) (vars : List Var) (v : Var) where
+  entry_states : (e : Entry) (states : List ℕ) → states_of_entry vars e ≡ Some states → states_of_entry (vars ++ v ∷ []) e ≡ Some states
+  entry_states (entries.Fixed s) states h = h
+  entry_states (entries.Var i) states h =
+      let m = mapped (λ (var : Var). var.states) (slice_get vars i) states h in
+      ap (option_map (λ (var : Var). var.states)) (get_more vars v i (slice_get_within vars i m.0 m.1) ∙ m.1) ∙ ap Some (sym m.2)
+
+  word_states : (word states : List ℕ) → option_and_then (states_of_entry vars) (entry_of n vars word) ≡ Some states
+      → option_and_then (states_of_entry (vars ++ v ∷ [])) (entry_of n (vars ++ v ∷ []) word) ≡ Some states
+  word_states word states h =
+      let f = followed (states_of_entry vars) (entry_of n vars word) states h in
+      ap (option_and_then (states_of_entry (vars ++ v ∷ []))) (entry_kept n vars v word f.0 f.1) ∙ entry_states f.0 states f.2
+
+  pub list_kept : (text states : List ℕ) → states_listed n vars text ≡ Some states → states_listed n (vars ++ v ∷ []) text ≡ Some states
+  unfolding states_listed
+  list_kept text states h =
+      let m = mapped union_of (all_some (map (λ (word : List ℕ). option_and_then (states_of_entry vars) (entry_of n vars word)) (between_commas text))) states h in
+      ap (option_map union_of) (some_kept (λ (word : List ℕ). option_and_then (states_of_entry vars) (entry_of n vars word))
+      (λ (word : List ℕ). option_and_then (states_of_entry (vars ++ v ∷ [])) (entry_of n (vars ++ v ∷ []) word)) word_states (between_commas text) m.0 m.1)
+      ∙ ap Some (sym m.2)
+
+-- 3. Variables
+
+abbrev pub told : Var → List ℕ × Option (List ℕ)
+told var = (var.name, Some var.states)
+
+abbrev pub variable_texts : List Numbered → List Numbered
+variable_texts ts = filter (λ (text : Numbered). is_variable_text text.1) ts
+
+abbrev pub on_lines : ℕ → List Var → List Numbered → List (List ℕ × Option (List ℕ))
+on_lines n vars ts = map (λ (text : Numbered). variable_on n vars text.1) ts
+
+-- each line of a variable gives one, with its name and its states
+abbrev pub AreVariables : ℕ → List Var → List Numbered → Type 0
+AreVariables n vars ts = map told vars ≡ on_lines n vars (variable_texts ts)
+
+same_pair : (a b : List ℕ) (o p : Option (List ℕ)) → a ≡ b → o ≡ p → (let q : List ℕ × Option (List ℕ) = (a, o) in q) ≡ (b, p)
+same_pair a b o p e f = cc
+
+on_lines_kept : (n : ℕ) (vars : List Var) (v : Var) (some : List Var) (ts : List Numbered) → map told some ≡ on_lines n vars ts → map told some ≡ on_lines n (vars ++ v ∷ []) ts
+on_lines_kept n vars v [] [] h = refl
+on_lines_kept n vars v [] (t ∷ ts) h = absurd (let z : ⊥ = cc in z)
+on_lines_kept n vars v (w ∷ some) [] h = absurd (let z : ⊥ = cc in z)
+on_lines_kept n vars v (w ∷ some) (t ∷ ts) h =
+    let first : told w ≡ variable_on n vars t.1 = cc in
+    let rest : map told some ≡ on_lines n vars ts = cc in
+    let name : w.name ≡ name_text t.1 = ap (λ (p : List ℕ × Option (List ℕ)). p.0) first in
+    let states : Some w.states ≡ states_listed n vars (within_braces (list_text t.1)) = ap (λ (p : List ℕ × Option (List ℕ)). p.1) first in
+    let kept : states_listed n (vars ++ v ∷ []) (within_braces (list_text t.1)) ≡ Some w.states = list_kept n vars v (within_braces (list_text t.1)) w.states (sym states) in
+    let head : told w ≡ variable_on n (vars ++ v ∷ []) t.1 = same_pair w.name (name_text t.1) (Some w.states) (states_listed n (vars ++ v ∷ []) (within_braces (list_text t.1))) name (sym kept) in
+    ap (λ (p : List ℕ × Option (List ℕ)). p ∷ map told some) head
+    ∙ ap (λ (ps : List (List ℕ × Option (List ℕ))). variable_on n (vars ++ v ∷ []) t.1 ∷ ps) (on_lines_kept n vars v some ts rest)
+
+written_parts : (n : ℕ) (vars : List Var) (text : List ℕ) (var : Var) → variable_of n vars text ≡ Some var
+    → (var.name ≡ name_text text) × (states_listed n vars (within_braces (list_text text)) ≡ Some var.states)
+unfolding variable_of
+written_parts n vars text var h =
+    let m = mapped (λ (states : List ℕ). record { name = name_text text; states = states }) (variable_states n vars (name_text text) (list_text text)) var h in
+    let s = states_case n vars (name_text text) (list_text text) m.0 m.1 in
+    (ap (λ (v : Var). v.name) m.2, s.1 ∙ ap Some (sym (ap (λ (v : Var). v.states) m.2)))
+
+one_text : (x : Numbered) (b : Bool) → is_variable_text x.1 ≡ b → variable_texts (x ∷ []) ≡ (if b then x ∷ [] else [])
+one_text x b e = ap (λ (c : Bool). if c then x ∷ [] else []) e
+
+texts_more : (ts : List Numbered) (x : Numbered) (b : Bool) → is_variable_text x.1 ≡ b → variable_texts (ts ++ x ∷ []) ≡ variable_texts ts ++ (if b then x ∷ [] else [])
+texts_more ts x b e = filter-append (λ (text : Numbered). is_variable_text text.1) ts (x ∷ []) ∙ ap (λ (us : List Numbered). variable_texts ts ++ us) (one_text x b e)
+
+pub variables_same : (n : ℕ) (vars : List Var) (ts : List Numbered) (x : Numbered) → AreVariables n vars ts → is_variable_text x.1 ≡ false → AreVariables n vars (ts ++ x ∷ [])
+variables_same n vars ts x a e = a ∙ ap (on_lines n vars) (sym (texts_more ts x false e ∙ append-nil (variable_texts ts)))
+
+pub variables_new : (n : ℕ) (vars : List Var) (v : Var) (ts : List Numbered) (x : Numbered) → AreVariables n vars ts → is_variable_text x.1 ≡ true → variable_of n vars x.1 ≡ Some v
+    → AreVariables n (vars ++ v ∷ []) (ts ++ x ∷ [])
+variables_new n vars v ts x a e w =
+    let p = written_parts n vars x.1 v w in
+    let states : states_listed n (vars ++ v ∷ []) (within_braces (list_text x.1)) ≡ Some v.states = list_kept n vars v (within_braces (list_text x.1)) v.states p.1 in
+    let new : told v ≡ variable_on n (vars ++ v ∷ []) x.1 = same_pair v.name (name_text x.1) (Some v.states) (states_listed n (vars ++ v ∷ []) (within_braces (list_text x.1))) p.0 (sym states) in
+    map-append told vars (v ∷ [])
+    ∙ ap (λ (us : List (List ℕ × Option (List ℕ))). us ++ told v ∷ []) (on_lines_kept n vars v vars (variable_texts ts) a)
+    ∙ ap (λ (u : List ℕ × Option (List ℕ)). on_lines n (vars ++ v ∷ []) (variable_texts ts) ++ u ∷ []) new
+    ∙ sym (map-append (λ (text : Numbered). variable_on n (vars ++ v ∷ []) text.1) (variable_texts ts) (x ∷ []))
+    ∙ ap (on_lines n (vars ++ v ∷ [])) (sym (texts_more ts x true e))
+
+-- descriptors are no variables
+no_texts : (ts : List Numbered) → AreDescriptors ts → variable_texts ts ≡ []
+no_texts [] h = refl
+no_texts (t ∷ ts) h =
+    let d = All-head (λ (u : Numbered). is_descriptor u.1 ≡ true) t ts h in
+    ap (λ (b : Bool). if b then t ∷ variable_texts ts else variable_texts ts) (no_variable (is_variable_line t.1) (is_descriptor t.1) d)
+    ∙ no_texts ts (All-tail (λ (u : Numbered). is_descriptor u.1 ≡ true) t ts h)
+  where
+    no_variable : (a b : Bool) → b ≡ true → (a && not b) ≡ false
+    no_variable true b e = ap not e
+    no_variable false b e = refl
+
+pub variables_none : (n : ℕ) (vars : List Var) (ts : List Numbered) → AreDescriptors ts → vars ≡ [] → AreVariables n vars ts
+variables_none n vars ts d e = ap (map told) e ∙ sym (ap (on_lines n vars) (no_texts ts d))

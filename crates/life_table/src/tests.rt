@@ -1,0 +1,5 @@
+//! Tests of what no clause says: that the definitions are those of the format, and that calls succeed where memory is there.
+
+mod files;
+mod hostile;
+mod orders;
