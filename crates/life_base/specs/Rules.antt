@@ -34,11 +34,11 @@ is_count_digit b = nat_le 48 b && nat_le b 56
 abbrev pub upper : ℕ → ℕ
 upper b = if nat_le 97 b && nat_le b 122 then b - 32 else b
 
--- the digits before, between and behind the bytes that are no digits
+-- the texts before, between and behind the bytes that are no digits `0` to `8`
 abbrev pub digit_groups : List ℕ → List (List ℕ)
 digit_groups text = slice_split (λ b. not (is_count_digit b)) text
 
--- the bytes that are no digits, letters in upper case
+-- the bytes that are no digits `0` to `8`, letters in upper case
 abbrev pub marks : List ℕ → List ℕ
 marks text = map upper (filter (λ b. not (is_count_digit b)) text)
 

@@ -33,7 +33,7 @@ abbrev pub is_blank_tree : Tree → Bool
 is_blank_tree (point s) = s == 0
 is_blank_tree (quad nw ne sw se) = is_blank_tree nw && is_blank_tree ne && is_blank_tree sw && is_blank_tree se
 
--- the state in a column and a row, both counted from the north-west corner
+-- the state in a column and a row of the square, both counted from the north-west corner
 abbrev pub state_at : Tree → ℕ → ℕ → ℕ
 state_at (point s) column row = s
 state_at (quad nw ne sw se) column row =
@@ -42,11 +42,11 @@ state_at (quad nw ne sw se) column row =
     then (if nat_lt column half then state_at nw column row else state_at ne (column - half) row)
     else (if nat_lt column half then state_at sw column (row - half) else state_at se (column - half) (row - half))
 
--- half of the side of a square
+-- half of the side of a square of depth 1 or more
 abbrev pub half_side : Tree → ℕ
 half_side tree = 2 ^ (depth tree - 1)
 
--- The state of the cell (x, y) of a square in whose middle (0, 0) lies: a square of depth k covers the columns and the rows from
+-- The state of the cell (x, y) of a square in whose middle (0, 0) lies: a square of depth k, 1 or more, covers the columns and the rows from
 -- -2 ^ (k - 1) to 2 ^ (k - 1) - 1, and all cells outside are 0.
 abbrev pub tree_cell : Tree → ℤ → ℤ → ℕ
 tree_cell tree x y =

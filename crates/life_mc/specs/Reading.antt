@@ -97,7 +97,8 @@ abbrev pub square_behind : List (List ℕ) → List ℕ → Option Line
 square_behind [] line = None
 square_behind (header ∷ lines) line = square_on line
 
--- the rule that a level and four quarters break, where the squares before have these levels and none is above the top level
+-- the rule that a node line breaks by what it writes, where the squares before have these levels: nothing is no node, a leaf breaks
+-- none, and of a quarter line the level is judged first
 abbrev pub broken_by_square : ℕ → Rule → List ℕ → Option Line → Option Kind
 broken_by_square top rule levels (Some (Quad level nw ne sw se)) =
     if not (nat_le 1 level && nat_le level top) then Some BadLevel
@@ -112,11 +113,12 @@ broken_by_node top rule levels text =
     if is_leaf_byte (slice_index text 0) && not (is_leaf text) then Some BadLeaf
     else broken_by_square top rule levels (square_of text)
 
+-- the kind of a refused answer
 abbrev pub fault_in : {X : Type 0} → Result X Kind → Option Kind
 fault_in (Ok x) = None
 fault_in (Err kind) = Some kind
 
--- the same of a line behind the header
+-- the rule that a line behind the header breaks
 abbrev pub broken_behind : ℕ → List (List ℕ) → List ℕ → Option Kind
 broken_behind top before line =
     if is_blank line then None

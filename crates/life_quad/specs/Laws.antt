@@ -1,4 +1,4 @@
--- Laws of growing, trimming and listing.
+-- Laws of squares: their cells, growing, trimming and listing.
 use Rattle.std.specs.Prelude.{◌≡◌, ◌↔◌, ℕ, ◌^◌, ◌<◌, ◌≤◌, true, ℤ, List, length}
 use Rattle.life_base.specs.declared.cell.Cell.{Cell}
 use Rattle.life_base.specs.Tree.{Tree, depth, IsFull, is_blank_tree, state_at}

@@ -1,4 +1,4 @@
-//! What a square has: its nonzero cells, their number and their box.
+//! What a square has: the number of its nonzero cells, and their least box.
 ghost use Rattle.std.specs.Prelude.{◌≡◌, ℕ, ◌+◌, ◌^◌, ◌+ℤ◌, pos, Some, nat_eq, ◌↔◌, ◌⊎◌, ◌<◌, ◌≤◌, true, length, Err, OnErr, IfOk, IfErr, IfSome, MatchOption};
 ghost use Rattle.life_base.specs.declared.kind.Kind.TheVariants.{Memory, TooManyCells};
 ghost use Rattle.std.specs.HashMap.{get};

@@ -1,4 +1,5 @@
--- The header line (Golly Help, File Formats, RLE).
+-- The header line. Its tokens, the whitespace between them and sizes that don't matter are of Golly Help (File Formats, RLE); the order of
+-- the checks and the default rule are the project's own.
 use Rattle.std.specs.Prelude.{ℕ, List, [], ◌∷◌, length, drop, Option, Some, None, Result, Ok, Err, if◌then◌else◌, codes}
 use Rattle.life_base.specs.declared.kind.Kind.{Kind}
 use Rattle.life_base.specs.declared.kind.Kind.TheVariants.{BadHeader}

@@ -18,7 +18,7 @@ front_digits text = take_while is_ascii_digit text
 abbrev pub behind_digits : List ℕ → List ℕ
 behind_digits text = drop (prefix_len is_ascii_digit text) text
 
--- what stands in an item's place: nothing, the mark `!`, an item and the bytes behind it, or neither
+-- what stands in an item's place: nothing, the mark `!`, an item and the bytes behind it, or none of these
 pub data Next : Type 0 where
   End : Next
   Mark : Next

@@ -27,7 +27,7 @@ rows_in [] = 0
 rows_in (Cells count state ∷ items) = rows_in items
 rows_in (RowEnds count ∷ items) = count + rows_in items
 
--- the sum of the counts behind the last row end
+-- the sum of the counts of the items behind the last row end
 abbrev pub columns_in : List Item → ℕ
 columns_in [] = 0
 columns_in (Cells count state ∷ items) = if list_any is_row_end items then columns_in items else count + columns_in items

@@ -1,4 +1,5 @@
--- The forms of lines, said of whole texts: what a line of data and a header line are put together from (Golly Help, File Formats, RLE).
+-- The forms of lines, said of whole texts: what a line of data and a header line are put together from. States and header
+-- tokens are of Golly Help (File Formats, RLE); the bounds of counts are the project's own.
 use Rattle.std.specs.Prelude.{Option, Some, None, false, ◌≡◌, ℕ, ◌+◌, ◌*◌, ◌<◌, ◌≤◌, ◌⊎◌, ◌↔◌, true, List, [], ◌∷◌, ◌++◌, codes}
 use Rattle.life_base.specs.Text.{is_whitespace, is_blank, is_digit_text, value_of}
 use Rattle.life_rle.specs.declared.item.Item.{Item}

@@ -1,4 +1,5 @@
--- Position lines, `#CXRLE Pos=X,Y Gen=G` (Golly Help, File Formats, Extended RLE).
+-- Position lines, `#CXRLE Pos=X,Y Gen=G`. What Pos and Gen mean is of Golly Help (File Formats, Extended RLE); the form, the checks, their
+-- order and the defaults are the project's own.
 use Rattle.std.specs.Prelude.{ℕ, Bool, ◌&&◌, List, [], ◌∷◌, take, drop, ℤ, pos, neg_ℤ, Option, Some, None, Result, Ok, Err, if◌then◌else◌, ◌==◌, codes}
 use Rattle.std.specs.List.{before_first, after_first}
 use Rattle.life_base.specs.declared.kind.Kind.{Kind}
@@ -12,7 +13,7 @@ use Rattle.life_rle.specs.Plane.{is_coordinate}
 abbrev pub default_position : Position
 default_position = record { x = pos 0; y = pos 0; generation = 0 }
 
--- a line that begins with the word `#CXRLE`
+-- a line that begins with `#CXRLE`, followed by whitespace or by its end
 abbrev pub is_position_line : List ℕ → Bool
 is_position_line line = begins_with line (codes "#CXRLE") && is_blank (take 1 (drop 6 line))
 

@@ -35,8 +35,8 @@ with_cell state [] = Cells 1 state ∷ []
 with_cell state (Cells count other ∷ items) = if state == other then Cells (1 + count) state ∷ items else Cells 1 state ∷ Cells count other ∷ items
 with_cell state (RowEnds count ∷ items) = Cells 1 state ∷ RowEnds count ∷ items
 
--- The items of cells that rise by row and column, from the place (x, y) on; rows begin at the column `left`. The cells do rise, so
--- that each difference is a distance ahead.
+-- The items of cells that rise by row and column, from the place (x, y) on; rows begin at the column `left`. Of cells
+-- that don't rise it says nothing: each difference is taken as a distance ahead.
 abbrev pub items_from : ℤ → ℤ → ℤ → List Cell → List Item
 items_from left x y [] = []
 items_from left x y (c ∷ cells) =

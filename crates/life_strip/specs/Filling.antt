@@ -23,7 +23,7 @@ pub record IsEmpty (b : Builder) : Type 0 where
   pub level : b.row.level ≡ 0
   pub row : b.row.spans.items ≡ []
 
--- the plane goes from -2^59 to 2^59 - 1
+-- the plane goes from the negative of this to one less than this
 abbrev pub half_plane : ℕ
 half_plane = 2 ^ (MAX_LEVEL - 1)
 

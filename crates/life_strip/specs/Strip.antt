@@ -24,7 +24,7 @@ square_at content level spans column = square_or_blank content level (id_at span
 abbrev pub IsStrip : (Id → Type 0) → (Id → Tree) → ℕ → List Span → Type 0
 IsStrip knows content level spans = (column : ℕ) (id : Id) → id_at spans column ≡ Some id → knows id × (depth (content id) ≡ level)
 
--- no span ends beyond the last column of the plane
+-- no span ends beyond this column, the last of the plane at level 0
 abbrev pub AreWithin : List Span → Type 0
 AreWithin spans = All (λ s. s.end ≤ 2 ^ MAX_LEVEL) spans
 

@@ -52,7 +52,7 @@ pub data Answer : Type 0 where
   Becomes : (state : ℕ) → Answer
   Ambiguous : (number : ℕ) → Answer
 
--- a relation between a line and the states that it gives at one cell
+-- what lines give and decide at one cell with these neighbours
 module _ (symmetry : Symmetry) (vars : List Var) (centre : ℕ) (others : List ℕ) where
   abbrev pub GivesNothing : Transition → Type 0
   GivesNothing line = (s : ℕ) → ¬ (Gives symmetry vars line centre others s)

@@ -42,7 +42,7 @@ abbrev pub fits_after : Bool → List Var → Told → Bool
 fits_after fits vars (Line line) = fits || fits_zero vars line
 fits_after fits vars _ = fits
 
--- the number of states is one, the transitions so far are quiet, and it is known whether one fits the all-zero neighbourhood
+-- there are at most 256 states, the transitions so far are quiet, and it is known whether one fits the all-zero neighbourhood
 pub record IsKept (said : Said) (fit : Bool) : Type 0 where
   pub most : IfSome said.n_states (λ n. n ≤ 256)
   pub fits : fit ≡ list_any (fits_zero said.vars) said.lines

@@ -18,7 +18,7 @@ use std::alloc::Global;
 /// The greatest length of a line, without its line feed.
 const LONGEST_LINE: usize = 1048576;
 
-/// What stands behind `@RULE` and whitespace.
+/// What stands behind `@RULE`, where that is followed by whitespace.
 fn rule_text(line: &[u8]) -> Option<&[u8]>
     ensures { MatchOption result (begins_rule line.now ≡ false) (λ text. (begins_rule line.now ≡ true) × (text.now ≡ drop 5 line.now)) }
 {
