@@ -1,11 +1,14 @@
 -- The forms of lines, said of whole texts: what a line of data and a header line are put together from (Golly Help, File Formats, RLE).
 use Rattle.std.specs.Prelude.{Option, Some, None, false, ◌≡◌, ℕ, ◌+◌, ◌*◌, ◌<◌, ◌≤◌, ◌⊎◌, ◌↔◌, true, List, [], ◌∷◌, ◌++◌, codes}
+use Rattle.std.specs.Char.{is_ascii_digit}
+use Rattle.life_base.specs.declared.kind.Kind.{Kind}
+use Rattle.life_base.specs.declared.kind.Kind.TheVariants.{ZeroCount, TooLarge, BadItem}
 use Rattle.life_base.specs.Text.{is_whitespace, is_blank, is_digit_text, value_of}
 use Rattle.life_rle.specs.declared.item.Item.{Item}
 use Rattle.life_rle.specs.declared.item.Item.TheVariants.{Cells, RowEnds}
 use Rattle.life_rle.specs.Plane.{most_count}
 use Rattle.life_rle.specs.Header.{header_form}
-use Rattle.life_rle.specs.Items.{End, Mark, Spells}
+use Rattle.life_rle.specs.Items.{End, Mark, Broken, Spells}
 
 -- the text of a state: `b`, `.`, `o`, a letter by its place behind `A`, or a prefix and a letter by their places behind `p` and `A`
 pub data IsStateText (text : List ℕ) (state : ℕ) : Type 0 where
@@ -66,3 +69,32 @@ IsHeaderLine line (Some text) =
 -- a line has the form of a header exactly if it is the tokens of one
 abbrev pub HeadersArePlain : Type 0
 HeadersArePlain = (line : List ℕ) (rule : Option (List ℕ)) → (header_form line ≡ Some rule) ↔ IsHeaderLine line rule
+
+-- digits in front of these bytes have ended
+abbrev pub HasNoDigit : List ℕ → Type 0
+HasNoDigit [] = Unit {0}
+HasNoDigit (b ∷ bytes) = is_ascii_digit b ≡ false
+
+-- neither a state nor `$` in front
+abbrev pub HasNoState : List ℕ → Type 0
+HasNoState bytes = ((text rest : List ℕ) (state : ℕ) → IsStateText text state → bytes ≡ text ++ rest → ⊥) × ((rest : List ℕ) → bytes ≡ codes "$" ++ rest → ⊥)
+
+-- bytes that begin an item: something, and neither whitespace nor `!` in front
+abbrev pub HasItemPlace : List ℕ → Type 0
+HasItemPlace [] = ⊥
+HasItemPlace (b ∷ bytes) = (is_whitespace b ≡ false) × ((b ≡ 33) → ⊥)
+
+-- Which rule the bytes in an item's place break: a count of 0, a count above the width of the plane, or, behind a count or without one,
+-- neither a state nor `$`.
+pub data IsNoItem (level : ℕ) (bytes : List ℕ) (kind : Kind) : Type 0 where
+  zero_count : (digits rest : List ℕ) → bytes ≡ digits ++ rest → is_digit_text digits ≡ true → HasNoDigit rest → value_of digits ≡ 0 → kind ≡ ZeroCount → IsNoItem level bytes kind
+  large_count : (digits rest : List ℕ) → bytes ≡ digits ++ rest → is_digit_text digits ≡ true → HasNoDigit rest → most_count level < value_of digits → kind ≡ TooLarge
+      → IsNoItem level bytes kind
+  no_state : (digits rest : List ℕ) (count : ℕ) → bytes ≡ digits ++ rest → IsCountText level digits count → HasNoDigit rest → HasNoState rest → kind ≡ BadItem
+      → IsNoItem level bytes kind
+
+-- Reading a line finds items and a fault exactly if the line is their texts, and then bytes that break this rule of items.
+abbrev pub FaultsArePlain : Type 0
+FaultsArePlain =
+    (level : ℕ) (line : List ℕ) (items : List Item) (kind : Kind)
+    → Spells level line items (Broken kind) ↔ ((rest : List ℕ) × IsTextOf level line items rest × HasItemPlace rest × IsNoItem level rest kind)
