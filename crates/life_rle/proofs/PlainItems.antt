@@ -1,5 +1,5 @@
 -- A line spells items exactly if it is their texts with whitespace between.
-use Rattle.std.proofs.Common.{◌≡◌, ℕ, ◌+◌, ◌-◌, ◌*◌, ◌<◌, ◌≤◌, true, false, cond, ◌&&◌, ◌||◌, List, [], ◌∷◌, ◌++◌, take, drop, refl, sym, ap, ◌∙◌, subst, inl, inr, ◌⊎◌, Some, None, Option, arith, append_assoc, eqb, ltb, leb}
+use Rattle.std.proofs.Common.{◌≡◌, ◌↔◌, ℕ, ◌+◌, ◌-◌, ◌*◌, ◌<◌, ◌≤◌, true, false, cond, ◌&&◌, ◌||◌, List, [], ◌∷◌, ◌++◌, take, drop, refl, sym, ap, ◌∙◌, subst, inl, inr, ◌⊎◌, Some, None, Option, arith, append_assoc, eqb, ltb, leb}
 use Rattle.std.proofs.lemmas.Bool.Decides.{nat_tests}
 use Rattle.std.proofs.lemmas.List.{take-append-drop}
 use Rattle.std.specs.Char.{is_ascii_digit}
@@ -288,10 +288,19 @@ Spells-IsTextOf level (item ∷ items) line last Rest f h =
     let more = Spells-IsTextOf level items h.0 last Rest f h.2 in
     (more.0, more.1, (i.0, k.0, h.0, i.1, k.1, i.2 ∙ ap (λ (t : List ℕ). i.0 ++ t) k.2, more.2))
 
+-- the same behind items, of one item more
+Spells-item : (level : ℕ) (line : List ℕ) (items : List Item) (item : Item) (rest : List ℕ) → Spells level line items (Spelled item rest) ↔ ((text : List ℕ) × IsItemText level text item × IsTextOf level line items (text ++ rest))
+Spells-item level line items item rest = (
+  (λ h. let k = Spells-IsTextOf level items line (Spelled item rest) (λ bytes. (text : List ℕ) × IsItemText level text item × (bytes ≡ text ++ rest)) (λ bytes e. next_of-held level bytes (Spelled item rest) e) h in
+      (k.1.0, k.1.1, subst (IsTextOf level line items) k.1.2 k.2)),
+  (λ h. IsTextOf-Spells level items line (h.0 ++ rest) (Spelled item rest) (next_of-item level [] h.0 rest item refl h.1) h.2),
+)
+
 pub items_are_plain : ItemsArePlain
 items_are_plain level line items =
     let ended = Spells-IsTextOf level items line End (λ rest. rest ≡ []) (λ bytes e. next_of-held level bytes End e) in
     let marked = Spells-IsTextOf level items line Mark (λ rest. (free : List ℕ) × (rest ≡ 33 ∷ free)) (λ bytes e. next_of-held level bytes Mark e) in (
       ((λ h. let k = ended h in subst (IsTextOf level line items) k.1 k.2), (λ h. IsTextOf-Spells level items line [] End refl h)),
       ((λ h. let k = marked h in (k.1.0, subst (IsTextOf level line items) k.1.1 k.2)), (λ h. IsTextOf-Spells level items line (33 ∷ h.0) Mark refl h.1)),
+      (λ item rest. Spells-item level line items item rest),
     )

@@ -1,5 +1,5 @@
 -- The forms of lines, said of whole texts: what a line of data and a header line are put together from (Golly Help, File Formats, RLE).
-use Rattle.std.specs.Prelude.{Option, Some, None, false, ◌≡◌, ℕ, ◌+◌, ◌*◌, ◌<◌, ◌≤◌, ◌⊎◌, ◌↔◌, true, List, [], ◌∷◌, ◌++◌, codes}
+use Rattle.std.specs.Prelude.{◌≡◌, ℕ, ◌+◌, ◌*◌, ◌<◌, ◌≤◌, ◌⊎◌, ◌↔◌, true, false, List, [], ◌∷◌, ◌++◌, Option, Some, None, codes}
 use Rattle.std.specs.Char.{is_ascii_digit}
 use Rattle.life_base.specs.declared.kind.Kind.{Kind}
 use Rattle.life_base.specs.declared.kind.Kind.TheVariants.{ZeroCount, TooLarge, BadItem}
@@ -8,7 +8,7 @@ use Rattle.life_rle.specs.declared.item.Item.{Item}
 use Rattle.life_rle.specs.declared.item.Item.TheVariants.{Cells, RowEnds}
 use Rattle.life_rle.specs.Plane.{most_count}
 use Rattle.life_rle.specs.Header.{header_form}
-use Rattle.life_rle.specs.Items.{End, Mark, Broken, Spells}
+use Rattle.life_rle.specs.Items.{End, Mark, Spelled, Broken, Spells}
 
 -- the text of a state: `b`, `.`, `o`, a letter by its place behind `A`, or a prefix and a letter by their places behind `p` and `A`
 pub data IsStateText (text : List ℕ) (state : ℕ) : Type 0 where
@@ -36,13 +36,14 @@ IsTextOf level line [] rest = (space : List ℕ) × (is_blank space ≡ true) ×
 IsTextOf level line (item ∷ items) rest =
     (space text more : List ℕ) × (is_blank space ≡ true) × IsItemText level text item × (line ≡ space ++ (text ++ more)) × IsTextOf level more items rest
 
--- Reading a line finds items and its end exactly if the line is their texts, and items and `!` exactly if the line is their texts, `!` and
--- anything behind it.
+-- Reading a line finds items and its end exactly if the line is their texts; items and `!` exactly if it is their texts, `!` and anything
+-- behind it; and items, one more and a rest exactly if it is their texts, that item's and the rest.
 abbrev pub ItemsArePlain : Type 0
 ItemsArePlain =
     (level : ℕ) (line : List ℕ) (items : List Item)
     → (Spells level line items End ↔ IsTextOf level line items [])
     × (Spells level line items Mark ↔ ((free : List ℕ) × IsTextOf level line items (33 ∷ free)))
+    × ((item : Item) (rest : List ℕ) → Spells level line items (Spelled item rest) ↔ ((text : List ℕ) × IsItemText level text item × IsTextOf level line items (text ++ rest)))
 
 -- tokens one after another, each with any whitespace behind it, and then these bytes
 abbrev pub AreTokens : List ℕ → List (List ℕ) → List ℕ → Type 0
