@@ -33,3 +33,4 @@ pub mod ReadInputs
 pub mod PlainItems
 pub mod PlainHeader
 pub mod MarkPlace
+pub mod PlainFaults

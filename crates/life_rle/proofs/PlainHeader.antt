@@ -21,7 +21,7 @@ no_indent : (text : List ℕ) → HasNoIndent text → trim_start text ≡ text
 no_indent [] h = refl
 no_indent (b ∷ text) h = ap (λ t. cond t (trim_start text) (b ∷ text)) h
 
-trim_start-HasNoIndent : (text : List ℕ) → HasNoIndent (trim_start text)
+pub trim_start-HasNoIndent : (text : List ℕ) → HasNoIndent (trim_start text)
 trim_start-HasNoIndent [] = tt
 trim_start-HasNoIndent (b ∷ text) =
     elim (is_whitespace b) as (λ t. is_whitespace b ≡ t → HasNoIndent (cond t (trim_start text) (b ∷ text)))
@@ -87,7 +87,7 @@ digits-HasNoIndent : (digits more : List ℕ) → is_digit_text digits ≡ true 
 digits-HasNoIndent [] more h = cc
 digits-HasNoIndent (d ∷ digits) more h = (digit-plain d (both_true (is_ascii_digit d) (list_all is_ascii_digit digits) h).0).0
 
--- THE CHAIN OF TOKENS
+-- the chain of tokens
 
 abbrev behind_comma : List ℕ → Option (Option (List ℕ))
 behind_comma bytes = after_word (codes "rule") bytes >>= λ rest. after_word (codes "=") rest >>= λ rest. Some (Some rest)

@@ -1,5 +1,5 @@
 -- A line spells items exactly if it is their texts with whitespace between.
-use Rattle.std.proofs.Common.{◌≡◌, ℕ, ◌+◌, ◌-◌, ◌*◌, ◌<◌, ◌≤◌, true, false, cond, ◌&&◌, ◌||◌, List, [], ◌∷◌, ◌++◌, take, drop, refl, sym, ap, ◌∙◌, subst, inl, inr, ◌⊎◌, Some, None, Option, arith, append_assoc, eqb, ltb, leb}
+use Rattle.std.proofs.Common.{◌≡◌, ◌↔◌, ℕ, ◌+◌, ◌-◌, ◌*◌, ◌<◌, ◌≤◌, true, false, cond, ◌&&◌, ◌||◌, List, [], ◌∷◌, ◌++◌, take, drop, refl, sym, ap, ◌∙◌, subst, inl, inr, ◌⊎◌, Some, None, Option, arith, append_assoc, eqb, ltb, leb}
 use Rattle.std.proofs.lemmas.Bool.Decides.{nat_tests}
 use Rattle.std.proofs.lemmas.List.{take-append-drop}
 use Rattle.std.specs.Char.{is_ascii_digit}
@@ -22,7 +22,7 @@ trim_start-space (b ∷ space) text h =
     let parts = both_true (is_whitespace b) (is_blank space) h in
     ap (λ t. cond t (trim_start (space ++ text)) (b ∷ (space ++ text))) parts.0 ∙ trim_start-space space text parts.1
 
-IsTag-Stops : (tag : List ℕ) → IsTag tag → Stops is_ascii_digit tag
+pub IsTag-Stops : (tag : List ℕ) → IsTag tag → Stops is_ascii_digit tag
 IsTag-Stops [] h = absurd h
 IsTag-Stops (b ∷ bytes) h = h.1
 
@@ -78,13 +78,13 @@ item_behind-state : (n b state : ℕ) (bytes rest : List ℕ) → eqb b 36 ≡ f
 item_behind-state n b state bytes rest h k = ap (λ t. cond t (Spelled (RowEnds n) bytes) (cells_of n (state_at (b ∷ bytes)))) h ∙ ap (cells_of n) k
 
 -- bytes that begin with the text of an item without its count
-abbrev IsRead : ℕ → List ℕ → Item → List ℕ → Type 0
+abbrev pub IsRead : ℕ → List ℕ → Item → List ℕ → Type 0
 IsRead count bytes item rest = IsTag bytes × (item_behind count bytes ≡ Spelled item rest)
 
 IsRead-single : (count b state : ℕ) (rest : List ℕ) → IsTag (b ∷ rest) → eqb b 36 ≡ false → single_state b ≡ Some state → IsRead count (b ∷ rest) (Cells count state) rest
 IsRead-single count b state rest t h k = (t, item_behind-state count b state rest rest h (state_at-single b state rest k))
 
-IsRead-text : (count state : ℕ) (text rest : List ℕ) → IsStateText text state → IsRead count (text ++ rest) (Cells count state) rest
+pub IsRead-text : (count state : ℕ) (text rest : List ℕ) → IsStateText text state → IsRead count (text ++ rest) (Cells count state) rest
 IsRead-text count state text rest (letter_b e v) =
     subst (λ (t : List ℕ). IsRead count (t ++ rest) (Cells count state) rest) (sym e) (IsRead-single count 98 state rest (refl, refl, refl) refl (ap Some (sym v)))
 IsRead-text count state text rest (dot e v) =
@@ -118,7 +118,7 @@ next_of-item level space text more (RowEnds count) h i =
     ∙ next_of-count level count i.0 (36 ∷ more) i.3 (refl, refl, refl)
 
 -- so the texts of items spell them
-IsTextOf-Spells : (level : ℕ) (items : List Item) (line rest : List ℕ) (last : Next) → next_of level rest ≡ last → IsTextOf level line items rest → Spells level line items last
+pub IsTextOf-Spells : (level : ℕ) (items : List Item) (line rest : List ℕ) (last : Next) → next_of level rest ≡ last → IsTextOf level line items rest → Spells level line items last
 IsTextOf-Spells level [] line rest last h i = ap (next_of level) i.2 ∙ ap (item_in level) (trim_start-space i.0 rest i.1) ∙ h
 IsTextOf-Spells level (item ∷ items) line rest last h i =
     (i.2, ap (next_of level) i.5 ∙ next_of-item level i.0 i.1 i.2 item i.3 i.4, IsTextOf-Spells level items i.2 rest last h i.6)
@@ -210,7 +210,7 @@ first-either : (f g : Option (ℕ × List ℕ)) (v : ℕ × List ℕ) → first_
 first-either None g v h = inr h
 first-either (Some w) g v h = inl h
 
-state_at-text : (bytes rest : List ℕ) (state : ℕ) → state_at bytes ≡ Some (state, rest) → StateAt bytes state rest
+pub state_at-text : (bytes rest : List ℕ) (state : ℕ) → state_at bytes ≡ Some (state, rest) → StateAt bytes state rest
 state_at-text [] rest state h = cc
 state_at-text (b ∷ []) rest state h = found-single b state rest [] h
 state_at-text (b ∷ c ∷ bytes) rest state h = pick (first-either (with_rest (single_state b) (c ∷ bytes)) (with_rest (prefixed_state b c) bytes) (state, rest) h)
@@ -279,7 +279,7 @@ next_of-held : (level : ℕ) (bytes : List ℕ) (next : Next) → next_of level 
 next_of-held level bytes next e = subst (IsHeld level (trim_start bytes)) e (item_in-held level (trim_start bytes))
 
 -- so a line that spells items is their texts
-Spells-IsTextOf : (level : ℕ) (items : List Item) (line : List ℕ) (last : Next) (Rest : List ℕ → Type 0)
+pub Spells-IsTextOf : (level : ℕ) (items : List Item) (line : List ℕ) (last : Next) (Rest : List ℕ → Type 0)
     → ((bytes : List ℕ) → next_of level bytes ≡ last → Rest (trim_start bytes)) → Spells level line items last → (rest : List ℕ) × Rest rest × IsTextOf level line items rest
 Spells-IsTextOf level [] line last Rest f h = (trim_start line, f line h, indented line)
 Spells-IsTextOf level (item ∷ items) line last Rest f h =
@@ -288,10 +288,19 @@ Spells-IsTextOf level (item ∷ items) line last Rest f h =
     let more = Spells-IsTextOf level items h.0 last Rest f h.2 in
     (more.0, more.1, (i.0, k.0, h.0, i.1, k.1, i.2 ∙ ap (λ (t : List ℕ). i.0 ++ t) k.2, more.2))
 
+-- the same behind items, of one item more
+Spells-item : (level : ℕ) (line : List ℕ) (items : List Item) (item : Item) (rest : List ℕ) → Spells level line items (Spelled item rest) ↔ ((text : List ℕ) × IsItemText level text item × IsTextOf level line items (text ++ rest))
+Spells-item level line items item rest = (
+  (λ h. let k = Spells-IsTextOf level items line (Spelled item rest) (λ bytes. (text : List ℕ) × IsItemText level text item × (bytes ≡ text ++ rest)) (λ bytes e. next_of-held level bytes (Spelled item rest) e) h in
+      (k.1.0, k.1.1, subst (IsTextOf level line items) k.1.2 k.2)),
+  (λ h. IsTextOf-Spells level items line (h.0 ++ rest) (Spelled item rest) (next_of-item level [] h.0 rest item refl h.1) h.2),
+)
+
 pub items_are_plain : ItemsArePlain
 items_are_plain level line items =
     let ended = Spells-IsTextOf level items line End (λ rest. rest ≡ []) (λ bytes e. next_of-held level bytes End e) in
     let marked = Spells-IsTextOf level items line Mark (λ rest. (free : List ℕ) × (rest ≡ 33 ∷ free)) (λ bytes e. next_of-held level bytes Mark e) in (
       ((λ h. let k = ended h in subst (IsTextOf level line items) k.1 k.2), (λ h. IsTextOf-Spells level items line [] End refl h)),
       ((λ h. let k = marked h in (k.1.0, subst (IsTextOf level line items) k.1.1 k.2)), (λ h. IsTextOf-Spells level items line (33 ∷ h.0) Mark refl h.1)),
+      (λ item rest. Spells-item level line items item rest),
     )

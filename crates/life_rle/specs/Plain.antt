@@ -1,12 +1,15 @@
 -- The forms of lines, said of whole texts: what a line of data and a header line are put together from. States and header
 -- tokens are of Golly Help (File Formats, RLE); the bounds of counts are the project's own.
-use Rattle.std.specs.Prelude.{Option, Some, None, false, ◌≡◌, ℕ, ◌+◌, ◌*◌, ◌<◌, ◌≤◌, ◌⊎◌, ◌↔◌, true, List, [], ◌∷◌, ◌++◌, codes}
+use Rattle.std.specs.Prelude.{◌≡◌, ℕ, ◌+◌, ◌*◌, ◌<◌, ◌≤◌, ◌⊎◌, ◌↔◌, true, false, List, [], ◌∷◌, ◌++◌, Option, Some, None, codes}
+use Rattle.std.specs.Char.{is_ascii_digit}
+use Rattle.life_base.specs.declared.kind.Kind.{Kind}
+use Rattle.life_base.specs.declared.kind.Kind.TheVariants.{ZeroCount, TooLarge, BadItem}
 use Rattle.life_base.specs.Text.{is_whitespace, is_blank, is_digit_text, value_of}
 use Rattle.life_rle.specs.declared.item.Item.{Item}
 use Rattle.life_rle.specs.declared.item.Item.TheVariants.{Cells, RowEnds}
 use Rattle.life_rle.specs.Plane.{most_count}
 use Rattle.life_rle.specs.Header.{header_form}
-use Rattle.life_rle.specs.Items.{End, Mark, Spells}
+use Rattle.life_rle.specs.Items.{End, Mark, Spelled, Broken, Spells}
 
 -- the text of a state: `b`, `.`, `o`, a letter by its place behind `A`, or a prefix and a letter by their places behind `p` and `A`
 pub data IsStateText (text : List ℕ) (state : ℕ) : Type 0 where
@@ -34,13 +37,14 @@ IsTextOf level line [] rest = (space : List ℕ) × (is_blank space ≡ true) ×
 IsTextOf level line (item ∷ items) rest =
     (space text more : List ℕ) × (is_blank space ≡ true) × IsItemText level text item × (line ≡ space ++ (text ++ more)) × IsTextOf level more items rest
 
--- Reading a line finds items and its end exactly if the line is their texts, and items and `!` exactly if the line is their texts, `!` and
--- anything behind it.
+-- Reading a line finds items and its end exactly if the line is their texts; items and `!` exactly if it is their texts, `!` and anything
+-- behind it; and items, one more and a rest exactly if it is their texts, that item's and the rest.
 abbrev pub ItemsArePlain : Type 0
 ItemsArePlain =
     (level : ℕ) (line : List ℕ) (items : List Item)
     → (Spells level line items End ↔ IsTextOf level line items [])
     × (Spells level line items Mark ↔ ((free : List ℕ) × IsTextOf level line items (33 ∷ free)))
+    × ((item : Item) (rest : List ℕ) → Spells level line items (Spelled item rest) ↔ ((text : List ℕ) × IsItemText level text item × IsTextOf level line items (text ++ rest)))
 
 -- tokens one after another, each with any whitespace behind it, and then these bytes
 abbrev pub AreTokens : List ℕ → List (List ℕ) → List ℕ → Type 0
@@ -67,3 +71,32 @@ IsHeaderLine line (Some text) =
 -- a line has the form of a header exactly if it is the tokens of one
 abbrev pub HeadersArePlain : Type 0
 HeadersArePlain = (line : List ℕ) (rule : Option (List ℕ)) → (header_form line ≡ Some rule) ↔ IsHeaderLine line rule
+
+-- digits in front of these bytes have ended
+abbrev pub HasNoDigit : List ℕ → Type 0
+HasNoDigit [] = Unit {0}
+HasNoDigit (b ∷ bytes) = is_ascii_digit b ≡ false
+
+-- neither a state nor `$` in front
+abbrev pub HasNoState : List ℕ → Type 0
+HasNoState bytes = ((text rest : List ℕ) (state : ℕ) → IsStateText text state → bytes ≡ text ++ rest → ⊥) × ((rest : List ℕ) → bytes ≡ codes "$" ++ rest → ⊥)
+
+-- bytes that begin an item: something, and neither whitespace nor `!` in front
+abbrev pub HasItemPlace : List ℕ → Type 0
+HasItemPlace [] = ⊥
+HasItemPlace (b ∷ bytes) = (is_whitespace b ≡ false) × ((b ≡ 33) → ⊥)
+
+-- Which rule the bytes in an item's place break: a count of 0, a count above the width of the plane, or, behind a count or without one,
+-- neither a state nor `$`.
+pub data IsNoItem (level : ℕ) (bytes : List ℕ) (kind : Kind) : Type 0 where
+  zero_count : (digits rest : List ℕ) → bytes ≡ digits ++ rest → is_digit_text digits ≡ true → HasNoDigit rest → value_of digits ≡ 0 → kind ≡ ZeroCount → IsNoItem level bytes kind
+  large_count : (digits rest : List ℕ) → bytes ≡ digits ++ rest → is_digit_text digits ≡ true → HasNoDigit rest → most_count level < value_of digits → kind ≡ TooLarge
+      → IsNoItem level bytes kind
+  no_state : (digits rest : List ℕ) (count : ℕ) → bytes ≡ digits ++ rest → IsCountText level digits count → HasNoDigit rest → HasNoState rest → kind ≡ BadItem
+      → IsNoItem level bytes kind
+
+-- Reading a line finds items and a fault exactly if the line is their texts, and then bytes that break this rule of items.
+abbrev pub FaultsArePlain : Type 0
+FaultsArePlain =
+    (level : ℕ) (line : List ℕ) (items : List Item) (kind : Kind)
+    → Spells level line items (Broken kind) ↔ ((rest : List ℕ) × IsTextOf level line items rest × HasItemPlace rest × IsNoItem level rest kind)

@@ -3,7 +3,7 @@
 ghost use Rattle.life_rle.specs.Laws.{IsOneRle, BreaksForGood, StatesReadBack, RleTextReadsBack, WrappedGreedily};
 ghost use Rattle.life_rle.specs.Decided.{IsDecided};
 ghost use Rattle.life_rle.specs.RunsLaw.{RunsAreCells, IsBlankOutside};
-ghost use Rattle.life_rle.specs.Plain.{ItemsArePlain, HeadersArePlain};
+ghost use Rattle.life_rle.specs.Plain.{ItemsArePlain, FaultsArePlain, HeadersArePlain};
 
 /// Lines are an RLE file of at most one pattern.
 pub fn one_file()
@@ -53,4 +53,9 @@ pub fn items_are_plain()
 /// A line has the form of a header exactly if it is the tokens of one with whitespace between.
 pub fn headers_are_plain()
     ensures { HeadersArePlain }
+{}
+
+/// A line breaks a rule of items exactly where, behind texts of items, neither whitespace, nor `!`, nor an item's text stands.
+pub fn faults_are_plain()
+    ensures { FaultsArePlain }
 {}
