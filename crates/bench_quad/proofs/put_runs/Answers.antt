@@ -1,6 +1,6 @@
 use Rattle.std.proofs.Common.{◌≡◌, ◌-◌, ◌^◌, arith, ◌∙◌, ap}
 use Rattle.std.proofs.lemmas.Int.{ints}
-use Rattle.life_quad.specs.Cells.{half_side}
+use Rattle.life_base.specs.Tree.{half_side}
 use Rattle.bench_quad.proofs.put_runs.Goals as goal
 
 pub put_run-requires-clause-inside : goal.put_run-requires-clause-inside

@@ -1,6 +1,6 @@
 use Rattle.std.proofs.Common.{◌≡◌}
 use Rattle.life_base.specs.Tree.{depth}
-use Rattle.life_quad.specs.declared.level.TheConstants.{MAX_LEVEL}
+use Rattle.life_base.specs.declared.cell.TheConstants.{MAX_LEVEL}
 use Rattle.bench_quad.proofs.put_runs.Given as goal
 
 abbrev pub invariant-loop-y : goal.invariant-loop-y
