@@ -92,7 +92,12 @@ fn add<S: Squares>(
 }
 
 /// The square of a soup of so many runs in rows of so many cells: two cells in five are alive.
-pub fn soup<S: Squares>(alloc: Global, squares: &mut S, runs: u32, width: u32) -> Result<Id, Kind>
+pub(crate) fn soup<S: Squares>(
+    alloc: Global,
+    squares: &mut S,
+    runs: u32,
+    width: u32,
+) -> Result<Id, Kind>
     requires width { width ≤ 2 ^ 20 }
     ensures known { IfOk result (S.knows squares.new) }
 {
@@ -112,7 +117,7 @@ pub fn soup<S: Squares>(alloc: Global, squares: &mut S, runs: u32, width: u32) -
 }
 
 /// The square of whole rows of the plane, every other one.
-pub fn stripes<S: Squares>(alloc: Global, squares: &mut S, rows: u32) -> Result<Id, Kind>
+pub(crate) fn stripes<S: Squares>(alloc: Global, squares: &mut S, rows: u32) -> Result<Id, Kind>
     ensures known { IfOk result (S.knows squares.new) }
 {
     let mut builder = Builder::new(alloc);
