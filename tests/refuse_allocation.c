@@ -1,6 +1,6 @@
-/* Loaded into a program before the C library (LD_PRELOAD), refuses one of its requests for memory: the one whose number, counted
-   from 1, is in the variable REFUSE; none where that is 0 or absent. At the end it writes, into the file that the variable REPORT
-   names, how many requests there were and how many of them it refused. */
+/* Loaded into a program before the C library (LD_PRELOAD), refuses some of its requests for memory: those whose numbers, counted
+   from 1, go from the variable FIRST to the variable LAST. At the end it writes, into the file that the variable REPORT names, how
+   many requests there were and how many of them it refused. */
 #define _GNU_SOURCE
 #include <dlfcn.h>
 #include <errno.h>
@@ -10,31 +10,40 @@
 
 static void *(*next_malloc)(size_t);
 static void *(*next_realloc)(void *, size_t);
-static unsigned long refuse, requests, refused;
+static unsigned long first, last, requests, refused;
 static int counting;
+
+static unsigned long number_in(const char *name)
+{
+    const char *text = getenv(name);
+    return text ? strtoul(text, NULL, 10) : 0;
+}
 
 __attribute__((constructor)) static void start(void)
 {
-    const char *number = getenv("REFUSE");
-    refuse = number ? strtoul(number, NULL, 10) : 0;
+    first = number_in("FIRST");
+    last = number_in("LAST");
     counting = 1;
 }
 
 __attribute__((destructor)) static void end(void)
 {
-    counting = 0;
     const char *name = getenv("REPORT");
-    FILE *report = name ? fopen(name, "w") : NULL;
+    FILE *report;
+    counting = 0;
+    report = name ? fopen(name, "w") : NULL;
     if (report) {
         fprintf(report, "%lu %lu\n", requests, refused);
         fclose(report);
     }
 }
 
-/* Whether this request is the one to refuse. */
 static int is_refused(void)
 {
-    if (!counting || ++requests != refuse)
+    if (!counting)
+        return 0;
+    requests++;
+    if (requests < first || last < requests)
         return 0;
     refused++;
     errno = ENOMEM;
