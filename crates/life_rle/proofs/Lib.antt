@@ -27,7 +27,9 @@ pub mod TakeCells
 pub mod LineKinds
 pub mod Stands
 pub mod RunsLaws
+pub mod ItemsLaws
 pub mod DecidedLaw
+pub mod FormatLaws
 pub mod Rows
 pub mod ReadInputs
 pub mod PlainItems

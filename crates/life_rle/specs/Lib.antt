@@ -12,6 +12,7 @@ pub mod Sorted
 pub mod File
 pub mod Laws
 pub mod RunsLaw
+pub mod ItemsLaw
 pub mod Decided
 pub mod Cursor
 pub mod Reading
