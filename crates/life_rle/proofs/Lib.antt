@@ -34,5 +34,7 @@ pub mod Rows
 pub mod ReadInputs
 pub mod PlainItems
 pub mod PlainHeader
+pub mod PlainWords
+pub mod PlainPosition
 pub mod MarkPlace
 pub mod PlainFaults

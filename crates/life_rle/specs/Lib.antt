@@ -18,3 +18,4 @@ pub mod Cursor
 pub mod Reading
 pub mod Standing
 pub mod Plain
+pub mod PlainPosition

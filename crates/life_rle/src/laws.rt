@@ -4,6 +4,7 @@ ghost use Rattle.life_rle.specs.Laws.{IsOneRle, BreaksForGood, FaultsAreUnique, 
 ghost use Rattle.life_rle.specs.Decided.{IsDecided};
 ghost use Rattle.life_rle.specs.ItemsLaw.{ItemsAreCells};
 ghost use Rattle.life_rle.specs.RunsLaw.{RunsAreCells, IsBlankOutside};
+ghost use Rattle.life_rle.specs.PlainPosition.{PositionsArePlain};
 ghost use Rattle.life_rle.specs.Plain.{ItemsArePlain, FaultsArePlain, HeadersArePlain};
 
 /// Lines are an RLE file of at most one pattern.
@@ -74,6 +75,11 @@ pub fn items_are_plain()
 /// A line has the form of a header exactly if it is the tokens of one with whitespace between.
 pub fn headers_are_plain()
     ensures { HeadersArePlain }
+{}
+
+/// A line is a position line of this position, or one that breaks this rule, exactly if it is `#CXRLE` and words of that form.
+pub fn positions_are_plain()
+    ensures { PositionsArePlain }
 {}
 
 /// A line breaks a rule of items exactly where, behind texts of items, neither whitespace, nor `!`, nor an item's text stands.
