@@ -1,12 +1,11 @@
 -- The laws of refused files and of their fronts.
-use Rattle.std.proofs.Common.{◌≡◌, ℕ, suc, ◌+◌, ◌<◌, ◌≤◌, List, [], ◌∷◌, ◌++◌, length, take, get_or, sym, ap, ◌∙◌, subst, inl, inr, ◌⊎◌, arith}
+use Rattle.std.proofs.Common.{◌≡◌, ℕ, suc, ◌+◌, List, [], ◌∷◌, ◌++◌, length, take, get_or, sym, ap, ◌∙◌, subst, inl, inr, ◌⊎◌, arith}
 use Rattle.std.proofs.lemmas.List.{length-append}
 use Rattle.std.proofs.Math.Seq.{take-suc, take-append_seam, get_or-append_seam}
-use Rattle.life_base.specs.declared.kind.Kind.{Kind}
 use Rattle.life_base.specs.Refusal.{Prefix}
 use Rattle.life_base.proofs.Refusals.{one_refusal}
 use Rattle.life_rle.specs.File.{missing}
-use Rattle.life_rle.specs.Grammar.{IsSomeRle, IsRle, Breaks}
+use Rattle.life_rle.specs.Grammar.{IsSomeRle, Breaks}
 use Rattle.life_rle.specs.Decided.{LacksHeader, HasBroken}
 use Rattle.life_rle.specs.Laws.{BreaksForGood, AreUnbroken, FrontsAreUnbroken, FaultsAreUnique}
 use Rattle.life_rle.proofs.Progress.{progress, start}

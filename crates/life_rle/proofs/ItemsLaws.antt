@@ -1,5 +1,5 @@
 -- No two items of a file cover one pair, each covers pairs of the plane alone, and the cells of the file are what they say.
-use Rattle.std.proofs.Common.{◌≡◌, ℕ, zero, suc, ◌≤◌, ◌⊎◌, inl, inr, Bool, true, false, cond, ◌&&◌, List, [], ◌∷◌, refl, sym, ap, ◌∙◌, subst, Some, None, Option, ℤ, pos, neg_ℤ, ◌+ℤ◌, ◌≤ℤ◌, ◌<ℤ◌, arith}
+use Rattle.std.proofs.Common.{◌≡◌, ℕ, zero, suc, ◌≤◌, ◌⊎◌, inl, inr, Bool, true, false, cond, ◌&&◌, List, [], ◌∷◌, refl, sym, ap, ◌∙◌, subst, Some, ℤ, pos, neg_ℤ, ◌+ℤ◌, ◌≤ℤ◌, ◌<ℤ◌, arith}
 use Rattle.std.specs.Prelude.{int_lt, int_le}
 use Rattle.std.specs.Ordering.{int_eq}
 use Rattle.std.specs.List.{slice_get}
@@ -8,9 +8,8 @@ use Rattle.life_base.specs.declared.rule.Rule.{Rule}
 use Rattle.life_rle.specs.declared.item.Item.{Item}
 use Rattle.life_rle.specs.declared.item.Item.TheVariants.{Cells, RowEnds}
 use Rattle.life_rle.specs.Plane.{edge, is_coordinate}
-use Rattle.life_rle.specs.Pattern.{Rle, Placed, placed, covers, item_state, cell_among}
-use Rattle.life_rle.specs.Grammar.{IsRle}
-use Rattle.life_rle.specs.ItemsLaw.{AreCells, ItemsAreCells}
+use Rattle.life_rle.specs.Pattern.{Placed, placed, covers, item_state, cell_among}
+use Rattle.life_rle.specs.ItemsLaw.{ItemsAreCells}
 use Rattle.life_rle.proofs.Places.{placed_from}
 use Rattle.life_rle.proofs.RunsLaws.{Good, file-Good, placed-from, IsRle-plane, low-side, further}
 

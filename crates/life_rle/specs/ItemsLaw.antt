@@ -1,5 +1,5 @@
 -- What the items of a file are, those of state 0 too, and that its cells are what they say.
-use Rattle.std.specs.Prelude.{◌≡◌, ℕ, Bool, true, false, List, ℤ, Option, Some}
+use Rattle.std.specs.Prelude.{◌≡◌, ℕ, true, false, List, ℤ, Some}
 use Rattle.std.specs.List.{slice_get}
 use Rattle.life_rle.specs.Plane.{is_coordinate}
 use Rattle.life_rle.specs.Pattern.{Rle, Placed, placed, covers, item_state, cell}

@@ -1,6 +1,6 @@
 -- The form of position lines, said of whole texts: what a position line is put together from. What Pos and Gen mean is of Golly Help (File
 -- Formats, Extended RLE); the form and the bounds are the project's own.
-use Rattle.std.specs.Prelude.{◌≡◌, ℕ, ◌^◌, ◌<◌, ◌≤◌, ◌⊎◌, ◌↔◌, ◌&&◌, true, false, not, List, [], ◌∷◌, ◌++◌, ℤ, pos, neg_ℤ, Result, Ok, Err, codes}
+use Rattle.std.specs.Prelude.{◌≡◌, ℕ, ◌^◌, ◌<◌, ◌≤◌, ◌⊎◌, ◌↔◌, ◌&&◌, true, false, not, List, [], ◌∷◌, ◌++◌, ℤ, pos, neg_ℤ, Ok, Err, codes}
 use Rattle.std.specs.List.{list_all}
 use Rattle.life_base.specs.declared.kind.Kind.{Kind}
 use Rattle.life_base.specs.declared.kind.Kind.TheVariants.{BadNumber, TooLarge, OutOfPlane}
