@@ -27,10 +27,14 @@ pub mod TakeCells
 pub mod LineKinds
 pub mod Stands
 pub mod RunsLaws
+pub mod ItemsLaws
 pub mod DecidedLaw
+pub mod FormatLaws
 pub mod Rows
 pub mod ReadInputs
 pub mod PlainItems
 pub mod PlainHeader
+pub mod PlainWords
+pub mod PlainPosition
 pub mod MarkPlace
 pub mod PlainFaults
