@@ -22,6 +22,7 @@ pub mod RuleTexts
 pub mod StatesRead
 pub mod GreedyLines
 pub mod TextBack
+pub mod ItemRoom
 pub mod PutItems
 pub mod TakeCells
 pub mod LineKinds
