@@ -17,10 +17,10 @@ TOP = os.path.dirname(HERE)
 TIMES = 3
 
 
-def timed(words, source=os.devnull):
+def timed(words, source=os.devnull, times=TIMES):
     """The best time of a command in seconds, its peak memory in bytes, and what its best run printed."""
     best, peak, printed = None, 0, ""
-    for _ in range(TIMES):
+    for _ in range(times):
         with open(source, "rb") as given:
             start = time.monotonic()
             child = subprocess.Popen(words, stdin=given, stdout=subprocess.PIPE, stderr=subprocess.STDOUT)
@@ -49,6 +49,17 @@ def written(words, source):
         best = took if best is None else min(best, took)
         peak = max(peak, usage.ru_maxrss * 1024)
     return best, peak
+
+
+def output(words, source):
+    """What a command writes to standard output."""
+    with open(source, "rb") as given:
+        return subprocess.run(words, stdin=given, stdout=subprocess.PIPE, check=True).stdout
+
+
+def told(words, source, pattern):
+    """The least of the times that the runs of a command tell."""
+    return min(number(pattern, timed(words, source, 1)[2]) for _ in range(TIMES))
 
 
 def plain(folder, name):
@@ -98,13 +109,23 @@ def macrocell(program, folder):
 def rle(folder):
     print("reading RLE, beside a plain reader in C that checks nothing")
     program, reference = proved("bench_rle"), plain(folder, "plain_rle")
+    soups = [(label, made(folder, name, "rle", size))
+             for label, name, size in (("soup of 1 MB", "soup_1e6.rle", 1_000_000), ("soup of 10 MB", "soup_1e7.rle", 10_000_000))]
     times = []
-    for label, name, size in (("soup of 1 MB", "soup_1e6.rle", 1_000_000), ("soup of 10 MB", "soup_1e7.rle", 10_000_000)):
-        path = made(folder, name, "rle", size)
-        took, peak, _ = timed([program], path)
-        base, base_peak, _ = timed([reference], path)
+    for label, path in soups:
+        took, peak, _ = timed([program, "read"], path)
+        base, base_peak, _ = timed([reference, "read"], path)
         times.append(took)
         print(f"  {label:<26} {took:.3f} s, plain {base:.3f} s; {took / base:.2f} times plain, peak memory {peak / 1e6:.0f} MB, plain {base_peak / 1e6:.0f} MB")
+    print(f"  10 times the bytes take {times[1] / times[0]:.1f} times as long")
+    print("writing the cells that were read, the writing alone, beside a plain writer in C")
+    times = []
+    for label, path in soups:
+        took, base = told([program], path, r"written: (\d+) us"), told([reference], path, r"written: (\d+) us")
+        times.append(took)
+        if output([program, "text"], path) != output([reference, "text"], path):
+            sys.exit(f"{path}: the two programs write other bytes")
+        print(f"  {label:<26} {took / 1000:.1f} ms, plain {base / 1000:.1f} ms; {took / base:.2f} times plain, the same bytes")
     print(f"  10 times the bytes take {times[1] / times[0]:.1f} times as long")
 
 
