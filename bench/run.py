@@ -51,6 +51,17 @@ def written(words, source):
     return best, peak
 
 
+def output(words, source):
+    """What a command writes to standard output."""
+    with open(source, "rb") as given:
+        return subprocess.run(words, stdin=given, stdout=subprocess.PIPE, check=True).stdout
+
+
+def told(words, source, pattern):
+    """The least of the times that the runs of a command tell."""
+    return least(pattern, timed(words, source)[2])
+
+
 def plain(folder, name):
     """A program of bench/ in C, compiled."""
     path = os.path.join(folder, name)
@@ -98,13 +109,23 @@ def macrocell(program, folder):
 def rle(folder):
     print("reading RLE, beside a plain reader in C that checks nothing")
     program, reference = proved("bench_rle"), plain(folder, "plain_rle")
+    soups = [(label, made(folder, name, "rle", size))
+             for label, name, size in (("soup of 1 MB", "soup_1e6.rle", 1_000_000), ("soup of 10 MB", "soup_1e7.rle", 10_000_000))]
     times = []
-    for label, name, size in (("soup of 1 MB", "soup_1e6.rle", 1_000_000), ("soup of 10 MB", "soup_1e7.rle", 10_000_000)):
-        path = made(folder, name, "rle", size)
-        took, peak, _ = timed([program], path)
-        base, base_peak, _ = timed([reference], path)
+    for label, path in soups:
+        took, peak, _ = timed([program, "read"], path)
+        base, base_peak, _ = timed([reference, "read"], path)
         times.append(took)
         print(f"  {label:<26} {took:.3f} s, plain {base:.3f} s; {took / base:.2f} times plain, peak memory {peak / 1e6:.0f} MB, plain {base_peak / 1e6:.0f} MB")
+    print(f"  10 times the bytes take {times[1] / times[0]:.1f} times as long")
+    print("writing the cells that were read, the writing alone, beside a plain writer in C")
+    times = []
+    for label, path in soups:
+        took, base = told([program], path, r"written: (\d+) us"), told([reference], path, r"written: (\d+) us")
+        times.append(took)
+        if output([program, "text"], path) != output([reference, "text"], path):
+            sys.exit(f"{path}: the two programs write other bytes")
+        print(f"  {label:<26} {took / 1000:.1f} ms, plain {base / 1000:.1f} ms; {took / base:.2f} times plain, the same bytes")
     print(f"  10 times the bytes take {times[1] / times[0]:.1f} times as long")
 
 
