@@ -155,6 +155,20 @@ def strips(folder):
     print(f"  10 times the cells take {listings[2] / listings[0]:.1f} times as long in a soup, {listings[3] / listings[1]:.1f} times as single cells")
 
 
+def table(folder):
+    print("next states by a rule table of 300 transitions, beside a plain matcher in C; 1,000,000 decisions")
+    program, reference = proved("bench_table"), plain(folder, "plain_table")
+    for symmetry in ("rotate4", "permute"):
+        path = made(folder, f"table_{symmetry}.rule", symmetry, 300)
+        _, peak, text = timed([program, "1000000", "time"], path)
+        _, _, base = timed([reference, "1000000"], path)
+        answers = text.splitlines()[0]
+        if base.splitlines()[0] != answers:
+            sys.exit(f"{symmetry}: the answers differ: {answers}; plain {base.splitlines()[0]}")
+        took, other = number(r"(\d+) ms", text), number(r"(\d+) ms", base)
+        print(f"  under {symmetry:<20} {took:.0f} ms, plain {other:.0f} ms; {took / other:.2f} times plain, peak memory {peak / 1e6:.0f} MB; {answers}")
+
+
 def main():
     if len(sys.argv) != 3:
         sys.exit(__doc__)
@@ -165,6 +179,7 @@ def main():
     rle(folder)
     store(folder)
     strips(folder)
+    table(folder)
 
 
 if __name__ == "__main__":

@@ -1,6 +1,5 @@
 -- What has been found of the states that a line gives.
-use Rattle.std.specs.Prelude.{◌≡◌, ◌≢◌, ℕ, ◌<◌, List, ◌∷◌, map, take, drop, length, slice_index, ◌⊎◌, ◌*◌, Bool, IsTrue}
-use Rattle.life_table.specs.Orders.{turn, reflected_turn}
+use Rattle.std.specs.Prelude.{◌≡◌, ◌≢◌, ℕ, List, ◌∷◌, map, take, drop, length, slice_index, ◌⊎◌, Contains}
 use Rattle.life_table.specs.Meaning.{IsChoice, state_of, count_of}
 use Rattle.life_table.specs.declared.table.Var.{Var}
 use Rattle.life_table.specs.declared.table.Entry.{Entry}
@@ -41,8 +40,8 @@ pub record GivesFrom (vars : List Var) (line : Transition) (given left : List �
   pub others : (t : ℕ) → count_of t (map (state_of choice) (drop (length given) line.inputs)) ≡ slice_index left t
   pub output : state_of choice line.output ≡ s
 
--- one of the first n turns by multiples of the step gives s, or one of the reflected ones where these count too
-pub record ImageGives (vars : List Var) (line : Transition) (centre : ℕ) (others : List ℕ) (step : ℕ) (reflect : Bool) (n s : ℕ) : Type 0 where
-  pub place : ℕ
-  pub below : place < n
-  pub gives : GivesAs vars line (centre ∷ turn others (place * step)) s ⊎ (IsTrue reflect × GivesAs vars line (centre ∷ reflected_turn others (place * step)) s)
+-- one of these images, the centre first, gives s
+pub record SomeGives (vars : List Var) (line : Transition) (images : List (List ℕ)) (s : ℕ) : Type 0 where
+  pub image : List ℕ
+  pub is_image : Contains images image
+  pub gives : GivesAs vars line image s

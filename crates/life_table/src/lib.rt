@@ -4,6 +4,7 @@
 mod choose;
 mod descriptors;
 mod entries;
+mod fit;
 mod found;
 pub mod laws;
 mod next;
