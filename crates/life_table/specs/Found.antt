@@ -1,5 +1,5 @@
 -- What has been found of the states that a line gives.
-use Rattle.std.specs.Prelude.{◌≡◌, ◌≢◌, ℕ, List, ◌∷◌, map, take, drop, length, slice_index, ◌⊎◌, Contains}
+use Rattle.std.specs.Prelude.{◌≡◌, ◌≢◌, ℕ, List, map, take, drop, length, slice_index, ◌⊎◌, Contains}
 use Rattle.life_table.specs.Meaning.{IsChoice, state_of, count_of}
 use Rattle.life_table.specs.declared.table.Var.{Var}
 use Rattle.life_table.specs.declared.table.Entry.{Entry}
