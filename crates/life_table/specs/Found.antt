@@ -1,7 +1,7 @@
 -- What has been found of the states that a line gives.
-use Rattle.std.specs.Prelude.{◌≡◌, ◌≢◌, ℕ, ◌<◌, List, ◌∷◌, map, take, drop, length, slice_index, ◌⊎◌, ◌*◌, Bool, IsTrue}
+use Rattle.std.specs.Prelude.{◌≡◌, ◌≢◌, ℕ, ◌<◌, List, ◌∷◌, map, ◌⊎◌, ◌*◌, Bool, IsTrue}
 use Rattle.life_table.specs.Orders.{turn, reflected_turn}
-use Rattle.life_table.specs.Meaning.{IsChoice, state_of, count_of}
+use Rattle.life_table.specs.Meaning.{IsChoice, state_of}
 use Rattle.life_table.specs.declared.table.Var.{Var}
 use Rattle.life_table.specs.declared.table.Entry.{Entry}
 use Rattle.life_table.specs.declared.table.Transition.{Transition}
@@ -31,14 +31,6 @@ pub record GivesAs (vars : List Var) (line : Transition) (states : List ℕ) (s 
   pub choice : ℕ → ℕ
   pub is_choice : IsChoice vars choice
   pub inputs : map (state_of choice) line.inputs ≡ states
-  pub output : state_of choice line.output ≡ s
-
--- some choice makes the first inputs these states, gives each state as many of the others as are left, and makes the output s
-pub record GivesFrom (vars : List Var) (line : Transition) (given left : List ℕ) (s : ℕ) : Type 0 where
-  pub choice : ℕ → ℕ
-  pub is_choice : IsChoice vars choice
-  pub first : map (state_of choice) (take (length given) line.inputs) ≡ given
-  pub others : (t : ℕ) → count_of t (map (state_of choice) (drop (length given) line.inputs)) ≡ slice_index left t
   pub output : state_of choice line.output ≡ s
 
 -- one of the first n turns by multiples of the step gives s, or one of the reflected ones where these count too

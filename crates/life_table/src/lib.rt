@@ -2,11 +2,14 @@
 #![tactic(auto)]
 
 mod choose;
+mod complete;
 mod descriptors;
 mod entries;
 mod found;
+mod groups;
 pub mod laws;
 mod next;
+mod places;
 mod reading;
 mod said;
 mod table;
