@@ -2,6 +2,8 @@
 //   generate macrocell LINES   node lines of a two-state rule: leaves, then levels 4 and up, with sharing
 //   generate named LINES       node lines of a named rule from level 1 up, states 0 to 255, with sharing
 //   generate rle BYTES         an RLE soup of about BYTES bytes, one cell in three alive
+//   generate rotate4 LINES     a rule table of so many transitions under that symmetry: 8 states, Moore, ten variables
+//   generate permute LINES     the same under permute
 #include <stdint.h>
 #include <stdio.h>
 #include <stdlib.h>
@@ -96,13 +98,53 @@ static void rle(long bytes) {
     puts("!");
 }
 
+// A state of a transition: 0 in every second place.
+static int table_state(void) {
+    int bits = (int)(next_random() >> 40 & 15);
+    return bits < 8 ? 0 : bits & 7;
+}
+
+// One transition: a fixed centre for seven lines in eight, one to three fixed neighbours, variables at the other places, each once but in
+// every sixteenth line, and as output a fixed state, or in every eighth line the variable of the last place that has one.
+static void transition(void) {
+    char entries[9];
+    int kind = (int)(next_random() >> 33) % 8, fixed = kind == 0 ? 1 : kind < 4 ? 2 : 3, first = (int)(next_random() >> 35) % 10, output = 0;
+    for (int place = 0; place < 9; place++) entries[place] = (char)('a' + (first + place) % 10);
+    if ((next_random() >> 20 & 15) == 0) entries[8] = entries[7];
+    if ((next_random() >> 20 & 7) != 0) entries[0] = (char)('0' + table_state());
+    while (fixed > 0) {
+        int place = 1 + (int)((next_random() >> 33) % 8);
+        if (entries[place] < 'a') continue;
+        entries[place] = (char)('0' + table_state());
+        fixed--;
+    }
+    for (int place = 1; place < 9; place++)
+        if (entries[place] >= 'a') output = place;
+    for (int place = 0; place < 9; place++) printf("%c,", entries[place]);
+    if ((next_random() >> 20 & 7) != 0) printf("%d\n", table_state());
+    else printf("%c\n", entries[output]);
+}
+
+static void table(const char *symmetry, const char *variables, long lines) {
+    printf("@RULE Generated\n@TABLE\nn_states:8\nneighborhood:Moore\nsymmetries:%s\n%s0,0,0,0,0,0,0,0,0,0\n", symmetry, variables);
+    for (long i = 1; i < lines; i++) transition();
+}
+
+// Under rotate4 the places matter, so that the variables may have more states.
+static const char *const wide = "var a={0,1,2,3}\nvar b={a}\nvar c={a}\nvar d={1,5,6,7}\nvar e={0,4,5,6,7}\nvar f={e}\nvar g={0,2,4,6}\nvar h={g}\n"
+                                "var i={1,2,3,4,5,6,7}\nvar j={i}\n";
+static const char *const narrow = "var a={1,2}\nvar b={a}\nvar c={0,3}\nvar d={4,5}\nvar e={c}\nvar f={d}\nvar g={5,6,7}\nvar h={g}\n"
+                                  "var i={0,2,4,6}\nvar j={1,3,5,7}\n";
+
 int main(int count, char **words) {
     long size = count == 3 ? atol(words[2]) : 0;
     if (count == 3 && strcmp(words[1], "macrocell") == 0) macrocell(size);
     else if (count == 3 && strcmp(words[1], "named") == 0) named(size);
     else if (count == 3 && strcmp(words[1], "rle") == 0) rle(size);
+    else if (count == 3 && strcmp(words[1], "rotate4") == 0) table(words[1], wide, size);
+    else if (count == 3 && strcmp(words[1], "permute") == 0) table(words[1], narrow, size);
     else {
-        fputs("usage: generate macrocell|named|rle SIZE\n", stderr);
+        fputs("usage: generate macrocell|named|rle|rotate4|permute SIZE\n", stderr);
         return 2;
     }
     return 0;

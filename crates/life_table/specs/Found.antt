@@ -1,6 +1,5 @@
 -- What has been found of the states that a line gives.
-use Rattle.std.specs.Prelude.{◌≡◌, ◌≢◌, ℕ, ◌<◌, List, ◌∷◌, map, ◌⊎◌, ◌*◌, Bool, IsTrue}
-use Rattle.life_table.specs.Orders.{turn, reflected_turn}
+use Rattle.std.specs.Prelude.{◌≡◌, ◌≢◌, ℕ, List, ◌∷◌, map, ◌⊎◌, Contains}
 use Rattle.life_table.specs.Meaning.{IsChoice, state_of}
 use Rattle.life_table.specs.declared.table.Var.{Var}
 use Rattle.life_table.specs.declared.table.Entry.{Entry}
@@ -33,8 +32,8 @@ pub record GivesAs (vars : List Var) (line : Transition) (states : List ℕ) (s 
   pub inputs : map (state_of choice) line.inputs ≡ states
   pub output : state_of choice line.output ≡ s
 
--- one of the first n turns by multiples of the step gives s, or one of the reflected ones where these count too
-pub record ImageGives (vars : List Var) (line : Transition) (centre : ℕ) (others : List ℕ) (step : ℕ) (reflect : Bool) (n s : ℕ) : Type 0 where
-  pub place : ℕ
-  pub below : place < n
-  pub gives : GivesAs vars line (centre ∷ turn others (place * step)) s ⊎ (IsTrue reflect × GivesAs vars line (centre ∷ reflected_turn others (place * step)) s)
+-- one of these images, the centre first, gives s
+pub record SomeGives (vars : List Var) (line : Transition) (images : List (List ℕ)) (s : ℕ) : Type 0 where
+  pub image : List ℕ
+  pub is_image : Contains images image
+  pub gives : GivesAs vars line image s

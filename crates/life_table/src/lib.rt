@@ -5,6 +5,7 @@ mod choose;
 mod complete;
 mod descriptors;
 mod entries;
+mod fit;
 mod found;
 mod groups;
 pub mod laws;

@@ -1,15 +1,17 @@
 //! What a table makes of a cell and its neighbours.
-ghost use Rattle.std.specs.Prelude.{◌≡◌, ℕ, ◌+◌, ◌<◌, ◌≤◌, length, take, drop, All, MatchResult, slice_index, List, [], IsTrue};
+ghost use Rattle.std.specs.Prelude.{◌≡◌, ◌≢◌, ℕ, ◌+◌, ◌<◌, ◌≤◌, ◌∷◌, length, take, drop, map, All, MatchResult, slice_index, List, [], IsTrue};
 ghost use Rattle.std.specs.List.{list_any};
 ghost use Rattle.life_table.specs.Found.{Tells, Consistent};
 ghost use Rattle.life_table.specs.Meaning.{Gives, Decides, Becomes, Ambiguous};
 ghost use Rattle.life_table.specs.Valid.{IsEntry, is_variable, neighbour_count};
 ghost use Rattle.life_table.specs.Around.{cells_of};
+ghost use Rattle.life_table.specs.Orders.{images};
 
 use crate::choose::by_counts;
+use crate::fit::{by_images, may_be};
 use crate::found::Found;
 use crate::table::{Entry, Symmetry, Table, Transition, Var};
-use crate::turn::by_turns;
+use crate::turn::images_of;
 use life_base::{Fault, Kind, Place, State};
 
 /// A cell and its neighbours: the centre first, then from north clockwise.
@@ -31,12 +33,13 @@ impl Neighbours {
     }
 }
 
-/// The states that a line gives at one cell: none, one or two.
+/// The states that a line gives at one cell, whose images these are unless it decides by counts: none, one or two.
 pub(crate) fn given_by(
     symmetry: Symmetry,
     vars: &[Var],
     line: &Transition,
     cells: &[State],
+    turned: &[[State; 9]],
 ) -> Found
     requires count { length line.now.inputs ≡ length cells.now }
     requires some { 4 < length cells.now }
@@ -44,17 +47,15 @@ pub(crate) fn given_by(
     requires entries { All (IsEntry 256 vars.now) line.now.inputs }
     requires bound { (i : ℕ) → line.now.output ≡ Entry.Var i → IsTrue (list_any (is_variable i) line.now.inputs) }
     requires choosable { Consistent vars.now [] [] }
+    requires turned { symmetry ≢ Symmetry.Permute → map (take (length cells.now)) turned.now ≡ map (λ v. slice_index cells.now 0 ∷ v) (images symmetry (drop 1 cells.now)) }
     ensures { Tells (Gives symmetry vars.now line.now (slice_index cells.now 0) (drop 1 cells.now)) result }
 {
-    let n = cells.len() - 1;
+    if !may_be(vars, line.inputs.as_slice()[0], cells[0]) {
+        return Found::Nothing;
+    }
     match symmetry {
-        Symmetry::Identity => by_turns(vars, line, cells, n, false),
-        Symmetry::Rotate4 => by_turns(vars, line, cells, n / 4, false),
-        Symmetry::Rotate4Reflect => by_turns(vars, line, cells, n / 4, true),
-        Symmetry::ReflectHorizontal => by_turns(vars, line, cells, n, true),
         Symmetry::Permute => by_counts(vars, line, cells),
-        Symmetry::Rotate8 => by_turns(vars, line, cells, 1, false),
-        Symmetry::Rotate8Reflect => by_turns(vars, line, cells, 1, true),
+        _ => by_images(vars, line, turned),
     }
 }
 
@@ -68,8 +69,10 @@ impl Table {
             (λ fault. (fault.kind ≡ Kind.Ambiguous) × Decides self.now.symmetry self.now.vars (slice_index (cells_of around.now) 0) (drop 1 (cells_of around.now)) self.now.lines (Ambiguous fault.place.line)) }
     {
         let cells = around.as_slice();
+        let images = images_of(self.symmetry, cells);
+        let turned = &images.list[..images.count];
         for line in self.lines.as_slice() {
-            match given_by(self.symmetry, self.vars.as_slice(), line, cells) {
+            match given_by(self.symmetry, self.vars.as_slice(), line, cells, turned) {
                 Found::Nothing => {}
                 Found::One(state) => return Ok(state),
                 Found::Two => {

@@ -1,0 +1,99 @@
+//! Decides neighbourhoods by a rule table of eight neighbours and eight states from standard input.
+//!
+//! `bench_table [DECISIONS] [time]`: prints the sum of the next states and how many were Ambiguous, of 1,000 decisions by default, and where
+//! an argument asks for it how long they took. bench/run.py times it.
+#![tactic(auto)]
+
+ghost use Rattle.std.specs.Prelude.{◌≡◌, ◌<◌, ◌≤◌, All};
+
+use life_base::{Device, State, read_within};
+use life_table::{Neighborhood, Neighbours, Table, read_table};
+use std::time::Instant;
+use std::{env, io};
+
+/// What the decisions came to.
+#[derive(Clone, Copy)]
+struct Answers {
+    sum: u64,
+    ambiguous: u64,
+}
+
+/// The cell and its neighbours of a number: a digit of four bits each, those below 8 state 0.
+fn cells_at(number: u64) -> [State; 9]
+    ensures { All (λ s. s < 8) result }
+{
+    [
+        state_at(number >> 28),
+        state_at(number >> 32),
+        state_at(number >> 36),
+        state_at(number >> 40),
+        state_at(number >> 44),
+        state_at(number >> 48),
+        state_at(number >> 52),
+        state_at(number >> 56),
+        state_at(number >> 60),
+    ]
+}
+
+/// The state of a number's last four bits.
+fn state_at(number: u64) -> State
+    ensures { result < 8 }
+{
+    let digit = number % 16;
+    if digit < 8 { 0 } else { (digit - 8) as State }
+}
+
+/// So many decisions, of numbers made one from another.
+fn decide(table: &Table, decisions: u32) -> Answers
+    requires neighbours { table.now.neighborhood ≡ Neighborhood.Moore }
+    requires states { table.now.n_states ≡ 8 }
+{
+    let mut answers = Answers {
+        sum: 0,
+        ambiguous: 0,
+    };
+    let mut number = 1u64;
+    for _decision in 0..decisions {
+        number = number
+            .wrapping_mul(6364136223846793005)
+            .wrapping_add(1442695040888963407);
+        match table.next(&Neighbours::Eight(cells_at(number))) {
+            Ok(state) => answers.sum = answers.sum.wrapping_add(state as u64),
+            Err(_) => answers.ambiguous = answers.ambiguous.wrapping_add(1),
+        }
+    }
+    answers
+}
+
+fn main(rt: HostRuntime) -> io::Result<()> {
+    let mut decisions = 1000;
+    let mut timed = false;
+    for word in env::args(&rt)? {
+        if word.as_str() == "time" {
+            timed = true;
+        } else if let Ok(number) = word.as_str().parse::<u32>() {
+            decisions = number;
+        }
+    }
+    let mut source = Device::new(rt.stdin());
+    let Ok(bytes) = read_within(rt.alloc(), &mut source, 1 << 20) else {
+        return println!(rt; "no input");
+    };
+    let Ok(table) = read_table(rt.alloc(), &bytes) else {
+        return println!(rt; "no rule table");
+    };
+    if table.neighborhood != Neighborhood::Moore || table.n_states != 8 {
+        return println!(rt; "no table of eight neighbours and eight states");
+    }
+    let start = Instant::now(&rt)?;
+    let answers = decide(&table, decisions);
+    let spent = start.elapsed(&rt)?;
+    println!(rt;
+        "{decisions} decisions: sum {}, ambiguous {}",
+        answers.sum, answers.ambiguous
+    )?;
+    if timed {
+        println!(rt; "{} ms", spent.as_millis())?;
+    }
+    Ok(())
+}
