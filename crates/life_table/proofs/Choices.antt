@@ -52,7 +52,7 @@ changed_choice vars choice i x h k j below = elim (eqb_tells i j) [
   | inr other ↦ subst (λ b. IfSome (slice_get vars j) (λ var. HasState var (cond b x (choice j)))) (sym other.0) (h j below)
 ]
 
-pub changed_other : (choice : ℕ → ℕ) (i x : ℕ) (e : Entry) → e ≢ entries.Var i → state_of (changed choice i x) e ≡ state_of choice e
+changed_other : (choice : ℕ → ℕ) (i x : ℕ) (e : Entry) → e ≢ entries.Var i → state_of (changed choice i x) e ≡ state_of choice e
 changed_other choice i x (entries.Fixed s) h = refl
 changed_other choice i x (entries.Var j) h = elim (eqb_tells i j) [
   | inl same ↦ absurd (h (ap entries.Var (sym same.1)))

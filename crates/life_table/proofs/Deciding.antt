@@ -1,12 +1,12 @@
 -- What a line gives by counts, from the groups of its open inputs and the places that its settled inputs leave free.
-use Rattle.std.proofs.Common.{◌≡◌, ◌≢◌, ℕ, zero, suc, ◌+◌, ◌-◌, ◌<◌, ◌≤◌, List, [], ◌∷◌, map, take, drop, length, get_or, cond, nat_eq, Bool, true, false, refl, ap, sym, ◌∙◌, subst, ◌⊎◌, inl, inr, arith, length-drop}
+use Rattle.std.proofs.Common.{◌≡◌, ℕ, ◌+◌, ◌-◌, ◌<◌, List, [], ◌∷◌, map, take, drop, length, get_or, cond, nat_eq, Bool, true, false, refl, ap, sym, ◌∙◌, subst, ◌⊎◌, inl, inr, arith, length-drop}
 use Rattle.std.specs.Prelude.{Option, Some, None, slice_get, IfSome, All}
 use Rattle.std.specs.Option.{option_map_or}
 use Rattle.std.proofs.lemmas.Bool.Decides.{eqb_tells}
 use Rattle.std.proofs.lemmas.List.{take_all}
 use Rattle.std.proofs.lemmas.List.Elements.{All-head, All-tail}
 use Rattle.std.proofs.lemmas.List.Sums.{sum_by-cons}
-use Rattle.life_table.specs.Meaning.{IsChoice, HasState, has_state, state_of, count_of, GivesByCounts}
+use Rattle.life_table.specs.Meaning.{IsChoice, has_state, state_of, count_of, GivesByCounts}
 use Rattle.life_table.specs.Found.{Tells}
 use Rattle.life_table.specs.Valid.{is_variable}
 use Rattle.life_table.specs.Taking.{of_state, free_count, can_be_state, settled, settled_count, open_state, open_count, wanted, first_variable, IsGrouped, Completes, CompletesWith}
@@ -16,7 +16,6 @@ use Rattle.life_table.proofs.Counts.{count-cons}
 use Rattle.life_table.proofs.Grouping.{of_group, is_clash}
 use Rattle.life_table.proofs.Searching.{drop_at}
 use Rattle.life_table.specs.declared.found.Found.{Found}
-use Rattle.life_table.specs.declared.found.Found.TheVariants.{Nothing, One}
 use Rattle.life_table.specs.declared.table.Var.{Var}
 use Rattle.life_table.specs.declared.table.Entry.{Entry}
 use Rattle.life_table.specs.declared.table.Entry.TheVariants as entries

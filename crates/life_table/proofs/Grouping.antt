@@ -9,7 +9,7 @@ use Rattle.std.proofs.Math.Seq.{take-set-lt}
 use Rattle.std.proofs.lemmas.List.{get_or-take, length-take-le, take_more_set}
 use Rattle.std.proofs.lemmas.List.Sums.{sum_by-cons, sum_by_push}
 use Rattle.life_table.specs.Valid.{IsEntry, is_variable}
-use Rattle.life_table.specs.Taking.{of_state, open_state, open_count, wanted, add_to, has_group, IsDistinct, first_variable, IsGrouped, AreGroups}
+use Rattle.life_table.specs.Taking.{of_state, open_state, wanted, add_to, has_group, IsDistinct, first_variable, IsGrouped, AreGroups}
 use Rattle.life_table.proofs.Free.{of_sum, zero_of}
 use Rattle.life_table.specs.declared.table.Var.{Var}
 use Rattle.life_table.specs.declared.table.Entry.{Entry}

@@ -1,14 +1,13 @@
 -- Groups take free places.
-use Rattle.std.proofs.Common.{◌≡◌, ◌≢◌, ℕ, zero, suc, ◌+◌, ◌^◌, ◌<◌, ◌≤◌, List, [], ◌∷◌, length, drop, set, get_or, cond, nat_eq, true, false, refl, ◌⊎◌, ap, sym, ◌∙◌, subst, inl, inr, arith, slice_index, replicate, eq-eqb, ◌↔◌}
-use Rattle.std.specs.Prelude.{Option, Some, None, slice_get, slice_set, IfSome, All, IsTrue}
+use Rattle.std.proofs.Common.{◌≡◌, ℕ, zero, suc, ◌+◌, ◌^◌, ◌<◌, ◌≤◌, List, [], ◌∷◌, length, drop, set, get_or, cond, nat_eq, true, false, refl, ◌⊎◌, ap, sym, ◌∙◌, subst, inl, inr, arith, slice_index, replicate, eq-eqb, ◌↔◌}
+use Rattle.std.specs.Prelude.{Option, Some, None, slice_get, IfSome, IsTrue}
 use Rattle.std.specs.Int.{bit_at}
 use Rattle.std.proofs.Math.Seq.{drop-cons}
 use Rattle.std.proofs.Common.{add-one}
 use Rattle.std.proofs.lemmas.Bool.Decides.{eqb_tells}
 use Rattle.std.proofs.lemmas.List.{get_or-set_same, get_or-set_other, drop_all}
-use Rattle.std.proofs.lemmas.List.Elements.{All-head, All-tail}
 use Rattle.std.proofs.lemmas.List.Sums.{sum_by-cons}
-use Rattle.life_table.specs.Meaning.{IsChoice, HasState}
+use Rattle.life_table.specs.Meaning.{HasState}
 use Rattle.life_table.specs.Found.{Consistent, Tells, Adds}
 use Rattle.life_table.specs.declared.found.Found.{Found}
 use Rattle.life_table.specs.declared.found.Found.TheVariants.{Nothing, Two}

@@ -1,5 +1,5 @@
 -- What has been found of the states that a line gives.
-use Rattle.std.specs.Prelude.{◌≡◌, ◌≢◌, ℕ, List, ◌∷◌, map, ◌⊎◌, Contains}
+use Rattle.std.specs.Prelude.{◌≡◌, ◌≢◌, ℕ, List, map, ◌⊎◌, Contains}
 use Rattle.life_table.specs.Meaning.{IsChoice, state_of}
 use Rattle.life_table.specs.declared.table.Var.{Var}
 use Rattle.life_table.specs.declared.table.Entry.{Entry}

@@ -1,4 +1,4 @@
-use Rattle.std.proofs.Common.{◌≡◌, ℕ, ◌+◌, ◌-◌, ◌<◌, ◌∷◌, true, false, refl, ap, sym, ◌∙◌, subst, arith, List, length, take, drop, get_or, slice_index}
+use Rattle.std.proofs.Common.{◌≡◌, ℕ, ◌-◌, ◌∷◌, refl, sym, ◌∙◌, subst, arith, List, length, take, drop, get_or, slice_index}
 use Rattle.std.specs.Prelude.{IsTrue}
 use Rattle.std.specs.List.{list_any}
 use Rattle.life_table.specs.declared.found.Found.TheVariants.{One}

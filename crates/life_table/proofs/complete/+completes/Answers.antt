@@ -1,5 +1,5 @@
-use Rattle.std.proofs.Common.{◌≡◌, ℕ, ◌+◌, ◌<◌, true, false, refl, sym, ◌∙◌, subst, arith, length, drop}
-use Rattle.life_table.specs.Taking.{Completes, AreFailed}
+use Rattle.std.proofs.Common.{◌≡◌, ◌<◌, true, false, refl, sym, ◌∙◌, subst, arith, length, drop}
+use Rattle.life_table.specs.Taking.{AreFailed}
 use Rattle.life_table.proofs.Grouping.{no_group}
 use Rattle.life_table.proofs.Searching.{at_end, IsNone, none_more, taken_completes, taken_fails, untaken_fails, no_place, failed_more}
 use Rattle.life_table.proofs.complete.+completes.Goals as goal

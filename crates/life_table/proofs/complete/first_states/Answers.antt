@@ -1,7 +1,6 @@
-use Rattle.std.proofs.Common.{◌≡◌, ◌+◌, ◌<◌, true, false, refl, sym, ◌∙◌, subst, arith, length, drop, slice_index}
+use Rattle.std.proofs.Common.{◌≡◌, ◌+◌, true, false, refl, sym, ◌∙◌, subst, arith, length}
 use Rattle.life_table.specs.Found.{Tells}
-use Rattle.life_table.specs.Taking.{AreFailed, CompletesWith}
-use Rattle.life_table.specs.declared.found.Found.TheVariants.{Two}
+use Rattle.life_table.specs.Taking.{AreFailed}
 use Rattle.life_table.proofs.Grouping.{no_group}
 use Rattle.life_table.proofs.Searching.{none_failed, IsFoundBy, tell_more, tell_skip, tell_two, tell_all, taken_with, taken_fails, untaken_fails}
 use Rattle.life_table.proofs.complete.first_states.Goals as goal

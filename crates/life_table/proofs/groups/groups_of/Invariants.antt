@@ -1,4 +1,4 @@
-use Rattle.std.proofs.Common.{◌≡◌, ℕ, ◌+◌, ◌≤◌, take, length}
+use Rattle.std.proofs.Common.{◌+◌, ◌≤◌, take}
 use Rattle.std.specs.Prelude.{All}
 use Rattle.life_table.specs.Taking.{IsGrouped}
 use Rattle.life_table.proofs.groups.groups_of.Given as goal
