@@ -90,7 +90,7 @@ pub record CompletesWith (vars : List Var) (groups : List Group) (states : List 
   pub completes : Completes vars groups states free
   pub is : completes.choice (first_variable groups) ≡ s
 
--- where a place is marked with a number, the groups from the one before it can't take these places
+-- a set of free places that is marked with one more than the number of a group: from that group on they can't be taken
 abbrev pub AreFailed : List Var → List Group → List ℕ → List ℕ → Type 0
 AreFailed vars groups states marks = (free k : ℕ) → slice_index marks free ≡ k + 1 → ¬ (Completes vars (drop k groups) states free)
 

@@ -1,5 +1,5 @@
 //! The search for states of the open variables.
-ghost use Rattle.std.specs.Prelude.{◌≡◌, ℕ, ◌+◌, ◌-◌, ◌^◌, ◌<◌, ◌≤◌, ◌↔◌, [], slice_get, length, drop, slice_index, get_or, IfSome, IsTrue};
+ghost use Rattle.std.specs.Prelude.{◌≡◌, ◌^◌, ◌<◌, ◌≤◌, ◌↔◌, [], slice_get, length, drop, slice_index, IfSome, IsTrue};
 ghost use Rattle.std.specs.Int.{bit_at};
 ghost use Rattle.life_table.specs.Meaning.{HasState};
 ghost use Rattle.life_table.specs.Found.{Consistent, Tells};
@@ -28,8 +28,8 @@ fn with_place(vars: &[Var], group: Group, states: &[State], free: u8, place: usi
     }
 }
 
-/// Tells whether the groups from the one numbered `k` can take exactly the free places. `failed` is the number after that of the group
-/// for which the places were tried in vain last.
+/// Tells whether the groups from number `k` on can take exactly the free places. `failed` holds, for each set of free places, one more than
+/// the number of the group that failed with it last, or 0.
 fn completes(
     vars: &[Var],
     groups: &[Group],
