@@ -181,12 +181,12 @@ def table(folder):
     program, reference = proved("bench_table"), plain(folder, "plain_table")
     for symmetry in ("rotate4", "permute"):
         path = made(folder, f"table_{symmetry}.rule", symmetry, 300)
-        _, peak, text = timed([program, "1000000", "time"], path)
+        _, peak, texts = timed([program, "1000000", "time"], path)
         _, _, base = timed([reference, "1000000"], path)
-        answers = text.splitlines()[0]
-        if base.splitlines()[0] != answers:
-            sys.exit(f"{symmetry}: the answers differ: {answers}; plain {base.splitlines()[0]}")
-        took, other = number(r"(\d+) ms", text), number(r"(\d+) ms", base)
+        answers = texts[0].splitlines()[0]
+        if base[0].splitlines()[0] != answers:
+            sys.exit(f"{symmetry}: the answers differ: {answers}; plain {base[0].splitlines()[0]}")
+        took, other = least(r"(\d+) ms", texts), least(r"(\d+) ms", base)
         print(f"  under {symmetry:<20} {took:.0f} ms, plain {other:.0f} ms; {took / other:.2f} times plain, peak memory {peak / 1e6:.0f} MB; {answers}")
 
 
