@@ -1,9 +1,15 @@
-// A plain reader of RLE, to time beside: it reads its input, splits the items, keeps a run for each item of a live state,
-// and prints how many there are. It checks nothing.
+// A plain reader and writer of RLE, to time beside: it reads its input, splits the items, keeps a run for each item of a live
+// state, prints how many there are, makes the cells of the runs, and writes these cells again, with the box in the header and
+// items on lines of at most 70 bytes. It checks nothing, and knows the states b, o and A to X.
+//   plain_rle        how long the writing alone took goes to standard error
+//   plain_rle read   nothing is written
+//   plain_rle text   what was written goes to standard output in place of the counts
+#include <inttypes.h>
 #include <stdint.h>
 #include <stdio.h>
 #include <stdlib.h>
 #include <string.h>
+#include <time.h>
 
 struct run {
     int64_t x, y;
@@ -11,28 +17,32 @@ struct run {
     uint8_t state;
 };
 
-int main(void) {
-    size_t size = 0, room = 1 << 16;
-    char *input = malloc(room);
-    for (size_t count; (count = fread(input + size, 1, room - size, stdin)) > 0;) {
-        size += count;
-        if (size == room) input = realloc(input, room *= 2);
-    }
-    struct run *runs = NULL;
-    size_t count = 0, places = 0;
+struct cell {
+    int64_t x, y;
+    uint8_t state;
+};
+
+static struct run *runs;
+static size_t run_count;
+static char rule[256] = "B3/S23";
+
+static void read_runs(const char *input, size_t size) {
+    size_t places = 0;
     int64_t x = 0, y = 0;
     int header = 0, over = 0;
-    char *end = input + size;
-    for (char *at = input; at < end && !over;) {
-        char *feed = memchr(at, '\n', (size_t)(end - at));
-        char *stop = feed ? feed : end;
+    const char *end = input + size;
+    for (const char *at = input; at < end && !over;) {
+        const char *feed = memchr(at, '\n', (size_t)(end - at));
+        const char *stop = feed ? feed : end;
         if (*at == '#') {
         } else if (!header) {
             header = 1;
+            const char *named = memchr(at, 'r', (size_t)(stop - at));
+            if (named) sscanf(named, "rule = %255s", rule);
         } else {
             uint64_t number = 0;
             int has_number = 0;
-            for (char *byte = at; byte < stop; byte++) {
+            for (const char *byte = at; byte < stop; byte++) {
                 if (*byte >= '0' && *byte <= '9') {
                     number = number * 10 + (uint64_t)(*byte - '0');
                     has_number = 1;
@@ -44,8 +54,8 @@ int main(void) {
                 if (*byte == 'b' || *byte == '.') {
                     x += (int64_t)length;
                 } else if (*byte == 'o' || (*byte >= 'A' && *byte <= 'X')) {
-                    if (count == places) runs = realloc(runs, (places = places ? 2 * places : 1024) * sizeof *runs);
-                    runs[count++] = (struct run){x, y, length, *byte == 'o' ? 1 : (uint8_t)(*byte - 'A' + 1)};
+                    if (run_count == places) runs = realloc(runs, (places = places ? 2 * places : 1024) * sizeof *runs);
+                    runs[run_count++] = (struct run){x, y, length, *byte == 'o' ? 1 : (uint8_t)(*byte - 'A' + 1)};
                     x += (int64_t)length;
                 } else if (*byte == '$') {
                     y += (int64_t)length;
@@ -58,6 +68,97 @@ int main(void) {
         }
         at = stop + 1;
     }
-    printf("%zu runs\n", count);
+}
+
+// The text so far, with room to grow, and how many bytes its last line has.
+struct text {
+    char *bytes;
+    size_t size, room, used;
+};
+
+static char *space(struct text *text, size_t more) {
+    if (text->size + more > text->room) text->bytes = realloc(text->bytes, text->room = 2 * text->room + more);
+    return text->bytes + text->size;
+}
+
+static void put_item(struct text *text, uint64_t count, char state) {
+    char item[24];
+    size_t first = sizeof item;
+    item[--first] = state;
+    if (count != 1)
+        do item[--first] = (char)('0' + count % 10); while ((count /= 10) > 0);
+    size_t length = sizeof item - first;
+    char *at = space(text, length + 1);
+    if (text->used + length > 70) {
+        *at++ = '\n';
+        text->size++;
+        text->used = 0;
+    }
+    memcpy(at, item + first, length);
+    text->size += length;
+    text->used += length;
+}
+
+static struct text write_cells(const struct cell *cells, size_t count) {
+    struct text text = {malloc(1024), 0, 1024, 0};
+    int64_t left = 0, top = 0, right = -1, bottom = -1;
+    for (size_t i = 0; i < count; i++) {
+        if (i == 0 || cells[i].x < left) left = cells[i].x;
+        if (i == 0 || cells[i].y < top) top = cells[i].y;
+        if (i == 0 || cells[i].x > right) right = cells[i].x;
+        if (i == 0 || cells[i].y > bottom) bottom = cells[i].y;
+    }
+    text.size = (size_t)sprintf(text.bytes, "#CXRLE Pos=%" PRId64 ",%" PRId64 "\nx = %" PRId64 ", y = %" PRId64 ", rule = %s\n", left,
+                                top, right - left + 1, bottom - top + 1, rule);
+    int two_states = strchr(rule, '/') != NULL;
+    int64_t x = left, y = top;
+    for (size_t i = 0; i < count;) {
+        size_t next = i + 1;
+        while (next < count && cells[next].y == cells[i].y && cells[next].x == cells[next - 1].x + 1 && cells[next].state == cells[i].state)
+            next++;
+        if (cells[i].y > y) {
+            put_item(&text, (uint64_t)(cells[i].y - y), '$');
+            x = left;
+            y = cells[i].y;
+        }
+        if (cells[i].x > x) put_item(&text, (uint64_t)(cells[i].x - x), two_states ? 'b' : '.');
+        put_item(&text, next - i, two_states ? 'o' : (char)('@' + cells[i].state));
+        x = cells[next - 1].x + 1;
+        i = next;
+    }
+    put_item(&text, 1, '!');
+    *space(&text, 1) = '\n';
+    text.size++;
+    return text;
+}
+
+int main(int count, char **words) {
+    int reads_only = count == 2 && strcmp(words[1], "read") == 0, as_text = count == 2 && strcmp(words[1], "text") == 0;
+    size_t size = 0, room = 1 << 16;
+    char *input = malloc(room);
+    for (size_t more; (more = fread(input + size, 1, room - size, stdin)) > 0;) {
+        size += more;
+        if (size == room) input = realloc(input, room *= 2);
+    }
+    read_runs(input, size);
+    if (!as_text) printf("%zu runs\n", run_count);
+    if (reads_only) return 0;
+    struct cell *cells = NULL;
+    size_t cell_count = 0, places = 0;
+    for (size_t i = 0; i < run_count; i++)
+        for (uint64_t j = 0; j < runs[i].length; j++) {
+            if (cell_count == places) cells = realloc(cells, (places = places ? 2 * places : 1024) * sizeof *cells);
+            cells[cell_count++] = (struct cell){runs[i].x + (int64_t)j, runs[i].y, runs[i].state};
+        }
+    struct timespec start, stop;
+    clock_gettime(CLOCK_MONOTONIC, &start);
+    struct text text = write_cells(cells, cell_count);
+    clock_gettime(CLOCK_MONOTONIC, &stop);
+    if (as_text) {
+        fwrite(text.bytes, 1, text.size, stdout);
+        return 0;
+    }
+    printf("%zu cells in %zu bytes\n", cell_count, text.size);
+    fprintf(stderr, "written: %ld us\n", (stop.tv_sec - start.tv_sec) * 1000000 + (stop.tv_nsec - start.tv_nsec) / 1000);
     return 0;
 }

@@ -18,8 +18,8 @@ TIMES = 3
 
 
 def timed(words, source=os.devnull):
-    """The best time of a command in seconds, its peak memory in bytes, and what its best run printed."""
-    best, peak, printed = None, 0, ""
+    """The best time of a command in seconds, its peak memory in bytes, and what its runs printed."""
+    best, peak, printed = None, 0, []
     for _ in range(TIMES):
         with open(source, "rb") as given:
             start = time.monotonic()
@@ -29,8 +29,8 @@ def timed(words, source=os.devnull):
             took = time.monotonic() - start
         if status != 0:
             sys.exit(f"{' '.join(words)} on {source}: status {status}")
-        if best is None or took < best:
-            best, printed = took, text[:4096].decode("utf-8", "replace")
+        best = took if best is None else min(best, took)
+        printed.append(text[:4096].decode("utf-8", "replace"))
         peak = max(peak, usage.ru_maxrss * 1024)
     return best, peak, printed
 
@@ -49,6 +49,17 @@ def written(words, source):
         best = took if best is None else min(best, took)
         peak = max(peak, usage.ru_maxrss * 1024)
     return best, peak
+
+
+def output(words, source):
+    """What a command writes to standard output."""
+    with open(source, "rb") as given:
+        return subprocess.run(words, stdin=given, stdout=subprocess.PIPE, check=True).stdout
+
+
+def told(words, source, pattern):
+    """The least of the times that the runs of a command tell."""
+    return least(pattern, timed(words, source)[2])
 
 
 def plain(folder, name):
@@ -98,47 +109,71 @@ def macrocell(program, folder):
 def rle(folder):
     print("reading RLE, beside a plain reader in C that checks nothing")
     program, reference = proved("bench_rle"), plain(folder, "plain_rle")
+    soups = [(label, made(folder, name, "rle", size))
+             for label, name, size in (("soup of 1 MB", "soup_1e6.rle", 1_000_000), ("soup of 10 MB", "soup_1e7.rle", 10_000_000))]
     times = []
-    for label, name, size in (("soup of 1 MB", "soup_1e6.rle", 1_000_000), ("soup of 10 MB", "soup_1e7.rle", 10_000_000)):
-        path = made(folder, name, "rle", size)
-        took, peak, _ = timed([program], path)
-        base, base_peak, _ = timed([reference], path)
+    for label, path in soups:
+        took, peak, _ = timed([program, "read"], path)
+        base, base_peak, _ = timed([reference, "read"], path)
         times.append(took)
         print(f"  {label:<26} {took:.3f} s, plain {base:.3f} s; {took / base:.2f} times plain, peak memory {peak / 1e6:.0f} MB, plain {base_peak / 1e6:.0f} MB")
     print(f"  10 times the bytes take {times[1] / times[0]:.1f} times as long")
+    print("writing the cells that were read, the writing alone, beside a plain writer in C")
+    times = []
+    for label, path in soups:
+        took, base = told([program], path, r"written: (\d+) us"), told([reference], path, r"written: (\d+) us")
+        times.append(took)
+        if output([program, "text"], path) != output([reference, "text"], path):
+            sys.exit(f"{path}: the two programs write other bytes")
+        print(f"  {label:<26} {took / 1000:.1f} ms, plain {base / 1000:.1f} ms; {took / base:.2f} times plain, the same bytes")
+    print(f"  10 times the bytes take {times[1] / times[0]:.1f} times as long")
 
 
-def number(pattern, text):
-    found = re.search(pattern, text)
-    return float(found.group(1)) if found else float("nan")
+def least(pattern, texts):
+    """The least of the numbers that the runs printed for a pattern."""
+    return min(float(found.group(1)) if found else float("nan") for found in (re.search(pattern, text) for text in texts))
 
 
 def store(folder):
     print("the shared store, beside a plain hash-consing store in C")
-    _, peak, text = timed([proved("bench_quad")])
-    _, _, base = timed([plain(folder, "plain_quad")])
+    _, peak, texts = timed([proved("bench_quad")])
+    _, base_peak, base = timed([plain(folder, "plain_quad")])
     for what in ("fresh joins", "found joins"):
-        took, other = number(what + r": (\d+) ms", text), number(what + r" \d+ (\d+)", base)
+        took, other = least(what + r": (\d+) ms", texts), least(what + r" \d+ (\d+)", base)
         print(f"  4,000,000 {what:<16} {took:.0f} ms, plain {other:.0f} ms; {took / other:.2f} times plain")
-    nodes = number(r"runs: \d+ ms, nodes (\d+)", text)
-    runs, full = number(r"runs: (\d+) ms", text), number(r"full square: (\d+) ms", text)
-    print(f"  10,000 calls of put_run    {runs:.0f} ms; {nodes:.0f} nodes at the end, {peak / nodes:.0f} bytes a node at the peak")
+    nodes = least(r"runs: \d+ ms, nodes (\d+)", texts)
+    runs, full = least(r"runs: (\d+) ms", texts), least(r"full square: (\d+) ms", texts)
+    print(f"  10,000 calls of put_run    {runs:.0f} ms; {nodes:.0f} nodes at the end, {peak / nodes:.0f} bytes a node at the peak,"
+          f" plain {base_peak / 4e6:.0f} bytes")
     print(f"  population and bounds of a full square of level 60: {full:.0f} ms")
 
 
 def strips(folder):
     print("filling a store row by row, beside a plain bottom-up filler in C")
     program, reference = proved("bench_strips"), plain(folder, "plain_strips")
-    times = []
+    times, others, listings = [], [], []
     for runs in (1_000_000, 10_000_000):
-        _, peak, text = timed([program, str(runs), "time"])
-        _, _, base = timed([reference, str(runs)])
-        took, other = number(r"squares\n(\d+) ms", text), number(r"(\d+) ms", base)
-        squares, other_squares = number(r"(\d+) squares", text), number(r"(\d+) squares", base)
+        _, peak, texts = timed([program, str(runs), "time"])
+        _, base_peak, base = timed([reference, str(runs)])
+        took, other = least(r"runs: \d+ squares in (\d+) ms", texts), least(r"(\d+) ms", base)
+        squares, other_squares = least(r"runs: (\d+) squares", texts), least(r"(\d+) squares", base)
         times.append(took)
+        others.append(other)
         print(f"  soup of {runs:>10,} runs: {took:.0f} ms, plain {other:.0f} ms; {took / other:.2f} times plain; {squares:.0f} squares, plain {other_squares:.0f};"
-              f" peak memory {peak / 1e6:.0f} MB")
-    print(f"  10 times the runs take {times[1] / times[0]:.1f} times as long")
+              f" peak memory {peak / 1e6:.0f} MB ({peak / squares:.0f} bytes a square), plain {base_peak / 1e6:.0f} MB")
+    print(f"  10 times the runs take {times[1] / times[0]:.1f} times as long, in C {others[1] / others[0]:.1f} times")
+    print(f"  50,000 rows of 2^60 cells: {least(r'2.60 cells: [0-9]+ squares in ([0-9]+) ms', texts):.0f} ms")
+    for runs in (1_000_000, 10_000_000):
+        for line in timed([program, str(runs)])[2][0].splitlines():
+            print(f"  {line}")
+    for runs in (1_000_000, 10_000_000):
+        _, peak, texts = timed([program, str(runs), "cells"])
+        for what in ("runs", "single cells"):
+            cells, took = least(what + r": (\d+) cells", texts), least(what + r": \d+ cells in (\d+) ms", texts)
+            listings.append(took)
+            print(f"  the list of {cells:>10,.0f} cells of {'a soup' if what == 'runs' else 'single cells'}: {took:.0f} ms,"
+                  f" {took * 1e6 / cells / 60:.1f} ns a cell and level")
+    print(f"  10 times the cells take {listings[2] / listings[0]:.1f} times as long in a soup, {listings[3] / listings[1]:.1f} times as single cells")
 
 
 def table(folder):
@@ -146,12 +181,12 @@ def table(folder):
     program, reference = proved("bench_table"), plain(folder, "plain_table")
     for symmetry in ("rotate4", "permute"):
         path = made(folder, f"table_{symmetry}.rule", symmetry, 300)
-        _, peak, text = timed([program, "1000000", "time"], path)
+        _, peak, texts = timed([program, "1000000", "time"], path)
         _, _, base = timed([reference, "1000000"], path)
-        answers = text.splitlines()[0]
-        if base.splitlines()[0] != answers:
-            sys.exit(f"{symmetry}: the answers differ: {answers}; plain {base.splitlines()[0]}")
-        took, other = number(r"(\d+) ms", text), number(r"(\d+) ms", base)
+        answers = texts[0].splitlines()[0]
+        if base[0].splitlines()[0] != answers:
+            sys.exit(f"{symmetry}: the answers differ: {answers}; plain {base[0].splitlines()[0]}")
+        took, other = least(r"(\d+) ms", texts), least(r"(\d+) ms", base)
         print(f"  under {symmetry:<20} {took:.0f} ms, plain {other:.0f} ms; {took / other:.2f} times plain, peak memory {peak / 1e6:.0f} MB; {answers}")
 
 

@@ -1,7 +1,7 @@
 #!/bin/sh
-# The population of a square of a plain store must not compile: a plain store keeps equal squares under several Ids, so the
-# bound `SharedSquares` refuses it. Exits 0 exactly if the compiler refuses the call for that bound, and accepts the same file
-# with the shared store. Run it from anywhere; it works on a copy and changes nothing.
+# The population and the bounds of a square of a plain store must not compile: a plain store keeps equal squares under several
+# Ids, so the bound `SharedSquares` refuses it. Exits 0 exactly if the compiler refuses each call for that bound and for nothing
+# else, and accepts the same file with the shared store. Run it from anywhere; it works on a copy and changes nothing.
 set -eu
 top=$(cd "$(dirname "$0")/.." && pwd)
 copy=$(mktemp -d)
@@ -16,20 +16,21 @@ done
 grep -E '^life_(base|quad):' "$top/crates.txt" > "$copy/crates.txt"
 echo 'caller: life_quad life_base' >> "$copy/crates.txt"
 
-# A caller of `population` with the store $1, without proofs: only whether it compiles is asked.
+# A caller of the function $2 with the store $1, without proofs: only whether it compiles is asked.
 compile() {
     cat > "$copy/crates/caller/src/lib.rt" <<CALLER
-//! A caller of \`population\`.
+//! A caller of \`$2\`.
 #![tactic(auto)]
 
 use life_base::Kind;
-use life_quad::{$1, Squares, population};
+use life_quad::{$1, Squares, $2};
 use std::alloc::Global;
 
-/// The population of a blank square.
-pub fn count(alloc: Global, squares: &$1) -> Result<u128, Kind> {
+/// Asks about a blank square.
+pub fn ask(alloc: Global, squares: &$1) -> Result<(), Kind> {
     let id = squares.empty(1);
-    population(alloc, squares, id)
+    let _answer = $2(alloc, squares, id)?;
+    Ok(())
 }
 
 #[cfg(test)]
@@ -41,13 +42,20 @@ CALLER
     (cd "$copy/crates/caller" && rt try --test > "$copy/log" 2>&1)
 }
 
-if ! compile Shared; then
-    echo 'the shared store was refused:'
-    cat "$copy/log"
-    exit 1
-fi
-if compile Plain; then
-    echo 'the plain store was accepted'
-    exit 1
-fi
-grep -q 'error\[unsatisfied-bound\]: the trait bound `Plain: SharedSquares` is not satisfied' "$copy/log"
+refusal='error[unsatisfied-bound]: the trait bound `Plain: SharedSquares` is not satisfied'
+for call in population bounds; do
+    if ! compile Shared $call; then
+        echo "$call at the shared store was refused:"
+        cat "$copy/log"
+        exit 1
+    fi
+    if compile Plain $call; then
+        echo "$call at the plain store was accepted"
+        exit 1
+    fi
+    if ! grep -qF "$refusal" "$copy/log" || [ "$(grep -c 'error\[' "$copy/log")" != 1 ]; then
+        echo "$call at the plain store was refused for something else:"
+        cat "$copy/log"
+        exit 1
+    fi
+done

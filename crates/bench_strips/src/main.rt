@@ -1,49 +1,67 @@
-//! How many squares the filling of a store makes, and where an argument asks for it, how long it takes.
+//! How many squares the filling of a store makes, and how long the calls take.
 //!
-//! `bench_strips [RUNS] [time]`: a soup of so many runs, 1,000,000 by default, and 50,000 rows of 2^60 cells.
+//! `bench_strips [RUNS] [time|cells]`, where RUNS is 1,000,000 by default:
+//!
+//! - with neither word it fills a store with a soup of so many runs, another with 50,000 rows of 2^60 cells, and says how many
+//!   squares it made and how many of them the answer has;
+//! - `time` says how long the filling of these two took;
+//! - `cells` says how long it took to list the cells of the soup, and of a hundredth as many single cells far from one another.
 #![tactic(auto)]
 
+mod patterns;
+mod reach;
 mod soup;
 
 use life_quad::Shared;
-use soup::{soup, stripes};
+use patterns::{Pattern, listed};
+use reach::reached;
 use std::time::Instant;
 use std::{env, io};
 
+#[derive(Clone, Copy, PartialEq, Eq)]
+enum Task {
+    Count,
+    Time,
+    Cells,
+}
+
 fn main(rt: HostRuntime) -> io::Result<()> {
     let mut runs = 1_000_000;
-    let mut timed = false;
+    let mut task = Task::Count;
     for word in env::args(&rt)? {
-        if word.as_str() == "time" {
-            timed = true;
-        } else if let Ok(number) = word.as_str().parse::<u32>() {
-            runs = number;
+        match word.as_str() {
+            "time" => task = Task::Time,
+            "cells" => task = Task::Cells,
+            other => runs = other.parse::<u32>().unwrap_or(runs),
         }
     }
-    let width = if runs > 3_000_000 { 7000 } else { 2200 };
-
-    let mut store = Shared::new(rt.alloc(), 1 << 40);
-    let start = Instant::now(&rt)?;
-    let answer = soup(rt.alloc(), &mut store, runs, width);
-    let spent = start.elapsed(&rt)?;
-    match answer {
-        Ok(_) => println!(rt; "soup of {runs} runs: {} squares", store.len())?,
-        Err(_) => println!(rt; "soup refused")?,
-    }
-    if timed {
-        println!(rt; "{} ms", spent.as_millis())?;
-    }
-
-    let mut store = Shared::new(rt.alloc(), 1 << 40);
-    let start = Instant::now(&rt)?;
-    let answer = stripes(rt.alloc(), &mut store, 50_000);
-    let spent = start.elapsed(&rt)?;
-    match answer {
-        Ok(_) => println!(rt; "50000 rows of 2^60 cells: {} squares", store.len())?,
-        Err(_) => println!(rt; "rows refused")?,
-    }
-    if timed {
-        println!(rt; "{} ms", spent.as_millis())?;
+    let second = if task == Task::Cells {
+        Pattern::Scattered(runs / 100)
+    } else {
+        Pattern::Stripes(50_000)
+    };
+    for pattern in [Pattern::Soup(runs), second] {
+        let mut store = Shared::new(rt.alloc(), 1 << 40);
+        let start = Instant::now(&rt)?;
+        let answer = pattern.fill(rt.alloc(), &mut store);
+        let filling = start.elapsed(&rt)?.as_millis();
+        let Ok(root) = answer else {
+            println!(rt; "{pattern}: refused")?;
+            continue;
+        };
+        let start = Instant::now(&rt)?;
+        match task {
+            Task::Count => {
+                let used = reached(rt.alloc(), &store, root).unwrap_or(0);
+                println!(rt; "{pattern}: {} squares, {used} in the answer", store.len())?;
+            }
+            Task::Time => println!(rt; "{pattern}: {} squares in {filling} ms", store.len())?,
+            Task::Cells => {
+                let count = listed(rt.alloc(), &store, root).unwrap_or(0);
+                let listing = start.elapsed(&rt)?.as_millis();
+                println!(rt; "{pattern}: {count} cells in {listing} ms")?;
+            }
+        }
     }
     Ok(())
 }

@@ -1,5 +1,7 @@
 //! Patterns made up by a fixed rule.
 ghost use Rattle.std.specs.Prelude.{◌≡◌, ℕ, ℤ, pos, ◌+◌, ◌-◌, ◌<◌, ◌≤◌, ◌<ℤ◌, ◌≤ℤ◌, ◌^◌, ◌⊎◌, Contains, IfOk, OnOk};
+ghost use Rattle.life_base.specs.Tree.{depth};
+ghost use Rattle.life_base.specs.declared.cell.TheConstants.{MAX_LEVEL};
 ghost use Rattle.life_quad.specs.declared.id.Id.{Id as IdValue};
 ghost use Rattle.bench_strips.specs.Soup.{HasCome};
 
@@ -100,6 +102,7 @@ pub(crate) fn soup<S: Squares>(
 ) -> Result<Id, Kind>
     requires width { width ≤ 2 ^ 20 }
     ensures known { IfOk result (S.knows squares.new) }
+    ensures level { IfOk result (λ r. depth (S.content squares.new r) ≡ MAX_LEVEL) }
 {
     let mut builder = Builder::new(alloc);
     let mut stretch = Stretch {
@@ -119,10 +122,27 @@ pub(crate) fn soup<S: Squares>(
 /// The square of whole rows of the plane, every other one.
 pub(crate) fn stripes<S: Squares>(alloc: Global, squares: &mut S, rows: u32) -> Result<Id, Kind>
     ensures known { IfOk result (S.knows squares.new) }
+    ensures level { IfOk result (λ r. depth (S.content squares.new r) ≡ MAX_LEVEL) }
 {
     let mut builder = Builder::new(alloc);
     for row in 0..rows {
         builder.add_run(squares, -(1 << 59), i64::from(row) * 2, 1 << 60, 1)?;
+    }
+    builder.finish(squares)
+}
+
+/// The square of single cells that lie far from one another, one in every 2^26 rows.
+pub(crate) fn scattered<S: Squares>(alloc: Global, squares: &mut S, count: u32) -> Result<Id, Kind>
+    ensures known { IfOk result (S.knows squares.new) }
+    ensures level { IfOk result (λ r. depth (S.content squares.new r) ≡ MAX_LEVEL) }
+{
+    let mut builder = Builder::new(alloc);
+    let mut seed: u64 = 1;
+    for row in 0..count {
+        seed = seed
+            .wrapping_mul(6364136223846793005)
+            .wrapping_add(1442695040888963407);
+        builder.add_run(squares, (seed >> 6) as i64, i64::from(row) * 67108864, 1, 1)?;
     }
     builder.finish(squares)
 }

@@ -6,6 +6,42 @@ use Rattle.life_base.specs.Refusal.{Prefix, IsPlace, IsRefusal, BreaksBy, kept, 
 use Rattle.life_base.specs.declared.kind.Kind.{Kind}
 use Rattle.life_base.specs.declared.fault.Fault.{Fault}
 
+module _ (Grammar : List (List ℕ) → Type 0) where
+  no_later : (lines : List (List ℕ)) (n m : ℕ) → IsPlace Grammar lines n → IsPlace Grammar lines m → n < m → ⊥
+  no_later lines n m p q h = p.here (omega (arith, q.within)) (q.before n h)
+
+  one_place : (lines : List (List ℕ)) (n m : ℕ) → IsPlace Grammar lines n → IsPlace Grammar lines m → n ≡ m
+  one_place lines n m p q = omega (arith, no_later lines n m p q, no_later lines m n q p)
+
+one_kind : (one other : Fault) → one.place.line ≡ other.place.line → one.kind ≡ other.kind → one ≡ other
+one_kind one other e f =
+    ap (λ (n : ℕ). record { place = record { line = n }; kind = one.kind }) e
+    ∙ ap (λ (kind : Kind). record { place = record { line = other.place.line }; kind = kind }) f
+
+some_same : (a b : Kind) (o : Option Kind) → o ≡ Some a → o ≡ Some b → a ≡ b
+some_same a b o h k = cc
+
+within_or_behind : (n m : ℕ) → (n ≤ m) ⊎ (m < n)
+within_or_behind n m = grind arith
+
+-- each line breaks one kind of rule first
+abbrev pub BreaksOnce : (List (List ℕ) → List ℕ → Kind → Type 0) → Type 0
+BreaksOnce Breaks = (front : List (List ℕ)) (line : List ℕ) (a b : Kind) → Breaks front line a → Breaks front line b → a ≡ b
+
+module _ (Grammar : List (List ℕ) → Type 0) (Breaks : List (List ℕ) → List ℕ → Kind → Type 0) (missing : List (List ℕ) → Option Kind) where
+  -- Then a refused file has one fault.
+  pub one_refusal : BreaksOnce Breaks → (lines : List (List ℕ)) (one other : Fault)
+      → IsRefusal Grammar Breaks missing lines one → IsRefusal Grammar Breaks missing lines other → one ≡ other
+  one_refusal once lines one other h k =
+      let same : h.n ≡ k.n = one_place Grammar lines h.n k.n h.place k.place in
+      let lines_same : one.place.line ≡ other.place.line = h.line ∙ ap (λ (n : ℕ). min n (2 ^ 64 - 1)) same ∙ sym k.line in
+      one_kind one other lines_same (elim (within_or_behind h.n (length lines)) [
+        | inl within ↦
+            let other_at : Breaks (take (h.n - 1) lines) (get_or lines (h.n - 1) []) other.kind = rw same (k.at_line (omega arith)) in
+            once _ _ one.kind other.kind (h.at_line within) other_at
+        | inr behind ↦ some_same one.kind other.kind (missing lines) (h.at_end behind) (k.at_end (omega arith))
+      ])
+
 module _ (Grammar : List (List ℕ) → Type 0) (broken : List (List ℕ) → List ℕ → Option Kind) (missing : List (List ℕ) → Option Kind) where
   -- none of the first n lines breaks a rule
   abbrev pub UnbrokenBelow : List (List ℕ) → ℕ → Type 0
@@ -16,35 +52,10 @@ module _ (Grammar : List (List ℕ) → Type 0) (broken : List (List ℕ) → Li
     pub sound : (lines : List (List ℕ)) → Grammar lines → UnbrokenBelow lines (length lines)
     pub complete : (lines : List (List ℕ)) → UnbrokenBelow lines (length lines) → Prefix Grammar lines
 
-  no_later : (lines : List (List ℕ)) (n m : ℕ) → IsPlace Grammar lines n → IsPlace Grammar lines m → n < m → ⊥
-  no_later lines n m p q h = p.here (omega (arith, q.within)) (q.before n h)
-
-  one_place : (lines : List (List ℕ)) (n m : ℕ) → IsPlace Grammar lines n → IsPlace Grammar lines m → n ≡ m
-  one_place lines n m p q = omega (arith, no_later lines n m p q, no_later lines m n q p)
-
-  one_kind : (one other : Fault) → one.place.line ≡ other.place.line → one.kind ≡ other.kind → one ≡ other
-  one_kind one other e f =
-      ap (λ (n : ℕ). record { place = record { line = n }; kind = one.kind }) e
-      ∙ ap (λ (kind : Kind). record { place = record { line = other.place.line }; kind = kind }) f
-
-  some_same : (a b : Kind) (o : Option Kind) → o ≡ Some a → o ≡ Some b → a ≡ b
-  some_same a b o h k = cc
-
-  within_or_behind : (n m : ℕ) → (n ≤ m) ⊎ (m < n)
-  within_or_behind n m = grind arith
-
   -- A refused file has one fault.
   pub refusal_unique : (lines : List (List ℕ)) (one other : Fault)
       → IsRefusal Grammar (BreaksBy broken) missing lines one → IsRefusal Grammar (BreaksBy broken) missing lines other → one ≡ other
-  refusal_unique lines one other h k =
-      let same : h.n ≡ k.n = one_place lines h.n k.n h.place k.place in
-      let lines_same : one.place.line ≡ other.place.line = h.line ∙ ap (λ (n : ℕ). min n (2 ^ 64 - 1)) same ∙ sym k.line in
-      one_kind one other lines_same (elim (within_or_behind h.n (length lines)) [
-        | inl within ↦
-            let other_at : broken (take (h.n - 1) lines) (get_or lines (h.n - 1) []) ≡ Some other.kind = rw same (k.at_line (omega arith)) in
-            some_same one.kind other.kind _ (h.at_line within) other_at
-        | inr behind ↦ some_same one.kind other.kind (missing lines) (h.at_end behind) (k.at_end (omega arith))
-      ])
+  refusal_unique = one_refusal Grammar (BreaksBy broken) missing (λ front line a b. some_same a b (broken front line))
 
   module _ (by_lines : IsByLines) where
     -- no line of the front of a file breaks a rule

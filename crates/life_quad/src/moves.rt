@@ -4,6 +4,7 @@ ghost use Rattle.life_base.specs.declared.kind.Kind.TheVariants.{Full, Memory};
 ghost use Rattle.life_quad.specs.declared.id.Id.{Id as IdValue};
 ghost use Rattle.life_base.specs.Tree.{Tree, quad, depth, is_blank_tree};
 ghost use Rattle.life_quad.specs.Moves.{grown, trimmed, inner, can_trim};
+ghost use Rattle.life_quad.specs.Refused.{SomePart, SomeTrimmed};
 
 use crate::{Id, Squares};
 use life_base::{Kind, MAX_LEVEL};
@@ -54,6 +55,7 @@ pub fn grow<S: Squares>(squares: &mut S, id: Id) -> Result<Id, Kind>
     ensures most { S.most squares.new ≡ S.most squares.old }
     ensures refusals { IfErr result (λ e. (e ≡ Full) ⊎ (e ≡ Memory)) }
     ensures full { result ≡ Err Full → length (S.stored squares.new) ≡ S.most squares.new }
+    ensures needed { OnErr result (SomePart (S.needs_node squares.new) (grown (S.content squares.old id))) }
 {
     let Quarters { nw, ne, sw, se } = divide(squares, id);
     let e = squares.empty(squares.level(nw));
@@ -75,6 +77,7 @@ fn middle<S: Squares>(squares: &mut S, id: Id) -> Result<Id, Kind>
     ensures most { S.most squares.new ≡ S.most squares.old }
     ensures refusals { IfErr result (λ e. (e ≡ Full) ⊎ (e ≡ Memory)) }
     ensures full { result ≡ Err Full → length (S.stored squares.new) ≡ S.most squares.new }
+    ensures needed { OnErr result (S.needs_node squares.new (inner (S.content squares.old id))) }
 {
     let whole = divide(squares, id);
     let nw = divide(squares, whole.nw);
@@ -133,6 +136,7 @@ pub fn trim<S: Squares>(squares: &mut S, id: Id, least: u8) -> Result<Id, Kind>
     ensures most { S.most squares.new ≡ S.most squares.old }
     ensures refusals { IfErr result (λ e. (e ≡ Full) ⊎ (e ≡ Memory)) }
     ensures full { result ≡ Err Full → length (S.stored squares.new) ≡ S.most squares.new }
+    ensures needed { OnErr result (SomeTrimmed (S.needs_node squares.new) (S.content squares.old id) least) }
 {
     if !can_be_trimmed(squares, id, least) {
         return Ok(id);

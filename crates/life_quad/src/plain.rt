@@ -1,11 +1,11 @@
 //! A store that keeps each join as a node of its own.
-ghost use Rattle.std.specs.Prelude.{◌≡◌, ℕ, ◌<◌, ◌≤◌, ◌^◌, ◌+◌, [], ◌∷◌, ◌++◌, length, false, ◌↔◌, ◌⊎◌, Err, OnOk, OnErr, IfOk, IfErr, slice_get, option_copied};
+ghost use Rattle.std.specs.Prelude.{◌≡◌, ℕ, ◌<◌, ◌≤◌, ◌^◌, ◌+◌, [], ◌∷◌, ◌++◌, length, false, ◌↔◌, ◌⊎◌, Err, OnOk, OnErr, IfOk, IfErr};
 ghost use Rattle.life_base.specs.declared.kind.Kind.TheVariants.{Full, Memory};
 ghost use Rattle.life_base.specs.Tree.{is_blank_tree};
 ghost use Rattle.life_quad.specs.StoreLaws.{full_content, low_content};
 ghost use Rattle.life_quad.specs.Store.{squares, square_of, held, Knows, IsNode, IsSound, IsIdOf};
 
-use crate::id::{CELLS, FIRST_NODE, Node, are_blank};
+use crate::id::{FIRST_NODE, Node, are_blank};
 use crate::{Id, Squares};
 use life_base::{Kind, State};
 use std::alloc::Global;
@@ -26,13 +26,6 @@ impl Model for Plain {
     ghost view = { λ s. record { nodes = s.nodes.items; limit = s.limit } };
 
     ghost invariant = { λ s. IsSound (record { nodes = s.nodes.items; limit = s.limit }) };
-}
-
-// The node at an index.
-fn node_at(nodes: &[Node], index: usize) -> Option<&Node>
-    ensures { option_copied result ≡ slice_get nodes.now index }
-{
-    nodes.get(index)
 }
 
 impl Plain {
@@ -84,16 +77,12 @@ impl Squares for Plain {
 
     fn empty(&self, level: u8) -> Id {
         let _ = &self.limit;
-        if level == 0 {
-            Id(0)
-        } else {
-            Id(255 + level as u64)
-        }
+        Id::of_blank(level)
     }
 
     fn cell(&self, state: State) -> Id {
         let _ = &self.limit;
-        Id(state as u64)
+        Id::of_cell(state)
     }
 
     fn join(&mut self, nw: Id, ne: Id, sw: Id, se: Id) -> Result<Id, Kind> {
@@ -111,32 +100,15 @@ impl Squares for Plain {
     }
 
     fn parts(&self, id: Id) -> Option<[Id; 4]> {
-        if id.0 < CELLS {
-            return None;
-        }
-        if id.0 < FIRST_NODE {
-            let e = self.empty((id.0 - CELLS) as u8);
-            return Some([e, e, e, e]);
-        }
-        let node = node_at(self.nodes.as_slice(), (id.0 - FIRST_NODE) as usize)?;
-        Some([node.nw, node.ne, node.sw, node.se])
+        id.parts(self.nodes.as_slice())
     }
 
     fn state(&self, id: Id) -> Option<State> {
-        if id.0 < CELLS { Some(id.0 as u8) } else { None }
+        id.state()
     }
 
     fn level(&self, id: Id) -> u8 {
-        if id.0 < CELLS {
-            0
-        } else if id.0 < FIRST_NODE {
-            (id.0 - CELLS) as u8 + 1
-        } else {
-            match node_at(self.nodes.as_slice(), (id.0 - FIRST_NODE) as usize) {
-                Some(node) => node.level,
-                None => 0,
-            }
-        }
+        id.level(self.nodes.as_slice())
     }
 
     ghost full = { full_content };

@@ -1,10 +1,11 @@
 //! Runs of cells.
-ghost use Rattle.std.specs.Prelude.{◌≡◌, ◌⊎◌, ℤ, pos, neg_ℤ, ◌≤ℤ◌, ◌<ℤ◌, ◌+ℤ◌, ◌-◌, ◌+◌, ◌^◌, ◌<◌, ◌≤◌, length, Contains, Err, IfOk, IfErr};
+ghost use Rattle.std.specs.Prelude.{◌≡◌, ◌⊎◌, ℤ, pos, neg_ℤ, ◌≤ℤ◌, ◌<ℤ◌, ◌+ℤ◌, ◌-◌, ◌+◌, ◌^◌, ◌<◌, ◌≤◌, length, Contains, Err, IfOk, IfErr, OnErr};
 ghost use Rattle.life_base.specs.declared.kind.Kind.TheVariants.{Full, Memory};
 ghost use Rattle.life_quad.specs.declared.id.Id.{Id as IdValue};
 ghost use Rattle.life_base.specs.Tree.{Tree, depth};
 ghost use Rattle.life_quad.specs.Span.{SetsSpan, SetsHalves};
 ghost use Rattle.life_quad.specs.Cells.{IsRunInside, SetsRun};
+ghost use Rattle.life_quad.specs.Refused.{SomePart};
 
 use crate::moves::{Quarters, divide};
 use crate::{Id, Squares};
@@ -52,6 +53,7 @@ fn set_span<S: Squares>(
     ensures most { S.most squares.new ≡ S.most squares.old }
     ensures refusals { IfErr result (λ e. (e ≡ Full) ⊎ (e ≡ Memory)) }
     ensures full { result ≡ Err Full → length (S.stored squares.new) ≡ S.most squares.new }
+    ensures needed { OnErr result ((t : Tree) × SetsSpan (S.content squares.old id) t column row len state × SomePart (S.needs_node squares.new) t) }
 {
     let level = squares.level(id);
     if level == 0 {
@@ -96,6 +98,7 @@ fn set_halves<S: Squares>(
     ensures most { S.most squares.new ≡ S.most squares.old }
     ensures refusals { IfErr result (λ e. (e ≡ Full) ⊎ (e ≡ Memory)) }
     ensures full { result ≡ Err Full → length (S.stored squares.new) ≡ S.most squares.new }
+    ensures needed { OnErr result ((a b : Tree) × SetsHalves (S.content squares.old left) (S.content squares.old right) a b column row len state × (SomePart (S.needs_node squares.new) a ⊎ SomePart (S.needs_node squares.new) b)) }
 {
     let end = column + len;
     if end <= half {
@@ -136,6 +139,7 @@ pub fn put_run<S: Squares>(
     ensures most { S.most squares.new ≡ S.most squares.old }
     ensures refusals { IfErr result (λ e. (e ≡ Full) ⊎ (e ≡ Memory)) }
     ensures full { result ≡ Err Full → length (S.stored squares.new) ≡ S.most squares.new }
+    ensures needed { OnErr result ((t : Tree) × SetsRun (S.content squares.old root) t x y len state × SomePart (S.needs_node squares.new) t) }
 {
     let half = half_side(squares.level(root));
     set_span(squares, root, offset(x, half), offset(y, half), len, state)

@@ -4,7 +4,7 @@ ghost use Rattle.life_base.specs.declared.kind.Kind.TheVariants.{Full, Memory};
 ghost use Rattle.life_quad.specs.declared.id.Id.{Id as IdValue};
 ghost use Rattle.life_base.specs.Tree.{Tree, depth, is_blank_tree};
 
-use crate::id::{CELLS, FIRST_NODE, Node, are_blank};
+use crate::id::{FIRST_NODE, Node, are_blank};
 use crate::{Id, SharedSquares, Squares};
 use indexmap::IndexSet;
 use life_base::{Kind, State};
@@ -100,16 +100,12 @@ impl Squares for Shared {
 
     fn empty(&self, level: u8) -> Id {
         let _ = &self.limit;
-        if level == 0 {
-            Id(0)
-        } else {
-            Id(255 + level as u64)
-        }
+        Id::of_blank(level)
     }
 
     fn cell(&self, state: State) -> Id {
         let _ = &self.limit;
-        Id(state as u64)
+        Id::of_cell(state)
     }
 
     fn join(&mut self, nw: Id, ne: Id, sw: Id, se: Id) -> Result<Id, Kind> {
@@ -127,32 +123,15 @@ impl Squares for Shared {
     }
 
     fn parts(&self, id: Id) -> Option<[Id; 4]> {
-        if id.0 < CELLS {
-            return None;
-        }
-        if id.0 < FIRST_NODE {
-            let e = self.empty((id.0 - CELLS) as u8);
-            return Some([e, e, e, e]);
-        }
-        let node = self.nodes.get_index((id.0 - FIRST_NODE) as usize)?;
-        Some([node.nw, node.ne, node.sw, node.se])
+        id.parts(self.nodes.as_slice())
     }
 
     fn state(&self, id: Id) -> Option<State> {
-        if id.0 < CELLS { Some(id.0 as u8) } else { None }
+        id.state()
     }
 
     fn level(&self, id: Id) -> u8 {
-        if id.0 < CELLS {
-            0
-        } else if id.0 < FIRST_NODE {
-            (id.0 - CELLS) as u8 + 1
-        } else {
-            match self.nodes.get_index((id.0 - FIRST_NODE) as usize) {
-                Some(node) => node.level,
-                None => 0,
-            }
-        }
+        id.level(self.nodes.as_slice())
     }
 
     ghost full = { λ s id h. full_content s id h.0 };

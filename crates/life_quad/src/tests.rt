@@ -8,7 +8,7 @@ use crate::{
     Bounds, Id, Plain, Shared, SharedSquares, Squares, bounds, cells, grow, population, put_run,
     trim,
 };
-use life_base::{Cell, Kind};
+use life_base::{Cell, Kind, MAX_LEVEL};
 use std::alloc::Global;
 use std::test::Fail;
 
@@ -38,36 +38,86 @@ fn put<S: Squares>(
     put_run(squares, root, x, y, len, state)
 }
 
-// Two long runs in the greatest square.
-fn long_runs(alloc: Global, squares: &mut Shared) -> Result<(u128, Option<Bounds>, u128), Kind> {
-    let root = squares.empty(60);
-    let west = -(1 << 59);
-    let one = put(squares, root, west, 0, 1 << 60, 1)?;
+// A row of the greatest square, all its cells in state 1.
+fn whole_row<S: Squares>(squares: &mut S, root: Id, y: i64) -> Result<Id, Kind>
+    requires { S.knows squares.old root }
+    ensures known { IfOk result (S.knows squares.new) }
+    ensures level { IfOk result (λ r. depth (S.content squares.new r) ≡ depth (S.content squares.old root)) }
+    ensures high { IfOk result (λ r. 1 ≤ depth (S.content squares.new r)) }
+{
+    put(squares, root, -(1 << 59), y, 1 << 60, 1)
+}
+
+// Two rows of the greatest square: the population and the box of the first, and the population of both.
+fn two_rows<S: SharedSquares>(
+    alloc: Global,
+    squares: &mut S,
+) -> Result<(u128, Option<Bounds>, u128), Kind> {
+    let root = squares.empty(MAX_LEVEL);
+    let one = whole_row(squares, root, 0)?;
     let first = population(alloc, squares, one)?;
     let least = bounds(alloc, squares, one)?;
-    let two = put(squares, one, west, 1, 1 << 60, 1)?;
+    let two = whole_row(squares, one, 1)?;
     Ok((first, least, population(alloc, squares, two)?))
 }
 
 #[test]
 fn long_runs_share(rt: HostRuntime) -> Result<(), Fail> {
     let mut squares = Shared::new(rt.alloc(), 1000);
-    let (first, least, second) = long_runs(rt.alloc(), &mut squares)?;
+    let (first, least, both) = two_rows(rt.alloc(), &mut squares)?;
     assert_eq!(rt; first, 1152921504606846976);
-    assert_eq!(rt;
-        least,
-        Some(Bounds {
-            left: -576460752303423488,
-            top: 0,
-            right: 576460752303423487,
-            bottom: 0
-        })
-    );
-    assert_eq!(rt; second, 2305843009213693952);
+    let row = Bounds {
+        left: -576460752303423488,
+        top: 0,
+        right: 576460752303423487,
+        bottom: 0,
+    };
+    assert_eq!(rt; least, Some(row));
+    assert_eq!(rt; both, 2305843009213693952);
     assert_eq!(rt; squares.limit(), 1000);
+    Ok(())
+}
+
+// A row of the greatest square needs a node of each level from 1 up.
+#[test]
+fn a_long_run_needs_60_nodes(rt: HostRuntime) -> Result<(), Fail> {
     let mut small = Shared::new(rt.alloc(), 59);
-    assert_eq!(rt; long_runs(rt.alloc(), &mut small), Err(Kind::Full));
+    let root = small.empty(MAX_LEVEL);
+    assert_eq!(rt; whole_row(&mut small, root, 0), Err(Kind::Full));
     assert_eq!(rt; small.len(), 59);
+    let mut enough = Shared::new(rt.alloc(), 60);
+    let root = enough.empty(MAX_LEVEL);
+    let _row = whole_row(&mut enough, root, 0)?;
+    assert_eq!(rt; enough.len(), 60);
+    Ok(())
+}
+
+// The population and the box of the greatest square with each cell in state 1.
+fn full_square<S: SharedSquares>(
+    alloc: Global,
+    squares: &mut S,
+) -> Result<(u128, Option<Bounds>), Kind> {
+    let mut id = squares.cell(1);
+    for _level in 0..MAX_LEVEL {
+        id = squares.join(id, id, id, id)?;
+    }
+    Ok((population(alloc, squares, id)?, bounds(alloc, squares, id)?))
+}
+
+// It has 2^120 cells in 60 nodes: the test ends only if each node is visited once.
+#[test]
+fn a_full_square_is_measured_at_once(rt: HostRuntime) -> Result<(), Fail> {
+    let mut squares = Shared::new(rt.alloc(), 60);
+    let plane = Bounds {
+        left: -576460752303423488,
+        top: -576460752303423488,
+        right: 576460752303423487,
+        bottom: 576460752303423487,
+    };
+    assert_eq!(rt;
+        full_square(rt.alloc(), &mut squares)?,
+        (1329227995784915872903807060280344576, Some(plane))
+    );
     Ok(())
 }
 
@@ -90,8 +140,8 @@ fn orders_do_not_matter(rt: HostRuntime) -> Result<(), Fail> {
     Ok(())
 }
 
-// The levels of squares with one cell after trimming, and a square grown and trimmed again.
-fn trims<S: Squares>(squares: &mut S) -> Result<([u8; 5], Id, Id), Kind> {
+// The levels of squares of level 9 with one cell after trimming: (4, 0) with the least levels 1 and 3, then (0, 0).
+fn trims<S: Squares>(squares: &mut S) -> Result<[u8; 4], Kind> {
     let blank = squares.empty(9);
     let a = put(squares, blank, 4, 0, 1, 1)?;
     let a1 = trim(squares, a, 1)?;
@@ -99,28 +149,43 @@ fn trims<S: Squares>(squares: &mut S) -> Result<([u8; 5], Id, Id), Kind> {
     let b = put(squares, blank, 0, 0, 1, 1)?;
     let b1 = trim(squares, b, 1)?;
     let b3 = trim(squares, b, 3)?;
-    let small = squares.empty(4);
-    let four = put(squares, small, 4, 0, 1, 1)?;
-    let grown = grow(squares, four)?;
-    let back = trim(squares, grown, 1)?;
-    let levels = [
+    Ok([
         squares.level(a1),
         squares.level(a3),
         squares.level(b1),
         squares.level(b3),
-        squares.level(grown),
+    ])
+}
+
+// A square of level 4 that is grown and trimmed again: the grown one, the three levels, and whether one Id came back.
+fn grown_and_back<S: Squares>(squares: &mut S) -> Result<(Id, [u8; 3], bool), Kind>
+    ensures known { IfOk result (λ r. S.knows squares.new r.0) }
+    ensures high { IfOk result (λ r. 1 ≤ depth (S.content squares.new r.0)) }
+{
+    let blank = squares.empty(4);
+    let four = put(squares, blank, 4, 0, 1, 1)?;
+    let five = grow(squares, four)?;
+    let back = trim(squares, five, 1)?;
+    let levels = [
+        squares.level(four),
+        squares.level(five),
+        squares.level(back),
     ];
-    Ok((levels, back, a1))
+    Ok((five, levels, back == four))
 }
 
 #[test]
 fn squares_are_trimmed(rt: HostRuntime) -> Result<(), Fail> {
     let mut squares = Shared::new(rt.alloc(), 1000);
-    let (levels, back, square) = trims(&mut squares)?;
-    assert_eq!(rt; levels, [4, 4, 1, 3, 5]);
-    assert_eq!(rt; back, square);
+    assert_eq!(rt; trims(&mut squares)?, [4, 4, 1, 3]);
+    let (grown, levels, same) = grown_and_back(&mut squares)?;
+    assert_eq!(rt; levels, [4, 5, 4]);
+    assert_eq!(rt; population(rt.alloc(), &squares, grown)?, 1);
+    assert!(rt; same);
     let mut plain = Plain::new(rt.alloc(), 1000);
-    assert_eq!(rt; trims(&mut plain)?.0, [4, 4, 1, 3, 5]);
+    assert_eq!(rt; trims(&mut plain)?, [4, 4, 1, 3]);
+    let (_grown, levels, _same) = grown_and_back(&mut plain)?;
+    assert_eq!(rt; levels, [4, 5, 4]);
     Ok(())
 }
 

@@ -11,7 +11,6 @@ use Rattle.life_base.specs.Text.{begins_with, words_of}
 use Rattle.life_rle.specs.Position.{signed_number, Field, Corner, Generation, Other, default_position, corner_of, corner_in, field_of, with_field, and_then, position_with, position_of}
 use Rattle.life_base.specs.Numbers.{u64_of}
 use Rattle.life_base.specs.Text.{is_digit_text, value_of}
-use Rattle.life_base.specs.Refusal.{is_placeless}
 use Rattle.life_rle.specs.declared.file.Run.{Run}
 use Rattle.life_rle.specs.declared.cursor.Cursor.{Cursor}
 use Rattle.life_rle.specs.declared.item.Item.{Item}
@@ -22,7 +21,7 @@ use Rattle.life_rle.specs.Plane.{edge, is_coordinate}
 use Rattle.life_rle.specs.Pattern.{Rle, Placed, placed, placed_item, placed_behind, first_fault, item_fault, rows_in, columns_in}
 use Rattle.life_rle.specs.Runs.{runs_of}
 use Rattle.life_rle.specs.declared.opening.Opening.TheVariants.{Comment, PositionLine, Header}
-use Rattle.life_rle.specs.Grammar.{opening_of, later_of, IsPreamble, IsUnmarked, IsRle, Breaks, before_header, by_form, by_text, by_item}
+use Rattle.life_rle.specs.Grammar.{opening_of, later_of, IsPreamble, IsUnmarked, IsRle, Breaks, before_header, by_form, by_text, by_item, is_rle_kind}
 use Rattle.life_rle.specs.declared.opening.Later.TheVariants.{Passed, Data}
 use Rattle.life_rle.specs.File.{HasRuns}
 use Rattle.life_rle.specs.Cursor.{IsBehind, start_of, moved, moved_behind, placed_at}
@@ -93,7 +92,7 @@ abbrev IsPlaneField : ℕ → Result Field Kind → Type 0
 IsPlaneField level (Ok (Corner x y)) = (is_coordinate level x ≡ true) × (is_coordinate level y ≡ true)
 IsPlaneField level (Ok (Generation n)) = Unit {0}
 IsPlaneField level (Ok Other) = Unit {0}
-IsPlaneField level (Err kind) = is_placeless kind ≡ false
+IsPlaneField level (Err kind) = is_rle_kind kind ≡ true
 
 and_both : (a b : Bool) → (a && b) ≡ true → (a ≡ true) × (b ≡ true)
 and_both true b e = (refl, e)
@@ -122,7 +121,7 @@ field_of-plane level text =
 
 abbrev pub IsPlanePosition : ℕ → Result Position Kind → Type 0
 IsPlanePosition level (Ok o) = IsInPlane level o
-IsPlanePosition level (Err kind) = is_placeless kind ≡ false
+IsPlanePosition level (Err kind) = is_rle_kind kind ≡ true
 
 with_field-plane : (level : ℕ) (o : Position) (r : Result Field Kind) (next : Field → Result Position Kind) → IsInPlane level o → IsPlaneField level r → ((found : Field) → IsInPlane level (with_field o found) → IsPlanePosition level (next found)) → IsPlanePosition level (and_then r next)
 with_field-plane level o (Ok (Corner x y)) next h k f = f (Corner x y) k

@@ -1,9 +1,10 @@
--- Each rule that a line breaks is one of a line, and what a line is before the header stands in the plane.
+-- Each rule that a line breaks is of a kind of the format, and what a line is before the header stands in the plane.
 use Rattle.std.proofs.Common.{◌≡◌, ℕ, Bool, true, false, not, cond, ◌&&◌, ◌||◌, List, [], ◌∷◌, ◌++◌, refl, sym, ◌∙◌, subst, inl, inr, Some, None, Ok, Err, Option, Result, ℤ, pos, ◌+ℤ◌, arith, codes, w64}
 use mir.Val.{to_z, of_z}
 use Rattle.std.proofs.lemmas.Int.{ints, to_z-of_z}
 use Rattle.std.specs.Prelude.{int_lt, int_le}
 use Rattle.life_base.specs.declared.kind.Kind.{Kind}
+use Rattle.life_base.specs.declared.kind.Kind.TheVariants as kinds
 use Rattle.life_base.specs.declared.kind.Kind.TheVariants.{LineTooLong, NoHeader, LateHeader, SecondHeader, BadRule, BoundedGrid, UnsupportedRule, BirthOnZero, StateRange, OutOfPlane}
 use Rattle.life_base.specs.declared.rule.Rule.{Rule}
 use Rattle.life_base.specs.Rules.{rule_of}
@@ -23,40 +24,40 @@ use Rattle.life_rle.specs.Pattern.{item_fault, rows_in, columns_in}
 use Rattle.life_rle.specs.States.{is_state_of}
 use Rattle.life_rle.specs.declared.opening.Opening.{Opening}
 use Rattle.life_rle.specs.declared.opening.Opening.TheVariants.{Comment, PositionLine, Header}
-use Rattle.life_rle.specs.Grammar.{opening_of, later_of, Breaks, before_header, by_form, by_text, by_item}
+use Rattle.life_rle.specs.Grammar.{opening_of, later_of, Breaks, before_header, by_form, by_text, by_item, is_rle_kind}
 use Rattle.life_rle.specs.declared.opening.Later.{Later}
 use Rattle.life_rle.specs.declared.opening.Later.TheVariants.{Passed, Data}
-use Rattle.life_rle.proofs.ReadItems.{Broken-placed}
+use Rattle.life_rle.proofs.ReadItems.{Broken-kind}
 use Rattle.life_rle.proofs.Advance.{IsInPlane, IsPlanePosition, position_of-plane}
 
-abbrev IsPlaced : {A : Type 0} → Result A Kind → Type 0
-IsPlaced (Ok a) = Unit {0}
-IsPlaced (Err kind) = is_placeless kind ≡ false
+abbrev HasKind : {A : Type 0} → Result A Kind → Type 0
+HasKind (Ok a) = Unit {0}
+HasKind (Err kind) = is_rle_kind kind ≡ true
 
-rule-kind_placed : (kind : Kind) → is_rule_kind kind ≡ true → is_placeless kind ≡ false
-rule-kind_placed BadRule h = refl
-rule-kind_placed BoundedGrid h = refl
-rule-kind_placed UnsupportedRule h = refl
-rule-kind_placed BirthOnZero h = refl
-rule-kind_placed _ h = cc
+rule-kind_of_rle : (kind : Kind) → is_rule_kind kind ≡ true → is_rle_kind kind ≡ true
+rule-kind_of_rle BadRule h = refl
+rule-kind_of_rle BoundedGrid h = refl
+rule-kind_of_rle UnsupportedRule h = refl
+rule-kind_of_rle BirthOnZero h = refl
+rule-kind_of_rle _ h = cc
 
-rule-placed_as : (text : List ℕ) (r : Result Rule Kind) → rule_of text ≡ r → IsPlaced r
-rule-placed_as text (Ok rule) e = tt
-rule-placed_as text (Err kind) e = rule-kind_placed kind (rule_kind text kind e)
+rule-kind_as : (text : List ℕ) (r : Result Rule Kind) → rule_of text ≡ r → HasKind r
+rule-kind_as text (Ok rule) e = tt
+rule-kind_as text (Err kind) e = rule-kind_of_rle kind (rule_kind text kind e)
 
-rule-placed : (text : List ℕ) → IsPlaced (rule_of text)
-rule-placed text = rule-placed_as text (rule_of text) refl
+rule-kind : (text : List ℕ) → HasKind (rule_of text)
+rule-kind text = rule-kind_as text (rule_of text) refl
 
-header-placed : (o : Option (Option (List ℕ))) → IsPlaced (rule_in o)
-header-placed None = refl
-header-placed (Some None) = tt
-header-placed (Some (Some text)) = rule-placed text
+header-kind : (o : Option (Option (List ℕ))) → HasKind (rule_in o)
+header-kind None = refl
+header-kind (Some None) = tt
+header-kind (Some (Some text)) = rule-kind text
 
 abbrev pub IsTameOpening : ℕ → Result Opening Kind → Type 0
 IsTameOpening level (Ok Comment) = Unit {0}
 IsTameOpening level (Ok (PositionLine o)) = IsInPlane level o
 IsTameOpening level (Ok (Header rule)) = Unit {0}
-IsTameOpening level (Err kind) = is_placeless kind ≡ false
+IsTameOpening level (Err kind) = is_rle_kind kind ≡ true
 
 opening-choice : (level : ℕ) (long blank position comment header : Bool) (p h : Result Opening Kind) → IsTameOpening level p → IsTameOpening level h
     → IsTameOpening level (cond long (Err LineTooLong) (cond blank (Ok Comment) (cond position p (cond comment (Ok Comment) (cond header h (Err NoHeader))))))
@@ -71,7 +72,7 @@ position-tame : (level : ℕ) (r : Result Position Kind) → IsPlanePosition lev
 position-tame level (Ok o) h = h
 position-tame level (Err kind) h = h
 
-header-tame : (level : ℕ) (r : Result Rule Kind) → IsPlaced r → IsTameOpening level (and_then r (λ rule. Ok (Header rule)))
+header-tame : (level : ℕ) (r : Result Rule Kind) → HasKind r → IsTameOpening level (and_then r (λ rule. Ok (Header rule)))
 header-tame level (Ok rule) h = tt
 header-tame level (Err kind) h = h
 
@@ -79,9 +80,9 @@ pub opening-tame : (level : ℕ) (line : List ℕ) → IsTameOpening level (open
 opening-tame level line =
     opening-choice level (is_too_long line) (is_blank line) (is_position_line line) (begins_with line (codes "#")) (begins_with line (codes "x"))
     (and_then (position_of level line) (λ position. Ok (PositionLine position))) (and_then (header_of line) (λ rule. Ok (Header rule)))
-    (position-tame level (position_of level line) (position_of-plane level line)) (header-tame level (header_of line) (header-placed (header_form line)))
+    (position-tame level (position_of level line) (position_of-plane level line)) (header-tame level (header_of line) (header-kind (header_form line)))
 
-later-choice : (long blank position comment header : Bool) → IsPlaced (cond long (Err LineTooLong) (cond blank (Ok Passed) (cond position (Err LateHeader) (cond comment (Ok Passed) (cond header (Err SecondHeader) (Ok Data))))))
+later-choice : (long blank position comment header : Bool) → HasKind (cond long (Err LineTooLong) (cond blank (Ok Passed) (cond position (Err LateHeader) (cond comment (Ok Passed) (cond header (Err SecondHeader) (Ok Data))))))
 later-choice true b c d e = refl
 later-choice false true c d e = tt
 later-choice false false true d e = refl
@@ -89,31 +90,53 @@ later-choice false false false true e = tt
 later-choice false false false false true = refl
 later-choice false false false false false = tt
 
-later-placed : (line : List ℕ) → IsPlaced (later_of line)
-later-placed line = later-choice (is_too_long line) (is_blank line) (is_position_line line) (begins_with line (codes "#")) (begins_with line (codes "x ") || begins_with line (codes "x="))
+later-kind : (line : List ℕ) → HasKind (later_of line)
+later-kind line = later-choice (is_too_long line) (is_blank line) (is_position_line line) (begins_with line (codes "#")) (begins_with line (codes "x ") || begins_with line (codes "x="))
 
-text-placed : (level : ℕ) (items : List Item) (bytes : List ℕ) (kind : Kind) → Spells level bytes items (Broken kind) → is_placeless kind ≡ false
-text-placed level [] bytes kind h = Broken-placed level bytes kind h
-text-placed level (item ∷ items) bytes kind h = text-placed level items h.0 kind h.2
+text-kind : (level : ℕ) (items : List Item) (bytes : List ℕ) (kind : Kind) → Spells level bytes items (Broken kind) → is_rle_kind kind ≡ true
+text-kind level [] bytes kind h = Broken-kind level bytes kind h
+text-kind level (item ∷ items) bytes kind h = text-kind level items h.0 kind h.2
 
 abbrev IsLive : Option Kind → Type 0
 IsLive None = Unit {0}
-IsLive (Some kind) = is_placeless kind ≡ false
+IsLive (Some kind) = is_rle_kind kind ≡ true
 
 cells-choice : (state inside : Bool) → IsLive (cond state (Some StateRange) (cond inside None (Some OutOfPlane)))
 cells-choice true inside = refl
 cells-choice false true = tt
 cells-choice false false = refl
 
-item-placed : (level : ℕ) (rule : Rule) (row column : ℤ) (item : Item) → IsLive (item_fault level rule row column item)
-item-placed level rule row column (Cells n s) = cells-choice (not (is_state_of rule s)) (int_lt row (edge level) && int_le (column +ℤ pos n) (edge level))
-item-placed level rule row column (RowEnds n) = elim (int_le (row +ℤ pos n) (edge level)) as (λ t. IsLive (cond t None (Some OutOfPlane))) [ true ↦ tt | false ↦ refl ]
+item-kind : (level : ℕ) (rule : Rule) (row column : ℤ) (item : Item) → IsLive (item_fault level rule row column item)
+item-kind level rule row column (Cells n s) = cells-choice (not (is_state_of rule s)) (int_lt row (edge level) && int_le (column +ℤ pos n) (edge level))
+item-kind level rule row column (RowEnds n) = elim (int_le (row +ℤ pos n) (edge level)) as (λ t. IsLive (cond t None (Some OutOfPlane))) [ true ↦ tt | false ↦ refl ]
+
+pub Breaks-kind : (level : ℕ) (front : List (List ℕ)) (line : List ℕ) (kind : Kind) → Breaks level front line kind → is_rle_kind kind ≡ true
+Breaks-kind level front line kind (before_header o h e) = subst (IsTameOpening level) e (opening-tame level line)
+Breaks-kind level front line kind (by_form file h e) = let P : Result Later Kind → Type 0 = λ r. HasKind r in subst P e (later-kind line)
+Breaks-kind level front line kind (by_text file items h form s sound) = text-kind level items line kind s
+Breaks-kind level front line kind (by_item file items item rest h form s sound fault) = subst IsLive fault (item-kind level file.rule (file.position.y +ℤ pos (rows_in (file.items ++ items))) (file.position.x +ℤ pos (columns_in (file.items ++ items))) item)
+
+-- each of these kinds names a line
+pub names_line : (kind : Kind) → is_rle_kind kind ≡ true → is_placeless kind ≡ false
+names_line kinds.NoHeader h = refl
+names_line kinds.BadHeader h = refl
+names_line kinds.BadRule h = refl
+names_line kinds.BoundedGrid h = refl
+names_line kinds.UnsupportedRule h = refl
+names_line kinds.BirthOnZero h = refl
+names_line kinds.BadNumber h = refl
+names_line kinds.TooLarge h = refl
+names_line kinds.BadItem h = refl
+names_line kinds.ZeroCount h = refl
+names_line kinds.StateRange h = refl
+names_line kinds.OutOfPlane h = refl
+names_line kinds.LateHeader h = refl
+names_line kinds.SecondHeader h = refl
+names_line kinds.LineTooLong h = refl
+names_line _ h = cc
 
 pub Breaks-placed : (level : ℕ) (front : List (List ℕ)) (line : List ℕ) (kind : Kind) → Breaks level front line kind → is_placeless kind ≡ false
-Breaks-placed level front line kind (before_header o h e) = subst (IsTameOpening level) e (opening-tame level line)
-Breaks-placed level front line kind (by_form file h e) = let P : Result Later Kind → Type 0 = λ r. IsPlaced r in subst P e (later-placed line)
-Breaks-placed level front line kind (by_text file items h form s sound) = text-placed level items line kind s
-Breaks-placed level front line kind (by_item file items item rest h form s sound fault) = subst IsLive fault (item-placed level file.rule (file.position.y +ℤ pos (rows_in (file.items ++ items))) (file.position.x +ℤ pos (columns_in (file.items ++ items))) item)
+Breaks-placed level front line kind b = names_line kind (Breaks-kind level front line kind b)
 
 pub same_place : (z : ℤ) → is_coordinate MAX_LEVEL z ≡ true → to_z w64 (of_z w64 z) ≡ z
 same_place z e = grind (arith, ints, to_z-of_z)

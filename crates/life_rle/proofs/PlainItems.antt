@@ -1,11 +1,11 @@
 -- A line spells items exactly if it is their texts with whitespace between.
-use Rattle.std.proofs.Common.{◌≡◌, ◌↔◌, ℕ, ◌+◌, ◌-◌, ◌*◌, ◌<◌, ◌≤◌, true, false, cond, ◌&&◌, ◌||◌, List, [], ◌∷◌, ◌++◌, take, drop, refl, sym, ap, ◌∙◌, subst, inl, inr, ◌⊎◌, Some, None, Option, arith, append_assoc, eqb, ltb, leb}
+use Rattle.std.proofs.Common.{◌≡◌, ◌↔◌, ℕ, ◌+◌, ◌-◌, ◌*◌, ◌<◌, ◌≤◌, true, false, cond, ◌&&◌, ◌||◌, List, [], ◌∷◌, ◌++◌, refl, sym, ap, ◌∙◌, subst, inl, inr, ◌⊎◌, Some, None, Option, arith, append_assoc, eqb, ltb, leb}
 use Rattle.std.proofs.lemmas.Bool.Decides.{nat_tests}
 use Rattle.std.proofs.lemmas.List.{take-append-drop}
 use Rattle.std.specs.Char.{is_ascii_digit}
 use Rattle.std.specs.List.{list_all, prefix_len}
 use Rattle.life_base.specs.declared.kind.Kind.TheVariants.{ZeroCount, TooLarge}
-use Rattle.life_base.specs.Text.{is_whitespace, is_blank, is_digit_text, trim_start, value_of}
+use Rattle.life_base.specs.Text.{is_whitespace, is_blank, trim_start, value_of}
 use Rattle.life_rle.specs.States.{state_at, with_rest, first_state, single_state, prefixed_state, prefixed_number}
 use Rattle.life_rle.specs.declared.item.Item.{Item}
 use Rattle.life_rle.specs.declared.item.Item.TheVariants.{Cells, RowEnds}
@@ -13,7 +13,7 @@ use Rattle.life_rle.specs.Plane.{most_count}
 use Rattle.life_rle.specs.Items.{front_digits, behind_digits, Next, End, Mark, Spelled, Broken, cells_of, item_behind, counted, item_in, next_of, Spells}
 use Rattle.life_rle.specs.Plain.{IsStateText, letter_b, dot, letter_o, letter, prefixed, IsCountText, IsItemText, IsTextOf, ItemsArePlain}
 use Rattle.life_rle.proofs.FrontDigits.{list_all-front}
-use Rattle.life_rle.proofs.Texts.{both_true, Stops, front-stop, behind-stop, IsTag, digit-plain, IsTag-letter}
+use Rattle.life_rle.proofs.Texts.{both_true, IsTag, IsTag-letter, next_of-tag, next_of-digits}
 
 -- whitespace in front is passed over
 pub trim_start-space : (space text : List ℕ) → is_blank space ≡ true → trim_start (space ++ text) ≡ trim_start text
@@ -21,36 +21,6 @@ trim_start-space [] text h = refl
 trim_start-space (b ∷ space) text h =
     let parts = both_true (is_whitespace b) (is_blank space) h in
     ap (λ t. cond t (trim_start (space ++ text)) (b ∷ (space ++ text))) parts.0 ∙ trim_start-space space text parts.1
-
-pub IsTag-Stops : (tag : List ℕ) → IsTag tag → Stops is_ascii_digit tag
-IsTag-Stops [] h = absurd h
-IsTag-Stops (b ∷ bytes) h = h.1
-
--- a state or `$` without a count
-next_of-tag : (level : ℕ) (tag : List ℕ) → IsTag tag → next_of level tag ≡ item_behind 1 tag
-next_of-tag level [] h = absurd h
-next_of-tag level (b ∷ bytes) h =
-    let trimmed : trim_start (b ∷ bytes) ≡ b ∷ bytes = ap (λ t. cond t (trim_start bytes) (b ∷ bytes)) h.0 in
-    ap (item_in level) trimmed
-    ∙ ap (λ t. cond t Mark (counted level (front_digits (b ∷ bytes)) (behind_digits (b ∷ bytes)))) h.2
-    ∙ ap (λ n. counted level (take n (b ∷ bytes)) (drop n (b ∷ bytes))) (ap (λ t. cond t (1 + prefix_len is_ascii_digit bytes) 0) h.1)
-
--- a state or `$` behind digits
-next_of-digits : (level n : ℕ) (digits tag : List ℕ) → is_digit_text digits ≡ true → n ≡ value_of digits → 0 < n → n ≤ most_count level → IsTag tag → next_of level (digits ++ tag) ≡ item_behind n tag
-next_of-digits level n [] tag h v low high t = cc
-next_of-digits level n (d ∷ digits) tag h v low high t =
-    let parts = both_true (is_ascii_digit d) (list_all is_ascii_digit digits) h in
-    let plain = digit-plain d parts.0 in
-    let trimmed : trim_start ((d ∷ digits) ++ tag) ≡ (d ∷ digits) ++ tag = ap (λ t. cond t (trim_start (digits ++ tag)) (d ∷ (digits ++ tag))) plain.0 in
-    let some : eqb n 0 ≡ false = grind (arith, nat_tests) in
-    let few : ltb (most_count level) n ≡ false = grind (arith, nat_tests) in
-    ap (item_in level) trimmed
-    ∙ ap (λ t. cond t Mark (counted level (front_digits ((d ∷ digits) ++ tag)) (behind_digits ((d ∷ digits) ++ tag)))) plain.1
-    ∙ ap (λ front. counted level front (behind_digits ((d ∷ digits) ++ tag))) (front-stop is_ascii_digit (d ∷ digits) tag h (IsTag-Stops tag t))
-    ∙ ap (counted level (d ∷ digits)) (behind-stop is_ascii_digit (d ∷ digits) tag h (IsTag-Stops tag t))
-    ∙ ap (λ m. cond (eqb m 0) (Broken ZeroCount) (cond (ltb (most_count level) m) (Broken TooLarge) (item_behind m tag))) (sym v)
-    ∙ ap (λ t. cond t (Broken ZeroCount) (cond (ltb (most_count level) n) (Broken TooLarge) (item_behind n tag))) some
-    ∙ ap (λ t. cond t (Broken TooLarge) (item_behind n tag)) few
 
 next_of-count : (level count : ℕ) (digits tag : List ℕ) → IsCountText level digits count → IsTag tag → next_of level (digits ++ tag) ≡ item_behind count tag
 next_of-count level count digits tag (inl h) t =

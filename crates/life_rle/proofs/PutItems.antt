@@ -1,5 +1,5 @@
 -- What is put on lines one after another is the text of the lines.
-use Rattle.std.proofs.Common.{◌≡◌, ℕ, zero, suc, ◌+◌, ◌≤◌, ◌<◌, Bool, true, false, cond, List, [], ◌∷◌, ◌++◌, length, map, refl, sym, ap, ◌∙◌, arith, append_assoc, leb, eqb}
+use Rattle.std.proofs.Common.{◌≡◌, ℕ, zero, suc, ◌+◌, ◌-◌, ◌≤◌, ◌<◌, Bool, true, false, cond, drop, decimal, List, [], ◌∷◌, ◌++◌, length, map, refl, sym, ap, ◌∙◌, arith, append_assoc, leb, eqb}
 use Rattle.std.specs.Prelude.{flat_map}
 use Rattle.std.proofs.lemmas.Bool.Decides.{nat_tests}
 use Rattle.std.proofs.lemmas.List.{append-nil, length-append}
@@ -15,37 +15,50 @@ pub tag-short : (rule : Rule) (item : Item) → length (tag_text rule item) ≤ 
 tag-short rule (Cells n s) = state_text-short rule s
 tag-short rule (RowEnds n) = omega arith
 
-item_text-parts : (rule : Rule) (item : Item) → item_text rule item ≡ count_text (item_count item) ++ tag_text rule item
+pub item_text-parts : (rule : Rule) (item : Item) → item_text rule item ≡ count_text (item_count item) ++ tag_text rule item
 item_text-parts rule (Cells n s) = refl
 item_text-parts rule (RowEnds n) = refl
 
-used_behind-short : (used len : ℕ) → used ≤ 70 → len ≤ 70 → used_behind used len ≤ 70
-used_behind-short used len h k =
-    elim (leb (used + len) 70) as (λ t. leb (used + len) 70 ≡ t → cond t (used + len) len ≤ 70) [ true ↦ λ e. grind (arith, nat_tests) | false ↦ λ e. k ] refl
+-- without a count
+pub item_text-one : (rule : Rule) (item : Item) → item_count item ≡ 1 → item_text rule item ≡ tag_text rule item
+item_text-one rule item e = item_text-parts rule item ∙ ap (λ n. count_text n ++ tag_text rule item) e
 
-four : (a b c d e : List ℕ) → (((a ++ b) ++ c) ++ d) ++ e ≡ a ++ (b ++ ((c ++ d) ++ e))
-four a b c d e = append_assoc ((a ++ b) ++ c) d e ∙ append_assoc (a ++ b) c (d ++ e) ∙ append_assoc a b (c ++ (d ++ e)) ∙ ap (λ t. a ++ (b ++ t)) (sym (append_assoc c d e))
+-- with a count
+pub item_text-counted : (rule : Rule) (item : Item) → (item_count item ≡ 1 → ⊥) → item_text rule item ≡ decimal (item_count item) ++ tag_text rule item
+item_text-counted rule item h =
+    let e : eqb (item_count item) 1 ≡ false = grind (arith, nat_tests) in
+    item_text-parts rule item ∙ ap (λ (t : Bool). cond t [] (decimal (item_count item)) ++ tag_text rule item) e
 
--- one item, from its parts
-pub put-item : (rule : Rule) (used : ℕ) (item : Item) (count old room counted new : List ℕ) (next : ℕ) → used ≤ 70 → length count ≤ 40 → count ≡ count_text (item_count item)
-    → next ≡ used_behind used (length count + length (tag_text rule item)) → room ≡ old ++ feed used (length count + length (tag_text rule item))
-    → counted ≡ room ++ count → new ≡ counted ++ tag_text rule item → Puts rule used (item ∷ []) old next new
-put-item rule used item count old room counted new next h short c n r k e =
-    let tag = tag_text rule item in
-    let small = tag-short rule item in
-    let whole : length (item_text rule item) ≡ length count + length tag =
-    ap length (item_text-parts rule item) ∙ ap (λ (t : List ℕ). length (t ++ tag)) (sym c) ∙ length-append count tag in
-    let same : count ++ tag ≡ item_text rule item = ap (λ t. t ++ tag) c ∙ sym (item_text-parts rule item) in
-    let fits : used_behind used (length count + length tag) ≤ 70 = used_behind-short used (length count + length tag) h (omega arith) in
+-- an item whose text fits on the line
+pub put-here : (rule : Rule) (used : ℕ) (item : Item) (start : ℕ) (room old new : List ℕ) → start + length (item_text rule item) ≡ 23 → drop start room ≡ item_text rule item
+    → (used + (23 - start)) ≤ 70 → new ≡ old ++ drop start room → Puts rule used (item ∷ []) old (used + (23 - start)) new
+put-here rule used item start room old new s t fits e =
+    let len : 23 - start ≡ length (item_text rule item) = omega (arith, s) in
+    let test : leb (used + length (item_text rule item)) 70 ≡ true = grind (arith, nat_tests) in
     record {
-      short = omega (arith, n, fits);
+      short = fits;
       text = λ more.
-          let rest = λ (m : ℕ). items_text rule (used_behind used m) more in
-          ap (λ t. t ++ items_text rule next more) (e ∙ ap (λ t. t ++ tag) (k ∙ ap (λ t. t ++ count) r))
-          ∙ ap (λ m. (((old ++ feed used (length count + length tag)) ++ count) ++ tag) ++ items_text rule m more) n
-          ∙ four old (feed used (length count + length tag)) count tag (rest (length count + length tag))
-          ∙ ap (λ t. old ++ (feed used (length count + length tag) ++ (t ++ rest (length count + length tag)))) same
-          ∙ ap (λ m. old ++ (feed used m ++ (item_text rule item ++ rest m))) (sym whole);
+          let rest = λ (n : ℕ). items_text rule n more in
+          ap (λ n. new ++ rest (used + n)) len
+          ∙ ap (λ t. t ++ rest (used + length (item_text rule item))) (e ∙ ap (λ t. old ++ t) t)
+          ∙ append_assoc old (item_text rule item) (rest (used + length (item_text rule item)))
+          ∙ ap (λ (c : Bool). old ++ (cond c [] (10 ∷ []) ++ (item_text rule item ++ rest (cond c (used + length (item_text rule item)) (length (item_text rule item)))))) (sym test);
+    }
+
+-- an item whose text begins the next line
+pub put-below : (rule : Rule) (used : ℕ) (item : Item) (start : ℕ) (room old new : List ℕ) → start + length (item_text rule item) ≡ 23 → drop start room ≡ item_text rule item
+    → 70 < (used + (23 - start)) → new ≡ old ++ (10 ∷ drop start room) → Puts rule used (item ∷ []) old (23 - start) new
+put-below rule used item start room old new s t full e =
+    let len : 23 - start ≡ length (item_text rule item) = omega (arith, s) in
+    let test : leb (used + length (item_text rule item)) 70 ≡ false = grind (arith, nat_tests) in
+    record {
+      short = omega arith;
+      text = λ more.
+          let rest = λ (n : ℕ). items_text rule n more in
+          ap (λ n. new ++ rest n) len
+          ∙ ap (λ t. t ++ rest (length (item_text rule item))) (e ∙ ap (λ t. old ++ (10 ∷ t)) t)
+          ∙ append_assoc old (10 ∷ item_text rule item) (rest (length (item_text rule item)))
+          ∙ ap (λ (c : Bool). old ++ (cond c [] (10 ∷ []) ++ (item_text rule item ++ rest (cond c (used + length (item_text rule item)) (length (item_text rule item)))))) (sym test);
     }
 
 -- nothing

@@ -26,7 +26,7 @@ IsShort (negsuc n) = suc n < 2 ^ 64
 not_minus : (d : ℕ) → is_ascii_digit d ≡ true → eqb d 45 ≡ false
 not_minus d h = grind (arith, nat_tests)
 
-signed_number-digits : (digits : List ℕ) → is_digit_text digits ≡ true → signed_number digits ≡ Some (pos (value_of digits))
+pub signed_number-digits : (digits : List ℕ) → is_digit_text digits ≡ true → signed_number digits ≡ Some (pos (value_of digits))
 signed_number-digits [] h = cc
 signed_number-digits (d ∷ digits) h =
     ap (λ t. cond (t && true) (cond (is_digit_text digits) (Some (neg_ℤ (pos (value_of digits)))) None) (cond (is_digit_text (d ∷ digits)) (Some (pos (value_of (d ∷ digits)))) None)) (not_minus d (both_true (is_ascii_digit d) (list_all is_ascii_digit digits) h).0)
@@ -52,7 +52,7 @@ is_plain b = not (is_whitespace b) && not (eqb b 44)
 digit-is_plain : (b : ℕ) → is_ascii_digit b ≡ true → is_plain b ≡ true
 digit-is_plain b h = grind (arith, nat_tests)
 
-digits-plain : (digits : List ℕ) → list_all is_ascii_digit digits ≡ true → list_all is_plain digits ≡ true
+pub digits-plain : (digits : List ℕ) → list_all is_ascii_digit digits ≡ true → list_all is_plain digits ≡ true
 digits-plain [] h = refl
 digits-plain (d ∷ digits) h =
     let parts = both_true (is_ascii_digit d) (list_all is_ascii_digit digits) h in
@@ -63,7 +63,7 @@ signed-plain (pos n) h = digits-plain (decimal n) (digits-all (decimal n) (decim
 signed-plain (negsuc n) h = digits-plain (decimal (suc n)) (digits-all (decimal (suc n)) (decimal-is_digit_text (suc n) h))
 
 -- nothing, or whitespace
-abbrev EndsWord : List ℕ → Type 0
+abbrev pub EndsWord : List ℕ → Type 0
 EndsWord [] = Unit {0}
 EndsWord (b ∷ bytes) = is_whitespace b ≡ true
 
@@ -71,7 +71,7 @@ ends_blank : (ys : List ℕ) → EndsWord ys → is_blank (take 1 ys) ≡ true
 ends_blank [] h = refl
 ends_blank (y ∷ ys) h = ap (λ t. t && true) h
 
-from_not : (b : Bool) → not b ≡ true → b ≡ false
+pub from_not : (b : Bool) → not b ≡ true → b ≡ false
 from_not true e = cc
 from_not false e = refl
 
@@ -98,10 +98,10 @@ position-seam (x ∷ xs) ys h =
     one_more : (m n : ℕ) → m ≡ n → 1 + m ≡ suc n
     one_more m n e = omega arith
 
-before-comma : (xs ys : List ℕ) → list_all is_plain xs ≡ true → before_first (λ b. eqb b 44) (xs ++ 44 ∷ ys) ≡ xs
+pub before-comma : (xs ys : List ℕ) → list_all is_plain xs ≡ true → before_first (λ b. eqb b 44) (xs ++ 44 ∷ ys) ≡ xs
 before-comma xs ys h = ap (λ n. take n (xs ++ 44 ∷ ys)) (position-seam xs ys h) ∙ take-append_seam xs (44 ∷ ys)
 
-after-comma : (xs ys : List ℕ) → list_all is_plain xs ≡ true → after_first (λ b. eqb b 44) (xs ++ 44 ∷ ys) ≡ ys
+pub after-comma : (xs ys : List ℕ) → list_all is_plain xs ≡ true → after_first (λ b. eqb b 44) (xs ++ 44 ∷ ys) ≡ ys
 after-comma xs ys h = ap (λ n. drop (n + 1) (xs ++ 44 ∷ ys)) (position-seam xs ys h) ∙ drop-append-add xs (44 ∷ ys) 1
 
 -- the field of the corner

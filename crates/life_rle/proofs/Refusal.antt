@@ -6,12 +6,12 @@ use Rattle.std.specs.List.{slice_index_or}
 use Rattle.life_base.specs.declared.kind.Kind.{Kind}
 use Rattle.life_base.specs.declared.kind.Kind.TheVariants.{NoHeader}
 use Rattle.life_base.specs.declared.fault.Fault.{Fault}
-use Rattle.life_base.specs.Refusal.{Prefix, kept, continuations, IsPlace, IsRefusal}
+use Rattle.life_base.specs.Refusal.{Prefix, kept, continuations, IsPlace}
 use Rattle.life_rle.specs.declared.position.Position.{Position}
 use Rattle.life_rle.specs.Position.{default_position}
 use Rattle.life_base.specs.Rules.{default_rule}
 use Rattle.life_rle.specs.Pattern.{Rle}
-use Rattle.life_rle.specs.File.{missing}
+use Rattle.life_rle.specs.File.{Refuses}
 use Rattle.life_rle.specs.Grammar.{IsPreamble, IsUnmarked, IsMarked, IsRle, IsSomeRle, Breaks, before_header, by_form, by_text, by_item}
 use Rattle.life_rle.proofs.Progress.{Progress, Before, Begun, Ended, Refused, progress, start, Stands, progress-append, progress-Refused, header-IsUnmarked, lines-Stands}
 use Rattle.life_rle.proofs.Unique.{IsUnmarked-progress, IsMarked-progress, Breaks-no_prefix, Breaks-no_more, IsPreamble-progress}
@@ -43,7 +43,7 @@ Goes-front_at level (Refused k) ys g = subst Goes (progress-Refused level k ys) 
 pub Goes-front : (level : ℕ) (xs ys : List (List ℕ)) → Goes (progress level start (xs ++ ys)) → Goes (progress level start xs)
 Goes-front level xs ys g = Goes-front_at level (progress level start xs) ys (subst Goes (progress-append level start xs ys) g)
 
-IsRle-Goes : (level : ℕ) (lines : List (List ℕ)) (file : Rle) → IsRle level lines file → Goes (progress level start lines)
+pub IsRle-Goes : (level : ℕ) (lines : List (List ℕ)) (file : Rle) → IsRle level lines file → Goes (progress level start lines)
 IsRle-Goes level lines file (inl b) = subst Goes (sym (IsUnmarked-progress level lines file b)) tt
 IsRle-Goes level lines file (inr b) = subst Goes (sym (IsMarked-progress level lines file b)) tt
 
@@ -51,13 +51,13 @@ IsRle-Goes level lines file (inr b) = subst Goes (sym (IsMarked-progress level l
 pub Prefix-Goes : (level : ℕ) (lines : List (List ℕ)) → Prefix (IsSomeRle level) lines → Goes (progress level start lines)
 Prefix-Goes level lines p = Goes-front level lines (kept p.0 continuations) (IsRle-Goes level (lines ++ kept p.0 continuations) p.1.0 p.1.1)
 
-Breaks-Goes : (level : ℕ) (front : List (List ℕ)) (line : List ℕ) (kind : Kind) → Breaks level front line kind → Goes (progress level start front)
+pub Breaks-Goes : (level : ℕ) (front : List (List ℕ)) (line : List ℕ) (kind : Kind) → Breaks level front line kind → Goes (progress level start front)
 Breaks-Goes level front line kind (before_header o h e) = subst Goes (sym (IsPreamble-progress level default_position o front h)) tt
 Breaks-Goes level front line kind (by_form file h e) = subst Goes (sym (IsUnmarked-progress level front file h)) tt
 Breaks-Goes level front line kind (by_text file items h form s sound) = subst Goes (sym (IsUnmarked-progress level front file h)) tt
 Breaks-Goes level front line kind (by_item file items item rest h form s sound fault) = subst Goes (sym (IsUnmarked-progress level front file h)) tt
 
-take-Goes : (level : ℕ) (k : ℕ) (front : List (List ℕ)) → Goes (progress level start front) → Goes (progress level start (take k front))
+pub take-Goes : (level : ℕ) (k : ℕ) (front : List (List ℕ)) → Goes (progress level start front) → Goes (progress level start (take k front))
 take-Goes level k front g = Goes-front level (take k front) (drop k front) (subst (λ ls. Goes (progress level start ls)) (sym (take-append-drop k front)) g)
 
 -- the number of a line behind a front
@@ -84,7 +84,7 @@ Breaks-IsPlace level lines front line rest kind e b =
     }
 
 -- so the fault of such a line is the input's fault
-pub Breaks-IsRefusal : (level : ℕ) (lines front : List (List ℕ)) (line : List ℕ) (rest : List (List ℕ)) (fault : Fault) → lines ≡ front ++ line ∷ rest → Breaks level front line fault.kind → fault.place.line ≡ min (length front + 1) (2 ^ 64 - 1) → IsRefusal (IsSomeRle level) (Breaks level) missing lines fault
+pub Breaks-IsRefusal : (level : ℕ) (lines front : List (List ℕ)) (line : List ℕ) (rest : List (List ℕ)) (fault : Fault) → lines ≡ front ++ line ∷ rest → Breaks level front line fault.kind → fault.place.line ≡ min (length front + 1) (2 ^ 64 - 1) → Refuses level lines fault
 Breaks-IsRefusal level lines front line rest fault e b at =
     let len : length lines ≡ length front + 1 + length rest = ap length e ∙ behind-length front line rest in
     let less : length front + 1 - 1 ≡ length front = omega arith in
@@ -107,7 +107,7 @@ pub IsPreamble-refused : (level : ℕ) (lines : List (List ℕ)) (position : Pos
 IsPreamble-refused level lines position h (file, inl b) = let x = IsPreamble-progress level default_position position lines h in let y = IsUnmarked-progress level lines file b in cc
 IsPreamble-refused level lines position h (file, inr b) = let x = IsPreamble-progress level default_position position lines h in let y = IsMarked-progress level lines file b in cc
 
-pub IsPreamble-IsRefusal : (level : ℕ) (lines : List (List ℕ)) (position : Position) (fault : Fault) → IsPreamble level default_position lines position → fault.kind ≡ NoHeader → fault.place.line ≡ min (length lines + 1) (2 ^ 64 - 1) → IsRefusal (IsSomeRle level) (Breaks level) missing lines fault
+pub IsPreamble-IsRefusal : (level : ℕ) (lines : List (List ℕ)) (position : Position) (fault : Fault) → IsPreamble level default_position lines position → fault.kind ≡ NoHeader → fault.place.line ≡ min (length lines + 1) (2 ^ 64 - 1) → Refuses level lines fault
 IsPreamble-IsRefusal level lines position fault h kind at = record {
   refused = IsPreamble-refused level lines position h;
   n = length lines + 1;

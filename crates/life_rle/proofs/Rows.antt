@@ -1,5 +1,6 @@
 -- Worked examples of the definitions.
-use Rattle.std.proofs.Common.{◌≡◌, subst, ℕ, List, [], ◌∷◌, refl, inr, pos, neg_ℤ, Some, None, Ok, Err, codes}
+use Rattle.std.specs.List.{slice_get}
+use Rattle.std.proofs.Common.{◌≡◌, subst, ℕ, ℤ, List, [], ◌∷◌, refl, inl, inr, pos, neg_ℤ, Some, None, Ok, Err, codes}
 use Rattle.life_base.specs.declared.kind.Kind.TheVariants as kinds
 use Rattle.life_base.specs.declared.kind.Kind.{Kind}
 use Rattle.life_base.specs.declared.rule.Rule.{Rule}
@@ -7,11 +8,12 @@ use Rattle.life_base.specs.Rules.{rule_of, life_sets, default_rule}
 use Rattle.life_base.specs.Text.{lines_of}
 use Rattle.life_rle.specs.States.{state_at}
 use Rattle.life_rle.specs.declared.item.Item.TheVariants.{Cells, RowEnds}
-use Rattle.life_rle.specs.Items.{Mark, Broken, next_of, Spells}
+use Rattle.life_rle.specs.Items.{End, Mark, Spelled, Broken, next_of, Spells}
+use Rattle.life_rle.specs.declared.position.Position.{Position}
 use Rattle.life_rle.specs.Position.{position_of, default_position}
 use Rattle.life_rle.specs.Pattern.{Rle, placed, placed_behind, first_fault, cell}
 use Rattle.life_rle.specs.Runs.{runs_of}
-use Rattle.life_rle.specs.Grammar.{IsUnmarked, IsRle, Breaks, fault_behind, by_text, by_item, opening_of, later_of}
+use Rattle.life_rle.specs.Grammar.{IsPreamble, IsUnmarked, IsRle, Breaks, fault_behind, by_text, by_item, opening_of, later_of}
 use Rattle.life_rle.specs.declared.opening.Opening.TheVariants.{PositionLine, Header}
 use Rattle.life_rle.specs.declared.opening.Later.TheVariants.{Data}
 use Rattle.life_rle.proofs.ReadSteps.{items_read, last_read, line-Spells}
@@ -75,6 +77,37 @@ too_old = refl
 cut_corner : opening_of MAX_LEVEL (codes "#CXRLE Pos=-1,") ≡ Err kinds.BadNumber
 cut_corner = refl
 
+-- of several fields of one name the last counts, and of several lines the last as a whole
+abbrev corner_and_generation : ℤ → ℤ → ℕ → Position
+corner_and_generation x y n = record { x = x; y = y; generation = n }
+
+last_fields : position_of MAX_LEVEL (codes "#CXRLE\tPos=1,2 Gen=5 Pos=-3,4\r") ≡ Ok (corner_and_generation (neg_ℤ (pos 3)) (pos 4) 5)
+last_fields = refl
+
+last_line : IsPreamble MAX_LEVEL default_position (codes "#CXRLE Pos=1,2" ∷ codes "#CXRLEfoo Pos=z" ∷ codes "#CXRLE Gen=3" ∷ []) (corner_and_generation (pos 0) (pos 0) 3)
+last_line = inr (corner_and_generation (pos 1) (pos 2) 0, refl, inl (refl, inr (corner_and_generation (pos 0) (pos 0) 3, refl, refl)))
+
+no_fields : position_of MAX_LEVEL (codes "#CXRLE") ≡ Ok default_position
+no_fields = refl
+
+other_fields : position_of MAX_LEVEL (codes "#CXRLE pos=z Pos Gen = ,") ≡ Ok default_position
+other_fields = refl
+
+form_first : position_of MAX_LEVEL (codes "#CXRLE Pos=576460752303423488,z") ≡ Err kinds.BadNumber
+form_first = refl
+
+two_commas : position_of MAX_LEVEL (codes "#CXRLE Pos=1,2,3") ≡ Err kinds.BadNumber
+two_commas = refl
+
+left_to_right : position_of MAX_LEVEL (codes "#CXRLE Gen=18446744073709551616 Pos=z") ≡ Err kinds.TooLarge
+left_to_right = refl
+
+least_corner : position_of MAX_LEVEL (codes "#CXRLE Pos=-576460752303423488,-000") ≡ Ok (corner_and_generation (neg_ℤ (pos 576460752303423488)) (pos 0) 0)
+least_corner = refl
+
+past_least : position_of MAX_LEVEL (codes "#CXRLE Pos=0,-576460752303423489") ≡ Err kinds.OutOfPlane
+past_least = refl
+
 -- headers
 no_rule : opening_of MAX_LEVEL (codes "x = 1, y = 1") ≡ Ok (Header b3s23)
 no_rule = refl
@@ -100,6 +133,21 @@ no_header = refl
 second : later_of (codes "x = 1, y = 1") ≡ Err kinds.SecondHeader
 second = refl
 
+indented_header : opening_of MAX_LEVEL (codes " x = 1, y = 1") ≡ Err kinds.NoHeader
+indented_header = refl
+
+cut_number : opening_of MAX_LEVEL (codes "x = 1 0, y = 1") ≡ Err kinds.BadHeader
+cut_number = refl
+
+data_x : later_of (codes "xA!") ≡ Ok Data
+data_x = refl
+
+indented_second : later_of (codes " x = 1, y = 1") ≡ Ok Data
+indented_second = refl
+
+tabbed_second : later_of (codes "x\t= 1, y = 1") ≡ Ok Data
+tabbed_second = refl
+
 late_position : later_of (codes "#CXRLE Gen=1") ≡ Err kinds.LateHeader
 late_position = refl
 
@@ -112,6 +160,50 @@ past_last = refl
 
 prefixed_x : state_at (codes "xA!") ≡ Some (217, codes "!")
 prefixed_x = refl
+
+capital_o : state_at (codes "O") ≡ Some (15, [])
+capital_o = refl
+
+cut_prefix : state_at (codes "p") ≡ None
+cut_prefix = refl
+
+behind_prefixes : state_at (codes "zA") ≡ None
+behind_prefixes = refl
+
+-- what stands in an item's place
+only_space : next_of MAX_LEVEL (codes " \t\r") ≡ End
+only_space = refl
+
+zeros : next_of MAX_LEVEL (codes "000z") ≡ Broken kinds.ZeroCount
+zeros = refl
+
+greatest_count : next_of MAX_LEVEL (codes "1152921504606846976$o") ≡ Spelled (RowEnds 1152921504606846976) (codes "o")
+greatest_count = refl
+
+broken_prefix : next_of MAX_LEVEL (codes "p A") ≡ Broken kinds.BadItem
+broken_prefix = refl
+
+-- three dead cells and two live ones, two rows down three live ones and a dead one
+abbrev two_rows : Rle
+two_rows = record { rule = b3s23; position = corner_and_generation (neg_ℤ (pos 4)) (pos 7) 0; items = Cells 3 0 ∷ Cells 2 1 ∷ RowEnds 2 ∷ Cells 3 1 ∷ Cells 1 0 ∷ [] }
+
+dead_run : slice_get (placed two_rows) 0 ≡ Some (record { row = pos 7; column = neg_ℤ (pos 4); item = Cells 3 0 })
+dead_run = refl
+
+behind_dead_run : slice_get (placed two_rows) 1 ≡ Some (record { row = pos 7; column = neg_ℤ (pos 1); item = Cells 2 1 })
+behind_dead_run = refl
+
+behind_row_ends : slice_get (placed two_rows) 3 ≡ Some (record { row = pos 9; column = neg_ℤ (pos 4); item = Cells 3 1 })
+behind_row_ends = refl
+
+last_of_run : cell two_rows (pos 0) (pos 7) ≡ 1
+last_of_run = refl
+
+past_run : cell two_rows (pos 1) (pos 7) ≡ 0
+past_run = refl
+
+between_rows : cell two_rows (neg_ℤ (pos 4)) (pos 8) ≡ 0
+between_rows = refl
 
 -- faults of a line behind a header
 abbrev blank : Rule → Rle
@@ -152,6 +244,19 @@ one_end = refl
 
 two_ends : fault_behind MAX_LEVEL at_bottom [] (RowEnds 2) ≡ Some kinds.OutOfPlane
 two_ends = refl
+
+-- at the last column one cell of any state is accepted, and a second one isn't; behind a row end the column is the corner's
+abbrev at_right : Rle
+at_right = record { rule = b3s23; position = corner_and_generation (pos 576460752303423487) (pos 0) 0; items = [] }
+
+last_column : fault_behind MAX_LEVEL at_right [] (Cells 1 1) ≡ None
+last_column = refl
+
+dead_column : fault_behind MAX_LEVEL at_right (Cells 1 1 ∷ []) (Cells 1 0) ≡ Some kinds.OutOfPlane
+dead_column = refl
+
+next_row : fault_behind MAX_LEVEL at_right (Cells 1 1 ∷ RowEnds 1 ∷ []) (Cells 1 1) ≡ None
+next_row = refl
 
 below : fault_behind MAX_LEVEL at_bottom (RowEnds 1 ∷ []) (Cells 1 0) ≡ Some kinds.OutOfPlane
 below = refl

@@ -101,13 +101,13 @@ preamble-plane level given position [] h e = subst (IsInPlane level) (sym e) h
 preamble-plane level given position (line ∷ lines) h (inl e) = preamble-plane level given position lines h e.1
 preamble-plane level given position (line ∷ lines) h (inr e) = preamble-plane level e.0 position lines (subst (IsTameOpening level) e.1 (opening-tame level line)) e.2
 
-IsRle-plane : (level : ℕ) (lines : List (List ℕ)) (file : Rle) → IsRle level lines file → IsInPlane level file.position
+pub IsRle-plane : (level : ℕ) (lines : List (List ℕ)) (file : Rle) → IsRle level lines file → IsInPlane level file.position
 IsRle-plane level lines file (inl b) = preamble-plane level default_position file.position b.before (zero-coordinate level, zero-coordinate level) b.preamble
 IsRle-plane level lines file (inr b) = preamble-plane level default_position file.position b.begun.before (zero-coordinate level, zero-coordinate level) b.begun.preamble
 
 -- ---- items that stand in the plane, from a place on
 
-abbrev Good : ℕ → Rule → ℤ → ℤ → ℤ → List Item → Type 0
+abbrev pub Good : ℕ → Rule → ℤ → ℤ → ℤ → List Item → Type 0
 Good level rule left column row [] = Unit {0}
 Good level rule left column row (Cells n s ∷ items) =
     (1 ≤ n) × (is_state_of rule s ≡ true) × (row <ℤ edge level) × ((column +ℤ pos n) ≤ℤ edge level) × Good level rule left (column +ℤ pos n) row items
@@ -137,7 +137,7 @@ sound-Good level rule left column row (RowEnds n ∷ items) c e =
     let parts = both_none (item_fault level rule row column (RowEnds n)) (first_fault level rule (placed_from left left (row +ℤ pos n) items)) e in
     (c.0, sound-Good level rule left left (row +ℤ pos n) items c.1 parts.1)
 
-further : (low z : ℤ) (n : ℕ) → low ≤ℤ z → low ≤ℤ (z +ℤ pos n)
+pub further : (low z : ℤ) (n : ℕ) → low ≤ℤ z → low ≤ℤ (z +ℤ pos n)
 further low z n h = omega (arith, ints)
 
 -- ---- their runs
@@ -238,7 +238,7 @@ cells-runs level rule left column row (RowEnds n ∷ items) x y g = cells-runs l
 plus_none : (z : ℤ) → z +ℤ pos 0 ≡ z
 plus_none z = omega (arith, ints)
 
-placed-from : (file : Rle) → placed file ≡ placed_from file.position.x file.position.x file.position.y file.items
+pub placed-from : (file : Rle) → placed file ≡ placed_from file.position.x file.position.x file.position.y file.items
 placed-from file =
     placed_behind-from file.position [] file.items
     ∙ ap (λ z. placed_from file.position.x z (file.position.y +ℤ pos 0) file.items) (plus_none file.position.x)
@@ -248,12 +248,12 @@ sound-of : (level : ℕ) (lines : List (List ℕ)) (file : Rle) → IsRle level 
 sound-of level lines file (inl b) = b.sound
 sound-of level lines file (inr b) = b.sound
 
-file-Good : (level : ℕ) (lines : List (List ℕ)) (file : Rle) → IsRle level lines file → Good level file.rule file.position.x file.position.x file.position.y file.items
+pub file-Good : (level : ℕ) (lines : List (List ℕ)) (file : Rle) → IsRle level lines file → Good level file.rule file.position.x file.position.x file.position.y file.items
 file-Good level lines file r =
     sound-Good level file.rule file.position.x file.position.x file.position.y file.items (IsRle-count level lines file r)
     (ap (first_fault level file.rule) (sym (placed-from file)) ∙ sound-of level lines file r)
 
-low-side : (e z : ℤ) → (int_le (neg_ℤ e) z && int_lt z e) ≡ true → neg_ℤ e ≤ℤ z
+pub low-side : (e z : ℤ) → (int_le (neg_ℤ e) z && int_lt z e) ≡ true → neg_ℤ e ≤ℤ z
 low-side e z h = grind (arith, ints)
 
 pub runs_are_cells : (level : ℕ) (lines : List (List ℕ)) (file : Rle) → IsRle level lines file

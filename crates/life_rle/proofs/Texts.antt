@@ -1,5 +1,5 @@
 -- What is written of an item is read as that item, whatever follows.
-use Rattle.std.proofs.Common.{◌≡◌, ℕ, suc, ◌+◌, ◌-◌, ◌/◌, ◌%◌, ◌^◌, ◌<◌, ◌≤◌, Bool, true, false, cond, ◌&&◌, List, [], ◌∷◌, ◌++◌, length, take, drop, refl, ap, ◌∙◌, arith, append_assoc, eqb, ltb, leb, decimal}
+use Rattle.std.proofs.Common.{◌≡◌, ℕ, suc, ◌+◌, ◌-◌, ◌/◌, ◌%◌, ◌^◌, ◌<◌, ◌≤◌, Bool, true, false, cond, ◌&&◌, List, [], ◌∷◌, ◌++◌, length, take, drop, refl, sym, ap, ◌∙◌, arith, append_assoc, eqb, ltb, leb, decimal}
 use Rattle.std.proofs.lemmas.Bool.Decides.{nat_tests}
 use Rattle.std.proofs.lemmas.Fmt.{decimal_by_steps, decimal_is_IsNumeral}
 use Rattle.std.specs.List.{list_all}
@@ -70,39 +70,41 @@ IsTag-Stops : (tag : List ℕ) → IsTag tag → Stops is_ascii_digit tag
 IsTag-Stops [] h = absurd h
 IsTag-Stops (b ∷ bytes) h = h.1
 
-next_of-tag : (tag : List ℕ) → IsTag tag → next_of MAX_LEVEL tag ≡ item_behind 1 tag
-next_of-tag [] h = absurd h
-next_of-tag (b ∷ bytes) h =
+-- a state or `$` without a count
+pub next_of-tag : (level : ℕ) (tag : List ℕ) → IsTag tag → next_of level tag ≡ item_behind 1 tag
+next_of-tag level [] h = absurd h
+next_of-tag level (b ∷ bytes) h =
     let trimmed : trim_start (b ∷ bytes) ≡ b ∷ bytes = ap (λ t. cond t (trim_start bytes) (b ∷ bytes)) h.0 in
-    ap (item_in MAX_LEVEL) trimmed
-    ∙ ap (λ t. cond t Mark (counted MAX_LEVEL (front_digits (b ∷ bytes)) (behind_digits (b ∷ bytes)))) h.2
-    ∙ ap (λ n. counted MAX_LEVEL (take n (b ∷ bytes)) (drop n (b ∷ bytes))) (ap (λ t. cond t (1 + prefix_len is_ascii_digit bytes) 0) h.1)
+    ap (item_in level) trimmed
+    ∙ ap (λ t. cond t Mark (counted level (front_digits (b ∷ bytes)) (behind_digits (b ∷ bytes)))) h.2
+    ∙ ap (λ n. counted level (take n (b ∷ bytes)) (drop n (b ∷ bytes))) (ap (λ t. cond t (1 + prefix_len is_ascii_digit bytes) 0) h.1)
 
 pub digit-plain : (b : ℕ) → is_ascii_digit b ≡ true → (is_whitespace b ≡ false) × (eqb b 33 ≡ false)
 digit-plain b h = (grind (arith, nat_tests), grind (arith, nat_tests))
 
-next_of-digits : (n : ℕ) (digits tag : List ℕ) → is_digit_text digits ≡ true → value_of digits ≡ n → 0 < n → n ≤ most_count MAX_LEVEL → IsTag tag → next_of MAX_LEVEL (digits ++ tag) ≡ item_behind n tag
-next_of-digits n [] tag h v low high t = cc
-next_of-digits n (d ∷ digits) tag h v low high t =
+-- a state or `$` behind digits
+pub next_of-digits : (level n : ℕ) (digits tag : List ℕ) → is_digit_text digits ≡ true → n ≡ value_of digits → 0 < n → n ≤ most_count level → IsTag tag → next_of level (digits ++ tag) ≡ item_behind n tag
+next_of-digits level n [] tag h v low high t = cc
+next_of-digits level n (d ∷ digits) tag h v low high t =
     let parts = both_true (is_ascii_digit d) (list_all is_ascii_digit digits) h in
     let plain = digit-plain d parts.0 in
     let trimmed : trim_start ((d ∷ digits) ++ tag) ≡ (d ∷ digits) ++ tag = ap (λ t. cond t (trim_start (digits ++ tag)) (d ∷ (digits ++ tag))) plain.0 in
     let some : eqb n 0 ≡ false = grind (arith, nat_tests) in
-    let few : ltb (most_count MAX_LEVEL) n ≡ false = grind (arith, nat_tests) in
-    ap (item_in MAX_LEVEL) trimmed
-    ∙ ap (λ t. cond t Mark (counted MAX_LEVEL (front_digits ((d ∷ digits) ++ tag)) (behind_digits ((d ∷ digits) ++ tag)))) plain.1
-    ∙ ap (λ front. counted MAX_LEVEL front (behind_digits ((d ∷ digits) ++ tag))) (front-stop is_ascii_digit (d ∷ digits) tag h (IsTag-Stops tag t))
-    ∙ ap (counted MAX_LEVEL (d ∷ digits)) (behind-stop is_ascii_digit (d ∷ digits) tag h (IsTag-Stops tag t))
-    ∙ ap (λ m. cond (eqb m 0) (Broken ZeroCount) (cond (ltb (most_count MAX_LEVEL) m) (Broken TooLarge) (item_behind m tag))) v
-    ∙ ap (λ t. cond t (Broken ZeroCount) (cond (ltb (most_count MAX_LEVEL) n) (Broken TooLarge) (item_behind n tag))) some
+    let few : ltb (most_count level) n ≡ false = grind (arith, nat_tests) in
+    ap (item_in level) trimmed
+    ∙ ap (λ t. cond t Mark (counted level (front_digits ((d ∷ digits) ++ tag)) (behind_digits ((d ∷ digits) ++ tag)))) plain.1
+    ∙ ap (λ front. counted level front (behind_digits ((d ∷ digits) ++ tag))) (front-stop is_ascii_digit (d ∷ digits) tag h (IsTag-Stops tag t))
+    ∙ ap (counted level (d ∷ digits)) (behind-stop is_ascii_digit (d ∷ digits) tag h (IsTag-Stops tag t))
+    ∙ ap (λ m. cond (eqb m 0) (Broken ZeroCount) (cond (ltb (most_count level) m) (Broken TooLarge) (item_behind m tag))) (sym v)
+    ∙ ap (λ t. cond t (Broken ZeroCount) (cond (ltb (most_count level) n) (Broken TooLarge) (item_behind n tag))) some
     ∙ ap (λ t. cond t (Broken TooLarge) (item_behind n tag)) few
 
 next_of-count : (n : ℕ) (tag : List ℕ) → 0 < n → n ≤ most_count MAX_LEVEL → IsTag tag → next_of MAX_LEVEL (count_text n ++ tag) ≡ item_behind n tag
 next_of-count n tag low high t =
     let small : n < 2 ^ 64 = omega arith in
     elim (eqb n 1) as (λ b. eqb n 1 ≡ b → next_of MAX_LEVEL (cond b [] (decimal n) ++ tag) ≡ item_behind n tag) [
-      | true ↦ λ e. let one : 1 ≡ n = grind (arith, nat_tests) in next_of-tag tag t ∙ ap (λ m. item_behind m tag) one
-      | false ↦ λ e. next_of-digits n (decimal n) tag (decimal-is_digit_text n small) (value_of-decimal n small) low high t
+      | true ↦ λ e. let one : 1 ≡ n = grind (arith, nat_tests) in next_of-tag MAX_LEVEL tag t ∙ ap (λ m. item_behind m tag) one
+      | false ↦ λ e. next_of-digits MAX_LEVEL n (decimal n) tag (decimal-is_digit_text n small) (sym (value_of-decimal n small)) low high t
     ] refl
 
 pub IsTag-letter : (b : ℕ) (rest : List ℕ) → 57 < b → IsTag (b ∷ rest)

@@ -2,13 +2,15 @@
 use Rattle.std.specs.Prelude.{◌≡◌, ℕ, ◌⊎◌, Bool, List, [], ◌++◌, Option, Some}
 use Rattle.life_base.specs.declared.kind.Kind.{Kind}
 use Rattle.life_base.specs.declared.kind.Kind.TheVariants.{NoHeader}
+use Rattle.life_base.specs.declared.fault.Fault.{Fault}
+use Rattle.life_base.specs.Refusal.{IsRefusal}
 use Rattle.life_rle.specs.declared.file.Run.{Run}
 use Rattle.life_rle.specs.declared.file.RleFile.{RleFile}
 use Rattle.life_rle.specs.declared.position.Position.{Position}
 use Rattle.life_rle.specs.Position.{default_position}
 use Rattle.life_rle.specs.Pattern.{Rle, placed}
 use Rattle.life_rle.specs.Runs.{runs_of}
-use Rattle.life_rle.specs.Grammar.{IsPreamble, IsRle}
+use Rattle.life_rle.specs.Grammar.{IsPreamble, IsRle, IsSomeRle, Breaks}
 
 -- the value has the file's rule, generation and corner, and its runs
 pub record Shows (value : RleFile) (file : Rle) : Type 0 where
@@ -21,6 +23,10 @@ pub record Shows (value : RleFile) (file : Rle) : Type 0 where
 -- what lines lack that end before the header
 abbrev pub missing : List (List ℕ) → Option Kind
 missing lines = Some NoHeader
+
+-- why lines are no file: the place and the kind of the fault
+abbrev pub Refuses : ℕ → List (List ℕ) → Fault → Type 0
+Refuses level lines fault = IsRefusal (IsSomeRle level) (Breaks level) missing lines fault
 
 -- the runs of lines so far: none before the header, and then those of the file
 abbrev pub HasRuns : ℕ → List (List ℕ) → List Run → Type 0

@@ -1,7 +1,8 @@
 -- Which lines are an RLE file, of which pattern, and which rule a line breaks.
-use Rattle.std.specs.Prelude.{◌≡◌, ℕ, ◌⊎◌, ◌||◌, List, [], ◌∷◌, ◌++◌, Option, Some, None, Result, Ok, Err, if◌then◌else◌, codes}
+use Rattle.std.specs.Prelude.{◌≡◌, ℕ, ◌⊎◌, ◌||◌, Bool, true, false, List, [], ◌∷◌, ◌++◌, Option, Some, None, Result, Ok, Err, if◌then◌else◌, codes}
 use Rattle.life_base.specs.declared.kind.Kind.{Kind}
 use Rattle.life_base.specs.declared.kind.Kind.TheVariants.{LineTooLong, NoHeader, LateHeader, SecondHeader}
+use Rattle.life_base.specs.declared.kind.Kind.TheVariants as kinds
 use Rattle.life_base.specs.Text.{is_too_long, is_blank, begins_with}
 use Rattle.life_rle.specs.declared.item.Item.{Item}
 use Rattle.life_rle.specs.declared.position.Position.{Position}
@@ -101,3 +102,22 @@ pub data Breaks (level : ℕ) (front : List (List ℕ)) (line : List ℕ) (kind 
   -- behind items that break none, by an item
   by_item : (file : Rle) (items : List Item) (item : Item) (rest : List ℕ) → IsUnmarked level front file → later_of line ≡ Ok Data → Spells level line items (Spelled item rest)
       → first_fault level file.rule (placed_behind file.position file.items items) ≡ None → fault_behind level file items item ≡ Some kind → Breaks level front line kind
+
+-- the kinds of rule that a line of RLE can break
+abbrev pub is_rle_kind : Kind → Bool
+is_rle_kind kinds.NoHeader = true
+is_rle_kind kinds.BadHeader = true
+is_rle_kind kinds.BadRule = true
+is_rle_kind kinds.BoundedGrid = true
+is_rle_kind kinds.UnsupportedRule = true
+is_rle_kind kinds.BirthOnZero = true
+is_rle_kind kinds.BadNumber = true
+is_rle_kind kinds.TooLarge = true
+is_rle_kind kinds.BadItem = true
+is_rle_kind kinds.ZeroCount = true
+is_rle_kind kinds.StateRange = true
+is_rle_kind kinds.OutOfPlane = true
+is_rle_kind kinds.LateHeader = true
+is_rle_kind kinds.SecondHeader = true
+is_rle_kind kinds.LineTooLong = true
+is_rle_kind _ = false

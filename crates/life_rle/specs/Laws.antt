@@ -1,6 +1,9 @@
 -- The laws of the definitions.
-use Rattle.std.specs.Prelude.{◌≡◌, ℕ, ◌+◌, ◌^◌, ◌<◌, ◌≤◌, true, List, [], ◌∷◌, ◌++◌, length, map, drop, flat_map, codes, ℤ, Some}
+use Rattle.std.specs.Prelude.{◌≡◌, ◌↔◌, ℕ, ◌+◌, ◌^◌, ◌<◌, ◌≤◌, true, List, [], ◌∷◌, ◌++◌, length, map, take, drop, flat_map, codes, ℤ, Some}
+use Rattle.std.specs.List.{slice_index_or}
 use Rattle.life_base.specs.declared.kind.Kind.{Kind}
+use Rattle.life_base.specs.declared.fault.Fault.{Fault}
+use Rattle.life_base.specs.Refusal.{Prefix}
 use Rattle.life_base.specs.declared.cell.Cell.{Cell}
 use Rattle.life_base.specs.declared.cell.TheConstants.{MAX_LEVEL}
 use Rattle.life_base.specs.declared.rule.Rule.{Rule}
@@ -8,7 +11,8 @@ use Rattle.life_base.specs.Text.{lines_of}
 use Rattle.life_base.specs.Rules.{IsRule}
 use Rattle.life_rle.specs.States.{state_at, state_text, is_state_of}
 use Rattle.life_rle.specs.Pattern.{Rle, cell}
-use Rattle.life_rle.specs.Grammar.{IsRle, Breaks}
+use Rattle.life_rle.specs.Grammar.{IsRle, IsSomeRle, Breaks, is_rle_kind}
+use Rattle.life_rle.specs.File.{Refuses}
 use Rattle.life_rle.specs.Written.{item_text, items_of, rle_lines, rle_text}
 use Rattle.life_rle.specs.Sorted.{are_sorted_cells, state_in}
 
@@ -16,12 +20,29 @@ use Rattle.life_rle.specs.Sorted.{are_sorted_cells, state_in}
 abbrev pub IsOneRle : Type 0
 IsOneRle = (level : ℕ) (lines : List (List ℕ)) (f g : Rle) → IsRle level lines f → IsRle level lines g → f ≡ g
 
--- a line that breaks a rule breaks one kind first, and no lines behind it make a file
+-- a line that breaks a rule stands behind a front of a file, breaks one kind first, and no lines behind it make a file
 abbrev pub BreaksForGood : Type 0
 BreaksForGood =
     (level : ℕ) (front : List (List ℕ)) (line : List ℕ) (kind : Kind) → Breaks level front line kind
-    → ((other : Kind) → Breaks level front line other → other ≡ kind)
+    → Prefix (IsSomeRle level) front
+    × ((other : Kind) → Breaks level front line other → other ≡ kind)
     × ((more : List (List ℕ)) (file : Rle) → IsRle level ((front ++ line ∷ []) ++ more) file → ⊥)
+
+-- no line breaks a rule behind those before it
+abbrev pub AreUnbroken : ℕ → List (List ℕ) → Type 0
+AreUnbroken level lines = (k : ℕ) (kind : Kind) → k < length lines → Breaks level (take k lines) (slice_index_or lines k []) kind → ⊥
+
+-- lines are the front of a file exactly if no line breaks a rule
+abbrev pub FrontsAreUnbroken : Type 0
+FrontsAreUnbroken = (level : ℕ) (lines : List (List ℕ)) → Prefix (IsSomeRle level) lines ↔ AreUnbroken level lines
+
+-- a line breaks a rule with one of the kinds of the format
+abbrev pub LinesBreakByKinds : Type 0
+LinesBreakByKinds = (level : ℕ) (front : List (List ℕ)) (line : List ℕ) (kind : Kind) → Breaks level front line kind → is_rle_kind kind ≡ true
+
+-- lines that are no file have one fault
+abbrev pub FaultsAreUnique : Type 0
+FaultsAreUnique = (level : ℕ) (lines : List (List ℕ)) (one other : Fault) → Refuses level lines one → Refuses level lines other → one ≡ other
 
 -- the text of a state is read as that state, whatever follows
 abbrev pub StatesReadBack : Type 0

@@ -12,8 +12,10 @@ pub mod Sorted
 pub mod File
 pub mod Laws
 pub mod RunsLaw
+pub mod ItemsLaw
 pub mod Decided
 pub mod Cursor
 pub mod Reading
 pub mod Standing
 pub mod Plain
+pub mod PlainPosition

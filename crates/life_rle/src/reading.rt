@@ -1,10 +1,10 @@
 //! RLE files, read whole.
 
-ghost use Rattle.std.specs.Prelude.{◌≡◌, ◌⊎◌, ◌++◌, ◌∷◌, [], false, IfOk, IfErr, OnOk};
-ghost use Rattle.life_base.specs.Refusal.{IsRefusal, OrMemory};
+ghost use Rattle.std.specs.Prelude.{◌≡◌, ◌⊎◌, ◌++◌, ◌∷◌, [], true, false, IfOk, IfErr, OnOk};
+ghost use Rattle.life_base.specs.Refusal.{OrMemory};
 ghost use Rattle.life_base.specs.Text.{lines_of};
-ghost use Rattle.life_rle.specs.File.{HasRuns, Shows, missing};
-ghost use Rattle.life_rle.specs.Grammar.{IsRle, IsSomeRle, Breaks};
+ghost use Rattle.life_rle.specs.File.{HasRuns, Shows, Refuses};
+ghost use Rattle.life_rle.specs.Grammar.{IsRle, Breaks, is_rle_kind};
 ghost use Rattle.life_rle.specs.Pattern.{Rle};
 
 use crate::file::{RleFile, Run};
@@ -44,10 +44,13 @@ fn file_of(rule: Rule, position: Position, runs: Vec<Run>) -> RleFile
     }
 }
 
-/// What an RLE file says, or why the bytes are none.
+/// What an RLE file says, or why the bytes are none: the place is the first line behind which they can't be continued to a
+/// file, or the number of lines plus 1 where they lack a header, and the kind is that of the first rule which that line breaks.
+/// Where a growth of memory is refused the fault is `Memory`, which names no line.
 pub fn read_rle(alloc: Global, bytes: &[u8]) -> Result<RleFile, Fault>
     ensures file { IfOk result (λ value. (file : Rle) × IsRle MAX_LEVEL (lines_of bytes.now) file × Shows value file) }
-    ensures fault { IfErr result (λ fault. OrMemory fault (IsRefusal (IsSomeRle MAX_LEVEL) (Breaks MAX_LEVEL) missing (lines_of bytes.now) fault)) }
+    ensures fault { IfErr result (λ fault. OrMemory fault (Refuses MAX_LEVEL (lines_of bytes.now) fault)) }
+    ensures kinds { IfErr result (λ fault. OrMemory fault (is_rle_kind fault.kind ≡ true)) }
 {
     let mut reader = RleLines::new(alloc);
     let mut runs = Vec::new(alloc);

@@ -1,71 +1,73 @@
 //! Texts of items, on lines of at most 70 bytes.
 
-ghost use Rattle.std.specs.Prelude.{◌≡◌, ◌≤◌, ◌++◌, ◌∷◌, [], length, OnOk, IfOk, IfErr};
+ghost use Rattle.std.specs.Prelude.{◌≡◌, ◌+◌, ◌≤◌, ◌++◌, ◌∷◌, [], length, take, drop, OnOk, IfOk, IfErr};
 ghost use Rattle.life_rle.specs.States.{state_text, lettered};
 ghost use Rattle.life_rle.specs.Cursor.{item_count};
-ghost use Rattle.life_rle.specs.Written.{count_text, with_gap};
-ghost use Rattle.life_rle.specs.Writing.{tag_text, feed, used_behind, Puts, items_text};
+ghost use Rattle.life_rle.specs.Written.{count_text, item_text, with_gap};
+ghost use Rattle.life_rle.specs.Writing.{tag_text, Puts, items_text};
 
 use crate::item::Item;
-use itoa::Buffer;
+use itoa::write_digits;
 use life_base::{Kind, Rule, State, append};
 
 /// The most bytes on a line of items.
 const LINE_WIDTH: usize = 70;
 
-/// How many bytes the text of a state has.
-fn state_len(rule: &Rule, state: State) -> usize
-    ensures { result ≡ length (state_text rule.now state) }
+/// Room for a line feed, the 20 digits of a count, and the two bytes of a state.
+const ITEM_ROOM: usize = 23;
+
+/// Writes a byte at the end of the room, and answers where it stands.
+fn write_byte(room: &mut [u8; ITEM_ROOM], byte: u8) -> usize
+    ensures written { drop result room.new ≡ byte ∷ [] }
+    ensures start { result ≡ 22 }
 {
-    match rule {
-        Rule::Life(_) => 1,
-        Rule::Named(_) => { if state <= 24 { 1 } else { 2 } }
-    }
+    room[22] = byte;
+    22
 }
 
-/// Adds the text of a state under a name at the end.
-fn append_lettered(out: &mut Vec<u8>, state: State) -> Result<(), Kind>
-    ensures ok { OnOk result (out.new.items ≡ out.old.items ++ lettered state) }
-    ensures memory { IfErr result (λ kind. kind ≡ Kind.Memory) }
+/// Writes two bytes at the end of the room, and answers where they start.
+fn write_pair(room: &mut [u8; ITEM_ROOM], prefix: u8, letter: u8) -> usize
+    ensures written { drop result room.new ≡ prefix ∷ letter ∷ [] }
+    ensures start { result ≡ 21 }
+{
+    room[21] = prefix;
+    room[22] = letter;
+    21
+}
+
+/// Writes the text of a state under a name at the end of the room, and answers where it starts.
+fn write_lettered(room: &mut [u8; ITEM_ROOM], state: State) -> usize
+    ensures written { drop result room.new ≡ lettered state }
+    ensures start { result + length (lettered state) ≡ 23 }
 {
     if state == 0 {
-        append(out, b".")
+        write_byte(room, b'.')
     } else if state <= 24 {
-        append(out, &[b'@' + state])
+        write_byte(room, b'@' + state)
     } else {
-        append(out, &[b'o' + (state - 1) / 24, b'A' + (state - 1) % 24])
+        write_pair(room, b'o' + (state - 1) / 24, b'A' + (state - 1) % 24)
     }
 }
 
-/// Adds the text of a state at the end.
-fn append_state(out: &mut Vec<u8>, rule: &Rule, state: State) -> Result<(), Kind>
-    ensures ok { OnOk result (out.new.items ≡ out.old.items ++ state_text rule.now state) }
-    ensures memory { IfErr result (λ kind. kind ≡ Kind.Memory) }
+/// Writes the text of a state at the end of the room, and answers where it starts.
+fn write_state(room: &mut [u8; ITEM_ROOM], rule: &Rule, state: State) -> usize
+    ensures written { drop result room.new ≡ state_text rule.now state }
+    ensures start { result + length (state_text rule.now state) ≡ 23 }
 {
     match rule {
-        Rule::Life(_) => append(out, if state == 0 { b"b" } else { b"o" }),
-        Rule::Named(_) => append_lettered(out, state),
+        Rule::Life(_) => write_byte(room, if state == 0 { b'b' } else { b'o' }),
+        Rule::Named(_) => write_lettered(room, state),
     }
 }
 
-/// How many bytes the text of an item has without its count.
-fn tag_len(rule: &Rule, item: Item) -> usize
-    ensures { result ≡ length (tag_text rule.now item) }
+/// Writes the text of an item without its count at the end of the room, and answers where it starts.
+fn write_tag(room: &mut [u8; ITEM_ROOM], rule: &Rule, item: Item) -> usize
+    ensures written { drop result room.new ≡ tag_text rule.now item }
+    ensures start { result + length (tag_text rule.now item) ≡ 23 }
 {
     match item {
-        Item::Cells { state, .. } => state_len(rule, state),
-        Item::RowEnds { .. } => 1,
-    }
-}
-
-/// Adds the text of an item without its count at the end.
-fn append_tag(out: &mut Vec<u8>, rule: &Rule, item: Item) -> Result<(), Kind>
-    ensures ok { OnOk result (out.new.items ≡ out.old.items ++ tag_text rule.now item) }
-    ensures memory { IfErr result (λ kind. kind ≡ Kind.Memory) }
-{
-    match item {
-        Item::Cells { state, .. } => append_state(out, rule, state),
-        Item::RowEnds { .. } => append(out, b"$"),
+        Item::Cells { state, .. } => write_state(room, rule, state),
+        Item::RowEnds { .. } => write_byte(room, b'$'),
     }
 }
 
@@ -79,32 +81,18 @@ fn item_count(item: Item) -> u64
     }
 }
 
-/// The text of a count: none for 1.
-fn count_text(buffer: &mut Buffer, count: u64) -> &[u8]
-    ensures text { result.now ≡ count_text count }
-    ensures short { length result.now ≤ 40 }
+/// Writes the text of an item at the end of the room, and answers where it starts; a count of 1 is not written.
+fn write_item(room: &mut [u8; ITEM_ROOM], rule: &Rule, item: Item) -> usize
+    ensures written { drop result room.new ≡ item_text rule.now item }
+    ensures start { result + length (item_text rule.now item) ≡ 23 }
+    ensures feed { 1 ≤ result }
 {
+    let tag = write_tag(room, rule, item);
+    let count = item_count(item);
     if count == 1 {
-        &[]
-    } else {
-        buffer.format(count).as_bytes()
+        return tag;
     }
-}
-
-/// Begins the next line if a text of this length doesn't fit on a line that has `used` bytes, and answers how many bytes the line
-/// will have behind the text.
-fn make_room(out: &mut Vec<u8>, used: usize, len: usize) -> Result<usize, Kind>
-    requires used { used ≤ 70 }
-    requires len { len ≤ 70 }
-    ensures used { IfOk result (λ next. next ≡ used_behind used len) }
-    ensures text { OnOk result (out.new.items ≡ out.old.items ++ feed used len) }
-    ensures memory { IfErr result (λ kind. kind ≡ Kind.Memory) }
-{
-    if used + len <= LINE_WIDTH {
-        return Ok(used + len);
-    }
-    append(out, b"\n")?;
-    Ok(len)
+    write_digits(count, room, tag)
 }
 
 /// Writes an item, and answers how many bytes its line has then.
@@ -118,12 +106,16 @@ pub(crate) fn put_item(
     ensures item { IfOk result (λ next. Puts rule.now used (item ∷ []) out.old.items next out.new.items) }
     ensures memory { IfErr result (λ kind. kind ≡ Kind.Memory) }
 {
-    let mut buffer = Buffer::new();
-    let count = count_text(&mut buffer, item_count(item));
-    let next = make_room(out, used, count.len() + tag_len(rule, item))?;
-    append(out, count)?;
-    append_tag(out, rule, item)?;
-    Ok(next)
+    let mut room = [0; ITEM_ROOM];
+    let start = write_item(&mut room, rule, item);
+    let len = ITEM_ROOM - start;
+    if used + len <= LINE_WIDTH {
+        append(out, &room[start..])?;
+        return Ok(used + len);
+    }
+    room[start - 1] = b'\n';
+    append(out, &room[start - 1..])?;
+    Ok(len)
 }
 
 /// Writes dead cells, if any, and answers how many bytes their line has then.
@@ -149,6 +141,8 @@ pub(crate) fn put_mark(out: &mut Vec<u8>, rule: &Rule, used: usize) -> Result<()
     ensures mark { OnOk result (out.new.items ≡ out.old.items ++ items_text rule.now used []) }
     ensures memory { IfErr result (λ kind. kind ≡ Kind.Memory) }
 {
-    let _ = make_room(out, used, 1)?;
+    if used >= LINE_WIDTH {
+        append(out, b"\n")?;
+    }
     append(out, b"!\n")
 }

@@ -21,6 +21,8 @@ WireWorld 7 -1,-1 -1,-1,1,1 0,-1,1,25|#CXRLE Pos=-1,-1 Gen=7;x = 2, y = 1, rule 
 Foo 0 0,0 0,0,1,217|x = 1, y = 1, rule = Foo;xA!
 Foo 0 0,0 0,0,1,255|x = 1, y = 1, rule = Foo;yO!
 Foo 0 0,0 0,0,1,24 1,0,1,48 2,0,1,1|x = 1, y = 1, rule = Foo;XpXo!
+Foo 0 0,0 0,0,1,25 1,0,1,49 2,0,1,240|x = 1, y = 1, rule = Foo;pAqAxX!
+Foo 0 0,0 0,0,3,25|x = 1, y = 1, rule = Foo;3pA!
 Foo 0 0,0 1,0,2,1|x=1,y=1,rule=Foo;b2A3.!
 Foo 0 0,0|x \t= 1 ,\ty =1 , rule =\tFoo \r;!
 B3/S23 0 0,0|x = 99999999999999999999999999, y = 000;!
@@ -35,8 +37,23 @@ B3/S23 0 -576460752303423488,0 -576460752303423488,0,1152921504606846976,1|#CXRL
 B3/S23 0 576460752303423487,0 576460752303423487,0,1,1|#CXRLE Pos=576460752303423487,0;x = 1, y = 1;o!
 B3/S23 0 0,576460752303423487|#CXRLE Pos=0,576460752303423487;x = 1, y = 1;$!
 B3/S23 0 0,0|x = 1, y = 1;576460752303423488b576460752303423488$!
+B3/S23 0 576460752303423487,0 576460752303423487,0,1,1 576460752303423487,1,1,1|#CXRLE Pos=576460752303423487,0;x = 1, y = 1;o$o!
+B3/S23 0 576460752303423487,-576460752303423488|#CXRLE Pos=576460752303423487,-576460752303423488;x = 1, y = 1
+B3/S23 0 0,0|#CXRLE Pos=-0,-000;x = 1, y = 1
+B3/S23 0 0,0|#CXRLE Pos=1,2;#CXRLE;x = 1, y = 1
+B3/S23 0 0,0|#CXRLE pos=z gen=z Pos Gen = \x00=\xff;x = 1, y = 1
+B3/S23 0 0,0|#cxrle Pos=z;x = 1, y = 1
+B3/S23 0 1,2 1,2,1,1|#CXRLE\rPos=1,2\r;x = 1, y = 1\r;\ro\t\r!
+B3/S23 0 0,0|x\r=\r1\r,\ry\r=\r1\r,\rrule\r=\r23/3\r;\r;\t
+B3/S23 0 0,0 0,0,1,1|#\x00\xff;x = 1, y = 1;#\x80;o!\xff
 1 NoHeader|
 2 NoHeader|#CX
+2 NoHeader|\r;\x0b
+1 NoHeader|\x00
+1 NoHeader|\xffx = 1, y = 1
+1 NoHeader|\tx = 1, y = 1
+1 NoHeader|\rx = 1, y = 1
+1 NoHeader| #C
 4 NoHeader|;#C;\t
 1 NoHeader|y = 3
 1 NoHeader|o!
@@ -50,6 +67,15 @@ B3/S23 0 0,0|x = 1, y = 1;576460752303423488b576460752303423488$!
 1 BadHeader|x = -1, y = 1
 1 BadHeader|x = 1 y = 1
 1 BadHeader|x = 1 0, y = 1
+1 BadHeader|x = 1\t0, y = 1
+1 BadHeader|x = 1\r0, y = 1
+1 BadHeader|x\x0b= 1, y = 1
+1 BadHeader|x = \xff, y = 1
+1 BadHeader|x = 1, Y = 1
+1 BadHeader|x = 1,, y = 1
+1 BadHeader|x = 1, y = 1, r\tule = Foo
+1 BadHeader|x = 1, y = 1, Rule = Foo
+1 BadHeader|x = 1, y = z, rule = B03/S23
 1 BadHeader|x = 1, y = 1,
 1 BadHeader|x = 1, y = 1 rule = B3/S23
 1 BadHeader|x = 1, y = 1, rul e = Foo
@@ -57,6 +83,9 @@ B3/S23 0 0,0|x = 1, y = 1;576460752303423488b576460752303423488$!
 1 BadHeader|x = 1, y = 1\x00
 1 BadRule|x = 1, y = 1, rule =
 1 BadRule|x = 1, y = 1, rule = Foo Bar
+1 BadRule|x = 1, y = 1, rule = Foo\tBar
+1 BadRule|x = 1, y = 1, rule = \x00
+1 BadRule|x = 1, y = 1, rule = \xff
 1 BirthOnZero|x = 0, y = 0, rule = B03/S23
 1 BoundedGrid|x = 0, y = 0, rule = B3/S23:T30,20
 1 UnsupportedRule|x = 0, y = 0, rule = 345/2/4
@@ -68,45 +97,83 @@ B3/S23 0 0,0|x = 1, y = 1;576460752303423488b576460752303423488$!
 1 BadNumber|#CXRLE Pos=1, 2
 1 BadNumber|#CXRLE Pos=+1,2
 1 BadNumber|#CXRLE Pos=--1,2
+1 BadNumber|#CXRLE Pos=\t1,2
+1 BadNumber|#CXRLE Pos=1\r,2
+1 BadNumber|#CXRLE Pos=,
+1 BadNumber|#CXRLE Pos=-,-
+1 BadNumber|#CXRLE Pos=1-,2
+1 BadNumber|#CXRLE Pos=1,2\x00
+1 BadNumber|#CXRLE Pos=\xff,2
+1 BadNumber|#CXRLE Pos=z Pos=1,2
+1 BadNumber|#CXRLE Pos=z;#CXRLE Pos=1,2;x = 1, y = 1
 1 BadNumber|#CXRLE Pos=99999999999999999999999,z
 1 BadNumber|#CXRLE Gen=
 1 BadNumber|#CXRLE Gen=-1
+1 BadNumber|#CXRLE Gen=+1
+1 BadNumber|#CXRLE Gen=1\x00
 1 BadNumber|#CXRLE Pos=z Gen=18446744073709551616
 1 TooLarge|#CXRLE Gen=18446744073709551616 Pos=z
+1 TooLarge|#CXRLE Gen=18446744073709551616 Gen=1
 2 TooLarge|#CXRLE Gen=1;#CXRLE Gen=99999999999999999999999
 1 OutOfPlane|#CXRLE Pos=576460752303423488,0
+1 OutOfPlane|#CXRLE Pos=576460752303423488,0 Gen=z
+1 OutOfPlane|#CXRLE Pos=-576460752303423489,0
+1 OutOfPlane|#CXRLE Pos=0,576460752303423488
 1 OutOfPlane|#CXRLE Pos=0,-576460752303423489
 1 OutOfPlane|#CXRLE Pos=99999999999999999999999,0
 1 OutOfPlane|#CXRLE Pos=0,-99999999999999999999999
 2 BadItem|x = 1, y = 1, rule = Foo;yP!
 2 BadItem|x = 1, y = 1, rule = Foo;pz!
 2 BadItem|x = 1, y = 1, rule = Foo;p
-2 BadItem|x = 1, y = 1;3!
-2 BadItem|x = 1, y = 1;2 o!
-2 BadItem|x = 1, y = 1;bo$2
+2 BadItem|x = 1, y = 1, rule = B3/S23;3!
+2 BadItem|x = 1, y = 1, rule = B3/S23;2 o!
+2 BadItem|x = 3, y = 3;bo$2
 2 BadItem|x = 1, y = 1;2;o!
 2 BadItem|x = 1, y = 1;oz!
 2 BadItem|x = 1, y = 1;\x00
 2 BadItem|x = 1, y = 1;o\xff!
 2 BadItem|x = 1, y = 1;x\t= 1, y = 1
-2 ZeroCount|x = 1, y = 1;0o!
+2 BadItem|x = 1, y = 1;x\r= 1, y = 1
+2 BadItem|x = 1, y = 1; x = 1, y = 1
+2 BadItem|x = 1, y = 1;x
+2 BadItem|x = 1, y = 1;x,
+2 BadItem|x = 1, y = 1, rule = Foo;xY!
+2 BadItem|x = 1, y = 1, rule = Foo;zA!
+2 BadItem|x = 1, y = 1, rule = Foo;p\tA!
+2 BadItem|x = 1, y = 1, rule = Foo;p;A!
+2 BadItem|x = 1, y = 1, rule = Foo;p\xff!
+2 BadItem|x = 1, y = 1;2\to!
+2 BadItem|x = 1, y = 1;2\r
+2 BadItem|x = 1, y = 1;2\x00
+2 BadItem|x = 1, y = 1;\x0b!
+2 BadItem|x = 1, y = 1;\x80!
+2 BadItem|x = 1, y = 1;-1o!
+2 BadItem|x = 1, y = 1; #C
+2 ZeroCount|x = 1, y = 1, rule = B3/S23;0o!
 2 ZeroCount|x = 1, y = 1;0!
 2 ZeroCount|x = 1, y = 1;000000000000000000000000000000000000z
-2 TooLarge|x = 1, y = 1;1152921504606846977b!
+2 TooLarge|x = 1, y = 1, rule = B3/S23;1152921504606846977b!
 2 TooLarge|x = 1, y = 1;99999999999999999999999999999999999999!
 2 StateRange|x = 1, y = 1, rule = B3/S23;B!
 2 StateRange|x = 1, y = 1;Bz!
+2 StateRange|x = 1, y = 1;O!
+2 StateRange|x = 1, y = 1;xA!
 2 StateRange|x = 1, y = 1;1152921504606846976B!
 2 SecondHeader|x = 1, y = 1;x = 1, y = 1
 2 SecondHeader|x = 1, y = 1;x=
+2 SecondHeader|x = 1, y = 1;x z
+3 SecondHeader|x = 1, y = 1;o;x = 2, y = 2
 2 LateHeader|x = 1, y = 1;#CXRLE Gen=1
 2 LateHeader|x = 1, y = 1;#CXRLE
+2 LateHeader|x = 1, y = 1;#CXRLE\tPos=z
 3 OutOfPlane|#CXRLE Pos=0,576460752303423487;x = 1, y = 1;2$!
 3 OutOfPlane|#CXRLE Pos=0,576460752303423487;x = 1, y = 1;$b!
 3 OutOfPlane|#CXRLE Pos=0,576460752303423487;x = 1, y = 1;$$!
 3 OutOfPlane|#CXRLE Pos=576460752303423487,0;x = 1, y = 1;ob!
 3 OutOfPlane|#CXRLE Pos=-576460752303423488,0;x = 1, y = 1;1152921504606846976bo!
 2 OutOfPlane|x = 1, y = 1;576460752303423489b!
+2 OutOfPlane|x = 1, y = 1;576460752303423489$!
+2 OutOfPlane|x = 1, y = 1;576460752303423488$.!
 2 OutOfPlane|x = 1, y = 1;1152921504606846976oz!
 ";
 
@@ -166,46 +233,95 @@ fn files_are_read_by_the_format(rt: HostRuntime) -> Result<(), Fail> {
         assert_eq!(rt; got.as_bytes(), &row[..bar], "row {number}");
         count = number;
     }
-    assert_eq!(rt; count, 100);
+    assert_eq!(rt; count, 167);
     Ok(())
 }
 
-/// A header, a data line of this length, and a further line of that length.
-fn long_input(alloc: Global, front: &[u8], length: u32, next: u32) -> Result<Vec<u8>, Kind> {
+/// A text, a byte this many times, and another text.
+fn long_input(
+    alloc: Global,
+    head: &[u8],
+    fill: u8,
+    count: u32,
+    tail: &[u8],
+) -> Result<Vec<u8>, Kind> {
     let mut input = Vec::new(alloc);
-    append(&mut input, b"x = 1, y = 1\n")?;
-    append(&mut input, front)?;
-    if input.resize(13 + length as usize, b' ').is_err() {
+    append(&mut input, head)?;
+    if input.resize(head.len() + count as usize, fill).is_err() {
         return Err(Kind::Memory);
     }
-    append(&mut input, b"\n")?;
-    if input
-        .resize(14 + length as usize + next as usize, b'0')
-        .is_err()
-    {
-        return Err(Kind::Memory);
-    }
+    append(&mut input, tail)?;
     Ok(input)
 }
 
 #[test]
 fn a_line_has_at_most_a_mebibyte(rt: HostRuntime) -> Result<(), Fail> {
     let most = 1u32 << 20;
-    for (front, length, next, answer) in [
-        ("o!", most, 0, "B3/S23 0 0,0 0,0,1,1"),
-        ("o!", most + 1, 0, "2 LineTooLong"),
-        ("o", most, 0, "B3/S23 0 0,0 0,0,1,1"),
-        ("o", most + 1, 0, "2 LineTooLong"),
-        ("0o", most + 1, 0, "2 LineTooLong"),
-        ("#", most, 0, "B3/S23 0 0,0"),
-        ("#", most + 1, 0, "2 LineTooLong"),
-        ("o!", 2, most + 1, "B3/S23 0 0,0 0,0,1,1"),
-        ("o", 1, most, "3 ZeroCount"),
-        ("o", 1, most + 1, "3 LineTooLong"),
+    let live = "B3/S23 0 0,0 0,0,1,1";
+    let blank = "B3/S23 0 0,0";
+    for (head, fill, count, tail, answer) in [
+        ("x = 1, y = 1\no!", b' ', most - 2, "\n", live),
+        ("x = 1, y = 1\no!", b' ', most - 1, "\n", "2 LineTooLong"),
+        ("x = 1, y = 1\nb!", b'0', most + 1, "", "2 LineTooLong"),
+        ("x = 1, y = 1\nb!\n", b'0', most + 1, "", blank),
+        ("x = 1, y = 1\no", b' ', most - 1, "\n", live),
+        ("x = 1, y = 1\no", b' ', most, "\n", "2 LineTooLong"),
+        ("x = 1, y = 1\n0o", b' ', most - 1, "\n", "2 LineTooLong"),
+        ("x = 1, y = 1\n#", b' ', most - 1, "\n", blank),
+        ("x = 1, y = 1\n#", b' ', most, "\n", "2 LineTooLong"),
+        ("x = 1, y = 1\n#CXRLE", b' ', most, "", "2 LineTooLong"),
+        ("x = 1, y = 1\nx =", b' ', most, "", "2 LineTooLong"),
+        ("x = 1, y = 1\n", b' ', most, "\no!", live),
+        ("x = 1, y = 1\n", b' ', most + 1, "\no!", "2 LineTooLong"),
+        ("x = 1, y = 1\no\n", b'0', most, "", "3 ZeroCount"),
+        ("x = 1, y = 1\no\n", b'0', most + 1, "", "3 LineTooLong"),
+        ("x = 1, y = 1", b' ', most - 12, "\no!", live),
+        ("x = 1, y = 1", b' ', most - 11, "\no!", "1 LineTooLong"),
+        ("x = 1, y = 1", b' ', most - 13, "\r\no!", live),
+        ("x = 1, y = 1", b' ', most - 12, "\r\no!", "1 LineTooLong"),
+        ("", b' ', most, "\nx = 1, y = 1", blank),
+        ("", b' ', most + 1, "\nx = 1, y = 1", "1 LineTooLong"),
+        ("#C", b' ', most - 2, "\nx = 1, y = 1", blank),
+        ("#C", b' ', most - 1, "\nx = 1, y = 1", "1 LineTooLong"),
+        ("#CXRLE Pos=z", b' ', most, "", "1 LineTooLong"),
+        ("y", b' ', most, "", "1 LineTooLong"),
     ] {
-        let input = long_input(rt.alloc(), front.as_bytes(), length, next)?;
+        let input = long_input(rt.alloc(), head.as_bytes(), fill, count, tail.as_bytes())?;
         let got = answer_to(rt.alloc(), &input)?;
-        assert_eq!(rt; got.as_str(), answer, "{front} {length} {next}");
+        assert_eq!(rt; got.as_str(), answer, "{head} {count} {tail}");
+    }
+    Ok(())
+}
+
+#[test]
+fn numbers_have_any_length(rt: HostRuntime) -> Result<(), Fail> {
+    let live = "B3/S23 0 0,0 0,0,1,1";
+    for (head, digit, tail, answer) in [
+        ("x = 1, y = 1\n", b'0', "1o!", live),
+        ("x = 1, y = 1\n", b'0', "1$!", "B3/S23 0 0,0"),
+        ("x = 1, y = 1\n", b'0', "o!", "2 ZeroCount"),
+        ("x = 1, y = 1\n", b'9', "o!", "2 TooLarge"),
+        ("x = 1, y = 1\n", b'9', "", "2 TooLarge"),
+        ("x = 1, y = 1\n", b'0', "1", "2 BadItem"),
+        ("x = ", b'9', ", y = 1\no!", live),
+        ("x = 1, y = ", b'0', "\no!", live),
+        ("#CXRLE Pos=", b'0', "7,-8\nx = 1, y = 1", "B3/S23 0 7,-8"),
+        ("#CXRLE Pos=3,-", b'0', "8\nx = 1, y = 1", "B3/S23 0 3,-8"),
+        ("#CXRLE Pos=", b'9', ",0", "1 OutOfPlane"),
+        ("#CXRLE Pos=0,-", b'9', "", "1 OutOfPlane"),
+        ("#CXRLE Pos=", b'9', ",z", "1 BadNumber"),
+        ("#CXRLE Gen=", b'0', "9\nx = 1, y = 1", "B3/S23 9 0,0"),
+        ("#CXRLE Gen=", b'9', "", "1 TooLarge"),
+    ] {
+        let input = long_input(
+            rt.alloc(),
+            head.as_bytes(),
+            digit,
+            1_000_000,
+            tail.as_bytes(),
+        )?;
+        let got = answer_to(rt.alloc(), &input)?;
+        assert_eq!(rt; got.as_str(), answer, "{head} {tail}");
     }
     Ok(())
 }

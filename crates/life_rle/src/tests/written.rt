@@ -1,6 +1,6 @@
 //! Patterns as written.
 
-use crate::{sorted_cells, write_rle};
+use crate::{RleFile, read_rle, sorted_cells, write_rle};
 use life_base::{Cell, Kind, Rule};
 use std::alloc::Global;
 use std::test::Fail;
@@ -85,35 +85,134 @@ fn states_under_a_name_are_letters(rt: HostRuntime) -> Result<(), Fail> {
     Ok(())
 }
 
+/// The worked examples of the format.
 #[test]
-fn lines_have_at_most_70_bytes(rt: HostRuntime) -> Result<(), Fail> {
-    let mut cells = Vec::new(rt.alloc());
-    for i in 0..36u8 {
+fn patterns_are_written(rt: HostRuntime) -> Result<(), Fail> {
+    let wire = [cell(-1, -1, 1), cell(0, -1, 25)];
+    let pair = [cell(-4, 0, 1), cell(4, 0, 1)];
+    let block = [cell(2, 3, 7), cell(3, 3, 7), cell(2, 4, 7), cell(3, 4, 8)];
+    let far = [cell(5, -2, 1), cell(-3, 7, 1)];
+    let long = fence(rt.alloc(), 36)?;
+    for (rule, generation, cells, expected) in [
+        (
+            b"WireWorld".as_slice(),
+            7,
+            wire.as_slice(),
+            b"#CXRLE Pos=-1,-1 Gen=7\nx = 2, y = 1, rule = WireWorld\nApA!\n".as_slice(),
+        ),
+        (
+            b"B3/S23",
+            0,
+            &pair,
+            b"#CXRLE Pos=-4,0\nx = 9, y = 1, rule = B3/S23\no7bo!\n",
+        ),
+        (
+            b"Foo",
+            1,
+            &block,
+            b"#CXRLE Pos=2,3 Gen=1\nx = 2, y = 2, rule = Foo\n2G$GH!\n",
+        ),
+        (
+            b"/2",
+            0,
+            &far,
+            b"#CXRLE Pos=-3,-2\nx = 9, y = 10, rule = B2/S\n8bo9$o!\n",
+        ),
+        (
+            b"B3/S23",
+            0,
+            &long,
+            b"#CXRLE Pos=0,0\nx = 71, y = 1, rule = B3/S23\n\
+            obobobobobobobobobobobobobobobobobobobobobobobobobobobobobobobobobobob\no!\n",
+        ),
+    ] {
+        let text = text_of(rt.alloc(), rule, generation, cells)?;
+        assert_eq!(rt; &text[..], expected);
+    }
+    Ok(())
+}
+
+/// Cells of state 1 at every second column of row 0, from column 0 on. Each is an item of one byte, with another between two of them.
+fn fence(alloc: Global, count: u8) -> Result<Vec<Cell>, Fail> {
+    let mut cells = Vec::new(alloc);
+    for i in 0..count {
         cells.push(cell(2 * i64::from(i), 0, 1))?;
     }
-    let text = text_of(rt.alloc(), b"B3/S23", 0, &cells)?;
+    Ok(cells)
+}
+
+/// Fences with cells behind them, and the text from the header's rule on.
+#[test]
+fn lines_have_at_most_70_bytes(rt: HostRuntime) -> Result<(), Fail> {
+    let none: [Cell; 0] = [];
+    for (count, more, end) in [
+        // the mark ends the line at byte 70
+        (
+            35,
+            none.as_slice(),
+            b"B3/S23\n\
+            obobobobobobobobobobobobobobobobobobobobobobobobobobobobobobobobobobo!\n"
+                .as_slice(),
+        ),
+        // an item ends it there
+        (
+            36,
+            &none,
+            b"B3/S23\n\
+            obobobobobobobobobobobobobobobobobobobobobobobobobobobobobobobobobobob\no!\n",
+        ),
+        // a run goes on behind the fence
+        (
+            34,
+            &[cell(67, 0, 1), cell(68, 0, 1)],
+            b"B3/S23\n\
+            obobobobobobobobobobobobobobobobobobobobobobobobobobobobobobobobob3o!\n",
+        ),
+        // the mark would be byte 71
+        (
+            35,
+            &[cell(69, 0, 1)],
+            b"B3/S23\n\
+            obobobobobobobobobobobobobobobobobobobobobobobobobobobobobobobobobob2o\n!\n",
+        ),
+        // the `$` would be, without a count and with one
+        (
+            35,
+            &[cell(69, 0, 1), cell(0, 1, 1)],
+            b"B3/S23\n\
+            obobobobobobobobobobobobobobobobobobobobobobobobobobobobobobobobobob2o\n$o!\n",
+        ),
+        (
+            35,
+            &[cell(0, 3, 1)],
+            b"B3/S23\n\
+            obobobobobobobobobobobobobobobobobobobobobobobobobobobobobobobobobobo\n3$o!\n",
+        ),
+        // the state behind a count would be
+        (
+            34,
+            &[cell(67, 0, 1), cell(79, 0, 1)],
+            b"B3/S23\n\
+            obobobobobobobobobobobobobobobobobobobobobobobobobobobobobobobobob2o\n11bo!\n",
+        ),
+    ] {
+        let mut cells = fence(rt.alloc(), count)?;
+        cells.extend_from_slice(more)?;
+        let text = text_of(rt.alloc(), b"B3/S23", 0, &cells)?;
+        assert!(rt; text.ends_with(end));
+    }
+    Ok(())
+}
+
+#[test]
+fn a_state_of_two_letters_stays_on_one_line(rt: HostRuntime) -> Result<(), Fail> {
+    let mut cells = fence(rt.alloc(), 35)?;
+    cells.push(cell(69, 0, 25))?;
+    let text = text_of(rt.alloc(), b"Foo", 0, &cells)?;
     assert_eq!(rt;
         &text[..],
-        b"#CXRLE Pos=0,0\nx = 71, y = 1, rule = B3/S23\n\
-        obobobobobobobobobobobobobobobobobobobobobobobobobobobobobobobobobobob\no!\n"
-            .as_slice()
-    );
-    let _last = cells.pop();
-    let text = text_of(rt.alloc(), b"B3/S23", 0, &cells)?;
-    assert_eq!(rt;
-        &text[..],
-        b"#CXRLE Pos=0,0\nx = 69, y = 1, rule = B3/S23\n\
-        obobobobobobobobobobobobobobobobobobobobobobobobobobobobobobobobobobo!\n"
-            .as_slice()
-    );
-    cells.truncate(34);
-    cells.push(cell(67, 0, 1))?;
-    cells.push(cell(79, 0, 1))?;
-    let text = text_of(rt.alloc(), b"B3/S23", 0, &cells)?;
-    assert_eq!(rt;
-        &text[..],
-        b"#CXRLE Pos=0,0\nx = 80, y = 1, rule = B3/S23\n\
-        obobobobobobobobobobobobobobobobobobobobobobobobobobobobobobobobob2o\n11bo!\n"
+        b"#CXRLE Pos=0,0\nx = 70, y = 1, rule = Foo\n\
+        A.A.A.A.A.A.A.A.A.A.A.A.A.A.A.A.A.A.A.A.A.A.A.A.A.A.A.A.A.A.A.A.A.A.A\npA!\n"
             .as_slice()
     );
     Ok(())
@@ -150,6 +249,88 @@ fn sorted_cells_can_be_written(rt: HostRuntime) -> Result<(), Fail> {
     assert!(rt; sorted_cells(&life, &[cell(FIRST, FIRST, 1), cell(LAST, LAST, 1)]));
     for (x, y) in [(FIRST - 1, 0), (0, FIRST - 1), (LAST + 1, 0), (0, LAST + 1)] {
         assert!(rt; !sorted_cells(&life, &[cell(x, y, 1)]));
+    }
+    Ok(())
+}
+
+/// The file of cells that were written and read again; `Memory` or a kind of the reader where there is none.
+fn read_again(
+    alloc: Global,
+    rule: &[u8],
+    generation: u64,
+    cells: &[Cell],
+) -> Result<RleFile, Kind> {
+    let text = text_of(alloc, rule, generation, cells)?;
+    match read_rle(alloc, &text) {
+        Ok(file) => Ok(file),
+        Err(fault) => Err(fault.kind),
+    }
+}
+
+/// The cells of a file's runs, one after another.
+fn cells_of(alloc: Global, file: &RleFile) -> Result<Vec<Cell>, Fail> {
+    let mut cells = Vec::new(alloc);
+    for run in file.runs.as_slice() {
+        let mut x = run.x;
+        for _ in 0..run.len {
+            cells.push(cell(x, run.y, run.state))?;
+            x = x.wrapping_add(1);
+        }
+    }
+    Ok(cells)
+}
+
+/// Cells of all 255 states, 16 in a row.
+fn all_states(alloc: Global) -> Result<Vec<Cell>, Fail> {
+    let mut cells = Vec::new(alloc);
+    for state in 1..=255u8 {
+        cells.push(cell(i64::from(state % 16) - 7, i64::from(state / 16) - 3, state))?;
+    }
+    Ok(cells)
+}
+
+/// A fence, and then so many cells of one state: their run begins the second line.
+fn run_behind(alloc: Global, len: u8, state: u8) -> Result<Vec<Cell>, Fail> {
+    let mut cells = fence(alloc, 35)?;
+    for i in 0..len {
+        cells.push(cell(70 + i64::from(i), 0, state))?;
+    }
+    Ok(cells)
+}
+
+#[test]
+fn what_is_written_is_read_again(rt: HostRuntime) -> Result<(), Fail> {
+    let all = all_states(rt.alloc())?;
+    let long = run_behind(rt.alloc(), 200, 1)?;
+    let named = run_behind(rt.alloc(), 12, 217)?;
+    let corners = [
+        cell(FIRST, FIRST, 1),
+        cell(LAST, FIRST, 1),
+        cell(FIRST, LAST, 1),
+        cell(LAST, LAST, 1),
+    ];
+    let rows = [cell(3, FIRST, 1), cell(-2, LAST, 1)];
+    let row = [cell(FIRST, 5, 9), cell(LAST - 1, 5, 9), cell(LAST, 5, 9)];
+    let wire = [cell(-1, -1, 1), cell(0, -1, 25)];
+    for (rule, generation, cells, corner, runs) in [
+        (b"Foo".as_slice(), 0, all.as_slice(), (-7, -3), 255),
+        (b"B3/S23", 1, &long, (0, 0), 36),
+        (b"Foo", u64::MAX, &named, (0, 0), 36),
+        (b"B3/S23", u64::MAX, &corners, (FIRST, FIRST), 4),
+        (b"Foo", 0, &corners, (FIRST, FIRST), 4),
+        (b"B36/S23", 0, &rows, (-2, FIRST), 2),
+        (b"Foo", 18, &row, (FIRST, 5), 2),
+        (b"WireWorld", 7, &wire, (-1, -1), 2),
+        (b"Foo", u64::MAX, &[], (0, 0), 0),
+        (b"B3/S23", 0, &[], (0, 0), 0),
+    ] {
+        let file = read_again(rt.alloc(), rule, generation, cells)?;
+        let found = cells_of(rt.alloc(), &file)?;
+        assert_eq!(rt; &found[..], cells);
+        assert_eq!(rt; file.runs.as_slice().len(), runs);
+        assert_eq!(rt; (file.x, file.y), corner);
+        assert_eq!(rt; file.generation, generation);
+        assert!(rt; file.rule.same(&Rule::parse(rt.alloc(), rule)?));
     }
     Ok(())
 }

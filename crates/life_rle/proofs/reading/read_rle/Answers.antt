@@ -3,7 +3,7 @@ use Rattle.std.proofs.lemmas.List.{length-append, map-append}
 use Rattle.std.proofs.lemmas.Grind.{common_steps}
 use Rattle.std.proofs.lemmas.Result.{err_from_is_err_and}
 use Rattle.life_base.specs.Text.{lines_of, numbered_from}
-use Rattle.life_base.specs.Refusal.{OrMemory, IsRefusal, fault_at}
+use Rattle.life_base.specs.Refusal.{OrMemory, fault_at}
 use Rattle.life_base.specs.declared.fault.Fault.{Fault}
 use Rattle.life_base.specs.declared.kind.Kind.{Kind}
 use Rattle.life_base.specs.declared.kind.Kind.TheVariants.{NoHeader, Spent}
@@ -11,10 +11,11 @@ use Rattle.life_base.specs.declared.cell.TheConstants.{MAX_LEVEL}
 use Rattle.life_base.proofs.NumberedLines.{texts, all_read, number_at, length_texts}
 use Rattle.life_rle.specs.declared.file.RleFile.{RleFile}
 use Rattle.life_rle.specs.declared.position.Position.{Position}
-use Rattle.life_rle.specs.File.{Shows, HasRuns, LinesRead, missing}
-use Rattle.life_rle.specs.Grammar.{IsSomeRle, IsRle, Breaks}
+use Rattle.life_rle.specs.File.{Shows, HasRuns, LinesRead, Refuses}
+use Rattle.life_rle.specs.Grammar.{IsRle, Breaks, is_rle_kind}
 use Rattle.life_rle.specs.Pattern.{Rle}
 use Rattle.life_rle.proofs.Advance.{known-runs}
+use Rattle.life_rle.proofs.LineKinds.{Breaks-kind}
 use Rattle.life_rle.proofs.ReadInputs.{no_runs, refused_here, refused_at_end}
 use Rattle.life_rle.proofs.reading.read_rle.Invariants.{numbered}
 use Rattle.life_rle.proofs.reading.read_rle.Goals as goal
@@ -29,11 +30,32 @@ returns-in_err-take_numbered-clause-fault c =
     let told : OrMemory fault (Breaks MAX_LEVEL front c.in-Some.line.now fault.kind × (fault.place.line ≡ c.in-Some.number)) = c.in_err-take_numbered.ensures.fault in
     let all : pairs ++ (c.in-Some.number, c.in-Some.line.now) ∷ numbered_from c.next.new.self.number (lines_of c.next.new.self.rest.now) ≡ numbered_from 1 lines =
     ap (λ (t : List (ℕ × List ℕ)). pairs ++ t) (sym c.in-Some.ensures.steps) ∙ c.loop-number.invariant.all in
-    let answer : OrMemory fault (IsRefusal (IsSomeRle MAX_LEVEL) (Breaks MAX_LEVEL) missing lines fault) = elim told [
+    let answer : OrMemory fault (Refuses MAX_LEVEL lines fault) = elim told [
       | inl m ↦ inl m
       | inr w ↦ inr (refused_here MAX_LEVEL lines pairs c.in-Some.number c.in-Some.line.now _ front fault all c.loop-number.invariant.taken w.0 w.1)
     ] in
     rw (p.1, p.2) answer
+
+pub returns-in_err-take_numbered-clause-kinds : goal.returns-in_err-take_numbered-clause-kinds
+returns-in_err-take_numbered-clause-kinds c =
+    let p = err_from_is_err_and c.from_residual.result c.from_residual.ensures.1 in
+    let front : List (List ℕ) = c.loop-number.reader.lines in
+    let fault : Fault = c.in_err-take_numbered.field-0.0 in
+    let told : OrMemory fault (Breaks MAX_LEVEL front c.in-Some.line.now fault.kind × (fault.place.line ≡ c.in-Some.number)) = c.in_err-take_numbered.ensures.fault in
+    let answer : OrMemory fault (is_rle_kind fault.kind ≡ true) = elim told [ inl m ↦ inl m | inr w ↦ inr (Breaks-kind MAX_LEVEL front c.in-Some.line.now fault.kind w.0) ] in
+    rw (p.1, p.2) answer
+
+pub returns-in-Err-clause-kinds : goal.returns-in-Err-clause-kinds
+returns-in-Err-clause-kinds c =
+    let kind : Kind = c.in-Err.kind in
+    let e : c.at.result ≡ fault_at c.saturating_add.result kind = c.at.ensures in
+    let same : c.at.result.kind ≡ kind = ap (λ (f : Fault). f.kind) e in
+    let only : (kind ≡ NoHeader) ⊎ (kind ≡ Spent) = c.in-Err.ensures.only in
+    let answer : OrMemory c.at.result (is_rle_kind c.at.result.kind ≡ true) = elim only [
+      | inl m ↦ inr (ap is_rle_kind (same ∙ m))
+      | inr s ↦ (let refused : c.loop-number.reader.refused ≡ true = c.in-Err.ensures.spent.0 (ap Err s) in let fresh : c.loop-number.reader.refused ≡ false = c.loop-number.invariant.fresh in cc)
+    ] in
+    answer
 
 pub returns-in-Ok-clause-file : goal.returns-in-Ok-clause-file
 returns-in-Ok-clause-file c =
@@ -66,9 +88,9 @@ returns-in-Err-clause-fault c =
     let number : ℕ = c.saturating_add.result in
     let e : c.at.result ≡ fault_at number kind = c.at.ensures in
     let only : (kind ≡ NoHeader) ⊎ (kind ≡ Spent) = c.in-Err.ensures.only in
-    let answer : OrMemory c.at.result (IsRefusal (IsSomeRle MAX_LEVEL) (Breaks MAX_LEVEL) missing lines c.at.result) = elim only [
+    let answer : OrMemory c.at.result (Refuses MAX_LEVEL lines c.at.result) = elim only [
       | inl m ↦ (let pre = c.in-Err.ensures.missing (ap Err m) in
-          inr (subst (IsRefusal (IsSomeRle MAX_LEVEL) (Breaks MAX_LEVEL) missing lines) (sym e)
+          inr (subst (Refuses MAX_LEVEL lines) (sym e)
           (refused_at_end MAX_LEVEL lines read pre.0 number c.loop-number.last kind whole pre.1 m c.loop-number.invariant.counted c.saturating_add.ensures)))
       | inr s ↦ (let refused : c.loop-number.reader.refused ≡ true = c.in-Err.ensures.spent.0 (ap Err s) in let fresh : c.loop-number.reader.refused ≡ false = c.loop-number.invariant.fresh in cc)
     ] in

@@ -1,0 +1,98 @@
+//! Makes each call that takes memory on worked inputs, and prints a line for each: `ok`, `wrong`, or the name of the fault.
+//! tests/allocations.sh runs it once for each of its requests for memory, and refuses that one.
+#![tactic(auto)]
+
+mod answer;
+mod base;
+mod calls;
+mod files;
+mod squares;
+mod strips;
+mod tables;
+
+use calls::Calls;
+use life_quad::{Plain, Shared, Squares};
+use std::alloc::Global;
+
+fn base_calls(rt: &HostRuntime) {
+    let alloc = rt.alloc();
+    let calls = Calls::of(rt, "life_base");
+    calls.tell("Rule::parse", base::parsed(alloc));
+    calls.tell("Rule::write", base::written(alloc));
+    calls.tell("Rule::copy", base::copied(alloc));
+    calls.tell("Name::copy", base::name_copied(alloc));
+    calls.tell("append", base::appended(alloc));
+    calls.tell("append_number", base::number_appended(alloc));
+    calls.tell("Items::push", base::pushed(alloc));
+    calls.tell("read_within", base::read(alloc));
+}
+
+fn file_calls(rt: &HostRuntime) {
+    let alloc = rt.alloc();
+    let calls = Calls::of(rt, "life_rle");
+    calls.tell("read_rle", files::rle_read(alloc));
+    calls.tell("RleLines::line", files::rle_lines_read(alloc));
+    calls.tell("write_rle", files::rle_written(alloc));
+    let calls = Calls::of(rt, "life_mc");
+    calls.tell("read_mc", files::mc_read(alloc));
+    calls.tell("write_mc", files::mc_written(alloc));
+    let calls = Calls::of(rt, "life_table");
+    calls.tell("read_table", tables::read(alloc));
+    calls.tell("read_table for Table::next", tables::ambiguous(alloc));
+}
+
+/// A store without nodes.
+trait New: Squares {
+    fn new_store(alloc: Global) -> Self;
+}
+
+// Most nodes of a store.
+const LIMIT: u64 = 1 << 31;
+
+impl New for Shared {
+    fn new_store(alloc: Global) -> Shared {
+        Shared::new(alloc, LIMIT)
+    }
+}
+
+impl New for Plain {
+    fn new_store(alloc: Global) -> Plain {
+        Plain::new(alloc, LIMIT)
+    }
+}
+
+// Each call fills a store of its own, so that the store grows in it, and then the same store again: that meets what a refusal left.
+fn filling_calls<'x, S: New + Drop>(rt: &'x HostRuntime, place: &'x str) {
+    let alloc = rt.alloc();
+    let mut joining = S::new_store(alloc);
+    let mut putting = S::new_store(alloc);
+    let mut trimming = S::new_store(alloc);
+    let mut growing = S::new_store(alloc);
+    let mut building = S::new_store(alloc);
+    for time in ["", ", again"] {
+        let calls = Calls::at(rt, place, time);
+        calls.tell("join", squares::joined(&mut joining));
+        calls.tell("put_run, cells", squares::put(alloc, &mut putting));
+        calls.tell("trim", squares::trimmed(alloc, &mut trimming));
+        calls.tell("grow", squares::grown(alloc, &mut growing));
+        calls.tell("Builder", strips::built(alloc, &mut building));
+    }
+}
+
+fn measuring_calls(rt: &HostRuntime) {
+    let alloc = rt.alloc();
+    let mut store = Shared::new_store(alloc);
+    for time in ["", ", again"] {
+        let calls = Calls::at(rt, "Shared", time);
+        calls.tell("population", squares::counted(alloc, &mut store));
+        calls.tell("bounds", squares::bounded(alloc, &mut store));
+    }
+}
+
+fn main(rt: HostRuntime) {
+    base_calls(&rt);
+    file_calls(&rt);
+    filling_calls::<Shared>(&rt, "Shared");
+    filling_calls::<Plain>(&rt, "Plain");
+    measuring_calls(&rt);
+}

@@ -1,0 +1,38 @@
+-- Texts at the end of an item's room.
+use Rattle.std.proofs.Common.{◌≡◌, ℕ, ◌+◌, ◌-◌, ◌≤◌, ◌<◌, ◌^◌, List, [], ◌∷◌, drop, length, decimal, refl, sym, ap, ◌∙◌, arith}
+use Rattle.std.specs.Prelude.{slice_set}
+use Rattle.std.proofs.lemmas.List.{drop-set, drop-set-add, length-drop}
+use Rattle.std.proofs.lemmas.Fmt.{length-decimal-le}
+
+last-one : (ys : List ℕ) (a b : ℕ) → length ys ≡ 1 → slice_set (a ∷ ys) 1 b ≡ a ∷ b ∷ []
+last-one [] a b h = absurd (omega (arith, h))
+last-one (y ∷ []) a b h = refl
+last-one (y ∷ z ∷ ys) a b h = absurd (omega (arith, h))
+
+none-left : (ys : List ℕ) → length ys ≡ 0 → ys ≡ []
+none-left [] h = refl
+none-left (y ∷ ys) h = absurd (omega (arith, h))
+
+-- one byte
+pub room-byte : (room : List ℕ) (byte : ℕ) → length room ≡ 23 → drop 22 (slice_set room 22 byte) ≡ byte ∷ []
+room-byte room byte h =
+    let size = length-drop 23 room in
+    drop-set room 22 byte (omega (arith, h)) ∙ ap (λ ys. byte ∷ ys) (none-left (drop 23 room) (omega (arith, h, size)))
+
+-- two bytes
+pub room-pair : (room : List ℕ) (a b : ℕ) → length room ≡ 23 → drop 21 (slice_set (slice_set room 21 a) 22 b) ≡ a ∷ b ∷ []
+room-pair room a b h =
+    let size = length-drop 22 room in
+    drop-set-add 21 (slice_set room 21 a) 1 b
+    ∙ ap (λ ys. slice_set ys 1 b) (drop-set room 21 a (omega (arith, h)))
+    ∙ last-one (drop 22 room) a b (omega (arith, h, size))
+
+-- a line feed in front of a text
+pub room-feed : (room : List ℕ) (start : ℕ) → 1 ≤ start → start ≤ length room → drop (start - 1) (slice_set room (start - 1) 10) ≡ 10 ∷ drop start room
+room-feed room start some inside =
+    let behind : (start - 1) + 1 ≡ start = omega (arith, some) in
+    drop-set room (start - 1) 10 (omega (arith, some, inside)) ∙ ap (λ n. 10 ∷ drop n room) behind
+
+-- a number's digits
+pub digits-fit : (n : ℕ) → n < 2 ^ 64 → length (decimal n) ≤ 20
+digits-fit n h = length-decimal-le 20 n (omega arith) (omega (arith, h)) h

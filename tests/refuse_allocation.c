@@ -1,0 +1,85 @@
+/* Loaded into a program before the C library (LD_PRELOAD), refuses some of its requests for memory: those whose numbers, counted
+   from 1, go from the variable FIRST to the variable LAST. At the end it writes, into the file that the variable REPORT names, how
+   many requests there were and how many of them it refused. */
+#define _GNU_SOURCE
+#include <dlfcn.h>
+#include <errno.h>
+#include <stddef.h>
+#include <stdio.h>
+#include <stdlib.h>
+
+/* What the C library does under this name. */
+#define NEXT(name) \
+    static __typeof__(name) *next; \
+    if (!next) \
+        next = (__typeof__(name) *)dlsym(RTLD_NEXT, #name)
+
+static unsigned long first, last, requests, refused;
+static int counting;
+
+static unsigned long number_in(const char *name)
+{
+    const char *text = getenv(name);
+    return text ? strtoul(text, NULL, 10) : 0;
+}
+
+__attribute__((constructor)) static void start(void)
+{
+    first = number_in("FIRST");
+    last = number_in("LAST");
+    counting = 1;
+}
+
+__attribute__((destructor)) static void end(void)
+{
+    const char *name = getenv("REPORT");
+    FILE *report;
+    counting = 0;
+    report = name ? fopen(name, "w") : NULL;
+    if (report) {
+        fprintf(report, "%lu %lu\n", requests, refused);
+        fclose(report);
+    }
+}
+
+static int is_refused(void)
+{
+    if (!counting)
+        return 0;
+    requests++;
+    if (requests < first || last < requests)
+        return 0;
+    refused++;
+    errno = ENOMEM;
+    return 1;
+}
+
+void *malloc(size_t size)
+{
+    NEXT(malloc);
+    return is_refused() ? NULL : next(size);
+}
+
+void *calloc(size_t count, size_t size)
+{
+    NEXT(calloc);
+    return is_refused() ? NULL : next(count, size);
+}
+
+void *realloc(void *old, size_t size)
+{
+    NEXT(realloc);
+    return is_refused() ? NULL : next(old, size);
+}
+
+void *aligned_alloc(size_t alignment, size_t size)
+{
+    NEXT(aligned_alloc);
+    return is_refused() ? NULL : next(alignment, size);
+}
+
+int posix_memalign(void **block, size_t alignment, size_t size)
+{
+    NEXT(posix_memalign);
+    return is_refused() ? ENOMEM : next(block, alignment, size);
+}
