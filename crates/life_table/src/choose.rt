@@ -2,7 +2,7 @@
 ghost use Rattle.std.specs.Prelude.{◌≡◌, ℕ, ◌+◌, ◌<◌, ◌≤◌, ◌↔◌, ◌++◌, ◌∷◌, [], take, drop, length, List, All, IsTrue, slice_index};
 ghost use Rattle.std.specs.List.{list_any};
 ghost use Rattle.life_table.specs.Found.{Adds, Consistent, GivesAs, Tells};
-ghost use Rattle.life_table.specs.Meaning.{has_state, GivesByCounts};
+ghost use Rattle.life_table.specs.Meaning.{IsChoice, state_of, has_state, GivesByCounts};
 ghost use Rattle.life_table.specs.Taking.{can_be_state};
 ghost use Rattle.life_table.specs.Valid.{IsEntry, is_variable};
 
@@ -86,10 +86,11 @@ pub(crate) fn with_image(vars: &[Var], line: &Transition, states: &[State], foun
     with_state(found, output_of(line, states))
 }
 
-/// Tells whether an entry may be a state.
-fn can_be(vars: &[Var], entry: Entry, s: State) -> bool
-    requires { IsEntry 256 vars.now entry }
-    ensures { result ≡ can_be_state vars.now entry s }
+/// Tells whether an entry alone may be a state.
+pub(crate) fn can_be(vars: &[Var], entry: Entry, s: State) -> bool
+    requires entry { IsEntry 256 vars.now entry }
+    ensures exact { result ≡ can_be_state vars.now entry s }
+    ensures needed { (choice : ℕ → ℕ) → IsChoice vars.now choice → state_of choice entry ≡ s → IsTrue result }
 {
     match entry {
         Entry::Fixed(fixed) => fixed == s,

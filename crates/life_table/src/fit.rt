@@ -5,21 +5,10 @@ ghost use Rattle.life_table.specs.Found.{Tells, Consistent, SomeGives};
 ghost use Rattle.life_table.specs.Meaning.{IsChoice, state_of};
 ghost use Rattle.life_table.specs.Valid.{IsEntry, is_variable};
 
-use crate::choose::{has_state, with_image};
+use crate::choose::{can_be, with_image};
 use crate::found::Found;
 use crate::table::{Entry, Transition, Var};
 use life_base::State;
-
-/// Tells whether an input alone may be a state.
-pub(crate) fn may_be(vars: &[Var], entry: Entry, s: State) -> bool
-    requires entry { IsEntry 256 vars.now entry }
-    ensures { (choice : ℕ → ℕ) → IsChoice vars.now choice → state_of choice entry ≡ s → IsTrue result }
-{
-    match entry {
-        Entry::Fixed(fixed) => fixed == s,
-        Entry::Var(number) => has_state(&vars[number as usize], s),
-    }
-}
 
 /// The place of the first neighbour whose input is a state, or 0: there most images can be told not to fit.
 fn first_fixed(inputs: &[Entry]) -> usize
@@ -41,11 +30,11 @@ fn may_fit(vars: &[Var], inputs: &[Entry], place: usize, states: &[State]) -> bo
     requires entries { All (IsEntry 256 vars.now) inputs.now }
     ensures { (choice : ℕ → ℕ) → IsChoice vars.now choice → map (state_of choice) inputs.now ≡ states.now → IsTrue result }
 {
-    if !may_be(vars, inputs[place], states[place]) {
+    if !can_be(vars, inputs[place], states[place]) {
         return false;
     }
     for k in 0..inputs.len() {
-        if !may_be(vars, inputs[k], states[k]) {
+        if !can_be(vars, inputs[k], states[k]) {
             return false;
         }
     }

@@ -7,8 +7,8 @@ ghost use Rattle.life_table.specs.Valid.{IsEntry, is_variable, neighbour_count};
 ghost use Rattle.life_table.specs.Around.{cells_of};
 ghost use Rattle.life_table.specs.Orders.{images};
 
-use crate::choose::by_counts;
-use crate::fit::{by_images, may_be};
+use crate::choose::{by_counts, can_be};
+use crate::fit::by_images;
 use crate::found::Found;
 use crate::table::{Entry, Symmetry, Table, Transition, Var};
 use crate::turn::images_of;
@@ -50,7 +50,7 @@ pub(crate) fn given_by(
     requires turned { symmetry ≢ Symmetry.Permute → map (take (length cells.now)) turned.now ≡ map (λ v. slice_index cells.now 0 ∷ v) (images symmetry (drop 1 cells.now)) }
     ensures { Tells (Gives symmetry vars.now line.now (slice_index cells.now 0) (drop 1 cells.now)) result }
 {
-    if !may_be(vars, line.inputs.as_slice()[0], cells[0]) {
+    if !can_be(vars, line.inputs.as_slice()[0], cells[0]) {
         return Found::Nothing;
     }
     match symmetry {

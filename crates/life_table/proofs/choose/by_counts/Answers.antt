@@ -48,7 +48,7 @@ returns-then-can_complete c =
     subst (λ (others : List ℕ). Tells (GivesByCounts c.args.vars.now c.args.line.now (slice_index c.args.cells.now 0) others) (One c.in-Some-settled_state.s)) (rest_of c.args.cells.now)
     (gives_settled c.args.vars.now c.args.line.now first rest shape (slice_index c.args.cells.now 0) (take (length c.args.cells.now - 1) (drop 1 c.args.cells.now))
     (take c.groups_of-count.result.1 c.groups_of-count.result.0) c.in-Some.free c.groups_of-count.ensures.grouped c.in-Some.ensures.counts
-    (sym c.can_be.ensures ∙ c.if-not-can_be.false) c.in-Some-settled_state.s (sym c.settled_state.ensures ∙ c.in-Some-settled_state.is) (c.can_complete.ensures.0 c.if-can_complete.true))
+    (sym c.can_be.ensures.exact ∙ c.if-not-can_be.false) c.in-Some-settled_state.s (sym c.settled_state.ensures ∙ c.in-Some-settled_state.is) (c.can_complete.ensures.0 c.if-can_complete.true))
 
 pub returns-else-can_complete : goal.returns-else-can_complete
 returns-else-can_complete c =
@@ -70,4 +70,4 @@ returns-in-None c =
     subst (λ (others : List ℕ). Tells (GivesByCounts c.args.vars.now c.args.line.now (slice_index c.args.cells.now 0) others) c.first_states.result) (rest_of c.args.cells.now)
     (gives_open c.args.vars.now c.args.line.now first rest shape (slice_index c.args.cells.now 0) (take (length c.args.cells.now - 1) (drop 1 c.args.cells.now))
     (take c.groups_of-count.result.1 c.groups_of-count.result.0) c.in-Some.free c.groups_of-count.ensures.grouped c.in-Some.ensures.counts
-    (sym c.can_be.ensures ∙ c.if-not-can_be.false) (sym c.settled_state.ensures ∙ c.in-None.is) c.first_states.result c.first_states.ensures)
+    (sym c.can_be.ensures.exact ∙ c.if-not-can_be.false) (sym c.settled_state.ensures ∙ c.in-None.is) c.first_states.result c.first_states.ensures)

@@ -7,11 +7,11 @@ use Rattle.life_table.proofs.Fitting.{input_is}
 use Rattle.life_table.proofs.Images.{tells_images, tells_permute}
 use Rattle.life_table.proofs.next.given_by.Goals as goal
 
-pub returns-then-not-may_be : goal.returns-then-not-may_be
-returns-then-not-may_be c = λ s g.
+pub returns-then-not-can_be : goal.returns-then-not-can_be
+returns-then-not-can_be c = λ s g.
     let here = input_is g.choice c.args.line.now.inputs (slice_index c.args.cells.now 0 ∷ g.image) 0 (entries.Fixed 0) g.inputs (omega (arith, c.requires.count, c.requires.some)) in
-    let yes : c.may_be.result ≡ true = c.may_be.ensures g.choice g.is_choice (subst (λ es. state_of g.choice (get_or es 0 (entries.Fixed 0)) ≡ slice_index c.args.cells.now 0) (sym c.as_slice.ensures) here) in
-    let no : c.may_be.result ≡ false = c.if-not-may_be.true in
+    let yes : c.can_be.result ≡ true = c.can_be.ensures.needed g.choice g.is_choice (subst (λ es. state_of g.choice (get_or es 0 (entries.Fixed 0)) ≡ slice_index c.args.cells.now 0) (sym c.as_slice.ensures) here) in
+    let no : c.can_be.result ≡ false = c.if-not-can_be.true in
     absurd (let e : true ≡ false = sym yes ∙ no in cc)
 
 pub returns-in-Permute : goal.returns-in-Permute
