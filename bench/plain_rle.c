@@ -2,6 +2,7 @@
 // state, prints how many there are, makes the cells of the runs, and writes these cells again, with the box in the header and
 // items on lines of at most 70 bytes. It checks nothing, and knows the states b, o and A to X.
 //   plain_rle        how long the writing alone took goes to standard error
+//   plain_rle read   nothing is written
 //   plain_rle text   what was written goes to standard output in place of the counts
 #include <inttypes.h>
 #include <stdint.h>
@@ -132,7 +133,7 @@ static struct text write_cells(const struct cell *cells, size_t count) {
 }
 
 int main(int count, char **words) {
-    int as_text = count == 2 && strcmp(words[1], "text") == 0;
+    int reads_only = count == 2 && strcmp(words[1], "read") == 0, as_text = count == 2 && strcmp(words[1], "text") == 0;
     size_t size = 0, room = 1 << 16;
     char *input = malloc(room);
     for (size_t more; (more = fread(input + size, 1, room - size, stdin)) > 0;) {
@@ -141,6 +142,7 @@ int main(int count, char **words) {
     }
     read_runs(input, size);
     if (!as_text) printf("%zu runs\n", run_count);
+    if (reads_only) return 0;
     struct cell *cells = NULL;
     size_t cell_count = 0, places = 0;
     for (size_t i = 0; i < run_count; i++)

@@ -8,8 +8,12 @@
 #include <stdio.h>
 #include <stdlib.h>
 
-static void *(*next_malloc)(size_t);
-static void *(*next_realloc)(void *, size_t);
+/* What the C library does under this name. */
+#define NEXT(name) \
+    static __typeof__(name) *next; \
+    if (!next) \
+        next = (__typeof__(name) *)dlsym(RTLD_NEXT, #name)
+
 static unsigned long first, last, requests, refused;
 static int counting;
 
@@ -52,14 +56,30 @@ static int is_refused(void)
 
 void *malloc(size_t size)
 {
-    if (!next_malloc)
-        next_malloc = (void *(*)(size_t))dlsym(RTLD_NEXT, "malloc");
-    return is_refused() ? NULL : next_malloc(size);
+    NEXT(malloc);
+    return is_refused() ? NULL : next(size);
+}
+
+void *calloc(size_t count, size_t size)
+{
+    NEXT(calloc);
+    return is_refused() ? NULL : next(count, size);
 }
 
 void *realloc(void *old, size_t size)
 {
-    if (!next_realloc)
-        next_realloc = (void *(*)(void *, size_t))dlsym(RTLD_NEXT, "realloc");
-    return is_refused() ? NULL : next_realloc(old, size);
+    NEXT(realloc);
+    return is_refused() ? NULL : next(old, size);
+}
+
+void *aligned_alloc(size_t alignment, size_t size)
+{
+    NEXT(aligned_alloc);
+    return is_refused() ? NULL : next(alignment, size);
+}
+
+int posix_memalign(void **block, size_t alignment, size_t size)
+{
+    NEXT(posix_memalign);
+    return is_refused() ? ENOMEM : next(block, alignment, size);
 }

@@ -43,10 +43,10 @@ value_at f (x ∷ xs) (suc k) d n h = value_at f xs k d n (omega (arith, h))
 abbrev pub changed : (ℕ → ℕ) → ℕ → ℕ → ℕ → ℕ
 changed choice i x j = cond (nat_eq i j) x (choice j)
 
-changed_same : (choice : ℕ → ℕ) (i x : ℕ) → changed choice i x i ≡ x
+pub changed_same : (choice : ℕ → ℕ) (i x : ℕ) → changed choice i x i ≡ x
 changed_same choice i x = ap (λ b. cond b x (choice i)) (eq-eqb i i refl)
 
-changed_choice : (vars : List Var) (choice : ℕ → ℕ) (i x : ℕ) → IsChoice vars choice → IfSome (slice_get vars i) (λ var. HasState var x) → IsChoice vars (changed choice i x)
+pub changed_choice : (vars : List Var) (choice : ℕ → ℕ) (i x : ℕ) → IsChoice vars choice → IfSome (slice_get vars i) (λ var. HasState var x) → IsChoice vars (changed choice i x)
 changed_choice vars choice i x h k j below = elim (eqb_tells i j) [
   | inl same ↦ subst (λ n. IfSome (slice_get vars n) (λ var. HasState var (changed choice i x n))) same.1 (subst (λ s. IfSome (slice_get vars i) (λ var. HasState var s)) (sym (changed_same choice i x)) k)
   | inr other ↦ subst (λ b. IfSome (slice_get vars j) (λ var. HasState var (cond b x (choice j)))) (sym other.0) (h j below)

@@ -1,5 +1,5 @@
 -- The images of a symmetry are turns by multiples of a step, and their reflections.
-use Rattle.std.proofs.Common.{◌≡◌, ℕ, ◌*◌, ◌/◌, ◌<◌, ◌≤◌, ◌∷◌, ◌++◌, List, map, length, Bool, true, false, cond, ap, sym, ◌∙◌, subst, arith, drop, slice_index}
+use Rattle.std.proofs.Common.{◌≡◌, ℕ, ◌*◌, ◌<◌, ◌≤◌, ◌∷◌, ◌++◌, List, map, length, Bool, true, false, cond, ap, sym, ◌∙◌, subst, arith}
 use Rattle.std.specs.Prelude.{[], Contains}
 use Rattle.std.proofs.Math.Nat.{div_self, zero-mul}
 use Rattle.std.specs.List.{range_with_len}

@@ -1,6 +1,6 @@
 -- What has been found of the states that a line gives.
-use Rattle.std.specs.Prelude.{◌≡◌, ◌≢◌, ℕ, List, ◌∷◌, map, take, drop, length, slice_index, ◌⊎◌, Contains}
-use Rattle.life_table.specs.Meaning.{IsChoice, state_of, count_of}
+use Rattle.std.specs.Prelude.{◌≡◌, ◌≢◌, ℕ, List, map, ◌⊎◌, Contains}
+use Rattle.life_table.specs.Meaning.{IsChoice, state_of}
 use Rattle.life_table.specs.declared.table.Var.{Var}
 use Rattle.life_table.specs.declared.table.Entry.{Entry}
 use Rattle.life_table.specs.declared.table.Transition.{Transition}
@@ -30,14 +30,6 @@ pub record GivesAs (vars : List Var) (line : Transition) (states : List ℕ) (s 
   pub choice : ℕ → ℕ
   pub is_choice : IsChoice vars choice
   pub inputs : map (state_of choice) line.inputs ≡ states
-  pub output : state_of choice line.output ≡ s
-
--- some choice makes the first inputs these states, gives each state as many of the others as are left, and makes the output s
-pub record GivesFrom (vars : List Var) (line : Transition) (given left : List ℕ) (s : ℕ) : Type 0 where
-  pub choice : ℕ → ℕ
-  pub is_choice : IsChoice vars choice
-  pub first : map (state_of choice) (take (length given) line.inputs) ≡ given
-  pub others : (t : ℕ) → count_of t (map (state_of choice) (drop (length given) line.inputs)) ≡ slice_index left t
   pub output : state_of choice line.output ≡ s
 
 -- one of these images, the centre first, gives s

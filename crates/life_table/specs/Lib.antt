@@ -6,3 +6,4 @@ pub mod Reader
 pub mod Laws
 pub mod Found
 pub mod Around
+pub mod Taking

@@ -2,12 +2,15 @@
 #![tactic(auto)]
 
 mod choose;
+mod complete;
 mod descriptors;
 mod entries;
 mod fit;
 mod found;
+mod groups;
 pub mod laws;
 mod next;
+mod places;
 mod reading;
 mod said;
 mod table;

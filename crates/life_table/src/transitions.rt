@@ -54,7 +54,7 @@ pub(crate) fn transition_of(
 }
 
 /// Whether an entry is the variable with this number.
-fn is_variable(number: u64, entry: Entry) -> bool
+pub(crate) fn is_variable(number: u64, entry: Entry) -> bool
     ensures { result ≡ names number entry }
 {
     match entry {

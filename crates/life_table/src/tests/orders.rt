@@ -16,6 +16,9 @@ use std::rt::HostRuntime;
 const HEAD: &str =
     "@RULE A\n@TABLE\nn_states:3\nneighborhood:vonNeumann\nsymmetries:permute\nvar a={0,1,2}\nvar b={0,1,2}\n";
 
+const EIGHT: &str =
+    "@RULE A\n@TABLE\nn_states:9\nneighborhood:Moore\nsymmetries:permute\nvar a={1,2,3,4,5,6,7}\nvar b={a}\nvar c={a}\nvar d={a}\nvar e={a}\nvar f={a}\nvar g={a}\n";
+
 /// The states that a line gives at one cell, with each order of the neighbours tried.
 fn by_orders(vars: &[Var], line: &Transition, cells: [State; 5]) -> Found
     requires count { length line.now.inputs ≡ 5 }
@@ -72,18 +75,23 @@ fn cells_at(number: usize) -> [State; 5]
     ]
 }
 
-/// A table under `permute` whose only transition stands on line 8.
-fn table_with(alloc: Global, line: &str) -> Result<Table, Kind> {
+/// The table that these parts of a file write.
+fn table_of(alloc: Global, parts: &[&str]) -> Result<Table, Kind> {
     let mut bytes = Vec::new(alloc);
-    if bytes.extend_from_slice(HEAD.as_bytes()).is_err()
-        || bytes.extend_from_slice(line.as_bytes()).is_err()
-    {
-        return Err(Kind::Memory);
+    for part in parts {
+        if bytes.extend_from_slice(part.as_bytes()).is_err() {
+            return Err(Kind::Memory);
+        }
     }
     match read_table(alloc, &bytes) {
         Ok(table) => Ok(table),
         Err(fault) => Err(fault.kind),
     }
+}
+
+/// A table under `permute` whose only transition stands on line 8.
+fn table_with(alloc: Global, line: &str) -> Result<Table, Kind> {
+    table_of(alloc, &[HEAD, line])
 }
 
 #[test]
@@ -116,5 +124,22 @@ fn counts_agree_with_all_orders(rt: HostRuntime) {
                 "{line} {number}"
             );
         }
+    }
+}
+
+#[test]
+fn eight_variables_are_decided(rt: HostRuntime) {
+    for (last, line, answer) in [
+        ("var h={a}\n", "0,a,b,c,d,e,f,g,h,1\n", Ok(0)),
+        ("var h={0}\n", "0,a,b,c,d,e,f,g,h,1\n", Ok(0)),
+        ("var h={8}\n", "0,a,b,c,d,e,f,g,h,1\n", Ok(1)),
+        ("var h={8}\n", "0,a,b,c,d,e,f,g,h,h\n", Ok(8)),
+        ("var h={8}\n", "0,a,b,c,d,e,f,h,g,g\n", Err(ambiguous(14))),
+        ("var h={8}\n", "0,a,b,c,d,e,f,h,h,1\n", Ok(0)),
+    ] {
+        let table = table_of(rt.alloc(), &[EIGHT, last, line]).expect(&rt, "table");
+        assert!(rt; table.neighborhood == Neighborhood::Moore && table.n_states == 9);
+        let around = Neighbours::Eight([0, 8, 7, 6, 5, 4, 3, 2, 1]);
+        assert_eq!(rt; table.next(&around), answer, "{last} {line}");
     }
 }

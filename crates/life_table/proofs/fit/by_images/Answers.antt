@@ -1,4 +1,4 @@
-use Rattle.std.proofs.Common.{◌≡◌, ◌≤◌, ℕ, ◌+◌, true, false, map, take, length, get_or, ap, sym, ◌∙◌, subst, arith}
+use Rattle.std.proofs.Common.{◌≡◌, ◌≤◌, ℕ, ◌+◌, [], true, false, map, take, length, get_or, ap, sym, ◌∙◌, subst}
 use Rattle.std.proofs.lemmas.List.{take_all}
 use Rattle.life_table.specs.Meaning.{state_of}
 use Rattle.life_table.specs.Found.{Tells, Adds, GivesAs, SomeGives}
@@ -17,13 +17,13 @@ loop-image-preserved c =
     elim c.if-may_fit.branch [
       | then-may_fit w ↦
           subst (Tells (SomeGives vars line (map (take m) (take (k + 1) images)))) (sym w.found-is)
-          (image_more vars line m k images _ c.loop-image.found w.with_image-found.result c.loop-image-test.true c.loop-image.invariant
-          (subst (λ es. Adds (GivesAs vars line (take (length es) (get_or images k _))) c.loop-image.found w.with_image-found.result) c.as_slice-inputs.ensures w.with_image-found.ensures))
+          (image_more vars line m k images [] c.loop-image.found w.with_image-found.result c.loop-image-test.true c.loop-image.invariant
+          (subst (λ es. Adds (GivesAs vars line (take (length es) (get_or images k []))) c.loop-image.found w.with_image-found.result) c.as_slice-inputs.ensures w.with_image-found.ensures))
       | else-may_fit w ↦
           subst (Tells (SomeGives vars line (map (take m) (take (k + 1) images)))) (sym w.found-is)
-          (image_more vars line m k images _ c.loop-image.found c.loop-image.found c.loop-image-test.true c.loop-image.invariant
-          (subst (λ es. Adds (GivesAs vars line (take (length es) (get_or images k _))) c.loop-image.found c.loop-image.found) c.as_slice-inputs.ensures
-          (adds_none (GivesAs vars line (take (length c.as_slice-inputs.result.now) (get_or images k _)))
+          (image_more vars line m k images [] c.loop-image.found c.loop-image.found c.loop-image-test.true c.loop-image.invariant
+          (subst (λ es. Adds (GivesAs vars line (take (length es) (get_or images k []))) c.loop-image.found c.loop-image.found) c.as_slice-inputs.ensures
+          (adds_none (GivesAs vars line (take (length c.as_slice-inputs.result.now) (get_or images k [])))
           (λ s g.
           let yes : c.may_fit.result ≡ true = c.may_fit.ensures g.choice g.is_choice (ap (map (state_of g.choice)) c.as_slice-inputs.ensures ∙ g.inputs) in
           let no : c.may_fit.result ≡ false = w.if-may_fit.false in
