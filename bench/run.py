@@ -17,7 +17,7 @@ TOP = os.path.dirname(HERE)
 TIMES = 3
 
 
-def measured(words, source=os.devnull):
+def timed(words, source=os.devnull):
     """The best time of a command in seconds, its peak memory in bytes, what its runs printed, and the least processor time, which other
     work on the machine changes less."""
     best, peak, printed, least_spent = None, 0, [], None
@@ -36,11 +36,6 @@ def measured(words, source=os.devnull):
         printed.append(text[:4096].decode("utf-8", "replace"))
         peak = max(peak, usage.ru_maxrss * 1024)
     return best, peak, printed, least_spent
-
-
-def timed(words, source=os.devnull):
-    """The same without the processor time."""
-    return measured(words, source)[:3]
 
 
 def written(words, source):
@@ -121,8 +116,8 @@ def rle(folder):
              for label, name, size in (("soup of 1 MB", "soup_1e6.rle", 1_000_000), ("soup of 10 MB", "soup_1e7.rle", 10_000_000))]
     times = []
     for label, path in soups:
-        took, peak, _ = timed([program, "read"], path)
-        base, base_peak, _ = timed([reference, "read"], path)
+        took, peak, _, _ = timed([program, "read"], path)
+        base, base_peak, _, _ = timed([reference, "read"], path)
         times.append(took)
         print(f"  {label:<26} {took:.3f} s, plain {base:.3f} s; {took / base:.2f} times plain, peak memory {peak / 1e6:.0f} MB, plain {base_peak / 1e6:.0f} MB")
     print(f"  10 times the bytes take {times[1] / times[0]:.1f} times as long")
@@ -144,8 +139,8 @@ def least(pattern, texts):
 
 def store(folder):
     print("the shared store, beside a plain hash-consing store in C")
-    _, peak, texts = timed([proved("bench_quad")])
-    _, base_peak, base = timed([plain(folder, "plain_quad")])
+    _, peak, texts, _ = timed([proved("bench_quad")])
+    _, base_peak, base, _ = timed([plain(folder, "plain_quad")])
     for what in ("fresh joins", "found joins"):
         took, other = least(what + r": (\d+) ms", texts), least(what + r" \d+ (\d+)", base)
         print(f"  4,000,000 {what:<16} {took:.0f} ms, plain {other:.0f} ms; {took / other:.2f} times plain")
@@ -161,8 +156,8 @@ def strips(folder):
     program, reference = proved("bench_strips"), plain(folder, "plain_strips")
     times, others, listings = [], [], []
     for runs in (1_000_000, 10_000_000):
-        _, peak, texts, spent = measured([program, str(runs), "time"])
-        _, base_peak, base, base_spent = measured([reference, str(runs)])
+        _, peak, texts, spent = timed([program, str(runs), "time"])
+        _, base_peak, base, base_spent = timed([reference, str(runs)])
         took, other = least(r"runs: \d+ squares in (\d+) ms", texts), least(r"(\d+) ms", base)
         squares, other_squares = least(r"runs: (\d+) squares", texts), least(r"(\d+) squares", base)
         times.append((took, spent))
@@ -176,7 +171,7 @@ def strips(folder):
         for line in timed([program, str(runs)])[2][0].splitlines():
             print(f"  {line}")
     for runs in (1_000_000, 10_000_000):
-        _, peak, texts = timed([program, str(runs), "cells"])
+        _, peak, texts, _ = timed([program, str(runs), "cells"])
         for what in ("runs", "single cells"):
             cells, took = least(what + r": (\d+) cells", texts), least(what + r": \d+ cells in (\d+) ms", texts)
             listings.append(took)
@@ -190,11 +185,11 @@ def table(folder):
     program, reference = proved("bench_table"), plain(folder, "plain_table")
     for symmetry in ("rotate4", "permute"):
         path = made(folder, f"table_{symmetry}.rule", symmetry, 300)
-        _, peak, texts = timed([program, "1000000", "time"], path)
-        _, _, base = timed([reference, "1000000"], path)
-        answers = texts[0].splitlines()[0]
-        if base[0].splitlines()[0] != answers:
-            sys.exit(f"{symmetry}: the answers differ: {answers}; plain {base[0].splitlines()[0]}")
+        _, peak, texts, _ = timed([program, "1000000", "time"], path)
+        _, _, base, _ = timed([reference, "1000000"], path)
+        answers, others = texts[0].splitlines()[0], base[0].splitlines()[0]
+        if others != answers:
+            sys.exit(f"{symmetry}: the answers differ: {answers}; plain {others}")
         took, other = least(r"(\d+) ms", texts), least(r"(\d+) ms", base)
         print(f"  under {symmetry:<20} {took:.0f} ms, plain {other:.0f} ms; {took / other:.2f} times plain, peak memory {peak / 1e6:.0f} MB; {answers}")
 

@@ -1,5 +1,5 @@
 -- Facts about what a refused call had to store.
-use Rattle.std.proofs.Common.{◌≡◌, ℕ, zero, suc, ◌+◌, ◌-◌, ◌^◌, ◌≤◌, ◌<◌, Bool, true, false, nat_lt, Result, Ok, Err, OnErr, ◌⊎◌, inl, inr, refl, sym, ◌∙◌, ap, subst, arith}
+use Rattle.std.proofs.Common.{◌≡◌, ℕ, suc, ◌+◌, ◌-◌, ◌^◌, ◌≤◌, ◌<◌, Bool, true, false, nat_lt, Result, Ok, Err, OnErr, ◌⊎◌, inl, inr, refl, sym, ◌∙◌, ap, subst, arith}
 use Rattle.std.specs.Prelude.{if◌then◌else◌}
 use Rattle.life_base.specs.Tree.{Tree, point, quad, depth, state_at, IsFull}
 use Rattle.life_quad.specs.Moves.{inner, can_trim, trim_up_to}
@@ -25,10 +25,6 @@ pub SomeTrimmed-inner : (P : Tree → Type 0) (t : Tree) (least : ℕ) → can_t
 SomeTrimmed-inner P t least can s =
     let e : trim_up_to (suc s.steps) t least ≡ trim_up_to s.steps (inner t) least = ap (λ b. if b then trim_up_to s.steps (inner t) least else t) can in
     record { steps = suc s.steps; can = ap (λ u. can_trim u least) e ∙ s.can; smaller = subst (λ u. P (inner u)) (sym e) s.smaller }
-
--- the first of them
-pub SomeTrimmed-first : (P : Tree → Type 0) (t : Tree) (least : ℕ) → can_trim t least ≡ true → P (inner t) → SomeTrimmed P t least
-SomeTrimmed-first P t least can p = record { steps = 0; can = can; smaller = p }
 
 -- a part of a northern or of a southern quarter
 pub SomePart-north : (P : Tree → Type 0) (a b c d : Tree) → SomePart P a ⊎ SomePart P b → SomePart P (quad a b c d)

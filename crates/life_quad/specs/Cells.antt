@@ -1,5 +1,5 @@
 -- The cells of a square on the plane: a square of level k covers the columns and rows from -2^(k-1) to 2^(k-1) - 1.
-use Rattle.std.specs.Prelude.{◌≡◌, ◌≢◌, ◌==◌, ℕ, ◌+◌, ◌-◌, ◌^◌, ◌&&◌, ◌⊎◌, if◌then◌else◌, ℤ, pos, neg_ℤ, ◌+ℤ◌, ◌<ℤ◌, ◌≤ℤ◌, unsigned_abs, int_lt, int_le, List, Contains, AllPairs}
+use Rattle.std.specs.Prelude.{◌≡◌, ◌≢◌, ◌==◌, ℕ, ◌+◌, ◌⊎◌, if◌then◌else◌, ℤ, pos, neg_ℤ, ◌+ℤ◌, ◌<ℤ◌, ◌≤ℤ◌, List, Contains, AllPairs}
 use Rattle.life_base.specs.declared.cell.Cell.{Cell}
 use Rattle.life_quad.specs.declared.extent.Bounds.{Bounds}
 use Rattle.life_base.specs.Tree.{Tree, point, quad, depth, half_side, tree_cell as cell, IsFull}

@@ -78,10 +78,10 @@ module _ (lines : List (List ℕ)) (pairs rest : List Numbered) (all : pairs ++ 
     says = subst (λ (s : Said). Describes s table) said_is d;
   }
 
-  pub refused_at_end : (kind : Kind) (next : ℕ) → lacking said ≡ Some kind → next ≡ min (length pairs + 1) (2 ^ 64 - 1)
-      → Refuses lines (record { place = record { line = next }; kind = kind })
-  refused_at_end kind next l n =
-      let lacks : missing lines ≡ Some kind = missing_is lines ∙ ap lacking (sym said_is) ∙ l in
-      let r = refusal_at_end IsTableFile broken missing by_lines lines kind reached.unbroken (λ g. let z : None ≡ Some kind = sym g.whole ∙ lacks in cc) lacks in
+  pub refused_at_end : (fault : Fault) (next : ℕ) → lacking said ≡ Some fault.kind → fault.place.line ≡ next → next ≡ min (length pairs + 1) (2 ^ 64 - 1)
+      → Refuses lines fault
+  refused_at_end fault next l at n =
+      let lacks : missing lines ≡ Some fault.kind = missing_is lines ∙ ap lacking (sym said_is) ∙ l in
+      let r = refusal_at_end IsTableFile broken missing by_lines lines fault.kind reached.unbroken (λ g. let z : None ≡ Some fault.kind = sym g.whole ∙ lacks in cc) lacks in
       let size : length lines ≡ length pairs = sym (ap length (all_read lines pairs rest all none)) ∙ length_texts pairs in
-      subst (λ (k : ℕ). Refuses lines (record { place = record { line = k }; kind = kind })) (omega (arith, n, size)) r
+      subst (λ (k : ℕ). Refuses lines (record { place = record { line = k }; kind = fault.kind })) (omega (arith, at, n, size)) r

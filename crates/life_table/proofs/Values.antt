@@ -347,6 +347,13 @@ states_case n vars name list states h =
     let c = tested (is_list list) (states_listed n vars (within_braces list)) states b.1 in
     (not_some (variable_named vars name) b.0, c.1)
 
+-- a variable that a line writes has a new name
+pub is_new_name : (n : ℕ) (vars : List Var) (text : List ℕ) (var : Var) → variable_of n vars text ≡ Some var → variable_named vars var.name ≡ None
+unfolding variable_of
+is_new_name n vars text var h =
+    let m = mapped (λ (states : List ℕ). record { name = name_text text; states = states }) (variable_states n vars (name_text text) (list_text text)) var h in
+    ap (λ (v : Var). variable_named vars v.name) m.2 ∙ (states_case n vars (name_text text) (list_text text) m.0 m.1).0
+
 -- a variable that a line writes has states below the number of states, and a new name
 pub is_variable_written : (n : ℕ) → n ≤ 256 → (vars : List Var) → All (IsVariable n) vars → (text : List ℕ) (var : Var) → variable_of n vars text ≡ Some var
     → IsVariable n var × (variable_named vars var.name ≡ None)
@@ -355,5 +362,5 @@ is_variable_written n most vars all text var h =
     let m = mapped (λ (states : List ℕ). record { name = name_text text; states = states }) (variable_states n vars (name_text text) (list_text text)) var h in
     let s = states_case n vars (name_text text) (list_text text) m.0 m.1 in (
       subst (IsVariable n) (sym m.2) (set_variable n (name_text text) m.0 (listed_set n most vars all (within_braces (list_text text)) m.0 s.1)),
-      ap (λ (v : Var). variable_named vars v.name) m.2 ∙ s.0,
+      is_new_name n vars text var h,
     )

@@ -1,6 +1,7 @@
 pub mod Orders
 pub mod Meaning
 pub mod Valid
+pub mod ByName
 pub mod Reading
 pub mod Reader
 pub mod Laws

@@ -2,23 +2,17 @@
 
 ghost use Rattle.std.specs.Prelude.{◌≡◌, ◌≤◌, List, map, IfOk, IfErr, option_map, option_and_then};
 ghost use Rattle.life_base.specs.declared.kind.Kind.TheVariants.{Memory};
-ghost use Rattle.life_table.specs.Reading.{entry_of as entry_by_word, variable_named as variable_by_name, single as set_of_one, union as union_of_two, states_of_entry as states_of_place, states_listed as states_in_list, entries_of as entries_on, all_some, between_commas, bytes_alone};
+ghost use Rattle.life_table.specs.Reading.{entry_of as entry_by_word, single as set_of_one, union as union_of_two, states_of_entry as states_of_place, states_listed as states_in_list, entries_of as entries_on, all_some, between_commas, bytes_alone};
 
-use crate::table::{Entry, Var};
+use crate::by_name::Variables;
+use crate::table::Entry;
 use crate::words::{first_part, has_byte, number_below};
 use life_base::{Kind, State, is_digit_text, is_whitespace, trimmed};
 use std::alloc::Global;
 
-/// The number of the variable with this name.
-pub(crate) fn variable_named(vars: &[Var], word: &[u8]) -> Option<usize>
-    ensures { result ≡ variable_by_name vars.now word.now }
-{
-    vars.iter().position(|var| var.name.as_slice() == word)
-}
-
 /// The entry that a word writes.
 #[tactic(auto, unfolding(crate::specs::Reading::entry_of))]
-pub(crate) fn entry_of(n_states: u16, vars: &[Var], word: &[u8]) -> Option<Entry>
+pub(crate) fn entry_of(n_states: u16, vars: &Variables, word: &[u8]) -> Option<Entry>
     requires most { n_states ≤ 256 }
     ensures { result ≡ entry_by_word n_states vars.now word.now }
 {
@@ -28,7 +22,7 @@ pub(crate) fn entry_of(n_states: u16, vars: &[Var], word: &[u8]) -> Option<Entry
             None => None,
         };
     }
-    match variable_named(vars, word) {
+    match vars.number_of(word) {
         Some(number) => Some(Entry::Var(number as u64)),
         None => None,
     }
@@ -56,20 +50,17 @@ fn unite(states: &mut [u64; 4], more: &[u64; 4])
 }
 
 /// The states of an entry.
-fn states_of_entry(vars: &[Var], entry: Entry) -> Option<[u64; 4]>
+fn states_of_entry(vars: &Variables, entry: Entry) -> Option<[u64; 4]>
     ensures { result ≡ states_of_place vars.now entry }
 {
     match entry {
         Entry::Fixed(state) => Some(single(state)),
-        Entry::Var(number) => match vars.get(number as usize) {
-            Some(var) => Some(var.states),
-            None => None,
-        },
+        Entry::Var(number) => vars.states_of(number),
     }
 }
 
 /// The states of the entry that a word writes.
-fn states_named(n_states: u16, vars: &[Var], word: &[u8]) -> Option<[u64; 4]>
+fn states_named(n_states: u16, vars: &Variables, word: &[u8]) -> Option<[u64; 4]>
     requires most { n_states ≤ 256 }
     ensures { result ≡ option_and_then (states_of_place vars.now) (entry_by_word n_states vars.now word.now) }
 {
@@ -81,7 +72,7 @@ fn states_named(n_states: u16, vars: &[Var], word: &[u8]) -> Option<[u64; 4]>
 
 /// The states of all entries in a list.
 #[tactic(auto, unfolding(crate::specs::Reading::states_listed))]
-pub(crate) fn states_listed(n_states: u16, vars: &[Var], list: &[u8]) -> Option<[u64; 4]>
+pub(crate) fn states_listed(n_states: u16, vars: &Variables, list: &[u8]) -> Option<[u64; 4]>
     requires most { n_states ≤ 256 }
     ensures { result ≡ states_in_list n_states vars.now list.now }
 {
@@ -102,7 +93,7 @@ pub(crate) fn states_listed(n_states: u16, vars: &[Var], list: &[u8]) -> Option<
 fn entries_between_commas(
     alloc: Global,
     n_states: u16,
-    vars: &[Var],
+    vars: &Variables,
     text: &[u8],
 ) -> Result<Option<Vec<Entry>>, Kind>
     requires most { n_states ≤ 256 }
@@ -128,7 +119,7 @@ fn entries_between_commas(
 fn entries_of_bytes(
     alloc: Global,
     n_states: u16,
-    vars: &[Var],
+    vars: &Variables,
     text: &[u8],
 ) -> Result<Option<Vec<Entry>>, Kind>
     requires most { n_states ≤ 256 }
@@ -154,7 +145,7 @@ fn entries_of_bytes(
 pub(crate) fn entries_of(
     alloc: Global,
     n_states: u16,
-    vars: &[Var],
+    vars: &Variables,
     text: &[u8],
 ) -> Result<Option<Vec<Entry>>, Kind>
     requires most { n_states ≤ 256 }

@@ -1,6 +1,7 @@
 //! Rule tables: a cell's next state by the first line that fits it and its neighbours.
 #![tactic(auto)]
 
+mod by_name;
 mod choose;
 mod complete;
 mod descriptors;

@@ -1,14 +1,15 @@
 //! Rule tables, read.
 
-ghost use Rattle.std.specs.Prelude.{◌≡◌, OnOk, IfOk, IfErr, MatchResult, Some, None, Ok, Err, false};
+ghost use Rattle.std.specs.Prelude.{◌≡◌, OnOk, IfOk, IfErr, Some, None, Ok, Err, false};
 ghost use Rattle.life_base.specs.Refusal.{OrMemory};
 ghost use Rattle.life_base.specs.Text.{lines_of};
 ghost use Rattle.life_base.specs.declared.kind.Kind.TheVariants.{Memory};
-ghost use Rattle.life_table.specs.Reading.{told_by, lacking, IsTable, Refuses, Describes};
+ghost use Rattle.life_table.specs.Reading.{variable_named, told_by, lacking, IsTable, Refuses, Describes};
 ghost use Rattle.life_table.specs.Reader.{IsKept, IsGood, after, fits_after, nothing_said};
 
+use crate::by_name::Variables;
 use crate::said::{Said, Section, Told};
-use crate::table::Table;
+use crate::table::{Table, Var};
 use crate::telling::told_on;
 use crate::transitions::fits_zero;
 use life_base::{Fault, Items, Kind, Place, lines};
@@ -35,7 +36,7 @@ impl TableReader {
                 n_states: None,
                 neighborhood: None,
                 symmetry: None,
-                vars: Items::new(alloc),
+                vars: Variables::new(alloc),
                 lines: Items::new(alloc),
             },
             fits: false,
@@ -44,6 +45,7 @@ impl TableReader {
 
     /// Keeps what a line says.
     fn keep(&mut self, told: Told) -> Result<(), Kind>
+        requires unnamed { (var : Var) → told ≡ Told.Variable var → variable_named self.old.said.vars var.name ≡ None }
         ensures said { OnOk result (self.new.said ≡ after self.old.said told) }
         ensures fits { OnOk result (self.new.fits ≡ fits_after self.old.fits self.old.said.vars told) }
         ensures err { IfErr result (λ kind. kind ≡ Memory) }
@@ -58,8 +60,7 @@ impl TableReader {
             Told::Orders(symmetry) => self.said.symmetry = Some(symmetry),
             Told::Variable(var) => self.said.vars.push(var)?,
             Told::Line(line) => {
-                self.fits = self.fits
-                    || fits_zero(self.said.vars.as_slice(), line.inputs.as_slice());
+                self.fits = self.fits || fits_zero(&self.said.vars, line.inputs.as_slice());
                 self.said.lines.push(line)?;
             }
         }
@@ -67,6 +68,7 @@ impl TableReader {
     }
 
     /// Takes the next line.
+    #[tactic(auto, using(crate::proofs::Unnamed::unnamed))]
     fn take(&mut self, alloc: Global, number: u64, line: &[u8]) -> Result<(), Fault>
         requires kept { IsKept self.old.said self.old.fits }
         ensures ok { OnOk result ((told : Told) × (told_by self.old.said number line.now ≡ Ok told) × (self.new.said ≡ after self.old.said told)
@@ -90,10 +92,11 @@ impl TableReader {
     }
 }
 
-/// The table that lines describe, or what they lack.
-fn table_of(said: Said) -> Result<Table, Kind>
+/// The table that lines describe, or what they lack where they end.
+fn table_of(alloc: Global, said: Said, end: u64) -> Result<Table, Fault>
     requires good { IsGood said }
-    ensures { MatchResult result (λ table. (lacking said ≡ None) × Describes said table) (λ kind. lacking said ≡ Some kind) }
+    ensures ok { IfOk result (λ table. (lacking said ≡ None) × Describes said table) }
+    ensures err { IfErr result (λ fault. OrMemory fault ((lacking said ≡ Some fault.kind) × (fault.place.line ≡ end))) }
 {
     let Said {
         name,
@@ -105,21 +108,24 @@ fn table_of(said: Said) -> Result<Table, Kind>
         lines,
     } = said;
     let Some(name) = name else {
-        return Err(Kind::NoRuleLine);
+        return Err(Fault::at(end, Kind::NoRuleLine));
     };
     if section == Section::Ahead {
-        return Err(Kind::NoTable);
+        return Err(Fault::at(end, Kind::NoTable));
     }
     match (n_states, neighborhood, symmetry) {
-        (Some(n_states), Some(neighborhood), Some(symmetry)) => Ok(Table {
-            name,
-            n_states,
-            neighborhood,
-            symmetry,
-            vars,
-            lines,
-        }),
-        _ => Err(Kind::BadDescriptor),
+        (Some(n_states), Some(neighborhood), Some(symmetry)) => match vars.into_items(alloc) {
+            Ok(vars) => Ok(Table {
+                name,
+                n_states,
+                neighborhood,
+                symmetry,
+                vars,
+                lines,
+            }),
+            Err(kind) => Err(Fault::of(kind)),
+        },
+        _ => Err(Fault::at(end, Kind::BadDescriptor)),
     }
 }
 
@@ -134,11 +140,5 @@ pub fn read_table(alloc: Global, bytes: &[u8]) -> Result<Table, Fault>
         reader.take(alloc, number, line)?;
         next = number.saturating_add(1);
     }
-    match table_of(reader.said) {
-        Ok(table) => Ok(table),
-        Err(kind) => Err(Fault {
-            place: Place { line: next },
-            kind,
-        }),
-    }
+    table_of(alloc, reader.said, next)
 }

@@ -1,5 +1,6 @@
 //! What the lines of a rule table say.
 
+use crate::by_name::Variables;
 use crate::table::{Neighborhood, Symmetry, Transition, Var};
 use life_base::{Items, Name};
 
@@ -19,7 +20,7 @@ pub(crate) struct Said {
     pub(crate) n_states: Option<u16>,
     pub(crate) neighborhood: Option<Neighborhood>,
     pub(crate) symmetry: Option<Symmetry>,
-    pub(crate) vars: Items<Var>,
+    pub(crate) vars: Variables,
     pub(crate) lines: Items<Transition>,
 }
 

@@ -19,7 +19,7 @@ use std::alloc::Global;
 const LONGEST_LINE: usize = 1048576;
 
 /// What stands behind `@RULE`, where that is followed by whitespace.
-fn rule_text(line: &[u8]) -> Option<&[u8]>
+fn text_of_rule_line(line: &[u8]) -> Option<&[u8]>
     ensures { MatchOption result (begins_rule line.now ≡ false) (λ text. (begins_rule line.now ≡ true) × (text.now ≡ drop 5 line.now)) }
 {
     match line {
@@ -47,7 +47,7 @@ fn name_in(alloc: Global, text: &[u8]) -> Result<Option<Name>, Kind>
 fn told_name(alloc: Global, line: &[u8]) -> Result<Told, Kind>
     ensures { Answers result (if_named (name_on line.now)) }
 {
-    let Some(text) = rule_text(line) else {
+    let Some(text) = text_of_rule_line(line) else {
         return Err(Kind::NoRuleLine);
     };
     match name_in(alloc, text)? {
@@ -87,7 +87,7 @@ fn told_where_settled(
     requires kept { IsKept said.now fits }
     ensures { Answers result (told_settled n_states neighborhood said.now.vars said.now.lines number text.now) }
 {
-    let vars = said.vars.as_slice();
+    let vars = &said.vars;
     if is_variable_line(text) {
         return match variable_of(alloc, n_states, vars, text)? {
             Some(var) => Ok(Told::Variable(var)),

@@ -6,10 +6,10 @@ ghost use Rattle.life_base.specs.declared.kind.Kind.TheVariants.{Memory};
 ghost use Rattle.life_table.specs.Reading.{transition_of as transition_on, is_bound as has_input, if_transition};
 ghost use Rattle.life_table.specs.Valid.{neighbour_count as neighbours_in, is_variable as names, allows_zero as may_be_zero, fits_zero as fits_zeros, is_quiet_output as may_stay_zero, is_quiet};
 
-use crate::choose::has_state;
+use crate::by_name::Variables;
 use crate::entries::entries_of;
 use crate::said::Told;
-use crate::table::{Entry, Neighborhood, Transition, Var};
+use crate::table::{Entry, Neighborhood, Transition};
 use life_base::{Items, Kind};
 use std::alloc::Global;
 
@@ -29,7 +29,7 @@ pub(crate) fn transition_of(
     alloc: Global,
     n_states: u16,
     neighborhood: Neighborhood,
-    vars: &[Var],
+    vars: &Variables,
     number: u64,
     text: &[u8],
 ) -> Result<Option<Transition>, Kind>
@@ -81,20 +81,21 @@ fn is_bound(inputs: &[Entry], output: Entry) -> bool
 }
 
 /// Whether an entry may be 0.
-fn allows_zero(vars: &[Var], entry: Entry) -> bool
+#[tactic(auto, using(crate::proofs::Lookup::may_be_zero))]
+fn allows_zero(vars: &Variables, entry: Entry) -> bool
     ensures { result ≡ may_be_zero vars.now entry }
 {
     match entry {
         Entry::Fixed(state) => state == 0,
-        Entry::Var(number) => match vars.get(number as usize) {
-            Some(var) => has_state(var, 0),
+        Entry::Var(number) => match vars.states_of(number) {
+            Some(states) => states[0] % 2 == 1,
             None => false,
         },
     }
 }
 
 /// Whether the transition fits the neighbourhood in which each cell is 0.
-pub(crate) fn fits_zero(vars: &[Var], inputs: &[Entry]) -> bool
+pub(crate) fn fits_zero(vars: &Variables, inputs: &[Entry]) -> bool
     ensures { result ≡ list_all (may_be_zero vars.now) inputs.now }
 {
     inputs.iter().all(|entry| allows_zero(vars, *entry))
@@ -111,7 +112,7 @@ fn is_quiet_output(output: Entry) -> bool
 }
 
 /// Whether a transition keeps the table quiet, where this tells whether an earlier one fits the neighbourhood in which each cell is 0.
-fn stays_quiet(vars: &[Var], fits: bool, line: &Transition) -> bool
+fn stays_quiet(vars: &Variables, fits: bool, line: &Transition) -> bool
     ensures { result ≡ (fits || not (fits_zeros vars.now line.now) || may_stay_zero line.now.output) }
 {
     fits || !fits_zero(vars, line.inputs.as_slice()) || is_quiet_output(line.output)
@@ -119,7 +120,7 @@ fn stays_quiet(vars: &[Var], fits: bool, line: &Transition) -> bool
 
 /// What a transition says behind others, or which rule it breaks. `fits` tells whether one of those fits the neighbourhood in which
 /// each cell is 0.
-pub(crate) fn told_transition(vars: &[Var], fits: bool, line: Transition) -> Result<Told, Kind>
+pub(crate) fn told_transition(vars: &Variables, fits: bool, line: Transition) -> Result<Told, Kind>
     ensures { (earlier : List Transition) → fits ≡ list_any (fits_zeros vars.now) earlier → is_quiet vars.now earlier ≡ true
         → result ≡ if_transition vars.now earlier (Some line) }
 {

@@ -5,7 +5,8 @@ ghost use Rattle.std.specs.List.{list_all};
 ghost use Rattle.life_base.specs.declared.kind.Kind.TheVariants.{Memory};
 ghost use Rattle.life_table.specs.Reading.{is_variable_line as begins_variable, is_name_byte as may_name, is_variable_name as names_variable, is_list, within_braces as list_within, variable_states as states_of_new, variable_of as variable_on};
 
-use crate::entries::{states_listed, variable_named};
+use crate::by_name::Variables;
+use crate::entries::states_listed;
 use crate::table::Var;
 use crate::words::{has_byte, split_at_byte};
 use life_base::{Items, Kind, is_whitespace, trimmed};
@@ -57,14 +58,14 @@ fn within_braces(text: &[u8]) -> Option<&[u8]>
 
 /// The states of a new variable with this name and list, if both are of their form.
 #[tactic(auto, unfolding(crate::specs::Reading::variable_states))]
-fn variable_states(n_states: u16, vars: &[Var], name: &[u8], list: &[u8]) -> Option<[u64; 4]>
+fn variable_states(n_states: u16, vars: &Variables, name: &[u8], list: &[u8]) -> Option<[u64; 4]>
     requires most { n_states ≤ 256 }
     ensures { result ≡ states_of_new n_states vars.now name.now list.now }
 {
     if !is_variable_name(name) {
         return None;
     }
-    if variable_named(vars, name).is_some() {
+    if vars.number_of(name).is_some() {
         return None;
     }
     match within_braces(list) {
@@ -78,7 +79,7 @@ fn variable_states(n_states: u16, vars: &[Var], name: &[u8], list: &[u8]) -> Opt
 pub(crate) fn variable_of(
     alloc: Global,
     n_states: u16,
-    vars: &[Var],
+    vars: &Variables,
     text: &[u8],
 ) -> Result<Option<Var>, Kind>
     requires most { n_states ≤ 256 }

@@ -1,11 +1,11 @@
 use Rattle.std.proofs.Common.{rules, ◌≡◌, ◌++◌, ◌∷◌, ◌+◌, ◌-◌, ◌^◌, min, length, [], List, ℕ, Bool, map, sym, ◌∙◌, ap, subst, inl, inr, append_assoc, refl}
-use Rattle.std.specs.Prelude.{Err}
+use Rattle.std.specs.Prelude.{Err, None, Some}
 use Rattle.std.proofs.lemmas.List.{map-append}
-use Rattle.std.proofs.lemmas.Result.{err_from_is_err_and}
+use Rattle.std.proofs.lemmas.Result.{err_from_is_err_and, IfOk-weaker, MatchResult-weaker}
 use Rattle.life_base.specs.Text.{lines_of, numbered_from}
 use Rattle.life_base.specs.Refusal.{OrMemory}
 use Rattle.life_base.specs.declared.fault.Fault.{Fault}
-use Rattle.life_table.specs.Reading.{Numbered, Refuses, told_by}
+use Rattle.life_table.specs.Reading.{Numbered, Refuses, Describes, IsTable, lacking, told_by}
 use Rattle.life_table.specs.Reader.{nothing_said}
 use Rattle.life_table.specs.declared.said.Said.{Said}
 use Rattle.life_table.proofs.ReadLines.{Reads, reads_none, reads_more, next_number, refused_at, read_whole, refused_at_end, good_reads}
@@ -53,15 +53,20 @@ loop-number-preserved c =
           ∙ ap (λ (ps : List Numbered). min (length ps + 1) (2 ^ 64 - 1)) (sym more);
     }
 
-pub returns-in-Ok-clause-ok : goal.returns-in-Ok-clause-ok
-returns-in-Ok-clause-ok c =
-    read_whole (lines_of c.args.bytes.now) (map numbered c.loop-number.yielded) _ c.loop-number.invariant.all c.in-None.ensures.steps.0
-    c.loop-number.reader.said c.loop-number.reader.fits c.loop-number.invariant.reads c.in-Ok.table c.in-Ok.ensures.0 c.in-Ok.ensures.1
+pub returns-clause-ok : goal.returns-clause-ok
+returns-clause-ok c =
+    IfOk-weaker c.table_of.result (λ table. (lacking c.loop-number.reader.said ≡ None) × Describes c.loop-number.reader.said table) (IsTable c.args.bytes.now)
+    (λ table h. read_whole (lines_of c.args.bytes.now) (map numbered c.loop-number.yielded) _ c.loop-number.invariant.all c.in-None.ensures.steps.0
+    c.loop-number.reader.said c.loop-number.reader.fits c.loop-number.invariant.reads table h.0 h.1)
+    c.table_of.ensures.ok
 
-pub returns-in-Err-clause-err : goal.returns-in-Err-clause-err
-returns-in-Err-clause-err c =
-    inr (refused_at_end (lines_of c.args.bytes.now) (map numbered c.loop-number.yielded) _ c.loop-number.invariant.all c.in-None.ensures.steps.0
-    c.loop-number.reader.said c.loop-number.reader.fits c.loop-number.invariant.reads c.in-Err.kind c.loop-number.next c.in-Err.ensures c.loop-number.invariant.next)
+pub returns-clause-err : goal.returns-clause-err
+returns-clause-err c =
+    MatchResult-weaker c.table_of.result {Q = λ fault. OrMemory fault ((lacking c.loop-number.reader.said ≡ Some fault.kind) × (fault.place.line ≡ c.loop-number.next))} c.table_of.ensures.err (λ table h. h) (λ fault h. elim h [
+      | inl m ↦ inl m
+      | inr w ↦ inr (refused_at_end (lines_of c.args.bytes.now) (map numbered c.loop-number.yielded) _ c.loop-number.invariant.all c.in-None.ensures.steps.0
+          c.loop-number.reader.said c.loop-number.reader.fits c.loop-number.invariant.reads fault c.loop-number.next w.0 w.1 c.loop-number.invariant.next)
+    ])
 
 pub table_of-requires : goal.table_of-requires
 table_of-requires c = record { good = good_reads (map numbered c.loop-number.yielded) c.loop-number.reader.said c.loop-number.reader.fits c.loop-number.invariant.reads }

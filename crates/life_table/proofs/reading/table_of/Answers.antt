@@ -1,8 +1,15 @@
+use Rattle.std.proofs.Common.{sym, subst, List}
+use Rattle.life_table.specs.Valid.{IsSound}
+use Rattle.life_table.specs.declared.table.Var.{Var}
 use Rattle.life_table.proofs.Good.{sound_of}
 use Rattle.life_table.proofs.reading.table_of.Goals as goal
 
 pub invariant_of-result : goal.invariant_of-result
-invariant_of-result c = record {
-  sound = sound_of c.args.said c.requires.good c.in-Some-Some-Some.n_states c.in-Some-Some-Some.neighborhood c.in-Some-Some-Some.symmetry
-      c.in-Some-Some-Some.is-0 c.in-Some-Some-Some.is-1 c.in-Some-Some-Some.is-2;
-}
+invariant_of-result c =
+    let n = c.in-Some-Some-Some.n_states in
+    let h = c.in-Some-Some-Some.neighborhood in
+    let y = c.in-Some-Some-Some.symmetry in
+    record {
+      sound = subst (λ (vars : List Var). IsSound n h y vars c.args.said.lines) (sym c.in-Ok.ensures.ok)
+          (sound_of c.args.said c.requires.good n h y c.in-Some-Some-Some.is-0 c.in-Some-Some-Some.is-1 c.in-Some-Some-Some.is-2);
+    }
