@@ -107,3 +107,18 @@ fn a_store_without_room_is_full(rt: HostRuntime) -> Result<(), Fail> {
     let _ = one_cell(rt.alloc(), &mut store)?;
     Ok(())
 }
+
+// Every square of the runs is there, so a store without room takes them again.
+#[test]
+fn a_full_store_takes_runs_that_are_there(rt: HostRuntime) -> Result<(), Fail> {
+    let mut ample = Shared::new(rt.alloc(), 10_000);
+    let _ = one_by_one(&mut ample)?;
+    let mut store = Shared::new(rt.alloc(), ample.len().min(10_000));
+    let first = one_by_one(&mut store)?;
+    assert_eq!(rt; store.len(), store.limit());
+    let again = one_by_one(&mut store)?;
+    assert!(rt; again == first);
+    let by_rows = by_rows(rt.alloc(), &mut store)?;
+    assert!(rt; by_rows == first);
+    Ok(())
+}
