@@ -1,5 +1,5 @@
 -- What is put on lines one after another is the text of the lines.
-use Rattle.std.proofs.Common.{◌≡◌, ℕ, zero, suc, ◌+◌, ◌-◌, ◌≤◌, ◌<◌, Bool, true, false, cond, drop, decimal, List, [], ◌∷◌, ◌++◌, length, map, refl, sym, ap, ◌∙◌, arith, append_assoc, leb, eqb}
+use Rattle.std.proofs.Common.{◌≡◌, ℕ, ◌+◌, ◌-◌, ◌≤◌, ◌<◌, Bool, true, false, cond, drop, decimal, List, [], ◌∷◌, ◌++◌, length, map, refl, sym, ap, ◌∙◌, arith, append_assoc, leb, eqb}
 use Rattle.std.specs.Prelude.{flat_map}
 use Rattle.std.proofs.lemmas.Bool.Decides.{nat_tests}
 use Rattle.std.proofs.lemmas.List.{append-nil, length-append}
@@ -7,8 +7,8 @@ use Rattle.life_base.specs.declared.rule.Rule.{Rule}
 use Rattle.life_rle.specs.declared.item.Item.{Item}
 use Rattle.life_rle.specs.declared.item.Item.TheVariants.{Cells, RowEnds}
 use Rattle.life_rle.specs.Cursor.{item_count}
-use Rattle.life_rle.specs.Written.{count_text, item_text, item_lines, wrapped, with_gap}
-use Rattle.life_rle.specs.Writing.{tag_text, feed, used_behind, text_from, items_text, Puts}
+use Rattle.life_rle.specs.Written.{count_text, item_text, item_lines, wrapped}
+use Rattle.life_rle.specs.Writing.{tag_text, text_from, items_text, Puts}
 use Rattle.life_rle.proofs.Lines.{state_text-short}
 
 pub tag-short : (rule : Rule) (item : Item) → length (tag_text rule item) ≤ 2

@@ -1,9 +1,8 @@
 -- States are read as they are written.
-use Rattle.std.proofs.Common.{◌≡◌, ℕ, ◌+◌, ◌-◌, ◌*◌, ◌/◌, ◌%◌, ◌≤◌, ◌<◌, Bool, true, false, cond, ◌&&◌, ◌||◌, List, [], ◌∷◌, ◌++◌, refl, sym, ap, ◌∙◌, Some, None, Option, arith, eqb, leb}
+use Rattle.std.proofs.Common.{◌≡◌, ℕ, ◌+◌, ◌-◌, ◌*◌, ◌/◌, ◌%◌, ◌≤◌, ◌<◌, Bool, true, false, cond, ◌&&◌, ◌||◌, List, [], ◌∷◌, ◌++◌, refl, ap, ◌∙◌, Some, None, Option, arith, eqb, leb}
 use Rattle.std.proofs.lemmas.Bool.Decides.{nat_tests}
-use Rattle.life_base.specs.declared.rule.Rule.{Rule}
 use Rattle.life_base.specs.declared.rule.Rule.TheVariants.{Life, Named}
-use Rattle.life_rle.specs.States.{single_state, prefixed_state, prefixed_number, with_rest, first_state, state_at, state_text, lettered, is_state_of}
+use Rattle.life_rle.specs.States.{single_state, prefixed_state, prefixed_number, with_rest, first_state, state_at, lettered}
 use Rattle.life_rle.specs.Laws.{StatesReadBack}
 
 -- a state of one byte

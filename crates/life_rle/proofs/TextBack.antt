@@ -1,41 +1,32 @@
 -- The written text is read back.
-use Rattle.std.proofs.Common.{◌≡◌, ℕ, zero, suc, ◌+◌, ◌-◌, ◌^◌, ◌<◌, ◌≤◌, ◌⊎◌, inl, inr, Bool, true, false, not, cond, ◌&&◌, List, [], ◌∷◌, ◌++◌, length, map, take, drop, refl, sym, ap, ◌∙◌, subst, Some, None, Ok, Err, arith, append_assoc, length-append, leb, ltb, eqb, ℤ, pos, negsuc, neg_ℤ, ◌+ℤ◌, ◌-ℤ◌, ◌≤ℤ◌, ◌<ℤ◌, decimal, codes}
-use Rattle.std.specs.Prelude.{nat_abs, flat_map}
-use Rattle.std.specs.List.{list_all}
+use Rattle.std.proofs.Common.{◌≡◌, ℕ, zero, suc, ◌^◌, ◌<◌, ◌≤◌, inl, inr, true, false, cond, List, [], ◌∷◌, ◌++◌, length, map, refl, sym, ap, ◌∙◌, subst, None, Ok, Err, arith, length-append, ltb, ℤ, pos, negsuc, neg_ℤ, ◌+ℤ◌, ◌≤ℤ◌, ◌<ℤ◌, decimal, codes}
 use Rattle.std.specs.Fmt.{signed_decimal}
-use Rattle.std.specs.Char.{is_ascii_digit}
 use Rattle.std.proofs.lemmas.Int.{ints}
 use Rattle.std.proofs.lemmas.Bool.Decides.{nat_tests}
 use Rattle.std.proofs.lemmas.Fmt.{length-decimal-le}
 use Rattle.life_base.specs.declared.kind.Kind.TheVariants.{LineTooLong}
-use Rattle.life_base.specs.declared.cell.Cell.{Cell}
 use Rattle.life_base.specs.declared.cell.TheConstants.{MAX_LEVEL}
 use Rattle.life_base.specs.declared.rule.Rule.{Rule}
-use Rattle.life_base.specs.declared.rule.Rule.TheVariants.{Life, Named}
-use Rattle.life_base.specs.Text.{is_whitespace, lines_of, trim_start, is_digit_text}
+use Rattle.life_base.specs.Text.{trim_start}
 use Rattle.life_base.specs.Rules.{IsRule, rule_of, rule_text, RulesReadBack}
 use Rattle.life_rle.specs.declared.item.Item.{Item}
 use Rattle.life_rle.specs.declared.item.Item.TheVariants.{Cells, RowEnds}
 use Rattle.life_rle.specs.declared.position.Position.{Position}
 use Rattle.life_rle.specs.declared.opening.Opening.TheVariants.{PositionLine, Header}
-use Rattle.life_rle.specs.declared.bounds.Bounds.{Bounds}
-use Rattle.life_rle.specs.Position.{position_of, default_position, and_then}
+use Rattle.life_rle.specs.Position.{position_of, and_then}
 use Rattle.life_rle.specs.Plane.{is_coordinate, edge}
-use Rattle.life_rle.specs.Grammar.{opening_of, IsPreamble, IsUnmarked, IsMarked, IsRle}
-use Rattle.life_rle.specs.Pattern.{Rle, cell, cell_among, placed, placed_behind, first_fault}
+use Rattle.life_rle.specs.Grammar.{opening_of, IsUnmarked, IsMarked}
+use Rattle.life_rle.specs.Pattern.{Rle, cell_among, placed_behind, first_fault}
 use Rattle.life_rle.specs.Header.{header_of}
-use Rattle.life_rle.specs.Written.{position_text, generation_text, header_text, rle_lines, rle_text, item_lines, item_text, items_from, box_of, span, wrapped}
-use Rattle.life_rle.specs.Sorted.{are_sorted_cells, state_in}
-use Rattle.life_rle.specs.Writing.{IsInPlane, Follow}
+use Rattle.life_rle.specs.Written.{position_text, generation_text, header_text, rle_lines, item_lines, item_text, items_from, box_of, span}
 use Rattle.life_rle.specs.Laws.{StatesReadBack, RleTextReadsBack}
-use Rattle.life_rle.proofs.Texts.{both_true, decimal-is_digit_text}
 use Rattle.life_rle.proofs.Lines.{AreWritten, wrapped-IsMarked}
-use Rattle.life_rle.proofs.ReadBack.{is_one_line, AreLines, lines-ended, header_of-written, digits-all}
+use Rattle.life_rle.proofs.ReadBack.{is_one_line, AreLines, lines-ended, header_of-written}
 use Rattle.life_rle.proofs.RuleTexts.{rule_text-is, visible-one_line, visible-bare}
 use Rattle.life_rle.proofs.OneLine.{one_line-append, wrapped-AreLines, decimal-one_line, item_text-one_line}
 use Rattle.life_rle.proofs.ReadPosition.{IsShort, position_of-written}
 use Rattle.life_rle.proofs.Places.{placed_from, placed_behind-from}
-use Rattle.life_rle.proofs.CellsLaw.{AreGood, items_from-good, items_from-state}
+use Rattle.life_rle.proofs.CellsLaw.{items_from-good, items_from-state}
 use Rattle.life_rle.proofs.Sorting.{AreGood-AreWritten, AreGood-sound, sorted-Follow, sorted-IsInPlane}
 
 -- ---- the numbers of the two lines in front

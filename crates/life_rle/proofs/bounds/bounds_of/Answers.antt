@@ -1,4 +1,4 @@
-use Rattle.std.proofs.Common.{◌≡◌, ◌+◌, drop, sym, ap, ◌∙◌}
+use Rattle.std.proofs.Common.{◌+◌, drop, sym, ap, ◌∙◌}
 use Rattle.std.proofs.lemmas.List.{at_drop_more, at_drop_all}
 use Rattle.life_rle.specs.Writing.{bounds_onto}
 use Rattle.life_rle.proofs.BoxOnto.{bounds_onto-first, bounds_onto-sides}

@@ -1,4 +1,3 @@
-use Rattle.std.proofs.Common.{◌≡◌}
 use Rattle.std.proofs.lemmas.Result.{IfOk-weaker}
 use Rattle.life_rle.proofs.TakeCells.{way-along, way-down}
 use Rattle.life_rle.proofs.pen.put_way.Goals as goal

@@ -1,4 +1,4 @@
-use Rattle.std.proofs.Common.{◌≡◌, ◌∷◌, [], sym, ◌∙◌, subst}
+use Rattle.std.proofs.Common.{◌∷◌, [], sym, ◌∙◌, subst}
 use Rattle.life_rle.specs.Writing.{WritesCell, Puts}
 use Rattle.life_rle.proofs.TakeCells.{take-longer, take-ended}
 use Rattle.life_rle.proofs.pen.take_cell.Goals as goal

@@ -1,4 +1,3 @@
-use Rattle.std.proofs.Common.{◌≡◌}
 use Rattle.life_rle.proofs.ItemRoom.{room-byte}
 use Rattle.life_rle.proofs.wrapping.write_byte.Goals as goal
 

@@ -1,4 +1,4 @@
-use Rattle.std.proofs.Common.{◌≡◌, ◌+◌, ◌≤◌, length, decimal, arith}
+use Rattle.std.proofs.Common.{arith}
 use Rattle.life_rle.proofs.ItemRoom.{digits-fit}
 use Rattle.life_rle.proofs.PutItems.{tag-short}
 use Rattle.life_rle.proofs.wrapping.write_item.Goals as goal

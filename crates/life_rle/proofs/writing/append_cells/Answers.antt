@@ -1,4 +1,4 @@
-use Rattle.std.proofs.Common.{◌≡◌, ◌≤ℤ◌, ◌∷◌, [], ◌++◌, ℕ, List, sym, ap, ◌∙◌, subst, neg_ℤ}
+use Rattle.std.proofs.Common.{◌∷◌, [], ◌++◌, ℕ, List, sym, ap, ◌∙◌, subst}
 use Rattle.life_rle.specs.declared.bounds.Bounds.{Bounds}
 use Rattle.life_rle.specs.Writing.{IsInPlane, Follow}
 use Rattle.life_rle.proofs.Sorting.{sorted-IsInPlane, sorted-Follow, box-top}
