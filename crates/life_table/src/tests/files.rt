@@ -9,11 +9,18 @@ use std::rt::HostRuntime;
 const HEAD: &str =
     "@RULE Spread\n@TABLE\nn_states:3\nneighborhood:vonNeumann\nsymmetries:rotate4\n";
 
+/// Texts one behind another.
+fn joined(alloc: Global, texts: &[&str]) -> Result<Vec<u8>, AllocError> {
+    let mut bytes = Vec::new(alloc);
+    for text in texts {
+        bytes.extend_from_slice(text.as_bytes())?;
+    }
+    Ok(bytes)
+}
+
 /// The place and the kind of the refusal of two texts together.
 fn refusal(alloc: Global, head: &str, more: &str) -> Result<Option<(u64, Kind)>, AllocError> {
-    let mut bytes = Vec::new(alloc);
-    bytes.extend_from_slice(head.as_bytes())?;
-    bytes.extend_from_slice(more.as_bytes())?;
+    let bytes = joined(alloc, &[head, more])?;
     match read_table(alloc, &bytes) {
         Ok(_) => Ok(None),
         Err(fault) => Ok(Some((fault.place.line, fault.kind))),
@@ -22,30 +29,30 @@ fn refusal(alloc: Global, head: &str, more: &str) -> Result<Option<(u64, Kind)>,
 
 #[test]
 fn a_table_is_read(rt: HostRuntime) {
-    let text =
-        b"@RULE Spread\n@TABLE\nn_states:3\nneighborhood:vonNeumann\nsymmetries:rotate4\nvar a={1,2}\n0a000a\n";
-    let table = read_table(rt.alloc(), text).expect(&rt, "table");
-    assert_eq!(rt; table.name.bytes(), b"Spread".as_slice());
-    assert_eq!(rt; table.n_states, 3);
-    assert_eq!(rt; table.neighborhood, Neighborhood::VonNeumann);
-    assert_eq!(rt; table.symmetry, Symmetry::Rotate4);
-    for var in table.vars.as_slice() {
-        assert_eq!(rt; var.name.as_slice(), b"a".as_slice());
-        assert_eq!(rt; var.states, [6, 0, 0, 0]);
-    }
-    assert_eq!(rt; table.vars.as_slice().len(), 1);
-    let zero = Entry::Fixed(0);
-    let a = Entry::Var(0);
-    for line in table.lines.as_slice() {
-        assert_eq!(rt; line.line, 7);
-        assert_eq!(rt;
-            line.inputs.as_slice(),
-            [zero, a, zero, zero, zero].as_slice()
-        );
-        assert_eq!(rt; line.output, a);
-    }
-    assert_eq!(rt; table.lines.as_slice().len(), 1);
-    if table.neighborhood == Neighborhood::VonNeumann && table.n_states == 3 {
+    for line in ["0,a,0,0,0,a\n", "0a000a\n"] {
+        let text = joined(rt.alloc(), &[HEAD, "var a={1,2}\n", line]).expect(&rt, "memory");
+        let table = read_table(rt.alloc(), &text).expect(&rt, "table");
+        assert_eq!(rt; table.name.bytes(), b"Spread".as_slice());
+        assert_eq!(rt; table.n_states, 3);
+        assert_eq!(rt; table.neighborhood, Neighborhood::VonNeumann);
+        assert_eq!(rt; table.symmetry, Symmetry::Rotate4);
+        for var in table.vars.as_slice() {
+            assert_eq!(rt; var.name.as_slice(), b"a".as_slice());
+            assert_eq!(rt; var.states, [6, 0, 0, 0]);
+        }
+        assert_eq!(rt; table.vars.as_slice().len(), 1);
+        let zero = Entry::Fixed(0);
+        let a = Entry::Var(0);
+        for line in table.lines.as_slice() {
+            assert_eq!(rt; line.line, 7);
+            assert_eq!(rt;
+                line.inputs.as_slice(),
+                [zero, a, zero, zero, zero].as_slice()
+            );
+            assert_eq!(rt; line.output, a);
+        }
+        assert_eq!(rt; table.lines.as_slice().len(), 1);
+        assert!(rt; table.neighborhood == Neighborhood::VonNeumann && table.n_states == 3);
         assert_eq!(rt; table.next(&Neighbours::Four([0, 0, 0, 0, 2])), Ok(2));
         assert_eq!(rt; table.next(&Neighbours::Four([0, 2, 0, 2, 0])), Ok(0));
         assert_eq!(rt; table.next(&Neighbours::Four([1, 2, 0, 0, 0])), Ok(1));
@@ -58,6 +65,7 @@ fn faults_are_placed(rt: HostRuntime) {
         ("var a={1,3}\n", Some((6, Kind::BadVariable))),
         ("var a={1,2}\n0,0,0,0,0,1\n", Some((7, Kind::NotQuiet))),
         ("0,0,0,0,0,0\n0,0,0,0,0,1\n", None),
+        ("var a={1,2}\n0,0,0,0,0,0\n0,0,0,0,0,1\n", None),
         (
             "var a={1,2}\nvar b={a}\n0,a,0,0,0,b\n",
             Some((8, Kind::UnboundOutput)),
@@ -113,27 +121,6 @@ fn heads_are_told_apart(rt: HostRuntime) {
     ] {
         assert_eq!(rt; refusal(rt.alloc(), "", text), Ok(Some(fault)), "{text}");
     }
-}
-
-#[test]
-fn a_long_line_behind_the_table_is_refused(rt: HostRuntime) {
-    let mut bytes = Vec::new(rt.alloc());
-    bytes
-        .extend_from_slice(HEAD.as_bytes())
-        .expect(&rt, "memory");
-    bytes.extend_from_slice(b"@COLORS\n").expect(&rt, "memory");
-    bytes
-        .resize(1048576 + 8 + HEAD.len(), b'x')
-        .expect(&rt, "memory");
-    assert_eq!(rt; read_table(rt.alloc(), &bytes).is_ok(), true);
-    bytes.push(b'x').expect(&rt, "memory");
-    assert_eq!(rt;
-        read_table(rt.alloc(), &bytes).err(),
-        Some(Fault {
-            place: Place { line: 7 },
-            kind: Kind::LineTooLong
-        })
-    );
 }
 
 #[test]

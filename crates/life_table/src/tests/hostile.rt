@@ -1,7 +1,7 @@
-//! Files that are made to mislead a reader.
+//! Small files that are made to mislead a reader.
 use crate::next::Neighbours;
 use crate::reading::read_table;
-use crate::table::{Neighborhood, Symmetry, Table};
+use crate::table::{Entry, Neighborhood, Symmetry, Table};
 use life_base::{Fault, Kind};
 use std::alloc::{AllocError, Global};
 use std::rt::HostRuntime;
@@ -22,6 +22,17 @@ fn refusal(answer: Result<Table, Fault>) -> Option<(u64, Kind)> {
         Err(fault) => Some((fault.place.line, fault.kind)),
     }
 }
+
+/// The place and the kind of the refusal of texts one behind another, if they are refused.
+fn refused(alloc: Global, texts: &[&str]) -> Result<Option<(u64, Kind)>, AllocError> {
+    Ok(refusal(read_texts(alloc, texts)?))
+}
+
+const SETTINGS: [&str; 3] = [
+    "n_states:3\n",
+    "neighborhood:vonNeumann\n",
+    "symmetries:none\n",
+];
 
 #[test]
 fn descriptors_stand_in_any_order(rt: HostRuntime) {
@@ -52,6 +63,132 @@ fn descriptors_stand_in_any_order(rt: HostRuntime) {
 }
 
 #[test]
+fn a_missing_descriptor_is_refused(rt: HostRuntime) {
+    let head = "@RULE A\n@TABLE\n";
+    let [states, neighbors, orders] = SETTINGS;
+    for (first, second) in [(neighbors, orders), (states, orders), (states, neighbors)] {
+        for (rest, line) in [
+            ("", 5),
+            ("@\n", 5),
+            ("@COLORS\n0 255 255 255\n", 5),
+            ("@TABLE\nsymmetries:none\n", 5),
+            ("var a={1}\n", 5),
+            ("var a={9\n", 5),
+            ("0,0,0,0,0,0\n", 5),
+            ("junk\n", 5),
+            ("# n_states:3\n\n \t# a\n", 8),
+            ("\n\njunk # symmetries:none\n", 7),
+        ] {
+            let texts = [head, first, second, rest];
+            let fault = refused(rt.alloc(), &texts).expect(&rt, "memory");
+            assert_eq!(rt;
+                fault,
+                Some((line, Kind::BadDescriptor)),
+                "{first} {second} {rest}"
+            );
+        }
+    }
+}
+
+#[test]
+fn a_descriptor_stands_once_and_ahead(rt: HostRuntime) {
+    let [states, neighbors, orders] = SETTINGS;
+    for again in [
+        "n_states:3\n",
+        "n_states : 1\n",
+        "n_states:\n",
+        "neighborhood:vonNeumann\n",
+        "neighbourhood:Moore\n",
+        "neighborhood:hexagonal\n",
+        "symmetries:none\n",
+        "symmetries:rotate8\n",
+        "symmetries:junk\n",
+        "N_states:3\n",
+        "num_states:3\n",
+        ":\n",
+        "var a={1}:\n",
+        "0:0,0,0,0,0,0\n",
+    ] {
+        for (before, line) in [
+            ("", 6),
+            ("var a={1}\n", 7),
+            ("0,0,0,0,0,0\n", 7),
+            ("# :\nvar a={1}\n0a0001\n", 9),
+        ] {
+            let texts = [
+                "@RULE A\n@TABLE\n",
+                states,
+                neighbors,
+                orders,
+                before,
+                again,
+            ];
+            let fault = refused(rt.alloc(), &texts).expect(&rt, "memory");
+            assert_eq!(rt;
+                fault,
+                Some((line, Kind::BadDescriptor)),
+                "{before} {again}"
+            );
+        }
+    }
+    for setting in SETTINGS {
+        let texts = ["@RULE A\n@TABLE\n", setting, "\n", setting];
+        let fault = refused(rt.alloc(), &texts).expect(&rt, "memory");
+        assert_eq!(rt; fault, Some((5, Kind::BadDescriptor)), "{setting}");
+    }
+}
+
+#[test]
+fn a_symmetry_may_stand_before_its_neighborhood(rt: HostRuntime) {
+    for (orders, neighbors, fault) in [
+        (
+            "rotate8",
+            "vonNeumann",
+            Some((4, Kind::UnsupportedSymmetry)),
+        ),
+        (
+            "rotate8reflect",
+            "vonNeumann",
+            Some((4, Kind::UnsupportedSymmetry)),
+        ),
+        (
+            "rotate8",
+            "hexagonal",
+            Some((4, Kind::UnsupportedNeighborhood)),
+        ),
+        ("rotate8", "", Some((4, Kind::UnsupportedNeighborhood))),
+        ("rotate8", "Moore", None),
+        ("rotate8reflect", "Moore", None),
+        ("permute", "vonNeumann", None),
+        ("rotate4reflect", "vonNeumann", None),
+        ("reflect_horizontal", "vonNeumann", None),
+        (
+            "rotate5",
+            "vonNeumann",
+            Some((3, Kind::UnsupportedSymmetry)),
+        ),
+        ("Rotate4", "Moore", Some((3, Kind::UnsupportedSymmetry))),
+        (
+            "rotate8 reflect",
+            "Moore",
+            Some((3, Kind::UnsupportedSymmetry)),
+        ),
+        ("none:", "Moore", Some((3, Kind::UnsupportedSymmetry))),
+        ("", "Moore", Some((3, Kind::UnsupportedSymmetry))),
+    ] {
+        let texts = [
+            "@RULE A\n@TABLE\nsymmetries: ",
+            orders,
+            "\t\nneighborhood :",
+            neighbors,
+            "# a\nn_states:2\n",
+        ];
+        let answer = refused(rt.alloc(), &texts).expect(&rt, "memory");
+        assert_eq!(rt; answer, fault, "{orders} {neighbors}");
+    }
+}
+
+#[test]
 fn a_section_begins_anywhere(rt: HostRuntime) {
     let lines = [
         "@RULE A\n",
@@ -61,6 +198,7 @@ fn a_section_begins_anywhere(rt: HostRuntime) {
         "symmetries:none\n",
         "var a={1,2}\n",
         "0,a,0,0,0,a\n",
+        "0,a,a,0,0,a\n",
     ];
     for (section, second) in [("@\n", None), ("@TABLE\n", Some((3, Kind::BadDescriptor)))] {
         for (place, fault) in [
@@ -72,6 +210,7 @@ fn a_section_begins_anywhere(rt: HostRuntime) {
             (5, None),
             (6, None),
             (7, None),
+            (8, None),
         ] {
             let mut texts = Vec::new(rt.alloc());
             texts
@@ -83,12 +222,9 @@ fn a_section_begins_anywhere(rt: HostRuntime) {
                 .expect(&rt, "memory");
             let answer = read_texts(rt.alloc(), &texts).expect(&rt, "memory");
             if let Ok(table) = &answer {
-                let within = if place == 1 { 7 } else { place };
+                let within: usize = if place == 1 { 8 } else { place };
                 assert_eq!(rt; table.vars.as_slice().len(), if within < 6 { 0 } else { 1 });
-                assert_eq!(rt;
-                    table.lines.as_slice().len(),
-                    if within < 7 { 0 } else { 1 }
-                );
+                assert_eq!(rt; table.lines.as_slice().len(), within.saturating_sub(6));
             }
             assert_eq!(rt; refusal(answer), fault, "{section} {place}");
         }
@@ -124,38 +260,185 @@ fn one_character_stands_for_any_state(rt: HostRuntime) {
     assert_eq!(rt; table.next(&at), Ok(0));
 }
 
-/// Variables that each have the states of the one before, the first the states 1 and 2.
-fn chain(alloc: Global) -> Result<Vec<u8>, AllocError> {
-    let mut bytes = Vec::new(alloc);
-    let mut before = [b'0', b'1'];
-    bytes.extend_from_slice(
-        b"@RULE A\n@TABLE\nn_states:3\nneighborhood:vonNeumann\nsymmetries:none\nvar z={2}\n",
-    )?;
-    for high in b'a'..b'z' {
-        for low in b'a'..b'z' {
-            bytes.extend_from_slice(b"var ")?;
-            bytes.extend_from_slice(&[high, low])?;
-            bytes.extend_from_slice(b"={z,")?;
-            bytes.extend_from_slice(&before)?;
-            bytes.extend_from_slice(b"}\n")?;
-            before = [high, low];
+#[test]
+fn only_the_first_table_is_read(rt: HostRuntime) {
+    for behind in [
+        "@TABLE\nn_states:9\njunk\n",
+        "@COLORS\nn_states:9\n@TABLE\njunk\n",
+        "@TABLE\n@RULE B\n:\n@\n",
+        "@\nvar a={1}\n0,0,0,0,0,1\n",
+    ] {
+        for ahead in [
+            "",
+            "n_states:9\n",
+            "@TABLES\n@ TABLE\n @TABLE\n@table\n@RULE B\n",
+        ] {
+            let [states, neighbors, orders] = SETTINGS;
+            let texts = [
+                "# @TABLE\n\n@RULE\tA\n",
+                ahead,
+                "@TABLE \n",
+                states,
+                neighbors,
+                orders,
+                "0,1,0,0,0,2\n",
+                behind,
+            ];
+            let answer = read_texts(rt.alloc(), &texts).expect(&rt, "memory");
+            let table = answer.expect(&rt, "table");
+            assert_eq!(rt; table.name.bytes(), b"A".as_slice());
+            assert_eq!(rt; table.n_states, 3);
+            assert_eq!(rt; table.vars.as_slice().len(), 0);
+            assert_eq!(rt; table.lines.as_slice().len(), 1, "{ahead} {behind}");
         }
     }
-    Ok(bytes)
 }
 
 #[test]
-fn a_chain_of_variables_is_read(rt: HostRuntime) {
-    let mut bytes = chain(rt.alloc()).expect(&rt, "memory");
-    let table = read_table(rt.alloc(), &bytes).expect(&rt, "table");
-    assert_eq!(rt; table.vars.as_slice().len(), 626);
-    for var in table.vars.as_slice() {
-        let one = if var.name.as_slice().len() == 1 { 0 } else { 2 };
-        assert_eq!(rt; var.states, [4 | one, 0, 0, 0]);
+fn a_keyword_names_a_variable(rt: HostRuntime) {
+    let [states, neighbors, orders] = SETTINGS;
+    for name in [
+        "n_states",
+        "neighborhood",
+        "neighbourhood",
+        "symmetries",
+        "var",
+        "RULE",
+        "TABLE",
+        "none",
+        "permute",
+        "Moore",
+        "a0",
+        "-1",
+        "+1",
+        "~",
+    ] {
+        let texts = [
+            "@RULE A\n@TABLE\n",
+            states,
+            neighbors,
+            orders,
+            "var\t",
+            name,
+            "={1,2}\nvar b = { 0 , ",
+            name,
+            " }\n0,",
+            name,
+            ", b\t,0,0,",
+            name,
+            "\n",
+        ];
+        let answer = read_texts(rt.alloc(), &texts).expect(&rt, "memory");
+        let table = answer.expect(&rt, "table");
+        match table.vars.as_slice() {
+            [first, second] => {
+                assert_eq!(rt; first.name.as_slice(), name.as_bytes());
+                assert_eq!(rt; first.states, [6, 0, 0, 0]);
+                assert_eq!(rt; second.name.as_slice(), b"b".as_slice());
+                assert_eq!(rt; second.states, [7, 0, 0, 0]);
+            }
+            others => assert_eq!(rt; others.len(), 2),
+        }
+        let zero = Entry::Fixed(0);
+        let first = Entry::Var(0);
+        for line in table.lines.as_slice() {
+            assert_eq!(rt;
+                line.inputs.as_slice(),
+                [zero, first, Entry::Var(1), zero, zero].as_slice()
+            );
+            assert_eq!(rt; line.output, first);
+        }
+        assert_eq!(rt; table.lines.as_slice().len(), 1);
     }
-    bytes
-        .extend_from_slice(b"0,yy,0,0,0,aa\n")
-        .expect(&rt, "memory");
-    let fault = read_table(rt.alloc(), &bytes).err().expect(&rt, "fault");
-    assert_eq!(rt; (fault.place.line, fault.kind), (632, Kind::UnboundOutput));
+}
+
+#[test]
+fn a_variable_has_its_form(rt: HostRuntime) {
+    let [states, neighbors, orders] = SETTINGS;
+    for (line, fault) in [
+        ("var a={0,1,2}", None),
+        ("var  a\t=\t{\t0\t,1 }\t# =,:", None),
+        ("var a={a}", Some(Kind::BadVariable)),
+        ("var a={b}", Some(Kind::BadVariable)),
+        ("var a={}", Some(Kind::BadVariable)),
+        ("var a={ }", Some(Kind::BadVariable)),
+        ("var a={1,}", Some(Kind::BadVariable)),
+        ("var a={,1}", Some(Kind::BadVariable)),
+        ("var a={1 2}", Some(Kind::BadVariable)),
+        ("var a={1};", Some(Kind::BadVariable)),
+        ("var a={1}}", Some(Kind::BadVariable)),
+        ("var a={{1}", Some(Kind::BadVariable)),
+        ("var a=={1}", Some(Kind::BadVariable)),
+        ("var a={3}", Some(Kind::BadVariable)),
+        ("var a={00000000000000000002}", None),
+        ("var a={18446744073709551617}", Some(Kind::BadVariable)),
+        ("var a=1", Some(Kind::BadVariable)),
+        ("var a", Some(Kind::BadVariable)),
+        ("var ={1}", Some(Kind::BadVariable)),
+        ("var a b={1}", Some(Kind::BadVariable)),
+        ("var 1a={1}", Some(Kind::BadVariable)),
+        ("var a,={1}", Some(Kind::BadVariable)),
+        ("var a{={1}", Some(Kind::BadVariable)),
+        ("var a@={1}", Some(Kind::BadVariable)),
+        ("var a\x7f={1}", Some(Kind::BadVariable)),
+        ("var \u{e4}={1}", Some(Kind::BadVariable)),
+        ("var , 0 , 0 , 0 , 0 , 0", Some(Kind::BadVariable)),
+        ("var", Some(Kind::BadTransition)),
+        ("vara={1}", Some(Kind::BadTransition)),
+        ("Var a={1}", Some(Kind::BadTransition)),
+        ("var a={1}:", Some(Kind::BadDescriptor)),
+    ] {
+        let texts = ["@RULE A\n@TABLE\n", states, neighbors, orders, line];
+        let wanted = match fault {
+            Some(kind) => Some((6, kind)),
+            None => None,
+        };
+        let answer = refused(rt.alloc(), &texts).expect(&rt, "memory");
+        assert_eq!(rt; answer, wanted, "{line}");
+    }
+}
+
+#[test]
+fn single_characters_make_a_transition(rt: HostRuntime) {
+    let [states, neighbors, orders] = SETTINGS;
+    let variables = "var a={1,2}\nvar bb={1}\nvar ;={0}\n";
+    for (line, kind) in [
+        ("0a000a", None),
+        ("0 a 0 0 0 a", None),
+        (" 0a\t0  00\ra\r", None),
+        ("0a000\x0ba", Some(Kind::BadTransition)),
+        ("0a;0;1# bb", None),
+        ("0a000", Some(Kind::BadTransition)),
+        ("0a0000a", Some(Kind::BadTransition)),
+        ("0 bb 0 0 0 1", Some(Kind::BadTransition)),
+        ("0 b 0 0 0 1", Some(Kind::BadTransition)),
+        ("0 3 0 0 0 1", Some(Kind::BadTransition)),
+        ("0 a 0 0 0 -", Some(Kind::BadTransition)),
+        ("01,0,0,0,0,0", None),
+        ("0,bb,0,0,0,1", None),
+        ("0,b b,0,0,0,1", Some(Kind::BadTransition)),
+        ("0,a,0,0,0,a,", Some(Kind::BadTransition)),
+        (",0a000a", Some(Kind::BadTransition)),
+        ("0,,0,0,0,0", Some(Kind::BadTransition)),
+        ("0a0000", None),
+        ("000001", Some(Kind::NotQuiet)),
+        ("00000a", Some(Kind::UnboundOutput)),
+        (";;;;;1", Some(Kind::NotQuiet)),
+        (";;;;;;", None),
+    ] {
+        let texts = [
+            "@RULE A\n@TABLE\n",
+            states,
+            neighbors,
+            orders,
+            variables,
+            line,
+        ];
+        let wanted = match kind {
+            Some(kind) => Some((9, kind)),
+            None => None,
+        };
+        let answer = refused(rt.alloc(), &texts).expect(&rt, "memory");
+        assert_eq!(rt; answer, wanted, "{line}");
+    }
 }
