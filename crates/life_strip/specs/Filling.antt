@@ -35,9 +35,13 @@ on_plane state x y =
     then state (unsigned_abs (x +ℤ half)) (unsigned_abs (y +ℤ half))
     else 0
 
--- the strips, and below them the row that was begun
+-- the state in a column and a row, counted from the edges of the plane, by what was given: the strips, and below them the row that was begun
+abbrev pub state_so_far : (Id → Tree) → Builder → ℕ → ℕ → ℕ
+state_so_far content b = picture content (b.strips.items ++ b.row ∷ [])
+
+-- the same by the coordinates of the plane
 abbrev pub cell_so_far : (Id → Tree) → Builder → ℤ → ℤ → ℕ
-cell_so_far content b = on_plane (picture content (b.strips.items ++ b.row ∷ []))
+cell_so_far content b = on_plane (state_so_far content b)
 
 -- the cells (left, top) to (left + len - 1, top) are on the plane
 pub record IsOnPlane (left top : ℤ) (len : ℕ) : Type 0 where

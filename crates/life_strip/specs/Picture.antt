@@ -1,7 +1,7 @@
 -- The cells of strips that lie one below the other.
-use Rattle.std.specs.Prelude.{◌≡◌, ℕ, ◌+◌, ◌-◌, ◌/◌, ◌%◌, ◌^◌, ◌<◌, ◌≤◌, nat_lt, if◌then◌else◌, List, [], ◌∷◌, All, AllPairs}
+use Rattle.std.specs.Prelude.{◌≡◌, ℕ, ◌+◌, ◌-◌, ◌/◌, ◌%◌, ◌*◌, ◌^◌, ◌<◌, ◌≤◌, nat_lt, if◌then◌else◌, List, [], ◌∷◌, All, AllPairs}
 use Rattle.life_quad.specs.declared.id.Id.{Id}
-use Rattle.life_base.specs.Tree.{Tree, state_at}
+use Rattle.life_base.specs.Tree.{Tree, depth, state_at, IsFull}
 use Rattle.life_strip.specs.declared.spans.Strip.{Strip}
 use Rattle.life_strip.specs.Strip.{square_at, IsStrip, AreWithin}
 
@@ -37,3 +37,14 @@ AreFalling strips = AllPairs (λ s t. t.level < s.level) strips
 -- the level is at most those of the strips
 abbrev pub IsLowest : ℕ → List Strip → Type 0
 IsLowest level strips = All (λ s. level ≤ s.level) strips
+
+-- A square of level 1 or more has a property, and its cells are those of a place on the plane, where each level divides the plane into
+-- columns and rows of its squares.
+pub record SomeSquare (P : Tree → Type 0) (state : ℕ → ℕ → ℕ) : Type 0 where
+  pub square : Tree
+  pub full : IsFull square
+  pub deep : 1 ≤ depth square
+  pub column : ℕ
+  pub row : ℕ
+  pub cells : (i j : ℕ) → i < 2 ^ depth square → j < 2 ^ depth square → state_at square i j ≡ state (column * 2 ^ depth square + i) (row * 2 ^ depth square + j)
+  pub property : P square

@@ -4,8 +4,8 @@ ghost use Rattle.life_base.specs.declared.kind.Kind.TheVariants.{Full, Memory};
 ghost use Rattle.life_base.specs.Tree.{Tree, depth};
 ghost use Rattle.life_quad.specs.declared.id.Id.{Id as IdValue};
 ghost use Rattle.life_base.specs.Tree.{tree_cell as cell_of};
-ghost use Rattle.life_strip.specs.Picture.{picture};
-ghost use Rattle.life_strip.specs.Filling.{IsEmpty, IsFilling, IsOnPlane, IsNext, AddsRun, cell_so_far, half_plane};
+ghost use Rattle.life_strip.specs.Picture.{picture, SomeSquare};
+ghost use Rattle.life_strip.specs.Filling.{IsEmpty, IsFilling, IsOnPlane, IsNext, AddsRun, state_so_far, cell_so_far, half_plane};
 
 use crate::rows::{end_row, whole};
 use crate::spans::{Strip, push_span};
@@ -75,6 +75,7 @@ impl Builder {
         ensures most { S.most squares.new ≡ S.most squares.old }
         ensures refusals { IfErr result (λ e. (e ≡ Full) ⊎ (e ≡ Memory)) }
         ensures full { result ≡ Err Full → length (S.stored squares.new) ≡ S.most squares.new }
+        ensures needed { result ≡ Err Full → SomeSquare (S.needs_node squares.new) (state_so_far (S.content squares.old) self.old) }
     {
         if self.rows == row {
             return Ok(());
@@ -117,6 +118,7 @@ impl Builder {
         ensures most { S.most squares.new ≡ S.most squares.old }
         ensures refusals { IfErr result (λ e. (e ≡ Full) ⊎ (e ≡ Memory)) }
         ensures full { result ≡ Err Full → length (S.stored squares.new) ≡ S.most squares.new }
+        ensures needed { result ≡ Err Full → SomeSquare (S.needs_node squares.new) (state_so_far (S.content squares.old) self.old) }
     {
         let column = offset(x);
         let row = offset(y);
@@ -137,6 +139,7 @@ impl Builder {
         ensures most { S.most squares.new ≡ S.most squares.old }
         ensures refusals { IfErr result (λ e. (e ≡ Full) ⊎ (e ≡ Memory)) }
         ensures full { result ≡ Err Full → length (S.stored squares.new) ≡ S.most squares.new }
+        ensures needed { result ≡ Err Full → SomeSquare (S.needs_node squares.new) (state_so_far (S.content squares.old) self) }
     {
         let Builder {
             alloc,

@@ -3,7 +3,8 @@ ghost use Rattle.std.specs.Prelude.{◌≡◌, ℕ, suc, ◌+◌, ◌^◌, ◌<�
 ghost use Rattle.life_base.specs.declared.kind.Kind.TheVariants.{Full, Memory};
 ghost use Rattle.life_base.specs.Tree.{Tree, depth, state_at};
 ghost use Rattle.life_quad.specs.declared.id.Id.{Id as IdValue};
-ghost use Rattle.life_strip.specs.Picture.{picture, height, AreFalling, IsLowest, IsSound, IsStack};
+ghost use Rattle.life_strip.specs.Strip.{quad_at};
+ghost use Rattle.life_strip.specs.Picture.{picture, height, AreFalling, IsLowest, IsSound, IsStack, SomeSquare};
 
 use crate::spans::{Strip, find, pair};
 use life_base::{Kind, MAX_LEVEL};
@@ -29,6 +30,7 @@ fn merge<S: Squares>(
     ensures most { S.most squares.new ≡ S.most squares.old }
     ensures refusals { IfErr result (λ e. (e ≡ Full) ⊎ (e ≡ Memory)) }
     ensures full { result ≡ Err Full → length (S.stored squares.new) ≡ S.most squares.new }
+    ensures needed { result ≡ Err Full → (column : ℕ) × S.needs_node squares.new (quad_at (S.content squares.old) upper.now.level upper.now.spans.items lower.now.spans.items column) }
 {
     let spans = pair(
         squares,
@@ -64,6 +66,7 @@ fn push_strip<S: Squares>(
     ensures most { S.most squares.new ≡ S.most squares.old }
     ensures refusals { IfErr result (λ e. (e ≡ Full) ⊎ (e ≡ Memory)) }
     ensures full { result ≡ Err Full → length (S.stored squares.new) ≡ S.most squares.new }
+    ensures needed { result ≡ Err Full → SomeSquare (S.needs_node squares.new) (picture (S.content squares.old) (strips.old.items ++ strip ∷ [])) }
 {
     let Some(last) = strips.pop() else {
         let Ok(()) = strips.push(strip) else {
@@ -126,6 +129,7 @@ fn skip_rows<S: Squares>(
     ensures most { S.most squares.new ≡ S.most squares.old }
     ensures refusals { IfErr result (λ e. (e ≡ Full) ⊎ (e ≡ Memory)) }
     ensures full { result ≡ Err Full → length (S.stored squares.new) ≡ S.most squares.new }
+    ensures needed { result ≡ Err Full → SomeSquare (S.needs_node squares.new) (picture (S.content squares.old) strips.old.items) }
 {
     if count == 0 {
         return Ok(());
@@ -161,6 +165,7 @@ pub(crate) fn end_row<S: Squares>(
     ensures most { S.most squares.new ≡ S.most squares.old }
     ensures refusals { IfErr result (λ e. (e ≡ Full) ⊎ (e ≡ Memory)) }
     ensures full { result ≡ Err Full → length (S.stored squares.new) ≡ S.most squares.new }
+    ensures needed { result ≡ Err Full → SomeSquare (S.needs_node squares.new) (picture (S.content squares.old) (strips.old.items ++ row ∷ [])) }
 {
     push_strip(squares, alloc, strips, row)?;
     skip_rows(squares, alloc, strips, blank_rows)

@@ -1,6 +1,8 @@
-use Rattle.std.proofs.Common.{arith, sym, ◌∙◌}
+use Rattle.std.proofs.Common.{arith, sym, ◌∙◌, subst}
 use Rattle.life_base.specs.Tree.{quad}
 use Rattle.life_quad.proofs.MoveLemmas.{if_ok_map}
+use Rattle.life_quad.proofs.RefusedLemmas.{on_err_both}
+use Rattle.life_strip.specs.Strip.{quad_at}
 use Rattle.life_strip.proofs.SpanLemmas.{past_later, found-known, found-content, found-depth}
 use Rattle.life_strip.proofs.spans.join_at.Goals as goal
 
@@ -57,3 +59,17 @@ returns-clause-square g c =
     let sw = found-content (g.S.Squares.knows c.args.squares.now) (g.S.Squares.content c.args.squares.now) c.args.level c.args.lower.now r.lower c.args.blank r.known r.blank _ c.args.south r.south in
     let se = found-content (g.S.Squares.knows c.args.squares.now) (g.S.Squares.content c.args.squares.now) c.args.level c.args.lower.now r.lower c.args.blank r.known r.blank _ c.find-se.result c.find-se.ensures in
     if_ok_map c.join.result (λ x e. e ∙ (λ i. quad (nw i) (ne i) (sw i) (se i))) c.join.ensures.square
+
+pub returns-clause-needed : goal.returns-clause-needed
+returns-clause-needed g c =
+    let r = c.requires in
+    let s = c.args.squares.now in
+    let K = g.S.Squares.knows s in
+    let C = g.S.Squares.content s in
+    let nw = found-content K C c.args.level c.args.upper.now r.upper c.args.blank r.known r.blank _ c.args.north r.north in
+    let ne = found-content K C c.args.level c.args.upper.now r.upper c.args.blank r.known r.blank _ c.find-ne.result c.find-ne.ensures in
+    let sw = found-content K C c.args.level c.args.lower.now r.lower c.args.blank r.known r.blank _ c.args.south r.south in
+    let se = found-content K C c.args.level c.args.lower.now r.lower c.args.blank r.known r.blank _ c.find-se.result c.find-se.ensures in
+    on_err_both c.join.result
+    (λ n e. subst (λ q. g.S.Squares.needs_node q (quad_at C c.args.level c.args.upper.now c.args.lower.now c.args.column)) (sym e) (subst (g.S.Squares.needs_node s) (λ i. quad (nw i) (ne i) (sw i) (se i)) n))
+    c.join.ensures.needed c.join.ensures.unchanged

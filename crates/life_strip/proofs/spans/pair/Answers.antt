@@ -42,3 +42,13 @@ returns-clause-paired g c =
     c.loop-north.column inv.0
     (none-left c.args.upper.now _ _ c.loop-north.north inv.1 (omega (arith, c.if-north-lt18446744073709551615.false)))
     (none-left c.args.lower.now _ _ c.loop-north.south inv.2 (omega (arith, c.if-south-lt18446744073709551615.false)))
+
+pub returns-in_err-square-clause-needed : goal.returns-in_err-square-clause-needed
+returns-in_err-square-clause-needed g c =
+    let r = c.requires in
+    let K = g.S.Squares.knows in
+    let C = g.S.Squares.content in
+    let old = c.args.squares.now in
+    let now = c.loop-north.squares in
+    let same = quad-keeps {knows = K old} {knows' = K now} {old = C old} {now = C now} c.loop-north.invariant.3 c.args.level c.args.upper.now c.args.lower.now r.upper r.lower c.loop-north.column in
+    λ e. (c.loop-north.column, subst (g.S.Squares.needs_node c.join_at.new.squares) same c.in_err-square.ensures.needed)

@@ -1,0 +1,183 @@
+-- Facts about the squares that a refused call had to store.
+use Rattle.std.proofs.Common.{◌≡◌, ℕ, suc, ◌+◌, ◌-◌, ◌*◌, ◌/◌, ◌%◌, ◌^◌, ◌≤◌, ◌<◌, Bool, true, false, nat_lt, List, [], ◌∷◌, ◌++◌, Option, Some, None, Result, Ok, Err, sym, ◌∙◌, ap, subst, refl, arith}
+use Rattle.std.specs.Prelude.{if◌then◌else◌}
+use Rattle.std.proofs.lemmas.Nat.{div-mul-add, mod-mul-add, pow-add}
+use Rattle.std.proofs.lemmas.List.{append_assoc}
+use Rattle.std.proofs.Math.Nat.{mul_assoc, add-mul}
+use Rattle.life_quad.specs.declared.id.Id.{Id}
+use Rattle.life_base.specs.Tree.{Tree, depth, state_at, IsFull}
+use Rattle.life_quad.specs.TreeLaws.{full-blank}
+use Rattle.life_quad.proofs.SpanLemmas.{at_nw, at_ne, at_sw, at_se}
+use Rattle.life_strip.specs.declared.spans.Span.{Span}
+use Rattle.life_strip.specs.declared.spans.Strip.{Strip}
+use Rattle.life_strip.specs.Strip.{id_at, square_or_blank, square_at, quad_at, IsStrip}
+use Rattle.life_strip.specs.Picture.{state_in, picture, height, AreFalling, IsLowest, SomeSquare}
+use Rattle.life_strip.proofs.SpanLemmas.{depth-square_at}
+use Rattle.life_strip.proofs.PictureLemmas.{double, lowest-init}
+
+-- the same refusal of another call
+pub err_again : {T U E : Type 0} {x y : E} → ◌≡◌ {A = Result T E} (Err x) (Err y) → ◌≡◌ {A = Result U E} (Err x) (Err y)
+err_again {T} {E = E} {x} e = ap Err (ap only e)
+  where
+    only : Result T E → E
+    only (Ok t) = x
+    only (Err z) = z
+
+-- the same square of another picture with the same states
+pub SomeSquare-same : {P : Tree → Type 0} {f g : ℕ → ℕ → ℕ} → ((i j : ℕ) → f i j ≡ g i j) → SomeSquare P f → SomeSquare P g
+SomeSquare-same e s =
+    record {
+      square = s.square;
+      full = s.full;
+      deep = s.deep;
+      column = s.column;
+      row = s.row;
+      cells = λ i j li lj. s.cells i j li lj ∙ e (s.column * 2 ^ depth s.square + i) (s.row * 2 ^ depth s.square + j);
+      property = s.property;
+    }
+
+-- each square of a strip is full, and so are four of two strips
+module _ (knows : Id → Type 0) (content : Id → Tree) (full : (id : Id) → knows id → IsFull (content id)) (level : ℕ) where
+  full-square_at : (spans : List Span) → IsStrip knows content level spans → (c : ℕ) → IsFull (square_at content level spans c)
+  full-square_at spans s c = by (id_at spans c) refl
+    where
+      by : (o : Option Id) → id_at spans c ≡ o → IsFull (square_at content level spans c)
+      by None e = subst (λ o. IsFull (square_or_blank content level o)) (sym e) (full-blank level)
+      by (Some id) e = subst (λ o. IsFull (square_or_blank content level o)) (sym e) (full id (s c id e).0)
+
+  pub full-quad_at : (upper lower : List Span) → IsStrip knows content level upper → IsStrip knows content level lower → (c : ℕ) → IsFull (quad_at content level upper lower c)
+  full-quad_at upper lower u l c =
+      let du = depth-square_at knows content level upper u in
+      let dl = depth-square_at knows content level lower l in
+      let nw = sym (du (2 * c)) in (
+        full-square_at upper u (2 * c),
+        full-square_at upper u (2 * c + 1),
+        full-square_at lower l (2 * c),
+        full-square_at lower l (2 * c + 1),
+        du (2 * c + 1) ∙ nw,
+        dl (2 * c) ∙ nw,
+        dl (2 * c + 1) ∙ nw,
+      )
+
+-- the squares of a level in a column of squares twice as wide
+column_west : (c i m : ℕ) → i < m → ((c * (2 * m) + i) / m ≡ 2 * c) × ((c * (2 * m) + i) % m ≡ i)
+column_west c i m h =
+    let two : c * 2 ≡ 2 * c = omega arith in
+    let first : c * (2 * m) ≡ 2 * c * m = sym (mul_assoc c 2 m) ∙ ap (λ z. z * m) two in
+    let whole : c * (2 * m) + i ≡ 2 * c * m + i = ap (λ z. z + i) first in
+    (ap (λ z. z / m) whole ∙ div-mul-add (2 * c) m i h, ap (λ z. z % m) whole ∙ mod-mul-add (2 * c) m i h)
+
+column_east : (c i m : ℕ) → m ≤ i → i < 2 * m → ((c * (2 * m) + i) / m ≡ 2 * c + 1) × ((c * (2 * m) + i) % m ≡ i - m)
+column_east c i m h below =
+    let two : c * 2 ≡ 2 * c = omega arith in
+    let first : c * (2 * m) ≡ 2 * c * m = sym (mul_assoc c 2 m) ∙ ap (λ z. z * m) two in
+    let one : (2 * c + 1) * m ≡ 2 * c * m + m = add-mul (2 * c) 1 m ∙ (omega arith) in
+    let small : i - m < m = omega (arith, h, below) in
+    let whole : c * (2 * m) + i ≡ (2 * c + 1) * m + (i - m) = omega (arith, first, one, h) in
+    (ap (λ z. z / m) whole ∙ div-mul-add (2 * c + 1) m (i - m) small, ap (λ z. z % m) whole ∙ mod-mul-add (2 * c + 1) m (i - m) small)
+
+-- the rows below some strips
+picture-below : (content : Id → Tree) (xs ys : List Strip) (i j : ℕ) → picture content (xs ++ ys) i (height xs + j) ≡ picture content ys i j
+picture-below content [] ys i j = ap (picture content ys i) (omega arith)
+picture-below content (x ∷ xs) ys i j =
+    let out : nat_lt (2 ^ x.level + height xs + j) (2 ^ x.level) ≡ false = grind arith in
+    let back : 2 ^ x.level + height xs + j - 2 ^ x.level ≡ height xs + j = omega arith in
+    ap (λ b. if b then state_in content x i (2 ^ x.level + height xs + j) else picture content (xs ++ ys) i (2 ^ x.level + height xs + j - 2 ^ x.level)) out
+    ∙ ap (picture content (xs ++ ys) i) back ∙ picture-below content xs ys i j
+
+-- strips of a level or more have a number of rows that its squares divide
+height-divided : (xs : List Strip) (n : ℕ) → IsLowest n xs → (r : ℕ) × (height xs ≡ r * 2 ^ n)
+height-divided [] n h = (0, omega arith)
+height-divided (x ∷ xs) n h =
+    let more = height-divided xs n (λ k d lt. h (suc k) d (omega (arith, lt))) in
+    let low : n ≤ x.level = h 0 x (omega arith) in
+    let level : x.level ≡ x.level - n + n = omega (arith, low) in
+    let e : 2 ^ x.level ≡ 2 ^ (x.level - n) * 2 ^ n = ap (λ k. 2 ^ k) level ∙ pow-add 2 (x.level - n) n in
+    (2 ^ (x.level - n) + more.0, (λ y. e y + more.1 y) ∙ sym (add-mul (2 ^ (x.level - n)) more.0 (2 ^ n)))
+
+module _ (knows : Id → Type 0) (content : Id → Tree) (a b : Strip) (sound : IsStrip knows content a.level a.spans.items) (same : b.level ≡ a.level) (c : ℕ) where
+  abbrev m : ℕ
+  m = 2 ^ a.level
+
+  abbrev u : ℕ → Tree
+  u = square_at content a.level a.spans.items
+
+  abbrev l : ℕ → Tree
+  l = square_at content a.level b.spans.items
+
+  deep : 2 ^ depth (u (2 * c)) ≡ m
+  deep = ap (λ z. 2 ^ z) (depth-square_at knows content a.level a.spans.items sound (2 * c))
+
+  -- the cells of four squares of two strips
+  quad-cells : (i j : ℕ) → i < 2 * m → j < 2 * m
+      → state_at (quad_at content a.level a.spans.items b.spans.items c) i j ≡ picture content (a ∷ b ∷ []) (c * (2 * m) + i) j
+  quad-cells i j li lj = by (nat_lt j m) refl (nat_lt i m) refl
+    where
+      col : ℕ
+      col = c * (2 * m) + i
+
+      upper_row : nat_lt j m ≡ true → picture content (a ∷ b ∷ []) col j ≡ state_at (u (col / m)) (col % m) j
+      upper_row e = ap (λ t. if t then state_in content a col j else (if nat_lt (j - m) (2 ^ b.level) then state_in content b col (j - m) else 0)) e
+
+      lower_row : nat_lt j m ≡ false → picture content (a ∷ b ∷ []) col j ≡ state_at (l (col / m)) (col % m) (j - m)
+      lower_row e =
+          let v : 2 ^ b.level ≡ m = ap (λ n. 2 ^ n) same in
+          let beyond : m ≤ j = grind (arith, e) in
+          let small : j - m < 2 ^ b.level = omega (arith, lj, beyond, v) in
+          let t : nat_lt (j - m) (2 ^ b.level) ≡ true = grind (arith, small) in
+          ap (λ t. if t then state_in content a col j else (if nat_lt (j - m) (2 ^ b.level) then state_in content b col (j - m) else 0)) e
+          ∙ ap (λ t. if t then state_in content b col (j - m) else 0) t
+          ∙ (λ x. state_at (square_at content (same x) b.spans.items (col / 2 ^ same x)) (col % 2 ^ same x) (j - m))
+
+      by : (p : Bool) → nat_lt j m ≡ p → (q : Bool) → nat_lt i m ≡ q
+          → state_at (quad_at content a.level a.spans.items b.spans.items c) i j ≡ picture content (a ∷ b ∷ []) col j
+      by true e true f =
+          let w = column_west c i m (grind (arith, f)) in
+          at_nw (u (2 * c)) (u (2 * c + 1)) (l (2 * c)) (l (2 * c + 1)) i j (ap (nat_lt j) deep ∙ e) (ap (nat_lt i) deep ∙ f)
+          ∙ sym (upper_row e ∙ (λ x. state_at (u (w.0 x)) (w.1 x) j))
+      by true e false f =
+          let w = column_east c i m (grind (arith, f)) li in
+          at_ne (u (2 * c)) (u (2 * c + 1)) (l (2 * c)) (l (2 * c + 1)) i j (ap (nat_lt j) deep ∙ e) (ap (nat_lt i) deep ∙ f)
+          ∙ ap (λ n. state_at (u (2 * c + 1)) (i - n) j) deep ∙ sym (upper_row e ∙ (λ x. state_at (u (w.0 x)) (w.1 x) j))
+      by false e true f =
+          let w = column_west c i m (grind (arith, f)) in
+          at_sw (u (2 * c)) (u (2 * c + 1)) (l (2 * c)) (l (2 * c + 1)) i j (ap (nat_lt j) deep ∙ e) (ap (nat_lt i) deep ∙ f)
+          ∙ ap (λ n. state_at (l (2 * c)) i (j - n)) deep ∙ sym (lower_row e ∙ (λ x. state_at (l (w.0 x)) (w.1 x) (j - m)))
+      by false e false f =
+          let w = column_east c i m (grind (arith, f)) li in
+          at_se (u (2 * c)) (u (2 * c + 1)) (l (2 * c)) (l (2 * c + 1)) i j (ap (nat_lt j) deep ∙ e) (ap (nat_lt i) deep ∙ f)
+          ∙ ap (λ n. state_at (l (2 * c + 1)) (i - n) (j - n)) deep ∙ sym (lower_row e ∙ (λ x. state_at (l (w.0 x)) (w.1 x) (j - m)))
+
+  -- they are a square of the picture, below strips of higher levels
+  pub SomeSquare-pair : (P : Tree → Type 0) (xs : List Strip) → ((id : Id) → knows id → IsFull (content id)) → IsStrip knows content a.level b.spans.items
+      → AreFalling (xs ++ a ∷ []) → P (quad_at content a.level a.spans.items b.spans.items c) → SomeSquare P (picture content ((xs ++ a ∷ []) ++ b ∷ []))
+  SomeSquare-pair P xs full lower falling p =
+      record {
+        square = square;
+        full = full-quad_at knows content full a.level a.spans.items b.spans.items sound lower c;
+        deep = omega (arith, level);
+        column = c;
+        row = rows.0;
+        cells = λ i j li lj. quad-cells i j (subst (λ n. i < n) side li) (subst (λ n. j < n) side lj)
+            ∙ sym (picture-below content xs (a ∷ b ∷ []) (c * (2 * m) + i) j)
+            ∙ (λ x. picture content (in_order x) (c * sym side x + i) (above x + j));
+        property = p;
+      }
+    where
+      square : Tree
+      square = quad_at content a.level a.spans.items b.spans.items c
+
+      level : depth square ≡ suc a.level
+      level = ap suc (depth-square_at knows content a.level a.spans.items sound (2 * c))
+
+      side : 2 ^ depth square ≡ 2 * m
+      side = ap (λ n. 2 ^ n) level ∙ double a.level
+
+      rows : (r : ℕ) × (height xs ≡ r * 2 ^ suc a.level)
+      rows = height-divided xs (suc a.level) (lowest-init xs a falling (suc a.level) refl)
+
+      above : height xs ≡ rows.0 * 2 ^ depth square
+      above = rows.1 ∙ ap (λ n. rows.0 * 2 ^ n) (sym level)
+
+      in_order : xs ++ a ∷ b ∷ [] ≡ (xs ++ a ∷ []) ++ b ∷ []
+      in_order = sym (append_assoc xs (a ∷ []) (b ∷ []))

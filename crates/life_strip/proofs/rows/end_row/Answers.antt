@@ -1,0 +1,5 @@
+use Rattle.life_strip.proofs.NeededLemmas.{SomeSquare-same}
+use Rattle.life_strip.proofs.rows.end_row.Goals as goal
+
+pub returns-clause-needed : goal.returns-clause-needed
+returns-clause-needed g c = λ e. SomeSquare-same (λ i j. c.in_ok-push_strip.ensures.picture i j) (c.skip_rows.ensures.needed e)
