@@ -1,13 +1,14 @@
 -- Facts about strips one below the other.
 use Rattle.life_base.specs.declared.cell.TheConstants.{MAX_LEVEL}
 use Rattle.std.proofs.Common.{length-append, Result, Ok, Err, OnOk, ◌≡◌, ℕ, zero, suc, ◌+◌, ◌-◌, ◌*◌, ◌/◌, ◌%◌, ◌^◌, ◌≤◌, ◌<◌, Bool, true, false, nat_lt, List, [], ◌∷◌, ◌++◌, length, get_or, All, refl, sym, ◌∙◌, ap, subst, arith}
-use Rattle.std.specs.Prelude.{if◌then◌else◌}
+use Rattle.std.specs.Prelude.{if◌then◌else◌, slice_get, Some}
 use Rattle.std.proofs.lemmas.Nat.{div-mul-add, mod-mul-add, mod_below, div-add-mod'}
 use Rattle.std.proofs.Math.Nat.{mul_assoc, add-mul}
 use Rattle.std.proofs.Math.Pow.{pow_mono}
 use Rattle.std.proofs.Math.Seq.{get_or-append_seam}
 use Rattle.std.proofs.lemmas.List.{get_or_append_left}
 use Rattle.std.proofs.lemmas.List.Quantifiers.{all_pairs_push}
+use Rattle.std.proofs.lemmas.Option.{get_or_from_slice_get}
 use Rattle.life_quad.specs.declared.id.Id.{Id}
 use Rattle.life_base.specs.Tree.{Tree, quad, depth, blank, state_at}
 use Rattle.life_strip.specs.declared.spans.Strip.{Strip}
@@ -199,13 +200,13 @@ picture-blank content (x ∷ xs) s e i j =
     let more = picture-blank content xs s e i (j - 2 ^ x.level) in
     λ y. if nat_lt j (2 ^ x.level) then state_in content x i j else more y
 
--- a power within the rows of the plane is of the greatest level at most
-pub at_most_greatest : (k n : ℕ) → 2 ^ k ≤ n → n ≤ 2 ^ MAX_LEVEL → k ≤ MAX_LEVEL
-at_most_greatest k n a b = by (nat_lt k (suc MAX_LEVEL)) refl
+-- powers below the next power are at most this one
+pub power-at_most : (k n r : ℕ) → 2 ^ k ≤ n → n < 2 * 2 ^ r → k ≤ r
+power-at_most k n r fits above = by (nat_lt r k) refl
   where
-    by : (t : Bool) → nat_lt k (suc MAX_LEVEL) ≡ t → k ≤ MAX_LEVEL
-    by true e = grind arith
-    by false e = absurd (let above : suc MAX_LEVEL ≤ k = grind arith in let more = pow_mono {i = suc MAX_LEVEL} {j = k} above in omega (arith, more, a, b))
+    by : (t : Bool) → nat_lt r k ≡ t → k ≤ r
+    by true e = absurd (let more = pow_mono {i = suc r} {j = k} (grind arith) in omega (arith, more, fits, above))
+    by false e = grind arith
 
 -- the level of a strip among others, and of the last
 level_left : (xs : List Strip) (x : Strip) (k : ℕ) (d : Strip) → k < length xs → (get_or (xs ++ x ∷ []) k d).level ≡ (get_or xs k d).level
@@ -213,6 +214,22 @@ level_left xs x k d lt = ap (λ s. s.level) (get_or_append_left xs (x ∷ []) d 
 
 level_last : (xs : List Strip) (x d : Strip) → (get_or (xs ++ x ∷ []) (length xs) d).level ≡ x.level
 level_last xs x d = ap (λ s. s.level) (get_or-append_seam xs x [] d)
+
+-- the last of them is the lowest
+pub last-lowest : (xs : List Strip) (x : Strip) → AreFalling xs → slice_get xs (length xs - 1) ≡ Some x → IsLowest x.level xs
+last-lowest xs x fall last k d lt = by (nat_lt k (length xs - 1)) refl
+  where
+    there : (get_or xs (length xs - 1) d).level ≡ x.level
+    there = ap (λ s. s.level) (get_or_from_slice_get xs (length xs - 1) x d last)
+
+    by : (b : Bool) → nat_lt k (length xs - 1) ≡ b → x.level ≤ (get_or xs k d).level
+    by true e =
+        let a = fall k (length xs - 1) d (grind arith) (omega (arith, lt)) in
+        omega (arith, a, there)
+    by false e =
+        let same : k ≡ length xs - 1 = (let f : length xs - 1 ≤ k = grind arith in omega (arith, f, lt)) in
+        let q = ap (λ z. (get_or xs z d).level) same in
+        omega (arith, q, there)
 
 -- all but the last fall too
 pub falling-init : (xs : List Strip) (x : Strip) → AreFalling (xs ++ x ∷ []) → AreFalling xs

@@ -95,19 +95,13 @@ fn blank_level(strips: &[Strip], rows: u64) -> u8
     ensures lowest { IsLowest result strips.now }
     ensures most { result ≤ MAX_LEVEL }
     ensures fits { 2 ^ result ≤ rows }
+    ensures largest { (level : ℕ) → IsLowest level strips.now → level ≤ MAX_LEVEL → 2 ^ level ≤ rows → level ≤ result }
 {
-    let most = if strips.is_empty() {
-        MAX_LEVEL
-    } else {
-        strips[strips.len() - 1].level
-    };
-    let mut level = 0;
-    let mut side: u64 = 1;
-    while level < most && side <= rows / 2 {
-        level += 1;
-        side *= 2;
+    let fitting = rows.ilog2() as u8;
+    match strips.last() {
+        Some(last) => fitting.min(last.level),
+        None => fitting,
     }
-    level
 }
 
 // Rows without cells, in the fewest strips.

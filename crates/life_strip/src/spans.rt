@@ -1,7 +1,8 @@
 //! Strips of squares, and how two of them make one of the next level.
-ghost use Rattle.std.specs.Prelude.{◌≡◌, ℕ, ◌+◌, ◌*◌, ◌^◌, ◌<◌, ◌≤◌, ◌⊎◌, ◌&&◌, nat_le, nat_lt, if◌then◌else◌, All, Contains, Some, length, Err, IfOk, IfErr, OnOk, OnErr};
+ghost use Rattle.std.specs.Prelude.{◌≡◌, ℕ, ◌+◌, ◌-◌, ◌*◌, ◌^◌, ◌<◌, ◌≤◌, ◌⊎◌, ◌&&◌, nat_le, nat_lt, if◌then◌else◌, All, Contains, Some, length, slice_get, Err, IfOk, IfErr, OnOk, OnErr};
 ghost use Rattle.life_base.specs.declared.kind.Kind.TheVariants.{Full, Memory};
 ghost use Rattle.life_quad.specs.declared.id.Id.{Id as IdValue};
+ghost use Rattle.life_strip.specs.declared.spans.Span.{Span as SpanValue};
 ghost use Rattle.life_base.specs.Tree.{Tree, depth, blank as blank_square};
 ghost use Rattle.life_strip.specs.Strip.{IsStrip, AreWithin, IsPaired, IsPast, IsFound, id_at, id_or, quad_at};
 
@@ -155,7 +156,8 @@ pub(crate) fn pair<S: Squares>(
 
 // How many columns from the west have a square.
 fn covered(spans: &[Span]) -> u64
-    ensures { (c : ℕ) → c < result → (id : IdValue) × (id_at spans.now c ≡ Some id) }
+    ensures columns { (c : ℕ) → c < result → (id : IdValue) × (id_at spans.now c ≡ Some id) }
+    ensures last { (span : SpanValue) → slice_get spans.now (length spans.now - 1) ≡ Some span → result ≡ span.end }
 {
     match spans.last() {
         Some(span) => span.end,

@@ -9,4 +9,4 @@ returns-in-Ok-clause-columns c n lt = ap (λ z. id_at z n) c.in-Ok.ensures.items
 pub returns-else-covered-column-clause-columns : goal.returns-else-covered-column-clause-columns
 returns-else-covered-column-clause-columns c n lt =
     no_gap c.args.spans.now.items c.args.blank n
-    (let h = c.covered.ensures n (omega (arith, lt, c.if-covered-column.false)) in (h.0, ap (λ z. id_at z n) (sym c.as_slice.ensures.value) ∙ h.1))
+    (let h = c.covered.ensures.columns n (omega (arith, lt, c.if-covered-column.false)) in (h.0, ap (λ z. id_at z n) (sym c.as_slice.ensures.value) ∙ h.1))
