@@ -44,12 +44,12 @@ fn next_pen(pen: Pen, used: usize, cell: &Cell) -> Pen
     ensures { result ≡ record { left = pen.left; used = used; x = cell.now.x +ℤ pos 1; y = cell.now.y; count = 1; state = cell.now.state } }
 {
     Pen {
-        left: pen.left,
         used,
         x: cell.x + 1,
         y: cell.y,
         count: 1,
         state: cell.state,
+        ..pen
     }
 }
 
