@@ -32,7 +32,7 @@ impl From<AllocError> for Refusal {
 }
 
 /// `ok` for the right answer, the name of a fault that names no line, and else `wrong`.
-pub fn told(answer: Result<bool, Refusal>) -> &'static str {
+pub(crate) fn told(answer: Result<bool, Refusal>) -> &'static str {
     match answer {
         Ok(true) => "ok",
         Ok(false) => "wrong",

@@ -15,7 +15,7 @@ pub struct Calls<'a> {
 
 impl<'a> Calls<'a> {
     /// Calls that are made once.
-    pub fn of(rt: &'a HostRuntime, place: &'a str) -> Calls<'a> {
+    pub(crate) fn of(rt: &'a HostRuntime, place: &'a str) -> Calls<'a> {
         Calls {
             rt,
             place,
@@ -24,12 +24,12 @@ impl<'a> Calls<'a> {
     }
 
     /// Calls whose lines tell the time.
-    pub fn at(rt: &'a HostRuntime, place: &'a str, time: &'a str) -> Calls<'a> {
+    pub(crate) fn at(rt: &'a HostRuntime, place: &'a str, time: &'a str) -> Calls<'a> {
         Calls { rt, place, time }
     }
 
     /// Prints the line of a call. It takes no memory.
-    pub fn tell(&self, call: &str, answer: Result<bool, Refusal>) {
+    pub(crate) fn tell(&self, call: &str, answer: Result<bool, Refusal>) {
         let mut out = Device::new(self.rt.stdout());
         let _ = write_line(&mut out, self.place, call, self.time, told(answer));
     }

@@ -27,7 +27,7 @@ fn run(x: i64, y: i64, len: u64, state: u8) -> Run {
 }
 
 /// The runs of two files.
-pub fn rle_read(alloc: Global) -> Result<bool, Refusal> {
+pub(crate) fn rle_read(alloc: Global) -> Result<bool, Refusal> {
     let glider = read_rle(alloc, GLIDER)?;
     let wires = read_rle(alloc, WIRES)?;
     let runs = [run(1, 0, 1, 1), run(2, 1, 1, 1), run(0, 2, 3, 1)];
@@ -43,7 +43,7 @@ pub fn rle_read(alloc: Global) -> Result<bool, Refusal> {
 }
 
 /// The runs of a file, line by line.
-pub fn rle_lines_read(alloc: Global) -> Result<bool, Refusal> {
+pub(crate) fn rle_lines_read(alloc: Global) -> Result<bool, Refusal> {
     let mut reader = RleLines::new(alloc);
     let position = reader.line(b"#CXRLE Pos=-4,0")?;
     let header = reader.line(b"x = 9, y = 1, rule = B3/S23")?;
@@ -72,7 +72,7 @@ fn rle_text(
 }
 
 /// The texts of cells under a B/S rule and under a name.
-pub fn rle_written(alloc: Global) -> Result<bool, Refusal> {
+pub(crate) fn rle_written(alloc: Global) -> Result<bool, Refusal> {
     let ends = [
         Cell {
             x: -4,
@@ -106,7 +106,7 @@ pub fn rle_written(alloc: Global) -> Result<bool, Refusal> {
 }
 
 /// The squares of a file.
-pub fn mc_read(alloc: Global) -> Result<bool, Refusal> {
+pub(crate) fn mc_read(alloc: Global) -> Result<bool, Refusal> {
     let file = read_mc(
         alloc,
         b"[M2] (canonical 1)\n#R WireWorld\n#G 7\n1 1 25 0 0\n",
@@ -122,7 +122,7 @@ pub fn mc_read(alloc: Global) -> Result<bool, Refusal> {
 }
 
 /// The texts of two files.
-pub fn mc_written(alloc: Global) -> Result<bool, Refusal> {
+pub(crate) fn mc_written(alloc: Global) -> Result<bool, Refusal> {
     let lone = read_mc(alloc, LONE)?;
     let wires = read_mc(alloc, WIRES_TEXT)?;
     let text = write_mc(alloc, &lone)?;

@@ -23,7 +23,7 @@ const EAST: Cell = Cell {
 };
 
 /// A square of level 1, joined of its cells.
-pub fn joined<S: Squares>(squares: &mut S) -> Result<bool, Refusal> {
+pub(crate) fn joined<S: Squares>(squares: &mut S) -> Result<bool, Refusal> {
     let dead = squares.cell(0);
     let first = squares.cell(1);
     let second = squares.cell(25);
@@ -53,13 +53,13 @@ fn are_ends<S: Squares>(alloc: Global, squares: &S, id: Id, level: u8) -> Result
 }
 
 /// Two runs, put into the plane, and the cells of it.
-pub fn put<S: Squares>(alloc: Global, squares: &mut S) -> Result<bool, Refusal> {
+pub(crate) fn put<S: Squares>(alloc: Global, squares: &mut S) -> Result<bool, Refusal> {
     let plane = ends(squares)?;
     Ok(are_ends(alloc, squares, plane, MAX_LEVEL)?)
 }
 
 /// The least square of level 3 or more in the middle of the plane.
-pub fn trimmed<S: Squares>(alloc: Global, squares: &mut S) -> Result<bool, Refusal> {
+pub(crate) fn trimmed<S: Squares>(alloc: Global, squares: &mut S) -> Result<bool, Refusal> {
     let plane = ends(squares)?;
     let least = trim(squares, plane, 3)?;
     Ok(are_ends(alloc, squares, least, 4)?)
@@ -82,7 +82,7 @@ fn grown_whole<S: Squares>(squares: &mut S, id: Id) -> Result<Id, Kind>
 }
 
 /// The plane, grown from a small square.
-pub fn grown<S: Squares>(alloc: Global, squares: &mut S) -> Result<bool, Refusal> {
+pub(crate) fn grown<S: Squares>(alloc: Global, squares: &mut S) -> Result<bool, Refusal> {
     let blank = squares.empty(4);
     let one = put_run(squares, blank, -4, 0, 1, 1)?;
     let square = put_run(squares, one, 4, 0, 1, 1)?;
@@ -91,13 +91,13 @@ pub fn grown<S: Squares>(alloc: Global, squares: &mut S) -> Result<bool, Refusal
 }
 
 /// The number of cells.
-pub fn counted<S: SharedSquares>(alloc: Global, squares: &mut S) -> Result<bool, Refusal> {
+pub(crate) fn counted<S: SharedSquares>(alloc: Global, squares: &mut S) -> Result<bool, Refusal> {
     let plane = ends(squares)?;
     Ok(population(alloc, squares, plane)? == 2)
 }
 
 /// The box of the cells.
-pub fn bounded<S: SharedSquares>(alloc: Global, squares: &mut S) -> Result<bool, Refusal> {
+pub(crate) fn bounded<S: SharedSquares>(alloc: Global, squares: &mut S) -> Result<bool, Refusal> {
     let plane = ends(squares)?;
     let least = Bounds {
         left: -4,

@@ -26,7 +26,7 @@ fn live(x: i64, y: i64) -> Cell {
 }
 
 /// A glider, built by its runs.
-pub fn built<S: Squares>(alloc: Global, squares: &mut S) -> Result<bool, Refusal> {
+pub(crate) fn built<S: Squares>(alloc: Global, squares: &mut S) -> Result<bool, Refusal> {
     let plane = glider(alloc, squares)?;
     let list = cells(alloc, squares, plane, 5)?;
     let glider = [live(1, 0), live(2, 1), live(0, 2), live(1, 2), live(2, 2)];

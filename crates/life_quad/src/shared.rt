@@ -99,6 +99,7 @@ impl Squares for Shared {
     ghost needs_node = { λ s t. (is_blank_tree t ≡ false) × ¬ Contains (squares s.nodes) t };
 
     fn empty(&self, level: u8) -> Id {
+        // To read a field opens the invariant to the proof: an Id is known in a sound store.
         let _ = &self.limit;
         Id::of_blank(level)
     }
