@@ -48,37 +48,47 @@ pub(super) fn assert_refusal(
     assert_eq!(rt; refusal(answer), wanted, "{texts:?}");
 }
 
-/// A variable has this name and these states.
-pub(super) fn assert_variable(rt: &impl Abort, variable: &Var, name: &[u8], states: [u64; 4]) {
-    assert_eq!(rt; (variable.name.as_slice(), variable.states), (name, states));
+/// A variable has this name and these states, in a row of the test.
+pub(super) fn assert_variable(
+    rt: &impl Abort,
+    row: &str,
+    variable: &Var,
+    name: &[u8],
+    states: [u64; 4],
+) {
+    let found = (variable.name.as_slice(), variable.states);
+    assert_eq!(rt; found, (name, states), "{row}");
 }
 
-/// There is one variable, with this name and these states.
+/// There is one variable, with this name and these states, in a row of the test.
 pub(super) fn assert_only_variable(
     rt: &impl Abort,
+    row: &str,
     variables: &[Var],
     name: &[u8],
     states: [u64; 4],
 ) {
-    assert_eq!(rt; variables.len(), 1);
+    assert_eq!(rt; variables.len(), 1, "{row}");
     for found in variables {
-        assert_variable(rt, found, name, states);
+        assert_variable(rt, row, found, name, states);
     }
 }
 
-/// There is one transition, on this line and with these entries.
+/// There is one transition, on this line and with these entries, in a row of the test.
 pub(super) fn assert_only_transition(
     rt: &impl Abort,
+    row: &str,
     transitions: &[Transition],
     line: u64,
     inputs: &[Entry],
     output: Entry,
 ) {
-    assert_eq!(rt; transitions.len(), 1);
+    assert_eq!(rt; transitions.len(), 1, "{row}");
     for found in transitions {
         assert_eq!(rt;
             (found.line, found.inputs.as_slice(), found.output),
-            (line, inputs, output)
+            (line, inputs, output),
+            "{row}"
         );
     }
 }

@@ -42,11 +42,11 @@ fn a_table_is_read(rt: HostRuntime) {
         let texts = [HEAD, "var a={1,2}\n", line];
         let table = table_of(&rt, rt.alloc(), &texts);
         assert_settings(&rt, &table);
-        assert_only_variable(&rt, table.vars.as_slice(), b"a", [6, 0, 0, 0]);
+        assert_only_variable(&rt, line, table.vars.as_slice(), b"a", [6, 0, 0, 0]);
         let zero = Entry::Fixed(0);
         let a = Entry::Var(0);
         let inputs = [zero, a, zero, zero, zero];
-        assert_only_transition(&rt, table.lines.as_slice(), 7, &inputs, a);
+        assert_only_transition(&rt, line, table.lines.as_slice(), 7, &inputs, a);
         assert_spread(&rt, &table, &texts);
     }
 }

@@ -289,15 +289,15 @@ fn assert_named(rt: &impl Abort, alloc: Global, texts: &[&str], name: &str) {
     let table = table_of(rt, alloc, texts);
     match table.vars.as_slice() {
         [first, second] => {
-            assert_variable(rt, first, name.as_bytes(), [6, 0, 0, 0]);
-            assert_variable(rt, second, b"b", [7, 0, 0, 0]);
+            assert_variable(rt, name, first, name.as_bytes(), [6, 0, 0, 0]);
+            assert_variable(rt, name, second, b"b", [7, 0, 0, 0]);
         }
         others => assert_eq!(rt; others.len(), 2, "{name}"),
     }
     let zero = Entry::Fixed(0);
     let first = Entry::Var(0);
     let inputs = [zero, first, Entry::Var(1), zero, zero];
-    assert_only_transition(rt, table.lines.as_slice(), 8, &inputs, first);
+    assert_only_transition(rt, name, table.lines.as_slice(), 8, &inputs, first);
 }
 
 #[test]
