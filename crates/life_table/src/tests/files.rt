@@ -1,67 +1,59 @@
 //! Files of rule tables: what is read, and how others are refused.
+use super::compare::{
+    assert_next, assert_only_transition, assert_only_variable, assert_refusal, table_of,
+};
 use crate::next::Neighbours;
-use crate::reading::read_table;
-use crate::table::{Entry, Neighborhood, Symmetry};
+use crate::table::{Entry, Neighborhood, Symmetry, Table};
 use life_base::{Fault, Kind, Place};
-use std::alloc::{AllocError, Global};
+use std::process::Abort;
 use std::rt::HostRuntime;
 
 const HEAD: &str =
     "@RULE Spread\n@TABLE\nn_states:3\nneighborhood:vonNeumann\nsymmetries:rotate4\n";
 
-/// Texts one behind another.
-fn joined(alloc: Global, texts: &[&str]) -> Result<Vec<u8>, AllocError> {
-    let mut bytes = Vec::new(alloc);
-    for text in texts {
-        bytes.extend_from_slice(text.as_bytes())?;
-    }
-    Ok(bytes)
+/// The settings of a table are those of the head.
+fn assert_settings(rt: &impl Abort, table: &Table) {
+    let settings = (
+        table.name.bytes(),
+        table.n_states,
+        table.neighborhood,
+        table.symmetry,
+    );
+    let wanted = (
+        b"Spread".as_slice(),
+        3,
+        Neighborhood::VonNeumann,
+        Symmetry::Rotate4,
+    );
+    assert_eq!(rt; settings, wanted);
 }
 
-/// The place and the kind of the refusal of two texts together.
-fn refusal(alloc: Global, head: &str, more: &str) -> Result<Option<(u64, Kind)>, AllocError> {
-    let bytes = joined(alloc, &[head, more])?;
-    match read_table(alloc, &bytes) {
-        Ok(_) => Ok(None),
-        Err(fault) => Ok(Some((fault.place.line, fault.kind))),
-    }
+/// The states spread as the only transition says.
+fn assert_spread(rt: &impl Abort, table: &Table, texts: &[&str]) {
+    assert!(rt; table.neighborhood == Neighborhood::VonNeumann && table.n_states == 3);
+    assert_next(rt, table, texts, Neighbours::Four([0, 0, 0, 0, 2]), Ok(2));
+    assert_next(rt, table, texts, Neighbours::Four([0, 2, 0, 2, 0]), Ok(0));
+    assert_next(rt, table, texts, Neighbours::Four([1, 2, 0, 0, 0]), Ok(1));
 }
 
 #[test]
 fn a_table_is_read(rt: HostRuntime) {
-    for line in ["0,a,0,0,0,a\n", "0a000a\n"] {
-        let text = joined(rt.alloc(), &[HEAD, "var a={1,2}\n", line]).expect(&rt, "memory");
-        let table = read_table(rt.alloc(), &text).expect(&rt, "table");
-        assert_eq!(rt; table.name.bytes(), b"Spread".as_slice());
-        assert_eq!(rt; table.n_states, 3);
-        assert_eq!(rt; table.neighborhood, Neighborhood::VonNeumann);
-        assert_eq!(rt; table.symmetry, Symmetry::Rotate4);
-        for var in table.vars.as_slice() {
-            assert_eq!(rt; var.name.as_slice(), b"a".as_slice());
-            assert_eq!(rt; var.states, [6, 0, 0, 0]);
-        }
-        assert_eq!(rt; table.vars.as_slice().len(), 1);
+    for line in &["0,a,0,0,0,a\n", "0a000a\n"] {
+        let texts = [HEAD, "var a={1,2}\n", line];
+        let table = table_of(&rt, rt.alloc(), &texts);
+        assert_settings(&rt, &table);
+        assert_only_variable(&rt, line, table.vars.as_slice(), b"a", [6, 0, 0, 0]);
         let zero = Entry::Fixed(0);
         let a = Entry::Var(0);
-        for line in table.lines.as_slice() {
-            assert_eq!(rt; line.line, 7);
-            assert_eq!(rt;
-                line.inputs.as_slice(),
-                [zero, a, zero, zero, zero].as_slice()
-            );
-            assert_eq!(rt; line.output, a);
-        }
-        assert_eq!(rt; table.lines.as_slice().len(), 1);
-        assert!(rt; table.neighborhood == Neighborhood::VonNeumann && table.n_states == 3);
-        assert_eq!(rt; table.next(&Neighbours::Four([0, 0, 0, 0, 2])), Ok(2));
-        assert_eq!(rt; table.next(&Neighbours::Four([0, 2, 0, 2, 0])), Ok(0));
-        assert_eq!(rt; table.next(&Neighbours::Four([1, 2, 0, 0, 0])), Ok(1));
+        let inputs = [zero, a, zero, zero, zero];
+        assert_only_transition(&rt, line, table.lines.as_slice(), 7, &inputs, a);
+        assert_spread(&rt, &table, &texts);
     }
 }
 
 #[test]
 fn faults_are_placed(rt: HostRuntime) {
-    for (more, fault) in [
+    for &(more, fault) in &[
         ("var a={1,3}\n", Some((6, Kind::BadVariable))),
         ("var a={1,2}\n0,0,0,0,0,1\n", Some((7, Kind::NotQuiet))),
         ("0,0,0,0,0,0\n0,0,0,0,0,1\n", None),
@@ -83,13 +75,13 @@ fn faults_are_placed(rt: HostRuntime) {
             Some((9, Kind::BadVariable)),
         ),
     ] {
-        assert_eq!(rt; refusal(rt.alloc(), HEAD, more), Ok(fault), "{more}");
+        assert_refusal(&rt, rt.alloc(), &[HEAD, more], fault);
     }
 }
 
 #[test]
 fn heads_are_told_apart(rt: HostRuntime) {
-    for (text, fault) in [
+    for &(text, fault) in &[
         (
             "@RULE A\n@TABLE\nsymmetries:rotate8\nneighborhood:vonNeumann\n",
             (4, Kind::UnsupportedSymmetry),
@@ -119,21 +111,26 @@ fn heads_are_told_apart(rt: HostRuntime) {
             (7, Kind::BadTransition),
         ),
     ] {
-        assert_eq!(rt; refusal(rt.alloc(), "", text), Ok(Some(fault)), "{text}");
+        assert_refusal(&rt, rt.alloc(), &[text], Some(fault));
     }
 }
 
 #[test]
 fn two_answers_name_the_line(rt: HostRuntime) {
-    let text =
-        b"@RULE Spread\n@TABLE\nn_states:3\nneighborhood:vonNeumann\nsymmetries:permute\nvar a={1,2}\nvar b={1,2}\n0,a,b,0,0,a\n";
-    let table = read_table(rt.alloc(), text).expect(&rt, "table");
+    let texts = [
+        "@RULE Spread\n@TABLE\nn_states:3\nneighborhood:vonNeumann\nsymmetries:permute\nvar a={1,2}\nvar b={1,2}\n0,a,b,0,0,a\n",
+    ];
+    let table = table_of(&rt, rt.alloc(), &texts);
     assert!(rt; table.neighborhood == Neighborhood::VonNeumann && table.n_states == 3);
-    assert_eq!(rt;
-        table.next(&Neighbours::Four([0, 1, 0, 2, 0])),
-        Err(Fault {
-            place: Place { line: 8 },
-            kind: Kind::Ambiguous
-        })
+    let ambiguous = Fault {
+        place: Place { line: 8 },
+        kind: Kind::Ambiguous,
+    };
+    assert_next(
+        &rt,
+        &table,
+        &texts,
+        Neighbours::Four([0, 1, 0, 2, 0]),
+        Err(ambiguous),
     );
 }

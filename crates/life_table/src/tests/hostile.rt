@@ -1,73 +1,55 @@
 //! Small files that are made to mislead a reader.
+use super::compare::{
+    assert_next, assert_only_transition, assert_refusal, assert_variable, read_texts, refusal,
+    table_of,
+};
 use crate::next::Neighbours;
-use crate::reading::read_table;
 use crate::table::{Entry, Neighborhood, Symmetry, Table};
-use life_base::{Fault, Kind};
-use std::alloc::{AllocError, Global};
+use life_base::Kind;
+use std::alloc::Global;
+use std::process::Abort;
 use std::rt::HostRuntime;
 
-/// The table that texts write one behind another.
-fn read_texts(alloc: Global, texts: &[&str]) -> Result<Result<Table, Fault>, AllocError> {
-    let mut bytes = Vec::new(alloc);
-    for text in texts {
-        bytes.extend_from_slice(text.as_bytes())?;
-    }
-    Ok(read_table(alloc, &bytes))
-}
+const HEAD: &str = "@RULE A\n@TABLE\n";
 
-/// The place and the kind of a refusal.
-fn refusal(answer: Result<Table, Fault>) -> Option<(u64, Kind)> {
-    match answer {
-        Ok(_) => None,
-        Err(fault) => Some((fault.place.line, fault.kind)),
-    }
-}
+const STATES: &str = "n_states:3\n";
 
-/// The place and the kind of the refusal of texts one behind another, if they are refused.
-fn refused(alloc: Global, texts: &[&str]) -> Result<Option<(u64, Kind)>, AllocError> {
-    Ok(refusal(read_texts(alloc, texts)?))
-}
+const NEIGHBORS: &str = "neighborhood:vonNeumann\n";
 
-const SETTINGS: [&str; 3] = [
-    "n_states:3\n",
-    "neighborhood:vonNeumann\n",
-    "symmetries:none\n",
-];
+const ORDERS: &str = "symmetries:none\n";
 
 #[test]
 fn descriptors_stand_in_any_order(rt: HostRuntime) {
-    let head = "@RULE A\n@TABLE\n";
     let states = "n_states:2\n";
     let orders = "symmetries:rotate8\n";
-    for (neighbors, places) in [
-        ("neighborhood:Moore\n", [0, 0, 0, 0, 0, 0]),
-        ("neighborhood:vonNeumann\n", [5, 5, 5, 4, 5, 4]),
+    for &(neighbors, lines) in &[
+        ("neighborhood:Moore\n", [None; 6]),
+        (
+            "neighborhood:vonNeumann\n",
+            [Some(5), Some(5), Some(5), Some(4), Some(5), Some(4)],
+        ),
     ] {
-        for (texts, place) in [
-            ([head, states, neighbors, orders], places[0]),
-            ([head, states, orders, neighbors], places[1]),
-            ([head, neighbors, states, orders], places[2]),
-            ([head, neighbors, orders, states], places[3]),
-            ([head, orders, states, neighbors], places[4]),
-            ([head, orders, neighbors, states], places[5]),
-        ] {
-            let fault = if place == 0 {
-                None
-            } else {
-                Some((place, Kind::UnsupportedSymmetry))
-            };
-            let answer = read_texts(rt.alloc(), &texts).expect(&rt, "memory");
-            assert_eq!(rt; refusal(answer), fault, "{neighbors} {place}");
+        for (texts, line) in [
+            [HEAD, states, neighbors, orders],
+            [HEAD, states, orders, neighbors],
+            [HEAD, neighbors, states, orders],
+            [HEAD, neighbors, orders, states],
+            [HEAD, orders, states, neighbors],
+            [HEAD, orders, neighbors, states],
+        ]
+        .iter()
+        .zip(lines.iter())
+        {
+            let fault = line.map(|line| (line, Kind::UnsupportedSymmetry));
+            assert_refusal(&rt, rt.alloc(), texts, fault);
         }
     }
 }
 
 #[test]
 fn a_missing_descriptor_is_refused(rt: HostRuntime) {
-    let head = "@RULE A\n@TABLE\n";
-    let [states, neighbors, orders] = SETTINGS;
-    for (first, second) in [(neighbors, orders), (states, orders), (states, neighbors)] {
-        for (rest, line) in [
+    for &(first, second) in &[(NEIGHBORS, ORDERS), (STATES, ORDERS), (STATES, NEIGHBORS)] {
+        for &(rest, line) in &[
             ("", 5),
             ("@\n", 5),
             ("@COLORS\n0 255 255 255\n", 5),
@@ -79,21 +61,15 @@ fn a_missing_descriptor_is_refused(rt: HostRuntime) {
             ("# n_states:3\n\n \t# a\n", 8),
             ("\n\njunk # symmetries:none\n", 7),
         ] {
-            let texts = [head, first, second, rest];
-            let fault = refused(rt.alloc(), &texts).expect(&rt, "memory");
-            assert_eq!(rt;
-                fault,
-                Some((line, Kind::BadDescriptor)),
-                "{first} {second} {rest}"
-            );
+            let fault = Some((line, Kind::BadDescriptor));
+            assert_refusal(&rt, rt.alloc(), &[HEAD, first, second, rest], fault);
         }
     }
 }
 
 #[test]
 fn a_descriptor_stands_once_and_ahead(rt: HostRuntime) {
-    let [states, neighbors, orders] = SETTINGS;
-    for again in [
+    for again in &[
         "n_states:3\n",
         "n_states : 1\n",
         "n_states:\n",
@@ -109,38 +85,25 @@ fn a_descriptor_stands_once_and_ahead(rt: HostRuntime) {
         "var a={1}:\n",
         "0:0,0,0,0,0,0\n",
     ] {
-        for (before, line) in [
+        for &(before, line) in &[
             ("", 6),
             ("var a={1}\n", 7),
             ("0,0,0,0,0,0\n", 7),
             ("# :\nvar a={1}\n0a0001\n", 9),
         ] {
-            let texts = [
-                "@RULE A\n@TABLE\n",
-                states,
-                neighbors,
-                orders,
-                before,
-                again,
-            ];
-            let fault = refused(rt.alloc(), &texts).expect(&rt, "memory");
-            assert_eq!(rt;
-                fault,
-                Some((line, Kind::BadDescriptor)),
-                "{before} {again}"
-            );
+            let texts = [HEAD, STATES, NEIGHBORS, ORDERS, before, again];
+            assert_refusal(&rt, rt.alloc(), &texts, Some((line, Kind::BadDescriptor)));
         }
     }
-    for setting in SETTINGS {
-        let texts = ["@RULE A\n@TABLE\n", setting, "\n", setting];
-        let fault = refused(rt.alloc(), &texts).expect(&rt, "memory");
-        assert_eq!(rt; fault, Some((5, Kind::BadDescriptor)), "{setting}");
+    for setting in &[STATES, NEIGHBORS, ORDERS] {
+        let fault = Some((5, Kind::BadDescriptor));
+        assert_refusal(&rt, rt.alloc(), &[HEAD, setting, "\n", setting], fault);
     }
 }
 
 #[test]
 fn a_symmetry_may_stand_before_its_neighborhood(rt: HostRuntime) {
-    for (orders, neighbors, fault) in [
+    for &(orders, neighbors, fault) in &[
         (
             "rotate8",
             "vonNeumann",
@@ -183,25 +146,65 @@ fn a_symmetry_may_stand_before_its_neighborhood(rt: HostRuntime) {
             neighbors,
             "# a\nn_states:2\n",
         ];
-        let answer = refused(rt.alloc(), &texts).expect(&rt, "memory");
-        assert_eq!(rt; answer, fault, "{orders} {neighbors}");
+        assert_refusal(&rt, rt.alloc(), &texts, fault);
     }
+}
+
+const LINES: [&str; 8] = [
+    "@RULE A\n",
+    "@TABLE\n",
+    "n_states:3\n",
+    "neighborhood:vonNeumann\n",
+    "symmetries:none\n",
+    "var a={1,2}\n",
+    "0,a,0,0,0,a\n",
+    "0,a,a,0,0,a\n",
+];
+
+/// The lines with a section that begins behind so many of them.
+fn with_section<'a>(
+    rt: &impl Abort,
+    alloc: Global,
+    section: &'a str,
+    place: usize,
+) -> Vec<&'a str> {
+    let mut texts = Vec::from_array(alloc, LINES).expect(rt, "memory");
+    assert!(rt; place <= texts.len());
+    texts.insert(place, section).expect(rt, "memory");
+    texts
+}
+
+/// A table has what stands before a section that begins behind so many lines.
+fn assert_cut(rt: &impl Abort, table: &Table, section: &str, place: usize) {
+    let within: usize = if place == 1 { 8 } else { place };
+    let variables = if within < 6 { 0 } else { 1 };
+    assert_eq!(rt;
+        (table.vars.as_slice().len(), table.lines.as_slice().len()),
+        (variables, within.saturating_sub(6)),
+        "{section} {place}"
+    );
+}
+
+/// A section that begins behind so many lines cuts the table there, or is refused with this place and kind.
+fn assert_section(
+    rt: &impl Abort,
+    alloc: Global,
+    section: &str,
+    place: usize,
+    fault: Option<(u64, Kind)>,
+) {
+    let texts = with_section(rt, alloc, section, place);
+    let answer = read_texts(alloc, &texts).expect(rt, "memory");
+    if let Ok(table) = &answer {
+        assert_cut(rt, table, section, place);
+    }
+    assert_eq!(rt; refusal(answer), fault, "{section} {place}");
 }
 
 #[test]
 fn a_section_begins_anywhere(rt: HostRuntime) {
-    let lines = [
-        "@RULE A\n",
-        "@TABLE\n",
-        "n_states:3\n",
-        "neighborhood:vonNeumann\n",
-        "symmetries:none\n",
-        "var a={1,2}\n",
-        "0,a,0,0,0,a\n",
-        "0,a,a,0,0,a\n",
-    ];
-    for (section, second) in [("@\n", None), ("@TABLE\n", Some((3, Kind::BadDescriptor)))] {
-        for (place, fault) in [
+    for &(section, second) in &[("@\n", None), ("@TABLE\n", Some((3, Kind::BadDescriptor)))] {
+        for &(place, fault) in &[
             (0, Some((1, Kind::NoRuleLine))),
             (1, second),
             (2, Some((3, Kind::BadDescriptor))),
@@ -212,92 +215,94 @@ fn a_section_begins_anywhere(rt: HostRuntime) {
             (7, None),
             (8, None),
         ] {
-            let mut texts = Vec::new(rt.alloc());
-            texts
-                .extend_from_slice(&lines[..place])
-                .expect(&rt, "memory");
-            texts.push(section).expect(&rt, "memory");
-            texts
-                .extend_from_slice(&lines[place..])
-                .expect(&rt, "memory");
-            let answer = read_texts(rt.alloc(), &texts).expect(&rt, "memory");
-            if let Ok(table) = &answer {
-                let within: usize = if place == 1 { 8 } else { place };
-                assert_eq!(rt; table.vars.as_slice().len(), if within < 6 { 0 } else { 1 });
-                assert_eq!(rt; table.lines.as_slice().len(), within.saturating_sub(6));
-            }
-            assert_eq!(rt; refusal(answer), fault, "{section} {place}");
+            assert_section(&rt, rt.alloc(), section, place, fault);
         }
     }
 }
 
+const ALL_STATES: &str = "@RULE A\n@TABLE\nn_states:256\nneighborhood:Moore\nsymmetries:none\n";
+
 #[test]
 fn one_character_stands_for_any_state(rt: HostRuntime) {
-    let table = read_texts(
+    let variables = "var a={255,64}\nvar ~={0,128,200}\n";
+    assert_refusal(
+        &rt,
         rt.alloc(),
-        &[
-            "@RULE A\n@TABLE\nn_states:256\nneighborhood:Moore\nsymmetries:none\n",
-            "var a={255,64}\nvar ~={0,128,200}\n9~0000000aa\n0a~~~~~~~a\n",
-        ],
+        &[ALL_STATES, variables, "9~0000000aa\n0a~~~~~~~a\n"],
+        Some((8, Kind::BadTransition)),
     );
-    let fault = table.expect(&rt, "memory").err().expect(&rt, "fault");
-    assert_eq!(rt; (fault.place.line, fault.kind), (8, Kind::BadTransition));
-    let table = read_texts(
-        rt.alloc(),
-        &[
-            "@RULE A\n@TABLE\nn_states:256\nneighborhood:Moore\nsymmetries:none\n",
-            "var a={255,64}\nvar ~={0,128,200}\n9~0000000~ # 9\n9~000000a~\n0a~~~~~~~a\n",
-        ],
-    );
-    let table = table.expect(&rt, "memory").expect(&rt, "table");
+    let transitions = "9~0000000~ # 9\n9~000000a~\n0a~~~~~~~a\n";
+    let texts = [ALL_STATES, variables, transitions];
+    let table = table_of(&rt, rt.alloc(), &texts);
     assert!(rt; table.neighborhood == Neighborhood::Moore && table.n_states == 256);
     assert_eq!(rt; table.symmetry, Symmetry::Identity);
-    let at = Neighbours::Eight([0, 255, 200, 200, 200, 200, 200, 200, 200]);
-    assert_eq!(rt; table.next(&at), Ok(255));
-    let at = Neighbours::Eight([9, 200, 0, 0, 0, 0, 0, 0, 64]);
-    assert_eq!(rt; table.next(&at), Ok(200));
-    let at = Neighbours::Eight([0, 64, 200, 200, 200, 200, 200, 200, 128]);
-    assert_eq!(rt; table.next(&at), Ok(0));
+    let around = Neighbours::Eight([0, 255, 200, 200, 200, 200, 200, 200, 200]);
+    assert_next(&rt, &table, &texts, around, Ok(255));
+    let around = Neighbours::Eight([9, 200, 0, 0, 0, 0, 0, 0, 64]);
+    assert_next(&rt, &table, &texts, around, Ok(200));
+    let around = Neighbours::Eight([0, 64, 200, 200, 200, 200, 200, 200, 128]);
+    assert_next(&rt, &table, &texts, around, Ok(0));
+}
+
+/// Texts write the table with the states of this file's head and one transition.
+fn assert_first_table(rt: &impl Abort, alloc: Global, texts: &[&str]) {
+    let table = table_of(rt, alloc, texts);
+    let found = (
+        table.name.bytes(),
+        table.n_states,
+        table.vars.as_slice().len(),
+        table.lines.as_slice().len(),
+    );
+    assert_eq!(rt; found, (b"A".as_slice(), 3, 0, 1), "{texts:?}");
 }
 
 #[test]
 fn only_the_first_table_is_read(rt: HostRuntime) {
-    for behind in [
+    for behind in &[
         "@TABLE\nn_states:9\njunk\n",
         "@COLORS\nn_states:9\n@TABLE\njunk\n",
         "@TABLE\n@RULE B\n:\n@\n",
         "@\nvar a={1}\n0,0,0,0,0,1\n",
     ] {
-        for ahead in [
+        for ahead in &[
             "",
             "n_states:9\n",
             "@TABLES\n@ TABLE\n @TABLE\n@table\n@RULE B\n",
         ] {
-            let [states, neighbors, orders] = SETTINGS;
             let texts = [
                 "# @TABLE\n\n@RULE\tA\n",
                 ahead,
                 "@TABLE \n",
-                states,
-                neighbors,
-                orders,
+                STATES,
+                NEIGHBORS,
+                ORDERS,
                 "0,1,0,0,0,2\n",
                 behind,
             ];
-            let answer = read_texts(rt.alloc(), &texts).expect(&rt, "memory");
-            let table = answer.expect(&rt, "table");
-            assert_eq!(rt; table.name.bytes(), b"A".as_slice());
-            assert_eq!(rt; table.n_states, 3);
-            assert_eq!(rt; table.vars.as_slice().len(), 0);
-            assert_eq!(rt; table.lines.as_slice().len(), 1, "{ahead} {behind}");
+            assert_first_table(&rt, rt.alloc(), &texts);
         }
     }
 }
 
+/// Texts write two variables, of this name and `b`, and a transition with both.
+fn assert_named(rt: &impl Abort, alloc: Global, texts: &[&str], name: &str) {
+    let table = table_of(rt, alloc, texts);
+    match table.vars.as_slice() {
+        [first, second] => {
+            assert_variable(rt, name, first, name.as_bytes(), [6, 0, 0, 0]);
+            assert_variable(rt, name, second, b"b", [7, 0, 0, 0]);
+        }
+        others => assert_eq!(rt; others.len(), 2, "{name}"),
+    }
+    let zero = Entry::Fixed(0);
+    let first = Entry::Var(0);
+    let inputs = [zero, first, Entry::Var(1), zero, zero];
+    assert_only_transition(rt, name, table.lines.as_slice(), 8, &inputs, first);
+}
+
 #[test]
 fn a_keyword_names_a_variable(rt: HostRuntime) {
-    let [states, neighbors, orders] = SETTINGS;
-    for name in [
+    for name in &[
         "n_states",
         "neighborhood",
         "neighbourhood",
@@ -314,10 +319,10 @@ fn a_keyword_names_a_variable(rt: HostRuntime) {
         "~",
     ] {
         let texts = [
-            "@RULE A\n@TABLE\n",
-            states,
-            neighbors,
-            orders,
+            HEAD,
+            STATES,
+            NEIGHBORS,
+            ORDERS,
             "var\t",
             name,
             "={1,2}\nvar b = { 0 , ",
@@ -328,34 +333,13 @@ fn a_keyword_names_a_variable(rt: HostRuntime) {
             name,
             "\n",
         ];
-        let answer = read_texts(rt.alloc(), &texts).expect(&rt, "memory");
-        let table = answer.expect(&rt, "table");
-        match table.vars.as_slice() {
-            [first, second] => {
-                assert_eq!(rt; first.name.as_slice(), name.as_bytes());
-                assert_eq!(rt; first.states, [6, 0, 0, 0]);
-                assert_eq!(rt; second.name.as_slice(), b"b".as_slice());
-                assert_eq!(rt; second.states, [7, 0, 0, 0]);
-            }
-            others => assert_eq!(rt; others.len(), 2),
-        }
-        let zero = Entry::Fixed(0);
-        let first = Entry::Var(0);
-        for line in table.lines.as_slice() {
-            assert_eq!(rt;
-                line.inputs.as_slice(),
-                [zero, first, Entry::Var(1), zero, zero].as_slice()
-            );
-            assert_eq!(rt; line.output, first);
-        }
-        assert_eq!(rt; table.lines.as_slice().len(), 1);
+        assert_named(&rt, rt.alloc(), &texts, name);
     }
 }
 
 #[test]
 fn a_variable_has_its_form(rt: HostRuntime) {
-    let [states, neighbors, orders] = SETTINGS;
-    for (line, fault) in [
+    for &(line, kind) in &[
         ("var a={0,1,2}", None),
         ("var  a\t=\t{\t0\t,1 }\t# =,:", None),
         ("var a={a}", Some(Kind::BadVariable)),
@@ -388,21 +372,16 @@ fn a_variable_has_its_form(rt: HostRuntime) {
         ("Var a={1}", Some(Kind::BadTransition)),
         ("var a={1}:", Some(Kind::BadDescriptor)),
     ] {
-        let texts = ["@RULE A\n@TABLE\n", states, neighbors, orders, line];
-        let wanted = match fault {
-            Some(kind) => Some((6, kind)),
-            None => None,
-        };
-        let answer = refused(rt.alloc(), &texts).expect(&rt, "memory");
-        assert_eq!(rt; answer, wanted, "{line}");
+        let fault = kind.map(|kind| (6, kind));
+        let texts = [HEAD, STATES, NEIGHBORS, ORDERS, line];
+        assert_refusal(&rt, rt.alloc(), &texts, fault);
     }
 }
 
 #[test]
 fn single_characters_make_a_transition(rt: HostRuntime) {
-    let [states, neighbors, orders] = SETTINGS;
     let variables = "var a={1,2}\nvar bb={1}\nvar ;={0}\n";
-    for (line, kind) in [
+    for &(line, kind) in &[
         ("0a000a", None),
         ("0 a 0 0 0 a", None),
         (" 0a\t0  00\ra\r", None),
@@ -426,19 +405,8 @@ fn single_characters_make_a_transition(rt: HostRuntime) {
         (";;;;;1", Some(Kind::NotQuiet)),
         (";;;;;;", None),
     ] {
-        let texts = [
-            "@RULE A\n@TABLE\n",
-            states,
-            neighbors,
-            orders,
-            variables,
-            line,
-        ];
-        let wanted = match kind {
-            Some(kind) => Some((9, kind)),
-            None => None,
-        };
-        let answer = refused(rt.alloc(), &texts).expect(&rt, "memory");
-        assert_eq!(rt; answer, wanted, "{line}");
+        let fault = kind.map(|kind| (9, kind));
+        let texts = [HEAD, STATES, NEIGHBORS, ORDERS, variables, line];
+        assert_refusal(&rt, rt.alloc(), &texts, fault);
     }
 }

@@ -1,101 +1,150 @@
 //! Large files: long lines, long numbers, all states and many variables.
+use super::compare::{assert_only_transition, assert_variable, refusal};
 use crate::reading::read_table;
 use crate::table::{Entry, Table};
 use life_base::{Fault, Kind};
 use std::alloc::{AllocError, Global};
+use std::process::Abort;
 use std::rt::HostRuntime;
 
 const LONGEST_LINE: usize = 1048576;
 
 const WHOLE: &str = "@RULE A\n@TABLE\nn_states:2\nneighborhood:vonNeumann\nsymmetries:none\n";
 
-/// The place and the kind of the refusal of a line that is filled up to a length, between two texts.
-fn refusal(
+const SHUT: &str = "@RULE A\n@TABLE\nn_states:2\nneighborhood:vonNeumann\nsymmetries:none\n@\n";
+
+// What stands behind a line of such a table, from the end of that line on.
+const FROM_TABLE: &str = "\n@TABLE\nn_states:2\nneighborhood:vonNeumann\nsymmetries:none\n";
+
+const FROM_STATES: &str = "\nn_states:2\nneighborhood:vonNeumann\nsymmetries:none\n";
+
+const FROM_NEIGHBORS: &str = "\nneighborhood:vonNeumann\nsymmetries:none\n";
+
+/// Two texts that are filled up with a byte to a length, and two texts behind them.
+fn filled(
     alloc: Global,
-    before: &str,
-    line: (&str, u8),
+    before: [&str; 2],
+    byte: u8,
     length: usize,
-    behind: &str,
-) -> Result<Option<(u64, Kind)>, AllocError> {
+    behind: [&str; 2],
+) -> Result<Vec<u8>, AllocError> {
     let mut bytes = Vec::new(alloc);
-    bytes.extend_from_slice(before.as_bytes())?;
-    bytes.extend_from_slice(line.0.as_bytes())?;
-    bytes.resize(before.len().saturating_add(length), line.1)?;
-    bytes.extend_from_slice(behind.as_bytes())?;
-    Ok(place_and_kind(read_table(alloc, &bytes)))
+    for text in &before {
+        bytes.extend_from_slice(text.as_bytes())?;
+    }
+    bytes.resize(length, byte)?;
+    for text in &behind {
+        bytes.extend_from_slice(text.as_bytes())?;
+    }
+    Ok(bytes)
 }
 
-fn place_and_kind(answer: Result<Table, Fault>) -> Option<(u64, Kind)> {
-    match answer {
-        Ok(_) => None,
-        Err(fault) => Some((fault.place.line, fault.kind)),
-    }
+/// Such texts are refused with this place and kind, or read where there is none.
+fn assert_filled(
+    rt: &impl Abort,
+    alloc: Global,
+    before: [&str; 2],
+    byte: u8,
+    length: usize,
+    behind: [&str; 2],
+    wanted: Option<(u64, Kind)>,
+) {
+    let bytes = filled(alloc, before, byte, length, behind).expect(rt, "memory");
+    assert_eq!(rt;
+        refusal(read_table(alloc, &bytes)),
+        wanted,
+        "{before:?} {byte} {length} {behind:?}"
+    );
+}
+
+/// A line that is filled up to the longest has this answer, and is too long with one byte more.
+fn assert_longest_line(
+    rt: &impl Abort,
+    alloc: Global,
+    texts: [&str; 2],
+    byte: u8,
+    behind: &str,
+    number: u64,
+    answer: Option<(u64, Kind)>,
+) {
+    let [before, _] = texts;
+    let longest = before.len().saturating_add(LONGEST_LINE);
+    assert_filled(rt, alloc, texts, byte, longest, [behind, ""], answer);
+    let longer = longest.saturating_add(1);
+    let too_long = Some((number, Kind::LineTooLong));
+    assert_filled(rt, alloc, texts, byte, longer, [behind, ""], too_long);
 }
 
 #[test]
 fn a_line_has_at_most_2_20_bytes(rt: HostRuntime) {
-    let table = "\n@TABLE\nn_states:2\nneighborhood:vonNeumann\nsymmetries:none\n";
-    let settings = "\nn_states:2\nneighborhood:vonNeumann\nsymmetries:none\n";
-    let others = "\nneighborhood:vonNeumann\nsymmetries:none\n";
-    let shut = "@RULE A\n@TABLE\nn_states:2\nneighborhood:vonNeumann\nsymmetries:none\n@\n";
-    for (before, line, behind, number, answer) in [
+    for &(before, start, byte, behind, number, answer) in &[
         (
             "",
-            ("#", b'x'),
+            "#",
+            b'x',
             "\n@RULE A\n@TABLE\n",
             1,
             Some((4, Kind::BadDescriptor)),
         ),
-        ("", ("", b' '), "\n@RULE A\n", 1, Some((3, Kind::NoTable))),
-        ("", ("@RULE A", b' '), table, 1, None),
-        ("", ("@RULE A", b'a'), table, 1, Some((1, Kind::NoRuleLine))),
-        ("@RULE A\n", ("x", b'x'), table, 2, None),
-        ("@RULE A\n", ("@TABLE", b' '), settings, 2, None),
+        ("", "", b' ', "\n@RULE A\n", 1, Some((3, Kind::NoTable))),
+        ("", "@RULE A", b' ', FROM_TABLE, 1, None),
+        (
+            "",
+            "@RULE A",
+            b'a',
+            FROM_TABLE,
+            1,
+            Some((1, Kind::NoRuleLine)),
+        ),
+        ("@RULE A\n", "x", b'x', FROM_TABLE, 2, None),
+        ("@RULE A\n", "@TABLE", b' ', FROM_STATES, 2, None),
         (
             "@RULE A\n",
-            ("@TABLE", b'x'),
-            settings,
+            "@TABLE",
+            b'x',
+            FROM_STATES,
             2,
             Some((6, Kind::NoTable)),
         ),
-        ("@RULE A\n@TABLE\n", ("n_states:2", b' '), others, 3, None),
         (
             "@RULE A\n@TABLE\n",
-            ("n_states:2", b'2'),
-            others,
+            "n_states:2",
+            b' ',
+            FROM_NEIGHBORS,
+            3,
+            None,
+        ),
+        (
+            "@RULE A\n@TABLE\n",
+            "n_states:2",
+            b'2',
+            FROM_NEIGHBORS,
             3,
             Some((3, Kind::BadDescriptor)),
         ),
-        (WHOLE, ("0,0,0,0,0,0#", b':'), "\n", 6, None),
+        (WHOLE, "0,0,0,0,0,0#", b':', "\n", 6, None),
+        (WHOLE, "junk", b'x', "\n", 6, Some((6, Kind::BadTransition))),
         (
             WHOLE,
-            ("junk", b'x'),
-            "\n",
-            6,
-            Some((6, Kind::BadTransition)),
-        ),
-        (
-            WHOLE,
-            ("var a={1}", b'}'),
+            "var a={1}",
+            b'}',
             "\n",
             6,
             Some((6, Kind::BadVariable)),
         ),
-        (WHOLE, ("var a={1}", b' '), "", 6, None),
-        (WHOLE, ("@", b'x'), "\njunk\n", 6, None),
-        (shut, ("x", b'x'), "\n", 7, None),
+        (WHOLE, "var a={1}", b' ', "", 6, None),
+        (WHOLE, "@", b'x', "\njunk\n", 6, None),
+        (SHUT, "x", b'x', "\n", 7, None),
     ] {
-        let longest = refusal(rt.alloc(), before, line, LONGEST_LINE, behind);
-        assert_eq!(rt; longest, Ok(answer), "{before}");
-        let longer = refusal(rt.alloc(), before, line, LONGEST_LINE + 1, behind);
-        assert_eq!(rt; longer, Ok(Some((number, Kind::LineTooLong))), "{before}");
+        let texts = [before, start];
+        assert_longest_line(&rt, rt.alloc(), texts, byte, behind, number, answer);
     }
 }
 
 #[test]
 fn numbers_have_any_length(rt: HostRuntime) {
     let others = "neighborhood:vonNeumann\nsymmetries:none\n000000\n";
-    for (start, byte, last, answer) in [
+    for &(start, byte, last, answer) in &[
         ("n_states:", b'9', "\n", Some((3, Kind::BadDescriptor))),
         ("n_states:1", b'0', "\n", Some((3, Kind::BadDescriptor))),
         ("n_states:", b'0', "\n", Some((3, Kind::BadDescriptor))),
@@ -106,20 +155,16 @@ fn numbers_have_any_length(rt: HostRuntime) {
         ("n_states:", b'0', "2 2\n", Some((3, Kind::BadDescriptor))),
         ("n_states:", b'0', "+2\n", Some((3, Kind::BadDescriptor))),
     ] {
-        let mut bytes = Vec::new(rt.alloc());
-        for text in ["@RULE A\n@TABLE\n", start] {
-            bytes
-                .extend_from_slice(text.as_bytes())
-                .expect(&rt, "memory");
-        }
-        bytes.resize(1000000, byte).expect(&rt, "memory");
-        for text in [last, others] {
-            bytes
-                .extend_from_slice(text.as_bytes())
-                .expect(&rt, "memory");
-        }
-        let refused = place_and_kind(read_table(rt.alloc(), &bytes));
-        assert_eq!(rt; refused, answer, "{start} {byte} {last}");
+        let texts = ["@RULE A\n@TABLE\n", start];
+        assert_filled(
+            &rt,
+            rt.alloc(),
+            texts,
+            byte,
+            1000000,
+            [last, others],
+            answer,
+        );
     }
 }
 
@@ -148,26 +193,33 @@ fn with_states_below(alloc: Global, number: usize) -> Result<Result<Table, Fault
     Ok(read_table(alloc, &bytes))
 }
 
+/// The table with the states below a number is read, and its variable has these.
+fn assert_states_below(rt: &impl Abort, alloc: Global, number: usize, states: [u64; 4]) {
+    let answer = with_states_below(alloc, number).expect(rt, "memory");
+    let table = answer.expect(rt, "table");
+    let counts = (table.n_states, table.vars.as_slice().len());
+    assert_eq!(rt; counts, (256, 1), "{number}");
+    for var in table.vars.as_slice() {
+        assert_eq!(rt; var.states, states, "{number}");
+    }
+}
+
+/// A word of a variable that has each of its 64 states.
+const ALL: u64 = 18446744073709551615;
+
 #[test]
 fn a_variable_has_all_states(rt: HostRuntime) {
-    let all: u64 = 18446744073709551615;
-    for (number, states) in [
+    for &(number, states) in &[
         (1, [1, 0, 0, 0]),
-        (64, [all, 0, 0, 0]),
-        (65, [all, 1, 0, 0]),
-        (255, [all, all, all, all / 2]),
-        (256, [all, all, all, all]),
+        (64, [ALL, 0, 0, 0]),
+        (65, [ALL, 1, 0, 0]),
+        (255, [ALL, ALL, ALL, ALL / 2]),
+        (256, [ALL, ALL, ALL, ALL]),
     ] {
-        let answer = with_states_below(rt.alloc(), number).expect(&rt, "memory");
-        let table = answer.expect(&rt, "table");
-        assert_eq!(rt; table.n_states, 256);
-        for var in table.vars.as_slice() {
-            assert_eq!(rt; var.states, states, "{number}");
-        }
-        assert_eq!(rt; table.vars.as_slice().len(), 1);
+        assert_states_below(&rt, rt.alloc(), number, states);
     }
     let answer = with_states_below(rt.alloc(), 257).expect(&rt, "memory");
-    assert_eq!(rt; place_and_kind(answer), Some((6, Kind::BadVariable)));
+    assert_eq!(rt; refusal(answer), Some((6, Kind::BadVariable)));
 }
 
 /// The name of a variable of a chain.
@@ -201,30 +253,39 @@ fn a_chain_of_variables_is_read(rt: HostRuntime) {
     let table = read_table(rt.alloc(), &bytes).expect(&rt, "table");
     assert_eq!(rt; table.vars.as_slice().len(), 10000);
     for (number, var) in table.vars.as_slice().iter().enumerate() {
-        assert_eq!(rt; var.name.as_slice(), name_of(number).as_slice());
-        assert_eq!(rt; var.states, [6, 0, 0, 0]);
+        assert_variable(&rt, "a chain", var, &name_of(number), [6, 0, 0, 0]);
     }
-    for line in table.lines.as_slice() {
-        assert_eq!(rt; line.line, 10006);
-        assert_eq!(rt;
-            line.inputs.as_slice(),
-            [
-                Entry::Fixed(0),
-                Entry::Var(9999),
-                Entry::Var(0),
-                Entry::Var(5000),
-                Entry::Fixed(0)
-            ]
-            .as_slice()
-        );
-        assert_eq!(rt; line.output, Entry::Var(5000));
-    }
-    assert_eq!(rt; table.lines.as_slice().len(), 1);
+    let middle = Entry::Var(5000);
+    let inputs = [
+        Entry::Fixed(0),
+        Entry::Var(9999),
+        Entry::Var(0),
+        middle,
+        Entry::Fixed(0),
+    ];
+    assert_only_transition(
+        &rt,
+        "a chain",
+        table.lines.as_slice(),
+        10006,
+        &inputs,
+        middle,
+    );
+}
+
+/// The line behind a chain of 10,000 variables is refused with this kind.
+fn assert_chain_ends(rt: &impl Abort, alloc: Global, line: &str, kind: Kind) {
+    let mut bytes = chain(alloc, 10000).expect(rt, "memory");
+    bytes
+        .extend_from_slice(line.as_bytes())
+        .expect(rt, "memory");
+    let refused = refusal(read_table(alloc, &bytes));
+    assert_eq!(rt; refused, Some((10006, kind)), "{line}");
 }
 
 #[test]
 fn a_chain_ends_where_a_name_is_wrong(rt: HostRuntime) {
-    for (line, kind) in [
+    for &(line, kind) in &[
         ("var v09999={1}\n", Kind::BadVariable),
         ("var v00000={1}\n", Kind::BadVariable),
         ("var v10000={v10000}\n", Kind::BadVariable),
@@ -233,11 +294,6 @@ fn a_chain_ends_where_a_name_is_wrong(rt: HostRuntime) {
         ("0,v0000,0,0,0,1\n", Kind::BadTransition),
         ("0,v09999,0,0,0,v00000\n", Kind::UnboundOutput),
     ] {
-        let mut bytes = chain(rt.alloc(), 10000).expect(&rt, "memory");
-        bytes
-            .extend_from_slice(line.as_bytes())
-            .expect(&rt, "memory");
-        let refused = place_and_kind(read_table(rt.alloc(), &bytes));
-        assert_eq!(rt; refused, Some((10006, kind)), "{line}");
+        assert_chain_ends(&rt, rt.alloc(), line, kind);
     }
 }

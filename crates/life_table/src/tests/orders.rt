@@ -4,13 +4,14 @@ ghost use Rattle.std.specs.List.{list_any};
 ghost use Rattle.life_table.specs.Found.{Consistent};
 ghost use Rattle.life_table.specs.Valid.{IsEntry, is_variable};
 
+use super::compare::{assert_next, table_of};
 use crate::choose::with_image;
 use crate::found::Found;
 use crate::next::Neighbours;
-use crate::reading::read_table;
 use crate::table::{Entry, Neighborhood, Symmetry, Table, Transition, Var};
 use life_base::{Fault, Kind, Place, State};
 use std::alloc::Global;
+use std::process::Abort;
 use std::rt::HostRuntime;
 
 const HEAD: &str =
@@ -75,23 +76,28 @@ fn cells_at(number: usize) -> [State; 5]
     ]
 }
 
-/// The table that these parts of a file write.
-fn table_of(alloc: Global, parts: &[&str]) -> Result<Table, Kind> {
-    let mut bytes = Vec::new(alloc);
-    for part in parts {
-        if bytes.extend_from_slice(part.as_bytes()).is_err() {
-            return Err(Kind::Memory);
-        }
-    }
-    match read_table(alloc, &bytes) {
-        Ok(table) => Ok(table),
-        Err(fault) => Err(fault.kind),
-    }
+/// The table of the head with a transition on line 8.
+fn table_with(rt: &impl Abort, alloc: Global, line: &str) -> Table
+    ensures neighborhood { result.neighborhood ≡ Neighborhood.VonNeumann }
+    ensures states { result.n_states ≡ 3 }
+{
+    let table = table_of(rt, alloc, &[HEAD, line]);
+    assert!(rt; table.neighborhood == Neighborhood::VonNeumann && table.n_states == 3);
+    assert_eq!(rt; table.symmetry, Symmetry::Permute);
+    table
 }
 
-/// A table under `permute` whose only transition stands on line 8.
-fn table_with(alloc: Global, line: &str) -> Result<Table, Kind> {
-    table_of(alloc, &[HEAD, line])
+/// A table gives this at a cell with each order of its neighbours tried.
+fn assert_next_by_orders(
+    rt: &impl Abort,
+    table: &Table,
+    line: &str,
+    cells: [State; 5],
+    wanted: Result<State, Fault>,
+)
+    requires { table.now.neighborhood ≡ Neighborhood.VonNeumann }
+{
+    assert_eq!(rt; next_by_orders(table, cells), wanted, "{line} {cells:?}");
 }
 
 #[test]
@@ -103,43 +109,38 @@ fn counts_decide(rt: HostRuntime) {
         ("0,a,a,a,b,a\n", [0, 1, 1, 2, 2], Ok(0)),
         ("0,a,a,a,b,a\n", [0, 2, 2, 2, 2], Ok(2)),
     ] {
-        let table = table_with(rt.alloc(), line).expect(&rt, "table");
-        assert!(rt; table.neighborhood == Neighborhood::VonNeumann && table.n_states == 3);
-        assert_eq!(rt; table.symmetry, Symmetry::Permute);
-        assert_eq!(rt; table.next(&Neighbours::Four(cells)), answer);
-        assert_eq!(rt; next_by_orders(&table, cells), answer);
+        let table = table_with(&rt, rt.alloc(), line);
+        assert_next(&rt, &table, &[line], Neighbours::Four(cells), answer);
+        assert_next_by_orders(&rt, &table, line, cells, answer);
     }
 }
 
 #[test]
 fn counts_agree_with_all_orders(rt: HostRuntime) {
-    for line in ["0,a,a,b,b,a\n", "0,a,a,a,b,a\n"] {
-        let table = table_with(rt.alloc(), line).expect(&rt, "table");
-        assert!(rt; table.neighborhood == Neighborhood::VonNeumann && table.n_states == 3);
+    for line in &["0,a,a,b,b,a\n", "0,a,a,a,b,a\n"] {
+        let table = table_with(&rt, rt.alloc(), line);
         for number in 0..243 {
             let cells = cells_at(number);
-            assert_eq!(rt;
-                table.next(&Neighbours::Four(cells)),
-                next_by_orders(&table, cells),
-                "{line} {number}"
-            );
+            let answer = table.next(&Neighbours::Four(cells));
+            assert_next_by_orders(&rt, &table, line, cells, answer);
         }
     }
 }
 
 #[test]
 fn eight_variables_are_decided(rt: HostRuntime) {
-    for (last, line, answer) in [
+    for &(last, line, answer) in &[
         ("var h={a}\n", "0,a,b,c,d,e,f,g,h,1\n", Ok(0)),
         ("var h={0}\n", "0,a,b,c,d,e,f,g,h,1\n", Ok(0)),
         ("var h={8}\n", "0,a,b,c,d,e,f,g,h,1\n", Ok(1)),
         ("var h={8}\n", "0,a,b,c,d,e,f,g,h,h\n", Ok(8)),
-        ("var h={8}\n", "0,a,b,c,d,e,f,h,g,g\n", Err(ambiguous(14))),
+        ("var h={8}\n", "0,a,b,c,d,e,f,h,g,g\n", Err(14)),
         ("var h={8}\n", "0,a,b,c,d,e,f,h,h,1\n", Ok(0)),
     ] {
-        let table = table_of(rt.alloc(), &[EIGHT, last, line]).expect(&rt, "table");
+        let texts = [EIGHT, last, line];
+        let table = table_of(&rt, rt.alloc(), &texts);
         assert!(rt; table.neighborhood == Neighborhood::Moore && table.n_states == 9);
         let around = Neighbours::Eight([0, 8, 7, 6, 5, 4, 3, 2, 1]);
-        assert_eq!(rt; table.next(&around), answer, "{last} {line}");
+        assert_next(&rt, &table, &texts, around, answer.map_err(ambiguous));
     }
 }
