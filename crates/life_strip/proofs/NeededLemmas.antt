@@ -1,9 +1,10 @@
 -- Facts about the squares that a refused call had to store.
+use Rattle.life_base.specs.declared.cell.TheConstants.{MAX_LEVEL}
 use Rattle.std.proofs.Common.{◌≡◌, ℕ, suc, ◌+◌, ◌-◌, ◌*◌, ◌/◌, ◌%◌, ◌^◌, ◌≤◌, ◌<◌, Bool, true, false, nat_lt, List, [], ◌∷◌, ◌++◌, Option, Some, None, Result, Ok, Err, sym, ◌∙◌, ap, subst, refl, arith}
 use Rattle.std.specs.Prelude.{if◌then◌else◌}
 use Rattle.std.proofs.lemmas.Nat.{div-mul-add, mod-mul-add, pow-add}
 use Rattle.std.proofs.lemmas.List.{append_assoc}
-use Rattle.std.proofs.Math.Nat.{mul_assoc, add-mul}
+use Rattle.std.proofs.Math.Nat.{mul_assoc, mul_comm, add-mul, mul-le-mul_left}
 use Rattle.life_quad.specs.declared.id.Id.{Id}
 use Rattle.life_base.specs.Tree.{Tree, depth, state_at, IsFull}
 use Rattle.life_quad.specs.TreeLaws.{full-blank}
@@ -13,7 +14,7 @@ use Rattle.life_strip.specs.declared.spans.Strip.{Strip}
 use Rattle.life_strip.specs.Strip.{id_at, square_or_blank, square_at, quad_at, IsStrip}
 use Rattle.life_strip.specs.Picture.{state_in, picture, height, AreFalling, IsLowest, SomeSquare}
 use Rattle.life_strip.proofs.SpanLemmas.{depth-square_at}
-use Rattle.life_strip.proofs.PictureLemmas.{double, lowest-init}
+use Rattle.life_strip.proofs.PictureLemmas.{double, height-push, lowest-init}
 
 -- the same refusal of another call
 pub err_again : {T U E : Type 0} {x y : E} → ◌≡◌ {A = Result T E} (Err x) (Err y) → ◌≡◌ {A = Result U E} (Err x) (Err y)
@@ -23,15 +24,17 @@ err_again {T} {E = E} {x} e = ap Err (ap only e)
     only (Ok t) = x
     only (Err z) = z
 
--- the same square of another picture with the same states
-pub SomeSquare-same : {P : Tree → Type 0} {f g : ℕ → ℕ → ℕ} → ((i j : ℕ) → f i j ≡ g i j) → SomeSquare P f → SomeSquare P g
-SomeSquare-same e s =
+-- the same square of another picture with the same states, and with as many rows or more
+pub SomeSquare-same : {P : Tree → Type 0} {f g : ℕ → ℕ → ℕ} {rows more : ℕ} → rows ≤ more → ((i j : ℕ) → f i j ≡ g i j) → SomeSquare P rows f → SomeSquare P more g
+SomeSquare-same le e s =
     record {
       square = s.square;
       full = s.full;
       deep = s.deep;
       column = s.column;
       row = s.row;
+      east = s.east;
+      south = omega (arith, s.south, le);
       cells = λ i j li lj. s.cells i j li lj ∙ e (s.column * 2 ^ depth s.square + i) (s.row * 2 ^ depth s.square + j);
       property = s.property;
     }
@@ -95,6 +98,15 @@ height-divided (x ∷ xs) n h =
     let e : 2 ^ x.level ≡ 2 ^ (x.level - n) * 2 ^ n = ap (λ k. 2 ^ k) level ∙ pow-add 2 (x.level - n) n in
     (2 ^ (x.level - n) + more.0, (λ y. e y + more.1 y) ∙ sym (add-mul (2 ^ (x.level - n)) more.0 (2 ^ n)))
 
+-- a column of squares of a level lies in the plane
+in_plane : (level c : ℕ) → level ≤ MAX_LEVEL → c < 2 ^ (MAX_LEVEL - level) → (c + 1) * 2 ^ level ≤ 2 ^ MAX_LEVEL
+in_plane level c low within =
+    let most : 2 ^ level * (c + 1) ≤ 2 ^ level * 2 ^ (MAX_LEVEL - level) = mul-le-mul_left (2 ^ level) (omega (arith, within)) in
+    let sum : level + (MAX_LEVEL - level) ≡ MAX_LEVEL = omega (arith, low) in
+    let whole : 2 ^ level * 2 ^ (MAX_LEVEL - level) ≡ 2 ^ MAX_LEVEL = sym (pow-add 2 level (MAX_LEVEL - level)) ∙ ap (λ n. 2 ^ n) sum in
+    let turned = mul_comm (c + 1) (2 ^ level) in
+    omega (arith, most, whole, turned)
+
 module _ (knows : Id → Type 0) (content : Id → Tree) (a b : Strip) (sound : IsStrip knows content a.level a.spans.items) (same : b.level ≡ a.level) (c : ℕ) where
   abbrev m : ℕ
   m = 2 ^ a.level
@@ -150,14 +162,17 @@ module _ (knows : Id → Type 0) (content : Id → Tree) (a b : Strip) (sound : 
 
   -- they are a square of the picture, below strips of higher levels
   pub SomeSquare-pair : (P : Tree → Type 0) (xs : List Strip) → ((id : Id) → knows id → IsFull (content id)) → IsStrip knows content a.level b.spans.items
-      → AreFalling (xs ++ a ∷ []) → P (quad_at content a.level a.spans.items b.spans.items c) → SomeSquare P (picture content ((xs ++ a ∷ []) ++ b ∷ []))
-  SomeSquare-pair P xs full lower falling p =
+      → AreFalling (xs ++ a ∷ []) → a.level < MAX_LEVEL → c < 2 ^ (MAX_LEVEL - (a.level + 1)) → P (quad_at content a.level a.spans.items b.spans.items c)
+      → SomeSquare P (height (xs ++ a ∷ []) + 2 ^ b.level) (picture content ((xs ++ a ∷ []) ++ b ∷ []))
+  SomeSquare-pair P xs full lower falling low within p =
       record {
         square = square;
         full = full-quad_at knows content full a.level a.spans.items b.spans.items sound lower c;
         deep = omega (arith, level);
         column = c;
         row = rows.0;
+        east = subst (λ n. (c + 1) * 2 ^ n ≤ 2 ^ MAX_LEVEL) (sym level) (in_plane (suc a.level) c low (subst (λ n. c < 2 ^ (MAX_LEVEL - n)) deeper within));
+        south = let h = height-push xs a in omega (arith, next, above, side, h, below);
         cells = λ i j li lj. quad-cells i j (subst (λ n. i < n) side li) (subst (λ n. j < n) side lj)
             ∙ sym (picture-below content xs (a ∷ b ∷ []) (c * (2 * m) + i) j)
             ∙ (λ x. picture content (in_order x) (c * sym side x + i) (above x + j));
@@ -178,6 +193,15 @@ module _ (knows : Id → Type 0) (content : Id → Tree) (a b : Strip) (sound : 
 
       above : height xs ≡ rows.0 * 2 ^ depth square
       above = rows.1 ∙ ap (λ n. rows.0 * 2 ^ n) (sym level)
+
+      deeper : a.level + 1 ≡ suc a.level
+      deeper = omega arith
+
+      below : 2 ^ b.level ≡ m
+      below = ap (λ n. 2 ^ n) same
+
+      next : (rows.0 + 1) * 2 ^ depth square ≡ rows.0 * 2 ^ depth square + 2 ^ depth square
+      next = add-mul rows.0 1 (2 ^ depth square) ∙ (omega arith)
 
       in_order : xs ++ a ∷ b ∷ [] ≡ (xs ++ a ∷ []) ++ b ∷ []
       in_order = sym (append_assoc xs (a ∷ []) (b ∷ []))

@@ -3,6 +3,7 @@ use Rattle.life_base.specs.declared.cell.TheConstants.{MAX_LEVEL}
 use Rattle.std.proofs.Common.{◌≡◌, ℕ, suc, ◌+◌, ◌-◌, ◌*◌, ◌^◌, ◌≤◌, ◌<◌, ◌⊎◌, inl, inr, Bool, true, false, nat_lt, List, [], ◌∷◌, ◌++◌, Option, Some, None, refl, sym, ◌∙◌, ap, subst, arith, append-nil}
 use Rattle.std.specs.Prelude.{if◌then◌else◌}
 use Rattle.std.proofs.lemmas.List.Elements.{All-push}
+use Rattle.std.proofs.Math.Pow.{pow_mono}
 use Rattle.life_quad.specs.declared.id.Id.{Id}
 use Rattle.life_base.specs.Tree.{Tree, quad, depth, blank}
 use Rattle.life_quad.specs.TreeLaws.{depth-blank}
@@ -18,7 +19,7 @@ Keeps knows knows' old now = (q : Id) → knows q → knows' q × (now q ≡ old
 pub record PairedTo (knows : Id → Type 0) (old now : Id → Tree) (level : ℕ) (upper lower spans : List Span) (column : ℕ) : Type 0 where
   pub done : (c : ℕ) → c < column → (id : Id) × ((more : List Span) → id_at (spans ++ more) c ≡ Some id) × knows id × (now id ≡ quad_at old level upper lower c)
   pub rest : (c : ℕ) → column ≤ c → (more : List Span) → id_at (spans ++ more) c ≡ id_at more c
-  pub within : AreWithin spans
+  pub within : AreWithin (suc level) spans
 
 -- a span that ends after the column is the one found
 pub id_at-before : (s : Span) (rest : List Span) (c : ℕ) → c < s.end → id_at (s ∷ rest) c ≡ Some s.square
@@ -36,7 +37,7 @@ past_later spans index a b h le c from = h c (omega arith)
 pub past_first : (spans : List Span) (a : ℕ) → IsPast spans 0 a
 past_first spans a c from = refl
 
-Some-is : {X : Type 0} {a b : X} → Some a ≡ Some b → a ≡ b
+pub Some-is : {X : Type 0} {a b : X} → Some a ≡ Some b → a ≡ b
 Some-is {X} {a} e = ap (λ o. only a o) e
   where
     only : X → Option X → X
@@ -48,8 +49,8 @@ append_one : (spans more : List Span) (s : Span) (c : ℕ) → id_at ((spans ++ 
 append_one [] more s c = refl
 append_one (t ∷ rest) more s c = ap (λ o. if nat_lt c t.end then Some t.square else o) (append_one rest more s c)
 
-within_one : (spans : List Span) (s : Span) → AreWithin spans → s.end ≤ 2 ^ MAX_LEVEL → AreWithin (spans ++ s ∷ [])
-within_one spans s h le = All-push (λ t. t.end ≤ 2 ^ MAX_LEVEL) spans s h le
+within_one : (level : ℕ) (spans : List Span) (s : Span) → AreWithin level spans → s.end ≤ 2 ^ (MAX_LEVEL - level) → AreWithin level (spans ++ s ∷ [])
+within_one level spans s h le = All-push (λ t. t.end ≤ 2 ^ (MAX_LEVEL - level)) spans s h le
 
 module _ {knows knows' : Id → Type 0} {old now : Id → Tree} (keeps : Keeps knows knows' old now) (level : ℕ) where
   -- a strip stays one
@@ -123,10 +124,10 @@ PairedTo-start knows old level upper lower =
 pub PairedTo-push : {knows knows' : Id → Type 0} {old now now' : Id → Tree} (level : ℕ) (upper lower spans : List Span) (column next : ℕ) (r : Id)
     → PairedTo knows old now level upper lower spans column → Keeps knows knows' now now'
     → knows' r → now' r ≡ quad_at old level upper lower column
-    → column < next → next ≤ 2 ^ MAX_LEVEL → ((c : ℕ) → column < c → c < next → quad_at old level upper lower c ≡ quad_at old level upper lower column)
+    → column < next → next ≤ 2 ^ (MAX_LEVEL - suc level) → ((c : ℕ) → column < c → c < next → quad_at old level upper lower c ≡ quad_at old level upper lower column)
     → PairedTo knows' old now' level upper lower (spans ++ record { end = next; square = r } ∷ []) next
 PairedTo-push {knows} {knows'} {old} {now} {now'} level upper lower spans column next r p keeps kr er lt within same =
-    record { done = done; rest = rest; within = within_one spans s p.within within }
+    record { done = done; rest = rest; within = within_one (suc level) spans s p.within within }
   where
     s : Span
     s = record { end = next; square = r }
@@ -191,10 +192,46 @@ quad-same knows content level upper lower u l b known is_blank column c n s hn h
     let t = found-same knows content level lower l b known is_blank (2 * column) (2 * c + 1) (2 * column + 1) s hs (omega (arith, lt)) me (omega arith) (omega (arith, lt, me)) in
     λ i. quad (p i) (q i) (r i) (t i)
 
--- no span goes on
-pub none-left : (spans : List Span) (column : ℕ) (b : Id) (f : Found) → IsFound spans column b f → 2 ^ 64 - 1 ≤ f.end → (c : ℕ) → column ≤ c → id_at spans c ≡ None
-none-left spans column b f h le = by h.last
+-- the plane has at most as many columns of squares as of cells
+pub at_most_side : (level : ℕ) → 2 ^ (MAX_LEVEL - level) ≤ 2 ^ MAX_LEVEL
+at_most_side level = pow_mono {i = MAX_LEVEL - level} {j = MAX_LEVEL} (omega arith)
+
+-- and half as many of squares twice as wide
+pub half-side : (level : ℕ) → level < MAX_LEVEL → 2 ^ (MAX_LEVEL - level) ≡ 2 * 2 ^ (MAX_LEVEL - suc level)
+half-side level low =
+    let more : MAX_LEVEL - level ≡ suc (MAX_LEVEL - suc level) = omega (arith, low) in
+    ap (λ n. 2 ^ n) more ∙ twice (MAX_LEVEL - suc level)
   where
-    by : (f.end ≤ 2 ^ MAX_LEVEL) ⊎ ((f.end ≡ 2 ^ 64 - 1) × ((c : ℕ) → column ≤ c → id_at spans c ≡ None)) → (c : ℕ) → column ≤ c → id_at spans c ≡ None
-    by (inl small) = absurd (omega (arith, small, le))
+    twice : (n : ℕ) → 2 ^ suc n ≡ 2 * 2 ^ n
+    twice n = grind arith
+
+-- no span goes on
+pub none-left : (level : ℕ) (spans : List Span) → AreWithin level spans → (column : ℕ) (b : Id) (f : Found) → IsFound spans column b f → 2 ^ 64 - 1 ≤ f.end
+    → (c : ℕ) → column ≤ c → id_at spans c ≡ None
+none-left level spans within column b f h le = by h.last
+  where
+    by : ((n : ℕ) → AreWithin n spans → f.end ≤ 2 ^ (MAX_LEVEL - n)) ⊎ ((f.end ≡ 2 ^ 64 - 1) × ((c : ℕ) → column ≤ c → id_at spans c ≡ None)) → (c : ℕ) → column ≤ c → id_at spans c ≡ None
+    by (inl small) = absurd (let a = small level within in let b = at_most_side level in omega (arith, a, b, le))
     by (inr none) = none.1
+
+-- the span found ends within the plane, if there is one
+pub found-within : (level : ℕ) (spans : List Span) → AreWithin level spans → (column : ℕ) (b : Id) (f : Found) → IsFound spans column b f → f.end < 2 ^ 64 - 1
+    → f.end ≤ 2 ^ (MAX_LEVEL - level)
+found-within level spans within column b f h lt = by h.last
+  where
+    by : ((n : ℕ) → AreWithin n spans → f.end ≤ 2 ^ (MAX_LEVEL - n)) ⊎ ((f.end ≡ 2 ^ 64 - 1) × ((c : ℕ) → column ≤ c → id_at spans c ≡ None)) → f.end ≤ 2 ^ (MAX_LEVEL - level)
+    by (inl small) = small level within
+    by (inr none) = absurd (omega (arith, none.0, lt))
+
+-- a column of squares twice as wide that begins before the end of one of two strips ends within the plane
+pub next-within : (level : ℕ) (upper lower : List Span) → level < MAX_LEVEL → AreWithin level upper → AreWithin level lower
+    → (column : ℕ) (b : Id) (n s : Found) → IsFound upper column b n → IsFound lower column b s → (n.end < 2 ^ 64 - 1) ⊎ (s.end < 2 ^ 64 - 1)
+    → (next : ℕ) → 2 * next ≤ n.end + 1 → 2 * next ≤ s.end + 1 → next ≤ 2 ^ (MAX_LEVEL - suc level)
+next-within level upper lower low u l column b n s hn hs some next north south = by some
+  where
+    side : 2 ^ (MAX_LEVEL - level) ≡ 2 * 2 ^ (MAX_LEVEL - suc level)
+    side = half-side level low
+
+    by : (n.end < 2 ^ 64 - 1) ⊎ (s.end < 2 ^ 64 - 1) → next ≤ 2 ^ (MAX_LEVEL - suc level)
+    by (inl lt) = let e = found-within level upper u column b n hn lt in omega (arith, e, side, north)
+    by (inr lt) = let e = found-within level lower l column b s hs lt in omega (arith, e, side, south)

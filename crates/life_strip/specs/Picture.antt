@@ -1,4 +1,5 @@
 -- The cells of strips that lie one below the other.
+use Rattle.life_base.specs.declared.cell.TheConstants.{MAX_LEVEL}
 use Rattle.std.specs.Prelude.{◌≡◌, ℕ, ◌+◌, ◌-◌, ◌/◌, ◌%◌, ◌*◌, ◌^◌, ◌<◌, ◌≤◌, nat_lt, if◌then◌else◌, List, [], ◌∷◌, All, AllPairs}
 use Rattle.life_quad.specs.declared.id.Id.{Id}
 use Rattle.life_base.specs.Tree.{Tree, depth, state_at, IsFull}
@@ -24,7 +25,7 @@ height (s ∷ rest) = 2 ^ s.level + height rest
 -- the store knows the squares of a strip
 pub record IsSound (knows : Id → Type 0) (content : Id → Tree) (s : Strip) : Type 0 where
   pub squares : IsStrip knows content s.level s.spans.items
-  pub within : AreWithin s.spans.items
+  pub within : AreWithin s.level s.spans.items
 
 -- the upper strip's rows come first, and then the lower one's
 abbrev pub IsStack : (Id → Tree) → (Id → Tree) → Strip → Strip → Strip → Type 0
@@ -38,13 +39,15 @@ AreFalling strips = AllPairs (λ s t. t.level < s.level) strips
 abbrev pub IsLowest : ℕ → List Strip → Type 0
 IsLowest level strips = All (λ s. level ≤ s.level) strips
 
--- A square of level 1 or more has a property, and its cells are those of a place on the plane, where each level divides the plane into
--- columns and rows of its squares.
-pub record SomeSquare (P : Tree → Type 0) (state : ℕ → ℕ → ℕ) : Type 0 where
+-- A square of level 1 or more has a property, and it is what stands in one place of the plane, above a row: each level divides the plane
+-- into columns and rows of its squares, and `rows` rows of cells are above.
+pub record SomeSquare (P : Tree → Type 0) (rows : ℕ) (state : ℕ → ℕ → ℕ) : Type 0 where
   pub square : Tree
   pub full : IsFull square
   pub deep : 1 ≤ depth square
   pub column : ℕ
   pub row : ℕ
+  pub east : (column + 1) * 2 ^ depth square ≤ 2 ^ MAX_LEVEL
+  pub south : (row + 1) * 2 ^ depth square ≤ rows
   pub cells : (i j : ℕ) → i < 2 ^ depth square → j < 2 ^ depth square → state_at square i j ≡ state (column * 2 ^ depth square + i) (row * 2 ^ depth square + j)
   pub property : P square

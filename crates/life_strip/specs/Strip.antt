@@ -24,9 +24,9 @@ square_at content level spans column = square_or_blank content level (id_at span
 abbrev pub IsStrip : (Id → Type 0) → (Id → Tree) → ℕ → List Span → Type 0
 IsStrip knows content level spans = (column : ℕ) (id : Id) → id_at spans column ≡ Some id → knows id × (depth (content id) ≡ level)
 
--- no span ends beyond this column, the last of the plane at level 0
-abbrev pub AreWithin : List Span → Type 0
-AreWithin spans = All (λ s. s.end ≤ 2 ^ MAX_LEVEL) spans
+-- no span of squares of this level ends beyond the plane
+abbrev pub AreWithin : ℕ → List Span → Type 0
+AreWithin level spans = All (λ s. s.end ≤ 2 ^ (MAX_LEVEL - level)) spans
 
 -- the square of two columns of two strips, one above the other
 abbrev pub quad_at : (Id → Tree) → ℕ → List Span → List Span → ℕ → Tree
@@ -52,4 +52,4 @@ pub record IsFound (spans : List Span) (column : ℕ) (blank : Id) (found : Foun
   pub past : IsPast spans found.index column
   pub square : (c : ℕ) → column ≤ c → c < found.end → id_or blank (id_at spans c) ≡ found.square
   pub beyond : column < found.end
-  pub last : (found.end ≤ 2 ^ MAX_LEVEL) ⊎ ((found.end ≡ 2 ^ 64 - 1) × ((c : ℕ) → column ≤ c → id_at spans c ≡ None))
+  pub last : ((level : ℕ) → AreWithin level spans → found.end ≤ 2 ^ (MAX_LEVEL - level)) ⊎ ((found.end ≡ 2 ^ 64 - 1) × ((c : ℕ) → column ≤ c → id_at spans c ≡ None))

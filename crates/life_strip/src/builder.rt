@@ -1,5 +1,5 @@
 //! A builder that fills a store row by row.
-ghost use Rattle.std.specs.Prelude.{◌≡◌, ℕ, ℤ, pos, neg_ℤ, ◌+ℤ◌, ◌<ℤ◌, ◌≤ℤ◌, suc, ◌+◌, ◌^◌, ◌<◌, ◌≤◌, ◌⊎◌, ◌++◌, ◌∷◌, [], List, All, Contains, length, Err, IfOk, IfErr, OnOk};
+ghost use Rattle.std.specs.Prelude.{◌≡◌, ℕ, ℤ, pos, neg_ℤ, nat_abs, ◌+ℤ◌, ◌<ℤ◌, ◌≤ℤ◌, suc, ◌+◌, ◌^◌, ◌<◌, ◌≤◌, ◌⊎◌, ◌++◌, ◌∷◌, [], List, All, Contains, length, Err, IfOk, IfErr, OnOk};
 ghost use Rattle.life_base.specs.declared.kind.Kind.TheVariants.{Full, Memory};
 ghost use Rattle.life_base.specs.Tree.{Tree, depth};
 ghost use Rattle.life_quad.specs.declared.id.Id.{Id as IdValue};
@@ -75,7 +75,7 @@ impl Builder {
         ensures most { S.most squares.new ≡ S.most squares.old }
         ensures refusals { IfErr result (λ e. (e ≡ Full) ⊎ (e ≡ Memory)) }
         ensures full { result ≡ Err Full → length (S.stored squares.new) ≡ S.most squares.new }
-        ensures needed { result ≡ Err Full → SomeSquare (S.needs_node squares.new) (state_so_far (S.content squares.old) self.old) }
+        ensures needed { result ≡ Err Full → SomeSquare (S.needs_node squares.new) row (state_so_far (S.content squares.old) self.old) }
     {
         if self.rows == row {
             return Ok(());
@@ -118,7 +118,7 @@ impl Builder {
         ensures most { S.most squares.new ≡ S.most squares.old }
         ensures refusals { IfErr result (λ e. (e ≡ Full) ⊎ (e ≡ Memory)) }
         ensures full { result ≡ Err Full → length (S.stored squares.new) ≡ S.most squares.new }
-        ensures needed { result ≡ Err Full → SomeSquare (S.needs_node squares.new) (state_so_far (S.content squares.old) self.old) }
+        ensures needed { result ≡ Err Full → SomeSquare (S.needs_node squares.new) (nat_abs (y +ℤ pos half_plane)) (state_so_far (S.content squares.old) self.old) }
     {
         let column = offset(x);
         let row = offset(y);
@@ -139,7 +139,7 @@ impl Builder {
         ensures most { S.most squares.new ≡ S.most squares.old }
         ensures refusals { IfErr result (λ e. (e ≡ Full) ⊎ (e ≡ Memory)) }
         ensures full { result ≡ Err Full → length (S.stored squares.new) ≡ S.most squares.new }
-        ensures needed { result ≡ Err Full → SomeSquare (S.needs_node squares.new) (state_so_far (S.content squares.old) self) }
+        ensures needed { result ≡ Err Full → SomeSquare (S.needs_node squares.new) (2 ^ MAX_LEVEL) (state_so_far (S.content squares.old) self) }
     {
         let Builder {
             alloc,

@@ -1,5 +1,5 @@
 //! Strips one below the other.
-ghost use Rattle.std.specs.Prelude.{◌≡◌, ℕ, suc, ◌+◌, ◌^◌, ◌<◌, ◌≤◌, ◌⊎◌, ◌++◌, ◌∷◌, [], All, Contains, length, Err, IfOk, IfErr, OnOk};
+ghost use Rattle.std.specs.Prelude.{◌≡◌, ℕ, suc, ◌+◌, ◌-◌, ◌^◌, ◌<◌, ◌≤◌, ◌⊎◌, ◌++◌, ◌∷◌, [], All, Contains, length, Err, IfOk, IfErr, OnOk};
 ghost use Rattle.life_base.specs.declared.kind.Kind.TheVariants.{Full, Memory};
 ghost use Rattle.life_base.specs.Tree.{Tree, depth, state_at};
 ghost use Rattle.life_quad.specs.declared.id.Id.{Id as IdValue};
@@ -30,7 +30,7 @@ fn merge<S: Squares>(
     ensures most { S.most squares.new ≡ S.most squares.old }
     ensures refusals { IfErr result (λ e. (e ≡ Full) ⊎ (e ≡ Memory)) }
     ensures full { result ≡ Err Full → length (S.stored squares.new) ≡ S.most squares.new }
-    ensures needed { result ≡ Err Full → (column : ℕ) × S.needs_node squares.new (quad_at (S.content squares.old) upper.now.level upper.now.spans.items lower.now.spans.items column) }
+    ensures needed { result ≡ Err Full → (column : ℕ) × (column < 2 ^ (MAX_LEVEL - (upper.now.level + 1))) × S.needs_node squares.new (quad_at (S.content squares.old) upper.now.level upper.now.spans.items lower.now.spans.items column) }
 {
     let spans = pair(
         squares,
@@ -66,7 +66,7 @@ fn push_strip<S: Squares>(
     ensures most { S.most squares.new ≡ S.most squares.old }
     ensures refusals { IfErr result (λ e. (e ≡ Full) ⊎ (e ≡ Memory)) }
     ensures full { result ≡ Err Full → length (S.stored squares.new) ≡ S.most squares.new }
-    ensures needed { result ≡ Err Full → SomeSquare (S.needs_node squares.new) (picture (S.content squares.old) (strips.old.items ++ strip ∷ [])) }
+    ensures needed { result ≡ Err Full → SomeSquare (S.needs_node squares.new) (height strips.old.items + 2 ^ strip.level) (picture (S.content squares.old) (strips.old.items ++ strip ∷ [])) }
 {
     let Some(last) = strips.pop() else {
         let Ok(()) = strips.push(strip) else {
@@ -123,7 +123,7 @@ fn skip_rows<S: Squares>(
     ensures most { S.most squares.new ≡ S.most squares.old }
     ensures refusals { IfErr result (λ e. (e ≡ Full) ⊎ (e ≡ Memory)) }
     ensures full { result ≡ Err Full → length (S.stored squares.new) ≡ S.most squares.new }
-    ensures needed { result ≡ Err Full → SomeSquare (S.needs_node squares.new) (picture (S.content squares.old) strips.old.items) }
+    ensures needed { result ≡ Err Full → SomeSquare (S.needs_node squares.new) (height strips.old.items + count) (picture (S.content squares.old) strips.old.items) }
 {
     if count == 0 {
         return Ok(());
@@ -159,7 +159,7 @@ pub(crate) fn end_row<S: Squares>(
     ensures most { S.most squares.new ≡ S.most squares.old }
     ensures refusals { IfErr result (λ e. (e ≡ Full) ⊎ (e ≡ Memory)) }
     ensures full { result ≡ Err Full → length (S.stored squares.new) ≡ S.most squares.new }
-    ensures needed { result ≡ Err Full → SomeSquare (S.needs_node squares.new) (picture (S.content squares.old) (strips.old.items ++ row ∷ [])) }
+    ensures needed { result ≡ Err Full → SomeSquare (S.needs_node squares.new) (height strips.old.items + 1 + blank_rows) (picture (S.content squares.old) (strips.old.items ++ row ∷ [])) }
 {
     push_strip(squares, alloc, strips, row)?;
     skip_rows(squares, alloc, strips, blank_rows)
@@ -175,8 +175,8 @@ pub(crate) fn whole<S: Squares>(squares: &S, strips: &[Strip]) -> Id
     ensures cells { (column row : ℕ) → column < 2 ^ MAX_LEVEL → row < 2 ^ MAX_LEVEL → state_at (S.content squares.now result) column row ≡ picture (S.content squares.now) strips.now column row }
 {
     let blank = squares.empty(MAX_LEVEL);
-    if strips.is_empty() {
-        return blank;
+    match strips.first() {
+        Some(strip) => find(strip.spans.as_slice(), 0, 0, blank).square,
+        None => blank,
     }
-    find(strips[0].spans.as_slice(), 0, 0, blank).square
 }

@@ -35,8 +35,7 @@ pub(crate) struct Found {
 // The square in a column, where the spans before `from` end before it.
 pub(crate) fn find(spans: &[Span], from: usize, column: u64, blank: Id) -> Found
     requires past { IsPast spans.now from column }
-    requires within { AreWithin spans.now }
-    requires column { column ≤ 2 ^ 63 }
+    requires column { column < 2 ^ 64 - 1 }
     ensures { IsFound spans.now column blank result }
 {
     let mut index = from;
@@ -73,8 +72,6 @@ fn join_at<S: Squares>(
     requires column { column ≤ 2 ^ MAX_LEVEL }
     requires upper { IsStrip (S.knows squares.old) (S.content squares.old) level upper.now }
     requires lower { IsStrip (S.knows squares.old) (S.content squares.old) level lower.now }
-    requires upper_within { AreWithin upper.now }
-    requires lower_within { AreWithin lower.now }
     requires known { S.knows squares.old blank }
     requires blank { S.content squares.old blank ≡ blank_square level }
     requires north { IsFound upper.now (2 * column) blank north }
@@ -98,17 +95,12 @@ fn join_at<S: Squares>(
 fn next_column(column: u64, north: u64, south: u64) -> u64
     requires north { 2 * column < north }
     requires south { 2 * column < south }
-    requires last { (north ≤ 2 ^ MAX_LEVEL) ⊎ (south ≤ 2 ^ MAX_LEVEL) }
     ensures beyond { column < result }
-    ensures within { result ≤ 2 ^ MAX_LEVEL }
+    ensures within { (2 * result ≤ north + 1) × (2 * result ≤ south + 1) }
     ensures goes_on { (c : ℕ) → column < c → c < result → (2 * c + 1 < north) × (2 * c + 1 < south) }
 {
-    let end = if north < south { north } else { south };
-    if end / 2 > column {
-        end / 2
-    } else {
-        column + 1
-    }
+    let end = north.min(south);
+    (end / 2).max(column + 1)
 }
 
 // The strip of the next level whose squares have two squares of the upper strip above two of the lower.
@@ -122,17 +114,17 @@ pub(crate) fn pair<S: Squares>(
     requires low { level < MAX_LEVEL }
     requires upper { IsStrip (S.knows squares.old) (S.content squares.old) level upper.now }
     requires lower { IsStrip (S.knows squares.old) (S.content squares.old) level lower.now }
-    requires upper_within { AreWithin upper.now }
-    requires lower_within { AreWithin lower.now }
+    requires upper_within { AreWithin level upper.now }
+    requires lower_within { AreWithin level lower.now }
     ensures strip { IfOk result (λ r. IsStrip (S.knows squares.new) (S.content squares.new) (level + 1) r.items) }
-    ensures within { IfOk result (λ r. AreWithin r.items) }
+    ensures within { IfOk result (λ r. AreWithin (level + 1) r.items) }
     ensures paired { IfOk result (λ r. IsPaired (S.content squares.old) (S.content squares.new) level upper.now lower.now r.items) }
     ensures keeps { (q : IdValue) → S.knows squares.old q → S.knows squares.new q × (S.content squares.new q ≡ S.content squares.old q) }
     ensures stays { (t : Tree) → Contains (S.stored squares.old) t → Contains (S.stored squares.new) t }
     ensures most { S.most squares.new ≡ S.most squares.old }
     ensures refusals { IfErr result (λ e. (e ≡ Full) ⊎ (e ≡ Memory)) }
     ensures full { result ≡ Err Full → length (S.stored squares.new) ≡ S.most squares.new }
-    ensures needed { result ≡ Err Full → (column : ℕ) × S.needs_node squares.new (quad_at (S.content squares.old) level upper.now lower.now column) }
+    ensures needed { result ≡ Err Full → (column : ℕ) × (column < 2 ^ (MAX_LEVEL - (level + 1))) × S.needs_node squares.new (quad_at (S.content squares.old) level upper.now lower.now column) }
 {
     let blank = squares.empty(level);
     let mut spans = Vec::new(alloc);
