@@ -11,6 +11,7 @@ ghost use Rattle.life_rle.specs.Reading.{ReadsItems, last_of, ItemsBreak};
 use crate::cursor::{Cursor, item_fault, moved};
 use crate::file::Run;
 use crate::item::{Found, Item, next_item};
+use bstr::ByteSlice;
 use life_base::{Kind, MAX_LEVEL, Rule};
 
 /// Where the items of a line end: the place behind them, and whether `!` stands there.
@@ -24,7 +25,7 @@ pub(crate) struct ItemsRead {
 fn mark_place(line: &[u8]) -> Option<usize>
     ensures { result ≡ position (λ b. b == 33) line.now }
 {
-    line.iter().position(|byte| *byte == b'!')
+    line.find_byte(b'!')
 }
 
 /// The bytes of a line in front of its first `!`.
