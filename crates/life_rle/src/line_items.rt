@@ -53,10 +53,8 @@ fn reserve_runs(line: &[u8], runs: &mut Vec<Run>) -> Result<(), Kind>
     ensures room { OnOk result (vec_len runs.old + length (filter is_run_end (take_while (λ b. not (b == 33)) line.now)) ≤ vec_capacity runs.new) }
     ensures memory { IfErr result (λ kind. kind ≡ Kind.Memory) }
 {
-    match runs.reserve(run_ends(before_mark(line))) {
-        Ok(()) => Ok(()),
-        Err(_) => Err(Kind::Memory),
-    }
+    runs.reserve(run_ends(before_mark(line)))
+        .map_err(|_| Kind::Memory)
 }
 
 /// Puts the run of an item of nonzero state behind the runs.
@@ -76,10 +74,7 @@ fn push_run(cursor: Cursor, item: Item, runs: &mut Vec<Run>) -> Result<(), Kind>
         len: count,
         state,
     };
-    match runs.push(run) {
-        Ok(()) => Ok(()),
-        Err(_) => Err(Kind::Memory),
-    }
+    runs.push(run).map_err(|_| Kind::Memory)
 }
 
 /// Takes an item that stands at the cursor, and answers the place behind it.
