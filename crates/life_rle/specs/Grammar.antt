@@ -1,4 +1,5 @@
--- Which lines are an RLE file, of which pattern, and which rule a line breaks.
+-- Which lines are an RLE file, of which pattern, and which rule a line breaks. What `!` ends is of Golly Help (File Formats, Extended RLE format);
+-- the limit of a line, which lines are data (those that begin with `x` and a letter too), the kinds and their order are the project's own.
 use Rattle.std.specs.Prelude.{◌≡◌, ℕ, ◌⊎◌, ◌||◌, Bool, true, false, List, [], ◌∷◌, ◌++◌, Option, Some, None, Result, Ok, Err, if◌then◌else◌, codes}
 use Rattle.life_base.specs.declared.kind.Kind.{Kind}
 use Rattle.life_base.specs.declared.kind.Kind.TheVariants.{LineTooLong, NoHeader, LateHeader, SecondHeader}
@@ -35,7 +36,7 @@ later_of line =
     else if begins_with line (codes "x ") || begins_with line (codes "x=") then Err SecondHeader
     else Ok Data
 
--- comments and position lines; the last position line gives the position, and where there is none, the first argument does
+-- comments and position lines; the last position line gives the position, and where there is none, it is the position given (the second argument)
 abbrev pub IsPreamble : ℕ → Position → List (List ℕ) → Position → Type 0
 IsPreamble level given [] position = position ≡ given
 IsPreamble level given (line ∷ lines) position =

@@ -1,4 +1,5 @@
--- The items of a pattern, and how a line spells them.
+-- The items of a pattern, and how a line spells them. States, `$` and `!` are of Golly Help (File Formats, Extended RLE format); the limits of
+-- counts, the kinds and their order are the project's own.
 use Rattle.std.specs.Prelude.{◌≡◌, ℕ, List, [], ◌∷◌, drop, take_while, Option, Some, None, if◌then◌else◌, ◌==◌, nat_lt}
 use Rattle.std.specs.Char.{is_ascii_digit}
 use Rattle.std.specs.List.{prefix_len}

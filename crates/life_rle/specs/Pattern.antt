@@ -1,4 +1,5 @@
--- The pattern that an RLE file stands for.
+-- The pattern that an RLE file stands for. What Pos, Gen, states and `$` mean is of Golly Help (File Formats, Extended RLE format); the plane,
+-- the kinds and their order are the project's own.
 use Rattle.std.specs.Prelude.{ℕ, ◌+◌, Bool, true, false, not, ◌&&◌, List, [], ◌∷◌, ◌++◌, ℤ, pos, ◌+ℤ◌, int_lt, int_le, Option, Some, None, if◌then◌else◌}
 use Rattle.std.specs.Ordering.{int_eq}
 use Rattle.std.specs.List.{list_any}

@@ -1,4 +1,5 @@
--- The runs of an RLE file: its items of nonzero state.
+-- The runs of an RLE file: its items of nonzero state. The project's own; the texts of states are of Golly Help (File Formats, Extended RLE
+-- format).
 use Rattle.std.specs.Prelude.{ℕ, Bool, ◌==◌, ◌||◌, ◌&&◌, nat_le, zero, suc, List, [], ◌∷◌, ℤ}
 use Rattle.life_rle.specs.declared.file.Run.{Run}
 use Rattle.life_rle.specs.declared.item.Item.{Item}

@@ -1,4 +1,4 @@
--- Cells that can be written.
+-- Cells that can be written. The project's own.
 use Rattle.std.specs.Prelude.{ℕ, Bool, true, ◌&&◌, ◌||◌, List, [], ◌∷◌, ℤ, int_lt, nat_lt, if◌then◌else◌}
 use Rattle.std.specs.Ordering.{int_eq}
 use Rattle.life_base.specs.declared.cell.Cell.{Cell}

@@ -1,4 +1,5 @@
--- The text that is written for a rule, a generation and a list of cells.
+-- The text that is written for a rule, a generation and a list of cells. The project's own choice among the texts of one pattern; what they mean
+-- is of Golly Help (File Formats, Extended RLE format).
 use Rattle.std.specs.Prelude.{ℕ, zero, suc, ◌+◌, List, [], ◌∷◌, ◌++◌, length, map, ℤ, pos, ◌+ℤ◌, ◌-ℤ◌, nat_abs, if◌then◌else◌, ◌==◌, nat_le, codes, decimal, flat_map}
 use Rattle.std.specs.Ordering.{int_eq}
 use Rattle.std.specs.Fmt.{signed_decimal}

@@ -4,7 +4,7 @@ ghost use Rattle.std.specs.Prelude.{◌≡◌, ◌≤◌, Some, None};
 ghost use Rattle.life_rle.specs.Plane.{most_count};
 ghost use Rattle.life_rle.specs.Pattern.{item_fault};
 ghost use Rattle.life_rle.specs.Cursor.{IsNear, moved, item_count};
-ghost use Rattle.life_rle.specs.declared.item.Item.TheVariants.{Cells, RowEnds};
+ghost use Rattle.life_rle.specs.declared.item.Item.TheVariants.{Cells};
 
 use crate::item::Item;
 use crate::plane::{EDGE, is_state_of};
@@ -31,20 +31,6 @@ fn cells_fault(rule: &Rule, cursor: Cursor, count: u64, state: State) -> Option<
     if inside { None } else { Some(Kind::OutOfPlane) }
 }
 
-/// Which rule row ends break that stand there, under any rule.
-fn row_ends_fault(rule: &Rule, cursor: Cursor, count: u64) -> Option<Kind>
-    requires near { IsNear MAX_LEVEL cursor }
-    requires count { count ≤ most_count MAX_LEVEL }
-    ensures { result ≡ item_fault MAX_LEVEL rule.now cursor.y cursor.x (RowEnds count) }
-{
-    let _ = rule;
-    if cursor.y + count as i64 <= EDGE {
-        None
-    } else {
-        Some(Kind::OutOfPlane)
-    }
-}
-
 /// Which rule an item breaks that stands there.
 pub(crate) fn item_fault(rule: &Rule, cursor: Cursor, item: Item) -> Option<Kind>
     requires near { IsNear MAX_LEVEL cursor }
@@ -53,7 +39,8 @@ pub(crate) fn item_fault(rule: &Rule, cursor: Cursor, item: Item) -> Option<Kind
 {
     match item {
         Item::Cells { count, state } => cells_fault(rule, cursor, count, state),
-        Item::RowEnds { count } => row_ends_fault(rule, cursor, count),
+        Item::RowEnds { count } if cursor.y + count as i64 <= EDGE => None,
+        Item::RowEnds { .. } => Some(Kind::OutOfPlane),
     }
 }
 

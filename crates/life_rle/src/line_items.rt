@@ -11,6 +11,7 @@ ghost use Rattle.life_rle.specs.Reading.{ReadsItems, last_of, ItemsBreak};
 use crate::cursor::{Cursor, item_fault, moved};
 use crate::file::Run;
 use crate::item::{Found, Item, next_item};
+use bstr::ByteSlice;
 use life_base::{Kind, MAX_LEVEL, Rule};
 
 /// Where the items of a line end: the place behind them, and whether `!` stands there.
@@ -24,7 +25,7 @@ pub(crate) struct ItemsRead {
 fn mark_place(line: &[u8]) -> Option<usize>
     ensures { result ≡ position (λ b. b == 33) line.now }
 {
-    line.iter().position(|byte| *byte == b'!')
+    line.find_byte(b'!')
 }
 
 /// The bytes of a line in front of its first `!`.
@@ -52,10 +53,8 @@ fn reserve_runs(line: &[u8], runs: &mut Vec<Run>) -> Result<(), Kind>
     ensures room { OnOk result (vec_len runs.old + length (filter is_run_end (take_while (λ b. not (b == 33)) line.now)) ≤ vec_capacity runs.new) }
     ensures memory { IfErr result (λ kind. kind ≡ Kind.Memory) }
 {
-    match runs.reserve(run_ends(before_mark(line))) {
-        Ok(()) => Ok(()),
-        Err(_) => Err(Kind::Memory),
-    }
+    runs.reserve(run_ends(before_mark(line)))
+        .map_err(|_| Kind::Memory)
 }
 
 /// Puts the run of an item of nonzero state behind the runs.
@@ -75,10 +74,7 @@ fn push_run(cursor: Cursor, item: Item, runs: &mut Vec<Run>) -> Result<(), Kind>
         len: count,
         state,
     };
-    match runs.push(run) {
-        Ok(()) => Ok(()),
-        Err(_) => Err(Kind::Memory),
-    }
+    runs.push(run).map_err(|_| Kind::Memory)
 }
 
 /// Takes an item that stands at the cursor, and answers the place behind it.

@@ -46,19 +46,13 @@ pub(crate) fn opening_of(alloc: Global, line: &[u8]) -> Result<Opening, Kind>
         return Ok(Opening::Comment);
     }
     if is_position_line(line) {
-        return match position_of(line) {
-            Ok(position) => Ok(Opening::PositionLine(position)),
-            Err(kind) => Err(kind),
-        };
+        return Ok(Opening::PositionLine(position_of(line)?));
     }
     if begins_with(line, b"#") {
         return Ok(Opening::Comment);
     }
     if begins_with(line, b"x") {
-        return match header_of(alloc, line) {
-            Ok(rule) => Ok(Opening::Header(rule)),
-            Err(kind) => Err(kind),
-        };
+        return Ok(Opening::Header(header_of(alloc, line)?));
     }
     Err(Kind::NoHeader)
 }

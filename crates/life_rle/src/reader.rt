@@ -242,10 +242,8 @@ impl RleLines {
             → IsOkAnd result (λ runs. runs.items ≡ []) }
     {
         let mut runs = Vec::new(self.alloc);
-        match self.take_line(line, &mut runs) {
-            Ok(()) => Ok(runs),
-            Err(kind) => Err(kind),
-        }
+        self.take_line(line, &mut runs)?;
+        Ok(runs)
     }
 
     /// Whether `!` has ended the pattern.
@@ -279,9 +277,7 @@ impl RleLines {
         ensures spent { IsErrOf result Kind.Spent ↔ (self.refused ≡ true) }
         ensures only { IfErr result (λ kind. (kind ≡ Kind.NoHeader) ⊎ (kind ≡ Kind.Spent)) }
     {
-        match self.finish() {
-            Ok((rule, position)) => Ok((rule, position.generation)),
-            Err(kind) => Err(kind),
-        }
+        let (rule, position) = self.finish()?;
+        Ok((rule, position.generation))
     }
 }

@@ -24,11 +24,16 @@ Foo 0 0,0 0,0,1,24 1,0,1,48 2,0,1,1|x = 1, y = 1, rule = Foo;XpXo!
 Foo 0 0,0 0,0,1,25 1,0,1,49 2,0,1,240|x = 1, y = 1, rule = Foo;pAqAxX!
 Foo 0 0,0 0,0,3,25|x = 1, y = 1, rule = Foo;3pA!
 Foo 0 0,0 1,0,2,1|x=1,y=1,rule=Foo;b2A3.!
+Foo 0 0,0 0,0,1,1 1,0,1,1|x=1,y=1,rule=Foo;o\tA\r.
 Foo 0 0,0|x \t= 1 ,\ty =1 , rule =\tFoo \r;!
+Foo 0 0,0|x\t=\t1\t,\ty\t=\t1\t,\trule\t=\tFoo\t;!
 B3/S23 0 0,0|x = 99999999999999999999999999, y = 000;!
+B3/S23 0 0,0|x=1,y=1\t;!
 B3/S23 4 0,0 0,0,1,1|#CXRLE Pos=5,5 Gen=3;#CXRLE Gen=4;x=1,y=1;o!
 B3/S23 0 3,4 3,4,1,1|#CXRLE Pos=1,2 Pos=3,4;x=1,y=1;o!
 B3/S23 18446744073709551615 -7,0|#CXRLE\tGen=18446744073709551615  Pos=-0007,000 Other=z;x=1,y=1;!
+B3/S23 2 5,6|#CXRLE\tPos=5,6\tGen=2\t;x=1,y=1
+B3/S23 2 5,6|#CXRLE\rPos=5,6\rGen=2\r;x=1,y=1
 B3/S23 0 0,0 0,0,1,1|#CXRLEfoo Pos=z;#;;#C text; \t\r;x=1,y=1;#CXRLEfoo;#x = 3;;o!
 B3/S23 0 0,0 0,0,2,1 5,0,1,1|x=1,y=1; 2o 3b;\to\r; !
 B3/S23 0 0,0 0,0,1,1|x=1,y=1;00000000000000000000000000000001o!
@@ -36,6 +41,7 @@ B3/S23 0 0,0 0,0,1,1|x=1,y=1;o!\x00\xff 0o z;0o;x = 1, y = 1;#CXRLE Gen=z
 B3/S23 0 -576460752303423488,0 -576460752303423488,0,1152921504606846976,1|#CXRLE Pos=-576460752303423488,0;x = 1, y = 1;1152921504606846976o!
 B3/S23 0 576460752303423487,0 576460752303423487,0,1,1|#CXRLE Pos=576460752303423487,0;x = 1, y = 1;o!
 B3/S23 0 0,576460752303423487|#CXRLE Pos=0,576460752303423487;x = 1, y = 1;$!
+B3/S23 0 0,-576460752303423488|#CXRLE Pos=0,-576460752303423488;x = 1, y = 1;1152921504606846976$!
 B3/S23 0 0,0|x = 1, y = 1;576460752303423488b576460752303423488$!
 B3/S23 0 576460752303423487,0 576460752303423487,0,1,1 576460752303423487,1,1,1|#CXRLE Pos=576460752303423487,0;x = 1, y = 1;o$o!
 B3/S23 0 576460752303423487,-576460752303423488|#CXRLE Pos=576460752303423487,-576460752303423488;x = 1, y = 1
@@ -54,6 +60,8 @@ B3/S23 0 0,0 0,0,1,1|#\x00\xff;x = 1, y = 1;#\x80;o!\xff
 1 NoHeader|\tx = 1, y = 1
 1 NoHeader|\rx = 1, y = 1
 1 NoHeader| #C
+1 NoHeader|\t#CXRLE Pos=1,2
+1 NoHeader|\r#C
 4 NoHeader|;#C;\t
 1 NoHeader|y = 3
 1 NoHeader|o!
@@ -74,6 +82,7 @@ B3/S23 0 0,0 0,0,1,1|#\x00\xff;x = 1, y = 1;#\x80;o!\xff
 1 BadHeader|x = 1, Y = 1
 1 BadHeader|x = 1,, y = 1
 1 BadHeader|x = 1, y = 1, r\tule = Foo
+1 BadHeader|x = 1, y = 1, r\rule = Foo
 1 BadHeader|x = 1, y = 1, Rule = Foo
 1 BadHeader|x = 1, y = z, rule = B03/S23
 1 BadHeader|x = 1, y = 1,
@@ -81,9 +90,12 @@ B3/S23 0 0,0 0,0,1,1|#\x00\xff;x = 1, y = 1;#\x80;o!\xff
 1 BadHeader|x = 1, y = 1, rul e = Foo
 1 BadHeader|x = 1, y = 1, rule
 1 BadHeader|x = 1, y = 1\x00
+1 BadHeader|x = 1, y = 1\t0
+1 BadHeader|x = 1, y = 1\r0
 1 BadRule|x = 1, y = 1, rule =
 1 BadRule|x = 1, y = 1, rule = Foo Bar
 1 BadRule|x = 1, y = 1, rule = Foo\tBar
+1 BadRule|x = 1, y = 1, rule = Foo\rBar
 1 BadRule|x = 1, y = 1, rule = \x00
 1 BadRule|x = 1, y = 1, rule = \xff
 1 BirthOnZero|x = 0, y = 0, rule = B03/S23
@@ -98,7 +110,12 @@ B3/S23 0 0,0 0,0,1,1|#\x00\xff;x = 1, y = 1;#\x80;o!\xff
 1 BadNumber|#CXRLE Pos=+1,2
 1 BadNumber|#CXRLE Pos=--1,2
 1 BadNumber|#CXRLE Pos=\t1,2
+1 BadNumber|#CXRLE Pos=\r1,2
+1 BadNumber|#CXRLE Pos=1\t,2
 1 BadNumber|#CXRLE Pos=1\r,2
+1 BadNumber|#CXRLE Pos=1,\t2
+1 BadNumber|#CXRLE Pos=1,\r2
+1 BadNumber|#CXRLE Pos=-\t1,2
 1 BadNumber|#CXRLE Pos=,
 1 BadNumber|#CXRLE Pos=-,-
 1 BadNumber|#CXRLE Pos=1-,2
@@ -108,6 +125,8 @@ B3/S23 0 0,0 0,0,1,1|#\x00\xff;x = 1, y = 1;#\x80;o!\xff
 1 BadNumber|#CXRLE Pos=z;#CXRLE Pos=1,2;x = 1, y = 1
 1 BadNumber|#CXRLE Pos=99999999999999999999999,z
 1 BadNumber|#CXRLE Gen=
+1 BadNumber|#CXRLE Gen=\t1
+1 BadNumber|#CXRLE Gen=\r1
 1 BadNumber|#CXRLE Gen=-1
 1 BadNumber|#CXRLE Gen=+1
 1 BadNumber|#CXRLE Gen=1\x00
@@ -140,19 +159,29 @@ B3/S23 0 0,0 0,0,1,1|#\x00\xff;x = 1, y = 1;#\x80;o!\xff
 2 BadItem|x = 1, y = 1, rule = Foo;xY!
 2 BadItem|x = 1, y = 1, rule = Foo;zA!
 2 BadItem|x = 1, y = 1, rule = Foo;p\tA!
+2 BadItem|x = 1, y = 1, rule = Foo;p\rA!
 2 BadItem|x = 1, y = 1, rule = Foo;p;A!
 2 BadItem|x = 1, y = 1, rule = Foo;p\xff!
 2 BadItem|x = 1, y = 1;2\to!
+2 BadItem|x = 1, y = 1;2\ro!
+2 BadItem|x = 1, y = 1;1 0o!
+2 BadItem|x = 1, y = 1;1\t0o!
+2 BadItem|x = 1, y = 1;1\r0o!
+2 BadItem|x = 1, y = 1;2\t$
+2 BadItem|x = 1, y = 1;2\r$
 2 BadItem|x = 1, y = 1;2\r
 2 BadItem|x = 1, y = 1;2\x00
 2 BadItem|x = 1, y = 1;\x0b!
 2 BadItem|x = 1, y = 1;\x80!
 2 BadItem|x = 1, y = 1;-1o!
 2 BadItem|x = 1, y = 1; #C
+2 BadItem|x = 1, y = 1;\t#C
+2 BadItem|x = 1, y = 1;\r#CXRLE
 2 ZeroCount|x = 1, y = 1, rule = B3/S23;0o!
 2 ZeroCount|x = 1, y = 1;0!
 2 ZeroCount|x = 1, y = 1;000000000000000000000000000000000000z
 2 TooLarge|x = 1, y = 1, rule = B3/S23;1152921504606846977b!
+2 TooLarge|x = 1, y = 1;1152921504606846977
 2 TooLarge|x = 1, y = 1;99999999999999999999999999999999999999!
 2 StateRange|x = 1, y = 1, rule = B3/S23;B!
 2 StateRange|x = 1, y = 1;Bz!
@@ -169,6 +198,7 @@ B3/S23 0 0,0 0,0,1,1|#\x00\xff;x = 1, y = 1;#\x80;o!\xff
 3 OutOfPlane|#CXRLE Pos=0,576460752303423487;x = 1, y = 1;2$!
 3 OutOfPlane|#CXRLE Pos=0,576460752303423487;x = 1, y = 1;$b!
 3 OutOfPlane|#CXRLE Pos=0,576460752303423487;x = 1, y = 1;$$!
+3 OutOfPlane|#CXRLE Pos=0,-576460752303423488;x = 1, y = 1;1152921504606846976$b
 3 OutOfPlane|#CXRLE Pos=576460752303423487,0;x = 1, y = 1;ob!
 3 OutOfPlane|#CXRLE Pos=-576460752303423488,0;x = 1, y = 1;1152921504606846976bo!
 2 OutOfPlane|x = 1, y = 1;576460752303423489b!
@@ -233,7 +263,7 @@ fn files_are_read_by_the_format(rt: HostRuntime) -> Result<(), Fail> {
         assert_eq!(rt; got.as_bytes(), &row[..bar], "row {number}");
         count = number;
     }
-    assert_eq!(rt; count, 167);
+    assert_eq!(rt; count, 197);
     Ok(())
 }
 
@@ -263,7 +293,11 @@ fn a_line_has_at_most_a_mebibyte(rt: HostRuntime) -> Result<(), Fail> {
         ("x = 1, y = 1\no!", b' ', most - 2, "\n", live),
         ("x = 1, y = 1\no!", b' ', most - 1, "\n", "2 LineTooLong"),
         ("x = 1, y = 1\nb!", b'0', most + 1, "", "2 LineTooLong"),
+        ("x = 1, y = 1\nb!", b'0', most, "", "2 LineTooLong"),
+        ("x = 1, y = 1\nb!\n", b'0', most, "", blank),
         ("x = 1, y = 1\nb!\n", b'0', most + 1, "", blank),
+        ("x = 1, y = 1\no", b' ', most - 2, "!", live),
+        ("x = 1, y = 1\no", b' ', most - 1, "!", "2 LineTooLong"),
         ("x = 1, y = 1\no", b' ', most - 1, "\n", live),
         ("x = 1, y = 1\no", b' ', most, "\n", "2 LineTooLong"),
         ("x = 1, y = 1\n0o", b' ', most - 1, "\n", "2 LineTooLong"),

@@ -59,7 +59,7 @@ fn behind_the_mark_lines_are_free(rt: HostRuntime) -> Result<(), Fail> {
     if long.resize((1usize << 20) + 1, b'o').is_err() {
         panic!(rt; "no memory");
     }
-    for line in [
+    for &line in &[
         b"0o".as_slice(),
         b"x = 1, y = 1",
         b"#CXRLE Gen=z",
@@ -78,7 +78,7 @@ fn behind_the_mark_lines_are_free(rt: HostRuntime) -> Result<(), Fail> {
 #[test]
 fn lines_end_before_a_header(rt: HostRuntime) -> Result<(), Fail> {
     let mut reader = RleLines::new(rt.alloc());
-    for line in [b"".as_slice(), b"#C o!", b"#CXRLE Gen=1"] {
+    for &line in &[b"".as_slice(), b"#C o!", b"#CXRLE Gen=1"] {
         assert_eq!(rt; reader.line(line)?.len(), 0);
         assert!(rt; !reader.over());
     }

@@ -93,7 +93,7 @@ fn patterns_are_written(rt: HostRuntime) -> Result<(), Fail> {
     let block = [cell(2, 3, 7), cell(3, 3, 7), cell(2, 4, 7), cell(3, 4, 8)];
     let far = [cell(5, -2, 1), cell(-3, 7, 1)];
     let long = fence(rt.alloc(), 36)?;
-    for (rule, generation, cells, expected) in [
+    for &(rule, generation, cells, expected) in &[
         (
             b"WireWorld".as_slice(),
             7,
@@ -145,7 +145,7 @@ fn fence(alloc: Global, count: u8) -> Result<Vec<Cell>, Fail> {
 #[test]
 fn lines_have_at_most_70_bytes(rt: HostRuntime) -> Result<(), Fail> {
     let none: [Cell; 0] = [];
-    for (count, more, end) in [
+    for &(count, more, end) in &[
         // the mark ends the line at byte 70
         (
             35,
@@ -247,7 +247,7 @@ fn sorted_cells_can_be_written(rt: HostRuntime) -> Result<(), Fail> {
     assert!(rt; sorted_cells(&life, &[cell(5, 0, 1), cell(0, 1, 1)]));
     assert!(rt; !sorted_cells(&life, &[cell(0, 0, 0)]));
     assert!(rt; sorted_cells(&life, &[cell(FIRST, FIRST, 1), cell(LAST, LAST, 1)]));
-    for (x, y) in [(FIRST - 1, 0), (0, FIRST - 1), (LAST + 1, 0), (0, LAST + 1)] {
+    for &(x, y) in &[(FIRST - 1, 0), (0, FIRST - 1), (LAST + 1, 0), (0, LAST + 1)] {
         assert!(rt; !sorted_cells(&life, &[cell(x, y, 1)]));
     }
     Ok(())
@@ -312,7 +312,7 @@ fn what_is_written_is_read_again(rt: HostRuntime) -> Result<(), Fail> {
     let rows = [cell(3, FIRST, 1), cell(-2, LAST, 1)];
     let row = [cell(FIRST, 5, 9), cell(LAST - 1, 5, 9), cell(LAST, 5, 9)];
     let wire = [cell(-1, -1, 1), cell(0, -1, 25)];
-    for (rule, generation, cells, corner, runs) in [
+    for &(rule, generation, cells, corner, runs) in &[
         (b"Foo".as_slice(), 0, all.as_slice(), (-7, -3), 255),
         (b"B3/S23", 1, &long, (0, 0), 36),
         (b"Foo", u64::MAX, &named, (0, 0), 36),

@@ -5,14 +5,14 @@ use Rattle.life_base.specs.declared.cell.TheConstants.{MAX_LEVEL}
 use Rattle.life_rle.proofs.Refusal.{IsPreamble-refused}
 use Rattle.life_rle.proofs.reader.RleLines.end.Goals as goal
 
-pub returns-in-Ok-clause-missing : goal.returns-in-Ok-clause-missing
-returns-in-Ok-clause-missing c = λ r. (λ e. cc, λ h. absurd (IsPreamble-refused MAX_LEVEL c.args.self.lines h.0 h.1 (c.in-Ok.ensures.file.0, c.in-Ok.ensures.file.1)))
+pub returns-clause-missing : goal.returns-clause-missing
+returns-clause-missing c = λ r. (λ e. cc, λ h. absurd (IsPreamble-refused MAX_LEVEL c.args.self.lines h.0 h.1 (c.in_ok-rule.ensures.file.0, c.in_ok-rule.ensures.file.1)))
 
-pub returns-in-Err-clause-whole : goal.returns-in-Err-clause-whole
-returns-in-Err-clause-whole c = λ r g.
-    let kind : Kind = c.in-Err.kind in
-    let only : (kind ≡ NoHeader) ⊎ (kind ≡ Spent) = c.in-Err.ensures.only in
+pub returns-in_err-rule-clause-whole : goal.returns-in_err-rule-clause-whole
+returns-in_err-rule-clause-whole c = λ r g.
+    let kind : Kind = c.in_err-rule.field-0.0 in
+    let only : (kind ≡ NoHeader) ⊎ (kind ≡ Spent) = c.in_err-rule.ensures.only in
     elim only [
-      | inl m ↦ (let pre = c.in-Err.ensures.missing (ap Err m) in absurd (IsPreamble-refused MAX_LEVEL c.args.self.lines pre.0 pre.1 g))
-      | inr s ↦ (let refused = c.in-Err.ensures.spent.0 (ap Err s) in cc)
+      | inl m ↦ (let pre = c.in_err-rule.ensures.missing (ap Err m) in absurd (IsPreamble-refused MAX_LEVEL c.args.self.lines pre.0 pre.1 g))
+      | inr s ↦ (let refused = c.in_err-rule.ensures.spent.0 (ap Err s) in cc)
     ]

@@ -4,9 +4,9 @@ use Rattle.life_rle.specs.declared.file.Run.{Run}
 use Rattle.life_rle.specs.File.{HasRuns}
 use Rattle.life_rle.proofs.reader.RleLines.line.Goals as goal
 
-pub returns-in-Ok-clause-runs : goal.returns-in-Ok-clause-runs
-returns-in-Ok-clause-runs c = λ before h.
-    let adds = c.in-Ok.ensures.runs in
+pub returns-clause-runs : goal.returns-clause-runs
+returns-clause-runs c = λ before h.
+    let adds = c.in_ok-take_line.ensures.runs in
     let found : List Run = c.take_line.new.runs.items in
     let e : found ≡ adds.runs = adds.added ∙ ap (λ (rs : List Run). rs ++ adds.runs) c.new-runs.ensures.items in
     subst (λ (rs : List Run). HasRuns MAX_LEVEL c.take_line.new.self.lines (before ++ rs)) (sym e) (adds.found before h)
