@@ -89,10 +89,65 @@ fn measuring_calls(rt: &HostRuntime) {
     }
 }
 
+// Worked examples in stores for few nodes.
+fn shared_calls(rt: &HostRuntime) {
+    let alloc = rt.alloc();
+    let mut rows = Shared::new(alloc, 1000);
+    let mut row = Shared::new(alloc, 59);
+    let mut setting = Shared::new(alloc, 1000);
+    let mut trimming = Shared::new(alloc, 1000);
+    let mut growing = Shared::new(alloc, 1000);
+    let mut listing = Shared::new(alloc, 1000);
+    for time in ["", ", again"] {
+        let calls = Calls::at(rt, "Shared", time);
+        calls.tell(
+            "rows of 2^60 cells",
+            squares::rows_measured(alloc, &mut rows),
+        );
+        calls.tell(
+            "a row of 2^60 cells at limit 59",
+            squares::row_refused(&mut row),
+        );
+        calls.tell(
+            "cells in either order",
+            squares::set_and_cleared(&mut setting),
+        );
+        calls.tell("trim of level 9", squares::levels_trimmed(&mut trimming));
+        calls.tell(
+            "grow, trim",
+            squares::grown_and_trimmed(alloc, &mut growing),
+        );
+        calls.tell(
+            "two cells at limit 1",
+            squares::list_refused(alloc, &mut listing),
+        );
+    }
+}
+
+fn plain_calls(rt: &HostRuntime) {
+    let alloc = rt.alloc();
+    let mut trimming = Plain::new(alloc, 1000);
+    let mut listing = Plain::new(alloc, 1000);
+    let mut one = Plain::new(alloc, 1000);
+    let mut full = Plain::new(alloc, 4);
+    for time in ["", ", again"] {
+        let calls = Calls::at(rt, "Plain", time);
+        calls.tell("trim of level 9", squares::levels_trimmed(&mut trimming));
+        calls.tell(
+            "two cells at limit 1",
+            squares::list_refused(alloc, &mut listing),
+        );
+        calls.tell("one cell", squares::one_listed(alloc, &mut one));
+        calls.tell("one cell at store limit 4", squares::one_refused(&mut full));
+    }
+}
+
 fn main(rt: HostRuntime) {
     base_calls(&rt);
     file_calls(&rt);
     filling_calls::<Shared>(&rt, "Shared");
     filling_calls::<Plain>(&rt, "Plain");
     measuring_calls(&rt);
+    shared_calls(&rt);
+    plain_calls(&rt);
 }

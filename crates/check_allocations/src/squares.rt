@@ -6,7 +6,7 @@ ghost use Rattle.life_base.specs.Tree.{depth};
 use crate::answer::Refusal;
 use life_base::{Cell, Kind, MAX_LEVEL};
 use life_quad::{
-    Bounds, Id, SharedSquares, Squares, bounds, cells, grow, population, put_run, trim,
+    Bounds, Id, Shared, SharedSquares, Squares, bounds, cells, grow, population, put_run, trim,
 };
 use std::alloc::Global;
 
@@ -106,4 +106,118 @@ pub(crate) fn bounded<S: SharedSquares>(alloc: Global, squares: &mut S) -> Resul
         bottom: 0,
     };
     Ok(bounds(alloc, squares, plane)? == Some(least))
+}
+
+// The column of the plane's west side, and its width.
+const WEST_SIDE: i64 = -576460752303423488;
+
+const WIDTH: u64 = 1152921504606846976;
+
+/// Two rows of the plane, each put as one run: the number and the box of the cells of the first, and the number of those of both.
+pub(crate) fn rows_measured<S: SharedSquares>(
+    alloc: Global,
+    squares: &mut S,
+) -> Result<bool, Refusal> {
+    let blank = squares.empty(MAX_LEVEL);
+    let one = put_run(squares, blank, WEST_SIDE, 0, WIDTH, 1)?;
+    let number = population(alloc, squares, one)?;
+    let least = bounds(alloc, squares, one)?;
+    let two = put_run(squares, one, WEST_SIDE, 1, WIDTH, 1)?;
+    let both = population(alloc, squares, two)?;
+    let row = Bounds {
+        left: -576460752303423488,
+        top: 0,
+        right: 576460752303423487,
+        bottom: 0,
+    };
+    Ok(number == 1152921504606846976 && least == Some(row) && both == 2305843009213693952)
+}
+
+// Whether a call was refused for this reason. It hands another refusal on.
+fn is_refused<T: Drop>(answer: Result<T, Kind>, reason: Kind) -> Result<bool, Refusal> {
+    match answer {
+        Ok(_) => Ok(false),
+        Err(kind) if kind == reason => Ok(true),
+        Err(kind) => Err(kind)?,
+    }
+}
+
+/// A row of the plane in a store for 59 nodes, which is one too few.
+pub(crate) fn row_refused(squares: &mut Shared) -> Result<bool, Refusal> {
+    let blank = squares.empty(MAX_LEVEL);
+    let row = put_run(squares, blank, WEST_SIDE, 0, WIDTH, 1);
+    Ok(is_refused(row, Kind::Full)? && squares.len() == 59)
+}
+
+/// Two cells, put in either order, and cleared again.
+pub(crate) fn set_and_cleared<S: SharedSquares>(squares: &mut S) -> Result<bool, Refusal> {
+    let blank = squares.empty(5);
+    let first = put_run(squares, blank, 0, 0, 1, 1)?;
+    let both = put_run(squares, first, 5, 3, 1, 1)?;
+    let second = put_run(squares, blank, 5, 3, 1, 1)?;
+    let other = put_run(squares, second, 0, 0, 1, 1)?;
+    let cleared = put_run(squares, both, 0, 0, 1, 0)?;
+    let none = put_run(squares, cleared, 5, 3, 1, 0)?;
+    Ok(both == other && none == blank)
+}
+
+/// Squares of level 9 with one cell, at (4, 0) and at (0, 0), trimmed to the least levels 1 and 3.
+pub(crate) fn levels_trimmed<S: Squares>(squares: &mut S) -> Result<bool, Refusal> {
+    let blank = squares.empty(9);
+    let east = put_run(squares, blank, 4, 0, 1, 1)?;
+    let east_1 = trim(squares, east, 1)?;
+    let east_3 = trim(squares, east, 3)?;
+    let middle = put_run(squares, blank, 0, 0, 1, 1)?;
+    let middle_1 = trim(squares, middle, 1)?;
+    let middle_3 = trim(squares, middle, 3)?;
+    Ok(
+        squares.level(east_1) == 4
+            && squares.level(east_3) == 4
+            && squares.level(middle_1) == 1
+            && squares.level(middle_3) == 3,
+    )
+}
+
+/// A square that was trimmed to level 4, grown and trimmed again.
+pub(crate) fn grown_and_trimmed<S: SharedSquares>(
+    alloc: Global,
+    squares: &mut S,
+) -> Result<bool, Refusal> {
+    let blank = squares.empty(9);
+    let east = put_run(squares, blank, 4, 0, 1, 1)?;
+    let four = trim(squares, east, 1)?;
+    if squares.level(four) != 4 {
+        return Ok(false);
+    }
+    let five = grow(squares, four)?;
+    let number = population(alloc, squares, five)?;
+    let back = trim(squares, five, 1)?;
+    Ok(squares.level(five) == 5 && number == 1 && back == four)
+}
+
+/// Two cells, of which one may be listed.
+pub(crate) fn list_refused<S: Squares>(alloc: Global, squares: &mut S) -> Result<bool, Refusal> {
+    let blank = squares.empty(5);
+    let one = put_run(squares, blank, -4, 0, 1, 1)?;
+    let two = put_run(squares, one, 4, 0, 1, 1)?;
+    is_refused(cells(alloc, squares, two, 1), Kind::TooManyCells)
+}
+
+/// One cell, and the list of it.
+pub(crate) fn one_listed<S: Squares>(alloc: Global, squares: &mut S) -> Result<bool, Refusal> {
+    let blank = squares.empty(5);
+    let one = put_run(squares, blank, 0, 0, 1, 1)?;
+    let list = cells(alloc, squares, one, 1)?;
+    let middle = Cell {
+        x: 0,
+        y: 0,
+        state: 1,
+    };
+    Ok(list.as_slice() == [middle].as_slice())
+}
+
+/// One cell in a store for four nodes, where a square of level 5 needs five.
+pub(crate) fn one_refused<S: Squares>(squares: &mut S) -> Result<bool, Refusal> {
+    let blank = squares.empty(5);
+    is_refused(put_run(squares, blank, 0, 0, 1, 1), Kind::Full)
 }

@@ -30,6 +30,10 @@ pub record IsNamed (n : ℕ) (id : Id) : Type 0 where
   pub below : id.0 < 512 + n
   pub blank : id.0 < 512 → id.0 < 256 + MAX_LEVEL
 
+-- whether two Ids are one
+abbrev pub id_eq : Id → Id → Bool
+id_eq a b = a.0 == b.0
+
 -- whether the Id is that of a blank square
 abbrev pub is_blank_id : Id → Bool
 is_blank_id id = id.0 == 0 || (nat_le 256 id.0 && nat_lt id.0 512)

@@ -1,5 +1,5 @@
 //! What a square has: the number of its nonzero cells, and their least box.
-ghost use Rattle.std.specs.Prelude.{◌≡◌, ℕ, ◌+◌, ◌^◌, ◌+ℤ◌, pos, Some, nat_eq, ◌↔◌, ◌⊎◌, ◌<◌, ◌≤◌, true, length, Err, OnErr, IfOk, IfErr, IfSome, MatchOption};
+ghost use Rattle.std.specs.Prelude.{◌≡◌, ℕ, ◌+◌, ◌^◌, ◌+ℤ◌, pos, Some, ◌↔◌, ◌⊎◌, ◌<◌, ◌≤◌, true, length, Err, OnErr, IfOk, IfErr, IfSome, MatchOption};
 ghost use Rattle.life_base.specs.declared.kind.Kind.TheVariants.{Memory, TooManyCells};
 ghost use Rattle.std.specs.HashMap.{get};
 ghost use Rattle.life_quad.specs.declared.id.Id.{Id as IdValue};
@@ -8,6 +8,7 @@ ghost use Rattle.life_base.specs.Tree.{depth, is_blank_tree};
 ghost use Rattle.life_quad.specs.Cells.{population as population_of};
 ghost use Rattle.life_quad.specs.Cells.{IsCellList, IsLeastBox};
 ghost use Rattle.life_quad.specs.Boxes.{IsNonzeroAt, IsExtentOf};
+ghost use Rattle.life_quad.specs.Store.{id_eq};
 
 use crate::extent::{Extent, join_quarters};
 use crate::moves::{Quarters, divide, is_blank_square};
@@ -29,11 +30,11 @@ pub fn population<S: SharedSquares>(alloc: Global, squares: &S, id: Id) -> Resul
 }
 
 // The number of cells with a state, where `known` has the numbers of squares that were visited.
-fn count<S: Squares>(squares: &S, id: Id, known: &mut HashMap<u64, u128>) -> Result<u128, Kind>
+fn count<S: Squares>(squares: &S, id: Id, known: &mut HashMap<Id, u128>) -> Result<u128, Kind>
     requires known { S.knows squares.now id }
-    requires right { (q : IdValue) (n : ℕ) → get nat_eq known.old q.0 ≡ Some n → n ≡ population_of (S.content squares.now q) }
+    requires right { (q : IdValue) (n : ℕ) → get id_eq known.old q ≡ Some n → n ≡ population_of (S.content squares.now q) }
     ensures number { IfOk result (λ n. n ≡ population_of (S.content squares.now id)) }
-    ensures right { (q : IdValue) (n : ℕ) → get nat_eq known.new q.0 ≡ Some n → n ≡ population_of (S.content squares.now q) }
+    ensures right { (q : IdValue) (n : ℕ) → get id_eq known.new q ≡ Some n → n ≡ population_of (S.content squares.now q) }
     ensures refusals { IfErr result (λ e. e ≡ Memory) }
 {
     if let Some(state) = squares.state(id) {
@@ -42,7 +43,7 @@ fn count<S: Squares>(squares: &S, id: Id, known: &mut HashMap<u64, u128>) -> Res
     if is_blank_square(squares, id) {
         return Ok(0);
     }
-    if let Some(number) = known.get(&id.0) {
+    if let Some(number) = known.get(&id) {
         return Ok(*number);
     }
     let Quarters { nw, ne, sw, se } = divide(squares, id);
@@ -51,7 +52,7 @@ fn count<S: Squares>(squares: &S, id: Id, known: &mut HashMap<u64, u128>) -> Res
     let c = count(squares, sw, known)?;
     let d = count(squares, se, known)?;
     let sum = a + b + c + d;
-    let Ok(_) = known.insert(id.0, sum) else {
+    let Ok(_) = known.insert(id, sum) else {
         return Err(Kind::Memory);
     };
     Ok(sum)
@@ -90,12 +91,12 @@ fn coordinate(distance: u64, half: u64) -> i64
 fn least_extent<S: Squares>(
     squares: &S,
     id: Id,
-    known: &mut HashMap<u64, Extent>,
+    known: &mut HashMap<Id, Extent>,
 ) -> Result<Option<Extent>, Kind>
     requires known { S.knows squares.now id }
-    requires right { (q : IdValue) (e : ExtentValue) → get nat_eq known.old q.0 ≡ Some e → IsExtentOf (IsNonzeroAt (S.content squares.now q)) (Some e) }
+    requires right { (q : IdValue) (e : ExtentValue) → get id_eq known.old q ≡ Some e → IsExtentOf (IsNonzeroAt (S.content squares.now q)) (Some e) }
     ensures least { IfOk result (λ o. IsExtentOf (IsNonzeroAt (S.content squares.now id)) o) }
-    ensures right { (q : IdValue) (e : ExtentValue) → get nat_eq known.new q.0 ≡ Some e → IsExtentOf (IsNonzeroAt (S.content squares.now q)) (Some e) }
+    ensures right { (q : IdValue) (e : ExtentValue) → get id_eq known.new q ≡ Some e → IsExtentOf (IsNonzeroAt (S.content squares.now q)) (Some e) }
     ensures refusals { IfErr result (λ e. e ≡ Memory) }
 {
     if is_blank_square(squares, id) {
@@ -105,7 +106,7 @@ fn least_extent<S: Squares>(
     if level == 0 {
         return Ok(Some(Extent::CELL));
     }
-    if let Some(extent) = known.get(&id.0) {
+    if let Some(extent) = known.get(&id) {
         return Ok(Some(*extent));
     }
     let half = half_side(level);
@@ -117,7 +118,7 @@ fn least_extent<S: Squares>(
     let Some(extent) = join_quarters(half, nw, ne, sw, se) else {
         return Ok(None);
     };
-    let Ok(_) = known.insert(id.0, extent) else {
+    let Ok(_) = known.insert(id, extent) else {
         return Err(Kind::Memory);
     };
     Ok(Some(extent))

@@ -157,21 +157,25 @@ fn trims<S: Squares>(squares: &mut S) -> Result<[u8; 4], Kind> {
     ])
 }
 
-// A square of level 4 that is grown and trimmed again: the grown one, the three levels, and whether one Id came back.
-fn grown_and_back<S: Squares>(squares: &mut S) -> Result<(Id, [u8; 3], bool), Kind>
+// A square that was trimmed from level 9 to level 4, grown and trimmed again: the grown one, the three levels, and whether each
+// trimmed one has the Id of the square that is made at level 4.
+fn grown_and_back<S: Squares>(squares: &mut S) -> Result<(Id, [u8; 3], [bool; 2]), Kind>
     ensures known { IfOk result (λ r. S.knows squares.new r.0) }
     ensures high { IfOk result (λ r. 1 ≤ depth (S.content squares.new r.0)) }
 {
+    let blank = squares.empty(9);
+    let nine = put(squares, blank, 4, 0, 1, 1)?;
+    let four = trim(squares, nine, 1)?;
     let blank = squares.empty(4);
-    let four = put(squares, blank, 4, 0, 1, 1)?;
+    let made = put(squares, blank, 4, 0, 1, 1)?;
+    let level = squares.level(four);
+    if level == 0 || level == MAX_LEVEL {
+        return Err(Kind::BadLevel);
+    }
     let five = grow(squares, four)?;
     let back = trim(squares, five, 1)?;
-    let levels = [
-        squares.level(four),
-        squares.level(five),
-        squares.level(back),
-    ];
-    Ok((five, levels, back == four))
+    let levels = [level, squares.level(five), squares.level(back)];
+    Ok((five, levels, [four == made, back == made]))
 }
 
 #[test]
@@ -181,7 +185,7 @@ fn squares_are_trimmed(rt: HostRuntime) -> Result<(), Fail> {
     let (grown, levels, same) = grown_and_back(&mut squares)?;
     assert_eq!(rt; levels, [4, 5, 4]);
     assert_eq!(rt; population(rt.alloc(), &squares, grown)?, 1);
-    assert!(rt; same);
+    assert_eq!(rt; same, [true, true]);
     let mut plain = Plain::new(rt.alloc(), 1000);
     assert_eq!(rt; trims(&mut plain)?, [4, 4, 1, 3]);
     let (_grown, levels, _same) = grown_and_back(&mut plain)?;
@@ -234,6 +238,32 @@ fn cells_are_listed(rt: HostRuntime) -> Result<(), Fail> {
     assert_eq!(rt; list.as_slice(), [middle].as_slice());
     let mut small = Plain::new(rt.alloc(), 4);
     assert!(rt; matches!(one_cell(rt.alloc(), &mut small), Err(Kind::Full)));
+    Ok(())
+}
+
+// The lists of a blank square at the limits 0 and 9, and whether one with a cell is refused at limit 0.
+fn least_lists<S: Squares>(
+    alloc: Global,
+    squares: &mut S,
+) -> Result<(Vec<Cell>, Vec<Cell>, bool), Kind> {
+    let blank = squares.empty(5);
+    let one = put(squares, blank, 0, 0, 1, 1)?;
+    let refused = matches!(cells(alloc, squares, one, 0), Err(Kind::TooManyCells));
+    Ok((
+        cells(alloc, squares, blank, 0)?,
+        cells(alloc, squares, blank, 9)?,
+        refused,
+    ))
+}
+
+#[test]
+fn blank_squares_list_no_cell(rt: HostRuntime) -> Result<(), Fail> {
+    let mut squares = Shared::new(rt.alloc(), 1000);
+    let (at_0, at_9, refused) = least_lists(rt.alloc(), &mut squares)?;
+    assert!(rt; at_0.is_empty() && at_9.is_empty() && refused);
+    let mut plain = Plain::new(rt.alloc(), 1000);
+    let (at_0, at_9, refused) = least_lists(rt.alloc(), &mut plain)?;
+    assert!(rt; at_0.is_empty() && at_9.is_empty() && refused);
     Ok(())
 }
 

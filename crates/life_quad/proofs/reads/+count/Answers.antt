@@ -1,4 +1,6 @@
-use Rattle.std.proofs.Common.{◌≤◌, ◌^◌, arith, sym, ◌∙◌}
+use Rattle.std.proofs.Common.{◌≡◌, ◌≤◌, ◌^◌, arith, sym, ◌∙◌, ap}
+use Rattle.life_quad.specs.Cells.{population}
+use Rattle.life_quad.proofs.BoxLemmas.{entry_keeps}
 use Rattle.life_quad.proofs.CountLemmas.{population-blank, quarter_small}
 use Rattle.life_quad.proofs.reads.+count.Goals as goal
 
@@ -41,3 +43,16 @@ overflow_add-sum-3 g t c =
     let small_c : c.in_ok-c.c ≤ 4 ^ 61 = quarter_small (C o c.divide.result.sw) _ _ (law.full o c.divide.result.sw d.sw) d.sw_level top c.in_ok-c.ensures.number in
     let small_d : c.in_ok-d.d ≤ 4 ^ 61 = quarter_small (C o c.divide.result.se) _ _ (law.full o c.divide.result.se d.se) d.se_level top c.in_ok-d.ensures.number in
     omega (arith, small_a, small_b, small_c, small_d)
+
+pub returns-in-Some-get-clause-number : goal.returns-in-Some-get-clause-number
+returns-in-Some-get-clause-number g t c = c.requires.right c.args.id _ (sym c.in-Some-get.ensures.value)
+
+pub returns-clause-number : goal.returns-clause-number
+returns-clause-number g t c =
+    let all = ap population c.divide.ensures.square in
+    omega (arith, all, c.in_ok-a.ensures.number, c.in_ok-b.ensures.number, c.in_ok-c.ensures.number, c.in_ok-d.ensures.number)
+
+pub returns-clause-right : goal.returns-clause-right
+returns-clause-right g t c = λ q n h.
+    entry_keeps (λ i n. n ≡ population (g.S.Squares.content c.args.squares.now (record { 0 = i }))) _ _ c.args.id.0 _
+    (λ i. c.in-Ok.ensures.updates.0 (record { 0 = i })) (λ i n h. c.in_ok-d.ensures.right (record { 0 = i }) n h) (returns-clause-number g t c) q.0 n h

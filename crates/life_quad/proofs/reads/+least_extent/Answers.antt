@@ -32,4 +32,7 @@ returns-clause-least g t c =
 pub returns-clause-right : goal.returns-clause-right
 returns-clause-right g t c = λ q e h.
     entry_keeps (λ n e. IsExtentOf (IsNonzeroAt (g.S.Squares.content c.args.squares.now (record { 0 = n }))) (Some e)) _ _ c.args.id.0 c.in-Some-join_quarters.extent
-    c.in-Ok.ensures.updates.0 (λ n e h. c.in_ok-se.ensures.right (record { 0 = n }) e h) (returns-clause-least g t c) q.0 e h
+    (λ n. c.in-Ok.ensures.updates.0 (record { 0 = n })) (λ n e h. c.in_ok-se.ensures.right (record { 0 = n }) e h) (returns-clause-least g t c) q.0 e h
+
+pub returns-in-Some-clause-least : goal.returns-in-Some-clause-least
+returns-in-Some-clause-least g t c = c.requires.right c.args.id _ (sym c.in-Some.ensures.value)
