@@ -181,7 +181,7 @@ B3/S23 0 0,0 0,0,1,1|#\x00\xff;x = 1, y = 1;#\x80;o!\xff
 2 ZeroCount|x = 1, y = 1;0!
 2 ZeroCount|x = 1, y = 1;000000000000000000000000000000000000z
 2 TooLarge|x = 1, y = 1, rule = B3/S23;1152921504606846977b!
-2 TooLarge|x = 1, y = 1;1152921504606846977
+2 TooLarge|x = 1, y = 1;1152921504606846977$
 2 TooLarge|x = 1, y = 1;99999999999999999999999999999999999999!
 2 StateRange|x = 1, y = 1, rule = B3/S23;B!
 2 StateRange|x = 1, y = 1;Bz!
