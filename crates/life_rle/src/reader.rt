@@ -151,7 +151,7 @@ fn after_line(
     }
 }
 
-/// Takes the lines of a file one after another. It keeps the rule, the position and a place, and no text.
+/// Takes the lines of a file in extended RLE one after another. It keeps the rule, the position and a place, and no text.
 #[derive(Drop)]
 pub struct RleLines {
     alloc: Global,
@@ -223,8 +223,12 @@ impl RleLines {
         }
     }
 
-    /// Takes the next line, without its line feed, and answers its runs of nonzero state. After an error each later call answers
-    /// `Spent`. Behind the line that holds `!` each line is accepted, of any length.
+    /// Takes the next line, without its line feed, and answers its runs of nonzero state. Behind the line that holds `!` each line is
+    /// accepted, of any length.
+    ///
+    /// # Errors
+    ///
+    /// The kind of the first rule that the line breaks, or `Memory`. After an error each later call answers `Spent`.
     pub fn line(&mut self, line: &[u8]) -> Result<Vec<Run>, Kind>
         ensures lines { OnOk result (self.new ≡ record { lines = self.old.lines ++ line.now ∷ []; refused = false }) }
 
@@ -269,7 +273,11 @@ impl RleLines {
         }
     }
 
-    /// The rule and the generation of the file that the lines are; `NoHeader` where they lack one, and `Spent` after a refused line.
+    /// The rule and the generation of the file that the lines are.
+    ///
+    /// # Errors
+    ///
+    /// `NoHeader` where they lack one, and `Spent` after a refused line.
     pub fn end(self) -> Result<(Rule, u64), Kind>
         ensures file { IfOk result (λ found. (file : Rle) × IsRle MAX_LEVEL self.lines file × (found.0 ≡ file.rule) × (found.1 ≡ file.position.generation)) }
         ensures whole { self.refused ≡ false → IsSomeRle MAX_LEVEL self.lines → IsOk result }

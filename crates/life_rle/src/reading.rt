@@ -44,9 +44,13 @@ fn file_of(rule: Rule, position: Position, runs: Vec<Run>) -> RleFile
     }
 }
 
-/// What an RLE file says, or why the bytes are none: the place is the first line behind which they can't be continued to a
-/// file, or the number of lines plus 1 where they lack a header, and the kind is that of the first rule which that line breaks.
-/// Where a growth of memory is refused the fault is `Memory`, which names no line.
+/// What a file in extended RLE says (Golly Help, File Formats, "Extended RLE format"; its limits and its faults are this project's own).
+///
+/// # Errors
+///
+/// The place is the first line behind which the bytes can't be continued to a file, or the number of lines plus 1 where they lack a
+/// header, and the kind is that of the first rule which that line breaks. Where a growth of memory is refused the fault is `Memory`,
+/// which names no line.
 pub fn read_rle(alloc: Global, bytes: &[u8]) -> Result<RleFile, Fault>
     ensures file { IfOk result (λ value. (file : Rle) × IsRle MAX_LEVEL (lines_of bytes.now) file × Shows value file) }
     ensures fault { IfErr result (λ fault. OrMemory fault (Refuses MAX_LEVEL (lines_of bytes.now) fault)) }
