@@ -3,13 +3,14 @@
 
 usage: bench/run.py PROGRAM FOLDER    (PROGRAM: the built golly_canon; FOLDER: where inputs and plain programs are made)
 
-Each command runs three times and the best time counts; the memory is the peak resident size of the process. The programs of
-crates/bench_* are proved and built first.
+Each command runs three times and the best time counts. The memory is the peak resident size in one more run, which /usr/bin/time
+starts: what this script starts itself is said to be as large as this script. The programs of crates/bench_* are proved and built first.
 """
 import os
 import re
 import subprocess
 import sys
+import tempfile
 import time
 
 HERE = os.path.dirname(os.path.abspath(__file__))
@@ -17,10 +18,18 @@ TOP = os.path.dirname(HERE)
 TIMES = 3
 
 
+def peak_of(words, source):
+    """The peak memory of a command in bytes."""
+    with open(source, "rb") as given, tempfile.NamedTemporaryFile("r") as told:
+        subprocess.run(["/usr/bin/time", "-f", "%M", "-o", told.name, *words], stdin=given, stdout=subprocess.DEVNULL,
+                       stderr=subprocess.DEVNULL, check=True)
+        return int(told.read()) * 1024
+
+
 def timed(words, source=os.devnull):
     """The best time of a command in seconds, its peak memory in bytes, what its runs printed, and the least processor time, which other
     work on the machine changes less."""
-    best, peak, printed, least_spent = None, 0, [], None
+    best, printed, least_spent = None, [], None
     for _ in range(TIMES):
         with open(source, "rb") as given:
             start = time.monotonic()
@@ -34,24 +43,21 @@ def timed(words, source=os.devnull):
         spent = usage.ru_utime + usage.ru_stime
         least_spent = spent if least_spent is None else min(least_spent, spent)
         printed.append(text[:4096].decode("utf-8", "replace"))
-        peak = max(peak, usage.ru_maxrss * 1024)
-    return best, peak, printed, least_spent
+    return best, peak_of(words, source), printed, least_spent
 
 
 def written(words, source):
     """The same of a command whose output is thrown away, so that the time to take it does not count."""
-    best, peak = None, 0
+    best = None
     for _ in range(TIMES):
         with open(source, "rb") as given, open(os.devnull, "wb") as sink:
             start = time.monotonic()
-            child = subprocess.Popen(words, stdin=given, stdout=sink)
-            _, status, usage = os.wait4(child.pid, 0)
+            status = subprocess.call(words, stdin=given, stdout=sink)
             took = time.monotonic() - start
         if status != 0:
             sys.exit(f"{' '.join(words)} on {source}: status {status}")
         best = took if best is None else min(best, took)
-        peak = max(peak, usage.ru_maxrss * 1024)
-    return best, peak
+    return best, peak_of(words, source)
 
 
 def output(words, source):
