@@ -13,5 +13,9 @@ pub mod WritingLemmas
 pub mod RuleKinds
 pub mod RuleTexts
 pub mod RuleValues
+pub mod RuleForms
 pub mod WordEnds
 pub mod EmptyValues
+pub mod WholeLines
+pub mod Squares
+pub mod Results

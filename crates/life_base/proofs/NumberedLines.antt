@@ -4,6 +4,7 @@ use Rattle.std.specs.Prelude.{Option, Some}
 use Rattle.std.proofs.Math.Seq.{take-append_seam, get_or-append_seam}
 use Rattle.std.proofs.Math.ListN.{get_or-append}
 use Rattle.std.proofs.lemmas.List.{append-nil, take-append-le, map-append}
+use Rattle.life_base.specs.Lines.{AreNumbered}
 use Rattle.life_base.specs.Text.{numbered_from}
 use Rattle.life_base.specs.Refusal.{IsRefusal, BreaksBy}
 use Rattle.life_base.specs.declared.kind.Kind.{Kind}
@@ -51,6 +52,12 @@ all_read lines before rest e none =
 pub lines_around : (lines : List (List ℕ)) (before : List (ℕ × List ℕ)) (k : ℕ) (line : List ℕ) (rest : List (ℕ × List ℕ))
     → before ++ (k, line) ∷ rest ≡ numbered_from 1 lines → texts before ++ line ∷ texts rest ≡ lines
 lines_around lines before k line rest e = sym (map-append (λ (p : ℕ × List ℕ). p.1) before ((k, line) ∷ rest)) ∙ ap texts e ∙ numbered_texts lines 1
+
+pub lines_are_numbered : (lines : List (List ℕ)) → AreNumbered lines (numbered_from 1 lines)
+lines_are_numbered lines = record {
+  texts = numbered_texts lines 1;
+  numbers = λ before k line rest e. let n = number_at lines before 1 k line rest (omega arith) (sym e) in omega (arith, n);
+}
 
 -- Why a file is refused that is read line by line, for a grammar that says of each line whether it may stand where it stands.
 module _ (Grammar : List (List ℕ) → Type 0) (broken : List (List ℕ) → List ℕ → Option Kind) (missing : List (List ℕ) → Option Kind)

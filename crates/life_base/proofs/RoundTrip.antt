@@ -78,7 +78,7 @@ none_passes test (b ∷ xs) h =
     not-true true k = cc
     not-true false k = refl
 
-no_any : (test : ℕ → Bool) (xs : List ℕ) → list_all (λ b. not (test b)) xs ≡ true → list_any test xs ≡ false
+pub no_any : (test : ℕ → Bool) (xs : List ℕ) → list_all (λ b. not (test b)) xs ≡ true → list_any test xs ≡ false
 no_any test [] h = refl
 no_any test (b ∷ xs) h = ap (λ v. v || list_any test xs) (not-true (test b) (first _ _ h)) ∙ no_any test xs (second _ _ h)
   where
@@ -88,22 +88,22 @@ no_any test (b ∷ xs) h = ap (λ v. v || list_any test xs) (not-true (test b) (
 
 -- ---- the groups of digits and the marks
 
-abbrev is_mark : ℕ → Bool
+abbrev pub is_mark : ℕ → Bool
 is_mark b = not (is_count_digit b)
 
-split_at : (ds : List ℕ) (m : ℕ) (rest : List ℕ) → list_all is_count_digit ds ≡ true → is_mark m ≡ true → slice_split is_mark (ds ++ m ∷ rest) ≡ ds ∷ slice_split is_mark rest
+pub split_at : (ds : List ℕ) (m : ℕ) (rest : List ℕ) → list_all is_count_digit ds ≡ true → is_mark m ≡ true → slice_split is_mark (ds ++ m ∷ rest) ≡ ds ∷ slice_split is_mark rest
 split_at [] m rest h k = rw k refl
 split_at (d ∷ ds) m rest h k = let e : is_count_digit d ≡ true = first _ _ h in rw (e, split_at ds m rest (second (is_count_digit d) _ h) k) refl
 
-split_end : (ds : List ℕ) → list_all is_count_digit ds ≡ true → slice_split is_mark ds ≡ ds ∷ []
+pub split_end : (ds : List ℕ) → list_all is_count_digit ds ≡ true → slice_split is_mark ds ≡ ds ∷ []
 split_end [] h = refl
 split_end (d ∷ ds) h = let e : is_count_digit d ≡ true = first _ _ h in rw (e, split_end ds (second (is_count_digit d) _ h)) refl
 
-no_marks : (ds rest : List ℕ) → list_all is_count_digit ds ≡ true → filter is_mark (ds ++ rest) ≡ filter is_mark rest
+pub no_marks : (ds rest : List ℕ) → list_all is_count_digit ds ≡ true → filter is_mark (ds ++ rest) ≡ filter is_mark rest
 no_marks [] rest h = refl
 no_marks (d ∷ ds) rest h = let e : is_count_digit d ≡ true = first _ _ h in rw e (no_marks ds rest (second _ _ h))
 
-none_left : (ds : List ℕ) → list_all is_count_digit ds ≡ true → filter is_mark ds ≡ []
+pub none_left : (ds : List ℕ) → list_all is_count_digit ds ≡ true → filter is_mark ds ≡ []
 none_left [] h = refl
 none_left (d ∷ ds) h = let e : is_count_digit d ≡ true = first _ _ h in rw e (none_left ds (second _ _ h))
 

@@ -1,11 +1,14 @@
 -- Texts written one after another.
-use Rattle.std.proofs.Common.{◌≡◌, ℕ, ◌+◌, ◌<◌, List, ◌++◌, Option, length, take, drop, sym, ap, ◌∙◌, subst, arith, get_or, suc, drop-cons}
+use Rattle.std.proofs.Common.{◌≡◌, ℕ, ◌+◌, ◌<◌, List, ◌++◌, Bool, true, false, Option, length, take, drop, sym, ap, ◌∙◌, subst, arith, get_or, suc, drop-cons, refl}
+use Rattle.std.specs.Prelude.{◌==◌, ◌&&◌, ◌||◌, not}
 use Rattle.std.specs.List.{flat_map}
 use Rattle.std.specs.Io.KnownBytes.{Appends}
 use Rattle.std.proofs.KnownBytes.{Appends-trans}
 use Rattle.std.proofs.lemmas.Grind.{flat_map-append}
 use Rattle.std.proofs.lemmas.List.{take-append-drop, take-append-le, length-append}
 use Rattle.std.proofs.Math.Seq.{take-append-add}
+use Rattle.std.proofs.lemmas.Bool.Decides.{nat_tests}
+use Rattle.life_base.specs.Text.{is_empty}
 use Rattle.life_base.specs.Writing.{WritesPrefix}
 
 -- a prefix of a front is one of the whole
@@ -29,3 +32,11 @@ pub flat_map-split : {X : Type 0} (f : X → List ℕ) (xs : List X) (i : ℕ) (
     → flat_map f xs ≡ flat_map f (take i xs) ++ (f (get_or xs i d) ++ flat_map f (drop (suc i) xs))
 flat_map-split f xs i d lt = ap (flat_map f) (sym (take-append-drop i xs)) ∙ flat_map-append f (take i xs) (drop i xs)
     ∙ ap (λ l. flat_map f (take i xs) ++ flat_map f l) (drop-cons xs i d lt)
+
+by_test : (old v w : Bool) → v ≡ false → (old || (v && w)) ≡ old
+by_test true v w h = refl
+by_test false v w h = ap (λ u. u && w) h
+
+-- a write that takes a byte does not stall
+pub unstalled : (old : Bool) (count : ℕ) (bytes : List ℕ) → (count ≡ 0 → ⊥) → (old || (count == 0 && not (is_empty bytes))) ≡ old
+unstalled old count bytes h = let e : (count == 0) ≡ false = grind (arith, nat_tests) in by_test old (count == 0) (not (is_empty bytes)) e

@@ -3,6 +3,7 @@ pub mod Kinds
 pub mod Numbers
 pub mod Sets
 pub mod Rules
+pub mod RuleForms
 pub mod Refusal
 pub mod Tree
 pub mod Devices
@@ -10,3 +11,5 @@ pub mod DeviceState
 pub mod Inputs
 pub mod Writing
 pub mod Words
+pub mod Lines
+pub mod DeviceRuns

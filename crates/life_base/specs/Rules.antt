@@ -150,3 +150,7 @@ is_rule_kind _ = false
 -- a text that is no rule is refused with one of these
 abbrev pub RuleTextsRefused : Type 0
 RuleTextsRefused = (text : List ℕ) (kind : Kind) → rule_of text ≡ Err kind → is_rule_kind kind ≡ true
+
+-- what an accepted rule text says is a rule
+abbrev pub RuleTextsSayRules : Type 0
+RuleTextsSayRules = (text : List ℕ) (rule : Rule) → rule_of text ≡ Ok rule → IsRule rule

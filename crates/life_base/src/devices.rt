@@ -1,9 +1,9 @@
 //! Devices: what bytes are read from and written to.
-ghost use Rattle.std.specs.Prelude.{◌≡◌, ℕ, ◌<◌, ◌≤◌, ◌↔◌, List, Option, None, IsTrue, Bool, true, false, IfOk, OnOk, length};
+ghost use Rattle.std.specs.Prelude.{◌≡◌, ℕ, ◌≤◌, ◌↔◌, ◌||◌, List, Option, None, IsTrue, Bool, true, false, OnOk};
 ghost use Rattle.std.specs.Io.{ReadsAtMost, WritesAtMost};
 ghost use Rattle.std.specs.Io.KnownBytes.{ReadConsumes, WriteAppends, Keeps};
 ghost use Rattle.std.proofs.Common.{rules};
-ghost use Rattle.life_base.specs.Devices.{CountsFailure, count_of};
+ghost use Rattle.life_base.specs.Devices.{CountsFailure, count_of, takes_none};
 
 use crate::kind::Kind;
 use std::io::{Read, Write};
@@ -39,7 +39,7 @@ pub trait Sink {
     // The bytes that were written, where the sink tells them.
     ghost contents: { Self → Option (List ℕ) } = { λ _. None };
 
-    // Whether a write took none of the bytes that it was given.
+    // Whether a write took none of the bytes that it was given. Nothing else sets it, and nothing takes it back.
     ghost stalled: { Self → Bool };
 
     // Whether the last call was a flush that didn't fail.
@@ -55,13 +55,14 @@ pub trait Sink {
         ensures count { WritesAtMost result buf.now }
         ensures failure { CountsFailure (failures self.old) (failures self.new) result Kind.WriteFault }
         ensures bytes { WriteAppends (contents self.old) (contents self.new) result buf.now }
-        ensures none { IfOk result (λ n. n ≡ 0 → 0 < length buf.now → stalled self.new ≡ true) };
+        ensures stalled { stalled self.new ≡ (stalled self.old || takes_none result buf.now) };
 
     /// Hands on what was written, as far as the sink still holds it. A failure of any cause is `WriteFault`.
     fn flush(&mut self) -> Result<(), Kind>
         requires { failures self.old ≡ 0 }
         ensures failure { CountsFailure (failures self.old) (failures self.new) result Kind.WriteFault }
         ensures bytes { Keeps (contents self.old) (contents self.new) }
+        ensures stalled { stalled self.new ≡ stalled self.old }
         ensures flushed { OnOk result (flushed self.new ≡ true) };
 
     ghost at_most_one: { (s : Self) → failures s ≤ 1 };
@@ -80,7 +81,7 @@ pub struct Device<T> {
 impl<T> Device<T> {
     ghost use Rattle.life_base.specs.DeviceState.{device_inner, IsFresh};
 
-    /// A device over `inner` that has not failed.
+    /// A device over `inner` that has not failed, stalled or flushed.
     pub fn new(inner: T) -> Device<T>
         ensures inner { device_inner result ≡ inner }
         ensures fresh { IsFresh result }
@@ -117,8 +118,8 @@ impl<R: Read> Source for Device<R> {
 }
 
 impl<W: Write> Sink for Device<W> {
-    ghost use Rattle.std.specs.Prelude.{◌||◌, is_ok};
-    ghost use Rattle.life_base.specs.DeviceState.{device_inner, has_failed, has_stalled, is_flushed, takes_none};
+    ghost use Rattle.std.specs.Prelude.{is_ok};
+    ghost use Rattle.life_base.specs.DeviceState.{device_inner, has_failed, has_stalled, is_flushed};
 
     ghost failures = { λ d. count_of d.failed };
 

@@ -61,3 +61,15 @@ impl Fault {
         }
     }
 }
+
+impl From<Kind> for Fault {
+    ghost use Rattle.std.specs.Prelude.{◌≡◌};
+    ghost use Rattle.life_base.specs.Refusal.{fault_of};
+
+    ghost from_gives = { λ kind fault. fault ≡ fault_of kind };
+
+    /// The fault that names no line.
+    fn from(kind: Kind) -> Fault {
+        Self::of(kind)
+    }
+}

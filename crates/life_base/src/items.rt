@@ -60,9 +60,7 @@ impl<T: Drop> Items<T> {
         ensures err { OnErr result (self.new ≡ self.old) }
         ensures kind { IfErr result (λ kind. kind ≡ Kind.Memory) }
     {
-        match self.items.push(item) {
-            Ok(()) => Ok(()),
-            Err(_) => Err(Kind::Memory),
-        }
+        self.items.push(item)?;
+        Ok(())
     }
 }

@@ -1,6 +1,9 @@
 //! The kinds of fault, with their numbers and names.
 
 ghost use Rattle.std.specs.Prelude.{◌≡◌};
+ghost use Rattle.life_base.specs.declared.kind.Kind.TheVariants.{Memory};
+
+use std::alloc::{AllocError, AllocFailed};
 
 /// Why something was refused. `number` and `name` tell the kind outside the program.
 #[derive(Clone, Copy, Debug, PartialEq, Eq)]
@@ -189,5 +192,23 @@ impl Kind {
             Kind::WriteFault => "WriteFault",
             Kind::InputTooLong => "InputTooLong",
         }
+    }
+}
+
+impl From<AllocError> for Kind {
+    ghost from_gives = { λ _ kind. kind ≡ Memory };
+
+    /// `Memory`.
+    fn from(_refused: AllocError) -> Kind {
+        Kind::Memory
+    }
+}
+
+impl<T: Drop> From<AllocFailed<T>> for Kind {
+    ghost from_gives = { λ _ kind. kind ≡ Memory };
+
+    /// `Memory`; the value that found no room is dropped.
+    fn from(_refused: AllocFailed<T>) -> Kind {
+        Kind::Memory
     }
 }

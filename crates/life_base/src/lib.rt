@@ -9,24 +9,24 @@ mod fault;
 mod items;
 mod kind;
 pub mod laws;
+mod line;
 mod line_iterator;
 mod line_log;
 mod reading;
 mod rule;
 mod rule_reading;
 mod rule_text;
-#[cfg(test)]
-mod tests;
 mod text;
 mod words;
 mod writing;
 
-pub use appending::{append, append_number};
+pub use appending::{append, append_number, append_signed, append_u128};
 pub use cell::{Cell, MAX_LEVEL, State};
 pub use devices::{Device, Sink, Source};
 pub use fault::{Fault, Place, StepFault};
 pub use items::Items;
 pub use kind::Kind;
+pub use line::{LONGEST_LINE, is_too_long, line_end, line_fits};
 pub use line_iterator::Lines;
 pub use line_log::LineLog;
 pub use reading::read_within;

@@ -29,9 +29,7 @@ pub fn read_within<R: Source>(alloc: Global, reader: &mut R, most: u64) -> Resul
         if count == 0 {
             return Ok(bytes);
         }
-        if bytes.extend_from_slice(&piece[..count]).is_err() {
-            return Err(Kind::Memory);
-        }
+        bytes.extend_from_slice(&piece[..count])?;
         if bytes.len() as u64 > most {
             return Err(Kind::InputTooLong);
         }

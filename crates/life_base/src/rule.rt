@@ -78,10 +78,8 @@ impl Name {
         ensures ok { IfOk result (λ name. name ≡ self.now) }
         ensures err { IfErr result (λ kind. kind ≡ Kind.Memory) }
     {
-        match Vec::from_slice(alloc, &self.text) {
-            Ok(text) => Ok(Name { text }),
-            Err(_) => Err(Kind::Memory),
-        }
+        let text = Vec::from_slice(alloc, &self.text)?;
+        Ok(Name { text })
     }
 
     /// The bytes of the name, which are its canonical text.

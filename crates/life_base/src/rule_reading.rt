@@ -118,12 +118,8 @@ fn life_sets(alloc: Global, text: &[u8]) -> Result<Option<(u16, u16)>, Kind>
     ensures bounds { IfOk result (λ found. IfSome found (λ p. (p.0 < 512) × (p.1 < 512))) }
     ensures err { IfErr result (λ kind. kind ≡ Memory) }
 {
-    let Ok(groups) = digit_groups(alloc, text) else {
-        return Err(Kind::Memory);
-    };
-    let Ok(marks) = marks(alloc, text) else {
-        return Err(Kind::Memory);
-    };
+    let groups = digit_groups(alloc, text)?;
+    let marks = marks(alloc, text)?;
     Ok(life_form(&groups, &marks))
 }
 
@@ -177,10 +173,8 @@ fn other_rule(alloc: Global, text: &[u8]) -> Result<Rule, Kind>
     if text.contains(&b'/') {
         return Err(Kind::UnsupportedRule);
     }
-    match Vec::from_slice(alloc, text) {
-        Ok(text) => Ok(Rule::Named(Name { text })),
-        Err(_) => Err(Kind::Memory),
-    }
+    let text = Vec::from_slice(alloc, text)?;
+    Ok(Rule::Named(Name { text }))
 }
 
 /// The rule of a text without whitespace at its ends.

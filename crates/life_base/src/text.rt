@@ -100,11 +100,11 @@ pub fn read_u64(text: &[u8]) -> Result<u64, Kind>
 fn read_up_to(text: &[u8], most: u64) -> Result<u64, Kind>
     ensures { result ≡ number_up_to most text.now }
 {
-    match read_u64(text) {
-        Ok(number) if number <= most => Ok(number),
-        Ok(_) => Err(Kind::TooLarge),
-        Err(kind) => Err(kind),
+    let number = read_u64(text)?;
+    if number > most {
+        return Err(Kind::TooLarge);
     }
+    Ok(number)
 }
 
 /// The number below 0 of this size.
@@ -124,14 +124,8 @@ pub fn read_i64(text: &[u8]) -> Result<i64, Kind>
     ensures { result ≡ i64_of text.now }
 {
     match text {
-        [b'-', digits @ ..] => match read_up_to(digits, 1 << 63) {
-            Ok(size) => Ok(negated(size)),
-            Err(kind) => Err(kind),
-        },
-        _ => match read_up_to(text, (1 << 63) - 1) {
-            Ok(number) => Ok(number as i64),
-            Err(kind) => Err(kind),
-        },
+        [b'-', digits @ ..] => Ok(negated(read_up_to(digits, 1 << 63)?)),
+        _ => Ok(read_up_to(text, (1 << 63) - 1)? as i64),
     }
 }
 

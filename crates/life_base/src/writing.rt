@@ -6,13 +6,16 @@ ghost use Rattle.life_base.specs.Writing.{WritesText};
 use crate::devices::Sink;
 use crate::kind::Kind;
 
-/// Writes the whole text. `WriteFault` is the only refusal: the sink failed, or took no bytes. A front of the text was written then.
+/// Writes the whole text. `WriteFault` is the only refusal: the sink failed, or else it took no bytes and stalls from then on.
+/// A front of the text was written then.
 pub fn write_text<W: Sink>(writer: &mut W, text: &[u8]) -> Result<(), Kind>
     requires { W.failures writer.old ≡ 0 }
     ensures text { WritesText (W.contents writer.old) (W.contents writer.new) text.now result }
     ensures works { OnOk result (W.failures writer.new ≡ 0) }
     ensures kind { IfErr result (λ k. k ≡ Kind.WriteFault) }
     ensures cause { OnErr result ((W.failures writer.new ≡ 1) ⊎ (W.stalled writer.new ≡ true)) }
+    ensures stalled { OnOk result (W.stalled writer.new ≡ W.stalled writer.old) }
+    ensures failed { W.failures writer.new ≡ 1 → W.stalled writer.new ≡ W.stalled writer.old }
 {
     let mut at = 0;
     while at < text.len() {
@@ -32,11 +35,11 @@ pub fn write_texts<W: Sink>(writer: &mut W, texts: &[&[u8]]) -> Result<(), Kind>
     ensures works { OnOk result (W.failures writer.new ≡ 0) }
     ensures kind { IfErr result (λ k. k ≡ Kind.WriteFault) }
     ensures cause { OnErr result ((W.failures writer.new ≡ 1) ⊎ (W.stalled writer.new ≡ true)) }
+    ensures stalled { OnOk result (W.stalled writer.new ≡ W.stalled writer.old) }
+    ensures failed { W.failures writer.new ≡ 1 → W.stalled writer.new ≡ W.stalled writer.old }
 {
     for text in texts {
-        if let Err(kind) = write_text(writer, text) {
-            return Err(kind);
-        }
+        write_text(writer, text)?;
     }
     Ok(())
 }
@@ -49,6 +52,8 @@ pub fn deliver<W: Sink>(writer: &mut W, text: &[u8]) -> Result<(), Kind>
     ensures flushed { OnOk result (W.flushed writer.new ≡ true) }
     ensures kind { IfErr result (λ k. k ≡ Kind.WriteFault) }
     ensures cause { OnErr result ((W.failures writer.new ≡ 1) ⊎ (W.stalled writer.new ≡ true)) }
+    ensures stalled { OnOk result (W.stalled writer.new ≡ W.stalled writer.old) }
+    ensures failed { W.failures writer.new ≡ 1 → W.stalled writer.new ≡ W.stalled writer.old }
 {
     write_text(writer, text)?;
     writer.flush()

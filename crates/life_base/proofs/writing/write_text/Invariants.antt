@@ -6,6 +6,7 @@ abbrev pub invariant-loop-at : goal.invariant-loop-at
 invariant-loop-at g l = record {
   within : l.at ≤ length l.text;
   works : g.W.Sink.failures l.writer ≡ 0;
+  stalled : g.W.Sink.stalled l.writer ≡ g.W.Sink.stalled l.initial.writer;
   written : Appends (g.W.Sink.contents l.initial.writer) (g.W.Sink.contents l.writer) (take l.at l.text);
 }
 

@@ -1,7 +1,8 @@
 //! Rules, read from texts and written to them.
 
-use crate::{Kind, LifeRule, Rule, append, trimmed};
+use life_base::{Kind, LifeRule, Rule, append, trimmed};
 use std::alloc::Global;
+use std::process::Abort;
 use std::test::Fail;
 
 /// On each line an answer, `|` and a rule text. The answer is `Life` and the canonical text of a B/S rule, `Name` of a text that is
@@ -133,42 +134,48 @@ BoundedGrid|a/b:
 BoundedGrid|B3/S23V:
 ";
 
-/// What a rule text is answered, as a row says it.
-fn answer_to(alloc: Global, text: &[u8]) -> Result<Vec<u8>, Kind> {
-    let mut answer = Vec::new(alloc);
-    match Rule::parse(alloc, text) {
-        Ok(rule) => match rule {
-            Rule::Life(_) => {
-                append(&mut answer, b"Life ")?;
-                rule.write(&mut answer)?;
-            }
-            Rule::Named(ref name) => {
-                append(&mut answer, b"Name")?;
-                let mut written = Vec::new(alloc);
-                rule.write(&mut written)?;
-                if name.bytes() != trimmed(text) || written.as_slice() != trimmed(text) {
-                    append(&mut answer, b" other bytes")?;
-                }
-            }
-        },
-        Err(kind) => append(&mut answer, kind.name().as_bytes())?,
+/// A rule of this text is what a row says, and written so: a B/S rule by its canonical text, a name by the text itself.
+fn assert_rule(rt: &impl Abort, alloc: Global, rule: &Rule, text: &[u8], wanted: &[u8]) {
+    let mut written = Vec::new(alloc);
+    rule.write(&mut written).expect(rt, "memory");
+    match rule {
+        Rule::Life(_) => {
+            let canonical = wanted.strip_prefix(b"Life ").expect(rt, "a B/S rule");
+            assert!(rt; written.as_slice() == canonical);
+        }
+        Rule::Named(name) => {
+            assert!(rt;
+                wanted == b"Name".as_slice() && name.bytes() == text && written.as_slice() == text
+            );
+        }
     }
-    Ok(answer)
+}
+
+/// A rule text is answered so, as a row says it.
+fn assert_answer(rt: &impl Abort, alloc: Global, text: &[u8], wanted: &[u8]) {
+    match Rule::parse(alloc, text) {
+        Ok(rule) => assert_rule(rt, alloc, &rule, trimmed(text), wanted),
+        Err(kind) => assert!(rt; kind.name().as_bytes() == wanted, "{text:?}"),
+    }
+}
+
+/// A row holds a text behind its first `|`, and in front of it the answer.
+fn assert_row(rt: &impl Abort, alloc: Global, row: &[u8]) {
+    let bar = row
+        .iter()
+        .position(|byte| *byte == b'|')
+        .expect(rt, "a bar");
+    assert_answer(rt, alloc, &row[bar + 1..], &row[..bar]);
 }
 
 #[test]
-fn rule_texts_say_their_rules(rt: HostRuntime) -> Result<(), Fail> {
+fn rule_texts_say_their_rules(rt: HostRuntime) {
     let mut count = 0u64;
-    for (number, row) in crate::lines(ROWS) {
-        let Some(bar) = row.iter().position(|byte| *byte == b'|') else {
-            panic!(rt; "row {number} has no bar");
-        };
-        let got = answer_to(rt.alloc(), &row[bar + 1..])?;
-        assert_eq!(rt; got.as_slice(), &row[..bar], "row {number}");
+    for (number, row) in life_base::lines(ROWS) {
+        assert_row(&rt, rt.alloc(), row);
         count = number;
     }
     assert_eq!(rt; count, 124);
-    Ok(())
 }
 
 /// What the steps say of `x`, a byte and `y`.
@@ -182,54 +189,67 @@ fn answer_around(byte: u8) -> &'static [u8] {
 }
 
 #[test]
-fn each_byte_is_judged(rt: HostRuntime) -> Result<(), Fail> {
+fn each_byte_is_judged(rt: HostRuntime) {
     for byte in 0..=255u8 {
-        let got = answer_to(rt.alloc(), &[b'x', byte, b'y'])?;
-        assert_eq!(rt; got.as_slice(), answer_around(byte), "byte {byte}");
+        let text = [b'x', byte, b'y'];
+        assert_answer(&rt, rt.alloc(), &text, answer_around(byte));
     }
-    Ok(())
 }
 
 #[test]
-fn a_colon_anywhere_is_a_bounded_grid(rt: HostRuntime) -> Result<(), Fail> {
-    let text: &[u8] = b"B3/S23";
-    for at in 0..=6usize {
-        let mut bounded = Vec::new(rt.alloc());
-        append(&mut bounded, &text[..at])?;
-        append(&mut bounded, b":")?;
-        append(&mut bounded, &text[at..])?;
-        let got = answer_to(rt.alloc(), &bounded)?;
-        assert_eq!(rt; got.as_slice(), b"BoundedGrid".as_slice(), "at {at}");
+fn a_colon_anywhere_is_a_bounded_grid(rt: HostRuntime) {
+    for text in &[
+        ":B3/S23", "B:3/S23", "B3:/S23", "B3/:S23", "B3/S:23", "B3/S2:3", "B3/S23:",
+    ] {
+        assert_answer(&rt, rt.alloc(), text.as_bytes(), b"BoundedGrid");
     }
+}
+
+/// A text of 255 bytes, which goes on with one byte behind its front, is answered so, and whitespace behind it changes nothing; a
+/// byte more is too much.
+fn assert_longest(
+    rt: &impl Abort,
+    alloc: Global,
+    front: &str,
+    byte: u8,
+    answer: &str,
+) -> Result<(), Kind> {
+    let mut text = Vec::from_slice(alloc, front.as_bytes())?;
+    text.resize(255, byte)?;
+    assert_answer(rt, alloc, &text, answer.as_bytes());
+    text.push(b' ')?;
+    assert_answer(rt, alloc, &text, answer.as_bytes());
+    text.push(byte)?;
+    assert_answer(rt, alloc, &text, b"BadRule");
     Ok(())
 }
 
 #[test]
 fn a_rule_text_has_at_most_255_bytes(rt: HostRuntime) -> Result<(), Fail> {
-    for (front, answer) in [
-        ("B3/S23", "Life B3/S23"),
-        ("Life", "Name"),
-        ("B3/S23V", "UnsupportedRule"),
+    for &(front, byte, answer) in &[
+        ("B3/S23", b'3', "Life B3/S23"),
+        ("Life", b'e', "Name"),
+        ("B3/S23V", b'3', "UnsupportedRule"),
     ] {
-        let mut text = Vec::new(rt.alloc());
-        append(&mut text, front.as_bytes())?;
-        let byte = if answer == "Name" { b'e' } else { b'3' };
-        text.resize(255, byte)?;
-        let got = answer_to(rt.alloc(), &text)?;
-        assert_eq!(rt; got.as_slice(), answer.as_bytes());
-        text.push(b' ')?;
-        let got = answer_to(rt.alloc(), &text)?;
-        assert_eq!(rt; got.as_slice(), answer.as_bytes());
-        text.push(byte)?;
-        let got = answer_to(rt.alloc(), &text)?;
-        assert_eq!(rt; got.as_slice(), b"BadRule".as_slice());
+        assert_longest(&rt, rt.alloc(), front, byte, answer)?;
     }
     Ok(())
 }
 
+/// Two texts say one rule or two, and a copy of the first is the first.
+fn assert_same(rt: &impl Abort, alloc: Global, left: &str, right: &str, want: bool) {
+    let one = Rule::parse(alloc, left.as_bytes()).expect(rt, "a rule");
+    let other = Rule::parse(alloc, right.as_bytes()).expect(rt, "a rule");
+    let copy = one.copy(alloc).expect(rt, "memory");
+    assert!(rt;
+        one.same(&other) == want && one.same(&copy),
+        "{left} and {right}"
+    );
+}
+
 #[test]
-fn rules_are_compared_as_values(rt: HostRuntime) -> Result<(), Fail> {
-    let rows = [
+fn rules_are_compared_as_values(rt: HostRuntime) {
+    for &(left, right, want) in &[
         ("23/3", "b3s23", true),
         ("23/3", "B3/S2", false),
         ("23/3", "B/S23", false),
@@ -238,14 +258,9 @@ fn rules_are_compared_as_values(rt: HostRuntime) -> Result<(), Fail> {
         ("Foo", "Foo", true),
         ("Foo", "foo", false),
         ("Foo", "Food", false),
-    ];
-    for (left, right, want) in rows {
-        let one = Rule::parse(rt.alloc(), left.as_bytes())?;
-        let other = Rule::parse(rt.alloc(), right.as_bytes())?;
-        assert_eq!(rt; one.same(&other), want, "{left} and {right}");
-        assert!(rt; one.same(&one.copy(rt.alloc())?));
+    ] {
+        assert_same(&rt, rt.alloc(), left, right, want);
     }
-    Ok(())
 }
 
 #[test]

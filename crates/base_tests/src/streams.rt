@@ -1,0 +1,279 @@
+//! Devices over readers and writers of `std`, and what is read and written through them.
+
+ghost use Rattle.std.specs.Prelude.{◌≤◌, ◌^◌};
+
+use life_base::{Device, Kind, Sink, Source, deliver, read_within, write_text, write_texts};
+use std::alloc::Global;
+use std::io::{self, Read, Write};
+use std::process::Abort;
+use std::test::Fail;
+
+/// Counts its calls. Each moves a byte, or fails.
+#[derive(Drop)]
+struct Counting<'a> {
+    calls: &'a mut u64,
+    fails: bool,
+}
+
+impl<'a> Counting<'a> {
+    fn call(&mut self) -> io::Result<()> {
+        *self.calls = self.calls.saturating_add(1);
+        if self.fails {
+            return Err(io::ErrorKind::Interrupted.into());
+        }
+        Ok(())
+    }
+}
+
+impl<'a> Read for Counting<'a> {
+    fn read(&mut self, buf: &mut [u8]) -> io::Result<usize> {
+        self.call()?;
+        if buf.is_empty() {
+            return Ok(0);
+        }
+        buf[0] = b'x';
+        Ok(1)
+    }
+}
+
+impl<'a> Write for Counting<'a> {
+    fn write(&mut self, buf: &[u8]) -> io::Result<usize> {
+        self.call()?;
+        Ok(buf.len().min(1))
+    }
+
+    fn flush(&mut self) -> io::Result<()> {
+        self.call()
+    }
+}
+
+/// Gives a byte a call, and fails once `good` calls are made.
+#[derive(Drop)]
+struct Dripping {
+    left: &'static [u8],
+    good: u64,
+}
+
+impl Read for Dripping {
+    fn read(&mut self, buf: &mut [u8]) -> io::Result<usize> {
+        if self.good == 0 {
+            return Err(io::ErrorKind::Interrupted.into());
+        }
+        self.good -= 1;
+        if self.left.is_empty() || buf.is_empty() {
+            return Ok(0);
+        }
+        buf[0] = self.left[0];
+        self.left = &self.left[1..];
+        Ok(1)
+    }
+}
+
+/// Takes up to three bytes a call while there is room, then takes none or fails.
+#[derive(Drop)]
+struct Narrow<'a> {
+    taken: &'a mut Vec<u8>,
+    room: usize,
+    fails: bool,
+    flush_fails: bool,
+}
+
+impl<'a> Write for Narrow<'a> {
+    fn write(&mut self, buf: &[u8]) -> io::Result<usize> {
+        if self.room == 0 && self.fails {
+            return Err(io::ErrorKind::BrokenPipe.into());
+        }
+        let count = buf.len().min(self.room).min(3);
+        self.taken.extend_from_slice(&buf[..count])?;
+        self.room -= count;
+        Ok(count)
+    }
+
+    fn flush(&mut self) -> io::Result<()> {
+        if self.flush_fails {
+            return Err(io::ErrorKind::BrokenPipe.into());
+        }
+        Ok(())
+    }
+}
+
+/// One read of a device is one of the reader inside, which fails or not.
+fn assert_one_read(rt: &impl Abort, fails: bool, wanted: Result<usize, Kind>) {
+    let mut calls = 0;
+    let calls_inside = &mut calls;
+    let mut reader = Device::new(Counting {
+        calls: calls_inside,
+        fails,
+    });
+    let mut piece = [0u8; 2];
+    let got = reader.read(&mut piece);
+    assert!(rt; got == wanted && Source::failed(&reader) == fails);
+    drop(reader);
+    assert!(rt; calls == 1 && (piece[0] == b'x') == wanted.is_ok());
+}
+
+/// One write to a device is one to the writer inside, which fails or not.
+fn assert_one_write(rt: &impl Abort, fails: bool, wanted: Result<usize, Kind>) {
+    let mut calls = 0;
+    let calls_inside = &mut calls;
+    let mut writer = Device::new(Counting {
+        calls: calls_inside,
+        fails,
+    });
+    let got = writer.write(b"ab");
+    assert!(rt; got == wanted && Sink::failed(&writer) == fails);
+    drop(writer);
+    assert!(rt; calls == 1);
+}
+
+/// One flush of a device is one of the writer inside, which fails or not.
+fn assert_one_flush(rt: &impl Abort, fails: bool, wanted: Result<(), Kind>) {
+    let mut calls = 0;
+    let calls_inside = &mut calls;
+    let mut writer = Device::new(Counting {
+        calls: calls_inside,
+        fails,
+    });
+    let got = writer.flush();
+    assert!(rt; got == wanted && Sink::failed(&writer) == fails);
+    drop(writer);
+    assert!(rt; calls == 1);
+}
+
+#[test]
+fn each_call_reaches_what_is_inside(rt: HostRuntime) {
+    assert_one_read(&rt, false, Ok(1));
+    assert_one_write(&rt, false, Ok(1));
+    assert_one_flush(&rt, false, Ok(()));
+}
+
+#[test]
+fn each_failure_inside_is_told(rt: HostRuntime) {
+    assert_one_read(&rt, true, Err(Kind::ReadFault));
+    assert_one_write(&rt, true, Err(Kind::WriteFault));
+    assert_one_flush(&rt, true, Err(Kind::WriteFault));
+}
+
+/// An input is read to its end, or refused above so many bytes.
+fn assert_read(rt: &impl Abort, alloc: Global, input: &[u8], most: u64, wanted: Result<&[u8], Kind>)
+    requires { most ≤ 2 ^ 30 }
+{
+    let mut reader = Device::new(input);
+    let got = read_within(alloc, &mut reader, most);
+    match got {
+        Ok(bytes) => assert!(rt; wanted == Ok(bytes.as_slice())),
+        Err(kind) => assert!(rt; wanted == Err(kind)),
+    }
+    assert!(rt; !Source::failed(&reader));
+}
+
+#[test]
+fn input_is_read_to_its_end_or_its_bound(rt: HostRuntime) {
+    let alloc = rt.alloc();
+    assert_read(&rt, alloc, b"", 0, Ok(b""));
+    assert_read(&rt, alloc, b"a", 0, Err(Kind::InputTooLong));
+    assert_read(&rt, alloc, b"abc", 3, Ok(b"abc"));
+    assert_read(&rt, alloc, b"abc", 2, Err(Kind::InputTooLong));
+    assert_read(&rt, alloc, b"abc", 1 << 20, Ok(b"abc"));
+}
+
+#[test]
+fn long_input_is_read_in_pieces(rt: HostRuntime) -> Result<(), Fail> {
+    let mut long = Vec::new(rt.alloc());
+    long.resize(200_000, b'x')?;
+    assert_read(&rt, rt.alloc(), &long, 200_000, Ok(&long));
+    assert_read(&rt, rt.alloc(), &long, 199_999, Err(Kind::InputTooLong));
+    Ok(())
+}
+
+/// A reader of four bytes that fails after some good calls is read so, within a bound.
+fn assert_dripped(rt: &impl Abort, alloc: Global, good: u64, most: u64, wanted: Result<&[u8], Kind>)
+    requires { most ≤ 2 ^ 30 }
+{
+    let mut reader = Device::new(Dripping {
+        left: b"abcd",
+        good,
+    });
+    let got = read_within(alloc, &mut reader, most);
+    match got {
+        Ok(bytes) => assert!(rt; wanted == Ok(bytes.as_slice())),
+        Err(kind) => assert!(rt; wanted == Err(kind)),
+    }
+    let fails = wanted == Err(Kind::ReadFault);
+    assert!(rt; Source::failed(&reader) == fails, "after {good}");
+}
+
+#[test]
+fn a_failed_read_is_no_end(rt: HostRuntime) {
+    for good in 0..5u64 {
+        assert_dripped(&rt, rt.alloc(), good, 4, Err(Kind::ReadFault));
+    }
+    assert_dripped(&rt, rt.alloc(), 5, 4, Ok(b"abcd"));
+    assert_dripped(&rt, rt.alloc(), 3, 2, Err(Kind::InputTooLong));
+}
+
+#[test]
+fn texts_are_written_one_after_another(rt: HostRuntime) -> Result<(), Fail> {
+    let mut taken = Vec::with_capacity(rt.alloc(), 8)?;
+    let mut writer = Device::new(&mut taken);
+    write_text(&mut writer, b"ab")?;
+    write_texts(&mut writer, &[b"cd", b"", b"efg"])?;
+    deliver(&mut writer, b"h")?;
+    assert!(rt; !Sink::failed(&writer));
+    drop(writer);
+    assert_eq!(rt; taken.as_slice(), b"abcdefgh".as_slice());
+    Ok(())
+}
+
+/// Of `abcdefgh`, in two texts, a writer has the bytes that it had room for: it takes no more, or fails.
+fn assert_front(
+    rt: &impl Abort,
+    taken: &mut Vec<u8>,
+    room: usize,
+    fails: bool,
+    wanted: Result<(), Kind>,
+) {
+    let mut writer = Device::new(Narrow {
+        taken,
+        room,
+        fails,
+        flush_fails: false,
+    });
+    let got = write_texts(&mut writer, &[b"abcde", b"fgh"]);
+    let failed = fails && wanted.is_err();
+    assert!(rt;
+        got == wanted && Sink::failed(&writer) == failed,
+        "with room for {room}"
+    );
+}
+
+#[test]
+fn a_writer_that_stops_has_the_front_of_the_text(rt: HostRuntime) -> Result<(), Fail> {
+    for fails in [false, true] {
+        for room in 0..=7usize {
+            let mut taken = Vec::with_capacity(rt.alloc(), 8)?;
+            assert_front(&rt, &mut taken, room, fails, Err(Kind::WriteFault));
+            assert_eq!(rt; taken.as_slice(), &b"abcdefgh"[..room]);
+        }
+        let mut taken = Vec::with_capacity(rt.alloc(), 8)?;
+        assert_front(&rt, &mut taken, 8, fails, Ok(()));
+        assert_eq!(rt; taken.as_slice(), b"abcdefgh".as_slice());
+    }
+    Ok(())
+}
+
+#[test]
+fn a_flush_that_fails_is_told(rt: HostRuntime) -> Result<(), Fail> {
+    let mut taken = Vec::with_capacity(rt.alloc(), 8)?;
+    let mut writer = Device::new(Narrow {
+        taken: &mut taken,
+        room: 9,
+        fails: false,
+        flush_fails: true,
+    });
+    assert_eq!(rt; deliver(&mut writer, b"abc"), Err(Kind::WriteFault));
+    assert!(rt; Sink::failed(&writer));
+    drop(writer);
+    assert_eq!(rt; taken.as_slice(), b"abc".as_slice());
+    Ok(())
+}

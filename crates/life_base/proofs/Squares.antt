@@ -1,0 +1,125 @@
+-- Facts about squares of cells, by their quarters and on the plane.
+use Rattle.std.proofs.Common.{◌≡◌, ℕ, zero, suc, ◌+◌, ◌-◌, ◌^◌, ◌≤◌, ◌<◌, Bool, true, false, ◌&&◌, nat_lt, ℤ, pos, negsuc, neg_ℤ, ◌+ℤ◌, ◌≤ℤ◌, ◌<ℤ◌, refl, sym, ◌∙◌, ap, arith, true≢false}
+use Rattle.std.specs.Prelude.{if◌then◌else◌, int_le, int_lt, unsigned_abs}
+use Rattle.std.proofs.lemmas.Int.{ints}
+use Rattle.life_base.specs.Tree.{Tree, point, quad, depth, blank, is_blank_tree, state_at, half_side, tree_cell as cell, IsFull}
+
+-- a blank square has its level
+pub depth-blank : (k : ℕ) → depth (blank k) ≡ k
+depth-blank zero = refl
+depth-blank (suc k) = ap suc (depth-blank k)
+
+-- a blank square is full
+pub full-blank : (k : ℕ) → IsFull (blank k)
+full-blank zero = omega arith
+full-blank (suc k) = let f = full-blank k in (f, f, f, f, refl, refl, refl)
+
+-- every cell of a blank square is blank
+pub is_blank-blank : (k : ℕ) → is_blank_tree (blank k) ≡ true
+is_blank-blank zero = refl
+is_blank-blank (suc k) = grind (arith, is_blank-blank k)
+
+pub and_left : (a b : Bool) → (a && b) ≡ true → a ≡ true
+and_left true b h = refl
+and_left false b h = h
+
+pub and_right : (a b : Bool) → (a && b) ≡ true → b ≡ true
+and_right true b h = h
+and_right false b h = absurd (true≢false (sym h))
+
+-- a full blank square is the blank square of its level
+pub blank_is : (t : Tree) → IsFull t → is_blank_tree t ≡ true → t ≡ blank (depth t)
+blank_is (point s) f h = let e : s ≡ 0 = grind arith in ap point e
+blank_is (quad a b c d) f h =
+    let l = and_left _ (is_blank_tree d) h in
+    let l2 = and_left _ (is_blank_tree c) l in
+    let ea = blank_is a f.0 (and_left _ (is_blank_tree b) l2) in
+    let eb = blank_is b f.1 (and_right (is_blank_tree a) _ l2) ∙ ap blank f.4 in
+    let ec = blank_is c f.2 (and_right (is_blank_tree a && is_blank_tree b) _ l) ∙ ap blank f.5 in
+    let ed = blank_is d f.3 (and_right (is_blank_tree a && is_blank_tree b && is_blank_tree c) _ h) ∙ ap blank f.6 in
+    λ i. quad (ea i) (eb i) (ec i) (ed i)
+
+-- quarters of equal squares are equal
+pub quad_nw : {a b c d p q r s : Tree} → quad a b c d ≡ quad p q r s → a ≡ p
+quad_nw {a} e = ap (λ t. first a t) e
+  where
+    first : Tree → Tree → Tree
+    first z (point n) = z
+    first z (quad w x y v) = w
+
+pub quad_ne : {a b c d p q r s : Tree} → quad a b c d ≡ quad p q r s → b ≡ q
+quad_ne {a} e = ap (λ t. second a t) e
+  where
+    second : Tree → Tree → Tree
+    second z (point n) = z
+    second z (quad w x y v) = x
+
+pub quad_sw : {a b c d p q r s : Tree} → quad a b c d ≡ quad p q r s → c ≡ r
+quad_sw {a} e = ap (λ t. third a t) e
+  where
+    third : Tree → Tree → Tree
+    third z (point n) = z
+    third z (quad w x y v) = y
+
+pub quad_se : {a b c d p q r s : Tree} → quad a b c d ≡ quad p q r s → d ≡ s
+quad_se {a} e = ap (λ t. fourth a t) e
+  where
+    fourth : Tree → Tree → Tree
+    fourth z (point n) = z
+    fourth z (quad w x y v) = v
+
+pub point_state : {a b : ℕ} → point a ≡ point b → a ≡ b
+point_state {a} e = ap (λ t. only a t) e
+  where
+    only : ℕ → Tree → ℕ
+    only z (point n) = n
+    only z (quad w x y v) = z
+
+-- a point is no square of four quarters
+pub point≢quad : {n : ℕ} {a b c d : Tree} → point n ≡ quad a b c d → ⊥
+point≢quad e = cc
+
+-- the state of a cell is that in its quarter
+module _ (a b c d : Tree) (i j : ℕ) where
+  pub at_nw : nat_lt j (2 ^ depth a) ≡ true → nat_lt i (2 ^ depth a) ≡ true → state_at (quad a b c d) i j ≡ state_at a i j
+  at_nw g h = grind (arith, g, h)
+
+  pub at_ne : nat_lt j (2 ^ depth a) ≡ true → nat_lt i (2 ^ depth a) ≡ false → state_at (quad a b c d) i j ≡ state_at b (i - 2 ^ depth a) j
+  at_ne g h = grind (arith, g, h)
+
+  pub at_sw : nat_lt j (2 ^ depth a) ≡ false → nat_lt i (2 ^ depth a) ≡ true → state_at (quad a b c d) i j ≡ state_at c i (j - 2 ^ depth a)
+  at_sw g h = grind (arith, g, h)
+
+  pub at_se : nat_lt j (2 ^ depth a) ≡ false → nat_lt i (2 ^ depth a) ≡ false → state_at (quad a b c d) i j ≡ state_at d (i - 2 ^ depth a) (j - 2 ^ depth a)
+  at_se g h = grind (arith, g, h)
+
+-- whether a pair is inside the square of this half
+abbrev pub is_inside : ℕ → ℤ → ℤ → Bool
+is_inside h x y = int_le (neg_ℤ (pos h)) x && int_lt x (pos h) && int_le (neg_ℤ (pos h)) y && int_lt y (pos h)
+
+-- the distance of a coordinate inside
+pub inside_offset : (h : ℕ) (x : ℤ) → neg_ℤ (pos h) ≤ℤ x → x <ℤ pos h → (n : ℕ) × (x +ℤ pos h ≡ pos n) × (n < h + h)
+inside_offset h (pos a) l u = (a + h, refl, omega (arith, ints))
+inside_offset h (negsuc a) l u = (h - suc a, omega (arith, ints), omega (arith, ints))
+
+pub record Inside (h : ℕ) (x y : ℤ) : Type 0 where
+  pub west : neg_ℤ (pos h) ≤ℤ x
+  pub east : x <ℤ pos h
+  pub north : neg_ℤ (pos h) ≤ℤ y
+  pub south : y <ℤ pos h
+
+pub inside_facts : (h : ℕ) (x y : ℤ) → is_inside h x y ≡ true → Inside h x y
+inside_facts h x y e =
+    record { west = grind (arith, ints); east = grind (arith, ints); north = grind (arith, ints); south = grind (arith, ints) }
+
+pub inside_test : (h : ℕ) (x y : ℤ) → Inside h x y → is_inside h x y ≡ true
+inside_test h x y i = grind (arith, ints, i.west, i.east, i.north, i.south)
+
+-- the state of a pair inside
+pub cell_inside : (t : Tree) (x y : ℤ) (n m : ℕ) → is_inside (half_side t) x y ≡ true → x +ℤ pos (half_side t) ≡ pos n → y +ℤ pos (half_side t) ≡ pos m → cell t x y ≡ state_at t n m
+cell_inside t x y n m i e f =
+    ap (λ b. if b then state_at t (unsigned_abs (x +ℤ pos (half_side t))) (unsigned_abs (y +ℤ pos (half_side t))) else 0) i
+    ∙ (λ j. state_at t (unsigned_abs (e j)) (unsigned_abs (f j)))
+
+pub cell_outside : (t : Tree) (x y : ℤ) → is_inside (half_side t) x y ≡ false → cell t x y ≡ 0
+cell_outside t x y i = ap (λ b. if b then state_at t (unsigned_abs (x +ℤ pos (half_side t))) (unsigned_abs (y +ℤ pos (half_side t))) else 0) i

@@ -1,0 +1,5 @@
+use Rattle.life_base.proofs.WholeLines as law
+use Rattle.life_base.proofs.laws.lines_grow.Goals as goal
+
+pub returns : goal.returns
+returns c = law.lines_grow

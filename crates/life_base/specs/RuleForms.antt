@@ -1,0 +1,74 @@
+-- What rule texts say, told as what each text is. The B/S notation, and what its digits mean, are of Golly Help, QuickLife; names and the
+-- bounds of a text are the project's own.
+use Rattle.std.specs.Prelude.{◌≡◌, ◌⊎◌, ◌↔◌, ℕ, ◌<◌, ◌≤◌, Bool, true, false, not, ◌&&◌, ◌||◌, List, [], ◌∷◌, ◌++◌, length, map, nat_le, ◌==◌, codes, Some, Ok}
+use Rattle.std.specs.List.{list_all}
+use Rattle.life_base.specs.Sets.{DigitSets}
+use Rattle.life_base.specs.Text.{is_whitespace}
+use Rattle.life_base.specs.Rules.{is_count_digit, upper, digit_set, has_digit, life_sets, rule_of}
+use Rattle.life_base.specs.declared.rule.Rule.{Rule}
+use Rattle.life_base.specs.declared.rule.Rule.TheVariants.{Life, Named}
+
+-- the text, in upper case, is one of the five forms of a B/S rule with these digits
+abbrev pub IsForm : List ℕ → List ℕ → List ℕ → Type 0
+IsForm text births survivals =
+    (text ≡ codes "B" ++ births ++ codes "/S" ++ survivals)
+    ⊎ ((text ≡ codes "S" ++ survivals ++ codes "/B" ++ births)
+    ⊎ ((text ≡ codes "B" ++ births ++ codes "S" ++ survivals)
+    ⊎ ((text ≡ codes "S" ++ survivals ++ codes "B" ++ births)
+    ⊎ (text ≡ survivals ++ codes "/" ++ births))))
+
+-- The text is a B/S rule with these sets: it is of one of the five forms, letters in either case, with digits `0` to `8` of births and of
+-- survivals, in any order and any number of times.
+pub record IsLifeText (text : List ℕ) (sets : DigitSets) : Type 0 where
+  pub births : List ℕ
+  pub survivals : List ℕ
+  pub birth_digits : list_all is_count_digit births ≡ true
+  pub survival_digits : list_all is_count_digit survivals ≡ true
+  pub form : IsForm (map upper text) births survivals
+  pub birth_set : sets.births ≡ digit_set births
+  pub survival_set : sets.survivals ≡ digit_set survivals
+
+-- the text is the word with whitespace in front of it and behind it, or without
+pub record IsAround (text word : List ℕ) : Type 0 where
+  pub front : List ℕ
+  pub back : List ℕ
+  pub is : text ≡ front ++ word ++ back
+  pub front_blank : list_all is_whitespace front ≡ true
+  pub back_blank : list_all is_whitespace back ≡ true
+
+-- the word has 1 to 255 visible characters of ASCII, and no colon
+pub record IsRuleWord (word : List ℕ) : Type 0 where
+  pub some : 0 < length word
+  pub short : length word ≤ 255
+  pub visible : list_all (λ b. nat_le 33 b && nat_le b 126) word ≡ true
+  pub unbounded : list_all (λ b. not (b == 58)) word ≡ true
+
+-- `V`, `v`, `H` or `h`
+abbrev pub names_neighbours : ℕ → Bool
+names_neighbours b = b == 86 || b == 118 || b == 72 || b == 104
+
+-- the word is no B/S rule, none behind which a letter names other neighbours, and has no slash
+pub record IsOtherWord (word : List ℕ) : Type 0 where
+  pub no_life : (sets : DigitSets) → IsLifeText word sets → ⊥
+  pub no_neighbours : (front : List ℕ) (last : ℕ) (sets : DigitSets) → word ≡ front ++ last ∷ [] → names_neighbours last ≡ true → IsLifeText front sets → ⊥
+  pub no_slash : list_all (λ b. not (b == 47)) word ≡ true
+
+-- the word says this rule: B/S sets without a birth on 0, or itself as a name
+abbrev pub WordSays : List ℕ → Rule → Type 0
+WordSays word (Life sets) = IsLifeText word sets × (has_digit sets.births 0 ≡ false)
+WordSays word (Named name) = (name ≡ word) × IsOtherWord word
+
+-- the text, without whitespace at its ends, is a word that says this rule
+pub record SaysRule (text : List ℕ) (rule : Rule) : Type 0 where
+  pub word : List ℕ
+  pub around : IsAround text word
+  pub is_word : IsRuleWord word
+  pub says : WordSays word rule
+
+-- the sets of a text are those of the five forms
+abbrev pub LifeTextsAreForms : Type 0
+LifeTextsAreForms = (text : List ℕ) (sets : DigitSets) → (life_sets text ≡ Some sets) ↔ IsLifeText text sets
+
+-- a text is read as a rule exactly if it says that rule
+abbrev pub RuleTextsArePlain : Type 0
+RuleTextsArePlain = (text : List ℕ) (rule : Rule) → (rule_of text ≡ Ok rule) ↔ SaysRule text rule

@@ -1,0 +1,31 @@
+//! Where lines end, and how long they may be.
+
+ghost use Rattle.std.specs.Prelude.{◌≡◌, ◌==◌, ◌+◌, ◌^◌, nat_le, position};
+ghost use Rattle.life_base.specs.Text.{is_too_long as breaks_limit};
+
+use bstr::ByteSlice;
+
+/// The greatest length of a line in bytes, without its line feed: 2^20.
+pub const LONGEST_LINE: usize = 1 << 20;
+
+/// Whether the line is longer than a line may be. A carriage return counts, the line feed does not.
+pub fn is_too_long(line: &[u8]) -> bool
+    ensures { result ≡ breaks_limit line.now }
+{
+    line.len() > LONGEST_LINE
+}
+
+/// Whether a line of `kept` bytes, with `more` bytes behind them, is no longer than a line may be.
+pub fn line_fits(kept: u64, more: u64) -> bool
+    ensures { result ≡ nat_le (kept + more) (2 ^ 20) }
+{
+    let longest = LONGEST_LINE as u64;
+    kept <= longest && more <= longest - kept
+}
+
+/// Where the first line feed stands.
+pub fn line_end(bytes: &[u8]) -> Option<usize>
+    ensures { result ≡ position (λ b. b == 10) bytes.now }
+{
+    bytes.find_byte(b'\n')
+}
