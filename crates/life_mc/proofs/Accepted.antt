@@ -13,7 +13,7 @@ use Rattle.life_base.specs.Text.{begins_with, is_blank, is_digit_text, is_too_lo
 use Rattle.life_base.specs.declared.kind.Kind.{Kind}
 use Rattle.life_base.specs.declared.kind.Kind.TheVariants.{BadNumber, LateHeader, LineTooLong, Timeline, TooLarge}
 use Rattle.life_base.specs.declared.rule.Rule.{Rule}
-use Rattle.life_mc.specs.Accepted.{FilesAreValid}
+use Rattle.life_mc.specs.Accepted.{FilesAreValid, LinesAreValid}
 use Rattle.life_mc.specs.Macrocell.{AreSquares, level_of}
 use Rattle.life_mc.specs.Reading.{broken, broken_behind, broken_by_node, fault_in, generation_in_force, generation_on, is_command, last_or, rule_in_force, rule_on, squares_of}
 use Rattle.life_mc.specs.declared.line.Line.{Line}
@@ -122,14 +122,17 @@ generation_valid top (header ∷ lines) u =
 
 -- ---- the file
 
-pub files_are_valid : (top : ℕ) → FilesAreValid top
-files_are_valid top = λ bytes file m.
+pub lines_are_valid : (top : ℕ) → LinesAreValid top
+lines_are_valid top = λ lines file m.
     let R : Rule → Type 0 = λ rule. IsRule rule in
     let G : ℕ → Type 0 = λ generation. generation < 2 ^ 64 in
-    let S : Rule → Type 0 = λ rule. AreSquares top rule (squares_of (lines_of bytes)) in
-    let T : List Line → Type 0 = λ lines. AreSquares top file.rule lines in
+    let S : Rule → Type 0 = λ rule. AreSquares top rule (squares_of lines) in
+    let T : List Line → Type 0 = λ squares. AreSquares top file.rule squares in
     record {
-      rule = subst R (sym m.rule) (rule_valid (lines_of bytes));
-      generation = subst G (sym m.generation) (generation_valid top (lines_of bytes) m.unbroken);
-      squares = subst T (sym m.squares) (subst S (sym m.rule) (squares_valid top (lines_of bytes) m.unbroken));
+      rule = subst R (sym m.rule) (rule_valid lines);
+      generation = subst G (sym m.generation) (generation_valid top lines m.unbroken);
+      squares = subst T (sym m.squares) (subst S (sym m.rule) (squares_valid top lines m.unbroken));
     }
+
+pub files_are_valid : (top : ℕ) → FilesAreValid top
+files_are_valid top = λ bytes file m. lines_are_valid top (lines_of bytes) file m

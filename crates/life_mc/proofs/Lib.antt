@@ -4,6 +4,7 @@ pub mod Leaves
 pub mod ByLines
 pub mod RowCells
 pub mod ReadLines
+pub mod LinesTaken
 pub mod Valid
 pub mod Nodes
 pub mod Stands
@@ -19,6 +20,7 @@ pub mod LineTexts
 pub mod HeaderLines
 pub mod TextBack
 pub mod Squares
+pub mod Outside
 pub mod SquareRows
 pub mod NodeLines
 pub mod Accepted

@@ -1,7 +1,8 @@
 -- The kinds with which a macrocell line breaks a rule.
-use Rattle.std.proofs.Common.{◌≡◌, ℕ, List, ◌∷◌, [], ◌||◌, length, drop, Bool, true, false, cond, refl, sym, ap, ◌∙◌, map}
+use Rattle.std.proofs.Common.{◌≡◌, ℕ, List, ◌∷◌, [], ◌-◌, ◌^◌, ◌<◌, ◌≤◌, ◌||◌, length, take, drop, Bool, true, false, cond, refl, sym, ap, ◌∙◌, map, ◌⊎◌, inl, inr, arith}
 use Rattle.std.specs.Prelude.{◌==◌, nat_le, nat_lt, not, ◌&&◌, codes, slice_index, Option, Some, None, Result, Ok, Err}
-use Rattle.std.specs.List.{list_all}
+use Rattle.std.specs.List.{list_all, slice_index_or}
+use Rattle.std.proofs.lemmas.Bool.{ltb-true}
 use Rattle.life_base.specs.Text.{is_too_long, is_empty, is_blank, begins_with, trim, is_digit_text, value_of}
 use Rattle.life_base.specs.Numbers.{u64_of}
 use Rattle.life_base.specs.Rules.{rule_of, is_rule_kind}
@@ -9,22 +10,39 @@ use Rattle.life_base.specs.Refusal.{is_placeless}
 use Rattle.life_base.specs.declared.kind.Kind.{Kind}
 use Rattle.life_base.specs.declared.kind.Kind.TheVariants as kinds
 use Rattle.life_base.specs.declared.rule.Rule.{Rule}
+use Rattle.life_base.proofs.Numbers.{first}
 use Rattle.life_base.proofs.RuleKinds.{errs_by, errs_by_cases, rule_errs}
+use Rattle.life_mc.specs.Laws.{LongLinesBreak, RefusalsHaveKinds}
 use Rattle.life_mc.specs.Macrocell.{is_quarter, level_of}
-use Rattle.life_mc.specs.Reading.{broken, broken_behind, broken_by_node, broken_by_square, fault_in, is_command, is_leaf_byte, is_leaf, square_of, squares_of, rule_in_force, is_macrocell_kind}
+use Rattle.life_mc.specs.Reading.{broken, broken_behind, broken_by_node, broken_by_square, fault_in, is_command, is_leaf_byte, is_leaf, square_of, squares_of, rule_in_force, missing, is_macrocell_kind}
 use Rattle.life_mc.specs.declared.line.Line.{Line}
 use Rattle.life_mc.specs.declared.line.Line.TheVariants.{Leaf, Quad}
+use Rattle.life_mc.proofs.Stands.{breaks_length}
 
--- no fault, or one of these kinds
+-- the kind of a line that is too long
+abbrev is_length_kind : Kind → Bool
+is_length_kind kinds.LineTooLong = true
+is_length_kind _ = false
+
+-- the kinds of the rules that a line breaks which isn't too long
+abbrev is_short_kind : Kind → Bool
+is_short_kind kind = is_macrocell_kind kind && not (is_length_kind kind)
+
+-- no fault, or one of the kinds of the format
 abbrev pub kind_in : Option Kind → Bool
 kind_in None = true
 kind_in (Some kind) = is_macrocell_kind kind
 
-cases : (b : Bool) (o p : Option Kind) → kind_in o ≡ true → kind_in p ≡ true → kind_in (cond b o p) ≡ true
+-- no fault, or one of those kinds
+abbrev short_kind_in : Option Kind → Bool
+short_kind_in None = true
+short_kind_in (Some kind) = is_short_kind kind
+
+cases : (b : Bool) (o p : Option Kind) → short_kind_in o ≡ true → short_kind_in p ≡ true → short_kind_in (cond b o p) ≡ true
 cases true o p h k = h
 cases false o p h k = k
 
-wider : (kind : Kind) → is_rule_kind kind ≡ true → is_macrocell_kind kind ≡ true
+wider : (kind : Kind) → is_rule_kind kind ≡ true → is_short_kind kind ≡ true
 wider kinds.NoHeader h = refl
 wider kinds.BadHeader h = cc
 wider kinds.BadRule h = refl
@@ -44,7 +62,7 @@ wider kinds.BadLevel h = refl
 wider kinds.BadChild h = refl
 wider kinds.BadLeaf h = refl
 wider kinds.Timeline h = refl
-wider kinds.LineTooLong h = refl
+wider kinds.LineTooLong h = cc
 wider kinds.Full h = cc
 wider kinds.Memory h = cc
 wider kinds.Spent h = cc
@@ -67,20 +85,20 @@ wider kinds.ReadFault h = cc
 wider kinds.WriteFault h = cc
 wider kinds.InputTooLong h = cc
 
-in_rule : (r : Result Rule Kind) → errs_by is_rule_kind r ≡ true → kind_in (fault_in r) ≡ true
+in_rule : (r : Result Rule Kind) → errs_by is_rule_kind r ≡ true → short_kind_in (fault_in r) ≡ true
 in_rule (Ok rule) h = refl
 in_rule (Err kind) h = wider kind h
 
-in_number : (r : Result ℕ Kind) → errs_by is_macrocell_kind r ≡ true → kind_in (fault_in r) ≡ true
+in_number : (r : Result ℕ Kind) → errs_by is_short_kind r ≡ true → short_kind_in (fault_in r) ≡ true
 in_number (Ok n) h = refl
 in_number (Err kind) h = h
 
-number_errs : (text : List ℕ) → errs_by is_macrocell_kind (u64_of text) ≡ true
+number_errs : (text : List ℕ) → errs_by is_short_kind (u64_of text) ≡ true
 number_errs text =
-    errs_by_cases is_macrocell_kind (not (is_digit_text text)) (Err kinds.BadNumber) (cond (nat_le (value_of text) 18446744073709551615) (Ok (value_of text)) (Err kinds.TooLarge)) refl
-    (errs_by_cases is_macrocell_kind (nat_le (value_of text) 18446744073709551615) (Ok (value_of text)) (Err kinds.TooLarge) refl refl)
+    errs_by_cases is_short_kind (not (is_digit_text text)) (Err kinds.BadNumber) (cond (nat_le (value_of text) 18446744073709551615) (Ok (value_of text)) (Err kinds.TooLarge)) refl
+    (errs_by_cases is_short_kind (nat_le (value_of text) 18446744073709551615) (Ok (value_of text)) (Err kinds.TooLarge) refl refl)
 
-in_square : (top : ℕ) (rule : Rule) (levels : List ℕ) (square : Option Line) → kind_in (broken_by_square top rule levels square) ≡ true
+in_square : (top : ℕ) (rule : Rule) (levels : List ℕ) (square : Option Line) → short_kind_in (broken_by_square top rule levels square) ≡ true
 in_square top rule levels (Some (Quad level nw ne sw se)) =
     cases (not (nat_le 1 level && nat_le level top)) (Some kinds.BadLevel) (cond (list_all (is_quarter rule levels level) (nw ∷ ne ∷ sw ∷ se ∷ [])) None (cond (level == 1) (Some kinds.StateRange) (Some kinds.BadChild))) refl
     (cases (list_all (is_quarter rule levels level) (nw ∷ ne ∷ sw ∷ se ∷ [])) None (cond (level == 1) (Some kinds.StateRange) (Some kinds.BadChild)) refl
@@ -88,11 +106,11 @@ in_square top rule levels (Some (Quad level nw ne sw se)) =
 in_square top rule levels (Some (Leaf rows)) = refl
 in_square top rule levels None = refl
 
-in_node : (top : ℕ) (rule : Rule) (levels text : List ℕ) → kind_in (broken_by_node top rule levels text) ≡ true
+in_node : (top : ℕ) (rule : Rule) (levels text : List ℕ) → short_kind_in (broken_by_node top rule levels text) ≡ true
 in_node top rule levels text =
     cases (is_leaf_byte (slice_index text 0) && not (is_leaf text)) (Some kinds.BadLeaf) (broken_by_square top rule levels (square_of text)) refl (in_square top rule levels (square_of text))
 
-behind : (top : ℕ) (front : List (List ℕ)) (line : List ℕ) → kind_in (broken_behind top front line) ≡ true
+behind : (top : ℕ) (front : List (List ℕ)) (line : List ℕ) → short_kind_in (broken_behind top front line) ≡ true
 behind top front line =
     let node : Option Kind = broken_by_node top (rule_in_force front) (map level_of (squares_of front)) (trim line) in
     let hash : Option Kind = cond (begins_with line (codes "#")) None node in
@@ -107,17 +125,56 @@ behind top front line =
     (cases (is_command 71 line) (fault_in (u64_of (trim (drop 2 line)))) hash (in_number (u64_of (trim (drop 2 line))) (number_errs (trim (drop 2 line))))
     (cases (begins_with line (codes "#")) None node refl (in_node top (rule_in_force front) (map level_of (squares_of front)) (trim line)))))))
 
-broken_in : (top : ℕ) (front : List (List ℕ)) (line : List ℕ) → kind_in (broken top front line) ≡ true
-unfolding broken
-broken_in top front line =
-    cases (is_too_long line) (Some kinds.LineTooLong) (cond (is_empty front) (cond (begins_with line (codes "[M2]")) None (Some kinds.NoHeader)) (broken_behind top front line)) refl
-    (cases (is_empty front) (cond (begins_with line (codes "[M2]")) None (Some kinds.NoHeader)) (broken_behind top front line)
+-- the rule that a line breaks which isn't too long
+abbrev broken_short : ℕ → List (List ℕ) → List ℕ → Option Kind
+broken_short top front line = cond (is_empty front) (cond (begins_with line (codes "[M2]")) None (Some kinds.NoHeader)) (broken_behind top front line)
+
+short_in : (top : ℕ) (front : List (List ℕ)) (line : List ℕ) → short_kind_in (broken_short top front line) ≡ true
+short_in top front line =
+    cases (is_empty front) (cond (begins_with line (codes "[M2]")) None (Some kinds.NoHeader)) (broken_behind top front line)
     (cases (begins_with line (codes "[M2]")) None (Some kinds.NoHeader) refl refl)
-    (behind top front line))
+    (behind top front line)
+
+-- a line breaks a rule by its length, or with another kind
+by_length : (v : Bool) (o : Option Kind) (kind : Kind) → short_kind_in o ≡ true → cond v (Some kinds.LineTooLong) o ≡ Some kind
+    → ((v ≡ true) × (kind ≡ kinds.LineTooLong)) ⊎ (is_short_kind kind ≡ true)
+by_length true o kind h e = inl (refl, cc)
+by_length false o kind h e = inr (ap short_kind_in (sym e) ∙ h)
+
+how_broken : (top : ℕ) (front : List (List ℕ)) (line : List ℕ) (kind : Kind) → broken top front line ≡ Some kind
+    → ((is_too_long line ≡ true) × (kind ≡ kinds.LineTooLong)) ⊎ (is_short_kind kind ≡ true)
+unfolding broken
+how_broken top front line kind e = by_length (is_too_long line) (broken_short top front line) kind (short_in top front line) e
 
 -- a line breaks a rule with a kind of the format
 pub broken_kind : (top : ℕ) (front : List (List ℕ)) (line : List ℕ) (kind : Kind) → broken top front line ≡ Some kind → is_macrocell_kind kind ≡ true
-broken_kind top front line kind e = sym (ap kind_in e) ∙ broken_in top front line
+broken_kind top front line kind e = elim (how_broken top front line kind e) [
+  | inl m ↦ ap is_macrocell_kind m.1
+  | inr s ↦ first (is_macrocell_kind kind) (not (is_length_kind kind)) s
+]
+
+pub long_lines_break : (top : ℕ) → LongLinesBreak top
+long_lines_break top front line = (
+  λ e. elim (how_broken top front line kinds.LineTooLong e) [
+    | inl m ↦ omega (arith, ltb-true (2 ^ 20) (length line) m.0)
+    | inr s ↦ cc
+  ],
+  breaks_length top front line,
+)
+
+missing_kind : (lines : List (List ℕ)) (kind : Kind) → missing lines ≡ Some kind → is_macrocell_kind kind ≡ true
+missing_kind [] kind e = sym (ap kind_in e)
+missing_kind (line ∷ lines) kind e = cc
+
+within_or_not : (m n : ℕ) → (n ≤ m) ⊎ (m < n)
+within_or_not m n = grind arith
+
+-- lines that are no file are refused with a kind of the format
+pub refusals_have_kinds : (top : ℕ) → RefusalsHaveKinds top
+refusals_have_kinds top lines fault r = elim (within_or_not (length lines) r.n) [
+  | inl within ↦ broken_kind top (take (r.n - 1) lines) (slice_index_or lines (r.n - 1) []) fault.kind (r.at_line within)
+  | inr beyond ↦ missing_kind lines fault.kind (r.at_end beyond)
+]
 
 -- each of these kinds names a line
 pub names_line : (kind : Kind) → is_macrocell_kind kind ≡ true → is_placeless kind ≡ false

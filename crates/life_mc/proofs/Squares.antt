@@ -16,7 +16,7 @@ use Rattle.life_mc.specs.declared.line.Line.{Line}
 use Rattle.life_mc.specs.declared.line.Line.TheVariants.{Leaf, Quad}
 use Rattle.life_mc.proofs.TestFacts.{all_four, not_zero, few_states}
 
-twice : (k : ℕ) → 2 ^ suc k ≡ 2 ^ k + 2 ^ k
+pub twice : (k : ℕ) → 2 ^ suc k ≡ 2 ^ k + 2 ^ k
 twice k = two-pow-succ k
 
 -- ---- the quarter in which a column and a row lie
@@ -240,7 +240,7 @@ cell_by lines k o x y = elim o [
   ]
 ]
 
-some_level : (top : ℕ) (rule : Rule) (levels : List ℕ) (line : Line) → IsSquare top rule levels line → 1 ≤ level_of line
+pub some_level : (top : ℕ) (rule : Rule) (levels : List ℕ) (line : Line) → IsSquare top rule levels line → 1 ≤ level_of line
 some_level top rule levels (Leaf rows) h = omega arith
 some_level top rule levels (Quad level a b c d) h = h.0
 
@@ -307,7 +307,7 @@ module _ (top : ℕ) (rule : Rule) (lines : List Line) (valid : AreSquares top r
 
 -- ---- the cells of the plane
 
-root_at : (line : Line) (lines : List Line) → HasLevel (line ∷ lines) (root_level (line ∷ lines)) (length lines)
+pub root_at : (line : Line) (lines : List Line) → HasLevel (line ∷ lines) (root_level (line ∷ lines)) (length lines)
 root_at line [] = (line, refl, refl)
 root_at line (next ∷ lines) = let r = root_at next lines in (r.0, r.1, r.2)
 

@@ -110,7 +110,7 @@ module _ (top : ℕ) (rule : Rule) (levels : List ℕ) (line : Line) (text : Lis
 -- ---- line after line
 
 abbrev state : Rule → ℕ → List Line → Standing
-state rule generation squares = record { started = true; rule = rule; generation = generation; levels = map level_of squares; spent = false }
+state rule generation squares = record { started = true; rule = rule; generation = generation; levels = map level_of squares }
 
 -- the lines so far say this
 record Says (top : ℕ) (lines : List (List ℕ)) (rule : Rule) (generation : ℕ) (squares : List Line) : Type 0 where
@@ -121,12 +121,12 @@ abbrev header_line : List ℕ
 header_line = codes "[M2] (canonical 1)"
 
 module _ (top : ℕ) where
-  nothing_yet : StandsAfter top [] (record { started = false; rule = default_rule; generation = 0; levels = []; spent = false })
+  nothing_yet : StandsAfter top [] (record { started = false; rule = default_rule; generation = 0; levels = [] })
   nothing_yet = record { unbroken = λ k h. absurd (omega arith); started = refl; rule = refl; generation = refl; levels = refl }
 
   header_says : Says top (header_line ∷ []) default_rule 0 []
   header_says = record {
-    stands = (stands_first top [] header_line (record { started = false; rule = default_rule; generation = 0; levels = []; spent = false }) (state default_rule 0 []) nothing_yet (omega arith)
+    stands = (stands_first top [] header_line (record { started = false; rule = default_rule; generation = 0; levels = [] }) (state default_rule 0 []) nothing_yet (omega arith)
         refl refl refl refl refl refl).1;
     squares_are = refl;
   }

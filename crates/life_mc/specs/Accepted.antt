@@ -1,13 +1,29 @@
 -- What holds of each macrocell file.
-use Rattle.std.specs.Prelude.{◌≡◌, ℕ, List, drop, count_by}
+use Rattle.std.specs.Prelude.{◌≡◌, ℕ, ◌-◌, ◌^◌, ◌⊎◌, List, drop, count_by, ℤ, pos, neg_ℤ, ◌≤ℤ◌, ◌<ℤ◌}
 use Rattle.life_base.specs.Text.{lines_of}
 use Rattle.life_mc.specs.Macrocell.{Macrocell, IsValid}
-use Rattle.life_mc.specs.Cells.{node_lines}
-use Rattle.life_mc.specs.Reading.{IsMacrocell, is_node_line}
+use Rattle.life_mc.specs.Cells.{cell, node_lines}
+use Rattle.life_mc.specs.Reading.{AreMacrocell, IsMacrocell, is_node_line}
 
 -- what the bytes of a file say is valid
 abbrev pub FilesAreValid : ℕ → Type 0
 FilesAreValid top = (bytes : List ℕ) (file : Macrocell) → IsMacrocell top bytes file → IsValid top file
+
+-- what the lines of a file say is valid
+abbrev pub LinesAreValid : ℕ → Type 0
+LinesAreValid top = (lines : List (List ℕ)) (file : Macrocell) → AreMacrocell top lines file → IsValid top file
+
+-- the first coordinate east and south of the plane, which is 2 ^ top cells wide and high
+abbrev pub edge : ℕ → ℤ
+edge top = pos (2 ^ (top - 1))
+
+-- a cell lies outside the plane
+abbrev pub IsOutside : ℕ → ℤ → ℤ → Type 0
+IsOutside top x y = (x <ℤ neg_ℤ (edge top)) ⊎ (edge top ≤ℤ x) ⊎ (y <ℤ neg_ℤ (edge top)) ⊎ (edge top ≤ℤ y)
+
+-- every cell outside the plane has state 0
+abbrev pub IsBlankOutside : ℕ → Type 0
+IsBlankOutside top = (file : Macrocell) (x y : ℤ) → IsValid top file → IsOutside top x y → cell file x y ≡ 0
 
 -- each node line behind the header counts, whether the root reaches its square or not
 abbrev pub NodeLinesCounted : ℕ → Type 0

@@ -1,10 +1,12 @@
 -- Laws of the macrocell format.
-use Rattle.std.specs.Prelude.{◌≡◌, ◌↔◌, ◌<◌, ℕ, List, [], length, take, None}
+use Rattle.std.specs.Prelude.{◌≡◌, ◌↔◌, ◌<◌, ◌^◌, ℕ, true, false, List, [], length, take, Some, None}
 use Rattle.std.specs.List.{slice_index_or}
-use Rattle.life_base.specs.Refusal.{Prefix}
+use Rattle.life_base.specs.Refusal.{Prefix, is_placeless}
 use Rattle.life_base.specs.declared.fault.Fault.{Fault}
+use Rattle.life_base.specs.declared.kind.Kind.{Kind}
+use Rattle.life_base.specs.declared.kind.Kind.TheVariants.{LineTooLong}
 use Rattle.life_mc.specs.Macrocell.{Macrocell}
-use Rattle.life_mc.specs.Reading.{AreMacrocell, Accepts, Refuses, broken}
+use Rattle.life_mc.specs.Reading.{AreMacrocell, Accepts, Refuses, broken, is_macrocell_kind}
 
 -- lines say one thing at most
 abbrev pub FilesAreUnique : ℕ → Type 0
@@ -21,3 +23,19 @@ AreUnbroken top lines = (k : ℕ) → k < length lines → broken top (take k li
 -- lines are the front of a file exactly if no line breaks a rule
 abbrev pub FrontsAreUnbroken : ℕ → Type 0
 FrontsAreUnbroken top = (lines : List (List ℕ)) → Prefix (Accepts top) lines ↔ AreUnbroken top lines
+
+-- lines, of which there are some, are the front of a file exactly if they are a file: behind the first line any front is whole
+abbrev pub FrontsAreFiles : ℕ → Type 0
+FrontsAreFiles top = (lines : List (List ℕ)) → 0 < length lines → Prefix (Accepts top) lines ↔ Accepts top lines
+
+-- a line breaks the rule of lengths exactly if it has more than 2 ^ 20 bytes
+abbrev pub LongLinesBreak : ℕ → Type 0
+LongLinesBreak top = (front : List (List ℕ)) (line : List ℕ) → broken top front line ≡ Some LineTooLong ↔ 2 ^ 20 < length line
+
+-- each kind of the format names a line
+abbrev pub KindsNameLines : Type 0
+KindsNameLines = (kind : Kind) → is_macrocell_kind kind ≡ true → is_placeless kind ≡ false
+
+-- lines that are no file are refused with one of the kinds of the format
+abbrev pub RefusalsHaveKinds : ℕ → Type 0
+RefusalsHaveKinds top = (lines : List (List ℕ)) (fault : Fault) → Refuses top lines fault → is_macrocell_kind fault.kind ≡ true

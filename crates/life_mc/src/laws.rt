@@ -1,9 +1,9 @@
 //! Laws of the macrocell format, over the definitions alone.
 
 ghost use Rattle.life_base.specs.declared.cell.TheConstants.{MAX_LEVEL};
-ghost use Rattle.life_mc.specs.Accepted.{FilesAreValid, NodeLinesCounted};
+ghost use Rattle.life_mc.specs.Accepted.{FilesAreValid, LinesAreValid, IsBlankOutside, NodeLinesCounted};
 ghost use Rattle.life_mc.specs.Grammar.{GrammarsAgree};
-ghost use Rattle.life_mc.specs.Laws.{FilesAreUnique, FaultsAreUnique, FrontsAreUnbroken};
+ghost use Rattle.life_mc.specs.Laws.{FilesAreUnique, FaultsAreUnique, FrontsAreUnbroken, FrontsAreFiles, KindsNameLines, LongLinesBreak, RefusalsHaveKinds};
 ghost use Rattle.life_mc.specs.Reading.{LinesBreakByKinds};
 ghost use Rattle.life_mc.specs.Squares.{LinesStandForSquares};
 ghost use Rattle.life_mc.specs.Writing.{TextsReadBack};
@@ -29,14 +29,44 @@ pub fn fronts_are_unbroken()
     ensures { FrontsAreUnbroken MAX_LEVEL }
 {}
 
+/// Lines, of which there are some, are the front of a file exactly if they are a file.
+pub fn fronts_are_files()
+    ensures { FrontsAreFiles MAX_LEVEL }
+{}
+
+/// A line is refused as too long exactly if it has more than 2^20 bytes.
+pub fn long_lines_break()
+    ensures { LongLinesBreak MAX_LEVEL }
+{}
+
 /// A line that breaks a rule breaks it with one of the kinds of the format.
 pub fn lines_break_by_kinds()
     ensures { LinesBreakByKinds MAX_LEVEL }
 {}
 
+/// Each kind of the format names a line.
+pub fn kinds_name_lines()
+    ensures { KindsNameLines }
+{}
+
+/// Lines that are no file are refused with one of the kinds of the format.
+pub fn refusals_have_kinds()
+    ensures { RefusalsHaveKinds MAX_LEVEL }
+{}
+
 /// The rule, the generation and the squares that the bytes of a file say are valid.
 pub fn files_are_valid()
     ensures { FilesAreValid MAX_LEVEL }
+{}
+
+/// The rule, the generation and the squares that the lines of a file say are valid.
+pub fn lines_are_valid()
+    ensures { LinesAreValid MAX_LEVEL }
+{}
+
+/// Every cell outside the plane has state 0.
+pub fn blank_outside()
+    ensures { IsBlankOutside MAX_LEVEL }
 {}
 
 /// The text of each valid file of fewer than 10^64 node lines says that file.

@@ -16,5 +16,6 @@ mod writing;
 
 pub use file::McFile;
 pub use line::Line;
+pub use lines::McLines;
 pub use reading::read_mc;
 pub use writing::write_mc;

@@ -5,30 +5,26 @@ ghost use Rattle.life_mc.specs.Macrocell.{level_of};
 
 use crate::line::Line;
 use crate::told::{Told, read_told};
-use life_base::{Kind, MAX_LEVEL, Rule, begins_with};
+use life_base::{Kind, LineLog, MAX_LEVEL, Rule, begins_with, is_too_long};
 use std::alloc::Global;
 use std::marker::Model;
 
-/// The greatest length of a line, without its line feed.
-const LONGEST_LINE: usize = 1 << 20;
-
-/// Takes the lines of a file one after another, and keeps the levels of its squares and no text.
+/// What is kept of the lines so far: the levels of their squares, and no text.
 #[derive(Drop)]
-pub(crate) struct McLines {
+struct Kept {
     started: bool,
     rule: Rule,
     generation: u64,
     levels: Vec<u8>,
-    spent: bool,
     alloc: Global,
 }
 
-impl Model for McLines {
+impl Model for Kept {
     ghost use Rattle.life_mc.specs.Standing.{Standing};
 
     ghost Value = { Standing };
 
-    ghost view = { λ a. record { started = a.started; rule = a.rule; generation = a.generation; levels = a.levels.items; spent = a.spent } };
+    ghost view = { λ a. record { started = a.started; rule = a.rule; generation = a.generation; levels = a.levels.items } };
 }
 
 /// The level of a square.
@@ -41,70 +37,33 @@ fn level_of_square(square: &Line) -> u8
     }
 }
 
-impl McLines {
-    ghost use Rattle.std.specs.Prelude.{◌++◌, ◌∷◌, [], ℕ, List, ◌⊎◌, IfOk, IfErr, MatchResult, length, ◌<◌, OnOk, OnErr, Some, None, Err, true, false};
-    ghost use Rattle.life_base.specs.declared.kind.Kind.TheVariants.{Memory, Spent, NoHeader};
+impl Kept {
+    ghost use Rattle.std.specs.Prelude.{◌++◌, ◌∷◌, [], ℕ, List, ◌⊎◌, IfOk, IfErr, OnOk, MatchOption, Some, true, false};
+    ghost use Rattle.life_base.specs.declared.kind.Kind.TheVariants.{Memory};
     ghost use Rattle.life_mc.specs.Standing.{StandsAfter, told_rule, told_generation, told_square, or_value, level_told};
-    ghost use Rattle.life_mc.specs.Reading.{broken, square_behind, rule_in_force, generation_in_force};
+    ghost use Rattle.life_mc.specs.Reading.{broken, square_behind};
 
-    /// A reader that no line came to.
-    pub(crate) fn new(alloc: Global) -> McLines
-        ensures stands { StandsAfter MAX_LEVEL [] result }
-        ensures fresh { result.spent ≡ false }
+    /// What is kept of no line.
+    fn new(alloc: Global) -> Kept
+        ensures { StandsAfter MAX_LEVEL [] result }
     {
-        McLines {
+        Kept {
             started: false,
             rule: Rule::default_rule(),
             generation: 0,
             levels: Vec::new(alloc),
-            spent: false,
             alloc,
         }
     }
 
-    /// The rule and the generation of the file whose lines came.
-    pub(crate) fn end(self) -> Result<(Rule, u64), Kind>
-        ensures said { (lines : List (List ℕ)) → StandsAfter MAX_LEVEL lines self → self.spent ≡ false
-            → MatchResult result (λ r. (0 < length lines) × (r.0 ≡ rule_in_force lines) × (r.1 ≡ generation_in_force lines))
-            (λ kind. (kind ≡ NoHeader) × (lines ≡ [])) }
-        ensures spent { self.spent ≡ true → result ≡ Err Spent }
-    {
-        if self.spent {
-            return Err(Kind::Spent);
-        }
-        if !self.started {
-            return Err(Kind::NoHeader);
-        }
-        Ok((self.rule, self.generation))
-    }
-
-    /// Takes the next line, without its line feed, and answers its square, if it has one. After an error each later
-    /// call answers Spent. A line feed in the line is a byte like any other, so a caller that has bytes cuts them first.
-    pub(crate) fn line(&mut self, line: &[u8]) -> Result<Option<Line>, Kind>
-        ensures ok { (lines : List (List ℕ)) → StandsAfter MAX_LEVEL lines self.old
-            → IfOk result (λ square. (square ≡ square_behind lines line.now) × StandsAfter MAX_LEVEL (lines ++ line.now ∷ []) self.new) }
-        ensures err { (lines : List (List ℕ)) → StandsAfter MAX_LEVEL lines self.old → self.old.spent ≡ false
-            → IfErr result (λ kind. (kind ≡ Memory) ⊎ (broken MAX_LEVEL lines line.now ≡ Some kind)) }
-        ensures spent { self.old.spent ≡ true → result ≡ Err Spent }
-        ensures ends { OnErr result (self.new.spent ≡ true) }
-        ensures goes_on { OnOk result (self.new.spent ≡ false) }
-    {
-        if self.spent {
-            return Err(Kind::Spent);
-        }
-        let answer = self.take(line);
-        self.spent = answer.is_err();
-        answer
-    }
-
-    /// The same of a reader that isn't spent.
+    /// Takes the next line, and answers its square, if it has one.
     fn take(&mut self, line: &[u8]) -> Result<Option<Line>, Kind>
         ensures ok { (lines : List (List ℕ)) → StandsAfter MAX_LEVEL lines self.old
             → IfOk result (λ square. (square ≡ square_behind lines line.now) × StandsAfter MAX_LEVEL (lines ++ line.now ∷ []) self.new) }
         ensures err { (lines : List (List ℕ)) → StandsAfter MAX_LEVEL lines self.old
             → IfErr result (λ kind. (kind ≡ Memory) ⊎ (broken MAX_LEVEL lines line.now ≡ Some kind)) }
     {
-        if LONGEST_LINE < line.len() {
+        if is_too_long(line) {
             return Err(Kind::LineTooLong);
         }
         if !self.started {
@@ -137,10 +96,110 @@ impl McLines {
                 self.generation = generation;
                 Ok(None)
             }
-            Told::ToldSquare(square) => match self.levels.push(level_of_square(&square)) {
-                Ok(()) => Ok(Some(square)),
-                Err(_) => Err(Kind::Memory),
-            },
+            Told::ToldSquare(square) => {
+                self.levels.push(level_of_square(&square))?;
+                Ok(Some(square))
+            }
         }
+    }
+
+    /// The rule and the generation, if a line came.
+    fn said(self) -> Option<(Rule, u64)>
+        ensures { MatchOption result (self.started ≡ false) (λ found. (self.started ≡ true) × (found.0 ≡ self.rule) × (found.1 ≡ self.generation)) }
+    {
+        if self.started {
+            Some((self.rule, self.generation))
+        } else {
+            None
+        }
+    }
+}
+
+/// Takes the lines of a macrocell file one after another.
+#[derive(Drop)]
+pub struct McLines {
+    kept: Kept,
+    refused: bool,
+    log: LineLog,
+}
+
+impl Model for McLines {
+    ghost use Rattle.std.specs.Prelude.{◌≡◌, false};
+    ghost use Rattle.life_base.specs.declared.cell.TheConstants.{MAX_LEVEL};
+    ghost use Rattle.life_base.specs.Lines.{LinesRead};
+    ghost use Rattle.life_mc.specs.Standing.{StandsAfter};
+
+    ghost Value = { LinesRead };
+
+    ghost view = { λ r. record { lines = r.log.lines; refused = r.refused } };
+
+    ghost invariant = { λ r. r.refused ≡ false → StandsAfter MAX_LEVEL r.log.lines r.kept };
+}
+
+impl McLines {
+    ghost use Rattle.std.specs.Prelude.{◌++◌, ◌∷◌, [], ◌↔◌, ◌⊎◌, IfOk, IfErr, OnOk, OnErr, IsOk, IsErrOf, Some, true, false};
+    ghost use Rattle.std.specs.List.{cons_option};
+    ghost use Rattle.life_base.specs.Refusal.{Prefix};
+    ghost use Rattle.life_base.specs.declared.kind.Kind.TheVariants.{Memory, Spent, NoHeader};
+    ghost use Rattle.life_mc.specs.Grammar.{IsFile};
+    ghost use Rattle.life_mc.specs.Macrocell.{Macrocell};
+    ghost use Rattle.life_mc.specs.Reading.{Accepts, broken, square_behind, squares_of};
+
+    /// A reader that no line came to. It takes no memory.
+    pub fn new(alloc: Global) -> McLines
+        ensures { result ≡ record { lines = []; refused = false } }
+    {
+        McLines {
+            kept: Kept::new(alloc),
+            refused: false,
+            log: LineLog::new(),
+        }
+    }
+
+    /// Takes the next line, without its line feed, and answers its square, if it is a node line. A line feed in the line is a
+    /// byte like any other, so a caller that has bytes cuts them first.
+    ///
+    /// # Errors
+    ///
+    /// The kind of the first rule that the line breaks, or `Memory`. After an error each later call answers `Spent`.
+    pub fn line(&mut self, line: &[u8]) -> Result<Option<Line>, Kind>
+        ensures lines { OnOk result (self.new ≡ record { lines = self.old.lines ++ line.now ∷ []; refused = false }) }
+
+        // The lines so far are the front of a file, and the answer is the square of the line.
+        ensures front { OnOk result (Prefix (Accepts MAX_LEVEL) self.new.lines) }
+        ensures square { IfOk result (λ square. square ≡ square_behind self.old.lines line.now) }
+        ensures squares { IfOk result (λ square. squares_of self.new.lines ≡ squares_of self.old.lines ++ cons_option square []) }
+
+        // A refused line is the first that breaks a rule, and every later call answers Spent.
+        ensures fault { IfErr result (λ kind. (kind ≡ Memory) ⊎ (kind ≡ Spent) ⊎ (broken MAX_LEVEL self.old.lines line.now ≡ Some kind)) }
+        ensures spent { IsErrOf result Spent ↔ (self.old.refused ≡ true) }
+        ensures refused { OnErr result (self.new ≡ record { lines = self.old.lines; refused = true }) }
+    {
+        if self.refused {
+            return Err(Kind::Spent);
+        }
+        self.refused = true;
+        let square = self.kept.take(line)?;
+        self.log = self.log.then(line);
+        self.refused = false;
+        Ok(square)
+    }
+
+    /// The rule and the generation of the file that the lines are.
+    ///
+    /// # Errors
+    ///
+    /// `NoHeader` where no line came, and `Spent` after a refused line.
+    pub fn end(self) -> Result<(Rule, u64), Kind>
+        ensures file { IfOk result (λ found. (file : Macrocell) × IsFile MAX_LEVEL self.lines file × (found.0 ≡ file.rule) × (found.1 ≡ file.generation)) }
+        ensures whole { self.refused ≡ false → Accepts MAX_LEVEL self.lines → IsOk result }
+        ensures missing { self.refused ≡ false → (IsErrOf result NoHeader ↔ (self.lines ≡ [])) }
+        ensures spent { IsErrOf result Spent ↔ (self.refused ≡ true) }
+        ensures only { IfErr result (λ kind. (kind ≡ NoHeader) ⊎ (kind ≡ Spent)) }
+    {
+        if self.refused {
+            return Err(Kind::Spent);
+        }
+        self.kept.said().ok_or(Kind::NoHeader)
     }
 }

@@ -1,10 +1,12 @@
 //! Macrocell files, read whole.
 
-ghost use Rattle.std.specs.Prelude.{◌≡◌, ◌++◌, ◌∷◌, [], List, ℕ, OnOk, IfOk, IfErr, Some, false, true};
-ghost use Rattle.life_base.specs.Refusal.{fault_of, OrMemory};
+ghost use Rattle.std.specs.Prelude.{◌≡◌, ◌⊎◌, ◌++◌, ◌∷◌, [], OnOk, IfOk, IfErr, Some, false, true};
+ghost use Rattle.life_base.specs.Refusal.{OrMemory};
 ghost use Rattle.life_base.specs.Text.{lines_of};
-ghost use Rattle.life_mc.specs.Reading.{IsMacrocell, Refuses, broken, squares_of, is_macrocell_kind};
-ghost use Rattle.life_mc.specs.Standing.{StandsAfter};
+ghost use Rattle.life_base.specs.declared.kind.Kind.TheVariants.{Memory};
+ghost use Rattle.life_mc.specs.Grammar.{IsFile};
+ghost use Rattle.life_mc.specs.Laws.{AreUnbroken};
+ghost use Rattle.life_mc.specs.Reading.{Refuses, broken, squares_of, is_macrocell_kind};
 
 use crate::file::McFile;
 use crate::line::Line;
@@ -13,40 +15,33 @@ use life_base::{Fault, Items, Kind, MAX_LEVEL, lines};
 use std::alloc::Global;
 
 /// Takes the next line, and adds its square.
-fn take_line(
-    reader: &mut McLines,
-    squares: &mut Vec<Line>,
-    number: u64,
-    line: &[u8],
-) -> Result<(), Fault>
-    ensures ok { (before : List (List ℕ)) → StandsAfter MAX_LEVEL before reader.old → squares.old.items ≡ squares_of before
-        → OnOk result (StandsAfter MAX_LEVEL (before ++ line.now ∷ []) reader.new × (squares.new.items ≡ squares_of (before ++ line.now ∷ []))) }
-    ensures err { (before : List (List ℕ)) → StandsAfter MAX_LEVEL before reader.old → reader.old.spent ≡ false
-        → IfErr result (λ fault. OrMemory fault ((broken MAX_LEVEL before line.now ≡ Some fault.kind) × (fault.place.line ≡ number))) }
-    ensures goes_on { OnOk result (reader.new.spent ≡ false) }
+fn take_line(reader: &mut McLines, squares: &mut Vec<Line>, line: &[u8]) -> Result<(), Kind>
+    requires { reader.old.refused ≡ false }
+    ensures lines { OnOk result (reader.new ≡ record { lines = reader.old.lines ++ line.now ∷ []; refused = false }) }
+    ensures unbroken { OnOk result (AreUnbroken MAX_LEVEL reader.new.lines) }
+    ensures squares { OnOk result (squares.old.items ≡ squares_of reader.old.lines → squares.new.items ≡ squares_of reader.new.lines) }
+    ensures fault { IfErr result (λ kind. (kind ≡ Memory) ⊎ (broken MAX_LEVEL reader.old.lines line.now ≡ Some kind)) }
 {
-    match reader.line(line) {
-        Ok(None) => Ok(()),
-        Ok(Some(square)) => match squares.push(square) {
-            Ok(()) => Ok(()),
-            Err(_) => Err(Fault::of(Kind::Memory)),
-        },
-        Err(kind) => Err(Fault::at(number, kind)),
+    if let Some(square) = reader.line(line)? {
+        squares.push(square)?;
     }
+    Ok(())
 }
 
 /// What a macrocell file says, or why the bytes are none: the place is the first line behind which they can't be continued to
 /// a file, 1 where there are no lines, and the kind is that of the first rule which that line breaks. Where a growth of memory
 /// is refused the fault is `Memory`, which names no line.
 pub fn read_mc(alloc: Global, bytes: &[u8]) -> Result<McFile, Fault>
-    ensures ok { IfOk result (λ file. IsMacrocell MAX_LEVEL bytes.now file) }
+    ensures ok { IfOk result (λ file. IsFile MAX_LEVEL (lines_of bytes.now) file) }
     ensures err { IfErr result (λ fault. OrMemory fault (Refuses MAX_LEVEL (lines_of bytes.now) fault)) }
     ensures kinds { IfErr result (λ fault. OrMemory fault (is_macrocell_kind fault.kind ≡ true)) }
 {
     let mut reader = McLines::new(alloc);
     let mut squares = Vec::new(alloc);
     for (number, line) in lines(bytes) {
-        take_line(&mut reader, &mut squares, number, line)?;
+        if let Err(kind) = take_line(&mut reader, &mut squares, line) {
+            return Err(Fault::at(number, kind));
+        }
     }
     match reader.end() {
         Ok((rule, generation)) => Ok(McFile {

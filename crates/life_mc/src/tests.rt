@@ -1,8 +1,6 @@
 //! Worked files, with the answers of the format.
 
-use crate::line::Line;
-use crate::lines::McLines;
-use crate::{laws, read_mc, write_mc};
+use crate::{Line, McLines, laws, read_mc, write_mc};
 use life_base::{Fault, Kind, Place, Rule};
 use std::alloc::Global;
 use std::process::Abort;
@@ -200,22 +198,58 @@ fn lines_are_taken(rt: HostRuntime) -> Result<(), Fail> {
     for (line, square) in rows {
         assert_eq!(rt; reader.line(line), Ok(square));
     }
-    match reader.end() {
-        Ok((rule, generation)) => {
-            assert!(rt; rule.same(&Rule::default_rule()));
-            assert_eq!(rt; generation, 0);
-        }
-        Err(_) => assert!(rt; false),
-    }
+    let (rule, generation) = reader.end()?;
+    assert!(rt; rule.same(&Rule::default_rule()));
+    assert_eq!(rt; generation, 0);
     Ok(())
 }
 
 #[test]
-fn readers_are_spent(rt: HostRuntime) {
+fn generations_are_told(rt: HostRuntime) -> Result<(), Fail> {
+    let mut reader = McLines::new(rt.alloc());
+    for &line in &[
+        b"[M2] (golly 2.0)".as_slice(),
+        b"#G 7",
+        b"",
+        b"#G 12",
+        b"#C end",
+    ] {
+        assert_eq!(rt; reader.line(line)?, None);
+    }
+    let (rule, generation) = reader.end()?;
+    assert!(rt; rule.same(&Rule::default_rule()));
+    assert_eq!(rt; generation, 12);
+    Ok(())
+}
+
+#[test]
+fn readers_are_spent(rt: HostRuntime) -> Result<(), Fail> {
+    for (line, kind) in [
+        (b"#G 1".as_slice(), Kind::LateHeader),
+        (b".o$", Kind::BadLeaf),
+        (b"4 2 0 0 0", Kind::BadChild),
+        (b"61 0 0 0 0", Kind::BadLevel),
+        (b"x", Kind::BadNode),
+    ] {
+        let mut reader = McLines::new(rt.alloc());
+        assert_eq!(rt; reader.line(b"[M2]")?, None);
+        assert!(rt; reader.line(b"$")?.is_some());
+        assert_eq!(rt; reader.line(line), Err(kind));
+        for later in [b"$".as_slice(), b"", line] {
+            assert_eq!(rt; reader.line(later), Err(Kind::Spent));
+        }
+        assert_eq!(rt; reader.end().err(), Some(Kind::Spent));
+    }
     let mut reader = McLines::new(rt.alloc());
     assert_eq!(rt; reader.line(b"o!"), Err(Kind::NoHeader));
     assert_eq!(rt; reader.line(b"[M2]"), Err(Kind::Spent));
     assert_eq!(rt; reader.end().err(), Some(Kind::Spent));
+    Ok(())
+}
+
+#[test]
+fn no_lines_lack_a_header(rt: HostRuntime) {
+    assert_eq!(rt; McLines::new(rt.alloc()).end().err(), Some(Kind::NoHeader));
 }
 
 #[test]
@@ -224,5 +258,11 @@ fn laws_are_called() {
     laws::files_are_unique();
     laws::faults_are_unique();
     laws::fronts_are_unbroken();
+    laws::fronts_are_files();
+    laws::long_lines_break();
     laws::lines_break_by_kinds();
+    laws::refusals_have_kinds();
+    laws::kinds_name_lines();
+    laws::lines_are_valid();
+    laws::blank_outside();
 }

@@ -158,8 +158,6 @@ pub fn write_mc(alloc: Global, file: &McFile) -> Result<Vec<u8>, Fault>
     ensures err { IfErr result (λ fault. fault ≡ fault_of Memory) }
 {
     let mut out = Vec::new(alloc);
-    match append_parts(&mut out, &file.rule, file.generation, file.lines.as_slice()) {
-        Ok(()) => Ok(out),
-        Err(kind) => Err(Fault::of(kind)),
-    }
+    append_parts(&mut out, &file.rule, file.generation, file.lines.as_slice())?;
+    Ok(out)
 }

@@ -1,81 +1,87 @@
-use Rattle.std.proofs.Common.{◌≡◌, ◌++◌, ◌∷◌, [], List, ℕ, map, sym, ◌∙◌, ap, subst, inl, inr, true}
+use Rattle.std.proofs.Common.{◌≡◌, ◌⊎◌, ◌++◌, ◌∷◌, [], true, false, cond, List, ℕ, map, Err, sym, ◌∙◌, ap, subst, inl, inr}
 use Rattle.std.specs.Prelude.{Some}
-use Rattle.std.proofs.lemmas.Result.{err_from_is_err_and}
 use Rattle.life_base.specs.Text.{lines_of, numbered_from}
 use Rattle.life_base.specs.Refusal.{fault_at, OrMemory}
 use Rattle.life_base.specs.declared.fault.Fault.{Fault}
-use Rattle.life_base.specs.declared.kind.Kind.TheVariants.{NoHeader}
-use Rattle.life_mc.specs.Reading.{broken, Refuses, AreMacrocell, squares_of, rule_in_force, is_macrocell_kind}
-use Rattle.life_mc.proofs.LineKinds.{broken_kind}
-use Rattle.life_mc.specs.Macrocell.{Macrocell, AreSquares}
-use Rattle.life_mc.specs.declared.line.Line.{Line}
-use Rattle.life_base.specs.declared.rule.Rule.{Rule}
-use Rattle.life_base.proofs.NumberedLines.{all_read, texts}
-use Rattle.life_mc.proofs.ReadLines.{refused_at, no_lines}
-use Rattle.life_mc.proofs.Valid.{squares_valid}
-use Rattle.life_mc.proofs.reading.read_mc.Invariants.{numbered}
+use Rattle.life_base.specs.declared.kind.Kind.{Kind}
+use Rattle.life_base.specs.declared.kind.Kind.TheVariants.{Memory, NoHeader, Spent}
 use Rattle.life_base.specs.declared.cell.TheConstants.{MAX_LEVEL}
+use Rattle.life_base.proofs.NumberedLines.{all_read}
+use Rattle.life_mc.specs.Grammar.{IsFile}
+use Rattle.life_mc.specs.Macrocell.{Macrocell}
+use Rattle.life_mc.specs.Reading.{broken, Refuses, is_macrocell_kind}
+use Rattle.life_mc.proofs.LineKinds.{broken_kind, names_line}
+use Rattle.life_mc.proofs.LinesTaken.{refused_here, file_of}
+use Rattle.life_mc.proofs.ReadLines.{no_lines}
+use Rattle.life_mc.proofs.reading.read_mc.Invariants.{numbered}
 use Rattle.life_mc.proofs.reading.read_mc.Goals as goal
 
-pub returns-in_err-take_line-clause-err : goal.returns-in_err-take_line-clause-err
-returns-in_err-take_line-clause-err c =
-    let p = err_from_is_err_and c.from_residual.result c.from_residual.ensures.1 in
-    let pairs : List (ℕ × List ℕ) = map numbered c.loop-number.yielded in
-    let fault : Fault = c.in_err-take_line.field-0.0 in
-    let told : OrMemory fault ((broken MAX_LEVEL (texts pairs) c.in-Some.line.now ≡ Some fault.kind) × (fault.place.line ≡ c.in-Some.number)) =
-    c.in_err-take_line.ensures.err (texts pairs) c.loop-number.invariant.stands c.loop-number.invariant.fresh in
-    let all : pairs ++ (c.in-Some.number, c.in-Some.line.now) ∷ numbered_from c.next.new.self.number (lines_of c.next.new.self.rest.now) ≡ numbered_from 1 (lines_of c.args.bytes.now) =
-    ap (λ (t : List (ℕ × List ℕ)). pairs ++ t) (sym c.in-Some.ensures.steps) ∙ c.loop-number.invariant.all in
-    let answer : OrMemory fault (Refuses MAX_LEVEL (lines_of c.args.bytes.now) fault) = elim told [
-      | inl m ↦ inl m
-      | inr w ↦ inr (refused_at MAX_LEVEL (lines_of c.args.bytes.now) pairs c.in-Some.number c.in-Some.line.now _ fault all c.loop-number.invariant.stands.unbroken w.0 w.1)
-    ] in
-    rw (p.1, p.2) answer
-
-pub invariant_of-result : goal.invariant_of-result
-invariant_of-result c =
-    let pairs : List (ℕ × List ℕ) = map numbered c.loop-number.yielded in
-    let said = c.in-Ok.ensures.said (texts pairs) c.loop-number.invariant.stands c.loop-number.invariant.fresh in
-    let squares : c.from_vec.result ≡ squares_of (texts pairs) = c.from_vec.ensures ∙ c.loop-number.invariant.squares in
-    let P : Rule → Type 0 = λ rule. AreSquares MAX_LEVEL rule c.from_vec.result in
-    let Q : List Line → Type 0 = λ lines. AreSquares MAX_LEVEL (rule_in_force (texts pairs)) lines in
-    subst P (sym said.1) (subst Q (sym squares) (squares_valid MAX_LEVEL (texts pairs) c.loop-number.invariant.stands.unbroken))
-
-pub returns-in-Ok-clause-ok : goal.returns-in-Ok-clause-ok
-returns-in-Ok-clause-ok c =
-    let pairs : List (ℕ × List ℕ) = map numbered c.loop-number.yielded in
-    let said = c.in-Ok.ensures.said (texts pairs) c.loop-number.invariant.stands c.loop-number.invariant.fresh in
-    let file : Macrocell = record { rule = c.in-Ok.rule; generation = c.in-Ok.generation; lines = c.from_vec.result } in
-    let read : AreMacrocell MAX_LEVEL (texts pairs) file = record {
-      header = said.0;
-      unbroken = c.loop-number.invariant.stands.unbroken;
-      rule = said.1;
-      generation = said.2;
-      squares = c.from_vec.ensures ∙ c.loop-number.invariant.squares;
-    } in
-    let P : List (List ℕ) → Type 0 = λ lines. AreMacrocell MAX_LEVEL lines file in
-    subst P (all_read (lines_of c.args.bytes.now) pairs _ c.loop-number.invariant.all c.in-None.ensures.steps.0) read
+-- the fault of a line that breaks a rule behind these
+at_line : (front : List (List ℕ)) (line : List ℕ) (number : ℕ) (kind : Kind) (fault : Fault) → fault ≡ fault_at number kind → (kind ≡ Memory) ⊎ (broken MAX_LEVEL front line ≡ Some kind)
+    → OrMemory fault ((broken MAX_LEVEL front line ≡ Some fault.kind) × (fault.place.line ≡ number))
+at_line front line number kind fault e (inl m) = inl (e ∙ ap (fault_at number) m)
+at_line front line number kind fault e (inr b) = inr (
+  b ∙ ap Some (sym (ap (λ (f : Fault). f.kind) e)),
+  ap (λ (f : Fault). f.place.line) e ∙ ap (λ v. cond v 0 number) (names_line kind (broken_kind MAX_LEVEL front line kind b)),
+)
 
 pub returns-in-Err-clause-err : goal.returns-in-Err-clause-err
 returns-in-Err-clause-err c =
     let pairs : List (ℕ × List ℕ) = map numbered c.loop-number.yielded in
     let lines : List (List ℕ) = lines_of c.args.bytes.now in
-    let said = c.in-Err.ensures.said (texts pairs) c.loop-number.invariant.stands c.loop-number.invariant.fresh in
-    let e : c.at.result ≡ fault_at 1 NoHeader = c.at.ensures ∙ ap (fault_at 1) said.0 in
-    let t : [] ≡ lines = sym said.1 ∙ all_read lines pairs _ c.loop-number.invariant.all c.in-None.ensures.steps.0 in
-    let P : Fault → Type 0 = λ fault. Refuses MAX_LEVEL lines fault in
-    let Q : List (List ℕ) → Type 0 = λ ls. Refuses MAX_LEVEL ls (fault_at 1 NoHeader) in
-    inr (subst P (sym e) (subst Q t (no_lines MAX_LEVEL)))
-
-pub returns-in_err-take_line-clause-kinds : goal.returns-in_err-take_line-clause-kinds
-returns-in_err-take_line-clause-kinds c =
-    let p = err_from_is_err_and c.from_residual.result c.from_residual.ensures.1 in
-    let pairs : List (ℕ × List ℕ) = map numbered c.loop-number.yielded in
-    let fault : Fault = c.in_err-take_line.field-0.0 in
-    let told : OrMemory fault ((broken MAX_LEVEL (texts pairs) c.in-Some.line.now ≡ Some fault.kind) × (fault.place.line ≡ c.in-Some.number)) =
-    c.in_err-take_line.ensures.err (texts pairs) c.loop-number.invariant.stands c.loop-number.invariant.fresh in
-    let answer : OrMemory fault (is_macrocell_kind fault.kind ≡ true) = elim told [
+    let front : List (List ℕ) = c.loop-number.reader.lines in
+    let line : List ℕ = c.in-Some.line.now in
+    let fault : Fault = c.at.result in
+    let all : pairs ++ (c.in-Some.number, line) ∷ numbered_from c.next.new.self.number (lines_of c.next.new.self.rest.now) ≡ numbered_from 1 lines =
+    ap (λ (t : List (ℕ × List ℕ)). pairs ++ t) (sym c.in-Some.ensures.steps) ∙ c.loop-number.invariant.all in
+    let answer : OrMemory fault (Refuses MAX_LEVEL lines fault) = elim (at_line front line c.in-Some.number c.in-Err.kind fault c.at.ensures c.in-Err.ensures.fault) [
       | inl m ↦ inl m
-      | inr w ↦ inr (broken_kind MAX_LEVEL (texts pairs) c.in-Some.line.now fault.kind w.0)
+      | inr w ↦ inr (refused_here MAX_LEVEL lines pairs c.in-Some.number line _ front fault all c.loop-number.invariant.taken c.loop-number.invariant.unbroken w.0 w.1)
     ] in
-    rw (p.1, p.2) answer
+    answer
+
+pub returns-in-Err-clause-kinds : goal.returns-in-Err-clause-kinds
+returns-in-Err-clause-kinds c =
+    let front : List (List ℕ) = c.loop-number.reader.lines in
+    let line : List ℕ = c.in-Some.line.now in
+    let fault : Fault = c.at.result in
+    let answer : OrMemory fault (is_macrocell_kind fault.kind ≡ true) = elim (at_line front line c.in-Some.number c.in-Err.kind fault c.at.ensures c.in-Err.ensures.fault) [
+      | inl m ↦ inl m
+      | inr w ↦ inr (broken_kind MAX_LEVEL front line fault.kind w.0)
+    ] in
+    answer
+
+pub invariant_of-result : goal.invariant_of-result
+invariant_of-result c =
+    let said = c.in-Ok.ensures.file in
+    let read : List (List ℕ) = c.loop-number.reader.lines in
+    let file : Macrocell = record { rule = c.in-Ok.rule; generation = c.in-Ok.generation; lines = c.from_vec.result } in
+    let is : IsFile MAX_LEVEL read file = file_of MAX_LEVEL read said.0 file said.1 said.2 said.3 (c.from_vec.ensures ∙ c.loop-number.invariant.squares) in
+    is.valid
+
+pub returns-in-Ok-clause-ok : goal.returns-in-Ok-clause-ok
+returns-in-Ok-clause-ok c =
+    let pairs : List (ℕ × List ℕ) = map numbered c.loop-number.yielded in
+    let said = c.in-Ok.ensures.file in
+    let read : List (List ℕ) = c.loop-number.reader.lines in
+    let file : Macrocell = record { rule = c.in-Ok.rule; generation = c.in-Ok.generation; lines = c.from_vec.result } in
+    let is : IsFile MAX_LEVEL read file = file_of MAX_LEVEL read said.0 file said.1 said.2 said.3 (c.from_vec.ensures ∙ c.loop-number.invariant.squares) in
+    let whole : read ≡ lines_of c.args.bytes.now = c.loop-number.invariant.taken ∙ all_read (lines_of c.args.bytes.now) pairs _ c.loop-number.invariant.all c.in-None.ensures.steps.0 in
+    subst (λ ls. IsFile MAX_LEVEL ls file) whole is
+
+pub returns-in-Err-end-clause-err : goal.returns-in-Err-end-clause-err
+returns-in-Err-end-clause-err c =
+    let pairs : List (ℕ × List ℕ) = map numbered c.loop-number.yielded in
+    let lines : List (List ℕ) = lines_of c.args.bytes.now in
+    let read : List (List ℕ) = c.loop-number.reader.lines in
+    let whole : read ≡ lines = c.loop-number.invariant.taken ∙ all_read lines pairs _ c.loop-number.invariant.all c.in-None.ensures.steps.0 in
+    let kind : Kind = c.in-Err-end.kind in
+    let e : c.at-in-Err-end.result ≡ fault_at 1 kind = c.at-in-Err-end.ensures in
+    let only : (kind ≡ NoHeader) ⊎ (kind ≡ Spent) = c.in-Err-end.ensures.only in
+    let Q : List (List ℕ) → Type 0 = λ ls. Refuses MAX_LEVEL ls (fault_at 1 NoHeader) in
+    let answer : OrMemory c.at-in-Err-end.result (Refuses MAX_LEVEL lines c.at-in-Err-end.result) = elim only [
+      | inl m ↦ (let none : read ≡ [] = (c.in-Err-end.ensures.missing c.loop-number.invariant.fresh).0 (ap Err m) in
+          inr (subst (Refuses MAX_LEVEL lines) (sym (e ∙ ap (fault_at 1) m)) (subst Q (sym none ∙ whole) (no_lines MAX_LEVEL))))
+      | inr s ↦ (let refused : c.loop-number.reader.refused ≡ true = c.in-Err-end.ensures.spent.0 (ap Err s) in let fresh : c.loop-number.reader.refused ≡ false = c.loop-number.invariant.fresh in cc)
+    ] in
+    answer

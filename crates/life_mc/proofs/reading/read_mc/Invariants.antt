@@ -1,7 +1,7 @@
 use Rattle.std.proofs.Common.{◌≡◌, ◌++◌, List, ℕ, map, false, Bor}
 use Rattle.life_base.specs.Text.{lines_of, numbered_from}
 use Rattle.life_mc.specs.Reading.{squares_of}
-use Rattle.life_mc.specs.Standing.{StandsAfter}
+use Rattle.life_mc.specs.Laws.{AreUnbroken}
 use Rattle.life_base.proofs.NumberedLines.{texts}
 use Rattle.life_base.specs.declared.cell.TheConstants.{MAX_LEVEL}
 use Rattle.life_mc.proofs.reading.read_mc.Given as goal
@@ -12,7 +12,8 @@ numbered p = (p.0, p.1.now)
 abbrev pub invariant-loop-number : goal.invariant-loop-number
 invariant-loop-number l = record {
   all : map numbered l.yielded ++ numbered_from l.number-iterator.number (lines_of l.number-iterator.rest.now) ≡ numbered_from 1 (lines_of l.bytes);
-  stands : StandsAfter MAX_LEVEL (texts (map numbered l.yielded)) l.reader;
-  squares : l.squares.items ≡ squares_of (texts (map numbered l.yielded));
-  fresh : l.reader.spent ≡ false;
+  taken : l.reader.lines ≡ texts (map numbered l.yielded);
+  fresh : l.reader.refused ≡ false;
+  unbroken : AreUnbroken MAX_LEVEL l.reader.lines;
+  squares : l.squares.items ≡ squares_of l.reader.lines;
 }

@@ -1,26 +1,34 @@
-use Rattle.std.proofs.Common.{◌≡◌, ◌∙◌, ◌⊎◌, ap, sym, inl, inr, refl, List, ℕ, true, false}
+use Rattle.std.proofs.Common.{◌≡◌, ◌<◌, ◌≤◌, ◌^◌, ◌∙◌, ◌⊎◌, ap, sym, inl, inr, refl, List, ℕ, Bool, true, false, length, arith}
 use Rattle.std.specs.Prelude.{Some}
+use Rattle.std.proofs.lemmas.Bool.{ltb-true, ltb-false}
 use Rattle.std.proofs.lemmas.Result.{err_from_is_err_and}
+use Rattle.life_base.specs.Text.{is_too_long}
 use Rattle.life_base.specs.declared.kind.Kind.{Kind}
 use Rattle.life_base.specs.declared.kind.Kind.TheVariants.{Memory}
 use Rattle.life_mc.specs.Reading.{broken}
 use Rattle.life_mc.specs.Standing.{Standing, broken_after}
 use Rattle.life_mc.proofs.Stands.{breaks_length, breaks_header, broken_is, stands_first, stands_next, combine}
 use Rattle.life_base.specs.declared.cell.TheConstants.{MAX_LEVEL}
-use Rattle.life_mc.proofs.lines.McLines.take.Goals as goal
+use Rattle.life_mc.proofs.lines.Kept.take.Goals as goal
 
-pub returns-then-line-gt-LONGEST_LINE-clause-err : goal.returns-then-line-gt-LONGEST_LINE-clause-err
-returns-then-line-gt-LONGEST_LINE-clause-err c = λ lines s. inr (breaks_length MAX_LEVEL lines c.args.line.now c.if-line-gt-LONGEST_LINE.true)
+long : (line : List ℕ) (v : Bool) → v ≡ is_too_long line → v ≡ true → 2 ^ 20 < length line
+long line v e h = omega (arith, ltb-true (2 ^ 20) (length line) (sym e ∙ h))
+
+short : (line : List ℕ) (v : Bool) → v ≡ is_too_long line → v ≡ false → length line ≤ 2 ^ 20
+short line v e h = omega (arith, ltb-false (2 ^ 20) (length line) (sym e ∙ h))
+
+pub returns-then-is_too_long-clause-err : goal.returns-then-is_too_long-clause-err
+returns-then-is_too_long-clause-err c = λ lines s. inr (breaks_length MAX_LEVEL lines c.args.line.now (long c.args.line.now c.is_too_long.result c.is_too_long.ensures c.if-is_too_long.true))
 
 pub returns-then-not-begins_with-clause-err : goal.returns-then-not-begins_with-clause-err
 returns-then-not-begins_with-clause-err c = λ lines s.
     let started : c.args.self.now.started ≡ false = ap (λ (v : Standing). v.started) (sym c.self.view_is) ∙ c.if-not-self.true in
-    inr (breaks_header MAX_LEVEL lines c.args.line.now c.args.self.now s c.if-line-gt-LONGEST_LINE.false started (sym c.begins_with.ensures ∙ c.if-not-begins_with.true))
+    inr (breaks_header MAX_LEVEL lines c.args.line.now c.args.self.now s (short c.args.line.now c.is_too_long.result c.is_too_long.ensures c.if-is_too_long.false) started (sym c.begins_with.ensures ∙ c.if-not-begins_with.true))
 
 pub returns-then-not-self-clause-ok : goal.returns-then-not-self-clause-ok
 returns-then-not-self-clause-ok c = λ lines s.
     let started : c.args.self.now.started ≡ false = ap (λ (v : Standing). v.started) (sym c.self.view_is) ∙ c.if-not-self.true in
-    stands_first MAX_LEVEL lines c.args.line.now c.args.self.now _ s c.if-line-gt-LONGEST_LINE.false started (sym c.begins_with.ensures ∙ c.if-not-begins_with.false) refl
+    stands_first MAX_LEVEL lines c.args.line.now c.args.self.now _ s (short c.args.line.now c.is_too_long.result c.is_too_long.ensures c.if-is_too_long.false) started (sym c.begins_with.ensures ∙ c.if-not-begins_with.false) refl
     (ap (λ (v : Standing). v.rule) c.self.view_is) (ap (λ (v : Standing). v.generation) c.self.view_is) (ap (λ (v : Standing). v.levels) c.self.view_is)
 
 pub returns-in_err-told-clause-err : goal.returns-in_err-told-clause-err
@@ -35,7 +43,7 @@ returns-in_err-told-clause-err c = λ lines s.
     let p = err_from_is_err_and c.from_residual.result c.from_residual.ensures.1 in
     let answer : (kind ≡ Memory) ⊎ (broken MAX_LEVEL lines line ≡ Some kind) = elim told [
       | inl m ↦ inl m
-      | inr b ↦ inr (broken_is MAX_LEVEL lines line now s c.if-line-gt-LONGEST_LINE.false started ∙ same ∙ b)
+      | inr b ↦ inr (broken_is MAX_LEVEL lines line now s (short c.args.line.now c.is_too_long.result c.is_too_long.ensures c.if-is_too_long.false) started ∙ same ∙ b)
     ] in
     rw (p.1, p.2) answer
 
@@ -49,6 +57,6 @@ returns-clause-ok c = λ lines s.
     ap (λ (v : Standing). broken_after MAX_LEVEL v.rule v.levels line) (sym c.self.view_is) ∙ ap (λ (ls : List ℕ). broken_after MAX_LEVEL c.self.inside.rule ls line) (sym c.deref.ensures.value) in
     combine c.keep.result c.keep.ensures.square c.keep.ensures.rule c.keep.ensures.generation c.keep.ensures.levels
     (λ square p r g l.
-    let n = stands_next MAX_LEVEL lines line now c.keep.new.self s c.if-line-gt-LONGEST_LINE.false told started (same ∙ c.in_ok-told.ensures.1) c.in_ok-told.ensures.0
+    let n = stands_next MAX_LEVEL lines line now c.keep.new.self s (short c.args.line.now c.is_too_long.result c.is_too_long.ensures c.if-is_too_long.false) told started (same ∙ c.in_ok-told.ensures.1) c.in_ok-told.ensures.0
     c.keep.ensures.started r g l in
     (p ∙ n.0, n.1))

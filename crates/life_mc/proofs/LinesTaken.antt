@@ -1,0 +1,65 @@
+-- What is told of the lines that a reader took.
+use Rattle.std.proofs.Common.{◌≡◌, ℕ, ◌<◌, List, [], ◌∷◌, ◌++◌, length, true, not, refl, ap, sym, subst, ◌∙◌, arith}
+use Rattle.std.specs.Prelude.{Option, Some, None}
+use Rattle.std.specs.List.{cons_option}
+use Rattle.std.proofs.lemmas.List.{append-nil}
+use Rattle.life_base.specs.Refusal.{Prefix}
+use Rattle.life_base.specs.Text.{is_empty, numbered_from}
+use Rattle.life_base.specs.declared.fault.Fault.{Fault}
+use Rattle.life_base.proofs.NumberedLines.{texts}
+use Rattle.life_mc.specs.Grammar.{IsFile}
+use Rattle.life_mc.specs.Laws.{AreUnbroken}
+use Rattle.life_mc.specs.Macrocell.{Macrocell}
+use Rattle.life_mc.specs.Reading.{Accepts, Refuses, broken, square_behind, squares_of}
+use Rattle.life_mc.specs.Standing.{Standing, StandsAfter}
+use Rattle.life_mc.specs.declared.line.Line.{Line}
+use Rattle.life_mc.proofs.ByLines.{by_lines, accepted}
+use Rattle.life_mc.proofs.Grammars.{grammars_agree}
+use Rattle.life_mc.proofs.ReadLines.{squares_none, squares_some, refused_at}
+
+-- the squares of the lines so far, with that of one line more
+pub squares_taken : (before : List (List ℕ)) (line : List ℕ) → squares_of (before ++ line ∷ []) ≡ squares_of before ++ cons_option (square_behind before line) []
+squares_taken before line = by (square_behind before line) refl
+  where
+    by : (o : Option Line) → square_behind before line ≡ o → squares_of (before ++ line ∷ []) ≡ squares_of before ++ cons_option o []
+    by None h = squares_none before line h ∙ sym (append-nil (squares_of before))
+    by (Some square) h = squares_some before line square h
+
+pub none_accepted : (top : ℕ) → Accepts top [] → ⊥
+none_accepted top m = let h : 0 < length (let e : List (List ℕ) = [] in e) = m.1.header in absurd (omega arith)
+
+some_lines : (lines : List (List ℕ)) → not (is_empty lines) ≡ true → 0 < length lines
+some_lines [] h = cc
+some_lines (line ∷ lines) h = omega arith
+
+module _ (top : ℕ) (lines : List (List ℕ)) (state : Standing) (s : StandsAfter top lines state) where
+  pub stands_front : Prefix (Accepts top) lines
+  stands_front = (by_lines top).complete lines s.unbroken
+
+  -- once a line came, the lines are a file
+  pub file_said : state.started ≡ true → (file : Macrocell) × IsFile top lines file × (state.rule ≡ file.rule) × (state.generation ≡ file.generation)
+  file_said e =
+      let m = accepted top lines (some_lines lines (sym s.started ∙ e)) s.unbroken in
+      (m.0, (grammars_agree top lines m.0).1 m.1, s.rule ∙ sym m.1.rule, s.generation ∙ sym m.1.generation)
+
+-- before the first line nothing is broken, and there are no squares
+pub none_unbroken : (top : ℕ) (lines : List (List ℕ)) → lines ≡ [] → AreUnbroken top lines
+none_unbroken top lines e k h = absurd (omega (arith, ap length e))
+
+pub none_squares : (lines : List (List ℕ)) (squares : List Line) → lines ≡ [] → squares ≡ [] → squares ≡ squares_of lines
+none_squares lines squares e f = f ∙ sym (ap squares_of e)
+
+-- why an input is refused of which this line breaks a rule
+pub refused_here : (top : ℕ) (lines : List (List ℕ)) (before : List (ℕ × List ℕ)) (k : ℕ) (line : List ℕ) (rest : List (ℕ × List ℕ)) (front : List (List ℕ)) (fault : Fault)
+    → before ++ (k, line) ∷ rest ≡ numbered_from 1 lines → front ≡ texts before → AreUnbroken top front → broken top front line ≡ Some fault.kind → fault.place.line ≡ k
+    → Refuses top lines fault
+refused_here top lines before k line rest front fault e f u b l =
+    let P : List (List ℕ) → Type 0 = λ ls. broken top ls line ≡ Some fault.kind in
+    refused_at top lines before k line rest fault e (subst (AreUnbroken top) f u) (subst P f b) l
+
+-- the file of the lines that has this rule, this generation and these squares
+pub file_of : (top : ℕ) (lines : List (List ℕ)) (said file : Macrocell) → IsFile top lines said → file.rule ≡ said.rule → file.generation ≡ said.generation → file.lines ≡ squares_of lines
+    → IsFile top lines file
+file_of top lines said file f r g s =
+    let m = (grammars_agree top lines said).0 f in
+    (grammars_agree top lines file).1 (record { header = m.header; unbroken = m.unbroken; rule = r ∙ m.rule; generation = g ∙ m.generation; squares = s })
