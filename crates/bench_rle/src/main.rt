@@ -23,7 +23,7 @@ fn cells_of(alloc: Global, file: &RleFile) -> Result<Vec<Cell>, Kind> {
                 y: run.y,
                 state: run.state,
             };
-            cells.push(cell).map_err(|_| Kind::Memory)?;
+            cells.push(cell)?;
             x = x.wrapping_add(1);
         }
     }

@@ -21,7 +21,7 @@ use Rattle.life_rle.specs.Plane.{edge, is_coordinate}
 use Rattle.life_rle.specs.Pattern.{Rle, Placed, placed, placed_item, placed_behind, first_fault, item_fault, rows_in, columns_in}
 use Rattle.life_rle.specs.Runs.{runs_of}
 use Rattle.life_rle.specs.declared.opening.Opening.TheVariants.{Comment, PositionLine, Header}
-use Rattle.life_rle.specs.Grammar.{opening_of, later_of, IsPreamble, IsUnmarked, IsRle, Breaks, before_header, by_form, by_text, by_item, is_rle_kind}
+use Rattle.life_rle.specs.Grammar.{opening_of, later_of, IsPreamble, IsUnmarked, IsRle, Breaks, before_header, by_form, by_text, by_item}
 use Rattle.life_rle.specs.declared.opening.Later.TheVariants.{Passed, Data}
 use Rattle.life_rle.specs.File.{HasRuns}
 use Rattle.life_rle.specs.Cursor.{IsBehind, start_of, moved, moved_behind, placed_at}
@@ -32,6 +32,7 @@ use Rattle.life_rle.proofs.Unique.{IsRle-unique, with_items-twice}
 use Rattle.life_rle.proofs.Refusal.{IsPreamble-refused}
 use Rattle.life_rle.proofs.Places.{rows_in-Cells, rows_in-RowEnds, columns_in-Cells, columns_in-RowEnds}
 use Rattle.life_rle.proofs.ReadItems.{runs_of-append}
+use Rattle.life_rle.proofs.ShortKinds.{is_short_kind}
 use Rattle.life_rle.proofs.PlaneLemmas.{zero-coordinate}
 
 regroup : (z : ℤ) (a b : ℕ) → z +ℤ pos (a + b) ≡ (z +ℤ pos a) +ℤ pos b
@@ -92,7 +93,7 @@ abbrev IsPlaneField : ℕ → Result Field Kind → Type 0
 IsPlaneField level (Ok (Corner x y)) = (is_coordinate level x ≡ true) × (is_coordinate level y ≡ true)
 IsPlaneField level (Ok (Generation n)) = Unit {0}
 IsPlaneField level (Ok Other) = Unit {0}
-IsPlaneField level (Err kind) = is_rle_kind kind ≡ true
+IsPlaneField level (Err kind) = is_short_kind kind ≡ true
 
 and_both : (a b : Bool) → (a && b) ≡ true → (a ≡ true) × (b ≡ true)
 and_both true b e = (refl, e)
@@ -121,7 +122,7 @@ field_of-plane level text =
 
 abbrev pub IsPlanePosition : ℕ → Result Position Kind → Type 0
 IsPlanePosition level (Ok o) = IsInPlane level o
-IsPlanePosition level (Err kind) = is_rle_kind kind ≡ true
+IsPlanePosition level (Err kind) = is_short_kind kind ≡ true
 
 with_field-plane : (level : ℕ) (o : Position) (r : Result Field Kind) (next : Field → Result Position Kind) → IsInPlane level o → IsPlaneField level r → ((found : Field) → IsInPlane level (with_field o found) → IsPlanePosition level (next found)) → IsPlanePosition level (and_then r next)
 with_field-plane level o (Ok (Corner x y)) next h k f = f (Corner x y) k

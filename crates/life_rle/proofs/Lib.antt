@@ -8,6 +8,7 @@ pub mod FrontDigits
 pub mod NumbersRead
 pub mod Fields
 pub mod PlaneLemmas
+pub mod ShortKinds
 pub mod ReadItems
 pub mod Advance
 pub mod Texts
@@ -39,3 +40,7 @@ pub mod PlainWords
 pub mod PlainPosition
 pub mod MarkPlace
 pub mod PlainFaults
+pub mod FrontLaws
+pub mod ValidFiles
+pub mod LongestRuns
+pub mod PlainFiles

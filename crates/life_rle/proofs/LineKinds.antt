@@ -27,14 +27,15 @@ use Rattle.life_rle.specs.declared.opening.Opening.TheVariants.{Comment, Positio
 use Rattle.life_rle.specs.Grammar.{opening_of, later_of, Breaks, before_header, by_form, by_text, by_item, is_rle_kind}
 use Rattle.life_rle.specs.declared.opening.Later.{Later}
 use Rattle.life_rle.specs.declared.opening.Later.TheVariants.{Passed, Data}
+use Rattle.life_rle.proofs.ShortKinds.{is_short_kind, IsLineKind, short-line, line-rle, only-long}
 use Rattle.life_rle.proofs.ReadItems.{Broken-kind}
 use Rattle.life_rle.proofs.Advance.{IsInPlane, IsPlanePosition, position_of-plane}
 
 abbrev HasKind : {A : Type 0} → Result A Kind → Type 0
 HasKind (Ok a) = Unit {0}
-HasKind (Err kind) = is_rle_kind kind ≡ true
+HasKind (Err kind) = is_short_kind kind ≡ true
 
-rule-kind_of_rle : (kind : Kind) → is_rule_kind kind ≡ true → is_rle_kind kind ≡ true
+rule-kind_of_rle : (kind : Kind) → is_rule_kind kind ≡ true → is_short_kind kind ≡ true
 rule-kind_of_rle BadRule h = refl
 rule-kind_of_rle BoundedGrid h = refl
 rule-kind_of_rle UnsupportedRule h = refl
@@ -53,14 +54,15 @@ header-kind None = refl
 header-kind (Some None) = tt
 header-kind (Some (Some text)) = rule-kind text
 
-abbrev pub IsTameOpening : ℕ → Result Opening Kind → Type 0
-IsTameOpening level (Ok Comment) = Unit {0}
-IsTameOpening level (Ok (PositionLine o)) = IsInPlane level o
-IsTameOpening level (Ok (Header rule)) = Unit {0}
-IsTameOpening level (Err kind) = is_rle_kind kind ≡ true
+-- what a line is before the header, by whether it is too long
+abbrev pub IsTameOpening : ℕ → Bool → Result Opening Kind → Type 0
+IsTameOpening level long (Ok Comment) = Unit {0}
+IsTameOpening level long (Ok (PositionLine o)) = IsInPlane level o
+IsTameOpening level long (Ok (Header rule)) = Unit {0}
+IsTameOpening level long (Err kind) = IsLineKind long kind
 
-opening-choice : (level : ℕ) (long blank position comment header : Bool) (p h : Result Opening Kind) → IsTameOpening level p → IsTameOpening level h
-    → IsTameOpening level (cond long (Err LineTooLong) (cond blank (Ok Comment) (cond position p (cond comment (Ok Comment) (cond header h (Err NoHeader))))))
+opening-choice : (level : ℕ) (long blank position comment header : Bool) (p h : Result Opening Kind) → IsTameOpening level long p → IsTameOpening level long h
+    → IsTameOpening level long (cond long (Err LineTooLong) (cond blank (Ok Comment) (cond position p (cond comment (Ok Comment) (cond header h (Err NoHeader))))))
 opening-choice level true b c d e p h tp th = refl
 opening-choice level false true c d e p h tp th = tt
 opening-choice level false false true d e p h tp th = tp
@@ -68,21 +70,27 @@ opening-choice level false false false true e p h tp th = tt
 opening-choice level false false false false true p h tp th = th
 opening-choice level false false false false false p h tp th = refl
 
-position-tame : (level : ℕ) (r : Result Position Kind) → IsPlanePosition level r → IsTameOpening level (and_then r (λ position. Ok (PositionLine position)))
-position-tame level (Ok o) h = h
-position-tame level (Err kind) h = h
+position-tame : (level : ℕ) (long : Bool) (r : Result Position Kind) → IsPlanePosition level r → IsTameOpening level long (and_then r (λ position. Ok (PositionLine position)))
+position-tame level long (Ok o) h = h
+position-tame level long (Err kind) h = short-line long kind h
 
-header-tame : (level : ℕ) (r : Result Rule Kind) → HasKind r → IsTameOpening level (and_then r (λ rule. Ok (Header rule)))
-header-tame level (Ok rule) h = tt
-header-tame level (Err kind) h = h
+header-tame : (level : ℕ) (long : Bool) (r : Result Rule Kind) → HasKind r → IsTameOpening level long (and_then r (λ rule. Ok (Header rule)))
+header-tame level long (Ok rule) h = tt
+header-tame level long (Err kind) h = short-line long kind h
 
-pub opening-tame : (level : ℕ) (line : List ℕ) → IsTameOpening level (opening_of level line)
+pub opening-tame : (level : ℕ) (line : List ℕ) → IsTameOpening level (is_too_long line) (opening_of level line)
 opening-tame level line =
     opening-choice level (is_too_long line) (is_blank line) (is_position_line line) (begins_with line (codes "#")) (begins_with line (codes "x"))
     (and_then (position_of level line) (λ position. Ok (PositionLine position))) (and_then (header_of line) (λ rule. Ok (Header rule)))
-    (position-tame level (position_of level line) (position_of-plane level line)) (header-tame level (header_of line) (header-kind (header_form line)))
+    (position-tame level (is_too_long line) (position_of level line) (position_of-plane level line)) (header-tame level (is_too_long line) (header_of line) (header-kind (header_form line)))
 
-later-choice : (long blank position comment header : Bool) → HasKind (cond long (Err LineTooLong) (cond blank (Ok Passed) (cond position (Err LateHeader) (cond comment (Ok Passed) (cond header (Err SecondHeader) (Ok Data))))))
+-- what a line is behind the header, by whether it is too long
+abbrev IsTameLater : Bool → Result Later Kind → Type 0
+IsTameLater long (Ok later) = Unit {0}
+IsTameLater long (Err kind) = IsLineKind long kind
+
+later-choice : (long blank position comment header : Bool)
+    → IsTameLater long (cond long (Err LineTooLong) (cond blank (Ok Passed) (cond position (Err LateHeader) (cond comment (Ok Passed) (cond header (Err SecondHeader) (Ok Data))))))
 later-choice true b c d e = refl
 later-choice false true c d e = tt
 later-choice false false true d e = refl
@@ -90,16 +98,16 @@ later-choice false false false true e = tt
 later-choice false false false false true = refl
 later-choice false false false false false = tt
 
-later-kind : (line : List ℕ) → HasKind (later_of line)
-later-kind line = later-choice (is_too_long line) (is_blank line) (is_position_line line) (begins_with line (codes "#")) (begins_with line (codes "x ") || begins_with line (codes "x="))
+later-tame : (line : List ℕ) → IsTameLater (is_too_long line) (later_of line)
+later-tame line = later-choice (is_too_long line) (is_blank line) (is_position_line line) (begins_with line (codes "#")) (begins_with line (codes "x ") || begins_with line (codes "x="))
 
-text-kind : (level : ℕ) (items : List Item) (bytes : List ℕ) (kind : Kind) → Spells level bytes items (Broken kind) → is_rle_kind kind ≡ true
+text-kind : (level : ℕ) (items : List Item) (bytes : List ℕ) (kind : Kind) → Spells level bytes items (Broken kind) → is_short_kind kind ≡ true
 text-kind level [] bytes kind h = Broken-kind level bytes kind h
 text-kind level (item ∷ items) bytes kind h = text-kind level items h.0 kind h.2
 
 abbrev IsLive : Option Kind → Type 0
 IsLive None = Unit {0}
-IsLive (Some kind) = is_rle_kind kind ≡ true
+IsLive (Some kind) = is_short_kind kind ≡ true
 
 cells-choice : (state inside : Bool) → IsLive (cond state (Some StateRange) (cond inside None (Some OutOfPlane)))
 cells-choice true inside = refl
@@ -110,11 +118,20 @@ item-kind : (level : ℕ) (rule : Rule) (row column : ℤ) (item : Item) → IsL
 item-kind level rule row column (Cells n s) = cells-choice (not (is_state_of rule s)) (int_lt row (edge level) && int_le (column +ℤ pos n) (edge level))
 item-kind level rule row column (RowEnds n) = elim (int_le (row +ℤ pos n) (edge level)) as (λ t. IsLive (cond t None (Some OutOfPlane))) [ true ↦ tt | false ↦ refl ]
 
+Breaks-line_kind : (level : ℕ) (front : List (List ℕ)) (line : List ℕ) (kind : Kind) → Breaks level front line kind → IsLineKind (is_too_long line) kind
+Breaks-line_kind level front line kind (before_header o h e) = subst (IsTameOpening level (is_too_long line)) e (opening-tame level line)
+Breaks-line_kind level front line kind (by_form file h e) = subst (IsTameLater (is_too_long line)) e (later-tame line)
+Breaks-line_kind level front line kind (by_text file items h form s sound) = short-line (is_too_long line) kind (text-kind level items line kind s)
+Breaks-line_kind level front line kind (by_item file items item rest h form s sound fault) =
+    short-line (is_too_long line) kind
+    (subst IsLive fault (item-kind level file.rule (file.position.y +ℤ pos (rows_in (file.items ++ items))) (file.position.x +ℤ pos (columns_in (file.items ++ items))) item))
+
 pub Breaks-kind : (level : ℕ) (front : List (List ℕ)) (line : List ℕ) (kind : Kind) → Breaks level front line kind → is_rle_kind kind ≡ true
-Breaks-kind level front line kind (before_header o h e) = subst (IsTameOpening level) e (opening-tame level line)
-Breaks-kind level front line kind (by_form file h e) = let P : Result Later Kind → Type 0 = λ r. HasKind r in subst P e (later-kind line)
-Breaks-kind level front line kind (by_text file items h form s sound) = text-kind level items line kind s
-Breaks-kind level front line kind (by_item file items item rest h form s sound fault) = subst IsLive fault (item-kind level file.rule (file.position.y +ℤ pos (rows_in (file.items ++ items))) (file.position.x +ℤ pos (columns_in (file.items ++ items))) item)
+Breaks-kind level front line kind b = line-rle (is_too_long line) kind (Breaks-line_kind level front line kind b)
+
+-- only a line that is too long breaks the rule of lengths
+pub Breaks-long : (level : ℕ) (front : List (List ℕ)) (line : List ℕ) → Breaks level front line LineTooLong → is_too_long line ≡ true
+Breaks-long level front line b = only-long (is_too_long line) (Breaks-line_kind level front line LineTooLong b)
 
 -- each of these kinds names a line
 pub names_line : (kind : Kind) → is_rle_kind kind ≡ true → is_placeless kind ≡ false

@@ -11,21 +11,21 @@ use Rattle.life_rle.specs.declared.file.Run.{Run}
 use Rattle.life_rle.specs.States.{state_at}
 use Rattle.life_rle.specs.declared.item.Item.TheVariants.{Cells, RowEnds}
 use Rattle.life_rle.specs.Items.{front_digits, behind_digits, Next, End, Mark, Spelled, Broken, cells_of, item_behind, counted, item_in, next_of, Spells}
-use Rattle.life_rle.specs.Grammar.{is_rle_kind}
 use Rattle.life_rle.specs.Pattern.{Placed, item_fault, first_fault, first_kind}
 use Rattle.life_rle.specs.Runs.{with_run, runs_of}
 use Rattle.life_rle.specs.Cursor.{IsNear, item_count, moved, moved_behind, placed_at}
 use Rattle.life_rle.specs.Reading.{IsRead, ReadsItems}
+use Rattle.life_rle.proofs.ShortKinds.{is_short_kind}
 use Rattle.life_rle.proofs.Shrinks.{Spells-push}
 use Rattle.life_rle.proofs.Progress.{first_fault-append}
 use Rattle.life_rle.proofs.PlaneLemmas.{power-positive}
 
--- counts are within the limit, and a fault is of a kind of the format
+-- counts are within the limit, and a fault is of a kind of the format, but not that of a line that is too long
 abbrev pub IsTame : ℕ → Next → Type 0
 IsTame level End = Unit {0}
 IsTame level Mark = Unit {0}
 IsTame level (Spelled item rest) = item_count item ≤ 2 ^ level
-IsTame level (Broken kind) = is_rle_kind kind ≡ true
+IsTame level (Broken kind) = is_short_kind kind ≡ true
 
 cells_of-tame : (level n : ℕ) (o : Option (ℕ × List ℕ)) → n ≤ 2 ^ level → IsTame level (cells_of n o)
 cells_of-tame level n None h = refl
@@ -62,7 +62,7 @@ next_of-tame level bytes = item_in-tame level (trim_start bytes)
 pub found-small : (level : ℕ) (bytes rest : List ℕ) (item : Item) → Spelled item rest ≡ next_of level bytes → item_count item ≤ 2 ^ level
 found-small level bytes rest item e = subst (IsTame level) (sym e) (next_of-tame level bytes)
 
-pub Broken-kind : (level : ℕ) (bytes : List ℕ) (kind : Kind) → next_of level bytes ≡ Broken kind → is_rle_kind kind ≡ true
+pub Broken-kind : (level : ℕ) (bytes : List ℕ) (kind : Kind) → next_of level bytes ≡ Broken kind → is_short_kind kind ≡ true
 Broken-kind level bytes kind e = subst (IsTame level) e (next_of-tame level bytes)
 
 pub placed_at-append : (c : Cursor) (xs ys : List Item) → placed_at c (xs ++ ys) ≡ placed_at c xs ++ placed_at (moved_behind c xs) ys

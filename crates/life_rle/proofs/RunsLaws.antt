@@ -7,7 +7,7 @@ use Rattle.std.proofs.lemmas.Bool.Decides.{nat_tests}
 use Rattle.life_base.specs.declared.kind.Kind.{Kind}
 use Rattle.life_base.specs.declared.kind.Kind.TheVariants.{StateRange, OutOfPlane, ZeroCount, TooLarge}
 use Rattle.life_base.specs.declared.rule.Rule.{Rule}
-use Rattle.life_base.specs.Text.{trim_start, value_of}
+use Rattle.life_base.specs.Text.{trim_start, value_of, is_too_long}
 use Rattle.life_rle.specs.declared.item.Item.{Item}
 use Rattle.life_rle.specs.declared.item.Item.TheVariants.{Cells, RowEnds}
 use Rattle.life_rle.specs.declared.file.Run.{Run}
@@ -99,7 +99,7 @@ IsRle-count level lines file (inr b) =
 preamble-plane : (level : ℕ) (given position : Position) (lines : List (List ℕ)) → IsInPlane level given → IsPreamble level given lines position → IsInPlane level position
 preamble-plane level given position [] h e = subst (IsInPlane level) (sym e) h
 preamble-plane level given position (line ∷ lines) h (inl e) = preamble-plane level given position lines h e.1
-preamble-plane level given position (line ∷ lines) h (inr e) = preamble-plane level e.0 position lines (subst (IsTameOpening level) e.1 (opening-tame level line)) e.2
+preamble-plane level given position (line ∷ lines) h (inr e) = preamble-plane level e.0 position lines (subst (IsTameOpening level (is_too_long line)) e.1 (opening-tame level line)) e.2
 
 pub IsRle-plane : (level : ℕ) (lines : List (List ℕ)) (file : Rle) → IsRle level lines file → IsInPlane level file.position
 IsRle-plane level lines file (inl b) = preamble-plane level default_position file.position b.before (zero-coordinate level, zero-coordinate level) b.preamble

@@ -1,6 +1,6 @@
 -- What a value of the program says of an RLE file, and of its lines so far. What Pos and Gen mean is of Golly Help (File Formats, Extended RLE
 -- format); the rest is the project's own.
-use Rattle.std.specs.Prelude.{◌≡◌, ℕ, ◌⊎◌, Bool, List, [], ◌++◌, Option, Some}
+use Rattle.std.specs.Prelude.{◌≡◌, ℕ, ◌⊎◌, List, [], ◌++◌, Option, Some}
 use Rattle.life_base.specs.declared.kind.Kind.{Kind}
 use Rattle.life_base.specs.declared.kind.Kind.TheVariants.{NoHeader}
 use Rattle.life_base.specs.declared.fault.Fault.{Fault}
@@ -41,7 +41,6 @@ pub record AddsRuns (level : ℕ) (lines more : List (List ℕ)) (old new : List
   pub added : new ≡ old ++ runs
   pub found : (before : List Run) → HasRuns level lines before → HasRuns level more (before ++ runs)
 
--- the lines that a reader took, and whether it refused one
-pub record LinesRead : Type 0 where
-  pub lines : List (List ℕ)
-  pub refused : Bool
+-- runs, and perhaps more runs behind them
+abbrev pub IsFrontOf : List Run → List Run → Type 0
+IsFrontOf front runs = (more : List Run) × (runs ≡ front ++ more)

@@ -19,3 +19,7 @@ pub mod Reading
 pub mod Standing
 pub mod Plain
 pub mod PlainPosition
+pub mod FrontLaws
+pub mod Valid
+pub mod LongestRuns
+pub mod PlainFile

@@ -2,8 +2,12 @@
 
 ghost use Rattle.life_rle.specs.Laws.{IsOneRle, BreaksForGood, FaultsAreUnique, FrontsAreUnbroken, LinesBreakByKinds, StatesReadBack, RleTextReadsBack, WrappedGreedily};
 ghost use Rattle.life_rle.specs.Decided.{IsDecided};
+ghost use Rattle.life_rle.specs.FrontLaws.{LinesBehindMarkAreFree, FrontsOfFronts, FrontsAreFiles, BeginsAsRle, MacrocellLineBreaks, LongLinesBreak};
+ghost use Rattle.life_rle.specs.LongestRuns.{RunsAreLongest};
+ghost use Rattle.life_rle.specs.Valid.{FilesAreValid};
 ghost use Rattle.life_rle.specs.ItemsLaw.{ItemsAreCells};
 ghost use Rattle.life_rle.specs.RunsLaw.{RunsAreCells, IsBlankOutside};
+ghost use Rattle.life_rle.specs.PlainFile.{FilesArePlain};
 ghost use Rattle.life_rle.specs.PlainPosition.{PositionsArePlain};
 ghost use Rattle.life_rle.specs.Plain.{ItemsArePlain, FaultsArePlain, HeadersArePlain};
 
@@ -85,4 +89,50 @@ pub fn positions_are_plain()
 /// A line breaks a rule of items exactly where, behind texts of items, neither whitespace, nor `!`, nor an item's text stands.
 pub fn faults_are_plain()
     ensures { FaultsArePlain }
+{}
+
+/// The rule of a file is one, its generation is below 2^64, and its corner lies in the plane.
+pub fn files_are_valid()
+    ensures { FilesAreValid }
+{}
+
+/// Any lines may follow `!`: the file stays as it is, and none of them breaks a rule.
+pub fn lines_behind_mark_are_free()
+    ensures { LinesBehindMarkAreFree }
+{}
+
+/// The front of a front is a front.
+pub fn fronts_of_fronts()
+    ensures { FrontsOfFronts }
+{}
+
+/// A front is a file, with `!` or without, or it lacks its header; and these are fronts.
+pub fn fronts_are_files()
+    ensures { FrontsAreFiles }
+{}
+
+/// No front of a file begins with the first line of a macrocell file.
+pub fn begins_as_rle()
+    ensures { BeginsAsRle }
+{}
+
+/// As the first line, that of a macrocell file breaks a rule: it is no header, or too long.
+pub fn macrocell_line_breaks()
+    ensures { MacrocellLineBreaks }
+{}
+
+/// `LineTooLong` is the kind of lines that are too long alone, and behind a front without `!` such a line has no other kind.
+pub fn long_lines_break()
+    ensures { LongLinesBreak }
+{}
+
+/// The items of sorted cells are the longest runs: no two neighbours could be one, and neither a row nor the list ends with dead cells.
+pub fn runs_are_longest()
+    ensures { RunsAreLongest }
+{}
+
+/// Lines are a file exactly if they are comments and position lines, a header, and lines of the texts of items that stand in the plane, up
+/// to their end or up to `!`.
+pub fn files_are_plain()
+    ensures { FilesArePlain }
 {}

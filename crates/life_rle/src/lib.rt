@@ -15,8 +15,6 @@ mod position;
 mod reader;
 mod reading;
 mod sorted;
-#[cfg(test)]
-mod tests;
 mod wrapping;
 mod writing;
 

@@ -1,11 +1,12 @@
 //! The items of a line, read one after another.
 
-ghost use Rattle.std.specs.Prelude.{◌≡◌, ◌≤◌, ◌+◌, ◌⊎◌, ◌++◌, ◌==◌, not, [], Some, None, IfOk, IfErr, OnOk, length, filter, position, take_while};
+ghost use Rattle.std.specs.Prelude.{◌≡◌, ◌≤◌, ◌+◌, ◌⊎◌, ◌++◌, ◌==◌, not, [], Some, None, IfOk, IfErr, OnOk, OnErr, length, filter, position, take_while};
 ghost use Rattle.std.specs.Vec.{vec_len, vec_capacity};
 ghost use Rattle.life_rle.specs.Plane.{most_count};
 ghost use Rattle.life_rle.specs.Pattern.{item_fault};
 ghost use Rattle.life_rle.specs.Runs.{with_run, is_run_end};
 ghost use Rattle.life_rle.specs.Cursor.{IsNear, moved, item_count};
+ghost use Rattle.life_rle.specs.File.{IsFrontOf};
 ghost use Rattle.life_rle.specs.Reading.{ReadsItems, last_of, ItemsBreak};
 
 use crate::cursor::{Cursor, item_fault, moved};
@@ -53,13 +54,14 @@ fn reserve_runs(line: &[u8], runs: &mut Vec<Run>) -> Result<(), Kind>
     ensures room { OnOk result (vec_len runs.old + length (filter is_run_end (take_while (λ b. not (b == 33)) line.now)) ≤ vec_capacity runs.new) }
     ensures memory { IfErr result (λ kind. kind ≡ Kind.Memory) }
 {
-    runs.reserve(run_ends(before_mark(line)))
-        .map_err(|_| Kind::Memory)
+    runs.reserve(run_ends(before_mark(line)))?;
+    Ok(())
 }
 
 /// Puts the run of an item of nonzero state behind the runs.
 fn push_run(cursor: Cursor, item: Item, runs: &mut Vec<Run>) -> Result<(), Kind>
     ensures runs { OnOk result (runs.new.items ≡ runs.old.items ++ with_run cursor.y cursor.x item []) }
+    ensures kept { OnErr result (runs.new.items ≡ runs.old.items) }
     ensures memory { IfErr result (λ kind. kind ≡ Kind.Memory) }
 {
     let Item::Cells { count, state } = item else {
@@ -74,7 +76,8 @@ fn push_run(cursor: Cursor, item: Item, runs: &mut Vec<Run>) -> Result<(), Kind>
         len: count,
         state,
     };
-    runs.push(run).map_err(|_| Kind::Memory)
+    runs.push(run)?;
+    Ok(())
 }
 
 /// Takes an item that stands at the cursor, and answers the place behind it.
@@ -85,6 +88,7 @@ fn take_item(rule: &Rule, cursor: Cursor, item: Item, runs: &mut Vec<Run>) -> Re
     ensures near { IfOk result (λ next. IsNear MAX_LEVEL next) }
     ensures sound { OnOk result (item_fault MAX_LEVEL rule.now cursor.y cursor.x item ≡ None) }
     ensures runs { OnOk result (runs.new.items ≡ runs.old.items ++ with_run cursor.y cursor.x item []) }
+    ensures kept { OnErr result (runs.new.items ≡ runs.old.items) }
     ensures fault { IfErr result (λ kind. (kind ≡ Kind.Memory) ⊎ (item_fault MAX_LEVEL rule.now cursor.y cursor.x item ≡ Some kind)) }
 {
     if let Some(kind) = item_fault(rule, cursor, item) {
@@ -104,6 +108,7 @@ pub(crate) fn read_items(
     requires { IsNear MAX_LEVEL from }
     ensures read { IfOk result (λ read. ReadsItems MAX_LEVEL rule.now from line.now (last_of read.marked) read.cursor runs.old.items runs.new.items) }
     ensures fault { IfErr result (λ kind. (kind ≡ Kind.Memory) ⊎ ItemsBreak MAX_LEVEL rule.now from line.now kind) }
+    ensures kept { OnErr result (IsFrontOf runs.old.items runs.new.items) }
 {
     reserve_runs(line, runs)?;
     let mut cursor = from;

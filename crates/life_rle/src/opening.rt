@@ -2,16 +2,12 @@
 
 ghost use Rattle.std.specs.Prelude.{◌≡◌};
 ghost use Rattle.life_base.specs.Refusal.{Answers};
-ghost use Rattle.life_base.specs.Text.{is_too_long};
 ghost use Rattle.life_rle.specs.Grammar.{opening_of, later_of};
 
 use crate::header::header_of;
 use crate::position::{Position, is_position_line, position_of};
-use life_base::{Kind, MAX_LEVEL, Rule, begins_with, is_blank};
+use life_base::{Kind, MAX_LEVEL, Rule, begins_with, is_blank, is_too_long};
 use std::alloc::Global;
-
-/// The greatest length of a line, without its line feed.
-const LONGEST_LINE: usize = 1 << 20;
 
 /// What a line is before the header: a comment (or blank), a position line, or the header.
 #[derive(Drop)]
@@ -26,13 +22,6 @@ pub enum Opening {
 pub enum Later {
     Passed,
     Data,
-}
-
-/// Whether a line has too many bytes.
-fn is_too_long(line: &[u8]) -> bool
-    ensures { result ≡ is_too_long line.now }
-{
-    line.len() > LONGEST_LINE
 }
 
 /// What a line is before the header, or why it can't stand there.

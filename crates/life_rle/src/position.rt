@@ -86,14 +86,12 @@ fn with_corner(position: Position, text: &[u8]) -> Result<Position, Kind>
 fn with_generation(position: Position, text: &[u8]) -> Result<Position, Kind>
     ensures { result ≡ and_then (and_then (u64_of text.now) (λ n. Ok (Generation n))) (λ found. Ok (with_field position found)) }
 {
-    match read_u64(text) {
-        Ok(generation) => Ok(Position {
-            x: position.x,
-            y: position.y,
-            generation,
-        }),
-        Err(kind) => Err(kind),
-    }
+    let generation = read_u64(text)?;
+    Ok(Position {
+        x: position.x,
+        y: position.y,
+        generation,
+    })
 }
 
 /// The position with what a field gives.

@@ -1,7 +1,8 @@
 //! An RLE file that comes line by line.
 
-ghost use Rattle.std.specs.Prelude.{◌≡◌, ◌⊎◌, List, [], ℕ, Err, Ok, false, true, IfOk, IfErr, IsErrOf, IsOkAnd};
+ghost use Rattle.std.specs.Prelude.{◌≡◌, ◌⊎◌, List, [], ℕ, Err, Ok, false, true, IfOk, IfErr, OnErr, IsErrOf, IsOkAnd};
 ghost use Rattle.life_rle.specs.Cursor.{IsNear};
+ghost use Rattle.life_rle.specs.File.{IsFrontOf};
 ghost use Rattle.life_rle.specs.Grammar.{opening_of, later_of, Breaks};
 ghost use Rattle.life_rle.specs.Reading.{ItemsBreak};
 ghost use Rattle.life_rle.specs.Standing.{is_refused, is_over, Advances, TakesLine, IsPlaced, StandsAt};
@@ -49,12 +50,12 @@ fn before_header(
     ensures going { IfOk result (λ next. is_refused next.phase ≡ false) }
     ensures fault { IfErr result (λ kind. (kind ≡ Kind.Memory) ⊎ (opening_of MAX_LEVEL line.now ≡ Err kind)) }
 {
-    match opening_of(alloc, line) {
-        Ok(Opening::Comment) => Ok(Advance {
+    match opening_of(alloc, line)? {
+        Opening::Comment => Ok(Advance {
             phase: Phase::Before(position),
             cursor,
         }),
-        Ok(Opening::PositionLine(found)) => Ok(Advance {
+        Opening::PositionLine(found) => Ok(Advance {
             phase: Phase::Before(found),
             cursor: Cursor {
                 left: found.x,
@@ -62,11 +63,10 @@ fn before_header(
                 y: found.y,
             },
         }),
-        Ok(Opening::Header(rule)) => Ok(Advance {
+        Opening::Header(rule) => Ok(Advance {
             phase: Phase::Items(rule, position),
             cursor,
         }),
-        Err(kind) => Err(kind),
     }
 }
 
@@ -83,21 +83,18 @@ fn behind_items(
     ensures advance { IfOk result (λ next. TakesLine MAX_LEVEL (Phase.Items rule position) cursor line.now next.phase next.cursor runs.old.items runs.new.items) }
     ensures going { IfOk result (λ next. is_refused next.phase ≡ false) }
     ensures fault { IfErr result (λ kind. (kind ≡ Kind.Memory) ⊎ ItemsBreak MAX_LEVEL rule cursor line.now kind) }
+    ensures kept { OnErr result (IsFrontOf runs.old.items runs.new.items) }
 {
-    match read_items(&rule, cursor, line, runs) {
-        Ok(read) => {
-            let phase = if read.marked {
-                Phase::Over(rule, position)
-            } else {
-                Phase::Items(rule, position)
-            };
-            Ok(Advance {
-                phase,
-                cursor: read.cursor,
-            })
-        }
-        Err(kind) => Err(kind),
-    }
+    let read = read_items(&rule, cursor, line, runs)?;
+    let phase = if read.marked {
+        Phase::Over(rule, position)
+    } else {
+        Phase::Items(rule, position)
+    };
+    Ok(Advance {
+        phase,
+        cursor: read.cursor,
+    })
 }
 
 /// A line behind the header.
@@ -112,14 +109,14 @@ fn behind_header(
     ensures advance { IfOk result (λ next. TakesLine MAX_LEVEL (Phase.Items rule position) cursor line.now next.phase next.cursor runs.old.items runs.new.items) }
     ensures going { IfOk result (λ next. is_refused next.phase ≡ false) }
     ensures fault { IfErr result (λ kind. (kind ≡ Kind.Memory) ⊎ (later_of line.now ≡ Err kind) ⊎ ((later_of line.now ≡ Ok Data) × ItemsBreak MAX_LEVEL rule cursor line.now kind)) }
+    ensures kept { OnErr result (IsFrontOf runs.old.items runs.new.items) }
 {
-    match later_of(line) {
-        Ok(Later::Passed) => Ok(Advance {
+    match later_of(line)? {
+        Later::Passed => Ok(Advance {
             phase: Phase::Items(rule, position),
             cursor,
         }),
-        Ok(Later::Data) => behind_items(rule, position, cursor, line, runs),
-        Err(kind) => Err(kind),
+        Later::Data => behind_items(rule, position, cursor, line, runs),
     }
 }
 
@@ -136,6 +133,7 @@ fn after_line(
     ensures going { IfOk result (λ next. is_refused next.phase ≡ false) }
     ensures fault { IfErr result (λ kind. (kind ≡ Kind.Memory) ⊎ ((kind ≡ Kind.Spent) × (is_refused phase ≡ true))
         ⊎ ((lines : List (List ℕ)) → StandsAt MAX_LEVEL phase cursor lines → Breaks MAX_LEVEL lines line.now kind)) }
+    ensures kept { OnErr result (IsFrontOf runs.old.items runs.new.items) }
     ensures unspent { IfOk result (λ _. is_refused phase ≡ false) }
     ensures spent { is_refused phase ≡ true → IsErrOf result Kind.Spent }
     ensures free { is_over phase ≡ true → IsOkAnd result (λ _. runs.new.items ≡ runs.old.items) }
@@ -162,7 +160,7 @@ pub struct RleLines {
 
 impl Model for RleLines {
     ghost use Rattle.life_base.specs.declared.cell.TheConstants.{MAX_LEVEL};
-    ghost use Rattle.life_rle.specs.File.{LinesRead};
+    ghost use Rattle.life_base.specs.Lines.{LinesRead};
     ghost use Rattle.life_rle.specs.Standing.{is_refused, StandsAt};
 
     ghost Value = { LinesRead };
@@ -178,7 +176,8 @@ impl RleLines {
     ghost use Rattle.life_rle.specs.Pattern.{Rle};
     ghost use Rattle.life_rle.specs.Position.{default_position};
     ghost use Rattle.life_rle.specs.Grammar.{IsSomeRle, IsRle, IsMarked, IsPreamble};
-    ghost use Rattle.life_rle.specs.File.{HasRuns, AddsRuns, LinesRead};
+    ghost use Rattle.life_base.specs.Lines.{LinesRead};
+    ghost use Rattle.life_rle.specs.File.{HasRuns, AddsRuns};
 
     /// A reader that no line came to. It takes no memory.
     pub fn new(alloc: Global) -> RleLines
@@ -197,29 +196,6 @@ impl RleLines {
                 y: 0,
             },
             log: LineLog::new(),
-        }
-    }
-
-    /// Takes the next line, and puts its runs behind the runs.
-    pub(crate) fn take_line(&mut self, line: &[u8], runs: &mut Vec<Run>) -> Result<(), Kind>
-        ensures lines { OnOk result (self.new ≡ record { lines = self.old.lines ++ line.now ∷ []; refused = false }) }
-        ensures front { OnOk result (Prefix (IsSomeRle MAX_LEVEL) self.new.lines) }
-        ensures runs { OnOk result (AddsRuns MAX_LEVEL self.old.lines self.new.lines runs.old.items runs.new.items) }
-        ensures fault { IfErr result (λ kind. (kind ≡ Kind.Memory) ⊎ (kind ≡ Kind.Spent) ⊎ Breaks MAX_LEVEL self.old.lines line.now kind) }
-        ensures spent { IsErrOf result Kind.Spent ↔ (self.old.refused ≡ true) }
-        ensures refused { OnErr result (self.new ≡ record { lines = self.old.lines; refused = true }) }
-        ensures free { self.old.refused ≡ false → ((file : Rle) × IsMarked MAX_LEVEL self.old.lines file)
-            → IsOkAnd result (λ _. runs.new.items ≡ runs.old.items) }
-    {
-        let phase = mem::replace(&mut self.phase, Phase::Refused);
-        match after_line(self.alloc, phase, self.cursor, line, runs) {
-            Ok(next) => {
-                self.log = self.log.then(line);
-                self.phase = next.phase;
-                self.cursor = next.cursor;
-                Ok(())
-            }
-            Err(kind) => Err(kind),
         }
     }
 
@@ -246,8 +222,40 @@ impl RleLines {
             → IsOkAnd result (λ runs. runs.items ≡ []) }
     {
         let mut runs = Vec::new(self.alloc);
-        self.take_line(line, &mut runs)?;
+        self.line_into(line, &mut runs)?;
         Ok(runs)
+    }
+
+    /// Takes the next line, without its line feed, and puts its runs of nonzero state behind the runs that are lent. Behind the line that
+    /// holds `!` each line is accepted, of any length. Lines whose runs are lent the same vector take memory only where it grows.
+    ///
+    /// # Errors
+    ///
+    /// The kind of the first rule that the line breaks, or `Memory`. After an error each later call answers `Spent`. The runs that were
+    /// lent stay in front then; behind them there may be runs of items that the line spells before its fault.
+    pub fn line_into(&mut self, line: &[u8], runs: &mut Vec<Run>) -> Result<(), Kind>
+        ensures lines { OnOk result (self.new ≡ record { lines = self.old.lines ++ line.now ∷ []; refused = false }) }
+
+        // The lines so far are the front of a file, and what is put behind the runs is its runs.
+        ensures front { OnOk result (Prefix (IsSomeRle MAX_LEVEL) self.new.lines) }
+        ensures runs { OnOk result (AddsRuns MAX_LEVEL self.old.lines self.new.lines runs.old.items runs.new.items) }
+
+        // A refused line is the first that breaks a rule, and every later call answers Spent.
+        ensures fault { IfErr result (λ kind. (kind ≡ Kind.Memory) ⊎ (kind ≡ Kind.Spent) ⊎ Breaks MAX_LEVEL self.old.lines line.now kind) }
+        ensures spent { IsErrOf result Kind.Spent ↔ (self.old.refused ≡ true) }
+        ensures refused { OnErr result (self.new ≡ record { lines = self.old.lines; refused = true }) }
+        ensures kept { OnErr result (IsFrontOf runs.old.items runs.new.items) }
+
+        // Behind the mark nothing is refused, not even for want of memory.
+        ensures free { self.old.refused ≡ false → ((file : Rle) × IsMarked MAX_LEVEL self.old.lines file)
+            → IsOkAnd result (λ _. runs.new.items ≡ runs.old.items) }
+    {
+        let phase = mem::replace(&mut self.phase, Phase::Refused);
+        let next = after_line(self.alloc, phase, self.cursor, line, runs)?;
+        self.log = self.log.then(line);
+        self.phase = next.phase;
+        self.cursor = next.cursor;
+        Ok(())
     }
 
     /// Whether `!` has ended the pattern.

@@ -4,8 +4,9 @@ ghost use Rattle.std.specs.Prelude.{◌≡◌, ◌⊎◌, ◌++◌, ◌∷◌, [
 ghost use Rattle.life_base.specs.Refusal.{OrMemory};
 ghost use Rattle.life_base.specs.Text.{lines_of};
 ghost use Rattle.life_rle.specs.File.{HasRuns, Shows, Refuses};
-ghost use Rattle.life_rle.specs.Grammar.{IsRle, Breaks, is_rle_kind};
+ghost use Rattle.life_rle.specs.Grammar.{Breaks, is_rle_kind};
 ghost use Rattle.life_rle.specs.Pattern.{Rle};
+ghost use Rattle.life_rle.specs.PlainFile.{IsPlainRle};
 
 use crate::file::{RleFile, Run};
 use crate::position::Position;
@@ -25,7 +26,7 @@ fn take_numbered(
     ensures runs { OnOk result (HasRuns MAX_LEVEL reader.old.lines runs.old.items → HasRuns MAX_LEVEL reader.new.lines runs.new.items) }
     ensures fault { IfErr result (λ fault. OrMemory fault (Breaks MAX_LEVEL reader.old.lines line.now fault.kind × (fault.place.line ≡ number))) }
 {
-    match reader.take_line(line, runs) {
+    match reader.line_into(line, runs) {
         Ok(()) => Ok(()),
         Err(kind) => Err(Fault::at(number, kind)),
     }
@@ -52,7 +53,7 @@ fn file_of(rule: Rule, position: Position, runs: Vec<Run>) -> RleFile
 /// header, and the kind is that of the first rule which that line breaks. Where a growth of memory is refused the fault is `Memory`,
 /// which names no line.
 pub fn read_rle(alloc: Global, bytes: &[u8]) -> Result<RleFile, Fault>
-    ensures file { IfOk result (λ value. (file : Rle) × IsRle MAX_LEVEL (lines_of bytes.now) file × Shows value file) }
+    ensures file { IfOk result (λ value. (file : Rle) × IsPlainRle MAX_LEVEL (lines_of bytes.now) file × Shows value file) }
     ensures fault { IfErr result (λ fault. OrMemory fault (Refuses MAX_LEVEL (lines_of bytes.now) fault)) }
     ensures kinds { IfErr result (λ fault. OrMemory fault (is_rle_kind fault.kind ≡ true)) }
 {

@@ -11,18 +11,8 @@ use crate::bounds::{Bounds, bounds_of};
 use crate::pen::write_cells;
 use crate::position::Position;
 use crate::wrapping::put_mark;
-use itoa::Buffer;
-use life_base::{Cell, Fault, Kind, MAX_LEVEL, Rule, append, append_number};
+use life_base::{Cell, Fault, Kind, MAX_LEVEL, Rule, append, append_number, append_signed};
 use std::alloc::Global;
-
-/// Adds a signed number at the end.
-fn append_signed(out: &mut Vec<u8>, number: i64) -> Result<(), Kind>
-    ensures ok { OnOk result (out.new.items ≡ out.old.items ++ signed_decimal number) }
-    ensures memory { IfErr result (λ kind. kind ≡ Kind.Memory) }
-{
-    let mut buffer = Buffer::new();
-    append(out, buffer.format(number).as_bytes())
-}
 
 /// Adds a generation at the end, if it isn't 0.
 fn append_generation(out: &mut Vec<u8>, generation: u64) -> Result<(), Kind>
@@ -148,12 +138,9 @@ pub fn write_rle(
     ensures memory { IfErr result (λ fault. fault ≡ fault_of Kind.Memory) }
 {
     let mut out = Vec::new(alloc);
-    let written = match cells {
-        [] => append_blank(&mut out, rule, generation),
-        [first, rest @ ..] => append_cells(&mut out, rule, generation, first, rest),
-    };
-    match written {
-        Ok(()) => Ok(out),
-        Err(kind) => Err(Fault::of(kind)),
+    match cells {
+        [] => append_blank(&mut out, rule, generation)?,
+        [first, rest @ ..] => append_cells(&mut out, rule, generation, first, rest)?,
     }
+    Ok(out)
 }

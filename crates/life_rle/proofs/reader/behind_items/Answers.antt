@@ -10,13 +10,13 @@ use Rattle.life_rle.proofs.Advance.{adv-items, adv-mark}
 use Rattle.life_rle.proofs.reader.behind_items.Goals as goal
 use Rattle.life_rle.proofs.reader.behind_items.Goals.{then-read, else-read}
 
-pub returns-after-read-clause-advance : goal.returns-after-read-clause-advance
-returns-after-read-clause-advance c =
+pub returns-clause-advance : goal.returns-clause-advance
+returns-clause-advance c =
     let line = c.args.line.now in
     let rule = c.args.rule in
     let position = c.args.position in
-    let h = c.in-Ok.ensures.read in
-    let now = c.in-Ok.read.cursor in
+    let h = c.in_ok-read.ensures.read in
+    let now = c.in_ok-read.read.cursor in
     let before : List Run = c.args.runs.now.items in
     let after : List Run = c.read_items.new.runs.items in
     elim c.if-read.branch [

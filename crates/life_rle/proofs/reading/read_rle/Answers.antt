@@ -11,11 +11,13 @@ use Rattle.life_base.specs.declared.cell.TheConstants.{MAX_LEVEL}
 use Rattle.life_base.proofs.NumberedLines.{texts, all_read, number_at, length_texts}
 use Rattle.life_rle.specs.declared.file.RleFile.{RleFile}
 use Rattle.life_rle.specs.declared.position.Position.{Position}
-use Rattle.life_rle.specs.File.{Shows, HasRuns, LinesRead, Refuses}
+use Rattle.life_base.specs.Lines.{LinesRead}
+use Rattle.life_rle.specs.File.{Shows, HasRuns, Refuses}
 use Rattle.life_rle.specs.Grammar.{IsRle, Breaks, is_rle_kind}
 use Rattle.life_rle.specs.Pattern.{Rle}
 use Rattle.life_rle.proofs.Advance.{known-runs}
 use Rattle.life_rle.proofs.LineKinds.{Breaks-kind}
+use Rattle.life_rle.proofs.PlainFiles.{files_are_plain}
 use Rattle.life_rle.proofs.ReadInputs.{no_runs, refused_here, refused_at_end}
 use Rattle.life_rle.proofs.reading.read_rle.Invariants.{numbered}
 use Rattle.life_rle.proofs.reading.read_rle.Goals as goal
@@ -68,7 +70,7 @@ returns-in-Ok-clause-file c =
     let is : IsRle MAX_LEVEL lines file = subst (λ ls. IsRle MAX_LEVEL ls file) whole told.1 in
     let runs : HasRuns MAX_LEVEL lines c.loop-number.runs.items = subst (λ ls. HasRuns MAX_LEVEL ls c.loop-number.runs.items) whole c.loop-number.invariant.found in (
       file,
-      is,
+      (files_are_plain MAX_LEVEL lines file).0 is,
       subst (λ (v : RleFile). Shows v file) (sym c.file_of.ensures) (record {
         rule = told.2;
         generation = ap (λ (p : Position). p.generation) told.3;

@@ -13,7 +13,7 @@ use Rattle.life_rle.proofs.reading.take_numbered.Goals as goal
 pub returns-in-Ok-clause-runs : goal.returns-in-Ok-clause-runs
 returns-in-Ok-clause-runs c = λ h.
     let adds = c.in-Ok.ensures.runs in
-    subst (λ (rs : List Run). HasRuns MAX_LEVEL c.take_line.new.self.lines rs) (sym adds.added) (adds.found c.args.runs.now.items h)
+    subst (λ (rs : List Run). HasRuns MAX_LEVEL c.line_into.new.self.lines rs) (sym adds.added) (adds.found c.args.runs.now.items h)
 
 pub returns-in-Err-clause-fault : goal.returns-in-Err-clause-fault
 returns-in-Err-clause-fault c =

@@ -4,7 +4,7 @@ use Rattle.life_rle.specs.declared.reader.Phase.TheVariants as phases
 use Rattle.life_rle.specs.Standing.{StandsAt}
 use Rattle.life_rle.specs.Position.{default_position}
 use Rattle.life_rle.specs.Grammar.{IsPreamble}
-use Rattle.life_rle.specs.File.{LinesRead}
+use Rattle.life_base.specs.Lines.{LinesRead}
 use Rattle.life_rle.proofs.reader.RleLines.finish.Goals as goal
 
 pub returns-in-Before-clause-missing : goal.returns-in-Before-clause-missing

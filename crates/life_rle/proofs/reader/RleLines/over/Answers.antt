@@ -6,7 +6,7 @@ use Rattle.life_rle.specs.declared.reader.Phase.TheVariants as phases
 use Rattle.life_rle.specs.declared.position.Position.{Position}
 use Rattle.life_rle.specs.Standing.{is_over}
 use Rattle.life_rle.specs.Grammar.{IsMarked}
-use Rattle.life_rle.specs.File.{LinesRead}
+use Rattle.life_base.specs.Lines.{LinesRead}
 use Rattle.life_rle.proofs.Stands.{marked-is_over}
 use Rattle.life_rle.proofs.reader.RleLines.over.Goals as goal
 

@@ -1,8 +1,9 @@
 //! RLE files, read whole.
 
-use crate::{RleFile, Run, read_rle};
 use life_base::{Kind, append};
+use life_rle::{RleFile, Run, read_rle};
 use std::alloc::Global;
+use std::process::Abort;
 use std::test::Fail;
 
 /// On each line an answer, `|` and an input, whose lines are separated by `;`. The answer is the rule, the generation, the corner and
@@ -214,17 +215,9 @@ fn text_of(alloc: Global, file: &RleFile) -> Result<String, Kind> {
     let Ok(rule) = std::str::from_utf8(&rule) else {
         return Err(Kind::BadRule);
     };
-    let Ok(mut text) = format!(in alloc; "{} {} {},{}", rule, file.generation, file.x, file.y)
-    else {
-        return Err(Kind::Memory);
-    };
+    let mut text = format!(in alloc; "{} {} {},{}", rule, file.generation, file.x, file.y)?;
     for run in file.runs.as_slice() {
-        let Ok(run) = format!(in alloc; " {},{},{},{}", run.x, run.y, run.len, run.state) else {
-            return Err(Kind::Memory);
-        };
-        if text.push_str(&run).is_err() {
-            return Err(Kind::Memory);
-        }
+        text.push_str(&format!(in alloc; " {},{},{},{}", run.x, run.y, run.len, run.state)?)?;
     }
     Ok(text)
 }
@@ -233,12 +226,7 @@ fn text_of(alloc: Global, file: &RleFile) -> Result<String, Kind> {
 fn answer_to(alloc: Global, input: &[u8]) -> Result<String, Kind> {
     match read_rle(alloc, input) {
         Ok(file) => text_of(alloc, &file),
-        Err(fault) => {
-            match format!(in alloc; "{} {}", fault.place.line, fault.kind.name()) {
-                Ok(text) => Ok(text),
-                Err(_) => Err(Kind::Memory),
-            }
-        }
+        Err(fault) => Ok(format!(in alloc; "{} {}", fault.place.line, fault.kind.name())?),
     }
 }
 
@@ -251,94 +239,115 @@ fn input_of(alloc: Global, text: &[u8]) -> Result<Vec<u8>, Kind> {
     Ok(input)
 }
 
+/// The input of a row is answered as the row tells it.
+fn assert_row(rt: &impl Abort, alloc: Global, number: u64, row: &[u8]) {
+    let Some(bar) = row.iter().position(|byte| *byte == b'|') else {
+        panic!(rt; "row {number} has no bar");
+    };
+    let input = input_of(alloc, &row[bar + 1..]).expect(rt, "memory");
+    let got = answer_to(alloc, &input).expect(rt, "memory");
+    assert_eq!(rt; got.as_bytes(), &row[..bar], "row {number}");
+}
+
 #[test]
-fn files_are_read_by_the_format(rt: HostRuntime) -> Result<(), Fail> {
+fn files_are_read_by_the_format(rt: HostRuntime) {
     let mut count = 0u64;
     for (number, row) in life_base::lines(ROWS) {
-        let Some(bar) = row.iter().position(|byte| *byte == b'|') else {
-            panic!(rt; "row {number} has no bar");
-        };
-        let input = input_of(rt.alloc(), &row[bar + 1..])?;
-        let got = answer_to(rt.alloc(), &input)?;
-        assert_eq!(rt; got.as_bytes(), &row[..bar], "row {number}");
+        assert_row(&rt, rt.alloc(), number, row);
         count = number;
     }
     assert_eq!(rt; count, 197);
-    Ok(())
 }
 
 /// A text, a byte this many times, and another text.
 fn long_input(
     alloc: Global,
-    head: &[u8],
+    head: &str,
     fill: u8,
     count: u32,
-    tail: &[u8],
+    tail: &str,
 ) -> Result<Vec<u8>, Kind> {
     let mut input = Vec::new(alloc);
-    append(&mut input, head)?;
-    if input.resize(head.len() + count as usize, fill).is_err() {
-        return Err(Kind::Memory);
-    }
-    append(&mut input, tail)?;
+    append(&mut input, head.as_bytes())?;
+    input.resize(head.len() + count as usize, fill)?;
+    append(&mut input, tail.as_bytes())?;
     Ok(input)
 }
 
+/// Such an input is answered so.
+fn assert_long(
+    rt: &impl Abort,
+    alloc: Global,
+    (head, fill, count, tail): (&str, u8, u32, &str),
+    answer: &str,
+) {
+    let input = long_input(alloc, head, fill, count, tail).expect(rt, "memory");
+    let got = answer_to(alloc, &input).expect(rt, "memory");
+    assert_eq!(rt; got.as_str(), answer, "{head} {count} {tail}");
+}
+
+/// So many more bytes than a line may have.
+fn near_limit(more: i8) -> u32 {
+    ((1i32 << 20) + i32::from(more)) as u32
+}
+
+const LIVE: &str = "B3/S23 0 0,0 0,0,1,1";
+
+const BLANK: &str = "B3/S23 0 0,0";
+
 #[test]
-fn a_line_has_at_most_a_mebibyte(rt: HostRuntime) -> Result<(), Fail> {
-    let most = 1u32 << 20;
-    let live = "B3/S23 0 0,0 0,0,1,1";
-    let blank = "B3/S23 0 0,0";
-    for (head, fill, count, tail, answer) in [
-        ("x = 1, y = 1\no!", b' ', most - 2, "\n", live),
-        ("x = 1, y = 1\no!", b' ', most - 1, "\n", "2 LineTooLong"),
-        ("x = 1, y = 1\nb!", b'0', most + 1, "", "2 LineTooLong"),
-        ("x = 1, y = 1\nb!", b'0', most, "", "2 LineTooLong"),
-        ("x = 1, y = 1\nb!\n", b'0', most, "", blank),
-        ("x = 1, y = 1\nb!\n", b'0', most + 1, "", blank),
-        ("x = 1, y = 1\no", b' ', most - 2, "!", live),
-        ("x = 1, y = 1\no", b' ', most - 1, "!", "2 LineTooLong"),
-        ("x = 1, y = 1\no", b' ', most - 1, "\n", live),
-        ("x = 1, y = 1\no", b' ', most, "\n", "2 LineTooLong"),
-        ("x = 1, y = 1\n0o", b' ', most - 1, "\n", "2 LineTooLong"),
-        ("x = 1, y = 1\n#", b' ', most - 1, "\n", blank),
-        ("x = 1, y = 1\n#", b' ', most, "\n", "2 LineTooLong"),
-        ("x = 1, y = 1\n#CXRLE", b' ', most, "", "2 LineTooLong"),
-        ("x = 1, y = 1\nx =", b' ', most, "", "2 LineTooLong"),
-        ("x = 1, y = 1\n", b' ', most, "\no!", live),
-        ("x = 1, y = 1\n", b' ', most + 1, "\no!", "2 LineTooLong"),
-        ("x = 1, y = 1\no\n", b'0', most, "", "3 ZeroCount"),
-        ("x = 1, y = 1\no\n", b'0', most + 1, "", "3 LineTooLong"),
-        ("x = 1, y = 1", b' ', most - 12, "\no!", live),
-        ("x = 1, y = 1", b' ', most - 11, "\no!", "1 LineTooLong"),
-        ("x = 1, y = 1", b' ', most - 13, "\r\no!", live),
-        ("x = 1, y = 1", b' ', most - 12, "\r\no!", "1 LineTooLong"),
-        ("", b' ', most, "\nx = 1, y = 1", blank),
-        ("", b' ', most + 1, "\nx = 1, y = 1", "1 LineTooLong"),
-        ("#C", b' ', most - 2, "\nx = 1, y = 1", blank),
-        ("#C", b' ', most - 1, "\nx = 1, y = 1", "1 LineTooLong"),
-        ("#CXRLE Pos=z", b' ', most, "", "1 LineTooLong"),
-        ("y", b' ', most, "", "1 LineTooLong"),
+fn a_line_has_at_most_a_mebibyte(rt: HostRuntime) {
+    for &(head, fill, more, tail, answer) in &[
+        ("x = 1, y = 1\no!", b' ', -2i8, "\n", LIVE),
+        ("x = 1, y = 1\no!", b' ', -1, "\n", "2 LineTooLong"),
+        ("x = 1, y = 1\nb!", b'0', 1, "", "2 LineTooLong"),
+        ("x = 1, y = 1\nb!", b'0', 0, "", "2 LineTooLong"),
+        ("x = 1, y = 1\nb!\n", b'0', 0, "", BLANK),
+        ("x = 1, y = 1\nb!\n", b'0', 1, "", BLANK),
+        ("x = 1, y = 1\no", b' ', -2, "!", LIVE),
+        ("x = 1, y = 1\no", b' ', -1, "!", "2 LineTooLong"),
+        ("x = 1, y = 1\no", b' ', -1, "\n", LIVE),
+        ("x = 1, y = 1\no", b' ', 0, "\n", "2 LineTooLong"),
+        ("x = 1, y = 1\n0o", b' ', -1, "\n", "2 LineTooLong"),
+        ("x = 1, y = 1\n#", b' ', -1, "\n", BLANK),
+        ("x = 1, y = 1\n#", b' ', 0, "\n", "2 LineTooLong"),
+        ("x = 1, y = 1\n#CXRLE", b' ', 0, "", "2 LineTooLong"),
+        ("x = 1, y = 1\nx =", b' ', 0, "", "2 LineTooLong"),
+        ("x = 1, y = 1\n", b' ', 0, "\no!", LIVE),
+        ("x = 1, y = 1\n", b' ', 1, "\no!", "2 LineTooLong"),
+        ("x = 1, y = 1\no\n", b'0', 0, "", "3 ZeroCount"),
+        ("x = 1, y = 1\no\n", b'0', 1, "", "3 LineTooLong"),
+        ("x = 1, y = 1", b' ', -12, "\no!", LIVE),
+        ("x = 1, y = 1", b' ', -11, "\no!", "1 LineTooLong"),
+        ("x = 1, y = 1", b' ', -13, "\r\no!", LIVE),
+        ("x = 1, y = 1", b' ', -12, "\r\no!", "1 LineTooLong"),
+        ("", b' ', 0, "\nx = 1, y = 1", BLANK),
+        ("", b' ', 1, "\nx = 1, y = 1", "1 LineTooLong"),
+        ("#C", b' ', -2, "\nx = 1, y = 1", BLANK),
+        ("#C", b' ', -1, "\nx = 1, y = 1", "1 LineTooLong"),
+        ("#CXRLE Pos=z", b' ', 0, "", "1 LineTooLong"),
+        ("y", b' ', 0, "", "1 LineTooLong"),
     ] {
-        let input = long_input(rt.alloc(), head.as_bytes(), fill, count, tail.as_bytes())?;
-        let got = answer_to(rt.alloc(), &input)?;
-        assert_eq!(rt; got.as_str(), answer, "{head} {count} {tail}");
+        assert_long(
+            &rt,
+            rt.alloc(),
+            (head, fill, near_limit(more), tail),
+            answer,
+        );
     }
-    Ok(())
 }
 
 #[test]
-fn numbers_have_any_length(rt: HostRuntime) -> Result<(), Fail> {
-    let live = "B3/S23 0 0,0 0,0,1,1";
-    for (head, digit, tail, answer) in [
-        ("x = 1, y = 1\n", b'0', "1o!", live),
-        ("x = 1, y = 1\n", b'0', "1$!", "B3/S23 0 0,0"),
+fn numbers_have_any_length(rt: HostRuntime) {
+    for &(head, digit, tail, answer) in &[
+        ("x = 1, y = 1\n", b'0', "1o!", LIVE),
+        ("x = 1, y = 1\n", b'0', "1$!", BLANK),
         ("x = 1, y = 1\n", b'0', "o!", "2 ZeroCount"),
         ("x = 1, y = 1\n", b'9', "o!", "2 TooLarge"),
         ("x = 1, y = 1\n", b'9', "", "2 TooLarge"),
         ("x = 1, y = 1\n", b'0', "1", "2 BadItem"),
-        ("x = ", b'9', ", y = 1\no!", live),
-        ("x = 1, y = ", b'0', "\no!", live),
+        ("x = ", b'9', ", y = 1\no!", LIVE),
+        ("x = 1, y = ", b'0', "\no!", LIVE),
         ("#CXRLE Pos=", b'0', "7,-8\nx = 1, y = 1", "B3/S23 0 7,-8"),
         ("#CXRLE Pos=3,-", b'0', "8\nx = 1, y = 1", "B3/S23 0 3,-8"),
         ("#CXRLE Pos=", b'9', ",0", "1 OutOfPlane"),
@@ -347,17 +356,8 @@ fn numbers_have_any_length(rt: HostRuntime) -> Result<(), Fail> {
         ("#CXRLE Gen=", b'0', "9\nx = 1, y = 1", "B3/S23 9 0,0"),
         ("#CXRLE Gen=", b'9', "", "1 TooLarge"),
     ] {
-        let input = long_input(
-            rt.alloc(),
-            head.as_bytes(),
-            digit,
-            1_000_000,
-            tail.as_bytes(),
-        )?;
-        let got = answer_to(rt.alloc(), &input)?;
-        assert_eq!(rt; got.as_str(), answer, "{head} {tail}");
+        assert_long(&rt, rt.alloc(), (head, digit, 1_000_000, tail), answer);
     }
-    Ok(())
 }
 
 #[test]

@@ -1,8 +1,9 @@
 //! Patterns as written.
 
-use crate::{RleFile, read_rle, sorted_cells, write_rle};
 use life_base::{Cell, Kind, Rule};
+use life_rle::{RleFile, read_rle, sorted_cells, write_rle};
 use std::alloc::Global;
+use std::process::Abort;
 use std::test::Fail;
 
 const FIRST: i64 = -(1 << 59);
@@ -25,8 +26,21 @@ fn text_of(alloc: Global, rule: &[u8], generation: u64, cells: &[Cell]) -> Resul
     }
 }
 
+/// Cells are written so.
+fn assert_text(
+    rt: &impl Abort,
+    alloc: Global,
+    rule: &[u8],
+    generation: u64,
+    cells: &[Cell],
+    wanted: &[u8],
+) {
+    let text = text_of(alloc, rule, generation, cells).expect(rt, "text");
+    assert_eq!(rt; &text[..], wanted);
+}
+
 #[test]
-fn a_glider_is_written(rt: HostRuntime) -> Result<(), Fail> {
+fn a_glider_is_written(rt: HostRuntime) {
     let cells = [
         cell(1, 0, 1),
         cell(2, 1, 1),
@@ -34,37 +48,23 @@ fn a_glider_is_written(rt: HostRuntime) -> Result<(), Fail> {
         cell(1, 2, 1),
         cell(2, 2, 1),
     ];
-    let text = text_of(rt.alloc(), b"b3s23", 0, &cells)?;
-    assert_eq!(rt;
-        &text[..],
-        b"#CXRLE Pos=0,0\nx = 3, y = 3, rule = B3/S23\nbo$2bo$3o!\n".as_slice()
-    );
-    Ok(())
+    let wanted = b"#CXRLE Pos=0,0\nx = 3, y = 3, rule = B3/S23\nbo$2bo$3o!\n";
+    assert_text(&rt, rt.alloc(), b"b3s23", 0, &cells, wanted);
 }
 
 #[test]
-fn no_cells_are_written(rt: HostRuntime) -> Result<(), Fail> {
-    let text = text_of(rt.alloc(), b"B3/S23", 0, &[])?;
-    assert_eq!(rt;
-        &text[..],
-        b"#CXRLE Pos=0,0\nx = 0, y = 0, rule = B3/S23\n!\n".as_slice()
-    );
-    let text = text_of(rt.alloc(), b"Foo", 9, &[])?;
-    assert_eq!(rt;
-        &text[..],
-        b"#CXRLE Pos=0,0 Gen=9\nx = 0, y = 0, rule = Foo\n!\n".as_slice()
-    );
-    Ok(())
+fn no_cells_are_written(rt: HostRuntime) {
+    let wanted = b"#CXRLE Pos=0,0\nx = 0, y = 0, rule = B3/S23\n!\n";
+    assert_text(&rt, rt.alloc(), b"B3/S23", 0, &[], wanted);
+    let wanted = b"#CXRLE Pos=0,0 Gen=9\nx = 0, y = 0, rule = Foo\n!\n";
+    assert_text(&rt, rt.alloc(), b"Foo", 9, &[], wanted);
 }
 
 #[test]
-fn states_under_a_name_are_letters(rt: HostRuntime) -> Result<(), Fail> {
+fn states_under_a_name_are_letters(rt: HostRuntime) {
     let cells = [cell(0, 0, 25), cell(1, 2, 3)];
-    let text = text_of(rt.alloc(), b"Foo", 0, &cells)?;
-    assert_eq!(rt;
-        &text[..],
-        b"#CXRLE Pos=0,0\nx = 2, y = 3, rule = Foo\npA2$.C!\n".as_slice()
-    );
+    let wanted = b"#CXRLE Pos=0,0\nx = 2, y = 3, rule = Foo\npA2$.C!\n";
+    assert_text(&rt, rt.alloc(), b"Foo", 0, &cells, wanted);
     let cells = [
         cell(-1, -1, 1),
         cell(0, -1, 24),
@@ -77,12 +77,8 @@ fn states_under_a_name_are_letters(rt: HostRuntime) -> Result<(), Fail> {
         cell(9, -1, 255),
         cell(10, -1, 255),
     ];
-    let text = text_of(rt.alloc(), b"WireWorld", 7, &cells)?;
-    assert_eq!(rt;
-        &text[..],
-        b"#CXRLE Pos=-1,-1 Gen=7\nx = 12, y = 1, rule = WireWorld\nAXpApXqAxXyAyO2.2yO!\n".as_slice()
-    );
-    Ok(())
+    let wanted = b"#CXRLE Pos=-1,-1 Gen=7\nx = 12, y = 1, rule = WireWorld\nAXpApXqAxXyAyO2.2yO!\n";
+    assert_text(&rt, rt.alloc(), b"WireWorld", 7, &cells, wanted);
 }
 
 /// The worked examples of the format.
@@ -93,47 +89,22 @@ fn patterns_are_written(rt: HostRuntime) -> Result<(), Fail> {
     let block = [cell(2, 3, 7), cell(3, 3, 7), cell(2, 4, 7), cell(3, 4, 8)];
     let far = [cell(5, -2, 1), cell(-3, 7, 1)];
     let long = fence(rt.alloc(), 36)?;
-    for &(rule, generation, cells, expected) in &[
-        (
-            b"WireWorld".as_slice(),
-            7,
-            wire.as_slice(),
-            b"#CXRLE Pos=-1,-1 Gen=7\nx = 2, y = 1, rule = WireWorld\nApA!\n".as_slice(),
-        ),
-        (
-            b"B3/S23",
-            0,
-            &pair,
-            b"#CXRLE Pos=-4,0\nx = 9, y = 1, rule = B3/S23\no7bo!\n",
-        ),
-        (
-            b"Foo",
-            1,
-            &block,
-            b"#CXRLE Pos=2,3 Gen=1\nx = 2, y = 2, rule = Foo\n2G$GH!\n",
-        ),
-        (
-            b"/2",
-            0,
-            &far,
-            b"#CXRLE Pos=-3,-2\nx = 9, y = 10, rule = B2/S\n8bo9$o!\n",
-        ),
-        (
-            b"B3/S23",
-            0,
-            &long,
-            b"#CXRLE Pos=0,0\nx = 71, y = 1, rule = B3/S23\n\
-            obobobobobobobobobobobobobobobobobobobobobobobobobobobobobobobobobobob\no!\n",
-        ),
-    ] {
-        let text = text_of(rt.alloc(), rule, generation, cells)?;
-        assert_eq!(rt; &text[..], expected);
-    }
+    let wanted = b"#CXRLE Pos=-1,-1 Gen=7\nx = 2, y = 1, rule = WireWorld\nApA!\n";
+    assert_text(&rt, rt.alloc(), b"WireWorld", 7, &wire, wanted);
+    let wanted = b"#CXRLE Pos=-4,0\nx = 9, y = 1, rule = B3/S23\no7bo!\n";
+    assert_text(&rt, rt.alloc(), b"B3/S23", 0, &pair, wanted);
+    let wanted = b"#CXRLE Pos=2,3 Gen=1\nx = 2, y = 2, rule = Foo\n2G$GH!\n";
+    assert_text(&rt, rt.alloc(), b"Foo", 1, &block, wanted);
+    let wanted = b"#CXRLE Pos=-3,-2\nx = 9, y = 10, rule = B2/S\n8bo9$o!\n";
+    assert_text(&rt, rt.alloc(), b"/2", 0, &far, wanted);
+    let wanted = b"#CXRLE Pos=0,0\nx = 71, y = 1, rule = B3/S23\n\
+        obobobobobobobobobobobobobobobobobobobobobobobobobobobobobobobobobobob\no!\n";
+    assert_text(&rt, rt.alloc(), b"B3/S23", 0, &long, wanted);
     Ok(())
 }
 
 /// Cells of state 1 at every second column of row 0, from column 0 on. Each is an item of one byte, with another between two of them.
-fn fence(alloc: Global, count: u8) -> Result<Vec<Cell>, Fail> {
+fn fence(alloc: Global, count: u8) -> Result<Vec<Cell>, Kind> {
     let mut cells = Vec::new(alloc);
     for i in 0..count {
         cells.push(cell(2 * i64::from(i), 0, 1))?;
@@ -141,10 +112,23 @@ fn fence(alloc: Global, count: u8) -> Result<Vec<Cell>, Fail> {
     Ok(cells)
 }
 
+/// A fence and cells behind it are written on lines that end so.
+fn assert_fence(rt: &impl Abort, alloc: Global, count: u8, more: &[Cell], end: &[u8]) {
+    let mut cells = fence(alloc, count).expect(rt, "memory");
+    cells.extend_from_slice(more).expect(rt, "memory");
+    let text = text_of(alloc, b"B3/S23", 0, &cells).expect(rt, "text");
+    assert!(rt; text.ends_with(end), "{count}");
+}
+
 /// Fences with cells behind them, and the text from the header's rule on.
 #[test]
-fn lines_have_at_most_70_bytes(rt: HostRuntime) -> Result<(), Fail> {
+fn lines_have_at_most_70_bytes(rt: HostRuntime) {
     let none: [Cell; 0] = [];
+    let pair = [cell(67, 0, 1), cell(68, 0, 1)];
+    let one = [cell(69, 0, 1)];
+    let next_row = [cell(69, 0, 1), cell(0, 1, 1)];
+    let third_row = [cell(0, 3, 1)];
+    let apart = [cell(67, 0, 1), cell(79, 0, 1)];
     for &(count, more, end) in &[
         // the mark ends the line at byte 70
         (
@@ -164,72 +148,64 @@ fn lines_have_at_most_70_bytes(rt: HostRuntime) -> Result<(), Fail> {
         // a run goes on behind the fence
         (
             34,
-            &[cell(67, 0, 1), cell(68, 0, 1)],
+            &pair,
             b"B3/S23\n\
             obobobobobobobobobobobobobobobobobobobobobobobobobobobobobobobobob3o!\n",
         ),
         // the mark would be byte 71
         (
             35,
-            &[cell(69, 0, 1)],
+            &one,
             b"B3/S23\n\
             obobobobobobobobobobobobobobobobobobobobobobobobobobobobobobobobobob2o\n!\n",
         ),
         // the `$` would be, without a count and with one
         (
             35,
-            &[cell(69, 0, 1), cell(0, 1, 1)],
+            &next_row,
             b"B3/S23\n\
             obobobobobobobobobobobobobobobobobobobobobobobobobobobobobobobobobob2o\n$o!\n",
         ),
         (
             35,
-            &[cell(0, 3, 1)],
+            &third_row,
             b"B3/S23\n\
             obobobobobobobobobobobobobobobobobobobobobobobobobobobobobobobobobobo\n3$o!\n",
         ),
         // the state behind a count would be
         (
             34,
-            &[cell(67, 0, 1), cell(79, 0, 1)],
+            &apart,
             b"B3/S23\n\
             obobobobobobobobobobobobobobobobobobobobobobobobobobobobobobobobob2o\n11bo!\n",
         ),
     ] {
-        let mut cells = fence(rt.alloc(), count)?;
-        cells.extend_from_slice(more)?;
-        let text = text_of(rt.alloc(), b"B3/S23", 0, &cells)?;
-        assert!(rt; text.ends_with(end));
+        assert_fence(&rt, rt.alloc(), count, more, end);
     }
-    Ok(())
 }
 
 #[test]
 fn a_state_of_two_letters_stays_on_one_line(rt: HostRuntime) -> Result<(), Fail> {
     let mut cells = fence(rt.alloc(), 35)?;
     cells.push(cell(69, 0, 25))?;
-    let text = text_of(rt.alloc(), b"Foo", 0, &cells)?;
-    assert_eq!(rt;
-        &text[..],
-        b"#CXRLE Pos=0,0\nx = 70, y = 1, rule = Foo\n\
-        A.A.A.A.A.A.A.A.A.A.A.A.A.A.A.A.A.A.A.A.A.A.A.A.A.A.A.A.A.A.A.A.A.A.A\npA!\n"
-            .as_slice()
-    );
+    let wanted = b"#CXRLE Pos=0,0\nx = 70, y = 1, rule = Foo\n\
+        A.A.A.A.A.A.A.A.A.A.A.A.A.A.A.A.A.A.A.A.A.A.A.A.A.A.A.A.A.A.A.A.A.A.A\npA!\n";
+    assert_text(&rt, rt.alloc(), b"Foo", 0, &cells, wanted);
     Ok(())
 }
 
 #[test]
-fn the_corners_of_the_plane_are_written(rt: HostRuntime) -> Result<(), Fail> {
+fn the_corners_of_the_plane_are_written(rt: HostRuntime) {
     let cells = [cell(FIRST, FIRST, 1), cell(LAST, LAST, 1)];
-    let text = text_of(rt.alloc(), b"B3/S23", u64::MAX, &cells)?;
-    assert_eq!(rt;
-        &text[..],
-        b"#CXRLE Pos=-576460752303423488,-576460752303423488 Gen=18446744073709551615\n\
+    let wanted = b"#CXRLE Pos=-576460752303423488,-576460752303423488 Gen=18446744073709551615\n\
         x = 1152921504606846976, y = 1152921504606846976, rule = B3/S23\n\
-        o1152921504606846975$1152921504606846975bo!\n"
-            .as_slice()
-    );
-    Ok(())
+        o1152921504606846975$1152921504606846975bo!\n";
+    assert_text(&rt, rt.alloc(), b"B3/S23", u64::MAX, &cells, wanted);
+}
+
+/// Whether the cells can be written under the rule.
+fn assert_sorted(rt: &impl Abort, rule: &Rule, cells: &[Cell], wanted: bool) {
+    assert!(rt; sorted_cells(rule, cells) == wanted);
 }
 
 #[test]
@@ -238,17 +214,22 @@ fn sorted_cells_can_be_written(rt: HostRuntime) -> Result<(), Fail> {
     let life = Rule::parse(rt.alloc(), b"B3/S23")?;
     let low = cell(0, 0, 25);
     let high = cell(1, 2, 3);
-    assert!(rt; sorted_cells(&name, &[low, high]));
-    assert!(rt; !sorted_cells(&name, &[high, low]));
-    assert!(rt; !sorted_cells(&life, &[low, high]));
-    assert!(rt; sorted_cells(&name, &[]));
-    assert!(rt; sorted_cells(&life, &[]));
-    assert!(rt; !sorted_cells(&life, &[cell(0, 0, 1), cell(0, 0, 1)]));
-    assert!(rt; sorted_cells(&life, &[cell(5, 0, 1), cell(0, 1, 1)]));
-    assert!(rt; !sorted_cells(&life, &[cell(0, 0, 0)]));
-    assert!(rt; sorted_cells(&life, &[cell(FIRST, FIRST, 1), cell(LAST, LAST, 1)]));
+    assert_sorted(&rt, &name, &[low, high], true);
+    assert_sorted(&rt, &name, &[high, low], false);
+    assert_sorted(&rt, &life, &[low, high], false);
+    assert_sorted(&rt, &name, &[], true);
+    assert_sorted(&rt, &life, &[], true);
+    assert_sorted(&rt, &life, &[cell(0, 0, 1), cell(0, 0, 1)], false);
+    assert_sorted(&rt, &life, &[cell(5, 0, 1), cell(0, 1, 1)], true);
+    assert_sorted(&rt, &life, &[cell(0, 0, 0)], false);
+    assert_sorted(
+        &rt,
+        &life,
+        &[cell(FIRST, FIRST, 1), cell(LAST, LAST, 1)],
+        true,
+    );
     for &(x, y) in &[(FIRST - 1, 0), (0, FIRST - 1), (LAST + 1, 0), (0, LAST + 1)] {
-        assert!(rt; !sorted_cells(&life, &[cell(x, y, 1)]));
+        assert_sorted(&rt, &life, &[cell(x, y, 1)], false);
     }
     Ok(())
 }
@@ -268,7 +249,7 @@ fn read_again(
 }
 
 /// The cells of a file's runs, one after another.
-fn cells_of(alloc: Global, file: &RleFile) -> Result<Vec<Cell>, Fail> {
+fn cells_of(alloc: Global, file: &RleFile) -> Result<Vec<Cell>, Kind> {
     let mut cells = Vec::new(alloc);
     for run in file.runs.as_slice() {
         let mut x = run.x;
@@ -281,7 +262,7 @@ fn cells_of(alloc: Global, file: &RleFile) -> Result<Vec<Cell>, Fail> {
 }
 
 /// Cells of all 255 states, 16 in a row.
-fn all_states(alloc: Global) -> Result<Vec<Cell>, Fail> {
+fn all_states(alloc: Global) -> Result<Vec<Cell>, Kind> {
     let mut cells = Vec::new(alloc);
     for state in 1..=255u8 {
         cells.push(cell(i64::from(state % 16) - 7, i64::from(state / 16) - 3, state))?;
@@ -290,12 +271,32 @@ fn all_states(alloc: Global) -> Result<Vec<Cell>, Fail> {
 }
 
 /// A fence, and then so many cells of one state: their run begins the second line.
-fn run_behind(alloc: Global, len: u8, state: u8) -> Result<Vec<Cell>, Fail> {
+fn run_behind(alloc: Global, len: u8, state: u8) -> Result<Vec<Cell>, Kind> {
     let mut cells = fence(alloc, 35)?;
     for i in 0..len {
         cells.push(cell(70 + i64::from(i), 0, state))?;
     }
     Ok(cells)
+}
+
+/// Cells are written, and read again with their rule, their generation, the corner of their box and so many runs.
+fn assert_read_again(
+    rt: &impl Abort,
+    alloc: Global,
+    (rule, generation): (&[u8], u64),
+    cells: &[Cell],
+    corner: (i64, i64),
+    runs: usize,
+) {
+    let file = read_again(alloc, rule, generation, cells).expect(rt, "file");
+    let found = cells_of(alloc, &file).expect(rt, "memory");
+    assert_eq!(rt; &found[..], cells);
+    assert_eq!(rt; file.runs.as_slice().len(), runs);
+    assert_eq!(rt;
+        (file.x, file.y, file.generation),
+        (corner.0, corner.1, generation)
+    );
+    assert!(rt; file.rule.same(&Rule::parse(alloc, rule).expect(rt, "rule")));
 }
 
 #[test]
@@ -324,13 +325,7 @@ fn what_is_written_is_read_again(rt: HostRuntime) -> Result<(), Fail> {
         (b"Foo", u64::MAX, &[], (0, 0), 0),
         (b"B3/S23", 0, &[], (0, 0), 0),
     ] {
-        let file = read_again(rt.alloc(), rule, generation, cells)?;
-        let found = cells_of(rt.alloc(), &file)?;
-        assert_eq!(rt; &found[..], cells);
-        assert_eq!(rt; file.runs.as_slice().len(), runs);
-        assert_eq!(rt; (file.x, file.y), corner);
-        assert_eq!(rt; file.generation, generation);
-        assert!(rt; file.rule.same(&Rule::parse(rt.alloc(), rule)?));
+        assert_read_again(&rt, rt.alloc(), (rule, generation), cells, corner, runs);
     }
     Ok(())
 }

@@ -1,0 +1,41 @@
+-- What the fronts of RLE files are, and which rule their first line and a line that is too long break.
+use Rattle.std.specs.Prelude.{◌≡◌, ◌↔◌, ◌⊎◌, ℕ, true, false, List, [], ◌∷◌, ◌++◌, codes, if◌then◌else◌}
+use Rattle.life_base.specs.declared.kind.Kind.{Kind}
+use Rattle.life_base.specs.declared.kind.Kind.TheVariants.{LineTooLong, NoHeader}
+use Rattle.life_base.specs.Refusal.{Prefix}
+use Rattle.life_base.specs.Text.{begins_with, is_too_long}
+use Rattle.life_rle.specs.Pattern.{Rle}
+use Rattle.life_rle.specs.Grammar.{IsMarked, IsSomeRle, Breaks}
+use Rattle.life_rle.specs.Decided.{LacksHeader}
+
+-- behind `!` any lines may follow: the file stays as it is, and none of them breaks a rule
+abbrev pub LinesBehindMarkAreFree : Type 0
+LinesBehindMarkAreFree =
+    (level : ℕ) (lines more : List (List ℕ)) (file : Rle) → IsMarked level lines file
+    → IsMarked level (lines ++ more) file × ((line : List ℕ) (kind : Kind) → Breaks level (lines ++ more) line kind → ⊥)
+
+-- the front of a front is a front
+abbrev pub FrontsOfFronts : Type 0
+FrontsOfFronts = (level : ℕ) (lines more : List (List ℕ)) → Prefix (IsSomeRle level) (lines ++ more) → Prefix (IsSomeRle level) lines
+
+-- a front is a file, with `!` or without, or lacks its header
+abbrev pub FrontsAreFiles : Type 0
+FrontsAreFiles = (level : ℕ) (lines : List (List ℕ)) → Prefix (IsSomeRle level) lines ↔ (IsSomeRle level lines ⊎ LacksHeader level lines)
+
+-- a front doesn't begin with the first line of a macrocell file
+abbrev pub BeginsAsRle : Type 0
+BeginsAsRle =
+    (level : ℕ) (line : List ℕ) (lines : List (List ℕ)) → Prefix (IsSomeRle level) (line ∷ lines) → begins_with line (codes "[M2]") ≡ false
+
+-- which rule such a line breaks as the first
+abbrev pub MacrocellLineBreaks : Type 0
+MacrocellLineBreaks =
+    (level : ℕ) (line : List ℕ) → begins_with line (codes "[M2]") ≡ true → Breaks level [] line (if is_too_long line then LineTooLong else NoHeader)
+
+-- LineTooLong is the kind of lines that are too long alone, and behind a front without `!` it is the only one that they break.
+abbrev pub LongLinesBreak : Type 0
+LongLinesBreak =
+    (level : ℕ) (front : List (List ℕ)) (line : List ℕ)
+    → (Breaks level front line LineTooLong → is_too_long line ≡ true)
+    × (is_too_long line ≡ true → Prefix (IsSomeRle level) front → ((file : Rle) → IsMarked level front file → ⊥)
+    → (kind : Kind) → Breaks level front line kind ↔ (kind ≡ LineTooLong))

@@ -1,0 +1,96 @@
+-- RLE files, said of whole texts: which lines are a file, and what each of them is put together from. What `!` ends, and what header lines and
+-- items are, is of Golly Help (File Formats, Extended RLE format); the limit of a line, which lines are data, and the plane are the project's own.
+use Rattle.std.specs.Prelude.{◌≡◌, ◌↔◌, ◌⊎◌, ℕ, ◌≤◌, ◌^◌, true, false, List, [], ◌∷◌, ◌++◌, length, ℤ, pos, ◌+ℤ◌, ◌≤ℤ◌, ◌<ℤ◌, Some, None, Ok, codes}
+use Rattle.life_base.specs.declared.rule.Rule.{Rule}
+use Rattle.life_base.specs.Rules.{rule_of, default_rule}
+use Rattle.life_base.specs.Text.{is_blank, begins_with}
+use Rattle.life_rle.specs.declared.item.Item.{Item}
+use Rattle.life_rle.specs.declared.item.Item.TheVariants.{Cells, RowEnds}
+use Rattle.life_rle.specs.declared.position.Position.{Position}
+use Rattle.life_rle.specs.Plane.{edge}
+use Rattle.life_rle.specs.States.{is_state_of}
+use Rattle.life_rle.specs.Position.{default_position, is_position_line}
+use Rattle.life_rle.specs.Pattern.{Rle, Placed}
+use Rattle.life_rle.specs.ItemsLaw.{IsItem}
+use Rattle.life_rle.specs.Plain.{IsHeaderLine, IsTextOf}
+use Rattle.life_rle.specs.PlainPosition.{IsPositionText}
+use Rattle.life_rle.specs.Grammar.{IsRle}
+
+-- a line that isn't too long
+abbrev pub IsShort : List ℕ → Type 0
+IsShort line = length line ≤ 2 ^ 20
+
+-- a line that says nothing: whitespace alone, or `#` in front of what is no position line
+abbrev pub IsComment : List ℕ → Type 0
+IsComment line = (is_blank line ≡ true) ⊎ ((begins_with line (codes "#") ≡ true) × (is_position_line line ≡ false))
+
+-- comments and position lines; the last position line gives the position, and where there is none, it is the position given (the second argument)
+abbrev pub ArePreamble : ℕ → Position → List (List ℕ) → Position → Type 0
+ArePreamble level given [] position = position ≡ given
+ArePreamble level given (line ∷ lines) position =
+    IsShort line × ((IsComment line × ArePreamble level given lines position) ⊎ ((here : Position) × IsPositionText level line here × ArePreamble level here lines position))
+
+-- a header line of this rule; B3/S23 where it names none
+abbrev pub IsRuleLine : List ℕ → Rule → Type 0
+IsRuleLine line rule = (IsHeaderLine line None × (rule ≡ default_rule)) ⊎ ((text : List ℕ) × IsHeaderLine line (Some text) × (rule_of text ≡ Ok rule))
+
+-- a line of data: not blank, and neither `#`, nor `x` and a space, nor `x=` in front
+pub record IsData (line : List ℕ) : Type 0 where
+  pub visible : is_blank line ≡ false
+  pub no_comment : begins_with line (codes "#") ≡ false
+  pub no_header : begins_with line (codes "x ") ≡ false
+  pub no_other_header : begins_with line (codes "x=") ≡ false
+
+-- a line behind the header up to its end: a comment, or the texts of these items
+abbrev pub IsBodyLine : ℕ → List ℕ → List Item → Type 0
+IsBodyLine level line items = IsShort line × ((IsComment line × (items ≡ [])) ⊎ (IsData line × IsTextOf level line items []))
+
+-- the line with `!`: the texts of these items in front of it, and anything behind it
+abbrev pub IsLastLine : ℕ → List ℕ → List Item → Type 0
+IsLastLine level line items = IsShort line × IsData line × ((free : List ℕ) × IsTextOf level line items (33 ∷ free))
+
+-- lines behind the header, of these items together
+abbrev pub AreBody : ℕ → List (List ℕ) → List Item → Type 0
+AreBody level [] items = items ≡ []
+AreBody level (line ∷ lines) items = (first rest : List Item) × (items ≡ first ++ rest) × IsBodyLine level line first × AreBody level lines rest
+
+-- where an item may stand: cells of a state of the rule in the plane; row ends may bring the row to the edge and no further
+abbrev pub MayStand : ℕ → Rule → ℤ → ℤ → Item → Type 0
+MayStand level rule row column (Cells count state) = (is_state_of rule state ≡ true) × (row <ℤ edge level) × ((column +ℤ pos count) ≤ℤ edge level)
+MayStand level rule row column (RowEnds count) = (row +ℤ pos count) ≤ℤ edge level
+
+-- each item of the file stands where it may
+abbrev pub AreInPlace : ℕ → Rle → Type 0
+AreInPlace level file = (i : ℕ) (p : Placed) → IsItem file i p → MayStand level file.rule p.row p.column p.item
+
+-- a file without `!`: comments and position lines, the header, and the lines of its items
+pub record IsOpenFile (level : ℕ) (lines : List (List ℕ)) (file : Rle) : Type 0 where
+  pub before : List (List ℕ)
+  pub header : List ℕ
+  pub body : List (List ℕ)
+  pub whole : lines ≡ before ++ header ∷ body
+  pub preamble : ArePreamble level default_position before file.position
+  pub short : IsShort header
+  pub rule : IsRuleLine header file.rule
+  pub items : AreBody level body file.items
+  pub place : AreInPlace level file
+
+-- a file without `!`, then the line with `!`, and then any lines
+pub record IsEndedFile (level : ℕ) (lines : List (List ℕ)) (file : Rle) : Type 0 where
+  pub front : List (List ℕ)
+  pub last : List ℕ
+  pub free : List (List ℕ)
+  pub whole : lines ≡ front ++ last ∷ free
+  pub earlier : List Item
+  pub final : List Item
+  pub items : file.items ≡ earlier ++ final
+  pub begun : IsOpenFile level front (record file { items = earlier })
+  pub ended : IsLastLine level last final
+  pub place : AreInPlace level file
+
+abbrev pub IsPlainRle : ℕ → List (List ℕ) → Rle → Type 0
+IsPlainRle level lines file = IsOpenFile level lines file ⊎ IsEndedFile level lines file
+
+-- lines are an RLE file exactly if they are one in these words
+abbrev pub FilesArePlain : Type 0
+FilesArePlain = (level : ℕ) (lines : List (List ℕ)) (file : Rle) → IsRle level lines file ↔ IsPlainRle level lines file

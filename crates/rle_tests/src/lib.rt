@@ -1,0 +1,10 @@
+//! Tests of the calls of `life_rle`, for what no clause says: that the definitions are those of the format, and that calls succeed where
+//! memory is there.
+#![tactic(auto)]
+
+#[cfg(test)]
+mod files;
+#[cfg(test)]
+mod lines;
+#[cfg(test)]
+mod written;
