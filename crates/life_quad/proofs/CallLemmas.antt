@@ -1,5 +1,5 @@
 -- What the calls of a shared store answer.
-use Rattle.std.proofs.Common.{◌≡◌, ◌≢◌, length-append, Contains, ◌⊎◌, inl, inr, true≢false, ◌&&◌, ℕ, zero, suc, ◌+◌, ◌-◌, ◌≤◌, ◌<◌, Bool, true, false, List, [], ◌∷◌, ◌++◌, length, Some, slice_get, get_or, Result, Ok, Err, OnOk, OnErr, IfOk, refl, sym, ◌∙◌, ap, subst, arith, map}
+use Rattle.std.proofs.Common.{◌≡◌, ◌≢◌, length-append, Contains, ◌⊎◌, inl, inr, true≢false, ◌&&◌, ℕ, zero, suc, ◌+◌, ◌-◌, ◌≤◌, ◌<◌, Bool, true, false, List, [], ◌∷◌, ◌++◌, length, Some, slice_get, get_or, Result, Ok, Err, OnOk, OnErr, refl, sym, ◌∙◌, ap, subst, arith, map, ◌↔◌, nat_lt}
 use Rattle.std.proofs.lemmas.List.Elements.{All-cons, All-nil, Contains-append_left}
 use Rattle.std.proofs.lemmas.List.{get_or_append_left}
 use Rattle.std.specs.List.{list_any, position, All, AllPairs}
@@ -9,12 +9,14 @@ use Rattle.indexmap.specs.IndexSet.{insert_key}
 use Rattle.std.proofs.lemmas.Option.{slice_get-get_or, slice_get_within, get_or_from_slice_get}
 use Rattle.std.proofs.lemmas.List.Folds.{list_any_at}
 use Rattle.indexmap.proofs.CallerLemmas.{Contains-list_any}
+use Rattle.life_base.specs.declared.kind.Kind.{Kind}
+use Rattle.life_base.specs.declared.kind.Kind.TheVariants.{Full, Memory}
 use Rattle.life_base.specs.declared.cell.TheConstants.{MAX_LEVEL}
 use Rattle.life_quad.specs.declared.id.Id.{Id}
 use Rattle.life_quad.specs.declared.id.Node.{Node}
 use Rattle.life_quad.specs.contracts.id.NodePartialEq.TheImpl.{eq-value}
 use Rattle.life_base.specs.Tree.{Tree, point, quad, depth, quarters, blank, is_blank_tree, IsFull}
-use Rattle.life_quad.specs.TreeLaws.{depth-blank, is_blank-blank, blank_is, quad_nw, quad_ne, quad_sw, quad_se, point_state, point≢quad}
+use Rattle.life_base.proofs.Squares.{depth-blank, is_blank-blank, blank_is, quad_nw, quad_ne, quad_sw, quad_se, point_state, point≢quad}
 use Rattle.life_quad.specs.Store.{Nodes, square_of, node_square, squares, held, is_blank_id, IsNamed, IsNode, IsSound, IsShared, Knows, IsIdOf, Interned, was_there, is_new}
 use Rattle.life_quad.specs.StoreLaws.{Names, the_state, the_blank, the_node, names, same_id, same_ids, length-squares, IsSound-push, IsShared-push, squares-push, square_of-append, square_of-node, is_blank-content, full_content, slice_get-last, node_square-append}
 
@@ -24,19 +26,6 @@ id_of n = record { 0 = n }
 append_nil : (xs : List Tree) → xs ++ [] ≡ xs
 append_nil [] = refl
 append_nil (x ∷ xs) = ap (λ l. x ∷ l) (append_nil xs)
-
-module _ {T E A : Type 0} where
-  pub on_ok : {B : Type 0} (r : Result T E) → (A → B) → OnOk r A → OnOk r B
-  on_ok (Ok x) f a = f a
-  on_ok (Err e) f a = tt
-
-  pub on_err : {B : Type 0} (r : Result T E) → (A → B) → OnErr r A → OnErr r B
-  on_err (Ok x) f a = tt
-  on_err (Err e) f a = f a
-
-  pub if_ok : {P Q : T → Type 0} (r : Result T E) → ((x : T) → A → P x → Q x) → OnOk r A → IfOk r P → IfOk r Q
-  if_ok (Ok x) f a p = f x a p
-  if_ok (Err e) f a p = tt
 
 -- the Id of a state
 pub knows_state : (s : Nodes) (v : ℕ) → IsSound s → v < 256 → Knows s (id_of v)
@@ -367,3 +356,19 @@ held-only s h t (k, lt, e) =
       subst (λ z. 0 < depth z) same deep,
       (id_of (512 + k), knows_id s m (id_of (512 + k)) h (k, refl, at), square_of-node s k m (id_of (512 + k)) h at refl ∙ same),
     )
+
+-- a store that was refused memory for a node has room for it
+pub room_left : {T P : Type 0} (r : Result T Kind) (old new : Nodes) → IsSound old → (r ≡ Err Full) ↔ (P × (length old.nodes ≡ old.limit)) → OnErr r P → OnErr r (new ≡ old)
+    → r ≡ Err Memory → length (held new) < new.limit
+room_left (Ok x) old new h full needed same e = absurd (cc)
+room_left (Err k) old new h full needed same e = subst (λ s. length (held s) < s.limit) (sym same) (by (nat_lt (length old.nodes) old.limit) refl)
+  where
+    len : length (held old) ≡ length old.nodes
+    len = length-squares old.nodes
+
+    by : (b : Bool) → nat_lt (length old.nodes) old.limit ≡ b → length (held old) < old.limit
+    by true g = let l : length old.nodes < old.limit = grind arith in omega (arith, l, len)
+    by false g =
+        let l : old.limit ≤ length old.nodes = grind arith in
+        let f = full.1 (needed, omega (arith, l, h.len)) in
+        absurd (let kinds = sym e ∙ f in cc)

@@ -1,5 +1,6 @@
 -- The list of the cells of a square.
 use Rattle.std.proofs.Common.{◌≡◌, ◌≢◌, ℕ, zero, suc, ◌+◌, ◌-◌, ◌^◌, ◌≤◌, ◌<◌, Bool, true, false, ◌&&◌, ◌⊎◌, inl, inr, ℤ, pos, neg_ℤ, ◌+ℤ◌, ◌≤ℤ◌, ◌<ℤ◌, List, [], ◌∷◌, ◌++◌, length, length-append, Contains, get_or, refl, sym, ◌∙◌, ap, subst, arith}
+use Rattle.std.proofs.lemmas.Result.{IfErr-weaker}
 use Rattle.std.specs.Prelude.{if◌then◌else◌}
 use Rattle.std.specs.List.{AllPairs}
 use Rattle.std.proofs.lemmas.Int.{ints}
@@ -16,7 +17,6 @@ use Rattle.life_quad.specs.declared.listing.Placed.{Placed}
 use Rattle.life_base.specs.declared.kind.Kind.{Kind}
 use Rattle.life_base.specs.declared.kind.Kind.TheVariants.{TooManyCells}
 use Rattle.std.specs.Prelude.{Result, IfErr}
-use Rattle.life_quad.proofs.MoveLemmas.{if_err_map}
 use Rattle.life_quad.proofs.RunLemmas.{side}
 use Rattle.life_quad.proofs.CountLemmas.{population-blank}
 use Rattle.life_quad.proofs.PlaneLemmas.{IsPlace, place_of, cell_at}
@@ -298,13 +298,13 @@ module _ (level : ℕ) (row first middle : ℤ) (band north south : List Piece) 
   -- more cells in a half than a limit leaves room for are more in the whole
   pub more_in_first : {T : Type 0} (r : Result T Kind) (old limit : ℕ) → IfErr r (λ e. e ≡ TooManyCells → limit < old + length (band_cells (level - 1) first north))
       → IfErr r (λ e. e ≡ TooManyCells → limit < old + length (band_cells level row band))
-  more_in_first r old limit h = if_err_map r (λ e f is. let n = f is in omega (arith, n, both_lengths)) h
+  more_in_first r old limit h = IfErr-weaker r _ _ (λ e f is. let n = f is in omega (arith, n, both_lengths)) h
 
   pub more_in_second : {T : Type 0} (r : Result T Kind) (old list : List Cell) (limit : ℕ) → list ≡ old ++ band_cells (level - 1) first north
       → IfErr r (λ e. e ≡ TooManyCells → limit < length list + length (band_cells (level - 1) middle south)) → IfErr r (λ e. e ≡ TooManyCells → limit < length old + length (band_cells level row band))
   more_in_second r old list limit is h =
       let l = ap length is ∙ length-append old (band_cells (level - 1) first north) in
-      if_err_map r (λ e f same. let n = f same in omega (arith, n, l, both_lengths)) h
+      IfErr-weaker r _ _ (λ e f same. let n = f same in omega (arith, n, l, both_lengths)) h
 
 -- a band of the one square, and its cells
 pub whole_band : (content : Id → Tree) (band old : List Placed) (t : Tree) (west : ℤ) → old ≡ [] → west ≡ neg_ℤ (pos (half_side t)) → pieces content band ≡ pieces content old ++ kept t west
@@ -322,4 +322,4 @@ pub more_in_square : {T : Type 0} (r : Result T Kind) (t : Tree) (old limit leve
     → IfErr r (λ e. e ≡ TooManyCells → limit < old + length (band_cells level row band)) → IfErr r (λ e. e ≡ TooManyCells → limit < population t)
 more_in_square r t old limit level row band full none l w b h =
     let same : length (band_cells level row band) ≡ population t = (λ i. length (band_cells (l i) (w i) (b i))) ∙ square_length t full in
-    if_err_map r (λ e f is. let n = f is in omega (arith, n, same)) h
+    IfErr-weaker r _ _ (λ e f is. let n = f is in omega (arith, n, same)) h

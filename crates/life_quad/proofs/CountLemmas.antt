@@ -4,7 +4,7 @@ use Rattle.std.proofs.Math.Nat.{pow-le-pow_right}
 use Rattle.life_base.specs.declared.cell.TheConstants.{MAX_LEVEL}
 use Rattle.life_base.specs.Tree.{Tree, point, quad, depth, is_blank_tree, IsFull}
 use Rattle.life_quad.specs.Cells.{population}
-use Rattle.life_quad.specs.TreeLaws.{and_left, and_right}
+use Rattle.life_base.proofs.Squares.{and_left, and_right}
 
 -- a blank square has no cell with a state
 pub population-blank : (t : Tree) → is_blank_tree t ≡ true → population t ≡ 0

@@ -1,5 +1,5 @@
 -- Growing and trimming keep the cells.
-use Rattle.std.proofs.Common.{◌≡◌, ◌≢◌, ℕ, zero, suc, ◌+◌, ◌^◌, ◌≤◌, ◌<◌, Bool, true, false, ◌&&◌, nat_lt, ◌⊎◌, inl, inr, ℤ, pos, neg_ℤ, ◌+ℤ◌, List, [], ◌∷◌, ◌++◌, refl, sym, ◌∙◌, ap, subst, arith}
+use Rattle.std.proofs.Common.{◌≡◌, ◌≢◌, ℕ, zero, suc, ◌+◌, ◌-◌, ◌^◌, ◌≤◌, ◌<◌, Bool, true, false, ◌&&◌, nat_lt, nat_le, ◌⊎◌, inl, inr, ℤ, pos, neg_ℤ, ◌+ℤ◌, ◌-ℤ◌, ◌<ℤ◌, ◌≤ℤ◌, List, [], ◌∷◌, ◌++◌, refl, sym, ◌∙◌, ap, subst, arith}
 use Rattle.std.specs.List.{list_all}
 use Rattle.std.specs.Prelude.{if◌then◌else◌}
 use Rattle.std.proofs.lemmas.Int.{ints}
@@ -7,13 +7,15 @@ use Rattle.life_base.specs.declared.cell.Cell.{Cell}
 use Rattle.life_base.specs.Tree.{Tree, point, quad, depth, state_at, is_blank_tree, IsFull}
 use Rattle.life_quad.specs.Moves.{outer, inner, can_trim, trimmed, trim_up_to, grown}
 use Rattle.life_base.specs.Tree.{tree_cell as cell, half_side}
-use Rattle.life_quad.specs.Laws.{BlankByCells, EqualByCells, GrowingKeepsCells, TrimmingKeepsCells, TrimmingIgnoresGrowth}
+use Rattle.life_quad.specs.Laws.{BlankByCells, EqualByCells, EqualByPlane, CellsLieInside, GrowingKeepsCells, TrimmingKeepsCells, TrimmingIgnoresGrowth, TrimmedIsFixed, TrimmingStops, TrimmedByCells, TrimmedIsLowest, CellsAreListed, ListIsPopulation, KnownSquaresAreFull, EqualSquaresHaveOneId}
 use Rattle.life_quad.specs.Bands.{Piece, kept}
-use Rattle.life_quad.specs.TreeLaws.{depth-blank, full-blank, is_blank-blank, and_left, and_right}
-use Rattle.life_quad.proofs.MoveLemmas.{trimmed-smaller}
+use Rattle.life_quad.specs.StoreLaws.{full_content, low_content, same_id}
+use Rattle.life_base.proofs.Squares.{depth-blank, full-blank, is_blank-blank, and_left, and_right, is_inside, inside_facts, cell_outside}
+use Rattle.life_quad.proofs.MoveLemmas.{depth-inner, trimmed-stays, trimmed-smaller}
+use Rattle.life_quad.proofs.PlaneLemmas.{IsPlace, cell_at, back as west_again}
 use Rattle.life_quad.proofs.NonzeroLemmas.{blank_has_none, others_have_one, double, state_nw, state_ne, state_sw, state_se}
 use Rattle.life_quad.proofs.BandLemmas.{IsCellOf, OnBand, OnBand-cases, OnBand-append_left, OnBand-append_right, kept_has, kept_from, quarters_have, northern_from, southern_from}
-use Rattle.life_quad.proofs.CellListLemmas.{on_plane, from_plane}
+use Rattle.life_quad.proofs.CellListLemmas.{on_plane, from_plane, square_cells, IsCellList-square, one_list, list_length}
 
 -- ---- blank squares and equal squares by their cells
 
@@ -56,6 +58,36 @@ equal_by_cells (quad a b c e) (quad p q r u) fs ft d same =
     let sw = equal_by_cells c r fs.2 ft.2 (fs.5 ∙ k ∙ sym ft.5) (λ i j li lj. sym (state_sw a b c e fs i (2 ^ depth a + j) j refl li) ∙ same i (2 ^ depth a + j) (omega arith) (omega arith) ∙ state_sw p q r u ft i (2 ^ depth a + j) j (omega arith) (omega arith)) in
     let sx = equal_by_cells e u fs.3 ft.3 (fs.6 ∙ k ∙ sym ft.6) (λ i j li lj. sym (state_se a b c e fs (2 ^ depth a + i) i (2 ^ depth a + j) j refl refl) ∙ same (2 ^ depth a + i) (2 ^ depth a + j) (omega arith) (omega arith) ∙ state_se p q r u ft (2 ^ depth a + i) i (2 ^ depth a + j) j (omega arith) (omega arith)) in
     λ i. quad (nw i) (ne i) (sw i) (sx i)
+
+-- a column or row of a square is a whole number of the plane
+high_equal : (s t : Tree) → IsFull s → IsFull t → 1 ≤ depth s → depth s ≡ depth t → ((x y : ℤ) → cell s x y ≡ cell t x y) → s ≡ t
+high_equal s t fs ft high d same = equal_by_cells s t fs ft d at
+  where
+    half : half_side s ≡ half_side t
+    half = ap (λ k. 2 ^ (k - 1)) d
+
+    place_s : (i j : ℕ) → IsPlace (half_side s) (pos i -ℤ pos (half_side s)) (pos j -ℤ pos (half_side s)) i j
+    place_s i j = record { column = west_again i (half_side s); row = west_again j (half_side s) }
+
+    place_t : (i j : ℕ) → IsPlace (half_side t) (pos i -ℤ pos (half_side s)) (pos j -ℤ pos (half_side s)) i j
+    place_t i j = subst (λ h. IsPlace h (pos i -ℤ pos (half_side s)) (pos j -ℤ pos (half_side s)) i j) half (place_s i j)
+
+    at : (i j : ℕ) → i < 2 ^ depth s → j < 2 ^ depth s → state_at s i j ≡ state_at t i j
+    at i j li lj =
+        sym (cell_at s _ _ i j high (place_s i j) li lj) ∙ same _ _
+        ∙ cell_at t _ _ i j (subst (λ k. 1 ≤ k) d high) (place_t i j) (subst (λ k. i < 2 ^ k) d li) (subst (λ k. j < 2 ^ k) d lj)
+
+pub equal_by_plane : EqualByPlane
+equal_by_plane (point a) (point b) fs ft d same = ap point (same (pos 0) (pos 0))
+equal_by_plane (point a) (quad p q r u) fs ft d same = absurd (omega arith)
+equal_by_plane (quad a b c e) t fs ft d same = high_equal (quad a b c e) t fs ft (omega arith) d same
+
+pub cells_lie_inside : CellsLieInside
+cells_lie_inside t x y nonzero = by (is_inside (half_side t) x y) refl
+  where
+    by : (b : Bool) → is_inside (half_side t) x y ≡ b → (neg_ℤ (pos (half_side t)) ≤ℤ x) × (x <ℤ pos (half_side t)) × (neg_ℤ (pos (half_side t)) ≤ℤ y) × (y <ℤ pos (half_side t))
+    by true e = let k = inside_facts (half_side t) x y e in (k.west, k.east, k.north, k.south)
+    by false e = absurd (nonzero (cell_outside t x y e))
 
 -- ---- the cells of a square by its quarters, on the plane
 
@@ -292,3 +324,88 @@ trimming_steps (suc n) t least full positive x y = by (can_trim t least) refl (�
 
 pub trimming_keeps_cells : TrimmingKeepsCells
 trimming_keeps_cells t least full positive x y = trimming_steps (depth t) t least full positive x y
+
+-- what trimming comes to
+record IsTrimmedForm (least : ℕ) (t form : Tree) : Type 0 where
+  full : IsFull form
+  ends : can_trim form least ≡ false
+  low : least ≤ depth t → least ≤ depth form
+  high : depth form ≤ depth t
+
+cannot_trim : (t : Tree) (least : ℕ) → depth t ≤ least → can_trim t least ≡ false
+cannot_trim t least le = let e : nat_lt least (depth t) ≡ false = grind (arith, le) in ap (λ b. b && list_all is_blank_tree (outer t)) e
+
+trimmed_form : (n : ℕ) (t : Tree) (least : ℕ) → IsFull t → 1 ≤ least → depth t ≤ n → IsTrimmedForm least t (trim_up_to n t least)
+trimmed_form zero t least full positive le =
+    record { full = full; ends = cannot_trim t least (omega arith); low = λ h. h; high = omega arith }
+trimmed_form (suc n) t least full positive le = by (can_trim t least) refl (trimmed_form n (inner t) least)
+  where
+    by : (b : Bool) → can_trim t least ≡ b → (IsFull (inner t) → 1 ≤ least → depth (inner t) ≤ n → IsTrimmedForm least (inner t) (trim_up_to n (inner t) least))
+        → IsTrimmedForm least t (if b then trim_up_to n (inner t) least else t)
+    by false e rest = record { full = full; ends = e; low = λ h. h; high = omega arith }
+    by true e rest =
+        let above : nat_lt least (depth t) ≡ true = and_left _ _ e in
+        let over : least < depth t = grind arith in
+        let deep : 2 ≤ depth t = omega arith in
+        let i = inner_cells t full deep (and_right (nat_lt least (depth t)) _ e) in
+        let d = depth-inner t full deep in
+        let r = rest i.0 positive (omega arith) in
+        let h = r.high in
+        record { full = r.full; ends = r.ends; low = λ l. r.low (omega arith); high = omega arith }
+
+form_of : (t : Tree) (least : ℕ) → IsFull t → 1 ≤ least → IsTrimmedForm least t (trimmed t least)
+form_of t least full positive = trimmed_form (depth t) t least full positive (omega arith)
+
+pub trimmed_is_fixed : TrimmedIsFixed
+trimmed_is_fixed t least full positive =
+    let f = form_of t least full positive in (f.full, trimmed-stays (trimmed t least) least f.ends)
+
+pub trimming_stops : TrimmingStops
+trimming_stops t least full positive =
+    let f = form_of t least full positive in (f.low, λ le. trimmed-stays t least (cannot_trim t least le), f.high)
+
+-- a square grows to the level of a larger one with the same cells, and is that one then
+same_form : (n : ℕ) (s t : Tree) (least : ℕ) → IsFull s → IsFull t → 1 ≤ least → least ≤ depth s → n + depth s ≡ depth t
+    → ((x y : ℤ) → cell s x y ≡ cell t x y) → trimmed s least ≡ trimmed t least
+same_form zero s t least fs ft positive le d same = ap (λ u. trimmed u least) (equal_by_plane s t fs ft (omega arith) same)
+same_form (suc n) s t least fs ft positive le d same =
+    let high : 1 ≤ depth s = omega arith in
+    let e = depth_grown s high in
+    sym (trimming_ignores_growth s least fs positive le)
+    ∙ same_form n (grown s) t least (full_grown s fs high) ft positive (omega arith) (omega arith) (λ x y. growing_keeps_cells s fs high x y ∙ same x y)
+
+pub trimmed_by_cells : TrimmedByCells
+trimmed_by_cells s t least fs ft positive ls lt = (to, from)
+  where
+    to : trimmed s least ≡ trimmed t least → (x y : ℤ) → cell s x y ≡ cell t x y
+    to e x y = sym (trimming_keeps_cells s least fs positive x y) ∙ ap (λ u. cell u x y) e ∙ trimming_keeps_cells t least ft positive x y
+
+    from : ((x y : ℤ) → cell s x y ≡ cell t x y) → trimmed s least ≡ trimmed t least
+    from same = by (nat_le (depth s) (depth t)) refl
+      where
+        by : (b : Bool) → nat_le (depth s) (depth t) ≡ b → trimmed s least ≡ trimmed t least
+        by true e =
+            let le : depth s ≤ depth t = grind arith in
+            same_form (depth t - depth s) s t least fs ft positive ls (omega arith) same
+        by false e =
+            let le : depth t ≤ depth s = grind arith in
+            sym (same_form (depth s - depth t) t s least ft fs positive lt (omega arith) (λ x y. sym (same x y)))
+
+pub trimmed_is_lowest : TrimmedIsLowest
+trimmed_is_lowest s t least fs ft positive ls lt same =
+    let e = (trimmed_by_cells s t least fs ft positive ls lt).1 same in
+    subst (λ u. depth u ≤ depth s) e (form_of s least fs positive).high
+
+pub cells_are_listed : CellsAreListed
+cells_are_listed t full high = (square_cells t, IsCellList-square t full high, λ other h. one_list t other full high h)
+
+pub list_is_population : ListIsPopulation
+list_is_population t cells full high h = list_length t cells full high h
+
+-- ---- the squares of a store
+
+pub known_squares_are_full : KnownSquaresAreFull
+known_squares_are_full s id h = (full_content s id h, low_content s id h)
+
+pub equal_squares_have_one_id : EqualSquaresHaveOneId
+equal_squares_have_one_id s shared a b ha hb e = same_id s shared a b ha hb e

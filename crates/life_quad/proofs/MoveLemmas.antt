@@ -1,22 +1,9 @@
 -- Facts about squares made of other squares.
-use Rattle.std.proofs.Common.{◌≡◌, ℕ, zero, suc, ◌+◌, ◌≤◌, Bool, true, false, nat_lt, Result, Ok, Err, IfOk, IfErr, OnOk, refl, sym, ◌∙◌, ap, arith}
+use Rattle.std.proofs.Common.{◌≡◌, ℕ, zero, suc, ◌+◌, ◌≤◌, Bool, true, false, nat_lt, refl, sym, ◌∙◌, ap, arith}
 use Rattle.std.specs.List.{list_all}
 use Rattle.life_base.specs.Tree.{Tree, point, quad, depth, blank, is_blank_tree, IsFull}
 use Rattle.life_quad.specs.Moves.{outer, inner, can_trim, trimmed, trim_up_to}
-use Rattle.life_quad.specs.TreeLaws.{is_blank-blank, blank_is, and_left}
-
--- what holds of every answer of a call
-pub if_ok_map : {T E : Type 0} {P Q : T → Type 0} (r : Result T E) → ((x : T) → P x → Q x) → IfOk r P → IfOk r Q
-if_ok_map (Ok x) f p = f x p
-if_ok_map (Err e) f p = tt
-
-pub if_err_map : {T E : Type 0} {P Q : E → Type 0} (r : Result T E) → ((e : E) → P e → Q e) → IfErr r P → IfErr r Q
-if_err_map (Ok x) f p = tt
-if_err_map (Err e) f p = f e p
-
-pub on_ok_map : {T E P Q : Type 0} (r : Result T E) → (P → Q) → OnOk r P → OnOk r Q
-on_ok_map (Ok x) f p = f p
-on_ok_map (Err e) f p = tt
+use Rattle.life_base.proofs.Squares.{is_blank-blank, blank_is, and_left}
 
 -- a test for the blank square of a level
 pub blank_test : (t : Tree) (l : ℕ) (same : Bool) → IsFull t → l ≡ depth t → (same ≡ true → t ≡ blank l) → (same ≡ false → t ≡ blank l → ⊥) → same ≡ is_blank_tree t

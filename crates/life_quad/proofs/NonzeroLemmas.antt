@@ -1,9 +1,9 @@
 -- Facts about the nonzero cells of a square.
 use Rattle.std.proofs.Common.{◌≡◌, ℕ, suc, ◌+◌, ◌-◌, ◌^◌, ◌<◌, Bool, true, false, ◌&&◌, ◌==◌, nat_lt, refl, sym, ◌∙◌, ap, arith, true≢false}
 use Rattle.life_base.specs.Tree.{Tree, point, quad, depth, state_at, is_blank_tree, IsFull}
-use Rattle.life_quad.specs.TreeLaws.{and_left, and_right}
+use Rattle.life_base.proofs.Squares.{and_left, and_right}
 use Rattle.life_quad.specs.Boxes.{IsNonzeroAt}
-use Rattle.life_quad.proofs.SpanLemmas.{at_nw, at_ne, at_sw, at_se}
+use Rattle.life_base.proofs.Squares.{at_nw, at_ne, at_sw, at_se}
 
 pub double : (n : ℕ) → 2 ^ suc n ≡ 2 ^ n + 2 ^ n
 double n = grind arith

@@ -7,7 +7,8 @@ use Rattle.life_quad.specs.declared.extent.Bounds.{Bounds}
 use Rattle.life_quad.specs.Cells.{IsLeastBox}
 use Rattle.life_base.specs.Tree.{half_side, tree_cell as cell}
 use Rattle.life_quad.specs.Boxes.{IsNonzeroAt, IsExtent}
-use Rattle.life_quad.proofs.RunLemmas.{is_inside, inside_facts, inside_test, inside_offset, cell_inside, cell_outside, side}
+use Rattle.life_base.proofs.Squares.{is_inside, inside_facts, inside_test, inside_offset, cell_inside, cell_outside}
+use Rattle.life_quad.proofs.RunLemmas.{side}
 
 -- a pair has these distances from the west and the north side
 pub record IsPlace (half : ℕ) (x y : ℤ) (n m : ℕ) : Type 0 where
@@ -47,7 +48,7 @@ place_of t x y high nonzero = by (is_inside (half_side t) x y) refl
           record { column = omega (arith, twice, la); row = omega (arith, twice, lb); state = λ z. nonzero (cell_inside t x y a.0 b.0 e a.1 b.1 ∙ z) },
         )
 
-back : (n h : ℕ) → (pos n -ℤ pos h) +ℤ pos h ≡ pos n
+pub back : (n h : ℕ) → (pos n -ℤ pos h) +ℤ pos h ≡ pos n
 back n h = omega (arith, ints)
 
 -- the box on the plane of a box within the square

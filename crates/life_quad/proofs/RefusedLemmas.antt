@@ -1,24 +1,11 @@
 -- Facts about what a refused call had to store.
-use Rattle.std.proofs.Common.{◌≡◌, ℕ, suc, ◌+◌, ◌-◌, ◌^◌, ◌≤◌, ◌<◌, Bool, true, false, nat_lt, Result, Ok, Err, OnErr, ◌⊎◌, inl, inr, refl, sym, ◌∙◌, ap, subst, arith}
+use Rattle.std.proofs.Common.{◌≡◌, ℕ, suc, ◌+◌, ◌-◌, ◌^◌, ◌≤◌, ◌<◌, Bool, true, false, nat_lt, ◌⊎◌, inl, inr, refl, sym, ◌∙◌, ap, subst, arith}
 use Rattle.std.specs.Prelude.{if◌then◌else◌}
 use Rattle.life_base.specs.Tree.{Tree, point, quad, depth, state_at, IsFull}
 use Rattle.life_quad.specs.Moves.{inner, can_trim, trim_up_to}
 use Rattle.life_quad.specs.Refused.{SomePart, SomeTrimmed}
 use Rattle.life_quad.specs.Span.{is_in_span, SetsSpan, SetsHalves}
 use Rattle.life_quad.proofs.SpanLemmas.{SetsSpan-north, SetsSpan-south}
-
--- what holds where a call refuses
-pub on_err_map : {T E P Q : Type 0} (r : Result T E) → (P → Q) → OnErr r P → OnErr r Q
-on_err_map (Ok x) f p = tt
-on_err_map (Err e) f p = f p
-
-pub on_err_any : {T E P : Type 0} (r : Result T E) → P → OnErr r P
-on_err_any (Ok x) p = tt
-on_err_any (Err e) p = p
-
-pub on_err_both : {T E P Q R : Type 0} (r : Result T E) → (P → Q → R) → OnErr r P → OnErr r Q → OnErr r R
-on_err_both (Ok x) f p q = tt
-on_err_both (Err e) f p q = f p q
 
 -- a square that the inner one's trimming goes through
 pub SomeTrimmed-inner : (P : Tree → Type 0) (t : Tree) (least : ℕ) → can_trim t least ≡ true → SomeTrimmed P (inner t) least → SomeTrimmed P t least

@@ -1,42 +1,12 @@
 -- Facts about runs of cells on the plane.
-use Rattle.std.proofs.Common.{◌≡◌, ℕ, zero, suc, ◌+◌, ◌-◌, ◌^◌, ◌≤◌, ◌<◌, Bool, true, false, ◌&&◌, ℤ, pos, negsuc, neg_ℤ, ◌+ℤ◌, ◌≤ℤ◌, ◌<ℤ◌, refl, sym, ◌∙◌, ap, subst, arith}
-use Rattle.std.specs.Prelude.{if◌then◌else◌, int_le, int_lt, unsigned_abs}
+use Rattle.std.proofs.Common.{◌≡◌, ℕ, zero, suc, ◌+◌, ◌-◌, ◌^◌, ◌≤◌, ◌<◌, Bool, true, false, ℤ, pos, neg_ℤ, ◌+ℤ◌, ◌≤ℤ◌, ◌<ℤ◌, refl, sym, ◌∙◌, ap, subst, arith}
+use Rattle.std.specs.Prelude.{if◌then◌else◌}
 use Rattle.std.proofs.lemmas.Int.{ints}
 use Rattle.life_base.specs.Tree.{Tree, depth, state_at}
+use Rattle.life_base.proofs.Squares.{is_inside, inside_offset, inside_facts, inside_test, cell_inside, cell_outside}
 use Rattle.life_quad.specs.Cells.{IsInRun, IsRunInside, SetsRun}
 use Rattle.life_base.specs.Tree.{half_side, tree_cell as cell}
 use Rattle.life_quad.specs.Span.{is_in_span, SetsSpan}
-
--- whether a pair is inside the square of this half
-abbrev pub is_inside : ℕ → ℤ → ℤ → Bool
-is_inside h x y = int_le (neg_ℤ (pos h)) x && int_lt x (pos h) && int_le (neg_ℤ (pos h)) y && int_lt y (pos h)
-
--- the distance of a coordinate inside
-pub inside_offset : (h : ℕ) (x : ℤ) → neg_ℤ (pos h) ≤ℤ x → x <ℤ pos h → (n : ℕ) × (x +ℤ pos h ≡ pos n) × (n < h + h)
-inside_offset h (pos a) l u = (a + h, refl, omega (arith, ints))
-inside_offset h (negsuc a) l u = (h - suc a, omega (arith, ints), omega (arith, ints))
-
-pub record Inside (h : ℕ) (x y : ℤ) : Type 0 where
-  pub west : neg_ℤ (pos h) ≤ℤ x
-  pub east : x <ℤ pos h
-  pub north : neg_ℤ (pos h) ≤ℤ y
-  pub south : y <ℤ pos h
-
-pub inside_facts : (h : ℕ) (x y : ℤ) → is_inside h x y ≡ true → Inside h x y
-inside_facts h x y e =
-    record { west = grind (arith, ints); east = grind (arith, ints); north = grind (arith, ints); south = grind (arith, ints) }
-
-pub inside_test : (h : ℕ) (x y : ℤ) → Inside h x y → is_inside h x y ≡ true
-inside_test h x y i = grind (arith, ints, i.west, i.east, i.north, i.south)
-
--- the state of a pair inside
-pub cell_inside : (t : Tree) (x y : ℤ) (n m : ℕ) → is_inside (half_side t) x y ≡ true → x +ℤ pos (half_side t) ≡ pos n → y +ℤ pos (half_side t) ≡ pos m → cell t x y ≡ state_at t n m
-cell_inside t x y n m i e f =
-    ap (λ b. if b then state_at t (unsigned_abs (x +ℤ pos (half_side t))) (unsigned_abs (y +ℤ pos (half_side t))) else 0) i
-    ∙ (λ j. state_at t (unsigned_abs (e j)) (unsigned_abs (f j)))
-
-pub cell_outside : (t : Tree) (x y : ℤ) → is_inside (half_side t) x y ≡ false → cell t x y ≡ 0
-cell_outside t x y i = ap (λ b. if b then state_at t (unsigned_abs (x +ℤ pos (half_side t))) (unsigned_abs (y +ℤ pos (half_side t))) else 0) i
 
 span_facts : (column row len i j : ℕ) → is_in_span column row len i j ≡ true → (j ≡ row) × (column ≤ i) × (i < column + len)
 span_facts column row len i j e = (grind arith, grind arith, grind arith)

@@ -2,21 +2,8 @@
 use Rattle.std.proofs.Common.{◌≡◌, ℕ, suc, ◌+◌, ◌-◌, ◌^◌, ◌≤◌, ◌<◌, Bool, true, false, ◌&&◌, ◌==◌, nat_lt, nat_le, refl, sym, ◌∙◌, ap, arith}
 use Rattle.std.specs.Prelude.{if◌then◌else◌}
 use Rattle.life_base.specs.Tree.{Tree, quad, depth, state_at, IsFull}
+use Rattle.life_base.proofs.Squares.{at_nw, at_ne, at_sw, at_se}
 use Rattle.life_quad.specs.Span.{is_in_span, SetsSpan, SetsHalves}
-
-module _ (a b c d : Tree) (i j : ℕ) where
-  -- the state in each quarter
-  pub at_nw : nat_lt j (2 ^ depth a) ≡ true → nat_lt i (2 ^ depth a) ≡ true → state_at (quad a b c d) i j ≡ state_at a i j
-  at_nw g h = grind (arith, g, h)
-
-  pub at_ne : nat_lt j (2 ^ depth a) ≡ true → nat_lt i (2 ^ depth a) ≡ false → state_at (quad a b c d) i j ≡ state_at b (i - 2 ^ depth a) j
-  at_ne g h = grind (arith, g, h)
-
-  pub at_sw : nat_lt j (2 ^ depth a) ≡ false → nat_lt i (2 ^ depth a) ≡ true → state_at (quad a b c d) i j ≡ state_at c i (j - 2 ^ depth a)
-  at_sw g h = grind (arith, g, h)
-
-  pub at_se : nat_lt j (2 ^ depth a) ≡ false → nat_lt i (2 ^ depth a) ≡ false → state_at (quad a b c d) i j ≡ state_at d (i - 2 ^ depth a) (j - 2 ^ depth a)
-  at_se g h = grind (arith, g, h)
 
 -- a cell of another row is in no span
 pub other_row : (column row len i j : ℕ) → (j == row) ≡ false → is_in_span column row len i j ≡ false

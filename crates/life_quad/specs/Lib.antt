@@ -1,6 +1,5 @@
 pub mod Moves
 pub mod Refused
-pub mod TreeLaws
 pub mod Store
 pub mod StoreLaws
 pub mod Cells

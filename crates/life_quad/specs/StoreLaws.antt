@@ -9,7 +9,7 @@ use Rattle.life_quad.specs.declared.id.Id.{Id}
 use Rattle.life_quad.specs.declared.id.Node.{Node}
 use Rattle.life_base.specs.Tree.{Tree, point, quad, depth, blank, is_blank_tree, IsFull}
 use Rattle.life_quad.specs.Store.{Nodes, square_of, node_square, squares, is_blank_id, IsNamed, IsNode, IsSound, IsShared, Knows}
-use Rattle.life_quad.specs.TreeLaws.{depth-blank, full-blank, is_blank-blank, quad_nw, quad_ne, quad_sw, quad_se, point_state, point≢quad}
+use Rattle.life_base.proofs.Squares.{depth-blank, full-blank, is_blank-blank, quad_nw, quad_ne, quad_sw, quad_se, point_state, point≢quad}
 
 abbrev push_square : List Tree → Node → List Tree
 push_square stored n = stored ++ node_square stored n ∷ []

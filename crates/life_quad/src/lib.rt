@@ -15,7 +15,7 @@ mod squares;
 pub use extent::Bounds;
 pub use id::Id;
 pub use listing::cells;
-pub use moves::{grow, trim};
+pub use moves::{Quarters, divide, grow, is_blank, trim};
 pub use plain::Plain;
 pub use reads::{bounds, population};
 pub use runs::put_run;

@@ -9,7 +9,7 @@ ghost use Rattle.life_base.specs.Tree.{depth, is_blank_tree};
 ghost use Rattle.life_quad.specs.Cells.{IsCellList, population as population_of};
 ghost use Rattle.life_quad.specs.Bands.{InBand, IsPlaced, pieces, kept, northern, southern, upper, lower, row_cells, band_cells};
 
-use crate::moves::{Quarters, divide, is_blank_square};
+use crate::moves::{Quarters, divide, is_blank};
 use crate::runs::half_side;
 use crate::{Id, Squares};
 use life_base::{Cell, Kind, MAX_LEVEL};
@@ -68,9 +68,7 @@ fn place(band: &mut Vec<Placed>, square: Id, column: i64) -> Result<(), Kind>
     ensures ok { OnOk result (band.new.items ≡ band.old.items ++ (record { square = square; column = column }) ∷ []) }
     ensures refusals { IfErr result (λ e. e ≡ Memory) }
 {
-    let Ok(()) = band.push(Placed { square, column }) else {
-        return Err(Kind::Memory);
-    };
+    band.push(Placed { square, column })?;
     Ok(())
 }
 
@@ -91,7 +89,7 @@ fn keep<S: Squares>(
     ensures pieces { OnOk result (pieces (S.content squares.now) band.new.items ≡ pieces (S.content squares.now) band.old.items ++ kept (S.content squares.now square) column) }
     ensures refusals { IfErr result (λ e. e ≡ Memory) }
 {
-    if is_blank_square(squares, square) {
+    if is_blank(squares, square) {
         return Ok(());
     }
     place(band, square, column)
@@ -167,9 +165,7 @@ fn append_row<S: Squares>(
             y: row,
             state,
         };
-        let Ok(()) = list.push(cell) else {
-            return Err(Kind::Memory);
-        };
+        list.push(cell)?;
     }
     Ok(())
 }

@@ -9,17 +9,17 @@ ghost use Rattle.life_quad.specs.Refused.{SomePart, SomeTrimmed};
 use crate::{Id, Squares};
 use life_base::{Kind, MAX_LEVEL};
 
-// The Ids of the four quarters of a square.
+/// The Ids of the four quarters of a square.
 #[derive(Clone, Copy)]
-pub(crate) struct Quarters {
-    pub(crate) nw: Id,
-    pub(crate) ne: Id,
-    pub(crate) sw: Id,
-    pub(crate) se: Id,
+pub struct Quarters {
+    pub nw: Id,
+    pub ne: Id,
+    pub sw: Id,
+    pub se: Id,
 }
 
-// The quarters of a square of level 1 or more.
-pub(crate) fn divide<S: Squares>(squares: &S, id: Id) -> Quarters
+/// The quarters of a square of level 1 or more, each of the level below. No square is made.
+pub fn divide<S: Squares>(squares: &S, id: Id) -> Quarters
     requires known { S.knows squares.now id }
     requires deep { 1 ≤ depth (S.content squares.now id) }
     ensures square { S.content squares.now id ≡ quad (S.content squares.now result.nw) (S.content squares.now result.ne) (S.content squares.now result.sw) (S.content squares.now result.se) }
@@ -55,6 +55,7 @@ pub fn grow<S: Squares>(squares: &mut S, id: Id) -> Result<Id, Kind>
     ensures most { S.most squares.new ≡ S.most squares.old }
     ensures refusals { IfErr result (λ e. (e ≡ Full) ⊎ (e ≡ Memory)) }
     ensures full { result ≡ Err Full → length (S.stored squares.new) ≡ S.most squares.new }
+    ensures room { result ≡ Err Memory → length (S.stored squares.new) < S.most squares.new }
     ensures needed { OnErr result (SomePart (S.needs_node squares.new) (grown (S.content squares.old id))) }
 {
     let Quarters { nw, ne, sw, se } = divide(squares, id);
@@ -77,6 +78,7 @@ fn middle<S: Squares>(squares: &mut S, id: Id) -> Result<Id, Kind>
     ensures most { S.most squares.new ≡ S.most squares.old }
     ensures refusals { IfErr result (λ e. (e ≡ Full) ⊎ (e ≡ Memory)) }
     ensures full { result ≡ Err Full → length (S.stored squares.new) ≡ S.most squares.new }
+    ensures room { result ≡ Err Memory → length (S.stored squares.new) < S.most squares.new }
     ensures needed { OnErr result (S.needs_node squares.new (inner (S.content squares.old id))) }
 {
     let whole = divide(squares, id);
@@ -87,8 +89,8 @@ fn middle<S: Squares>(squares: &mut S, id: Id) -> Result<Id, Kind>
     squares.join(nw.se, ne.sw, sw.ne, se.nw)
 }
 
-// Whether every cell of a square has state 0.
-pub(crate) fn is_blank_square<S: Squares>(squares: &S, id: Id) -> bool
+/// Whether every cell of a square has state 0. No cell is visited.
+pub fn is_blank<S: Squares>(squares: &S, id: Id) -> bool
     requires { S.knows squares.now id }
     ensures { result ≡ is_blank_tree (S.content squares.now id) }
 {
@@ -122,7 +124,7 @@ fn are_three_blank<S: Squares>(squares: &S, a: Id, b: Id, c: Id) -> bool
     requires c { S.knows squares.now c }
     ensures { result ≡ (is_blank_tree (S.content squares.now a) && (is_blank_tree (S.content squares.now b) && is_blank_tree (S.content squares.now c))) }
 {
-    is_blank_square(squares, a) && is_blank_square(squares, b) && is_blank_square(squares, c)
+    is_blank(squares, a) && is_blank(squares, b) && is_blank(squares, c)
 }
 
 /// While the square is above the least level and its outer grandchildren are blank, the square of its inner ones.
@@ -136,6 +138,7 @@ pub fn trim<S: Squares>(squares: &mut S, id: Id, least: u8) -> Result<Id, Kind>
     ensures most { S.most squares.new ≡ S.most squares.old }
     ensures refusals { IfErr result (λ e. (e ≡ Full) ⊎ (e ≡ Memory)) }
     ensures full { result ≡ Err Full → length (S.stored squares.new) ≡ S.most squares.new }
+    ensures room { result ≡ Err Memory → length (S.stored squares.new) < S.most squares.new }
     ensures needed { OnErr result (SomeTrimmed (S.needs_node squares.new) (S.content squares.old id) least) }
 {
     if !can_be_trimmed(squares, id, least) {

@@ -57,9 +57,7 @@ impl Plain {
         if index == self.limit {
             return Err(Kind::Full);
         }
-        let Ok(()) = self.nodes.push(node) else {
-            return Err(Kind::Memory);
-        };
+        self.nodes.push(node)?;
         Ok(Id(FIRST_NODE + index))
     }
 }

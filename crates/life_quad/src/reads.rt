@@ -11,7 +11,7 @@ ghost use Rattle.life_quad.specs.Boxes.{IsNonzeroAt, IsExtentOf};
 ghost use Rattle.life_quad.specs.Store.{id_eq};
 
 use crate::extent::{Extent, join_quarters};
-use crate::moves::{Quarters, divide, is_blank_square};
+use crate::moves::{Quarters, divide, is_blank};
 use crate::runs::half_side;
 use crate::{Bounds, Id, SharedSquares, Squares};
 use life_base::Kind;
@@ -40,7 +40,7 @@ fn count<S: Squares>(squares: &S, id: Id, known: &mut HashMap<Id, u128>) -> Resu
     if let Some(state) = squares.state(id) {
         return Ok(if state == 0 { 0 } else { 1 });
     }
-    if is_blank_square(squares, id) {
+    if is_blank(squares, id) {
         return Ok(0);
     }
     if let Some(number) = known.get(&id) {
@@ -52,9 +52,7 @@ fn count<S: Squares>(squares: &S, id: Id, known: &mut HashMap<Id, u128>) -> Resu
     let c = count(squares, sw, known)?;
     let d = count(squares, se, known)?;
     let sum = a + b + c + d;
-    let Ok(_) = known.insert(id, sum) else {
-        return Err(Kind::Memory);
-    };
+    known.insert(id, sum)?;
     Ok(sum)
 }
 
@@ -99,7 +97,7 @@ fn least_extent<S: Squares>(
     ensures right { (q : IdValue) (e : ExtentValue) → get id_eq known.new q ≡ Some e → IsExtentOf (IsNonzeroAt (S.content squares.now q)) (Some e) }
     ensures refusals { IfErr result (λ e. e ≡ Memory) }
 {
-    if is_blank_square(squares, id) {
+    if is_blank(squares, id) {
         return Ok(None);
     }
     let level = squares.level(id);
@@ -118,8 +116,6 @@ fn least_extent<S: Squares>(
     let Some(extent) = join_quarters(half, nw, ne, sw, se) else {
         return Ok(None);
     };
-    let Ok(_) = known.insert(id, extent) else {
-        return Err(Kind::Memory);
-    };
+    known.insert(id, extent)?;
     Ok(Some(extent))
 }

@@ -53,6 +53,7 @@ fn set_span<S: Squares>(
     ensures most { S.most squares.new ≡ S.most squares.old }
     ensures refusals { IfErr result (λ e. (e ≡ Full) ⊎ (e ≡ Memory)) }
     ensures full { result ≡ Err Full → length (S.stored squares.new) ≡ S.most squares.new }
+    ensures room { result ≡ Err Memory → length (S.stored squares.new) < S.most squares.new }
     ensures needed { OnErr result ((t : Tree) × SetsSpan (S.content squares.old id) t column row len state × SomePart (S.needs_node squares.new) t) }
 {
     let level = squares.level(id);
@@ -98,6 +99,7 @@ fn set_halves<S: Squares>(
     ensures most { S.most squares.new ≡ S.most squares.old }
     ensures refusals { IfErr result (λ e. (e ≡ Full) ⊎ (e ≡ Memory)) }
     ensures full { result ≡ Err Full → length (S.stored squares.new) ≡ S.most squares.new }
+    ensures room { result ≡ Err Memory → length (S.stored squares.new) < S.most squares.new }
     ensures needed { OnErr result ((a b : Tree) × SetsHalves (S.content squares.old left) (S.content squares.old right) a b column row len state × (SomePart (S.needs_node squares.new) a ⊎ SomePart (S.needs_node squares.new) b)) }
 {
     let end = column + len;
@@ -139,6 +141,7 @@ pub fn put_run<S: Squares>(
     ensures most { S.most squares.new ≡ S.most squares.old }
     ensures refusals { IfErr result (λ e. (e ≡ Full) ⊎ (e ≡ Memory)) }
     ensures full { result ≡ Err Full → length (S.stored squares.new) ≡ S.most squares.new }
+    ensures room { result ≡ Err Memory → length (S.stored squares.new) < S.most squares.new }
     ensures needed { OnErr result ((t : Tree) × SetsRun (S.content squares.old root) t x y len state × SomePart (S.needs_node squares.new) t) }
 {
     let half = half_side(squares.level(root));

@@ -73,9 +73,7 @@ impl Shared {
             };
             return Ok(Id(FIRST_NODE + i as u64));
         }
-        let Ok((i, _)) = self.nodes.insert_full(node) else {
-            return Err(Kind::Memory);
-        };
+        let (i, _) = self.nodes.insert_full(node)?;
         Ok(Id(FIRST_NODE + i as u64))
     }
 

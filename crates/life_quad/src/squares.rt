@@ -64,6 +64,7 @@ pub trait Squares {
 
         // A refusal is want of room or of memory, for a new node alone.
         ensures full { let t = quad (content self.old nw) (content self.old ne) (content self.old sw) (content self.old se) in (result ≡ Err Full) ↔ (needs_node self.old t × (length (stored self.old) ≡ most self.old)) }
+        ensures room { result ≡ Err Memory → length (stored self.new) < most self.new }
         ensures refusals { IfErr result (λ e. (e ≡ Full) ⊎ (e ≡ Memory)) }
         ensures needed { let t = quad (content self.old nw) (content self.old ne) (content self.old sw) (content self.old se) in OnErr result (needs_node self.old t) }
         ensures unchanged { OnErr result (self.new ≡ self.old) };

@@ -5,8 +5,8 @@ ghost use Rattle.life_base.specs.Tree.{depth};
 ghost use Rattle.life_quad.specs.declared.id.Id.{Id as IdValue};
 
 use crate::{
-    Bounds, Id, Plain, Shared, SharedSquares, Squares, bounds, cells, grow, population, put_run,
-    trim,
+    Bounds, Id, Plain, Quarters, Shared, SharedSquares, Squares, bounds, cells, divide, grow,
+    is_blank, population, put_run, trim,
 };
 use life_base::{Cell, Kind, MAX_LEVEL};
 use std::alloc::Global;
@@ -193,6 +193,38 @@ fn squares_are_trimmed(rt: HostRuntime) -> Result<(), Fail> {
     Ok(())
 }
 
+// A cell in a square of level 9, which takes 9 nodes, and then that square grown, trimmed, and with another cell.
+fn moves_of_nine<S: Squares>(
+    squares: &mut S,
+) -> Result<(Result<Id, Kind>, Result<Id, Kind>, Result<Id, Kind>), Kind> {
+    let blank = squares.empty(9);
+    let nine = put(squares, blank, 4, 0, 1, 1)?;
+    let grown = grow(squares, nine);
+    let trimmed = trim(squares, nine, 1);
+    Ok((grown, trimmed, put(squares, nine, 0, 0, 1, 1)))
+}
+
+// A blank square of level 9 grown and trimmed, which takes no node: the levels.
+fn moves_of_none<S: Squares>(squares: &mut S) -> Result<[u8; 2], Kind> {
+    let blank = squares.empty(9);
+    let grown = grow(squares, blank)?;
+    let trimmed = trim(squares, blank, 1)?;
+    Ok([squares.level(grown), squares.level(trimmed)])
+}
+
+#[test]
+fn full_stores_refuse_new_squares(rt: HostRuntime) -> Result<(), Fail> {
+    let full = (Err(Kind::Full), Err(Kind::Full), Err(Kind::Full));
+    let mut squares = Shared::new(rt.alloc(), 9);
+    assert_eq!(rt; moves_of_nine(&mut squares)?, full);
+    assert_eq!(rt; squares.len(), 9);
+    assert_eq!(rt; moves_of_none(&mut squares)?, [10, 1]);
+    let mut plain = Plain::new(rt.alloc(), 9);
+    assert_eq!(rt; moves_of_nine(&mut plain)?, full);
+    assert_eq!(rt; moves_of_none(&mut plain)?, [10, 1]);
+    Ok(())
+}
+
 // The cells of a square in which two cells were set.
 fn two_cells<S: Squares>(alloc: Global, squares: &mut S, limit: u64) -> Result<Vec<Cell>, Kind> {
     let blank = squares.empty(5);
@@ -268,7 +300,7 @@ fn blank_squares_list_no_cell(rt: HostRuntime) -> Result<(), Fail> {
 }
 
 // A square of level 1 by its quarters.
-fn quarters<S: Squares>(squares: &mut S) -> Result<(bool, Option<u8>, u8, bool), Kind> {
+fn divided<S: Squares>(squares: &mut S) -> Result<(bool, Option<u8>, u8, bool), Kind> {
     let one = squares.cell(1);
     let none = squares.empty(0);
     let square = squares.join(none, one, none, none)?;
@@ -281,15 +313,32 @@ fn quarters<S: Squares>(squares: &mut S) -> Result<(bool, Option<u8>, u8, bool),
     ))
 }
 
+// The same quarters by name, and which of the square and its quarters are blank.
+fn named<S: Squares>(squares: &mut S) -> Result<(bool, [bool; 3]), Kind> {
+    let one = squares.cell(1);
+    let none = squares.empty(0);
+    let square = squares.join(none, one, none, none)?;
+    let Quarters { nw, ne, sw, se } = divide(squares, square);
+    let blank = [
+        is_blank(squares, square),
+        is_blank(squares, ne),
+        is_blank(squares, nw),
+    ];
+    Ok(([nw, ne, sw, se] == [none, one, none, none], blank))
+}
+
 #[test]
 fn squares_have_quarters(rt: HostRuntime) -> Result<(), Fail> {
     let mut squares = Shared::new(rt.alloc(), 1);
-    assert_eq!(rt; quarters(&mut squares)?, (true, Some(1), 1, true));
-    assert_eq!(rt; quarters(&mut squares)?, (true, Some(1), 1, true));
+    assert_eq!(rt; divided(&mut squares)?, (true, Some(1), 1, true));
+    assert_eq!(rt; divided(&mut squares)?, (true, Some(1), 1, true));
+    assert_eq!(rt; named(&mut squares)?, (true, [false, false, true]));
     assert_eq!(rt; squares.len(), 1);
     let mut plain = Plain::new(rt.alloc(), 1);
-    assert_eq!(rt; quarters(&mut plain)?, (true, Some(1), 1, true));
-    assert!(rt; matches!(quarters(&mut plain), Err(Kind::Full)));
+    assert_eq!(rt; divided(&mut plain)?, (true, Some(1), 1, true));
+    assert!(rt; matches!(divided(&mut plain), Err(Kind::Full)));
+    let mut plain = Plain::new(rt.alloc(), 1);
+    assert_eq!(rt; named(&mut plain)?, (true, [false, false, true]));
     Ok(())
 }
 

@@ -1,10 +1,10 @@
 use Rattle.std.proofs.Common.{◌≡◌, ◌-◌, ◌^◌, ◌≤◌, ◌+ℤ◌, pos, length, arith, sym, ◌∙◌, ap, subst, refl, rules, to_z, of_z, w64}
+use Rattle.std.proofs.lemmas.Result.{on_ok_weaker}
 use Rattle.std.proofs.lemmas.Int.{ints}
 use Rattle.std.proofs.lemmas.List.{length-map}
 use Rattle.std.proofs.Math.Pow.{pow_mono}
 use Rattle.life_quad.specs.Bands.{InBand, pieces, upper, lower}
 use Rattle.life_quad.proofs.BandLemmas.{InBand-upper, InBand-lower}
-use Rattle.life_quad.proofs.MoveLemmas.{on_ok_map}
 use Rattle.life_quad.proofs.CellListLemmas.{band_least, append_none, halves_side, both_halves, more_in_first, more_in_second}
 use Rattle.life_quad.proofs.listing.+append_band.Goals as goal
 
@@ -67,7 +67,7 @@ returns-clause-cells g t c =
     let lower_is = o.lower ∙ ap (λ b. lower (2 ^ (c.args.level - 1)) (pieces content b)) c.deref-2.ensures.value in
     let first : to_z w64 (of_z w64 c.args.row) ≡ c.args.row = omega (arith, ints, c.ranges.row) in
     let place : to_z w64 (of_z w64 c.further-middle.result) ≡ c.args.row +ℤ pos (2 ^ (c.args.level - 1)) = omega (arith, ints, c.further-middle.ensures, c.ranges.row) in
-    on_ok_map c.append_band-2.result
+    on_ok_weaker c.append_band-2.result
     (λ e. both_halves c.args.level c.args.row _ _ (pieces content c.args.band.items) _ _ low first place upper_is lower_is _ _ _ c.in_ok-append_band.ensures.cells e) c.append_band-2.ensures.cells
 
 pub returns-clause-many : goal.returns-clause-many

@@ -4,9 +4,9 @@ use Rattle.life_quad.proofs.BoxLemmas.{entry_keeps}
 use Rattle.life_quad.proofs.CountLemmas.{population-blank, quarter_small}
 use Rattle.life_quad.proofs.reads.+count.Goals as goal
 
-pub returns-then-is_blank_square-clause-number : goal.returns-then-is_blank_square-clause-number
-returns-then-is_blank_square-clause-number g t c =
-    sym (population-blank (g.S.Squares.content c.args.squares.now c.args.id) (sym c.is_blank_square.ensures ∙ c.if-is_blank_square.true))
+pub returns-then-is_blank-clause-number : goal.returns-then-is_blank-clause-number
+returns-then-is_blank-clause-number g t c =
+    sym (population-blank (g.S.Squares.content c.args.squares.now c.args.id) (sym c.is_blank.ensures ∙ c.if-is_blank.true))
 
 pub overflow_add-sum : goal.overflow_add-sum
 overflow_add-sum g t c =
@@ -55,4 +55,4 @@ returns-clause-number g t c =
 pub returns-clause-right : goal.returns-clause-right
 returns-clause-right g t c = λ q n h.
     entry_keeps (λ i n. n ≡ population (g.S.Squares.content c.args.squares.now (record { 0 = i }))) _ _ c.args.id.0 _
-    (λ i. c.in-Ok.ensures.updates.0 (record { 0 = i })) (λ i n h. c.in_ok-d.ensures.right (record { 0 = i }) n h) (returns-clause-number g t c) q.0 n h
+    (λ i. c.in_ok-insert.ensures.updates.0 (record { 0 = i })) (λ i n h. c.in_ok-d.ensures.right (record { 0 = i }) n h) (returns-clause-number g t c) q.0 n h

@@ -1,10 +1,11 @@
 use Rattle.std.proofs.Common.{◌≡◌, ◌<◌, ◌≤◌, ◌+◌, ◌-◌, ◌^◌, inl, inr, arith, sym, ◌∙◌, ap, subst}
+use Rattle.std.proofs.lemmas.Result.{IfOk-weaker}
 use Rattle.std.proofs.Math.Pow.{pow_mono}
+use Rattle.life_base.proofs.Results.{on_err_any, on_err_both}
 use Rattle.life_base.specs.Tree.{quad, depth, IsFull}
 use Rattle.life_quad.specs.Span.{SetsSpan, SetsHalves}
 use Rattle.life_quad.specs.StoreLaws.{same_ids}
-use Rattle.life_quad.proofs.MoveLemmas.{if_ok_map}
-use Rattle.life_quad.proofs.RefusedLemmas.{on_err_any, on_err_both, SomePart-north, SomePart-south, SetsHalves-left, SetsHalves-right, SetsHalves-both, with_span}
+use Rattle.life_quad.proofs.RefusedLemmas.{SomePart-north, SomePart-south, SetsHalves-left, SetsHalves-right, SetsHalves-both, with_span}
 use Rattle.life_quad.proofs.SpanLemmas.{SetsSpan-north, SetsSpan-south, half_of}
 use Rattle.life_quad.proofs.runs.+span.Goals as goal
 
@@ -21,7 +22,7 @@ set_span-returns-in_ok-left-clause-square g t c =
     let sw = (h.keeps c.divide.result.sw d.sw).1 in
     let se = (h.keeps c.divide.result.se d.se).1 in
     let span = SetsSpan-north _ _ _ _ _ _ c.args.column c.args.row c.args.len c.args.state full low h.squares in
-    if_ok_map c.join.result
+    IfOk-weaker c.join.result _ _
     (λ r e. subst (λ s. SetsSpan s (C c.join.new.self r) c.args.column c.args.row c.args.len c.args.state) (sym d.square)
     (subst (λ s. SetsSpan (quad (C o c.divide.result.nw) (C o c.divide.result.ne) (C o c.divide.result.sw) (C o c.divide.result.se)) s c.args.column c.args.row c.args.len c.args.state)
     (sym (e ∙ (λ i. quad (C c.set_halves.new.squares c.in_ok-left.left) (C c.set_halves.new.squares c.in_ok-left.right) (sw i) (se i)))) span))
@@ -41,7 +42,7 @@ set_span-returns-in_ok-left-2-clause-square g t c =
     let ne = (h.keeps c.divide.result.ne d.ne).1 in
     let halves = subst (λ n. SetsHalves (C o c.divide.result.sw) (C o c.divide.result.se) (C c.set_halves-else-row-half.new.squares c.in_ok-left-2.left) (C c.set_halves-else-row-half.new.squares c.in_ok-left-2.right) c.args.column (c.args.row - n) c.args.len c.args.state) (c.half_side-half.ensures.half ∙ half) h.squares in
     let span = SetsSpan-south _ _ _ _ _ _ c.args.column c.args.row c.args.len c.args.state full low halves in
-    if_ok_map c.join-else-row-half.result
+    IfOk-weaker c.join-else-row-half.result _ _
     (λ r e. subst (λ s. SetsSpan s (C c.join-else-row-half.new.self r) c.args.column c.args.row c.args.len c.args.state) (sym d.square)
     (subst (λ s. SetsSpan (quad (C o c.divide.result.nw) (C o c.divide.result.ne) (C o c.divide.result.sw) (C o c.divide.result.se)) s c.args.column c.args.row c.args.len c.args.state)
     (sym (e ∙ (λ i. quad (nw i) (ne i) (C c.set_halves-else-row-half.new.squares c.in_ok-left-2.left) (C c.set_halves-else-row-half.new.squares c.in_ok-left-2.right)))) span))

@@ -1,9 +1,8 @@
 use Rattle.std.proofs.Common.{◌≡◌, ◌-◌, ◌^◌, pos, ◌+ℤ◌, arith, ◌∙◌, ap}
+use Rattle.std.proofs.lemmas.Result.{IfOk-weaker, on_err_weaker}
 use Rattle.std.proofs.lemmas.Int.{ints}
 use Rattle.std.proofs.Math.Pow.{pow_mono}
 use Rattle.life_base.specs.Tree.{half_side}
-use Rattle.life_quad.proofs.MoveLemmas.{if_ok_map}
-use Rattle.life_quad.proofs.RefusedLemmas.{on_err_map}
 use Rattle.life_quad.proofs.RunLemmas.{SetsRun-span}
 use Rattle.life_quad.proofs.runs.put_run.Goals as goal
 
@@ -24,7 +23,7 @@ returns-clause-square g c =
     let half : c.half_side-half.result ≡ half_side (g.S.Squares.content c.args.squares.now c.args.root) = c.half_side-half.ensures.half ∙ ap (λ l. 2 ^ (l - 1)) c.level.ensures.level in
     let ex : pos c.offset.result ≡ c.args.x +ℤ pos c.half_side-half.result = omega (arith, ints, c.offset.ensures, c.ranges.x) in
     let ey : pos c.offset-2.result ≡ c.args.y +ℤ pos c.half_side-half.result = omega (arith, ints, c.offset-2.ensures, c.ranges.y) in
-    if_ok_map c.set_span.result
+    IfOk-weaker c.set_span.result _ _
     (λ r s. SetsRun-span _ _ _ _ _ _ _ _ c.requires.high c.requires.inside (ex ∙ ap (λ h. c.args.x +ℤ pos h) half) (ey ∙ ap (λ h. c.args.y +ℤ pos h) half) s)
     c.set_span.ensures.square
 
@@ -33,6 +32,6 @@ returns-clause-needed g c =
     let half : c.half_side-half.result ≡ half_side (g.S.Squares.content c.args.squares.now c.args.root) = c.half_side-half.ensures.half ∙ ap (λ l. 2 ^ (l - 1)) c.level.ensures.level in
     let ex : pos c.offset.result ≡ c.args.x +ℤ pos c.half_side-half.result = omega (arith, ints, c.offset.ensures, c.ranges.x) in
     let ey : pos c.offset-2.result ≡ c.args.y +ℤ pos c.half_side-half.result = omega (arith, ints, c.offset-2.ensures, c.ranges.y) in
-    on_err_map c.set_span.result
+    on_err_weaker c.set_span.result
     (λ s. (s.0, SetsRun-span _ _ _ _ _ _ _ _ c.requires.high c.requires.inside (ex ∙ ap (λ h. c.args.x +ℤ pos h) half) (ey ∙ ap (λ h. c.args.y +ℤ pos h) half) s.1, s.2))
     c.set_span.ensures.needed

@@ -1,5 +1,5 @@
 use Rattle.std.proofs.Common.{◌≡◌, arith, sym, ◌∙◌, ap, slice_get, ◌-◌, ◌+◌, suc}
-use Rattle.life_quad.specs.TreeLaws.{depth-blank}
+use Rattle.life_base.proofs.Squares.{depth-blank}
 use Rattle.life_base.specs.Tree.{depth}
 use Rattle.life_quad.proofs.CallLemmas.{state_content, blank_content, node_content}
 use Rattle.life_quad.proofs.id.Id.level.Goals as goal

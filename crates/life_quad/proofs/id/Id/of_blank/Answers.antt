@@ -1,5 +1,5 @@
 use Rattle.std.proofs.Common.{arith, sym, ◌∙◌, ap}
-use Rattle.life_quad.specs.TreeLaws.{depth-blank}
+use Rattle.life_base.proofs.Squares.{depth-blank}
 use Rattle.life_base.specs.Tree.{depth, blank}
 use Rattle.life_quad.proofs.CallLemmas.{square_of-state, square_of-blank, alone_zero, alone_blank}
 use Rattle.life_quad.proofs.id.Id.of_blank.Goals as goal

@@ -19,15 +19,15 @@ pub invariant_of-self-2 : goal.invariant_of-self-2
 invariant_of-self-2 c =
     let node = subst (λ v. IsNode (squares v.nodes) (length v.nodes) c.args.node) (sym c.self.view_is) c.requires in
     let room : length c.self.inside.nodes.keys < c.self.inside.limit = let n = c.if-len-self.false in let l = c.len.ensures.len in let m = c.self.invariant.0.len in omega arith in
-    sound_interned _ _ _ c.self.invariant.0 c.self.invariant.1 node (Interned-insert _ _ _ c.in-Ok.ensures.keys room)
+    sound_interned _ _ _ c.self.invariant.0 c.self.invariant.1 node (Interned-insert _ _ _ c.in_ok-i.ensures.keys room)
 
 pub returns-clause-stored : goal.returns-clause-stored
 returns-clause-stored c =
     let room : length c.self.inside.nodes.keys < c.self.inside.limit = let n = c.if-len-self.false in let l = c.len.ensures.len in let m = c.self.invariant.0.len in omega arith in
-    rw (← c.self.view_is) (Interned-insert _ _ _ c.in-Ok.ensures.keys room)
+    rw (← c.self.view_is) (Interned-insert _ _ _ c.in_ok-i.ensures.keys room)
 
 pub returns-clause-sound : goal.returns-clause-sound
 returns-clause-sound c =
     let node = subst (λ v. IsNode (squares v.nodes) (length v.nodes) c.args.node) (sym c.self.view_is) c.requires in
     let room : length c.self.inside.nodes.keys < c.self.inside.limit = let n = c.if-len-self.false in let l = c.len.ensures.len in let m = c.self.invariant.0.len in omega arith in
-    sound_interned _ _ _ c.self.invariant.0 c.self.invariant.1 node (Interned-insert _ _ _ c.in-Ok.ensures.keys room)
+    sound_interned _ _ _ c.self.invariant.0 c.self.invariant.1 node (Interned-insert _ _ _ c.in_ok-i.ensures.keys room)

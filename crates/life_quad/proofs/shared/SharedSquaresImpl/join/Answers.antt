@@ -1,8 +1,10 @@
 use Rattle.std.proofs.Common.{◌≡◌, arith, sym, ◌∙◌, ap, true≢false, ◌+◌, suc, length}
+use Rattle.std.proofs.lemmas.Result.{on_err_weaker, on_ok_weaker}
+use Rattle.life_base.proofs.Results.{if_ok_both}
 use Rattle.life_quad.specs.Store.{squares, square_of, IsNode}
 use Rattle.life_quad.specs.StoreLaws.{length-squares}
 use Rattle.life_base.specs.Tree.{depth, blank}
-use Rattle.life_quad.proofs.CallLemmas.{on_ok, on_err, if_ok, is_blank-joined, blank_joined, IsNode-joined, held-added, held-there, absent_square, Contains-node, knows_id, square_of-interned, keeps_known, stays_held, fresh_id}
+use Rattle.life_quad.proofs.CallLemmas.{is_blank-joined, blank_joined, IsNode-joined, held-added, held-there, absent_square, Contains-node, knows_id, square_of-interned, keeps_known, stays_held, fresh_id, room_left}
 use Rattle.life_quad.proofs.shared.SharedSquaresImpl.join.Goals as goal
 
 pub returns-then-are_blank-clause-square : goal.returns-then-are_blank-clause-square
@@ -38,12 +40,12 @@ intern-requires c =
 pub returns-clause-known : goal.returns-clause-known
 returns-clause-known c =
     let sound = c.intern.ensures.sound in
-    if_ok c.intern.result (λ id i at. (knows_id _ _ _ sound.0 at, sound.1)) c.intern.ensures.stored c.intern.ensures.id
+    if_ok_both c.intern.result (λ id i at. (knows_id _ _ _ sound.0 at, sound.1)) c.intern.ensures.stored c.intern.ensures.id
 
 pub returns-clause-square : goal.returns-clause-square
 returns-clause-square c =
     let sound = c.intern.ensures.sound in
-    if_ok c.intern.result (λ id i at. square_of-interned _ _ _ c.requires.nw.0.sound (IsNode-there c) i sound.0 id at) c.intern.ensures.stored c.intern.ensures.id
+    if_ok_both c.intern.result (λ id i at. square_of-interned _ _ _ c.requires.nw.0.sound (IsNode-there c) i sound.0 id at) c.intern.ensures.stored c.intern.ensures.id
 
 pub returns-clause-keeps : goal.returns-clause-keeps
 returns-clause-keeps c =
@@ -51,12 +53,12 @@ returns-clause-keeps c =
 
 pub returns-clause-added : goal.returns-clause-added
 returns-clause-added c =
-    on_ok c.intern.result (λ i needs. held-added _ _ _ c.requires.nw.0.sound i needs.1) c.intern.ensures.stored
+    on_ok_weaker c.intern.result (λ i needs. held-added _ _ _ c.requires.nw.0.sound i needs.1) c.intern.ensures.stored
 
 pub returns-clause-there : goal.returns-clause-there
 returns-clause-there c =
     let node = IsNode-there c in
-    on_ok c.intern.result (λ i unneeded. held-there _ _ _ c.requires.nw.0.sound c.requires.nw.1 node i (λ absent. unneeded (node.not_blank, absent))) c.intern.ensures.stored
+    on_ok_weaker c.intern.result (λ i unneeded. held-there _ _ _ c.requires.nw.0.sound c.requires.nw.1 node i (λ absent. unneeded (node.not_blank, absent))) c.intern.ensures.stored
 
 pub returns-clause-full : goal.returns-clause-full
 returns-clause-full c =
@@ -66,16 +68,19 @@ returns-clause-full c =
       λ needs. full.1 (λ there. needs.0.1 (Contains-node _ _ c.requires.nw.0.sound there), sym (length-squares _) ∙ needs.1),
     )
 
+pub returns-clause-room : goal.returns-clause-room
+returns-clause-room c = room_left c.intern.result _ _ c.requires.nw.0.sound c.intern.ensures.full c.intern.ensures.needed c.intern.ensures.unchanged
+
 pub returns-clause-needed : goal.returns-clause-needed
 returns-clause-needed c =
     let node = IsNode-there c in
-    on_err c.intern.result (λ absent. (node.not_blank, absent_square _ _ c.requires.nw.0.sound c.requires.nw.1 node absent)) c.intern.ensures.needed
+    on_err_weaker c.intern.result (λ absent. (node.not_blank, absent_square _ _ c.requires.nw.0.sound c.requires.nw.1 node absent)) c.intern.ensures.needed
 
 pub returns-clause-stays : goal.returns-clause-stays
 returns-clause-stays c = stays_held c.intern.result _ _ _ c.intern.ensures.stored c.intern.ensures.unchanged
 
 pub returns-clause-fresh : goal.returns-clause-fresh
-returns-clause-fresh c = if_ok c.intern.result (λ id i at needs known. fresh_id _ _ _ id c.requires.nw.0.sound i at needs.1 known.0) c.intern.ensures.stored c.intern.ensures.id
+returns-clause-fresh c = if_ok_both c.intern.result (λ id i at needs known. fresh_id _ _ _ id c.requires.nw.0.sound i at needs.1 known.0) c.intern.ensures.stored c.intern.ensures.id
 
 pub returns-then-are_blank-clause-fresh : goal.returns-then-are_blank-clause-fresh
 returns-then-are_blank-clause-fresh c = λ needs known.

@@ -1,7 +1,7 @@
 use Rattle.std.proofs.Common.{◌≡◌, arith, ◌∙◌, ap}
 use Rattle.life_quad.proofs.MoveLemmas.{blank_test}
 use Rattle.life_quad.specs.StoreLaws.{same_ids}
-use Rattle.life_quad.proofs.moves.is_blank_square.Goals as goal
+use Rattle.life_quad.proofs.moves.is_blank.Goals as goal
 
 pub returns : goal.returns
 returns g c =
