@@ -57,10 +57,7 @@ fn mark<S: Squares>(squares: &S, id: Id, seen: &mut HashSet<Id>) -> Result<(), K
     if level == 0 || id == squares.empty(level) {
         return Ok(());
     }
-    let Ok(new) = seen.insert(id) else {
-        return Err(Kind::Memory);
-    };
-    if !new {
+    if !seen.insert(id)? {
         return Ok(());
     }
     let Quarters { nw, ne, sw, se } = divide(squares, id);

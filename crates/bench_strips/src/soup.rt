@@ -3,11 +3,13 @@ ghost use Rattle.std.specs.Prelude.{◌≡◌, ℕ, ℤ, pos, ◌+◌, ◌-◌, 
 ghost use Rattle.life_base.specs.Tree.{depth};
 ghost use Rattle.life_base.specs.declared.cell.TheConstants.{MAX_LEVEL};
 ghost use Rattle.life_quad.specs.declared.id.Id.{Id as IdValue};
+ghost use Rattle.life_strip.specs.Filling.{IsFilling};
+ghost use Rattle.life_strip.specs.Given.{IsNext};
 ghost use Rattle.bench_strips.specs.Soup.{HasCome};
 
 use life_base::Kind;
 use life_quad::{Id, Squares};
-use life_strip::Builder;
+use life_strip::{Builder, laws};
 use std::alloc::Global;
 
 // The cells `start` to `end - 1` of a row, and the number that the next ones are made from.
@@ -70,6 +72,15 @@ fn next(last: Stretch, width: u32) -> Stretch
     }
 }
 
+// A builder without runs.
+fn begun<S: Squares>(alloc: Global, squares: &S) -> Builder
+    ensures filling { IsFilling (S.knows squares.now) (S.content squares.now) result }
+    ensures next { (x y : ℤ) → IsNext result.runs x y }
+{
+    laws::empty_builder_fills::<S>();
+    Builder::new(alloc)
+}
+
 // Adds a stretch after another one.
 fn add<S: Squares>(
     builder: &mut Builder,
@@ -104,7 +115,7 @@ pub(crate) fn soup<S: Squares>(
     ensures known { IfOk result (S.knows squares.new) }
     ensures level { IfOk result (λ r. depth (S.content squares.new r) ≡ MAX_LEVEL) }
 {
-    let mut builder = Builder::new(alloc);
+    let mut builder = begun(alloc, squares);
     let mut stretch = Stretch {
         seed: 1,
         row: 0,
@@ -124,7 +135,7 @@ pub(crate) fn stripes<S: Squares>(alloc: Global, squares: &mut S, rows: u32) -> 
     ensures known { IfOk result (S.knows squares.new) }
     ensures level { IfOk result (λ r. depth (S.content squares.new r) ≡ MAX_LEVEL) }
 {
-    let mut builder = Builder::new(alloc);
+    let mut builder = begun(alloc, squares);
     for row in 0..rows {
         builder.add_run(squares, -(1 << 59), i64::from(row) * 2, 1 << 60, 1)?;
     }
@@ -136,7 +147,7 @@ pub(crate) fn scattered<S: Squares>(alloc: Global, squares: &mut S, count: u32) 
     ensures known { IfOk result (S.knows squares.new) }
     ensures level { IfOk result (λ r. depth (S.content squares.new r) ≡ MAX_LEVEL) }
 {
-    let mut builder = Builder::new(alloc);
+    let mut builder = begun(alloc, squares);
     let mut seed: u64 = 1;
     for row in 0..count {
         seed = seed

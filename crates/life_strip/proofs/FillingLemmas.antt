@@ -1,291 +1,113 @@
--- Facts about the cells of a builder.
-use Rattle.std.proofs.Common.{◌≡◌, ℕ, zero, suc, ◌+◌, ◌-◌, ◌*◌, ◌/◌, ◌%◌, ◌^◌, ◌≤◌, ◌<◌, Bool, true, false, ◌&&◌, nat_lt, nat_le, List, [], ◌∷◌, ◌++◌, length, get_or, All, Option, Some, None, refl, sym, ◌∙◌, ap, subst, arith}
-use Rattle.std.proofs.Common.{ℤ, pos, neg_ℤ, ◌+ℤ◌, ◌≤ℤ◌, ◌<ℤ◌}
-use Rattle.std.specs.Prelude.{if◌then◌else◌, unsigned_abs}
-use Rattle.std.proofs.lemmas.List.Elements.{All-push}
+-- Facts about a builder's runs in a store.
+use Rattle.std.proofs.Common.{◌≡◌, ℕ, ◌+◌, ◌*◌, ◌^◌, ◌≤◌, ◌<◌, inl, inr, Bool, true, false, List, [], ◌∷◌, ◌++◌, length, None, Some, refl, sym, ◌∙◌, ap, subst, arith}
+use Rattle.std.proofs.Common.{ℤ, pos, ◌+ℤ◌, ◌≤ℤ◌, ◌<ℤ◌}
+use Rattle.std.specs.Prelude.{if◌then◌else◌, unsigned_abs, ◌-ℤ◌}
 use Rattle.std.proofs.lemmas.Int.{ints}
-use Rattle.std.proofs.lemmas.Nat.{div-mul-add, mod-mul-add}
-use Rattle.life_base.specs.Tree.{Tree, point, depth, state_at}
+use Rattle.life_base.specs.declared.cell.TheConstants.{MAX_LEVEL}
+use Rattle.life_base.specs.Tree.{Tree, depth}
 use Rattle.life_quad.specs.declared.id.Id.{Id}
-use Rattle.life_quad.specs.Cells.{IsInRun}
-use Rattle.life_quad.specs.Span.{is_in_span}
-use Rattle.life_quad.proofs.RunLemmas.{is_inside, inside_offset, inside_facts, inside_test}
-use Rattle.life_strip.specs.declared.spans.Span.{Span}
-use Rattle.life_strip.specs.declared.spans.Strip.{Strip}
-use Rattle.life_strip.specs.declared.builder.Builder.{Builder}
-use Rattle.life_strip.specs.Strip.{id_at, id_or, square_at, IsStrip}
-use Rattle.life_strip.specs.Picture.{state_in, picture, height, IsSound}
-use Rattle.life_strip.specs.Filling.{half_plane, on_plane, cell_so_far, IsFilling, IsOnPlane, IsNext, AddsRun}
-use Rattle.life_strip.proofs.SpanLemmas.{Keeps, content_or, known_or, id_at-before, id_at-after}
-use Rattle.life_strip.proofs.PictureLemmas.{state_in-keeps, sound-keeps, all-keeps, positive_power}
+use Rattle.life_base.proofs.Squares.{is_inside, inside_test}
+use Rattle.life_strip.specs.declared.plane.Plane.{Plane}
+use Rattle.life_strip.specs.Strip.{id_at}
+use Rattle.life_strip.specs.Picture.{picture, height}
+use Rattle.life_strip.specs.Given.{GivenRun, IsBehind, IsNext, AreInOrder, state_by, by_columns, half_plane}
+use Rattle.life_strip.specs.Needed.{SomeSquare}
+use Rattle.life_strip.specs.Plane.{IsFilled, IsUnfilled, IsFree, AddsRun, state_so_far, cell_so_far, on_plane}
+use Rattle.life_strip.specs.Filling.{Building, IsFilling, EmptyFills, FillingStays}
+use Rattle.life_strip.proofs.PictureLemmas.{picture-blank}
+use Rattle.life_strip.proofs.PlaneLemmas.{plane_inside, filled-keeps, cells-keep}
+use Rattle.life_strip.proofs.GivenLemmas.{order-push, next-last, state_by-push}
 
--- what holds of all but the first
-all_rest : {X : Type 0} (P : X → Type 0) (x : X) (xs : List X) → All P (x ∷ xs) → All P xs
-all_rest P x xs h k d lt = h (suc k) d (omega (arith, lt))
-
--- a span that ends after the column: some span is found there
-pub found_before : (xs : List Span) (k : ℕ) (d : Span) (c : ℕ) → k < length xs → c < (get_or xs k d).end → (id : Id) × (id_at xs c ≡ Some id)
-found_before [] k d c lt h = absurd (omega (arith, lt))
-found_before (x ∷ xs) zero d c lt h = (x.square, id_at-before x xs c h)
-found_before (x ∷ xs) (suc k) d c lt h = by (found_before xs k d c (omega (arith, lt)) h) (nat_lt c x.end) refl
+-- one run more
+pub filling-push : (knows : Id → Type 0) (content : Id → Tree) (new : Plane) (before : ℤ → ℤ → ℕ) (runs : List GivenRun) (run : GivenRun) → AreInOrder runs → IsNext runs run.x run.y
+    → ((x y : ℤ) → before x y ≡ state_by runs x y) → IsFilled knows content new → AddsRun before (cell_so_far content new) run.x run.y run.len run.state
+    → ((x y : ℤ) → run.y <ℤ y → IsFree new x y) → ((x : ℤ) → (run.x +ℤ pos run.len) ≤ℤ x → IsFree new x run.y)
+    → IsFilling knows content (record { runs = runs ++ run ∷ []; kept = new })
+filling-push knows content new before runs run order next cells filled adds below beside =
+    record {
+      filled = filled;
+      cells = λ x y. state_by-push runs run x y (before x y) (cell_so_far content new x y) order next (cells x y) (adds.run x y) (adds.others x y);
+      order = order-push runs run order next;
+      next = λ x y north h. free x y (next-last runs run x y h);
+    }
   where
-    by : ((id : Id) × (id_at xs c ≡ Some id)) → (b : Bool) → nat_lt c x.end ≡ b → (id : Id) × (id_at (x ∷ xs) c ≡ Some id)
-    by r true e = (x.square, id_at-before x xs c (grind arith))
-    by r false e = (r.0, id_at-after x xs c (grind arith) ∙ r.1)
+    free : (x y : ℤ) → IsBehind run x y → IsFree new x y
+    free x y (inl h) = below x y h
+    free x y (inr (e, h)) = subst (IsFree new x) e (beside x h)
 
--- what is found stays so when spans follow
-pub found-append : (xs ys : List Span) (c : ℕ) (id : Id) → id_at xs c ≡ Some id → id_at (xs ++ ys) c ≡ Some id
-found-append [] ys c id e = absurd cc
-found-append (x ∷ xs) ys c id e = by (found-append xs ys c id) (nat_lt c x.end) refl
+-- the square that a refused call had to store is one of the runs'
+pub needed-runs : {P : Tree → Type 0} (content : Id → Tree) (b : Building) (rows : ℕ) → rows ≤ 2 ^ MAX_LEVEL
+    → ((x y : ℤ) → cell_so_far content b.kept x y ≡ state_by b.runs x y) → SomeSquare P rows (state_so_far content b.kept) → SomeSquare P rows (by_columns (state_by b.runs))
+needed-runs content b rows most cells s =
+    record {
+      square = s.square;
+      full = s.full;
+      deep = s.deep;
+      column = s.column;
+      row = s.row;
+      east = s.east;
+      south = s.south;
+      cells = λ i j li lj. s.cells i j li lj
+          ∙ at (s.column * 2 ^ depth s.square + i) (s.row * 2 ^ depth s.square + j) (let e = s.east in omega (arith, e, li)) (let e = s.south in omega (arith, e, lj, most));
+      property = s.property;
+    }
   where
-    by : (id_at xs c ≡ Some id → id_at (xs ++ ys) c ≡ Some id) → (b : Bool) → nat_lt c x.end ≡ b → id_at (x ∷ xs ++ ys) c ≡ Some id
-    by more true f = ap (λ b. if b then Some x.square else id_at (xs ++ ys) c) f ∙ sym (ap (λ b. if b then Some x.square else id_at xs c) f) ∙ e
-    by more false f =
-        ap (λ b. if b then Some x.square else id_at (xs ++ ys) c) f
-        ∙ more (sym (ap (λ b. if b then Some x.square else id_at xs c) f) ∙ e)
+    at : (i j : ℕ) → i < 2 ^ MAX_LEVEL → j < 2 ^ MAX_LEVEL → state_so_far content b.kept i j ≡ by_columns (state_by b.runs) i j
+    at i j li lj =
+        let x = pos i -ℤ pos half_plane in
+        let y = pos j -ℤ pos half_plane in
+        let inside : is_inside half_plane x y ≡ true = inside_test half_plane x y
+        (record { west = omega (arith, ints); east = omega (arith, ints, li); north = omega (arith, ints); south = omega (arith, ints, lj) }) in
+        let column : x +ℤ pos half_plane ≡ pos i = omega (arith, ints) in
+        let row : y +ℤ pos half_plane ≡ pos j = omega (arith, ints) in
+        sym (plane_inside (state_so_far content b.kept) x y i j inside column row) ∙ cells x y
 
--- where nothing is found the spans that follow are searched
-pub none-append : (xs ys : List Span) (c : ℕ) → id_at xs c ≡ None → id_at (xs ++ ys) c ≡ id_at ys c
-none-append [] ys c e = refl
-none-append (x ∷ xs) ys c e = by (none-append xs ys c) (nat_lt c x.end) refl
+unfilled-filled : (knows : Id → Type 0) (content : Id → Tree) (p : Plane) → IsUnfilled p → IsFilled knows content p
+unfilled-filled knows content p h =
+    let none : length p.strips.items ≡ 0 = ap length h.strips in
+    let few : length p.row.spans.items ≡ 0 = ap length h.row in
+    record {
+      strips = λ k d lt. absurd (omega (arith, lt, none));
+      row = record {
+        squares = λ column id e. absurd (let f : None ≡ Some id = sym (ap (λ z. id_at z column) h.row) ∙ e in cc);
+        within = λ k d lt. absurd (omega (arith, lt, few));
+      };
+      level = h.level;
+      rows = ap height h.strips ∙ sym h.rows;
+      most = let e = h.rows in omega (arith, e);
+      falling = λ i j d ij jl. absurd (omega (arith, jl, none));
+    }
+
+unfilled-cells : (content : Id → Tree) (p : Plane) (x y : ℤ) → IsUnfilled p → cell_so_far content p x y ≡ 0
+unfilled-cells content p x y h =
+    (λ k. on_plane (picture content (h.strips k ++ p.row ∷ [])) x y)
+    ∙ (λ k. if is_inside half_plane x y then picture-blank content [] p.row h.row (unsigned_abs (x +ℤ pos half_plane)) (unsigned_abs (y +ℤ pos half_plane)) k else 0) ∙ by (is_inside half_plane x y) 0
   where
-    by : (id_at xs c ≡ None → id_at (xs ++ ys) c ≡ id_at ys c) → (b : Bool) → nat_lt c x.end ≡ b → id_at (x ∷ xs ++ ys) c ≡ id_at ys c
-    by more true f = absurd (let g : Some x.square ≡ None = sym (ap (λ b. if b then Some x.square else id_at xs c) f) ∙ e in cc)
-    by more false f =
-        ap (λ b. if b then Some x.square else id_at (xs ++ ys) c) f
-        ∙ more (sym (ap (λ b. if b then Some x.square else id_at xs c) f) ∙ e)
+    by : (b : Bool) (n : ℕ) → (if b then n else n) ≡ n
+    by true n = refl
+    by false n = refl
 
--- nothing is found beyond the end of each span
-pub none_beyond : (xs : List Span) (n c : ℕ) → All (λ s. s.end ≤ n) xs → n ≤ c → id_at xs c ≡ None
-none_beyond [] n c h le = refl
-none_beyond (x ∷ xs) n c h le =
-    let first : x.end ≤ n = h 0 x (omega arith) in
-    id_at-after x xs c (omega (arith, first, le)) ∙ none_beyond xs n c (all_rest (λ s. s.end ≤ n) x xs h) le
+-- an empty builder fills any store
+pub empty-fills : (X : Type 0) (knows : X → Id → Type 0) (content : X → Id → Tree) → EmptyFills X knows content
+empty-fills X knows content store b h =
+    let none : length b.runs ≡ 0 = ap length h.runs in
+    let few : length b.kept.row.spans.items ≡ 0 = ap length h.kept.row in
+    record {
+      filled = unfilled-filled (knows store) (content store) b.kept h.kept;
+      cells = λ x y. unfilled-cells (content store) b.kept x y h.kept ∙ sym (ap (λ runs. state_by runs x y) h.runs);
+      order = λ i j d ij jl. absurd (omega (arith, jl, none));
+      next = λ x y north n. record {
+        row = let e = h.kept.rows in omega (arith, ints, e, north);
+        column = λ e k d lt. absurd (omega (arith, lt, few));
+      };
+    }
 
--- one span after the others
-pub span_pushed : (old filled : List Span) (column len : ℕ) (b id : Id) → All (λ s. s.end ≤ column) old → All (λ s. s.end ≤ column) filled
-    → ((c : ℕ) → c < column → id_at filled c ≡ Some (id_or b (id_at old c)))
-    → (c : ℕ) → id_or b (id_at (filled ++ record { end = column + len; square = id } ∷ []) c) ≡ (if nat_le column c && nat_lt c (column + len) then id else id_or b (id_at old c))
-span_pushed old filled column len b id ends ends' filling c = by (nat_le column c) refl (nat_lt c (column + len)) refl
-  where
-    s : Span
-    s = record { end = column + len; square = id }
-
-    by : (p : Bool) → nat_le column c ≡ p → (q : Bool) → nat_lt c (column + len) ≡ q
-        → id_or b (id_at (filled ++ s ∷ []) c) ≡ (if nat_le column c && nat_lt c (column + len) then id else id_or b (id_at old c))
-    by true e true f =
-        ap (id_or b) (none-append filled (s ∷ []) c (none_beyond filled column c ends' (grind arith)) ∙ id_at-before s [] c (grind arith))
-        ∙ sym ((λ i. if e i && f i then id else id_or b (id_at old c)))
-    by true e false f =
-        ap (id_or b) (none-append filled (s ∷ []) c (none_beyond filled column c ends' (grind arith)) ∙ id_at-after s [] c (grind arith))
-        ∙ sym ((λ i. if e i && f i then id else id_or b (id_at old c)) ∙ ap (id_or b) (none_beyond old column c ends (grind arith)))
-    by false e q f =
-        ap (id_or b) (found-append filled (s ∷ []) c (id_or b (id_at old c)) (filling c (grind arith)))
-        ∙ sym (ap (λ z. if z && nat_lt c (column + len) then id else id_or b (id_at old c)) e)
-
--- the spans of the row that is gone on with end before the run
-pub next_ends : (b : Builder) (x y : ℤ) (column row : ℕ) → pos column ≡ x +ℤ pos half_plane → pos row ≡ y +ℤ pos half_plane → IsNext b x y → b.rows ≡ row → All (λ s. s.end ≤ column) b.row.spans.items
-next_ends b x y column row e f next same k d lt = let h = next.column (sym f ∙ ap pos (sym same)) k d lt in omega (arith, ints, e, h)
-
--- a cell below the run may come next
-pub below_run : (b : Builder) (y i j : ℤ) (row : ℕ) → pos row ≡ y +ℤ pos half_plane → b.rows ≡ row → y <ℤ j → IsNext b i j
-below_run b y i j row f same below =
-    record { row = omega (arith, ints, f, same, below); column = λ h. absurd (omega (arith, ints, f, same, below, h)) }
-
--- and so may one east of it
-pub beside_run : (b : Builder) (x y i : ℤ) (column row len : ℕ) → pos column ≡ x +ℤ pos half_plane → pos row ≡ y +ℤ pos half_plane → b.rows ≡ row → All (λ s. s.end ≤ column + len) b.row.spans.items
-    → (x +ℤ pos len) ≤ℤ i → IsNext b i y
-beside_run b x y i column row len e f same ends beside =
-    record { row = omega (arith, ints, f, same); column = λ h k d lt. let end = ends k d lt in omega (arith, ints, e, end, beside) }
-
--- a row with one span more has its state in the span's columns
-pub row_pushed : (knows : Id → Type 0) (content : Id → Tree) (old new : Strip) (column len state : ℕ) (b id : Id) → IsSound knows content old → old.level ≡ 0 → new.level ≡ 0
-    → IsStrip knows content 0 new.spans.items
-    → knows b → content b ≡ point 0 → content id ≡ point state
-    → ((c : ℕ) → id_or b (id_at new.spans.items c) ≡ (if nat_le column c && nat_lt c (column + len) then id else id_or b (id_at old.spans.items c)))
-    → (i j : ℕ) → state_in content new i j ≡ (if nat_le column i && nat_lt i (column + len) then state else state_in content old i j)
-row_pushed knows content old new column len state b id sound e f strip known is_blank is_state columns i j =
-    at new f ∙ ap (λ t. state_at t 0 j) square ∙ by (nat_le column i && nat_lt i (column + len)) ∙ ap (λ z. if nat_le column i && nat_lt i (column + len) then state else z) (sym (at old e))
-  where
-    one : (s : Strip) → s.level ≡ 0 → 2 ^ s.level ≡ 1
-    one s g = ap (λ n. 2 ^ n) g
-
-    at : (s : Strip) → s.level ≡ 0 → state_in content s i j ≡ state_at (square_at content 0 s.spans.items i) 0 j
-    at s g = (λ x. state_at (square_at content (g x) s.spans.items (i / 2 ^ g x)) (i % 2 ^ g x) j) ∙ (λ x. state_at (square_at content 0 s.spans.items (whole x)) (rest x) j)
-      where
-        p : i ≡ i * 1 + 0
-        p = omega arith
-
-        whole : i / 1 ≡ i
-        whole = ap (λ z. z / 1) p ∙ div-mul-add i 1 0 (omega arith)
-
-        rest : i % 1 ≡ 0
-        rest = ap (λ z. z % 1) p ∙ mod-mul-add i 1 0 (omega arith)
-
-    before : IsStrip knows content 0 old.spans.items
-    before = subst (λ n. IsStrip knows content n old.spans.items) e sound.squares
-
-    square : square_at content 0 new.spans.items i ≡ (if nat_le column i && nat_lt i (column + len) then point state else square_at content 0 old.spans.items i)
-    square = sym (content_or knows content 0 new.spans.items strip b known is_blank i) ∙ ap content (columns i) ∙ cases (nat_le column i && nat_lt i (column + len))
-      where
-        cases : (t : Bool) → content (if t then id else id_or b (id_at old.spans.items i)) ≡ (if t then point state else square_at content 0 old.spans.items i)
-        cases true = is_state
-        cases false = content_or knows content 0 old.spans.items before b known is_blank i
-
-    by : (t : Bool) → state_at (if t then point state else square_at content 0 old.spans.items i) 0 j ≡ (if t then state else state_at (square_at content 0 old.spans.items i) 0 j)
-    by true = refl
-    by false = refl
-
--- each square of the row is known
-pub row_strip : (knows : Id → Type 0) (content : Id → Tree) (old new : List Span) (column len : ℕ) (b id : Id) → IsStrip knows content 0 old
-    → knows b → content b ≡ point 0 → knows id → depth (content id) ≡ 0
-    → ((c : ℕ) → id_or b (id_at new c) ≡ (if nat_le column c && nat_lt c (column + len) then id else id_or b (id_at old c)))
-    → IsStrip knows content 0 new
-row_strip knows content old new column len b id strip known is_blank known' deep columns c q at =
-    subst (λ z. knows z × (depth (content z) ≡ 0)) (sym (columns c) ∙ ap (id_or b) at) (by (nat_le column c && nat_lt c (column + len)))
-  where
-    by : (t : Bool) → knows (if t then id else id_or b (id_at old c)) × (depth (content (if t then id else id_or b (id_at old c))) ≡ 0)
-    by true = (known', deep)
-    by false = (known_or knows content 0 old strip b known is_blank c, cases (id_at old c) refl)
-      where
-        cases : (o : Option Id) → id_at old c ≡ o → depth (content (id_or b (id_at old c))) ≡ 0
-        cases None e = ap (λ o. depth (content (id_or b o))) e ∙ ap depth is_blank
-        cases (Some r) e = ap (λ o. depth (content (id_or b o))) e ∙ (strip c r e).1
-
--- the picture with a span more in the last row
-pub picture_pushed : (content : Id → Tree) (xs : List Strip) (old new : Strip) (column len state : ℕ) → old.level ≡ 0 → new.level ≡ 0
-    → ((i j : ℕ) → state_in content new i j ≡ (if nat_le column i && nat_lt i (column + len) then state else state_in content old i j))
-    → (i j : ℕ) → picture content (xs ++ new ∷ []) i j ≡ (if is_in_span column (height xs) len i j then state else picture content (xs ++ old ∷ []) i j)
-picture_pushed content [] old new column len state e f row i j =
-    ap (λ n. if nat_lt j (2 ^ n) then state_in content new i j else 0) f ∙ by j ∙ ap (λ n. if is_in_span column 0 len i j then state else (if nat_lt j (2 ^ n) then state_in content old i j else 0)) (sym e)
-  where
-    by : (j : ℕ) → (if nat_lt j 1 then state_in content new i j else 0) ≡ (if is_in_span column 0 len i j then state else (if nat_lt j 1 then state_in content old i j else 0))
-    by zero = row i 0
-    by (suc j) =
-        let e : nat_lt (suc j) 1 ≡ false = grind arith in
-        let out : is_in_span column 0 len i (suc j) ≡ false = grind arith in
-        ap (λ b. if b then state_in content new i (suc j) else 0) e
-        ∙ sym (λ k. if out k then state else (if e k then state_in content old i (suc j) else 0))
-picture_pushed content (x ∷ xs) old new column len state e f row i j = by (picture_pushed content xs old new column len state e f row i (j - 2 ^ x.level)) (nat_lt j (2 ^ x.level)) refl
-  where
-    w : 0 < 2 ^ x.level
-    w = positive_power x.level
-
-    by : picture content (xs ++ new ∷ []) i (j - 2 ^ x.level) ≡ (if is_in_span column (height xs) len i (j - 2 ^ x.level) then state else picture content (xs ++ old ∷ []) i (j - 2 ^ x.level))
-        → (b : Bool) → nat_lt j (2 ^ x.level) ≡ b
-        → picture content (x ∷ xs ++ new ∷ []) i j ≡ (if is_in_span column (2 ^ x.level + height xs) len i j then state else picture content (x ∷ xs ++ old ∷ []) i j)
-    by more true g =
-        let lt : j < 2 ^ x.level = grind arith in
-        let out : is_in_span column (2 ^ x.level + height xs) len i j ≡ false = grind arith in
-        ap (λ b. if b then state_in content x i j else picture content (xs ++ new ∷ []) i (j - 2 ^ x.level)) g
-        ∙ sym (ap (λ b. if b then state else picture content (x ∷ xs ++ old ∷ []) i j) out ∙ ap (λ b. if b then state_in content x i j else picture content (xs ++ old ∷ []) i (j - 2 ^ x.level)) g)
-    by more false g =
-        let le : 2 ^ x.level ≤ j = grind arith in
-        let same : is_in_span column (2 ^ x.level + height xs) len i j ≡ is_in_span column (height xs) len i (j - 2 ^ x.level) = grind arith in
-        ap (λ b. if b then state_in content x i j else picture content (xs ++ new ∷ []) i (j - 2 ^ x.level)) g
-        ∙ more
-        ∙ sym ((λ k. if same k then state else (if g k then state_in content x i j else picture content (xs ++ old ∷ []) i (j - 2 ^ x.level))))
-
--- the state of a pair on the plane
-pub plane_inside : (P : ℕ → ℕ → ℕ) (x y : ℤ) (n m : ℕ) → is_inside half_plane x y ≡ true → x +ℤ pos half_plane ≡ pos n → y +ℤ pos half_plane ≡ pos m → on_plane P x y ≡ P n m
-plane_inside P x y n m i e f =
-    ap (λ b. if b then P (unsigned_abs (x +ℤ pos half_plane)) (unsigned_abs (y +ℤ pos half_plane)) else 0) i
-    ∙ (λ j. P (unsigned_abs (e j)) (unsigned_abs (f j)))
-
-pub plane_outside : (P : ℕ → ℕ → ℕ) (x y : ℤ) → is_inside half_plane x y ≡ false → on_plane P x y ≡ 0
-plane_outside P x y i = ap (λ b. if b then P (unsigned_abs (x +ℤ pos half_plane)) (unsigned_abs (y +ℤ pos half_plane)) else 0) i
-
--- a cell in the columns and the row of a span
-in_span : (column row len i j : ℕ) → j ≡ row → column ≤ i → i < column + len → is_in_span column row len i j ≡ true
-in_span column row len i j a b c = grind arith
-
-span_facts : (column row len i j : ℕ) → is_in_span column row len i j ≡ true → (j ≡ row) × (column ≤ i) × (i < column + len)
-span_facts column row len i j e = (grind arith, grind arith, grind arith)
-
--- a span of columns of the plane is a run of cells
-pub AddsRun-span : (P Q : ℕ → ℕ → ℕ) (x y : ℤ) (column row len state : ℕ) → IsOnPlane x y len
-    → pos column ≡ x +ℤ pos half_plane → pos row ≡ y +ℤ pos half_plane
-    → ((n m : ℕ) → Q n m ≡ (if is_in_span column row len n m then state else P n m)) → AddsRun (on_plane P) (on_plane Q) x y len state
-AddsRun-span P Q x y column row len state inside e f cells = record { run = in_run; others = out_of_run }
-  where
-    h : ℕ
-    h = half_plane
-
-    in_run : (i j : ℤ) → IsInRun x y len i j → on_plane Q i j ≡ state
-    in_run i j r =
-        let w : neg_ℤ (pos h) ≤ℤ i = omega (arith, ints, inside.west, r.from) in
-        let u : i <ℤ pos h = omega (arith, ints, inside.east, r.to) in
-        let v : neg_ℤ (pos h) ≤ℤ j = subst (λ z. neg_ℤ (pos h) ≤ℤ z) (sym r.same_row) inside.north in
-        let z : j <ℤ pos h = subst (λ k. k <ℤ pos h) (sym r.same_row) inside.south in
-        let a = inside_offset h i w u in
-        let b = inside_offset h j v z in
-        let row_is : b.0 ≡ row = let k = b.1 in let l = r.same_row in omega (arith, ints) in
-        let from : column ≤ a.0 = let k = a.1 in let l = r.from in omega (arith, ints) in
-        let to : a.0 < column + len = let k = a.1 in let l = r.to in omega (arith, ints) in
-        let t = in_span column row len a.0 b.0 row_is from to in
-        plane_inside Q i j a.0 b.0 (inside_test h i j (record { west = w; east = u; north = v; south = z })) a.1 b.1 ∙ cells a.0 b.0
-        ∙ ap (λ c. if c then state else P a.0 b.0) t
-
-    out_of_run : (i j : ℤ) → ¬ IsInRun x y len i j → on_plane Q i j ≡ on_plane P i j
-    out_of_run i j r = by (is_inside h i j) refl
-      where
-        by : (c : Bool) → is_inside h i j ≡ c → on_plane Q i j ≡ on_plane P i j
-        by false t = plane_outside Q i j t ∙ sym (plane_outside P i j t)
-        by true t =
-            let k = inside_facts h i j t in
-            let a = inside_offset h i k.west k.east in
-            let b = inside_offset h j k.north k.south in
-            plane_inside Q i j a.0 b.0 t a.1 b.1 ∙ cells a.0 b.0 ∙ out a.0 b.0 a.1 b.1 (is_in_span column row len a.0 b.0) refl ∙ sym (plane_inside P i j a.0 b.0 t a.1 b.1)
-          where
-            out : (n m : ℕ) → i +ℤ pos h ≡ pos n → j +ℤ pos h ≡ pos m → (d : Bool) → is_in_span column row len n m ≡ d → (if is_in_span column row len n m then state else P n m) ≡ P n m
-            out n m p q false g = ap (λ c. if c then state else P n m) g
-            out n m p q true g =
-                let k = span_facts column row len n m g in
-                let row_is = k.0 in
-                let from = k.1 in
-                let to = k.2 in
-                absurd (r (record { same_row = omega (arith, ints, p, q, e, f, row_is); from = omega (arith, ints, p, q, e, f, from); to = omega (arith, ints, p, q, e, f, to) }))
-
--- strips keep their cells
-pub picture-keeps : {knows knows' : Id → Type 0} {old new : Id → Tree} (keeps : Keeps knows knows' old new) (xs : List Strip) → All (IsSound knows old) xs
-    → (i j : ℕ) → picture new xs i j ≡ picture old xs i j
-picture-keeps keeps [] h i j = refl
-picture-keeps {knows} {knows'} {old} {new} keeps (x ∷ xs) h i j =
-    let here = state_in-keeps keeps x (h 0 x (omega arith)) i j in
-    let more = picture-keeps {knows = knows} {knows' = knows'} {old = old} {new = new} keeps xs (all_rest (IsSound knows old) x xs h) i (j - 2 ^ x.level) in
-    λ y. if nat_lt j (2 ^ x.level) then here y else more y
-
--- the blank square in the columns without a span
-pub gap_filled : (xs : List Span) (column : ℕ) (b : Id) (c : ℕ) → c < column → id_at (xs ++ record { end = column; square = b } ∷ []) c ≡ Some (id_or b (id_at xs c))
-gap_filled xs column b c lt = by (id_at xs c) refl
-  where
-    s : Span
-    s = record { end = column; square = b }
-
-    by : (o : Option Id) → id_at xs c ≡ o → id_at (xs ++ s ∷ []) c ≡ Some (id_or b (id_at xs c))
-    by None e = none-append xs (s ∷ []) c e ∙ id_at-before s [] c lt ∙ ap (λ o. Some (id_or b o)) (sym e)
-    by (Some id) e = found-append xs (s ∷ []) c id e ∙ ap (λ o. Some (id_or b o)) (sym e)
-
--- where no column lacks a square
-pub no_gap : (xs : List Span) (b : Id) (c : ℕ) → (id : Id) × (id_at xs c ≡ Some id) → id_at xs c ≡ Some (id_or b (id_at xs c))
-no_gap xs b c h = h.1 ∙ ap (λ o. Some (id_or b o)) (sym h.1)
-
-module _ {knows knows' : Id → Type 0} {old new : Id → Tree} (keeps : Keeps knows knows' old new) where
-  -- a builder fills a store that keeps its Ids
-  pub filling-keeps : (b : Builder) → IsFilling knows old b → IsFilling knows' new b
-  filling-keeps b h =
-      record {
-        strips = all-keeps {knows = knows} {knows' = knows'} {old = old} {new = new} keeps b.strips.items h.strips;
-        row = sound-keeps {knows = knows} {knows' = knows'} {old = old} {new = new} keeps b.row h.row;
-        level = h.level;
-        rows = h.rows;
-        most = h.most;
-        falling = h.falling;
-      }
-
-  -- with the same cells
-  pub cells-keep : (b : Builder) → IsFilling knows old b → (x y : ℤ) → cell_so_far new b x y ≡ cell_so_far old b x y
-  cells-keep b h x y =
-      let P = IsSound knows old in
-      let same = picture-keeps {knows = knows} {knows' = knows'} {old = old} {new = new} keeps (b.strips.items ++ b.row ∷ []) (All-push P b.strips.items b.row h.strips h.row) in
-      λ k. if is_inside half_plane x y then same (unsigned_abs (x +ℤ pos half_plane)) (unsigned_abs (y +ℤ pos half_plane)) k else 0
+-- a builder fills a store that keeps its Ids
+pub filling-stays : (X : Type 0) (knows : X → Id → Type 0) (content : X → Id → Tree) → FillingStays X knows content
+filling-stays X knows content before after b keeps h =
+    record {
+      filled = filled-keeps {knows = knows before} {knows' = knows after} {old = content before} {new = content after} keeps b.kept h.filled;
+      cells = λ x y. cells-keep {knows = knows before} {knows' = knows after} {old = content before} {new = content after} keeps b.kept h.filled x y ∙ h.cells x y;
+      order = h.order;
+      next = h.next;
+    }

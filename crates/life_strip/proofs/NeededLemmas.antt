@@ -7,14 +7,15 @@ use Rattle.std.proofs.lemmas.List.{append_assoc}
 use Rattle.std.proofs.Math.Nat.{mul_assoc, mul_comm, add-mul, mul-le-mul_left}
 use Rattle.life_quad.specs.declared.id.Id.{Id}
 use Rattle.life_base.specs.Tree.{Tree, depth, state_at, IsFull}
-use Rattle.life_quad.specs.TreeLaws.{full-blank}
-use Rattle.life_quad.proofs.SpanLemmas.{at_nw, at_ne, at_sw, at_se}
+use Rattle.life_base.proofs.Squares.{full-blank}
+use Rattle.life_base.proofs.Squares.{at_nw, at_ne, at_sw, at_se}
 use Rattle.life_strip.specs.declared.spans.Span.{Span}
 use Rattle.life_strip.specs.declared.spans.Strip.{Strip}
 use Rattle.life_strip.specs.Strip.{id_at, square_or_blank, square_at, quad_at, IsStrip}
-use Rattle.life_strip.specs.Picture.{state_in, picture, height, AreFalling, IsLowest, SomeSquare}
-use Rattle.life_strip.proofs.SpanLemmas.{depth-square_at}
-use Rattle.life_strip.proofs.PictureLemmas.{double, height-push, lowest-init}
+use Rattle.life_strip.specs.Picture.{state_in, picture, height, AreFalling, IsLowest}
+use Rattle.life_strip.specs.Needed.{SomeSquare}
+use Rattle.life_strip.proofs.SpanLemmas.{double, depth-square_at}
+use Rattle.life_strip.proofs.PictureLemmas.{height-push, lowest-init}
 
 -- the same refusal of another call
 pub err_again : {T U E : Type 0} {x y : E} → ◌≡◌ {A = Result T E} (Err x) (Err y) → ◌≡◌ {A = Result U E} (Err x) (Err y)

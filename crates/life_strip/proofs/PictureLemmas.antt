@@ -15,7 +15,7 @@ use Rattle.life_strip.specs.declared.spans.Strip.{Strip}
 use Rattle.life_strip.specs.declared.spans.Found.{Found}
 use Rattle.life_strip.specs.Strip.{square_at, IsStrip, IsPaired, IsFound}
 use Rattle.life_strip.specs.Picture.{state_in, picture, height, AreFalling, IsLowest, IsSound, IsStack}
-use Rattle.life_strip.proofs.SpanLemmas.{Keeps, depth-square_at, square-keeps, strip-keeps, found-known, found-depth, found-content}
+use Rattle.life_strip.proofs.SpanLemmas.{Keeps, double, depth-square_at, square-keeps, strip-keeps, found-known, found-depth, found-content}
 
 -- the western half of two columns of squares
 pub west : (i m : ℕ) → i % (2 * m) < m → (i / m ≡ 2 * (i / (2 * m))) × (i % m ≡ i % (2 * m))
@@ -40,9 +40,6 @@ east i m positive h =
 pub positive_power : (k : ℕ) → 0 < 2 ^ k
 positive_power zero = omega arith
 positive_power (suc k) = let h = positive_power k in let e : 2 ^ suc k ≡ 2 ^ k + 2 ^ k = grind arith in omega (arith, h, e)
-
-pub double : (k : ℕ) → 2 ^ suc k ≡ 2 * 2 ^ k
-double k = grind arith
 
 -- the rows of a square of four are those of the two above and then those of the two below
 quad-row : (a b c d : Tree) (i j m : ℕ) → m ≡ 2 ^ depth a

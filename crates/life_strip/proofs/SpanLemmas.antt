@@ -1,15 +1,15 @@
 -- Facts about spans and strips.
 use Rattle.life_base.specs.declared.cell.TheConstants.{MAX_LEVEL}
 use Rattle.std.proofs.Common.{◌≡◌, ℕ, suc, ◌+◌, ◌-◌, ◌*◌, ◌^◌, ◌≤◌, ◌<◌, ◌⊎◌, inl, inr, Bool, true, false, nat_lt, List, [], ◌∷◌, ◌++◌, Option, Some, None, refl, sym, ◌∙◌, ap, subst, arith, append-nil}
-use Rattle.std.specs.Prelude.{if◌then◌else◌}
+use Rattle.std.specs.Prelude.{if◌then◌else◌, MatchOption}
 use Rattle.std.proofs.lemmas.List.Elements.{All-push}
 use Rattle.std.proofs.Math.Pow.{pow_mono}
 use Rattle.life_quad.specs.declared.id.Id.{Id}
 use Rattle.life_base.specs.Tree.{Tree, quad, depth, blank}
-use Rattle.life_quad.specs.TreeLaws.{depth-blank}
+use Rattle.life_base.proofs.Squares.{depth-blank}
 use Rattle.life_strip.specs.declared.spans.Span.{Span}
 use Rattle.life_strip.specs.declared.spans.Found.{Found}
-use Rattle.life_strip.specs.Strip.{id_at, square_or_blank, square_at, id_or, quad_at, IsStrip, IsPast, IsFound, IsPaired, AreWithin}
+use Rattle.life_strip.specs.Strip.{id_at, square_or_blank, square_at, id_or, quad_at, IsStrip, IsPast, IsFound, IsBefore, IsNearer, IsPaired, AreWithin}
 
 -- a store knows what it knew, with the same square
 abbrev pub Keeps : (Id → Type 0) → (Id → Type 0) → (Id → Tree) → (Id → Tree) → Type 0
@@ -20,6 +20,9 @@ pub record PairedTo (knows : Id → Type 0) (old now : Id → Tree) (level : ℕ
   pub done : (c : ℕ) → c < column → (id : Id) × ((more : List Span) → id_at (spans ++ more) c ≡ Some id) × knows id × (now id ≡ quad_at old level upper lower c)
   pub rest : (c : ℕ) → column ≤ c → (more : List Span) → id_at (spans ++ more) c ≡ id_at more c
   pub within : AreWithin (suc level) spans
+
+pub double : (k : ℕ) → 2 ^ suc k ≡ 2 * 2 ^ k
+double k = grind arith
 
 -- a span that ends after the column is the one found
 pub id_at-before : (s : Span) (rest : List Span) (c : ℕ) → c < s.end → id_at (s ∷ rest) c ≡ Some s.square
@@ -112,7 +115,7 @@ module _ (knows : Id → Type 0) (content : Id → Tree) (level : ℕ) (spans : 
     found-depth c f h = ap depth (found-content c f h) ∙ depth-square_at c
 
     -- one square goes on
-    pub found-same : (c x y : ℕ) (f : Found) → IsFound spans c b f → c ≤ x → x < f.end → c ≤ y → y < f.end → square_at content level spans x ≡ square_at content level spans y
+    pub found-same : (c x y : ℕ) (f : Found) → IsFound spans c b f → c ≤ x → IsBefore x f.end → c ≤ y → IsBefore y f.end → square_at content level spans x ≡ square_at content level spans y
     found-same c x y f h xl xu yl yu = sym (content_or x) ∙ ap content (h.square x xl xu ∙ sym (h.square y yl yu)) ∙ content_or y
 
 -- no column yet
@@ -181,15 +184,25 @@ module _ (knows : Id → Type 0) (old now : Id → Tree) (level : ℕ) (upper lo
           let none : Some id ≡ None = sym at ∙ ap (λ z. id_at z c) (sym (append-nil spans)) ∙ p.rest c (grind arith) [] in
           absurd cc
 
+-- an earlier column comes before the end too
+before_earlier : (a b : ℕ) (end : Option ℕ) → a ≤ b → IsBefore b end → IsBefore a end
+before_earlier a b None le h = tt
+before_earlier a b (Some end) le h = omega (arith, le, h)
+
 -- the four squares go on
 pub quad-same : (knows : Id → Type 0) (content : Id → Tree) (level : ℕ) (upper lower : List Span) → IsStrip knows content level upper → IsStrip knows content level lower
     → (b : Id) → knows b → content b ≡ blank level → (column c : ℕ) (n s : Found) → IsFound upper (2 * column) b n → IsFound lower (2 * column) b s
-    → column < c → 2 * c + 1 < n.end → 2 * c + 1 < s.end → quad_at content level upper lower c ≡ quad_at content level upper lower column
+    → column < c → IsBefore (2 * c + 1) n.end → IsBefore (2 * c + 1) s.end → quad_at content level upper lower c ≡ quad_at content level upper lower column
 quad-same knows content level upper lower u l b known is_blank column c n s hn hs lt le me =
-    let p = found-same knows content level upper u b known is_blank (2 * column) (2 * c) (2 * column) n hn (omega (arith, lt)) (omega (arith, le)) (omega arith) hn.beyond in
-    let q = found-same knows content level upper u b known is_blank (2 * column) (2 * c + 1) (2 * column + 1) n hn (omega (arith, lt)) le (omega arith) (omega (arith, lt, le)) in
-    let r = found-same knows content level lower l b known is_blank (2 * column) (2 * c) (2 * column) s hs (omega (arith, lt)) (omega (arith, me)) (omega arith) hs.beyond in
-    let t = found-same knows content level lower l b known is_blank (2 * column) (2 * c + 1) (2 * column + 1) s hs (omega (arith, lt)) me (omega arith) (omega (arith, lt, me)) in
+    let k = 2 * column in
+    let first : 2 * c ≤ 2 * c + 1 = omega arith in
+    let east : k + 1 ≤ 2 * c + 1 = omega (arith, lt) in
+    let west : k ≤ 2 * c = omega (arith, lt) in
+    let from : k ≤ 2 * c + 1 = omega (arith, lt) in
+    let p = found-same knows content level upper u b known is_blank k (2 * c) k n hn west (before_earlier (2 * c) (2 * c + 1) n.end first le) (omega arith) hn.beyond in
+    let q = found-same knows content level upper u b known is_blank k (2 * c + 1) (k + 1) n hn from le (omega arith) (before_earlier (k + 1) (2 * c + 1) n.end east le) in
+    let r = found-same knows content level lower l b known is_blank k (2 * c) k s hs west (before_earlier (2 * c) (2 * c + 1) s.end first me) (omega arith) hs.beyond in
+    let t = found-same knows content level lower l b known is_blank k (2 * c + 1) (k + 1) s hs from me (omega arith) (before_earlier (k + 1) (2 * c + 1) s.end east me) in
     λ i. quad (p i) (q i) (r i) (t i)
 
 -- the plane has at most as many columns of squares as of cells
@@ -200,38 +213,35 @@ at_most_side level = pow_mono {i = MAX_LEVEL - level} {j = MAX_LEVEL} (omega ari
 pub half-side : (level : ℕ) → level < MAX_LEVEL → 2 ^ (MAX_LEVEL - level) ≡ 2 * 2 ^ (MAX_LEVEL - suc level)
 half-side level low =
     let more : MAX_LEVEL - level ≡ suc (MAX_LEVEL - suc level) = omega (arith, low) in
-    ap (λ n. 2 ^ n) more ∙ twice (MAX_LEVEL - suc level)
-  where
-    twice : (n : ℕ) → 2 ^ suc n ≡ 2 * 2 ^ n
-    twice n = grind arith
+    ap (λ n. 2 ^ n) more ∙ double (MAX_LEVEL - suc level)
 
 -- no span goes on
-pub none-left : (level : ℕ) (spans : List Span) → AreWithin level spans → (column : ℕ) (b : Id) (f : Found) → IsFound spans column b f → 2 ^ 64 - 1 ≤ f.end
-    → (c : ℕ) → column ≤ c → id_at spans c ≡ None
-none-left level spans within column b f h le = by h.last
-  where
-    by : ((n : ℕ) → AreWithin n spans → f.end ≤ 2 ^ (MAX_LEVEL - n)) ⊎ ((f.end ≡ 2 ^ 64 - 1) × ((c : ℕ) → column ≤ c → id_at spans c ≡ None)) → (c : ℕ) → column ≤ c → id_at spans c ≡ None
-    by (inl small) = absurd (let a = small level within in let b = at_most_side level in omega (arith, a, b, le))
-    by (inr none) = none.1
+pub none-left : (spans : List Span) (column : ℕ) (b : Id) (f : Found) → IsFound spans column b f → f.end ≡ None → (c : ℕ) → column ≤ c → id_at spans c ≡ None
+none-left spans column b f h e =
+    subst (λ o. MatchOption o ((c : ℕ) → column ≤ c → id_at spans c ≡ None) (λ end. (level : ℕ) → AreWithin level spans → end ≤ 2 ^ (MAX_LEVEL - level))) e h.last
 
 -- the span found ends within the plane, if there is one
-pub found-within : (level : ℕ) (spans : List Span) → AreWithin level spans → (column : ℕ) (b : Id) (f : Found) → IsFound spans column b f → f.end < 2 ^ 64 - 1
-    → f.end ≤ 2 ^ (MAX_LEVEL - level)
-found-within level spans within column b f h lt = by h.last
-  where
-    by : ((n : ℕ) → AreWithin n spans → f.end ≤ 2 ^ (MAX_LEVEL - n)) ⊎ ((f.end ≡ 2 ^ 64 - 1) × ((c : ℕ) → column ≤ c → id_at spans c ≡ None)) → f.end ≤ 2 ^ (MAX_LEVEL - level)
-    by (inl small) = small level within
-    by (inr none) = absurd (omega (arith, none.0, lt))
+pub found-within : (level : ℕ) (spans : List Span) → AreWithin level spans → (column : ℕ) (b : Id) (f : Found) (end : ℕ) → IsFound spans column b f → f.end ≡ Some end → end ≤ 2 ^ (MAX_LEVEL - level)
+found-within level spans within column b f end h e =
+    subst (λ o. MatchOption o ((c : ℕ) → column ≤ c → id_at spans c ≡ None) (λ n. (l : ℕ) → AreWithin l spans → n ≤ 2 ^ (MAX_LEVEL - l))) e h.last level within
 
--- a column of squares twice as wide that begins before the end of one of two strips ends within the plane
+-- what comes before both ends comes before the nearer one
+pub before_nearer : (column end : ℕ) (north south : Option ℕ) → IsNearer end north south → IsBefore column north → IsBefore column south → column < end
+before_nearer column end north south near hn hs = by near.one
+  where
+    by : (north ≡ Some end) ⊎ (south ≡ Some end) → column < end
+    by (inl e) = subst (IsBefore column) e hn
+    by (inr e) = subst (IsBefore column) e hs
+
+-- a column of squares twice as wide that begins before the nearer end of two strips ends within the plane
 pub next-within : (level : ℕ) (upper lower : List Span) → level < MAX_LEVEL → AreWithin level upper → AreWithin level lower
-    → (column : ℕ) (b : Id) (n s : Found) → IsFound upper column b n → IsFound lower column b s → (n.end < 2 ^ 64 - 1) ⊎ (s.end < 2 ^ 64 - 1)
-    → (next : ℕ) → 2 * next ≤ n.end + 1 → 2 * next ≤ s.end + 1 → next ≤ 2 ^ (MAX_LEVEL - suc level)
-next-within level upper lower low u l column b n s hn hs some next north south = by some
+    → (column : ℕ) (b : Id) (n s : Found) (end : ℕ) → IsFound upper column b n → IsFound lower column b s → IsNearer end n.end s.end
+    → (next : ℕ) → 2 * next ≤ end + 1 → next ≤ 2 ^ (MAX_LEVEL - suc level)
+next-within level upper lower low u l column b n s end hn hs near next most = by near.one
   where
     side : 2 ^ (MAX_LEVEL - level) ≡ 2 * 2 ^ (MAX_LEVEL - suc level)
     side = half-side level low
 
-    by : (n.end < 2 ^ 64 - 1) ⊎ (s.end < 2 ^ 64 - 1) → next ≤ 2 ^ (MAX_LEVEL - suc level)
-    by (inl lt) = let e = found-within level upper u column b n hn lt in omega (arith, e, side, north)
-    by (inr lt) = let e = found-within level lower l column b s hs lt in omega (arith, e, side, south)
+    by : (n.end ≡ Some end) ⊎ (s.end ≡ Some end) → next ≤ 2 ^ (MAX_LEVEL - suc level)
+    by (inl e) = let h = found-within level upper u column b n end hn e in omega (arith, h, side, most)
+    by (inr e) = let h = found-within level lower l column b s end hs e in omega (arith, h, side, most)

@@ -1,8 +1,7 @@
 -- The cells of strips that lie one below the other.
-use Rattle.life_base.specs.declared.cell.TheConstants.{MAX_LEVEL}
-use Rattle.std.specs.Prelude.{◌≡◌, ℕ, ◌+◌, ◌-◌, ◌/◌, ◌%◌, ◌*◌, ◌^◌, ◌<◌, ◌≤◌, nat_lt, if◌then◌else◌, List, [], ◌∷◌, All, AllPairs}
+use Rattle.std.specs.Prelude.{◌≡◌, ℕ, ◌+◌, ◌-◌, ◌/◌, ◌%◌, ◌^◌, ◌<◌, ◌≤◌, nat_lt, if◌then◌else◌, List, [], ◌∷◌, All, AllPairs}
 use Rattle.life_quad.specs.declared.id.Id.{Id}
-use Rattle.life_base.specs.Tree.{Tree, depth, state_at, IsFull}
+use Rattle.life_base.specs.Tree.{Tree, state_at}
 use Rattle.life_strip.specs.declared.spans.Strip.{Strip}
 use Rattle.life_strip.specs.Strip.{square_at, IsStrip, AreWithin}
 
@@ -38,16 +37,3 @@ AreFalling strips = AllPairs (λ s t. t.level < s.level) strips
 -- the level is at most those of the strips
 abbrev pub IsLowest : ℕ → List Strip → Type 0
 IsLowest level strips = All (λ s. level ≤ s.level) strips
-
--- A square of level 1 or more has a property, and it is what stands in one place of the plane, above a row: each level divides the plane
--- into columns and rows of its squares, and `rows` rows of cells are above.
-pub record SomeSquare (P : Tree → Type 0) (rows : ℕ) (state : ℕ → ℕ → ℕ) : Type 0 where
-  pub square : Tree
-  pub full : IsFull square
-  pub deep : 1 ≤ depth square
-  pub column : ℕ
-  pub row : ℕ
-  pub east : (column + 1) * 2 ^ depth square ≤ 2 ^ MAX_LEVEL
-  pub south : (row + 1) * 2 ^ depth square ≤ rows
-  pub cells : (i j : ℕ) → i < 2 ^ depth square → j < 2 ^ depth square → state_at square i j ≡ state (column * 2 ^ depth square + i) (row * 2 ^ depth square + j)
-  pub property : P square

@@ -1,6 +1,6 @@
 -- Strips: rows of squares of one level, side by side.
 use Rattle.life_base.specs.declared.cell.TheConstants.{MAX_LEVEL}
-use Rattle.std.specs.Prelude.{◌≡◌, ℕ, suc, ◌+◌, ◌-◌, ◌*◌, ◌^◌, ◌<◌, ◌≤◌, ◌⊎◌, nat_lt, if◌then◌else◌, List, [], ◌∷◌, drop, All, Option, Some, None}
+use Rattle.std.specs.Prelude.{◌≡◌, ℕ, suc, ◌+◌, ◌-◌, ◌*◌, ◌^◌, ◌<◌, ◌≤◌, ◌⊎◌, nat_lt, if◌then◌else◌, List, [], ◌∷◌, drop, All, Option, Some, None, MatchOption}
 use Rattle.life_quad.specs.declared.id.Id.{Id}
 use Rattle.life_base.specs.Tree.{Tree, quad, depth, blank}
 use Rattle.life_strip.specs.declared.spans.Span.{Span}
@@ -47,9 +47,20 @@ abbrev pub id_or : Id → Option Id → Id
 id_or blank None = blank
 id_or blank (Some id) = id
 
--- one square goes on from the column to the end
+-- the column comes before the end, if there is one
+abbrev pub IsBefore : ℕ → Option ℕ → Type 0
+IsBefore column None = Unit {0}
+IsBefore column (Some end) = column < end
+
+-- one square goes on from the column to the end, or for ever where no span is left
 pub record IsFound (spans : List Span) (column : ℕ) (blank : Id) (found : Found) : Type 0 where
   pub past : IsPast spans found.index column
-  pub square : (c : ℕ) → column ≤ c → c < found.end → id_or blank (id_at spans c) ≡ found.square
-  pub beyond : column < found.end
-  pub last : ((level : ℕ) → AreWithin level spans → found.end ≤ 2 ^ (MAX_LEVEL - level)) ⊎ ((found.end ≡ 2 ^ 64 - 1) × ((c : ℕ) → column ≤ c → id_at spans c ≡ None))
+  pub square : (c : ℕ) → column ≤ c → IsBefore c found.end → id_or blank (id_at spans c) ≡ found.square
+  pub beyond : IsBefore column found.end
+  pub last : MatchOption found.end ((c : ℕ) → column ≤ c → id_at spans c ≡ None) (λ end. (level : ℕ) → AreWithin level spans → end ≤ 2 ^ (MAX_LEVEL - level))
+
+-- the end is one of the two, and neither comes before it
+pub record IsNearer (end : ℕ) (north south : Option ℕ) : Type 0 where
+  pub one : (north ≡ Some end) ⊎ (south ≡ Some end)
+  pub upper : (column : ℕ) → column < end → IsBefore column north
+  pub lower : (column : ℕ) → column < end → IsBefore column south

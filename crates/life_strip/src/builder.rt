@@ -1,102 +1,54 @@
 //! A builder that fills a store row by row.
-ghost use Rattle.std.specs.Prelude.{◌≡◌, ℕ, ℤ, pos, neg_ℤ, nat_abs, ◌+ℤ◌, ◌<ℤ◌, ◌≤ℤ◌, suc, ◌+◌, ◌^◌, ◌<◌, ◌≤◌, ◌⊎◌, ◌++◌, ◌∷◌, [], List, All, Contains, length, Err, IfOk, IfErr, OnOk};
+ghost use Rattle.std.specs.Prelude.{◌≡◌, ℤ, pos, nat_abs, ◌+ℤ◌, ◌^◌, ◌≤◌, ◌⊎◌, ◌++◌, ◌∷◌, [], Contains, length, Err, IfOk, IfErr, OnOk};
 ghost use Rattle.life_base.specs.declared.kind.Kind.TheVariants.{Full, Memory};
-ghost use Rattle.life_base.specs.Tree.{Tree, depth};
+ghost use Rattle.life_base.specs.Tree.{Tree, depth, tree_cell};
 ghost use Rattle.life_quad.specs.declared.id.Id.{Id as IdValue};
-ghost use Rattle.life_base.specs.Tree.{tree_cell as cell_of};
-ghost use Rattle.life_strip.specs.Picture.{picture, SomeSquare};
-ghost use Rattle.life_strip.specs.Filling.{IsEmpty, IsFilling, IsOnPlane, IsNext, AddsRun, state_so_far, cell_so_far, half_plane};
+ghost use Rattle.life_strip.specs.Given.{IsBehind, IsNext, IsOnPlane, AreInOrder, state_by, by_columns, half_plane};
+ghost use Rattle.life_strip.specs.Needed.{SomeSquare};
+ghost use Rattle.life_strip.specs.Filling.{IsEmpty, IsFilling};
 
-use crate::rows::{end_row, whole};
-use crate::spans::{Strip, push_span};
+use crate::plane::Plane;
+use crate::run_log::RunLog;
 use life_base::{Kind, MAX_LEVEL, State};
 use life_quad::{Id, Squares};
 use std::alloc::Global;
-use std::mem;
-
-// Half of the side of the plane: the column and the row of the cell (0, 0).
-const HALF: i64 = 1 << (MAX_LEVEL - 1);
-
-// The side of the plane.
-const SIDE: u64 = 1 << MAX_LEVEL;
+use std::marker::Model;
 
 /// A pattern that is being filled into a store by runs of cells: row by row from the north, and in a row from west to east.
 ///
 /// It keeps Ids of the store alone. Between two calls the store may be changed by calls that keep every Id.
 #[derive(Drop)]
 pub struct Builder {
-    alloc: Global,
-    // The rows that are over, from the north, in strips of falling levels.
-    pub(crate) strips: Vec<Strip>,
-    // How many rows are over.
-    pub(crate) rows: u64,
-    // The row that follows, as far as it was given.
-    pub(crate) row: Strip,
+    plane: Plane,
+    log: RunLog,
 }
 
-// The column or the row of a coordinate, counted from the edge of the plane.
-fn offset(x: i64) -> u64
-    requires low { neg_ℤ (pos half_plane) ≤ℤ x }
-    requires high { x <ℤ pos half_plane }
-    ensures { pos result ≡ (x +ℤ pos half_plane) }
-{
-    (x + HALF) as u64
+impl Model for Builder {
+    ghost use Rattle.life_strip.specs.Filling.{Building};
+
+    ghost Value = { Building };
+
+    ghost view = { λ b. record { runs = b.log.runs; kept = b.plane } };
 }
 
 impl Builder {
-    /// No cell yet, and any cell of the plane may come first.
+    /// No run yet, and any run of the plane may come first.
     pub fn new(alloc: Global) -> Builder
+        ensures runs { result.runs ≡ [] }
         ensures empty { IsEmpty result }
-        ensures blank { (content : IdValue → Tree) (x y : ℤ) → cell_so_far content result x y ≡ 0 }
-        ensures next { (x y : ℤ) → neg_ℤ (pos half_plane) ≤ℤ y → IsNext result x y }
     {
         Builder {
-            alloc,
-            strips: Vec::new(alloc),
-            rows: 0,
-            row: Strip {
-                level: 0,
-                spans: Vec::new(alloc),
-            },
+            plane: Plane::new(alloc),
+            log: RunLog::new(),
         }
     }
 
-    // Begins a row, if it isn't the one that was begun.
-    fn go_to_row<S: Squares>(&mut self, squares: &mut S, row: u64) -> Result<(), Kind>
-        requires filling { IsFilling (S.knows squares.old) (S.content squares.old) self.old }
-        requires later { self.old.rows ≤ row }
-        requires inside { row < 2 ^ MAX_LEVEL }
-        ensures filling { OnOk result (IsFilling (S.knows squares.new) (S.content squares.new) self.new) }
-        ensures rows { OnOk result (self.new.rows ≡ row) }
-        ensures ends { OnOk result ((n : ℕ) → (self.old.rows ≡ row → All (λ s. s.end ≤ n) self.old.row.spans.items) → All (λ s. s.end ≤ n) self.new.row.spans.items) }
-        ensures picture { OnOk result ((i j : ℕ) → picture (S.content squares.new) (self.new.strips.items ++ self.new.row ∷ []) i j ≡ picture (S.content squares.old) (self.old.strips.items ++ self.old.row ∷ []) i j) }
-        ensures keeps { (q : IdValue) → S.knows squares.old q → S.knows squares.new q × (S.content squares.new q ≡ S.content squares.old q) }
-        ensures stays { (t : Tree) → Contains (S.stored squares.old) t → Contains (S.stored squares.new) t }
-        ensures most { S.most squares.new ≡ S.most squares.old }
-        ensures refusals { IfErr result (λ e. (e ≡ Full) ⊎ (e ≡ Memory)) }
-        ensures full { result ≡ Err Full → length (S.stored squares.new) ≡ S.most squares.new }
-        ensures needed { result ≡ Err Full → SomeSquare (S.needs_node squares.new) row (state_so_far (S.content squares.old) self.old) }
-    {
-        if self.rows == row {
-            return Ok(());
-        }
-        let next = Strip {
-            level: 0,
-            spans: Vec::new(self.alloc),
-        };
-        let begun = mem::replace(&mut self.row, next);
-        end_row(
-            squares,
-            self.alloc,
-            &mut self.strips,
-            begun,
-            row - self.rows - 1,
-        )?;
-        self.rows = row;
-        Ok(())
-    }
-
-    /// Gives the cells (x, y) to (x + len - 1, y) a state. After a refusal the builder is only to be dropped.
+    /// Gives the cells (x, y) to (x + len - 1, y) a state.
+    ///
+    /// # Errors
+    ///
+    /// `Full` if the store holds its limit and a square of the runs before is new, or `Memory`. After an error the builder is only to
+    /// be dropped.
     pub fn add_run<S: Squares>(
         &mut self,
         squares: &mut S,
@@ -108,46 +60,40 @@ impl Builder {
         requires filling { IsFilling (S.knows squares.old) (S.content squares.old) self.old }
         requires positive { 1 ≤ len }
         requires inside { IsOnPlane x y len }
-        requires next { IsNext self.old x y }
+        requires next { IsNext self.old.runs x y }
         ensures filling { OnOk result (IsFilling (S.knows squares.new) (S.content squares.new) self.new) }
-        ensures cells { OnOk result (AddsRun (cell_so_far (S.content squares.old) self.old) (cell_so_far (S.content squares.new) self.new) x y len state) }
-        ensures below { OnOk result ((column row : ℤ) → y <ℤ row → IsNext self.new column row) }
-        ensures beside { OnOk result ((column : ℤ) → (x +ℤ pos len) ≤ℤ column → IsNext self.new column y) }
+        ensures runs { OnOk result (self.new.runs ≡ self.old.runs ++ record { x = x; y = y; len = len; state = state } ∷ []) }
+        ensures next { OnOk result ((i j : ℤ) → IsBehind (record { x = x; y = y; len = len; state = state }) i j → IsNext self.new.runs i j) }
         ensures keeps { (q : IdValue) → S.knows squares.old q → S.knows squares.new q × (S.content squares.new q ≡ S.content squares.old q) }
         ensures stays { (t : Tree) → Contains (S.stored squares.old) t → Contains (S.stored squares.new) t }
         ensures most { S.most squares.new ≡ S.most squares.old }
         ensures refusals { IfErr result (λ e. (e ≡ Full) ⊎ (e ≡ Memory)) }
         ensures full { result ≡ Err Full → length (S.stored squares.new) ≡ S.most squares.new }
-        ensures needed { result ≡ Err Full → SomeSquare (S.needs_node squares.new) (nat_abs (y +ℤ pos half_plane)) (state_so_far (S.content squares.old) self.old) }
+        ensures needed { result ≡ Err Full → SomeSquare (S.needs_node squares.new) (nat_abs (y +ℤ pos half_plane)) (by_columns (state_by self.old.runs)) }
     {
-        let column = offset(x);
-        let row = offset(y);
-        self.go_to_row(squares, row)?;
-        let blank = squares.cell(0);
-        let square = squares.cell(state);
-        push_span(&mut self.row.spans, column, len, blank, square)
+        self.plane.add_run(squares, x, y, len, state)?;
+        self.log = self.log.then(x, y, len, state);
+        Ok(())
     }
 
     /// The square of the whole plane with the cells of the runs.
+    ///
+    /// # Errors
+    ///
+    /// `Full` if the store holds its limit and a square of the runs is new, or `Memory`.
     pub fn finish<S: Squares>(self, squares: &mut S) -> Result<Id, Kind>
         requires filling { IsFilling (S.knows squares.old) (S.content squares.old) self }
         ensures known { IfOk result (S.knows squares.new) }
         ensures level { IfOk result (λ r. depth (S.content squares.new r) ≡ MAX_LEVEL) }
-        ensures cells { IfOk result (λ r. (x y : ℤ) → cell_of (S.content squares.new r) x y ≡ cell_so_far (S.content squares.old) self x y) }
+        ensures cells { IfOk result (λ r. (x y : ℤ) → tree_cell (S.content squares.new r) x y ≡ state_by self.runs x y) }
+        ensures order { AreInOrder self.runs }
         ensures keeps { (q : IdValue) → S.knows squares.old q → S.knows squares.new q × (S.content squares.new q ≡ S.content squares.old q) }
         ensures stays { (t : Tree) → Contains (S.stored squares.old) t → Contains (S.stored squares.new) t }
         ensures most { S.most squares.new ≡ S.most squares.old }
         ensures refusals { IfErr result (λ e. (e ≡ Full) ⊎ (e ≡ Memory)) }
         ensures full { result ≡ Err Full → length (S.stored squares.new) ≡ S.most squares.new }
-        ensures needed { result ≡ Err Full → SomeSquare (S.needs_node squares.new) (2 ^ MAX_LEVEL) (state_so_far (S.content squares.old) self) }
+        ensures needed { result ≡ Err Full → SomeSquare (S.needs_node squares.new) (2 ^ MAX_LEVEL) (by_columns (state_by self.runs)) }
     {
-        let Builder {
-            alloc,
-            mut strips,
-            rows,
-            row,
-        } = self;
-        end_row(squares, alloc, &mut strips, row, SIDE - rows - 1)?;
-        Ok(whole(squares, strips.as_slice()))
+        self.plane.finish(squares)
     }
 }

@@ -4,7 +4,8 @@ ghost use Rattle.life_base.specs.declared.kind.Kind.TheVariants.{Full, Memory};
 ghost use Rattle.life_base.specs.Tree.{Tree, depth, state_at};
 ghost use Rattle.life_quad.specs.declared.id.Id.{Id as IdValue};
 ghost use Rattle.life_strip.specs.Strip.{quad_at};
-ghost use Rattle.life_strip.specs.Picture.{picture, height, AreFalling, IsLowest, IsSound, IsStack, SomeSquare};
+ghost use Rattle.life_strip.specs.Picture.{picture, height, AreFalling, IsLowest, IsSound, IsStack};
+ghost use Rattle.life_strip.specs.Needed.{SomeSquare};
 
 use crate::spans::{Strip, find, pair};
 use life_base::{Kind, MAX_LEVEL};
@@ -69,21 +70,15 @@ fn push_strip<S: Squares>(
     ensures needed { result ≡ Err Full → SomeSquare (S.needs_node squares.new) (height strips.old.items + 2 ^ strip.level) (picture (S.content squares.old) (strips.old.items ++ strip ∷ [])) }
 {
     let Some(last) = strips.pop() else {
-        let Ok(()) = strips.push(strip) else {
-            return Err(Kind::Memory);
-        };
+        strips.push(strip)?;
         return Ok(());
     };
     if last.level == strip.level {
         let merged = merge(squares, alloc, &last, &strip)?;
         return push_strip(squares, alloc, strips, merged);
     }
-    let Ok(()) = strips.push(last) else {
-        return Err(Kind::Memory);
-    };
-    let Ok(()) = strips.push(strip) else {
-        return Err(Kind::Memory);
-    };
+    strips.push(last)?;
+    strips.push(strip)?;
     Ok(())
 }
 

@@ -1,10 +1,10 @@
 //! Strips of squares, and how two of them make one of the next level.
-ghost use Rattle.std.specs.Prelude.{◌≡◌, ℕ, ◌+◌, ◌-◌, ◌*◌, ◌^◌, ◌<◌, ◌≤◌, ◌⊎◌, ◌&&◌, nat_le, nat_lt, if◌then◌else◌, All, Contains, Some, length, slice_get, Err, IfOk, IfErr, OnOk, OnErr};
+ghost use Rattle.std.specs.Prelude.{◌≡◌, ℕ, ◌+◌, ◌-◌, ◌*◌, ◌^◌, ◌<◌, ◌≤◌, ◌⊎◌, ◌&&◌, nat_le, nat_lt, if◌then◌else◌, All, Contains, Some, None, MatchOption, length, slice_get, Err, IfOk, IfErr, OnOk, OnErr};
 ghost use Rattle.life_base.specs.declared.kind.Kind.TheVariants.{Full, Memory};
 ghost use Rattle.life_quad.specs.declared.id.Id.{Id as IdValue};
 ghost use Rattle.life_strip.specs.declared.spans.Span.{Span as SpanValue};
 ghost use Rattle.life_base.specs.Tree.{Tree, depth, blank as blank_square};
-ghost use Rattle.life_strip.specs.Strip.{IsStrip, AreWithin, IsPaired, IsPast, IsFound, id_at, id_or, quad_at};
+ghost use Rattle.life_strip.specs.Strip.{IsStrip, AreWithin, IsPaired, IsPast, IsFound, IsNearer, id_at, id_or, quad_at};
 
 use life_base::{Kind, MAX_LEVEL};
 use life_quad::{Id, Squares};
@@ -28,14 +28,15 @@ pub(crate) struct Strip {
 #[derive(Clone, Copy)]
 pub(crate) struct Found {
     pub(crate) index: usize,
-    pub(crate) end: u64,
+
+    // The column where it ends, if a span does.
+    pub(crate) end: Option<u64>,
     pub(crate) square: Id,
 }
 
 // The square in a column, where the spans before `from` end before it.
 pub(crate) fn find(spans: &[Span], from: usize, column: u64, blank: Id) -> Found
     requires past { IsPast spans.now from column }
-    requires column { column < 2 ^ 64 - 1 }
     ensures { IsFound spans.now column blank result }
 {
     let mut index = from;
@@ -45,13 +46,13 @@ pub(crate) fn find(spans: &[Span], from: usize, column: u64, blank: Id) -> Found
     if index < spans.len() {
         Found {
             index,
-            end: spans[index].end,
+            end: Some(spans[index].end),
             square: spans[index].square,
         }
     } else {
         Found {
             index,
-            end: u64::MAX,
+            end: None,
             square: blank,
         }
     }
@@ -91,15 +92,24 @@ fn join_at<S: Squares>(
     squares.join(north.square, ne.square, south.square, se.square)
 }
 
-// The column up to which one square goes on.
-fn next_column(column: u64, north: u64, south: u64) -> u64
-    requires north { 2 * column < north }
-    requires south { 2 * column < south }
-    ensures beyond { column < result }
-    ensures within { (2 * result ≤ north + 1) × (2 * result ≤ south + 1) }
-    ensures goes_on { (c : ℕ) → column < c → c < result → (2 * c + 1 < north) × (2 * c + 1 < south) }
+// The nearer of two ends.
+fn nearer(north: Option<u64>, south: Option<u64>) -> Option<u64>
+    ensures { MatchOption result ((north ≡ None) × (south ≡ None)) (λ end. IsNearer end north south) }
 {
-    let end = north.min(south);
+    match (north, south) {
+        (Some(north), Some(south)) => Some(north.min(south)),
+        (Some(north), None) => Some(north),
+        (None, south) => south,
+    }
+}
+
+// The column up to which one square goes on.
+fn next_column(column: u64, end: u64) -> u64
+    requires { 2 * column < end }
+    ensures beyond { column < result }
+    ensures within { 2 * result ≤ end + 1 }
+    ensures goes_on { (c : ℕ) → column < c → c < result → 2 * c + 1 < end }
+{
     (end / 2).max(column + 1)
 }
 
@@ -131,15 +141,13 @@ pub(crate) fn pair<S: Squares>(
     let mut column: u64 = 0;
     let mut north = find(upper, 0, 0, blank);
     let mut south = find(lower, 0, 0, blank);
-    while north.end < u64::MAX || south.end < u64::MAX {
+    while let Some(end) = nearer(north.end, south.end) {
         let square = join_at(squares, upper, lower, level, blank, column, north, south)?;
-        column = next_column(column, north.end, south.end);
-        let Ok(()) = spans.push(Span {
+        column = next_column(column, end);
+        spans.push(Span {
             end: column,
             square,
-        }) else {
-            return Err(Kind::Memory);
-        };
+        })?;
         north = find(upper, north.index, 2 * column, blank);
         south = find(lower, south.index, 2 * column, blank);
     }
@@ -165,12 +173,10 @@ fn fill_gap(spans: &mut Vec<Span>, column: u64, blank: Id) -> Result<(), Kind>
     ensures refusals { IfErr result (λ e. e ≡ Memory) }
 {
     if covered(spans.as_slice()) < column {
-        let Ok(()) = spans.push(Span {
+        spans.push(Span {
             end: column,
             square: blank,
-        }) else {
-            return Err(Kind::Memory);
-        };
+        })?;
     }
     Ok(())
 }
@@ -190,11 +196,9 @@ pub(crate) fn push_span(
     ensures refusals { IfErr result (λ e. e ≡ Memory) }
 {
     fill_gap(spans, column, blank)?;
-    let Ok(()) = spans.push(Span {
+    spans.push(Span {
         end: column + len,
         square,
-    }) else {
-        return Err(Kind::Memory);
-    };
+    })?;
     Ok(())
 }

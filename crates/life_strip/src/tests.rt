@@ -49,6 +49,14 @@ fn diagonal<S: Squares>(alloc: Global, store: &mut S) -> Result<Id, Kind>
     trim(store, root, 1)
 }
 
+// A cell in each of three rows: the third row asks for the square of the first two.
+fn three_rows<S: Squares>(alloc: Global, store: &mut S) -> Result<(), Kind> {
+    let mut builder = Builder::new(alloc);
+    builder.add_run(store, 0, 0, 1, 1)?;
+    builder.add_run(store, 0, 1, 1, 1)?;
+    builder.add_run(store, 0, 2, 1, 1)
+}
+
 fn one_cell(alloc: Global, store: &mut Shared) -> Result<Id, Kind> {
     let mut builder = Builder::new(alloc);
     builder.add_run(store, 0, 0, 1, 1)?;
@@ -105,6 +113,21 @@ fn a_store_without_room_is_full(rt: HostRuntime) -> Result<(), Fail> {
     }
     let mut store = Shared::new(rt.alloc(), 60);
     let _ = one_cell(rt.alloc(), &mut store)?;
+    Ok(())
+}
+
+// A store at its limit refuses a run as Full, not for want of memory.
+#[test]
+fn a_run_in_a_full_store_is_refused(rt: HostRuntime) -> Result<(), Fail> {
+    let mut store = Shared::new(rt.alloc(), 0);
+    assert!(rt; three_rows(rt.alloc(), &mut store) == Err(Kind::Full));
+    assert_eq!(rt; store.len(), 0);
+    let mut plain = Plain::new(rt.alloc(), 0);
+    assert!(rt; three_rows(rt.alloc(), &mut plain) == Err(Kind::Full));
+
+    let mut store = Shared::new(rt.alloc(), 1);
+    three_rows(rt.alloc(), &mut store)?;
+    assert_eq!(rt; store.len(), 1);
     Ok(())
 }
 

@@ -14,5 +14,5 @@ returns g c =
     record {
       come =
           come_after (g.S.Squares.knows c.add_run.new.squares) (g.S.Squares.content c.add_run.new.squares) c.add_run.new.self c.args.stretch.start c.args.stretch.end c.args.stretch.row c.from-3.result _ _
-          (omega (arith, ints, c.from.ensures)) (omega (arith, ints, c.from-2.ensures)) fit c.in_ok-add_run.ensures.filling c.in_ok-add_run.ensures.beside c.in_ok-add_run.ensures.below;
+          (omega (arith, ints, c.from.ensures)) (omega (arith, ints, c.from-2.ensures)) fit c.in_ok-add_run.ensures.filling c.in_ok-add_run.ensures.next;
     }

@@ -1,5 +1,5 @@
 use Rattle.std.proofs.Common.{◌<◌, ◌-◌, length, subst, arith}
-use Rattle.life_strip.proofs.FillingLemmas.{found_before}
+use Rattle.life_strip.proofs.PlaneLemmas.{found_before}
 use Rattle.life_strip.proofs.spans.covered.Goals as goal
 
 pub returns-in-Some-clause-columns : goal.returns-in-Some-clause-columns

@@ -1,16 +1,16 @@
 use Rattle.std.proofs.Common.{arith, sym, ◌∙◌, subst}
 use Rattle.life_base.specs.Tree.{quad}
-use Rattle.life_quad.proofs.MoveLemmas.{if_ok_map}
-use Rattle.life_quad.proofs.RefusedLemmas.{on_err_both}
+use Rattle.std.proofs.lemmas.Result.{IfOk-weaker}
+use Rattle.life_base.proofs.Results.{on_err_both}
 use Rattle.life_strip.specs.Strip.{quad_at}
 use Rattle.life_strip.proofs.SpanLemmas.{past_later, found-known, found-content, found-depth}
 use Rattle.life_strip.proofs.spans.join_at.Goals as goal
 
-pub find-ne-requires-clause-past : goal.find-ne-requires-clause-past
-find-ne-requires-clause-past g c = past_later c.args.upper.now _ _ _ c.requires.north.past (omega arith)
+pub find-ne-requires : goal.find-ne-requires
+find-ne-requires g c = record { past = past_later c.args.upper.now _ _ _ c.requires.north.past (omega arith) }
 
-pub find-se-requires-clause-past : goal.find-se-requires-clause-past
-find-se-requires-clause-past g c = past_later c.args.lower.now _ _ _ c.requires.south.past (omega arith)
+pub find-se-requires : goal.find-se-requires
+find-se-requires g c = record { past = past_later c.args.lower.now _ _ _ c.requires.south.past (omega arith) }
 
 pub join-requires-clause-nw : goal.join-requires-clause-nw
 join-requires-clause-nw g c =
@@ -58,7 +58,7 @@ returns-clause-square g c =
     let ne = found-content (g.S.Squares.knows c.args.squares.now) (g.S.Squares.content c.args.squares.now) c.args.level c.args.upper.now r.upper c.args.blank r.known r.blank _ c.find-ne.result c.find-ne.ensures in
     let sw = found-content (g.S.Squares.knows c.args.squares.now) (g.S.Squares.content c.args.squares.now) c.args.level c.args.lower.now r.lower c.args.blank r.known r.blank _ c.args.south r.south in
     let se = found-content (g.S.Squares.knows c.args.squares.now) (g.S.Squares.content c.args.squares.now) c.args.level c.args.lower.now r.lower c.args.blank r.known r.blank _ c.find-se.result c.find-se.ensures in
-    if_ok_map c.join.result (λ x e. e ∙ (λ i. quad (nw i) (ne i) (sw i) (se i))) c.join.ensures.square
+    IfOk-weaker c.join.result _ _ (λ x e. e ∙ (λ i. quad (nw i) (ne i) (sw i) (se i))) c.join.ensures.square
 
 pub returns-clause-needed : goal.returns-clause-needed
 returns-clause-needed g c =

@@ -1,9 +1,10 @@
 use Rattle.std.proofs.Common.{◌++◌, ◌∷◌, [], ◌∙◌, ap, refl, subst, arith}
 use Rattle.std.proofs.lemmas.Result.{err_from_is_err_and}
-use Rattle.life_strip.specs.Picture.{picture, SomeSquare}
+use Rattle.life_strip.specs.Picture.{picture}
+use Rattle.life_strip.specs.Needed.{SomeSquare}
 use Rattle.life_strip.proofs.PictureLemmas.{picture-blank}
 use Rattle.life_strip.proofs.NeededLemmas.{SomeSquare-same}
-use Rattle.life_strip.proofs.builder.Builder.go_to_row.Goals as goal
+use Rattle.life_strip.proofs.plane.Plane.go_to_row.Goals as goal
 
 pub returns-clause-picture : goal.returns-clause-picture
 returns-clause-picture g c i j =
@@ -16,4 +17,4 @@ returns-in_err-end_row-clause-needed g c =
     let p = err_from_is_err_and c.from_residual.result c.from_residual.ensures.1 in
     rw (p.1, p.2)
     (λ e. subst (λ s. SomeSquare (g.S.Squares.needs_node c.end_row.new.squares) c.args.row (picture (g.S.Squares.content c.args.squares.now) (c.args.self.now.strips.items ++ s ∷ [])))
-    c.replace-begun.ensures.value (SomeSquare-same (omega (arith, c.requires.filling.rows, c.requires.later, c.if-self-row.false)) (λ i j. refl) (c.in_err-end_row.ensures.needed e)))
+    c.replace-begun.ensures.value (SomeSquare-same (omega (arith, c.requires.filled.rows, c.requires.later, c.if-self-row.false)) (λ i j. refl) (c.in_err-end_row.ensures.needed e)))

@@ -1,0 +1,58 @@
+use Rattle.std.proofs.Common.{◌≡◌, ◌++◌, ◌∷◌, [], ◌∙◌, ap, subst, arith, pos, ◌+ℤ◌}
+use Rattle.std.specs.Prelude.{if◌then◌else◌}
+use Rattle.std.proofs.lemmas.Int.{ints}
+use Rattle.life_base.specs.Tree.{depth}
+use Rattle.life_quad.specs.Span.{is_in_span}
+use Rattle.life_strip.specs.declared.spans.Strip.{Strip}
+use Rattle.life_strip.specs.Strip.{IsStrip}
+use Rattle.life_strip.specs.Picture.{picture, height}
+use Rattle.life_strip.specs.Given.{half_plane}
+use Rattle.life_strip.proofs.PictureLemmas.{on_ok_map}
+use Rattle.life_strip.proofs.PlaneLemmas.{next_ends, below_run, beside_run, row_pushed, row_strip, picture_pushed, AddsRun-span}
+use Rattle.life_strip.proofs.plane.Plane.add_run.Goals as goal
+
+pub push_span-requires-clause-ends : goal.push_span-requires-clause-ends
+push_span-requires-clause-ends g c =
+    let ex : pos c.offset-column.result ≡ c.args.x +ℤ pos half_plane = omega (arith, ints, c.offset-column.ensures, c.ranges.x) in
+    let ey : pos c.offset-row.result ≡ c.args.y +ℤ pos half_plane = omega (arith, ints, c.offset-row.ensures, c.ranges.y) in
+    c.in_ok-go_to_row.ensures.ends c.offset-column.result
+    (next_ends c.args.self.now c.args.x c.args.y c.offset-column.result c.offset-row.result ex ey c.requires.free)
+
+pub returns-clause-cells : goal.returns-clause-cells
+returns-clause-cells g c =
+    let ex : pos c.offset-column.result ≡ c.args.x +ℤ pos half_plane = omega (arith, ints, c.offset-column.ensures, c.ranges.x) in
+    let ey : pos c.offset-row.result ≡ c.args.y +ℤ pos half_plane = omega (arith, ints, c.offset-row.ensures, c.ranges.y) in
+    let K = g.S.Squares.knows c.go_to_row.new.squares in
+    let C = g.S.Squares.content c.go_to_row.new.squares in
+    let self = c.go_to_row.new.self in
+    let fill = c.in_ok-go_to_row.ensures.filled in
+    let begun : IsStrip K C 0 self.row.spans.items = subst (λ n. IsStrip K C n self.row.spans.items) fill.level fill.row.squares in
+    let row : Strip = record { level = self.row.level; spans = c.push_span.new.spans } in
+    let height_is : height self.strips.items ≡ c.offset-row.result = fill.rows ∙ c.in_ok-go_to_row.ensures.rows in
+    on_ok_map c.push_span.result
+    (λ columns.
+    let strip = row_strip K C self.row.spans.items row.spans.items c.offset-column.result c.args.len c.cell-blank.result c.cell-square.result begun
+    c.cell-blank.ensures.known c.cell-blank.ensures.square c.cell-square.ensures.known (ap depth c.cell-square.ensures.square) columns in
+    let states = row_pushed K C self.row row c.offset-column.result c.args.len c.args.state c.cell-blank.result c.cell-square.result fill.row fill.level fill.level strip
+    c.cell-blank.ensures.known c.cell-blank.ensures.square c.cell-square.ensures.square columns in
+    AddsRun-span (picture (g.S.Squares.content c.args.squares.now) (c.args.self.now.strips.items ++ c.args.self.now.row ∷ [])) (picture C (self.strips.items ++ row ∷ []))
+    c.args.x c.args.y c.offset-column.result c.offset-row.result c.args.len c.args.state c.requires.inside ex ey
+    (λ i j. picture_pushed C self.strips.items self.row row c.offset-column.result c.args.len c.args.state fill.level fill.level states i j
+    ∙ (λ k. if is_in_span c.offset-column.result (height_is k) c.args.len i j then c.args.state else c.in_ok-go_to_row.ensures.picture i j k)))
+    c.push_span.ensures.columns
+
+pub returns-clause-below : goal.returns-clause-below
+returns-clause-below g c =
+    let ey : pos c.offset-row.result ≡ c.args.y +ℤ pos half_plane = omega (arith, ints, c.offset-row.ensures, c.ranges.y) in
+    on_ok_map c.push_span.result
+    (λ ends i j below. below_run (record c.go_to_row.new.self { row = record c.go_to_row.new.self.row { spans = c.push_span.new.spans } }) c.args.y i j c.offset-row.result ey c.in_ok-go_to_row.ensures.rows below)
+    c.push_span.ensures.ends
+
+pub returns-clause-beside : goal.returns-clause-beside
+returns-clause-beside g c =
+    let ex : pos c.offset-column.result ≡ c.args.x +ℤ pos half_plane = omega (arith, ints, c.offset-column.ensures, c.ranges.x) in
+    let ey : pos c.offset-row.result ≡ c.args.y +ℤ pos half_plane = omega (arith, ints, c.offset-row.ensures, c.ranges.y) in
+    on_ok_map c.push_span.result
+    (λ ends i beside. beside_run (record c.go_to_row.new.self { row = record c.go_to_row.new.self.row { spans = c.push_span.new.spans } }) c.args.x c.args.y i c.offset-column.result c.offset-row.result c.args.len
+    ex ey c.in_ok-go_to_row.ensures.rows ends beside)
+    c.push_span.ensures.ends

@@ -1,0 +1,51 @@
+-- The plane as far as it is filled. Only private contracts speak of it, and `IsFilling` below the public ones.
+use Rattle.std.specs.Prelude.{◌≡◌, ℕ, ◌^◌, ◌<◌, ◌&&◌, if◌then◌else◌, ℤ, pos, neg_ℤ, ◌+ℤ◌, ◌≤ℤ◌, unsigned_abs, int_lt, int_le, [], ◌∷◌, ◌++◌, All}
+use Rattle.life_base.specs.declared.cell.TheConstants.{MAX_LEVEL}
+use Rattle.life_base.specs.Tree.{Tree}
+use Rattle.life_quad.specs.declared.id.Id.{Id}
+use Rattle.life_quad.specs.Cells.{IsInRun}
+use Rattle.life_strip.specs.declared.plane.Plane.{Plane}
+use Rattle.life_strip.specs.Given.{half_plane}
+use Rattle.life_strip.specs.Picture.{picture, height, AreFalling, IsSound}
+
+-- the store knows every Id that is kept, and the strips of the whole rows have falling levels; the row that was begun is on the plane
+pub record IsFilled (knows : Id → Type 0) (content : Id → Tree) (p : Plane) : Type 0 where
+  pub strips : All (IsSound knows content) p.strips.items
+  pub row : IsSound knows content p.row
+  pub level : p.row.level ≡ 0
+  pub rows : height p.strips.items ≡ p.rows
+  pub most : p.rows < 2 ^ MAX_LEVEL
+  pub falling : AreFalling p.strips.items
+
+-- no cell was filled yet
+pub record IsUnfilled (p : Plane) : Type 0 where
+  pub strips : p.strips.items ≡ []
+  pub rows : p.rows ≡ 0
+  pub level : p.row.level ≡ 0
+  pub row : p.row.spans.items ≡ []
+
+-- the state of a pair of whole numbers, by the column and the row of the plane; 0 outside it
+abbrev pub on_plane : (ℕ → ℕ → ℕ) → ℤ → ℤ → ℕ
+on_plane state x y =
+    let half = pos half_plane in
+    if int_le (neg_ℤ half) x && int_lt x half && int_le (neg_ℤ half) y && int_lt y half
+    then state (unsigned_abs (x +ℤ half)) (unsigned_abs (y +ℤ half))
+    else 0
+
+-- the state in a column and a row, counted from the edges of the plane: the strips, and below them the row that was begun
+abbrev pub state_so_far : (Id → Tree) → Plane → ℕ → ℕ → ℕ
+state_so_far content p = picture content (p.strips.items ++ p.row ∷ [])
+
+-- the same by the coordinates of the plane
+abbrev pub cell_so_far : (Id → Tree) → Plane → ℤ → ℤ → ℕ
+cell_so_far content p = on_plane (state_so_far content p)
+
+-- (left, top) is in no row that is over, and in the row that was begun it is east of what was filled
+pub record IsFree (p : Plane) (left top : ℤ) : Type 0 where
+  pub row : pos p.rows ≤ℤ (top +ℤ pos half_plane)
+  pub column : top +ℤ pos half_plane ≡ pos p.rows → All (λ s. pos s.end ≤ℤ (left +ℤ pos half_plane)) p.row.spans.items
+
+-- the cells of the run have the state, and every other cell what it had
+pub record AddsRun (before after : ℤ → ℤ → ℕ) (left top : ℤ) (len state : ℕ) : Type 0 where
+  pub run : (x y : ℤ) → IsInRun left top len x y → after x y ≡ state
+  pub others : (x y : ℤ) → ¬ IsInRun left top len x y → after x y ≡ before x y

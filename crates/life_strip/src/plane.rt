@@ -1,0 +1,151 @@
+//! The plane as far as it is filled, row by row.
+ghost use Rattle.std.specs.Prelude.{◌≡◌, ℕ, ℤ, pos, neg_ℤ, nat_abs, ◌+ℤ◌, ◌<ℤ◌, ◌≤ℤ◌, suc, ◌+◌, ◌^◌, ◌<◌, ◌≤◌, ◌⊎◌, ◌++◌, ◌∷◌, [], List, All, Contains, length, Err, IfOk, IfErr, OnOk};
+ghost use Rattle.life_base.specs.declared.kind.Kind.TheVariants.{Full, Memory};
+ghost use Rattle.life_base.specs.Tree.{Tree, depth};
+ghost use Rattle.life_quad.specs.declared.id.Id.{Id as IdValue};
+ghost use Rattle.life_base.specs.Tree.{tree_cell as cell_of};
+ghost use Rattle.life_strip.specs.Given.{IsOnPlane, half_plane};
+ghost use Rattle.life_strip.specs.Needed.{SomeSquare};
+ghost use Rattle.life_strip.specs.Picture.{picture};
+ghost use Rattle.life_strip.specs.Plane.{IsFilled, IsUnfilled, IsFree, AddsRun, state_so_far, cell_so_far};
+
+use crate::rows::{end_row, whole};
+use crate::spans::{Strip, push_span};
+use life_base::{Kind, MAX_LEVEL, State};
+use life_quad::{Id, Squares};
+use std::alloc::Global;
+use std::mem;
+
+// Half of the side of the plane: the column and the row of the cell (0, 0).
+const HALF: i64 = 1 << (MAX_LEVEL - 1);
+
+// The side of the plane.
+const SIDE: u64 = 1 << MAX_LEVEL;
+
+// The squares of the cells that were filled: row by row from the north, and in a row from west to east. It keeps Ids of the store alone.
+#[derive(Drop)]
+pub(crate) struct Plane {
+    alloc: Global,
+    // The rows that are over, from the north, in strips of falling levels.
+    strips: Vec<Strip>,
+    // How many rows are over.
+    rows: u64,
+    // The row that follows, as far as it was given.
+    row: Strip,
+}
+
+// The column or the row of a coordinate, counted from the edge of the plane.
+fn offset(x: i64) -> u64
+    requires low { neg_ℤ (pos half_plane) ≤ℤ x }
+    requires high { x <ℤ pos half_plane }
+    ensures { pos result ≡ (x +ℤ pos half_plane) }
+{
+    (x + HALF) as u64
+}
+
+impl Plane {
+    // No cell yet.
+    pub(crate) fn new(alloc: Global) -> Plane
+        ensures { IsUnfilled result }
+    {
+        Plane {
+            alloc,
+            strips: Vec::new(alloc),
+            rows: 0,
+            row: Strip {
+                level: 0,
+                spans: Vec::new(alloc),
+            },
+        }
+    }
+
+    // Begins a row, if it isn't the one that was begun.
+    fn go_to_row<S: Squares>(&mut self, squares: &mut S, row: u64) -> Result<(), Kind>
+        requires filled { IsFilled (S.knows squares.old) (S.content squares.old) self.old }
+        requires later { self.old.rows ≤ row }
+        requires inside { row < 2 ^ MAX_LEVEL }
+        ensures filled { OnOk result (IsFilled (S.knows squares.new) (S.content squares.new) self.new) }
+        ensures rows { OnOk result (self.new.rows ≡ row) }
+        ensures ends { OnOk result ((n : ℕ) → (self.old.rows ≡ row → All (λ s. s.end ≤ n) self.old.row.spans.items) → All (λ s. s.end ≤ n) self.new.row.spans.items) }
+        ensures picture { OnOk result ((i j : ℕ) → picture (S.content squares.new) (self.new.strips.items ++ self.new.row ∷ []) i j ≡ picture (S.content squares.old) (self.old.strips.items ++ self.old.row ∷ []) i j) }
+        ensures keeps { (q : IdValue) → S.knows squares.old q → S.knows squares.new q × (S.content squares.new q ≡ S.content squares.old q) }
+        ensures stays { (t : Tree) → Contains (S.stored squares.old) t → Contains (S.stored squares.new) t }
+        ensures most { S.most squares.new ≡ S.most squares.old }
+        ensures refusals { IfErr result (λ e. (e ≡ Full) ⊎ (e ≡ Memory)) }
+        ensures full { result ≡ Err Full → length (S.stored squares.new) ≡ S.most squares.new }
+        ensures needed { result ≡ Err Full → SomeSquare (S.needs_node squares.new) row (state_so_far (S.content squares.old) self.old) }
+    {
+        if self.rows == row {
+            return Ok(());
+        }
+        let next = Strip {
+            level: 0,
+            spans: Vec::new(self.alloc),
+        };
+        let begun = mem::replace(&mut self.row, next);
+        end_row(
+            squares,
+            self.alloc,
+            &mut self.strips,
+            begun,
+            row - self.rows - 1,
+        )?;
+        self.rows = row;
+        Ok(())
+    }
+
+    // Gives the cells (x, y) to (x + len - 1, y) a state.
+    pub(crate) fn add_run<S: Squares>(
+        &mut self,
+        squares: &mut S,
+        x: i64,
+        y: i64,
+        len: u64,
+        state: State,
+    ) -> Result<(), Kind>
+        requires filled { IsFilled (S.knows squares.old) (S.content squares.old) self.old }
+        requires positive { 1 ≤ len }
+        requires inside { IsOnPlane x y len }
+        requires free { IsFree self.old x y }
+        ensures filled { OnOk result (IsFilled (S.knows squares.new) (S.content squares.new) self.new) }
+        ensures cells { OnOk result (AddsRun (cell_so_far (S.content squares.old) self.old) (cell_so_far (S.content squares.new) self.new) x y len state) }
+        ensures below { OnOk result ((column row : ℤ) → y <ℤ row → IsFree self.new column row) }
+        ensures beside { OnOk result ((column : ℤ) → (x +ℤ pos len) ≤ℤ column → IsFree self.new column y) }
+        ensures keeps { (q : IdValue) → S.knows squares.old q → S.knows squares.new q × (S.content squares.new q ≡ S.content squares.old q) }
+        ensures stays { (t : Tree) → Contains (S.stored squares.old) t → Contains (S.stored squares.new) t }
+        ensures most { S.most squares.new ≡ S.most squares.old }
+        ensures refusals { IfErr result (λ e. (e ≡ Full) ⊎ (e ≡ Memory)) }
+        ensures full { result ≡ Err Full → length (S.stored squares.new) ≡ S.most squares.new }
+        ensures needed { result ≡ Err Full → SomeSquare (S.needs_node squares.new) (nat_abs (y +ℤ pos half_plane)) (state_so_far (S.content squares.old) self.old) }
+    {
+        let column = offset(x);
+        let row = offset(y);
+        self.go_to_row(squares, row)?;
+        let blank = squares.cell(0);
+        let square = squares.cell(state);
+        push_span(&mut self.row.spans, column, len, blank, square)
+    }
+
+    // The square of the whole plane.
+    pub(crate) fn finish<S: Squares>(self, squares: &mut S) -> Result<Id, Kind>
+        requires filled { IsFilled (S.knows squares.old) (S.content squares.old) self }
+        ensures known { IfOk result (S.knows squares.new) }
+        ensures level { IfOk result (λ r. depth (S.content squares.new r) ≡ MAX_LEVEL) }
+        ensures cells { IfOk result (λ r. (x y : ℤ) → cell_of (S.content squares.new r) x y ≡ cell_so_far (S.content squares.old) self x y) }
+        ensures keeps { (q : IdValue) → S.knows squares.old q → S.knows squares.new q × (S.content squares.new q ≡ S.content squares.old q) }
+        ensures stays { (t : Tree) → Contains (S.stored squares.old) t → Contains (S.stored squares.new) t }
+        ensures most { S.most squares.new ≡ S.most squares.old }
+        ensures refusals { IfErr result (λ e. (e ≡ Full) ⊎ (e ≡ Memory)) }
+        ensures full { result ≡ Err Full → length (S.stored squares.new) ≡ S.most squares.new }
+        ensures needed { result ≡ Err Full → SomeSquare (S.needs_node squares.new) (2 ^ MAX_LEVEL) (state_so_far (S.content squares.old) self) }
+    {
+        let Plane {
+            alloc,
+            mut strips,
+            rows,
+            row,
+        } = self;
+        end_row(squares, alloc, &mut strips, row, SIDE - rows - 1)?;
+        Ok(whole(squares, strips.as_slice()))
+    }
+}
