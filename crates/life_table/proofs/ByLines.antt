@@ -137,7 +137,7 @@ no_fault : (r : Result Told Kind) → fault_in r ≡ None → (told : Told) × (
 no_fault (Ok told) h = (told, refl)
 no_fault (Err kind) h = absurd (let z : ⊥ = cc in z)
 
-unbroken_told : (lines : List (List ℕ)) (line : List ℕ) → broken lines line ≡ None → (told : Told) × (told_by (said_by (numbered_from 1 lines)) (number_behind lines) line ≡ Ok told)
+pub unbroken_told : (lines : List (List ℕ)) (line : List ℕ) → broken lines line ≡ None → (told : Told) × (told_by (said_by (numbered_from 1 lines)) (number_behind lines) line ≡ Ok told)
 unfolding broken
 unbroken_told lines line h = no_fault (told_by (said_by (numbered_from 1 lines)) (number_behind lines) line) h
 

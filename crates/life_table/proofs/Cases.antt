@@ -50,11 +50,11 @@ some_or_none None = inr refl
 some_or_none (Some x) = inl (x, refl)
 
 -- a test that was taken
-then_part : {X : Type 0} (b : Bool) (x y r : X) → b ≡ true → (if b then x else y) ≡ r → x ≡ r
+pub then_part : {X : Type 0} (b : Bool) (x y r : X) → b ≡ true → (if b then x else y) ≡ r → x ≡ r
 then_part true x y r e h = h
 then_part false x y r e h = cc
 
-else_part : {X : Type 0} (b : Bool) (x y r : X) → b ≡ false → (if b then x else y) ≡ r → y ≡ r
+pub else_part : {X : Type 0} (b : Bool) (x y r : X) → b ≡ false → (if b then x else y) ≡ r → y ≡ r
 else_part true x y r e h = cc
 else_part false x y r e h = h
 
@@ -67,7 +67,7 @@ no_fault : (b : Bool) (kind : Kind) (x : Result Told Kind) (told : Told) → (if
 no_fault true kind x told h = cc
 no_fault false kind x told h = (refl, h)
 
-not_some : {X : Type 0} (o : Option X) → is_some o ≡ false → o ≡ None
+pub not_some : {X : Type 0} (o : Option X) → is_some o ≡ false → o ≡ None
 not_some None h = refl
 not_some (Some x) h = cc
 

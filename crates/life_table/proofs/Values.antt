@@ -35,7 +35,7 @@ pub tested : {X : Type 0} (b : Bool) (o : Option X) (x : X) → (if b then o els
 tested true o x h = (refl, h)
 tested false o x h = absurd (let z : ⊥ = cc in z)
 
-tested_not : {X : Type 0} (b : Bool) (o : Option X) (x : X) → (if b then None else o) ≡ Some x → (b ≡ false) × (o ≡ Some x)
+pub tested_not : {X : Type 0} (b : Bool) (o : Option X) (x : X) → (if b then None else o) ≡ Some x → (b ≡ false) × (o ≡ Some x)
 tested_not true o x h = absurd (let z : ⊥ = cc in z)
 tested_not false o x h = (refl, h)
 

@@ -3,6 +3,7 @@ pub mod Meaning
 pub mod Valid
 pub mod ByName
 pub mod Reading
+pub mod Grammar
 pub mod Reader
 pub mod Laws
 pub mod Found

@@ -448,6 +448,20 @@ lacking said =
 unfoldable pub missing : List (List ℕ) → Option Kind
 missing lines = lacking (said_by (numbered_from 1 lines))
 
+-- the kinds with which a rule table is refused
+abbrev pub is_table_kind : Kind → Bool
+is_table_kind LineTooLong = true
+is_table_kind NoRuleLine = true
+is_table_kind NoTable = true
+is_table_kind BadDescriptor = true
+is_table_kind UnsupportedNeighborhood = true
+is_table_kind UnsupportedSymmetry = true
+is_table_kind BadVariable = true
+is_table_kind BadTransition = true
+is_table_kind UnboundOutput = true
+is_table_kind NotQuiet = true
+is_table_kind _ = false
+
 -- the lines are a rule table's file: no line breaks a rule, and nothing is lacking
 pub record IsTableFile (lines : List (List ℕ)) : Type 0 where
   pub unbroken : (k : ℕ) → k < length lines → broken (take k lines) (slice_index_or lines k []) ≡ None

@@ -62,10 +62,8 @@ impl Variables {
         ensures kind { IfErr result (λ kind. kind ≡ Memory) }
     {
         let Var { name, states } = var;
-        match self.states.insert(name.into_vec(), states) {
-            Ok(_) => Ok(()),
-            Err(_) => Err(Kind::Memory),
-        }
+        self.states.insert(name.into_vec(), states)?;
+        Ok(())
     }
 
     /// The variables as a list.

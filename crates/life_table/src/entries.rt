@@ -107,9 +107,7 @@ fn entries_between_commas(
         let Some(entry) = entry_of(n_states, vars, trimmed(word)) else {
             return Ok(None);
         };
-        if entries.push(entry).is_err() {
-            return Err(Kind::Memory);
-        }
+        entries.push(entry)?;
         rest = more;
     }
     Ok(Some(entries))
@@ -132,9 +130,7 @@ fn entries_of_bytes(
             let Some(entry) = entry_of(n_states, vars, &[*byte]) else {
                 return Ok(None);
             };
-            if entries.push(entry).is_err() {
-                return Err(Kind::Memory);
-            }
+            entries.push(entry)?;
         }
     }
     Ok(Some(entries))

@@ -1,10 +1,11 @@
 //! Rule tables, read.
 
-ghost use Rattle.std.specs.Prelude.{◌≡◌, OnOk, IfOk, IfErr, Some, None, Ok, Err, false};
+ghost use Rattle.std.specs.Prelude.{◌≡◌, OnOk, IfOk, IfErr, Some, None, Ok, Err, false, true};
 ghost use Rattle.life_base.specs.Refusal.{OrMemory};
 ghost use Rattle.life_base.specs.Text.{lines_of};
 ghost use Rattle.life_base.specs.declared.kind.Kind.TheVariants.{Memory};
-ghost use Rattle.life_table.specs.Reading.{variable_named, told_by, lacking, IsTable, Refuses, Describes};
+ghost use Rattle.life_table.specs.Grammar.{IsFile};
+ghost use Rattle.life_table.specs.Reading.{variable_named, told_by, lacking, is_table_kind, Refuses, Describes};
 ghost use Rattle.life_table.specs.Reader.{IsKept, IsGood, after, fits_after, nothing_said};
 
 use crate::by_name::Variables;
@@ -12,7 +13,7 @@ use crate::said::{Said, Section, Told};
 use crate::table::{Table, Var};
 use crate::telling::told_on;
 use crate::transitions::fits_zero;
-use life_base::{Fault, Items, Kind, Place, lines};
+use life_base::{Fault, Items, Kind, lines};
 use std::alloc::Global;
 
 /// Takes the lines of a rule table's file one after another.
@@ -75,19 +76,9 @@ impl TableReader {
             × (self.new.fits ≡ fits_after self.old.fits self.old.said.vars told)) }
         ensures err { IfErr result (λ fault. OrMemory fault ((told_by self.old.said number line.now ≡ Err fault.kind) × (fault.place.line ≡ number))) }
     {
-        let told = match told_on(alloc, &self.said, self.fits, number, line) {
-            Ok(told) => told,
-            Err(Kind::Memory) => return Err(Fault::of(Kind::Memory)),
-            Err(kind) => {
-                return Err(Fault {
-                    place: Place { line: number },
-                    kind,
-                });
-            }
-        };
-        match self.keep(told) {
-            Ok(()) => Ok(()),
-            Err(kind) => Err(Fault::of(kind)),
+        match told_on(alloc, &self.said, self.fits, number, line) {
+            Ok(told) => Ok(self.keep(told)?),
+            Err(kind) => Err(Fault::at(number, kind)),
         }
     }
 }
@@ -114,25 +105,26 @@ fn table_of(alloc: Global, said: Said, end: u64) -> Result<Table, Fault>
         return Err(Fault::at(end, Kind::NoTable));
     }
     match (n_states, neighborhood, symmetry) {
-        (Some(n_states), Some(neighborhood), Some(symmetry)) => match vars.into_items(alloc) {
-            Ok(vars) => Ok(Table {
+        (Some(n_states), Some(neighborhood), Some(symmetry)) => {
+            let vars = vars.into_items(alloc)?;
+            Ok(Table {
                 name,
                 n_states,
                 neighborhood,
                 symmetry,
                 vars,
                 lines,
-            }),
-            Err(kind) => Err(Fault::of(kind)),
-        },
+            })
+        }
         _ => Err(Fault::at(end, Kind::BadDescriptor)),
     }
 }
 
 /// The table that a `.rule` file writes, or why the bytes are none.
 pub fn read_table(alloc: Global, bytes: &[u8]) -> Result<Table, Fault>
-    ensures ok { IfOk result (λ table. IsTable bytes.now table) }
+    ensures ok { IfOk result (λ table. IsFile (lines_of bytes.now) table) }
     ensures err { IfErr result (λ fault. OrMemory fault (Refuses (lines_of bytes.now) fault)) }
+    ensures kinds { IfErr result (λ fault. OrMemory fault (is_table_kind fault.kind ≡ true)) }
 {
     let mut reader = TableReader::new(alloc);
     let mut next: u64 = 1;

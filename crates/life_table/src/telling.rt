@@ -12,11 +12,8 @@ use crate::table::Neighborhood;
 use crate::transitions::{told_transition, transition_of};
 use crate::variables::{is_variable_line, variable_of};
 use crate::words::{content, has_byte, is_passed_over, is_section_line, is_table_line};
-use life_base::{Kind, Name, Rule, is_whitespace};
+use life_base::{Kind, Name, Rule, is_too_long, is_whitespace};
 use std::alloc::Global;
-
-/// The greatest length of a line, without its line feed.
-const LONGEST_LINE: usize = 1048576;
 
 /// What stands behind `@RULE`, where that is followed by whitespace.
 fn text_of_rule_line(line: &[u8]) -> Option<&[u8]>
@@ -167,7 +164,7 @@ pub(crate) fn told_on(
     requires kept { IsKept said.now fits }
     ensures { Answers result (told_by said.now number line.now) }
 {
-    if LONGEST_LINE < line.len() {
+    if is_too_long(line) {
         return Err(Kind::LineTooLong);
     }
     match said.section {

@@ -92,11 +92,9 @@ pub(crate) fn variable_of(
     let Some(states) = variable_states(n_states, vars, name, trimmed(behind)) else {
         return Ok(None);
     };
-    match Vec::from_slice(alloc, name) {
-        Ok(bytes) => Ok(Some(Var {
-            name: Items::from_vec(bytes),
-            states,
-        })),
-        Err(_) => Err(Kind::Memory),
-    }
+    let bytes = Vec::from_slice(alloc, name)?;
+    Ok(Some(Var {
+        name: Items::from_vec(bytes),
+        states,
+    }))
 }

@@ -1,13 +1,16 @@
-use Rattle.std.proofs.Common.{rules, ◌≡◌, ◌++◌, ◌∷◌, ◌+◌, ◌-◌, ◌^◌, min, length, [], List, ℕ, Bool, map, sym, ◌∙◌, ap, subst, inl, inr, append_assoc, refl}
+use Rattle.std.proofs.Common.{rules, ◌≡◌, ◌++◌, ◌∷◌, ◌+◌, ◌-◌, ◌^◌, min, length, [], List, ℕ, Bool, map, sym, ◌∙◌, ap, subst, inl, inr, append_assoc, refl, true}
 use Rattle.std.specs.Prelude.{Err, None, Some}
 use Rattle.std.proofs.lemmas.List.{map-append}
 use Rattle.std.proofs.lemmas.Result.{err_from_is_err_and, IfOk-weaker, MatchResult-weaker}
 use Rattle.life_base.specs.Text.{lines_of, numbered_from}
 use Rattle.life_base.specs.Refusal.{OrMemory}
 use Rattle.life_base.specs.declared.fault.Fault.{Fault}
-use Rattle.life_table.specs.Reading.{Numbered, Refuses, Describes, IsTable, lacking, told_by}
+use Rattle.life_table.specs.Grammar.{IsFile}
+use Rattle.life_table.specs.Reading.{Numbered, Refuses, Describes, is_table_kind, lacking, told_by}
 use Rattle.life_table.specs.Reader.{nothing_said}
 use Rattle.life_table.specs.declared.said.Said.{Said}
+use Rattle.life_table.proofs.Grammars.{grammars_agree}
+use Rattle.life_table.proofs.LineKinds.{told_kind, lacking_kind}
 use Rattle.life_table.proofs.ReadLines.{Reads, reads_none, reads_more, next_number, refused_at, read_whole, refused_at_end, good_reads}
 use Rattle.life_table.proofs.reading.read_table.Invariants.{numbered}
 use Rattle.life_table.proofs.reading.read_table.Goals as goal
@@ -34,6 +37,15 @@ returns-in_err-take-clause-err c =
     ] in
     rw (p.1, p.2) answer
 
+pub returns-in_err-take-clause-kinds : goal.returns-in_err-take-clause-kinds
+returns-in_err-take-clause-kinds c =
+    let p = err_from_is_err_and c.from_residual.result c.from_residual.ensures.1 in
+    let fault : Fault = c.in_err-take.field-0.0 in
+    let said : Said = c.loop-number.reader.said in
+    let told : OrMemory fault ((told_by said c.in-Some.number c.in-Some.line.now ≡ Err fault.kind) × (fault.place.line ≡ c.in-Some.number)) = c.in_err-take.ensures.err in
+    let answer : OrMemory fault (is_table_kind fault.kind ≡ true) = elim told [ inl m ↦ inl m | inr w ↦ inr (told_kind said c.in-Some.number c.in-Some.line.now fault.kind w.0) ] in
+    rw (p.1, p.2) answer
+
 pub loop-number-preserved : goal.loop-number-preserved
 loop-number-preserved c =
     let pairs : List Numbered = map numbered c.loop-number.yielded in
@@ -55,9 +67,10 @@ loop-number-preserved c =
 
 pub returns-clause-ok : goal.returns-clause-ok
 returns-clause-ok c =
-    IfOk-weaker c.table_of.result (λ table. (lacking c.loop-number.reader.said ≡ None) × Describes c.loop-number.reader.said table) (IsTable c.args.bytes.now)
-    (λ table h. read_whole (lines_of c.args.bytes.now) (map numbered c.loop-number.yielded) _ c.loop-number.invariant.all c.in-None.ensures.steps.0
-    c.loop-number.reader.said c.loop-number.reader.fits c.loop-number.invariant.reads table h.0 h.1)
+    let lines : List (List ℕ) = lines_of c.args.bytes.now in
+    IfOk-weaker c.table_of.result (λ table. (lacking c.loop-number.reader.said ≡ None) × Describes c.loop-number.reader.said table) (IsFile lines)
+    (λ table h. (grammars_agree lines table).1 (read_whole lines (map numbered c.loop-number.yielded) _ c.loop-number.invariant.all c.in-None.ensures.steps.0
+    c.loop-number.reader.said c.loop-number.reader.fits c.loop-number.invariant.reads table h.0 h.1))
     c.table_of.ensures.ok
 
 pub returns-clause-err : goal.returns-clause-err
@@ -67,6 +80,11 @@ returns-clause-err c =
       | inr w ↦ inr (refused_at_end (lines_of c.args.bytes.now) (map numbered c.loop-number.yielded) _ c.loop-number.invariant.all c.in-None.ensures.steps.0
           c.loop-number.reader.said c.loop-number.reader.fits c.loop-number.invariant.reads fault c.loop-number.next w.0 w.1 c.loop-number.invariant.next)
     ])
+
+pub returns-clause-kinds : goal.returns-clause-kinds
+returns-clause-kinds c =
+    MatchResult-weaker c.table_of.result {Q = λ fault. OrMemory fault ((lacking c.loop-number.reader.said ≡ Some fault.kind) × (fault.place.line ≡ c.loop-number.next))} c.table_of.ensures.err (λ table h. h)
+    (λ fault h. elim h [ inl m ↦ inl m | inr w ↦ inr (lacking_kind c.loop-number.reader.said fault.kind w.0) ])
 
 pub table_of-requires : goal.table_of-requires
 table_of-requires c = record { good = good_reads (map numbered c.loop-number.yielded) c.loop-number.reader.said c.loop-number.reader.fits c.loop-number.invariant.reads }

@@ -1,0 +1,192 @@
+-- The kinds with which the file of a rule table is refused.
+use Rattle.std.proofs.Common.{◌≡◌, ◌⊎◌, inl, inr, ℕ, ◌-◌, ◌<◌, ◌≤◌, List, length, take, Bool, true, false, cond, refl, sym, ap, ◌∙◌, arith}
+use Rattle.std.specs.Prelude.{Option, Some, None, Result, Ok, Err, is_some, is_none, not, ◌++◌, ◌∷◌, []}
+use Rattle.std.specs.List.{slice_index_or}
+use Rattle.life_base.specs.Text.{is_empty, is_too_long, numbered_from}
+use Rattle.life_base.specs.Refusal.{is_placeless}
+use Rattle.life_base.specs.declared.kind.Kind.{Kind}
+use Rattle.life_base.specs.declared.kind.Kind.TheVariants as kinds
+use Rattle.life_base.proofs.RuleKinds.{errs_by, errs_by_cases}
+use Rattle.life_table.specs.Valid.{neighbour_count, is_quiet}
+use Rattle.life_table.specs.Laws.{LinesBreakByKinds, RefusalsHaveKinds}
+use Rattle.life_table.specs.Reading.{is_table_kind, broken, missing, lacking, is_ahead, is_described, said_by, number_behind, fault_in, told_by, told_in, told_in_table, told_rest, told_settled, told_ahead, told_descriptor, if_named, if_states, if_neighborhood, if_symmetry, if_variable, if_transition, name_on, is_passed_over, is_table_line, is_section_line, is_descriptor, content, key_of, setting_of, is_states_key, is_neighborhood_key, is_symmetry_key, states_named, neighborhood_named, symmetry_named, agree, is_variable_line, variable_of, transition_of, is_bound}
+use Rattle.life_table.specs.declared.said.Said.{Said}
+use Rattle.life_table.specs.declared.said.Section.{Section}
+use Rattle.life_table.specs.declared.said.Section.TheVariants.{Ahead, Open, Behind}
+use Rattle.life_table.specs.declared.said.Told.{Told}
+use Rattle.life_table.specs.declared.said.Told.TheVariants.{Nothing, TableOpens, TableEnds, Neighbors, Orders, Line}
+use Rattle.life_table.specs.declared.table.Neighborhood.{Neighborhood}
+use Rattle.life_table.specs.declared.table.Symmetry.{Symmetry}
+use Rattle.life_table.specs.declared.table.Transition.{Transition}
+use Rattle.life_table.specs.declared.table.Var.{Var}
+
+-- the answer is no fault, or one of these kinds
+abbrev InKinds : Result Told Kind → Type 0
+InKinds r = errs_by is_table_kind r ≡ true
+
+either : (b : Bool) (r s : Result Told Kind) → InKinds r → InKinds s → InKinds (cond b r s)
+either = errs_by_cases is_table_kind
+
+-- ---- before the table
+
+in_name : (o : Option (List ℕ)) → InKinds (if_named o)
+in_name None = refl
+in_name (Some name) = refl
+
+in_front : (o : Option (List ℕ)) (line : List ℕ) → InKinds (told_ahead o line)
+in_front None line = either (is_passed_over line) (Ok Nothing) (if_named (name_on line)) refl (in_name (name_on line))
+in_front (Some name) line = either (is_table_line line) (Ok TableOpens) (Ok Nothing) refl refl
+
+-- ---- descriptors
+
+in_states : (o : Option ℕ) → InKinds (if_states o)
+in_states None = refl
+in_states (Some n) = refl
+
+in_neighborhood : (symmetry : Option Symmetry) (o : Option Neighborhood) → InKinds (if_neighborhood symmetry o)
+in_neighborhood symmetry None = refl
+in_neighborhood symmetry (Some h) = either (agree (Some h) symmetry) (Ok (Neighbors h)) (Err kinds.UnsupportedSymmetry) refl refl
+
+in_symmetry : (neighborhood : Option Neighborhood) (o : Option Symmetry) → InKinds (if_symmetry neighborhood o)
+in_symmetry neighborhood None = refl
+in_symmetry neighborhood (Some y) = either (agree neighborhood (Some y)) (Ok (Orders y)) (Err kinds.UnsupportedSymmetry) refl refl
+
+in_descriptor : (n : Option ℕ) (h : Option Neighborhood) (y : Option Symmetry) (text : List ℕ) → InKinds (told_descriptor n h y text)
+unfolding told_descriptor
+in_descriptor n h y text =
+    let bad : Result Told Kind = Err kinds.BadDescriptor in
+    let states : Result Told Kind = if_states (states_named (setting_of text)) in
+    let neighborhood : Result Told Kind = if_neighborhood y (neighborhood_named (setting_of text)) in
+    let symmetry : Result Told Kind = if_symmetry h (symmetry_named (setting_of text)) in
+    let third : Result Told Kind = cond (is_symmetry_key (key_of text)) (cond (is_some y) bad symmetry) bad in
+    let second : Result Told Kind = cond (is_neighborhood_key (key_of text)) (cond (is_some h) bad neighborhood) third in
+    either (is_states_key (key_of text)) (cond (is_some n) bad states) second (either (is_some n) bad states refl (in_states (states_named (setting_of text))))
+    (either (is_neighborhood_key (key_of text)) (cond (is_some h) bad neighborhood) third (either (is_some h) bad neighborhood refl (in_neighborhood y (neighborhood_named (setting_of text))))
+    (either (is_symmetry_key (key_of text)) (cond (is_some y) bad symmetry) bad (either (is_some y) bad symmetry refl (in_symmetry h (symmetry_named (setting_of text)))) refl))
+
+-- ---- variables and transitions
+
+in_variable : (o : Option Var) → InKinds (if_variable o)
+in_variable None = refl
+in_variable (Some var) = refl
+
+in_transition : (vars : List Var) (earlier : List Transition) (o : Option Transition) → InKinds (if_transition vars earlier o)
+in_transition vars earlier None = refl
+in_transition vars earlier (Some line) =
+    let quiet : Result Told Kind = cond (is_quiet vars (earlier ++ line ∷ [])) (Ok (Line line)) (Err kinds.NotQuiet) in
+    either (not (is_bound line.inputs line.output)) (Err kinds.UnboundOutput) quiet refl (either (is_quiet vars (earlier ++ line ∷ [])) (Ok (Line line)) (Err kinds.NotQuiet) refl refl)
+
+in_settled : (n : ℕ) (h : Neighborhood) (vars : List Var) (lines : List Transition) (number : ℕ) (text : List ℕ) → InKinds (told_settled n h vars lines number text)
+in_settled n h vars lines number text =
+    either (is_variable_line text) (if_variable (variable_of n vars text)) (if_transition vars lines (transition_of n (neighbour_count h) vars number text))
+    (in_variable (variable_of n vars text)) (in_transition vars lines (transition_of n (neighbour_count h) vars number text))
+
+in_rest : (n : Option ℕ) (h : Option Neighborhood) (y : Option Symmetry) (vars : List Var) (lines : List Transition) (number : ℕ) (text : List ℕ) → InKinds (told_rest n h y vars lines number text)
+in_rest (Some n) (Some h) (Some y) vars lines number text = in_settled n h vars lines number text
+in_rest (Some n) (Some h) None vars lines number text = refl
+in_rest (Some n) None y vars lines number text = refl
+in_rest None h y vars lines number text = refl
+
+-- ---- a line
+
+in_table : (said : Said) (number : ℕ) (line : List ℕ) → InKinds (told_in_table said number line)
+in_table said number line =
+    let closing : Result Told Kind = cond (is_described said) (Ok TableEnds) (Err kinds.BadDescriptor) in
+    let descriptor : Result Told Kind = told_descriptor said.n_states said.neighborhood said.symmetry (content line) in
+    let rest : Result Told Kind = told_rest said.n_states said.neighborhood said.symmetry said.vars said.lines number (content line) in
+    let says : Result Told Kind = cond (is_descriptor (content line)) descriptor rest in
+    let blank : Result Told Kind = cond (is_empty (content line)) (Ok Nothing) says in
+    either (is_section_line line) closing blank (either (is_described said) (Ok TableEnds) (Err kinds.BadDescriptor) refl refl)
+    (either (is_empty (content line)) (Ok Nothing) says refl
+    (either (is_descriptor (content line)) descriptor rest (in_descriptor said.n_states said.neighborhood said.symmetry (content line))
+    (in_rest said.n_states said.neighborhood said.symmetry said.vars said.lines number (content line))))
+
+in_section : (section : Section) (said : Said) (number : ℕ) (line : List ℕ) → InKinds (told_in section said number line)
+in_section Ahead said number line = in_front said.name line
+in_section Open said number line = in_table said number line
+in_section Behind said number line = refl
+
+pub told_kinds : (said : Said) (number : ℕ) (line : List ℕ) → errs_by is_table_kind (told_by said number line) ≡ true
+unfolding told_by
+told_kinds said number line = either (is_too_long line) (Err kinds.LineTooLong) (told_in said.section said number line) refl (in_section said.section said number line)
+
+pub told_kind : (said : Said) (number : ℕ) (line : List ℕ) (kind : Kind) → told_by said number line ≡ Err kind → is_table_kind kind ≡ true
+told_kind said number line kind e = sym (ap (errs_by is_table_kind) e) ∙ told_kinds said number line
+
+kind_of : (r : Result Told Kind) (kind : Kind) → errs_by is_table_kind r ≡ true → fault_in r ≡ Some kind → is_table_kind kind ≡ true
+kind_of (Ok told) kind h e = cc
+kind_of (Err other) kind h e = let same : other ≡ kind = cc in ap is_table_kind (sym same) ∙ h
+
+pub lines_break_by_kinds : LinesBreakByKinds
+unfolding broken
+lines_break_by_kinds front line kind e =
+    let said : Said = said_by (numbered_from 1 front) in
+    kind_of (told_by said (number_behind front) line) kind (told_kinds said (number_behind front) line) e
+
+-- ---- the end of a file
+
+by_lack : (a b d : Bool) (kind : Kind) → cond a (Some kinds.NoRuleLine) (cond b (Some kinds.NoTable) (cond d None (Some kinds.BadDescriptor))) ≡ Some kind → is_table_kind kind ≡ true
+by_lack true b d kind e = let same : kinds.NoRuleLine ≡ kind = cc in ap is_table_kind (sym same)
+by_lack false true d kind e = let same : kinds.NoTable ≡ kind = cc in ap is_table_kind (sym same)
+by_lack false false true kind e = cc
+by_lack false false false kind e = let same : kinds.BadDescriptor ≡ kind = cc in ap is_table_kind (sym same)
+
+pub lacking_kind : (said : Said) (kind : Kind) → lacking said ≡ Some kind → is_table_kind kind ≡ true
+lacking_kind said kind e = by_lack (is_none said.name) (is_ahead said.section) (is_described said) kind e
+
+missing_kind : (lines : List (List ℕ)) (kind : Kind) → missing lines ≡ Some kind → is_table_kind kind ≡ true
+unfolding missing
+missing_kind lines kind e = lacking_kind (said_by (numbered_from 1 lines)) kind e
+
+within_or_not : (m n : ℕ) → (n ≤ m) ⊎ (m < n)
+within_or_not m n = grind arith
+
+pub refusals_have_kinds : RefusalsHaveKinds
+refusals_have_kinds lines fault r = elim (within_or_not (length lines) r.n) [
+  | inl within ↦ lines_break_by_kinds (take (r.n - 1) lines) (slice_index_or lines (r.n - 1) []) fault.kind (r.at_line within)
+  | inr beyond ↦ missing_kind lines fault.kind (r.at_end beyond)
+]
+
+-- each of these kinds names a line
+pub names_line : (kind : Kind) → is_table_kind kind ≡ true → is_placeless kind ≡ false
+names_line kinds.NoHeader h = refl
+names_line kinds.BadHeader h = refl
+names_line kinds.BadRule h = refl
+names_line kinds.BoundedGrid h = refl
+names_line kinds.UnsupportedRule h = refl
+names_line kinds.BirthOnZero h = refl
+names_line kinds.BadNumber h = refl
+names_line kinds.TooLarge h = refl
+names_line kinds.BadItem h = refl
+names_line kinds.ZeroCount h = refl
+names_line kinds.StateRange h = refl
+names_line kinds.OutOfPlane h = refl
+names_line kinds.LateHeader h = refl
+names_line kinds.SecondHeader h = refl
+names_line kinds.BadNode h = refl
+names_line kinds.BadLevel h = refl
+names_line kinds.BadChild h = refl
+names_line kinds.BadLeaf h = refl
+names_line kinds.Timeline h = refl
+names_line kinds.LineTooLong h = refl
+names_line kinds.Full h = cc
+names_line kinds.Memory h = cc
+names_line kinds.Spent h = cc
+names_line kinds.NoRuleLine h = refl
+names_line kinds.NoTable h = refl
+names_line kinds.BadDescriptor h = refl
+names_line kinds.UnsupportedNeighborhood h = refl
+names_line kinds.UnsupportedSymmetry h = refl
+names_line kinds.BadVariable h = refl
+names_line kinds.BadTransition h = refl
+names_line kinds.UnboundOutput h = refl
+names_line kinds.NotQuiet h = refl
+names_line kinds.RuleMismatch h = cc
+names_line kinds.NeedsTable h = cc
+names_line kinds.Ambiguous h = refl
+names_line kinds.TooManyCells h = cc
+names_line kinds.GenerationTooLarge h = cc
+names_line kinds.StateBeyondTable h = cc
+names_line kinds.ReadFault h = cc
+names_line kinds.WriteFault h = cc
+names_line kinds.InputTooLong h = cc

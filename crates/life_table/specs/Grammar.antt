@@ -1,0 +1,129 @@
+-- The file of a rule table a second time: what each line is behind the lines before it, without any word of how a fault is named.
+-- Golly Help, "RuleTable", states the table line, the descriptors, the variables and the transitions. This project's own are the
+-- limit of lengths, the order of lines, that each setting is given once and each name is new, and that cells of state 0 stay 0.
+use Rattle.std.specs.Prelude.{◌≡◌, ◌↔◌, ◌⊎◌, ◌≢◌, ℕ, ◌+◌, ◌-◌, ◌^◌, ◌≤◌, min, true, false, List, [], ◌∷◌, ◌++◌, length, codes, Some, None}
+use Rattle.std.specs.List.{AllZip}
+use Rattle.life_base.specs.Text.{is_digit_text, value_of}
+use Rattle.life_table.specs.Valid.{neighbour_count, is_quiet}
+use Rattle.life_table.specs.Reader.{after, nothing_said}
+use Rattle.life_table.specs.Reading.{AreTable, Describes, agree, content, entry_of, is_bound, is_descriptor, is_list, is_passed_over, is_section_line, is_table_line, is_variable_line, is_variable_name, key_of, list_text, name_on, name_text, setting_of, states_listed, transition_words, variable_named, within_braces}
+use Rattle.life_table.specs.declared.said.Said.{Said}
+use Rattle.life_table.specs.declared.said.Section.TheVariants.{Ahead, Open, Behind}
+use Rattle.life_table.specs.declared.said.Told.{Told}
+use Rattle.life_table.specs.declared.said.Told.TheVariants.{Nothing, RuleName, TableOpens, TableEnds, States, Neighbors, Orders, Variable, Line}
+use Rattle.life_table.specs.declared.table.Neighborhood.{Neighborhood}
+use Rattle.life_table.specs.declared.table.Neighborhood.TheVariants.{VonNeumann, Moore}
+use Rattle.life_table.specs.declared.table.Symmetry.{Symmetry}
+use Rattle.life_table.specs.declared.table.Symmetry.TheVariants.{Identity, Rotate4, Rotate4Reflect, ReflectHorizontal, Permute, Rotate8, Rotate8Reflect}
+use Rattle.life_table.specs.declared.table.Table.{Table}
+use Rattle.life_table.specs.declared.table.Transition.{Transition}
+use Rattle.life_table.specs.declared.table.Var.{Var}
+
+-- ---- the words of descriptors
+
+abbrev pub neighborhood_word : Neighborhood → List ℕ
+neighborhood_word VonNeumann = codes "vonNeumann"
+neighborhood_word Moore = codes "Moore"
+
+abbrev pub symmetry_word : Symmetry → List ℕ
+symmetry_word Identity = codes "none"
+symmetry_word Rotate4 = codes "rotate4"
+symmetry_word Rotate4Reflect = codes "rotate4reflect"
+symmetry_word ReflectHorizontal = codes "reflect_horizontal"
+symmetry_word Permute = codes "permute"
+symmetry_word Rotate8 = codes "rotate8"
+symmetry_word Rotate8Reflect = codes "rotate8reflect"
+
+-- ---- what a line of the table says, without its comment and the whitespace at its ends
+
+-- A descriptor: a key and a setting, with the first colon between them.
+pub record IsDescriptor (text key setting : List ℕ) : Type 0 where
+  pub colon : is_descriptor text ≡ true
+  pub before : key_of text ≡ key
+  pub behind : setting_of text ≡ setting
+
+-- A number of states is a digit text of value 2 to 256.
+pub record IsStates (text : List ℕ) (n : ℕ) : Type 0 where
+  pub digits : List ℕ
+  pub is : IsDescriptor text (codes "n_states") digits
+  pub number : is_digit_text digits ≡ true
+  pub value : value_of digits ≡ n
+  pub least : 2 ≤ n
+  pub most : n ≤ 256
+
+-- A neighbourhood has either spelling of its key.
+pub record IsNeighborhood (text : List ℕ) (neighborhood : Neighborhood) : Type 0 where
+  pub key : List ℕ
+  pub spelled : (key ≡ codes "neighborhood") ⊎ (key ≡ codes "neighbourhood")
+  pub is : IsDescriptor text key (neighborhood_word neighborhood)
+
+-- A variable's line: `var`, a new name, an equals sign and a list in braces, whose entries have these states.
+pub record IsVariableLine (n_states : ℕ) (vars : List Var) (text : List ℕ) (var : Var) : Type 0 where
+  pub colon : is_descriptor text ≡ false
+  pub begins : is_variable_line text ≡ true
+  pub name : var.name ≡ name_text text
+  pub form : is_variable_name var.name ≡ true
+  pub new : variable_named vars var.name ≡ None
+  pub braces : is_list (list_text text) ≡ true
+  pub states : states_listed n_states vars (within_braces (list_text text)) ≡ Some var.states
+
+-- A transition's line: words for the centre, as many neighbours as there are, and the output, each a state or an earlier variable.
+pub record IsTransitionLine (n_states neighbours : ℕ) (vars : List Var) (number : ℕ) (text : List ℕ) (line : Transition) : Type 0 where
+  pub colon : is_descriptor text ≡ false
+  pub begins : is_variable_line text ≡ false
+  pub words : AllZip (λ word entry. entry_of n_states vars word ≡ Some entry) (transition_words text) (line.inputs ++ line.output ∷ [])
+  pub count : length line.inputs ≡ neighbours + 1
+  pub number_is : line.line ≡ number
+  pub bound : is_bound line.inputs line.output ≡ true
+
+-- all three settings were given
+pub record AreGiven (said : Said) (n_states : ℕ) (neighborhood : Neighborhood) (symmetry : Symmetry) : Type 0 where
+  pub states : said.n_states ≡ Some n_states
+  pub neighbours : said.neighborhood ≡ Some neighborhood
+  pub orders : said.symmetry ≡ Some symmetry
+
+-- What a line of the table says behind lines that said this. The settings come once each, in any order, before all else; a
+-- symmetry is listed for the neighbourhood; and no transition lets a cell of state 0 leave it among cells of state 0.
+pub data TextSays (said : Said) (number : ℕ) (text : List ℕ) (told : Told) : Type 0 where
+  states : (n : ℕ) → IsStates text n → said.n_states ≡ None → told ≡ States n → TextSays said number text told
+  neighborhood : (h : Neighborhood) → IsNeighborhood text h → said.neighborhood ≡ None → agree (Some h) said.symmetry ≡ true → told ≡ Neighbors h → TextSays said number text told
+  symmetry : (y : Symmetry) → IsDescriptor text (codes "symmetries") (symmetry_word y) → said.symmetry ≡ None → agree said.neighborhood (Some y) ≡ true → told ≡ Orders y
+      → TextSays said number text told
+  variable : (n : ℕ) (h : Neighborhood) (y : Symmetry) (var : Var) → AreGiven said n h y → IsVariableLine n said.vars text var → told ≡ Variable var → TextSays said number text told
+  transition : (n : ℕ) (h : Neighborhood) (y : Symmetry) (line : Transition) → AreGiven said n h y → IsTransitionLine n (neighbour_count h) said.vars number text line
+      → is_quiet said.vars (said.lines ++ line ∷ []) ≡ true → told ≡ Line line → TextSays said number text told
+
+-- ---- what a line of the file says behind lines that said this
+
+pub data LineSays (said : Said) (number : ℕ) (line : List ℕ) (told : Told) : Type 0 where
+  -- before the rule line: a blank line or a comment
+  passed : said.section ≡ Ahead → said.name ≡ None → is_passed_over line ≡ true → told ≡ Nothing → LineSays said number line told
+  rule_line : (name : List ℕ) → said.section ≡ Ahead → said.name ≡ None → is_passed_over line ≡ false → name_on line ≡ Some name → told ≡ RuleName name → LineSays said number line told
+  -- before the table: a line of another section
+  other : (name : List ℕ) → said.section ≡ Ahead → said.name ≡ Some name → is_table_line line ≡ false → told ≡ Nothing → LineSays said number line told
+  table_line : (name : List ℕ) → said.section ≡ Ahead → said.name ≡ Some name → is_table_line line ≡ true → told ≡ TableOpens → LineSays said number line told
+  -- in the table: a blank line or a comment, or one that says something
+  blank : said.section ≡ Open → is_section_line line ≡ false → content line ≡ [] → told ≡ Nothing → LineSays said number line told
+  says : said.section ≡ Open → is_section_line line ≡ false → content line ≢ [] → TextSays said number (content line) told → LineSays said number line told
+  -- the next section, and whatever comes behind its first line
+  section_line : (n : ℕ) (h : Neighborhood) (y : Symmetry) → said.section ≡ Open → is_section_line line ≡ true → AreGiven said n h y → told ≡ TableEnds → LineSays said number line told
+  behind : said.section ≡ Behind → told ≡ Nothing → LineSays said number line told
+
+-- ---- a file
+
+-- Further lines, the first of which has this number, lead from what was said to this. A number above 2 ^ 64 - 1 is told as that.
+abbrev pub Lead : Said → ℕ → List (List ℕ) → Said → Type 0
+Lead said number [] end = said ≡ end
+Lead said number (line ∷ lines) end =
+    (told : Told) × (length line ≤ 2 ^ 20) × LineSays said number line told × Lead (after said told) (min (number + 1) (2 ^ 64 - 1)) lines end
+
+-- The lines are a file that writes this table: from nothing they lead to its parts, and a table line was among them.
+pub record IsFile (lines : List (List ℕ)) (table : Table) : Type 0 where
+  pub said : Said
+  pub leads : Lead nothing_said 1 lines said
+  pub came : said.section ≢ Ahead
+  pub describes : Describes said table
+
+-- Lines are such a file exactly if no line breaks a rule and nothing is lacking, and then they write the same table.
+abbrev pub GrammarsAgree : Type 0
+GrammarsAgree = (lines : List (List ℕ)) (table : Table) → IsFile lines table ↔ AreTable lines table
