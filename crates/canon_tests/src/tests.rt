@@ -1,0 +1,61 @@
+//! Worked files, with the answers that the formats give.
+
+mod calls;
+mod canonical;
+mod pieces;
+mod refusals;
+mod runs;
+mod stores;
+
+use life_base::{Fault, Kind, Place};
+
+const GLIDER: &[u8] = b"x = 3, y = 3, rule = B3/S23\nbo$2bo$3o!\n";
+
+const GLIDER_TEXT: &[u8] = b"[M2] (canonical 1)\n#R B3/S23\n$$$$.....*$......*$....***$$\n";
+
+const BLANK: &[u8] = b"x = 0, y = 0, rule = 23/3\n!\n";
+
+const BLANK_TEXT: &[u8] = b"[M2] (canonical 1)\n#R B3/S23\n";
+
+const CELL: &[u8] = b"#CXRLE Pos=4,0\nx = 1, y = 1, rule = B3/S23\no!\n";
+
+const CELL_TEXT: &[u8] = b"[M2] (canonical 1)\n#R B3/S23\n....*$$$$$$$$\n4 0 0 0 1\n";
+
+const PAIR: &[u8] = b"#CXRLE Pos=-4,0\nx = 9, y = 1, rule = B3/S23\no7bo!\n";
+
+const PAIR_TEXT: &[u8] = b"[M2] (canonical 1)\n#R B3/S23\n....*$$$$$$$$\n4 0 0 1 1\n";
+
+const WIRES: &[u8] = b"#CXRLE Pos=-1,-1 Gen=7\nx = 2, y = 1, rule = WireWorld\nApA!\n";
+
+const WIRES_TEXT: &[u8] = b"[M2] (canonical 1)\n#R WireWorld\n#G 7\n1 1 25 0 0\n";
+
+/// One cell in the north-west corner of the plane.
+const CORNER: &[u8] =
+    b"#CXRLE Pos=-576460752303423488,-576460752303423488\nx = 1, y = 1, rule = B3/S23\no!\n";
+
+/// A whole row of the plane.
+const ROW: &[u8] = b"#CXRLE Pos=-576460752303423488,0\nx = 1, y = 1\n1152921504606846976o!\n";
+
+/// The square of one cell at (4, 0), and blank squares around it up to level 9.
+const TOWER: &[u8] =
+    b"[M2] (golly 4.2)\n#R B3/S23\n....*$$$$$$$$\n4 1 0 0 0\n5 2 0 0 0\n6 3 0 0 0\n7 4 0 0 0\n8 5 0 0 0\n9 0 0 0 6\n";
+
+/// A line twice, and a line that the root doesn't reach.
+const REPEATS: &[u8] = b"[M2]\n#R B3/S23\n....*$$$$$$$$\n....*$$$$$$$$\n*$$$$$$$$\n4 0 0 1 2\n";
+
+/// The glider with line ends of two bytes.
+const GLIDER_CRLF: &[u8] = b"x = 3, y = 3, rule = B3/S23\r\nbo$2bo$3o!\r\n";
+
+/// The glider without `!`.
+const GLIDER_OPEN: &[u8] = b"x = 3, y = 3, rule = B3/S23\nbo$2bo$3o";
+
+/// More squares than a store may hold in these tests.
+const ROOM: u64 = 1 << 31;
+
+/// A fault of this kind at this line.
+fn fault(line: u64, kind: Kind) -> Fault {
+    Fault {
+        place: Place { line },
+        kind,
+    }
+}

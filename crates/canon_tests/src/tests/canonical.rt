@@ -1,0 +1,132 @@
+//! Canonical texts.
+
+use super::{
+    BLANK, BLANK_TEXT, CELL, CELL_TEXT, CORNER, GLIDER, GLIDER_CRLF, GLIDER_OPEN, GLIDER_TEXT,
+    PAIR, PAIR_TEXT, REPEATS, ROOM, ROW, TOWER, WIRES, WIRES_TEXT,
+};
+use life_canon::canon;
+use life_quad::Shared;
+use std::alloc::Global;
+use std::process::Abort;
+use std::test::Fail;
+
+/// The file has this canonical text, and so has the text.
+fn canonical(rt: &impl Abort, alloc: Global, input: &[u8], text: &[u8]) -> Result<(), Fail> {
+    let mut store = Shared::new(alloc, ROOM);
+    let out = canon(alloc, &mut store, input)?;
+    assert_eq!(rt; out.as_slice(), text);
+    let mut other = Shared::new(alloc, ROOM);
+    let again = canon(alloc, &mut other, text)?;
+    assert_eq!(rt; again.as_slice(), text);
+    Ok(())
+}
+
+#[test]
+fn runs_have_canonical_texts(rt: HostRuntime) -> Result<(), Fail> {
+    let alloc = rt.alloc();
+    canonical(&rt, alloc, GLIDER, GLIDER_TEXT)?;
+    canonical(&rt, alloc, GLIDER_CRLF, GLIDER_TEXT)?;
+    canonical(&rt, alloc, GLIDER_OPEN, GLIDER_TEXT)?;
+    canonical(&rt, alloc, BLANK, BLANK_TEXT)?;
+    canonical(&rt, alloc, CELL, CELL_TEXT)?;
+    canonical(&rt, alloc, PAIR, PAIR_TEXT)?;
+    canonical(&rt, alloc, WIRES, WIRES_TEXT)?;
+    canonical(
+        &rt,
+        alloc,
+        b"x = 3, y = 3\nbo$",
+        b"[M2] (canonical 1)\n#R B3/S23\n$$$$.....*$$$$\n",
+    )?;
+    canonical(
+        &rt,
+        alloc,
+        b"x = 1, y = 1, rule = Foo\nyO!\n",
+        b"[M2] (canonical 1)\n#R Foo\n1 0 0 0 255\n",
+    )
+}
+
+#[test]
+fn node_lines_have_canonical_texts(rt: HostRuntime) -> Result<(), Fail> {
+    let alloc = rt.alloc();
+    // a root of level 9 above blank squares, and leaves made of level 1 and 2
+    canonical(&rt, alloc, TOWER, CELL_TEXT)?;
+    canonical(
+        &rt,
+        alloc,
+        b"[M2]\n1 1 0 0 0\n2 1 0 0 0\n3 0 2 0 0\n4 0 0 0 3\n",
+        CELL_TEXT,
+    )?;
+    canonical(&rt, alloc, REPEATS, PAIR_TEXT)?;
+    // numbers in the order of the walk
+    canonical(
+        &rt,
+        alloc,
+        b"[M2]\n*$\n.*$\n4 2 1 0 0\n",
+        b"[M2] (canonical 1)\n#R B3/S23\n.*$$$$$$$$\n*$$$$$$$$\n4 1 2 0 0\n",
+    )?;
+    // a root below the level of a leaf
+    canonical(
+        &rt,
+        alloc,
+        b"[M2]\n#R B3/S23\n1 1 0 0 0\n",
+        b"[M2] (canonical 1)\n#R B3/S23\n$$$...*$$$$$\n",
+    )?;
+    canonical(&rt, alloc, b"[M2]", BLANK_TEXT)
+}
+
+#[test]
+fn one_rule_has_one_text(rt: HostRuntime) -> Result<(), Fail> {
+    let alloc = rt.alloc();
+    canonical(&rt, alloc, b"x = 0, y = 0, rule = b3s23\n", BLANK_TEXT)?;
+    canonical(&rt, alloc, b"x = 0, y = 0, rule = S32/b3\n", BLANK_TEXT)?;
+    canonical(&rt, alloc, b"x = 0, y = 0, rule = B33/S232\n", BLANK_TEXT)
+}
+
+/// Lines in front, and then a line for each level from 4 on with the number of the line before it in these words.
+fn chain(
+    alloc: Global,
+    front: &[u8],
+    levels: u64,
+    twice: bool,
+    behind: &[u8],
+) -> Result<Vec<u8>, Fail> {
+    let mut text = Vec::new(alloc);
+    text.extend_from_slice(front)?;
+    for number in 1..levels {
+        let level = number.saturating_add(3);
+        let line = if twice {
+            format!(in alloc; "{level} {number} {number} 0 0\n")?
+        } else {
+            format!(in alloc; "{level} {number} 0 0 0\n")?
+        };
+        text.extend_from_slice(line.as_bytes())?;
+    }
+    text.extend_from_slice(behind)?;
+    Ok(text)
+}
+
+#[test]
+fn the_corner_of_the_plane_has_58_lines(rt: HostRuntime) -> Result<(), Fail> {
+    let alloc = rt.alloc();
+    let text = chain(
+        alloc,
+        b"[M2] (canonical 1)\n#R B3/S23\n*$$$$$$$$\n",
+        58,
+        false,
+        b"",
+    )?;
+    canonical(&rt, alloc, CORNER, &text)
+}
+
+#[test]
+fn a_row_of_the_plane_has_58_lines(rt: HostRuntime) -> Result<(), Fail> {
+    let alloc = rt.alloc();
+    let text = chain(
+        alloc,
+        b"[M2] (canonical 1)\n#R B3/S23\n********$$$$$$$$\n",
+        57,
+        true,
+        b"60 0 0 57 57\n",
+    )?;
+    canonical(&rt, alloc, ROW, &text)
+}

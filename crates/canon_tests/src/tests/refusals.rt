@@ -1,0 +1,148 @@
+//! Files that are refused, by their place and kind.
+
+use super::{ROOM, fault};
+use life_base::Kind;
+use life_canon::{canon, read, show, to_rle};
+use life_quad::Shared;
+use std::alloc::Global;
+use std::process::Abort;
+
+/// Every call refuses the file at this line with this kind.
+fn refused(rt: &impl Abort, alloc: Global, input: &[u8], line: u64, kind: Kind) {
+    let mut store = Shared::new(alloc, ROOM);
+    assert_eq!(rt;
+        canon(alloc, &mut store, input).err(),
+        Some(fault(line, kind))
+    );
+    assert_eq!(rt;
+        show(alloc, &mut store, input).err(),
+        Some(fault(line, kind))
+    );
+    assert_eq!(rt;
+        to_rle(alloc, &mut store, input).err(),
+        Some(fault(line, kind))
+    );
+    assert!(rt; matches!(read(alloc, &mut store, input), Err(found) if found == fault(line, kind)));
+}
+
+#[test]
+fn files_without_a_header_are_refused(rt: HostRuntime) {
+    let alloc = rt.alloc();
+    refused(&rt, alloc, b"", 1, Kind::NoHeader);
+    refused(&rt, alloc, b"\n", 2, Kind::NoHeader);
+    refused(&rt, alloc, b"y = 3\n", 1, Kind::NoHeader);
+    refused(&rt, alloc, b"[M2", 1, Kind::NoHeader);
+}
+
+#[test]
+fn positions_beyond_the_plane_are_refused(rt: HostRuntime) {
+    let alloc = rt.alloc();
+    refused(
+        &rt,
+        alloc,
+        b"#CXRLE Pos=576460752303423488,0\n",
+        1,
+        Kind::OutOfPlane,
+    );
+}
+
+#[test]
+fn rules_are_refused(rt: HostRuntime) {
+    let alloc = rt.alloc();
+    refused(
+        &rt,
+        alloc,
+        b"x = 0, y = 0, rule = B03/S23\n",
+        1,
+        Kind::BirthOnZero,
+    );
+    refused(
+        &rt,
+        alloc,
+        b"x = 0, y = 0, rule = B3/S23:T30,20\n",
+        1,
+        Kind::BoundedGrid,
+    );
+    refused(
+        &rt,
+        alloc,
+        b"x = 0, y = 0, rule = 345/2/4\n",
+        1,
+        Kind::UnsupportedRule,
+    );
+    refused(
+        &rt,
+        alloc,
+        b"x = 0, y = 0, rule = B3S23V\n",
+        1,
+        Kind::UnsupportedRule,
+    );
+}
+
+#[test]
+fn node_lines_are_refused(rt: HostRuntime) {
+    let alloc = rt.alloc();
+    refused(
+        &rt,
+        alloc,
+        b"[M2]\n#R B3/S23\n....*$$$$$$$$\n4 0 0 0 9\n",
+        4,
+        Kind::BadChild,
+    );
+    refused(
+        &rt,
+        alloc,
+        b"[M2]\n#R B3/S23\n....*$$$$$$$$\n4 0 0",
+        4,
+        Kind::BadNode,
+    );
+    refused(&rt, alloc, b"[M2]\n#FRAMES 10 0 1\n", 2, Kind::Timeline);
+}
+
+#[test]
+fn items_are_refused(rt: HostRuntime) {
+    let alloc = rt.alloc();
+    refused(
+        &rt,
+        alloc,
+        b"x = 1, y = 1, rule = Foo\nyP!\n",
+        2,
+        Kind::BadItem,
+    );
+    refused(
+        &rt,
+        alloc,
+        b"x = 1, y = 1, rule = B3/S23\nB!\n",
+        2,
+        Kind::StateRange,
+    );
+    refused(
+        &rt,
+        alloc,
+        b"x = 1, y = 1, rule = B3/S23\n0o!\n",
+        2,
+        Kind::ZeroCount,
+    );
+    refused(
+        &rt,
+        alloc,
+        b"x = 1, y = 1, rule = B3/S23\n3!\n",
+        2,
+        Kind::BadItem,
+    );
+    refused(
+        &rt,
+        alloc,
+        b"x = 1, y = 1, rule = B3/S23\n2 o!\n",
+        2,
+        Kind::BadItem,
+    );
+    refused(
+        &rt,
+        alloc,
+        b"x = 1, y = 1, rule = B3/S23\n1152921504606846977b!\n",
+        2,
+        Kind::TooLarge,
+    );
+    refused(&rt, alloc, b"x = 3, y = 3\nbo$2", 2, Kind::BadItem);
+}

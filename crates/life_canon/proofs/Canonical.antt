@@ -1,0 +1,321 @@
+-- The canonical file has the cells of its pattern, and depends on them alone.
+use Rattle.std.proofs.Common.{◌≡◌, ℕ, zero, suc, ◌+◌, ◌-◌, ◌^◌, ◌<◌, ◌≤◌, Bool, true, false, cond, ◌&&◌, ◌||◌, List, [], ◌∷◌, ◌++◌, length, get_or, refl, ap, sym, ◌∙◌, subst, arith, ◌⊎◌, inl, inr, ℤ, pos, ◌+ℤ◌, length-append, add-one}
+use Rattle.std.specs.Prelude.{nat_lt}
+use Rattle.std.proofs.lemmas.Bool.Decides.{nat_tests}
+use Rattle.std.proofs.lemmas.List.{get_or-map}
+use Rattle.std.proofs.Math.Seq.{get_or-append_seam}
+use Rattle.life_base.specs.Rules.{IsRule}
+use Rattle.life_base.specs.Tree.{Tree, point, quad, depth, blank, tree_cell, is_blank_tree as is_blank}
+use Rattle.life_base.specs.declared.rule.Rule.{Rule}
+use Rattle.life_base.specs.declared.rule.Rule.TheVariants.{Life, Named}
+use Rattle.life_mc.specs.Macrocell.{Macrocell, IsValid, AreSquares, level_of, largest_state}
+use Rattle.life_mc.specs.Cells.{cell as macrocell_cell, cell_of, root_level}
+use Rattle.life_mc.specs.Squares.{tree_of, root_tree}
+use Rattle.life_mc.specs.declared.line.Line.{Line}
+use Rattle.life_mc.specs.declared.line.Line.TheVariants.{Leaf, Quad}
+use Rattle.life_mc.proofs.Squares.{lines_stand_for_squares}
+use Rattle.life_quad.specs.Moves.{trimmed}
+use Rattle.life_canon.specs.Universe.{Universe, IsSame, macrocell_universe, least_level, square, corner, centred, whole, IsWithin, IsBlankOutside, IsOnPlane}
+use Rattle.life_canon.specs.Listing.{same_tree, is_small, walk, is_in, with_all, listed, place, number_of, line_of, lines_for, square_file, canonical_file}
+use Rattle.life_canon.proofs.TreeWords.{HasDepth, point_depth, quad_depth, StatesBelow, is_within, trimmed_to}
+use Rattle.life_canon.proofs.LineWords.{state_bound, line_at, IsValidLine, AreValidLines}
+use Rattle.life_canon.proofs.LineFacts.{squares-valid, valid-squares, root_level-last}
+use Rattle.life_canon.proofs.Trees.{bool_cases, true_false, and_left, and_right, and_both, depth_is, same_tree-refl, is_within-true, is_within-is, centred-depth, trimmed-centred, square-same, square-blank, centred_same-cells, is_blank-blank, centred-trimmed}
+use Rattle.life_canon.proofs.ListFacts.{with_new-fresh, with_all-from}
+use Rattle.life_canon.proofs.Walk.{listed-itself, listed-quarters, walk-level, walk-small, with_walk}
+use Rattle.life_canon.proofs.Content.{tree_of-number, lines_for-valid, least-one, length-lines_for, level-line_of, number-place, not_small}
+use Rattle.life_canon.proofs.Planes.{full-depth, states-below, trimmed-is, centred-tree_cell, tree_cell-outside, tree_cell-below, below-upto}
+
+-- ---- a square stands last in its list
+
+point-not_big : (m s : ℕ) → 1 ≤ m → is_small m (point s) ≡ false → ⊥
+point-not_big m s le h = grind (arith, nat_tests)
+
+-- a part of a smaller square is another square
+deeper : (m : ℕ) {k : ℕ} {t : Tree} (s : Tree) → HasDepth k t → HasDepth (suc k) s → is_in (walk t m) s ≡ true → ⊥
+deeper m {k = k} s h hs i =
+    let l : depth s ≤ k = walk-level m s h i in
+    let e : depth s ≡ suc k = depth_is hs in
+    omega arith
+
+pub record IsLast (all : List Tree) (t : Tree) : Type 0 where
+  pub front : List Tree
+  pub is : all ≡ front ++ t ∷ []
+  pub fresh : is_in front t ≡ false
+
+pub listed-last : (m : ℕ) {k : ℕ} {t : Tree} → 1 ≤ m → HasDepth k t → is_small m t ≡ false → IsLast (listed t m) t
+unfolding listed
+listed-last m le (point_depth {state = s}) h = absurd (point-not_big m s le h)
+listed-last m le (quad_depth {k = k} {nw = a} {ne = b} {sw = c} {se = d} p q r s) h =
+    let la : List Tree = with_all [] (walk a m) in
+    let lb : List Tree = with_all la (walk b m) in
+    let lc : List Tree = with_all lb (walk c m) in
+    let ld : List Tree = with_all lc (walk d m) in
+    let t : Tree = quad a b c d in
+    let ht : HasDepth (suc k) t = quad_depth p q r s in
+    let fresh : is_in ld t ≡ false = elim (bool_cases (is_in ld t)) [
+      | inr e ↦ e
+      | inl e ↦ absurd (elim (with_all-from lc (walk d m) t e) [
+        | inr i ↦ deeper m t s ht i
+        | inl e ↦ elim (with_all-from lb (walk c m) t e) [
+          | inr i ↦ deeper m t r ht i
+          | inl e ↦ elim (with_all-from la (walk b m) t e) [
+            | inr i ↦ deeper m t q ht i
+            | inl e ↦ elim (with_all-from [] (walk a m) t e) [
+              | inr i ↦ deeper m t p ht i
+              | inl e ↦ true_false false e refl
+            ]
+          ]
+        ]
+      ])
+    ] in
+    record { front = ld; is = with_walk [] a b c d m h ∙ with_new-fresh ld t fresh; fresh = fresh }
+
+or_parts : (a b : Bool) → (a || b) ≡ false → (a ≡ false) × (b ≡ false)
+or_parts true b h = absurd (true_false true refl h)
+or_parts false b h = (refl, h)
+
+same_itself : (t : Tree) → same_tree t t ≡ true
+same_itself t = same_tree-refl t
+
+place-last : (front : List Tree) (t : Tree) → is_in front t ≡ false → place (front ++ t ∷ []) t ≡ length front
+place-last [] t h = rw (same_itself t) refl
+place-last (x ∷ xs) t h = let p = or_parts (same_tree x t) (is_in xs t) h in rw p.0 (ap suc (place-last xs t p.1))
+
+-- ---- the cells of a valid macrocell file
+
+-- what holds of the root of a file with node lines
+pub record IsRooted (file : Macrocell) : Type 0 where
+  pub level : ℕ
+  pub is : root_level file.lines ≡ suc level
+  pub depth_of : HasDepth (suc level) (root_tree file.lines)
+  pub states : StatesBelow (state_bound file.rule) (root_tree file.lines)
+  pub cells : centred (macrocell_cell file) (suc level) ≡ root_tree file.lines
+  pub outside : IsBlankOutside (suc level) (macrocell_cell file)
+
+pub level-positive : (top : ℕ) (rule : Rule) (lines : List Line) (i : ℕ) (line : Line) → IsValidLine top rule lines i line → (1 ≤ level_of line)
+level-positive top rule lines i (Leaf rows) v = omega arith
+level-positive top rule lines i (Quad level a b c d) v = v.0
+
+pub level-most : (top : ℕ) (rule : Rule) (lines : List Line) (i : ℕ) (line : Line) → 3 ≤ top → IsValidLine top rule lines i line → level_of line ≤ top
+level-most top rule lines i (Leaf rows) h v = h
+level-most top rule lines i (Quad level a b c d) h v = v.1
+
+one_less : (n : ℕ) → 1 ≤ n → n ≡ suc (n - 1)
+one_less n h = omega arith
+
+last-valid : (top : ℕ) (file : Macrocell) → IsValid top file → 0 < length file.lines → IsValidLine top file.rule file.lines (length file.lines - 1) (line_at file.lines (length file.lines - 1))
+last-valid top file v h = squares-valid top file.rule file.lines v.squares (length file.lines - 1) (omega arith)
+
+pub root-positive : (top : ℕ) (file : Macrocell) → IsValid top file → 0 < length file.lines → 1 ≤ root_level file.lines
+root-positive top file v h = subst (λ n. 1 ≤ n) (sym (root_level-last file.lines h)) (level-positive top file.rule file.lines _ _ (last-valid top file v h))
+
+pub root-most : (top : ℕ) (file : Macrocell) → 3 ≤ top → IsValid top file → 0 < length file.lines → root_level file.lines ≤ top
+root-most top file high v h = subst (λ n. n ≤ top) (sym (root_level-last file.lines h)) (level-most top file.rule file.lines _ _ high (last-valid top file v h))
+
+pub rooted : (top : ℕ) (file : Macrocell) → IsValid top file → 0 < length file.lines → IsRooted file
+unfolding centred
+rooted top file v h =
+    let s = lines_stand_for_squares top file v in
+    let e : root_level file.lines ≡ suc (root_level file.lines - 1) = one_less _ (root-positive top file v h) in
+    let k : ℕ = root_level file.lines - 1 in
+    let t : Tree = root_tree file.lines in
+    let d : HasDepth (suc k) t = subst (λ n. HasDepth n t) (s.root.depth_is ∙ e) (full-depth t s.root.full) in
+    record {
+      level = k;
+      is = e;
+      depth_of = d;
+      states = states-below (largest_state file.rule) t s.root.states;
+      cells = square-same (macrocell_cell file) (tree_cell t) s.plane (suc k) (corner (suc k)) (corner (suc k)) ∙ centred-tree_cell d;
+      outside = λ x y n. s.plane x y ∙ tree_cell-outside d x y n;
+    }
+
+pub no-lines : (file : Macrocell) → length file.lines ≡ 0 → (x y : ℤ) → macrocell_cell file x y ≡ 0
+no-lines file h x y = by file.lines h
+  where
+    by : (lines : List Line) → length lines ≡ 0 → cell_of lines x y ≡ 0
+    by [] h = refl
+    by (line ∷ lines) h = absurd (omega arith)
+
+-- ---- the canonical file
+
+pub square-states : (f : ℤ → ℤ → ℕ) (bound : ℕ) → ((x y : ℤ) → f x y < bound) → (k : ℕ) (x y : ℤ) → StatesBelow bound (square f k x y)
+unfolding square
+square-states f bound h zero x y = h x y
+square-states f bound h (suc k) x y = (square-states f bound h k _ _, square-states f bound h k _ _, square-states f bound h k _ _, square-states f bound h k _ _)
+
+pub centred-states : (f : ℤ → ℤ → ℕ) (bound : ℕ) → ((x y : ℤ) → f x y < bound) → (k : ℕ) → StatesBelow bound (centred f k)
+unfolding centred
+centred-states f bound h k = square-states f bound h k (corner k) (corner k)
+
+-- what is known of the whole of a pattern
+pub record IsWhole (top : ℕ) (u : Universe) (t : Tree) : Type 0 where
+  pub level : ℕ
+  pub least : least_level u.rule ≤ suc level
+  pub most : suc level ≤ top
+  pub is : t ≡ centred u.cell (suc level)
+  pub depth_of : HasDepth (suc level) t
+  pub states : StatesBelow (state_bound u.rule) t
+  pub outside : IsBlankOutside (suc level) u.cell
+
+pub whole-trimmed : (top : ℕ) (u : Universe) → whole top u ≡ trimmed_to (centred u.cell top) (least_level u.rule)
+unfolding whole
+whole-trimmed top u = trimmed-is (least_level u.rule) (centred-depth u.cell top) (least-one u.rule)
+
+pub whole-is : (top : ℕ) (u : Universe) → least_level u.rule ≤ suc top → IsOnPlane (suc top) u → IsWhole (suc top) u (whole (suc top) u)
+whole-is top u le h =
+    let t = trimmed-centred u.cell (least_level u.rule) top (least-one u.rule) le h.outside in
+    let e : whole (suc top) u ≡ centred u.cell (suc t.level) = whole-trimmed (suc top) u ∙ t.is in
+    record {
+      level = t.level;
+      least = t.least;
+      most = omega (arith, t.most);
+      is = e;
+      outside = t.outside;
+      depth_of = subst (HasDepth (suc t.level)) (sym e) (centred-depth u.cell (suc t.level));
+      states = subst (StatesBelow (state_bound u.rule)) (sym e) (centred-states u.cell (state_bound u.rule) (λ x y. below-upto (u.cell x y) (largest_state u.rule) (h.states x y)) (suc t.level));
+    }
+
+pub square_file-valid : (top : ℕ) (rule : Rule) (generation : ℕ) {k : ℕ} (t : Tree) → IsRule rule → generation < 2 ^ 64 → k ≤ top → HasDepth k t → StatesBelow (state_bound rule) t
+    → IsValid top (square_file rule generation t)
+square_file-valid top rule generation t r g le h s =
+    record { rule = r; generation = g; squares = valid-squares top rule _ (lines_for-valid top rule t le h s) }
+
+pub canonical-valid : (top : ℕ) (u : Universe) → least_level u.rule ≤ suc top → IsOnPlane (suc top) u → IsValid (suc top) (canonical_file (suc top) u)
+unfolding canonical_file
+canonical-valid top u le h =
+    let w = whole-is top u le h in
+    square_file-valid (suc top) u.rule u.generation (whole (suc top) u) h.rule h.generation w.most w.depth_of w.states
+
+-- two planes with one square in the middle, and blank outside
+pub same-cells : (f g : ℤ → ℤ → ℕ) (k : ℕ) → centred f k ≡ centred g k → IsBlankOutside k f → IsBlankOutside k g → (x y : ℤ) → f x y ≡ g x y
+same-cells f g k e p q x y = elim (bool_cases (is_within k x && is_within k y)) [
+  | inl i ↦ centred_same-cells f g k e x y (is_within-true k x (and_left (is_within k x) (is_within k y) i)) (is_within-true k y (and_right (is_within k x) (is_within k y) i))
+  | inr i ↦
+      let n : ¬ (IsWithin k x × IsWithin k y) = λ w. true_false _ (and_both _ _ (is_within-is k x w.0) (is_within-is k y w.1)) i in
+      p x y n ∙ sym (q x y n)
+]
+
+pub nowhere : ℤ → ℤ → ℕ
+nowhere x y = 0
+
+pub centred-nowhere : (k : ℕ) → centred nowhere k ≡ blank k
+unfolding centred nowhere
+centred-nowhere k = square-blank nowhere k (corner k) (corner k) (λ i j p q. refl)
+
+nowhere-outside : (k : ℕ) → IsBlankOutside k nowhere
+unfolding nowhere
+nowhere-outside k x y n = refl
+
+pub nowhere-zero : (x y : ℤ) → nowhere x y ≡ 0
+unfolding nowhere
+nowhere-zero x y = refl
+
+or_first : (a b : Bool) → a ≡ true → (a || b) ≡ true
+or_first a b h = grind arith
+
+pub listed-blank : (t : Tree) (m : ℕ) → is_blank t ≡ true → listed t m ≡ []
+unfolding listed
+listed-blank t m h = ap (with_all []) (walk-small t m (or_first _ _ h))
+
+-- the last line of a list of squares, and what its number stands for
+number-last : (all : List Tree) {k : ℕ} {t : Tree} → HasDepth (suc k) t → is_blank t ≡ false → IsLast all t → number_of all t ≡ length all
+number-last all (quad_depth {nw = a} {ne = b} {sw = c} {se = d} p q r s) h l =
+    number-place all a b c d h ∙ ap suc (ap (λ v. place v (quad a b c d)) l.is ∙ place-last l.front (quad a b c d) l.fresh)
+    ∙ sym (ap length l.is ∙ length-append l.front (quad a b c d ∷ []) ∙ add-one (length l.front))
+
+less_one : (n : ℕ) → suc n - 1 ≡ n
+less_one n = omega arith
+
+root_level-of : (rule : Rule) (all : List Tree) (t : Tree) → IsLast all t → root_level (lines_for rule all) ≡ depth t
+root_level-of rule all t l =
+    let n : length all ≡ suc (length l.front) = ap length l.is ∙ length-append l.front (t ∷ []) ∙ add-one (length l.front) in
+    let m : length (lines_for rule all) ≡ suc (length l.front) = length-lines_for rule all ∙ n in
+    let i : length (lines_for rule all) - 1 ≡ length l.front = ap (λ v. v - 1) m ∙ less_one (length l.front) in
+    root_level-last (lines_for rule all) (subst (λ v. 0 < v) (sym m) (omega arith))
+    ∙ ap (λ v. level_of (line_at (lines_for rule all) v)) i
+    ∙ ap level_of (get_or-map (line_of rule all) all (length l.front) (point 0) (Leaf []) (omega arith))
+    ∙ ap (λ v. level_of (line_of rule all (get_or v (length l.front) (point 0)))) l.is
+    ∙ ap (λ v. level_of (line_of rule all v)) (get_or-append_seam l.front t [] (point 0))
+    ∙ level-line_of rule all t
+
+-- the root of the lines of a nonblank square is that square
+pub record IsRootOf (rule : Rule) (generation : ℕ) (k : ℕ) (t : Tree) : Type 0 where
+  pub some : 0 < length (lines_for rule (listed t (least_level rule)))
+  pub level : root_level (lines_for rule (listed t (least_level rule))) ≡ suc k
+  pub root : root_tree (lines_for rule (listed t (least_level rule))) ≡ t
+
+pub square_file-root : (rule : Rule) (generation : ℕ) {k : ℕ} {t : Tree} → least_level rule ≤ suc k → HasDepth (suc k) t → StatesBelow (state_bound rule) t → is_blank t ≡ false
+    → IsRootOf rule generation k t
+square_file-root rule generation {k = k} {t = t} le h g b =
+    let all : List Tree = listed t (least_level rule) in
+    let lines : List Line = lines_for rule all in
+    let small : is_small (least_level rule) t ≡ false = not_small (least_level rule) t (suc k) (depth_is h) le b in
+    let last : IsLast all t = listed-last (least_level rule) (least-one rule) h small in
+    let n : number_of all t ≡ length lines = number-last all h b last ∙ sym (length-lines_for rule all) in
+    let r : root_level lines ≡ suc k = root_level-of rule all t last ∙ depth_is h in
+    let e : tree_of lines (suc k) (length lines) ≡ t = ap (tree_of lines (suc k)) (sym n) ∙ tree_of-number rule all (λ s i. listed-quarters t (least_level rule) s (least-one rule) i) h g (λ z. le) (listed-itself t (least_level rule) (least-one rule)) in
+    record {
+      some = subst (λ z. 0 < z) (sym (length-lines_for rule all ∙ ap length last.is ∙ length-append last.front (t ∷ []) ∙ add-one (length last.front))) (omega arith);
+      level = r;
+      root = ap (λ z. tree_of lines z (length lines)) r ∙ e;
+    }
+
+pub canonical-cells : (top : ℕ) (u : Universe) → least_level u.rule ≤ suc top → IsOnPlane (suc top) u → (x y : ℤ) → u.cell x y ≡ macrocell_cell (canonical_file (suc top) u) x y
+unfolding canonical_file
+canonical-cells top u le h x y =
+    let w = whole-is top u le h in
+    let t = whole (suc top) u in
+    let file : Macrocell = square_file u.rule u.generation t in
+    elim (bool_cases (is_blank t)) [
+      | inl b ↦
+          let e : centred u.cell (suc w.level) ≡ centred nowhere (suc w.level) = sym w.is ∙ is_blank-blank w.depth_of b ∙ sym (centred-nowhere (suc w.level)) in
+          let n : length file.lines ≡ 0 = length-lines_for u.rule (listed t (least_level u.rule)) ∙ ap length (listed-blank t (least_level u.rule) b) in
+          same-cells u.cell nowhere (suc w.level) e w.outside (nowhere-outside (suc w.level)) x y ∙ nowhere-zero x y ∙ sym (no-lines file n x y)
+      | inr b ↦
+          let r = square_file-root u.rule u.generation w.least w.depth_of w.states b in
+          let v : IsValid (suc top) file = square_file-valid (suc top) u.rule u.generation t h.rule h.generation w.most w.depth_of w.states in
+          let s = rooted (suc top) file v r.some in
+          let l : s.level ≡ w.level = suc_same s.level w.level (sym s.is ∙ r.level) in
+          let c : centred (macrocell_cell file) (suc w.level) ≡ t = subst (λ z. centred (macrocell_cell file) (suc z) ≡ root_tree file.lines) l s.cells ∙ r.root in
+          let o : IsBlankOutside (suc w.level) (macrocell_cell file) = subst (λ z. IsBlankOutside (suc z) (macrocell_cell file)) l s.outside in
+          same-cells u.cell (macrocell_cell file) (suc w.level) (sym w.is ∙ sym c) w.outside o x y
+    ]
+  where
+    suc_same : (m n : ℕ) → suc m ≡ suc n → m ≡ n
+    suc_same m n e = omega arith
+
+-- a pattern and its canonical file are the same
+pub canonical-same : (top : ℕ) (u : Universe) → least_level u.rule ≤ suc top → IsOnPlane (suc top) u → IsSame u (macrocell_universe (canonical_file (suc top) u))
+unfolding canonical_file
+canonical-same top u le h = record { rule = refl; generation = refl; cells = canonical-cells top u le h }
+
+-- ---- the canonical file depends on the pattern alone
+
+pub same-whole : (top : ℕ) (u v : Universe) → IsSame u v → whole top u ≡ whole top v
+unfolding whole centred
+same-whole top u v s =
+    ap (λ r. trimmed (square u.cell top (corner top) (corner top)) (least_level r)) s.rule ∙ ap (λ t. trimmed t (least_level v.rule)) (square-same u.cell v.cell s.cells top (corner top) (corner top))
+
+pub same-canonical : (top : ℕ) (u v : Universe) → IsSame u v → canonical_file top u ≡ canonical_file top v
+unfolding canonical_file
+same-canonical top u v s =
+    let w = same-whole top u v s in
+    λ i. square_file (s.rule i) (s.generation i) (w i)
+
+pub same-sym : (u v : Universe) → IsSame u v → IsSame v u
+same-sym u v s = record { rule = sym s.rule; generation = sym s.generation; cells = λ x y. sym (s.cells x y) }
+
+pub same-trans : (u v w : Universe) → IsSame u v → IsSame v w → IsSame u w
+same-trans u v w s t = record { rule = s.rule ∙ t.rule; generation = s.generation ∙ t.generation; cells = λ x y. s.cells x y ∙ t.cells x y }
+
+-- a wider plane gives the same canonical file
+pub canonical-wider : (n top : ℕ) (u : Universe) → least_level u.rule ≤ suc top → IsOnPlane (suc top) u → canonical_file (suc (n + top)) u ≡ canonical_file (suc top) u
+unfolding canonical_file
+canonical-wider n top u le h =
+    ap (square_file u.rule u.generation)
+    (whole-trimmed (suc (n + top)) u ∙ centred-trimmed u.cell (least_level u.rule) n top (least-one u.rule) le h.outside ∙ sym (whole-trimmed (suc top) u))
+
+pub least-high : (rule : Rule) (top : ℕ) → 3 ≤ top → least_level rule ≤ top
+least-high (Life sets) top h = h
+least-high (Named name) top h = omega arith

@@ -1,0 +1,107 @@
+-- The square of a number of a node line, among the squares of the lines before it.
+use Rattle.std.proofs.Common.{◌≡◌, ℕ, zero, suc, ◌+◌, ◌-◌, ◌*◌, ◌%◌, ◌^◌, ◌<◌, ◌≤◌, Bool, true, false, List, [], ◌∷◌, length, take, map, get_or, refl, ap, sym, ◌∙◌, subst, arith, ◌⊎◌, inl, inr, Some, add-one}
+use Rattle.std.specs.Prelude.{slice_get, ◌==◌}
+use Rattle.std.proofs.lemmas.Bool.Decides.{nat_tests}
+use Rattle.std.proofs.Math.Pow.{pow_mono}
+use Rattle.std.proofs.lemmas.Option.{slice_get-get_or}
+use Rattle.life_base.specs.Tree.{Tree, quad, depth}
+use Rattle.life_base.specs.declared.cell.TheConstants.{MAX_LEVEL}
+use Rattle.life_base.specs.declared.rule.Rule.{Rule}
+use Rattle.life_base.specs.declared.rule.Rule.TheVariants.{Life, Named}
+use Rattle.life_mc.specs.Macrocell.{level_of, is_quarter, largest_state, IsSquare}
+use Rattle.life_mc.specs.Squares.{tree_at, tree_of}
+use Rattle.life_mc.specs.declared.line.Line.{Line}
+use Rattle.life_mc.specs.declared.line.Line.TheVariants.{Quad}
+use Rattle.life_quad.specs.declared.id.Id.{Id}
+use Rattle.life_canon.specs.Filling.{AreSquaresOf}
+use Rattle.life_canon.proofs.LineWords.{state_bound, line_at, IsQuarter}
+use Rattle.life_canon.proofs.LineFacts.{get-line_at, quarter-test, four-of}
+
+few-states : (rule : Rule) → largest_state rule ≤ 255
+few-states (Life sets) = omega arith
+few-states (Named name) = omega arith
+
+take-all : (lines : List Line) → take (length lines) lines ≡ lines
+take-all [] = refl
+take-all (line ∷ lines) = ap (λ l. line ∷ l) (take-all lines)
+
+quarter-of : (rule : Rule) (lines : List Line) (level number : ℕ) → is_quarter rule (map level_of lines) (level + 1) number ≡ true → IsQuarter rule lines (length lines) level number
+quarter-of rule lines level number h =
+    quarter-test rule lines (length lines) level number (same (length lines))
+    (subst (λ ls. is_quarter rule (map level_of ls) (suc level) number ≡ true) (sym (take-all lines)) (subst (λ n. is_quarter rule (map level_of lines) n number ≡ true) (add-one level) h))
+  where
+    same : (n : ℕ) → n ≤ n
+    same n = omega arith
+
+-- at level 0 the number is a state
+pub state-small : (rule : Rule) (lines : List Line) (level number : ℕ) → level ≡ 0 → is_quarter rule (map level_of lines) (level + 1) number ≡ true → number < 256
+state-small rule lines zero number e h = let q = quarter-of rule lines 0 number h in omega (arith, q, few-states rule)
+state-small rule lines (suc level) number e h = absurd (omega arith)
+
+-- above, a number that isn't 0 has an Id, which names its square
+pub record HasId (knows : Id → Type 0) (content : Id → Tree) (lines : List Line) (ids : List Id) (level number : ℕ) (d : Id) : Type 0 where
+  pub index : number - 1 < length ids
+  pub known : knows (get_or ids (number - 1) d)
+  pub square : content (get_or ids (number - 1) d) ≡ tree_of lines level number
+  pub level_of_it : depth (content (get_or ids (number - 1) d)) ≡ level
+
+pub has-id : (knows : Id → Type 0) (content : Id → Tree) (rule : Rule) (lines : List Line) (ids : List Id) (level number : ℕ) (d : Id) → 0 < level → 0 < number
+    → is_quarter rule (map level_of lines) (level + 1) number ≡ true → AreSquaresOf knows content lines ids → HasId knows content lines ids level number d
+has-id knows content rule lines ids zero number d l n h s = absurd (omega arith)
+has-id knows content rule lines ids (suc level) number d l n h s = by (quarter-of rule lines (suc level) number h)
+  where
+    by : IsQuarter rule lines (length lines) (suc level) number → HasId knows content lines ids (suc level) number d
+    by (inl e) = absurd (omega arith)
+    by (inr c) =
+        let j = number - 1 in
+        let lt : j < length lines = omega (arith, c.1) in
+        let li : j < length ids = omega (arith, s.count) in
+        let i : suc j ≡ number = omega arith in
+        let e = s.each j (get_or ids j d) (line_at lines j) (slice_get-get_or ids j d li) (get-line_at lines j lt) in
+        record { index = li; known = e.0; square = e.1 ∙ ap (λ k. tree_of lines k (suc j)) c.2 ∙ ap (tree_of lines (suc level)) i; level_of_it = e.2 ∙ c.2 }
+
+pub some-of : (n : ℕ) → ¬ (n ≡ 0) → 0 < n
+some-of n h = omega arith
+
+-- half of a side
+pub halves : (level : ℕ) → 1 ≤ level → 2 ^ level ≡ 2 ^ (level - 1) + 2 ^ (level - 1)
+halves zero h = absurd (omega arith)
+halves (suc k) h = let e : suc k - 1 ≡ k = omega arith in rw e (omega arith)
+
+-- a square of a leaf is made of its four quarters
+pub part-quarters : (f : ℕ → ℕ → ℕ) (level column row half : ℕ) → 1 ≤ level → half ≡ 2 ^ (level - 1)
+    → tree_at f level column row
+    ≡ quad (tree_at f (level - 1) column row) (tree_at f (level - 1) (column + half) row) (tree_at f (level - 1) column (row + half)) (tree_at f (level - 1) (column + half) (row + half))
+part-quarters f zero column row half h e = absurd (omega arith)
+part-quarters f (suc k) column row half h e =
+    let p : k ≡ suc k - 1 = omega arith in
+    let q : 2 ^ k ≡ half = ap (λ n. 2 ^ n) p ∙ sym e in
+    λ i. quad (tree_at f (p i) column row) (tree_at f (p i) (column + q i) row) (tree_at f (p i) column (row + q i)) (tree_at f (p i) (column + q i) (row + q i))
+
+-- half of a side as the code shifts it
+pub half-is : (level : ℕ) → 1 ≤ level → level ≤ 3 → (1 * 2 ^ (level - 1)) % 256 ≡ 2 ^ (level - 1)
+half-is level low high = let p = pow_mono {i = level - 1} {j = 2} (omega arith) in small (2 ^ (level - 1)) (omega (arith, p))
+  where
+    small : (n : ℕ) → n ≤ 4 → (1 * n) % 256 ≡ n
+    small n h = omega arith
+
+-- the numbers of a node line above the leaves, each that of a quarter one level lower
+pub record Numbers (rule : Rule) (levels : List ℕ) (level a b c d : ℕ) : Type 0 where
+  pub low : 1 ≤ level
+  pub high : level ≤ MAX_LEVEL
+  pub nw : is_quarter rule levels ((level - 1) + 1) a ≡ true
+  pub ne : is_quarter rule levels ((level - 1) + 1) b ≡ true
+  pub sw : is_quarter rule levels ((level - 1) + 1) c ≡ true
+  pub se : is_quarter rule levels ((level - 1) + 1) d ≡ true
+
+pub numbers-of : (rule : Rule) (levels : List ℕ) (line : Line) (level nw ne sw se : ℕ) → line ≡ Quad level nw ne sw se → IsSquare MAX_LEVEL rule levels line → Numbers rule levels level nw ne sw se
+numbers-of rule levels line level nw ne sw se e h = by (subst (IsSquare MAX_LEVEL rule levels) e h)
+  where
+    back : (n : ℕ) → 1 ≤ n → n ≡ (n - 1) + 1
+    back n l = omega arith
+
+    by : IsSquare MAX_LEVEL rule levels (Quad level nw ne sw se) → Numbers rule levels level nw ne sw se
+    by s =
+        let four = four-of (is_quarter rule levels level) nw ne sw se s.2 in
+        let into = λ (number : ℕ) (t : is_quarter rule levels level number ≡ true). subst (λ n. is_quarter rule levels n number ≡ true) (back level s.0) t in
+        record { low = s.0; high = s.1; nw = into nw four.first; ne = into ne four.second; sw = into sw four.third; se = into se four.fourth }

@@ -1,0 +1,498 @@
+-- The front of a file: what its lines are as bytes come, and why it is refused.
+use Rattle.std.proofs.Common.{◌≡◌, ℕ, suc, ◌+◌, ◌-◌, ◌^◌, ◌<◌, ◌≤◌, min, Bool, true, false, cond, List, [], ◌∷◌, ◌++◌, length, take, drop, refl, ap, sym, ◌∙◌, subst, arith, ◌⊎◌, inl, inr, Some, None, append_assoc}
+use Rattle.std.specs.Prelude.{MatchBool, nat_lt, IsTrue, ◌==◌, position, Result, Ok, Err, IfErr}
+use Rattle.std.specs.List.{slice_index_or}
+use Rattle.std.proofs.lemmas.Bool.Decides.{nat_tests}
+use Rattle.std.proofs.lemmas.List.{append-nil, take-append-le, length-append}
+use Rattle.std.proofs.Math.Seq.{take-append_seam, get_or-append_seam}
+use Rattle.life_base.specs.Lines.{has_no_feed, whole_lines, rest_line, one_line}
+use Rattle.life_base.proofs.WholeLines.{lines_are_whole, lines_continue, lines_longer, lines_ended}
+use Rattle.life_base.specs.Refusal.{Prefix, fault_at, fault_of, is_placeless}
+use Rattle.life_base.specs.Text.{lines_of, is_too_long}
+use Rattle.life_base.specs.declared.cell.TheConstants.{MAX_LEVEL}
+use Rattle.life_base.specs.declared.fault.Fault.{Fault}
+use Rattle.life_base.specs.declared.kind.Kind.{Kind}
+use Rattle.life_base.specs.declared.kind.Kind.TheVariants.{LineTooLong, NoHeader, Memory}
+use Rattle.life_mc.specs.Reading.{broken, Accepts as IsSomeMacrocell}
+use Rattle.life_mc.proofs.LineKinds.{long_lines_break as long_lines_break_macrocell, broken_kind, names_line}
+use Rattle.life_quad.specs.Store.{Nodes}
+use Rattle.life_rle.specs.Decided.{LacksHeader}
+use Rattle.life_rle.specs.Grammar.{IsRle, IsSomeRle, IsMarked, IsUnmarked, Breaks as BreaksRle}
+use Rattle.life_rle.specs.Pattern.{Rle}
+use Rattle.life_rle.proofs.FrontLaws.{lines_behind_mark_are_free, long_lines_break, fronts_are_files}
+use Rattle.life_rle.proofs.LineKinds.{Breaks-placed}
+use Rattle.life_rle.proofs.Refusal.{IsPreamble-refused}
+use Rattle.life_rle.proofs.Unique.{IsUnmarked-progress, IsMarked-progress}
+use Rattle.life_canon.specs.Feeding.{RefusesFront, IsOverAt}
+use Rattle.life_canon.specs.Files.{Says, as_macrocell, as_rle, Reads, Accepts, Breaks, Refuses, missing, is_macrocell}
+use Rattle.life_canon.specs.Store.{IsWant, IsWantKind}
+use Rattle.life_canon.specs.Taking.{IsEnd, bytes_of, taken, IsBegun, IsOpen, IsOver, IsLineFault, IsGoing, IsFree, IsFront}
+use Rattle.life_canon.specs.Universe.{Universe, rle_universe}
+use Rattle.life_canon.specs.declared.feeding.Progress.{Progress}
+use Rattle.life_canon.specs.declared.feeding.Progress.TheVariants as progress
+use Rattle.life_canon.proofs.FeedFacts.{no-feed}
+use Rattle.life_canon.proofs.Formats.{macrocell-first}
+use Rattle.life_canon.proofs.Unions.{macrocell-front, rle-front, no_lines, shorter-front, taken-front, none-some, not-both, line-refused, line-refused-n, end-refused}
+
+-- ---- the lines that were taken
+
+-- they can be continued to a file
+pub open-front : (p : Progress) → IsOpen p → Prefix (Accepts MAX_LEVEL) (taken p)
+open-front progress.Undecided o = no_lines MAX_LEVEL
+open-front (progress.Rle reader builder runs) o = rle-front MAX_LEVEL reader.lines o.front
+open-front (progress.Macrocell reader ids) o = macrocell-front MAX_LEVEL reader.lines o.front
+
+-- the first line alone gives the format
+goes-on : (lines more : List (List ℕ)) → 0 < length lines → is_macrocell (lines ++ more) ≡ is_macrocell lines
+goes-on [] more h = absurd (omega arith)
+goes-on (first ∷ lines) more h = refl
+
+by-format : (lines : List (List ℕ)) (line : List ℕ) (kind : Kind) (m : Bool) → is_macrocell (lines ++ line ∷ []) ≡ m
+    → MatchBool m (broken MAX_LEVEL lines line ≡ Some kind) (BreaksRle MAX_LEVEL lines line kind) → Breaks MAX_LEVEL lines line kind
+by-format lines line kind m e h = subst (λ (v : Bool). MatchBool v (broken MAX_LEVEL lines line ≡ Some kind) (BreaksRle MAX_LEVEL lines line kind)) (sym e) h
+
+pub long-macrocell : (lines : List (List ℕ)) (line : List ℕ) → is_too_long line ≡ true → broken MAX_LEVEL lines line ≡ Some LineTooLong
+unfolding broken
+long-macrocell lines line h = rw h refl
+
+long-rle : (lines : List (List ℕ)) (line : List ℕ) → is_too_long line ≡ true → Prefix (IsSomeRle MAX_LEVEL) lines → ((file : Rle) → IsMarked MAX_LEVEL lines file → ⊥)
+    → BreaksRle MAX_LEVEL lines line LineTooLong
+long-rle lines line h p n = ((long_lines_break MAX_LEVEL lines line).1 h p n LineTooLong).1 refl
+
+no-mark : (file : Rle) → IsMarked MAX_LEVEL [] file → ⊥
+no-mark file h = by h.front h.whole
+  where
+    by : (front : List (List ℕ)) → [] ≡ front ++ h.last ∷ h.free → ⊥
+    by [] e = cc
+    by (line ∷ front) e = cc
+
+long-first : (line : List ℕ) (m : Bool) → is_too_long line ≡ true → MatchBool m (broken MAX_LEVEL [] line ≡ Some LineTooLong) (BreaksRle MAX_LEVEL [] line LineTooLong)
+long-first line true h = long-macrocell [] line h
+long-first line false h = long-rle [] line h ((fronts_are_files MAX_LEVEL []).1 (inr (_, refl))) no-mark
+
+-- a line that is too long breaks a rule behind them
+pub long-breaks : (p : Progress) (line : List ℕ) → IsOpen p → (IsOver p → ⊥) → is_too_long line ≡ true → Breaks MAX_LEVEL (taken p) line LineTooLong
+long-breaks progress.Undecided line o n h = by-format [] line LineTooLong (is_macrocell (line ∷ [])) refl (long-first line (is_macrocell (line ∷ [])) h)
+long-breaks (progress.Rle reader builder runs) line o n h =
+    by-format reader.lines line LineTooLong false (goes-on reader.lines (line ∷ []) o.some ∙ o.format) (long-rle reader.lines line h o.front (λ file m. n (file, m)))
+long-breaks (progress.Macrocell reader ids) line o n h =
+    by-format reader.lines line LineTooLong true (goes-on reader.lines (line ∷ []) o.some ∙ o.format) (long-macrocell reader.lines line h)
+
+-- ---- bytes that come
+
+-- the lines up to the end of a line, and those behind it
+pub lines-at : (bytes kept end rest : List ℕ) (ended : ℕ) (lines : List (List ℕ)) → IsGoing bytes kept ended lines → has_no_feed end ≡ true
+    → lines_of (bytes ++ end ++ 10 ∷ [] ++ rest) ≡ lines ++ (kept ++ end) ∷ lines_of rest
+lines-at bytes kept end rest ended lines g h =
+    let e = lines_ended bytes end h in
+    (lines_continue (bytes ++ end ++ 10 ∷ []) rest).lines
+    ∙ ap (λ (r : List ℕ). whole_lines (bytes ++ end ++ 10 ∷ []) ++ lines_of (r ++ rest)) e.rest
+    ∙ ap (λ (ls : List (List ℕ)). ls ++ lines_of rest) e.whole
+    ∙ ap (λ (r : List ℕ). whole_lines bytes ++ (r ++ end) ∷ [] ++ lines_of rest) (sym g.rest)
+    ∙ ap (λ (ls : List (List ℕ)). ls ++ (kept ++ end) ∷ [] ++ lines_of rest) (sym g.whole)
+    ∙ append_assoc lines ((kept ++ end) ∷ []) (lines_of rest)
+
+pub whole-at : (bytes kept end rest : List ℕ) (ended : ℕ) (lines : List (List ℕ)) → IsGoing bytes kept ended lines → has_no_feed end ≡ true
+    → whole_lines (bytes ++ end ++ 10 ∷ [] ++ rest) ≡ lines ++ (kept ++ end) ∷ whole_lines rest
+whole-at bytes kept end rest ended lines g h =
+    let e = lines_ended bytes end h in
+    (lines_continue (bytes ++ end ++ 10 ∷ []) rest).whole
+    ∙ ap (λ (r : List ℕ). whole_lines (bytes ++ end ++ 10 ∷ []) ++ whole_lines (r ++ rest)) e.rest
+    ∙ ap (λ (ls : List (List ℕ)). ls ++ whole_lines rest) e.whole
+    ∙ ap (λ (r : List ℕ). whole_lines bytes ++ (r ++ end) ∷ [] ++ whole_lines rest) (sym g.rest)
+    ∙ ap (λ (ls : List (List ℕ)). ls ++ (kept ++ end) ∷ [] ++ whole_lines rest) (sym g.whole)
+    ∙ append_assoc lines ((kept ++ end) ∷ []) (whole_lines rest)
+
+-- a line's end ends one line more
+pub front-ended : (bytes kept end : List ℕ) (ended next : ℕ) (p q : Progress) → IsGoing bytes kept ended (taken p) → has_no_feed end ≡ true → IsOpen q
+    → taken q ≡ taken p ++ (kept ++ end) ∷ [] → next ≡ min (ended + 1) (2 ^ 64 - 1) → IsFront (bytes ++ end ++ 10 ∷ []) [] next q
+front-ended bytes kept end ended next p q g h o e n =
+    let l = lines_ended bytes end h in
+    let whole : taken q ≡ whole_lines (bytes ++ end ++ 10 ∷ []) =
+    e ∙ ap (λ (ls : List (List ℕ)). ls ++ (kept ++ end) ∷ []) g.whole ∙ ap (λ (r : List ℕ). whole_lines bytes ++ (r ++ end) ∷ []) g.rest ∙ sym l.whole in
+    let count : length (taken q) ≡ length (taken p) + 1 = ap length e ∙ length-append (taken p) ((kept ++ end) ∷ []) in
+    record {
+      short = omega arith;
+      begun = o;
+      going = λ _. record { whole = whole; rest = sym l.rest; count = omega (arith, g.count, n, count) };
+      over = λ _. record { free = []; whole = sym whole ∙ sym (append-nil (taken q)); none = refl };
+    }
+
+-- bytes without a line feed are kept
+pub front-kept : (bytes kept more : List ℕ) (ended : ℕ) (p : Progress) → IsFront bytes kept ended p → (IsOver p → ⊥) → has_no_feed more ≡ true
+    → length kept + length more ≤ 2 ^ 20 → IsFront (bytes ++ more) (kept ++ more) ended p
+front-kept bytes kept more ended p f n h l =
+    let g = f.going n in
+    let e = lines_longer bytes more h in
+    record {
+      short = omega (arith, length-append kept more);
+      begun = f.begun;
+      going = λ _. record { whole = g.whole ∙ sym e.whole; rest = ap (λ (r : List ℕ). r ++ more) g.rest ∙ sym e.rest; count = g.count };
+      over = λ o. absurd (n o);
+    }
+
+-- behind `!` all bytes are free
+pub front-over : (bytes kept more : List ℕ) (ended : ℕ) (p : Progress) → IsFront bytes kept ended p → IsOver p → IsFront (bytes ++ more) kept ended p
+front-over bytes kept more ended p f o =
+    let r = f.over o in
+    let e = lines_continue bytes more in
+    record {
+      short = f.short;
+      begun = f.begun;
+      going = λ n. absurd (n o);
+      over = λ _. record {
+        free = r.free ++ whole_lines (rest_line bytes ++ more);
+        whole = e.whole ∙ ap (λ (ls : List (List ℕ)). ls ++ whole_lines (rest_line bytes ++ more)) r.whole ∙ append_assoc (taken p) r.free (whole_lines (rest_line bytes ++ more));
+        none = r.none;
+      };
+    }
+
+-- ---- refusals
+
+-- a line's fault is told in the piece in which it ends
+pub line-refuses : (bytes kept end : List ℕ) (ended : ℕ) (p : Progress) (fault : Fault) → IsOpen p → IsGoing bytes kept ended (taken p) → has_no_feed end ≡ true
+    → IsLineFault MAX_LEVEL (taken p) (kept ++ end) ended fault → (rest : List ℕ) → RefusesFront MAX_LEVEL (bytes ++ end ++ 10 ∷ [] ++ rest) fault
+line-refuses bytes kept end ended p fault o g h b rest =
+    let at : fault.place.line ≡ min (length (taken p) + 1) (2 ^ 64 - 1) = omega (arith, b.place, g.count) in
+    let lines = lines-at bytes kept end rest ended (taken p) g h in
+    let all : List (List ℕ) = lines_of (bytes ++ end ++ 10 ∷ [] ++ rest) in
+    let n = line-refused-n MAX_LEVEL all (taken p) (kept ++ end) (lines_of rest) fault lines (open-front p o) b.breaks at in
+    record {
+      refuses = line-refused MAX_LEVEL all (taken p) (kept ++ end) (lines_of rest) fault lines (open-front p o) b.breaks at;
+      told = inl (omega (arith, n, ap length (whole-at bytes kept end rest ended (taken p) g h), length-append (taken p) ((kept ++ end) ∷ whole_lines rest)));
+    }
+
+one-some : (bytes : List ℕ) → 0 < length bytes → one_line bytes ≡ bytes ∷ []
+one-some [] h = absurd (omega arith)
+one-some (b ∷ bytes) h = refl
+
+pub is-long : (line : List ℕ) → 2 ^ 20 < length line → is_too_long line ≡ true
+is-long line h = grind (arith, nat_tests)
+
+-- a rest is refused that is too long
+pub rest-refuses : (bytes kept more : List ℕ) (ended : ℕ) (p : Progress) (fault : Fault) → IsOpen p → (IsOver p → ⊥) → IsGoing bytes kept ended (taken p) → has_no_feed more ≡ true
+    → 2 ^ 20 < length kept + length more → fault ≡ fault_at (min (ended + 1) (2 ^ 64 - 1)) LineTooLong → RefusesFront MAX_LEVEL (bytes ++ more) fault
+rest-refuses bytes kept more ended p fault o n g h l f =
+    let e = lines_longer bytes more h in
+    let long : 2 ^ 20 < length (kept ++ more) = omega (arith, length-append kept more) in
+    let whole : lines_of (bytes ++ more) ≡ taken p ++ (kept ++ more) ∷ [] =
+    lines_are_whole (bytes ++ more)
+    ∙ ap (λ (ls : List (List ℕ)). ls ++ one_line (rest_line (bytes ++ more))) (e.whole ∙ sym g.whole)
+    ∙ ap (λ (r : List ℕ). taken p ++ one_line r) (e.rest ∙ ap (λ (r : List ℕ). r ++ more) (sym g.rest))
+    ∙ ap (λ (ls : List (List ℕ)). taken p ++ ls) (one-some (kept ++ more) (omega arith)) in
+    let kind : fault.kind ≡ LineTooLong = ap (λ (f : Fault). f.kind) f in
+    let place : fault.place.line ≡ min (ended + 1) (2 ^ 64 - 1) = ap (λ (f : Fault). f.place.line) f in
+    record {
+      refuses = line-refused MAX_LEVEL (lines_of (bytes ++ more)) (taken p) (kept ++ more) [] fault whole (open-front p o)
+          (subst (Breaks MAX_LEVEL (taken p) (kept ++ more)) (sym kind) (long-breaks p (kept ++ more) o n (is-long (kept ++ more) long)))
+          (omega (arith, place, g.count));
+      told = inr kind;
+    }
+
+-- ---- no refusal is told late
+
+pub breaks-long : (lines : List (List ℕ)) (line : List ℕ) → Breaks MAX_LEVEL lines line LineTooLong → is_too_long line ≡ true
+breaks-long lines line = by (is_macrocell (lines ++ line ∷ []))
+  where
+    by : (m : Bool) → MatchBool m (broken MAX_LEVEL lines line ≡ Some LineTooLong) (BreaksRle MAX_LEVEL lines line LineTooLong) → is_too_long line ≡ true
+    by true h = is-long line ((long_lines_break_macrocell MAX_LEVEL lines line).0 h)
+    by false h = (long_lines_break MAX_LEVEL lines line).0 h
+
+not-missing : (lines : List (List ℕ)) → missing lines ≡ Some LineTooLong → ⊥
+not-missing lines = by (is_macrocell lines)
+  where
+    by : (m : Bool) → cond m None (Some NoHeader) ≡ Some LineTooLong → ⊥
+    by true e = cc
+    by false e = cc
+
+within-or-behind : (m n : ℕ) → (m ≤ n) ⊎ (n < m)
+within-or-behind m n = grind arith
+
+-- where a line is refused that is too long: among those that have ended, or behind them
+pub long-place : (bytes : List ℕ) (fault : Fault) (r : Refuses MAX_LEVEL bytes fault) → fault.kind ≡ LineTooLong
+    → (r.n ≤ length (whole_lines bytes))
+    ⊎ ((r.n ≡ length (whole_lines bytes) + 1) × (0 < length (rest_line bytes)) × Breaks MAX_LEVEL (whole_lines bytes) (rest_line bytes) LineTooLong)
+long-place bytes fault r k = elim (within-or-behind r.n (length (lines_of bytes))) [
+  | inl within ↦ elim (within-or-behind r.n (length (whole_lines bytes))) [
+    | inl early ↦ inl early
+    | inr last ↦ inr (by (rest_line bytes) refl within last)
+  ]
+  | inr behind ↦ absurd (not-missing (lines_of bytes) (subst (λ (kind : Kind). missing (lines_of bytes) ≡ Some kind) k (r.at_end behind)))
+]
+  where
+    by : (text : List ℕ) → rest_line bytes ≡ text → r.n ≤ length (lines_of bytes) → length (whole_lines bytes) < r.n
+        → (r.n ≡ length (whole_lines bytes) + 1) × (0 < length (rest_line bytes)) × Breaks MAX_LEVEL (whole_lines bytes) (rest_line bytes) LineTooLong
+    by [] e within last =
+        let len : length (lines_of bytes) ≡ length (whole_lines bytes) =
+        ap length (lines_are_whole bytes ∙ ap (λ (t : List ℕ). whole_lines bytes ++ one_line t) e ∙ append-nil (whole_lines bytes)) in
+        absurd (omega arith)
+    by (b ∷ text) e within last =
+        let lines : lines_of bytes ≡ whole_lines bytes ++ rest_line bytes ∷ [] =
+        lines_are_whole bytes ∙ ap (λ (t : List ℕ). whole_lines bytes ++ one_line t) e ∙ ap (λ (t : List ℕ). whole_lines bytes ++ t ∷ []) (sym e) in
+        let len : length (lines_of bytes) ≡ length (whole_lines bytes) + 1 = ap length lines ∙ length-append (whole_lines bytes) (rest_line bytes ∷ []) in
+        let some : length (rest_line bytes) ≡ suc (length text) = ap length e in
+        let less : r.n - 1 ≡ length (whole_lines bytes) = omega arith in
+        let fore : take (length (whole_lines bytes)) (lines_of bytes) ≡ whole_lines bytes =
+        ap (take (length (whole_lines bytes))) lines ∙ take-append_seam (whole_lines bytes) (rest_line bytes ∷ []) in
+        let item : slice_index_or (lines_of bytes) (length (whole_lines bytes)) [] ≡ rest_line bytes =
+        ap (λ (ls : List (List ℕ)). slice_index_or ls (length (whole_lines bytes)) []) lines ∙ get_or-append_seam (whole_lines bytes) (rest_line bytes) [] [] in
+        let b0 : Breaks MAX_LEVEL (take (r.n - 1) (lines_of bytes)) (slice_index_or (lines_of bytes) (r.n - 1) []) LineTooLong =
+        subst (Breaks MAX_LEVEL (take (r.n - 1) (lines_of bytes)) (slice_index_or (lines_of bytes) (r.n - 1) [])) k (r.at_line within) in
+        let b1 : Breaks MAX_LEVEL (take (length (whole_lines bytes)) (lines_of bytes)) (slice_index_or (lines_of bytes) (length (whole_lines bytes)) []) LineTooLong =
+        subst (λ (n : ℕ). Breaks MAX_LEVEL (take n (lines_of bytes)) (slice_index_or (lines_of bytes) n []) LineTooLong) less b0 in
+        let b2 : Breaks MAX_LEVEL (whole_lines bytes) (slice_index_or (lines_of bytes) (length (whole_lines bytes)) []) LineTooLong =
+        subst (λ (f : List (List ℕ)). Breaks MAX_LEVEL f (slice_index_or (lines_of bytes) (length (whole_lines bytes)) []) LineTooLong) fore b1 in
+        (omega arith, omega arith, subst (λ (l : List ℕ). Breaks MAX_LEVEL (whole_lines bytes) l LineTooLong) item b2)
+
+-- Lines that can be continued, and behind them a rest that isn't too long: these bytes aren't refused.
+module _ (bytes : List ℕ) (front : Prefix (Accepts MAX_LEVEL) (whole_lines bytes))
+    (rest : Breaks MAX_LEVEL (whole_lines bytes) (rest_line bytes) LineTooLong → ⊥) where
+  in-whole : (n : ℕ) → n ≤ length (whole_lines bytes) → Prefix (Accepts MAX_LEVEL) (take n (lines_of bytes))
+  in-whole n h =
+      subst (Prefix (Accepts MAX_LEVEL)) (sym (ap (take n) (lines_are_whole bytes) ∙ take-append-le n (whole_lines bytes) (one_line (rest_line bytes)) h))
+      (taken-front MAX_LEVEL n (whole_lines bytes) front)
+
+  not-early : (fault : Fault) (r : Refuses MAX_LEVEL bytes fault) → r.n ≤ length (whole_lines bytes) → ⊥
+  not-early fault r early =
+      let len : length (whole_lines bytes) ≤ length (lines_of bytes) =
+      omega (arith, ap length (lines_are_whole bytes), length-append (whole_lines bytes) (one_line (rest_line bytes))) in
+      r.place.here (omega arith) (in-whole r.n early)
+
+  unrefused : (fault : Fault) → RefusesFront MAX_LEVEL bytes fault → ⊥
+  unrefused fault r = elim r.told [
+    | inl early ↦ not-early fault r.refuses early
+    | inr k ↦ elim (long-place bytes fault r.refuses k) [ inl early ↦ not-early fault r.refuses early | inr last ↦ rest last.2 ]
+  ]
+
+not-long : (line : List ℕ) → length line ≤ 2 ^ 20 → is_too_long line ≡ true → ⊥
+not-long line h e = grind (arith, nat_tests, e)
+
+-- behind `!` the lines are a file of RLE, and none breaks a rule
+over-marked : (p : Progress) → IsOpen p → IsOver p → (more : List (List ℕ)) → (is_macrocell (taken p ++ more) ≡ false) × ((file : Rle) × IsMarked MAX_LEVEL (taken p ++ more) file)
+over-marked progress.Undecided o v more = absurd v
+over-marked (progress.Rle reader builder runs) o v more =
+    (goes-on reader.lines more o.some ∙ o.format, (v.0, (lines_behind_mark_are_free MAX_LEVEL reader.lines more v.0 v.1).0))
+over-marked (progress.Macrocell reader ids) o v more = absurd v
+
+over-unbroken : (p : Progress) → IsOpen p → IsOver p → (more : List (List ℕ)) (line : List ℕ) (kind : Kind) → Breaks MAX_LEVEL (taken p ++ more) line kind → ⊥
+over-unbroken progress.Undecided o v more line kind b = absurd v
+over-unbroken (progress.Rle reader builder runs) o v more line kind b =
+    let m : is_macrocell (reader.lines ++ more ++ line ∷ []) ≡ false = ap is_macrocell (append_assoc reader.lines more (line ∷ [])) ∙ goes-on reader.lines (more ++ line ∷ []) o.some ∙ o.format in
+    (lines_behind_mark_are_free MAX_LEVEL reader.lines more v.0 v.1).1 line kind
+    (subst (λ (b : Bool). MatchBool b (broken MAX_LEVEL (reader.lines ++ more) line ≡ Some kind) (BreaksRle MAX_LEVEL (reader.lines ++ more) line kind)) m b)
+over-unbroken (progress.Macrocell reader ids) o v more line kind b = absurd v
+
+marked-front : (lines : List (List ℕ)) (file : Rle) → IsMarked MAX_LEVEL lines file → Prefix (Accepts MAX_LEVEL) lines
+marked-front lines file m = rle-front MAX_LEVEL lines ([], (file, subst (λ (ls : List (List ℕ)). IsRle MAX_LEVEL ls file) (sym (append-nil lines)) (inr m)))
+
+-- bytes that were taken are not refused
+pub front-unrefused : (bytes kept : List ℕ) (ended : ℕ) (p : Progress) → IsFront bytes kept ended p → (fault : Fault) → RefusesFront MAX_LEVEL bytes fault → ⊥
+front-unrefused bytes kept ended p f fault r =
+    let n : IsOver p → ⊥ = λ o. in-over o in
+    let g = f.going n in
+    unrefused bytes (subst (Prefix (Accepts MAX_LEVEL)) g.whole (open-front p f.begun))
+    (λ b. not-long (rest_line bytes) (subst (λ (t : List ℕ). length t ≤ 2 ^ 20) g.rest f.short) (breaks-long (whole_lines bytes) (rest_line bytes) b)) fault r
+  where
+    in-over : IsOver p → ⊥
+    in-over o =
+        let v = f.over o in
+        let m = over-marked p f.begun o v.free in
+        unrefused bytes (subst (Prefix (Accepts MAX_LEVEL)) (sym v.whole) (marked-front (taken p ++ v.free) m.1.0 m.1.1))
+        (λ b. over-unbroken p f.begun o v.free (rest_line bytes) LineTooLong (subst (λ (ls : List (List ℕ)). Breaks MAX_LEVEL ls (rest_line bytes) LineTooLong) v.whole b)) fault r
+
+-- ---- nothing is kept behind `!`
+
+not-over-at : (p : Progress) → IsOpen p → (IsOver p → ⊥) → is_macrocell (taken p) ≡ false → (file : Rle) → IsMarked MAX_LEVEL (taken p) file → ⊥
+not-over-at progress.Undecided o n m file h = no-mark file h
+not-over-at (progress.Rle reader builder runs) o n m file h = n (file, h)
+not-over-at (progress.Macrocell reader ids) o n m file h = not-both (is_macrocell reader.lines) o.format m
+
+some-none : (b : ℕ) (bytes : List ℕ) → b ∷ bytes ≡ [] → ⊥
+some-none b bytes e = cc
+
+pub over-keeps-none : (bytes kept : List ℕ) (ended : ℕ) (p : Progress) → IsFront bytes kept ended p → IsOverAt MAX_LEVEL bytes → kept ≡ []
+over-keeps-none bytes [] ended p f h = refl
+over-keeps-none bytes (b ∷ kept) ended p f h =
+    let n : IsOver p → ⊥ = λ o. some-none b kept (f.over o).none in
+    let g = f.going n in
+    absurd (not-over-at p f.begun n (ap is_macrocell g.whole ∙ h.0) h.1.0 (subst (λ (ls : List (List ℕ)). IsMarked MAX_LEVEL ls h.1.0) (sym g.whole) h.1.1))
+
+-- ---- the end of the input
+
+pub kept-going : (bytes kept : List ℕ) (ended : ℕ) (p : Progress) → IsFront bytes kept ended p → 0 < length kept → IsOver p → ⊥
+kept-going bytes kept ended p f h o = let e : length kept ≡ 0 = ap length (f.over o).none in absurd (omega arith)
+
+-- a rest is a line
+rest-lines : (bytes kept : List ℕ) (ended : ℕ) (lines : List (List ℕ)) → IsGoing bytes kept ended lines → 0 < length kept → lines_of bytes ≡ lines ++ kept ∷ []
+rest-lines bytes kept ended lines g h =
+    lines_are_whole bytes ∙ ap (λ (ls : List (List ℕ)). ls ++ one_line (rest_line bytes)) (sym g.whole)
+    ∙ ap (λ (r : List ℕ). lines ++ one_line r) (sym g.rest) ∙ ap (λ (ls : List (List ℕ)). lines ++ ls) (one-some kept h)
+
+pub kept-refuses : (bytes kept : List ℕ) (ended : ℕ) (p : Progress) (fault : Fault) → IsFront bytes kept ended p → 0 < length kept
+    → IsLineFault MAX_LEVEL (taken p) kept ended fault → Refuses MAX_LEVEL bytes fault
+kept-refuses bytes kept ended p fault f h b =
+    let g = f.going (kept-going bytes kept ended p f h) in
+    line-refused MAX_LEVEL (lines_of bytes) (taken p) kept [] fault (rest-lines bytes kept ended (taken p) g h) (open-front p f.begun) b.breaks (omega (arith, b.place, g.count))
+
+pub kept-end : (bytes kept : List ℕ) (ended next : ℕ) (p q : Progress) → IsFront bytes kept ended p → 0 < length kept → IsOpen q
+    → taken q ≡ taken p ++ kept ∷ [] → next ≡ min (ended + 1) (2 ^ 64 - 1) → IsEnd bytes next q
+kept-end bytes kept ended next p q f h o e n =
+    let g = f.going (kept-going bytes kept ended p f h) in
+    let lines : lines_of bytes ≡ taken q = rest-lines bytes kept ended (taken p) g h ∙ sym e in
+    let count : length (taken q) ≡ length (taken p) + 1 = ap length e ∙ length-append (taken p) (kept ∷ []) in
+    record {
+      begun = o;
+      going = λ _. (lines, omega (arith, g.count, n, count));
+      over = λ _. ([], lines ∙ sym (append-nil (taken q)));
+    }
+
+pub whole-end : (bytes kept : List ℕ) (ended : ℕ) (p : Progress) → IsFront bytes kept ended p → kept ≡ [] → IsEnd bytes ended p
+whole-end bytes kept ended p f h = record {
+  begun = f.begun;
+  going = λ n.
+      let g = f.going n in (
+        lines_are_whole bytes ∙ ap (λ (ls : List (List ℕ)). ls ++ one_line (rest_line bytes)) (sym g.whole)
+            ∙ ap (λ (r : List ℕ). taken p ++ one_line r) (sym g.rest ∙ h) ∙ append-nil (taken p),
+        g.count,
+      );
+  over = λ o.
+      let v = f.over o in (
+        v.free ++ one_line (rest_line bytes),
+        lines_are_whole bytes ∙ ap (λ (ls : List (List ℕ)). ls ++ one_line (rest_line bytes)) v.whole ∙ append_assoc (taken p) v.free (one_line (rest_line bytes)),
+      );
+}
+
+-- what the lines say, the bytes say
+pub end-says : (bytes : List ℕ) (ended : ℕ) (p : Progress) (u : Universe) → IsEnd bytes ended p → Says MAX_LEVEL (taken p) u → Reads MAX_LEVEL bytes u
+end-says bytes ended progress.Undecided u e s = subst (λ (ls : List (List ℕ)). Says MAX_LEVEL ls u) (sym (e.going (λ v. v)).0) s
+end-says bytes ended (progress.Macrocell reader ids) u e s = subst (λ (ls : List (List ℕ)). Says MAX_LEVEL ls u) (sym (e.going (λ v. v)).0) s
+end-says bytes ended (progress.Rle reader builder runs) u e s = by u s
+  where
+    going : (u : Universe) → Says MAX_LEVEL reader.lines u → (((file : Rle) × IsMarked MAX_LEVEL reader.lines file) → ⊥) → Says MAX_LEVEL (lines_of bytes) u
+    going u s n = subst (λ (ls : List (List ℕ)). Says MAX_LEVEL ls u) (sym (e.going n).0) s
+
+    unmarked : (file other : Rle) → IsUnmarked MAX_LEVEL reader.lines file → IsMarked MAX_LEVEL reader.lines other → ⊥
+    unmarked file other b m = let x = IsUnmarked-progress MAX_LEVEL reader.lines file b in let y = IsMarked-progress MAX_LEVEL reader.lines other m in cc
+
+    by : (u : Universe) → Says MAX_LEVEL reader.lines u → Says MAX_LEVEL (lines_of bytes) u
+    by _ (as_macrocell file are) = absurd (not-both (is_macrocell reader.lines) (macrocell-first MAX_LEVEL reader.lines file are) e.begun.format)
+    by _ (as_rle file (inl b)) = going (rle_universe file) (as_rle file (inl b)) (λ v. unmarked file v.0 b v.1)
+    by _ (as_rle file (inr m)) =
+        let v = e.over (file, m) in
+        subst (λ (ls : List (List ℕ)). Says MAX_LEVEL ls (rle_universe file)) (sym v.1)
+        (as_rle file (inr (lines_behind_mark_are_free MAX_LEVEL reader.lines v.0 file m).0))
+
+lacks-mark : (lines : List (List ℕ)) → LacksHeader MAX_LEVEL lines → (file : Rle) → IsMarked MAX_LEVEL lines file → ⊥
+lacks-mark lines h file m = IsPreamble-refused MAX_LEVEL lines h.0 h.1 (file, inr m)
+
+lacks-going : (p : Progress) → LacksHeader MAX_LEVEL (taken p) → IsOver p → ⊥
+lacks-going progress.Undecided h o = o
+lacks-going (progress.Rle reader builder runs) h o = lacks-mark reader.lines h o.0 o.1
+lacks-going (progress.Macrocell reader ids) h o = o
+
+-- lines without a header are refused behind their end
+pub end-lacks : (bytes : List ℕ) (ended : ℕ) (p : Progress) → IsEnd bytes ended p → LacksHeader MAX_LEVEL (taken p) → is_macrocell (taken p) ≡ false
+    → Refuses MAX_LEVEL bytes (fault_at (min (ended + 1) (2 ^ 64 - 1)) NoHeader)
+end-lacks bytes ended p e h m =
+    let g = e.going (lacks-going p h) in
+    let count : length (lines_of bytes) ≡ length (taken p) = ap length g.0 in
+    end-refused MAX_LEVEL (lines_of bytes) (fault_at (min (ended + 1) (2 ^ 64 - 1)) NoHeader)
+    (subst (LacksHeader MAX_LEVEL) (sym g.0) h) (ap is_macrocell g.0 ∙ m) refl (omega (arith, g.1, count))
+
+-- ---- faults of a line
+
+breaks-placed : (lines : List (List ℕ)) (line : List ℕ) (kind : Kind) → Breaks MAX_LEVEL lines line kind → is_placeless kind ≡ false
+breaks-placed lines line kind = by (is_macrocell (lines ++ line ∷ []))
+  where
+    by : (m : Bool) → MatchBool m (broken MAX_LEVEL lines line ≡ Some kind) (BreaksRle MAX_LEVEL lines line kind) → is_placeless kind ≡ false
+    by true h = names_line kind (broken_kind MAX_LEVEL lines line kind h)
+    by false h = Breaks-placed MAX_LEVEL lines line kind h
+
+-- the kind of a refused line, at the number of that line
+pub fault-of-kind : (store : Nodes) (lines : List (List ℕ)) (line : List ℕ) (ended : ℕ) (kind : Kind) → IsWantKind store kind ⊎ Breaks MAX_LEVEL lines line kind
+    → IsWant store (fault_at (min (ended + 1) (2 ^ 64 - 1)) kind) ⊎ IsLineFault MAX_LEVEL lines line ended (fault_at (min (ended + 1) (2 ^ 64 - 1)) kind)
+fault-of-kind store lines line ended kind (inl (inl m)) = inl (inl (ap (λ (k : Kind). fault_at (min (ended + 1) (2 ^ 64 - 1)) k) m))
+fault-of-kind store lines line ended kind (inl (inr f)) = inl (inr (ap (λ (k : Kind). fault_at (min (ended + 1) (2 ^ 64 - 1)) k) f.0, f.1))
+fault-of-kind store lines line ended kind (inr b) = inr (record {
+  breaks = b;
+  place = ap (λ (v : Bool). cond v 0 (min (ended + 1) (2 ^ 64 - 1))) (breaks-placed lines line kind b);
+})
+
+-- the fault of a line that can't be kept
+pub keep-fault : (store : Nodes) (p : Progress) (kept more : List ℕ) (ended : ℕ) (fault : Fault) → IsOpen p → (IsOver p → ⊥)
+    → (fault ≡ fault_of Memory) ⊎ ((fault ≡ fault_at (min (ended + 1) (2 ^ 64 - 1)) LineTooLong) × (2 ^ 20 < length kept + length more))
+    → IsWant store fault ⊎ IsLineFault MAX_LEVEL (taken p) (kept ++ more) ended fault
+keep-fault store p kept more ended fault o n (inl m) = inl (inl m)
+keep-fault store p kept more ended fault o n (inr (e, long)) =
+    let b = long-breaks p (kept ++ more) o n (is-long (kept ++ more) (omega (arith, long, length-append kept more))) in
+    inr (record { breaks = subst (Breaks MAX_LEVEL (taken p) (kept ++ more)) (sym (ap (λ (f : Fault). f.kind) e)) b; place = ap (λ (f : Fault). f.place.line) e })
+
+-- ---- the end of a piece
+
+pub last-feed : (p : Progress) (rest : List ℕ) → (IsOver p → ⊥) → IsOver p ⊎ (has_no_feed rest ≡ true) → has_no_feed rest ≡ true
+last-feed p rest n (inl o) = absurd (n o)
+last-feed p rest n (inr h) = h
+
+pub kept-or-refused : (bytes kept more : List ℕ) (ended : ℕ) (p : Progress) (fault : Fault) → IsFront bytes kept ended p → (IsOver p → ⊥) → has_no_feed more ≡ true
+    → (fault ≡ fault_of Memory) ⊎ ((fault ≡ fault_at (min (ended + 1) (2 ^ 64 - 1)) LineTooLong) × (2 ^ 20 < length kept + length more))
+    → (fault ≡ fault_of Memory) ⊎ RefusesFront MAX_LEVEL (bytes ++ more) fault
+kept-or-refused bytes kept more ended p fault f n h (inl m) = inl m
+kept-or-refused bytes kept more ended p fault f n h (inr (e, long)) = inr (rest-refuses bytes kept more ended p fault f.begun n (f.going n) h long e)
+
+-- one piece more
+pub bytes-more : (pieces : List (List ℕ)) (piece : List ℕ) → bytes_of (pieces ++ piece ∷ []) ≡ bytes_of pieces ++ piece
+bytes-more [] piece = append-nil piece
+bytes-more (first ∷ pieces) piece = ap (λ (b : List ℕ). first ++ b) (bytes-more pieces piece) ∙ sym (append_assoc first (bytes_of pieces) piece)
+
+-- the fault of a line that ends
+pub line-told : (store : Nodes) (bytes kept end : List ℕ) (ended : ℕ) (p : Progress) (fault : Fault) → IsFront bytes kept ended p → (IsOver p → ⊥) → has_no_feed end ≡ true
+    → IsWant store fault ⊎ IsLineFault MAX_LEVEL (taken p) (kept ++ end) ended fault
+    → IsWant store fault ⊎ ((rest : List ℕ) → RefusesFront MAX_LEVEL (bytes ++ end ++ 10 ∷ [] ++ rest) fault)
+line-told store bytes kept end ended p fault f n h (inl w) = inl w
+line-told store bytes kept end ended p fault f n h (inr b) = inr (line-refuses bytes kept end ended p fault f.begun (f.going n) h b)
+
+-- ---- the same value, seen otherwise
+
+pub front-along : {bytes other : List ℕ} {kept rest : List ℕ} {ended count : ℕ} {p q : Progress} → bytes ≡ other → kept ≡ rest → ended ≡ count → p ≡ q
+    → IsFront bytes kept ended p → IsFront other rest count q
+front-along {bytes} {other} {kept} {rest} {ended} {count} {p} {q} b k e s f =
+    subst (λ (x : List ℕ). IsFront x rest count q) b
+    (subst (λ (x : List ℕ). IsFront bytes x count q) k (subst (λ (x : ℕ). IsFront bytes kept x q) e (subst (λ (x : Progress). IsFront bytes kept ended x) s f)))
+
+pub not-true : (b : Bool) → b ≡ false → IsTrue b → ⊥
+not-true true e t = cc
+not-true false e t = cc
+
+-- ---- a piece
+
+pub told-along : (store : Nodes) (front rest all : List ℕ) (fault : Fault) → front ++ rest ≡ all
+    → IsWant store fault ⊎ ((rest : List ℕ) → RefusesFront MAX_LEVEL (front ++ rest) fault) → IsWant store fault ⊎ RefusesFront MAX_LEVEL all fault
+told-along store front rest all fault e (inl w) = inl w
+told-along store front rest all fault e (inr r) = inr (subst (λ (b : List ℕ). RefusesFront MAX_LEVEL b fault) e (r rest))
+
+pub over-or-clean : (P : Type 0) (rest : List ℕ) → P ⊎ (position (λ b. b == 10) rest ≡ None) → P ⊎ (has_no_feed rest ≡ true)
+over-or-clean P rest (inl o) = inl o
+over-or-clean P rest (inr n) = inr (no-feed rest n)
+
+-- ---- the end of the input
+
+pub no-length : (bytes : List ℕ) → length bytes ≡ 0 → bytes ≡ []
+no-length [] h = refl
+no-length (b ∷ bytes) h = absurd (omega arith)
+
+pub some-length : (n : ℕ) → (n == 0) ≡ false → 0 < n
+some-length n h = grind (arith, nat_tests)
+
+pub rest-fault : (r : Result (Unit {0}) Fault) (store : Nodes) (bytes kept : List ℕ) (ended : ℕ) (p : Progress) → IsFront bytes kept ended p → 0 < length kept
+    → IfErr r (λ fault. IsWant store fault ⊎ IsLineFault MAX_LEVEL (taken p) kept ended fault) → IfErr r (λ fault. Refuses MAX_LEVEL bytes fault ⊎ IsWant store fault)
+rest-fault (Ok x) store bytes kept ended p f h e = tt
+rest-fault (Err fault) store bytes kept ended p f h (inl w) = inr w
+rest-fault (Err fault) store bytes kept ended p f h (inr b) = inl (kept-refuses bytes kept ended p fault f h b)
+
+pub end-fault : (store : Nodes) (bytes : List ℕ) (ended : ℕ) (p : Progress) (kind : Kind) → IsEnd bytes ended p
+    → IsWantKind store kind ⊎ ((kind ≡ NoHeader) × LacksHeader MAX_LEVEL (taken p) × (is_macrocell (taken p) ≡ false))
+    → Refuses MAX_LEVEL bytes (fault_at (min (ended + 1) (2 ^ 64 - 1)) kind) ⊎ IsWant store (fault_at (min (ended + 1) (2 ^ 64 - 1)) kind)
+end-fault store bytes ended p kind e (inl (inl m)) = inr (inl (ap (λ (k : Kind). fault_at (min (ended + 1) (2 ^ 64 - 1)) k) m))
+end-fault store bytes ended p kind e (inl (inr f)) = inr (inr (ap (λ (k : Kind). fault_at (min (ended + 1) (2 ^ 64 - 1)) k) f.0, f.1))
+end-fault store bytes ended p kind e (inr l) =
+    inl (subst (λ (k : Kind). Refuses MAX_LEVEL bytes (fault_at (min (ended + 1) (2 ^ 64 - 1)) k)) (sym l.0) (end-lacks bytes ended p e l.1 l.2))

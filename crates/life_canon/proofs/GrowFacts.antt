@@ -1,0 +1,174 @@
+-- The squares of node lines, as lines come one after another.
+use Rattle.std.proofs.Common.{◌≡◌, ℕ, zero, suc, ◌+◌, ◌-◌, ◌^◌, ◌<◌, ◌≤◌, true, List, [], ◌∷◌, ◌++◌, length, take, map, refl, ap, sym, ◌∙◌, subst, arith, ◌⊎◌, inl, inr, Option, Some, None, ℤ}
+use Rattle.std.specs.Prelude.{slice_get}
+use Rattle.std.proofs.lemmas.List.{append-nil, take-append-le, length-append}
+use Rattle.std.proofs.Math.Seq.{take-append_seam, take-length}
+use Rattle.life_base.specs.Rules.{IsRule}
+use Rattle.life_base.specs.Tree.{Tree, depth, quad, tree_cell}
+use Rattle.life_base.specs.declared.cell.TheConstants.{MAX_LEVEL}
+use Rattle.life_base.specs.declared.rule.Rule.{Rule}
+use Rattle.life_mc.specs.Cells.{cell, root_level}
+use Rattle.life_mc.specs.Macrocell.{Macrocell, AreSquares, IsSquare, IsValid, level_of, numbered}
+use Rattle.life_mc.specs.Squares.{HasSquares, StandsForSquare, tree_of, line_tree, root_tree}
+use Rattle.life_mc.specs.declared.line.Line.{Line}
+use Rattle.life_mc.specs.declared.line.Line.TheVariants.{Leaf, Quad}
+use Rattle.life_mc.proofs.Squares.{lines_stand_for_squares}
+use Rattle.life_quad.specs.declared.id.Id.{Id}
+use Rattle.life_canon.specs.Filling.{AreSquaresOf}
+use Rattle.life_canon.proofs.LineWords.{line_at, IsQuarter, IsChild, IsValidLine}
+use Rattle.life_canon.proofs.LineFacts.{get-line_at, line_at-get, tree_of-line, square-valid, root_level-last}
+
+-- ---- the first lines of valid ones
+
+at-first : (lines : List Line) (more : List Line) (i : ℕ) → i < length lines → line_at (lines ++ more) i ≡ line_at lines i
+at-first [] more i h = absurd (omega arith)
+at-first (line ∷ lines) more zero h = refl
+at-first (line ∷ lines) more (suc i) h = at-first lines more i (omega arith)
+
+get-first : (lines : List Line) (more : List Line) (i : ℕ) (line : Line) → slice_get lines i ≡ Some line → slice_get (lines ++ more) i ≡ Some line
+get-first [] more i line e = cc
+get-first (one ∷ lines) more zero line e = e
+get-first (one ∷ lines) more (suc i) line e = get-first lines more i line e
+
+-- one line more, behind which the lines are valid
+module _ (rule : Rule) (generation : ℕ) (lines : List Line) (square : Line)
+    (good : IsValid MAX_LEVEL (record { rule = rule; generation = generation; lines = lines ++ square ∷ [] })) where
+  first-valid : IsValid MAX_LEVEL (record { rule = rule; generation = generation; lines = lines })
+  first-valid = record {
+    rule = good.rule;
+    generation = good.generation;
+    squares = λ k line e.
+        let h : k < length lines = (line_at-get lines k line e).0 in
+        subst (λ (ls : List Line). IsSquare MAX_LEVEL rule (map level_of ls) line) (take-append-le k lines (square ∷ []) (omega (arith, h)))
+        (good.squares k line (get-first lines (square ∷ []) k line e));
+  }
+
+  -- the line itself is a square behind them
+  pub last-square : IsSquare MAX_LEVEL rule (map level_of lines) square
+  last-square =
+      subst (λ (ls : List Line). IsSquare MAX_LEVEL rule (map level_of ls) square) (take-append_seam lines (square ∷ []))
+      (good.squares (length lines) square (at lines))
+    where
+      at : (ls : List Line) → slice_get (ls ++ square ∷ []) (length ls) ≡ Some square
+      at [] = refl
+      at (l ∷ ls) = at ls
+
+  -- the squares of the first lines stay
+  tree-stays : (i level : ℕ) (line : Line) → slice_get lines i ≡ Some line → level_of line ≡ level → tree_of (lines ++ square ∷ []) level (suc i) ≡ tree_of lines level (suc i)
+  tree-stays i level line e l =
+      let h : i < length lines = (line_at-get lines i line e).0 in
+      let new = (lines_stand_for_squares MAX_LEVEL _ good).each (suc i) line (get-first lines (square ∷ []) i line e) in
+      let old = (lines_stand_for_squares MAX_LEVEL _ first-valid).each (suc i) line e in
+      let same : tree_of (lines ++ square ∷ []) (level_of line) (suc i) ≡ tree_of lines (level_of line) (suc i) =
+      sym new.by_front ∙ ap (λ (ls : List Line). tree_of ls (level_of line) (suc i)) (take-append-le (suc i) lines (square ∷ []) (omega (arith, h))) ∙ old.by_front in
+      subst (λ (n : ℕ). tree_of (lines ++ square ∷ []) n (suc i) ≡ tree_of lines n (suc i)) l same
+
+  quarter-stays : (k number : ℕ) → IsQuarter rule lines (length lines) k number → tree_of (lines ++ square ∷ []) k number ≡ tree_of lines k number
+  quarter-stays zero number q = refl
+  quarter-stays (suc k) zero q = refl
+  quarter-stays (suc k) (suc j) q = by q
+    where
+      by : IsChild lines (length lines) (suc k) (suc j) → tree_of (lines ++ square ∷ []) (suc k) (suc j) ≡ tree_of lines (suc k) (suc j)
+      by (inl e) = absurd (omega arith)
+      by (inr c) =
+          let less : suc j - 1 ≡ j = omega arith in
+          let h : j < length lines = omega (arith, c.1) in
+          tree-stays j (suc k) (line_at lines j) (get-line_at lines j h) (subst (λ (n : ℕ). level_of (line_at lines n) ≡ suc k) less c.2)
+
+  line-stays : (line : Line) → IsValidLine MAX_LEVEL rule lines (length lines) line
+      → line_tree (tree_of (lines ++ square ∷ []) (level_of line - 1)) line ≡ line_tree (tree_of lines (level_of line - 1)) line
+  line-stays (Leaf rows) v = refl
+  line-stays (Quad level a b c d) v =
+      let p = quarter-stays (level - 1) a v.2 in
+      let q = quarter-stays (level - 1) b v.3 in
+      let r = quarter-stays (level - 1) c v.4 in
+      let s = quarter-stays (level - 1) d v.5 in
+      cc
+
+  line-valid : IsValidLine MAX_LEVEL rule lines (length lines) square
+  line-valid =
+      square-valid MAX_LEVEL rule lines (length lines) square (omega arith)
+      (subst (λ (ls : List Line). IsSquare MAX_LEVEL rule (map level_of ls) square) (sym (take-length lines)) last-square)
+
+  last-here : slice_get (lines ++ square ∷ []) (length lines) ≡ Some square
+  last-here = at lines
+    where
+      at : (ls : List Line) → slice_get (ls ++ square ∷ []) (length ls) ≡ Some square
+      at [] = refl
+      at (l ∷ ls) = at ls
+
+  last-stands : StandsForSquare rule (lines ++ square ∷ []) (level_of square) (suc (length lines))
+  last-stands = (lines_stand_for_squares MAX_LEVEL _ good).each (suc (length lines)) square last-here
+
+  level-some : (line : Line) → IsValidLine MAX_LEVEL rule lines (length lines) line → 1 ≤ level_of line
+  level-some (Leaf rows) v = omega arith
+  level-some (Quad level a b c d) v = v.0
+
+  -- the square of the last line
+  last-tree : tree_of (lines ++ square ∷ []) (level_of square) (suc (length lines)) ≡ line_tree (tree_of lines (level_of square - 1)) square
+  last-tree = by (level_of square) (level-some square line-valid) ∙ line-stays square line-valid
+    where
+      by : (n : ℕ) → 1 ≤ n → tree_of (lines ++ square ∷ []) n (suc (length lines)) ≡ line_tree (tree_of (lines ++ square ∷ []) (n - 1)) square
+      by zero h = absurd (omega arith)
+      by (suc k) h =
+          let less : k ≡ suc k - 1 = omega arith in
+          tree_of-line (lines ++ square ∷ []) k (length lines) (omega (arith, length-append lines (square ∷ [])))
+          ∙ ap (line_tree (tree_of (lines ++ square ∷ []) k)) (line_at-get (lines ++ square ∷ []) (length lines) square last-here).1
+          ∙ ap (λ (n : ℕ). line_tree (tree_of (lines ++ square ∷ []) n) square) less
+
+pub get-within : {X : Type 0} (xs : List X) (i : ℕ) (y : X) → slice_get xs i ≡ Some y → i < length xs
+get-within [] i y e = cc
+get-within (x ∷ xs) zero y e = omega arith
+get-within (x ∷ xs) (suc i) y e = omega (arith, get-within xs i y e)
+
+get-last : {X : Type 0} (xs : List X) (x : X) (i : ℕ) (y : X) → slice_get (xs ++ x ∷ []) i ≡ Some y → (slice_get xs i ≡ Some y) ⊎ ((i ≡ length xs) × (x ≡ y))
+get-last [] x zero y e = inr (refl, cc)
+get-last [] x (suc i) y e = cc
+get-last (z ∷ xs) x zero y e = inl e
+get-last (z ∷ xs) x (suc i) y e = elim (get-last xs x i y e) [ inl h ↦ inl h | inr h ↦ inr (ap suc h.0, h.1) ]
+
+-- one square more
+pub squares-grow : (knows : Id → Type 0) (content : Id → Tree) (rule : Rule) (generation : ℕ) (lines : List Line) (square : Line) (ids : List Id) (id : Id)
+    → IsValid MAX_LEVEL (record { rule = rule; generation = generation; lines = lines ++ square ∷ [] }) → AreSquaresOf knows content lines ids
+    → knows id → content id ≡ line_tree (tree_of lines (level_of square - 1)) square → AreSquaresOf knows content (lines ++ square ∷ []) (ids ++ id ∷ [])
+squares-grow knows content rule generation lines square ids id good h known is = record {
+  count = omega (arith, length-append ids (id ∷ []), length-append lines (square ∷ []), h.count);
+  each = λ index i line at there. by index i line (get-last ids id index i at) (get-last lines square index line there);
+}
+  where
+    tree : content id ≡ tree_of (lines ++ square ∷ []) (level_of square) (suc (length lines))
+    tree = is ∙ sym (last-tree rule generation lines square good)
+
+    by : (index : ℕ) (i : Id) (line : Line) → (slice_get ids index ≡ Some i) ⊎ ((index ≡ length ids) × (id ≡ i)) → (slice_get lines index ≡ Some line) ⊎ ((index ≡ length lines) × (square ≡ line))
+        → knows i × (content i ≡ tree_of (lines ++ square ∷ []) (level_of line) (suc index)) × (depth (content i) ≡ level_of line)
+    by index i line (inl at) (inl there) =
+        let e = h.each index i line at there in
+        (e.0, e.1 ∙ sym (tree-stays rule generation lines square good index (level_of line) line there refl), e.2)
+    by index i line (inl at) (inr last) = absurd (omega (arith, get-within ids index i at, last.0, h.count))
+    by index i line (inr last) (inl there) = absurd (omega (arith, get-within lines index line there, last.0, h.count))
+    by index i line (inr here) (inr last) =
+        let P : ℕ → Id → Line → Type 0 = λ n i l. knows i × (content i ≡ tree_of (lines ++ square ∷ []) (level_of l) (suc n)) × (depth (content i) ≡ level_of l) in
+        let base : P (length lines) id square = (known, tree, ap depth tree ∙ (last-stands rule generation lines square good).depth_is) in
+        subst (λ (n : ℕ). P n i line) (sym last.0) (subst (λ (j : Id). P (length lines) j line) here.1 (subst (λ (l : Line). P (length lines) id l) last.1 base))
+
+-- ---- the root
+
+-- the square of the last line has the cells of the file
+pub root-cells : (knows : Id → Type 0) (content : Id → Tree) (file : Macrocell) (ids : List Id) (id : Id) → IsValid MAX_LEVEL file → AreSquaresOf knows content file.lines ids
+    → 0 < length file.lines → slice_get ids (length ids - 1) ≡ Some id → knows id × (1 ≤ depth (content id)) × ((x y : ℤ) → tree_cell (content id) x y ≡ cell file x y)
+root-cells knows content file ids id good h some at =
+    let lines = file.lines in
+    let k : ℕ = length lines - 1 in
+    let one : suc k ≡ length lines = omega arith in
+    let small : k < length lines = omega arith in
+    let last : Line = line_at lines k in
+    let index : length ids - 1 ≡ k = omega (arith, h.count) in
+    let e = h.each k id last (subst (λ (n : ℕ). slice_get ids n ≡ Some id) index at) (get-line_at lines k small) in
+    let s = lines_stand_for_squares MAX_LEVEL file good in
+    let tree : content id ≡ root_tree lines =
+    e.1 ∙ ap (λ (n : ℕ). tree_of lines n (suc k)) (sym (root_level-last lines some)) ∙ ap (λ (n : ℕ). tree_of lines (root_level lines) n) one in
+    (e.0, omega (arith, e.2, high (map level_of (take k lines)) last (good.squares k last (get-line_at lines k small))), λ x y. ap (λ (t : Tree). tree_cell t x y) tree ∙ sym (s.plane x y))
+  where
+    high : (levels : List ℕ) (line : Line) → IsSquare MAX_LEVEL file.rule levels line → 1 ≤ level_of line
+    high levels (Leaf rows) q = omega arith
+    high levels (Quad level a b c d) q = q.0

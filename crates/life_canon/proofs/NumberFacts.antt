@@ -1,0 +1,127 @@
+-- The quarters of a listed square.
+use Rattle.std.proofs.Common.{◌≡◌, ℕ, suc, ◌+◌, ◌-◌, ◌^◌, ◌<◌, ◌≤◌, Bool, true, false, ◌&&◌, List, [], ◌∷◌, ◌++◌, length, map, take, get_or, refl, ap, sym, ◌∙◌, subst, arith}
+use Rattle.std.specs.Prelude.{◌==◌, nat_lt, ℤ, Contains}
+use Rattle.std.proofs.lemmas.Bool.Decides.{nat_tests}
+use Rattle.std.proofs.lemmas.List.{length-map, get_or-map}
+use Rattle.life_base.specs.Tree.{Tree, quad, depth, is_blank_tree as is_blank}
+use Rattle.life_base.specs.declared.rule.Rule.{Rule}
+use Rattle.life_base.specs.declared.rule.Rule.TheVariants.{Life, Named}
+use Rattle.life_canon.specs.Universe.{is_life, least_level, IsOnPlane}
+use Rattle.life_canon.specs.Listing.{is_small, is_in, quad_line, line_of}
+use Rattle.life_canon.specs.Closed.{Quarters}
+use Rattle.life_canon.specs.Store.{IsListed}
+use Rattle.life_canon.specs.Listing.{listed, lines_for, square_file, canonical_file}
+use Rattle.life_canon.specs.Least.{IsLeast}
+use Rattle.life_canon.specs.Universe.{square_universe, centred, whole, IsBlankOutside}
+use Rattle.life_base.specs.Rules.{IsRule}
+use Rattle.life_base.specs.Tree.{IsFull, tree_cell}
+use Rattle.life_mc.specs.Cells.{node_lines}
+use Rattle.life_mc.specs.Macrocell.{AreSquares, largest_state}
+use Rattle.life_mc.specs.Squares.{HasStatesUpTo}
+use Rattle.life_mc.specs.declared.line.Line.{Line}
+use Rattle.life_mc.proofs.Accepted.{files_are_valid}
+use Rattle.life_quad.specs.Moves.{trimmed}
+use Rattle.life_canon.proofs.TreeWords.{HasDepth, trimmed_to}
+use Rattle.life_canon.proofs.LineWords.{state_bound}
+use Rattle.life_canon.proofs.LineFacts.{valid-squares}
+use Rattle.life_canon.proofs.Trees.{centred-trimmed, outside-by}
+use Rattle.life_canon.proofs.Walk.{walk-part, listed-walk, listed-quarters}
+use Rattle.life_canon.proofs.Planes.{full-depth, states-below, states-upto, trimmed-is, centred-tree_cell, tree_cell-outside, tree_cell-below, upto-below}
+use Rattle.life_canon.proofs.Canonical.{whole-trimmed}
+use Rattle.life_canon.proofs.Least.{least}
+use Rattle.life_canon.proofs.Content.{not_small, is_in-at, big-level, least-one, lines_for-valid}
+
+-- a square above the level of a leaf has quarters of the least level or more
+quarter-high : (rule : Rule) (d q : ℕ) → (is_life rule && d == 3) ≡ false → least_level rule ≤ d → q + 1 ≡ d → 1 ≤ q → least_level rule ≤ q
+quarter-high (Life sets) d q h l e s = grind (arith, nat_tests)
+quarter-high (Named name) d q h l e s = s
+
+abbrev pub IsThere : ℕ → List Tree → Tree → Type 0
+IsThere d all q = depth q + 1 ≡ d → 1 ≤ depth q → is_blank q ≡ false → is_in all q ≡ true
+
+pub there : (rule : Rule) (all : List Tree) (t a b c d : Tree) → IsListed rule all t → t ≡ quad a b c d → (is_life rule && depth t == 3) ≡ false
+    → Quarters (IsThere (depth t) all) (quad a b c d)
+there rule all t a b c d l e h =
+    let q = subst (Quarters (λ q. is_small (least_level rule) q ≡ false → is_in all q ≡ true)) e l.quarters in
+    let go = λ (s : Tree) (f : is_small (least_level rule) s ≡ false → is_in all s ≡ true) (deep : depth s + 1 ≡ depth t) (some : 1 ≤ depth s) (shown : is_blank s ≡ false).
+    f (not_small (least_level rule) s (depth s) refl (quarter-high rule (depth t) (depth s) h l.level deep some) shown) in
+    record { nw = go a q.nw; ne = go b q.ne; sw = go c q.sw; se = go d q.se }
+
+-- ---- the squares of a root
+
+contains-in : (xs : List Tree) (t : Tree) → Contains xs t → is_in xs t ≡ true
+contains-in xs t c = subst (λ s. is_in xs s ≡ true) c.2 (is_in-at xs c.0 t c.1)
+
+-- each square of the list is listed with its quarters
+pub listed-each : (rule : Rule) (root : Tree) → IsFull root → HasStatesUpTo (largest_state rule) root → (all : List Tree) → all ≡ listed root (least_level rule)
+    → (t : Tree) → Contains all t → IsListed rule all t
+listed-each rule root full states all e t c =
+    let m = least_level rule in
+    let i : is_in (listed root m) t ≡ true = subst (λ xs. is_in xs t ≡ true) e (contains-in all t c) in
+    let part = walk-part m (state_bound rule) t (full-depth root full) (states-below (largest_state rule) root states) (listed-walk root m t i) in
+    record {
+      level = big-level m t part.big;
+      states = states-upto (largest_state rule) t part.states;
+      quarters = subst (λ xs. Quarters (λ q. is_small m q ≡ false → is_in xs q ≡ true) t) (sym e) (listed-quarters root m t (least-one rule) i);
+    }
+
+-- the lines of the list are squares
+pub valid-lines : (top : ℕ) (rule : Rule) (root : Tree) → IsFull root → HasStatesUpTo (largest_state rule) root → depth root ≤ top → (all : List Tree) → all ≡ listed root (least_level rule)
+    → (lines : List Line) → lines ≡ lines_for rule all → AreSquares top rule lines
+valid-lines top rule root full states low all e lines f =
+    let P : List Line → Type 0 = λ ls. AreSquares top rule ls in
+    subst P (sym (f ∙ ap (lines_for rule) e)) (valid-squares top rule _ (lines_for-valid top rule root low (full-depth root full) (states-below (largest_state rule) root states)))
+
+-- a root that is its own trimmed form is the whole of what it says
+pub whole-of : (top : ℕ) (rule : Rule) (generation : ℕ) {k : ℕ} {root : Tree} → HasDepth (suc k) root → suc k ≤ suc top → least_level rule ≤ suc k → trimmed root (least_level rule) ≡ root
+    → whole (suc top) (square_universe rule generation root) ≡ root
+whole-of top rule generation {k = k} {root = root} h low le fixed =
+    let m = least_level rule in
+    let n : suc top ≡ suc ((top - k) + k) = omega arith in
+    whole-trimmed (suc top) (square_universe rule generation root)
+    ∙ ap (λ j. trimmed_to (centred (tree_cell root) j) m) n
+    ∙ centred-trimmed (tree_cell root) m (top - k) k (least-one rule) le (tree_cell-outside h)
+    ∙ ap (λ t. trimmed_to t m) (centred-tree_cell h)
+    ∙ sym (trimmed-is m h (least-one rule)) ∙ fixed
+
+one-more : (n : ℕ) → 1 ≤ n → n ≡ suc (n - 1)
+one-more n h = omega arith
+
+-- the canonical file of what the root says
+pub file-of : (top : ℕ) (rule : Rule) (generation : ℕ) (root : Tree) → IsFull root → depth root ≤ suc top → least_level rule ≤ depth root → trimmed root (least_level rule) ≡ root
+    → canonical_file (suc top) (square_universe rule generation root) ≡ square_file rule generation root
+unfolding canonical_file
+file-of top rule generation root full low le fixed =
+    let d : depth root ≡ suc (depth root - 1) = one-more (depth root) (omega (arith, least-one rule)) in
+    let h : HasDepth (suc (depth root - 1)) root = subst (λ n. HasDepth n root) d (full-depth root full) in
+    ap (square_file rule generation) (whole-of top rule generation h (subst (λ n. n ≤ suc top) d low) (subst (λ n. least_level rule ≤ n) d le) fixed)
+
+outside-up : (f : ℤ → ℤ → ℕ) (k top : ℕ) → suc k ≤ suc top → IsBlankOutside (suc k) f → IsBlankOutside (suc top) f
+outside-up f k top l h = let n : suc ((top - k) + k) ≡ suc top = omega arith in subst (λ j. IsBlankOutside j f) n (outside-by f (top - k) k h)
+
+-- no macrocell file of what the root says has fewer lines
+pub root-least : (top : ℕ) (rule : Rule) (generation : ℕ) (root : Tree) → 3 ≤ suc top → IsFull root → HasStatesUpTo (largest_state rule) root → depth root ≤ suc top → least_level rule ≤ depth root
+    → trimmed root (least_level rule) ≡ root → IsLeast (suc top) (square_universe rule generation root) (node_lines (square_file rule generation root))
+unfolding canonical_file
+root-least top rule generation root high full states low le fixed = λ bytes file says same rival.
+    let d : depth root ≡ suc (depth root - 1) = one-more (depth root) (omega (arith, least-one rule)) in
+    let h : HasDepth (suc (depth root - 1)) root = subst (λ n. HasDepth n root) d (full-depth root full) in
+    let v = files_are_valid (suc top) bytes file says in
+    let R : Rule → Type 0 = λ r. IsRule r in
+    let plane : IsOnPlane (suc top) (square_universe rule generation root) = record {
+      rule = subst R (sym same.rule) v.rule;
+      generation = subst (λ n. n < 2 ^ 64) (sym same.generation) v.generation;
+      states = λ x y. upto-below _ (largest_state rule) (tree_cell-below (state_bound rule) root (states-below (largest_state rule) root states) (omega arith) x y);
+      outside = outside-up (tree_cell root) (depth root - 1) top (subst (λ n. n ≤ suc top) d low) (tree_cell-outside h);
+    } in
+    subst (λ w. length (square_file rule generation w).lines ≤ length file.lines)
+    (whole-of top rule generation h (subst (λ n. n ≤ suc top) d low) (subst (λ n. least_level rule ≤ n) d le) fixed)
+    (least top (square_universe rule generation root) file high plane v same rival)
+
+-- the square of each key of the list is listed
+pub listed-at : {K : Type 0} (content : K → Tree) (keys items : List K) (rule : Rule) (i : ℕ) (d : K) → ((t : Tree) → Contains (map content keys) t → IsListed rule (map content keys) t)
+    → items ≡ keys → i < length items → IsListed rule (map content keys) (content (get_or items i d))
+listed-at {K} content keys items rule i d each e l =
+    let P : List K → Type 0 = λ ks. i < length ks → IsListed rule (map content keys) (content (get_or ks i d)) in
+    subst P (sym e)
+    (λ h. each _ (i, subst (λ n. i < n) (sym (length-map keys content)) h, get_or-map content keys i d (content (get_or keys i d)) h)) l

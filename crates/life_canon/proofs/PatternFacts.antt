@@ -1,0 +1,150 @@
+-- The patterns that are made of the lines of a file, and the faults of lines.
+use Rattle.std.proofs.Common.{◌≡◌, ℕ, suc, ◌+◌, ◌-◌, ◌<◌, ◌≤◌, Bool, true, false, cond, List, [], ◌∷◌, ◌++◌, length, map, refl, ap, sym, ◌∙◌, subst, arith, ◌⊎◌, inl, inr, Some, Contains, ℤ, length-append}
+use Rattle.std.specs.Prelude.{MatchBool, Result, Ok, Err, OnOk, IfErr}
+use Rattle.life_base.specs.Refusal.{Prefix}
+use Rattle.life_base.specs.Tree.{Tree, depth, tree_cell, IsFull}
+use Rattle.life_base.specs.declared.cell.TheConstants.{MAX_LEVEL}
+use Rattle.life_base.specs.declared.kind.Kind.{Kind}
+use Rattle.life_base.specs.declared.kind.Kind.TheVariants.{Full, Memory, Spent, NoHeader}
+use Rattle.life_base.specs.declared.rule.Rule.{Rule}
+use Rattle.life_mc.specs.Macrocell.{Macrocell, IsValid, AreSquares}
+use Rattle.life_mc.specs.Reading.{AreMacrocell, broken, is_macrocell_kind, squares_of, Accepts as IsSomeMacrocell}
+use Rattle.life_mc.specs.declared.line.Line.{Line}
+use Rattle.life_mc.proofs.Accepted.{lines_are_valid}
+use Rattle.life_mc.proofs.FormatLaws.{fronts_are_files}
+use Rattle.life_mc.proofs.LineKinds.{broken_kind}
+use Rattle.life_quad.specs.Moves.{trimmed}
+use Rattle.life_quad.specs.Store.{Nodes, held}
+use Rattle.life_rle.specs.Decided.{LacksHeader}
+use Rattle.life_rle.specs.File.{HasRuns}
+use Rattle.life_rle.specs.Grammar.{IsRle, Breaks as BreaksRle, is_rle_kind}
+use Rattle.life_rle.specs.Pattern.{Rle, placed, cell as rle_cell}
+use Rattle.life_rle.specs.Position.{default_position}
+use Rattle.life_rle.specs.Runs.{runs_of}
+use Rattle.life_rle.specs.RunsLaw.{state_by as rle_state_by, has_cell}
+use Rattle.life_rle.specs.declared.file.Run.{Run}
+use Rattle.life_rle.proofs.LineKinds.{Breaks-kind}
+use Rattle.life_rle.proofs.Refusal.{IsPreamble-refused}
+use Rattle.life_rle.proofs.RunsLaws.{runs_are_cells}
+use Rattle.life_rle.proofs.Unique.{IsRle-unique}
+use Rattle.life_strip.specs.Given.{state_by}
+use Rattle.life_canon.specs.Building.{given}
+use Rattle.life_canon.specs.Files.{Breaks, is_macrocell}
+use Rattle.life_canon.specs.Store.{IsWantKind}
+use Rattle.life_canon.specs.Taking.{taken}
+use Rattle.life_canon.specs.Universe.{Universe, IsSame, least_level, centred, whole, square_universe}
+use Rattle.life_canon.specs.declared.feeding.Progress.{Progress}
+use Rattle.life_canon.specs.declared.feeding.Progress.TheVariants as progress
+use Rattle.life_canon.proofs.Canonical.{same-whole, whole-trimmed}
+use Rattle.life_canon.proofs.Content.{least-one}
+use Rattle.life_canon.proofs.Planes.{full-depth, trimmed-is, centred-tree_cell, tree_cell-outside}
+use Rattle.life_canon.proofs.TreeWords.{HasDepth, trimmed_to}
+use Rattle.life_canon.proofs.Trees.{centred-trimmed}
+
+-- ---- the root of a pattern
+
+one-more : (n : ℕ) → 1 ≤ n → n ≡ suc (n - 1)
+one-more n h = omega arith
+
+-- a square with the cells of a pattern, trimmed, is the whole of the pattern
+pub trimmed-whole : (top : ℕ) (u : Universe) (t : Tree) → IsFull t → depth t ≤ suc top → least_level u.rule ≤ depth t → ((x y : ℤ) → tree_cell t x y ≡ u.cell x y)
+    → trimmed t (least_level u.rule) ≡ whole (suc top) u
+trimmed-whole top u t full low le cells =
+    let m = least_level u.rule in
+    let k : ℕ = depth t - 1 in
+    let d : depth t ≡ suc k = one-more (depth t) (omega (arith, least-one u.rule)) in
+    let h : HasDepth (suc k) t = subst (λ (n : ℕ). HasDepth n t) d (full-depth t full) in
+    let high : m ≤ suc k = subst (λ (n : ℕ). m ≤ n) d le in
+    let n : suc top ≡ suc ((top - k) + k) = omega (arith, d, low) in
+    let v : Universe = square_universe u.rule u.generation t in
+    let s : IsSame u v = record { rule = refl; generation = refl; cells = λ x y. sym (cells x y) } in
+    sym (same-whole (suc top) u v s ∙ whole-trimmed (suc top) v ∙ ap (λ (j : ℕ). trimmed_to (centred (tree_cell t) j) m) n
+    ∙ centred-trimmed (tree_cell t) m (top - k) k (least-one u.rule) high (tree_cell-outside h)
+    ∙ ap (λ (s : Tree). trimmed_to s m) (centred-tree_cell h) ∙ sym (trimmed-is m h (least-one u.rule)))
+
+-- ---- the cells of runs
+
+given-cells : (runs : List Run) (x y : ℤ) → state_by (map given runs) x y ≡ rle_state_by runs x y
+given-cells [] x y = refl
+given-cells (run ∷ runs) x y = ap (λ (n : ℕ). cond (has_cell run x y) run.state n) (given-cells runs x y)
+
+-- the runs of lines that are a file have its cells
+pub file-cells : (lines : List (List ℕ)) (runs : List Run) (file : Rle) → HasRuns MAX_LEVEL lines runs → IsRle MAX_LEVEL lines file → (x y : ℤ)
+    → state_by (map given runs) x y ≡ rle_cell file x y
+file-cells lines runs file (inl h) r x y = absurd (IsPreamble-refused MAX_LEVEL lines h.0 h.1 (file, r))
+file-cells lines runs file (inr h) r x y =
+    let same : h.0 ≡ file = IsRle-unique MAX_LEVEL lines h.0 file h.1 r in
+    given-cells runs x y ∙ ap (λ (rs : List Run). rle_state_by rs x y) h.2
+    ∙ sym ((runs_are_cells MAX_LEVEL lines h.0 h.1).2 x y) ∙ ap (λ (f : Rle). rle_cell f x y) same
+
+-- ---- node lines
+
+pub record NextSquare (lines : List (List ℕ)) (square : Line) : Type 0 where
+  pub rule : Rule
+  pub generation : ℕ
+  pub valid : IsValid MAX_LEVEL (record { rule = rule; generation = generation; lines = squares_of lines ++ square ∷ [] })
+
+-- a node line that goes on a front is a square behind those before it
+pub next-square : (lines more : List (List ℕ)) (line : List ℕ) (square : Line) → more ≡ lines ++ line ∷ [] → Prefix (IsSomeMacrocell MAX_LEVEL) more
+    → squares_of more ≡ squares_of lines ++ square ∷ [] → NextSquare lines square
+next-square lines more line square e p s =
+    let some : 0 < length more = omega (arith, ap length e, length-append lines (line ∷ [])) in
+    let file = (fronts_are_files MAX_LEVEL more some).0 p in
+    let v = lines_are_valid MAX_LEVEL more file.0 file.1 in
+    let same : file.0.lines ≡ squares_of lines ++ square ∷ [] = file.1.squares ∙ s in
+    record {
+      rule = file.0.rule;
+      generation = file.0.generation;
+      valid = record { rule = v.rule; generation = v.generation; squares = subst (λ (ls : List Line). AreSquares MAX_LEVEL file.0.rule ls) same v.squares };
+    }
+
+-- ---- faults
+
+kind-differs : (kind other : Kind) → is_macrocell_kind kind ≡ true → is_macrocell_kind other ≡ false → kind ≡ other → ⊥
+kind-differs kind other h k e = cc
+
+kind-differs-rle : (kind other : Kind) → is_rle_kind kind ≡ true → is_rle_kind other ≡ false → kind ≡ other → ⊥
+kind-differs-rle kind other h k e = cc
+
+pub not-full : (lines : List (List ℕ)) (line : List ℕ) (kind : Kind) → (kind ≡ Memory) ⊎ (kind ≡ Spent) ⊎ (broken MAX_LEVEL lines line ≡ Some kind) → kind ≡ Full → ⊥
+not-full lines line kind (inl m) e = cc
+not-full lines line kind (inr (inl s)) e = cc
+not-full lines line kind (inr (inr b)) e = kind-differs kind Full (broken_kind MAX_LEVEL lines line kind b) refl e
+
+pub not-full-rle : (lines : List (List ℕ)) (line : List ℕ) (kind : Kind) → (kind ≡ Memory) ⊎ (kind ≡ Spent) ⊎ BreaksRle MAX_LEVEL lines line kind → kind ≡ Full → ⊥
+not-full-rle lines line kind (inl m) e = cc
+not-full-rle lines line kind (inr (inl s)) e = cc
+not-full-rle lines line kind (inr (inr b)) e = kind-differs-rle kind Full (Breaks-kind MAX_LEVEL lines line kind b) refl e
+
+-- no lines lack a header
+pub undecided-lacks : (p : Progress) → p ≡ progress.Undecided → LacksHeader MAX_LEVEL (taken p) × (is_macrocell (taken p) ≡ false)
+undecided-lacks p e = subst (λ (q : Progress). LacksHeader MAX_LEVEL (taken q) × (is_macrocell (taken q) ≡ false)) (sym e) ((default_position, refl), refl)
+
+-- what holds of an answer by two facts
+pub both-ok : {T E P Q R : Type 0} (r : Result T E) → OnOk r P → OnOk r Q → (P → Q → R) → OnOk r R
+both-ok (Ok x) p q f = f p q
+both-ok (Err e) p q f = tt
+
+-- a reader that has refused nothing isn't spent
+pub told-fault : (B : Type 0) (refused : Bool) (kind : Kind) → refused ≡ false → (kind ≡ Memory) ⊎ (kind ≡ Spent) ⊎ B → (kind ≡ Spent → refused ≡ true)
+    → (kind ≡ Full) ⊎ (kind ≡ Memory) ⊎ B
+told-fault B refused kind r (inl m) s = inr (inl m)
+told-fault B refused kind r (inr (inl p)) s = let t = s p in cc
+told-fault B refused kind r (inr (inr b)) s = inr (inr b)
+
+-- the kind of a refused line of RLE
+pub rle-fault : (r : Result (Unit {0}) Kind) (store : Nodes) (lines : List (List ℕ)) (line : List ℕ) → is_macrocell (lines ++ line ∷ []) ≡ false
+    → IfErr r (λ kind. (kind ≡ Full) ⊎ (kind ≡ Memory) ⊎ BreaksRle MAX_LEVEL lines line kind) → (r ≡ Err Full → length (held store) ≡ store.limit)
+    → IfErr r (λ kind. IsWantKind store kind ⊎ Breaks MAX_LEVEL lines line kind)
+rle-fault (Ok x) store lines line m f l = tt
+rle-fault (Err kind) store lines line m (inl e) l = inl (inr (e, l (ap (λ (k : Kind). Err k) e)))
+rle-fault (Err kind) store lines line m (inr (inl e)) l = inl (inl e)
+rle-fault (Err kind) store lines line m (inr (inr b)) l =
+    inr (subst (λ (v : Bool). MatchBool v (broken MAX_LEVEL lines line ≡ Some kind) (BreaksRle MAX_LEVEL lines line kind)) (sym m) b)
+
+-- the end of a reader of RLE is refused for want of a header
+pub end-kind : (p : Progress) (lines : List (List ℕ)) (refused : Bool) (kind : Kind) → taken p ≡ lines → is_macrocell lines ≡ false → refused ≡ false
+    → (kind ≡ NoHeader) ⊎ (kind ≡ Spent) → (kind ≡ NoHeader → LacksHeader MAX_LEVEL lines) → (kind ≡ Spent → refused ≡ true)
+    → (kind ≡ NoHeader) × LacksHeader MAX_LEVEL (taken p) × (is_macrocell (taken p) ≡ false)
+end-kind p lines refused kind e m r (inl n) l s = (n, subst (LacksHeader MAX_LEVEL) (sym e) (l n), ap is_macrocell e ∙ m)
+end-kind p lines refused kind e m r (inr t) l s = let u = s t in cc

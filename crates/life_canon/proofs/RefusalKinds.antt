@@ -1,0 +1,49 @@
+-- A refusal of a file has one of the kinds of files, and names a line.
+use Rattle.std.proofs.Common.{◌≡◌, ℕ, ◌+◌, ◌-◌, ◌^◌, ◌<◌, ◌≤◌, Bool, true, false, ◌||◌, List, [], ◌∷◌, ◌++◌, length, take, refl, ap, sym, ◌∙◌, subst, arith, ◌⊎◌, inl, inr}
+use Rattle.std.specs.Prelude.{MatchBool, Some, None, Option, nat_le}
+use Rattle.std.specs.List.{slice_index_or}
+use Rattle.std.proofs.lemmas.Bool.Decides.{nat_tests}
+use Rattle.life_base.specs.declared.fault.Fault.{Fault}
+use Rattle.life_base.specs.declared.kind.Kind.{Kind}
+use Rattle.life_base.specs.declared.kind.Kind.TheVariants.{NoHeader}
+use Rattle.life_mc.specs.Reading.{broken, is_macrocell_kind, LinesBreakByKinds as MacrocellKinds}
+use Rattle.life_rle.specs.Grammar.{Breaks as BreaksRle, is_rle_kind}
+use Rattle.life_rle.specs.Laws.{LinesBreakByKinds as RleKinds}
+use Rattle.life_canon.specs.Files.{Refuses, RefusesLines, Breaks, missing, is_macrocell, is_file_kind}
+use Rattle.life_canon.proofs.Trees.{bool_cases}
+
+left : (a b : Bool) → a ≡ true → (a || b) ≡ true
+left true b h = refl
+left false b h = grind arith
+
+right : (a b : Bool) → b ≡ true → (a || b) ≡ true
+right true b h = refl
+right false b h = h
+
+by_line : (top : ℕ) → MacrocellKinds top → RleKinds → (front : List (List ℕ)) (line : List ℕ) (kind : Kind) → Breaks top front line kind → is_file_kind kind ≡ true
+by_line top m r front line kind = by (is_macrocell (front ++ line ∷ []))
+  where
+    by : (b : Bool) → MatchBool b (broken top front line ≡ Some kind) (BreaksRle top front line kind) → is_file_kind kind ≡ true
+    by true h = left (is_macrocell_kind kind) (is_rle_kind kind) (m front line kind h)
+    by false h = right (is_macrocell_kind kind) (is_rle_kind kind) (r top front line kind h)
+
+by_end : (b : Bool) (kind : Kind) → MatchBool b (None ≡ Some kind) (Some NoHeader ≡ Some kind) → is_file_kind kind ≡ true
+by_end true kind h = cc
+by_end false kind h = let e : NoHeader ≡ kind = cc in subst (λ k. is_file_kind k ≡ true) e refl
+
+ends : (lines : List (List ℕ)) (kind : Kind) → missing lines ≡ Some kind → is_file_kind kind ≡ true
+ends lines kind h = by (is_macrocell lines) refl
+  where
+    by : (b : Bool) → is_macrocell lines ≡ b → is_file_kind kind ≡ true
+    by true e = let z : missing lines ≡ None = grind (arith, e) in by_end true kind (sym z ∙ h)
+    by false e = let z : missing lines ≡ Some NoHeader = grind (arith, e) in by_end false kind (sym z ∙ h)
+
+pub refusal-kinds : (top : ℕ) → MacrocellKinds top → RleKinds → (lines : List (List ℕ)) (fault : Fault) → RefusesLines top lines fault → is_file_kind fault.kind ≡ true
+refusal-kinds top m r lines fault h = by (nat_le h.n (length lines)) refl
+  where
+    by : (b : Bool) → nat_le h.n (length lines) ≡ b → is_file_kind fault.kind ≡ true
+    by true e = by_line top m r (take (h.n - 1) lines) (slice_index_or lines (h.n - 1) []) fault.kind (h.at_line (grind (arith, nat_tests, e)))
+    by false e = ends lines fault.kind (h.at_end (grind (arith, nat_tests, e)))
+
+pub refusal-line : (top : ℕ) (lines : List (List ℕ)) (fault : Fault) → RefusesLines top lines fault → 1 ≤ fault.place.line
+refusal-line top lines fault h = omega (arith, h.line, h.place.counted)

@@ -1,0 +1,144 @@
+-- A front that is refused stays refused, whatever bytes follow.
+use Rattle.std.proofs.Common.{◌≡◌, ℕ, suc, ◌+◌, ◌-◌, ◌^◌, ◌<◌, ◌≤◌, min, Bool, true, false, cond, not, ◌&&◌, List, [], ◌∷◌, ◌++◌, length, take, drop, get_or, refl, ap, sym, ◌∙◌, subst, arith, ◌⊎◌, inl, inr, Some, append_assoc, drop-cons, codes}
+use Rattle.std.specs.Prelude.{MatchBool, ◌==◌, bytes_eq}
+use Rattle.std.specs.List.{slice_index_or}
+use Rattle.std.proofs.lemmas.Bool.Decides.{nat_tests}
+use Rattle.std.proofs.lemmas.List.{append-nil, take-append-drop, take-append-le, length-append, length-take-le}
+use Rattle.std.proofs.Math.ListN.{get_or-append}
+use Rattle.life_base.specs.Lines.{has_no_feed, whole_lines, rest_line, one_line}
+use Rattle.life_base.proofs.WholeLines.{lines_are_whole, lines_continue, rest_has_no_feed}
+use Rattle.life_base.proofs.Numbers.{first, second}
+use Rattle.life_base.specs.Refusal.{Prefix}
+use Rattle.life_base.specs.Text.{lines_of, onto_first, is_too_long, begins_with}
+use Rattle.life_base.specs.declared.cell.TheConstants.{MAX_LEVEL}
+use Rattle.life_base.specs.declared.fault.Fault.{Fault}
+use Rattle.life_base.specs.declared.kind.Kind.{Kind}
+use Rattle.life_base.specs.declared.kind.Kind.TheVariants.{LineTooLong}
+use Rattle.life_mc.specs.Reading.{broken}
+use Rattle.life_rle.specs.Grammar.{IsMarked, Breaks as BreaksRle}
+use Rattle.life_rle.specs.Pattern.{Rle}
+use Rattle.life_rle.proofs.FormatLaws.{broken_for_good}
+use Rattle.life_rle.proofs.FrontLaws.{lines_behind_mark_are_free, long_lines_break}
+use Rattle.life_canon.specs.Feeding.{RefusesFront}
+use Rattle.life_canon.specs.Files.{Accepts, Breaks, Refuses, is_macrocell}
+use Rattle.life_canon.proofs.FrontFacts.{long-place, breaks-long, long-macrocell, is-long}
+use Rattle.life_canon.proofs.Unions.{line-refused, line-refused-n}
+
+-- ---- a longer line is too long too
+
+begins-longer : (line more : List ℕ) → 4 ≤ length line → begins_with (line ++ more) (codes "[M2]") ≡ begins_with line (codes "[M2]")
+begins-longer line more h = ap (λ (t : List ℕ). bytes_eq t (codes "[M2]")) (take-append-le 4 line more h)
+
+format-longer : (front : List (List ℕ)) (line more : List ℕ) → 4 ≤ length line → is_macrocell (front ++ line ∷ []) ≡ is_macrocell (front ++ (line ++ more) ∷ [])
+format-longer [] line more h = sym (begins-longer line more h)
+format-longer (f ∷ front) line more h = refl
+
+length-of-long : (line : List ℕ) → is_too_long line ≡ true → 2 ^ 20 < length line
+length-of-long line h = grind (arith, nat_tests, h)
+
+breaks-longer : (front : List (List ℕ)) (line more : List ℕ) → Breaks MAX_LEVEL front line LineTooLong → Breaks MAX_LEVEL front (line ++ more) LineTooLong
+breaks-longer front line more b =
+    subst (λ (v : Bool). MatchBool v (broken MAX_LEVEL front (line ++ more) ≡ Some LineTooLong) (BreaksRle MAX_LEVEL front (line ++ more) LineTooLong))
+    (format-longer front line more (omega (arith, long))) (by (is_macrocell (front ++ line ∷ [])) b)
+  where
+    long : 2 ^ 20 < length line
+    long = length-of-long line (breaks-long front line b)
+
+    longer : is_too_long (line ++ more) ≡ true
+    longer = is-long (line ++ more) (omega (arith, long, length-append line more))
+
+    by : (m : Bool) → MatchBool m (broken MAX_LEVEL front line ≡ Some LineTooLong) (BreaksRle MAX_LEVEL front line LineTooLong)
+        → MatchBool m (broken MAX_LEVEL front (line ++ more) ≡ Some LineTooLong) (BreaksRle MAX_LEVEL front (line ++ more) LineTooLong)
+    by true h = long-macrocell front (line ++ more) longer
+    by false h =
+        ((long_lines_break MAX_LEVEL front (line ++ more)).1 longer (broken_for_good MAX_LEVEL front line LineTooLong h).0
+        (λ file m. (lines_behind_mark_are_free MAX_LEVEL front [] file m).1 line LineTooLong (subst (λ (f : List (List ℕ)). BreaksRle MAX_LEVEL f line LineTooLong) (sym (append-nil front)) h))
+        LineTooLong).1 refl
+
+-- ---- the first line of bytes that go on
+
+not-feed : (v : Bool) → not v ≡ true → v ≡ false
+not-feed true h = cc
+not-feed false h = refl
+
+onto-line : (b : ℕ) (bytes : List ℕ) → not (b == 10) ≡ true → lines_of (b ∷ bytes) ≡ onto_first b (lines_of bytes)
+onto-line b bytes h = ap (λ v. cond v ([] ∷ lines_of bytes) (onto_first b (lines_of bytes))) (not-feed (b == 10) h)
+
+-- a first line begins with these bytes
+pub record BeginsWith (front : List ℕ) (lines : List (List ℕ)) : Type 0 where
+  pub rest : List ℕ
+  pub more : List (List ℕ)
+  pub is : lines ≡ (front ++ rest) ∷ more
+
+begins-first : (b : ℕ) (lines : List (List ℕ)) → BeginsWith (b ∷ []) (onto_first b lines)
+begins-first b [] = record { rest = []; more = []; is = refl }
+begins-first b (line ∷ lines) = record { rest = line; more = lines; is = refl }
+
+pub begins : (front more : List ℕ) → has_no_feed front ≡ true → 0 < length front → BeginsWith front (lines_of (front ++ more))
+begins [] more h some = absurd (omega arith)
+begins (b ∷ []) more h some = subst (BeginsWith (b ∷ [])) (sym (onto-line b more (first _ _ h))) (begins-first b (lines_of more))
+begins (b ∷ (c ∷ front)) more h some =
+    let r = begins (c ∷ front) more (second _ _ h) (omega arith) in
+    record { rest = r.rest; more = r.more; is = onto-line b ((c ∷ front) ++ more) (first _ _ h) ∙ ap (onto_first b) r.is }
+
+-- ---- refusals
+
+split-at : (lines : List (List ℕ)) (k : ℕ) → k < length lines → lines ≡ take k lines ++ get_or lines k [] ∷ drop (suc k) lines
+split-at lines k h = sym (take-append-drop k lines) ∙ ap (λ (d : List (List ℕ)). take k lines ++ d) (drop-cons lines k [] h)
+
+early-stays : (bytes more : List ℕ) (fault : Fault) (r : Refuses MAX_LEVEL bytes fault) → r.n ≤ length (whole_lines bytes) → RefusesFront MAX_LEVEL (bytes ++ more) fault
+early-stays bytes more fault r early =
+    let whole = whole_lines bytes in
+    let k : ℕ = r.n - 1 in
+    let back : k + 1 ≡ r.n = omega (arith, r.place.counted) in
+    let small : k < length whole = omega (arith, early, back) in
+    let behind = lines_of (rest_line bytes ++ more) in
+    let lines : lines_of bytes ≡ whole ++ one_line (rest_line bytes) = lines_are_whole bytes in
+    let len : length (lines_of bytes) ≡ length whole + length (one_line (rest_line bytes)) = ap length lines ∙ length-append whole (one_line (rest_line bytes)) in
+    let fore : take k (lines_of bytes) ≡ take k whole = ap (take k) lines ∙ take-append-le k whole (one_line (rest_line bytes)) (omega (arith, small)) in
+    let item : slice_index_or (lines_of bytes) k [] ≡ get_or whole k [] =
+    ap (λ (ls : List (List ℕ)). slice_index_or ls k []) lines ∙ get_or-append whole (one_line (rest_line bytes)) [] k small in
+    let split : lines_of (bytes ++ more) ≡ take k whole ++ get_or whole k [] ∷ (drop (suc k) whole ++ behind) =
+    (lines_continue bytes more).lines ∙ ap (λ (ls : List (List ℕ)). ls ++ behind) (split-at whole k small)
+    ∙ append_assoc (take k whole) (get_or whole k [] ∷ drop (suc k) whole) behind in
+    let count : length (take k whole) ≡ k = length-take-le k whole (omega (arith, small)) in
+    let b : Breaks MAX_LEVEL (take k whole) (get_or whole k []) fault.kind =
+    subst (λ (l : List ℕ). Breaks MAX_LEVEL (take k whole) l fault.kind) item
+    (subst (λ (f : List (List ℕ)). Breaks MAX_LEVEL f (slice_index_or (lines_of bytes) k []) fault.kind) fore (r.at_line (omega (arith, early, len)))) in
+    let at : fault.place.line ≡ min (length (take k whole) + 1) (2 ^ 64 - 1) = omega (arith, r.line, count, back) in
+    let front : Prefix (Accepts MAX_LEVEL) (take k whole) = subst (Prefix (Accepts MAX_LEVEL)) fore (r.place.before k (omega (arith, back))) in
+    let n = line-refused-n MAX_LEVEL (lines_of (bytes ++ more)) (take k whole) (get_or whole k []) (drop (suc k) whole ++ behind) fault split front b at in
+    record {
+      refuses = line-refused MAX_LEVEL (lines_of (bytes ++ more)) (take k whole) (get_or whole k []) (drop (suc k) whole ++ behind) fault split front b at;
+      told = inl (omega (arith, n, ap length (lines_continue bytes more).whole, length-append whole (whole_lines (rest_line bytes ++ more)), count, small));
+    }
+
+last-stays : (bytes more : List ℕ) (fault : Fault) (r : Refuses MAX_LEVEL bytes fault) → fault.kind ≡ LineTooLong → r.n ≡ length (whole_lines bytes) + 1 → 0 < length (rest_line bytes)
+    → Breaks MAX_LEVEL (whole_lines bytes) (rest_line bytes) LineTooLong → RefusesFront MAX_LEVEL (bytes ++ more) fault
+last-stays bytes more fault r kind n some b =
+    let whole = whole_lines bytes in
+    let first = begins (rest_line bytes) more (rest_has_no_feed bytes) some in
+    let lines : lines_of bytes ≡ whole ++ one_line (rest_line bytes) = lines_are_whole bytes in
+    let fore : take (length whole) (lines_of bytes) ≡ whole = ap (take (length whole)) lines ∙ take-append-le (length whole) whole (one_line (rest_line bytes)) (omega arith) ∙ all whole in
+    let split : lines_of (bytes ++ more) ≡ whole ++ (rest_line bytes ++ first.rest) ∷ first.more =
+    (lines_continue bytes more).lines ∙ ap (λ (ls : List (List ℕ)). whole ++ ls) first.is in
+    record {
+      refuses = line-refused MAX_LEVEL (lines_of (bytes ++ more)) whole (rest_line bytes ++ first.rest) first.more fault split
+          (subst (Prefix (Accepts MAX_LEVEL)) fore (r.place.before (length whole) (omega (arith, n))))
+          (subst (Breaks MAX_LEVEL whole (rest_line bytes ++ first.rest)) (sym kind) (breaks-longer whole (rest_line bytes) first.rest b))
+          (omega (arith, r.line, n));
+      told = inr kind;
+    }
+  where
+    all : (ls : List (List ℕ)) → take (length ls) ls ≡ ls
+    all [] = refl
+    all (l ∷ ls) = ap (λ (t : List (List ℕ)). l ∷ t) (all ls)
+
+pub stays-refused : (bytes more : List ℕ) (fault : Fault) → RefusesFront MAX_LEVEL bytes fault → RefusesFront MAX_LEVEL (bytes ++ more) fault
+stays-refused bytes more fault r = elim r.told [
+  | inl early ↦ early-stays bytes more fault r.refuses early
+  | inr k ↦ elim (long-place bytes fault r.refuses k) [
+    | inl early ↦ early-stays bytes more fault r.refuses early
+    | inr last ↦ last-stays bytes more fault r.refuses k last.0 last.1 last.2
+  ]
+]

@@ -1,0 +1,132 @@
+-- How an input is read in pieces to its end.
+use Rattle.std.proofs.Common.{◌≡◌, ℕ, ◌+◌, ◌<◌, ◌≤◌, Bool, true, false, List, [], ◌++◌, length, take, refl, ap, sym, ◌∙◌, subst, arith, ◌⊎◌, inl, inr, Option, Some, None, length-append}
+use Rattle.std.specs.Prelude.{MatchOption, IfSome, Result, IfErr}
+use Rattle.std.proofs.lemmas.Result.{IfErr-weaker}
+use Rattle.std.specs.Io.KnownBytes.{Consumes, IsAtEnd}
+use Rattle.std.proofs.KnownBytes.{Consumes-trans}
+use Rattle.std.proofs.lemmas.List.{append-nil}
+use Rattle.life_base.specs.DeviceRuns.{SourceRun}
+use Rattle.life_base.specs.Inputs.{ReadAll, CameBeyond}
+use Rattle.life_base.specs.Text.{lines_of}
+use Rattle.life_base.specs.declared.cell.TheConstants.{MAX_LEVEL}
+use Rattle.life_base.specs.declared.fault.Fault.{Fault}
+use Rattle.life_base.specs.declared.kind.Kind.{Kind}
+use Rattle.life_base.specs.declared.kind.Kind.TheVariants.{Full, Memory}
+use Rattle.life_quad.specs.Store.{Nodes}
+use Rattle.life_canon.specs.Feeding.{Fed, RefusesFront, Stands}
+use Rattle.life_canon.specs.Files.{Refuses, is_file_kind}
+use Rattle.life_canon.specs.Running.{ReadRefuses, HasRead, by_file, by_want}
+use Rattle.life_canon.specs.Store.{IsRead, IsWant, RefusesIn}
+use Rattle.life_canon.specs.declared.pattern.Pattern.{Pattern}
+use Rattle.life_mc.proofs.LineKinds.{broken_kind}
+use Rattle.life_rle.proofs.LineKinds.{Breaks-kind}
+use Rattle.life_canon.proofs.RefusalKinds.{refusal-kinds}
+use Rattle.life_canon.proofs.RefusedFronts.{stays-refused}
+
+-- What came so far, and what was made of it: a line of it was refused, or the reader has it.
+pub record IsReading (store : Nodes) (before after : Option (List ℕ)) (total : ℕ) (refused : Option Fault) (fed : Fed) : Type 0 where
+  pub bytes : List ℕ
+  pub came : Consumes before after bytes
+  pub count : length bytes ≡ total
+  pub state : MatchOption refused ((fed.spent ≡ false) × (fed.bytes ≡ bytes) × Stands store fed) (RefusesFront MAX_LEVEL bytes)
+
+-- a piece more
+module _ (old new : Nodes) (before mid after : Option (List ℕ)) (total count : ℕ) (refused next : Option Fault) (fed more : Fed) (piece : List ℕ) where
+  pub reading-on : IsReading old before mid total refused fed → Consumes mid after piece → length piece ≡ count
+      → (next ≡ None → (refused ≡ None) × (more.spent ≡ false) × (more.bytes ≡ fed.bytes ++ piece) × Stands new more)
+      → IfSome next (λ fault. (refused ≡ Some fault) ⊎ ((refused ≡ None) × RefusesFront MAX_LEVEL (fed.bytes ++ piece) fault))
+      → IsReading new before after (total + count) next more
+  reading-on r came len going told = record {
+    bytes = r.bytes ++ piece;
+    came = Consumes-trans before mid after r.bytes piece r.came came;
+    count = omega (arith, r.count, len, length-append r.bytes piece);
+    state = by next refl going told;
+  }
+    where
+      open-bytes : refused ≡ None → fed.bytes ≡ r.bytes
+      open-bytes e =
+          let s : MatchOption None ((fed.spent ≡ false) × (fed.bytes ≡ r.bytes) × Stands old fed) (RefusesFront MAX_LEVEL r.bytes) =
+          subst (λ (o : Option Fault). MatchOption o ((fed.spent ≡ false) × (fed.bytes ≡ r.bytes) × Stands old fed) (RefusesFront MAX_LEVEL r.bytes)) e r.state in
+          s.1
+
+      was : (fault : Fault) → refused ≡ Some fault → RefusesFront MAX_LEVEL r.bytes fault
+      was fault e = subst (λ (o : Option Fault). MatchOption o ((fed.spent ≡ false) × (fed.bytes ≡ r.bytes) × Stands old fed) (RefusesFront MAX_LEVEL r.bytes)) e r.state
+
+      by : (o : Option Fault) → next ≡ o → (o ≡ None → (refused ≡ None) × (more.spent ≡ false) × (more.bytes ≡ fed.bytes ++ piece) × Stands new more)
+          → IfSome o (λ fault. (refused ≡ Some fault) ⊎ ((refused ≡ None) × RefusesFront MAX_LEVEL (fed.bytes ++ piece) fault))
+          → MatchOption o ((more.spent ≡ false) × (more.bytes ≡ r.bytes ++ piece) × Stands new more) (RefusesFront MAX_LEVEL (r.bytes ++ piece))
+      by None e g t = let h = g refl in (h.1, h.2 ∙ ap (λ (b : List ℕ). b ++ piece) (open-bytes h.0), h.3)
+      by (Some fault) e g (inl s) = stays-refused r.bytes piece fault (was fault s)
+      by (Some fault) e g (inr s) = subst (λ (b : List ℕ). RefusesFront MAX_LEVEL (b ++ piece) fault) (open-bytes s.0) s.1
+
+-- all came
+pub read-all : (most : ℕ) (before mid after : Option (List ℕ)) (bytes : List ℕ) → Consumes before mid bytes → Consumes mid after [] → IsAtEnd after → length bytes ≤ most
+    → ReadAll most before after bytes
+read-all most before mid after bytes a b e l = record {
+  taken = subst (Consumes before after) (append-nil bytes) (Consumes-trans before mid after bytes [] a b);
+  ended = e;
+  within = l;
+}
+
+-- ---- faults of a line, and want of room or of memory
+
+front-kind : (bytes : List ℕ) (fault : Fault) → RefusesFront MAX_LEVEL bytes fault → is_file_kind fault.kind ≡ true
+front-kind bytes fault r = refusal-kinds MAX_LEVEL (broken_kind MAX_LEVEL) Breaks-kind (lines_of bytes) fault r.refuses
+
+full-not : (kind : Kind) → is_file_kind kind ≡ true → kind ≡ Full → ⊥
+full-not kind h e = let k : is_file_kind Full ≡ true = subst (λ (k : Kind). is_file_kind k ≡ true) e h in cc
+
+memory-not : (kind : Kind) → is_file_kind kind ≡ true → kind ≡ Memory → ⊥
+memory-not kind h e = let k : is_file_kind Memory ≡ true = subst (λ (k : Kind). is_file_kind k ≡ true) e h in cc
+
+pub want-of : (store : Nodes) (bytes : List ℕ) (fault : Fault) → IsWant store fault ⊎ RefusesFront MAX_LEVEL bytes fault → (fault.kind ≡ Full) ⊎ (fault.kind ≡ Memory) → IsWant store fault
+want-of store bytes fault (inl w) k = w
+want-of store bytes fault (inr r) (inl k) = absurd (full-not fault.kind (front-kind bytes fault r) k)
+want-of store bytes fault (inr r) (inr k) = absurd (memory-not fault.kind (front-kind bytes fault r) k)
+
+pub refused-by : (store : Nodes) (bytes : List ℕ) (fault : Fault) → IsWant store fault ⊎ RefusesFront MAX_LEVEL bytes fault → (fault.kind ≡ Full → ⊥) → (fault.kind ≡ Memory → ⊥)
+    → RefusesFront MAX_LEVEL bytes fault
+refused-by store bytes fault (inr r) n m = r
+refused-by store bytes fault (inl (inl e)) n m = absurd (m (ap (λ (f : Fault). f.kind) e))
+refused-by store bytes fault (inl (inr e)) n m = absurd (n (ap (λ (f : Fault). f.kind) e.0))
+
+-- more came than allowed
+module _ (store : Nodes) (before mid after : Option (List ℕ)) (total count most : ℕ) (refused : Option Fault) (fed : Fed) (piece : List ℕ) where
+  pub beyond-most : IsReading store before mid total refused fed → Consumes mid after piece → length piece ≡ count → most < total + count → CameBeyond most before after
+  beyond-most r came len more = record {
+    bytes = r.bytes ++ piece;
+    taken = Consumes-trans before mid after r.bytes piece r.came came;
+    long = omega (arith, r.count, len, more, length-append r.bytes piece);
+  }
+
+-- a read of no bytes is the end
+at-end : (mid after : Option (List ℕ)) (count : ℕ) (buf : List ℕ) → count ≡ 0 → 0 < length buf → Consumes mid after (take count buf) × (count ≡ 0 → 0 < length buf → IsAtEnd after)
+    → Consumes mid after [] × IsAtEnd after
+at-end mid after count buf e l h = let none : take count buf ≡ [] = grind (arith, e) in (subst (Consumes mid after) none h.0, h.1 e l)
+
+module _ (store new : Nodes) (before mid after : Option (List ℕ)) (total most failures count : ℕ) (buf : List ℕ) (refused : Option Fault) (fed : Fed) where
+  -- the end came, and a line was refused
+  pub ended-refused : IsReading store before mid total refused fed → count ≡ 0 → 0 < length buf → Consumes mid after (take count buf) × (count ≡ 0 → 0 < length buf → IsAtEnd after)
+      → total ≤ most → (fault : Fault) → refused ≡ Some fault → ReadRefuses MAX_LEVEL most new (record { before = before; after = after; failures = failures }) fault
+  ended-refused r e l h short fault is =
+      let told : RefusesFront MAX_LEVEL r.bytes fault =
+      subst (λ (o : Option Fault). MatchOption o ((fed.spent ≡ false) × (fed.bytes ≡ r.bytes) × Stands store fed) (RefusesFront MAX_LEVEL r.bytes)) is r.state in
+      let came = at-end mid after count buf e l h in
+      by_file r.bytes (read-all most before mid after r.bytes r.came came.0 came.1 (omega (arith, r.count, short))) told.refuses
+
+  -- the end came, and the reader refuses what it has
+  pub ended-open : IsReading store before mid total refused fed → count ≡ 0 → 0 < length buf → Consumes mid after (take count buf) × (count ≡ 0 → 0 < length buf → IsAtEnd after)
+      → total ≤ most → refused ≡ None → (result : Result Pattern Fault) → (fed.spent ≡ false → IfErr result (λ fault. RefusesIn MAX_LEVEL fed.bytes new fault))
+      → IfErr result (λ fault. ReadRefuses MAX_LEVEL most new (record { before = before; after = after; failures = failures }) fault)
+  ended-open r e l h short is result told = IfErr-weaker result _ _ each (told state.0)
+    where
+      state : (fed.spent ≡ false) × (fed.bytes ≡ r.bytes) × Stands store fed
+      state = subst (λ (o : Option Fault). MatchOption o ((fed.spent ≡ false) × (fed.bytes ≡ r.bytes) × Stands store fed) (RefusesFront MAX_LEVEL r.bytes)) is r.state
+
+      read : ReadAll most before after fed.bytes
+      read = let came = at-end mid after count buf e l h in
+          subst (ReadAll most before after) (sym state.1) (read-all most before mid after r.bytes r.came came.0 came.1 (omega (arith, r.count, short)))
+
+      each : (fault : Fault) → RefusesIn MAX_LEVEL fed.bytes new fault → ReadRefuses MAX_LEVEL most new (record { before = before; after = after; failures = failures }) fault
+      each fault (inl refuses) = by_file fed.bytes read refuses
+      each fault (inr want) = by_want want

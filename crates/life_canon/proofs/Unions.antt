@@ -1,0 +1,149 @@
+-- What one of the two formats says of lines that are or aren't a file, for files of either format.
+use Rattle.std.proofs.Common.{◌≡◌, ℕ, ◌+◌, ◌-◌, ◌^◌, ◌<◌, ◌≤◌, min, Bool, true, false, cond, List, [], ◌∷◌, ◌++◌, length, take, drop, get_or, refl, ap, sym, ◌∙◌, subst, arith, ◌⊎◌, inl, inr, Option, Some, None, append_assoc, codes}
+use Rattle.std.specs.Prelude.{MatchBool}
+use Rattle.std.specs.List.{slice_index_or}
+use Rattle.std.proofs.lemmas.List.{take-append-drop, take-append-le, length-append, append-nil}
+use Rattle.std.proofs.Math.ListN.{get_or-append}
+use Rattle.std.proofs.Math.Seq.{take-append_seam, get_or-append_seam}
+use Rattle.life_base.specs.Refusal.{Prefix, IsPlace, kept, continuations}
+use Rattle.life_base.specs.Text.{begins_with}
+use Rattle.life_base.specs.declared.fault.Fault.{Fault}
+use Rattle.life_base.specs.declared.kind.Kind.{Kind}
+use Rattle.life_base.specs.declared.kind.Kind.TheVariants.{NoHeader}
+use Rattle.life_mc.specs.Laws.{AreUnbroken}
+use Rattle.life_mc.specs.Macrocell.{Macrocell}
+use Rattle.life_mc.specs.Reading.{AreMacrocell, broken, Accepts as IsSomeMacrocell}
+use Rattle.life_mc.proofs.FormatLaws.{fronts_are_unbroken}
+use Rattle.life_rle.specs.Decided.{LacksHeader}
+use Rattle.life_rle.specs.Grammar.{IsRle, IsSomeRle, Breaks as BreaksRle}
+use Rattle.life_rle.specs.Pattern.{Rle}
+use Rattle.life_rle.proofs.Refusal.{Goes-Prefix, Goes-front, Prefix-Goes, IsPreamble-Prefix, IsPreamble-refused}
+use Rattle.life_rle.proofs.Unique.{Breaks-no_more}
+use Rattle.life_canon.specs.Files.{Says, as_macrocell, as_rle, Accepts, Breaks, RefusesLines, missing, is_macrocell}
+use Rattle.life_canon.specs.Universe.{Universe, macrocell_universe, rle_universe}
+use Rattle.life_canon.proofs.Formats.{macrocell-first, rle-first}
+
+-- ---- fronts
+
+pub macrocell-front : (top : ℕ) (lines : List (List ℕ)) → Prefix (IsSomeMacrocell top) lines → Prefix (Accepts top) lines
+macrocell-front top lines p = (p.0, (macrocell_universe p.1.0, as_macrocell p.1.0 p.1.1))
+
+pub rle-front : (top : ℕ) (lines : List (List ℕ)) → Prefix (IsSomeRle top) lines → Prefix (Accepts top) lines
+rle-front top lines p = (p.0, (rle_universe p.1.0, as_rle p.1.0 p.1.1))
+
+-- no lines are a front
+pub no_lines : (top : ℕ) → Prefix (Accepts top) []
+no_lines top = macrocell-front top [] ((fronts_are_unbroken top []).1 (λ k h. absurd (omega arith)))
+
+unbroken-shorter : (top : ℕ) (lines more : List (List ℕ)) → AreUnbroken top (lines ++ more) → AreUnbroken top lines
+unbroken-shorter top lines more u k h =
+    let e : take k (lines ++ more) ≡ take k lines = take-append-le k lines more (omega arith) in
+    let f : get_or (lines ++ more) k [] ≡ get_or lines k [] = get_or-append lines more [] k h in
+    rw (← e, ← f) (u k (omega (arith, length-append lines more)))
+
+-- the first lines of a front are one
+pub shorter-front : (top : ℕ) (lines more : List (List ℕ)) → Prefix (Accepts top) (lines ++ more) → Prefix (Accepts top) lines
+shorter-front top lines more p = by p.1.0 p.1.1
+  where
+    by : (u : Universe) → Says top ((lines ++ more) ++ kept p.0 continuations) u → Prefix (Accepts top) lines
+    by _ (as_macrocell file are) =
+        macrocell-front top lines ((fronts_are_unbroken top lines).1 (unbroken-shorter top lines more ((fronts_are_unbroken top (lines ++ more)).0 (p.0, (file, are)))))
+    by _ (as_rle file is) = rle-front top lines (Goes-Prefix top lines (Goes-front top lines more (Prefix-Goes top (lines ++ more) (p.0, (file, is)))))
+
+pub taken-front : (top k : ℕ) (lines : List (List ℕ)) → Prefix (Accepts top) lines → Prefix (Accepts top) (take k lines)
+taken-front top k lines p = shorter-front top (take k lines) (drop k lines) (subst (Prefix (Accepts top)) (sym (take-append-drop k lines)) p)
+
+-- ---- a line that breaks a rule
+
+-- lines behind the first don't change the format
+pub same-format : (front : List (List ℕ)) (line : List ℕ) (more : List (List ℕ)) → is_macrocell ((front ++ line ∷ []) ++ more) ≡ is_macrocell (front ++ line ∷ [])
+same-format [] line more = refl
+same-format (first ∷ front) line more = refl
+
+pub none-some : (kind : Kind) (o : Option Kind) → o ≡ None → o ≡ Some kind → ⊥
+none-some kind o e f = cc
+
+pub not-both : (b : Bool) → b ≡ true → b ≡ false → ⊥
+not-both b e f = cc
+
+-- behind it there is no file
+pub for_good : (top : ℕ) (front : List (List ℕ)) (line : List ℕ) (kind : Kind) (more : List (List ℕ)) → Breaks top front line kind → Accepts top ((front ++ line ∷ []) ++ more) → ⊥
+for_good top front line kind more b a = by (is_macrocell (front ++ line ∷ [])) refl b a.0 a.1
+  where
+    at_once : (file : Macrocell) → AreMacrocell top ((front ++ line ∷ []) ++ more) file → broken top front line ≡ Some kind → ⊥
+    at_once file are h =
+        let e : (front ++ line ∷ []) ++ more ≡ front ++ line ∷ more = append_assoc front (line ∷ []) more in
+        let u : AreUnbroken top (front ++ line ∷ more) = subst (AreUnbroken top) e are.unbroken in
+        let v = u (length front) (omega (arith, length-append front (line ∷ more))) in
+        let w : broken top front line ≡ None = rw (take-append_seam front (line ∷ more), get_or-append_seam front line more []) at v in
+        none-some kind (broken top front line) w h
+
+    by : (m : Bool) → is_macrocell (front ++ line ∷ []) ≡ m → MatchBool m (broken top front line ≡ Some kind) (BreaksRle top front line kind)
+        → (u : Universe) → Says top ((front ++ line ∷ []) ++ more) u → ⊥
+    by true e h _ (as_macrocell file are) = at_once file are h
+    by true e h _ (as_rle file is) = rle-first top _ file is (same-format front line more ∙ e)
+    by false e h _ (as_macrocell file are) = not-both _ (macrocell-first top _ file are) (same-format front line more ∙ e)
+    by false e h _ (as_rle file is) = Breaks-no_more top front line kind more file h is
+
+-- so it is the place of the refusal
+pub line-refused : (top : ℕ) (lines front : List (List ℕ)) (line : List ℕ) (more : List (List ℕ)) (fault : Fault) → lines ≡ front ++ line ∷ more → Prefix (Accepts top) front
+    → Breaks top front line fault.kind → fault.place.line ≡ min (length front + 1) (2 ^ 64 - 1) → RefusesLines top lines fault
+line-refused top lines front line more fault e p b at =
+    let len : length lines ≡ length front + 1 + length more = ap length e ∙ omega (arith, length-append front (line ∷ more)) in
+    let split : lines ≡ (front ++ line ∷ []) ++ more = e ∙ sym (append_assoc front (line ∷ []) more) in
+    let less : length front + 1 - 1 ≡ length front = omega arith in
+    let fore : take (length front) lines ≡ front = ap (take (length front)) e ∙ take-append_seam front (line ∷ more) in
+    let item : slice_index_or lines (length front) [] ≡ line = ap (λ (ls : List (List ℕ)). slice_index_or ls (length front) []) e ∙ get_or-append_seam front line more [] in
+    let whole : take (length front + 1) lines ≡ front ++ line ∷ [] =
+    (let long : length front + 1 ≡ length (front ++ line ∷ []) = omega (arith, length-append front (line ∷ [])) in
+    rw (split, long) (take-append_seam (front ++ line ∷ []) more)) in
+    record {
+      refused = λ a. for_good top front line fault.kind more b (subst (Accepts top) split a);
+      n = length front + 1;
+      place = record {
+        counted = omega arith;
+        within = omega arith;
+        before = λ k h.
+            let same : take k lines ≡ take k front = ap (take k) e ∙ take-append-le k front (line ∷ more) (omega arith) in
+            subst (Prefix (Accepts top)) (sym same) (taken-front top k front p);
+        here = λ h q. let r = subst (Prefix (Accepts top)) whole q in for_good top front line fault.kind (kept r.0 continuations) b r.1;
+      };
+      line = at;
+      at_line = λ h.
+          subst (λ (k : ℕ). Breaks top (take k lines) (slice_index_or lines k []) fault.kind) (sym less)
+          (subst (λ (f : List (List ℕ)). Breaks top f (slice_index_or lines (length front) []) fault.kind) (sym fore)
+          (subst (λ (l : List ℕ). Breaks top front l fault.kind) (sym item) b));
+      at_end = λ h. absurd (omega arith);
+    }
+
+-- the number of that line
+pub line-refused-n : (top : ℕ) (lines front : List (List ℕ)) (line : List ℕ) (more : List (List ℕ)) (fault : Fault) (e : lines ≡ front ++ line ∷ more) (p : Prefix (Accepts top) front)
+    (b : Breaks top front line fault.kind) (at : fault.place.line ≡ min (length front + 1) (2 ^ 64 - 1)) → (line-refused top lines front line more fault e p b at).n ≡ length front + 1
+unfolding line-refused
+line-refused-n top lines front line more fault e p b at = refl
+
+-- ---- lines without a header
+
+-- the end of the input is the place
+pub end-refused : (top : ℕ) (lines : List (List ℕ)) (fault : Fault) → LacksHeader top lines → is_macrocell lines ≡ false → fault.kind ≡ NoHeader
+    → fault.place.line ≡ min (length lines + 1) (2 ^ 64 - 1) → RefusesLines top lines fault
+end-refused top lines fault h format kind at = record {
+  refused = λ a. by a.0 a.1;
+  n = length lines + 1;
+  place = record {
+    counted = omega arith;
+    within = omega arith;
+    before = λ k l. taken-front top k lines (rle-front top lines (IsPreamble-Prefix top lines h.0 h.1));
+    here = λ l q. absurd (omega arith);
+  };
+  line = at;
+  at_line = λ l. absurd (omega arith);
+  at_end = λ l. lacks;
+}
+  where
+    by : (u : Universe) → Says top lines u → ⊥
+    by _ (as_macrocell file are) = not-both _ (macrocell-first top lines file are) format
+    by _ (as_rle file is) = IsPreamble-refused top lines h.0 h.1 (file, is)
+
+    lacks : missing lines ≡ Some fault.kind
+    lacks = ap (λ (b : Bool). cond b None (Some NoHeader)) format ∙ ap Some (sym kind)

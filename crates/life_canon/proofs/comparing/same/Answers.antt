@@ -1,0 +1,18 @@
+use Rattle.life_base.specs.declared.cell.TheConstants.{MAX_LEVEL}
+use Rattle.life_canon.proofs.CallFacts.{keeps-all, read-stays, same-read, read-equal}
+use Rattle.life_canon.proofs.comparing.same.Goals as goal
+
+pub returns-in_err-b-clause-keeps : goal.returns-in_err-b-clause-keeps
+returns-in_err-b-clause-keeps c = keeps-all _ _ _ c.in_ok-a.ensures.keeps c.in_err-b.ensures.keeps
+
+pub returns-clause-keeps : goal.returns-clause-keeps
+returns-clause-keeps c = keeps-all _ _ _ c.in_ok-a.ensures.keeps c.in_ok-b.ensures.keeps
+
+pub returns-clause-answer : goal.returns-clause-answer
+returns-clause-answer c =
+    let p = read-stays MAX_LEVEL c.args.first.now _ _ c.in_ok-a.a c.in_ok-b.ensures.keeps c.in_ok-a.ensures.pattern in
+    let q = c.in_ok-b.ensures.pattern in
+    let test = c.are_same.ensures in (
+      λ h. let e = test.0 h in same-read c.args.first.now c.args.second.now _ c.in_ok-a.a c.in_ok-b.b p q e.0 e.1 e.2,
+      λ s. test.1 (read-equal c.args.first.now c.args.second.now _ c.in_ok-a.a c.in_ok-b.b p q s),
+    )

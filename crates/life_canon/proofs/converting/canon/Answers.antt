@@ -1,0 +1,13 @@
+use Rattle.std.proofs.lemmas.Result.{IfOk-weaker}
+use Rattle.life_canon.proofs.CallFacts.{canonical-text, least-text}
+use Rattle.life_canon.proofs.Fits.{read-fits}
+use Rattle.life_canon.proofs.converting.canon.Goals as goal
+
+pub text_of-requires : goal.text_of-requires
+text_of-requires c = read-fits c.args.bytes.now _ _ c.in_ok-pattern.ensures.pattern
+
+pub returns-clause-text : goal.returns-clause-text
+returns-clause-text c = IfOk-weaker c.text_of.result _ _ (λ text e. canonical-text c.args.bytes.now _ _ c.in_ok-pattern.ensures.pattern text.items e) c.text_of.ensures.text
+
+pub returns-clause-least : goal.returns-clause-least
+returns-clause-least c = IfOk-weaker c.text_of.result _ _ (λ text e. least-text c.args.bytes.now _ _ c.in_ok-pattern.ensures.pattern text.items e) c.text_of.ensures.text

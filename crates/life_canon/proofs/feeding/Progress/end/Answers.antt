@@ -1,0 +1,72 @@
+use Rattle.std.proofs.Common.{ℕ, List, refl, inr, sym, ap, ◌∙◌, subst}
+use Rattle.std.proofs.lemmas.Result.{err_from_is_err_and}
+use Rattle.life_base.specs.declared.cell.TheConstants.{MAX_LEVEL}
+use Rattle.life_base.specs.declared.kind.Kind.{Kind}
+use Rattle.life_mc.specs.Reading.{squares_of}
+use Rattle.life_mc.specs.declared.line.Line.{Line}
+use Rattle.life_mc.proofs.Accepted.{lines_are_valid}
+use Rattle.life_mc.proofs.Grammars.{grammars_agree}
+use Rattle.life_quad.specs.declared.id.Id.{Id}
+use Rattle.std.proofs.lemmas.Result.{IfOk-weaker}
+use Rattle.life_strip.specs.Given.{GivenRun, state_by}
+use Rattle.life_canon.specs.Files.{Says, as_rle, as_macrocell}
+use Rattle.life_canon.specs.Store.{IsKnown, content}
+use Rattle.life_canon.specs.Filling.{AreSquaresOf}
+use Rattle.life_canon.specs.Taking.{IsOpen, StandsFor, taken}
+use Rattle.life_canon.specs.Universe.{rle_universe, macrocell_universe}
+use Rattle.life_canon.proofs.PatternFacts.{undecided-lacks, end-kind, file-cells}
+use Rattle.life_canon.proofs.feeding.Progress.end.Goals as goal
+
+pub returns-in-Undecided-clause-fault : goal.returns-in-Undecided-clause-fault
+returns-in-Undecided-clause-fault c = let u = undecided-lacks c.args.self c.in-Undecided.is in inr (refl, u.0, u.1)
+
+pub returns-in_err-rule-in-Rle-clause-fault : goal.returns-in_err-rule-in-Rle-clause-fault
+returns-in_err-rule-in-Rle-clause-fault c =
+    let p = err_from_is_err_and c.from_residual.result c.from_residual.ensures.1 in
+    let kind : Kind = c.in_err-rule-in-Rle.field-0.0 in
+    let begun = subst IsOpen c.in-Rle.is c.requires.begun in
+    let e = c.in_err-rule-in-Rle.ensures in
+    rw (p.1, p.2) (inr (end-kind c.args.self c.in-Rle.lines.lines c.in-Rle.lines.refused kind (ap taken c.in-Rle.is) begun.format begun.unrefused e.only
+    (λ n. (e.missing begun.unrefused).0 (cc)) (λ s. e.spent.0 (cc))))
+
+pub returns-in-Rle-clause-pattern : goal.returns-in-Rle-clause-pattern
+returns-in-Rle-clause-pattern c =
+    let found = c.in_ok-rule-in-Rle.ensures.file in
+    let built = subst (StandsFor (IsKnown c.args.store.now) (content c.args.store.now)) c.in-Rle.is c.requires.stands in
+    let u = rle_universe found.0 in
+    IfOk-weaker c.trimmed_pattern.result _ _
+    (λ pattern h. (u, subst (λ (ls : List (List ℕ)). Says MAX_LEVEL ls u) (sym (ap taken c.in-Rle.is)) (as_rle found.0 found.1), h))
+    (c.trimmed_pattern.ensures.pattern u (sym found.2) (sym found.3)
+    (λ x y. c.in_ok-root-in-Rle.ensures.cells x y ∙ ap (λ (rs : List GivenRun). state_by rs x y) built.same ∙ file-cells c.in-Rle.lines.lines built.runs found.0 built.are found.1 x y))
+
+pub returns-in-Rle-clause-keeps : goal.returns-in-Rle-clause-keeps
+returns-in-Rle-clause-keeps c = record {
+  contents = λ id k. let p = c.in_ok-root-in-Rle.ensures.keeps id k in let q = c.trimmed_pattern.ensures.keeps id p.0 in (q.0, q.1 ∙ p.1);
+  stored = λ t h. c.trimmed_pattern.ensures.stays t (c.in_ok-root-in-Rle.ensures.stays t h);
+  limit = c.trimmed_pattern.ensures.most ∙ c.in_ok-root-in-Rle.ensures.most;
+}
+
+pub last_square-root-requires : goal.last_square-root-requires
+last_square-root-requires c =
+    let found = c.in_ok-rule-in-Macrocell.ensures.file in
+    let are = (grammars_agree MAX_LEVEL c.in-Macrocell.lines.lines found.0).0 found.1 in
+    let squares = subst (StandsFor (IsKnown c.args.store.now) (content c.args.store.now)) c.in-Macrocell.is c.requires.stands in (
+      found.0,
+      lines_are_valid MAX_LEVEL c.in-Macrocell.lines.lines found.0 are,
+      subst (λ (ls : List Line). AreSquaresOf (IsKnown c.args.store.now) (content c.args.store.now) ls c.deref.result.now) (sym are.squares)
+          (subst (λ (ids : List Id). AreSquaresOf (IsKnown c.args.store.now) (content c.args.store.now) (squares_of c.in-Macrocell.lines.lines) ids) (sym c.deref.ensures.value) squares),
+    )
+
+pub returns-clause-pattern : goal.returns-clause-pattern
+returns-clause-pattern c =
+    let found = c.in_ok-rule-in-Macrocell.ensures.file in
+    let are = (grammars_agree MAX_LEVEL c.in-Macrocell.lines.lines found.0).0 found.1 in
+    let squares = subst (StandsFor (IsKnown c.args.store.now) (content c.args.store.now)) c.in-Macrocell.is c.requires.stands in
+    let there : AreSquaresOf (IsKnown c.args.store.now) (content c.args.store.now) found.0.lines c.deref.result.now =
+    subst (λ (ls : List Line). AreSquaresOf (IsKnown c.args.store.now) (content c.args.store.now) ls c.deref.result.now) (sym are.squares)
+    (subst (λ (ids : List Id). AreSquaresOf (IsKnown c.args.store.now) (content c.args.store.now) (squares_of c.in-Macrocell.lines.lines) ids) (sym c.deref.ensures.value) squares) in
+    let u = macrocell_universe found.0 in
+    IfOk-weaker c.trimmed_pattern-in-Macrocell.result _ _
+    (λ pattern h. (u, subst (λ (ls : List (List ℕ)). Says MAX_LEVEL ls u) (sym (ap taken c.in-Macrocell.is)) (as_macrocell found.0 are), h))
+    (c.trimmed_pattern-in-Macrocell.ensures.pattern u (sym found.2) (sym found.3)
+    (λ x y. c.last_square-root.ensures.cells found.0 (lines_are_valid MAX_LEVEL c.in-Macrocell.lines.lines found.0 are) there x y))

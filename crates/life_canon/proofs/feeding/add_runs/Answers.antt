@@ -1,0 +1,23 @@
+use Rattle.std.proofs.Common.{◌≡◌, ◌<◌, [], ◌∷◌, ◌++◌, length, get_or, ap, ◌∙◌, arith, pos}
+use Rattle.life_rle.specs.declared.file.Run.{Run}
+use Rattle.life_strip.specs.Given.{GivenRun}
+use Rattle.life_canon.specs.Building.{given}
+use Rattle.life_canon.proofs.BuildFacts.{given-more, next-more, read-run}
+use Rattle.life_canon.proofs.feeding.add_runs.Goals as goal
+
+pub loop-run-preserved : goal.loop-run-preserved
+loop-run-preserved g c =
+    let none : Run = record { x = pos 0; y = pos 0; len = 0; state = 0 } in
+    let h : c.loop-run.run-index < length c.args.runs.now = omega arith in
+    let i = c.loop-run.invariant in
+    let e = c.in_ok-add_run.ensures in
+    let runs : c.add_run.new.self.runs ≡ c.loop-run.builder.runs ++ given (get_or c.args.runs.now c.loop-run.run-index none) ∷ [] =
+    e.runs ∙ ap (λ (r : GivenRun). c.loop-run.builder.runs ++ r ∷ []) (read-run c.loop-run.builder.runs c.args.runs.now c.loop-run.run-index none h i.next) in
+    record {
+      filling = e.filling;
+      given_so_far = given-more c.args.builder.now.runs c.loop-run.builder.runs c.add_run.new.self.runs c.args.runs.now c.loop-run.run-index none h i.given_so_far runs;
+      next = next-more c.loop-run.builder.runs c.add_run.new.self.runs c.args.runs.now c.loop-run.run-index none h i.next runs;
+      keeps = λ q k. let p = i.keeps q k in let r = e.keeps q p.0 in (r.0, r.1 ∙ p.1);
+      stays = λ t k. e.stays t (i.stays t k);
+      most = e.most ∙ i.most;
+    }

@@ -1,0 +1,27 @@
+use Rattle.std.proofs.Common.{◌≡◌, ◌-◌, sym, ◌∙◌, ap, map}
+use Rattle.life_base.specs.Tree.{quad}
+use Rattle.life_mc.specs.Macrocell.{level_of}
+use Rattle.life_mc.specs.Squares.{tree_of, line_tree}
+use Rattle.std.proofs.lemmas.Result.{IfOk-weaker}
+use Rattle.life_canon.proofs.FillFacts.{numbers-of}
+use Rattle.life_canon.proofs.filling.line_square.Goals as goal
+
+pub quarter-sw-requires-clause-quarter : goal.quarter-sw-requires-clause-quarter
+quarter-sw-requires-clause-quarter g c =
+    let r = c.requires.line in
+    (r.0, (r.1.0, (numbers-of r.1.0 (map level_of r.0) c.args.line _ _ _ _ _ c.in-Quad.is r.1.1).sw), r.2)
+
+pub quarter-se-requires-clause-quarter : goal.quarter-se-requires-clause-quarter
+quarter-se-requires-clause-quarter g c =
+    let r = c.requires.line in
+    (r.0, (r.1.0, (numbers-of r.1.0 (map level_of r.0) c.args.line _ _ _ _ _ c.in-Quad.is r.1.1).se), r.2)
+
+pub returns-in-Quad-clause-square : goal.returns-in-Quad-clause-square
+returns-in-Quad-clause-square g c = λ lines rule h s.
+    let n = numbers-of rule (map level_of lines) c.args.line _ _ _ _ _ c.in-Quad.is h in
+    let nw = c.quarter-nw.ensures.square lines rule n.nw s in
+    let ne = c.quarter-ne.ensures.square lines rule n.ne s in
+    let sw = c.quarter-sw.ensures.square lines rule n.sw s in
+    let se = c.quarter-se.ensures.square lines rule n.se s in
+    let line = ap (λ l. line_tree (tree_of lines (level_of l - 1)) l) c.in-Quad.is in
+    IfOk-weaker c.join.result _ _ (λ id e. e ∙ (λ i. quad (nw i) (ne i) (sw i) (se i)) ∙ sym line) c.join.ensures.square

@@ -1,0 +1,29 @@
+use Rattle.std.proofs.Common.{ℕ, ap, sym, ◌∙◌, subst}
+use Rattle.life_base.specs.Refusal.{fault_at}
+use Rattle.life_base.specs.declared.cell.TheConstants.{MAX_LEVEL}
+use Rattle.life_canon.specs.Store.{RefusesIn}
+use Rattle.life_canon.specs.Taking.{bytes_of}
+use Rattle.life_canon.proofs.CallFacts.{keeps-all}
+use Rattle.life_canon.proofs.FrontFacts.{end-says, end-fault}
+use Rattle.life_canon.proofs.front.Front.finish.Goals as goal
+
+pub returns-in-Ok-clause-pattern : goal.returns-in-Ok-clause-pattern
+returns-in-Ok-clause-pattern c =
+    let r = c.in-Ok.ensures.pattern in
+    record {
+      universe = r.0;
+      reads = end-says (bytes_of c.args.self.pieces.lines) c.take_rest.new.self.ended c.take_rest.new.self.progress r.0 c.in_ok-take_rest.ensures.end r.1;
+      is = r.2;
+    }
+
+pub returns-in-Ok-clause-keeps : goal.returns-in-Ok-clause-keeps
+returns-in-Ok-clause-keeps c = keeps-all c.args.store.now c.take_rest.new.store c.end.new.store c.take_rest.ensures.keeps c.end.ensures.keeps
+
+pub returns-clause-fault : goal.returns-clause-fault
+returns-clause-fault c =
+    let told = c.at.ensures ∙ ap (λ (n : ℕ). fault_at n c.in-Err.kind) c.saturating_add.ensures in
+    subst (RefusesIn MAX_LEVEL (bytes_of c.args.self.pieces.lines) c.end.new.store) (sym told)
+    (end-fault c.end.new.store (bytes_of c.args.self.pieces.lines) c.take_rest.new.self.ended c.take_rest.new.self.progress c.in-Err.kind c.in_ok-take_rest.ensures.end c.in-Err.ensures.fault)
+
+pub returns-clause-keeps : goal.returns-clause-keeps
+returns-clause-keeps c = keeps-all c.args.store.now c.take_rest.new.store c.end.new.store c.take_rest.ensures.keeps c.end.ensures.keeps

@@ -1,0 +1,48 @@
+use Rattle.std.proofs.Common.{◌≡◌, ℕ, ◌+◌, ◌-◌, ◌<◌, ◌≤◌, List, ◌++◌, [], ◌∷◌, length, take, drop, sym, ap, ◌∙◌, subst, arith, length-drop, rules}
+use Rattle.std.proofs.lemmas.Grind.{common_steps}
+use Rattle.std.proofs.lemmas.Result.{err_from_is_err_and}
+use Rattle.life_base.proofs.LineEnds.{all_behind}
+use Rattle.life_canon.specs.Taking.{bytes_of, IsOver}
+use Rattle.life_canon.proofs.CallFacts.{keeps-all}
+use Rattle.life_canon.proofs.FeedFacts.{feed-before, feed-within, piece-split, is-none}
+use Rattle.life_canon.proofs.FrontFacts.{told-along, over-or-clean}
+use Rattle.life_canon.proofs.front.Front.take_piece.Goals as goal
+
+pub end_line-requires-clause-no_feed : goal.end_line-requires-clause-no_feed
+end_line-requires-clause-no_feed c = feed-before c.loop-end.rest.now c.in-Some.end c.in-Some.ensures.end
+
+pub returns-in_err-end_line-clause-fault : goal.returns-in_err-end_line-clause-fault
+returns-in_err-end_line-clause-fault c =
+    let p = err_from_is_err_and c.from_residual.result c.from_residual.ensures.1 in
+    let rest : List ℕ = c.loop-end.rest.now in
+    let all : bytes_of c.loop-end.self.pieces.lines ++ take c.in-Some.end rest ++ 10 ∷ [] ++ drop (c.in-Some.end + 1) rest ≡ bytes_of c.args.self.now.pieces.lines ++ c.args.piece.now =
+    piece-split (bytes_of c.loop-end.self.pieces.lines) rest c.in-Some.end c.in-Some.ensures.end ∙ c.loop-end.invariant.bytes in
+    rw (p.1, p.2) (told-along c.end_line.new.store (bytes_of c.loop-end.self.pieces.lines ++ take c.in-Some.end rest ++ 10 ∷ []) (drop (c.in-Some.end + 1) rest)
+    (bytes_of c.args.self.now.pieces.lines ++ c.args.piece.now) c.in_err-end_line.field-0.0 all c.in_err-end_line.ensures.fault)
+
+pub returns-in_err-end_line-clause-keeps : goal.returns-in_err-end_line-clause-keeps
+returns-in_err-end_line-clause-keeps c = keeps-all c.args.store.now c.loop-end.store c.end_line.new.store c.loop-end.invariant.keeps c.end_line.ensures.keeps
+
+pub overflow_add-rest : goal.overflow_add-rest
+overflow_add-rest c =
+    let h : c.in-Some.end < length c.loop-end.rest.now = feed-within c.loop-end.rest.now c.in-Some.end c.in-Some.ensures.end in
+    let l : length c.loop-end.rest.now ≤ length c.args.piece.now = c.loop-end.invariant.shorter in
+    first_of (omega arith, search (rules, h, l), grind (arith, common_steps, h, l))
+
+pub loop-end-preserved : goal.loop-end-preserved
+loop-end-preserved c =
+    let rest : List ℕ = c.loop-end.rest.now in
+    let behind : take (length rest - (c.in-Some.end + 1)) (drop (c.in-Some.end + 1) rest) ≡ drop (c.in-Some.end + 1) rest = all_behind rest (c.in-Some.end + 1) in
+    record {
+      front = c.in_ok-end_line.ensures.front;
+      stands = c.in_ok-end_line.ensures.stands;
+      bytes = ap (λ (r : List ℕ). bytes_of c.end_line.new.self.pieces.lines ++ r) behind
+          ∙ ap (λ (b : List ℕ). b ++ drop (c.in-Some.end + 1) rest) c.in_ok-end_line.ensures.bytes
+          ∙ piece-split (bytes_of c.loop-end.self.pieces.lines) rest c.in-Some.end c.in-Some.ensures.end ∙ c.loop-end.invariant.bytes;
+      shorter = subst (λ (r : List ℕ). length r ≤ length c.args.piece.now) (sym behind) (omega (arith, length-drop (c.in-Some.end + 1) rest, c.loop-end.invariant.shorter));
+      keeps = keeps-all c.args.store.now c.loop-end.store c.end_line.new.store c.loop-end.invariant.keeps c.end_line.ensures.keeps;
+    }
+
+pub end_piece-requires-clause-last : goal.end_piece-requires-clause-last
+end_piece-requires-clause-last c =
+    over-or-clean (IsOver c.loop-end.self.progress) c.loop-end.rest.now (c.next_end.ensures.none (is-none c.next_end.result c.in_default.not-Some))

@@ -1,0 +1,16 @@
+use Rattle.std.proofs.Common.{◌≡◌, ◌≤◌, ◌++◌, length}
+use Rattle.life_canon.specs.Store.{IsKnown, content, Keeps}
+use Rattle.life_canon.specs.Taking.{IsFrontOf, StandsFor, bytes_of}
+use Rattle.life_canon.proofs.front.Front.take_piece.Given as goal
+
+abbrev pub invariant-loop-end : goal.invariant-loop-end
+invariant-loop-end l = record {
+  front : IsFrontOf l.self;
+  stands : StandsFor (IsKnown l.store) (content l.store) l.self.progress;
+  bytes : bytes_of l.self.pieces.lines ++ l.rest ≡ bytes_of l.initial.self.pieces.lines ++ l.initial.rest;
+  shorter : length l.rest ≤ length l.initial.rest;
+  keeps : Keeps l.initial.store l.store;
+}
+
+abbrev pub decreases-loop-end : goal.decreases-loop-end
+decreases-loop-end l = length l.rest

@@ -1,0 +1,29 @@
+use Rattle.std.proofs.Common.{◌≡◌, ℕ, ◌+◌, ◌-◌, ◌^◌, ◌<◌, List, [], ◌∷◌, ◌++◌, length, min, arith}
+use Rattle.std.specs.Prelude.{OnOk}
+use Rattle.std.proofs.lemmas.Bool.Decides.{nat_tests}
+use Rattle.life_canon.specs.Taking.{bytes_of, taken}
+use Rattle.life_canon.proofs.FrontFacts.{whole-end, kept-end, rest-fault, no-length}
+use Rattle.life_canon.proofs.PatternFacts.{both-ok}
+use Rattle.life_canon.proofs.front.Front.take_rest.Goals as goal
+
+pub returns-then-is_empty-clause-end : goal.returns-then-is_empty-clause-end
+returns-then-is_empty-clause-end c =
+    let kept : List ℕ = c.args.self.now.kept.items in
+    let none : length kept ≡ 0 = grind (arith, nat_tests, c.if-is_empty.ensures) in
+    whole-end (bytes_of c.args.self.now.pieces.lines) kept c.args.self.now.ended c.args.self.now.progress c.requires.front (no-length kept none)
+
+pub returns-clause-end : goal.returns-clause-end
+returns-clause-end c =
+    let kept : List ℕ = c.args.self.now.kept.items in
+    let some : 0 < length kept = grind (arith, nat_tests, c.if-is_empty.ensures) in
+    let taken_one : OnOk c.take_kept.result ((taken c.take_kept.new.self.progress ≡ taken c.args.self.now.progress ++ kept ∷ []) × (c.take_kept.new.self.ended ≡ min (c.args.self.now.ended + 1) (2 ^ 64 - 1))) =
+    both-ok c.take_kept.result c.take_kept.ensures.lines c.take_kept.ensures.count (λ lines count. (lines, count)) in
+    both-ok c.take_kept.result c.take_kept.ensures.begun taken_one
+    (λ begun one. kept-end (bytes_of c.args.self.now.pieces.lines) kept c.args.self.now.ended c.take_kept.new.self.ended c.args.self.now.progress c.take_kept.new.self.progress
+    c.requires.front some begun one.0 one.1)
+
+pub returns-clause-fault : goal.returns-clause-fault
+returns-clause-fault c =
+    let kept : List ℕ = c.args.self.now.kept.items in
+    let some : 0 < length kept = grind (arith, nat_tests, c.if-is_empty.ensures) in
+    rest-fault c.take_kept.result c.take_kept.new.store (bytes_of c.args.self.now.pieces.lines) kept c.args.self.now.ended c.args.self.now.progress c.requires.front some c.take_kept.ensures.fault

@@ -1,0 +1,33 @@
+use Rattle.std.proofs.Common.{rules, take}
+use Rattle.life_canon.specs.Running.{by_length}
+use Rattle.life_canon.proofs.CallFacts.{keeps-all}
+use Rattle.life_canon.proofs.RunFacts.{reading-on, beyond-most, ended-refused, ended-open}
+use Rattle.life_canon.proofs.running.read_source.Goals as goal
+
+pub returns-then-total-most-clause-fault : goal.returns-then-total-most-clause-fault
+returns-then-total-most-clause-fault g c =
+    by_length c.of.ensures
+    (beyond-most c.loop-reader.store (g.R.Source.remaining c.args.source.now) (g.R.Source.remaining c.loop-reader.source) (g.R.Source.remaining c.read.new.self) c.loop-reader.total c.in_ok-count.count
+    c.args.most c.loop-reader.refused c.loop-reader.reader (take c.in_ok-count.count c.read.new.buf) c.loop-reader.invariant.0 c.in_ok-count.ensures.bytes.0 (search rules) (search rules))
+
+pub returns-in_err-refused-clause-keeps : goal.returns-in_err-refused-clause-keeps
+returns-in_err-refused-clause-keeps g c = keeps-all _ _ _ c.loop-reader.invariant.3 c.feed_piece.ensures.keeps
+
+pub loop-reader-preserved : goal.loop-reader-preserved
+loop-reader-preserved g c = (
+  reading-on _ _ _ _ _ _ _ _ _ _ _ _ c.loop-reader.invariant.0 c.in_ok-count.ensures.bytes.0 (search rules) c.in_ok-refused.ensures.going c.in_ok-refused.ensures.refused,
+  search rules,
+  search rules,
+  keeps-all _ _ _ c.loop-reader.invariant.3 c.feed_piece.ensures.keeps,
+)
+
+pub returns-in-Some-clause-fault : goal.returns-in-Some-clause-fault
+returns-in-Some-clause-fault g c =
+    ended-refused _ _ _ _ _ _ _ _ _ _ _ _ c.loop-reader.invariant.0 (search rules) (search rules) c.in_ok-count.ensures.bytes c.loop-reader.invariant.2 c.in-Some.fault c.in-Some.is
+
+pub returns-in-None-clause-fault : goal.returns-in-None-clause-fault
+returns-in-None-clause-fault g c =
+    ended-open _ _ _ _ _ _ _ _ _ _ _ _ c.loop-reader.invariant.0 (search rules) (search rules) c.in_ok-count.ensures.bytes c.loop-reader.invariant.2 c.in-None.is _ c.finish.ensures.fault
+
+pub returns-in-None-clause-keeps : goal.returns-in-None-clause-keeps
+returns-in-None-clause-keeps g c = keeps-all _ _ _ c.loop-reader.invariant.3 c.finish.ensures.keeps

@@ -1,0 +1,86 @@
+-- The laws of files, of canonical texts and of canonical files.
+use Rattle.std.specs.Prelude.{◌≡◌, ◌↔◌, ℕ, ◌≤◌, true, List}
+use Rattle.life_base.specs.declared.fault.Fault.{Fault}
+use Rattle.life_mc.specs.Macrocell.{Macrocell}
+use Rattle.life_mc.specs.Cells.{node_lines}
+use Rattle.life_mc.specs.Reading.{AreMacrocell, IsMacrocell}
+use Rattle.life_rle.specs.Pattern.{Rle}
+use Rattle.life_rle.specs.Grammar.{IsRle}
+use Rattle.life_canon.specs.Universe.{Universe, IsSame, IsBlankOutside, IsOnPlane, macrocell_universe}
+use Rattle.life_canon.specs.Files.{Says, Reads, Same, RefusesLines, is_file_kind}
+use Rattle.life_canon.specs.Listing.{canonical_file, canon_text}
+use Rattle.life_canon.specs.Least.{IsRival, IsLeast, HasPlaces}
+use Rattle.life_canon.specs.Feeding.{Fed, Stands}
+use Rattle.life_canon.specs.Store.{KeepsContents, IsRead, IsTrimmed, universe_in}
+use Rattle.life_canon.specs.declared.pattern.Pattern.{Pattern}
+use Rattle.life_quad.specs.Store.{Nodes}
+
+-- no lines are a file of both formats
+abbrev pub FormatsDiffer : ℕ → Type 0
+FormatsDiffer top = (lines : List (List ℕ)) (file : Macrocell) (other : Rle) → AreMacrocell top lines file → IsRle top lines other → ⊥
+
+-- a file says one thing
+abbrev pub FilesAreUnique : ℕ → Type 0
+FilesAreUnique top = (lines : List (List ℕ)) (u v : Universe) → Says top lines u → Says top lines v → u ≡ v
+
+-- every cell outside the plane has state 0
+abbrev pub BlankOutside : ℕ → Type 0
+BlankOutside top = (bytes : List ℕ) (u : Universe) → Reads top bytes u → IsBlankOutside top u.cell
+
+-- lines that are no file have one fault
+abbrev pub FaultsAreUnique : ℕ → Type 0
+FaultsAreUnique top = (lines : List (List ℕ)) (a b : Fault) → RefusesLines top lines a → RefusesLines top lines b → a ≡ b
+
+-- what a file says fits the plane
+abbrev pub FilesAreOnPlane : ℕ → Type 0
+FilesAreOnPlane top = (bytes : List ℕ) (u : Universe) → Reads top bytes u → IsOnPlane top u
+
+-- a refusal of a file has one of the kinds of files, and names a line
+abbrev pub RefusalsHaveKinds : ℕ → Type 0
+RefusalsHaveKinds top = (lines : List (List ℕ)) (fault : Fault) → RefusesLines top lines fault → (is_file_kind fault.kind ≡ true) × (1 ≤ fault.place.line)
+
+-- the canonical text of a pattern is a macrocell file of the same pattern
+abbrev pub TextsAreFiles : ℕ → Type 0
+TextsAreFiles top =
+    (u : Universe) → IsOnPlane top u → IsMacrocell top (canon_text top u) (canonical_file top u) × IsSame u (macrocell_universe (canonical_file top u))
+
+-- the canonical text of a file is the same pattern as the file
+abbrev pub TextsKeepPatterns : ℕ → Type 0
+TextsKeepPatterns top = (a : List ℕ) (u : Universe) → Reads top a u → Same top a (canon_text top u)
+
+-- two patterns have one canonical text exactly if they are the same
+abbrev pub TextsTellUniverses : ℕ → Type 0
+TextsTellUniverses top = (u v : Universe) → IsOnPlane top u → IsOnPlane top v → (canon_text top u ≡ canon_text top v) ↔ IsSame u v
+
+-- two files have one canonical text exactly if they are the same pattern
+abbrev pub TextsTellPatterns : ℕ → Type 0
+TextsTellPatterns top =
+    (a b : List ℕ) (u v : Universe) → Reads top a u → Reads top b v → (canon_text top u ≡ canon_text top v) ↔ Same top a b
+
+-- the canonical text of a canonical text is itself
+abbrev pub TextsAreFixed : ℕ → Type 0
+TextsAreFixed top = (u v : Universe) → IsOnPlane top u → Reads top (canon_text top u) v → canon_text top v ≡ canon_text top u
+
+-- no macrocell file of the same pattern has fewer node lines than the canonical one
+abbrev pub CanonicalIsLeast : ℕ → Type 0
+CanonicalIsLeast top = (u : Universe) → IsOnPlane top u → IsLeast top u (node_lines (canonical_file top u))
+
+-- the squares of the canonical list have node lines in every macrocell file of the pattern, no two of them one line
+abbrev pub SquaresHavePlaces : ℕ → Type 0
+SquaresHavePlaces top =
+    (u : Universe) (b : List ℕ) (file : Macrocell) → IsOnPlane top u → IsMacrocell top b file → IsSame u (macrocell_universe file) → IsRival file → HasPlaces top u file
+
+-- on every wider plane, up to level 62, a pattern has the same canonical text, and that text is accepted and says the same there
+abbrev pub WiderPlaneKeepsTexts : Type 0
+WiderPlaneKeepsTexts =
+    (top wider : ℕ) (u : Universe) → 3 ≤ top → top ≤ wider → wider ≤ 62 → IsOnPlane top u
+    → (canon_text wider u ≡ canon_text top u) × IsMacrocell wider (canon_text top u) (canonical_file top u)
+
+-- a pattern that was read may be numbered, and has the cells of the file
+abbrev pub PatternsFit : ℕ → Type 0
+PatternsFit top =
+    (bytes : List ℕ) (store : Nodes) (pattern : Pattern) (read : IsRead top bytes store pattern) → IsTrimmed store pattern × IsSame read.universe (universe_in store pattern)
+
+-- while each Id keeps its square, a reader stands in the store
+abbrev pub ReadersStand : Type 0
+ReadersStand = (old new : Nodes) (fed : Fed) → KeepsContents old new → Stands old fed → Stands new fed

@@ -1,0 +1,13 @@
+pub mod Universe
+pub mod Files
+pub mod Listing
+pub mod Closed
+pub mod Least
+pub mod Store
+pub mod Texts
+pub mod Filling
+pub mod Building
+pub mod Taking
+pub mod Feeding
+pub mod Running
+pub mod Laws

@@ -1,0 +1,51 @@
+-- What a run over a source and a sink may leave, by its outcome. Of a device that doesn't tell its bytes these say nothing about bytes:
+-- `bytes` is then any list.
+use Rattle.std.specs.Prelude.{◌≡◌, ◌⊎◌, ℕ, true, List}
+use Rattle.std.specs.Io.KnownBytes.{Appends}
+use Rattle.life_base.specs.DeviceRuns.{SourceRun, SinkRun}
+use Rattle.life_base.specs.Inputs.{ReadAll, CameBeyond}
+use Rattle.life_base.specs.Refusal.{fault_of}
+use Rattle.life_base.specs.Writing.{WritesPrefix}
+use Rattle.life_base.specs.declared.fault.Fault.{Fault}
+use Rattle.life_base.specs.declared.kind.Kind.TheVariants.{ReadFault, WriteFault, InputTooLong}
+use Rattle.life_quad.specs.Store.{Nodes}
+use Rattle.life_canon.specs.Files.{Refuses}
+use Rattle.life_canon.specs.Store.{IsRead, IsWant}
+use Rattle.life_canon.specs.Texts.{IsCanonical}
+use Rattle.life_canon.specs.declared.pattern.Pattern.{Pattern}
+
+-- all was read, and what was written is the canonical text of what was read, and nothing else
+pub record Ran (top most : ℕ) (source : SourceRun) (sink : SinkRun) : Type 0 where
+  pub bytes : List ℕ
+  pub text : List ℕ
+  pub read : ReadAll most source.before source.after bytes
+  pub canonical : IsCanonical top bytes text
+  pub written : Appends sink.before sink.after text
+
+-- all was read, a prefix of that text was written, and the sink failed or took no bytes
+pub record Broke (top most : ℕ) (source : SourceRun) (sink : SinkRun) : Type 0 where
+  pub bytes : List ℕ
+  pub text : List ℕ
+  pub read : ReadAll most source.before source.after bytes
+  pub canonical : IsCanonical top bytes text
+  pub written : WritesPrefix sink.before sink.after text
+  pub cause : (sink.failures ≡ 1) ⊎ (sink.stalled ≡ true)
+
+-- why nothing comes of an input: all of it was read and is no file; the store holds its limit, or memory was refused; too much came; or
+-- the source failed
+pub data ReadRefuses (top most : ℕ) (store : Nodes) (source : SourceRun) (fault : Fault) : Type 0 where
+  by_file : (bytes : List ℕ) → ReadAll most source.before source.after bytes → Refuses top bytes fault → ReadRefuses top most store source fault
+  by_want : IsWant store fault → ReadRefuses top most store source fault
+  by_length : fault ≡ fault_of InputTooLong → CameBeyond most source.before source.after → ReadRefuses top most store source fault
+  by_source : fault ≡ fault_of ReadFault → source.failures ≡ 1 → ReadRefuses top most store source fault
+
+-- why a run is refused: nothing came of the input, or its text could not be written
+pub data RunRefuses (top most : ℕ) (store : Nodes) (source : SourceRun) (sink : SinkRun) (fault : Fault) : Type 0 where
+  by_reading : ReadRefuses top most store source fault → RunRefuses top most store source sink fault
+  by_writing : fault ≡ fault_of WriteFault → Broke top most source sink → RunRefuses top most store source sink fault
+
+-- all was read, and the pattern is what was read
+pub record HasRead (top most : ℕ) (store : Nodes) (source : SourceRun) (pattern : Pattern) : Type 0 where
+  pub bytes : List ℕ
+  pub read : ReadAll most source.before source.after bytes
+  pub is : IsRead top bytes store pattern

@@ -1,0 +1,78 @@
+-- What calls do to a store that they are lent, and what patterns in it stand for.
+use Rattle.std.specs.Prelude.{◌≡◌, ℕ, ◌≤◌, ◌⊎◌, true, false, List, length, Contains}
+use Rattle.life_base.specs.Tree.{Tree, depth}
+use Rattle.life_base.specs.Refusal.{fault_of}
+use Rattle.life_base.specs.declared.rule.Rule.{Rule}
+use Rattle.life_base.specs.declared.fault.Fault.{Fault}
+use Rattle.life_base.specs.declared.kind.Kind.{Kind}
+use Rattle.life_base.specs.declared.kind.Kind.TheVariants.{Full, Memory}
+use Rattle.life_mc.specs.Macrocell.{largest_state}
+use Rattle.life_mc.specs.Squares.{HasStatesUpTo}
+use Rattle.life_quad.specs.Moves.{trimmed}
+use Rattle.life_quad.specs.Store.{Nodes, Knows, IsShared, held, square_of}
+use Rattle.life_quad.specs.declared.id.Id.{Id}
+use Rattle.life_canon.specs.Universe.{Universe, least_level, whole, square_universe}
+use Rattle.life_canon.specs.Files.{Reads, Refuses}
+use Rattle.life_canon.specs.Listing.{is_small, is_in}
+use Rattle.life_canon.specs.Closed.{Quarters}
+use Rattle.life_canon.specs.declared.pattern.Pattern.{Pattern}
+
+-- the Id names a square of the store
+abbrev pub IsKnown : Nodes → Id → Type 0
+IsKnown store id = Knows store id × IsShared store
+
+-- the square of an Id
+abbrev pub content : Nodes → Id → Tree
+content store id = square_of (held store) id
+
+-- each Id keeps its square
+abbrev pub KeepsContents : Nodes → Nodes → Type 0
+KeepsContents old new = (id : Id) → IsKnown old id → IsKnown new id × (content new id ≡ content old id)
+
+-- each Id keeps its square, nothing stored is taken away, and the limit stays
+pub record Keeps (old new : Nodes) : Type 0 where
+  pub contents : KeepsContents old new
+  pub stored : (t : Tree) → Contains (held old) t → Contains (held new) t
+  pub limit : new.limit ≡ old.limit
+
+-- the store holds its limit, or a growth of memory was refused
+abbrev pub IsWant : Nodes → Fault → Type 0
+IsWant store fault = (fault ≡ fault_of Memory) ⊎ ((fault ≡ fault_of Full) × (length (held store) ≡ store.limit))
+
+-- the kinds of such a fault
+abbrev pub IsWantKind : Nodes → Kind → Type 0
+IsWantKind store kind = (kind ≡ Memory) ⊎ ((kind ≡ Full) × (length (held store) ≡ store.limit))
+
+-- what a pattern in a store says
+abbrev pub universe_in : Nodes → Pattern → Universe
+universe_in store pattern = square_universe pattern.rule pattern.generation (content store pattern.root)
+
+-- the pattern has this rule and generation, and its root is the least square with these cells
+pub record IsPatternOf (top : ℕ) (knows : Id → Type 0) (content_of : Id → Tree) (universe : Universe) (pattern : Pattern) : Type 0 where
+  pub rule : pattern.rule ≡ universe.rule
+  pub generation : pattern.generation ≡ universe.generation
+  pub known : knows pattern.root
+  pub root : content_of pattern.root ≡ whole top universe
+
+-- the bytes are a file, and the pattern in the store is what it says, in the least square
+pub record IsRead (top : ℕ) (bytes : List ℕ) (store : Nodes) (pattern : Pattern) : Type 0 where
+  pub universe : Universe
+  pub reads : Reads top bytes universe
+  pub is : IsPatternOf top (IsKnown store) (content store) universe pattern
+
+-- the pattern's root is the least square with its cells, and its states fit the rule
+pub record IsTrimmed (store : Nodes) (pattern : Pattern) : Type 0 where
+  pub known : IsKnown store pattern.root
+  pub level : least_level pattern.rule ≤ depth (content store pattern.root)
+  pub trimmed : trimmed (content store pattern.root) (least_level pattern.rule) ≡ content store pattern.root
+  pub states : HasStatesUpTo (largest_state pattern.rule) (content store pattern.root)
+
+-- why a call on these bytes is refused
+abbrev pub RefusesIn : ℕ → List ℕ → Nodes → Fault → Type 0
+RefusesIn top bytes store fault = Refuses top bytes fault ⊎ IsWant store fault
+
+-- A square of the list: of its level and states, and with its quarters in the list unless they are blank or below the least level.
+pub record IsListed (rule : Rule) (all : List Tree) (t : Tree) : Type 0 where
+  pub level : least_level rule ≤ depth t
+  pub states : HasStatesUpTo (largest_state rule) t
+  pub quarters : Quarters (λ q. is_small (least_level rule) q ≡ false → is_in all q ≡ true) t

@@ -1,0 +1,101 @@
+-- What is kept of a file between two lines, and what it stands for.
+use Rattle.std.specs.Prelude.{◌≡◌, ℕ, suc, ◌+◌, ◌-◌, ◌^◌, ◌<◌, ◌≤◌, ◌⊎◌, min, Bool, true, false, List, [], ◌∷◌, ◌++◌, length, flat_map, Some, slice_get}
+use Rattle.life_base.specs.Lines.{whole_lines, rest_line}
+use Rattle.life_base.specs.Refusal.{Prefix}
+use Rattle.life_base.specs.Text.{lines_of}
+use Rattle.life_base.specs.Tree.{Tree, depth}
+use Rattle.life_base.specs.declared.cell.TheConstants.{MAX_LEVEL}
+use Rattle.life_base.specs.declared.fault.Fault.{Fault}
+use Rattle.life_mc.specs.Macrocell.{level_of}
+use Rattle.life_mc.specs.Reading.{squares_of, Accepts as IsSomeMacrocell}
+use Rattle.life_mc.specs.Squares.{tree_of}
+use Rattle.life_mc.specs.declared.line.Line.{Line}
+use Rattle.life_quad.specs.declared.id.Id.{Id}
+use Rattle.life_rle.specs.File.{HasRuns}
+use Rattle.life_rle.specs.Grammar.{IsSomeRle, IsMarked}
+use Rattle.life_rle.specs.Pattern.{Rle}
+use Rattle.life_canon.specs.Building.{IsBuilt}
+use Rattle.life_canon.specs.Files.{Breaks, is_macrocell}
+use Rattle.life_canon.specs.Filling.{AreSquaresOf}
+use Rattle.life_canon.specs.declared.feeding.Progress.{Progress}
+use Rattle.life_canon.specs.declared.feeding.Progress.TheVariants as progress
+use Rattle.life_canon.specs.declared.front.Front.{Front}
+
+-- ---- between two lines
+
+-- the lines that were taken: all that came, but for those behind the one that holds `!`
+abbrev pub taken : Progress → List (List ℕ)
+taken progress.Undecided = []
+taken (progress.Rle reader builder runs) = reader.lines
+taken (progress.Macrocell reader ids) = reader.lines
+
+-- a file of a format was begun, its lines can be continued to one, and none was refused
+pub record IsBegun (macrocell : Bool) (Grammar : List (List ℕ) → Type 0) (lines : List (List ℕ)) (refused : Bool) : Type 0 where
+  pub some : 0 < length lines
+  pub format : is_macrocell lines ≡ macrocell
+  pub front : Prefix Grammar lines
+  pub unrefused : refused ≡ false
+
+-- the format is that of the first line, and no line was refused
+abbrev pub IsOpen : Progress → Type 0
+IsOpen progress.Undecided = Unit {0}
+IsOpen (progress.Rle reader builder runs) = IsBegun false (IsSomeRle MAX_LEVEL) reader.lines reader.refused
+IsOpen (progress.Macrocell reader ids) = IsBegun true (IsSomeMacrocell MAX_LEVEL) reader.lines reader.refused
+
+-- `!` has ended the pattern
+abbrev pub IsOver : Progress → Type 0
+IsOver progress.Undecided = ⊥
+IsOver (progress.Rle reader builder runs) = (file : Rle) × IsMarked MAX_LEVEL reader.lines file
+IsOver (progress.Macrocell reader ids) = ⊥
+
+-- the reader is that of the format that this line begins or goes on with, and no line was refused
+abbrev pub IsReady : List ℕ → Progress → Type 0
+IsReady line progress.Undecided = ⊥
+IsReady line (progress.Rle reader builder runs) = (is_macrocell (reader.lines ++ line ∷ []) ≡ false) × (reader.refused ≡ false)
+IsReady line (progress.Macrocell reader ids) = (is_macrocell (reader.lines ++ line ∷ []) ≡ true) × (reader.refused ≡ false)
+
+-- the squares that are kept are those of the lines
+abbrev pub StandsFor : (Id → Type 0) → (Id → Tree) → Progress → Type 0
+StandsFor knows content progress.Undecided = Unit {0}
+StandsFor knows content (progress.Rle reader builder runs) = IsBuilt knows content (HasRuns MAX_LEVEL reader.lines) builder
+StandsFor knows content (progress.Macrocell reader ids) = AreSquaresOf knows content (squares_of reader.lines) ids.items
+
+-- the fault of the line behind these, before which so many have ended
+pub record IsLineFault (top : ℕ) (lines : List (List ℕ)) (line : List ℕ) (ended : ℕ) (fault : Fault) : Type 0 where
+  pub breaks : Breaks top lines line fault.kind
+  pub place : fault.place.line ≡ min (ended + 1) (2 ^ 64 - 1)
+
+-- ---- between two pieces
+
+-- the bytes that came
+abbrev pub bytes_of : List (List ℕ) → List ℕ
+bytes_of pieces = flat_map (λ piece. piece) pieces
+
+-- the whole lines were taken and counted, and the bytes behind them are kept
+pub record IsGoing (bytes kept : List ℕ) (ended : ℕ) (lines : List (List ℕ)) : Type 0 where
+  pub whole : lines ≡ whole_lines bytes
+  pub rest : kept ≡ rest_line bytes
+  pub count : ended ≡ min (length lines) (2 ^ 64 - 1)
+
+-- the lines behind `!` are free, and nothing is kept
+pub record IsFree (bytes kept : List ℕ) (lines : List (List ℕ)) : Type 0 where
+  pub free : List (List ℕ)
+  pub whole : whole_lines bytes ≡ lines ++ free
+  pub none : kept ≡ []
+
+-- the front of a file, behind these bytes
+pub record IsFront (bytes kept : List ℕ) (ended : ℕ) (progress : Progress) : Type 0 where
+  pub short : length kept ≤ 2 ^ 20
+  pub begun : IsOpen progress
+  pub going : (IsOver progress → ⊥) → IsGoing bytes kept ended (taken progress)
+  pub over : IsOver progress → IsFree bytes kept (taken progress)
+
+-- the same of the value that a reader keeps
+abbrev pub IsFrontOf : Front → Type 0
+IsFrontOf front = IsFront (bytes_of front.pieces.lines) front.kept.items front.ended front.progress
+
+-- the end of the input: its lines were taken, but for those behind `!`
+pub record IsEnd (bytes : List ℕ) (ended : ℕ) (progress : Progress) : Type 0 where
+  pub begun : IsOpen progress
+  pub going : (IsOver progress → ⊥) → (lines_of bytes ≡ taken progress) × (ended ≡ min (length (taken progress)) (2 ^ 64 - 1))
+  pub over : IsOver progress → (free : List (List ℕ)) × (lines_of bytes ≡ taken progress ++ free)

@@ -1,0 +1,65 @@
+//! A file of either format as a text of one form.
+
+ghost use Rattle.std.specs.Prelude.{◌≡◌, ◌⊎◌, ◌^◌, IfOk, IfErr};
+ghost use Rattle.life_base.specs.declared.kind.Kind.TheVariants.{Memory, TooManyCells};
+ghost use Rattle.life_base.specs.Refusal.{fault_of};
+ghost use Rattle.life_canon.specs.Files.{Same};
+ghost use Rattle.life_canon.specs.Least.{IsLeastText};
+ghost use Rattle.life_canon.specs.Listing.{canon_text};
+ghost use Rattle.life_canon.specs.Store.{Keeps, RefusesIn, IsTrimmed, universe_in};
+ghost use Rattle.life_canon.specs.Texts.{IsCanonical, IsRleOf, HasMoreCells};
+
+use crate::numbering::number;
+use crate::pattern::Pattern;
+use crate::reading::read;
+use life_base::{Fault, MAX_LEVEL};
+use life_mc::write_mc;
+use life_quad::{Shared, cells};
+use life_rle::write_rle;
+use std::alloc::Global;
+
+/// The most nonzero cells of an RLE text.
+const MOST_CELLS: u64 = 1 << 20;
+
+/// The canonical text of a pattern in its least square.
+pub(crate) fn text_of(alloc: Global, store: &Shared, pattern: &Pattern) -> Result<Vec<u8>, Fault>
+    requires { IsTrimmed store.now pattern.now }
+    ensures text { IfOk result (λ text. text.items ≡ canon_text MAX_LEVEL (universe_in store.now pattern.now)) }
+    ensures memory { IfErr result (λ fault. fault ≡ fault_of Memory) }
+{
+    let file = number(alloc, store, pattern)?;
+    write_mc(alloc, &file)
+}
+
+/// The canonical text of the pattern of a file of either format.
+///
+/// # Errors
+///
+/// The place and the kind of the file's fault, `Full` where the store holds its limit, or `Memory`.
+pub fn canon(alloc: Global, store: &mut Shared, bytes: &[u8]) -> Result<Vec<u8>, Fault>
+    ensures text { IfOk result (λ text. IsCanonical MAX_LEVEL bytes.now text.items) }
+    ensures least { IfOk result (λ text. IsLeastText MAX_LEVEL bytes.now text.items) }
+    ensures fault { IfErr result (λ fault. RefusesIn MAX_LEVEL bytes.now store.new fault) }
+    ensures keeps { Keeps store.old store.new }
+{
+    let pattern = read(alloc, store, bytes)?;
+    text_of(alloc, store, &pattern)
+}
+
+/// The text in extended RLE of the pattern of a file of either format.
+///
+/// # Errors
+///
+/// `TooManyCells` where more than 2^20 cells aren't 0, and those of `canon`.
+pub fn to_rle(alloc: Global, store: &mut Shared, bytes: &[u8]) -> Result<Vec<u8>, Fault>
+    ensures text { IfOk result (λ text. IsRleOf MAX_LEVEL (2 ^ 20) bytes.now text.items) }
+    ensures same { IfOk result (λ text. Same MAX_LEVEL bytes.now text.items) }
+    ensures fault { IfErr result (λ fault. RefusesIn MAX_LEVEL bytes.now store.new fault ⊎ ((fault ≡ fault_of TooManyCells) × HasMoreCells MAX_LEVEL bytes.now (2 ^ 20))) }
+    ensures keeps { Keeps store.old store.new }
+{
+    let pattern = read(alloc, store, bytes)?;
+    match cells(alloc, store, pattern.root, MOST_CELLS) {
+        Ok(list) => write_rle(alloc, &pattern.rule, pattern.generation, &list),
+        Err(kind) => Err(Fault::of(kind)),
+    }
+}

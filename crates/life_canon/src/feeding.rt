@@ -1,0 +1,238 @@
+//! The lines of a file of either format, put into a store as they come.
+
+ghost use Rattle.std.specs.Prelude.{◌≡◌, ◌↔◌, ◌⊎◌, ◌++◌, ◌∷◌, [], ℕ, ◌<◌, ◌≤◌, List, length, Contains, ℤ, Some, IsTrue, true, false, Err, IfOk, IfErr, OnOk, map};
+ghost use Rattle.life_base.specs.declared.kind.Kind.TheVariants.{Full, Memory, NoHeader};
+ghost use Rattle.life_base.specs.Refusal.{Prefix};
+ghost use Rattle.life_base.specs.Tree.{Tree, depth, tree_cell};
+ghost use Rattle.life_mc.specs.Cells.{cell};
+ghost use Rattle.life_mc.specs.Macrocell.{Macrocell, IsValid};
+ghost use Rattle.life_mc.specs.Reading.{Accepts as IsSomeMacrocell, squares_of, broken};
+ghost use Rattle.life_quad.specs.Store.{Nodes};
+ghost use Rattle.life_quad.specs.declared.id.Id.{Id as IdValue};
+ghost use Rattle.life_rle.specs.Decided.{LacksHeader};
+ghost use Rattle.life_rle.specs.File.{HasRuns};
+ghost use Rattle.life_rle.specs.Grammar.{Breaks as BreaksRle, IsSomeRle};
+ghost use Rattle.life_strip.specs.Filling.{IsFilling};
+ghost use Rattle.life_canon.specs.Building.{IsBuilt, AreNext, given};
+ghost use Rattle.life_canon.specs.Files.{Breaks, Says, is_macrocell};
+ghost use Rattle.life_canon.specs.Store.{IsKnown, content, Keeps, IsWantKind, IsPatternOf};
+ghost use Rattle.life_canon.specs.Filling.{AreSquaresOf};
+ghost use Rattle.life_canon.specs.Taking.{IsOpen, IsOver, IsReady, StandsFor, taken};
+ghost use Rattle.life_canon.specs.Universe.{Universe};
+
+use crate::filling::{grow_to, line_square};
+use crate::pattern::{Pattern, least_level};
+use life_base::{Kind, MAX_LEVEL, Rule, begins_with};
+use life_mc::McLines;
+use life_quad::{Id, Shared, Squares, trim};
+use life_rle::{RleLines, Run};
+use life_strip::Builder;
+use std::alloc::Global;
+
+/// What the lines so far are, and the squares that were made of them.
+#[derive(Drop)]
+pub(crate) enum Progress {
+    /// No line came.
+    Undecided,
+    /// The front of an RLE file, its runs, and room for those of one line.
+    Rle(RleLines, Builder, Vec<Run>),
+    /// The front of a macrocell file, and the squares of its node lines.
+    Macrocell(McLines, Vec<Id>),
+}
+
+/// Gives the runs to the builder, in their order.
+fn add_runs<S: Squares>(squares: &mut S, builder: &mut Builder, runs: &[Run]) -> Result<(), Kind>
+    requires filling { IsFilling (S.knows squares.old) (S.content squares.old) builder.old }
+    requires next { AreNext builder.old.runs runs.now }
+    ensures filling { OnOk result (IsFilling (S.knows squares.new) (S.content squares.new) builder.new) }
+    ensures runs { OnOk result (builder.new.runs ≡ builder.old.runs ++ map given runs.now) }
+    ensures refusals { IfErr result (λ e. (e ≡ Full) ⊎ (e ≡ Memory)) }
+    ensures keeps { (q : IdValue) → S.knows squares.old q → S.knows squares.new q × (S.content squares.new q ≡ S.content squares.old q) }
+    ensures stays { (t : Tree) → Contains (S.stored squares.old) t → Contains (S.stored squares.new) t }
+    ensures most { S.most squares.new ≡ S.most squares.old }
+    ensures full { result ≡ Err Full → length (S.stored squares.new) ≡ S.most squares.new }
+{
+    for run in runs {
+        builder.add_run(squares, run.x, run.y, run.len, run.state)?;
+    }
+    Ok(())
+}
+
+/// Takes a line of an RLE file. The vector lends room for its runs.
+fn take_rle_line<S: Squares>(
+    squares: &mut S,
+    lines: &mut RleLines,
+    builder: &mut Builder,
+    runs: &mut Vec<Run>,
+    line: &[u8],
+) -> Result<(), Kind>
+    requires begun { lines.old.refused ≡ false }
+    requires built { IsBuilt (S.knows squares.old) (S.content squares.old) (HasRuns MAX_LEVEL lines.old.lines) builder.old }
+    ensures lines { OnOk result (lines.new ≡ record { lines = lines.old.lines ++ line.now ∷ []; refused = false }) }
+    ensures front { OnOk result (Prefix (IsSomeRle MAX_LEVEL) lines.new.lines) }
+    ensures built { OnOk result (IsBuilt (S.knows squares.new) (S.content squares.new) (HasRuns MAX_LEVEL lines.new.lines) builder.new) }
+    ensures fault { IfErr result (λ kind. (kind ≡ Full) ⊎ (kind ≡ Memory) ⊎ BreaksRle MAX_LEVEL lines.old.lines line.now kind) }
+    ensures keeps { (q : IdValue) → S.knows squares.old q → S.knows squares.new q × (S.content squares.new q ≡ S.content squares.old q) }
+    ensures stays { (t : Tree) → Contains (S.stored squares.old) t → Contains (S.stored squares.new) t }
+    ensures most { S.most squares.new ≡ S.most squares.old }
+    ensures full { result ≡ Err Full → length (S.stored squares.new) ≡ S.most squares.new }
+{
+    runs.clear();
+    lines.line_into(line, runs)?;
+    add_runs(squares, builder, runs)
+}
+
+/// Takes a line of a macrocell file.
+fn take_macrocell_line<S: Squares>(
+    squares: &mut S,
+    lines: &mut McLines,
+    ids: &mut Vec<Id>,
+    line: &[u8],
+) -> Result<(), Kind>
+    requires begun { lines.old.refused ≡ false }
+    requires squares { AreSquaresOf (S.knows squares.old) (S.content squares.old) (squares_of lines.old.lines) ids.old.items }
+    ensures lines { OnOk result (lines.new ≡ record { lines = lines.old.lines ++ line.now ∷ []; refused = false }) }
+    ensures front { OnOk result (Prefix (IsSomeMacrocell MAX_LEVEL) lines.new.lines) }
+    ensures squares { OnOk result (AreSquaresOf (S.knows squares.new) (S.content squares.new) (squares_of lines.new.lines) ids.new.items) }
+    ensures fault { IfErr result (λ kind. (kind ≡ Full) ⊎ (kind ≡ Memory) ⊎ (broken MAX_LEVEL lines.old.lines line.now ≡ Some kind)) }
+    ensures keeps { (q : IdValue) → S.knows squares.old q → S.knows squares.new q × (S.content squares.new q ≡ S.content squares.old q) }
+    ensures stays { (t : Tree) → Contains (S.stored squares.old) t → Contains (S.stored squares.new) t }
+    ensures most { S.most squares.new ≡ S.most squares.old }
+    ensures full { result ≡ Err Full → length (S.stored squares.new) ≡ S.most squares.new }
+{
+    let Some(square) = lines.line(line)? else {
+        return Ok(());
+    };
+    let id = line_square(squares, ids, square)?;
+    match ids.push(id) {
+        Ok(()) => Ok(()),
+        Err(_) => Err(Kind::Memory),
+    }
+}
+
+/// The pattern of a root, which is trimmed to the least level of a node line.
+fn trimmed_pattern<S: Squares>(
+    squares: &mut S,
+    rule: Rule,
+    generation: u64,
+    root: Id,
+) -> Result<Pattern, Kind>
+    requires known { S.knows squares.old root }
+    requires high { 1 ≤ depth (S.content squares.old root) }
+    ensures pattern { (universe : Universe) → universe.rule ≡ rule → universe.generation ≡ generation → ((x y : ℤ) → tree_cell (S.content squares.old root) x y ≡ universe.cell x y)
+        → IfOk result (IsPatternOf MAX_LEVEL (S.knows squares.new) (S.content squares.new) universe) }
+    ensures refusals { IfErr result (λ e. (e ≡ Full) ⊎ (e ≡ Memory)) }
+    ensures keeps { (q : IdValue) → S.knows squares.old q → S.knows squares.new q × (S.content squares.new q ≡ S.content squares.old q) }
+    ensures stays { (t : Tree) → Contains (S.stored squares.old) t → Contains (S.stored squares.new) t }
+    ensures most { S.most squares.new ≡ S.most squares.old }
+    ensures full { result ≡ Err Full → length (S.stored squares.new) ≡ S.most squares.new }
+{
+    let least = least_level(&rule);
+    let root = grow_to(squares, root, least)?;
+    let root = trim(squares, root, least)?;
+    Ok(Pattern {
+        rule,
+        generation,
+        root,
+    })
+}
+
+/// The square of the last node line, or a blank one.
+fn last_square<S: Squares>(squares: &S, ids: &[Id]) -> Id
+    requires { (file : Macrocell) × IsValid MAX_LEVEL file × AreSquaresOf (S.knows squares.now) (S.content squares.now) file.lines ids.now }
+    ensures known { S.knows squares.now result }
+    ensures high { 1 ≤ depth (S.content squares.now result) }
+    ensures cells { (file : Macrocell) → IsValid MAX_LEVEL file → AreSquaresOf (S.knows squares.now) (S.content squares.now) file.lines ids.now
+        → (x y : ℤ) → tree_cell (S.content squares.now result) x y ≡ cell file x y }
+{
+    match ids.last() {
+        Some(id) => *id,
+        None => squares.empty(1),
+    }
+}
+
+impl Progress {
+    /// The format of a file whose first line this is.
+    fn begun(alloc: Global, line: &[u8]) -> Progress
+        ensures ready { IsReady line.now result }
+        ensures lines { taken result ≡ [] }
+        ensures stands { (store : Nodes) → StandsFor (IsKnown store) (content store) result }
+    {
+        if begins_with(line, b"[M2]") {
+            Progress::Macrocell(McLines::new(alloc), Vec::new(alloc))
+        } else {
+            Progress::Rle(RleLines::new(alloc), Builder::new(alloc), Vec::new(alloc))
+        }
+    }
+
+    /// Begins the file of the format of a line that is the first.
+    fn begin(&mut self, alloc: Global, line: &[u8])
+        requires { IsOpen self.old }
+        ensures ready { IsReady line.now self.new }
+        ensures lines { taken self.new ≡ taken self.old }
+        ensures stands { (store : Nodes) → StandsFor (IsKnown store) (content store) self.old → StandsFor (IsKnown store) (content store) self.new }
+    {
+        if matches!(self, Progress::Undecided) {
+            *self = Progress::begun(alloc, line);
+        }
+    }
+
+    /// Whether `!` has ended the pattern, so that all further lines are free.
+    pub(crate) fn is_over(&self) -> bool
+        requires { IsOpen self.now }
+        ensures { IsTrue result ↔ IsOver self.now }
+    {
+        match self {
+            Progress::Rle(lines, _, _) => lines.over(),
+            _ => false,
+        }
+    }
+
+    /// Takes the next line, and puts its runs or its square into the store.
+    pub(crate) fn take_line(
+        &mut self,
+        alloc: Global,
+        store: &mut Shared,
+        line: &[u8],
+    ) -> Result<(), Kind>
+        requires begun { IsOpen self.old }
+        requires stands { StandsFor (IsKnown store.old) (content store.old) self.old }
+        ensures lines { OnOk result (taken self.new ≡ taken self.old ++ line.now ∷ []) }
+        ensures begun { OnOk result (IsOpen self.new) }
+        ensures stands { OnOk result (StandsFor (IsKnown store.new) (content store.new) self.new) }
+        ensures fault { IfErr result (λ kind. IsWantKind store.new kind ⊎ Breaks MAX_LEVEL (taken self.old) line.now kind) }
+        ensures keeps { Keeps store.old store.new }
+    {
+        self.begin(alloc, line);
+        match self {
+            Progress::Undecided => Ok(()),
+            Progress::Rle(lines, builder, runs) => {
+                take_rle_line(store, lines, builder, runs, line)
+            }
+            Progress::Macrocell(lines, ids) => take_macrocell_line(store, lines, ids, line),
+        }
+    }
+
+    /// The pattern of the lines.
+    pub(crate) fn end(self, store: &mut Shared) -> Result<Pattern, Kind>
+        requires begun { IsOpen self }
+        requires stands { StandsFor (IsKnown store.old) (content store.old) self }
+        ensures pattern { IfOk result (λ pattern. (universe : Universe) × Says MAX_LEVEL (taken self) universe × IsPatternOf MAX_LEVEL (IsKnown store.new) (content store.new) universe pattern) }
+        ensures fault { IfErr result (λ kind. IsWantKind store.new kind ⊎ ((kind ≡ NoHeader) × LacksHeader MAX_LEVEL (taken self) × (is_macrocell (taken self) ≡ false))) }
+        ensures keeps { Keeps store.old store.new }
+    {
+        match self {
+            Progress::Undecided => Err(Kind::NoHeader),
+            Progress::Rle(lines, builder, _) => {
+                let (rule, generation) = lines.end()?;
+                let root = builder.finish(store)?;
+                trimmed_pattern(store, rule, generation, root)
+            }
+            Progress::Macrocell(lines, ids) => {
+                let (rule, generation) = lines.end()?;
+                let root = last_square(store, &ids);
+                trimmed_pattern(store, rule, generation, root)
+            }
+        }
+    }
+}

@@ -1,0 +1,128 @@
+//! Squares of a store, made from node lines.
+
+ghost use Rattle.std.specs.Prelude.{◌≡◌, ◌⊎◌, ℕ, ◌+◌, ◌-◌, ◌^◌, ◌<◌, ◌≤◌, length, Contains, Err, IfOk, IfErr, max};
+ghost use Rattle.life_base.specs.declared.kind.Kind.TheVariants.{Full, Memory};
+ghost use Rattle.life_base.specs.declared.rule.Rule.{Rule as RuleValue};
+ghost use Rattle.life_base.specs.Tree.{Tree, depth, tree_cell};
+ghost use Rattle.life_mc.specs.Cells.{leaf_cell};
+ghost use Rattle.life_mc.specs.Macrocell.{level_of, IsSquare, is_quarter};
+ghost use Rattle.life_mc.specs.Squares.{tree_at, tree_of, line_tree};
+ghost use Rattle.life_mc.specs.declared.line.Line.{Line as LineValue};
+ghost use Rattle.life_quad.specs.declared.id.Id.{Id as IdValue};
+ghost use Rattle.life_canon.specs.Filling.{AreSquaresOf};
+ghost use Rattle.std.specs.Prelude.{List, map, true, ℤ};
+
+use life_base::{Kind, MAX_LEVEL};
+use life_mc::Line;
+use life_quad::{Id, Squares, grow};
+
+/// The state of a cell of a leaf.
+fn leaf_state(rows: &[u8; 8], column: u8, row: u8) -> u8
+    requires column { column < 8 }
+    requires row { row < 8 }
+    ensures { result ≡ leaf_cell rows.now column row }
+{
+    (rows[row as usize] >> (7 - column)) & 1
+}
+
+#[tactic(auto, using(crate::proofs::FillFacts::halves))]
+/// The square of a level, 3 at most, whose north-west cell stands in this column and row of a leaf.
+fn leaf_part<S: Squares>(
+    squares: &mut S,
+    rows: &[u8; 8],
+    level: u8,
+    column: u8,
+    row: u8,
+) -> Result<Id, Kind>
+    requires level { level ≤ 3 }
+    requires columns { column + 2 ^ level ≤ 8 }
+    requires rows { row + 2 ^ level ≤ 8 }
+    ensures known { IfOk result (S.knows squares.new) }
+    ensures square { IfOk result (λ id. S.content squares.new id ≡ tree_at (leaf_cell rows.now) level column row) }
+    ensures level { IfOk result (λ id. depth (S.content squares.new id) ≡ level) }
+    ensures keeps { (q : IdValue) → S.knows squares.old q → S.knows squares.new q × (S.content squares.new q ≡ S.content squares.old q) }
+    ensures stays { (t : Tree) → Contains (S.stored squares.old) t → Contains (S.stored squares.new) t }
+    ensures most { S.most squares.new ≡ S.most squares.old }
+    ensures refusals { IfErr result (λ e. (e ≡ Full) ⊎ (e ≡ Memory)) }
+    ensures full { result ≡ Err Full → length (S.stored squares.new) ≡ S.most squares.new }
+{
+    if level == 0 {
+        return Ok(squares.cell(leaf_state(rows, column, row)));
+    }
+    let half = 1 << (level - 1);
+    let nw = leaf_part(squares, rows, level - 1, column, row)?;
+    let ne = leaf_part(squares, rows, level - 1, column + half, row)?;
+    let sw = leaf_part(squares, rows, level - 1, column, row + half)?;
+    let se = leaf_part(squares, rows, level - 1, column + half, row + half)?;
+    squares.join(nw, ne, sw, se)
+}
+
+/// The square that a number stands for in a line of the next level: a cell's state, the blank square, or the square of an
+/// earlier line.
+fn quarter<S: Squares>(squares: &S, ids: &[Id], level: u8, number: u64) -> Id
+    requires level { level < MAX_LEVEL }
+    requires quarter { (lines : List LineValue) × ((rule : RuleValue) × (is_quarter rule (map level_of lines) (level + 1) number ≡ true)) × AreSquaresOf (S.knows squares.now) (S.content squares.now) lines ids.now }
+    ensures known { S.knows squares.now result }
+    ensures level { depth (S.content squares.now result) ≡ level }
+    ensures square { (lines : List LineValue) (rule : RuleValue) → is_quarter rule (map level_of lines) (level + 1) number ≡ true → AreSquaresOf (S.knows squares.now) (S.content squares.now) lines ids.now
+        → S.content squares.now result ≡ tree_of lines level number }
+{
+    if level == 0 {
+        return squares.cell(number as u8);
+    }
+    if number == 0 {
+        return squares.empty(level);
+    }
+    ids[(number - 1) as usize]
+}
+
+/// The square of a node line, where these are the squares of the lines before it.
+pub(crate) fn line_square<S: Squares>(squares: &mut S, ids: &[Id], line: Line) -> Result<Id, Kind>
+    requires line { (lines : List LineValue) × ((rule : RuleValue) × IsSquare MAX_LEVEL rule (map level_of lines) line) × AreSquaresOf (S.knows squares.old) (S.content squares.old) lines ids.now }
+    ensures known { IfOk result (S.knows squares.new) }
+    ensures square { (lines : List LineValue) (rule : RuleValue) → IsSquare MAX_LEVEL rule (map level_of lines) line → AreSquaresOf (S.knows squares.old) (S.content squares.old) lines ids.now
+        → IfOk result (λ id. S.content squares.new id ≡ line_tree (tree_of lines (level_of line - 1)) line) }
+    ensures keeps { (q : IdValue) → S.knows squares.old q → S.knows squares.new q × (S.content squares.new q ≡ S.content squares.old q) }
+    ensures stays { (t : Tree) → Contains (S.stored squares.old) t → Contains (S.stored squares.new) t }
+    ensures most { S.most squares.new ≡ S.most squares.old }
+    ensures refusals { IfErr result (λ e. (e ≡ Full) ⊎ (e ≡ Memory)) }
+    ensures full { result ≡ Err Full → length (S.stored squares.new) ≡ S.most squares.new }
+{
+    match line {
+        Line::Leaf(rows) => leaf_part(squares, &rows, 3, 0, 0),
+        Line::Quad {
+            level,
+            nw,
+            ne,
+            sw,
+            se,
+        } => {
+            let nw = quarter(squares, ids, level - 1, nw);
+            let ne = quarter(squares, ids, level - 1, ne);
+            let sw = quarter(squares, ids, level - 1, sw);
+            let se = quarter(squares, ids, level - 1, se);
+            squares.join(nw, ne, sw, se)
+        }
+    }
+}
+
+/// The square of at least this level with the same cells.
+pub(crate) fn grow_to<S: Squares>(squares: &mut S, id: Id, level: u8) -> Result<Id, Kind>
+    requires known { S.knows squares.old id }
+    requires low { 1 ≤ depth (S.content squares.old id) }
+    requires high { level ≤ MAX_LEVEL }
+    ensures known { IfOk result (S.knows squares.new) }
+    ensures level { IfOk result (λ r. depth (S.content squares.new r) ≡ max level (depth (S.content squares.old id))) }
+    ensures cells { IfOk result (λ r. (x y : ℤ) → tree_cell (S.content squares.new r) x y ≡ tree_cell (S.content squares.old id) x y) }
+    ensures keeps { (q : IdValue) → S.knows squares.old q → S.knows squares.new q × (S.content squares.new q ≡ S.content squares.old q) }
+    ensures stays { (t : Tree) → Contains (S.stored squares.old) t → Contains (S.stored squares.new) t }
+    ensures most { S.most squares.new ≡ S.most squares.old }
+    ensures refusals { IfErr result (λ e. (e ≡ Full) ⊎ (e ≡ Memory)) }
+    ensures full { result ≡ Err Full → length (S.stored squares.new) ≡ S.most squares.new }
+{
+    if level <= squares.level(id) {
+        return Ok(id);
+    }
+    let larger = grow(squares, id)?;
+    grow_to(squares, larger, level)
+}

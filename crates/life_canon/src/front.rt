@@ -1,0 +1,239 @@
+//! The front of a file, cut into lines.
+
+ghost use Rattle.std.specs.Prelude.{◌≡◌, ◌==◌, ◌⊎◌, ◌++◌, ◌∷◌, ◌<◌, ◌≤◌, ◌+◌, ◌-◌, ◌^◌, min, codes, true, ℕ, List, [], length, position, Some, None, IfSome, IfOk, IfErr, OnOk};
+ghost use Rattle.life_base.specs.declared.kind.Kind.TheVariants.{Memory};
+ghost use Rattle.life_base.specs.Lines.{has_no_feed};
+ghost use Rattle.life_base.specs.Refusal.{fault_at, fault_of};
+ghost use Rattle.life_quad.specs.Store.{Nodes};
+ghost use Rattle.life_canon.specs.Feeding.{RefusesFront};
+ghost use Rattle.life_canon.specs.Store.{Keeps, IsKnown, IsRead, IsWant, RefusesIn, content};
+ghost use Rattle.life_canon.specs.Taking.{IsEnd, IsFrontOf, IsLineFault, IsOpen, IsOver, StandsFor, bytes_of, taken};
+
+use crate::feeding::Progress;
+use crate::pattern::Pattern;
+use life_base::{Fault, Kind, LineLog, MAX_LEVEL, line_end, line_fits};
+use life_quad::Shared;
+use std::alloc::Global;
+use std::mem;
+
+/// What came of a file: what its whole lines are, and the bytes of the line that isn't whole.
+#[derive(Drop)]
+pub(crate) struct Front {
+    alloc: Global,
+    // The bytes so far, in pieces; only contracts see them.
+    pub(crate) pieces: LineLog,
+    pub(crate) kept: Vec<u8>,
+    // How many lines have ended before `!`; a number above 2^64 - 1 is told as that.
+    pub(crate) ended: u64,
+    pub(crate) progress: Progress,
+}
+
+impl Front {
+    /// The front of no bytes. It takes no memory.
+    pub(crate) fn new(alloc: Global) -> Front
+        ensures front { IsFrontOf result }
+        ensures bytes { bytes_of result.pieces.lines ≡ [] }
+        ensures stands { (store : Nodes) → StandsFor (IsKnown store) (content store) result.progress }
+    {
+        Front {
+            alloc,
+            pieces: LineLog::new(),
+            kept: Vec::new(alloc),
+            ended: 0,
+            progress: Progress::Undecided,
+        }
+    }
+
+    /// The fault of the line that is being read.
+    fn fault_here(&self, kind: Kind) -> Fault
+        ensures { result ≡ fault_at (min (self.now.ended + 1) (2 ^ 64 - 1)) kind }
+    {
+        Fault::at(self.ended.saturating_add(1), kind)
+    }
+
+    /// Where the line ends that is being read, if it ends in these bytes. Behind `!` nobody asks.
+    fn next_end(&self, bytes: &[u8]) -> Option<usize>
+        requires { IsOpen self.now.progress }
+        ensures going { IfSome result (λ _. IsOver self.now.progress → ⊥) }
+        ensures end { IfSome result (λ end. position (λ b. b == 10) bytes.now ≡ Some end) }
+        ensures none { result ≡ None → IsOver self.now.progress ⊎ (position (λ b. b == 10) bytes.now ≡ None) }
+    {
+        if self.progress.is_over() {
+            None
+        } else {
+            line_end(bytes)
+        }
+    }
+
+    /// Takes a whole line.
+    fn take_line(&mut self, store: &mut Shared, line: &[u8]) -> Result<(), Fault>
+        requires begun { IsOpen self.old.progress }
+        requires stands { StandsFor (IsKnown store.old) (content store.old) self.old.progress }
+        ensures lines { OnOk result (taken self.new.progress ≡ taken self.old.progress ++ line.now ∷ []) }
+        ensures begun { OnOk result (IsOpen self.new.progress) }
+        ensures stands { OnOk result (StandsFor (IsKnown store.new) (content store.new) self.new.progress) }
+        ensures count { OnOk result (self.new.ended ≡ min (self.old.ended + 1) (2 ^ 64 - 1)) }
+        ensures kept { self.new.kept ≡ self.old.kept }
+        ensures pieces { self.new.pieces ≡ self.old.pieces }
+        ensures fault { IfErr result (λ fault. IsWant store.new fault ⊎ IsLineFault MAX_LEVEL (taken self.old.progress) line.now self.old.ended fault) }
+        ensures keeps { Keeps store.old store.new }
+    {
+        match self.progress.take_line(self.alloc, store, line) {
+            Ok(()) => {
+                self.ended = self.ended.saturating_add(1);
+                Ok(())
+            }
+            Err(kind) => Err(self.fault_here(kind)),
+        }
+    }
+
+    /// Keeps more bytes of the line that isn't whole.
+    fn keep(&mut self, more: &[u8]) -> Result<(), Fault>
+        ensures kept { OnOk result ((self.new.kept.items ≡ self.old.kept.items ++ more.now) × (length self.old.kept.items + length more.now ≤ 2 ^ 20)) }
+        ensures short { length self.old.kept.items ≤ 2 ^ 20 → length self.new.kept.items ≤ 2 ^ 20 }
+        ensures progress { self.new.progress ≡ self.old.progress }
+        ensures count { self.new.ended ≡ self.old.ended }
+        ensures pieces { self.new.pieces ≡ self.old.pieces }
+        ensures fault { IfErr result (λ fault. (fault ≡ fault_of Memory)
+            ⊎ ((fault ≡ fault_at (min (self.old.ended + 1) (2 ^ 64 - 1)) Kind.LineTooLong) × (2 ^ 20 < length self.old.kept.items + length more.now))) }
+    {
+        if !line_fits(self.kept.len() as u64, more.len() as u64) {
+            return Err(self.fault_here(Kind::LineTooLong));
+        }
+        match self.kept.extend_from_slice(more) {
+            Ok(()) => Ok(()),
+            Err(_) => Err(Fault::of(Kind::Memory)),
+        }
+    }
+
+    /// Takes the line that is kept.
+    fn take_kept(&mut self, store: &mut Shared) -> Result<(), Fault>
+        requires begun { IsOpen self.old.progress }
+        requires stands { StandsFor (IsKnown store.old) (content store.old) self.old.progress }
+        ensures lines { OnOk result (taken self.new.progress ≡ taken self.old.progress ++ self.old.kept.items ∷ []) }
+        ensures begun { OnOk result (IsOpen self.new.progress) }
+        ensures stands { OnOk result (StandsFor (IsKnown store.new) (content store.new) self.new.progress) }
+        ensures count { OnOk result (self.new.ended ≡ min (self.old.ended + 1) (2 ^ 64 - 1)) }
+        ensures kept { self.new.kept.items ≡ [] }
+        ensures pieces { self.new.pieces ≡ self.old.pieces }
+        ensures fault { IfErr result (λ fault. IsWant store.new fault ⊎ IsLineFault MAX_LEVEL (taken self.old.progress) self.old.kept.items self.old.ended fault) }
+        ensures keeps { Keeps store.old store.new }
+    {
+        let line = mem::replace(&mut self.kept, Vec::new(self.alloc));
+        self.take_line(store, &line)
+    }
+
+    /// Takes the line whose end this is: the bytes before its line feed.
+    fn take_ended(&mut self, store: &mut Shared, end: &[u8]) -> Result<(), Fault>
+        requires going { IsOver self.old.progress → ⊥ }
+        requires begun { IsOpen self.old.progress }
+        requires stands { StandsFor (IsKnown store.old) (content store.old) self.old.progress }
+        requires short { length self.old.kept.items ≤ 2 ^ 20 }
+        ensures lines { OnOk result (taken self.new.progress ≡ taken self.old.progress ++ (self.old.kept.items ++ end.now) ∷ []) }
+        ensures begun { OnOk result (IsOpen self.new.progress) }
+        ensures stands { OnOk result (StandsFor (IsKnown store.new) (content store.new) self.new.progress) }
+        ensures count { OnOk result (self.new.ended ≡ min (self.old.ended + 1) (2 ^ 64 - 1)) }
+        ensures kept { OnOk result (self.new.kept.items ≡ []) }
+        ensures short { length self.new.kept.items ≤ 2 ^ 20 }
+        ensures pieces { self.new.pieces ≡ self.old.pieces }
+        ensures fault { IfErr result (λ fault. IsWant store.new fault ⊎ IsLineFault MAX_LEVEL (taken self.old.progress) (self.old.kept.items ++ end.now) self.old.ended fault) }
+        ensures keeps { Keeps store.old store.new }
+    {
+        if self.kept.is_empty() {
+            return self.take_line(store, end);
+        }
+        self.keep(end)?;
+        self.take_kept(store)
+    }
+
+    /// Takes the end of a line, and its line feed.
+    fn end_line(&mut self, store: &mut Shared, end: &[u8]) -> Result<(), Fault>
+        requires front { IsFrontOf self.old }
+        requires stands { StandsFor (IsKnown store.old) (content store.old) self.old.progress }
+        requires going { IsOver self.old.progress → ⊥ }
+        requires no_feed { has_no_feed end.now ≡ true }
+        ensures front { OnOk result (IsFrontOf self.new) }
+        ensures bytes { OnOk result (bytes_of self.new.pieces.lines ≡ bytes_of self.old.pieces.lines ++ end.now ++ codes "\n") }
+        ensures stands { OnOk result (StandsFor (IsKnown store.new) (content store.new) self.new.progress) }
+        ensures short { length self.new.kept.items ≤ 2 ^ 20 }
+        ensures fault { IfErr result (λ fault. IsWant store.new fault
+            ⊎ ((rest : List ℕ) → RefusesFront MAX_LEVEL (bytes_of self.old.pieces.lines ++ end.now ++ codes "\n" ++ rest) fault)) }
+        ensures keeps { Keeps store.old store.new }
+    {
+        self.take_ended(store, end)?;
+        self.pieces = self.pieces.then(end).then(b"\n");
+        Ok(())
+    }
+
+    /// Takes the bytes of a piece behind its last line feed, or behind `!`.
+    fn end_piece(&mut self, rest: &[u8]) -> Result<(), Fault>
+        requires front { IsFrontOf self.old }
+        requires last { IsOver self.old.progress ⊎ (has_no_feed rest.now ≡ true) }
+        ensures front { OnOk result (IsFrontOf self.new) }
+        ensures bytes { OnOk result (bytes_of self.new.pieces.lines ≡ bytes_of self.old.pieces.lines ++ rest.now) }
+        ensures progress { self.new.progress ≡ self.old.progress }
+        ensures short { length self.new.kept.items ≤ 2 ^ 20 }
+        ensures fault { IfErr result (λ fault. (fault ≡ fault_of Memory) ⊎ RefusesFront MAX_LEVEL (bytes_of self.old.pieces.lines ++ rest.now) fault) }
+    {
+        if !self.progress.is_over() {
+            self.keep(rest)?;
+        }
+        self.pieces = self.pieces.then(rest);
+        Ok(())
+    }
+
+    /// Takes the next piece.
+    pub(crate) fn take_piece(&mut self, store: &mut Shared, piece: &[u8]) -> Result<(), Fault>
+        requires front { IsFrontOf self.old }
+        requires stands { StandsFor (IsKnown store.old) (content store.old) self.old.progress }
+        ensures front { OnOk result (IsFrontOf self.new) }
+        ensures bytes { OnOk result (bytes_of self.new.pieces.lines ≡ bytes_of self.old.pieces.lines ++ piece.now) }
+        ensures stands { OnOk result (StandsFor (IsKnown store.new) (content store.new) self.new.progress) }
+        ensures short { length self.new.kept.items ≤ 2 ^ 20 }
+        ensures fault { IfErr result (λ fault. IsWant store.new fault ⊎ RefusesFront MAX_LEVEL (bytes_of self.old.pieces.lines ++ piece.now) fault) }
+        ensures keeps { Keeps store.old store.new }
+    {
+        let mut rest = piece;
+        while let Some(end) = self.next_end(rest) {
+            self.end_line(store, &rest[..end])?;
+            rest = &rest[end + 1..];
+        }
+        self.end_piece(rest)
+    }
+
+    /// Takes the line that the end of the input ends, if there is one.
+    fn take_rest(&mut self, store: &mut Shared) -> Result<(), Fault>
+        requires front { IsFrontOf self.old }
+        requires stands { StandsFor (IsKnown store.old) (content store.old) self.old.progress }
+        ensures end { OnOk result (IsEnd (bytes_of self.old.pieces.lines) self.new.ended self.new.progress) }
+        ensures stands { OnOk result (StandsFor (IsKnown store.new) (content store.new) self.new.progress) }
+        ensures fault { IfErr result (RefusesIn MAX_LEVEL (bytes_of self.old.pieces.lines) store.new) }
+        ensures keeps { Keeps store.old store.new }
+    {
+        if self.kept.is_empty() {
+            return Ok(());
+        }
+        self.take_kept(store)
+    }
+
+    /// The pattern of the file that came.
+    pub(crate) fn finish(self, store: &mut Shared) -> Result<Pattern, Fault>
+        requires front { IsFrontOf self }
+        requires stands { StandsFor (IsKnown store.old) (content store.old) self.progress }
+        ensures pattern { IfOk result (IsRead MAX_LEVEL (bytes_of self.pieces.lines) store.new) }
+        ensures fault { IfErr result (RefusesIn MAX_LEVEL (bytes_of self.pieces.lines) store.new) }
+        ensures keeps { Keeps store.old store.new }
+    {
+        let mut front = self;
+        front.take_rest(store)?;
+        let Front {
+            ended,
+            progress,
+            ..
+        } = front;
+        match progress.end(store) {
+            Ok(pattern) => Ok(pattern),
+            Err(kind) => Err(Fault::at(ended.saturating_add(1), kind)),
+        }
+    }
+}

@@ -1,0 +1,90 @@
+//! Laws over the definitions alone.
+
+ghost use Rattle.life_base.specs.declared.cell.TheConstants.{MAX_LEVEL};
+ghost use Rattle.life_quad.specs.Laws.{TrimmingIgnoresGrowth};
+ghost use Rattle.life_canon.specs.Laws.{FormatsDiffer, FilesAreUnique, FilesAreOnPlane, BlankOutside, FaultsAreUnique, RefusalsHaveKinds, TextsTellUniverses, TextsTellPatterns, TextsAreFiles, TextsKeepPatterns, TextsAreFixed, CanonicalIsLeast, SquaresHavePlaces, WiderPlaneKeepsTexts, PatternsFit, ReadersStand};
+
+/// No lines are a file of both formats.
+pub fn formats_differ()
+    ensures { FormatsDiffer MAX_LEVEL }
+{}
+
+/// A file says one rule, one generation and one state of each cell.
+pub fn files_are_unique()
+    ensures { FilesAreUnique MAX_LEVEL }
+{}
+
+/// What a file says fits the plane: a rule, a generation below 2^64, states of the rule, and state 0 outside.
+pub fn files_are_on_plane()
+    ensures { FilesAreOnPlane MAX_LEVEL }
+{}
+
+/// Every cell outside the plane has state 0.
+pub fn blank_outside()
+    ensures { BlankOutside MAX_LEVEL }
+{}
+
+/// Lines that are no file have one fault: one place and one kind.
+pub fn faults_are_unique()
+    ensures { FaultsAreUnique MAX_LEVEL }
+{}
+
+/// A refusal of a file has one of the kinds of files, and names a line.
+pub fn refusals_have_kinds()
+    ensures { RefusalsHaveKinds MAX_LEVEL }
+{}
+
+/// Two patterns have one canonical text exactly if they are the same.
+pub fn texts_tell_universes()
+    ensures { TextsTellUniverses MAX_LEVEL }
+{}
+
+/// Two files have one canonical text exactly if they are the same pattern.
+pub fn texts_tell_patterns()
+    ensures { TextsTellPatterns MAX_LEVEL }
+{}
+
+/// The canonical text of a pattern is a macrocell file of the same pattern.
+pub fn texts_are_files()
+    ensures { TextsAreFiles MAX_LEVEL }
+{}
+
+/// The canonical text of a file is the same pattern as the file.
+pub fn texts_keep_patterns()
+    ensures { TextsKeepPatterns MAX_LEVEL }
+{}
+
+/// The canonical text of a canonical text is itself.
+pub fn texts_are_fixed()
+    ensures { TextsAreFixed MAX_LEVEL }
+{}
+
+/// Trimming ignores growth: a square one level higher, with blank squares around it, has the same least square.
+pub fn trimming_ignores_growth()
+    ensures { TrimmingIgnoresGrowth }
+{}
+
+/// No macrocell file of a pattern has fewer node lines than its canonical one.
+pub fn canonical_is_least()
+    ensures { CanonicalIsLeast MAX_LEVEL }
+{}
+
+/// Each square of a canonical file has a node line in every macrocell file of the pattern, no two of them one line.
+pub fn squares_have_places()
+    ensures { SquaresHavePlaces MAX_LEVEL }
+{}
+
+/// On every wider plane, up to level 62, a pattern has the same canonical text, and the text is a file of it there too.
+pub fn wider_plane_keeps_texts()
+    ensures { WiderPlaneKeepsTexts }
+{}
+
+/// A pattern that was read may be numbered, and has the cells of the file.
+pub fn patterns_fit()
+    ensures { PatternsFit MAX_LEVEL }
+{}
+
+/// While each Id keeps its square, a reader that was lent a store may be lent it again.
+pub fn readers_stand()
+    ensures { ReadersStand }
+{}

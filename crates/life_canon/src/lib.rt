@@ -1,0 +1,25 @@
+//! The canonical text of a pattern, whatever file it came in.
+#![tactic(auto)]
+
+mod comparing;
+mod converting;
+mod feeding;
+mod filling;
+mod front;
+pub mod laws;
+mod listing;
+mod numbering;
+mod pattern;
+mod reader;
+mod reading;
+mod running;
+mod showing;
+
+pub use comparing::same;
+pub use converting::{canon, to_rle};
+pub use numbering::number;
+pub use pattern::Pattern;
+pub use reader::Reader;
+pub use reading::read;
+pub use running::{run_canon, run_canon_within};
+pub use showing::show;

@@ -1,0 +1,176 @@
+//! The node lines of a pattern.
+
+ghost use Rattle.std.specs.Prelude.{◌≡◌, ◌==◌, ◌&&◌, ℕ, ◌+◌, ◌-◌, ◌^◌, ◌<◌, ◌≤◌, true, false, length, map, All, Contains, IfOk, IfErr};
+ghost use Rattle.life_base.specs.declared.kind.Kind.TheVariants.{Memory};
+ghost use Rattle.life_base.specs.Refusal.{fault_of};
+ghost use Rattle.life_base.specs.Tree.{Tree, depth, state_at as state_in};
+ghost use Rattle.life_mc.specs.declared.line.Line.TheVariants.{Leaf};
+ghost use Rattle.life_mc.specs.Squares.{HasStatesUpTo};
+ghost use Rattle.life_mc.specs.Macrocell.{largest_state};
+ghost use Rattle.life_mc.specs.Cells.{node_lines};
+ghost use Rattle.life_canon.specs.Universe.{is_life, least_level as least_level_of};
+ghost use Rattle.life_canon.specs.Listing.{row_byte as row_of, rows_of, is_in, listed as listed_squares, line_of as line_for, lines_for, square_file, canonical_file};
+ghost use Rattle.life_canon.specs.Least.{IsLeast};
+ghost use Rattle.life_canon.specs.Store.{IsTrimmed, universe_in, IsListed};
+
+use crate::listing::{listed, number_of};
+use crate::pattern::{Pattern, least_level};
+use indexmap::IndexSet;
+use life_base::{Fault, Items, Kind, MAX_LEVEL, Rule};
+use life_mc::{Line, McFile};
+use life_quad::{Id, Quarters, Shared, SharedSquares, Squares, divide};
+use std::alloc::Global;
+
+/// The state of a cell of a square, by its column and row from the north-west corner.
+fn state_at<S: Squares>(squares: &S, id: Id, column: u8, row: u8) -> u8
+    requires known { S.knows squares.now id }
+    requires level { depth (S.content squares.now id) ≤ 7 }
+    ensures { result ≡ state_in (S.content squares.now id) column row }
+{
+    if let Some(state) = squares.state(id) {
+        return state;
+    }
+    let half = 1u8 << (squares.level(id) - 1);
+    let Quarters { nw, ne, sw, se } = divide(squares, id);
+    match (column < half, row < half) {
+        (true, true) => state_at(squares, nw, column, row),
+        (false, true) => state_at(squares, ne, column - half, row),
+        (true, false) => state_at(squares, sw, column, row - half),
+        (false, false) => state_at(squares, se, column - half, row - half),
+    }
+}
+
+/// The state of a cell of a square with states 0 and 1 alone.
+fn bit_at<S: Squares>(squares: &S, id: Id, column: u8, row: u8) -> u8
+    requires known { S.knows squares.now id }
+    requires level { depth (S.content squares.now id) ≡ 3 }
+    requires states { HasStatesUpTo 1 (S.content squares.now id) }
+    ensures state { result ≡ state_in (S.content squares.now id) column row }
+    ensures bit { result < 2 }
+{
+    state_at(squares, id, column, row)
+}
+
+/// A row of a square of level 3 as a byte, its western cell the highest bit.
+fn row_byte<S: Squares>(squares: &S, id: Id, row: u8) -> u8
+    requires known { S.knows squares.now id }
+    requires level { depth (S.content squares.now id) ≡ 3 }
+    requires states { HasStatesUpTo 1 (S.content squares.now id) }
+    ensures { result ≡ row_of (S.content squares.now id) row }
+{
+    128 * bit_at(squares, id, 0, row)
+        + 64 * bit_at(squares, id, 1, row)
+        + 32 * bit_at(squares, id, 2, row)
+        + 16 * bit_at(squares, id, 3, row)
+        + 8 * bit_at(squares, id, 4, row)
+        + 4 * bit_at(squares, id, 5, row)
+        + 2 * bit_at(squares, id, 6, row)
+        + bit_at(squares, id, 7, row)
+}
+
+/// The leaf of a square of level 3.
+fn leaf<S: Squares>(squares: &S, id: Id) -> Line
+    requires known { S.knows squares.now id }
+    requires level { depth (S.content squares.now id) ≡ 3 }
+    requires states { HasStatesUpTo 1 (S.content squares.now id) }
+    ensures { result ≡ Leaf (rows_of (S.content squares.now id)) }
+{
+    Line::Leaf([
+        row_byte(squares, id, 0),
+        row_byte(squares, id, 1),
+        row_byte(squares, id, 2),
+        row_byte(squares, id, 3),
+        row_byte(squares, id, 4),
+        row_byte(squares, id, 5),
+        row_byte(squares, id, 6),
+        row_byte(squares, id, 7),
+    ])
+}
+
+/// Whether a square of a level is written as a leaf.
+fn is_leaf(rule: &Rule, level: u8) -> bool
+    ensures { result ≡ (is_life rule.now && level == 3) }
+{
+    match rule {
+        Rule::Life(_) => level == 3,
+        Rule::Named(_) => false,
+    }
+}
+
+/// The node line of a square of the list.
+fn line_of<S: SharedSquares>(squares: &S, rule: &Rule, known: &IndexSet<Id>, id: Id) -> Line
+    requires id { S.knows squares.now id }
+    requires known { All (S.knows squares.now) known.now.keys }
+    requires listed { IsListed rule.now (map (S.content squares.now) known.now.keys) (S.content squares.now id) }
+    ensures { result ≡ line_for rule.now (map (S.content squares.now) known.now.keys) (S.content squares.now id) }
+{
+    let level = squares.level(id);
+    if is_leaf(rule, level) {
+        return leaf(squares, id);
+    }
+    let Quarters { nw, ne, sw, se } = divide(squares, id);
+    Line::Quad {
+        level,
+        nw: number_of(squares, known, nw),
+        ne: number_of(squares, known, ne),
+        sw: number_of(squares, known, sw),
+        se: number_of(squares, known, se),
+    }
+}
+
+/// The node lines of the squares of the list, in its order.
+fn lines_of<S: SharedSquares>(
+    alloc: Global,
+    squares: &S,
+    rule: &Rule,
+    known: &IndexSet<Id>,
+) -> Result<Vec<Line>, Kind>
+    requires known { All (S.knows squares.now) known.now.keys }
+    requires listed { (t : Tree) → Contains (map (S.content squares.now) known.now.keys) t → IsListed rule.now (map (S.content squares.now) known.now.keys) t }
+    ensures lines { IfOk result (λ lines. lines.items ≡ lines_for rule.now (map (S.content squares.now) known.now.keys)) }
+    ensures kind { IfErr result (λ kind. kind ≡ Memory) }
+{
+    let mut lines = Vec::new(alloc);
+    for id in known.as_slice() {
+        match lines.push(line_of(squares, rule, known, *id)) {
+            Ok(()) => {}
+            Err(_) => return Err(Kind::Memory),
+        }
+    }
+    Ok(lines)
+}
+
+/// The macrocell file of a pattern, with one node line for each of its squares.
+fn numbered<S: SharedSquares>(alloc: Global, squares: &S, pattern: &Pattern) -> Result<McFile, Kind>
+    requires known { S.knows squares.now pattern.now.root }
+    requires states { HasStatesUpTo (largest_state pattern.now.rule) (S.content squares.now pattern.now.root) }
+    requires level { least_level_of pattern.now.rule ≤ depth (S.content squares.now pattern.now.root) }
+    ensures file { IfOk result (λ file. file ≡ square_file pattern.now.rule pattern.now.generation (S.content squares.now pattern.now.root)) }
+    ensures kind { IfErr result (λ kind. kind ≡ Memory) }
+{
+    let known = listed(alloc, squares, least_level(&pattern.rule), pattern.root)?;
+    let lines = lines_of(alloc, squares, &pattern.rule, &known)?;
+    Ok(McFile {
+        rule: pattern.rule.copy(alloc)?,
+        generation: pattern.generation,
+        lines: Items::from_vec(lines),
+    })
+}
+
+/// The canonical macrocell file of a pattern: one node line for each nonblank square of the root from level 3 up under a B/S rule,
+/// and from level 1 up under a name. No macrocell file of the pattern has fewer, files with leaf lines under a name aside.
+///
+/// # Errors
+///
+/// `Memory`, and nothing else.
+pub fn number(alloc: Global, store: &Shared, pattern: &Pattern) -> Result<McFile, Fault>
+    requires { IsTrimmed store.now pattern.now }
+    ensures file { IfOk result (λ file. file ≡ canonical_file MAX_LEVEL (universe_in store.now pattern.now)) }
+    ensures least { IfOk result (λ file. IsLeast MAX_LEVEL (universe_in store.now pattern.now) (node_lines file)) }
+    ensures memory { IfErr result (λ fault. fault ≡ fault_of Memory) }
+{
+    match numbered(alloc, store, pattern) {
+        Ok(file) => Ok(file),
+        Err(kind) => Err(Fault::of(kind)),
+    }
+}

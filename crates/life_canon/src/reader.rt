@@ -1,0 +1,103 @@
+//! A file of either format that comes in pieces.
+
+ghost use Rattle.std.specs.Prelude.{◌≡◌, ◌⊎◌, ◌++◌, ℕ, List, [], true, false, IfOk, IfErr, OnOk, OnErr};
+ghost use Rattle.life_base.specs.declared.kind.Kind.TheVariants.{Spent};
+ghost use Rattle.life_base.specs.declared.fault.Fault.{Fault as FaultValue};
+ghost use Rattle.life_base.specs.Refusal.{fault_of};
+ghost use Rattle.life_quad.specs.Store.{Nodes};
+ghost use Rattle.life_canon.specs.Feeding.{RefusesFront, IsOverAt, Stands};
+ghost use Rattle.life_canon.specs.Store.{Keeps, IsRead, IsWant, RefusesIn};
+
+use crate::front::Front;
+use crate::pattern::Pattern;
+use life_base::{Fault, Kind, MAX_LEVEL};
+use life_quad::Shared;
+use std::alloc::Global;
+use std::marker::Model;
+
+/// Takes a file of either format in pieces, cut anywhere, and puts each line into a store as the line ends. It keeps at most
+/// 2^20 bytes of an unfinished line, and none behind the line that holds `!`.
+///
+/// One store serves all calls: each square that the reader keeps has to stand in it.
+#[derive(Drop)]
+pub struct Reader {
+    front: Front,
+    spent: bool,
+}
+
+impl Model for Reader {
+    ghost use Rattle.std.specs.Prelude.{◌≡◌, ◌≤◌, ◌^◌, false, length};
+    ghost use Rattle.life_canon.specs.Feeding.{Fed};
+    ghost use Rattle.life_canon.specs.Taking.{IsFrontOf, bytes_of};
+
+    ghost Value = { Fed };
+
+    ghost view = { λ r. record { bytes = bytes_of r.front.pieces.lines; kept = r.front.kept.items; spent = r.spent; progress = r.front.progress } };
+
+    ghost invariant = { λ r. (length r.front.kept.items ≤ 2 ^ 20) × (r.spent ≡ false → IsFrontOf r.front) };
+}
+
+impl Reader {
+    /// A reader that no byte came to. It takes no memory.
+    pub fn new(alloc: Global) -> Reader
+        ensures bytes { result.bytes ≡ [] }
+        ensures spent { result.spent ≡ false }
+        ensures stands { (store : Nodes) → Stands store result }
+    {
+        Reader {
+            front: Front::new(alloc),
+            spent: false,
+        }
+    }
+
+    /// Takes the next piece of the file.
+    ///
+    /// # Errors
+    ///
+    /// The fault of a line that ends in this piece, or `LineTooLong` where the line's byte 2^20 + 1 comes in it; `Full` or `Memory`.
+    /// After an error each later call answers `Spent`.
+    pub fn feed(&mut self, store: &mut Shared, piece: &[u8]) -> Result<(), Fault>
+        requires { self.old.spent ≡ false → Stands store.old self.old }
+        ensures bytes { OnOk result (self.new.bytes ≡ self.old.bytes ++ piece.now) }
+        ensures open { OnOk result ((self.old.spent ≡ false) × (self.new.spent ≡ false)) }
+        ensures stands { OnOk result (Stands store.new self.new) }
+
+        // A line's fault is told by the call in which the line ends or grows too long, and by no later one.
+        ensures front { OnOk result ((fault : FaultValue) → RefusesFront MAX_LEVEL self.new.bytes fault → ⊥) }
+        ensures fault { self.old.spent ≡ false → IfErr result (λ fault. IsWant store.new fault ⊎ RefusesFront MAX_LEVEL (self.old.bytes ++ piece.now) fault) }
+        ensures refused { OnErr result (self.new.spent ≡ true) }
+        ensures spent { self.old.spent ≡ true → IfErr result (λ fault. fault ≡ fault_of Spent) }
+
+        // Behind the line that holds `!` no byte is kept.
+        ensures over { OnOk result (IsOverAt MAX_LEVEL self.new.bytes → self.new.kept ≡ []) }
+        ensures keeps { Keeps store.old store.new }
+    {
+        if self.spent {
+            return Err(Fault::of(Kind::Spent));
+        }
+        self.spent = true;
+        self.front.take_piece(store, piece)?;
+        self.spent = false;
+        Ok(())
+    }
+
+    /// The pattern of the file whose pieces came.
+    ///
+    /// # Errors
+    ///
+    /// The fault of the last line where no line feed ends it, or `NoHeader` where the file lacks a header; `Full` or `Memory`;
+    /// `Spent` after an error of `feed`.
+    pub fn finish(self, store: &mut Shared) -> Result<Pattern, Fault>
+        requires { self.spent ≡ false → Stands store.old self }
+        ensures pattern { IfOk result (λ pattern. (self.spent ≡ false) × IsRead MAX_LEVEL self.bytes store.new pattern) }
+        ensures fault { self.spent ≡ false → IfErr result (λ fault. RefusesIn MAX_LEVEL self.bytes store.new fault) }
+        ensures spent { self.spent ≡ true → IfErr result (λ fault. fault ≡ fault_of Spent) }
+        ensures keeps { Keeps store.old store.new }
+    {
+        let Reader { front, spent } = self;
+        if spent {
+            return Err(Fault::of(Kind::Spent));
+        }
+        front.finish(store)
+    }
+}

@@ -1,0 +1,143 @@
+//! From a source to a sink.
+
+ghost use Rattle.std.specs.Prelude.{◌≡◌, ◌≢◌, ◌⊎◌, ◌≤◌, ◌^◌, List, ℕ, true, false, IsTrue, ◌↔◌, IfOk, IfErr, OnOk, IfSome, IsErrAnd, Some, None, ◌++◌};
+ghost use Rattle.life_canon.specs.Running.{Ran, RunRefuses, ReadRefuses, HasRead};
+ghost use Rattle.life_canon.specs.Feeding.{RefusesFront, Stands};
+ghost use Rattle.life_canon.specs.Store.{Keeps, IsWant};
+
+use crate::converting::text_of;
+use crate::pattern::Pattern;
+use crate::reader::Reader;
+use life_base::{Fault, Kind, MAX_LEVEL, Sink, Source, deliver};
+use life_quad::Shared;
+use std::alloc::Global;
+
+/// The most bytes of an input.
+const LONGEST_INPUT: u64 = 1 << 30;
+
+/// How many bytes are asked of a source at once.
+const PIECE: usize = 65536;
+
+/// Whether a fault of this kind ends the run at once: want of room or of memory.
+fn ends_at_once(kind: Kind) -> bool
+    ensures { IsTrue result ↔ ((kind ≡ Kind.Full) ⊎ (kind ≡ Kind.Memory)) }
+{
+    matches!(kind, Kind::Full | Kind::Memory)
+}
+
+/// Feeds a piece, unless a line was refused, and answers the fault of a refused line. Want of room or of memory ends the run.
+fn feed_piece(
+    reader: &mut Reader,
+    store: &mut Shared,
+    refused: Option<Fault>,
+    piece: &[u8],
+) -> Result<Option<Fault>, Fault>
+    requires { refused ≡ None → (reader.old.spent ≡ false) × Stands store.old reader.old }
+    ensures going { IfOk result (λ next. next ≡ None → (refused ≡ None) × (reader.new.spent ≡ false) × (reader.new.bytes ≡ reader.old.bytes ++ piece.now) × Stands store.new reader.new) }
+    ensures refused { IfOk result (λ next. IfSome next (λ fault. (refused ≡ Some fault) ⊎ ((refused ≡ None) × RefusesFront MAX_LEVEL (reader.old.bytes ++ piece.now) fault))) }
+    ensures want { IfErr result (IsWant store.new) }
+    ensures keeps { Keeps store.old store.new }
+{
+    match refused {
+        Some(fault) => Ok(Some(fault)),
+        None => match reader.feed(store, piece) {
+            Ok(()) => Ok(None),
+            Err(fault) if ends_at_once(fault.kind) => Err(fault),
+            Err(fault) => Ok(Some(fault)),
+        },
+    }
+}
+
+/// Reads to the end of the input, and answers its pattern.
+fn read_source<R: Source>(
+    alloc: Global,
+    store: &mut Shared,
+    source: &mut R,
+    most: u64,
+) -> Result<Pattern, Fault>
+    requires working { R.failures source.old ≡ 0 }
+    requires bound { most ≤ 2 ^ 30 }
+    ensures pattern { IfOk result (λ pattern. HasRead MAX_LEVEL most store.new (record { before = R.remaining source.old; after = R.remaining source.new; failures = R.failures source.new }) pattern) }
+    ensures works { OnOk result (R.failures source.new ≡ 0) }
+    ensures fault { IfErr result (λ fault. ReadRefuses MAX_LEVEL most store.new (record { before = R.remaining source.old; after = R.remaining source.new; failures = R.failures source.new }) fault) }
+    ensures told { R.failures source.new ≡ 1 → IsErrAnd result (λ fault. fault.kind ≡ Kind.ReadFault) }
+    ensures keeps { Keeps store.old store.new }
+{
+    let mut reader = Reader::new(alloc);
+    let mut refused = None;
+    let mut total = 0u64;
+    let mut piece = [0u8; PIECE];
+    loop {
+        let count = source.read(&mut piece)?;
+        if count == 0 {
+            break;
+        }
+        total += count as u64;
+        if total > most {
+            return Err(Fault::of(Kind::InputTooLong));
+        }
+        refused = feed_piece(&mut reader, store, refused, &piece[..count])?;
+    }
+    match refused {
+        Some(fault) => Err(fault),
+        None => reader.finish(store),
+    }
+}
+
+/// Reads to the end of the input, then writes the canonical text of its pattern and flushes. It reads at most `most` bytes and a
+/// piece, keeps no more than 2^20 bytes of them, and writes nothing before all is read and accepted.
+///
+/// # Errors
+///
+/// `ReadFault` where a read fails and `InputTooLong` where more than `most` bytes come, also behind a refused line; the fault of the
+/// file; `Full` where the store holds its limit, and `Memory`; `WriteFault` where a write or the flush fails, or a write takes no bytes.
+pub fn run_canon_within<R: Source, W: Sink>(
+    alloc: Global,
+    store: &mut Shared,
+    reader: &mut R,
+    writer: &mut W,
+    most: u64,
+) -> Result<(), Fault>
+    requires reads { R.failures reader.old ≡ 0 }
+    requires writes { W.failures writer.old ≡ 0 }
+    requires takes { W.stalled writer.old ≡ false }
+    requires bound { most ≤ 2 ^ 30 }
+    ensures ok { OnOk result (Ran MAX_LEVEL most (record { before = R.remaining reader.old; after = R.remaining reader.new; failures = R.failures reader.new })
+        (record { before = W.contents writer.old; after = W.contents writer.new; failures = W.failures writer.new; stalled = W.stalled writer.new })) }
+    ensures flushed { OnOk result (W.flushed writer.new ≡ true) }
+    ensures err { IfErr result (RunRefuses MAX_LEVEL most store.new (record { before = R.remaining reader.old; after = R.remaining reader.new; failures = R.failures reader.new })
+        (record { before = W.contents writer.old; after = W.contents writer.new; failures = W.failures writer.new; stalled = W.stalled writer.new })) }
+    ensures unwritten { IfErr result (λ fault. fault.kind ≢ Kind.WriteFault → writer.new ≡ writer.old) }
+    ensures read_told { R.failures reader.new ≡ 1 → IsErrAnd result (λ fault. fault.kind ≡ Kind.ReadFault) }
+    ensures write_told { (W.failures writer.new ≡ 1) ⊎ (W.stalled writer.new ≡ true) → IsErrAnd result (λ fault. fault.kind ≡ Kind.WriteFault) }
+    ensures keeps { Keeps store.old store.new }
+{
+    let pattern = read_source(alloc, store, reader, most)?;
+    let text = text_of(alloc, store, &pattern)?;
+    deliver(writer, &text)?;
+    Ok(())
+}
+
+/// Reads to the end of the input, then writes the canonical text of its pattern and flushes, as `run_canon_within` with at most 2^30
+/// bytes.
+pub fn run_canon<R: Source, W: Sink>(
+    alloc: Global,
+    store: &mut Shared,
+    reader: &mut R,
+    writer: &mut W,
+) -> Result<(), Fault>
+    requires reads { R.failures reader.old ≡ 0 }
+    requires writes { W.failures writer.old ≡ 0 }
+    requires takes { W.stalled writer.old ≡ false }
+    ensures ok { OnOk result (Ran MAX_LEVEL (2 ^ 30) (record { before = R.remaining reader.old; after = R.remaining reader.new; failures = R.failures reader.new })
+        (record { before = W.contents writer.old; after = W.contents writer.new; failures = W.failures writer.new; stalled = W.stalled writer.new })) }
+    ensures flushed { OnOk result (W.flushed writer.new ≡ true) }
+    ensures err { IfErr result (RunRefuses MAX_LEVEL (2 ^ 30) store.new (record { before = R.remaining reader.old; after = R.remaining reader.new; failures = R.failures reader.new })
+        (record { before = W.contents writer.old; after = W.contents writer.new; failures = W.failures writer.new; stalled = W.stalled writer.new })) }
+    ensures unwritten { IfErr result (λ fault. fault.kind ≢ Kind.WriteFault → writer.new ≡ writer.old) }
+    ensures read_told { R.failures reader.new ≡ 1 → IsErrAnd result (λ fault. fault.kind ≡ Kind.ReadFault) }
+    ensures write_told { (W.failures writer.new ≡ 1) ⊎ (W.stalled writer.new ≡ true) → IsErrAnd result (λ fault. fault.kind ≡ Kind.WriteFault) }
+    ensures keeps { Keeps store.old store.new }
+{
+    run_canon_within(alloc, store, reader, writer, LONGEST_INPUT)
+}

@@ -1,0 +1,123 @@
+//! What a pattern is, in five lines.
+
+ghost use Rattle.std.specs.Prelude.{◌≡◌, ◌++◌, ◌≤◌, ◌<◌, ◌+◌, ◌^◌, ◌≤ℤ◌, ◌-ℤ◌, ◌+ℤ◌, ◌<ℤ◌, pos, neg_ℤ, codes, decimal, IfOk, IfErr, IfSome, OnOk, MatchOption, length};
+ghost use Rattle.std.specs.Fmt.{signed_decimal};
+ghost use Rattle.life_base.specs.Rules.{rule_text};
+ghost use Rattle.life_base.specs.declared.kind.Kind.TheVariants.{Memory};
+ghost use Rattle.life_base.specs.Tree.{depth, is_blank_tree};
+ghost use Rattle.life_quad.specs.Cells.{population as population_of, IsLeastBox};
+ghost use Rattle.life_quad.specs.declared.extent.Bounds.{Bounds as BoundsValue};
+ghost use Rattle.std.specs.Prelude.{Option, true};
+ghost use Rattle.life_rle.specs.Written.{span};
+ghost use Rattle.life_canon.specs.Store.{Keeps, RefusesIn, IsKnown, content};
+ghost use Rattle.life_canon.specs.Texts.{IsShown, IsOrdered, AreOrdered, box_text, show_text};
+
+use crate::numbering::number;
+use crate::pattern::Pattern;
+use crate::reading::read;
+use life_base::{Fault, Kind, MAX_LEVEL, append, append_number, append_signed, append_u128};
+use life_quad::{Bounds, Shared, bounds, population};
+use std::alloc::Global;
+
+/// Adds a word, the number behind it and a line feed at the end.
+fn append_line(out: &mut Vec<u8>, word: &[u8], number: u64) -> Result<(), Kind>
+    ensures ok { OnOk result (out.new.items ≡ out.old.items ++ word.now ++ decimal number ++ codes "\n") }
+    ensures kind { IfErr result (λ kind. kind ≡ Memory) }
+{
+    append(out, word)?;
+    append_number(out, number)?;
+    append(out, b"\n")
+}
+
+/// Adds a number of cells at the end.
+fn append_population(out: &mut Vec<u8>, number: u128) -> Result<(), Kind>
+    ensures ok { OnOk result (out.new.items ≡ out.old.items ++ codes "population " ++ decimal number ++ codes "\n") }
+    ensures kind { IfErr result (λ kind. kind ≡ Memory) }
+{
+    append(out, b"population ")?;
+    append_u128(out, number)?;
+    append(out, b"\n")
+}
+
+/// Adds a signed number and a space at the end.
+fn append_coordinate(out: &mut Vec<u8>, number: i64) -> Result<(), Kind>
+    ensures ok { OnOk result (out.new.items ≡ out.old.items ++ signed_decimal number ++ codes " ") }
+    ensures kind { IfErr result (λ kind. kind ≡ Memory) }
+{
+    append_signed(out, number)?;
+    append(out, b" ")
+}
+
+/// How many columns or rows lie between two sides, themselves included.
+fn side(low: i64, high: i64) -> u64
+    requires { IsOrdered low high }
+    ensures { result ≡ span low high }
+{
+    (high - low) as u64 + 1
+}
+
+/// Adds the line of the least box at the end.
+fn append_box(out: &mut Vec<u8>, found: Option<Bounds>) -> Result<(), Kind>
+    requires { IfSome found AreOrdered }
+    ensures ok { OnOk result (out.new.items ≡ out.old.items ++ box_text found) }
+    ensures kind { IfErr result (λ kind. kind ≡ Memory) }
+{
+    let Some(found) = found else {
+        return append(out, b"box none\n");
+    };
+    append(out, b"box ")?;
+    append_coordinate(out, found.left)?;
+    append_coordinate(out, found.top)?;
+    append_number(out, side(found.left, found.right))?;
+    append(out, b" ")?;
+    append_number(out, side(found.top, found.bottom))?;
+    append(out, b"\n")
+}
+
+/// Adds the line of the rule at the end.
+fn append_rule(out: &mut Vec<u8>, pattern: &Pattern) -> Result<(), Kind>
+    ensures ok { OnOk result (out.new.items ≡ out.old.items ++ codes "rule " ++ rule_text pattern.now.rule ++ codes "\n") }
+    ensures kind { IfErr result (λ kind. kind ≡ Memory) }
+{
+    append(out, b"rule ")?;
+    pattern.rule.write(out)?;
+    append(out, b"\n")
+}
+
+/// The five lines of a pattern with so many node lines.
+fn five_lines(alloc: Global, store: &Shared, pattern: &Pattern, nodes: u64) -> Result<Vec<u8>, Kind>
+    requires known { IsKnown store.now pattern.now.root }
+    requires level { 1 ≤ depth (content store.now pattern.now.root) }
+    ensures text { IfOk result (λ text. (box : Option BoundsValue) × MatchOption box (is_blank_tree (content store.now pattern.now.root) ≡ true) (IsLeastBox (content store.now pattern.now.root))
+        × (text.items ≡ show_text pattern.now.rule pattern.now.generation (population_of (content store.now pattern.now.root)) box nodes)) }
+    ensures kind { IfErr result (λ kind. kind ≡ Memory) }
+{
+    let cells = population(alloc, store, pattern.root)?;
+    let least = bounds(alloc, store, pattern.root)?;
+    let mut out = Vec::new(alloc);
+    append_rule(&mut out, pattern)?;
+    append_line(&mut out, b"generation ", pattern.generation)?;
+    append_population(&mut out, cells)?;
+    append_box(&mut out, least)?;
+    append_line(&mut out, b"nodes ", nodes)?;
+    Ok(out)
+}
+
+/// Five lines on the pattern of a file of either format: its rule, its generation, how many cells aren't 0, their least box, and how
+/// many node lines its canonical file has.
+///
+/// # Errors
+///
+/// Those of `canon`.
+pub fn show(alloc: Global, store: &mut Shared, bytes: &[u8]) -> Result<Vec<u8>, Fault>
+    ensures text { IfOk result (λ text. IsShown MAX_LEVEL bytes.now text.items) }
+    ensures fault { IfErr result (λ fault. RefusesIn MAX_LEVEL bytes.now store.new fault) }
+    ensures keeps { Keeps store.old store.new }
+{
+    let pattern = read(alloc, store, bytes)?;
+    let file = number(alloc, store, &pattern)?;
+    match five_lines(alloc, store, &pattern, file.lines.as_slice().len() as u64) {
+        Ok(text) => Ok(text),
+        Err(kind) => Err(Fault::of(kind)),
+    }
+}
