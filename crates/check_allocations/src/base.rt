@@ -1,7 +1,6 @@
 //! Rules, texts and reading.
 
-use crate::answer::Refusal;
-use life_base::{Device, Items, LifeRule, Rule, append, append_number, read_within};
+use life_base::{Device, Fault, Items, LifeRule, Rule, append, append_number, read_within};
 use std::alloc::Global;
 
 // B3/S23.
@@ -20,14 +19,14 @@ fn is_named(rule: &Rule, text: &[u8]) -> bool {
 }
 
 /// A B/S rule and a name, parsed.
-pub(crate) fn parsed(alloc: Global) -> Result<bool, Refusal> {
+pub(crate) fn parsed(alloc: Global) -> Result<bool, Fault> {
     let life = Rule::parse(alloc, b"b3s23")?;
     let name = Rule::parse(alloc, b"WireWorld")?;
     Ok(is_life(&life) && is_named(&name, b"WireWorld"))
 }
 
 /// The texts of a B/S rule and of a name.
-pub(crate) fn written(alloc: Global) -> Result<bool, Refusal> {
+pub(crate) fn written(alloc: Global) -> Result<bool, Fault> {
     let life = Rule::parse(alloc, b"b3s23")?;
     let name = Rule::parse(alloc, b"WireWorld")?;
     let mut out = Vec::new(alloc);
@@ -37,7 +36,7 @@ pub(crate) fn written(alloc: Global) -> Result<bool, Refusal> {
 }
 
 /// Copies of a B/S rule and of a name.
-pub(crate) fn copied(alloc: Global) -> Result<bool, Refusal> {
+pub(crate) fn copied(alloc: Global) -> Result<bool, Fault> {
     let life = Rule::parse(alloc, b"b3s23")?;
     let name = Rule::parse(alloc, b"WireWorld")?;
     let other_life = life.copy(alloc)?;
@@ -46,7 +45,7 @@ pub(crate) fn copied(alloc: Global) -> Result<bool, Refusal> {
 }
 
 /// A copy of a name.
-pub(crate) fn name_copied(alloc: Global) -> Result<bool, Refusal> {
+pub(crate) fn name_copied(alloc: Global) -> Result<bool, Fault> {
     match Rule::parse(alloc, b"WireWorld")? {
         Rule::Life(_) => Ok(false),
         Rule::Named(name) => {
@@ -57,7 +56,7 @@ pub(crate) fn name_copied(alloc: Global) -> Result<bool, Refusal> {
 }
 
 /// Bytes added to a text.
-pub(crate) fn appended(alloc: Global) -> Result<bool, Refusal> {
+pub(crate) fn appended(alloc: Global) -> Result<bool, Fault> {
     let mut out = Vec::new(alloc);
     append(&mut out, b"x = 3, ")?;
     append(&mut out, b"y = 3, rule = B3/S23")?;
@@ -65,14 +64,14 @@ pub(crate) fn appended(alloc: Global) -> Result<bool, Refusal> {
 }
 
 /// A number added to a text.
-pub(crate) fn number_appended(alloc: Global) -> Result<bool, Refusal> {
+pub(crate) fn number_appended(alloc: Global) -> Result<bool, Fault> {
     let mut out = Vec::new(alloc);
     append_number(&mut out, 1152921504606846976)?;
     Ok(out.as_slice() == b"1152921504606846976".as_slice())
 }
 
 /// Items added at the end.
-pub(crate) fn pushed(alloc: Global) -> Result<bool, Refusal> {
+pub(crate) fn pushed(alloc: Global) -> Result<bool, Fault> {
     let mut items = Items::new(alloc);
     for state in 0..9u8 {
         items.push(state)?;
@@ -81,7 +80,7 @@ pub(crate) fn pushed(alloc: Global) -> Result<bool, Refusal> {
 }
 
 /// A source read to its end.
-pub(crate) fn read(alloc: Global) -> Result<bool, Refusal> {
+pub(crate) fn read(alloc: Global) -> Result<bool, Fault> {
     let text = b"x = 3, y = 3, rule = B3/S23\nbo$2bo$3o!\n".as_slice();
     let mut source = Device::new(text);
     let bytes = read_within(alloc, &mut source, 1 << 30)?;

@@ -2,8 +2,8 @@
 
 ghost use Rattle.std.specs.Prelude.{◌≡◌};
 
-use crate::answer::{Refusal, told};
-use life_base::{Device, Kind, Sink, write_texts};
+use crate::answer::told;
+use life_base::{Device, Fault, Kind, Sink, write_texts};
 
 /// Calls of one crate or store, whose lines begin with its name.
 #[derive(Drop)]
@@ -29,7 +29,7 @@ impl<'a> Calls<'a> {
     }
 
     /// Prints the line of a call. It takes no memory.
-    pub(crate) fn tell(&self, call: &str, answer: Result<bool, Refusal>) {
+    pub(crate) fn tell(&self, call: &str, answer: Result<bool, Fault>) {
         let mut out = Device::new(self.rt.stdout());
         let _ = write_line(&mut out, self.place, call, self.time, told(answer));
     }

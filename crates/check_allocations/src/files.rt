@@ -1,7 +1,6 @@
 //! RLE and macrocell files.
 
-use crate::answer::Refusal;
-use life_base::{Cell, Kind, Rule};
+use life_base::{Cell, Fault, Kind, Rule};
 use life_mc::{Line, read_mc, write_mc};
 use life_rle::{RleLines, Run, read_rle, sorted_cells, write_rle};
 use std::alloc::Global;
@@ -27,7 +26,7 @@ fn run(x: i64, y: i64, len: u64, state: u8) -> Run {
 }
 
 /// The runs of two files.
-pub(crate) fn rle_read(alloc: Global) -> Result<bool, Refusal> {
+pub(crate) fn rle_read(alloc: Global) -> Result<bool, Fault> {
     let glider = read_rle(alloc, GLIDER)?;
     let wires = read_rle(alloc, WIRES)?;
     let runs = [run(1, 0, 1, 1), run(2, 1, 1, 1), run(0, 2, 3, 1)];
@@ -43,7 +42,7 @@ pub(crate) fn rle_read(alloc: Global) -> Result<bool, Refusal> {
 }
 
 /// The runs of a file, line by line.
-pub(crate) fn rle_lines_read(alloc: Global) -> Result<bool, Refusal> {
+pub(crate) fn rle_lines_read(alloc: Global) -> Result<bool, Fault> {
     let mut reader = RleLines::new(alloc);
     let position = reader.line(b"#CXRLE Pos=-4,0")?;
     let header = reader.line(b"x = 9, y = 1, rule = B3/S23")?;
@@ -58,12 +57,7 @@ pub(crate) fn rle_lines_read(alloc: Global) -> Result<bool, Refusal> {
 }
 
 // The text of cells that can be written.
-fn rle_text(
-    alloc: Global,
-    rule: &[u8],
-    generation: u64,
-    cells: &[Cell],
-) -> Result<Vec<u8>, Refusal> {
+fn rle_text(alloc: Global, rule: &[u8], generation: u64, cells: &[Cell]) -> Result<Vec<u8>, Fault> {
     let rule = Rule::parse(alloc, rule)?;
     if !sorted_cells(&rule, cells) {
         return Err(Kind::OutOfPlane)?;
@@ -72,7 +66,7 @@ fn rle_text(
 }
 
 /// The texts of cells under a B/S rule and under a name.
-pub(crate) fn rle_written(alloc: Global) -> Result<bool, Refusal> {
+pub(crate) fn rle_written(alloc: Global) -> Result<bool, Fault> {
     let ends = [
         Cell {
             x: -4,
@@ -106,7 +100,7 @@ pub(crate) fn rle_written(alloc: Global) -> Result<bool, Refusal> {
 }
 
 /// The squares of a file.
-pub(crate) fn mc_read(alloc: Global) -> Result<bool, Refusal> {
+pub(crate) fn mc_read(alloc: Global) -> Result<bool, Fault> {
     let file = read_mc(
         alloc,
         b"[M2] (canonical 1)\n#R WireWorld\n#G 7\n1 1 25 0 0\n",
@@ -122,7 +116,7 @@ pub(crate) fn mc_read(alloc: Global) -> Result<bool, Refusal> {
 }
 
 /// The texts of two files.
-pub(crate) fn mc_written(alloc: Global) -> Result<bool, Refusal> {
+pub(crate) fn mc_written(alloc: Global) -> Result<bool, Fault> {
     let lone = read_mc(alloc, LONE)?;
     let wires = read_mc(alloc, WIRES_TEXT)?;
     let text = write_mc(alloc, &lone)?;

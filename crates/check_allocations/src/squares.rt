@@ -3,8 +3,7 @@
 ghost use Rattle.std.specs.Prelude.{◌≡◌, IfOk};
 ghost use Rattle.life_base.specs.Tree.{depth};
 
-use crate::answer::Refusal;
-use life_base::{Cell, Kind, MAX_LEVEL};
+use life_base::{Cell, Fault, Kind, MAX_LEVEL};
 use life_quad::{
     Bounds, Id, Shared, SharedSquares, Squares, bounds, cells, grow, population, put_run, trim,
 };
@@ -23,7 +22,7 @@ const EAST: Cell = Cell {
 };
 
 /// A square of level 1, joined of its cells.
-pub(crate) fn joined<S: Squares>(squares: &mut S) -> Result<bool, Refusal> {
+pub(crate) fn joined<S: Squares>(squares: &mut S) -> Result<bool, Fault> {
     let dead = squares.cell(0);
     let first = squares.cell(1);
     let second = squares.cell(25);
@@ -53,13 +52,13 @@ fn are_ends<S: Squares>(alloc: Global, squares: &S, id: Id, level: u8) -> Result
 }
 
 /// Two runs, put into the plane, and the cells of it.
-pub(crate) fn put<S: Squares>(alloc: Global, squares: &mut S) -> Result<bool, Refusal> {
+pub(crate) fn put<S: Squares>(alloc: Global, squares: &mut S) -> Result<bool, Fault> {
     let plane = ends(squares)?;
     Ok(are_ends(alloc, squares, plane, MAX_LEVEL)?)
 }
 
 /// The least square of level 3 or more in the middle of the plane.
-pub(crate) fn trimmed<S: Squares>(alloc: Global, squares: &mut S) -> Result<bool, Refusal> {
+pub(crate) fn trimmed<S: Squares>(alloc: Global, squares: &mut S) -> Result<bool, Fault> {
     let plane = ends(squares)?;
     let least = trim(squares, plane, 3)?;
     Ok(are_ends(alloc, squares, least, 4)?)
@@ -82,7 +81,7 @@ fn grown_whole<S: Squares>(squares: &mut S, id: Id) -> Result<Id, Kind>
 }
 
 /// The plane, grown from a small square.
-pub(crate) fn grown<S: Squares>(alloc: Global, squares: &mut S) -> Result<bool, Refusal> {
+pub(crate) fn grown<S: Squares>(alloc: Global, squares: &mut S) -> Result<bool, Fault> {
     let blank = squares.empty(4);
     let one = put_run(squares, blank, -4, 0, 1, 1)?;
     let square = put_run(squares, one, 4, 0, 1, 1)?;
@@ -91,13 +90,13 @@ pub(crate) fn grown<S: Squares>(alloc: Global, squares: &mut S) -> Result<bool, 
 }
 
 /// The number of cells.
-pub(crate) fn counted<S: SharedSquares>(alloc: Global, squares: &mut S) -> Result<bool, Refusal> {
+pub(crate) fn counted<S: SharedSquares>(alloc: Global, squares: &mut S) -> Result<bool, Fault> {
     let plane = ends(squares)?;
     Ok(population(alloc, squares, plane)? == 2)
 }
 
 /// The box of the cells.
-pub(crate) fn bounded<S: SharedSquares>(alloc: Global, squares: &mut S) -> Result<bool, Refusal> {
+pub(crate) fn bounded<S: SharedSquares>(alloc: Global, squares: &mut S) -> Result<bool, Fault> {
     let plane = ends(squares)?;
     let least = Bounds {
         left: -4,
@@ -117,7 +116,7 @@ const WIDTH: u64 = 1152921504606846976;
 pub(crate) fn rows_measured<S: SharedSquares>(
     alloc: Global,
     squares: &mut S,
-) -> Result<bool, Refusal> {
+) -> Result<bool, Fault> {
     let blank = squares.empty(MAX_LEVEL);
     let one = put_run(squares, blank, WEST_SIDE, 0, WIDTH, 1)?;
     let number = population(alloc, squares, one)?;
@@ -134,23 +133,23 @@ pub(crate) fn rows_measured<S: SharedSquares>(
 }
 
 // Whether a call was refused for this reason. It hands another refusal on.
-fn is_refused<T: Drop>(answer: Result<T, Kind>, reason: Kind) -> Result<bool, Refusal> {
+fn is_refused<T: Drop>(answer: Result<T, Kind>, reason: Kind) -> Result<bool, Fault> {
     match answer {
         Ok(_) => Ok(false),
         Err(kind) if kind == reason => Ok(true),
-        Err(kind) => Err(kind)?,
+        Err(kind) => Err(kind.into()),
     }
 }
 
 /// A row of the plane in a store for 59 nodes, which is one too few.
-pub(crate) fn row_refused(squares: &mut Shared) -> Result<bool, Refusal> {
+pub(crate) fn row_refused(squares: &mut Shared) -> Result<bool, Fault> {
     let blank = squares.empty(MAX_LEVEL);
     let row = put_run(squares, blank, WEST_SIDE, 0, WIDTH, 1);
     Ok(is_refused(row, Kind::Full)? && squares.len() == 59)
 }
 
 /// Two cells, put in either order, and cleared again.
-pub(crate) fn set_and_cleared<S: SharedSquares>(squares: &mut S) -> Result<bool, Refusal> {
+pub(crate) fn set_and_cleared<S: SharedSquares>(squares: &mut S) -> Result<bool, Fault> {
     let blank = squares.empty(5);
     let first = put_run(squares, blank, 0, 0, 1, 1)?;
     let both = put_run(squares, first, 5, 3, 1, 1)?;
@@ -162,7 +161,7 @@ pub(crate) fn set_and_cleared<S: SharedSquares>(squares: &mut S) -> Result<bool,
 }
 
 /// Squares of level 9 with one cell, at (4, 0) and at (0, 0), trimmed to the least levels 1 and 3.
-pub(crate) fn levels_trimmed<S: Squares>(squares: &mut S) -> Result<bool, Refusal> {
+pub(crate) fn levels_trimmed<S: Squares>(squares: &mut S) -> Result<bool, Fault> {
     let blank = squares.empty(9);
     let east = put_run(squares, blank, 4, 0, 1, 1)?;
     let east_1 = trim(squares, east, 1)?;
@@ -182,7 +181,7 @@ pub(crate) fn levels_trimmed<S: Squares>(squares: &mut S) -> Result<bool, Refusa
 pub(crate) fn grown_and_trimmed<S: SharedSquares>(
     alloc: Global,
     squares: &mut S,
-) -> Result<bool, Refusal> {
+) -> Result<bool, Fault> {
     let blank = squares.empty(9);
     let east = put_run(squares, blank, 4, 0, 1, 1)?;
     let four = trim(squares, east, 1)?;
@@ -196,7 +195,7 @@ pub(crate) fn grown_and_trimmed<S: SharedSquares>(
 }
 
 /// Two cells, of which one may be listed.
-pub(crate) fn list_refused<S: Squares>(alloc: Global, squares: &mut S) -> Result<bool, Refusal> {
+pub(crate) fn list_refused<S: Squares>(alloc: Global, squares: &mut S) -> Result<bool, Fault> {
     let blank = squares.empty(5);
     let one = put_run(squares, blank, -4, 0, 1, 1)?;
     let two = put_run(squares, one, 4, 0, 1, 1)?;
@@ -204,7 +203,7 @@ pub(crate) fn list_refused<S: Squares>(alloc: Global, squares: &mut S) -> Result
 }
 
 /// One cell, and the list of it.
-pub(crate) fn one_listed<S: Squares>(alloc: Global, squares: &mut S) -> Result<bool, Refusal> {
+pub(crate) fn one_listed<S: Squares>(alloc: Global, squares: &mut S) -> Result<bool, Fault> {
     let blank = squares.empty(5);
     let one = put_run(squares, blank, 0, 0, 1, 1)?;
     let list = cells(alloc, squares, one, 1)?;
@@ -217,7 +216,7 @@ pub(crate) fn one_listed<S: Squares>(alloc: Global, squares: &mut S) -> Result<b
 }
 
 /// One cell in a store for four nodes, where a square of level 5 needs five.
-pub(crate) fn one_refused<S: Squares>(squares: &mut S) -> Result<bool, Refusal> {
+pub(crate) fn one_refused<S: Squares>(squares: &mut S) -> Result<bool, Fault> {
     let blank = squares.empty(5);
     is_refused(put_run(squares, blank, 0, 0, 1, 1), Kind::Full)
 }

@@ -3,8 +3,7 @@
 ghost use Rattle.std.specs.Prelude.{◌≡◌, IfOk};
 ghost use Rattle.life_base.specs.Tree.{depth};
 
-use crate::answer::Refusal;
-use life_base::{Cell, Kind, MAX_LEVEL};
+use life_base::{Cell, Fault, Kind, MAX_LEVEL};
 use life_quad::{Id, Squares, cells};
 use life_strip::Builder;
 use std::alloc::Global;
@@ -26,7 +25,7 @@ fn live(x: i64, y: i64) -> Cell {
 }
 
 /// A glider, built by its runs.
-pub(crate) fn built<S: Squares>(alloc: Global, squares: &mut S) -> Result<bool, Refusal> {
+pub(crate) fn built<S: Squares>(alloc: Global, squares: &mut S) -> Result<bool, Fault> {
     let plane = glider(alloc, squares)?;
     let list = cells(alloc, squares, plane, 5)?;
     let glider = [live(1, 0), live(2, 1), live(0, 2), live(1, 2), live(2, 2)];

@@ -1,6 +1,5 @@
 //! Rule tables.
 
-use crate::answer::Refusal;
 use life_base::{Fault, Kind, Place, State};
 use life_table::{Neighborhood, Neighbours, Table, read_table};
 use std::alloc::Global;
@@ -17,7 +16,7 @@ fn next(table: &Table, around: [State; 5]) -> Option<Result<State, Fault>> {
 }
 
 /// A table in which a cell takes the state of its one neighbour.
-pub(crate) fn read(alloc: Global) -> Result<bool, Refusal> {
+pub(crate) fn read(alloc: Global) -> Result<bool, Fault> {
     let table = read_table(
         alloc,
         b"@RULE Spread\n@TABLE\nn_states:3\nneighborhood:vonNeumann\nsymmetries:rotate4\nvar a={1,2}\n0,a,0,0,0,a\n",
@@ -30,7 +29,7 @@ pub(crate) fn read(alloc: Global) -> Result<bool, Refusal> {
 }
 
 /// A table with a line that gives two states where two neighbours differ.
-pub(crate) fn ambiguous(alloc: Global) -> Result<bool, Refusal> {
+pub(crate) fn ambiguous(alloc: Global) -> Result<bool, Fault> {
     let table = read_table(
         alloc,
         b"@RULE Spread\n@TABLE\nn_states:3\nneighborhood:vonNeumann\nsymmetries:permute\nvar a={1,2}\nvar b={1,2}\n0,a,b,0,0,a\n",

@@ -1,6 +1,7 @@
 -- What a fault writes to standard error, and the status that it ends the program with.
-use Rattle.std.specs.Prelude.{◌≡◌, ◌⊎◌, ◌==◌, ◌++◌, ℕ, Bool, true, List, [], Option, codes, decimal, if◌then◌else◌}
+use Rattle.std.specs.Prelude.{◌≡◌, ◌⊎◌, ◌==◌, ◌++◌, ℕ, true, List, [], codes, decimal, if◌then◌else◌}
 use Rattle.std.specs.Io.KnownBytes.{Appends}
+use Rattle.life_base.specs.DeviceRuns.{SinkRun}
 use Rattle.life_base.specs.Kinds.{kind_name}
 use Rattle.life_base.specs.Writing.{WritesPrefix}
 use Rattle.life_base.specs.declared.fault.Fault.{Fault}
@@ -24,6 +25,6 @@ status_of kinds.Memory = 4
 status_of _ = 2
 
 -- the text was written, or a prefix of it where the sink failed or took no bytes
-abbrev pub Tells : Option (List ℕ) → Option (List ℕ) → ℕ → Bool → List ℕ → Type 0
-Tells old new failures stalled text = Appends old new text
-    ⊎ (WritesPrefix old new text × ((failures ≡ 1) ⊎ (stalled ≡ true)))
+abbrev pub Tells : SinkRun → List ℕ → Type 0
+Tells output text = Appends output.before output.after text
+    ⊎ (WritesPrefix output.before output.after text × ((output.failures ≡ 1) ⊎ (output.stalled ≡ true)))

@@ -1,5 +1,3 @@
-pub mod Keeping
-pub mod Running
 pub mod Faults
 pub mod Jobs
 pub mod CommandLine

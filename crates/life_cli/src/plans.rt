@@ -1,6 +1,7 @@
 //! What the words of the command line ask for.
 
 use clap::Error;
+use std::alloc::AllocError;
 
 /// What a run is asked to do.
 #[derive(Clone, Copy, PartialEq, Eq, Debug)]
@@ -24,7 +25,29 @@ pub enum Usage {
     Memory,
 }
 
-mod commands;
-mod planning;
+impl From<AllocError> for Usage {
+    ghost use Rattle.std.specs.Prelude.{◌≡◌};
+    ghost use Rattle.life_cli.specs.declared.plans.Usage.TheVariants.{Memory};
 
-pub use planning::plan;
+    ghost from_gives = { λ _ usage. usage ≡ Memory };
+
+    /// `Memory`.
+    fn from(_refused: AllocError) -> Usage {
+        Usage::Memory
+    }
+}
+
+impl From<Error> for Usage {
+    ghost use Rattle.std.specs.Prelude.{◌≡◌};
+    ghost use Rattle.life_cli.specs.declared.plans.Usage.TheVariants.{Words};
+
+    ghost from_gives = { λ error usage. usage ≡ Words error };
+
+    /// The words are at fault.
+    fn from(error: Error) -> Usage {
+        Usage::Words(error)
+    }
+}
+
+mod commands;
+pub(crate) mod planning;

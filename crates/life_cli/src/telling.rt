@@ -1,6 +1,7 @@
 //! Fault lines and statuses.
 
 ghost use Rattle.std.specs.Prelude.{◌≡◌, ◌⊎◌, true, IfErr, OnErr};
+ghost use Rattle.life_base.specs.DeviceRuns.{sink_run};
 ghost use Rattle.life_base.specs.Writing.{WritesText};
 ghost use Rattle.life_cli.specs.Faults.{fault_line, status_of, Tells};
 
@@ -26,7 +27,7 @@ fn write_fault<E: Sink>(err: &mut E, fault: &Fault) -> Result<(), Kind>
 /// Writes the line of a fault, as far as the sink takes it. It takes no memory.
 pub fn tell<E: Sink>(err: &mut E, fault: &Fault)
     requires { E.failures err.old ≡ 0 }
-    ensures { Tells (E.contents err.old) (E.contents err.new) (E.failures err.new) (E.stalled err.new) (fault_line fault.now) }
+    ensures { Tells (sink_run E.contents E.failures E.stalled err.old err.new) (fault_line fault.now) }
 {
     let _ = write_fault(err, fault);
 }

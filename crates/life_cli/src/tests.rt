@@ -4,8 +4,8 @@ ghost use Rattle.std.specs.Prelude.{◌≡◌, ◌≤◌, ◌^◌, Some, true, f
 ghost use Rattle.std.proofs.Common.{rules};
 ghost use Rattle.life_base.specs.Devices.{count_of};
 
-use crate::plans::{Job, Usage, plan};
-use crate::running::run_canon_within;
+use crate::plans::planning::plan;
+use crate::plans::{Job, Usage};
 use crate::working::work;
 use clap::error::ErrorKind;
 use life_base::{Device, Kind, Sink, Source};
@@ -85,7 +85,9 @@ impl Sink for Limited {
             return Err(Kind::WriteFault);
         }
         self.room -= count;
-        self.stalled = count == 0;
+        if count == 0 && !buf.is_empty() {
+            self.stalled = true;
+        }
         Ok(count)
     }
 
@@ -96,7 +98,8 @@ impl Sink for Limited {
 
 /// A sink with room for `room` bytes that takes `piece` bytes at a time.
 fn sink_with(alloc: Global, room: usize, piece: usize) -> Limited
-    ensures { result.failed ≡ false }
+    ensures failed { result.failed ≡ false }
+    ensures stalled { result.stalled ≡ false }
 {
     Limited {
         taken: Vec::new(alloc),
@@ -133,6 +136,7 @@ fn canon<R: Source, W: Sink>(
 ) -> (u8, Vec<u8>)
     requires reads { R.failures reader.old ≡ 0 }
     requires writes { W.failures writer.old ≡ 0 }
+    requires takes { W.stalled writer.old ≡ false }
 {
     let mut err = sink_with(alloc, room, 3);
     let mut second = None::<Device<&[u8]>>;
@@ -140,22 +144,24 @@ fn canon<R: Source, W: Sink>(
     (status, err.taken)
 }
 
-/// An input that names its rule, and its text. Comments go, and each row of a leaf gets its `$`.
+/// A glider, and its text: the rows about the middle of a leaf.
 const GLIDER: &[u8] = b"[M2]\n#R B3/S23\n#C a glider\n$$..*$...*$.***$$$$\n";
 
 const GLIDER_TEXT: &[u8] = b"[M2] (canonical 1)\n#R B3/S23\n$$..*$...*$.***$$$$\n";
 
-/// Two equal squares stay two.
+/// Two cells, in both formats. Equal squares share a line.
 const TWINS: &[u8] = b"[M2]\n....*$\n....*$\n4 0 0 1 2\n";
 
-const TWINS_TEXT: &[u8] =
-    b"[M2] (canonical 1)\n#R B3/S23\n....*$$$$$$$$\n....*$$$$$$$$\n4 0 0 1 2\n";
+const TWINS_IN_RLE: &[u8] = b"#CXRLE Pos=-4,0\nx = 9, y = 1, rule = 23/3\no7bo!\n";
+
+const TWINS_TEXT: &[u8] = b"[M2] (canonical 1)\n#R B3/S23\n....*$$$$$$$$\n4 0 0 1 1\n";
 
 #[test]
-fn writes_what_it_read(rt: HostRuntime) {
-    let rows: [(&[u8], &[u8]); 4] = [
+fn writes_the_canonical_text(rt: HostRuntime) {
+    let rows: [(&[u8], &[u8]); 5] = [
         (GLIDER, GLIDER_TEXT),
         (TWINS, TWINS_TEXT),
+        (TWINS_IN_RLE, TWINS_TEXT),
         (b"[M2]\n#G 7", b"[M2] (canonical 1)\n#R B3/S23\n#G 7\n"),
         (b"[M2]\r\n#G 0\r\n", b"[M2] (canonical 1)\n#R B3/S23\n"),
     ];
@@ -172,8 +178,9 @@ fn writes_what_it_read(rt: HostRuntime) {
 
 #[test]
 fn tells_what_is_wrong(rt: HostRuntime) {
-    let rows: [(&[u8], &[u8]); 4] = [
+    let rows: [(&[u8], &[u8]); 5] = [
         (b"o!\n", b"line 1: NoHeader\n"),
+        (b"x = 1, y = 1\nB!\n", b"line 2: StateRange\n"),
         (b"", b"line 1: NoHeader\n"),
         (
             b"[M2]\n#R B3/S23\n....*$$$$$$$$\n4 0 0 0 9\n",
@@ -241,19 +248,6 @@ fn failing_error_output(rt: HostRuntime) {
     let (status, told) = canon(rt.alloc(), &mut reader, &mut writer, 4);
     assert_eq!(rt; status, 2);
     assert!(rt; told.as_slice() == b"line".as_slice());
-}
-
-/// Too long an input comes before what is wrong with it.
-#[test]
-fn input_too_long(rt: HostRuntime) -> Result<(), Fail> {
-    for (most, kind) in [(3, Kind::NoHeader), (2, Kind::InputTooLong)] {
-        let mut reader = Device::new(b"o!\n".as_slice());
-        let mut writer = sink_with(rt.alloc(), 999, 999);
-        let answer = run_canon_within(rt.alloc(), &mut reader, &mut writer, most);
-        assert_eq!(rt; answer.err().ok_or("accepted")?.kind, kind);
-        assert!(rt; writer.taken.is_empty());
-    }
-    Ok(())
 }
 
 #[test]

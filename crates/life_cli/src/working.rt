@@ -1,16 +1,20 @@
 //! The work of a job.
 
-ghost use Rattle.std.specs.Prelude.{◌≡◌, ◌<◌, ◌↔◌, ◌^◌, IsSome, IfSome, option_and_then, true};
-ghost use Rattle.std.specs.Option.{option_map_or};
+ghost use Rattle.std.specs.Prelude.{◌≡◌, ◌<◌, ◌↔◌, ◌^◌, IsSome, IfSome, true, false};
+ghost use Rattle.life_base.specs.DeviceRuns.{source_run, optional_source_run, sink_run};
 ghost use Rattle.life_base.specs.declared.fault.Fault.{Fault};
 ghost use Rattle.life_cli.specs.Faults.{fault_line, status_of, Tells};
 ghost use Rattle.life_cli.specs.Jobs.{HasSecond, Worked, JobRefuses};
 
 use crate::plans::Job;
-use crate::running::run_canon;
 use crate::telling::{status, tell};
 use life_base::{Sink, Source};
+use life_canon::run_canon;
+use life_quad::Shared;
 use std::alloc::Global;
+
+/// How many different squares a store of the program holds at most.
+const MOST_SQUARES: u64 = 1 << 31;
 
 /// Does the job, and answers the status that the program ends with. `second` is the second file of a job that has one.
 pub fn work<A: Source, B: Source, O: Sink, E: Sink>(
@@ -25,19 +29,23 @@ pub fn work<A: Source, B: Source, O: Sink, E: Sink>(
     requires second_reads { IfSome second.old (λ b. B.failures b ≡ 0) }
     requires second_given { IsSome second.old ↔ HasSecond job.now }
     requires writes { O.failures out.old ≡ 0 }
+    requires takes { O.stalled out.old ≡ false }
     requires tells { E.failures err.old ≡ 0 }
-    ensures done { result < 2 → Worked job.now result (A.remaining first.old) (A.remaining first.new)
-        (option_and_then B.remaining second.old) (option_and_then B.remaining second.new) (O.contents out.old) (O.contents out.new) }
+    requires hears { E.stalled err.old ≡ false }
+    ensures done { result < 2 → Worked job.now result (source_run A.remaining A.failures first.old first.new)
+        (optional_source_run B.remaining B.failures second.old second.new) (sink_run O.contents O.failures O.stalled out.old out.new) }
     ensures flushed { result < 2 → O.flushed out.new ≡ true }
     ensures quiet { result < 2 → err.new ≡ err.old }
     ensures refused { 1 < result → (fault : Fault) × (result ≡ status_of fault.kind)
-        × JobRefuses job.now (A.remaining first.old) (A.remaining first.new) (A.failures first.new)
-        (option_and_then B.remaining second.old) (option_and_then B.remaining second.new) (option_map_or B.failures second.new 0)
-        (O.contents out.old) (O.contents out.new) (O.failures out.new) (O.stalled out.new) fault
-        × Tells (E.contents err.old) (E.contents err.new) (E.failures err.new) (E.stalled err.new) (fault_line fault) }
+        × JobRefuses job.now (source_run A.remaining A.failures first.old first.new)
+        (optional_source_run B.remaining B.failures second.old second.new) (sink_run O.contents O.failures O.stalled out.old out.new) fault
+        × Tells (sink_run E.contents E.failures E.stalled err.old err.new) (fault_line fault) }
 {
     let done = match (job, second) {
-        (Job::Canon, _) => run_canon(alloc, first, out),
+        (Job::Canon, _) => {
+            let mut store = Shared::new(alloc, MOST_SQUARES);
+            run_canon(alloc, &mut store, first, out)
+        }
     };
     match done {
         Ok(()) => 0,

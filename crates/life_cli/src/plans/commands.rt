@@ -8,61 +8,71 @@ use clap::{Arg, ArgAction, ArgMatches, Command, Error};
 use std::alloc::{AllocError, Global};
 
 /// What the program and its command do, in short.
-const SUMMARY: &str = "Writes the pattern of a macrocell file in one fixed form";
+const SUMMARY: &str = "Writes the one canonical text of a pattern file";
 
-const ABOUT: &str = "Writes the pattern of a macrocell file in one fixed form.
+const ABOUT: &str = "Writes the one canonical text of a pattern file.
 
 A pattern of a cellular automaton is a rule, a generation and a state for every
-cell of the plane. A macrocell file, as Golly writes it with the ending .mc,
-holds one: line 1 begins with [M2], a line #R names the rule, a line #G the
-generation, and the lines behind them are squares of cells, of which the later
-ones are made of earlier ones.";
+cell of the plane. The file is extended RLE (.rle) or a macrocell file (.mc), as
+Golly reads and writes them: one whose line 1 begins with [M2] is read as
+macrocell, every other one as RLE. Two files have one canonical text exactly if
+they are the same pattern, whatever their formats and spellings.";
 
 const NOTES: &str = "Examples:
-  golly_canon canon glider.mc
-  golly_canon canon - < glider.mc > written.mc
+  golly_canon canon glider.rle
+  golly_canon canon - < glider.mc > canonical.mc
 
 Exit status:
   0  done
   2  the file was refused
   3  a file can't be opened or read, or the output can't be written
-  4  there isn't enough memory
+  4  there isn't enough memory, or room in the store of squares
   5  the command line isn't understood
 
 With the statuses 2 to 4 one line on standard error says why: `line N: NAME`,
 where N is a line of the file, counted from 1, or `NAME` alone. A file that is
 refused writes nothing to standard output.
 
-  NoHeader         line 1 doesn't begin with [M2]
+  NoHeader         line 1 begins a file of neither format, or there is no header
   BadRule          the rule is empty, too long or has a byte that no rule has
   BoundedGrid      the rule has a `:`, a bounded grid
   UnsupportedRule  the rule is of a kind that isn't supported
   BirthOnZero      the rule lets cells be born from nothing
-  BadNumber        the generation is no number
-  TooLarge         the generation is 2^64 or more
-  LateHeader       a line #R or #G stands behind a square
+  BadNumber        a position or the generation is no number
+  TooLarge         the generation is 2^64 or more, or a count is above 2^60
+  LateHeader       a line #CXRLE behind the header, or #R or #G behind a square
+  StateRange       a state is too large for the rule
+  LineTooLong      a line has more than 2^20 bytes
+ of RLE alone:
+  BadHeader        the header isn't `x = .., y = .., rule = ..`
+  SecondHeader     a second header follows
+  BadItem          something that is no count, state, `$` or `!`
+  ZeroCount        a count is 0
+  OutOfPlane       a cell is outside -2^59 to 2^59 - 1
+ of macrocell files alone:
   Timeline         the file holds several patterns, with lines #FRAME
   BadNode          a line is neither a leaf nor five numbers
   BadLeaf          a leaf has another byte than . * $, or more than 8 x 8 cells
   BadLevel         a square's level isn't from 1 to 60
   BadChild         a quarter is no earlier square of the level below
-  StateRange       a state is too large for the rule
-  LineTooLong      a line has more than 2^20 bytes
+ without a line:
   InputTooLong     the file has more than 2^30 bytes
   ReadFault        the file can't be opened or read
   WriteFault       the output can't be written
+  Full             the pattern has more than 2^31 different squares
   Memory           there isn't enough memory";
 
-const ABOUT_CANON: &str = "Writes the pattern of a macrocell file in one fixed form.
+const ABOUT_CANON: &str = "Writes the one canonical text of a pattern file.
 
-The file is read whole and then written to standard output: the line
-`[M2] (canonical 1)`, the rule in its canonical spelling, the generation if it
-isn't 0, and the squares as they stand in the file, each in one spelling. Every
-cell keeps its state. Comments and blank lines are left out.";
+It is a macrocell file: the line `[M2] (canonical 1)`, the rule in its canonical
+spelling, the generation if it isn't 0, and each different square that isn't
+blank once, each behind its quarters. The last one is the least square about the
+middle of the plane that holds the pattern. Every cell keeps its state.";
 
 const NOTES_CANON: &str = "Examples:
-  golly_canon canon glider.mc
-  golly_canon canon - < glider.mc > written.mc
+  golly_canon canon glider.rle
+  golly_canon canon - < glider.mc > canonical.mc
+  golly_canon canon glider.rle | sha256sum
   golly_canon canon -- -odd-name.mc
 
 See `golly_canon --help` for the exit statuses and the lines on standard error.";

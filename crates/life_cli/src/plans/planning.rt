@@ -26,10 +26,7 @@ fn copied(alloc: Global, text: &str) -> Result<String, Usage>
     ensures ok { IfOk result (λ s. string_bytes s ≡ text.now) }
     ensures err { IfErr result (λ u. (matches : Option (Text × List Row)) → Explains [] matches u) }
 {
-    match String::from_str(alloc, text) {
-        Ok(copy) => Ok(copy),
-        Err(_) => Err(Usage::Memory),
-    }
+    Ok(String::from_str(alloc, text)?)
 }
 
 /// The first value of an option or a file.
@@ -108,8 +105,6 @@ pub fn plan<'a>(alloc: Global, words: &'a [&'a str]) -> Result<Plan, Usage>
     ensures once { OnOk result (¬ NamesInputTwice (subcommand_of program (map (λ word. word.now) words.entry.now))) }
     ensures refused { IfErr result (Explains (fault_of program (map (λ word. word.now) words.entry.now)) (subcommand_of program (map (λ word. word.now) words.entry.now))) }
 {
-    match parse(alloc, words) {
-        Ok(matches) => from_matches(alloc, &matches),
-        Err(error) => Err(Usage::Words(error)),
-    }
+    let matches = parse(alloc, words)?;
+    from_matches(alloc, &matches)
 }

@@ -11,12 +11,12 @@ simple : is_simple program ≡ true
 unfolding clap_on_literals
 simple = refl
 
-pub returns-in-Ok-clause-ok : goal.returns-in-Ok-clause-ok
-returns-in-Ok-clause-ok c = let entered = (c.in-Ok.ensures.ok simple).1 in rw (← entered) c.from_matches.ensures.ok
+pub returns-clause-ok : goal.returns-clause-ok
+returns-clause-ok c = let entered = (c.in_ok-matches.ensures.ok simple).1 in rw (← entered) c.from_matches.ensures.ok
 
-pub returns-in-Ok-clause-once : goal.returns-in-Ok-clause-once
-returns-in-Ok-clause-once c = let entered = (c.in-Ok.ensures.ok simple).1 in rw (← entered) c.from_matches.ensures.once
+pub returns-clause-once : goal.returns-clause-once
+returns-clause-once c = let entered = (c.in_ok-matches.ensures.ok simple).1 in rw (← entered) c.from_matches.ensures.once
 
-pub returns-in-Ok-clause-refused : goal.returns-in-Ok-clause-refused
-returns-in-Ok-clause-refused c =
-    refusal_explained (fault_of program (map (λ word. word.now) c.args.words.now)) _ _ c.from_matches.result ((c.in-Ok.ensures.ok simple).1) c.from_matches.ensures.refused
+pub returns-clause-refused : goal.returns-clause-refused
+returns-clause-refused c =
+    refusal_explained (fault_of program (map (λ word. word.now) c.args.words.now)) _ _ c.from_matches.result ((c.in_ok-matches.ensures.ok simple).1) c.from_matches.ensures.refused

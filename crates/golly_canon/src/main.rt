@@ -1,20 +1,15 @@
-//! The program `golly_canon`.
+//! The program `golly_canon`: its words, its files, and what it leaves to `life_cli`.
 #![tactic(auto)]
 
 mod opening;
-mod plans;
-mod running;
-mod telling;
-mod working;
 
 use life_base::{Device, Fault, Kind};
+use life_cli::plans::{Job, Plan, Usage};
+use life_cli::{plan, status, tell, work};
 use opening::{Input, open};
-use plans::{Plan, Usage, plan};
 use std::alloc::{AllocError, Global};
 use std::process::ExitCode;
 use std::{env, io};
-use telling::{status, tell};
-use working::work;
 
 /// The words as `plan` takes them.
 fn texts<'a>(alloc: Global, words: &'a [String]) -> Result<Vec<&'a str>, AllocError> {
@@ -66,7 +61,7 @@ fn carry_out(rt: &HostRuntime, plan: &Plan) -> u8 {
     let mut out = Device::new(rt.stdout());
     let mut err = Device::new(rt.stderr());
     match plan.job {
-        plans::Job::Canon => work(
+        Job::Canon => work(
             rt.alloc(),
             &plan.job,
             &mut first,
@@ -104,6 +99,3 @@ fn main(rt: HostRuntime) -> ExitCode {
         }
     }
 }
-
-#[cfg(test)]
-mod tests;

@@ -1,0 +1,12 @@
+//! What the program `golly_canon` does, over any words, sources and sinks.
+#![tactic(auto)]
+
+pub mod plans;
+mod telling;
+#[cfg(test)]
+mod tests;
+mod working;
+
+pub use plans::planning::plan;
+pub use telling::{status, tell};
+pub use working::work;
