@@ -3,6 +3,8 @@
 #   make           builds the proved program as ./golly_canon and runs it on an example
 #   make test      the merge gate, and every other check
 #   make quick     builds the same program without proving it, runs it on FILE=.. and keeps nothing
+#   make plants    tries the wrong bodies that the gate leaves out, before a release
+#   make times     runs `rt ci`, and says how much processor time it took for each crate, its tests and its edits
 #   make bench     times the program beside plain programs in C
 #   make install   installs the proved program to $(DESTDIR)$(PREFIX)/bin
 #   make clean     removes what was built; the proofs' work in crates/*/out stays
@@ -10,7 +12,7 @@
 
 PREFIX = /usr/local
 DESTDIR =
-RT = rt
+RT ?= rt
 EXAMPLE = examples/gosper_glider_gun.mc
 
 all: golly_canon
@@ -24,7 +26,13 @@ quick:
 	@RT="$(RT)" FILE="$(FILE)" sh scripts/quick
 
 test:
-	@RT="$(RT)" sh tests/all
+	@RT="$(RT)" python3 tests/all
+
+plants:
+	@RT="$(RT)" sh scripts/plants
+
+times:
+	@RT="$(RT)" python3 scripts/times
 
 bench: golly_canon
 	@python3 bench/run.py ./golly_canon out/bench
@@ -41,4 +49,4 @@ distclean: clean
 
 FORCE:
 
-.PHONY: all quick test bench install clean distclean FORCE
+.PHONY: all quick test plants times bench install clean distclean FORCE

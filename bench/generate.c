@@ -2,6 +2,10 @@
 //   generate macrocell LINES   node lines of a two-state rule: leaves, then levels 4 and up, with sharing
 //   generate named LINES       node lines of a named rule from level 1 up, states 0 to 255, with sharing
 //   generate rle BYTES         an RLE soup of about BYTES bytes, one cell in three alive
+//   generate states8 BYTES     an RLE soup of a named rule with states 0 to 7, half of the cells 0
+//   generate states256 BYTES   the same with states 0 to 255
+//   generate cells BYTES       single cells, a few on each row of a square of 2^20 columns and rows
+//   generate rows LINES        an RLE file of so many rows of 2^60 cells each, with up to eight rows between them
 //   generate rotate4 LINES     a rule table of so many transitions under that symmetry: 8 states, Moore, ten variables
 //   generate permute LINES     the same under permute
 #include <stdint.h>
@@ -98,6 +102,47 @@ static void rle(long bytes) {
     puts("!");
 }
 
+static void states(const char *rule, int most, long bytes) {
+    printf("x = 4096, y = 4096, rule = %s\n", rule);
+    for (long written = 0; written < bytes;) {
+        for (int column = 0, width = 0; column < 4096; column++) {
+            int cell = next_random() % 2 == 0 ? 0 : 1 + (int)((next_random() >> 30) % (uint64_t)most);
+            if (width > 66) {
+                putchar('\n');
+                written++;
+                width = 0;
+            }
+            if (cell > 24) putchar('p' + (cell - 1) / 24 - 1);
+            putchar(cell == 0 ? '.' : 'A' + (cell - 1) % 24);
+            width += cell > 24 ? 2 : 1;
+            written += cell > 24 ? 2 : 1;
+        }
+        puts("$");
+        written += 2;
+    }
+    puts("!");
+}
+
+static void cells(long bytes) {
+    puts("#CXRLE Pos=-524288,-524288\nx = 1048576, y = 1048576, rule = B3/S23");
+    for (long written = 0; written < bytes;) {
+        long column = 0;
+        for (int i = 0; i < 3; i++) {
+            long dead = 1 + (long)((next_random() >> 20) % 300000);
+            column += dead + 1;
+            if (column < 1048576) written += printf("%ldbo", dead);
+        }
+        written += printf("%d$\n", 1 + (int)((next_random() >> 20) % 3));
+    }
+    puts("!");
+}
+
+static void rows(long lines) {
+    puts("#CXRLE Pos=-576460752303423488,0\nx = 1, y = 1, rule = B3/S23");
+    for (long i = 0; i < lines; i++) printf("1152921504606846976o%d$\n", 1 + (int)((next_random() >> 20) % 8));
+    puts("!");
+}
+
 // A state of a transition: 0 in every second place.
 static int table_state(void) {
     int bits = (int)(next_random() >> 40 & 15);
@@ -141,10 +186,14 @@ int main(int count, char **words) {
     if (count == 3 && strcmp(words[1], "macrocell") == 0) macrocell(size);
     else if (count == 3 && strcmp(words[1], "named") == 0) named(size);
     else if (count == 3 && strcmp(words[1], "rle") == 0) rle(size);
+    else if (count == 3 && strcmp(words[1], "states8") == 0) states("Generated", 7, size);
+    else if (count == 3 && strcmp(words[1], "states256") == 0) states("Generated", 255, size);
+    else if (count == 3 && strcmp(words[1], "cells") == 0) cells(size);
+    else if (count == 3 && strcmp(words[1], "rows") == 0) rows(size);
     else if (count == 3 && strcmp(words[1], "rotate4") == 0) table(words[1], wide, size);
     else if (count == 3 && strcmp(words[1], "permute") == 0) table(words[1], narrow, size);
     else {
-        fputs("usage: generate macrocell|named|rle|rotate4|permute SIZE\n", stderr);
+        fputs("usage: generate macrocell|named|rle|states8|states256|cells|rows|rotate4|permute SIZE\n", stderr);
         return 2;
     }
     return 0;

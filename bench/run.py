@@ -97,22 +97,40 @@ def made(folder, name, kind, size):
     return path
 
 
-def macrocell(program, folder):
-    print("golly_canon canon, beside cat and a plain reader and writer in C that checks nothing")
-    reference = plain(folder, "plain_macrocell")
-    times = []
-    for label, name, kind, lines in (("100,000 node lines", "nodes_1e5.mc", "macrocell", 100_000),
-                                     ("1,000,000 node lines", "nodes_1e6.mc", "macrocell", 1_000_000),
-                                     ("1,000,000 of a named rule", "named_1e6.mc", "named", 1_000_000)):
-        path = made(folder, name, kind, lines)
+def soups(folder, reference):
+    """The inputs of `canonical`: a label and a path each."""
+    pairs = []
+    for label, name, size in (("10 MB", "soup_1e7", 10_000_000), ("100 MB", "soup_1e8", 100_000_000)):
+        soup = made(folder, name + ".rle", "rle", size)
+        tree = os.path.join(folder, name + ".mc")
+        if not os.path.exists(tree):
+            with open(tree, "wb") as out:
+                out.write(output([reference], soup))
+        pairs += [(f"soup of {label}, RLE", soup), (f"the same soup, macrocell", tree)]
+    return pairs + [(label, made(folder, name, kind, size)) for label, name, kind, size in (
+        ("random tree, 1,000,000 lines", "nodes_1e6.mc", "macrocell", 1_000_000),
+        ("the same from level 1, named", "named_1e6.mc", "named", 1_000_000),
+        ("8 states, 10 MB", "states8_1e7.rle", "states8", 10_000_000),
+        ("256 states, 10 MB", "states256_1e7.rle", "states256", 10_000_000),
+        ("single cells, 7 MB", "cells_7e6.rle", "cells", 7_000_000),
+        ("50,000 rows of 2^60 cells", "rows_5e4.rle", "rows", 50_000))]
+
+
+def canonical(program, folder):
+    print("golly_canon canon, beside cat and a plain program in C that does the whole of the work and checks nothing")
+    reference = plain(folder, "plain_canon")
+    times = {}
+    for label, path in soups(folder, reference):
         size = os.path.getsize(path)
+        if output([program, "canon", "-"], path) != output([reference], path):
+            sys.exit(f"{path}: the two programs write other bytes")
         cat, _ = written(["cat"], path)
-        base, _ = written([reference], path)
+        base, base_peak = written([reference], path)
         took, peak = written([program, "canon", "-"], path)
-        times.append(took)
-        print(f"  {label:<26} {size / 1e6:6.1f} MB: {took:.3f} s ({size / took / 1e6:.0f} MB/s), plain {base:.3f} s, cat {cat:.3f} s;"
-              f" {took / base:.2f} times plain, peak memory {peak / 1e6:.0f} MB, {peak / size:.2f} times the input")
-    print(f"  10 times the lines take {times[1] / times[0]:.1f} times as long")
+        times[label] = took
+        print(f"  {label:<29} {size / 1e6:6.1f} MB: {took:.3f} s ({size / took / 1e6:.0f} MB/s), plain {base:.3f} s, cat {cat:.3f} s; {took / base:.2f} times plain;"
+              f" peak memory {peak / 1e6:.0f} MB, plain {base_peak / 1e6:.0f} MB, {peak / base_peak:.2f} times plain; the same bytes")
+    print(f"  10 times the soup takes {times['soup of 100 MB, RLE'] / times['soup of 10 MB, RLE']:.1f} times as long")
 
 
 def rle(folder):
@@ -206,7 +224,7 @@ def main():
     program, folder = os.path.abspath(sys.argv[1]), os.path.abspath(sys.argv[2])
     os.makedirs(folder, exist_ok=True)
     plain(folder, "generate")
-    macrocell(program, folder)
+    canonical(program, folder)
     rle(folder)
     store(folder)
     strips(folder)

@@ -1,14 +1,19 @@
 #!/bin/sh
-# Refuses each request for memory in turn, alone and together with all behind it: first those of the program, $1, then those of
-# crates/check_allocations, which makes each call of the libraries that takes memory. What meets a refusal answers `Memory`, or does
-# without that memory, and all else is as ever.
-# It needs a C compiler, for tests/refuse_allocation.c, and proves the libraries, as far as that isn't kept from before.
+# Refuses each request for memory in turn, alone and together with all behind it: first those of the program, $1, then those of $2, the
+# program of crates/check_allocations, which makes each call of the libraries that takes memory. What meets a refusal answers `Memory`, or
+# does without that memory, and all else is as ever.
+# It needs a C compiler, for tests/refuse_allocation.c.
 
-program=${1:?usage: tests/allocations.sh PROGRAM}
+usage="usage: tests/allocations.sh PROGRAM CALLS"
+program=${1:?$usage}
+calls=${2:?$usage}
+for built in "$program" "$calls"; do
+    [ -x "$built" ] || { echo "there is no program $built"; exit 1; }
+done
 case $program in /*) ;; *) program=$PWD/$program ;; esac
+case $calls in /*) ;; *) calls=$PWD/$calls ;; esac
 top=$(cd "$(dirname "$0")/.." && pwd)
-calls=$top/crates/check_allocations
-: "${RT:=rt}" "${CC:=cc}"
+: "${CC:=cc}"
 folder=$(mktemp -d) || exit 1
 trap 'rm -rf "$folder"' EXIT
 cd "$folder" || exit 1
@@ -99,7 +104,11 @@ header='[M2] (canonical 1)\n#R'
 # One cell under seven squares, from a file.
 nodes='....*$$$$$$$$\n4 1 0 0 0\n5 2 0 0 0\n6 3 0 0 0\n7 4 0 0 0\n8 5 0 0 0\n9 0 0 0 6\n'
 printf '%b' "[M2] (golly 4.2)\n#R B3/S23\n$nodes" > input
-program_run "canon FILE" 0 "$header B3/S23\n$nodes" "" canon input
+program_run "canon FILE" 0 "$header B3/S23\n....*$$$$$$$$\n4 0 0 0 1\n" "" canon input
+
+# Two cells nine columns apart, in extended RLE.
+printf '#CXRLE Pos=-4,0\nx = 9, y = 1, rule = B3/S23\no7bo!\n' > input
+program_run "canon of RLE" 0 "$header B3/S23\n....*$$$$$$$$\n4 0 0 1 1\n" "" canon input
 
 # Two cells under the name of a rule, from standard input.
 printf '[M2]\n#R WireWorld\n#G 7\n1 1 25 0 0' > input
@@ -127,18 +136,11 @@ judge_calls() { # LAST REQUEST REFUSED
     grep ': Memory$' out >> met
 }
 
-echo "proving and building crates/check_allocations ($(date +%H:%M:%S))"
-if ! (cd "$calls" && "$RT" run) > built 2>&1; then
-    cat built
-    verdict "crates/check_allocations" " it wasn't built;"
-    echo "$passed passed, $failed failed"
-    exit 1
-fi
 : > input
 : > wanted_err
 : > met
-cp "$calls/stdout" wanted_out
-each_request "the calls of the libraries" judge_calls 0 "$calls/out/check_allocations"
+cp "$top/crates/check_allocations/stdout" wanted_out
+each_request "the calls of the libraries" judge_calls 0 "$calls"
 
 # Each call meets a refusal of one request where it is made for the first time.
 grep -v ', again: ok$' wanted_out | sort > first_calls

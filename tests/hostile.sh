@@ -4,12 +4,17 @@
 # It needs GNU time (package `time`) and about 4 GB of memory; it writes to a folder of its own.
 
 program=${1:?usage: tests/hostile.sh PROGRAM}
-case $program in /*) ;; *) program=$PWD/$program ;; esac
+[ -x "$program" ] || { echo "there is no program $program"; exit 1; }
 clock=/usr/bin/time
 [ -x "$clock" ] || { echo "GNU time is missing: apt-get install time"; exit 1; }
 folder=$(mktemp -d) || exit 1
 trap 'rm -rf "$folder"' EXIT
-cd "$folder" || exit 1
+# A copy that nobody can run too.
+cp "$program" "$folder/golly_canon" && chmod 755 "$folder/golly_canon" && chmod 711 "$folder" || exit 1
+program=$folder/golly_canon
+mkdir "$folder/files"
+chmod 755 "$folder/files"
+cd "$folder/files" || exit 1
 
 passed=0
 failed=0
@@ -74,7 +79,7 @@ header='[M2] (canonical 1)\n#R B3/S23\n'
 refused "the empty file" 2 "line 1: NoHeader"
 
 printf '\n' > input
-refused "one line feed" 2 "line 1: NoHeader"
+refused "one line feed" 2 "line 2: NoHeader"
 
 head -c 65536 /dev/zero > input
 refused "NULs alone" 2 "line 1: NoHeader"
@@ -89,11 +94,11 @@ printf '[M2]\n$\n4 1 1 1\0 1\n' > input
 refused "a NUL in a number" 2 "line 3: BadNode"
 
 printf '[M2]\r\n#R B3/S23\r\n#G 7\r\n..*$\r\n4 0 0 0 1\r\n' > input
-printf '%b#G 7\n..*$$$$$$$$\n4 0 0 0 1\n' "$header" > wanted
+printf '%b#G 7\n$$$$......*$$$$\n' "$header" > wanted
 accepted "CR LF line ends"
 
-printf '[M2]\n$\n4 0 0 1 1' > input
-printf '%b$$$$$$$$\n4 0 0 1 1\n' "$header" > wanted
+printf '[M2]\n*$\n4 0 0 1 1' > input
+printf '%b*$$$$$$$$\n4 0 0 1 1\n' "$header" > wanted
 accepted "no last line feed"
 
 printf '[M2]\n$\n4 0 0 1' > input
@@ -133,8 +138,8 @@ refused "a line of 2^20 digits" 2 "line 2: BadNode"
 { printf '[M2]\n$\n4 0 0 1 '; zeros 1000000 9; printf '\n'; } > input
 refused "a child of a million digits" 2 "line 3: BadChild"
 
-{ printf '[M2]\n$\n4 0 0 1 '; zeros 999999 0; printf '1\n'; } > input
-printf '%b$$$$$$$$\n4 0 0 1 1\n' "$header" > wanted
+{ printf '[M2]\n*$\n4 0 0 1 '; zeros 999999 0; printf '1\n'; } > input
+printf '%b*$$$$$$$$\n4 0 0 1 1\n' "$header" > wanted
 accepted "the child 1 with a million zeros"
 
 { printf '[M2]\n#G '; zeros 1000000 9; printf '\n'; } > input
@@ -163,35 +168,143 @@ accepted "a million rules"
 
 glider='$$..*$...*$.***$$$$'
 { printf '[M2]\n'; yes "$glider" | head -n $longest; } > input
-{ printf '%b' "$header"; yes "$glider" | head -n $longest; } > wanted
+printf '%b%s\n' "$header" "$glider" > wanted
 accepted "2^20 leaves"
 
-# A square takes 40 bytes and its level one more; the shortest leaf has 2 bytes, and its text 9.
+# Of each line its level and its square's Id are kept; the shortest leaf has 2 bytes.
 { printf '[M2]\n'; yes '$' | head -n $longest; } > input
-{ printf '%b' "$header"; yes '$$$$$$$$' | head -n $longest; } > wanted
-accepted "2^20 leaves of one byte (30 times the input)" 30
+printf '%b' "$header" > wanted
+accepted "2^20 leaves of one byte (14 times the input)" 14
 
 { printf '[M2]\n'; yes '4 0 0 0 0' | head -n $longest; } > input
-{ printf '%b' "$header"; yes '4 0 0 0 0' | head -n $longest; } > wanted
 accepted "2^20 squares of five numbers"
 
-{ cat wanted; printf '4 0 0 0\n'; } > input
-refused "a fault behind 2^20 squares" 2 "line 1048579: BadNode"
+printf '4 0 0 0\n' >> input
+refused "a fault behind 2^20 squares" 2 "line 1048578: BadNode"
+
+# ---- extended RLE
+
+least=-576460752303423488
+width=1152921504606846976
+canonical() { printf '[M2] (canonical 1)\n#R %s\n' "$1"; }
+
+# Every form of a line once.
+printf '\n#C first\n#CXRLE Gen=3 Pos=1,1 Other=9\n#CXRLE Pos=-4,0\n \t\nx=0,y=0,rule=b3s23\r\n\n#C more\no 3b\n4b o ! and the rest\n#CXRLE\nx = 1\n' > input
+{ canonical B3/S23; printf '....*$$$$$$$$\n4 0 0 1 1\n'; } > wanted
+accepted "each form of a line of RLE"
+
+printf 'x = 1, y = 1\n!\n' > input
+canonical B3/S23 > wanted
+accepted "an RLE file of a blank plane"
+
+printf '#CXRLE Pos=%s,%s\nx = 1, y = 1\no%sbo%s$o%sbo!\n' $least $least $((width - 2)) $((width - 1)) $((width - 2)) > input
+{
+    canonical B3/S23
+    line=0
+    for corner in '*$$$$$$$$ %d 0 0 0' '.......*$$$$$$$$ 0 %d 0 0' '$$$$$$$*$ 0 0 %d 0' '$$$$$$$.......*$ 0 0 0 %d'; do
+        echo "${corner%% *}"
+        line=$((line + 1))
+        level=4
+        while [ $level -le 59 ]; do
+            printf "%d ${corner#* }\n" $level $line
+            line=$((line + 1))
+            level=$((level + 1))
+        done
+    done
+    echo "60 57 114 171 228"
+} > wanted
+accepted "a cell at each corner of the plane"
+
+printf '#CXRLE Pos=%s,0\nx = 1, y = 1\n%so!\n' $least $width > input
+{ canonical B3/S23; awk 'BEGIN { print "********$$$$$$$$"; for (k = 4; k < 60; k++) print k, k - 3, k - 3, 0, 0; print "60 0 0 57 57" }'; } > wanted
+accepted "a row of 2^60 cells"
+
+printf '#CXRLE Pos=%s,%s\nx = 1, y = 1, rule = Foo\n' $least $least > input
+awk -v width=$width 'BEGIN { for (s = 1; s < 256; s++) print width (s < 25 ? "" : substr("pqrstuvwxy", int((s - 1) / 24), 1)) substr("ABCDEFGHIJKLMNOPQRSTUVWX", (s - 1) % 24 + 1, 1) "$" }' >> input
+{
+    canonical Foo
+    awk '
+    # The square of a level whose rows are `count` rows from `row` on, over the whole width: row r has state r + 1, 255 and below.
+    function square(level, row,   north, south, key) {
+        if (row >= 255) return 0
+        if (level == 0) return row + 1
+        key = level " " row
+        if (key in number) return number[key]
+        north = square(level - 1, row)
+        south = square(level - 1, row + 2 ^ (level - 1))
+        print level, north, north, south, south
+        return number[key] = ++lines
+    }
+    BEGIN { top = square(59, 0); print 60, top, top, 0, 0 }'
+} > wanted
+accepted "255 rows of 2^60 cells, each of another state"
+
+{ printf 'x = 1, y = 1\n'; yes ob | head -n 524288; } > input
+{ canonical B3/S23; awk 'BEGIN { print "*.*.*.*$$$$$$$$"; for (k = 4; k <= 20; k++) print k, k - 3, k - 3, 0, 0; print "21 0 0 0 18" }'; } > wanted
+accepted "a comb of 2^19 teeth (18 times the input)" 18
+
+{ printf 'x = 1, y = 1\nb!'; zeros $((longest - 2)) x; printf '\n'; zeros $((longest + 1)) x; printf '\n'; } > input
+canonical B3/S23 > wanted
+accepted "lines of 2^20 and of 2^20 + 1 bytes with and behind !"
+
+{ printf 'x = 1, y = 1\nb!'; zeros $((longest - 1)) x; } > input
+refused "a line of 2^20 + 1 bytes with !" 2 "line 2: LineTooLong"
+
+{ printf 'x = 1, y = 1\n'; zeros $longest b; printf '!'; } > input
+refused "a line of 2^20 + 1 bytes before !" 2 "line 2: LineTooLong"
+
+{ printf 'x = 1, y = 1\n'; zeros $((longest - 3)) 0; printf '1o\n!'; } > input
+{ canonical B3/S23; printf '$$$$....*$$$$\n'; } > wanted
+accepted "a count of a million digits"
+
+{ printf 'x = 1, y = 1\n'; yes o | head -n $longest; } > input
+{ canonical B3/S23; awk 'BEGIN { print "********$$$$$$$$"; for (k = 4; k <= 20; k++) print k, k - 3, k - 3, 0, 0; print "21 0 0 0 18" }'; } > wanted
+accepted "2^20 lines of one cell (14 times the input)" 14
+
+{ printf 'x = 1, y = 1\n'; yes '9$' | head -n 1000000; printf 'o1152921504606846976$\n'; } > input
+refused "a row below the plane" 2 "line 1000002: OutOfPlane"
+
+printf 'x = 1, y = 1, rule = Life\n1152921504606846977b!\n' > input
+refused "a count above the width of the plane" 2 "line 2: TooLarge"
+
+# ---- deep squares
+
+{ printf '[M2]\n*$\n'; awk 'BEGIN { for (k = 4; k <= 60; k++) print k, k - 3, 0, 0, 0 }'; } > input
+{ canonical B3/S23; printf '*$$$$$$$$\n'; tail -n +3 input; } > wanted
+accepted "a chain of 60 levels"
+
+# Each square has its quarters four times over: 2^120 cells in 58 lines.
+{ printf '[M2]\n********$********$********$********$********$********$********$********$\n'; awk 'BEGIN { for (k = 4; k <= 60; k++) print k, k - 3, k - 3, k - 3, k - 3 }'; } > input
+{ canonical B3/S23; tail -n +2 input; } > wanted
+accepted "the whole plane"
+
+{ printf '[M2]\n#R Foo\n1 0 0 0 255\n'; awk 'BEGIN { for (k = 2; k <= 60; k++) print k, 0, 0, 0, k - 1 }'; } > input
+{ canonical Foo; sed -n '3,$p' input; } > wanted
+accepted "a chain from level 1"
 
 # ---- the longest input
 
-zeros $((1024 * longest + 1)) 'x' | measured_run canon - > out
+# The program on standard input, behind a pipe: its status is left in a file, since the parts of a pipe are shells of their own.
+piped_run() {
+    measured_run canon - > out
+    echo $status > left
+}
+
+zeros $((1024 * longest + 1)) 'x' | piped_run
+status=$(cat left)
 compare 2 "InputTooLong" $((1024 * longest + 1)) 3
 [ ! -s out ] || problems="$problems wrote to standard output;"
 verdict "2^30 + 1 bytes on standard input" "$problems"
 
-zeros $((1024 * longest)) 'x' | measured_run canon - > out
+zeros $((1024 * longest)) 'x' | piped_run
+status=$(cat left)
 compare 2 "line 1: LineTooLong" $((1024 * longest)) 3
 [ ! -s out ] || problems="$problems wrote to standard output;"
 verdict "2^30 bytes on standard input" "$problems"
 
 # An input without end is left when it is too long.
-yes x 2> yes_error | measured_run canon - > out
+yes x 2> yes_error | piped_run
+status=$(cat left)
 compare 2 "InputTooLong" $((1024 * longest)) 3
 [ ! -s out ] || problems="$problems wrote to standard output;"
 verdict "an input without end" "$problems"
@@ -216,6 +329,14 @@ closed_output "a closed standard output, from standard input" -
 measured_run canon input > /dev/full
 compare 3 "WriteFault" 0 1
 verdict "a full output" "$problems"
+
+# Its text is more than a pipe holds.
+awk 'BEGIN { print "x = 1, y = 1"; for (i = 1; i < 3000; i++) print i * i % 1000003 + 1 "bo$" }' > long
+{ measured_run canon long; echo $status > left; } | head -n 1 > out
+status=$(cat left)
+compare 3 "WriteFault" 0 1
+[ "$(cat out)" = "[M2] (canonical 1)" ] || problems="$problems the reader got '$(head -c 200 out)';"
+verdict "a reader that leaves after a line" "$problems"
 
 measured_run --help > /dev/full
 compare 3 "WriteFault" 0 1
@@ -251,11 +372,17 @@ unreadable "the empty name" ''
 unreadable "a name of 5000 bytes" "$(zeros 5000 n)"
 ln -s loop loop
 unreadable "a link to itself" loop
-if [ "$(id -u)" != 0 ]; then
-    printf '[M2]\n' > locked
-    chmod 000 locked
-    unreadable "a file that may not be read" locked
-fi
+
+# Root may read every file, so root tries this one as nobody.
+nobody=
+[ "$(id -u)" != 0 ] || nobody="setpriv --reuid=65534 --regid=65534 --clear-groups --no-new-privs"
+printf '[M2]\n' > locked
+chmod 000 locked
+"$clock" -q -f '%e %M' -o measured $nobody "$program" canon locked > out 2> err
+status=$?
+compare 3 "ReadFault" 0 1
+[ ! -s out ] || problems="$problems wrote to standard output;"
+verdict "a file that may not be read" "$problems"
 
 # ---- words
 

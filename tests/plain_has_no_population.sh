@@ -4,6 +4,7 @@
 # else, and accepts the same file with the shared store. Run it from anywhere; it works on a copy and changes nothing.
 set -eu
 top=$(cd "$(dirname "$0")/.." && pwd)
+: "${RT:=rt}"
 copy=$(mktemp -d)
 trap 'rm -rf "$copy"' EXIT
 
@@ -39,7 +40,7 @@ mod tests {
     fn nothing() {}
 }
 CALLER
-    (cd "$copy/crates/caller" && rt try --test > "$copy/log" 2>&1)
+    (cd "$copy/crates/caller" && "$RT" try --test > "$copy/log" 2>&1)
 }
 
 refusal='error[unsatisfied-bound]: the trait bound `Plain: SharedSquares` is not satisfied'
@@ -59,3 +60,4 @@ for call in population bounds; do
         exit 1
     fi
 done
+echo "1 passed, 0 failed"

@@ -1,0 +1,31 @@
+#!/bin/sh
+# Each edit in crates/*/more-must-fail can be applied: the text that it takes away stands in its file exactly once. The edits are tried by
+# `make plants`; those in must-fail/ by `rt ci`.
+cd "$(dirname "$0")/.." || exit 1
+passed=0
+failed=0
+
+for edit in crates/*/more-must-fail/*.edit; do
+    crate=${edit%/more-must-fail/*}
+    file=
+    problems=" no text is taken away;"
+    while IFS= read -r line; do
+        case $line in
+            'file: '*) file=$crate/${line#file: } ;;
+            'old: '*)
+                times=$(grep -oF -e "${line#old: }" "$file" | wc -l)
+                [ "$problems" != " no text is taken away;" ] || problems=
+                [ "$times" = 1 ] || problems="$problems '${line#old: }' stands $times times in $file;"
+                ;;
+        esac
+    done < "$edit"
+    if [ -z "$problems" ]; then
+        passed=$((passed + 1))
+    else
+        failed=$((failed + 1))
+        echo "FAILED  $edit:$problems"
+    fi
+done
+
+echo "$passed passed, $failed failed"
+[ $failed = 0 ] && [ $passed != 0 ]
