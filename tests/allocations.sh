@@ -104,11 +104,13 @@ header='[M2] (canonical 1)\n#R'
 # One cell under seven squares, from a file.
 nodes='....*$$$$$$$$\n4 1 0 0 0\n5 2 0 0 0\n6 3 0 0 0\n7 4 0 0 0\n8 5 0 0 0\n9 0 0 0 6\n'
 printf '%b' "[M2] (golly 4.2)\n#R B3/S23\n$nodes" > input
-program_run "canon FILE" 0 "$header B3/S23\n....*$$$$$$$$\n4 0 0 0 1\n" "" canon input
+cell='....*$$$$$$$$\n4 0 0 0 1\n'
+program_run "canon FILE" 0 "$header B3/S23\n$cell" "" canon input
 
 # Two cells nine columns apart, in extended RLE.
 printf '#CXRLE Pos=-4,0\nx = 9, y = 1, rule = B3/S23\no7bo!\n' > input
-program_run "canon of RLE" 0 "$header B3/S23\n....*$$$$$$$$\n4 0 0 1 1\n" "" canon input
+pair='....*$$$$$$$$\n4 0 0 1 1\n'
+program_run "canon of RLE" 0 "$header B3/S23\n$pair" "" canon input
 
 # Two cells under the name of a rule, from standard input.
 printf '[M2]\n#R WireWorld\n#G 7\n1 1 25 0 0' > input
