@@ -17,11 +17,8 @@ use Rattle.life_quad.specs.declared.id.Node.{Node}
 use Rattle.life_quad.specs.contracts.id.NodePartialEq.TheImpl.{eq-value}
 use Rattle.life_base.specs.Tree.{Tree, point, quad, depth, quarters, blank, is_blank_tree, IsFull}
 use Rattle.life_base.proofs.Squares.{depth-blank, is_blank-blank, blank_is, quad_nw, quad_ne, quad_sw, quad_se, point_state, point≢quad}
-use Rattle.life_quad.specs.Store.{Nodes, square_of, node_square, squares, held, is_blank_id, IsNamed, IsNode, IsSound, IsShared, Knows, IsIdOf, Interned, was_there, is_new}
+use Rattle.life_quad.specs.Store.{Nodes, id_of, square_of, node_square, squares, held, is_blank_id, IsNamed, IsNode, IsSound, IsShared, Knows, IsIdOf, HasRoom, Interned, was_there, is_new}
 use Rattle.life_quad.specs.StoreLaws.{Names, the_state, the_blank, the_node, names, same_id, same_ids, length-squares, IsSound-push, IsShared-push, squares-push, square_of-append, square_of-node, is_blank-content, full_content, slice_get-last, node_square-append}
-
-abbrev id_of : ℕ → Id
-id_of n = record { 0 = n }
 
 append_nil : (xs : List Tree) → xs ++ [] ≡ xs
 append_nil [] = refl
@@ -105,11 +102,11 @@ knows_quarter s i n id h at e =
 pub same_node : (a b : Node) → eq-value.it a b ≡ true → a ≡ b
 same_node a b h =
     let level : a.level ≡ b.level = grind arith in
-    let nw : a.nw.0 ≡ b.nw.0 = grind arith in
-    let ne : a.ne.0 ≡ b.ne.0 = grind arith in
-    let sw : a.sw.0 ≡ b.sw.0 = grind arith in
-    let se : a.se.0 ≡ b.se.0 = grind arith in
-    λ x. record { level = level x; nw = record { 0 = nw x }; ne = record { 0 = ne x }; sw = record { 0 = sw x }; se = record { 0 = se x } }
+    let nw : a.nw ≡ b.nw = grind arith in
+    let ne : a.ne ≡ b.ne = grind arith in
+    let sw : a.sw ≡ b.sw = grind arith in
+    let se : a.se ≡ b.se = grind arith in
+    λ x. record { level = level x; nw = nw x; ne = ne x; sw = sw x; se = se x }
 
 pub same_node_test : (a : Node) → eq-value.it a a ≡ true
 same_node_test a = grind arith
@@ -133,12 +130,12 @@ absent_square s n h shared new absent (k, lt, e) =
     let same : node_square S m ≡ node_square S n = sym (get_or_from_slice_get S k _ (node_square S n) (h.square k m at)) ∙ e in
     let own : (id : Id) → IsNamed (length s.nodes) id → Knows s id = λ id e. record { sound = h; named = e } in
     let quarter : (id : Id) → IsNamed k id → Knows s id = λ id e. knows_quarter s k m id h at e in
-    let nw = same_id s shared m.nw n.nw (quarter m.nw node.nw) (own n.nw new.nw) (quad_nw same) in
-    let ne = same_id s shared m.ne n.ne (quarter m.ne node.ne) (own n.ne new.ne) (quad_ne same) in
-    let sw = same_id s shared m.sw n.sw (quarter m.sw node.sw) (own n.sw new.sw) (quad_sw same) in
-    let se = same_id s shared m.se n.se (quarter m.se node.se) (own n.se new.se) (quad_se same) in
+    let nw = same_id s shared (id_of m.nw) (id_of n.nw) (quarter (id_of m.nw) node.nw) (own (id_of n.nw) new.nw) (quad_nw same) in
+    let ne = same_id s shared (id_of m.ne) (id_of n.ne) (quarter (id_of m.ne) node.ne) (own (id_of n.ne) new.ne) (quad_ne same) in
+    let sw = same_id s shared (id_of m.sw) (id_of n.sw) (quarter (id_of m.sw) node.sw) (own (id_of n.sw) new.sw) (quad_sw same) in
+    let se = same_id s shared (id_of m.se) (id_of n.se) (quarter (id_of m.se) node.se) (own (id_of n.se) new.se) (quad_se same) in
     let level = sym node.level ∙ ap depth same ∙ new.level in
-    let equal : m ≡ n = λ x. record { level = level x; nw = nw x; ne = ne x; sw = sw x; se = se x } in
+    let equal : m ≡ n = λ x. record { level = level x; nw = (nw x).0; ne = (ne x).0; sw = (sw x).0; se = (se x).0 } in
     absent (k, below, equal)
 
 -- after a node was interned
@@ -195,7 +192,7 @@ module _ (s : Nodes) (nw ne sw se : Id) (a : Knows s nw) (b : Knows s ne) (c : K
   -- the node of four quarters that are not all blank
   pub IsNode-joined : (level : ℕ) → level ≡ depth (square_of (squares s.nodes) nw) → depth (square_of (squares s.nodes) nw) < MAX_LEVEL
       → (is_blank_id nw && is_blank_id ne && is_blank_id sw && is_blank_id se) ≡ false
-      → IsNode (squares s.nodes) (length s.nodes) (record { level = level + 1; nw = nw; ne = ne; sw = sw; se = se })
+      → IsNode (squares s.nodes) (length s.nodes) (record { level = level + 1; nw = nw.0; ne = ne.0; sw = sw.0; se = se.0 })
   IsNode-joined level l room h =
       record { nw = a.named; ne = b.named; sw = c.named; se = d.named; full = full_joined; level = omega arith; low = omega arith; not_blank = is_blank-joined ∙ h }
 
@@ -204,7 +201,7 @@ pub list_any-Contains : (ns : List Node) (n : Node) → Contains ns n → list_a
 list_any-Contains ns n (k, lt, e) = list_any_at (eq-value.it n) ns k n lt (ap (eq-value.it n) e ∙ same_node_test n)
 
 -- what an insertion into the set of nodes does
-pub Interned-insert : (old : Nodes) (ns : List Node) (n : Node) → ns ≡ insert_key eq-value.it old.nodes n → length old.nodes < old.limit
+pub Interned-insert : (old : Nodes) (ns : List Node) (n : Node) → ns ≡ insert_key eq-value.it old.nodes n → HasRoom old
     → Interned old (record { nodes = ns; limit = old.limit }) n
 Interned-insert old ns n e room = by (list_any (eq-value.it n) old.nodes) refl
   where
@@ -295,7 +292,7 @@ pub held-distinct : (s : Nodes) → IsSound s → IsShared s → AllPairs ◌≢
 held-distinct s h shared i j d before below e =
     let S = squares s.nodes in
     let len = length-squares s.nodes in
-    let any : Node = record { level = 0; nw = id_of 0; ne = id_of 0; sw = id_of 0; se = id_of 0 } in
+    let any : Node = record { level = 0; nw = 0; ne = 0; sw = 0; se = 0 } in
     let at : slice_get s.nodes i ≡ Some (get_or s.nodes i any) = slice_get-get_or s.nodes i any (omega (arith, before, below, len)) in
     let at' : slice_get s.nodes j ≡ Some (get_or s.nodes j any) = slice_get-get_or s.nodes j any (omega (arith, below, len)) in
     let a : square_of S (id_of (512 + i)) ≡ get_or S i d = square_of-node s i _ (id_of (512 + i)) h at refl ∙ sym (get_or_from_slice_get S i _ d (h.square i _ at)) in
@@ -346,7 +343,7 @@ fresh_id old new n id h i (k, e, at) absent known = by i
 pub held-only : (s : Nodes) → IsSound s → (t : Tree) → Contains (held s) t
     → (is_blank_tree t ≡ false) × (0 < depth t) × ((id : Id) × Knows s id × (square_of (held s) id ≡ t))
 held-only s h t (k, lt, e) =
-    let any : Node = record { level = 0; nw = id_of 0; ne = id_of 0; sw = id_of 0; se = id_of 0 } in
+    let any : Node = record { level = 0; nw = 0; ne = 0; sw = 0; se = 0 } in
     let below : k < length s.nodes = omega (arith, lt, length-squares s.nodes) in
     let m : Node = get_or s.nodes k any in
     let at : slice_get s.nodes k ≡ Some m = slice_get-get_or s.nodes k any below in

@@ -17,9 +17,13 @@ square_of stored id =
     else if nat_lt id.0 512 then blank (id.0 - 255)
     else slice_index_or stored (id.0 - 512) (point 0)
 
--- the square of a node
+-- the Id of a number
+abbrev pub id_of : ℕ → Id
+id_of n = record { 0 = n }
+
+-- the square of a node, whose quarters are the numbers of Ids
 abbrev pub node_square : List Tree → Node → Tree
-node_square stored n = quad (square_of stored n.nw) (square_of stored n.ne) (square_of stored n.sw) (square_of stored n.se)
+node_square stored n = quad (square_of stored (id_of n.nw)) (square_of stored (id_of n.ne)) (square_of stored (id_of n.sw)) (square_of stored (id_of n.se))
 
 -- the squares of the nodes, where each node names earlier ones
 unfoldable pub squares : List Node → List Tree
@@ -40,21 +44,22 @@ is_blank_id id = id.0 == 0 || (nat_le 256 id.0 && nat_lt id.0 512)
 
 -- node number i names earlier Ids, is not blank, and has a full square of its level, of the greatest at most
 pub record IsNode (stored : List Tree) (i : ℕ) (n : Node) : Type 0 where
-  pub nw : IsNamed i n.nw
-  pub ne : IsNamed i n.ne
-  pub sw : IsNamed i n.sw
-  pub se : IsNamed i n.se
+  pub nw : IsNamed i (id_of n.nw)
+  pub ne : IsNamed i (id_of n.ne)
+  pub sw : IsNamed i (id_of n.sw)
+  pub se : IsNamed i (id_of n.se)
   pub full : IsFull (node_square stored n)
   pub level : depth (node_square stored n) ≡ n.level
   pub low : n.level ≤ MAX_LEVEL
   pub not_blank : is_blank_tree (node_square stored n) ≡ false
 
--- every node is sound and has its square, and the store is within its limit
+-- every node is sound and has its square, and the store is within its limit and has no more Ids than numbers of 32 bits
 pub record IsSound (s : Nodes) : Type 0 where
   pub entries : (i : ℕ) (n : Node) → slice_get s.nodes i ≡ Some n → IsNode (squares s.nodes) i n
   pub square : (i : ℕ) (n : Node) → slice_get s.nodes i ≡ Some n → slice_get (squares s.nodes) i ≡ Some (node_square (squares s.nodes) n)
   pub len : length s.nodes ≤ s.limit
   pub limit : s.limit ≤ 2 ^ 62
+  pub few : 512 + length s.nodes ≤ 2 ^ 32
 
 -- no node is there twice
 abbrev pub IsShared : Nodes → Type 0
@@ -69,10 +74,15 @@ pub record Knows (s : Nodes) (id : Id) : Type 0 where
 abbrev pub held : Nodes → List Tree
 held s = squares s.nodes
 
+-- one more node is within the limit and gets an Id of 32 bits
+pub record HasRoom (s : Nodes) : Type 0 where
+  pub limit : length s.nodes < s.limit
+  pub few : 512 + length s.nodes < 2 ^ 32
+
 -- the node is there, or it was added last
 pub data Interned (old new : Nodes) (n : Node) : Type 0 where
   was_there : Contains old.nodes n → new.nodes ≡ old.nodes → Interned old new n
-  is_new : ¬ Contains old.nodes n → length old.nodes < old.limit → new.nodes ≡ old.nodes ++ n ∷ [] → Interned old new n
+  is_new : ¬ Contains old.nodes n → HasRoom old → new.nodes ≡ old.nodes ++ n ∷ [] → Interned old new n
 
 -- the Id of a node
 abbrev pub IsIdOf : Nodes → Node → Id → Type 0

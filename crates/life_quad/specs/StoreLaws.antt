@@ -8,7 +8,7 @@ use Rattle.life_base.specs.declared.cell.TheConstants.{MAX_LEVEL}
 use Rattle.life_quad.specs.declared.id.Id.{Id}
 use Rattle.life_quad.specs.declared.id.Node.{Node}
 use Rattle.life_base.specs.Tree.{Tree, point, quad, depth, blank, is_blank_tree, IsFull}
-use Rattle.life_quad.specs.Store.{Nodes, square_of, node_square, squares, is_blank_id, IsNamed, IsNode, IsSound, IsShared, Knows}
+use Rattle.life_quad.specs.Store.{Nodes, id_of, square_of, node_square, squares, is_blank_id, IsNamed, IsNode, IsSound, IsShared, HasRoom, Knows}
 use Rattle.life_base.proofs.Squares.{depth-blank, full-blank, is_blank-blank, quad_nw, quad_ne, quad_sw, quad_se, point_state, point≢quad}
 
 abbrev push_square : List Tree → Node → List Tree
@@ -63,13 +63,13 @@ square_of-append stored more id h = by (kind_of stored id)
         grind arith
 
 -- a node keeps its square when squares are added
-pub node_square-append : (stored more : List Tree) (i : ℕ) (n : Node) → i ≤ length stored → IsNamed i n.nw → IsNamed i n.ne → IsNamed i n.sw → IsNamed i n.se
+pub node_square-append : (stored more : List Tree) (i : ℕ) (n : Node) → i ≤ length stored → IsNamed i (id_of n.nw) → IsNamed i (id_of n.ne) → IsNamed i (id_of n.sw) → IsNamed i (id_of n.se)
     → node_square (stored ++ more) n ≡ node_square stored n
 node_square-append stored more i n le a b c d =
-    let ea = square_of-append stored more n.nw (omega (arith, a.below)) in
-    let eb = square_of-append stored more n.ne (omega (arith, b.below)) in
-    let ec = square_of-append stored more n.sw (omega (arith, c.below)) in
-    let ed = square_of-append stored more n.se (omega (arith, d.below)) in
+    let ea = square_of-append stored more (id_of n.nw) (omega (arith, a.below)) in
+    let eb = square_of-append stored more (id_of n.ne) (omega (arith, b.below)) in
+    let ec = square_of-append stored more (id_of n.sw) (omega (arith, c.below)) in
+    let ed = square_of-append stored more (id_of n.se) (omega (arith, d.below)) in
     λ j. quad (ea j) (eb j) (ec j) (ed j)
 
 module _ {X : Type 0} (xs : List X) where
@@ -139,7 +139,7 @@ names s id h = by (kind_of (squares s.nodes) id)
     by (a_node l e) =
         let i = id.0 - 512 in
         let lt : i < length s.nodes = omega (arith, h.named.below) in
-        let n : Node = get_or s.nodes i (record { level = 0; nw = id; ne = id; sw = id; se = id }) in
+        let n : Node = get_or s.nodes i (record { level = 0; nw = 0; ne = 0; sw = 0; se = 0 }) in
         let at : slice_get s.nodes i ≡ Some n = slice_get-get_or s.nodes i _ lt in
         the_node i n (omega arith) at (h.sound.entries i n at) (e ∙ get_or_from_slice_get (squares s.nodes) i _ (point 0) (h.sound.square i n at))
 
@@ -216,12 +216,12 @@ same_quads s shared p q r u a b ha hb ea eb on_nw on_ne on_sw on_se = by (names 
     by (the_node i n j at node e) (the_node i' n' j' at' node' f) =
         let left = sym e ∙ ea in
         let right = sym f ∙ eb in
-        let nw = on_nw n.nw n'.nw (child i n n.nw at node.nw) (child i' n' n'.nw at' node'.nw) (quad_nw left) (quad_nw right) in
-        let ne = on_ne n.ne n'.ne (child i n n.ne at node.ne) (child i' n' n'.ne at' node'.ne) (quad_ne left) (quad_ne right) in
-        let sw = on_sw n.sw n'.sw (child i n n.sw at node.sw) (child i' n' n'.sw at' node'.sw) (quad_sw left) (quad_sw right) in
-        let se = on_se n.se n'.se (child i n n.se at node.se) (child i' n' n'.se at' node'.se) (quad_se left) (quad_se right) in
+        let nw = on_nw (id_of n.nw) (id_of n'.nw) (child i n (id_of n.nw) at node.nw) (child i' n' (id_of n'.nw) at' node'.nw) (quad_nw left) (quad_nw right) in
+        let ne = on_ne (id_of n.ne) (id_of n'.ne) (child i n (id_of n.ne) at node.ne) (child i' n' (id_of n'.ne) at' node'.ne) (quad_ne left) (quad_ne right) in
+        let sw = on_sw (id_of n.sw) (id_of n'.sw) (child i n (id_of n.sw) at node.sw) (child i' n' (id_of n'.sw) at' node'.sw) (quad_sw left) (quad_sw right) in
+        let se = on_se (id_of n.se) (id_of n'.se) (child i n (id_of n.se) at node.se) (child i' n' (id_of n'.se) at' node'.se) (quad_se left) (quad_se right) in
         let level = sym node.level ∙ ap depth (left ∙ sym right) ∙ node'.level in
-        let same : n ≡ n' = λ x. record { level = level x; nw = nw x; ne = ne x; sw = sw x; se = se x } in
+        let same : n ≡ n' = λ x. record { level = level x; nw = (nw x).0; ne = (ne x).0; sw = (sw x).0; se = (se x).0 } in
         let index : i ≡ i' = shared i i' n' (at ∙ ap Some same) at' in
         same_ids (omega arith)
 
@@ -246,9 +246,15 @@ abbrev with_node : Nodes → Node → Nodes
 with_node s n = record { nodes = s.nodes ++ n ∷ []; limit = s.limit }
 
 -- a store stays sound when a node is added
-pub IsSound-push : (s : Nodes) (n : Node) → IsSound s → IsNode (squares s.nodes) (length s.nodes) n → length s.nodes < s.limit → IsSound (with_node s n)
+pub IsSound-push : (s : Nodes) (n : Node) → IsSound s → IsNode (squares s.nodes) (length s.nodes) n → HasRoom s → IsSound (with_node s n)
 IsSound-push s n h new room =
-    record { entries = all_nodes; square = all_squares; len = omega (arith, length-append s.nodes (n ∷ [])); limit = h.limit }
+    record {
+      entries = all_nodes;
+      square = all_squares;
+      len = omega (arith, length-append s.nodes (n ∷ []), room.limit);
+      limit = h.limit;
+      few = omega (arith, length-append s.nodes (n ∷ []), room.few);
+    }
   where
     S : List Tree
     S = squares s.nodes

@@ -5,7 +5,7 @@ ghost use Rattle.life_base.specs.Tree.{is_blank_tree};
 ghost use Rattle.life_quad.specs.StoreLaws.{full_content, low_content};
 ghost use Rattle.life_quad.specs.Store.{squares, square_of, held, Knows, IsNode, IsSound, IsIdOf};
 
-use crate::id::{FIRST_NODE, Node, are_blank};
+use crate::id::{FIRST_NODE, Node, are_blank, no_room};
 use crate::{Id, Squares};
 use life_base::{Kind, State};
 use std::alloc::Global;
@@ -54,8 +54,8 @@ impl Plain {
         ensures unchanged { OnErr result (self.new ≡ self.old) }
     {
         let index = self.nodes.len() as u64;
-        if index == self.limit {
-            return Err(Kind::Full);
+        if let Some(kind) = no_room(index, self.limit) {
+            return Err(kind);
         }
         self.nodes.push(node)?;
         Ok(Id(FIRST_NODE + index))
@@ -91,10 +91,10 @@ impl Squares for Plain {
         }
         self.add(Node {
             level,
-            nw,
-            ne,
-            sw,
-            se,
+            nw: nw.0 as u32,
+            ne: ne.0 as u32,
+            sw: sw.0 as u32,
+            se: se.0 as u32,
         })
     }
 

@@ -4,7 +4,7 @@ ghost use Rattle.life_base.specs.declared.kind.Kind.TheVariants.{Full, Memory};
 ghost use Rattle.life_quad.specs.declared.id.Id.{Id as IdValue};
 ghost use Rattle.life_base.specs.Tree.{Tree, depth, is_blank_tree};
 
-use crate::id::{FIRST_NODE, Node, are_blank};
+use crate::id::{FIRST_NODE, Node, are_blank, no_room};
 use crate::{Id, SharedSquares, Squares};
 use indexmap::IndexSet;
 use life_base::{Kind, State};
@@ -67,9 +67,9 @@ impl Shared {
         ensures needed { OnErr result (¬ Contains self.old.nodes node) }
         ensures unchanged { OnErr result (self.new ≡ self.old) }
     {
-        if self.nodes.len() as u64 == self.limit {
+        if let Some(kind) = no_room(self.nodes.len() as u64, self.limit) {
             let Some(i) = self.nodes.get_index_of(&node) else {
-                return Err(Kind::Full);
+                return Err(kind);
             };
             return Ok(Id(FIRST_NODE + i as u64));
         }
@@ -114,10 +114,10 @@ impl Squares for Shared {
         }
         self.intern(Node {
             level,
-            nw,
-            ne,
-            sw,
-            se,
+            nw: nw.0 as u32,
+            ne: ne.0 as u32,
+            sw: sw.0 as u32,
+            se: se.0 as u32,
         })
     }
 

@@ -27,7 +27,7 @@ returns-then-are_blank-clause-full c =
           absurd (true≢false (sym (is_blank-joined _ _ _ _ _ r.nw.0 r.ne.0 r.sw.0 r.se.0 r.ne_level r.sw_level r.se_level ∙ sym c.are_blank.ensures ∙ c.if-are_blank.true) ∙ needs.0.0)),
     )
 
-IsNode-there : (c : goal.After-intern) → IsNode (squares c.args.self.now.nodes) (length c.args.self.now.nodes) (record { level = c.level-level.result + 1; nw = c.args.nw; ne = c.args.ne; sw = c.args.sw; se = c.args.se })
+IsNode-there : (c : goal.After-intern) → IsNode (squares c.args.self.now.nodes) (length c.args.self.now.nodes) (record { level = c.level-level.result + 1; nw = c.args.nw.0; ne = c.args.ne.0; sw = c.args.sw.0; se = c.args.se.0 })
 IsNode-there c =
     let r = c.requires in
     IsNode-joined _ _ _ _ _ r.nw.0 r.ne.0 r.sw.0 r.se.0 r.ne_level r.sw_level r.se_level _ c.level-level.ensures.level r.room (sym c.are_blank.ensures ∙ c.if-are_blank.false)
