@@ -1,4 +1,4 @@
-use Rattle.std.proofs.Common.{◌≡◌, ◌<◌, arith, refl, sym, ◌∙◌, ap, subst, length, slice_get}
+use Rattle.std.proofs.Common.{◌≡◌, arith, refl, sym, ◌∙◌, ap, subst, length, slice_get}
 use Rattle.life_quad.specs.Store.{squares, IsNode, IsSound, HasRoom}
 use Rattle.life_quad.specs.StoreLaws.{IsSound-push}
 use Rattle.life_quad.proofs.CallLemmas.{IsIdOf-last}

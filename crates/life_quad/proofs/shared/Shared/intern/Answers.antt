@@ -1,4 +1,4 @@
-use Rattle.std.proofs.Common.{◌<◌, arith, refl, sym, ◌∙◌, ap, subst, length, slice_get}
+use Rattle.std.proofs.Common.{arith, refl, sym, ◌∙◌, ap, subst, length, slice_get}
 use Rattle.life_quad.specs.Store.{squares, IsNode, HasRoom, was_there}
 use Rattle.life_quad.proofs.CallLemmas.{Interned-insert, sound_interned, position_node, position_contains}
 use Rattle.life_quad.proofs.shared.Shared.intern.Goals as goal
