@@ -1,0 +1,26 @@
+-- What laws answer, in the words of the plane.
+use Rattle.std.proofs.Common.{◌≡◌, ℕ, ℤ}
+use Rattle.life_base.specs.Sets.{DigitSets}
+use Rattle.life_table.specs.Meaning.{Answer, Becomes, Decides}
+use Rattle.life_table.specs.declared.table.Table.{Table}
+use Rattle.life_table.specs.declared.table.Neighborhood.{Neighborhood}
+use Rattle.life_table.specs.declared.table.Neighborhood.TheVariants.{VonNeumann, Moore}
+use Rattle.std.proofs.Common.{List, subst, sym, refl}
+use Rattle.life_sweep.specs.Generation.{neighbours_at}
+use Rattle.life_sweep.specs.Laws.{LifeAnswersAt, TableAnswersAt}
+use Rattle.life_sweep.specs.Sweep.{states_at, named}
+
+-- the neighbours that a neighbourhood names stand where it says
+named-at : (neighborhood : Neighborhood) (cells : ℤ → ℤ → ℕ) (x y : ℤ) → named neighborhood (states_at cells x y) ≡ neighbours_at neighborhood cells x y
+named-at VonNeumann cells x y = refl
+named-at Moore cells x y = refl
+
+pub life-answers-at : LifeAnswersAt
+life-answers-at VonNeumann sets cells x y answer = ((λ h. h), (λ h. h))
+life-answers-at Moore sets cells x y answer = ((λ h. h), (λ h. h))
+
+pub table-answers-at : TableAnswersAt
+table-answers-at table cells x y answer =
+    let P = λ (others : List ℕ). Decides table.symmetry table.vars (cells x y) others table.lines answer in
+    let e = named-at table.neighborhood cells x y in
+    ((λ h. subst P e h), (λ h. subst P (sym e) h))

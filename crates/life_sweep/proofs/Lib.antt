@@ -1,0 +1,9 @@
+pub mod RowLemmas
+pub mod BandLemmas
+pub mod WindowLemmas
+pub mod SweepLemmas
+pub mod LawLemmas
+pub mod LawProofs
+pub mod CellLemmas
+pub mod RefusedLemmas
+pub mod Rows

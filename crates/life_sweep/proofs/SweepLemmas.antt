@@ -1,0 +1,242 @@
+-- Sweeps: what a step to the next place keeps.
+use Rattle.std.proofs.Common.{◌≡◌, ◌≢◌, ℕ, ◌+◌, ◌-◌, ◌<◌, ◌≤◌, Bool, true, false, ◌||◌, ◌⊎◌, inl, inr, ℤ, pos, negsuc, neg_ℤ, ◌+ℤ◌, ◌≤ℤ◌, ◌<ℤ◌, List, [], ◌∷◌, ◌++◌, length, slice_get, refl, sym, ◌∙◌, ap, subst, arith, true≢false}
+use Rattle.std.proofs.lemmas.Int.{ints}
+use Rattle.life_table.specs.Meaning.{Answer, Becomes, Ambiguous}
+use Rattle.life_strip.specs.Given.{GivenRun, IsNext, IsOnPlane, AreInOrder, state_by}
+use Rattle.life_strip.proofs.GivenLemmas.{state_by-push}
+use Rattle.life_quad.specs.Cells.{IsInRun}
+use Rattle.life_sweep.specs.Around.{before, after}
+use Rattle.life_sweep.specs.Rows.{IsFrom, Precedes, IsFar, IsFarRow, IsBlankBefore, column_at, no_column, end_of_plane, start_of_sweep, IsWindow, GoesOn, states_of}
+use Rattle.life_sweep.specs.Sweep.{states_at, zeros, IsDrawnAt, IsLeft, IsFirstAmbiguous, IsSwept, IsSweptRows, IsPut, IsReady, IsReadyRow}
+use Rattle.life_sweep.specs.declared.column.Column.{Column}
+use Rattle.life_sweep.specs.declared.window.Window.{Window}
+use Rattle.life_sweep.proofs.RowLemmas.{less-or-not, column-is}
+
+list-nine : (a b c d e f g h i : ℕ) → a ≡ 0 → b ≡ 0 → c ≡ 0 → d ≡ 0 → e ≡ 0 → f ≡ 0 → g ≡ 0 → h ≡ 0 → i ≡ 0 → a ∷ b ∷ c ∷ d ∷ e ∷ f ∷ g ∷ h ∷ i ∷ [] ≡ zeros
+list-nine a b c d e f g h i ea eb ec ed ee ef eg eh ei = cc
+
+-- far from every cell all states are 0
+far-states : (cells : ℤ → ℤ → ℕ) (x y : ℤ) → IsFar cells y x → states_at cells x y ≡ zeros
+far-states cells x y far =
+    let north = λ (c : Column). c.north in
+    let here = λ (c : Column). c.here in
+    let south = λ (c : Column). c.south in
+    list-nine _ _ _ _ _ _ _ _ _ (ap here far.1) (ap north far.1) (ap north far.2) (ap here far.2) (ap south far.2) (ap south far.1) (ap south far.0) (ap here far.0) (ap north far.0)
+
+far-in-row : (cells : ℤ → ℤ → ℕ) (y : ℤ) → IsFarRow cells y → (x : ℤ) → IsFar cells y x
+far-in-row cells y h x = (h (before x), h x, h (after x))
+
+-- west of the plane there is no cell
+far-west : (cells : ℤ → ℤ → ℕ) (x y : ℤ) → IsBlankBefore cells → after x <ℤ end_of_plane → IsFar cells y x
+far-west cells x y blank l = (column (before x) (omega (arith, ints, l)), column x (omega (arith, ints, l)), column (after x) l)
+  where
+    column : (c : ℤ) → c <ℤ end_of_plane → column_at cells y c ≡ no_column
+    column c l = column-is _ _ _ 0 0 0 (blank.west c (before y) l) (blank.west c y l) (blank.west c (after y) l)
+
+pub west-column : (cells : ℤ → ℤ → ℕ) (y c : ℤ) → IsBlankBefore cells → c <ℤ end_of_plane → column_at cells y c ≡ no_column
+west-column cells y c blank l = column-is _ _ _ 0 0 0 (blank.west c (before y) l) (blank.west c y l) (blank.west c (after y) l)
+
+-- a place is before the next one if it is before this one, or this one
+place-cases : (c r x y : ℤ) → Precedes c r (after x) y → Precedes c r x y ⊎ ((c ≡ x) × (r ≡ y))
+place-cases c r x y (inl l) = inl (inl l)
+place-cases c r x y (inr p) = elim (less-or-not c x) [ inl l ↦ inl (inr (p.0, l)) | inr l ↦ inr (omega (arith, ints, p.1, l), p.0) ]
+
+module _ (A : List ℕ → Answer → Type 0) (cells : ℤ → ℤ → ℕ) where
+  far-done : (drawn : ℤ → ℤ → ℕ) (leaves : Bool) (x y : ℤ) → A zeros (Becomes 0) → IsFar cells y x → drawn x y ≡ 0 → IsDrawnAt A cells drawn leaves x y
+  far-done drawn leaves x y quiet far e = record { next = 0; answer = subst (λ v. A v (Becomes 0)) (sym (far-states cells x y far)) quiet; kept = λ k. e }
+
+  -- from the rows before y to the first place of the row
+  pub into-row : (drawn : ℤ → ℤ → ℕ) (leaves : Bool) (x y : ℤ) → A zeros (Becomes 0) → IsBlankBefore cells → after x <ℤ end_of_plane → IsSweptRows A cells drawn leaves y → IsSwept A cells drawn leaves (after x) y
+  into-row drawn leaves x y quiet blank l s = record {
+    done = λ c r p. elim p [
+      | inl m ↦ s.done c r m
+      | inr m ↦ far-done drawn leaves c r quiet (far-west cells c r blank (omega (arith, ints, m.1, l))) (s.clear c r (omega (arith, ints, m.0)))
+    ];
+    clear = λ c r p. s.clear c r (elim p [ inl m ↦ omega (arith, ints, m) | inr m ↦ omega (arith, ints, m.0) ]);
+    left = s.left;
+  }
+
+  -- over places that are far from every cell
+  pub pass-places : (drawn : ℤ → ℤ → ℕ) (leaves : Bool) (x z y : ℤ) → A zeros (Becomes 0) → x <ℤ z → ((c : ℤ) → x <ℤ c → c <ℤ z → IsFar cells y c)
+      → IsSwept A cells drawn leaves (after x) y → IsSwept A cells drawn leaves z y
+  pass-places drawn leaves x z y quiet l far s = record {
+    done = λ c r p. elim p [
+      | inl m ↦ s.done c r (inl m)
+      | inr m ↦ elim (less-or-not x c) [
+        | inl b ↦ subst (λ k. IsDrawnAt A cells drawn leaves c k) (sym m.0) (far-done drawn leaves c y quiet (far c b m.1) (s.clear c y (inr (refl, omega (arith, ints, b)))))
+        | inr b ↦ s.done c r (inr (m.0, omega (arith, ints, b)))
+      ]
+    ];
+    clear = λ c r p. s.clear c r (elim p [ inl m ↦ inl m | inr m ↦ inr (m.0, omega (arith, ints, m.1, l)) ]);
+    left = s.left;
+  }
+
+  -- and to the end of a row
+  pub out-of-row : (drawn : ℤ → ℤ → ℕ) (leaves : Bool) (x y : ℤ) → A zeros (Becomes 0) → ((c : ℤ) → x <ℤ c → IsFar cells y c)
+      → IsSwept A cells drawn leaves (after x) y → IsSweptRows A cells drawn leaves (after y)
+  out-of-row drawn leaves x y quiet far s = record {
+    done = λ c r p. elim (less-or-not r y) [
+      | inl m ↦ s.done c r (inl m)
+      | inr m ↦ elim (less-or-not x c) [
+        | inl b ↦ subst (λ k. IsDrawnAt A cells drawn leaves c k) (omega (arith, ints, p, m)) (far-done drawn leaves c y quiet (far c b) (s.clear c y (inr (refl, omega (arith, ints, b)))))
+        | inr b ↦ s.done c r (inr (omega (arith, ints, p, m), omega (arith, ints, b)))
+      ]
+    ];
+    clear = λ c r p. s.clear c r (inl (omega (arith, ints, p)));
+    left = s.left;
+  }
+
+  -- over rows that are far from every cell
+  pub pass-rows : (drawn : ℤ → ℤ → ℕ) (leaves : Bool) (y z : ℤ) → A zeros (Becomes 0) → y ≤ℤ z → ((r : ℤ) → y ≤ℤ r → r <ℤ z → IsFarRow cells r)
+      → IsSweptRows A cells drawn leaves y → IsSweptRows A cells drawn leaves z
+  pass-rows drawn leaves y z quiet l far s = record {
+    done = λ c r p. elim (less-or-not r y) [
+      | inl m ↦ s.done c r m
+      | inr m ↦ far-done drawn leaves c r quiet (far-in-row cells r (far r m p) c) (s.clear c r m)
+    ];
+    clear = λ c r p. s.clear c r (omega (arith, ints, p, l));
+    left = s.left;
+  }
+
+  -- at a place that was put
+  pub put-place : (old new : ℤ → ℤ → ℕ) (leaves all : Bool) (x y : ℤ) → IsSwept A cells old leaves x y → IsPut A (states_at cells x y) new leaves all x y
+      → ((c r : ℤ) → (c ≡ x → r ≡ y → ⊥) → new c r ≡ old c r) → IsSwept A cells new all (after x) y
+  put-place old new leaves all x y s put others = record {
+    done = λ c r p. elim (place-cases c r x y p) [
+      | inl m ↦ kept-before c r m
+      | inr m ↦ subst (λ k. IsDrawnAt A cells new all k r) (sym m.0) (subst (λ k. IsDrawnAt A cells new all x k) (sym m.1) here)
+    ];
+    clear = λ c r p. others c r (λ ex ey. behind c r p ex ey) ∙ s.clear c r (elim p [ inl m ↦ inl m | inr m ↦ inr (m.0, omega (arith, ints, m.1)) ]);
+    left = λ e. elim (put.told e) [
+      | inl l ↦ s.left l
+      | inr l ↦ record { x = x; y = y; next = put.next; answer = put.answer; outside = l.0; nonzero = l.1 }
+    ];
+  }
+    where
+      here : IsDrawnAt A cells new all x y
+      here = record { next = put.next; answer = put.answer; kept = put.kept }
+
+      behind : (c r : ℤ) → IsFrom (after x) y c r → c ≡ x → r ≡ y → ⊥
+      behind c r (inl m) ex ey = omega (arith, ints, m, ey)
+      behind c r (inr m) ex ey = omega (arith, ints, m.1, ex)
+
+      before-here : (c r : ℤ) → Precedes c r x y → c ≡ x → r ≡ y → ⊥
+      before-here c r (inl m) ex ey = omega (arith, ints, m, ey)
+      before-here c r (inr m) ex ey = omega (arith, ints, m.1, ex)
+
+      kept-before : (c r : ℤ) → Precedes c r x y → IsDrawnAt A cells new all c r
+      kept-before c r m = let d = s.done c r m in record {
+        next = d.next;
+        answer = d.answer;
+        kept = λ k. others c r (before-here c r m) ∙ d.kept (elim k [ inl e ↦ inl (put.stays e) | inr o ↦ inr o ]);
+      }
+
+-- where runs may be given from a place on, they may be given from the next one on
+pub ready-next : (runs : List GivenRun) (x y : ℤ) → IsReady runs x y → IsReady runs (after x) y
+ready-next runs x y h c r f = h c r (elim f [ inl l ↦ inl l | inr p ↦ inr (p.0, omega (arith, ints, p.1)) ])
+
+pub ready-later : (runs : List GivenRun) (x z y : ℤ) → x ≤ℤ z → IsReady runs x y → IsReady runs z y
+ready-later runs x z y le h c r f = h c r (elim f [ inl l ↦ inl l | inr p ↦ inr (p.0, omega (arith, ints, p.1, le)) ])
+
+pub ready-row : (runs : List GivenRun) (x y : ℤ) → IsReady runs x y → IsReadyRow runs (after y)
+ready-row runs x y h c r l = h c r (inl (omega (arith, ints, l)))
+
+pub row-ready : (runs : List GivenRun) (x y : ℤ) → IsReadyRow runs y → IsReady runs x y
+row-ready runs x y h c r f = h c r (elim f [ inl l ↦ omega (arith, ints, l) | inr p ↦ omega (arith, ints, p.0) ])
+
+pub row-later : (runs : List GivenRun) (y z : ℤ) → y ≤ℤ z → IsReadyRow runs y → IsReadyRow runs z
+row-later runs y z le h c r l = h c r (omega (arith, ints, l, le))
+
+pub nothing-given : (runs : List GivenRun) → runs ≡ [] → (x y : ℤ) → IsNext runs x y
+nothing-given runs none x y last e = absurd (let h = ap (λ (l : List GivenRun). slice_get l (length l - 1)) (sym none) ∙ e in cc)
+
+pub nothing-drawn : (runs : List GivenRun) → runs ≡ [] → (x y : ℤ) → state_by runs x y ≡ 0
+nothing-drawn runs none x y = ap (λ (l : List GivenRun). state_by l x y) none
+
+-- a run of one cell more
+abbrev pub one_run : ℤ → ℤ → ℕ → GivenRun
+one_run x y state = record { x = x; y = y; len = 1; state = state }
+
+pub one-cell : (runs all : List GivenRun) (x y : ℤ) (state : ℕ) → AreInOrder runs → IsNext runs x y → all ≡ runs ++ one_run x y state ∷ [] → state_by all x y ≡ state
+one-cell runs all x y state order next e =
+    let here : IsInRun x y 1 x y = record { same_row = refl; from = omega (arith, ints); to = omega (arith, ints) } in
+    ap (λ (l : List GivenRun). state_by l x y) e ∙ sym (state_by-push runs (one_run x y state) x y (state_by runs x y) state order next refl (λ _. refl) (λ out. absurd (out here)))
+
+pub other-cells : (runs all : List GivenRun) (x y : ℤ) (state : ℕ) → AreInOrder runs → IsNext runs x y → all ≡ runs ++ one_run x y state ∷ []
+    → (c r : ℤ) → (c ≡ x → r ≡ y → ⊥) → state_by all c r ≡ state_by runs c r
+other-cells runs all x y state order next e c r ne =
+    ap (λ (l : List GivenRun). state_by l c r) e
+    ∙ sym (state_by-push runs (one_run x y state) c r (state_by runs c r) (state_by runs c r) order next refl (λ i. absurd (ne (omega (arith, ints, i.from, i.to)) i.same_row)) (λ _. refl))
+
+-- the states of a window are those around its place
+pub window-states : (cells : ℤ → ℤ → ℕ) (y : ℤ) (z : Window) → IsWindow cells y z → states_of z ≡ states_at cells z.x y
+window-states cells y z h = cc-states h.west h.middle h.east
+  where
+    cc-states : z.west ≡ column_at cells y (before z.x) → z.middle ≡ column_at cells y z.x → z.east ≡ column_at cells y (after z.x) → states_of z ≡ states_at cells z.x y
+    cc-states ew em ee =
+        ap (λ (c : Column). c.here ∷ c.north ∷ z.east.north ∷ z.east.here ∷ z.east.south ∷ c.south ∷ z.west.south ∷ z.west.here ∷ z.west.north ∷ []) em
+        ∙ ap (λ (c : Column). cells z.x y ∷ cells z.x (before y) ∷ c.north ∷ c.here ∷ c.south ∷ cells z.x (after y) ∷ z.west.south ∷ z.west.here ∷ z.west.north ∷ []) ee
+        ∙ ap (λ (c : Column). cells z.x y ∷ cells z.x (before y) ∷ cells (after z.x) (before y) ∷ cells (after z.x) y ∷ cells (after z.x) (after y) ∷ cells z.x (after y) ∷ c.south ∷ c.here ∷ c.north ∷ []) ew
+
+-- from a step of a window to the next place, and then at that place
+pub step-in-row : (A : List ℕ → Answer → Type 0) (cells old new : ℤ → ℤ → ℕ) (leaves all : Bool) (y : ℤ) (w z : Window) → A zeros (Becomes 0)
+    → GoesOn cells y w z → IsSwept A cells old leaves (after w.x) y → (old z.x y ≡ 0 → IsPut A (states_of z) new leaves all z.x y)
+    → ((c r : ℤ) → (c ≡ z.x → r ≡ y → ⊥) → new c r ≡ old c r) → IsSwept A cells new all (after z.x) y
+step-in-row A cells old new leaves all y w z quiet on s put others =
+    let passed = pass-places A cells old leaves w.x z.x y quiet on.east on.passed s in
+    let same = window-states cells y z on.here in
+    put-place A cells old new leaves all z.x y passed (subst (λ v. IsPut A v new leaves all z.x y) same (put (passed.clear z.x y (inr (refl, omega (arith, ints)))))) others
+
+-- laws that answer the same
+pub put-law : (A B : List ℕ → Answer → Type 0) (states : List ℕ) (drawn : ℤ → ℤ → ℕ) (old new : Bool) (x y : ℤ) → ((v : List ℕ) (a : Answer) → A v a → B v a)
+    → IsPut A states drawn old new x y → IsPut B states drawn old new x y
+put-law A B states drawn old new x y f p = record { next = p.next; answer = f states (Becomes p.next) p.answer; kept = p.kept; stays = p.stays; told = p.told }
+
+drawn-law : (A B : List ℕ → Answer → Type 0) (cells drawn : ℤ → ℤ → ℕ) (leaves : Bool) (x y : ℤ) → ((v : List ℕ) (a : Answer) → A v a → B v a)
+    → IsDrawnAt A cells drawn leaves x y → IsDrawnAt B cells drawn leaves x y
+drawn-law A B cells drawn leaves x y f d = record { next = d.next; answer = f _ _ d.answer; kept = d.kept }
+
+left-law : (A B : List ℕ → Answer → Type 0) (cells : ℤ → ℤ → ℕ) → ((v : List ℕ) (a : Answer) → A v a → B v a) → IsLeft A cells → IsLeft B cells
+left-law A B cells f l = record { x = l.x; y = l.y; next = l.next; answer = f _ _ l.answer; outside = l.outside; nonzero = l.nonzero }
+
+pub rows-law : (A B : List ℕ → Answer → Type 0) (cells drawn : ℤ → ℤ → ℕ) (leaves : Bool) (y : ℤ) → ((v : List ℕ) (a : Answer) → A v a → B v a)
+    → IsSweptRows A cells drawn leaves y → IsSweptRows B cells drawn leaves y
+rows-law A B cells drawn leaves y f s = record {
+  done = λ c r l. drawn-law A B cells drawn leaves c r f (s.done c r l);
+  clear = s.clear;
+  left = λ e. left-law A B cells f (s.left e);
+}
+
+pub first-law : (A B : List ℕ → Answer → Type 0) (cells : ℤ → ℤ → ℕ) (line : ℕ) → ((v : List ℕ) (a : Answer) → A v a → B v a) → IsFirstAmbiguous A cells line → IsFirstAmbiguous B cells line
+first-law A B cells line f h = record { x = h.x; y = h.y; here = f _ _ h.here; before = λ c r p. let b = h.before c r p in (b.0, f _ _ b.1) }
+
+-- a window stopped at an ambiguous place
+pub ambiguous-here : (A : List ℕ → Answer → Type 0) (cells drawn : ℤ → ℤ → ℕ) (leaves : Bool) (y : ℤ) (w z : Window) (line : ℕ) → A zeros (Becomes 0)
+    → GoesOn cells y w z → IsSwept A cells drawn leaves (after w.x) y → A (states_of z) (Ambiguous line) → IsFirstAmbiguous A cells line
+ambiguous-here A cells drawn leaves y w z line quiet on s h =
+    let passed = pass-places A cells drawn leaves w.x z.x y quiet on.east on.passed s in
+    record {
+      x = z.x;
+      y = y;
+      here = subst (λ v. A v (Ambiguous line)) (window-states cells y z on.here) h;
+      before = λ c r p. let d = passed.done c r p in (d.next, d.answer);
+    }
+
+-- before the first row nothing is drawn
+pub start-rows : (A : List ℕ → Answer → Type 0) (cells drawn : ℤ → ℤ → ℕ) (y : ℤ) → A zeros (Becomes 0) → IsBlankBefore cells → after y <ℤ end_of_plane → ((x r : ℤ) → drawn x r ≡ 0) → IsSweptRows A cells drawn false (after y)
+start-rows A cells drawn y quiet blank l none = record {
+  done = λ c r p. far-done A cells drawn false c r quiet (far-in-row cells r (north r (omega (arith, ints, p, l))) c) (none c r);
+  clear = λ c r p. none c r;
+  left = λ e. absurd (true≢false (sym e));
+}
+  where
+    north : (r : ℤ) → after r <ℤ end_of_plane → IsFarRow cells r
+    north r l x = column-is _ _ _ 0 0 0 (blank.north x (before r) (omega (arith, ints, l))) (blank.north x r (omega (arith, ints, l))) (blank.north x (after r) l)
+
+-- behind the last row all is drawn
+pub all-rows : (A : List ℕ → Answer → Type 0) (cells drawn : ℤ → ℤ → ℕ) (leaves : Bool) (y : ℤ) → A zeros (Becomes 0) → ((r : ℤ) → y <ℤ r → IsFarRow cells r)
+    → IsSweptRows A cells drawn leaves (after y) → (c r : ℤ) → IsDrawnAt A cells drawn leaves c r
+all-rows A cells drawn leaves y quiet far s c r = elim (less-or-not r (after y)) [
+  | inl l ↦ s.done c r l
+  | inr l ↦ far-done A cells drawn leaves c r quiet (far-in-row cells r (far r (omega (arith, ints, l))) c) (s.clear c r l)
+]

@@ -1,0 +1,15 @@
+use Rattle.std.proofs.Common.{refl, ◌∙◌, ap}
+use Rattle.life_table.specs.Around.{cells_of}
+use Rattle.life_table.specs.declared.table.Neighborhood.TheVariants.{VonNeumann, Moore}
+use Rattle.life_sweep.proofs.LawLemmas.{decided, whole-list}
+use Rattle.life_sweep.proofs.law.decide.Goals as goal
+use Rattle.life_sweep.proofs.law.decide.Goals.{in-VonNeumann, in-Moore}
+
+pub returns-clause-next : goal.returns-clause-next
+returns-clause-next c =
+    let t = c.args.table.now in
+    let v = c.args.around.now in
+    elim c.match-table.branch [
+      | in-VonNeumann w ↦ decided t v (cells_of c.match-table.neighbours) VonNeumann c.next.result w.in-VonNeumann.is (ap cells_of w.neighbours-is) c.next.ensures
+      | in-Moore w ↦ decided t v (cells_of c.match-table.neighbours) Moore c.next.result w.in-Moore.is (ap cells_of w.neighbours-is ∙ whole-list v c.told-around) c.next.ensures
+    ]

@@ -1,0 +1,107 @@
+use Rattle.std.proofs.Common.{◌≡◌, ◌⊎◌, inl, inr, ℤ, pos, ◌+ℤ◌, ◌≤ℤ◌, ◌<ℤ◌, refl, sym, ◌∙◌, subst, arith, w64, to_z, of_z}
+use Rattle.std.proofs.lemmas.Int.{ints}
+use Rattle.life_strip.specs.Given.{state_by}
+use Rattle.life_sweep.specs.Around.{after}
+use Rattle.life_sweep.specs.Rows.{IsWindowBelow, end_of_plane}
+use Rattle.life_sweep.specs.Sweep.{IsReadyRow, IsScene, IsSweptRows}
+use Rattle.life_sweep.proofs.SweepLemmas.{row-ready, ready-later, ready-row, into-row, west-column, step-in-row, out-of-row, put-law, ambiguous-here}
+use Rattle.life_sweep.proofs.sweep.draw_row.Goals as goal
+
+pub loop-window-init : goal.loop-window-init
+loop-window-init g c =
+    let y = to_z w64 (of_z w64 c.args.y) in
+    let e : c.args.y ≡ y = omega (arith, ints, c.ranges.y) in
+    let w = c.new-window.result in
+    let west : after w.x <ℤ end_of_plane = omega (arith, ints, c.new-window.ensures.start) in
+    record {
+      sound = c.new-window.ensures.sound;
+      below = c.new-window.ensures.below _ (g.met.L.Law.positive c.args.law.now) c.requires.states;
+      same = refl;
+      filling = c.requires.filling;
+      ready = row-ready c.args.builder.now.runs (after w.x) y (subst (λ z. IsReadyRow c.args.builder.now.runs z) e c.requires.ready);
+      swept = λ cells scene rows. (
+        c.new-window.ensures.window cells y scene.rows_are (λ column l. west-column cells y column scene.blank l),
+        into-row (g.L.Law.answers c.args.law.now) cells (state_by c.args.builder.now.runs) c.args.leaves w.x y scene.quiet scene.blank west rows,
+      );
+      keeps = λ q k. (k, refl);
+      stays = λ t m. m;
+      most = refl;
+    }
+
+pub draw_place-requires-clause-states : goal.draw_place-requires-clause-states
+draw_place-requires-clause-states g c =
+    subst (λ law. IsWindowBelow (g.L.Law.bound law) c.advance.new.self) (sym c.loop-window.invariant.same) (c.advance.ensures.below _ (g.met.L.Law.positive c.args.law.now) c.loop-window.invariant.below)
+
+pub draw_place-requires-clause-ready : goal.draw_place-requires-clause-ready
+draw_place-requires-clause-ready g c =
+    let y = to_z w64 (of_z w64 c.args.y) in
+    let east = c.advance.ensures.east c.loop-window-test.true in
+    ready-later c.loop-window.builder.runs (after c.loop-window.window.x) c.advance.new.self.x y (omega (arith, ints, east)) c.loop-window.invariant.ready
+
+pub loop-window-preserved : goal.loop-window-preserved
+loop-window-preserved g c =
+    let y = to_z w64 (of_z w64 c.args.y) in
+    let inv = c.loop-window.invariant in
+    let h = c.in_ok-left.ensures in
+    let A = g.L.Law.answers c.args.law.now in
+    let old = state_by c.loop-window.builder.runs in
+    let new = state_by c.draw_place.new.builder.runs in
+    record {
+      sound = c.advance.ensures.sound;
+      below = c.advance.ensures.below _ (g.met.L.Law.positive c.args.law.now) inv.below;
+      same = h.same ∙ inv.same;
+      filling = h.filling;
+      ready = h.ready;
+      swept = λ cells scene rows.
+          let s = inv.swept cells scene rows in
+          let on = c.advance.ensures.window c.loop-window-test.true cells y s.0 in
+          (on.here, step-in-row A cells old new c.loop-window.left c.in_ok-left.left y c.loop-window.window c.advance.new.self scene.quiet on s.1 (λ e. put-law (g.L.Law.answers c.loop-window.law) A _ new _ _ _ y (λ v a. subst (λ law. g.L.Law.answers law v a) inv.same) (h.put e)) h.others);
+      keeps = λ q k. let a = inv.keeps q k in let b = h.keeps q a.0 in (b.0, b.1 ∙ a.1);
+      stays = λ t m. h.stays t (inv.stays t m);
+      most = h.most ∙ inv.most;
+    }
+
+pub returns-in_err-left-clause-refusals : goal.returns-in_err-left-clause-refusals
+returns-in_err-left-clause-refusals g c =
+    let y = to_z w64 (of_z w64 c.args.y) in
+    let e : c.args.y ≡ y = omega (arith, ints, c.ranges.y) in
+    let inv = c.loop-window.invariant in
+    let A = g.L.Law.answers c.args.law.now in
+    let start = state_by c.args.builder.now.runs in
+    let old = state_by c.loop-window.builder.runs in
+    elim c.in_err-left.ensures.refusals [
+      | inl full ↦ inl full
+      | inr rest ↦ elim rest [
+        | inl memory ↦ inr (inl memory)
+        | inr d ↦ inr (inr (
+          d.0,
+          (λ cells scene rows.
+              let s = inv.swept cells (subst (λ z. IsScene A cells z c.args.rows) e scene) (subst (λ z. IsSweptRows A cells start c.args.leaves z) e rows) in
+              let on = c.advance.ensures.window c.loop-window-test.true cells y s.0 in
+              ambiguous-here A cells old c.loop-window.left y c.loop-window.window c.advance.new.self _ scene.quiet on s.1 (subst (λ law. g.L.Law.answers law _ _) inv.same d.1)),
+        ))
+      ]
+    ]
+
+pub returns-clause-ready : goal.returns-clause-ready
+returns-clause-ready g c column row l =
+    let y = to_z w64 (of_z w64 c.args.y) in
+    let e : c.args.y ≡ y = omega (arith, ints, c.ranges.y) in
+    ready-row c.loop-window.builder.runs (after c.loop-window.window.x) y c.loop-window.invariant.ready column row (omega (arith, ints, l, e))
+
+pub returns-clause-swept : goal.returns-clause-swept
+returns-clause-swept g c cells scene rows =
+    let y = to_z w64 (of_z w64 c.args.y) in
+    let e : c.args.y ≡ y = omega (arith, ints, c.ranges.y) in
+    let A = g.L.Law.answers c.args.law.now in
+    let start = state_by c.args.builder.now.runs in
+    let drawn = state_by c.loop-window.builder.runs in
+    let s = c.loop-window.invariant.swept cells (subst (λ z. IsScene A cells z c.args.rows) e scene) (subst (λ z. IsSweptRows A cells start c.args.leaves z) e rows) in
+    subst (λ z. IsSweptRows A cells drawn c.loop-window.left (after z)) (sym e)
+    (out-of-row A cells drawn c.loop-window.left c.loop-window.window.x y scene.quiet (c.advance.ensures.over c.loop-window-test.false cells y s.0) s.1)
+
+pub returns-in_err-left-clause-keeps : goal.returns-in_err-left-clause-keeps
+returns-in_err-left-clause-keeps g c q k =
+    let a = c.loop-window.invariant.keeps q k in
+    let b = c.in_err-left.ensures.keeps q a.0 in
+    (b.0, b.1 ∙ a.1)

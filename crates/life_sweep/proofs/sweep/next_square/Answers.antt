@@ -1,0 +1,111 @@
+use Rattle.std.proofs.Common.{◌≡◌, ◌⊎◌, inl, inr, ℤ, pos, ◌+ℤ◌, ◌≤ℤ◌, ◌<ℤ◌, refl, sym, ◌∙◌, subst, arith, w64, to_z, of_z}
+use Rattle.std.proofs.lemmas.Int.{ints}
+use Rattle.life_strip.specs.Given.{state_by}
+use Rattle.life_table.specs.Meaning.{Becomes}
+use Rattle.life_sweep.specs.Around.{after}
+use Rattle.life_sweep.specs.Rows.{AreBelow, AreRows, end_of_plane}
+use Rattle.life_sweep.specs.Sweep.{IsReadyRow, IsScene, IsSweptRows, zeros, states_at}
+use Rattle.life_sweep.proofs.SweepLemmas.{nothing-given, nothing-drawn, start-rows, pass-rows, rows-law, first-law, all-rows}
+use Rattle.life_sweep.proofs.sweep.next_square.Goals as goal
+
+pub loop-band-init : goal.loop-band-init
+loop-band-init g c =
+    let A = g.L.Law.answers c.args.law.now in
+    let drawn = state_by c.new-builder.result.runs in
+    record {
+      sound = c.new-band.ensures.sound;
+      below = c.new-band.ensures.below _ c.requires.states;
+      same = refl;
+      filling = c.empty_builder_fills.ensures c.args.squares.now c.new-builder.result c.new-builder.ensures.empty;
+      ready = λ column row l. nothing-given c.new-builder.result.runs c.new-builder.ensures.runs column row;
+      swept = λ plane sorted. (
+        c.new-band.ensures.band plane sorted.blank sorted.cells_are,
+        start-rows A plane drawn c.new-band.result.y sorted.quiet sorted.blank (omega (arith, ints, c.new-band.ensures.start)) (nothing-drawn c.new-builder.result.runs c.new-builder.ensures.runs),
+      );
+      keeps = λ q k. (k, refl);
+      stays = λ t m. m;
+      most = refl;
+    }
+
+pub draw_row-requires-clause-states : goal.draw_row-requires-clause-states
+draw_row-requires-clause-states g c =
+    subst (λ law. AreBelow (g.L.Law.bound law) c.advance.new.self.rows) (sym c.loop-band.invariant.same) ((c.advance.ensures.below _ c.loop-band.invariant.below).rows)
+
+pub draw_row-requires-clause-ready : goal.draw_row-requires-clause-ready
+draw_row-requires-clause-ready g c column row l =
+    let south = c.advance.ensures.south c.loop-band-test.true in
+    c.loop-band.invariant.ready column row (omega (arith, ints, l, south, c.advance.ensures.sound.least, c.advance.ensures.sound.most))
+
+pub loop-band-preserved : goal.loop-band-preserved
+loop-band-preserved g c =
+    let inv = c.loop-band.invariant in
+    let h = c.in_ok-leaves.ensures in
+    let band = c.advance.new.self in
+    let y = to_z w64 (of_z w64 band.y) in
+    let e : band.y ≡ y = omega (arith, ints, c.advance.ensures.sound.least, c.advance.ensures.sound.most) in
+    let south = c.advance.ensures.south c.loop-band-test.true in
+    let A = g.L.Law.answers c.args.law.now in
+    let B = g.L.Law.answers c.loop-band.law in
+    let old = state_by c.loop-band.builder.runs in
+    let new = state_by c.draw_row.new.builder.runs in
+    record {
+      sound = c.advance.ensures.sound;
+      below = c.advance.ensures.below _ inv.below;
+      same = h.same ∙ inv.same;
+      filling = h.filling;
+      ready = subst (λ z. IsReadyRow c.draw_row.new.builder.runs (after z)) (sym e) h.ready;
+      swept = λ plane sorted.
+          let s = inv.swept plane sorted in
+          let on = c.advance.ensures.band c.loop-band-test.true plane sorted.blank s.0 in
+          let passed = pass-rows A plane old c.loop-band.leaves (after c.loop-band.band.y) band.y sorted.quiet (omega (arith, ints, south)) (λ r l u. on.passed r (omega (arith, ints, l)) u) s.1 in
+          let scene : IsScene B plane y band.rows = record { rows_are = subst (λ z. AreRows plane z end_of_plane band.rows) e on.here.rows; blank = sorted.blank; quiet = subst (λ law. g.L.Law.answers law zeros (Becomes 0)) (sym inv.same) sorted.quiet } in
+          let before = subst (λ z. IsSweptRows B plane old c.loop-band.leaves z) e (rows-law A B plane old c.loop-band.leaves band.y (λ v a. subst (λ law. g.L.Law.answers law v a) (sym inv.same)) passed) in
+          (on.here, subst (λ z. IsSweptRows A plane new c.in_ok-leaves.leaves (after z)) (sym e) (rows-law B A plane new c.in_ok-leaves.leaves (after y) (λ v a. subst (λ law. g.L.Law.answers law v a) inv.same) (h.swept plane scene before)));
+      keeps = λ q k. let a = inv.keeps q k in let b = h.keeps q a.0 in (b.0, b.1 ∙ a.1);
+      stays = λ t m. h.stays t (inv.stays t m);
+      most = h.most ∙ inv.most;
+    }
+
+pub returns-in_err-leaves-clause-refusals : goal.returns-in_err-leaves-clause-refusals
+returns-in_err-leaves-clause-refusals g c =
+    let inv = c.loop-band.invariant in
+    let band = c.advance.new.self in
+    let y = to_z w64 (of_z w64 band.y) in
+    let e : band.y ≡ y = omega (arith, ints, c.advance.ensures.sound.least, c.advance.ensures.sound.most) in
+    let south = c.advance.ensures.south c.loop-band-test.true in
+    let A = g.L.Law.answers c.args.law.now in
+    let B = g.L.Law.answers c.loop-band.law in
+    let old = state_by c.loop-band.builder.runs in
+    elim c.in_err-leaves.ensures.refusals [
+      | inl full ↦ inl full
+      | inr rest ↦ elim rest [
+        | inl memory ↦ inr (inl memory)
+        | inr d ↦ inr (inr (λ plane sorted.
+            let s = inv.swept plane sorted in
+            let on = c.advance.ensures.band c.loop-band-test.true plane sorted.blank s.0 in
+            let passed = pass-rows A plane old c.loop-band.leaves (after c.loop-band.band.y) band.y sorted.quiet (omega (arith, ints, south)) (λ r l u. on.passed r (omega (arith, ints, l)) u) s.1 in
+            let scene : IsScene B plane y band.rows = record { rows_are = subst (λ z. AreRows plane z end_of_plane band.rows) e on.here.rows; blank = sorted.blank; quiet = subst (λ law. g.L.Law.answers law zeros (Becomes 0)) (sym inv.same) sorted.quiet } in
+            let before = subst (λ z. IsSweptRows B plane old c.loop-band.leaves z) e (rows-law A B plane old c.loop-band.leaves band.y (λ v a. subst (λ law. g.L.Law.answers law v a) (sym inv.same)) passed) in
+            inl (d.0, first-law B A plane _ (λ v a. subst (λ law. g.L.Law.answers law v a) inv.same) (d.1 plane scene before))))
+      ]
+    ]
+
+pub returns-then-leaves-clause-refusals : goal.returns-then-leaves-clause-refusals
+returns-then-leaves-clause-refusals g c =
+    let inv = c.loop-band.invariant in
+    let A = g.L.Law.answers c.args.law.now in
+    let drawn = state_by c.loop-band.builder.runs in
+    inr (inr (λ plane sorted.
+    let s = inv.swept plane sorted in
+    let over = c.advance.ensures.over c.loop-band-test.false plane sorted.blank s.0 in
+    inr (c.of.ensures, s.1.left c.if-leaves.true, (λ x y. let d = all-rows A plane drawn c.loop-band.leaves c.loop-band.band.y sorted.quiet over s.1 x y in (d.next, d.answer)))))
+
+pub returns-clause-next : goal.returns-clause-next
+returns-clause-next g c plane sorted x y =
+    let inv = c.loop-band.invariant in
+    let A = g.L.Law.answers c.args.law.now in
+    let drawn = state_by c.loop-band.builder.runs in
+    let s = inv.swept plane sorted in
+    let over = c.advance.ensures.over c.loop-band-test.false plane sorted.blank s.0 in
+    let d = all-rows A plane drawn c.loop-band.leaves c.loop-band.band.y sorted.quiet over s.1 x y in
+    subst (λ n. A (states_at plane x y) (Becomes n)) (sym (c.in_ok-finish.ensures.cells x y ∙ d.kept (inl c.if-leaves.false))) d.answer

@@ -1,0 +1,7 @@
+pub mod Around
+pub mod Generation
+pub mod LawFacts
+pub mod Laws
+pub mod Refused
+pub mod Rows
+pub mod Sweep

@@ -1,0 +1,117 @@
+-- What a sweep has done: the next states of the places before one are drawn.
+use Rattle.std.specs.Prelude.{◌≡◌, ◌≢◌, ◌⊎◌, ℕ, Bool, true, false, List, [], ◌∷◌, ℤ, ◌<ℤ◌, ◌≤ℤ◌, drop, slice_index, length, All, ◌^◌}
+use Rattle.life_base.specs.Sets.{DigitSets}
+use Rattle.life_strip.specs.Given.{GivenRun, IsNext, IsOnPlane}
+use Rattle.life_table.specs.Meaning.{Answer, Becomes, Ambiguous, Decides, count_of}
+use Rattle.life_table.specs.declared.table.Table.{Table}
+use Rattle.life_table.specs.declared.table.Neighborhood.{Neighborhood}
+use Rattle.life_table.specs.declared.table.Neighborhood.TheVariants.{VonNeumann, Moore}
+use Rattle.life_sweep.specs.Around.{eight_around}
+use Rattle.life_sweep.specs.Generation.{next_by_count}
+use Rattle.life_base.specs.declared.cell.Cell.{Cell}
+use Rattle.life_base.specs.declared.kind.Kind.TheVariants as kinds
+use Rattle.life_base.specs.declared.fault.Fault.{Fault}
+use Rattle.life_base.specs.Refusal.{fault_of}
+use Rattle.life_sweep.specs.declared.column.Rows.{Rows}
+use Rattle.life_sweep.specs.Rows.{IsFrom, Precedes, AreRows, IsBlankBefore, IsRestOf, end_of_plane}
+use Rattle.life_sweep.specs.declared.law.Known.{Known}
+
+-- the state of a cell and of its eight neighbours
+abbrev pub states_at : (ℤ → ℤ → ℕ) → ℤ → ℤ → List ℕ
+states_at cells x y = cells x y ∷ eight_around cells x y
+
+-- nine cells of state 0
+abbrev pub zeros : List ℕ
+zeros = 0 ∷ 0 ∷ 0 ∷ 0 ∷ 0 ∷ 0 ∷ 0 ∷ 0 ∷ 0 ∷ []
+
+-- those of eight neighbours, behind the centre, that a neighbourhood names
+abbrev pub named : Neighborhood → List ℕ → List ℕ
+named VonNeumann v = slice_index v 1 ∷ slice_index v 3 ∷ slice_index v 5 ∷ slice_index v 7 ∷ []
+named Moore v = drop 1 v
+
+-- the answer of a B/S rule, by a cell's state and the states of those neighbours that count
+abbrev pub LifeAnswers : Neighborhood → DigitSets → List ℕ → Answer → Type 0
+LifeAnswers neighborhood sets states answer = answer ≡ Becomes (next_by_count sets (slice_index states 0) (count_of 1 (named neighborhood states)))
+
+-- the answer of a table
+abbrev pub TableAnswers : Table → List ℕ → Answer → Type 0
+TableAnswers table states answer = Decides table.symmetry table.vars (slice_index states 0) (named table.neighborhood states) table.lines answer
+
+-- what is remembered is what the table answers
+abbrev pub IsKnown : Table → Known → Type 0
+IsKnown table known = TableAnswers table known.around (Becomes known.next)
+
+-- 2^16 places, in each of which a neighbourhood is remembered
+pub record IsMemory (table : Table) (known : List Known) : Type 0 where
+  pub places : length known ≡ 2 ^ 16
+  pub each : All (IsKnown table) known
+
+-- the laws of a generation: what they answer for a cell and its neighbours
+module _ (answers : List ℕ → Answer → Type 0) (cells : ℤ → ℤ → ℕ) where
+  -- the next state of the place is drawn, unless it is outside the plane and known to leave it
+  pub record IsDrawnAt (drawn : ℤ → ℤ → ℕ) (leaves : Bool) (x y : ℤ) : Type 0 where
+    pub next : ℕ
+    pub answer : answers (states_at cells x y) (Becomes next)
+    pub kept : (leaves ≡ false) ⊎ IsOnPlane x y 1 → drawn x y ≡ next
+
+  -- a cell outside the plane would not become 0
+  pub record IsLeft : Type 0 where
+    pub x : ℤ
+    pub y : ℤ
+    pub next : ℕ
+    pub answer : answers (states_at cells x y) (Becomes next)
+    pub outside : ¬ (IsOnPlane x y 1)
+    pub nonzero : next ≢ 0
+
+  -- the first place, row by row, for which the line of this number gives two states
+  pub record IsFirstAmbiguous (line : ℕ) : Type 0 where
+    pub x : ℤ
+    pub y : ℤ
+    pub here : answers (states_at cells x y) (Ambiguous line)
+    pub before : (c r : ℤ) → Precedes c r x y → (s : ℕ) × answers (states_at cells c r) (Becomes s)
+
+  -- the places before (x, y) are drawn, and no other
+  pub record IsSwept (drawn : ℤ → ℤ → ℕ) (leaves : Bool) (x y : ℤ) : Type 0 where
+    pub done : (c r : ℤ) → Precedes c r x y → IsDrawnAt drawn leaves c r
+    pub clear : (c r : ℤ) → IsFrom x y c r → drawn c r ≡ 0
+    pub left : leaves ≡ true → IsLeft
+
+  -- the rows before y are drawn, and no other
+  pub record IsSweptRows (drawn : ℤ → ℤ → ℕ) (leaves : Bool) (y : ℤ) : Type 0 where
+    pub done : (c r : ℤ) → r <ℤ y → IsDrawnAt drawn leaves c r
+    pub clear : (c r : ℤ) → y ≤ℤ r → drawn c r ≡ 0
+    pub left : leaves ≡ true → IsLeft
+
+-- the rows around y are those of the cells, which a law leaves blank where they are
+pub record IsScene (answers : List ℕ → Answer → Type 0) (cells : ℤ → ℤ → ℕ) (y : ℤ) (rows : Rows) : Type 0 where
+  pub rows_are : AreRows cells y end_of_plane rows
+  pub blank : IsBlankBefore cells
+  pub quiet : answers zeros (Becomes 0)
+
+-- the list has the cells of the plane, row by row, which a law leaves blank where they are
+pub record IsSorted (answers : List ℕ → Answer → Type 0) (plane : ℤ → ℤ → ℕ) (cells : List Cell) : Type 0 where
+  pub cells_are : IsRestOf plane end_of_plane end_of_plane cells
+  pub blank : IsBlankBefore plane
+  pub quiet : answers zeros (Becomes 0)
+
+-- why a step is refused: the first place that is ambiguous, or, where there is none, that a cell leaves the plane
+abbrev pub RefusesStep : (List ℕ → Answer → Type 0) → (ℤ → ℤ → ℕ) → Fault → Type 0
+RefusesStep answers plane fault =
+    ((fault.kind ≡ kinds.Ambiguous) × IsFirstAmbiguous answers plane fault.place.line)
+    ⊎ ((fault ≡ fault_of kinds.OutOfPlane) × IsLeft answers plane × ((x y : ℤ) → (s : ℕ) × answers (states_at plane x y) (Becomes s)))
+
+-- a place was drawn: with the state that the law answers, unless it is outside the plane; then that a cell leaves the plane is told
+-- behind the place, as it may be known before it
+pub record IsPut (answers : List ℕ → Answer → Type 0) (states : List ℕ) (drawn : ℤ → ℤ → ℕ) (old new : Bool) (x y : ℤ) : Type 0 where
+  pub next : ℕ
+  pub answer : answers states (Becomes next)
+  pub kept : (new ≡ false) ⊎ IsOnPlane x y 1 → drawn x y ≡ next
+  pub stays : new ≡ false → old ≡ false
+  pub told : new ≡ true → (old ≡ true) ⊎ ((¬ (IsOnPlane x y 1)) × (next ≢ 0))
+
+-- behind these runs others may be given from the place (x, y) on
+abbrev pub IsReady : List GivenRun → ℤ → ℤ → Type 0
+IsReady runs x y = (c r : ℤ) → IsFrom x y c r → IsNext runs c r
+
+abbrev pub IsReadyRow : List GivenRun → ℤ → Type 0
+IsReadyRow runs y = (c r : ℤ) → y ≤ℤ r → IsNext runs c r

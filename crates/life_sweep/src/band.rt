@@ -1,0 +1,98 @@
+//! The rows of the plane beside which cells stand, from north to south.
+ghost use Rattle.std.specs.Prelude.{◌≡◌, ℕ, ℤ, ◌+◌, ◌<◌, ◌≤◌, ◌+ℤ◌, ◌≤ℤ◌, ◌<ℤ◌, pos, true, false, All, IfSome, None, IsTrue, ◌↔◌, length, take, drop};
+ghost use Rattle.life_sweep.specs.Rows.{IsBand, IsSoundBand, IsBandBelow, GoesSouth, IsFarRow, IsRestOf, IsBlankBefore, IsInside, IsSortedList, IsSplitAtRow, IsNextRow, IsLastBand, AreInside, AreBelow, rows_left, start_of_sweep, end_of_plane, far};
+
+use crate::column::Rows;
+use life_base::Cell;
+
+/// Three rows of cells, and the cells south of them.
+#[derive(Clone, Copy)]
+pub(crate) struct Band<'a> {
+    pub(crate) y: i64,
+    pub(crate) rows: Rows<'a>,
+    pub(crate) rest: &'a [Cell],
+}
+
+// North of every cell.
+const START: i64 = -(1 << 61) - 2;
+
+// Whether a cell is in the row.
+fn is_in_row(cell: &Cell, y: i64) -> bool
+    ensures { IsTrue result ↔ (cell.now.y ≡ y) }
+{
+    cell.y == y
+}
+
+// How many cells from the first on are in the row.
+fn row_length(cells: &[Cell], y: i64) -> usize
+    ensures within { result ≤ length cells.now }
+    ensures split { IsSplitAtRow y cells.now (take result cells.now) (drop result cells.now) }
+{
+    for (i, cell) in cells.iter().enumerate() {
+        if !is_in_row(cell, y) {
+            return i;
+        }
+    }
+    cells.len()
+}
+
+impl<'a> Band<'a> {
+    /// Before the first row.
+    pub(crate) fn new(cells: &'a [Cell]) -> Band<'a>
+        requires inside { All IsInside cells.now }
+        requires sorted { IsSortedList cells.now }
+        ensures sound { IsSoundBand result }
+        ensures below { (bound : ℕ) → All (λ cell. cell.state < bound) cells.now → IsBandBelow bound result }
+        ensures start { result.y ≡ start_of_sweep }
+        ensures band { (plane : ℤ → ℤ → ℕ) → IsBlankBefore plane → IsRestOf plane end_of_plane end_of_plane cells.now → IsBand plane result }
+    {
+        Band {
+            y: START,
+            rows: Rows {
+                north: &[],
+                here: &[],
+                south: &[],
+            },
+            rest: cells,
+        }
+    }
+
+    // The next row beside which a cell stands.
+    fn next_row(&self) -> Option<i64>
+        requires sound { IsSoundBand self.now }
+        ensures least { IfSome result (λ y. start_of_sweep ≤ℤ y) }
+        ensures most { IfSome result (λ y. y ≤ℤ far) }
+        ensures row { IfSome result (λ y. IsNextRow self.now y) }
+        ensures none { result ≡ None → IsLastBand self.now }
+    {
+        if !self.rows.here.is_empty() || !self.rows.south.is_empty() {
+            return Some(self.y + 1);
+        }
+        let Some(first) = self.rest.first() else {
+            return None;
+        };
+        Some(first.y - 1)
+    }
+
+    /// Goes on to the next row beside which a cell stands, and tells whether there is one.
+    pub(crate) fn advance(&mut self) -> bool
+        requires sound { IsSoundBand self.old }
+        ensures sound { IsSoundBand self.new }
+        ensures south { result ≡ true → self.old.y <ℤ self.new.y }
+        ensures below { (bound : ℕ) → IsBandBelow bound self.old → IsBandBelow bound self.new }
+        ensures band { result ≡ true → (cells : ℤ → ℤ → ℕ) → IsBlankBefore cells → IsBand cells self.old → GoesSouth cells self.old self.new }
+        ensures over { result ≡ false → (cells : ℤ → ℤ → ℕ) → IsBlankBefore cells → IsBand cells self.old → (r : ℤ) → self.old.y <ℤ r → IsFarRow cells r }
+        ensures smaller { result ≡ true → rows_left self.new < rows_left self.old }
+    {
+        let Some(next) = self.next_row() else {
+            return false;
+        };
+        let (south, rest) = self.rest.split_at(row_length(self.rest, next + 1));
+        self.y = next;
+        self.rows.north = self.rows.here;
+        self.rows.here = self.rows.south;
+        self.rows.south = south;
+        self.rest = rest;
+        true
+    }
+}

@@ -1,0 +1,200 @@
+//! What a cell becomes.
+ghost use Rattle.std.specs.Prelude.{◌≡◌, ℕ, ◌<◌, ◌≤◌, false, All, IfOk, IfErr, List};
+ghost use Rattle.std.proofs.Props.{props};
+ghost use Rattle.life_table.specs.Meaning.{Becomes, Ambiguous, count_of};
+ghost use Rattle.life_base.specs.Rules.{has_digit};
+ghost use Rattle.life_table.specs.declared.table.Neighborhood.TheVariants.{Moore};
+ghost use Rattle.life_sweep.specs.Sweep.{LifeAnswers, TableAnswers, named};
+ghost use Rattle.life_sweep.specs.LawFacts.{two_positive, life_quiet, life_one, table_positive, table_quiet, table_one};
+
+use life_base::{Fault, Kind, LifeRule, State};
+use life_table::{Neighborhood, Neighbours, Table};
+use std::alloc::Global;
+use std::marker::Model;
+
+/// What a cell becomes, by its state and those of its eight neighbours. What a law remembers is no part of its value.
+pub trait Law {
+    ghost use Rattle.life_table.specs.Meaning.{Answer, Becomes};
+    ghost use Rattle.life_sweep.specs.Sweep.{zeros};
+
+    // States are below this.
+    ghost bound: { Self → ℕ };
+
+    // The answer for a cell's state and its neighbours', from north clockwise.
+    ghost answers: { Self → List ℕ → Answer → Type 0 };
+
+    /// The number of states.
+    fn n_states(&self) -> u16
+        ensures { result ≡ bound self.now };
+
+    /// The next state, by the centre's state and then the neighbours' from north clockwise.
+    fn next(&mut self, around: &[State; 9]) -> Result<State, Fault>
+        requires { All (λ s. s < bound self.old) around.now }
+        ensures same { self.new ≡ self.old }
+        ensures next { IfOk result (λ s. answers self.old around.now (Becomes s)) }
+        ensures kind { IfErr result (λ f. f.kind ≡ Kind.Ambiguous) }
+        ensures ambiguous { IfErr result (λ f. answers self.old around.now (Ambiguous f.place.line)) };
+
+    // There is a state.
+    ghost positive: { (law : Self) → 0 < bound law };
+
+    // A cell of state 0 among cells of state 0 keeps it.
+    ghost quiet: { (law : Self) → answers law zeros (Becomes 0) };
+
+    // There is one answer at most.
+    ghost one_answer: { (law : Self) (states : List ℕ) (a b : Answer) → answers law states a → answers law states b → a ≡ b };
+}
+
+/// The law of a B/S rule, for states 0 and 1.
+#[derive(Drop)]
+pub struct ByCounts {
+    pub rule: LifeRule,
+    pub ghost quiet: { has_digit rule.births 0 ≡ false } by { Prim.hlevel props },
+}
+
+impl ByCounts {
+    /// The law of the rule.
+    pub fn new(rule: LifeRule) -> ByCounts
+        ensures { result.rule ≡ rule }
+    {
+        ByCounts { rule }
+    }
+}
+
+// How many neighbours are alive.
+fn live_neighbours(around: &[State; 9]) -> u8
+    requires { All (λ s. s < 2) around.now }
+    ensures count { result ≡ count_of 1 (named Moore around.now) }
+    ensures few { result ≤ 8 }
+{
+    let [_, a, b, c, d, e, f, g, h] = *around;
+    a + b + c + d + e + f + g + h
+}
+
+impl Law for ByCounts {
+    ghost bound = { λ s. 2 };
+
+    ghost answers = { λ s v a. LifeAnswers Moore s.rule v a };
+
+    fn n_states(&self) -> u16 {
+        2
+    }
+
+    fn next(&mut self, around: &[State; 9]) -> Result<State, Fault> {
+        if self.rule.next(around[0] == 1, live_neighbours(around)) {
+            Ok(1)
+        } else {
+            Ok(0)
+        }
+    }
+
+    ghost positive = { λ s. two_positive };
+
+    ghost quiet = { λ s. life_quiet Moore s.rule s.quiet };
+
+    ghost one_answer = { λ s v a b p q. life_one Moore s.rule v a b p q };
+}
+
+/// A neighbourhood and what a table makes of it.
+#[derive(Clone, Copy)]
+pub(crate) struct Known {
+    pub(crate) around: [State; 9],
+    pub(crate) next: State,
+}
+
+/// The law of a table. It remembers some neighbourhoods and what becomes of them.
+#[derive(Drop)]
+pub struct ByTable<'a> {
+    table: &'a Table,
+    known: Vec<Known>,
+}
+
+impl<'a> Model for ByTable<'a> {
+    ghost use Rattle.life_table.specs.declared.table.Table.{Table as TableValue};
+    ghost use Rattle.life_sweep.specs.Sweep.{IsMemory};
+
+    ghost Value = { TableValue };
+
+    ghost view = { λ law. law.table.now };
+
+    ghost invariant = { λ law. IsMemory law.table.now law.known.items };
+}
+
+// How many neighbourhoods are remembered.
+const PLACES: usize = 1 << 16;
+
+// Where a neighbourhood is remembered, if it is.
+fn place_of(around: &[State; 9]) -> usize
+    ensures { result < PLACES }
+{
+    let mut hash: u64 = 0;
+    for state in around {
+        hash = (hash ^ *state as u64).wrapping_mul(0x9E37_79B9_7F4A_7C15);
+    }
+    (hash >> 48) as usize
+}
+
+// What a table answers.
+fn decide(table: &Table, around: &[State; 9]) -> Result<State, Fault>
+    requires { All (λ s. s < table.now.n_states) around.now }
+    ensures next { IfOk result (λ s. TableAnswers table.now around.now (Becomes s)) }
+    ensures kind { IfErr result (λ f. f.kind ≡ Kind.Ambiguous) }
+    ensures ambiguous { IfErr result (λ f. TableAnswers table.now around.now (Ambiguous f.place.line)) }
+{
+    let neighbours = match table.neighborhood {
+        Neighborhood::VonNeumann => {
+            Neighbours::Four([around[0], around[1], around[3], around[5], around[7]])
+        }
+        Neighborhood::Moore => Neighbours::Eight(*around),
+    };
+    table.next(&neighbours)
+}
+
+impl<'a> ByTable<'a> {
+    /// The law of the table, with nothing remembered but that a cell among cells of state 0 stays 0. It takes 0.7 MB.
+    ///
+    /// # Errors
+    ///
+    /// `Memory`.
+    pub fn new(alloc: Global, table: &'a Table) -> Result<ByTable<'a>, Kind>
+        ensures table { IfOk result (λ law. law ≡ table.now) }
+        ensures refusals { IfErr result (λ kind. kind ≡ Kind.Memory) }
+    {
+        let zeros = Known {
+            around: [0; 9],
+            next: 0,
+        };
+        let known = Vec::from_elem(alloc, zeros, PLACES)?;
+        Ok(ByTable { table, known })
+    }
+}
+
+impl<'a> Law for ByTable<'a> {
+    ghost bound = { λ table. table.n_states };
+
+    ghost answers = { λ table v a. TableAnswers table v a };
+
+    fn n_states(&self) -> u16 {
+        self.table.n_states
+    }
+
+    fn next(&mut self, around: &[State; 9]) -> Result<State, Fault> {
+        let place = place_of(around);
+        let known = self.known[place];
+        if known.around == *around {
+            return Ok(known.next);
+        }
+        let next = decide(self.table, around)?;
+        self.known[place] = Known {
+            around: *around,
+            next,
+        };
+        Ok(next)
+    }
+
+    ghost positive = { λ table. table_positive table };
+
+    ghost quiet = { λ table. table_quiet table };
+
+    ghost one_answer = { λ table v a b p q. table_one table v a b p q };
+}

@@ -1,0 +1,134 @@
+//! The next generation, place by place.
+ghost use Rattle.std.specs.Prelude.{◌≡◌, ◌⊎◌, ◌↔◌, ℕ, ℤ, ◌<◌, ◌≤ℤ◌, ◌<ℤ◌, pos, neg_ℤ, true, false, All, Contains, List, Err, IfOk, IfErr, OnOk, IsTrue, length};
+ghost use Rattle.life_base.specs.declared.kind.Kind.TheVariants.{Full, Memory};
+ghost use Rattle.life_base.specs.Refusal.{fault_of};
+ghost use Rattle.life_base.specs.Tree.{Tree, depth, tree_cell};
+ghost use Rattle.life_quad.specs.declared.id.Id.{Id as IdValue};
+ghost use Rattle.life_strip.specs.Filling.{IsFilling};
+ghost use Rattle.life_strip.specs.Given.{IsOnPlane, state_by};
+ghost use Rattle.life_table.specs.Meaning.{Answer, Becomes, Ambiguous};
+ghost use Rattle.life_sweep.specs.Around.{after};
+ghost use Rattle.life_sweep.specs.Rows.{AreRows, AreInside, AreSorted, IsSortedList, AreBelow, IsBlankBefore, IsInside, IsSoundWindow, IsWindowBelow, IsRestOf, states_of, end_of_plane};
+ghost use Rattle.life_sweep.specs.Sweep.{IsScene, IsSorted, RefusesStep, states_at, IsPut, IsReady, IsReadyRow, IsSweptRows, IsFirstAmbiguous, IsDrawnAt, IsLeft, zeros};
+
+use crate::band::Band;
+use crate::column::Rows;
+use crate::law::Law;
+use crate::window::Window;
+use life_base::{Cell, Fault, Kind, MAX_LEVEL};
+use life_quad::{Id, Squares};
+use life_strip::Builder;
+use life_strip::laws::empty_builder_fills;
+use std::alloc::Global;
+
+// Half of the side of the plane.
+const HALF: i64 = 1 << (MAX_LEVEL - 1);
+
+// Whether a place is one of the plane.
+fn is_on_plane(x: i64, y: i64) -> bool
+    ensures { IsTrue result ↔ IsOnPlane x y 1 }
+{
+    -HALF <= x && x < HALF && -HALF <= y && y < HALF
+}
+
+// Gives the place of a window in the row `y` its next state. Tells whether a place outside the plane would not become 0, as it may be
+// known before.
+fn draw_place<S: Squares, L: Law>(
+    squares: &mut S,
+    builder: &mut Builder,
+    law: &mut L,
+    window: &Window,
+    y: i64,
+    leaves: bool,
+) -> Result<bool, Fault>
+    requires place { IsSoundWindow window.now }
+    requires states { IsWindowBelow (L.bound law.old) window.now }
+    requires filling { IsFilling (S.knows squares.old) (S.content squares.old) builder.old }
+    requires ready { IsReady builder.old.runs window.now.x y }
+    ensures same { law.new ≡ law.old }
+    ensures filling { OnOk result (IsFilling (S.knows squares.new) (S.content squares.new) builder.new) }
+    ensures ready { OnOk result (IsReady builder.new.runs (after window.now.x) y) }
+    ensures put { IfOk result (λ all. state_by builder.old.runs window.now.x y ≡ 0 → IsPut (L.answers law.old) (states_of window.now) (state_by builder.new.runs) leaves all window.now.x y) }
+    ensures others { OnOk result ((c r : ℤ) → (c ≡ window.now.x → r ≡ y → ⊥) → state_by builder.new.runs c r ≡ state_by builder.old.runs c r) }
+    ensures keeps { (q : IdValue) → S.knows squares.old q → S.knows squares.new q × (S.content squares.new q ≡ S.content squares.old q) }
+    ensures stays { (t : Tree) → Contains (S.stored squares.old) t → Contains (S.stored squares.new) t }
+    ensures most { S.most squares.new ≡ S.most squares.old }
+    ensures refusals { IfErr result (λ f. (f ≡ fault_of Full) ⊎ ((f ≡ fault_of Memory) ⊎ ((f.kind ≡ Kind.Ambiguous) × L.answers law.old (states_of window.now) (Ambiguous f.place.line)))) }
+    ensures full { result ≡ Err (fault_of Full) → length (S.stored squares.new) ≡ S.most squares.new }
+{
+    let state = law.next(&window.around())?;
+    if state == 0 {
+        return Ok(leaves);
+    }
+    if !is_on_plane(window.x, y) {
+        return Ok(true);
+    }
+    builder.add_run(squares, window.x, y, 1, state)?;
+    Ok(leaves)
+}
+
+// Gives the places of the row `y` their next states, by the rows around it. Tells whether a place outside the plane would not become 0, as
+// it may be known of earlier rows.
+fn draw_row<S: Squares, L: Law>(
+    squares: &mut S,
+    builder: &mut Builder,
+    law: &mut L,
+    rows: Rows,
+    y: i64,
+    leaves: bool,
+) -> Result<bool, Fault>
+    requires states { AreBelow (L.bound law.old) rows }
+    requires inside { AreInside rows }
+    requires sorted { AreSorted rows }
+    requires filling { IsFilling (S.knows squares.old) (S.content squares.old) builder.old }
+    requires ready { IsReadyRow builder.old.runs y }
+    ensures same { law.new ≡ law.old }
+    ensures filling { OnOk result (IsFilling (S.knows squares.new) (S.content squares.new) builder.new) }
+    ensures ready { OnOk result (IsReadyRow builder.new.runs (after y)) }
+    ensures swept { IfOk result (λ left. (cells : ℤ → ℤ → ℕ) → IsScene (L.answers law.old) cells y rows.entry → IsSweptRows (L.answers law.old) cells (state_by builder.old.runs) leaves y → IsSweptRows (L.answers law.old) cells (state_by builder.new.runs) left (after y)) }
+    ensures keeps { (q : IdValue) → S.knows squares.old q → S.knows squares.new q × (S.content squares.new q ≡ S.content squares.old q) }
+    ensures stays { (t : Tree) → Contains (S.stored squares.old) t → Contains (S.stored squares.new) t }
+    ensures most { S.most squares.new ≡ S.most squares.old }
+    ensures refusals { IfErr result (λ f. (f ≡ fault_of Full) ⊎ ((f ≡ fault_of Memory) ⊎ ((f.kind ≡ Kind.Ambiguous) × ((cells : ℤ → ℤ → ℕ) → IsScene (L.answers law.old) cells y rows.entry → IsSweptRows (L.answers law.old) cells (state_by builder.old.runs) leaves y → IsFirstAmbiguous (L.answers law.old) cells f.place.line)))) }
+    ensures full { result ≡ Err (fault_of Full) → length (S.stored squares.new) ≡ S.most squares.new }
+{
+    let mut left = leaves;
+    let mut window = Window::new(rows);
+    while window.advance() {
+        left = draw_place(squares, builder, law, &window, y, left)?;
+    }
+    Ok(left)
+}
+
+/// The square of the whole plane with the next generation of sorted cells.
+pub(crate) fn next_square<S: Squares, L: Law>(
+    alloc: Global,
+    squares: &mut S,
+    law: &mut L,
+    cells: &[Cell],
+) -> Result<Id, Fault>
+    requires states { All (λ cell. cell.state < L.bound law.old) cells.now }
+    requires inside { All IsInside cells.now }
+    requires sorted { IsSortedList cells.now }
+    ensures same { law.new ≡ law.old }
+    ensures known { IfOk result (S.knows squares.new) }
+    ensures level { IfOk result (λ r. depth (S.content squares.new r) ≡ MAX_LEVEL) }
+    ensures next { IfOk result (λ r. (plane : ℤ → ℤ → ℕ) → IsSorted (L.answers law.old) plane cells.now → (x y : ℤ) → L.answers law.old (states_at plane x y) (Becomes (tree_cell (S.content squares.new r) x y))) }
+    ensures keeps { (q : IdValue) → S.knows squares.old q → S.knows squares.new q × (S.content squares.new q ≡ S.content squares.old q) }
+    ensures stays { (t : Tree) → Contains (S.stored squares.old) t → Contains (S.stored squares.new) t }
+    ensures most { S.most squares.new ≡ S.most squares.old }
+    ensures refusals { IfErr result (λ f. (f ≡ fault_of Full) ⊎ ((f ≡ fault_of Memory) ⊎ ((plane : ℤ → ℤ → ℕ) → IsSorted (L.answers law.old) plane cells.now → RefusesStep (L.answers law.old) plane f))) }
+    ensures full { result ≡ Err (fault_of Full) → length (S.stored squares.new) ≡ S.most squares.new }
+{
+    let mut builder = Builder::new(alloc);
+    empty_builder_fills::<S>();
+    let mut leaves = false;
+    let mut band = Band::new(cells);
+    while band.advance() {
+        leaves = draw_row(squares, &mut builder, law, band.rows, band.y, leaves)?;
+    }
+    if leaves {
+        return Err(Fault::of(Kind::OutOfPlane));
+    }
+    Ok(builder.finish(squares)?)
+}
