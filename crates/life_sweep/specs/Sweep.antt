@@ -82,17 +82,15 @@ module _ (answers : List ℕ → Answer → Type 0) (cells : ℤ → ℤ → ℕ
     pub clear : (c r : ℤ) → y ≤ℤ r → drawn c r ≡ 0
     pub left : leaves ≡ true → IsLeft
 
--- the rows around y are those of the cells, which a law leaves blank where they are
-pub record IsScene (answers : List ℕ → Answer → Type 0) (cells : ℤ → ℤ → ℕ) (y : ℤ) (rows : Rows) : Type 0 where
+-- the rows around y are those of the cells
+pub record IsScene (cells : ℤ → ℤ → ℕ) (y : ℤ) (rows : Rows) : Type 0 where
   pub rows_are : AreRows cells y end_of_plane rows
   pub blank : IsBlankBefore cells
-  pub quiet : answers zeros (Becomes 0)
 
--- the list has the cells of the plane, row by row, which a law leaves blank where they are
-pub record IsSorted (answers : List ℕ → Answer → Type 0) (plane : ℤ → ℤ → ℕ) (cells : List Cell) : Type 0 where
+-- the list has the cells of the plane, row by row
+pub record IsSorted (plane : ℤ → ℤ → ℕ) (cells : List Cell) : Type 0 where
   pub cells_are : IsRestOf plane end_of_plane end_of_plane cells
   pub blank : IsBlankBefore plane
-  pub quiet : answers zeros (Becomes 0)
 
 -- why a step is refused: the first place that is ambiguous, or, where there is none, that a cell leaves the plane
 abbrev pub RefusesStep : (List ℕ → Answer → Type 0) → (ℤ → ℤ → ℕ) → Fault → Type 0

@@ -85,11 +85,11 @@ fn draw_row<S: Squares, L: Law>(
     ensures same { law.new ≡ law.old }
     ensures filling { OnOk result (IsFilling (S.knows squares.new) (S.content squares.new) builder.new) }
     ensures ready { OnOk result (IsReadyRow builder.new.runs (after y)) }
-    ensures swept { IfOk result (λ left. (cells : ℤ → ℤ → ℕ) → IsScene (L.answers law.old) cells y rows.entry → IsSweptRows (L.answers law.old) cells (state_by builder.old.runs) leaves y → IsSweptRows (L.answers law.old) cells (state_by builder.new.runs) left (after y)) }
+    ensures swept { IfOk result (λ left. (cells : ℤ → ℤ → ℕ) → IsScene cells y rows.entry → IsSweptRows (L.answers law.old) cells (state_by builder.old.runs) leaves y → IsSweptRows (L.answers law.old) cells (state_by builder.new.runs) left (after y)) }
     ensures keeps { (q : IdValue) → S.knows squares.old q → S.knows squares.new q × (S.content squares.new q ≡ S.content squares.old q) }
     ensures stays { (t : Tree) → Contains (S.stored squares.old) t → Contains (S.stored squares.new) t }
     ensures most { S.most squares.new ≡ S.most squares.old }
-    ensures refusals { IfErr result (λ f. (f ≡ fault_of Full) ⊎ ((f ≡ fault_of Memory) ⊎ ((f.kind ≡ Kind.Ambiguous) × ((cells : ℤ → ℤ → ℕ) → IsScene (L.answers law.old) cells y rows.entry → IsSweptRows (L.answers law.old) cells (state_by builder.old.runs) leaves y → IsFirstAmbiguous (L.answers law.old) cells f.place.line)))) }
+    ensures refusals { IfErr result (λ f. (f ≡ fault_of Full) ⊎ ((f ≡ fault_of Memory) ⊎ ((f.kind ≡ Kind.Ambiguous) × ((cells : ℤ → ℤ → ℕ) → IsScene cells y rows.entry → IsSweptRows (L.answers law.old) cells (state_by builder.old.runs) leaves y → IsFirstAmbiguous (L.answers law.old) cells f.place.line)))) }
     ensures full { result ≡ Err (fault_of Full) → length (S.stored squares.new) ≡ S.most squares.new }
 {
     let mut left = leaves;
@@ -113,11 +113,11 @@ pub(crate) fn next_square<S: Squares, L: Law>(
     ensures same { law.new ≡ law.old }
     ensures known { IfOk result (S.knows squares.new) }
     ensures level { IfOk result (λ r. depth (S.content squares.new r) ≡ MAX_LEVEL) }
-    ensures next { IfOk result (λ r. (plane : ℤ → ℤ → ℕ) → IsSorted (L.answers law.old) plane cells.now → (x y : ℤ) → L.answers law.old (states_at plane x y) (Becomes (tree_cell (S.content squares.new r) x y))) }
+    ensures next { IfOk result (λ r. (plane : ℤ → ℤ → ℕ) → IsSorted plane cells.now → (x y : ℤ) → L.answers law.old (states_at plane x y) (Becomes (tree_cell (S.content squares.new r) x y))) }
     ensures keeps { (q : IdValue) → S.knows squares.old q → S.knows squares.new q × (S.content squares.new q ≡ S.content squares.old q) }
     ensures stays { (t : Tree) → Contains (S.stored squares.old) t → Contains (S.stored squares.new) t }
     ensures most { S.most squares.new ≡ S.most squares.old }
-    ensures refusals { IfErr result (λ f. (f ≡ fault_of Full) ⊎ ((f ≡ fault_of Memory) ⊎ ((plane : ℤ → ℤ → ℕ) → IsSorted (L.answers law.old) plane cells.now → RefusesStep (L.answers law.old) plane f))) }
+    ensures refusals { IfErr result (λ f. (f ≡ fault_of Full) ⊎ ((f ≡ fault_of Memory) ⊎ ((plane : ℤ → ℤ → ℕ) → IsSorted plane cells.now → RefusesStep (L.answers law.old) plane f))) }
     ensures full { result ≡ Err (fault_of Full) → length (S.stored squares.new) ≡ S.most squares.new }
 {
     let mut builder = Builder::new(alloc);

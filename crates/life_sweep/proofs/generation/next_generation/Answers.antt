@@ -1,21 +1,93 @@
-use Rattle.std.proofs.Common.{◌≡◌, ◌≤◌, ◌<◌, ◌⊎◌, inl, inr, sym, subst, ap, arith}
+use Rattle.std.proofs.Common.{◌≡◌, ℕ, ◌≤◌, ◌<◌, ◌⊎◌, inl, inr, List, Some, sym, ◌∙◌, subst, ap, arith, true≢false}
 use Rattle.std.specs.Prelude.{All}
-use Rattle.std.proofs.lemmas.Result.{IfOk-weaker, IfErr-weaker}
+use Rattle.std.proofs.lemmas.Result.{IfOk-weaker, IfErr-weaker, err_from_is_err_and}
+use Rattle.life_base.specs.Refusal.{fault_of}
 use Rattle.life_base.specs.Tree.{depth, tree_cell}
+use Rattle.life_base.specs.declared.cell.Cell.{Cell}
+use Rattle.life_base.specs.declared.fault.Fault.{Fault}
+use Rattle.life_base.specs.declared.kind.Kind.{Kind}
+use Rattle.life_quad.specs.Cells.{population}
+use Rattle.life_sweep.specs.Refused.{GenerationRefusal}
 use Rattle.life_sweep.specs.Rows.{IsInside, IsRestOf, end_of_plane}
 use Rattle.life_sweep.specs.Sweep.{IsSorted}
 use Rattle.life_sweep.proofs.CellLemmas.{blank-before, cells-sorted, cells-inside}
-use Rattle.life_sweep.proofs.RefusedLemmas.{has-from, none-from, beyond, step-refused, accepted}
+use Rattle.life_sweep.proofs.RefusedLemmas.{both-ok, has-from, none-from, beyond, step-refused, accepted}
 use Rattle.life_sweep.proofs.generation.next_generation.Goals as goal
 
+pub returns-in_err-list-clause-refusals : goal.returns-in_err-list-clause-refusals
+returns-in_err-list-clause-refusals g c =
+    let p = err_from_is_err_and c.from_residual.result c.from_residual.ensures.1 in
+    rw (p.1, p.2) (elim c.in_err-list.ensures.refusals [
+      | inl e ↦ inr (inr (inl (c.in_err-list.ensures.many e, ap (λ (k : Kind). Some (fault_of k)) e)))
+      | inr e ↦ inr (inl (ap fault_of e))
+    ])
+
 pub next_square-requires-clause-inside : goal.next_square-requires-clause-inside
-next_square-requires-clause-inside g c = ?
+next_square-requires-clause-inside g c =
+    let t = g.S.Squares.content c.args.squares.now c.args.id in
+    let low = g.met.S.Squares.low c.args.squares.now c.args.id c.requires.known in
+    subst (λ z. All IsInside z) (sym c.deref-2.ensures.value) (cells-inside t c.in_ok-list.list.items low c.in_ok-list.ensures.cells)
 
 pub next_square-requires-clause-sorted : goal.next_square-requires-clause-sorted
-next_square-requires-clause-sorted g c = ?
+next_square-requires-clause-sorted g c =
+    let t = g.S.Squares.content c.args.squares.now c.args.id in
+    let low = g.met.S.Squares.low c.args.squares.now c.args.id c.requires.known in
+    (tree_cell t, blank-before t low, subst (λ z. IsRestOf (tree_cell t) end_of_plane end_of_plane z) (sym c.deref-2.ensures.value) (cells-sorted t c.in_ok-list.list.items low c.in_ok-list.ensures.cells))
+
+pub returns-then-not-are_below-clause-refusals : goal.returns-then-not-are_below-clause-refusals
+returns-then-not-are_below-clause-refusals g c =
+    let t = g.S.Squares.content c.args.squares.now c.args.id in
+    let law = c.args.law.now in
+    let h = c.in_ok-list.ensures in
+    let bound = g.L.Law.bound law in
+    let not : ¬ (All (λ (d : Cell). d.state < bound) c.in_ok-list.list.items) =
+    λ all. true≢false (sym (c.are_below.ensures.1 (subst (λ (l : List Cell). All (λ (d : Cell). d.state < c.n_states.result) l) (sym c.deref.ensures.value)
+        (subst (λ (n : ℕ). All (λ (d : Cell). d.state < n) c.in_ok-list.list.items) (sym c.n_states.ensures) all))) ∙ c.if-not-are_below.true) in
+    let few : ¬ (c.args.most < population t) = λ m. omega (arith, m, h.number, h.few) in
+    inr (inr (subst (λ (f : Fault). GenerationRefusal (g.L.Law.answers law) bound c.args.most t (Some f)) (sym c.of.ensures)
+    (beyond (g.L.Law.answers law) (g.met.L.Law.one_answer law) bound c.args.most t few (has-from t c.in_ok-list.list.items bound h.cells not))))
 
 pub returns-clause-next : goal.returns-clause-next
-returns-clause-next g c = ?
+returns-clause-next g c =
+    let t = g.S.Squares.content c.args.squares.now c.args.id in
+    let low = g.met.S.Squares.low c.args.squares.now c.args.id c.requires.known in
+    let rest = subst (λ z. IsRestOf (tree_cell t) end_of_plane end_of_plane z) (sym c.deref-2.ensures.value) (cells-sorted t c.in_ok-list.list.items low c.in_ok-list.ensures.cells) in
+    IfOk-weaker c.next_square.result _ _ (λ r h x y. h (tree_cell t) (record { cells_are = rest; blank = blank-before t low }) x y) c.next_square.ensures.next
+
+pub returns-clause-accepted : goal.returns-clause-accepted
+returns-clause-accepted g c =
+    let t = g.S.Squares.content c.args.squares.now c.args.id in
+    let low = g.met.S.Squares.low c.args.squares.now c.args.id c.requires.known in
+    let h = c.in_ok-list.ensures in
+    let law = c.args.law.now in
+    let bound = g.L.Law.bound law in
+    let rest = subst (λ z. IsRestOf (tree_cell t) end_of_plane end_of_plane z) (sym c.deref-2.ensures.value) (cells-sorted t c.in_ok-list.list.items low h.cells) in
+    let few : ¬ (c.args.most < population t) = λ m. omega (arith, m, h.number, h.few) in
+    let below : All (λ (d : Cell). d.state < bound) c.in_ok-list.list.items =
+    subst (λ (n : ℕ). All (λ (d : Cell). d.state < n) c.in_ok-list.list.items) c.n_states.ensures
+    (subst (λ (l : List Cell). All (λ (d : Cell). d.state < c.n_states.result) l) c.deref.ensures.value (c.are_below.ensures.0 c.if-not-are_below.false)) in
+    both-ok c.next_square.result _ _ _
+    (λ r level next. accepted (g.L.Law.answers law) (g.met.L.Law.one_answer law) bound c.args.most t few (none-from t c.in_ok-list.list.items bound (g.met.L.Law.positive law) h.cells below)
+    (g.S.Squares.content c.next_square.new.squares r) level (λ x y. next (tree_cell t) (record { cells_are = rest; blank = blank-before t low }) x y))
+    c.next_square.ensures.level c.next_square.ensures.next
 
 pub returns-clause-refusals : goal.returns-clause-refusals
-returns-clause-refusals g c = ?
+returns-clause-refusals g c =
+    let t = g.S.Squares.content c.args.squares.now c.args.id in
+    let low = g.met.S.Squares.low c.args.squares.now c.args.id c.requires.known in
+    let h = c.in_ok-list.ensures in
+    let law = c.args.law.now in
+    let bound = g.L.Law.bound law in
+    let rest = subst (λ z. IsRestOf (tree_cell t) end_of_plane end_of_plane z) (sym c.deref-2.ensures.value) (cells-sorted t c.in_ok-list.list.items low h.cells) in
+    let few : ¬ (c.args.most < population t) = λ m. omega (arith, m, h.number, h.few) in
+    let below : All (λ (d : Cell). d.state < bound) c.in_ok-list.list.items =
+    subst (λ (n : ℕ). All (λ (d : Cell). d.state < n) c.in_ok-list.list.items) c.n_states.ensures
+    (subst (λ (l : List Cell). All (λ (d : Cell). d.state < c.n_states.result) l) c.deref.ensures.value (c.are_below.ensures.0 c.if-not-are_below.false)) in
+    IfErr-weaker c.next_square.result _ _ (λ f e. elim e [
+      | inl k ↦ inl k
+      | inr m ↦ elim m [
+        | inl k ↦ inr (inl k)
+        | inr r ↦ inr (inr (step-refused (g.L.Law.answers law) (g.met.L.Law.one_answer law) bound c.args.most t few (none-from t c.in_ok-list.list.items bound (g.met.L.Law.positive law) h.cells below) f
+        (r (tree_cell t) (record { cells_are = rest; blank = blank-before t low }))))
+      ]
+    ]) c.next_square.ensures.refusals

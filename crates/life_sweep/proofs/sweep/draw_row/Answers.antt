@@ -1,8 +1,10 @@
 use Rattle.std.proofs.Common.{◌≡◌, ◌⊎◌, inl, inr, ℤ, pos, ◌+ℤ◌, ◌≤ℤ◌, ◌<ℤ◌, refl, sym, ◌∙◌, subst, arith, w64, to_z, of_z}
 use Rattle.std.proofs.lemmas.Int.{ints}
+use Rattle.std.proofs.lemmas.Result.{err_from_is_err_and}
 use Rattle.life_strip.specs.Given.{state_by}
 use Rattle.life_sweep.specs.Around.{after}
-use Rattle.life_sweep.specs.Rows.{IsWindowBelow, end_of_plane}
+use Rattle.life_sweep.specs.Rows.{IsWindowBelow, end_of_plane, states_of}
+use Rattle.life_table.specs.Meaning.{Ambiguous}
 use Rattle.life_sweep.specs.Sweep.{IsReadyRow, IsScene, IsSweptRows}
 use Rattle.life_sweep.proofs.SweepLemmas.{row-ready, ready-later, ready-row, into-row, west-column, step-in-row, out-of-row, put-law, ambiguous-here}
 use Rattle.life_sweep.proofs.sweep.draw_row.Goals as goal
@@ -21,7 +23,7 @@ loop-window-init g c =
       ready = row-ready c.args.builder.now.runs (after w.x) y (subst (λ z. IsReadyRow c.args.builder.now.runs z) e c.requires.ready);
       swept = λ cells scene rows. (
         c.new-window.ensures.window cells y scene.rows_are (λ column l. west-column cells y column scene.blank l),
-        into-row (g.L.Law.answers c.args.law.now) cells (state_by c.args.builder.now.runs) c.args.leaves w.x y scene.quiet scene.blank west rows,
+        into-row (g.L.Law.answers c.args.law.now) cells (state_by c.args.builder.now.runs) c.args.leaves w.x y (g.met.L.Law.quiet c.args.law.now) scene.blank west rows,
       );
       keeps = λ q k. (k, refl);
       stays = λ t m. m;
@@ -55,7 +57,7 @@ loop-window-preserved g c =
       swept = λ cells scene rows.
           let s = inv.swept cells scene rows in
           let on = c.advance.ensures.window c.loop-window-test.true cells y s.0 in
-          (on.here, step-in-row A cells old new c.loop-window.left c.in_ok-left.left y c.loop-window.window c.advance.new.self scene.quiet on s.1 (λ e. put-law (g.L.Law.answers c.loop-window.law) A _ new _ _ _ y (λ v a. subst (λ law. g.L.Law.answers law v a) inv.same) (h.put e)) h.others);
+          (on.here, step-in-row A cells old new c.loop-window.left c.in_ok-left.left y c.loop-window.window c.advance.new.self (g.met.L.Law.quiet c.args.law.now) on s.1 (λ e. put-law (g.L.Law.answers c.loop-window.law) A _ new _ _ _ y (λ v a. subst (λ law. g.L.Law.answers law v a) inv.same) (h.put e)) h.others);
       keeps = λ q k. let a = inv.keeps q k in let b = h.keeps q a.0 in (b.0, b.1 ∙ a.1);
       stays = λ t m. h.stays t (inv.stays t m);
       most = h.most ∙ inv.most;
@@ -69,19 +71,20 @@ returns-in_err-left-clause-refusals g c =
     let A = g.L.Law.answers c.args.law.now in
     let start = state_by c.args.builder.now.runs in
     let old = state_by c.loop-window.builder.runs in
-    elim c.in_err-left.ensures.refusals [
+    let p = err_from_is_err_and c.from_residual.result c.from_residual.ensures.1 in
+    rw (p.1, p.2) (elim c.in_err-left.ensures.refusals [
       | inl full ↦ inl full
       | inr rest ↦ elim rest [
         | inl memory ↦ inr (inl memory)
         | inr d ↦ inr (inr (
           d.0,
           (λ cells scene rows.
-              let s = inv.swept cells (subst (λ z. IsScene A cells z c.args.rows) e scene) (subst (λ z. IsSweptRows A cells start c.args.leaves z) e rows) in
+              let s = inv.swept cells (subst (λ z. IsScene cells z c.args.rows) e scene) (subst (λ z. IsSweptRows A cells start c.args.leaves z) e rows) in
               let on = c.advance.ensures.window c.loop-window-test.true cells y s.0 in
-              ambiguous-here A cells old c.loop-window.left y c.loop-window.window c.advance.new.self _ scene.quiet on s.1 (subst (λ law. g.L.Law.answers law _ _) inv.same d.1)),
+              ambiguous-here A cells old c.loop-window.left y c.loop-window.window c.advance.new.self _ (g.met.L.Law.quiet c.args.law.now) on s.1 (subst (λ law. g.L.Law.answers law (states_of c.advance.new.self) (Ambiguous c.in_err-left.field-0.0.place.line)) inv.same d.1)),
         ))
       ]
-    ]
+    ])
 
 pub returns-clause-ready : goal.returns-clause-ready
 returns-clause-ready g c column row l =
@@ -96,9 +99,9 @@ returns-clause-swept g c cells scene rows =
     let A = g.L.Law.answers c.args.law.now in
     let start = state_by c.args.builder.now.runs in
     let drawn = state_by c.loop-window.builder.runs in
-    let s = c.loop-window.invariant.swept cells (subst (λ z. IsScene A cells z c.args.rows) e scene) (subst (λ z. IsSweptRows A cells start c.args.leaves z) e rows) in
+    let s = c.loop-window.invariant.swept cells (subst (λ z. IsScene cells z c.args.rows) e scene) (subst (λ z. IsSweptRows A cells start c.args.leaves z) e rows) in
     subst (λ z. IsSweptRows A cells drawn c.loop-window.left (after z)) (sym e)
-    (out-of-row A cells drawn c.loop-window.left c.loop-window.window.x y scene.quiet (c.advance.ensures.over c.loop-window-test.false cells y s.0) s.1)
+    (out-of-row A cells drawn c.loop-window.left c.loop-window.window.x y (g.met.L.Law.quiet c.args.law.now) (c.advance.ensures.over c.loop-window-test.false cells y s.0) s.1)
 
 pub returns-in_err-left-clause-keeps : goal.returns-in_err-left-clause-keeps
 returns-in_err-left-clause-keeps g c q k =

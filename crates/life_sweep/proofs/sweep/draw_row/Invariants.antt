@@ -18,7 +18,7 @@ invariant-loop-window g l = record {
   same : l.law ≡ l.fn.law;
   filling : IsFilling (g.S.Squares.knows l.squares) (g.S.Squares.content l.squares) l.builder;
   ready : IsReady l.builder.runs (after l.window.x) l.y;
-  swept : (cells : ℤ → ℤ → ℕ) → IsScene (g.L.Law.answers l.fn.law) cells l.y l.fn.rows
+  swept : (cells : ℤ → ℤ → ℕ) → IsScene cells l.y l.fn.rows
       → IsSweptRows (g.L.Law.answers l.fn.law) cells (state_by l.fn.builder.runs) l.leaves l.y
       → IsWindow cells l.y l.window × IsSwept (g.L.Law.answers l.fn.law) cells (state_by l.builder.runs) l.left (after l.window.x) l.y;
   keeps : (q : Id) → g.S.Squares.knows l.fn.squares q → g.S.Squares.knows l.squares q × (g.S.Squares.content l.squares q ≡ g.S.Squares.content l.fn.squares q);

@@ -1,5 +1,6 @@
 use Rattle.std.proofs.Common.{◌≡◌, ◌⊎◌, inl, inr, ℤ, pos, ◌+ℤ◌, ◌≤ℤ◌, ◌<ℤ◌, refl, sym, ◌∙◌, subst, arith, w64, to_z, of_z}
 use Rattle.std.proofs.lemmas.Int.{ints}
+use Rattle.std.proofs.lemmas.Result.{err_from_is_err_and}
 use Rattle.life_strip.specs.Given.{state_by}
 use Rattle.life_table.specs.Meaning.{Becomes}
 use Rattle.life_sweep.specs.Around.{after}
@@ -20,7 +21,7 @@ loop-band-init g c =
       ready = λ column row l. nothing-given c.new-builder.result.runs c.new-builder.ensures.runs column row;
       swept = λ plane sorted. (
         c.new-band.ensures.band plane sorted.blank sorted.cells_are,
-        start-rows A plane drawn c.new-band.result.y sorted.quiet sorted.blank (omega (arith, ints, c.new-band.ensures.start)) (nothing-drawn c.new-builder.result.runs c.new-builder.ensures.runs),
+        start-rows A plane drawn c.new-band.result.y (g.met.L.Law.quiet c.args.law.now) sorted.blank (omega (arith, ints, c.new-band.ensures.start)) (nothing-drawn c.new-builder.result.runs c.new-builder.ensures.runs),
       );
       keeps = λ q k. (k, refl);
       stays = λ t m. m;
@@ -57,8 +58,8 @@ loop-band-preserved g c =
       swept = λ plane sorted.
           let s = inv.swept plane sorted in
           let on = c.advance.ensures.band c.loop-band-test.true plane sorted.blank s.0 in
-          let passed = pass-rows A plane old c.loop-band.leaves (after c.loop-band.band.y) band.y sorted.quiet (omega (arith, ints, south)) (λ r l u. on.passed r (omega (arith, ints, l)) u) s.1 in
-          let scene : IsScene B plane y band.rows = record { rows_are = subst (λ z. AreRows plane z end_of_plane band.rows) e on.here.rows; blank = sorted.blank; quiet = subst (λ law. g.L.Law.answers law zeros (Becomes 0)) (sym inv.same) sorted.quiet } in
+          let passed = pass-rows A plane old c.loop-band.leaves (after c.loop-band.band.y) band.y (g.met.L.Law.quiet c.args.law.now) (omega (arith, ints, south)) (λ r l u. on.passed r (omega (arith, ints, l)) u) s.1 in
+          let scene : IsScene plane y band.rows = record { rows_are = subst (λ z. AreRows plane z end_of_plane band.rows) e on.here.rows; blank = sorted.blank } in
           let before = subst (λ z. IsSweptRows B plane old c.loop-band.leaves z) e (rows-law A B plane old c.loop-band.leaves band.y (λ v a. subst (λ law. g.L.Law.answers law v a) (sym inv.same)) passed) in
           (on.here, subst (λ z. IsSweptRows A plane new c.in_ok-leaves.leaves (after z)) (sym e) (rows-law B A plane new c.in_ok-leaves.leaves (after y) (λ v a. subst (λ law. g.L.Law.answers law v a) inv.same) (h.swept plane scene before)));
       keeps = λ q k. let a = inv.keeps q k in let b = h.keeps q a.0 in (b.0, b.1 ∙ a.1);
@@ -76,19 +77,20 @@ returns-in_err-leaves-clause-refusals g c =
     let A = g.L.Law.answers c.args.law.now in
     let B = g.L.Law.answers c.loop-band.law in
     let old = state_by c.loop-band.builder.runs in
-    elim c.in_err-leaves.ensures.refusals [
+    let p = err_from_is_err_and c.from_residual.result c.from_residual.ensures.1 in
+    rw (p.1, p.2) (elim c.in_err-leaves.ensures.refusals [
       | inl full ↦ inl full
       | inr rest ↦ elim rest [
         | inl memory ↦ inr (inl memory)
         | inr d ↦ inr (inr (λ plane sorted.
             let s = inv.swept plane sorted in
             let on = c.advance.ensures.band c.loop-band-test.true plane sorted.blank s.0 in
-            let passed = pass-rows A plane old c.loop-band.leaves (after c.loop-band.band.y) band.y sorted.quiet (omega (arith, ints, south)) (λ r l u. on.passed r (omega (arith, ints, l)) u) s.1 in
-            let scene : IsScene B plane y band.rows = record { rows_are = subst (λ z. AreRows plane z end_of_plane band.rows) e on.here.rows; blank = sorted.blank; quiet = subst (λ law. g.L.Law.answers law zeros (Becomes 0)) (sym inv.same) sorted.quiet } in
+            let passed = pass-rows A plane old c.loop-band.leaves (after c.loop-band.band.y) band.y (g.met.L.Law.quiet c.args.law.now) (omega (arith, ints, south)) (λ r l u. on.passed r (omega (arith, ints, l)) u) s.1 in
+            let scene : IsScene plane y band.rows = record { rows_are = subst (λ z. AreRows plane z end_of_plane band.rows) e on.here.rows; blank = sorted.blank } in
             let before = subst (λ z. IsSweptRows B plane old c.loop-band.leaves z) e (rows-law A B plane old c.loop-band.leaves band.y (λ v a. subst (λ law. g.L.Law.answers law v a) (sym inv.same)) passed) in
             inl (d.0, first-law B A plane _ (λ v a. subst (λ law. g.L.Law.answers law v a) inv.same) (d.1 plane scene before))))
       ]
-    ]
+    ])
 
 pub returns-then-leaves-clause-refusals : goal.returns-then-leaves-clause-refusals
 returns-then-leaves-clause-refusals g c =
@@ -98,7 +100,7 @@ returns-then-leaves-clause-refusals g c =
     inr (inr (λ plane sorted.
     let s = inv.swept plane sorted in
     let over = c.advance.ensures.over c.loop-band-test.false plane sorted.blank s.0 in
-    inr (c.of.ensures, s.1.left c.if-leaves.true, (λ x y. let d = all-rows A plane drawn c.loop-band.leaves c.loop-band.band.y sorted.quiet over s.1 x y in (d.next, d.answer)))))
+    inr (c.of.ensures, s.1.left c.if-leaves.true, (λ x y. let d = all-rows A plane drawn c.loop-band.leaves c.loop-band.band.y (g.met.L.Law.quiet c.args.law.now) over s.1 x y in (d.next, d.answer)))))
 
 pub returns-clause-next : goal.returns-clause-next
 returns-clause-next g c plane sorted x y =
@@ -107,5 +109,5 @@ returns-clause-next g c plane sorted x y =
     let drawn = state_by c.loop-band.builder.runs in
     let s = inv.swept plane sorted in
     let over = c.advance.ensures.over c.loop-band-test.false plane sorted.blank s.0 in
-    let d = all-rows A plane drawn c.loop-band.leaves c.loop-band.band.y sorted.quiet over s.1 x y in
+    let d = all-rows A plane drawn c.loop-band.leaves c.loop-band.band.y (g.met.L.Law.quiet c.args.law.now) over s.1 x y in
     subst (λ n. A (states_at plane x y) (Becomes n)) (sym (c.in_ok-finish.ensures.cells x y ∙ d.kept (inl c.if-leaves.false))) d.answer

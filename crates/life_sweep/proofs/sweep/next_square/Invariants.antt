@@ -18,7 +18,7 @@ invariant-loop-band g l = record {
   same : l.law ≡ l.fn.law;
   filling : IsFilling (g.S.Squares.knows l.squares) (g.S.Squares.content l.squares) l.builder;
   ready : IsReadyRow l.builder.runs (after l.band.y);
-  swept : (plane : ℤ → ℤ → ℕ) → IsSorted (g.L.Law.answers l.fn.law) plane l.cells
+  swept : (plane : ℤ → ℤ → ℕ) → IsSorted plane l.cells
       → IsBand plane l.band × IsSweptRows (g.L.Law.answers l.fn.law) plane (state_by l.builder.runs) l.leaves (after l.band.y);
   keeps : (q : Id) → g.S.Squares.knows l.fn.squares q → g.S.Squares.knows l.squares q × (g.S.Squares.content l.squares q ≡ g.S.Squares.content l.fn.squares q);
   stays : (t : Tree) → Contains (g.S.Squares.stored l.fn.squares) t → Contains (g.S.Squares.stored l.squares) t;
