@@ -1,4 +1,4 @@
-use Rattle.std.proofs.Common.{◌≡◌, ℤ, pos, ℕ, List, ◌<◌, ◌+◌, ◌∷◌, [], ◌++◌, suc, length, take, drop, get_or, sym, ◌∙◌, subst, refl, arith, ap, w64, to_z, of_z}
+use Rattle.std.proofs.Common.{◌≡◌, pos, ℕ, List, ◌<◌, ◌+◌, suc, length, take, get_or, sym, ◌∙◌, subst, refl, arith, w64, to_z, of_z}
 use Rattle.std.specs.Prelude.{All, IsTrue}
 use Rattle.std.proofs.lemmas.Int.{ints}
 use Rattle.std.proofs.lemmas.List.{take_all, drop_all, take-append-drop}

@@ -1,15 +1,14 @@
-use Rattle.std.proofs.Common.{◌≡◌, ℕ, ◌≤◌, ◌<◌, ◌⊎◌, inl, inr, List, Some, sym, ◌∙◌, subst, ap, arith, true≢false}
+use Rattle.std.proofs.Common.{ℕ, ◌<◌, inl, inr, List, Some, sym, ◌∙◌, subst, ap, arith, true≢false}
 use Rattle.std.specs.Prelude.{All}
 use Rattle.std.proofs.lemmas.Result.{IfOk-weaker, IfErr-weaker, err_from_is_err_and}
 use Rattle.life_base.specs.Refusal.{fault_of}
-use Rattle.life_base.specs.Tree.{depth, tree_cell}
+use Rattle.life_base.specs.Tree.{tree_cell}
 use Rattle.life_base.specs.declared.cell.Cell.{Cell}
 use Rattle.life_base.specs.declared.fault.Fault.{Fault}
 use Rattle.life_base.specs.declared.kind.Kind.{Kind}
 use Rattle.life_quad.specs.Cells.{population}
 use Rattle.life_sweep.specs.Refused.{GenerationRefusal}
 use Rattle.life_sweep.specs.Rows.{IsInside, IsRestOf, end_of_plane}
-use Rattle.life_sweep.specs.Sweep.{IsSorted}
 use Rattle.life_sweep.proofs.CellLemmas.{blank-before, cells-sorted, cells-inside}
 use Rattle.life_sweep.proofs.RefusedLemmas.{both-ok, has-from, none-from, beyond, step-refused, accepted}
 use Rattle.life_sweep.proofs.generation.next_generation.Goals as goal

@@ -1,6 +1,6 @@
-use Rattle.std.proofs.Common.{◌≡◌, ◌⊎◌, inl, inr, ℤ, pos, ◌+ℤ◌, ◌≤ℤ◌, ◌<ℤ◌, refl, sym, ◌∙◌, ap, subst, arith, w64, to_z, of_z, true≢false}
+use Rattle.std.proofs.Common.{◌≡◌, inl, inr, sym, ◌∙◌, ap, subst, arith, w64, to_z, of_z, true≢false}
 use Rattle.std.proofs.lemmas.Int.{ints}
-use Rattle.life_strip.specs.Given.{IsNext, IsOnPlane, state_by}
+use Rattle.life_strip.specs.Given.{IsOnPlane, state_by}
 use Rattle.life_table.specs.Meaning.{Becomes}
 use Rattle.life_sweep.proofs.SweepLemmas.{ready-next, one-cell, other-cells}
 use Rattle.life_sweep.proofs.sweep.draw_place.Goals as goal

@@ -1,10 +1,9 @@
-use Rattle.std.proofs.Common.{◌≡◌, ℕ, ℤ, List, ◌<◌}
+use Rattle.std.proofs.Common.{◌≡◌, ℕ, ℤ}
 use Rattle.std.specs.Prelude.{Contains}
 use Rattle.life_base.specs.Tree.{Tree}
 use Rattle.life_quad.specs.declared.id.Id.{Id}
 use Rattle.life_strip.specs.Filling.{IsFilling}
 use Rattle.life_strip.specs.Given.{state_by}
-use Rattle.life_table.specs.Meaning.{Answer}
 use Rattle.life_sweep.specs.Around.{after}
 use Rattle.life_sweep.specs.Rows.{IsSoundWindow, IsWindowBelow, IsWindow, steps_left}
 use Rattle.life_sweep.specs.Sweep.{IsReady, IsScene, IsSwept, IsSweptRows}

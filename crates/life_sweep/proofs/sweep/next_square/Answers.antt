@@ -1,11 +1,11 @@
-use Rattle.std.proofs.Common.{◌≡◌, ◌⊎◌, inl, inr, ℤ, pos, ◌+ℤ◌, ◌≤ℤ◌, ◌<ℤ◌, refl, sym, ◌∙◌, subst, arith, w64, to_z, of_z}
+use Rattle.std.proofs.Common.{◌≡◌, inl, inr, refl, sym, ◌∙◌, subst, arith, w64, to_z, of_z}
 use Rattle.std.proofs.lemmas.Int.{ints}
 use Rattle.std.proofs.lemmas.Result.{err_from_is_err_and}
 use Rattle.life_strip.specs.Given.{state_by}
 use Rattle.life_table.specs.Meaning.{Becomes}
 use Rattle.life_sweep.specs.Around.{after}
 use Rattle.life_sweep.specs.Rows.{AreBelow, AreRows, end_of_plane}
-use Rattle.life_sweep.specs.Sweep.{IsReadyRow, IsScene, IsSweptRows, zeros, states_at}
+use Rattle.life_sweep.specs.Sweep.{IsReadyRow, IsScene, IsSweptRows, states_at}
 use Rattle.life_sweep.proofs.SweepLemmas.{nothing-given, nothing-drawn, start-rows, pass-rows, rows-law, first-law, all-rows}
 use Rattle.life_sweep.proofs.sweep.next_square.Goals as goal
 

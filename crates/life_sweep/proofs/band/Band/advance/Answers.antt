@@ -1,10 +1,10 @@
-use Rattle.std.proofs.Common.{◌≡◌, ℕ, ◌<◌, ◌⊎◌, inl, inr, true, refl, sym, subst, arith, w64, to_z, of_z, pos, ◌+ℤ◌, ◌<ℤ◌, ◌∙◌, ap, length, take, drop}
+use Rattle.std.proofs.Common.{◌≡◌, ◌<◌, refl, sym, subst, arith, w64, to_z, of_z, pos, ◌+ℤ◌, drop}
 use Rattle.std.specs.Prelude.{All}
 use Rattle.std.proofs.lemmas.Int.{ints}
 use Rattle.std.proofs.lemmas.List.Elements.{All-take, All-drop}
 use Rattle.life_base.specs.declared.cell.Cell.{Cell}
 use Rattle.life_sweep.specs.Around.{after}
-use Rattle.life_sweep.specs.Rows.{IsNextRow, IsInside, IsSplitAtRow, GoesSouth, far}
+use Rattle.life_sweep.specs.Rows.{IsNextRow, IsInside, IsSplitAtRow, GoesSouth}
 use Rattle.life_sweep.specs.declared.band.Band.{Band}
 use Rattle.life_sweep.proofs.BandLemmas.{goes-south, last-band, fewer-rows, here-end, south-end}
 use Rattle.life_sweep.proofs.band.Band.advance.Goals as goal

@@ -1,7 +1,6 @@
-use Rattle.std.proofs.Common.{◌≡◌, ◌≤ℤ◌, ◌⊎◌, inl, inr, arith, w64, to_z, of_z, ◌+◌, length}
+use Rattle.std.proofs.Common.{◌≤ℤ◌, arith, w64, to_z, of_z}
 use Rattle.std.proofs.lemmas.Int.{ints}
 use Rattle.life_sweep.proofs.RowLemmas.{StartsFrom-less, empty-row}
-use Rattle.life_sweep.specs.Rows.{far, StartsAt}
 use Rattle.life_sweep.proofs.column.Rows.first_column.Goals as goal
 
 pub returns-then-first-lt-FAR-clause-from : goal.returns-then-first-lt-FAR-clause-from

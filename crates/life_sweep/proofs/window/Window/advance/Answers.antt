@@ -1,4 +1,4 @@
-use Rattle.std.proofs.Common.{◌≡◌, ◌<◌, ◌⊎◌, inl, inr, true, sym, subst, arith, w64, to_z, of_z, pos, ◌+ℤ◌, ◌<ℤ◌, ◌∙◌, ap}
+use Rattle.std.proofs.Common.{◌≡◌, ◌⊎◌, true, sym, subst, arith, w64, to_z, of_z, pos, ◌+ℤ◌, ◌<ℤ◌, ◌∙◌, ap}
 use Rattle.std.proofs.lemmas.Int.{ints}
 use Rattle.life_sweep.specs.Around.{after}
 use Rattle.life_sweep.specs.Rows.{IsNextPlace, AreRows, SomeStartsAt, is_blank_column, far, column_at}
