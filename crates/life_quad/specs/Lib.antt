@@ -7,3 +7,4 @@ pub mod Span
 pub mod Boxes
 pub mod Bands
 pub mod Laws
+pub mod IdList

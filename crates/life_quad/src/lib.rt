@@ -3,6 +3,7 @@
 
 mod extent;
 mod id;
+mod id_list;
 pub mod laws;
 mod listing;
 mod moves;
@@ -14,6 +15,7 @@ mod squares;
 
 pub use extent::Bounds;
 pub use id::Id;
+pub use id_list::IdList;
 pub use listing::cells;
 pub use moves::{Quarters, divide, grow, is_blank, trim};
 pub use plain::Plain;

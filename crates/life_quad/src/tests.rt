@@ -5,8 +5,8 @@ ghost use Rattle.life_base.specs.Tree.{depth};
 ghost use Rattle.life_quad.specs.declared.id.Id.{Id as IdValue};
 
 use crate::{
-    Bounds, Id, Plain, Quarters, Shared, SharedSquares, Squares, bounds, cells, divide, grow,
-    is_blank, population, put_run, trim,
+    Bounds, Id, IdList, Plain, Quarters, Shared, SharedSquares, Squares, bounds, cells, divide,
+    grow, is_blank, population, put_run, trim,
 };
 use life_base::{Cell, Kind, MAX_LEVEL};
 use std::alloc::Global;
@@ -375,5 +375,24 @@ fn squares_are_measured(rt: HostRuntime) -> Result<(), Fail> {
         measures(rt.alloc(), &mut squares)?,
         (0, None, 8, Some(least))
     );
+    Ok(())
+}
+
+#[test]
+fn ids_are_listed_once(rt: HostRuntime) -> Result<(), Fail> {
+    let squares = Shared::new(rt.alloc(), 0);
+    let (first, second, third) = (squares.cell(200), squares.cell(3), squares.empty(60));
+    let mut list = IdList::new(rt.alloc());
+    assert!(rt; list.as_slice().is_empty() && !list.contains(first));
+    for id in [first, second, first, third, second] {
+        list.insert(id)?;
+    }
+    assert_eq!(rt; list.as_slice(), [first, second, third].as_slice());
+    assert_eq!(rt;
+        (list.place(first), list.place(second), list.place(third)),
+        (Some(0), Some(1), Some(2))
+    );
+    assert!(rt; list.contains(third) && !list.contains(squares.cell(4)));
+    assert_eq!(rt; list.place(squares.empty(59)), None);
     Ok(())
 }

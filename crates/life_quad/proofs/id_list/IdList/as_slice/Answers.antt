@@ -1,0 +1,7 @@
+use Rattle.std.proofs.Common.{◌≢◌, subst}
+use Rattle.std.specs.Prelude.{AllPairs}
+use Rattle.life_quad.proofs.PlaceLemmas.{distinct}
+use Rattle.life_quad.proofs.id_list.IdList.as_slice.Goals as goal
+
+pub returns-clause-distinct : goal.returns-clause-distinct
+returns-clause-distinct c = subst (AllPairs ◌≢◌) c.self.view_is (distinct _ _ c.self.invariant)
