@@ -18,4 +18,4 @@ pub use file::McFile;
 pub use line::Line;
 pub use lines::McLines;
 pub use reading::read_mc;
-pub use writing::write_mc;
+pub use writing::{append_front, append_line, write_mc};

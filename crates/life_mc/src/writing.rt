@@ -3,7 +3,7 @@
 ghost use Rattle.std.specs.Prelude.{◌≡◌, ◌++◌, ◌∷◌, [], ◌<◌, ◌≤◌, ◌==◌, take, flat_map, decimal, codes, OnOk, IfOk, IfErr, Err};
 ghost use Rattle.life_base.specs.Refusal.{fault_of};
 ghost use Rattle.life_base.specs.declared.kind.Kind.TheVariants.{Memory};
-ghost use Rattle.life_mc.specs.Writing.{mc_text, file_text, line_text, row_text, row_cells, generation_text, is_live as is_live_cell, cell_byte as byte_of_cell};
+ghost use Rattle.life_mc.specs.Writing.{mc_text, file_text, front_text, node_text, line_text, row_text, row_cells, generation_text, is_live as is_live_cell, cell_byte as byte_of_cell};
 ghost use Rattle.life_base.specs.Text.{without_last};
 
 use crate::file::McFile;
@@ -92,7 +92,7 @@ fn append_quarter(out: &mut Vec<u8>, number: u64) -> Result<(), Kind>
 }
 
 /// Adds a square's text at the end.
-fn append_line(out: &mut Vec<u8>, line: &Line) -> Result<(), Kind>
+fn append_square(out: &mut Vec<u8>, line: &Line) -> Result<(), Kind>
     ensures ok { OnOk result (out.new.items ≡ out.old.items ++ line_text line.now) }
     ensures err { IfErr result (λ kind. kind ≡ Memory) }
 {
@@ -114,14 +114,23 @@ fn append_line(out: &mut Vec<u8>, line: &Line) -> Result<(), Kind>
     }
 }
 
-/// Adds the texts of squares at the end, each with a line feed.
+/// Adds the line of a square at the end, ended by a line feed. A refusal, by `Memory` alone, leaves what was there and maybe a part
+/// of the line.
+pub fn append_line(out: &mut Vec<u8>, line: &Line) -> Result<(), Kind>
+    ensures ok { OnOk result (out.new.items ≡ out.old.items ++ node_text line.now) }
+    ensures kind { IfErr result (λ kind. kind ≡ Memory) }
+{
+    append_square(out, line)?;
+    append(out, b"\n")
+}
+
+/// Adds the lines of squares at the end, each ended by a line feed.
 fn append_lines(out: &mut Vec<u8>, lines: &[Line]) -> Result<(), Kind>
-    ensures ok { OnOk result (out.new.items ≡ out.old.items ++ flat_map (λ line. line_text line ++ codes "\n") lines.now) }
+    ensures ok { OnOk result (out.new.items ≡ out.old.items ++ flat_map node_text lines.now) }
     ensures err { IfErr result (λ kind. kind ≡ Memory) }
 {
     for line in lines {
         append_line(out, line)?;
-        append(out, b"\n")?;
     }
     Ok(())
 }
@@ -139,15 +148,24 @@ fn append_generation(out: &mut Vec<u8>, generation: u64) -> Result<(), Kind>
     append(out, b"\n")
 }
 
+/// Adds the front of a file at the end: the header, the rule, and the generation if it isn't 0, each line ended by a line feed. A
+/// refusal, by `Memory` alone, leaves what was there and maybe a part of the front.
+pub fn append_front(out: &mut Vec<u8>, rule: &Rule, generation: u64) -> Result<(), Kind>
+    ensures ok { OnOk result (out.new.items ≡ out.old.items ++ front_text rule.now generation) }
+    ensures kind { IfErr result (λ kind. kind ≡ Memory) }
+{
+    append(out, b"[M2] (canonical 1)\n#R ")?;
+    rule.write(out)?;
+    append(out, b"\n")?;
+    append_generation(out, generation)
+}
+
 /// Adds the text of a rule, a generation and squares at the end.
 fn append_parts(out: &mut Vec<u8>, rule: &Rule, generation: u64, lines: &[Line]) -> Result<(), Kind>
     ensures ok { OnOk result (out.new.items ≡ out.old.items ++ file_text rule.now generation lines.now) }
     ensures err { IfErr result (λ kind. kind ≡ Memory) }
 {
-    append(out, b"[M2] (canonical 1)\n#R ")?;
-    rule.write(out)?;
-    append(out, b"\n")?;
-    append_generation(out, generation)?;
+    append_front(out, rule, generation)?;
     append_lines(out, lines)
 }
 
