@@ -5,31 +5,18 @@ ghost use Rattle.life_base.specs.declared.kind.Kind.TheVariants.{Memory, TooMany
 ghost use Rattle.life_base.specs.Refusal.{fault_of};
 ghost use Rattle.life_canon.specs.Files.{Same};
 ghost use Rattle.life_canon.specs.Least.{IsLeastText};
-ghost use Rattle.life_canon.specs.Listing.{canon_text};
 ghost use Rattle.life_canon.specs.Store.{Keeps, RefusesIn, IsTrimmed, universe_in};
 ghost use Rattle.life_canon.specs.Texts.{IsCanonical, IsRleOf, HasMoreCells};
 
-use crate::numbering::number;
-use crate::pattern::Pattern;
 use crate::reading::read;
+use crate::writing::text_of;
 use life_base::{Fault, MAX_LEVEL};
-use life_mc::write_mc;
 use life_quad::{Shared, cells};
 use life_rle::write_rle;
 use std::alloc::Global;
 
 /// The most nonzero cells of an RLE text.
 const MOST_CELLS: u64 = 1 << 20;
-
-/// The canonical text of a pattern in its least square.
-pub(crate) fn text_of(alloc: Global, store: &Shared, pattern: &Pattern) -> Result<Vec<u8>, Fault>
-    requires { IsTrimmed store.now pattern.now }
-    ensures text { IfOk result (λ text. text.items ≡ canon_text MAX_LEVEL (universe_in store.now pattern.now)) }
-    ensures memory { IfErr result (λ fault. fault ≡ fault_of Memory) }
-{
-    let file = number(alloc, store, pattern)?;
-    write_mc(alloc, &file)
-}
 
 /// The canonical text of the pattern of a file of either format.
 ///

@@ -14,6 +14,7 @@ mod reader;
 mod reading;
 mod running;
 mod showing;
+mod writing;
 
 pub use comparing::same;
 pub use converting::{canon, to_rle};

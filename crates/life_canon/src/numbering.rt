@@ -15,10 +15,9 @@ ghost use Rattle.life_canon.specs.Store.{IsTrimmed, universe_in, IsListed};
 
 use crate::listing::{listed, number_of};
 use crate::pattern::{Pattern, least_level};
-use indexmap::IndexSet;
 use life_base::{Fault, Items, Kind, MAX_LEVEL, Rule};
 use life_mc::{Line, McFile};
-use life_quad::{Id, Quarters, Shared, SharedSquares, Squares, divide};
+use life_quad::{Id, IdList, Quarters, Shared, SharedSquares, Squares, divide};
 use std::alloc::Global;
 
 /// The state of a cell of a square, by its column and row from the north-west corner.
@@ -98,11 +97,11 @@ fn is_leaf(rule: &Rule, level: u8) -> bool
 }
 
 /// The node line of a square of the list.
-fn line_of<S: SharedSquares>(squares: &S, rule: &Rule, known: &IndexSet<Id>, id: Id) -> Line
+pub(crate) fn line_of<S: SharedSquares>(squares: &S, rule: &Rule, known: &IdList, id: Id) -> Line
     requires id { S.knows squares.now id }
-    requires known { All (S.knows squares.now) known.now.keys }
-    requires listed { IsListed rule.now (map (S.content squares.now) known.now.keys) (S.content squares.now id) }
-    ensures { result ≡ line_for rule.now (map (S.content squares.now) known.now.keys) (S.content squares.now id) }
+    requires known { All (S.knows squares.now) known.now }
+    requires listed { IsListed rule.now (map (S.content squares.now) known.now) (S.content squares.now id) }
+    ensures { result ≡ line_for rule.now (map (S.content squares.now) known.now) (S.content squares.now id) }
 {
     let level = squares.level(id);
     if is_leaf(rule, level) {
@@ -123,11 +122,11 @@ fn lines_of<S: SharedSquares>(
     alloc: Global,
     squares: &S,
     rule: &Rule,
-    known: &IndexSet<Id>,
+    known: &IdList,
 ) -> Result<Vec<Line>, Kind>
-    requires known { All (S.knows squares.now) known.now.keys }
-    requires listed { (t : Tree) → Contains (map (S.content squares.now) known.now.keys) t → IsListed rule.now (map (S.content squares.now) known.now.keys) t }
-    ensures lines { IfOk result (λ lines. lines.items ≡ lines_for rule.now (map (S.content squares.now) known.now.keys)) }
+    requires known { All (S.knows squares.now) known.now }
+    requires listed { (t : Tree) → Contains (map (S.content squares.now) known.now) t → IsListed rule.now (map (S.content squares.now) known.now) t }
+    ensures lines { IfOk result (λ lines. lines.items ≡ lines_for rule.now (map (S.content squares.now) known.now)) }
     ensures kind { IfErr result (λ kind. kind ≡ Memory) }
 {
     let mut lines = Vec::new(alloc);

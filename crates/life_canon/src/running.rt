@@ -5,9 +5,9 @@ ghost use Rattle.life_canon.specs.Running.{Ran, RunRefuses, ReadRefuses, HasRead
 ghost use Rattle.life_canon.specs.Feeding.{RefusesFront, Stands};
 ghost use Rattle.life_canon.specs.Store.{Keeps, IsWant};
 
-use crate::converting::text_of;
 use crate::pattern::Pattern;
 use crate::reader::Reader;
+use crate::writing::text_of;
 use life_base::{Fault, Kind, MAX_LEVEL, Sink, Source, deliver};
 use life_quad::Shared;
 use std::alloc::Global;
