@@ -9,9 +9,21 @@ use Rattle.clap.specs.declared.builder.command.Command.TheViews.{out-Command}
 abbrev pub required_file : Text → Rule
 required_file id = record (new_rule id) { required = true; action = Some Set }
 
--- canon FILE
+-- an option --NAME VALUE that has to be given, whose value has a name in the help
+abbrev pub required_option : Text → Rule
+required_option id = record (new_rule id) { long = Some id; required = true; action = Some Set; value_names = 1 }
+
+-- canon FILE, show FILE
 abbrev pub one_file_line : Text → App
 one_file_line name = with_rule (new_app name) (required_file (codes "FILE"))
+
+-- convert FILE --to FORMAT
+abbrev pub convert_line : App
+convert_line = with_rule (one_file_line (codes "convert")) (required_option (codes "to"))
+
+-- same A B
+abbrev pub same_line : App
+same_line = with_rule (with_rule (new_app (codes "same")) (required_file (codes "A"))) (required_file (codes "B"))
 
 -- the program without its commands, of which it wants one; it has a version
 abbrev pub named : App
@@ -21,7 +33,11 @@ named =
 
 -- the program
 abbrev pub program : App
-program = with_subcommand named (one_file_line (codes "canon")).top
+program = with_subcommand (with_subcommand (with_subcommand (with_subcommand named
+    (one_file_line (codes "canon")).top)
+    convert_line.top)
+    same_line.top)
+    (one_file_line (codes "show")).top
 
 -- the command is read as this one, and none of its arguments is global
 pub record ReadsAs (line : App) (command : Command) : Type 0 where

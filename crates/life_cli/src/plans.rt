@@ -6,7 +6,23 @@ use std::alloc::AllocError;
 /// What a run is asked to do.
 #[derive(Clone, Copy, PartialEq, Eq, Debug)]
 pub enum Job {
+    /// Write the canonical text.
     Canon,
+    /// Write the pattern in a format.
+    Convert(Target),
+    /// Tell whether two files are the same pattern.
+    Same,
+    /// Write what the pattern is, in five lines.
+    Show,
+}
+
+/// The format that a pattern is converted to.
+#[derive(Clone, Copy, PartialEq, Eq, Debug)]
+pub enum Target {
+    /// Extended RLE.
+    Rle,
+    /// Macrocell: the canonical text.
+    Mc,
 }
 
 /// A job and its files. A file named `-` is standard input.
@@ -50,4 +66,5 @@ impl From<Error> for Usage {
 }
 
 mod commands;
+mod help;
 pub(crate) mod planning;

@@ -1,19 +1,20 @@
 //! The plan that the words ask for.
 
-ghost use Rattle.std.specs.Prelude.{◌≡◌, List, [], Option, IfOk, IfErr, OnOk, Some, None, map, option_map, string_bytes, codes};
-ghost use Rattle.clap.specs.Words.{Row, Text, fault_of, found_of, first_of, rows_of, subcommand_of, subcommand_rows_of};
+ghost use Rattle.std.specs.Prelude.{◌≡◌, ◌≢◌, ◌↔◌, ⊤, [], IfOk, IfErr, OnOk, Some, None, IsSome, MatchOption, map, option_map, string_bytes, codes};
+ghost use Rattle.clap.specs.Words.{fault_of, found_of, first_of, rows_of, subcommand_of, subcommand_rows_of};
 ghost use Rattle.life_cli.specs.CommandLine.{program};
-ghost use Rattle.life_cli.specs.Plans.{IsPlanOf, NamesInputTwice, Explains, Lacks, input_count, is_input};
+ghost use Rattle.life_cli.specs.Plans.{IsPlanOf, HasSecond, NamesInputTwice, Explains, ExplainsWhere, input_count, is_input, target_word};
+ghost use Rattle.life_cli.specs.declared.plans.Target.{Target as TargetValue};
 
 use super::commands::parse;
-use super::{Job, Plan, Usage};
+use super::{Job, Plan, Target, Usage};
 use clap::error::ErrorKind;
 use clap::{ArgMatches, Command};
 use std::alloc::Global;
 
 /// What stands for an answer of `clap` that it doesn't give.
 fn refusal(alloc: Global, kind: ErrorKind, message: &str) -> Usage
-    ensures { (matches : Option (Text × List Row)) → Lacks matches → Explains [] matches result }
+    ensures { ExplainsWhere ⊤ result }
 {
     let mut command = Command::new(alloc, "golly_canon");
     match command.error(kind, message) {
@@ -24,7 +25,7 @@ fn refusal(alloc: Global, kind: ErrorKind, message: &str) -> Usage
 
 fn copied(alloc: Global, text: &str) -> Result<String, Usage>
     ensures ok { IfOk result (λ s. string_bytes s ≡ text.now) }
-    ensures err { IfErr result (λ u. (matches : Option (Text × List Row)) → Explains [] matches u) }
+    ensures err { IfErr result (ExplainsWhere ⊥) }
 {
     Ok(String::from_str(alloc, text)?)
 }
@@ -38,8 +39,7 @@ fn value<'a>(found: &ArgMatches<'a>, id: &str) -> Option<&'a str>
 
 fn required(alloc: Global, found: &ArgMatches<'_>, id: &str) -> Result<String, Usage>
     ensures ok { IfOk result (λ s. first_of id.now (rows_of (found_of found.now)) ≡ Some (string_bytes s)) }
-    ensures err { IfErr result (λ u. (matches : Option (Text × List Row)) → (first_of id.now (rows_of (found_of found.now)) ≡ None → Lacks matches)
-        → Explains [] matches u) }
+    ensures err { IfErr result (ExplainsWhere (first_of id.now (rows_of (found_of found.now)) ≡ None)) }
 {
     match value(found, id) {
         Some(text) => copied(alloc, text),
@@ -51,13 +51,88 @@ fn required(alloc: Global, found: &ArgMatches<'_>, id: &str) -> Result<String, U
     }
 }
 
+/// The format of a word.
+fn target_named(word: &str) -> Option<Target>
+    ensures { MatchOption result ((t : TargetValue) → word.now ≢ target_word t) (λ t. word.now ≡ target_word t) }
+{
+    match word {
+        "rle" => Some(Target::Rle),
+        "mc" => Some(Target::Mc),
+        _ => None,
+    }
+}
+
+/// The format that `--to` names.
+fn target(alloc: Global, found: &ArgMatches<'_>) -> Result<Target, Usage>
+    ensures ok { IfOk result (λ t. first_of (codes "to") (rows_of (found_of found.now)) ≡ Some (target_word t)) }
+    ensures err { IfErr result (ExplainsWhere ((t : TargetValue) → first_of (codes "to") (rows_of (found_of found.now)) ≢ Some (target_word t))) }
+{
+    let Some(word) = value(found, "to") else {
+        return Err(refusal(
+            alloc,
+            ErrorKind::MissingRequiredArgument,
+            "--to is missing",
+        ));
+    };
+    match target_named(word) {
+        Some(target) => Ok(target),
+        None => Err(refusal(
+            alloc,
+            ErrorKind::InvalidValue,
+            "the value of --to is rle or mc",
+        )),
+    }
+}
+
 fn canon(alloc: Global, found: &ArgMatches<'_>) -> Result<Plan, Usage>
-    ensures ok { IfOk result (λ p. IsPlanOf (Some (codes "canon", rows_of (found_of found.now))) p) }
+    requires { ¬ NamesInputTwice (Some (codes "canon", rows_of (found_of found.now))) }
+    ensures ok { IfOk result (IsPlanOf (Some (codes "canon", rows_of (found_of found.now)))) }
     ensures err { IfErr result (Explains [] (Some (codes "canon", rows_of (found_of found.now)))) }
 {
     let first = required(alloc, found, "FILE")?;
     Ok(Plan {
         job: Job::Canon,
+        first,
+        second: None,
+    })
+}
+
+fn convert(alloc: Global, found: &ArgMatches<'_>) -> Result<Plan, Usage>
+    requires { ¬ NamesInputTwice (Some (codes "convert", rows_of (found_of found.now))) }
+    ensures ok { IfOk result (IsPlanOf (Some (codes "convert", rows_of (found_of found.now)))) }
+    ensures err { IfErr result (Explains [] (Some (codes "convert", rows_of (found_of found.now)))) }
+{
+    let target = target(alloc, found)?;
+    let first = required(alloc, found, "FILE")?;
+    Ok(Plan {
+        job: Job::Convert(target),
+        first,
+        second: None,
+    })
+}
+
+fn same(alloc: Global, found: &ArgMatches<'_>) -> Result<Plan, Usage>
+    requires { ¬ NamesInputTwice (Some (codes "same", rows_of (found_of found.now))) }
+    ensures ok { IfOk result (IsPlanOf (Some (codes "same", rows_of (found_of found.now)))) }
+    ensures err { IfErr result (Explains [] (Some (codes "same", rows_of (found_of found.now)))) }
+{
+    let first = required(alloc, found, "A")?;
+    let second = required(alloc, found, "B")?;
+    Ok(Plan {
+        job: Job::Same,
+        first,
+        second: Some(second),
+    })
+}
+
+fn show(alloc: Global, found: &ArgMatches<'_>) -> Result<Plan, Usage>
+    requires { ¬ NamesInputTwice (Some (codes "show", rows_of (found_of found.now))) }
+    ensures ok { IfOk result (IsPlanOf (Some (codes "show", rows_of (found_of found.now)))) }
+    ensures err { IfErr result (Explains [] (Some (codes "show", rows_of (found_of found.now)))) }
+{
+    let first = required(alloc, found, "FILE")?;
+    Ok(Plan {
+        job: Job::Show,
         first,
         second: None,
     })
@@ -80,7 +155,34 @@ fn inputs(found: &ArgMatches<'_>) -> u8
     if names_input(found, "FILE") {
         count += 1;
     }
+    if names_input(found, "A") {
+        count += 1;
+    }
+    if names_input(found, "B") {
+        count += 1;
+    }
     count
+}
+
+/// The plan of matches that name standard input once at most.
+fn from_command(alloc: Global, matches: &ArgMatches<'_>) -> Result<Plan, Usage>
+    requires { ¬ NamesInputTwice (subcommand_rows_of matches.now) }
+    ensures ok { IfOk result (IsPlanOf (subcommand_rows_of matches.now)) }
+    ensures refused { IfErr result (Explains [] (subcommand_rows_of matches.now)) }
+{
+    if let Some(found) = matches.subcommand_matches("canon") {
+        return canon(alloc, found);
+    }
+    if let Some(found) = matches.subcommand_matches("convert") {
+        return convert(alloc, found);
+    }
+    if let Some(found) = matches.subcommand_matches("same") {
+        return same(alloc, found);
+    }
+    if let Some(found) = matches.subcommand_matches("show") {
+        return show(alloc, found);
+    }
+    Err(refusal(alloc, ErrorKind::MissingSubcommand, "a command is missing"))
 }
 
 fn from_matches(alloc: Global, matches: &ArgMatches<'_>) -> Result<Plan, Usage>
@@ -93,15 +195,13 @@ fn from_matches(alloc: Global, matches: &ArgMatches<'_>) -> Result<Plan, Usage>
             return Err(Usage::TwoInputs);
         }
     }
-    if let Some(found) = matches.subcommand_matches("canon") {
-        return canon(alloc, found);
-    }
-    Err(refusal(alloc, ErrorKind::MissingSubcommand, "a command is missing"))
+    from_command(alloc, matches)
 }
 
 /// What the words ask for. They begin with the program's own name.
 pub fn plan<'a>(alloc: Global, words: &'a [&'a str]) -> Result<Plan, Usage>
     ensures ok { IfOk result (IsPlanOf (subcommand_of program (map (λ word. word.now) words.entry.now))) }
+    ensures files { IfOk result (λ p. IsSome p.second ↔ HasSecond p.job) }
     ensures once { OnOk result (¬ NamesInputTwice (subcommand_of program (map (λ word. word.now) words.entry.now))) }
     ensures refused { IfErr result (Explains (fault_of program (map (λ word. word.now) words.entry.now)) (subcommand_of program (map (λ word. word.now) words.entry.now))) }
 {

@@ -1,10 +1,11 @@
-use Rattle.std.proofs.Common.{Some, codes, inl}
+use Rattle.std.proofs.Common.{Some, codes}
 use Rattle.std.proofs.lemmas.Result.{err_from_is_err_and}
 use Rattle.clap.specs.Words.{found_of, rows_of}
+use Rattle.life_cli.proofs.MatchesLemmas.{no_file}
 use Rattle.life_cli.proofs.plans.planning.canon.Goals as goal
 
 pub returns-in_err-first-clause-err : goal.returns-in_err-first-clause-err
 returns-in_err-first-clause-err c =
     let p = err_from_is_err_and c.from_residual.result c.from_residual.ensures.1 in
-    let answer = c.in_err-first.ensures.err (Some (codes "canon", rows_of (found_of c.args.found.now))) (λ none. inl none) in
+    let answer = c.in_err-first.ensures.err (Some (codes "canon", rows_of (found_of c.args.found.now))) (λ none. no_file (codes "canon") (rows_of (found_of c.args.found.now)) none (λ e. absurd cc)) c.requires in
     rw (p.1, p.2) answer

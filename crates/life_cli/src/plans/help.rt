@@ -1,0 +1,166 @@
+//! The texts of `--help`.
+
+/// What a command says of itself: in a line, at length, and behind its arguments.
+#[derive(Clone, Copy)]
+pub struct Help {
+    pub summary: &'static str,
+    pub about: &'static str,
+    pub notes: &'static str,
+}
+
+pub const PROGRAM: Help = Help {
+    summary: "Gives each cellular-automaton pattern one canonical text, and compares and converts pattern files",
+    about: "Gives each pattern of a cellular automaton one canonical text, and compares, shows
+and converts pattern files.
+
+A pattern is a rule, a generation and a state for every cell of the plane. A file
+is extended RLE (.rle) or a macrocell file (.mc), as Golly reads and writes them:
+one whose line 1 begins with [M2] is read as macrocell, every other one as RLE.
+Two files have one canonical text exactly if they are the same pattern, whatever
+their formats and spellings.",
+    notes: "Examples:
+  golly_canon canon glider.rle > glider.mc
+  golly_canon same glider.rle glider.mc
+  golly_canon show glider.mc
+  golly_canon convert glider.mc --to rle
+  golly_canon COMMAND --help
+
+Exit status:
+  0  done; `same` found no difference
+  1  `same` found a difference
+  2  a file was refused
+  3  a file can't be opened or read, or the output can't be written
+  4  there isn't enough memory, or room in the store of squares
+  5  the command line isn't understood
+
+With the statuses 2 to 4 one line on standard error says why: `line N: NAME`,
+where N is a line of the file, counted from 1, or `NAME` alone. A file that is
+refused writes nothing to standard output. With status 5 a text on standard error
+says what is wrong, or the line `TwoInputs`: two files are -.
+
+  NoHeader         line 1 begins a file of neither format, or there is no header
+  BadRule          the rule is empty, too long or has a byte that no rule has
+  BoundedGrid      the rule has a `:`, a bounded grid
+  UnsupportedRule  the rule is of a kind that isn't supported
+  BirthOnZero      the rule lets cells be born from nothing
+  BadNumber        a position or the generation is no number
+  TooLarge         the generation is 2^64 or more, or a count is above 2^60
+  LateHeader       a line #CXRLE behind the header, or #R or #G behind a square
+  StateRange       a state is too large for the rule
+  LineTooLong      a line has more than 2^20 bytes
+ of RLE alone:
+  BadHeader        the header isn't `x = .., y = .., rule = ..`
+  SecondHeader     a second header follows
+  BadItem          something that is no count, state, `$` or `!`
+  ZeroCount        a count is 0
+  OutOfPlane       a cell is outside -2^59 to 2^59 - 1
+ of macrocell files alone:
+  Timeline         the file holds several patterns, with lines #FRAME
+  BadNode          a line is neither a leaf nor five numbers
+  BadLeaf          a leaf has another byte than . * $, or more than 8 x 8 cells
+  BadLevel         a square's level isn't from 1 to 60
+  BadChild         a quarter is no earlier square of the level below
+ without a line:
+  TooManyCells     more than 2^20 cells aren't 0: too many for `convert --to rle`
+  InputTooLong     a file has more than 2^30 bytes
+  ReadFault        a file can't be opened or read
+  WriteFault       the output can't be written
+  Full             a pattern has more than 2^31 different squares
+  Memory           there isn't enough memory",
+};
+
+pub const CANON: Help = Help {
+    summary: "Writes the one canonical text of a pattern file",
+    about: "Writes the one canonical text of a pattern file.
+
+It is a macrocell file: the line `[M2] (canonical 1)`, the rule in its canonical
+spelling, the generation if it isn't 0, and each different square that isn't
+blank once, each behind its quarters. The last one is the least square about the
+middle of the plane that holds the pattern. Every cell keeps its state.",
+    notes: "Examples:
+  golly_canon canon glider.rle
+  golly_canon canon - < glider.mc > canonical.mc
+  golly_canon canon glider.rle | sha256sum
+  golly_canon canon -- -odd-name.mc
+
+Exit status:
+  0  the text was written
+  2  the file was refused
+  3  the file can't be opened or read, or the output can't be written
+  4  there isn't enough memory, or room in the store of squares
+  5  the command line isn't understood
+
+See `golly_canon --help` for the lines on standard error.",
+};
+
+pub const CONVERT: Help = Help {
+    summary: "Writes a pattern file in another format",
+    about: "Writes a pattern file in another format: the same pattern, with every cell's state.
+
+rle  extended RLE: where the pattern lies, its rule, its generation if it isn't 0,
+     and its cells, row by row. A pattern with more than 2^20 cells that aren't 0
+     is refused (TooManyCells).
+mc   macrocell: the canonical text, as `golly_canon canon` writes it.",
+    notes: "Examples:
+  golly_canon convert glider.mc --to rle
+  golly_canon convert - --to mc < glider.rle > glider.mc
+
+Exit status:
+  0  the text was written
+  2  the file was refused, or has too many cells for RLE
+  3  the file can't be opened or read, or the output can't be written
+  4  there isn't enough memory, or room in the store of squares
+  5  the command line isn't understood
+
+See `golly_canon --help` for the lines on standard error.",
+};
+
+pub const SAME: Help = Help {
+    summary: "Tells whether two files are the same pattern",
+    about: "Tells whether two files are the same pattern: one rule, one generation, and one
+state of every cell of the plane. It writes the line `same` or the line `different`.
+
+The files may be of different formats. Where a cell lies counts: a pattern that is
+moved or turned is another one. So is one under another name of its rule (`Life`
+and `B3/S23`), but two spellings of its digits (`23/3` and `b3s23`) are one rule.",
+    notes: "Examples:
+  golly_canon same glider.rle glider.mc
+  golly_canon same - glider.mc < glider.rle
+  golly_canon same a.rle b.rle > /dev/null && echo 'nothing has changed'
+
+Exit status:
+  0  the files are the same pattern
+  1  they are different patterns
+  2  a file was refused
+  3  a file can't be opened or read, or the output can't be written
+  4  there isn't enough memory, or room in the store of squares
+  5  the command line isn't understood, or both files are -
+
+A fault on standard error doesn't say which file it is of: A's comes first.
+See `golly_canon --help` for the lines on standard error.",
+};
+
+pub const SHOW: Help = Help {
+    summary: "Writes what a pattern file holds, in five lines",
+    about: "Writes what a pattern file holds, in five lines:
+
+rule R                      the rule in its canonical spelling
+generation G                the generation
+population P                how many cells aren't 0
+box LEFT TOP WIDTH HEIGHT   the least box of these cells, or `box none`; y grows
+                            downwards
+nodes N                     how many squares the canonical text has, a line each",
+    notes: "Examples:
+  golly_canon show glider.rle
+  golly_canon show - < glider.mc
+  golly_canon show glider.rle | grep population
+
+Exit status:
+  0  the lines were written
+  2  the file was refused
+  3  the file can't be opened or read, or the output can't be written
+  4  there isn't enough memory, or room in the store of squares
+  5  the command line isn't understood
+
+See `golly_canon --help` for the lines on standard error.",
+};
