@@ -1,10 +1,14 @@
 //! The program `golly_canon`: its words, its files, and what it leaves to `life_cli`.
 #![tactic(auto)]
 
+ghost use Rattle.std.specs.Prelude.{◌≡◌, ◌↔◌, IsSome, IfOk, IfSome, false};
+ghost use Rattle.life_base.specs.DeviceState.{has_failed};
+ghost use Rattle.life_cli.specs.Plans.{HasSecond};
+
 mod opening;
 
 use life_base::{Device, Fault, Kind};
-use life_cli::plans::{Job, Plan, Usage};
+use life_cli::plans::{Plan, Usage};
 use life_cli::{plan, status, tell, work};
 use opening::{Input, open};
 use std::alloc::{AllocError, Global};
@@ -51,25 +55,37 @@ fn report_usage(rt: &HostRuntime, usage: &Usage) -> u8 {
     }
 }
 
-/// Opens the plan's files and does its job.
-fn carry_out(rt: &HostRuntime, plan: &Plan) -> u8 {
+/// Opens the second file of a plan that has one.
+fn open_second(rt: &HostRuntime, plan: &Plan) -> io::Result<Option<Device<Input>>>
+    ensures { IfOk result (λ second. (IsSome second ↔ IsSome plan.now.second) × IfSome second (λ device. has_failed device ≡ false)) }
+{
+    match &plan.second {
+        Some(name) => Ok(Some(Device::new(open(rt, name.as_str())?))),
+        None => Ok(None),
+    }
+}
+
+/// Opens the plan's files, the first one first, and does its job.
+fn carry_out(rt: &HostRuntime, plan: &Plan) -> u8
+    requires { IsSome plan.now.second ↔ HasSecond plan.now.job }
+{
     let Ok(file) = open(rt, plan.first.as_str()) else {
         return report_fault(rt, Kind::ReadFault);
     };
     let mut first = Device::new(file);
-    let mut second = None::<Device<Input>>;
+    let Ok(mut second) = open_second(rt, plan) else {
+        return report_fault(rt, Kind::ReadFault);
+    };
     let mut out = Device::new(rt.stdout());
     let mut err = Device::new(rt.stderr());
-    match plan.job {
-        Job::Canon => work(
-            rt.alloc(),
-            &plan.job,
-            &mut first,
-            &mut second,
-            &mut out,
-            &mut err,
-        ),
-    }
+    work(
+        rt.alloc(),
+        &plan.job,
+        &mut first,
+        &mut second,
+        &mut out,
+        &mut err,
+    )
 }
 
 fn run(rt: &HostRuntime, words: &[String]) -> u8 {

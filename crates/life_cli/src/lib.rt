@@ -3,8 +3,6 @@
 
 pub mod plans;
 mod telling;
-#[cfg(test)]
-mod tests;
 mod working;
 
 pub use plans::planning::plan;

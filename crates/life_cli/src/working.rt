@@ -1,20 +1,210 @@
 //! The work of a job.
 
-ghost use Rattle.std.specs.Prelude.{◌≡◌, ◌<◌, ◌↔◌, ◌^◌, IsSome, IfSome, true, false};
-ghost use Rattle.life_base.specs.DeviceRuns.{source_run, optional_source_run, sink_run};
+ghost use Rattle.std.specs.Prelude.{◌≡◌, ◌≢◌, ◌⊎◌, ◌<◌, ◌↔◌, ◌^◌, ℕ, IsSome, IfSome, IfOk, IfErr, OnOk, true, false, if◌then◌else◌, codes};
+ghost use Rattle.std.specs.Io.KnownBytes.{Appends};
+ghost use Rattle.life_base.specs.DeviceRuns.{SourceRun, source_run, optional_source_run, sink_run};
+ghost use Rattle.life_base.specs.Inputs.{ReadAll};
+ghost use Rattle.life_base.specs.Refusal.{fault_of};
 ghost use Rattle.life_base.specs.declared.fault.Fault.{Fault};
+ghost use Rattle.life_canon.specs.Files.{Refuses};
+ghost use Rattle.life_canon.specs.Texts.{IsRleOf, IsShown};
 ghost use Rattle.life_cli.specs.Faults.{fault_line, status_of, Tells};
-ghost use Rattle.life_cli.specs.Jobs.{HasSecond, Worked, JobRefuses};
+ghost use Rattle.life_cli.specs.Jobs.{Worked, JobRefuses, InputRefuses, Breaks, HasText, HasNoText, AreCompared, AreUncompared, CanonRefuses, RefusesRle};
+ghost use Rattle.life_cli.specs.Plans.{HasSecond};
 
-use crate::plans::Job;
+use crate::plans::{Job, Target};
 use crate::telling::{status, tell};
-use life_base::{Sink, Source};
-use life_canon::run_canon;
+use life_base::{Fault, Kind, MAX_LEVEL, Sink, Source, deliver, read_within};
+use life_canon::{run_canon, same, show, to_rle};
 use life_quad::Shared;
 use std::alloc::Global;
 
 /// How many different squares a store of the program holds at most.
 const MOST_SQUARES: u64 = 1 << 31;
+
+/// The most bytes of an input.
+const LONGEST_INPUT: u64 = 1 << 30;
+
+/// Reads an input to its end.
+fn read_whole<R: Source>(alloc: Global, reader: &mut R) -> Result<Vec<u8>, Fault>
+    requires { R.failures reader.old ≡ 0 }
+    ensures ok { IfOk result (λ bytes. ReadAll (2 ^ 30) (R.remaining reader.old) (R.remaining reader.new) bytes.items) }
+    ensures err { IfErr result (λ fault. InputRefuses (source_run R.remaining R.failures reader.old reader.new) fault ⊎ (fault ≡ fault_of Kind.Memory)) }
+{
+    match read_within(alloc, reader, LONGEST_INPUT) {
+        Ok(bytes) => Ok(bytes),
+        Err(kind) => Err(Fault::of(kind)),
+    }
+}
+
+/// Writes the whole text and flushes.
+fn write_whole<W: Sink>(writer: &mut W, text: &[u8]) -> Result<(), Fault>
+    requires { W.failures writer.old ≡ 0 }
+    ensures ok { OnOk result (Appends (W.contents writer.old) (W.contents writer.new) text.now) }
+    ensures flushed { OnOk result (W.flushed writer.new ≡ true) }
+    ensures err { IfErr result (Breaks (sink_run W.contents W.failures W.stalled writer.old writer.new) text.now) }
+{
+    match deliver(writer, text) {
+        Ok(()) => Ok(()),
+        Err(kind) => Err(Fault::of(kind)),
+    }
+}
+
+/// The text of a source's pattern in extended RLE.
+fn rle_of<A: Source>(alloc: Global, first: &mut A) -> Result<Vec<u8>, Fault>
+    requires { A.failures first.old ≡ 0 }
+    ensures ok { IfOk result (λ text. HasText (IsRleOf MAX_LEVEL (2 ^ 20)) (source_run A.remaining A.failures first.old first.new) text.items) }
+    ensures err { IfErr result (HasNoText RefusesRle (source_run A.remaining A.failures first.old first.new)) }
+{
+    let bytes = read_whole(alloc, first)?;
+    let mut store = Shared::new(alloc, MOST_SQUARES);
+    to_rle(alloc, &mut store, bytes.as_slice())
+}
+
+/// The five lines of a source's pattern.
+fn lines_of<A: Source>(alloc: Global, first: &mut A) -> Result<Vec<u8>, Fault>
+    requires { A.failures first.old ≡ 0 }
+    ensures ok { IfOk result (λ text. HasText (IsShown MAX_LEVEL) (source_run A.remaining A.failures first.old first.new) text.items) }
+    ensures err { IfErr result (HasNoText (Refuses MAX_LEVEL) (source_run A.remaining A.failures first.old first.new)) }
+{
+    let bytes = read_whole(alloc, first)?;
+    let mut store = Shared::new(alloc, MOST_SQUARES);
+    show(alloc, &mut store, bytes.as_slice())
+}
+
+/// The status of two sources that are compared: 0 where they are the same pattern, else 1.
+fn compared<A: Source, B: Source>(alloc: Global, first: &mut A, second: &mut B) -> Result<bool, Fault>
+    requires first { A.failures first.old ≡ 0 }
+    requires second { B.failures second.old ≡ 0 }
+    ensures ok { IfOk result (λ is_same. AreCompared (source_run A.remaining A.failures first.old first.new)
+        (source_run B.remaining B.failures second.old second.new) (if is_same then 0 else 1) (if is_same then codes "same\n" else codes "different\n")) }
+    ensures err { IfErr result (AreUncompared (source_run A.remaining A.failures first.old first.new) (source_run B.remaining B.failures second.old second.new)) }
+{
+    let a = read_whole(alloc, first)?;
+    let b = read_whole(alloc, second)?;
+    let mut store = Shared::new(alloc, MOST_SQUARES);
+    same(alloc, &mut store, a.as_slice(), b.as_slice())
+}
+
+/// Writes the canonical text of the first file.
+fn run_canonical<A: Source, O: Sink>(alloc: Global, first: &mut A, out: &mut O) -> Result<u8, Fault>
+    requires reads { A.failures first.old ≡ 0 }
+    requires writes { O.failures out.old ≡ 0 }
+    requires takes { O.stalled out.old ≡ false }
+    ensures done { IfOk result (λ status. status ≡ 0) }
+    ensures canon { OnOk result ((second : SourceRun) → Worked Job.Canon 0 (source_run A.remaining A.failures first.old first.new) second
+        (sink_run O.contents O.failures O.stalled out.old out.new)) }
+    ensures convert { OnOk result ((second : SourceRun) → Worked (Job.Convert Target.Mc) 0 (source_run A.remaining A.failures first.old first.new) second
+        (sink_run O.contents O.failures O.stalled out.old out.new)) }
+    ensures flushed { OnOk result (O.flushed out.new ≡ true) }
+    ensures refused { IfErr result (CanonRefuses (source_run A.remaining A.failures first.old first.new) (sink_run O.contents O.failures O.stalled out.old out.new)) }
+    ensures unwritten { IfErr result (λ fault. fault.kind ≢ Kind.WriteFault → out.new ≡ out.old) }
+{
+    let mut store = Shared::new(alloc, MOST_SQUARES);
+    match run_canon(alloc, &mut store, first, out) {
+        Ok(()) => Ok(0),
+        Err(fault) => Err(fault),
+    }
+}
+
+/// Writes the first file in extended RLE.
+fn run_rle<A: Source, O: Sink>(alloc: Global, first: &mut A, out: &mut O) -> Result<u8, Fault>
+    requires reads { A.failures first.old ≡ 0 }
+    requires writes { O.failures out.old ≡ 0 }
+    ensures done { IfOk result (λ status. status ≡ 0) }
+    ensures worked { OnOk result ((second : SourceRun) → Worked (Job.Convert Target.Rle) 0 (source_run A.remaining A.failures first.old first.new) second
+        (sink_run O.contents O.failures O.stalled out.old out.new)) }
+    ensures flushed { OnOk result (O.flushed out.new ≡ true) }
+    ensures refused { IfErr result (λ fault. (second : SourceRun) → JobRefuses (Job.Convert Target.Rle) (source_run A.remaining A.failures first.old first.new) second
+        (sink_run O.contents O.failures O.stalled out.old out.new) fault) }
+    ensures unwritten { IfErr result (λ fault. fault.kind ≢ Kind.WriteFault → out.new ≡ out.old) }
+{
+    let text = rle_of(alloc, first)?;
+    match write_whole(out, text.as_slice()) {
+        Ok(()) => Ok(0),
+        Err(fault) => Err(fault),
+    }
+}
+
+/// Writes the five lines of the first file.
+fn run_show<A: Source, O: Sink>(alloc: Global, first: &mut A, out: &mut O) -> Result<u8, Fault>
+    requires reads { A.failures first.old ≡ 0 }
+    requires writes { O.failures out.old ≡ 0 }
+    ensures done { IfOk result (λ status. status ≡ 0) }
+    ensures worked { OnOk result ((second : SourceRun) → Worked Job.Show 0 (source_run A.remaining A.failures first.old first.new) second
+        (sink_run O.contents O.failures O.stalled out.old out.new)) }
+    ensures flushed { OnOk result (O.flushed out.new ≡ true) }
+    ensures refused { IfErr result (λ fault. (second : SourceRun) → JobRefuses Job.Show (source_run A.remaining A.failures first.old first.new) second
+        (sink_run O.contents O.failures O.stalled out.old out.new) fault) }
+    ensures unwritten { IfErr result (λ fault. fault.kind ≢ Kind.WriteFault → out.new ≡ out.old) }
+{
+    let text = lines_of(alloc, first)?;
+    match write_whole(out, text.as_slice()) {
+        Ok(()) => Ok(0),
+        Err(fault) => Err(fault),
+    }
+}
+
+/// Writes whether the two files are the same pattern.
+fn run_same<A: Source, B: Source, O: Sink>(
+    alloc: Global,
+    first: &mut A,
+    second: &mut B,
+    out: &mut O,
+) -> Result<u8, Fault>
+    requires first_reads { A.failures first.old ≡ 0 }
+    requires second_reads { B.failures second.old ≡ 0 }
+    requires writes { O.failures out.old ≡ 0 }
+    ensures done { IfOk result (λ status. status < 2) }
+    ensures worked { IfOk result (λ status. Worked Job.Same status (source_run A.remaining A.failures first.old first.new)
+        (source_run B.remaining B.failures second.old second.new) (sink_run O.contents O.failures O.stalled out.old out.new)) }
+    ensures flushed { OnOk result (O.flushed out.new ≡ true) }
+    ensures refused { IfErr result (JobRefuses Job.Same (source_run A.remaining A.failures first.old first.new)
+        (source_run B.remaining B.failures second.old second.new) (sink_run O.contents O.failures O.stalled out.old out.new)) }
+    ensures unwritten { IfErr result (λ fault. fault.kind ≢ Kind.WriteFault → out.new ≡ out.old) }
+{
+    let is_same = compared(alloc, first, second)?;
+    let line = if is_same {
+        b"same\n".as_slice()
+    } else {
+        b"different\n".as_slice()
+    };
+    match write_whole(out, line) {
+        Ok(()) => Ok(if is_same { 0 } else { 1 }),
+        Err(fault) => Err(fault),
+    }
+}
+
+/// Does the job, and answers the status of one that is done.
+fn run<A: Source, B: Source, O: Sink>(
+    alloc: Global,
+    job: &Job,
+    first: &mut A,
+    second: &mut Option<B>,
+    out: &mut O,
+) -> Result<u8, Fault>
+    requires first_reads { A.failures first.old ≡ 0 }
+    requires second_reads { IfSome second.old (λ b. B.failures b ≡ 0) }
+    requires second_given { IsSome second.old ↔ HasSecond job.now }
+    requires writes { O.failures out.old ≡ 0 }
+    requires takes { O.stalled out.old ≡ false }
+    ensures done { IfOk result (λ status. status < 2) }
+    ensures worked { IfOk result (λ status. Worked job.now status (source_run A.remaining A.failures first.old first.new)
+        (optional_source_run B.remaining B.failures second.old second.new) (sink_run O.contents O.failures O.stalled out.old out.new)) }
+    ensures flushed { OnOk result (O.flushed out.new ≡ true) }
+    ensures refused { IfErr result (JobRefuses job.now (source_run A.remaining A.failures first.old first.new)
+        (optional_source_run B.remaining B.failures second.old second.new) (sink_run O.contents O.failures O.stalled out.old out.new)) }
+    ensures unwritten { IfErr result (λ fault. fault.kind ≢ Kind.WriteFault → out.new ≡ out.old) }
+{
+    match (job, second) {
+        (Job::Canon, _) => run_canonical(alloc, first, out),
+        (Job::Convert(Target::Rle), _) => run_rle(alloc, first, out),
+        (Job::Convert(Target::Mc), _) => run_canonical(alloc, first, out),
+        (Job::Same, Some(second)) => run_same(alloc, first, second, out),
+        (Job::Same, None) => unreachable!(),
+        (Job::Show, _) => run_show(alloc, first, out),
+    }
+}
 
 /// Does the job, and answers the status that the program ends with. `second` is the second file of a job that has one.
 pub fn work<A: Source, B: Source, O: Sink, E: Sink>(
@@ -39,16 +229,11 @@ pub fn work<A: Source, B: Source, O: Sink, E: Sink>(
     ensures refused { 1 < result → (fault : Fault) × (result ≡ status_of fault.kind)
         × JobRefuses job.now (source_run A.remaining A.failures first.old first.new)
         (optional_source_run B.remaining B.failures second.old second.new) (sink_run O.contents O.failures O.stalled out.old out.new) fault
+        × (fault.kind ≢ Kind.WriteFault → out.new ≡ out.old)
         × Tells (sink_run E.contents E.failures E.stalled err.old err.new) (fault_line fault) }
 {
-    let done = match (job, second) {
-        (Job::Canon, _) => {
-            let mut store = Shared::new(alloc, MOST_SQUARES);
-            run_canon(alloc, &mut store, first, out)
-        }
-    };
-    match done {
-        Ok(()) => 0,
+    match run(alloc, job, first, second, out) {
+        Ok(status) => status,
         Err(fault) => {
             tell(err, &fault);
             status(fault.kind)

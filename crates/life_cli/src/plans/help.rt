@@ -36,7 +36,7 @@ Exit status:
 With the statuses 2 to 4 one line on standard error says why: `line N: NAME`,
 where N is a line of the file, counted from 1, or `NAME` alone. A file that is
 refused writes nothing to standard output. With status 5 a text on standard error
-says what is wrong, or the line `TwoInputs`: two files are -.
+says what is wrong, or the line `TwoInputs`: both files are -.
 
   NoHeader         line 1 begins a file of neither format, or there is no header
   BadRule          the rule is empty, too long or has a byte that no rule has

@@ -1,6 +1,6 @@
 use Rattle.std.proofs.Common.{◌≡◌, ℕ, ◌<◌, List, [], ◌∷◌, ◌++◌, length, take, slice_set, arith, refl, sym, ap, ◌∙◌}
 use Rattle.std.proofs.lemmas.Grind.{common_steps}
-use Rattle.life_cli.proofs.tests.DrippingSource.read.Goals as goal
+use Rattle.cli_tests.proofs.tests.devices.DrippingSource.read.Goals as goal
 
 -- a list whose first element was written begins with it
 first_set : (xs : List ℕ) (b : ℕ) → 0 < length xs → take 1 (slice_set xs 0 b) ≡ b ∷ []

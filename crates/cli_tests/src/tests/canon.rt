@@ -1,0 +1,121 @@
+//! The job `canon` over devices that fail.
+
+ghost use Rattle.std.specs.Prelude.{◌≡◌, false};
+
+use super::devices::{Clogged, Dripping, Limited, sink_with};
+use super::{GLIDER, GLIDER_TEXT, TWINS, TWINS_IN_RLE, TWINS_TEXT};
+use life_base::{Device, Sink, Source};
+use life_cli::plans::Job;
+use life_cli::work;
+use std::alloc::Global;
+
+/// The status of `canon`, and what standard error took, where it has room for `room` bytes.
+fn canon<R: Source, W: Sink>(
+    alloc: Global,
+    reader: &mut R,
+    writer: &mut W,
+    room: usize,
+) -> (u8, Vec<u8>)
+    requires reads { R.failures reader.old ≡ 0 }
+    requires writes { W.failures writer.old ≡ 0 }
+    requires takes { W.stalled writer.old ≡ false }
+{
+    let mut err = sink_with(alloc, room, 3);
+    let mut second = None::<Device<&[u8]>>;
+    let status = work(alloc, &Job::Canon, reader, &mut second, writer, &mut err);
+    (status, err.taken)
+}
+
+#[test]
+fn writes_the_canonical_text(rt: HostRuntime) {
+    let rows: [(&[u8], &[u8]); 5] = [
+        (GLIDER, GLIDER_TEXT),
+        (TWINS, TWINS_TEXT),
+        (TWINS_IN_RLE, TWINS_TEXT),
+        (b"[M2]\n#G 7", b"[M2] (canonical 1)\n#R B3/S23\n#G 7\n"),
+        (b"[M2]\r\n#G 0\r\n", b"[M2] (canonical 1)\n#R B3/S23\n"),
+    ];
+    for (input, text) in rows {
+        let mut reader = Device::new(input);
+        let mut writer = sink_with(rt.alloc(), 999, 7);
+        let (status, told) = canon(rt.alloc(), &mut reader, &mut writer, 99);
+        assert_eq!(rt; status, 0);
+        assert!(rt; told.is_empty());
+        assert!(rt; writer.taken.as_slice() == text);
+        assert!(rt; !reader.failed() && !writer.failed());
+    }
+}
+
+#[test]
+fn tells_what_is_wrong(rt: HostRuntime) {
+    let rows: [(&[u8], &[u8]); 5] = [
+        (b"o!\n", b"line 1: NoHeader\n"),
+        (b"x = 1, y = 1\nB!\n", b"line 2: StateRange\n"),
+        (b"", b"line 1: NoHeader\n"),
+        (
+            b"[M2]\n#R B3/S23\n....*$$$$$$$$\n4 0 0 0 9\n",
+            b"line 4: BadChild\n",
+        ),
+        (b"[M2]\n#FRAMES 10 0 1\n#R B3/S23\n", b"line 2: Timeline\n"),
+    ];
+    for (input, line) in rows {
+        let mut reader = Device::new(input);
+        let mut writer = sink_with(rt.alloc(), 999, 999);
+        let (status, told) = canon(rt.alloc(), &mut reader, &mut writer, 99);
+        assert_eq!(rt; status, 2);
+        assert!(rt; told.as_slice() == line);
+        assert!(rt; writer.taken.is_empty());
+    }
+}
+
+/// A failed read comes before what is wrong with the bytes that were read.
+#[test]
+fn failing_source(rt: HostRuntime) {
+    for input in [GLIDER, b"o!\n".as_slice()] {
+        let mut reader = Dripping {
+            left: input,
+            good: 3,
+            failed: false,
+        };
+        let mut writer = sink_with(rt.alloc(), 999, 999);
+        let (status, told) = canon(rt.alloc(), &mut reader, &mut writer, 99);
+        assert_eq!(rt; status, 3);
+        assert!(rt; told.as_slice() == b"ReadFault\n".as_slice());
+        assert!(rt; writer.taken.is_empty() && reader.failed());
+    }
+}
+
+/// What a sink took before it failed, or took no more, is a prefix of the text.
+#[test]
+fn failing_sink(rt: HostRuntime) {
+    let rows: [(usize, usize, &[u8]); 3] = [(5, 2, b"[M2] "), (0, 9, b""), (999, 0, b"")];
+    for (room, piece, taken) in rows {
+        let mut reader = Device::new(GLIDER);
+        let mut writer = sink_with(rt.alloc(), room, piece);
+        let (status, told) = canon(rt.alloc(), &mut reader, &mut writer, 99);
+        assert_eq!(rt; status, 3);
+        assert!(rt; told.as_slice() == b"WriteFault\n".as_slice());
+        assert!(rt; writer.taken.as_slice() == taken);
+    }
+}
+
+#[test]
+fn failing_flush(rt: HostRuntime) {
+    let mut taken = Vec::new(rt.alloc());
+    let mut reader = Device::new(GLIDER);
+    let mut writer = Device::new(Clogged { taken: &mut taken });
+    let (status, told) = canon(rt.alloc(), &mut reader, &mut writer, 99);
+    assert_eq!(rt; status, 3);
+    assert!(rt; told.as_slice() == b"WriteFault\n".as_slice());
+    assert!(rt; taken.as_slice() == GLIDER_TEXT);
+}
+
+/// Where the fault line can't be written, the status stays.
+#[test]
+fn failing_error_output(rt: HostRuntime) {
+    let mut reader = Device::new(b"o!\n".as_slice());
+    let mut writer = sink_with(rt.alloc(), 999, 999);
+    let (status, told) = canon(rt.alloc(), &mut reader, &mut writer, 4);
+    assert_eq!(rt; status, 2);
+    assert!(rt; told.as_slice() == b"line".as_slice());
+}

@@ -1,0 +1,123 @@
+//! Devices that fail.
+
+ghost use Rattle.std.specs.Prelude.{◌≡◌, ◌≤◌, Some, true, false};
+ghost use Rattle.std.proofs.Common.{rules};
+ghost use Rattle.life_base.specs.Devices.{count_of};
+
+use life_base::{Kind, Sink, Source};
+use std::alloc::Global;
+use std::io;
+use std::io::Write;
+
+/// A source that gives a byte at a time, and fails after some reads.
+#[derive(Drop)]
+pub struct Dripping<'a> {
+    pub left: &'a [u8],
+    pub good: u64,
+    pub failed: bool,
+}
+
+impl<'a> Source for Dripping<'a> {
+    ghost failures = { λ s. count_of s.failed };
+
+    ghost remaining = { λ s. Some s.left.now };
+
+    ghost at_most_one = { λ s. elim s.failed as (λ f. count_of f ≤ 1) [ true ↦ Prim.search rules | false ↦ Prim.search rules ] };
+
+    fn failed(&self) -> bool {
+        self.failed
+    }
+
+    fn read(&mut self, buf: &mut [u8]) -> Result<usize, Kind> {
+        if self.good == 0 {
+            self.failed = true;
+            return Err(Kind::ReadFault);
+        }
+        self.good -= 1;
+        if buf.is_empty() {
+            return Ok(0);
+        }
+        match self.left.split_first() {
+            Some((byte, rest)) => {
+                buf[0] = *byte;
+                self.left = rest;
+                Ok(1)
+            }
+            None => Ok(0),
+        }
+    }
+}
+
+/// A sink that takes some bytes at a time, none where `piece` is 0, and fails when it is full.
+#[derive(Drop)]
+pub struct Limited {
+    pub taken: Vec<u8>,
+    pub room: usize,
+    pub piece: usize,
+    pub failed: bool,
+    pub stalled: bool,
+}
+
+impl Sink for Limited {
+    ghost failures = { λ s. count_of s.failed };
+
+    ghost contents = { λ s. Some s.taken.items };
+
+    ghost stalled = { λ s. s.stalled };
+
+    ghost flushed = { λ _. true };
+
+    ghost at_most_one = { λ s. elim s.failed as (λ f. count_of f ≤ 1) [ true ↦ Prim.search rules | false ↦ Prim.search rules ] };
+
+    fn failed(&self) -> bool {
+        self.failed
+    }
+
+    fn write(&mut self, buf: &[u8]) -> Result<usize, Kind> {
+        let count = buf.len().min(self.room).min(self.piece);
+        if self.room == 0 || self.taken.extend_from_slice(&buf[..count]).is_err() {
+            self.failed = true;
+            return Err(Kind::WriteFault);
+        }
+        self.room -= count;
+        if count == 0 && !buf.is_empty() {
+            self.stalled = true;
+        }
+        Ok(count)
+    }
+
+    fn flush(&mut self) -> Result<(), Kind> {
+        Ok(())
+    }
+}
+
+/// A sink with room for `room` bytes that takes `piece` bytes at a time.
+pub fn sink_with(alloc: Global, room: usize, piece: usize) -> Limited
+    ensures failed { result.failed ≡ false }
+    ensures stalled { result.stalled ≡ false }
+{
+    Limited {
+        taken: Vec::new(alloc),
+        room,
+        piece,
+        failed: false,
+        stalled: false,
+    }
+}
+
+/// A writer of std that takes all bytes and can't flush.
+#[derive(Drop)]
+pub struct Clogged<'a> {
+    pub taken: &'a mut Vec<u8>,
+}
+
+impl<'a> Write for Clogged<'a> {
+    fn write(&mut self, buf: &[u8]) -> io::Result<usize> {
+        self.taken.extend_from_slice(buf)?;
+        Ok(buf.len())
+    }
+
+    fn flush(&mut self) -> io::Result<()> {
+        Err(io::Error::other("clogged"))
+    }
+}

@@ -1,0 +1,91 @@
+//! What the words of a command line ask for.
+
+use clap::error::ErrorKind;
+use life_cli::plan;
+use life_cli::plans::{Job, Target, Usage};
+use std::alloc::Global;
+use std::test::Fail;
+
+const NAME: &str = "golly_canon";
+
+#[test]
+fn plans_of_one_file(rt: HostRuntime) -> Result<(), Fail> {
+    let rows: [(&[&str], Job); 6] = [
+        (&[NAME, "canon", "-"], Job::Canon),
+        (&[NAME, "show", "-"], Job::Show),
+        (&[NAME, "convert", "-", "--to", "rle"], Job::Convert(Target::Rle)),
+        (&[NAME, "convert", "--to", "rle", "-"], Job::Convert(Target::Rle)),
+        (&[NAME, "convert", "--to=mc", "-"], Job::Convert(Target::Mc)),
+        (&[NAME, "show", "--", "-"], Job::Show),
+    ];
+    for (words, job) in rows {
+        let Ok(found) = plan(rt.alloc(), words) else {
+            return Err("refused")?;
+        };
+        assert!(rt; found.job == job && found.second.is_none());
+        assert_eq!(rt; found.first.as_str(), "-");
+    }
+    Ok(())
+}
+
+#[test]
+fn plans_of_two_files(rt: HostRuntime) -> Result<(), Fail> {
+    for (a, b) in [("a.mc", "-"), ("-", "b.rle"), ("same", "same")] {
+        let Ok(found) = plan(rt.alloc(), &[NAME, "same", a, b]) else {
+            return Err("refused")?;
+        };
+        assert!(rt; found.job == Job::Same);
+        assert_eq!(rt; found.first.as_str(), a);
+        let Some(second) = &found.second else {
+            return Err("no second file")?;
+        };
+        assert_eq!(rt; second.as_str(), b);
+    }
+    Ok(())
+}
+
+/// The kind of `clap`'s refusal of the words.
+fn refusal_of<'a>(alloc: Global, words: &'a [&'a str]) -> Option<ErrorKind> {
+    match plan(alloc, words) {
+        Ok(_plan) => None,
+        Err(usage) => match usage {
+            Usage::Words(error) => Some(error.kind()),
+            Usage::TwoInputs => None,
+            Usage::Memory => None,
+        },
+    }
+}
+
+#[test]
+fn usages(rt: HostRuntime) {
+    let rows: [(&[&str], ErrorKind); 13] = [
+        (&[NAME], ErrorKind::MissingSubcommand),
+        (&[NAME, "canon"], ErrorKind::MissingRequiredArgument),
+        (&[NAME, "canon", "a", "b"], ErrorKind::UnknownArgument),
+        (&[NAME, "cannon", "a"], ErrorKind::InvalidSubcommand),
+        (&[NAME, "same", "a"], ErrorKind::MissingRequiredArgument),
+        (&[NAME, "show"], ErrorKind::MissingRequiredArgument),
+        (&[NAME, "convert", "a"], ErrorKind::MissingRequiredArgument),
+        (&[NAME, "convert", "--to", "rle"], ErrorKind::MissingRequiredArgument),
+        (&[NAME, "convert", "a", "--to"], ErrorKind::InvalidValue),
+        (&[NAME, "convert", "a", "--to", "RLE"], ErrorKind::InvalidValue),
+        (&[NAME, "canon", "a", "--to", "mc"], ErrorKind::UnknownArgument),
+        (&[NAME, "--help"], ErrorKind::DisplayHelp),
+        (&[NAME, "--version"], ErrorKind::DisplayVersion),
+    ];
+    for (words, kind) in rows {
+        assert!(rt; refusal_of(rt.alloc(), words) == Some(kind));
+    }
+}
+
+#[test]
+fn standard_input_once(rt: HostRuntime) -> Result<(), Fail> {
+    let rows: [&[&str]; 2] = [&[NAME, "same", "-", "-"], &[NAME, "same", "--", "-", "-"]];
+    for words in rows {
+        match plan(rt.alloc(), words) {
+            Err(Usage::TwoInputs) => {}
+            _ => return Err("not TwoInputs")?,
+        }
+    }
+    Ok(())
+}
