@@ -384,6 +384,99 @@ compare 3 "ReadFault" 0 1
 [ ! -s out ] || problems="$problems wrote to standard output;"
 verdict "a file that may not be read" "$problems"
 
+# ---- comparing, showing and converting
+
+# A run of other words: its status, its text on standard output, and its line on standard error.
+told() { # NAME STATUS TEXT LINE WORDS..
+    name=$1
+    wanted_status=$2
+    [ -z "$3" ] || printf '%b' "$3" > wanted
+    [ -n "$3" ] || : > wanted
+    line=$4
+    shift 4
+    measured_run "$@" > out < from
+    compare "$wanted_status" "$line" 0 1
+    cmp -s out wanted || problems="$problems wrote '$(head -c 200 out)' to standard output;"
+    verdict "$name" "$problems"
+}
+
+printf '#CXRLE Pos=-4,0\nx = 9, y = 1, rule = 23/3\no7bo!\n' > pair.rle
+printf '[M2]\n....*$\n....*$\n4 0 0 1 2\n' > pair.mc
+printf 'x = 1, y = 1, rule = Life\no!\n' > named.rle
+printf 'x = 1, y = 1\nB!\n' > bad.rle
+printf 'x = 1, y = 1\n1048577o!\n' > many.rle
+: > empty
+cp pair.mc from
+pair_rle='#CXRLE Pos=-4,0\nx = 9, y = 1, rule = B3/S23\no7bo!\n'
+pair_text="${header}"'....*$$$$$$$$\n4 0 0 1 1\n'
+pair_shown='rule B3/S23\ngeneration 0\npopulation 2\nbox -4 0 9 1\nnodes 2\n'
+
+told "two formats of one pattern" 0 'same\n' "" same pair.rle pair.mc
+told "a file with itself" 0 'same\n' "" same pair.rle pair.rle
+told "two patterns" 1 'different\n' "" same pair.rle named.rle
+told "a file with standard input" 0 'same\n' "" same pair.rle -
+told "standard input with a file" 1 'different\n' "" same - named.rle
+told "a refused file first" 2 "" "line 2: StateRange" same bad.rle empty
+told "a refused file second" 2 "" "line 2: StateRange" same pair.mc bad.rle
+told "two refused files" 2 "" "line 1: NoHeader" same empty bad.rle
+told "an absent file first" 3 "" "ReadFault" same absent bad.rle
+told "an absent file second" 3 "" "ReadFault" same bad.rle absent
+told "a folder second" 3 "" "ReadFault" same bad.rle .
+told "the empty name second" 3 "" "ReadFault" same pair.rle ''
+told "standard input twice" 5 "" "TwoInputs" same - -
+told "files behind --" 0 'same\n' "" same -- pair.rle pair.mc
+
+told "a file that is shown" 0 "$pair_shown" "" show pair.rle
+told "standard input that is shown" 0 "$pair_shown" "" show -
+told "a refused file that is shown" 2 "" "line 2: StateRange" show bad.rle
+told "an absent file that is shown" 3 "" "ReadFault" show absent
+told "a folder that is shown" 3 "" "ReadFault" show .
+told "many cells that are shown" 0 'rule B3/S23\ngeneration 0\npopulation 1048577\nbox 0 0 1048577 1\nnodes 38\n' "" show many.rle
+
+told "to RLE" 0 "$pair_rle" "" convert pair.mc --to rle
+told "to RLE, the option first" 0 "$pair_rle" "" convert --to=rle -
+told "to macrocell" 0 "$pair_text" "" convert pair.rle --to mc
+told "to RLE from a refused file" 2 "" "line 1: NoHeader" convert empty --to rle
+told "to macrocell from a refused file" 2 "" "line 1: NoHeader" convert empty --to mc
+told "to RLE with too many cells" 2 "" "TooManyCells" convert many.rle --to rle
+told "to RLE from an absent file" 3 "" "ReadFault" convert absent --to rle
+told "to macrocell from a folder" 3 "" "ReadFault" convert . --to mc
+
+# That the second input is too long is told before what is wrong with the first.
+zeros $((1024 * longest + 1)) 'x' > too_long
+measured_run show too_long > out
+compare 2 "InputTooLong" $((1024 * longest + 1)) 3
+[ ! -s out ] || problems="$problems wrote to standard output;"
+verdict "2^30 + 1 bytes that are shown" "$problems"
+measured_run same empty too_long > out
+compare 2 "InputTooLong" $((1024 * longest + 1)) 3
+[ ! -s out ] || problems="$problems wrote to standard output;"
+verdict "2^30 + 1 bytes behind a refused file" "$problems"
+rm too_long
+
+# Outputs that take nothing, for each job.
+for words in "same pair.rle pair.mc" "same pair.rle named.rle" "show pair.rle" "convert pair.mc --to rle" "convert pair.rle --to mc"; do
+    measured_run $words > /dev/full
+    compare 3 "WriteFault" 0 1
+    verdict "$words to a full output" "$problems"
+
+    "$program" $words >&- 2> err
+    status=$?
+    problems=
+    [ $status = 3 ] || problems=" status $status and not 3;"
+    [ "$(cat err)" = "WriteFault" ] || problems="$problems wrote '$(cat err)';"
+    verdict "$words with standard output closed" "$problems"
+done
+
+measured_run same pair.rle - <&- > out
+compare 3 "ReadFault" 0 1
+[ ! -s out ] || problems="$problems wrote to standard output;"
+verdict "a comparison with a closed standard input" "$problems"
+
+"$program" same empty bad.rle > out 2> /dev/full
+status=$?
+verdict "a refused comparison with a full standard error" "$([ $status = 2 ] && [ ! -s out ] || echo " status $status and not 2;")"
+
 # ---- words
 
 # Words that ask for nothing: status 5, a text on standard error, nothing on standard output.
@@ -403,6 +496,19 @@ misused "no file" canon
 misused "two files" canon input input
 misused "a command that isn't there" cannon input
 misused "an option that isn't there" canon --fast input
+misused "one file to compare" same input
+misused "three files to compare" same input input input
+misused "nothing to show" show
+misused "no format" convert input
+misused "a format that isn't there" convert input --to png
+misused "a format in capitals" convert input --to RLE
+misused "the empty format" convert input --to ''
+misused "an option without its value" convert input --to
+misused "an option twice" convert input --to mc --to mc
+misused "an option of another command" canon input --to mc
+misused "a second file that is no UTF-8 text" same input "$(printf 'a\377b')"
+misused "a format that is no UTF-8 text" convert input --to "$(printf '\377')"
+misused "standard input for both files" same - -
 misused "the empty word" ''
 misused "a word that is no UTF-8 text" canon "$(printf 'a\377b')"
 misused "a word of 100000 bytes" "$(zeros 100000 n)"
@@ -422,6 +528,15 @@ asked "-h" "Usage: golly_canon <COMMAND>" -h
 asked "help canon" "Usage: golly_canon canon <FILE>" help canon
 asked "canon --help" "Usage: golly_canon canon <FILE>" canon --help
 asked "--version" "golly_canon " --version
+asked "same --help" "Usage: golly_canon same <A> <B>" same --help
+asked "show --help" "Usage: golly_canon show <FILE>" show --help
+asked "convert --help" "Usage: golly_canon convert --to <FORMAT> <FILE>" convert --help
+asked "the statuses of same" "  1  they are different patterns" same --help
+asked "an example of show" "  golly_canon show glider.rle" show --help
+asked "help convert" "  mc " help convert
+for command in canon convert same show; do
+    asked "a short help that names $command" "^  $command " -h
+done
 
 echo "$passed passed, $failed failed"
 [ $failed = 0 ]
