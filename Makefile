@@ -6,12 +6,13 @@
 #   make plants    tries the wrong bodies that the gate leaves out, before a release
 #   make times     runs `rt ci`, and says how much processor time it took for each crate, its tests and its edits
 #   make bench     times the program beside plain programs in C
-#   make install   installs the proved program to $(DESTDIR)$(PREFIX)/bin
+#   make install   installs the proved program to $(DESTDIR)$(PREFIX)/bin, and its man page and completions to $(DESTDIR)$(PREFIX)/share
 #   make clean     removes what was built; the proofs' work in crates/*/out stays
 #   make distclean removes that too
 
 PREFIX = /usr/local
 DESTDIR =
+SHARE = $(DESTDIR)$(PREFIX)/share
 RT ?= rt
 EXAMPLE = examples/gosper_glider_gun.mc
 
@@ -40,6 +41,11 @@ bench: golly_canon
 install: golly_canon
 	install -d "$(DESTDIR)$(PREFIX)/bin"
 	install -m 755 golly_canon "$(DESTDIR)$(PREFIX)/bin/golly_canon"
+	install -d "$(SHARE)/man/man1" "$(SHARE)/bash-completion/completions" "$(SHARE)/zsh/site-functions" "$(SHARE)/fish/vendor_completions.d"
+	install -m 644 docs/golly_canon.1 "$(SHARE)/man/man1/golly_canon.1"
+	install -m 644 completions/golly_canon.bash "$(SHARE)/bash-completion/completions/golly_canon"
+	install -m 644 completions/_golly_canon "$(SHARE)/zsh/site-functions/_golly_canon"
+	install -m 644 completions/golly_canon.fish "$(SHARE)/fish/vendor_completions.d/golly_canon.fish"
 
 clean:
 	rm -rf golly_canon out

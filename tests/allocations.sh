@@ -111,6 +111,11 @@ program_run "canon FILE" 0 "$header B3/S23\n$cell" "" canon input
 printf '#CXRLE Pos=-4,0\nx = 9, y = 1, rule = B3/S23\no7bo!\n' > input
 pair='....*$$$$$$$$\n4 0 0 1 1\n'
 program_run "canon of RLE" 0 "$header B3/S23\n$pair" "" canon input
+printf '[M2]\n....*$\n....*$\n4 0 0 1 2\n' > other
+program_run "same A B" 0 'same\n' "" same input other
+program_run "show FILE" 0 'rule B3/S23\ngeneration 0\npopulation 2\nbox -4 0 9 1\nnodes 2\n' "" show input
+program_run "convert FILE --to rle" 0 '#CXRLE Pos=-4,0\nx = 9, y = 1, rule = B3/S23\no7bo!\n' "" convert other --to rle
+program_run "convert FILE --to mc" 0 "$header B3/S23\n$pair" "" convert input --to mc
 
 # Two cells under the name of a rule, from standard input.
 printf '[M2]\n#R WireWorld\n#G 7\n1 1 25 0 0' > input

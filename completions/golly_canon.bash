@@ -1,0 +1,31 @@
+# Completion of golly_canon's words in bash.
+
+_golly_canon() {
+    local commands="canon convert same show help"
+    local formats="rle mc"
+    local word=${COMP_WORDS[COMP_CWORD]} previous=${COMP_WORDS[COMP_CWORD - 1]}
+    COMPREPLY=()
+    if [ "$COMP_CWORD" -eq 1 ]; then
+        COMPREPLY=($(compgen -W "$commands --help --version -h -V" -- "$word"))
+        return
+    fi
+    if [ "${COMP_WORDS[1]}" = help ]; then
+        [ "$COMP_CWORD" -gt 2 ] || COMPREPLY=($(compgen -W "$commands" -- "$word"))
+        return
+    fi
+    if [ "${COMP_WORDS[1]}" = convert ] && [ "$previous" = --to ]; then
+        COMPREPLY=($(compgen -W "$formats" -- "$word"))
+        return
+    fi
+    case $word in
+        -*)
+            case ${COMP_WORDS[1]} in
+                convert) COMPREPLY=($(compgen -W "--to --help -h" -- "$word")) ;;
+                canon | same | show) COMPREPLY=($(compgen -W "--help -h" -- "$word")) ;;
+            esac
+            ;;
+        *) compopt -o filenames 2> /dev/null && COMPREPLY=($(compgen -f -- "$word")) ;;
+    esac
+}
+
+complete -F _golly_canon golly_canon

@@ -1,0 +1,91 @@
+#!/bin/sh
+# The man page and the completions have the words of the program, $1: its commands and options are read from its own help. The completions
+# for bash are run; those for zsh and fish are read, since these shells may not be there.
+
+program=${1:?usage: tests/words.sh PROGRAM}
+[ -x "$program" ] || { echo "there is no program $program"; exit 1; }
+case $program in /*) ;; *) program=$PWD/$program ;; esac
+cd "$(dirname "$0")/.." || exit 1
+page=docs/golly_canon.1
+passed=0
+failed=0
+
+verdict() { # NAME PROBLEMS
+    if [ -z "$2" ]; then
+        passed=$((passed + 1))
+        echo "ok      $1"
+    else
+        failed=$((failed + 1))
+        echo "FAILED  $1:$2"
+    fi
+}
+
+# Two lists of words are the same, in any order.
+same_words() { # NAME WORDS WANTED
+    found=$(printf '%s\n' $2 | sort -u | tr '\n' ' ')
+    wanted=$(printf '%s\n' $3 | sort -u | tr '\n' ' ')
+    problems=
+    [ "$found" = "$wanted" ] || problems=" '$found' and not '$wanted'"
+    [ -n "$(echo $3)" ] || problems="$problems; the help names none"
+    verdict "$1" "$problems"
+}
+
+# What the short help lists below a heading: the commands, or the options in all their spellings.
+commands=$("$program" -h | awk '/^Commands:/ { on = 1; next } /^[^ ]/ || /^$/ { on = 0 } on && /^  [a-z]/ { print $1 }')
+options() { # COMMAND..
+    "$program" "$@" -h | awk '/^Options:/ { on = 1; next } /^[^ ]/ || /^$/ { on = 0 } on' | grep -oE -- '(^| )--?[a-zA-Z]+' | tr -d ' '
+}
+own=$(echo "$commands" | grep -vx help)
+
+# ---- the man page
+
+same_words "the man page has the commands" "$(sed -n '/^\.SH COMMANDS/,/^\.SH OPTIONS/s/^\.B[IR] \([a-z]*\) .*/\1/p' $page)" "$commands"
+same_words "the man page has the options" "$(sed -n '/^\.SH OPTIONS/,/^\.SH "EXIT/p' $page | sed -n 's/^\.B[IR] //p' | tr -d '\\",' | grep -oE -- '--?[a-zA-Z]+')" \
+    "$(options; for command in $own; do options $command; done)"
+same_words "the man page has the statuses" "$(sed -n '/^\.SH "EXIT/,/^\.SH DIAG/s/^\.B \([0-9]\)$/\1/p' $page)" \
+    "$("$program" --help | awk '/^Exit status:/ { on = 1; next } /^$/ { on = 0 } on && /^  [0-9]/ { print $1 }')"
+if command -v groff > /dev/null; then
+    verdict "the man page has no errors" "$(groff -man -Tutf8 -ww -z $page 2>&1 | head -n 5)"
+fi
+
+# ---- bash
+
+# What bash completes the last of these words with.
+completed() { # WORDS..
+    bash -c '
+        . completions/golly_canon.bash
+        COMP_WORDS=("$@")
+        COMP_CWORD=$(($# - 1))
+        _golly_canon
+        printf "%s\n" "${COMPREPLY[@]}"' bash "$@"
+}
+
+if command -v bash > /dev/null; then
+    same_words "bash completes commands" "$(completed golly_canon '' | grep -v '^-')" "$commands"
+    same_words "bash completes options" "$(completed golly_canon -)" "$(options)"
+    for command in $own; do
+        same_words "bash completes options of $command" "$(completed golly_canon "$command" -)" "$(options "$command")"
+    done
+    same_words "bash completes the command of help" "$(completed golly_canon help '')" "$commands"
+    same_words "bash completes formats" "$(completed golly_canon convert --to '')" "rle mc"
+fi
+
+# ---- zsh and fish
+
+same_words "zsh has the commands" "$(sed -n "s/^    '\([a-z]*\):.*/\1/p" completions/_golly_canon)" "$commands"
+same_words "fish has the commands" "$(sed -n 's/.*__fish_use_subcommand -f -a \([a-z]*\) .*/\1/p' completions/golly_canon.fish)" "$commands"
+same_words "fish has the commands of help" "$(sed -n "s/.*__fish_seen_subcommand_from help' -f -a '\(.*\)'/\1/p" completions/golly_canon.fish)" "$commands"
+same_words "zsh has the options" "$(grep -oE -- "[{,']--?[a-zA-Z]+" completions/_golly_canon | cut -c 2-)" "$(options; for command in $own; do options $command; done)"
+same_words "fish has the options" "$(sed -n 's/^complete \(.*\)/\1/p' completions/golly_canon.fish | grep -oE -- '-[sl] [a-zA-Z]+' | sed 's/-s /-/; s/-l /--/')" \
+    "$(options; for command in $own; do options $command; done)"
+for file in completions/_golly_canon completions/golly_canon.fish; do
+    verdict "$file has the formats" "$(grep -q 'rle mc' $file || echo " no 'rle mc'")"
+done
+
+# The formats are those that the program takes.
+for format in rle mc; do
+    verdict "convert writes $format" "$(printf '[M2]\n' | "$program" convert - --to $format > /dev/null 2>&1 || echo " it doesn't")"
+done
+
+echo "$passed passed, $failed failed"
+[ $failed = 0 ]
