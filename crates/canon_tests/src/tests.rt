@@ -2,6 +2,7 @@
 
 mod calls;
 mod canonical;
+mod limits;
 mod pieces;
 mod refusals;
 mod runs;
@@ -42,6 +43,27 @@ const TOWER: &[u8] =
 
 /// A line twice, and a line that the root doesn't reach.
 const REPEATS: &[u8] = b"[M2]\n#R B3/S23\n....*$$$$$$$$\n....*$$$$$$$$\n*$$$$$$$$\n4 0 0 1 2\n";
+
+/// The same cell, with squares of levels 1 and 2 on lines of their own.
+const LEVELS: &[u8] = b"[M2]\n1 1 0 0 0\n2 1 0 0 0\n3 0 2 0 0\n4 0 0 0 3\n";
+
+/// Two leaves, the second of which the root has first.
+const TURNED: &[u8] = b"[M2]\n*$\n.*$\n4 2 1 0 0\n";
+
+const TURNED_TEXT: &[u8] = b"[M2] (canonical 1)\n#R B3/S23\n.*$$$$$$$$\n*$$$$$$$$\n4 1 2 0 0\n";
+
+const ONE: &[u8] = b"x = 1, y = 1\no!\n";
+
+/// One cell, and another a million columns to the east.
+const FAR: &[u8] = b"x = 1, y = 1\no999999bo!\n";
+
+const THREE: &[u8] = b"x = 3, y = 1, rule = B3/S23\n3o!\n";
+
+/// The same three cells.
+const TWO_RUNS: &[u8] = b"x = 3, y = 1, rule = B3/S23\no2o!\n";
+
+/// The same three cells, under a name.
+const THREE_OF_LIFE: &[u8] = b"x = 3, y = 1, rule = Life\n3o!\n";
 
 /// The glider with line ends of two bytes.
 const GLIDER_CRLF: &[u8] = b"x = 3, y = 3, rule = B3/S23\r\nbo$2bo$3o!\r\n";

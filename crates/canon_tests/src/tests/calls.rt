@@ -1,14 +1,15 @@
 //! Files compared, shown and written as RLE.
 
-use super::{BLANK, CELL, GLIDER, PAIR, ROOM, ROW, TOWER, WIRES, fault};
+use super::{
+    BLANK, CELL, FAR, GLIDER, ONE, PAIR, ROOM, ROW, THREE, THREE_OF_LIFE, TOWER, TWO_RUNS, WIRES,
+    fault,
+};
 use life_base::Kind;
 use life_canon::{same, show, to_rle};
 use life_quad::Shared;
 use std::alloc::Global;
 use std::process::Abort;
 use std::test::Fail;
-
-const THREE: &[u8] = b"x = 3, y = 1, rule = B3/S23\n3o!\n";
 
 /// Whether the files are the same, in both orders.
 fn compared(
@@ -27,20 +28,8 @@ fn compared(
 #[test]
 fn files_are_compared(rt: HostRuntime) -> Result<(), Fail> {
     let alloc = rt.alloc();
-    compared(
-        &rt,
-        alloc,
-        THREE,
-        b"x = 3, y = 1, rule = B3/S23\no2o!\n",
-        true,
-    )?;
-    compared(
-        &rt,
-        alloc,
-        THREE,
-        b"x = 3, y = 1, rule = Life\n3o!\n",
-        false,
-    )?;
+    compared(&rt, alloc, THREE, TWO_RUNS, true)?;
+    compared(&rt, alloc, THREE, THREE_OF_LIFE, false)?;
     compared(&rt, alloc, THREE, b"x = 3, y = 1, rule = 23/3\n3o!\n", true)?;
     compared(
         &rt,
@@ -49,13 +38,7 @@ fn files_are_compared(rt: HostRuntime) -> Result<(), Fail> {
         b"#CXRLE Gen=1\nx = 3, y = 1, rule = B3/S23\n3o!\n",
         false,
     )?;
-    compared(
-        &rt,
-        alloc,
-        b"x = 1, y = 1\no!\n",
-        b"x = 1, y = 1\no999999bo!\n",
-        false,
-    )?;
+    compared(&rt, alloc, ONE, FAR, false)?;
     compared(&rt, alloc, TOWER, CELL, true)
 }
 

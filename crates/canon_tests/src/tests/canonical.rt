@@ -2,7 +2,7 @@
 
 use super::{
     BLANK, BLANK_TEXT, CELL, CELL_TEXT, CORNER, GLIDER, GLIDER_CRLF, GLIDER_OPEN, GLIDER_TEXT,
-    PAIR, PAIR_TEXT, REPEATS, ROOM, ROW, TOWER, WIRES, WIRES_TEXT,
+    LEVELS, PAIR, PAIR_TEXT, REPEATS, ROOM, ROW, TOWER, TURNED, TURNED_TEXT, WIRES, WIRES_TEXT,
 };
 use life_canon::canon;
 use life_quad::Shared;
@@ -50,20 +50,10 @@ fn node_lines_have_canonical_texts(rt: HostRuntime) -> Result<(), Fail> {
     let alloc = rt.alloc();
     // a root of level 9 above blank squares, and leaves made of level 1 and 2
     canonical(&rt, alloc, TOWER, CELL_TEXT)?;
-    canonical(
-        &rt,
-        alloc,
-        b"[M2]\n1 1 0 0 0\n2 1 0 0 0\n3 0 2 0 0\n4 0 0 0 3\n",
-        CELL_TEXT,
-    )?;
+    canonical(&rt, alloc, LEVELS, CELL_TEXT)?;
     canonical(&rt, alloc, REPEATS, PAIR_TEXT)?;
     // numbers in the order of the walk
-    canonical(
-        &rt,
-        alloc,
-        b"[M2]\n*$\n.*$\n4 2 1 0 0\n",
-        b"[M2] (canonical 1)\n#R B3/S23\n.*$$$$$$$$\n*$$$$$$$$\n4 1 2 0 0\n",
-    )?;
+    canonical(&rt, alloc, TURNED, TURNED_TEXT)?;
     // a root below the level of a leaf
     canonical(
         &rt,
@@ -83,7 +73,7 @@ fn one_rule_has_one_text(rt: HostRuntime) -> Result<(), Fail> {
 }
 
 /// Lines in front, and then a line for each level from 4 on with the number of the line before it in these words.
-fn chain(
+pub(super) fn chain(
     alloc: Global,
     front: &[u8],
     levels: u64,

@@ -2,8 +2,8 @@
 //! needs no room is tested here.
 
 use super::{
-    BLANK, BLANK_TEXT, CELL, CELL_TEXT, CORNER, GLIDER, GLIDER_TEXT, PAIR, PAIR_TEXT, REPEATS,
-    ROOM, TOWER, WIRES, WIRES_TEXT, fault,
+    BLANK, BLANK_TEXT, CELL, CELL_TEXT, GLIDER, GLIDER_TEXT, PAIR, PAIR_TEXT, REPEATS, ROOM, TOWER,
+    WIRES, WIRES_TEXT, fault,
 };
 use life_base::Kind;
 use life_canon::{canon, same, show, to_rle};
@@ -54,28 +54,4 @@ fn a_full_store_takes_what_it_holds(rt: HostRuntime) -> Result<(), Fail> {
     fits(&rt, alloc, WIRES, WIRES_TEXT)?;
     fits(&rt, alloc, TOWER, CELL_TEXT)?;
     fits(&rt, alloc, REPEATS, PAIR_TEXT)
-}
-
-#[test]
-fn more_room_is_never_worse(rt: HostRuntime) -> Result<(), Fail> {
-    let alloc = rt.alloc();
-    let mut large = Shared::new(alloc, ROOM);
-    let text = canon(alloc, &mut large, CORNER)?;
-    let mut done = false;
-    for limit in 0..256u64 {
-        let mut store = Shared::new(alloc, limit);
-        match canon(alloc, &mut store, CORNER) {
-            Ok(out) => {
-                assert_eq!(rt; out, text);
-                done = true;
-            }
-            Err(found) => {
-                assert_eq!(rt; found, fault(0, Kind::Full));
-                assert_eq!(rt; store.len(), limit);
-                assert!(rt; !done);
-            }
-        }
-    }
-    assert!(rt; done);
-    Ok(())
 }

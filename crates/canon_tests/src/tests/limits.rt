@@ -1,0 +1,146 @@
+//! Each limit of a store in turn: up to some limit a file is refused for want of room, and from there on it has its text.
+
+use super::canonical::chain;
+use super::{
+    BLANK, BLANK_TEXT, CELL, CELL_TEXT, CORNER, FAR, GLIDER, GLIDER_TEXT, LEVELS, ONE, PAIR,
+    PAIR_TEXT, REPEATS, THREE, THREE_OF_LIFE, TOWER, TURNED, TURNED_TEXT, TWO_RUNS, WIRES,
+    WIRES_TEXT, fault,
+};
+use life_base::Kind;
+use life_canon::canon;
+use life_quad::Shared;
+use std::alloc::Global;
+use std::process::Abort;
+use std::test::Fail;
+
+const ONE_TEXT: &[u8] = b"[M2] (canonical 1)\n#R B3/S23\n$$$$....*$$$$\n";
+
+const THREE_TEXT: &[u8] = b"[M2] (canonical 1)\n#R B3/S23\n$$$$....***$$$$\n";
+
+/// The greatest limit that is tried.
+const MOST: u64 = 4096;
+
+/// The first limit that suffices for the file. Below it the file is refused, by a store that is full then; from it on the file has
+/// this text.
+fn first_limit(
+    rt: &impl Abort,
+    alloc: Global,
+    input: &[u8],
+    text: &[u8],
+) -> Result<Option<u64>, Fail> {
+    let mut first = None;
+    for limit in 0..=MOST {
+        let mut store = Shared::new(alloc, limit);
+        match canon(alloc, &mut store, input) {
+            Ok(out) => {
+                assert_eq!(rt; out.as_slice(), text);
+                first = first.or(Some(limit));
+            }
+            Err(found) => {
+                assert_eq!(rt; found, fault(0, Kind::Full));
+                assert_eq!(rt; store.len(), limit);
+                assert_eq!(rt; first, None);
+            }
+        }
+    }
+    Ok(first)
+}
+
+/// Some limit above 0 suffices for the file.
+fn takes_room(rt: &impl Abort, alloc: Global, input: &[u8], text: &[u8]) -> Result<(), Fail> {
+    let first = first_limit(rt, alloc, input, text)?;
+    assert!(rt; first.is_some_and(|limit| limit > 0));
+    Ok(())
+}
+
+#[test]
+fn a_blank_pattern_takes_no_room(rt: HostRuntime) -> Result<(), Fail> {
+    let first = first_limit(&rt, rt.alloc(), BLANK, BLANK_TEXT)?;
+    assert_eq!(rt; first, Some(0));
+    Ok(())
+}
+
+#[test]
+fn four_squares_take_room_for_four(rt: HostRuntime) -> Result<(), Fail> {
+    // one square each of levels 1 to 4
+    let input = b"[M2] (golly 4.2)\n#R B3/S23\n....*$\n4 0 0 1 1\n";
+    let first = first_limit(&rt, rt.alloc(), input, PAIR_TEXT)?;
+    assert_eq!(rt; first, Some(4));
+    Ok(())
+}
+
+#[test]
+fn node_lines_take_room(rt: HostRuntime) -> Result<(), Fail> {
+    let alloc = rt.alloc();
+    takes_room(&rt, alloc, TOWER, CELL_TEXT)?;
+    takes_room(&rt, alloc, LEVELS, CELL_TEXT)?;
+    takes_room(&rt, alloc, REPEATS, PAIR_TEXT)?;
+    takes_room(&rt, alloc, TURNED, TURNED_TEXT)
+}
+
+#[test]
+fn runs_take_room(rt: HostRuntime) -> Result<(), Fail> {
+    let alloc = rt.alloc();
+    takes_room(&rt, alloc, GLIDER, GLIDER_TEXT)?;
+    takes_room(&rt, alloc, CELL, CELL_TEXT)?;
+    takes_room(&rt, alloc, PAIR, PAIR_TEXT)?;
+    takes_room(&rt, alloc, WIRES, WIRES_TEXT)?;
+    takes_room(&rt, alloc, THREE, THREE_TEXT)?;
+    takes_room(&rt, alloc, TWO_RUNS, THREE_TEXT)?;
+    takes_room(&rt, alloc, ONE, ONE_TEXT)
+}
+
+#[test]
+fn states_take_room(rt: HostRuntime) -> Result<(), Fail> {
+    let alloc = rt.alloc();
+    takes_room(
+        &rt,
+        alloc,
+        THREE_OF_LIFE,
+        b"[M2] (canonical 1)\n#R Life\n1 1 1 0 0\n1 1 0 0 0\n2 1 2 0 0\n3 0 0 0 3\n",
+    )?;
+    takes_room(
+        &rt,
+        alloc,
+        b"x = 1, y = 1, rule = Spread\nB!\n",
+        b"[M2] (canonical 1)\n#R Spread\n1 0 0 0 2\n",
+    )
+}
+
+#[test]
+fn the_greatest_generation_takes_room(rt: HostRuntime) -> Result<(), Fail> {
+    takes_room(
+        &rt,
+        rt.alloc(),
+        b"#CXRLE Gen=18446744073709551615\nx = 3, y = 1, rule = B3/S23\n3o!\n",
+        b"[M2] (canonical 1)\n#R B3/S23\n#G 18446744073709551615\n$$$$....***$$$$\n",
+    )
+}
+
+#[test]
+fn far_cells_take_room(rt: HostRuntime) -> Result<(), Fail> {
+    let alloc = rt.alloc();
+    // the first cell's squares are numbers 1 to 17, and from level 7 on the second one's are others: 1000000 is 2^19 + 2^18 + 2^17 +
+    // 2^16 + 2^14 + 2^9 + 2^6
+    let text = chain(
+        alloc,
+        b"[M2] (canonical 1)\n#R B3/S23\n*$$$$$$$$\n",
+        17,
+        false,
+        b"7 0 4 0 0\n8 18 0 0 0\n9 19 0 0 0\n10 0 20 0 0\n11 21 0 0 0\n12 22 0 0 0\n13 23 0 0 0\n14 24 0 0 0\n15 0 25 0 0\n16 26 0 0 0\n17 0 27 0 0\n18 0 28 0 0\n19 0 29 0 0\n20 17 30 0 0\n21 0 0 0 31\n",
+    )?;
+    takes_room(&rt, alloc, FAR, &text)
+}
+
+#[test]
+fn the_corner_takes_room(rt: HostRuntime) -> Result<(), Fail> {
+    let alloc = rt.alloc();
+    let text = chain(
+        alloc,
+        b"[M2] (canonical 1)\n#R B3/S23\n*$$$$$$$$\n",
+        58,
+        false,
+        b"",
+    )?;
+    takes_room(&rt, alloc, CORNER, &text)
+}
