@@ -1,5 +1,5 @@
 -- The runs of a file's lines may be given to a builder one after another.
-use Rattle.std.proofs.Common.{◌≡◌, ℕ, zero, suc, ◌+◌, ◌-◌, ◌<◌, ◌≤◌, List, [], ◌∷◌, ◌++◌, length, take, drop, get_or, map, refl, ap, sym, ◌∙◌, subst, arith, ◌⊎◌, inl, inr, append_assoc, Some, drop-cons, ℤ, pos, neg_ℤ, ◌+ℤ◌, ◌≤ℤ◌, ◌<ℤ◌, w64}
+use Rattle.std.proofs.Common.{◌≡◌, ℕ, zero, suc, ◌+◌, ◌-◌, ◌<◌, ◌≤◌, List, [], ◌∷◌, ◌++◌, length, take, drop, get_or, map, ap, sym, ◌∙◌, subst, arith, inl, inr, append_assoc, Some, drop-cons, ℤ, pos, neg_ℤ, ◌+ℤ◌, ◌≤ℤ◌, ◌<ℤ◌, w64}
 use Rattle.std.specs.Prelude.{slice_get}
 use Rattle.std.proofs.lemmas.List.{map-append}
 use Rattle.std.proofs.Math.Seq.{take-suc}
@@ -11,7 +11,7 @@ use Rattle.life_rle.specs.File.{HasRuns}
 use Rattle.life_rle.specs.RunsLaw.{IsGoodRun, AreGoodRuns, StandsBefore, StandsBeforeAll, AreInOrder}
 use Rattle.life_rle.specs.declared.file.Run.{Run}
 use Rattle.life_rle.proofs.RunsLaws.{runs_are_cells}
-use Rattle.life_strip.specs.Given.{GivenRun, IsBehind, IsNext, IsOnPlane, half_plane}
+use Rattle.life_strip.specs.Given.{GivenRun, IsBehind, IsOnPlane, half_plane}
 use Rattle.life_canon.specs.Building.{given, AreNext}
 
 -- ---- the runs of a file are good and in order

@@ -1,29 +1,25 @@
 -- Calls on files in a store: what one call said stands after the next, and the texts are of the pattern that was read.
-use Rattle.std.proofs.Common.{◌≡◌, ℕ, suc, ◌+◌, ◌^◌, ◌<◌, ◌≤◌, Bool, true, List, [], ◌++◌, length, refl, ap, sym, ◌∙◌, subst, arith, lit≤, lit<, ◌⊎◌, inl, inr, ℤ}
+use Rattle.std.proofs.Common.{◌≡◌, ℕ, ◌<◌, ◌≤◌, true, List, [], ◌++◌, length, ap, sym, ◌∙◌, subst, arith, lit≤, lit<, ◌⊎◌, inl, inr}
 use Rattle.life_base.specs.Text.{lines_of}
-use Rattle.life_base.specs.Tree.{Tree, depth, tree_cell}
+use Rattle.life_base.specs.Tree.{depth, tree_cell}
 use Rattle.life_base.specs.declared.cell.Cell.{Cell}
 use Rattle.life_base.specs.declared.cell.TheConstants.{MAX_LEVEL}
 use Rattle.life_base.specs.declared.fault.Fault.{Fault}
-use Rattle.life_base.specs.declared.rule.Rule.{Rule}
-use Rattle.life_mc.specs.Cells.{node_lines}
 use Rattle.life_mc.specs.Reading.{IsMacrocell}
 use Rattle.life_mc.specs.Writing.{mc_text}
 use Rattle.life_quad.specs.Cells.{IsCellList, population}
 use Rattle.life_quad.specs.Store.{Nodes, Knows}
 use Rattle.life_quad.proofs.LawLemmas.{known_squares_are_full, equal_squares_have_one_id, cells_are_listed, list_is_population}
-use Rattle.life_quad.specs.declared.id.Id.{Id}
-use Rattle.life_rle.specs.Pattern.{cell as rle_cell}
 use Rattle.life_rle.specs.Sorted.{are_sorted_cells}
 use Rattle.life_rle.specs.Laws.{RleTextReadsBack}
 use Rattle.life_rle.specs.Written.{rle_text}
-use Rattle.life_canon.specs.Universe.{Universe, IsSame, IsOnPlane, least_level, whole, macrocell_universe, rle_universe}
+use Rattle.life_canon.specs.Universe.{Universe, IsOnPlane, whole, rle_universe}
 use Rattle.life_canon.specs.Files.{Reads, Refuses, Same, as_rle}
 use Rattle.life_canon.specs.Feeding.{RefusesFront}
 use Rattle.life_canon.specs.Least.{IsLeastText}
 use Rattle.life_canon.specs.Listing.{canonical_file, canon_text}
-use Rattle.life_canon.specs.Store.{IsKnown, content, Keeps, IsRead, IsTrimmed, IsWant, RefusesIn, universe_in}
-use Rattle.life_canon.specs.Texts.{IsCanonical, AreCellsOf, HasCells, HasMoreCells, IsRleOf}
+use Rattle.life_canon.specs.Store.{content, Keeps, IsRead, IsWant, RefusesIn, universe_in}
+use Rattle.life_canon.specs.Texts.{IsCanonical, AreCellsOf, HasMoreCells, IsRleOf}
 use Rattle.life_canon.specs.declared.pattern.Pattern.{Pattern}
 use Rattle.life_canon.proofs.Canonical.{same-whole, same-canonical}
 use Rattle.life_canon.proofs.CellFacts.{cells-of, sorted-cells, listed-cells}

@@ -1,6 +1,5 @@
 -- The canonical file has the cells of its pattern, and depends on them alone.
-use Rattle.std.proofs.Common.{◌≡◌, ℕ, zero, suc, ◌+◌, ◌-◌, ◌^◌, ◌<◌, ◌≤◌, Bool, true, false, cond, ◌&&◌, ◌||◌, List, [], ◌∷◌, ◌++◌, length, get_or, refl, ap, sym, ◌∙◌, subst, arith, ◌⊎◌, inl, inr, ℤ, pos, ◌+ℤ◌, length-append, add-one}
-use Rattle.std.specs.Prelude.{nat_lt}
+use Rattle.std.proofs.Common.{◌≡◌, ℕ, zero, suc, ◌+◌, ◌-◌, ◌^◌, ◌<◌, ◌≤◌, Bool, true, false, ◌&&◌, ◌||◌, List, [], ◌∷◌, ◌++◌, length, get_or, refl, ap, sym, ◌∙◌, subst, arith, inl, inr, ℤ, length-append, add-one}
 use Rattle.std.proofs.lemmas.Bool.Decides.{nat_tests}
 use Rattle.std.proofs.lemmas.List.{get_or-map}
 use Rattle.std.proofs.Math.Seq.{get_or-append_seam}
@@ -8,7 +7,7 @@ use Rattle.life_base.specs.Rules.{IsRule}
 use Rattle.life_base.specs.Tree.{Tree, point, quad, depth, blank, tree_cell, is_blank_tree as is_blank}
 use Rattle.life_base.specs.declared.rule.Rule.{Rule}
 use Rattle.life_base.specs.declared.rule.Rule.TheVariants.{Life, Named}
-use Rattle.life_mc.specs.Macrocell.{Macrocell, IsValid, AreSquares, level_of, largest_state}
+use Rattle.life_mc.specs.Macrocell.{Macrocell, IsValid, level_of, largest_state}
 use Rattle.life_mc.specs.Cells.{cell as macrocell_cell, cell_of, root_level}
 use Rattle.life_mc.specs.Squares.{tree_of, root_tree}
 use Rattle.life_mc.specs.declared.line.Line.{Line}
@@ -18,13 +17,13 @@ use Rattle.life_quad.specs.Moves.{trimmed}
 use Rattle.life_canon.specs.Universe.{Universe, IsSame, macrocell_universe, least_level, square, corner, centred, whole, IsWithin, IsBlankOutside, IsOnPlane}
 use Rattle.life_canon.specs.Listing.{same_tree, is_small, walk, is_in, with_all, listed, place, number_of, line_of, lines_for, square_file, canonical_file}
 use Rattle.life_canon.proofs.TreeWords.{HasDepth, point_depth, quad_depth, StatesBelow, is_within, trimmed_to}
-use Rattle.life_canon.proofs.LineWords.{state_bound, line_at, IsValidLine, AreValidLines}
+use Rattle.life_canon.proofs.LineWords.{state_bound, line_at, IsValidLine}
 use Rattle.life_canon.proofs.LineFacts.{squares-valid, valid-squares, root_level-last}
 use Rattle.life_canon.proofs.Trees.{bool_cases, true_false, and_left, and_right, and_both, depth_is, same_tree-refl, is_within-true, is_within-is, centred-depth, trimmed-centred, square-same, square-blank, centred_same-cells, is_blank-blank, centred-trimmed}
 use Rattle.life_canon.proofs.ListFacts.{with_new-fresh, with_all-from}
 use Rattle.life_canon.proofs.Walk.{listed-itself, listed-quarters, walk-level, walk-small, with_walk}
 use Rattle.life_canon.proofs.Content.{tree_of-number, lines_for-valid, least-one, length-lines_for, level-line_of, number-place, not_small}
-use Rattle.life_canon.proofs.Planes.{full-depth, states-below, trimmed-is, centred-tree_cell, tree_cell-outside, tree_cell-below, below-upto}
+use Rattle.life_canon.proofs.Planes.{full-depth, states-below, trimmed-is, centred-tree_cell, tree_cell-outside, below-upto}
 
 -- ---- a square stands last in its list
 

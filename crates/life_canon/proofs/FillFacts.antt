@@ -1,7 +1,5 @@
 -- The square of a number of a node line, among the squares of the lines before it.
-use Rattle.std.proofs.Common.{◌≡◌, ℕ, zero, suc, ◌+◌, ◌-◌, ◌*◌, ◌%◌, ◌^◌, ◌<◌, ◌≤◌, Bool, true, false, List, [], ◌∷◌, length, take, map, get_or, refl, ap, sym, ◌∙◌, subst, arith, ◌⊎◌, inl, inr, Some, add-one}
-use Rattle.std.specs.Prelude.{slice_get, ◌==◌}
-use Rattle.std.proofs.lemmas.Bool.Decides.{nat_tests}
+use Rattle.std.proofs.Common.{◌≡◌, ℕ, zero, suc, ◌+◌, ◌-◌, ◌*◌, ◌%◌, ◌^◌, ◌<◌, ◌≤◌, true, List, [], ◌∷◌, length, take, map, get_or, refl, ap, sym, ◌∙◌, subst, arith, inl, inr, add-one}
 use Rattle.std.proofs.Math.Pow.{pow_mono}
 use Rattle.std.proofs.lemmas.Option.{slice_get-get_or}
 use Rattle.life_base.specs.Tree.{Tree, quad, depth}
@@ -14,7 +12,7 @@ use Rattle.life_mc.specs.declared.line.Line.{Line}
 use Rattle.life_mc.specs.declared.line.Line.TheVariants.{Quad}
 use Rattle.life_quad.specs.declared.id.Id.{Id}
 use Rattle.life_canon.specs.Filling.{AreSquaresOf}
-use Rattle.life_canon.proofs.LineWords.{state_bound, line_at, IsQuarter}
+use Rattle.life_canon.proofs.LineWords.{line_at, IsQuarter}
 use Rattle.life_canon.proofs.LineFacts.{get-line_at, quarter-test, four-of}
 
 few-states : (rule : Rule) → largest_state rule ≤ 255

@@ -1,5 +1,5 @@
 -- A pattern that was read may be numbered, and has the cells of the file.
-use Rattle.std.proofs.Common.{◌≡◌, ℕ, suc, ◌+◌, ◌-◌, ◌≤◌, List, refl, ap, sym, ◌∙◌, subst, arith}
+use Rattle.std.proofs.Common.{◌≡◌, ℕ, suc, ◌+◌, ◌-◌, ◌≤◌, List, ap, sym, ◌∙◌, subst, arith}
 use Rattle.std.specs.Prelude.{ℤ}
 use Rattle.life_base.specs.declared.cell.TheConstants.{MAX_LEVEL}
 use Rattle.life_base.specs.declared.rule.Rule.{Rule}
@@ -11,10 +11,9 @@ use Rattle.life_quad.specs.Store.{Nodes}
 use Rattle.life_canon.specs.Universe.{Universe, IsSame, IsOnPlane, least_level, centred, whole}
 use Rattle.life_canon.specs.Store.{IsRead, IsTrimmed, content, universe_in}
 use Rattle.life_canon.specs.declared.pattern.Pattern.{Pattern}
-use Rattle.life_canon.proofs.TreeWords.{HasDepth, StatesBelow, trimmed_to}
+use Rattle.life_canon.proofs.TreeWords.{trimmed_to}
 use Rattle.life_canon.proofs.Trees.{depth_is}
 use Rattle.life_canon.proofs.Content.{least-one}
-use Rattle.life_canon.proofs.LineWords.{state_bound}
 use Rattle.life_canon.proofs.Trees.{centred-trimmed}
 use Rattle.life_canon.proofs.Planes.{states-upto, trimmed-is, centred-tree_cell, tree_cell-outside}
 use Rattle.life_canon.proofs.Canonical.{whole-is, whole-trimmed, same-cells, least-high}

@@ -1,43 +1,37 @@
 -- Files of either format: they differ, they say one thing, and what they say lies on the plane.
-use Rattle.std.proofs.Common.{◌≡◌, ℕ, zero, suc, ◌+◌, ◌-◌, ◌^◌, ◌<◌, ◌≤◌, Bool, true, false, cond, ◌&&◌, List, [], ◌∷◌, ◌++◌, length, take, drop, refl, ap, sym, ◌∙◌, subst, arith, ◌⊎◌, inl, inr, ℤ, pos, neg_ℤ, ◌+ℤ◌, ◌≤ℤ◌, ◌<ℤ◌, Option, Some, None, codes}
-use Rattle.std.specs.Prelude.{◌↔◌, ◌==◌, bytes_eq, Result, Ok, Err, if◌then◌else◌}
+use Rattle.std.proofs.Common.{◌≡◌, ℕ, suc, ◌+◌, ◌-◌, ◌^◌, ◌<◌, ◌≤◌, Bool, true, false, cond, List, [], ◌∷◌, ◌++◌, length, refl, ap, sym, ◌∙◌, subst, arith, ◌⊎◌, inl, inr, ℤ, pos, neg_ℤ, ◌+ℤ◌, ◌≤ℤ◌, ◌<ℤ◌, Option, Some, None, codes}
+use Rattle.std.specs.Prelude.{Ok, Err}
 use Rattle.std.proofs.lemmas.Bool.Decides.{nat_tests}
 use Rattle.std.proofs.lemmas.Int.{ints}
-use Rattle.life_base.specs.Rules.{IsRule}
 use Rattle.life_base.specs.Text.{lines_of, begins_with, is_too_long}
 use Rattle.life_base.specs.declared.kind.Kind.{Kind}
 use Rattle.life_base.specs.declared.kind.Kind.TheVariants.{LineTooLong, NoHeader}
 use Rattle.life_base.specs.declared.rule.Rule.{Rule}
 use Rattle.life_base.specs.declared.rule.Rule.TheVariants.{Life, Named}
 use Rattle.life_mc.specs.Macrocell.{Macrocell, IsValid, largest_state}
-use Rattle.life_mc.specs.Cells.{cell as macrocell_cell, node_lines}
-use Rattle.life_mc.specs.Reading.{AreMacrocell, IsMacrocell, broken}
-use Rattle.life_mc.specs.Writing.{mc_text}
+use Rattle.life_mc.specs.Cells.{cell as macrocell_cell}
+use Rattle.life_mc.specs.Reading.{AreMacrocell, broken}
 use Rattle.life_mc.proofs.Accepted.{files_are_valid}
 use Rattle.life_mc.proofs.FormatLaws.{files_are_unique}
-use Rattle.life_mc.proofs.TextBack.{texts_read_back}
 use Rattle.life_rle.specs.declared.opening.Opening.{Opening}
 use Rattle.life_rle.specs.declared.opening.Opening.TheVariants.{Comment, PositionLine, Header}
 use Rattle.life_rle.specs.declared.position.Position.{Position}
-use Rattle.life_rle.specs.Grammar.{IsRle, IsUnmarked, IsMarked, IsPreamble, opening_of}
+use Rattle.life_rle.specs.Grammar.{IsRle, IsUnmarked, IsPreamble, opening_of}
 use Rattle.life_rle.specs.Pattern.{Rle, placed, cell as rle_cell}
-use Rattle.life_rle.specs.Plane.{edge}
 use Rattle.life_rle.specs.Position.{default_position}
 use Rattle.life_rle.specs.Runs.{runs_of}
-use Rattle.life_rle.specs.RunsLaw.{AreGoodRuns, IsGoodRun, state_by, has_cell, IsOutside}
+use Rattle.life_rle.specs.RunsLaw.{AreGoodRuns, state_by, has_cell}
 use Rattle.life_rle.specs.States.{is_state_of}
 use Rattle.life_rle.specs.declared.file.Run.{Run}
 use Rattle.life_rle.proofs.RunsLaws.{runs_are_cells, blank_outside}
 use Rattle.life_rle.proofs.Unique.{IsRle-unique}
-use Rattle.life_canon.specs.Universe.{Universe, IsSame, macrocell_universe, rle_universe, least_level, corner, IsWithin, IsBlankOutside, IsOnPlane}
-use Rattle.life_canon.specs.Files.{Says, as_macrocell, as_rle, Reads, Accepted, Same, is_macrocell}
-use Rattle.life_canon.specs.Listing.{listed, lines_for, square_file, canonical_file, canon_text}
-use Rattle.life_canon.specs.Least.{IsRival, IsLeast, HasPlaces}
+use Rattle.life_canon.specs.Universe.{Universe, macrocell_universe, rle_universe, corner, IsBlankOutside, IsOnPlane}
+use Rattle.life_canon.specs.Files.{Says, as_macrocell, as_rle, Reads, is_macrocell}
 use Rattle.life_canon.specs.Laws.{FormatsDiffer, FilesAreUnique}
 use Rattle.life_canon.proofs.LineWords.{state_bound}
 use Rattle.life_canon.proofs.Trees.{true_false}
-use Rattle.life_canon.proofs.Canonical.{IsRooted, rooted, root-most, no-lines, canonical-valid, canonical-same, same-canonical, same-sym, same-trans, canonical-wider, least-high}
-use Rattle.life_canon.proofs.Least.{least, has-places, reach, sum_back}
+use Rattle.life_canon.proofs.Canonical.{rooted, root-most, no-lines}
+use Rattle.life_canon.proofs.Least.{reach, sum_back}
 use Rattle.life_canon.proofs.Planes.{tree_cell-below, states-below, upto-below}
 use Rattle.life_mc.proofs.Squares.{lines_stand_for_squares}
 use Rattle.life_canon.proofs.Trees.{outside-by}

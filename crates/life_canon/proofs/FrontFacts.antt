@@ -1,6 +1,6 @@
 -- The front of a file: what its lines are as bytes come, and why it is refused.
-use Rattle.std.proofs.Common.{◌≡◌, ℕ, suc, ◌+◌, ◌-◌, ◌^◌, ◌<◌, ◌≤◌, min, Bool, true, false, cond, List, [], ◌∷◌, ◌++◌, length, take, drop, refl, ap, sym, ◌∙◌, subst, arith, ◌⊎◌, inl, inr, Some, None, append_assoc}
-use Rattle.std.specs.Prelude.{MatchBool, nat_lt, IsTrue, ◌==◌, position, Result, Ok, Err, IfErr}
+use Rattle.std.proofs.Common.{◌≡◌, ℕ, suc, ◌+◌, ◌-◌, ◌^◌, ◌<◌, ◌≤◌, min, Bool, true, false, cond, List, [], ◌∷◌, ◌++◌, length, take, refl, ap, sym, ◌∙◌, subst, arith, ◌⊎◌, inl, inr, Some, None, append_assoc}
+use Rattle.std.specs.Prelude.{MatchBool, IsTrue, ◌==◌, position, Result, Ok, Err, IfErr}
 use Rattle.std.specs.List.{slice_index_or}
 use Rattle.std.proofs.lemmas.Bool.Decides.{nat_tests}
 use Rattle.std.proofs.lemmas.List.{append-nil, take-append-le, length-append}
@@ -13,7 +13,7 @@ use Rattle.life_base.specs.declared.cell.TheConstants.{MAX_LEVEL}
 use Rattle.life_base.specs.declared.fault.Fault.{Fault}
 use Rattle.life_base.specs.declared.kind.Kind.{Kind}
 use Rattle.life_base.specs.declared.kind.Kind.TheVariants.{LineTooLong, NoHeader, Memory}
-use Rattle.life_mc.specs.Reading.{broken, Accepts as IsSomeMacrocell}
+use Rattle.life_mc.specs.Reading.{broken}
 use Rattle.life_mc.proofs.LineKinds.{long_lines_break as long_lines_break_macrocell, broken_kind, names_line}
 use Rattle.life_quad.specs.Store.{Nodes}
 use Rattle.life_rle.specs.Decided.{LacksHeader}
@@ -26,13 +26,13 @@ use Rattle.life_rle.proofs.Unique.{IsUnmarked-progress, IsMarked-progress}
 use Rattle.life_canon.specs.Feeding.{RefusesFront, IsOverAt}
 use Rattle.life_canon.specs.Files.{Says, as_macrocell, as_rle, Reads, Accepts, Breaks, Refuses, missing, is_macrocell}
 use Rattle.life_canon.specs.Store.{IsWant, IsWantKind}
-use Rattle.life_canon.specs.Taking.{IsEnd, bytes_of, taken, IsBegun, IsOpen, IsOver, IsLineFault, IsGoing, IsFree, IsFront}
+use Rattle.life_canon.specs.Taking.{IsEnd, bytes_of, taken, IsOpen, IsOver, IsLineFault, IsGoing, IsFront}
 use Rattle.life_canon.specs.Universe.{Universe, rle_universe}
 use Rattle.life_canon.specs.declared.feeding.Progress.{Progress}
 use Rattle.life_canon.specs.declared.feeding.Progress.TheVariants as progress
 use Rattle.life_canon.proofs.FeedFacts.{no-feed}
 use Rattle.life_canon.proofs.Formats.{macrocell-first}
-use Rattle.life_canon.proofs.Unions.{macrocell-front, rle-front, no_lines, shorter-front, taken-front, none-some, not-both, line-refused, line-refused-n, end-refused}
+use Rattle.life_canon.proofs.Unions.{macrocell-front, rle-front, no_lines, taken-front, not-both, line-refused, line-refused-n, end-refused}
 
 -- ---- the lines that were taken
 

@@ -1,15 +1,14 @@
 -- The squares of node lines, as lines come one after another.
-use Rattle.std.proofs.Common.{◌≡◌, ℕ, zero, suc, ◌+◌, ◌-◌, ◌^◌, ◌<◌, ◌≤◌, true, List, [], ◌∷◌, ◌++◌, length, take, map, refl, ap, sym, ◌∙◌, subst, arith, ◌⊎◌, inl, inr, Option, Some, None, ℤ}
+use Rattle.std.proofs.Common.{◌≡◌, ℕ, zero, suc, ◌-◌, ◌<◌, ◌≤◌, List, [], ◌∷◌, ◌++◌, length, take, map, refl, ap, sym, ◌∙◌, subst, arith, ◌⊎◌, inl, inr, Some, ℤ}
 use Rattle.std.specs.Prelude.{slice_get}
-use Rattle.std.proofs.lemmas.List.{append-nil, take-append-le, length-append}
+use Rattle.std.proofs.lemmas.List.{take-append-le, length-append}
 use Rattle.std.proofs.Math.Seq.{take-append_seam, take-length}
-use Rattle.life_base.specs.Rules.{IsRule}
-use Rattle.life_base.specs.Tree.{Tree, depth, quad, tree_cell}
+use Rattle.life_base.specs.Tree.{Tree, depth, tree_cell}
 use Rattle.life_base.specs.declared.cell.TheConstants.{MAX_LEVEL}
 use Rattle.life_base.specs.declared.rule.Rule.{Rule}
 use Rattle.life_mc.specs.Cells.{cell, root_level}
-use Rattle.life_mc.specs.Macrocell.{Macrocell, AreSquares, IsSquare, IsValid, level_of, numbered}
-use Rattle.life_mc.specs.Squares.{HasSquares, StandsForSquare, tree_of, line_tree, root_tree}
+use Rattle.life_mc.specs.Macrocell.{Macrocell, IsSquare, IsValid, level_of}
+use Rattle.life_mc.specs.Squares.{StandsForSquare, tree_of, line_tree, root_tree}
 use Rattle.life_mc.specs.declared.line.Line.{Line}
 use Rattle.life_mc.specs.declared.line.Line.TheVariants.{Leaf, Quad}
 use Rattle.life_mc.proofs.Squares.{lines_stand_for_squares}

@@ -1,6 +1,6 @@
 -- The canonical file has no more node lines than any macrocell file of its pattern: each of its squares has a line of that file.
 use Rattle.std.proofs.Common.{◌≡◌, ℕ, zero, suc, ◌+◌, ◌-◌, ◌<◌, ◌≤◌, Bool, true, false, ◌&&◌, ◌||◌, List, [], ◌∷◌, ◌++◌, length, refl, ap, sym, ◌∙◌, subst, arith, ◌⊎◌, inl, inr, length-append}
-use Rattle.std.specs.Prelude.{nat_lt, if◌then◌else◌, slice_get, Some}
+use Rattle.std.specs.Prelude.{nat_lt, if◌then◌else◌, Some}
 use Rattle.std.proofs.lemmas.Bool.Decides.{nat_tests}
 use Rattle.life_base.specs.Tree.{Tree, quad, depth, blank, is_blank_tree as is_blank}
 use Rattle.life_base.specs.declared.rule.Rule.{Rule}
@@ -12,17 +12,17 @@ use Rattle.life_mc.specs.declared.line.Line.{Line}
 use Rattle.life_mc.specs.declared.line.Line.TheVariants.{Leaf, Quad}
 use Rattle.life_mc.proofs.Squares.{lines_stand_for_squares}
 use Rattle.life_canon.specs.Universe.{Universe, IsSame, macrocell_universe, is_life, least_level, corner, centred, whole, IsBlankOutside, IsOnPlane}
-use Rattle.life_canon.specs.Listing.{same_tree, is_small, walk, is_in, with_all, listed, lines_for, square_file, canonical_file}
-use Rattle.life_canon.specs.Least.{HasNoLeaves, IsRival, IsLineOf, HasPlaces}
+use Rattle.life_canon.specs.Listing.{same_tree, is_small, walk, is_in, with_all, listed, lines_for, canonical_file}
+use Rattle.life_canon.specs.Least.{IsRival, IsLineOf, HasPlaces}
 use Rattle.life_canon.proofs.TreeWords.{HasDepth, point_depth, quad_depth, has_blank_border, middle, trim_times, trimmed_to as trimmed}
-use Rattle.life_canon.proofs.LineWords.{line_at, IsQuarter, IsValidLine, AreValidLines}
+use Rattle.life_canon.proofs.LineWords.{line_at, IsQuarter, IsValidLine}
 use Rattle.life_canon.proofs.LineFacts.{tree_of-line, get-line_at, squares-valid, root_level-last}
-use Rattle.life_canon.proofs.Trees.{centred-trimmed, centred-depth, cells_same-centred, outside-by, square-same, trim_times-once, trim_times-stop, blank-blank, blank-depth, bool_cases, true_false, depth_is, same_tree-refl, same_tree-true}
+use Rattle.life_canon.proofs.Trees.{centred-trimmed, centred-depth, outside-by, square-same, trim_times-once, trim_times-stop, blank-blank, blank-depth, bool_cases, true_false, depth_is, same_tree-refl, same_tree-true}
 use Rattle.life_canon.proofs.ListFacts.{is_in-left, is_in-right, is_in-append_cases, is_in-one, NoRepeats, no_longer, or_cases}
 use Rattle.life_canon.proofs.Walk.{listed-walk, listed-once, walk-small, walk-big, walk-level, walk-cases, WalkCase, root_case, nw_case, ne_case, sw_case, se_case}
 use Rattle.life_canon.proofs.Content.{not_small, least-one, length-lines_for}
 use Rattle.life_canon.proofs.Planes.{full-depth}
-use Rattle.life_canon.proofs.Canonical.{IsRooted, rooted, root-most, no-lines, IsLast, listed-last, listed-blank, least-high, IsWhole, whole-is, whole-trimmed, nowhere, nowhere-zero, centred-nowhere}
+use Rattle.life_canon.proofs.Canonical.{rooted, root-most, no-lines, listed-last, listed-blank, least-high, whole-is, whole-trimmed, nowhere, nowhere-zero, centred-nowhere}
 
 -- the square of line i, by its own level
 pub line_square : List Line → ℕ → Tree

@@ -1,16 +1,16 @@
 -- Node lines by their index, and the squares of their numbers.
-use Rattle.std.proofs.Common.{◌≡◌, ℕ, zero, suc, ◌-◌, ◌<◌, ◌≤◌, Bool, true, false, cond, ◌&&◌, ◌||◌, List, [], ◌∷◌, length, take, map, get_or, refl, ap, sym, ◌∙◌, subst, arith, ◌⊎◌, inl, inr}
+use Rattle.std.proofs.Common.{◌≡◌, ℕ, zero, suc, ◌-◌, ◌<◌, ◌≤◌, Bool, true, false, List, [], ◌∷◌, length, take, map, refl, ap, sym, ◌∙◌, subst, arith, inl, inr}
 use Rattle.std.specs.Prelude.{nat_le, ◌==◌, Option, Some, None, slice_get}
 use Rattle.std.specs.List.{list_all}
 use Rattle.std.proofs.lemmas.Bool.Decides.{nat_tests}
 use Rattle.life_base.specs.Tree.{Tree, blank}
 use Rattle.life_base.specs.declared.rule.Rule.{Rule}
-use Rattle.life_mc.specs.Macrocell.{AreSquares, IsSquare, level_of, numbered, is_quarter, is_child, is_level, largest_state}
+use Rattle.life_mc.specs.Macrocell.{AreSquares, IsSquare, level_of, is_quarter, is_child, is_level, largest_state}
 use Rattle.life_mc.specs.Cells.{root_level}
 use Rattle.life_mc.specs.Squares.{line_tree, tree_of}
 use Rattle.life_mc.specs.declared.line.Line.{Line}
 use Rattle.life_mc.specs.declared.line.Line.TheVariants.{Leaf, Quad}
-use Rattle.life_canon.proofs.LineWords.{state_bound, line_at, IsChild, IsQuarter, IsValidLine, AreValidLines}
+use Rattle.life_canon.proofs.LineWords.{line_at, IsChild, IsQuarter, IsValidLine, AreValidLines}
 
 -- the line of an index within
 pub get-line_at : (lines : List Line) (i : ℕ) → i < length lines → slice_get lines i ≡ Some (line_at lines i)

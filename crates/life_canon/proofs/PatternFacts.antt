@@ -1,5 +1,5 @@
 -- The patterns that are made of the lines of a file, and the faults of lines.
-use Rattle.std.proofs.Common.{◌≡◌, ℕ, suc, ◌+◌, ◌-◌, ◌<◌, ◌≤◌, Bool, true, false, cond, List, [], ◌∷◌, ◌++◌, length, map, refl, ap, sym, ◌∙◌, subst, arith, ◌⊎◌, inl, inr, Some, Contains, ℤ, length-append}
+use Rattle.std.proofs.Common.{◌≡◌, ℕ, suc, ◌+◌, ◌-◌, ◌<◌, ◌≤◌, Bool, true, false, cond, List, [], ◌∷◌, ◌++◌, length, map, refl, ap, sym, ◌∙◌, subst, arith, ◌⊎◌, inl, inr, Some, ℤ, length-append}
 use Rattle.std.specs.Prelude.{MatchBool, Result, Ok, Err, OnOk, IfErr}
 use Rattle.life_base.specs.Refusal.{Prefix}
 use Rattle.life_base.specs.Tree.{Tree, depth, tree_cell, IsFull}
@@ -7,8 +7,8 @@ use Rattle.life_base.specs.declared.cell.TheConstants.{MAX_LEVEL}
 use Rattle.life_base.specs.declared.kind.Kind.{Kind}
 use Rattle.life_base.specs.declared.kind.Kind.TheVariants.{Full, Memory, Spent, NoHeader}
 use Rattle.life_base.specs.declared.rule.Rule.{Rule}
-use Rattle.life_mc.specs.Macrocell.{Macrocell, IsValid, AreSquares}
-use Rattle.life_mc.specs.Reading.{AreMacrocell, broken, is_macrocell_kind, squares_of, Accepts as IsSomeMacrocell}
+use Rattle.life_mc.specs.Macrocell.{IsValid, AreSquares}
+use Rattle.life_mc.specs.Reading.{broken, is_macrocell_kind, squares_of, Accepts as IsSomeMacrocell}
 use Rattle.life_mc.specs.declared.line.Line.{Line}
 use Rattle.life_mc.proofs.Accepted.{lines_are_valid}
 use Rattle.life_mc.proofs.FormatLaws.{fronts_are_files}
@@ -18,9 +18,8 @@ use Rattle.life_quad.specs.Store.{Nodes, held}
 use Rattle.life_rle.specs.Decided.{LacksHeader}
 use Rattle.life_rle.specs.File.{HasRuns}
 use Rattle.life_rle.specs.Grammar.{IsRle, Breaks as BreaksRle, is_rle_kind}
-use Rattle.life_rle.specs.Pattern.{Rle, placed, cell as rle_cell}
+use Rattle.life_rle.specs.Pattern.{Rle, cell as rle_cell}
 use Rattle.life_rle.specs.Position.{default_position}
-use Rattle.life_rle.specs.Runs.{runs_of}
 use Rattle.life_rle.specs.RunsLaw.{state_by as rle_state_by, has_cell}
 use Rattle.life_rle.specs.declared.file.Run.{Run}
 use Rattle.life_rle.proofs.LineKinds.{Breaks-kind}

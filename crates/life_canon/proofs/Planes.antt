@@ -1,15 +1,15 @@
 -- Squares in whose middle (0, 0) lies, and the cells of the plane.
-use Rattle.std.proofs.Common.{◌≡◌, ℕ, zero, suc, ◌+◌, ◌-◌, ◌^◌, ◌<◌, ◌≤◌, Bool, true, false, cond, ◌&&◌, List, [], ◌∷◌, refl, ap, sym, ◌∙◌, subst, arith, ◌⊎◌, inl, inr, ℤ, pos, neg_ℤ, ◌+ℤ◌, ◌≤ℤ◌, ◌<ℤ◌}
-use Rattle.std.specs.Prelude.{nat_lt, ◌==◌, int_le, int_lt, unsigned_abs}
+use Rattle.std.proofs.Common.{◌≡◌, ℕ, zero, suc, ◌+◌, ◌-◌, ◌^◌, ◌<◌, ◌≤◌, Bool, true, false, cond, ◌&&◌, refl, ap, sym, ◌∙◌, subst, arith, ◌⊎◌, inl, inr, ℤ, pos, neg_ℤ, ◌+ℤ◌, ◌≤ℤ◌, ◌<ℤ◌}
+use Rattle.std.specs.Prelude.{nat_lt, int_le, int_lt, unsigned_abs}
 use Rattle.std.specs.List.{list_all}
 use Rattle.std.proofs.lemmas.Bool.Decides.{nat_tests}
 use Rattle.std.proofs.lemmas.Int.{ints}
 use Rattle.life_base.specs.Tree.{Tree, point, quad, depth, state_at, half_side, tree_cell, IsFull, is_blank_tree as is_blank}
 use Rattle.life_mc.specs.Squares.{HasStatesUpTo}
 use Rattle.life_quad.specs.Moves.{trim_up_to, can_trim, outer, inner, trimmed}
-use Rattle.life_canon.specs.Universe.{corner, centred, IsWithin, IsBlankOutside}
-use Rattle.life_canon.proofs.TreeWords.{HasDepth, point_depth, quad_depth, StatesBelow, middle, has_blank_border, trim_times, trimmed_to, is_within}
-use Rattle.life_canon.proofs.Trees.{depth_is, trees_equal, centred-depth, state_at-centred, bool_cases, is_within-true, is_within-is, and_left, and_right, and_both, true_false}
+use Rattle.life_canon.specs.Universe.{corner, centred, IsBlankOutside}
+use Rattle.life_canon.proofs.TreeWords.{HasDepth, point_depth, quad_depth, StatesBelow, middle, has_blank_border, trim_times, trimmed_to}
+use Rattle.life_canon.proofs.Trees.{depth_is, trees_equal, centred-depth, state_at-centred, bool_cases, and_left, and_right}
 
 -- ---- full squares
 

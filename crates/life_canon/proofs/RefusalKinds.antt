@@ -1,6 +1,6 @@
 -- A refusal of a file has one of the kinds of files, and names a line.
-use Rattle.std.proofs.Common.{◌≡◌, ℕ, ◌+◌, ◌-◌, ◌^◌, ◌<◌, ◌≤◌, Bool, true, false, ◌||◌, List, [], ◌∷◌, ◌++◌, length, take, refl, ap, sym, ◌∙◌, subst, arith, ◌⊎◌, inl, inr}
-use Rattle.std.specs.Prelude.{MatchBool, Some, None, Option, nat_le}
+use Rattle.std.proofs.Common.{◌≡◌, ℕ, ◌-◌, ◌≤◌, Bool, true, false, ◌||◌, List, [], ◌∷◌, ◌++◌, length, take, refl, sym, ◌∙◌, subst, arith}
+use Rattle.std.specs.Prelude.{MatchBool, Some, None, nat_le}
 use Rattle.std.specs.List.{slice_index_or}
 use Rattle.std.proofs.lemmas.Bool.Decides.{nat_tests}
 use Rattle.life_base.specs.declared.fault.Fault.{Fault}
@@ -9,8 +9,7 @@ use Rattle.life_base.specs.declared.kind.Kind.TheVariants.{NoHeader}
 use Rattle.life_mc.specs.Reading.{broken, is_macrocell_kind, LinesBreakByKinds as MacrocellKinds}
 use Rattle.life_rle.specs.Grammar.{Breaks as BreaksRle, is_rle_kind}
 use Rattle.life_rle.specs.Laws.{LinesBreakByKinds as RleKinds}
-use Rattle.life_canon.specs.Files.{Refuses, RefusesLines, Breaks, missing, is_macrocell, is_file_kind}
-use Rattle.life_canon.proofs.Trees.{bool_cases}
+use Rattle.life_canon.specs.Files.{RefusesLines, Breaks, missing, is_macrocell, is_file_kind}
 
 left : (a b : Bool) → a ≡ true → (a || b) ≡ true
 left true b h = refl

@@ -1,5 +1,5 @@
 -- A front that is refused stays refused, whatever bytes follow.
-use Rattle.std.proofs.Common.{◌≡◌, ℕ, suc, ◌+◌, ◌-◌, ◌^◌, ◌<◌, ◌≤◌, min, Bool, true, false, cond, not, ◌&&◌, List, [], ◌∷◌, ◌++◌, length, take, drop, get_or, refl, ap, sym, ◌∙◌, subst, arith, ◌⊎◌, inl, inr, Some, append_assoc, drop-cons, codes}
+use Rattle.std.proofs.Common.{◌≡◌, ℕ, suc, ◌+◌, ◌-◌, ◌^◌, ◌<◌, ◌≤◌, min, Bool, true, false, cond, not, List, [], ◌∷◌, ◌++◌, length, take, drop, get_or, refl, ap, sym, ◌∙◌, subst, arith, inl, inr, Some, append_assoc, drop-cons, codes}
 use Rattle.std.specs.Prelude.{MatchBool, ◌==◌, bytes_eq}
 use Rattle.std.specs.List.{slice_index_or}
 use Rattle.std.proofs.lemmas.Bool.Decides.{nat_tests}
@@ -12,11 +12,9 @@ use Rattle.life_base.specs.Refusal.{Prefix}
 use Rattle.life_base.specs.Text.{lines_of, onto_first, is_too_long, begins_with}
 use Rattle.life_base.specs.declared.cell.TheConstants.{MAX_LEVEL}
 use Rattle.life_base.specs.declared.fault.Fault.{Fault}
-use Rattle.life_base.specs.declared.kind.Kind.{Kind}
 use Rattle.life_base.specs.declared.kind.Kind.TheVariants.{LineTooLong}
 use Rattle.life_mc.specs.Reading.{broken}
-use Rattle.life_rle.specs.Grammar.{IsMarked, Breaks as BreaksRle}
-use Rattle.life_rle.specs.Pattern.{Rle}
+use Rattle.life_rle.specs.Grammar.{Breaks as BreaksRle}
 use Rattle.life_rle.proofs.FormatLaws.{broken_for_good}
 use Rattle.life_rle.proofs.FrontLaws.{lines_behind_mark_are_free, long_lines_break}
 use Rattle.life_canon.specs.Feeding.{RefusesFront}

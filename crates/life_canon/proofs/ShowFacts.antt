@@ -1,5 +1,5 @@
 -- The five lines of a pattern: its least box, and how many cells and node lines it has.
-use Rattle.std.proofs.Common.{◌≡◌, ◌≢◌, ℕ, zero, suc, ◌+◌, ◌-◌, ◌^◌, ◌<◌, ◌≤◌, Bool, true, false, cond, ◌&&◌, List, [], ◌++◌, length, codes, append_assoc, refl, ap, sym, ◌∙◌, subst, arith, ◌⊎◌, inl, inr, ℤ, pos, neg_ℤ, ◌+ℤ◌, ◌≤ℤ◌, ◌<ℤ◌, Option, Some, None}
+use Rattle.std.proofs.Common.{◌≡◌, ◌≢◌, ℕ, suc, ◌+◌, ◌-◌, ◌^◌, ◌≤◌, Bool, true, false, cond, List, [], ◌++◌, length, codes, append_assoc, refl, ap, sym, ◌∙◌, subst, arith, ℤ, pos, neg_ℤ, ◌+ℤ◌, ◌≤ℤ◌, ◌<ℤ◌, Option, Some, None}
 use Rattle.std.specs.Prelude.{MatchOption, IfSome, decimal}
 use Rattle.std.specs.Fmt.{signed_decimal}
 use Rattle.std.proofs.Math.Pow.{pow_mono}
@@ -11,10 +11,10 @@ use Rattle.life_quad.specs.Store.{Nodes}
 use Rattle.life_quad.proofs.LawLemmas.{known_squares_are_full}
 use Rattle.life_quad.specs.declared.extent.Bounds.{Bounds}
 use Rattle.life_rle.specs.Written.{span}
-use Rattle.life_canon.specs.Universe.{Universe, IsSame, corner, IsWithin}
+use Rattle.life_canon.specs.Universe.{corner, IsWithin}
 use Rattle.life_canon.specs.Listing.{canonical_file}
 use Rattle.life_canon.specs.Store.{content, IsRead, universe_in}
-use Rattle.life_canon.specs.Texts.{IsLeastBox, IsBoxOf, IsOrdered, AreOrdered, IsShown, box_text, show_text}
+use Rattle.life_canon.specs.Texts.{IsBoxOf, AreOrdered, IsShown, box_text, show_text}
 use Rattle.life_canon.specs.declared.pattern.Pattern.{Pattern}
 use Rattle.life_canon.proofs.TreeWords.{HasDepth}
 use Rattle.life_canon.proofs.Trees.{is_blank-blank, state_at-blank}

@@ -1,13 +1,11 @@
 -- The laws of canonical texts and of refusals.
-use Rattle.std.proofs.Common.{◌≡◌, ℕ, zero, suc, ◌+◌, ◌-◌, ◌*◌, ◌^◌, ◌<◌, ◌≤◌, Bool, true, false, cond, List, [], ◌∷◌, ◌++◌, length, refl, ap, sym, ◌∙◌, subst, arith, lit≤, ◌⊎◌, inl, inr, length-append, Option, Some}
-use Rattle.std.specs.Prelude.{◌↔◌, MatchBool}
+use Rattle.std.proofs.Common.{◌≡◌, ℕ, zero, suc, ◌+◌, ◌-◌, ◌*◌, ◌^◌, ◌<◌, ◌≤◌, Bool, true, false, List, [], ◌∷◌, ◌++◌, length, refl, ap, sym, subst, arith, lit≤, ◌⊎◌, inl, inr, length-append, Option, Some}
+use Rattle.std.specs.Prelude.{MatchBool}
 use Rattle.std.proofs.lemmas.Bool.Decides.{nat_tests}
 use Rattle.life_base.specs.Text.{lines_of}
-use Rattle.life_base.specs.Tree.{Tree, point, quad}
-use Rattle.life_base.specs.declared.fault.Fault.{Fault}
+use Rattle.life_base.specs.Tree.{Tree, quad}
 use Rattle.life_base.specs.declared.kind.Kind.{Kind}
 use Rattle.life_base.proofs.Refusals.{one_refusal}
-use Rattle.life_mc.specs.Macrocell.{Macrocell, IsValid}
 use Rattle.life_mc.specs.Reading.{IsMacrocell, broken}
 use Rattle.life_mc.specs.Writing.{mc_text}
 use Rattle.life_mc.proofs.Accepted.{files_are_valid}
@@ -15,8 +13,8 @@ use Rattle.life_mc.proofs.TextBack.{texts_read_back}
 use Rattle.life_rle.specs.Grammar.{Breaks as BreaksRle}
 use Rattle.life_rle.proofs.Unique.{Breaks-unique}
 use Rattle.life_canon.specs.Universe.{Universe, IsSame, macrocell_universe, least_level, whole, IsOnPlane}
-use Rattle.life_canon.specs.Files.{Says, as_macrocell, as_rle, Reads, Accepts, Same, is_macrocell, Breaks, missing, RefusesLines}
-use Rattle.life_canon.specs.Listing.{is_small, is_in, with_new, with_all, walk, listed, lines_for, canonical_file, canon_text}
+use Rattle.life_canon.specs.Files.{as_macrocell, Reads, Accepts, is_macrocell, Breaks, missing}
+use Rattle.life_canon.specs.Listing.{is_small, is_in, with_new, with_all, walk, listed, canonical_file, canon_text}
 use Rattle.life_canon.specs.Laws.{FilesAreOnPlane, BlankOutside, FaultsAreUnique, TextsKeepPatterns, TextsTellUniverses, TextsTellPatterns, TextsAreFiles, TextsAreFixed, CanonicalIsLeast, SquaresHavePlaces, WiderPlaneKeepsTexts}
 use Rattle.life_canon.proofs.TreeWords.{HasDepth, point_depth, quad_depth}
 use Rattle.life_canon.proofs.Trees.{bool_cases, outside-by}

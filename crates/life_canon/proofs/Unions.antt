@@ -1,12 +1,11 @@
 -- What one of the two formats says of lines that are or aren't a file, for files of either format.
-use Rattle.std.proofs.Common.{◌≡◌, ℕ, ◌+◌, ◌-◌, ◌^◌, ◌<◌, ◌≤◌, min, Bool, true, false, cond, List, [], ◌∷◌, ◌++◌, length, take, drop, get_or, refl, ap, sym, ◌∙◌, subst, arith, ◌⊎◌, inl, inr, Option, Some, None, append_assoc, codes}
+use Rattle.std.proofs.Common.{◌≡◌, ℕ, ◌+◌, ◌-◌, ◌^◌, min, Bool, true, false, cond, List, [], ◌∷◌, ◌++◌, length, take, drop, get_or, refl, ap, sym, ◌∙◌, subst, arith, Option, Some, None, append_assoc}
 use Rattle.std.specs.Prelude.{MatchBool}
 use Rattle.std.specs.List.{slice_index_or}
-use Rattle.std.proofs.lemmas.List.{take-append-drop, take-append-le, length-append, append-nil}
+use Rattle.std.proofs.lemmas.List.{take-append-drop, take-append-le, length-append}
 use Rattle.std.proofs.Math.ListN.{get_or-append}
 use Rattle.std.proofs.Math.Seq.{take-append_seam, get_or-append_seam}
-use Rattle.life_base.specs.Refusal.{Prefix, IsPlace, kept, continuations}
-use Rattle.life_base.specs.Text.{begins_with}
+use Rattle.life_base.specs.Refusal.{Prefix, kept, continuations}
 use Rattle.life_base.specs.declared.fault.Fault.{Fault}
 use Rattle.life_base.specs.declared.kind.Kind.{Kind}
 use Rattle.life_base.specs.declared.kind.Kind.TheVariants.{NoHeader}
@@ -15,8 +14,7 @@ use Rattle.life_mc.specs.Macrocell.{Macrocell}
 use Rattle.life_mc.specs.Reading.{AreMacrocell, broken, Accepts as IsSomeMacrocell}
 use Rattle.life_mc.proofs.FormatLaws.{fronts_are_unbroken}
 use Rattle.life_rle.specs.Decided.{LacksHeader}
-use Rattle.life_rle.specs.Grammar.{IsRle, IsSomeRle, Breaks as BreaksRle}
-use Rattle.life_rle.specs.Pattern.{Rle}
+use Rattle.life_rle.specs.Grammar.{IsSomeRle, Breaks as BreaksRle}
 use Rattle.life_rle.proofs.Refusal.{Goes-Prefix, Goes-front, Prefix-Goes, IsPreamble-Prefix, IsPreamble-refused}
 use Rattle.life_rle.proofs.Unique.{Breaks-no_more}
 use Rattle.life_canon.specs.Files.{Says, as_macrocell, as_rle, Accepts, Breaks, RefusesLines, missing, is_macrocell}

@@ -1,7 +1,6 @@
 -- The canonical file has the fewest node lines.
-use Rattle.std.specs.Prelude.{◌≡◌, ℕ, ◌-◌, ◌≤◌, ◌⊎◌, true, List, length, Some, slice_get}
+use Rattle.std.specs.Prelude.{◌≡◌, ℕ, ◌≤◌, ◌⊎◌, true, List, Some, slice_get}
 use Rattle.life_base.specs.Tree.{Tree, depth}
-use Rattle.life_base.specs.declared.rule.Rule.{Rule}
 use Rattle.life_mc.specs.Macrocell.{Macrocell, level_of, numbered}
 use Rattle.life_mc.specs.Cells.{node_lines}
 use Rattle.life_mc.specs.Reading.{IsMacrocell}
@@ -9,7 +8,7 @@ use Rattle.life_mc.specs.Squares.{tree_of}
 use Rattle.life_mc.specs.declared.line.Line.{Line}
 use Rattle.life_mc.specs.declared.line.Line.TheVariants.{Leaf}
 use Rattle.life_canon.specs.Universe.{Universe, IsSame, is_life, least_level, whole, macrocell_universe}
-use Rattle.life_canon.specs.Files.{Says, Reads, Same}
+use Rattle.life_canon.specs.Files.{Reads}
 use Rattle.life_canon.specs.Listing.{listed, is_in}
 
 -- no node line is a leaf

@@ -1,5 +1,5 @@
 -- The texts that the calls give of a file.
-use Rattle.std.specs.Prelude.{◌≡◌, ◌≢◌, ℕ, ◌+◌, ◌^◌, ◌<◌, ◌≤◌, List, [], ◌∷◌, ◌++◌, length, ℤ, pos, neg_ℤ, ◌≤ℤ◌, ◌<ℤ◌, Contains, AllPairs, Option, Some, None, MatchOption, codes, decimal}
+use Rattle.std.specs.Prelude.{◌≡◌, ◌≢◌, ℕ, ◌^◌, ◌<◌, ◌≤◌, List, ◌++◌, length, ℤ, pos, neg_ℤ, ◌≤ℤ◌, ◌<ℤ◌, Contains, AllPairs, Option, Some, None, MatchOption, codes, decimal}
 use Rattle.std.specs.Fmt.{signed_decimal}
 use Rattle.life_base.specs.Rules.{rule_text}
 use Rattle.life_base.specs.declared.cell.Cell.{Cell}

@@ -1,4 +1,4 @@
-use Rattle.std.proofs.Common.{◌≡◌, ◌+◌, ◌-◌, ◌*◌, ◌%◌, ◌^◌, sym, ◌∙◌, arith}
+use Rattle.std.proofs.Common.{◌-◌, ◌*◌, ◌%◌, ◌^◌, sym, ◌∙◌, arith}
 use Rattle.life_base.specs.Tree.{quad}
 use Rattle.life_mc.specs.Cells.{leaf_cell}
 use Rattle.std.proofs.lemmas.Result.{IfOk-weaker}

@@ -1,4 +1,4 @@
-use Rattle.std.proofs.Common.{◌≡◌, ◌-◌, sym, ◌∙◌, ap, map}
+use Rattle.std.proofs.Common.{◌-◌, sym, ◌∙◌, ap, map}
 use Rattle.life_base.specs.Tree.{quad}
 use Rattle.life_mc.specs.Macrocell.{level_of}
 use Rattle.life_mc.specs.Squares.{tree_of, line_tree}

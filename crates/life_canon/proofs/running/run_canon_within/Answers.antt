@@ -1,4 +1,4 @@
-use Rattle.std.proofs.Common.{ap, sym, ◌∙◌}
+use Rattle.std.proofs.Common.{ap}
 use Rattle.std.proofs.lemmas.Result.{err_from_is_err_and}
 use Rattle.life_canon.specs.Running.{by_reading, by_writing}
 use Rattle.life_base.specs.Refusal.{fault_of}

@@ -1,4 +1,4 @@
-use Rattle.std.proofs.Common.{◌≡◌, length, ap, arith}
+use Rattle.std.proofs.Common.{length, ap, arith}
 use Rattle.life_mc.specs.Macrocell.{Macrocell}
 use Rattle.life_canon.proofs.CallFacts.{root-deep}
 use Rattle.life_canon.proofs.Fits.{read-fits}
