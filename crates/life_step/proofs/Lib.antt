@@ -1,0 +1,3 @@
+mod StateFacts
+mod RefusalFacts
+mod StepFacts

@@ -1,0 +1,241 @@
+-- Steps: what the law of a rule answers for the square of a pattern is the next generation of what its file says.
+use Rattle.std.proofs.Common.{◌≡◌, ◌≢◌, ℕ, suc, ◌+◌, ◌-◌, ◌^◌, ◌<◌, ◌≤◌, Bool, true, false, ◌⊎◌, inl, inr, ℤ, List, length, Option, Some, None, refl, sym, ◌∙◌, ap, subst, arith}
+use Rattle.std.specs.Prelude.{◌↔◌, Contains, if◌then◌else◌}
+use Rattle.life_base.specs.Refusal.{fault_of}
+use Rattle.life_base.specs.Rules.{IsRule}
+use Rattle.life_base.specs.Sets.{DigitSets}
+use Rattle.life_base.specs.Tree.{Tree, depth, tree_cell, IsFull}
+use Rattle.life_base.specs.declared.cell.TheConstants.{MAX_LEVEL}
+use Rattle.life_base.specs.declared.fault.Fault.{Fault}
+use Rattle.life_base.specs.declared.kind.Kind.TheVariants as kinds
+use Rattle.life_base.specs.declared.rule.Rule.{Rule}
+use Rattle.life_base.specs.declared.rule.Rule.TheVariants.{Life, Named}
+use Rattle.life_mc.specs.Macrocell.{largest_state}
+use Rattle.life_mc.specs.Squares.{HasStatesUpTo}
+use Rattle.life_mc.specs.Writing.{mc_text}
+use Rattle.life_quad.specs.Moves.{trimmed}
+use Rattle.life_quad.specs.Store.{Nodes, held}
+use Rattle.life_quad.specs.declared.id.Id.{Id}
+use Rattle.life_quad.proofs.LawLemmas.{known_squares_are_full, trimming_keeps_cells, trimmed_is_fixed, trimming_stops}
+use Rattle.life_table.specs.Laws.{OneAnswer}
+use Rattle.life_table.specs.Meaning.{Answer, Becomes, Ambiguous}
+use Rattle.life_table.specs.declared.table.Table.{Table}
+use Rattle.life_table.specs.declared.table.Neighborhood.{Neighborhood}
+use Rattle.life_table.specs.declared.table.Neighborhood.TheVariants.{Moore}
+use Rattle.life_sweep.specs.Around.{eight_around, before, after}
+use Rattle.life_sweep.specs.Generation.{next_life, AnswersAt}
+use Rattle.life_sweep.specs.Laws.{LifeAnswersAt, TableAnswersAt}
+use Rattle.life_sweep.specs.Refused.{GenerationRefusal}
+use Rattle.life_sweep.specs.Sweep.{states_at, LifeAnswers, TableAnswers}
+use Rattle.life_canon.specs.Files.{Reads, Refuses, as_macrocell}
+use Rattle.life_canon.specs.Laws.{FilesAreOnPlane, TextsAreFiles, TextsTellUniverses}
+use Rattle.life_canon.specs.Listing.{canonical_file, canon_text}
+use Rattle.life_canon.specs.Store.{IsKnown, content, Keeps, IsTrimmed, IsWant, universe_in}
+use Rattle.life_canon.specs.Universe.{Universe, IsSame, IsOnPlane, least_level, square_universe, macrocell_universe}
+use Rattle.life_canon.specs.declared.pattern.Pattern.{Pattern}
+use Rattle.life_step.specs.Refusals.{TableRefusal, LifeRefusal, RuleRefusal}
+use Rattle.life_step.specs.Stepped.{IsLifeStep, IsTableStep, IsTextOf, Stepped}
+use Rattle.life_step.proofs.RefusalFacts.{refusal-at, life-refusal, blank-outside}
+use Rattle.life_step.proofs.StateFacts.{states-up-to, cell-byte}
+
+-- ---- the store
+
+pub keeps-all : (old mid new : Nodes) → Keeps old mid → Keeps mid new → Keeps old new
+keeps-all old mid new a b = record {
+  contents = λ id k. let p = a.contents id k in let q = b.contents id p.0 in (q.0, q.1 ∙ p.1);
+  stored = λ t h. b.stored t (a.stored t h);
+  limit = b.limit ∙ a.limit;
+}
+
+pub keeps-of : (old new : Nodes) → ((id : Id) → IsKnown old id → IsKnown new id × (content new id ≡ content old id)) → ((t : Tree) → Contains (held old) t → Contains (held new) t)
+    → new.limit ≡ old.limit → Keeps old new
+keeps-of old new contents stored limit = record { contents = contents; stored = stored; limit = limit }
+
+-- want of room or of memory, or a fault of the step
+pub refused-by : (bytes : List ℕ) (store : Nodes) (u : Universe) (fault : Fault) (P : Type 0) (Q : Universe → Type 0) → Reads MAX_LEVEL bytes u → (P → Q u)
+    → (fault ≡ fault_of kinds.Full → length (held store) ≡ store.limit)
+    → (fault ≡ fault_of kinds.Full) ⊎ ((fault ≡ fault_of kinds.Memory) ⊎ P)
+    → Refuses MAX_LEVEL bytes fault ⊎ (IsWant store fault ⊎ ((v : Universe) × Reads MAX_LEVEL bytes v × Q v))
+refused-by bytes store u fault P Q reads f full (inl e) = inr (inl (inr (e, full e)))
+refused-by bytes store u fault P Q reads f full (inr (inl e)) = inr (inl (inl e))
+refused-by bytes store u fault P Q reads f full (inr (inr p)) = inr (inr (u, reads, f p))
+
+one-least : (rule : Rule) → 1 ≤ least_level rule
+one-least (Life sets) = omega arith
+one-least (Named name) = omega arith
+
+-- a root is no single cell
+pub root-high : (rule : Rule) (d : ℕ) → least_level rule ≤ d → 1 ≤ d
+root-high rule d h = let o = one-least rule in omega (arith, o, h)
+
+-- ---- the text of a square
+
+least-three : (rule : Rule) → least_level rule ≤ 3
+least-three (Life sets) = omega arith
+least-three (Named name) = omega arith
+
+low : (m d : ℕ) → m ≤ 3 → d ≡ 60 → m ≤ d
+low m d h e = omega (arith, h, e)
+
+-- the trimmed square of the whole plane may be numbered
+pub trimmed-fits : (store : Nodes) (rule : Rule) (generation : ℕ) (root : Id) (t : Tree) → IsKnown store root → content store root ≡ trimmed t (least_level rule)
+    → IsFull t → depth t ≡ MAX_LEVEL → ((x y : ℤ) → tree_cell t x y ≤ largest_state rule)
+    → IsTrimmed store (record { rule = rule; generation = generation; root = root })
+trimmed-fits store rule generation root t known is full level states =
+    let m = least_level rule in
+    let one = one-least rule in
+    let fixed = trimmed_is_fixed t m full one in
+    let high = (trimming_stops t m full one).0 (low m (depth t) (least-three rule) level) in
+    let upto = states-up-to (largest_state rule) (trimmed t m) fixed.0 (λ x y. subst (λ n. n ≤ largest_state rule) (sym (trimming_keeps_cells t m full one x y)) (states x y)) in
+    record {
+      known = known;
+      level = subst (λ s. m ≤ depth s) (sym is) high;
+      trimmed = ap (λ s. trimmed s m) is ∙ fixed.1 ∙ sym is;
+      states = subst (HasStatesUpTo (largest_state rule)) (sym is) upto;
+    }
+
+pub plane-of : (rule : Rule) (generation : ℕ) (s t : Tree) → IsRule rule → generation < 2 ^ 64 → ((x y : ℤ) → tree_cell s x y ≡ tree_cell t x y) → depth t ≡ MAX_LEVEL
+    → ((x y : ℤ) → tree_cell t x y ≤ largest_state rule) → IsOnPlane MAX_LEVEL (square_universe rule generation s)
+plane-of rule generation s t is small same level states = record {
+  rule = is;
+  generation = small;
+  states = λ x y. subst (λ n. n ≤ largest_state rule) (sym (same x y)) (states x y);
+  outside = λ x y n. same x y ∙ blank-outside t level x y n;
+}
+
+-- a canonical text says its pattern
+text-of : FilesAreOnPlane MAX_LEVEL → TextsAreFiles MAX_LEVEL → TextsTellUniverses MAX_LEVEL → (u v : Universe) → IsSame u v → IsOnPlane MAX_LEVEL v
+    → (text : List ℕ) → text ≡ canon_text MAX_LEVEL v → IsTextOf MAX_LEVEL u text
+text-of on_plane files tell u v same plane text e =
+    let said = macrocell_universe (canonical_file MAX_LEVEL v) in
+    let f = files v plane in
+    let reads : Reads MAX_LEVEL (canon_text MAX_LEVEL v) said = as_macrocell (canonical_file MAX_LEVEL v) f.0 in
+    record {
+      universe = said;
+      same = record { rule = same.rule ∙ f.1.rule; generation = same.generation ∙ f.1.generation; cells = λ x y. same.cells x y ∙ f.1.cells x y };
+      reads = subst (λ b. Reads MAX_LEVEL b said) (sym e) reads;
+      canonical = e ∙ (tell v said plane (on_plane (canon_text MAX_LEVEL v) said reads)).1 f.1;
+    }
+
+pub text-of-square : FilesAreOnPlane MAX_LEVEL → TextsAreFiles MAX_LEVEL → TextsTellUniverses MAX_LEVEL
+    → (store : Nodes) (rule : Rule) (generation : ℕ) (root : Id) (t : Tree) → IsRule rule → generation < 2 ^ 64 → content store root ≡ trimmed t (least_level rule)
+    → IsFull t → depth t ≡ MAX_LEVEL → ((x y : ℤ) → tree_cell t x y ≤ largest_state rule)
+    → (text : List ℕ) → text ≡ mc_text (canonical_file MAX_LEVEL (universe_in store (record { rule = rule; generation = generation; root = root })))
+    → IsTextOf MAX_LEVEL (square_universe rule generation t) text
+unfolding canon_text
+text-of-square on_plane files tell store rule generation root t is small e full level states text written =
+    let same : (x y : ℤ) → tree_cell (content store root) x y ≡ tree_cell t x y =
+        λ x y. ap (λ s. tree_cell s x y) e ∙ trimming_keeps_cells t (least_level rule) full (one-least rule) x y in
+    text-of on_plane files tell (square_universe rule generation t) (square_universe rule generation (content store root))
+    (record { rule = refl; generation = refl; cells = λ x y. sym (same x y) }) (plane-of rule generation (content store root) t is small same level states) text written
+
+-- ---- answers
+
+-- equal planes have equal neighbourhoods
+same-states : (f g : ℤ → ℤ → ℕ) → ((x y : ℤ) → f x y ≡ g x y) → (x y : ℤ) → states_at f x y ≡ states_at g x y
+same-states f g h x y =
+    let a = h x y in
+    let b = h x (before y) in
+    let c = h (after x) (before y) in
+    let d = h (after x) y in
+    let e = h (after x) (after y) in
+    let i = h x (after y) in
+    let j = h (before x) (after y) in
+    let k = h (before x) y in
+    let l = h (before x) (before y) in
+    cc
+
+same_state : (a b : ℕ) → Becomes a ≡ Becomes b → a ≡ b
+same_state a b e = cc
+
+next-small : (sets : DigitSets) (cells : ℤ → ℤ → ℕ) (x y : ℤ) → next_life eight_around sets cells x y ≤ 1
+next-small sets cells x y = by _
+  where
+    by : (b : Bool) → (if b then 1 else 0) ≤ 1
+    by true = omega arith
+    by false = omega arith
+
+-- ---- under a B/S rule
+
+module _ (law : LifeAnswersAt) (sets : DigitSets) (u : Universe) (t : Tree) (same : (x y : ℤ) → u.cell x y ≡ tree_cell t x y) where
+  life-to : (x y : ℤ) (a : Answer) → LifeAnswers Moore sets (states_at (tree_cell t) x y) a → a ≡ Becomes (next_life eight_around sets u.cell x y)
+  life-to x y a h = (law Moore sets u.cell x y a).0 (subst (λ v. LifeAnswers Moore sets v a) (sym (same-states u.cell (tree_cell t) same x y)) h)
+
+  life-from : (x y : ℤ) (a : Answer) → a ≡ Becomes (next_life eight_around sets u.cell x y) → LifeAnswers Moore sets (states_at (tree_cell t) x y) a
+  life-from x y a h = subst (λ v. LifeAnswers Moore sets v a) (same-states u.cell (tree_cell t) same x y) ((law Moore sets u.cell x y a).1 h)
+
+  pub life-next : (r : Tree) → ((x y : ℤ) → LifeAnswers Moore sets (states_at (tree_cell t) x y) (Becomes (tree_cell r x y)))
+      → (x y : ℤ) → tree_cell r x y ≡ next_life eight_around sets u.cell x y
+  life-next r h x y = same_state _ _ (life-to x y _ (h x y))
+
+  pub life-states : (r : Tree) → ((x y : ℤ) → LifeAnswers Moore sets (states_at (tree_cell t) x y) (Becomes (tree_cell r x y)))
+      → (x y : ℤ) → tree_cell r x y ≤ 1
+  life-states r h x y = subst (λ n. n ≤ 1) (sym (life-next r h x y)) (next-small sets u.cell x y)
+
+  -- the refusal is the one of the file
+  pub life-refused : u.rule ≡ Life sets → u.generation ≢ 2 ^ 64 - 1 → ((x y : ℤ) → u.cell x y ≤ 1) → IsFull t → 1 ≤ depth t
+      → (refusal : Option Fault) → GenerationRefusal (LifeAnswers Moore sets) 2 (2 ^ 20) t refusal → LifeRefusal MAX_LEVEL u refusal
+  life-refused e generation small full high refusal h =
+      subst (λ rule. RuleRefusal MAX_LEVEL rule u refusal) (sym e)
+      (inr (generation, life-refusal u sets (2 ^ 20) refusal small
+      (refusal-at t u same full high (LifeAnswers Moore sets) (λ x y a. a ≡ Becomes (next_life eight_around sets u.cell x y)) life-to life-from (λ states a b p q. p ∙ sym q) 2 (2 ^ 20) refusal h)))
+
+-- the text is that of the next generation
+pub life-stepped : (sets : DigitSets) (u : Universe) (rule : Rule) (generation : ℕ) (r : Tree) (text : List ℕ)
+    → u.rule ≡ Life sets → rule ≡ u.rule → generation ≡ u.generation + 1 → ((x y : ℤ) → tree_cell r x y ≡ next_life eight_around sets u.cell x y)
+    → IsTextOf MAX_LEVEL (square_universe rule generation r) text → Stepped MAX_LEVEL IsLifeStep text u
+life-stepped sets u rule generation r text is same later next h = record {
+  after = h.universe;
+  step = record {
+    sets = sets;
+    rule = is;
+    same_rule = sym h.same.rule ∙ same;
+    generation = sym h.same.generation ∙ later;
+    cells = λ x y. sym (h.same.cells x y) ∙ next x y;
+  };
+  reads = h.reads;
+  canonical = h.canonical;
+}
+
+pub life-last : (sets : DigitSets) (u : Universe) → u.rule ≡ Life sets → u.generation ≡ 2 ^ 64 - 1 → LifeRefusal MAX_LEVEL u (Some (fault_of kinds.GenerationTooLarge))
+life-last sets u e last = subst (λ rule. RuleRefusal MAX_LEVEL rule u (Some (fault_of kinds.GenerationTooLarge))) (sym e) (inl (last, refl))
+
+pub life-named : (name : List ℕ) (u : Universe) → u.rule ≡ Named name → LifeRefusal MAX_LEVEL u (Some (fault_of kinds.NeedsTable))
+life-named name u e = subst (λ rule. RuleRefusal MAX_LEVEL rule u (Some (fault_of kinds.NeedsTable))) (sym e) refl
+
+-- ---- by a table
+
+module _ (law : TableAnswersAt) (table : Table) (u : Universe) (t : Tree) (same : (x y : ℤ) → u.cell x y ≡ tree_cell t x y) where
+  table-to : (x y : ℤ) (a : Answer) → TableAnswers table (states_at (tree_cell t) x y) a → AnswersAt table u.cell x y a
+  table-to x y a h = (law table u.cell x y a).0 (subst (λ v. TableAnswers table v a) (sym (same-states u.cell (tree_cell t) same x y)) h)
+
+  table-from : (x y : ℤ) (a : Answer) → AnswersAt table u.cell x y a → TableAnswers table (states_at (tree_cell t) x y) a
+  table-from x y a h = subst (λ v. TableAnswers table v a) (same-states u.cell (tree_cell t) same x y) ((law table u.cell x y a).1 h)
+
+  pub table-refused : OneAnswer → u.rule ≡ Named table.name → u.generation ≢ 2 ^ 64 - 1 → IsFull t → 1 ≤ depth t
+      → (refusal : Option Fault) → GenerationRefusal (TableAnswers table) table.n_states (2 ^ 20) t refusal → TableRefusal MAX_LEVEL table u refusal
+  table-refused one e generation full high refusal h =
+      inr (λ n. n e, inr (generation,
+      refusal-at t u same full high (TableAnswers table) (AnswersAt table u.cell) table-to table-from (λ states a b p q. one _ _ _ _ _ a b p q) table.n_states (2 ^ 20) refusal h))
+
+  pub table-stepped : (rule : Rule) (generation : ℕ) (r : Tree) (text : List ℕ)
+      → u.rule ≡ Named table.name → rule ≡ u.rule → generation ≡ u.generation + 1
+      → ((x y : ℤ) → TableAnswers table (states_at (tree_cell t) x y) (Becomes (tree_cell r x y)))
+      → IsTextOf MAX_LEVEL (square_universe rule generation r) text → Stepped MAX_LEVEL (IsTableStep table) text u
+  table-stepped rule generation r text is same_rule later next h = record {
+    after = h.universe;
+    step = record {
+      rule = is;
+      same_rule = sym h.same.rule ∙ same_rule;
+      generation = sym h.same.generation ∙ later;
+      cells = λ x y. subst (λ n. AnswersAt table u.cell x y (Becomes n)) (h.same.cells x y) (table-to x y _ (next x y));
+    };
+    reads = h.reads;
+    canonical = h.canonical;
+  }
+
+pub table-mismatch : (table : Table) (u : Universe) → ¬ (u.rule ≡ Named table.name) → TableRefusal MAX_LEVEL table u (Some (fault_of kinds.RuleMismatch))
+table-mismatch table u n = inl (n, refl)
+
+pub table-last : (table : Table) (u : Universe) → u.rule ≡ Named table.name → u.generation ≡ 2 ^ 64 - 1 → TableRefusal MAX_LEVEL table u (Some (fault_of kinds.GenerationTooLarge))
+table-last table u e last = inr (λ n. n e, inl (last, refl))

@@ -1,0 +1,41 @@
+-- One generation of a pattern, and the text of the next one. A B/S rule is of Golly Help (QuickLife), a rule table of Golly Help (File
+-- Formats, rule table).
+use Rattle.std.specs.Prelude.{◌≡◌, ℕ, ◌+◌, List, ℤ}
+use Rattle.life_base.specs.Sets.{DigitSets}
+use Rattle.life_base.specs.declared.rule.Rule.TheVariants.{Life, Named}
+use Rattle.life_table.specs.Meaning.{Becomes}
+use Rattle.life_table.specs.declared.table.Table.{Table}
+use Rattle.life_sweep.specs.Around.{eight_around}
+use Rattle.life_sweep.specs.Generation.{next_life, AnswersAt}
+use Rattle.life_canon.specs.Files.{Reads}
+use Rattle.life_canon.specs.Listing.{canon_text}
+use Rattle.life_canon.specs.Universe.{Universe, IsSame}
+
+-- the next generation of a pattern under a B/S rule
+pub record IsLifeStep (before after : Universe) : Type 0 where
+  pub sets : DigitSets
+  pub rule : before.rule ≡ Life sets
+  pub same_rule : after.rule ≡ before.rule
+  pub generation : after.generation ≡ before.generation + 1
+  pub cells : (x y : ℤ) → after.cell x y ≡ next_life eight_around sets before.cell x y
+
+-- the next generation of a pattern by the table of its rule
+pub record IsTableStep (table : Table) (before after : Universe) : Type 0 where
+  pub rule : before.rule ≡ Named table.name
+  pub same_rule : after.rule ≡ before.rule
+  pub generation : after.generation ≡ before.generation + 1
+  pub cells : (x y : ℤ) → AnswersAt table before.cell x y (Becomes (after.cell x y))
+
+-- the bytes are a file that says this pattern, and are their own canonical text
+pub record IsTextOf (top : ℕ) (pattern : Universe) (bytes : List ℕ) : Type 0 where
+  pub universe : Universe
+  pub same : IsSame pattern universe
+  pub reads : Reads top bytes universe
+  pub canonical : bytes ≡ canon_text top universe
+
+-- the text is a file that says the next generation of the pattern, and is its own canonical text
+pub record Stepped (top : ℕ) (Step : Universe → Universe → Type 0) (text : List ℕ) (before : Universe) : Type 0 where
+  pub after : Universe
+  pub step : Step before after
+  pub reads : Reads top text after
+  pub canonical : text ≡ canon_text top after

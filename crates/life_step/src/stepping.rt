@@ -1,0 +1,146 @@
+//! The steps of the pattern in a file.
+
+ghost use Rattle.std.specs.Prelude.{◌≡◌, ◌≢◌, ◌⊎◌, ◌+◌, ◌^◌, ◌-◌, ◌<◌, ◌≤◌, ◌↔◌, ℤ, Some, None, IfOk, IfErr, OnOk, IsTrue};
+ghost use Rattle.life_base.specs.Refusal.{fault_of};
+ghost use Rattle.life_base.specs.Rules.{IsRule};
+ghost use Rattle.life_base.specs.Tree.{depth, tree_cell};
+ghost use Rattle.life_base.specs.declared.rule.Rule.TheVariants.{Named as NamedRule};
+ghost use Rattle.life_canon.specs.Files.{Reads, Refuses};
+ghost use Rattle.life_canon.specs.Store.{Keeps, IsKnown, IsWant, content};
+ghost use Rattle.life_canon.specs.Universe.{Universe, least_level as least_level_of, square_universe};
+ghost use Rattle.life_mc.specs.Macrocell.{largest_state};
+ghost use Rattle.life_step.specs.Refusals.{LifeRefusal, TableRefusal};
+ghost use Rattle.life_step.specs.Stepped.{IsLifeStep, IsTableStep, IsTextOf, Stepped};
+
+use life_base::{Fault, Kind, MAX_LEVEL, Rule, StepFault};
+use life_canon::laws::{files_are_on_plane, patterns_fit, texts_are_files, texts_tell_universes};
+use life_canon::{Pattern, number, read};
+use life_mc::write_mc;
+use life_quad::{Id, Shared, trim};
+use life_sweep::laws::{life_answers_at, table_answers_at};
+use life_sweep::{ByCounts, ByTable, next_generation};
+use life_table::Table;
+use life_table::laws::one_answer;
+use std::alloc::Global;
+
+/// The most nonzero cells of a pattern that is stepped.
+const MOST_CELLS: u64 = 1 << 20;
+
+/// The least level of the root of a pattern with this rule.
+fn least_level(rule: &Rule) -> u8
+    ensures { result ≡ least_level_of rule.now }
+{
+    match rule {
+        Rule::Life(_) => 3,
+        Rule::Named(_) => 1,
+    }
+}
+
+/// Whether the rule is the table's name.
+fn is_rule_of(table: &Table, rule: &Rule) -> bool
+    ensures { IsTrue result ↔ (rule.now ≡ NamedRule table.now.name) }
+{
+    match rule {
+        Rule::Life(_) => false,
+        Rule::Named(name) => name.bytes() == table.name.bytes(),
+    }
+}
+
+/// The generation behind this one, unless a file can't name it.
+fn generation_after(generation: u64) -> Result<u64, Fault>
+    ensures after { IfOk result (λ after. after ≡ generation + 1) }
+    ensures some { OnOk result (generation ≢ 2 ^ 64 - 1) }
+    ensures last { IfErr result (λ fault. (generation ≡ 2 ^ 64 - 1) × (fault ≡ fault_of Kind.GenerationTooLarge)) }
+{
+    match generation.checked_add(1) {
+        Some(after) => Ok(after),
+        None => Err(Fault::of(Kind::GenerationTooLarge)),
+    }
+}
+
+/// The canonical text of the cells of a square of the whole plane, under this rule and in this generation.
+fn text_of(
+    alloc: Global,
+    store: &mut Shared,
+    rule: Rule,
+    generation: u64,
+    square: Id,
+) -> Result<Vec<u8>, Fault>
+    requires known { IsKnown store.old square }
+    requires level { depth (content store.old square) ≡ MAX_LEVEL }
+    requires rule { IsRule rule }
+    requires states { (x y : ℤ) → tree_cell (content store.old square) x y ≤ largest_state rule }
+    ensures text { IfOk result (λ text. IsTextOf MAX_LEVEL (square_universe rule generation (content store.old square)) text.items) }
+    ensures want { IfErr result (IsWant store.new) }
+    ensures keeps { Keeps store.old store.new }
+{
+    files_are_on_plane();
+    texts_are_files();
+    texts_tell_universes();
+    let root = trim(store, square, least_level(&rule))?;
+    let pattern = Pattern {
+        rule,
+        generation,
+        root,
+    };
+    let file = number(alloc, store, &pattern)?;
+    write_mc(alloc, &file)
+}
+
+/// The canonical text of the next generation of the pattern of a file, under its B/S rule.
+///
+/// # Errors
+///
+/// The place and the kind of the file's fault; then `NeedsTable` for a rule that is a name, `GenerationTooLarge` from the generation
+/// 2^64 - 1, `TooManyCells` where more than 2^20 cells aren't 0, and `OutOfPlane` where a cell outside the plane would not become 0;
+/// `Full` where the store holds its limit, and `Memory`. All but the file's fault name no line.
+pub fn step_life(alloc: Global, store: &mut Shared, bytes: &[u8]) -> Result<Vec<u8>, StepFault>
+    ensures stepped { IfOk result (λ text. (u : Universe) × Reads MAX_LEVEL bytes.now u × LifeRefusal MAX_LEVEL u None × Stepped MAX_LEVEL IsLifeStep text.items u) }
+    ensures refused { IfErr result (λ fault. Refuses MAX_LEVEL bytes.now fault ⊎ (IsWant store.new fault ⊎ ((u : Universe) × Reads MAX_LEVEL bytes.now u × LifeRefusal MAX_LEVEL u (Some fault)))) }
+    ensures keeps { Keeps store.old store.new }
+{
+    let pattern = read(alloc, store, bytes)?;
+    let Rule::Life(rule) = &pattern.rule else {
+        return Err(Fault::of(Kind::NeedsTable));
+    };
+    let mut law = ByCounts::new(*rule);
+    let generation = generation_after(pattern.generation)?;
+    files_are_on_plane();
+    patterns_fit();
+    life_answers_at();
+    let square = next_generation(alloc, store, &mut law, pattern.root, MOST_CELLS)?;
+    text_of(alloc, store, pattern.rule, generation, square)
+}
+
+/// The canonical text of the next generation of the pattern of a file, by the table of its rule.
+///
+/// # Errors
+///
+/// The place and the kind of the file's fault; then `RuleMismatch` unless the rule is the table's name, `GenerationTooLarge` from the
+/// generation 2^64 - 1, `TooManyCells` where more than 2^20 cells aren't 0, `StateBeyondTable` where a cell's state isn't one of the
+/// table's, `Ambiguous` where a line of the table decides a cell and gives it two states, with the number of the line for the first such
+/// cell by row and then column, and `OutOfPlane` where a cell outside the plane would not become 0; `Full` where the store holds its
+/// limit, and `Memory`. All but the file's fault and `Ambiguous` name no line.
+pub fn step_table(
+    alloc: Global,
+    store: &mut Shared,
+    bytes: &[u8],
+    table: &Table,
+) -> Result<Vec<u8>, StepFault>
+    ensures stepped { IfOk result (λ text. (u : Universe) × Reads MAX_LEVEL bytes.now u × TableRefusal MAX_LEVEL table.now u None × Stepped MAX_LEVEL (IsTableStep table.now) text.items u) }
+    ensures refused { IfErr result (λ fault. Refuses MAX_LEVEL bytes.now fault ⊎ (IsWant store.new fault ⊎ ((u : Universe) × Reads MAX_LEVEL bytes.now u × TableRefusal MAX_LEVEL table.now u (Some fault)))) }
+    ensures keeps { Keeps store.old store.new }
+{
+    let pattern = read(alloc, store, bytes)?;
+    if !is_rule_of(table, &pattern.rule) {
+        return Err(Fault::of(Kind::RuleMismatch));
+    }
+    let generation = generation_after(pattern.generation)?;
+    files_are_on_plane();
+    patterns_fit();
+    table_answers_at();
+    one_answer();
+    let mut law = ByTable::new(alloc, table)?;
+    let square = next_generation(alloc, store, &mut law, pattern.root, MOST_CELLS)?;
+    text_of(alloc, store, pattern.rule, generation, square)
+}

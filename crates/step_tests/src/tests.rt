@@ -1,0 +1,110 @@
+//! Worked steps, with the answers that the rules give.
+
+mod edges;
+mod life;
+mod tables;
+
+use life_base::{Fault, Kind, Place};
+use life_canon::canon;
+use life_quad::Shared;
+use life_step::{step_life, step_table};
+use life_table::{Table, read_table};
+use std::alloc::Global;
+use std::process::Abort;
+use std::test::Fail;
+
+/// More squares than a store may hold in these tests.
+const ROOM: u64 = 1 << 31;
+
+/// The canonical text behind some steps, one or more, by a table or under the file's own rule.
+fn stepped(
+    alloc: Global,
+    file: &[u8],
+    table: Option<&Table>,
+    steps: u32,
+) -> Result<Vec<u8>, Fault> {
+    let mut store = Shared::new(alloc, ROOM);
+    let mut text = one_step(alloc, &mut store, file, table)?;
+    for _ in 1..steps {
+        text = one_step(alloc, &mut store, &text, table)?;
+    }
+    Ok(text)
+}
+
+fn one_step(
+    alloc: Global,
+    store: &mut Shared,
+    file: &[u8],
+    table: Option<&Table>,
+) -> Result<Vec<u8>, Fault> {
+    match table {
+        None => step_life(alloc, store, file),
+        Some(table) => step_table(alloc, store, file, table),
+    }
+}
+
+/// The pattern becomes that of another file.
+fn becomes(
+    rt: &impl Abort,
+    alloc: Global,
+    file: &[u8],
+    steps: u32,
+    other: &[u8],
+) -> Result<(), Fail> {
+    let text = stepped(alloc, file, None, steps)?;
+    let mut store = Shared::new(alloc, ROOM);
+    let wanted = canon(alloc, &mut store, other)?;
+    assert_eq!(rt; text.as_slice(), wanted.as_slice());
+    Ok(())
+}
+
+/// The pattern becomes that of another file by a table.
+fn becomes_by(
+    rt: &impl Abort,
+    alloc: Global,
+    table: &[u8],
+    file: &[u8],
+    steps: u32,
+    other: &[u8],
+) -> Result<(), Fail> {
+    let table = read_table(alloc, table)?;
+    let text = stepped(alloc, file, Some(&table), steps)?;
+    let mut store = Shared::new(alloc, ROOM);
+    let wanted = canon(alloc, &mut store, other)?;
+    assert_eq!(rt; text.as_slice(), wanted.as_slice());
+    Ok(())
+}
+
+/// A step of the file has this text.
+fn gives(rt: &impl Abort, alloc: Global, file: &[u8], text: &[u8]) -> Result<(), Fail> {
+    let out = stepped(alloc, file, None, 1)?;
+    assert_eq!(rt; out.as_slice(), text);
+    Ok(())
+}
+
+/// A step of the file is refused at this line.
+fn refuses(rt: &impl Abort, alloc: Global, file: &[u8], line: u64, kind: Kind) {
+    assert_eq!(rt; stepped(alloc, file, None, 1).err(), Some(fault(line, kind)));
+}
+
+/// A step of the file by a table is refused.
+fn refuses_by(
+    rt: &impl Abort,
+    alloc: Global,
+    table: &[u8],
+    file: &[u8],
+    line: u64,
+    kind: Kind,
+) -> Result<(), Fail> {
+    let table = read_table(alloc, table)?;
+    assert_eq!(rt; stepped(alloc, file, Some(&table), 1).err(), Some(fault(line, kind)));
+    Ok(())
+}
+
+/// A fault of this kind at this line.
+fn fault(line: u64, kind: Kind) -> Fault {
+    Fault {
+        place: Place { line },
+        kind,
+    }
+}

@@ -1,0 +1,81 @@
+//! The edges of the plane, and of what is stepped.
+
+use super::{ROOM, becomes, fault, gives, refuses};
+use life_base::Kind;
+use life_quad::Shared;
+use life_step::step_life;
+use std::test::Fail;
+
+#[test]
+fn no_cell_is_born_outside(rt: HostRuntime) -> Result<(), Fail> {
+    let alloc = rt.alloc();
+    refuses(
+        &rt,
+        alloc,
+        b"#CXRLE Pos=0,576460752303423487\nx = 3, y = 1\n3o!\n",
+        0,
+        Kind::OutOfPlane,
+    );
+    refuses(
+        &rt,
+        alloc,
+        b"#CXRLE Pos=0,-576460752303423488\nx = 3, y = 1\n3o!\n",
+        0,
+        Kind::OutOfPlane,
+    );
+    refuses(
+        &rt,
+        alloc,
+        b"#CXRLE Pos=576460752303423487,0\nx = 1, y = 3\no$o$o!\n",
+        0,
+        Kind::OutOfPlane,
+    );
+    refuses(
+        &rt,
+        alloc,
+        b"#CXRLE Pos=-576460752303423488,0\nx = 1, y = 3\no$o$o!\n",
+        0,
+        Kind::OutOfPlane,
+    );
+    gives(
+        &rt,
+        alloc,
+        b"#CXRLE Pos=0,576460752303423487\nx = 3, y = 1\no!\n",
+        b"[M2] (canonical 1)\n#R B3/S23\n#G 1\n",
+    )
+}
+
+#[test]
+fn a_block_stands_in_the_corner(rt: HostRuntime) -> Result<(), Fail> {
+    becomes(
+        &rt,
+        rt.alloc(),
+        b"#CXRLE Pos=576460752303423486,576460752303423486\nx = 2, y = 2\n2o$2o!\n",
+        1,
+        b"#CXRLE Pos=576460752303423486,576460752303423486 Gen=1\nx = 2, y = 2\n2o$2o!\n",
+    )
+}
+
+#[test]
+fn a_row_of_the_plane_has_too_many_cells(rt: HostRuntime) {
+    refuses(
+        &rt,
+        rt.alloc(),
+        b"#CXRLE Pos=-576460752303423488,0\nx = 1, y = 1\n1152921504606846976o!\n",
+        0,
+        Kind::TooManyCells,
+    );
+}
+
+#[test]
+fn a_full_store_takes_no_step(rt: HostRuntime) {
+    let alloc = rt.alloc();
+    let mut store = Shared::new(alloc, 0);
+    assert_eq!(rt;
+        step_life(alloc, &mut store, b"x = 3, y = 1\n3o!\n").err(),
+        Some(fault(0, Kind::Full))
+    );
+    assert_eq!(rt; store.len(), 0);
+    let mut room = Shared::new(alloc, ROOM);
+    assert!(rt; step_life(alloc, &mut room, b"x = 3, y = 1\n3o!\n").is_ok());
+}
