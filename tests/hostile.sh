@@ -533,7 +533,7 @@ asked "show --help" "Usage: golly_canon show <FILE>" show --help
 asked "convert --help" "Usage: golly_canon convert --to <FORMAT> <FILE>" convert --help
 asked "the statuses of same" "  1  they are different patterns" same --help
 asked "an example of show" "  golly_canon show glider.rle" show --help
-asked "help convert" "  mc " help convert
+asked "help convert" "^mc   macrocell" help convert
 for command in canon convert same show; do
     asked "a short help that names $command" "^  $command " -h
 done

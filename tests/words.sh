@@ -39,7 +39,7 @@ own=$(echo "$commands" | grep -vx help)
 
 # ---- the man page
 
-same_words "the man page has the commands" "$(sed -n '/^\.SH COMMANDS/,/^\.SH OPTIONS/s/^\.B[IR] \([a-z]*\) .*/\1/p' $page)" "$commands"
+same_words "the man page has the commands" "$(awk '/^\.SH/ { on = $2 == "COMMANDS" } on && tag && /^\.B[IR] / { print $2 } { tag = $0 == ".TP" }' $page)" "$commands"
 same_words "the man page has the options" "$(sed -n '/^\.SH OPTIONS/,/^\.SH "EXIT/p' $page | sed -n 's/^\.B[IR] //p' | tr -d '\\",' | grep -oE -- '--?[a-zA-Z]+')" \
     "$(options; for command in $own; do options $command; done)"
 same_words "the man page has the statuses" "$(sed -n '/^\.SH "EXIT/,/^\.SH DIAG/s/^\.B \([0-9]\)$/\1/p' $page)" \

@@ -7,7 +7,7 @@ use Rattle.life_base.specs.Refusal.{fault_of}
 use Rattle.life_base.specs.Writing.{WritesPrefix}
 use Rattle.life_base.specs.declared.fault.Fault.{Fault}
 use Rattle.life_base.specs.declared.cell.TheConstants.{MAX_LEVEL}
-use Rattle.life_base.specs.declared.kind.Kind.TheVariants.{InputTooLong, ReadFault, WriteFault, TooManyCells}
+use Rattle.life_base.specs.declared.kind.Kind.TheVariants.{InputTooLong, Memory, ReadFault, WriteFault, TooManyCells}
 use Rattle.life_quad.specs.Store.{Nodes}
 use Rattle.life_canon.specs.Files.{Accepted, Same as AreSame, Refuses}
 use Rattle.life_canon.specs.Running.{RunRefuses}
@@ -47,9 +47,9 @@ pub data InputRefuses (source : SourceRun) (fault : Fault) : Type 0 where
   by_length : fault ≡ fault_of InputTooLong → CameBeyond (2 ^ 30) source.before source.after → InputRefuses source fault
   by_source : fault ≡ fault_of ReadFault → source.failures ≡ 1 → InputRefuses source fault
 
--- a store of 2^31 squares holds its limit, or a growth of memory was refused
+-- a growth of memory was refused, or a store of 2^31 squares holds its limit
 abbrev pub Wants : Fault → Type 0
-Wants fault = (store : Nodes) × (store.limit ≡ 2 ^ 31) × IsWant store fault
+Wants fault = (fault ≡ fault_of Memory) ⊎ ((store : Nodes) × (store.limit ≡ 2 ^ 31) × IsWant store fault)
 
 -- a prefix of the text was written, and the sink failed or took no bytes
 pub record Breaks (output : SinkRun) (text : List ℕ) (fault : Fault) : Type 0 where

@@ -72,7 +72,7 @@ fn lines_of<A: Source>(alloc: Global, first: &mut A) -> Result<Vec<u8>, Fault>
     show(alloc, &mut store, bytes.as_slice())
 }
 
-/// The status of two sources that are compared: 0 where they are the same pattern, else 1.
+/// Whether two sources have the same pattern.
 fn compared<A: Source, B: Source>(alloc: Global, first: &mut A, second: &mut B) -> Result<bool, Fault>
     requires first { A.failures first.old ≡ 0 }
     requires second { B.failures second.old ≡ 0 }
@@ -145,6 +145,13 @@ fn run_show<A: Source, O: Sink>(alloc: Global, first: &mut A, out: &mut O) -> Re
     }
 }
 
+/// The line of a comparison.
+fn line_of(is_same: bool) -> &'static [u8]
+    ensures { result.now ≡ (if is_same then codes "same\n" else codes "different\n") }
+{
+    if is_same { b"same\n" } else { b"different\n" }
+}
+
 /// Writes whether the two files are the same pattern.
 fn run_same<A: Source, B: Source, O: Sink>(
     alloc: Global,
@@ -164,12 +171,7 @@ fn run_same<A: Source, B: Source, O: Sink>(
     ensures unwritten { IfErr result (λ fault. fault.kind ≢ Kind.WriteFault → out.new ≡ out.old) }
 {
     let is_same = compared(alloc, first, second)?;
-    let line = if is_same {
-        b"same\n".as_slice()
-    } else {
-        b"different\n".as_slice()
-    };
-    match write_whole(out, line) {
+    match write_whole(out, line_of(is_same)) {
         Ok(()) => Ok(if is_same { 0 } else { 1 }),
         Err(fault) => Err(fault),
     }

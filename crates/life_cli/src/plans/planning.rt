@@ -16,7 +16,7 @@ use std::alloc::Global;
 fn refusal(alloc: Global, kind: ErrorKind, message: &str) -> Usage
     ensures { ExplainsWhere ⊤ result }
 {
-    let mut command = Command::new(alloc, "golly_canon");
+    let mut command = Command::new(alloc, "golly_canon").override_usage("golly_canon <COMMAND>");
     match command.error(kind, message) {
         Ok(error) => Usage::Words(error),
         Err(error) => Usage::Words(error.into()),
