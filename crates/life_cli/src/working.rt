@@ -9,7 +9,7 @@ ghost use Rattle.life_base.specs.declared.fault.Fault.{Fault};
 ghost use Rattle.life_canon.specs.Files.{Refuses};
 ghost use Rattle.life_canon.specs.Texts.{IsRleOf, IsShown};
 ghost use Rattle.life_cli.specs.Faults.{fault_line, status_of, Tells};
-ghost use Rattle.life_cli.specs.Jobs.{Worked, JobRefuses, InputRefuses, Breaks, HasText, HasNoText, AreCompared, AreUncompared, CanonRefuses, RefusesRle};
+ghost use Rattle.life_cli.specs.Jobs.{Worked, JobRefuses, InputRefuses, Breaks, HasText, HasNoText, FileRefuses, AreCompared, AreUncompared, CanonRefuses, RefusesRle};
 ghost use Rattle.life_cli.specs.Plans.{HasSecond};
 
 use crate::plans::{Job, Target};
@@ -115,8 +115,8 @@ fn run_rle<A: Source, O: Sink>(alloc: Global, first: &mut A, out: &mut O) -> Res
     ensures worked { OnOk result ((second : SourceRun) → Worked (Job.Convert Target.Rle) 0 (source_run A.remaining A.failures first.old first.new) second
         (sink_run O.contents O.failures O.stalled out.old out.new)) }
     ensures flushed { OnOk result (O.flushed out.new ≡ true) }
-    ensures refused { IfErr result (λ fault. (second : SourceRun) → JobRefuses (Job.Convert Target.Rle) (source_run A.remaining A.failures first.old first.new) second
-        (sink_run O.contents O.failures O.stalled out.old out.new) fault) }
+    ensures refused { IfErr result (FileRefuses (IsRleOf MAX_LEVEL (2 ^ 20)) RefusesRle (source_run A.remaining A.failures first.old first.new)
+        (sink_run O.contents O.failures O.stalled out.old out.new)) }
     ensures unwritten { IfErr result (λ fault. fault.kind ≢ Kind.WriteFault → out.new ≡ out.old) }
 {
     let text = rle_of(alloc, first)?;
@@ -134,8 +134,8 @@ fn run_show<A: Source, O: Sink>(alloc: Global, first: &mut A, out: &mut O) -> Re
     ensures worked { OnOk result ((second : SourceRun) → Worked Job.Show 0 (source_run A.remaining A.failures first.old first.new) second
         (sink_run O.contents O.failures O.stalled out.old out.new)) }
     ensures flushed { OnOk result (O.flushed out.new ≡ true) }
-    ensures refused { IfErr result (λ fault. (second : SourceRun) → JobRefuses Job.Show (source_run A.remaining A.failures first.old first.new) second
-        (sink_run O.contents O.failures O.stalled out.old out.new) fault) }
+    ensures refused { IfErr result (FileRefuses (IsShown MAX_LEVEL) (Refuses MAX_LEVEL) (source_run A.remaining A.failures first.old first.new)
+        (sink_run O.contents O.failures O.stalled out.old out.new)) }
     ensures unwritten { IfErr result (λ fault. fault.kind ≢ Kind.WriteFault → out.new ≡ out.old) }
 {
     let text = lines_of(alloc, first)?;

@@ -5,8 +5,8 @@ use Rattle.life_cli.proofs.working.run_rle.Goals as goal
 pub returns-in_err-text-clause-refused : goal.returns-in_err-text-clause-refused
 returns-in_err-text-clause-refused g c =
     let p = err_from_is_err_and c.from_residual.result c.from_residual.ensures.1 in
-    rw (p.1, p.2) (λ second. by_reading c.in_err-text.ensures.err)
+    rw (p.1, p.2) (by_reading c.in_err-text.ensures.err)
 
 pub returns-clause-refused : goal.returns-clause-refused
 returns-clause-refused g c =
-    λ second. by_writing c.in_ok-text.text.items c.in_ok-text.ensures.ok (rw c.as_slice.ensures.value at c.in-Err.ensures.err)
+    by_writing c.in_ok-text.text.items c.in_ok-text.ensures.ok (rw c.as_slice.ensures.value at c.in-Err.ensures.err)
