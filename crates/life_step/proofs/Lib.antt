@@ -1,3 +1,4 @@
 mod StateFacts
 mod RefusalFacts
 mod StepFacts
+mod Rows

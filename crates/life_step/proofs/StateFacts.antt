@@ -17,14 +17,14 @@ depth-capped most (quad a b c d) = ap suc (depth-capped most a)
 full-capped : (most : ℕ) (t : Tree) → IsFull t → IsFull (capped most t)
 full-capped most (point s) h = omega (arith, h)
 full-capped most (quad a b c d) h = (
-    full-capped most a h.0,
-    full-capped most b h.1,
-    full-capped most c h.2,
-    full-capped most d h.3,
-    depth-capped most b ∙ h.4 ∙ sym (depth-capped most a),
-    depth-capped most c ∙ h.5 ∙ sym (depth-capped most a),
-    depth-capped most d ∙ h.6 ∙ sym (depth-capped most a),
-  )
+  full-capped most a h.0,
+  full-capped most b h.1,
+  full-capped most c h.2,
+  full-capped most d h.3,
+  depth-capped most b ∙ h.4 ∙ sym (depth-capped most a),
+  depth-capped most c ∙ h.5 ∙ sym (depth-capped most a),
+  depth-capped most d ∙ h.6 ∙ sym (depth-capped most a),
+)
 
 upto-capped : (most : ℕ) (t : Tree) → HasStatesUpTo most (capped most t)
 upto-capped most (point s) = omega arith

@@ -125,7 +125,7 @@ pub text-of-square : FilesAreOnPlane MAX_LEVEL → TextsAreFiles MAX_LEVEL → T
 unfolding canon_text
 text-of-square on_plane files tell store rule generation root t is small e full level states text written =
     let same : (x y : ℤ) → tree_cell (content store root) x y ≡ tree_cell t x y =
-        λ x y. ap (λ s. tree_cell s x y) e ∙ trimming_keeps_cells t (least_level rule) full (one-least rule) x y in
+    λ x y. ap (λ s. tree_cell s x y) e ∙ trimming_keeps_cells t (least_level rule) full (one-least rule) x y in
     text-of on_plane files tell (square_universe rule generation t) (square_universe rule generation (content store root))
     (record { rule = refl; generation = refl; cells = λ x y. sym (same x y) }) (plane-of rule generation (content store root) t is small same level states) text written
 
@@ -177,8 +177,11 @@ module _ (law : LifeAnswersAt) (sets : DigitSets) (u : Universe) (t : Tree) (sam
       → (refusal : Option Fault) → GenerationRefusal (LifeAnswers Moore sets) 2 (2 ^ 20) t refusal → LifeRefusal MAX_LEVEL u refusal
   life-refused e generation small full high refusal h =
       subst (λ rule. RuleRefusal MAX_LEVEL rule u refusal) (sym e)
-      (inr (generation, life-refusal u sets (2 ^ 20) refusal small
-      (refusal-at t u same full high (LifeAnswers Moore sets) (λ x y a. a ≡ Becomes (next_life eight_around sets u.cell x y)) life-to life-from (λ states a b p q. p ∙ sym q) 2 (2 ^ 20) refusal h)))
+      (inr (
+        generation,
+        life-refusal u sets (2 ^ 20) refusal small
+            (refusal-at t u same full high (LifeAnswers Moore sets) (λ x y a. a ≡ Becomes (next_life eight_around sets u.cell x y)) life-to life-from (λ states a b p q. p ∙ sym q) 2 (2 ^ 20) refusal h),
+      ))
 
 -- the text is that of the next generation
 pub life-stepped : (sets : DigitSets) (u : Universe) (rule : Rule) (generation : ℕ) (r : Tree) (text : List ℕ)
@@ -215,8 +218,13 @@ module _ (law : TableAnswersAt) (table : Table) (u : Universe) (t : Tree) (same 
   pub table-refused : OneAnswer → u.rule ≡ Named table.name → u.generation ≢ 2 ^ 64 - 1 → IsFull t → 1 ≤ depth t
       → (refusal : Option Fault) → GenerationRefusal (TableAnswers table) table.n_states (2 ^ 20) t refusal → TableRefusal MAX_LEVEL table u refusal
   table-refused one e generation full high refusal h =
-      inr (λ n. n e, inr (generation,
-      refusal-at t u same full high (TableAnswers table) (AnswersAt table u.cell) table-to table-from (λ states a b p q. one _ _ _ _ _ a b p q) table.n_states (2 ^ 20) refusal h))
+      inr (
+        λ n. n e,
+        inr (
+          generation,
+          refusal-at t u same full high (TableAnswers table) (AnswersAt table u.cell) table-to table-from (λ states a b p q. one _ _ _ _ _ a b p q) table.n_states (2 ^ 20) refusal h,
+        ),
+      )
 
   pub table-stepped : (rule : Rule) (generation : ℕ) (r : Tree) (text : List ℕ)
       → u.rule ≡ Named table.name → rule ≡ u.rule → generation ≡ u.generation + 1

@@ -103,12 +103,12 @@ pub fn step_life(alloc: Global, store: &mut Shared, bytes: &[u8]) -> Result<Vec<
     let Rule::Life(rule) = &pattern.rule else {
         return Err(Fault::of(Kind::NeedsTable));
     };
-    let mut law = ByCounts::new(*rule);
+    let mut by_counts = ByCounts::new(*rule);
     let generation = generation_after(pattern.generation)?;
     files_are_on_plane();
     patterns_fit();
     life_answers_at();
-    let square = next_generation(alloc, store, &mut law, pattern.root, MOST_CELLS)?;
+    let square = next_generation(alloc, store, &mut by_counts, pattern.root, MOST_CELLS)?;
     text_of(alloc, store, pattern.rule, generation, square)
 }
 
@@ -140,7 +140,7 @@ pub fn step_table(
     patterns_fit();
     table_answers_at();
     one_answer();
-    let mut law = ByTable::new(alloc, table)?;
-    let square = next_generation(alloc, store, &mut law, pattern.root, MOST_CELLS)?;
+    let mut by_table = ByTable::new(alloc, table)?;
+    let square = next_generation(alloc, store, &mut by_table, pattern.root, MOST_CELLS)?;
     text_of(alloc, store, pattern.rule, generation, square)
 }

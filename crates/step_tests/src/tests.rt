@@ -84,7 +84,10 @@ fn gives(rt: &impl Abort, alloc: Global, file: &[u8], text: &[u8]) -> Result<(),
 
 /// A step of the file is refused at this line.
 fn refuses(rt: &impl Abort, alloc: Global, file: &[u8], line: u64, kind: Kind) {
-    assert_eq!(rt; stepped(alloc, file, None, 1).err(), Some(fault(line, kind)));
+    assert_eq!(rt;
+        stepped(alloc, file, None, 1).err(),
+        Some(fault(line, kind))
+    );
 }
 
 /// A step of the file by a table is refused.
@@ -97,7 +100,10 @@ fn refuses_by(
     kind: Kind,
 ) -> Result<(), Fail> {
     let table = read_table(alloc, table)?;
-    assert_eq!(rt; stepped(alloc, file, Some(&table), 1).err(), Some(fault(line, kind)));
+    assert_eq!(rt;
+        stepped(alloc, file, Some(&table), 1).err(),
+        Some(fault(line, kind))
+    );
     Ok(())
 }
 

@@ -4,22 +4,27 @@ use super::{becomes_by, refuses_by};
 use life_base::Kind;
 use std::test::Fail;
 
-const SPREAD: &[u8] = b"@RULE Spread\n@TABLE\nn_states:3\nneighborhood:vonNeumann\nsymmetries:rotate4\nvar a={1,2}\n0,a,0,0,0,a\n";
+const SPREAD: &[u8] =
+    b"@RULE Spread\n@TABLE\nn_states:3\nneighborhood:vonNeumann\nsymmetries:rotate4\nvar a={1,2}\n0,a,0,0,0,a\n";
 
 /// Two neighbours of different states give a cell either.
-const EITHER: &[u8] = b"@RULE Spread\n@TABLE\nn_states:3\nneighborhood:vonNeumann\nsymmetries:permute\nvar a={1,2}\nvar b={1,2}\n0,a,b,0,0,a\n";
+const EITHER: &[u8] =
+    b"@RULE Spread\n@TABLE\nn_states:3\nneighborhood:vonNeumann\nsymmetries:permute\nvar a={1,2}\nvar b={1,2}\n0,a,b,0,0,a\n";
 
 /// One neighbour gives its state, and two of different states either.
-const ONE_OR_EITHER: &[u8] = b"@RULE Spread\n@TABLE\nn_states:3\nneighborhood:vonNeumann\nsymmetries:permute\nvar a={1,2}\nvar b={1,2}\n0,a,0,0,0,a\n0,a,b,0,0,a\n";
+const ONE_OR_EITHER: &[u8] =
+    b"@RULE Spread\n@TABLE\nn_states:3\nneighborhood:vonNeumann\nsymmetries:permute\nvar a={1,2}\nvar b={1,2}\n0,a,0,0,0,a\n0,a,b,0,0,a\n";
 
 /// State 1 is the head of an electron, 2 its tail, 3 wire. A wire becomes a head beside one head or two.
-const WIREWORLD: &[u8] = b"@RULE WireWorld\n@TABLE\nn_states:4\nneighborhood:Moore\nsymmetries:permute\n\
+const WIREWORLD: &[u8] =
+    b"@RULE WireWorld\n@TABLE\nn_states:4\nneighborhood:Moore\nsymmetries:permute\n\
     var a={0,1,2,3}\nvar b={a}\nvar c={a}\nvar d={a}\nvar e={a}\nvar f={a}\nvar g={a}\nvar h={a}\n\
     var i={0,2,3}\nvar j={i}\nvar k={i}\nvar l={i}\nvar m={i}\nvar n={i}\nvar o={i}\n\
     1,a,b,c,d,e,f,g,h,2\n2,a,b,c,d,e,f,g,h,3\n3,1,i,j,k,l,m,n,o,1\n3,1,1,i,j,k,l,m,n,1\n";
 
 /// Brian's Brain: an empty cell beside two firing ones fires (1), then rests (2), then is empty.
-const BRIAN: &[u8] = b"@RULE BriansBrain\n@TABLE\nn_states:3\nneighborhood:Moore\nsymmetries:permute\n\
+const BRIAN: &[u8] =
+    b"@RULE BriansBrain\n@TABLE\nn_states:3\nneighborhood:Moore\nsymmetries:permute\n\
     var a={0,1,2}\nvar b={a}\nvar c={a}\nvar d={a}\nvar e={a}\nvar f={a}\nvar g={a}\nvar h={a}\n\
     var i={0,2}\nvar j={i}\nvar k={i}\nvar l={i}\nvar m={i}\nvar n={i}\n\
     0,1,1,i,j,k,l,m,n,1\n1,a,b,c,d,e,f,g,h,2\n2,a,b,c,d,e,f,g,h,0\n";

@@ -29,8 +29,8 @@ returns-in_err-square-clause-refused c =
     let plane = c.files_are_on_plane.ensures c.args.bytes.now u r.reads in
     let full = (known_squares_are_full store root fits.0.known.0).0 in
     let high = root-high c.in_ok-pattern.pattern.rule _ fits.0.level in
-    let sets = c.new-law.result.rule in
-    let is : u.rule ≡ Life sets = fits.1.rule ∙ c.in-Life.is ∙ ap Life (sym c.new-law.ensures) in
+    let sets = c.new-by_counts.result.rule in
+    let is : u.rule ≡ Life sets = fits.1.rule ∙ c.in-Life.is ∙ ap Life (sym c.new-by_counts.ensures) in
     let some : u.generation ≢ 2 ^ 64 - 1 = λ e. c.in_ok-generation.ensures.some (sym fits.1.generation ∙ e) in
     let small : (x y : ℤ) → u.cell x y ≤ 1 = λ x y. subst (λ q. u.cell x y ≤ largest_state q) is (plane.states x y) in
     let fault = c.in_err-square.field-0.0 in
@@ -50,7 +50,7 @@ text_of-requires-clause-states c =
     let r = c.in_ok-pattern.ensures.pattern in
     let fits = c.patterns_fit.ensures _ _ _ r in
     let next = content c.next_generation.new.squares c.in_ok-square.square in
-    let states = life-states c.life_answers_at.ensures c.new-law.result.rule r.universe t fits.1.cells next c.in_ok-square.ensures.next in
+    let states = life-states c.life_answers_at.ensures c.new-by_counts.result.rule r.universe t fits.1.cells next c.in_ok-square.ensures.next in
     λ x y. subst (λ q. tree_cell next x y ≤ largest_state q) (sym c.in-Life.is) (states x y)
 
 pub returns-clause-stepped : goal.returns-clause-stepped
@@ -64,17 +64,21 @@ returns-clause-stepped c =
     let plane = c.files_are_on_plane.ensures c.args.bytes.now u r.reads in
     let full = (known_squares_are_full store root fits.0.known.0).0 in
     let high = root-high c.in_ok-pattern.pattern.rule _ fits.0.level in
-    let sets = c.new-law.result.rule in
-    let is : u.rule ≡ Life sets = fits.1.rule ∙ c.in-Life.is ∙ ap Life (sym c.new-law.ensures) in
+    let sets = c.new-by_counts.result.rule in
+    let is : u.rule ≡ Life sets = fits.1.rule ∙ c.in-Life.is ∙ ap Life (sym c.new-by_counts.ensures) in
     let some : u.generation ≢ 2 ^ 64 - 1 = λ e. c.in_ok-generation.ensures.some (sym fits.1.generation ∙ e) in
     let small : (x y : ℤ) → u.cell x y ≤ 1 = λ x y. subst (λ q. u.cell x y ≤ largest_state q) is (plane.states x y) in
     let next = content c.next_generation.new.squares c.in_ok-square.square in
     let accepted = life-refused c.life_answers_at.ensures sets u t fits.1.cells is some small full high None c.in_ok-square.ensures.accepted in
     let cells = life-next c.life_answers_at.ensures sets u t fits.1.cells next c.in_ok-square.ensures.next in
     IfOk-weaker c.text_of.result _ _
-    (λ text h.
-    (u, r.reads, accepted, life-stepped sets u c.in_ok-pattern.pattern.rule c.in_ok-generation.generation next text.items is (sym fits.1.rule)
-    (c.in_ok-generation.ensures.after ∙ ap (λ n. n + 1) (sym fits.1.generation)) cells h))
+    (λ text h. (
+      u,
+      r.reads,
+      accepted,
+      life-stepped sets u c.in_ok-pattern.pattern.rule c.in_ok-generation.generation next text.items is (sym fits.1.rule)
+          (c.in_ok-generation.ensures.after ∙ ap (λ n. n + 1) (sym fits.1.generation)) cells h,
+    ))
     c.text_of.ensures.text
 
 pub returns-clause-keeps : goal.returns-clause-keeps

@@ -34,8 +34,8 @@ returns-in_err-square-clause-refused c =
     let is : u.rule ≡ Named table.name = fits.1.rule ∙ c.is_rule_of.ensures.0 c.if-not-is_rule_of.false in
     let some : u.generation ≢ 2 ^ 64 - 1 = λ e. c.in_ok-generation.ensures.some (sym fits.1.generation ∙ e) in
     let fault = c.in_err-square.field-0.0 in
-    let law : Table = c.in_ok-law.law in
-    let same : law ≡ table = c.in_ok-law.ensures.table in
+    let law : Table = c.in_ok-by_table.by_table in
+    let same : law ≡ table = c.in_ok-by_table.ensures.table in
     let p = err_from_is_err_and c.from_residual-in_err-square.result c.from_residual-in_err-square.ensures.1 in
     rw (p.1, p.2)
     (refused-by c.args.bytes.now c.next_generation.new.squares u fault (GenerationRefusal (TableAnswers law) law.n_states (2 ^ 20) t (Some fault)) (λ v. TableRefusal MAX_LEVEL table v (Some fault)) r.reads
@@ -67,16 +67,20 @@ returns-clause-stepped c =
     let high = root-high c.in_ok-pattern.pattern.rule _ fits.0.level in
     let is : u.rule ≡ Named table.name = fits.1.rule ∙ c.is_rule_of.ensures.0 c.if-not-is_rule_of.false in
     let some : u.generation ≢ 2 ^ 64 - 1 = λ e. c.in_ok-generation.ensures.some (sym fits.1.generation ∙ e) in
-    let law : Table = c.in_ok-law.law in
-    let same : law ≡ table = c.in_ok-law.ensures.table in
+    let law : Table = c.in_ok-by_table.by_table in
+    let same : law ≡ table = c.in_ok-by_table.ensures.table in
     let next = content c.next_generation.new.squares c.in_ok-square.square in
     let accepted = table-refused c.table_answers_at.ensures table u t fits.1.cells c.one_answer.ensures is some full high None
-        (subst (λ (T : Table). GenerationRefusal (TableAnswers T) T.n_states (2 ^ 20) t None) same c.in_ok-square.ensures.accepted) in
+    (subst (λ (T : Table). GenerationRefusal (TableAnswers T) T.n_states (2 ^ 20) t None) same c.in_ok-square.ensures.accepted) in
     let cells = subst (λ (T : Table). (x y : ℤ) → TableAnswers T (states_at (tree_cell t) x y) (Becomes (tree_cell next x y))) same c.in_ok-square.ensures.next in
     IfOk-weaker c.text_of.result _ _
-    (λ text h.
-    (u, r.reads, accepted, table-stepped c.table_answers_at.ensures table u t fits.1.cells c.in_ok-pattern.pattern.rule c.in_ok-generation.generation next text.items is (sym fits.1.rule)
-    (c.in_ok-generation.ensures.after ∙ ap (λ n. n + 1) (sym fits.1.generation)) cells h))
+    (λ text h. (
+      u,
+      r.reads,
+      accepted,
+      table-stepped c.table_answers_at.ensures table u t fits.1.cells c.in_ok-pattern.pattern.rule c.in_ok-generation.generation next text.items is (sym fits.1.rule)
+          (c.in_ok-generation.ensures.after ∙ ap (λ n. n + 1) (sym fits.1.generation)) cells h,
+    ))
     c.text_of.ensures.text
 
 pub returns-clause-keeps : goal.returns-clause-keeps

@@ -1,0 +1,46 @@
+-- Worked examples of a step and of its refusals.
+use Rattle.std.proofs.Common.{ℕ, ◌-◌, ◌^◌, inl, Some, [], ◌∷◌, refl, arith}
+use Rattle.std.specs.Prelude.{ℤ, pos, ◌&&◌, int_le, if◌then◌else◌}
+use Rattle.std.proofs.lemmas.Int.{ints}
+use Rattle.life_base.specs.Refusal.{fault_of}
+use Rattle.life_base.specs.Sets.{DigitSets}
+use Rattle.life_base.specs.declared.kind.Kind.TheVariants as kinds
+use Rattle.life_base.specs.declared.rule.Rule.TheVariants.{Life, Named}
+use Rattle.life_table.specs.declared.table.Table.{Table}
+use Rattle.life_canon.specs.Universe.{Universe, corner}
+use Rattle.life_step.specs.Refusals.{LifeRefusal, IsOfPlane, LeavesByRule}
+use Rattle.life_step.specs.Stepped.{IsLifeStep}
+
+-- B3/S23
+abbrev life : DigitSets
+life = record { births = 8; survivals = 12 }
+
+-- no cell is alive
+abbrev empty : ℕ → Universe
+empty generation = record { rule = Life life; generation = generation; cell = λ x y. 0 }
+
+-- an empty plane stays empty, a generation later
+empty_stays : IsLifeStep (empty 7) (empty 8)
+empty_stays = record { sets = life; rule = refl; same_rule = refl; generation = refl; cells = λ x y. refl }
+
+-- the last generation has no next
+last : LifeRefusal 60 (empty (2 ^ 64 - 1)) (Some (fault_of kinds.GenerationTooLarge))
+last = inl (refl, refl)
+
+-- a name needs a table, in whatever generation
+abbrev wires : ℕ → Universe
+wires generation = record { rule = Named (87 ∷ []); generation = generation; cell = λ x y. 3 }
+
+needs : LifeRefusal 60 (wires (2 ^ 64 - 1)) (Some (fault_of kinds.NeedsTable))
+needs = refl
+
+-- three live cells in a row at the southern edge of the plane: a cell south of them, outside it, would be born
+abbrev edge : Universe
+edge = record { rule = Life life; generation = 0; cell = λ x y. if int_le (pos (2 ^ 59 - 1)) y && int_le y (pos (2 ^ 59 - 1)) && int_le (pos 0) x && int_le x (pos 2) then 1 else 0 }
+
+outside : ¬ (IsOfPlane 60 (pos 1) (pos (2 ^ 59)))
+unfolding corner
+outside h = let south = h.1.1 in omega (arith, ints, south)
+
+leaves : LeavesByRule 60 life edge
+leaves = (pos 1, pos (2 ^ 59), outside, λ e. omega (arith, e))
