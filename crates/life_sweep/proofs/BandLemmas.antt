@@ -1,12 +1,12 @@
 -- Bands: what a step to the next row keeps.
-use Rattle.std.proofs.Common.{◌≡◌, ℕ, zero, suc, ◌+◌, ◌*◌, ◌<◌, ◌≤◌, ◌==◌, Bool, true, false, ◌⊎◌, inl, inr, ℤ, pos, negsuc, ◌+ℤ◌, ◌≤ℤ◌, ◌<ℤ◌, List, [], ◌∷◌, ◌++◌, length, length-append, refl, sym, ◌∙◌, ap, subst, arith, true≢false}
+use Rattle.std.proofs.Common.{◌≡◌, ℕ, ◌+◌, ◌*◌, ◌<◌, ◌==◌, Bool, ◌⊎◌, inl, inr, ℤ, pos, ◌+ℤ◌, ◌≤ℤ◌, ◌<ℤ◌, List, [], ◌∷◌, ◌++◌, length, length-append, refl, sym, ◌∙◌, ap, subst, arith}
 use Rattle.std.specs.Prelude.{All, if◌then◌else◌}
 use Rattle.std.proofs.lemmas.Int.{ints}
 use Rattle.std.proofs.lemmas.Bool.Decides.{eqb_tells}
 use Rattle.std.proofs.lemmas.List.Elements.{All-head, All-tail}
 use Rattle.life_base.specs.declared.cell.Cell.{Cell}
 use Rattle.life_sweep.specs.Around.{before, after}
-use Rattle.life_sweep.specs.Rows.{IsRest, IsRestOf, IsFrom, Precedes, BeginsAt, HasNoFirstIn, IsSplitAtRow, IsInside, IsBlankBefore, AreRows, InRows, AreInside, column_at, no_column, IsBand, IsSoundBand, IsNextRow, IsLastBand, IsFarRow, GoesSouth, rows_left, end_of_plane, far}
+use Rattle.life_sweep.specs.Rows.{IsRest, IsRestOf, IsFrom, BeginsAt, HasNoFirstIn, IsSplitAtRow, IsInside, IsBlankBefore, AreRows, IsBand, IsNextRow, IsLastBand, IsFarRow, GoesSouth, rows_left, end_of_plane, far}
 use Rattle.life_sweep.specs.declared.column.Rows.{Rows}
 use Rattle.life_sweep.specs.declared.band.Band.{Band}
 use Rattle.life_sweep.proofs.RowLemmas.{less-or-not, column-is, IsRest-none}

@@ -1,5 +1,5 @@
 -- The sorted cells of a square are what is left of the plane from its first place on.
-use Rattle.std.proofs.Common.{◌≡◌, ◌≢◌, ℕ, zero, suc, ◌+◌, ◌-◌, ◌^◌, ◌<◌, ◌≤◌, ◌⊎◌, inl, inr, ℤ, pos, negsuc, neg_ℤ, ◌+ℤ◌, ◌≤ℤ◌, ◌<ℤ◌, List, [], ◌∷◌, length, get_or, refl, sym, ◌∙◌, ap, subst, arith}
+use Rattle.std.proofs.Common.{◌≡◌, ◌≢◌, ℕ, zero, suc, ◌-◌, ◌^◌, ◌≤◌, ◌⊎◌, inl, inr, ℤ, pos, neg_ℤ, ◌≤ℤ◌, ◌<ℤ◌, List, [], ◌∷◌, get_or, refl, sym, ◌∙◌, ap, subst, arith}
 use Rattle.std.specs.Prelude.{All, AllPairs, Contains}
 use Rattle.std.proofs.lemmas.Int.{ints}
 use Rattle.std.proofs.lemmas.Bool.Decides.{eqb_tells}
@@ -11,7 +11,7 @@ use Rattle.life_base.specs.Tree.{Tree, depth, half_side, tree_cell}
 use Rattle.life_quad.specs.Cells.{IsBefore, IsCellList}
 use Rattle.life_quad.proofs.LawLemmas.{cells_lie_inside}
 use Rattle.life_sweep.specs.Around.{after}
-use Rattle.life_sweep.specs.Rows.{IsRestOf, IsFrom, Precedes, IsInside, IsBlankBefore, end_of_plane, far}
+use Rattle.life_sweep.specs.Rows.{IsRestOf, IsFrom, Precedes, IsInside, IsBlankBefore, end_of_plane}
 
 cases : (cell d : Cell) (rest : List Cell) → Contains (cell ∷ rest) d → (cell ≡ d) ⊎ Contains rest d
 cases cell d rest (zero, l, e) = inl e

@@ -1,10 +1,10 @@
 -- Laws: the number of live neighbours, and the neighbours that a table looks at.
-use Rattle.std.proofs.Common.{◌≡◌, ℕ, zero, suc, ◌+◌, ◌<◌, Bool, true, false, cond, ◌⊎◌, inl, inr, List, [], ◌∷◌, length, drop, get_or, refl, sym, ◌∙◌, ap, subst, arith, drop-cons}
+use Rattle.std.proofs.Common.{◌≡◌, ℕ, ◌+◌, ◌<◌, Bool, cond, inl, inr, List, [], ◌∷◌, length, drop, get_or, refl, sym, ◌∙◌, ap, subst, arith}
 use Rattle.std.specs.Prelude.{All, nat_eq, slice_index, Result, Ok, Err, IfOk, MatchResult}
 use Rattle.std.proofs.lemmas.Bool.Decides.{eqb_tells}
 use Rattle.life_base.specs.declared.fault.Fault.{Fault}
 use Rattle.life_base.specs.declared.kind.Kind.TheVariants as kinds
-use Rattle.life_table.specs.Meaning.{Answer, Becomes, Ambiguous, Decides, count_of}
+use Rattle.life_table.specs.Meaning.{Becomes, Ambiguous, Decides, count_of}
 use Rattle.life_table.specs.declared.table.Table.{Table}
 use Rattle.life_table.specs.declared.table.Neighborhood.{Neighborhood}
 use Rattle.life_sweep.specs.Sweep.{TableAnswers, named}

@@ -1,8 +1,6 @@
 -- What laws answer, in the words of the plane.
 use Rattle.std.proofs.Common.{◌≡◌, ℕ, ℤ}
-use Rattle.life_base.specs.Sets.{DigitSets}
-use Rattle.life_table.specs.Meaning.{Answer, Becomes, Decides}
-use Rattle.life_table.specs.declared.table.Table.{Table}
+use Rattle.life_table.specs.Meaning.{Decides}
 use Rattle.life_table.specs.declared.table.Neighborhood.{Neighborhood}
 use Rattle.life_table.specs.declared.table.Neighborhood.TheVariants.{VonNeumann, Moore}
 use Rattle.std.proofs.Common.{List, subst, sym, refl}

@@ -1,6 +1,7 @@
 pub mod RowLemmas
 pub mod BandLemmas
 pub mod WindowLemmas
+pub mod PenLemmas
 pub mod SweepLemmas
 pub mod LawLemmas
 pub mod LawProofs

@@ -1,5 +1,5 @@
 -- When a generation is refused.
-use Rattle.std.proofs.Common.{◌≡◌, ◌≢◌, ℕ, zero, suc, ◌+◌, ◌-◌, ◌^◌, ◌<◌, ◌≤◌, ◌⊎◌, inl, inr, Bool, true, false, nat_lt, ℤ, pos, neg_ℤ, ◌+ℤ◌, ◌≤ℤ◌, ◌<ℤ◌, List, [], ◌∷◌, length, get_or, Some, None, refl, sym, ◌∙◌, ap, subst, arith}
+use Rattle.std.proofs.Common.{◌≡◌, ℕ, zero, suc, ◌-◌, ◌^◌, ◌<◌, ◌≤◌, inl, inr, Bool, true, false, nat_lt, ℤ, List, [], ◌∷◌, Some, None, refl, ◌∙◌, ap, subst, arith}
 use Rattle.std.specs.Prelude.{All, Contains, Result, Ok, Err, IfOk}
 use Rattle.std.proofs.lemmas.Int.{ints}
 use Rattle.std.proofs.lemmas.Bool.Decides.{eqb_tells}
@@ -10,7 +10,6 @@ use Rattle.life_base.specs.declared.kind.Kind.TheVariants as kinds
 use Rattle.life_base.specs.Refusal.{fault_of}
 use Rattle.life_base.specs.Tree.{Tree, depth, half_side, tree_cell}
 use Rattle.life_quad.specs.Cells.{IsCellList, population}
-use Rattle.life_strip.specs.Given.{IsOnPlane}
 use Rattle.life_table.specs.Meaning.{Answer, Becomes, Ambiguous}
 use Rattle.life_sweep.specs.Refused.{GenerationRefusal, HasStateFrom, SomeAmbiguous}
 use Rattle.life_sweep.specs.Sweep.{RefusesStep, states_at, IsLeft}
@@ -65,8 +64,8 @@ module _ (A : List ℕ → Answer → Type 0) (one : (v : List ℕ) (a b : Answe
   none-left r level next l = elim (eqb_tells (tree_cell r l.x l.y) 0) [
     | inl z ↦ l.nonzero (same ∙ z.1)
     | inr z ↦ (let i = nonzero-inside r l.x l.y z.1 in
-    let half : half_side r ≡ 2 ^ 59 = ap (λ k. 2 ^ (k - 1)) level in
-    l.outside (record { west = omega (arith, ints, i.west, half); east = omega (arith, ints, i.east, half); north = omega (arith, ints, i.north, half); south = omega (arith, ints, i.south, half) }))
+        let half : half_side r ≡ 2 ^ 59 = ap (λ k. 2 ^ (k - 1)) level in
+        l.outside (record { west = omega (arith, ints, i.west, half); east = omega (arith, ints, i.east, half); north = omega (arith, ints, i.north, half); south = omega (arith, ints, i.south, half) }))
   ]
     where
       same : l.next ≡ tree_cell r l.x l.y

@@ -1,12 +1,10 @@
 -- Sweeps: what a step to the next place keeps.
-use Rattle.std.proofs.Common.{◌≡◌, ◌≢◌, ℕ, ◌+◌, ◌-◌, ◌<◌, ◌≤◌, Bool, true, false, ◌||◌, ◌⊎◌, inl, inr, ℤ, pos, negsuc, neg_ℤ, ◌+ℤ◌, ◌≤ℤ◌, ◌<ℤ◌, List, [], ◌∷◌, ◌++◌, length, slice_get, refl, sym, ◌∙◌, ap, subst, arith, true≢false}
+use Rattle.std.proofs.Common.{◌≡◌, ℕ, ◌-◌, Bool, false, ◌⊎◌, inl, inr, ℤ, ◌≤ℤ◌, ◌<ℤ◌, List, [], ◌∷◌, length, slice_get, refl, sym, ◌∙◌, ap, subst, arith, true≢false}
 use Rattle.std.proofs.lemmas.Int.{ints}
 use Rattle.life_table.specs.Meaning.{Answer, Becomes, Ambiguous}
-use Rattle.life_strip.specs.Given.{GivenRun, IsNext, IsOnPlane, AreInOrder, state_by}
-use Rattle.life_strip.proofs.GivenLemmas.{state_by-push}
-use Rattle.life_quad.specs.Cells.{IsInRun}
+use Rattle.life_strip.specs.Given.{GivenRun, IsNext, state_by}
 use Rattle.life_sweep.specs.Around.{before, after}
-use Rattle.life_sweep.specs.Rows.{IsFrom, Precedes, IsFar, IsFarRow, IsBlankBefore, column_at, no_column, end_of_plane, start_of_sweep, IsWindow, GoesOn, states_of}
+use Rattle.life_sweep.specs.Rows.{IsFrom, Precedes, IsFar, IsFarRow, IsBlankBefore, column_at, no_column, end_of_plane, IsWindow, GoesOn, states_of}
 use Rattle.life_sweep.specs.Sweep.{states_at, zeros, IsDrawnAt, IsLeft, IsFirstAmbiguous, IsSwept, IsSweptRows, IsPut, IsReady, IsReadyRow}
 use Rattle.life_sweep.specs.declared.column.Column.{Column}
 use Rattle.life_sweep.specs.declared.window.Window.{Window}
@@ -152,21 +150,6 @@ nothing-given runs none x y last e = absurd (let h = ap (λ (l : List GivenRun).
 
 pub nothing-drawn : (runs : List GivenRun) → runs ≡ [] → (x y : ℤ) → state_by runs x y ≡ 0
 nothing-drawn runs none x y = ap (λ (l : List GivenRun). state_by l x y) none
-
--- a run of one cell more
-abbrev pub one_run : ℤ → ℤ → ℕ → GivenRun
-one_run x y state = record { x = x; y = y; len = 1; state = state }
-
-pub one-cell : (runs all : List GivenRun) (x y : ℤ) (state : ℕ) → AreInOrder runs → IsNext runs x y → all ≡ runs ++ one_run x y state ∷ [] → state_by all x y ≡ state
-one-cell runs all x y state order next e =
-    let here : IsInRun x y 1 x y = record { same_row = refl; from = omega (arith, ints); to = omega (arith, ints) } in
-    ap (λ (l : List GivenRun). state_by l x y) e ∙ sym (state_by-push runs (one_run x y state) x y (state_by runs x y) state order next refl (λ _. refl) (λ out. absurd (out here)))
-
-pub other-cells : (runs all : List GivenRun) (x y : ℤ) (state : ℕ) → AreInOrder runs → IsNext runs x y → all ≡ runs ++ one_run x y state ∷ []
-    → (c r : ℤ) → (c ≡ x → r ≡ y → ⊥) → state_by all c r ≡ state_by runs c r
-other-cells runs all x y state order next e c r ne =
-    ap (λ (l : List GivenRun). state_by l c r) e
-    ∙ sym (state_by-push runs (one_run x y state) c r (state_by runs c r) (state_by runs c r) order next refl (λ i. absurd (ne (omega (arith, ints, i.from, i.to)) i.same_row)) (λ _. refl))
 
 -- the states of a window are those around its place
 pub window-states : (cells : ℤ → ℤ → ℕ) (y : ℤ) (z : Window) → IsWindow cells y z → states_of z ≡ states_at cells z.x y

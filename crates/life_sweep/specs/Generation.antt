@@ -1,10 +1,10 @@
 -- The next state of every pair of whole numbers: under a B/S rule (Golly Help, QuickLife) and by a rule table (Golly Help, File Formats,
 -- rule table). North is y - 1, east is x + 1.
-use Rattle.std.specs.Prelude.{◌≡◌, ℕ, ◌==◌, Bool, ◌&&◌, ◌||◌, if◌then◌else◌, ℤ, pos, negsuc, ◌+ℤ◌, List, [], ◌∷◌, drop, slice_index}
+use Rattle.std.specs.Prelude.{ℕ, ◌==◌, ◌&&◌, ◌||◌, if◌then◌else◌, ℤ, List}
 use Rattle.life_sweep.specs.Around.{four_around, eight_around}
 use Rattle.life_base.specs.Sets.{DigitSets}
 use Rattle.life_base.specs.Rules.{has_digit}
-use Rattle.life_table.specs.Meaning.{Answer, Becomes, Decides, count_of}
+use Rattle.life_table.specs.Meaning.{Answer, Decides, count_of}
 use Rattle.life_table.specs.declared.table.Table.{Table}
 use Rattle.life_table.specs.declared.table.Neighborhood.{Neighborhood}
 use Rattle.life_table.specs.declared.table.Neighborhood.TheVariants.{VonNeumann, Moore}

@@ -10,6 +10,7 @@ mod column;
 mod generation;
 mod law;
 pub mod laws;
+mod pen;
 mod sweep;
 mod window;
 

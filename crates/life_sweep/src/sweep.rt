@@ -5,6 +5,7 @@ ghost use Rattle.life_base.specs.Refusal.{fault_of};
 ghost use Rattle.life_base.specs.Tree.{Tree, depth, tree_cell};
 ghost use Rattle.life_quad.specs.declared.id.Id.{Id as IdValue};
 ghost use Rattle.life_strip.specs.Filling.{IsFilling};
+ghost use Rattle.life_sweep.specs.Pen.{IsHolding, drawn_runs};
 ghost use Rattle.life_strip.specs.Given.{IsOnPlane, state_by};
 ghost use Rattle.life_table.specs.Meaning.{Answer, Becomes, Ambiguous};
 ghost use Rattle.life_sweep.specs.Around.{after};
@@ -14,10 +15,10 @@ ghost use Rattle.life_sweep.specs.Sweep.{IsScene, IsSorted, RefusesStep, states_
 use crate::band::Band;
 use crate::column::Rows;
 use crate::law::Law;
+use crate::pen::Pen;
 use crate::window::Window;
 use life_base::{Cell, Fault, Kind, MAX_LEVEL};
 use life_quad::{Id, Squares};
-use life_strip::Builder;
 use life_strip::laws::empty_builder_fills;
 use std::alloc::Global;
 
@@ -35,7 +36,7 @@ fn is_on_plane(x: i64, y: i64) -> bool
 // known before.
 fn draw_place<S: Squares, L: Law>(
     squares: &mut S,
-    builder: &mut Builder,
+    pen: &mut Pen,
     law: &mut L,
     window: &Window,
     y: i64,
@@ -43,13 +44,13 @@ fn draw_place<S: Squares, L: Law>(
 ) -> Result<bool, Fault>
     requires place { IsSoundWindow window.now }
     requires states { IsWindowBelow (L.bound law.old) window.now }
-    requires filling { IsFilling (S.knows squares.old) (S.content squares.old) builder.old }
-    requires ready { IsReady builder.old.runs window.now.x y }
+    requires holding { IsHolding (S.knows squares.old) (S.content squares.old) pen.old }
+    requires ready { IsReady (drawn_runs pen.old) window.now.x y }
     ensures same { law.new ≡ law.old }
-    ensures filling { OnOk result (IsFilling (S.knows squares.new) (S.content squares.new) builder.new) }
-    ensures ready { OnOk result (IsReady builder.new.runs (after window.now.x) y) }
-    ensures put { IfOk result (λ all. state_by builder.old.runs window.now.x y ≡ 0 → IsPut (L.answers law.old) (states_of window.now) (state_by builder.new.runs) leaves all window.now.x y) }
-    ensures others { OnOk result ((c r : ℤ) → (c ≡ window.now.x → r ≡ y → ⊥) → state_by builder.new.runs c r ≡ state_by builder.old.runs c r) }
+    ensures holding { OnOk result (IsHolding (S.knows squares.new) (S.content squares.new) pen.new) }
+    ensures ready { OnOk result (IsReady (drawn_runs pen.new) (after window.now.x) y) }
+    ensures put { IfOk result (λ all. state_by (drawn_runs pen.old) window.now.x y ≡ 0 → IsPut (L.answers law.old) (states_of window.now) (state_by (drawn_runs pen.new)) leaves all window.now.x y) }
+    ensures others { OnOk result ((c r : ℤ) → (c ≡ window.now.x → r ≡ y → ⊥) → state_by (drawn_runs pen.new) c r ≡ state_by (drawn_runs pen.old) c r) }
     ensures keeps { (q : IdValue) → S.knows squares.old q → S.knows squares.new q × (S.content squares.new q ≡ S.content squares.old q) }
     ensures stays { (t : Tree) → Contains (S.stored squares.old) t → Contains (S.stored squares.new) t }
     ensures most { S.most squares.new ≡ S.most squares.old }
@@ -63,7 +64,7 @@ fn draw_place<S: Squares, L: Law>(
     if !is_on_plane(window.x, y) {
         return Ok(true);
     }
-    builder.add_run(squares, window.x, y, 1, state)?;
+    pen.draw(squares, window.x, y, state)?;
     Ok(leaves)
 }
 
@@ -71,7 +72,7 @@ fn draw_place<S: Squares, L: Law>(
 // it may be known of earlier rows.
 fn draw_row<S: Squares, L: Law>(
     squares: &mut S,
-    builder: &mut Builder,
+    pen: &mut Pen,
     law: &mut L,
     rows: Rows,
     y: i64,
@@ -80,22 +81,22 @@ fn draw_row<S: Squares, L: Law>(
     requires states { AreBelow (L.bound law.old) rows }
     requires inside { AreInside rows }
     requires sorted { AreSorted rows }
-    requires filling { IsFilling (S.knows squares.old) (S.content squares.old) builder.old }
-    requires ready { IsReadyRow builder.old.runs y }
+    requires holding { IsHolding (S.knows squares.old) (S.content squares.old) pen.old }
+    requires ready { IsReadyRow (drawn_runs pen.old) y }
     ensures same { law.new ≡ law.old }
-    ensures filling { OnOk result (IsFilling (S.knows squares.new) (S.content squares.new) builder.new) }
-    ensures ready { OnOk result (IsReadyRow builder.new.runs (after y)) }
-    ensures swept { IfOk result (λ left. (cells : ℤ → ℤ → ℕ) → IsScene cells y rows.entry → IsSweptRows (L.answers law.old) cells (state_by builder.old.runs) leaves y → IsSweptRows (L.answers law.old) cells (state_by builder.new.runs) left (after y)) }
+    ensures holding { OnOk result (IsHolding (S.knows squares.new) (S.content squares.new) pen.new) }
+    ensures ready { OnOk result (IsReadyRow (drawn_runs pen.new) (after y)) }
+    ensures swept { IfOk result (λ left. (cells : ℤ → ℤ → ℕ) → IsScene cells y rows.entry → IsSweptRows (L.answers law.old) cells (state_by (drawn_runs pen.old)) leaves y → IsSweptRows (L.answers law.old) cells (state_by (drawn_runs pen.new)) left (after y)) }
     ensures keeps { (q : IdValue) → S.knows squares.old q → S.knows squares.new q × (S.content squares.new q ≡ S.content squares.old q) }
     ensures stays { (t : Tree) → Contains (S.stored squares.old) t → Contains (S.stored squares.new) t }
     ensures most { S.most squares.new ≡ S.most squares.old }
-    ensures refusals { IfErr result (λ f. (f ≡ fault_of Full) ⊎ ((f ≡ fault_of Memory) ⊎ ((f.kind ≡ Kind.Ambiguous) × ((cells : ℤ → ℤ → ℕ) → IsScene cells y rows.entry → IsSweptRows (L.answers law.old) cells (state_by builder.old.runs) leaves y → IsFirstAmbiguous (L.answers law.old) cells f.place.line)))) }
+    ensures refusals { IfErr result (λ f. (f ≡ fault_of Full) ⊎ ((f ≡ fault_of Memory) ⊎ ((f.kind ≡ Kind.Ambiguous) × ((cells : ℤ → ℤ → ℕ) → IsScene cells y rows.entry → IsSweptRows (L.answers law.old) cells (state_by (drawn_runs pen.old)) leaves y → IsFirstAmbiguous (L.answers law.old) cells f.place.line)))) }
     ensures full { result ≡ Err (fault_of Full) → length (S.stored squares.new) ≡ S.most squares.new }
 {
     let mut left = leaves;
     let mut window = Window::new(rows);
     while window.advance() {
-        left = draw_place(squares, builder, law, &window, y, left)?;
+        left = draw_place(squares, pen, law, &window, y, left)?;
     }
     Ok(left)
 }
@@ -120,15 +121,15 @@ pub(crate) fn next_square<S: Squares, L: Law>(
     ensures refusals { IfErr result (λ f. (f ≡ fault_of Full) ⊎ ((f ≡ fault_of Memory) ⊎ ((plane : ℤ → ℤ → ℕ) → IsSorted plane cells.now → RefusesStep (L.answers law.old) plane f))) }
     ensures full { result ≡ Err (fault_of Full) → length (S.stored squares.new) ≡ S.most squares.new }
 {
-    let mut builder = Builder::new(alloc);
+    let mut pen = Pen::new(alloc);
     empty_builder_fills::<S>();
     let mut leaves = false;
     let mut band = Band::new(cells);
     while band.advance() {
-        leaves = draw_row(squares, &mut builder, law, band.rows, band.y, leaves)?;
+        leaves = draw_row(squares, &mut pen, law, band.rows, band.y, leaves)?;
     }
     if leaves {
         return Err(Fault::of(Kind::OutOfPlane));
     }
-    Ok(builder.finish(squares)?)
+    Ok(pen.finish(squares)?)
 }

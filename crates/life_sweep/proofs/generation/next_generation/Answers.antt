@@ -41,7 +41,7 @@ returns-then-not-are_below-clause-refusals g c =
     let bound = g.L.Law.bound law in
     let not : ¬ (All (λ (d : Cell). d.state < bound) c.in_ok-list.list.items) =
     λ all. true≢false (sym (c.are_below.ensures.1 (subst (λ (l : List Cell). All (λ (d : Cell). d.state < c.n_states.result) l) (sym c.deref.ensures.value)
-        (subst (λ (n : ℕ). All (λ (d : Cell). d.state < n) c.in_ok-list.list.items) (sym c.n_states.ensures) all))) ∙ c.if-not-are_below.true) in
+    (subst (λ (n : ℕ). All (λ (d : Cell). d.state < n) c.in_ok-list.list.items) (sym c.n_states.ensures) all))) ∙ c.if-not-are_below.true) in
     let few : ¬ (c.args.most < population t) = λ m. omega (arith, m, h.number, h.few) in
     inr (inr (subst (λ (f : Fault). GenerationRefusal (g.L.Law.answers law) bound c.args.most t (Some f)) (sym c.of.ensures)
     (beyond (g.L.Law.answers law) (g.met.L.Law.one_answer law) bound c.args.most t few (has-from t c.in_ok-list.list.items bound h.cells not))))
@@ -87,6 +87,6 @@ returns-clause-refusals g c =
       | inr m ↦ elim m [
         | inl k ↦ inr (inl k)
         | inr r ↦ inr (inr (step-refused (g.L.Law.answers law) (g.met.L.Law.one_answer law) bound c.args.most t few (none-from t c.in_ok-list.list.items bound (g.met.L.Law.positive law) h.cells below) f
-        (r (tree_cell t) (record { cells_are = rest; blank = blank-before t low }))))
+            (r (tree_cell t) (record { cells_are = rest; blank = blank-before t low }))))
       ]
     ]) c.next_square.ensures.refusals

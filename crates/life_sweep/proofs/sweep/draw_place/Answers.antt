@@ -2,22 +2,22 @@ use Rattle.std.proofs.Common.{◌≡◌, inl, inr, sym, ◌∙◌, ap, subst, ar
 use Rattle.std.proofs.lemmas.Int.{ints}
 use Rattle.life_strip.specs.Given.{IsOnPlane, state_by}
 use Rattle.life_table.specs.Meaning.{Becomes}
-use Rattle.life_sweep.proofs.SweepLemmas.{ready-next, one-cell, other-cells}
+use Rattle.life_sweep.specs.Pen.{drawn_runs}
+use Rattle.life_sweep.proofs.SweepLemmas.{ready-next}
 use Rattle.life_sweep.proofs.sweep.draw_place.Goals as goal
 
 pub returns-then-state-eq0-clause-ready : goal.returns-then-state-eq0-clause-ready
-returns-then-state-eq0-clause-ready g c = ready-next c.args.builder.now.runs c.args.window.now.x c.args.y c.requires.ready
+returns-then-state-eq0-clause-ready g c = ready-next (drawn_runs c.args.pen.now) c.args.window.now.x c.args.y c.requires.ready
 
 pub returns-then-not-is_on_plane-clause-ready : goal.returns-then-not-is_on_plane-clause-ready
-returns-then-not-is_on_plane-clause-ready g c = ready-next c.args.builder.now.runs c.args.window.now.x c.args.y c.requires.ready
+returns-then-not-is_on_plane-clause-ready g c = ready-next (drawn_runs c.args.pen.now) c.args.window.now.x c.args.y c.requires.ready
 
-pub add_run-requires-clause-next : goal.add_run-requires-clause-next
-add_run-requires-clause-next g c =
+pub draw-requires-clause-next : goal.draw-requires-clause-next
+draw-requires-clause-next g c =
     let x = to_z w64 (of_z w64 c.args.window.now.x) in
     let y = to_z w64 (of_z w64 c.args.y) in
     let ex : c.args.window.now.x ≡ x = omega (arith, ints, c.requires.place.least, c.requires.place.most) in
     let ey : c.args.y ≡ y = omega (arith, ints, c.ranges.y) in
-    let on = c.is_on_plane.ensures.0 c.if-not-is_on_plane.false in
     c.requires.ready x y (inr (ey, omega (arith, ints, ex)))
 
 pub returns-clause-ready : goal.returns-clause-ready
@@ -26,7 +26,7 @@ returns-clause-ready g c column row f =
     let y = to_z w64 (of_z w64 c.args.y) in
     let ex : c.args.window.now.x ≡ x = omega (arith, ints, c.requires.place.least, c.requires.place.most) in
     let ey : c.args.y ≡ y = omega (arith, ints, c.ranges.y) in
-    c.in_ok-add_run.ensures.next column row (elim f [ inl l ↦ inl (omega (arith, ints, l, ey)) | inr p ↦ inr (sym ey ∙ p.0, omega (arith, ints, p.1, ex)) ])
+    c.in_ok-draw.ensures.next column row (elim f [ inl l ↦ inl (omega (arith, ints, l, ey)) | inr p ↦ inr (sym ey ∙ p.0, omega (arith, ints, p.1, ex)) ])
 
 pub returns-clause-others : goal.returns-clause-others
 returns-clause-others g c column row ne =
@@ -34,8 +34,7 @@ returns-clause-others g c column row ne =
     let y = to_z w64 (of_z w64 c.args.y) in
     let ex : c.args.window.now.x ≡ x = omega (arith, ints, c.requires.place.least, c.requires.place.most) in
     let ey : c.args.y ≡ y = omega (arith, ints, c.ranges.y) in
-    other-cells c.args.builder.now.runs c.add_run.new.self.runs x y c.in_ok-state.state c.requires.filling.order (c.requires.ready x y (inr (ey, omega (arith, ints, ex))))
-    c.in_ok-add_run.ensures.runs column row (λ e1 e2. ne (e1 ∙ sym ex) (e2 ∙ sym ey))
+    c.in_ok-draw.ensures.others column row (λ e1 e2. ne (e1 ∙ sym ex) (e2 ∙ sym ey))
 
 pub returns-clause-put : goal.returns-clause-put
 returns-clause-put g c zero =
@@ -43,12 +42,11 @@ returns-clause-put g c zero =
     let y = to_z w64 (of_z w64 c.args.y) in
     let ex : c.args.window.now.x ≡ x = omega (arith, ints, c.requires.place.least, c.requires.place.most) in
     let ey : c.args.y ≡ y = omega (arith, ints, c.ranges.y) in
-    let all = c.add_run.new.self.runs in
-    let here = one-cell c.args.builder.now.runs all x y c.in_ok-state.state c.requires.filling.order (c.requires.ready x y (inr (ey, omega (arith, ints, ex)))) c.in_ok-add_run.ensures.runs in
+    let all = drawn_runs c.draw.new.self in
     record {
       next = c.in_ok-state.state;
       answer = subst (λ v. g.L.Law.answers c.args.law.now v (Becomes c.in_ok-state.state)) c.around.ensures c.in_ok-state.ensures.next;
-      kept = λ k. ap (λ z. state_by all z c.args.y) ex ∙ ap (λ z. state_by all x z) ey ∙ here;
+      kept = λ k. ap (λ z. state_by all z c.args.y) ex ∙ ap (λ z. state_by all x z) ey ∙ c.in_ok-draw.ensures.here;
       stays = λ e. e;
       told = λ e. inl e;
     }

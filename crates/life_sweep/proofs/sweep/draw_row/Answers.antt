@@ -5,6 +5,7 @@ use Rattle.life_strip.specs.Given.{state_by}
 use Rattle.life_sweep.specs.Around.{after}
 use Rattle.life_sweep.specs.Rows.{IsWindowBelow, end_of_plane, states_of}
 use Rattle.life_table.specs.Meaning.{Ambiguous}
+use Rattle.life_sweep.specs.Pen.{drawn_runs}
 use Rattle.life_sweep.specs.Sweep.{IsReadyRow, IsScene, IsSweptRows}
 use Rattle.life_sweep.proofs.SweepLemmas.{row-ready, ready-later, ready-row, into-row, west-column, step-in-row, out-of-row, put-law, ambiguous-here}
 use Rattle.life_sweep.proofs.sweep.draw_row.Goals as goal
@@ -19,11 +20,11 @@ loop-window-init g c =
       sound = c.new-window.ensures.sound;
       below = c.new-window.ensures.below _ (g.met.L.Law.positive c.args.law.now) c.requires.states;
       same = refl;
-      filling = c.requires.filling;
-      ready = row-ready c.args.builder.now.runs (after w.x) y (subst (λ z. IsReadyRow c.args.builder.now.runs z) e c.requires.ready);
+      holding = c.requires.holding;
+      ready = row-ready (drawn_runs c.args.pen.now) (after w.x) y (subst (λ z. IsReadyRow (drawn_runs c.args.pen.now) z) e c.requires.ready);
       swept = λ cells scene rows. (
         c.new-window.ensures.window cells y scene.rows_are (λ column l. west-column cells y column scene.blank l),
-        into-row (g.L.Law.answers c.args.law.now) cells (state_by c.args.builder.now.runs) c.args.leaves w.x y (g.met.L.Law.quiet c.args.law.now) scene.blank west rows,
+        into-row (g.L.Law.answers c.args.law.now) cells (state_by (drawn_runs c.args.pen.now)) c.args.leaves w.x y (g.met.L.Law.quiet c.args.law.now) scene.blank west rows,
       );
       keeps = λ q k. (k, refl);
       stays = λ t m. m;
@@ -38,7 +39,7 @@ pub draw_place-requires-clause-ready : goal.draw_place-requires-clause-ready
 draw_place-requires-clause-ready g c =
     let y = to_z w64 (of_z w64 c.args.y) in
     let east = c.advance.ensures.east c.loop-window-test.true in
-    ready-later c.loop-window.builder.runs (after c.loop-window.window.x) c.advance.new.self.x y (omega (arith, ints, east)) c.loop-window.invariant.ready
+    ready-later (drawn_runs c.loop-window.pen) (after c.loop-window.window.x) c.advance.new.self.x y (omega (arith, ints, east)) c.loop-window.invariant.ready
 
 pub loop-window-preserved : goal.loop-window-preserved
 loop-window-preserved g c =
@@ -46,13 +47,13 @@ loop-window-preserved g c =
     let inv = c.loop-window.invariant in
     let h = c.in_ok-left.ensures in
     let A = g.L.Law.answers c.args.law.now in
-    let old = state_by c.loop-window.builder.runs in
-    let new = state_by c.draw_place.new.builder.runs in
+    let old = state_by (drawn_runs c.loop-window.pen) in
+    let new = state_by (drawn_runs c.draw_place.new.pen) in
     record {
       sound = c.advance.ensures.sound;
       below = c.advance.ensures.below _ (g.met.L.Law.positive c.args.law.now) inv.below;
       same = h.same ∙ inv.same;
-      filling = h.filling;
+      holding = h.holding;
       ready = h.ready;
       swept = λ cells scene rows.
           let s = inv.swept cells scene rows in
@@ -69,8 +70,8 @@ returns-in_err-left-clause-refusals g c =
     let e : c.args.y ≡ y = omega (arith, ints, c.ranges.y) in
     let inv = c.loop-window.invariant in
     let A = g.L.Law.answers c.args.law.now in
-    let start = state_by c.args.builder.now.runs in
-    let old = state_by c.loop-window.builder.runs in
+    let start = state_by (drawn_runs c.args.pen.now) in
+    let old = state_by (drawn_runs c.loop-window.pen) in
     let p = err_from_is_err_and c.from_residual.result c.from_residual.ensures.1 in
     rw (p.1, p.2) (elim c.in_err-left.ensures.refusals [
       | inl full ↦ inl full
@@ -90,15 +91,15 @@ pub returns-clause-ready : goal.returns-clause-ready
 returns-clause-ready g c column row l =
     let y = to_z w64 (of_z w64 c.args.y) in
     let e : c.args.y ≡ y = omega (arith, ints, c.ranges.y) in
-    ready-row c.loop-window.builder.runs (after c.loop-window.window.x) y c.loop-window.invariant.ready column row (omega (arith, ints, l, e))
+    ready-row (drawn_runs c.loop-window.pen) (after c.loop-window.window.x) y c.loop-window.invariant.ready column row (omega (arith, ints, l, e))
 
 pub returns-clause-swept : goal.returns-clause-swept
 returns-clause-swept g c cells scene rows =
     let y = to_z w64 (of_z w64 c.args.y) in
     let e : c.args.y ≡ y = omega (arith, ints, c.ranges.y) in
     let A = g.L.Law.answers c.args.law.now in
-    let start = state_by c.args.builder.now.runs in
-    let drawn = state_by c.loop-window.builder.runs in
+    let start = state_by (drawn_runs c.args.pen.now) in
+    let drawn = state_by (drawn_runs c.loop-window.pen) in
     let s = c.loop-window.invariant.swept cells (subst (λ z. IsScene cells z c.args.rows) e scene) (subst (λ z. IsSweptRows A cells start c.args.leaves z) e rows) in
     subst (λ z. IsSweptRows A cells drawn c.loop-window.left (after z)) (sym e)
     (out-of-row A cells drawn c.loop-window.left c.loop-window.window.x y (g.met.L.Law.quiet c.args.law.now) (c.advance.ensures.over c.loop-window-test.false cells y s.0) s.1)

@@ -2,7 +2,7 @@ use Rattle.std.proofs.Common.{◌≡◌, ℕ, ℤ}
 use Rattle.std.specs.Prelude.{Contains}
 use Rattle.life_base.specs.Tree.{Tree}
 use Rattle.life_quad.specs.declared.id.Id.{Id}
-use Rattle.life_strip.specs.Filling.{IsFilling}
+use Rattle.life_sweep.specs.Pen.{IsHolding, drawn_runs}
 use Rattle.life_strip.specs.Given.{state_by}
 use Rattle.life_sweep.specs.Around.{after}
 use Rattle.life_sweep.specs.Rows.{IsSoundWindow, IsWindowBelow, IsWindow, steps_left}
@@ -15,11 +15,11 @@ invariant-loop-window g l = record {
   sound : IsSoundWindow l.window;
   below : IsWindowBelow (g.L.Law.bound l.fn.law) l.window;
   same : l.law ≡ l.fn.law;
-  filling : IsFilling (g.S.Squares.knows l.squares) (g.S.Squares.content l.squares) l.builder;
-  ready : IsReady l.builder.runs (after l.window.x) l.y;
+  holding : IsHolding (g.S.Squares.knows l.squares) (g.S.Squares.content l.squares) l.pen;
+  ready : IsReady (drawn_runs l.pen) (after l.window.x) l.y;
   swept : (cells : ℤ → ℤ → ℕ) → IsScene cells l.y l.fn.rows
-      → IsSweptRows (g.L.Law.answers l.fn.law) cells (state_by l.fn.builder.runs) l.leaves l.y
-      → IsWindow cells l.y l.window × IsSwept (g.L.Law.answers l.fn.law) cells (state_by l.builder.runs) l.left (after l.window.x) l.y;
+      → IsSweptRows (g.L.Law.answers l.fn.law) cells (state_by (drawn_runs l.fn.pen)) l.leaves l.y
+      → IsWindow cells l.y l.window × IsSwept (g.L.Law.answers l.fn.law) cells (state_by (drawn_runs l.pen)) l.left (after l.window.x) l.y;
   keeps : (q : Id) → g.S.Squares.knows l.fn.squares q → g.S.Squares.knows l.squares q × (g.S.Squares.content l.squares q ≡ g.S.Squares.content l.fn.squares q);
   stays : (t : Tree) → Contains (g.S.Squares.stored l.fn.squares) t → Contains (g.S.Squares.stored l.squares) t;
   most : g.S.Squares.most l.squares ≡ g.S.Squares.most l.fn.squares;

@@ -5,6 +5,9 @@ use Rattle.life_strip.specs.Given.{state_by}
 use Rattle.life_table.specs.Meaning.{Becomes}
 use Rattle.life_sweep.specs.Around.{after}
 use Rattle.life_sweep.specs.Rows.{AreBelow, AreRows, end_of_plane}
+use Rattle.std.specs.Prelude.{IfSome, Option}
+use Rattle.life_sweep.specs.declared.pen.Run.{Run}
+use Rattle.life_sweep.specs.Pen.{IsOpen, drawn_runs}
 use Rattle.life_sweep.specs.Sweep.{IsReadyRow, IsScene, IsSweptRows, states_at}
 use Rattle.life_sweep.proofs.SweepLemmas.{nothing-given, nothing-drawn, start-rows, pass-rows, rows-law, first-law, all-rows}
 use Rattle.life_sweep.proofs.sweep.next_square.Goals as goal
@@ -12,16 +15,19 @@ use Rattle.life_sweep.proofs.sweep.next_square.Goals as goal
 pub loop-band-init : goal.loop-band-init
 loop-band-init g c =
     let A = g.L.Law.answers c.args.law.now in
-    let drawn = state_by c.new-builder.result.runs in
+    let drawn = state_by (drawn_runs c.new-pen.result) in
     record {
       sound = c.new-band.ensures.sound;
       below = c.new-band.ensures.below _ c.requires.states;
       same = refl;
-      filling = c.empty_builder_fills.ensures c.args.squares.now c.new-builder.result c.new-builder.ensures.empty;
-      ready = λ column row l. nothing-given c.new-builder.result.runs c.new-builder.ensures.runs column row;
+      holding = record {
+        filling = c.empty_builder_fills.ensures c.args.squares.now c.new-pen.result.builder c.new-pen.ensures.empty;
+        unclosed = subst (λ (o : Option Run). IfSome o (IsOpen c.new-pen.result.builder.runs)) (sym c.new-pen.ensures.none) tt;
+      };
+      ready = λ column row l. nothing-given (drawn_runs c.new-pen.result) c.new-pen.ensures.drawn column row;
       swept = λ plane sorted. (
         c.new-band.ensures.band plane sorted.blank sorted.cells_are,
-        start-rows A plane drawn c.new-band.result.y (g.met.L.Law.quiet c.args.law.now) sorted.blank (omega (arith, ints, c.new-band.ensures.start)) (nothing-drawn c.new-builder.result.runs c.new-builder.ensures.runs),
+        start-rows A plane drawn c.new-band.result.y (g.met.L.Law.quiet c.args.law.now) sorted.blank (omega (arith, ints, c.new-band.ensures.start)) (nothing-drawn (drawn_runs c.new-pen.result) c.new-pen.ensures.drawn),
       );
       keeps = λ q k. (k, refl);
       stays = λ t m. m;
@@ -47,14 +53,14 @@ loop-band-preserved g c =
     let south = c.advance.ensures.south c.loop-band-test.true in
     let A = g.L.Law.answers c.args.law.now in
     let B = g.L.Law.answers c.loop-band.law in
-    let old = state_by c.loop-band.builder.runs in
-    let new = state_by c.draw_row.new.builder.runs in
+    let old = state_by (drawn_runs c.loop-band.pen) in
+    let new = state_by (drawn_runs c.draw_row.new.pen) in
     record {
       sound = c.advance.ensures.sound;
       below = c.advance.ensures.below _ inv.below;
       same = h.same ∙ inv.same;
-      filling = h.filling;
-      ready = subst (λ z. IsReadyRow c.draw_row.new.builder.runs (after z)) (sym e) h.ready;
+      holding = h.holding;
+      ready = subst (λ z. IsReadyRow (drawn_runs c.draw_row.new.pen) (after z)) (sym e) h.ready;
       swept = λ plane sorted.
           let s = inv.swept plane sorted in
           let on = c.advance.ensures.band c.loop-band-test.true plane sorted.blank s.0 in
@@ -76,7 +82,7 @@ returns-in_err-leaves-clause-refusals g c =
     let south = c.advance.ensures.south c.loop-band-test.true in
     let A = g.L.Law.answers c.args.law.now in
     let B = g.L.Law.answers c.loop-band.law in
-    let old = state_by c.loop-band.builder.runs in
+    let old = state_by (drawn_runs c.loop-band.pen) in
     let p = err_from_is_err_and c.from_residual.result c.from_residual.ensures.1 in
     rw (p.1, p.2) (elim c.in_err-leaves.ensures.refusals [
       | inl full ↦ inl full
@@ -96,7 +102,7 @@ pub returns-then-leaves-clause-refusals : goal.returns-then-leaves-clause-refusa
 returns-then-leaves-clause-refusals g c =
     let inv = c.loop-band.invariant in
     let A = g.L.Law.answers c.args.law.now in
-    let drawn = state_by c.loop-band.builder.runs in
+    let drawn = state_by (drawn_runs c.loop-band.pen) in
     inr (inr (λ plane sorted.
     let s = inv.swept plane sorted in
     let over = c.advance.ensures.over c.loop-band-test.false plane sorted.blank s.0 in
@@ -106,7 +112,7 @@ pub returns-clause-next : goal.returns-clause-next
 returns-clause-next g c plane sorted x y =
     let inv = c.loop-band.invariant in
     let A = g.L.Law.answers c.args.law.now in
-    let drawn = state_by c.loop-band.builder.runs in
+    let drawn = state_by (drawn_runs c.loop-band.pen) in
     let s = inv.swept plane sorted in
     let over = c.advance.ensures.over c.loop-band-test.false plane sorted.blank s.0 in
     let d = all-rows A plane drawn c.loop-band.leaves c.loop-band.band.y (g.met.L.Law.quiet c.args.law.now) over s.1 x y in

@@ -1,0 +1,41 @@
+-- What was drawn: the runs that a builder was given, and one that may be continued.
+use Rattle.std.specs.Prelude.{◌≡◌, ◌≤◌, ℤ, ◌+ℤ◌, pos, List, [], ◌∷◌, ◌++◌, ℕ, Option, Some, None, IfSome}
+use Rattle.life_base.specs.Tree.{Tree}
+use Rattle.life_quad.specs.declared.id.Id.{Id}
+use Rattle.life_strip.specs.Filling.{IsFilling}
+use Rattle.life_strip.specs.Given.{GivenRun, IsNext, IsOnPlane}
+use Rattle.life_sweep.specs.declared.pen.Pen.{Pen}
+use Rattle.life_sweep.specs.declared.pen.Run.{Run}
+
+-- a run as it will be given
+abbrev pub given : Run → GivenRun
+given run = record { x = run.x; y = run.y; len = run.len; state = run.state }
+
+abbrev pub open_runs : Option Run → List GivenRun
+open_runs None = []
+open_runs (Some run) = given run ∷ []
+
+-- all runs that were drawn
+abbrev pub drawn_runs : Pen → List GivenRun
+drawn_runs pen = pen.builder.runs ++ open_runs pen.unclosed
+
+-- a run of one cell
+abbrev pub one_cell : ℤ → ℤ → ℕ → GivenRun
+one_cell x y state = record { x = x; y = y; len = 1; state = state }
+
+-- the run may be given behind these
+pub record IsOpen (runs : List GivenRun) (run : Run) : Type 0 where
+  pub some_cell : 1 ≤ run.len
+  pub inside : IsOnPlane run.x run.y run.len
+  pub next : IsNext runs run.x run.y
+
+-- the builder fills the store, and the open run may be given to it
+pub record IsHolding (knows : Id → Type 0) (content : Id → Tree) (pen : Pen) : Type 0 where
+  pub filling : IsFilling knows content pen.builder
+  pub unclosed : IfSome pen.unclosed (IsOpen pen.builder.runs)
+
+-- the cell is the one east of the run, and has its state
+pub record IsContinuedBy (run : Run) (x y : ℤ) (state : ℕ) : Type 0 where
+  pub same_row : run.y ≡ y
+  pub east : (run.x +ℤ pos run.len) ≡ x
+  pub same_state : run.state ≡ state

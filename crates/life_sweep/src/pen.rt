@@ -1,0 +1,126 @@
+//! A builder that is given whole runs, though the sweep draws place by place.
+ghost use Rattle.std.specs.Prelude.{◌≡◌, ◌≤◌, ◌⊎◌, ℤ, IsTrue, ◌↔◌, [], Contains, length, Err, None, OnOk, IfOk, IfErr};
+ghost use Rattle.life_base.specs.declared.kind.Kind.TheVariants.{Full, Memory};
+ghost use Rattle.life_base.specs.Tree.{Tree, depth, tree_cell};
+ghost use Rattle.life_quad.specs.declared.id.Id.{Id as IdValue};
+ghost use Rattle.life_strip.specs.Filling.{IsEmpty, IsFilling};
+ghost use Rattle.life_strip.specs.Given.{IsBehind, IsNext, IsOnPlane, state_by};
+ghost use Rattle.life_sweep.specs.Pen.{IsHolding, IsContinuedBy, drawn_runs, one_cell};
+
+use life_base::{Kind, MAX_LEVEL, State};
+use life_quad::{Id, Squares};
+use life_strip::Builder;
+use std::alloc::Global;
+
+/// So many cells of one state side by side.
+#[derive(Clone, Copy)]
+pub(crate) struct Run {
+    pub(crate) x: i64,
+    pub(crate) y: i64,
+    pub(crate) len: u64,
+    pub(crate) state: State,
+}
+
+/// A builder, and the run that was drawn last, which the next cell may continue.
+#[derive(Drop)]
+pub(crate) struct Pen {
+    pub(crate) builder: Builder,
+    pub(crate) unclosed: Option<Run>,
+}
+
+// Whether the cell is the one east of the run, and has its state.
+fn is_continued_by(run: &Run, x: i64, y: i64, state: State) -> bool
+    requires { IsOnPlane run.now.x run.now.y run.now.len }
+    ensures { IsTrue result ↔ IsContinuedBy run.now x y state }
+{
+    run.y == y && run.x + run.len as i64 == x && run.state == state
+}
+
+impl Pen {
+    /// Nothing is drawn.
+    pub(crate) fn new(alloc: Global) -> Pen
+        ensures drawn { drawn_runs result ≡ [] }
+        ensures empty { IsEmpty result.builder }
+        ensures none { result.unclosed ≡ None }
+    {
+        Pen {
+            builder: Builder::new(alloc),
+            unclosed: None,
+        }
+    }
+
+    // Gives the builder the open run.
+    fn close<S: Squares>(&mut self, squares: &mut S) -> Result<(), Kind>
+        requires holding { IsHolding (S.knows squares.old) (S.content squares.old) self.old }
+        ensures filling { OnOk result (IsFilling (S.knows squares.new) (S.content squares.new) self.new.builder) }
+        ensures drawn { OnOk result (self.new.builder.runs ≡ drawn_runs self.old) }
+        ensures none { OnOk result (self.new.unclosed ≡ None) }
+        ensures keeps { (q : IdValue) → S.knows squares.old q → S.knows squares.new q × (S.content squares.new q ≡ S.content squares.old q) }
+        ensures stays { (t : Tree) → Contains (S.stored squares.old) t → Contains (S.stored squares.new) t }
+        ensures most { S.most squares.new ≡ S.most squares.old }
+        ensures refusals { IfErr result (λ e. (e ≡ Full) ⊎ (e ≡ Memory)) }
+        ensures full { result ≡ Err Full → length (S.stored squares.new) ≡ S.most squares.new }
+    {
+        let Some(run) = self.unclosed else {
+            return Ok(());
+        };
+        self.builder
+            .add_run(squares, run.x, run.y, run.len, run.state)?;
+        self.unclosed = None;
+        Ok(())
+    }
+
+    /// Gives the cell (x, y) a state. It is behind the cells that were drawn.
+    pub(crate) fn draw<S: Squares>(
+        &mut self,
+        squares: &mut S,
+        x: i64,
+        y: i64,
+        state: State,
+    ) -> Result<(), Kind>
+        requires holding { IsHolding (S.knows squares.old) (S.content squares.old) self.old }
+        requires inside { IsOnPlane x y 1 }
+        requires next { IsNext (drawn_runs self.old) x y }
+        ensures holding { OnOk result (IsHolding (S.knows squares.new) (S.content squares.new) self.new) }
+        ensures here { OnOk result (state_by (drawn_runs self.new) x y ≡ state) }
+        ensures others { OnOk result ((c r : ℤ) → (c ≡ x → r ≡ y → ⊥) → state_by (drawn_runs self.new) c r ≡ state_by (drawn_runs self.old) c r) }
+        ensures next { OnOk result ((c r : ℤ) → IsBehind (one_cell x y state) c r → IsNext (drawn_runs self.new) c r) }
+        ensures keeps { (q : IdValue) → S.knows squares.old q → S.knows squares.new q × (S.content squares.new q ≡ S.content squares.old q) }
+        ensures stays { (t : Tree) → Contains (S.stored squares.old) t → Contains (S.stored squares.new) t }
+        ensures most { S.most squares.new ≡ S.most squares.old }
+        ensures refusals { IfErr result (λ e. (e ≡ Full) ⊎ (e ≡ Memory)) }
+        ensures full { result ≡ Err Full → length (S.stored squares.new) ≡ S.most squares.new }
+    {
+        if let Some(run) = self.unclosed {
+            if is_continued_by(&run, x, y, state) {
+                let len = run.len + 1;
+                self.unclosed = Some(Run { len, ..run });
+                return Ok(());
+            }
+        }
+        self.close(squares)?;
+        self.unclosed = Some(Run {
+            x,
+            y,
+            len: 1,
+            state,
+        });
+        Ok(())
+    }
+
+    /// The square of the whole plane with the cells that were drawn.
+    pub(crate) fn finish<S: Squares>(mut self, squares: &mut S) -> Result<Id, Kind>
+        requires holding { IsHolding (S.knows squares.old) (S.content squares.old) self }
+        ensures known { IfOk result (S.knows squares.new) }
+        ensures level { IfOk result (λ r. depth (S.content squares.new r) ≡ MAX_LEVEL) }
+        ensures cells { IfOk result (λ r. (x y : ℤ) → tree_cell (S.content squares.new r) x y ≡ state_by (drawn_runs self) x y) }
+        ensures keeps { (q : IdValue) → S.knows squares.old q → S.knows squares.new q × (S.content squares.new q ≡ S.content squares.old q) }
+        ensures stays { (t : Tree) → Contains (S.stored squares.old) t → Contains (S.stored squares.new) t }
+        ensures most { S.most squares.new ≡ S.most squares.old }
+        ensures refusals { IfErr result (λ e. (e ≡ Full) ⊎ (e ≡ Memory)) }
+        ensures full { result ≡ Err Full → length (S.stored squares.new) ≡ S.most squares.new }
+    {
+        self.close(squares)?;
+        self.builder.finish(squares)
+    }
+}
