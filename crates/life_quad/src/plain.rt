@@ -29,7 +29,7 @@ impl Model for Plain {
 }
 
 impl Plain {
-    /// An empty store for at most `limit` nodes.
+    /// An empty store for at most `limit` nodes. At 2^32 - 512 nodes `join` answers `Memory` for a new one where the limit is higher.
     pub fn new(alloc: Global, limit: u64) -> Plain
         requires { limit ≤ 2 ^ 62 }
         ensures stored { held result ≡ [] }

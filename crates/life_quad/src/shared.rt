@@ -32,7 +32,7 @@ ghost use Rattle.life_quad.specs.StoreLaws.{full_content, low_content, same_id};
 ghost use Rattle.life_quad.specs.Store.{squares, square_of, held, Knows, IsShared, IsNode, IsSound, Interned, IsIdOf};
 
 impl Shared {
-    /// An empty store for at most `limit` nodes.
+    /// An empty store for at most `limit` nodes. At 2^32 - 512 nodes `join` answers `Memory` for a new one where the limit is higher.
     pub fn new(alloc: Global, limit: u64) -> Shared
         requires { limit ≤ 2 ^ 62 }
         ensures stored { held result ≡ [] }
