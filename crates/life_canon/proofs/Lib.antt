@@ -20,6 +20,7 @@ mod FeedFacts
 mod FrontFacts
 mod RefusedFronts
 mod BuildFacts
+mod RowFacts
 mod RunFacts
 mod GrowFacts
 mod PatternFacts

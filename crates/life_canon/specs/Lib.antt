@@ -11,3 +11,4 @@ pub mod Taking
 pub mod Feeding
 pub mod Running
 pub mod Laws
+pub mod Rows

@@ -7,6 +7,7 @@ mod feeding;
 mod filling;
 mod front;
 pub mod laws;
+mod leaf_rows;
 mod listing;
 mod numbering;
 mod pattern;

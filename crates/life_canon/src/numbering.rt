@@ -3,69 +3,23 @@
 ghost use Rattle.std.specs.Prelude.{◌≡◌, ◌==◌, ◌&&◌, ℕ, ◌+◌, ◌-◌, ◌^◌, ◌<◌, ◌≤◌, true, false, length, map, All, Contains, IfOk, IfErr};
 ghost use Rattle.life_base.specs.declared.kind.Kind.TheVariants.{Memory};
 ghost use Rattle.life_base.specs.Refusal.{fault_of};
-ghost use Rattle.life_base.specs.Tree.{Tree, depth, state_at as state_in};
+ghost use Rattle.life_base.specs.Tree.{Tree, depth};
 ghost use Rattle.life_mc.specs.declared.line.Line.TheVariants.{Leaf};
 ghost use Rattle.life_mc.specs.Squares.{HasStatesUpTo};
 ghost use Rattle.life_mc.specs.Macrocell.{largest_state};
 ghost use Rattle.life_mc.specs.Cells.{node_lines};
 ghost use Rattle.life_canon.specs.Universe.{is_life, least_level as least_level_of};
-ghost use Rattle.life_canon.specs.Listing.{row_byte as row_of, rows_of, is_in, listed as listed_squares, line_of as line_for, lines_for, square_file, canonical_file};
+ghost use Rattle.life_canon.specs.Listing.{rows_of, is_in, listed as listed_squares, line_of as line_for, lines_for, square_file, canonical_file};
 ghost use Rattle.life_canon.specs.Least.{IsLeast};
 ghost use Rattle.life_canon.specs.Store.{IsTrimmed, universe_in, IsListed};
 
+use crate::leaf_rows::eight_rows;
 use crate::listing::{listed, number_of};
 use crate::pattern::{Pattern, least_level};
 use life_base::{Fault, Items, Kind, MAX_LEVEL, Rule};
 use life_mc::{Line, McFile};
 use life_quad::{Id, IdList, Quarters, Shared, SharedSquares, Squares, divide};
 use std::alloc::Global;
-
-/// The state of a cell of a square, by its column and row from the north-west corner.
-fn state_at<S: Squares>(squares: &S, id: Id, column: u8, row: u8) -> u8
-    requires known { S.knows squares.now id }
-    requires level { depth (S.content squares.now id) ≤ 7 }
-    ensures { result ≡ state_in (S.content squares.now id) column row }
-{
-    if let Some(state) = squares.state(id) {
-        return state;
-    }
-    let half = 1u8 << (squares.level(id) - 1);
-    let Quarters { nw, ne, sw, se } = divide(squares, id);
-    match (column < half, row < half) {
-        (true, true) => state_at(squares, nw, column, row),
-        (false, true) => state_at(squares, ne, column - half, row),
-        (true, false) => state_at(squares, sw, column, row - half),
-        (false, false) => state_at(squares, se, column - half, row - half),
-    }
-}
-
-/// The state of a cell of a square with states 0 and 1 alone.
-fn bit_at<S: Squares>(squares: &S, id: Id, column: u8, row: u8) -> u8
-    requires known { S.knows squares.now id }
-    requires level { depth (S.content squares.now id) ≡ 3 }
-    requires states { HasStatesUpTo 1 (S.content squares.now id) }
-    ensures state { result ≡ state_in (S.content squares.now id) column row }
-    ensures bit { result < 2 }
-{
-    state_at(squares, id, column, row)
-}
-
-/// A row of a square of level 3 as a byte, its western cell the highest bit.
-fn row_byte<S: Squares>(squares: &S, id: Id, row: u8) -> u8
-    requires known { S.knows squares.now id }
-    requires level { depth (S.content squares.now id) ≡ 3 }
-    requires states { HasStatesUpTo 1 (S.content squares.now id) }
-    ensures { result ≡ row_of (S.content squares.now id) row }
-{
-    128 * bit_at(squares, id, 0, row)
-        + 64 * bit_at(squares, id, 1, row)
-        + 32 * bit_at(squares, id, 2, row)
-        + 16 * bit_at(squares, id, 3, row)
-        + 8 * bit_at(squares, id, 4, row)
-        + 4 * bit_at(squares, id, 5, row)
-        + 2 * bit_at(squares, id, 6, row)
-        + bit_at(squares, id, 7, row)
-}
 
 /// The leaf of a square of level 3.
 fn leaf<S: Squares>(squares: &S, id: Id) -> Line
@@ -74,16 +28,7 @@ fn leaf<S: Squares>(squares: &S, id: Id) -> Line
     requires states { HasStatesUpTo 1 (S.content squares.now id) }
     ensures { result ≡ Leaf (rows_of (S.content squares.now id)) }
 {
-    Line::Leaf([
-        row_byte(squares, id, 0),
-        row_byte(squares, id, 1),
-        row_byte(squares, id, 2),
-        row_byte(squares, id, 3),
-        row_byte(squares, id, 4),
-        row_byte(squares, id, 5),
-        row_byte(squares, id, 6),
-        row_byte(squares, id, 7),
-    ])
+    Line::Leaf(eight_rows(squares, id))
 }
 
 /// Whether a square of a level is written as a leaf.

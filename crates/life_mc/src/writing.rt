@@ -87,7 +87,7 @@ fn append_quarter(out: &mut Vec<u8>, number: u64) -> Result<(), Kind>
     ensures ok { OnOk result (out.new.items ≡ out.old.items ++ codes " " ++ decimal number) }
     ensures err { IfErr result (λ kind. kind ≡ Memory) }
 {
-    append(out, b" ")?;
+    out.push(b' ')?;
     append_number(out, number)
 }
 
@@ -121,7 +121,8 @@ pub fn append_line(out: &mut Vec<u8>, line: &Line) -> Result<(), Kind>
     ensures kind { IfErr result (λ kind. kind ≡ Memory) }
 {
     append_square(out, line)?;
-    append(out, b"\n")
+    out.push(b'\n')?;
+    Ok(())
 }
 
 /// Adds the lines of squares at the end, each ended by a line feed.

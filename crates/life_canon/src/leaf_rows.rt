@@ -1,0 +1,80 @@
+//! The rows of a leaf's cells, each cell looked up once.
+
+ghost use Rattle.std.specs.Prelude.{◌≡◌, ◌+◌, ◌*◌, ◌<◌, ◌∷◌, [], ℕ, slice_index};
+ghost use Rattle.life_base.specs.Tree.{depth, state_at as state_in};
+ghost use Rattle.life_mc.specs.Squares.{HasStatesUpTo};
+ghost use Rattle.life_canon.specs.Listing.{rows_of};
+ghost use Rattle.life_canon.specs.Rows.{row_of_two, row_of_four};
+
+use life_quad::{Id, Quarters, Squares, divide};
+
+/// The state of a cell.
+fn bit<S: Squares>(squares: &S, id: Id) -> u8
+    requires known { S.knows squares.now id }
+    requires level { depth (S.content squares.now id) ≡ 0 }
+    requires states { HasStatesUpTo 1 (S.content squares.now id) }
+    ensures state { result ≡ state_in (S.content squares.now id) 0 0 }
+    ensures bit { result < 2 }
+{
+    squares.state(id).unwrap_or(0)
+}
+
+/// The two rows of a square of level 1.
+fn two_rows<S: Squares>(squares: &S, id: Id) -> [u8; 2]
+    requires known { S.knows squares.now id }
+    requires level { depth (S.content squares.now id) ≡ 1 }
+    requires states { HasStatesUpTo 1 (S.content squares.now id) }
+    ensures rows { result ≡ row_of_two (S.content squares.now id) 0 ∷ row_of_two (S.content squares.now id) 1 ∷ [] }
+    ensures small { (y : ℕ) → slice_index result y < 4 }
+{
+    let Quarters { nw, ne, sw, se } = divide(squares, id);
+    [
+        2 * bit(squares, nw) + bit(squares, ne),
+        2 * bit(squares, sw) + bit(squares, se),
+    ]
+}
+
+/// The four rows of a square of level 2.
+fn four_rows<S: Squares>(squares: &S, id: Id) -> [u8; 4]
+    requires known { S.knows squares.now id }
+    requires level { depth (S.content squares.now id) ≡ 2 }
+    requires states { HasStatesUpTo 1 (S.content squares.now id) }
+    ensures rows { result ≡ row_of_four (S.content squares.now id) 0 ∷ row_of_four (S.content squares.now id) 1 ∷ row_of_four (S.content squares.now id) 2 ∷ row_of_four (S.content squares.now id) 3 ∷ [] }
+    ensures small { (y : ℕ) → slice_index result y < 16 }
+{
+    let Quarters { nw, ne, sw, se } = divide(squares, id);
+    let nw = two_rows(squares, nw);
+    let ne = two_rows(squares, ne);
+    let sw = two_rows(squares, sw);
+    let se = two_rows(squares, se);
+    [
+        4 * nw[0] + ne[0],
+        4 * nw[1] + ne[1],
+        4 * sw[0] + se[0],
+        4 * sw[1] + se[1],
+    ]
+}
+
+/// The eight rows of a square of level 3 as bytes, the western cell the highest bit.
+pub(crate) fn eight_rows<S: Squares>(squares: &S, id: Id) -> [u8; 8]
+    requires known { S.knows squares.now id }
+    requires level { depth (S.content squares.now id) ≡ 3 }
+    requires states { HasStatesUpTo 1 (S.content squares.now id) }
+    ensures { result ≡ rows_of (S.content squares.now id) }
+{
+    let Quarters { nw, ne, sw, se } = divide(squares, id);
+    let nw = four_rows(squares, nw);
+    let ne = four_rows(squares, ne);
+    let sw = four_rows(squares, sw);
+    let se = four_rows(squares, se);
+    [
+        16 * nw[0] + ne[0],
+        16 * nw[1] + ne[1],
+        16 * nw[2] + ne[2],
+        16 * nw[3] + ne[3],
+        16 * sw[0] + se[0],
+        16 * sw[1] + se[1],
+        16 * sw[2] + se[2],
+        16 * sw[3] + se[3],
+    ]
+}
