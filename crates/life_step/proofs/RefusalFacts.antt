@@ -1,6 +1,5 @@
 -- A refusal by the square of a pattern is one by what its file says.
-use Rattle.std.proofs.Common.{◌≡◌, ◌≢◌, ℕ, suc, ◌+◌, ◌-◌, ◌^◌, ◌<◌, ◌≤◌, Bool, true, false, ◌⊎◌, inl, inr, ℤ, pos, neg_ℤ, ◌+ℤ◌, ◌≤ℤ◌, ◌<ℤ◌, List, length, Option, Some, None, refl, sym, ◌∙◌, ap, subst, arith}
-use Rattle.std.specs.Prelude.{◌↔◌}
+use Rattle.std.proofs.Common.{◌≡◌, ℕ, ◌-◌, ◌^◌, ◌<◌, ◌≤◌, inl, inr, ℤ, pos, neg_ℤ, ◌≤ℤ◌, ◌<ℤ◌, List, Option, Some, None, refl, sym, ◌∙◌, ap, subst, arith}
 use Rattle.std.proofs.lemmas.Int.{ints}
 use Rattle.std.proofs.lemmas.Bool.Decides.{eqb_tells}
 use Rattle.life_base.specs.Refusal.{fault_of}
@@ -17,11 +16,10 @@ use Rattle.life_table.specs.Meaning.{Answer, Becomes, Ambiguous}
 use Rattle.life_sweep.specs.Around.{eight_around}
 use Rattle.life_sweep.specs.Generation.{next_life}
 use Rattle.life_sweep.specs.Refused.{IfElse, HasStateFrom, fault_on, GenerationRefusal}
-use Rattle.life_sweep.specs.Refused as sweep
 use Rattle.life_sweep.specs.Sweep as sweep_words
 use Rattle.life_sweep.specs.Sweep.{states_at, IsLeft}
 use Rattle.life_canon.specs.Texts.{AreCellsOf}
-use Rattle.life_canon.specs.Universe.{Universe, IsWithin, IsBlankOutside, corner}
+use Rattle.life_canon.specs.Universe.{Universe, IsBlankOutside, corner}
 use Rattle.life_step.specs.Refusals.{HasMoreCells, IsOfPlane, LeavesByRule, SomeAmbiguous, IsFirstAmbiguous, LeavesPlane}
 
 pub if-else : {C D A B P Q : Type 0} → (C → D) → (D → C) → (A → P) → (B → Q) → IfElse C A B → IfElse D P Q

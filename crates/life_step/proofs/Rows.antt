@@ -1,12 +1,11 @@
 -- Worked examples of a step and of its refusals.
 use Rattle.std.proofs.Common.{ℕ, ◌-◌, ◌^◌, inl, Some, [], ◌∷◌, refl, arith}
-use Rattle.std.specs.Prelude.{ℤ, pos, ◌&&◌, int_le, if◌then◌else◌}
+use Rattle.std.specs.Prelude.{pos, ◌&&◌, int_le, if◌then◌else◌}
 use Rattle.std.proofs.lemmas.Int.{ints}
 use Rattle.life_base.specs.Refusal.{fault_of}
 use Rattle.life_base.specs.Sets.{DigitSets}
 use Rattle.life_base.specs.declared.kind.Kind.TheVariants as kinds
 use Rattle.life_base.specs.declared.rule.Rule.TheVariants.{Life, Named}
-use Rattle.life_table.specs.declared.table.Table.{Table}
 use Rattle.life_canon.specs.Universe.{Universe, corner}
 use Rattle.life_step.specs.Refusals.{LifeRefusal, IsOfPlane, LeavesByRule}
 use Rattle.life_step.specs.Stepped.{IsLifeStep}

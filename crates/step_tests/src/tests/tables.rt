@@ -166,6 +166,27 @@ fn an_electron_runs_along_a_wire(rt: HostRuntime) -> Result<(), Fail> {
 }
 
 #[test]
+fn an_electron_comes_round(rt: HostRuntime) -> Result<(), Fail> {
+    let alloc = rt.alloc();
+    becomes_by(
+        &rt,
+        alloc,
+        WIREWORLD,
+        b"x = 4, y = 4, rule = WireWorld\n.BA$C2.C$C2.C$.2C!\n",
+        4,
+        b"#CXRLE Gen=4\nx = 4, y = 4, rule = WireWorld\n.2C$C2.C$C2.C$.AB!\n",
+    )?;
+    becomes_by(
+        &rt,
+        alloc,
+        WIREWORLD,
+        b"x = 4, y = 4, rule = WireWorld\n.BA$C2.C$C2.C$.2C!\n",
+        8,
+        b"#CXRLE Gen=8\nx = 4, y = 4, rule = WireWorld\n.BA$C2.C$C2.C$.2C!\n",
+    )
+}
+
+#[test]
 fn two_firing_cells_make_four(rt: HostRuntime) -> Result<(), Fail> {
     becomes_by(
         &rt,
