@@ -9,8 +9,6 @@ mod lines;
 mod node;
 mod numbers;
 mod reading;
-#[cfg(test)]
-mod tests;
 mod told;
 mod writing;
 

@@ -23,6 +23,3 @@ pub use reads::{bounds, population};
 pub use runs::put_run;
 pub use shared::Shared;
 pub use squares::{SharedSquares, Squares};
-
-#[cfg(test)]
-mod tests;

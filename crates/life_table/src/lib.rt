@@ -16,8 +16,6 @@ mod reading;
 mod said;
 mod table;
 mod telling;
-#[cfg(test)]
-mod tests;
 mod transitions;
 mod turn;
 mod variables;

@@ -1,15 +1,27 @@
 //! Runs by rows against runs put one by one, and against squares joined by hand.
-ghost use Rattle.std.specs.Prelude.{IfOk};
+ghost use Rattle.std.specs.Prelude.{IfOk, ℤ};
+ghost use Rattle.life_strip.specs.Filling.{IsFilling};
+ghost use Rattle.life_strip.specs.Given.{IsNext};
 
-use crate::Builder;
 use life_base::{Kind, MAX_LEVEL};
 use life_quad::{Id, Plain, Shared, Squares, put_run, trim};
+use life_strip::{Builder, laws};
 use std::alloc::Global;
 use std::test::Fail;
 
+// A builder without runs.
+fn begun<S: Squares>(alloc: Global, squares: &S) -> Builder
+    ensures filling { IsFilling (S.knows squares.now) (S.content squares.now) result }
+    ensures next { (x y : ℤ) → IsNext result.runs x y }
+{
+    let _ = squares;
+    laws::empty_builder_fills::<S>();
+    Builder::new(alloc)
+}
+
 // Adjacent runs, gaps in rows and columns, odd starts and lengths, several states, the corners of the plane and a whole row.
 fn by_rows<S: Squares>(alloc: Global, store: &mut S) -> Result<Id, Kind> {
-    let mut builder = Builder::new(alloc);
+    let mut builder = begun(alloc, store);
     builder.add_run(store, -(1 << 59), -(1 << 59), 1, 1)?;
     builder.add_run(store, (1 << 59) - 1, -(1 << 59), 1, 2)?;
     builder.add_run(store, -3, -7, 5, 1)?;
@@ -42,7 +54,7 @@ fn one_by_one<S: Squares>(store: &mut S) -> Result<Id, Kind> {
 fn diagonal<S: Squares>(alloc: Global, store: &mut S) -> Result<Id, Kind>
     ensures known { IfOk result (S.knows store.new) }
 {
-    let mut builder = Builder::new(alloc);
+    let mut builder = begun(alloc, store);
     builder.add_run(store, -1, -1, 1, 1)?;
     builder.add_run(store, 0, 0, 1, 2)?;
     let root = builder.finish(store)?;
@@ -51,14 +63,14 @@ fn diagonal<S: Squares>(alloc: Global, store: &mut S) -> Result<Id, Kind>
 
 // A cell in each of three rows: the third row asks for the square of the first two.
 fn three_rows<S: Squares>(alloc: Global, store: &mut S) -> Result<(), Kind> {
-    let mut builder = Builder::new(alloc);
+    let mut builder = begun(alloc, store);
     builder.add_run(store, 0, 0, 1, 1)?;
     builder.add_run(store, 0, 1, 1, 1)?;
     builder.add_run(store, 0, 2, 1, 1)
 }
 
 fn one_cell(alloc: Global, store: &mut Shared) -> Result<Id, Kind> {
-    let mut builder = Builder::new(alloc);
+    let mut builder = begun(alloc, store);
     builder.add_run(store, 0, 0, 1, 1)?;
     builder.finish(store)
 }
@@ -95,7 +107,7 @@ fn two_cells_give_the_square_joined_by_hand(rt: HostRuntime) -> Result<(), Fail>
 #[test]
 fn no_cell_gives_the_blank_square(rt: HostRuntime) -> Result<(), Fail> {
     let mut store = Shared::new(rt.alloc(), 0);
-    let answer = Builder::new(rt.alloc()).finish(&mut store)?;
+    let answer = begun(rt.alloc(), &store).finish(&mut store)?;
     assert!(rt; answer == store.empty(MAX_LEVEL));
     Ok(())
 }

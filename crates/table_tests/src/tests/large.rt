@@ -1,8 +1,7 @@
 //! Large files: long lines, long numbers, all states and many variables.
 use super::compare::{assert_only_transition, assert_variable, refusal};
-use crate::reading::read_table;
-use crate::table::{Entry, Table};
 use life_base::{Fault, Kind};
+use life_table::{Entry, Table, read_table};
 use std::alloc::{AllocError, Global};
 use std::process::Abort;
 use std::rt::HostRuntime;

@@ -1,7 +1,7 @@
 use Rattle.std.proofs.Common.{◌≡◌, ◌-◌, ◌^◌, arith, ◌∙◌, ap}
 use Rattle.std.proofs.lemmas.Int.{ints}
 use Rattle.life_base.specs.Tree.{half_side}
-use Rattle.life_quad.proofs.tests.put.Goals as goal
+use Rattle.quad_tests.proofs.tests.put.Goals as goal
 
 pub put_run-requires-clause-inside : goal.put_run-requires-clause-inside
 put_run-requires-clause-inside g c =

@@ -3,9 +3,8 @@ use super::compare::{
     assert_next, assert_only_transition, assert_refusal, assert_variable, read_texts, refusal,
     table_of,
 };
-use crate::next::Neighbours;
-use crate::table::{Entry, Neighborhood, Symmetry, Table};
 use life_base::Kind;
+use life_table::{Entry, Neighborhood, Neighbours, Symmetry, Table};
 use std::alloc::Global;
 use std::process::Abort;
 use std::rt::HostRuntime;

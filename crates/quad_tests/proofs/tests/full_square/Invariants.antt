@@ -1,6 +1,6 @@
 use Rattle.std.proofs.Common.{◌≡◌}
 use Rattle.life_base.specs.Tree.{depth}
-use Rattle.life_quad.proofs.tests.full_square.Given as goal
+use Rattle.quad_tests.proofs.tests.full_square.Given as goal
 
 abbrev pub invariant-loop-level : goal.invariant-loop-level
 invariant-loop-level g l =

@@ -1,16 +1,26 @@
 //! Worked examples, and each public call once at each store.
 
-ghost use Rattle.std.specs.Prelude.{◌≡◌, ◌≤◌, IfOk};
+ghost use Rattle.std.specs.Prelude.{◌≡◌, ◌≤◌, ◌-◌, ◌^◌, IfOk};
 ghost use Rattle.life_base.specs.Tree.{depth};
 ghost use Rattle.life_quad.specs.declared.id.Id.{Id as IdValue};
 
-use crate::{
+use life_base::{Cell, Kind, MAX_LEVEL};
+use life_quad::{
     Bounds, Id, IdList, Plain, Quarters, Shared, SharedSquares, Squares, bounds, cells, divide,
     grow, is_blank, population, put_run, trim,
 };
-use life_base::{Cell, Kind, MAX_LEVEL};
 use std::alloc::Global;
 use std::test::Fail;
+
+// Half of the side of a square of a level.
+fn half_side(level: u8) -> u64
+    requires low { 1 ≤ level }
+    requires high { level ≤ MAX_LEVEL }
+    ensures half { result ≡ 2 ^ (level - 1) }
+    ensures small { result ≤ 2 ^ 61 }
+{
+    1 << (level - 1)
+}
 
 // A run put into a square, and refused where it does not lie in it.
 fn put<S: Squares>(
@@ -31,7 +41,7 @@ fn put<S: Squares>(
     if level == 0 || len == 0 {
         return Err(Kind::OutOfPlane);
     }
-    let half = crate::runs::half_side(level) as i64;
+    let half = half_side(level) as i64;
     if x < -half || half <= x || y < -half || half <= y || len > (half - x) as u64 {
         return Err(Kind::OutOfPlane);
     }

@@ -4,10 +4,8 @@ ghost use Rattle.std.specs.Prelude.{◌≡◌, ◌+◌, ◌<◌, length, All};
 ghost use Rattle.life_table.specs.Around.{cells_of};
 ghost use Rattle.life_table.specs.Valid.{neighbour_count};
 
-use crate::next::Neighbours;
-use crate::reading::read_table;
-use crate::table::{Entry, Table, Transition, Var};
 use life_base::{Fault, Kind, State};
+use life_table::{Entry, Neighbours, Table, Transition, Var, read_table};
 use std::alloc::{AllocError, Global};
 use std::process::Abort;
 

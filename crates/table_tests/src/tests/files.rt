@@ -2,9 +2,8 @@
 use super::compare::{
     assert_next, assert_only_transition, assert_only_variable, assert_refusal, table_of,
 };
-use crate::next::Neighbours;
-use crate::table::{Entry, Neighborhood, Symmetry, Table};
 use life_base::{Fault, Kind, Place};
+use life_table::{Entry, Neighborhood, Neighbours, Symmetry, Table};
 use std::process::Abort;
 use std::rt::HostRuntime;
 

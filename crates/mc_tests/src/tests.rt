@@ -1,7 +1,7 @@
 //! Worked files, with the answers of the format.
 
-use crate::{Line, McLines, laws, read_mc, write_mc};
 use life_base::{Fault, Kind, Place, Rule};
+use life_mc::{Line, McLines, laws, read_mc, write_mc};
 use std::alloc::Global;
 use std::process::Abort;
 use std::test::Fail;

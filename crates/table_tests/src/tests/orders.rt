@@ -1,15 +1,9 @@
 //! The neighbours under `permute`: by counts, and in each of their orders.
-ghost use Rattle.std.specs.Prelude.{◌≡◌, ℕ, ◌<◌, length, All, IsTrue, List, []};
-ghost use Rattle.std.specs.List.{list_any};
-ghost use Rattle.life_table.specs.Found.{Consistent};
-ghost use Rattle.life_table.specs.Valid.{IsEntry, is_variable};
+ghost use Rattle.std.specs.Prelude.{◌≡◌, ◌<◌, All};
 
 use super::compare::{assert_next, table_of};
-use crate::choose::with_image;
-use crate::found::Found;
-use crate::next::Neighbours;
-use crate::table::{Entry, Neighborhood, Symmetry, Table, Transition, Var};
 use life_base::{Fault, Kind, Place, State};
+use life_table::{Entry, Neighborhood, Neighbours, Symmetry, Table, Transition};
 use std::alloc::Global;
 use std::process::Abort;
 use std::rt::HostRuntime;
@@ -20,14 +14,52 @@ const HEAD: &str =
 const EIGHT: &str =
     "@RULE A\n@TABLE\nn_states:9\nneighborhood:Moore\nsymmetries:permute\nvar a={1,2,3,4,5,6,7}\nvar b={a}\nvar c={a}\nvar d={a}\nvar e={a}\nvar f={a}\nvar g={a}\n";
 
-/// The states that a line gives at one cell, with each order of the neighbours tried.
-fn by_orders(vars: &[Var], line: &Transition, cells: [State; 5]) -> Found
-    requires count { length line.now.inputs ≡ 5 }
-    requires entries { All (IsEntry 256 vars.now) line.now.inputs }
-    requires bound { (i : ℕ) → line.now.output ≡ Entry.Var i → IsTrue (list_any (is_variable i) line.now.inputs) }
-    requires choosable { Consistent vars.now [] [] }
-{
-    let mut found = Found::Nothing;
+/// The states that a line gives: none, one, or more than one.
+#[derive(Clone, Copy)]
+enum Given {
+    Nothing,
+    One(State),
+    More,
+}
+
+/// The state that an entry stands for where the two variables have these states.
+fn state_of(entry: Entry, choice: [State; 2]) -> State {
+    match entry {
+        Entry::Fixed(state) => state,
+        Entry::Var(0) => choice[0],
+        Entry::Var(_) => choice[1],
+    }
+}
+
+/// What the line gives if its entries stand for these states, after what it gave before.
+fn with_choice(line: &Transition, cells: &[State; 5], choice: [State; 2], given: Given) -> Given {
+    for (entry, cell) in line.inputs.as_slice().iter().zip(cells) {
+        if state_of(*entry, choice) != *cell {
+            return given;
+        }
+    }
+    let output = state_of(line.output, choice);
+    match given {
+        Given::Nothing => Given::One(output),
+        Given::One(state) if state == output => given,
+        Given::One(_) | Given::More => Given::More,
+    }
+}
+
+/// What a line gives at one cell, with each choice for two variables of three states tried.
+fn by_choices(line: &Transition, cells: &[State; 5], given: Given) -> Given {
+    let mut given = given;
+    for a in 0..3 {
+        for b in 0..3 {
+            given = with_choice(line, cells, [a, b], given);
+        }
+    }
+    given
+}
+
+/// What a line gives at one cell, with each order of the neighbours tried.
+fn by_orders(line: &Transition, cells: [State; 5]) -> Given {
+    let mut given = Given::Nothing;
     for first in 1..5 {
         for second in 2..5 {
             for third in 3..5 {
@@ -35,22 +67,20 @@ fn by_orders(vars: &[Var], line: &Transition, cells: [State; 5]) -> Found
                 image.swap(1, first);
                 image.swap(2, second);
                 image.swap(3, third);
-                found = with_image(vars, line, &image, found);
+                given = by_choices(line, &image, given);
             }
         }
     }
-    found
+    given
 }
 
-/// The next state of a cell, with each order of its neighbours tried.
-fn next_by_orders(table: &Table, cells: [State; 5]) -> Result<State, Fault>
-    requires { table.now.neighborhood ≡ Neighborhood.VonNeumann }
-{
+/// The next state of a cell by a table with two variables of three states, with each order of its neighbours tried.
+fn next_by_orders(table: &Table, cells: [State; 5]) -> Result<State, Fault> {
     for line in table.lines.as_slice() {
-        match by_orders(table.vars.as_slice(), line, cells) {
-            Found::Nothing => {}
-            Found::One(state) => return Ok(state),
-            Found::Two => return Err(ambiguous(line.line)),
+        match by_orders(line, cells) {
+            Given::Nothing => {}
+            Given::One(state) => return Ok(state),
+            Given::More => return Err(ambiguous(line.line)),
         }
     }
     Ok(cells[0])
@@ -94,9 +124,7 @@ fn assert_next_by_orders(
     line: &str,
     cells: [State; 5],
     wanted: Result<State, Fault>,
-)
-    requires { table.now.neighborhood ≡ Neighborhood.VonNeumann }
-{
+) {
     assert_eq!(rt; next_by_orders(table, cells), wanted, "{line} {cells:?}");
 }
 
