@@ -6,12 +6,14 @@ mod answer;
 mod base;
 mod calls;
 mod files;
+mod patterns;
 mod squares;
 mod strips;
 mod tables;
 
 use calls::Calls;
 use life_quad::{Plain, Shared, Squares};
+use patterns::{Example, GLIDER, LONE, PAIR, WIRES};
 use std::alloc::Global;
 
 fn base_calls(rt: &HostRuntime) {
@@ -142,6 +144,74 @@ fn plain_calls(rt: &HostRuntime) {
     }
 }
 
+/// A store for each call on files, so that the squares of one call don't serve another.
+#[derive(Drop)]
+struct Stores {
+    numbered: Shared,
+    canonical: Shared,
+    compared: Shared,
+    converted: Shared,
+    described: Shared,
+    pieced: Shared,
+}
+
+impl Stores {
+    fn new(alloc: Global) -> Stores {
+        Stores {
+            numbered: Shared::new(alloc, LIMIT),
+            canonical: Shared::new(alloc, LIMIT),
+            compared: Shared::new(alloc, LIMIT),
+            converted: Shared::new(alloc, LIMIT),
+            described: Shared::new(alloc, LIMIT),
+            pieced: Shared::new(alloc, LIMIT),
+        }
+    }
+}
+
+// Each call on a file.
+fn example_calls<'x>(
+    rt: &'x HostRuntime,
+    stores: &mut Stores,
+    name: &'x str,
+    example: &Example,
+    time: &'x str,
+) {
+    let alloc = rt.alloc();
+    let calls = Calls::at(rt, name, time);
+    calls.tell(
+        "read, number",
+        patterns::numbered(alloc, &mut stores.numbered, example),
+    );
+    calls.tell(
+        "canon",
+        patterns::canonical(alloc, &mut stores.canonical, example),
+    );
+    calls.tell(
+        "same",
+        patterns::compared(alloc, &mut stores.compared, example),
+    );
+    calls.tell(
+        "to_rle",
+        patterns::converted(alloc, &mut stores.converted, example),
+    );
+    calls.tell(
+        "show",
+        patterns::described(alloc, &mut stores.described, example),
+    );
+    calls.tell(
+        "Reader",
+        patterns::pieced(alloc, &mut stores.pieced, example),
+    );
+}
+
+// Files in turn: where one call is refused, the next on the same store reads another file.
+fn pattern_calls<'x>(rt: &'x HostRuntime, stores: &mut Stores, time: &'x str) {
+    example_calls(rt, stores, "glider", &GLIDER, time);
+    example_calls(rt, stores, "two cells", &PAIR, time);
+    example_calls(rt, stores, "one cell under seven squares", &LONE, time);
+    example_calls(rt, stores, "two states of a name", &WIRES, time);
+}
+
 fn main(rt: HostRuntime) {
     base_calls(&rt);
     file_calls(&rt);
@@ -150,4 +220,7 @@ fn main(rt: HostRuntime) {
     measuring_calls(&rt);
     shared_calls(&rt);
     plain_calls(&rt);
+    let mut stores = Stores::new(rt.alloc());
+    pattern_calls(&rt, &mut stores, "");
+    pattern_calls(&rt, &mut stores, ", again");
 }

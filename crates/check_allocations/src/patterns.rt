@@ -1,0 +1,122 @@
+//! Patterns of files of either format.
+
+ghost use Rattle.life_canon.specs.Store.{IsTrimmed};
+
+use life_base::Fault;
+use life_canon::{Pattern, Reader, canon, number, read, same, show, to_rle};
+use life_mc::write_mc;
+use life_quad::Shared;
+use std::alloc::Global;
+
+/// A file, and what the calls answer for it.
+pub(crate) struct Example {
+    input: &'static [u8],
+    canonical: &'static [u8],
+    runs: &'static [u8],
+    shown: &'static [u8],
+}
+
+/// A glider.
+pub(crate) const GLIDER: Example = Example {
+    input: b"x = 3, y = 3, rule = B3/S23\nbo$2bo$3o!\n",
+    canonical: b"[M2] (canonical 1)\n#R B3/S23\n$$$$.....*$......*$....***$$\n",
+    runs: b"#CXRLE Pos=0,0\nx = 3, y = 3, rule = B3/S23\nbo$2bo$3o!\n",
+    shown: b"rule B3/S23\ngeneration 0\npopulation 5\nbox 0 0 3 3\nnodes 1\n",
+};
+
+/// Two cells in equal squares.
+pub(crate) const PAIR: Example = Example {
+    input: b"#CXRLE Pos=-4,0\nx = 9, y = 1, rule = B3/S23\no7bo!\n",
+    canonical: b"[M2] (canonical 1)\n#R B3/S23\n....*$$$$$$$$\n4 0 0 1 1\n",
+    runs: b"#CXRLE Pos=-4,0\nx = 9, y = 1, rule = B3/S23\no7bo!\n",
+    shown: b"rule B3/S23\ngeneration 0\npopulation 2\nbox -4 0 9 1\nnodes 2\n",
+};
+
+/// One cell under seven levels of squares.
+pub(crate) const LONE: Example = Example {
+    input: b"[M2] (golly 4.2)\n#R B3/S23\n....*$$$$$$$$\n4 1 0 0 0\n5 2 0 0 0\n6 3 0 0 0\n7 4 0 0 0\n8 5 0 0 0\n9 0 0 0 6\n",
+    canonical: b"[M2] (canonical 1)\n#R B3/S23\n....*$$$$$$$$\n4 0 0 0 1\n",
+    runs: b"#CXRLE Pos=4,0\nx = 1, y = 1, rule = B3/S23\no!\n",
+    shown: b"rule B3/S23\ngeneration 0\npopulation 1\nbox 4 0 1 1\nnodes 2\n",
+};
+
+/// Two cells of a rule that is known by its name.
+pub(crate) const WIRES: Example = Example {
+    input: b"#CXRLE Pos=-1,-1 Gen=7\nx = 2, y = 1, rule = WireWorld\nApA!\n",
+    canonical: b"[M2] (canonical 1)\n#R WireWorld\n#G 7\n1 1 25 0 0\n",
+    runs: b"#CXRLE Pos=-1,-1 Gen=7\nx = 2, y = 1, rule = WireWorld\nApA!\n",
+    shown: b"rule WireWorld\ngeneration 7\npopulation 2\nbox -1 -1 2 1\nnodes 1\n",
+};
+
+// Whether the text of the pattern's node lines is the one that is wanted.
+fn is_canonical(
+    alloc: Global,
+    store: &Shared,
+    pattern: &Pattern,
+    wanted: &[u8],
+) -> Result<bool, Fault>
+    requires { IsTrimmed store.now pattern.now }
+{
+    let file = number(alloc, store, pattern)?;
+    let text = write_mc(alloc, &file)?;
+    Ok(text.as_slice() == wanted)
+}
+
+/// The pattern of the file, and its node lines.
+pub(crate) fn numbered(
+    alloc: Global,
+    store: &mut Shared,
+    example: &Example,
+) -> Result<bool, Fault> {
+    let pattern = read(alloc, store, example.input)?;
+    is_canonical(alloc, store, &pattern, example.canonical)
+}
+
+/// The canonical text of the file.
+pub(crate) fn canonical(
+    alloc: Global,
+    store: &mut Shared,
+    example: &Example,
+) -> Result<bool, Fault> {
+    let text = canon(alloc, store, example.input)?;
+    Ok(text.as_slice() == example.canonical)
+}
+
+/// The file beside its canonical text.
+pub(crate) fn compared(
+    alloc: Global,
+    store: &mut Shared,
+    example: &Example,
+) -> Result<bool, Fault> {
+    same(alloc, store, example.input, example.canonical)
+}
+
+/// The text of the file in extended RLE.
+pub(crate) fn converted(
+    alloc: Global,
+    store: &mut Shared,
+    example: &Example,
+) -> Result<bool, Fault> {
+    let text = to_rle(alloc, store, example.input)?;
+    Ok(text.as_slice() == example.runs)
+}
+
+/// The five lines of the file.
+pub(crate) fn described(
+    alloc: Global,
+    store: &mut Shared,
+    example: &Example,
+) -> Result<bool, Fault> {
+    let text = show(alloc, store, example.input)?;
+    Ok(text.as_slice() == example.shown)
+}
+
+/// The node lines of the file, which comes in pieces of seven bytes.
+pub(crate) fn pieced(alloc: Global, store: &mut Shared, example: &Example) -> Result<bool, Fault> {
+    let mut reader = Reader::new(alloc);
+    for piece in example.input.chunks(7) {
+        reader.feed(store, piece)?;
+    }
+    let pattern = reader.finish(store)?;
+    is_canonical(alloc, store, &pattern, example.canonical)
+}
