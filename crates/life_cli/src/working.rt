@@ -73,7 +73,11 @@ fn lines_of<A: Source>(alloc: Global, first: &mut A) -> Result<Vec<u8>, Fault>
 }
 
 /// Whether two sources have the same pattern.
-fn compared<A: Source, B: Source>(alloc: Global, first: &mut A, second: &mut B) -> Result<bool, Fault>
+fn compared<A: Source, B: Source>(
+    alloc: Global,
+    first: &mut A,
+    second: &mut B,
+) -> Result<bool, Fault>
     requires first { A.failures first.old ≡ 0 }
     requires second { B.failures second.old ≡ 0 }
     ensures ok { IfOk result (λ is_same. AreCompared (source_run A.remaining A.failures first.old first.new)

@@ -68,11 +68,7 @@ fn target(alloc: Global, found: &ArgMatches<'_>) -> Result<Target, Usage>
     ensures err { IfErr result (ExplainsWhere ((t : TargetValue) → first_of (codes "to") (rows_of (found_of found.now)) ≢ Some (target_word t))) }
 {
     let Some(word) = value(found, "to") else {
-        return Err(refusal(
-            alloc,
-            ErrorKind::MissingRequiredArgument,
-            "--to is missing",
-        ));
+        return Err(refusal(alloc, ErrorKind::MissingRequiredArgument, "--to is missing"));
     };
     match target_named(word) {
         Some(target) => Ok(target),
