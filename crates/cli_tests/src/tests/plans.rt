@@ -13,8 +13,14 @@ fn plans_of_one_file(rt: HostRuntime) -> Result<(), Fail> {
     let rows: [(&[&str], Job); 6] = [
         (&[NAME, "canon", "-"], Job::Canon),
         (&[NAME, "show", "-"], Job::Show),
-        (&[NAME, "convert", "-", "--to", "rle"], Job::Convert(Target::Rle)),
-        (&[NAME, "convert", "--to", "rle", "-"], Job::Convert(Target::Rle)),
+        (
+            &[NAME, "convert", "-", "--to", "rle"],
+            Job::Convert(Target::Rle),
+        ),
+        (
+            &[NAME, "convert", "--to", "rle", "-"],
+            Job::Convert(Target::Rle),
+        ),
         (&[NAME, "convert", "--to=mc", "-"], Job::Convert(Target::Mc)),
         (&[NAME, "show", "--", "-"], Job::Show),
     ];
@@ -66,10 +72,19 @@ fn usages(rt: HostRuntime) {
         (&[NAME, "same", "a"], ErrorKind::MissingRequiredArgument),
         (&[NAME, "show"], ErrorKind::MissingRequiredArgument),
         (&[NAME, "convert", "a"], ErrorKind::MissingRequiredArgument),
-        (&[NAME, "convert", "--to", "rle"], ErrorKind::MissingRequiredArgument),
+        (
+            &[NAME, "convert", "--to", "rle"],
+            ErrorKind::MissingRequiredArgument,
+        ),
         (&[NAME, "convert", "a", "--to"], ErrorKind::InvalidValue),
-        (&[NAME, "convert", "a", "--to", "RLE"], ErrorKind::InvalidValue),
-        (&[NAME, "canon", "a", "--to", "mc"], ErrorKind::UnknownArgument),
+        (
+            &[NAME, "convert", "a", "--to", "RLE"],
+            ErrorKind::InvalidValue,
+        ),
+        (
+            &[NAME, "canon", "a", "--to", "mc"],
+            ErrorKind::UnknownArgument,
+        ),
         (&[NAME, "--help"], ErrorKind::DisplayHelp),
         (&[NAME, "--version"], ErrorKind::DisplayVersion),
     ];

@@ -11,12 +11,7 @@ use life_cli::work;
 use std::alloc::Global;
 
 /// The status of a job of one file, and what standard error took.
-fn one<A: Source, O: Sink>(
-    alloc: Global,
-    job: &Job,
-    first: &mut A,
-    out: &mut O,
-) -> (u8, Vec<u8>)
+fn one<A: Source, O: Sink>(alloc: Global, job: &Job, first: &mut A, out: &mut O) -> (u8, Vec<u8>)
     requires alone { ¬ HasSecond job.now }
     requires reads { A.failures first.old ≡ 0 }
     requires writes { O.failures out.old ≡ 0 }
@@ -81,9 +76,13 @@ fn refused_texts(rt: HostRuntime) {
     let mut first = Device::new(b"o!\n".as_slice());
     let (status, told) = one(rt.alloc(), &Job::Show, &mut first, &mut out);
     assert!(rt; status == 2 && told.as_slice() == b"line 1: NoHeader\n".as_slice());
+    assert!(rt; out.taken.is_empty());
+    let mut out = sink_with(rt.alloc(), 999, 7);
     let mut first = Device::new(b"[M2]\n#FRAMES 10 0 1\n".as_slice());
     let (status, told) = one(rt.alloc(), &Job::Convert(Target::Mc), &mut first, &mut out);
     assert!(rt; status == 2 && told.as_slice() == b"line 2: Timeline\n".as_slice());
+    assert!(rt; out.taken.is_empty());
+    let mut out = sink_with(rt.alloc(), 999, 7);
     let mut first = Device::new(b"x = 1, y = 1\n1048577o!\n".as_slice());
     let (status, told) = one(rt.alloc(), &Job::Convert(Target::Rle), &mut first, &mut out);
     assert!(rt; status == 2 && told.as_slice() == b"TooManyCells\n".as_slice());
@@ -97,11 +96,27 @@ fn failing_sources(rt: HostRuntime) {
     let mut out = sink_with(rt.alloc(), 999, 7);
     let (status, told) = one(rt.alloc(), &Job::Show, &mut failing(TWINS), &mut out);
     assert!(rt; status == 3 && told.as_slice() == fault);
+    assert!(rt; out.taken.is_empty());
+    let mut out = sink_with(rt.alloc(), 999, 7);
     let mut source = failing(TWINS);
-    let (status, told) = one(rt.alloc(), &Job::Convert(Target::Rle), &mut source, &mut out);
+    let (status, told) = one(
+        rt.alloc(),
+        &Job::Convert(Target::Rle),
+        &mut source,
+        &mut out,
+    );
     assert!(rt; status == 3 && told.as_slice() == fault);
-    let (status, told) = two(rt.alloc(), &mut failing(TWINS), Device::new(TWINS), &mut out);
+    assert!(rt; out.taken.is_empty());
+    let mut out = sink_with(rt.alloc(), 999, 7);
+    let (status, told) = two(
+        rt.alloc(),
+        &mut failing(TWINS),
+        Device::new(TWINS),
+        &mut out,
+    );
     assert!(rt; status == 3 && told.as_slice() == fault);
+    assert!(rt; out.taken.is_empty());
+    let mut out = sink_with(rt.alloc(), 999, 7);
     let mut first = Device::new(b"o!\n".as_slice());
     let (status, told) = two(rt.alloc(), &mut first, failing(TWINS), &mut out);
     assert!(rt; status == 3 && told.as_slice() == fault);

@@ -28,7 +28,14 @@ fn compare(alloc: Global, a: &[u8], b: &[u8]) -> (u8, Limited, Limited) {
     let mut second = Some(Device::new(b));
     let mut out = sink_with(alloc, 9999, 7);
     let mut err = sink_with(alloc, 99, 3);
-    let status = work(alloc, &Job::Same, &mut first, &mut second, &mut out, &mut err);
+    let status = work(
+        alloc,
+        &Job::Same,
+        &mut first,
+        &mut second,
+        &mut out,
+        &mut err,
+    );
     (status, out, err)
 }
 
@@ -47,8 +54,18 @@ fn same_and_different(rt: HostRuntime) {
             1,
             b"different\n",
         ),
-        (b"x = 1, y = 1\no!\n", b"x = 1, y = 1\no999999bo!\n", 1, b"different\n"),
-        (b"x = 1, y = 1\no!\n", b"#CXRLE Gen=1\nx = 1, y = 1\no!\n", 1, b"different\n"),
+        (
+            b"x = 1, y = 1\no!\n",
+            b"x = 1, y = 1\no999999bo!\n",
+            1,
+            b"different\n",
+        ),
+        (
+            b"x = 1, y = 1\no!\n",
+            b"#CXRLE Gen=1\nx = 1, y = 1\no!\n",
+            1,
+            b"different\n",
+        ),
         (TWINS, TWINS_IN_RLE, 0, b"same\n"),
         (TWINS_IN_RLE, TWINS_TEXT, 0, b"same\n"),
         (BLANK, b"[M2]", 0, b"same\n"),
@@ -65,7 +82,10 @@ fn same_and_different(rt: HostRuntime) {
 fn converted_to_rle(rt: HostRuntime) {
     let rows: [(&[u8], &[u8]); 6] = [
         (WIRES_TEXT, WIRES),
-        (TWINS, b"#CXRLE Pos=-4,0\nx = 9, y = 1, rule = B3/S23\no7bo!\n"),
+        (
+            TWINS,
+            b"#CXRLE Pos=-4,0\nx = 9, y = 1, rule = B3/S23\no7bo!\n",
+        ),
         (BLANK, b"#CXRLE Pos=0,0\nx = 0, y = 0, rule = B3/S23\n!\n"),
         (
             b"x = 1, y = 1, rule = Foo\npA2$.C!",
@@ -105,12 +125,18 @@ fn shown(rt: HostRuntime) {
             b"x = 3, y = 3, rule = B3/S23\nbo$2bo$3o!\n",
             b"rule B3/S23\ngeneration 0\npopulation 5\nbox 0 0 3 3\nnodes 1\n",
         ),
-        (BLANK, b"rule B3/S23\ngeneration 0\npopulation 0\nbox none\nnodes 0\n"),
+        (
+            BLANK,
+            b"rule B3/S23\ngeneration 0\npopulation 0\nbox none\nnodes 0\n",
+        ),
         (
             b"#CXRLE Pos=-576460752303423488,0\nx = 1, y = 1\n1152921504606846976o!\n",
             b"rule B3/S23\ngeneration 0\npopulation 1152921504606846976\nbox -576460752303423488 0 1152921504606846976 1\nnodes 58\n",
         ),
-        (WIRES, b"rule WireWorld\ngeneration 7\npopulation 2\nbox -1 -1 2 1\nnodes 1\n"),
+        (
+            WIRES,
+            b"rule WireWorld\ngeneration 7\npopulation 2\nbox -1 -1 2 1\nnodes 1\n",
+        ),
     ];
     for (input, text) in rows {
         let (status, out, err) = run(rt.alloc(), &Job::Show, input);
