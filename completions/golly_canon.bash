@@ -1,7 +1,7 @@
 # Completion of golly_canon's words in bash.
 
 _golly_canon() {
-    local commands="canon convert same show help"
+    local commands="canon convert same show step help"
     local formats="rle mc"
     local word=${COMP_WORDS[COMP_CWORD]} previous=${COMP_WORDS[COMP_CWORD - 1]}
     COMPREPLY=()
@@ -21,6 +21,7 @@ _golly_canon() {
         -*)
             case ${COMP_WORDS[1]} in
                 convert) COMPREPLY=($(compgen -W "--to --help -h" -- "$word")) ;;
+                step) COMPREPLY=($(compgen -W "--table --help -h" -- "$word")) ;;
                 canon | same | show) COMPREPLY=($(compgen -W "--help -h" -- "$word")) ;;
             esac
             ;;

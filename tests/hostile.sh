@@ -442,6 +442,43 @@ told "to RLE with too many cells" 2 "" "TooManyCells" convert many.rle --to rle
 told "to RLE from an absent file" 3 "" "ReadFault" convert absent --to rle
 told "to macrocell from a folder" 3 "" "ReadFault" convert . --to mc
 
+# ---- stepping
+
+printf 'x = 3, y = 1, rule = B3/S23\n3o!\n' > line.rle
+printf 'x = 1, y = 1, rule = Spread\nB!\n' > spread.rle
+printf 'x = 1, y = 1, rule = Spread\nC!\n' > beyond.rle
+printf '@RULE Spread\n@TABLE\nn_states:3\nneighborhood:vonNeumann\nsymmetries:rotate4\nvar a={1,2}\n0,a,0,0,0,a\n' > spread.rule
+printf '@RULE Spread\n@TABLE\nn_states:3\nneighborhood:vonNeumann\nsymmetries:permute\nvar a={1,2}\nvar b={1,2}\n0,a,b,0,0,a\n' > two.rule
+printf '#CXRLE Pos=0,-1\nx = 2, y = 2, rule = Spread\nA$.B!\n' > two.rle
+printf '@RULE Spread\n' > bad.rule
+{ zeros $((longest + 1)) '#'; printf '\n'; } > long.rule
+cp spread.rule from
+line_stepped="${header}"'#G 1\n$$$.....*$.....*$.....*$$$\n'
+spread_stepped='[M2] (canonical 1)\n#R Spread\n#G 1\n1 0 0 2 0\n1 0 2 0 0\n1 2 2 2 0\n2 0 1 2 3\n'
+
+told "a step" 0 "$line_stepped" "" step line.rle
+told "a step by a table" 0 "$spread_stepped" "" step spread.rle --table spread.rule
+told "a step by a table from standard input" 0 "$spread_stepped" "" step spread.rle --table -
+told "a step by a table, the option first" 0 "$spread_stepped" "" step --table=spread.rule spread.rle
+told "two states for a cell" 2 "" "table line 8: Ambiguous" step two.rle --table two.rule
+told "a name without its table" 2 "" "NeedsTable" step spread.rle
+told "a table of another name" 2 "" "RuleMismatch" step line.rle --table spread.rule
+told "a state that the table lacks" 2 "" "StateBeyondTable" step beyond.rle --table spread.rule
+told "a refused table" 2 "" "table line 2: NoTable" step spread.rle --table bad.rule
+told "a refused table before a refused file" 2 "" "table line 2: NoTable" step bad.rle --table bad.rule
+told "a refused file behind a table" 2 "" "line 2: StateRange" step bad.rle --table spread.rule
+told "a table with a long line" 2 "" "table line 1: LineTooLong" step bad.rle --table long.rule
+told "a file with a long line behind a table" 2 "" "line 1: LineTooLong" step long.rule --table spread.rule
+told "a step of too many cells" 2 "" "TooManyCells" step many.rle
+told "a step of an absent file" 3 "" "ReadFault" step absent
+told "a step by an absent table" 3 "" "ReadFault" step bad.rle --table absent
+told "a step by a folder" 3 "" "ReadFault" step bad.rle --table .
+told "standard input for both" 5 "" "TwoInputs" step - --table -
+printf '#CXRLE Gen=18446744073709551615\nx = 3, y = 1, rule = B3/S23\n3o!\n' > last.rle
+told "a step from the last generation" 2 "" "GenerationTooLarge" step last.rle
+printf '#CXRLE Pos=0,576460752303423487\nx = 3, y = 1\n3o!\n' > edge.rle
+told "a step over the edge" 2 "" "OutOfPlane" step edge.rle
+
 # That the second input is too long is told before what is wrong with the first.
 zeros $((1024 * longest + 1)) 'x' > too_long
 measured_run show too_long > out
@@ -455,7 +492,8 @@ verdict "2^30 + 1 bytes behind a refused file" "$problems"
 rm too_long
 
 # Outputs that take nothing, for each job.
-for words in "same pair.rle pair.mc" "same pair.rle named.rle" "show pair.rle" "convert pair.mc --to rle" "convert pair.rle --to mc"; do
+for words in "same pair.rle pair.mc" "same pair.rle named.rle" "show pair.rle" "convert pair.mc --to rle" "convert pair.rle --to mc" "step line.rle" \
+    "step spread.rle --table spread.rule"; do
     measured_run $words > /dev/full
     compare 3 "WriteFault" 0 1
     verdict "$words to a full output" "$problems"
@@ -506,6 +544,11 @@ misused "the empty format" convert input --to ''
 misused "an option without its value" convert input --to
 misused "an option twice" convert input --to mc --to mc
 misused "an option of another command" canon input --to mc
+misused "nothing to step" step
+misused "a table without a file" step --table input
+misused "a table without its name" step input --table
+misused "a table twice" step input --table input --table input
+misused "a table for another command" show input --table input
 misused "a second file that is no UTF-8 text" same input "$(printf 'a\377b')"
 misused "a format that is no UTF-8 text" convert input --to "$(printf '\377')"
 misused "standard input for both files" same - -
@@ -531,10 +574,12 @@ asked "--version" "golly_canon " --version
 asked "same --help" "Usage: golly_canon same <A> <B>" same --help
 asked "show --help" "Usage: golly_canon show <FILE>" show --help
 asked "convert --help" "Usage: golly_canon convert --to <FORMAT> <FILE>" convert --help
+asked "step --help" "Usage: golly_canon step \[OPTIONS\] <FILE>" step --help
+asked "an example of step" "  golly_canon step glider.rle" step --help
 asked "the statuses of same" "  1  they are different patterns" same --help
 asked "an example of show" "  golly_canon show glider.rle" show --help
 asked "help convert" "^mc   macrocell" help convert
-for command in canon convert same show; do
+for command in canon convert same show step; do
     asked "a short help that names $command" "^  $command " -h
 done
 

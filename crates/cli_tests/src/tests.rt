@@ -4,6 +4,7 @@ mod canon;
 mod devices;
 mod plans;
 mod refusals;
+mod steps;
 mod texts;
 
 /// A glider, and its text: the rows about the middle of a leaf.

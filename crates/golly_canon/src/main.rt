@@ -9,7 +9,7 @@ mod opening;
 
 use life_base::{Device, Fault, Kind};
 use life_cli::plans::{Plan, Usage};
-use life_cli::{plan, status, tell, work};
+use life_cli::{Refusal, plan, status, tell, work};
 use opening::{Input, open};
 use std::alloc::{AllocError, Global};
 use std::process::ExitCode;
@@ -27,7 +27,7 @@ fn texts<'a>(alloc: Global, words: &'a [String]) -> Result<Vec<&'a str>, AllocEr
 /// Writes the line of a fault that comes outside `work`, and answers its status.
 fn report_fault(rt: &HostRuntime, kind: Kind) -> u8 {
     let mut err = Device::new(rt.stderr());
-    tell(&mut err, &Fault::of(kind));
+    tell(&mut err, &Refusal::from(Fault::of(kind)));
     status(kind)
 }
 

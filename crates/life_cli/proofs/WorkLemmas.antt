@@ -1,16 +1,25 @@
 -- From the parts of a job to what it did, or why it is refused.
-use Rattle.std.proofs.Common.{◌≡◌, ℕ, ◌^◌, ◌⊎◌, inl, inr, List, Bool, true, false, Result, Ok, Err, IfErr, IfOk, OnOk, if◌then◌else◌, codes, refl, IsTrue, ◌↔◌}
-use Rattle.life_base.specs.DeviceRuns.{SourceRun}
+use Rattle.std.proofs.Common.{◌≡◌, ℕ, ◌^◌, ◌⊎◌, inl, inr, List, Bool, true, false, Result, Ok, Err, IfErr, IfOk, OnOk, if◌then◌else◌, codes, refl, IsTrue, ◌↔◌, Some, subst, sym}
+use Rattle.std.specs.Io.KnownBytes.{Appends}
+use Rattle.life_base.specs.DeviceRuns.{SourceRun, SinkRun}
 use Rattle.life_base.specs.Inputs.{ReadAll}
-use Rattle.life_base.specs.Refusal.{fault_of}
+use Rattle.life_base.specs.Refusal.{fault_of, OrMemory}
+use Rattle.life_base.specs.Text.{lines_of}
 use Rattle.life_base.specs.declared.cell.TheConstants.{MAX_LEVEL}
 use Rattle.life_base.specs.declared.fault.Fault.{Fault}
 use Rattle.life_base.specs.declared.kind.Kind.TheVariants.{Memory, TooManyCells}
 use Rattle.life_quad.specs.Store.{Nodes}
-use Rattle.life_canon.specs.Files.{Accepted, Refuses, Same as AreSame}
+use Rattle.life_canon.specs.Files.{Accepted, Reads, Refuses, Same as AreSame}
 use Rattle.life_canon.specs.Store.{IsWant, RefusesIn}
 use Rattle.life_canon.specs.Texts.{HasMoreCells}
-use Rattle.life_cli.specs.Jobs.{InputRefuses, HasNoText, by_input, by_file, by_want, AreCompared, AreUncompared, by_first, by_second, by_files, by_shortage, RefusesRle, Compares}
+use Rattle.life_canon.specs.Universe.{Universe}
+use Rattle.life_table.specs.Grammar.{IsFile}
+use Rattle.life_table.specs.Reading.{Refuses as RefusesTable}
+use Rattle.life_table.specs.declared.table.Table.{Table}
+use Rattle.life_step.specs.Refusals.{LifeRefusal, TableRefusal}
+use Rattle.life_cli.specs.declared.plans.Job.TheVariants.{StepTable}
+use Rattle.life_cli.specs.declared.telling.Refusal.{Refusal}
+use Rattle.life_cli.specs.Jobs.{InputRefuses, HasNoText, by_input, by_file, by_want, AreCompared, AreUncompared, by_first, by_second, by_files, by_shortage, RefusesRle, Compares, Worked, HasText, FileRefuses, IsSteppedBy, RefusesStep, RefusesStepBy, HasTable, HasNoTable, table_by_input, table_by_lines, table_by_memory, OfFile, JobRefuses}
 
 -- nothing comes of a file that isn't read whole
 pub no_input : (refuses : List ℕ → Fault → Type 0) (source : SourceRun) (fault : Fault) → InputRefuses source fault ⊎ (fault ≡ fault_of Memory)
@@ -86,3 +95,85 @@ compared_files first second a b (Ok answer) one two accepted is = record {
   writes = (accepted.0, accepted.1, answers a b answer is);
 }
 compared_files first second a b (Err fault) one two accepted is = tt
+
+-- all of a file was read, and a call gave its text
+pub text_of_file : {X : Type 0} (gives : List ℕ → List ℕ → Type 0) (items : X → List ℕ) (source : SourceRun) (bytes : List ℕ) (r : Result X Fault)
+    → ReadAll (2 ^ 30) source.before source.after bytes → IfOk r (λ x. gives bytes (items x)) → IfOk r (λ x. HasText gives source (items x))
+text_of_file gives items source bytes (Ok x) read is = record { bytes = bytes; read = read; is = is }
+text_of_file gives items source bytes (Err fault) read is = tt
+
+-- nothing comes of a file that isn't stepped
+of_step : (source : SourceRun) (bytes : List ℕ) (store : Nodes) (fault : Fault) → ReadAll (2 ^ 30) source.before source.after bytes
+    → store.limit ≡ 2 ^ 31
+    → Refuses MAX_LEVEL bytes fault ⊎ (IsWant store fault ⊎ ((u : Universe) × Reads MAX_LEVEL bytes u × LifeRefusal MAX_LEVEL u (Some fault)))
+    → HasNoText RefusesStep source fault
+of_step source bytes store fault read limit (inl refuses) = by_file bytes read (inl refuses)
+of_step source bytes store fault read limit (inr (inl want)) = by_want (inr (store, limit, want))
+of_step source bytes store fault read limit (inr (inr step)) = by_file bytes read (inr step)
+
+pub refused_step : {X : Type 0} (source : SourceRun) (bytes : List ℕ) (store : Nodes) (r : Result X Fault)
+    → ReadAll (2 ^ 30) source.before source.after bytes → store.limit ≡ 2 ^ 31
+    → IfErr r (λ fault. Refuses MAX_LEVEL bytes fault ⊎ (IsWant store fault ⊎ ((u : Universe) × Reads MAX_LEVEL bytes u × LifeRefusal MAX_LEVEL u (Some fault))))
+    → IfErr r (HasNoText RefusesStep source)
+refused_step source bytes store (Ok x) read limit h = tt
+refused_step source bytes store (Err fault) read limit h = of_step source bytes store fault read limit h
+
+of_step_by : (table : Table) (source : SourceRun) (bytes : List ℕ) (store : Nodes) (fault : Fault)
+    → ReadAll (2 ^ 30) source.before source.after bytes → store.limit ≡ 2 ^ 31
+    → Refuses MAX_LEVEL bytes fault ⊎ (IsWant store fault ⊎ ((u : Universe) × Reads MAX_LEVEL bytes u × TableRefusal MAX_LEVEL table u (Some fault)))
+    → HasNoText (RefusesStepBy table) source fault
+of_step_by table source bytes store fault read limit (inl refuses) = by_file bytes read (inl refuses)
+of_step_by table source bytes store fault read limit (inr (inl want)) = by_want (inr (store, limit, want))
+of_step_by table source bytes store fault read limit (inr (inr step)) = by_file bytes read (inr step)
+
+pub refused_step_by : {X : Type 0} (table : Table) (source : SourceRun) (bytes : List ℕ) (store : Nodes) (r : Result X Fault)
+    → ReadAll (2 ^ 30) source.before source.after bytes → store.limit ≡ 2 ^ 31
+    → IfErr r (λ fault. Refuses MAX_LEVEL bytes fault ⊎ (IsWant store fault ⊎ ((u : Universe) × Reads MAX_LEVEL bytes u × TableRefusal MAX_LEVEL table u (Some fault))))
+    → IfErr r (HasNoText (RefusesStepBy table) source)
+refused_step_by table source bytes store (Ok x) read limit h = tt
+refused_step_by table source bytes store (Err fault) read limit h = of_step_by table source bytes store fault read limit h
+
+-- a file gives a table, or none
+pub no_table_input : (source : SourceRun) (fault : Fault) → InputRefuses source fault ⊎ (fault ≡ fault_of Memory) → HasNoTable source fault
+no_table_input source fault (inl unread) = table_by_input unread
+no_table_input source fault (inr memory) = table_by_memory memory
+
+of_table : (source : SourceRun) (bytes : List ℕ) (fault : Fault) → ReadAll (2 ^ 30) source.before source.after bytes
+    → OrMemory fault (RefusesTable (lines_of bytes) fault) → HasNoTable source fault
+of_table source bytes fault read (inl memory) = table_by_memory memory
+of_table source bytes fault read (inr refuses) = table_by_lines bytes read refuses
+
+pub refused_table : {X : Type 0} (source : SourceRun) (bytes : List ℕ) (r : Result X Fault) → ReadAll (2 ^ 30) source.before source.after bytes
+    → IfErr r (λ fault. OrMemory fault (RefusesTable (lines_of bytes) fault)) → IfErr r (HasNoTable source)
+refused_table source bytes (Ok x) read h = tt
+refused_table source bytes (Err fault) read h = of_table source bytes fault read h
+
+pub read_as_table : (source : SourceRun) (bytes : List ℕ) (r : Result Table Fault) → ReadAll (2 ^ 30) source.before source.after bytes
+    → IfOk r (IsFile (lines_of bytes)) → IfOk r (HasTable source)
+read_as_table source bytes (Ok table) read is = record { bytes = bytes; read = read; is = is }
+read_as_table source bytes (Err fault) read is = tt
+
+-- a step by a table, from its parts
+pub stepped_by : (table : Table) (first second : SourceRun) (output : SinkRun) (text : List ℕ) → HasText (IsSteppedBy table) first text
+    → Appends output.before output.after text → HasTable second table → Worked StepTable 0 first second output
+stepped_by table first second output text has written table_has = record {
+  first_bytes = has.bytes;
+  second_bytes = table_has.bytes;
+  text = text;
+  first_read = has.read;
+  second_read = λ _. table_has.read;
+  writes = (refl, (table, table_has.is, has.is));
+  written = written;
+}
+
+pub worked_by_table : (table : Table) (first second : SourceRun) (output : SinkRun) (r : Result ℕ Refusal) → HasTable second table
+    → IfOk r (λ status. status ≡ 0) → OnOk r ((s : SourceRun) → HasTable s table → Worked StepTable 0 first s output)
+    → IfOk r (λ status. Worked StepTable status first second output)
+worked_by_table table first second output (Ok status) has zero worked =
+    let P : ℕ → Type 0 = λ n. Worked StepTable n first second output in subst P (sym zero) (worked second has)
+worked_by_table table first second output (Err refusal) has zero worked = tt
+
+pub refused_by_table : {X : Type 0} (table : Table) (first second : SourceRun) (output : SinkRun) (r : Result X Refusal) → HasTable second table
+    → IfErr r (OfFile (FileRefuses (IsSteppedBy table) (RefusesStepBy table) first output)) → IfErr r (JobRefuses StepTable first second output)
+refused_by_table table first second output (Ok x) has h = tt
+refused_by_table table first second output (Err refusal) has h = inr (h.0, (table, has, h.1))

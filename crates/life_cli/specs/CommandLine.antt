@@ -9,7 +9,11 @@ use Rattle.clap.specs.declared.builder.command.Command.TheViews.{out-Command}
 abbrev pub required_file : Text → Rule
 required_file id = record (new_rule id) { required = true; action = Some Set }
 
--- an option --NAME VALUE that has to be given, whose value has a name in the help
+-- an option --NAME VALUE, whose value has a name in the help
+abbrev pub option : Text → Rule
+option id = record (new_rule id) { long = Some id; action = Some Set; value_names = 1 }
+
+-- the same, where it has to be given
 abbrev pub required_option : Text → Rule
 required_option id = record (new_rule id) { long = Some id; required = true; action = Some Set; value_names = 1 }
 
@@ -25,6 +29,10 @@ convert_line = with_rule (one_file_line (codes "convert")) (required_option (cod
 abbrev pub same_line : App
 same_line = with_rule (with_rule (new_app (codes "same")) (required_file (codes "A"))) (required_file (codes "B"))
 
+-- step FILE, with an optional --table RULE
+abbrev pub step_line : App
+step_line = with_rule (one_file_line (codes "step")) (option (codes "table"))
+
 -- the program without its commands, of which it wants one; it has a version
 abbrev pub named : App
 named =
@@ -33,11 +41,12 @@ named =
 
 -- the program
 abbrev pub program : App
-program = with_subcommand (with_subcommand (with_subcommand (with_subcommand named
+program = with_subcommand (with_subcommand (with_subcommand (with_subcommand (with_subcommand named
     (one_file_line (codes "canon")).top)
     convert_line.top)
     same_line.top)
-    (one_file_line (codes "show")).top
+    (one_file_line (codes "show")).top)
+    step_line.top
 
 -- the command is read as this one, and none of its arguments is global
 pub record ReadsAs (line : App) (command : Command) : Type 0 where

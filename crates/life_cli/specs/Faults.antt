@@ -1,20 +1,46 @@
 -- What a fault writes to standard error, and the status that it ends the program with.
-use Rattle.std.specs.Prelude.{◌≡◌, ◌⊎◌, ◌==◌, ◌++◌, ℕ, true, List, [], codes, decimal, if◌then◌else◌}
+use Rattle.std.specs.Prelude.{◌≡◌, ◌⊎◌, ◌==◌, ◌++◌, ℕ, Bool, true, false, List, [], codes, decimal, if◌then◌else◌}
 use Rattle.std.specs.Io.KnownBytes.{Appends}
 use Rattle.life_base.specs.DeviceRuns.{SinkRun}
 use Rattle.life_base.specs.Kinds.{kind_name}
 use Rattle.life_base.specs.Writing.{WritesPrefix}
 use Rattle.life_base.specs.declared.fault.Fault.{Fault}
 use Rattle.life_base.specs.declared.kind.Kind.{Kind}
+use Rattle.life_cli.specs.declared.telling.Refusal.{Refusal}
 use Rattle.life_base.specs.declared.kind.Kind.TheVariants as kinds
 
--- the place of a fault line: nothing where the fault names no line
-abbrev pub place_text : ℕ → List ℕ
-place_text line = if line == 0 then [] else codes "line " ++ decimal line ++ codes ": "
+-- A line of this kind of fault is one of a rule table: the kinds that only tables have, and a line that is too long where the table was
+-- being read.
+abbrev pub is_of_table : Bool → Kind → Bool
+is_of_table in_table kinds.NoRuleLine = true
+is_of_table in_table kinds.NoTable = true
+is_of_table in_table kinds.BadDescriptor = true
+is_of_table in_table kinds.UnsupportedNeighborhood = true
+is_of_table in_table kinds.UnsupportedSymmetry = true
+is_of_table in_table kinds.BadVariable = true
+is_of_table in_table kinds.BadTransition = true
+is_of_table in_table kinds.UnboundOutput = true
+is_of_table in_table kinds.NotQuiet = true
+is_of_table in_table kinds.Ambiguous = true
+is_of_table in_table kinds.LineTooLong = in_table
+is_of_table in_table _ = false
 
--- the line that a fault writes
-abbrev pub fault_line : Fault → List ℕ
-fault_line fault = place_text fault.place.line ++ kind_name fault.kind ++ codes "\n"
+-- the word before a line's number
+abbrev pub line_word : Bool → List ℕ
+line_word of_table = if of_table then codes "table line " else codes "line "
+
+-- the place of a fault line: nothing where the fault names no line
+abbrev pub place_text : Bool → ℕ → List ℕ
+place_text of_table line = if line == 0 then [] else line_word of_table ++ decimal line ++ codes ": "
+
+-- the line that a refusal writes
+abbrev pub fault_line : Refusal → List ℕ
+fault_line refusal =
+    place_text (is_of_table refusal.in_table refusal.fault.kind) refusal.fault.place.line ++ kind_name refusal.fault.kind ++ codes "\n"
+
+-- the refusal with a fault of another file than a table, or of none
+abbrev pub refusal_of : Fault → Refusal
+refusal_of fault = record { fault = fault; in_table = false }
 
 -- the status that a fault ends the program with: 3 for devices, 4 for want of room, else 2
 abbrev pub status_of : Kind → ℕ

@@ -1,28 +1,45 @@
 -- What a job writes, by the bytes of its files, and why it is refused.
-use Rattle.std.specs.Prelude.{◌≡◌, ◌⊎◌, ◌^◌, ℕ, true, List, codes}
+use Rattle.std.specs.Prelude.{◌≡◌, ◌⊎◌, ◌^◌, ℕ, Bool, true, false, List, None, Some, codes}
 use Rattle.std.specs.Io.KnownBytes.{Appends}
 use Rattle.life_base.specs.DeviceRuns.{SourceRun, SinkRun}
 use Rattle.life_base.specs.Inputs.{ReadAll, CameBeyond}
 use Rattle.life_base.specs.Refusal.{fault_of}
+use Rattle.life_base.specs.Text.{lines_of}
 use Rattle.life_base.specs.Writing.{WritesPrefix}
 use Rattle.life_base.specs.declared.fault.Fault.{Fault}
 use Rattle.life_base.specs.declared.cell.TheConstants.{MAX_LEVEL}
 use Rattle.life_base.specs.declared.kind.Kind.TheVariants.{InputTooLong, Memory, ReadFault, WriteFault, TooManyCells}
 use Rattle.life_quad.specs.Store.{Nodes}
-use Rattle.life_canon.specs.Files.{Accepted, Same as AreSame, Refuses}
+use Rattle.life_canon.specs.Files.{Accepted, Reads, Same as AreSame, Refuses}
 use Rattle.life_canon.specs.Running.{RunRefuses}
 use Rattle.life_canon.specs.Store.{IsWant}
 use Rattle.life_canon.specs.Texts.{IsCanonical, IsRleOf, IsShown, HasMoreCells}
+use Rattle.life_canon.specs.Universe.{Universe}
+use Rattle.life_table.specs.Grammar.{IsFile}
+use Rattle.life_table.specs.Reading.{Refuses as RefusesTable}
+use Rattle.life_table.specs.declared.table.Table.{Table}
+use Rattle.life_step.specs.Refusals.{LifeRefusal, TableRefusal}
+use Rattle.life_step.specs.Stepped.{IsLifeStep, IsTableStep, Stepped}
 use Rattle.life_cli.specs.Plans.{HasSecond}
 use Rattle.life_cli.specs.declared.plans.Job.{Job}
-use Rattle.life_cli.specs.declared.plans.Job.TheVariants.{Canon, Convert, Same, Show}
+use Rattle.life_cli.specs.declared.plans.Job.TheVariants.{Canon, Convert, Same, Show, Step, StepTable}
 use Rattle.life_cli.specs.declared.plans.Target.TheVariants.{Rle, Mc}
+use Rattle.life_cli.specs.declared.telling.Refusal.{Refusal}
 
 -- the status and the line of two files that are compared
 abbrev pub Compares : List ℕ → List ℕ → ℕ → List ℕ → Type 0
 Compares first second status text =
     ((status ≡ 0) × AreSame MAX_LEVEL first second × (text ≡ codes "same\n"))
     ⊎ ((status ≡ 1) × (¬ AreSame MAX_LEVEL first second) × (text ≡ codes "different\n"))
+
+-- the bytes are a file whose pattern has a next generation under its B/S rule, and the text is the canonical text of that
+abbrev pub IsStepped : List ℕ → List ℕ → Type 0
+IsStepped bytes text = (u : Universe) × Reads MAX_LEVEL bytes u × LifeRefusal MAX_LEVEL u None × Stepped MAX_LEVEL IsLifeStep text u
+
+-- the same by a table
+abbrev pub IsSteppedBy : Table → List ℕ → List ℕ → Type 0
+IsSteppedBy table bytes text =
+    (u : Universe) × Reads MAX_LEVEL bytes u × TableRefusal MAX_LEVEL table u None × Stepped MAX_LEVEL (IsTableStep table) text u
 
 -- the status and the text of a job on the bytes of its files
 abbrev pub Writes : Job → List ℕ → List ℕ → ℕ → List ℕ → Type 0
@@ -31,6 +48,8 @@ Writes (Convert Rle) first second status text = (status ≡ 0) × IsRleOf MAX_LE
 Writes (Convert Mc) first second status text = (status ≡ 0) × IsCanonical MAX_LEVEL first text
 Writes Same first second status text = Accepted MAX_LEVEL first × Accepted MAX_LEVEL second × Compares first second status text
 Writes Show first second status text = (status ≡ 0) × IsShown MAX_LEVEL first text
+Writes Step first second status text = (status ≡ 0) × IsStepped first text
+Writes StepTable first second status text = (status ≡ 0) × ((table : Table) × IsFile (lines_of second) table × IsSteppedBy table first text)
 
 -- the files were read to their ends, and what was written is the text of the job and nothing else
 pub record Worked (job : Job) (status : ℕ) (first second : SourceRun) (output : SinkRun) : Type 0 where
@@ -106,10 +125,51 @@ RefusesRle bytes fault = Refuses MAX_LEVEL bytes fault ⊎ ((fault ≡ fault_of 
 abbrev pub CanonRefuses : SourceRun → SinkRun → Fault → Type 0
 CanonRefuses first output fault = (store : Nodes) × (store.limit ≡ 2 ^ 31) × RunRefuses MAX_LEVEL (2 ^ 30) store first output fault
 
+-- why bytes aren't stepped under their own rule: they are no file, or one whose pattern has no next generation
+abbrev pub RefusesStep : List ℕ → Fault → Type 0
+RefusesStep bytes fault = Refuses MAX_LEVEL bytes fault ⊎ ((u : Universe) × Reads MAX_LEVEL bytes u × LifeRefusal MAX_LEVEL u (Some fault))
+
+-- the same by a table
+abbrev pub RefusesStepBy : Table → List ℕ → Fault → Type 0
+RefusesStepBy table bytes fault =
+    Refuses MAX_LEVEL bytes fault ⊎ ((u : Universe) × Reads MAX_LEVEL bytes u × TableRefusal MAX_LEVEL table u (Some fault))
+
+-- all of a file was read, and it is this rule table
+pub record HasTable (source : SourceRun) (table : Table) : Type 0 where
+  pub bytes : List ℕ
+  pub read : ReadAll (2 ^ 30) source.before source.after bytes
+  pub is : IsFile (lines_of bytes) table
+
+-- why a file gives no rule table: it isn't read; all of it was read, and it is none; or memory was refused
+pub data HasNoTable (source : SourceRun) (fault : Fault) : Type 0 where
+  table_by_input : InputRefuses source fault → HasNoTable source fault
+  table_by_lines : (bytes : List ℕ) → ReadAll (2 ^ 30) source.before source.after bytes → RefusesTable (lines_of bytes) fault → HasNoTable source fault
+  table_by_memory : fault ≡ fault_of Memory → HasNoTable source fault
+
+-- why a step by a table is refused once the table was read: as a job of one file
+abbrev pub StepRefuses : (first second : SourceRun) → SinkRun → Fault → Type 0
+StepRefuses first second output fault =
+    (table : Table) × HasTable second table × FileRefuses (IsSteppedBy table) (RefusesStepBy table) first output fault
+
+-- no byte of the source was read, and no call of it has failed
+abbrev pub IsUnread : SourceRun → Type 0
+IsUnread source = (source.after ≡ source.before) × (source.failures ≡ 0)
+
+-- a table was being read, and the fault comes for this reason
+abbrev pub OfTable : (Fault → Type 0) → Refusal → Type 0
+OfTable refuses refusal = (refusal.in_table ≡ true) × refuses refusal.fault
+
+-- no table was being read, and the fault comes for this reason
+abbrev pub OfFile : (Fault → Type 0) → Refusal → Type 0
+OfFile refuses refusal = (refusal.in_table ≡ false) × refuses refusal.fault
+
 -- why a job is refused with this fault, and what it left of its files and the output
-abbrev pub JobRefuses : Job → (first second : SourceRun) → SinkRun → Fault → Type 0
-JobRefuses Canon first second output fault = CanonRefuses first output fault
-JobRefuses (Convert Rle) first second output fault = FileRefuses (IsRleOf MAX_LEVEL (2 ^ 20)) RefusesRle first output fault
-JobRefuses (Convert Mc) first second output fault = CanonRefuses first output fault
-JobRefuses Same first second output fault = SameRefuses first second output fault
-JobRefuses Show first second output fault = FileRefuses (IsShown MAX_LEVEL) (Refuses MAX_LEVEL) first output fault
+abbrev pub JobRefuses : Job → (first second : SourceRun) → SinkRun → Refusal → Type 0
+JobRefuses Canon first second output refusal = OfFile (CanonRefuses first output) refusal
+JobRefuses (Convert Rle) first second output refusal = OfFile (FileRefuses (IsRleOf MAX_LEVEL (2 ^ 20)) RefusesRle first output) refusal
+JobRefuses (Convert Mc) first second output refusal = OfFile (CanonRefuses first output) refusal
+JobRefuses Same first second output refusal = OfFile (SameRefuses first second output) refusal
+JobRefuses Show first second output refusal = OfFile (FileRefuses (IsShown MAX_LEVEL) (Refuses MAX_LEVEL) first output) refusal
+JobRefuses Step first second output refusal = OfFile (FileRefuses IsStepped RefusesStep first output) refusal
+JobRefuses StepTable first second output refusal =
+    (OfTable (HasNoTable second) refusal × IsUnread first) ⊎ OfFile (StepRefuses first second output) refusal

@@ -4,7 +4,7 @@ use Rattle.std.specs.Option.{option_map_or}
 use Rattle.std.specs.Str.{bytes_eq}
 use Rattle.clap.specs.Words.{Row, Text, Kinds, HasKind, first_of}
 use Rattle.life_cli.specs.declared.plans.Job.{Job}
-use Rattle.life_cli.specs.declared.plans.Job.TheVariants.{Canon, Convert, Same, Show}
+use Rattle.life_cli.specs.declared.plans.Job.TheVariants.{Canon, Convert, Same, Show, Step, StepTable}
 use Rattle.life_cli.specs.declared.plans.Target.{Target}
 use Rattle.life_cli.specs.declared.plans.Target.TheVariants.{Rle, Mc}
 use Rattle.life_cli.specs.declared.plans.Plan.{Plan}
@@ -22,6 +22,8 @@ command_of Canon = codes "canon"
 command_of (Convert target) = codes "convert"
 command_of Same = codes "same"
 command_of Show = codes "show"
+command_of Step = codes "step"
+command_of StepTable = codes "step"
 
 -- the job has a second file
 abbrev pub HasSecond : Job → Type 0
@@ -29,6 +31,8 @@ HasSecond Canon = ⊥
 HasSecond (Convert target) = ⊥
 HasSecond Same = Unit {0}
 HasSecond Show = ⊥
+HasSecond Step = ⊥
+HasSecond StepTable = Unit {0}
 
 -- the only file is FILE
 abbrev pub HoldsFile : List Row → Plan → Type 0
@@ -45,6 +49,8 @@ HoldsMatches Canon rows p = HoldsFile rows p
 HoldsMatches (Convert target) rows p = HoldsFile rows p × (first_of (codes "to") rows ≡ Some (target_word target))
 HoldsMatches Same rows p = HoldsFiles (codes "A") (codes "B") rows p
 HoldsMatches Show rows p = HoldsFile rows p
+HoldsMatches Step rows p = HoldsFile rows p × (first_of (codes "table") rows ≡ None)
+HoldsMatches StepTable rows p = HoldsFiles (codes "FILE") (codes "table") rows p
 
 -- the plan holds the command, files and options of the matches: a command's name, and what was found for it
 abbrev pub IsPlanOf : Option (Text × List Row) → Plan → Type 0
@@ -61,7 +67,7 @@ is_input value = option_map_or (λ text. bytes_eq text (codes "-")) value false
 
 -- how many of the files are standard input
 abbrev pub input_count : List Row → ℕ
-input_count rows = count_by (λ id. is_input (first_of id rows)) (codes "FILE" ∷ codes "A" ∷ codes "B" ∷ [])
+input_count rows = count_by (λ id. is_input (first_of id rows)) (codes "FILE" ∷ codes "A" ∷ codes "B" ∷ codes "table" ∷ [])
 
 -- the matches name standard input twice
 abbrev pub NamesInputTwice : Option (Text × List Row) → Type 0

@@ -2,9 +2,10 @@
 #![tactic(auto)]
 
 pub mod plans;
+mod stepping;
 mod telling;
 mod working;
 
 pub use plans::planning::plan;
-pub use telling::{status, tell};
+pub use telling::{Refusal, status, tell};
 pub use working::work;

@@ -14,6 +14,10 @@ pub enum Job {
     Same,
     /// Write what the pattern is, in five lines.
     Show,
+    /// Write the next generation, under the pattern's own B/S rule.
+    Step,
+    /// Write the next generation, by the rule table that is the second file.
+    StepTable,
 }
 
 /// The format that a pattern is converted to.

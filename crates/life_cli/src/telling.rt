@@ -3,33 +3,85 @@
 ghost use Rattle.std.specs.Prelude.{◌≡◌, ◌⊎◌, true, IfErr, OnErr};
 ghost use Rattle.life_base.specs.DeviceRuns.{sink_run};
 ghost use Rattle.life_base.specs.Writing.{WritesText};
-ghost use Rattle.life_cli.specs.Faults.{fault_line, status_of, Tells};
+ghost use Rattle.life_cli.specs.Faults.{fault_line, is_of_table as is_of_table_by, line_word, status_of, Tells};
 
 use itoa::Buffer;
 use life_base::{Fault, Kind, Sink, write_texts};
 
-/// Writes the line of a fault, `line N: NAME` or `NAME` where it names no line.
-fn write_fault<E: Sink>(err: &mut E, fault: &Fault) -> Result<(), Kind>
+/// Why a job is refused.
+#[derive(Clone, Copy, Debug, PartialEq, Eq, Drop)]
+pub struct Refusal {
+    pub fault: Fault,
+    /// Whether a rule table was being read.
+    pub in_table: bool,
+}
+
+impl From<Fault> for Refusal {
+    ghost use Rattle.std.specs.Prelude.{◌≡◌};
+    ghost use Rattle.life_cli.specs.Faults.{refusal_of};
+
+    ghost from_gives = { λ fault refusal. refusal ≡ refusal_of fault };
+
+    /// The fault of another file than a table, or of none.
+    fn from(fault: Fault) -> Refusal {
+        Refusal {
+            fault,
+            in_table: false,
+        }
+    }
+}
+
+/// Whether a line of this kind of fault is one of a rule table, where `in_table` tells whether the table was being read.
+fn is_of_table(in_table: bool, kind: Kind) -> bool
+    ensures { result ≡ is_of_table_by in_table kind }
+{
+    match kind {
+        Kind::NoRuleLine
+        | Kind::NoTable
+        | Kind::BadDescriptor
+        | Kind::UnsupportedNeighborhood
+        | Kind::UnsupportedSymmetry
+        | Kind::BadVariable
+        | Kind::BadTransition
+        | Kind::UnboundOutput
+        | Kind::NotQuiet
+        | Kind::Ambiguous => true,
+        Kind::LineTooLong => in_table,
+        _ => false,
+    }
+}
+
+/// The word before a line's number.
+fn word_of(of_table: bool) -> &'static [u8]
+    ensures { result.now ≡ line_word of_table }
+{
+    if of_table { b"table line " } else { b"line " }
+}
+
+/// Writes the line of a fault: `line N: NAME`, `table line N: NAME` where the line is one of a table, or `NAME` where it names no line.
+fn write_refusal<E: Sink>(err: &mut E, refusal: &Refusal) -> Result<(), Kind>
     requires { E.failures err.old ≡ 0 }
-    ensures text { WritesText (E.contents err.old) (E.contents err.new) (fault_line fault.now) result }
+    ensures text { WritesText (E.contents err.old) (E.contents err.new) (fault_line refusal.now) result }
     ensures kind { IfErr result (λ kind. kind ≡ Kind.WriteFault) }
     ensures cause { OnErr result ((E.failures err.new ≡ 1) ⊎ (E.stalled err.new ≡ true)) }
 {
+    let fault = &refusal.fault;
     let name = fault.kind.name().as_bytes();
     if fault.place.line == 0 {
         return write_texts(err, &[name, b"\n"]);
     }
+    let word = word_of(is_of_table(refusal.in_table, fault.kind));
     let mut buffer = Buffer::new();
     let line = buffer.format(fault.place.line).as_bytes();
-    write_texts(err, &[b"line ", line, b": ", name, b"\n"])
+    write_texts(err, &[word, line, b": ", name, b"\n"])
 }
 
 /// Writes the line of a fault, as far as the sink takes it. It takes no memory.
-pub fn tell<E: Sink>(err: &mut E, fault: &Fault)
+pub fn tell<E: Sink>(err: &mut E, refusal: &Refusal)
     requires { E.failures err.old ≡ 0 }
-    ensures { Tells (sink_run E.contents E.failures E.stalled err.old err.new) (fault_line fault.now) }
+    ensures { Tells (sink_run E.contents E.failures E.stalled err.old err.new) (fault_line refusal.now) }
 {
-    let _ = write_fault(err, fault);
+    let _ = write_refusal(err, refusal);
 }
 
 /// The status that a fault ends the program with.

@@ -5,28 +5,29 @@ ghost use Rattle.std.specs.Io.KnownBytes.{Appends};
 ghost use Rattle.life_base.specs.DeviceRuns.{SourceRun, source_run, optional_source_run, sink_run};
 ghost use Rattle.life_base.specs.Inputs.{ReadAll};
 ghost use Rattle.life_base.specs.Refusal.{fault_of};
-ghost use Rattle.life_base.specs.declared.fault.Fault.{Fault};
+ghost use Rattle.life_cli.specs.declared.telling.Refusal.{Refusal};
 ghost use Rattle.life_canon.specs.Files.{Refuses};
 ghost use Rattle.life_canon.specs.Texts.{IsRleOf, IsShown};
 ghost use Rattle.life_cli.specs.Faults.{fault_line, status_of, Tells};
-ghost use Rattle.life_cli.specs.Jobs.{Worked, JobRefuses, InputRefuses, Breaks, HasText, HasNoText, FileRefuses, AreCompared, AreUncompared, CanonRefuses, RefusesRle};
+ghost use Rattle.life_cli.specs.Jobs.{Worked, OfFile, InputRefuses, Breaks, HasText, HasNoText, FileRefuses, AreCompared, AreUncompared, CanonRefuses, JobRefuses, RefusesRle};
 ghost use Rattle.life_cli.specs.Plans.{HasSecond};
 
 use crate::plans::{Job, Target};
-use crate::telling::{status, tell};
+use crate::stepping::{run_step, run_step_table};
+use crate::telling::{Refusal, status, tell};
 use life_base::{Fault, Kind, MAX_LEVEL, Sink, Source, deliver, read_within};
 use life_canon::{run_canon, same, show, to_rle};
 use life_quad::Shared;
 use std::alloc::Global;
 
 /// How many different squares a store of the program holds at most.
-const MOST_SQUARES: u64 = 1 << 31;
+pub(crate) const MOST_SQUARES: u64 = 1 << 31;
 
 /// The most bytes of an input.
 const LONGEST_INPUT: u64 = 1 << 30;
 
 /// Reads an input to its end.
-fn read_whole<R: Source>(alloc: Global, reader: &mut R) -> Result<Vec<u8>, Fault>
+pub(crate) fn read_whole<R: Source>(alloc: Global, reader: &mut R) -> Result<Vec<u8>, Fault>
     requires { R.failures reader.old ≡ 0 }
     ensures ok { IfOk result (λ bytes. ReadAll (2 ^ 30) (R.remaining reader.old) (R.remaining reader.new) bytes.items) }
     ensures err { IfErr result (λ fault. InputRefuses (source_run R.remaining R.failures reader.old reader.new) fault ⊎ (fault ≡ fault_of Kind.Memory)) }
@@ -38,15 +39,18 @@ fn read_whole<R: Source>(alloc: Global, reader: &mut R) -> Result<Vec<u8>, Fault
 }
 
 /// Writes the whole text and flushes.
-fn write_whole<W: Sink>(writer: &mut W, text: &[u8]) -> Result<(), Fault>
+pub(crate) fn write_whole<W: Sink>(writer: &mut W, text: &[u8]) -> Result<(), Refusal>
     requires { W.failures writer.old ≡ 0 }
     ensures ok { OnOk result (Appends (W.contents writer.old) (W.contents writer.new) text.now) }
     ensures flushed { OnOk result (W.flushed writer.new ≡ true) }
-    ensures err { IfErr result (Breaks (sink_run W.contents W.failures W.stalled writer.old writer.new) text.now) }
+    ensures err { IfErr result (OfFile (Breaks (sink_run W.contents W.failures W.stalled writer.old writer.new) text.now)) }
 {
     match deliver(writer, text) {
         Ok(()) => Ok(()),
-        Err(kind) => Err(Fault::of(kind)),
+        Err(kind) => Err(Refusal {
+            fault: Fault::of(kind),
+            in_table: false,
+        }),
     }
 }
 
@@ -91,7 +95,11 @@ fn compared<A: Source, B: Source>(
 }
 
 /// Writes the canonical text of the first file.
-fn run_canonical<A: Source, O: Sink>(alloc: Global, first: &mut A, out: &mut O) -> Result<u8, Fault>
+fn run_canonical<A: Source, O: Sink>(
+    alloc: Global,
+    first: &mut A,
+    out: &mut O,
+) -> Result<u8, Refusal>
     requires reads { A.failures first.old ≡ 0 }
     requires writes { O.failures out.old ≡ 0 }
     requires takes { O.stalled out.old ≡ false }
@@ -101,51 +109,55 @@ fn run_canonical<A: Source, O: Sink>(alloc: Global, first: &mut A, out: &mut O) 
     ensures convert { OnOk result ((second : SourceRun) → Worked (Job.Convert Target.Mc) 0 (source_run A.remaining A.failures first.old first.new) second
         (sink_run O.contents O.failures O.stalled out.old out.new)) }
     ensures flushed { OnOk result (O.flushed out.new ≡ true) }
-    ensures refused { IfErr result (CanonRefuses (source_run A.remaining A.failures first.old first.new) (sink_run O.contents O.failures O.stalled out.old out.new)) }
-    ensures unwritten { IfErr result (λ fault. fault.kind ≢ Kind.WriteFault → out.new ≡ out.old) }
+    ensures refused { IfErr result (OfFile (CanonRefuses (source_run A.remaining A.failures first.old first.new)
+        (sink_run O.contents O.failures O.stalled out.old out.new))) }
+    ensures unwritten { IfErr result (λ refusal. refusal.fault.kind ≢ Kind.WriteFault → out.new ≡ out.old) }
 {
     let mut store = Shared::new(alloc, MOST_SQUARES);
     match run_canon(alloc, &mut store, first, out) {
         Ok(()) => Ok(0),
-        Err(fault) => Err(fault),
+        Err(fault) => Err(Refusal {
+            fault,
+            in_table: false,
+        }),
     }
 }
 
 /// Writes the first file in extended RLE.
-fn run_rle<A: Source, O: Sink>(alloc: Global, first: &mut A, out: &mut O) -> Result<u8, Fault>
+fn run_rle<A: Source, O: Sink>(alloc: Global, first: &mut A, out: &mut O) -> Result<u8, Refusal>
     requires reads { A.failures first.old ≡ 0 }
     requires writes { O.failures out.old ≡ 0 }
     ensures done { IfOk result (λ status. status ≡ 0) }
     ensures worked { OnOk result ((second : SourceRun) → Worked (Job.Convert Target.Rle) 0 (source_run A.remaining A.failures first.old first.new) second
         (sink_run O.contents O.failures O.stalled out.old out.new)) }
     ensures flushed { OnOk result (O.flushed out.new ≡ true) }
-    ensures refused { IfErr result (FileRefuses (IsRleOf MAX_LEVEL (2 ^ 20)) RefusesRle (source_run A.remaining A.failures first.old first.new)
-        (sink_run O.contents O.failures O.stalled out.old out.new)) }
-    ensures unwritten { IfErr result (λ fault. fault.kind ≢ Kind.WriteFault → out.new ≡ out.old) }
+    ensures refused { IfErr result (OfFile (FileRefuses (IsRleOf MAX_LEVEL (2 ^ 20)) RefusesRle (source_run A.remaining A.failures first.old first.new)
+        (sink_run O.contents O.failures O.stalled out.old out.new))) }
+    ensures unwritten { IfErr result (λ refusal. refusal.fault.kind ≢ Kind.WriteFault → out.new ≡ out.old) }
 {
     let text = rle_of(alloc, first)?;
     match write_whole(out, text.as_slice()) {
         Ok(()) => Ok(0),
-        Err(fault) => Err(fault),
+        Err(refusal) => Err(refusal),
     }
 }
 
 /// Writes the five lines of the first file.
-fn run_show<A: Source, O: Sink>(alloc: Global, first: &mut A, out: &mut O) -> Result<u8, Fault>
+fn run_show<A: Source, O: Sink>(alloc: Global, first: &mut A, out: &mut O) -> Result<u8, Refusal>
     requires reads { A.failures first.old ≡ 0 }
     requires writes { O.failures out.old ≡ 0 }
     ensures done { IfOk result (λ status. status ≡ 0) }
     ensures worked { OnOk result ((second : SourceRun) → Worked Job.Show 0 (source_run A.remaining A.failures first.old first.new) second
         (sink_run O.contents O.failures O.stalled out.old out.new)) }
     ensures flushed { OnOk result (O.flushed out.new ≡ true) }
-    ensures refused { IfErr result (FileRefuses (IsShown MAX_LEVEL) (Refuses MAX_LEVEL) (source_run A.remaining A.failures first.old first.new)
-        (sink_run O.contents O.failures O.stalled out.old out.new)) }
-    ensures unwritten { IfErr result (λ fault. fault.kind ≢ Kind.WriteFault → out.new ≡ out.old) }
+    ensures refused { IfErr result (OfFile (FileRefuses (IsShown MAX_LEVEL) (Refuses MAX_LEVEL) (source_run A.remaining A.failures first.old first.new)
+        (sink_run O.contents O.failures O.stalled out.old out.new))) }
+    ensures unwritten { IfErr result (λ refusal. refusal.fault.kind ≢ Kind.WriteFault → out.new ≡ out.old) }
 {
     let text = lines_of(alloc, first)?;
     match write_whole(out, text.as_slice()) {
         Ok(()) => Ok(0),
-        Err(fault) => Err(fault),
+        Err(refusal) => Err(refusal),
     }
 }
 
@@ -162,7 +174,7 @@ fn run_same<A: Source, B: Source, O: Sink>(
     first: &mut A,
     second: &mut B,
     out: &mut O,
-) -> Result<u8, Fault>
+) -> Result<u8, Refusal>
     requires first_reads { A.failures first.old ≡ 0 }
     requires second_reads { B.failures second.old ≡ 0 }
     requires writes { O.failures out.old ≡ 0 }
@@ -172,12 +184,12 @@ fn run_same<A: Source, B: Source, O: Sink>(
     ensures flushed { OnOk result (O.flushed out.new ≡ true) }
     ensures refused { IfErr result (JobRefuses Job.Same (source_run A.remaining A.failures first.old first.new)
         (source_run B.remaining B.failures second.old second.new) (sink_run O.contents O.failures O.stalled out.old out.new)) }
-    ensures unwritten { IfErr result (λ fault. fault.kind ≢ Kind.WriteFault → out.new ≡ out.old) }
+    ensures unwritten { IfErr result (λ refusal. refusal.fault.kind ≢ Kind.WriteFault → out.new ≡ out.old) }
 {
     let is_same = compared(alloc, first, second)?;
     match write_whole(out, line_of(is_same)) {
         Ok(()) => Ok(if is_same { 0 } else { 1 }),
-        Err(fault) => Err(fault),
+        Err(refusal) => Err(refusal),
     }
 }
 
@@ -188,7 +200,7 @@ fn run<A: Source, B: Source, O: Sink>(
     first: &mut A,
     second: &mut Option<B>,
     out: &mut O,
-) -> Result<u8, Fault>
+) -> Result<u8, Refusal>
     requires first_reads { A.failures first.old ≡ 0 }
     requires second_reads { IfSome second.old (λ b. B.failures b ≡ 0) }
     requires second_given { IsSome second.old ↔ HasSecond job.now }
@@ -200,7 +212,7 @@ fn run<A: Source, B: Source, O: Sink>(
     ensures flushed { OnOk result (O.flushed out.new ≡ true) }
     ensures refused { IfErr result (JobRefuses job.now (source_run A.remaining A.failures first.old first.new)
         (optional_source_run B.remaining B.failures second.old second.new) (sink_run O.contents O.failures O.stalled out.old out.new)) }
-    ensures unwritten { IfErr result (λ fault. fault.kind ≢ Kind.WriteFault → out.new ≡ out.old) }
+    ensures unwritten { IfErr result (λ refusal. refusal.fault.kind ≢ Kind.WriteFault → out.new ≡ out.old) }
 {
     match (job, second) {
         (Job::Canon, _) => run_canonical(alloc, first, out),
@@ -209,6 +221,9 @@ fn run<A: Source, B: Source, O: Sink>(
         (Job::Same, Some(second)) => run_same(alloc, first, second, out),
         (Job::Same, None) => unreachable!(),
         (Job::Show, _) => run_show(alloc, first, out),
+        (Job::Step, _) => run_step(alloc, first, out),
+        (Job::StepTable, Some(second)) => run_step_table(alloc, first, second, out),
+        (Job::StepTable, None) => unreachable!(),
     }
 }
 
@@ -232,17 +247,17 @@ pub fn work<A: Source, B: Source, O: Sink, E: Sink>(
         (optional_source_run B.remaining B.failures second.old second.new) (sink_run O.contents O.failures O.stalled out.old out.new) }
     ensures flushed { result < 2 → O.flushed out.new ≡ true }
     ensures quiet { result < 2 → err.new ≡ err.old }
-    ensures refused { 1 < result → (fault : Fault) × (result ≡ status_of fault.kind)
+    ensures refused { 1 < result → (refusal : Refusal) × (result ≡ status_of refusal.fault.kind)
         × JobRefuses job.now (source_run A.remaining A.failures first.old first.new)
-        (optional_source_run B.remaining B.failures second.old second.new) (sink_run O.contents O.failures O.stalled out.old out.new) fault
-        × (fault.kind ≢ Kind.WriteFault → out.new ≡ out.old)
-        × Tells (sink_run E.contents E.failures E.stalled err.old err.new) (fault_line fault) }
+        (optional_source_run B.remaining B.failures second.old second.new) (sink_run O.contents O.failures O.stalled out.old out.new) refusal
+        × (refusal.fault.kind ≢ Kind.WriteFault → out.new ≡ out.old)
+        × Tells (sink_run E.contents E.failures E.stalled err.old err.new) (fault_line refusal) }
 {
     match run(alloc, job, first, second, out) {
         Ok(status) => status,
-        Err(fault) => {
-            tell(err, &fault);
-            status(fault.kind)
+        Err(refusal) => {
+            tell(err, &refusal);
+            status(refusal.fault.kind)
         }
     }
 }

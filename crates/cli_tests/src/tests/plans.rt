@@ -10,7 +10,7 @@ const NAME: &str = "golly_canon";
 
 #[test]
 fn plans_of_one_file(rt: HostRuntime) -> Result<(), Fail> {
-    let rows: [(&[&str], Job); 6] = [
+    let rows: [(&[&str], Job); 7] = [
         (&[NAME, "canon", "-"], Job::Canon),
         (&[NAME, "show", "-"], Job::Show),
         (
@@ -23,6 +23,7 @@ fn plans_of_one_file(rt: HostRuntime) -> Result<(), Fail> {
         ),
         (&[NAME, "convert", "--to=mc", "-"], Job::Convert(Target::Mc)),
         (&[NAME, "show", "--", "-"], Job::Show),
+        (&[NAME, "step", "-"], Job::Step),
     ];
     for (words, job) in rows {
         let Ok(found) = plan(rt.alloc(), words) else {
@@ -50,6 +51,27 @@ fn plans_of_two_files(rt: HostRuntime) -> Result<(), Fail> {
     Ok(())
 }
 
+#[test]
+fn plans_with_a_table(rt: HostRuntime) -> Result<(), Fail> {
+    let rows: [&[&str]; 3] = [
+        &[NAME, "step", "-", "--table", "a.rule"],
+        &[NAME, "step", "--table", "a.rule", "-"],
+        &[NAME, "step", "--table=a.rule", "--", "-"],
+    ];
+    for words in rows {
+        let Ok(found) = plan(rt.alloc(), words) else {
+            return Err("refused")?;
+        };
+        assert!(rt; found.job == Job::StepTable);
+        assert_eq!(rt; found.first.as_str(), "-");
+        let Some(second) = &found.second else {
+            return Err("no table")?;
+        };
+        assert_eq!(rt; second.as_str(), "a.rule");
+    }
+    Ok(())
+}
+
 /// The kind of `clap`'s refusal of the words.
 fn refusal_of<'a>(alloc: Global, words: &'a [&'a str]) -> Option<ErrorKind> {
     match plan(alloc, words) {
@@ -64,7 +86,7 @@ fn refusal_of<'a>(alloc: Global, words: &'a [&'a str]) -> Option<ErrorKind> {
 
 #[test]
 fn usages(rt: HostRuntime) {
-    let rows: [(&[&str], ErrorKind); 13] = [
+    let rows: [(&[&str], ErrorKind); 17] = [
         (&[NAME], ErrorKind::MissingSubcommand),
         (&[NAME, "canon"], ErrorKind::MissingRequiredArgument),
         (&[NAME, "canon", "a", "b"], ErrorKind::UnknownArgument),
@@ -85,6 +107,16 @@ fn usages(rt: HostRuntime) {
             &[NAME, "canon", "a", "--to", "mc"],
             ErrorKind::UnknownArgument,
         ),
+        (&[NAME, "step"], ErrorKind::MissingRequiredArgument),
+        (
+            &[NAME, "step", "--table", "a"],
+            ErrorKind::MissingRequiredArgument,
+        ),
+        (&[NAME, "step", "a", "--table"], ErrorKind::InvalidValue),
+        (
+            &[NAME, "show", "a", "--table", "b"],
+            ErrorKind::UnknownArgument,
+        ),
         (&[NAME, "--help"], ErrorKind::DisplayHelp),
         (&[NAME, "--version"], ErrorKind::DisplayVersion),
     ];
@@ -95,7 +127,11 @@ fn usages(rt: HostRuntime) {
 
 #[test]
 fn standard_input_once(rt: HostRuntime) -> Result<(), Fail> {
-    let rows: [&[&str]; 2] = [&[NAME, "same", "-", "-"], &[NAME, "same", "--", "-", "-"]];
+    let rows: [&[&str]; 3] = [
+        &[NAME, "same", "-", "-"],
+        &[NAME, "same", "--", "-", "-"],
+        &[NAME, "step", "-", "--table", "-"],
+    ];
     for words in rows {
         match plan(rt.alloc(), words) {
             Err(Usage::TwoInputs) => {}

@@ -2,9 +2,9 @@
 
 ghost use Rattle.std.specs.Prelude.{◌≡◌, IfOk, IfErr, map, false};
 ghost use Rattle.clap.specs.Words.{rule_of, HasMatchesOf, HasKind, fault_of};
-ghost use Rattle.life_cli.specs.CommandLine.{required_file, required_option, one_file_line, convert_line, same_line, named, program, ReadsAs};
+ghost use Rattle.life_cli.specs.CommandLine.{required_file, option as option_rule, required_option, one_file_line, convert_line, same_line, step_line, named, program, ReadsAs};
 
-use super::help::{CANON, CONVERT, Help, PROGRAM, SAME, SHOW};
+use super::help::{CANON, CONVERT, Help, PROGRAM, SAME, SHOW, STEP};
 use clap::{Arg, ArgAction, ArgMatches, Command, Error};
 use std::alloc::{AllocError, Global};
 
@@ -16,8 +16,19 @@ fn file<'a>(alloc: Global, id: &'a str) -> Arg<'a>
     Arg::new(alloc, id).required(true).action(ArgAction::Set)
 }
 
-/// An option that has to be given, and whose value the help calls `value`.
+/// An option whose value the help calls `value`.
 fn option<'a>(alloc: Global, id: &'a str, value: &'a str) -> Arg<'a>
+    ensures rule { rule_of result ≡ option_rule id.entry.now }
+    ensures local { result.global ≡ false }
+{
+    Arg::new(alloc, id)
+        .long(id)
+        .action(ArgAction::Set)
+        .value_name(value)
+}
+
+/// The same, where it has to be given.
+fn needed_option<'a>(alloc: Global, id: &'a str, value: &'a str) -> Arg<'a>
     ensures rule { rule_of result ≡ required_option id.entry.now }
     ensures local { result.global ≡ false }
 {
@@ -44,7 +55,7 @@ fn convert<'a>(alloc: Global) -> Result<Command<'a>, AllocError>
     ensures { IfOk result (ReadsAs convert_line) }
 {
     let command = one_file(alloc, "convert", CONVERT)?;
-    let to = option(alloc, "to", "FORMAT").help("The format to write: rle or mc");
+    let to = needed_option(alloc, "to", "FORMAT").help("The format to write: rle or mc");
     command.arg(to)
 }
 
@@ -59,6 +70,16 @@ fn same<'a>(alloc: Global) -> Result<Command<'a>, AllocError>
     let second = file(alloc, "B").help("Another one; only one of the two may be -");
     let command = command.arg(first)?;
     command.arg(second)
+}
+
+fn step<'a>(alloc: Global) -> Result<Command<'a>, AllocError>
+    ensures { IfOk result (ReadsAs step_line) }
+{
+    let command = one_file(alloc, "step", STEP)?;
+    let table = option(alloc, "table", "RULE").help(
+        "A rule table, a .rule file; only one of the two may be -",
+    );
+    command.arg(table)
 }
 
 /// The program without its commands.
@@ -87,6 +108,8 @@ fn golly_canon<'a>(alloc: Global) -> Result<Command<'a>, AllocError>
     let command = command.subcommand(same)?;
     let show = one_file(alloc, "show", SHOW)?;
     let command = command.subcommand(show)?;
+    let step = step(alloc)?;
+    let command = command.subcommand(step)?;
     Ok(command)
 }
 

@@ -9,9 +9,9 @@ pub struct Help {
 }
 
 pub const PROGRAM: Help = Help {
-    summary: "Gives each cellular-automaton pattern one canonical text, and compares and converts pattern files",
-    about: "Gives each pattern of a cellular automaton one canonical text, and compares, shows
-and converts pattern files.
+    summary: "Gives each cellular-automaton pattern one canonical text, and compares, converts and steps pattern files",
+    about: "Gives each pattern of a cellular automaton one canonical text, and compares, shows,
+converts and steps pattern files.
 
 A pattern is a rule, a generation and a state for every cell of the plane. A file
 is extended RLE (.rle) or a macrocell file (.mc), as Golly reads and writes them:
@@ -23,6 +23,7 @@ their formats and spellings.",
   golly_canon same glider.rle glider.mc
   golly_canon show glider.mc
   golly_canon convert glider.mc --to rle
+  golly_canon step glider.rle
   golly_canon COMMAND --help
 
 Exit status:
@@ -34,9 +35,10 @@ Exit status:
   5  the command line isn't understood
 
 With the statuses 2 to 4 one line on standard error says why: `line N: NAME`,
-where N is a line of the file, counted from 1, or `NAME` alone. A file that is
-refused writes nothing to standard output. With status 5 a text on standard error
-says what is wrong, or the line `TwoInputs`: both files are -.
+where N is a line of the file, counted from 1, `table line N: NAME` for a line of a
+rule table, or `NAME` alone. A file that is refused writes nothing to standard
+output. With status 5 a text on standard error says what is wrong, or the line
+`TwoInputs`: both files are -.
 
   NoHeader         line 1 begins a file of neither format, or there is no header
   BadRule          the rule is empty, too long or has a byte that no rule has
@@ -60,8 +62,27 @@ says what is wrong, or the line `TwoInputs`: both files are -.
   BadLeaf          a leaf has another byte than . * $, or more than 8 x 8 cells
   BadLevel         a square's level isn't from 1 to 60
   BadChild         a quarter is no earlier square of the level below
+ of rule tables alone:
+  NoRuleLine              line 1 isn't `@RULE NAME`
+  NoTable                 there is no line @TABLE
+  BadDescriptor           a line n_states, neighborhood or symmetries is missing, out
+                          of its place or wrong
+  UnsupportedNeighborhood the neighbourhood isn't vonNeumann or Moore
+  UnsupportedSymmetry     the neighbourhood has no such symmetries
+  BadVariable             a line `var` isn't of its form
+  BadTransition           a transition isn't of its form
+  UnboundOutput           the new state is a variable that is no input of its line
+  NotQuiet                a cell among cells of state 0 doesn't stay 0
+  Ambiguous               the line that fits a cell of the pattern gives it two states
  without a line:
+  NeedsTable       the rule is a name: `step` needs its rule table
+  RuleMismatch     the rule isn't the rule table's name
+  StateBeyondTable a cell has a state that the rule table lacks
+  GenerationTooLarge
+                   `step` from the generation 2^64 - 1
+  OutOfPlane       in a `step`, a cell outside the plane wouldn't stay 0
   TooManyCells     more than 2^20 cells aren't 0: too many for `convert --to rle`
+                   and for `step`
   InputTooLong     a file has more than 2^30 bytes
   ReadFault        a file can't be opened or read
   WriteFault       the output can't be written
@@ -161,6 +182,30 @@ Exit status:
   3  the file can't be opened or read, or the output can't be written
   4  there isn't enough memory, or room in the store of squares
   5  the command line isn't understood
+
+See `golly_canon --help` for the lines on standard error.",
+};
+
+pub const STEP: Help = Help {
+    summary: "Writes the next generation of a pattern file",
+    about: "Writes the canonical text of the next generation of a pattern file.
+
+A pattern under a B/S rule, such as B3/S23, needs no table. One under a name needs
+the rule table of that name, the section @TABLE of a .rule file: the first line that
+fits a cell and its neighbours gives the cell's next state, and a cell that no line
+fits keeps its state. The table is read before the pattern is. A pattern with more
+than 2^20 cells that aren't 0 is refused (TooManyCells).",
+    notes: "Examples:
+  golly_canon step glider.rle
+  golly_canon step - < glider.mc > next.mc
+  golly_canon step wires.rle --table WireWorld.rule
+
+Exit status:
+  0  the text was written
+  2  the file or the rule table was refused, or the pattern has no next generation
+  3  a file can't be opened or read, or the output can't be written
+  4  there isn't enough memory, or room in the store of squares
+  5  the command line isn't understood, or both files are -
 
 See `golly_canon --help` for the lines on standard error.",
 };

@@ -134,6 +134,29 @@ fn show(alloc: Global, found: &ArgMatches<'_>) -> Result<Plan, Usage>
     })
 }
 
+fn step(alloc: Global, found: &ArgMatches<'_>) -> Result<Plan, Usage>
+    requires { ¬ NamesInputTwice (Some (codes "step", rows_of (found_of found.now))) }
+    ensures ok { IfOk result (IsPlanOf (Some (codes "step", rows_of (found_of found.now)))) }
+    ensures err { IfErr result (Explains [] (Some (codes "step", rows_of (found_of found.now)))) }
+{
+    let first = required(alloc, found, "FILE")?;
+    match value(found, "table") {
+        Some(table) => {
+            let table = copied(alloc, table)?;
+            Ok(Plan {
+                job: Job::StepTable,
+                first,
+                second: Some(table),
+            })
+        }
+        None => Ok(Plan {
+            job: Job::Step,
+            first,
+            second: None,
+        }),
+    }
+}
+
 fn names_input(found: &ArgMatches<'_>, id: &str) -> bool
     ensures { result ≡ is_input (first_of id.now (rows_of (found_of found.now))) }
 {
@@ -157,6 +180,9 @@ fn inputs(found: &ArgMatches<'_>) -> u8
     if names_input(found, "B") {
         count += 1;
     }
+    if names_input(found, "table") {
+        count += 1;
+    }
     count
 }
 
@@ -177,6 +203,9 @@ fn from_command(alloc: Global, matches: &ArgMatches<'_>) -> Result<Plan, Usage>
     }
     if let Some(found) = matches.subcommand_matches("show") {
         return show(alloc, found);
+    }
+    if let Some(found) = matches.subcommand_matches("step") {
+        return step(alloc, found);
     }
     Err(refusal(alloc, ErrorKind::MissingSubcommand, "a command is missing"))
 }

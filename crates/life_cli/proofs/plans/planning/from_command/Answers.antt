@@ -7,4 +7,5 @@ returns-clause-refused c =
     (not_found _ c.in_default.is c.subcommand_matches.ensures.found)
     (not_found _ c.in_default-subcommand_matches.is c.subcommand_matches-2.ensures.found)
     (not_found _ c.in_default-subcommand_matches-2.is c.subcommand_matches-3.ensures.found)
-    (not_found _ c.in_default-subcommand_matches-3.is c.subcommand_matches-4.ensures.found)) c.requires
+    (not_found _ c.in_default-subcommand_matches-3.is c.subcommand_matches-4.ensures.found)
+    (not_found _ c.in_default-subcommand_matches-4.is c.subcommand_matches-5.ensures.found)) c.requires

@@ -1,0 +1,130 @@
+//! The work of the jobs that step a pattern.
+
+ghost use Rattle.std.specs.Prelude.{◌≡◌, ◌≢◌, ◌<◌, IfOk, IfErr, OnOk, true};
+ghost use Rattle.life_base.specs.DeviceRuns.{SourceRun, source_run, sink_run};
+ghost use Rattle.life_cli.specs.Jobs.{Worked, JobRefuses, OfFile, OfTable, FileRefuses, HasText, HasNoText, IsStepped, IsSteppedBy, RefusesStep, RefusesStepBy, HasTable, HasNoTable};
+
+use crate::plans::Job;
+use crate::telling::Refusal;
+use crate::working::{MOST_SQUARES, read_whole, write_whole};
+use life_base::{Fault, Kind, Sink, Source};
+use life_quad::Shared;
+use life_step::{step_life, step_table};
+use life_table::{Table, read_table};
+use std::alloc::Global;
+
+/// The text of the next generation of a source's pattern, under its B/S rule.
+fn next_of<A: Source>(alloc: Global, first: &mut A) -> Result<Vec<u8>, Fault>
+    requires { A.failures first.old ≡ 0 }
+    ensures ok { IfOk result (λ text. HasText IsStepped (source_run A.remaining A.failures first.old first.new) text.items) }
+    ensures err { IfErr result (HasNoText RefusesStep (source_run A.remaining A.failures first.old first.new)) }
+{
+    let bytes = read_whole(alloc, first)?;
+    let mut store = Shared::new(alloc, MOST_SQUARES);
+    step_life(alloc, &mut store, bytes.as_slice())
+}
+
+/// The text of the next generation of a source's pattern, by a table.
+fn next_by<A: Source>(alloc: Global, first: &mut A, table: &Table) -> Result<Vec<u8>, Fault>
+    requires { A.failures first.old ≡ 0 }
+    ensures ok { IfOk result (λ text. HasText (IsSteppedBy table.now) (source_run A.remaining A.failures first.old first.new) text.items) }
+    ensures err { IfErr result (HasNoText (RefusesStepBy table.now) (source_run A.remaining A.failures first.old first.new)) }
+{
+    let bytes = read_whole(alloc, first)?;
+    let mut store = Shared::new(alloc, MOST_SQUARES);
+    step_table(alloc, &mut store, bytes.as_slice(), table)
+}
+
+/// The rule table of a source.
+fn table_in<B: Source>(alloc: Global, source: &mut B) -> Result<Table, Fault>
+    requires { B.failures source.old ≡ 0 }
+    ensures ok { IfOk result (HasTable (source_run B.remaining B.failures source.old source.new)) }
+    ensures err { IfErr result (HasNoTable (source_run B.remaining B.failures source.old source.new)) }
+{
+    let bytes = read_whole(alloc, source)?;
+    read_table(alloc, bytes.as_slice())
+}
+
+/// The same, and a refusal that is the table's.
+fn table_of<B: Source>(alloc: Global, source: &mut B) -> Result<Table, Refusal>
+    requires { B.failures source.old ≡ 0 }
+    ensures ok { IfOk result (HasTable (source_run B.remaining B.failures source.old source.new)) }
+    ensures err { IfErr result (OfTable (HasNoTable (source_run B.remaining B.failures source.old source.new))) }
+{
+    match table_in(alloc, source) {
+        Ok(table) => Ok(table),
+        Err(fault) => Err(Refusal {
+            fault,
+            in_table: true,
+        }),
+    }
+}
+
+/// Writes the next generation of the first file, under its B/S rule.
+pub(crate) fn run_step<A: Source, O: Sink>(
+    alloc: Global,
+    first: &mut A,
+    out: &mut O,
+) -> Result<u8, Refusal>
+    requires reads { A.failures first.old ≡ 0 }
+    requires writes { O.failures out.old ≡ 0 }
+    ensures done { IfOk result (λ status. status ≡ 0) }
+    ensures worked { OnOk result ((second : SourceRun) → Worked Job.Step 0 (source_run A.remaining A.failures first.old first.new) second
+        (sink_run O.contents O.failures O.stalled out.old out.new)) }
+    ensures flushed { OnOk result (O.flushed out.new ≡ true) }
+    ensures refused { IfErr result (OfFile (FileRefuses IsStepped RefusesStep (source_run A.remaining A.failures first.old first.new)
+        (sink_run O.contents O.failures O.stalled out.old out.new))) }
+    ensures unwritten { IfErr result (λ refusal. refusal.fault.kind ≢ Kind.WriteFault → out.new ≡ out.old) }
+{
+    let text = next_of(alloc, first)?;
+    match write_whole(out, text.as_slice()) {
+        Ok(()) => Ok(0),
+        Err(refusal) => Err(refusal),
+    }
+}
+
+/// Writes the next generation of the first file, by a table.
+fn run_by<A: Source, O: Sink>(
+    alloc: Global,
+    first: &mut A,
+    table: &Table,
+    out: &mut O,
+) -> Result<u8, Refusal>
+    requires reads { A.failures first.old ≡ 0 }
+    requires writes { O.failures out.old ≡ 0 }
+    ensures done { IfOk result (λ status. status ≡ 0) }
+    ensures worked { OnOk result ((second : SourceRun) → HasTable second table.now → Worked Job.StepTable 0
+        (source_run A.remaining A.failures first.old first.new) second (sink_run O.contents O.failures O.stalled out.old out.new)) }
+    ensures flushed { OnOk result (O.flushed out.new ≡ true) }
+    ensures refused { IfErr result (OfFile (FileRefuses (IsSteppedBy table.now) (RefusesStepBy table.now)
+        (source_run A.remaining A.failures first.old first.new) (sink_run O.contents O.failures O.stalled out.old out.new))) }
+    ensures unwritten { IfErr result (λ refusal. refusal.fault.kind ≢ Kind.WriteFault → out.new ≡ out.old) }
+{
+    let text = next_by(alloc, first, table)?;
+    match write_whole(out, text.as_slice()) {
+        Ok(()) => Ok(0),
+        Err(refusal) => Err(refusal),
+    }
+}
+
+/// Reads the table of the second file, then writes the next generation of the first one by it.
+pub(crate) fn run_step_table<A: Source, B: Source, O: Sink>(
+    alloc: Global,
+    first: &mut A,
+    second: &mut B,
+    out: &mut O,
+) -> Result<u8, Refusal>
+    requires first_reads { A.failures first.old ≡ 0 }
+    requires second_reads { B.failures second.old ≡ 0 }
+    requires writes { O.failures out.old ≡ 0 }
+    ensures done { IfOk result (λ status. status < 2) }
+    ensures worked { IfOk result (λ status. Worked Job.StepTable status (source_run A.remaining A.failures first.old first.new)
+        (source_run B.remaining B.failures second.old second.new) (sink_run O.contents O.failures O.stalled out.old out.new)) }
+    ensures flushed { OnOk result (O.flushed out.new ≡ true) }
+    ensures refused { IfErr result (JobRefuses Job.StepTable (source_run A.remaining A.failures first.old first.new)
+        (source_run B.remaining B.failures second.old second.new) (sink_run O.contents O.failures O.stalled out.old out.new)) }
+    ensures unwritten { IfErr result (λ refusal. refusal.fault.kind ≢ Kind.WriteFault → out.new ≡ out.old) }
+{
+    let table = table_of(alloc, second)?;
+    run_by(alloc, first, &table, out)
+}
