@@ -92,7 +92,7 @@ impl Sink for Limited {
 }
 
 /// A sink with room for `room` bytes that takes `piece` bytes at a time.
-pub fn sink_with(alloc: Global, room: usize, piece: usize) -> Limited
+pub(super) fn sink_with(alloc: Global, room: usize, piece: usize) -> Limited
     ensures failed { result.failed ≡ false }
     ensures stalled { result.stalled ≡ false }
 {
