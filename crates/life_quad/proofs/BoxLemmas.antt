@@ -1,6 +1,6 @@
 -- Facts about least boxes.
 use Rattle.std.proofs.Common.{◌≡◌, ◌≢◌, ◌==◌, ℕ, ◌+◌, ◌^◌, ◌≤◌, min, max, Bool, true, false, ◌⊎◌, inl, inr, Option, Some, None, refl, sym, ◌∙◌, ap, subst, arith, true≢false}
-use Rattle.std.specs.Prelude.{IfSome, nat_le, nat_eq, cond}
+use Rattle.std.specs.Prelude.{IfSome, nat_le}
 use Rattle.std.proofs.Math.Pow.{pow_mono}
 use Rattle.life_base.specs.declared.cell.TheConstants.{MAX_LEVEL}
 use Rattle.life_base.specs.Tree.{Tree, point, quad, depth, is_blank_tree, IsFull}
@@ -175,19 +175,6 @@ extent_within t whole (Some e) d l h =
       top = omega (arith, h.at_top.1.row, small);
       bottom = omega (arith, h.at_bottom.1.row, small);
     }
-
--- a map with one more entry keeps what holds of each entry
-pub entry_keeps : {X : Type 0} (P : ℕ → X → Type 0) (old new : ℕ → Option X) (k : ℕ) (v : X) → ((q : ℕ) → new q ≡ cond (nat_eq k q) (Some v) (old q))
-    → ((q : ℕ) (e : X) → old q ≡ Some e → P q e) → P k v → (q : ℕ) (e : X) → new q ≡ Some e → P q e
-entry_keeps {X} P old new k v updates all here q e found = by (nat_eq k q) refl
-  where
-    by : (b : Bool) → nat_eq k q ≡ b → P q e
-    by true same =
-        let i : k ≡ q = grind (arith, same) in
-        let w : Some v ≡ Some e = sym (updates q ∙ ap (λ b. cond b (Some v) (old q)) same) ∙ found in
-        let x : v ≡ e = cc in
-        subst (λ z. P z e) i (subst (P k) x here)
-    by false other = all q e (sym (updates q ∙ ap (λ b. cond b (Some v) (old q)) other) ∙ found)
 
 -- the least box of a cell with a state
 pub flat_extent : (t : Tree) → depth t ≡ 0 → is_blank_tree t ≡ false → IsExtent (IsNonzeroAt t) (record { left = 0; top = 0; right = 0; bottom = 0 })

@@ -1,14 +1,13 @@
 -- What the calls of a shared store answer.
-use Rattle.std.proofs.Common.{◌≡◌, ◌≢◌, length-append, Contains, ◌⊎◌, inl, inr, true≢false, ◌&&◌, ℕ, zero, suc, ◌+◌, ◌-◌, ◌≤◌, ◌<◌, Bool, true, false, List, [], ◌∷◌, ◌++◌, length, Some, slice_get, get_or, Result, Ok, Err, OnOk, OnErr, refl, sym, ◌∙◌, ap, subst, arith, map, ◌↔◌, nat_lt}
-use Rattle.std.proofs.lemmas.List.Elements.{All-cons, All-nil, Contains-append_left}
-use Rattle.std.proofs.lemmas.List.{get_or_append_left}
+use Rattle.std.proofs.Common.{◌≡◌, ◌≢◌, length-append, Contains, ◌⊎◌, inl, inr, true≢false, ◌&&◌, ℕ, zero, suc, ◌+◌, ◌-◌, ◌≤◌, ◌<◌, Bool, true, false, List, [], ◌∷◌, ◌++◌, length, None, Some, slice_get, get_or, Result, Ok, Err, OnOk, OnErr, refl, sym, ◌∙◌, ap, subst, arith, map, ◌↔◌, nat_lt}
+use Rattle.std.proofs.lemmas.List.Elements.{All-cons, All-nil, Contains-append_left, Contains-append_right, Contains-push, Contains-push_cases, Contains-get_or}
+use Rattle.std.proofs.lemmas.List.{length-map, get_or-map, map_push}
 use Rattle.std.specs.List.{list_any, position, All, AllPairs}
 use Rattle.std.proofs.lemmas.List.Quantifiers.{position-Some}
-use Rattle.std.specs.Prelude.{if◌then◌else◌}
+use Rattle.std.specs.Prelude.{◌==◌, if◌then◌else◌, IfOk, IsErr, IsErrAnd, slice_index_or}
 use Rattle.indexmap.specs.IndexSet.{insert_key}
 use Rattle.std.proofs.lemmas.Option.{slice_get-get_or, slice_get_within, get_or_from_slice_get}
 use Rattle.std.proofs.lemmas.List.Folds.{list_any_at}
-use Rattle.indexmap.proofs.CallerLemmas.{Contains-list_any}
 use Rattle.life_base.specs.declared.kind.Kind.{Kind}
 use Rattle.life_base.specs.declared.kind.Kind.TheVariants.{Full, Memory}
 use Rattle.life_base.specs.declared.cell.TheConstants.{MAX_LEVEL}
@@ -17,16 +16,14 @@ use Rattle.life_quad.specs.declared.id.Node.{Node}
 use Rattle.life_quad.specs.contracts.id.NodePartialEq.TheImpl.{eq-value}
 use Rattle.life_base.specs.Tree.{Tree, point, quad, depth, quarters, blank, is_blank_tree, IsFull}
 use Rattle.life_base.proofs.Squares.{depth-blank, is_blank-blank, blank_is, quad_nw, quad_ne, quad_sw, quad_se, point_state, point≢quad}
-use Rattle.life_quad.specs.Store.{Nodes, id_of, square_of, node_square, squares, held, is_blank_id, IsNamed, IsNode, IsSound, IsShared, Knows, IsIdOf, HasRoom, Interned, was_there, is_new}
-use Rattle.life_quad.specs.StoreLaws.{Names, the_state, the_blank, the_node, names, same_id, same_ids, length-squares, IsSound-push, IsShared-push, squares-push, square_of-append, square_of-node, is_blank-content, full_content, slice_get-last, node_square-append}
-
-append_nil : (xs : List Tree) → xs ++ [] ≡ xs
-append_nil [] = refl
-append_nil (x ∷ xs) = ap (λ l. x ∷ l) (append_nil xs)
+use Rattle.life_quad.specs.Store.{Nodes, two, four, small_square, number_of, id_of, square_of, node_square, squares, content, held, is_blank_id, IsEarlier, IsNode, IsSmall, IsSound, IsShared, Knows, IsIdOf, as_small, as_node, HasRoom, KeepsContents, Joined, was_there, is_new, Answers, HasSeen}
+use Rattle.life_quad.specs.SmallLaws.{small_range, quarters_range}
+use Rattle.life_quad.specs.StoreLaws.{Names, the_state, the_blank, the_node, names, same_id, same_ids, length-squares, squares-push, small_node, square_of-append, square_of-node, square_of-small, square_of-id, is_blank-content, full_content, slice_get-last, slice_get-push_cases, node_square-append}
+use Rattle.life_quad.proofs.GrowLemmas.{with_id, with_node, with_both, IsSound-id, IsSound-both, IsShared-id, IsShared-both}
 
 -- the Id of a state
 pub knows_state : (s : Nodes) (v : ℕ) → IsSound s → v < 256 → Knows s (id_of v)
-knows_state s v h l = record { sound = h; named = record { below = omega arith; blank = λ _. omega arith } }
+knows_state s v h l = record { sound = h; named = record { below = omega arith; blank = λ _. omega arith }; joined = λ m u. absurd (omega arith) }
 
 pub square_of-state : (S : List Tree) (v : ℕ) → v < 256 → square_of S (id_of v) ≡ point v
 unfolding square_of
@@ -34,7 +31,7 @@ square_of-state S v l = grind arith
 
 -- the Id of a blank square
 pub knows_blank : (s : Nodes) (l : ℕ) → IsSound s → l ≤ MAX_LEVEL → Knows s (id_of (255 + l))
-knows_blank s l h low = record { sound = h; named = record { below = omega arith; blank = λ _. omega arith } }
+knows_blank s l h low = record { sound = h; named = record { below = omega arith; blank = λ _. omega arith }; joined = λ m u. absurd (omega arith) }
 
 pub square_of-blank : (S : List Tree) (l : ℕ) → 0 < l → l ≤ MAX_LEVEL → square_of S (id_of (255 + l)) ≡ blank l
 unfolding square_of
@@ -50,7 +47,7 @@ blank_id s id zero h e = by (names s id h)
     by : Names s id → ((zero ≡ 0) × (id.0 ≡ 0)) ⊎ ((0 < zero) × (id.0 ≡ 255 + zero))
     by (the_state m f) = inl (refl, point_state (sym f ∙ e))
     by (the_blank k m i f) = absurd (point≢quad (sym e ∙ f))
-    by (the_node i n j at node f) = absurd (point≢quad (sym e ∙ f))
+    by (the_node i n l' le at node f) = absurd (point≢quad (sym e ∙ f))
 blank_id s id (suc l) h e = by (names s id h)
   where
     by : Names s id → ((suc l ≡ 0) × (id.0 ≡ 0)) ⊎ ((0 < suc l) × (id.0 ≡ 255 + suc l))
@@ -58,7 +55,7 @@ blank_id s id (suc l) h e = by (names s id h)
     by (the_blank k m i f) =
         let d : suc k ≡ suc l = sym (depth-blank (suc k)) ∙ ap depth (sym f ∙ e) ∙ depth-blank (suc l) in
         inr (omega arith, omega arith)
-    by (the_node i n j at node f) =
+    by (the_node i n l' le at node f) =
         absurd (true≢false (sym (is_blank-blank (suc l)) ∙ ap is_blank_tree (sym e ∙ f) ∙ node.not_blank))
 
 pub alone_zero : (s : Nodes) (l : ℕ) → l ≡ 0 → (id : Id) → Knows s id → square_of (squares s.nodes) id ≡ blank l → id ≡ id_of 0
@@ -86,17 +83,27 @@ blank_content s id h l u = by (names s id h)
     by : Names s id → square_of (squares s.nodes) id ≡ blank (suc (id.0 - 256))
     by (the_state m f) = absurd (omega arith)
     by (the_blank k m i f) = let e : k ≡ id.0 - 256 = omega arith in f ∙ ap (λ z. blank (suc z)) e
-    by (the_node i n j at node f) = absurd (omega arith)
+    by (the_node i n l' le at node f) = absurd (omega arith)
 
-pub node_content : (s : Nodes) (id : Id) (n : Node) → IsSound s → 512 ≤ id.0 → slice_get s.nodes (id.0 - 512) ≡ Some n
+pub node_content : (s : Nodes) (id : Id) (n : Node) → IsSound s → 66064 ≤ id.0 → slice_get s.nodes (id.0 - 66064) ≡ Some n
     → square_of (squares s.nodes) id ≡ node_square (squares s.nodes) n
-node_content s id n h l at = square_of-node s (id.0 - 512) n id h at (omega arith)
+node_content s id n h l at = square_of-node s (id.0 - 66064) n id h at (omega arith)
 
--- a quarter of a node is known
-pub knows_quarter : (s : Nodes) (i : ℕ) (n : Node) (id : Id) → IsSound s → slice_get s.nodes i ≡ Some n → IsNamed i id → Knows s id
-knows_quarter s i n id h at e =
-    let lt = slice_get_within s.nodes i n at in
-    record { sound = h; named = record { below = omega (arith, e.below, lt); blank = e.blank } }
+-- a quarter of a node or of a small square is known
+pub knows_quarter : (s : Nodes) (i : ℕ) (id : Id) → IsSound s → i ≤ length s.nodes → IsEarlier s.log i id → Knows s id
+knows_quarter s i id h le e = record { sound = h; named = record { below = omega (arith, e.named.below); blank = e.named.blank }; joined = e.joined }
+
+-- a known small square by its quarters
+pub small_content : (s : Nodes) (id : Id) → Knows s id → 512 ≤ id.0 → id.0 < 66064 → IsSmall s.log (squares s.nodes) id.0
+small_content s id h l u = h.sound.small id.0 (h.joined l u) u
+
+pub small_level : (s : Nodes) (id : Id) → Knows s id → 512 ≤ id.0 → id.0 < 66064 → depth (square_of (squares s.nodes) id) ≡ (if nat_lt id.0 528 then 1 else 2)
+unfolding small_square
+small_level s id h l u = ap depth (square_of-small (squares s.nodes) id l u) ∙ by (nat_lt id.0 528) refl
+  where
+    by : (b : Bool) → nat_lt id.0 528 ≡ b → depth (if nat_lt id.0 528 then two (id.0 - 512) else four (id.0 - 528)) ≡ (if nat_lt id.0 528 then 1 else 2)
+    by true e = rw e refl
+    by false e = rw e refl
 
 -- two nodes are equal as values where their test says so
 pub same_node : (a b : Node) → eq-value.it a b ≡ true → a ≡ b
@@ -111,60 +118,447 @@ same_node a b h =
 pub same_node_test : (a : Node) → eq-value.it a a ≡ true
 same_node_test a = grind arith
 
--- a stored node has its square in the list
-pub Contains-node : (s : Nodes) (n : Node) → IsSound s → Contains s.nodes n → Contains (squares s.nodes) (node_square (squares s.nodes) n)
-Contains-node s n h (k, lt, e) =
-    let at : slice_get s.nodes k ≡ Some n = slice_get-get_or s.nodes k n lt ∙ ap Some e in
-    let sq = h.square k n at in
-    (k, slice_get_within (squares s.nodes) k _ sq, get_or_from_slice_get (squares s.nodes) k _ _ sq)
+-- the test of a list for a node
+pub list_any-Contains : (ns : List Node) (n : Node) → Contains ns n → list_any (eq-value.it n) ns ≡ true
+list_any-Contains ns n (k, lt, e) = list_any_at (eq-value.it n) ns k n lt (ap (eq-value.it n) e ∙ same_node_test n)
 
--- a node that is not stored has no square in the list
-pub absent_square : (s : Nodes) (n : Node) → IsSound s → IsShared s → IsNode (squares s.nodes) (length s.nodes) n → ¬ Contains s.nodes n
-    → ¬ Contains (squares s.nodes) (node_square (squares s.nodes) n)
-absent_square s n h shared new absent (k, lt, e) =
-    let S = squares s.nodes in
-    let below : k < length s.nodes = omega (arith, lt, length-squares s.nodes) in
-    let m : Node = get_or s.nodes k n in
-    let at : slice_get s.nodes k ≡ Some m = slice_get-get_or s.nodes k n below in
-    let node = h.entries k m at in
-    let same : node_square S m ≡ node_square S n = sym (get_or_from_slice_get S k _ (node_square S n) (h.square k m at)) ∙ e in
-    let own : (id : Id) → IsNamed (length s.nodes) id → Knows s id = λ id e. record { sound = h; named = e } in
-    let quarter : (id : Id) → IsNamed k id → Knows s id = λ id e. knows_quarter s k m id h at e in
-    let nw = same_id s shared (id_of m.nw) (id_of n.nw) (quarter (id_of m.nw) node.nw) (own (id_of n.nw) new.nw) (quad_nw same) in
-    let ne = same_id s shared (id_of m.ne) (id_of n.ne) (quarter (id_of m.ne) node.ne) (own (id_of n.ne) new.ne) (quad_ne same) in
-    let sw = same_id s shared (id_of m.sw) (id_of n.sw) (quarter (id_of m.sw) node.sw) (own (id_of n.sw) new.sw) (quad_sw same) in
-    let se = same_id s shared (id_of m.se) (id_of n.se) (quarter (id_of m.se) node.se) (own (id_of n.se) new.se) (quad_se same) in
-    let level = sym node.level ∙ ap depth same ∙ new.level in
-    let equal : m ≡ n = λ x. record { level = level x; nw = (nw x).0; ne = (ne x).0; sw = (sw x).0; se = (se x).0 } in
-    absent (k, below, equal)
+-- ---- the squares that a store holds
 
--- after a node was interned
-pub held-added : (old new : Nodes) (n : Node) → IsSound old → Interned old new n → ¬ Contains (squares old.nodes) (node_square (squares old.nodes) n)
-    → held new ≡ held old ++ node_square (squares old.nodes) n ∷ []
-held-added old new n h (was_there c e) absent = absurd (absent (Contains-node old n h c))
-held-added old new n h (is_new a l e) absent = ap squares e ∙ squares-push old.nodes n
+module _ {X Y : Type 0} (f g : X → Y) where
+  -- two functions that agree on the elements
+  map_same : (xs : List X) → ((x : X) → Contains xs x → f x ≡ g x) → map f xs ≡ map g xs
+  map_same [] h = refl
+  map_same (x ∷ xs) h =
+      let here : f x ≡ g x = h x (0, omega arith, refl) in
+      let rest = map_same xs (λ y i. h y (Contains-append_right (x ∷ []) xs y i)) in
+      λ i. here i ∷ rest i
 
-pub held-there : (old new : Nodes) (n : Node) → IsSound old → IsShared old → IsNode (squares old.nodes) (length old.nodes) n → Interned old new n
-    → ¬ ¬ Contains (squares old.nodes) (node_square (squares old.nodes) n) → held new ≡ held old
-held-there old new n h u node (was_there c e) there = ap squares e
-held-there old new n h u node (is_new a l e) there = absurd (there (absent_square old n h u node a))
+pub length-held : (s : Nodes) → length (held s) ≡ length s.log
+length-held s = length-map s.log (λ k. content s (id_of k))
 
--- the stored squares stay, and more may follow
-pub held-more : (old new : Nodes) (n : Node) → Interned old new n → (more : List Tree) × (squares new.nodes ≡ squares old.nodes ++ more) × (length old.nodes ≤ length new.nodes)
-held-more old new n (was_there c e) =
-    ([], ap squares e ∙ sym (append_nil (squares old.nodes)), let f = ap length e in omega arith)
-held-more old new n (is_new a l e) =
-    (node_square (squares old.nodes) n ∷ [], ap squares e ∙ squares-push old.nodes n, let f = ap length e ∙ length-append old.nodes (n ∷ []) in omega arith)
+pub held-none : (s : Nodes) → s.log ≡ [] → held s ≡ []
+held-none s e = ap (map (λ k. content s (id_of k))) e
 
--- so every known Id keeps its square
-pub Knows-interned : (old new : Nodes) (n : Node) → Interned old new n → IsSound new → (id : Id) → Knows old id
-    → Knows new id × (square_of (squares new.nodes) id ≡ square_of (squares old.nodes) id)
-Knows-interned old new n i h id k =
-    let m = held-more old new n i in
-    let le = m.2 in (
-      record { sound = h; named = record { below = omega (arith, k.named.below, le); blank = k.named.blank } },
-      ap (λ S. square_of S id) m.1 ∙ square_of-append (squares old.nodes) m.0 id (omega (arith, k.named.below, length-squares old.nodes)),
-    )
+-- the square of an Id that was joined
+pub held_at : (s : Nodes) (k : ℕ) → Contains s.log k → Contains (held s) (content s (id_of k))
+held_at s k (i, lt, e) =
+    let f : ℕ → Tree = λ j. content s (id_of j) in
+    (i, omega (arith, lt, length-held s), get_or-map f s.log i k (f k) lt ∙ ap f e)
+
+-- the Id of a square that is held
+held_from : (s : Nodes) (t : Tree) → Contains (held s) t → (k : ℕ) × Contains s.log k × (content s (id_of k) ≡ t)
+held_from s t (i, lt, e) =
+    let f : ℕ → Tree = λ j. content s (id_of j) in
+    let below : i < length s.log = omega (arith, lt, length-held s) in
+    (get_or s.log i 0, Contains-get_or s.log i 0 below, sym (get_or-map f s.log i 0 t below) ∙ e)
+
+-- an Id that was joined is known
+knows_logged : (s : Nodes) (k : ℕ) → IsSound s → IsShared s → Contains s.log k → Knows s (id_of k) × (512 ≤ k)
+knows_logged s k h u there = by (nat_lt k 66064) refl
+  where
+    by : (b : Bool) → nat_lt k 66064 ≡ b → Knows s (id_of k) × (512 ≤ k)
+    by true e =
+        let low : k < 66064 = grind arith in
+        let small = h.small k there low in
+        let q = small.quarters in
+        let r = small_range q.nw q.ne q.sw q.se k small.number in
+        (record { sound = h; named = record { below = omega arith; blank = λ l. absurd (omega (arith, r.0, l)) }; joined = λ _ _. there }, r.0)
+    by false e =
+        let high : 66064 ≤ k = grind arith in
+        (record { sound = h; named = record { below = u.known k there; blank = λ l. absurd (omega arith) }; joined = λ _ _. there }, omega arith)
+
+-- the Id of a node or of a small square is known
+pub knows_id : (s : Nodes) (n : Node) (id : Id) → IsSound s → IsIdOf s n id → Knows s id
+knows_id s n id h (as_small e there) =
+    let r = small_range n.nw n.ne n.sw n.se id.0 e in
+    record { sound = h; named = record { below = omega (arith, r.1); blank = λ l. absurd (omega (arith, l, r.0)) }; joined = λ _ _. there }
+knows_id s n id h (as_node i e at) =
+    let lt = slice_get_within s.nodes i n at in
+    record { sound = h; named = record { below = omega (arith, lt); blank = λ l. absurd (omega arith) }; joined = λ l u. absurd (omega arith) }
+
+-- and was joined
+id_logged : (s : Nodes) (n : Node) (id : Id) → IsShared s → IsIdOf s n id → Contains s.log id.0
+id_logged s n id h (as_small e there) = there
+id_logged s n id h (as_node i e at) = subst (Contains s.log) (sym e) (h.logged i (slice_get_within s.nodes i n at))
+
+-- so its square is held
+pub id_held : (s : Nodes) (n : Node) (id : Id) → IsSound s → IsShared s → IsIdOf s n id → Contains (held s) (node_square (squares s.nodes) n)
+id_held s n id h u e = subst (Contains (held s)) (square_of-id s n id h e) (held_at s id.0 (id_logged s n id u e))
+
+-- a held square of four quarters has their Id
+pub held_id : (s : Nodes) (i : ℕ) (n : Node) → IsSound s → IsShared s → i ≤ length s.nodes → IsNode s.log (squares s.nodes) i n → Contains (held s) (node_square (squares s.nodes) n)
+    → (id : Id) × IsIdOf s n id
+held_id s i n h u le new there = by (held_from s (node_square S n) there)
+  where
+    S : List Tree
+    S = squares s.nodes
+
+    child : (j : ℕ) (id : Id) → j ≤ length s.nodes → IsEarlier s.log j id → Knows s id
+    child j id l e = knows_quarter s j id h l e
+
+    at : (k : ℕ) → content s (id_of k) ≡ node_square S n → Names s (id_of k) → (id : Id) × IsIdOf s n id
+    at k e (the_state l f) = absurd (point≢quad (sym f ∙ e))
+    at k e (the_blank j l i f) = absurd (true≢false (sym (is_blank-blank (suc j)) ∙ ap is_blank_tree (sym f ∙ e) ∙ new.not_blank))
+    at k e (the_node j m l lj is node f) =
+        let same : node_square S m ≡ node_square S n = sym f ∙ e in
+        let nw = same_id s u (id_of m.nw) (id_of n.nw) (child j (id_of m.nw) lj node.nw) (child i (id_of n.nw) le new.nw) (quad_nw same) in
+        let ne = same_id s u (id_of m.ne) (id_of n.ne) (child j (id_of m.ne) lj node.ne) (child i (id_of n.ne) le new.ne) (quad_ne same) in
+        let sw = same_id s u (id_of m.sw) (id_of n.sw) (child j (id_of m.sw) lj node.sw) (child i (id_of n.sw) le new.sw) (quad_sw same) in
+        let se = same_id s u (id_of m.se) (id_of n.se) (child j (id_of m.se) lj node.se) (child i (id_of n.se) le new.se) (quad_se same) in
+        let level = sym node.level ∙ ap depth same ∙ new.level in
+        let equal : m ≡ n = λ x. record { level = level x; nw = (nw x).0; ne = (ne x).0; sw = (sw x).0; se = (se x).0 } in
+        (id_of k, subst (λ z. IsIdOf s z (id_of k)) equal is)
+
+    by : (k : ℕ) × Contains s.log k × (content s (id_of k) ≡ node_square S n) → (id : Id) × IsIdOf s n id
+    by (k, logged, e) = at k e (names s (id_of k) (knows_logged s k h u logged).0)
+
+-- the squares of two Ids differ
+pub held-distinct : (s : Nodes) → IsSound s → IsShared s → AllPairs ◌≢◌ (held s)
+held-distinct s h u i j d before below e =
+    let f : ℕ → Tree = λ k. content s (id_of k) in
+    let lt : j < length s.log = omega (arith, below, length-held s) in
+    let first : i < length s.log = omega arith in
+    let a = get_or s.log i 0 in
+    let b = get_or s.log j 0 in
+    let ka = knows_logged s a h u (Contains-get_or s.log i 0 first) in
+    let kb = knows_logged s b h u (Contains-get_or s.log j 0 lt) in
+    let same = same_id s u (id_of a) (id_of b) ka.0 kb.0 (sym (get_or-map f s.log i 0 d first) ∙ e ∙ get_or-map f s.log j 0 d lt) in
+    u.distinct i j 0 before lt (ap (λ k. k.0) same)
+
+-- each known square of level 1 or more that is not blank is held
+pub held-complete : (s : Nodes) → IsShared s → (id : Id) → Knows s id → is_blank_tree (content s id) ≡ false → 0 < depth (content s id) → Contains (held s) (content s id)
+held-complete s u id h full deep = by (names s id h)
+  where
+    by : Names s id → Contains (held s) (content s id)
+    by (the_state m f) = absurd (let e = ap depth f in omega (arith, e, deep))
+    by (the_blank k m i f) = absurd (true≢false (sym (is_blank-blank (suc k)) ∙ ap is_blank_tree (sym f) ∙ full))
+    by (the_node i n l le at node f) = held_at s id.0 (id_logged s n id u at)
+
+-- a held square isn't blank, has level 1 or more and an Id
+pub held-only : (s : Nodes) → IsSound s → IsShared s → (t : Tree) → Contains (held s) t
+    → (is_blank_tree t ≡ false) × (0 < depth t) × ((id : Id) × Knows s id × (content s id ≡ t))
+held-only s h u t there = by (held_from s t there)
+  where
+    at : (k : ℕ) → 512 ≤ k → Knows s (id_of k) → content s (id_of k) ≡ t → Names s (id_of k) → (is_blank_tree t ≡ false) × (0 < depth t) × ((id : Id) × Knows s id × (content s id ≡ t))
+    at k high known e (the_state l f) = absurd (omega arith)
+    at k high known e (the_blank j l i f) = absurd (omega arith)
+    at k high known e (the_node i n l le is node f) =
+        let same : node_square (squares s.nodes) n ≡ t = sym f ∙ e in
+        let deep : 0 < depth (node_square (squares s.nodes) n) = omega arith in
+        (ap is_blank_tree (sym same) ∙ node.not_blank, subst (λ z. 0 < depth z) same deep, (id_of k, known, e))
+
+    by : (k : ℕ) × Contains s.log k × (content s (id_of k) ≡ t) → (is_blank_tree t ≡ false) × (0 < depth t) × ((id : Id) × Knows s id × (content s id ≡ t))
+    by (k, logged, e) = let known = knows_logged s k h u logged in at k known.1 known.0 e (names s (id_of k) known.0)
+
+-- ---- a store with one more square
+
+module _ (old new : Nodes) (more : List Tree) (grown : squares new.nodes ≡ squares old.nodes ++ more) where
+  content-grown : (id : Id) → id.0 < 66064 + length old.nodes → content new id ≡ content old id
+  content-grown id lt = ap (λ S. square_of S id) grown ∙ square_of-append (squares old.nodes) more id (omega (arith, lt, length-squares old.nodes))
+
+  pub knows-grown : length old.nodes ≤ length new.nodes → ((k : ℕ) → Contains old.log k → Contains new.log k) → IsSound new → (id : Id) → Knows old id → Knows new id × (content new id ≡ content old id)
+  knows-grown le along h id k =
+      (record { sound = h; named = record { below = omega (arith, k.named.below, le); blank = k.named.blank }; joined = λ l u. along id.0 (k.joined l u) }, content-grown id k.named.below)
+
+  held-grown : (k : ℕ) → IsShared old → new.log ≡ old.log ++ k ∷ [] → held new ≡ held old ++ content new (id_of k) ∷ []
+  held-grown k u e =
+      let f : ℕ → Tree = λ j. content new (id_of j) in
+      let same = map_same f (λ j. content old (id_of j)) old.log (λ j there. content-grown (id_of j) (u.known j there)) in
+      ap (map f) e ∙ map_push f old.log k ∙ ap (λ z. z ++ f k ∷ []) same
+
+append_nil : (xs : List Tree) → xs ++ [] ≡ xs
+append_nil [] = refl
+append_nil (x ∷ xs) = ap (λ l. x ∷ l) (append_nil xs)
+
+-- an Id of a square that is there
+pub joined_there : (s : Nodes) (n : Node) (id : Id) → IsSound s → IsShared s → IsIdOf s n id → Joined s s (node_square (squares s.nodes) n) id
+joined_there s n id h u e = was_there refl (id_held s n id h u e) (knows_id s n id h e, u) (square_of-id s n id h e)
+
+-- a small square that was not joined is not held
+pub absent_small : (s : Nodes) (k : ℕ) → IsSound s → IsShared s → IsSmall s.log (squares s.nodes) k → ¬ Contains s.log k → ¬ Contains (held s) (small_square k)
+absent_small s k h u small absent there = by (held_id s 0 small.quarters h u (omega arith) small.is (subst (Contains (held s)) (small_node (squares s.nodes) small.quarters k small.number) there))
+  where
+    of : (id : Id) → IsIdOf s small.quarters id → ⊥
+    of id (as_small e logged) = let same : Some id.0 ≡ Some k = sym e ∙ small.number in let equal : id.0 ≡ k = cc in absent (subst (Contains s.log) equal logged)
+    of id (as_node i e at) = let none : None ≡ Some k = sym (u.apart i small.quarters at) ∙ small.number in absurd (cc)
+
+    by : (id : Id) × IsIdOf s small.quarters id → ⊥
+    by (id, is) = of id is
+
+-- a small square that is joined
+pub joined_small : (s : Nodes) (k : ℕ) → IsSound s → IsShared s → IsSmall s.log (squares s.nodes) k → ¬ Contains s.log k → length s.log < s.limit → Joined s (with_id s k) (small_square k) (id_of k)
+joined_small s k h u small absent room =
+    let q = small.quarters in
+    let r = small_range q.nw q.ne q.sw q.se k small.number in
+    let sound = IsSound-id s k h (λ _. small) in
+    let shared = IsShared-id s k u absent r.1 room in
+    let grown : squares s.nodes ≡ squares s.nodes ++ [] = sym (append_nil (squares s.nodes)) in
+    let is : content (with_id s k) (id_of k) ≡ small_square k = square_of-small (squares s.nodes) (id_of k) r.0 r.1 in
+    is_new (absent_small s k h u small absent)
+    (λ id known. let p = knows-grown s (with_id s k) [] grown (omega arith) (λ j. Contains-append_left s.log (k ∷ []) j) sound id known.0 in ((p.0, shared), p.1))
+    (held-grown s (with_id s k) [] grown k u refl ∙ ap (λ t. held s ++ t ∷ []) is)
+    (knows_id (with_id s k) q (id_of k) sound (as_small small.number (Contains-push s.log k)), shared) is
+
+-- a node that is not stored is not held
+pub absent_node : (s : Nodes) (n : Node) → IsSound s → IsShared s → IsNode s.log (squares s.nodes) (length s.nodes) n → number_of n ≡ None → ¬ Contains s.nodes n
+    → ¬ Contains (held s) (node_square (squares s.nodes) n)
+absent_node s n h u new large absent there = by (held_id s (length s.nodes) n h u (omega arith) new there)
+  where
+    of : (id : Id) → IsIdOf s n id → ⊥
+    of id (as_small e logged) = let none : None ≡ Some id.0 = sym large ∙ e in absurd (cc)
+    of id (as_node i e at) = absent (i, slice_get_within s.nodes i n at, get_or_from_slice_get s.nodes i n n at)
+
+    by : (id : Id) × IsIdOf s n id → ⊥
+    by (id, is) = of id is
+
+-- the square of an added node
+square_of-last : (s : Nodes) (n : Node) → IsNode s.log (squares s.nodes) (length s.nodes) n → (new : Nodes) → new.nodes ≡ s.nodes ++ n ∷ [] → IsSound new
+    → square_of (squares new.nodes) (id_of (66064 + length s.nodes)) ≡ node_square (squares s.nodes) n
+square_of-last s n node new e sound =
+    square_of-node new (length s.nodes) n (id_of (66064 + length s.nodes)) sound (ap (λ ns. slice_get ns (length s.nodes)) e ∙ slice_get-last s.nodes n) refl
+    ∙ ap (λ S. node_square S n) (ap squares e ∙ squares-push s.nodes n)
+    ∙ node_square-append (squares s.nodes) (node_square (squares s.nodes) n ∷ []) (length s.nodes) n (omega (arith, length-squares s.nodes)) node.nw.named node.ne.named node.sw.named node.se.named
+
+-- a node that is stored
+pub joined_node : (s : Nodes) (n : Node) → IsSound s → IsShared s → IsNode s.log (squares s.nodes) (length s.nodes) n → number_of n ≡ None → ¬ Contains s.nodes n → HasRoom s
+    → Joined s (with_both s n) (node_square (squares s.nodes) n) (id_of (66064 + length s.nodes))
+joined_node s n h u new large absent room =
+    let k = 66064 + length s.nodes in
+    let sound = IsSound-both s n h new room.few in
+    let shared = IsShared-both s n u absent large room.limit in
+    let grown = squares-push s.nodes n in
+    let longer = length-append s.nodes (n ∷ []) in
+    let is : content (with_both s n) (id_of k) ≡ node_square (squares s.nodes) n = square_of-last s n new (with_both s n) refl sound in
+    is_new (absent_node s n h u new large absent)
+    (λ id known. let p = knows-grown s (with_both s n) _ grown (omega (arith, longer)) (λ j. Contains-append_left s.log (k ∷ []) j) sound id known.0 in ((p.0, shared), p.1))
+    (held-grown s (with_both s n) _ grown k u refl ∙ ap (λ t. held s ++ t ∷ []) is)
+    (knows_id (with_both s n) n (id_of k) sound (as_node (length s.nodes) refl (slice_get-last s.nodes n)), shared) is
+
+-- ---- answers
+
+pub answers_ok : (old new : Nodes) (t : Tree) (id : Id) → Joined old new t id → new.limit ≡ old.limit → Answers old new t (Ok id)
+answers_ok old new t id joined limit = record { joined = joined; limit = limit; full = (λ e. absurd (cc), λ needs. absurd (by needs joined)); room = λ e. absurd (cc); refusals = tt; needed = tt; unchanged = tt }
+  where
+    by : ¬ Contains (held old) t × (length (held old) ≡ old.limit) → Joined old new t id → ⊥
+    by needs (was_there same there known is) = needs.0 there
+    by needs (is_new absent keeps added known is) =
+        let more = ap length added ∙ length-append (held old) (t ∷ []) in
+        absurd (omega (arith, more, needs.1, length-held new, known.1.len, limit))
+
+abbrev refused : Kind → Result Id Kind
+refused k = Err k
+
+pub answers_err : (s : Nodes) (t : Tree) (k : Kind) → IsShared s → ¬ Contains (held s) t → (k ≡ Full) ⊎ (k ≡ Memory) → (k ≡ Full) ↔ (length s.log ≡ s.limit) → Answers s s t (Err k)
+answers_err s t k u absent kinds full = record {
+  joined = tt;
+  limit = refl;
+  full = (λ e. let f : k ≡ Full = cc in (absent, length-held s ∙ full.0 f), λ needs. ap Err (full.1 (sym (length-held s) ∙ needs.1)));
+  room = λ e. room e (nat_lt (length s.log) s.limit) refl;
+  refusals = kinds;
+  needed = absent;
+  unchanged = refl;
+}
+  where
+    room : refused k ≡ refused Memory → (b : Bool) → nat_lt (length s.log) s.limit ≡ b → length (held s) < s.limit
+    room e true g = let l : length s.log < s.limit = grind arith in omega (arith, l, length-held s)
+    room e false g =
+        let l : s.limit ≤ length s.log = grind arith in
+        let f = full.1 (omega (arith, l, u.len)) in
+        absurd (let kind : k ≡ Memory = cc in let same : Full ≡ Memory = sym f ∙ kind in cc)
+
+-- the same in the words of the calls
+pub answers_refused : (s new : Nodes) (t : Tree) (k : Kind) (len : ℕ) → new ≡ s → IsShared s → ¬ Contains (held s) t → (k ≡ Full) ⊎ (k ≡ Memory) → len ≡ length s.log → (k ≡ Full) ↔ (len ≡ s.limit)
+    → Answers s new t (Err k)
+answers_refused s new t k len same u absent kinds e full = subst (λ v. Answers s v t (Err k)) (sym same) (answers_err s t k u absent kinds (λ f. sym e ∙ full.0 f, λ f. full.1 (e ∙ f)))
+
+-- a refusal of memory below the limit
+pub answers_memory : (s new : Nodes) (t : Tree) (r : Result Id Kind) → new ≡ s → IsShared s → ¬ Contains (held s) t → length s.log < s.limit
+    → (P : Kind → Type 0) → ((k : Kind) → P k → k ≡ Memory) → IsErr r → IsErrAnd r P → Answers s new t r
+answers_memory s new t (Ok id) same u absent room P is err told = absurd (true≢false (sym err))
+answers_memory s new t (Err k) same u absent room P is err told =
+    let memory = is k told in
+    answers_refused s new t k (length s.log) same u absent (inr memory) refl (λ f. absurd (let kinds : Full ≡ Memory = sym f ∙ memory in cc), λ f. absurd (omega (arith, f, room)))
+
+-- a node that a test does not find
+pub not_there : (ns : List Node) (n : Node) → list_any (eq-value.it n) ns ≡ false → ¬ Contains ns n
+not_there ns n f c = true≢false (sym (list_any-Contains ns n c) ∙ f)
+
+-- what an insertion into the set of nodes does
+pub inserted : (old ns : List Node) (n : Node) (i : ℕ) → ns ≡ insert_key eq-value.it old n → length ns ≡ length old + 1 → (k : Node) × (slice_get ns i ≡ Some k) × (eq-value.it n k ≡ true)
+    → (¬ Contains old n) × (ns ≡ old ++ n ∷ []) × (i ≡ length old)
+inserted old ns n i e len (k, at, same) = by (list_any (eq-value.it n) old) refl
+  where
+    here : slice_get ns i ≡ Some n
+    here = at ∙ ap Some (sym (same_node n k same))
+
+    by : (b : Bool) → list_any (eq-value.it n) old ≡ b → (¬ Contains old n) × (ns ≡ old ++ n ∷ []) × (i ≡ length old)
+    by true f = let stays : ns ≡ old = e ∙ ap (λ b. if b then old else old ++ n ∷ []) f in let equal = ap length stays in absurd (omega (arith, equal, len))
+    by false f =
+        let grown : ns ≡ old ++ n ∷ [] = e ∙ ap (λ b. if b then old else old ++ n ∷ []) f in
+        let absent = not_there old n f in
+        (absent, grown, last absent (slice_get-push_cases old n n i (ap (λ l. slice_get l i) (sym grown) ∙ here)))
+      where
+        last : ¬ Contains old n → (slice_get old i ≡ Some n) ⊎ ((i ≡ length old) × (n ≡ n)) → i ≡ length old
+        last absent (inl there) = absurd (absent (i, slice_get_within old i n there, get_or_from_slice_get old i n n there))
+        last absent (inr l) = l.0
+
+pub found : (old ns : List Node) (n : Node) (i : ℕ) → ns ≡ insert_key eq-value.it old n → length ns ≡ length old → (k : Node) × (slice_get ns i ≡ Some k) × (eq-value.it n k ≡ true)
+    → (ns ≡ old) × (slice_get old i ≡ Some n)
+found old ns n i e len (k, at, same) = by (list_any (eq-value.it n) old) refl
+  where
+    by : (b : Bool) → list_any (eq-value.it n) old ≡ b → (ns ≡ old) × (slice_get old i ≡ Some n)
+    by true f =
+        let stays : ns ≡ old = e ∙ ap (λ b. if b then old else old ++ n ∷ []) f in
+        (stays, ap (λ l. slice_get l i) (sym stays) ∙ at ∙ ap Some (sym (same_node n k same)))
+    by false f =
+        let grown : ns ≡ old ++ n ∷ [] = e ∙ ap (λ b. if b then old else old ++ n ∷ []) f in
+        let longer = ap length grown ∙ length-append old (n ∷ []) in
+        absurd (omega (arith, longer, len))
+
+-- a store with a new node
+pub node_added : (s new : Nodes) (n : Node) (i : ℕ) → IsSound s → IsShared s → IsNode s.log (squares s.nodes) (length s.nodes) n → number_of n ≡ None → ¬ Contains s.nodes n → HasRoom s
+    → new ≡ with_both s n → i ≡ length s.nodes → Answers s new (node_square (squares s.nodes) n) (Ok (id_of (66064 + i)))
+node_added s new n i h u node large absent room grown last =
+    subst (λ v. Answers s v (node_square (squares s.nodes) n) (Ok (id_of (66064 + i)))) (sym grown)
+    (subst (λ j. Answers s (with_both s n) (node_square (squares s.nodes) n) (Ok (id_of (66064 + j)))) (sym last)
+    (answers_ok s (with_both s n) (node_square (squares s.nodes) n) (id_of (66064 + length s.nodes)) (joined_node s n h u node large absent room) refl))
+
+pub sound_added : (s new : Nodes) (n : Node) → IsSound s → IsShared s → IsNode s.log (squares s.nodes) (length s.nodes) n → number_of n ≡ None → ¬ Contains s.nodes n → HasRoom s
+    → new ≡ with_both s n → IsSound new × IsShared new
+sound_added s new n h u node large absent room grown =
+    subst (λ v. IsSound v × IsShared v) (sym grown) (IsSound-both s n h node room.few, IsShared-both s n u absent large room.limit)
+
+-- the marks of the small squares, when another Id is joined
+pub HasSeen-node : (seen : List Bool) (log log' : List ℕ) (k : ℕ) → HasSeen seen log → 66064 ≤ k → log' ≡ log ++ k ∷ [] → HasSeen seen log'
+HasSeen-node seen log log' k h high e = subst (HasSeen seen) (sym e) (record {
+  joined = λ i mark. Contains-append_left log (k ∷ []) _ (h.joined i mark);
+  listed = λ i there low. by i low (Contains-push_cases log k (512 + i) there);
+})
+  where
+    by : (i : ℕ) → i < 65552 → Contains log (512 + i) ⊎ (k ≡ 512 + i) → slice_index_or seen i false ≡ true
+    by i low (inl old) = h.listed i old low
+    by i low (inr f) = absurd (omega arith)
+
+pub HasSeen-same : (seen seen' : List Bool) (log : List ℕ) → HasSeen seen log → ((i : ℕ) → slice_index_or seen' i false ≡ slice_index_or seen i false) → HasSeen seen' log
+HasSeen-same seen seen' log h same = record { joined = λ i mark. h.joined i (sym (same i) ∙ mark); listed = λ i there low. same i ∙ h.listed i there low }
+
+pub HasSeen-mark : (seen seen' : List Bool) (log log' : List ℕ) (k index : ℕ) → HasSeen seen log → k ≡ 512 + index
+    → ((i : ℕ) → slice_index_or seen' i false ≡ (if i == index then true else slice_index_or seen i false)) → log' ≡ log ++ k ∷ [] → HasSeen seen' log'
+HasSeen-mark seen seen' log log' k index h e marks grown = subst (HasSeen seen') (sym grown) (record {
+  joined = λ i mark. joined i mark (i == index) refl;
+  listed = λ i there low. marks i ∙ listed i low (i == index) refl (Contains-push_cases log k (512 + i) there);
+})
+  where
+    joined : (i : ℕ) → slice_index_or seen' i false ≡ true → (b : Bool) → (i == index) ≡ b → Contains (log ++ k ∷ []) (512 + i)
+    joined i mark true f = let same : k ≡ 512 + i = grind arith in subst (Contains (log ++ k ∷ [])) same (Contains-push log k)
+    joined i mark false f = Contains-append_left log (k ∷ []) _ (h.joined i (sym (marks i ∙ ap (λ b. if b then true else slice_index_or seen i false) f) ∙ mark))
+
+    listed : (i : ℕ) → i < 65552 → (b : Bool) → (i == index) ≡ b → Contains log (512 + i) ⊎ (k ≡ 512 + i) → (if i == index then true else slice_index_or seen i false) ≡ true
+    listed i low true f there = ap (λ b. if b then true else slice_index_or seen i false) f
+    listed i low false f (inl old) = ap (λ b. if b then true else slice_index_or seen i false) f ∙ h.listed i old low
+    listed i low false f (inr g) = absurd (true≢false (let t : (i == index) ≡ true = grind arith in sym t ∙ f))
+
+-- whether a small square was joined, by its mark
+pub seen_joined : (seen : List Bool) (log : List ℕ) (k : ℕ) → HasSeen seen log → 512 ≤ k → slice_index_or seen (k - 512) false ≡ true → Contains log k
+seen_joined seen log k h l mark = let same : 512 + (k - 512) ≡ k = omega arith in subst (Contains log) same (h.joined (k - 512) mark)
+
+pub unseen : (seen : List Bool) (log : List ℕ) (k : ℕ) → HasSeen seen log → 512 ≤ k → k < 66064 → slice_index_or seen (k - 512) false ≡ false → ¬ Contains log k
+unseen seen log k h l u mark there =
+    let same : k ≡ 512 + (k - 512) = omega arith in
+    true≢false (sym (h.listed (k - 512) (subst (Contains log) same there) (omega arith)) ∙ mark)
+
+-- a small square that is marked
+pub small_added : (s new : Nodes) (k : ℕ) → IsSound s → IsShared s → IsSmall s.log (squares s.nodes) k → ¬ Contains s.log k → length s.log < s.limit → new ≡ with_id s k
+    → Answers s new (small_square k) (Ok (id_of k))
+small_added s new k h u small absent room grown =
+    subst (λ v. Answers s v (small_square k) (Ok (id_of k))) (sym grown) (answers_ok s (with_id s k) (small_square k) (id_of k) (joined_small s k h u small absent room) refl)
+
+pub sound_marked : (s new : Nodes) (k : ℕ) → IsSound s → IsShared s → IsSmall s.log (squares s.nodes) k → ¬ Contains s.log k → length s.log < s.limit → new ≡ with_id s k → IsSound new × IsShared new
+sound_marked s new k h u small absent room grown =
+    let q = small.quarters in
+    let r = small_range q.nw q.ne q.sw q.se k small.number in
+    subst (λ v. IsSound v × IsShared v) (sym grown) (IsSound-id s k h (λ _. small), IsShared-id s k u absent r.1 room)
+
+pub small_there : (s : Nodes) (k : ℕ) → IsSound s → IsShared s → IsSmall s.log (squares s.nodes) k → Contains s.log k → Answers s s (small_square k) (Ok (id_of k))
+small_there s k h u small there =
+    answers_ok s s (small_square k) (id_of k)
+    (subst (λ t. Joined s s t (id_of k)) (sym (small_node (squares s.nodes) small.quarters k small.number)) (joined_there s small.quarters (id_of k) h u (as_small small.number there))) refl
+
+pub node_there : (s : Nodes) (n : Node) (i : ℕ) → IsSound s → IsShared s → slice_get s.nodes i ≡ Some n → Answers s s (node_square (squares s.nodes) n) (Ok (id_of (66064 + i)))
+node_there s n i h u at = answers_ok s s (node_square (squares s.nodes) n) (id_of (66064 + i)) (joined_there s n (id_of (66064 + i)) h u (as_node i refl at)) refl
+
+-- what a join of a square that isn't blank answers
+module _ (old new : Nodes) (t : Tree) (deep : 0 < depth t) (not_blank : is_blank_tree t ≡ false) where
+  abbrev pub Needs : Type 0
+  Needs = (is_blank_tree t ≡ false) × ¬ Contains (held old) t
+
+  pub join_known : (r : Result Id Kind) → Answers old new t r → IfOk r (λ id. Knows new id × IsShared new)
+  join_known (Ok id) a = by a.joined
+    where
+      by : Joined old new t id → Knows new id × IsShared new
+      by (was_there same there known is) = subst (λ s. Knows s id × IsShared s) (sym same) known
+      by (is_new absent keeps added known is) = known
+  join_known (Err k) a = tt
+
+  pub join_square : (r : Result Id Kind) → Answers old new t r → IfOk r (λ id. content new id ≡ t)
+  join_square (Ok id) a = by a.joined
+    where
+      by : Joined old new t id → content new id ≡ t
+      by (was_there same there known is) = ap (λ s. content s id) same ∙ is
+      by (is_new absent keeps added known is) = is
+  join_square (Err k) a = tt
+
+  same_keeps : new ≡ old → KeepsContents old new
+  same_keeps same id k = (subst (λ s. Knows s id × IsShared s) (sym same) k, ap (λ s. content s id) same)
+
+  pub join_keeps : (r : Result Id Kind) → Answers old new t r → KeepsContents old new
+  join_keeps (Ok id) a = by a.joined
+    where
+      by : Joined old new t id → KeepsContents old new
+      by (was_there same there known is) = same_keeps same
+      by (is_new absent keeps added known is) = keeps
+  join_keeps (Err k) a = same_keeps a.unchanged
+
+  pub join_stays : (r : Result Id Kind) → Answers old new t r → (u : Tree) → Contains (held old) u → Contains (held new) u
+  join_stays (Ok id) a u h = by a.joined
+    where
+      by : Joined old new t id → Contains (held new) u
+      by (was_there same there known is) = subst (λ s. Contains (held s) u) (sym same) h
+      by (is_new absent keeps added known is) = subst (λ l. Contains l u) (sym added) (Contains-append_left (held old) (t ∷ []) u h)
+  join_stays (Err k) a u h = subst (λ s. Contains (held s) u) (sym a.unchanged) h
+
+  pub join_added : (r : Result Id Kind) → Answers old new t r → OnOk r (Needs → held new ≡ held old ++ t ∷ [])
+  join_added (Ok id) a = λ needs. by needs a.joined
+    where
+      by : Needs → Joined old new t id → held new ≡ held old ++ t ∷ []
+      by needs (was_there same there known is) = absurd (needs.1 there)
+      by needs (is_new absent keeps added known is) = added
+  join_added (Err k) a = tt
+
+  pub join_there : (r : Result Id Kind) → Answers old new t r → OnOk r (¬ Needs → held new ≡ held old)
+  join_there (Ok id) a = λ unneeded. by unneeded a.joined
+    where
+      by : ¬ Needs → Joined old new t id → held new ≡ held old
+      by unneeded (was_there same there known is) = ap held same
+      by unneeded (is_new absent keeps added known is) = absurd (unneeded (not_blank, absent))
+  join_there (Err k) a = tt
+
+  pub join_fresh : (r : Result Id Kind) → Answers old new t r → IfOk r (λ id. Needs → ¬ (Knows old id × IsShared old))
+  join_fresh (Ok id) a = λ needs known. by needs known a.joined
+    where
+      by : Needs → Knows old id × IsShared old → Joined old new t id → ⊥
+      by needs known (was_there same there k is) = needs.1 there
+      by needs known (is_new absent keeps added k is) =
+          let same : content old id ≡ t = sym (keeps id known).1 ∙ is in
+          absent (subst (Contains (held old)) same (held-complete old known.1 id known.0 (ap is_blank_tree same ∙ not_blank) (subst (λ z. 0 < depth z) (sym same) deep)))
+  join_fresh (Err k) a = tt
+
+  pub join_full : (r : Result Id Kind) → Answers old new t r → (r ≡ Err Full) ↔ (Needs × (length (held old) ≡ old.limit))
+  join_full r a = (λ e. let f = a.full.0 e in ((not_blank, f.0), f.1), λ needs. a.full.1 (needs.0.1, needs.1))
+
+  pub join_needed : (r : Result Id Kind) → Answers old new t r → OnErr r Needs
+  join_needed (Ok id) a = tt
+  join_needed (Err k) a = (not_blank, a.needed)
 
 module _ (s : Nodes) (nw ne sw se : Id) (a : Knows s nw) (b : Knows s ne) (c : Knows s sw) (d : Knows s se)
     (e : depth (square_of (squares s.nodes) ne) ≡ depth (square_of (squares s.nodes) nw))
@@ -192,30 +586,18 @@ module _ (s : Nodes) (nw ne sw se : Id) (a : Knows s nw) (b : Knows s ne) (c : K
   -- the node of four quarters that are not all blank
   pub IsNode-joined : (level : ℕ) → level ≡ depth (square_of (squares s.nodes) nw) → depth (square_of (squares s.nodes) nw) < MAX_LEVEL
       → (is_blank_id nw && is_blank_id ne && is_blank_id sw && is_blank_id se) ≡ false
-      → IsNode (squares s.nodes) (length s.nodes) (record { level = level + 1; nw = nw.0; ne = ne.0; sw = sw.0; se = se.0 })
+      → IsNode s.log (squares s.nodes) (length s.nodes) (record { level = level + 1; nw = nw.0; ne = ne.0; sw = sw.0; se = se.0 })
   IsNode-joined level l room h =
-      record { nw = a.named; ne = b.named; sw = c.named; se = d.named; full = full_joined; level = omega arith; low = omega arith; not_blank = is_blank-joined ∙ h }
-
--- the test of a list for a node
-pub list_any-Contains : (ns : List Node) (n : Node) → Contains ns n → list_any (eq-value.it n) ns ≡ true
-list_any-Contains ns n (k, lt, e) = list_any_at (eq-value.it n) ns k n lt (ap (eq-value.it n) e ∙ same_node_test n)
-
--- what an insertion into the set of nodes does
-pub Interned-insert : (old : Nodes) (ns : List Node) (n : Node) → ns ≡ insert_key eq-value.it old.nodes n → HasRoom old
-    → Interned old (record { nodes = ns; limit = old.limit }) n
-Interned-insert old ns n e room = by (list_any (eq-value.it n) old.nodes) refl
-  where
-    by : (b : Bool) → list_any (eq-value.it n) old.nodes ≡ b → Interned old (record { nodes = ns; limit = old.limit }) n
-    by true f = was_there (Contains-list_any eq-value.it same_node old.nodes n f) (e ∙ ap (λ b. if b then old.nodes else old.nodes ++ n ∷ []) f)
-    by false f = is_new (λ c. true≢false (sym (list_any-Contains old.nodes n c) ∙ f)) room (e ∙ ap (λ b. if b then old.nodes else old.nodes ++ n ∷ []) f)
-
--- a store stays sound when a node is interned
-pub sound_interned : (old : Nodes) (ns : List Node) (n : Node) → IsSound old → IsShared old → IsNode (squares old.nodes) (length old.nodes) n
-    → Interned old (record { nodes = ns; limit = old.limit }) n → IsSound (record { nodes = ns; limit = old.limit }) × IsShared (record { nodes = ns; limit = old.limit })
-sound_interned old ns n h u node (was_there c e) =
-    subst (λ z. IsSound (record { nodes = z; limit = old.limit }) × IsShared (record { nodes = z; limit = old.limit })) (sym e) (h, u)
-sound_interned old ns n h u node (is_new a l e) =
-    subst (λ z. IsSound (record { nodes = z; limit = old.limit }) × IsShared (record { nodes = z; limit = old.limit })) (sym e) (IsSound-push old n h node l, IsShared-push old n u a)
+      record {
+        nw = record { named = a.named; joined = a.joined };
+        ne = record { named = b.named; joined = b.joined };
+        sw = record { named = c.named; joined = c.joined };
+        se = record { named = d.named; joined = d.joined };
+        full = full_joined;
+        level = omega arith;
+        low = omega arith;
+        not_blank = is_blank-joined ∙ h;
+      }
 
 -- the index of a stored node
 pub position_node : (ns : List Node) (n : Node) (i : ℕ) → position (eq-value.it n) ns ≡ Some i → slice_get ns i ≡ Some n
@@ -228,27 +610,24 @@ position_contains ns n i e =
     let p = position-Some (eq-value.it n) ns i n e in
     (i, p.0, sym (same_node n (get_or ns i n) p.1))
 
--- the Id of a stored node is known
-pub knows_id : (s : Nodes) (n : Node) (id : Id) → IsSound s → IsIdOf s n id → Knows s id
-knows_id s n id h (i, e, at) =
-    let lt = slice_get_within s.nodes i n at in
-    record { sound = h; named = record { below = omega (arith, lt); blank = λ l. omega arith } }
-
--- and stands for the square that the node had before
-pub square_of-interned : (old new : Nodes) (n : Node) → IsSound old → IsNode (squares old.nodes) (length old.nodes) n → Interned old new n → IsSound new
-    → (id : Id) → IsIdOf new n id → square_of (squares new.nodes) id ≡ node_square (squares old.nodes) n
-square_of-interned old new n h node i sound id (k, e, at) =
-    let m = held-more old new n i in
-    square_of-node new k n id sound at e ∙ ap (λ S. node_square S n) m.1
-    ∙ node_square-append (squares old.nodes) m.0 (length old.nodes) n (omega (arith, length-squares old.nodes)) node.nw node.ne node.sw node.se
-
--- whatever was answered, each known Id keeps its square
-pub keeps_known : {T E : Type 0} (r : Result T E) (old new : Nodes) (n : Node) → OnOk r (Interned old new n) → OnErr r (new ≡ old) → IsSound new × IsShared new
-    → (id : Id) → Knows old id × IsShared old → (Knows new id × IsShared new) × (square_of (squares new.nodes) id ≡ square_of (squares old.nodes) id)
-keeps_known (Ok x) old new n i same sound id k =
-    let p = Knows-interned old new n i sound.0 id k.0 in ((p.0, sound.1), p.1)
-keeps_known (Err x) old new n i same sound id k =
-    ((subst (λ s. Knows s id) (sym same) k.0, sound.1), ap (λ s. square_of (squares s.nodes) id) same)
+-- a small square of four quarters that are not all blank
+pub IsSmall-joined : (s : Nodes) (n : Node) (k : ℕ) → number_of n ≡ Some k → IsNode s.log (squares s.nodes) (length s.nodes) n → IsSmall s.log (squares s.nodes) k
+IsSmall-joined s n k e node =
+    let r = quarters_range n.nw n.ne n.sw n.se k e in
+    record {
+      quarters = n;
+      number = e;
+      is = record {
+        nw = record { named = record { below = omega (arith, r.0); blank = node.nw.named.blank }; joined = node.nw.joined };
+        ne = record { named = record { below = omega (arith, r.1); blank = node.ne.named.blank }; joined = node.ne.joined };
+        sw = record { named = record { below = omega (arith, r.2); blank = node.sw.named.blank }; joined = node.sw.joined };
+        se = record { named = record { below = omega (arith, r.3); blank = node.se.named.blank }; joined = node.se.joined };
+        full = node.full;
+        level = node.level;
+        low = node.low;
+        not_blank = node.not_blank;
+      };
+    }
 
 -- an Id from 256 on has quarters
 pub deep_content : (s : Nodes) (id : Id) → Knows s id → 256 ≤ id.0 → 0 < depth (square_of (squares s.nodes) id)
@@ -257,7 +636,7 @@ deep_content s id h l = by (names s id h)
     by : Names s id → 0 < depth (square_of (squares s.nodes) id)
     by (the_state m f) = absurd (omega arith)
     by (the_blank k m i f) = let e = ap depth f in omega arith
-    by (the_node i n j at node f) = let e = ap depth f in omega arith
+    by (the_node i n l' le at node f) = let e = ap depth f in omega arith
 
 -- four known Ids whose squares are the quarters
 pub parts_are : (s : Nodes) (K : Id → Type 0) (t : Tree) (a b c d : Id) → K a → K b → K c → K d
@@ -266,106 +645,42 @@ pub parts_are : (s : Nodes) (K : Id → Type 0) (t : Tree) (a b c d : Id) → K 
 parts_are s K t a b c d ka kb kc kd e =
     (All-cons K a (b ∷ c ∷ d ∷ []) ka (All-cons K b (c ∷ d ∷ []) kb (All-cons K c (d ∷ []) kc (All-cons K d [] kd (All-nil K)))), sym (ap quarters e))
 
--- the same where a node was added to a store that keeps no node once
-pub square_of-added : (old new : Nodes) (n : Node) → IsSound old → IsNode (squares old.nodes) (length old.nodes) n → new.nodes ≡ old.nodes ++ n ∷ [] → IsSound new
-    → (id : Id) → IsIdOf new n id → square_of (squares new.nodes) id ≡ node_square (squares old.nodes) n
-square_of-added old new n h node i sound id (k, e, at) =
-    square_of-node new k n id sound at e ∙ ap (λ S. node_square S n) (ap squares i ∙ squares-push old.nodes n)
-    ∙ node_square-append (squares old.nodes) (node_square (squares old.nodes) n ∷ []) (length old.nodes) n (omega (arith, length-squares old.nodes)) node.nw node.ne node.sw node.se
+-- ---- a store that keeps each join as a node of its own
 
-pub keeps_added : {T E : Type 0} (r : Result T E) (old new : Nodes) (n : Node) → OnOk r (new.nodes ≡ old.nodes ++ n ∷ []) → OnErr r (new ≡ old) → IsSound new
+pub square_of-added : (old new : Nodes) (n : Node) → IsNode old.log (squares old.nodes) (length old.nodes) n → new ≡ with_node old n → IsSound new
+    → (id : Id) → id.0 ≡ 66064 + length old.nodes → square_of (squares new.nodes) id ≡ node_square (squares old.nodes) n
+square_of-added old new n node i sound id e = ap (λ k. square_of (squares new.nodes) (id_of k)) e ∙ square_of-last old n node new (ap (λ s. s.nodes) i) sound
+
+pub keeps_added : {T E : Type 0} (r : Result T E) (old new : Nodes) (n : Node) → OnOk r (new ≡ with_node old n) → OnErr r (new ≡ old) → IsSound new
     → (id : Id) → Knows old id → Knows new id × (square_of (squares new.nodes) id ≡ square_of (squares old.nodes) id)
 keeps_added (Ok x) old new n i same sound id k =
-    let len = ap length i ∙ length-append old.nodes (n ∷ []) in (
-      record { sound = sound; named = record { below = omega (arith, k.named.below, len); blank = k.named.blank } },
-      ap (λ S. square_of S id) (ap squares i ∙ squares-push old.nodes n) ∙ square_of-append (squares old.nodes) _ id (omega (arith, k.named.below, length-squares old.nodes)),
-    )
+    let len = ap (λ s. length s.nodes) i ∙ length-append old.nodes (n ∷ []) in
+    knows-grown old new _ (ap (λ s. squares s.nodes) i ∙ squares-push old.nodes n) (omega (arith, len)) (λ j there. subst (λ s. Contains s.log j) (sym i) there) sound id k
 keeps_added (Err x) old new n i same sound id k =
     (subst (λ s. Knows s id) (sym same) k, ap (λ s. square_of (squares s.nodes) id) same)
 
 -- the Id that an added node gets
-pub IsIdOf-last : (ns : List Node) (n : Node) (len : ℕ) → len ≡ length ns → slice_get (ns ++ n ∷ []) len ≡ Some n
-IsIdOf-last ns n len e = ap (slice_get (ns ++ n ∷ [])) e ∙ slice_get-last ns n
+pub knows_last : (old new : Nodes) (n : Node) → new ≡ with_node old n → IsSound new → (id : Id) → id.0 ≡ 66064 + length old.nodes → Knows new id
+knows_last old new n i sound id e = knows_id new n id sound (as_node (length old.nodes) e (ap (λ s. slice_get s.nodes (length old.nodes)) i ∙ slice_get-last old.nodes n))
 
--- the squares of two nodes differ
-pub held-distinct : (s : Nodes) → IsSound s → IsShared s → AllPairs ◌≢◌ (held s)
-held-distinct s h shared i j d before below e =
-    let S = squares s.nodes in
-    let len = length-squares s.nodes in
-    let any : Node = record { level = 0; nw = 0; ne = 0; sw = 0; se = 0 } in
-    let at : slice_get s.nodes i ≡ Some (get_or s.nodes i any) = slice_get-get_or s.nodes i any (omega (arith, before, below, len)) in
-    let at' : slice_get s.nodes j ≡ Some (get_or s.nodes j any) = slice_get-get_or s.nodes j any (omega (arith, below, len)) in
-    let a : square_of S (id_of (512 + i)) ≡ get_or S i d = square_of-node s i _ (id_of (512 + i)) h at refl ∙ sym (get_or_from_slice_get S i _ d (h.square i _ at)) in
-    let b : square_of S (id_of (512 + j)) ≡ get_or S j d = square_of-node s j _ (id_of (512 + j)) h at' refl ∙ sym (get_or_from_slice_get S j _ d (h.square j _ at')) in
-    let same = same_id s shared (id_of (512 + i)) (id_of (512 + j)) (knows_id s _ _ h (i, refl, at)) (knows_id s _ _ h (j, refl, at')) (a ∙ e ∙ sym b) in
-    let number : 512 + i ≡ 512 + j = ap (λ k. k.0) same in
-    absurd (omega (arith, number, before))
-
--- each known square of level 1 or more that is not blank is held
-pub held-complete : (s : Nodes) (id : Id) → Knows s id → is_blank_tree (square_of (held s) id) ≡ false → 0 < depth (square_of (held s) id) → Contains (held s) (square_of (held s) id)
-held-complete s id h full deep = by (names s id h)
-  where
-    by : Names s id → Contains (squares s.nodes) (square_of (squares s.nodes) id)
-    by (the_state m f) = absurd (let e = ap depth f in omega (arith, e, deep))
-    by (the_blank k m i f) = absurd (true≢false (sym (is_blank-blank (suc k)) ∙ ap is_blank_tree (sym f) ∙ full))
-    by (the_node i n j at node f) =
-        let sq = h.sound.square i n at in
-        (i, slice_get_within (squares s.nodes) i _ sq, get_or_from_slice_get (squares s.nodes) i _ _ (sq ∙ ap Some (sym f)))
-
--- whatever was answered, no stored square is taken away
-pub stays_held : {T E : Type 0} (r : Result T E) (old new : Nodes) (n : Node) → OnOk r (Interned old new n) → OnErr r (new ≡ old)
-    → (t : Tree) → Contains (held old) t → Contains (held new) t
-stays_held (Ok x) old new n i same t h =
-    let m = held-more old new n i in subst (λ S. Contains S t) (sym m.1) (Contains-append_left (squares old.nodes) m.0 t h)
-stays_held (Err x) old new n i same t h = subst (λ s. Contains (held s) t) (sym same) h
-
-pub stays_added : {T E : Type 0} (r : Result T E) (old new : Nodes) (n : Node) → OnOk r (new.nodes ≡ old.nodes ++ n ∷ []) → OnErr r (new ≡ old)
-    → (t : Tree) → Contains (held old) t → Contains (held new) t
+pub stays_added : {T E : Type 0} (r : Result T E) (old new : Nodes) (n : Node) → OnOk r (new ≡ with_node old n) → OnErr r (new ≡ old)
+    → (t : Tree) → Contains (squares old.nodes) t → Contains (squares new.nodes) t
 stays_added (Ok x) old new n i same t h =
-    subst (λ S. Contains S t) (sym (ap squares i ∙ squares-push old.nodes n)) (Contains-append_left (squares old.nodes) (node_square (squares old.nodes) n ∷ []) t h)
-stays_added (Err x) old new n i same t h = subst (λ s. Contains (held s) t) (sym same) h
-
--- a node that was not there gets an Id that named nothing
-pub fresh_id : (old new : Nodes) (n : Node) (id : Id) → IsSound old → Interned old new n → IsIdOf new n id → ¬ Contains (held old) (node_square (held old) n) → ¬ Knows old id
-fresh_id old new n id h i (k, e, at) absent known = by i
-  where
-    below : k < length old.nodes
-    below = omega (arith, known.named.below, e)
-
-    by : Interned old new n → ⊥
-    by (was_there c same) = absent (Contains-node old n h c)
-    by (is_new a l same) =
-        let here : get_or new.nodes k n ≡ n = get_or_from_slice_get new.nodes k n n at in
-        let there : get_or new.nodes k n ≡ get_or old.nodes k n = ap (λ ns. get_or ns k n) same ∙ get_or_append_left old.nodes (n ∷ []) n k below in
-        a (k, below, sym there ∙ here)
-
--- a held square isn't blank, has level 1 or more and an Id
-pub held-only : (s : Nodes) → IsSound s → (t : Tree) → Contains (held s) t
-    → (is_blank_tree t ≡ false) × (0 < depth t) × ((id : Id) × Knows s id × (square_of (held s) id ≡ t))
-held-only s h t (k, lt, e) =
-    let any : Node = record { level = 0; nw = 0; ne = 0; sw = 0; se = 0 } in
-    let below : k < length s.nodes = omega (arith, lt, length-squares s.nodes) in
-    let m : Node = get_or s.nodes k any in
-    let at : slice_get s.nodes k ≡ Some m = slice_get-get_or s.nodes k any below in
-    let same : node_square (squares s.nodes) m ≡ t = sym (get_or_from_slice_get (squares s.nodes) k _ t (h.square k m at)) ∙ e in
-    let deep : 0 < depth (node_square (squares s.nodes) m) = omega arith in (
-      ap is_blank_tree (sym same) ∙ (h.entries k m at).not_blank,
-      subst (λ z. 0 < depth z) same deep,
-      (id_of (512 + k), knows_id s m (id_of (512 + k)) h (k, refl, at), square_of-node s k m (id_of (512 + k)) h at refl ∙ same),
-    )
+    subst (λ S. Contains S t) (sym (ap (λ s. squares s.nodes) i ∙ squares-push old.nodes n)) (Contains-append_left (squares old.nodes) (node_square (squares old.nodes) n ∷ []) t h)
+stays_added (Err x) old new n i same t h = subst (λ s. Contains (squares s.nodes) t) (sym same) h
 
 -- a store that was refused memory for a node has room for it
-pub room_left : {T P : Type 0} (r : Result T Kind) (old new : Nodes) → IsSound old → (r ≡ Err Full) ↔ (P × (length old.nodes ≡ old.limit)) → OnErr r P → OnErr r (new ≡ old)
-    → r ≡ Err Memory → length (held new) < new.limit
-room_left (Ok x) old new h full needed same e = absurd (cc)
-room_left (Err k) old new h full needed same e = subst (λ s. length (held s) < s.limit) (sym same) (by (nat_lt (length old.nodes) old.limit) refl)
+pub room_left : {T : Type 0} (r : Result T Kind) (old new : Nodes) → length old.nodes ≤ old.limit → (r ≡ Err Full) ↔ (length old.nodes ≡ old.limit) → OnErr r (new ≡ old)
+    → r ≡ Err Memory → length (squares new.nodes) < new.limit
+room_left (Ok x) old new h full same e = absurd (cc)
+room_left (Err k) old new h full same e = subst (λ s. length (squares s.nodes) < s.limit) (sym same) (by (nat_lt (length old.nodes) old.limit) refl)
   where
-    len : length (held old) ≡ length old.nodes
+    len : length (squares old.nodes) ≡ length old.nodes
     len = length-squares old.nodes
 
-    by : (b : Bool) → nat_lt (length old.nodes) old.limit ≡ b → length (held old) < old.limit
+    by : (b : Bool) → nat_lt (length old.nodes) old.limit ≡ b → length (squares old.nodes) < old.limit
     by true g = let l : length old.nodes < old.limit = grind arith in omega (arith, l, len)
     by false g =
         let l : old.limit ≤ length old.nodes = grind arith in
-        let f = full.1 (needed, omega (arith, l, h.len)) in
+        let f = full.1 (omega (arith, l, h)) in
         absurd (let kinds = sym e ∙ f in cc)

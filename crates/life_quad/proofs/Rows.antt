@@ -1,7 +1,8 @@
 -- Worked examples of the definitions.
-use Rattle.std.proofs.Common.{◌≡◌, pos, negsuc, refl}
+use Rattle.std.proofs.Common.{◌≡◌, ◌+◌, ◌*◌, None, Some, pos, negsuc, refl}
 use Rattle.life_base.specs.Tree.{Tree, point, quad, depth, blank}
 use Rattle.life_quad.specs.Moves.{trimmed, grown}
+use Rattle.life_quad.specs.Store.{small_square, small_of}
 use Rattle.life_quad.specs.Cells.{population}
 use Rattle.life_base.specs.Tree.{tree_cell as cell}
 
@@ -53,3 +54,30 @@ far-cell = refl
 far-trimmed : depth (trimmed (grown (grown far)) 1) ≡ 3
 unfolding far
 far-trimmed = refl
+
+-- a small square of level 1 has its cells in its number, and one of level 2 the digits of its quarters
+two_cells : small_square (512 + 9) ≡ quad (point 1) (point 0) (point 0) (point 1)
+unfolding small_square
+two_cells = refl
+
+four_cells : small_square (528 + 4096 * 9 + 1) ≡ quad (quad (point 1) (point 0) (point 0) (point 1)) (blank 1) (blank 1) (quad (point 0) (point 0) (point 0) (point 1))
+unfolding small_square
+four_cells = refl
+
+-- the numbers of four cells, and of four squares of level 1, the blank one among them
+number_of_cells : small_of 1 0 0 1 ≡ Some 521
+unfolding small_of
+number_of_cells = refl
+
+number_of_squares : small_of 521 256 256 513 ≡ Some 37393
+unfolding small_of
+number_of_squares = refl
+
+-- a state above 1 and a square of level 2 make no small square
+number_of_others : small_of 1 0 0 2 ≡ None
+unfolding small_of
+number_of_others = refl
+
+number_of_four : small_of 37393 257 257 257 ≡ None
+unfolding small_of
+number_of_four = refl

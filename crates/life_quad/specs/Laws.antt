@@ -5,7 +5,7 @@ use Rattle.life_base.specs.Tree.{Tree, depth, IsFull, is_blank_tree, state_at}
 use Rattle.life_base.specs.declared.cell.TheConstants.{MAX_LEVEL}
 use Rattle.life_quad.specs.declared.id.Id.{Id}
 use Rattle.life_quad.specs.Moves.{trimmed, grown}
-use Rattle.life_quad.specs.Store.{Nodes, Knows, IsShared, held, square_of}
+use Rattle.life_quad.specs.Store.{Nodes, Knows, IsShared, content}
 use Rattle.life_quad.specs.Cells.{population, IsCellList}
 use Rattle.life_base.specs.Tree.{tree_cell as cell, half_side}
 
@@ -80,9 +80,9 @@ ListIsPopulation =
 -- an Id that a store knows stands for a full square of the greatest level at most
 abbrev pub KnownSquaresAreFull : Type 0
 KnownSquaresAreFull =
-    (s : Nodes) (id : Id) → Knows s id → IsFull (square_of (held s) id) × (depth (square_of (held s) id) ≤ MAX_LEVEL)
+    (s : Nodes) (id : Id) → Knows s id → IsFull (content s id) × (depth (content s id) ≤ MAX_LEVEL)
 
 -- where no node is there twice, two known Ids of one square are equal
 abbrev pub EqualSquaresHaveOneId : Type 0
 EqualSquaresHaveOneId =
-    (s : Nodes) → IsShared s → (a b : Id) → Knows s a → Knows s b → square_of (held s) a ≡ square_of (held s) b → a ≡ b
+    (s : Nodes) → IsShared s → (a b : Id) → Knows s a → Knows s b → content s a ≡ content s b → a ≡ b

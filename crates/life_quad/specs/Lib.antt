@@ -1,6 +1,7 @@
 pub mod Moves
 pub mod Refused
 pub mod Store
+pub mod SmallLaws
 pub mod StoreLaws
 pub mod Cells
 pub mod Span
@@ -8,3 +9,4 @@ pub mod Boxes
 pub mod Bands
 pub mod Laws
 pub mod IdList
+pub mod IdMap

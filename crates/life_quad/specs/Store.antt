@@ -1,25 +1,66 @@
 -- How a store of nodes stands for squares.
-use Rattle.std.specs.Prelude.{◌≡◌, ℕ, ◌+◌, ◌-◌, ◌<◌, ◌^◌, ◌≤◌, Bool, false, nat_lt, if◌then◌else◌, List, [], ◌∷◌, ◌++◌, length, fold, Some, slice_get, slice_index_or, Contains, ◌==◌, ◌||◌, ◌&&◌, nat_le}
+use Rattle.std.specs.Prelude.{◌≡◌, ◌≢◌, ℕ, ◌+◌, ◌*◌, ◌-◌, ◌/◌, ◌%◌, ◌<◌, ◌^◌, ◌≤◌, Bool, true, false, nat_lt, if◌then◌else◌, List, [], ◌∷◌, ◌++◌, length, fold, map, Option, None, Some, Result, Err, slice_get, slice_index_or, Contains, AllPairs, ◌==◌, ◌||◌, ◌&&◌, nat_le, ◌⊎◌, ◌↔◌, IfOk, IfErr, OnErr}
 use Rattle.life_base.specs.declared.cell.TheConstants.{MAX_LEVEL}
+use Rattle.life_base.specs.declared.kind.Kind.{Kind}
+use Rattle.life_base.specs.declared.kind.Kind.TheVariants.{Full, Memory}
 use Rattle.life_quad.specs.declared.id.Id.{Id}
 use Rattle.life_quad.specs.declared.id.Node.{Node}
 use Rattle.life_base.specs.Tree.{Tree, point, quad, depth, blank, is_blank_tree, IsFull}
 
--- what contracts see of a store: its nodes, oldest first, and its limit
+-- what contracts see of a store: its nodes, oldest first, the numbers of the Ids that were joined, each once and in the order of their
+-- first join (none where the store has no names for small squares), and its limit
 pub record Nodes : Type 0 where
   pub nodes : List Node
+  pub log : List ℕ
   pub limit : ℕ
 
--- the square of an Id: 0 to 255 are states, 256 to 511 blank squares from level 1 on, and 512 and up the stored squares
+-- the square of level 1 of four binary digits
+abbrev pub two : ℕ → Tree
+two b = quad (point (b / 8)) (point (b / 4 % 2)) (point (b / 2 % 2)) (point (b % 2))
+
+-- the square of level 2 of four digits below 16
+abbrev pub four : ℕ → Tree
+four b = quad (two (b / 4096)) (two (b / 256 % 16)) (two (b / 16 % 16)) (two (b % 16))
+
+-- the small square of an Id's number, from 512 to 66,063
+unfoldable pub small_square : ℕ → Tree
+small_square n = if nat_lt n 528 then two (n - 512) else four (n - 528)
+
+-- the square of an Id: 0 to 255 are states, 256 to 511 blank squares from level 1 on, 512 to 66,063 small squares, which are of level 1
+-- or 2 and of the states 0 and 1, and 66,064 and up the squares of the nodes
 unfoldable pub square_of : List Tree → Id → Tree
 square_of stored id =
     if nat_lt id.0 256 then point id.0
     else if nat_lt id.0 512 then blank (id.0 - 255)
-    else slice_index_or stored (id.0 - 512) (point 0)
+    else if nat_lt id.0 66064 then small_square id.0
+    else slice_index_or stored (id.0 - 66064) (point 0)
 
 -- the Id of a number
 abbrev pub id_of : ℕ → Id
 id_of n = record { 0 = n }
+
+-- a cell of state 0 or 1, and a square of level 1 of such cells, by the number of its Id
+abbrev pub is_bit_id : ℕ → Bool
+is_bit_id n = nat_lt n 2
+
+abbrev pub is_digit_id : ℕ → Bool
+is_digit_id n = n == 256 || (nat_lt 512 n && nat_lt n 528)
+
+-- the Id of the square of level 1 of a digit below 16
+abbrev pub digit_id : ℕ → Id
+digit_id d = id_of (if d == 0 then 256 else 512 + d)
+
+-- The number of the Id of the small square of four quarters, by the numbers of their Ids, if it is small. (Of four blank quarters too, which
+-- have another Id.)
+unfoldable pub small_of : ℕ → ℕ → ℕ → ℕ → Option ℕ
+small_of nw ne sw se =
+    if is_bit_id nw && is_bit_id ne && is_bit_id sw && is_bit_id se then Some (512 + (nw * 8 + ne * 4 + sw * 2 + se))
+    else if is_digit_id nw && is_digit_id ne && is_digit_id sw && is_digit_id se then Some (528 + ((nw - 512) * 4096 + (ne - 512) * 256 + (sw - 512) * 16 + (se - 512)))
+    else None
+
+-- the number of a node's square, where it is small
+abbrev pub number_of : Node → Option ℕ
+number_of n = small_of n.nw n.ne n.sw n.se
 
 -- the square of a node, whose quarters are the numbers of Ids
 abbrev pub node_square : List Tree → Node → Tree
@@ -29,61 +70,103 @@ node_square stored n = quad (square_of stored (id_of n.nw)) (square_of stored (i
 unfoldable pub squares : List Node → List Tree
 squares nodes = fold (λ stored n. stored ++ node_square stored n ∷ []) [] nodes
 
--- the Id is a state, a blank square of the greatest level at most, or one of the first n stored squares
+-- the Id is a state, a blank square of the greatest level at most, a small square, or one of the first n nodes
 pub record IsNamed (n : ℕ) (id : Id) : Type 0 where
-  pub below : id.0 < 512 + n
+  pub below : id.0 < 66064 + n
   pub blank : id.0 < 512 → id.0 < 256 + MAX_LEVEL
 
--- whether two Ids are one
-abbrev pub id_eq : Id → Id → Bool
-id_eq a b = a.0 == b.0
+-- if the Id is that of a small square, it was joined
+abbrev pub IsJoined : List ℕ → Id → Type 0
+IsJoined log id = 512 ≤ id.0 → id.0 < 66064 → Contains log id.0
+
+-- the Id stands for a square before node number i
+pub record IsEarlier (log : List ℕ) (i : ℕ) (id : Id) : Type 0 where
+  pub named : IsNamed i id
+  pub joined : IsJoined log id
 
 -- whether the Id is that of a blank square
 abbrev pub is_blank_id : Id → Bool
 is_blank_id id = id.0 == 0 || (nat_le 256 id.0 && nat_lt id.0 512)
 
 -- node number i names earlier Ids, is not blank, and has a full square of its level, of the greatest at most
-pub record IsNode (stored : List Tree) (i : ℕ) (n : Node) : Type 0 where
-  pub nw : IsNamed i (id_of n.nw)
-  pub ne : IsNamed i (id_of n.ne)
-  pub sw : IsNamed i (id_of n.sw)
-  pub se : IsNamed i (id_of n.se)
+pub record IsNode (log : List ℕ) (stored : List Tree) (i : ℕ) (n : Node) : Type 0 where
+  pub nw : IsEarlier log i (id_of n.nw)
+  pub ne : IsEarlier log i (id_of n.ne)
+  pub sw : IsEarlier log i (id_of n.sw)
+  pub se : IsEarlier log i (id_of n.se)
   pub full : IsFull (node_square stored n)
   pub level : depth (node_square stored n) ≡ n.level
   pub low : n.level ≤ MAX_LEVEL
   pub not_blank : is_blank_tree (node_square stored n) ≡ false
 
--- every node is sound and has its square, and the store is within its limit and has no more Ids than numbers of 32 bits
-pub record IsSound (s : Nodes) : Type 0 where
-  pub entries : (i : ℕ) (n : Node) → slice_get s.nodes i ≡ Some n → IsNode (squares s.nodes) i n
-  pub square : (i : ℕ) (n : Node) → slice_get s.nodes i ≡ Some n → slice_get (squares s.nodes) i ≡ Some (node_square (squares s.nodes) n)
-  pub len : length s.nodes ≤ s.limit
-  pub limit : s.limit ≤ 2 ^ 62
-  pub few : 512 + length s.nodes ≤ 2 ^ 32
+-- the number is that of a small square that is not blank and whose quarters were joined
+pub record IsSmall (log : List ℕ) (stored : List Tree) (k : ℕ) : Type 0 where
+  pub quarters : Node
+  pub number : number_of quarters ≡ Some k
+  pub is : IsNode log stored 0 quarters
 
--- no node is there twice
-abbrev pub IsShared : Nodes → Type 0
-IsShared s = (i j : ℕ) (n : Node) → slice_get s.nodes i ≡ Some n → slice_get s.nodes j ≡ Some n → i ≡ j
+-- every node is sound and has its square, every small square is sound, and there are no more Ids than numbers of 32 bits
+pub record IsSound (s : Nodes) : Type 0 where
+  pub entries : (i : ℕ) (n : Node) → slice_get s.nodes i ≡ Some n → IsNode s.log (squares s.nodes) i n
+  pub square : (i : ℕ) (n : Node) → slice_get s.nodes i ≡ Some n → slice_get (squares s.nodes) i ≡ Some (node_square (squares s.nodes) n)
+  pub small : (k : ℕ) → Contains s.log k → k < 66064 → IsSmall s.log (squares s.nodes) k
+  pub limit : s.limit ≤ 2 ^ 62
+  pub few : 66064 + length s.nodes ≤ 2 ^ 32
+
+-- No node is there twice or is that of a small square. Each node's Id and those of the joined small squares are in the log, once, and the
+-- store is within its limit.
+pub record IsShared (s : Nodes) : Type 0 where
+  pub once : (i j : ℕ) (n : Node) → slice_get s.nodes i ≡ Some n → slice_get s.nodes j ≡ Some n → i ≡ j
+  pub apart : (i : ℕ) (n : Node) → slice_get s.nodes i ≡ Some n → number_of n ≡ None
+  pub logged : (i : ℕ) → i < length s.nodes → Contains s.log (66064 + i)
+  pub known : (k : ℕ) → Contains s.log k → k < 66064 + length s.nodes
+  pub distinct : AllPairs ◌≢◌ s.log
+  pub len : length s.log ≤ s.limit
 
 -- the store is sound, and the Id names one of its squares
 pub record Knows (s : Nodes) (id : Id) : Type 0 where
   pub sound : IsSound s
   pub named : IsNamed (length s.nodes) id
+  pub joined : IsJoined s.log id
 
--- the squares that a store holds, oldest first
+-- the square of an Id of a store
+abbrev pub content : Nodes → Id → Tree
+content s id = square_of (squares s.nodes) id
+
+-- the squares that a store holds, in the order in which they were joined first
 abbrev pub held : Nodes → List Tree
-held s = squares s.nodes
+held s = map (λ k. content s (id_of k)) s.log
 
 -- one more node is within the limit and gets an Id of 32 bits
 pub record HasRoom (s : Nodes) : Type 0 where
-  pub limit : length s.nodes < s.limit
-  pub few : 512 + length s.nodes < 2 ^ 32
+  pub limit : length s.log < s.limit
+  pub few : 66064 + length s.nodes < 2 ^ 32
 
--- the node is there, or it was added last
-pub data Interned (old new : Nodes) (n : Node) : Type 0 where
-  was_there : Contains old.nodes n → new.nodes ≡ old.nodes → Interned old new n
-  is_new : ¬ Contains old.nodes n → HasRoom old → new.nodes ≡ old.nodes ++ n ∷ [] → Interned old new n
+-- the Id of a node, or of a small square by its quarters
+pub data IsIdOf (s : Nodes) (n : Node) (id : Id) : Type 0 where
+  as_small : number_of n ≡ Some id.0 → Contains s.log id.0 → IsIdOf s n id
+  as_node : (i : ℕ) → id.0 ≡ 66064 + i → slice_get s.nodes i ≡ Some n → IsIdOf s n id
 
--- the Id of a node
-abbrev pub IsIdOf : Nodes → Node → Id → Type 0
-IsIdOf s n id = (i : ℕ) × (id.0 ≡ 512 + i) × (slice_get s.nodes i ≡ Some n)
+-- each known Id keeps its square
+abbrev pub KeepsContents : Nodes → Nodes → Type 0
+KeepsContents old new = (id : Id) → Knows old id × IsShared old → (Knows new id × IsShared new) × (content new id ≡ content old id)
+
+-- the Id is that of the square, which was there, or which was added last
+pub data Joined (old new : Nodes) (t : Tree) (id : Id) : Type 0 where
+  was_there : new ≡ old → Contains (held old) t → Knows old id × IsShared old → content old id ≡ t → Joined old new t id
+  is_new : ¬ Contains (held old) t → KeepsContents old new → held new ≡ held old ++ t ∷ [] → Knows new id × IsShared new → content new id ≡ t → Joined old new t id
+
+-- what a shared store answers to the join of a square that isn't blank
+pub record Answers (old new : Nodes) (t : Tree) (r : Result Id Kind) : Type 0 where
+  pub joined : IfOk r (Joined old new t)
+  pub limit : new.limit ≡ old.limit
+  pub full : (r ≡ Err Full) ↔ (¬ Contains (held old) t × (length (held old) ≡ old.limit))
+  pub room : r ≡ Err Memory → length (held new) < new.limit
+  pub refusals : IfErr r (λ e. (e ≡ Full) ⊎ (e ≡ Memory))
+  pub needed : OnErr r (¬ Contains (held old) t)
+  pub unchanged : OnErr r (new ≡ old)
+
+-- the list says of each small square whether it was joined
+pub record HasSeen (seen : List Bool) (log : List ℕ) : Type 0 where
+  pub joined : (i : ℕ) → slice_index_or seen i false ≡ true → Contains log (512 + i)
+  pub listed : (i : ℕ) → Contains log (512 + i) → i < 65552 → slice_index_or seen i false ≡ true

@@ -1,5 +1,5 @@
 -- Facts about stores of nodes.
-use Rattle.std.proofs.Common.{◌≡◌, length-append, Contains, ◌⊎◌, inl, inr, true≢false, ℕ, suc, ◌+◌, ◌-◌, ◌≤◌, ◌<◌, Bool, true, false, nat_lt, List, [], ◌∷◌, ◌++◌, length, fold, Some, slice_get, get_or, refl, sym, ◌∙◌, ap, subst, arith}
+use Rattle.std.proofs.Common.{◌≡◌, length-append, Contains, ◌⊎◌, inl, inr, true≢false, ℕ, suc, ◌+◌, ◌-◌, ◌≤◌, ◌<◌, Bool, true, false, nat_lt, List, [], ◌∷◌, ◌++◌, length, fold, None, Some, slice_get, get_or, refl, sym, ◌∙◌, ap, subst, arith}
 use Rattle.std.proofs.lemmas.List.Sums.{fold-append}
 use Rattle.std.proofs.lemmas.List.{get_or_append_left}
 use Rattle.std.proofs.Math.Seq.{get_or-append_seam}
@@ -8,7 +8,8 @@ use Rattle.life_base.specs.declared.cell.TheConstants.{MAX_LEVEL}
 use Rattle.life_quad.specs.declared.id.Id.{Id}
 use Rattle.life_quad.specs.declared.id.Node.{Node}
 use Rattle.life_base.specs.Tree.{Tree, point, quad, depth, blank, is_blank_tree, IsFull}
-use Rattle.life_quad.specs.Store.{Nodes, id_of, square_of, node_square, squares, is_blank_id, IsNamed, IsNode, IsSound, IsShared, HasRoom, Knows}
+use Rattle.life_quad.specs.Store.{Nodes, id_of, square_of, small_square, number_of, node_square, squares, is_blank_id, IsNamed, IsEarlier, IsNode, IsSound, IsShared, IsIdOf, as_small, as_node, Knows}
+use Rattle.life_quad.specs.SmallLaws.{smalls, small_square-is, small_range}
 use Rattle.life_base.proofs.Squares.{depth-blank, full-blank, is_blank-blank, quad_nw, quad_ne, quad_sw, quad_se, point_state, point≢quad}
 
 abbrev push_square : List Tree → Node → List Tree
@@ -39,28 +40,35 @@ squares-nil = refl
 pub data Kinds (stored : List Tree) (id : Id) : Type 0 where
   a_state : id.0 < 256 → square_of stored id ≡ point id.0 → Kinds stored id
   a_blank : 256 ≤ id.0 → id.0 < 512 → square_of stored id ≡ blank (id.0 - 255) → Kinds stored id
-  a_node : 512 ≤ id.0 → square_of stored id ≡ get_or stored (id.0 - 512) (point 0) → Kinds stored id
+  a_small : 512 ≤ id.0 → id.0 < 66064 → square_of stored id ≡ small_square id.0 → Kinds stored id
+  a_node : 66064 ≤ id.0 → square_of stored id ≡ get_or stored (id.0 - 66064) (point 0) → Kinds stored id
 
 pub kind_of : (stored : List Tree) (id : Id) → Kinds stored id
 unfolding square_of
-kind_of stored id = by (nat_lt id.0 256) refl (nat_lt id.0 512) refl
+kind_of stored id = by (nat_lt id.0 256) refl (nat_lt id.0 512) refl (nat_lt id.0 66064) refl
   where
-    by : (b : Bool) → nat_lt id.0 256 ≡ b → (c : Bool) → nat_lt id.0 512 ≡ c → Kinds stored id
-    by true e c f = a_state (grind arith) (grind arith)
-    by false e true f = a_blank (grind arith) (grind arith) (grind arith)
-    by false e false f = a_node (grind arith) (grind arith)
+    by : (b : Bool) → nat_lt id.0 256 ≡ b → (c : Bool) → nat_lt id.0 512 ≡ c → (d : Bool) → nat_lt id.0 66064 ≡ d → Kinds stored id
+    by true e c f d g = a_state (grind arith) (grind arith)
+    by false e true f d g = a_blank (grind arith) (grind arith) (grind arith)
+    by false e false f true g = a_small (grind arith) (grind arith) (grind arith)
+    by false e false f false g = a_node (grind arith) (grind arith)
 
 -- an Id keeps its square when squares are added
-pub square_of-append : (stored more : List Tree) (id : Id) → id.0 < 512 + length stored → square_of (stored ++ more) id ≡ square_of stored id
+pub square_of-append : (stored more : List Tree) (id : Id) → id.0 < 66064 + length stored → square_of (stored ++ more) id ≡ square_of stored id
 unfolding square_of
 square_of-append stored more id h = by (kind_of stored id)
   where
     by : Kinds stored id → square_of (stored ++ more) id ≡ square_of stored id
     by (a_state l e) = grind arith
     by (a_blank l u e) = grind arith
+    by (a_small l u e) = grind arith
     by (a_node l e) =
-        let at : get_or (stored ++ more) (id.0 - 512) (point 0) ≡ get_or stored (id.0 - 512) (point 0) = get_or_append_left stored more (point 0) (id.0 - 512) (omega arith) in
+        let at : get_or (stored ++ more) (id.0 - 66064) (point 0) ≡ get_or stored (id.0 - 66064) (point 0) = get_or_append_left stored more (point 0) (id.0 - 66064) (omega arith) in
         grind arith
+
+-- the square of a small square's quarters
+pub small_node : (S : List Tree) (n : Node) (k : ℕ) → number_of n ≡ Some k → small_square k ≡ node_square S n
+small_node S n k h = small_square-is S n.nw n.ne n.sw n.se k (smalls n.nw n.ne n.sw n.se k h)
 
 -- a node keeps its square when squares are added
 pub node_square-append : (stored more : List Tree) (i : ℕ) (n : Node) → i ≤ length stored → IsNamed i (id_of n.nw) → IsNamed i (id_of n.ne) → IsNamed i (id_of n.sw) → IsNamed i (id_of n.se)
@@ -105,10 +113,14 @@ module _ {X : Type 0} (xs : List X) where
           let same : i ≡ length xs = omega (arith, lt, length-append xs (x ∷ [])) in
           inr (same, sym here ∙ ap (λ k. get_or (xs ++ x ∷ []) k y) same ∙ get_or-append_seam xs x [] y)
 
+-- what is before a node stays so when Ids are added
+IsEarlier-more : (log log' : List ℕ) (i : ℕ) (id : Id) → ((k : ℕ) → Contains log k → Contains log' k) → IsEarlier log i id → IsEarlier log' i id
+IsEarlier-more log log' i id more e = record { named = e.named; joined = λ l u. more id.0 (e.joined l u) }
+
 -- a node stays sound when squares are added
-pub IsNode-append : (stored more : List Tree) (i : ℕ) (n : Node) → i ≤ length stored → IsNode stored i n → IsNode (stored ++ more) i n
-IsNode-append stored more i n le e =
-    let same = node_square-append stored more i n le e.nw e.ne e.sw e.se in
+pub IsNode-append : (log : List ℕ) (stored more : List Tree) (i : ℕ) (n : Node) → i ≤ length stored → IsNode log stored i n → IsNode log (stored ++ more) i n
+IsNode-append log stored more i n le e =
+    let same = node_square-append stored more i n le e.nw.named e.ne.named e.sw.named e.se.named in
     record {
       nw = e.nw;
       ne = e.ne;
@@ -120,11 +132,24 @@ IsNode-append stored more i n le e =
       not_blank = ap is_blank_tree same ∙ e.not_blank;
     }
 
--- the square of a known Id, which is a state, a blank square or the square of a node
+-- and when Ids are added
+pub IsNode-more : (log log' : List ℕ) (stored : List Tree) (i : ℕ) (n : Node) → ((k : ℕ) → Contains log k → Contains log' k) → IsNode log stored i n → IsNode log' stored i n
+IsNode-more log log' stored i n more e = record {
+  nw = IsEarlier-more log log' i (id_of n.nw) more e.nw;
+  ne = IsEarlier-more log log' i (id_of n.ne) more e.ne;
+  sw = IsEarlier-more log log' i (id_of n.sw) more e.sw;
+  se = IsEarlier-more log log' i (id_of n.se) more e.se;
+  full = e.full;
+  level = e.level;
+  low = e.low;
+  not_blank = e.not_blank;
+}
+
+-- the square of a known Id, which is a state, a blank square, or the square of a node or of the quarters of a small square
 pub data Names (s : Nodes) (id : Id) : Type 0 where
   the_state : id.0 < 256 → square_of (squares s.nodes) id ≡ point id.0 → Names s id
   the_blank : (k : ℕ) → k < MAX_LEVEL → id.0 ≡ 256 + k → square_of (squares s.nodes) id ≡ blank (suc k) → Names s id
-  the_node : (i : ℕ) (n : Node) → id.0 ≡ 512 + i → slice_get s.nodes i ≡ Some n → IsNode (squares s.nodes) i n
+  the_node : (i : ℕ) (n : Node) → 512 ≤ id.0 → i ≤ length s.nodes → IsIdOf s n id → IsNode s.log (squares s.nodes) i n
       → square_of (squares s.nodes) id ≡ node_square (squares s.nodes) n → Names s id
 
 pub names : (s : Nodes) (id : Id) → Knows s id → Names s id
@@ -136,23 +161,45 @@ names s id h = by (kind_of (squares s.nodes) id)
         let low = h.named.blank u in
         let k : id.0 - 255 ≡ suc (id.0 - 256) = omega arith in
         the_blank (id.0 - 256) (omega arith) (omega arith) (e ∙ ap blank k)
+    by (a_small l u e) =
+        let there = h.joined l u in
+        let small = h.sound.small id.0 there u in
+        the_node 0 small.quarters l (omega arith) (as_small small.number there) small.is (e ∙ small_node (squares s.nodes) small.quarters id.0 small.number)
     by (a_node l e) =
-        let i = id.0 - 512 in
+        let i = id.0 - 66064 in
         let lt : i < length s.nodes = omega (arith, h.named.below) in
         let n : Node = get_or s.nodes i (record { level = 0; nw = 0; ne = 0; sw = 0; se = 0 }) in
         let at : slice_get s.nodes i ≡ Some n = slice_get-get_or s.nodes i _ lt in
-        the_node i n (omega arith) at (h.sound.entries i n at) (e ∙ get_or_from_slice_get (squares s.nodes) i _ (point 0) (h.sound.square i n at))
+        the_node i n (omega arith) (omega arith) (as_node i (omega arith) at) (h.sound.entries i n at) (e ∙ get_or_from_slice_get (squares s.nodes) i _ (point 0) (h.sound.square i n at))
 
 -- the square of a node's Id
-pub square_of-node : (s : Nodes) (i : ℕ) (n : Node) (id : Id) → IsSound s → slice_get s.nodes i ≡ Some n → id.0 ≡ 512 + i → square_of (squares s.nodes) id ≡ node_square (squares s.nodes) n
+pub square_of-node : (s : Nodes) (i : ℕ) (n : Node) (id : Id) → IsSound s → slice_get s.nodes i ≡ Some n → id.0 ≡ 66064 + i → square_of (squares s.nodes) id ≡ node_square (squares s.nodes) n
 square_of-node s i n id h at e = by (kind_of (squares s.nodes) id)
   where
     by : Kinds (squares s.nodes) id → square_of (squares s.nodes) id ≡ node_square (squares s.nodes) n
     by (a_state l f) = absurd (omega arith)
     by (a_blank l u f) = absurd (omega arith)
+    by (a_small l u f) = absurd (omega arith)
     by (a_node l f) =
-        let same : id.0 - 512 ≡ i = omega arith in
+        let same : id.0 - 66064 ≡ i = omega arith in
         f ∙ ap (λ k. get_or (squares s.nodes) k (point 0)) same ∙ get_or_from_slice_get (squares s.nodes) i _ (point 0) (h.square i n at)
+
+-- the square of a small square's Id
+pub square_of-small : (S : List Tree) (id : Id) → 512 ≤ id.0 → id.0 < 66064 → square_of S id ≡ small_square id.0
+square_of-small S id l u = by (kind_of S id)
+  where
+    by : Kinds S id → square_of S id ≡ small_square id.0
+    by (a_state m f) = absurd (omega arith)
+    by (a_blank m v f) = absurd (omega arith)
+    by (a_small m v f) = f
+    by (a_node m f) = absurd (omega arith)
+
+-- the square of a node's or a small square's Id
+pub square_of-id : (s : Nodes) (n : Node) (id : Id) → IsSound s → IsIdOf s n id → square_of (squares s.nodes) id ≡ node_square (squares s.nodes) n
+square_of-id s n id h (as_node i e at) = square_of-node s i n id h at e
+square_of-id s n id h (as_small e there) =
+    let r = small_range n.nw n.ne n.sw n.se id.0 e in
+    square_of-small (squares s.nodes) id r.0 r.1 ∙ small_node (squares s.nodes) n id.0 e
 
 -- a known Id names a full square
 pub full_content : (s : Nodes) (id : Id) → Knows s id → IsFull (square_of (squares s.nodes) id)
@@ -161,7 +208,7 @@ full_content s id h = by (names s id h)
     by : Names s id → IsFull (square_of (squares s.nodes) id)
     by (the_state l e) = subst IsFull (sym e) l
     by (the_blank k l i e) = subst IsFull (sym e) (full-blank (suc k))
-    by (the_node i n j at node e) = subst IsFull (sym e) node.full
+    by (the_node i n l le at node e) = subst IsFull (sym e) node.full
 
 -- of the greatest level at most
 pub low_content : (s : Nodes) (id : Id) → Knows s id → depth (square_of (squares s.nodes) id) ≤ MAX_LEVEL
@@ -170,7 +217,7 @@ low_content s id h = by (names s id h)
     by : Names s id → depth (square_of (squares s.nodes) id) ≤ MAX_LEVEL
     by (the_state l e) = let f = ap depth e in omega arith
     by (the_blank k l i e) = let f : depth (square_of (squares s.nodes) id) ≡ suc k = ap depth e ∙ depth-blank (suc k) in omega arith
-    by (the_node i n j at node e) = let f : depth (square_of (squares s.nodes) id) ≡ n.level = ap depth e ∙ node.level in omega (arith, node.low)
+    by (the_node i n l le at node e) = let f : depth (square_of (squares s.nodes) id) ≡ n.level = ap depth e ∙ node.level in omega (arith, node.low)
 
 -- a known Id is that of a blank square exactly if its square is blank
 pub is_blank-content : (s : Nodes) (id : Id) → Knows s id → is_blank_tree (square_of (squares s.nodes) id) ≡ is_blank_id id
@@ -179,7 +226,7 @@ is_blank-content s id h = by (names s id h)
     by : Names s id → is_blank_tree (square_of (squares s.nodes) id) ≡ is_blank_id id
     by (the_state l e) = ap is_blank_tree e ∙ grind arith
     by (the_blank k l i e) = ap is_blank_tree e ∙ is_blank-blank (suc k) ∙ grind arith
-    by (the_node i n j at node e) = ap is_blank_tree e ∙ node.not_blank ∙ grind arith
+    by (the_node i n l le at node e) = ap is_blank_tree e ∙ node.not_blank ∙ grind arith
 
 -- Ids with one number are equal
 pub same_ids : {a b : Id} → a.0 ≡ b.0 → a ≡ b
@@ -192,15 +239,20 @@ blank≢false t a b = true≢false (sym a ∙ b)
 abbrev IsAlone : Nodes → Tree → Type 0
 IsAlone s t = (a b : Id) → Knows s a → Knows s b → square_of (squares s.nodes) a ≡ t → square_of (squares s.nodes) b ≡ t → a ≡ b
 
+-- a node has one Id
+pub one_id : (s : Nodes) → IsShared s → (n : Node) (a b : Id) → IsIdOf s n a → IsIdOf s n b → a ≡ b
+one_id s shared n a b (as_small e x) (as_small f y) = let same : Some a.0 ≡ Some b.0 = sym e ∙ f in same_ids (cc)
+one_id s shared n a b (as_small e x) (as_node i f at) = absurd (let none : Some a.0 ≡ None = sym e ∙ shared.apart i n at in cc)
+one_id s shared n a b (as_node i e at) (as_small f y) = absurd (let none : Some b.0 ≡ None = sym f ∙ shared.apart i n at in cc)
+one_id s shared n a b (as_node i e at) (as_node j f to) = let same = shared.once i j n at to in same_ids (omega arith)
+
 same_quads : (s : Nodes) → IsShared s → (p q r u : Tree) (a b : Id) → Knows s a → Knows s b
     → square_of (squares s.nodes) a ≡ quad p q r u → square_of (squares s.nodes) b ≡ quad p q r u
     → IsAlone s p → IsAlone s q → IsAlone s r → IsAlone s u → a ≡ b
 same_quads s shared p q r u a b ha hb ea eb on_nw on_ne on_sw on_se = by (names s a ha) (names s b hb)
   where
-    child : (i : ℕ) (n : Node) (id : Id) → slice_get s.nodes i ≡ Some n → IsNamed i id → Knows s id
-    child i n id at h =
-        let lt = slice_get_within s.nodes i n at in
-        record { sound = ha.sound; named = record { below = omega (arith, h.below, lt); blank = h.blank } }
+    child : (i : ℕ) (id : Id) → i ≤ length s.nodes → IsEarlier s.log i id → Knows s id
+    child i id le h = record { sound = ha.sound; named = record { below = omega (arith, h.named.below); blank = h.named.blank }; joined = h.joined }
 
     by : Names s a → Names s b → a ≡ b
     by (the_state l e) other = absurd (point≢quad (sym e ∙ ea))
@@ -208,22 +260,21 @@ same_quads s shared p q r u a b ha hb ea eb on_nw on_ne on_sw on_se = by (names 
     by (the_blank k l i e) (the_blank k' l' i' f) =
         let d : suc k ≡ suc k' = sym (depth-blank (suc k)) ∙ ap depth (sym e ∙ ea ∙ sym eb ∙ f) ∙ depth-blank (suc k') in
         same_ids (omega arith)
-    by (the_blank k l i e) (the_node i' n' j' at' node' f) =
+    by (the_blank k l i e) (the_node i' n' l' le' at' node' f) =
         absurd (blank≢false (node_square (squares s.nodes) n') (ap is_blank_tree (sym f ∙ eb ∙ sym ea ∙ e) ∙ is_blank-blank (suc k)) node'.not_blank)
-    by (the_node i n j at node e) (the_state m f) = absurd (point≢quad (sym f ∙ eb))
-    by (the_node i n j at node e) (the_blank k' l' i' f) =
+    by (the_node i n l le at node e) (the_state m f) = absurd (point≢quad (sym f ∙ eb))
+    by (the_node i n l le at node e) (the_blank k' l' i' f) =
         absurd (blank≢false (node_square (squares s.nodes) n) (ap is_blank_tree (sym e ∙ ea ∙ sym eb ∙ f) ∙ is_blank-blank (suc k')) node.not_blank)
-    by (the_node i n j at node e) (the_node i' n' j' at' node' f) =
+    by (the_node i n l le at node e) (the_node i' n' l' le' at' node' f) =
         let left = sym e ∙ ea in
         let right = sym f ∙ eb in
-        let nw = on_nw (id_of n.nw) (id_of n'.nw) (child i n (id_of n.nw) at node.nw) (child i' n' (id_of n'.nw) at' node'.nw) (quad_nw left) (quad_nw right) in
-        let ne = on_ne (id_of n.ne) (id_of n'.ne) (child i n (id_of n.ne) at node.ne) (child i' n' (id_of n'.ne) at' node'.ne) (quad_ne left) (quad_ne right) in
-        let sw = on_sw (id_of n.sw) (id_of n'.sw) (child i n (id_of n.sw) at node.sw) (child i' n' (id_of n'.sw) at' node'.sw) (quad_sw left) (quad_sw right) in
-        let se = on_se (id_of n.se) (id_of n'.se) (child i n (id_of n.se) at node.se) (child i' n' (id_of n'.se) at' node'.se) (quad_se left) (quad_se right) in
+        let nw = on_nw (id_of n.nw) (id_of n'.nw) (child i (id_of n.nw) le node.nw) (child i' (id_of n'.nw) le' node'.nw) (quad_nw left) (quad_nw right) in
+        let ne = on_ne (id_of n.ne) (id_of n'.ne) (child i (id_of n.ne) le node.ne) (child i' (id_of n'.ne) le' node'.ne) (quad_ne left) (quad_ne right) in
+        let sw = on_sw (id_of n.sw) (id_of n'.sw) (child i (id_of n.sw) le node.sw) (child i' (id_of n'.sw) le' node'.sw) (quad_sw left) (quad_sw right) in
+        let se = on_se (id_of n.se) (id_of n'.se) (child i (id_of n.se) le node.se) (child i' (id_of n'.se) le' node'.se) (quad_se left) (quad_se right) in
         let level = sym node.level ∙ ap depth (left ∙ sym right) ∙ node'.level in
         let same : n ≡ n' = λ x. record { level = level x; nw = (nw x).0; ne = (ne x).0; sw = (sw x).0; se = (se x).0 } in
-        let index : i ≡ i' = shared i i' n' (at ∙ ap Some same) at' in
-        same_ids (omega arith)
+        one_id s shared n' a b (subst (λ m. IsIdOf s m a) same at) at'
 
 -- two known Ids of one square are equal
 pub same_id_at : (s : Nodes) → IsShared s → (t : Tree) (a b : Id) → Knows s a → Knows s b
@@ -233,7 +284,7 @@ same_id_at s shared (point v) a b ha hb ea eb = same_ids (only a (names s a ha) 
     only : (id : Id) → Names s id → square_of (squares s.nodes) id ≡ point v → id.0 ≡ v
     only id (the_state l e) f = point_state (sym e ∙ f)
     only id (the_blank k l i e) f = absurd (point≢quad (sym f ∙ e))
-    only id (the_node i n j at node e) f = absurd (point≢quad (sym f ∙ e))
+    only id (the_node i n l le at node e) f = absurd (point≢quad (sym f ∙ e))
 same_id_at s shared (quad p q r u) a b ha hb ea eb =
     same_quads s shared p q r u a b ha hb ea eb
     (λ x y hx hy ex ey. same_id_at s shared p x y hx hy ex ey) (λ x y hx hy ex ey. same_id_at s shared q x y hx hy ex ey)
@@ -241,65 +292,3 @@ same_id_at s shared (quad p q r u) a b ha hb ea eb =
 
 pub same_id : (s : Nodes) → IsShared s → (a b : Id) → Knows s a → Knows s b → square_of (squares s.nodes) a ≡ square_of (squares s.nodes) b → a ≡ b
 same_id s shared a b ha hb e = same_id_at s shared (square_of (squares s.nodes) b) a b ha hb e refl
-
-abbrev with_node : Nodes → Node → Nodes
-with_node s n = record { nodes = s.nodes ++ n ∷ []; limit = s.limit }
-
--- a store stays sound when a node is added
-pub IsSound-push : (s : Nodes) (n : Node) → IsSound s → IsNode (squares s.nodes) (length s.nodes) n → HasRoom s → IsSound (with_node s n)
-IsSound-push s n h new room =
-    record {
-      entries = all_nodes;
-      square = all_squares;
-      len = omega (arith, length-append s.nodes (n ∷ []), room.limit);
-      limit = h.limit;
-      few = omega (arith, length-append s.nodes (n ∷ []), room.few);
-    }
-  where
-    S : List Tree
-    S = squares s.nodes
-
-    more : squares (s.nodes ++ n ∷ []) ≡ S ++ node_square S n ∷ []
-    more = squares-push s.nodes n
-
-    len : length S ≡ length s.nodes
-    len = length-squares s.nodes
-
-    all_nodes : (i : ℕ) (m : Node) → slice_get (s.nodes ++ n ∷ []) i ≡ Some m → IsNode (squares (s.nodes ++ n ∷ [])) i m
-    all_nodes i m at = by (slice_get-push_cases s.nodes n m i at)
-      where
-        by : (slice_get s.nodes i ≡ Some m) ⊎ ((i ≡ length s.nodes) × (m ≡ n)) → IsNode (squares (s.nodes ++ n ∷ [])) i m
-        by (inl old) =
-            let lt = slice_get_within s.nodes i m old in
-            subst (λ z. IsNode z i m) (sym more) (IsNode-append S _ i m (omega (arith, lt, len)) (h.entries i m old))
-        by (inr last) =
-            let added : IsNode (S ++ node_square S n ∷ []) (length s.nodes) n = IsNode-append S _ (length s.nodes) n (omega (arith, len)) new in
-            subst (λ z. IsNode z i m) (sym more) (subst (λ k. IsNode (S ++ node_square S n ∷ []) k m) (sym last.0) (subst (IsNode (S ++ node_square S n ∷ []) (length s.nodes)) (sym last.1) added))
-
-    all_squares : (i : ℕ) (m : Node) → slice_get (s.nodes ++ n ∷ []) i ≡ Some m → slice_get (squares (s.nodes ++ n ∷ [])) i ≡ Some (node_square (squares (s.nodes ++ n ∷ [])) m)
-    all_squares i m at = by (slice_get-push_cases s.nodes n m i at)
-      where
-        by : (slice_get s.nodes i ≡ Some m) ⊎ ((i ≡ length s.nodes) × (m ≡ n)) → slice_get (squares (s.nodes ++ n ∷ [])) i ≡ Some (node_square (squares (s.nodes ++ n ∷ [])) m)
-        by (inl old) =
-            let lt = slice_get_within s.nodes i m old in
-            let e = h.entries i m old in
-            let same = node_square-append S (node_square S n ∷ []) i m (omega (arith, lt, len)) e.nw e.ne e.sw e.se in
-            ap (λ z. slice_get z i) more ∙ slice_get-append S _ i _ (h.square i m old) ∙ ap Some (sym same ∙ ap (λ z. node_square z m) (sym more))
-        by (inr last) =
-            let same = node_square-append S (node_square S n ∷ []) (length s.nodes) n (omega (arith, len)) new.nw new.ne new.sw new.se in
-            let place : i ≡ length S = last.0 ∙ sym len in
-            ap (λ z. slice_get z i) more ∙ ap (slice_get (S ++ node_square S n ∷ [])) place ∙ slice_get-last S (node_square S n)
-            ∙ ap Some (sym same ∙ ap (node_square (S ++ node_square S n ∷ [])) (sym last.1) ∙ ap (λ z. node_square z m) (sym more))
-
--- and no node is there twice
-pub IsShared-push : (s : Nodes) (n : Node) → IsShared s → ¬ Contains s.nodes n → IsShared (with_node s n)
-IsShared-push s n shared absent i j m ai aj = by (slice_get-push_cases s.nodes n m i ai) (slice_get-push_cases s.nodes n m j aj)
-  where
-    among : (k : ℕ) → slice_get s.nodes k ≡ Some m → Contains s.nodes m
-    among k e = (k, slice_get_within s.nodes k m e, get_or_from_slice_get s.nodes k m m e)
-
-    by : (slice_get s.nodes i ≡ Some m) ⊎ ((i ≡ length s.nodes) × (m ≡ n)) → (slice_get s.nodes j ≡ Some m) ⊎ ((j ≡ length s.nodes) × (m ≡ n)) → i ≡ j
-    by (inl a) (inl b) = shared i j m a b
-    by (inl a) (inr b) = absurd (absent (subst (Contains s.nodes) b.1 (among i a)))
-    by (inr a) (inl b) = absurd (absent (subst (Contains s.nodes) a.1 (among j b)))
-    by (inr a) (inr b) = a.0 ∙ sym b.0

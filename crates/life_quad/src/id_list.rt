@@ -8,7 +8,8 @@ use std::alloc::Global;
 use std::marker::Model;
 
 /// Ids in the order in which they came, each once. The place of an Id is found by its number, in constant time: the list takes eight
-/// bytes for each Id and four for each number up to the greatest, and has room for 2^32 - 1 Ids.
+/// bytes for each Id and four for each number up to the greatest (of which the first 66,064 are those of cells, blank and small
+/// squares), and has room for 2^32 - 1 Ids.
 #[derive(Drop)]
 pub struct IdList {
     ids: Vec<Id>,

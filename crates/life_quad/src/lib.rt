@@ -4,6 +4,8 @@
 mod extent;
 mod id;
 mod id_list;
+mod id_map;
+mod join_log;
 pub mod laws;
 mod listing;
 mod moves;

@@ -3,7 +3,7 @@ ghost use Rattle.std.specs.Prelude.{◌≡◌, ℕ, ◌<◌, ◌≤◌, ◌^◌,
 ghost use Rattle.life_base.specs.declared.kind.Kind.TheVariants.{Full, Memory};
 ghost use Rattle.life_base.specs.Tree.{is_blank_tree};
 ghost use Rattle.life_quad.specs.StoreLaws.{full_content, low_content};
-ghost use Rattle.life_quad.specs.Store.{squares, square_of, held, Knows, IsNode, IsSound, IsIdOf};
+ghost use Rattle.life_quad.specs.Store.{squares, content, Knows, IsNode, IsSound};
 
 use crate::id::{FIRST_NODE, Node, are_blank, no_room};
 use crate::{Id, Squares};
@@ -19,20 +19,23 @@ pub struct Plain {
 }
 
 impl Model for Plain {
+    ghost use Rattle.std.specs.Prelude.{[], ◌≤◌, length};
     ghost use Rattle.life_quad.specs.Store.{Nodes, IsSound};
 
     ghost Value = { Nodes };
 
-    ghost view = { λ s. record { nodes = s.nodes.items; limit = s.limit } };
+    ghost view = { λ s. record { nodes = s.nodes.items; log = []; limit = s.limit } };
 
-    ghost invariant = { λ s. IsSound (record { nodes = s.nodes.items; limit = s.limit }) };
+    ghost invariant = { λ s. IsSound (record { nodes = s.nodes.items; log = []; limit = s.limit }) × (length s.nodes.items ≤ s.limit) };
 }
 
 impl Plain {
-    /// An empty store for at most `limit` nodes. At 2^32 - 512 nodes `join` answers `Memory` for a new one where the limit is higher.
+    ghost use Rattle.life_quad.specs.declared.id.TheConstants.{FIRST_NODE};
+
+    /// An empty store for at most `limit` nodes. At 2^32 - 66,064 nodes `join` answers `Memory` for a new one where the limit is higher.
     pub fn new(alloc: Global, limit: u64) -> Plain
         requires { limit ≤ 2 ^ 62 }
-        ensures stored { held result ≡ [] }
+        ensures stored { squares result.nodes ≡ [] }
         ensures most { result.limit ≡ limit }
     {
         Plain {
@@ -43,18 +46,18 @@ impl Plain {
 
     // The Id of a new node.
     fn add(&mut self, node: Node) -> Result<Id, Kind>
-        requires { IsNode (squares self.old.nodes) (length self.old.nodes) node }
-        ensures stored { OnOk result (self.new.nodes ≡ self.old.nodes ++ node ∷ []) }
-        ensures id { IfOk result (λ id. IsIdOf self.new node id) }
-        ensures last { IfOk result (λ id. id.0 ≡ 512 + length self.old.nodes) }
+        requires { IsNode self.old.log (squares self.old.nodes) (length self.old.nodes) node }
+        ensures stored { OnOk result (self.new ≡ record { nodes = self.old.nodes ++ node ∷ []; log = self.old.log; limit = self.old.limit }) }
+        ensures id { IfOk result (λ id. id.0 ≡ FIRST_NODE + length self.old.nodes) }
         ensures sound { IsSound self.new }
+        ensures within { length self.old.nodes ≤ self.old.limit }
         ensures limit { self.new.limit ≡ self.old.limit }
         ensures full { (result ≡ Err Full) ↔ (length self.old.nodes ≡ self.old.limit) }
         ensures refusals { IfErr result (λ e. (e ≡ Full) ⊎ (e ≡ Memory)) }
         ensures unchanged { OnErr result (self.new ≡ self.old) }
     {
         let index = self.nodes.len() as u64;
-        if let Some(kind) = no_room(index, self.limit) {
+        if let Some(kind) = no_room(index, index, self.limit) {
             return Err(kind);
         }
         self.nodes.push(node)?;
@@ -65,9 +68,9 @@ impl Plain {
 impl Squares for Plain {
     ghost knows = { Knows };
 
-    ghost content = { λ s id. square_of (squares s.nodes) id };
+    ghost content = { content };
 
-    ghost stored = { held };
+    ghost stored = { λ s. squares s.nodes };
 
     ghost most = { λ s. s.limit };
 

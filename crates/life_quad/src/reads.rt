@@ -1,22 +1,21 @@
 //! What a square has: the number of its nonzero cells, and their least box.
 ghost use Rattle.std.specs.Prelude.{◌≡◌, ℕ, ◌+◌, ◌^◌, ◌+ℤ◌, pos, Some, ◌↔◌, ◌⊎◌, ◌<◌, ◌≤◌, true, length, Err, OnErr, IfOk, IfErr, IfSome, MatchOption};
 ghost use Rattle.life_base.specs.declared.kind.Kind.TheVariants.{Memory, TooManyCells};
-ghost use Rattle.std.specs.HashMap.{get};
 ghost use Rattle.life_quad.specs.declared.id.Id.{Id as IdValue};
 ghost use Rattle.life_quad.specs.declared.extent.Extent.{Extent as ExtentValue};
 ghost use Rattle.life_base.specs.Tree.{depth, is_blank_tree};
 ghost use Rattle.life_quad.specs.Cells.{population as population_of};
 ghost use Rattle.life_quad.specs.Cells.{IsCellList, IsLeastBox};
 ghost use Rattle.life_quad.specs.Boxes.{IsNonzeroAt, IsExtentOf};
-ghost use Rattle.life_quad.specs.Store.{id_eq};
+ghost use Rattle.life_quad.specs.IdMap.{HasValue};
 
 use crate::extent::{Extent, join_quarters};
+use crate::id_map::IdMap;
 use crate::moves::{Quarters, divide, is_blank};
 use crate::runs::half_side;
 use crate::{Bounds, Id, SharedSquares, Squares};
 use life_base::Kind;
 use std::alloc::Global;
-use std::collections::HashMap;
 
 /// How many cells have a state other than 0. Each shared square is visited once.
 pub fn population<S: SharedSquares>(alloc: Global, squares: &S, id: Id) -> Result<u128, Kind>
@@ -25,16 +24,16 @@ pub fn population<S: SharedSquares>(alloc: Global, squares: &S, id: Id) -> Resul
     ensures number { IfOk result (λ n. n ≡ population_of (S.content squares.now id)) }
     ensures refusals { IfErr result (λ e. e ≡ Memory) }
 {
-    let mut known = HashMap::new(alloc);
+    let mut known = IdMap::new(alloc);
     count(squares, id, &mut known)
 }
 
 // The number of cells with a state, where `known` has the numbers of squares that were visited.
-fn count<S: Squares>(squares: &S, id: Id, known: &mut HashMap<Id, u128>) -> Result<u128, Kind>
+fn count<S: Squares>(squares: &S, id: Id, known: &mut IdMap<u128>) -> Result<u128, Kind>
     requires known { S.knows squares.now id }
-    requires right { (q : IdValue) (n : ℕ) → get id_eq known.old q ≡ Some n → n ≡ population_of (S.content squares.now q) }
+    requires right { (q : IdValue) (n : ℕ) → HasValue known.old.ids known.old.values.items q n → n ≡ population_of (S.content squares.now q) }
     ensures number { IfOk result (λ n. n ≡ population_of (S.content squares.now id)) }
-    ensures right { (q : IdValue) (n : ℕ) → get id_eq known.new q ≡ Some n → n ≡ population_of (S.content squares.now q) }
+    ensures right { (q : IdValue) (n : ℕ) → HasValue known.new.ids known.new.values.items q n → n ≡ population_of (S.content squares.now q) }
     ensures refusals { IfErr result (λ e. e ≡ Memory) }
 {
     if let Some(state) = squares.state(id) {
@@ -43,8 +42,8 @@ fn count<S: Squares>(squares: &S, id: Id, known: &mut HashMap<Id, u128>) -> Resu
     if is_blank(squares, id) {
         return Ok(0);
     }
-    if let Some(number) = known.get(&id) {
-        return Ok(*number);
+    if let Some(number) = known.get(id) {
+        return Ok(number);
     }
     let Quarters { nw, ne, sw, se } = divide(squares, id);
     let a = count(squares, nw, known)?;
@@ -63,7 +62,7 @@ pub fn bounds<S: SharedSquares>(alloc: Global, squares: &S, id: Id) -> Result<Op
     ensures least { IfOk result (λ o. MatchOption o (is_blank_tree (S.content squares.now id) ≡ true) (λ b. IsLeastBox (S.content squares.now id) b)) }
     ensures refusals { IfErr result (λ e. e ≡ Memory) }
 {
-    let mut known = HashMap::new(alloc);
+    let mut known = IdMap::new(alloc);
     let Some(extent) = least_extent(squares, id, &mut known)? else {
         return Ok(None);
     };
@@ -89,12 +88,12 @@ fn coordinate(distance: u64, half: u64) -> i64
 fn least_extent<S: Squares>(
     squares: &S,
     id: Id,
-    known: &mut HashMap<Id, Extent>,
+    known: &mut IdMap<Extent>,
 ) -> Result<Option<Extent>, Kind>
     requires known { S.knows squares.now id }
-    requires right { (q : IdValue) (e : ExtentValue) → get id_eq known.old q ≡ Some e → IsExtentOf (IsNonzeroAt (S.content squares.now q)) (Some e) }
+    requires right { (q : IdValue) (e : ExtentValue) → HasValue known.old.ids known.old.values.items q e → IsExtentOf (IsNonzeroAt (S.content squares.now q)) (Some e) }
     ensures least { IfOk result (λ o. IsExtentOf (IsNonzeroAt (S.content squares.now id)) o) }
-    ensures right { (q : IdValue) (e : ExtentValue) → get id_eq known.new q ≡ Some e → IsExtentOf (IsNonzeroAt (S.content squares.now q)) (Some e) }
+    ensures right { (q : IdValue) (e : ExtentValue) → HasValue known.new.ids known.new.values.items q e → IsExtentOf (IsNonzeroAt (S.content squares.now q)) (Some e) }
     ensures refusals { IfErr result (λ e. e ≡ Memory) }
 {
     if is_blank(squares, id) {
@@ -104,8 +103,8 @@ fn least_extent<S: Squares>(
     if level == 0 {
         return Ok(Some(Extent::CELL));
     }
-    if let Some(extent) = known.get(&id) {
-        return Ok(Some(*extent));
+    if let Some(extent) = known.get(id) {
+        return Ok(Some(extent));
     }
     let half = half_side(level);
     let Quarters { nw, ne, sw, se } = divide(squares, id);

@@ -1,38 +1,87 @@
 //! A store that keeps each square once.
-ghost use Rattle.std.specs.Prelude.{◌≡◌, ◌≢◌, AllPairs, ℕ, ◌<◌, ◌≤◌, ◌^◌, [], length, Contains, false, ◌↔◌, ◌⊎◌, Err, OnOk, OnErr, IfOk, IfErr};
-ghost use Rattle.life_base.specs.declared.kind.Kind.TheVariants.{Full, Memory};
+ghost use Rattle.std.specs.Prelude.{◌≡◌, ◌≢◌, AllPairs, ℕ, ◌<◌, ◌≤◌, ◌^◌, [], ◌==◌, if◌then◌else◌, length, slice_index_or, vec_len, Contains, true, false, None, OnOk, OnErr, IfErr};
+ghost use Rattle.life_base.specs.declared.kind.Kind.TheVariants.{Memory};
 ghost use Rattle.life_quad.specs.declared.id.Id.{Id as IdValue};
 ghost use Rattle.life_base.specs.Tree.{Tree, depth, is_blank_tree};
 
-use crate::id::{FIRST_NODE, Node, are_blank, no_room};
+use crate::id::{FIRST_NODE, FIRST_SMALL, Node, are_blank, no_room, small_number};
+use crate::join_log::JoinLog;
 use crate::{Id, SharedSquares, Squares};
 use indexmap::IndexSet;
 use life_base::{Kind, State};
 use std::alloc::Global;
 use std::marker::Model;
 
-/// Squares by their nodes, each nonblank square once.
+// How many Ids there are for small squares.
+const SMALL: usize = 65_552;
+
+/// Squares, each nonblank square once: small ones by a mark, the others by their nodes.
 #[derive(Drop)]
 pub struct Shared {
     nodes: IndexSet<Node>,
+    // By the number of a small square's Id, less the first: whether it was joined. Made at the first join of one.
+    seen: Vec<bool>,
+    // How many of these were joined.
+    small: u64,
+    // The Ids in the order of their first join.
+    log: JoinLog,
     limit: u64,
 }
 
 impl Model for Shared {
-    ghost use Rattle.life_quad.specs.Store.{Nodes, IsSound, IsShared};
+    ghost use Rattle.std.specs.Prelude.{◌≡◌, ◌+◌, length};
+    ghost use Rattle.life_quad.specs.Store.{Nodes, IsSound, IsShared, HasSeen};
 
     ghost Value = { Nodes };
 
-    ghost view = { λ s. record { nodes = s.nodes.keys; limit = s.limit } };
+    ghost view = { λ s. record { nodes = s.nodes.keys; log = s.log.ids; limit = s.limit } };
 
-    ghost invariant = { λ s. IsSound (record { nodes = s.nodes.keys; limit = s.limit }) × IsShared (record { nodes = s.nodes.keys; limit = s.limit }) };
+    ghost invariant = { λ s. IsSound (record { nodes = s.nodes.keys; log = s.log.ids; limit = s.limit }) × IsShared (record { nodes = s.nodes.keys; log = s.log.ids; limit = s.limit }) × HasSeen s.seen.items s.log.ids × (length s.log.ids ≡ length s.nodes.keys + s.small) };
 }
 
 ghost use Rattle.life_quad.specs.StoreLaws.{full_content, low_content, same_id};
-ghost use Rattle.life_quad.specs.Store.{squares, square_of, held, Knows, IsShared, IsNode, IsSound, Interned, IsIdOf};
+ghost use Rattle.life_quad.specs.Store.{squares, content, held, node_square, number_of, small_square, Knows, IsShared, IsNode, IsSmall, Answers};
+
+// Whether there is a mark at an index.
+fn is_seen(seen: &Vec<bool>, index: usize) -> bool
+    ensures { result ≡ slice_index_or seen.now.items index false }
+{
+    match seen.get(index) {
+        Some(mark) => *mark,
+        None => false,
+    }
+}
+
+// Gives an index of a small square a place among the marks, without a mark.
+fn make_marks(seen: &mut Vec<bool>, index: usize) -> Result<(), Kind>
+    requires { index < 65552 }
+    ensures room { OnOk result (index < vec_len seen.new) }
+    ensures same { (i : ℕ) → slice_index_or seen.new.items i false ≡ slice_index_or seen.old.items i false }
+    ensures kind { IfErr result (λ kind. kind ≡ Memory) }
+{
+    if seen.len() <= index {
+        seen.resize(SMALL, false)?;
+    }
+    Ok(())
+}
+
+// Sets the mark at an index of a small square.
+fn see(seen: &mut Vec<bool>, index: usize) -> Result<(), Kind>
+    requires { index < 65552 }
+    ensures marks { OnOk result ((i : ℕ) → slice_index_or seen.new.items i false ≡ (if i == index then true else slice_index_or seen.old.items i false)) }
+    ensures same { OnErr result ((i : ℕ) → slice_index_or seen.new.items i false ≡ slice_index_or seen.old.items i false) }
+    ensures kind { IfErr result (λ kind. kind ≡ Memory) }
+{
+    make_marks(seen, index)?;
+    seen[index] = true;
+    Ok(())
+}
 
 impl Shared {
-    /// An empty store for at most `limit` nodes. At 2^32 - 512 nodes `join` answers `Memory` for a new one where the limit is higher.
+    ghost use Rattle.life_quad.specs.declared.id.TheConstants.{FIRST_SMALL, FIRST_NODE};
+
+    /// An empty store for at most `limit` distinct nonblank squares of level 1 and up. With 2^32 - 66,064 of them beside the small ones
+    /// (level 1 or 2, states 0 and 1) `join` answers `Memory` for a new one that isn't small, where the limit is higher.
     pub fn new(alloc: Global, limit: u64) -> Shared
         requires { limit ≤ 2 ^ 62 }
         ensures stored { held result ≡ [] }
@@ -40,6 +89,9 @@ impl Shared {
     {
         Shared {
             nodes: IndexSet::new(alloc),
+            seen: Vec::new(alloc),
+            small: 0,
+            log: JoinLog::new(),
             limit,
         }
     }
@@ -49,35 +101,54 @@ impl Shared {
     pub fn len(&self) -> u64
         ensures len { result ≡ length (held self.now) }
         ensures distinct { AllPairs ◌≢◌ (held self.now) }
-        ensures all { (id : IdValue) → Knows self.now id → is_blank_tree (square_of (held self.now) id) ≡ false → 0 < depth (square_of (held self.now) id) → Contains (held self.now) (square_of (held self.now) id) }
-        ensures only { (t : Tree) → Contains (held self.now) t → (is_blank_tree t ≡ false) × (0 < depth t) × ((id : IdValue) × Knows self.now id × (square_of (held self.now) id ≡ t)) }
+        ensures all { (id : IdValue) → Knows self.now id → is_blank_tree (content self.now id) ≡ false → 0 < depth (content self.now id) → Contains (held self.now) (content self.now id) }
+        ensures only { (t : Tree) → Contains (held self.now) t → (is_blank_tree t ≡ false) × (0 < depth t) × ((id : IdValue) × Knows self.now id × (content self.now id ≡ t)) }
     {
-        self.nodes.len() as u64
+        self.nodes.len() as u64 + self.small
+    }
+
+    // The Id of a small square, which is marked if it is new.
+    fn mark(&mut self, number: u64) -> Result<Id, Kind>
+        requires small { IsSmall self.old.log (squares self.old.nodes) number }
+        requires first { FIRST_SMALL ≤ number }
+        requires last { number < FIRST_NODE }
+        ensures { Answers self.old self.new (small_square number) result }
+    {
+        let index = (number - FIRST_SMALL) as usize;
+        if is_seen(&self.seen, index) {
+            return Ok(Id(number));
+        }
+        if self.nodes.len() as u64 + self.small == self.limit {
+            return Err(Kind::Full);
+        }
+        see(&mut self.seen, index)?;
+        self.small += 1;
+        self.log = self.log.then(&[number]);
+        Ok(Id(number))
     }
 
     // The Id of a node, which is stored if it is new.
     fn intern(&mut self, node: Node) -> Result<Id, Kind>
-        requires { IsNode (squares self.old.nodes) (length self.old.nodes) node }
-        ensures stored { OnOk result (Interned self.old self.new node) }
-        ensures id { IfOk result (λ id. IsIdOf self.new node id) }
-        ensures sound { IsSound self.new × IsShared self.new }
-        ensures limit { self.new.limit ≡ self.old.limit }
-        ensures full { (result ≡ Err Full) ↔ (¬ Contains self.old.nodes node × (length self.old.nodes ≡ self.old.limit)) }
-        ensures refusals { IfErr result (λ e. (e ≡ Full) ⊎ (e ≡ Memory)) }
-        ensures needed { OnErr result (¬ Contains self.old.nodes node) }
-        ensures unchanged { OnErr result (self.new ≡ self.old) }
+        requires sound { IsNode self.old.log (squares self.old.nodes) (length self.old.nodes) node }
+        requires large { number_of node ≡ None }
+        ensures { Answers self.old self.new (node_square (squares self.old.nodes) node) result }
     {
-        if let Some(kind) = no_room(self.nodes.len() as u64, self.limit) {
+        let nodes = self.nodes.len() as u64;
+        if let Some(kind) = no_room(nodes + self.small, nodes, self.limit) {
             let Some(i) = self.nodes.get_index_of(&node) else {
                 return Err(kind);
             };
             return Ok(Id(FIRST_NODE + i as u64));
         }
-        let (i, _) = self.nodes.insert_full(node)?;
-        Ok(Id(FIRST_NODE + i as u64))
+        let (i, is_new) = self.nodes.insert_full(node)?;
+        let number = FIRST_NODE + i as u64;
+        if is_new {
+            self.log = self.log.then(&[number]);
+        }
+        Ok(Id(number))
     }
 
-    /// The most nodes that may be held.
+    /// The most squares that may be held.
     pub fn limit(&self) -> u64
         ensures { result ≡ self.now.limit }
     {
@@ -88,13 +159,13 @@ impl Shared {
 impl Squares for Shared {
     ghost knows = { λ s id. Knows s id × IsShared s };
 
-    ghost content = { λ s id. square_of (squares s.nodes) id };
+    ghost content = { content };
 
     ghost stored = { held };
 
     ghost most = { λ s. s.limit };
 
-    ghost needs_node = { λ s t. (is_blank_tree t ≡ false) × ¬ Contains (squares s.nodes) t };
+    ghost needs_node = { λ s t. (is_blank_tree t ≡ false) × ¬ Contains (held s) t };
 
     fn empty(&self, level: u8) -> Id {
         // To read a field opens the invariant to the proof: an Id is known in a sound store.
@@ -108,12 +179,14 @@ impl Squares for Shared {
     }
 
     fn join(&mut self, nw: Id, ne: Id, sw: Id, se: Id) -> Result<Id, Kind> {
-        let level = self.level(nw) + 1;
         if are_blank(nw, ne, sw, se) {
-            return Ok(self.empty(level));
+            return Ok(self.empty(self.level(nw) + 1));
+        }
+        if let Some(number) = small_number(nw, ne, sw, se) {
+            return self.mark(number);
         }
         self.intern(Node {
-            level,
+            level: self.level(nw) + 1,
             nw: nw.0 as u32,
             ne: ne.0 as u32,
             sw: sw.0 as u32,

@@ -17,13 +17,13 @@ pub trait Squares {
     // The square for which an Id stands.
     ghost content: { Self → IdValue → Tree };
 
-    // The squares of the stored nodes, oldest first.
+    // The squares that are stored, oldest first.
     ghost stored: { Self → List Tree };
 
-    // How many nodes the store may hold.
+    // How many squares the store may hold.
     ghost most: { Self → ℕ };
 
-    // A join that gives this square stores a new node.
+    // A join that gives this square stores a new one.
     ghost needs_node: { Self → Tree → Type 0 };
 
     /// The blank square of a level.
@@ -55,14 +55,14 @@ pub trait Squares {
         ensures stays { (t : Tree) → Contains (stored self.old) t → Contains (stored self.new) t }
         ensures most { most self.new ≡ most self.old }
 
-        // The nodes that are stored.
+        // The squares that are stored.
         ensures added { let t = quad (content self.old nw) (content self.old ne) (content self.old sw) (content self.old se) in OnOk result (needs_node self.old t → stored self.new ≡ stored self.old ++ t ∷ []) }
         ensures there { let t = quad (content self.old nw) (content self.old ne) (content self.old sw) (content self.old se) in OnOk result (¬ needs_node self.old t → stored self.new ≡ stored self.old) }
 
-        // A new node gets an Id that named nothing before.
+        // A new square gets an Id that named nothing before.
         ensures fresh { let t = quad (content self.old nw) (content self.old ne) (content self.old sw) (content self.old se) in IfOk result (λ id. needs_node self.old t → ¬ knows self.old id) }
 
-        // A refusal is want of room or of memory, for a new node alone.
+        // A refusal is want of room or of memory, for a new square alone.
         ensures full { let t = quad (content self.old nw) (content self.old ne) (content self.old sw) (content self.old se) in (result ≡ Err Full) ↔ (needs_node self.old t × (length (stored self.old) ≡ most self.old)) }
         ensures room { result ≡ Err Memory → length (stored self.new) < most self.new }
         ensures refusals { IfErr result (λ e. (e ≡ Full) ⊎ (e ≡ Memory)) }

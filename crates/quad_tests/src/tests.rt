@@ -352,6 +352,59 @@ fn squares_have_quarters(rt: HostRuntime) -> Result<(), Fail> {
     Ok(())
 }
 
+// The square of level 1 of the four lowest binary digits of a number.
+fn two<S: Squares>(squares: &mut S, bits: u8) -> Result<Id, Kind>
+    ensures known { IfOk result (S.knows squares.new) }
+    ensures level { IfOk result (λ r. depth (S.content squares.new r) ≡ 1) }
+    ensures keeps { (q : IdValue) → S.knows squares.old q → S.knows squares.new q × (S.content squares.new q ≡ S.content squares.old q) }
+{
+    let nw = squares.cell(bits >> 3 & 1);
+    let ne = squares.cell(bits >> 2 & 1);
+    let sw = squares.cell(bits >> 1 & 1);
+    let se = squares.cell(bits & 1);
+    squares.join(nw, ne, sw, se)
+}
+
+// The square of level 2 of these four.
+fn four<S: Squares>(squares: &mut S, bits: [u8; 4]) -> Result<Id, Kind>
+    ensures known { IfOk result (S.knows squares.new) }
+    ensures level { IfOk result (λ r. depth (S.content squares.new r) ≡ 2) }
+    ensures keeps { (q : IdValue) → S.knows squares.old q → S.knows squares.new q × (S.content squares.new q ≡ S.content squares.old q) }
+{
+    let nw = two(squares, bits[0])?;
+    let ne = two(squares, bits[1])?;
+    let sw = two(squares, bits[2])?;
+    let se = two(squares, bits[3])?;
+    squares.join(nw, ne, sw, se)
+}
+
+// A square of level 3 that has each square of level 1 of the states 0 and 1 once: with the blank one, 16 of these and four of level 2.
+fn leaf<S: Squares>(squares: &mut S) -> Result<Id, Kind> {
+    let nw = four(squares, [0, 1, 2, 3])?;
+    let ne = four(squares, [4, 5, 6, 7])?;
+    let sw = four(squares, [8, 9, 10, 11])?;
+    let se = four(squares, [12, 13, 14, 15])?;
+    squares.join(nw, ne, sw, se)
+}
+
+// 15 squares of level 1 aren't blank, with four of level 2 and one of level 3 they are 20.
+#[test]
+fn small_squares_are_counted(rt: HostRuntime) -> Result<(), Fail> {
+    for limit in 0..26 {
+        let mut squares = Shared::new(rt.alloc(), limit);
+        let first = leaf(&mut squares);
+        let again = leaf(&mut squares);
+        assert_eq!(rt; first.is_ok(), limit >= 20);
+        assert_eq!(rt; first == Err(Kind::Full), limit < 20);
+        assert_eq!(rt; first, again);
+        assert_eq!(rt; squares.len(), if limit < 20 { limit } else { 20 });
+        let mut plain = Plain::new(rt.alloc(), limit);
+        assert_eq!(rt; leaf(&mut plain).is_ok(), limit >= 20);
+        assert_eq!(rt; leaf(&mut plain), Err(Kind::Full));
+    }
+    Ok(())
+}
+
 // The population and the box of a blank square and of one with a block of cells of states above 1.
 fn measures<S: SharedSquares>(
     alloc: Global,

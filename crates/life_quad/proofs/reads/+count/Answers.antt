@@ -1,6 +1,5 @@
-use Rattle.std.proofs.Common.{◌≡◌, ◌≤◌, ◌^◌, arith, sym, ◌∙◌, ap}
+use Rattle.std.proofs.Common.{◌≤◌, ◌^◌, inl, inr, arith, sym, ◌∙◌, ap}
 use Rattle.life_quad.specs.Cells.{population}
-use Rattle.life_quad.proofs.BoxLemmas.{entry_keeps}
 use Rattle.life_quad.proofs.CountLemmas.{population-blank, quarter_small}
 use Rattle.life_quad.proofs.reads.+count.Goals as goal
 
@@ -45,7 +44,7 @@ overflow_add-sum-3 g t c =
     omega (arith, small_a, small_b, small_c, small_d)
 
 pub returns-in-Some-get-clause-number : goal.returns-in-Some-get-clause-number
-returns-in-Some-get-clause-number g t c = c.requires.right c.args.id _ (sym c.in-Some-get.ensures.value)
+returns-in-Some-get-clause-number g t c = c.requires.right c.args.id _ c.in-Some-get.ensures
 
 pub returns-clause-number : goal.returns-clause-number
 returns-clause-number g t c =
@@ -53,6 +52,10 @@ returns-clause-number g t c =
     omega (arith, all, c.in_ok-a.ensures.number, c.in_ok-b.ensures.number, c.in_ok-c.ensures.number, c.in_ok-d.ensures.number)
 
 pub returns-clause-right : goal.returns-clause-right
-returns-clause-right g t c = λ q n h.
-    entry_keeps (λ i n. n ≡ population (g.S.Squares.content c.args.squares.now (record { 0 = i }))) _ _ c.args.id.0 _
-    (λ i. c.in_ok-insert.ensures.updates.0 (record { 0 = i })) (λ i n h. c.in_ok-d.ensures.right (record { 0 = i }) n h) (returns-clause-number g t c) q.0 n h
+returns-clause-right g t c q n h = elim (c.in_ok-insert.ensures.only q n h) [
+  | inl before ↦ c.in_ok-d.ensures.right q n before
+  | inr added ↦ added.1 ∙ returns-clause-number g t c ∙ ap (λ i. population (g.S.Squares.content c.args.squares.now i)) (sym added.0)
+]
+
+pub returns-in_err-insert-clause-right : goal.returns-in_err-insert-clause-right
+returns-in_err-insert-clause-right g t c q n h = c.in_ok-d.ensures.right q n (c.in_err-insert.ensures.err q n h)

@@ -1,8 +1,7 @@
-use Rattle.std.proofs.Common.{Some, None, arith, sym, ◌∙◌}
-use Rattle.std.proofs.lemmas.Grind.{common_steps}
+use Rattle.std.proofs.Common.{Some, None, inl, inr, sym, subst, ◌∙◌}
 use Rattle.life_quad.specs.Boxes.{IsNonzeroAt, IsExtentOf}
 use Rattle.life_quad.proofs.NonzeroLemmas.{blank_has_none}
-use Rattle.life_quad.proofs.BoxLemmas.{flat_extent, entry_keeps, extent_joined}
+use Rattle.life_quad.proofs.BoxLemmas.{flat_extent, extent_joined}
 use Rattle.life_quad.proofs.SpanLemmas.{half_of}
 use Rattle.life_quad.proofs.reads.+least_extent.Goals as goal
 
@@ -21,7 +20,7 @@ returns-in_default-join_quarters-clause-least g t c =
     c.in_ok-nw.ensures.least c.in_ok-ne.ensures.least c.in_ok-sw.ensures.least c.in_ok-se.ensures.least (sym c.in_default-join_quarters.is ∙ c.join_quarters.ensures)
 
 pub returns-in_err-insert-clause-right : goal.returns-in_err-insert-clause-right
-returns-in_err-insert-clause-right g t c = λ q e h. c.in_ok-se.ensures.right q e (grind (arith, common_steps))
+returns-in_err-insert-clause-right g t c q e h = c.in_ok-se.ensures.right q e (c.in_err-insert.ensures.err q e h)
 
 pub returns-clause-least : goal.returns-clause-least
 returns-clause-least g t c =
@@ -30,9 +29,12 @@ returns-clause-least g t c =
     c.in_ok-nw.ensures.least c.in_ok-ne.ensures.least c.in_ok-sw.ensures.least c.in_ok-se.ensures.least (sym c.in-Some-join_quarters.is ∙ c.join_quarters.ensures)
 
 pub returns-clause-right : goal.returns-clause-right
-returns-clause-right g t c = λ q e h.
-    entry_keeps (λ n e. IsExtentOf (IsNonzeroAt (g.S.Squares.content c.args.squares.now (record { 0 = n }))) (Some e)) _ _ c.args.id.0 c.in-Some-join_quarters.extent
-    (λ n. c.in_ok-insert.ensures.updates.0 (record { 0 = n })) (λ n e h. c.in_ok-se.ensures.right (record { 0 = n }) e h) (returns-clause-least g t c) q.0 e h
+returns-clause-right g t c q e h = elim (c.in_ok-insert.ensures.only q e h) [
+  | inl before ↦ c.in_ok-se.ensures.right q e before
+  | inr added ↦
+      subst (λ b. IsExtentOf (IsNonzeroAt (g.S.Squares.content c.args.squares.now q)) (Some b)) (sym added.1)
+      (subst (λ i. IsExtentOf (IsNonzeroAt (g.S.Squares.content c.args.squares.now i)) (Some c.in-Some-join_quarters.extent)) (sym added.0) (returns-clause-least g t c))
+]
 
 pub returns-in-Some-clause-least : goal.returns-in-Some-clause-least
-returns-in-Some-clause-least g t c = c.requires.right c.args.id _ (sym c.in-Some.ensures.value)
+returns-in-Some-clause-least g t c = c.requires.right c.args.id _ c.in-Some.ensures

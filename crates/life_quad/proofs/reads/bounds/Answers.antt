@@ -6,6 +6,9 @@ use Rattle.life_quad.proofs.BoxLemmas.{no_extent}
 use Rattle.life_quad.proofs.PlaneLemmas.{least_box}
 use Rattle.life_quad.proofs.reads.bounds.Goals as goal
 
+pub least_extent-requires-clause-right : goal.least_extent-requires-clause-right
+least_extent-requires-clause-right g c q e h = absurd (c.new-known.ensures q e h)
+
 pub returns-in_default-clause-least : goal.returns-in_default-clause-least
 returns-in_default-clause-least g c =
     no_extent _ (g.met.S.Squares.full _ _ c.requires.known) (subst (IsExtentOf (IsNonzeroAt (g.S.Squares.content c.args.squares.now c.args.id))) c.in_default.is c.in_ok-extent.ensures.least)

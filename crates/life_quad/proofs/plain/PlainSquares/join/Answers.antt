@@ -4,7 +4,7 @@ use Rattle.life_base.proofs.Results.{if_ok_both}
 use Rattle.life_quad.specs.Store.{squares, square_of, IsNode}
 use Rattle.life_quad.specs.StoreLaws.{length-squares, squares-push}
 use Rattle.life_base.specs.Tree.{depth, blank}
-use Rattle.life_quad.proofs.CallLemmas.{is_blank-joined, blank_joined, IsNode-joined, keeps_added, knows_id, square_of-added, stays_added, room_left}
+use Rattle.life_quad.proofs.CallLemmas.{is_blank-joined, blank_joined, IsNode-joined, keeps_added, knows_last, square_of-added, stays_added, room_left}
 use Rattle.life_quad.proofs.plain.PlainSquares.join.Goals as goal
 
 pub returns-then-are_blank-clause-square : goal.returns-then-are_blank-clause-square
@@ -27,7 +27,7 @@ returns-then-are_blank-clause-full c =
           absurd (true≢false (sym (is_blank-joined _ _ _ _ _ r.nw r.ne r.sw r.se r.ne_level r.sw_level r.se_level ∙ sym c.are_blank.ensures ∙ c.if-are_blank.true) ∙ needs.0)),
     )
 
-IsNode-there : (c : goal.After-add) → IsNode (squares c.args.self.now.nodes) (length c.args.self.now.nodes) (record { level = c.level-level.result + 1; nw = c.args.nw.0; ne = c.args.ne.0; sw = c.args.sw.0; se = c.args.se.0 })
+IsNode-there : (c : goal.After-add) → IsNode c.args.self.now.log (squares c.args.self.now.nodes) (length c.args.self.now.nodes) (record { level = c.level-level.result + 1; nw = c.args.nw.0; ne = c.args.ne.0; sw = c.args.sw.0; se = c.args.se.0 })
 IsNode-there c =
     let r = c.requires in
     IsNode-joined _ _ _ _ _ r.nw r.ne r.sw r.se r.ne_level r.sw_level r.se_level _ c.level-level.ensures.level r.room (sym c.are_blank.ensures ∙ c.if-are_blank.false)
@@ -38,17 +38,17 @@ add-requires c =
     IsNode-joined _ _ _ _ _ r.nw r.ne r.sw r.se r.ne_level r.sw_level r.se_level _ c.level-level.ensures.level r.room (sym c.are_blank.ensures ∙ c.if-are_blank.false)
 
 pub returns-clause-known : goal.returns-clause-known
-returns-clause-known c = if_ok_both c.add.result (λ id i at. knows_id _ _ _ c.add.ensures.sound at) c.add.ensures.stored c.add.ensures.id
+returns-clause-known c = if_ok_both c.add.result (λ id i at. knows_last _ _ _ i c.add.ensures.sound id at) c.add.ensures.stored c.add.ensures.id
 
 pub returns-clause-square : goal.returns-clause-square
 returns-clause-square c =
-    if_ok_both c.add.result (λ id i at. square_of-added _ _ _ c.requires.nw.sound (IsNode-there c) i c.add.ensures.sound id at) c.add.ensures.stored c.add.ensures.id
+    if_ok_both c.add.result (λ id i at. square_of-added _ _ _ (IsNode-there c) i c.add.ensures.sound id at) c.add.ensures.stored c.add.ensures.id
 
 pub returns-clause-keeps : goal.returns-clause-keeps
 returns-clause-keeps c = keeps_added c.add.result _ _ _ c.add.ensures.stored c.add.ensures.unchanged c.add.ensures.sound
 
 pub returns-clause-added : goal.returns-clause-added
-returns-clause-added c = on_ok_weaker c.add.result (λ i needs. ap squares i ∙ squares-push _ _) c.add.ensures.stored
+returns-clause-added c = on_ok_weaker c.add.result (λ i needs. ap (λ s. squares s.nodes) i ∙ squares-push _ _) c.add.ensures.stored
 
 pub returns-clause-there : goal.returns-clause-there
 returns-clause-there c = on_ok_weaker c.add.result (λ i unneeded. absurd (unneeded (IsNode-there c).not_blank)) c.add.ensures.stored
@@ -61,7 +61,7 @@ returns-clause-full c =
 pub returns-clause-room : goal.returns-clause-room
 returns-clause-room c =
     let full = c.add.ensures.full in
-    room_left {P = Unit {0}} c.add.result _ _ c.requires.nw.sound (λ e. (tt, full.0 e), λ n. full.1 n.1) (on_err_weaker {Q = Unit {0}} c.add.result (λ same. tt) c.add.ensures.unchanged) c.add.ensures.unchanged
+    room_left c.add.result _ _ c.add.ensures.within full c.add.ensures.unchanged
 
 pub returns-clause-needed : goal.returns-clause-needed
 returns-clause-needed c = on_err_weaker c.add.result (λ same. (IsNode-there c).not_blank) c.add.ensures.unchanged
@@ -70,7 +70,7 @@ pub returns-clause-stays : goal.returns-clause-stays
 returns-clause-stays c = stays_added c.add.result _ _ _ c.add.ensures.stored c.add.ensures.unchanged
 
 pub returns-clause-fresh : goal.returns-clause-fresh
-returns-clause-fresh c = if_ok_both c.add.result (λ id i last needs known. let b = known.named.below in let e : id.0 ≡ 512 + length c.args.self.now.nodes = last in absurd (omega arith)) c.add.ensures.stored c.add.ensures.last
+returns-clause-fresh c = if_ok_both c.add.result (λ id i last needs known. let b = known.named.below in let e : id.0 ≡ 66064 + length c.args.self.now.nodes = last in absurd (omega arith)) c.add.ensures.stored c.add.ensures.id
 
 pub returns-then-are_blank-clause-fresh : goal.returns-then-are_blank-clause-fresh
 returns-then-are_blank-clause-fresh c = λ needs known.

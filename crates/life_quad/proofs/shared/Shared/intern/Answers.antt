@@ -1,33 +1,92 @@
-use Rattle.std.proofs.Common.{arith, refl, sym, ◌∙◌, ap, subst, length, slice_get}
-use Rattle.life_quad.specs.Store.{squares, IsNode, HasRoom, was_there}
-use Rattle.life_quad.proofs.CallLemmas.{Interned-insert, sound_interned, position_node, position_contains}
+use Rattle.std.proofs.Common.{◌≡◌, ◌+◌, ◌∷◌, [], ◌++◌, length, Contains, arith, refl, sym, ◌∙◌, ap, subst, Ok, Err, length-append}
+use Rattle.std.specs.Prelude.{if◌then◌else◌, is_some}
+use Rattle.life_quad.specs.Store.{Nodes, squares, node_square, id_of, IsNode, HasRoom, Answers}
+use Rattle.life_quad.specs.contracts.shared.Shared.{the_view}
+use Rattle.life_quad.proofs.CallLemmas.{absent_node, node_there, node_added, sound_added, answers_refused, answers_memory, HasSeen-node, position_node, not_there, inserted, found}
 use Rattle.life_quad.proofs.shared.Shared.intern.Goals as goal
 
-pub returns-in-Some-clause-stored : goal.returns-in-Some-clause-stored
-returns-in-Some-clause-stored c =
-    rw (← c.self.view_is) (was_there (position_contains _ _ _ (sym c.get_index_of.ensures.index ∙ c.in-Some-get_index_of.is)) refl)
+pub returns-in_default-get_index_of : goal.returns-in_default-get_index_of
+returns-in_default-get_index_of c =
+    let s = the_view c.self.inside in
+    let inv = c.self.invariant in
+    let node = subst (λ v. IsNode v.log (squares v.nodes) (length v.nodes) c.args.node) (sym c.self.view_is) c.requires.sound in
+    let missing : ¬ Contains s.nodes c.args.node = not_there s.nodes c.args.node (sym c.get_index_of.ensures.found ∙ ap is_some c.in_default-get_index_of.is) in
+    let same : c.len-nodes.result + c.self.inside.small ≡ length s.log = ap (λ n. n + c.self.inside.small) c.len-nodes.ensures.len ∙ sym inv.3 in
+    subst (λ v. Answers v v (node_square (squares v.nodes) c.args.node) (Err c.in-Some.kind)) c.self.view_is
+    (answers_refused s s (node_square (squares s.nodes) c.args.node) c.in-Some.kind _ refl inv.1 (absent_node s c.args.node inv.0 inv.1 node c.requires.large missing) c.in-Some.ensures.room same c.in-Some.ensures.full)
 
-pub returns-in-Some-clause-id : goal.returns-in-Some-clause-id
-returns-in-Some-clause-id c =
-    (c.in-Some-get_index_of.i, refl, ap (λ v. slice_get v.nodes c.in-Some-get_index_of.i) (sym c.self.view_is) ∙ position_node _ _ _ (sym c.get_index_of.ensures.index ∙ c.in-Some-get_index_of.is))
+pub returns-in-Some : goal.returns-in-Some
+returns-in-Some c =
+    let s = the_view c.self.inside in
+    let inv = c.self.invariant in
+    let i = c.in-Some-get_index_of.i in
+    let at = position_node s.nodes c.args.node i (sym c.get_index_of.ensures.index ∙ c.in-Some-get_index_of.is) in
+    subst (λ v. Answers v v (node_square (squares v.nodes) c.args.node) (Ok (id_of (66064 + i)))) c.self.view_is (node_there s c.args.node i inv.0 inv.1 at)
 
-pub returns-in-Some-clause-full : goal.returns-in-Some-clause-full
-returns-in-Some-clause-full c =
-    (λ e. absurd (cc), λ needs. absurd (needs.0 (rw (← c.self.view_is) (position_contains _ _ _ (sym c.get_index_of.ensures.index ∙ c.in-Some-get_index_of.is)))))
+pub returns-in_err-i : goal.returns-in_err-i
+returns-in_err-i c =
+    let s = the_view c.self.inside in
+    let inv = c.self.invariant in
+    let new : Nodes = record { nodes = c.insert_full.new.self.keys; log = s.log; limit = s.limit } in
+    let node = subst (λ v. IsNode v.log (squares v.nodes) (length v.nodes) c.args.node) (sym c.self.view_is) c.requires.sound in
+    let missing : ¬ Contains s.nodes c.args.node = not_there s.nodes c.args.node c.in_err-i.ensures.absent in
+    let kept = c.in_err-i.ensures.err in
+    let told = c.from_residual.ensures in
+    let len = c.len-nodes.ensures.len in
+    let more = inv.3 in
+    let room = c.in_default.ensures.room.0 in
+    subst (λ v. Answers v new (node_square (squares v.nodes) c.args.node) c.from_residual.result) c.self.view_is
+    (answers_memory s new (node_square (squares s.nodes) c.args.node) c.from_residual.result (λ i. record { nodes = kept i; log = s.log; limit = s.limit }) inv.1
+    (absent_node s c.args.node inv.0 inv.1 node c.requires.large missing) (omega (arith, len, more, room)) _ (λ k e. e) told.0 told.1)
 
-room : (c : goal.In_ok-i) → HasRoom (record { nodes = c.self.inside.nodes.keys; limit = c.self.inside.limit })
-room c = let l = c.len.ensures.len in let e = c.in_default.ensures.room in record { limit = omega (arith, l, e.0); few = omega (arith, l, e.1) }
+pub invariant_of-self-then-is_new : goal.invariant_of-self-then-is_new
+invariant_of-self-then-is_new c =
+    let s = the_view c.self.inside in
+    let inv = c.self.invariant in
+    let new : Nodes = record { nodes = c.insert_full.new.self.keys; log = c.then-self-inside.result.ids; limit = s.limit } in
+    let node = subst (λ v. IsNode v.log (squares v.nodes) (length v.nodes) c.args.node) (sym c.self.view_is) c.requires.sound in
+    let i = c.in_ok-i.i in
+    let one : length new.nodes ≡ length s.nodes + 1 = c.in_ok-i.ensures.len ∙ ap (λ b. length s.nodes + (if b then 1 else 0)) c.if-is_new.true in
+    let is = inserted s.nodes new.nodes c.args.node i c.in_ok-i.ensures.keys one c.in_ok-i.ensures.stored in
+    let grown : new.log ≡ s.log ++ (66064 + i) ∷ [] = c.then-self-inside.ensures in
+    let last : new.log ≡ s.log ++ (66064 + length s.nodes) ∷ [] = grown ∙ ap (λ j. s.log ++ (66064 + j) ∷ []) is.2 in
+    let len = c.len-nodes.ensures.len in
+    let more = inv.3 in
+    let limit = c.in_default.ensures.room.0 in
+    let few = c.in_default.ensures.room.1 in
+    let longer = ap length last ∙ length-append s.log ((66064 + length s.nodes) ∷ []) in
+    let room : HasRoom s = record { limit = omega (arith, len, more, limit); few = omega (arith, len, few) } in
+    let sound = sound_added s new c.args.node inv.0 inv.1 node c.requires.large is.0 room (λ i. record { nodes = is.1 i; log = last i; limit = s.limit }) in
+    (sound.0, sound.1, HasSeen-node c.self.inside.seen.items s.log new.log (66064 + length s.nodes) inv.2 (omega arith) last, omega (arith, longer, more, one))
 
-pub invariant_of-self-2 : goal.invariant_of-self-2
-invariant_of-self-2 c =
-    let node = subst (λ v. IsNode (squares v.nodes) (length v.nodes) c.args.node) (sym c.self.view_is) c.requires in
-    sound_interned _ _ _ c.self.invariant.0 c.self.invariant.1 node (Interned-insert _ _ _ c.in_ok-i.ensures.keys (room c))
+pub returns-then-is_new : goal.returns-then-is_new
+returns-then-is_new c =
+    let s = the_view c.self.inside in
+    let inv = c.self.invariant in
+    let new : Nodes = record { nodes = c.insert_full.new.self.keys; log = c.then-self-inside.result.ids; limit = s.limit } in
+    let node = subst (λ v. IsNode v.log (squares v.nodes) (length v.nodes) c.args.node) (sym c.self.view_is) c.requires.sound in
+    let i = c.in_ok-i.i in
+    let one : length new.nodes ≡ length s.nodes + 1 = c.in_ok-i.ensures.len ∙ ap (λ b. length s.nodes + (if b then 1 else 0)) c.if-is_new.true in
+    let is = inserted s.nodes new.nodes c.args.node i c.in_ok-i.ensures.keys one c.in_ok-i.ensures.stored in
+    let grown : new.log ≡ s.log ++ (66064 + i) ∷ [] = c.then-self-inside.ensures in
+    let last : new.log ≡ s.log ++ (66064 + length s.nodes) ∷ [] = grown ∙ ap (λ j. s.log ++ (66064 + j) ∷ []) is.2 in
+    let len = c.len-nodes.ensures.len in
+    let more = inv.3 in
+    let limit = c.in_default.ensures.room.0 in
+    let few = c.in_default.ensures.room.1 in
+    let room : HasRoom s = record { limit = omega (arith, len, more, limit); few = omega (arith, len, few) } in
+    subst (λ v. Answers v new (node_square (squares v.nodes) c.args.node) (Ok (id_of (66064 + i)))) c.self.view_is
+    (node_added s new c.args.node i inv.0 inv.1 node c.requires.large is.0 room (λ i. record { nodes = is.1 i; log = last i; limit = s.limit }) is.2)
 
-pub returns-clause-stored : goal.returns-clause-stored
-returns-clause-stored c =
-    rw (← c.self.view_is) (Interned-insert _ _ _ c.in_ok-i.ensures.keys (room c))
-
-pub returns-clause-sound : goal.returns-clause-sound
-returns-clause-sound c =
-    let node = subst (λ v. IsNode (squares v.nodes) (length v.nodes) c.args.node) (sym c.self.view_is) c.requires in
-    sound_interned _ _ _ c.self.invariant.0 c.self.invariant.1 node (Interned-insert _ _ _ c.in_ok-i.ensures.keys (room c))
+pub returns-else-is_new : goal.returns-else-is_new
+returns-else-is_new c =
+    let s = the_view c.self.inside in
+    let inv = c.self.invariant in
+    let new : Nodes = record { nodes = c.insert_full.new.self.keys; log = s.log; limit = s.limit } in
+    let i = c.in_ok-i.i in
+    let len : length new.nodes ≡ length s.nodes + 0 = c.in_ok-i.ensures.len ∙ ap (λ b. length s.nodes + (if b then 1 else 0)) c.if-is_new.false in
+    let none : length new.nodes ≡ length s.nodes = omega (arith, len) in
+    let is = found s.nodes new.nodes c.args.node i c.in_ok-i.ensures.keys none c.in_ok-i.ensures.stored in
+    let same : s ≡ new = λ i. record { nodes = sym is.0 i; log = s.log; limit = s.limit } in
+    subst (λ v. Answers v new (node_square (squares v.nodes) c.args.node) (Ok (id_of (66064 + i)))) c.self.view_is
+    (subst (λ v. Answers s v (node_square (squares s.nodes) c.args.node) (Ok (id_of (66064 + i)))) same (node_there s c.args.node i inv.0 inv.1 is.1))

@@ -1,7 +1,5 @@
-use Rattle.life_quad.specs.StoreLaws.{squares-nil}
-use Rattle.std.proofs.Common.{ap, ◌∙◌}
-use Rattle.life_quad.specs.Store.{squares}
+use Rattle.life_quad.proofs.CallLemmas.{held-none}
 use Rattle.life_quad.proofs.shared.Shared.new.Goals as goal
 
 pub returns-clause-stored : goal.returns-clause-stored
-returns-clause-stored c = ap squares c.new.ensures.empty ∙ squares-nil
+returns-clause-stored c = held-none (record { nodes = c.new.result.keys; log = c.new-3.result.ids; limit = c.args.limit }) c.new-3.ensures

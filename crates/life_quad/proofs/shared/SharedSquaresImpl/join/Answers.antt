@@ -1,16 +1,20 @@
-use Rattle.std.proofs.Common.{◌≡◌, arith, sym, ◌∙◌, ap, true≢false, ◌+◌, suc, length}
-use Rattle.std.proofs.lemmas.Result.{on_err_weaker, on_ok_weaker}
-use Rattle.life_base.proofs.Results.{if_ok_both}
-use Rattle.life_quad.specs.Store.{squares, square_of, IsNode}
-use Rattle.life_quad.specs.StoreLaws.{length-squares}
-use Rattle.life_base.specs.Tree.{depth, blank}
-use Rattle.life_quad.proofs.CallLemmas.{is_blank-joined, blank_joined, IsNode-joined, held-added, held-there, absent_square, Contains-node, knows_id, square_of-interned, keeps_known, stays_held, fresh_id, room_left}
+use Rattle.std.proofs.Common.{◌≡◌, arith, refl, sym, ◌∙◌, ap, subst, true≢false, ◌+◌, ◌<◌, suc, false}
+use Rattle.life_quad.specs.Store.{squares, content, node_square, Answers}
+use Rattle.life_quad.specs.StoreLaws.{small_node}
+use Rattle.life_quad.specs.SmallLaws.{small_range}
+use Rattle.life_base.specs.Tree.{depth, blank, is_blank_tree}
+use Rattle.life_quad.specs.declared.id.Id.{Id}
+use Rattle.life_quad.specs.declared.id.Node.{Node}
+use Rattle.life_quad.specs.declared.shared.Shared.{Shared}
+use Rattle.life_quad.proofs.CallLemmas.{is_blank-joined, blank_joined, IsNode-joined, IsSmall-joined, join_known, join_square, join_keeps, join_stays, join_added, join_there, join_fresh, join_full, join_needed}
 use Rattle.life_quad.proofs.shared.SharedSquaresImpl.join.Goals as goal
+
+-- ---- four blank squares
 
 pub returns-then-are_blank-clause-square : goal.returns-then-are_blank-clause-square
 returns-then-are_blank-clause-square c =
     let r = c.requires in
-    let l : c.level-level.result + 1 ≡ suc (depth (square_of (squares c.args.self.now.nodes) c.args.nw)) = let e = c.level-level.ensures.level in omega arith in
+    let l : c.level.result + 1 ≡ suc (depth (content c.args.self.now c.args.nw)) = let e = c.level.ensures.level in omega arith in
     c.empty.ensures.square ∙ ap blank l
     ∙ sym (blank_joined _ _ _ _ _ r.nw.0 r.ne.0 r.sw.0 r.se.0 r.ne_level r.sw_level r.se_level (sym c.are_blank.ensures ∙ c.if-are_blank.true))
 
@@ -27,62 +31,107 @@ returns-then-are_blank-clause-full c =
           absurd (true≢false (sym (is_blank-joined _ _ _ _ _ r.nw.0 r.ne.0 r.sw.0 r.se.0 r.ne_level r.sw_level r.se_level ∙ sym c.are_blank.ensures ∙ c.if-are_blank.true) ∙ needs.0.0)),
     )
 
-IsNode-there : (c : goal.After-intern) → IsNode (squares c.args.self.now.nodes) (length c.args.self.now.nodes) (record { level = c.level-level.result + 1; nw = c.args.nw.0; ne = c.args.ne.0; sw = c.args.sw.0; se = c.args.se.0 })
-IsNode-there c =
-    let r = c.requires in
-    IsNode-joined _ _ _ _ _ r.nw.0 r.ne.0 r.sw.0 r.se.0 r.ne_level r.sw_level r.se_level _ c.level-level.ensures.level r.room (sym c.are_blank.ensures ∙ c.if-are_blank.false)
-
-pub intern-requires : goal.intern-requires
-intern-requires c =
-    let r = c.requires in
-    IsNode-joined _ _ _ _ _ r.nw.0 r.ne.0 r.sw.0 r.se.0 r.ne_level r.sw_level r.se_level _ c.level-level.ensures.level r.room (sym c.are_blank.ensures ∙ c.if-are_blank.false)
-
-pub returns-clause-known : goal.returns-clause-known
-returns-clause-known c =
-    let sound = c.intern.ensures.sound in
-    if_ok_both c.intern.result (λ id i at. (knows_id _ _ _ sound.0 at, sound.1)) c.intern.ensures.stored c.intern.ensures.id
-
-pub returns-clause-square : goal.returns-clause-square
-returns-clause-square c =
-    let sound = c.intern.ensures.sound in
-    if_ok_both c.intern.result (λ id i at. square_of-interned _ _ _ c.requires.nw.0.sound (IsNode-there c) i sound.0 id at) c.intern.ensures.stored c.intern.ensures.id
-
-pub returns-clause-keeps : goal.returns-clause-keeps
-returns-clause-keeps c =
-    keeps_known c.intern.result _ _ _ c.intern.ensures.stored c.intern.ensures.unchanged c.intern.ensures.sound
-
-pub returns-clause-added : goal.returns-clause-added
-returns-clause-added c =
-    on_ok_weaker c.intern.result (λ i needs. held-added _ _ _ c.requires.nw.0.sound i needs.1) c.intern.ensures.stored
-
-pub returns-clause-there : goal.returns-clause-there
-returns-clause-there c =
-    let node = IsNode-there c in
-    on_ok_weaker c.intern.result (λ i unneeded. held-there _ _ _ c.requires.nw.0.sound c.requires.nw.1 node i (λ absent. unneeded (node.not_blank, absent))) c.intern.ensures.stored
-
-pub returns-clause-full : goal.returns-clause-full
-returns-clause-full c =
-    let node = IsNode-there c in
-    let full = c.intern.ensures.full in (
-      λ e. let f = full.0 e in ((node.not_blank, absent_square _ _ c.requires.nw.0.sound c.requires.nw.1 node f.0), length-squares _ ∙ f.1),
-      λ needs. full.1 (λ there. needs.0.1 (Contains-node _ _ c.requires.nw.0.sound there), sym (length-squares _) ∙ needs.1),
-    )
-
-pub returns-clause-room : goal.returns-clause-room
-returns-clause-room c = room_left c.intern.result _ _ c.requires.nw.0.sound c.intern.ensures.full c.intern.ensures.needed c.intern.ensures.unchanged
-
-pub returns-clause-needed : goal.returns-clause-needed
-returns-clause-needed c =
-    let node = IsNode-there c in
-    on_err_weaker c.intern.result (λ absent. (node.not_blank, absent_square _ _ c.requires.nw.0.sound c.requires.nw.1 node absent)) c.intern.ensures.needed
-
-pub returns-clause-stays : goal.returns-clause-stays
-returns-clause-stays c = stays_held c.intern.result _ _ _ c.intern.ensures.stored c.intern.ensures.unchanged
-
-pub returns-clause-fresh : goal.returns-clause-fresh
-returns-clause-fresh c = if_ok_both c.intern.result (λ id i at needs known. fresh_id _ _ _ id c.requires.nw.0.sound i at needs.1 known.0) c.intern.ensures.stored c.intern.ensures.id
-
 pub returns-then-are_blank-clause-fresh : goal.returns-then-are_blank-clause-fresh
 returns-then-are_blank-clause-fresh c = λ needs known.
     let r = c.requires in
     absurd (true≢false (sym (is_blank-joined _ _ _ _ _ r.nw.0 r.ne.0 r.sw.0 r.se.0 r.ne_level r.sw_level r.se_level ∙ sym c.are_blank.ensures ∙ c.if-are_blank.true) ∙ needs.0))
+
+-- ---- a small square
+
+abbrev quarters_of : Shared → Id → Id → Id → Id → Node
+quarters_of s nw ne sw se = record { level = depth (content s nw) + 1; nw = nw.0; ne = ne.0; sw = sw.0; se = se.0 }
+
+pub mark-requires : goal.mark-requires
+mark-requires c =
+    let r = c.requires in
+    let s = c.args.self.now in
+    let node = IsNode-joined _ _ _ _ _ r.nw.0 r.ne.0 r.sw.0 r.se.0 r.ne_level r.sw_level r.se_level _ refl r.room (sym c.are_blank.ensures ∙ c.if-are_blank.false) in
+    let number = sym c.small_number.ensures ∙ c.in-Some.is in
+    let range = small_range c.args.nw.0 c.args.ne.0 c.args.sw.0 c.args.se.0 c.in-Some.number number in
+    record { small = IsSmall-joined s (quarters_of s c.args.nw c.args.ne c.args.sw c.args.se) c.in-Some.number number node; first = range.0; last = range.1 }
+
+deep-small : (c : goal.After-mark) → 0 < depth (node_square (squares c.args.self.now.nodes) (quarters_of c.args.self.now c.args.nw c.args.ne c.args.sw c.args.se))
+deep-small c = omega arith
+
+not_blank-small : (c : goal.After-mark) → is_blank_tree (node_square (squares c.args.self.now.nodes) (quarters_of c.args.self.now c.args.nw c.args.ne c.args.sw c.args.se)) ≡ false
+not_blank-small c =
+    let r = c.requires in
+    is_blank-joined _ _ _ _ _ r.nw.0 r.ne.0 r.sw.0 r.se.0 r.ne_level r.sw_level r.se_level ∙ sym c.are_blank.ensures ∙ c.if-are_blank.false
+
+small : (c : goal.After-mark) → Answers c.args.self.now c.mark.new.self (node_square (squares c.args.self.now.nodes) (quarters_of c.args.self.now c.args.nw c.args.ne c.args.sw c.args.se)) c.mark.result
+small c =
+    let s = c.args.self.now in
+    subst (λ t. Answers s c.mark.new.self t c.mark.result)
+    (small_node (squares s.nodes) (quarters_of s c.args.nw c.args.ne c.args.sw c.args.se) c.in-Some.number (sym c.small_number.ensures ∙ c.in-Some.is)) c.mark.ensures
+
+pub returns-in-Some-clause-known : goal.returns-in-Some-clause-known
+returns-in-Some-clause-known c = join_known _ _ _ (deep-small c) (not_blank-small c) _ (small c)
+
+pub returns-in-Some-clause-square : goal.returns-in-Some-clause-square
+returns-in-Some-clause-square c = join_square _ _ _ (deep-small c) (not_blank-small c) _ (small c)
+
+pub returns-in-Some-clause-keeps : goal.returns-in-Some-clause-keeps
+returns-in-Some-clause-keeps c = join_keeps _ _ _ (deep-small c) (not_blank-small c) _ (small c)
+
+pub returns-in-Some-clause-stays : goal.returns-in-Some-clause-stays
+returns-in-Some-clause-stays c = join_stays _ _ _ (deep-small c) (not_blank-small c) _ (small c)
+
+pub returns-in-Some-clause-added : goal.returns-in-Some-clause-added
+returns-in-Some-clause-added c = join_added _ _ _ (deep-small c) (not_blank-small c) _ (small c)
+
+pub returns-in-Some-clause-there : goal.returns-in-Some-clause-there
+returns-in-Some-clause-there c = join_there _ _ _ (deep-small c) (not_blank-small c) _ (small c)
+
+pub returns-in-Some-clause-fresh : goal.returns-in-Some-clause-fresh
+returns-in-Some-clause-fresh c = join_fresh _ _ _ (deep-small c) (not_blank-small c) _ (small c)
+
+pub returns-in-Some-clause-full : goal.returns-in-Some-clause-full
+returns-in-Some-clause-full c = join_full _ _ _ (deep-small c) (not_blank-small c) _ (small c)
+
+pub returns-in-Some-clause-needed : goal.returns-in-Some-clause-needed
+returns-in-Some-clause-needed c = join_needed _ _ _ (deep-small c) (not_blank-small c) _ (small c)
+
+-- ---- a node
+
+pub intern-requires : goal.intern-requires
+intern-requires c =
+    let r = c.requires in
+    record {
+      sound = IsNode-joined _ _ _ _ _ r.nw.0 r.ne.0 r.sw.0 r.se.0 r.ne_level r.sw_level r.se_level _ c.level-2.ensures.level r.room (sym c.are_blank.ensures ∙ c.if-are_blank.false);
+      large = sym c.small_number.ensures ∙ c.in_default.is;
+    }
+
+deep-node : (c : goal.After-intern) → 0 < depth (node_square (squares c.args.self.now.nodes) (quarters_of c.args.self.now c.args.nw c.args.ne c.args.sw c.args.se))
+deep-node c = omega arith
+
+not_blank-node : (c : goal.After-intern) → is_blank_tree (node_square (squares c.args.self.now.nodes) (quarters_of c.args.self.now c.args.nw c.args.ne c.args.sw c.args.se)) ≡ false
+not_blank-node c =
+    let r = c.requires in
+    is_blank-joined _ _ _ _ _ r.nw.0 r.ne.0 r.sw.0 r.se.0 r.ne_level r.sw_level r.se_level ∙ sym c.are_blank.ensures ∙ c.if-are_blank.false
+
+pub returns-clause-known : goal.returns-clause-known
+returns-clause-known c = join_known _ _ _ (deep-node c) (not_blank-node c) _ c.intern.ensures
+
+pub returns-clause-square : goal.returns-clause-square
+returns-clause-square c = join_square _ _ _ (deep-node c) (not_blank-node c) _ c.intern.ensures
+
+pub returns-clause-keeps : goal.returns-clause-keeps
+returns-clause-keeps c = join_keeps _ _ _ (deep-node c) (not_blank-node c) _ c.intern.ensures
+
+pub returns-clause-stays : goal.returns-clause-stays
+returns-clause-stays c = join_stays _ _ _ (deep-node c) (not_blank-node c) _ c.intern.ensures
+
+pub returns-clause-added : goal.returns-clause-added
+returns-clause-added c = join_added _ _ _ (deep-node c) (not_blank-node c) _ c.intern.ensures
+
+pub returns-clause-there : goal.returns-clause-there
+returns-clause-there c = join_there _ _ _ (deep-node c) (not_blank-node c) _ c.intern.ensures
+
+pub returns-clause-fresh : goal.returns-clause-fresh
+returns-clause-fresh c = join_fresh _ _ _ (deep-node c) (not_blank-node c) _ c.intern.ensures
+
+pub returns-clause-full : goal.returns-clause-full
+returns-clause-full c = join_full _ _ _ (deep-node c) (not_blank-node c) _ c.intern.ensures
+
+pub returns-clause-needed : goal.returns-clause-needed
+returns-clause-needed c = join_needed _ _ _ (deep-node c) (not_blank-node c) _ c.intern.ensures

@@ -1,0 +1,186 @@
+-- Facts about small squares and their numbers.
+use Rattle.std.specs.Prelude.{if◌then◌else◌}
+use Rattle.std.proofs.Common.{◌≡◌, ℕ, ◌+◌, ◌*◌, ◌-◌, ◌/◌, ◌%◌, ◌≤◌, ◌<◌, Bool, true, false, nat_lt, ◌&&◌, ◌==◌, List, None, Some, refl, sym, ◌∙◌, ap, arith}
+use Rattle.life_base.specs.Tree.{Tree, point, quad}
+use Rattle.life_base.proofs.Squares.{and_left, and_right}
+use Rattle.life_quad.specs.Store.{two, four, small_square, square_of, id_of, is_bit_id, is_digit_id, digit_id, small_of}
+
+-- a square of level 1 of binary digits
+pub data IsDigit (q : ℕ) : Type 0 where
+  digit_0 : q ≡ 256 → IsDigit q
+  digit_of : 512 < q → q < 528 → IsDigit q
+
+pub is_digit : (q : ℕ) → is_digit_id q ≡ true → IsDigit q
+is_digit q h = by (q == 256) refl
+  where
+    by : (b : Bool) → (q == 256) ≡ b → IsDigit q
+    by true e = digit_0 (grind arith)
+    by false e = digit_of (grind arith) (grind arith)
+
+-- what the quarters of a small square are
+pub data Smalls (a b c d k : ℕ) : Type 0 where
+  of_bits : a < 2 → b < 2 → c < 2 → d < 2 → k ≡ 512 + (a * 8 + b * 4 + c * 2 + d) → Smalls a b c d k
+  of_digits : IsDigit a → IsDigit b → IsDigit c → IsDigit d → k ≡ 528 + ((a - 512) * 4096 + (b - 512) * 256 + (c - 512) * 16 + (d - 512)) → Smalls a b c d k
+
+bit : (n : ℕ) → is_bit_id n ≡ true → n < 2
+bit n h = grind arith
+
+all_four : (p q r s : Bool) → (p && q && r && s) ≡ true → (p ≡ true) × (q ≡ true) × (r ≡ true) × (s ≡ true)
+all_four p q r s h = (and_left p q (and_left (p && q) r (and_left (p && q && r) s h)), and_right p q (and_left (p && q) r (and_left (p && q && r) s h)), and_right (p && q) r (and_left (p && q && r) s h), and_right (p && q && r) s h)
+
+pub smalls : (a b c d k : ℕ) → small_of a b c d ≡ Some k → Smalls a b c d k
+unfolding small_of
+smalls a b c d k h = by (is_bit_id a && is_bit_id b && is_bit_id c && is_bit_id d) refl (is_digit_id a && is_digit_id b && is_digit_id c && is_digit_id d) refl
+  where
+    by : (p : Bool) → (is_bit_id a && is_bit_id b && is_bit_id c && is_bit_id d) ≡ p → (q : Bool) → (is_digit_id a && is_digit_id b && is_digit_id c && is_digit_id d) ≡ q → Smalls a b c d k
+    by true e q f =
+        let all : (is_bit_id a ≡ true) × (is_bit_id b ≡ true) × (is_bit_id c ≡ true) × (is_bit_id d ≡ true) = all_four _ _ _ _ e in
+        let n : 512 + (a * 8 + b * 4 + c * 2 + d) ≡ k = grind arith in
+        of_bits (bit a all.0) (bit b all.1) (bit c all.2) (bit d all.3) (sym n)
+    by false e true f =
+        let all : (is_digit_id a ≡ true) × (is_digit_id b ≡ true) × (is_digit_id c ≡ true) × (is_digit_id d ≡ true) = all_four _ _ _ _ f in
+        let n : 528 + ((a - 512) * 4096 + (b - 512) * 256 + (c - 512) * 16 + (d - 512)) ≡ k = grind arith in
+        of_digits (is_digit a all.0) (is_digit b all.1) (is_digit c all.2) (is_digit d all.3) (sym n)
+    by false e false f = absurd (let none : None ≡ Some k = grind arith in cc)
+
+-- division of four digits
+eighth : (a b c d : ℕ) → a < 2 → b < 2 → c < 2 → d < 2 → (a * 8 + b * 4 + c * 2 + d) / 8 ≡ a
+eighth a b c d la lb lc ld = omega arith
+
+fourth : (a b c d : ℕ) → a < 2 → b < 2 → c < 2 → d < 2 → (a * 8 + b * 4 + c * 2 + d) / 4 % 2 ≡ b
+fourth a b c d la lb lc ld = omega arith
+
+second : (a b c d : ℕ) → a < 2 → b < 2 → c < 2 → d < 2 → (a * 8 + b * 4 + c * 2 + d) / 2 % 2 ≡ c
+second a b c d la lb lc ld = omega arith
+
+first : (a b c d : ℕ) → a < 2 → b < 2 → c < 2 → d < 2 → (a * 8 + b * 4 + c * 2 + d) % 2 ≡ d
+first a b c d la lb lc ld = omega arith
+
+of_4096 : (a b c d : ℕ) → a < 16 → b < 16 → c < 16 → d < 16 → (a * 4096 + b * 256 + c * 16 + d) / 4096 ≡ a
+of_4096 a b c d la lb lc ld = omega arith
+
+of_256 : (a b c d : ℕ) → a < 16 → b < 16 → c < 16 → d < 16 → (a * 4096 + b * 256 + c * 16 + d) / 256 % 16 ≡ b
+of_256 a b c d la lb lc ld = omega arith
+
+of_16 : (a b c d : ℕ) → a < 16 → b < 16 → c < 16 → d < 16 → (a * 4096 + b * 256 + c * 16 + d) / 16 % 16 ≡ c
+of_16 a b c d la lb lc ld = omega arith
+
+of_1 : (a b c d : ℕ) → a < 16 → b < 16 → c < 16 → d < 16 → (a * 4096 + b * 256 + c * 16 + d) % 16 ≡ d
+of_1 a b c d la lb lc ld = omega arith
+
+pub below_16 : (q : ℕ) → IsDigit q → q - 512 < 16
+below_16 q (digit_0 e) = omega arith
+below_16 q (digit_of l u) = omega arith
+
+-- the squares of a bit and of a digit
+square_of-bit : (S : List Tree) (a : ℕ) → a < 2 → square_of S (id_of a) ≡ point a
+unfolding square_of
+square_of-bit S a l = let m : a < 256 = omega arith in grind arith
+
+square_of-digit : (S : List Tree) (q : ℕ) → IsDigit q → square_of S (id_of q) ≡ two (q - 512)
+unfolding square_of small_square
+square_of-digit S q (digit_0 e) = ap (λ n. square_of S (id_of n)) e ∙ sym (ap (λ n. two (n - 512)) e)
+square_of-digit S q (digit_of l u) =
+    let a : nat_lt q 256 ≡ false = grind arith in
+    let b : nat_lt q 512 ≡ false = grind arith in
+    let c : nat_lt q 66064 ≡ true = grind arith in
+    let d : nat_lt q 528 ≡ true = grind arith in
+    rw (a, b, c, d) refl
+
+-- its square is that of the quarters
+pub small_square-is : (S : List Tree) (a b c d k : ℕ) → Smalls a b c d k → small_square k ≡ quad (square_of S (id_of a)) (square_of S (id_of b)) (square_of S (id_of c)) (square_of S (id_of d))
+unfolding small_square
+small_square-is S a b c d k (of_bits la lb lc ld e) =
+    let low : nat_lt k 528 ≡ true = grind arith in
+    let n : k - 512 ≡ a * 8 + b * 4 + c * 2 + d = omega arith in
+    rw low (ap two n ∙ (λ i. quad ((ap point (eighth a b c d la lb lc ld) ∙ sym (square_of-bit S a la)) i) ((ap point (fourth a b c d la lb lc ld) ∙ sym (square_of-bit S b lb)) i)
+    ((ap point (second a b c d la lb lc ld) ∙ sym (square_of-bit S c lc)) i) ((ap point (first a b c d la lb lc ld) ∙ sym (square_of-bit S d ld)) i)))
+small_square-is S a b c d k (of_digits ia ib ic id e) =
+    let p = a - 512 in let q = b - 512 in let r = c - 512 in let t = d - 512 in
+    let la : p < 16 = below_16 a ia in let lb : q < 16 = below_16 b ib in let lc : r < 16 = below_16 c ic in let ld : t < 16 = below_16 d id in
+    let low : nat_lt k 528 ≡ false = grind arith in
+    let n : k - 528 ≡ p * 4096 + q * 256 + r * 16 + t = omega arith in
+    rw low (ap four n ∙ (λ i. quad ((ap two (of_4096 p q r t la lb lc ld) ∙ sym (square_of-digit S a ia)) i) ((ap two (of_256 p q r t la lb lc ld) ∙ sym (square_of-digit S b ib)) i)
+    ((ap two (of_16 p q r t la lb lc ld) ∙ sym (square_of-digit S c ic)) i) ((ap two (of_1 p q r t la lb lc ld) ∙ sym (square_of-digit S d id)) i)))
+
+-- the quarters by division
+pub bits_are : (a b c d k bits : ℕ) → small_of a b c d ≡ Some k → k < 528 → bits ≡ k - 512 → (bits / 8 ≡ a) × (bits / 4 % 2 ≡ b) × (bits / 2 % 2 ≡ c) × (bits % 2 ≡ d)
+bits_are a b c d k bits h low e = by (smalls a b c d k h)
+  where
+    by : Smalls a b c d k → (bits / 8 ≡ a) × (bits / 4 % 2 ≡ b) × (bits / 2 % 2 ≡ c) × (bits % 2 ≡ d)
+    by (of_bits la lb lc ld f) =
+        let n : bits ≡ a * 8 + b * 4 + c * 2 + d = omega arith in
+        (ap (λ z. z / 8) n ∙ eighth a b c d la lb lc ld, ap (λ z. z / 4 % 2) n ∙ fourth a b c d la lb lc ld, ap (λ z. z / 2 % 2) n ∙ second a b c d la lb lc ld, ap (λ z. z % 2) n ∙ first a b c d la lb lc ld)
+    by (of_digits ia ib ic id f) = absurd (omega arith)
+
+id_of-digit : (q n : ℕ) → IsDigit q → n ≡ q - 512 → digit_id n ≡ id_of q
+id_of-digit q n (digit_0 e) f =
+    let z : n ≡ 0 = omega arith in
+    ap digit_id z ∙ sym (ap id_of e)
+id_of-digit q n (digit_of l u) f =
+    let z : (n == 0) ≡ false = grind arith in
+    let m : 512 + n ≡ q = omega arith in
+    ap (λ b. id_of (if b then 256 else 512 + n)) z ∙ ap id_of m
+
+pub digits_are : (a b c d k digits : ℕ) → small_of a b c d ≡ Some k → 528 ≤ k → digits ≡ k - 528
+    → (digit_id (digits / 4096) ≡ id_of a) × (digit_id (digits / 256 % 16) ≡ id_of b) × (digit_id (digits / 16 % 16) ≡ id_of c) × (digit_id (digits % 16) ≡ id_of d)
+digits_are a b c d k digits h high e = by (smalls a b c d k h)
+  where
+    by : Smalls a b c d k → (digit_id (digits / 4096) ≡ id_of a) × (digit_id (digits / 256 % 16) ≡ id_of b) × (digit_id (digits / 16 % 16) ≡ id_of c) × (digit_id (digits % 16) ≡ id_of d)
+    by (of_bits la lb lc ld f) = absurd (omega arith)
+    by (of_digits ia ib ic id f) =
+        let p = a - 512 in let q = b - 512 in let r = c - 512 in let t = d - 512 in
+        let la : p < 16 = below_16 a ia in let lb : q < 16 = below_16 b ib in let lc : r < 16 = below_16 c ic in let ld : t < 16 = below_16 d id in
+        let n : digits ≡ p * 4096 + q * 256 + r * 16 + t = omega arith in (
+          id_of-digit a _ ia (ap (λ z. z / 4096) n ∙ of_4096 p q r t la lb lc ld),
+          id_of-digit b _ ib (ap (λ z. z / 256 % 16) n ∙ of_256 p q r t la lb lc ld),
+          id_of-digit c _ ic (ap (λ z. z / 16 % 16) n ∙ of_16 p q r t la lb lc ld),
+          id_of-digit d _ id (ap (λ z. z % 16) n ∙ of_1 p q r t la lb lc ld),
+        )
+
+-- the numbers of small squares and of their quarters
+pub small_range : (a b c d k : ℕ) → small_of a b c d ≡ Some k → (512 ≤ k) × (k < 66064)
+small_range a b c d k h = by (smalls a b c d k h)
+  where
+    by : Smalls a b c d k → (512 ≤ k) × (k < 66064)
+    by (of_bits la lb lc ld f) = (omega arith, omega arith)
+    by (of_digits ia ib ic id f) =
+        let la = below_16 a ia in let lb = below_16 b ib in let lc = below_16 c ic in let ld = below_16 d id in
+        (omega arith, omega arith)
+
+below_digit : (q : ℕ) → IsDigit q → q < 66064
+below_digit q (digit_0 e) = omega arith
+below_digit q (digit_of l u) = omega arith
+
+pub quarters_range : (a b c d k : ℕ) → small_of a b c d ≡ Some k → (a < 66064) × (b < 66064) × (c < 66064) × (d < 66064)
+quarters_range a b c d k h = by (smalls a b c d k h)
+  where
+    by : Smalls a b c d k → (a < 66064) × (b < 66064) × (c < 66064) × (d < 66064)
+    by (of_bits la lb lc ld f) = (omega arith, omega arith, omega arith, omega arith)
+    by (of_digits ia ib ic id f) = (below_digit a ia, below_digit b ib, below_digit c ic, below_digit d id)
+
+-- the number by the two tests
+module _ (a b c d : ℕ) where
+  abbrev pub are_bit_ids : Bool
+  are_bit_ids = is_bit_id a && is_bit_id b && is_bit_id c && is_bit_id d
+
+  abbrev pub are_digit_ids : Bool
+  are_digit_ids = is_digit_id a && is_digit_id b && is_digit_id c && is_digit_id d
+
+  pub bits_below : are_bit_ids ≡ true → (a < 2) × (b < 2) × (c < 2) × (d < 2)
+  bits_below h = let all : (is_bit_id a ≡ true) × (is_bit_id b ≡ true) × (is_bit_id c ≡ true) × (is_bit_id d ≡ true) = all_four _ _ _ _ h in (bit a all.0, bit b all.1, bit c all.2, bit d all.3)
+
+  pub digits_apart : are_digit_ids ≡ true → (is_digit_id a ≡ true) × (is_digit_id b ≡ true) × (is_digit_id c ≡ true) × (is_digit_id d ≡ true)
+  digits_apart h = all_four _ _ _ _ h
+
+  pub of_two : are_bit_ids ≡ true → Some (512 + (a * 8 + b * 4 + c * 2 + d)) ≡ small_of a b c d
+  unfolding small_of
+  of_two h = rw h refl
+
+  pub of_four : are_bit_ids ≡ false → are_digit_ids ≡ true → Some (528 + ((a - 512) * 4096 + (b - 512) * 256 + (c - 512) * 16 + (d - 512))) ≡ small_of a b c d
+  unfolding small_of
+  of_four g h = rw (g, h) refl
+
+  pub of_none : are_bit_ids ≡ false → are_digit_ids ≡ false → None ≡ small_of a b c d
+  unfolding small_of
+  of_none g h = rw (g, h) refl
