@@ -129,3 +129,37 @@ fn the_first_condition_is_told(rt: HostRuntime) {
         Kind::ZeroCount,
     );
 }
+
+// 200 live cells side by side, west and east of column 0.
+#[test]
+fn a_long_row_becomes_three(rt: HostRuntime) -> Result<(), Fail> {
+    becomes(
+        &rt,
+        rt.alloc(),
+        b"#CXRLE Pos=-100,0\nx = 200, y = 1, rule = B3/S23\n200o!\n",
+        1,
+        b"#CXRLE Pos=-99,-1 Gen=1\nx = 198, y = 3, rule = B3/S23\n198o$198o$198o!\n",
+    )
+}
+
+#[test]
+fn eight_live_neighbours_are_counted(rt: HostRuntime) -> Result<(), Fail> {
+    becomes(
+        &rt,
+        rt.alloc(),
+        b"#CXRLE Pos=-100,0\nx = 200, y = 3, rule = B8/S8\n200o$200o$200o!\n",
+        1,
+        b"#CXRLE Pos=-99,1 Gen=1\nx = 198, y = 1, rule = B8/S8\n198o!\n",
+    )
+}
+
+#[test]
+fn cells_far_apart_are_stepped_each(rt: HostRuntime) -> Result<(), Fail> {
+    becomes(
+        &rt,
+        rt.alloc(),
+        b"#CXRLE Pos=-70,0\nx = 140, y = 1, rule = B3/S23\n3o134b3o!\n",
+        1,
+        b"#CXRLE Pos=-69,-1 Gen=1\nx = 138, y = 3, rule = B3/S23\no136bo$o136bo$o136bo!\n",
+    )
+}
