@@ -1,0 +1,93 @@
+//! Times the next generation of a pattern.
+//!
+//! Reads a macrocell or RLE file from standard input, or, where that is empty, makes a soup with a third of its cells alive. Prints the
+//! bytes of the text of its next generation; how long the next generation alone took, and the whole step from text to text, goes to
+//! standard error. bench/run.py times it.
+#![tactic(auto)]
+
+ghost use Rattle.std.specs.Prelude.{◌≡◌, ◌≤◌, IfOk};
+
+use life_base::{Device, LifeRule, Rule, read_within};
+use life_canon::laws::patterns_fit;
+use life_canon::read;
+use life_quad::Shared;
+use life_step::step_life;
+use life_sweep::{ByCounts, next_generation};
+use std::alloc::{AllocError, Global};
+use std::io;
+use std::time::Instant;
+
+// The columns and rows of a soup.
+const SIDE: u32 = 1774;
+
+// A soup as extended RLE, a row a line.
+fn soup(alloc: Global) -> Result<Vec<u8>, AllocError> {
+    let mut text = Vec::from_slice(alloc, b"x = 1774, y = 1774, rule = B3/S23\n")?;
+    let mut number = 1u64;
+    for _row in 0..SIDE {
+        for _column in 0..SIDE {
+            number = number
+                .wrapping_mul(6364136223846793005)
+                .wrapping_add(1442695040888963407);
+            let live = (number >> 33) % 3 == 0;
+            text.push(if live { b'o' } else { b'b' })?;
+        }
+        text.push(b'$')?;
+        text.push(b'\n')?;
+    }
+    text.push(b'!')?;
+    Ok(text)
+}
+
+// Times the next generation alone.
+fn time_generation(rt: HostRuntime, bytes: &[u8]) -> io::Result<()> {
+    let alloc = rt.alloc();
+    let mut store = Shared::new(alloc, 1 << 31);
+    let Ok(pattern) = read(alloc, &mut store, bytes) else {
+        return println!(rt; "no pattern");
+    };
+    let Rule::Life(rule) = &pattern.rule else {
+        return println!(rt; "no B/S rule");
+    };
+    let mut law = ByCounts::new(*rule);
+    patterns_fit();
+    let start = Instant::now(&rt)?;
+    let next = next_generation(alloc, &mut store, &mut law, pattern.root, 1 << 24);
+    let spent = start.elapsed(&rt)?;
+    eprintln!(rt;
+        "next generation {}: {} us",
+        next.is_ok(),
+        spent.as_micros()
+    )
+}
+
+fn main(rt: HostRuntime) -> io::Result<()> {
+    let alloc = rt.alloc();
+    let mut source = Device::new(rt.stdin());
+    let mut bytes = match read_within(alloc, &mut source, 1 << 30) {
+        Ok(bytes) => bytes,
+        Err(kind) => {
+            let name = kind.name();
+            return println!(rt; "{name}");
+        }
+    };
+    if bytes.is_empty() {
+        bytes = match soup(alloc) {
+            Ok(bytes) => bytes,
+            Err(_) => return println!(rt; "no memory for a soup"),
+        };
+    }
+    time_generation(rt, &bytes)?;
+    let mut store = Shared::new(alloc, 1 << 31);
+    let start = Instant::now(&rt)?;
+    let stepped = step_life(alloc, &mut store, &bytes);
+    let spent = start.elapsed(&rt)?;
+    eprintln!(rt; "text to text: {} us", spent.as_micros())?;
+    match stepped {
+        Ok(text) => println!(rt; "{} bytes", text.len()),
+        Err(fault) => {
+            let name = fault.kind.name();
+            println!(rt; "{name}")
+        }
+    }
+}
