@@ -1,4 +1,6 @@
 //! Files that come in pieces.
+ghost use Rattle.std.specs.Prelude.{◌≡◌, false};
+ghost use Rattle.life_canon.specs.Feeding.{Stands};
 
 use super::{
     GLIDER, GLIDER_CRLF, GLIDER_OPEN, GLIDER_TEXT, PAIR, PAIR_TEXT, REPEATS, ROOM, ROW, WIRES,
@@ -12,15 +14,22 @@ use std::alloc::Global;
 use std::process::Abort;
 use std::test::Fail;
 
+/// The canonical text of what a reader was fed.
+fn text_of(alloc: Global, store: &mut Shared, reader: Reader) -> Result<Vec<u8>, Fault>
+    requires { reader.spent ≡ false → Stands store.old reader }
+{
+    let pattern = reader.finish(store)?;
+    let file = number(alloc, store, &pattern)?;
+    write_mc(alloc, &file)
+}
+
 /// The canonical text of two pieces.
 fn text_of_pieces(alloc: Global, first: &[u8], second: &[u8]) -> Result<Vec<u8>, Fault> {
     let mut store = Shared::new(alloc, ROOM);
     let mut reader = Reader::new(alloc);
     reader.feed(&mut store, first)?;
     reader.feed(&mut store, second)?;
-    let pattern = reader.finish(&mut store)?;
-    let file = number(alloc, &store, &pattern)?;
-    write_mc(alloc, &file)
+    text_of(alloc, &mut store, reader)
 }
 
 /// The canonical text of the bytes, each a piece of its own.
@@ -30,9 +39,7 @@ fn text_of_bytes(alloc: Global, input: &[u8]) -> Result<Vec<u8>, Fault> {
     for byte in input {
         reader.feed(&mut store, &[*byte])?;
     }
-    let pattern = reader.finish(&mut store)?;
-    let file = number(alloc, &store, &pattern)?;
-    write_mc(alloc, &file)
+    text_of(alloc, &mut store, reader)
 }
 
 /// The file has this canonical text, cut anywhere into two pieces, and byte by byte.
@@ -94,14 +101,8 @@ fn a_refused_reader_is_spent(rt: HostRuntime) {
 #[test]
 fn no_byte_is_kept_behind_the_mark(rt: HostRuntime) -> Result<(), Fail> {
     let alloc = rt.alloc();
-    let mut store = Shared::new(alloc, ROOM);
-    let mut reader = Reader::new(alloc);
-    reader.feed(&mut store, GLIDER)?;
     let free = vec![in alloc; 111u8; 2097152]?;
-    reader.feed(&mut store, &free)?;
-    let pattern = reader.finish(&mut store)?;
-    let file = number(alloc, &store, &pattern)?;
-    let text = write_mc(alloc, &file)?;
+    let text = text_of_pieces(alloc, GLIDER, &free)?;
     assert_eq!(rt; text.as_slice(), GLIDER_TEXT);
     Ok(())
 }
