@@ -9,7 +9,7 @@ use Rattle.life_base.specs.declared.kind.Kind.TheVariants.{Full, Memory}
 use Rattle.life_mc.specs.Macrocell.{largest_state}
 use Rattle.life_mc.specs.Squares.{HasStatesUpTo}
 use Rattle.life_quad.specs.Moves.{trimmed}
-use Rattle.life_quad.specs.Store.{Nodes, Knows, IsShared, held, square_of}
+use Rattle.life_quad.specs.Store.{Nodes, Knows, IsShared, held, squares, square_of}
 use Rattle.life_quad.specs.declared.id.Id.{Id}
 use Rattle.life_canon.specs.Universe.{Universe, least_level, whole, square_universe}
 use Rattle.life_canon.specs.Files.{Reads, Refuses}
@@ -23,7 +23,7 @@ IsKnown store id = Knows store id × IsShared store
 
 -- the square of an Id
 abbrev pub content : Nodes → Id → Tree
-content store id = square_of (held store) id
+content store id = square_of (squares store.nodes) id
 
 -- each Id keeps its square
 abbrev pub KeepsContents : Nodes → Nodes → Type 0

@@ -25,6 +25,26 @@ fn leaf_state(rows: &[u8; 8], column: u8, row: u8) -> u8
     (rows[row as usize] >> (7 - column)) & 1
 }
 
+/// The square of level 1 whose north-west cell stands in this column and row of a leaf.
+fn four_cells<S: Squares>(squares: &mut S, rows: &[u8; 8], column: u8, row: u8) -> Result<Id, Kind>
+    requires column { column < 7 }
+    requires row { row < 7 }
+    ensures known { IfOk result (S.knows squares.new) }
+    ensures square { IfOk result (λ id. S.content squares.new id ≡ tree_at (leaf_cell rows.now) 1 column row) }
+    ensures level { IfOk result (λ id. depth (S.content squares.new id) ≡ 1) }
+    ensures keeps { (q : IdValue) → S.knows squares.old q → S.knows squares.new q × (S.content squares.new q ≡ S.content squares.old q) }
+    ensures stays { (t : Tree) → Contains (S.stored squares.old) t → Contains (S.stored squares.new) t }
+    ensures most { S.most squares.new ≡ S.most squares.old }
+    ensures refusals { IfErr result (λ e. (e ≡ Full) ⊎ (e ≡ Memory)) }
+    ensures full { result ≡ Err Full → length (S.stored squares.new) ≡ S.most squares.new }
+{
+    let nw = squares.cell(leaf_state(rows, column, row));
+    let ne = squares.cell(leaf_state(rows, column + 1, row));
+    let sw = squares.cell(leaf_state(rows, column, row + 1));
+    let se = squares.cell(leaf_state(rows, column + 1, row + 1));
+    squares.join(nw, ne, sw, se)
+}
+
 #[tactic(auto, using(crate::proofs::FillFacts::halves))]
 /// The square of a level, 3 at most, whose north-west cell stands in this column and row of a leaf.
 fn leaf_part<S: Squares>(
@@ -48,6 +68,9 @@ fn leaf_part<S: Squares>(
 {
     if level == 0 {
         return Ok(squares.cell(leaf_state(rows, column, row)));
+    }
+    if level == 1 {
+        return four_cells(squares, rows, column, row);
     }
     let half = 1 << (level - 1);
     let nw = leaf_part(squares, rows, level - 1, column, row)?;

@@ -9,7 +9,7 @@ pub struct Help {
 }
 
 pub const PROGRAM: Help = Help {
-    summary: "Gives each cellular-automaton pattern one canonical text, and compares, converts and steps pattern files",
+    summary: "Gives each cellular-automaton pattern one canonical text, and compares, shows, converts and steps pattern files",
     about: "Gives each pattern of a cellular automaton one canonical text, and compares, shows,
 converts and steps pattern files.
 
@@ -40,7 +40,7 @@ rule table, or `NAME` alone. A file that is refused writes nothing to standard
 output. With status 5 a text on standard error says what is wrong, or the line
 `TwoInputs`: both files are -.
 
-  NoHeader         line 1 begins a file of neither format, or there is no header
+  NoHeader         the file begins with no header, neither [M2] nor `x = ..`
   BadRule          the rule is empty, too long or has a byte that no rule has
   BoundedGrid      the rule has a `:`, a bounded grid
   UnsupportedRule  the rule is of a kind that isn't supported
@@ -63,7 +63,7 @@ output. With status 5 a text on standard error says what is wrong, or the line
   BadLevel         a square's level isn't from 1 to 60
   BadChild         a quarter is no earlier square of the level below
  of rule tables alone:
-  NoRuleLine              line 1 isn't `@RULE NAME`
+  NoRuleLine              the file begins with no line `@RULE NAME`
   NoTable                 there is no line @TABLE
   BadDescriptor           a line n_states, neighborhood or symmetries is missing, out
                           of its place or wrong
