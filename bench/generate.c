@@ -8,6 +8,7 @@
 //   generate rows LINES        an RLE file of so many rows of 2^60 cells each, with up to eight rows between them
 //   generate rotate4 LINES     a rule table of so many transitions under that symmetry: 8 states, Moore, ten variables
 //   generate permute LINES     the same under permute
+//   generate settled_rotate4 LINES, generate settled_permute LINES     the same without variables as outputs, so that no cell gets two states
 #include <stdint.h>
 #include <stdio.h>
 #include <stdlib.h>
@@ -150,8 +151,8 @@ static int table_state(void) {
 }
 
 // One transition: a fixed centre for seven lines in eight, one to three fixed neighbours, variables at the other places, each once but in
-// every sixteenth line, and as output a fixed state, or in every eighth line the variable of the last place that has one.
-static void transition(void) {
+// every sixteenth line, and as output a fixed state, or in every eighth line, unless all are settled, the variable of the last place that has one.
+static void transition(int is_settled) {
     char entries[9];
     int kind = (int)(next_random() >> 33) % 8, fixed = kind == 0 ? 1 : kind < 4 ? 2 : 3, first = (int)(next_random() >> 35) % 10, output = 0;
     for (int place = 0; place < 9; place++) entries[place] = (char)('a' + (first + place) % 10);
@@ -166,13 +167,13 @@ static void transition(void) {
     for (int place = 1; place < 9; place++)
         if (entries[place] >= 'a') output = place;
     for (int place = 0; place < 9; place++) printf("%c,", entries[place]);
-    if ((next_random() >> 20 & 7) != 0) printf("%d\n", table_state());
+    if (is_settled || (next_random() >> 20 & 7) != 0) printf("%d\n", table_state());
     else printf("%c\n", entries[output]);
 }
 
-static void table(const char *symmetry, const char *variables, long lines) {
+static void table(const char *symmetry, const char *variables, long lines, int is_settled) {
     printf("@RULE Generated\n@TABLE\nn_states:8\nneighborhood:Moore\nsymmetries:%s\n%s0,0,0,0,0,0,0,0,0,0\n", symmetry, variables);
-    for (long i = 1; i < lines; i++) transition();
+    for (long i = 1; i < lines; i++) transition(is_settled);
 }
 
 // Under rotate4 the places matter, so that the variables may have more states.
@@ -190,10 +191,12 @@ int main(int count, char **words) {
     else if (count == 3 && strcmp(words[1], "states256") == 0) states("Generated", 255, size);
     else if (count == 3 && strcmp(words[1], "cells") == 0) cells(size);
     else if (count == 3 && strcmp(words[1], "rows") == 0) rows(size);
-    else if (count == 3 && strcmp(words[1], "rotate4") == 0) table(words[1], wide, size);
-    else if (count == 3 && strcmp(words[1], "permute") == 0) table(words[1], narrow, size);
+    else if (count == 3 && strcmp(words[1], "rotate4") == 0) table(words[1], wide, size, 0);
+    else if (count == 3 && strcmp(words[1], "permute") == 0) table(words[1], narrow, size, 0);
+    else if (count == 3 && strcmp(words[1], "settled_rotate4") == 0) table("rotate4", wide, size, 1);
+    else if (count == 3 && strcmp(words[1], "settled_permute") == 0) table("permute", narrow, size, 1);
     else {
-        fputs("usage: generate macrocell|named|rle|states8|states256|cells|rows|rotate4|permute SIZE\n", stderr);
+        fputs("usage: generate macrocell|named|rle|states8|states256|cells|rows|rotate4|permute|settled_rotate4|settled_permute SIZE\n", stderr);
         return 2;
     }
     return 0;

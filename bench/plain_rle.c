@@ -4,7 +4,8 @@
 //   plain_rle        how long the writing alone took goes to standard error
 //   plain_rle read   nothing is written
 //   plain_rle text   what was written goes to standard output in place of the counts
-#include <inttypes.h>
+#include "plain_items.h"
+
 #include <stdint.h>
 #include <stdio.h>
 #include <stdlib.h>
@@ -14,11 +15,6 @@
 struct run {
     int64_t x, y;
     uint64_t length;
-    uint8_t state;
-};
-
-struct cell {
-    int64_t x, y;
     uint8_t state;
 };
 
@@ -70,68 +66,6 @@ static void read_runs(const char *input, size_t size) {
     }
 }
 
-// The text so far, with room to grow, and how many bytes its last line has.
-struct text {
-    char *bytes;
-    size_t size, room, used;
-};
-
-static char *space(struct text *text, size_t more) {
-    if (text->size + more > text->room) text->bytes = realloc(text->bytes, text->room = 2 * text->room + more);
-    return text->bytes + text->size;
-}
-
-static void put_item(struct text *text, uint64_t count, char state) {
-    char item[24];
-    size_t first = sizeof item;
-    item[--first] = state;
-    if (count != 1)
-        do item[--first] = (char)('0' + count % 10); while ((count /= 10) > 0);
-    size_t length = sizeof item - first;
-    char *at = space(text, length + 1);
-    if (text->used + length > 70) {
-        *at++ = '\n';
-        text->size++;
-        text->used = 0;
-    }
-    memcpy(at, item + first, length);
-    text->size += length;
-    text->used += length;
-}
-
-static struct text write_cells(const struct cell *cells, size_t count) {
-    struct text text = {malloc(1024), 0, 1024, 0};
-    int64_t left = 0, top = 0, right = -1, bottom = -1;
-    for (size_t i = 0; i < count; i++) {
-        if (i == 0 || cells[i].x < left) left = cells[i].x;
-        if (i == 0 || cells[i].y < top) top = cells[i].y;
-        if (i == 0 || cells[i].x > right) right = cells[i].x;
-        if (i == 0 || cells[i].y > bottom) bottom = cells[i].y;
-    }
-    text.size = (size_t)sprintf(text.bytes, "#CXRLE Pos=%" PRId64 ",%" PRId64 "\nx = %" PRId64 ", y = %" PRId64 ", rule = %s\n", left,
-                                top, right - left + 1, bottom - top + 1, rule);
-    int two_states = strchr(rule, '/') != NULL;
-    int64_t x = left, y = top;
-    for (size_t i = 0; i < count;) {
-        size_t next = i + 1;
-        while (next < count && cells[next].y == cells[i].y && cells[next].x == cells[next - 1].x + 1 && cells[next].state == cells[i].state)
-            next++;
-        if (cells[i].y > y) {
-            put_item(&text, (uint64_t)(cells[i].y - y), '$');
-            x = left;
-            y = cells[i].y;
-        }
-        if (cells[i].x > x) put_item(&text, (uint64_t)(cells[i].x - x), two_states ? 'b' : '.');
-        put_item(&text, next - i, two_states ? 'o' : (char)('@' + cells[i].state));
-        x = cells[next - 1].x + 1;
-        i = next;
-    }
-    put_item(&text, 1, '!');
-    *space(&text, 1) = '\n';
-    text.size++;
-    return text;
-}
-
 int main(int count, char **words) {
     int reads_only = count == 2 && strcmp(words[1], "read") == 0, as_text = count == 2 && strcmp(words[1], "text") == 0;
     size_t size = 0, room = 1 << 16;
@@ -152,7 +86,7 @@ int main(int count, char **words) {
         }
     struct timespec start, stop;
     clock_gettime(CLOCK_MONOTONIC, &start);
-    struct text text = write_cells(cells, cell_count);
+    struct text text = write_cells(cells, cell_count, rule, 0);
     clock_gettime(CLOCK_MONOTONIC, &stop);
     if (as_text) {
         fwrite(text.bytes, 1, text.size, stdout);

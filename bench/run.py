@@ -46,21 +46,25 @@ def timed(words, source=os.devnull):
     return best, peak_of(words, source), printed, least_spent
 
 
-def written(words, source):
-    """The same of a command whose output is thrown away, so that the time to take it does not count."""
-    best = None
+def written(words, source=os.devnull):
+    """The best time of a command in seconds, its peak memory in bytes and the least processor time. Its output is thrown away, so that the time
+    to take it does not count."""
+    best, least_spent = None, None
     for _ in range(TIMES):
         with open(source, "rb") as given, open(os.devnull, "wb") as sink:
             start = time.monotonic()
-            status = subprocess.call(words, stdin=given, stdout=sink)
+            child = subprocess.Popen(words, stdin=given, stdout=sink)
+            _, status, usage = os.wait4(child.pid, 0)
             took = time.monotonic() - start
         if status != 0:
             sys.exit(f"{' '.join(words)} on {source}: status {status}")
         best = took if best is None else min(best, took)
-    return best, peak_of(words, source)
+        spent = usage.ru_utime + usage.ru_stime
+        least_spent = spent if least_spent is None else min(least_spent, spent)
+    return best, peak_of(words, source), least_spent
 
 
-def output(words, source):
+def output(words, source=os.devnull):
     """What a command writes to standard output."""
     with open(source, "rb") as given:
         return subprocess.run(words, stdin=given, stdout=subprocess.PIPE, check=True).stdout
@@ -105,7 +109,7 @@ def soups(folder, reference):
         tree = os.path.join(folder, name + ".mc")
         if not os.path.exists(tree):
             with open(tree, "wb") as out:
-                out.write(output([reference], soup))
+                out.write(output([reference, "canon", "-"], soup))
         pairs += [(f"soup of {label}, RLE", soup), (f"the same soup, macrocell", tree)]
     return pairs + [(label, made(folder, name, kind, size)) for label, name, kind, size in (
         ("random tree, 1,000,000 lines", "nodes_1e6.mc", "macrocell", 1_000_000),
@@ -118,19 +122,49 @@ def soups(folder, reference):
 
 def canonical(program, folder):
     print("golly_canon canon, beside cat and a plain program in C that does the whole of the work and checks nothing")
-    reference = plain(folder, "plain_canon")
+    reference = plain(folder, "plain")
     times = {}
     for label, path in soups(folder, reference):
         size = os.path.getsize(path)
-        if output([program, "canon", "-"], path) != output([reference], path):
+        if output([program, "canon", "-"], path) != output([reference, "canon", "-"], path):
             sys.exit(f"{path}: the two programs write other bytes")
-        cat, _ = written(["cat"], path)
-        base, base_peak = written([reference], path)
-        took, peak = written([program, "canon", "-"], path)
+        cat, _, _ = written(["cat"], path)
+        base, base_peak, _ = written([reference, "canon", "-"], path)
+        took, peak, _ = written([program, "canon", "-"], path)
         times[label] = took
         print(f"  {label:<29} {size / 1e6:6.1f} MB: {took:.3f} s ({size / took / 1e6:.0f} MB/s), plain {base:.3f} s, cat {cat:.3f} s; {took / base:.2f} times plain;"
               f" peak memory {peak / 1e6:.0f} MB, plain {base_peak / 1e6:.0f} MB, {peak / base_peak:.2f} times plain; the same bytes")
     print(f"  10 times the soup takes {times['soup of 100 MB, RLE'] / times['soup of 10 MB, RLE']:.1f} times as long")
+
+
+def jobs(folder, soup, tree):
+    """The commands but `canon`: a label, the words for the program, and those for the plain one. What is converted and stepped has at most 2^20
+    cells that aren't 0."""
+    cells, states = made(folder, "soup_2e6.rle", "rle", 2_140_000), made(folder, "states8_2e6.rle", "states8", 2_000_000)
+    listed = [(f"same, {label}", ["same", soup, other], ["same", soup, other])
+              for label, other in (("RLE and macrocell of 10 MB", tree), ("RLE of 10 MB twice", soup))]
+    listed += [(f"show, {label} of 10 MB", ["show", path], ["show", path]) for label, path in (("RLE", soup), ("macrocell", tree))]
+    listed += [(f"convert --to rle, {label}", ["convert", path, "--to", "rle"], ["rle", path])
+               for label, path in (("two states", cells), ("eight states", states))]
+    listed.append(("step, two states", ["step", cells], ["step", cells]))
+    for symmetry in ("rotate4", "permute"):
+        table = made(folder, f"settled_{symmetry}.rule", f"settled_{symmetry}", 300)
+        listed.append((f"step --table, 300 lines, {symmetry}", ["step", states, "--table", table], ["step", states, table]))
+    return listed
+
+
+def commands(program, folder):
+    print("the other commands, beside the plain program; soups of 10 MB, and of a million cells that aren't 0")
+    reference = plain(folder, "plain")
+    (_, soup), (_, tree) = soups(folder, reference)[:2]
+    for label, words, others in jobs(folder, soup, tree):
+        text = output([program, *words])
+        if text != output([reference, *others]):
+            sys.exit(f"{label}: the two programs write other bytes")
+        base, base_peak, base_spent = written([reference, *others])
+        took, peak, spent = written([program, *words])
+        print(f"  {label:<36} {took:.3f} s, plain {base:.3f} s; {took / base:.2f} times plain, {spent / base_spent:.2f} times the processor"
+              f" time; peak memory {peak / 1e6:.0f} MB, plain {base_peak / 1e6:.0f} MB; the same {len(text):,} bytes")
 
 
 def rle(folder):
@@ -218,6 +252,13 @@ def table(folder):
         print(f"  under {symmetry:<20} {took:.0f} ms, plain {other:.0f} ms; {took / other:.2f} times plain, peak memory {peak / 1e6:.0f} MB; {answers}")
 
 
+def step(folder):
+    print("one generation of a soup of a million live cells, B3/S23")
+    _, peak, texts, spent = timed([proved("bench_step")])
+    alone, whole = least(r"next generation \w+: (\d+) us", texts), least(r"text to text: (\d+) us", texts)
+    print(f"  the next generation {alone / 1000:.0f} ms, from text to text {whole / 1000:.0f} ms; peak memory {peak / 1e6:.0f} MB")
+
+
 def main():
     if len(sys.argv) != 3:
         sys.exit(__doc__)
@@ -225,10 +266,12 @@ def main():
     os.makedirs(folder, exist_ok=True)
     plain(folder, "generate")
     canonical(program, folder)
+    commands(program, folder)
     rle(folder)
     store(folder)
     strips(folder)
     table(folder)
+    step(folder)
 
 
 if __name__ == "__main__":

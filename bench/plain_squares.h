@@ -1,7 +1,6 @@
-// A plain program that does the whole of `golly_canon canon`, to time beside: it reads a macrocell file or an RLE file, shares equal
-// squares by one hash table, trims, and writes the nodes in canonical order. It checks nothing. Under a B/S rule the least square is 8x8
-// cells in one word, and the lines of a macrocell file are leaves and levels of 4 and more; under a name it is one cell.
-//   plain_canon <FILE        the canonical text
+// Squares of cells in a shared store, read from a macrocell file or an RLE file as plainly as can be: for the plain program to time beside
+// golly_canon. It checks nothing. Equal squares are shared by one hash table. Under a B/S rule the least square is 8x8 cells in one word, and
+// the lines of a macrocell file are leaves and levels of 4 and more; under a name it is one cell.
 #include <stdint.h>
 #include <stdio.h>
 #include <stdlib.h>
@@ -67,6 +66,8 @@ static uint32_t leaf_of(uint64_t cells) {
 }
 
 static uint32_t quarter(uint32_t id, int which) { return id ? nodes[id - FIRST].quarters[which] : 0; }
+
+static uint64_t cells_of(uint32_t id) { return id ? (uint64_t)nodes[id - FIRST].quarters[0] << 32 | nodes[id - FIRST].quarters[1] : 0; }
 
 // ---- strips: rows of squares of one level, by stretches of equal squares that aren't blank
 
@@ -217,16 +218,33 @@ static void add_run(uint64_t x, uint64_t y, uint64_t length, uint64_t square) {
     if (end % 8) add_bits(row, end / 8, end / 8 + 1, 255u & ~(255u >> end % 8));
 }
 
-static char *input;
-static size_t size;
-static char rule[256] = "B3/S23";
-static uint64_t generation;
-static uint32_t root;
-static int level;
+// What a file says.
+struct pattern {
+    char rule[256];
+    uint64_t generation;
+    uint32_t root;
+    int level;
+};
 
-static void is_named(void) { two_states = strchr(rule, '/') != NULL; }
+static struct pattern now;
 
-static void read_rle(void) {
+static void is_named(void) { two_states = strchr(now.rule, '/') != NULL; }
+
+// Ends the last row, and leaves the whole plane as the root.
+static void end_plane(void) {
+    int least = two_states ? 3 : 0;
+    if (two_states) end_band();
+    else end_row();
+    uint64_t done = two_states ? bands_done : rows_done;
+    skip(done, ((uint64_t)1 << (TOP - least)) - done, least);
+    now.root = stack[0].count ? (uint32_t)stack[0].stretches[0].square : 0;
+    now.level = TOP;
+    free(stack[0].stretches);
+    depth = 0;
+    band_number = bands_done = row_number = rows_done = 0;
+}
+
+static void read_rle(const char *input, size_t size) {
     const uint64_t half = (uint64_t)1 << (TOP - 1);
     int64_t left = 0, x = 0, y = 0;
     int header = 0, over = 0;
@@ -237,11 +255,11 @@ static void read_rle(void) {
         if (*at == '#') {
             long long px = 0, py = 0;
             unsigned long long gen = 0;
-            if (sscanf(at, "#CXRLE Pos=%lld,%lld Gen=%llu", &px, &py, &gen) > 0) left = x = px, y = py, generation = gen;
+            if (sscanf(at, "#CXRLE Pos=%lld,%lld Gen=%llu", &px, &py, &gen) > 0) left = x = px, y = py, now.generation = gen;
         } else if (!header) {
             header = 1;
             const char *named = memchr(at, 'r', (size_t)(stop - at));
-            if (named) sscanf(named, "rule = %255s", rule);
+            if (named) sscanf(named, "rule = %255s", now.rule);
             is_named();
         } else {
             uint64_t number = 0, prefix = 0;
@@ -278,29 +296,24 @@ static void read_rle(void) {
         }
         at = stop + 1;
     }
-    int least = two_states ? 3 : 0;
-    if (two_states) end_band();
-    else end_row();
-    skip(two_states ? bands_done : rows_done, ((uint64_t)1 << (TOP - least)) - (two_states ? bands_done : rows_done), least);
-    root = stack[0].count ? (uint32_t)stack[0].stretches[0].square : 0;
-    level = TOP;
+    end_plane();
 }
 
 // ---- macrocell
 
-static void read_macrocell(void) {
+static void read_macrocell(const char *input, size_t size) {
     uint32_t *ids = NULL;
     size_t count = 0, room = 0;
     const char *end = input + size;
-    level = 1;
+    int level = 1;
     for (const char *at = input; at < end;) {
         const char *feed = memchr(at, '\n', (size_t)(end - at));
         const char *stop = feed ? feed : end;
         if (!strncmp(at, "#R ", 3)) {
-            snprintf(rule, sizeof rule, "%.*s", (int)(stop - at - 3), at + 3);
+            snprintf(now.rule, sizeof now.rule, "%.*s", (int)(stop - at - 3), at + 3);
             is_named();
         } else if (!strncmp(at, "#G ", 3)) {
-            generation = strtoull(at + 3, NULL, 10);
+            now.generation = strtoull(at + 3, NULL, 10);
         } else if (*at != '[' && *at != '#') {
             ids = room_for(ids, count, &room, sizeof *ids);
             if (*at == '.' || *at == '*' || *at == '$') {
@@ -328,87 +341,64 @@ static void read_macrocell(void) {
         }
         at = stop + 1;
     }
-    root = count ? ids[count - 1] : 0;
+    now.root = count ? ids[count - 1] : 0;
+    now.level = level;
     free(ids);
 }
 
-// ---- the canonical text
+// ---- the least square
 
-static uint64_t cells_of(uint32_t id) { return id ? (uint64_t)nodes[id - FIRST].quarters[0] << 32 | nodes[id - FIRST].quarters[1] : 0; }
+// The middle of the square that four leaves make.
+static uint64_t middle_of(uint64_t nw, uint64_t ne, uint64_t sw, uint64_t se) {
+    const uint64_t east = 0x0F0F0F0F, west = east << 4;
+    return (nw & east) << 36 | (ne & west) << 28 | (sw & east << 32) >> 28 | (se & west << 32) >> 36;
+}
 
 // Takes the outer ring of a square of 16x16 cells away, if it is blank.
 static int trim_leaves(void) {
-    const uint64_t se = 0x0F0F0F0F, sw = se << 4, ne = se << 32, nw = se << 36;
-    uint64_t cells[4];
-    for (int which = 0; which < 4; which++) cells[which] = cells_of(quarter(root, which));
-    if (cells[0] & ~se || cells[1] & ~sw || cells[2] & ~ne || cells[3] & ~nw) return 0;
-    root = leaf_of(cells[0] << 36 | cells[1] << 28 | cells[2] >> 28 | cells[3] >> 36);
+    uint64_t cells[4], middle;
+    int number = 0;
+    for (int which = 0; which < 4; which++) cells[which] = cells_of(quarter(now.root, which)), number += __builtin_popcountll(cells[which]);
+    middle = middle_of(cells[0], cells[1], cells[2], cells[3]);
+    if (__builtin_popcountll(middle) != number) return 0;
+    now.root = leaf_of(middle);
     return 1;
 }
 
 // Takes the outer ring of the root away, if it is blank.
-static int trim(void) {
-    if (two_states && level == 4) return trim_leaves();
+static int trim_ring(void) {
+    if (two_states && now.level == 4) return trim_leaves();
+    uint32_t root = now.root;
     for (int which = 0; which < 4; which++)
         for (int inner = 0; inner < 4; inner++)
             if (inner != 3 - which && quarter(quarter(root, which), inner)) return 0;
-    root = join(quarter(quarter(root, 0), 3), quarter(quarter(root, 1), 2), quarter(quarter(root, 2), 1), quarter(quarter(root, 3), 0));
+    now.root = join(quarter(quarter(root, 0), 3), quarter(quarter(root, 1), 2), quarter(quarter(root, 2), 1), quarter(quarter(root, 3), 0));
     return 1;
 }
 
-static uint32_t *numbers, lines;
-static char piece[1 << 16], *out = piece;
-
-static char *number(char *at, uint64_t value) {
-    char digits[20];
-    int count = 0;
-    do digits[count++] = (char)('0' + value % 10);
-    while (value /= 10);
-    while (count) *at++ = digits[--count];
-    return at;
+static void trim(void) {
+    while (now.root && now.level > (two_states ? 3 : 1) && trim_ring()) now.level--;
 }
 
-static uint32_t write_square(uint32_t id, int height) {
-    if (id < FIRST) return id;
-    if (numbers[id - FIRST]) return numbers[id - FIRST];
-    struct node node = nodes[id - FIRST];
-    uint32_t quarters[4];
-    int is_leaf = two_states && height == 3;
-    for (int i = 0; i < 4 && !is_leaf; i++) quarters[i] = write_square(node.quarters[i], height - 1);
-    if (out - piece > (1 << 16) - 200) fwrite(piece, 1, (size_t)(out - piece), stdout), out = piece;
-    if (is_leaf) {
-        uint64_t cells = cells_of(id);
-        for (int row = 0; row < 8; row++, cells <<= 8) {
-            for (unsigned left = (unsigned)(cells >> 56); left & 255; left <<= 1) *out++ = left & 128 ? '*' : '.';
-            *out++ = '$';
-        }
-    } else {
-        out = number(out, (uint64_t)height);
-        for (int i = 0; i < 4; i++) *out++ = ' ', out = number(out, quarters[i]);
-    }
-    *out++ = '\n';
-    return numbers[id - FIRST] = ++lines;
-}
+// ---- a file
 
-int main(void) {
-    size_t room = 1 << 16;
-    input = malloc(room);
-    for (size_t count; (count = fread(input + size, 1, room - size, stdin)) > 0;) {
+// Reads the pattern of a file, or of standard input for `-`, and trims it.
+static void read_pattern(const char *name) {
+    FILE *file = strcmp(name, "-") ? fopen(name, "rb") : stdin;
+    size_t size = 0, room = 1 << 16;
+    char *input = malloc(room);
+    for (size_t count; (count = fread(input + size, 1, room - size, file)) > 0;) {
         size += count;
         if (size == room) input = realloc(input, room *= 2);
     }
+    if (file != stdin) fclose(file);
     input = realloc(input, size + 1);
     input[size] = '\n';
-    slots = calloc(slot_count, sizeof *slots);
-    if (size >= 4 && !memcmp(input, "[M2]", 4)) read_macrocell();
-    else read_rle();
+    if (!slots) slots = calloc(slot_count, sizeof *slots);
+    now = (struct pattern){"B3/S23", 0, 0, 0};
+    is_named();
+    if (size >= 4 && !memcmp(input, "[M2]", 4)) read_macrocell(input, size);
+    else read_rle(input, size);
     free(input);
-    int least = two_states ? 3 : 1;
-    while (root && level > least && trim()) level--;
-    out += sprintf(out, "[M2] (canonical 1)\n#R %s\n", rule);
-    if (generation) out += sprintf(out, "#G %llu\n", (unsigned long long)generation);
-    numbers = calloc(node_count + 1, sizeof *numbers);
-    write_square(root, level);
-    fwrite(piece, 1, (size_t)(out - piece), stdout);
-    return 0;
+    trim();
 }
