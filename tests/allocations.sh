@@ -1,7 +1,7 @@
 #!/bin/sh
 # Refuses each request for memory in turn, alone and together with all behind it: first those of the program, $1, then those of $2, the
-# program of crates/check_allocations, which makes each call of the libraries that takes memory. What meets a refusal answers `Memory`, or
-# does without that memory, and all else is as ever.
+# program of crates/check_allocations, which makes each call that takes memory of the libraries below the steps and the command line. What
+# meets a refusal answers `Memory`, or does without that memory, and all else is as ever.
 # It needs a C compiler, for tests/refuse_allocation.c.
 
 usage="usage: tests/allocations.sh PROGRAM CALLS"
@@ -116,6 +116,13 @@ program_run "same A B" 0 'same\n' "" same input other
 program_run "show FILE" 0 'rule B3/S23\ngeneration 0\npopulation 2\nbox -4 0 9 1\nnodes 2\n' "" show input
 program_run "convert FILE --to rle" 0 '#CXRLE Pos=-4,0\nx = 9, y = 1, rule = B3/S23\no7bo!\n' "" convert other --to rle
 program_run "convert FILE --to mc" 0 "$header B3/S23\n$pair" "" convert input --to mc
+
+# The next generation, of a row of three cells and of one cell that spreads by a table.
+printf 'x = 3, y = 1\n3o!\n' > input
+program_run "step FILE" 0 "$header B3/S23\n#G 1\n"'$$$.....*$.....*$.....*$$$\n' "" step input
+printf 'x = 1, y = 1, rule = Spread\nB!\n' > input
+printf '@RULE Spread\n@TABLE\nn_states:3\nneighborhood:vonNeumann\nsymmetries:rotate4\nvar a={1,2}\n0,a,0,0,0,a\n' > table
+program_run "step FILE --table RULE" 0 "$header Spread\n#G 1\n1 0 0 2 0\n1 0 2 0 0\n1 2 2 2 0\n2 0 1 2 3\n" "" step input --table table
 
 # Two cells under the name of a rule, from standard input.
 printf '[M2]\n#R WireWorld\n#G 7\n1 1 25 0 0' > input
