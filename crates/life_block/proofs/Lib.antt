@@ -1,0 +1,5 @@
+pub mod BitmapLemmas
+pub mod CountLemmas
+pub mod PieceLemmas
+pub mod RootLemmas
+pub mod WordLemmas

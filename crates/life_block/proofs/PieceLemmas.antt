@@ -1,0 +1,193 @@
+-- Pieces of a plane of cells: moved, joined, side by side, and blank.
+use Rattle.std.proofs.Common.{◌≡◌, ℕ, zero, suc, ◌+◌, ◌^◌, ◌<◌, ◌≤◌, false, Bool, ℤ, pos, neg_ℤ, ◌+ℤ◌, ◌≤ℤ◌, ◌<ℤ◌, [], ◌∷◌, refl, sym, ◌∙◌, ap, subst, arith, add-one}
+use Rattle.std.specs.Prelude.{if◌then◌else◌, ◌||◌}
+use Rattle.std.proofs.lemmas.Int.{ints, by_lt_z}
+use Rattle.std.proofs.Math.Pow.{pow_pos}
+use Rattle.life_base.specs.Rules.{has_digit}
+use Rattle.life_base.specs.Sets.{DigitSets}
+use Rattle.life_base.specs.Tree.{Tree, point, quad, depth, blank}
+use Rattle.life_base.proofs.Squares.{depth-blank}
+use Rattle.life_quad.specs.declared.id.Id.{Id}
+use Rattle.life_sweep.specs.Around.{before, after, eight_around}
+use Rattle.life_sweep.specs.Generation.{next_by_count, next_life}
+use Rattle.life_table.specs.Meaning.{count_of}
+use Rattle.life_block.specs.declared.grid.Three.{Three}
+use Rattle.life_block.specs.declared.grid.Nine.{Nine}
+use Rattle.life_block.specs.declared.grid.Four.{Four}
+use Rattle.life_block.specs.declared.grid.Sixteen.{Sixteen}
+use Rattle.life_block.specs.Pieces.{IsPiece, IsAt, InThree, InNine, InFour, InSixteen, AreThree, AreNine, AreFour, AreSixteen, back, ahead, western, eastern, north_west_of, north_east_of, south_west_of, south_east_of}
+
+pub twice : (n : ℕ) → 2 ^ (n + 1) ≡ 2 ^ n + 2 ^ n
+twice n = ap (λ m. 2 ^ m) (add-one n) ∙ double n
+  where
+    double : (m : ℕ) → 2 ^ suc m ≡ 2 ^ m + 2 ^ m
+    double m = grind arith
+
+pub IsPiece-moved : (cells : ℤ → ℤ → ℕ) (x z y w : ℤ) (t : Tree) → x ≡ z → y ≡ w → IsPiece cells x y t → IsPiece cells z w t
+IsPiece-moved cells x z y w t e f h = subst (λ u. IsPiece cells u w t) e (subst (λ u. IsPiece cells x u t) f h)
+
+-- four pieces are one
+pub IsPiece-joined : (cells : ℤ → ℤ → ℕ) (x y : ℤ) (a b c d t : Tree) (k : ℕ) → depth a ≡ k → t ≡ quad a b c d
+    → IsPiece cells x y a → IsPiece cells (ahead x (2 ^ k)) y b → IsPiece cells x (ahead y (2 ^ k)) c → IsPiece cells (ahead x (2 ^ k)) (ahead y (2 ^ k)) d
+    → IsPiece cells x y t
+IsPiece-joined cells x y a b c d t k level is pa pb pc pd =
+    let side : 2 ^ k ≡ 2 ^ depth a = ap (λ n. 2 ^ n) (sym level) in
+    let ex : ahead x (2 ^ k) ≡ ahead x (2 ^ depth a) = ap (ahead x) side in
+    let ey : ahead y (2 ^ k) ≡ ahead y (2 ^ depth a) = ap (ahead y) side in
+    subst (IsPiece cells x y) (sym is) (pa, IsPiece-moved cells _ _ y y b ex refl pb, IsPiece-moved cells x x _ _ c refl ey pc, IsPiece-moved cells _ _ _ _ d ex ey pd)
+
+-- ---- squares side by side
+
+module _ (content : Id → Tree) (cells : ℤ → ℤ → ℕ) (side : ℕ) where
+  pub western-three : (x y : ℤ) (four : Four) → AreFour content cells side x y four → AreThree content cells side x y (western four)
+  western-three x y four h = record { west = h.far_west; middle = h.west; east = h.east }
+
+  pub eastern-three : (x y : ℤ) (four : Four) → AreFour content cells side x y four → AreThree content cells side (ahead x side) y (eastern four)
+  eastern-three x y four h =
+      let e : x ≡ back (ahead x side) side = omega (arith, ints) in
+      record { west = IsPiece-moved cells x _ y y _ e refl h.west; middle = h.east; east = h.far_east }
+
+  pub AreThree-moved : (x y w : ℤ) (three : Three) → y ≡ w → AreThree content cells side x y three → AreThree content cells side x w three
+  AreThree-moved x y w three e h = subst (λ u. AreThree content cells side x u three) e h
+
+  pub AreFour-moved : (x y w : ℤ) (four : Four) → y ≡ w → AreFour content cells side x y four → AreFour content cells side x w four
+  AreFour-moved x y w four e h = subst (λ u. AreFour content cells side x u four) e h
+
+  pub nine-north_west : (x y : ℤ) (s : Sixteen) → AreSixteen content cells side x y s → AreNine content cells side x y (north_west_of s)
+  nine-north_west x y s h =
+      record { north = western-three x _ _ h.far_north; middle = western-three x _ _ h.north; south = western-three x _ _ h.south }
+
+  pub nine-north_east : (x y : ℤ) (s : Sixteen) → AreSixteen content cells side x y s → AreNine content cells side (ahead x side) y (north_east_of s)
+  nine-north_east x y s h =
+      record { north = eastern-three x _ _ h.far_north; middle = eastern-three x _ _ h.north; south = eastern-three x _ _ h.south }
+
+  pub nine-south_west : (x y : ℤ) (s : Sixteen) → AreSixteen content cells side x y s → AreNine content cells side x (ahead y side) (south_west_of s)
+  nine-south_west x y s h =
+      let e : y ≡ back (ahead y side) side = omega (arith, ints) in
+      record { north = AreThree-moved x _ _ _ e (western-three x _ _ h.north); middle = western-three x _ _ h.south; south = western-three x _ _ h.far_south }
+
+  pub nine-south_east : (x y : ℤ) (s : Sixteen) → AreSixteen content cells side x y s → AreNine content cells side (ahead x side) (ahead y side) (south_east_of s)
+  nine-south_east x y s h =
+      let e : y ≡ back (ahead y side) side = omega (arith, ints) in
+      record { north = AreThree-moved _ _ _ _ e (eastern-three x _ _ h.north); middle = eastern-three x _ _ h.south; south = eastern-three x _ _ h.far_south }
+
+-- what is known stays
+module _ (knows : Id → Type 0) (old new : Id → Tree) (keeps : (q : Id) → knows q → new q ≡ old q) (cells : ℤ → ℤ → ℕ) (side k : ℕ) where
+  IsPiece-kept : (x y : ℤ) (q : Id) → IsAt knows old k q → IsPiece cells x y (old q) → IsPiece cells x y (new q)
+  IsPiece-kept x y q known h = subst (IsPiece cells x y) (sym (keeps q known.known)) h
+
+  AreFour-kept : (x y : ℤ) (four : Four) → InFour (IsAt knows old k) four → AreFour old cells side x y four → AreFour new cells side x y four
+  AreFour-kept x y four known h =
+      record {
+        far_west = IsPiece-kept _ _ _ known.far_west h.far_west;
+        west = IsPiece-kept _ _ _ known.west h.west;
+        east = IsPiece-kept _ _ _ known.east h.east;
+        far_east = IsPiece-kept _ _ _ known.far_east h.far_east;
+      }
+
+  pub AreSixteen-kept : (x y : ℤ) (s : Sixteen) → InSixteen (IsAt knows old k) s → AreSixteen old cells side x y s → AreSixteen new cells side x y s
+  AreSixteen-kept x y s known h =
+      record {
+        far_north = AreFour-kept _ _ _ known.far_north h.far_north;
+        north = AreFour-kept _ _ _ known.north h.north;
+        south = AreFour-kept _ _ _ known.south h.south;
+        far_south = AreFour-kept _ _ _ known.far_south h.far_south;
+      }
+
+-- ---- blank squares
+
+-- the cells from the column `west` to the one before `east`, and so for rows, have state 0
+pub record IsZero (cells : ℤ → ℤ → ℕ) (west north east south : ℤ) : Type 0 where
+  pub zero_at : (x y : ℤ) → west ≤ℤ x → x <ℤ east → north ≤ℤ y → y <ℤ south → cells x y ≡ 0
+
+IsZero-beside : (cells : ℤ → ℤ → ℕ) (west middle north east south : ℤ) → IsZero cells west north middle south → IsZero cells middle north east south → IsZero cells west north east south
+IsZero-beside cells west middle north east south p q =
+    record { zero_at = λ x y w e n s. by_lt_z x middle (λ l. p.zero_at x y w l n s) (λ l. q.zero_at x y l e n s) }
+
+IsZero-below : (cells : ℤ → ℤ → ℕ) (west north middle east south : ℤ) → IsZero cells west north east middle → IsZero cells west middle east south → IsZero cells west north east south
+IsZero-below cells west north middle east south p q =
+    record { zero_at = λ x y w e n s. by_lt_z y middle (λ l. p.zero_at x y w e n l) (λ l. q.zero_at x y w e l s) }
+
+pub zero-of_blank : (cells : ℤ → ℤ → ℕ) (k : ℕ) (x y : ℤ) → IsPiece cells x y (blank k) → IsZero cells x y (ahead x (2 ^ k)) (ahead y (2 ^ k))
+zero-of_blank cells zero x y h =
+    record {
+      zero_at = λ u v w e n s.
+          let eu : u ≡ x = omega (arith, ints, w, e) in
+          let ev : v ≡ y = omega (arith, ints, n, s) in
+          (λ i. cells (eu i) (ev i)) ∙ sym h;
+    }
+zero-of_blank cells (suc k) x y h =
+    let side : 2 ^ depth (blank k) ≡ 2 ^ k = ap (λ n. 2 ^ n) (depth-blank k) in
+    let ex : ahead x (2 ^ depth (blank k)) ≡ ahead x (2 ^ k) = ap (ahead x) side in
+    let ey : ahead y (2 ^ depth (blank k)) ≡ ahead y (2 ^ k) = ap (ahead y) side in
+    let double : 2 ^ suc k ≡ 2 ^ k + 2 ^ k = grind arith in
+    let nw = zero-of_blank cells k x y h.0 in
+    let ne = zero-of_blank cells k (ahead x (2 ^ k)) y (IsPiece-moved cells _ _ y y (blank k) ex refl h.1) in
+    let sw = zero-of_blank cells k x (ahead y (2 ^ k)) (IsPiece-moved cells x x _ _ (blank k) refl ey h.2) in
+    let se = zero-of_blank cells k (ahead x (2 ^ k)) (ahead y (2 ^ k)) (IsPiece-moved cells _ _ _ _ (blank k) ex ey h.3) in
+    let fx : ahead (ahead x (2 ^ k)) (2 ^ k) ≡ ahead x (2 ^ suc k) = omega (arith, ints, double) in
+    let fy : ahead (ahead y (2 ^ k)) (2 ^ k) ≡ ahead y (2 ^ suc k) = omega (arith, ints, double) in
+    subst (λ e. IsZero cells x y e (ahead y (2 ^ suc k))) fx (subst (λ s. IsZero cells x y (ahead (ahead x (2 ^ k)) (2 ^ k)) s) fy
+    (IsZero-below cells x y (ahead y (2 ^ k)) _ _ (IsZero-beside cells x (ahead x (2 ^ k)) y _ _ nw ne) (IsZero-beside cells x (ahead x (2 ^ k)) (ahead y (2 ^ k)) _ _ sw se)))
+
+pub blank-of_zero : (cells : ℤ → ℤ → ℕ) (k : ℕ) (x y : ℤ) → IsZero cells x y (ahead x (2 ^ k)) (ahead y (2 ^ k)) → IsPiece cells x y (blank k)
+blank-of_zero cells zero x y h = sym (h.zero_at x y (omega (arith, ints)) (omega (arith, ints)) (omega (arith, ints)) (omega (arith, ints)))
+blank-of_zero cells (suc k) x y h =
+    let side : 2 ^ k ≡ 2 ^ depth (blank k) = ap (λ n. 2 ^ n) (sym (depth-blank k)) in
+    let ex : ahead x (2 ^ k) ≡ ahead x (2 ^ depth (blank k)) = ap (ahead x) side in
+    let ey : ahead y (2 ^ k) ≡ ahead y (2 ^ depth (blank k)) = ap (ahead y) side in
+    let double : 2 ^ suc k ≡ 2 ^ k + 2 ^ k = grind arith in
+    let part : (u v : ℤ) → x ≤ℤ u → ahead u (2 ^ k) ≤ℤ ahead x (2 ^ suc k) → y ≤ℤ v → ahead v (2 ^ k) ≤ℤ ahead y (2 ^ suc k) → IsPiece cells u v (blank k) = (λ u v w e n s.
+    blank-of_zero cells k u v (record { zero_at = λ i j a b c d. h.zero_at i j (omega (arith, ints, w, a)) (omega (arith, ints, e, b)) (omega (arith, ints, n, c)) (omega (arith, ints, s, d)) })) in (
+      part x y (omega (arith, ints)) (omega (arith, ints, double)) (omega (arith, ints)) (omega (arith, ints, double)),
+      IsPiece-moved cells _ _ y y (blank k) ex refl (part (ahead x (2 ^ k)) y (omega (arith, ints)) (omega (arith, ints, double)) (omega (arith, ints)) (omega (arith, ints, double))),
+      IsPiece-moved cells x x _ _ (blank k) refl ey (part x (ahead y (2 ^ k)) (omega (arith, ints)) (omega (arith, ints, double)) (omega (arith, ints)) (omega (arith, ints, double))),
+      IsPiece-moved cells _ _ _ _ (blank k) ex ey (part (ahead x (2 ^ k)) (ahead y (2 ^ k)) (omega (arith, ints)) (omega (arith, ints, double)) (omega (arith, ints)) (omega (arith, ints, double))),
+    )
+
+-- a cell among cells of state 0
+pub next-zero : (sets : DigitSets) (cells : ℤ → ℤ → ℕ) (x y : ℤ) → has_digit sets.births 0 ≡ false
+    → ((u v : ℤ) → before x ≤ℤ u → u ≤ℤ after x → before y ≤ℤ v → v ≤ℤ after y → cells u v ≡ 0) → next_life eight_around sets cells x y ≡ 0
+next-zero sets cells x y quiet h =
+    let at : (u v : ℤ) → before x ≤ℤ u → u ≤ℤ after x → before y ≤ℤ v → v ≤ℤ after y → cells u v ≡ 0 = h in
+    let c = at x y (omega (arith, ints)) (omega (arith, ints)) (omega (arith, ints)) (omega (arith, ints)) in
+    let n = at x (before y) (omega (arith, ints)) (omega (arith, ints)) (omega (arith, ints)) (omega (arith, ints)) in
+    let ne = at (after x) (before y) (omega (arith, ints)) (omega (arith, ints)) (omega (arith, ints)) (omega (arith, ints)) in
+    let e = at (after x) y (omega (arith, ints)) (omega (arith, ints)) (omega (arith, ints)) (omega (arith, ints)) in
+    let se = at (after x) (after y) (omega (arith, ints)) (omega (arith, ints)) (omega (arith, ints)) (omega (arith, ints)) in
+    let s = at x (after y) (omega (arith, ints)) (omega (arith, ints)) (omega (arith, ints)) (omega (arith, ints)) in
+    let sw = at (before x) (after y) (omega (arith, ints)) (omega (arith, ints)) (omega (arith, ints)) (omega (arith, ints)) in
+    let w = at (before x) y (omega (arith, ints)) (omega (arith, ints)) (omega (arith, ints)) (omega (arith, ints)) in
+    let nw = at (before x) (before y) (omega (arith, ints)) (omega (arith, ints)) (omega (arith, ints)) (omega (arith, ints)) in
+    (λ i. next_by_count sets (c i) (count_of 1 (n i ∷ ne i ∷ e i ∷ se i ∷ s i ∷ sw i ∷ w i ∷ nw i ∷ [])))
+    ∙ ap (λ (b : Bool). if b || false then 1 else 0) quiet
+
+-- nine blank squares
+pub next-of_blank : (sets : DigitSets) (content : Id → Tree) (cells : ℤ → ℤ → ℕ) (k : ℕ) (x y : ℤ) (id : Id) (nine : Nine) → has_digit sets.births 0 ≡ false
+    → content id ≡ blank k → InNine (λ other. other ≡ id) nine → AreNine content cells (2 ^ k) x y nine → IsPiece (next_life eight_around sets cells) x y (content id)
+next-of_blank sets content cells k x y id nine quiet is all h =
+    subst (IsPiece (next_life eight_around sets cells) x y) (sym is) (blank-of_zero _ k x y whole)
+  where
+    at : (u v : ℤ) (other : Id) → other ≡ id → IsPiece cells u v (content other) → IsZero cells u v (ahead u (2 ^ k)) (ahead v (2 ^ k))
+    at u v other e p = zero-of_blank cells k u v (subst (IsPiece cells u v) (ap content e ∙ is) p)
+
+    row : (v : ℤ) (three : Three) → InThree (λ other. other ≡ id) three → AreThree content cells (2 ^ k) x v three
+        → IsZero cells (back x (2 ^ k)) v (ahead (ahead x (2 ^ k)) (2 ^ k)) (ahead v (2 ^ k))
+    row v three e p =
+        let a : ahead (back x (2 ^ k)) (2 ^ k) ≡ x = omega (arith, ints) in
+        IsZero-beside cells _ (ahead x (2 ^ k)) v _ _
+        (IsZero-beside cells _ x v _ _ (subst (λ u. IsZero cells (back x (2 ^ k)) v u (ahead v (2 ^ k))) a (at _ v _ e.west p.west)) (at x v _ e.middle p.middle)) (at _ v _ e.east p.east)
+
+    around : IsZero cells (back x (2 ^ k)) (back y (2 ^ k)) (ahead (ahead x (2 ^ k)) (2 ^ k)) (ahead (ahead y (2 ^ k)) (2 ^ k))
+    around =
+        let a : ahead (back y (2 ^ k)) (2 ^ k) ≡ y = omega (arith, ints) in
+        IsZero-below cells _ _ (ahead y (2 ^ k)) _ _
+        (IsZero-below cells _ _ y _ _ (subst (λ u. IsZero cells (back x (2 ^ k)) (back y (2 ^ k)) (ahead (ahead x (2 ^ k)) (2 ^ k)) u) a (row _ _ all.north h.north)) (row y _ all.middle h.middle)) (row _ _ all.south h.south)
+
+    whole : IsZero (next_life eight_around sets cells) x y (ahead x (2 ^ k)) (ahead y (2 ^ k))
+    whole =
+        let some : 0 < 2 ^ k = pow_pos k in
+        record {
+          zero_at = λ u v w e n s.
+              next-zero sets cells u v quiet (λ i j a b c d. around.zero_at i j (omega (arith, ints, some, w, a)) (omega (arith, ints, some, e, b)) (omega (arith, ints, some, n, c)) (omega (arith, ints, some, s, d)));
+        }

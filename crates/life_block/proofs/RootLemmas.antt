@@ -1,0 +1,332 @@
+-- A square about the middle of the plane, its pieces, and the four corners of the square one level higher.
+use Rattle.std.proofs.Common.{◌≡◌, ◌⊎◌, inl, inr, ℕ, zero, suc, ◌+◌, ◌-◌, ◌^◌, ◌<◌, ◌≤◌, Bool, true, false, true≢false, ℤ, pos, neg_ℤ, ◌+ℤ◌, ◌≤ℤ◌, ◌<ℤ◌, Result, Ok, Err, IfOk, refl, sym, ◌∙◌, ap, subst, arith}
+use Rattle.std.proofs.lemmas.Int.{ints}
+use Rattle.std.proofs.lemmas.Bool.{cases_lt}
+use Rattle.std.proofs.Math.Pow.{pow_pos}
+use Rattle.life_base.specs.Rules.{has_digit}
+use Rattle.life_base.specs.Sets.{DigitSets}
+use Rattle.life_base.specs.Tree.{Tree, point, quad, depth, blank, state_at, half_side, tree_cell, IsFull}
+use Rattle.life_base.proofs.Squares.{at_nw, at_ne, at_sw, at_se, Inside, is_inside, inside_facts, inside_test, inside_offset, cell_inside, cell_outside}
+use Rattle.life_quad.specs.declared.id.Id.{Id}
+use Rattle.life_quad.specs.declared.moves.Quarters.{Quarters}
+use Rattle.life_sweep.specs.Around.{before, after, eight_around}
+use Rattle.life_sweep.specs.Generation.{next_life}
+use Rattle.life_block.specs.declared.grid.Sixteen.{Sixteen}
+use Rattle.life_block.specs.Pieces.{IsPiece, IsAt, InFour, InSixteen, AreFour, AreSixteen, back, ahead, four_of}
+use Rattle.life_block.proofs.PieceLemmas.{IsPiece-moved, AreFour-moved, blank-of_zero, next-zero}
+
+double : (n : ℕ) → 2 ^ suc n ≡ 2 ^ n + 2 ^ n
+double n = grind arith
+
+-- the state of a place in each quarter
+module _ (a b c d : Tree) (full : IsFull (quad a b c d)) where
+  state_nw : (i j : ℕ) → i < 2 ^ depth a → j < 2 ^ depth a → state_at (quad a b c d) i j ≡ state_at a i j
+  state_nw i j li lj = at_nw a b c d i j (grind arith) (grind arith)
+
+  state_ne : (i m j : ℕ) → i ≡ 2 ^ depth a + m → j < 2 ^ depth b → state_at (quad a b c d) i j ≡ state_at b m j
+  state_ne i m j e lj =
+      let s = ap (λ k. 2 ^ k) full.4 in
+      let less : i - 2 ^ depth a ≡ m = omega arith in
+      at_ne a b c d i j (grind arith) (grind arith) ∙ ap (λ z. state_at b z j) less
+
+  state_sw : (i j n : ℕ) → j ≡ 2 ^ depth a + n → i < 2 ^ depth c → state_at (quad a b c d) i j ≡ state_at c i n
+  state_sw i j n e li =
+      let s = ap (λ k. 2 ^ k) full.5 in
+      let less : j - 2 ^ depth a ≡ n = omega arith in
+      at_sw a b c d i j (grind arith) (grind arith) ∙ ap (λ z. state_at c i z) less
+
+  state_se : (i m j n : ℕ) → i ≡ 2 ^ depth a + m → j ≡ 2 ^ depth a + n → state_at (quad a b c d) i j ≡ state_at d m n
+  state_se i m j n e f =
+      let less_i : i - 2 ^ depth a ≡ m = omega arith in
+      let less_j : j - 2 ^ depth a ≡ n = omega arith in
+      at_se a b c d i j (grind arith) (grind arith) ∙ (λ z. state_at d (less_i z) (less_j z))
+
+-- twice the half of a side
+side : (k : ℕ) → 1 ≤ k → 2 ^ (k - 1) + 2 ^ (k - 1) ≡ 2 ^ k
+side zero h = absurd (omega arith)
+side (suc k) h =
+    let e : suc k - 1 ≡ k = omega arith in
+    (λ j. 2 ^ e j + 2 ^ e j) ∙ sym (double k)
+
+-- ---- a square is a piece exactly if its cells have the states of the plane
+
+pub piece-of_cells : (cells : ℤ → ℤ → ℕ) (t : Tree) (x y : ℤ) → IsFull t → ((i j : ℕ) → i < 2 ^ depth t → j < 2 ^ depth t → state_at t i j ≡ cells (x +ℤ pos i) (y +ℤ pos j)) → IsPiece cells x y t
+piece-of_cells cells (point s) x y full h =
+    let ex : x +ℤ pos 0 ≡ x = omega (arith, ints) in
+    let ey : y +ℤ pos 0 ≡ y = omega (arith, ints) in
+    h 0 0 (omega arith) (omega arith) ∙ (λ z. cells (ex z) (ey z))
+piece-of_cells cells (quad a b c d) x y full h =
+    let d2 = double (depth a) in
+    let sb : 2 ^ depth b ≡ 2 ^ depth a = ap (λ k. 2 ^ k) full.4 in
+    let sc : 2 ^ depth c ≡ 2 ^ depth a = ap (λ k. 2 ^ k) full.5 in
+    let sd : 2 ^ depth d ≡ 2 ^ depth a = ap (λ k. 2 ^ k) full.6 in
+    let further : (z : ℤ) (i : ℕ) → z +ℤ pos (2 ^ depth a + i) ≡ ahead z (2 ^ depth a) +ℤ pos i = (λ z i. omega (arith, ints)) in (
+      piece-of_cells cells a x y full.0 (λ i j li lj. sym (state_nw a b c d full i j li lj) ∙ h i j (omega (arith, li, d2)) (omega (arith, lj, d2))),
+      piece-of_cells cells b (ahead x (2 ^ depth a)) y full.1
+          (λ i j li lj. sym (state_ne a b c d full (2 ^ depth a + i) i j refl lj) ∙ h (2 ^ depth a + i) j (omega (arith, li, d2, sb)) (omega (arith, lj, d2, sb)) ∙ ap (λ u. cells u (y +ℤ pos j)) (further x i)),
+      piece-of_cells cells c x (ahead y (2 ^ depth a)) full.2
+          (λ i j li lj. sym (state_sw a b c d full i (2 ^ depth a + j) j refl li) ∙ h i (2 ^ depth a + j) (omega (arith, li, d2, sc)) (omega (arith, lj, d2, sc)) ∙ ap (cells (x +ℤ pos i)) (further y j)),
+      piece-of_cells cells d (ahead x (2 ^ depth a)) (ahead y (2 ^ depth a)) full.3
+          (λ i j li lj. sym (state_se a b c d full (2 ^ depth a + i) i (2 ^ depth a + j) j refl refl) ∙ h (2 ^ depth a + i) (2 ^ depth a + j) (omega (arith, li, d2, sd)) (omega (arith, lj, d2, sd))
+          ∙ (let ex = further x i in let ey = further y j in (λ z. cells (ex z) (ey z)))),
+    )
+
+pub cells-of_piece : (cells : ℤ → ℤ → ℕ) (t : Tree) (x y : ℤ) → IsFull t → IsPiece cells x y t → (i j : ℕ) → i < 2 ^ depth t → j < 2 ^ depth t → state_at t i j ≡ cells (x +ℤ pos i) (y +ℤ pos j)
+cells-of_piece cells (point s) x y full h i j li lj =
+    let ex : x ≡ x +ℤ pos i = omega (arith, ints, li) in
+    let ey : y ≡ y +ℤ pos j = omega (arith, ints, lj) in
+    h ∙ (λ z. cells (ex z) (ey z))
+cells-of_piece cells (quad a b c d) x y full h i j li lj =
+    let m = i - 2 ^ depth a in
+    let n = j - 2 ^ depth a in
+    let d2 = double (depth a) in
+    let sb : 2 ^ depth b ≡ 2 ^ depth a = ap (λ k. 2 ^ k) full.4 in
+    let sc : 2 ^ depth c ≡ 2 ^ depth a = ap (λ k. 2 ^ k) full.5 in
+    let sd : 2 ^ depth d ≡ 2 ^ depth a = ap (λ k. 2 ^ k) full.6 in
+    elim (cases_lt j (2 ^ depth a)) [
+      | inl below ↦ elim (cases_lt i (2 ^ depth a)) [
+        | inl west ↦ state_nw a b c d full i j west below ∙ cells-of_piece cells a x y full.0 h.0 i j west below
+        | inr east ↦ (let back-x : ahead x (2 ^ depth a) +ℤ pos (i - 2 ^ depth a) ≡ x +ℤ pos i = omega (arith, ints, east) in
+            state_ne a b c d full i m j (omega (arith, east)) (omega (arith, below, sb))
+            ∙ cells-of_piece cells b (ahead x (2 ^ depth a)) y full.1 h.1 m j (omega (arith, li, d2, sb, east)) (omega (arith, below, sb))
+            ∙ ap (λ u. cells u (y +ℤ pos j)) back-x)
+      ]
+      | inr above ↦ (let back-y : ahead y (2 ^ depth a) +ℤ pos (j - 2 ^ depth a) ≡ y +ℤ pos j = omega (arith, ints, above) in
+          elim (cases_lt i (2 ^ depth a)) [
+            | inl west ↦ state_sw a b c d full i j n (omega (arith, above)) (omega (arith, west, sc))
+                ∙ cells-of_piece cells c x (ahead y (2 ^ depth a)) full.2 h.2 i n (omega (arith, west, sc)) (omega (arith, lj, d2, sc, above))
+                ∙ ap (cells (x +ℤ pos i)) back-y
+            | inr east ↦ (let back-x : ahead x (2 ^ depth a) +ℤ pos (i - 2 ^ depth a) ≡ x +ℤ pos i = omega (arith, ints, east) in
+                state_se a b c d full i m j n (omega (arith, east)) (omega (arith, above))
+                ∙ cells-of_piece cells d (ahead x (2 ^ depth a)) (ahead y (2 ^ depth a)) full.3 h.3 m n (omega (arith, li, d2, sd, east)) (omega (arith, lj, d2, sd, above))
+                ∙ (λ z. cells (back-x z) (back-y z)))
+          ])
+    ]
+
+-- the north-western corner of a square about the middle
+abbrev pub corner : Tree → ℤ
+corner t = neg_ℤ (pos (half_side t))
+
+pub piece-of_root : (t : Tree) → IsFull t → 1 ≤ depth t → IsPiece (tree_cell t) (corner t) (corner t) t
+piece-of_root t full high =
+    piece-of_cells (tree_cell t) t (corner t) (corner t) full
+    (λ i j li lj.
+    let twice = side (depth t) high in
+    let x = corner t +ℤ pos i in
+    let y = corner t +ℤ pos j in
+    let inside : Inside (half_side t) x y = record { west = omega (arith, ints); east = omega (arith, ints, twice, li); north = omega (arith, ints); south = omega (arith, ints, twice, lj) } in
+    sym (cell_inside t x y i j (inside_test (half_side t) x y inside) (omega (arith, ints)) (omega (arith, ints))))
+
+-- a cell outside a square
+pub cell-outside : (t : Tree) (x y : ℤ) → (Inside (half_side t) x y → ⊥) → tree_cell t x y ≡ 0
+cell-outside t x y apart = by (is_inside (half_side t) x y) refl
+  where
+    by : (b : Bool) → is_inside (half_side t) x y ≡ b → tree_cell t x y ≡ 0
+    by true e = absurd (apart (inside_facts (half_side t) x y e))
+    by false e = cell_outside t x y e
+
+-- a square one level higher whose piece of the next states is the whole of it
+pub root-next : (sets : DigitSets) (t r : Tree) → has_digit sets.births 0 ≡ false → 1 ≤ depth t → IsFull r → depth r ≡ depth t + 1
+    → IsPiece (next_life eight_around sets (tree_cell t)) (corner r) (corner r) r → (x y : ℤ) → tree_cell r x y ≡ next_life eight_around sets (tree_cell t) x y
+root-next sets t r quiet high full level piece x y = by (is_inside (half_side r) x y) refl
+  where
+    next : ℤ → ℤ → ℕ
+    next = next_life eight_around sets (tree_cell t)
+
+    whole : half_side r + half_side r ≡ 2 ^ depth r
+    whole = side (depth r) (omega arith)
+
+    halves : half_side r ≡ half_side t + half_side t
+    halves =
+        let same : depth r - 1 ≡ depth t = omega arith in
+        ap (λ n. 2 ^ n) same ∙ sym (side (depth t) high)
+
+    some : 0 < half_side t
+    some = pow_pos (depth t - 1)
+
+    by : (b : Bool) → is_inside (half_side r) x y ≡ b → tree_cell r x y ≡ next_life eight_around sets (tree_cell t) x y
+    by true e =
+        let k = inside_facts (half_side r) x y e in
+        let a = inside_offset (half_side r) x k.west k.east in
+        let b = inside_offset (half_side r) y k.north k.south in
+        let at-x = a.1 in
+        let at-y = b.1 in
+        let ex : corner r +ℤ pos a.0 ≡ x = omega (arith, ints, at-x) in
+        let ey : corner r +ℤ pos b.0 ≡ y = omega (arith, ints, at-y) in
+        cell_inside r x y a.0 b.0 e a.1 b.1 ∙ cells-of_piece (next_life eight_around sets (tree_cell t)) r (corner r) (corner r) full piece a.0 b.0 (omega (arith, whole, a.2)) (omega (arith, whole, b.2))
+        ∙ (λ z. next_life eight_around sets (tree_cell t) (ex z) (ey z))
+    by false e =
+        let apart : Inside (half_side r) x y → ⊥ = (λ i. true≢false (sym (inside_test (half_side r) x y i) ∙ e)) in
+        cell_outside r x y e
+        ∙ sym (next-zero sets (tree_cell t) x y quiet (λ u v a b c d. cell-outside t u v (λ i. apart (record {
+          west = omega (arith, ints, halves, some, i.west, b);
+          east = omega (arith, ints, halves, some, i.east, a);
+          north = omega (arith, ints, halves, some, i.north, d);
+          south = omega (arith, ints, halves, some, i.south, c);
+        }))))
+
+-- ---- the quarters of a square in a corner of sixteen squares
+
+-- known squares of one level: the four quarters of a square that begins in this column and row, and a blank one
+pub record AreQuarters (knows : Id → Type 0) (content : Id → Tree) (cells : ℤ → ℤ → ℕ) (k : ℕ) (start : ℤ) (q : Quarters) (other : Id) : Type 0 where
+  pub known_nw : IsAt knows content k q.nw
+  pub known_ne : IsAt knows content k q.ne
+  pub known_sw : IsAt knows content k q.sw
+  pub known_se : IsAt knows content k q.se
+  pub known_other : IsAt knows content k other
+  pub nw : IsPiece cells start start (content q.nw)
+  pub ne : IsPiece cells (ahead start (2 ^ k)) start (content q.ne)
+  pub sw : IsPiece cells start (ahead start (2 ^ k)) (content q.sw)
+  pub se : IsPiece cells (ahead start (2 ^ k)) (ahead start (2 ^ k)) (content q.se)
+  pub blank_other : content other ≡ blank k
+
+pub AreQuarters-kept : (knows later : Id → Type 0) (old new : Id → Tree) (cells : ℤ → ℤ → ℕ) (k : ℕ) (start : ℤ) (q : Quarters) (other : Id)
+    → ((id : Id) → knows id → later id × (new id ≡ old id)) → AreQuarters knows old cells k start q other → AreQuarters later new cells k start q other
+AreQuarters-kept knows later old new cells k start q other keeps h =
+    record {
+      known_nw = at q.nw h.known_nw;
+      known_ne = at q.ne h.known_ne;
+      known_sw = at q.sw h.known_sw;
+      known_se = at q.se h.known_se;
+      known_other = at other h.known_other;
+      nw = piece _ _ q.nw h.known_nw h.nw;
+      ne = piece _ _ q.ne h.known_ne h.ne;
+      sw = piece _ _ q.sw h.known_sw h.sw;
+      se = piece _ _ q.se h.known_se h.se;
+      blank_other = (keeps other h.known_other.known).1 ∙ h.blank_other;
+    }
+  where
+    at : (id : Id) → IsAt knows old k id → IsAt later new k id
+    at id i = let e = keeps id i.known in record { known = e.0; level = ap depth e.1 ∙ i.level }
+
+    piece : (x y : ℤ) (id : Id) → IsAt knows old k id → IsPiece cells x y (old id) → IsPiece cells x y (new id)
+    piece x y id i p = subst (IsPiece cells x y) (sym (keeps id i.known).1) p
+
+-- no cell before the square's first column or row, or behind its last
+pub record IsAlone (cells : ℤ → ℤ → ℕ) (start : ℤ) (half : ℕ) : Type 0 where
+  pub west : (x y : ℤ) → x <ℤ start → cells x y ≡ 0
+  pub north : (x y : ℤ) → y <ℤ start → cells x y ≡ 0
+  pub east : (x y : ℤ) → ahead (ahead start half) half ≤ℤ x → cells x y ≡ 0
+  pub south : (x y : ℤ) → ahead (ahead start half) half ≤ℤ y → cells x y ≡ 0
+
+pub alone-root : (t : Tree) → IsAlone (tree_cell t) (corner t) (half_side t)
+alone-root t =
+    record {
+      west = λ x y l. cell-outside t x y (λ i. omega (arith, ints, i.west, l));
+      north = λ x y l. cell-outside t x y (λ i. omega (arith, ints, i.north, l));
+      east = λ x y l. cell-outside t x y (λ i. omega (arith, ints, i.east, l));
+      south = λ x y l. cell-outside t x y (λ i. omega (arith, ints, i.south, l));
+    }
+
+-- the sixteen squares around each corner
+abbrev pub at_south_east : Quarters → Id → Sixteen
+at_south_east q b =
+    record { far_north = four_of b b b b; north = four_of b b b b; south = four_of b b q.nw q.ne; far_south = four_of b b q.sw q.se }
+
+abbrev pub at_south_west : Quarters → Id → Sixteen
+at_south_west q b =
+    record { far_north = four_of b b b b; north = four_of b b b b; south = four_of q.nw q.ne b b; far_south = four_of q.sw q.se b b }
+
+abbrev pub at_north_east : Quarters → Id → Sixteen
+at_north_east q b =
+    record { far_north = four_of b b q.nw q.ne; north = four_of b b q.sw q.se; south = four_of b b b b; far_south = four_of b b b b }
+
+abbrev pub at_north_west : Quarters → Id → Sixteen
+at_north_west q b =
+    record { far_north = four_of q.nw q.ne b b; north = four_of q.sw q.se b b; south = four_of b b b b; far_south = four_of b b b b }
+
+module _ (knows : Id → Type 0) (content : Id → Tree) (cells : ℤ → ℤ → ℕ) (k : ℕ) (start : ℤ) (q : Quarters) (b : Id) (h : AreQuarters knows content cells k start q b) where
+  pub known-north_west : InSixteen (IsAt knows content k) (at_north_west q b)
+  known-north_west =
+      record {
+        far_north = record { far_west = h.known_nw; west = h.known_ne; east = h.known_other; far_east = h.known_other };
+        north = record { far_west = h.known_sw; west = h.known_se; east = h.known_other; far_east = h.known_other };
+        south = none;
+        far_south = none;
+      }
+    where
+      none : InFour (IsAt knows content k) (four_of b b b b)
+      none = record { far_west = h.known_other; west = h.known_other; east = h.known_other; far_east = h.known_other }
+
+module _ (knows : Id → Type 0) (content : Id → Tree) (cells : ℤ → ℤ → ℕ) (k : ℕ) (start : ℤ) (q : Quarters) (b : Id) (h : AreQuarters knows content cells k start q b) (alone : IsAlone cells start (2 ^ k)) where
+  nothing : (x y : ℤ) → ((u v : ℤ) → x ≤ℤ u → u <ℤ ahead x (2 ^ k) → y ≤ℤ v → v <ℤ ahead y (2 ^ k) → cells u v ≡ 0) → IsPiece cells x y (content b)
+  nothing x y zero_at = subst (IsPiece cells x y) (sym h.blank_other) (blank-of_zero cells k x y (record { zero_at = λ u v a b c d. zero_at u v a b c d }))
+
+  to-west : (x y : ℤ) → ahead x (2 ^ k) ≤ℤ start → IsPiece cells x y (content b)
+  to-west x y l = nothing x y (λ u v a e n s. alone.west u v (omega (arith, ints, l, e)))
+
+  to-east : (x y : ℤ) → ahead (ahead start (2 ^ k)) (2 ^ k) ≤ℤ x → IsPiece cells x y (content b)
+  to-east x y l = nothing x y (λ u v a e n s. alone.east u v (omega (arith, ints, l, a)))
+
+  no-north : (x y : ℤ) → ahead y (2 ^ k) ≤ℤ start → AreFour content cells (2 ^ k) x y (four_of b b b b)
+  no-north x y l =
+      let at : (z : ℤ) → IsPiece cells z y (content b) = (λ z. nothing z y (λ u v a e n s. alone.north u v (omega (arith, ints, l, s)))) in
+      record { far_west = at _; west = at _; east = at _; far_east = at _ }
+
+  no-south : (x y : ℤ) → ahead (ahead start (2 ^ k)) (2 ^ k) ≤ℤ y → AreFour content cells (2 ^ k) x y (four_of b b b b)
+  no-south x y l =
+      let at : (z : ℤ) → IsPiece cells z y (content b) = (λ z. nothing z y (λ u v a e n s. alone.south u v (omega (arith, ints, l, n)))) in
+      record { far_west = at _; west = at _; east = at _; far_east = at _ }
+
+  -- two squares side by side, with nothing west or east of them
+  east-row : (y : ℤ) (a c : Id) → IsPiece cells start y (content a) → IsPiece cells (ahead start (2 ^ k)) y (content c) → AreFour content cells (2 ^ k) (back start (2 ^ k)) y (four_of b b a c)
+  east-row y a c pa pc =
+      let e : start ≡ ahead (back start (2 ^ k)) (2 ^ k) = omega (arith, ints) in
+      record {
+        far_west = to-west _ y (omega (arith, ints));
+        west = to-west _ y (omega (arith, ints));
+        east = IsPiece-moved cells start _ y y _ e refl pa;
+        far_east = IsPiece-moved cells _ _ y y _ (ap (λ z. ahead z (2 ^ k)) e) refl pc;
+      }
+
+  west-row : (y : ℤ) (a c : Id) → IsPiece cells start y (content a) → IsPiece cells (ahead start (2 ^ k)) y (content c) → AreFour content cells (2 ^ k) (ahead start (2 ^ k)) y (four_of a c b b)
+  west-row y a c pa pc =
+      let e : start ≡ back (ahead start (2 ^ k)) (2 ^ k) = omega (arith, ints) in
+      record {
+        far_west = IsPiece-moved cells start _ y y _ e refl pa;
+        west = pc;
+        east = to-east _ y (omega (arith, ints));
+        far_east = to-east _ y (omega (arith, ints));
+      }
+
+  southern : start ≡ ahead (back start (2 ^ k)) (2 ^ k)
+  southern = omega (arith, ints)
+
+  northern : start ≡ back (ahead start (2 ^ k)) (2 ^ k)
+  northern = omega (arith, ints)
+
+  pub pieces-south_east : AreSixteen content cells (2 ^ k) (back start (2 ^ k)) (back start (2 ^ k)) (at_south_east q b)
+  pieces-south_east =
+      record {
+        far_north = no-north _ _ (omega (arith, ints));
+        north = no-north _ _ (omega (arith, ints));
+        south = AreFour-moved content cells (2 ^ k) _ _ _ _ southern (east-row _ _ _ h.nw h.ne);
+        far_south = AreFour-moved content cells (2 ^ k) _ _ _ _ (ap (λ z. ahead z (2 ^ k)) southern) (east-row _ _ _ h.sw h.se);
+      }
+
+  pub pieces-south_west : AreSixteen content cells (2 ^ k) (ahead start (2 ^ k)) (back start (2 ^ k)) (at_south_west q b)
+  pieces-south_west =
+      record {
+        far_north = no-north _ _ (omega (arith, ints));
+        north = no-north _ _ (omega (arith, ints));
+        south = AreFour-moved content cells (2 ^ k) _ _ _ _ southern (west-row _ _ _ h.nw h.ne);
+        far_south = AreFour-moved content cells (2 ^ k) _ _ _ _ (ap (λ z. ahead z (2 ^ k)) southern) (west-row _ _ _ h.sw h.se);
+      }
+
+  pub pieces-north_east : AreSixteen content cells (2 ^ k) (back start (2 ^ k)) (ahead start (2 ^ k)) (at_north_east q b)
+  pieces-north_east =
+      record {
+        far_north = AreFour-moved content cells (2 ^ k) _ _ _ _ northern (east-row _ _ _ h.nw h.ne);
+        north = east-row _ _ _ h.sw h.se;
+        south = no-south _ _ (omega (arith, ints));
+        far_south = no-south _ _ (omega (arith, ints));
+      }
+
+  pub pieces-north_west : AreSixteen content cells (2 ^ k) (ahead start (2 ^ k)) (ahead start (2 ^ k)) (at_north_west q b)
+  pieces-north_west =
+      record {
+        far_north = AreFour-moved content cells (2 ^ k) _ _ _ _ northern (west-row _ _ _ h.nw h.ne);
+        north = west-row _ _ _ h.sw h.se;
+        south = no-south _ _ (omega (arith, ints));
+        far_south = no-south _ _ (omega (arith, ints));
+      }

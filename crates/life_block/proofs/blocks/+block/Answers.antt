@@ -1,0 +1,62 @@
+use Rattle.std.proofs.Common.{◌≡◌, ◌^◌, sym, ◌∙◌, ap, subst}
+use Rattle.std.proofs.lemmas.Result.{IfOk-weaker}
+use Rattle.life_base.specs.Tree.{depth}
+use Rattle.life_quad.specs.declared.id.Id.{Id}
+use Rattle.life_sweep.specs.Around.{eight_around}
+use Rattle.life_sweep.specs.Generation.{next_life}
+use Rattle.life_block.specs.Pieces.{IsPiece, AreNine, ahead}
+use Rattle.life_block.proofs.PieceLemmas.{IsPiece-joined, AreSixteen-kept, nine-north_west, nine-north_east, nine-south_west, nine-south_east, next-of_blank}
+use Rattle.life_block.proofs.blocks.+block.Goals as goal
+
+pub next_amid-returns-then-are_all-clause-next : goal.next_amid-returns-then-are_all-clause-next
+next_amid-returns-then-are_all-clause-next g t c cells x y binary h =
+    next-of_blank c.args.rule.now (g.S.Squares.content c.args.squares.now) cells c.args.level x y c.empty-blank.result c.args.nine.now c.requires.quiet c.empty-blank.ensures.square (c.are_all.ensures c.if-are_all.true) h
+
+pub next_of_middle-returns-in_err-sw-clause-stays : goal.next_of_middle-returns-in_err-sw-clause-stays
+next_of_middle-returns-in_err-sw-clause-stays g m c t h = c.in_err-sw.ensures.stays t (c.in_ok-ne.ensures.stays t (c.in_ok-nw.ensures.stays t h))
+
+pub next_of_middle-returns-in_err-se-clause-stays : goal.next_of_middle-returns-in_err-se-clause-stays
+next_of_middle-returns-in_err-se-clause-stays g m c t h = c.in_err-se.ensures.stays t (c.in_ok-sw.ensures.stays t (c.in_ok-ne.ensures.stays t (c.in_ok-nw.ensures.stays t h)))
+
+pub next_of_middle-returns-clause-stays : goal.next_of_middle-returns-clause-stays
+next_of_middle-returns-clause-stays g m c t h = c.join.ensures.stays t (c.in_ok-se.ensures.stays t (c.in_ok-sw.ensures.stays t (c.in_ok-ne.ensures.stays t (c.in_ok-nw.ensures.stays t h))))
+
+pub next_of_middle-returns-clause-next : goal.next_of_middle-returns-clause-next
+next_of_middle-returns-clause-next g m c =
+    let C = g.S.Squares.content in
+    let K = g.S.Squares.knows in
+    let s0 = c.args.squares.now in
+    let s1 = c.next_amid.new.squares in
+    let s2 = c.next_amid-2.new.squares in
+    let s3 = c.next_amid-3.new.squares in
+    let s4 = c.next_amid-4.new.squares in
+    let rule = c.args.rule.now in
+    let s = c.args.sixteen.now in
+    let side = 2 ^ c.args.level in
+    let nw = c.in_ok-nw.ensures in
+    let ne = c.in_ok-ne.ensures in
+    let sw = c.in_ok-sw.ensures in
+    let se = c.in_ok-se.ensures in
+    let to2 : (q : Id) → K s0 q → C s2 q ≡ C s0 q = λ q k. let a = nw.keeps q k in (ne.keeps q a.0).1 ∙ a.1 in
+    let to3 : (q : Id) → K s0 q → C s3 q ≡ C s0 q = λ q k. let a = nw.keeps q k in let b = ne.keeps q a.0 in (sw.keeps q b.0).1 ∙ b.1 ∙ a.1 in
+    let nw2 = ne.keeps c.in_ok-nw.nw nw.at.known in
+    let nw3 = sw.keeps c.in_ok-nw.nw nw2.0 in
+    let nw4 = se.keeps c.in_ok-nw.nw nw3.0 in
+    let ne3 = sw.keeps c.in_ok-ne.ne ne.at.known in
+    let ne4 = se.keeps c.in_ok-ne.ne ne3.0 in
+    let sw4 = se.keeps c.in_ok-sw.sw sw.at.known in
+    let enw : C s4 c.in_ok-nw.nw ≡ C s1 c.in_ok-nw.nw = nw4.1 ∙ nw3.1 ∙ nw2.1 in
+    let ene : C s4 c.in_ok-ne.ne ≡ C s2 c.in_ok-ne.ne = ne4.1 ∙ ne3.1 in
+    IfOk-weaker c.join.result _ _
+    (λ r e cells x y binary h.
+    let next = next_life eight_around rule cells in
+    let h1 = AreSixteen-kept (K s0) (C s0) (C s1) (λ q k. (nw.keeps q k).1) cells side c.args.level x y s c.requires.known h in
+    let h2 = AreSixteen-kept (K s0) (C s0) (C s2) to2 cells side c.args.level x y s c.requires.known h in
+    let h3 = AreSixteen-kept (K s0) (C s0) (C s3) to3 cells side c.args.level x y s c.requires.known h in
+    let p1 = nw.next cells x y binary (subst (λ n. AreNine (C s0) cells side x y n) (sym c.north_west.ensures) (nine-north_west (C s0) cells side x y s h)) in
+    let p2 = ne.next cells (ahead x side) y binary (subst (λ n. AreNine (C s1) cells side (ahead x side) y n) (sym c.north_east.ensures) (nine-north_east (C s1) cells side x y s h1)) in
+    let p3 = sw.next cells x (ahead y side) binary (subst (λ n. AreNine (C s2) cells side x (ahead y side) n) (sym c.south_west.ensures) (nine-south_west (C s2) cells side x y s h2)) in
+    let p4 = se.next cells (ahead x side) (ahead y side) binary (subst (λ n. AreNine (C s3) cells side (ahead x side) (ahead y side) n) (sym c.south_east.ensures) (nine-south_east (C s3) cells side x y s h3)) in
+    IsPiece-joined next x y _ _ _ _ _ c.args.level (ap depth enw ∙ nw.at.level) e
+    (subst (IsPiece next x y) (sym enw) p1) (subst (IsPiece next (ahead x side) y) (sym ene) p2) (subst (IsPiece next x (ahead y side)) (sym sw4.1) p3) p4)
+    c.join.ensures.square

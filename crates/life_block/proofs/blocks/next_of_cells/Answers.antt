@@ -1,0 +1,56 @@
+use Rattle.std.proofs.Common.{◌≡◌, ◌+◌, ◌*◌, pos, ◌+ℤ◌, refl, ◌∙◌, ap, arith}
+use Rattle.std.proofs.lemmas.Int.{ints}
+use Rattle.std.proofs.lemmas.Result.{IfOk-weaker}
+use Rattle.life_base.specs.Tree.{depth}
+use Rattle.life_sweep.specs.Around.{eight_around}
+use Rattle.life_sweep.specs.Generation.{next_life}
+use Rattle.life_block.specs.Pieces.{back, ahead}
+use Rattle.life_block.proofs.BitmapLemmas.{HasInner, next-place, IsPiece-four}
+use Rattle.life_block.proofs.PieceLemmas.{IsPiece-joined}
+use Rattle.life_block.proofs.blocks.next_of_cells.Goals as goal
+
+pub returns-in_err-sw-clause-stays : goal.returns-in_err-sw-clause-stays
+returns-in_err-sw-clause-stays g c t h = c.in_err-sw.ensures.stays t (c.in_ok-ne.ensures.stays t (c.in_ok-nw.ensures.stays t h))
+
+pub returns-in_err-se-clause-stays : goal.returns-in_err-se-clause-stays
+returns-in_err-se-clause-stays g c t h = c.in_err-se.ensures.stays t (c.in_ok-sw.ensures.stays t (c.in_ok-ne.ensures.stays t (c.in_ok-nw.ensures.stays t h)))
+
+pub returns-clause-stays : goal.returns-clause-stays
+returns-clause-stays g c t h = c.join.ensures.stays t (c.in_ok-se.ensures.stays t (c.in_ok-sw.ensures.stays t (c.in_ok-ne.ensures.stays t (c.in_ok-nw.ensures.stays t h))))
+
+pub returns-clause-next : goal.returns-clause-next
+returns-clause-next g c =
+    let C = g.S.Squares.content in
+    let s1 = c.join_cells.new.squares in
+    let s2 = c.join_cells-2.new.squares in
+    let s4 = c.join_cells-4.new.squares in
+    let rule = c.args.rule.now in
+    let word = c.next_word-next.result in
+    let nw = c.in_ok-nw.ensures in
+    let ne = c.in_ok-ne.ensures in
+    let sw = c.in_ok-sw.ensures in
+    let se = c.in_ok-se.ensures in
+    let nw2 = ne.keeps c.in_ok-nw.nw nw.known in
+    let nw3 = sw.keeps c.in_ok-nw.nw nw2.0 in
+    let nw4 = se.keeps c.in_ok-nw.nw nw3.0 in
+    let ne3 = sw.keeps c.in_ok-ne.ne ne.known in
+    let ne4 = se.keeps c.in_ok-ne.ne ne3.0 in
+    let sw4 = se.keeps c.in_ok-sw.sw sw.known in
+    let enw : C s4 c.in_ok-nw.nw ≡ C s1 c.in_ok-nw.nw = nw4.1 ∙ nw3.1 ∙ nw2.1 in
+    let ene : C s4 c.in_ok-ne.ne ≡ C s2 c.in_ok-ne.ne = ne4.1 ∙ ne3.1 in
+    let level : depth (C s4 c.in_ok-nw.nw) ≡ 1 = ap depth (enw ∙ nw.square) in
+    IfOk-weaker c.join.result _ _
+    (λ t e cells x y binary h.
+    let next = next_life eight_around rule cells in
+    let rows = c.eight_rows-rows.ensures cells x y binary h in
+    let inner : HasInner next (back x 2) (back y 2) word = (λ r i lr li. c.next_word-next.ensures (8 * r + i) (omega (arith, lr, li)) ∙ next-place rule cells (back x 2) (back y 2) c.eight_rows-rows.result rows r i lr li) in
+    let x2 : back x 2 +ℤ pos (1 + 1) ≡ x = omega (arith, ints) in
+    let x4 : back x 2 +ℤ pos (3 + 1) ≡ ahead x 2 = omega (arith, ints) in
+    let y2 : back y 2 +ℤ pos (1 + 1) ≡ y = omega (arith, ints) in
+    let y4 : back y 2 +ℤ pos (3 + 1) ≡ ahead y 2 = omega (arith, ints) in
+    IsPiece-joined next x y _ _ _ _ _ 1 level e
+    (IsPiece-four next (back x 2) (back y 2) word 9 1 1 x y _ inner (omega arith) (omega arith) refl x2 y2 (enw ∙ nw.square))
+    (IsPiece-four next (back x 2) (back y 2) word 11 1 3 (ahead x 2) y _ inner (omega arith) (omega arith) refl x4 y2 (ene ∙ ne.square))
+    (IsPiece-four next (back x 2) (back y 2) word 25 3 1 x (ahead y 2) _ inner (omega arith) (omega arith) refl x2 y4 (sw4.1 ∙ sw.square))
+    (IsPiece-four next (back x 2) (back y 2) word 27 3 3 (ahead x 2) (ahead y 2) _ inner (omega arith) (omega arith) refl x4 y4 se.square))
+    c.join.ensures.square

@@ -1,0 +1,19 @@
+use Rattle.std.proofs.Common.{◌≡◌, ◌+◌, ◌^◌, arith}
+use Rattle.std.proofs.lemmas.Int.{ints}
+use Rattle.life_block.specs.Pieces.{back, ahead}
+use Rattle.life_block.proofs.PieceLemmas.{twice, AreFour-moved}
+use Rattle.life_block.proofs.grid.Nine.quarters.Goals as goal
+
+pub returns-clause-pieces : goal.returns-clause-pieces
+returns-clause-pieces g c cells x y h =
+    let content = g.S.Squares.content c.args.squares.now in
+    let side = 2 ^ c.args.level in
+    let double : 2 ^ (c.args.level + 1) ≡ side + side = twice c.args.level in
+    let north : ahead (back y (2 ^ (c.args.level + 1))) side ≡ back y side = omega (arith, ints, double) in
+    let south : ahead y (2 ^ (c.args.level + 1)) ≡ ahead (ahead y side) side = omega (arith, ints, double) in
+    record {
+      far_north = AreFour-moved content cells side x _ _ _ north (c.halves.ensures.south cells x _ h.north);
+      north = c.halves-2.ensures.north cells x y h.middle;
+      south = c.halves-2.ensures.south cells x y h.middle;
+      far_south = AreFour-moved content cells side x _ _ _ south (c.halves-3.ensures.north cells x _ h.south);
+    }

@@ -1,0 +1,24 @@
+-- Cells as words of 64 bits.
+use Rattle.std.specs.Prelude.{◌≡◌, ℕ, ◌+◌, ◌*◌, ◌<◌, ℤ, pos, ◌+ℤ◌, List, [], ◌∷◌}
+use Rattle.std.specs.Int.{bit_at}
+use Rattle.life_block.specs.declared.counts.Counts.{Counts}
+use Rattle.life_block.specs.declared.counts.Words.{Words}
+
+-- the states of the neighbours of place i of the 62 places between the first column and the last, from north clockwise
+abbrev pub neighbours_in : Words → ℕ → List ℕ
+neighbours_in w i =
+    bit_at w.north (i + 1) ∷ bit_at w.north (i + 2) ∷ bit_at w.here (i + 2) ∷ bit_at w.south (i + 2)
+    ∷ bit_at w.south (i + 1) ∷ bit_at w.south i ∷ bit_at w.here i ∷ bit_at w.north i ∷ []
+
+-- the number that the planes have in column i
+abbrev pub count_at : Counts → ℕ → ℕ
+count_at c i = bit_at c.ones i + 2 * bit_at c.twos i + 4 * bit_at c.fours i + 8 * bit_at c.eights i
+
+-- the word has the states of so many cells of a row, from the column x on
+abbrev pub HasCells : (ℤ → ℤ → ℕ) → ℤ → ℤ → ℕ → ℕ → Type 0
+HasCells cells x y width word = (i : ℕ) → i < width → bit_at word i ≡ cells (x +ℤ pos i) y
+
+-- the word has so many rows of eight cells, from the column x and the row y on: bit 8 * r + i is the cell i columns east and r rows south
+abbrev pub HasRows : (ℤ → ℤ → ℕ) → ℤ → ℤ → ℕ → ℕ → Type 0
+HasRows cells x y rows word =
+    (r i : ℕ) → r < rows → i < 8 → bit_at word (8 * r + i) ≡ cells (x +ℤ pos i) (y +ℤ pos r)

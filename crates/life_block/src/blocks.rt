@@ -1,0 +1,133 @@
+//! The next states of squares.
+ghost use Rattle.std.specs.Prelude.{◌≡◌, ◌⊎◌, ℕ, ℤ, ◌+◌, ◌*◌, ◌^◌, ◌<◌, ◌≤◌, false, length, Contains, Err, IfOk, IfErr};
+ghost use Rattle.life_base.specs.declared.kind.Kind.TheVariants.{Full, Memory};
+ghost use Rattle.life_base.specs.Rules.{has_digit};
+ghost use Rattle.life_base.specs.Tree.{Tree, depth, tree_cell};
+ghost use Rattle.life_quad.specs.declared.id.Id.{Id as IdValue};
+ghost use Rattle.life_sweep.specs.Around.{eight_around};
+ghost use Rattle.life_sweep.specs.Generation.{next_life};
+ghost use Rattle.life_block.specs.Pieces.{IsPiece, IsBinary, IsAt, InNine, InSixteen, AreNine, AreSixteen};
+
+use crate::bitmap::{eight_rows, join_cells};
+use crate::counts::{Words, next_word};
+use crate::grid::{Nine, Sixteen};
+use life_base::{Kind, LifeRule, MAX_LEVEL};
+use life_quad::{Id, Squares, divide};
+
+// The next states of the four squares of level 1 amid twelve others, as one square.
+fn next_of_cells<S: Squares>(
+    squares: &mut S,
+    rule: &LifeRule,
+    sixteen: &Sixteen,
+) -> Result<Id, Kind>
+    requires { InSixteen (IsAt (S.knows squares.old) (S.content squares.old) 1) sixteen.now }
+    ensures at { IfOk result (IsAt (S.knows squares.new) (S.content squares.new) 2) }
+    ensures next { IfOk result (λ r. (cells : ℤ → ℤ → ℕ) (x y : ℤ) → IsBinary cells → AreSixteen (S.content squares.old) cells 2 x y sixteen.now → IsPiece (next_life eight_around rule.now cells) x y (S.content squares.new r)) }
+    ensures keeps { (q : IdValue) → S.knows squares.old q → S.knows squares.new q × (S.content squares.new q ≡ S.content squares.old q) }
+    ensures stays { (t : Tree) → Contains (S.stored squares.old) t → Contains (S.stored squares.new) t }
+    ensures most { S.most squares.new ≡ S.most squares.old }
+    ensures refusals { IfErr result (λ e. (e ≡ Full) ⊎ (e ≡ Memory)) }
+    ensures full { result ≡ Err Full → length (S.stored squares.new) ≡ S.most squares.new }
+{
+    let rows = eight_rows(squares, sixteen);
+    let words = Words {
+        north: rows,
+        here: rows >> 8,
+        south: rows >> 16,
+    };
+    let next = next_word(&words, rule);
+    let nw = join_cells(squares, next >> 9)?;
+    let ne = join_cells(squares, next >> 11)?;
+    let sw = join_cells(squares, next >> 25)?;
+    let se = join_cells(squares, next >> 27)?;
+    squares.join(nw, ne, sw, se)
+}
+
+#[cycle(block)]
+// The next states of a square of this level amid its neighbours.
+fn next_amid<S: Squares>(
+    squares: &mut S,
+    rule: &LifeRule,
+    level: u8,
+    nine: &Nine,
+) -> Result<Id, Kind>
+    requires known { InNine (IsAt (S.knows squares.old) (S.content squares.old) level) nine.now }
+    requires low { 2 ≤ level }
+    requires high { level ≤ MAX_LEVEL }
+    requires quiet { has_digit rule.now.births 0 ≡ false }
+    ensures at { IfOk result (IsAt (S.knows squares.new) (S.content squares.new) level) }
+    ensures next { IfOk result (λ r. (cells : ℤ → ℤ → ℕ) (x y : ℤ) → IsBinary cells → AreNine (S.content squares.old) cells (2 ^ level) x y nine.now → IsPiece (next_life eight_around rule.now cells) x y (S.content squares.new r)) }
+    ensures keeps { (q : IdValue) → S.knows squares.old q → S.knows squares.new q × (S.content squares.new q ≡ S.content squares.old q) }
+    ensures stays { (t : Tree) → Contains (S.stored squares.old) t → Contains (S.stored squares.new) t }
+    ensures most { S.most squares.new ≡ S.most squares.old }
+    ensures refusals { IfErr result (λ e. (e ≡ Full) ⊎ (e ≡ Memory)) }
+    ensures full { result ≡ Err Full → length (S.stored squares.new) ≡ S.most squares.new }
+{
+    let blank = squares.empty(level);
+    if nine.are_all(blank) {
+        return Ok(blank);
+    }
+    let sixteen = nine.quarters(squares, level - 1);
+    next_of_middle(squares, rule, level - 1, &sixteen)
+}
+
+#[cycle(block)]
+// The next states of the four squares of this level amid twelve others, as one square.
+fn next_of_middle<S: Squares>(
+    squares: &mut S,
+    rule: &LifeRule,
+    level: u8,
+    sixteen: &Sixteen,
+) -> Result<Id, Kind>
+    requires known { InSixteen (IsAt (S.knows squares.old) (S.content squares.old) level) sixteen.now }
+    requires low { 1 ≤ level }
+    requires high { level < MAX_LEVEL }
+    requires quiet { has_digit rule.now.births 0 ≡ false }
+    ensures at { IfOk result (IsAt (S.knows squares.new) (S.content squares.new) (level + 1)) }
+    ensures next { IfOk result (λ r. (cells : ℤ → ℤ → ℕ) (x y : ℤ) → IsBinary cells → AreSixteen (S.content squares.old) cells (2 ^ level) x y sixteen.now → IsPiece (next_life eight_around rule.now cells) x y (S.content squares.new r)) }
+    ensures keeps { (q : IdValue) → S.knows squares.old q → S.knows squares.new q × (S.content squares.new q ≡ S.content squares.old q) }
+    ensures stays { (t : Tree) → Contains (S.stored squares.old) t → Contains (S.stored squares.new) t }
+    ensures most { S.most squares.new ≡ S.most squares.old }
+    ensures refusals { IfErr result (λ e. (e ≡ Full) ⊎ (e ≡ Memory)) }
+    ensures full { result ≡ Err Full → length (S.stored squares.new) ≡ S.most squares.new }
+{
+    if level == 1 {
+        return next_of_cells(squares, rule, sixteen);
+    }
+    let nw = next_amid(squares, rule, level, &sixteen.north_west())?;
+    let ne = next_amid(squares, rule, level, &sixteen.north_east())?;
+    let sw = next_amid(squares, rule, level, &sixteen.south_west())?;
+    let se = next_amid(squares, rule, level, &sixteen.south_east())?;
+    squares.join(nw, ne, sw, se)
+}
+
+/// The square of the next generation under a B/S rule of a square's cells, one level higher, about the same centre. Each square that it joins
+/// is part of that one.
+///
+/// # Errors
+///
+/// `Full` if the store holds its limit and a square of the generation is new, or `Memory`. After an error each Id has its square.
+pub fn next_life_square<S: Squares>(squares: &mut S, rule: &LifeRule, id: Id) -> Result<Id, Kind>
+    requires known { S.knows squares.old id }
+    requires high { 2 ≤ depth (S.content squares.old id) }
+    requires low { depth (S.content squares.old id) < MAX_LEVEL }
+    requires states { (x y : ℤ) → tree_cell (S.content squares.old id) x y < 2 }
+    requires quiet { has_digit rule.now.births 0 ≡ false }
+    ensures known { IfOk result (S.knows squares.new) }
+    ensures level { IfOk result (λ r. depth (S.content squares.new r) ≡ depth (S.content squares.old id) + 1) }
+    ensures next { IfOk result (λ r. (x y : ℤ) → tree_cell (S.content squares.new r) x y ≡ next_life eight_around rule.now (tree_cell (S.content squares.old id)) x y) }
+    ensures keeps { (q : IdValue) → S.knows squares.old q → S.knows squares.new q × (S.content squares.new q ≡ S.content squares.old q) }
+    ensures stays { (t : Tree) → Contains (S.stored squares.old) t → Contains (S.stored squares.new) t }
+    ensures most { S.most squares.new ≡ S.most squares.old }
+    ensures refusals { IfErr result (λ e. (e ≡ Full) ⊎ (e ≡ Memory)) }
+    ensures full { result ≡ Err Full → length (S.stored squares.new) ≡ S.most squares.new }
+{
+    let level = squares.level(id) - 1;
+    let root = divide(squares, id);
+    let blank = squares.empty(level);
+    let nw = next_of_middle(squares, rule, level, &Sixteen::in_south_east(root, blank))?;
+    let ne = next_of_middle(squares, rule, level, &Sixteen::in_south_west(root, blank))?;
+    let sw = next_of_middle(squares, rule, level, &Sixteen::in_north_east(root, blank))?;
+    let se = next_of_middle(squares, rule, level, &Sixteen::in_north_west(root, blank))?;
+    squares.join(nw, ne, sw, se)
+}

@@ -1,0 +1,107 @@
+//! The live neighbours of 62 places side by side, counted at once: a number for each place, in four words, a binary digit a word.
+ghost use Rattle.std.specs.Prelude.{◌≡◌, ℕ, ◌+◌, ◌-◌, ◌*◌, ◌<◌, ◌≤◌, ◌^◌, ◌==◌, if◌then◌else◌};
+ghost use Rattle.std.specs.Int.{bit_at};
+ghost use Rattle.life_table.specs.Meaning.{count_of};
+ghost use Rattle.life_sweep.specs.Generation.{next_by_count};
+ghost use Rattle.life_block.specs.Bits.{count_at, neighbours_in};
+
+use life_base::LifeRule;
+
+/// The cells of 64 columns in three rows, one below the other: bit i is the cell i columns east of the first.
+#[derive(Clone, Copy)]
+pub(crate) struct Words {
+    pub(crate) north: u64,
+    pub(crate) here: u64,
+    pub(crate) south: u64,
+}
+
+/// A number of 0 to 3 for each column.
+#[derive(Clone, Copy)]
+pub(crate) struct Sum {
+    pub(crate) ones: u64,
+    pub(crate) twos: u64,
+}
+
+/// A number of 0 to 15 for each column.
+#[derive(Clone, Copy)]
+pub(crate) struct Counts {
+    pub(crate) ones: u64,
+    pub(crate) twos: u64,
+    pub(crate) fours: u64,
+    pub(crate) eights: u64,
+}
+
+// The sum of three bits in each column.
+fn add(a: u64, b: u64, c: u64) -> Sum
+    ensures { (i : ℕ) → bit_at result.ones i + 2 * bit_at result.twos i ≡ bit_at a i + bit_at b i + bit_at c i }
+{
+    let odd = a ^ b;
+    Sum {
+        ones: odd ^ c,
+        twos: (a & b) | (odd & c),
+    }
+}
+
+// How many of the eight neighbours of each place are alive.
+fn live_neighbours(words: &Words) -> Counts
+    ensures { (i : ℕ) → count_at result i ≡ count_of 1 (neighbours_in words.now i) }
+{
+    let north = add(words.north, words.north >> 1, words.north >> 2);
+    let here = add(words.here, words.here >> 2, 0);
+    let south = add(words.south, words.south >> 1, words.south >> 2);
+    let ones = add(north.ones, here.ones, south.ones);
+    let twos = add(north.twos, here.twos, south.twos);
+    let more = add(ones.twos, twos.ones, 0);
+    let fours = add(twos.twos, more.twos, 0);
+    Counts {
+        ones: ones.ones,
+        twos: more.ones,
+        fours: fours.ones,
+        eights: fours.twos,
+    }
+}
+
+// The columns whose digit is 1, or those whose digit is 0.
+fn with_digit(digits: u64, one: bool) -> u64
+    ensures { (i : ℕ) → i < 64 → bit_at result i ≡ (if one then bit_at digits i else 1 - bit_at digits i) }
+{
+    if one { digits } else { !digits }
+}
+
+impl Counts {
+    // The columns that have this number.
+    fn columns_with(&self, count: u8) -> u64
+        requires { count < 16 }
+        ensures here { (i : ℕ) → i < 64 → count_at self.now i ≡ count → bit_at result i ≡ 1 }
+        ensures others { (i : ℕ) → i < 64 → (count_at self.now i ≡ count → ⊥) → bit_at result i ≡ 0 }
+    {
+        with_digit(self.ones, count % 2 == 1)
+            & with_digit(self.twos, count / 2 % 2 == 1)
+            & with_digit(self.fours, count / 4 % 2 == 1)
+            & with_digit(self.eights, count / 8 == 1)
+    }
+
+    // The columns whose number is one of a set of digits from 0 to 8.
+    fn columns_in(&self, set: u16) -> u64
+        ensures { (i : ℕ) → i < 64 → count_at self.now i ≤ 8 → bit_at result i ≡ bit_at set (count_at self.now i) }
+    {
+        let mut columns = 0;
+        for count in 0..9 {
+            if (set >> count) & 1 == 1 {
+                columns |= self.columns_with(count);
+            }
+        }
+        columns
+    }
+}
+
+/// The next states of the 62 places between the first column and the last, under a B/S rule: bit i is that of place i.
+pub(crate) fn next_word(words: &Words, rule: &LifeRule) -> u64
+    ensures { (i : ℕ) → i < 62 → bit_at result i ≡ next_by_count rule.now (bit_at words.now.here (i + 1)) (count_of 1 (neighbours_in words.now i)) }
+{
+    let counts = live_neighbours(words);
+    let alive = words.here >> 1;
+    let born = counts.columns_in(rule.births) & !alive;
+    let stay = counts.columns_in(rule.survivals) & alive;
+    born | stay
+}
