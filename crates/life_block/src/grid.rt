@@ -46,6 +46,7 @@ impl Three {
         self.middle == id && self.west == id && self.east == id
     }
 
+    #[inline(always)]
     // Their northern halves, and their southern halves.
     fn halves<S: Squares>(&self, squares: &S, level: u8) -> (Four, Four)
         requires { InThree (IsAt (S.knows squares.now) (S.content squares.now) (level + 1)) self.now }
