@@ -1,5 +1,6 @@
 pub mod BitmapLemmas
 pub mod CountLemmas
+pub mod GenerationLemmas
 pub mod PieceLemmas
 pub mod RootLemmas
 pub mod WordLemmas

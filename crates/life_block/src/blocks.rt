@@ -112,7 +112,6 @@ pub fn next_life_square<S: Squares>(squares: &mut S, rule: &LifeRule, id: Id) ->
     requires high { 2 ≤ depth (S.content squares.old id) }
     requires low { depth (S.content squares.old id) < MAX_LEVEL }
     requires states { (x y : ℤ) → tree_cell (S.content squares.old id) x y < 2 }
-    requires quiet { has_digit rule.now.births 0 ≡ false }
     ensures known { IfOk result (S.knows squares.new) }
     ensures level { IfOk result (λ r. depth (S.content squares.new r) ≡ depth (S.content squares.old id) + 1) }
     ensures next { IfOk result (λ r. (x y : ℤ) → tree_cell (S.content squares.new r) x y ≡ next_life eight_around rule.now (tree_cell (S.content squares.old id)) x y) }
@@ -122,12 +121,14 @@ pub fn next_life_square<S: Squares>(squares: &mut S, rule: &LifeRule, id: Id) ->
     ensures refusals { IfErr result (λ e. (e ≡ Full) ⊎ (e ≡ Memory)) }
     ensures full { result ≡ Err Full → length (S.stored squares.new) ≡ S.most squares.new }
 {
+    // To read a field opens the invariant to the proof: no cell is born without live neighbours.
+    let _ = &rule.births;
     let level = squares.level(id) - 1;
     let root = divide(squares, id);
     let blank = squares.empty(level);
-    let nw = next_of_middle(squares, rule, level, &Sixteen::in_south_east(root, blank))?;
-    let ne = next_of_middle(squares, rule, level, &Sixteen::in_south_west(root, blank))?;
-    let sw = next_of_middle(squares, rule, level, &Sixteen::in_north_east(root, blank))?;
-    let se = next_of_middle(squares, rule, level, &Sixteen::in_north_west(root, blank))?;
-    squares.join(nw, ne, sw, se)
+    let north_west = next_of_middle(squares, rule, level, &Sixteen::in_south_east(root, blank))?;
+    let north_east = next_of_middle(squares, rule, level, &Sixteen::in_south_west(root, blank))?;
+    let south_west = next_of_middle(squares, rule, level, &Sixteen::in_north_east(root, blank))?;
+    let south_east = next_of_middle(squares, rule, level, &Sixteen::in_north_west(root, blank))?;
+    squares.join(north_west, north_east, south_west, south_east)
 }

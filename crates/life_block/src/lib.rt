@@ -9,6 +9,8 @@
 mod bitmap;
 mod blocks;
 mod counts;
+mod generation;
 mod grid;
 
 pub use blocks::next_life_square;
+pub use generation::next_life_generation;

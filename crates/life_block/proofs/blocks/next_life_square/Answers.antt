@@ -1,5 +1,7 @@
 use Rattle.std.proofs.Common.{◌≡◌, ℕ, suc, ◌+◌, ◌-◌, ◌^◌, Result, Ok, Err, IfOk, refl, sym, ◌∙◌, ap, subst, arith}
 use Rattle.std.proofs.lemmas.Int.{ints}
+use Rattle.life_base.specs.Rules.{has_digit}
+use Rattle.life_base.specs.Sets.{DigitSets}
 use Rattle.life_base.specs.Tree.{Tree, quad, depth, blank, half_side, tree_cell, IsFull}
 use Rattle.life_quad.specs.declared.id.Id.{Id}
 use Rattle.life_quad.specs.declared.moves.Quarters.{Quarters}
@@ -47,9 +49,9 @@ both (Err e) f p q = tt
 
 pub next_of_middle-requires-4-clause-known : goal.next_of_middle-requires-4-clause-known
 next_of_middle-requires-4-clause-known g c =
-    let nw = c.in_ok-nw.ensures in
-    let ne = c.in_ok-ne.ensures in
-    let sw = c.in_ok-sw.ensures in
+    let nw = c.in_ok-north_west.ensures in
+    let ne = c.in_ok-north_east.ensures in
+    let sw = c.in_ok-south_west.ensures in
     let K = g.S.Squares.knows in
     let C = g.S.Squares.content in
     let s0 = c.args.squares.now in
@@ -61,14 +63,14 @@ next_of_middle-requires-4-clause-known g c =
     let here = AreQuarters-kept (K s0) (K s3) (C s0) (C s3) _ _ _ _ _ to3 first in
     subst (InSixteen (IsAt (K s3) (C s3) (c.level-level.result - 1))) (sym c.in_north_west.ensures) (known-north_west (K s3) (C s3) _ _ _ _ _ here)
 
-pub returns-in_err-sw-clause-stays : goal.returns-in_err-sw-clause-stays
-returns-in_err-sw-clause-stays g c t h = c.in_err-sw.ensures.stays t (c.in_ok-ne.ensures.stays t (c.in_ok-nw.ensures.stays t h))
+pub returns-in_err-south_west-clause-stays : goal.returns-in_err-south_west-clause-stays
+returns-in_err-south_west-clause-stays g c t h = c.in_err-south_west.ensures.stays t (c.in_ok-north_east.ensures.stays t (c.in_ok-north_west.ensures.stays t h))
 
-pub returns-in_err-se-clause-stays : goal.returns-in_err-se-clause-stays
-returns-in_err-se-clause-stays g c t h = c.in_err-se.ensures.stays t (c.in_ok-sw.ensures.stays t (c.in_ok-ne.ensures.stays t (c.in_ok-nw.ensures.stays t h)))
+pub returns-in_err-south_east-clause-stays : goal.returns-in_err-south_east-clause-stays
+returns-in_err-south_east-clause-stays g c t h = c.in_err-south_east.ensures.stays t (c.in_ok-south_west.ensures.stays t (c.in_ok-north_east.ensures.stays t (c.in_ok-north_west.ensures.stays t h)))
 
 pub returns-clause-stays : goal.returns-clause-stays
-returns-clause-stays g c t h = c.join.ensures.stays t (c.in_ok-se.ensures.stays t (c.in_ok-sw.ensures.stays t (c.in_ok-ne.ensures.stays t (c.in_ok-nw.ensures.stays t h))))
+returns-clause-stays g c t h = c.join.ensures.stays t (c.in_ok-south_east.ensures.stays t (c.in_ok-south_west.ensures.stays t (c.in_ok-north_east.ensures.stays t (c.in_ok-north_west.ensures.stays t h))))
 
 pub returns-clause-next : goal.returns-clause-next
 returns-clause-next g c =
@@ -84,12 +86,13 @@ returns-clause-next g c =
     let next = next_life eight_around c.args.rule.now cells in
     let k = c.level-level.result - 1 in
     let start = corner t in
+    let quiet = ap (λ (d : DigitSets). has_digit d.births 0) (sym c.rule.view_is) ∙ c.rule.invariant.no_birth_on_zero in
     let q = c.divide-root.result in
     let b = c.empty-blank.result in
-    let nw = c.in_ok-nw.ensures in
-    let ne = c.in_ok-ne.ensures in
-    let sw = c.in_ok-sw.ensures in
-    let se = c.in_ok-se.ensures in
+    let nw = c.in_ok-north_west.ensures in
+    let ne = c.in_ok-north_east.ensures in
+    let sw = c.in_ok-south_west.ensures in
+    let se = c.in_ok-south_east.ensures in
     let to1 : (i : Id) → K s0 i → K s1 i × (C s1 i ≡ C s0 i) = (λ i h. nw.keeps i h) in
     let to2 : (i : Id) → K s0 i → K s2 i × (C s2 i ≡ C s0 i) = (λ i h. let u = nw.keeps i h in let v = ne.keeps i u.0 in (v.0, v.1 ∙ u.1)) in
     let to3 : (i : Id) → K s0 i → K s3 i × (C s3 i ≡ C s0 i) = (λ i h. let u = nw.keeps i h in let v = ne.keeps i u.0 in let w = sw.keeps i v.0 in (w.0, w.1 ∙ v.1 ∙ u.1)) in
@@ -109,15 +112,15 @@ returns-clause-next g c =
     let p2 = ne.next cells east west c.requires.states (subst (AreSixteen (C s1) cells (2 ^ k) east west) (sym c.in_south_west.ensures) (pieces-south_west (K s1) (C s1) cells k start q b q1 alone)) in
     let p3 = sw.next cells west east c.requires.states (subst (AreSixteen (C s2) cells (2 ^ k) west east) (sym c.in_north_east.ensures) (pieces-north_east (K s2) (C s2) cells k start q b q2 alone)) in
     let p4 = se.next cells east east c.requires.states (subst (AreSixteen (C s3) cells (2 ^ k) east east) (sym c.in_north_west.ensures) (pieces-north_west (K s3) (C s3) cells k start q b q3 alone)) in
-    let nw2 = ne.keeps c.in_ok-nw.nw nw.at.known in
-    let nw3 = sw.keeps c.in_ok-nw.nw nw2.0 in
-    let nw4 = se.keeps c.in_ok-nw.nw nw3.0 in
-    let ne3 = sw.keeps c.in_ok-ne.ne ne.at.known in
-    let ne4 = se.keeps c.in_ok-ne.ne ne3.0 in
-    let sw4 = se.keeps c.in_ok-sw.sw sw.at.known in
-    let enw : C s4 c.in_ok-nw.nw ≡ C s1 c.in_ok-nw.nw = nw4.1 ∙ nw3.1 ∙ nw2.1 in
-    let ene : C s4 c.in_ok-ne.ne ≡ C s2 c.in_ok-ne.ne = ne4.1 ∙ ne3.1 in
-    let deep : depth (C s4 c.in_ok-nw.nw) ≡ k + 1 = ap depth enw ∙ nw.at.level in
+    let nw2 = ne.keeps c.in_ok-north_west.north_west nw.at.known in
+    let nw3 = sw.keeps c.in_ok-north_west.north_west nw2.0 in
+    let nw4 = se.keeps c.in_ok-north_west.north_west nw3.0 in
+    let ne3 = sw.keeps c.in_ok-north_east.north_east ne.at.known in
+    let ne4 = se.keeps c.in_ok-north_east.north_east ne3.0 in
+    let sw4 = se.keeps c.in_ok-south_west.south_west sw.at.known in
+    let enw : C s4 c.in_ok-north_west.north_west ≡ C s1 c.in_ok-north_west.north_west = nw4.1 ∙ nw3.1 ∙ nw2.1 in
+    let ene : C s4 c.in_ok-north_east.north_east ≡ C s2 c.in_ok-north_east.north_east = ne4.1 ∙ ne3.1 in
+    let deep : depth (C s4 c.in_ok-north_west.north_west) ≡ k + 1 = ap depth enw ∙ nw.at.level in
     both c.join.result
     (λ r known e.
     let u = C c.join.new.self r in
@@ -128,5 +131,5 @@ returns-clause-next g c =
     (IsPiece-moved next _ _ west west _ (sym side) refl (subst (IsPiece next east west) (sym ene) p2))
     (IsPiece-moved next west west _ _ _ refl (sym side) (subst (IsPiece next west east) (sym sw4.1) p3))
     (IsPiece-moved next _ _ _ _ _ (sym side) (sym side) p4) in
-    root-next c.args.rule.now t u c.requires.quiet (omega (arith, level)) (g.met.S.Squares.full c.join.new.self r known) level-r (IsPiece-moved next _ _ _ _ u at at whole))
+    root-next c.args.rule.now t u quiet (omega (arith, level)) (g.met.S.Squares.full c.join.new.self r known) level-r (IsPiece-moved next _ _ _ _ u at at whole))
     c.join.ensures.known c.join.ensures.square

@@ -1,0 +1,55 @@
+//! The next generation of a pattern.
+ghost use Rattle.std.specs.Prelude.{◌≡◌, ◌⊎◌, ℤ, ◌<◌, ◌≤◌, length, Contains, Err, Some, None, IfOk, IfErr};
+ghost use Rattle.life_base.specs.declared.kind.Kind.TheVariants.{Full, Memory};
+ghost use Rattle.life_base.specs.Refusal.{fault_of};
+ghost use Rattle.life_base.specs.Tree.{Tree, depth, tree_cell};
+ghost use Rattle.life_quad.specs.declared.id.Id.{Id as IdValue};
+ghost use Rattle.life_table.specs.declared.table.Neighborhood.TheVariants.{Moore};
+ghost use Rattle.life_sweep.specs.Around.{eight_around};
+ghost use Rattle.life_sweep.specs.Generation.{next_life};
+ghost use Rattle.life_sweep.specs.Refused.{GenerationRefusal};
+ghost use Rattle.life_sweep.specs.Sweep.{LifeAnswers};
+
+use crate::blocks::next_life_square;
+use life_base::{Fault, Kind, LifeRule, MAX_LEVEL};
+use life_quad::{Id, SharedSquares, population};
+use life_sweep::{ByCounts, next_generation};
+use std::alloc::Global;
+
+/// A square with the next generation under a B/S rule of a square's cells, of which at most `most` may have a state other than 0. It is one
+/// level higher, or the square of the whole plane where the square is that.
+///
+/// # Errors
+///
+/// The first of these that holds: `TooManyCells` if more have one; `OutOfPlane` if a cell outside the plane would not stay 0. Or, before it is
+/// told, `Full` if the store holds its limit and a square of the generation is new, or `Memory`. After an error each Id has its square.
+pub fn next_life_generation<S: SharedSquares>(
+    alloc: Global,
+    squares: &mut S,
+    rule: &LifeRule,
+    id: Id,
+    most: u64,
+) -> Result<Id, Fault>
+    requires known { S.knows squares.old id }
+    requires high { 2 ≤ depth (S.content squares.old id) }
+    requires states { (x y : ℤ) → tree_cell (S.content squares.old id) x y < 2 }
+    ensures known { IfOk result (S.knows squares.new) }
+    ensures high { IfOk result (λ r. 3 ≤ depth (S.content squares.new r)) }
+    ensures low { IfOk result (λ r. depth (S.content squares.new r) ≤ MAX_LEVEL) }
+    ensures next { IfOk result (λ r. (x y : ℤ) → tree_cell (S.content squares.new r) x y ≡ next_life eight_around rule.now (tree_cell (S.content squares.old id)) x y) }
+    ensures accepted { IfOk result (λ _. GenerationRefusal (LifeAnswers Moore rule.now) 2 most (S.content squares.old id) None) }
+    ensures refusals { IfErr result (λ f. (f ≡ fault_of Full) ⊎ (f ≡ fault_of Memory) ⊎ GenerationRefusal (LifeAnswers Moore rule.now) 2 most (S.content squares.old id) (Some f)) }
+    ensures full { result ≡ Err (fault_of Full) → length (S.stored squares.new) ≡ S.most squares.new }
+    ensures keeps { (q : IdValue) → S.knows squares.old q → S.knows squares.new q × (S.content squares.new q ≡ S.content squares.old q) }
+    ensures stays { (t : Tree) → Contains (S.stored squares.old) t → Contains (S.stored squares.new) t }
+    ensures most { S.most squares.new ≡ S.most squares.old }
+{
+    if squares.level(id) == MAX_LEVEL {
+        let mut law = ByCounts::new(*rule);
+        return next_generation(alloc, squares, &mut law, id, most);
+    }
+    if population(alloc, squares, id)? > u128::from(most) {
+        return Err(Fault::of(Kind::TooManyCells));
+    }
+    Ok(next_life_square(squares, rule, id)?)
+}
