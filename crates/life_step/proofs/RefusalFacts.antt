@@ -2,6 +2,7 @@
 use Rattle.std.proofs.Common.{◌≡◌, ℕ, ◌-◌, ◌^◌, ◌<◌, ◌≤◌, inl, inr, ℤ, pos, neg_ℤ, ◌≤ℤ◌, ◌<ℤ◌, List, Option, Some, None, refl, sym, ◌∙◌, ap, subst, arith}
 use Rattle.std.proofs.lemmas.Int.{ints}
 use Rattle.std.proofs.lemmas.Bool.Decides.{eqb_tells}
+use Rattle.std.proofs.Math.Pow.{pow_mono}
 use Rattle.life_base.specs.Refusal.{fault_of}
 use Rattle.life_base.specs.Sets.{DigitSets}
 use Rattle.life_base.specs.Tree.{Tree, depth, half_side, tree_cell, IsFull}
@@ -46,19 +47,23 @@ of-plane x y h =
     let s = h.south in
     ((omega (arith, ints, w), omega (arith, ints, e)), (omega (arith, ints, n), omega (arith, ints, s)))
 
--- a square of the greatest level has no cell outside the plane
-pub blank-outside : (t : Tree) → depth t ≡ MAX_LEVEL → IsBlankOutside MAX_LEVEL (tree_cell t)
+-- a square has no cell outside the plane
+pub blank-outside : (t : Tree) → depth t ≤ MAX_LEVEL → IsBlankOutside MAX_LEVEL (tree_cell t)
 blank-outside t e x y n = elim (eqb_tells (tree_cell t x y) 0) [
   | inl z ↦ z.1
   | inr k ↦
       let i = cells_lie_inside t x y k.1 in
-      let half : half_side t ≡ 2 ^ 59 = ap (λ d. 2 ^ (d - 1)) e in
-      let j = subst (λ h. (neg_ℤ (pos h) ≤ℤ x) × (x <ℤ pos h) × (neg_ℤ (pos h) ≤ℤ y) × (y <ℤ pos h)) half i in
-      absurd (n (of-plane x y (inside x y j.0 j.1 j.2 j.3)))
+      let half : half_side t ≤ 2 ^ 59 = pow_mono {i = depth t - 1} {j = 59} (omega (arith, e)) in
+      absurd (n (of-plane x y (inside (half_side t) half i.0 i.1 i.2 i.3)))
 ]
   where
-    inside : (x y : ℤ) → neg_ℤ (pos (2 ^ 59)) ≤ℤ x → x <ℤ pos (2 ^ 59) → neg_ℤ (pos (2 ^ 59)) ≤ℤ y → y <ℤ pos (2 ^ 59) → IsOnPlane x y 1
-    inside x y a b c d = record { west = a; east = omega (arith, ints, b); north = c; south = d }
+    inside : (h : ℕ) → h ≤ 2 ^ 59 → neg_ℤ (pos h) ≤ℤ x → x <ℤ pos h → neg_ℤ (pos h) ≤ℤ y → y <ℤ pos h → IsOnPlane x y 1
+    inside h small a b c d = record {
+      west = omega (arith, ints, small, a);
+      east = omega (arith, ints, small, b);
+      north = omega (arith, ints, small, c);
+      south = omega (arith, ints, small, d);
+    }
 
 -- ---- a pattern and its square
 

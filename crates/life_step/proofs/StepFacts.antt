@@ -1,6 +1,6 @@
 -- Steps: what the law of a rule answers for the square of a pattern is the next generation of what its file says.
 use Rattle.std.proofs.Common.{◌≡◌, ◌≢◌, ℕ, ◌+◌, ◌-◌, ◌^◌, ◌<◌, ◌≤◌, Bool, true, false, ◌⊎◌, inl, inr, ℤ, List, length, Option, Some, refl, sym, ◌∙◌, ap, subst, arith}
-use Rattle.std.specs.Prelude.{Contains, if◌then◌else◌}
+use Rattle.std.specs.Prelude.{Contains, drop, slice_index, if◌then◌else◌}
 use Rattle.life_base.specs.Refusal.{fault_of}
 use Rattle.life_base.specs.Rules.{IsRule}
 use Rattle.life_base.specs.Sets.{DigitSets}
@@ -18,11 +18,11 @@ use Rattle.life_quad.specs.Store.{Nodes, held}
 use Rattle.life_quad.specs.declared.id.Id.{Id}
 use Rattle.life_quad.proofs.LawLemmas.{trimming_keeps_cells, trimmed_is_fixed, trimming_stops}
 use Rattle.life_table.specs.Laws.{OneAnswer}
-use Rattle.life_table.specs.Meaning.{Answer, Becomes}
+use Rattle.life_table.specs.Meaning.{Answer, Becomes, count_of}
 use Rattle.life_table.specs.declared.table.Table.{Table}
 use Rattle.life_table.specs.declared.table.Neighborhood.TheVariants.{Moore}
 use Rattle.life_sweep.specs.Around.{eight_around, before, after}
-use Rattle.life_sweep.specs.Generation.{next_life, AnswersAt}
+use Rattle.life_sweep.specs.Generation.{next_by_count, next_life, AnswersAt}
 use Rattle.life_sweep.specs.Laws.{LifeAnswersAt, TableAnswersAt}
 use Rattle.life_sweep.specs.Refused.{GenerationRefusal}
 use Rattle.life_sweep.specs.Sweep.{states_at, LifeAnswers, TableAnswers}
@@ -68,22 +68,15 @@ root-high rule d h = let o = one-least rule in omega (arith, o, h)
 
 -- ---- the text of a square
 
-least-three : (rule : Rule) → least_level rule ≤ 3
-least-three (Life sets) = omega arith
-least-three (Named name) = omega arith
-
-low : (m d : ℕ) → m ≤ 3 → d ≡ 60 → m ≤ d
-low m d h e = omega (arith, h, e)
-
--- the trimmed square of the whole plane may be numbered
+-- a trimmed square may be numbered
 pub trimmed-fits : (store : Nodes) (rule : Rule) (generation : ℕ) (root : Id) (t : Tree) → IsKnown store root → content store root ≡ trimmed t (least_level rule)
-    → IsFull t → depth t ≡ MAX_LEVEL → ((x y : ℤ) → tree_cell t x y ≤ largest_state rule)
+    → IsFull t → least_level rule ≤ depth t → ((x y : ℤ) → tree_cell t x y ≤ largest_state rule)
     → IsTrimmed store (record { rule = rule; generation = generation; root = root })
-trimmed-fits store rule generation root t known is full level states =
+trimmed-fits store rule generation root t known is full least states =
     let m = least_level rule in
     let one = one-least rule in
     let fixed = trimmed_is_fixed t m full one in
-    let high = (trimming_stops t m full one).0 (low m (depth t) (least-three rule) level) in
+    let high = (trimming_stops t m full one).0 least in
     let upto = states-up-to (largest_state rule) (trimmed t m) fixed.0 (λ x y. subst (λ n. n ≤ largest_state rule) (sym (trimming_keeps_cells t m full one x y)) (states x y)) in
     record {
       known = known;
@@ -92,7 +85,7 @@ trimmed-fits store rule generation root t known is full level states =
       states = subst (HasStatesUpTo (largest_state rule)) (sym is) upto;
     }
 
-pub plane-of : (rule : Rule) (generation : ℕ) (s t : Tree) → IsRule rule → generation < 2 ^ 64 → ((x y : ℤ) → tree_cell s x y ≡ tree_cell t x y) → depth t ≡ MAX_LEVEL
+pub plane-of : (rule : Rule) (generation : ℕ) (s t : Tree) → IsRule rule → generation < 2 ^ 64 → ((x y : ℤ) → tree_cell s x y ≡ tree_cell t x y) → depth t ≤ MAX_LEVEL
     → ((x y : ℤ) → tree_cell t x y ≤ largest_state rule) → IsOnPlane MAX_LEVEL (square_universe rule generation s)
 plane-of rule generation s t is small same level states = record {
   rule = is;
@@ -117,7 +110,7 @@ text-of on_plane files tell u v same plane text e =
 
 pub text-of-square : FilesAreOnPlane MAX_LEVEL → TextsAreFiles MAX_LEVEL → TextsTellUniverses MAX_LEVEL
     → (store : Nodes) (rule : Rule) (generation : ℕ) (root : Id) (t : Tree) → IsRule rule → generation < 2 ^ 64 → content store root ≡ trimmed t (least_level rule)
-    → IsFull t → depth t ≡ MAX_LEVEL → ((x y : ℤ) → tree_cell t x y ≤ largest_state rule)
+    → IsFull t → depth t ≤ MAX_LEVEL → ((x y : ℤ) → tree_cell t x y ≤ largest_state rule)
     → (text : List ℕ) → text ≡ mc_text (canonical_file MAX_LEVEL (universe_in store (record { rule = rule; generation = generation; root = root })))
     → IsTextOf MAX_LEVEL (square_universe rule generation t) text
 unfolding canon_text
@@ -146,12 +139,16 @@ same-states f g h x y =
 same_state : (a b : ℕ) → Becomes a ≡ Becomes b → a ≡ b
 same_state a b e = cc
 
-next-small : (sets : DigitSets) (cells : ℤ → ℤ → ℕ) (x y : ℤ) → next_life eight_around sets cells x y ≤ 1
+pub next-small : (sets : DigitSets) (cells : ℤ → ℤ → ℕ) (x y : ℤ) → next_life eight_around sets cells x y ≤ 1
 next-small sets cells x y = by _
   where
     by : (b : Bool) → (if b then 1 else 0) ≤ 1
     by true = omega arith
     by false = omega arith
+
+-- and equal next states
+pub same-next : (sets : DigitSets) (f g : ℤ → ℤ → ℕ) → ((x y : ℤ) → f x y ≡ g x y) → (x y : ℤ) → next_life eight_around sets f x y ≡ next_life eight_around sets g x y
+same-next sets f g h x y = ap (λ v. next_by_count sets (slice_index v 0) (count_of 1 (drop 1 v))) (same-states f g h x y)
 
 -- ---- under a B/S rule
 
@@ -161,14 +158,6 @@ module _ (law : LifeAnswersAt) (sets : DigitSets) (u : Universe) (t : Tree) (sam
 
   life-from : (x y : ℤ) (a : Answer) → a ≡ Becomes (next_life eight_around sets u.cell x y) → LifeAnswers Moore sets (states_at (tree_cell t) x y) a
   life-from x y a h = subst (λ v. LifeAnswers Moore sets v a) (same-states u.cell (tree_cell t) same x y) ((law Moore sets u.cell x y a).1 h)
-
-  pub life-next : (r : Tree) → ((x y : ℤ) → LifeAnswers Moore sets (states_at (tree_cell t) x y) (Becomes (tree_cell r x y)))
-      → (x y : ℤ) → tree_cell r x y ≡ next_life eight_around sets u.cell x y
-  life-next r h x y = same_state _ _ (life-to x y _ (h x y))
-
-  pub life-states : (r : Tree) → ((x y : ℤ) → LifeAnswers Moore sets (states_at (tree_cell t) x y) (Becomes (tree_cell r x y)))
-      → (x y : ℤ) → tree_cell r x y ≤ 1
-  life-states r h x y = subst (λ n. n ≤ 1) (sym (life-next r h x y)) (next-small sets u.cell x y)
 
   -- the refusal is the one of the file
   pub life-refused : u.rule ≡ Life sets → u.generation ≢ 2 ^ 64 - 1 → ((x y : ℤ) → u.cell x y ≤ 1) → IsFull t → 1 ≤ depth t

@@ -13,12 +13,13 @@ ghost use Rattle.life_step.specs.Refusals.{LifeRefusal, TableRefusal};
 ghost use Rattle.life_step.specs.Stepped.{IsLifeStep, IsTableStep, IsTextOf, Stepped};
 
 use life_base::{Fault, Kind, MAX_LEVEL, Rule, StepFault};
+use life_block::next_life_generation;
 use life_canon::laws::{files_are_on_plane, patterns_fit, texts_are_files, texts_tell_universes};
 use life_canon::{Pattern, number, read};
 use life_mc::write_mc;
 use life_quad::{Id, Shared, trim};
 use life_sweep::laws::{life_answers_at, table_answers_at};
-use life_sweep::{ByCounts, ByTable, next_generation};
+use life_sweep::{ByTable, next_generation};
 use life_table::Table;
 use life_table::laws::one_answer;
 use std::alloc::Global;
@@ -58,7 +59,7 @@ fn generation_after(generation: u64) -> Result<u64, Fault>
     }
 }
 
-/// The canonical text of the cells of a square of the whole plane, under this rule and in this generation.
+/// The canonical text of the cells of a square, under this rule and in this generation.
 fn text_of(
     alloc: Global,
     store: &mut Shared,
@@ -67,7 +68,7 @@ fn text_of(
     square: Id,
 ) -> Result<Vec<u8>, Fault>
     requires known { IsKnown store.old square }
-    requires level { depth (content store.old square) ≡ MAX_LEVEL }
+    requires high { least_level_of rule ≤ depth (content store.old square) }
     requires rule { IsRule rule }
     requires states { (x y : ℤ) → tree_cell (content store.old square) x y ≤ largest_state rule }
     ensures text { IfOk result (λ text. IsTextOf MAX_LEVEL (square_universe rule generation (content store.old square)) text.items) }
@@ -103,12 +104,11 @@ pub fn step_life(alloc: Global, store: &mut Shared, bytes: &[u8]) -> Result<Vec<
     let Rule::Life(rule) = &pattern.rule else {
         return Err(Fault::of(Kind::NeedsTable));
     };
-    let mut by_counts = ByCounts::new(*rule);
     let generation = generation_after(pattern.generation)?;
     files_are_on_plane();
     patterns_fit();
     life_answers_at();
-    let square = next_generation(alloc, store, &mut by_counts, pattern.root, MOST_CELLS)?;
+    let square = next_life_generation(alloc, store, rule, pattern.root, MOST_CELLS)?;
     text_of(alloc, store, pattern.rule, generation, square)
 }
 

@@ -12,14 +12,14 @@ number-requires c =
     let t = content c.args.store.now c.args.square in
     let full = (known_squares_are_full c.args.store.now c.args.square c.requires.known.0).0 in
     trimmed-fits c.trim.new.squares c.args.rule c.args.generation c.in_ok-root.root t c.in_ok-root.ensures.known (c.in_ok-root.ensures.square ∙ ap (trimmed t) c.least_level.ensures)
-    full c.requires.level c.requires.states
+    full c.requires.high c.requires.states
 
 pub returns-clause-text : goal.returns-clause-text
 returns-clause-text c =
     let t = content c.args.store.now c.args.square in
-    let full = (known_squares_are_full c.args.store.now c.args.square c.requires.known.0).0 in
+    let known = known_squares_are_full c.args.store.now c.args.square c.requires.known.0 in
     IfOk-weaker c.write_mc.result _ _
     (λ text e.
     text-of-square c.files_are_on_plane.ensures c.texts_are_files.ensures c.texts_tell_universes.ensures c.trim.new.squares c.args.rule c.args.generation c.in_ok-root.root t c.requires.rule
-    c.ranges.generation.fits (c.in_ok-root.ensures.square ∙ ap (trimmed t) c.least_level.ensures) full c.requires.level c.requires.states text.items (e ∙ ap mc_text c.in_ok-file.ensures.file))
+    c.ranges.generation.fits (c.in_ok-root.ensures.square ∙ ap (trimmed t) c.least_level.ensures) known.0 known.1 c.requires.states text.items (e ∙ ap mc_text c.in_ok-file.ensures.file))
     c.write_mc.ensures.ok
