@@ -8,11 +8,11 @@
 ghost use Rattle.std.specs.Prelude.{◌≡◌, ◌≤◌, IfOk};
 
 use life_base::{Device, LifeRule, Rule, read_within};
+use life_block::next_life_generation;
 use life_canon::laws::patterns_fit;
 use life_canon::read;
 use life_quad::Shared;
 use life_step::step_life;
-use life_sweep::{ByCounts, next_generation};
 use std::alloc::{AllocError, Global};
 use std::io;
 use std::time::Instant;
@@ -49,10 +49,9 @@ fn time_generation(rt: HostRuntime, bytes: &[u8]) -> io::Result<()> {
     let Rule::Life(rule) = &pattern.rule else {
         return println!(rt; "no B/S rule");
     };
-    let mut law = ByCounts::new(*rule);
     patterns_fit();
     let start = Instant::now(&rt)?;
-    let next = next_generation(alloc, &mut store, &mut law, pattern.root, 1 << 24);
+    let next = next_life_generation(alloc, &mut store, rule, pattern.root, 1 << 24);
     let spent = start.elapsed(&rt)?;
     eprintln!(rt;
         "next generation {}: {} us",

@@ -1,5 +1,5 @@
 -- Laws: the number of live neighbours, and the neighbours that a table looks at.
-use Rattle.std.proofs.Common.{◌≡◌, ℕ, ◌+◌, ◌<◌, ◌≤◌, Bool, cond, inl, inr, List, [], ◌∷◌, length, drop, get_or, refl, sym, ◌∙◌, ap, subst, arith}
+use Rattle.std.proofs.Common.{◌≡◌, ℕ, ◌+◌, ◌<◌, Bool, cond, inl, inr, List, [], ◌∷◌, length, drop, get_or, refl, sym, ◌∙◌, ap, subst, arith}
 use Rattle.std.specs.Prelude.{All, nat_eq, slice_index, Result, Ok, Err, IfOk, MatchResult}
 use Rattle.std.proofs.lemmas.Bool.Decides.{eqb_tells}
 use Rattle.life_base.specs.declared.fault.Fault.{Fault}
@@ -16,7 +16,7 @@ one a l = elim (eqb_tells 1 a) [
   | inr f ↦ ap (λ (b : Bool). cond b 1 0) f.0 ∙ (let ne = f.1 in omega (arith, l, ne))
 ]
 
-pub eight : (a b c d e f g h : ℕ) → a < 2 → b < 2 → c < 2 → d < 2 → e < 2 → f < 2 → g < 2 → h < 2
+eight : (a b c d e f g h : ℕ) → a < 2 → b < 2 → c < 2 → d < 2 → e < 2 → f < 2 → g < 2 → h < 2
     → a + b + c + d + e + f + g + h ≡ count_of 1 (a ∷ b ∷ c ∷ d ∷ e ∷ f ∷ g ∷ h ∷ [])
 eight a b c d e f g h la lb lc ld le lf lg lh =
     let ea = one a la in
@@ -28,11 +28,6 @@ eight a b c d e f g h la lb lc ld le lf lg lh =
     let eg = one g lg in
     let eh = one h lh in
     omega (arith, ea, eb, ec, ed, ee, ef, eg, eh)
-
-pub few-eight : (a b c d e f g h n : ℕ) → a < 2 → b < 2 → c < 2 → d < 2 → e < 2 → f < 2 → g < 2 → h < 2 → n ≡ count_of 1 (a ∷ b ∷ c ∷ d ∷ e ∷ f ∷ g ∷ h ∷ []) → n ≤ 8
-few-eight a b c d e f g h n la lb lc ld le lf lg lh is =
-    let sum = eight a b c d e f g h la lb lc ld le lf lg lh in
-    omega (arith, is, sum, la, lb, lc, ld, le, lf, lg, lh)
 
 -- how many of eight neighbours are alive
 pub count-eight : (v : List ℕ) → length v ≡ 9 → All (λ s. s < 2) v

@@ -1,13 +1,8 @@
 pub mod RowLemmas
-pub mod WordLemmas
-pub mod TakeLemmas
-pub mod WordWindowLemmas
-pub mod DrawLemmas
 pub mod BandLemmas
 pub mod WindowLemmas
 pub mod PenLemmas
 pub mod SweepLemmas
-pub mod WordSweepLemmas
 pub mod LawLemmas
 pub mod LawProofs
 pub mod CellLemmas

@@ -76,7 +76,7 @@ AreRows-first cells y x m rows (inr (inl s)) h = IsRest-first _ x m _ s h.here
 AreRows-first cells y x m rows (inr (inr s)) h = IsRest-first _ x m _ s h.south
 
 -- a column without cells
-pub three-true : (a b c : Bool) → (a && b && c) ≡ true → (a ≡ true) × (b ≡ true) × (c ≡ true)
+three-true : (a b c : Bool) → (a && b && c) ≡ true → (a ≡ true) × (b ≡ true) × (c ≡ true)
 three-true true true true e = (refl, refl, refl)
 three-true true true false e = absurd (true≢false (sym e))
 three-true true false c e = absurd (true≢false (sym e))

@@ -6,4 +6,3 @@ pub mod Pen
 pub mod Refused
 pub mod Rows
 pub mod Sweep
-pub mod Words

@@ -19,9 +19,9 @@ open_runs (Some run) = given run ∷ []
 abbrev pub drawn_runs : Pen → List GivenRun
 drawn_runs pen = pen.builder.runs ++ open_runs pen.unclosed
 
--- a run of so many cells
-abbrev pub run_of : ℤ → ℤ → ℕ → ℕ → GivenRun
-run_of x y len state = record { x = x; y = y; len = len; state = state }
+-- a run of one cell
+abbrev pub one_cell : ℤ → ℤ → ℕ → GivenRun
+one_cell x y state = record { x = x; y = y; len = 1; state = state }
 
 -- the run may be given behind these
 pub record IsOpen (runs : List GivenRun) (run : Run) : Type 0 where

@@ -1,5 +1,5 @@
 //! What a cell becomes.
-ghost use Rattle.std.specs.Prelude.{◌≡◌, ℕ, ◌<◌, ◌≤◌, ◌↔◌, false, All, IfOk, IfErr, IfSome, List};
+ghost use Rattle.std.specs.Prelude.{◌≡◌, ℕ, ◌<◌, ◌≤◌, false, All, IfOk, IfErr, List};
 ghost use Rattle.std.proofs.Props.{props};
 ghost use Rattle.life_table.specs.Meaning.{Becomes, Ambiguous, count_of};
 ghost use Rattle.life_base.specs.Rules.{has_digit};
@@ -15,8 +15,7 @@ use std::marker::Model;
 /// What a cell becomes, by its state and those of its eight neighbours. What a law remembers is no part of its value.
 pub trait Law {
     ghost use Rattle.life_table.specs.Meaning.{Answer, Becomes};
-    ghost use Rattle.life_table.specs.declared.table.Neighborhood.TheVariants.{Moore};
-    ghost use Rattle.life_sweep.specs.Sweep.{LifeAnswers, zeros};
+    ghost use Rattle.life_sweep.specs.Sweep.{zeros};
 
     // States are below this.
     ghost bound: { Self → ℕ };
@@ -27,11 +26,6 @@ pub trait Law {
     /// The number of states.
     fn n_states(&self) -> u16
         ensures { result ≡ bound self.now };
-
-    /// The B/S rule that says the same as this law, if there is one.
-    fn life_rule(&self) -> Option<LifeRule>
-        ensures two { IfSome result (λ rule. bound self.now ≡ 2) }
-        ensures same { IfSome result (λ rule. (states : List ℕ) (answer : Answer) → LifeAnswers Moore rule states answer ↔ answers self.now states answer) };
 
     /// The next state, by the centre's state and then the neighbours' from north clockwise.
     fn next(&mut self, around: &[State; 9]) -> Result<State, Fault>
@@ -84,10 +78,6 @@ impl Law for ByCounts {
 
     fn n_states(&self) -> u16 {
         2
-    }
-
-    fn life_rule(&self) -> Option<LifeRule> {
-        Some(self.rule)
     }
 
     fn next(&mut self, around: &[State; 9]) -> Result<State, Fault> {
@@ -186,10 +176,6 @@ impl<'a> Law for ByTable<'a> {
 
     fn n_states(&self) -> u16 {
         self.table.n_states
-    }
-
-    fn life_rule(&self) -> Option<LifeRule> {
-        None
     }
 
     fn next(&mut self, around: &[State; 9]) -> Result<State, Fault> {

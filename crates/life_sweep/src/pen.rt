@@ -1,19 +1,16 @@
 //! A builder that is given whole runs, though the sweep draws place by place.
-ghost use Rattle.std.specs.Prelude.{◌≡◌, ◌≤◌, ◌⊎◌, ℕ, ℤ, pos, ◌+◌, ◌+ℤ◌, ◌≤ℤ◌, ◌<ℤ◌, IsTrue, ◌↔◌, [], Contains, length, Err, None, OnOk, IfOk, IfErr};
+ghost use Rattle.std.specs.Prelude.{◌≡◌, ◌≤◌, ◌⊎◌, ℤ, IsTrue, ◌↔◌, [], Contains, length, Err, None, OnOk, IfOk, IfErr};
 ghost use Rattle.life_base.specs.declared.kind.Kind.TheVariants.{Full, Memory};
 ghost use Rattle.life_base.specs.Tree.{Tree, depth, tree_cell};
 ghost use Rattle.life_quad.specs.declared.id.Id.{Id as IdValue};
 ghost use Rattle.life_strip.specs.Filling.{IsEmpty, IsFilling};
 ghost use Rattle.life_strip.specs.Given.{IsBehind, IsNext, IsOnPlane, state_by};
-ghost use Rattle.life_sweep.specs.Pen.{IsHolding, IsContinuedBy, drawn_runs, run_of};
+ghost use Rattle.life_sweep.specs.Pen.{IsHolding, IsContinuedBy, drawn_runs, one_cell};
 
 use life_base::{Kind, MAX_LEVEL, State};
 use life_quad::{Id, Squares};
 use life_strip::Builder;
 use std::alloc::Global;
-
-/// Half of the side of the plane.
-pub(crate) const HALF: i64 = 1 << (MAX_LEVEL - 1);
 
 /// So many cells of one state side by side.
 #[derive(Clone, Copy)]
@@ -73,23 +70,21 @@ impl Pen {
         Ok(())
     }
 
-    /// Gives the cells (x, y) to (x + len - 1, y) a state. They are behind the cells that were drawn.
+    /// Gives the cell (x, y) a state. It is behind the cells that were drawn.
     pub(crate) fn draw<S: Squares>(
         &mut self,
         squares: &mut S,
         x: i64,
         y: i64,
-        len: u64,
         state: State,
     ) -> Result<(), Kind>
         requires holding { IsHolding (S.knows squares.old) (S.content squares.old) self.old }
-        requires some_cell { 1 ≤ len }
-        requires inside { IsOnPlane x y len }
+        requires inside { IsOnPlane x y 1 }
         requires next { IsNext (drawn_runs self.old) x y }
         ensures holding { OnOk result (IsHolding (S.knows squares.new) (S.content squares.new) self.new) }
-        ensures here { OnOk result ((c : ℤ) → x ≤ℤ c → c <ℤ (x +ℤ pos len) → state_by (drawn_runs self.new) c y ≡ state) }
-        ensures others { OnOk result ((c r : ℤ) → (x ≤ℤ c → c <ℤ (x +ℤ pos len) → r ≡ y → ⊥) → state_by (drawn_runs self.new) c r ≡ state_by (drawn_runs self.old) c r) }
-        ensures next { OnOk result ((c r : ℤ) → IsBehind (run_of x y len state) c r → IsNext (drawn_runs self.new) c r) }
+        ensures here { OnOk result (state_by (drawn_runs self.new) x y ≡ state) }
+        ensures others { OnOk result ((c r : ℤ) → (c ≡ x → r ≡ y → ⊥) → state_by (drawn_runs self.new) c r ≡ state_by (drawn_runs self.old) c r) }
+        ensures next { OnOk result ((c r : ℤ) → IsBehind (one_cell x y state) c r → IsNext (drawn_runs self.new) c r) }
         ensures keeps { (q : IdValue) → S.knows squares.old q → S.knows squares.new q × (S.content squares.new q ≡ S.content squares.old q) }
         ensures stays { (t : Tree) → Contains (S.stored squares.old) t → Contains (S.stored squares.new) t }
         ensures most { S.most squares.new ≡ S.most squares.old }
@@ -98,13 +93,18 @@ impl Pen {
     {
         if let Some(run) = self.unclosed {
             if is_continued_by(&run, x, y, state) {
-                let len = run.len + len;
+                let len = run.len + 1;
                 self.unclosed = Some(Run { len, ..run });
                 return Ok(());
             }
         }
         self.close(squares)?;
-        self.unclosed = Some(Run { x, y, len, state });
+        self.unclosed = Some(Run {
+            x,
+            y,
+            len: 1,
+            state,
+        });
         Ok(())
     }
 

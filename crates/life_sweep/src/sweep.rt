@@ -15,13 +15,15 @@ ghost use Rattle.life_sweep.specs.Sweep.{IsScene, IsSorted, RefusesStep, states_
 use crate::band::Band;
 use crate::column::Rows;
 use crate::law::Law;
-use crate::pen::{HALF, Pen};
+use crate::pen::Pen;
 use crate::window::Window;
-use crate::word_sweep::draw_row_by_words;
 use life_base::{Cell, Fault, Kind, MAX_LEVEL};
 use life_quad::{Id, Squares};
 use life_strip::laws::empty_builder_fills;
 use std::alloc::Global;
+
+// Half of the side of the plane.
+const HALF: i64 = 1 << (MAX_LEVEL - 1);
 
 // Whether a place is one of the plane.
 fn is_on_plane(x: i64, y: i64) -> bool
@@ -62,13 +64,13 @@ fn draw_place<S: Squares, L: Law>(
     if !is_on_plane(window.x, y) {
         return Ok(true);
     }
-    pen.draw(squares, window.x, y, 1, state)?;
+    pen.draw(squares, window.x, y, state)?;
     Ok(leaves)
 }
 
-// Gives the places of the row `y` their next states, by the rows around it, place by place. Tells whether a place outside the plane would not become 0, as
+// Gives the places of the row `y` their next states, by the rows around it. Tells whether a place outside the plane would not become 0, as
 // it may be known of earlier rows.
-fn draw_row_by_places<S: Squares, L: Law>(
+fn draw_row<S: Squares, L: Law>(
     squares: &mut S,
     pen: &mut Pen,
     law: &mut L,
@@ -97,40 +99,6 @@ fn draw_row_by_places<S: Squares, L: Law>(
         left = draw_place(squares, pen, law, &window, y, left)?;
     }
     Ok(left)
-}
-
-// Gives the places of the row `y` their next states, by the rows around it: under a B/S rule by words, and else place by place. Tells whether a place outside the plane would not become 0, as
-// it may be known of earlier rows.
-fn draw_row<S: Squares, L: Law>(
-    squares: &mut S,
-    pen: &mut Pen,
-    law: &mut L,
-    rows: Rows,
-    y: i64,
-    leaves: bool,
-) -> Result<bool, Fault>
-    requires states { AreBelow (L.bound law.old) rows }
-    requires inside { AreInside rows }
-    requires sorted { AreSorted rows }
-    requires holding { IsHolding (S.knows squares.old) (S.content squares.old) pen.old }
-    requires ready { IsReadyRow (drawn_runs pen.old) y }
-    ensures same { law.new ≡ law.old }
-    ensures holding { OnOk result (IsHolding (S.knows squares.new) (S.content squares.new) pen.new) }
-    ensures ready { OnOk result (IsReadyRow (drawn_runs pen.new) (after y)) }
-    ensures swept { IfOk result (λ left. (cells : ℤ → ℤ → ℕ) → IsScene cells y rows.entry → IsSweptRows (L.answers law.old) cells (state_by (drawn_runs pen.old)) leaves y → IsSweptRows (L.answers law.old) cells (state_by (drawn_runs pen.new)) left (after y)) }
-    ensures keeps { (q : IdValue) → S.knows squares.old q → S.knows squares.new q × (S.content squares.new q ≡ S.content squares.old q) }
-    ensures stays { (t : Tree) → Contains (S.stored squares.old) t → Contains (S.stored squares.new) t }
-    ensures most { S.most squares.new ≡ S.most squares.old }
-    ensures refusals { IfErr result (λ f. (f ≡ fault_of Full) ⊎ ((f ≡ fault_of Memory) ⊎ ((f.kind ≡ Kind.Ambiguous) × ((cells : ℤ → ℤ → ℕ) → IsScene cells y rows.entry → IsSweptRows (L.answers law.old) cells (state_by (drawn_runs pen.old)) leaves y → IsFirstAmbiguous (L.answers law.old) cells f.place.line)))) }
-    ensures full { result ≡ Err (fault_of Full) → length (S.stored squares.new) ≡ S.most squares.new }
-{
-    let Some(rule) = law.life_rule() else {
-        return draw_row_by_places(squares, pen, law, rows, y, leaves);
-    };
-    match draw_row_by_words(squares, pen, &rule, rows, y, leaves) {
-        Ok(left) => Ok(left),
-        Err(kind) => Err(Fault::of(kind)),
-    }
 }
 
 /// The square of the whole plane with the next generation of sorted cells.

@@ -34,7 +34,7 @@ returns-clause-others g c column row ne =
     let y = to_z w64 (of_z w64 c.args.y) in
     let ex : c.args.window.now.x ≡ x = omega (arith, ints, c.requires.place.least, c.requires.place.most) in
     let ey : c.args.y ≡ y = omega (arith, ints, c.ranges.y) in
-    c.in_ok-draw.ensures.others column row (λ from to e2. ne (omega (arith, ints, ex, from, to)) (e2 ∙ sym ey))
+    c.in_ok-draw.ensures.others column row (λ e1 e2. ne (e1 ∙ sym ex) (e2 ∙ sym ey))
 
 pub returns-clause-put : goal.returns-clause-put
 returns-clause-put g c zero =
@@ -46,7 +46,7 @@ returns-clause-put g c zero =
     record {
       next = c.in_ok-state.state;
       answer = subst (λ v. g.L.Law.answers c.args.law.now v (Becomes c.in_ok-state.state)) c.around.ensures c.in_ok-state.ensures.next;
-      kept = λ k. ap (λ z. state_by all z c.args.y) ex ∙ ap (λ z. state_by all x z) ey ∙ c.in_ok-draw.ensures.here x (omega (arith, ints)) (omega (arith, ints));
+      kept = λ k. ap (λ z. state_by all z c.args.y) ex ∙ ap (λ z. state_by all x z) ey ∙ c.in_ok-draw.ensures.here;
       stays = λ e. e;
       told = λ e. inl e;
     }

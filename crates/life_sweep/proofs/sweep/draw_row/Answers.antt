@@ -1,22 +1,111 @@
-use Rattle.std.proofs.Common.{◌≡◌, w64, to_z, of_z, sym, subst}
-use Rattle.std.proofs.lemmas.Int.{to_z-of_z}
+use Rattle.std.proofs.Common.{◌≡◌, inl, inr, ◌<ℤ◌, refl, sym, ◌∙◌, subst, arith, w64, to_z, of_z}
+use Rattle.std.proofs.lemmas.Int.{ints}
+use Rattle.std.proofs.lemmas.Result.{err_from_is_err_and}
 use Rattle.life_strip.specs.Given.{state_by}
-use Rattle.life_table.specs.declared.table.Neighborhood.TheVariants.{Moore}
 use Rattle.life_sweep.specs.Around.{after}
+use Rattle.life_sweep.specs.Rows.{IsWindowBelow, end_of_plane, states_of}
+use Rattle.life_table.specs.Meaning.{Ambiguous}
 use Rattle.life_sweep.specs.Pen.{drawn_runs}
-use Rattle.life_sweep.specs.Sweep.{IsScene, IsSweptRows, LifeAnswers}
-use Rattle.life_sweep.proofs.SweepLemmas.{rows-law}
+use Rattle.life_sweep.specs.Sweep.{IsReadyRow, IsScene, IsSweptRows}
+use Rattle.life_sweep.proofs.SweepLemmas.{row-ready, ready-later, ready-row, into-row, west-column, step-in-row, out-of-row, put-law, ambiguous-here}
 use Rattle.life_sweep.proofs.sweep.draw_row.Goals as goal
 
-pub returns-in-Ok-clause-swept : goal.returns-in-Ok-clause-swept
-returns-in-Ok-clause-swept g c cells scene rows =
+pub loop-window-init : goal.loop-window-init
+loop-window-init g c =
     let y = to_z w64 (of_z w64 c.args.y) in
-    let e : y ≡ c.args.y = to_z-of_z w64 c.args.y c.ranges.y in
+    let e : c.args.y ≡ y = omega (arith, ints, c.ranges.y) in
+    let w = c.new-window.result in
+    let west : after w.x <ℤ end_of_plane = omega (arith, ints, c.new-window.ensures.start) in
+    record {
+      sound = c.new-window.ensures.sound;
+      below = c.new-window.ensures.below _ (g.met.L.Law.positive c.args.law.now) c.requires.states;
+      same = refl;
+      holding = c.requires.holding;
+      ready = row-ready (drawn_runs c.args.pen.now) (after w.x) y (subst (λ z. IsReadyRow (drawn_runs c.args.pen.now) z) e c.requires.ready);
+      swept = λ cells scene rows. (
+        c.new-window.ensures.window cells y scene.rows_are (λ column l. west-column cells y column scene.blank l),
+        into-row (g.L.Law.answers c.args.law.now) cells (state_by (drawn_runs c.args.pen.now)) c.args.leaves w.x y (g.met.L.Law.quiet c.args.law.now) scene.blank west rows,
+      );
+      keeps = λ q k. (k, refl);
+      stays = λ t m. m;
+      most = refl;
+    }
+
+pub draw_place-requires-clause-states : goal.draw_place-requires-clause-states
+draw_place-requires-clause-states g c =
+    subst (λ law. IsWindowBelow (g.L.Law.bound law) c.advance.new.self) (sym c.loop-window.invariant.same) (c.advance.ensures.below _ (g.met.L.Law.positive c.args.law.now) c.loop-window.invariant.below)
+
+pub draw_place-requires-clause-ready : goal.draw_place-requires-clause-ready
+draw_place-requires-clause-ready g c =
+    let y = to_z w64 (of_z w64 c.args.y) in
+    let east = c.advance.ensures.east c.loop-window-test.true in
+    ready-later (drawn_runs c.loop-window.pen) (after c.loop-window.window.x) c.advance.new.self.x y (omega (arith, ints, east)) c.loop-window.invariant.ready
+
+pub loop-window-preserved : goal.loop-window-preserved
+loop-window-preserved g c =
+    let y = to_z w64 (of_z w64 c.args.y) in
+    let inv = c.loop-window.invariant in
+    let h = c.in_ok-left.ensures in
     let A = g.L.Law.answers c.args.law.now in
-    let B = LifeAnswers Moore c.in-Some.rule in
-    let same = c.in-Some.ensures.same in
-    let old = state_by (drawn_runs c.args.pen.now) in
-    let new = state_by (drawn_runs c.draw_row_by_words.new.pen) in
-    let before = rows-law A B cells old c.args.leaves c.args.y (λ v a. (same v a).1) rows in
-    let behind = c.in-Ok.ensures.swept cells (subst (λ k. IsScene cells k c.args.rows) (sym e) scene) (subst (λ k. IsSweptRows B cells old c.args.leaves k) (sym e) before) in
-    subst (λ k. IsSweptRows A cells new c.in-Ok.left (after k)) e (rows-law B A cells new c.in-Ok.left (after y) (λ v a. (same v a).0) behind)
+    let old = state_by (drawn_runs c.loop-window.pen) in
+    let new = state_by (drawn_runs c.draw_place.new.pen) in
+    record {
+      sound = c.advance.ensures.sound;
+      below = c.advance.ensures.below _ (g.met.L.Law.positive c.args.law.now) inv.below;
+      same = h.same ∙ inv.same;
+      holding = h.holding;
+      ready = h.ready;
+      swept = λ cells scene rows.
+          let s = inv.swept cells scene rows in
+          let on = c.advance.ensures.window c.loop-window-test.true cells y s.0 in
+          (on.here, step-in-row A cells old new c.loop-window.left c.in_ok-left.left y c.loop-window.window c.advance.new.self (g.met.L.Law.quiet c.args.law.now) on s.1 (λ e. put-law (g.L.Law.answers c.loop-window.law) A _ new _ _ _ y (λ v a. subst (λ law. g.L.Law.answers law v a) inv.same) (h.put e)) h.others);
+      keeps = λ q k. let a = inv.keeps q k in let b = h.keeps q a.0 in (b.0, b.1 ∙ a.1);
+      stays = λ t m. h.stays t (inv.stays t m);
+      most = h.most ∙ inv.most;
+    }
+
+pub returns-in_err-left-clause-refusals : goal.returns-in_err-left-clause-refusals
+returns-in_err-left-clause-refusals g c =
+    let y = to_z w64 (of_z w64 c.args.y) in
+    let e : c.args.y ≡ y = omega (arith, ints, c.ranges.y) in
+    let inv = c.loop-window.invariant in
+    let A = g.L.Law.answers c.args.law.now in
+    let start = state_by (drawn_runs c.args.pen.now) in
+    let old = state_by (drawn_runs c.loop-window.pen) in
+    let p = err_from_is_err_and c.from_residual.result c.from_residual.ensures.1 in
+    rw (p.1, p.2) (elim c.in_err-left.ensures.refusals [
+      | inl full ↦ inl full
+      | inr rest ↦ elim rest [
+        | inl memory ↦ inr (inl memory)
+        | inr d ↦ inr (inr (
+          d.0,
+          (λ cells scene rows.
+              let s = inv.swept cells (subst (λ z. IsScene cells z c.args.rows) e scene) (subst (λ z. IsSweptRows A cells start c.args.leaves z) e rows) in
+              let on = c.advance.ensures.window c.loop-window-test.true cells y s.0 in
+              ambiguous-here A cells old c.loop-window.left y c.loop-window.window c.advance.new.self _ (g.met.L.Law.quiet c.args.law.now) on s.1 (subst (λ law. g.L.Law.answers law (states_of c.advance.new.self) (Ambiguous c.in_err-left.field-0.0.place.line)) inv.same d.1)),
+        ))
+      ]
+    ])
+
+pub returns-clause-ready : goal.returns-clause-ready
+returns-clause-ready g c column row l =
+    let y = to_z w64 (of_z w64 c.args.y) in
+    let e : c.args.y ≡ y = omega (arith, ints, c.ranges.y) in
+    ready-row (drawn_runs c.loop-window.pen) (after c.loop-window.window.x) y c.loop-window.invariant.ready column row (omega (arith, ints, l, e))
+
+pub returns-clause-swept : goal.returns-clause-swept
+returns-clause-swept g c cells scene rows =
+    let y = to_z w64 (of_z w64 c.args.y) in
+    let e : c.args.y ≡ y = omega (arith, ints, c.ranges.y) in
+    let A = g.L.Law.answers c.args.law.now in
+    let start = state_by (drawn_runs c.args.pen.now) in
+    let drawn = state_by (drawn_runs c.loop-window.pen) in
+    let s = c.loop-window.invariant.swept cells (subst (λ z. IsScene cells z c.args.rows) e scene) (subst (λ z. IsSweptRows A cells start c.args.leaves z) e rows) in
+    subst (λ z. IsSweptRows A cells drawn c.loop-window.left (after z)) (sym e)
+    (out-of-row A cells drawn c.loop-window.left c.loop-window.window.x y (g.met.L.Law.quiet c.args.law.now) (c.advance.ensures.over c.loop-window-test.false cells y s.0) s.1)
+
+pub returns-in_err-left-clause-keeps : goal.returns-in_err-left-clause-keeps
+returns-in_err-left-clause-keeps g c q k =
+    let a = c.loop-window.invariant.keeps q k in
+    let b = c.in_err-left.ensures.keeps q a.0 in
+    (b.0, b.1 ∙ a.1)

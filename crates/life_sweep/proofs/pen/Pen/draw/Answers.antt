@@ -4,8 +4,8 @@ use Rattle.std.proofs.lemmas.Int.{ints}
 use Rattle.life_strip.specs.Given.{GivenRun, IsBehind, IsNext, IsOnPlane, state_by}
 use Rattle.life_strip.proofs.GivenLemmas.{next-push}
 use Rattle.life_sweep.specs.declared.pen.Run.{Run}
-use Rattle.life_sweep.specs.Pen.{IsOpen, IsContinuedBy, drawn_runs, open_runs, run_of}
-use Rattle.life_sweep.proofs.PenLemmas.{run-here, run-others, longer-here, longer-others, longer-next}
+use Rattle.life_sweep.specs.Pen.{IsOpen, IsContinuedBy, drawn_runs, open_runs, one_cell}
+use Rattle.life_sweep.proofs.PenLemmas.{run_of, cell-here, cell-others, longer-here, longer-others, longer-next}
 use Rattle.life_sweep.proofs.pen.Pen.draw.Goals as goal
 
 pub returns-then-is_continued_by-clause-holding : goal.returns-then-is_continued_by-clause-holding
@@ -37,7 +37,7 @@ returns-then-is_continued_by-clause-holding g c =
     }
 
 pub returns-then-is_continued_by-clause-here : goal.returns-then-is_continued_by-clause-here
-returns-then-is_continued_by-clause-here g c column from to =
+returns-then-is_continued_by-clause-here g c =
     let runs = c.args.self.now.builder.runs in
     let run = c.in-Some.run' in
     let opened : IsOpen runs run = subst (λ (o : Option Run). IfSome o (IsOpen runs)) c.in-Some.is c.requires.holding.unclosed in
@@ -52,9 +52,9 @@ returns-then-is_continued_by-clause-here g c column from to =
     (subst (λ z. IsContinuedBy run (to_z w64 (of_z w64 c.args.x)) z c.args.state) ay (c.is_continued_by.ensures.0 c.if-is_continued_by.true)) in
     let next : IsNext runs x y = subst (λ z. IsNext runs z y) ex (subst (λ z. IsNext runs run.x z) ey opened.next) in
     let row : c.args.y ≡ y = sym more.same_row ∙ ey in
-    let all = runs ++ run_of x y (run.len + c.args.len) run.state ∷ [] in
-    ap (λ z. state_by all column z) row
-    ∙ longer-here runs x y run.len run.state c.args.x c.args.len column c.requires.holding.filling.order next (sym (ap (λ z. z +ℤ pos run.len) ex) ∙ more.east) from to ∙ more.same_state
+    let all = runs ++ run_of x y (run.len + 1) run.state ∷ [] in
+    ap (λ z. state_by all c.args.x z) row
+    ∙ longer-here runs x y run.len run.state c.args.x c.requires.holding.filling.order next (sym (ap (λ z. z +ℤ pos run.len) ex) ∙ more.east) ∙ more.same_state
 
 pub returns-then-is_continued_by-clause-others : goal.returns-then-is_continued_by-clause-others
 returns-then-is_continued_by-clause-others g c column row ne =
@@ -75,8 +75,8 @@ returns-then-is_continued_by-clause-others g c column row ne =
     ap (λ (o : Option Run). runs ++ open_runs o) c.in-Some.is
     ∙ ap (λ z. runs ++ run_of z run.y run.len run.state ∷ []) ex
     ∙ ap (λ z. runs ++ run_of x z run.len run.state ∷ []) ey in
-    longer-others runs x y run.len run.state c.args.x c.args.len c.requires.holding.filling.order next (sym (ap (λ z. z +ℤ pos run.len) ex) ∙ more.east) column row
-    (λ from to e2. ne from to (e2 ∙ sym ey ∙ more.same_row))
+    longer-others runs x y run.len run.state c.args.x c.requires.holding.filling.order next (sym (ap (λ z. z +ℤ pos run.len) ex) ∙ more.east) column row
+    (λ e1 e2. ne e1 (e2 ∙ sym ey ∙ more.same_row))
     ∙ sym (ap (λ (l : List GivenRun). state_by l column row) before)
 
 pub returns-then-is_continued_by-clause-next : goal.returns-then-is_continued_by-clause-next
@@ -93,8 +93,8 @@ returns-then-is_continued_by-clause-next g c column row h =
     let more : IsContinuedBy run c.args.x c.args.y c.args.state =
     subst (λ z. IsContinuedBy run z c.args.y c.args.state) ax
     (subst (λ z. IsContinuedBy run (to_z w64 (of_z w64 c.args.x)) z c.args.state) ay (c.is_continued_by.ensures.0 c.if-is_continued_by.true)) in
-    longer-next runs x y run.len run.state c.args.x c.args.len (sym (ap (λ z. z +ℤ pos run.len) ex) ∙ more.east) column row
-    (subst (λ z. IsBehind (run_of c.args.x z c.args.len run.state) column row) (sym more.same_row ∙ ey) h)
+    longer-next runs x y run.len run.state c.args.x (sym (ap (λ z. z +ℤ pos run.len) ex) ∙ more.east) column row
+    (subst (λ z. IsBehind (one_cell c.args.x z run.state) column row) (sym more.same_row ∙ ey) h)
 
 pub returns-clause-holding : goal.returns-clause-holding
 returns-clause-holding g c =
@@ -106,24 +106,23 @@ returns-clause-holding g c =
     record {
       filling = c.in_ok-close.ensures.filling;
       unclosed = record {
-        some_cell = c.requires.some_cell;
-        inside = subst (λ z. IsOnPlane z y c.args.len) ex (subst (λ z. IsOnPlane c.args.x z c.args.len) ey c.requires.inside);
+        some_cell = omega arith;
+        inside = subst (λ z. IsOnPlane z y 1) ex (subst (λ z. IsOnPlane c.args.x z 1) ey c.requires.inside);
         next = subst (λ (l : List GivenRun). IsNext l x y) (sym c.in_ok-close.ensures.drawn) (subst (λ z. IsNext there z y) ex (subst (λ z. IsNext there c.args.x z) ey c.requires.next));
       };
     }
 
 pub returns-clause-here : goal.returns-clause-here
-returns-clause-here g c column from to =
+returns-clause-here g c =
     let x = to_z w64 (of_z w64 c.args.x) in
     let y = to_z w64 (of_z w64 c.args.y) in
     let ex : c.args.x ≡ x = omega (arith, ints, c.ranges.x) in
     let ey : c.args.y ≡ y = omega (arith, ints, c.ranges.y) in
     let there = drawn_runs c.args.self.now in
     let runs = c.close.new.self.builder.runs in
-    let all = runs ++ run_of x y c.args.len c.args.state ∷ [] in
+    let all = runs ++ one_cell x y c.args.state ∷ [] in
     let next : IsNext runs x y = subst (λ (l : List GivenRun). IsNext l x y) (sym c.in_ok-close.ensures.drawn) (subst (λ z. IsNext there z y) ex (subst (λ z. IsNext there c.args.x z) ey c.requires.next)) in
-    ap (λ z. state_by all column z) ey
-    ∙ run-here runs x y c.args.len c.args.state column c.in_ok-close.ensures.filling.order next (omega (arith, ints, ex, from)) (omega (arith, ints, ex, to))
+    ap (λ z. state_by all z c.args.y) ex ∙ ap (λ z. state_by all x z) ey ∙ cell-here runs x y c.args.state c.in_ok-close.ensures.filling.order next
 
 pub returns-clause-others : goal.returns-clause-others
 returns-clause-others g c column row ne =
@@ -134,8 +133,7 @@ returns-clause-others g c column row ne =
     let there = drawn_runs c.args.self.now in
     let runs = c.close.new.self.builder.runs in
     let next : IsNext runs x y = subst (λ (l : List GivenRun). IsNext l x y) (sym c.in_ok-close.ensures.drawn) (subst (λ z. IsNext there z y) ex (subst (λ z. IsNext there c.args.x z) ey c.requires.next)) in
-    run-others runs x y c.args.len c.args.state c.in_ok-close.ensures.filling.order next column row
-    (λ from to e2. ne (omega (arith, ints, ex, from)) (omega (arith, ints, ex, to)) (e2 ∙ sym ey))
+    cell-others runs x y c.args.state c.in_ok-close.ensures.filling.order next column row (λ e1 e2. ne (e1 ∙ sym ex) (e2 ∙ sym ey))
     ∙ ap (λ (l : List GivenRun). state_by l column row) c.in_ok-close.ensures.drawn
 
 pub returns-clause-next : goal.returns-clause-next
@@ -144,5 +142,5 @@ returns-clause-next g c column row h =
     let y = to_z w64 (of_z w64 c.args.y) in
     let ex : c.args.x ≡ x = omega (arith, ints, c.ranges.x) in
     let ey : c.args.y ≡ y = omega (arith, ints, c.ranges.y) in
-    next-push c.close.new.self.builder.runs (run_of x y c.args.len c.args.state) column row
-    (subst (λ z. IsBehind (run_of z y c.args.len c.args.state) column row) ex (subst (λ z. IsBehind (run_of c.args.x z c.args.len c.args.state) column row) ey h))
+    next-push c.close.new.self.builder.runs (one_cell x y c.args.state) column row
+    (subst (λ z. IsBehind (one_cell z y c.args.state) column row) ex (subst (λ z. IsBehind (one_cell c.args.x z c.args.state) column row) ey h))

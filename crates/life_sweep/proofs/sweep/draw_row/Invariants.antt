@@ -7,7 +7,7 @@ use Rattle.life_strip.specs.Given.{state_by}
 use Rattle.life_sweep.specs.Around.{after}
 use Rattle.life_sweep.specs.Rows.{IsSoundWindow, IsWindowBelow, IsWindow, steps_left}
 use Rattle.life_sweep.specs.Sweep.{IsReady, IsScene, IsSwept, IsSweptRows}
-use Rattle.life_sweep.proofs.sweep.draw_row_by_places.Given as goal
+use Rattle.life_sweep.proofs.sweep.draw_row.Given as goal
 
 -- the places of the row up to that of the window are drawn
 abbrev pub invariant-loop-window : goal.invariant-loop-window
