@@ -9,7 +9,7 @@ ghost use Rattle.std.specs.Prelude.{◌≡◌, ◌≤◌, IfOk};
 
 use life_base::{Device, LifeRule, Rule, read_within};
 use life_block::next_life_generation;
-use life_canon::laws::patterns_fit;
+use life_canon::laws::{files_are_on_plane, patterns_fit};
 use life_canon::read;
 use life_quad::Shared;
 use life_step::step_life;
@@ -49,6 +49,7 @@ fn time_generation(rt: HostRuntime, bytes: &[u8]) -> io::Result<()> {
     let Rule::Life(rule) = &pattern.rule else {
         return println!(rt; "no B/S rule");
     };
+    files_are_on_plane();
     patterns_fit();
     let start = Instant::now(&rt)?;
     let next = next_life_generation(alloc, &mut store, rule, pattern.root, 1 << 24);
