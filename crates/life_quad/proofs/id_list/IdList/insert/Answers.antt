@@ -8,3 +8,6 @@ invariant_of-self-2 c =
     let new : ¬ Contains c.self.inside.ids.items c.args.id = search rules in
     let place : c.in-Ok.place ≡ length c.self.inside.ids.items + 1 = search rules in
     rw c.in_ok-push.ensures.items (one_more c.self.inside.ids.items c.self.inside.places.items c.make_room.new.places.items c.args.id c.in-Ok.place c.self.invariant c.make_room.ensures.same room new place)
+
+pub returns-then-contains-clause-added : goal.returns-then-contains-clause-added
+returns-then-contains-clause-added c = search rules

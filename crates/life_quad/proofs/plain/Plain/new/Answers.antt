@@ -1,7 +1,10 @@
 use Rattle.life_quad.specs.StoreLaws.{squares-nil}
-use Rattle.std.proofs.Common.{ap, ◌∙◌}
+use Rattle.std.proofs.Common.{ap, ◌∙◌, rules}
 use Rattle.life_quad.specs.Store.{squares}
 use Rattle.life_quad.proofs.plain.Plain.new.Goals as goal
 
 pub returns-clause-stored : goal.returns-clause-stored
 returns-clause-stored c = ap squares c.new.ensures.items ∙ squares-nil
+
+pub returns-clause-most : goal.returns-clause-most
+returns-clause-most c = search rules
