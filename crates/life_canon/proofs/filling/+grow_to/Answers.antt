@@ -1,4 +1,4 @@
-use Rattle.std.proofs.Common.{ap, ◌∙◌}
+use Rattle.std.proofs.Common.{ap, ◌∙◌, rules}
 use Rattle.life_base.specs.Tree.{tree_cell}
 use Rattle.life_quad.proofs.LawLemmas.{growing_keeps_cells}
 use Rattle.std.proofs.lemmas.Result.{IfOk-weaker}
@@ -9,3 +9,12 @@ returns-clause-cells g t c =
     IfOk-weaker c.grow_to.result _ _
     (λ r h x y. h x y ∙ ap (λ s. tree_cell s x y) c.in_ok-larger.ensures.square ∙ growing_keeps_cells _ (g.met.S.Squares.full _ _ c.requires.known) c.requires.low x y)
     c.grow_to.ensures.cells
+
+pub returns-then-level-clause-level : goal.returns-then-level-clause-level
+returns-then-level-clause-level g t c = search rules
+
+pub grow-requires-clause-high : goal.grow-requires-clause-high
+grow-requires-clause-high g t c = search rules
+
+pub returns-clause-level : goal.returns-clause-level
+returns-clause-level g t c = search rules
