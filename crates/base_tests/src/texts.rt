@@ -3,7 +3,8 @@
 use life_base::{
     Cell, Items, Kind, LONGEST_LINE, LineLog, MAX_LEVEL, Rule, append, append_number,
     append_signed, append_u128, begins_with, is_blank, is_digit_text, is_too_long, is_whitespace,
-    line_end, line_fits, lines, read_i64, read_u64, split_word, trimmed, trimmed_start,
+    leading_number, line_end, line_fits, lines, read_i64, read_u64, split_word, trimmed,
+    trimmed_start,
 };
 use std::mem::size_of_val;
 use std::process::Abort;
@@ -97,6 +98,27 @@ fn the_first_word_and_the_rest(rt: HostRuntime) {
     for &(text, word, rest) in &WORDS {
         let (first, behind) = split_word(text);
         assert!(rt; first == word && behind == rest, "{text:?}");
+    }
+}
+
+#[test]
+fn the_number_in_front_of_a_text(rt: HostRuntime) {
+    for &(text, number, count) in &[
+        ("", 0, 0),
+        ("x1", 0, 0),
+        ("0", 0, 1),
+        ("0120bo", 120, 4),
+        ("18446744073709551615 ", u64::MAX, 20),
+        ("18446744073709551616", u64::MAX, 20),
+        (
+            "000000000000000000000018446744073709551614$",
+            u64::MAX - 1,
+            42,
+        ),
+        ("99999999999999999999999999-", u64::MAX, 26),
+    ] {
+        let found = leading_number(text.as_bytes());
+        assert!(rt; found == (number, count), "{text:?}");
     }
 }
 

@@ -19,3 +19,4 @@ pub mod EmptyValues
 pub mod WholeLines
 pub mod Squares
 pub mod Results
+pub mod FrontDigits

@@ -19,10 +19,10 @@ trimmed_words [] = refl
 trimmed_words (b ∷ text) = skip (is_whitespace b) b text refl (trimmed_words text)
 
 -- where the first word ends
-abbrev ends : List ℕ → ℕ
+abbrev pub ends : List ℕ → ℕ
 ends text = position_or_len is_whitespace text
 
-further : (b : ℕ) (text : List ℕ) → is_whitespace b ≡ false → ends (b ∷ text) ≡ suc (ends text)
+pub further : (b : ℕ) (text : List ℕ) → is_whitespace b ≡ false → ends (b ∷ text) ≡ suc (ends text)
 further b text e = ap (λ v. cond (not v) (1 + ends text) 0) e ∙ omega arith
 
 at_once : (b : ℕ) (text : List ℕ) → is_whitespace b ≡ true → ends (b ∷ text) ≡ 0
@@ -72,14 +72,19 @@ words_cut (b ∷ text) s =
     ∙ ap (λ i. cut i (b ∷ text)) (further b text s)
     ∙ ap (λ i. with_word (take i (b ∷ text)) (words_of (drop i (b ∷ text)))) (sym (further b text s))
 
+-- the first word of a text, and those behind it
+pub words_in : (text : List ℕ) (n : ℕ) → ends (trim_start text) ≡ n → words_of text ≡ with_word (take n (trim_start text)) (words_of (drop n (trim_start text)))
+words_in text n e =
+    let t = trim_start text in
+    sym (trimmed_words text) ∙ words_cut t (starts text) ∙ ap (λ j. with_word (take j t) (words_of (drop j t))) e
+
 -- the first word of a text ends at i
 pub words_at : (text : List ℕ) (i : ℕ) → position is_whitespace (trim_start text) ≡ Some i
     → words_of text ≡ with_word (take i (trim_start text)) (words_of (drop i (trim_start text)))
 words_at text i h =
     let t = trim_start text in
     let p = position-Some is_whitespace t i 0 h in
-    let e : ends t ≡ i = position_or_len_is is_whitespace t i 0 (omega (arith, p.0)) p.2 (λ _. p.1) in
-    sym (trimmed_words text) ∙ words_cut t (starts text) ∙ ap (λ j. with_word (take j t) (words_of (drop j t))) e
+    words_in text i (position_or_len_is is_whitespace t i 0 (omega (arith, p.0)) p.2 (λ _. p.1))
 
 none : (v : Bool) (i : ℕ) → cond v (Some i) None ≡ None → v ≡ false
 none true i h = cc

@@ -13,3 +13,4 @@ pub mod Writing
 pub mod Words
 pub mod Lines
 pub mod DeviceRuns
+pub mod Digits

@@ -1,42 +1,19 @@
 -- Words, and the numbers that they write.
-use Rattle.std.proofs.Common.{◌≡◌, ℕ, zero, suc, ◌+◌, ◌-◌, ◌*◌, ◌<◌, ◌≤◌, ◌^◌, min, List, [], ◌∷◌, length, take, get_or, map, Bool, true, false, cond, not, ◌&&◌, refl, ap, ◌∙◌, arith}
-use Rattle.std.specs.Prelude.{Option, Some, None, ◌==◌}
-use Rattle.std.specs.List.{list_all}
-use Rattle.std.specs.Char.{is_ascii_digit, digit_value}
+use Rattle.std.proofs.Common.{◌≡◌, ℕ, suc, ◌+◌, ◌<◌, List, [], ◌∷◌, length, take, drop, map, Bool, true, false, cond, not, ◌&&◌, refl, ap, sym, ◌∙◌, arith}
+use Rattle.std.specs.Prelude.{Option, Some, None, ◌==◌, take_while}
+use Rattle.std.specs.List.{list_all, prefix_len}
+use Rattle.std.specs.Char.{is_ascii_digit}
 use Rattle.std.proofs.lemmas.Bool.Decides.{nat_tests}
-use Rattle.std.proofs.lemmas.Int.Digits.{digits_value_more}
-use Rattle.std.specs.Str.Parse.{digits_value}
-use Rattle.life_base.proofs.Numbers.{first, second}
-use Rattle.life_base.specs.Text.{is_empty, words_of, is_digit_text, value_of}
+use Rattle.life_base.proofs.FrontDigits.{digit_text_in_front}
+use Rattle.life_base.proofs.Numbers.{first}
+use Rattle.life_base.proofs.WordEnds.{ends, further, words_in}
+use Rattle.life_base.specs.Digits.{capped}
+use Rattle.life_base.specs.Text.{is_empty, is_blank, is_whitespace, trim_start, words_of, is_digit_text, value_of}
 use Rattle.life_base.specs.Words.{with_word}
-use Rattle.life_mc.specs.Standing.{capped, begins_with_number, quad_words}
+use Rattle.life_mc.specs.Standing.{begins_with_number, quad_words}
 use Rattle.life_mc.specs.Reading.{quad_of}
 use Rattle.life_mc.specs.declared.line.Line.{Line}
 use Rattle.life_mc.specs.declared.line.Line.TheVariants.{Quad}
-
--- ---- the value of a digit text
-
-digit_at : (text : List ℕ) (i : ℕ) → list_all is_ascii_digit text ≡ true → i < length text → is_ascii_digit (get_or text i 0) ≡ true
-digit_at [] i h l = absurd (omega arith)
-digit_at (b ∷ text) zero h l = first _ _ h
-digit_at (b ∷ text) (suc i) h l = digit_at text i (second _ _ h) (omega arith)
-
-digit_bounds : (b : ℕ) → is_ascii_digit b ≡ true → (48 ≤ b) × (b ≤ 57)
-digit_bounds b h = grind (arith, nat_tests)
-
-digit_is : (b : ℕ) → is_ascii_digit b ≡ true → digit_value b ≡ b - 48
-digit_is b h = grind (arith, nat_tests)
-
--- one digit more
-pub capped_more : (text : List ℕ) (i n : ℕ) → list_all is_ascii_digit text ≡ true → i < length text → n ≡ capped (digits_value 10 (take i text))
-    → min (min (n * 10) (2 ^ 64 - 1) + (get_or text i 0 - 48)) (2 ^ 64 - 1) ≡ capped (digits_value 10 (take (i + 1) text))
-capped_more text i n h l e =
-    let v = digits_value_more 10 text i l in
-    let d = digit_is (get_or text i 0) (digit_at text i h l) in
-    omega (arith, v, d, e)
-
-pub digit_low : (text : List ℕ) (i : ℕ) → list_all is_ascii_digit text ≡ true → i < length text → (48 ≤ get_or text i 0) × (get_or text i 0 ≤ 57)
-digit_low text i h l = digit_bounds (get_or text i 0) (digit_at text i h l)
 
 -- ---- the first number
 
@@ -48,8 +25,71 @@ pub number_word : (word : List ℕ) (words : List (List ℕ)) → is_digit_text 
 number_word [] words h = cc
 number_word (b ∷ word) words h = refl
 
-pub digits_alone : (word : List ℕ) → is_digit_text word ≡ true → list_all is_ascii_digit word ≡ true
-digits_alone word h = second (not (is_empty word)) _ h
+-- how many digits are in front
+abbrev pub digits : List ℕ → ℕ
+digits text = prefix_len is_ascii_digit text
+
+-- what stands behind the digits in front
+abbrev pub behind : List ℕ → List ℕ
+behind text = drop (digits text) text
+
+digit_no_space : (b : ℕ) → is_ascii_digit b ≡ true → is_whitespace b ≡ false
+digit_no_space b h = grind (arith, nat_tests)
+
+and-false : (a : Bool) → (a && false) ≡ false
+and-false true = refl
+and-false false = refl
+
+and-true : (a : Bool) → (a && true) ≡ a
+and-true true = refl
+and-true false = refl
+
+whole_step : (v : Bool) (b : ℕ) (text : List ℕ) → is_ascii_digit b ≡ v → (is_blank (take 1 (behind text)) ≡ true → ends text ≡ digits text)
+    → is_blank (take 1 (drop (cond v (1 + digits text) 0) (b ∷ text))) ≡ true → ends (b ∷ text) ≡ cond v (1 + digits text) 0
+whole_step true b text e ih h =
+    let k : 1 + digits text ≡ suc (digits text) = omega arith in
+    ap (λ v. cond (not v) (1 + ends text) 0) (digit_no_space b e) ∙ ap (λ n. 1 + n) (ih (rw k at h))
+whole_step false b text e ih h = ap (λ v. cond (not v) (1 + ends text) 0) (first (is_whitespace b) true h)
+
+-- where a word ends behind the digits, it is these digits
+whole_word : (text : List ℕ) → is_blank (take 1 (behind text)) ≡ true → ends text ≡ digits text
+whole_word [] h = refl
+whole_word (b ∷ text) h = whole_step (is_ascii_digit b) b text refl (whole_word text) h
+
+other_step : (v : Bool) (b : ℕ) (text : List ℕ) → is_ascii_digit b ≡ v → (is_blank (take 1 (behind text)) ≡ false → list_all is_ascii_digit (take (ends text) text) ≡ false)
+    → is_blank (take 1 (drop (cond v (1 + digits text) 0) (b ∷ text))) ≡ false → list_all is_ascii_digit (take (ends (b ∷ text)) (b ∷ text)) ≡ false
+other_step true b text e ih h =
+    let k : 1 + digits text ≡ suc (digits text) = omega arith in
+    ap (λ j. list_all is_ascii_digit (take j (b ∷ text))) (further b text (digit_no_space b e)) ∙ ap (λ v. is_ascii_digit b && v) (ih (rw k at h)) ∙ and-false (is_ascii_digit b)
+other_step false b text e ih h =
+    ap (λ j. list_all is_ascii_digit (take j (b ∷ text))) (further b text (sym (and-true (is_whitespace b)) ∙ h)) ∙ ap (λ v. v && list_all is_ascii_digit (take (ends text) text)) e
+
+-- where it goes on, it has another byte
+other_word : (text : List ℕ) → is_blank (take 1 (behind text)) ≡ false → list_all is_ascii_digit (take (ends text) text) ≡ false
+other_word [] h = cc
+other_word (b ∷ text) h = other_step (is_ascii_digit b) b text refl (other_word text) h
+
+-- the first word goes on behind the digits
+pub goes_on : (text : List ℕ) → is_blank (take 1 (behind (trim_start text))) ≡ false → begins_with_number (words_of text) ≡ false
+goes_on text h =
+    let t = trim_start text in
+    let word = take (ends t) t in
+    ap begins_with_number (words_in text (ends t) refl) ∙ no_number word _ (ap (λ v. not (is_empty word) && v) (other_word t h) ∙ and-false (not (is_empty word)))
+
+-- the first word begins with no digit
+pub no_digit : (text : List ℕ) → digits (trim_start text) ≡ 0 → begins_with_number (words_of text) ≡ false
+no_digit text e = by (is_blank (take 1 (behind (trim_start text)))) refl
+  where
+    by : (v : Bool) → is_blank (take 1 (behind (trim_start text))) ≡ v → begins_with_number (words_of text) ≡ false
+    by true h = ap begins_with_number (words_in text 0 (whole_word (trim_start text) h ∙ e))
+    by false h = goes_on text h
+
+-- the first word is a digit text
+pub digits_end : (text : List ℕ) → 0 < digits (trim_start text) → is_blank (take 1 (behind (trim_start text))) ≡ true
+    → words_of text ≡ take_while is_ascii_digit (trim_start text) ∷ words_of (behind (trim_start text))
+digits_end text h e =
+    let t = trim_start text in
+    words_in text (digits t) (whole_word t e) ∙ number_word (take_while is_ascii_digit t) _ (digit_text_in_front t h)
 
 -- ---- five numbers
 

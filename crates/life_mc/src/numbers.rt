@@ -1,14 +1,13 @@
 //! The numbers of a quarter line, of any length.
 
-ghost use Rattle.std.specs.Prelude.{◌≡◌, ◌∷◌, ◌-◌, ◌^◌, [], List, ℕ, true, false, min, length, MatchOption};
-ghost use Rattle.std.specs.List.{list_all};
-ghost use Rattle.std.specs.Char.{is_ascii_digit};
-ghost use Rattle.life_base.specs.Text.{is_digit_text as has_digits_alone, value_of, words_of, is_empty};
-ghost use Rattle.life_mc.specs.Standing.{capped, begins_with_number, quad_words};
+ghost use Rattle.std.specs.Prelude.{◌≡◌, ◌∷◌, List, ℕ, true, false, take, MatchOption};
+ghost use Rattle.life_base.specs.Digits.{capped};
+ghost use Rattle.life_base.specs.Text.{is_blank, is_digit_text as has_digits_alone, value_of, words_of, is_empty};
+ghost use Rattle.life_mc.specs.Standing.{begins_with_number, quad_words};
 ghost use Rattle.std.specs.Option.{option_map};
 ghost use Rattle.life_mc.specs.declared.line.Line.TheVariants.{Quad};
 
-use life_base::{is_digit_text, split_word, trimmed_start};
+use life_base::{is_whitespace, leading_number, trimmed_start};
 
 /// Five numbers as they are written; one above the greatest of the type stands as that.
 #[derive(Clone, Copy)]
@@ -20,18 +19,14 @@ pub(crate) struct Numbers {
     pub(crate) se: u64,
 }
 
-/// The number that a digit text writes, or the greatest of the type.
-fn capped_value(text: &[u8]) -> u64
-    requires { list_all is_ascii_digit text.now ≡ true }
-    ensures { result ≡ capped (value_of text.now) }
+/// Whether no word goes on in a text: it begins with whitespace, or is empty.
+fn is_word_end(text: &[u8]) -> bool
+    ensures { result ≡ is_blank (take 1 text.now) }
 {
-    let mut number = 0u64;
-    for byte in text {
-        number = number
-            .saturating_mul(10)
-            .saturating_add(u64::from(*byte - b'0'));
+    match text {
+        [] => true,
+        [first, ..] => is_whitespace(*first),
     }
-    number
 }
 
 /// The first number of a text and what stands behind it, if the first word is a digit text.
@@ -39,11 +34,16 @@ fn next_number(text: &[u8]) -> Option<(u64, &[u8])>
     ensures { MatchOption result (begins_with_number (words_of text.now) ≡ false)
         (λ p. (word : List ℕ) × (words_of text.now ≡ word ∷ words_of p.1.now) × (has_digits_alone word ≡ true) × (p.0 ≡ capped (value_of word))) }
 {
-    let (word, rest) = split_word(text);
-    if !is_digit_text(word) {
+    let text = trimmed_start(text);
+    let (number, count) = leading_number(text);
+    if count == 0 {
         return None;
     }
-    Some((capped_value(word), rest))
+    let rest = &text[count..];
+    if !is_word_end(rest) {
+        return None;
+    }
+    Some((number, rest))
 }
 
 /// Whether a text has no word.

@@ -1,0 +1,35 @@
+//! The digits in front of a text.
+
+ghost use Rattle.std.specs.Prelude.{◌≡◌, ◌+◌, ◌*◌, ◌≤◌, length, take_while};
+ghost use Rattle.std.specs.Char.{is_ascii_digit};
+ghost use Rattle.std.specs.List.{prefix_len};
+ghost use Rattle.life_base.specs.Digits.{capped};
+ghost use Rattle.life_base.specs.Text.{value_of};
+
+/// A number with one digit more behind it, or the greatest of the type.
+fn with_digit(number: u64, digit: u8) -> u64
+    requires { digit ≤ 9 }
+    ensures { result ≡ capped (number * 10 + digit) }
+{
+    if number < u64::MAX / 10 {
+        return number * 10 + u64::from(digit);
+    }
+    number.saturating_mul(10).saturating_add(u64::from(digit))
+}
+
+/// The number that the digits in front of a text write, and how many digits these are; a number of 2^64 or more is told as 2^64 - 1.
+/// Where no digit is in front both are 0.
+pub fn leading_number(text: &[u8]) -> (u64, usize)
+    ensures number { result.0 ≡ capped (value_of (take_while is_ascii_digit text.now)) }
+    ensures count { result.1 ≡ prefix_len is_ascii_digit text.now }
+    ensures within { result.1 ≤ length text.now }
+{
+    let mut number = 0u64;
+    for (i, byte) in text.iter().enumerate() {
+        if !byte.is_ascii_digit() {
+            return (number, i);
+        }
+        number = with_digit(number, *byte - b'0');
+    }
+    (number, text.len())
+}
