@@ -9,8 +9,8 @@ use Rattle.life_base.specs.Text.{trim}
 use Rattle.life_mc.specs.Cells.{leaf_cell}
 use Rattle.life_mc.specs.Grammar.{IsAround, IsLeafLine, are_cells, state_in}
 use Rattle.life_mc.specs.Reading.{is_leaf, is_leaf_byte, leaf_bytes, leaf_rows, row_byte, is_at_end}
-use Rattle.life_mc.specs.Standing.{is_row, are_rows, row_bytes}
-use Rattle.life_mc.proofs.Leaves.{is_cell, leaf_is, leaf_bytes_are, some_rows}
+use Rattle.life_mc.specs.Standing.{is_cell, is_row, are_rows, row_bytes}
+use Rattle.life_mc.proofs.Leaves.{leaf_is, leaf_bytes_are, some_rows}
 use Rattle.life_mc.proofs.ReadBack.{row_ended}
 use Rattle.life_mc.proofs.Valid.{row_fits}
 use Rattle.life_mc.proofs.Around.{around_trim, trimmed_around}

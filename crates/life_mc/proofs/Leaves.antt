@@ -1,143 +1,86 @@
--- The rows of a leaf, read one after another.
-use Rattle.std.proofs.Common.{◌≡◌, ℕ, zero, suc, ◌+◌, ◌-◌, ◌/◌, ◌<◌, ◌≤◌, List, [], ◌∷◌, ◌++◌, length, take, drop, get_or, map, Bool, true, false, cond, not, ◌&&◌, ◌||◌, refl, ap, sym, ◌∙◌, arith, add-one, drop-cons, ltb, set}
-use Rattle.std.specs.Prelude.{position, Some, None, ◌==◌, nat_le, replicate}
-use Rattle.std.specs.List.{list_all, position_or_len}
-use Rattle.std.proofs.lemmas.List.Quantifiers.{position-Some}
-use Rattle.std.proofs.lemmas.List.Sums.{position_or_len_is}
-use Rattle.std.proofs.lemmas.List.{drop_all, take_all}
-use Rattle.std.proofs.lemmas.Bool.{ltb-false, le-leb, lt-leb}
-use Rattle.life_base.specs.Text.{onto_first}
+-- The rows of a leaf.
+use Rattle.std.proofs.Common.{◌≡◌, ℕ, zero, suc, ◌+◌, ◌/◌, ◌<◌, ◌≤◌, List, [], ◌∷◌, ◌++◌, length, take, drop, get_or, map, Bool, true, false, cond, ◌&&◌, ◌||◌, refl, ap, sym, ◌∙◌, arith, add-one, drop-cons, set}
+use Rattle.std.specs.Prelude.{◌==◌, nat_le, nat_lt, replicate}
+use Rattle.std.specs.List.{list_all}
+use Rattle.std.proofs.lemmas.Bool.{lt-leb}
+use Rattle.life_base.specs.Text.{is_empty, onto_first}
 use Rattle.life_mc.specs.Reading.{is_leaf, is_leaf_byte, leaf_rows, leaf_bytes, row_byte, is_at_end}
-use Rattle.life_mc.specs.Standing.{is_row, are_rows, row_bytes}
-use Rattle.life_mc.proofs.Valid.{row_fits}
+use Rattle.life_mc.specs.Standing.{is_cell, is_row, are_rows, row_bytes}
+
+and-false : (a : Bool) → (a && false) ≡ false
+and-false true = refl
+and-false false = refl
+
+and_assoc : (a b c : Bool) → ((a && b) && c) ≡ (a && (b && c))
+and_assoc true b c = refl
+and_assoc false b c = refl
+
+and_mix : (a b c d : Bool) → ((a && b) && (c && d)) ≡ ((a && c) && (b && d))
+and_mix false b c d = refl
+and_mix true true c d = refl
+and_mix true false true d = refl
+and_mix true false false d = refl
 
 -- ---- one row
-
-abbrev pub is_cell : ℕ → Bool
-is_cell b = b == 46 || b == 42
 
 -- the bits of cells, of which the first has this one
 abbrev pub bits_from : ℕ → List ℕ → ℕ
 bits_from bit [] = 0
 bits_from bit (b ∷ row) = cond (b == 42) bit 0 + bits_from (bit / 2) row
 
-pub row_bits : (row : List ℕ) → length row ≤ 8 → row_byte row ≡ bits_from 128 row
-row_bits [] h = refl
-row_bits (a ∷ []) h = omega arith
-row_bits (a ∷ b ∷ []) h = omega arith
-row_bits (a ∷ b ∷ c ∷ []) h = omega arith
-row_bits (a ∷ b ∷ c ∷ d ∷ []) h = omega arith
-row_bits (a ∷ b ∷ c ∷ d ∷ e ∷ []) h = omega arith
-row_bits (a ∷ b ∷ c ∷ d ∷ e ∷ f ∷ []) h = omega arith
-row_bits (a ∷ b ∷ c ∷ d ∷ e ∷ f ∷ g ∷ []) h = omega arith
-row_bits (a ∷ b ∷ c ∷ d ∷ e ∷ f ∷ g ∷ i ∷ []) h = omega arith
-row_bits (a ∷ b ∷ c ∷ d ∷ e ∷ f ∷ g ∷ i ∷ j ∷ row) h = absurd (omega arith)
-
-next : (row : List ℕ) (i : ℕ) → i < length row → drop i row ≡ get_or row i 0 ∷ drop (i + 1) row
-next row i h = rw add-one (drop-cons row i 0 h)
-
-bits_next : (row : List ℕ) (i bit : ℕ) → i < length row → bits_from bit (drop i row) ≡ cond (get_or row i 0 == 42) bit 0 + bits_from (bit / 2) (drop (i + 1) row)
-bits_next row i bit h = ap (bits_from bit) (next row i h)
-
-pub bits_live : (row : List ℕ) (i byte bit : ℕ) → i < length row → (get_or row i 0 == 42) ≡ true → byte + bits_from bit (drop i row) ≡ bits_from 128 row
-    → byte + bit + bits_from (bit / 2) (drop (i + 1) row) ≡ bits_from 128 row
-bits_live row i byte bit h e k = omega (arith, bits_next row i bit h, ap (λ v. cond v bit 0) e, k)
-
-pub bits_dead : (row : List ℕ) (i byte bit : ℕ) → i < length row → (get_or row i 0 == 42) ≡ false → byte + bits_from bit (drop i row) ≡ bits_from 128 row
-    → byte + bits_from (bit / 2) (drop (i + 1) row) ≡ bits_from 128 row
-bits_dead row i byte bit h e k = omega (arith, bits_next row i bit h, ap (λ v. cond v bit 0) e, k)
-
-pub bits_fit : (row : List ℕ) (i byte bit : ℕ) → i < length row → length row ≤ 8 → (get_or row i 0 == 42) ≡ true → byte + bits_from bit (drop i row) ≡ bits_from 128 row → byte + bit < 256
-bits_fit row i byte bit h l e k = omega (arith, bits_live row i byte bit h e k, row_bits row l, row_fits 0 row)
-
-pub cell_more : (row : List ℕ) (i : ℕ) (all : Bool) → i < length row → is_cell (get_or row i 0) ≡ true → all ≡ list_all is_cell (drop i row) → all ≡ list_all is_cell (drop (i + 1) row)
-cell_more row i all h e k = k ∙ ap (list_all is_cell) (next row i h) ∙ ap (λ v. v && list_all is_cell (drop (i + 1) row)) e
-
-pub cell_fails : (row : List ℕ) (i : ℕ) → i < length row → is_cell (get_or row i 0) ≡ false → list_all is_cell row ≡ list_all is_cell (drop i row) → is_row row ≡ false
-cell_fails row i h e k =
-    ap (λ v. v && nat_le (length row) 8) (k ∙ ap (list_all is_cell) (next row i h) ∙ ap (λ v. v && list_all is_cell (drop (i + 1) row)) e)
-
-and-false : (a : Bool) → (a && false) ≡ false
-and-false true = refl
-and-false false = refl
-
-pub row_long : (row : List ℕ) → 8 < length row → is_row row ≡ false
-row_long row h = ap (λ v. list_all is_cell row && v) (lt-leb (length row) 8 h) ∙ and-false (list_all is_cell row)
-
-pub row_ends : (row : List ℕ) (i byte bit : ℕ) → length row ≤ i → length row ≤ 8 → list_all is_cell row ≡ list_all is_cell (drop i row) → byte + bits_from bit (drop i row) ≡ bits_from 128 row
-    → (is_row row ≡ true) × (byte ≡ row_byte row)
-row_ends row i byte bit h l all k =
-    let none = drop_all i row h in (
-      ap (λ v. v && nat_le (length row) 8) (all ∙ ap (list_all is_cell) none) ∙ le-leb (length row) 8 l,
-      omega (arith, k, ap (bits_from bit) none, row_bits row l),
-    )
-
-pub dot_is_cell : (b : ℕ) → (b == 46) ≡ true → is_cell b ≡ true
-dot_is_cell b h = ap (λ v. v || (b == 42)) h
-
-pub star_is_cell : (b : ℕ) → (b == 42) ≡ true → is_cell b ≡ true
-star_is_cell b h = ap (λ v. b == 46 || v) h ∙ or-true (b == 46)
+no_bits : (row : List ℕ) → bits_from 0 row ≡ 0
+no_bits [] = refl
+no_bits (b ∷ row) = either (b == 42) (no_bits row)
   where
-    or-true : (a : Bool) → (a || true) ≡ true
-    or-true true = refl
-    or-true false = refl
+    either : (v : Bool) → bits_from 0 row ≡ 0 → cond v 0 0 + bits_from (0 / 2) row ≡ 0
+    either true h = omega (arith, h)
+    either false h = omega (arith, h)
 
-pub no_cell : (b : ℕ) → (b == 46) ≡ false → (b == 42) ≡ false → is_cell b ≡ false
-no_cell b h k = ap (λ v. v || (b == 42)) h ∙ k
+row_bits : (row : List ℕ) → row_byte row ≡ bits_from 128 row
+row_bits [] = refl
+row_bits (a ∷ []) = omega arith
+row_bits (a ∷ b ∷ []) = omega arith
+row_bits (a ∷ b ∷ c ∷ []) = omega arith
+row_bits (a ∷ b ∷ c ∷ d ∷ []) = omega arith
+row_bits (a ∷ b ∷ c ∷ d ∷ e ∷ []) = omega arith
+row_bits (a ∷ b ∷ c ∷ d ∷ e ∷ f ∷ []) = omega arith
+row_bits (a ∷ b ∷ c ∷ d ∷ e ∷ f ∷ g ∷ []) = omega arith
+row_bits (a ∷ b ∷ c ∷ d ∷ e ∷ f ∷ g ∷ i ∷ row) = omega (arith, no_bits row)
 
--- ---- the first row
+-- cells that can stand from the column of this bit on
+abbrev fits : ℕ → List ℕ → Bool
+fits bit [] = true
+fits bit (b ∷ row) = (is_cell b && nat_lt 0 bit) && fits (bit / 2) row
+
+-- so many columns are from that of this bit on
+abbrev has_room : ℕ → List ℕ → Bool
+has_room bit [] = true
+has_room bit (b ∷ row) = nat_lt 0 bit && has_room (bit / 2) row
+
+cells_with_room : (bit : ℕ) (row : List ℕ) → fits bit row ≡ (list_all is_cell row && has_room bit row)
+cells_with_room bit [] = refl
+cells_with_room bit (b ∷ row) =
+    ap (λ v. (is_cell b && nat_lt 0 bit) && v) (cells_with_room (bit / 2) row) ∙ and_mix (is_cell b) (nat_lt 0 bit) (list_all is_cell row) (has_room (bit / 2) row)
+
+eight_columns : (row : List ℕ) → has_room 128 row ≡ nat_le (length row) 8
+eight_columns [] = refl
+eight_columns (a ∷ []) = refl
+eight_columns (a ∷ b ∷ []) = refl
+eight_columns (a ∷ b ∷ c ∷ []) = refl
+eight_columns (a ∷ b ∷ c ∷ d ∷ []) = refl
+eight_columns (a ∷ b ∷ c ∷ d ∷ e ∷ []) = refl
+eight_columns (a ∷ b ∷ c ∷ d ∷ e ∷ f ∷ []) = refl
+eight_columns (a ∷ b ∷ c ∷ d ∷ e ∷ f ∷ g ∷ []) = refl
+eight_columns (a ∷ b ∷ c ∷ d ∷ e ∷ f ∷ g ∷ i ∷ []) = refl
+eight_columns (a ∷ b ∷ c ∷ d ∷ e ∷ f ∷ g ∷ i ∷ j ∷ row) = sym (lt-leb (length (a ∷ b ∷ c ∷ d ∷ e ∷ f ∷ g ∷ i ∷ j ∷ row)) 8 (omega arith))
+
+row_fits_all : (row : List ℕ) → fits 128 row ≡ is_row row
+row_fits_all row = cells_with_room 128 row ∙ ap (λ v. list_all is_cell row && v) (eight_columns row)
+
+-- ---- all rows
 
 abbrev is_dollar : ℕ → Bool
 is_dollar b = b == 36
-
-abbrev ends : List ℕ → ℕ
-ends text = position_or_len is_dollar text
-
-further : (b : ℕ) (text : List ℕ) → is_dollar b ≡ false → ends (b ∷ text) ≡ suc (ends text)
-further b text e = ap (λ v. cond (not v) (1 + ends text) 0) e ∙ omega arith
-
-abbrev cut : ℕ → List ℕ → List (List ℕ)
-cut i text = take i text ∷ leaf_rows (drop (suc i) text)
-
-first_step : (v : Bool) (b : ℕ) (text : List ℕ) → is_dollar b ≡ v → (ends text < length text → leaf_rows text ≡ cut (ends text) text)
-    → ends (b ∷ text) < length (b ∷ text) → leaf_rows (b ∷ text) ≡ cut (ends (b ∷ text)) (b ∷ text)
-first_step true b text e ih h = rw e refl
-first_step false b text e ih h =
-    let s = further b text e in
-    let h' : ends text < length text = omega (arith, rw s at h) in
-    ap (λ v. cond v ([] ∷ leaf_rows text) (onto_first b (leaf_rows text))) e ∙ ap (onto_first b) (ih h') ∙ ap (λ j. cut j (b ∷ text)) (sym s)
-
-first_row : (text : List ℕ) → ends text < length text → leaf_rows text ≡ cut (ends text) text
-first_row [] h = absurd (omega arith)
-first_row (b ∷ text) h = first_step (is_dollar b) b text refl (first_row text) h
-
-last_step : (v : Bool) (b : ℕ) (text : List ℕ) → is_dollar b ≡ v → (length text ≤ ends text → leaf_rows text ≡ text ∷ [])
-    → length (b ∷ text) ≤ ends (b ∷ text) → leaf_rows (b ∷ text) ≡ (b ∷ text) ∷ []
-last_step true b text e ih h = let k : ends (b ∷ text) ≡ 0 = rw e refl in absurd (omega (arith, rw k at h))
-last_step false b text e ih h =
-    let s = further b text e in
-    let h' : length text ≤ ends text = omega (arith, rw s at h) in
-    ap (λ v. cond v ([] ∷ leaf_rows text) (onto_first b (leaf_rows text))) e ∙ ap (onto_first b) (ih h')
-
-last_row : (text : List ℕ) → length text ≤ ends text → leaf_rows text ≡ text ∷ []
-last_row [] h = refl
-last_row (b ∷ text) h = last_step (is_dollar b) b text refl (last_row text) h
-
-pub rows_at : (text : List ℕ) (i : ℕ) → position is_dollar text ≡ Some i → leaf_rows text ≡ take i text ∷ leaf_rows (drop (i + 1) text)
-rows_at text i h =
-    let p = position-Some is_dollar text i 0 h in
-    let e : ends text ≡ i = position_or_len_is is_dollar text i 0 (omega (arith, p.0)) p.2 (λ _. p.1) in
-    let small : ends text < length text = omega (arith, e, p.0) in
-    first_row text small ∙ ap (λ j. cut j text) e ∙ ap (λ j. take i text ∷ leaf_rows (drop j text)) (sym (add-one i))
-
-none : (v : Bool) (i : ℕ) → cond v (Some i) None ≡ None → v ≡ false
-none true i h = cc
-none false i h = refl
-
-pub rows_without : (text : List ℕ) → position is_dollar text ≡ None → leaf_rows text ≡ text ∷ []
-rows_without text h = last_row text (ltb-false _ _ (none (ltb (ends text) (length text)) _ h))
-
--- ---- all rows
 
 -- the bytes of a text are those of its rows, and the `$` between them
 bytes_step : (v : Bool) (b : ℕ) (text : List ℕ) (r : List ℕ) (rs : List (List ℕ)) → is_dollar b ≡ v → leaf_rows text ≡ r ∷ rs
@@ -234,23 +177,9 @@ pad (suc n) (suc m) (row ∷ rows) h = ap (λ (t : List ℕ). row_byte row ∷ t
 pub leaf_bytes_are : (text : List ℕ) → leaf_bytes text ≡ row_bytes 8 (leaf_rows text)
 leaf_bytes_are text = pad 8 8 (leaf_rows text) (omega arith)
 
--- one row more
-pub row_set : (rows : List ℕ) (i byte : ℕ) (more : List ℕ) → i < length rows → take (i + 1) (set rows i byte) ++ more ≡ take i rows ++ byte ∷ more
-row_set rows i byte more h = rw add-one (at_set rows i byte more h)
-  where
-    at_set : (rows : List ℕ) (i byte : ℕ) (more : List ℕ) → i < length rows → take (suc i) (set rows i byte) ++ more ≡ take i rows ++ byte ∷ more
-    at_set [] i byte more h = absurd (omega arith)
-    at_set (r ∷ rows) zero byte more h = refl
-    at_set (r ∷ rows) (suc i) byte more h = ap (λ (t : List ℕ). r ∷ t) (at_set rows i byte more (omega arith))
+-- ---- the rest of a leaf, from a cell on
 
-append_nothing : (xs : List ℕ) → xs ++ [] ≡ xs
-append_nothing [] = refl
-append_nothing (x ∷ xs) = ap (λ (t : List ℕ). x ∷ t) (append_nothing xs)
-
-pub all_set : (rows : List ℕ) (i : ℕ) → length rows ≤ i → take i rows ++ [] ≡ rows
-all_set rows i h = append_nothing (take i rows) ∙ take_all i rows h
-
-pub not_at_end : (text : List ℕ) → 0 < length text → is_at_end (leaf_rows text) ≡ false
+not_at_end : (text : List ℕ) → 0 < length text → is_at_end (leaf_rows text) ≡ false
 not_at_end [] h = absurd (omega arith)
 not_at_end (b ∷ text) h = by (is_dollar b) (leaf_rows text) (some_rows text)
   where
@@ -260,15 +189,142 @@ not_at_end (b ∷ text) h = by (is_dollar b) (leaf_rows text) (some_rows text)
     by false (r ∷ []) h = refl
     by false (r ∷ s ∷ rs) h = refl
 
-pub at_end_empty : (text : List ℕ) → length text ≡ 0 → is_at_end (leaf_rows text) ≡ true
-at_end_empty [] h = refl
-at_end_empty (b ∷ text) h = absurd (omega arith)
+at_end_is_empty : (text : List ℕ) → is_at_end (leaf_rows text) ≡ is_empty text
+at_end_is_empty [] = refl
+at_end_is_empty (b ∷ text) = not_at_end (b ∷ text) (omega arith)
 
-pub whole_leaf : (text rows : List ℕ) (i : ℕ) (left : List (List ℕ)) → 8 ≤ i → length rows ≤ i → is_leaf text ≡ are_rows (8 - i) left
-    → leaf_bytes text ≡ take i rows ++ row_bytes (8 - i) left → is_at_end left ≡ true → (is_leaf text ≡ true) × (rows ≡ leaf_bytes text)
-whole_leaf text rows i left h l a b e =
-    let z : 8 - i ≡ 0 = omega arith in
-    (a ∙ ap (λ k. are_rows k left) z ∙ e, sym (b ∙ ap (λ k. take i rows ++ row_bytes k left) z ∙ all_set rows i l))
+-- a text ends a leaf, of which n rows can come behind this one, and this one goes on in the column of this bit
+abbrev pub ends_leaf : ℕ → ℕ → List ℕ → Bool
+ends_leaf n bit [] = true
+ends_leaf n bit (b ∷ text) =
+    cond (b == 36) (elim n [ zero ↦ is_empty text | suc m ↦ ends_leaf m 128 text ]) ((is_cell b && nat_lt 0 bit) && ends_leaf n (bit / 2) text)
 
-pub no_leaf_at_end : (text : List ℕ) (i : ℕ) (left : List (List ℕ)) → 8 ≤ i → is_leaf text ≡ are_rows (8 - i) left → is_at_end left ≡ false → is_leaf text ≡ false
-no_leaf_at_end text i left h a e = let z : 8 - i ≡ 0 = omega arith in a ∙ ap (λ k. are_rows k left) z ∙ e
+-- the same, by the rows of the text
+abbrev are_left : ℕ → ℕ → List (List ℕ) → Bool
+are_left n bit [] = true
+are_left n bit (row ∷ rows) = fits bit row && are_rows n rows
+
+none_left : (n : ℕ) → are_rows n [] ≡ true
+none_left zero = refl
+none_left (suc n) = refl
+
+next_left : (n : ℕ) (rows : List (List ℕ)) → are_left n 128 rows ≡ are_rows (suc n) rows
+next_left n [] = refl
+next_left n (row ∷ rows) = ap (λ v. v && are_rows n rows) (row_fits_all row)
+
+left_cell : (n bit b : ℕ) (rows : List (List ℕ)) → 0 < length rows → are_left n bit (onto_first b rows) ≡ ((is_cell b && nat_lt 0 bit) && are_left n (bit / 2) rows)
+left_cell n bit b [] h = absurd (omega arith)
+left_cell n bit b (row ∷ rows) h = and_assoc (is_cell b && nat_lt 0 bit) (fits (bit / 2) row) (are_rows n rows)
+
+left_is : (n bit : ℕ) (text : List ℕ) → ends_leaf n bit text ≡ are_left n bit (leaf_rows text)
+left_is n bit [] = sym (none_left n)
+left_is n bit (b ∷ text) = by (b == 36) (λ n bit. left_is n bit text)
+  where
+    behind : (n : ℕ) → ((n bit : ℕ) → ends_leaf n bit text ≡ are_left n bit (leaf_rows text))
+        → elim n [ zero ↦ is_empty text | suc m ↦ ends_leaf m 128 text ] ≡ are_rows n (leaf_rows text)
+    behind zero ih = sym (at_end_is_empty text)
+    behind (suc m) ih = ih m 128 ∙ next_left m (leaf_rows text)
+
+    by : (v : Bool) → ((n bit : ℕ) → ends_leaf n bit text ≡ are_left n bit (leaf_rows text))
+        → cond v (elim n [ zero ↦ is_empty text | suc m ↦ ends_leaf m 128 text ]) ((is_cell b && nat_lt 0 bit) && ends_leaf n (bit / 2) text)
+        ≡ are_left n bit (cond v ([] ∷ leaf_rows text) (onto_first b (leaf_rows text)))
+    by true ih = behind n ih
+    by false ih = ap (λ v. (is_cell b && nat_lt 0 bit) && v) (ih n (bit / 2)) ∙ sym (left_cell n bit b (leaf_rows text) (some_rows text))
+
+pub leaf_ends : (text : List ℕ) → is_leaf text ≡ ends_leaf 7 128 text
+leaf_ends text = leaf_is text ∙ sym (left_is 7 128 text ∙ next_left 7 (leaf_rows text))
+
+-- the bytes of this row, which has these bits so far, and of the later ones
+abbrev bytes_left : ℕ → ℕ → List ℕ → List ℕ → List ℕ
+bytes_left row bit later [] = row ∷ later
+bytes_left row bit later (b ∷ text) =
+    cond (b == 36) (row ∷ elim later [ [] ↦ [] | z ∷ more ↦ bytes_left 0 128 more text ]) (bytes_left (row + cond (b == 42) bit 0) (bit / 2) later text)
+
+-- the same, by the rows of the text
+abbrev bytes_are_left : ℕ → ℕ → ℕ → List (List ℕ) → List ℕ
+bytes_are_left n row bit [] = []
+bytes_are_left n row bit (cells ∷ rows) = (row + bits_from bit cells) ∷ row_bytes n rows
+
+blank_left : (n : ℕ) → row_bytes n [] ≡ replicate n 0
+blank_left zero = refl
+blank_left (suc n) = ap (λ (t : List ℕ). 0 ∷ t) (blank_left n)
+
+next_bytes : (n : ℕ) (rows : List (List ℕ)) → 0 < length rows → bytes_are_left n 0 128 rows ≡ row_bytes (suc n) rows
+next_bytes n [] h = absurd (omega arith)
+next_bytes n (row ∷ rows) h = ap (λ byte. byte ∷ row_bytes n rows) (omega (arith, row_bits row))
+
+bytes_cell : (n row bit b : ℕ) (rows : List (List ℕ)) → 0 < length rows
+    → bytes_are_left n (row + cond (b == 42) bit 0) (bit / 2) rows ≡ bytes_are_left n row bit (onto_first b rows)
+bytes_cell n row bit b [] h = absurd (omega arith)
+bytes_cell n row bit b (cells ∷ rows) h = ap (λ byte. byte ∷ row_bytes n rows) (sum row (cond (b == 42) bit 0) (bits_from (bit / 2) cells))
+  where
+    sum : (a b c : ℕ) → (a + b) + c ≡ a + (b + c)
+    sum a b c = omega arith
+
+nothing_more : (row : ℕ) → row ≡ row + 0
+nothing_more row = omega arith
+
+bytes_left_is : (n row bit : ℕ) (text : List ℕ) → bytes_left row bit (replicate n 0) text ≡ bytes_are_left n row bit (leaf_rows text)
+bytes_left_is n row bit [] = ap (λ (t : List ℕ). row ∷ t) (sym (blank_left n)) ∙ ap (λ byte. byte ∷ row_bytes n []) (nothing_more row)
+bytes_left_is n row bit (b ∷ text) = by (b == 36) (λ n row bit. bytes_left_is n row bit text)
+  where
+    behind : (n : ℕ) → ((n row bit : ℕ) → bytes_left row bit (replicate n 0) text ≡ bytes_are_left n row bit (leaf_rows text))
+        → row ∷ elim (replicate {A = ℕ} n 0) [ [] ↦ [] | z ∷ more ↦ bytes_left 0 128 more text ] ≡ bytes_are_left n row bit ([] ∷ leaf_rows text)
+    behind zero ih = ap (λ byte. byte ∷ []) (nothing_more row)
+    behind (suc m) ih =
+        ap (λ (t : List ℕ). row ∷ t) (ih m 0 128 ∙ next_bytes m (leaf_rows text) (some_rows text)) ∙ ap (λ byte. byte ∷ row_bytes (suc m) (leaf_rows text)) (nothing_more row)
+
+    by : (v : Bool) → ((n row bit : ℕ) → bytes_left row bit (replicate n 0) text ≡ bytes_are_left n row bit (leaf_rows text))
+        → cond v (row ∷ elim (replicate {A = ℕ} n 0) [ [] ↦ [] | z ∷ more ↦ bytes_left 0 128 more text ]) (bytes_left (row + cond (b == 42) bit 0) (bit / 2) (replicate n 0) text)
+        ≡ bytes_are_left n row bit (cond v ([] ∷ leaf_rows text) (onto_first b (leaf_rows text)))
+    by true ih = behind n ih
+    by false ih = ih n (row + cond (b == 42) bit 0) (bit / 2) ∙ bytes_cell n row bit b (leaf_rows text) (some_rows text)
+
+-- ---- the rows so far, and those that come
+
+-- the bytes of a leaf: of the rows that have ended, and of those that the text ends
+abbrev pub bytes_from : List ℕ → ℕ → ℕ → ℕ → List ℕ → List ℕ
+bytes_from rows ended row bit text = take ended rows ++ bytes_left row bit (drop (suc ended) rows) text
+
+pub bytes_begin : (text : List ℕ) → leaf_bytes text ≡ bytes_from (replicate 8 0) 0 0 128 text
+bytes_begin text = leaf_bytes_are text ∙ sym (bytes_left_is 7 0 128 text ∙ next_bytes 7 (leaf_rows text) (some_rows text))
+
+pub next : (text : List ℕ) (i : ℕ) → i < length text → drop i text ≡ get_or text i 0 ∷ drop (i + 1) text
+next text i h = rw add-one (drop-cons text i 0 h)
+
+-- a cell more
+pub cell_ends : (n bit b : ℕ) (text : List ℕ) → (b == 36) ≡ false → ends_leaf n bit (b ∷ text) ≡ ((is_cell b && nat_lt 0 bit) && ends_leaf n (bit / 2) text)
+cell_ends n bit b text e = rw e refl
+
+pub cell_bytes : (rows : List ℕ) (ended row bit b : ℕ) (text : List ℕ) → (b == 36) ≡ false
+    → bytes_from rows ended row bit (b ∷ text) ≡ bytes_from rows ended (row + cond (b == 42) bit 0) (bit / 2) text
+cell_bytes rows ended row bit b text e = rw e refl
+
+-- a row has ended
+pub row_ends : (n bit b : ℕ) (text : List ℕ) → (b == 36) ≡ true → ends_leaf (suc n) bit (b ∷ text) ≡ ends_leaf n 128 text
+row_ends n bit b text e = rw e refl
+
+pub row_bytes_from : (rows : List ℕ) (ended row bit b : ℕ) (text : List ℕ) → (b == 36) ≡ true → suc ended < length rows
+    → bytes_from rows ended row bit (b ∷ text) ≡ bytes_from (set rows ended row) (suc ended) 0 128 text
+row_bytes_from [] ended row bit b text e h = absurd (omega arith)
+row_bytes_from (r ∷ []) ended row bit b text e h = absurd (omega arith)
+row_bytes_from (r ∷ z ∷ rows) zero row bit b text e h = rw e refl
+row_bytes_from (r ∷ z ∷ rows) (suc ended) row bit b text e h = ap (λ (t : List ℕ). r ∷ t) (row_bytes_from (z ∷ rows) ended row bit b text e (omega arith))
+
+-- the last row has ended
+pub last_ends : (bit b : ℕ) (text : List ℕ) → (b == 36) ≡ true → ends_leaf 0 bit (b ∷ text) ≡ is_empty text
+last_ends bit b text e = rw e refl
+
+pub last_bytes : (rows : List ℕ) (ended row bit b : ℕ) (text : List ℕ) → (b == 36) ≡ true → suc ended ≡ length rows
+    → bytes_from rows ended row bit (b ∷ text) ≡ set rows ended row
+last_bytes [] ended row bit b text e h = absurd (omega arith)
+last_bytes (r ∷ []) zero row bit b text e h = rw e refl
+last_bytes (r ∷ []) (suc ended) row bit b text e h = absurd (omega arith)
+last_bytes (r ∷ z ∷ rows) zero row bit b text e h = absurd (omega arith)
+last_bytes (r ∷ z ∷ rows) (suc ended) row bit b text e h = ap (λ (t : List ℕ). r ∷ t) (last_bytes (z ∷ rows) ended row bit b text e (omega arith))
+
+-- the text has ended
+pub end_bytes : (rows : List ℕ) (ended row bit : ℕ) → ended < length rows → bytes_from rows ended row bit [] ≡ set rows ended row
+end_bytes [] ended row bit h = absurd (omega arith)
+end_bytes (r ∷ rows) zero row bit h = refl
+end_bytes (r ∷ rows) (suc ended) row bit h = ap (λ (t : List ℕ). r ∷ t) (end_bytes rows ended row bit (omega arith))
