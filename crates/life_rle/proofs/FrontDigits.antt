@@ -1,35 +1,11 @@
 -- The digits in front of a text.
-use Rattle.std.proofs.Common.{◌≡◌, ℕ, zero, suc, ◌+◌, ◌<◌, Bool, true, false, not, cond, ◌&&◌, List, [], ◌∷◌, take, drop, refl, sym, ap, ◌∙◌, Some, None, arith}
+use Rattle.std.proofs.Common.{◌≡◌, ℕ, cond, List, drop, sym, ap, ◌∙◌, Some, None, arith}
 use Rattle.std.specs.Char.{is_ascii_digit}
-use Rattle.std.specs.List.{list_all, prefix_len}
-use Rattle.life_base.specs.Text.{is_empty, is_digit_text, trim_start}
-use Rattle.life_rle.specs.Items.{front_digits, behind_digits}
+use Rattle.std.specs.List.{prefix_len}
+use Rattle.life_base.proofs.FrontDigits.{digit_text_in_front}
+use Rattle.life_base.specs.Text.{trim_start}
+use Rattle.life_rle.specs.Items.{behind_digits}
 use Rattle.life_rle.specs.Header.{after_number}
-
--- the front that passes a test passes it
-pub list_all-front : (test : ℕ → Bool) (xs : List ℕ) → list_all test (take (prefix_len test xs) xs) ≡ true
-list_all-front test [] = refl
-list_all-front test (x ∷ xs) =
-    elim (test x) as (λ t. test x ≡ t → list_all test (take (cond t (1 + prefix_len test xs) 0) (x ∷ xs)) ≡ true) [
-      | true ↦ λ e.
-          let k : 1 + prefix_len test xs ≡ suc (prefix_len test xs) = omega arith in
-          rw k (ap (λ t. t && list_all test (take (prefix_len test xs) xs)) e ∙ list_all-front test xs)
-      | false ↦ λ e. refl
-    ] refl
-
-some_front : (n b : ℕ) (text : List ℕ) → 0 < n → is_empty (take n (b ∷ text)) ≡ false
-some_front zero b text h = absurd (omega arith)
-some_front (suc n) b text h = refl
-
--- the digits in front are a digit text, if there are any
-pub digit_text_in_front : (text : List ℕ) → 0 < prefix_len is_ascii_digit text → is_digit_text (front_digits text) ≡ true
-digit_text_in_front [] h = absurd (omega arith)
-digit_text_in_front (b ∷ text) h =
-    ap (λ t. not t && list_all is_ascii_digit (front_digits (b ∷ text))) (some_front (prefix_len is_ascii_digit (b ∷ text)) b text h)
-    ∙ list_all-front is_ascii_digit (b ∷ text)
-
-pub digits_counted : (text : List ℕ) (n : ℕ) → n ≡ prefix_len is_ascii_digit text → (n ≡ 0 → ⊥) → is_digit_text (take n text) ≡ true
-digits_counted text n e h = ap (λ k. is_digit_text (take k text)) e ∙ digit_text_in_front text (omega (arith, h))
 
 pub after_number-some : (bytes rest : List ℕ) (n : ℕ) → n ≡ prefix_len is_ascii_digit bytes → (n ≡ 0 → ⊥) → rest ≡ trim_start (drop n bytes) → Some rest ≡ after_number bytes
 after_number-some bytes rest n e h f =

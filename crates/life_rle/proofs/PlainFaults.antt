@@ -13,7 +13,7 @@ use Rattle.life_rle.specs.declared.item.Item.TheVariants.{Cells, RowEnds}
 use Rattle.life_rle.specs.Plane.{most_count}
 use Rattle.life_rle.specs.Items.{front_digits, behind_digits, Mark, Spelled, Broken, cells_of, item_behind, counted, item_in, next_of}
 use Rattle.life_rle.specs.Plain.{IsCountText, HasNoIndent, HasNoDigit, HasNoState, HasItemPlace, IsNoItem, zero_count, large_count, no_state, FaultsArePlain}
-use Rattle.life_rle.proofs.FrontDigits.{list_all-front}
+use Rattle.life_base.proofs.FrontDigits.{list_all-front}
 use Rattle.life_rle.proofs.Texts.{Stops, front-stop, behind-stop}
 use Rattle.life_rle.proofs.PlainItems.{IsRead-text, IsTextOf-Spells, Spells-IsTextOf, state_at-text}
 use Rattle.life_rle.proofs.PlainHeader.{trim_start-HasNoIndent}

@@ -12,7 +12,7 @@ use Rattle.life_rle.specs.declared.item.Item.TheVariants.{Cells, RowEnds}
 use Rattle.life_rle.specs.Plane.{most_count}
 use Rattle.life_rle.specs.Items.{front_digits, behind_digits, Next, End, Mark, Spelled, Broken, cells_of, item_behind, counted, item_in, next_of, Spells}
 use Rattle.life_rle.specs.Plain.{IsStateText, letter_b, dot, letter_o, letter, prefixed, IsCountText, IsItemText, IsTextOf, ItemsArePlain}
-use Rattle.life_rle.proofs.FrontDigits.{list_all-front}
+use Rattle.life_base.proofs.FrontDigits.{list_all-front}
 use Rattle.life_rle.proofs.Texts.{both_true, IsTag, IsTag-letter, next_of-tag, next_of-digits}
 
 -- whitespace in front is passed over

@@ -5,8 +5,7 @@ ghost use Rattle.std.specs.Option.{option_map};
 ghost use Rattle.life_base.specs.Refusal.{Answers};
 ghost use Rattle.life_rle.specs.Header.{after_word, after_number, rule_part, header_form, header_of};
 
-use crate::item::digit_count;
-use life_base::{Kind, Rule, begins_with, trimmed_start};
+use life_base::{Kind, Rule, begins_with, leading_number, trimmed_start};
 use std::alloc::Global;
 
 /// What stands behind a word and the whitespace after it.
@@ -23,7 +22,7 @@ fn after_word<'a>(word: &[u8], bytes: &'a [u8]) -> Option<&'a [u8]>
 fn after_number(bytes: &[u8]) -> Option<&[u8]>
     ensures { option_map (λ rest. rest.now) result ≡ after_number bytes.now }
 {
-    let count = digit_count(bytes);
+    let (_, count) = leading_number(bytes);
     if count == 0 {
         return None;
     }

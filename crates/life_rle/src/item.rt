@@ -1,16 +1,15 @@
 //! The items of a line.
 
-ghost use Rattle.std.specs.Prelude.{◌≡◌, ℕ, ◌+◌, ◌≤◌, true, length, drop, Option};
+ghost use Rattle.std.specs.Prelude.{◌≡◌, ℕ, List, true};
 ghost use Rattle.std.specs.Option.{option_map};
-ghost use Rattle.std.specs.Char.{is_ascii_digit};
-ghost use Rattle.std.specs.List.{prefix_len};
-ghost use Rattle.life_base.specs.Text.{is_digit_text as has_digits_alone};
+ghost use Rattle.life_base.specs.Digits.{capped};
+ghost use Rattle.life_base.specs.Text.{is_digit_text as has_digits_alone, value_of};
 ghost use Rattle.life_rle.specs.States.{single_state, prefixed_state, state_at};
 ghost use Rattle.life_rle.specs.Items.{item_behind, counted, next_of};
 ghost use Rattle.life_rle.specs.Reading.{next_value};
 
 use crate::plane::MOST_COUNT;
-use life_base::{Kind, MAX_LEVEL, State, read_u64, trimmed_start};
+use life_base::{Kind, MAX_LEVEL, State, leading_number, trimmed_start};
 
 /// Cells of one state side by side, or ends of rows, each with its count.
 #[derive(Clone, Copy, Debug, PartialEq, Eq)]
@@ -68,19 +67,6 @@ fn state_at(bytes: &[u8]) -> Option<(State, &[u8])>
     }
 }
 
-/// How many digits stand in front.
-pub(crate) fn digit_count(text: &[u8]) -> usize
-    ensures within { result ≤ length text.now }
-    ensures value { result ≡ prefix_len is_ascii_digit text.now }
-{
-    for (i, byte) in text.iter().enumerate() {
-        if !byte.is_ascii_digit() {
-            return i;
-        }
-    }
-    text.len()
-}
-
 /// The item with this count, whose `$` or state is in front of the bytes.
 fn item_behind(count: u64, bytes: &[u8]) -> Found<'_>
     ensures { next_value result ≡ item_behind count bytes.now }
@@ -95,16 +81,17 @@ fn item_behind(count: u64, bytes: &[u8]) -> Found<'_>
     }
 }
 
-/// The item with these digits as its count.
-fn counted_item<'a>(digits: &[u8], bytes: &'a [u8]) -> Found<'a>
-    requires { has_digits_alone digits.now ≡ true }
-    ensures { next_value result ≡ counted MAX_LEVEL digits.now bytes.now }
+/// The item with a count that digits write.
+fn counted_item(count: u64, bytes: &[u8]) -> Found<'_>
+    ensures { (digits : List ℕ) → has_digits_alone digits ≡ true → count ≡ capped (value_of digits) → next_value result ≡ counted MAX_LEVEL digits bytes.now }
 {
-    match read_u64(digits) {
-        Ok(0) => Found::Broken(Kind::ZeroCount),
-        Ok(count) if count <= MOST_COUNT => item_behind(count, bytes),
-        _ => Found::Broken(Kind::TooLarge),
+    if count == 0 {
+        return Found::Broken(Kind::ZeroCount);
     }
+    if count > MOST_COUNT {
+        return Found::Broken(Kind::TooLarge);
+    }
+    item_behind(count, bytes)
 }
 
 /// What stands in the next item's place.
@@ -118,9 +105,9 @@ pub(crate) fn next_item(bytes: &[u8]) -> Found<'_>
     if text[0] == b'!' {
         return Found::Mark;
     }
-    let count = digit_count(text);
-    if count == 0 {
+    let (count, digits) = leading_number(text);
+    if digits == 0 {
         return item_behind(1, text);
     }
-    counted_item(&text[..count], &text[count..])
+    counted_item(count, &text[digits..])
 }
