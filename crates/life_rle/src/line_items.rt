@@ -57,13 +57,15 @@ fn run_ends(text: &[u8]) -> usize
     count
 }
 
-/// Makes room for the runs of a line, so that it takes memory once at most.
+/// Makes room for the runs of a line, so that it takes memory once at most. Where there is room for a run at each byte they aren't counted.
 fn reserve_runs(line: &[u8], runs: &mut Vec<Run>) -> Result<(), Kind>
     ensures runs { runs.new.items ≡ runs.old.items }
     ensures room { OnOk result (vec_len runs.old + length (filter is_run_end (take_while (λ b. not (b == 33)) line.now)) ≤ vec_capacity runs.new) }
     ensures memory { IfErr result (λ kind. kind ≡ Kind.Memory) }
 {
-    runs.reserve(run_ends(before_mark(line)))?;
+    if runs.capacity() - runs.len() < line.len() {
+        runs.reserve(run_ends(before_mark(line)))?;
+    }
     Ok(())
 }
 
