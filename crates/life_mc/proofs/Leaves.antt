@@ -24,7 +24,7 @@ and_mix true false false d = refl
 -- ---- one row
 
 -- the bits of cells, of which the first has this one
-abbrev pub bits_from : ℕ → List ℕ → ℕ
+abbrev bits_from : ℕ → List ℕ → ℕ
 bits_from bit [] = 0
 bits_from bit (b ∷ row) = cond (b == 42) bit 0 + bits_from (bit / 2) row
 
