@@ -4,6 +4,7 @@ pub mod WindowLemmas
 pub mod PenLemmas
 pub mod SweepLemmas
 pub mod LawLemmas
+pub mod RepresentativeLemmas
 pub mod LawProofs
 pub mod CellLemmas
 pub mod RefusedLemmas

@@ -1,14 +1,15 @@
 //! What a cell becomes.
-ghost use Rattle.std.specs.Prelude.{◌≡◌, ℕ, ◌<◌, ◌≤◌, false, All, IfOk, IfErr, List};
+ghost use Rattle.std.specs.Prelude.{◌≡◌, ℕ, ◌<◌, ◌≤◌, false, All, IfOk, IfErr, List, drop, length, slice_index};
+ghost use Rattle.std.specs.List.Sorted.{IsPermutation};
 ghost use Rattle.std.proofs.Props.{props};
-ghost use Rattle.life_table.specs.Meaning.{Becomes, Ambiguous, count_of};
+ghost use Rattle.life_table.specs.Meaning.{Answer, Becomes, Ambiguous, count_of};
 ghost use Rattle.life_base.specs.Rules.{has_digit};
-ghost use Rattle.life_table.specs.declared.table.Neighborhood.TheVariants.{Moore};
+ghost use Rattle.life_table.specs.declared.table.Neighborhood.TheVariants.{VonNeumann, Moore};
 ghost use Rattle.life_sweep.specs.Sweep.{LifeAnswers, TableAnswers, named};
 ghost use Rattle.life_sweep.specs.LawFacts.{two_positive, life_quiet, life_one, table_positive, table_quiet, table_one};
 
 use life_base::{Fault, Kind, LifeRule, State};
-use life_table::{Neighborhood, Neighbours, Table};
+use life_table::{Neighborhood, Neighbours, Symmetry, Table};
 use std::alloc::Global;
 use std::marker::Model;
 
@@ -127,11 +128,49 @@ const PLACES: usize = 1 << 16;
 fn place_of(around: &[State; 9]) -> usize
     ensures { result < PLACES }
 {
-    let mut hash: u64 = 0;
-    for state in around {
-        hash = (hash ^ *state as u64).wrapping_mul(0x9E37_79B9_7F4A_7C15);
-    }
+    let [centre, n1, n2, n3, n4, n5, n6, n7, n8] = *around;
+    let neighbours = u64::from_le_bytes([n1, n2, n3, n4, n5, n6, n7, n8]);
+    let hash = (neighbours ^ (centre as u64) << 29).wrapping_mul(0x9E37_79B9_7F4A_7C15);
     (hash >> 48) as usize
+}
+
+// The cell and its four sides; the corners are 0.
+fn without_corners(around: &[State; 9]) -> [State; 9]
+    ensures centre { slice_index result 0 ≡ slice_index around.now 0 }
+    ensures same { named VonNeumann result ≡ named VonNeumann around.now }
+    ensures states { (n : ℕ) → 0 < n → All (λ s. s < n) around.now → All (λ s. s < n) result }
+{
+    let [centre, north, _, east, _, south, _, west, _] = *around;
+    [centre, north, 0, east, 0, south, 0, west, 0]
+}
+
+// The cell, and its neighbours in ascending order.
+fn in_order(around: &[State; 9]) -> [State; 9]
+    ensures centre { slice_index result 0 ≡ slice_index around.now 0 }
+    ensures len { length result ≡ 9 }
+    ensures moved { IsPermutation (drop 1 around.now) (drop 1 result) }
+{
+    let [centre, n1, n2, n3, n4, n5, n6, n7, n8] = *around;
+    let mut others = [n1, n2, n3, n4, n5, n6, n7, n8];
+    others.sort_unstable();
+    let [n1, n2, n3, n4, n5, n6, n7, n8] = others;
+    [centre, n1, n2, n3, n4, n5, n6, n7, n8]
+}
+
+// A neighbourhood for which the table has the same answer. It stands for all those that differ in cells at which the table doesn't look, or, under
+// `permute`, in the order of the neighbours.
+fn representative(table: &Table, around: &[State; 9]) -> [State; 9]
+    requires { All (λ s. s < table.now.n_states) around.now }
+    ensures states { All (λ s. s < table.now.n_states) result }
+    ensures same { (answer : Answer) → TableAnswers table.now result answer ↔ TableAnswers table.now around.now answer }
+{
+    match table.neighborhood {
+        Neighborhood::VonNeumann => without_corners(around),
+        Neighborhood::Moore => match table.symmetry {
+            Symmetry::Permute => in_order(around),
+            _ => *around,
+        },
+    }
 }
 
 // What a table answers.
@@ -179,16 +218,14 @@ impl<'a> Law for ByTable<'a> {
     }
 
     fn next(&mut self, around: &[State; 9]) -> Result<State, Fault> {
-        let place = place_of(around);
+        let seen = representative(self.table, around);
+        let place = place_of(&seen);
         let known = self.known[place];
-        if known.around == *around {
+        if known.around == seen {
             return Ok(known.next);
         }
-        let next = decide(self.table, around)?;
-        self.known[place] = Known {
-            around: *around,
-            next,
-        };
+        let next = decide(self.table, &seen)?;
+        self.known[place] = Known { around: seen, next };
         Ok(next)
     }
 
