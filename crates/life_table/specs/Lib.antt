@@ -8,4 +8,5 @@ pub mod Reader
 pub mod Laws
 pub mod Found
 pub mod Around
+pub mod Seen
 pub mod Taking

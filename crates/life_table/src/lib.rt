@@ -14,6 +14,7 @@ mod next;
 mod places;
 mod reading;
 mod said;
+mod seen;
 mod table;
 mod telling;
 mod transitions;

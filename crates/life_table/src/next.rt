@@ -6,10 +6,12 @@ ghost use Rattle.life_table.specs.Meaning.{Gives, Decides, Becomes, Ambiguous};
 ghost use Rattle.life_table.specs.Valid.{IsEntry, is_variable, neighbour_count};
 ghost use Rattle.life_table.specs.Around.{cells_of};
 ghost use Rattle.life_table.specs.Orders.{images};
+ghost use Rattle.life_table.specs.Seen.{IsSeen};
 
 use crate::choose::{by_counts, can_be};
 use crate::fit::by_images;
 use crate::found::Found;
+use crate::seen::Seen;
 use crate::table::{Entry, Symmetry, Table, Transition, Var};
 use crate::turn::images_of;
 use life_base::{Fault, Kind, Place, State};
@@ -40,6 +42,7 @@ pub(crate) fn given_by(
     line: &Transition,
     cells: &[State],
     turned: &[[State; 9]],
+    seen: &Seen,
 ) -> Found
     requires count { length line.now.inputs ≡ length cells.now }
     requires some { 4 < length cells.now }
@@ -48,13 +51,14 @@ pub(crate) fn given_by(
     requires bound { (i : ℕ) → line.now.output ≡ Entry.Var i → IsTrue (list_any (is_variable i) line.now.inputs) }
     requires choosable { Consistent vars.now [] [] }
     requires turned { symmetry ≢ Symmetry.Permute → map (take (length cells.now)) turned.now ≡ map (λ v. slice_index cells.now 0 ∷ v) (images symmetry (drop 1 cells.now)) }
+    requires seen { IsSeen vars.now (drop 1 cells.now) seen.now }
     ensures { Tells (Gives symmetry vars.now line.now (slice_index cells.now 0) (drop 1 cells.now)) result }
 {
     if !can_be(vars, line.inputs.as_slice()[0], cells[0]) {
         return Found::Nothing;
     }
     match symmetry {
-        Symmetry::Permute => by_counts(vars, line, cells),
+        Symmetry::Permute => by_counts(vars, line, cells, seen),
         _ => by_images(vars, line, turned),
     }
 }
@@ -71,8 +75,10 @@ impl Table {
         let cells = around.as_slice();
         let images = images_of(self.symmetry, cells);
         let turned = &images.list[..images.count];
+        let vars = self.vars.as_slice();
+        let seen = Seen::new(vars, &cells[1..]);
         for line in self.lines.as_slice() {
-            match given_by(self.symmetry, self.vars.as_slice(), line, cells, turned) {
+            match given_by(self.symmetry, vars, line, cells, turned, &seen) {
                 Found::Nothing => {}
                 Found::One(state) => return Ok(state),
                 Found::Two => {

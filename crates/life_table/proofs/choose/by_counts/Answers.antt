@@ -1,15 +1,33 @@
-use Rattle.std.proofs.Common.{◌≡◌, ℕ, ◌-◌, ◌∷◌, refl, sym, ◌∙◌, subst, arith, List, length, take, drop, get_or, slice_index}
+use Rattle.std.proofs.Common.{◌≡◌, ℕ, ◌-◌, ◌∷◌, refl, sym, ◌∙◌, subst, arith, List, length, length-drop, take, drop, map, ap, get_or, slice_index}
 use Rattle.std.specs.Prelude.{IsTrue}
 use Rattle.std.specs.List.{list_any}
 use Rattle.life_table.specs.declared.found.Found.TheVariants.{One}
 use Rattle.life_table.specs.Found.{Tells}
-use Rattle.life_table.specs.Meaning.{GivesByCounts}
+use Rattle.life_table.specs.Meaning.{GivesByCounts, state_of, count_of}
 use Rattle.life_table.specs.Valid.{IsEntry, is_variable}
 use Rattle.life_table.specs.declared.table.Entry.{Entry}
 use Rattle.life_table.specs.declared.table.Entry.TheVariants as entries
+use Rattle.life_table.proofs.Pairing.{some_place, some_entry}
 use Rattle.life_table.proofs.Grouping.{are_groups, is_clash}
 use Rattle.life_table.proofs.Deciding.{too_many, from_gives, gives_settled, gives_open, shape_of, rest_of, rest_entries}
 use Rattle.life_table.proofs.choose.by_counts.Goals as goal
+
+pub returns-then-not-may_take_all : goal.returns-then-not-may_take_all
+returns-then-not-may_take_all c =
+    let seen : List Entry = c.as_slice-inputs.result.now in
+    let first : Entry = get_or seen 0 (entries.Fixed 0) in
+    let rest : List Entry = take (length seen - 1) (drop 1 seen) in
+    let shape : c.args.line.now.inputs ≡ first ∷ rest = shape_of seen c.args.line.now.inputs c.as_slice-inputs.ensures (omega (arith, c.requires.count, c.requires.some)) in
+    let others : List ℕ = drop 1 c.args.cells.now in
+    let size : length others ≡ length c.args.cells.now - 1 = length-drop 1 c.args.cells.now in
+    let are = rest_entries (IsEntry 256 c.args.vars.now) c.args.line.now.inputs first rest shape c.requires.entries in
+    λ s g.
+    let counts : (t : ℕ) → count_of t (map (state_of g.choice) rest) ≡ count_of t others = λ t. ap (λ es. count_of t (map (state_of g.choice) (drop 1 es))) (sym shape) ∙ g.counts t in
+    is_clash c.may_take_all.result
+    (c.may_take_all.ensures
+    (some_place c.args.vars.now g.choice g.is_choice rest others c.args.seen.now are (omega (arith, size, c.requires.room)) c.requires.seen counts)
+    (some_entry c.args.vars.now g.choice g.is_choice rest others c.args.seen.now are (omega (arith, size, c.requires.room)) c.requires.seen counts (omega (arith, size, c.requires.some))))
+    c.if-not-may_take_all.true
 
 pub returns-in_default : goal.returns-in_default
 returns-in_default c =
