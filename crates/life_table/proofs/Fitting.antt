@@ -1,12 +1,12 @@
 -- What a line gives at its images, one after another.
-use Rattle.std.proofs.Common.{◌≡◌, ℕ, ◌+◌, ◌<◌, ◌++◌, ◌∷◌, List, [], map, take, length, get_or, ap, sym, ◌∙◌, subst, inl, inr}
+use Rattle.std.proofs.Common.{◌≡◌, ℕ, ◌<◌, ◌++◌, ◌∷◌, List, [], map, length, get_or, ap, sym, ◌∙◌, subst, inl, inr}
 use Rattle.std.specs.Prelude.{◌⊎◌}
-use Rattle.std.proofs.lemmas.List.{take_more, map-append, get_or-map}
+use Rattle.std.proofs.lemmas.List.{get_or-map}
 use Rattle.std.proofs.lemmas.List.Elements.{Contains-append_left, Contains-append_right, Contains-append_cases}
 use Rattle.life_table.specs.Meaning.{state_of}
 use Rattle.life_table.specs.Found.{Tells, Adds, GivesAs, SomeGives}
 use Rattle.life_table.proofs.Members.{in_head, in_none, in_one}
-use Rattle.life_table.proofs.Adding.{tells_same, tells_more}
+use Rattle.life_table.proofs.Adding.{tells_same, tells_more, adds_same, adds_more, adds_none}
 use Rattle.life_table.specs.declared.found.Found.{Found}
 use Rattle.life_table.specs.declared.table.Var.{Var}
 use Rattle.life_table.specs.declared.table.Entry.{Entry}
@@ -20,22 +20,39 @@ pub none_gives : (vars : List Var) (line : Transition) (s : ℕ) → SomeGives v
 none_gives vars line s g = in_none g.image g.is_image
 
 module _ (vars : List Var) (line : Transition) where
-  one_more : (list : List (List ℕ)) (states : List ℕ) (old new : Found) → Tells (SomeGives vars line list) old → Adds (GivesAs vars line states) old new → Tells (SomeGives vars line (list ++ states ∷ [])) new
-  one_more list states old new h k =
-      tells_same (λ s. SomeGives vars line list s ⊎ GivesAs vars line states s) (SomeGives vars line (list ++ states ∷ []))
-      (λ s x. elim x [
-        | inl g ↦ record { image = g.image; is_image = Contains-append_left list (states ∷ []) g.image g.is_image; gives = g.gives }
-        | inr g ↦ record { image = states; is_image = Contains-append_right list (states ∷ []) states (in_head states []); gives = g }
-      ])
-      (λ s g. elim (Contains-append_cases list (states ∷ []) g.image g.is_image) [
-        | inl there ↦ inl (record { image = g.image; is_image = there; gives = g.gives })
-        | inr last ↦ inr (subst (λ ws. GivesAs vars line ws s) (sym (in_one states g.image last)) g.gives)
-      ])
-      new (tells_more (SomeGives vars line list) (GivesAs vars line states) old new h k)
+  -- what two lists of images give is what the one gives or the other
+  from_either : (list more : List (List ℕ)) (s : ℕ) → SomeGives vars line list s ⊎ SomeGives vars line more s → SomeGives vars line (list ++ more) s
+  from_either list more s x = elim x [
+    | inl g ↦ record { image = g.image; is_image = Contains-append_left list more g.image g.is_image; gives = g.gives }
+    | inr g ↦ record { image = g.image; is_image = Contains-append_right list more g.image g.is_image; gives = g.gives }
+  ]
 
-  pub image_more : (m k : ℕ) (images : List (List ℕ)) (d : List ℕ) (old new : Found) → k < length images →
-      Tells (SomeGives vars line (map (take m) (take k images))) old → Adds (GivesAs vars line (take m (get_or images k d))) old new → Tells (SomeGives vars line (map (take m) (take (k + 1) images))) new
-  image_more m k images d old new below h added =
-      subst (λ list. Tells (SomeGives vars line list) new)
-      (sym (ap (map (take m)) (take_more images k d below) ∙ map-append (take m) (take k images) (get_or images k d ∷ [])))
-      (one_more (map (take m) (take k images)) (take m (get_or images k d)) old new h added)
+  to_either : (list more : List (List ℕ)) (s : ℕ) → SomeGives vars line (list ++ more) s → SomeGives vars line list s ⊎ SomeGives vars line more s
+  to_either list more s g = elim (Contains-append_cases list more g.image g.is_image) [
+    | inl there ↦ inl (record { image = g.image; is_image = there; gives = g.gives })
+    | inr last ↦ inr (record { image = g.image; is_image = last; gives = g.gives })
+  ]
+
+  one_alone : (states : List ℕ) (s : ℕ) → GivesAs vars line states s → SomeGives vars line (states ∷ []) s
+  one_alone states s g = record { image = states; is_image = in_head states []; gives = g }
+
+  alone_one : (states : List ℕ) (s : ℕ) → SomeGives vars line (states ∷ []) s → GivesAs vars line states s
+  alone_one states s g = subst (λ ws. GivesAs vars line ws s) (sym (in_one states g.image g.is_image)) g.gives
+
+  pub no_turns_yet : (old : Found) → Adds (SomeGives vars line []) old old
+  no_turns_yet old = adds_none (SomeGives vars line []) (none_gives vars line) old
+
+  -- one more image adds what it gives
+  pub image_more : (list : List (List ℕ)) (states : List ℕ) (old mid new : Found) → Adds (SomeGives vars line list) old mid → Adds (GivesAs vars line states) mid new → Adds (SomeGives vars line (list ++ states ∷ [])) old new
+  image_more list states old mid new h k =
+      adds_same (λ s. SomeGives vars line list s ⊎ SomeGives vars line (states ∷ []) s) (SomeGives vars line (list ++ states ∷ []))
+      (from_either list (states ∷ [])) (to_either list (states ∷ [])) old new
+      (adds_more (SomeGives vars line list) (SomeGives vars line (states ∷ [])) old mid new h
+      (adds_same (GivesAs vars line states) (SomeGives vars line (states ∷ [])) (one_alone states) (alone_one states) mid new k))
+
+  -- more images tell what they give too
+  pub images_more : (list more : List (List ℕ)) (old new : Found) → Tells (SomeGives vars line list) old → Adds (SomeGives vars line more) old new → Tells (SomeGives vars line (list ++ more)) new
+  images_more list more old new h k =
+      tells_same (λ s. SomeGives vars line list s ⊎ SomeGives vars line more s) (SomeGives vars line (list ++ more))
+      (from_either list more) (to_either list more) new
+      (tells_more (SomeGives vars line list) (SomeGives vars line more) old new h k)

@@ -3,7 +3,6 @@ use Rattle.std.proofs.Common.{◌≡◌, ℕ, ◌*◌, ◌<◌, ◌≤◌, ◌�
 use Rattle.std.specs.Prelude.{[], Contains}
 use Rattle.std.proofs.Math.Nat.{div_self, zero-mul}
 use Rattle.std.specs.List.{range_with_len}
-use Rattle.std.proofs.lemmas.List.{map-append}
 use Rattle.life_table.specs.Orders.{turn, turns, reflected_turn, reflected_turns, images}
 use Rattle.life_table.specs.Meaning.{Gives, GivesByCounts}
 use Rattle.life_table.specs.Found.{Tells, SomeGives}
@@ -24,18 +23,8 @@ four_or_eight VonNeumann = (omega arith, omega arith)
 four_or_eight Moore = (omega arith, omega arith)
 
 -- the turns, and the reflected ones where these count too
-abbrev family : Bool → ℕ → List ℕ → List (List ℕ)
+abbrev pub family : Bool → ℕ → List ℕ → List (List ℕ)
 family reflect step v = cond reflect (turns v step ++ reflected_turns v step) (turns v step)
-
-pub turns_alone : (reflect : Bool) (v : List ℕ) (step centre : ℕ) (list : List (List ℕ)) → reflect ≡ false → list ≡ map (λ w. centre ∷ w) (turns v step) → list ≡ map (λ w. centre ∷ w) (family reflect step v)
-turns_alone reflect v step centre list off h = h ∙ ap (λ b. map (λ w. centre ∷ w) (family b step v)) (sym off)
-
-pub reflected_too : (reflect : Bool) (v : List ℕ) (step centre : ℕ) (first list : List (List ℕ)) → reflect ≡ true → first ≡ map (λ w. centre ∷ w) (turns v step) →
-    list ≡ first ++ map (λ w. centre ∷ w) (reflected_turns v step) → list ≡ map (λ w. centre ∷ w) (family reflect step v)
-reflected_too reflect v step centre first list on h k =
-    k ∙ ap (λ z. z ++ map (λ w. centre ∷ w) (reflected_turns v step)) h
-    ∙ sym (map-append (λ w. centre ∷ w) (turns v step) (reflected_turns v step))
-    ∙ ap (λ b. map (λ w. centre ∷ w) (family b step v)) (sym on)
 
 pub tells_permute : (vars : List Var) (line : Transition) (centre : ℕ) (others : List ℕ) (found : Found) → Tells (GivesByCounts vars line centre others) found → Tells (Gives Permute vars line centre others) found
 tells_permute vars line centre others found h =
@@ -54,11 +43,10 @@ identity_family v h = sym (once v h)
 pub horizontal_family : (v : List ℕ) → 0 < length v → images ReflectHorizontal v ≡ family true (length v) v
 horizontal_family v h = let a = once v h in let b = once_reflected v h in ap (λ ws. ws ++ reflected_turn v 0 ∷ []) (sym a) ∙ ap (λ ws. turns v (length v) ++ ws) (sym b)
 
--- a list of the images of one sort, as the call says it
-pub images_are : (symmetry sort : Symmetry) → symmetry ≡ sort → (v : List ℕ) (centre passed step : ℕ) (reflect : Bool) (list : List (List ℕ)) → passed ≡ step →
-    images sort v ≡ family reflect step v → list ≡ map (λ w. centre ∷ w) (family reflect passed v) → list ≡ map (λ w. centre ∷ w) (images symmetry v)
-images_are symmetry sort is v centre passed step reflect list same are h =
-    h ∙ ap (λ k. map (λ w. centre ∷ w) (family reflect k v)) same ∙ ap (map (λ w. centre ∷ w)) (sym are) ∙ ap (λ y. map (λ w. centre ∷ w) (images y v)) (sym is)
+-- the images of one sort, by the step and the reflection that were chosen for it
+pub family_is : (symmetry sort : Symmetry) → symmetry ≡ sort → (v : List ℕ) (chosen : ℕ × Bool) (step : ℕ) (reflect : Bool) → chosen ≡ (step, reflect) →
+    images sort v ≡ family reflect step v → images symmetry v ≡ family chosen.1 chosen.0 v
+family_is symmetry sort is v chosen step reflect same are = ap (λ y. images y v) is ∙ are ∙ sym (ap (λ (p : ℕ × Bool). family p.1 p.0 v) same)
 
 -- what the images give is what the line gives
 pub tells_images : (symmetry : Symmetry) (vars : List Var) (line : Transition) (centre : ℕ) (others : List ℕ) (list : List (List ℕ)) (found : Found) →

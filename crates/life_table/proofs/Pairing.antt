@@ -1,5 +1,5 @@
 -- Under a choice each entry is some neighbour, and each neighbour some entry.
-use Rattle.std.proofs.Common.{◌≡◌, ◌≢◌, ℕ, suc, ◌%◌, ◌<◌, ◌≤◌, List, [], ◌∷◌, map, length, get_or, slice_index, cond, true, false, refl, ap, sym, ◌∙◌, subst, inl, inr, arith, eq-eqb}
+use Rattle.std.proofs.Common.{◌≡◌, Bool, ◌+◌, drop, ◌-◌, ◌≢◌, ℕ, suc, ◌%◌, ◌<◌, ◌≤◌, List, [], ◌∷◌, map, length, get_or, slice_index, cond, true, false, refl, ap, sym, ◌∙◌, subst, inl, inr, arith, eq-eqb}
 use Rattle.std.specs.Prelude.{All, IfSome, Option, Some, None, slice_get}
 use Rattle.std.specs.Option.{option_map_or}
 use Rattle.std.specs.Int.{bit_at}
@@ -14,6 +14,7 @@ use Rattle.life_table.specs.Taking.{can_be_state}
 use Rattle.life_table.specs.Seen.{places, IsSeen}
 use Rattle.life_table.proofs.Counts.{is_one, is_one_same, count-cons}
 use Rattle.life_table.proofs.Seeing.{set_not_zero}
+use Rattle.life_table.proofs.Turning.{turned_by, turned_at}
 use Rattle.life_table.specs.declared.seen.Seen.{Seen}
 use Rattle.life_table.specs.declared.table.Var.{Var}
 use Rattle.life_table.specs.declared.table.Entry.{Entry}
@@ -79,3 +80,20 @@ module _ (vars : List Var) (choice : ℕ → ℕ) (is_choice : IsChoice vars cho
         let r = stands_at t (map (state_of choice) rest) (subst (λ n. 0 < n) (sym (counts t)) counted) in
         let below : r.0 < length rest = subst (λ n. r.0 < n) (length-map rest (state_of choice)) r.1 in
         (r.0, below, told r.0 k below room (sym (state_there r.0 below) ∙ r.2))
+
+place_below : (reflect : Bool) (n i r : ℕ) → n ≤ 8 → i < n → r < n → cond reflect (n - i) i + r < 16
+place_below true n i r few below inside = omega (arith, few, below, inside)
+place_below false n i r few below inside = omega (arith, few, below, inside)
+
+-- where the inputs have the states of a turn, each may be the neighbour that comes to it
+pub turn_told : (vars : List Var) (choice : ℕ → ℕ) (is_choice : IsChoice vars choice) (first : Entry) (rest : List Entry) (centre : ℕ) (others : List ℕ) (seen : Seen) (reflect : Bool) (r : ℕ) →
+    All (IsEntry 256 vars) rest → length rest ≡ length others → length others ≤ 8 → r < length others → IsSeen vars others seen →
+    map (state_of choice) (first ∷ rest) ≡ centre ∷ turned_by reflect others r →
+    (i : ℕ) → i < length rest → bit_at (places seen (get_or rest i (entries.Fixed 0))) (cond reflect (length rest - i) i + r) ≡ 1
+turn_told vars choice is_choice first rest centre others seen reflect r are same few inside is_seen values i below =
+    let e = get_or rest i (entries.Fixed 0) in
+    let k = cond reflect (length rest - i) i + r in
+    let state : state_of choice e ≡ slice_index others (k % length others) =
+    sym (get_or-map (state_of choice) rest i (entries.Fixed 0) 0 below) ∙ ap (λ w. slice_index (drop 1 w) i) values
+    ∙ turned_at others reflect r i (omega (arith, below, same)) ∙ ap (λ n. slice_index others ((cond reflect (n - i) i + r) % length others)) (sym same) in
+    is_seen e k (place_below reflect (length rest) i r (omega (arith, same, few)) below (omega (arith, same, inside))) (subst (λ s. can_be_state vars e s ≡ true) state (may_be vars choice is_choice e (are i (entries.Fixed 0) below)))

@@ -1,11 +1,13 @@
 -- Which neighbours an entry may be, place by place.
-use Rattle.std.proofs.Common.{◌≡◌, ◌≢◌, ℕ, ◌+◌, ◌-◌, ◌*◌, ◌%◌, ◌^◌, ◌<◌, List, length, get_or, set, slice_index, cond, nat_lt, Bool, true, false, refl, ap, sym, ◌∙◌, subst, inl, inr, arith, bit_or}
+use Rattle.std.proofs.Common.{◌≡◌, ◌≢◌, ℕ, ◌+◌, ◌-◌, ◌*◌, ◌%◌, ◌/◌, ◌^◌, ◌<◌, List, length, get_or, set, slice_index, cond, nat_lt, Bool, true, false, refl, ap, sym, ◌∙◌, subst, inl, inr, arith, bit_or, bit_and}
 use Rattle.std.specs.Prelude.{IsTrue, Option, Some, None, slice_get, ◌⊎◌}
 use Rattle.std.specs.Int.{bit_at, w16}
 use Rattle.std.proofs.lemmas.Bool.Decides.{eqb_tells}
 use Rattle.std.proofs.lemmas.List.{get_or-set_same, get_or-set_other, get_or_default}
-use Rattle.std.proofs.lemmas.Nat.Bits.{bit_at_or, bit_at_set_same, bit_at_set_other, bit_at_ones, same_from_bits_below, bit_at-lt, bit_at-zero}
+use Rattle.std.proofs.lemmas.Nat.Bits.{bit_at_and, bit_at_or, bit_at_set_same, bit_at_set_other, bit_at_ones, same_from_bits_below, bit_at-lt, bit_at-zero}
 use Rattle.std.specs.Option.{option_map_or}
+use Rattle.std.proofs.Math.Nat.{div-div-eq-div-mul}
+use Rattle.std.proofs.lemmas.Nat.{pow-add}
 use Rattle.std.proofs.lemmas.Bool.Decides.{nat_tests}
 use Rattle.std.proofs.lemmas.Option.{slice_get_within, get_or_from_slice_get}
 use Rattle.life_table.specs.Meaning.{has_state}
@@ -69,6 +71,13 @@ or_right a b k h = let e = bit_at_or a b k in let one = bit_at-lt a k in omega (
 
 pub set_not_zero : (n k : ℕ) → bit_at n k ≡ 1 → n ≢ 0
 set_not_zero n k h = λ z. let e = sym h ∙ ap (λ m. bit_at m k) z ∙ bit_at-zero k in absurd (omega (arith, e))
+
+-- a bit of both stays where one is shifted down
+pub and_shifted : (fits p first r : ℕ) → bit_at fits r ≡ 1 → bit_at p (first + r) ≡ 1 → bit_at (bit_and fits (p / 2 ^ first)) r ≡ 1
+and_shifted fits p first r one other =
+    let e = bit_at_and fits (p / 2 ^ first) r in
+    let moved : bit_at (p / 2 ^ first) r ≡ bit_at p (first + r) = ap (λ n. n % 2) (div-div-eq-div-mul p (2 ^ first) (2 ^ r)) ∙ ap (λ n. p / n % 2) (sym (pow-add 2 first r)) in
+    omega (arith, e, moved, one, other)
 
 -- sixteen bits are all that there are
 pub all_sixteen : (n : ℕ) → n < 2 ^ 16 → ((k : ℕ) → k < 16 → bit_at n k ≡ 1) → n ≡ 2 ^ 16 - 1

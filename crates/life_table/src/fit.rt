@@ -1,63 +1,95 @@
 //! One line at the images of a cell's neighbours.
-ghost use Rattle.std.specs.Prelude.{◌≡◌, ℕ, ◌<◌, ◌≤◌, [], take, map, length, All, IsTrue, List};
+ghost use Rattle.std.specs.Prelude.{◌≡◌, ℕ, ◌+◌, ◌-◌, ◌/◌, ◌<◌, ◌≤◌, [], ◌∷◌, ◌++◌, drop, map, length, slice_index, slice_index_or, All, IsTrue, if◌then◌else◌};
+ghost use Rattle.std.specs.Int.{bit_at};
 ghost use Rattle.std.specs.List.{list_any};
-ghost use Rattle.life_table.specs.Found.{Tells, Consistent, SomeGives};
-ghost use Rattle.life_table.specs.Meaning.{IsChoice, state_of};
+ghost use Rattle.life_table.specs.Found.{Adds, Tells, Consistent, SomeGives};
+ghost use Rattle.life_table.specs.Orders.{turns, reflected_turns};
+ghost use Rattle.life_table.specs.Seen.{places, IsSeen};
 ghost use Rattle.life_table.specs.Valid.{IsEntry, is_variable};
 
-use crate::choose::{can_be, with_image};
+use crate::choose::with_image;
 use crate::found::Found;
+use crate::seen::Seen;
 use crate::table::{Entry, Transition, Var};
+use crate::turn::{Turns, image_of};
 use life_base::State;
 
-/// The place of the first neighbour whose input is a state, or 0: there most images can be told not to fit.
-fn first_fixed(inputs: &[Entry]) -> usize
-    requires { 0 < length inputs.now }
-    ensures { result < length inputs.now }
+/// The turns, or the reflected ones, in which each input alone may be the neighbour that comes to its place: bit `r` is the turn by `r`.
+fn turns_that_may_fit(seen: &Seen, inputs: &[Entry], reflect: bool) -> u16
+    requires { length inputs.now ≤ 8 }
+    ensures { (r : ℕ) → r < 8
+        → ((i : ℕ) → i < length inputs.now → bit_at (places seen.now (slice_index_or inputs.now i (Entry.Fixed 0))) ((if reflect then length inputs.now - i else i) + r) ≡ 1)
+        → bit_at result r ≡ 1 }
 {
-    for k in 1..inputs.len() {
-        if let Entry::Fixed(_) = inputs[k] {
-            return k;
+    let mut fits = 255;
+    for (i, entry) in inputs.iter().enumerate() {
+        let first = if reflect { inputs.len() - i } else { i };
+        fits &= seen.places(*entry) >> first;
+        if fits == 0 {
+            return fits;
         }
     }
-    0
+    fits
 }
 
-/// Tells whether each input alone may be the state at its place. The input at this place is tested first.
-fn may_fit(vars: &[Var], inputs: &[Entry], place: usize, states: &[State]) -> bool
-    requires count { length inputs.now ≡ length states.now }
-    requires inside { place < length inputs.now }
-    requires entries { All (IsEntry 256 vars.now) inputs.now }
-    ensures { (choice : ℕ → ℕ) → IsChoice vars.now choice → map (state_of choice) inputs.now ≡ states.now → IsTrue result }
-{
-    if !can_be(vars, inputs[place], states[place]) {
-        return false;
-    }
-    for k in 0..inputs.len() {
-        if !can_be(vars, inputs[k], states[k]) {
-            return false;
-        }
-    }
-    true
-}
-
-/// The states that a line gives over images of the neighbours, each behind the centre.
-pub(crate) fn by_images(vars: &[Var], line: &Transition, images: &[[State; 9]]) -> Found
-    requires some { 0 < length line.now.inputs }
-    requires room { length line.now.inputs ≤ 9 }
+/// Adds what a line gives over the turns of the neighbours, or over their reflected turns.
+fn with_turns(
+    vars: &[Var],
+    line: &Transition,
+    cells: &[State],
+    seen: &Seen,
+    ways: Turns,
+    reflect: bool,
+    found: Found,
+) -> Found
+    requires count { length line.now.inputs ≡ length cells.now }
+    requires some { 1 < length cells.now }
+    requires room { length cells.now ≤ 9 }
     requires entries { All (IsEntry 256 vars.now) line.now.inputs }
     requires bound { (i : ℕ) → line.now.output ≡ Entry.Var i → IsTrue (list_any (is_variable i) line.now.inputs) }
     requires choosable { Consistent vars.now [] [] }
-    ensures { Tells (SomeGives vars.now line.now (map (take (length line.now.inputs)) images.now)) result }
+    requires seen { IsSeen vars.now (drop 1 cells.now) seen.now }
+    requires positive { 0 < ways.step }
+    requires turns { ways.count ≡ (length cells.now - 1) / ways.step }
+    ensures { Adds (SomeGives vars.now line.now (map (λ v. slice_index cells.now 0 ∷ v) (if reflect then reflected_turns (drop 1 cells.now) ways.step else turns (drop 1 cells.now) ways.step))) found result }
 {
     let inputs = line.inputs.as_slice();
-    let place = first_fixed(inputs);
-    let mut found = Found::Nothing;
-    for image in images {
-        let states = &image[..inputs.len()];
-        if may_fit(vars, inputs, place, states) {
+    let fits = turns_that_may_fit(seen, &inputs[1..], reflect);
+    let mut found = found;
+    for k in 0..ways.count {
+        let r = k * ways.step;
+        if fits >> r & 1 == 1 {
+            let image = image_of(cells, reflect, r);
+            let states = &image[..inputs.len()];
             found = with_image(vars, line, states, found);
         }
     }
     found
+}
+
+/// The states that a line gives over the images of the neighbours, each behind the centre.
+pub(crate) fn by_images(
+    vars: &[Var],
+    line: &Transition,
+    cells: &[State],
+    seen: &Seen,
+    ways: Turns,
+) -> Found
+    requires count { length line.now.inputs ≡ length cells.now }
+    requires some { 1 < length cells.now }
+    requires room { length cells.now ≤ 9 }
+    requires entries { All (IsEntry 256 vars.now) line.now.inputs }
+    requires bound { (i : ℕ) → line.now.output ≡ Entry.Var i → IsTrue (list_any (is_variable i) line.now.inputs) }
+    requires choosable { Consistent vars.now [] [] }
+    requires seen { IsSeen vars.now (drop 1 cells.now) seen.now }
+    requires positive { 0 < ways.step }
+    requires turns { ways.count ≡ (length cells.now - 1) / ways.step }
+    ensures { Tells (SomeGives vars.now line.now (map (λ v. slice_index cells.now 0 ∷ v) (if ways.reflect then turns (drop 1 cells.now) ways.step ++ reflected_turns (drop 1 cells.now) ways.step else turns (drop 1 cells.now) ways.step))) result }
+{
+    let found = with_turns(vars, line, cells, seen, ways, false, Found::Nothing);
+    if ways.reflect {
+        with_turns(vars, line, cells, seen, ways, true, found)
+    } else {
+        found
+    }
 }

@@ -1,11 +1,11 @@
 //! What a table makes of a cell and its neighbours.
-ghost use Rattle.std.specs.Prelude.{◌≡◌, ◌≢◌, ℕ, ◌+◌, ◌<◌, ◌≤◌, ◌∷◌, length, take, drop, map, All, MatchResult, slice_index, List, [], IsTrue};
+ghost use Rattle.std.specs.Prelude.{◌≡◌, ◌≢◌, ℕ, ◌+◌, ◌<◌, ◌≤◌, ◌∷◌, length, drop, All, MatchResult, slice_index, List, [], IsTrue, ◌-◌, ◌/◌, ◌++◌, if◌then◌else◌};
 ghost use Rattle.std.specs.List.{list_any};
 ghost use Rattle.life_table.specs.Found.{Tells, Consistent};
 ghost use Rattle.life_table.specs.Meaning.{Gives, Decides, Becomes, Ambiguous};
 ghost use Rattle.life_table.specs.Valid.{IsEntry, is_variable, neighbour_count};
 ghost use Rattle.life_table.specs.Around.{cells_of};
-ghost use Rattle.life_table.specs.Orders.{images};
+ghost use Rattle.life_table.specs.Orders.{images, turns, reflected_turns};
 ghost use Rattle.life_table.specs.Seen.{IsSeen};
 
 use crate::choose::{by_counts, can_be};
@@ -13,7 +13,7 @@ use crate::fit::by_images;
 use crate::found::Found;
 use crate::seen::Seen;
 use crate::table::{Entry, Symmetry, Table, Transition, Var};
-use crate::turn::images_of;
+use crate::turn::{Turns, turns_of};
 use life_base::{Fault, Kind, Place, State};
 
 /// A cell and its neighbours: the centre first, then from north clockwise.
@@ -35,14 +35,14 @@ impl Neighbours {
     }
 }
 
-/// The states that a line gives at one cell, whose images these are unless it decides by counts: none, one or two.
+/// The states that a line gives at one cell: none, one or two.
 pub(crate) fn given_by(
     symmetry: Symmetry,
     vars: &[Var],
     line: &Transition,
     cells: &[State],
-    turned: &[[State; 9]],
     seen: &Seen,
+    ways: Turns,
 ) -> Found
     requires count { length line.now.inputs ≡ length cells.now }
     requires some { 4 < length cells.now }
@@ -50,7 +50,9 @@ pub(crate) fn given_by(
     requires entries { All (IsEntry 256 vars.now) line.now.inputs }
     requires bound { (i : ℕ) → line.now.output ≡ Entry.Var i → IsTrue (list_any (is_variable i) line.now.inputs) }
     requires choosable { Consistent vars.now [] [] }
-    requires turned { symmetry ≢ Symmetry.Permute → map (take (length cells.now)) turned.now ≡ map (λ v. slice_index cells.now 0 ∷ v) (images symmetry (drop 1 cells.now)) }
+    requires positive { 0 < ways.step }
+    requires turns { ways.count ≡ (length cells.now - 1) / ways.step }
+    requires images { symmetry ≢ Symmetry.Permute → images symmetry (drop 1 cells.now) ≡ (if ways.reflect then turns (drop 1 cells.now) ways.step ++ reflected_turns (drop 1 cells.now) ways.step else turns (drop 1 cells.now) ways.step) }
     requires seen { IsSeen vars.now (drop 1 cells.now) seen.now }
     ensures { Tells (Gives symmetry vars.now line.now (slice_index cells.now 0) (drop 1 cells.now)) result }
 {
@@ -59,7 +61,7 @@ pub(crate) fn given_by(
     }
     match symmetry {
         Symmetry::Permute => by_counts(vars, line, cells, seen),
-        _ => by_images(vars, line, turned),
+        _ => by_images(vars, line, cells, seen, ways),
     }
 }
 
@@ -73,12 +75,11 @@ impl Table {
             (λ fault. (fault.kind ≡ Kind.Ambiguous) × Decides self.now.symmetry self.now.vars (slice_index (cells_of around.now) 0) (drop 1 (cells_of around.now)) self.now.lines (Ambiguous fault.place.line)) }
     {
         let cells = around.as_slice();
-        let images = images_of(self.symmetry, cells);
-        let turned = &images.list[..images.count];
+        let ways = turns_of(self.symmetry, cells.len() - 1);
         let vars = self.vars.as_slice();
         let seen = Seen::new(vars, &cells[1..]);
         for line in self.lines.as_slice() {
-            match given_by(self.symmetry, vars, line, cells, turned, &seen) {
+            match given_by(self.symmetry, vars, line, cells, &seen, ways) {
                 Found::Nothing => {}
                 Found::One(state) => return Ok(state),
                 Found::Two => {

@@ -1,15 +1,16 @@
 //! The turned and reflected neighbours.
-ghost use Rattle.std.specs.Prelude.{◌≡◌, ◌≢◌, ℕ, ◌+◌, ◌-◌, ◌*◌, ◌/◌, ◌<◌, ◌≤◌, ◌∷◌, ◌++◌, take, drop, map, length, slice_index, if◌then◌else◌};
+ghost use Rattle.std.specs.Prelude.{◌≡◌, ◌≢◌, ℕ, ◌/◌, ◌<◌, ◌≤◌, ◌∷◌, ◌++◌, List, take, drop, length, slice_index, if◌then◌else◌};
 ghost use Rattle.life_table.specs.Orders.{turn, turns, reflected_turn, reflected_turns, images};
 
 use crate::table::Symmetry;
 use life_base::State;
 
-/// The orders in which a symmetry lets the neighbours of a cell be read, each behind the cell itself.
+/// The turns of a symmetry: `count` of them, by the multiples of a step, and where `reflect` then those of the reflected neighbours too.
 #[derive(Clone, Copy)]
-pub(crate) struct Images {
-    pub list: [[State; 9]; 16],
+pub(crate) struct Turns {
+    pub step: usize,
     pub count: usize,
+    pub reflect: bool,
 }
 
 /// A cell with its neighbours turned by r, or reflected and then turned.
@@ -33,64 +34,25 @@ pub(crate) fn image_of(cells: &[State], reflect: bool, r: usize) -> [State; 9]
     image
 }
 
-/// Adds a cell with its neighbours turned by each multiple of a step, or reflected and then turned.
-fn with_turns(images: Images, cells: &[State], step: usize, reflect: bool) -> Images
-    requires some { 1 < length cells.now }
-    requires room { length cells.now ≤ 9 }
-    requires positive { 0 < step }
-    requires left { images.count + (length cells.now - 1) / step ≤ 16 }
-    ensures count { result.count ≡ images.count + (length cells.now - 1) / step }
-    ensures added { map (take (length cells.now)) (take result.count result.list) ≡ map (take (length cells.now)) (take images.count images.list) ++ map (λ v. slice_index cells.now 0 ∷ v) (if reflect then reflected_turns (drop 1 cells.now) step else turns (drop 1 cells.now) step) }
+/// The turns of a symmetry over `n` neighbours. Under `permute`, which decides by counts, nothing is said of them.
+pub(crate) fn turns_of(symmetry: Symmetry, n: usize) -> Turns
+    requires { 3 < n }
+    ensures positive { 0 < result.step }
+    ensures count { result.count ≡ n / result.step }
+    ensures images { symmetry ≢ Symmetry.Permute → (v : List ℕ) → length v ≡ n → images symmetry v ≡ (if result.reflect then turns v result.step ++ reflected_turns v result.step else turns v result.step) }
 {
-    let mut list = images.list;
-    let more = (cells.len() - 1) / step;
-    for k in 0..more {
-        list[images.count + k] = image_of(cells, reflect, k * step);
-    }
-    Images {
-        list,
-        count: images.count + more,
-    }
-}
-
-/// A cell with its neighbours turned by each multiple of a step, and then the reflected ones where these count too.
-fn turned(cells: &[State], step: usize, reflect: bool) -> Images
-    requires some { 1 < length cells.now }
-    requires room { length cells.now ≤ 9 }
-    requires positive { 0 < step }
-    ensures few { result.count ≤ 16 }
-    ensures turned { map (take (length cells.now)) (take result.count result.list) ≡ map (λ v. slice_index cells.now 0 ∷ v) (if reflect then turns (drop 1 cells.now) step ++ reflected_turns (drop 1 cells.now) step else turns (drop 1 cells.now) step) }
-{
-    let none = Images {
-        list: [[0; 9]; 16],
-        count: 0,
+    let (step, reflect) = match symmetry {
+        Symmetry::Identity => (n, false),
+        Symmetry::Rotate4 => (n / 4, false),
+        Symmetry::Rotate4Reflect => (n / 4, true),
+        Symmetry::ReflectHorizontal => (n, true),
+        Symmetry::Permute => (n, false),
+        Symmetry::Rotate8 => (1, false),
+        Symmetry::Rotate8Reflect => (1, true),
     };
-    let images = with_turns(none, cells, step, false);
-    if reflect {
-        with_turns(images, cells, step, true)
-    } else {
-        images
-    }
-}
-
-/// The images of a cell's neighbours; none under `permute`, which decides by counts.
-pub(crate) fn images_of(symmetry: Symmetry, cells: &[State]) -> Images
-    requires some { 4 < length cells.now }
-    requires room { length cells.now ≤ 9 }
-    ensures few { result.count ≤ 16 }
-    ensures images { symmetry ≢ Symmetry.Permute → map (take (length cells.now)) (take result.count result.list) ≡ map (λ v. slice_index cells.now 0 ∷ v) (images symmetry (drop 1 cells.now)) }
-{
-    let n = cells.len() - 1;
-    match symmetry {
-        Symmetry::Identity => turned(cells, n, false),
-        Symmetry::Rotate4 => turned(cells, n / 4, false),
-        Symmetry::Rotate4Reflect => turned(cells, n / 4, true),
-        Symmetry::ReflectHorizontal => turned(cells, n, true),
-        Symmetry::Permute => Images {
-            list: [[0; 9]; 16],
-            count: 0,
-        },
-        Symmetry::Rotate8 => turned(cells, 1, false),
-        Symmetry::Rotate8Reflect => turned(cells, 1, true),
+    Turns {
+        step,
+        count: n / step,
+        reflect,
     }
 }

@@ -1,10 +1,10 @@
-use Rattle.std.proofs.Common.{◌≡◌, ◌∷◌, drop, length, map, take, get_or, true, false, ap, sym, ◌∙◌, subst, slice_index, arith}
+use Rattle.std.proofs.Common.{◌≡◌, ◌∷◌, drop, map, get_or, true, false, ap, sym, ◌∙◌, subst, slice_index, arith}
 use Rattle.life_table.specs.Found.{Tells}
 use Rattle.life_table.specs.Meaning.{Gives, state_of}
 use Rattle.life_table.specs.declared.table.Symmetry.{Symmetry}
 use Rattle.life_table.specs.declared.table.Entry.TheVariants as entries
 use Rattle.life_table.proofs.Fitting.{input_is}
-use Rattle.life_table.proofs.Images.{tells_images, tells_permute}
+use Rattle.life_table.proofs.Images.{family, tells_images, tells_permute}
 use Rattle.life_table.proofs.next.given_by.Goals as goal
 
 pub returns-then-not-can_be : goal.returns-then-not-can_be
@@ -21,5 +21,6 @@ returns-in-Permute c =
 
 pub returns-in_default : goal.returns-in_default
 returns-in_default c =
-    tells_images c.args.symmetry c.args.vars.now c.args.line.now (slice_index c.args.cells.now 0) (drop 1 c.args.cells.now) (map (take (length c.args.line.now.inputs)) c.args.turned.now) c.by_images.result
-    (ap (λ n. map (take n) c.args.turned.now) c.requires.count ∙ c.requires.turned c.in_default.not-Permute) c.by_images.ensures
+    tells_images c.args.symmetry c.args.vars.now c.args.line.now (slice_index c.args.cells.now 0) (drop 1 c.args.cells.now)
+    (map (λ v. slice_index c.args.cells.now 0 ∷ v) (family c.args.ways.reflect c.args.ways.step (drop 1 c.args.cells.now))) c.by_images.result
+    (ap (map (λ v. slice_index c.args.cells.now 0 ∷ v)) (sym (c.requires.images c.in_default.not-Permute))) c.by_images.ensures
