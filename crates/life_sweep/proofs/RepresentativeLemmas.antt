@@ -1,24 +1,19 @@
 -- Neighbours whose images are the same have the same answers.
-use Rattle.std.proofs.Common.{◌≡◌, ℕ, ◌<◌, List, [], ◌∷◌, drop, length, get_or, sym, ◌∙◌, subst, inl, inr, arith}
+use Rattle.std.proofs.Common.{◌≡◌, ℕ, ◌<◌, List, [], ◌∷◌, ◌++◌, drop, length, get_or, sym, ◌∙◌, subst, inl, inr, arith}
 use Rattle.std.specs.Prelude.{All, Contains, ◌↔◌, nat_eq, cond, slice_index}
 use Rattle.std.specs.List.Sorted.{IsPermutation}
-use Rattle.std.proofs.lemmas.List.Elements.{All-cons, All-tail}
+use Rattle.std.proofs.lemmas.List.Elements.{All-cons, All-tail, Contains-append_left, Contains-append_right, Contains-append_cases}
 use Rattle.std.proofs.lemmas.List.Sorted.{sum_by-IsPermutation, All-permutation}
-use Rattle.life_table.specs.Orders.{images}
 use Rattle.life_table.specs.Meaning.{Gives, GivesNothing, LineAnswers, Answer, Becomes, Ambiguous, Decides, count_of}
 use Rattle.life_table.proofs.LawProofs.{orders_law}
 use Rattle.life_table.specs.declared.table.Table.{Table}
 use Rattle.life_table.specs.declared.table.Symmetry.{Symmetry}
-use Rattle.life_table.specs.declared.table.Symmetry.TheVariants.{Permute}
+use Rattle.life_table.specs.declared.table.Symmetry.TheVariants.{Permute, Rotate4}
 use Rattle.life_table.specs.declared.table.Neighborhood.{Neighborhood}
 use Rattle.life_table.specs.declared.table.Neighborhood.TheVariants.{Moore}
 use Rattle.life_table.specs.declared.table.Var.{Var}
 use Rattle.life_table.specs.declared.table.Transition.{Transition}
-use Rattle.life_sweep.specs.Sweep.{TableAnswers, named}
-
--- each order in which the one list may be read is one of the other's
-abbrev pub SameImages : Symmetry → List ℕ → List ℕ → Type 0
-SameImages symmetry v w = (image : List ℕ) → Contains (images symmetry v) image ↔ Contains (images symmetry w) image
+use Rattle.life_sweep.specs.Sweep.{SameImages, TableAnswers, named}
 
 pub images_back : (symmetry : Symmetry) (v w : List ℕ) → SameImages symmetry v w → SameImages symmetry w v
 images_back symmetry v w h image = let k = h image in (k.1, k.0)
@@ -109,3 +104,38 @@ moved_all n (c ∷ v) (d ∷ w) lv lw centre moved all =
     (All-permutation (λ s. s < n) v w moved (All-tail (λ s. s < n) c v all))
 moved_all n [] w lv lw centre moved all = absurd (omega (arith, lv))
 moved_all n v [] lv lw centre moved all = absurd (omega (arith, lw))
+
+pub same_both : (symmetry : Symmetry) (u v w : List ℕ) → SameImages symmetry u v → SameImages symmetry v w → SameImages symmetry u w
+same_both symmetry u v w one other image =
+    let a = one image in
+    let b = other image in
+    (λ h. b.0 (a.0 h), λ h. a.1 (b.1 h))
+
+-- the same cell with its neighbours turned
+pub record IsTurnOf (v w : List ℕ) : Type 0 where
+  pub centre : slice_index w 0 ≡ slice_index v 0
+  pub same : SameImages Rotate4 (drop 1 v) (drop 1 w)
+  pub states : (n : ℕ) → All (λ s. s < n) v → All (λ s. s < n) w
+
+-- the first of a list stands last as well
+first_last : (x : List ℕ) (xs : List (List ℕ)) (image : List ℕ) → Contains (x ∷ xs) image ↔ Contains (xs ++ x ∷ []) image
+first_last x xs image = (
+  λ h. elim (Contains-append_cases (x ∷ []) xs image h) [
+    | inl here ↦ Contains-append_right xs (x ∷ []) image here
+    | inr there ↦ Contains-append_left xs (x ∷ []) image there
+  ],
+  λ h. elim (Contains-append_cases xs (x ∷ []) image h) [
+    | inl there ↦ Contains-append_right (x ∷ []) xs image there
+    | inr here ↦ Contains-append_left (x ∷ []) xs image here
+  ],
+)
+
+pub quarter : (v : List ℕ) → length v ≡ 9
+    → SameImages Rotate4 (drop 1 v) (get_or v 3 0 ∷ get_or v 4 0 ∷ get_or v 5 0 ∷ get_or v 6 0 ∷ get_or v 7 0 ∷ get_or v 8 0 ∷ get_or v 1 0 ∷ get_or v 2 0 ∷ [])
+quarter (z ∷ a ∷ b ∷ c ∷ d ∷ e ∷ f ∷ g ∷ h ∷ []) len image =
+    first_last (a ∷ b ∷ c ∷ d ∷ e ∷ f ∷ g ∷ h ∷ []) ((c ∷ d ∷ e ∷ f ∷ g ∷ h ∷ a ∷ b ∷ []) ∷ (e ∷ f ∷ g ∷ h ∷ a ∷ b ∷ c ∷ d ∷ []) ∷ (g ∷ h ∷ a ∷ b ∷ c ∷ d ∷ e ∷ f ∷ []) ∷ []) image
+quarter v len image = absurd (omega (arith, len))
+
+pub same_turned : (table : Table) (v w : List ℕ) → table.neighborhood ≡ Moore → table.symmetry ≡ Rotate4 → slice_index w 0 ≡ slice_index v 0 → SameImages Rotate4 (drop 1 v) (drop 1 w) → (answer : Answer) → TableAnswers table w answer ↔ TableAnswers table v answer
+same_turned table v w is turns centre same answer =
+    same_answers table v w centre (same_fixed table v w Moore is (subst (λ y. SameImages y (drop 1 v) (drop 1 w)) (sym turns) same)) answer

@@ -1,7 +1,9 @@
 -- What a sweep has done: the next states of the places before one are drawn.
-use Rattle.std.specs.Prelude.{◌≡◌, ◌≢◌, ◌⊎◌, ℕ, Bool, true, false, List, [], ◌∷◌, ℤ, ◌<ℤ◌, ◌≤ℤ◌, drop, slice_index, length, All, ◌^◌}
+use Rattle.std.specs.Prelude.{◌≡◌, ◌≢◌, ◌⊎◌, ℕ, Bool, true, false, List, [], ◌∷◌, ℤ, ◌<ℤ◌, ◌≤ℤ◌, drop, slice_index, length, All, Contains, ◌↔◌, ◌^◌}
 use Rattle.life_base.specs.Sets.{DigitSets}
 use Rattle.life_strip.specs.Given.{GivenRun, IsNext, IsOnPlane}
+use Rattle.life_table.specs.Orders.{images}
+use Rattle.life_table.specs.declared.table.Symmetry.{Symmetry}
 use Rattle.life_table.specs.Meaning.{Answer, Becomes, Ambiguous, Decides, count_of}
 use Rattle.life_table.specs.declared.table.Table.{Table}
 use Rattle.life_table.specs.declared.table.Neighborhood.{Neighborhood}
@@ -36,6 +38,10 @@ LifeAnswers neighborhood sets states answer = answer ≡ Becomes (next_by_count 
 -- the answer of a table
 abbrev pub TableAnswers : Table → List ℕ → Answer → Type 0
 TableAnswers table states answer = Decides table.symmetry table.vars (slice_index states 0) (named table.neighborhood states) table.lines answer
+
+-- each order in which a symmetry lets the one list be read is one of the other's
+abbrev pub SameImages : Symmetry → List ℕ → List ℕ → Type 0
+SameImages symmetry v w = (image : List ℕ) → Contains (images symmetry v) image ↔ Contains (images symmetry w) image
 
 -- what is remembered is what the table answers
 abbrev pub IsKnown : Table → Known → Type 0

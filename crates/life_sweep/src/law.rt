@@ -1,11 +1,12 @@
 //! What a cell becomes.
-ghost use Rattle.std.specs.Prelude.{◌≡◌, ℕ, ◌<◌, ◌≤◌, false, All, IfOk, IfErr, List, drop, length, slice_index};
+ghost use Rattle.std.specs.Prelude.{◌≡◌, ℕ, ◌<◌, ◌≤◌, ◌↔◌, false, All, IfOk, IfErr, List, drop, length, slice_index};
 ghost use Rattle.std.specs.List.Sorted.{IsPermutation};
 ghost use Rattle.std.proofs.Props.{props};
 ghost use Rattle.life_table.specs.Meaning.{Answer, Becomes, Ambiguous, count_of};
 ghost use Rattle.life_base.specs.Rules.{has_digit};
 ghost use Rattle.life_table.specs.declared.table.Neighborhood.TheVariants.{VonNeumann, Moore};
-ghost use Rattle.life_sweep.specs.Sweep.{LifeAnswers, TableAnswers, named};
+ghost use Rattle.life_table.specs.declared.table.Symmetry.TheVariants.{Rotate4};
+ghost use Rattle.life_sweep.specs.Sweep.{SameImages, LifeAnswers, TableAnswers, named};
 ghost use Rattle.life_sweep.specs.LawFacts.{two_positive, life_quiet, life_one, table_positive, table_quiet, table_one};
 
 use life_base::{Fault, Kind, LifeRule, State};
@@ -124,13 +125,19 @@ impl<'a> Model for ByTable<'a> {
 // How many neighbourhoods are remembered.
 const PLACES: usize = 1 << 16;
 
+// The states of the neighbours as digits of a number.
+fn neighbours_as_number(around: &[State; 9]) -> u64 {
+    let [_, n1, n2, n3, n4, n5, n6, n7, n8] = *around;
+    u64::from_le_bytes([n1, n2, n3, n4, n5, n6, n7, n8])
+}
+
 // Where a neighbourhood is remembered, if it is.
 fn place_of(around: &[State; 9]) -> usize
     ensures { result < PLACES }
 {
-    let [centre, n1, n2, n3, n4, n5, n6, n7, n8] = *around;
-    let neighbours = u64::from_le_bytes([n1, n2, n3, n4, n5, n6, n7, n8]);
-    let hash = (neighbours ^ (centre as u64) << 29).wrapping_mul(0x9E37_79B9_7F4A_7C15);
+    let hash = (neighbours_as_number(around) ^ (around[0] as u64) << 29).wrapping_mul(
+        0x9E37_79B9_7F4A_7C15,
+    );
     (hash >> 48) as usize
 }
 
@@ -157,8 +164,35 @@ fn in_order(around: &[State; 9]) -> [State; 9]
     [centre, n1, n2, n3, n4, n5, n6, n7, n8]
 }
 
-// A neighbourhood for which the table has the same answer. It stands for all those that differ in cells at which the table doesn't look, or, under
-// `permute`, in the order of the neighbours.
+// A quarter turn: the neighbours from the third on, and then the first two.
+fn quarter_turn(around: &[State; 9]) -> [State; 9]
+    ensures centre { slice_index result 0 ≡ slice_index around.now 0 }
+    ensures same { SameImages Rotate4 (drop 1 around.now) (drop 1 result) }
+    ensures states { (n : ℕ) → All (λ s. s < n) around.now → All (λ s. s < n) result }
+{
+    let [centre, n1, n2, n3, n4, n5, n6, n7, n8] = *around;
+    [centre, n3, n4, n5, n6, n7, n8, n1, n2]
+}
+
+// The one of the quarter turns whose neighbours are the least number.
+fn least_turn(around: &[State; 9]) -> [State; 9]
+    ensures centre { slice_index result 0 ≡ slice_index around.now 0 }
+    ensures same { SameImages Rotate4 (drop 1 around.now) (drop 1 result) }
+    ensures states { (n : ℕ) → All (λ s. s < n) around.now → All (λ s. s < n) result }
+{
+    let mut turned = *around;
+    let mut least = *around;
+    for _ in 0..3 {
+        turned = quarter_turn(&turned);
+        if neighbours_as_number(&turned) < neighbours_as_number(&least) {
+            least = turned;
+        }
+    }
+    least
+}
+
+// A neighbourhood for which the table has the same answer. It stands for all those that differ in cells at which the table doesn't look, under
+// `permute` in the order of the neighbours, and under `rotate4` by a quarter turn.
 fn representative(table: &Table, around: &[State; 9]) -> [State; 9]
     requires { All (λ s. s < table.now.n_states) around.now }
     ensures states { All (λ s. s < table.now.n_states) result }
@@ -168,6 +202,7 @@ fn representative(table: &Table, around: &[State; 9]) -> [State; 9]
         Neighborhood::VonNeumann => without_corners(around),
         Neighborhood::Moore => match table.symmetry {
             Symmetry::Permute => in_order(around),
+            Symmetry::Rotate4 => least_turn(around),
             _ => *around,
         },
     }
