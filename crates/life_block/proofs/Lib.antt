@@ -3,4 +3,5 @@ pub mod CountLemmas
 pub mod GenerationLemmas
 pub mod PieceLemmas
 pub mod RootLemmas
+pub mod Rows
 pub mod WordLemmas

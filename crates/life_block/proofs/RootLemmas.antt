@@ -1,5 +1,5 @@
 -- A square about the middle of the plane, its pieces, and the four corners of the square one level higher.
-use Rattle.std.proofs.Common.{◌≡◌, ◌⊎◌, inl, inr, ℕ, zero, suc, ◌+◌, ◌-◌, ◌^◌, ◌<◌, ◌≤◌, Bool, true, false, true≢false, ℤ, pos, neg_ℤ, ◌+ℤ◌, ◌≤ℤ◌, ◌<ℤ◌, Result, Ok, Err, IfOk, refl, sym, ◌∙◌, ap, subst, arith}
+use Rattle.std.proofs.Common.{◌≡◌, inl, inr, ℕ, zero, suc, ◌+◌, ◌-◌, ◌^◌, ◌<◌, ◌≤◌, Bool, true, false, true≢false, ℤ, pos, neg_ℤ, ◌+ℤ◌, ◌≤ℤ◌, ◌<ℤ◌, refl, sym, ◌∙◌, ap, subst, arith}
 use Rattle.std.proofs.lemmas.Int.{ints}
 use Rattle.std.proofs.lemmas.Bool.{cases_lt}
 use Rattle.std.proofs.Math.Pow.{pow_pos}
@@ -9,10 +9,9 @@ use Rattle.life_base.specs.Tree.{Tree, point, quad, depth, blank, state_at, half
 use Rattle.life_base.proofs.Squares.{at_nw, at_ne, at_sw, at_se, Inside, is_inside, inside_facts, inside_test, inside_offset, cell_inside, cell_outside}
 use Rattle.life_quad.specs.declared.id.Id.{Id}
 use Rattle.life_quad.specs.declared.moves.Quarters.{Quarters}
-use Rattle.life_sweep.specs.Around.{before, after, eight_around}
+use Rattle.life_sweep.specs.Around.{eight_around}
 use Rattle.life_sweep.specs.Generation.{next_life}
-use Rattle.life_block.specs.declared.grid.Sixteen.{Sixteen}
-use Rattle.life_block.specs.Pieces.{IsPiece, IsAt, InFour, InSixteen, AreFour, AreSixteen, back, ahead, four_of}
+use Rattle.life_block.specs.Pieces.{IsPiece, IsAt, InFour, InSixteen, AreFour, AreSixteen, back, ahead, four_of, at_north_west, at_north_east, at_south_west, at_south_east}
 use Rattle.life_block.proofs.PieceLemmas.{IsPiece-moved, AreFour-moved, blank-of_zero, next-zero}
 
 double : (n : ℕ) → 2 ^ suc n ≡ 2 ^ n + 2 ^ n
@@ -217,23 +216,6 @@ alone-root t =
       east = λ x y l. cell-outside t x y (λ i. omega (arith, ints, i.east, l));
       south = λ x y l. cell-outside t x y (λ i. omega (arith, ints, i.south, l));
     }
-
--- the sixteen squares around each corner
-abbrev pub at_south_east : Quarters → Id → Sixteen
-at_south_east q b =
-    record { far_north = four_of b b b b; north = four_of b b b b; south = four_of b b q.nw q.ne; far_south = four_of b b q.sw q.se }
-
-abbrev pub at_south_west : Quarters → Id → Sixteen
-at_south_west q b =
-    record { far_north = four_of b b b b; north = four_of b b b b; south = four_of q.nw q.ne b b; far_south = four_of q.sw q.se b b }
-
-abbrev pub at_north_east : Quarters → Id → Sixteen
-at_north_east q b =
-    record { far_north = four_of b b q.nw q.ne; north = four_of b b q.sw q.se; south = four_of b b b b; far_south = four_of b b b b }
-
-abbrev pub at_north_west : Quarters → Id → Sixteen
-at_north_west q b =
-    record { far_north = four_of q.nw q.ne b b; north = four_of q.sw q.se b b; south = four_of b b b b; far_south = four_of b b b b }
 
 module _ (knows : Id → Type 0) (content : Id → Tree) (cells : ℤ → ℤ → ℕ) (k : ℕ) (start : ℤ) (q : Quarters) (b : Id) (h : AreQuarters knows content cells k start q b) where
   pub known-north_west : InSixteen (IsAt knows content k) (at_north_west q b)

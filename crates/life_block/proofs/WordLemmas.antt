@@ -6,7 +6,7 @@ use Rattle.std.specs.Int.Bits.{bit_and, bit_or}
 use Rattle.std.specs.Int.RustNames.{bit_xor}
 use Rattle.std.proofs.lemmas.Nat.{shr-shr}
 use Rattle.std.proofs.Math.Nat.{add_comm}
-use Rattle.std.proofs.lemmas.Nat.Bits.{bit_at_and, bit_at_or, bit_at_xor, bit_at_not, bit_at_ones, bit_at-lt}
+use Rattle.std.proofs.lemmas.Nat.Bits.{bit_at_and, bit_at_or, bit_at_xor, bit_at_not, bit_at-lt}
 
 -- the two digits of a sum of three bits
 digits : (a b c : ℕ) → a < 2 → b < 2 → c < 2 → (((a + b) % 2 + c) % 2) + 2 * (max (min a b) (min ((a + b) % 2) c)) ≡ a + b + c
@@ -37,9 +37,6 @@ sum-digits a b c i =
 -- shifted to the right
 pub bit-shr : (n k i : ℕ) → bit_at (n / 2 ^ k) i ≡ bit_at n (i + k)
 bit-shr n k i = ap (λ z. z % 2) (shr-shr n k i) ∙ ap (λ z. bit_at n z) (add_comm k i)
-
-bit-next : (n i : ℕ) → bit_at (n / 2 ^ 1) i ≡ bit_at n (i + 1)
-bit-next n i = bit-shr n 1 i
 
 -- the digits of a number below 16, each by its place
 pub binary : (p q r s n : ℕ) → p < 2 → q < 2 → r < 2 → s < 2 → p + 2 * q + 4 * r + 8 * s ≡ n → (p ≡ n % 2) × (q ≡ n / 2 % 2) × (r ≡ n / 4 % 2) × (s ≡ n / 8)

@@ -2,6 +2,7 @@
 use Rattle.std.specs.Prelude.{◌≡◌, ℕ, ◌^◌, ◌<◌, ℤ, pos, neg_ℤ, ◌+ℤ◌}
 use Rattle.life_base.specs.Tree.{Tree, point, quad, depth}
 use Rattle.life_quad.specs.declared.id.Id.{Id}
+use Rattle.life_quad.specs.declared.moves.Quarters.{Quarters}
 use Rattle.life_block.specs.declared.grid.Three.{Three}
 use Rattle.life_block.specs.declared.grid.Nine.{Nine}
 use Rattle.life_block.specs.declared.grid.Four.{Four}
@@ -49,6 +50,23 @@ south_west_of s = record { north = western s.north; middle = western s.south; so
 
 abbrev pub south_east_of : Sixteen → Nine
 south_east_of s = record { north = eastern s.north; middle = eastern s.south; south = eastern s.far_south }
+
+-- four quarters in one corner of sixteen squares that are another square everywhere else
+abbrev pub at_south_east : Quarters → Id → Sixteen
+at_south_east q b =
+    record { far_north = four_of b b b b; north = four_of b b b b; south = four_of b b q.nw q.ne; far_south = four_of b b q.sw q.se }
+
+abbrev pub at_south_west : Quarters → Id → Sixteen
+at_south_west q b =
+    record { far_north = four_of b b b b; north = four_of b b b b; south = four_of q.nw q.ne b b; far_south = four_of q.sw q.se b b }
+
+abbrev pub at_north_east : Quarters → Id → Sixteen
+at_north_east q b =
+    record { far_north = four_of b b q.nw q.ne; north = four_of b b q.sw q.se; south = four_of b b b b; far_south = four_of b b b b }
+
+abbrev pub at_north_west : Quarters → Id → Sixteen
+at_north_west q b =
+    record { far_north = four_of q.nw q.ne b b; north = four_of q.sw q.se b b; south = four_of b b b b; far_south = four_of b b b b }
 
 -- a known square of this level
 pub record IsAt (knows : Id → Type 0) (content : Id → Tree) (k : ℕ) (id : Id) : Type 0 where

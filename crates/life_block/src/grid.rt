@@ -1,6 +1,6 @@
 //! Squares of one level side by side.
 ghost use Rattle.std.specs.Prelude.{◌≡◌, ℕ, ℤ, ◌+◌, ◌^◌, ◌≤◌, true};
-ghost use Rattle.life_block.specs.Pieces.{IsAt, InThree, InNine, InFour, InSixteen, AreThree, AreNine, AreFour, AreSixteen, ahead, four_of, western as western_of, eastern as eastern_of, north_west_of, north_east_of, south_west_of, south_east_of};
+ghost use Rattle.life_block.specs.Pieces.{IsAt, InThree, InNine, InFour, InSixteen, AreThree, AreNine, AreFour, AreSixteen, ahead, four_of, western as western_of, eastern as eastern_of, north_west_of, north_east_of, south_west_of, south_east_of, at_north_west, at_north_east, at_south_west, at_south_east};
 
 use life_quad::{Id, Quarters, Squares, divide};
 
@@ -164,7 +164,7 @@ impl Four {
 impl Sixteen {
     /// Four quarters in the north-western corner, and another square everywhere else.
     pub(crate) fn in_north_west(quarters: Quarters, other: Id) -> Sixteen
-        ensures { result ≡ record { far_north = four_of quarters.nw quarters.ne other other; north = four_of quarters.sw quarters.se other other; south = four_of other other other other; far_south = four_of other other other other } }
+        ensures { result ≡ at_north_west quarters other }
     {
         Sixteen {
             far_north: Four::at_west_end(other, quarters.nw, quarters.ne),
@@ -176,7 +176,7 @@ impl Sixteen {
 
     /// Four quarters in the north-eastern corner.
     pub(crate) fn in_north_east(quarters: Quarters, other: Id) -> Sixteen
-        ensures { result ≡ record { far_north = four_of other other quarters.nw quarters.ne; north = four_of other other quarters.sw quarters.se; south = four_of other other other other; far_south = four_of other other other other } }
+        ensures { result ≡ at_north_east quarters other }
     {
         Sixteen {
             far_north: Four::at_east_end(other, quarters.nw, quarters.ne),
@@ -188,7 +188,7 @@ impl Sixteen {
 
     /// Four quarters in the south-western corner.
     pub(crate) fn in_south_west(quarters: Quarters, other: Id) -> Sixteen
-        ensures { result ≡ record { far_north = four_of other other other other; north = four_of other other other other; south = four_of quarters.nw quarters.ne other other; far_south = four_of quarters.sw quarters.se other other } }
+        ensures { result ≡ at_south_west quarters other }
     {
         Sixteen {
             far_north: Four::of(other),
@@ -200,7 +200,7 @@ impl Sixteen {
 
     /// Four quarters in the south-eastern corner.
     pub(crate) fn in_south_east(quarters: Quarters, other: Id) -> Sixteen
-        ensures { result ≡ record { far_north = four_of other other other other; north = four_of other other other other; south = four_of other other quarters.nw quarters.ne; far_south = four_of other other quarters.sw quarters.se } }
+        ensures { result ≡ at_south_east quarters other }
     {
         Sixteen {
             far_north: Four::of(other),

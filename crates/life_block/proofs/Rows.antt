@@ -1,0 +1,38 @@
+-- Worked examples, computed.
+use Rattle.std.specs.Prelude.{◌≡◌, ℕ, ℤ, pos, negsuc, List, [], ◌∷◌, refl, ◌&&◌, int_le, if◌then◌else◌}
+use Rattle.life_base.specs.Tree.{point, quad}
+use Rattle.life_block.specs.Bits.{neighbours_in, count_at}
+use Rattle.life_block.specs.Pieces.{IsPiece, back, ahead}
+
+-- the cells of a diagonal
+abbrev diagonal : ℤ → ℤ → ℕ
+diagonal x y = if int_le x y && int_le y x then 1 else 0
+
+cell : IsPiece diagonal (negsuc 0) (negsuc 0) (point 1)
+cell = refl
+
+square : IsPiece diagonal (pos 3) (pos 3) (quad (point 1) (point 0) (point 0) (point 1))
+square = (refl, refl, refl, refl)
+
+further_east : IsPiece diagonal (pos 3) (pos 2) (quad (point 0) (point 0) (point 1) (point 0))
+further_east = (refl, refl, refl, refl)
+
+larger : IsPiece diagonal (negsuc 1) (pos 0) (quad (quad (point 0) (point 0) (point 0) (point 0)) (quad (point 1) (point 0) (point 0) (point 1)) (quad (point 0) (point 0) (point 0) (point 0)) (quad (point 0) (point 0) (point 0) (point 0)))
+larger = ((refl, refl, refl, refl), (refl, refl, refl, refl), (refl, refl, refl, refl), (refl, refl, refl, refl))
+
+two_west : back (pos 1) 2 ≡ negsuc 0
+two_west = refl
+
+two_east : ahead (negsuc 0) 2 ≡ pos 1
+two_east = refl
+
+-- three rows of three cells, whose north-eastern and western ones are alive
+around : neighbours_in (record { north = 4; here = 1; south = 0 }) 0 ≡ 0 ∷ 1 ∷ 0 ∷ 0 ∷ 0 ∷ 0 ∷ 1 ∷ 0 ∷ []
+around = refl
+
+-- 3 in the first column, 4 in the second
+three : count_at (record { ones = 1; twos = 1; fours = 2; eights = 0 }) 0 ≡ 3
+three = refl
+
+four : count_at (record { ones = 1; twos = 1; fours = 2; eights = 0 }) 1 ≡ 4
+four = refl
