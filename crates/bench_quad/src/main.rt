@@ -53,30 +53,37 @@ fn measure<S: SharedSquares>(alloc: Global, squares: &mut S) -> Result<(u128, bo
     Ok((number, bounds(alloc, squares, id)?.is_some()))
 }
 
+// Times that many joins.
+fn time_joins(rt: HostRuntime, squares: &mut Shared, name: &str) -> io::Result<()> {
+    let start = Instant::now(&rt)?;
+    let joined = fill(squares, JOINS).is_ok();
+    let spent = start.elapsed(&rt)?;
+    println!(rt; "{name} joins {joined}, nodes {}", squares.len())?;
+    eprintln!(rt; "{name} joins: {} ms", spent.as_millis())
+}
+
+// Times runs in 10,000 rows.
+fn time_runs(rt: HostRuntime, squares: &mut Shared) -> io::Result<()> {
+    let start = Instant::now(&rt)?;
+    let put = put_runs(squares, 10_000).is_ok();
+    let spent = start.elapsed(&rt)?;
+    println!(rt; "runs {put}")?;
+    eprintln!(rt; "runs: {} ms, nodes {}", spent.as_millis(), squares.len())
+}
+
+// Times the count and the box of a square of 2^60 columns.
+fn time_measures(rt: HostRuntime, squares: &mut Shared) -> io::Result<()> {
+    let start = Instant::now(&rt)?;
+    let (number, has_box) = measure(rt.alloc(), squares).unwrap_or((0, false));
+    let spent = start.elapsed(&rt)?;
+    println!(rt; "full square {number} {has_box}")?;
+    eprintln!(rt; "full square: {} ms", spent.as_millis())
+}
+
 fn main(rt: HostRuntime) -> io::Result<()> {
     let mut squares = Shared::new(rt.alloc(), 1 << 31);
-    let start = Instant::now(&rt)?;
-    let fresh = fill(&mut squares, JOINS).is_ok();
-    println!(rt; "fresh joins {fresh}, nodes {}", squares.len())?;
-    eprintln!(rt; "fresh joins: {} ms", start.elapsed(&rt)?.as_millis())?;
-
-    let start = Instant::now(&rt)?;
-    let found = fill(&mut squares, JOINS).is_ok();
-    println!(rt; "found joins {found}, nodes {}", squares.len())?;
-    eprintln!(rt; "found joins: {} ms", start.elapsed(&rt)?.as_millis())?;
-
-    let start = Instant::now(&rt)?;
-    let runs = put_runs(&mut squares, 10_000).is_ok();
-    println!(rt; "runs {runs}")?;
-    eprintln!(rt;
-        "runs: {} ms, nodes {}",
-        start.elapsed(&rt)?.as_millis(),
-        squares.len()
-    )?;
-
-    let start = Instant::now(&rt)?;
-    let (number, has_box) = measure(rt.alloc(), &mut squares).unwrap_or((0, false));
-    println!(rt; "full square {number} {has_box}")?;
-    eprintln!(rt; "full square: {} ms", start.elapsed(&rt)?.as_millis())?;
-    Ok(())
+    time_joins(rt, &mut squares, "fresh")?;
+    time_joins(rt, &mut squares, "found")?;
+    time_runs(rt, &mut squares)?;
+    time_measures(rt, &mut squares)
 }
