@@ -9,6 +9,11 @@ mod runs;
 mod stores;
 
 use life_base::{Fault, Kind, Place};
+use life_canon::canon;
+use life_quad::Shared;
+use std::alloc::Global;
+use std::process::Abort;
+use std::test::Fail;
 
 const GLIDER: &[u8] = b"x = 3, y = 3, rule = B3/S23\nbo$2bo$3o!\n";
 
@@ -73,6 +78,19 @@ const GLIDER_OPEN: &[u8] = b"x = 3, y = 3, rule = B3/S23\nbo$2bo$3o";
 
 /// More squares than a store may hold in these tests.
 const ROOM: u64 = 1 << 31;
+
+/// The file has this canonical text.
+fn has_text(
+    rt: &impl Abort,
+    alloc: Global,
+    store: &mut Shared,
+    input: &[u8],
+    text: &[u8],
+) -> Result<(), Fail> {
+    let out = canon(alloc, store, input)?;
+    assert_eq!(rt; out.as_slice(), text);
+    Ok(())
+}
 
 /// A fault of this kind at this line.
 fn fault(line: u64, kind: Kind) -> Fault {

@@ -3,8 +3,8 @@
 use super::{
     BLANK, BLANK_TEXT, CELL, CELL_TEXT, CORNER, GLIDER, GLIDER_CRLF, GLIDER_OPEN, GLIDER_TEXT,
     LEVELS, PAIR, PAIR_TEXT, REPEATS, ROOM, ROW, TOWER, TURNED, TURNED_TEXT, WIRES, WIRES_TEXT,
+    has_text,
 };
-use life_canon::canon;
 use life_quad::Shared;
 use std::alloc::Global;
 use std::process::Abort;
@@ -12,13 +12,8 @@ use std::test::Fail;
 
 /// The file has this canonical text, and so has the text.
 fn canonical(rt: &impl Abort, alloc: Global, input: &[u8], text: &[u8]) -> Result<(), Fail> {
-    let mut store = Shared::new(alloc, ROOM);
-    let out = canon(alloc, &mut store, input)?;
-    assert_eq!(rt; out.as_slice(), text);
-    let mut other = Shared::new(alloc, ROOM);
-    let again = canon(alloc, &mut other, text)?;
-    assert_eq!(rt; again.as_slice(), text);
-    Ok(())
+    has_text(rt, alloc, &mut Shared::new(alloc, ROOM), input, text)?;
+    has_text(rt, alloc, &mut Shared::new(alloc, ROOM), text, text)
 }
 
 #[test]

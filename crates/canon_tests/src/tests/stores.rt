@@ -3,9 +3,9 @@
 
 use super::{
     BLANK, BLANK_TEXT, CELL, CELL_TEXT, GLIDER, GLIDER_TEXT, PAIR, PAIR_TEXT, REPEATS, ROOM, TOWER,
-    WIRES, WIRES_TEXT, fault,
+    WIRES, WIRES_TEXT, fault, has_text,
 };
-use life_base::Kind;
+use life_base::{Fault, Kind};
 use life_canon::{canon, same, show, to_rle};
 use life_quad::Shared;
 use std::alloc::Global;
@@ -16,10 +16,8 @@ use std::test::Fail;
 fn a_store_without_room_takes_a_blank_pattern(rt: HostRuntime) -> Result<(), Fail> {
     let alloc = rt.alloc();
     let mut none = Shared::new(alloc, 0);
-    let blank = canon(alloc, &mut none, BLANK)?;
-    assert_eq!(rt; blank.as_slice(), BLANK_TEXT);
-    let blank = canon(alloc, &mut none, b"[M2]\n")?;
-    assert_eq!(rt; blank.as_slice(), BLANK_TEXT);
+    has_text(&rt, alloc, &mut none, BLANK, BLANK_TEXT)?;
+    has_text(&rt, alloc, &mut none, b"[M2]\n", BLANK_TEXT)?;
     assert_eq!(rt;
         canon(alloc, &mut none, CELL).err(),
         Some(fault(0, Kind::Full))
@@ -27,22 +25,34 @@ fn a_store_without_room_takes_a_blank_pattern(rt: HostRuntime) -> Result<(), Fai
     Ok(())
 }
 
-/// A store whose limit is what the file needs is full behind it, and takes the file and a blank pattern again by every call.
-fn fits(rt: &impl Abort, alloc: Global, input: &[u8], text: &[u8]) -> Result<(), Fail> {
+/// How many squares a store holds behind the file.
+fn room_of(alloc: Global, input: &[u8]) -> Result<u64, Fault> {
     let mut large = Shared::new(alloc, ROOM);
     let _text = canon(alloc, &mut large, input)?;
-    let mut store = Shared::new(alloc, large.len().min(ROOM));
-    let first = canon(alloc, &mut store, input)?;
-    assert_eq!(rt; first.as_slice(), text);
+    Ok(large.len())
+}
+
+/// The store is full behind the file, and takes it and a blank pattern again by every call.
+fn is_filled(
+    rt: &impl Abort,
+    alloc: Global,
+    store: &mut Shared,
+    input: &[u8],
+    text: &[u8],
+) -> Result<(), Fail> {
+    has_text(rt, alloc, store, input, text)?;
     assert_eq!(rt; store.len(), store.limit());
-    let again = canon(alloc, &mut store, input)?;
-    assert_eq!(rt; again.as_slice(), text);
-    assert!(rt; same(alloc, &mut store, input, input)?);
-    let _shown = show(alloc, &mut store, input)?;
-    let _written = to_rle(alloc, &mut store, input)?;
-    let blank = canon(alloc, &mut store, BLANK)?;
-    assert_eq!(rt; blank.as_slice(), BLANK_TEXT);
-    Ok(())
+    has_text(rt, alloc, store, input, text)?;
+    assert!(rt; same(alloc, store, input, input)?);
+    let _ = show(alloc, store, input)?;
+    let _ = to_rle(alloc, store, input)?;
+    has_text(rt, alloc, store, BLANK, BLANK_TEXT)
+}
+
+/// A store whose limit is what the file needs is filled by it.
+fn fits(rt: &impl Abort, alloc: Global, input: &[u8], text: &[u8]) -> Result<(), Fail> {
+    let limit = room_of(alloc, input)?.min(ROOM);
+    is_filled(rt, alloc, &mut Shared::new(alloc, limit), input, text)
 }
 
 #[test]
