@@ -10,7 +10,7 @@ use life_quad::{
     grow, is_blank, population, put_run, trim,
 };
 use std::alloc::Global;
-use std::test::Fail;
+use std::process::Abort;
 
 // Half of the side of a square of a level.
 fn half_side(level: u8) -> u64
@@ -72,34 +72,32 @@ fn two_rows<S: SharedSquares>(
 }
 
 #[test]
-fn long_runs_share(rt: HostRuntime) -> Result<(), Fail> {
+fn long_runs_share(rt: HostRuntime) {
     let mut squares = Shared::new(rt.alloc(), 1000);
-    let (first, least, both) = two_rows(rt.alloc(), &mut squares)?;
-    assert_eq!(rt; first, 1152921504606846976);
     let row = Bounds {
         left: -576460752303423488,
         top: 0,
         right: 576460752303423487,
         bottom: 0,
     };
-    assert_eq!(rt; least, Some(row));
-    assert_eq!(rt; both, 2305843009213693952);
+    assert_eq!(rt;
+        two_rows(rt.alloc(), &mut squares),
+        Ok((1152921504606846976, Some(row), 2305843009213693952))
+    );
     assert_eq!(rt; squares.limit(), 1000);
-    Ok(())
 }
 
 // A row of the greatest square needs a node of each level from 1 up.
 #[test]
-fn a_long_run_needs_60_nodes(rt: HostRuntime) -> Result<(), Fail> {
+fn a_long_run_needs_60_nodes(rt: HostRuntime) {
     let mut small = Shared::new(rt.alloc(), 59);
     let root = small.empty(MAX_LEVEL);
-    assert_eq!(rt; whole_row(&mut small, root, 0), Err(Kind::Full));
-    assert_eq!(rt; small.len(), 59);
+    let row = whole_row(&mut small, root, 0);
+    assert_eq!(rt; (row, small.len()), (Err(Kind::Full), 59));
     let mut enough = Shared::new(rt.alloc(), 60);
     let root = enough.empty(MAX_LEVEL);
-    let _row = whole_row(&mut enough, root, 0)?;
-    assert_eq!(rt; enough.len(), 60);
-    Ok(())
+    let row = whole_row(&mut enough, root, 0);
+    assert_eq!(rt; (row.is_ok(), enough.len()), (true, 60));
 }
 
 // The population and the box of the greatest square with each cell in state 1.
@@ -116,7 +114,7 @@ fn full_square<S: SharedSquares>(
 
 // It has 2^120 cells in 60 nodes: the test ends only if each node is visited once.
 #[test]
-fn a_full_square_is_measured_at_once(rt: HostRuntime) -> Result<(), Fail> {
+fn a_full_square_is_measured_at_once(rt: HostRuntime) {
     let mut squares = Shared::new(rt.alloc(), 60);
     let plane = Bounds {
         left: -576460752303423488,
@@ -125,10 +123,9 @@ fn a_full_square_is_measured_at_once(rt: HostRuntime) -> Result<(), Fail> {
         bottom: 576460752303423487,
     };
     assert_eq!(rt;
-        full_square(rt.alloc(), &mut squares)?,
-        (1329227995784915872903807060280344576, Some(plane))
+        full_square(rt.alloc(), &mut squares),
+        Ok((1329227995784915872903807060280344576, Some(plane)))
     );
-    Ok(())
 }
 
 // Two cells in either order, and both cleared again.
@@ -144,10 +141,9 @@ fn orders<S: SharedSquares>(squares: &mut S) -> Result<(bool, bool), Kind> {
 }
 
 #[test]
-fn orders_do_not_matter(rt: HostRuntime) -> Result<(), Fail> {
+fn orders_do_not_matter(rt: HostRuntime) {
     let mut squares = Shared::new(rt.alloc(), 1000);
-    assert_eq!(rt; orders(&mut squares)?, (true, true));
-    Ok(())
+    assert_eq!(rt; orders(&mut squares), Ok((true, true)));
 }
 
 // The levels of squares of level 9 with one cell after trimming: (4, 0) with the least levels 1 and 3, then (0, 0).
@@ -188,19 +184,27 @@ fn grown_and_back<S: Squares>(squares: &mut S) -> Result<(Id, [u8; 3], [bool; 2]
     Ok((five, levels, [four == made, back == made]))
 }
 
+// The same with the population of the grown one.
+fn counted_and_back<S: SharedSquares>(
+    alloc: Global,
+    squares: &mut S,
+) -> Result<(u128, [u8; 3], [bool; 2]), Kind> {
+    let (grown, levels, same) = grown_and_back(squares)?;
+    Ok((population(alloc, squares, grown)?, levels, same))
+}
+
 #[test]
-fn squares_are_trimmed(rt: HostRuntime) -> Result<(), Fail> {
+fn squares_are_trimmed(rt: HostRuntime) {
     let mut squares = Shared::new(rt.alloc(), 1000);
-    assert_eq!(rt; trims(&mut squares)?, [4, 4, 1, 3]);
-    let (grown, levels, same) = grown_and_back(&mut squares)?;
-    assert_eq!(rt; levels, [4, 5, 4]);
-    assert_eq!(rt; population(rt.alloc(), &squares, grown)?, 1);
-    assert_eq!(rt; same, [true, true]);
+    let found = (
+        trims(&mut squares),
+        counted_and_back(rt.alloc(), &mut squares),
+    );
+    assert_eq!(rt; found, (Ok([4, 4, 1, 3]), Ok((1, [4, 5, 4], [true, true]))));
     let mut plain = Plain::new(rt.alloc(), 1000);
-    assert_eq!(rt; trims(&mut plain)?, [4, 4, 1, 3]);
-    let (_grown, levels, _same) = grown_and_back(&mut plain)?;
-    assert_eq!(rt; levels, [4, 5, 4]);
-    Ok(())
+    let levels = trims(&mut plain);
+    let grown = grown_and_back(&mut plain).map(|(_grown, levels, _same)| levels);
+    assert_eq!(rt; (levels, grown), (Ok([4, 4, 1, 3]), Ok([4, 5, 4])));
 }
 
 // A cell in a square of level 9, which takes 9 nodes, and then that square grown, trimmed, and with another cell.
@@ -223,16 +227,18 @@ fn moves_of_none<S: Squares>(squares: &mut S) -> Result<[u8; 2], Kind> {
 }
 
 #[test]
-fn full_stores_refuse_new_squares(rt: HostRuntime) -> Result<(), Fail> {
-    let full = (Err(Kind::Full), Err(Kind::Full), Err(Kind::Full));
+fn full_stores_refuse_new_squares(rt: HostRuntime) {
+    let full = Ok((Err(Kind::Full), Err(Kind::Full), Err(Kind::Full)));
     let mut squares = Shared::new(rt.alloc(), 9);
-    assert_eq!(rt; moves_of_nine(&mut squares)?, full);
-    assert_eq!(rt; squares.len(), 9);
-    assert_eq!(rt; moves_of_none(&mut squares)?, [10, 1]);
+    let found = (
+        moves_of_nine(&mut squares),
+        squares.len(),
+        moves_of_none(&mut squares),
+    );
+    assert_eq!(rt; found, (full, 9, Ok([10, 1])));
     let mut plain = Plain::new(rt.alloc(), 9);
-    assert_eq!(rt; moves_of_nine(&mut plain)?, full);
-    assert_eq!(rt; moves_of_none(&mut plain)?, [10, 1]);
-    Ok(())
+    let found = (moves_of_nine(&mut plain), moves_of_none(&mut plain));
+    assert_eq!(rt; found, (full, Ok([10, 1])));
 }
 
 // The cells of a square in which two cells were set.
@@ -249,8 +255,15 @@ fn one_cell<S: Squares>(alloc: Global, squares: &mut S) -> Result<Vec<Cell>, Kin
     cells(alloc, squares, one, 1)
 }
 
+fn assert_list(rt: &impl Abort, found: Result<Vec<Cell>, Kind>, wanted: Result<&[Cell], Kind>) {
+    match &found {
+        Ok(list) => assert_eq!(rt; Ok(list.as_slice()), wanted),
+        Err(kind) => assert_eq!(rt; Err(*kind), wanted),
+    }
+}
+
 #[test]
-fn cells_are_listed(rt: HostRuntime) -> Result<(), Fail> {
+fn cells_are_listed(rt: HostRuntime) {
     let west = Cell {
         x: -4,
         y: -2,
@@ -267,46 +280,33 @@ fn cells_are_listed(rt: HostRuntime) -> Result<(), Fail> {
         state: 1,
     };
     let mut squares = Shared::new(rt.alloc(), 1000);
-    let list = two_cells(rt.alloc(), &mut squares, 2)?;
-    assert_eq!(rt; list.as_slice(), [west, east].as_slice());
-    assert!(rt;
-        matches!(
-            two_cells(rt.alloc(), &mut squares, 1),
-            Err(Kind::TooManyCells)
-        )
-    );
+    let list = two_cells(rt.alloc(), &mut squares, 2);
+    assert_list(&rt, list, Ok([west, east].as_slice()));
+    let list = two_cells(rt.alloc(), &mut squares, 1);
+    assert_list(&rt, list, Err(Kind::TooManyCells));
     let mut plain = Plain::new(rt.alloc(), 1000);
-    let list = one_cell(rt.alloc(), &mut plain)?;
-    assert_eq!(rt; list.as_slice(), [middle].as_slice());
+    let list = one_cell(rt.alloc(), &mut plain);
+    assert_list(&rt, list, Ok([middle].as_slice()));
     let mut small = Plain::new(rt.alloc(), 4);
-    assert!(rt; matches!(one_cell(rt.alloc(), &mut small), Err(Kind::Full)));
-    Ok(())
+    assert_list(&rt, one_cell(rt.alloc(), &mut small), Err(Kind::Full));
 }
 
-// The lists of a blank square at the limits 0 and 9, and whether one with a cell is refused at limit 0.
-fn least_lists<S: Squares>(
-    alloc: Global,
-    squares: &mut S,
-) -> Result<(Vec<Cell>, Vec<Cell>, bool), Kind> {
+// Whether a blank square lists no cell at the limits 0 and 9, and whether one with a cell is refused at limit 0.
+fn least_lists<S: Squares>(alloc: Global, squares: &mut S) -> Result<[bool; 3], Kind> {
     let blank = squares.empty(5);
     let one = put(squares, blank, 0, 0, 1, 1)?;
     let refused = matches!(cells(alloc, squares, one, 0), Err(Kind::TooManyCells));
-    Ok((
-        cells(alloc, squares, blank, 0)?,
-        cells(alloc, squares, blank, 9)?,
-        refused,
-    ))
+    let at_0 = cells(alloc, squares, blank, 0)?.is_empty();
+    let at_9 = cells(alloc, squares, blank, 9)?.is_empty();
+    Ok([at_0, at_9, refused])
 }
 
 #[test]
-fn blank_squares_list_no_cell(rt: HostRuntime) -> Result<(), Fail> {
+fn blank_squares_list_no_cell(rt: HostRuntime) {
     let mut squares = Shared::new(rt.alloc(), 1000);
-    let (at_0, at_9, refused) = least_lists(rt.alloc(), &mut squares)?;
-    assert!(rt; at_0.is_empty() && at_9.is_empty() && refused);
+    assert_eq!(rt; least_lists(rt.alloc(), &mut squares), Ok([true; 3]));
     let mut plain = Plain::new(rt.alloc(), 1000);
-    let (at_0, at_9, refused) = least_lists(rt.alloc(), &mut plain)?;
-    assert!(rt; at_0.is_empty() && at_9.is_empty() && refused);
-    Ok(())
+    assert_eq!(rt; least_lists(rt.alloc(), &mut plain), Ok([true; 3]));
 }
 
 // A square of level 1 by its quarters.
@@ -338,18 +338,22 @@ fn named<S: Squares>(squares: &mut S) -> Result<(bool, [bool; 3]), Kind> {
 }
 
 #[test]
-fn squares_have_quarters(rt: HostRuntime) -> Result<(), Fail> {
+fn squares_have_quarters(rt: HostRuntime) {
+    let quarters = Ok((true, Some(1), 1, true));
+    let names = Ok((true, [false, false, true]));
     let mut squares = Shared::new(rt.alloc(), 1);
-    assert_eq!(rt; divided(&mut squares)?, (true, Some(1), 1, true));
-    assert_eq!(rt; divided(&mut squares)?, (true, Some(1), 1, true));
-    assert_eq!(rt; named(&mut squares)?, (true, [false, false, true]));
-    assert_eq!(rt; squares.len(), 1);
+    let found = (
+        divided(&mut squares),
+        divided(&mut squares),
+        named(&mut squares),
+        squares.len(),
+    );
+    assert_eq!(rt; found, (quarters, quarters, names, 1));
     let mut plain = Plain::new(rt.alloc(), 1);
-    assert_eq!(rt; divided(&mut plain)?, (true, Some(1), 1, true));
-    assert!(rt; matches!(divided(&mut plain), Err(Kind::Full)));
+    let found = (divided(&mut plain), divided(&mut plain));
+    assert_eq!(rt; found, (quarters, Err(Kind::Full)));
     let mut plain = Plain::new(rt.alloc(), 1);
-    assert_eq!(rt; named(&mut plain)?, (true, [false, false, true]));
-    Ok(())
+    assert_eq!(rt; named(&mut plain), names);
 }
 
 // The square of level 1 of the four lowest binary digits of a number.
@@ -387,22 +391,38 @@ fn leaf<S: Squares>(squares: &mut S) -> Result<Id, Kind> {
     squares.join(nw, ne, sw, se)
 }
 
+// The leaf made twice in a store of this limit, and the number of its nodes.
+fn leaf_twice(alloc: Global, limit: u64) -> (Result<Id, Kind>, Result<Id, Kind>, u64)
+    requires { limit ≤ 25 }
+{
+    let mut squares = Shared::new(alloc, limit);
+    let first = leaf(&mut squares);
+    let again = leaf(&mut squares);
+    (first, again, squares.len())
+}
+
+// The same in a store that doesn't share.
+fn plain_leaf_twice(alloc: Global, limit: u64) -> (Result<Id, Kind>, Result<Id, Kind>)
+    requires { limit ≤ 25 }
+{
+    let mut plain = Plain::new(alloc, limit);
+    let first = leaf(&mut plain);
+    (first, leaf(&mut plain))
+}
+
 // 15 squares of level 1 aren't blank, with four of level 2 and one of level 3 they are 20.
 #[test]
-fn small_squares_are_counted(rt: HostRuntime) -> Result<(), Fail> {
+fn small_squares_are_counted(rt: HostRuntime) {
     for limit in 0..26 {
-        let mut squares = Shared::new(rt.alloc(), limit);
-        let first = leaf(&mut squares);
-        let again = leaf(&mut squares);
+        let (first, again, len) = leaf_twice(rt.alloc(), limit);
         assert_eq!(rt; first.is_ok(), limit >= 20);
         assert_eq!(rt; first == Err(Kind::Full), limit < 20);
         assert_eq!(rt; first, again);
-        assert_eq!(rt; squares.len(), if limit < 20 { limit } else { 20 });
-        let mut plain = Plain::new(rt.alloc(), limit);
-        assert_eq!(rt; leaf(&mut plain).is_ok(), limit >= 20);
-        assert_eq!(rt; leaf(&mut plain), Err(Kind::Full));
+        assert_eq!(rt; len, limit.min(20));
+        let (first, again) = plain_leaf_twice(rt.alloc(), limit);
+        assert_eq!(rt; first.is_ok(), limit >= 20);
+        assert_eq!(rt; again, Err(Kind::Full));
     }
-    Ok(())
 }
 
 // The population and the box of a blank square and of one with a block of cells of states above 1.
@@ -426,7 +446,7 @@ fn measures<S: SharedSquares>(
 }
 
 #[test]
-fn squares_are_measured(rt: HostRuntime) -> Result<(), Fail> {
+fn squares_are_measured(rt: HostRuntime) {
     let mut squares = Shared::new(rt.alloc(), 1000);
     let least = Bounds {
         left: -9,
@@ -435,27 +455,42 @@ fn squares_are_measured(rt: HostRuntime) -> Result<(), Fail> {
         bottom: 4,
     };
     assert_eq!(rt;
-        measures(rt.alloc(), &mut squares)?,
-        (0, None, 8, Some(least))
+        measures(rt.alloc(), &mut squares),
+        Ok((0, None, 8, Some(least)))
     );
+}
+
+fn insert_all(list: &mut IdList, ids: &[Id]) -> Result<(), Kind> {
+    for id in ids {
+        list.insert(*id)?;
+    }
     Ok(())
 }
 
-#[test]
-fn ids_are_listed_once(rt: HostRuntime) -> Result<(), Fail> {
-    let squares = Shared::new(rt.alloc(), 0);
-    let (first, second, third) = (squares.cell(200), squares.cell(3), squares.empty(60));
-    let mut list = IdList::new(rt.alloc());
+// An empty list takes the first three of these Ids, and each once.
+fn assert_listed_once(rt: &impl Abort, list: &mut IdList, ids: [Id; 5]) {
+    let [first, second, third, fourth, fifth] = ids;
     assert!(rt; list.as_slice().is_empty() && !list.contains(first));
-    for id in [first, second, first, third, second] {
-        list.insert(id)?;
-    }
+    let added = insert_all(list, &[first, second, first, third, second]);
+    assert_eq!(rt; added, Ok(()));
     assert_eq!(rt; list.as_slice(), [first, second, third].as_slice());
     assert_eq!(rt;
         (list.place(first), list.place(second), list.place(third)),
         (Some(0), Some(1), Some(2))
     );
-    assert!(rt; list.contains(third) && !list.contains(squares.cell(4)));
-    assert_eq!(rt; list.place(squares.empty(59)), None);
-    Ok(())
+    assert!(rt; list.contains(third) && !list.contains(fourth));
+    assert_eq!(rt; list.place(fifth), None);
+}
+
+#[test]
+fn ids_are_listed_once(rt: HostRuntime) {
+    let squares = Shared::new(rt.alloc(), 0);
+    let ids = [
+        squares.cell(200),
+        squares.cell(3),
+        squares.empty(60),
+        squares.cell(4),
+        squares.empty(59),
+    ];
+    assert_listed_once(&rt, &mut IdList::new(rt.alloc()), ids);
 }
