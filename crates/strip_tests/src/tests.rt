@@ -1,5 +1,5 @@
 //! Runs by rows against runs put one by one, and against squares joined by hand.
-ghost use Rattle.std.specs.Prelude.{IfOk, ℤ};
+ghost use Rattle.std.specs.Prelude.{IfOk, OnOk, ℤ};
 ghost use Rattle.life_strip.specs.Filling.{IsFilling};
 ghost use Rattle.life_strip.specs.Given.{IsNext};
 
@@ -7,7 +7,6 @@ use life_base::{Kind, MAX_LEVEL};
 use life_quad::{Id, Plain, Shared, Squares, put_run, trim};
 use life_strip::{Builder, laws};
 use std::alloc::Global;
-use std::test::Fail;
 
 // A builder without runs.
 fn begun<S: Squares>(alloc: Global, squares: &S) -> Builder
@@ -20,8 +19,11 @@ fn begun<S: Squares>(alloc: Global, squares: &S) -> Builder
 }
 
 // Adjacent runs, gaps in rows and columns, odd starts and lengths, several states, the corners of the plane and a whole row.
-fn by_rows<S: Squares>(alloc: Global, store: &mut S) -> Result<Id, Kind> {
-    let mut builder = begun(alloc, store);
+fn add_runs<S: Squares>(builder: &mut Builder, store: &mut S) -> Result<(), Kind>
+    requires filling { IsFilling (S.knows store.old) (S.content store.old) builder.old }
+    requires next { (x y : ℤ) → IsNext builder.old.runs x y }
+    ensures filling { OnOk result (IsFilling (S.knows store.new) (S.content store.new) builder.new) }
+{
     builder.add_run(store, -(1 << 59), -(1 << 59), 1, 1)?;
     builder.add_run(store, (1 << 59) - 1, -(1 << 59), 1, 2)?;
     builder.add_run(store, -3, -7, 5, 1)?;
@@ -31,7 +33,12 @@ fn by_rows<S: Squares>(alloc: Global, store: &mut S) -> Result<Id, Kind> {
     builder.add_run(store, -(1 << 59), 4, 1 << 60, 255)?;
     builder.add_run(store, 1, 9, 3, 1)?;
     builder.add_run(store, -(1 << 59), (1 << 59) - 1, 3, 4)?;
-    builder.add_run(store, (1 << 59) - 2, (1 << 59) - 1, 2, 5)?;
+    builder.add_run(store, (1 << 59) - 2, (1 << 59) - 1, 2, 5)
+}
+
+fn by_rows<S: Squares>(alloc: Global, store: &mut S) -> Result<Id, Kind> {
+    let mut builder = begun(alloc, store);
+    add_runs(&mut builder, store)?;
     builder.finish(store)
 }
 
@@ -75,85 +82,95 @@ fn one_cell(alloc: Global, store: &mut Shared) -> Result<Id, Kind> {
     builder.finish(store)
 }
 
-#[test]
-fn runs_by_rows_give_the_square_of_runs_one_by_one(rt: HostRuntime) -> Result<(), Fail> {
-    let mut store = Shared::new(rt.alloc(), 10_000);
-    let expected = one_by_one(&mut store)?;
-    let answer = by_rows(rt.alloc(), &mut store)?;
-    assert!(rt; answer == expected);
-    Ok(())
+// Whether both ways give the same square.
+fn agree<S: Squares>(alloc: Global, store: &mut S) -> Result<bool, Kind> {
+    let expected = one_by_one(store)?;
+    Ok(by_rows(alloc, store)? == expected)
 }
 
 #[test]
-fn two_cells_give_the_square_joined_by_hand(rt: HostRuntime) -> Result<(), Fail> {
-    let mut store = Shared::new(rt.alloc(), 1000);
-    let answer = diagonal(rt.alloc(), &mut store)?;
+fn runs_by_rows_give_the_square_of_runs_one_by_one(rt: HostRuntime) {
+    let mut store = Shared::new(rt.alloc(), 10_000);
+    assert_eq!(rt; agree(rt.alloc(), &mut store), Ok(true));
+}
+
+// Whether the two cells are the square joined of them by hand.
+fn is_joined<S: Squares>(alloc: Global, store: &mut S) -> Result<bool, Kind> {
+    let answer = diagonal(alloc, store)?;
     let dead = store.cell(0);
     let first = store.cell(1);
     let second = store.cell(2);
-    let expected = store.join(first, dead, dead, second)?;
-    assert!(rt; answer == expected);
+    Ok(store.join(first, dead, dead, second)? == answer)
+}
 
-    let mut plain = Plain::new(rt.alloc(), 1000);
-    let answer = diagonal(rt.alloc(), &mut plain)?;
-    let parts = plain.parts(answer).ok_or(Kind::Memory)?;
-    assert_eq!(rt; plain.state(parts[0]), Some(1));
-    assert_eq!(rt; plain.state(parts[1]), Some(0));
-    assert_eq!(rt; plain.state(parts[2]), Some(0));
-    assert_eq!(rt; plain.state(parts[3]), Some(2));
-    Ok(())
+// The states of their quarters.
+fn quarter_states<S: Squares>(alloc: Global, store: &mut S) -> Result<[Option<u8>; 4], Kind> {
+    let answer = diagonal(alloc, store)?;
+    let parts = store.parts(answer).ok_or(Kind::Memory)?;
+    Ok([
+        store.state(parts[0]),
+        store.state(parts[1]),
+        store.state(parts[2]),
+        store.state(parts[3]),
+    ])
 }
 
 #[test]
-fn no_cell_gives_the_blank_square(rt: HostRuntime) -> Result<(), Fail> {
+fn two_cells_give_the_square_joined_by_hand(rt: HostRuntime) {
+    let mut store = Shared::new(rt.alloc(), 1000);
+    assert_eq!(rt; is_joined(rt.alloc(), &mut store), Ok(true));
+    let mut plain = Plain::new(rt.alloc(), 1000);
+    assert_eq!(rt;
+        quarter_states(rt.alloc(), &mut plain),
+        Ok([Some(1), Some(0), Some(0), Some(2)])
+    );
+}
+
+#[test]
+fn no_cell_gives_the_blank_square(rt: HostRuntime) {
     let mut store = Shared::new(rt.alloc(), 0);
-    let answer = begun(rt.alloc(), &store).finish(&mut store)?;
-    assert!(rt; answer == store.empty(MAX_LEVEL));
-    Ok(())
+    let answer = begun(rt.alloc(), &store).finish(&mut store);
+    assert_eq!(rt; answer, Ok(store.empty(MAX_LEVEL)));
 }
 
 // A cell needs one square of each level.
 #[test]
-fn a_store_without_room_is_full(rt: HostRuntime) -> Result<(), Fail> {
+fn a_store_without_room_is_full(rt: HostRuntime) {
     let mut store = Shared::new(rt.alloc(), 59);
-    match one_cell(rt.alloc(), &mut store) {
-        Err(Kind::Full) => assert_eq!(rt; store.len(), 59),
-        answer => {
-            let _ = answer?;
-            assert!(rt; false, "a cell was stored without a square of each level");
-        }
-    }
+    let answer = one_cell(rt.alloc(), &mut store);
+    assert_eq!(rt; (answer, store.len()), (Err(Kind::Full), 59));
     let mut store = Shared::new(rt.alloc(), 60);
-    let _ = one_cell(rt.alloc(), &mut store)?;
-    Ok(())
+    assert!(rt; one_cell(rt.alloc(), &mut store).is_ok());
 }
 
 // A store at its limit refuses a run as Full, not for want of memory.
 #[test]
-fn a_run_in_a_full_store_is_refused(rt: HostRuntime) -> Result<(), Fail> {
+fn a_run_in_a_full_store_is_refused(rt: HostRuntime) {
     let mut store = Shared::new(rt.alloc(), 0);
-    assert!(rt; three_rows(rt.alloc(), &mut store) == Err(Kind::Full));
-    assert_eq!(rt; store.len(), 0);
+    let answer = three_rows(rt.alloc(), &mut store);
+    assert_eq!(rt; (answer, store.len()), (Err(Kind::Full), 0));
     let mut plain = Plain::new(rt.alloc(), 0);
-    assert!(rt; three_rows(rt.alloc(), &mut plain) == Err(Kind::Full));
+    assert_eq!(rt; three_rows(rt.alloc(), &mut plain), Err(Kind::Full));
 
     let mut store = Shared::new(rt.alloc(), 1);
-    three_rows(rt.alloc(), &mut store)?;
-    assert_eq!(rt; store.len(), 1);
-    Ok(())
+    let answer = three_rows(rt.alloc(), &mut store);
+    assert_eq!(rt; (answer, store.len()), (Ok(()), 1));
+}
+
+// Whether the store is full behind the runs, and takes them again one by one and by rows.
+fn takes_again(alloc: Global, store: &mut Shared) -> Result<[bool; 3], Kind> {
+    let first = one_by_one(store)?;
+    let is_full = store.len() == store.limit();
+    let again = one_by_one(store)?;
+    let by_rows = by_rows(alloc, store)?;
+    Ok([is_full, again == first, by_rows == first])
 }
 
 // Every square of the runs is there, so a store without room takes them again.
 #[test]
-fn a_full_store_takes_runs_that_are_there(rt: HostRuntime) -> Result<(), Fail> {
+fn a_full_store_takes_runs_that_are_there(rt: HostRuntime) {
     let mut ample = Shared::new(rt.alloc(), 10_000);
-    let _ = one_by_one(&mut ample)?;
+    assert!(rt; one_by_one(&mut ample).is_ok());
     let mut store = Shared::new(rt.alloc(), ample.len().min(10_000));
-    let first = one_by_one(&mut store)?;
-    assert_eq!(rt; store.len(), store.limit());
-    let again = one_by_one(&mut store)?;
-    assert!(rt; again == first);
-    let by_rows = by_rows(rt.alloc(), &mut store)?;
-    assert!(rt; by_rows == first);
-    Ok(())
+    assert_eq!(rt; takes_again(rt.alloc(), &mut store), Ok([true; 3]));
 }

@@ -1,6 +1,6 @@
 use Rattle.std.proofs.Common.{inl, inr, arith}
 use Rattle.std.proofs.lemmas.Int.{ints}
-use Rattle.strip_tests.proofs.tests.by_rows.Goals as goal
+use Rattle.strip_tests.proofs.tests.add_runs.Goals as goal
 
 pub add_run-requires-2-clause-next : goal.add_run-requires-2-clause-next
 add_run-requires-2-clause-next g c = c.in_ok-add_run.ensures.next _ _ (inr (omega (arith, ints), omega (arith, ints)))
