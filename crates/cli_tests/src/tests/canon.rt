@@ -39,10 +39,11 @@ fn writes_the_canonical_text(rt: HostRuntime) {
         let mut reader = Device::new(input);
         let mut writer = sink_with(rt.alloc(), 999, 7);
         let (status, told) = canon(rt.alloc(), &mut reader, &mut writer, 99);
-        assert_eq!(rt; status, 0);
-        assert!(rt; told.is_empty());
-        assert!(rt; writer.taken.as_slice() == text);
         assert!(rt; !reader.failed() && !writer.failed());
+        assert_eq!(rt;
+            (status, told.as_slice(), writer.taken.as_slice()),
+            (0, b"".as_slice(), text)
+        );
     }
 }
 
@@ -62,9 +63,8 @@ fn tells_what_is_wrong(rt: HostRuntime) {
         let mut reader = Device::new(input);
         let mut writer = sink_with(rt.alloc(), 999, 999);
         let (status, told) = canon(rt.alloc(), &mut reader, &mut writer, 99);
-        assert_eq!(rt; status, 2);
-        assert!(rt; told.as_slice() == line);
-        assert!(rt; writer.taken.is_empty());
+        let found = (status, told.as_slice(), writer.taken.is_empty());
+        assert_eq!(rt; found, (2, line, true));
     }
 }
 
@@ -79,9 +79,10 @@ fn failing_source(rt: HostRuntime) {
         };
         let mut writer = sink_with(rt.alloc(), 999, 999);
         let (status, told) = canon(rt.alloc(), &mut reader, &mut writer, 99);
-        assert_eq!(rt; status, 3);
-        assert!(rt; told.as_slice() == b"ReadFault\n".as_slice());
-        assert!(rt; writer.taken.is_empty() && reader.failed());
+        let fault = b"ReadFault\n".as_slice();
+        let found = (status, told.as_slice(), writer.taken.is_empty());
+        assert_eq!(rt; found, (3, fault, true));
+        assert!(rt; reader.failed());
     }
 }
 
@@ -93,9 +94,9 @@ fn failing_sink(rt: HostRuntime) {
         let mut reader = Device::new(GLIDER);
         let mut writer = sink_with(rt.alloc(), room, piece);
         let (status, told) = canon(rt.alloc(), &mut reader, &mut writer, 99);
-        assert_eq!(rt; status, 3);
-        assert!(rt; told.as_slice() == b"WriteFault\n".as_slice());
-        assert!(rt; writer.taken.as_slice() == taken);
+        let fault = b"WriteFault\n".as_slice();
+        let found = (status, told.as_slice(), writer.taken.as_slice());
+        assert_eq!(rt; found, (3, fault, taken));
     }
 }
 
@@ -105,9 +106,9 @@ fn failing_flush(rt: HostRuntime) {
     let mut reader = Device::new(GLIDER);
     let mut writer = Device::new(Clogged { taken: &mut taken });
     let (status, told) = canon(rt.alloc(), &mut reader, &mut writer, 99);
-    assert_eq!(rt; status, 3);
-    assert!(rt; told.as_slice() == b"WriteFault\n".as_slice());
-    assert!(rt; taken.as_slice() == GLIDER_TEXT);
+    let fault = b"WriteFault\n".as_slice();
+    let found = (status, told.as_slice(), taken.as_slice());
+    assert_eq!(rt; found, (3, fault, GLIDER_TEXT));
 }
 
 /// Where the fault line can't be written, the status stays.
@@ -116,6 +117,5 @@ fn failing_error_output(rt: HostRuntime) {
     let mut reader = Device::new(b"o!\n".as_slice());
     let mut writer = sink_with(rt.alloc(), 999, 999);
     let (status, told) = canon(rt.alloc(), &mut reader, &mut writer, 4);
-    assert_eq!(rt; status, 2);
-    assert!(rt; told.as_slice() == b"line".as_slice());
+    assert_eq!(rt; (status, told.as_slice()), (2, b"line".as_slice()));
 }

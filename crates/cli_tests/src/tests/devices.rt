@@ -8,6 +8,7 @@ use life_base::{Kind, Sink, Source};
 use std::alloc::Global;
 use std::io;
 use std::io::Write;
+use std::process::Abort;
 
 /// A source that gives a byte at a time, and fails after some reads.
 #[derive(Drop)]
@@ -103,6 +104,16 @@ pub(super) fn sink_with(alloc: Global, room: usize, piece: usize) -> Limited
         failed: false,
         stalled: false,
     }
+}
+
+/// A job left this: its status, what standard output took, and what standard error took.
+pub(super) fn assert_left(
+    rt: &impl Abort,
+    (status, out, err): (u8, Limited, Limited),
+    wanted: (u8, &[u8], &[u8]),
+) {
+    let left = (status, out.taken.as_slice(), err.taken.as_slice());
+    assert_eq!(rt; left, wanted);
 }
 
 /// A writer of std that takes all bytes and can't flush.

@@ -4,12 +4,35 @@ use clap::error::ErrorKind;
 use life_cli::plan;
 use life_cli::plans::{Job, Target, Usage};
 use std::alloc::Global;
+use std::process::Abort;
 use std::test::Fail;
 
 const NAME: &str = "golly_canon";
 
+/// The words ask for this job of these files.
+fn assert_plan(
+    rt: &impl Abort,
+    alloc: Global,
+    words: &[&str],
+    job: Job,
+    first: &str,
+    second: Option<&str>,
+) {
+    let Ok(found) = plan(alloc, words) else {
+        panic!(rt; "refused");
+    };
+    let found_second = match &found.second {
+        Some(name) => Some(name.as_str()),
+        None => None,
+    };
+    assert_eq!(rt;
+        (found.job, found.first.as_str(), found_second),
+        (job, first, second)
+    );
+}
+
 #[test]
-fn plans_of_one_file(rt: HostRuntime) -> Result<(), Fail> {
+fn plans_of_one_file(rt: HostRuntime) {
     let rows: [(&[&str], Job); 7] = [
         (&[NAME, "canon", "-"], Job::Canon),
         (&[NAME, "show", "-"], Job::Show),
@@ -26,50 +49,29 @@ fn plans_of_one_file(rt: HostRuntime) -> Result<(), Fail> {
         (&[NAME, "step", "-"], Job::Step),
     ];
     for (words, job) in rows {
-        let Ok(found) = plan(rt.alloc(), words) else {
-            return Err("refused")?;
-        };
-        assert!(rt; found.job == job && found.second.is_none());
-        assert_eq!(rt; found.first.as_str(), "-");
+        assert_plan(&rt, rt.alloc(), words, job, "-", None);
     }
-    Ok(())
 }
 
 #[test]
-fn plans_of_two_files(rt: HostRuntime) -> Result<(), Fail> {
+fn plans_of_two_files(rt: HostRuntime) {
     for (a, b) in [("a.mc", "-"), ("-", "b.rle"), ("same", "same")] {
-        let Ok(found) = plan(rt.alloc(), &[NAME, "same", a, b]) else {
-            return Err("refused")?;
-        };
-        assert!(rt; found.job == Job::Same);
-        assert_eq!(rt; found.first.as_str(), a);
-        let Some(second) = &found.second else {
-            return Err("no second file")?;
-        };
-        assert_eq!(rt; second.as_str(), b);
+        let words = [NAME, "same", a, b];
+        assert_plan(&rt, rt.alloc(), &words, Job::Same, a, Some(b));
     }
-    Ok(())
 }
 
 #[test]
-fn plans_with_a_table(rt: HostRuntime) -> Result<(), Fail> {
+fn plans_with_a_table(rt: HostRuntime) {
     let rows: [&[&str]; 3] = [
         &[NAME, "step", "-", "--table", "a.rule"],
         &[NAME, "step", "--table", "a.rule", "-"],
         &[NAME, "step", "--table=a.rule", "--", "-"],
     ];
     for words in rows {
-        let Ok(found) = plan(rt.alloc(), words) else {
-            return Err("refused")?;
-        };
-        assert!(rt; found.job == Job::StepTable);
-        assert_eq!(rt; found.first.as_str(), "-");
-        let Some(second) = &found.second else {
-            return Err("no table")?;
-        };
-        assert_eq!(rt; second.as_str(), "a.rule");
+        let table = Some("a.rule");
+        assert_plan(&rt, rt.alloc(), words, Job::StepTable, "-", table);
     }
-    Ok(())
 }
 
 /// The kind of `clap`'s refusal of the words.

@@ -1,7 +1,7 @@
 //! The jobs that step a pattern.
 
 use super::WIRES;
-use super::devices::{Dripping, Limited, sink_with};
+use super::devices::{Dripping, Limited, assert_left, sink_with};
 use life_base::Device;
 use life_cli::plans::Job;
 use life_cli::work;
@@ -62,10 +62,7 @@ fn next_generations(rt: HostRuntime) {
         ),
     ];
     for (input, text) in rows {
-        let (status, out, err) = step(rt.alloc(), input);
-        assert_eq!(rt; status, 0);
-        assert!(rt; out.taken.as_slice() == text);
-        assert!(rt; err.taken.is_empty());
+        assert_left(&rt, step(rt.alloc(), input), (0, text, b""));
     }
 }
 
@@ -92,21 +89,16 @@ fn refused_steps(rt: HostRuntime) {
         (b"o!\n", b"line 1: NoHeader\n"),
     ];
     for (input, line) in rows {
-        let (status, out, err) = step(rt.alloc(), input);
-        assert_eq!(rt; status, 2);
-        assert!(rt; out.taken.is_empty());
-        assert!(rt; err.taken.as_slice() == line);
+        assert_left(&rt, step(rt.alloc(), input), (2, b"", line));
     }
 }
 
 #[test]
 fn next_generation_by_a_table(rt: HostRuntime) {
-    let (status, out, err) = step_by(rt.alloc(), b"x = 1, y = 1, rule = Spread\nB!\n", SPREAD);
-    assert_eq!(rt; status, 0);
+    let left = step_by(rt.alloc(), b"x = 1, y = 1, rule = Spread\nB!\n", SPREAD);
     let text =
         b"[M2] (canonical 1)\n#R Spread\n#G 1\n1 0 0 2 0\n1 0 2 0 0\n1 2 2 2 0\n2 0 1 2 3\n".as_slice();
-    assert!(rt; out.taken.as_slice() == text);
-    assert!(rt; err.taken.is_empty());
+    assert_left(&rt, left, (0, text, b""));
 }
 
 #[test]
@@ -133,10 +125,7 @@ fn refused_steps_by_a_table(rt: HostRuntime) {
         ),
     ];
     for (input, table, line) in rows {
-        let (status, out, err) = step_by(rt.alloc(), input, table);
-        assert_eq!(rt; status, 2);
-        assert!(rt; out.taken.is_empty());
-        assert!(rt; err.taken.as_slice() == line);
+        assert_left(&rt, step_by(rt.alloc(), input, table), (2, b"", line));
     }
 }
 
@@ -147,10 +136,10 @@ fn long_lines(rt: HostRuntime) {
     for _ in 0..1_048_577 {
         assert!(rt; long.push(b'#').is_ok());
     }
-    let (status, _, err) = step_by(rt.alloc(), b"o!\n", long.as_slice());
-    assert!(rt; status == 2 && err.taken.as_slice() == b"table line 1: LineTooLong\n".as_slice());
-    let (status, _, err) = step_by(rt.alloc(), long.as_slice(), SPREAD);
-    assert!(rt; status == 2 && err.taken.as_slice() == b"line 1: LineTooLong\n".as_slice());
+    let left = step_by(rt.alloc(), b"o!\n", long.as_slice());
+    assert_left(&rt, left, (2, b"", b"table line 1: LineTooLong\n"));
+    let left = step_by(rt.alloc(), long.as_slice(), SPREAD);
+    assert_left(&rt, left, (2, b"", b"line 1: LineTooLong\n"));
 }
 
 /// Where the table isn't read, or is refused, nothing of the pattern has been read.
@@ -181,9 +170,7 @@ fn table_first(rt: HostRuntime) {
             &mut out,
             &mut err,
         );
-        assert_eq!(rt; status, wanted);
-        assert!(rt; err.taken.as_slice() == line);
-        assert!(rt; first.left == pattern && first.good == 999);
-        assert!(rt; out.taken.is_empty());
+        assert_eq!(rt; (first.left, first.good), (pattern, 999));
+        assert_left(&rt, (status, out, err), (wanted, b"", line));
     }
 }

@@ -3,7 +3,7 @@
 ghost use Rattle.std.specs.Prelude.{◌≡◌, false};
 ghost use Rattle.life_cli.specs.Plans.{HasSecond};
 
-use super::devices::{Limited, sink_with};
+use super::devices::{Limited, assert_left, sink_with};
 use super::{BLANK, TWINS, TWINS_IN_RLE, TWINS_TEXT, WIRES, WIRES_TEXT};
 use life_base::Device;
 use life_cli::plans::{Job, Target};
@@ -71,10 +71,7 @@ fn same_and_different(rt: HostRuntime) {
         (BLANK, b"[M2]", 0, b"same\n"),
     ];
     for (a, b, wanted, line) in rows {
-        let (status, out, err) = compare(rt.alloc(), a, b);
-        assert_eq!(rt; status, wanted);
-        assert!(rt; out.taken.as_slice() == line);
-        assert!(rt; err.taken.is_empty());
+        assert_left(&rt, compare(rt.alloc(), a, b), (wanted, line, b""));
     }
 }
 
@@ -101,20 +98,16 @@ fn converted_to_rle(rt: HostRuntime) {
         ),
     ];
     for (input, text) in rows {
-        let (status, out, err) = run(rt.alloc(), &Job::Convert(Target::Rle), input);
-        assert_eq!(rt; status, 0);
-        assert!(rt; out.taken.as_slice() == text);
-        assert!(rt; err.taken.is_empty());
+        let left = run(rt.alloc(), &Job::Convert(Target::Rle), input);
+        assert_left(&rt, left, (0, text, b""));
     }
 }
 
 #[test]
 fn converted_to_macrocell(rt: HostRuntime) {
     for (input, text) in [(WIRES, WIRES_TEXT), (TWINS_IN_RLE, TWINS_TEXT)] {
-        let (status, out, err) = run(rt.alloc(), &Job::Convert(Target::Mc), input);
-        assert_eq!(rt; status, 0);
-        assert!(rt; out.taken.as_slice() == text);
-        assert!(rt; err.taken.is_empty());
+        let left = run(rt.alloc(), &Job::Convert(Target::Mc), input);
+        assert_left(&rt, left, (0, text, b""));
     }
 }
 
@@ -139,9 +132,7 @@ fn shown(rt: HostRuntime) {
         ),
     ];
     for (input, text) in rows {
-        let (status, out, err) = run(rt.alloc(), &Job::Show, input);
-        assert_eq!(rt; status, 0);
-        assert!(rt; out.taken.as_slice() == text);
-        assert!(rt; err.taken.is_empty());
+        let left = run(rt.alloc(), &Job::Show, input);
+        assert_left(&rt, left, (0, text, b""));
     }
 }
