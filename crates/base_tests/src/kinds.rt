@@ -2,7 +2,6 @@
 
 use life_base::{Fault, Kind, Place};
 use std::process::Abort;
-use std::test::Fail;
 
 /// Each kind with its number, its name and the line that a fault of it on line 7 tells.
 const ROWS: [(Kind, u8, &str, u64); 41] = [
@@ -82,8 +81,8 @@ fn kinds_have_their_numbers_names_and_lines(rt: HostRuntime) {
 }
 
 #[test]
-fn a_fault_tells_its_line_and_its_kind(rt: HostRuntime) -> Result<(), Fail> {
-    let text = format!(in rt.alloc(); "{}", Fault::at(u64::MAX, Kind::BadNode))?;
+fn a_fault_tells_its_line_and_its_kind(rt: HostRuntime) {
+    let fault = Fault::at(u64::MAX, Kind::BadNode);
+    let text = format!(in rt.alloc(); "{fault}").expect(&rt, "memory");
     assert_eq!(rt; text.as_str(), "line 18446744073709551615: BadNode");
-    Ok(())
 }

@@ -3,7 +3,6 @@
 use life_base::{Kind, LifeRule, Rule, append, trimmed};
 use std::alloc::Global;
 use std::process::Abort;
-use std::test::Fail;
 
 /// On each line an answer, `|` and a rule text. The answer is `Life` and the canonical text of a B/S rule, `Name` of a text that is
 /// kept as it stands, or the kind with which the text is refused.
@@ -225,15 +224,14 @@ fn assert_longest(
 }
 
 #[test]
-fn a_rule_text_has_at_most_255_bytes(rt: HostRuntime) -> Result<(), Fail> {
+fn a_rule_text_has_at_most_255_bytes(rt: HostRuntime) {
     for &(front, byte, answer) in &[
         ("B3/S23", b'3', "Life B3/S23"),
         ("Life", b'e', "Name"),
         ("B3/S23V", b'3', "UnsupportedRule"),
     ] {
-        assert_longest(&rt, rt.alloc(), front, byte, answer)?;
+        assert_longest(&rt, rt.alloc(), front, byte, answer).expect(&rt, "memory");
     }
-    Ok(())
 }
 
 /// Two texts say one rule or two, and a copy of the first is the first.
@@ -264,9 +262,9 @@ fn rules_are_compared_as_values(rt: HostRuntime) {
 }
 
 #[test]
-fn the_default_rule_is_conways(rt: HostRuntime) -> Result<(), Fail> {
+fn the_default_rule_is_conways(rt: HostRuntime) {
     let mut text = Vec::new(rt.alloc());
-    Rule::default_rule().write(&mut text)?;
+    Rule::default_rule().write(&mut text).expect(&rt, "memory");
     assert_eq!(rt; text.as_slice(), b"B3/S23".as_slice());
     let Rule::Life(life) = Rule::default_rule() else {
         panic!(rt; "a name");
@@ -275,16 +273,15 @@ fn the_default_rule_is_conways(rt: HostRuntime) -> Result<(), Fail> {
         assert_eq!(rt; life.next(false, count), count == 3);
         assert_eq!(rt; life.next(true, count), count == 2 || count == 3);
     }
-    Ok(())
 }
 
 #[test]
-fn a_refused_write_leaves_the_vector(rt: HostRuntime) -> Result<(), Fail> {
+fn a_refused_write_leaves_the_vector(rt: HostRuntime) {
     let rule = Rule::Life(LifeRule {
         births: 0b1_1111_1110,
         survivals: 0b1_1111_1111,
     });
-    let mut out = Vec::from_slice(rt.alloc(), b"#R ")?;
+    let mut out = Vec::from_slice(rt.alloc(), b"#R ").expect(&rt, "memory");
     match rule.write(&mut out) {
         Ok(()) => assert_eq!(rt; out.as_slice(), b"#R B12345678/S012345678".as_slice()),
         Err(kind) => {
@@ -292,5 +289,4 @@ fn a_refused_write_leaves_the_vector(rt: HostRuntime) -> Result<(), Fail> {
             assert_eq!(rt; out.as_slice(), b"#R ".as_slice());
         }
     }
-    Ok(())
 }

@@ -6,7 +6,6 @@ use life_base::{Device, Kind, Sink, Source, deliver, read_within, write_text, wr
 use std::alloc::Global;
 use std::io::{self, Read, Write};
 use std::process::Abort;
-use std::test::Fail;
 
 /// Counts its calls. Each moves a byte, or fails.
 #[derive(Drop)]
@@ -178,12 +177,11 @@ fn input_is_read_to_its_end_or_its_bound(rt: HostRuntime) {
 }
 
 #[test]
-fn long_input_is_read_in_pieces(rt: HostRuntime) -> Result<(), Fail> {
+fn long_input_is_read_in_pieces(rt: HostRuntime) {
     let mut long = Vec::new(rt.alloc());
-    long.resize(200_000, b'x')?;
+    long.resize(200_000, b'x').expect(&rt, "memory");
     assert_read(&rt, rt.alloc(), &long, 200_000, Ok(&long));
     assert_read(&rt, rt.alloc(), &long, 199_999, Err(Kind::InputTooLong));
-    Ok(())
 }
 
 /// A reader of four bytes that fails after some good calls is read so, within a bound.
@@ -213,16 +211,15 @@ fn a_failed_read_is_no_end(rt: HostRuntime) {
 }
 
 #[test]
-fn texts_are_written_one_after_another(rt: HostRuntime) -> Result<(), Fail> {
-    let mut taken = Vec::with_capacity(rt.alloc(), 8)?;
+fn texts_are_written_one_after_another(rt: HostRuntime) {
+    let mut taken = Vec::with_capacity(rt.alloc(), 8).expect(&rt, "memory");
     let mut writer = Device::new(&mut taken);
-    write_text(&mut writer, b"ab")?;
-    write_texts(&mut writer, &[b"cd", b"", b"efg"])?;
-    deliver(&mut writer, b"h")?;
+    write_text(&mut writer, b"ab").expect(&rt, "memory");
+    write_texts(&mut writer, &[b"cd", b"", b"efg"]).expect(&rt, "memory");
+    deliver(&mut writer, b"h").expect(&rt, "memory");
     assert!(rt; !Sink::failed(&writer));
     drop(writer);
     assert_eq!(rt; taken.as_slice(), b"abcdefgh".as_slice());
-    Ok(())
 }
 
 /// Of `abcdefgh`, in two texts, a writer has the bytes that it had room for: it takes no more, or fails.
@@ -248,23 +245,22 @@ fn assert_front(
 }
 
 #[test]
-fn a_writer_that_stops_has_the_front_of_the_text(rt: HostRuntime) -> Result<(), Fail> {
+fn a_writer_that_stops_has_the_front_of_the_text(rt: HostRuntime) {
     for fails in [false, true] {
         for room in 0..=7usize {
-            let mut taken = Vec::with_capacity(rt.alloc(), 8)?;
+            let mut taken = Vec::with_capacity(rt.alloc(), 8).expect(&rt, "memory");
             assert_front(&rt, &mut taken, room, fails, Err(Kind::WriteFault));
             assert_eq!(rt; taken.as_slice(), &b"abcdefgh"[..room]);
         }
-        let mut taken = Vec::with_capacity(rt.alloc(), 8)?;
+        let mut taken = Vec::with_capacity(rt.alloc(), 8).expect(&rt, "memory");
         assert_front(&rt, &mut taken, 8, fails, Ok(()));
         assert_eq!(rt; taken.as_slice(), b"abcdefgh".as_slice());
     }
-    Ok(())
 }
 
 #[test]
-fn a_flush_that_fails_is_told(rt: HostRuntime) -> Result<(), Fail> {
-    let mut taken = Vec::with_capacity(rt.alloc(), 8)?;
+fn a_flush_that_fails_is_told(rt: HostRuntime) {
+    let mut taken = Vec::with_capacity(rt.alloc(), 8).expect(&rt, "memory");
     let mut writer = Device::new(Narrow {
         taken: &mut taken,
         room: 9,
@@ -275,5 +271,4 @@ fn a_flush_that_fails_is_told(rt: HostRuntime) -> Result<(), Fail> {
     assert!(rt; Sink::failed(&writer));
     drop(writer);
     assert_eq!(rt; taken.as_slice(), b"abc".as_slice());
-    Ok(())
 }

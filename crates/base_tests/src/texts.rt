@@ -8,7 +8,6 @@ use life_base::{
 };
 use std::mem::size_of_val;
 use std::process::Abort;
-use std::test::Fail;
 
 /// Inputs and their lines.
 const LINES: [(&[u8], &[&[u8]]); 8] = [
@@ -141,14 +140,13 @@ fn the_first_line_feed_ends_a_line(rt: HostRuntime) {
 }
 
 #[test]
-fn a_line_has_at_most_2_to_20_bytes(rt: HostRuntime) -> Result<(), Fail> {
+fn a_line_has_at_most_2_to_20_bytes(rt: HostRuntime) {
     let mut line = Vec::new(rt.alloc());
     assert_eq!(rt; LONGEST_LINE, 1048576);
-    line.resize(LONGEST_LINE, b'x')?;
+    line.resize(LONGEST_LINE, b'x').expect(&rt, "memory");
     assert!(rt; !is_too_long(&line));
-    line.push(b'\r')?;
+    line.push(b'\r').expect(&rt, "memory");
     assert!(rt; is_too_long(&line));
-    Ok(())
 }
 
 #[test]
@@ -228,41 +226,40 @@ fn whole_numbers_of_either_sign(rt: HostRuntime) {
 }
 
 #[test]
-fn a_million_digits(rt: HostRuntime) -> Result<(), Fail> {
+fn a_million_digits(rt: HostRuntime) {
     let mut text = Vec::new(rt.alloc());
-    text.resize(1_000_000, b'0')?;
+    text.resize(1_000_000, b'0').expect(&rt, "memory");
     assert_eq!(rt; read_u64(&text), Ok(0));
-    text.push(b'7')?;
+    text.push(b'7').expect(&rt, "memory");
     assert_eq!(rt; read_u64(&text), Ok(7));
     assert_eq!(rt; read_i64(&text), Ok(7));
-    text.resize(2_000_000, b'9')?;
+    text.resize(2_000_000, b'9').expect(&rt, "memory");
     assert_eq!(rt; read_u64(&text), Err(Kind::TooLarge));
-    text.push(b'a')?;
+    text.push(b'a').expect(&rt, "memory");
     assert_eq!(rt; read_u64(&text), Err(Kind::BadNumber));
-    Ok(())
 }
 
 #[test]
-fn items_are_those_of_a_vector(rt: HostRuntime) -> Result<(), Fail> {
+fn items_are_those_of_a_vector(rt: HostRuntime) {
     let mut items = Items::<u64>::new(rt.alloc());
     assert!(rt; items.as_slice().is_empty());
-    items.push(7)?;
-    items.push(8)?;
+    items.push(7).expect(&rt, "memory");
+    items.push(8).expect(&rt, "memory");
     assert_eq!(rt; items.as_slice(), [7, 8].as_slice());
     let mut items = Items::from_vec(items.into_vec());
-    items.push(9)?;
+    items.push(9).expect(&rt, "memory");
     assert_eq!(rt; items.into_vec().as_slice(), [7, 8, 9].as_slice());
 
     let mut rules = Items::<Rule>::new(rt.alloc());
-    rules.push(Rule::default_rule())?;
-    rules.push(Rule::parse(rt.alloc(), b"Life")?)?;
+    rules.push(Rule::default_rule()).expect(&rt, "memory");
+    let life = Rule::parse(rt.alloc(), b"Life").expect(&rt, "memory");
+    rules.push(life).expect(&rt, "memory");
     assert_eq!(rt; rules.as_slice().len(), 2);
-    Ok(())
 }
 
 #[test]
-fn a_refused_append_leaves_the_bytes(rt: HostRuntime) -> Result<(), Fail> {
-    let mut out = Vec::from_slice(rt.alloc(), b"ab")?;
+fn a_refused_append_leaves_the_bytes(rt: HostRuntime) {
+    let mut out = Vec::from_slice(rt.alloc(), b"ab").expect(&rt, "memory");
     match append(&mut out, b"cdefghijklmnopqrstuvwxyz0123456789") {
         Ok(()) => assert_eq!(rt;
             out.as_slice(),
@@ -281,7 +278,6 @@ fn a_refused_append_leaves_the_bytes(rt: HostRuntime) -> Result<(), Fail> {
             assert!(rt; !items.as_slice().ends_with(b"!"));
         }
     }
-    Ok(())
 }
 
 #[test]
@@ -296,36 +292,33 @@ fn the_plane_is_the_square_of_level_60(rt: HostRuntime) {
 }
 
 #[test]
-fn numbers_are_added_in_digits(rt: HostRuntime) -> Result<(), Fail> {
+fn numbers_are_added_in_digits(rt: HostRuntime) {
     let mut text = Vec::new(rt.alloc());
-    append(&mut text, b"#G ")?;
-    append_number(&mut text, 0)?;
-    append_number(&mut text, 18_446_744_073_709_551_615)?;
+    append(&mut text, b"#G ").expect(&rt, "memory");
+    append_number(&mut text, 0).expect(&rt, "memory");
+    append_number(&mut text, 18_446_744_073_709_551_615).expect(&rt, "memory");
     assert_eq!(rt; &text[..], b"#G 018446744073709551615".as_slice());
-    Ok(())
 }
 
 #[test]
-fn signed_numbers_are_added_in_digits(rt: HostRuntime) -> Result<(), Fail> {
+fn signed_numbers_are_added_in_digits(rt: HostRuntime) {
     let mut text = Vec::new(rt.alloc());
-    append_signed(&mut text, i64::MIN)?;
-    append_signed(&mut text, 0)?;
-    append_signed(&mut text, i64::MAX)?;
+    append_signed(&mut text, i64::MIN).expect(&rt, "memory");
+    append_signed(&mut text, 0).expect(&rt, "memory");
+    append_signed(&mut text, i64::MAX).expect(&rt, "memory");
     assert_eq!(rt;
         &text[..],
         b"-922337203685477580809223372036854775807".as_slice()
     );
-    Ok(())
 }
 
 #[test]
-fn counts_of_128_bits_are_added_in_digits(rt: HostRuntime) -> Result<(), Fail> {
+fn counts_of_128_bits_are_added_in_digits(rt: HostRuntime) {
     let mut text = Vec::new(rt.alloc());
-    append_u128(&mut text, 0)?;
-    append_u128(&mut text, u128::MAX)?;
+    append_u128(&mut text, 0).expect(&rt, "memory");
+    append_u128(&mut text, u128::MAX).expect(&rt, "memory");
     assert_eq!(rt;
         &text[..],
         b"0340282366920938463463374607431768211455".as_slice()
     );
-    Ok(())
 }
