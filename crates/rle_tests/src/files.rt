@@ -4,7 +4,6 @@ use life_base::{Kind, append};
 use life_rle::{RleFile, Run, read_rle};
 use std::alloc::Global;
 use std::process::Abort;
-use std::test::Fail;
 
 /// On each line an answer, `|` and an input, whose lines are separated by `;`. The answer is the rule, the generation, the corner and
 /// each run (column, row, length, state); or the line and the kind of a fault.
@@ -361,11 +360,11 @@ fn numbers_have_any_length(rt: HostRuntime) {
 }
 
 #[test]
-fn many_lines_are_read(rt: HostRuntime) -> Result<(), Fail> {
+fn many_lines_are_read(rt: HostRuntime) {
     let mut input = Vec::new(rt.alloc());
-    append(&mut input, b"x = 1, y = 1\n")?;
+    append(&mut input, b"x = 1, y = 1\n").expect(&rt, "memory");
     for _ in 0..3000u32 {
-        append(&mut input, b"2bo$\n")?;
+        append(&mut input, b"2bo$\n").expect(&rt, "memory");
     }
     let Ok(file) = read_rle(rt.alloc(), &input) else {
         panic!(rt; "refused");
@@ -379,8 +378,7 @@ fn many_lines_are_read(rt: HostRuntime) -> Result<(), Fail> {
         state: 1,
     };
     assert!(rt; runs.last() == Some(&last));
-    append(&mut input, b"0o\n")?;
-    let got = answer_to(rt.alloc(), &input)?;
+    append(&mut input, b"0o\n").expect(&rt, "memory");
+    let got = answer_to(rt.alloc(), &input).expect(&rt, "memory");
     assert_eq!(rt; got.as_str(), "3002 ZeroCount");
-    Ok(())
 }

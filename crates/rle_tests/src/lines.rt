@@ -4,7 +4,6 @@ use life_base::Kind;
 use life_rle::{RleLines, Run};
 use std::alloc::Global;
 use std::process::Abort;
-use std::test::Fail;
 
 /// A line is taken, and answers these runs.
 fn assert_runs(rt: &impl Abort, reader: &mut RleLines, line: &[u8], wanted: &[Run]) {
@@ -64,11 +63,11 @@ fn a_named_rule_and_a_generation(rt: HostRuntime) {
 
 /// The runs of several lines go behind one another, and a refused line leaves them.
 #[test]
-fn lines_share_a_vector(rt: HostRuntime) -> Result<(), Fail> {
+fn lines_share_a_vector(rt: HostRuntime) {
     let mut reader = RleLines::new(rt.alloc());
     let mut runs = Vec::new(rt.alloc());
     for &line in &[b"#C".as_slice(), b"x = 3, y = 3", b"bo$2bo$", b"3o"] {
-        reader.line_into(line, &mut runs)?;
+        reader.line_into(line, &mut runs).expect(&rt, "memory");
     }
     let wanted = [run(1, 0, 1, 1), run(2, 1, 1, 1), run(0, 2, 3, 1)];
     assert_eq!(rt; runs.as_slice(), wanted.as_slice());
@@ -76,16 +75,15 @@ fn lines_share_a_vector(rt: HostRuntime) -> Result<(), Fail> {
     assert!(rt; runs.as_slice().starts_with(&wanted));
     assert!(rt; reader.line_into(b"o", &mut runs) == Err(Kind::Spent));
     assert!(rt; runs.as_slice().starts_with(&wanted));
-    Ok(())
 }
 
 #[test]
-fn behind_the_mark_lines_are_free(rt: HostRuntime) -> Result<(), Fail> {
+fn behind_the_mark_lines_are_free(rt: HostRuntime) {
     let mut reader = RleLines::new(rt.alloc());
     assert_runs(&rt, &mut reader, b"x = 1, y = 1", &[]);
     assert_runs(&rt, &mut reader, b"b! 0o", &[]);
     let mut long = Vec::new(rt.alloc());
-    long.resize((1usize << 20) + 1, b'o')?;
+    long.resize((1usize << 20) + 1, b'o').expect(&rt, "memory");
     for &line in &[
         b"0o".as_slice(),
         b"x = 1, y = 1",
@@ -97,7 +95,6 @@ fn behind_the_mark_lines_are_free(rt: HostRuntime) -> Result<(), Fail> {
         assert!(rt; reader.over());
     }
     assert_end(&rt, rt.alloc(), reader, b"B3/S23", 0);
-    Ok(())
 }
 
 #[test]

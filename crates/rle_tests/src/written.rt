@@ -4,7 +4,6 @@ use life_base::{Cell, Kind, Rule};
 use life_rle::{RleFile, read_rle, sorted_cells, write_rle};
 use std::alloc::Global;
 use std::process::Abort;
-use std::test::Fail;
 
 const FIRST: i64 = -(1 << 59);
 
@@ -83,12 +82,12 @@ fn states_under_a_name_are_letters(rt: HostRuntime) {
 
 /// The worked examples of the format.
 #[test]
-fn patterns_are_written(rt: HostRuntime) -> Result<(), Fail> {
+fn patterns_are_written(rt: HostRuntime) {
     let wire = [cell(-1, -1, 1), cell(0, -1, 25)];
     let pair = [cell(-4, 0, 1), cell(4, 0, 1)];
     let block = [cell(2, 3, 7), cell(3, 3, 7), cell(2, 4, 7), cell(3, 4, 8)];
     let far = [cell(5, -2, 1), cell(-3, 7, 1)];
-    let long = fence(rt.alloc(), 36)?;
+    let long = fence(rt.alloc(), 36).expect(&rt, "memory");
     let wanted = b"#CXRLE Pos=-1,-1 Gen=7\nx = 2, y = 1, rule = WireWorld\nApA!\n";
     assert_text(&rt, rt.alloc(), b"WireWorld", 7, &wire, wanted);
     let wanted = b"#CXRLE Pos=-4,0\nx = 9, y = 1, rule = B3/S23\no7bo!\n";
@@ -100,7 +99,6 @@ fn patterns_are_written(rt: HostRuntime) -> Result<(), Fail> {
     let wanted = b"#CXRLE Pos=0,0\nx = 71, y = 1, rule = B3/S23\n\
         obobobobobobobobobobobobobobobobobobobobobobobobobobobobobobobobobobob\no!\n";
     assert_text(&rt, rt.alloc(), b"B3/S23", 0, &long, wanted);
-    Ok(())
 }
 
 /// Cells of state 1 at every second column of row 0, from column 0 on. Each is an item of one byte, with another between two of them.
@@ -185,13 +183,12 @@ fn lines_have_at_most_70_bytes(rt: HostRuntime) {
 }
 
 #[test]
-fn a_state_of_two_letters_stays_on_one_line(rt: HostRuntime) -> Result<(), Fail> {
-    let mut cells = fence(rt.alloc(), 35)?;
-    cells.push(cell(69, 0, 25))?;
+fn a_state_of_two_letters_stays_on_one_line(rt: HostRuntime) {
+    let mut cells = fence(rt.alloc(), 35).expect(&rt, "memory");
+    cells.push(cell(69, 0, 25)).expect(&rt, "memory");
     let wanted = b"#CXRLE Pos=0,0\nx = 70, y = 1, rule = Foo\n\
         A.A.A.A.A.A.A.A.A.A.A.A.A.A.A.A.A.A.A.A.A.A.A.A.A.A.A.A.A.A.A.A.A.A.A\npA!\n";
     assert_text(&rt, rt.alloc(), b"Foo", 0, &cells, wanted);
-    Ok(())
 }
 
 #[test]
@@ -209,9 +206,9 @@ fn assert_sorted(rt: &impl Abort, rule: &Rule, cells: &[Cell], wanted: bool) {
 }
 
 #[test]
-fn sorted_cells_can_be_written(rt: HostRuntime) -> Result<(), Fail> {
-    let name = Rule::parse(rt.alloc(), b"Foo")?;
-    let life = Rule::parse(rt.alloc(), b"B3/S23")?;
+fn sorted_cells_can_be_written(rt: HostRuntime) {
+    let name = Rule::parse(rt.alloc(), b"Foo").expect(&rt, "memory");
+    let life = Rule::parse(rt.alloc(), b"B3/S23").expect(&rt, "memory");
     let low = cell(0, 0, 25);
     let high = cell(1, 2, 3);
     assert_sorted(&rt, &name, &[low, high], true);
@@ -231,7 +228,6 @@ fn sorted_cells_can_be_written(rt: HostRuntime) -> Result<(), Fail> {
     for &(x, y) in &[(FIRST - 1, 0), (0, FIRST - 1), (LAST + 1, 0), (0, LAST + 1)] {
         assert_sorted(&rt, &life, &[cell(x, y, 1)], false);
     }
-    Ok(())
 }
 
 /// The file of cells that were written and read again; `Memory` or a kind of the reader where there is none.
@@ -300,10 +296,10 @@ fn assert_read_again(
 }
 
 #[test]
-fn what_is_written_is_read_again(rt: HostRuntime) -> Result<(), Fail> {
-    let all = all_states(rt.alloc())?;
-    let long = run_behind(rt.alloc(), 200, 1)?;
-    let named = run_behind(rt.alloc(), 12, 217)?;
+fn what_is_written_is_read_again(rt: HostRuntime) {
+    let all = all_states(rt.alloc()).expect(&rt, "memory");
+    let long = run_behind(rt.alloc(), 200, 1).expect(&rt, "memory");
+    let named = run_behind(rt.alloc(), 12, 217).expect(&rt, "memory");
     let corners = [
         cell(FIRST, FIRST, 1),
         cell(LAST, FIRST, 1),
@@ -327,5 +323,4 @@ fn what_is_written_is_read_again(rt: HostRuntime) -> Result<(), Fail> {
     ] {
         assert_read_again(&rt, rt.alloc(), (rule, generation), cells, corner, runs);
     }
-    Ok(())
 }
