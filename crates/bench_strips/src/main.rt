@@ -25,7 +25,8 @@ enum Task {
     Cells,
 }
 
-fn main(rt: HostRuntime) -> io::Result<()> {
+// How many runs are asked for, and what is to be told of them.
+fn asked(rt: HostRuntime) -> io::Result<(u32, Task)> {
     let mut runs = 1_000_000;
     let mut task = Task::Count;
     for word in env::args(&rt)? {
@@ -35,33 +36,41 @@ fn main(rt: HostRuntime) -> io::Result<()> {
             other => runs = other.parse::<u32>().unwrap_or(runs),
         }
     }
+    Ok((runs, task))
+}
+
+// Fills a store with a pattern, and tells what is asked.
+fn tell(rt: HostRuntime, store: &mut Shared, pattern: Pattern, task: Task) -> io::Result<()> {
+    let start = Instant::now(&rt)?;
+    let answer = pattern.fill(rt.alloc(), store);
+    let filling = start.elapsed(&rt)?.as_millis();
+    let Ok(root) = answer else {
+        return println!(rt; "{pattern}: refused");
+    };
+    let start = Instant::now(&rt)?;
+    match task {
+        Task::Count => {
+            let used = reached(rt.alloc(), store, root).unwrap_or(0);
+            println!(rt; "{pattern}: {} squares, {used} in the answer", store.len())
+        }
+        Task::Time => println!(rt; "{pattern}: {} squares in {filling} ms", store.len()),
+        Task::Cells => {
+            let count = listed(rt.alloc(), store, root).unwrap_or(0);
+            let listing = start.elapsed(&rt)?.as_millis();
+            println!(rt; "{pattern}: {count} cells in {listing} ms")
+        }
+    }
+}
+
+fn main(rt: HostRuntime) -> io::Result<()> {
+    let (runs, task) = asked(rt)?;
     let second = if task == Task::Cells {
         Pattern::Scattered(runs / 100)
     } else {
         Pattern::Stripes(50_000)
     };
     for pattern in [Pattern::Soup(runs), second] {
-        let mut store = Shared::new(rt.alloc(), 1 << 40);
-        let start = Instant::now(&rt)?;
-        let answer = pattern.fill(rt.alloc(), &mut store);
-        let filling = start.elapsed(&rt)?.as_millis();
-        let Ok(root) = answer else {
-            println!(rt; "{pattern}: refused")?;
-            continue;
-        };
-        let start = Instant::now(&rt)?;
-        match task {
-            Task::Count => {
-                let used = reached(rt.alloc(), &store, root).unwrap_or(0);
-                println!(rt; "{pattern}: {} squares, {used} in the answer", store.len())?;
-            }
-            Task::Time => println!(rt; "{pattern}: {} squares in {filling} ms", store.len())?,
-            Task::Cells => {
-                let count = listed(rt.alloc(), &store, root).unwrap_or(0);
-                let listing = start.elapsed(&rt)?.as_millis();
-                println!(rt; "{pattern}: {count} cells in {listing} ms")?;
-            }
-        }
+        tell(rt, &mut Shared::new(rt.alloc(), 1 << 40), pattern, task)?;
     }
     Ok(())
 }
