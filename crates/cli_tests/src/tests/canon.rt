@@ -2,7 +2,7 @@
 
 ghost use Rattle.std.specs.Prelude.{◌≡◌, false};
 
-use super::devices::{Clogged, Dripping, Limited, sink_with};
+use super::devices::{Clogged, Dripping, Limited, assert_one, sink_with};
 use super::{GLIDER, GLIDER_TEXT, TWINS, TWINS_IN_RLE, TWINS_TEXT};
 use life_base::{Device, Sink, Source};
 use life_cli::plans::Job;
@@ -37,13 +37,16 @@ fn writes_the_canonical_text(rt: HostRuntime) {
     ];
     for (input, text) in rows {
         let mut reader = Device::new(input);
-        let mut writer = sink_with(rt.alloc(), 999, 7);
-        let (status, told) = canon(rt.alloc(), &mut reader, &mut writer, 99);
-        assert!(rt; !reader.failed() && !writer.failed());
-        assert_eq!(rt;
-            (status, told.as_slice(), writer.taken.as_slice()),
-            (0, b"".as_slice(), text)
+        assert_one(
+            &rt,
+            rt.alloc(),
+            &Job::Canon,
+            &mut reader,
+            999,
+            7,
+            (0, text, b""),
         );
+        assert!(rt; !reader.failed());
     }
 }
 
@@ -61,10 +64,15 @@ fn tells_what_is_wrong(rt: HostRuntime) {
     ];
     for (input, line) in rows {
         let mut reader = Device::new(input);
-        let mut writer = sink_with(rt.alloc(), 999, 999);
-        let (status, told) = canon(rt.alloc(), &mut reader, &mut writer, 99);
-        let found = (status, told.as_slice(), writer.taken.is_empty());
-        assert_eq!(rt; found, (2, line, true));
+        assert_one(
+            &rt,
+            rt.alloc(),
+            &Job::Canon,
+            &mut reader,
+            999,
+            999,
+            (2, b"", line),
+        );
     }
 }
 
@@ -77,11 +85,16 @@ fn failing_source(rt: HostRuntime) {
             good: 3,
             failed: false,
         };
-        let mut writer = sink_with(rt.alloc(), 999, 999);
-        let (status, told) = canon(rt.alloc(), &mut reader, &mut writer, 99);
         let fault = b"ReadFault\n".as_slice();
-        let found = (status, told.as_slice(), writer.taken.is_empty());
-        assert_eq!(rt; found, (3, fault, true));
+        assert_one(
+            &rt,
+            rt.alloc(),
+            &Job::Canon,
+            &mut reader,
+            999,
+            999,
+            (3, b"", fault),
+        );
         assert!(rt; reader.failed());
     }
 }
@@ -90,13 +103,18 @@ fn failing_source(rt: HostRuntime) {
 #[test]
 fn failing_sink(rt: HostRuntime) {
     let rows: [(usize, usize, &[u8]); 3] = [(5, 2, b"[M2] "), (0, 9, b""), (999, 0, b"")];
+    let fault = b"WriteFault\n".as_slice();
     for (room, piece, taken) in rows {
         let mut reader = Device::new(GLIDER);
-        let mut writer = sink_with(rt.alloc(), room, piece);
-        let (status, told) = canon(rt.alloc(), &mut reader, &mut writer, 99);
-        let fault = b"WriteFault\n".as_slice();
-        let found = (status, told.as_slice(), writer.taken.as_slice());
-        assert_eq!(rt; found, (3, fault, taken));
+        assert_one(
+            &rt,
+            rt.alloc(),
+            &Job::Canon,
+            &mut reader,
+            room,
+            piece,
+            (3, taken, fault),
+        );
     }
 }
 

@@ -1,10 +1,13 @@
-//! Devices that fail.
+//! Devices that fail, and what a job leaves in them.
 
 ghost use Rattle.std.specs.Prelude.{◌≡◌, ◌≤◌, Some, true, false};
 ghost use Rattle.std.proofs.Common.{rules};
 ghost use Rattle.life_base.specs.Devices.{count_of};
+ghost use Rattle.life_cli.specs.Plans.{HasSecond};
 
-use life_base::{Kind, Sink, Source};
+use life_base::{Device, Kind, Sink, Source};
+use life_cli::plans::Job;
+use life_cli::work;
 use std::alloc::Global;
 use std::io;
 use std::io::Write;
@@ -106,7 +109,7 @@ pub(super) fn sink_with(alloc: Global, room: usize, piece: usize) -> Limited
     }
 }
 
-/// A job left this: its status, what standard output took, and what standard error took.
+/// A job left this: its status, what standard output took, and what standard error took. Its status tells a failed output.
 pub(super) fn assert_left(
     rt: &impl Abort,
     (status, out, err): (u8, Limited, Limited),
@@ -114,6 +117,28 @@ pub(super) fn assert_left(
 ) {
     let left = (status, out.taken.as_slice(), err.taken.as_slice());
     assert_eq!(rt; left, wanted);
+    assert!(rt; !out.failed || status == 3);
+}
+
+/// A job of one file, where standard output takes so many bytes in such pieces, leaves this: its status, what standard output took, and
+/// what standard error took.
+pub(super) fn assert_one<A: Source>(
+    rt: &impl Abort,
+    alloc: Global,
+    job: &Job,
+    first: &mut A,
+    room: usize,
+    piece: usize,
+    wanted: (u8, &[u8], &[u8]),
+)
+    requires alone { ¬ HasSecond job.now }
+    requires reads { A.failures first.old ≡ 0 }
+{
+    let mut second = None::<Device<&[u8]>>;
+    let mut out = sink_with(alloc, room, piece);
+    let mut err = sink_with(alloc, 99, 3);
+    let status = work(alloc, job, first, &mut second, &mut out, &mut err);
+    assert_left(rt, (status, out, err), wanted);
 }
 
 /// A writer of std that takes all bytes and can't flush.

@@ -1,36 +1,14 @@
 //! What the jobs other than `canon` are refused for, in which order.
 
 ghost use Rattle.std.specs.Prelude.{◌≡◌, false};
-ghost use Rattle.life_cli.specs.Plans.{HasSecond};
 
 use super::TWINS;
-use super::devices::{Clogged, Dripping, Limited, assert_left, sink_with};
+use super::devices::{Clogged, Dripping, Limited, assert_left, assert_one, sink_with};
 use life_base::{Device, Sink, Source};
 use life_cli::plans::{Job, Target};
 use life_cli::work;
 use std::alloc::Global;
 use std::process::Abort;
-
-/// A job of one file, where standard output takes so many bytes in such pieces, leaves this: its status, what standard output took, and
-/// what standard error took.
-fn assert_one<A: Source>(
-    rt: &impl Abort,
-    alloc: Global,
-    job: &Job,
-    first: &mut A,
-    room: usize,
-    piece: usize,
-    wanted: (u8, &[u8], &[u8]),
-)
-    requires alone { ¬ HasSecond job.now }
-    requires reads { A.failures first.old ≡ 0 }
-{
-    let mut second = None::<Device<&[u8]>>;
-    let mut out = sink_with(alloc, room, piece);
-    let mut err = sink_with(alloc, 99, 3);
-    let status = work(alloc, job, first, &mut second, &mut out, &mut err);
-    assert_left(rt, (status, out, err), wanted);
-}
 
 /// The status of a comparison, and what standard error took.
 fn compare<A: Source, B: Source + Drop, O: Sink>(
