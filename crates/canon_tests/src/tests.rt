@@ -13,7 +13,6 @@ use life_canon::canon;
 use life_quad::Shared;
 use std::alloc::Global;
 use std::process::Abort;
-use std::test::Fail;
 
 const GLIDER: &[u8] = b"x = 3, y = 3, rule = B3/S23\nbo$2bo$3o!\n";
 
@@ -80,16 +79,9 @@ const GLIDER_OPEN: &[u8] = b"x = 3, y = 3, rule = B3/S23\nbo$2bo$3o";
 const ROOM: u64 = 1 << 31;
 
 /// The file has this canonical text.
-fn has_text(
-    rt: &impl Abort,
-    alloc: Global,
-    store: &mut Shared,
-    input: &[u8],
-    text: &[u8],
-) -> Result<(), Fail> {
-    let out = canon(alloc, store, input)?;
+fn has_text(rt: &impl Abort, alloc: Global, store: &mut Shared, input: &[u8], text: &[u8]) {
+    let out = canon(alloc, store, input).expect(rt, "an answer");
     assert_eq!(rt; out.as_slice(), text);
-    Ok(())
 }
 
 /// A fault of this kind at this line.

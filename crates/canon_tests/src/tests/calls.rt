@@ -9,37 +9,32 @@ use life_canon::{same, show, to_rle};
 use life_quad::Shared;
 use std::alloc::Global;
 use std::process::Abort;
-use std::test::Fail;
 
 /// Whether the files are the same, in both orders.
-fn compared(
-    rt: &impl Abort,
-    alloc: Global,
-    first: &[u8],
-    second: &[u8],
-    answer: bool,
-) -> Result<(), Fail> {
+fn compared(rt: &impl Abort, alloc: Global, first: &[u8], second: &[u8], answer: bool) {
     let mut store = Shared::new(alloc, ROOM);
-    assert_eq!(rt; same(alloc, &mut store, first, second)?, answer);
-    assert_eq!(rt; same(alloc, &mut store, second, first)?, answer);
-    Ok(())
+    let found = (
+        same(alloc, &mut store, first, second),
+        same(alloc, &mut store, second, first),
+    );
+    assert_eq!(rt; found, (Ok(answer), Ok(answer)));
 }
 
 #[test]
-fn files_are_compared(rt: HostRuntime) -> Result<(), Fail> {
+fn files_are_compared(rt: HostRuntime) {
     let alloc = rt.alloc();
-    compared(&rt, alloc, THREE, TWO_RUNS, true)?;
-    compared(&rt, alloc, THREE, THREE_OF_LIFE, false)?;
-    compared(&rt, alloc, THREE, b"x = 3, y = 1, rule = 23/3\n3o!\n", true)?;
+    compared(&rt, alloc, THREE, TWO_RUNS, true);
+    compared(&rt, alloc, THREE, THREE_OF_LIFE, false);
+    compared(&rt, alloc, THREE, b"x = 3, y = 1, rule = 23/3\n3o!\n", true);
     compared(
         &rt,
         alloc,
         THREE,
         b"#CXRLE Gen=1\nx = 3, y = 1, rule = B3/S23\n3o!\n",
         false,
-    )?;
-    compared(&rt, alloc, ONE, FAR, false)?;
-    compared(&rt, alloc, TOWER, CELL, true)
+    );
+    compared(&rt, alloc, ONE, FAR, false);
+    compared(&rt, alloc, TOWER, CELL, true);
 }
 
 #[test]
@@ -47,105 +42,104 @@ fn the_first_fault_is_told(rt: HostRuntime) {
     let alloc = rt.alloc();
     let mut store = Shared::new(alloc, ROOM);
     let bad = b"x = 1, y = 1\nB!\n";
-    assert_eq!(rt;
-        same(alloc, &mut store, bad, b"").err(),
-        Some(fault(2, Kind::StateRange))
+    let found = (
+        same(alloc, &mut store, bad, b""),
+        same(alloc, &mut store, b"", bad),
+        same(alloc, &mut store, THREE, bad),
     );
+    let bad_state = Err(fault(2, Kind::StateRange));
     assert_eq!(rt;
-        same(alloc, &mut store, b"", bad).err(),
-        Some(fault(1, Kind::NoHeader))
-    );
-    assert_eq!(rt;
-        same(alloc, &mut store, THREE, bad).err(),
-        Some(fault(2, Kind::StateRange))
+        found,
+        (bad_state, Err(fault(1, Kind::NoHeader)), bad_state)
     );
 }
 
 /// The file is shown as these five lines.
-fn shown(rt: &impl Abort, alloc: Global, input: &[u8], text: &[u8]) -> Result<(), Fail> {
+fn shown(rt: &impl Abort, alloc: Global, input: &[u8], text: &[u8]) {
     let mut store = Shared::new(alloc, ROOM);
-    let out = show(alloc, &mut store, input)?;
+    let out = show(alloc, &mut store, input).expect(rt, "an answer");
     assert_eq!(rt; out.as_slice(), text);
-    Ok(())
 }
 
 #[test]
-fn patterns_are_shown(rt: HostRuntime) -> Result<(), Fail> {
+fn patterns_are_shown(rt: HostRuntime) {
     let alloc = rt.alloc();
     shown(
         &rt,
         alloc,
         GLIDER,
         b"rule B3/S23\ngeneration 0\npopulation 5\nbox 0 0 3 3\nnodes 1\n",
-    )?;
+    );
     shown(
         &rt,
         alloc,
         BLANK,
         b"rule B3/S23\ngeneration 0\npopulation 0\nbox none\nnodes 0\n",
-    )?;
+    );
     shown(
         &rt,
         alloc,
         ROW,
         b"rule B3/S23\ngeneration 0\npopulation 1152921504606846976\nbox -576460752303423488 0 1152921504606846976 1\nnodes 58\n",
-    )?;
+    );
     shown(
         &rt,
         alloc,
         WIRES,
         b"rule WireWorld\ngeneration 7\npopulation 2\nbox -1 -1 2 1\nnodes 1\n",
-    )
+    );
 }
 
 /// The file is this text in RLE.
-fn converted(rt: &impl Abort, alloc: Global, input: &[u8], text: &[u8]) -> Result<(), Fail> {
+fn converted(rt: &impl Abort, alloc: Global, input: &[u8], text: &[u8]) {
     let mut store = Shared::new(alloc, ROOM);
-    let out = to_rle(alloc, &mut store, input)?;
+    let out = to_rle(alloc, &mut store, input).expect(rt, "an answer");
     assert_eq!(rt; out.as_slice(), text);
-    Ok(())
 }
 
 #[test]
-fn files_are_written_as_runs(rt: HostRuntime) -> Result<(), Fail> {
+fn files_are_written_as_runs(rt: HostRuntime) {
     let alloc = rt.alloc();
-    converted(&rt, alloc, PAIR, PAIR)?;
-    converted(&rt, alloc, WIRES, WIRES)?;
+    converted(&rt, alloc, PAIR, PAIR);
+    converted(&rt, alloc, WIRES, WIRES);
     converted(
         &rt,
         alloc,
         b"[M2] (canonical 1)\n#R WireWorld\n#G 7\n1 1 25 0 0\n",
         WIRES,
-    )?;
+    );
     converted(
         &rt,
         alloc,
         BLANK,
         b"#CXRLE Pos=0,0\nx = 0, y = 0, rule = B3/S23\n!\n",
-    )?;
+    );
     converted(
         &rt,
         alloc,
         b"x = 1, y = 1, rule = Foo\npA2$.C!\n",
         b"#CXRLE Pos=0,0\nx = 2, y = 3, rule = Foo\npA2$.C!\n",
-    )
+    );
 }
 
 #[test]
-fn runs_stand_on_lines_of_70_bytes(rt: HostRuntime) -> Result<(), Fail> {
+fn runs_stand_on_lines_of_70_bytes(rt: HostRuntime) {
     let alloc = rt.alloc();
     let mut text = Vec::new(alloc);
-    text.extend_from_slice(b"#CXRLE Pos=0,0\nx = 71, y = 1, rule = B3/S23\n")?;
+    text.extend_from_slice(b"#CXRLE Pos=0,0\nx = 71, y = 1, rule = B3/S23\n")
+        .expect(&rt, "memory");
     for _ in 0..35 {
-        text.extend_from_slice(b"ob")?;
+        text.extend_from_slice(b"ob").expect(&rt, "memory");
     }
-    text.extend_from_slice(b"\no!\n")?;
+    text.extend_from_slice(b"\no!\n").expect(&rt, "memory");
     let mut input = Vec::new(alloc);
-    input.extend_from_slice(b"x = 71, y = 1\n")?;
+    input
+        .extend_from_slice(b"x = 71, y = 1\n")
+        .expect(&rt, "memory");
     for _ in 0..36 {
-        input.extend_from_slice(b"ob")?;
+        input.extend_from_slice(b"ob").expect(&rt, "memory");
     }
-    converted(&rt, alloc, &input, &text)
+    converted(&rt, alloc, &input, &text);
 }
 
 #[test]

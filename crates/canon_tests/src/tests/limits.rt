@@ -11,7 +11,6 @@ use life_canon::canon;
 use life_quad::Shared;
 use std::alloc::Global;
 use std::process::Abort;
-use std::test::Fail;
 
 const ONE_TEXT: &[u8] = b"[M2] (canonical 1)\n#R B3/S23\n$$$$....*$$$$\n";
 
@@ -22,12 +21,7 @@ const MOST: u64 = 4096;
 
 /// The first limit that suffices for the file. Below it the file is refused, by a store that is full then; from it on the file has
 /// this text.
-fn first_limit(
-    rt: &impl Abort,
-    alloc: Global,
-    input: &[u8],
-    text: &[u8],
-) -> Result<Option<u64>, Fail> {
+fn first_limit(rt: &impl Abort, alloc: Global, input: &[u8], text: &[u8]) -> Option<u64> {
     let mut first = None;
     for limit in 0..=MOST {
         let mut store = Shared::new(alloc, limit);
@@ -43,82 +37,79 @@ fn first_limit(
             }
         }
     }
-    Ok(first)
+    first
 }
 
 /// Some limit above 0 suffices for the file.
-fn takes_room(rt: &impl Abort, alloc: Global, input: &[u8], text: &[u8]) -> Result<(), Fail> {
-    let first = first_limit(rt, alloc, input, text)?;
+fn takes_room(rt: &impl Abort, alloc: Global, input: &[u8], text: &[u8]) {
+    let first = first_limit(rt, alloc, input, text);
     assert!(rt; first.is_some_and(|limit| limit > 0));
-    Ok(())
 }
 
 #[test]
-fn a_blank_pattern_takes_no_room(rt: HostRuntime) -> Result<(), Fail> {
-    let first = first_limit(&rt, rt.alloc(), BLANK, BLANK_TEXT)?;
+fn a_blank_pattern_takes_no_room(rt: HostRuntime) {
+    let first = first_limit(&rt, rt.alloc(), BLANK, BLANK_TEXT);
     assert_eq!(rt; first, Some(0));
-    Ok(())
 }
 
 #[test]
-fn four_squares_take_room_for_four(rt: HostRuntime) -> Result<(), Fail> {
+fn four_squares_take_room_for_four(rt: HostRuntime) {
     // one square each of levels 1 to 4
     let input = b"[M2] (golly 4.2)\n#R B3/S23\n....*$\n4 0 0 1 1\n";
-    let first = first_limit(&rt, rt.alloc(), input, PAIR_TEXT)?;
+    let first = first_limit(&rt, rt.alloc(), input, PAIR_TEXT);
     assert_eq!(rt; first, Some(4));
-    Ok(())
 }
 
 #[test]
-fn node_lines_take_room(rt: HostRuntime) -> Result<(), Fail> {
+fn node_lines_take_room(rt: HostRuntime) {
     let alloc = rt.alloc();
-    takes_room(&rt, alloc, TOWER, CELL_TEXT)?;
-    takes_room(&rt, alloc, LEVELS, CELL_TEXT)?;
-    takes_room(&rt, alloc, REPEATS, PAIR_TEXT)?;
-    takes_room(&rt, alloc, TURNED, TURNED_TEXT)
+    takes_room(&rt, alloc, TOWER, CELL_TEXT);
+    takes_room(&rt, alloc, LEVELS, CELL_TEXT);
+    takes_room(&rt, alloc, REPEATS, PAIR_TEXT);
+    takes_room(&rt, alloc, TURNED, TURNED_TEXT);
 }
 
 #[test]
-fn runs_take_room(rt: HostRuntime) -> Result<(), Fail> {
+fn runs_take_room(rt: HostRuntime) {
     let alloc = rt.alloc();
-    takes_room(&rt, alloc, GLIDER, GLIDER_TEXT)?;
-    takes_room(&rt, alloc, CELL, CELL_TEXT)?;
-    takes_room(&rt, alloc, PAIR, PAIR_TEXT)?;
-    takes_room(&rt, alloc, WIRES, WIRES_TEXT)?;
-    takes_room(&rt, alloc, THREE, THREE_TEXT)?;
-    takes_room(&rt, alloc, TWO_RUNS, THREE_TEXT)?;
-    takes_room(&rt, alloc, ONE, ONE_TEXT)
+    takes_room(&rt, alloc, GLIDER, GLIDER_TEXT);
+    takes_room(&rt, alloc, CELL, CELL_TEXT);
+    takes_room(&rt, alloc, PAIR, PAIR_TEXT);
+    takes_room(&rt, alloc, WIRES, WIRES_TEXT);
+    takes_room(&rt, alloc, THREE, THREE_TEXT);
+    takes_room(&rt, alloc, TWO_RUNS, THREE_TEXT);
+    takes_room(&rt, alloc, ONE, ONE_TEXT);
 }
 
 #[test]
-fn states_take_room(rt: HostRuntime) -> Result<(), Fail> {
+fn states_take_room(rt: HostRuntime) {
     let alloc = rt.alloc();
     takes_room(
         &rt,
         alloc,
         THREE_OF_LIFE,
         b"[M2] (canonical 1)\n#R Life\n1 1 1 0 0\n1 1 0 0 0\n2 1 2 0 0\n3 0 0 0 3\n",
-    )?;
+    );
     takes_room(
         &rt,
         alloc,
         b"x = 1, y = 1, rule = Spread\nB!\n",
         b"[M2] (canonical 1)\n#R Spread\n1 0 0 0 2\n",
-    )
+    );
 }
 
 #[test]
-fn the_greatest_generation_takes_room(rt: HostRuntime) -> Result<(), Fail> {
+fn the_greatest_generation_takes_room(rt: HostRuntime) {
     takes_room(
         &rt,
         rt.alloc(),
         b"#CXRLE Gen=18446744073709551615\nx = 3, y = 1, rule = B3/S23\n3o!\n",
         b"[M2] (canonical 1)\n#R B3/S23\n#G 18446744073709551615\n$$$$....***$$$$\n",
-    )
+    );
 }
 
 #[test]
-fn far_cells_take_room(rt: HostRuntime) -> Result<(), Fail> {
+fn far_cells_take_room(rt: HostRuntime) {
     let alloc = rt.alloc();
     // the first cell's squares are numbers 1 to 17, and from level 7 on the second one's are others: 1000000 is 2^19 + 2^18 + 2^17 +
     // 2^16 + 2^14 + 2^9 + 2^6
@@ -128,12 +119,13 @@ fn far_cells_take_room(rt: HostRuntime) -> Result<(), Fail> {
         17,
         false,
         b"7 0 4 0 0\n8 18 0 0 0\n9 19 0 0 0\n10 0 20 0 0\n11 21 0 0 0\n12 22 0 0 0\n13 23 0 0 0\n14 24 0 0 0\n15 0 25 0 0\n16 26 0 0 0\n17 0 27 0 0\n18 0 28 0 0\n19 0 29 0 0\n20 17 30 0 0\n21 0 0 0 31\n",
-    )?;
-    takes_room(&rt, alloc, FAR, &text)
+    )
+    .expect(&rt, "memory");
+    takes_room(&rt, alloc, FAR, &text);
 }
 
 #[test]
-fn the_corner_takes_room(rt: HostRuntime) -> Result<(), Fail> {
+fn the_corner_takes_room(rt: HostRuntime) {
     let alloc = rt.alloc();
     let text = chain(
         alloc,
@@ -141,6 +133,7 @@ fn the_corner_takes_room(rt: HostRuntime) -> Result<(), Fail> {
         58,
         false,
         b"",
-    )?;
-    takes_room(&rt, alloc, CORNER, &text)
+    )
+    .expect(&rt, "memory");
+    takes_room(&rt, alloc, CORNER, &text);
 }

@@ -12,7 +12,6 @@ use life_mc::write_mc;
 use life_quad::Shared;
 use std::alloc::Global;
 use std::process::Abort;
-use std::test::Fail;
 
 /// The canonical text of what a reader was fed.
 fn text_of(alloc: Global, store: &mut Shared, reader: Reader) -> Result<Vec<u8>, Fault>
@@ -43,42 +42,36 @@ fn text_of_bytes(alloc: Global, input: &[u8]) -> Result<Vec<u8>, Fault> {
 }
 
 /// The file has this canonical text, cut anywhere into two pieces, and byte by byte.
-fn canonical_in_pieces(
-    rt: &impl Abort,
-    alloc: Global,
-    input: &[u8],
-    text: &[u8],
-) -> Result<(), Fail> {
+fn canonical_in_pieces(rt: &impl Abort, alloc: Global, input: &[u8], text: &[u8]) {
     for cut in 0..=input.len() {
-        let out = text_of_pieces(alloc, &input[..cut], &input[cut..])?;
+        let out = text_of_pieces(alloc, &input[..cut], &input[cut..]).expect(rt, "an answer");
         assert_eq!(rt; out.as_slice(), text);
     }
-    let out = text_of_bytes(alloc, input)?;
+    let out = text_of_bytes(alloc, input).expect(rt, "an answer");
     assert_eq!(rt; out.as_slice(), text);
-    Ok(())
 }
 
 #[test]
-fn runs_are_read_in_pieces(rt: HostRuntime) -> Result<(), Fail> {
+fn runs_are_read_in_pieces(rt: HostRuntime) {
     let alloc = rt.alloc();
-    canonical_in_pieces(&rt, alloc, GLIDER, GLIDER_TEXT)?;
-    canonical_in_pieces(&rt, alloc, GLIDER_CRLF, GLIDER_TEXT)?;
-    canonical_in_pieces(&rt, alloc, GLIDER_OPEN, GLIDER_TEXT)?;
-    canonical_in_pieces(&rt, alloc, WIRES, WIRES_TEXT)?;
-    canonical_in_pieces(&rt, alloc, PAIR, PAIR_TEXT)
+    canonical_in_pieces(&rt, alloc, GLIDER, GLIDER_TEXT);
+    canonical_in_pieces(&rt, alloc, GLIDER_CRLF, GLIDER_TEXT);
+    canonical_in_pieces(&rt, alloc, GLIDER_OPEN, GLIDER_TEXT);
+    canonical_in_pieces(&rt, alloc, WIRES, WIRES_TEXT);
+    canonical_in_pieces(&rt, alloc, PAIR, PAIR_TEXT);
 }
 
 #[test]
-fn node_lines_are_read_in_pieces(rt: HostRuntime) -> Result<(), Fail> {
-    canonical_in_pieces(&rt, rt.alloc(), REPEATS, PAIR_TEXT)
+fn node_lines_are_read_in_pieces(rt: HostRuntime) {
+    canonical_in_pieces(&rt, rt.alloc(), REPEATS, PAIR_TEXT);
 }
 
 #[test]
-fn a_row_of_the_plane_is_read_in_pieces(rt: HostRuntime) -> Result<(), Fail> {
+fn a_row_of_the_plane_is_read_in_pieces(rt: HostRuntime) {
     let alloc = rt.alloc();
     let mut store = Shared::new(alloc, ROOM);
-    let text = canon(alloc, &mut store, ROW)?;
-    canonical_in_pieces(&rt, alloc, ROW, &text)
+    let text = canon(alloc, &mut store, ROW).expect(&rt, "an answer");
+    canonical_in_pieces(&rt, alloc, ROW, &text);
 }
 
 #[test]
@@ -99,10 +92,9 @@ fn a_refused_reader_is_spent(rt: HostRuntime) {
 }
 
 #[test]
-fn no_byte_is_kept_behind_the_mark(rt: HostRuntime) -> Result<(), Fail> {
+fn no_byte_is_kept_behind_the_mark(rt: HostRuntime) {
     let alloc = rt.alloc();
-    let free = vec![in alloc; 111u8; 2097152]?;
-    let text = text_of_pieces(alloc, GLIDER, &free)?;
+    let free = vec![in alloc; 111u8; 2097152].expect(&rt, "memory");
+    let text = text_of_pieces(alloc, GLIDER, &free).expect(&rt, "an answer");
     assert_eq!(rt; text.as_slice(), GLIDER_TEXT);
-    Ok(())
 }

@@ -10,19 +10,14 @@ use std::process::Abort;
 /// Every call refuses the file at this line with this kind.
 fn refused(rt: &impl Abort, alloc: Global, input: &[u8], line: u64, kind: Kind) {
     let mut store = Shared::new(alloc, ROOM);
-    assert_eq!(rt;
+    let found = (
         canon(alloc, &mut store, input).err(),
-        Some(fault(line, kind))
-    );
-    assert_eq!(rt;
         show(alloc, &mut store, input).err(),
-        Some(fault(line, kind))
-    );
-    assert_eq!(rt;
         to_rle(alloc, &mut store, input).err(),
-        Some(fault(line, kind))
+        read(alloc, &mut store, input).err(),
     );
-    assert!(rt; matches!(read(alloc, &mut store, input), Err(found) if found == fault(line, kind)));
+    let wanted = Some(fault(line, kind));
+    assert_eq!(rt; found, (wanted, wanted, wanted, wanted));
 }
 
 #[test]
