@@ -115,11 +115,14 @@ pub(crate) fn mc_read(alloc: Global) -> Result<bool, Fault> {
     Ok(file.generation == 7 && file.lines.as_slice() == [square].as_slice())
 }
 
+// Whether the file is written so.
+fn is_mc_text(alloc: Global, input: &[u8], wanted: &[u8]) -> Result<bool, Fault> {
+    let file = read_mc(alloc, input)?;
+    let text = write_mc(alloc, &file)?;
+    Ok(text.as_slice() == wanted)
+}
+
 /// The texts of two files.
 pub(crate) fn mc_written(alloc: Global) -> Result<bool, Fault> {
-    let lone = read_mc(alloc, LONE)?;
-    let wires = read_mc(alloc, WIRES_TEXT)?;
-    let text = write_mc(alloc, &lone)?;
-    let wires_text = write_mc(alloc, &wires)?;
-    Ok(text.as_slice() == LONE_TEXT && wires_text.as_slice() == WIRES_TEXT)
+    Ok(is_mc_text(alloc, LONE, LONE_TEXT)? && is_mc_text(alloc, WIRES_TEXT, WIRES_TEXT)?)
 }
