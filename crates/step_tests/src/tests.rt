@@ -11,7 +11,6 @@ use life_step::{step_life, step_table};
 use life_table::{Table, read_table};
 use std::alloc::Global;
 use std::process::Abort;
-use std::test::Fail;
 
 /// More squares than a store may hold in these tests.
 const ROOM: u64 = 1 << 31;
@@ -44,42 +43,26 @@ fn one_step(
 }
 
 /// The pattern becomes that of another file.
-fn becomes(
-    rt: &impl Abort,
-    alloc: Global,
-    file: &[u8],
-    steps: u32,
-    other: &[u8],
-) -> Result<(), Fail> {
-    let text = stepped(alloc, file, None, steps)?;
+fn becomes(rt: &impl Abort, alloc: Global, file: &[u8], steps: u32, other: &[u8]) {
+    let text = stepped(alloc, file, None, steps).expect(rt, "an answer");
     let mut store = Shared::new(alloc, ROOM);
-    let wanted = canon(alloc, &mut store, other)?;
+    let wanted = canon(alloc, &mut store, other).expect(rt, "an answer");
     assert_eq!(rt; text.as_slice(), wanted.as_slice());
-    Ok(())
 }
 
 /// The pattern becomes that of another file by a table.
-fn becomes_by(
-    rt: &impl Abort,
-    alloc: Global,
-    table: &[u8],
-    file: &[u8],
-    steps: u32,
-    other: &[u8],
-) -> Result<(), Fail> {
-    let table = read_table(alloc, table)?;
-    let text = stepped(alloc, file, Some(&table), steps)?;
+fn becomes_by(rt: &impl Abort, alloc: Global, table: &[u8], file: &[u8], steps: u32, other: &[u8]) {
+    let table = read_table(alloc, table).expect(rt, "an answer");
+    let text = stepped(alloc, file, Some(&table), steps).expect(rt, "an answer");
     let mut store = Shared::new(alloc, ROOM);
-    let wanted = canon(alloc, &mut store, other)?;
+    let wanted = canon(alloc, &mut store, other).expect(rt, "an answer");
     assert_eq!(rt; text.as_slice(), wanted.as_slice());
-    Ok(())
 }
 
 /// A step of the file has this text.
-fn gives(rt: &impl Abort, alloc: Global, file: &[u8], text: &[u8]) -> Result<(), Fail> {
-    let out = stepped(alloc, file, None, 1)?;
+fn gives(rt: &impl Abort, alloc: Global, file: &[u8], text: &[u8]) {
+    let out = stepped(alloc, file, None, 1).expect(rt, "an answer");
     assert_eq!(rt; out.as_slice(), text);
-    Ok(())
 }
 
 /// A step of the file is refused at this line.
@@ -91,20 +74,12 @@ fn refuses(rt: &impl Abort, alloc: Global, file: &[u8], line: u64, kind: Kind) {
 }
 
 /// A step of the file by a table is refused.
-fn refuses_by(
-    rt: &impl Abort,
-    alloc: Global,
-    table: &[u8],
-    file: &[u8],
-    line: u64,
-    kind: Kind,
-) -> Result<(), Fail> {
-    let table = read_table(alloc, table)?;
+fn refuses_by(rt: &impl Abort, alloc: Global, table: &[u8], file: &[u8], line: u64, kind: Kind) {
+    let table = read_table(alloc, table).expect(rt, "an answer");
     assert_eq!(rt;
         stepped(alloc, file, Some(&table), 1).err(),
         Some(fault(line, kind))
     );
-    Ok(())
 }
 
 /// A fault of this kind at this line.

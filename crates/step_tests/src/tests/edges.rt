@@ -4,10 +4,9 @@ use super::{ROOM, becomes, fault, gives, refuses};
 use life_base::Kind;
 use life_quad::Shared;
 use life_step::step_life;
-use std::test::Fail;
 
 #[test]
-fn no_cell_is_born_outside(rt: HostRuntime) -> Result<(), Fail> {
+fn no_cell_is_born_outside(rt: HostRuntime) {
     let alloc = rt.alloc();
     refuses(
         &rt,
@@ -42,18 +41,18 @@ fn no_cell_is_born_outside(rt: HostRuntime) -> Result<(), Fail> {
         alloc,
         b"#CXRLE Pos=0,576460752303423487\nx = 3, y = 1\no!\n",
         b"[M2] (canonical 1)\n#R B3/S23\n#G 1\n",
-    )
+    );
 }
 
 #[test]
-fn a_block_stands_in_the_corner(rt: HostRuntime) -> Result<(), Fail> {
+fn a_block_stands_in_the_corner(rt: HostRuntime) {
     becomes(
         &rt,
         rt.alloc(),
         b"#CXRLE Pos=576460752303423486,576460752303423486\nx = 2, y = 2\n2o$2o!\n",
         1,
         b"#CXRLE Pos=576460752303423486,576460752303423486 Gen=1\nx = 2, y = 2\n2o$2o!\n",
-    )
+    );
 }
 
 #[test]

@@ -2,7 +2,6 @@
 
 use super::{becomes_by, refuses_by};
 use life_base::Kind;
-use std::test::Fail;
 
 const SPREAD: &[u8] =
     b"@RULE Spread\n@TABLE\nn_states:3\nneighborhood:vonNeumann\nsymmetries:rotate4\nvar a={1,2}\n0,a,0,0,0,a\n";
@@ -30,7 +29,7 @@ const BRIAN: &[u8] =
     0,1,1,i,j,k,l,m,n,1\n1,a,b,c,d,e,f,g,h,2\n2,a,b,c,d,e,f,g,h,0\n";
 
 #[test]
-fn a_state_spreads(rt: HostRuntime) -> Result<(), Fail> {
+fn a_state_spreads(rt: HostRuntime) {
     let alloc = rt.alloc();
     becomes_by(
         &rt,
@@ -39,7 +38,7 @@ fn a_state_spreads(rt: HostRuntime) -> Result<(), Fail> {
         b"x = 1, y = 1, rule = Spread\nB!\n",
         1,
         b"[M2] (canonical 1)\n#R Spread\n#G 1\n1 0 0 2 0\n1 0 2 0 0\n1 2 2 2 0\n2 0 1 2 3\n",
-    )?;
+    );
     becomes_by(
         &rt,
         alloc,
@@ -47,11 +46,11 @@ fn a_state_spreads(rt: HostRuntime) -> Result<(), Fail> {
         b"x = 1, y = 1, rule = Spread\nB!\n",
         1,
         b"#CXRLE Pos=-1,-1 Gen=1\nx = 3, y = 3, rule = Spread\n.B$3B$.B!\n",
-    )
+    );
 }
 
 #[test]
-fn the_first_condition_is_told(rt: HostRuntime) -> Result<(), Fail> {
+fn the_first_condition_is_told(rt: HostRuntime) {
     let alloc = rt.alloc();
     refuses_by(
         &rt,
@@ -60,7 +59,7 @@ fn the_first_condition_is_told(rt: HostRuntime) -> Result<(), Fail> {
         b"#CXRLE Pos=-1,-1 Gen=7\nx = 2, y = 1, rule = WireWorld\nApA!\n",
         0,
         Kind::RuleMismatch,
-    )?;
+    );
     refuses_by(
         &rt,
         alloc,
@@ -68,7 +67,7 @@ fn the_first_condition_is_told(rt: HostRuntime) -> Result<(), Fail> {
         b"#CXRLE Gen=18446744073709551615\nx = 3, y = 1, rule = B3/S23\n3o!\n",
         0,
         Kind::RuleMismatch,
-    )?;
+    );
     refuses_by(
         &rt,
         alloc,
@@ -76,7 +75,7 @@ fn the_first_condition_is_told(rt: HostRuntime) -> Result<(), Fail> {
         b"x = 1, y = 1, rule = Spread\nC!\n",
         0,
         Kind::StateBeyondTable,
-    )?;
+    );
     refuses_by(
         &rt,
         alloc,
@@ -84,7 +83,7 @@ fn the_first_condition_is_told(rt: HostRuntime) -> Result<(), Fail> {
         b"#CXRLE Gen=18446744073709551615\nx = 1, y = 1, rule = Spread\nC!\n",
         0,
         Kind::GenerationTooLarge,
-    )?;
+    );
     refuses_by(
         &rt,
         alloc,
@@ -92,7 +91,7 @@ fn the_first_condition_is_told(rt: HostRuntime) -> Result<(), Fail> {
         b"#CXRLE Pos=0,576460752303423487\nx = 2, y = 1, rule = Spread\nA.B.C!\n",
         0,
         Kind::StateBeyondTable,
-    )?;
+    );
     refuses_by(
         &rt,
         alloc,
@@ -100,11 +99,11 @@ fn the_first_condition_is_told(rt: HostRuntime) -> Result<(), Fail> {
         b"#CXRLE Pos=0,576460752303423487\nx = 1, y = 1, rule = Spread\nB!\n",
         0,
         Kind::OutOfPlane,
-    )
+    );
 }
 
 #[test]
-fn a_row_of_the_plane_has_too_many_cells(rt: HostRuntime) -> Result<(), Fail> {
+fn a_row_of_the_plane_has_too_many_cells(rt: HostRuntime) {
     refuses_by(
         &rt,
         rt.alloc(),
@@ -112,11 +111,11 @@ fn a_row_of_the_plane_has_too_many_cells(rt: HostRuntime) -> Result<(), Fail> {
         b"#CXRLE Pos=-576460752303423488,0\nx = 1, y = 1, rule = Spread\n1152921504606846976C!\n",
         0,
         Kind::TooManyCells,
-    )
+    );
 }
 
 #[test]
-fn two_states_are_ambiguous(rt: HostRuntime) -> Result<(), Fail> {
+fn two_states_are_ambiguous(rt: HostRuntime) {
     let alloc = rt.alloc();
     refuses_by(
         &rt,
@@ -125,7 +124,7 @@ fn two_states_are_ambiguous(rt: HostRuntime) -> Result<(), Fail> {
         b"#CXRLE Pos=0,-1\nx = 2, y = 2, rule = Spread\nA$.B!\n",
         8,
         Kind::Ambiguous,
-    )?;
+    );
     refuses_by(
         &rt,
         alloc,
@@ -133,7 +132,7 @@ fn two_states_are_ambiguous(rt: HostRuntime) -> Result<(), Fail> {
         b"#CXRLE Pos=0,-576460752303423488\nx = 2, y = 5, rule = Spread\nA3$A$.B!\n",
         9,
         Kind::Ambiguous,
-    )?;
+    );
     refuses_by(
         &rt,
         alloc,
@@ -141,11 +140,11 @@ fn two_states_are_ambiguous(rt: HostRuntime) -> Result<(), Fail> {
         b"#CXRLE Pos=0,-576460752303423488\nx = 1, y = 1, rule = Spread\nA!\n",
         0,
         Kind::OutOfPlane,
-    )
+    );
 }
 
 #[test]
-fn an_electron_runs_along_a_wire(rt: HostRuntime) -> Result<(), Fail> {
+fn an_electron_runs_along_a_wire(rt: HostRuntime) {
     let alloc = rt.alloc();
     becomes_by(
         &rt,
@@ -154,7 +153,7 @@ fn an_electron_runs_along_a_wire(rt: HostRuntime) -> Result<(), Fail> {
         b"x = 6, y = 1, rule = WireWorld\nBA4C!\n",
         4,
         b"#CXRLE Gen=4\nx = 6, y = 1, rule = WireWorld\n4CBA!\n",
-    )?;
+    );
     becomes_by(
         &rt,
         alloc,
@@ -162,11 +161,11 @@ fn an_electron_runs_along_a_wire(rt: HostRuntime) -> Result<(), Fail> {
         b"x = 6, y = 1, rule = WireWorld\nBA4C!\n",
         6,
         b"#CXRLE Gen=6\nx = 6, y = 1, rule = WireWorld\n6C!\n",
-    )
+    );
 }
 
 #[test]
-fn an_electron_comes_round(rt: HostRuntime) -> Result<(), Fail> {
+fn an_electron_comes_round(rt: HostRuntime) {
     let alloc = rt.alloc();
     becomes_by(
         &rt,
@@ -175,7 +174,7 @@ fn an_electron_comes_round(rt: HostRuntime) -> Result<(), Fail> {
         b"x = 4, y = 4, rule = WireWorld\n.BA$C2.C$C2.C$.2C!\n",
         4,
         b"#CXRLE Gen=4\nx = 4, y = 4, rule = WireWorld\n.2C$C2.C$C2.C$.AB!\n",
-    )?;
+    );
     becomes_by(
         &rt,
         alloc,
@@ -183,11 +182,11 @@ fn an_electron_comes_round(rt: HostRuntime) -> Result<(), Fail> {
         b"x = 4, y = 4, rule = WireWorld\n.BA$C2.C$C2.C$.2C!\n",
         8,
         b"#CXRLE Gen=8\nx = 4, y = 4, rule = WireWorld\n.BA$C2.C$C2.C$.2C!\n",
-    )
+    );
 }
 
 #[test]
-fn two_firing_cells_make_four(rt: HostRuntime) -> Result<(), Fail> {
+fn two_firing_cells_make_four(rt: HostRuntime) {
     becomes_by(
         &rt,
         rt.alloc(),
@@ -195,5 +194,5 @@ fn two_firing_cells_make_four(rt: HostRuntime) -> Result<(), Fail> {
         b"x = 2, y = 1, rule = BriansBrain\n2A!\n",
         1,
         b"#CXRLE Pos=0,-1 Gen=1\nx = 2, y = 3, rule = BriansBrain\n2A$2B$2A!\n",
-    )
+    );
 }
