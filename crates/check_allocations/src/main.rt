@@ -91,65 +91,39 @@ fn measuring_calls(rt: &HostRuntime) {
     }
 }
 
-/// A store for few nodes for each worked example.
-#[derive(Drop)]
-struct SmallStores {
-    rows: Shared,
-    row: Shared,
-    setting: Shared,
-    trimming: Shared,
-    growing: Shared,
-    listing: Shared,
-}
-
-impl SmallStores {
-    fn new(alloc: Global) -> SmallStores {
-        SmallStores {
-            rows: Shared::new(alloc, 1000),
-            row: Shared::new(alloc, 59),
-            setting: Shared::new(alloc, 1000),
-            trimming: Shared::new(alloc, 1000),
-            growing: Shared::new(alloc, 1000),
-            listing: Shared::new(alloc, 1000),
-        }
-    }
-}
-
 // Worked examples in stores for few nodes.
-fn small_calls(rt: &HostRuntime, stores: &mut SmallStores) {
+fn shared_calls(rt: &HostRuntime) {
     let alloc = rt.alloc();
+    let mut rows = Shared::new(alloc, 1000);
+    let mut row = Shared::new(alloc, 59);
+    let mut setting = Shared::new(alloc, 1000);
+    let mut trimming = Shared::new(alloc, 1000);
+    let mut growing = Shared::new(alloc, 1000);
+    let mut listing = Shared::new(alloc, 1000);
     for time in ["", ", again"] {
         let calls = Calls::at(rt, "Shared", time);
         calls.tell(
             "rows of 2^60 cells",
-            squares::rows_measured(alloc, &mut stores.rows),
+            squares::rows_measured(alloc, &mut rows),
         );
         calls.tell(
             "a row of 2^60 cells at limit 59",
-            squares::row_refused(&mut stores.row),
+            squares::row_refused(&mut row),
         );
         calls.tell(
             "cells in either order",
-            squares::set_and_cleared(&mut stores.setting),
+            squares::set_and_cleared(&mut setting),
         );
-        calls.tell(
-            "trim of level 9",
-            squares::levels_trimmed(&mut stores.trimming),
-        );
+        calls.tell("trim of level 9", squares::levels_trimmed(&mut trimming));
         calls.tell(
             "grow, trim",
-            squares::grown_and_trimmed(alloc, &mut stores.growing),
+            squares::grown_and_trimmed(alloc, &mut growing),
         );
         calls.tell(
             "two cells at limit 1",
-            squares::list_refused(alloc, &mut stores.listing),
+            squares::list_refused(alloc, &mut listing),
         );
     }
-}
-
-fn shared_calls(rt: &HostRuntime) {
-    let mut stores = SmallStores::new(rt.alloc());
-    small_calls(rt, &mut stores);
 }
 
 fn plain_calls(rt: &HostRuntime) {
@@ -231,18 +205,11 @@ fn example_calls<'x>(
 }
 
 // Files in turn: where one call is refused, the next on the same store reads another file.
-fn file_by_file(rt: &HostRuntime, stores: &mut Stores) {
-    for time in ["", ", again"] {
-        example_calls(rt, stores, "glider", &GLIDER, time);
-        example_calls(rt, stores, "two cells", &PAIR, time);
-        example_calls(rt, stores, "one cell under seven squares", &LONE, time);
-        example_calls(rt, stores, "two states of a name", &WIRES, time);
-    }
-}
-
-fn pattern_calls(rt: &HostRuntime) {
-    let mut stores = Stores::new(rt.alloc());
-    file_by_file(rt, &mut stores);
+fn pattern_calls<'x>(rt: &'x HostRuntime, stores: &mut Stores, time: &'x str) {
+    example_calls(rt, stores, "glider", &GLIDER, time);
+    example_calls(rt, stores, "two cells", &PAIR, time);
+    example_calls(rt, stores, "one cell under seven squares", &LONE, time);
+    example_calls(rt, stores, "two states of a name", &WIRES, time);
 }
 
 fn main(rt: HostRuntime) {
@@ -253,5 +220,7 @@ fn main(rt: HostRuntime) {
     measuring_calls(&rt);
     shared_calls(&rt);
     plain_calls(&rt);
-    pattern_calls(&rt);
+    let mut stores = Stores::new(rt.alloc());
+    pattern_calls(&rt, &mut stores, "");
+    pattern_calls(&rt, &mut stores, ", again");
 }
