@@ -240,9 +240,10 @@ fn input_of(alloc: Global, text: &[u8]) -> Result<Vec<u8>, Kind> {
 
 /// The input of a row is answered as the row tells it.
 fn assert_row(rt: &impl Abort, alloc: Global, number: u64, row: &[u8]) {
-    let Some(bar) = row.iter().position(|byte| *byte == b'|') else {
-        panic!(rt; "row {number} has no bar");
-    };
+    let bar = row
+        .iter()
+        .position(|byte| *byte == b'|')
+        .expect(rt, "a bar");
     let input = input_of(alloc, &row[bar + 1..]).expect(rt, "memory");
     let got = answer_to(alloc, &input).expect(rt, "memory");
     assert_eq!(rt; got.as_bytes(), &row[..bar], "row {number}");
@@ -359,25 +360,28 @@ fn numbers_have_any_length(rt: HostRuntime) {
     }
 }
 
+/// A file of 3,000 rows with a cell each.
+fn many_lines(alloc: Global) -> Result<Vec<u8>, Kind> {
+    let mut input = Vec::new(alloc);
+    append(&mut input, b"x = 1, y = 1\n")?;
+    for _ in 0..3000u32 {
+        append(&mut input, b"2bo$\n")?;
+    }
+    Ok(input)
+}
+
 #[test]
 fn many_lines_are_read(rt: HostRuntime) {
-    let mut input = Vec::new(rt.alloc());
-    append(&mut input, b"x = 1, y = 1\n").expect(&rt, "memory");
-    for _ in 0..3000u32 {
-        append(&mut input, b"2bo$\n").expect(&rt, "memory");
-    }
-    let Ok(file) = read_rle(rt.alloc(), &input) else {
-        panic!(rt; "refused");
-    };
+    let mut input = many_lines(rt.alloc()).expect(&rt, "memory");
+    let file = read_rle(rt.alloc(), &input).expect(&rt, "a file");
     let runs = file.runs.as_slice();
-    assert_eq!(rt; runs.len(), 3000);
     let last = Run {
         x: 2,
         y: 2999,
         len: 1,
         state: 1,
     };
-    assert!(rt; runs.last() == Some(&last));
+    assert_eq!(rt; (runs.len(), runs.last()), (3000, Some(&last)));
     append(&mut input, b"0o\n").expect(&rt, "memory");
     let got = answer_to(rt.alloc(), &input).expect(&rt, "memory");
     assert_eq!(rt; got.as_str(), "3002 ZeroCount");

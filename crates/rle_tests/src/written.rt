@@ -287,10 +287,10 @@ fn assert_read_again(
     let file = read_again(alloc, rule, generation, cells).expect(rt, "file");
     let found = cells_of(alloc, &file).expect(rt, "memory");
     assert_eq!(rt; &found[..], cells);
-    assert_eq!(rt; file.runs.as_slice().len(), runs);
+    let (x, y) = corner;
     assert_eq!(rt;
-        (file.x, file.y, file.generation),
-        (corner.0, corner.1, generation)
+        (file.x, file.y, file.generation, file.runs.as_slice().len()),
+        (x, y, generation, runs)
     );
     assert!(rt; file.rule.same(&Rule::parse(alloc, rule).expect(rt, "rule")));
 }
