@@ -228,15 +228,15 @@ fn whole_numbers_of_either_sign(rt: HostRuntime) {
 #[test]
 fn a_million_digits(rt: HostRuntime) {
     let mut text = Vec::new(rt.alloc());
-    text.resize(1_000_000, b'0').expect(&rt, "memory");
-    assert_eq!(rt; read_u64(&text), Ok(0));
-    text.push(b'7').expect(&rt, "memory");
-    assert_eq!(rt; read_u64(&text), Ok(7));
-    assert_eq!(rt; read_i64(&text), Ok(7));
-    text.resize(2_000_000, b'9').expect(&rt, "memory");
-    assert_eq!(rt; read_u64(&text), Err(Kind::TooLarge));
-    text.push(b'a').expect(&rt, "memory");
-    assert_eq!(rt; read_u64(&text), Err(Kind::BadNumber));
+    for &(length, byte, unsigned, signed) in &[
+        (1_000_000, b'0', Ok(0), Ok(0)),
+        (1_000_001, b'7', Ok(7), Ok(7)),
+        (2_000_000, b'9', Err(Kind::TooLarge), Err(Kind::TooLarge)),
+        (2_000_001, b'a', Err(Kind::BadNumber), Err(Kind::BadNumber)),
+    ] {
+        text.resize(length, byte).expect(&rt, "memory");
+        assert_eq!(rt; (read_u64(&text), read_i64(&text)), (unsigned, signed));
+    }
 }
 
 #[test]
