@@ -179,7 +179,7 @@ fn example_calls<'x>(
     let alloc = rt.alloc();
     let calls = Calls::at(rt, name, time);
     calls.tell(
-        "read, number",
+        "read, number, text_of",
         patterns::numbered(alloc, &mut stores.numbered, example),
     );
     calls.tell(

@@ -3,7 +3,7 @@
 ghost use Rattle.life_canon.specs.Store.{IsTrimmed};
 
 use life_base::Fault;
-use life_canon::{Pattern, Reader, canon, number, read, same, show, to_rle};
+use life_canon::{Pattern, Reader, canon, number, read, same, show, text_of, to_rle};
 use life_mc::write_mc;
 use life_quad::Shared;
 use std::alloc::Global;
@@ -48,7 +48,7 @@ pub(crate) const WIRES: Example = Example {
     shown: b"rule WireWorld\ngeneration 7\npopulation 2\nbox -1 -1 2 1\nnodes 1\n",
 };
 
-// Whether the text of the pattern's node lines is the one that is wanted.
+// Whether the text of the pattern's node lines, and the pattern's own, is the one that is wanted.
 fn is_canonical(
     alloc: Global,
     store: &Shared,
@@ -58,11 +58,12 @@ fn is_canonical(
     requires { IsTrimmed store.now pattern.now }
 {
     let file = number(alloc, store, pattern)?;
-    let text = write_mc(alloc, &file)?;
-    Ok(text.as_slice() == wanted)
+    let written = write_mc(alloc, &file)?;
+    let text = text_of(alloc, store, pattern)?;
+    Ok(written.as_slice() == wanted && text.as_slice() == wanted)
 }
 
-/// The pattern of the file, and its node lines.
+/// The pattern of the file, its node lines and its text.
 pub(crate) fn numbered(
     alloc: Global,
     store: &mut Shared,

@@ -25,3 +25,4 @@ pub use reader::Reader;
 pub use reading::read;
 pub use running::{run_canon, run_canon_within};
 pub use showing::show;
+pub use writing::text_of;

@@ -52,8 +52,12 @@ fn written<S: SharedSquares>(alloc: Global, squares: &S, pattern: &Pattern) -> R
     Ok(out)
 }
 
-/// The canonical text of a pattern in its least square.
-pub(crate) fn text_of(alloc: Global, store: &Shared, pattern: &Pattern) -> Result<Vec<u8>, Fault>
+/// The canonical text of a pattern in its least square: that of `number`'s file, which is not made.
+///
+/// # Errors
+///
+/// `Memory`, at no line.
+pub fn text_of(alloc: Global, store: &Shared, pattern: &Pattern) -> Result<Vec<u8>, Fault>
     requires { IsTrimmed store.now pattern.now }
     ensures text { IfOk result (λ text. text.items ≡ canon_text MAX_LEVEL (universe_in store.now pattern.now)) }
     ensures memory { IfErr result (λ fault. fault ≡ fault_of Memory) }

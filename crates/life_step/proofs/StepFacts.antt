@@ -12,7 +12,6 @@ use Rattle.life_base.specs.declared.rule.Rule.{Rule}
 use Rattle.life_base.specs.declared.rule.Rule.TheVariants.{Life, Named}
 use Rattle.life_mc.specs.Macrocell.{largest_state}
 use Rattle.life_mc.specs.Squares.{HasStatesUpTo}
-use Rattle.life_mc.specs.Writing.{mc_text}
 use Rattle.life_quad.specs.Moves.{trimmed}
 use Rattle.life_quad.specs.Store.{Nodes, held}
 use Rattle.life_quad.specs.declared.id.Id.{Id}
@@ -111,9 +110,8 @@ text-of on_plane files tell u v same plane text e =
 pub text-of-square : FilesAreOnPlane MAX_LEVEL → TextsAreFiles MAX_LEVEL → TextsTellUniverses MAX_LEVEL
     → (store : Nodes) (rule : Rule) (generation : ℕ) (root : Id) (t : Tree) → IsRule rule → generation < 2 ^ 64 → content store root ≡ trimmed t (least_level rule)
     → IsFull t → depth t ≤ MAX_LEVEL → ((x y : ℤ) → tree_cell t x y ≤ largest_state rule)
-    → (text : List ℕ) → text ≡ mc_text (canonical_file MAX_LEVEL (universe_in store (record { rule = rule; generation = generation; root = root })))
+    → (text : List ℕ) → text ≡ canon_text MAX_LEVEL (universe_in store (record { rule = rule; generation = generation; root = root }))
     → IsTextOf MAX_LEVEL (square_universe rule generation t) text
-unfolding canon_text
 text-of-square on_plane files tell store rule generation root t is small e full level states text written =
     let same : (x y : ℤ) → tree_cell (content store root) x y ≡ tree_cell t x y =
     λ x y. ap (λ s. tree_cell s x y) e ∙ trimming_keeps_cells t (least_level rule) full (one-least rule) x y in

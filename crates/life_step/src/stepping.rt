@@ -15,8 +15,7 @@ ghost use Rattle.life_step.specs.Stepped.{IsLifeStep, IsTableStep, IsTextOf, Ste
 use life_base::{Fault, Kind, MAX_LEVEL, Rule, StepFault};
 use life_block::next_life_generation;
 use life_canon::laws::{files_are_on_plane, patterns_fit, texts_are_files, texts_tell_universes};
-use life_canon::{Pattern, number, read};
-use life_mc::write_mc;
+use life_canon::{Pattern, read};
 use life_quad::{Id, Shared, trim};
 use life_sweep::laws::{life_answers_at, table_answers_at};
 use life_sweep::{ByTable, next_generation};
@@ -84,8 +83,7 @@ fn text_of(
         generation,
         root,
     };
-    let file = number(alloc, store, &pattern)?;
-    write_mc(alloc, &file)
+    life_canon::text_of(alloc, store, &pattern)
 }
 
 /// The canonical text of the next generation of the pattern of a file, under its B/S rule.
