@@ -1,4 +1,4 @@
-use Rattle.std.proofs.Common.{sym, subst, List}
+use Rattle.std.proofs.Common.{sym, subst, List, rules}
 use Rattle.life_table.specs.Valid.{IsSound}
 use Rattle.life_table.specs.declared.table.Var.{Var}
 use Rattle.life_table.proofs.Good.{sound_of}
@@ -13,3 +13,6 @@ invariant_of-result c =
       sound = subst (λ (vars : List Var). IsSound n h y vars c.args.said.lines) (sym c.in_ok-vars-in-Some-Some-Some.ensures.ok)
           (sound_of c.args.said c.requires.good n h y c.in-Some-Some-Some.is-0 c.in-Some-Some-Some.is-1 c.in-Some-Some-Some.is-2);
     }
+
+pub returns-then-eq-clause-err : goal.returns-then-eq-clause-err
+returns-then-eq-clause-err c = search rules

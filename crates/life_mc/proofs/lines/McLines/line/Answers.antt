@@ -1,4 +1,4 @@
-use Rattle.std.proofs.Common.{◌≡◌, ◌++◌, ◌∷◌, [], ◌⊎◌, List, ℕ, true, false, sym, ap, subst, ◌∙◌, inl, inr}
+use Rattle.std.proofs.Common.{◌≡◌, ◌++◌, ◌∷◌, [], ◌⊎◌, List, ℕ, true, false, sym, ap, subst, ◌∙◌, inl, inr, rules}
 use Rattle.std.specs.Prelude.{Some, Option}
 use Rattle.std.specs.List.{cons_option}
 use Rattle.std.proofs.lemmas.Result.{err_from_is_err_and}
@@ -40,3 +40,6 @@ returns-clause-squares c =
     let same : lines ≡ c.args.self.now.lines = ap (λ (v : LinesRead). v.lines) c.self.view_is in
     ap squares_of c.then-self-inside.ensures ∙ squares_taken lines line ∙ ap (λ (o : Option Line). squares_of lines ++ cons_option o []) (sym took.0)
     ∙ ap (λ (ls : List (List ℕ)). squares_of ls ++ cons_option c.in_ok-square.square []) same
+
+pub returns-clause-lines : goal.returns-clause-lines
+returns-clause-lines c = search rules

@@ -1,4 +1,4 @@
-use Rattle.std.proofs.Common.{◌≡◌, ◌⊎◌, Err, ap, inl, inr}
+use Rattle.std.proofs.Common.{◌≡◌, ◌⊎◌, Err, ap, inl, inr, rules}
 use Rattle.life_base.specs.declared.kind.Kind.{Kind}
 use Rattle.life_base.specs.declared.kind.Kind.TheVariants.{NoHeader, Spent}
 use Rattle.life_base.specs.declared.cell.TheConstants.{MAX_LEVEL}
@@ -16,3 +16,6 @@ returns-in_err-rule-clause-whole c = λ r g.
       | inl m ↦ (let pre = c.in_err-rule.ensures.missing (ap Err m) in absurd (IsPreamble-refused MAX_LEVEL c.args.self.lines pre.0 pre.1 g))
       | inr s ↦ (let refused = c.in_err-rule.ensures.spent.0 (ap Err s) in cc)
     ]
+
+pub returns-clause-file : goal.returns-clause-file
+returns-clause-file c = search rules

@@ -1,0 +1,5 @@
+use Rattle.std.proofs.Common.{rules}
+use Rattle.life_rle.proofs.cursor.moved.Goals as goal
+
+pub returns-in-RowEnds : goal.returns-in-RowEnds
+returns-in-RowEnds c = search rules
