@@ -10,7 +10,7 @@ neighbours_in w i =
     bit_at w.north (i + 1) ∷ bit_at w.north (i + 2) ∷ bit_at w.here (i + 2) ∷ bit_at w.south (i + 2)
     ∷ bit_at w.south (i + 1) ∷ bit_at w.south i ∷ bit_at w.here i ∷ bit_at w.north i ∷ []
 
--- the number that the planes have in column i
+-- the number that the four words have in column i
 abbrev pub count_at : Counts → ℕ → ℕ
 count_at c i = bit_at c.ones i + 2 * bit_at c.twos i + 4 * bit_at c.fours i + 8 * bit_at c.eights i
 

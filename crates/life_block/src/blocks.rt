@@ -102,7 +102,7 @@ fn next_of_middle<S: Squares>(
 }
 
 /// The square of the next generation under a B/S rule of a square's cells, one level higher, about the same centre. Each square that it joins
-/// is part of that one.
+/// is part of that one. It asks for a square of level 2 or more.
 ///
 /// # Errors
 ///

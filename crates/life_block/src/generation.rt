@@ -17,7 +17,7 @@ use life_sweep::{ByCounts, next_generation};
 use std::alloc::Global;
 
 /// A square with the next generation under a B/S rule of a square's cells, of which at most `most` may have a state other than 0. It is one
-/// level higher, or the square of the whole plane where the square is that.
+/// level higher, or the square of the whole plane where the square is that. It asks for a square of level 2 or more.
 ///
 /// # Errors
 ///

@@ -191,8 +191,8 @@ fn least_turn(around: &[State; 9]) -> [State; 9]
     least
 }
 
-// A neighbourhood for which the table has the same answer. It stands for all those that differ in cells at which the table doesn't look, under
-// `permute` in the order of the neighbours, and under `rotate4` by a quarter turn.
+// A neighbourhood for which the table has the same answer. Of four neighbours it leaves out the corners; of eight it stands, under `permute`, for
+// all orders of them, and under `rotate4` for the quarter turns.
 fn representative(table: &Table, around: &[State; 9]) -> [State; 9]
     requires { All (λ s. s < table.now.n_states) around.now }
     ensures states { All (λ s. s < table.now.n_states) result }
