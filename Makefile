@@ -4,8 +4,9 @@
 #   make test      the merge gate, and every other check
 #   make quick     builds the same program without proving it, runs it on FILE=.. and keeps nothing
 #   make plants    tries the wrong bodies that the gate leaves out, before a release
+#   make fuzz      compares the program with the independent reader on CASES=.. random files by SEED=..
 #   make times     runs `rt ci`, and says how much processor time it took for each crate, its tests and its edits
-#   make bench     times the program beside plain programs in C
+#   make bench     times the program beside plain programs in C (with SMALL=1 on smaller inputs, within three minutes)
 #   make install   installs the proved program to $(DESTDIR)$(PREFIX)/bin, and its man page and completions to $(DESTDIR)$(PREFIX)/share
 #   make clean     removes what was built; the proofs' work in crates/*/out stays
 #   make distclean removes that too
@@ -15,6 +16,8 @@ DESTDIR =
 SHARE = $(DESTDIR)$(PREFIX)/share
 RT ?= rt
 EXAMPLE = examples/gosper_glider_gun.mc
+CASES = 100000
+SEED = 1
 
 all: golly_canon
 	@echo "golly_canon canon $(EXAMPLE):"
@@ -32,11 +35,14 @@ test:
 plants:
 	@RT="$(RT)" sh scripts/plants
 
+fuzz: golly_canon
+	@python3 -B tests/compare.py ./golly_canon --cases "$(CASES)" --seed "$(SEED)"
+
 times:
 	@RT="$(RT)" python3 scripts/times
 
 bench: golly_canon
-	@python3 bench/run.py ./golly_canon out/bench
+	@RT="$(RT)" SMALL="$(SMALL)" python3 bench/run.py ./golly_canon out/bench
 
 install: golly_canon
 	install -d "$(DESTDIR)$(PREFIX)/bin"
@@ -55,4 +61,4 @@ distclean: clean
 
 FORCE:
 
-.PHONY: all quick test plants times bench install clean distclean FORCE
+.PHONY: all quick test plants fuzz times bench install clean distclean FORCE

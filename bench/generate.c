@@ -5,7 +5,9 @@
 //   generate states8 BYTES     an RLE soup of a named rule with states 0 to 7, half of the cells 0
 //   generate states256 BYTES   the same with states 0 to 255
 //   generate cells BYTES       single cells, a few on each row of a square of 2^20 columns and rows
+//   generate deep BYTES        single cells, one on a row, anywhere in the whole plane
 //   generate rows LINES        an RLE file of so many rows of 2^60 cells each, with up to eight rows between them
+//   generate far LINES         an RLE file of so many rows of two cells each, some 8,000,000 columns apart
 //   generate rotate4 LINES     a rule table of so many transitions under that symmetry: 8 states, Moore, ten variables
 //   generate permute LINES     the same under permute
 //   generate settled_rotate4 LINES, generate settled_permute LINES     the same without variables as outputs, so that no cell gets two states
@@ -138,6 +140,21 @@ static void cells(long bytes) {
     puts("!");
 }
 
+static void deep(long bytes) {
+    puts("#CXRLE Pos=-576460752303423488,-576460752303423488\nx = 1, y = 1, rule = B3/S23");
+    uint64_t most = (1ull << 60) / (uint64_t)(bytes / 30 + 1); // so that the last row is in the plane
+    for (long written = 0; written < bytes;)
+        written += printf("%llubo%llu$\n", (unsigned long long)(1 + next_random() % ((1ull << 60) - 2)),
+                          (unsigned long long)(1 + next_random() % most));
+    puts("!");
+}
+
+static void far(long lines) {
+    puts("x = 8000000, y = 1, rule = B3/S23");
+    for (long i = 0; i < lines; i++) printf("%dbo%dbo$\n", 1 + (int)((next_random() >> 20) % 1000), 7990000 + (int)((next_random() >> 20) % 1000));
+    puts("!");
+}
+
 static void rows(long lines) {
     puts("#CXRLE Pos=-576460752303423488,0\nx = 1, y = 1, rule = B3/S23");
     for (long i = 0; i < lines; i++) printf("1152921504606846976o%d$\n", 1 + (int)((next_random() >> 20) % 8));
@@ -190,13 +207,15 @@ int main(int count, char **words) {
     else if (count == 3 && strcmp(words[1], "states8") == 0) states("Generated", 7, size);
     else if (count == 3 && strcmp(words[1], "states256") == 0) states("Generated", 255, size);
     else if (count == 3 && strcmp(words[1], "cells") == 0) cells(size);
+    else if (count == 3 && strcmp(words[1], "deep") == 0) deep(size);
     else if (count == 3 && strcmp(words[1], "rows") == 0) rows(size);
+    else if (count == 3 && strcmp(words[1], "far") == 0) far(size);
     else if (count == 3 && strcmp(words[1], "rotate4") == 0) table(words[1], wide, size, 0);
     else if (count == 3 && strcmp(words[1], "permute") == 0) table(words[1], narrow, size, 0);
     else if (count == 3 && strcmp(words[1], "settled_rotate4") == 0) table("rotate4", wide, size, 1);
     else if (count == 3 && strcmp(words[1], "settled_permute") == 0) table("permute", narrow, size, 1);
     else {
-        fputs("usage: generate macrocell|named|rle|states8|states256|cells|rows|rotate4|permute|settled_rotate4|settled_permute SIZE\n", stderr);
+        fputs("usage: generate macrocell|named|rle|states8|states256|cells|deep|rows|far|rotate4|permute|settled_rotate4|settled_permute SIZE\n", stderr);
         return 2;
     }
     return 0;

@@ -1,10 +1,12 @@
 #!/usr/bin/env python3
-"""Times golly_canon and the layers below it beside cat and beside plain programs in C on the same work, in one run.
+"""Times golly_canon and the layers below it beside plain programs in C on the same work, in one run.
 
 usage: bench/run.py PROGRAM FOLDER    (PROGRAM: the built golly_canon; FOLDER: where inputs and plain programs are made)
 
-Each command runs three times and the best time counts. The memory is the peak resident size in one more run, which /usr/bin/time
-starts: what this script starts itself is said to be as large as this script. The programs of crates/bench_* are proved and built first.
+Of each command the two programs take turns, five times each, and the least processor time (user and system) of each counts; their bytes are
+compared first. The memory is the peak resident size in one more run, which /usr/bin/time starts: what this script starts itself is said to be
+as large as this script. With SMALL=1 in the environment each input has a tenth of the size that its row names, each program has three turns, and
+the layers are left out: that ends within three minutes. The programs of crates/bench_* are proved and built first.
 """
 import os
 import re
@@ -15,10 +17,12 @@ import time
 
 HERE = os.path.dirname(os.path.abspath(__file__))
 TOP = os.path.dirname(HERE)
+IS_SMALL = os.environ.get("SMALL") == "1"
+TURNS = 3 if IS_SMALL else 5
 TIMES = 3
 
 
-def peak_of(words, source):
+def peak_of(words, source=os.devnull):
     """The peak memory of a command in bytes."""
     with open(source, "rb") as given, tempfile.NamedTemporaryFile("r") as told:
         subprocess.run(["/usr/bin/time", "-f", "%M", "-o", told.name, *words], stdin=given, stdout=subprocess.DEVNULL,
@@ -46,22 +50,19 @@ def timed(words, source=os.devnull):
     return best, peak_of(words, source), printed, least_spent
 
 
-def written(words, source=os.devnull):
-    """The best time of a command in seconds, its peak memory in bytes and the least processor time. Its output is thrown away, so that the time
-    to take it does not count."""
-    best, least_spent = None, None
-    for _ in range(TIMES):
-        with open(source, "rb") as given, open(os.devnull, "wb") as sink:
-            start = time.monotonic()
-            child = subprocess.Popen(words, stdin=given, stdout=sink)
-            _, status, usage = os.wait4(child.pid, 0)
-            took = time.monotonic() - start
-        if status != 0:
-            sys.exit(f"{' '.join(words)} on {source}: status {status}")
-        best = took if best is None else min(best, took)
-        spent = usage.ru_utime + usage.ru_stime
-        least_spent = spent if least_spent is None else min(least_spent, spent)
-    return best, peak_of(words, source), least_spent
+def spent(words):
+    """The processor seconds of a command. Its output is thrown away, so that the time to take it does not count."""
+    with open(os.devnull, "wb") as sink:
+        child = subprocess.Popen(words, stdin=subprocess.DEVNULL, stdout=sink)
+        _, status, usage = os.wait4(child.pid, 0)
+    if os.waitstatus_to_exitcode(status) not in (0, 1):
+        sys.exit(f"{' '.join(words)}: status {os.waitstatus_to_exitcode(status)}")
+    return usage.ru_utime + usage.ru_stime
+
+
+def in_turns(*commands):
+    """The least processor seconds of each of some commands, which take turns."""
+    return [min(times) for times in zip(*[[spent(words) for words in commands] for _ in range(TURNS)])]
 
 
 def output(words, source=os.devnull):
@@ -93,85 +94,121 @@ def proved(crate):
 
 
 def made(folder, name, kind, size):
-    """An input, made once."""
-    path = os.path.join(folder, name)
+    """An input, made once; a tenth of the size where all is small."""
+    size = size // 10 if IS_SMALL else size
+    path = os.path.join(folder, f"{kind}_{size}{name}")
     if not os.path.exists(path):
         with open(path, "wb") as out:
             subprocess.run([os.path.join(folder, "generate"), kind, str(size)], stdout=out, check=True)
     return path
 
 
-def soups(folder, reference):
-    """The inputs of `canonical`: a label and a path each."""
-    pairs = []
-    for label, name, size in (("10 MB", "soup_1e7", 10_000_000), ("100 MB", "soup_1e8", 100_000_000)):
-        soup = made(folder, name + ".rle", "rle", size)
-        tree = os.path.join(folder, name + ".mc")
-        if not os.path.exists(tree):
-            with open(tree, "wb") as out:
-                out.write(output([reference, "canon", "-"], soup))
-        pairs += [(f"soup of {label}, RLE", soup), (f"the same soup, macrocell", tree)]
-    return pairs + [(label, made(folder, name, kind, size)) for label, name, kind, size in (
-        ("random tree, 1,000,000 lines", "nodes_1e6.mc", "macrocell", 1_000_000),
-        ("the same from level 1, named", "named_1e6.mc", "named", 1_000_000),
-        ("8 states, 10 MB", "states8_1e7.rle", "states8", 10_000_000),
-        ("256 states, 10 MB", "states256_1e7.rle", "states256", 10_000_000),
-        ("single cells, 7 MB", "cells_7e6.rle", "cells", 7_000_000),
-        ("50,000 rows of 2^60 cells", "rows_5e4.rle", "rows", 50_000))]
+def compared(label, words, others):
+    """A row of the tables: a command of the program beside that of the plain one. Answers both processor times."""
+    text = output(words)
+    if text != output(others):
+        sys.exit(f"{label}: the two programs write other bytes")
+    took, base = in_turns(words, others)
+    peak, base_peak = peak_of(words), peak_of(others)
+    print(f"  {label:<48} {took:6.3f} s, plain {base:6.3f} s: {took / base:4.2f}; memory {peak / 1e6:4.0f} MB, plain {base_peak / 1e6:4.0f} MB:"
+          f" {peak / base_peak:4.2f}; the same {len(text):,} bytes", flush=True)
+    return took, base
+
+
+SOUPS = (1_000_000, 10_000_000, 100_000_000)
+MILLION = 2_140_000  # the bytes of a soup with some 2^20 cells that aren't 0
+
+
+def megabytes(size):
+    return f"{size // 1_000_000} MB"
+
+
+def soup_of(folder, size):
+    return made(folder, ".rle", "rle", size)
+
+
+def tree_of(folder, reference, size):
+    """The soup of a size as macrocell."""
+    soup = soup_of(folder, size)
+    path = soup + ".mc"
+    if not os.path.exists(path):
+        with open(path, "wb") as out:
+            out.write(output([reference, "canon", soup]))
+    return path
+
+
+def kinds(folder):
+    """The other inputs of `canon`: a label and a path each."""
+    return [(label, made(folder, name, kind, size)) for label, name, kind, size in (
+        ("random tree, 1,000,000 lines", ".mc", "macrocell", 1_000_000),
+        ("random tree, 3,000,000 lines", ".mc", "macrocell", 3_000_000),
+        ("named tree from level 1, 1,000,000 lines", ".mc", "named", 1_000_000),
+        ("8 states, 10 MB", ".rle", "states8", 10_000_000),
+        ("256 states, 10 MB", ".rle", "states256", 10_000_000),
+        ("single cells in a square of 2^20, 7 MB", ".rle", "cells", 7_000_000),
+        ("single cells in the whole plane, 1 MB", ".rle", "deep", 1_000_000),
+        ("50,000 rows of 2^60 cells", ".rle", "rows", 50_000),
+        ("50,000 rows of two cells, 8,000,000 columns apart", ".rle", "far", 50_000))]
+
+
+def growth(what, times):
+    """How the time of both programs grows from one soup to the next."""
+    for shorter, longer in zip(SOUPS, SOUPS[1:]):
+        ours, plains = (times[longer][of] / times[shorter][of] for of in (0, 1))
+        print(f"  {what}: {megabytes(longer)} take {ours:.1f} times as long as {megabytes(shorter)}, in C {plains:.1f} times")
 
 
 def canonical(program, folder):
-    print("golly_canon canon, beside cat and a plain program in C that does the whole of the work and checks nothing")
-    reference = plain(folder, "plain")
-    times = {}
-    for label, path in soups(folder, reference):
-        size = os.path.getsize(path)
-        if output([program, "canon", "-"], path) != output([reference, "canon", "-"], path):
-            sys.exit(f"{path}: the two programs write other bytes")
-        cat, _, _ = written(["cat"], path)
-        base, base_peak, _ = written([reference, "canon", "-"], path)
-        took, peak, _ = written([program, "canon", "-"], path)
-        times[label] = took
-        print(f"  {label:<29} {size / 1e6:6.1f} MB: {took:.3f} s ({size / took / 1e6:.0f} MB/s), plain {base:.3f} s, cat {cat:.3f} s; {took / base:.2f} times plain;"
-              f" peak memory {peak / 1e6:.0f} MB, plain {base_peak / 1e6:.0f} MB, {peak / base_peak:.2f} times plain; the same bytes")
-    print(f"  10 times the soup takes {times['soup of 100 MB, RLE'] / times['soup of 10 MB, RLE']:.1f} times as long")
+    print("golly_canon canon: processor time and peak memory beside a plain program in C that does the whole of the work and checks nothing")
+    reference, soups, trees = plain(folder, "plain"), {}, {}
+
+    def row(label, path):
+        return compared(label, [program, "canon", path], [reference, "canon", path])
+
+    for size in SOUPS:
+        soups[size] = row(f"soup of {megabytes(size)}, RLE", soup_of(folder, size))
+        trees[size] = row("the same soup, macrocell", tree_of(folder, reference, size))
+    for size in (MILLION, *SOUPS[:2]):
+        if output([program, "canon", soup_of(folder, size)]) != output([program, "canon", tree_of(folder, reference, size)]):
+            sys.exit(f"a soup of {size} bytes has two canonical texts, one for each format")
+    print("  both formats of a soup have one canonical text: 2^20 cells that aren't 0, 1 MB, 10 MB")
+    for label, path in kinds(folder):
+        row(label, path)
+    growth("soups in RLE", soups)
+    growth("the same as macrocell", trees)
 
 
-def jobs(folder, soup, tree):
+def jobs(folder, reference):
     """The commands but `canon`: a label, the words for the program, and those for the plain one. What is converted and stepped has at most 2^20
     cells that aren't 0."""
-    cells, states = made(folder, "soup_2e6.rle", "rle", 2_140_000), made(folder, "states8_2e6.rle", "states8", 2_000_000)
+    soup, tree = soup_of(folder, SOUPS[1]), tree_of(folder, reference, SOUPS[1])
+    cells, states = soup_of(folder, MILLION), made(folder, ".rle", "states8", 2_000_000)
     listed = [(f"same, {label}", ["same", soup, other], ["same", soup, other])
-              for label, other in (("RLE and macrocell of 10 MB", tree), ("RLE of 10 MB twice", soup))]
-    listed += [(f"show, {label} of 10 MB", ["show", path], ["show", path]) for label, path in (("RLE", soup), ("macrocell", tree))]
+              for label, other in (("RLE and macrocell", tree), ("RLE twice", soup))]
+    listed += [(f"show, {label}", ["show", path], ["show", path]) for label, path in (("RLE", soup), ("macrocell", tree))]
     listed += [(f"convert --to rle, {label}", ["convert", path, "--to", "rle"], ["rle", path])
                for label, path in (("two states", cells), ("eight states", states))]
-    listed.append(("step, two states", ["step", cells], ["step", cells]))
+    listed += [(f"step, {label}", ["step", path], ["step", path])
+               for label, path in (("RLE", cells), ("macrocell", tree_of(folder, reference, MILLION)))]
     for symmetry in ("rotate4", "permute"):
-        table = made(folder, f"settled_{symmetry}.rule", f"settled_{symmetry}", 300)
+        table = os.path.join(folder, f"settled_{symmetry}.rule")
+        with open(table, "wb") as out:
+            subprocess.run([os.path.join(folder, "generate"), f"settled_{symmetry}", "300"], stdout=out, check=True)
         listed.append((f"step --table, 300 lines, {symmetry}", ["step", states, "--table", table], ["step", states, table]))
     return listed
 
 
 def commands(program, folder):
-    print("the other commands, beside the plain program; soups of 10 MB, and of a million cells that aren't 0")
+    print(f"the other commands; soups of {megabytes(SOUPS[1])}, and what is converted and stepped has at most 2^20 cells that aren't 0")
     reference = plain(folder, "plain")
-    (_, soup), (_, tree) = soups(folder, reference)[:2]
-    for label, words, others in jobs(folder, soup, tree):
-        text = output([program, *words])
-        if text != output([reference, *others]):
-            sys.exit(f"{label}: the two programs write other bytes")
-        base, base_peak, base_spent = written([reference, *others])
-        took, peak, spent = written([program, *words])
-        print(f"  {label:<36} {took:.3f} s, plain {base:.3f} s; {took / base:.2f} times plain, {spent / base_spent:.2f} times the processor"
-              f" time; peak memory {peak / 1e6:.0f} MB, plain {base_peak / 1e6:.0f} MB; the same {len(text):,} bytes")
+    for label, words, others in jobs(folder, reference):
+        compared(label, [program, *words], [reference, *others])
 
 
 def rle(folder):
     print("reading RLE, beside a plain reader in C that checks nothing")
     program, reference = proved("bench_rle"), plain(folder, "plain_rle")
-    soups = [(label, made(folder, name, "rle", size))
-             for label, name, size in (("soup of 1 MB", "soup_1e6.rle", 1_000_000), ("soup of 10 MB", "soup_1e7.rle", 10_000_000))]
+    soups = [(f"soup of {megabytes(size)}", soup_of(folder, size)) for size in SOUPS[:2]]
     times = []
     for label, path in soups:
         took, peak, _, _ = timed([program, "read"], path)
@@ -242,7 +279,7 @@ def table(folder):
     print("next states by a rule table of 300 transitions, beside a plain matcher in C; 1,000,000 decisions")
     program, reference = proved("bench_table"), plain(folder, "plain_table")
     for symmetry in ("rotate4", "permute"):
-        path = made(folder, f"table_{symmetry}.rule", symmetry, 300)
+        path = made(folder, ".rule", symmetry, 300)
         _, peak, texts, _ = timed([program, "1000000", "time"], path)
         _, _, base, _ = timed([reference, "1000000"], path)
         answers, others = texts[0].splitlines()[0], base[0].splitlines()[0]
@@ -265,8 +302,12 @@ def main():
     program, folder = os.path.abspath(sys.argv[1]), os.path.abspath(sys.argv[2])
     os.makedirs(folder, exist_ok=True)
     plain(folder, "generate")
+    if IS_SMALL:
+        print("each input has a tenth of the size that its row names")
     canonical(program, folder)
     commands(program, folder)
+    if IS_SMALL:
+        return
     rle(folder)
     store(folder)
     strips(folder)

@@ -124,6 +124,19 @@ printf 'x = 1, y = 1, rule = Spread\nB!\n' > input
 printf '@RULE Spread\n@TABLE\nn_states:3\nneighborhood:vonNeumann\nsymmetries:rotate4\nvar a={1,2}\n0,a,0,0,0,a\n' > table
 program_run "step FILE --table RULE" 0 "$header Spread\n#G 1\n1 0 0 2 0\n1 0 2 0 0\n1 2 2 2 0\n2 0 1 2 3\n" "" step input --table table
 
+# A file of 2 MiB, with so many squares in its front that room is made for those of the rest.
+awk 'BEGIN {
+    print "[M2]"
+    for (i = 1; i <= 700; i++) {
+        row = ""
+        for (n = i; n > 0; n = int(n / 2)) row = row (n % 2 ? "*" : ".") (length(row) % 9 == 7 ? "$" : "")
+        print row "$"
+    }
+    for (i = 0; i < 1048576; i++) print "#"
+    print "....*$$$$$$$$"
+}' > input
+program_run "canon of 2 MiB" 0 "$header B3/S23\n....*\$\$\$\$\$\$\$\$\n" "" canon input
+
 # Two cells under the name of a rule, from standard input.
 printf '[M2]\n#R WireWorld\n#G 7\n1 1 25 0 0' > input
 program_run "canon -" 0 "$header WireWorld\n#G 7\n1 1 25 0 0\n" "" canon -
@@ -132,7 +145,7 @@ printf '[M2]\n#R B3/S23\n....*$$$$$$$$\n4 0 0 0 9\n' > input
 program_run "canon of a refused file" 2 "" "line 4: BadChild\n" canon input
 program_run "canon of an absent file" 3 "" "ReadFault\n" canon absent
 
-# What these texts are, tests/hostile.sh says.
+# What these texts are, tests/hostile.py says.
 program_run "--help" 0 "$("$program" --help)\n" "" --help
 program_run "no file" 5 "" "$("$program" canon 2>&1)\n" canon
 

@@ -75,9 +75,25 @@ fi
 same_words "zsh has the commands" "$(sed -n "s/^    '\([a-z]*\):.*/\1/p" completions/_golly_canon)" "$commands"
 same_words "fish has the commands" "$(sed -n 's/.*__fish_use_subcommand -f -a \([a-z]*\) .*/\1/p' completions/golly_canon.fish)" "$commands"
 same_words "fish has the commands of help" "$(sed -n "s/.*__fish_seen_subcommand_from help' -f -a '\(.*\)'/\1/p" completions/golly_canon.fish)" "$commands"
-same_words "zsh has the options" "$(grep -oE -- "[{,']--?[a-zA-Z]+" completions/_golly_canon | cut -c 2-)" "$(options; for command in $own; do options $command; done)"
-same_words "fish has the options" "$(sed -n 's/^complete \(.*\)/\1/p' completions/golly_canon.fish | grep -oE -- '-[sl] [a-zA-Z]+' | sed 's/-s /-/; s/-l /--/')" \
-    "$(options; for command in $own; do options $command; done)"
+# What zsh offers in the lines of a command: those behind its name in the `case`, or the line in front of it for no command.
+zsh_options() { # [COMMAND]
+    awk -v command="$1" '
+        /^case / { is_case = 1 }
+        is_case && /^    [a-z |]*\)$/ { on = 0; count = split($0, names, /[ |)]+/); for (i = 1; i <= count; i++) on = on || names[i] == command }
+        is_case ? command != "" && on : command == ""' completions/_golly_canon | grep -oE -- "[{,']--?[a-zA-Z]+" | cut -c 2-
+}
+# What fish offers: the options of a line without a condition stand at each command, the others where their condition says.
+fish_options() { # [COMMAND]
+    condition=${1:+__fish_seen_subcommand_from $1}
+    awk -v condition="${condition:-__fish_use_subcommand}" '!/ -n / || index($0, condition)' completions/golly_canon.fish |
+        sed -n 's/^complete \(.*\)/\1/p' | grep -oE -- '-[sl] [a-zA-Z]+' | sed 's/-s /-/; s/-l /--/'
+}
+for shell in zsh fish; do
+    same_words "$shell has the options" "$(${shell}_options)" "$(options)"
+    for command in $own; do
+        same_words "$shell has the options of $command" "$(${shell}_options "$command")" "$(options "$command")"
+    done
+done
 for file in completions/_golly_canon completions/golly_canon.fish; do
     verdict "$file has the formats" "$(grep -q 'rle mc' $file || echo " no 'rle mc'")"
 done

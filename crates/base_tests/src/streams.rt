@@ -153,6 +153,13 @@ fn each_failure_inside_is_told(rt: HostRuntime) {
     assert_one_flush(&rt, true, Err(Kind::WriteFault));
 }
 
+#[test]
+fn expected_bytes_are_told(rt: HostRuntime) {
+    let reader = Device::new(&b"ab"[..]);
+    assert_eq!(rt; reader.expected(), 0);
+    assert_eq!(rt; reader.expecting(7).expected(), 7);
+}
+
 /// An input is read to its end, or refused above so many bytes.
 fn assert_read(rt: &impl Abort, alloc: Global, input: &[u8], most: u64, wanted: Result<&[u8], Kind>)
     requires { most ≤ 2 ^ 30 }

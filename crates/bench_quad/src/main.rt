@@ -80,10 +80,14 @@ fn time_measures(rt: HostRuntime, squares: &mut Shared) -> io::Result<()> {
     eprintln!(rt; "full square: {} ms", spent.as_millis())
 }
 
+// Times the calls of one store in turn.
+fn time_calls(rt: HostRuntime, squares: &mut Shared) -> io::Result<()> {
+    time_joins(rt, squares, "fresh")?;
+    time_joins(rt, squares, "found")?;
+    time_runs(rt, squares)?;
+    time_measures(rt, squares)
+}
+
 fn main(rt: HostRuntime) -> io::Result<()> {
-    let mut squares = Shared::new(rt.alloc(), 1 << 31);
-    time_joins(rt, &mut squares, "fresh")?;
-    time_joins(rt, &mut squares, "found")?;
-    time_runs(rt, &mut squares)?;
-    time_measures(rt, &mut squares)
+    time_calls(rt, &mut Shared::new(rt.alloc(), 1 << 31))
 }

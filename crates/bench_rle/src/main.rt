@@ -5,7 +5,7 @@
 //! with that of a plain program.
 #![tactic(auto)]
 
-use life_base::{Cell, Device, Kind, read_within};
+use life_base::{Cell, Device, Fault, Kind, read_within};
 use life_rle::{RleFile, read_rle, sorted_cells, write_rle};
 use std::alloc::Global;
 use std::io::Write;
@@ -30,16 +30,42 @@ fn cells_of(alloc: Global, file: &RleFile) -> Result<Vec<Cell>, Kind> {
     Ok(cells)
 }
 
-// Writes the cells of a file, and tells how long that took.
-fn write_again(rt: HostRuntime, file: &RleFile, as_text: bool) -> io::Result<()> {
-    let Ok(cells) = cells_of(rt.alloc(), file) else {
-        return println!(rt; "no memory for the cells");
+// What the words ask for.
+#[derive(Clone, Copy)]
+struct Options {
+    reads_only: bool,
+    as_text: bool,
+}
+
+fn asked(rt: HostRuntime) -> io::Result<Options> {
+    let mut options = Options {
+        reads_only: false,
+        as_text: false,
     };
-    if !sorted_cells(&file.rule, &cells) {
+    for word in env::args(&rt)? {
+        match word.as_str() {
+            "read" => options.reads_only = true,
+            "text" => options.as_text = true,
+            _ => {}
+        }
+    }
+    Ok(options)
+}
+
+// The file that standard input holds.
+fn input_file(rt: HostRuntime) -> Result<RleFile, Fault> {
+    let mut source = Device::new(rt.stdin());
+    let bytes = read_within(rt.alloc(), &mut source, 1 << 30)?;
+    read_rle(rt.alloc(), &bytes)
+}
+
+// Writes the cells of a file, and tells how long that took.
+fn time_writing(rt: HostRuntime, file: &RleFile, cells: &[Cell], as_text: bool) -> io::Result<()> {
+    if !sorted_cells(&file.rule, cells) {
         return println!(rt; "cells that can't be written");
     }
     let start = Instant::now(&rt)?;
-    let written = write_rle(rt.alloc(), &file.rule, file.generation, &cells);
+    let written = write_rle(rt.alloc(), &file.rule, file.generation, cells);
     let spent = start.elapsed(&rt)?;
     let Ok(text) = written else {
         return println!(rt; "no memory for the text");
@@ -51,35 +77,24 @@ fn write_again(rt: HostRuntime, file: &RleFile, as_text: bool) -> io::Result<()>
     eprintln!(rt; "written: {} us", spent.as_micros())
 }
 
-fn main(rt: HostRuntime) -> io::Result<()> {
-    let mut reads_only = false;
-    let mut as_text = false;
-    for word in env::args(&rt)? {
-        reads_only = reads_only || word.as_str() == "read";
-        as_text = as_text || word.as_str() == "text";
-    }
-    let alloc = rt.alloc();
-    let mut source = Device::new(rt.stdin());
-    let bytes = match read_within(alloc, &mut source, 1 << 30) {
-        Ok(bytes) => bytes,
-        Err(kind) => {
-            let name = kind.name();
-            return println!(rt; "{name}");
-        }
-    };
-    let file = match read_rle(alloc, &bytes) {
-        Ok(file) => file,
-        Err(fault) => {
-            let line = fault.place.line;
-            let name = fault.kind.name();
-            return println!(rt; "line {line}: {name}");
-        }
-    };
-    if !as_text {
+// Tells what a file holds, and writes it again.
+fn report(rt: HostRuntime, file: &RleFile, options: Options) -> io::Result<()> {
+    if !options.as_text {
         println!(rt; "{} runs", file.runs.as_slice().len())?;
     }
-    if reads_only {
+    if options.reads_only {
         return Ok(());
     }
-    write_again(rt, &file, as_text)
+    match cells_of(rt.alloc(), file) {
+        Ok(cells) => time_writing(rt, file, &cells, options.as_text),
+        Err(_) => println!(rt; "no memory for the cells"),
+    }
+}
+
+fn main(rt: HostRuntime) -> io::Result<()> {
+    let options = asked(rt)?;
+    match input_file(rt) {
+        Ok(file) => report(rt, &file, options),
+        Err(fault) => println!(rt; "{fault}"),
+    }
 }

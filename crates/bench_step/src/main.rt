@@ -7,7 +7,7 @@
 
 ghost use Rattle.std.specs.Prelude.{◌≡◌, ◌≤◌, IfOk};
 
-use life_base::{Device, LifeRule, Rule, read_within};
+use life_base::{Device, Kind, LifeRule, Rule, read_within};
 use life_block::next_life_generation;
 use life_canon::laws::{files_are_on_plane, patterns_fit};
 use life_canon::read;
@@ -61,33 +61,38 @@ fn time_generation(rt: HostRuntime, bytes: &[u8]) -> io::Result<()> {
     )
 }
 
-fn main(rt: HostRuntime) -> io::Result<()> {
+// Times the whole step, from text to text.
+fn time_step(rt: HostRuntime, bytes: &[u8]) -> io::Result<()> {
     let alloc = rt.alloc();
-    let mut source = Device::new(rt.stdin());
-    let mut bytes = match read_within(alloc, &mut source, 1 << 30) {
-        Ok(bytes) => bytes,
-        Err(kind) => {
-            let name = kind.name();
-            return println!(rt; "{name}");
-        }
-    };
-    if bytes.is_empty() {
-        bytes = match soup(alloc) {
-            Ok(bytes) => bytes,
-            Err(_) => return println!(rt; "no memory for a soup"),
-        };
-    }
-    time_generation(rt, &bytes)?;
     let mut store = Shared::new(alloc, 1 << 31);
     let start = Instant::now(&rt)?;
-    let stepped = step_life(alloc, &mut store, &bytes);
+    let stepped = step_life(alloc, &mut store, bytes);
     let spent = start.elapsed(&rt)?;
     eprintln!(rt; "text to text: {} us", spent.as_micros())?;
     match stepped {
         Ok(text) => println!(rt; "{} bytes", text.len()),
-        Err(fault) => {
-            let name = fault.kind.name();
-            println!(rt; "{name}")
-        }
+        Err(fault) => println!(rt; "{}", fault.kind.name()),
+    }
+}
+
+// The bytes of standard input, or of a soup where it is empty.
+fn input(rt: HostRuntime) -> Result<Vec<u8>, Kind> {
+    let mut source = Device::new(rt.stdin());
+    let bytes = read_within(rt.alloc(), &mut source, 1 << 30)?;
+    if bytes.is_empty() {
+        return Ok(soup(rt.alloc())?);
+    }
+    Ok(bytes)
+}
+
+fn time(rt: HostRuntime, bytes: &[u8]) -> io::Result<()> {
+    time_generation(rt, bytes)?;
+    time_step(rt, bytes)
+}
+
+fn main(rt: HostRuntime) -> io::Result<()> {
+    match input(rt) {
+        Ok(bytes) => time(rt, &bytes),
+        Err(kind) => println!(rt; "{}", kind.name()),
     }
 }

@@ -65,35 +65,63 @@ fn decide(table: &Table, decisions: u32) -> Answers
     answers
 }
 
-fn main(rt: HostRuntime) -> io::Result<()> {
-    let mut decisions = 1000;
-    let mut timed = false;
+/// What the arguments ask for.
+#[derive(Clone, Copy)]
+struct Options {
+    decisions: u32,
+    timed: bool,
+}
+
+/// The arguments read: a number is how many decisions are made, and `time` asks how long they took.
+fn asked(rt: HostRuntime) -> io::Result<Options> {
+    let mut options = Options {
+        decisions: 1000,
+        timed: false,
+    };
     for word in env::args(&rt)? {
         if word.as_str() == "time" {
-            timed = true;
+            options.timed = true;
         } else if let Ok(number) = word.as_str().parse::<u32>() {
-            decisions = number;
+            options.decisions = number;
         }
     }
+    Ok(options)
+}
+
+/// The table that standard input writes, or why there is none.
+fn input_table(rt: HostRuntime) -> Result<Table, &'static str> {
     let mut source = Device::new(rt.stdin());
     let Ok(bytes) = read_within(rt.alloc(), &mut source, 1 << 20) else {
-        return println!(rt; "no input");
+        return Err("no input");
     };
-    let Ok(table) = read_table(rt.alloc(), &bytes) else {
-        return println!(rt; "no rule table");
-    };
+    match read_table(rt.alloc(), &bytes) {
+        Ok(table) => Ok(table),
+        Err(_) => Err("no rule table"),
+    }
+}
+
+/// Makes the decisions and prints what they came to.
+fn report(rt: HostRuntime, table: &Table, options: Options) -> io::Result<()> {
     if table.neighborhood != Neighborhood::Moore || table.n_states != 8 {
         return println!(rt; "no table of eight neighbours and eight states");
     }
     let start = Instant::now(&rt)?;
-    let answers = decide(&table, decisions);
+    let answers = decide(table, options.decisions);
     let spent = start.elapsed(&rt)?;
     println!(rt;
-        "{decisions} decisions: sum {}, ambiguous {}",
-        answers.sum, answers.ambiguous
+        "{} decisions: sum {}, ambiguous {}",
+        options.decisions, answers.sum, answers.ambiguous
     )?;
-    if timed {
+    if options.timed {
         println!(rt; "{} ms", spent.as_millis())?;
     }
     Ok(())
+}
+
+fn main(rt: HostRuntime) -> io::Result<()> {
+    let options = asked(rt)?;
+    match input_table(rt) {
+        Ok(table) => report(rt, &table, options),
+        Err(reason) => println!(rt; "{reason}"),
+    }
 }

@@ -10,7 +10,7 @@ mod opening;
 use life_base::{Device, Fault, Kind};
 use life_cli::plans::{Plan, Usage};
 use life_cli::{Refusal, plan, status, tell, work};
-use opening::{Input, open};
+use opening::{Input, length, open};
 use std::alloc::{AllocError, Global};
 use std::process::ExitCode;
 use std::{env, io};
@@ -55,12 +55,21 @@ fn report_usage(rt: &HostRuntime, usage: &Usage) -> u8 {
     }
 }
 
+/// Opens the file of that name, and notes its length.
+fn open_device(rt: &HostRuntime, name: &str) -> io::Result<Device<Input>>
+    ensures { IfOk result (λ device. has_failed device ≡ false) }
+{
+    let input = open(rt, name)?;
+    let bytes = length(rt, &input);
+    Ok(Device::new(input).expecting(bytes))
+}
+
 /// Opens the second file of a plan that has one.
 fn open_second(rt: &HostRuntime, plan: &Plan) -> io::Result<Option<Device<Input>>>
     ensures { IfOk result (λ second. (IsSome second ↔ IsSome plan.now.second) × IfSome second (λ device. has_failed device ≡ false)) }
 {
     match &plan.second {
-        Some(name) => Ok(Some(Device::new(open(rt, name.as_str())?))),
+        Some(name) => Ok(Some(open_device(rt, name.as_str())?)),
         None => Ok(None),
     }
 }
@@ -69,10 +78,9 @@ fn open_second(rt: &HostRuntime, plan: &Plan) -> io::Result<Option<Device<Input>
 fn carry_out(rt: &HostRuntime, plan: &Plan) -> u8
     requires { IsSome plan.now.second ↔ HasSecond plan.now.job }
 {
-    let Ok(file) = open(rt, plan.first.as_str()) else {
+    let Ok(mut first) = open_device(rt, plan.first.as_str()) else {
         return report_fault(rt, Kind::ReadFault);
     };
-    let mut first = Device::new(file);
     let Ok(mut second) = open_second(rt, plan) else {
         return report_fault(rt, Kind::ReadFault);
     };

@@ -1,5 +1,6 @@
 //! The files that the words name.
 
+use std::fs;
 use std::fs::File;
 use std::io::{Read, Result};
 use std::rt::Stdin;
@@ -26,4 +27,16 @@ pub fn open(rt: &HostRuntime, name: &str) -> Result<Input> {
         return Ok(Input::Standard(rt.stdin()));
     }
     Ok(Input::File(File::open(rt, name)?))
+}
+
+/// About how many bytes an input has, where the system tells it: of a file its length, of what is no file 0.
+pub fn length(rt: &HostRuntime, input: &Input) -> u64 {
+    let metadata = match input {
+        Input::File(file) => file.metadata(),
+        Input::Standard(_) => fs::metadata(rt, "/dev/stdin"),
+    };
+    match metadata {
+        Ok(metadata) => metadata.len(),
+        Err(_) => 0,
+    }
 }

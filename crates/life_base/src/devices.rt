@@ -20,6 +20,11 @@ pub trait Source {
     fn failed(&self) -> bool
         ensures { IsTrue result ↔ (failures self.now ≡ 1) };
 
+    /// About how many bytes the source has, or 0 where it can't tell. That is a hint for the room that they take, and may be wrong.
+    fn expected(&self) -> u64 {
+        0
+    }
+
     /// Reads some of the next bytes into `buf`, and answers how many. A count of 0 into a nonempty `buf` is the end. A failure of
     /// any cause is `ReadFault`.
     fn read(&mut self, buf: &mut [u8]) -> Result<usize, Kind>
@@ -73,13 +78,15 @@ pub trait Sink {
 #[derive(Drop)]
 pub struct Device<T> {
     inner: T,
+    // How many bytes are expected of a source, or 0.
+    expected: u64,
     failed: bool,
     stalled: bool,
     flushed: bool,
 }
 
 impl<T> Device<T> {
-    ghost use Rattle.life_base.specs.DeviceState.{device_inner, IsFresh};
+    ghost use Rattle.life_base.specs.DeviceState.{device_inner, has_failed, has_stalled, is_flushed, IsFresh};
 
     /// A device over `inner` that has not failed, stalled or flushed.
     pub fn new(inner: T) -> Device<T>
@@ -88,10 +95,23 @@ impl<T> Device<T> {
     {
         Device {
             inner,
+            expected: 0,
             failed: false,
             stalled: false,
             flushed: false,
         }
+    }
+
+    /// The same device, of which about so many bytes are expected.
+    pub fn expecting(self, bytes: u64) -> Device<T>
+        ensures inner { device_inner result ≡ device_inner self }
+        ensures failed { has_failed result ≡ has_failed self }
+        ensures stalled { has_stalled result ≡ has_stalled self }
+        ensures flushed { is_flushed result ≡ is_flushed self }
+    {
+        let mut device = self;
+        device.expected = bytes;
+        device
     }
 }
 
@@ -104,6 +124,10 @@ impl<R: Read> Source for Device<R> {
 
     fn failed(&self) -> bool {
         self.failed
+    }
+
+    fn expected(&self) -> u64 {
+        self.expected
     }
 
     fn read(&mut self, buf: &mut [u8]) -> Result<usize, Kind> {

@@ -11,7 +11,7 @@ use Rattle.life_rle.specs.File.{HasRuns}
 use Rattle.life_rle.specs.RunsLaw.{IsGoodRun, AreGoodRuns, StandsBefore, StandsBeforeAll, AreInOrder}
 use Rattle.life_rle.specs.declared.file.Run.{Run}
 use Rattle.life_rle.proofs.RunsLaws.{runs_are_cells}
-use Rattle.life_strip.specs.Given.{GivenRun, IsBehind, IsOnPlane, half_plane}
+use Rattle.life_strip.specs.Given.{GivenRun, IsBehind, IsNext, IsOnPlane, half_plane}
 use Rattle.life_canon.specs.Building.{given, AreNext}
 
 -- ---- the runs of a file are good and in order
@@ -97,3 +97,13 @@ pub read-run : (so_far : List GivenRun) (runs : List Run) (i : ℕ) (d : Run) �
 read-run so_far runs i d h a =
     let b : AreNext so_far (get_or runs i d ∷ drop (suc i) runs) = subst (AreNext so_far) (drop-cons runs i d h) a in
     read-good (get_or runs i d) b.0 b.1
+
+-- and it may be given, as it is read
+pub run-next : (so_far : List GivenRun) (runs : List Run) (i : ℕ) (d : Run) → i < length runs → AreNext so_far (drop i runs)
+    → (1 ≤ (get_or runs i d).len)
+    × IsOnPlane (to_z w64 (of_z w64 (get_or runs i d).x)) (to_z w64 (of_z w64 (get_or runs i d).y)) (get_or runs i d).len
+    × IsNext so_far (to_z w64 (of_z w64 (get_or runs i d).x)) (to_z w64 (of_z w64 (get_or runs i d).y))
+run-next so_far runs i d h a =
+    let b : AreNext so_far (get_or runs i d ∷ drop (suc i) runs) = subst (AreNext so_far) (drop-cons runs i d h) a in
+    let same = sym (read-good (get_or runs i d) b.0 b.1) in
+    (b.0, subst (λ (r : GivenRun). IsOnPlane r.x r.y r.len) same b.1, subst (λ (r : GivenRun). IsNext so_far r.x r.y) same b.2)

@@ -11,7 +11,7 @@ use Rattle.life_canon.specs.Files.{Says, Reads, Same, RefusesLines, is_file_kind
 use Rattle.life_canon.specs.Listing.{canonical_file, canon_text}
 use Rattle.life_canon.specs.Least.{IsRival, IsLeast, HasPlaces}
 use Rattle.life_canon.specs.Feeding.{Fed, Stands}
-use Rattle.life_canon.specs.Store.{KeepsContents, IsRead, IsTrimmed, universe_in}
+use Rattle.life_canon.specs.Store.{Keeps, KeepsContents, IsRead, IsTrimmed, universe_in}
 use Rattle.life_canon.specs.declared.pattern.Pattern.{Pattern}
 use Rattle.life_quad.specs.Store.{Nodes}
 
@@ -80,6 +80,16 @@ WiderPlaneKeepsTexts =
 abbrev pub PatternsFit : ℕ → Type 0
 PatternsFit top =
     (bytes : List ℕ) (store : Nodes) (pattern : Pattern) (read : IsRead top bytes store pattern) → IsTrimmed store pattern × IsSame read.universe (universe_in store pattern)
+
+-- what was read into a store stays read while the store keeps its squares
+abbrev pub PatternsStay : ℕ → Type 0
+PatternsStay top = (bytes : List ℕ) (old new : Nodes) (pattern : Pattern) → Keeps old new → IsRead top bytes old pattern → IsRead top bytes new pattern
+
+-- Two patterns that were read into one store have one rule, one generation and one root exactly if their files are the same pattern.
+abbrev pub PatternsTellFiles : ℕ → Type 0
+PatternsTellFiles top =
+    (first second : List ℕ) (store : Nodes) (a b : Pattern) → IsRead top first store a → IsRead top second store b
+    → ((a.rule ≡ b.rule) × (a.generation ≡ b.generation) × (a.root ≡ b.root)) ↔ Same top first second
 
 -- while each Id keeps its square, a reader stands in the store
 abbrev pub ReadersStand : Type 0

@@ -45,8 +45,6 @@ pub fn to_rle(alloc: Global, store: &mut Shared, bytes: &[u8]) -> Result<Vec<u8>
     ensures keeps { Keeps store.old store.new }
 {
     let pattern = read(alloc, store, bytes)?;
-    match cells(alloc, store, pattern.root, MOST_CELLS) {
-        Ok(list) => write_rle(alloc, &pattern.rule, pattern.generation, &list),
-        Err(kind) => Err(Fault::of(kind)),
-    }
+    let list = cells(alloc, store, pattern.root, MOST_CELLS)?;
+    write_rle(alloc, &pattern.rule, pattern.generation, &list)
 }

@@ -104,10 +104,8 @@ fn take_macrocell_line<S: Squares>(
         return Ok(());
     };
     let id = line_square(squares, ids, square)?;
-    match ids.push(id) {
-        Ok(()) => Ok(()),
-        Err(_) => Err(Kind::Memory),
-    }
+    ids.push(id)?;
+    Ok(())
 }
 
 /// The pattern of a root, which is trimmed to the least level of a node line.

@@ -11,7 +11,7 @@ ghost use Rattle.life_canon.specs.Taking.{IsEnd, IsFrontOf, IsLineFault, IsOpen,
 
 use crate::feeding::Progress;
 use crate::pattern::Pattern;
-use life_base::{Fault, Kind, LineLog, MAX_LEVEL, line_end, line_fits};
+use life_base::{Fault, Kind, LineLog, MAX_LEVEL, append, line_end, line_fits};
 use life_quad::Shared;
 use std::alloc::Global;
 use std::mem;
@@ -100,10 +100,8 @@ impl Front {
         if !line_fits(self.kept.len() as u64, more.len() as u64) {
             return Err(self.fault_here(Kind::LineTooLong));
         }
-        match self.kept.extend_from_slice(more) {
-            Ok(()) => Ok(()),
-            Err(_) => Err(Fault::of(Kind::Memory)),
-        }
+        append(&mut self.kept, more)?;
+        Ok(())
     }
 
     /// Takes the line that is kept.

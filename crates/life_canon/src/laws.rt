@@ -2,7 +2,7 @@
 
 ghost use Rattle.life_base.specs.declared.cell.TheConstants.{MAX_LEVEL};
 ghost use Rattle.life_quad.specs.Laws.{TrimmingIgnoresGrowth};
-ghost use Rattle.life_canon.specs.Laws.{FormatsDiffer, FilesAreUnique, FilesAreOnPlane, BlankOutside, FaultsAreUnique, RefusalsHaveKinds, TextsTellUniverses, TextsTellPatterns, TextsAreFiles, TextsKeepPatterns, TextsAreFixed, CanonicalIsLeast, SquaresHavePlaces, WiderPlaneKeepsTexts, PatternsFit, ReadersStand};
+ghost use Rattle.life_canon.specs.Laws.{FormatsDiffer, FilesAreUnique, FilesAreOnPlane, BlankOutside, FaultsAreUnique, RefusalsHaveKinds, TextsTellUniverses, TextsTellPatterns, TextsAreFiles, TextsKeepPatterns, TextsAreFixed, CanonicalIsLeast, SquaresHavePlaces, WiderPlaneKeepsTexts, PatternsFit, PatternsStay, PatternsTellFiles, ReadersStand};
 
 /// No lines are a file of both formats.
 pub fn formats_differ()
@@ -82,6 +82,16 @@ pub fn wider_plane_keeps_texts()
 /// A pattern that was read may be numbered, and has the cells of the file.
 pub fn patterns_fit()
     ensures { PatternsFit MAX_LEVEL }
+{}
+
+/// What was read into a store stays read behind each call that keeps the store's squares.
+pub fn patterns_stay()
+    ensures { PatternsStay MAX_LEVEL }
+{}
+
+/// Two patterns that were read into one store have one rule, one generation and one root exactly if their files are the same pattern.
+pub fn patterns_tell_files()
+    ensures { PatternsTellFiles MAX_LEVEL }
 {}
 
 /// While each Id keeps its square, a reader that was lent a store may be lent it again.

@@ -13,11 +13,12 @@ mod numbering;
 mod pattern;
 mod reader;
 mod reading;
+mod room;
 mod running;
 mod showing;
 mod writing;
 
-pub use comparing::same;
+pub use comparing::{are_same, same};
 pub use converting::{canon, to_rle};
 pub use numbering::number;
 pub use pattern::Pattern;

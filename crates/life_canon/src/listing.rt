@@ -7,7 +7,7 @@ ghost use Rattle.life_canon.specs.Listing.{is_small as is_small_square, is_in, w
 ghost use Rattle.life_canon.specs.Closed.{IsClosed};
 
 use life_base::Kind;
-use life_quad::{Id, IdList, Quarters, SharedSquares, Squares, divide, is_blank};
+use life_quad::{Id, IdList, Quarters, SharedSquares, Squares, divide, is_blank, is_blank_at};
 use std::alloc::Global;
 
 /// Whether a square of a level is blank or of a level below the least one.
@@ -16,7 +16,7 @@ fn is_small<S: Squares>(squares: &S, least: u8, level: u8, id: Id) -> bool
     requires level { level ≡ depth (S.content squares.now id) }
     ensures { result ≡ is_small_square least (S.content squares.now id) }
 {
-    level < least || is_blank(squares, id)
+    level < least || is_blank_at(squares, level, id)
 }
 
 /// Whether the list has the square.

@@ -76,10 +76,7 @@ fn lines_of<S: SharedSquares>(
 {
     let mut lines = Vec::new(alloc);
     for id in known.as_slice() {
-        match lines.push(line_of(squares, rule, known, *id)) {
-            Ok(()) => {}
-            Err(_) => return Err(Kind::Memory),
-        }
+        lines.push(line_of(squares, rule, known, *id))?;
     }
     Ok(lines)
 }
@@ -113,8 +110,5 @@ pub fn number(alloc: Global, store: &Shared, pattern: &Pattern) -> Result<McFile
     ensures least { IfOk result (λ file. IsLeast MAX_LEVEL (universe_in store.now pattern.now) (node_lines file)) }
     ensures memory { IfErr result (λ fault. fault ≡ fault_of Memory) }
 {
-    match numbered(alloc, store, pattern) {
-        Ok(file) => Ok(file),
-        Err(kind) => Err(Fault::of(kind)),
-    }
+    Ok(numbered(alloc, store, pattern)?)
 }

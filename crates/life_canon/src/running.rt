@@ -7,6 +7,7 @@ ghost use Rattle.life_canon.specs.Store.{Keeps, IsWant};
 
 use crate::pattern::Pattern;
 use crate::reader::Reader;
+use crate::room::Room;
 use crate::writing::text_of;
 use life_base::{Fault, Kind, MAX_LEVEL, Sink, Source, deliver};
 use life_quad::Shared;
@@ -64,6 +65,7 @@ fn read_source<R: Source>(
     ensures keeps { Keeps store.old store.new }
 {
     let mut reader = Reader::new(alloc);
+    let mut room = Room::new(store, source.expected());
     let mut refused = None;
     let mut total = 0u64;
     let mut piece = [0u8; PIECE];
@@ -77,6 +79,7 @@ fn read_source<R: Source>(
             return Err(Fault::of(Kind::InputTooLong));
         }
         refused = feed_piece(&mut reader, store, refused, &piece[..count])?;
+        room.make(store, total);
     }
     match refused {
         Some(fault) => Err(fault),

@@ -9,11 +9,13 @@ ghost use Rattle.life_quad.specs.Cells.{population as population_of, IsLeastBox}
 ghost use Rattle.life_quad.specs.declared.extent.Bounds.{Bounds as BoundsValue};
 ghost use Rattle.std.specs.Prelude.{Option, true};
 ghost use Rattle.life_rle.specs.Written.{span};
-ghost use Rattle.life_canon.specs.Store.{Keeps, RefusesIn, IsKnown, content};
+ghost use Rattle.life_mc.specs.Cells.{node_lines};
+ghost use Rattle.life_canon.specs.Listing.{canonical_file};
+ghost use Rattle.life_canon.specs.Store.{Keeps, RefusesIn, IsTrimmed, universe_in, content};
 ghost use Rattle.life_canon.specs.Texts.{IsShown, IsOrdered, AreOrdered, box_text, show_text};
 
-use crate::numbering::number;
-use crate::pattern::Pattern;
+use crate::listing::listed;
+use crate::pattern::{Pattern, least_level};
 use crate::reading::read;
 use life_base::{Fault, Kind, MAX_LEVEL, append, append_number, append_signed, append_u128};
 use life_quad::{Bounds, Shared, bounds, population};
@@ -84,14 +86,25 @@ fn append_rule(out: &mut Vec<u8>, pattern: &Pattern) -> Result<(), Kind>
     append(out, b"\n")
 }
 
-/// The five lines of a pattern with so many node lines.
-fn five_lines(alloc: Global, store: &Shared, pattern: &Pattern, nodes: u64) -> Result<Vec<u8>, Kind>
-    requires known { IsKnown store.now pattern.now.root }
-    requires level { 1 ≤ depth (content store.now pattern.now.root) }
-    ensures text { IfOk result (λ text. (box : Option BoundsValue) × MatchOption box (is_blank_tree (content store.now pattern.now.root) ≡ true) (IsLeastBox (content store.now pattern.now.root))
-        × (text.items ≡ show_text pattern.now.rule pattern.now.generation (population_of (content store.now pattern.now.root)) box nodes)) }
+/// How many node lines the canonical file of a pattern has: one for each square of the walk.
+fn line_count(alloc: Global, store: &Shared, pattern: &Pattern) -> Result<u64, Kind>
+    requires { IsTrimmed store.now pattern.now }
+    ensures lines { IfOk result (λ n. n ≡ node_lines (canonical_file MAX_LEVEL (universe_in store.now pattern.now))) }
     ensures kind { IfErr result (λ kind. kind ≡ Memory) }
 {
+    let known = listed(alloc, store, least_level(&pattern.rule), pattern.root)?;
+    Ok(known.as_slice().len() as u64)
+}
+
+/// The five lines of a pattern.
+fn five_lines(alloc: Global, store: &Shared, pattern: &Pattern) -> Result<Vec<u8>, Kind>
+    requires trimmed { IsTrimmed store.now pattern.now }
+    requires level { 1 ≤ depth (content store.now pattern.now.root) }
+    ensures text { IfOk result (λ text. (box : Option BoundsValue) × MatchOption box (is_blank_tree (content store.now pattern.now.root) ≡ true) (IsLeastBox (content store.now pattern.now.root))
+        × (text.items ≡ show_text pattern.now.rule pattern.now.generation (population_of (content store.now pattern.now.root)) box (node_lines (canonical_file MAX_LEVEL (universe_in store.now pattern.now))))) }
+    ensures kind { IfErr result (λ kind. kind ≡ Memory) }
+{
+    let nodes = line_count(alloc, store, pattern)?;
     let cells = population(alloc, store, pattern.root)?;
     let least = bounds(alloc, store, pattern.root)?;
     let mut out = Vec::new(alloc);
@@ -115,8 +128,7 @@ pub fn show(alloc: Global, store: &mut Shared, bytes: &[u8]) -> Result<Vec<u8>, 
     ensures keeps { Keeps store.old store.new }
 {
     let pattern = read(alloc, store, bytes)?;
-    let file = number(alloc, store, &pattern)?;
-    match five_lines(alloc, store, &pattern, file.lines.as_slice().len() as u64) {
+    match five_lines(alloc, store, &pattern) {
         Ok(text) => Ok(text),
         Err(kind) => Err(Fault::of(kind)),
     }

@@ -62,8 +62,5 @@ pub fn text_of(alloc: Global, store: &Shared, pattern: &Pattern) -> Result<Vec<u
     ensures text { IfOk result (λ text. text.items ≡ canon_text MAX_LEVEL (universe_in store.now pattern.now)) }
     ensures memory { IfErr result (λ fault. fault ≡ fault_of Memory) }
 {
-    match written(alloc, store, pattern) {
-        Ok(text) => Ok(text),
-        Err(kind) => Err(Fault::of(kind)),
-    }
+    Ok(written(alloc, store, pattern)?)
 }

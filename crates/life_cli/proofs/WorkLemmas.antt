@@ -63,19 +63,16 @@ pub no_second_input : (first second : SourceRun) (a : List ℕ) (fault : Fault) 
 no_second_input first second a fault read (inl unread) = by_second a read unread
 no_second_input first second a fault read (inr memory) = by_shortage (inl memory)
 
-of_files : (first second : SourceRun) (a b : List ℕ) (store : Nodes) (fault : Fault) → ReadAll (2 ^ 30) first.before first.after a
-    → ReadAll (2 ^ 30) second.before second.after b → store.limit ≡ 2 ^ 31
-    → Refuses MAX_LEVEL a fault ⊎ (Accepted MAX_LEVEL a × Refuses MAX_LEVEL b fault) ⊎ IsWant store fault → AreUncompared first second fault
-of_files first second a b store fault one two limit (inl refuses) = by_files a b one two (inl refuses)
-of_files first second a b store fault one two limit (inr (inl refuses)) = by_files a b one two (inr refuses)
-of_files first second a b store fault one two limit (inr (inr want)) = by_shortage (inr (store, limit, want))
+pub no_first_file : (first second : SourceRun) (a b : List ℕ) (store : Nodes) (fault : Fault) → ReadAll (2 ^ 30) first.before first.after a
+    → ReadAll (2 ^ 30) second.before second.after b → store.limit ≡ 2 ^ 31 → RefusesIn MAX_LEVEL a store fault → AreUncompared first second fault
+no_first_file first second a b store fault one two limit (inl refuses) = by_files a b one two (inl refuses)
+no_first_file first second a b store fault one two limit (inr want) = by_shortage (inr (store, limit, want))
 
-pub refused_files : {X : Type 0} (first second : SourceRun) (a b : List ℕ) (store : Nodes) (r : Result X Fault)
-    → ReadAll (2 ^ 30) first.before first.after a → ReadAll (2 ^ 30) second.before second.after b → store.limit ≡ 2 ^ 31
-    → IfErr r (λ fault. Refuses MAX_LEVEL a fault ⊎ (Accepted MAX_LEVEL a × Refuses MAX_LEVEL b fault) ⊎ IsWant store fault)
-    → IfErr r (AreUncompared first second)
-refused_files first second a b store (Ok x) one two limit h = tt
-refused_files first second a b store (Err fault) one two limit h = of_files first second a b store fault one two limit h
+pub no_second_file : (first second : SourceRun) (a b : List ℕ) (store : Nodes) (fault : Fault) → ReadAll (2 ^ 30) first.before first.after a
+    → ReadAll (2 ^ 30) second.before second.after b → store.limit ≡ 2 ^ 31 → Accepted MAX_LEVEL a → RefusesIn MAX_LEVEL b store fault
+    → AreUncompared first second fault
+no_second_file first second a b store fault one two limit accepted (inl refuses) = by_files a b one two (inr (accepted, refuses))
+no_second_file first second a b store fault one two limit accepted (inr want) = by_shortage (inr (store, limit, want))
 
 -- what a comparison answers is its status and its line
 answers : (a b : List ℕ) (answer : Bool) → IsTrue answer ↔ AreSame MAX_LEVEL a b
@@ -83,18 +80,16 @@ answers : (a b : List ℕ) (answer : Bool) → IsTrue answer ↔ AreSame MAX_LEV
 answers a b true is = inl (refl, is.0 refl, refl)
 answers a b false is = inr (refl, (λ same. let bad : false ≡ true = is.1 same in absurd cc), refl)
 
-pub compared_files : (first second : SourceRun) (a b : List ℕ) (r : Result Bool Fault) → ReadAll (2 ^ 30) first.before first.after a
-    → ReadAll (2 ^ 30) second.before second.after b → OnOk r (Accepted MAX_LEVEL a × Accepted MAX_LEVEL b)
-    → IfOk r (λ answer. IsTrue answer ↔ AreSame MAX_LEVEL a b)
-    → IfOk r (λ answer. AreCompared first second (if answer then 0 else 1) (if answer then codes "same\n" else codes "different\n"))
-compared_files first second a b (Ok answer) one two accepted is = record {
+pub compared_files : (first second : SourceRun) (a b : List ℕ) (answer : Bool) → ReadAll (2 ^ 30) first.before first.after a
+    → ReadAll (2 ^ 30) second.before second.after b → Accepted MAX_LEVEL a → Accepted MAX_LEVEL b → IsTrue answer ↔ AreSame MAX_LEVEL a b
+    → AreCompared first second (if answer then 0 else 1) (if answer then codes "same\n" else codes "different\n")
+compared_files first second a b answer one two first_is second_is is = record {
   first_bytes = a;
   second_bytes = b;
   first_read = one;
   second_read = two;
-  writes = (accepted.0, accepted.1, answers a b answer is);
+  writes = (first_is, second_is, answers a b answer is);
 }
-compared_files first second a b (Err fault) one two accepted is = tt
 
 -- all of a file was read, and a call gave its text
 pub text_of_file : {X : Type 0} (gives : List ℕ → List ℕ → Type 0) (items : X → List ℕ) (source : SourceRun) (bytes : List ℕ) (r : Result X Fault)

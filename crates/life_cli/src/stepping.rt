@@ -1,6 +1,6 @@
 //! The work of the jobs that step a pattern.
 
-ghost use Rattle.std.specs.Prelude.{◌≡◌, ◌≢◌, ◌<◌, IfOk, IfErr, OnOk, true};
+ghost use Rattle.std.specs.Prelude.{◌≡◌, ◌≢◌, ◌⊎◌, ◌<◌, IfOk, IfErr, IsErrAnd, OnOk, true, false};
 ghost use Rattle.life_base.specs.DeviceRuns.{SourceRun, source_run, sink_run};
 ghost use Rattle.life_cli.specs.Jobs.{Worked, JobRefuses, OfFile, OfTable, FileRefuses, HasText, HasNoText, IsStepped, IsSteppedBy, RefusesStep, RefusesStepBy, HasTable, HasNoTable};
 
@@ -18,6 +18,7 @@ fn next_of<A: Source>(alloc: Global, first: &mut A) -> Result<Vec<u8>, Fault>
     requires { A.failures first.old ≡ 0 }
     ensures ok { IfOk result (λ text. HasText IsStepped (source_run A.remaining A.failures first.old first.new) text.items) }
     ensures err { IfErr result (HasNoText RefusesStep (source_run A.remaining A.failures first.old first.new)) }
+    ensures told { A.failures first.new ≡ 1 → IsErrAnd result (λ fault. fault.kind ≡ Kind.ReadFault) }
 {
     let bytes = read_whole(alloc, first)?;
     let mut store = Shared::new(alloc, MOST_SQUARES);
@@ -29,6 +30,7 @@ fn next_by<A: Source>(alloc: Global, first: &mut A, table: &Table) -> Result<Vec
     requires { A.failures first.old ≡ 0 }
     ensures ok { IfOk result (λ text. HasText (IsSteppedBy table.now) (source_run A.remaining A.failures first.old first.new) text.items) }
     ensures err { IfErr result (HasNoText (RefusesStepBy table.now) (source_run A.remaining A.failures first.old first.new)) }
+    ensures told { A.failures first.new ≡ 1 → IsErrAnd result (λ fault. fault.kind ≡ Kind.ReadFault) }
 {
     let bytes = read_whole(alloc, first)?;
     let mut store = Shared::new(alloc, MOST_SQUARES);
@@ -40,6 +42,7 @@ fn table_in<B: Source>(alloc: Global, source: &mut B) -> Result<Table, Fault>
     requires { B.failures source.old ≡ 0 }
     ensures ok { IfOk result (HasTable (source_run B.remaining B.failures source.old source.new)) }
     ensures err { IfErr result (HasNoTable (source_run B.remaining B.failures source.old source.new)) }
+    ensures told { B.failures source.new ≡ 1 → IsErrAnd result (λ fault. fault.kind ≡ Kind.ReadFault) }
 {
     let bytes = read_whole(alloc, source)?;
     read_table(alloc, bytes.as_slice())
@@ -50,6 +53,7 @@ fn table_of<B: Source>(alloc: Global, source: &mut B) -> Result<Table, Refusal>
     requires { B.failures source.old ≡ 0 }
     ensures ok { IfOk result (HasTable (source_run B.remaining B.failures source.old source.new)) }
     ensures err { IfErr result (OfTable (HasNoTable (source_run B.remaining B.failures source.old source.new))) }
+    ensures told { B.failures source.new ≡ 1 → IsErrAnd result (λ refusal. refusal.fault.kind ≡ Kind.ReadFault) }
 {
     match table_in(alloc, source) {
         Ok(table) => Ok(table),
@@ -68,6 +72,7 @@ pub(crate) fn run_step<A: Source, O: Sink>(
 ) -> Result<u8, Refusal>
     requires reads { A.failures first.old ≡ 0 }
     requires writes { O.failures out.old ≡ 0 }
+    requires takes { O.stalled out.old ≡ false }
     ensures done { IfOk result (λ status. status ≡ 0) }
     ensures worked { OnOk result ((second : SourceRun) → Worked Job.Step 0 (source_run A.remaining A.failures first.old first.new) second
         (sink_run O.contents O.failures O.stalled out.old out.new)) }
@@ -75,12 +80,12 @@ pub(crate) fn run_step<A: Source, O: Sink>(
     ensures refused { IfErr result (OfFile (FileRefuses IsStepped RefusesStep (source_run A.remaining A.failures first.old first.new)
         (sink_run O.contents O.failures O.stalled out.old out.new))) }
     ensures unwritten { IfErr result (λ refusal. refusal.fault.kind ≢ Kind.WriteFault → out.new ≡ out.old) }
+    ensures read_told { A.failures first.new ≡ 1 → IsErrAnd result (λ refusal. refusal.fault.kind ≡ Kind.ReadFault) }
+    ensures write_told { (O.failures out.new ≡ 1) ⊎ (O.stalled out.new ≡ true) → IsErrAnd result (λ refusal. refusal.fault.kind ≡ Kind.WriteFault) }
 {
     let text = next_of(alloc, first)?;
-    match write_whole(out, text.as_slice()) {
-        Ok(()) => Ok(0),
-        Err(refusal) => Err(refusal),
-    }
+    write_whole(out, text.as_slice())?;
+    Ok(0)
 }
 
 /// Writes the next generation of the first file, by a table.
@@ -92,6 +97,7 @@ fn run_by<A: Source, O: Sink>(
 ) -> Result<u8, Refusal>
     requires reads { A.failures first.old ≡ 0 }
     requires writes { O.failures out.old ≡ 0 }
+    requires takes { O.stalled out.old ≡ false }
     ensures done { IfOk result (λ status. status ≡ 0) }
     ensures worked { OnOk result ((second : SourceRun) → HasTable second table.now → Worked Job.StepTable 0
         (source_run A.remaining A.failures first.old first.new) second (sink_run O.contents O.failures O.stalled out.old out.new)) }
@@ -99,12 +105,12 @@ fn run_by<A: Source, O: Sink>(
     ensures refused { IfErr result (OfFile (FileRefuses (IsSteppedBy table.now) (RefusesStepBy table.now)
         (source_run A.remaining A.failures first.old first.new) (sink_run O.contents O.failures O.stalled out.old out.new))) }
     ensures unwritten { IfErr result (λ refusal. refusal.fault.kind ≢ Kind.WriteFault → out.new ≡ out.old) }
+    ensures read_told { A.failures first.new ≡ 1 → IsErrAnd result (λ refusal. refusal.fault.kind ≡ Kind.ReadFault) }
+    ensures write_told { (O.failures out.new ≡ 1) ⊎ (O.stalled out.new ≡ true) → IsErrAnd result (λ refusal. refusal.fault.kind ≡ Kind.WriteFault) }
 {
     let text = next_by(alloc, first, table)?;
-    match write_whole(out, text.as_slice()) {
-        Ok(()) => Ok(0),
-        Err(refusal) => Err(refusal),
-    }
+    write_whole(out, text.as_slice())?;
+    Ok(0)
 }
 
 /// Reads the table of the second file, then writes the next generation of the first one by it.
@@ -117,6 +123,7 @@ pub(crate) fn run_step_table<A: Source, B: Source, O: Sink>(
     requires first_reads { A.failures first.old ≡ 0 }
     requires second_reads { B.failures second.old ≡ 0 }
     requires writes { O.failures out.old ≡ 0 }
+    requires takes { O.stalled out.old ≡ false }
     ensures done { IfOk result (λ status. status < 2) }
     ensures worked { IfOk result (λ status. Worked Job.StepTable status (source_run A.remaining A.failures first.old first.new)
         (source_run B.remaining B.failures second.old second.new) (sink_run O.contents O.failures O.stalled out.old out.new)) }
@@ -124,6 +131,8 @@ pub(crate) fn run_step_table<A: Source, B: Source, O: Sink>(
     ensures refused { IfErr result (JobRefuses Job.StepTable (source_run A.remaining A.failures first.old first.new)
         (source_run B.remaining B.failures second.old second.new) (sink_run O.contents O.failures O.stalled out.old out.new)) }
     ensures unwritten { IfErr result (λ refusal. refusal.fault.kind ≢ Kind.WriteFault → out.new ≡ out.old) }
+    ensures read_told { (A.failures first.new ≡ 1) ⊎ (B.failures second.new ≡ 1) → IsErrAnd result (λ refusal. refusal.fault.kind ≡ Kind.ReadFault) }
+    ensures write_told { (O.failures out.new ≡ 1) ⊎ (O.stalled out.new ≡ true) → IsErrAnd result (λ refusal. refusal.fault.kind ≡ Kind.WriteFault) }
 {
     let table = table_of(alloc, second)?;
     run_by(alloc, first, &table, out)

@@ -1,22 +1,24 @@
 //! The work of a job.
 
-ghost use Rattle.std.specs.Prelude.{◌≡◌, ◌≢◌, ◌⊎◌, ◌<◌, ◌↔◌, ◌^◌, ℕ, IsSome, IfSome, IfOk, IfErr, OnOk, true, false, if◌then◌else◌, codes};
+ghost use Rattle.std.specs.Prelude.{◌≡◌, ◌≢◌, ◌⊎◌, ◌<◌, ◌↔◌, ◌^◌, ℕ, IsSome, IfSome, IfOk, IfErr, OnOk, IsErrAnd, true, false, if◌then◌else◌, codes};
 ghost use Rattle.std.specs.Io.KnownBytes.{Appends};
 ghost use Rattle.life_base.specs.DeviceRuns.{SourceRun, source_run, optional_source_run, sink_run};
 ghost use Rattle.life_base.specs.Inputs.{ReadAll};
 ghost use Rattle.life_base.specs.Refusal.{fault_of};
 ghost use Rattle.life_cli.specs.declared.telling.Refusal.{Refusal};
 ghost use Rattle.life_canon.specs.Files.{Refuses};
+ghost use Rattle.life_canon.specs.Store.{Keeps};
 ghost use Rattle.life_canon.specs.Texts.{IsRleOf, IsShown};
 ghost use Rattle.life_cli.specs.Faults.{fault_line, status_of, Tells};
-ghost use Rattle.life_cli.specs.Jobs.{Worked, OfFile, InputRefuses, Breaks, HasText, HasNoText, FileRefuses, AreCompared, AreUncompared, CanonRefuses, JobRefuses, RefusesRle};
+ghost use Rattle.life_cli.specs.Jobs.{Worked, OfFile, InputRefuses, Breaks, HasText, HasNoText, FileRefuses, AreCompared, AreUncompared, CanonRefuses, IsHeld, JobRefuses, RefusesRle};
 ghost use Rattle.life_cli.specs.Plans.{HasSecond};
 
 use crate::plans::{Job, Target};
 use crate::stepping::{run_step, run_step_table};
 use crate::telling::{Refusal, status, tell};
 use life_base::{Fault, Kind, MAX_LEVEL, Sink, Source, deliver, read_within};
-use life_canon::{run_canon, same, show, to_rle};
+use life_canon::laws::{patterns_stay, patterns_tell_files};
+use life_canon::{Pattern, are_same, read, run_canon, show, to_rle};
 use life_quad::Shared;
 use std::alloc::Global;
 
@@ -31,19 +33,19 @@ pub(crate) fn read_whole<R: Source>(alloc: Global, reader: &mut R) -> Result<Vec
     requires { R.failures reader.old ≡ 0 }
     ensures ok { IfOk result (λ bytes. ReadAll (2 ^ 30) (R.remaining reader.old) (R.remaining reader.new) bytes.items) }
     ensures err { IfErr result (λ fault. InputRefuses (source_run R.remaining R.failures reader.old reader.new) fault ⊎ (fault ≡ fault_of Kind.Memory)) }
+    ensures told { R.failures reader.new ≡ 1 → IsErrAnd result (λ fault. fault.kind ≡ Kind.ReadFault) }
 {
-    match read_within(alloc, reader, LONGEST_INPUT) {
-        Ok(bytes) => Ok(bytes),
-        Err(kind) => Err(Fault::of(kind)),
-    }
+    Ok(read_within(alloc, reader, LONGEST_INPUT)?)
 }
 
 /// Writes the whole text and flushes.
 pub(crate) fn write_whole<W: Sink>(writer: &mut W, text: &[u8]) -> Result<(), Refusal>
-    requires { W.failures writer.old ≡ 0 }
+    requires works { W.failures writer.old ≡ 0 }
+    requires takes { W.stalled writer.old ≡ false }
     ensures ok { OnOk result (Appends (W.contents writer.old) (W.contents writer.new) text.now) }
     ensures flushed { OnOk result (W.flushed writer.new ≡ true) }
     ensures err { IfErr result (OfFile (Breaks (sink_run W.contents W.failures W.stalled writer.old writer.new) text.now)) }
+    ensures told { (W.failures writer.new ≡ 1) ⊎ (W.stalled writer.new ≡ true) → IsErrAnd result (λ refusal. refusal.fault.kind ≡ Kind.WriteFault) }
 {
     match deliver(writer, text) {
         Ok(()) => Ok(()),
@@ -59,6 +61,7 @@ fn rle_of<A: Source>(alloc: Global, first: &mut A) -> Result<Vec<u8>, Fault>
     requires { A.failures first.old ≡ 0 }
     ensures ok { IfOk result (λ text. HasText (IsRleOf MAX_LEVEL (2 ^ 20)) (source_run A.remaining A.failures first.old first.new) text.items) }
     ensures err { IfErr result (HasNoText RefusesRle (source_run A.remaining A.failures first.old first.new)) }
+    ensures told { A.failures first.new ≡ 1 → IsErrAnd result (λ fault. fault.kind ≡ Kind.ReadFault) }
 {
     let bytes = read_whole(alloc, first)?;
     let mut store = Shared::new(alloc, MOST_SQUARES);
@@ -70,13 +73,31 @@ fn lines_of<A: Source>(alloc: Global, first: &mut A) -> Result<Vec<u8>, Fault>
     requires { A.failures first.old ≡ 0 }
     ensures ok { IfOk result (λ text. HasText (IsShown MAX_LEVEL) (source_run A.remaining A.failures first.old first.new) text.items) }
     ensures err { IfErr result (HasNoText (Refuses MAX_LEVEL) (source_run A.remaining A.failures first.old first.new)) }
+    ensures told { A.failures first.new ≡ 1 → IsErrAnd result (λ fault. fault.kind ≡ Kind.ReadFault) }
 {
     let bytes = read_whole(alloc, first)?;
     let mut store = Shared::new(alloc, MOST_SQUARES);
     show(alloc, &mut store, bytes.as_slice())
 }
 
-/// Whether two sources have the same pattern.
+/// The pattern of a source in the store, or the fault of its file. The text is not held.
+fn held<A: Source>(
+    alloc: Global,
+    store: &mut Shared,
+    source: &mut A,
+) -> Result<Result<Pattern, Fault>, Fault>
+    requires { A.failures source.old ≡ 0 }
+    ensures held { IfOk result (IsHeld store.new (source_run A.remaining A.failures source.old source.new)) }
+    ensures err { IfErr result (λ fault. InputRefuses (source_run A.remaining A.failures source.old source.new) fault ⊎ (fault ≡ fault_of Kind.Memory)) }
+    ensures told { A.failures source.new ≡ 1 → IsErrAnd result (λ fault. fault.kind ≡ Kind.ReadFault) }
+    ensures keeps { Keeps store.old store.new }
+{
+    let text = read_whole(alloc, source)?;
+    Ok(read(alloc, store, text.as_slice()))
+}
+
+/// Whether two sources have the same pattern. No text is held that has been read as a pattern. What keeps the second source from being read
+/// is told before the first one's fault.
 fn compared<A: Source, B: Source>(
     alloc: Global,
     first: &mut A,
@@ -87,11 +108,14 @@ fn compared<A: Source, B: Source>(
     ensures ok { IfOk result (λ is_same. AreCompared (source_run A.remaining A.failures first.old first.new)
         (source_run B.remaining B.failures second.old second.new) (if is_same then 0 else 1) (if is_same then codes "same\n" else codes "different\n")) }
     ensures err { IfErr result (AreUncompared (source_run A.remaining A.failures first.old first.new) (source_run B.remaining B.failures second.old second.new)) }
+    ensures told { (A.failures first.new ≡ 1) ⊎ (B.failures second.new ≡ 1) → IsErrAnd result (λ fault. fault.kind ≡ Kind.ReadFault) }
 {
-    let a = read_whole(alloc, first)?;
-    let b = read_whole(alloc, second)?;
+    patterns_stay();
+    patterns_tell_files();
     let mut store = Shared::new(alloc, MOST_SQUARES);
-    same(alloc, &mut store, a.as_slice(), b.as_slice())
+    let a = held(alloc, &mut store, first)?;
+    let b = held(alloc, &mut store, second)?;
+    Ok(are_same(&a?, &b?))
 }
 
 /// Writes the canonical text of the first file.
@@ -112,21 +136,19 @@ fn run_canonical<A: Source, O: Sink>(
     ensures refused { IfErr result (OfFile (CanonRefuses (source_run A.remaining A.failures first.old first.new)
         (sink_run O.contents O.failures O.stalled out.old out.new))) }
     ensures unwritten { IfErr result (λ refusal. refusal.fault.kind ≢ Kind.WriteFault → out.new ≡ out.old) }
+    ensures read_told { A.failures first.new ≡ 1 → IsErrAnd result (λ refusal. refusal.fault.kind ≡ Kind.ReadFault) }
+    ensures write_told { (O.failures out.new ≡ 1) ⊎ (O.stalled out.new ≡ true) → IsErrAnd result (λ refusal. refusal.fault.kind ≡ Kind.WriteFault) }
 {
     let mut store = Shared::new(alloc, MOST_SQUARES);
-    match run_canon(alloc, &mut store, first, out) {
-        Ok(()) => Ok(0),
-        Err(fault) => Err(Refusal {
-            fault,
-            in_table: false,
-        }),
-    }
+    run_canon(alloc, &mut store, first, out)?;
+    Ok(0)
 }
 
 /// Writes the first file in extended RLE.
 fn run_rle<A: Source, O: Sink>(alloc: Global, first: &mut A, out: &mut O) -> Result<u8, Refusal>
     requires reads { A.failures first.old ≡ 0 }
     requires writes { O.failures out.old ≡ 0 }
+    requires takes { O.stalled out.old ≡ false }
     ensures done { IfOk result (λ status. status ≡ 0) }
     ensures worked { OnOk result ((second : SourceRun) → Worked (Job.Convert Target.Rle) 0 (source_run A.remaining A.failures first.old first.new) second
         (sink_run O.contents O.failures O.stalled out.old out.new)) }
@@ -134,18 +156,19 @@ fn run_rle<A: Source, O: Sink>(alloc: Global, first: &mut A, out: &mut O) -> Res
     ensures refused { IfErr result (OfFile (FileRefuses (IsRleOf MAX_LEVEL (2 ^ 20)) RefusesRle (source_run A.remaining A.failures first.old first.new)
         (sink_run O.contents O.failures O.stalled out.old out.new))) }
     ensures unwritten { IfErr result (λ refusal. refusal.fault.kind ≢ Kind.WriteFault → out.new ≡ out.old) }
+    ensures read_told { A.failures first.new ≡ 1 → IsErrAnd result (λ refusal. refusal.fault.kind ≡ Kind.ReadFault) }
+    ensures write_told { (O.failures out.new ≡ 1) ⊎ (O.stalled out.new ≡ true) → IsErrAnd result (λ refusal. refusal.fault.kind ≡ Kind.WriteFault) }
 {
     let text = rle_of(alloc, first)?;
-    match write_whole(out, text.as_slice()) {
-        Ok(()) => Ok(0),
-        Err(refusal) => Err(refusal),
-    }
+    write_whole(out, text.as_slice())?;
+    Ok(0)
 }
 
 /// Writes the five lines of the first file.
 fn run_show<A: Source, O: Sink>(alloc: Global, first: &mut A, out: &mut O) -> Result<u8, Refusal>
     requires reads { A.failures first.old ≡ 0 }
     requires writes { O.failures out.old ≡ 0 }
+    requires takes { O.stalled out.old ≡ false }
     ensures done { IfOk result (λ status. status ≡ 0) }
     ensures worked { OnOk result ((second : SourceRun) → Worked Job.Show 0 (source_run A.remaining A.failures first.old first.new) second
         (sink_run O.contents O.failures O.stalled out.old out.new)) }
@@ -153,12 +176,12 @@ fn run_show<A: Source, O: Sink>(alloc: Global, first: &mut A, out: &mut O) -> Re
     ensures refused { IfErr result (OfFile (FileRefuses (IsShown MAX_LEVEL) (Refuses MAX_LEVEL) (source_run A.remaining A.failures first.old first.new)
         (sink_run O.contents O.failures O.stalled out.old out.new))) }
     ensures unwritten { IfErr result (λ refusal. refusal.fault.kind ≢ Kind.WriteFault → out.new ≡ out.old) }
+    ensures read_told { A.failures first.new ≡ 1 → IsErrAnd result (λ refusal. refusal.fault.kind ≡ Kind.ReadFault) }
+    ensures write_told { (O.failures out.new ≡ 1) ⊎ (O.stalled out.new ≡ true) → IsErrAnd result (λ refusal. refusal.fault.kind ≡ Kind.WriteFault) }
 {
     let text = lines_of(alloc, first)?;
-    match write_whole(out, text.as_slice()) {
-        Ok(()) => Ok(0),
-        Err(refusal) => Err(refusal),
-    }
+    write_whole(out, text.as_slice())?;
+    Ok(0)
 }
 
 /// The line of a comparison.
@@ -178,6 +201,7 @@ fn run_same<A: Source, B: Source, O: Sink>(
     requires first_reads { A.failures first.old ≡ 0 }
     requires second_reads { B.failures second.old ≡ 0 }
     requires writes { O.failures out.old ≡ 0 }
+    requires takes { O.stalled out.old ≡ false }
     ensures done { IfOk result (λ status. status < 2) }
     ensures worked { IfOk result (λ status. Worked Job.Same status (source_run A.remaining A.failures first.old first.new)
         (source_run B.remaining B.failures second.old second.new) (sink_run O.contents O.failures O.stalled out.old out.new)) }
@@ -185,12 +209,12 @@ fn run_same<A: Source, B: Source, O: Sink>(
     ensures refused { IfErr result (JobRefuses Job.Same (source_run A.remaining A.failures first.old first.new)
         (source_run B.remaining B.failures second.old second.new) (sink_run O.contents O.failures O.stalled out.old out.new)) }
     ensures unwritten { IfErr result (λ refusal. refusal.fault.kind ≢ Kind.WriteFault → out.new ≡ out.old) }
+    ensures read_told { (A.failures first.new ≡ 1) ⊎ (B.failures second.new ≡ 1) → IsErrAnd result (λ refusal. refusal.fault.kind ≡ Kind.ReadFault) }
+    ensures write_told { (O.failures out.new ≡ 1) ⊎ (O.stalled out.new ≡ true) → IsErrAnd result (λ refusal. refusal.fault.kind ≡ Kind.WriteFault) }
 {
     let is_same = compared(alloc, first, second)?;
-    match write_whole(out, line_of(is_same)) {
-        Ok(()) => Ok(if is_same { 0 } else { 1 }),
-        Err(refusal) => Err(refusal),
-    }
+    write_whole(out, line_of(is_same))?;
+    Ok(if is_same { 0 } else { 1 })
 }
 
 /// Does the job, and answers the status of one that is done.
@@ -213,6 +237,9 @@ fn run<A: Source, B: Source, O: Sink>(
     ensures refused { IfErr result (JobRefuses job.now (source_run A.remaining A.failures first.old first.new)
         (optional_source_run B.remaining B.failures second.old second.new) (sink_run O.contents O.failures O.stalled out.old out.new)) }
     ensures unwritten { IfErr result (λ refusal. refusal.fault.kind ≢ Kind.WriteFault → out.new ≡ out.old) }
+    ensures first_told { A.failures first.new ≡ 1 → IsErrAnd result (λ refusal. refusal.fault.kind ≡ Kind.ReadFault) }
+    ensures second_told { IfSome second.new (λ b. B.failures b ≡ 1 → IsErrAnd result (λ refusal. refusal.fault.kind ≡ Kind.ReadFault)) }
+    ensures write_told { (O.failures out.new ≡ 1) ⊎ (O.stalled out.new ≡ true) → IsErrAnd result (λ refusal. refusal.fault.kind ≡ Kind.WriteFault) }
 {
     match (job, second) {
         (Job::Canon, _) => run_canonical(alloc, first, out),
@@ -252,6 +279,9 @@ pub fn work<A: Source, B: Source, O: Sink, E: Sink>(
         (optional_source_run B.remaining B.failures second.old second.new) (sink_run O.contents O.failures O.stalled out.old out.new) refusal
         × (refusal.fault.kind ≢ Kind.WriteFault → out.new ≡ out.old)
         × Tells (sink_run E.contents E.failures E.stalled err.old err.new) (fault_line refusal) }
+    ensures first_told { A.failures first.new ≡ 1 → result ≡ status_of Kind.ReadFault }
+    ensures second_told { IfSome second.new (λ b. B.failures b ≡ 1 → result ≡ status_of Kind.ReadFault) }
+    ensures write_told { (O.failures out.new ≡ 1) ⊎ (O.stalled out.new ≡ true) → result ≡ status_of Kind.WriteFault }
 {
     match run(alloc, job, first, second, out) {
         Ok(status) => status,

@@ -1,7 +1,9 @@
 -- Facts about squares made of other squares.
-use Rattle.std.proofs.Common.{◌≡◌, ℕ, zero, suc, ◌+◌, ◌≤◌, Bool, true, false, nat_lt, refl, sym, ◌∙◌, ap, arith}
+use Rattle.std.proofs.Common.{◌≡◌, ℕ, zero, suc, ◌+◌, ◌≤◌, Bool, true, false, nat_lt, refl, sym, ◌∙◌, ap, arith, List, map, get_or}
 use Rattle.std.specs.List.{list_all}
-use Rattle.life_base.specs.Tree.{Tree, point, quad, depth, blank, is_blank_tree, IsFull}
+use Rattle.std.proofs.lemmas.Grind.{common_steps}
+use Rattle.life_quad.specs.declared.id.Id.{Id}
+use Rattle.life_base.specs.Tree.{Tree, point, quad, depth, quarters, blank, is_blank_tree, IsFull}
 use Rattle.life_quad.specs.Moves.{outer, inner, can_trim, trimmed, trim_up_to}
 use Rattle.life_base.proofs.Squares.{is_blank-blank, blank_is, and_left}
 
@@ -13,6 +15,12 @@ blank_test t l false full e holds fails = by (is_blank_tree t) refl
     by : (b : Bool) → is_blank_tree t ≡ b → false ≡ is_blank_tree t
     by true f = absurd (fails refl (blank_is t full f ∙ ap blank (sym e)))
     by false f = sym f
+
+-- a square by the Ids of its quarters
+pub quad_of_parts : (C : Id → Tree) (t : Tree) (ids : List Id) (z : Id) → 1 ≤ depth t → map C ids ≡ quarters t
+    → t ≡ quad (C (get_or ids 0 z)) (C (get_or ids 1 z)) (C (get_or ids 2 z)) (C (get_or ids 3 z))
+quad_of_parts C (point s) ids z deep e = absurd (omega arith)
+quad_of_parts C (quad p q r s) ids z deep e = grind (arith, common_steps)
 
 -- the square of the inner grandchildren is one level lower
 pub depth-inner : (t : Tree) → IsFull t → 2 ≤ depth t → depth (inner t) + 1 ≡ depth t

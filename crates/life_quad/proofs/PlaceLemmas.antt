@@ -1,8 +1,10 @@
 -- The table of a list of Ids.
-use Rattle.std.proofs.Common.{◌≡◌, ◌≢◌, ℕ, suc, ◌+◌, ◌<◌, List, [], ◌∷◌, ◌++◌, length, get_or, set, Some, slice_get, ◌⊎◌, inl, inr, ap, sym, ◌∙◌, arith, Contains}
+use Rattle.std.proofs.Common.{◌≡◌, ◌≢◌, ◌↔◌, ℕ, zero, suc, ◌+◌, ◌-◌, ◌<◌, List, [], ◌∷◌, ◌++◌, length, get_or, set, Some, slice_get, ◌⊎◌, inl, inr, refl, ap, sym, ◌∙◌, arith, Contains, IsTrue, not, eqb}
 use Rattle.std.specs.Prelude.{AllPairs}
 use Rattle.std.proofs.lemmas.List.{get_or_append_left}
 use Rattle.std.proofs.Math.Seq.{get_or-append_seam}
+use Rattle.std.proofs.lemmas.Bool.{false≢true}
+use Rattle.std.proofs.lemmas.Grind.{common_steps}
 use Rattle.std.proofs.lemmas.Option.{slice_get-get_or, slice_get_within, get_or_from_slice_get, same_Some}
 use Rattle.std.proofs.Common.{length-append, get_or-set_other, get_or-set_same}
 use Rattle.life_quad.specs.declared.id.Id.{Id}
@@ -15,6 +17,12 @@ distinct ids places h = λ i j d l m e.
     let b = h.listed j (get_or ids j d) (slice_get-get_or ids j d m) in
     let c : suc i ≡ suc j = sym a ∙ ap (λ (q : Id). get_or places q.0 0) e ∙ b in
     omega arith
+
+-- a place counted from 1 tells whether an Id is in the list
+pub number_tells : (ids : List Id) (id : Id) (n : ℕ) → (n ≡ 0 → ¬ Contains ids id) → (0 < n → slice_get ids (n - 1) ≡ Some id)
+    → IsTrue (not (eqb n 0)) ↔ Contains ids id
+number_tells ids id zero absent there = (λ t. absurd (false≢true t), λ h. absurd (absent refl h))
+number_tells ids id (suc n) absent there = (λ t. let s = there (omega arith) in (suc n - 1, slice_get_within ids _ id s, get_or_from_slice_get ids _ id id s), λ h. grind (arith, common_steps))
 
 same_number : (a b : Id) → a.0 ≡ b.0 → a ≡ b
 same_number a b e = let mk : ℕ → Id = λ n. record { 0 = n } in ap mk e

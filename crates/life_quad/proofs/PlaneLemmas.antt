@@ -2,11 +2,10 @@
 use Rattle.std.proofs.Common.{◌≡◌, ◌≢◌, ℕ, ◌+◌, ◌^◌, ◌≤◌, ◌<◌, Bool, true, false, ℤ, pos, ◌+ℤ◌, ◌-ℤ◌, ◌≤ℤ◌, refl, sym, ◌∙◌, arith}
 use Rattle.std.proofs.lemmas.Int.{ints}
 use Rattle.life_base.specs.Tree.{Tree, depth, state_at}
-use Rattle.life_quad.specs.declared.extent.Extent.{Extent}
 use Rattle.life_quad.specs.declared.extent.Bounds.{Bounds}
 use Rattle.life_quad.specs.Cells.{IsLeastBox}
 use Rattle.life_base.specs.Tree.{half_side, tree_cell as cell}
-use Rattle.life_quad.specs.Boxes.{IsNonzeroAt, IsExtent}
+use Rattle.life_quad.specs.Boxes.{IsNonzeroAt, IsLeastWithin}
 use Rattle.life_base.proofs.Squares.{is_inside, inside_facts, inside_test, inside_offset, cell_inside, cell_outside}
 use Rattle.life_quad.proofs.RunLemmas.{side}
 
@@ -52,10 +51,10 @@ pub back : (n h : ℕ) → (pos n -ℤ pos h) +ℤ pos h ≡ pos n
 back n h = omega (arith, ints)
 
 -- the box on the plane of a box within the square
-pub least_box : (t : Tree) (e : Extent) (b : Bounds) → 1 ≤ depth t → IsExtent (IsNonzeroAt t) e
-    → b.left +ℤ pos (half_side t) ≡ pos e.left → b.top +ℤ pos (half_side t) ≡ pos e.top → b.right +ℤ pos (half_side t) ≡ pos e.right → b.bottom +ℤ pos (half_side t) ≡ pos e.bottom
+pub least_box : (t : Tree) (west north east south : ℕ) (b : Bounds) → 1 ≤ depth t → IsLeastWithin t west north east south
+    → b.left +ℤ pos (half_side t) ≡ pos west → b.top +ℤ pos (half_side t) ≡ pos north → b.right +ℤ pos (half_side t) ≡ pos east → b.bottom +ℤ pos (half_side t) ≡ pos south
     → IsLeastBox t b
-least_box t e b high k left top right bottom =
+least_box t west north east south b high k left top right bottom =
     record {
       inside = within;
       at_left = (pos k.at_left.0 -ℤ pos (half_side t), nonzero_on_plane t _ _ _ _ high (record { column = left; row = back _ _ }) k.at_left.1);

@@ -1,8 +1,9 @@
 -- Facts about what a refused call had to store.
 use Rattle.std.proofs.Common.{◌≡◌, ℕ, suc, ◌+◌, ◌-◌, ◌^◌, ◌≤◌, ◌<◌, Bool, true, false, nat_lt, ◌⊎◌, inl, inr, refl, sym, ◌∙◌, ap, subst, arith}
-use Rattle.std.specs.Prelude.{if◌then◌else◌}
-use Rattle.life_base.specs.Tree.{Tree, point, quad, depth, state_at, IsFull}
-use Rattle.life_quad.specs.Moves.{inner, can_trim, trim_up_to}
+use Rattle.std.specs.Prelude.{if◌then◌else◌, Result, Err, IsErrAnd}
+use Rattle.std.proofs.lemmas.Result.{err_from_is_err_and}
+use Rattle.life_base.specs.Tree.{Tree, point, quad, depth, blank, state_at, IsFull}
+use Rattle.life_quad.specs.Moves.{grown, inner, can_trim, trim_up_to}
 use Rattle.life_quad.specs.Refused.{SomePart, SomeTrimmed}
 use Rattle.life_quad.specs.Span.{is_in_span, SetsSpan, SetsHalves}
 use Rattle.life_quad.proofs.SpanLemmas.{SetsSpan-north, SetsSpan-south}
@@ -21,6 +22,18 @@ SomePart-north P a b c d (inr p) = inr (inr (inl p))
 pub SomePart-south : (P : Tree → Type 0) (a b c d : Tree) → SomePart P c ⊎ SomePart P d → SomePart P (quad a b c d)
 SomePart-south P a b c d (inl p) = inr (inr (inr (inl p)))
 SomePart-south P a b c d (inr p) = inr (inr (inr (inr p)))
+
+-- the refusal that is passed on
+pub error_is : {T E : Type 0} {e : E} (r : Result T E) → IsErrAnd r (λ f. f ≡ e) → r ≡ Err e
+error_is r h = let p = err_from_is_err_and r h in p.1 ∙ ap Err p.2
+
+-- the grown square of four quarters, around which e is blank, and a part of it
+module _ (t a b c d e : Tree) (whole : t ≡ quad a b c d) (is_blank : e ≡ blank (depth a)) where
+  pub grown_is : quad (quad e e e a) (quad e e b e) (quad e c e e) (quad d e e e) ≡ grown t
+  grown_is = ap (λ u. quad (quad u u u a) (quad u u b u) (quad u c u u) (quad d u u u)) is_blank ∙ ap grown (sym whole)
+
+  pub SomePart-grown : (P : Tree → Type 0) → SomePart P (quad (quad e e e a) (quad e e b e) (quad e c e e) (quad d e e e)) → SomePart P (grown t)
+  SomePart-grown P = subst (SomePart P) grown_is
 
 -- the columns of a span that ends in the left half, of one that begins in the right half, and of one in both
 in_left : (column row len half i j : ℕ) → column + len ≤ half → false ≡ is_in_span column row len (half + i) j

@@ -1,9 +1,7 @@
--- Values kept beside a list of Ids.
-use Rattle.std.specs.Prelude.{◌≡◌, ℕ, List, Some, slice_get}
+-- Values kept at the numbers of Ids.
+use Rattle.std.specs.Prelude.{List, slice_index_or}
 use Rattle.life_quad.specs.declared.id.Id.{Id}
 
--- the value stands at the place of the Id
-pub record HasValue {X : Type 0} (ids : List Id) (values : List X) (q : Id) (v : X) : Type 0 where
-  pub place : ℕ
-  pub listed : slice_get ids place ≡ Some q
-  pub kept : slice_get values place ≡ Some v
+-- the value of an Id
+abbrev pub value_of : {X : Type 0} → List X → X → Id → X
+value_of values absent q = slice_index_or values q.0 absent

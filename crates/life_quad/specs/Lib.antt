@@ -6,6 +6,7 @@ pub mod StoreLaws
 pub mod Cells
 pub mod Span
 pub mod Boxes
+pub mod Distances
 pub mod Bands
 pub mod Laws
 pub mod IdList

@@ -1,53 +1,63 @@
-//! A value for each of some squares.
-ghost use Rattle.std.specs.Prelude.{◌≡◌, ◌⊎◌, length, IfErr, IfSome, OnErr};
+//! A value for each square.
+ghost use Rattle.std.specs.Prelude.{◌≡◌, ◌⊎◌, ◌<◌, ℕ, slice_index_or, vec_len, OnOk, IfErr};
 ghost use Rattle.life_base.specs.declared.kind.Kind.TheVariants.{Memory};
 ghost use Rattle.life_quad.specs.declared.id.Id.{Id as IdValue};
-ghost use Rattle.life_quad.specs.IdMap.{HasValue};
+ghost use Rattle.life_quad.specs.IdMap.{value_of};
 
-use crate::{Id, IdList};
+use crate::Id;
 use life_base::Kind;
 use std::alloc::Global;
 
-// A value for each of some Ids, found in constant time: 12 bytes for each Id beside its value.
+// A value for each Id, found by its number in one step: the absent one, until another is set. It takes room for one value for each
+// number up to the greatest that was set.
 #[derive(Drop)]
 pub(crate) struct IdMap<T: Copy> {
-    ids: IdList,
     values: Vec<T>,
-    ghost beside: { length values.items ≡ length ids },
+    absent: T,
+}
+
+// Gives a number a place in the table, without a value of its own.
+fn make_room<T: Copy>(values: &mut Vec<T>, number: u64, absent: T) -> Result<(), Kind>
+    ensures room { OnOk result (number < vec_len values.new) }
+    ensures same { (n : ℕ) → slice_index_or values.new.items n absent ≡ slice_index_or values.old.items n absent }
+    ensures kind { IfErr result (λ kind. kind ≡ Memory) }
+{
+    if number < values.len() as u64 {
+        return Ok(());
+    }
+    let Some(length) = number.checked_add(1) else {
+        return Err(Kind::Memory);
+    };
+    values.resize(length as usize, absent)?;
+    Ok(())
 }
 
 impl<T: Copy> IdMap<T> {
-    // No values. It takes no memory.
-    pub(crate) fn new(alloc: Global) -> IdMap<T>
-        ensures { (id : IdValue) (value : T) → ¬ HasValue result.ids result.values.items id value }
+    // The absent value for every Id. It takes no memory.
+    pub(crate) fn new(alloc: Global, absent: T) -> IdMap<T>
+        ensures { (q : IdValue) → value_of result.values.items result.absent q ≡ absent }
     {
-        let ids = IdList::new(alloc);
         let values = Vec::new(alloc);
-        IdMap { ids, values }
+        IdMap { values, absent }
     }
 
     // The value of an Id.
-    pub(crate) fn get(&self, id: Id) -> Option<T>
-        ensures { IfSome result (HasValue self.now.ids self.now.values.items id) }
+    pub(crate) fn get(&self, id: Id) -> T
+        ensures { result ≡ value_of self.now.values.items self.now.absent id }
     {
-        let place = self.ids.place(id)?;
-        self.values.get(place).copied()
+        match self.values.get(id.0 as usize) {
+            Some(value) => *value,
+            None => self.absent,
+        }
     }
 
-    // Adds the value of an Id that has none yet. A refusal, by `Memory` alone, leaves the map as it was.
-    pub(crate) fn insert(&mut self, id: Id, value: T) -> Result<(), Kind>
-        ensures only { (q : IdValue) (v : T) → HasValue self.new.ids self.new.values.items q v → HasValue self.old.ids self.old.values.items q v ⊎ ((q ≡ id) × (v ≡ value)) }
-        ensures err { OnErr result ((q : IdValue) (v : T) → HasValue self.new.ids self.new.values.items q v → HasValue self.old.ids self.old.values.items q v) }
+    // Sets the value of an Id. A refusal, by `Memory` alone, leaves each value as it was.
+    pub(crate) fn set(&mut self, id: Id, value: T) -> Result<(), Kind>
+        ensures only { (q : IdValue) → (value_of self.new.values.items self.new.absent q ≡ value_of self.old.values.items self.old.absent q) ⊎ ((q ≡ id) × (value_of self.new.values.items self.new.absent q ≡ value)) }
         ensures refusals { IfErr result (λ e. e ≡ Memory) }
     {
-        if self.ids.contains(id) {
-            return Ok(());
-        }
-        self.values.push(value)?;
-        if let Err(kind) = self.ids.insert(id) {
-            self.values.pop();
-            return Err(kind);
-        }
+        make_room(&mut self.values, id.0, self.absent)?;
+        self.values[id.0 as usize] = value;
         Ok(())
     }
 }

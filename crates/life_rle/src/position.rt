@@ -118,10 +118,7 @@ fn position_with(position: Position, text: &[u8]) -> Result<Position, Kind>
         if field.is_empty() {
             return Ok(position);
         }
-        match with_field(position, field) {
-            Ok(more) => position = more,
-            Err(kind) => return Err(kind),
-        }
+        position = with_field(position, field)?;
         rest = behind;
     }
 }

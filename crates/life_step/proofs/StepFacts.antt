@@ -57,6 +57,15 @@ refused-by bytes store u fault P Q reads f full (inl e) = inr (inl (inr (e, full
 refused-by bytes store u fault P Q reads f full (inr (inl e)) = inr (inl (inl e))
 refused-by bytes store u fault P Q reads f full (inr (inr p)) = inr (inr (u, reads, f p))
 
+-- a rule that is none of sets is refused without a table
+pub needs-table : (u : Universe) (rule : Rule) (refusal : Option Fault) → rule ≡ u.rule → ((sets : DigitSets) → rule ≡ Life sets → ⊥) → refusal ≡ Some (fault_of kinds.NeedsTable)
+    → LifeRefusal MAX_LEVEL u refusal
+needs-table u rule refusal is other e = subst (λ (r : Rule). RuleRefusal MAX_LEVEL r u refusal) is (by rule other)
+  where
+    by : (r : Rule) → ((sets : DigitSets) → r ≡ Life sets → ⊥) → RuleRefusal MAX_LEVEL r u refusal
+    by (Named name) h = e
+    by (Life sets) h = absurd (h sets refl)
+
 one-least : (rule : Rule) → 1 ≤ least_level rule
 one-least (Life sets) = omega arith
 one-least (Named name) = omega arith

@@ -39,7 +39,11 @@ pub(crate) fn find(spans: &[Span], from: usize, column: u64, blank: Id) -> Found
     requires past { IsPast spans.now from column }
     ensures { IsFound spans.now column blank result }
 {
+    // Whether the first span ends before the column is mostly chance, so that step takes no branch.
     let mut index = from;
+    if index < spans.len() {
+        index += (spans[index].end <= column) as usize;
+    }
     while index < spans.len() && spans[index].end <= column {
         index += 1;
     }
@@ -137,7 +141,7 @@ pub(crate) fn pair<S: Squares>(
     ensures needed { result ≡ Err Full → (column : ℕ) × (column < 2 ^ (MAX_LEVEL - (level + 1))) × S.needs_node squares.new (quad_at (S.content squares.old) level upper.now lower.now column) }
 {
     let blank = squares.empty(level);
-    let mut spans = Vec::new(alloc);
+    let mut spans = Vec::with_capacity(alloc, upper.len() / 2 + lower.len() / 2)?;
     let mut column: u64 = 0;
     let mut north = find(upper, 0, 0, blank);
     let mut south = find(lower, 0, 0, blank);

@@ -73,6 +73,27 @@ fn files_are_written(rt: HostRuntime) -> Result<(), Fail> {
     Ok(())
 }
 
+/// Each line of a file is kept: one for a square that stands twice, one that the root doesn't reach, and those around blank squares.
+#[test]
+fn node_lines_are_counted(rt: HostRuntime) -> Result<(), Fail> {
+    let rows: [(&[u8], usize); 3] = [
+        (
+            b"[M2] (golly 4.2)\n#R B3/S23\n....*$$$$$$$$\n4 1 0 0 0\n5 2 0 0 0\n6 3 0 0 0\n7 4 0 0 0\n8 5 0 0 0\n9 0 0 0 6\n",
+            7,
+        ),
+        (b"[M2]\n1 1 0 0 0\n2 1 0 0 0\n3 0 2 0 0\n4 0 0 0 3\n", 4),
+        (
+            b"[M2]\n#R B3/S23\n....*$$$$$$$$\n....*$$$$$$$$\n*$$$$$$$$\n4 0 0 1 2\n",
+            4,
+        ),
+    ];
+    for (input, count) in rows {
+        let file = read_mc(rt.alloc(), input)?;
+        assert_eq!(rt; file.lines.as_slice().len(), count);
+    }
+    Ok(())
+}
+
 #[test]
 fn files_are_refused(rt: HostRuntime) {
     let alloc = rt.alloc();

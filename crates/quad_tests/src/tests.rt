@@ -7,7 +7,7 @@ ghost use Rattle.life_quad.specs.declared.id.Id.{Id as IdValue};
 use life_base::{Cell, Kind, MAX_LEVEL};
 use life_quad::{
     Bounds, Id, IdList, Plain, Quarters, Shared, SharedSquares, Squares, bounds, cells, divide,
-    grow, is_blank, population, put_run, trim,
+    grow, is_blank, is_blank_at, population, put_run, trim,
 };
 use std::alloc::Global;
 use std::process::Abort;
@@ -323,16 +323,18 @@ fn divided<S: Squares>(squares: &mut S) -> Result<(bool, Option<u8>, u8, bool), 
     ))
 }
 
-// The same quarters by name, and which of the square and its quarters are blank.
-fn named<S: Squares>(squares: &mut S) -> Result<(bool, [bool; 3]), Kind> {
+// The same quarters by name, and which of the square, its quarters, and the square by its level are blank.
+fn named<S: Squares>(squares: &mut S) -> Result<(bool, [bool; 4]), Kind> {
     let one = squares.cell(1);
     let none = squares.empty(0);
     let square = squares.join(none, one, none, none)?;
     let Quarters { nw, ne, sw, se } = divide(squares, square);
+    let level = squares.level(square);
     let blank = [
         is_blank(squares, square),
         is_blank(squares, ne),
         is_blank(squares, nw),
+        is_blank_at(squares, level, square),
     ];
     Ok(([nw, ne, sw, se] == [none, one, none, none], blank))
 }
@@ -340,7 +342,7 @@ fn named<S: Squares>(squares: &mut S) -> Result<(bool, [bool; 3]), Kind> {
 #[test]
 fn squares_have_quarters(rt: HostRuntime) {
     let quarters = Ok((true, Some(1), 1, true));
-    let names = Ok((true, [false, false, true]));
+    let names = Ok((true, [false, false, true, false]));
     let mut squares = Shared::new(rt.alloc(), 1);
     let found = (
         divided(&mut squares),

@@ -1,8 +1,8 @@
 //! Files compared, shown and written as RLE.
 
 use super::{
-    BLANK, CELL, FAR, GLIDER, ONE, PAIR, ROOM, ROW, THREE, THREE_OF_LIFE, TOWER, TWO_RUNS, WIRES,
-    fault,
+    BLANK, CELL, FAR, GLIDER, LEVELS, ONE, PAIR, REPEATS, ROOM, ROW, THREE, THREE_OF_LIFE, TOWER,
+    TWO_RUNS, WIRES, fault,
 };
 use life_base::Kind;
 use life_canon::{same, show, to_rle};
@@ -87,6 +87,21 @@ fn patterns_are_shown(rt: HostRuntime) {
         alloc,
         WIRES,
         b"rule WireWorld\ngeneration 7\npopulation 2\nbox -1 -1 2 1\nnodes 1\n",
+    );
+}
+
+// Of the seven, four and four node lines of these files two are needed.
+#[test]
+fn the_least_node_lines_are_counted(rt: HostRuntime) {
+    let alloc = rt.alloc();
+    let cell = b"rule B3/S23\ngeneration 0\npopulation 1\nbox 4 0 1 1\nnodes 2\n";
+    shown(&rt, alloc, TOWER, cell);
+    shown(&rt, alloc, LEVELS, cell);
+    shown(
+        &rt,
+        alloc,
+        REPEATS,
+        b"rule B3/S23\ngeneration 0\npopulation 2\nbox -4 0 9 1\nnodes 2\n",
     );
 }
 

@@ -104,16 +104,15 @@ fn the_corner_of_the_plane_has_58_lines(rt: HostRuntime) {
     canonical(&rt, alloc, CORNER, &text);
 }
 
+/// The canonical text of a whole row of the plane.
+pub(super) fn text_of_the_row(alloc: Global) -> Result<Vec<u8>, Kind> {
+    let front = b"[M2] (canonical 1)\n#R B3/S23\n********$$$$$$$$\n";
+    chain(alloc, front, 57, true, b"60 0 0 57 57\n")
+}
+
 #[test]
 fn a_row_of_the_plane_has_58_lines(rt: HostRuntime) {
     let alloc = rt.alloc();
-    let text = chain(
-        alloc,
-        b"[M2] (canonical 1)\n#R B3/S23\n********$$$$$$$$\n",
-        57,
-        true,
-        b"60 0 0 57 57\n",
-    )
-    .expect(&rt, "memory");
+    let text = text_of_the_row(alloc).expect(&rt, "memory");
     canonical(&rt, alloc, ROW, &text);
 }

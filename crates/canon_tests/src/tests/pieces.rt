@@ -2,19 +2,22 @@
 ghost use Rattle.std.specs.Prelude.{◌≡◌, false};
 ghost use Rattle.life_canon.specs.Feeding.{Stands};
 
+use super::canonical::text_of_the_row;
 use super::{
     GLIDER, GLIDER_CRLF, GLIDER_OPEN, GLIDER_TEXT, PAIR, PAIR_TEXT, REPEATS, ROOM, ROW, WIRES,
     WIRES_TEXT, fault,
 };
-use life_base::{Fault, Kind};
-use life_canon::{Reader, canon, number};
+use life_base::{Device, Fault, Kind};
+use life_canon::{Reader, number, run_canon};
 use life_mc::write_mc;
 use life_quad::Shared;
 use std::alloc::Global;
+use std::io;
+use std::io::Read;
 use std::process::Abort;
 
 /// The canonical text of what a reader was fed.
-fn text_of(alloc: Global, store: &mut Shared, reader: Reader) -> Result<Vec<u8>, Fault>
+pub(super) fn text_of(alloc: Global, store: &mut Shared, reader: Reader) -> Result<Vec<u8>, Fault>
     requires { reader.spent ≡ false → Stands store.old reader }
 {
     let pattern = reader.finish(store)?;
@@ -69,9 +72,49 @@ fn node_lines_are_read_in_pieces(rt: HostRuntime) {
 #[test]
 fn a_row_of_the_plane_is_read_in_pieces(rt: HostRuntime) {
     let alloc = rt.alloc();
-    let mut store = Shared::new(alloc, ROOM);
-    let text = canon(alloc, &mut store, ROW).expect(&rt, "an answer");
+    let text = text_of_the_row(alloc).expect(&rt, "memory");
     canonical_in_pieces(&rt, alloc, ROW, &text);
+}
+
+/// A reader of std that gives a byte at a time.
+#[derive(Drop)]
+struct Dripping<'a> {
+    left: &'a [u8],
+}
+
+impl<'a> Read for Dripping<'a> {
+    fn read(&mut self, buf: &mut [u8]) -> io::Result<usize> {
+        let count = self.left.len().min(buf.len()).min(1);
+        buf[..count].copy_from_slice(&self.left[..count]);
+        self.left = &self.left[count..];
+        Ok(count)
+    }
+}
+
+/// The canonical text of a file whose source gives a byte at a time.
+fn text_run(alloc: Global, input: &[u8]) -> Result<Vec<u8>, Fault> {
+    let mut store = Shared::new(alloc, ROOM);
+    let mut text = Vec::new(alloc);
+    let mut reader = Device::new(Dripping { left: input });
+    let mut writer = Device::new(&mut text);
+    run_canon(alloc, &mut store, &mut reader, &mut writer)?;
+    drop(writer);
+    Ok(text)
+}
+
+#[test]
+fn a_source_gives_a_byte_at_a_time(rt: HostRuntime) {
+    let alloc = rt.alloc();
+    let rows = [
+        (GLIDER_CRLF, GLIDER_TEXT),
+        (GLIDER_OPEN, GLIDER_TEXT),
+        (WIRES, WIRES_TEXT),
+        (REPEATS, PAIR_TEXT),
+    ];
+    for (input, text) in rows {
+        let out = text_run(alloc, input).expect(&rt, "an answer");
+        assert_eq!(rt; out.as_slice(), text);
+    }
 }
 
 #[test]

@@ -92,6 +92,13 @@ fn node_lines_are_refused(rt: HostRuntime) {
         Kind::BadNode,
     );
     refused(&rt, alloc, b"[M2]\n#FRAMES 10 0 1\n", 2, Kind::Timeline);
+    refused(
+        &rt,
+        alloc,
+        b"[M2]\n#FRAMES 10 0 1\n#R B3/S23\n....*$$$$$$$$\n4 0 0 0 9\n",
+        2,
+        Kind::Timeline,
+    );
 }
 
 #[test]

@@ -3,7 +3,7 @@
 ghost use Rattle.std.specs.Prelude.{◌≡◌, false};
 
 use super::devices::{Clogged, Dripping, Limited, assert_one, sink_with};
-use super::{GLIDER, GLIDER_TEXT, TWINS, TWINS_IN_RLE, TWINS_TEXT};
+use super::{GLIDER, GLIDER_TEXT, TWINS, TWINS_IN_RLE, TWINS_TEXT, WIRES, WIRES_TEXT};
 use life_base::{Device, Sink, Source};
 use life_cli::plans::Job;
 use life_cli::work;
@@ -28,10 +28,11 @@ fn canon<R: Source, W: Sink>(
 
 #[test]
 fn writes_the_canonical_text(rt: HostRuntime) {
-    let rows: [(&[u8], &[u8]); 5] = [
+    let rows: [(&[u8], &[u8]); 6] = [
         (GLIDER, GLIDER_TEXT),
         (TWINS, TWINS_TEXT),
         (TWINS_IN_RLE, TWINS_TEXT),
+        (WIRES, WIRES_TEXT),
         (b"[M2]\n#G 7", b"[M2] (canonical 1)\n#R B3/S23\n#G 7\n"),
         (b"[M2]\r\n#G 0\r\n", b"[M2] (canonical 1)\n#R B3/S23\n"),
     ];

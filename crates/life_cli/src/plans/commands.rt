@@ -1,7 +1,7 @@
 //! The commands, as `clap` reads them.
 
 ghost use Rattle.std.specs.Prelude.{◌≡◌, IfOk, IfErr, map, false};
-ghost use Rattle.clap.specs.Words.{rule_of, HasMatchesOf, HasKind, fault_of};
+ghost use Rattle.clap.specs.Words.{App, rule_of, HasMatchesOf, HasKind, fault_of, with_subcommand};
 ghost use Rattle.life_cli.specs.CommandLine.{required_file, option as option_rule, required_option, one_file_line, convert_line, same_line, step_line, named, program, ReadsAs};
 
 use super::help::{CANON, CONVERT, Help, PROGRAM, SAME, SHOW, STEP};
@@ -95,22 +95,27 @@ fn bare<'a>(alloc: Global) -> Result<Command<'a>, AllocError>
         .bin_name("golly_canon")
 }
 
+/// A command with one command more, where that was made.
+fn with_command<'a>(
+    command: Command<'a>,
+    made: Result<Command<'a>, AllocError>,
+) -> Result<Command<'a>, AllocError>
+    ensures { (line added : App) → ReadsAs line command.entry → IfOk made.entry (ReadsAs added) → IfOk result (ReadsAs (with_subcommand line added.top)) }
+{
+    let more = made?;
+    command.subcommand(more)
+}
+
 /// The program.
 fn golly_canon<'a>(alloc: Global) -> Result<Command<'a>, AllocError>
     ensures { IfOk result (λ command. ReadsAs program command) }
 {
     let command = bare(alloc)?;
-    let canon = one_file(alloc, "canon", CANON)?;
-    let command = command.subcommand(canon)?;
-    let convert = convert(alloc)?;
-    let command = command.subcommand(convert)?;
-    let same = same(alloc)?;
-    let command = command.subcommand(same)?;
-    let show = one_file(alloc, "show", SHOW)?;
-    let command = command.subcommand(show)?;
-    let step = step(alloc)?;
-    let command = command.subcommand(step)?;
-    Ok(command)
+    let command = with_command(command, one_file(alloc, "canon", CANON))?;
+    let command = with_command(command, convert(alloc))?;
+    let command = with_command(command, same(alloc))?;
+    let command = with_command(command, one_file(alloc, "show", SHOW))?;
+    with_command(command, step(alloc))
 }
 
 /// The matches of the program's words.

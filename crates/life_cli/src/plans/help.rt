@@ -86,7 +86,7 @@ output. With status 5 a text on standard error says what is wrong, or the line
   InputTooLong     a file has more than 2^30 bytes
   ReadFault        a file can't be opened or read
   WriteFault       the output can't be written
-  Full             a pattern has more than 2^31 different squares
+  Full             a command comes to more than 2^31 different squares
   Memory           there isn't enough memory",
 };
 
@@ -157,7 +157,8 @@ Exit status:
   4  there isn't enough memory, or room in the store of squares
   5  the command line isn't understood, or both files are -
 
-A fault on standard error doesn't say which file it is of: A's comes first.
+A fault on standard error doesn't say which file it is of. First it is told if A
+can't be read or is too long, then if B is so; then A's first fault, then B's.
 See `golly_canon --help` for the lines on standard error.",
 };
 

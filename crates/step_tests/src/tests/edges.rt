@@ -40,6 +40,7 @@ fn no_cell_is_born_outside(rt: HostRuntime) {
         &rt,
         alloc,
         b"#CXRLE Pos=0,576460752303423487\nx = 3, y = 1\no!\n",
+        1,
         b"[M2] (canonical 1)\n#R B3/S23\n#G 1\n",
     );
 }

@@ -12,14 +12,15 @@ fn a_blinker_turns(rt: HostRuntime) {
         &rt,
         alloc,
         BLINKER,
+        1,
         b"[M2] (canonical 1)\n#R B3/S23\n#G 1\n$$$.....*$.....*$.....*$$$\n",
     );
-    becomes(
+    gives(
         &rt,
         alloc,
         BLINKER,
         2,
-        b"#CXRLE Gen=2\nx = 3, y = 1, rule = B3/S23\n3o!\n",
+        b"[M2] (canonical 1)\n#R B3/S23\n#G 2\n$$$$....***$$$$\n",
     );
 }
 
@@ -29,6 +30,7 @@ fn an_empty_plane_stays_empty(rt: HostRuntime) {
         &rt,
         rt.alloc(),
         b"x = 0, y = 0, rule = B12345678/S012345678\n!\n",
+        1,
         b"[M2] (canonical 1)\n#R B12345678/S012345678\n#G 1\n",
     );
 }
@@ -50,23 +52,23 @@ fn the_last_generation_has_no_next(rt: HostRuntime) {
         1,
         Kind::TooLarge,
     );
-    becomes(
+    gives(
         &rt,
         alloc,
         b"#CXRLE Gen=18446744073709551614\nx = 3, y = 1, rule = B3/S23\n3o!\n",
         1,
-        b"#CXRLE Pos=1,-1 Gen=18446744073709551615\nx = 1, y = 3, rule = B3/S23\no$o$o!\n",
+        b"[M2] (canonical 1)\n#R B3/S23\n#G 18446744073709551615\n$$$.....*$.....*$.....*$$$\n",
     );
 }
 
 #[test]
 fn a_glider_moves(rt: HostRuntime) {
-    becomes(
+    gives(
         &rt,
         rt.alloc(),
         b"x = 3, y = 3, rule = B3/S23\nbo$2bo$3o!\n",
         4,
-        b"#CXRLE Pos=1,1 Gen=4\nx = 3, y = 3, rule = B3/S23\nbo$2bo$3o!\n",
+        b"[M2] (canonical 1)\n#R B3/S23\n#G 4\n$$$$$......*$.......*$.....***$\n",
     );
 }
 

@@ -1,6 +1,6 @@
 //! Patterns by rule tables.
 
-use super::{becomes_by, refuses_by};
+use super::{gives_by, refuses_by};
 use life_base::Kind;
 
 const SPREAD: &[u8] =
@@ -31,21 +31,13 @@ const BRIAN: &[u8] =
 #[test]
 fn a_state_spreads(rt: HostRuntime) {
     let alloc = rt.alloc();
-    becomes_by(
+    gives_by(
         &rt,
         alloc,
         SPREAD,
         b"x = 1, y = 1, rule = Spread\nB!\n",
         1,
         b"[M2] (canonical 1)\n#R Spread\n#G 1\n1 0 0 2 0\n1 0 2 0 0\n1 2 2 2 0\n2 0 1 2 3\n",
-    );
-    becomes_by(
-        &rt,
-        alloc,
-        SPREAD,
-        b"x = 1, y = 1, rule = Spread\nB!\n",
-        1,
-        b"#CXRLE Pos=-1,-1 Gen=1\nx = 3, y = 3, rule = Spread\n.B$3B$.B!\n",
     );
 }
 
@@ -146,53 +138,53 @@ fn two_states_are_ambiguous(rt: HostRuntime) {
 #[test]
 fn an_electron_runs_along_a_wire(rt: HostRuntime) {
     let alloc = rt.alloc();
-    becomes_by(
+    gives_by(
         &rt,
         alloc,
         WIREWORLD,
         b"x = 6, y = 1, rule = WireWorld\nBA4C!\n",
         4,
-        b"#CXRLE Gen=4\nx = 6, y = 1, rule = WireWorld\n4CBA!\n",
+        b"[M2] (canonical 1)\n#R WireWorld\n#G 4\n1 3 3 0 0\n2 1 1 0 0\n1 2 1 0 0\n2 3 0 0 0\n3 2 4 0 0\n4 0 0 0 5\n",
     );
-    becomes_by(
+    gives_by(
         &rt,
         alloc,
         WIREWORLD,
         b"x = 6, y = 1, rule = WireWorld\nBA4C!\n",
         6,
-        b"#CXRLE Gen=6\nx = 6, y = 1, rule = WireWorld\n6C!\n",
+        b"[M2] (canonical 1)\n#R WireWorld\n#G 6\n1 3 3 0 0\n2 1 1 0 0\n2 1 0 0 0\n3 2 3 0 0\n4 0 0 0 4\n",
     );
 }
 
 #[test]
 fn an_electron_comes_round(rt: HostRuntime) {
     let alloc = rt.alloc();
-    becomes_by(
+    gives_by(
         &rt,
         alloc,
         WIREWORLD,
         b"x = 4, y = 4, rule = WireWorld\n.BA$C2.C$C2.C$.2C!\n",
         4,
-        b"#CXRLE Gen=4\nx = 4, y = 4, rule = WireWorld\n.2C$C2.C$C2.C$.AB!\n",
+        b"[M2] (canonical 1)\n#R WireWorld\n#G 4\n1 0 3 3 0\n1 3 0 0 3\n1 3 0 0 1\n1 0 3 2 0\n2 1 2 3 4\n3 0 0 0 5\n",
     );
-    becomes_by(
+    gives_by(
         &rt,
         alloc,
         WIREWORLD,
         b"x = 4, y = 4, rule = WireWorld\n.BA$C2.C$C2.C$.2C!\n",
         8,
-        b"#CXRLE Gen=8\nx = 4, y = 4, rule = WireWorld\n.BA$C2.C$C2.C$.2C!\n",
+        b"[M2] (canonical 1)\n#R WireWorld\n#G 8\n1 0 2 3 0\n1 1 0 0 3\n1 3 0 0 3\n1 0 3 3 0\n2 1 2 3 4\n3 0 0 0 5\n",
     );
 }
 
 #[test]
 fn two_firing_cells_make_four(rt: HostRuntime) {
-    becomes_by(
+    gives_by(
         &rt,
         rt.alloc(),
         BRIAN,
         b"x = 2, y = 1, rule = BriansBrain\n2A!\n",
         1,
-        b"#CXRLE Pos=0,-1 Gen=1\nx = 2, y = 3, rule = BriansBrain\n2A$2B$2A!\n",
+        b"[M2] (canonical 1)\n#R BriansBrain\n#G 1\n1 0 0 1 1\n1 2 2 1 1\n2 0 1 0 2\n",
     );
 }

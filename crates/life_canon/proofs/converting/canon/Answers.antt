@@ -1,4 +1,5 @@
-use Rattle.std.proofs.lemmas.Result.{IfOk-weaker}
+use Rattle.std.proofs.Common.{inl, inr}
+use Rattle.std.proofs.lemmas.Result.{IfOk-weaker, IfErr-weaker}
 use Rattle.life_canon.proofs.CallFacts.{canonical-text, least-text}
 use Rattle.life_canon.proofs.Fits.{read-fits}
 use Rattle.life_canon.proofs.converting.canon.Goals as goal
@@ -11,3 +12,9 @@ returns-clause-text c = IfOk-weaker c.text_of.result _ _ (λ text e. canonical-t
 
 pub returns-clause-least : goal.returns-clause-least
 returns-clause-least c = IfOk-weaker c.text_of.result _ _ (λ text e. least-text c.args.bytes.now _ _ c.in_ok-pattern.ensures.pattern text.items e) c.text_of.ensures.text
+
+pub returns-clause-fault : goal.returns-clause-fault
+returns-clause-fault c = IfErr-weaker c.text_of.result _ _ (λ fault e. inr (inl e)) c.text_of.ensures.memory
+
+pub returns-clause-keeps : goal.returns-clause-keeps
+returns-clause-keeps c = c.in_ok-pattern.ensures.keeps

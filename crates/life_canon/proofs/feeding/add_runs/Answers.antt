@@ -2,8 +2,23 @@ use Rattle.std.proofs.Common.{◌≡◌, ◌<◌, [], ◌∷◌, ◌++◌, lengt
 use Rattle.life_rle.specs.declared.file.Run.{Run}
 use Rattle.life_strip.specs.Given.{GivenRun}
 use Rattle.life_canon.specs.Building.{given}
-use Rattle.life_canon.proofs.BuildFacts.{given-more, next-more, read-run}
+use Rattle.life_canon.proofs.BuildFacts.{given-more, next-more, read-run, run-next}
 use Rattle.life_canon.proofs.feeding.add_runs.Goals as goal
+
+pub add_run-requires-clause-positive : goal.add_run-requires-clause-positive
+add_run-requires-clause-positive g c =
+    let none : Run = record { x = pos 0; y = pos 0; len = 0; state = 0 } in
+    (run-next c.loop-run.builder.runs c.args.runs.now c.loop-run.run-index none (omega arith) c.loop-run.invariant.next).0
+
+pub add_run-requires-clause-inside : goal.add_run-requires-clause-inside
+add_run-requires-clause-inside g c =
+    let none : Run = record { x = pos 0; y = pos 0; len = 0; state = 0 } in
+    (run-next c.loop-run.builder.runs c.args.runs.now c.loop-run.run-index none (omega arith) c.loop-run.invariant.next).1
+
+pub add_run-requires-clause-next : goal.add_run-requires-clause-next
+add_run-requires-clause-next g c =
+    let none : Run = record { x = pos 0; y = pos 0; len = 0; state = 0 } in
+    (run-next c.loop-run.builder.runs c.args.runs.now c.loop-run.run-index none (omega arith) c.loop-run.invariant.next).2
 
 pub loop-run-preserved : goal.loop-run-preserved
 loop-run-preserved g c =

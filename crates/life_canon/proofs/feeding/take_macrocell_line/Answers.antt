@@ -34,8 +34,8 @@ line_square-requires g c =
       );
     }
 
-pub returns-in-Ok-clause-squares : goal.returns-in-Ok-clause-squares
-returns-in-Ok-clause-squares g c =
+pub returns-clause-squares : goal.returns-clause-squares
+returns-clause-squares g c =
     let old : List (List ℕ) = c.args.lines.now.lines in
     let square : Line = c.in-Some.square in
     let ids : List Id = c.args.ids.now.items in
@@ -50,4 +50,4 @@ returns-in-Ok-clause-squares g c =
     squares-grow (g.S.Squares.knows c.line_square.new.squares) (g.S.Squares.content c.line_square.new.squares) next.rule next.generation (squares_of old) square ids c.in_ok-id.id next.valid
     (squares-stay (squares_of old) ids c.in_ok-id.ensures.keeps c.requires.squares) c.in_ok-id.ensures.known is in
     subst (λ (ls : List Line). AreSquaresOf (g.S.Squares.knows c.line_square.new.squares) (g.S.Squares.content c.line_square.new.squares) ls c.push.new.self.items) (sym squares)
-    (subst (λ (is : List Id). AreSquaresOf (g.S.Squares.knows c.line_square.new.squares) (g.S.Squares.content c.line_square.new.squares) (squares_of old ++ square ∷ []) is) (sym c.in-Ok.ensures.items) grown)
+    (subst (λ (is : List Id). AreSquaresOf (g.S.Squares.knows c.line_square.new.squares) (g.S.Squares.content c.line_square.new.squares) (squares_of old ++ square ∷ []) is) (sym c.in_ok-push.ensures.items) grown)

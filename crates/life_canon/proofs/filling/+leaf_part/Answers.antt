@@ -5,6 +5,36 @@ use Rattle.std.proofs.lemmas.Result.{IfOk-weaker}
 use Rattle.life_canon.proofs.FillFacts.{part-quarters, half-is}
 use Rattle.life_canon.proofs.filling.+leaf_part.Goals as goal
 
+pub returns-in_err-ne-clause-keeps : goal.returns-in_err-ne-clause-keeps
+returns-in_err-ne-clause-keeps g t c = λ q k.
+    let m0 = c.in_ok-nw.ensures.keeps q k in
+    let m1 = c.in_err-ne.ensures.keeps q m0.0 in
+    (m1.0, m1.1 ∙ m0.1)
+
+pub returns-in_err-sw-clause-keeps : goal.returns-in_err-sw-clause-keeps
+returns-in_err-sw-clause-keeps g t c = λ q k.
+    let m0 = c.in_ok-nw.ensures.keeps q k in
+    let m1 = c.in_ok-ne.ensures.keeps q m0.0 in
+    let m2 = c.in_err-sw.ensures.keeps q m1.0 in
+    (m2.0, m2.1 ∙ m1.1 ∙ m0.1)
+
+pub returns-in_err-se-clause-keeps : goal.returns-in_err-se-clause-keeps
+returns-in_err-se-clause-keeps g t c = λ q k.
+    let m0 = c.in_ok-nw.ensures.keeps q k in
+    let m1 = c.in_ok-ne.ensures.keeps q m0.0 in
+    let m2 = c.in_ok-sw.ensures.keeps q m1.0 in
+    let m3 = c.in_err-se.ensures.keeps q m2.0 in
+    (m3.0, m3.1 ∙ m2.1 ∙ m1.1 ∙ m0.1)
+
+pub returns-clause-keeps : goal.returns-clause-keeps
+returns-clause-keeps g t c = λ q k.
+    let m0 = c.in_ok-nw.ensures.keeps q k in
+    let m1 = c.in_ok-ne.ensures.keeps q m0.0 in
+    let m2 = c.in_ok-sw.ensures.keeps q m1.0 in
+    let m3 = c.in_ok-se.ensures.keeps q m2.0 in
+    let m4 = c.join.ensures.keeps q m3.0 in
+    (m4.0, m4.1 ∙ m3.1 ∙ m2.1 ∙ m1.1 ∙ m0.1)
+
 pub returns-in_err-sw-clause-stays : goal.returns-in_err-sw-clause-stays
 returns-in_err-sw-clause-stays g t c = λ s h. c.in_err-sw.ensures.stays s (c.in_ok-ne.ensures.stays s (c.in_ok-nw.ensures.stays s h))
 

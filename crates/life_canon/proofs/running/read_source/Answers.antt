@@ -15,10 +15,11 @@ returns-in_err-refused-clause-keeps g c = keeps-all _ _ _ c.loop-reader.invarian
 
 pub loop-reader-preserved : goal.loop-reader-preserved
 loop-reader-preserved g c = (
-  reading-on _ _ _ _ _ _ _ _ _ _ _ _ c.loop-reader.invariant.0 c.in_ok-count.ensures.bytes.0 (search rules) c.in_ok-refused.ensures.going c.in_ok-refused.ensures.refused,
+  rw c.make.ensures
+      (reading-on _ _ _ _ _ _ _ _ _ _ _ _ c.loop-reader.invariant.0 c.in_ok-count.ensures.bytes.0 (search rules) c.in_ok-refused.ensures.going c.in_ok-refused.ensures.refused),
   search rules,
   search rules,
-  keeps-all _ _ _ c.loop-reader.invariant.3 c.feed_piece.ensures.keeps,
+  rw c.make.ensures (keeps-all _ _ _ c.loop-reader.invariant.3 c.feed_piece.ensures.keeps),
 )
 
 pub returns-in-Some-clause-fault : goal.returns-in-Some-clause-fault

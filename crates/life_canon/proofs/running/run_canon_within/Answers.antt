@@ -1,4 +1,4 @@
-use Rattle.std.proofs.Common.{ap}
+use Rattle.std.proofs.Common.{ap, arith, inl, inr, refl, rules, sym, true≢false, ◌∙◌}
 use Rattle.std.proofs.lemmas.Result.{err_from_is_err_and}
 use Rattle.life_canon.specs.Running.{by_reading, by_writing}
 use Rattle.life_base.specs.Refusal.{fault_of}
@@ -37,3 +37,37 @@ returns-clause-ok g c = record {
   canonical = canonical-text c.in_ok-pattern.ensures.pattern.bytes c.read_source.new.store c.in_ok-pattern.pattern c.in_ok-pattern.ensures.pattern.is c.in_ok-text.text.items c.in_ok-text.ensures.text;
   written = rw c.deref.ensures.value at c.in_ok-deliver.ensures.text;
 }
+
+pub returns-clause-flushed : goal.returns-clause-flushed
+returns-clause-flushed g c = search rules
+
+pub deliver-requires : goal.deliver-requires
+deliver-requires g c = c.requires.writes
+
+pub returns-clause-write_told : goal.returns-clause-write_told
+returns-clause-write_told g c = λ h. elim h [
+  | inl e ↦ absurd (omega (arith, e, c.in_ok-deliver.ensures.works))
+  | inr e ↦ absurd (true≢false (sym e ∙ c.in_ok-deliver.ensures.stalled ∙ c.requires.takes))
+]
+
+pub returns-in_err-pattern-clause-unwritten : goal.returns-in_err-pattern-clause-unwritten
+returns-in_err-pattern-clause-unwritten g c =
+    let p = err_from_is_err_and c.from_residual.result c.from_residual.ensures.1 in
+    rw p.1 (λ h. refl)
+
+pub returns-in_err-pattern-clause-write_told : goal.returns-in_err-pattern-clause-write_told
+returns-in_err-pattern-clause-write_told g c = λ h. elim h [
+  | inl e ↦ absurd (omega (arith, e, c.requires.writes))
+  | inr e ↦ absurd (true≢false (sym e ∙ c.requires.takes))
+]
+
+pub returns-in_err-text-clause-unwritten : goal.returns-in_err-text-clause-unwritten
+returns-in_err-text-clause-unwritten g c =
+    let p = err_from_is_err_and c.from_residual-in_err-text.result c.from_residual-in_err-text.ensures.1 in
+    rw p.1 (λ h. refl)
+
+pub returns-in_err-text-clause-write_told : goal.returns-in_err-text-clause-write_told
+returns-in_err-text-clause-write_told g c = λ h. elim h [
+  | inl e ↦ absurd (omega (arith, e, c.requires.writes))
+  | inr e ↦ absurd (true≢false (sym e ∙ c.requires.takes))
+]

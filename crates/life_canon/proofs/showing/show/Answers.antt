@@ -1,12 +1,11 @@
-use Rattle.std.proofs.Common.{length, ap, arith}
-use Rattle.life_mc.specs.Macrocell.{Macrocell}
+use Rattle.std.proofs.Common.{refl}
 use Rattle.life_canon.proofs.CallFacts.{root-deep}
 use Rattle.life_canon.proofs.Fits.{read-fits}
 use Rattle.life_canon.proofs.ShowFacts.{is-shown}
 use Rattle.life_canon.proofs.showing.show.Goals as goal
 
-pub number-requires : goal.number-requires
-number-requires c = read-fits c.args.bytes.now _ _ c.in_ok-pattern.ensures.pattern
+pub five_lines-requires-clause-trimmed : goal.five_lines-requires-clause-trimmed
+five_lines-requires-clause-trimmed c = read-fits c.args.bytes.now _ _ c.in_ok-pattern.ensures.pattern
 
 pub five_lines-requires-clause-level : goal.five_lines-requires-clause-level
 five_lines-requires-clause-level c = root-deep c.args.bytes.now _ _ c.in_ok-pattern.ensures.pattern
@@ -14,5 +13,4 @@ five_lines-requires-clause-level c = root-deep c.args.bytes.now _ _ c.in_ok-patt
 pub returns-in-Ok-clause-text : goal.returns-in-Ok-clause-text
 returns-in-Ok-clause-text c =
     let t = c.in-Ok.ensures.text in
-    let f = ap (λ (m : Macrocell). length m.lines) c.in_ok-file.ensures.file in
-    is-shown c.args.bytes.now _ _ c.in_ok-pattern.ensures.pattern t.0 t.1 _ _ t.2 (grind (arith, f))
+    is-shown c.args.bytes.now _ _ c.in_ok-pattern.ensures.pattern t.0 t.1 _ _ t.2 refl

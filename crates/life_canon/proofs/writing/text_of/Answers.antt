@@ -6,11 +6,11 @@ use Rattle.life_canon.specs.Store.{content}
 use Rattle.life_canon.proofs.NumberFacts.{file-of}
 use Rattle.life_canon.proofs.writing.text_of.Goals as goal
 
-pub returns-in-Ok-clause-text : goal.returns-in-Ok-clause-text
+pub returns-clause-text : goal.returns-clause-text
 unfolding canon_text
-returns-in-Ok-clause-text c =
+returns-clause-text c =
     let store = c.args.store.now in
     let p = c.args.pattern.now in
     let k = known_squares_are_full store p.root c.requires.known.0 in
-    c.in-Ok.ensures.text
+    c.in_ok-written.ensures.text
     ∙ ap mc_text (sym (file-of 59 p.rule p.generation (content store p.root) k.0 k.1 c.requires.level c.requires.trimmed))

@@ -9,11 +9,12 @@ returns-in_err-text-clause-refused g c =
     let p = err_from_is_err_and c.from_residual.result c.from_residual.ensures.1 in
     rw (p.1, p.2) (refl, by_reading c.in_err-text.ensures.err)
 
-pub returns-clause-refused : goal.returns-clause-refused
-returns-clause-refused g c =
-    let broken = rw c.as_slice.ensures.value at c.in-Err.ensures.err in
-    (broken.0, by_writing c.in_ok-text.text.items c.in_ok-text.ensures.ok broken.1)
+pub returns-in_err-write_whole-clause-refused : goal.returns-in_err-write_whole-clause-refused
+returns-in_err-write_whole-clause-refused g c =
+    let p = err_from_is_err_and c.from_residual-in_err-write_whole.result c.from_residual-in_err-write_whole.ensures.1 in
+    let broken = rw c.as_slice.ensures.value at c.in_err-write_whole.ensures.err in
+    rw (p.1, p.2) (broken.0, by_writing c.in_ok-text.text.items c.in_ok-text.ensures.ok broken.1)
 
-pub returns-in-Ok-clause-worked : goal.returns-in-Ok-clause-worked
-returns-in-Ok-clause-worked g c =
-    λ second has. stepped_by _ _ second _ c.in_ok-text.text.items c.in_ok-text.ensures.ok (rw c.as_slice.ensures.value at c.in-Ok.ensures.ok) has
+pub returns-clause-worked : goal.returns-clause-worked
+returns-clause-worked g c =
+    λ second has. stepped_by _ _ second _ c.in_ok-text.text.items c.in_ok-text.ensures.ok (rw c.as_slice.ensures.value at c.in_ok-write_whole.ensures.ok) has

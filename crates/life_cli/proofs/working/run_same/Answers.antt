@@ -8,7 +8,8 @@ returns-in_err-is_same-clause-refused g c =
     let p = err_from_is_err_and c.from_residual.result c.from_residual.ensures.1 in
     rw (p.1, p.2) (refl, by_comparing c.in_err-is_same.ensures.err)
 
-pub returns-in-Err-clause-refused : goal.returns-in-Err-clause-refused
-returns-in-Err-clause-refused g c =
-    let broken = rw c.line_of.ensures at c.in-Err.ensures.err in
-    (broken.0, by_telling _ _ c.in_ok-is_same.ensures.ok broken.1)
+pub returns-in_err-write_whole-clause-refused : goal.returns-in_err-write_whole-clause-refused
+returns-in_err-write_whole-clause-refused g c =
+    let p = err_from_is_err_and c.from_residual-in_err-write_whole.result c.from_residual-in_err-write_whole.ensures.1 in
+    let broken = rw c.line_of.ensures at c.in_err-write_whole.ensures.err in
+    rw (p.1, p.2) (broken.0, by_telling _ _ c.in_ok-is_same.ensures.ok broken.1)

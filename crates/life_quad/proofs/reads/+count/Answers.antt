@@ -1,11 +1,15 @@
-use Rattle.std.proofs.Common.{◌≤◌, ◌^◌, inl, inr, arith, sym, ◌∙◌, ap}
+use Rattle.std.proofs.Common.{◌≡◌, ℕ, ◌<◌, ◌≤◌, ◌^◌, arith, sym, ◌∙◌, ap}
+use Rattle.life_base.specs.Tree.{Tree}
+use Rattle.life_quad.specs.declared.id.Id.{Id}
 use Rattle.life_quad.specs.Cells.{population}
+use Rattle.life_quad.specs.IdMap.{value_of}
 use Rattle.life_quad.proofs.CountLemmas.{population-blank, quarter_small}
+use Rattle.life_quad.proofs.MapLemmas.{after_set}
 use Rattle.life_quad.proofs.reads.+count.Goals as goal
 
-pub returns-then-is_blank-clause-number : goal.returns-then-is_blank-clause-number
-returns-then-is_blank-clause-number g t c =
-    sym (population-blank (g.S.Squares.content c.args.squares.now c.args.id) (sym c.is_blank.ensures ∙ c.if-is_blank.true))
+pub returns-then-is_blank_at-clause-number : goal.returns-then-is_blank_at-clause-number
+returns-then-is_blank_at-clause-number g t c =
+    sym (population-blank (g.S.Squares.content c.args.squares.now c.args.id) (sym c.is_blank_at.ensures ∙ c.if-is_blank_at.true))
 
 pub overflow_add-sum : goal.overflow_add-sum
 overflow_add-sum g t c =
@@ -43,19 +47,21 @@ overflow_add-sum-3 g t c =
     let small_d : c.in_ok-d.d ≤ 4 ^ 61 = quarter_small (C o c.divide.result.se) _ _ (law.full o c.divide.result.se d.se) d.se_level top c.in_ok-d.ensures.number in
     omega (arith, small_a, small_b, small_c, small_d)
 
-pub returns-in-Some-get-clause-number : goal.returns-in-Some-get-clause-number
-returns-in-Some-get-clause-number g t c = c.requires.right c.args.id _ c.in-Some-get.ensures
-
 pub returns-clause-number : goal.returns-clause-number
 returns-clause-number g t c =
     let all = ap population c.divide.ensures.square in
     omega (arith, all, c.in_ok-a.ensures.number, c.in_ok-b.ensures.number, c.in_ok-c.ensures.number, c.in_ok-d.ensures.number)
 
 pub returns-clause-right : goal.returns-clause-right
-returns-clause-right g t c q n h = elim (c.in_ok-insert.ensures.only q n h) [
-  | inl before ↦ c.in_ok-d.ensures.right q n before
-  | inr added ↦ added.1 ∙ returns-clause-number g t c ∙ ap (λ i. population (g.S.Squares.content c.args.squares.now i)) (sym added.0)
-]
+returns-clause-right g t c =
+    let C : Id → Tree = g.S.Squares.content c.args.squares.now in
+    let R : Id → ℕ → Type 0 = λ q n. 0 < n → n ≡ population (C q) in
+    after_set R _ (value_of c.set.new.self.values.items c.set.new.self.absent) _ _ c.in_ok-d.ensures.right c.set.ensures.only (λ some. returns-clause-number g t c)
 
-pub returns-in_err-insert-clause-right : goal.returns-in_err-insert-clause-right
-returns-in_err-insert-clause-right g t c q n h = c.in_ok-d.ensures.right q n (c.in_err-insert.ensures.err q n h)
+pub returns-in_err-set-clause-right : goal.returns-in_err-set-clause-right
+returns-in_err-set-clause-right g t c =
+    let C : Id → Tree = g.S.Squares.content c.args.squares.now in
+    let R : Id → ℕ → Type 0 = λ q n. 0 < n → n ≡ population (C q) in
+    let all = ap population c.divide.ensures.square in
+    after_set R _ (value_of c.set.new.self.values.items c.set.new.self.absent) _ _ c.in_ok-d.ensures.right c.set.ensures.only
+    (λ some. omega (arith, all, c.in_ok-a.ensures.number, c.in_ok-b.ensures.number, c.in_ok-c.ensures.number, c.in_ok-d.ensures.number))

@@ -1,21 +1,46 @@
-use Rattle.std.proofs.Common.{◌≡◌, ◌-◌, ◌^◌, arith, ◌∙◌, ap, subst}
+use Rattle.std.proofs.Common.{◌≡◌, suc, ◌+◌, ◌-◌, ◌^◌, arith, ◌∙◌, ap, subst}
 use Rattle.std.proofs.lemmas.Int.{ints}
-use Rattle.life_base.specs.Tree.{half_side}
-use Rattle.life_quad.specs.Boxes.{IsNonzeroAt, IsExtentOf}
-use Rattle.life_quad.proofs.BoxLemmas.{no_extent}
+use Rattle.life_base.specs.Tree.{depth, half_side}
+use Rattle.life_quad.specs.Distances.{HasCellAt, IsLeastOf}
+use Rattle.life_quad.specs.declared.distances.Side.TheVariants.{North, South, West, East}
+use Rattle.life_quad.proofs.DistanceLemmas.{nowhere_blank, box_of_distances}
 use Rattle.life_quad.proofs.PlaneLemmas.{least_box}
+use Rattle.life_quad.proofs.RunLemmas.{side}
 use Rattle.life_quad.proofs.reads.bounds.Goals as goal
-
-pub least_extent-requires-clause-right : goal.least_extent-requires-clause-right
-least_extent-requires-clause-right g c q e h = absurd (c.new-known.ensures q e h)
 
 pub returns-in_default-clause-least : goal.returns-in_default-clause-least
 returns-in_default-clause-least g c =
-    no_extent _ (g.met.S.Squares.full _ _ c.requires.known) (subst (IsExtentOf (IsNonzeroAt (g.S.Squares.content c.args.squares.now c.args.id))) c.in_default.is c.in_ok-extent.ensures.least)
+    let t = g.S.Squares.content c.args.squares.now c.args.id in
+    nowhere_blank West t (g.met.S.Squares.full _ _ c.requires.known) (subst (IsLeastOf (HasCellAt West t)) c.in_default.is c.in_ok-west.ensures.least)
+
+pub returns-in_default-2-clause-least : goal.returns-in_default-2-clause-least
+returns-in_default-2-clause-least g c =
+    let t = g.S.Squares.content c.args.squares.now c.args.id in
+    nowhere_blank North t (g.met.S.Squares.full _ _ c.requires.known) (subst (IsLeastOf (HasCellAt North t)) c.in_default-2.is c.in_ok-north.ensures.least)
+
+pub returns-in_default-3-clause-least : goal.returns-in_default-3-clause-least
+returns-in_default-3-clause-least g c =
+    let t = g.S.Squares.content c.args.squares.now c.args.id in
+    nowhere_blank East t (g.met.S.Squares.full _ _ c.requires.known) (subst (IsLeastOf (HasCellAt East t)) c.in_default-3.is c.in_ok-east.ensures.least)
+
+pub returns-in_default-4-clause-least : goal.returns-in_default-4-clause-least
+returns-in_default-4-clause-least g c =
+    let t = g.S.Squares.content c.args.squares.now c.args.id in
+    nowhere_blank South t (g.met.S.Squares.full _ _ c.requires.known) (subst (IsLeastOf (HasCellAt South t)) c.in_default-4.is c.in_ok-south.ensures.least)
 
 pub returns-clause-least : goal.returns-clause-least
 returns-clause-least g c =
-    let half : c.half_side-half.result ≡ half_side (g.S.Squares.content c.args.squares.now c.args.id) = c.half_side-half.ensures.half ∙ ap (λ l. 2 ^ (l - 1)) c.level.ensures.level in
-    let extent = subst (IsExtentOf (IsNonzeroAt (g.S.Squares.content c.args.squares.now c.args.id))) c.in-Some.is c.in_ok-extent.ensures.least in
-    least_box _ c.in-Some.extent _ c.requires.high extent
-    (omega (arith, ints, half, c.coordinate.ensures)) (omega (arith, ints, half, c.coordinate-2.ensures)) (omega (arith, ints, half, c.coordinate-3.ensures)) (omega (arith, ints, half, c.coordinate-4.ensures))
+    let t = g.S.Squares.content c.args.squares.now c.args.id in
+    let half : c.half_side-half.result ≡ half_side t = c.half_side-half.ensures.half ∙ ap (λ l. 2 ^ (l - 1)) c.level.ensures.level in
+    let twice : half_side t + half_side t ≡ 2 ^ depth t = side (depth t) c.requires.high in
+    let east : c.half_side-half.result + c.half_side-half.result - 1 - c.in-Some-3.east ≡ 2 ^ depth t - suc c.in-Some-3.east = omega (arith, half, twice) in
+    let south : c.half_side-half.result + c.half_side-half.result - 1 - c.in-Some-4.south ≡ 2 ^ depth t - suc c.in-Some-4.south = omega (arith, half, twice) in
+    let box =
+    box_of_distances t c.in-Some.west c.in-Some-2.north c.in-Some-3.east c.in-Some-4.south
+    (subst (IsLeastOf (HasCellAt West t)) c.in-Some.is c.in_ok-west.ensures.least)
+    (subst (IsLeastOf (HasCellAt North t)) c.in-Some-2.is c.in_ok-north.ensures.least)
+    (subst (IsLeastOf (HasCellAt East t)) c.in-Some-3.is c.in_ok-east.ensures.least)
+    (subst (IsLeastOf (HasCellAt South t)) c.in-Some-4.is c.in_ok-south.ensures.least) in
+    least_box t _ _ _ _ _ c.requires.high box
+    (omega (arith, ints, half, c.coordinate.ensures)) (omega (arith, ints, half, c.coordinate-2.ensures))
+    (omega (arith, ints, half, east, c.coordinate-3.ensures)) (omega (arith, ints, half, south, c.coordinate-4.ensures))

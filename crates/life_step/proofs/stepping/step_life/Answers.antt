@@ -1,4 +1,4 @@
-use Rattle.std.proofs.Common.{◌≡◌, ◌≢◌, arith, ap, sym, subst, ◌∙◌, ◌+◌, ◌-◌, ◌≤◌, ◌^◌, ℤ, Some, None, Err}
+use Rattle.std.proofs.Common.{◌≡◌, ◌≢◌, arith, ap, sym, subst, ◌∙◌, ◌+◌, ◌-◌, ◌≤◌, ◌^◌, ℤ, Some, None, Err, inr}
 use Rattle.std.proofs.lemmas.Result.{IfOk-weaker, err_from_is_err_and}
 use Rattle.life_base.specs.Tree.{depth, tree_cell}
 use Rattle.life_base.specs.declared.rule.Rule.TheVariants.{Life}
@@ -13,8 +13,13 @@ use Rattle.life_sweep.specs.Sweep.{LifeAnswers}
 use Rattle.life_canon.specs.Store.{content}
 use Rattle.life_canon.specs.Universe.{least_level}
 use Rattle.life_step.specs.Refusals.{LifeRefusal}
-use Rattle.life_step.proofs.StepFacts.{keeps-all, keeps-of, refused-by, root-high, next-small, same-next, life-refused, life-stepped}
+use Rattle.life_step.proofs.StepFacts.{keeps-all, keeps-of, refused-by, root-high, next-small, same-next, needs-table, life-refused, life-stepped}
 use Rattle.life_step.proofs.stepping.step_life.Goals as goal
+
+pub returns-in_default-clause-refused : goal.returns-in_default-clause-refused
+returns-in_default-clause-refused c =
+    let r = c.in_ok-pattern.ensures.pattern in
+    inr (inr (r.universe, r.reads, needs-table r.universe c.in_ok-pattern.pattern.rule _ r.is.rule c.in_default.not-Life (ap Some c.of.ensures)))
 
 pub next_life_generation-requires-clause-high : goal.next_life_generation-requires-clause-high
 next_life_generation-requires-clause-high c =

@@ -1,4 +1,4 @@
-use Rattle.std.proofs.Common.{◌≡◌, ◌≢◌, ap, sym, subst, ◌∙◌, ◌+◌, ◌-◌, ◌≤◌, ◌^◌, ℤ, Some, None, Err}
+use Rattle.std.proofs.Common.{◌≡◌, ◌≢◌, ap, sym, subst, ◌∙◌, ◌+◌, ◌-◌, ◌≤◌, ◌^◌, ℤ, Some, None, Err, inl, inr, true≢false}
 use Rattle.std.proofs.lemmas.Result.{IfOk-weaker, err_from_is_err_and}
 use Rattle.life_base.specs.declared.cell.TheConstants.{MAX_LEVEL}
 use Rattle.life_base.specs.declared.rule.Rule.TheVariants.{Named}
@@ -14,6 +14,13 @@ use Rattle.life_step.specs.Refusals.{TableRefusal}
 use Rattle.life_step.proofs.StateFacts.{cell-byte}
 use Rattle.life_step.proofs.StepFacts.{keeps-all, keeps-of, refused-by, root-high, table-refused, table-stepped}
 use Rattle.life_step.proofs.stepping.step_table.Goals as goal
+
+pub returns-then-not-is_rule_of-clause-refused : goal.returns-then-not-is_rule_of-clause-refused
+returns-then-not-is_rule_of-clause-refused c =
+    let r = c.in_ok-pattern.ensures.pattern in
+    let other : ¬ (r.universe.rule ≡ Named c.args.table.now.name) =
+    λ e. true≢false (sym (c.is_rule_of.ensures.1 (r.is.rule ∙ e)) ∙ c.if-not-is_rule_of.true) in
+    inr (inr (r.universe, r.reads, inl (other, ap Some c.of.ensures)))
 
 pub next_generation-requires-clause-high : goal.next_generation-requires-clause-high
 next_generation-requires-clause-high c =

@@ -9,6 +9,15 @@ use Rattle.life_sweep.proofs.sweep.draw_place.Goals as goal
 pub returns-then-state-eq0-clause-ready : goal.returns-then-state-eq0-clause-ready
 returns-then-state-eq0-clause-ready g c = ready-next (drawn_runs c.args.pen.now) c.args.window.now.x c.args.y c.requires.ready
 
+pub returns-then-state-eq0-clause-put : goal.returns-then-state-eq0-clause-put
+returns-then-state-eq0-clause-put g c zero = record {
+  next = c.in_ok-state.state;
+  answer = subst (λ v. g.L.Law.answers c.args.law.now v (Becomes c.in_ok-state.state)) c.around.ensures c.in_ok-state.ensures.next;
+  kept = λ k. zero ∙ sym c.if-state-eq0.true;
+  stays = λ e. e;
+  told = λ e. inl e;
+}
+
 pub returns-then-not-is_on_plane-clause-ready : goal.returns-then-not-is_on_plane-clause-ready
 returns-then-not-is_on_plane-clause-ready g c = ready-next (drawn_runs c.args.pen.now) c.args.window.now.x c.args.y c.requires.ready
 

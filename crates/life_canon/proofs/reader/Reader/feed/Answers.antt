@@ -1,6 +1,10 @@
+use Rattle.std.proofs.Common.{rules}
 use Rattle.life_canon.specs.Taking.{bytes_of}
 use Rattle.life_canon.proofs.FrontFacts.{front-unrefused, over-keeps-none}
 use Rattle.life_canon.proofs.reader.Reader.feed.Goals as goal
+
+pub returns-clause-bytes : goal.returns-clause-bytes
+returns-clause-bytes c = search rules
 
 pub returns-clause-front : goal.returns-clause-front
 returns-clause-front c =

@@ -1,5 +1,4 @@
-use Rattle.std.proofs.Common.{rules}
 use Rattle.life_quad.proofs.id_list.IdList.new.Goals as goal
 
 pub returns : goal.returns
-returns c = search rules
+returns c = c.new-ids.ensures.items

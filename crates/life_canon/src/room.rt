@@ -1,0 +1,48 @@
+//! Room for the squares of an input of which the length is known.
+
+ghost use Rattle.std.specs.Prelude.{◌≡◌};
+
+use life_quad::Shared;
+
+/// How many bytes come before room is made for the first time.
+const SAMPLE: u64 = 1 << 20;
+
+/// Room is made for no more than one node for so many bytes that are still to come, so that an input that is dense in its front alone takes no
+/// more than a third of its size in tables that stay empty.
+const LEAST_BYTES: u64 = 32;
+
+/// When room is made in a store for the squares of the rest of an input, and for how many: at the rate of the bytes before it. It changes
+/// nothing that can be seen.
+#[derive(Drop)]
+pub(crate) struct Room {
+    /// How many nodes the store had before the input.
+    nodes: usize,
+    /// About how many bytes the input has, or 0.
+    expected: u64,
+    /// Behind how many bytes room is made the next time.
+    next: u64,
+}
+
+impl Room {
+    pub(crate) fn new(store: &Shared, expected: u64) -> Room {
+        Room {
+            nodes: store.nodes(),
+            expected,
+            next: SAMPLE,
+        }
+    }
+
+    /// Makes room, where it is time, behind so many bytes of the input: behind 1 MiB, and each time that they are twice as many.
+    pub(crate) fn make(&mut self, store: &mut Shared, count: u64)
+        ensures { store.new ≡ store.old }
+    {
+        if count < self.next || self.expected <= count {
+            return;
+        }
+        self.next = count.saturating_mul(2);
+        let left = self.expected - count;
+        let nodes = store.nodes().saturating_sub(self.nodes);
+        let rate = nodes as u128 * left as u128 / count.max(1) as u128;
+        store.reserve(rate.min((left / LEAST_BYTES) as u128) as usize);
+    }
+}

@@ -1,0 +1,11 @@
+use Rattle.std.proofs.Common.{subst, Result}
+use Rattle.std.proofs.lemmas.Result.{IfOk-weaker}
+use Rattle.std.specs.Prelude.{IfOk}
+use Rattle.life_cli.specs.CommandLine.{ReadsAs}
+use Rattle.life_cli.proofs.LineLemmas.{reads-subcommand}
+use Rattle.life_cli.proofs.plans.commands.with_command.Goals as goal
+
+pub returns : goal.returns
+returns c = λ line added reads below.
+    let made = subst (λ r. IfOk r (ReadsAs added)) c.in_ok-more.was below in
+    IfOk-weaker c.subcommand.result _ _ (λ new adds. reads-subcommand line added _ _ new reads adds made) c.subcommand.ensures

@@ -1,0 +1,290 @@
+-- Facts about how far from the sides of a square its nonzero cells lie.
+use Rattle.std.proofs.Common.{◌≡◌, ◌==◌, ℕ, suc, ◌+◌, ◌-◌, ◌^◌, ◌<◌, ◌≤◌, min, Bool, true, false, ◌⊎◌, inl, inr, Option, Some, None, refl, sym, ◌∙◌, ap, subst, arith, true≢false}
+use Rattle.std.specs.Prelude.{nat_le}
+use Rattle.life_base.specs.Tree.{Tree, point, quad, depth, is_blank_tree, IsFull}
+use Rattle.life_quad.specs.Boxes.{IsNonzeroAt, IsLeastWithin}
+use Rattle.life_quad.specs.Distances.{HasCellAt, IsLeast, IsLeastOf, Faces, lesser_of}
+use Rattle.life_quad.specs.declared.distances.Side.{Side}
+use Rattle.life_quad.specs.declared.distances.Side.TheVariants.{North, South, West, East}
+use Rattle.life_quad.proofs.NonzeroLemmas.{InQuarter, in_nw, in_ne, in_sw, in_se, double, quarter_of, from_quarter, others_have_one, blank_has_none}
+
+-- no cell lies further than the side is long
+pub distance_within : (side : Side) (t : Tree) (n : ℕ) → HasCellAt side t n → n < 2 ^ depth t
+distance_within North t n h = let r = h.cell.row in let f = h.far in omega arith
+distance_within South t n h = let r = h.cell.row in let f = h.far in omega arith
+distance_within West t n h = let r = h.cell.column in let f = h.far in omega arith
+distance_within East t n h = let r = h.cell.column in let f = h.far in omega arith
+
+-- where a cell lies that is so far from the side, by the quarters a and b at the side and c and d behind them
+data Found (side : Side) (a b c d : Tree) (half n : ℕ) : Type 0 where
+  in_a : HasCellAt side a n → Found side a b c d half n
+  in_b : HasCellAt side b n → Found side a b c d half n
+  in_c : (m : ℕ) → n ≡ m + half → HasCellAt side c m → Found side a b c d half n
+  in_d : (m : ℕ) → n ≡ m + half → HasCellAt side d m → Found side a b c d half n
+
+module _ (a b c d : Tree) (full : IsFull (quad a b c d)) where
+  twice : 2 ^ suc (depth a) ≡ 2 ^ depth a + 2 ^ depth a
+  twice = double (depth a)
+
+  side_b : 2 ^ depth b ≡ 2 ^ depth a
+  side_b = ap (λ k. 2 ^ k) full.4
+
+  side_c : 2 ^ depth c ≡ 2 ^ depth a
+  side_c = ap (λ k. 2 ^ k) full.5
+
+  side_d : 2 ^ depth d ≡ 2 ^ depth a
+  side_d = ap (λ k. 2 ^ k) full.6
+
+  found_north : (n : ℕ) → HasCellAt North (quad a b c d) n → Found North a b c d (2 ^ depth a) n
+  found_north n h = by (quarter_of a b c d full h.column h.row h.cell)
+    where
+      far : h.row ≡ n
+      far = h.far
+
+      by : InQuarter a b c d (2 ^ depth a) h.column h.row → Found North a b c d (2 ^ depth a) n
+      by (in_nw q) = in_a (record { column = h.column; row = h.row; cell = q; far = far })
+      by (in_ne m e q) = in_b (record { column = m; row = h.row; cell = q; far = far })
+      by (in_sw k e q) = in_c k (omega (arith, far, e)) (record { column = h.column; row = k; cell = q; far = refl })
+      by (in_se m k e f q) = in_d k (omega (arith, far, f)) (record { column = m; row = k; cell = q; far = refl })
+
+  found_west : (n : ℕ) → HasCellAt West (quad a b c d) n → Found West a c b d (2 ^ depth a) n
+  found_west n h = by (quarter_of a b c d full h.column h.row h.cell)
+    where
+      far : h.column ≡ n
+      far = h.far
+
+      by : InQuarter a b c d (2 ^ depth a) h.column h.row → Found West a c b d (2 ^ depth a) n
+      by (in_nw q) = in_a (record { column = h.column; row = h.row; cell = q; far = far })
+      by (in_sw k e q) = in_b (record { column = h.column; row = k; cell = q; far = far })
+      by (in_ne m e q) = in_c m (omega (arith, far, e)) (record { column = m; row = h.row; cell = q; far = refl })
+      by (in_se m k e f q) = in_d m (omega (arith, far, e)) (record { column = m; row = k; cell = q; far = refl })
+
+  found_south : (n : ℕ) → HasCellAt South (quad a b c d) n → Found South c d a b (2 ^ depth c) n
+  found_south n h = by (quarter_of a b c d full h.column h.row h.cell)
+    where
+      far : 2 ^ suc (depth a) - suc h.row ≡ n
+      far = h.far
+
+      by : InQuarter a b c d (2 ^ depth a) h.column h.row → Found South c d a b (2 ^ depth c) n
+      by (in_sw k e q) = let l = q.row in in_a (record { column = h.column; row = k; cell = q; far = omega (arith, far, e, l, twice, side_c) })
+      by (in_se m k e f q) = let l = q.row in in_b (record { column = m; row = k; cell = q; far = omega (arith, far, f, l, twice, side_d) })
+      by (in_nw q) = let l = q.row in in_c (2 ^ depth a - suc h.row) (omega (arith, far, l, twice, side_c)) (record { column = h.column; row = h.row; cell = q; far = refl })
+      by (in_ne m e q) = let l = q.row in in_d (2 ^ depth b - suc h.row) (omega (arith, far, l, twice, side_b, side_c)) (record { column = m; row = h.row; cell = q; far = refl })
+
+  found_east : (n : ℕ) → HasCellAt East (quad a b c d) n → Found East b d a c (2 ^ depth b) n
+  found_east n h = by (quarter_of a b c d full h.column h.row h.cell)
+    where
+      far : 2 ^ suc (depth a) - suc h.column ≡ n
+      far = h.far
+
+      by : InQuarter a b c d (2 ^ depth a) h.column h.row → Found East b d a c (2 ^ depth b) n
+      by (in_ne m e q) = let l = q.column in in_a (record { column = m; row = h.row; cell = q; far = omega (arith, far, e, l, twice, side_b) })
+      by (in_se m k e f q) = let l = q.column in in_b (record { column = m; row = k; cell = q; far = omega (arith, far, e, l, twice, side_d) })
+      by (in_nw q) = let l = q.column in in_c (2 ^ depth a - suc h.column) (omega (arith, far, l, twice, side_b)) (record { column = h.column; row = h.row; cell = q; far = refl })
+      by (in_sw k e q) = let l = q.column in in_d (2 ^ depth c - suc h.column) (omega (arith, far, l, twice, side_b, side_c)) (record { column = h.column; row = k; cell = q; far = refl })
+
+  at_north : (n : ℕ) → Found North a b c d (2 ^ depth a) n → HasCellAt North (quad a b c d) n
+  at_north n (in_a h) = record { column = h.column; row = h.row; cell = from_quarter a b c d full _ _ (in_nw h.cell); far = h.far }
+  at_north n (in_b h) = record { column = 2 ^ depth a + h.column; row = h.row; cell = from_quarter a b c d full _ _ (in_ne h.column refl h.cell); far = h.far }
+  at_north n (in_c m e h) =
+      let f = h.far in
+      record { column = h.column; row = 2 ^ depth a + h.row; cell = from_quarter a b c d full _ _ (in_sw h.row refl h.cell); far = omega (arith, e, f) }
+  at_north n (in_d m e h) =
+      let f = h.far in
+      record { column = 2 ^ depth a + h.column; row = 2 ^ depth a + h.row; cell = from_quarter a b c d full _ _ (in_se h.column h.row refl refl h.cell); far = omega (arith, e, f) }
+
+  at_west : (n : ℕ) → Found West a c b d (2 ^ depth a) n → HasCellAt West (quad a b c d) n
+  at_west n (in_a h) = record { column = h.column; row = h.row; cell = from_quarter a b c d full _ _ (in_nw h.cell); far = h.far }
+  at_west n (in_b h) = record { column = h.column; row = 2 ^ depth a + h.row; cell = from_quarter a b c d full _ _ (in_sw h.row refl h.cell); far = h.far }
+  at_west n (in_c m e h) =
+      let f = h.far in
+      record { column = 2 ^ depth a + h.column; row = h.row; cell = from_quarter a b c d full _ _ (in_ne h.column refl h.cell); far = omega (arith, e, f) }
+  at_west n (in_d m e h) =
+      let f = h.far in
+      record { column = 2 ^ depth a + h.column; row = 2 ^ depth a + h.row; cell = from_quarter a b c d full _ _ (in_se h.column h.row refl refl h.cell); far = omega (arith, e, f) }
+
+  at_south : (n : ℕ) → Found South c d a b (2 ^ depth c) n → HasCellAt South (quad a b c d) n
+  at_south n (in_a h) =
+      let f = h.far in let l = h.cell.row in
+      record { column = h.column; row = 2 ^ depth a + h.row; cell = from_quarter a b c d full _ _ (in_sw h.row refl h.cell); far = omega (arith, f, l, twice, side_c) }
+  at_south n (in_b h) =
+      let f = h.far in let l = h.cell.row in
+      record { column = 2 ^ depth a + h.column; row = 2 ^ depth a + h.row; cell = from_quarter a b c d full _ _ (in_se h.column h.row refl refl h.cell); far = omega (arith, f, l, twice, side_d) }
+  at_south n (in_c m e h) =
+      let f = h.far in let l = h.cell.row in
+      record { column = h.column; row = h.row; cell = from_quarter a b c d full _ _ (in_nw h.cell); far = omega (arith, e, f, l, twice, side_c) }
+  at_south n (in_d m e h) =
+      let f = h.far in let l = h.cell.row in
+      record { column = 2 ^ depth a + h.column; row = h.row; cell = from_quarter a b c d full _ _ (in_ne h.column refl h.cell); far = omega (arith, e, f, l, twice, side_b, side_c) }
+
+  at_east : (n : ℕ) → Found East b d a c (2 ^ depth b) n → HasCellAt East (quad a b c d) n
+  at_east n (in_a h) =
+      let f = h.far in let l = h.cell.column in
+      record { column = 2 ^ depth a + h.column; row = h.row; cell = from_quarter a b c d full _ _ (in_ne h.column refl h.cell); far = omega (arith, f, l, twice, side_b) }
+  at_east n (in_b h) =
+      let f = h.far in let l = h.cell.column in
+      record { column = 2 ^ depth a + h.column; row = 2 ^ depth a + h.row; cell = from_quarter a b c d full _ _ (in_se h.column h.row refl refl h.cell); far = omega (arith, f, l, twice, side_d) }
+  at_east n (in_c m e h) =
+      let f = h.far in let l = h.cell.column in
+      record { column = h.column; row = h.row; cell = from_quarter a b c d full _ _ (in_nw h.cell); far = omega (arith, e, f, l, twice, side_b) }
+  at_east n (in_d m e h) =
+      let f = h.far in let l = h.cell.column in
+      record { column = h.column; row = 2 ^ depth a + h.row; cell = from_quarter a b c d full _ _ (in_sw h.row refl h.cell); far = omega (arith, e, f, l, twice, side_b, side_c) }
+
+-- a cell so far from the side of a square lies in one of its quarters, and the other way round
+found : (side : Side) (t a b c d : Tree) → IsFull t → Faces side t a b c d → (n : ℕ) → HasCellAt side t n → Found side a b c d (2 ^ depth a) n
+found North t a b c d full is n h = found_north a b c d (subst IsFull is full) n (subst (λ z. HasCellAt North z n) is h)
+found South t a b c d full is n h = found_south c d a b (subst IsFull is full) n (subst (λ z. HasCellAt South z n) is h)
+found West t a b c d full is n h = found_west a c b d (subst IsFull is full) n (subst (λ z. HasCellAt West z n) is h)
+found East t a b c d full is n h = found_east c a d b (subst IsFull is full) n (subst (λ z. HasCellAt East z n) is h)
+
+at_side : (side : Side) (t a b c d : Tree) → IsFull t → Faces side t a b c d → (n : ℕ) → Found side a b c d (2 ^ depth a) n → HasCellAt side t n
+at_side North t a b c d full is n h = subst (λ z. HasCellAt North z n) (sym is) (at_north a b c d (subst IsFull is full) n h)
+at_side South t a b c d full is n h = subst (λ z. HasCellAt South z n) (sym is) (at_south c d a b (subst IsFull is full) n h)
+at_side West t a b c d full is n h = subst (λ z. HasCellAt West z n) (sym is) (at_west a c b d (subst IsFull is full) n h)
+at_side East t a b c d full is n h = subst (λ z. HasCellAt East z n) (sym is) (at_east c a d b (subst IsFull is full) n h)
+
+-- the lesser of two numbers is one of them
+min_is : (a b : ℕ) → (min a b ≡ a) ⊎ (min a b ≡ b)
+min_is a b = by (nat_le a b) refl
+  where
+    by : (t : Bool) → nat_le a b ≡ t → (min a b ≡ a) ⊎ (min a b ≡ b)
+    by true e = inl (grind arith)
+    by false e = inr (grind arith)
+
+module _ (P Q : ℕ → Type 0) where
+  abbrev Either : ℕ → Type 0
+  Either n = P n ⊎ Q n
+
+  -- the least number with either property
+  least_of_both : (x y : Option ℕ) → IsLeastOf P x → IsLeastOf Q y → IsLeastOf Either (lesser_of x y)
+  least_of_both None None hp hq = λ n e. no n e
+    where
+      no : (n : ℕ) → Either n → ⊥
+      no n (inl p) = hp n p
+      no n (inr q) = hq n q
+  least_of_both None (Some b) hp hq = record { has = inr hq.has; least = least }
+    where
+      least : (n : ℕ) → Either n → b ≤ n
+      least n (inl p) = absurd (hp n p)
+      least n (inr q) = hq.least n q
+  least_of_both (Some a) None hp hq = record { has = inl hp.has; least = least }
+    where
+      least : (n : ℕ) → Either n → a ≤ n
+      least n (inl p) = hp.least n p
+      least n (inr q) = absurd (hq n q)
+  least_of_both (Some a) (Some b) hp hq = record { has = has (min_is a b); least = least }
+    where
+      has : (min a b ≡ a) ⊎ (min a b ≡ b) → Either (min a b)
+      has (inl e) = inl (subst P (sym e) hp.has)
+      has (inr e) = inr (subst Q (sym e) hq.has)
+
+      least : (n : ℕ) → Either n → min a b ≤ n
+      least n (inl p) = let k = hp.least n p in omega (arith, k)
+      least n (inr q) = let k = hq.least n q in omega (arith, k)
+
+module _ (side : Side) (t a b c d : Tree) (full : IsFull t) (is : Faces side t a b c d) (b_level : depth b ≡ depth a) where
+  abbrev Near : ℕ → Type 0
+  Near n = HasCellAt side a n ⊎ HasCellAt side b n
+
+  abbrev Behind : ℕ → Type 0
+  Behind n = HasCellAt side c n ⊎ HasCellAt side d n
+
+  near_within : (n : ℕ) → Near n → n < 2 ^ depth a
+  near_within n (inl h) = distance_within side a n h
+  near_within n (inr h) = subst (λ k. n < 2 ^ k) b_level (distance_within side b n h)
+
+  near_is : (n : ℕ) → Near n → HasCellAt side t n
+  near_is n (inl h) = at_side side t a b c d full is n (in_a h)
+  near_is n (inr h) = at_side side t a b c d full is n (in_b h)
+
+  behind_is : (n : ℕ) → Behind n → HasCellAt side t (n + 2 ^ depth a)
+  behind_is n (inl h) = at_side side t a b c d full is _ (in_c n refl h)
+  behind_is n (inr h) = at_side side t a b c d full is _ (in_d n refl h)
+
+  either : (n : ℕ) → HasCellAt side t n → Near n ⊎ ((m : ℕ) × (n ≡ m + 2 ^ depth a) × Behind m)
+  either n h = by (found side t a b c d full is n h)
+    where
+      by : Found side a b c d (2 ^ depth a) n → Near n ⊎ ((m : ℕ) × (n ≡ m + 2 ^ depth a) × Behind m)
+      by (in_a k) = inl (inl k)
+      by (in_b k) = inl (inr k)
+      by (in_c m e k) = inr (m, e, inl k)
+      by (in_d m e k) = inr (m, e, inr k)
+
+  -- the least distance is that of the quarters at the side, if these have cells
+  pub least_near : (x y : Option ℕ) (n : ℕ) → IsLeastOf (HasCellAt side a) x → IsLeastOf (HasCellAt side b) y → lesser_of x y ≡ Some n → IsLeast (HasCellAt side t) n
+  least_near x y n hx hy e =
+      let k : IsLeastOf Near (Some n) = subst (IsLeastOf Near) e (least_of_both (HasCellAt side a) (HasCellAt side b) x y hx hy) in
+      record { has = near_is n k.has; least = λ m h. least k m (either m h) }
+    where
+      least : IsLeast Near n → (m : ℕ) → Near m ⊎ ((j : ℕ) × (m ≡ j + 2 ^ depth a) × Behind j) → n ≤ m
+      least k m (inl h) = k.least m h
+      least k m (inr (j, f, h)) = let w = near_within n k.has in omega (arith, w, f)
+
+  none_near : (x y : Option ℕ) → IsLeastOf (HasCellAt side a) x → IsLeastOf (HasCellAt side b) y → lesser_of x y ≡ None → (n : ℕ) → Near n → ⊥
+  none_near x y hx hy e = subst (IsLeastOf Near) e (least_of_both (HasCellAt side a) (HasCellAt side b) x y hx hy)
+
+  -- and else that of the quarters behind them and half a side more
+  pub least_behind : (x y z w : Option ℕ) (n : ℕ) → IsLeastOf (HasCellAt side a) x → IsLeastOf (HasCellAt side b) y → lesser_of x y ≡ None
+      → IsLeastOf (HasCellAt side c) z → IsLeastOf (HasCellAt side d) w → lesser_of z w ≡ Some n → IsLeast (HasCellAt side t) (n + 2 ^ depth a)
+  least_behind x y z w n hx hy none hz hw e =
+      let k : IsLeastOf Behind (Some n) = subst (IsLeastOf Behind) e (least_of_both (HasCellAt side c) (HasCellAt side d) z w hz hw) in
+      record { has = behind_is n k.has; least = λ m h. least k m (either m h) }
+    where
+      least : IsLeast Behind n → (m : ℕ) → Near m ⊎ ((j : ℕ) × (m ≡ j + 2 ^ depth a) × Behind j) → n + 2 ^ depth a ≤ m
+      least k m (inl h) = absurd (none_near x y hx hy none m h)
+      least k m (inr (j, f, h)) = let l = k.least j h in omega (arith, l, f)
+
+  -- no quarter has a cell
+  pub least_nowhere : (x y z w : Option ℕ) → IsLeastOf (HasCellAt side a) x → IsLeastOf (HasCellAt side b) y → lesser_of x y ≡ None
+      → IsLeastOf (HasCellAt side c) z → IsLeastOf (HasCellAt side d) w → lesser_of z w ≡ None → IsLeastOf (HasCellAt side t) None
+  least_nowhere x y z w hx hy none hz hw e = λ n h. by n (either n h)
+    where
+      behind : (n : ℕ) → Behind n → ⊥
+      behind = subst (IsLeastOf Behind) e (least_of_both (HasCellAt side c) (HasCellAt side d) z w hz hw)
+
+      by : (n : ℕ) → Near n ⊎ ((j : ℕ) × (n ≡ j + 2 ^ depth a) × Behind j) → ⊥
+      by n (inl h) = none_near x y hx hy none n h
+      by n (inr (j, f, h)) = behind j h
+
+-- a blank square has no cell at any distance, and each other square has one
+pub blank_nowhere : (side : Side) (t : Tree) → IsFull t → is_blank_tree t ≡ true → IsLeastOf (HasCellAt side t) None
+blank_nowhere side t full h = λ n k. blank_has_none t full h k.column k.row k.cell
+
+pub nowhere_blank : (side : Side) (t : Tree) → IsFull t → IsLeastOf (HasCellAt side t) None → is_blank_tree t ≡ true
+nowhere_blank side t full h = by (is_blank_tree t) refl
+  where
+    by : (b : Bool) → is_blank_tree t ≡ b → is_blank_tree t ≡ true
+    by true e = e
+    by false e = let n = others_have_one t full e in absurd (h _ (record { column = n.0; row = n.1; cell = n.2; far = refl }))
+
+-- a single cell with a state touches each side
+pub least_of_cell : (side : Side) (t : Tree) → depth t ≡ 0 → is_blank_tree t ≡ false → IsLeast (HasCellAt side t) 0
+least_of_cell side (quad a b c d) k h = absurd (omega arith)
+least_of_cell side (point s) k h = record { has = by side; least = λ n e. omega arith }
+  where
+    here : IsNonzeroAt (point s) 0 0
+    here = record { column = omega arith; row = omega arith; state = λ e. true≢false (sym (ap (λ n. n == 0) e) ∙ h) }
+
+    by : (side : Side) → HasCellAt side (point s) 0
+    by North = record { column = 0; row = 0; cell = here; far = refl }
+    by South = record { column = 0; row = 0; cell = here; far = refl }
+    by West = record { column = 0; row = 0; cell = here; far = refl }
+    by East = record { column = 0; row = 0; cell = here; far = refl }
+
+-- the least box, by the least distances from the four sides
+pub box_of_distances : (t : Tree) (west north east south : ℕ) → IsLeast (HasCellAt West t) west → IsLeast (HasCellAt North t) north → IsLeast (HasCellAt East t) east → IsLeast (HasCellAt South t) south
+    → IsLeastWithin t west north (2 ^ depth t - suc east) (2 ^ depth t - suc south)
+box_of_distances t west north east south w n e s =
+    record {
+      inside = λ i j h. (
+        w.least i (record { column = i; row = j; cell = h; far = refl }),
+        (let l = h.column in let k = e.least (2 ^ depth t - suc i) (record { column = i; row = j; cell = h; far = refl }) in omega (arith, l, k)),
+        n.least j (record { column = i; row = j; cell = h; far = refl }),
+        (let l = h.row in let k = s.least (2 ^ depth t - suc j) (record { column = i; row = j; cell = h; far = refl }) in omega (arith, l, k)),
+      );
+      at_left = (w.has.row, subst (λ i. IsNonzeroAt t i w.has.row) w.has.far w.has.cell);
+      at_right = (e.has.row, (let l = e.has.cell.column in let f = e.has.far in let same : e.has.column ≡ 2 ^ depth t - suc east = omega (arith, l, f) in subst (λ i. IsNonzeroAt t i e.has.row) same e.has.cell));
+      at_top = (n.has.column, subst (λ j. IsNonzeroAt t n.has.column j) n.has.far n.has.cell);
+      at_bottom = (s.has.column, (let l = s.has.cell.row in let f = s.has.far in let same : s.has.row ≡ 2 ^ depth t - suc south = omega (arith, l, f) in subst (λ j. IsNonzeroAt t s.has.column j) same s.has.cell));
+    }

@@ -1,0 +1,42 @@
+-- How far from the sides of a square its nonzero cells lie.
+use Rattle.std.specs.Prelude.{◌≡◌, ℕ, suc, ◌-◌, ◌^◌, ◌≤◌, min, Option, Some, None, MatchOption}
+use Rattle.life_base.specs.Tree.{Tree, quad, depth}
+use Rattle.life_quad.specs.Boxes.{IsNonzeroAt}
+use Rattle.life_quad.specs.declared.distances.Side.{Side}
+use Rattle.life_quad.specs.declared.distances.Side.TheVariants.{North, South, West, East}
+
+-- how many rows or columns lie between a cell of a square, whose side has so many, and the side
+abbrev pub distance : Side → ℕ → ℕ → ℕ → ℕ
+distance North length i j = j
+distance South length i j = length - suc j
+distance West length i j = i
+distance East length i j = length - suc i
+
+-- some nonzero cell of the square lies so far from the side
+pub record HasCellAt (side : Side) (t : Tree) (n : ℕ) : Type 0 where
+  pub column : ℕ
+  pub row : ℕ
+  pub cell : IsNonzeroAt t column row
+  pub far : distance side (2 ^ depth t) column row ≡ n
+
+-- the least number with the property
+pub record IsLeast (P : ℕ → Type 0) (n : ℕ) : Type 0 where
+  pub has : P n
+  pub least : (m : ℕ) → P m → n ≤ m
+
+-- the least number with the property, or none if no number has it
+abbrev pub IsLeastOf : (ℕ → Type 0) → Option ℕ → Type 0
+IsLeastOf P o = MatchOption o ((n : ℕ) → P n → ⊥) (IsLeast P)
+
+-- with the side in the north, the quarters of the square are a and b, and behind them c and d
+abbrev pub Faces : Side → Tree → Tree → Tree → Tree → Tree → Type 0
+Faces North t a b c d = t ≡ quad a b c d
+Faces South t a b c d = t ≡ quad c d a b
+Faces West t a b c d = t ≡ quad a c b d
+Faces East t a b c d = t ≡ quad c a d b
+
+-- the lesser of two numbers, of which either may be none
+abbrev pub lesser_of : Option ℕ → Option ℕ → Option ℕ
+lesser_of None b = b
+lesser_of (Some a) None = Some a
+lesser_of (Some a) (Some b) = Some (min a b)

@@ -1,0 +1,133 @@
+//! How far from the sides of a square its nonzero cells lie.
+ghost use Rattle.std.specs.Prelude.{◌≡◌, ◌≢◌, ℕ, ◌+◌, ◌≤◌, Option, IfOk, IfErr};
+ghost use Rattle.life_base.specs.declared.kind.Kind.TheVariants.{Memory};
+ghost use Rattle.life_quad.specs.declared.id.Id.{Id as IdValue};
+ghost use Rattle.life_base.specs.Tree.{depth};
+ghost use Rattle.life_quad.specs.Distances.{HasCellAt, IsLeast, IsLeastOf, Faces, lesser_of};
+ghost use Rattle.life_quad.specs.IdMap.{value_of};
+
+use crate::id_map::IdMap;
+use crate::moves::{Quarters, divide, is_blank_at};
+use crate::runs::half_side;
+use crate::{Id, SharedSquares, Squares};
+use life_base::Kind;
+use std::alloc::Global;
+
+// A side of a square.
+#[derive(Clone, Copy)]
+pub(crate) enum Side {
+    North,
+    South,
+    West,
+    East,
+}
+
+// What the table has for a square that was not visited: no square is so large.
+pub(crate) const UNKNOWN: u64 = u64::MAX;
+
+// The least distance of a nonzero cell from a side, in columns or rows: 0 for a cell that touches it. A blank square has none. At most
+// the squares that reach nearest to the side are visited, and each shared one once.
+pub(crate) fn least_distance<S: SharedSquares>(
+    alloc: Global,
+    squares: &S,
+    side: Side,
+    id: Id,
+) -> Result<Option<u64>, Kind>
+    requires known { S.knows squares.now id }
+    ensures least { IfOk result (IsLeastOf (HasCellAt side (S.content squares.now id))) }
+    ensures refusals { IfErr result (λ e. e ≡ Memory) }
+{
+    let mut known = IdMap::new(alloc, UNKNOWN);
+    find(squares, side, squares.level(id), id, &mut known)
+}
+
+// The quarters of a square as they are seen with a side in the north.
+fn facing<S: Squares>(squares: &S, side: Side, id: Id) -> Quarters
+    requires known { S.knows squares.now id }
+    requires deep { 1 ≤ depth (S.content squares.now id) }
+    ensures faces { Faces side (S.content squares.now id) (S.content squares.now result.nw) (S.content squares.now result.ne) (S.content squares.now result.sw) (S.content squares.now result.se) }
+    ensures nw { S.knows squares.now result.nw }
+    ensures ne { S.knows squares.now result.ne }
+    ensures sw { S.knows squares.now result.sw }
+    ensures se { S.knows squares.now result.se }
+    ensures nw_level { depth (S.content squares.now result.nw) + 1 ≡ depth (S.content squares.now id) }
+    ensures ne_level { depth (S.content squares.now result.ne) + 1 ≡ depth (S.content squares.now id) }
+    ensures sw_level { depth (S.content squares.now result.sw) + 1 ≡ depth (S.content squares.now id) }
+    ensures se_level { depth (S.content squares.now result.se) + 1 ≡ depth (S.content squares.now id) }
+{
+    let Quarters { nw, ne, sw, se } = divide(squares, id);
+    match side {
+        Side::North => Quarters { nw, ne, sw, se },
+        Side::South => Quarters {
+            nw: sw,
+            ne: se,
+            sw: nw,
+            se: ne,
+        },
+        Side::West => Quarters {
+            nw,
+            ne: sw,
+            sw: ne,
+            se,
+        },
+        Side::East => Quarters {
+            nw: ne,
+            ne: se,
+            sw: nw,
+            se: sw,
+        },
+    }
+}
+
+// The lesser of two distances, of which either may be none.
+fn lesser(a: Option<u64>, b: Option<u64>) -> Option<u64>
+    ensures { result ≡ lesser_of a b }
+{
+    match (a, b) {
+        (None, _) => b,
+        (_, None) => a,
+        (Some(a), Some(b)) => Some(a.min(b)),
+    }
+}
+
+// The least distance in a square of a level, where `known` has those of squares that were visited.
+fn find<S: Squares>(
+    squares: &S,
+    side: Side,
+    level: u8,
+    id: Id,
+    known: &mut IdMap<u64>,
+) -> Result<Option<u64>, Kind>
+    requires known { S.knows squares.now id }
+    requires level { level ≡ depth (S.content squares.now id) }
+    requires right { (q : IdValue) → value_of known.old.values.items known.old.absent q ≢ UNKNOWN → IsLeast (HasCellAt side (S.content squares.now q)) (value_of known.old.values.items known.old.absent q) }
+    ensures least { IfOk result (IsLeastOf (HasCellAt side (S.content squares.now id))) }
+    ensures right { (q : IdValue) → value_of known.new.values.items known.new.absent q ≢ UNKNOWN → IsLeast (HasCellAt side (S.content squares.now q)) (value_of known.new.values.items known.new.absent q) }
+    ensures refusals { IfErr result (λ e. e ≡ Memory) }
+{
+    if is_blank_at(squares, level, id) {
+        return Ok(None);
+    }
+    if level == 0 {
+        return Ok(Some(0));
+    }
+    let distance = known.get(id);
+    if distance != UNKNOWN {
+        return Ok(Some(distance));
+    }
+    let Quarters { nw, ne, sw, se } = facing(squares, side, id);
+    let a = find(squares, side, level - 1, nw, known)?;
+    let b = find(squares, side, level - 1, ne, known)?;
+    if let Some(distance) = lesser(a, b) {
+        known.set(id, distance)?;
+        return Ok(Some(distance));
+    }
+    let a = find(squares, side, level - 1, sw, known)?;
+    let b = find(squares, side, level - 1, se, known)?;
+    let Some(distance) = lesser(a, b) else {
+        return Ok(None);
+    };
+    let distance = distance + half_side(level);
+    known.set(id, distance)?;
+    Ok(Some(distance))
+}

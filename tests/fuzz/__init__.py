@@ -1,0 +1,1 @@
+"""The files on which `tests/compare.py` compares the program with the independent reader."""

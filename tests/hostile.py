@@ -1,0 +1,936 @@
+#!/usr/bin/env python3
+"""Runs the built program, PROGRAM, on files of strangers and on failing devices: each run must end with its exact answer and status, write
+nothing to standard output where it refuses, touch no file, and keep within its bounds of time and memory (tests/running.py says how).
+
+usage: tests/hostile.py PROGRAM
+
+A row of the table is a case. What is wanted was worked out by hand, or follows from the formats (docs/FORMATS.md).
+It needs GNU time (package `time`), 2 GB of memory and 2 GB of room for files.
+"""
+
+import functools
+import itertools
+import os
+import random
+import re
+import shutil
+import signal
+import sys
+import tempfile
+import time
+
+sys.dont_write_bytecode = True  # nothing is left in tests/
+from running import ANY, CLOCK, MEGABYTE, Case, Front, Piped, results, said
+
+# ---- the formats
+
+LIFE = b"[M2] (canonical 1)\n#R B3/S23\n"
+LONGEST = 1 << 20  # bytes of a line
+HALF = 1 << 59  # of the plane's width
+HEADER = b"x = 1, y = 1\n"  # of RLE, under B3/S23
+
+
+def canonical(rule, generation=0):
+    return b"[M2] (canonical 1)\n#R %s\n" % rule + (b"#G %d\n" % generation if generation else b"")
+
+
+def chain(first, last, line, child=1):
+    """A node line for each level from `first` to `last`. In `line` stands each one's level, and behind it, in any number of places, the number of
+    the line before it; `child` is the first of these numbers."""
+    return b"".join(line.replace(b"L", b"%d" % level).replace(b"C", b"%d" % (child + level - first)) for level in range(first, last + 1))
+
+
+class Nodes:
+    """Squares, each once, and the node lines of one: its quarters' before its own."""
+
+    def __init__(self):
+        self.number = {}
+        self.squares = [None]
+
+    def join(self, *square):
+        """A square by its level and its quarters, or by the text of a leaf; 0 is blank."""
+        if not any(square[1:]):
+            return 0
+        if square not in self.number:
+            self.number[square] = len(self.squares)
+            self.squares.append(square)
+        return self.number[square]
+
+    def lines(self, root):
+        """The node lines, of a square of states from level 1 up or of leaves."""
+        line_of, lines = {0: 0}, []
+        todo = [root]
+        while todo:
+            level, *quarters = self.squares[todo[-1]]
+            below = [it for it in reversed(quarters) if it not in line_of] if level != 1 and len(quarters) == 4 else []
+            if below:
+                todo.extend(below)
+                continue
+            it = todo.pop()
+            if it in line_of:
+                continue
+            line_of[it] = len(lines) + 1
+            named = [line_of[q] for q in quarters] if level != 1 and len(quarters) == 4 else quarters
+            lines.append(b"%d %d %d %d %d\n" % (level, *named) if len(quarters) == 4 else b"%s\n" % quarters[0])
+        return lines
+
+
+# ---- large inputs, and what is wanted of them
+
+ROWS = [f"{row:08b}".replace("0", ".").replace("1", "*").rstrip(".").encode() + b"$" for row in range(256)]
+
+
+def leaf(number):
+    """The canonical text of a leaf, a different one for each number."""
+    return b"".join(ROWS[byte] for byte in number.to_bytes(8, "big"))
+
+
+def leaves(count):
+    """Leaves in a row, none of them blank and no two alike."""
+    for first in range(1, count + 1, 4096):
+        yield b"".join(leaf(number) + b"\n" for number in range(first, min(first + 4096, count + 1)))
+
+
+def once(text):
+    """A text that is made once and kept."""
+    @functools.cache
+    def whole():
+        return b"".join(text())
+    return lambda: iter([whole()])
+
+
+@once
+def whole_tree():
+    """The node lines of a square of level 13, whose 2^20 leaves are all different."""
+    line, above = 0, [[] for _ in range(11)]
+    for number in range(1, LONGEST + 1):
+        yield leaf(number) + b"\n"
+        line, level = line + 1, 0
+        above[0].append(line)
+        while len(above[level]) == 4:
+            yield b"%d %d %d %d %d\n" % (level + 4, *above[level])
+            above[level].clear()
+            line, level = line + 1, level + 1
+            above[level].append(line)
+
+
+def gathered(lines):
+    """Lines, many of them in one piece."""
+    kept = []
+    for line in lines:
+        kept.append(line)
+        if len(kept) == 10_000:
+            yield b"".join(kept)
+            kept = []
+    yield b"".join(kept)
+
+
+def chains(count):
+    """Chains from a leaf to level 60, each line by its own numbers."""
+    for number in range(count):
+        yield b"*$\n" + chain(4, 60, b"L C 0 0 0\n", 58 * number + 1)
+
+
+def random_states(count):
+    order = random.Random(1)
+    return [order.randrange(1, 256) for _ in range(count)]
+
+
+def symbol(state):
+    """A state in RLE under a name."""
+    prefix = b"" if state < 25 else b"pqrstuvwxy"[(state - 25) // 24:][:1]
+    return prefix + b"ABCDEFGHIJKLMNOPQRSTUVWX"[(state - 1) % 24:][:1]
+
+
+def wide_rows(states):
+    """Rows over the whole width of the plane, from its first row on, each of one state."""
+    yield b"#CXRLE Pos=%d,%d\nx = 1, y = 1, rule = Foo\n" % (-HALF, -HALF)
+    yield from gathered(b"%d%s$\n" % (2 * HALF, symbol(state)) for state in states)
+
+
+def wide_rows_text(states):
+    """The canonical text of these rows."""
+    nodes = Nodes()
+    squares = list(states)
+    for level in range(1, 61):
+        squares += [0] * (len(squares) % 2)
+        squares = [nodes.join(level, north, north, south, south) for north, south in zip(squares[::2], squares[1::2])]
+    yield canonical(b"Foo")
+    yield from gathered(nodes.lines(squares[0]))
+
+
+@functools.cache
+def deep_cells(count):
+    """Single cells anywhere on the plane, one in a row, from the north."""
+    order = random.Random(2)
+    rows = sorted({order.randrange(-HALF, HALF) for _ in range(count)})
+    return [(order.randrange(-HALF, HALF), row) for row in rows]
+
+
+@functools.cache
+def scattered_cells(count):
+    """Cells of many states far apart in one row, from the western edge of the plane."""
+    order = random.Random(4)
+    columns = itertools.accumulate((order.randrange(1 << 43, 1 << 44) for _ in range(count)), initial=-HALF)
+    return [(x, 0, order.randrange(1, 256)) for x in columns]
+
+
+def scattered_rle(cells):
+    yield b"#CXRLE Pos=%d,0\nx = 1, y = 1, rule = Foo\n" % -HALF
+    column = -HALF
+    for x, _, state in cells:
+        yield (b"%d." % (x - column) if x > column else b"") + symbol(state)
+        column = x + 1
+
+
+@functools.cache
+def blocks(count):
+    """Blocks of four cells, which stay as they are under B3/S23."""
+    corners = [(i * i % 1_000_003 + 1, 4 * i) for i in range(count)]
+    return [(x + i, y + j) for x, y in corners for j in (0, 1) for i in (0, 1)]
+
+
+def node_lines(cells, least):
+    """The node lines of cells, each a column, a row and a state (or 1), with leaves (`least` is 3) or from level 1 up."""
+    nodes = Nodes()
+    level = next(level for level in range(least, 61) if all(-1 << level - 1 <= it < 1 << level - 1 for cell in cells for it in cell[:2]))
+    half = 1 << level - 1
+    squares = {(x + half, y + half): state[0] if state else 1 for x, y, *state in cells}
+    if least == 3:
+        rows = {}
+        for x, y in squares:
+            rows[x >> 3, y >> 3] = rows.get((x >> 3, y >> 3), 0) | 1 << (63 - 8 * (y & 7) - (x & 7))
+        squares = {at: nodes.join(3, leaf(number)) for at, number in rows.items()}
+    for up in range(4 if least == 3 else 1, level + 1):
+        above = {}
+        for (x, y), square in squares.items():
+            above.setdefault((x >> 1, y >> 1), [0, 0, 0, 0])[2 * (y & 1) + (x & 1)] = square
+        squares = {at: nodes.join(up, *quarters) for at, quarters in above.items()}
+    return nodes.lines(squares[0, 0])
+
+
+@functools.cache
+def lines_of(cells, least):
+    """The node lines of what a function gives."""
+    return node_lines(cells(), least)
+
+
+def macrocell_of(cells, rule=b"B3/S23", generation=0):
+    """The canonical text of live cells."""
+    @once
+    def text():
+        yield canonical(rule, generation)
+        yield from lines_of(cells, 3 if rule == b"B3/S23" else 1)
+    return [text]
+
+
+def states_in_nodes(cells, generation=0):
+    """The canonical text of cells of many states."""
+    @once
+    def text():
+        yield canonical(b"Foo", generation)
+        yield from node_lines(list(cells()), 1)
+    return [text]
+
+
+def runs_of(cells):
+    """The runs of cells in order: column, row and length."""
+    runs = []
+    for x, y in cells:
+        if runs and runs[-1][1] == y and runs[-1][0] + runs[-1][2] == x:
+            runs[-1][2] += 1
+        else:
+            runs.append([x, y, 1])
+    return runs
+
+
+def items_of(runs, west, north, live):
+    """The items of runs in RLE, from a corner."""
+    x, y = west, north
+    for column, row, count in runs:
+        if row > y:
+            yield counted(row - y, b"$")
+            x, y = west, row
+        if column > x:
+            yield counted(column - x, b"b" if live == b"o" else b".")
+        yield counted(count, live)
+        x = column + count
+    yield b"!"
+
+
+def rle_of(cells, rule=b"B3/S23", generation=0):
+    """The text of live cells that `convert --to rle` writes."""
+    def text():
+        runs = runs_of(cells())
+        west, east, north, south = min(it[0] for it in runs), max(it[0] + it[2] for it in runs), runs[0][1], runs[-1][1]
+        yield b"#CXRLE Pos=%d,%d" % (west, north) + (b" Gen=%d" % generation if generation else b"") + b"\n"
+        yield b"x = %d, y = %d, rule = %s\n" % (east - west, south - north + 1, rule)
+        yield from gathered(filled(items_of(runs, west, north, b"o" if rule == b"B3/S23" else b"A")))
+    return [text]
+
+
+def shown(cells):
+    """What `show` writes of live cells under B3/S23."""
+    def text():
+        xs, ys = zip(*cells())
+        box = min(xs), min(ys), max(xs) - min(xs) + 1, max(ys) - min(ys) + 1
+        yield b"rule B3/S23\ngeneration 0\npopulation %d\nbox %d %d %d %d\nnodes %d\n" % (len(xs), *box, len(lines_of(cells, 3)))
+    return [text]
+
+
+def counted(count, item):
+    return item if count == 1 else b"%d%s" % (count, item)
+
+
+def filled(items):
+    """Items on lines of at most 70 bytes."""
+    line = b""
+    for item in items:
+        if len(line) + len(item) > 70:
+            yield line + b"\n"
+            line = b""
+        line += item
+    yield line + b"\n"
+
+
+# ---- what is done with the program while it runs
+
+
+def takes_a_line(process, out):
+    """A reader that leaves after a line."""
+    out.write(process.stdout.readline())
+    process.stdout.close()
+
+
+def takes_slowly(process, out):
+    """A reader that takes a little at a time."""
+    while piece := os.read(process.stdout.fileno(), 4096):
+        out.write(piece)
+        time.sleep(0.002)
+
+
+def takes_all(process, out):
+    shutil.copyfileobj(process.stdout, out)
+
+
+def kills_it(process, out):
+    """Kills the program in the middle of writing: it has begun, and nobody takes the rest."""
+    out.write(os.read(process.stdout.fileno(), 4096))
+    process.send_signal(signal.SIGKILL)
+    process.wait()
+    shutil.copyfileobj(process.stdout, out)
+
+
+def stops_it(process, out):
+    """Stops the program again and again, and lets it go on."""
+    for _ in range(20):
+        process.send_signal(signal.SIGSTOP)
+        time.sleep(0.005)
+        process.send_signal(signal.SIGCONT)
+        out.write(os.read(process.stdout.fileno(), 4096))
+    takes_all(process, out)
+
+
+# ---- the table
+
+
+def refused(name, text, error, words="canon input", status=2, **more):
+    """A file that is refused with this line."""
+    return Case(name, words, status, error, files={"input": text}, **more)
+
+
+def accepted(name, text, output, words="canon input", **more):
+    """A file that is accepted, and what is written."""
+    return Case(name, words, output=output, files={"input": text}, **more)
+
+
+FIRST_CASES = [
+    refused("the empty file", b"", "line 1: NoHeader"),
+    refused("one line feed", b"\n", "line 2: NoHeader"),
+    refused("NULs alone", b"\0" * 65536, "line 1: NoHeader"),
+    refused("a line of NULs", b"[M2]\n\0\0\0\n", "line 2: BadNode"),
+    refused("a NUL in the rule", b"[M2]\n#R B3/S23\0\n", "line 2: BadRule"),
+    refused("a NUL in a number", b"[M2]\n$\n4 1 1 1\0 1\n", "line 3: BadNode"),
+    accepted("CR LF line ends", b"[M2]\r\n#R B3/S23\r\n#G 7\r\n..*$\r\n4 0 0 0 1\r\n", LIFE + b"#G 7\n$$$$......*$$$$\n"),
+    accepted("no last line feed", b"[M2]\n*$\n4 0 0 1 1", LIFE + b"*$$$$$$$$\n4 0 0 1 1\n"),
+    refused("cut in its last line", b"[M2]\n$\n4 0 0 1", "line 3: BadNode"),
+    refused("a number that wraps round to 1", b"[M2]\n$\n4 0 0 1 18446744073709551617\n", "line 3: BadChild"),
+    refused("a generation of 2^64", b"[M2]\n#G 18446744073709551616\n", "line 2: TooLarge"),
+    accepted("a generation of 2^64 - 1", b"[M2]\n#G 18446744073709551615\n", LIFE + b"#G 18446744073709551615\n"),
+    refused("a level of 256", b"[M2]\n256 1 0 0 0\n", "line 2: BadLevel"),
+]
+
+LONG_LINES = [
+    accepted("a line of 2^20 bytes", b"[M2]\n#" + b"C" * (LONGEST - 1) + b"\n", LIFE),
+    refused("a line of 2^20 + 1 bytes", b"[M2]\n#" + b"C" * LONGEST + b"\n", "line 2: LineTooLong"),
+    refused("a header of 2^20 + 1 bytes", b"[M2]" + b"C" * (LONGEST - 3), "line 1: LineTooLong"),
+    refused("a line of 2^20 digits", b"[M2]\n" + b"1" * LONGEST + b"\n", "line 2: BadNode"),
+    refused("a child of a million digits", b"[M2]\n$\n4 0 0 1 " + b"9" * 1_000_000 + b"\n", "line 3: BadChild"),
+    accepted("the child 1 with a million zeros", b"[M2]\n*$\n4 0 0 1 " + b"0" * 999_999 + b"1\n", LIFE + b"*$$$$$$$$\n4 0 0 1 1\n"),
+    refused("a generation of a million digits", b"[M2]\n#G " + b"9" * 1_000_000 + b"\n", "line 2: TooLarge"),
+    refused("a level of a million digits", b"[M2]\n" + b"9" * 1_000_000 + b" 1 1 1 1\n", "line 2: BadLevel"),
+    refused("a rule of a million bytes", b"[M2]\n#R " + b"B" * 1_000_000 + b"\n", "line 2: BadRule"),
+    refused("a leaf of 2^20 rows", b"[M2]\n" + b"$" * LONGEST + b"\n", "line 2: BadLeaf"),
+]
+
+GLIDER = b"$$..*$...*$.***$$$$\n"
+EMPTY_LEAVES = [b"[M2]\n", (b"$\n", LONGEST)]
+EMPTY_SQUARES = [b"[M2]\n", (b"4 0 0 0 0\n", LONGEST)]
+
+MANY_LINES = [
+    accepted("a million lines #", [b"[M2]\n", (b"#\n", 1_000_000)], LIFE),
+    accepted("a million blank lines", [b"[M2]\n", (b"\n", 1_000_000)], LIFE),
+    accepted("a million rules", [b"[M2]\n", (b"#R B3/S23\n", 1_000_000)], LIFE),
+    accepted("2^20 leaves", [b"[M2]\n", (GLIDER, LONGEST)], LIFE + GLIDER),
+    # Of each line its level and its square's Id are kept; the shortest leaf has one byte and a line feed.
+    accepted("2^20 leaves of one byte (14 times the input)", EMPTY_LEAVES, LIFE, times=14),
+    accepted("2^20 squares of five numbers", EMPTY_SQUARES, LIFE),
+    refused("a fault behind 2^20 squares", [*EMPTY_SQUARES, b"4 0 0 0\n"], "line 1048578: BadNode"),
+    accepted("2^20 leaves, no two alike", [b"[M2]\n", lambda: leaves(LONGEST)], [LIFE, leaf(LONGEST) + b"\n"], times=3),
+    accepted("a square of 2^20 leaves, no two alike", [b"[M2]\n", whole_tree], [LIFE, whole_tree], times=5),
+    accepted("17,500 chains of 58 lines", [b"[M2]\n", lambda: chains(17_500)], LIFE + b"*$$$$$$$$\n" + chain(4, 60, b"L C 0 0 0\n"), times=1.5),
+]
+
+EACH_LINE = (b"\n#C first\n#CXRLE Gen=3 Pos=1,1 Other=9\n#CXRLE Pos=-4,0\n \t\nx=0,y=0,rule=b3s23\r\n\n#C more\no 3b\n4b o ! and the rest\n"
+             b"#CXRLE\nx = 1\n")
+CORNERS = b"#CXRLE Pos=%d,%d\nx = 1, y = 1\no%dbo%d$o%dbo!\n" % (-HALF, -HALF, 2 * HALF - 2, 2 * HALF - 1, 2 * HALF - 2)
+CORNERS_TEXT = (LIFE + b"*$$$$$$$$\n" + chain(4, 59, b"L C 0 0 0\n", 1) + b".......*$$$$$$$$\n" + chain(4, 59, b"L 0 C 0 0\n", 58)
+                + b"$$$$$$$*$\n" + chain(4, 59, b"L 0 0 C 0\n", 115) + b"$$$$$$$.......*$\n" + chain(4, 59, b"L 0 0 0 C\n", 172)
+                + b"60 57 114 171 228\n")
+WIDE_ROW = b"#CXRLE Pos=%d,0\nx = 1, y = 1\n%do!\n" % (-HALF, 2 * HALF)
+WIDE_ROW_TEXT = LIFE + b"********$$$$$$$$\n" + chain(4, 59, b"L C C 0 0\n") + b"60 0 0 57 57\n"
+ROW_TEXT = LIFE + b"********$$$$$$$$\n" + chain(4, 20, b"L C C 0 0\n") + b"21 0 0 0 18\n"
+COMB_TEXT = LIFE + b"*.*.*.*$$$$$$$$\n" + chain(4, 20, b"L C C 0 0\n") + b"21 0 0 0 18\n"
+RLE = [
+    accepted("each form of a line of RLE", EACH_LINE, LIFE + b"....*$$$$$$$$\n4 0 0 1 1\n"),
+    accepted("an RLE file of a blank plane", HEADER + b"!\n", LIFE),
+    accepted("a cell at each corner of the plane", CORNERS, CORNERS_TEXT),
+    accepted("a row of 2^60 cells", WIDE_ROW, WIDE_ROW_TEXT),
+    accepted("255 rows of 2^60 cells, each of another state", [lambda: wide_rows(range(1, 256))], [lambda: wide_rows_text(range(1, 256))]),
+    # A tooth of three bytes is two spans of 16.
+    accepted("a comb of 2^19 teeth (18 times the input)", [HEADER, (b"ob\n", LONGEST // 2)], COMB_TEXT, times=18),
+    accepted("lines of 2^20 and of 2^20 + 1 bytes with and behind !",
+             HEADER + b"b!" + b"x" * (LONGEST - 2) + b"\n" + b"x" * (LONGEST + 1) + b"\n", LIFE),
+    refused("a line of 2^20 + 1 bytes with !", HEADER + b"b!" + b"x" * (LONGEST - 1), "line 2: LineTooLong"),
+    refused("a line of 2^20 + 1 bytes before !", HEADER + b"b" * LONGEST + b"!", "line 2: LineTooLong"),
+    accepted("a line of 2^20 bytes that ! ends", HEADER + b"b" * (LONGEST - 1) + b"!", LIFE),
+    accepted("a line of 2^20 bytes that ! begins", HEADER + b"!" + b"o" * (LONGEST - 1), LIFE),
+    refused("a line of 2^20 + 1 bytes that ! begins", HEADER + b"!" + b"o" * LONGEST, "line 2: LineTooLong"),
+    accepted("! behind a line of 2^20 bytes, before one of 2^20 + 1", HEADER + b"b" * LONGEST + b"\n!\n" + b"o" * (LONGEST + 1), LIFE),
+    accepted("a count of a million digits", HEADER + b"0" * (LONGEST - 3) + b"1o\n!", LIFE + b"$$$$....*$$$$\n"),
+    accepted("2^20 lines of one cell (14 times the input)", [HEADER, (b"o\n", LONGEST)], ROW_TEXT, times=14),
+    refused("a row below the plane", [HEADER, (b"9$\n", 1_000_000), b"o1152921504606846976$\n"], "line 1000002: OutOfPlane"),
+    refused("a count above the width of the plane", b"x = 1, y = 1, rule = Life\n1152921504606846977b!\n", "line 2: TooLarge"),
+]
+
+CHAIN = b"[M2]\n*$\n" + chain(4, 60, b"L C 0 0 0\n")
+PLANE = b"********$" * 8 + b"\n" + chain(4, 60, b"L C C C C\n")
+NAMED_CHAIN = b"1 0 0 0 255\n" + chain(2, 60, b"L 0 0 0 C\n")
+
+DEEP_SQUARES = [
+    accepted("a chain of 60 levels", CHAIN, CHAIN.replace(b"[M2]\n*$\n", LIFE + b"*$$$$$$$$\n")),
+    # Each square has its quarters four times over: 2^120 cells in 58 lines.
+    accepted("the whole plane", b"[M2]\n" + PLANE, LIFE + PLANE),
+    accepted("a chain from level 1", b"[M2]\n#R Foo\n" + NAMED_CHAIN, canonical(b"Foo") + NAMED_CHAIN),
+    accepted("a comb over the whole plane", b"[M2]\n" + PLANE.replace(b"********", b"*.*.*.*."), LIFE + PLANE.replace(b"********", b"*.*.*.*")),
+]
+
+# Teeth of the whole plane's width apart by 2^41 columns.
+TEETH = [b"#CXRLE Pos=%d,0\n" % -HALF, HEADER, (b"o%db\n" % (2 ** 41 - 1), 1 << 19)]
+TEETH_TEXT = (LIFE + b"*$$$$$$$$\n" + chain(4, 41, b"L C 0 0 0\n") + chain(42, 59, b"L C C 0 0\n", 39) + b"60 0 0 57 57\n")
+ROW_OF_2_24 = LIFE + b"********$$$$$$$$\n" + chain(4, 24, b"L C C 0 0\n") + b"25 0 0 0 22\n"
+COMB_OF_2_24 = ROW_OF_2_24.replace(b"********", b".*.*.*.*")
+deep = functools.partial(deep_cells, 1 << 13)
+DEEP_RLE, DEEP_TEXT = rle_of(deep), macrocell_of(deep)
+scattered = functools.partial(scattered_cells, 1 << 13)
+
+LARGE_RLE = [
+    accepted("2^19 teeth over the width of the plane", TEETH, TEETH_TEXT, times=9),
+    accepted("100,000 rows of 2^60 cells", [lambda: wide_rows(random_states(100_000))], [lambda: wide_rows_text(random_states(100_000))]),
+    accepted("15 million lines $", [HEADER, (b"$\n", 15_000_000)], LIFE, times=0),
+    accepted("lines of 2^20 bytes $", [HEADER, (b"$" * LONGEST + b"\n", 29)], LIFE, times=0),
+    accepted("2^24 items 1o", [HEADER, (b"1o" * (LONGEST // 2) + b"\n", 32)], ROW_OF_2_24, times=20),
+    accepted("2^23 items bo", [HEADER, (b"bo" * (LONGEST // 2) + b"\n", 16)], COMB_OF_2_24, times=40),
+    accepted("2^13 single cells anywhere", DEEP_RLE, DEEP_TEXT, each=4, times=150),
+    accepted("2^13 single cells anywhere, as macrocell", DEEP_TEXT, DEEP_TEXT, times=9),
+    accepted("2^13 single cells anywhere that are shown", DEEP_RLE, shown(deep), "show input", each=6, times=320),
+    accepted("2^13 single cells anywhere, to RLE", DEEP_RLE, DEEP_RLE, "convert input --to rle", each=4, times=100),
+    accepted("2^13 single cells anywhere, to macrocell", DEEP_RLE, DEEP_TEXT, "convert input --to mc", each=4, times=150),
+    accepted("2^13 single cells anywhere that die", DEEP_RLE, canonical(b"B3/S23", 1), "step input", each=4, times=100),
+    accepted("2^13 cells of many states in a row", [lambda: scattered_rle(scattered())], states_in_nodes(scattered), each=6, times=300),
+    Case("2^13 single cells anywhere in both formats", "same input other", output=b"same\n", files={"input": DEEP_RLE, "other": DEEP_TEXT}),
+]
+
+
+# ---- inputs as long as may be, and longer
+
+
+def longest(name, text, error, **more):
+    """A text on standard input that is refused, and not kept."""
+    return Case(name, "canon -", 2, error, source=Piped(text), times=0, **more)
+
+
+def endless(pipe):
+    while True:
+        pipe.write(b"x\n" * 500_000)
+
+
+TOO_LONG = [(b"x" * LONGEST, 1024), b"x"]
+
+LONGEST_INPUTS = [
+    longest("2^30 + 1 bytes on standard input", TOO_LONG, "InputTooLong"),
+    longest("2^30 bytes on standard input", TOO_LONG[:1], "line 1: LineTooLong"),
+    # A billion lines, by the 30 million a second.
+    longest("2^30 + 1 line feeds", [(b"\n" * LONGEST, 1024), b"\n"], "InputTooLong", seconds=240),
+    # An input without end is left when it is too long.
+    Case("an input without end", "canon -", 2, "InputTooLong", source=Piped([], endless)),
+    # That the second input is too long is told before what is wrong with the first.
+    Case("2^30 + 1 bytes that are shown", "show too_long", 2, "InputTooLong", files={"too_long": TOO_LONG}, times=2),
+    Case("2^30 + 1 bytes behind a refused file", "same empty too_long", 2, "InputTooLong", files={"empty": b"", "too_long": TOO_LONG}, times=2),
+]
+
+
+# ---- devices
+
+# Small files. Each that a case names among its words stands in its folder.
+FILES = {
+    "input": b"[M2]\n$\n",
+    "pair.rle": b"#CXRLE Pos=-4,0\nx = 9, y = 1, rule = 23/3\no7bo!\n",
+    "pair.mc": b"[M2]\n....*$\n....*$\n4 0 0 1 2\n",
+    "named.rle": b"x = 1, y = 1, rule = Life\no!\n",
+    "bad.rle": HEADER + b"B!\n",
+    "many.rle": HEADER + b"1048577o!\n",
+    "empty": b"",
+    "line.rle": b"x = 3, y = 1, rule = B3/S23\n3o!\n",
+    "spread.rle": b"x = 1, y = 1, rule = Spread\nB!\n",
+    "beyond.rle": b"x = 1, y = 1, rule = Spread\nC!\n",
+    "spread.rule": b"@RULE Spread\n@TABLE\nn_states:3\nneighborhood:vonNeumann\nsymmetries:rotate4\nvar a={1,2}\n0,a,0,0,0,a\n",
+    "two.rule": b"@RULE Spread\n@TABLE\nn_states:3\nneighborhood:vonNeumann\nsymmetries:permute\nvar a={1,2}\nvar b={1,2}\n0,a,b,0,0,a\n",
+    "two.rle": b"#CXRLE Pos=0,-1\nx = 2, y = 2, rule = Spread\nA$.B!\n",
+    "bad.rule": b"@RULE Spread\n",
+    "long.rule": b"#" * (LONGEST + 1) + b"\n",
+    "last.rle": b"#CXRLE Gen=18446744073709551615\nx = 3, y = 1, rule = B3/S23\n3o!\n",
+    "edge.rle": b"#CXRLE Pos=0,576460752303423487\nx = 3, y = 1\n3o!\n",
+    "still.rule": b"@RULE Still\n@TABLE\nn_states:2\nneighborhood:Moore\nsymmetries:none\n",
+}
+
+
+def told(name, words, output=b"", error="", status=0, source=FILES["pair.mc"], **more):
+    """A run over the small files."""
+    names = words.split() if isinstance(words, str) else words
+    files = {it: FILES[it] for it in (word.removeprefix("--table=") for word in names) if it in FILES}
+    return Case(name, words, status, error, output, files, source, **more)
+
+
+def failing(name, words, error, **more):
+    """A run over the small files whose source or sink fails."""
+    return told(name, words, error=error, status=3, **more)
+
+
+TO_FULL = 'exec "$@" > /dev/full'
+CLOSED = 'exec "$@" >&-'
+NO_SOURCE = 'exec "$@" <&-'
+UNREADABLE = 'exec "$@" 0> /dev/null'  # a second file would take the place of a closed standard input
+AS_NOBODY = 'exec setpriv --reuid=65534 --regid=65534 --clear-groups --no-new-privs "$@"' if os.getuid() == 0 else 'exec "$@"'
+
+DEVICES = [
+    failing("a closed standard output", "canon input", "WriteFault", by=CLOSED),
+    failing("a closed standard output, from standard input", "canon -", "WriteFault", source=FILES["input"], by=CLOSED),
+    failing("a full output", "canon input", "WriteFault", by=TO_FULL),
+    failing("help to a full output", "--help", "WriteFault", by=TO_FULL),
+    failing("a full output and a full standard error", "canon input", "", by='exec "$@" > /dev/full 2> /dev/full'),
+    Case("a refusal with standard error closed", status=2, files={"input": b"o!\n"}, by='exec "$@" 2>&-'),
+    failing("a closed standard input", "canon -", "ReadFault", by=NO_SOURCE),
+    failing("a folder", "canon .", "ReadFault"),
+    failing("a file that is absent", "canon absent.mc", "ReadFault"),
+    failing("a file in a folder that is absent", "canon absent/input", "ReadFault"),
+    failing("a file's name with a slash behind it", ["canon", "input/"], "ReadFault", setup="> input"),
+    failing("the empty name", ["canon", ""], "ReadFault"),
+    failing("a name of 5000 bytes", ["canon", "n" * 5000], "ReadFault"),
+    failing("a link to itself", "canon loop", "ReadFault", setup="ln -s loop loop"),
+    # Root may read every file, so root tries this one as nobody.
+    failing("a file that may not be read", "canon locked", "ReadFault", setup="echo '[M2]' > locked && chmod 000 locked", by=AS_NOBODY),
+]
+
+PAIR_RLE = b"#CXRLE Pos=-4,0\nx = 9, y = 1, rule = B3/S23\no7bo!\n"
+PAIR_TEXT = LIFE + b"....*$$$$$$$$\n4 0 0 1 1\n"
+PAIR_SHOWN = b"rule B3/S23\ngeneration 0\npopulation 2\nbox -4 0 9 1\nnodes 2\n"
+MANY_SHOWN = b"rule B3/S23\ngeneration 0\npopulation 1048577\nbox 0 0 1048577 1\nnodes 38\n"
+
+
+def faulty(name, words, error, **more):
+    return told(name, words, error=error, status=2, **more)
+
+
+JOBS = [
+    told("two formats of one pattern", "same pair.rle pair.mc", b"same\n"),
+    told("a file with itself", "same pair.rle pair.rle", b"same\n"),
+    told("two patterns", "same pair.rle named.rle", b"different\n", status=1),
+    told("a file with standard input", "same pair.rle -", b"same\n"),
+    told("standard input with a file", "same - named.rle", b"different\n", status=1),
+    faulty("a refused file first", "same bad.rle empty", "line 2: StateRange"),
+    faulty("a refused file second", "same pair.mc bad.rle", "line 2: StateRange"),
+    faulty("two refused files", "same empty bad.rle", "line 1: NoHeader"),
+    failing("an absent file first", "same absent bad.rle", "ReadFault"),
+    failing("an absent file second", "same bad.rle absent", "ReadFault"),
+    failing("a folder second", "same bad.rle .", "ReadFault"),
+    failing("the empty name second", ["same", "pair.rle", ""], "ReadFault"),
+    told("standard input twice", "same - -", error="TwoInputs", status=5),
+    told("files behind --", "same -- pair.rle pair.mc", b"same\n"),
+    told("a file that is shown", "show pair.rle", PAIR_SHOWN),
+    told("standard input that is shown", "show -", PAIR_SHOWN),
+    faulty("a refused file that is shown", "show bad.rle", "line 2: StateRange"),
+    failing("an absent file that is shown", "show absent", "ReadFault"),
+    failing("a folder that is shown", "show .", "ReadFault"),
+    told("many cells that are shown", "show many.rle", MANY_SHOWN),
+    told("to RLE", "convert pair.mc --to rle", PAIR_RLE),
+    told("to RLE, the option first", "convert --to=rle -", PAIR_RLE),
+    told("to macrocell", "convert pair.rle --to mc", PAIR_TEXT),
+    faulty("to RLE from a refused file", "convert empty --to rle", "line 1: NoHeader"),
+    faulty("to macrocell from a refused file", "convert empty --to mc", "line 1: NoHeader"),
+    faulty("to RLE with too many cells", "convert many.rle --to rle", "TooManyCells", little=60 * MEGABYTE),
+    failing("to RLE from an absent file", "convert absent --to rle", "ReadFault"),
+    failing("to macrocell from a folder", "convert . --to mc", "ReadFault"),
+]
+
+LINE_STEPPED = LIFE + b"#G 1\n$$$.....*$.....*$.....*$$$\n"
+SPREAD_STEPPED = canonical(b"Spread", 1) + b"1 0 0 2 0\n1 0 2 0 0\n1 2 2 2 0\n2 0 1 2 3\n"
+TABLE = FILES["spread.rule"]
+
+STEPS = [
+    told("a step", "step line.rle", LINE_STEPPED),
+    told("a step by a table", "step spread.rle --table spread.rule", SPREAD_STEPPED),
+    told("a step by a table from standard input", "step spread.rle --table -", SPREAD_STEPPED, source=TABLE),
+    told("a step by a table, the option first", "step --table=spread.rule spread.rle", SPREAD_STEPPED),
+    faulty("two states for a cell", "step two.rle --table two.rule", "table line 8: Ambiguous"),
+    faulty("a name without its table", "step spread.rle", "NeedsTable"),
+    faulty("a table of another name", "step line.rle --table spread.rule", "RuleMismatch"),
+    faulty("a state that the table lacks", "step beyond.rle --table spread.rule", "StateBeyondTable"),
+    faulty("a refused table", "step spread.rle --table bad.rule", "table line 2: NoTable"),
+    faulty("a refused table before a refused file", "step bad.rle --table bad.rule", "table line 2: NoTable"),
+    faulty("a refused file behind a table", "step bad.rle --table spread.rule", "line 2: StateRange"),
+    faulty("a table with a long line", "step bad.rle --table long.rule", "table line 1: LineTooLong"),
+    faulty("a file with a long line behind a table", "step long.rule --table spread.rule", "line 1: LineTooLong"),
+    faulty("a step of too many cells", "step many.rle", "TooManyCells"),
+    failing("a step of an absent file", "step absent", "ReadFault"),
+    failing("a step by an absent table", "step bad.rle --table absent", "ReadFault"),
+    failing("a step by a folder", "step bad.rle --table .", "ReadFault"),
+    told("standard input for both", "step - --table -", error="TwoInputs", status=5),
+    faulty("a step from the last generation", "step last.rle", "GenerationTooLarge"),
+    faulty("a step over the edge", "step edge.rle", "OutOfPlane"),
+]
+
+# One for each job.
+EACH_JOB = ["same pair.rle pair.mc", "same pair.rle named.rle", "show pair.rle", "convert pair.mc --to rle", "convert pair.rle --to mc",
+            "step line.rle", "step spread.rle --table spread.rule"]
+
+SINKS = [
+    *(failing(f"{words} to a full output", words, "WriteFault", by=TO_FULL) for words in EACH_JOB),
+    *(failing(f"{words} with standard output closed", words, "WriteFault", by=CLOSED) for words in EACH_JOB),
+    failing("a comparison with a closed standard input", "same pair.rle -", "ReadFault", by=UNREADABLE),
+    faulty("a refused comparison with a full standard error", "same empty bad.rle", "", by='exec "$@" 2> /dev/full'),
+]
+
+# Commands that read standard input, and commands that read a folder.
+SOURCES = [
+    *(failing(f"{words} with standard input closed", words, "ReadFault", by=NO_SOURCE)
+      for words in ("show -", "convert - --to rle", "convert - --to mc", "step -")),
+    *(failing(f"{words} with a standard input that can't be read", words, "ReadFault", by=UNREADABLE)
+      for words in ("step spread.rle --table -", "same - pair.rle")),
+    *(failing(f"{words}, with a folder", words, "ReadFault") for words in ("canon /", "step .", "same . pair.rle", "convert . --to rle")),
+    *(failing(f"{words} from a folder", words, "ReadFault", by='exec "$@" < .') for words in ("canon -", "show -", "same pair.rle -")),
+]
+
+
+# ---- texts longer than a pipe holds
+
+long = functools.partial(blocks, 8000)
+LONG_RLE, LONG_TEXT = rle_of(long), macrocell_of(long)
+LONG_NAMED = rle_of(long, b"Still")
+
+# What writes such a text: the words, the files, and the text.
+LONG_JOBS = [
+    ("canon", "canon input", {"input": LONG_RLE}, LONG_TEXT),
+    ("convert --to mc", "convert input --to mc", {"input": LONG_RLE}, LONG_TEXT),
+    ("convert --to rle", "convert input --to rle", {"input": LONG_TEXT}, LONG_RLE),
+    ("step", "step input", {"input": LONG_RLE}, macrocell_of(long, generation=1)),
+    ("step --table", "step input --table still.rule", {"input": LONG_NAMED, "still.rule": FILES["still.rule"]}, macrocell_of(long, b"Still", 1)),
+]
+
+
+def long_jobs(name, status, error, wanted, **more):
+    """A case for each job that writes a long text. `wanted` is what of it must be written."""
+    return [Case(f"{job}: {name}", words, status, error, wanted(text), files, **more) for job, words, files, text in LONG_JOBS]
+
+
+ON_A_SMALL_DISK = """unshare --mount sh -c 'mkdir full && mount -t tmpfs -o size=16k none full || exit 99
+"$@" > full/out; status=$?; cat full/out; umount full; rmdir full; exit $status' sh "$@\""""
+CAN_MOUNT = os.system("unshare --mount sh -c 'mount -t tmpfs none /mnt' 2> /dev/null") == 0
+
+LONG_TEXTS = [
+    Case("a reader that leaves after a line", "canon input", 3, "WriteFault", LIFE[:19], {"input": LONG_RLE}, plays=takes_a_line),
+    *long_jobs("a reader that leaves", 3, "WriteFault", Front, plays=takes_a_line),
+    *long_jobs("a slow reader", 0, "", lambda text: text, plays=takes_slowly),
+    *long_jobs("stopped and continued", 0, "", lambda text: text, plays=stops_it),
+    *long_jobs("killed while it writes", -signal.SIGKILL, "", Front, plays=kills_it),
+    *(long_jobs("a full disk", 3, "WriteFault", Front, by=ON_A_SMALL_DISK) if CAN_MOUNT else []),
+    *long_jobs("little memory", 4, "Memory", lambda text: b"", by='ulimit -v 5000; exec "$@"'),
+]
+
+
+# ---- files that change while they are read, and slow sources
+
+MOVING = [(b"[M2]\n" + GLIDER, 1), (b"# a comment\n", 2_000_000)]
+GROWS = '{ for i in 1 2 3 4 5 6 7 8 9; do echo "# $i" >> input; sleep 0.01; done; } & "$@"; status=$?; wait; exit $status'
+SHRINKS = '{ sleep 0.02; truncate -s 1000 input; } & "$@"; status=$?; wait; exit $status'
+GOES = '{ sleep 0.02; rm input; } & "$@"; status=$?; wait; exit $status'
+BY_A_PIPE = 'mkfifo pipe; { cat pair.mc; sleep 0.1; echo "#"; } > pipe & "$@"; status=$?; kill $! 2> /dev/null; rm pipe; exit $status'
+
+
+def slowly(text):
+    """Writes a text byte by byte."""
+    def writes(pipe):
+        for byte in text:
+            os.write(pipe.fileno(), bytes([byte]))
+            time.sleep(0.0005)
+    return Piped(b"", writes)
+
+
+def moving(name, by, words, output, times=0):
+    return accepted(name, MOVING, output, words, by=by, changes=True, times=times)
+
+
+def by_a_pipe(words, output):
+    return Case(f"a pipe with a name: {words}", words, output=output, by=BY_A_PIPE, files={it: FILES[it] for it in ("pair.mc", "pair.rle")})
+
+
+CHANGES = [
+    moving("a file that grows while it is read", GROWS, "canon input", LIFE + GLIDER),
+    moving("a file that shrinks while it is read", SHRINKS, "canon input", LIFE + GLIDER),
+    moving("a file that is removed while it is read", GOES, "canon input", LIFE + GLIDER),
+    moving("a file that grows while it is compared", GROWS, "same input input", b"same\n", 4),
+    moving("a file that shrinks while it is converted", SHRINKS, "convert input --to mc", LIFE + GLIDER),
+    by_a_pipe("canon pipe", PAIR_TEXT),
+    by_a_pipe("show pipe", PAIR_SHOWN),
+    by_a_pipe("same pair.rle pipe", b"same\n"),
+    by_a_pipe("convert pipe --to rle", PAIR_RLE),
+    by_a_pipe("step pipe", canonical(b"B3/S23", 1)),
+    told("standard input byte by byte", "canon -", PAIR_TEXT, source=slowly(FILES["pair.mc"])),
+    told("a table byte by byte", "step spread.rle --table -", SPREAD_STEPPED, source=slowly(TABLE)),
+    told("a source without bytes", "canon -", error="line 1: NoHeader", status=2, source=Piped()),
+]
+
+
+# ---- words
+
+
+def misused(name, *words):
+    """Words that ask for nothing: status 5, a text on standard error, nothing on standard output."""
+    return Case(name, list(words), 5, ANY, files={"input": FILES["input"]})
+
+
+def asked(name, text, *words):
+    return Case(name, words or name, output=re.compile(text, re.MULTILINE))
+
+
+NO_TEXT = os.fsdecode(b"a\xffb")  # no UTF-8
+
+MISUSED = [
+    misused("no words"),
+    misused("no file", "canon"),
+    misused("two files", "canon", "input", "input"),
+    misused("a command that isn't there", "cannon", "input"),
+    misused("an option that isn't there", "canon", "--fast", "input"),
+    misused("one file to compare", "same", "input"),
+    misused("three files to compare", "same", "input", "input", "input"),
+    misused("nothing to show", "show"),
+    misused("no format", "convert", "input"),
+    misused("a format that isn't there", "convert", "input", "--to", "png"),
+    misused("a format in capitals", "convert", "input", "--to", "RLE"),
+    misused("the empty format", "convert", "input", "--to", ""),
+    misused("an option without its value", "convert", "input", "--to"),
+    misused("an option twice", "convert", "input", "--to", "mc", "--to", "mc"),
+    misused("an option of another command", "canon", "input", "--to", "mc"),
+    misused("nothing to step", "step"),
+    misused("a table without a file", "step", "--table", "input"),
+    misused("a table without its name", "step", "input", "--table"),
+    misused("a table twice", "step", "input", "--table", "input", "--table", "input"),
+    misused("a table for another command", "show", "input", "--table", "input"),
+    misused("a second file that is no UTF-8 text", "same", "input", NO_TEXT),
+    misused("a format that is no UTF-8 text", "convert", "input", "--to", os.fsdecode(b"\xff")),
+    misused("standard input for both files", "same", "-", "-"),
+    misused("the empty word", ""),
+    misused("a word that is no UTF-8 text", "canon", NO_TEXT),
+    misused("a word of 100000 bytes", "n" * 100_000),
+]
+
+ASKED = [
+    asked("--help", rb"Usage: golly_canon <COMMAND>"),
+    asked("-h", rb"Usage: golly_canon <COMMAND>"),
+    asked("help canon", rb"Usage: golly_canon canon <FILE>"),
+    asked("canon --help", rb"Usage: golly_canon canon <FILE>"),
+    asked("--version", rb"golly_canon "),
+    asked("same --help", rb"Usage: golly_canon same <A> <B>"),
+    asked("show --help", rb"Usage: golly_canon show <FILE>"),
+    asked("convert --help", rb"Usage: golly_canon convert --to <FORMAT> <FILE>"),
+    asked("step --help", rb"Usage: golly_canon step \[OPTIONS\] <FILE>"),
+    asked("an example of step", rb"  golly_canon step glider\.rle", "step", "--help"),
+    asked("the statuses of same", rb"  1  they are different patterns", "same", "--help"),
+    asked("an example of show", rb"  golly_canon show glider\.rle", "show", "--help"),
+    asked("help convert", rb"^mc   macrocell"),
+    *(asked(f"a short help that names {command}", rb"^  %s " % command.encode(), "-h")
+      for command in ("canon", "convert", "same", "show", "step")),
+]
+
+
+# ---- keys chosen against the set's hasher
+
+WORD = (1 << 64) - 1
+MULTIPLIER = 0x9E37_79B9_7F4A_7C15
+SEED = 0x243F_6A88_85A3_08D3  # it is fixed, so that whoever knows it can choose keys
+
+
+def folded(state, number, size):
+    """The hasher's state behind a number of so many bytes."""
+    product = (state ^ number) * (MULTIPLIER ^ 2 * size)
+    return (product & WORD) ^ product >> 64
+
+
+def hashed_id(state, number):
+    return folded(state, number | number << 32, 4)
+
+
+def hashed_byte(state, byte):
+    return folded(state, byte * 0x10101, 1)
+
+
+def crowded_squares(count, bits):
+    """Different squares of four states whose hash lacks these bits. The bits are the highest four of those that tell a key's place in the table, so
+    that all have their places in a sixteenth of it. A key that finds no room there goes on to the next place, and a new one passes all of them."""
+    for triple in itertools.product(range(2, 256), repeat=3):
+        state = functools.reduce(hashed_id, triple, hashed_byte(SEED, 1))
+        for last in range(2, 256):
+            found = hashed_id(state, last)
+            if (found ^ found >> 32) & bits == 0:
+                yield (*triple, last)
+                count -= 1
+                if count == 0:
+                    return
+
+
+def crowded_names(count, bits):
+    """The same of names of nine bytes."""
+    start = folded(SEED, 9, 8)
+    letters = b"abcdefghijklmnopqrstuvwxyz"
+    for front in itertools.product(letters, repeat=8):
+        state = functools.reduce(hashed_byte, front, start)
+        for last in letters:
+            found = hashed_byte(state, last)
+            if (found ^ found >> 32) & bits == 0:
+                yield bytes((*front, last))
+                count -= 1
+                if count == 0:
+                    return
+
+
+# ---- rule tables
+
+BLANK = b"x = 1, y = 1, rule = Foo\n!\n"
+ALL_STATES = b",".join(b"%d" % state for state in range(256))
+
+
+def table(symmetry, *parts):
+    return [b"@RULE Foo\n@TABLE\nn_states:256\nneighborhood:Moore\nsymmetries:%s\n" % symmetry, *parts]
+
+
+def variables(names):
+    """Variables of these names."""
+    return lambda: gathered(b"var %s={0}\n" % name for name in names())
+
+
+def by_table(name, rule, pattern, output, **more):
+    return Case(name, "step input --table rule", output=output, files={"input": pattern, "rule": rule}, **more)
+
+
+def sevens(count):
+    """Cells of state 7, each with eight other states around it."""
+    order = random.Random(3)
+    for i in range(count):
+        around = order.sample(range(8, 256), 8)
+        for j, state in enumerate([*around[:4], 7, *around[4:]]):
+            yield 4 * i + j % 3, j // 3, state
+
+
+FREE = [b"var %c={%s}\n" % (name, ALL_STATES) for name in b"abcdefi"]
+# Of eight variables two can be the same neighbour alone, so that no order fits; and that is found last.
+SEARCHED = [*FREE, b"var g={7}\nvar h={7}\n", (b"i,a,b,c,d,e,f,g,h,1\n", 500)]
+# Two neighbours side by side would have to be one state other than 0, and none are.
+TURNED = [*FREE, b"var g={%s}\nvar h={%s}\n" % (ALL_STATES, ALL_STATES[2:]), (b"i,h,a,b,c,d,e,f,h,1\n", 2000)]
+fifty = functools.partial(sevens, 50)
+FIFTY, FIFTY_STEPPED = states_in_nodes(fifty), states_in_nodes(fifty, 1)
+UNION = [b"var a={%s}\n" % ALL_STATES, (b"var b={" + b"a," * 500_000 + b"a}\n", 1)]
+
+
+@functools.cache
+def crowd_of_squares():
+    return list(crowded_squares(73_000, 0x1E00))
+
+
+def crowd_of_names():
+    return crowded_names(36_000, 0x0F00)
+
+
+def plain_names():
+    return (b"a%d" % number for number in range(1_000_000))
+
+
+CHOSEN_KEYS = [
+    accepted("73,000 squares that crowd in the set", [b"[M2]\n#R Foo\n", lambda: gathered(b"1 %d %d %d %d\n" % it for it in crowd_of_squares())],
+             [canonical(b"Foo"), lambda: [b"1 %d %d %d %d\n" % crowd_of_squares()[-1]]], each=6),
+    by_table("36,000 names that crowd in the map", table(b"none", variables(crowd_of_names)), BLANK, canonical(b"Foo", 1), each=6, times=20),
+]
+
+TABLES = [
+    by_table("a million variables", table(b"none", variables(plain_names)), BLANK, canonical(b"Foo", 1), times=20),
+    by_table("a list of half a million variables", table(b"none", *UNION), BLANK, canonical(b"Foo", 1)),
+    by_table("2000 lines that give nothing, 450 cells", table(b"rotate8reflect", *TURNED), FIFTY, FIFTY_STEPPED, each=80),
+    by_table("500 lines to search, 450 cells", table(b"permute", *SEARCHED), FIFTY, FIFTY_STEPPED, each=220),
+]
+
+
+# ---- the run
+
+CASES = [
+    *FIRST_CASES, *LONG_LINES, *MANY_LINES, *RLE, *DEEP_SQUARES, *DEVICES, *JOBS, *STEPS, *SINKS, *SOURCES, *LONG_TEXTS, *CHANGES, *MISUSED, *ASKED,
+    *LARGE_RLE, *CHOSEN_KEYS, *TABLES, *LONGEST_INPUTS,
+]
+
+
+def copied(program, folder):
+    """A copy of the program that nobody can run too."""
+    copy = os.path.join(folder, "golly_canon")
+    shutil.copyfile(program, copy)
+    os.chmod(copy, 0o755)
+    os.chmod(folder, 0o711)
+    return copy
+
+
+def main():
+    if len(sys.argv) < 2:
+        sys.exit("usage: tests/hostile.py PROGRAM")
+    for needed, package in ((sys.argv[1], None), (CLOCK, "time")):
+        if not os.access(needed, os.X_OK):
+            sys.exit(f"there is no program {needed}" + (f": apt-get install {package}" if package else ""))
+    if len({case.name for case in CASES}) < len(CASES):
+        sys.exit("two cases have one name")
+    passed = failed = 0
+    with tempfile.TemporaryDirectory() as folder:
+        for case, run, problems in results(CASES, copied(sys.argv[1], folder), folder):
+            passed, failed = passed + (not problems), failed + bool(problems)
+            print(said(case, run, problems), flush=True)
+    print(f"{passed} passed, {failed} failed")
+    return int(failed > 0)
+
+
+if __name__ == "__main__":
+    sys.exit(main())

@@ -1,0 +1,140 @@
+"""What each command has to answer for the bytes of its files: standard output, the line on standard error, and the status, as docs/FORMATS.md and
+docs/golly_canon.1 say them."""
+
+from functools import cached_property
+from typing import NamedTuple
+
+from .generations import MOST_CELLS, step_by_rule, step_by_table
+from .lines import Fault
+from .patterns import canonical_text, listed, read
+from .rle import rle_text
+from .squares import FIRST, Squares, box_of, cells_of
+from .tables import read_table
+
+
+class Answer(NamedTuple):
+    """What a run of the program leaves."""
+
+    status: int
+    output: bytes = b""
+    fault: str = ""
+
+
+class File:
+    """The bytes of a pattern file or of a rule table. What they say is worked out when it is first asked, and the fault, if any, is kept too."""
+
+    def __init__(self, data):
+        self.data = data
+        self.squares = Squares()
+
+    @cached_property
+    def reading(self):
+        return outcome_of(lambda: read(self.squares, self.data))
+
+    @cached_property
+    def table_reading(self):
+        return outcome_of(lambda: read_table(self.data))
+
+    @property
+    def pattern(self):
+        return kept(self.reading)
+
+    @property
+    def table(self):
+        return kept(self.table_reading)
+
+    @cached_property
+    def text(self):
+        """The canonical text."""
+        return canonical_text(self.squares, self.pattern)
+
+
+def outcome_of(call):
+    """What a call returns, or the fault by which it refuses."""
+    try:
+        return call()
+    except Fault as fault:
+        return fault
+
+
+def kept(outcome):
+    if isinstance(outcome, Fault):
+        raise outcome
+    return outcome
+
+
+def answer_of(call):
+    """The answer of a command whose call gives a status and a text."""
+    outcome = outcome_of(call)
+    return Answer(2, fault=outcome.text()) if isinstance(outcome, Fault) else Answer(*outcome)
+
+
+def canon(file):
+    return answer_of(lambda: (0, file.text))
+
+
+def convert_to_mc(file):
+    return canon(file)
+
+
+def convert_to_rle(file):
+    return answer_of(lambda: (0, rle_of(file.pattern)))
+
+
+def same(first, second):
+    return answer_of(lambda: (0, b"same\n") if is_same(first, second) else (1, b"different\n"))
+
+
+def show(file):
+    return answer_of(lambda: (0, shown(file)))
+
+
+def step(file, table=None):
+    return answer_of(lambda: (0, stepped(file, table)))
+
+
+def rle_of(pattern):
+    if pattern.plane.population > MOST_CELLS:
+        raise Fault("TooManyCells")
+    cells = sorted(cells_of(pattern.plane), key=lambda cell: (cell[1], cell[0]))
+    return rle_text(pattern.rule, pattern.generation, cells)
+
+
+def is_same(first, second):
+    """Whether two files say one rule, one generation and one state of each cell. The first file is looked at, and refused, first."""
+    one, other = first.pattern, second.pattern
+    return one.rule == other.rule and one.generation == other.generation and has_same_cells(one.plane, other.plane, set())
+
+
+def has_same_cells(one, other, compared):
+    """Whether two squares of one level have the same cells. `compared` has the pairs that were compared."""
+    if one.population != other.population or one.state != other.state:
+        return False
+    if (one, other) in compared or one.is_blank:
+        return True
+    compared.add((one, other))
+    return all(has_same_cells(*quarters, compared) for quarters in zip(one.quarters, other.quarters))
+
+
+def shown(file):
+    pattern = file.pattern
+    box = "none"
+    if not pattern.plane.is_blank:
+        left, top, right, bottom = box_of(pattern.plane, {})
+        box = f"{FIRST + left} {FIRST + top} {right - left + 1} {bottom - top + 1}"
+    lines = [
+        f"rule {pattern.rule.text.decode()}",
+        f"generation {pattern.generation}",
+        f"population {pattern.plane.population}",
+        f"box {box}",
+        f"nodes {len(listed(file.squares, pattern))}",
+    ]
+    return "".join(f"{line}\n" for line in lines).encode()
+
+
+def stepped(file, table):
+    """The next generation's canonical text. A table is read, and refused, before the pattern."""
+    if table is None:
+        return canonical_text(file.squares, step_by_rule(file.squares, file.pattern))
+    by = table.table
+    return canonical_text(file.squares, step_by_table(file.squares, file.pattern, by))
