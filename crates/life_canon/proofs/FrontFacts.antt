@@ -19,10 +19,9 @@ use Rattle.life_quad.specs.Store.{Nodes}
 use Rattle.life_rle.specs.Decided.{LacksHeader}
 use Rattle.life_rle.specs.Grammar.{IsRle, IsSomeRle, IsMarked, IsUnmarked, Breaks as BreaksRle}
 use Rattle.life_rle.specs.Pattern.{Rle}
-use Rattle.life_rle.proofs.FrontLaws.{lines_behind_mark_are_free, long_lines_break, fronts_are_files}
-use Rattle.life_rle.proofs.LineKinds.{Breaks-placed}
-use Rattle.life_rle.proofs.Refusal.{IsPreamble-refused}
-use Rattle.life_rle.proofs.Unique.{IsUnmarked-progress, IsMarked-progress}
+use Rattle.life_rle.proofs.DecidedLaw.{decided}
+use Rattle.life_rle.proofs.FrontLaws.{lines_behind_mark_are_free, mark_is_decided, long_lines_break, fronts_are_files}
+use Rattle.life_rle.proofs.LineKinds.{Breaks-kind, names_line as names_line_rle}
 use Rattle.life_canon.specs.Feeding.{RefusesFront, IsOverAt}
 use Rattle.life_canon.specs.Files.{Says, as_macrocell, as_rle, Reads, Accepts, Breaks, Refuses, missing, is_macrocell}
 use Rattle.life_canon.specs.Store.{IsWant, IsWantKind}
@@ -372,7 +371,7 @@ end-says bytes ended (progress.Rle reader builder runs) u e s = by u s
     going u s n = subst (λ (ls : List (List ℕ)). Says MAX_LEVEL ls u) (sym (e.going n).0) s
 
     unmarked : (file other : Rle) → IsUnmarked MAX_LEVEL reader.lines file → IsMarked MAX_LEVEL reader.lines other → ⊥
-    unmarked file other b m = let x = IsUnmarked-progress MAX_LEVEL reader.lines file b in let y = IsMarked-progress MAX_LEVEL reader.lines other m in cc
+    unmarked file other b m = mark_is_decided MAX_LEVEL reader.lines file other b m
 
     by : (u : Universe) → Says MAX_LEVEL reader.lines u → Says MAX_LEVEL (lines_of bytes) u
     by _ (as_macrocell file are) = absurd (not-both (is_macrocell reader.lines) (macrocell-first MAX_LEVEL reader.lines file are) e.begun.format)
@@ -383,7 +382,7 @@ end-says bytes ended (progress.Rle reader builder runs) u e s = by u s
         (as_rle file (inr (lines_behind_mark_are_free MAX_LEVEL reader.lines v.0 file m).0))
 
 lacks-mark : (lines : List (List ℕ)) → LacksHeader MAX_LEVEL lines → (file : Rle) → IsMarked MAX_LEVEL lines file → ⊥
-lacks-mark lines h file m = IsPreamble-refused MAX_LEVEL lines h.0 h.1 (file, inr m)
+lacks-mark lines h file m = (decided MAX_LEVEL lines).1 (file, inr m) h
 
 lacks-going : (p : Progress) → LacksHeader MAX_LEVEL (taken p) → IsOver p → ⊥
 lacks-going progress.Undecided h o = o
@@ -406,7 +405,7 @@ breaks-placed lines line kind = by (is_macrocell (lines ++ line ∷ []))
   where
     by : (m : Bool) → MatchBool m (broken MAX_LEVEL lines line ≡ Some kind) (BreaksRle MAX_LEVEL lines line kind) → is_placeless kind ≡ false
     by true h = names_line kind (broken_kind MAX_LEVEL lines line kind h)
-    by false h = Breaks-placed MAX_LEVEL lines line kind h
+    by false h = names_line_rle kind (Breaks-kind MAX_LEVEL lines line kind h)
 
 -- the kind of a refused line, at the number of that line
 pub fault-of-kind : (store : Nodes) (lines : List (List ℕ)) (line : List ℕ) (ended : ℕ) (kind : Kind) → IsWantKind store kind ⊎ Breaks MAX_LEVEL lines line kind

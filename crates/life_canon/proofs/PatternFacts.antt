@@ -23,7 +23,7 @@ use Rattle.life_rle.specs.Position.{default_position}
 use Rattle.life_rle.specs.RunsLaw.{state_by as rle_state_by, has_cell}
 use Rattle.life_rle.specs.declared.file.Run.{Run}
 use Rattle.life_rle.proofs.LineKinds.{Breaks-kind}
-use Rattle.life_rle.proofs.Refusal.{IsPreamble-refused}
+use Rattle.life_rle.proofs.DecidedLaw.{decided}
 use Rattle.life_rle.proofs.RunsLaws.{runs_are_cells}
 use Rattle.life_rle.proofs.Unique.{IsRle-unique}
 use Rattle.life_strip.specs.Given.{state_by}
@@ -70,7 +70,7 @@ given-cells (run ∷ runs) x y = ap (λ (n : ℕ). cond (has_cell run x y) run.s
 -- the runs of lines that are a file have its cells
 pub file-cells : (lines : List (List ℕ)) (runs : List Run) (file : Rle) → HasRuns MAX_LEVEL lines runs → IsRle MAX_LEVEL lines file → (x y : ℤ)
     → state_by (map given runs) x y ≡ rle_cell file x y
-file-cells lines runs file (inl h) r x y = absurd (IsPreamble-refused MAX_LEVEL lines h.0 h.1 (file, r))
+file-cells lines runs file (inl h) r x y = absurd ((decided MAX_LEVEL lines).1 (file, r) (h.0, h.1))
 file-cells lines runs file (inr h) r x y =
     let same : h.0 ≡ file = IsRle-unique MAX_LEVEL lines h.0 file h.1 r in
     given-cells runs x y ∙ ap (λ (rs : List Run). rle_state_by rs x y) h.2

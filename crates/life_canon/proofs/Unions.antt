@@ -1,5 +1,5 @@
 -- What one of the two formats says of lines that are or aren't a file, for files of either format.
-use Rattle.std.proofs.Common.{◌≡◌, ℕ, ◌+◌, ◌-◌, ◌^◌, min, Bool, true, false, cond, List, [], ◌∷◌, ◌++◌, length, take, drop, get_or, refl, ap, sym, ◌∙◌, subst, arith, Option, Some, None, append_assoc}
+use Rattle.std.proofs.Common.{inr, ◌≡◌, ℕ, ◌+◌, ◌-◌, ◌^◌, min, Bool, true, false, cond, List, [], ◌∷◌, ◌++◌, length, take, drop, get_or, refl, ap, sym, ◌∙◌, subst, arith, Option, Some, None, append_assoc}
 use Rattle.std.specs.Prelude.{MatchBool}
 use Rattle.std.specs.List.{slice_index_or}
 use Rattle.std.proofs.lemmas.List.{take-append-drop, take-append-le, length-append}
@@ -15,8 +15,9 @@ use Rattle.life_mc.specs.Reading.{AreMacrocell, broken, Accepts as IsSomeMacroce
 use Rattle.life_mc.proofs.FormatLaws.{fronts_are_unbroken}
 use Rattle.life_rle.specs.Decided.{LacksHeader}
 use Rattle.life_rle.specs.Grammar.{IsSomeRle, Breaks as BreaksRle}
-use Rattle.life_rle.proofs.Refusal.{Goes-Prefix, Goes-front, Prefix-Goes, IsPreamble-Prefix, IsPreamble-refused}
-use Rattle.life_rle.proofs.Unique.{Breaks-no_more}
+use Rattle.life_rle.proofs.DecidedLaw.{decided}
+use Rattle.life_rle.proofs.FormatLaws.{broken_for_good}
+use Rattle.life_rle.proofs.FrontLaws.{fronts_of_fronts, fronts_are_files}
 use Rattle.life_canon.specs.Files.{Says, as_macrocell, as_rle, Accepts, Breaks, RefusesLines, missing, is_macrocell}
 use Rattle.life_canon.specs.Universe.{Universe, macrocell_universe, rle_universe}
 use Rattle.life_canon.proofs.Formats.{macrocell-first, rle-first}
@@ -46,7 +47,7 @@ shorter-front top lines more p = by p.1.0 p.1.1
     by : (u : Universe) → Says top ((lines ++ more) ++ kept p.0 continuations) u → Prefix (Accepts top) lines
     by _ (as_macrocell file are) =
         macrocell-front top lines ((fronts_are_unbroken top lines).1 (unbroken-shorter top lines more ((fronts_are_unbroken top (lines ++ more)).0 (p.0, (file, are)))))
-    by _ (as_rle file is) = rle-front top lines (Goes-Prefix top lines (Goes-front top lines more (Prefix-Goes top (lines ++ more) (p.0, (file, is)))))
+    by _ (as_rle file is) = rle-front top lines (fronts_of_fronts top lines more (p.0, (file, is)))
 
 pub taken-front : (top k : ℕ) (lines : List (List ℕ)) → Prefix (Accepts top) lines → Prefix (Accepts top) (take k lines)
 taken-front top k lines p = shorter-front top (take k lines) (drop k lines) (subst (Prefix (Accepts top)) (sym (take-append-drop k lines)) p)
@@ -81,7 +82,7 @@ for_good top front line kind more b a = by (is_macrocell (front ++ line ∷ []))
     by true e h _ (as_macrocell file are) = at_once file are h
     by true e h _ (as_rle file is) = rle-first top _ file is (same-format front line more ∙ e)
     by false e h _ (as_macrocell file are) = not-both _ (macrocell-first top _ file are) (same-format front line more ∙ e)
-    by false e h _ (as_rle file is) = Breaks-no_more top front line kind more file h is
+    by false e h _ (as_rle file is) = (broken_for_good top front line kind h).2 more file is
 
 -- so it is the place of the refusal
 pub line-refused : (top : ℕ) (lines front : List (List ℕ)) (line : List ℕ) (more : List (List ℕ)) (fault : Fault) → lines ≡ front ++ line ∷ more → Prefix (Accepts top) front
@@ -131,7 +132,7 @@ end-refused top lines fault h format kind at = record {
   place = record {
     counted = omega arith;
     within = omega arith;
-    before = λ k l. taken-front top k lines (rle-front top lines (IsPreamble-Prefix top lines h.0 h.1));
+    before = λ k l. taken-front top k lines (rle-front top lines ((fronts_are_files top lines).1 (inr h)));
     here = λ l q. absurd (omega arith);
   };
   line = at;
@@ -141,7 +142,7 @@ end-refused top lines fault h format kind at = record {
   where
     by : (u : Universe) → Says top lines u → ⊥
     by _ (as_macrocell file are) = not-both _ (macrocell-first top lines file are) format
-    by _ (as_rle file is) = IsPreamble-refused top lines h.0 h.1 (file, is)
+    by _ (as_rle file is) = (decided top lines).1 (file, is) h
 
     lacks : missing lines ≡ Some fault.kind
     lacks = ap (λ (b : Bool). cond b None (Some NoHeader)) format ∙ ap Some (sym kind)

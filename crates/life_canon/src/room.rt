@@ -7,8 +7,8 @@ use life_quad::Shared;
 /// How many bytes come before room is made for the first time.
 const SAMPLE: u64 = 1 << 20;
 
-/// Room is made for no more than one node for so many bytes that are still to come, so that an input that is dense in its front alone takes no
-/// more than a third of its size in tables that stay empty.
+/// Room is made for no more than one node for so many bytes that are still to come, whatever the rate was: an input may be dense in its
+/// front alone.
 const LEAST_BYTES: u64 = 32;
 
 /// When room is made in a store for the squares of the rest of an input, and for how many: at the rate of the bytes before it. It changes

@@ -11,12 +11,17 @@ use Rattle.life_rle.specs.Position.{default_position}
 use Rattle.life_rle.specs.Pattern.{Rle}
 use Rattle.life_rle.specs.Grammar.{opening_of, later_of, IsMarked, IsSomeRle, Breaks, before_header, by_form}
 use Rattle.life_rle.specs.Decided.{LacksHeader, HasBroken}
-use Rattle.life_rle.specs.FrontLaws.{LinesBehindMarkAreFree, FrontsOfFronts, FrontsAreFiles, BeginsAsRle, MacrocellLineBreaks, LongLinesBreak}
+use Rattle.life_rle.specs.FrontLaws.{LinesBehindMarkAreFree, IsMarkDecided, FrontsOfFronts, FrontsAreFiles, BeginsAsRle, MacrocellLineBreaks, LongLinesBreak}
 use Rattle.life_rle.proofs.Progress.{progress, open_step, progress-Refused}
 use Rattle.life_rle.proofs.Refusal.{Goes, Goes-Prefix, Prefix-Goes, Goes-front, IsRle-Goes, IsPreamble-Prefix}
-use Rattle.life_rle.proofs.Unique.{Breaks-unique, Breaks-no_more, Breaks-no_prefix}
+use Rattle.life_rle.proofs.Unique.{Breaks-unique, Breaks-no_more, Breaks-no_prefix, IsUnmarked-progress, IsMarked-progress}
 use Rattle.life_rle.proofs.DecidedLaw.{decided}
 use Rattle.life_rle.proofs.LineKinds.{Breaks-long}
+
+-- ---- the mark
+
+pub mark_is_decided : IsMarkDecided
+mark_is_decided level lines file other u m = let x = IsUnmarked-progress level lines file u in let y = IsMarked-progress level lines other m in cc
 
 -- ---- behind the mark
 

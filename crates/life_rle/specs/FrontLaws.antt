@@ -5,7 +5,7 @@ use Rattle.life_base.specs.declared.kind.Kind.TheVariants.{LineTooLong, NoHeader
 use Rattle.life_base.specs.Refusal.{Prefix}
 use Rattle.life_base.specs.Text.{begins_with, is_too_long}
 use Rattle.life_rle.specs.Pattern.{Rle}
-use Rattle.life_rle.specs.Grammar.{IsMarked, IsSomeRle, Breaks}
+use Rattle.life_rle.specs.Grammar.{IsMarked, IsUnmarked, IsSomeRle, Breaks}
 use Rattle.life_rle.specs.Decided.{LacksHeader}
 
 -- behind `!` any lines may follow: the file stays as it is, and none of them breaks a rule
@@ -13,6 +13,10 @@ abbrev pub LinesBehindMarkAreFree : Type 0
 LinesBehindMarkAreFree =
     (level : ℕ) (lines more : List (List ℕ)) (file : Rle) → IsMarked level lines file
     → IsMarked level (lines ++ more) file × ((line : List ℕ) (kind : Kind) → Breaks level (lines ++ more) line kind → ⊥)
+
+-- no lines are a file with `!` and one without
+abbrev pub IsMarkDecided : Type 0
+IsMarkDecided = (level : ℕ) (lines : List (List ℕ)) (file other : Rle) → IsUnmarked level lines file → IsMarked level lines other → ⊥
 
 -- the front of a front is a front
 abbrev pub FrontsOfFronts : Type 0

@@ -1,9 +1,9 @@
 -- The laws of the definitions.
-use Rattle.std.specs.Prelude.{◌≡◌, ◌↔◌, ℕ, ◌+◌, ◌^◌, ◌<◌, ◌≤◌, true, List, [], ◌∷◌, ◌++◌, length, map, take, drop, flat_map, codes, ℤ, Some}
+use Rattle.std.specs.Prelude.{◌≡◌, ◌↔◌, ℕ, ◌+◌, ◌^◌, ◌<◌, ◌≤◌, true, false, List, [], ◌∷◌, ◌++◌, length, map, take, drop, flat_map, codes, ℤ, Some}
 use Rattle.std.specs.List.{slice_index_or}
 use Rattle.life_base.specs.declared.kind.Kind.{Kind}
 use Rattle.life_base.specs.declared.fault.Fault.{Fault}
-use Rattle.life_base.specs.Refusal.{Prefix}
+use Rattle.life_base.specs.Refusal.{Prefix, is_placeless}
 use Rattle.life_base.specs.declared.cell.Cell.{Cell}
 use Rattle.life_base.specs.declared.cell.TheConstants.{MAX_LEVEL}
 use Rattle.life_base.specs.declared.rule.Rule.{Rule}
@@ -39,6 +39,10 @@ FrontsAreUnbroken = (level : ℕ) (lines : List (List ℕ)) → Prefix (IsSomeRl
 -- a line breaks a rule with one of the kinds of the format
 abbrev pub LinesBreakByKinds : Type 0
 LinesBreakByKinds = (level : ℕ) (front : List (List ℕ)) (line : List ℕ) (kind : Kind) → Breaks level front line kind → is_rle_kind kind ≡ true
+
+-- and each of these kinds names its line
+abbrev pub KindsNameLines : Type 0
+KindsNameLines = (kind : Kind) → is_rle_kind kind ≡ true → is_placeless kind ≡ false
 
 -- lines that are no file have one fault
 abbrev pub FaultsAreUnique : Type 0

@@ -1,8 +1,8 @@
 //! Laws over the definitions alone.
 
-ghost use Rattle.life_rle.specs.Laws.{IsOneRle, BreaksForGood, FaultsAreUnique, FrontsAreUnbroken, LinesBreakByKinds, StatesReadBack, RleTextReadsBack, WrappedGreedily};
+ghost use Rattle.life_rle.specs.Laws.{IsOneRle, BreaksForGood, FaultsAreUnique, FrontsAreUnbroken, LinesBreakByKinds, KindsNameLines, StatesReadBack, RleTextReadsBack, WrappedGreedily};
 ghost use Rattle.life_rle.specs.Decided.{IsDecided};
-ghost use Rattle.life_rle.specs.FrontLaws.{LinesBehindMarkAreFree, FrontsOfFronts, FrontsAreFiles, BeginsAsRle, MacrocellLineBreaks, LongLinesBreak};
+ghost use Rattle.life_rle.specs.FrontLaws.{LinesBehindMarkAreFree, IsMarkDecided, FrontsOfFronts, FrontsAreFiles, BeginsAsRle, MacrocellLineBreaks, LongLinesBreak};
 ghost use Rattle.life_rle.specs.LongestRuns.{RunsAreLongest};
 ghost use Rattle.life_rle.specs.Valid.{FilesAreValid};
 ghost use Rattle.life_rle.specs.ItemsLaw.{ItemsAreCells};
@@ -34,6 +34,11 @@ pub fn fronts_are_unbroken()
 /// A line that breaks a rule breaks it with one of the kinds of the format.
 pub fn lines_break_by_kinds()
     ensures { LinesBreakByKinds }
+{}
+
+/// Each of these kinds names a line.
+pub fn kinds_name_lines()
+    ensures { KindsNameLines }
 {}
 
 /// States are read as they are written.
@@ -99,6 +104,11 @@ pub fn files_are_valid()
 /// Any lines may follow `!`: the file stays as it is, and none of them breaks a rule.
 pub fn lines_behind_mark_are_free()
     ensures { LinesBehindMarkAreFree }
+{}
+
+/// No lines are both a file with `!` and one without.
+pub fn mark_is_decided()
+    ensures { IsMarkDecided }
 {}
 
 /// The front of a front is a front.

@@ -8,7 +8,7 @@ use Rattle.std.proofs.lemmas.Int.{ints}
 use Rattle.std.proofs.lemmas.List.Quantifiers.{all_pairs_push}
 use Rattle.std.proofs.lemmas.Option.{get_or_from_slice_get, slice_get-get_or, slice_get_within}
 use Rattle.life_quad.specs.Cells.{IsInRun}
-use Rattle.life_strip.specs.Given.{GivenRun, covers, state_by, IsBehind, IsNext, AreInOrder, RunsAreApart}
+use Rattle.life_strip.specs.Given.{GivenRun, covers, state_by, IsBehind, IsNext, AreInOrder, RunsAreApart, RunsGrow}
 
 -- what holds of all but the first
 pub all_rest : {X : Type 0} (P : X → Type 0) (x : X) (xs : List X) → All P (x ∷ xs) → All P xs
@@ -142,3 +142,10 @@ runs-apart runs i j a b x y order ea eb ha hb = (by (nat_lt i j) refl (nat_lt j 
     by true e q f = absurd (let lt : i < j = grind (arith, e) in apart i j a b lt ea eb ha hb)
     by false e true f = absurd (let lt : j < i = grind (arith, f) in apart j i b a lt eb ea hb ha)
     by false e false f = let le : j ≤ i = grind (arith, e) in let ge : i ≤ j = grind (arith, f) in omega (arith, le, ge)
+
+-- one run more
+pub runs_grow : RunsGrow
+runs_grow runs run x y = (
+  (next-last runs run x y, next-push runs run x y),
+  λ order next state inside outside. state_by-push runs run x y (state_by runs x y) state order next refl inside outside,
+)

@@ -1,5 +1,5 @@
 -- The runs that a builder was given, and the cells that they say.
-use Rattle.std.specs.Prelude.{◌≡◌, ℕ, ◌-◌, ◌^◌, ◌⊎◌, Bool, ◌&&◌, if◌then◌else◌, ℤ, pos, neg_ℤ, ◌+ℤ◌, ◌-ℤ◌, ◌<ℤ◌, ◌≤ℤ◌, int_lt, int_le, List, [], ◌∷◌, length, Some, slice_get, AllPairs, refl}
+use Rattle.std.specs.Prelude.{◌≡◌, ◌↔◌, ℕ, ◌-◌, ◌^◌, ◌⊎◌, Bool, ◌&&◌, if◌then◌else◌, ℤ, pos, neg_ℤ, ◌+ℤ◌, ◌-ℤ◌, ◌<ℤ◌, ◌≤ℤ◌, int_lt, int_le, List, [], ◌∷◌, ◌++◌, length, Some, slice_get, AllPairs, refl}
 use Rattle.std.specs.Ordering.{int_eq}
 use Rattle.std.specs.Coded.{Coded, code_by, coded×, coded_ℕ, coded_ℤ}
 use Rattle.life_base.specs.declared.cell.TheConstants.{MAX_LEVEL}
@@ -59,3 +59,11 @@ abbrev pub RunsAreApart : Type 0
 RunsAreApart =
     (runs : List GivenRun) (i j : ℕ) (a b : GivenRun) (x y : ℤ) → AreInOrder runs → slice_get runs i ≡ Some a → slice_get runs j ≡ Some b
     → IsInRun a.x a.y a.len x y → IsInRun b.x b.y b.len x y → (i ≡ j) × (state_by runs x y ≡ a.state)
+
+-- With one run more the next one is judged by it, and a pair has that run's state where it is one of its cells, else the state it had.
+abbrev pub RunsGrow : Type 0
+RunsGrow =
+    (runs : List GivenRun) (run : GivenRun) (x y : ℤ)
+    → (IsNext (runs ++ run ∷ []) x y ↔ IsBehind run x y)
+    × (AreInOrder runs → IsNext runs run.x run.y → (state : ℕ) → (IsInRun run.x run.y run.len x y → state ≡ run.state)
+    → (¬ IsInRun run.x run.y run.len x y → state ≡ state_by runs x y) → state ≡ state_by (runs ++ run ∷ []) x y)

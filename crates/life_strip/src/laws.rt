@@ -1,5 +1,5 @@
 //! Laws over the definitions alone.
-ghost use Rattle.life_strip.specs.Given.{RunsAreApart};
+ghost use Rattle.life_strip.specs.Given.{RunsAreApart, RunsGrow};
 ghost use Rattle.life_strip.specs.Filling.{EmptyFills, FillingStays};
 
 use life_quad::Squares;
@@ -7,6 +7,11 @@ use life_quad::Squares;
 /// Runs in order are apart: at most one of them has a pair among its cells, and the state of the pair is that run's.
 pub fn runs_are_apart()
     ensures { RunsAreApart }
+{}
+
+/// With one run more the next one is judged by it, and a pair has that run's state where it is one of its cells, else the state it had.
+pub fn runs_grow()
+    ensures { RunsGrow }
 {}
 
 /// A builder without runs fills any store.

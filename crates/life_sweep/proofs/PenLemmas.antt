@@ -3,15 +3,15 @@ use Rattle.std.proofs.Common.{◌≡◌, ℕ, ◌+◌, inl, inr, ℤ, pos, ◌+�
 use Rattle.std.proofs.lemmas.Int.{ints}
 use Rattle.life_quad.specs.Cells.{IsInRun}
 use Rattle.life_strip.specs.Given.{GivenRun, IsNext, IsBehind, AreInOrder, state_by}
-use Rattle.life_strip.proofs.GivenLemmas.{state_by-push, next-push}
+use Rattle.life_strip.proofs.GivenLemmas.{runs_grow}
 use Rattle.life_sweep.specs.Pen.{one_cell}
 
 -- the state of a run of a list's end, and of other cells
 inside-last : (runs : List GivenRun) (run : GivenRun) (x y : ℤ) → AreInOrder runs → IsNext runs run.x run.y → IsInRun run.x run.y run.len x y → state_by (runs ++ run ∷ []) x y ≡ run.state
-inside-last runs run x y order next here = sym (state_by-push runs run x y (state_by runs x y) run.state order next refl (λ _. refl) (λ out. absurd (out here)))
+inside-last runs run x y order next here = sym ((runs_grow runs run x y).1 order next run.state (λ _. refl) (λ out. absurd (out here)))
 
 outside-last : (runs : List GivenRun) (run : GivenRun) (x y : ℤ) → AreInOrder runs → IsNext runs run.x run.y → ¬ (IsInRun run.x run.y run.len x y) → state_by (runs ++ run ∷ []) x y ≡ state_by runs x y
-outside-last runs run x y order next out = sym (state_by-push runs run x y (state_by runs x y) (state_by runs x y) order next refl (λ i. absurd (out i)) (λ _. refl))
+outside-last runs run x y order next out = sym ((runs_grow runs run x y).1 order next (state_by runs x y) (λ i. absurd (out i)) (λ _. refl))
 
 -- a cell more
 pub cell-here : (runs : List GivenRun) (x y : ℤ) (state : ℕ) → AreInOrder runs → IsNext runs x y → state_by (runs ++ one_cell x y state ∷ []) x y ≡ state
@@ -32,7 +32,7 @@ longer-here runs left y len state x order next e =
 pub longer-others : (runs : List GivenRun) (left y : ℤ) (len state : ℕ) (x : ℤ) → AreInOrder runs → IsNext runs left y → (left +ℤ pos len) ≡ x → (c r : ℤ) → (c ≡ x → r ≡ y → ⊥)
     → state_by (runs ++ run_of left y (len + 1) state ∷ []) c r ≡ state_by (runs ++ run_of left y len state ∷ []) c r
 longer-others runs left y len state x order next e c r ne =
-    sym (state_by-push runs (run_of left y (len + 1) state) c r (state_by runs c r) (state_by (runs ++ run_of left y len state ∷ []) c r) order next refl inside outside)
+    sym ((runs_grow runs (run_of left y (len + 1) state) c r).1 order next (state_by (runs ++ run_of left y len state ∷ []) c r) inside outside)
   where
     east : (c ≡ x → ⊥) → c <ℤ (left +ℤ pos (len + 1)) → c <ℤ (left +ℤ pos len)
     east n l = omega (arith, ints, n, l, e)
@@ -46,4 +46,4 @@ longer-others runs left y len state x order next e c r ne =
 
 pub longer-next : (runs : List GivenRun) (left y : ℤ) (len state : ℕ) (x : ℤ) → (left +ℤ pos len) ≡ x → (c r : ℤ) → IsBehind (one_cell x y state) c r → IsNext (runs ++ run_of left y (len + 1) state ∷ []) c r
 longer-next runs left y len state x e c r h =
-    next-push runs (run_of left y (len + 1) state) c r (elim h [ inl l ↦ inl l | inr p ↦ inr (p.0, omega (arith, ints, p.1, e)) ])
+    (runs_grow runs (run_of left y (len + 1) state) c r).0.1 (elim h [ inl l ↦ inl l | inr p ↦ inr (p.0, omega (arith, ints, p.1, e)) ])

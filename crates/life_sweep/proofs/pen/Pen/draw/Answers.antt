@@ -2,7 +2,7 @@ use Rattle.std.proofs.Common.{◌≡◌, ◌+◌, pos, ◌+ℤ◌, List, [], ◌
 use Rattle.std.specs.Prelude.{IfSome, Option}
 use Rattle.std.proofs.lemmas.Int.{ints}
 use Rattle.life_strip.specs.Given.{GivenRun, IsBehind, IsNext, IsOnPlane, state_by}
-use Rattle.life_strip.proofs.GivenLemmas.{next-push}
+use Rattle.life_strip.proofs.GivenLemmas.{runs_grow}
 use Rattle.life_sweep.specs.declared.pen.Run.{Run}
 use Rattle.life_sweep.specs.Pen.{IsOpen, IsContinuedBy, drawn_runs, open_runs, one_cell}
 use Rattle.life_sweep.proofs.PenLemmas.{run_of, cell-here, cell-others, longer-here, longer-others, longer-next}
@@ -142,5 +142,5 @@ returns-clause-next g c column row h =
     let y = to_z w64 (of_z w64 c.args.y) in
     let ex : c.args.x ≡ x = omega (arith, ints, c.ranges.x) in
     let ey : c.args.y ≡ y = omega (arith, ints, c.ranges.y) in
-    next-push c.close.new.self.builder.runs (one_cell x y c.args.state) column row
+    (runs_grow c.close.new.self.builder.runs (one_cell x y c.args.state) column row).0.1
     (subst (λ z. IsBehind (one_cell z y c.args.state) column row) ex (subst (λ z. IsBehind (one_cell c.args.x z c.args.state) column row) ey h))
