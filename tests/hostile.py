@@ -423,11 +423,31 @@ RLE = [
     refused("a count above the width of the plane", b"x = 1, y = 1, rule = Life\n1152921504606846977b!\n", "line 2: TooLarge"),
 ]
 
+# Every form of a line: two squares of one text, a leaf that ends early and one that doesn't, squares that the root doesn't reach.
+EACH_NODE_LINE = (b"[M2] made by hand\r\n#C first\n\n \t\n#R Foo\n#Rule is a comment\n#G 7\n#R\tb3/s23 \n#G 007\n#CXRLE Pos=1,1\n"
+                  b"*$\n  \t\n1 0 1 1 0\n$$\n# more\n........$*\n*.......$.$$$$$$$ \n4\t0 0\t 0 4\r\n 04 0 00 0 01\n5 0 0 0 6\n4 0 0 0 1")
+
+
+def corners():
+    """A cell at each corner of the plane: four chains, level by level from the south-east one on."""
+    yield b"[M2]\n$$$$$$$.......*$\n$$$$$$$*\n.......*\n*\n"
+    for level in range(4, 60):
+        south_east = 4 * (level - 4) + 1
+        yield b"%d 0 0 0 %d\n" % (level, south_east) + b"%d 0 0 %d 0\n" % (level, south_east + 1)
+        yield b"%d 0 %d 0 0\n" % (level, south_east + 2) + b"%d %d 0 0 0\n" % (level, south_east + 3)
+    yield b"60 228 227 226 225\n"
+
+
 CHAIN = b"[M2]\n*$\n" + chain(4, 60, b"L C 0 0 0\n")
 PLANE = b"********$" * 8 + b"\n" + chain(4, 60, b"L C C C C\n")
 NAMED_CHAIN = b"1 0 0 0 255\n" + chain(2, 60, b"L 0 0 0 C\n")
 
 DEEP_SQUARES = [
+    accepted("each form of a line of macrocell", EACH_NODE_LINE, LIFE + b"#G 7\n$$$$....*$$$$\n"),
+    accepted("a macrocell file of a blank plane", b"[M2]\n$\n" + chain(4, 60, b"L C C C C\n"), LIFE),
+    accepted("a cell at each corner of the plane, as macrocell", [corners], CORNERS_TEXT),
+    accepted("a row of 2^60 cells, as macrocell", b"[M2]\n********\n" + chain(4, 59, b"L C C 0 0\n") + b"60 0 0 57 57\n", WIDE_ROW_TEXT),
+    accepted("255 rows of 2^60 cells, as macrocell", [lambda: wide_rows_text(range(1, 256))], [lambda: wide_rows_text(range(1, 256))]),
     accepted("a chain of 60 levels", CHAIN, CHAIN.replace(b"[M2]\n*$\n", LIFE + b"*$$$$$$$$\n")),
     # Each square has its quarters four times over: 2^120 cells in 58 lines.
     accepted("the whole plane", b"[M2]\n" + PLANE, LIFE + PLANE),
@@ -530,7 +550,7 @@ def failing(name, words, error, **more):
 TO_FULL = 'exec "$@" > /dev/full'
 CLOSED = 'exec "$@" >&-'
 NO_SOURCE = 'exec "$@" <&-'
-UNREADABLE = 'exec "$@" 0> /dev/null'  # a second file would take the place of a closed standard input
+UNREADABLE = 'exec "$@" 0> /dev/null'
 AS_NOBODY = 'exec setpriv --reuid=65534 --regid=65534 --clear-groups --no-new-privs "$@"' if os.getuid() == 0 else 'exec "$@"'
 
 DEVICES = [
@@ -627,7 +647,12 @@ EACH_JOB = ["same pair.rle pair.mc", "same pair.rle named.rle", "show pair.rle",
 SINKS = [
     *(failing(f"{words} to a full output", words, "WriteFault", by=TO_FULL) for words in EACH_JOB),
     *(failing(f"{words} with standard output closed", words, "WriteFault", by=CLOSED) for words in EACH_JOB),
-    failing("a comparison with a closed standard input", "same pair.rle -", "ReadFault", by=UNREADABLE),
+    failing("a comparison with a closed standard input", "same pair.rle -", "ReadFault", by=NO_SOURCE),
+    failing("a comparison with a closed standard input first", "same - pair.rle", "ReadFault", by=NO_SOURCE),
+    failing("a comparison with a standard input that can't be read", "same pair.rle -", "ReadFault", by=UNREADABLE),
+    failing("a comparison with all streams closed", "same pair.rle -", "", by='exec "$@" <&- >&- 2>&-'),
+    failing("a file with standard input and output closed", "canon pair.rle", "WriteFault", by='exec "$@" <&- >&-'),
+    told("a file with standard input closed", "canon pair.rle", PAIR_TEXT, by=NO_SOURCE),
     faulty("a refused comparison with a full standard error", "same empty bad.rle", "", by='exec "$@" 2> /dev/full'),
 ]
 

@@ -10,7 +10,7 @@ mod opening;
 use life_base::{Device, Fault, Kind};
 use life_cli::plans::{Plan, Usage};
 use life_cli::{Refusal, plan, status, tell, work};
-use opening::{Input, length, open};
+use opening::{Input, hold_closed_streams, length, open};
 use std::alloc::{AllocError, Global};
 use std::process::ExitCode;
 use std::{env, io};
@@ -108,6 +108,7 @@ fn run(rt: &HostRuntime, words: &[String]) -> u8 {
 }
 
 fn main(rt: HostRuntime) -> ExitCode {
+    let _held = hold_closed_streams(&rt);
     let words: io::Result<Vec<String>> = match env::args(&rt) {
         Ok(args) => args.collect(rt.alloc()).map_err(io::Error::from),
         Err(error) => Err(error),

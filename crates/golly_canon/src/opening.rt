@@ -7,7 +7,7 @@ use std::rt::Stdin;
 
 /// A file, or standard input.
 #[derive(Drop)]
-pub enum Input {
+pub(crate) enum Input {
     File(File),
     Standard(Stdin),
 }
@@ -21,8 +21,19 @@ impl Read for Input {
     }
 }
 
+/// Takes the numbers of the standard streams that a caller has closed, so that no file that is opened later gets one of them and is
+/// taken for it. They are given to a folder, of which nothing can be read and to which nothing can be written.
+pub(crate) fn hold_closed_streams(rt: &HostRuntime) -> [Option<File>; 3] {
+    [held(rt), held(rt), held(rt)]
+}
+
+/// A folder that is held open.
+fn held(rt: &HostRuntime) -> Option<File> {
+    File::open(rt, "/").ok()
+}
+
 /// Opens the file of that name. `-` is standard input.
-pub fn open(rt: &HostRuntime, name: &str) -> Result<Input> {
+pub(crate) fn open(rt: &HostRuntime, name: &str) -> Result<Input> {
     if name == "-" {
         return Ok(Input::Standard(rt.stdin()));
     }
@@ -30,7 +41,7 @@ pub fn open(rt: &HostRuntime, name: &str) -> Result<Input> {
 }
 
 /// About how many bytes an input has, where the system tells it: of a file its length, of what is no file 0.
-pub fn length(rt: &HostRuntime, input: &Input) -> u64 {
+pub(crate) fn length(rt: &HostRuntime, input: &Input) -> u64 {
     let metadata = match input {
         Input::File(file) => file.metadata(),
         Input::Standard(_) => fs::metadata(rt, "/dev/stdin"),

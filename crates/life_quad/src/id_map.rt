@@ -54,6 +54,7 @@ impl<T: Copy> IdMap<T> {
     // Sets the value of an Id. A refusal, by `Memory` alone, leaves each value as it was.
     pub(crate) fn set(&mut self, id: Id, value: T) -> Result<(), Kind>
         ensures only { (q : IdValue) → (value_of self.new.values.items self.new.absent q ≡ value_of self.old.values.items self.old.absent q) ⊎ ((q ≡ id) × (value_of self.new.values.items self.new.absent q ≡ value)) }
+        ensures set { OnOk result (value_of self.new.values.items self.new.absent id ≡ value) }
         ensures refusals { IfErr result (λ e. e ≡ Memory) }
     {
         make_room(&mut self.values, id.0, self.absent)?;

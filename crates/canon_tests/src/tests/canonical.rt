@@ -93,15 +93,14 @@ pub(super) fn chain(
 #[test]
 fn the_corner_of_the_plane_has_58_lines(rt: HostRuntime) {
     let alloc = rt.alloc();
-    let text = chain(
-        alloc,
-        b"[M2] (canonical 1)\n#R B3/S23\n*$$$$$$$$\n",
-        58,
-        false,
-        b"",
-    )
-    .expect(&rt, "memory");
+    let text = text_of_the_corner(alloc).expect(&rt, "memory");
     canonical(&rt, alloc, CORNER, &text);
+}
+
+/// The canonical text of a cell in the north-west corner of the plane.
+pub(super) fn text_of_the_corner(alloc: Global) -> Result<Vec<u8>, Kind> {
+    let front = b"[M2] (canonical 1)\n#R B3/S23\n*$$$$$$$$\n";
+    chain(alloc, front, 58, false, b"")
 }
 
 /// The canonical text of a whole row of the plane.

@@ -1,6 +1,6 @@
 //! Each limit of a store in turn: up to some limit a file is refused for want of room, and from there on it has its text.
 
-use super::canonical::chain;
+use super::canonical::{chain, text_of_the_corner};
 use super::{
     BLANK, BLANK_TEXT, CELL, CELL_TEXT, CORNER, FAR, GLIDER, GLIDER_TEXT, LEVELS, ONE, PAIR,
     PAIR_TEXT, REPEATS, THREE, THREE_OF_LIFE, TOWER, TURNED, TURNED_TEXT, TWO_RUNS, WIRES,
@@ -127,13 +127,6 @@ fn far_cells_take_room(rt: HostRuntime) {
 #[test]
 fn the_corner_takes_room(rt: HostRuntime) {
     let alloc = rt.alloc();
-    let text = chain(
-        alloc,
-        b"[M2] (canonical 1)\n#R B3/S23\n*$$$$$$$$\n",
-        58,
-        false,
-        b"",
-    )
-    .expect(&rt, "memory");
+    let text = text_of_the_corner(alloc).expect(&rt, "memory");
     takes_room(&rt, alloc, CORNER, &text);
 }
