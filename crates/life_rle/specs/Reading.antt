@@ -1,5 +1,5 @@
 -- What a reader keeps while it goes over the items of a line.
-use Rattle.std.specs.Prelude.{◌≡◌, ℕ, Bool, true, false, List, ◌++◌, Option, Some, None, ℤ}
+use Rattle.std.specs.Prelude.{◌≡◌, ℕ, Bool, true, false, ◌==◌, ◌||◌, List, ◌++◌, Option, Some, None, ℤ}
 use Rattle.life_base.specs.declared.kind.Kind.{Kind}
 use Rattle.life_base.specs.declared.rule.Rule.{Rule}
 use Rattle.life_rle.specs.declared.item.Item.{Item}
@@ -12,6 +12,10 @@ use Rattle.life_rle.specs.Plane.{is_coordinate}
 use Rattle.life_rle.specs.Pattern.{item_fault, first_fault}
 use Rattle.life_rle.specs.Runs.{runs_of}
 use Rattle.life_rle.specs.Cursor.{IsNear, moved_behind, placed_at}
+
+-- the bytes that most items end with: `b`, `o` and `$`
+abbrev pub is_short : ℕ → Bool
+is_short b = b == 98 || b == 111 || b == 36
 
 -- what was found in an item's place
 abbrev pub next_value : Found → Next

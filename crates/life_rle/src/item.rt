@@ -1,12 +1,12 @@
 //! The items of a line.
 
-ghost use Rattle.std.specs.Prelude.{◌≡◌, ℕ, List, true};
+ghost use Rattle.std.specs.Prelude.{◌≡◌, ◌∷◌, ℕ, List, true, IfSome, IsSome};
 ghost use Rattle.std.specs.Option.{option_map};
 ghost use Rattle.life_base.specs.Digits.{capped};
 ghost use Rattle.life_base.specs.Text.{is_digit_text as has_digits_alone, value_of};
 ghost use Rattle.life_rle.specs.States.{single_state, prefixed_state, state_at};
-ghost use Rattle.life_rle.specs.Items.{item_behind, counted, next_of};
-ghost use Rattle.life_rle.specs.Reading.{next_value};
+ghost use Rattle.life_rle.specs.Items.{Spelled, item_behind, counted, next_of};
+ghost use Rattle.life_rle.specs.Reading.{is_short, next_value};
 
 use crate::plane::MOST_COUNT;
 use life_base::{Kind, MAX_LEVEL, State, leading_number, trimmed_start};
@@ -94,8 +94,62 @@ fn counted_item(count: u64, bytes: &[u8]) -> Found<'_>
     item_behind(count, bytes)
 }
 
+/// The item with this count that one byte names, as most do: `b`, `o` or `$`.
+fn short_item(count: u64, byte: u8) -> Option<Item>
+    ensures item { (rest : List ℕ) → IfSome result (λ item. item_behind count (byte ∷ rest) ≡ Spelled item rest) }
+    ensures byte { IsSome result → is_short byte ≡ true }
+{
+    match byte {
+        b'b' => Some(Item::Cells { count, state: 0 }),
+        b'o' => Some(Item::Cells { count, state: 1 }),
+        b'$' => Some(Item::RowEnds { count }),
+        _ => None,
+    }
+}
+
+/// The item of one byte.
+fn single_item(byte: u8) -> Option<Item>
+    ensures { (rest : List ℕ) → IfSome result (λ item. next_of MAX_LEVEL (byte ∷ rest) ≡ Spelled item rest) }
+{
+    short_item(1, byte)
+}
+
+/// The item of a digit from 1 to 9 and one byte.
+fn digit_item(digit: u8, byte: u8) -> Option<Item>
+    ensures { (rest : List ℕ) → IfSome result (λ item. next_of MAX_LEVEL (digit ∷ byte ∷ rest) ≡ Spelled item rest) }
+{
+    if digit < b'1' || digit > b'9' {
+        return None;
+    }
+    short_item(u64::from(digit - b'0'), byte)
+}
+
+/// The item in front of the bytes, and what stands behind it, where it is one byte, or a digit and one byte.
+fn short_item_at(bytes: &[u8]) -> Option<(Item, &[u8])>
+    ensures { IfSome result (λ found. next_of MAX_LEVEL bytes.now ≡ Spelled found.0 found.1.now) }
+{
+    match bytes {
+        [] => None,
+        [byte] => Some((single_item(*byte)?, &[])),
+        [byte, next, ..] => match single_item(*byte) {
+            Some(item) => Some((item, &bytes[1..])),
+            None => Some((digit_item(*byte, *next)?, &bytes[2..])),
+        },
+    }
+}
+
 /// What stands in the next item's place.
 pub(crate) fn next_item(bytes: &[u8]) -> Found<'_>
+    ensures { next_value result ≡ next_of MAX_LEVEL bytes.now }
+{
+    match short_item_at(bytes) {
+        Some((item, rest)) => Found::Spelled(item, rest),
+        None => any_item(bytes),
+    }
+}
+
+/// The same of any item.
+fn any_item(bytes: &[u8]) -> Found<'_>
     ensures { next_value result ≡ next_of MAX_LEVEL bytes.now }
 {
     let text = trimmed_start(bytes);

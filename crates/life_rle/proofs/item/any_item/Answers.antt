@@ -7,7 +7,7 @@ use Rattle.life_base.proofs.Numbers.{not_zero}
 use Rattle.life_base.specs.Text.{is_digit_text}
 use Rattle.life_base.specs.declared.cell.TheConstants.{MAX_LEVEL}
 use Rattle.life_rle.specs.Items.{Mark, behind_digits, counted, front_digits, item_in}
-use Rattle.life_rle.proofs.item.next_item.Goals as goal
+use Rattle.life_rle.proofs.item.any_item.Goals as goal
 
 no_mark : (b : ℕ) → (b ≡ 33 → ⊥) → (b == 33) ≡ false
 no_mark b h = grind (arith, nat_tests)
