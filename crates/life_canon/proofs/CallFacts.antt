@@ -1,10 +1,13 @@
 -- Calls on files in a store: what one call said stands after the next, and the texts are of the pattern that was read.
-use Rattle.std.proofs.Common.{◌≡◌, ℕ, ◌<◌, ◌≤◌, true, List, [], ◌++◌, length, ap, sym, ◌∙◌, subst, arith, lit≤, lit<, ◌⊎◌, inl, inr}
+use Rattle.std.proofs.Common.{◌≡◌, ℕ, ◌<◌, ◌≤◌, ◌^◌, true, List, [], ◌++◌, length, ap, sym, ◌∙◌, subst, arith, lit≤, lit<, ◌⊎◌, inl, inr}
+use Rattle.std.specs.Prelude.{Result, Ok, Err, IfErr}
+use Rattle.life_base.specs.Refusal.{fault_of}
 use Rattle.life_base.specs.Text.{lines_of}
 use Rattle.life_base.specs.Tree.{depth, tree_cell}
 use Rattle.life_base.specs.declared.cell.Cell.{Cell}
 use Rattle.life_base.specs.declared.cell.TheConstants.{MAX_LEVEL}
 use Rattle.life_base.specs.declared.fault.Fault.{Fault}
+use Rattle.life_base.specs.declared.kind.Kind.TheVariants.{Memory, TooManyCells}
 use Rattle.life_mc.specs.Reading.{IsMacrocell}
 use Rattle.life_mc.specs.Writing.{mc_text}
 use Rattle.life_quad.specs.Cells.{IsCellList, population}
@@ -139,6 +142,14 @@ pub more-cells : (bytes : List ℕ) (store : Nodes) (pattern : Pattern) → IsRe
 more-cells bytes store pattern r most more =
     let list = root-cells bytes store pattern r in
     (list.0, record { universe = r.universe; reads = r.reads; are = cells-read bytes store pattern r list.0 list.1 }, subst (λ n. most < n) (sym list.2) more)
+
+-- what refuses the text of a pattern in RLE refuses its file
+pub rle-fault : {X : Type 0} (bytes : List ℕ) (store : Nodes) (pattern : Pattern) → IsRead MAX_LEVEL bytes store pattern → (r : Result X Fault)
+    → IfErr r (λ fault. (fault ≡ fault_of Memory) ⊎ ((fault ≡ fault_of TooManyCells) × ((b : List ℕ) → IsRead MAX_LEVEL b store pattern → HasMoreCells MAX_LEVEL b (2 ^ 20))))
+    → IfErr r (λ fault. RefusesIn MAX_LEVEL bytes store fault ⊎ ((fault ≡ fault_of TooManyCells) × HasMoreCells MAX_LEVEL bytes (2 ^ 20)))
+rle-fault bytes store pattern read (Ok x) h = tt
+rle-fault bytes store pattern read (Err fault) (inl memory) = inl (inr (inl memory))
+rle-fault bytes store pattern read (Err fault) (inr many) = inr (many.0, many.1 bytes read)
 
 -- ---- two files
 

@@ -60,6 +60,10 @@ pub record IsRead (top : ℕ) (bytes : List ℕ) (store : Nodes) (pattern : Patt
   pub reads : Reads top bytes universe
   pub is : IsPatternOf top (IsKnown store) (content store) universe pattern
 
+-- the pattern in the store is that of a file
+abbrev pub IsOfFile : ℕ → Nodes → Pattern → Type 0
+IsOfFile top store pattern = (bytes : List ℕ) × IsRead top bytes store pattern
+
 -- the pattern's root is the least square with its cells, and its states fit the rule
 pub record IsTrimmed (store : Nodes) (pattern : Pattern) : Type 0 where
   pub known : IsKnown store pattern.root

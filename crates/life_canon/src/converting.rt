@@ -1,13 +1,14 @@
 //! A file of either format as a text of one form.
 
-ghost use Rattle.std.specs.Prelude.{◌≡◌, ◌⊎◌, ◌^◌, IfOk, IfErr};
+ghost use Rattle.std.specs.Prelude.{◌≡◌, ◌⊎◌, ◌^◌, List, ℕ, IfOk, IfErr};
 ghost use Rattle.life_base.specs.declared.kind.Kind.TheVariants.{Memory, TooManyCells};
 ghost use Rattle.life_base.specs.Refusal.{fault_of};
 ghost use Rattle.life_canon.specs.Files.{Same};
 ghost use Rattle.life_canon.specs.Least.{IsLeastText};
-ghost use Rattle.life_canon.specs.Store.{Keeps, RefusesIn, IsTrimmed, universe_in};
+ghost use Rattle.life_canon.specs.Store.{Keeps, RefusesIn, IsOfFile, IsRead, IsTrimmed, universe_in};
 ghost use Rattle.life_canon.specs.Texts.{IsCanonical, IsRleOf, HasMoreCells};
 
+use crate::pattern::Pattern;
 use crate::reading::read;
 use crate::writing::text_of;
 use life_base::{Fault, MAX_LEVEL};
@@ -33,6 +34,22 @@ pub fn canon(alloc: Global, store: &mut Shared, bytes: &[u8]) -> Result<Vec<u8>,
     text_of(alloc, store, &pattern)
 }
 
+/// The text in extended RLE of a pattern that was read into the store: the one that `to_rle` answers for its file.
+///
+/// # Errors
+///
+/// `TooManyCells` where more than 2^20 cells aren't 0, and `Memory`, at no line.
+pub fn rle_of(alloc: Global, store: &Shared, pattern: &Pattern) -> Result<Vec<u8>, Fault>
+    requires { IsOfFile MAX_LEVEL store.now pattern.now }
+    ensures text { IfOk result (λ text. (bytes : List ℕ) → IsRead MAX_LEVEL bytes store.now pattern.now → IsRleOf MAX_LEVEL (2 ^ 20) bytes text.items) }
+    ensures same { IfOk result (λ text. (bytes : List ℕ) → IsRead MAX_LEVEL bytes store.now pattern.now → Same MAX_LEVEL bytes text.items) }
+    ensures fault { IfErr result (λ fault. (fault ≡ fault_of Memory)
+        ⊎ ((fault ≡ fault_of TooManyCells) × ((bytes : List ℕ) → IsRead MAX_LEVEL bytes store.now pattern.now → HasMoreCells MAX_LEVEL bytes (2 ^ 20)))) }
+{
+    let list = cells(alloc, store, pattern.root, MOST_CELLS)?;
+    write_rle(alloc, &pattern.rule, pattern.generation, &list)
+}
+
 /// The text in extended RLE of the pattern of a file of either format.
 ///
 /// # Errors
@@ -45,6 +62,5 @@ pub fn to_rle(alloc: Global, store: &mut Shared, bytes: &[u8]) -> Result<Vec<u8>
     ensures keeps { Keeps store.old store.new }
 {
     let pattern = read(alloc, store, bytes)?;
-    let list = cells(alloc, store, pattern.root, MOST_CELLS)?;
-    write_rle(alloc, &pattern.rule, pattern.generation, &list)
+    rle_of(alloc, store, &pattern)
 }

@@ -19,11 +19,11 @@ mod showing;
 mod writing;
 
 pub use comparing::{are_same, same};
-pub use converting::{canon, to_rle};
+pub use converting::{canon, rle_of, to_rle};
 pub use numbering::number;
 pub use pattern::Pattern;
 pub use reader::Reader;
 pub use reading::read;
-pub use running::{run_canon, run_canon_within};
-pub use showing::show;
+pub use running::{read_from, run_canon, run_canon_within};
+pub use showing::{five_lines_of, show};
 pub use writing::text_of;

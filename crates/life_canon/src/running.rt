@@ -87,6 +87,29 @@ fn read_source<R: Source>(
     }
 }
 
+/// Makes the pattern of a file of either format in the store, as `read` does of its bytes, and holds none but those of a line: it reads to
+/// the end of the input, at most 2^30 bytes and a piece, and keeps no more than 2^20 bytes of them. Of an input whose length is known it
+/// makes room for the squares beforehand.
+///
+/// # Errors
+///
+/// `ReadFault` where a read fails and `InputTooLong` where more than 2^30 bytes come, also behind a refused line; the fault of the file,
+/// once all of it was read; `Full` where the store holds its limit, and `Memory`, at once.
+pub fn read_from<R: Source>(
+    alloc: Global,
+    store: &mut Shared,
+    source: &mut R,
+) -> Result<Pattern, Fault>
+    requires { R.failures source.old ≡ 0 }
+    ensures pattern { IfOk result (λ pattern. HasRead MAX_LEVEL (2 ^ 30) store.new (record { before = R.remaining source.old; after = R.remaining source.new; failures = R.failures source.new }) pattern) }
+    ensures works { OnOk result (R.failures source.new ≡ 0) }
+    ensures fault { IfErr result (λ fault. ReadRefuses MAX_LEVEL (2 ^ 30) store.new (record { before = R.remaining source.old; after = R.remaining source.new; failures = R.failures source.new }) fault) }
+    ensures told { R.failures source.new ≡ 1 → IsErrAnd result (λ fault. fault.kind ≡ Kind.ReadFault) }
+    ensures keeps { Keeps store.old store.new }
+{
+    read_source(alloc, store, source, LONGEST_INPUT)
+}
+
 /// Reads to the end of the input, then writes the canonical text of its pattern and flushes. It reads at most `most` bytes and a
 /// piece, keeps no more than 2^20 bytes of them, and writes nothing before all is read and accepted.
 ///

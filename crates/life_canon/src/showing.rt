@@ -2,16 +2,17 @@
 
 ghost use Rattle.std.specs.Prelude.{◌≡◌, ◌++◌, ◌≤◌, ◌<◌, ◌+◌, ◌^◌, ◌≤ℤ◌, ◌-ℤ◌, ◌+ℤ◌, ◌<ℤ◌, pos, neg_ℤ, codes, decimal, IfOk, IfErr, IfSome, OnOk, MatchOption, length};
 ghost use Rattle.std.specs.Fmt.{signed_decimal};
+ghost use Rattle.life_base.specs.Refusal.{fault_of};
 ghost use Rattle.life_base.specs.Rules.{rule_text};
 ghost use Rattle.life_base.specs.declared.kind.Kind.TheVariants.{Memory};
 ghost use Rattle.life_base.specs.Tree.{depth, is_blank_tree};
 ghost use Rattle.life_quad.specs.Cells.{population as population_of, IsLeastBox};
 ghost use Rattle.life_quad.specs.declared.extent.Bounds.{Bounds as BoundsValue};
-ghost use Rattle.std.specs.Prelude.{Option, true};
+ghost use Rattle.std.specs.Prelude.{Option, List, ℕ, true};
 ghost use Rattle.life_rle.specs.Written.{span};
 ghost use Rattle.life_mc.specs.Cells.{node_lines};
 ghost use Rattle.life_canon.specs.Listing.{canonical_file};
-ghost use Rattle.life_canon.specs.Store.{Keeps, RefusesIn, IsTrimmed, universe_in, content};
+ghost use Rattle.life_canon.specs.Store.{Keeps, RefusesIn, IsOfFile, IsRead, IsTrimmed, universe_in, content};
 ghost use Rattle.life_canon.specs.Texts.{IsShown, IsOrdered, AreOrdered, box_text, show_text};
 
 use crate::listing::listed;
@@ -116,6 +117,22 @@ fn five_lines(alloc: Global, store: &Shared, pattern: &Pattern) -> Result<Vec<u8
     Ok(out)
 }
 
+/// Five lines on a pattern that was read into the store: those that `show` answers for its file.
+///
+/// # Errors
+///
+/// `Memory`, at no line.
+pub fn five_lines_of(alloc: Global, store: &Shared, pattern: &Pattern) -> Result<Vec<u8>, Fault>
+    requires { IsOfFile MAX_LEVEL store.now pattern.now }
+    ensures text { IfOk result (λ text. (bytes : List ℕ) → IsRead MAX_LEVEL bytes store.now pattern.now → IsShown MAX_LEVEL bytes text.items) }
+    ensures memory { IfErr result (λ fault. fault ≡ fault_of Memory) }
+{
+    match five_lines(alloc, store, pattern) {
+        Ok(text) => Ok(text),
+        Err(kind) => Err(Fault::of(kind)),
+    }
+}
+
 /// Five lines on the pattern of a file of either format: its rule, its generation, how many cells aren't 0, their least box, and how
 /// many node lines its canonical file has.
 ///
@@ -128,8 +145,5 @@ pub fn show(alloc: Global, store: &mut Shared, bytes: &[u8]) -> Result<Vec<u8>, 
     ensures keeps { Keeps store.old store.new }
 {
     let pattern = read(alloc, store, bytes)?;
-    match five_lines(alloc, store, &pattern) {
-        Ok(text) => Ok(text),
-        Err(kind) => Err(Fault::of(kind)),
-    }
+    five_lines_of(alloc, store, &pattern)
 }

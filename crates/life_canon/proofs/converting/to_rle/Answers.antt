@@ -1,43 +1,18 @@
-use Rattle.std.proofs.Common.{◌≡◌, ◌^◌, true, ap, inl, inr}
-use Rattle.std.proofs.lemmas.Result.{IfOk-weaker, err_from_is_err_and}
-use Rattle.life_base.proofs.RoundTrip.{rules_read_back}
-use Rattle.life_base.specs.Refusal.{fault_of}
-use Rattle.life_base.specs.declared.cell.TheConstants.{MAX_LEVEL}
-use Rattle.life_rle.proofs.StatesRead.{states-read}
-use Rattle.life_rle.proofs.TextBack.{text-back}
-use Rattle.life_rle.specs.Sorted.{are_sorted_cells}
-use Rattle.life_rle.specs.Written.{rle_text}
-use Rattle.life_canon.proofs.CallFacts.{root-deep, cells-sorted, is-rle, rle-same, more-cells}
+use Rattle.std.proofs.lemmas.Result.{IfOk-weaker}
+use Rattle.life_canon.proofs.CallFacts.{rle-fault}
 use Rattle.life_canon.proofs.converting.to_rle.Goals as goal
 
-pub cells-requires-clause-high : goal.cells-requires-clause-high
-cells-requires-clause-high c = root-deep c.args.bytes.now _ _ c.in_ok-pattern.ensures.pattern
-
-pub write_rle-requires : goal.write_rle-requires
-write_rle-requires c =
-    let e : are_sorted_cells MAX_LEVEL c.in_ok-pattern.pattern.rule c.in_ok-list.list.items ≡ true = cells-sorted c.args.bytes.now _ _ c.in_ok-pattern.ensures.pattern c.in_ok-list.list.items c.in_ok-list.ensures.cells in
-    cc
+pub rle_of-requires : goal.rle_of-requires
+rle_of-requires c = (c.args.bytes.now, c.in_ok-pattern.ensures.pattern)
 
 pub returns-clause-text : goal.returns-clause-text
-returns-clause-text c =
-    IfOk-weaker c.write_rle.result _ _
-    (λ text e.
-    let f : text.items ≡ rle_text c.in_ok-pattern.pattern.rule c.in_ok-pattern.pattern.generation c.in_ok-list.list.items = cc in
-    is-rle c.args.bytes.now _ _ c.in_ok-pattern.ensures.pattern c.in_ok-list.list.items c.in_ok-list.ensures.cells (2 ^ 20) c.in_ok-list.ensures.few text.items f)
-    c.write_rle.ensures.text
+returns-clause-text c = IfOk-weaker c.rle_of.result _ _ (λ text h. h c.args.bytes.now c.in_ok-pattern.ensures.pattern) c.rle_of.ensures.text
 
 pub returns-clause-same : goal.returns-clause-same
-returns-clause-same c =
-    IfOk-weaker c.write_rle.result _ _
-    (λ text e.
-    let f : text.items ≡ rle_text c.in_ok-pattern.pattern.rule c.in_ok-pattern.pattern.generation c.in_ok-list.list.items = cc in
-    rle-same (text-back states-read rules_read_back) c.args.bytes.now _ _ c.in_ok-pattern.ensures.pattern c.in_ok-list.list.items c.in_ok-list.ensures.cells text.items f)
-    c.write_rle.ensures.text
+returns-clause-same c = IfOk-weaker c.rle_of.result _ _ (λ text h. h c.args.bytes.now c.in_ok-pattern.ensures.pattern) c.rle_of.ensures.same
 
-pub returns-in_err-list-clause-fault : goal.returns-in_err-list-clause-fault
-returns-in_err-list-clause-fault c =
-    let p = err_from_is_err_and c.from_residual-in_err-list.result c.from_residual-in_err-list.ensures.1 in
-    rw (p.1, p.2) (elim c.in_err-list.ensures.refusals [
-      | inl e ↦ inr (ap fault_of e, more-cells c.args.bytes.now _ _ c.in_ok-pattern.ensures.pattern (2 ^ 20) (c.in_err-list.ensures.many e))
-      | inr e ↦ inl (inr (inl (ap fault_of e)))
-    ])
+pub returns-clause-fault : goal.returns-clause-fault
+returns-clause-fault c = rle-fault c.args.bytes.now _ _ c.in_ok-pattern.ensures.pattern c.rle_of.result c.rle_of.ensures.fault
+
+pub returns-clause-keeps : goal.returns-clause-keeps
+returns-clause-keeps c = c.in_ok-pattern.ensures.keeps

@@ -1,16 +1,15 @@
-use Rattle.std.proofs.Common.{refl}
-use Rattle.life_canon.proofs.CallFacts.{root-deep}
-use Rattle.life_canon.proofs.Fits.{read-fits}
-use Rattle.life_canon.proofs.ShowFacts.{is-shown}
+use Rattle.std.proofs.Common.{inl, inr}
+use Rattle.std.proofs.lemmas.Result.{IfOk-weaker, IfErr-weaker}
 use Rattle.life_canon.proofs.showing.show.Goals as goal
 
-pub five_lines-requires-clause-trimmed : goal.five_lines-requires-clause-trimmed
-five_lines-requires-clause-trimmed c = read-fits c.args.bytes.now _ _ c.in_ok-pattern.ensures.pattern
+pub five_lines_of-requires : goal.five_lines_of-requires
+five_lines_of-requires c = (c.args.bytes.now, c.in_ok-pattern.ensures.pattern)
 
-pub five_lines-requires-clause-level : goal.five_lines-requires-clause-level
-five_lines-requires-clause-level c = root-deep c.args.bytes.now _ _ c.in_ok-pattern.ensures.pattern
+pub returns-clause-text : goal.returns-clause-text
+returns-clause-text c = IfOk-weaker c.five_lines_of.result _ _ (λ text h. h c.args.bytes.now c.in_ok-pattern.ensures.pattern) c.five_lines_of.ensures.text
 
-pub returns-in-Ok-clause-text : goal.returns-in-Ok-clause-text
-returns-in-Ok-clause-text c =
-    let t = c.in-Ok.ensures.text in
-    is-shown c.args.bytes.now _ _ c.in_ok-pattern.ensures.pattern t.0 t.1 _ _ t.2 refl
+pub returns-clause-fault : goal.returns-clause-fault
+returns-clause-fault c = IfErr-weaker c.five_lines_of.result _ _ (λ fault e. inr (inl e)) c.five_lines_of.ensures.memory
+
+pub returns-clause-keeps : goal.returns-clause-keeps
+returns-clause-keeps c = c.in_ok-pattern.ensures.keeps
