@@ -1,6 +1,6 @@
 -- Steps: what the law of a rule answers for the square of a pattern is the next generation of what its file says.
 use Rattle.std.proofs.Common.{◌≡◌, ◌≢◌, ℕ, ◌+◌, ◌-◌, ◌^◌, ◌<◌, ◌≤◌, Bool, true, false, ◌⊎◌, inl, inr, ℤ, List, length, Option, Some, refl, sym, ◌∙◌, ap, subst, arith}
-use Rattle.std.specs.Prelude.{Contains, drop, slice_index, if◌then◌else◌}
+use Rattle.std.specs.Prelude.{Contains, drop, slice_index, if◌then◌else◌, Result, Ok, Err, IfErr}
 use Rattle.life_base.specs.Refusal.{fault_of}
 use Rattle.life_base.specs.Rules.{IsRule}
 use Rattle.life_base.specs.Sets.{DigitSets}
@@ -28,8 +28,9 @@ use Rattle.life_sweep.specs.Sweep.{states_at, LifeAnswers, TableAnswers}
 use Rattle.life_canon.specs.Files.{Reads, Refuses, as_macrocell}
 use Rattle.life_canon.specs.Laws.{FilesAreOnPlane, TextsAreFiles, TextsTellUniverses}
 use Rattle.life_canon.specs.Listing.{canonical_file, canon_text}
-use Rattle.life_canon.specs.Store.{IsKnown, content, Keeps, IsTrimmed, IsWant, universe_in}
+use Rattle.life_canon.specs.Store.{IsKnown, content, Keeps, IsRead, IsTrimmed, IsWant, universe_in}
 use Rattle.life_canon.specs.Universe.{Universe, IsSame, IsOnPlane, least_level, square_universe, macrocell_universe}
+use Rattle.life_canon.specs.declared.pattern.Pattern.{Pattern}
 use Rattle.life_step.specs.Refusals.{TableRefusal, LifeRefusal, RuleRefusal}
 use Rattle.life_step.specs.Stepped.{IsLifeStep, IsTableStep, IsTextOf, Stepped}
 use Rattle.life_step.proofs.RefusalFacts.{refusal-at, life-refusal, blank-outside}
@@ -49,13 +50,19 @@ pub keeps-of : (old new : Nodes) → ((id : Id) → IsKnown old id → IsKnown n
 keeps-of old new contents stored limit = record { contents = contents; stored = stored; limit = limit }
 
 -- want of room or of memory, or a fault of the step
-pub refused-by : (bytes : List ℕ) (store : Nodes) (u : Universe) (fault : Fault) (P : Type 0) (Q : Universe → Type 0) → Reads MAX_LEVEL bytes u → (P → Q u)
-    → (fault ≡ fault_of kinds.Full → length (held store) ≡ store.limit)
-    → (fault ≡ fault_of kinds.Full) ⊎ ((fault ≡ fault_of kinds.Memory) ⊎ P)
-    → Refuses MAX_LEVEL bytes fault ⊎ (IsWant store fault ⊎ ((v : Universe) × Reads MAX_LEVEL bytes v × Q v))
-refused-by bytes store u fault P Q reads f full (inl e) = inr (inl (inr (e, full e)))
-refused-by bytes store u fault P Q reads f full (inr (inl e)) = inr (inl (inl e))
-refused-by bytes store u fault P Q reads f full (inr (inr p)) = inr (inr (u, reads, f p))
+pub refused-by : (store : Nodes) (fault : Fault) (P Q : Type 0) → (P → Q) → (fault ≡ fault_of kinds.Full → length (held store) ≡ store.limit)
+    → (fault ≡ fault_of kinds.Full) ⊎ ((fault ≡ fault_of kinds.Memory) ⊎ P) → IsWant store fault ⊎ Q
+refused-by store fault P Q f full (inl e) = inl (inr (e, full e))
+refused-by store fault P Q f full (inr (inl e)) = inl (inl e)
+refused-by store fault P Q f full (inr (inr p)) = inr (f p)
+
+-- what refuses the step of a pattern refuses that of its file
+pub step-refused : {X : Type 0} (bytes : List ℕ) (old new : Nodes) (pattern : Pattern) (Q : Fault → Universe → Type 0) → IsRead MAX_LEVEL bytes old pattern → (r : Result X Fault)
+    → IfErr r (λ fault. IsWant new fault ⊎ ((b : List ℕ) → IsRead MAX_LEVEL b old pattern → (u : Universe) × Reads MAX_LEVEL b u × Q fault u))
+    → IfErr r (λ fault. Refuses MAX_LEVEL bytes fault ⊎ (IsWant new fault ⊎ ((u : Universe) × Reads MAX_LEVEL bytes u × Q fault u)))
+step-refused bytes old new pattern Q read (Ok x) h = tt
+step-refused bytes old new pattern Q read (Err fault) (inl want) = inr (inl want)
+step-refused bytes old new pattern Q read (Err fault) (inr step) = inr (inr (step bytes read))
 
 -- a rule that is none of sets is refused without a table
 pub needs-table : (u : Universe) (rule : Rule) (refusal : Option Fault) → rule ≡ u.rule → ((sets : DigitSets) → rule ≡ Life sets → ⊥) → refusal ≡ Some (fault_of kinds.NeedsTable)

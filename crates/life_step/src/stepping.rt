@@ -1,12 +1,12 @@
 //! The steps of the pattern in a file.
 
-ghost use Rattle.std.specs.Prelude.{◌≡◌, ◌≢◌, ◌⊎◌, ◌+◌, ◌^◌, ◌-◌, ◌<◌, ◌≤◌, ◌↔◌, ℤ, Some, None, IfOk, IfErr, OnOk, IsTrue};
+ghost use Rattle.std.specs.Prelude.{◌≡◌, ◌≢◌, ◌⊎◌, ◌+◌, ◌^◌, ◌-◌, ◌<◌, ◌≤◌, ◌↔◌, ℕ, ℤ, List, Some, None, IfOk, IfErr, OnOk, IsTrue};
 ghost use Rattle.life_base.specs.Refusal.{fault_of};
 ghost use Rattle.life_base.specs.Rules.{IsRule};
 ghost use Rattle.life_base.specs.Tree.{depth, tree_cell};
 ghost use Rattle.life_base.specs.declared.rule.Rule.TheVariants.{Named as NamedRule};
 ghost use Rattle.life_canon.specs.Files.{Reads, Refuses};
-ghost use Rattle.life_canon.specs.Store.{Keeps, IsKnown, IsWant, content};
+ghost use Rattle.life_canon.specs.Store.{Keeps, IsKnown, IsOfFile, IsRead, IsWant, content};
 ghost use Rattle.life_canon.specs.Universe.{Universe, least_level as least_level_of, square_universe};
 ghost use Rattle.life_mc.specs.Macrocell.{largest_state};
 ghost use Rattle.life_step.specs.Refusals.{LifeRefusal, TableRefusal};
@@ -86,6 +86,32 @@ fn text_of(
     life_canon::text_of(alloc, store, &pattern)
 }
 
+/// The canonical text of the next generation of a pattern that was read into the store, under its B/S rule.
+///
+/// # Errors
+///
+/// Those of `step_life`, but for the file's fault. They name no line.
+pub fn next_by_rule(
+    alloc: Global,
+    store: &mut Shared,
+    pattern: Pattern,
+) -> Result<Vec<u8>, StepFault>
+    requires { IsOfFile MAX_LEVEL store.old pattern }
+    ensures stepped { IfOk result (λ text. (bytes : List ℕ) → IsRead MAX_LEVEL bytes store.old pattern → (u : Universe) × Reads MAX_LEVEL bytes u × LifeRefusal MAX_LEVEL u None × Stepped MAX_LEVEL IsLifeStep text.items u) }
+    ensures refused { IfErr result (λ fault. IsWant store.new fault ⊎ ((bytes : List ℕ) → IsRead MAX_LEVEL bytes store.old pattern → (u : Universe) × Reads MAX_LEVEL bytes u × LifeRefusal MAX_LEVEL u (Some fault))) }
+    ensures keeps { Keeps store.old store.new }
+{
+    let Rule::Life(rule) = &pattern.rule else {
+        return Err(Fault::of(Kind::NeedsTable));
+    };
+    let generation = generation_after(pattern.generation)?;
+    files_are_on_plane();
+    patterns_fit();
+    life_answers_at();
+    let square = next_life_generation(alloc, store, rule, pattern.root, MOST_CELLS)?;
+    text_of(alloc, store, pattern.rule, generation, square)
+}
+
 /// The canonical text of the next generation of the pattern of a file, under its B/S rule.
 ///
 /// # Errors
@@ -99,14 +125,35 @@ pub fn step_life(alloc: Global, store: &mut Shared, bytes: &[u8]) -> Result<Vec<
     ensures keeps { Keeps store.old store.new }
 {
     let pattern = read(alloc, store, bytes)?;
-    let Rule::Life(rule) = &pattern.rule else {
-        return Err(Fault::of(Kind::NeedsTable));
-    };
+    next_by_rule(alloc, store, pattern)
+}
+
+/// The canonical text of the next generation of a pattern that was read into the store, by the table of its rule.
+///
+/// # Errors
+///
+/// Those of `step_table`, but for the file's fault. All but `Ambiguous` name no line.
+pub fn next_by_table(
+    alloc: Global,
+    store: &mut Shared,
+    pattern: Pattern,
+    table: &Table,
+) -> Result<Vec<u8>, StepFault>
+    requires { IsOfFile MAX_LEVEL store.old pattern }
+    ensures stepped { IfOk result (λ text. (bytes : List ℕ) → IsRead MAX_LEVEL bytes store.old pattern → (u : Universe) × Reads MAX_LEVEL bytes u × TableRefusal MAX_LEVEL table.now u None × Stepped MAX_LEVEL (IsTableStep table.now) text.items u) }
+    ensures refused { IfErr result (λ fault. IsWant store.new fault ⊎ ((bytes : List ℕ) → IsRead MAX_LEVEL bytes store.old pattern → (u : Universe) × Reads MAX_LEVEL bytes u × TableRefusal MAX_LEVEL table.now u (Some fault))) }
+    ensures keeps { Keeps store.old store.new }
+{
+    if !is_rule_of(table, &pattern.rule) {
+        return Err(Fault::of(Kind::RuleMismatch));
+    }
     let generation = generation_after(pattern.generation)?;
     files_are_on_plane();
     patterns_fit();
-    life_answers_at();
-    let square = next_life_generation(alloc, store, rule, pattern.root, MOST_CELLS)?;
+    table_answers_at();
+    one_answer();
+    let mut by_table = ByTable::new(alloc, table)?;
+    let square = next_generation(alloc, store, &mut by_table, pattern.root, MOST_CELLS)?;
     text_of(alloc, store, pattern.rule, generation, square)
 }
 
@@ -130,15 +177,5 @@ pub fn step_table(
     ensures keeps { Keeps store.old store.new }
 {
     let pattern = read(alloc, store, bytes)?;
-    if !is_rule_of(table, &pattern.rule) {
-        return Err(Fault::of(Kind::RuleMismatch));
-    }
-    let generation = generation_after(pattern.generation)?;
-    files_are_on_plane();
-    patterns_fit();
-    table_answers_at();
-    one_answer();
-    let mut by_table = ByTable::new(alloc, table)?;
-    let square = next_generation(alloc, store, &mut by_table, pattern.root, MOST_CELLS)?;
-    text_of(alloc, store, pattern.rule, generation, square)
+    next_by_table(alloc, store, pattern, table)
 }

@@ -1,110 +1,19 @@
-use Rattle.std.proofs.Common.{◌≡◌, ◌≢◌, arith, ap, sym, subst, ◌∙◌, ◌+◌, ◌-◌, ◌≤◌, ◌^◌, ℤ, Some, None, Err, inr}
-use Rattle.std.proofs.lemmas.Result.{IfOk-weaker, err_from_is_err_and}
-use Rattle.life_base.specs.Tree.{depth, tree_cell}
-use Rattle.life_base.specs.declared.rule.Rule.TheVariants.{Life}
+use Rattle.std.proofs.lemmas.Result.{IfOk-weaker}
 use Rattle.life_base.specs.declared.cell.TheConstants.{MAX_LEVEL}
-use Rattle.life_mc.specs.Macrocell.{largest_state}
-use Rattle.life_table.specs.declared.table.Neighborhood.TheVariants.{Moore}
-use Rattle.life_quad.proofs.LawLemmas.{known_squares_are_full}
-use Rattle.life_sweep.specs.Around.{eight_around}
-use Rattle.life_sweep.specs.Generation.{next_life}
-use Rattle.life_sweep.specs.Refused.{GenerationRefusal}
-use Rattle.life_sweep.specs.Sweep.{LifeAnswers}
-use Rattle.life_canon.specs.Store.{content}
-use Rattle.life_canon.specs.Universe.{least_level}
 use Rattle.life_step.specs.Refusals.{LifeRefusal}
-use Rattle.life_step.proofs.StepFacts.{keeps-all, keeps-of, refused-by, root-high, next-small, same-next, needs-table, life-refused, life-stepped}
+use Rattle.std.specs.Prelude.{Some}
+use Rattle.life_step.proofs.StepFacts.{keeps-all, step-refused}
 use Rattle.life_step.proofs.stepping.step_life.Goals as goal
 
-pub returns-in_default-clause-refused : goal.returns-in_default-clause-refused
-returns-in_default-clause-refused c =
-    let r = c.in_ok-pattern.ensures.pattern in
-    inr (inr (r.universe, r.reads, needs-table r.universe c.in_ok-pattern.pattern.rule _ r.is.rule c.in_default.not-Life (ap Some c.of.ensures)))
-
-pub next_life_generation-requires-clause-high : goal.next_life_generation-requires-clause-high
-next_life_generation-requires-clause-high c =
-    let fits = c.patterns_fit.ensures _ _ _ c.in_ok-pattern.ensures.pattern in
-    let least = subst (λ q. least_level q ≤ depth (content c.read.new.store c.in_ok-pattern.pattern.root)) c.in-Life.is fits.0.level in
-    omega (arith, least)
-
-pub next_life_generation-requires-clause-states : goal.next_life_generation-requires-clause-states
-next_life_generation-requires-clause-states c =
-    let r = c.in_ok-pattern.ensures.pattern in
-    let u = r.universe in
-    let fits = c.patterns_fit.ensures _ _ _ r in
-    let plane = c.files_are_on_plane.ensures c.args.bytes.now u r.reads in
-    let is = fits.1.rule ∙ c.in-Life.is in
-    λ x y.
-    let small = subst (λ q. u.cell x y ≤ largest_state q) is (plane.states x y) in
-    let same = fits.1.cells x y in
-    omega (arith, small, same)
-
-pub returns-in_err-square-clause-refused : goal.returns-in_err-square-clause-refused
-returns-in_err-square-clause-refused c =
-    let store = c.read.new.store in
-    let root = c.in_ok-pattern.pattern.root in
-    let t = content store root in
-    let r = c.in_ok-pattern.ensures.pattern in
-    let u = r.universe in
-    let fits = c.patterns_fit.ensures _ _ _ r in
-    let plane = c.files_are_on_plane.ensures c.args.bytes.now u r.reads in
-    let full = (known_squares_are_full store root fits.0.known.0).0 in
-    let high = root-high c.in_ok-pattern.pattern.rule _ fits.0.level in
-    let sets = c.in-Life.rule in
-    let is : u.rule ≡ Life sets = fits.1.rule ∙ c.in-Life.is in
-    let some : u.generation ≢ 2 ^ 64 - 1 = λ e. c.in_ok-generation.ensures.some (sym fits.1.generation ∙ e) in
-    let small : (x y : ℤ) → u.cell x y ≤ 1 = λ x y. subst (λ q. u.cell x y ≤ largest_state q) is (plane.states x y) in
-    let fault = c.in_err-square.field-0.0 in
-    let p = err_from_is_err_and c.from_residual-in_err-square.result c.from_residual-in_err-square.ensures.1 in
-    rw (p.1, p.2)
-    (refused-by c.args.bytes.now c.next_life_generation.new.squares u fault (GenerationRefusal (LifeAnswers Moore sets) 2 (2 ^ 20) t (Some fault)) (λ v. LifeRefusal MAX_LEVEL v (Some fault)) r.reads
-    (life-refused c.life_answers_at.ensures sets u t fits.1.cells is some small full high (Some fault))
-    (λ e. c.in_err-square.ensures.full (ap Err e)) c.in_err-square.ensures.refusals)
-
-pub returns-in_err-square-clause-keeps : goal.returns-in_err-square-clause-keeps
-returns-in_err-square-clause-keeps c =
-    keeps-all _ _ _ c.in_ok-pattern.ensures.keeps (keeps-of _ _ c.in_err-square.ensures.keeps c.in_err-square.ensures.stays c.in_err-square.ensures.most)
-
-pub text_of-requires-clause-states : goal.text_of-requires-clause-states
-text_of-requires-clause-states c =
-    let t = content c.read.new.store c.in_ok-pattern.pattern.root in
-    let next = content c.next_life_generation.new.squares c.in_ok-square.square in
-    let sets = c.in-Life.rule in
-    λ x y. subst (λ q. tree_cell next x y ≤ largest_state q) (sym c.in-Life.is) (subst (λ n. n ≤ 1) (sym (c.in_ok-square.ensures.next x y)) (next-small sets (tree_cell t) x y))
-
-pub text_of-requires-clause-high : goal.text_of-requires-clause-high
-text_of-requires-clause-high c =
-    subst (λ q. least_level q ≤ depth (content c.next_life_generation.new.squares c.in_ok-square.square)) (sym c.in-Life.is) c.in_ok-square.ensures.high
+pub next_by_rule-requires : goal.next_by_rule-requires
+next_by_rule-requires c = (c.args.bytes.now, c.in_ok-pattern.ensures.pattern)
 
 pub returns-clause-stepped : goal.returns-clause-stepped
-returns-clause-stepped c =
-    let store = c.read.new.store in
-    let root = c.in_ok-pattern.pattern.root in
-    let t = content store root in
-    let r = c.in_ok-pattern.ensures.pattern in
-    let u = r.universe in
-    let fits = c.patterns_fit.ensures _ _ _ r in
-    let plane = c.files_are_on_plane.ensures c.args.bytes.now u r.reads in
-    let full = (known_squares_are_full store root fits.0.known.0).0 in
-    let high = root-high c.in_ok-pattern.pattern.rule _ fits.0.level in
-    let sets = c.in-Life.rule in
-    let is : u.rule ≡ Life sets = fits.1.rule ∙ c.in-Life.is in
-    let some : u.generation ≢ 2 ^ 64 - 1 = λ e. c.in_ok-generation.ensures.some (sym fits.1.generation ∙ e) in
-    let small : (x y : ℤ) → u.cell x y ≤ 1 = λ x y. subst (λ q. u.cell x y ≤ largest_state q) is (plane.states x y) in
-    let next = content c.next_life_generation.new.squares c.in_ok-square.square in
-    let accepted = life-refused c.life_answers_at.ensures sets u t fits.1.cells is some small full high None c.in_ok-square.ensures.accepted in
-    let cells : (x y : ℤ) → tree_cell next x y ≡ next_life eight_around sets u.cell x y = λ x y. c.in_ok-square.ensures.next x y ∙ same-next sets (tree_cell t) u.cell (λ i j. sym (fits.1.cells i j)) x y in
-    IfOk-weaker c.text_of.result _ _
-    (λ text h. (
-      u,
-      r.reads,
-      accepted,
-      life-stepped sets u c.in_ok-pattern.pattern.rule c.in_ok-generation.generation next text.items is (sym fits.1.rule)
-          (c.in_ok-generation.ensures.after ∙ ap (λ n. n + 1) (sym fits.1.generation)) cells h,
-    ))
-    c.text_of.ensures.text
+returns-clause-stepped c = IfOk-weaker c.next_by_rule.result _ _ (λ text h. h c.args.bytes.now c.in_ok-pattern.ensures.pattern) c.next_by_rule.ensures.stepped
+
+pub returns-clause-refused : goal.returns-clause-refused
+returns-clause-refused c =
+    step-refused c.args.bytes.now _ _ _ (λ fault u. LifeRefusal MAX_LEVEL u (Some fault)) c.in_ok-pattern.ensures.pattern c.next_by_rule.result c.next_by_rule.ensures.refused
 
 pub returns-clause-keeps : goal.returns-clause-keeps
-returns-clause-keeps c =
-    keeps-all _ _ _ c.in_ok-pattern.ensures.keeps
-    (keeps-all _ _ _ (keeps-of _ _ c.in_ok-square.ensures.keeps c.in_ok-square.ensures.stays c.in_ok-square.ensures.most) c.text_of.ensures.keeps)
+returns-clause-keeps c = keeps-all _ _ _ c.in_ok-pattern.ensures.keeps c.next_by_rule.ensures.keeps

@@ -1,96 +1,19 @@
-use Rattle.std.proofs.Common.{◌≡◌, ◌≢◌, ap, sym, subst, ◌∙◌, ◌+◌, ◌-◌, ◌≤◌, ◌^◌, ℤ, Some, None, Err, inl, inr, true≢false}
-use Rattle.std.proofs.lemmas.Result.{IfOk-weaker, err_from_is_err_and}
+use Rattle.std.proofs.lemmas.Result.{IfOk-weaker}
 use Rattle.life_base.specs.declared.cell.TheConstants.{MAX_LEVEL}
-use Rattle.life_base.specs.declared.rule.Rule.TheVariants.{Named}
-use Rattle.life_base.specs.Tree.{tree_cell}
-use Rattle.life_mc.specs.Macrocell.{largest_state}
-use Rattle.life_table.specs.declared.table.Table.{Table}
-use Rattle.life_table.specs.Meaning.{Becomes}
-use Rattle.life_quad.proofs.LawLemmas.{known_squares_are_full}
-use Rattle.life_sweep.specs.Refused.{GenerationRefusal}
-use Rattle.life_sweep.specs.Sweep.{TableAnswers, states_at}
-use Rattle.life_canon.specs.Store.{content}
 use Rattle.life_step.specs.Refusals.{TableRefusal}
-use Rattle.life_step.proofs.StateFacts.{cell-byte}
-use Rattle.life_step.proofs.StepFacts.{keeps-all, keeps-of, refused-by, root-high, table-refused, table-stepped}
+use Rattle.std.specs.Prelude.{Some}
+use Rattle.life_step.proofs.StepFacts.{keeps-all, step-refused}
 use Rattle.life_step.proofs.stepping.step_table.Goals as goal
 
-pub returns-then-not-is_rule_of-clause-refused : goal.returns-then-not-is_rule_of-clause-refused
-returns-then-not-is_rule_of-clause-refused c =
-    let r = c.in_ok-pattern.ensures.pattern in
-    let other : ¬ (r.universe.rule ≡ Named c.args.table.now.name) =
-    λ e. true≢false (sym (c.is_rule_of.ensures.1 (r.is.rule ∙ e)) ∙ c.if-not-is_rule_of.true) in
-    inr (inr (r.universe, r.reads, inl (other, ap Some c.of.ensures)))
-
-pub next_generation-requires-clause-high : goal.next_generation-requires-clause-high
-next_generation-requires-clause-high c =
-    let fits = c.patterns_fit.ensures _ _ _ c.in_ok-pattern.ensures.pattern in
-    root-high c.in_ok-pattern.pattern.rule _ fits.0.level
-
-pub returns-in_err-square-clause-refused : goal.returns-in_err-square-clause-refused
-returns-in_err-square-clause-refused c =
-    let store = c.read.new.store in
-    let root = c.in_ok-pattern.pattern.root in
-    let table = c.args.table.now in
-    let t = content store root in
-    let r = c.in_ok-pattern.ensures.pattern in
-    let u = r.universe in
-    let fits = c.patterns_fit.ensures _ _ _ r in
-    let full = (known_squares_are_full store root fits.0.known.0).0 in
-    let high = root-high c.in_ok-pattern.pattern.rule _ fits.0.level in
-    let is : u.rule ≡ Named table.name = fits.1.rule ∙ c.is_rule_of.ensures.0 c.if-not-is_rule_of.false in
-    let some : u.generation ≢ 2 ^ 64 - 1 = λ e. c.in_ok-generation.ensures.some (sym fits.1.generation ∙ e) in
-    let fault = c.in_err-square.field-0.0 in
-    let law : Table = c.in_ok-by_table.by_table in
-    let same : law ≡ table = c.in_ok-by_table.ensures.table in
-    let p = err_from_is_err_and c.from_residual-in_err-square.result c.from_residual-in_err-square.ensures.1 in
-    rw (p.1, p.2)
-    (refused-by c.args.bytes.now c.next_generation.new.squares u fault (GenerationRefusal (TableAnswers law) law.n_states (2 ^ 20) t (Some fault)) (λ v. TableRefusal MAX_LEVEL table v (Some fault)) r.reads
-    (λ h. table-refused c.table_answers_at.ensures table u t fits.1.cells c.one_answer.ensures is some full high (Some fault)
-    (subst (λ (T : Table). GenerationRefusal (TableAnswers T) T.n_states (2 ^ 20) t (Some fault)) same h))
-    (λ e. c.in_err-square.ensures.full (ap Err e)) c.in_err-square.ensures.refusals)
-
-pub returns-in_err-square-clause-keeps : goal.returns-in_err-square-clause-keeps
-returns-in_err-square-clause-keeps c =
-    keeps-all _ _ _ c.in_ok-pattern.ensures.keeps (keeps-of _ _ c.in_err-square.ensures.keeps c.in_err-square.ensures.stays c.in_err-square.ensures.most)
-
-pub text_of-requires-clause-states : goal.text_of-requires-clause-states
-text_of-requires-clause-states c =
-    let squares = c.next_generation.new.squares in
-    let next = content squares c.in_ok-square.square in
-    let full = (known_squares_are_full squares c.in_ok-square.square c.in_ok-square.ensures.known.0).0 in
-    λ x y. subst (λ q. tree_cell next x y ≤ largest_state q) (sym (c.is_rule_of.ensures.0 c.if-not-is_rule_of.false)) (cell-byte next full x y)
+pub next_by_table-requires : goal.next_by_table-requires
+next_by_table-requires c = (c.args.bytes.now, c.in_ok-pattern.ensures.pattern)
 
 pub returns-clause-stepped : goal.returns-clause-stepped
-returns-clause-stepped c =
-    let store = c.read.new.store in
-    let root = c.in_ok-pattern.pattern.root in
-    let table = c.args.table.now in
-    let t = content store root in
-    let r = c.in_ok-pattern.ensures.pattern in
-    let u = r.universe in
-    let fits = c.patterns_fit.ensures _ _ _ r in
-    let full = (known_squares_are_full store root fits.0.known.0).0 in
-    let high = root-high c.in_ok-pattern.pattern.rule _ fits.0.level in
-    let is : u.rule ≡ Named table.name = fits.1.rule ∙ c.is_rule_of.ensures.0 c.if-not-is_rule_of.false in
-    let some : u.generation ≢ 2 ^ 64 - 1 = λ e. c.in_ok-generation.ensures.some (sym fits.1.generation ∙ e) in
-    let law : Table = c.in_ok-by_table.by_table in
-    let same : law ≡ table = c.in_ok-by_table.ensures.table in
-    let next = content c.next_generation.new.squares c.in_ok-square.square in
-    let accepted = table-refused c.table_answers_at.ensures table u t fits.1.cells c.one_answer.ensures is some full high None
-    (subst (λ (T : Table). GenerationRefusal (TableAnswers T) T.n_states (2 ^ 20) t None) same c.in_ok-square.ensures.accepted) in
-    let cells = subst (λ (T : Table). (x y : ℤ) → TableAnswers T (states_at (tree_cell t) x y) (Becomes (tree_cell next x y))) same c.in_ok-square.ensures.next in
-    IfOk-weaker c.text_of.result _ _
-    (λ text h. (
-      u,
-      r.reads,
-      accepted,
-      table-stepped c.table_answers_at.ensures table u t fits.1.cells c.in_ok-pattern.pattern.rule c.in_ok-generation.generation next text.items is (sym fits.1.rule)
-          (c.in_ok-generation.ensures.after ∙ ap (λ n. n + 1) (sym fits.1.generation)) cells h,
-    ))
-    c.text_of.ensures.text
+returns-clause-stepped c = IfOk-weaker c.next_by_table.result _ _ (λ text h. h c.args.bytes.now c.in_ok-pattern.ensures.pattern) c.next_by_table.ensures.stepped
+
+pub returns-clause-refused : goal.returns-clause-refused
+returns-clause-refused c =
+    step-refused c.args.bytes.now _ _ _ (λ fault u. TableRefusal MAX_LEVEL c.args.table.now u (Some fault)) c.in_ok-pattern.ensures.pattern c.next_by_table.result c.next_by_table.ensures.refused
 
 pub returns-clause-keeps : goal.returns-clause-keeps
-returns-clause-keeps c =
-    keeps-all _ _ _ c.in_ok-pattern.ensures.keeps
-    (keeps-all _ _ _ (keeps-of _ _ c.in_ok-square.ensures.keeps c.in_ok-square.ensures.stays c.in_ok-square.ensures.most) c.text_of.ensures.keeps)
+returns-clause-keeps c = keeps-all _ _ _ c.in_ok-pattern.ensures.keeps c.next_by_table.ensures.keeps

@@ -1,0 +1,114 @@
+use Rattle.std.proofs.Common.{◌≡◌, ◌≢◌, arith, ap, sym, subst, ◌∙◌, ◌+◌, ◌-◌, ◌≤◌, ◌^◌, ℕ, ℤ, List, Some, None, Err, inr}
+use Rattle.std.proofs.lemmas.Result.{IfOk-weaker, err_from_is_err_and}
+use Rattle.life_base.specs.Tree.{depth, tree_cell}
+use Rattle.life_base.specs.declared.rule.Rule.TheVariants.{Life}
+use Rattle.life_base.specs.declared.cell.TheConstants.{MAX_LEVEL}
+use Rattle.life_mc.specs.Macrocell.{largest_state}
+use Rattle.life_table.specs.declared.table.Neighborhood.TheVariants.{Moore}
+use Rattle.life_quad.proofs.LawLemmas.{known_squares_are_full}
+use Rattle.life_sweep.specs.Around.{eight_around}
+use Rattle.life_sweep.specs.Generation.{next_life}
+use Rattle.life_sweep.specs.Refused.{GenerationRefusal}
+use Rattle.life_sweep.specs.Sweep.{LifeAnswers}
+use Rattle.life_canon.specs.Files.{Reads}
+use Rattle.life_canon.specs.Store.{content, IsRead}
+use Rattle.life_canon.specs.Universe.{Universe, least_level}
+use Rattle.life_step.specs.Refusals.{LifeRefusal}
+use Rattle.life_step.proofs.StepFacts.{keeps-all, keeps-of, refused-by, root-high, next-small, same-next, needs-table, life-last, life-refused, life-stepped}
+use Rattle.life_step.proofs.stepping.next_by_rule.Goals as goal
+
+pub returns-in_default-clause-refused : goal.returns-in_default-clause-refused
+returns-in_default-clause-refused c =
+    inr (λ bytes r. (r.universe, r.reads, needs-table r.universe c.args.pattern.rule _ r.is.rule c.in_default.not-Life (ap Some c.of.ensures)))
+
+pub returns-in_err-generation-clause-refused : goal.returns-in_err-generation-clause-refused
+returns-in_err-generation-clause-refused c =
+    let p = err_from_is_err_and c.from_residual.result c.from_residual.ensures.1 in
+    let last = c.in_err-generation.ensures.last in
+    rw (p.1, p.2, last.1)
+    (inr (λ bytes r. (r.universe, r.reads, life-last c.in-Life.rule r.universe (sym r.is.rule ∙ c.in-Life.is) (sym r.is.generation ∙ last.0))))
+
+pub next_life_generation-requires-clause-high : goal.next_life_generation-requires-clause-high
+next_life_generation-requires-clause-high c =
+    let fits = c.patterns_fit.ensures _ _ _ c.requires.1 in
+    let least = subst (λ q. least_level q ≤ depth (content c.args.store.now c.args.pattern.root)) c.in-Life.is fits.0.level in
+    omega (arith, least)
+
+pub next_life_generation-requires-clause-states : goal.next_life_generation-requires-clause-states
+next_life_generation-requires-clause-states c =
+    let r = c.requires.1 in
+    let u = r.universe in
+    let fits = c.patterns_fit.ensures _ _ _ r in
+    let plane = c.files_are_on_plane.ensures c.requires.0 u r.reads in
+    let is = fits.1.rule ∙ c.in-Life.is in
+    λ x y.
+    let small = subst (λ q. u.cell x y ≤ largest_state q) is (plane.states x y) in
+    let same = fits.1.cells x y in
+    omega (arith, small, same)
+
+pub returns-in_err-square-clause-refused : goal.returns-in_err-square-clause-refused
+returns-in_err-square-clause-refused c =
+    let store = c.args.store.now in
+    let root = c.args.pattern.root in
+    let t = content store root in
+    let sets = c.in-Life.rule in
+    let fault = c.in_err-square.field-0.0 in
+    let p = err_from_is_err_and c.from_residual-in_err-square.result c.from_residual-in_err-square.ensures.1 in
+    let each : GenerationRefusal (LifeAnswers Moore sets) 2 (2 ^ 20) t (Some fault) → (bytes : List ℕ) → IsRead MAX_LEVEL bytes store c.args.pattern
+    → (u : Universe) × Reads MAX_LEVEL bytes u × LifeRefusal MAX_LEVEL u (Some fault) =
+    λ h bytes r.
+    let u = r.universe in
+    let fits = c.patterns_fit.ensures _ _ _ r in
+    let plane = c.files_are_on_plane.ensures bytes u r.reads in
+    let full = (known_squares_are_full store root fits.0.known.0).0 in
+    let high = root-high c.args.pattern.rule _ fits.0.level in
+    let is : u.rule ≡ Life sets = fits.1.rule ∙ c.in-Life.is in
+    let some : u.generation ≢ 2 ^ 64 - 1 = λ e. c.in_ok-generation.ensures.some (sym fits.1.generation ∙ e) in
+    let small : (x y : ℤ) → u.cell x y ≤ 1 = λ x y. subst (λ q. u.cell x y ≤ largest_state q) is (plane.states x y) in
+    (u, r.reads, life-refused c.life_answers_at.ensures sets u t fits.1.cells is some small full high (Some fault) h) in
+    rw (p.1, p.2)
+    (refused-by c.next_life_generation.new.squares fault _ _ each (λ e. c.in_err-square.ensures.full (ap Err e)) c.in_err-square.ensures.refusals)
+
+pub returns-in_err-square-clause-keeps : goal.returns-in_err-square-clause-keeps
+returns-in_err-square-clause-keeps c = keeps-of _ _ c.in_err-square.ensures.keeps c.in_err-square.ensures.stays c.in_err-square.ensures.most
+
+pub text_of-requires-clause-states : goal.text_of-requires-clause-states
+text_of-requires-clause-states c =
+    let t = content c.args.store.now c.args.pattern.root in
+    let next = content c.next_life_generation.new.squares c.in_ok-square.square in
+    let sets = c.in-Life.rule in
+    λ x y. subst (λ q. tree_cell next x y ≤ largest_state q) (sym c.in-Life.is) (subst (λ n. n ≤ 1) (sym (c.in_ok-square.ensures.next x y)) (next-small sets (tree_cell t) x y))
+
+pub text_of-requires-clause-high : goal.text_of-requires-clause-high
+text_of-requires-clause-high c =
+    subst (λ q. least_level q ≤ depth (content c.next_life_generation.new.squares c.in_ok-square.square)) (sym c.in-Life.is) c.in_ok-square.ensures.high
+
+pub returns-clause-stepped : goal.returns-clause-stepped
+returns-clause-stepped c =
+    let store = c.args.store.now in
+    let root = c.args.pattern.root in
+    let t = content store root in
+    let sets = c.in-Life.rule in
+    let next = content c.next_life_generation.new.squares c.in_ok-square.square in
+    IfOk-weaker c.text_of.result _ _
+    (λ text h bytes r.
+    let u = r.universe in
+    let fits = c.patterns_fit.ensures _ _ _ r in
+    let plane = c.files_are_on_plane.ensures bytes u r.reads in
+    let full = (known_squares_are_full store root fits.0.known.0).0 in
+    let high = root-high c.args.pattern.rule _ fits.0.level in
+    let is : u.rule ≡ Life sets = fits.1.rule ∙ c.in-Life.is in
+    let some : u.generation ≢ 2 ^ 64 - 1 = λ e. c.in_ok-generation.ensures.some (sym fits.1.generation ∙ e) in
+    let small : (x y : ℤ) → u.cell x y ≤ 1 = λ x y. subst (λ q. u.cell x y ≤ largest_state q) is (plane.states x y) in
+    let accepted = life-refused c.life_answers_at.ensures sets u t fits.1.cells is some small full high None c.in_ok-square.ensures.accepted in
+    let cells : (x y : ℤ) → tree_cell next x y ≡ next_life eight_around sets u.cell x y = λ x y. c.in_ok-square.ensures.next x y ∙ same-next sets (tree_cell t) u.cell (λ i j. sym (fits.1.cells i j)) x y in (
+      u,
+      r.reads,
+      accepted,
+      life-stepped sets u c.args.pattern.rule c.in_ok-generation.generation next text.items is (sym fits.1.rule)
+          (c.in_ok-generation.ensures.after ∙ ap (λ n. n + 1) (sym fits.1.generation)) cells h,
+    ))
+    c.text_of.ensures.text
+
+pub returns-clause-keeps : goal.returns-clause-keeps
+returns-clause-keeps c = keeps-all _ _ _ (keeps-of _ _ c.in_ok-square.ensures.keeps c.in_ok-square.ensures.stays c.in_ok-square.ensures.most) c.text_of.ensures.keeps
