@@ -1,5 +1,5 @@
 -- From the parts of a job to what it did, or why it is refused.
-use Rattle.std.proofs.Common.{◌≡◌, ℕ, ◌^◌, ◌⊎◌, inl, inr, List, Bool, true, false, Result, Ok, Err, IfErr, IfOk, OnOk, if◌then◌else◌, codes, refl, IsTrue, ◌↔◌, Some, subst, sym}
+use Rattle.std.proofs.Common.{◌≡◌, ℕ, ◌^◌, ◌⊎◌, inl, inr, List, Bool, true, false, Result, Ok, Err, IfErr, IfOk, OnOk, if◌then◌else◌, codes, refl, ap, IsTrue, ◌↔◌, subst, sym}
 use Rattle.std.specs.Io.KnownBytes.{Appends}
 use Rattle.life_base.specs.DeviceRuns.{SourceRun, SinkRun}
 use Rattle.life_base.specs.Inputs.{ReadAll}
@@ -7,72 +7,82 @@ use Rattle.life_base.specs.Refusal.{fault_of, OrMemory}
 use Rattle.life_base.specs.Text.{lines_of}
 use Rattle.life_base.specs.declared.cell.TheConstants.{MAX_LEVEL}
 use Rattle.life_base.specs.declared.fault.Fault.{Fault}
-use Rattle.life_base.specs.declared.kind.Kind.TheVariants.{Memory, TooManyCells}
+use Rattle.life_base.specs.declared.kind.Kind.{Kind}
+use Rattle.life_base.specs.declared.kind.Kind.TheVariants.{Full, Memory, TooManyCells, ReadFault, InputTooLong}
 use Rattle.life_quad.specs.Store.{Nodes}
-use Rattle.life_canon.specs.Files.{Accepted, Reads, Refuses, Same as AreSame}
-use Rattle.life_canon.specs.Store.{IsWant, RefusesIn}
+use Rattle.life_canon.specs.Files.{Accepted, Refuses, Same as AreSame, is_file_kind}
+use Rattle.life_canon.specs.Laws.{RefusalsHaveKinds}
+use Rattle.life_canon.specs.Running.{HasRead, ReadRefuses}
+use Rattle.life_canon.specs.Running as reading
+use Rattle.life_canon.specs.Store.{IsRead, IsWant}
 use Rattle.life_canon.specs.Texts.{HasMoreCells}
-use Rattle.life_canon.specs.Universe.{Universe}
+use Rattle.life_canon.specs.declared.pattern.Pattern.{Pattern}
 use Rattle.life_table.specs.Grammar.{IsFile}
 use Rattle.life_table.specs.Reading.{Refuses as RefusesTable}
 use Rattle.life_table.specs.declared.table.Table.{Table}
-use Rattle.life_step.specs.Refusals.{LifeRefusal, TableRefusal}
 use Rattle.life_cli.specs.declared.plans.Job.TheVariants.{StepTable}
 use Rattle.life_cli.specs.declared.telling.Refusal.{Refusal}
-use Rattle.life_cli.specs.Jobs.{InputRefuses, HasNoText, by_input, by_file, by_want, AreCompared, AreUncompared, by_first, by_second, by_files, by_shortage, RefusesRle, Compares, Worked, HasText, FileRefuses, IsSteppedBy, RefusesStep, RefusesStepBy, HasTable, HasNoTable, table_by_input, table_by_lines, table_by_memory, OfFile, JobRefuses}
+use Rattle.life_cli.specs.Jobs.{InputRefuses, by_length, by_source, HasNoText, by_input, by_file, by_want, IsHeld, AreCompared, AreUncompared, by_first, by_second, by_shortage, RefusesRle, Compares, Worked, HasText, FileRefuses, IsSteppedBy, RefusesStepBy, HasTable, HasNoTable, table_by_input, table_by_lines, table_by_memory, OfFile, JobRefuses}
 
--- nothing comes of a file that isn't read whole
-pub no_input : (refuses : List ℕ → Fault → Type 0) (source : SourceRun) (fault : Fault) → InputRefuses source fault ⊎ (fault ≡ fault_of Memory)
+-- nothing comes of an input of which a store makes no pattern
+pub no_pattern : (refuses : List ℕ → Fault → Type 0) (source : SourceRun) (store : Nodes) (fault : Fault) → store.limit ≡ 2 ^ 31
+    → ((bytes : List ℕ) → Refuses MAX_LEVEL bytes fault → refuses bytes fault) → ReadRefuses MAX_LEVEL (2 ^ 30) store source fault
     → HasNoText refuses source fault
-no_input refuses source fault (inl unread) = by_input unread
-no_input refuses source fault (inr memory) = by_want (inl memory)
+no_pattern refuses source store fault limit f (reading.by_file bytes read h) = by_file bytes read (f bytes h)
+no_pattern refuses source store fault limit f (reading.by_want want) = by_want (inr (store, limit, want))
+no_pattern refuses source store fault limit f (reading.by_length is came) = by_input (by_length is came)
+no_pattern refuses source store fault limit f (reading.by_source is failed) = by_input (by_source is failed)
 
--- nothing comes of a file that a call refuses
-of_file : (source : SourceRun) (bytes : List ℕ) (store : Nodes) (fault : Fault) → ReadAll (2 ^ 30) source.before source.after bytes
-    → store.limit ≡ 2 ^ 31 → RefusesIn MAX_LEVEL bytes store fault → HasNoText (Refuses MAX_LEVEL) source fault
-of_file source bytes store fault read limit (inl refuses) = by_file bytes read refuses
-of_file source bytes store fault read limit (inr want) = by_want (inr (store, limit, want))
-
-pub refused_file : {X : Type 0} (source : SourceRun) (bytes : List ℕ) (store : Nodes) (r : Result X Fault)
-    → ReadAll (2 ^ 30) source.before source.after bytes → store.limit ≡ 2 ^ 31 → IfErr r (RefusesIn MAX_LEVEL bytes store)
+-- no text for want of memory, or with too many cells
+pub refused_lines : {X : Type 0} (source : SourceRun) (r : Result X Fault) → IfErr r (λ fault. fault ≡ fault_of Memory)
     → IfErr r (HasNoText (Refuses MAX_LEVEL) source)
-refused_file source bytes store (Ok x) read limit h = tt
-refused_file source bytes store (Err fault) read limit h = of_file source bytes store fault read limit h
+refused_lines source (Ok x) h = tt
+refused_lines source (Err fault) h = by_want (inl h)
 
-of_rle : (source : SourceRun) (bytes : List ℕ) (store : Nodes) (fault : Fault) → ReadAll (2 ^ 30) source.before source.after bytes
-    → store.limit ≡ 2 ^ 31 → RefusesIn MAX_LEVEL bytes store fault ⊎ ((fault ≡ fault_of TooManyCells) × HasMoreCells MAX_LEVEL bytes (2 ^ 20))
-    → HasNoText RefusesRle source fault
-of_rle source bytes store fault read limit (inl (inl refuses)) = by_file bytes read (inl refuses)
-of_rle source bytes store fault read limit (inl (inr want)) = by_want (inr (store, limit, want))
-of_rle source bytes store fault read limit (inr many) = by_file bytes read (inr many)
-
-pub refused_rle : {X : Type 0} (source : SourceRun) (bytes : List ℕ) (store : Nodes) (r : Result X Fault)
-    → ReadAll (2 ^ 30) source.before source.after bytes → store.limit ≡ 2 ^ 31
-    → IfErr r (λ fault. RefusesIn MAX_LEVEL bytes store fault ⊎ ((fault ≡ fault_of TooManyCells) × HasMoreCells MAX_LEVEL bytes (2 ^ 20)))
+pub refused_rle : {X : Type 0} (source : SourceRun) (store : Nodes) (pattern : Pattern) (r : Result X Fault)
+    → HasRead MAX_LEVEL (2 ^ 30) store source pattern
+    → IfErr r (λ fault. (fault ≡ fault_of Memory)
+    ⊎ ((fault ≡ fault_of TooManyCells) × ((b : List ℕ) → IsRead MAX_LEVEL b store pattern → HasMoreCells MAX_LEVEL b (2 ^ 20))))
     → IfErr r (HasNoText RefusesRle source)
-refused_rle source bytes store (Ok x) read limit h = tt
-refused_rle source bytes store (Err fault) read limit h = of_rle source bytes store fault read limit h
+refused_rle source store pattern (Ok x) has h = tt
+refused_rle source store pattern (Err fault) has (inl memory) = by_want (inl memory)
+refused_rle source store pattern (Err fault) has (inr many) = by_file has.bytes has.read (inr (many.0, many.1 has.bytes has.is))
+
+-- a fault of a kind that isn't a file's is none of a file
+pub no_file : (source : SourceRun) (store : Nodes) (fault : Fault) → RefusalsHaveKinds MAX_LEVEL → ReadRefuses MAX_LEVEL (2 ^ 30) store source fault
+    → (fault.kind ≡ ReadFault) ⊎ ((fault.kind ≡ InputTooLong) ⊎ ((fault.kind ≡ Full) ⊎ (fault.kind ≡ Memory)))
+    → InputRefuses source fault ⊎ IsWant store fault
+no_file source store fault law (reading.by_file bytes read h) k = absurd (other fault.kind (law (lines_of bytes) fault h).0 k)
+  where
+    other : (kind : Kind) → is_file_kind kind ≡ true → (kind ≡ ReadFault) ⊎ ((kind ≡ InputTooLong) ⊎ ((kind ≡ Full) ⊎ (kind ≡ Memory))) → ⊥
+    other kind is (inl e) = let n : is_file_kind ReadFault ≡ true = subst (λ (k : Kind). is_file_kind k ≡ true) e is in cc
+    other kind is (inr (inl e)) = let n : is_file_kind InputTooLong ≡ true = subst (λ (k : Kind). is_file_kind k ≡ true) e is in cc
+    other kind is (inr (inr (inl e))) = let n : is_file_kind Full ≡ true = subst (λ (k : Kind). is_file_kind k ≡ true) e is in cc
+    other kind is (inr (inr (inr e))) = let n : is_file_kind Memory ≡ true = subst (λ (k : Kind). is_file_kind k ≡ true) e is in cc
+no_file source store fault law (reading.by_want want) k = inr want
+no_file source store fault law (reading.by_length is came) k = inl (by_length is came)
+no_file source store fault law (reading.by_source is failed) k = inl (by_source is failed)
+
+-- a fault of another kind is that of the file
+pub held_fault : (source : SourceRun) (store : Nodes) (fault : Fault) → ReadRefuses MAX_LEVEL (2 ^ 30) store source fault
+    → ((fault.kind ≡ ReadFault) ⊎ ((fault.kind ≡ InputTooLong) ⊎ ((fault.kind ≡ Full) ⊎ (fault.kind ≡ Memory))) → ⊥)
+    → IsHeld store source (Err fault)
+held_fault source store fault (reading.by_file bytes read h) n = record { bytes = bytes; read = read; pattern = tt; fault = h }
+held_fault source store fault (reading.by_want (inl memory)) n = absurd (n (inr (inr (inr (ap (λ (f : Fault). f.kind) memory)))))
+held_fault source store fault (reading.by_want (inr full)) n = absurd (n (inr (inr (inl (ap (λ (f : Fault). f.kind) full.0)))))
+held_fault source store fault (reading.by_length is came) n = absurd (n (inr (inl (ap (λ (f : Fault). f.kind) is))))
+held_fault source store fault (reading.by_source is failed) n = absurd (n (inl (ap (λ (f : Fault). f.kind) is)))
 
 -- two files aren't compared
-pub no_first_input : (first second : SourceRun) (fault : Fault) → InputRefuses first fault ⊎ (fault ≡ fault_of Memory) → AreUncompared first second fault
-no_first_input first second fault (inl unread) = by_first unread
-no_first_input first second fault (inr memory) = by_shortage (inl memory)
-
-pub no_second_input : (first second : SourceRun) (a : List ℕ) (fault : Fault) → ReadAll (2 ^ 30) first.before first.after a
-    → InputRefuses second fault ⊎ (fault ≡ fault_of Memory) → AreUncompared first second fault
-no_second_input first second a fault read (inl unread) = by_second a read unread
-no_second_input first second a fault read (inr memory) = by_shortage (inl memory)
-
-pub no_first_file : (first second : SourceRun) (a b : List ℕ) (store : Nodes) (fault : Fault) → ReadAll (2 ^ 30) first.before first.after a
-    → ReadAll (2 ^ 30) second.before second.after b → store.limit ≡ 2 ^ 31 → RefusesIn MAX_LEVEL a store fault → AreUncompared first second fault
-no_first_file first second a b store fault one two limit (inl refuses) = by_files a b one two (inl refuses)
-no_first_file first second a b store fault one two limit (inr want) = by_shortage (inr (store, limit, want))
-
-pub no_second_file : (first second : SourceRun) (a b : List ℕ) (store : Nodes) (fault : Fault) → ReadAll (2 ^ 30) first.before first.after a
-    → ReadAll (2 ^ 30) second.before second.after b → store.limit ≡ 2 ^ 31 → Accepted MAX_LEVEL a → RefusesIn MAX_LEVEL b store fault
+pub no_first_input : (first second : SourceRun) (store : Nodes) (fault : Fault) → store.limit ≡ 2 ^ 31 → InputRefuses first fault ⊎ IsWant store fault
     → AreUncompared first second fault
-no_second_file first second a b store fault one two limit accepted (inl refuses) = by_files a b one two (inr (accepted, refuses))
-no_second_file first second a b store fault one two limit accepted (inr want) = by_shortage (inr (store, limit, want))
+no_first_input first second store fault limit (inl unread) = by_first unread
+no_first_input first second store fault limit (inr want) = by_shortage (inr (store, limit, want))
+
+pub no_second_input : (first second : SourceRun) (a : List ℕ) (store : Nodes) (fault : Fault) → ReadAll (2 ^ 30) first.before first.after a
+    → store.limit ≡ 2 ^ 31 → InputRefuses second fault ⊎ IsWant store fault → AreUncompared first second fault
+no_second_input first second a store fault read limit (inl unread) = by_second a read unread
+no_second_input first second a store fault read limit (inr want) = by_shortage (inr (store, limit, want))
 
 -- what a comparison answers is its status and its line
 answers : (a b : List ℕ) (answer : Bool) → IsTrue answer ↔ AreSame MAX_LEVEL a b
@@ -91,42 +101,21 @@ compared_files first second a b answer one two first_is second_is is = record {
   writes = (first_is, second_is, answers a b answer is);
 }
 
--- all of a file was read, and a call gave its text
-pub text_of_file : {X : Type 0} (gives : List ℕ → List ℕ → Type 0) (items : X → List ℕ) (source : SourceRun) (bytes : List ℕ) (r : Result X Fault)
-    → ReadAll (2 ^ 30) source.before source.after bytes → IfOk r (λ x. gives bytes (items x)) → IfOk r (λ x. HasText gives source (items x))
-text_of_file gives items source bytes (Ok x) read is = record { bytes = bytes; read = read; is = is }
-text_of_file gives items source bytes (Err fault) read is = tt
+-- all of a file was read, and a call on its pattern gave its text
+pub text_of_pattern : {X : Type 0} (gives : List ℕ → List ℕ → Type 0) (items : X → List ℕ) (source : SourceRun) (store : Nodes) (pattern : Pattern)
+    (r : Result X Fault) → HasRead MAX_LEVEL (2 ^ 30) store source pattern
+    → IfOk r (λ x. (bytes : List ℕ) → IsRead MAX_LEVEL bytes store pattern → gives bytes (items x)) → IfOk r (λ x. HasText gives source (items x))
+text_of_pattern gives items source store pattern (Ok x) has is = record { bytes = has.bytes; read = has.read; is = is has.bytes has.is }
+text_of_pattern gives items source store pattern (Err fault) has is = tt
 
--- nothing comes of a file that isn't stepped
-of_step : (source : SourceRun) (bytes : List ℕ) (store : Nodes) (fault : Fault) → ReadAll (2 ^ 30) source.before source.after bytes
-    → store.limit ≡ 2 ^ 31
-    → Refuses MAX_LEVEL bytes fault ⊎ (IsWant store fault ⊎ ((u : Universe) × Reads MAX_LEVEL bytes u × LifeRefusal MAX_LEVEL u (Some fault)))
-    → HasNoText RefusesStep source fault
-of_step source bytes store fault read limit (inl refuses) = by_file bytes read (inl refuses)
-of_step source bytes store fault read limit (inr (inl want)) = by_want (inr (store, limit, want))
-of_step source bytes store fault read limit (inr (inr step)) = by_file bytes read (inr step)
-
-pub refused_step : {X : Type 0} (source : SourceRun) (bytes : List ℕ) (store : Nodes) (r : Result X Fault)
-    → ReadAll (2 ^ 30) source.before source.after bytes → store.limit ≡ 2 ^ 31
-    → IfErr r (λ fault. Refuses MAX_LEVEL bytes fault ⊎ (IsWant store fault ⊎ ((u : Universe) × Reads MAX_LEVEL bytes u × LifeRefusal MAX_LEVEL u (Some fault))))
-    → IfErr r (HasNoText RefusesStep source)
-refused_step source bytes store (Ok x) read limit h = tt
-refused_step source bytes store (Err fault) read limit h = of_step source bytes store fault read limit h
-
-of_step_by : (table : Table) (source : SourceRun) (bytes : List ℕ) (store : Nodes) (fault : Fault)
-    → ReadAll (2 ^ 30) source.before source.after bytes → store.limit ≡ 2 ^ 31
-    → Refuses MAX_LEVEL bytes fault ⊎ (IsWant store fault ⊎ ((u : Universe) × Reads MAX_LEVEL bytes u × TableRefusal MAX_LEVEL table u (Some fault)))
-    → HasNoText (RefusesStepBy table) source fault
-of_step_by table source bytes store fault read limit (inl refuses) = by_file bytes read (inl refuses)
-of_step_by table source bytes store fault read limit (inr (inl want)) = by_want (inr (store, limit, want))
-of_step_by table source bytes store fault read limit (inr (inr step)) = by_file bytes read (inr step)
-
-pub refused_step_by : {X : Type 0} (table : Table) (source : SourceRun) (bytes : List ℕ) (store : Nodes) (r : Result X Fault)
-    → ReadAll (2 ^ 30) source.before source.after bytes → store.limit ≡ 2 ^ 31
-    → IfErr r (λ fault. Refuses MAX_LEVEL bytes fault ⊎ (IsWant store fault ⊎ ((u : Universe) × Reads MAX_LEVEL bytes u × TableRefusal MAX_LEVEL table u (Some fault))))
-    → IfErr r (HasNoText (RefusesStepBy table) source)
-refused_step_by table source bytes store (Ok x) read limit h = tt
-refused_step_by table source bytes store (Err fault) read limit h = of_step_by table source bytes store fault read limit h
+-- nothing comes of a pattern that isn't stepped
+pub refused_step : {X : Type 0} (refuses : List ℕ → Fault → Type 0) (source : SourceRun) (old new : Nodes) (pattern : Pattern) (r : Result X Fault)
+    → HasRead MAX_LEVEL (2 ^ 30) old source pattern → new.limit ≡ 2 ^ 31
+    → IfErr r (λ fault. IsWant new fault ⊎ ((bytes : List ℕ) → IsRead MAX_LEVEL bytes old pattern → refuses bytes fault))
+    → IfErr r (HasNoText (λ bytes fault. Refuses MAX_LEVEL bytes fault ⊎ refuses bytes fault) source)
+refused_step refuses source old new pattern (Ok x) has limit h = tt
+refused_step refuses source old new pattern (Err fault) has limit (inl want) = by_want (inr (new, limit, want))
+refused_step refuses source old new pattern (Err fault) has limit (inr step) = by_file has.bytes has.read (inr (step has.bytes has.is))
 
 -- a file gives a table, or none
 pub no_table_input : (source : SourceRun) (fault : Fault) → InputRefuses source fault ⊎ (fault ≡ fault_of Memory) → HasNoTable source fault

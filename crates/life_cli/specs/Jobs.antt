@@ -1,5 +1,5 @@
 -- What a job writes, by the bytes of its files, and why it is refused.
-use Rattle.std.specs.Prelude.{◌≡◌, ◌⊎◌, ◌^◌, ℕ, Bool, true, false, List, None, Some, Result, IfOk, IfErr, codes}
+use Rattle.std.specs.Prelude.{◌≡◌, ◌⊎◌, ◌^◌, ℕ, true, false, List, None, Some, Result, IfOk, IfErr, codes}
 use Rattle.std.specs.Io.KnownBytes.{Appends}
 use Rattle.life_base.specs.DeviceRuns.{SourceRun, SinkRun}
 use Rattle.life_base.specs.Inputs.{ReadAll, CameBeyond}
@@ -12,7 +12,7 @@ use Rattle.life_base.specs.declared.kind.Kind.TheVariants.{InputTooLong, Memory,
 use Rattle.life_quad.specs.Store.{Nodes}
 use Rattle.life_canon.specs.Files.{Accepted, Reads, Same as AreSame, Refuses}
 use Rattle.life_canon.specs.Running.{RunRefuses}
-use Rattle.life_canon.specs.Store.{IsRead, IsWant, RefusesIn}
+use Rattle.life_canon.specs.Store.{IsRead, IsWant}
 use Rattle.life_canon.specs.Texts.{IsCanonical, IsRleOf, IsShown, HasMoreCells}
 use Rattle.life_canon.specs.Universe.{Universe}
 use Rattle.life_canon.specs.declared.pattern.Pattern.{Pattern}
@@ -95,12 +95,12 @@ pub data FileRefuses (gives : List ℕ → List ℕ → Type 0) (refuses : List 
   by_reading : HasNoText refuses source fault → FileRefuses gives refuses source output fault
   by_writing : (text : List ℕ) → HasText gives source text → Breaks output text fault → FileRefuses gives refuses source output fault
 
--- All of a file was read, and the store has its pattern; or this is the fault of the file, or of the store.
+-- all of a file was read, and the store has its pattern; or this is the fault of the file
 pub record IsHeld (store : Nodes) (source : SourceRun) (held : Result Pattern Fault) : Type 0 where
   pub bytes : List ℕ
   pub read : ReadAll (2 ^ 30) source.before source.after bytes
   pub pattern : IfOk held (IsRead MAX_LEVEL bytes store)
-  pub fault : IfErr held (RefusesIn MAX_LEVEL bytes store)
+  pub fault : IfErr held (Refuses MAX_LEVEL bytes)
 
 -- all of two files was read, and this is the status and the line of their comparison
 pub record AreCompared (first second : SourceRun) (status : ℕ) (text : List ℕ) : Type 0 where

@@ -1,17 +1,23 @@
 //! The work of the jobs that step a pattern.
 
-ghost use Rattle.std.specs.Prelude.{◌≡◌, ◌≢◌, ◌⊎◌, ◌<◌, IfOk, IfErr, IsErrAnd, OnOk, true, false};
+ghost use Rattle.std.specs.Prelude.{◌≡◌, ◌≢◌, ◌⊎◌, ◌<◌, ◌^◌, IfOk, IfErr, IsErrAnd, OnOk, true, false};
 ghost use Rattle.life_base.specs.DeviceRuns.{SourceRun, source_run, sink_run};
-ghost use Rattle.life_cli.specs.Jobs.{Worked, JobRefuses, OfFile, OfTable, FileRefuses, HasText, HasNoText, IsStepped, IsSteppedBy, RefusesStep, RefusesStepBy, HasTable, HasNoTable};
+ghost use Rattle.life_base.specs.Inputs.{ReadAll};
+ghost use Rattle.life_base.specs.Refusal.{fault_of};
+ghost use Rattle.life_cli.specs.Jobs.{Worked, InputRefuses, JobRefuses, OfFile, OfTable, FileRefuses, HasText, HasNoText, IsStepped, IsSteppedBy, RefusesStep, RefusesStepBy, HasTable, HasNoTable};
 
 use crate::plans::Job;
 use crate::telling::Refusal;
-use crate::working::{MOST_SQUARES, read_whole, write_whole};
-use life_base::{Fault, Kind, Sink, Source};
+use crate::working::{MOST_SQUARES, write_whole};
+use life_base::{Fault, Kind, Sink, Source, read_within};
+use life_canon::read_from;
 use life_quad::Shared;
-use life_step::{step_life, step_table};
+use life_step::{next_by_rule, next_by_table};
 use life_table::{Table, read_table};
 use std::alloc::Global;
+
+/// The most bytes of a rule table.
+const LONGEST_INPUT: u64 = 1 << 30;
 
 /// The text of the next generation of a source's pattern, under its B/S rule.
 fn next_of<A: Source>(alloc: Global, first: &mut A) -> Result<Vec<u8>, Fault>
@@ -20,9 +26,9 @@ fn next_of<A: Source>(alloc: Global, first: &mut A) -> Result<Vec<u8>, Fault>
     ensures err { IfErr result (HasNoText RefusesStep (source_run A.remaining A.failures first.old first.new)) }
     ensures told { A.failures first.new ≡ 1 → IsErrAnd result (λ fault. fault.kind ≡ Kind.ReadFault) }
 {
-    let bytes = read_whole(alloc, first)?;
     let mut store = Shared::new(alloc, MOST_SQUARES);
-    step_life(alloc, &mut store, bytes.as_slice())
+    let pattern = read_from(alloc, &mut store, first)?;
+    next_by_rule(alloc, &mut store, pattern)
 }
 
 /// The text of the next generation of a source's pattern, by a table.
@@ -32,9 +38,19 @@ fn next_by<A: Source>(alloc: Global, first: &mut A, table: &Table) -> Result<Vec
     ensures err { IfErr result (HasNoText (RefusesStepBy table.now) (source_run A.remaining A.failures first.old first.new)) }
     ensures told { A.failures first.new ≡ 1 → IsErrAnd result (λ fault. fault.kind ≡ Kind.ReadFault) }
 {
-    let bytes = read_whole(alloc, first)?;
     let mut store = Shared::new(alloc, MOST_SQUARES);
-    step_table(alloc, &mut store, bytes.as_slice(), table)
+    let pattern = read_from(alloc, &mut store, first)?;
+    next_by_table(alloc, &mut store, pattern, table)
+}
+
+/// The bytes of a source, read to its end.
+fn read_whole<R: Source>(alloc: Global, reader: &mut R) -> Result<Vec<u8>, Fault>
+    requires { R.failures reader.old ≡ 0 }
+    ensures ok { IfOk result (λ bytes. ReadAll (2 ^ 30) (R.remaining reader.old) (R.remaining reader.new) bytes.items) }
+    ensures err { IfErr result (λ fault. InputRefuses (source_run R.remaining R.failures reader.old reader.new) fault ⊎ (fault ≡ fault_of Kind.Memory)) }
+    ensures told { R.failures reader.new ≡ 1 → IsErrAnd result (λ fault. fault.kind ≡ Kind.ReadFault) }
+{
+    Ok(read_within(alloc, reader, LONGEST_INPUT)?)
 }
 
 /// The rule table of a source.

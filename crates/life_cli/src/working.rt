@@ -1,13 +1,11 @@
 //! The work of a job.
 
-ghost use Rattle.std.specs.Prelude.{◌≡◌, ◌≢◌, ◌⊎◌, ◌<◌, ◌↔◌, ◌^◌, ℕ, IsSome, IfSome, IfOk, IfErr, OnOk, IsErrAnd, true, false, if◌then◌else◌, codes};
+ghost use Rattle.std.specs.Prelude.{◌≡◌, ◌≢◌, ◌⊎◌, ◌<◌, ◌↔◌, ◌^◌, ℕ, IsSome, IfSome, IfOk, IfErr, OnOk, IsErrAnd, IsTrue, true, false, if◌then◌else◌, codes};
 ghost use Rattle.std.specs.Io.KnownBytes.{Appends};
 ghost use Rattle.life_base.specs.DeviceRuns.{SourceRun, source_run, optional_source_run, sink_run};
-ghost use Rattle.life_base.specs.Inputs.{ReadAll};
-ghost use Rattle.life_base.specs.Refusal.{fault_of};
 ghost use Rattle.life_cli.specs.declared.telling.Refusal.{Refusal};
 ghost use Rattle.life_canon.specs.Files.{Refuses};
-ghost use Rattle.life_canon.specs.Store.{Keeps};
+ghost use Rattle.life_canon.specs.Store.{Keeps, IsWant};
 ghost use Rattle.life_canon.specs.Texts.{IsRleOf, IsShown};
 ghost use Rattle.life_cli.specs.Faults.{fault_line, status_of, Tells};
 ghost use Rattle.life_cli.specs.Jobs.{Worked, OfFile, InputRefuses, Breaks, HasText, HasNoText, FileRefuses, AreCompared, AreUncompared, CanonRefuses, IsHeld, JobRefuses, RefusesRle};
@@ -16,27 +14,14 @@ ghost use Rattle.life_cli.specs.Plans.{HasSecond};
 use crate::plans::{Job, Target};
 use crate::stepping::{run_step, run_step_table};
 use crate::telling::{Refusal, status, tell};
-use life_base::{Fault, Kind, MAX_LEVEL, Sink, Source, deliver, read_within};
-use life_canon::laws::{patterns_stay, patterns_tell_files};
-use life_canon::{Pattern, are_same, read, run_canon, show, to_rle};
+use life_base::{Fault, Kind, MAX_LEVEL, Sink, Source, deliver};
+use life_canon::laws::{patterns_stay, patterns_tell_files, refusals_have_kinds};
+use life_canon::{Pattern, are_same, five_lines_of, read_from, run_canon};
 use life_quad::Shared;
 use std::alloc::Global;
 
 /// How many different squares a store of the program holds at most.
 pub(crate) const MOST_SQUARES: u64 = 1 << 31;
-
-/// The most bytes of an input.
-const LONGEST_INPUT: u64 = 1 << 30;
-
-/// Reads an input to its end.
-pub(crate) fn read_whole<R: Source>(alloc: Global, reader: &mut R) -> Result<Vec<u8>, Fault>
-    requires { R.failures reader.old ≡ 0 }
-    ensures ok { IfOk result (λ bytes. ReadAll (2 ^ 30) (R.remaining reader.old) (R.remaining reader.new) bytes.items) }
-    ensures err { IfErr result (λ fault. InputRefuses (source_run R.remaining R.failures reader.old reader.new) fault ⊎ (fault ≡ fault_of Kind.Memory)) }
-    ensures told { R.failures reader.new ≡ 1 → IsErrAnd result (λ fault. fault.kind ≡ Kind.ReadFault) }
-{
-    Ok(read_within(alloc, reader, LONGEST_INPUT)?)
-}
 
 /// Writes the whole text and flushes.
 pub(crate) fn write_whole<W: Sink>(writer: &mut W, text: &[u8]) -> Result<(), Refusal>
@@ -63,9 +48,9 @@ fn rle_of<A: Source>(alloc: Global, first: &mut A) -> Result<Vec<u8>, Fault>
     ensures err { IfErr result (HasNoText RefusesRle (source_run A.remaining A.failures first.old first.new)) }
     ensures told { A.failures first.new ≡ 1 → IsErrAnd result (λ fault. fault.kind ≡ Kind.ReadFault) }
 {
-    let bytes = read_whole(alloc, first)?;
     let mut store = Shared::new(alloc, MOST_SQUARES);
-    to_rle(alloc, &mut store, bytes.as_slice())
+    let pattern = read_from(alloc, &mut store, first)?;
+    life_canon::rle_of(alloc, &store, &pattern)
 }
 
 /// The five lines of a source's pattern.
@@ -75,12 +60,22 @@ fn lines_of<A: Source>(alloc: Global, first: &mut A) -> Result<Vec<u8>, Fault>
     ensures err { IfErr result (HasNoText (Refuses MAX_LEVEL) (source_run A.remaining A.failures first.old first.new)) }
     ensures told { A.failures first.new ≡ 1 → IsErrAnd result (λ fault. fault.kind ≡ Kind.ReadFault) }
 {
-    let bytes = read_whole(alloc, first)?;
     let mut store = Shared::new(alloc, MOST_SQUARES);
-    show(alloc, &mut store, bytes.as_slice())
+    let pattern = read_from(alloc, &mut store, first)?;
+    five_lines_of(alloc, &store, &pattern)
 }
 
-/// The pattern of a source in the store, or the fault of its file. The text is not held.
+/// Whether a fault of this kind is none of a file: the device failed, too much came, or room or memory is wanted.
+fn is_of_no_file(kind: Kind) -> bool
+    ensures { IsTrue result ↔ ((kind ≡ Kind.ReadFault) ⊎ ((kind ≡ Kind.InputTooLong) ⊎ ((kind ≡ Kind.Full) ⊎ (kind ≡ Kind.Memory)))) }
+{
+    matches!(
+        kind,
+        Kind::ReadFault | Kind::InputTooLong | Kind::Full | Kind::Memory
+    )
+}
+
+/// The pattern of a source in the store, or the fault of its file.
 fn held<A: Source>(
     alloc: Global,
     store: &mut Shared,
@@ -88,16 +83,19 @@ fn held<A: Source>(
 ) -> Result<Result<Pattern, Fault>, Fault>
     requires { A.failures source.old ≡ 0 }
     ensures held { IfOk result (IsHeld store.new (source_run A.remaining A.failures source.old source.new)) }
-    ensures err { IfErr result (λ fault. InputRefuses (source_run A.remaining A.failures source.old source.new) fault ⊎ (fault ≡ fault_of Kind.Memory)) }
+    ensures err { IfErr result (λ fault. InputRefuses (source_run A.remaining A.failures source.old source.new) fault ⊎ IsWant store.new fault) }
     ensures told { A.failures source.new ≡ 1 → IsErrAnd result (λ fault. fault.kind ≡ Kind.ReadFault) }
     ensures keeps { Keeps store.old store.new }
 {
-    let text = read_whole(alloc, source)?;
-    Ok(read(alloc, store, text.as_slice()))
+    refusals_have_kinds();
+    match read_from(alloc, store, source) {
+        Ok(pattern) => Ok(Ok(pattern)),
+        Err(fault) if is_of_no_file(fault.kind) => Err(fault),
+        Err(fault) => Ok(Err(fault)),
+    }
 }
 
-/// Whether two sources have the same pattern. No text is held that has been read as a pattern. What keeps the second source from being read
-/// is told before the first one's fault.
+/// Whether two sources have the same pattern. What keeps the second source from being read is told before the fault of the first one's file.
 fn compared<A: Source, B: Source>(
     alloc: Global,
     first: &mut A,
