@@ -11,7 +11,7 @@ use Rattle.life_mc.specs.Writing.{mc_text}
 use Rattle.life_mc.proofs.Accepted.{files_are_valid}
 use Rattle.life_mc.proofs.TextBack.{texts_read_back}
 use Rattle.life_rle.specs.Grammar.{Breaks as BreaksRle}
-use Rattle.life_rle.proofs.Unique.{Breaks-unique}
+use Rattle.life_rle.proofs.FormatLaws.{broken_for_good}
 use Rattle.life_canon.specs.Universe.{Universe, IsSame, macrocell_universe, least_level, whole, IsOnPlane}
 use Rattle.life_canon.specs.Files.{as_macrocell, Reads, Accepts, is_macrocell, Breaks, missing}
 use Rattle.life_canon.specs.Listing.{is_small, is_in, with_new, with_all, walk, listed, canonical_file, canon_text}
@@ -202,7 +202,7 @@ breaks-once top front line a b = by (is_macrocell (front ++ line ∷ []))
     by : (m : Bool) → MatchBool m (broken top front line ≡ Some a) (BreaksRle top front line a)
         → MatchBool m (broken top front line ≡ Some b) (BreaksRle top front line b) → a ≡ b
     by true p q = some_same a b (broken top front line) p q
-    by false p q = Breaks-unique top front line a b p q
+    by false p q = (broken_for_good top front line b q).1 a p
 
 pub faults_are_unique : (top : ℕ) → FaultsAreUnique top
 faults_are_unique top = λ lines a b p q. one_refusal (Accepts top) (Breaks top) missing (breaks-once top) lines a b p q
