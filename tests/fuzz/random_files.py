@@ -58,8 +58,17 @@ def joined(random, lines):
 # ---- Rule texts
 
 
+def four_text(random, least=1):
+    """A B/S rule of four neighbours in one of its forms."""
+    births, survivals = (bytes(random.choices(digits, k=random.choice([0, 1, 1, 2, 3, 10]))) for digits in (b"01234"[least:], b"01234"))
+    b, s, slash, v = random.choice([b"B", b"b"]), random.choice([b"S", b"s"]), random.choice([b"/", b""]), random.choice([b"V", b"v"])
+    return b + births + slash + s + survivals + v
+
+
 def life_text(random, least=1):
     """A B/S rule in one of its forms."""
+    if chance(random, 0.25):
+        return four_text(random, least)
     births, survivals = (bytes(random.choices(digits, k=random.choice([0, 1, 1, 2, 3, 10]))) for digits in (b"012345678"[least:], b"012345678"))
     b, s, slash = random.choice([b"B", b"b"]), random.choice([b"S", b"s"]), random.choice([b"/", b""])
     forms = [b + births + slash + s + survivals, s + survivals + slash + b + births, survivals + b"/" + births]

@@ -14,6 +14,7 @@ def example(name):
 LIFE_FILES = {
     "a glider": b"x = 3, y = 3, rule = B3/S23\nbo$2bo$3o!\n",
     "lines that end by CR LF": b"#C\r\n#CXRLE Gen=3 Pos=-4,0\r\nx=9,y=1,rule=23/3\r\no7bo!\r\n",
+    "a rule of four neighbours": b"#CXRLE Pos=-1,0\nx = 3, y = 2, rule = b13s024v\n3o$o!\n",
     "a row as wide as the plane": b"#CXRLE Pos=-576460752303423488,0\nx = 1, y = 1\n1152921504606846976o!\n",
     "a row at the first edge": b"#CXRLE Pos=5,-576460752303423488\nx=1,y=1\n3o!",
     "a row at the last edge": b"#CXRLE Pos=576460752303423485,576460752303423487\nx = 1, y = 1\n3o$!",

@@ -35,7 +35,8 @@ def step_by_rule(squares, pattern):
         raise Fault("NeedsTable")
     check_cells(pattern)
     alive = {(x, y) for x, y, _ in cells_of(pattern.plane)}
-    counts = Counter((x + right, y + down) for x, y in alive for right, down in MOORE)
+    around = MOORE if pattern.rule.neighbours == 8 else VON_NEUMANN
+    counts = Counter((x + right, y + down) for x, y in alive for right, down in around)
     born = {place for place, count in counts.items() if place not in alive and count in pattern.rule.births}
     staying = {place for place in alive if counts[place] in pattern.rule.survivals}
     return next_of(squares, pattern, dict.fromkeys(born | staying, 1))

@@ -6,6 +6,8 @@ from typing import NamedTuple, Optional
 from .lines import Broken, bare
 
 LONGEST_RULE = 255
+# A von Neumann rule: its births, and its survivals.
+FOUR_NEIGHBOURS = rb"[Bb]([0-4]*)/?[Ss]([0-4]*)[Vv]"
 # Each form with the places of the births and of the survivals in it.
 FORMS = (
     (rb"[Bb]([0-8]*)/[Ss]([0-8]*)", 1, 2),
@@ -17,11 +19,12 @@ FORMS = (
 
 
 class Rule(NamedTuple):
-    """A rule by its canonical text. A B/S rule has its two sets of counts too."""
+    """A rule by its canonical text. A B/S rule has its two sets of counts too, and whether it counts four neighbours or eight."""
 
     text: bytes
     births: Optional[frozenset] = None
     survivals: Optional[frozenset] = None
+    neighbours: Optional[int] = None
 
     @property
     def is_life(self):
@@ -32,10 +35,13 @@ class Rule(NamedTuple):
         return 1 if self.is_life else 255
 
 
-def life(births, survivals):
-    """The B/S rule of two texts of digits."""
+def life(births, survivals, neighbours=8):
+    """The B/S rule of two texts of digits, unless cells are born on 0."""
+    if b"0" in births:
+        raise Broken("BirthOnZero")
     births, survivals = (b"".join(b"%d" % digit for digit in range(9) if b"%d" % digit in digits) for digits in (births, survivals))
-    return Rule(b"B%s/S%s" % (births, survivals), *(frozenset(map(int, digits.decode())) for digits in (births, survivals)))
+    text = b"B%s/S%s%s" % (births, survivals, b"V" if neighbours == 4 else b"")
+    return Rule(text, *(frozenset(map(int, digits.decode())) for digits in (births, survivals)), neighbours)
 
 
 CONWAY = life(b"3", b"23")
@@ -50,9 +56,9 @@ def rule_of(text):
         raise Broken("BoundedGrid")
     for form, births, survivals in FORMS:
         if match := re.fullmatch(form, text):
-            if b"0" in match[births]:
-                raise Broken("BirthOnZero")
             return life(match[births], match[survivals])
+    if match := re.fullmatch(FOUR_NEIGHBOURS, text):
+        return life(match[1], match[2], neighbours=4)
     if any(re.fullmatch(form + rb"[VvHh]", text) for form, _, _ in FORMS) or b"/" in text:
         raise Broken("UnsupportedRule")
     return Rule(text)

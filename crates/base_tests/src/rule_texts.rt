@@ -1,6 +1,6 @@
 //! Rules, read from texts and written to them.
 
-use life_base::{Kind, LifeRule, Rule, append, trimmed};
+use life_base::{Kind, LifeRule, Near, Rule, append, trimmed};
 use std::alloc::Global;
 use std::process::Abort;
 
@@ -38,6 +38,15 @@ Life B/S8|S8B
 Life B36/S125|125/36
 Life B3678/S34678|S87643B8763
 Life B12345678/S012345678|B87654321/S876543210
+Life B3/S23V|B3S23V
+Life B3/S23V|B3S23v
+Life B3/S23V|\x20b3/s32v\t
+Life B13/S02V|b31/s20v
+Life B/SV|BSV
+Life B/SV|b/sv
+Life B1/SV|B1/SV
+Life B/S0V|BS0V
+Life B1234/S01234V|B4321/S43210V
 BirthOnZero|B0/S
 BirthOnZero|B03/S23
 BirthOnZero|b30S23
@@ -46,6 +55,8 @@ BirthOnZero|S/B0
 BirthOnZero|sb10
 BirthOnZero|/0
 BirthOnZero|23/30
+BirthOnZero|B0/S1V
+BirthOnZero|b40s1v
 Name|Life
 Name|\x20Life\r
 Name|B3
@@ -79,18 +90,21 @@ Name|#
 Name|@
 Name|\\
 Name|B3|S23
-UnsupportedRule|BSV
+UnsupportedRule|SBV
 UnsupportedRule|SBh
 UnsupportedRule|/V
 UnsupportedRule|/h
-UnsupportedRule|B3S23V
-UnsupportedRule|B3S23v
+UnsupportedRule|B05/S2V
+UnsupportedRule|B5S23V
+UnsupportedRule|B3/S25v
+UnsupportedRule|B3S8V
 UnsupportedRule|B3/S23H
 UnsupportedRule|b3/s23h
 UnsupportedRule|S23/B3V
 UnsupportedRule|s23b3H
+UnsupportedRule|23/3V
 UnsupportedRule|23/3v
-UnsupportedRule|B0/S1V
+UnsupportedRule|s0b0V
 UnsupportedRule|0/0H
 UnsupportedRule|B9/S1
 UnsupportedRule|B1/S9
@@ -109,6 +123,10 @@ UnsupportedRule|a/b
 UnsupportedRule|B3/B3
 UnsupportedRule|S2/S3
 UnsupportedRule|b3/s23VV
+UnsupportedRule|B1/S4VV
+UnsupportedRule|B3/S23HV
+UnsupportedRule|VB3/S23
+UnsupportedRule|B3V/S23
 UnsupportedRule|MAPab/c==
 BadRule|
 BadRule|\x20\t\r\x20
@@ -174,7 +192,7 @@ fn rule_texts_say_their_rules(rt: HostRuntime) {
         assert_row(&rt, rt.alloc(), row);
         count = number;
     }
-    assert_eq!(rt; count, 124);
+    assert_eq!(rt; count, 142);
 }
 
 /// What the steps say of `x`, a byte and `y`.
@@ -253,11 +271,23 @@ fn rules_are_compared_as_values(rt: HostRuntime) {
         ("23/3", "B/S23", false),
         ("Life", "B3/S23", false),
         ("B3/S23", "Life", false),
+        ("B3/S23V", "b3s23v", true),
+        ("B3/S23V", "B3/S23", false),
+        ("B3/S23", "B3/S23V", false),
         ("Foo", "Foo", true),
         ("Foo", "foo", false),
         ("Foo", "Food", false),
     ] {
         assert_same(&rt, rt.alloc(), left, right, want);
+    }
+}
+
+/// Whether a dead cell and a live one are alive next, by a count of live neighbours up to the number of those that count.
+fn next_states(rule: &LifeRule, count: u8) -> Option<(bool, bool)> {
+    match rule.near {
+        Near::Moore if count <= 8 => Some((rule.next(false, count), rule.next(true, count))),
+        Near::VonNeumann if count <= 4 => Some((rule.next(false, count), rule.next(true, count))),
+        _ => None,
     }
 }
 
@@ -267,8 +297,8 @@ fn the_default_rule_is_conways(rt: HostRuntime) {
         panic!(rt; "a name");
     };
     for count in 0..=8u8 {
-        let next = (life.next(false, count), life.next(true, count));
-        assert_eq!(rt; next, (count == 3, count == 2 || count == 3));
+        let next = next_states(&life, count);
+        assert_eq!(rt; next, Some((count == 3, count == 2 || count == 3)));
     }
     let mut text = Vec::new(rt.alloc());
     Rule::default_rule().write(&mut text).expect(&rt, "memory");
@@ -276,10 +306,26 @@ fn the_default_rule_is_conways(rt: HostRuntime) {
 }
 
 #[test]
+fn four_neighbours_are_counted_up_to_four(rt: HostRuntime) {
+    let Ok(Rule::Life(rule)) = Rule::parse(rt.alloc(), b"B24/S03V") else {
+        panic!(rt; "no B/S rule");
+    };
+    for count in 0..=4u8 {
+        let next = next_states(&rule, count);
+        assert_eq!(rt;
+            next,
+            Some((count == 2 || count == 4, count == 0 || count == 3))
+        );
+    }
+    assert!(rt; next_states(&rule, 5).is_none());
+}
+
+#[test]
 fn a_refused_write_leaves_the_vector(rt: HostRuntime) {
     let rule = Rule::Life(LifeRule {
         births: 0b1_1111_1110,
         survivals: 0b1_1111_1111,
+        near: Near::Moore,
     });
     let mut out = Vec::from_slice(rt.alloc(), b"#R ").expect(&rt, "memory");
     match rule.write(&mut out) {

@@ -1,12 +1,18 @@
 //! Rules, texts and reading.
 
-use life_base::{Device, Fault, Items, LifeRule, Rule, append, append_number, read_within};
+use life_base::{Device, Fault, Items, LifeRule, Near, Rule, append, append_number, read_within};
 use std::alloc::Global;
 
 // B3/S23.
 fn is_life(rule: &Rule) -> bool {
     match rule {
-        Rule::Life(LifeRule { births, survivals }) => *births == 8 && *survivals == 12,
+        Rule::Life(
+            LifeRule {
+                births,
+                survivals,
+                near,
+            },
+        ) => *births == 8 && *survivals == 12 && *near == Near::Moore,
         Rule::Named(_) => false,
     }
 }

@@ -8,6 +8,8 @@ pub mod DigitSum
 pub mod Refusals
 pub mod NumberedLines
 pub mod RoundTrip
+pub mod ReadBack
+pub mod MooreRules
 pub mod NamesRead
 pub mod WritingLemmas
 pub mod RuleKinds

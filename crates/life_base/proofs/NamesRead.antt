@@ -1,12 +1,13 @@
 -- A name is the rule text that says it.
-use Rattle.std.proofs.Common.{◌≡◌, ℕ, List, [], ◌∷◌, length, Bool, true, false, cond, not, ◌&&◌, ◌||◌, refl, ap, ◌∙◌, arith}
-use Rattle.std.specs.Prelude.{nat_le, nat_lt, ◌==◌, None, Ok, Err}
+use Rattle.std.proofs.Common.{◌≡◌, ℕ, ◌-◌, List, take, drop, [], ◌∷◌, length, Bool, true, false, cond, not, ◌&&◌, ◌||◌, refl, ap, ◌∙◌, arith}
+use Rattle.std.specs.Prelude.{nat_le, nat_lt, ◌==◌, map, codes, bytes_eq, is_some, Option, Some, None, Ok, Err}
 use Rattle.std.specs.List.{list_all, list_any}
 use Rattle.std.proofs.lemmas.Bool.Decides.{nat_tests}
 use Rattle.life_base.proofs.Numbers.{first, second}
 use Rattle.life_base.proofs.RoundTrip.{none_passes}
+use Rattle.life_base.specs.Sets.{DigitSets}
 use Rattle.life_base.specs.Text.{is_whitespace, without_last, trim, trim_start, is_empty}
-use Rattle.life_base.specs.Rules.{life_sets, rule_of, rule_of_trimmed, is_bad_text, life_or_other, names_other_neighbours}
+use Rattle.life_base.specs.Rules.{life_sets, rule_of, rule_of_trimmed, is_bad_text, life_or_other, four_or_other, four_sets, up_to_four, upper, names_other_neighbours}
 use Rattle.life_base.specs.declared.kind.Kind.TheVariants.{BadRule, BoundedGrid, UnsupportedRule}
 use Rattle.life_base.specs.declared.rule.Rule.TheVariants.{Named}
 
@@ -48,6 +49,22 @@ pub rule_text_trimmed : (text : List ℕ) → is_bad_text text ≡ false → tri
 rule_text_trimmed text h =
     solid_trimmed text (all_pass visible solid visible_solid text (last_of_or (is_empty text) (nat_lt 255 (length text)) (list_all visible text) h))
 
+-- a text without a letter of other neighbours is no von Neumann text
+none_by : (o : Option DigitSets) (u v w : Bool) → (is_some o && (v || w)) ≡ false → cond (u && v) (up_to_four o) None ≡ None
+none_by None false v w h = refl
+none_by None true false w h = refl
+none_by None true true w h = refl
+none_by (Some s) false v w h = refl
+none_by (Some s) true false w h = refl
+none_by (Some s) true true w h = cc
+
+pub four_none : (text : List ℕ) → names_other_neighbours text ≡ false → four_sets text ≡ None
+unfolding four_sets
+four_none text h =
+    let front = take (length text - 1) text in
+    let end = drop (length text - 1) text in
+    none_by (life_sets front) (bytes_eq (map upper (take 1 front)) (codes "B")) (bytes_eq (map upper end) (codes "V")) (bytes_eq (map upper end) (codes "H")) h
+
 -- the last step of `rule_of`
 pub name_says : (text : List ℕ) → is_bad_text text ≡ false → list_any (λ b. b == 58) text ≡ false → life_sets text ≡ None
     → names_other_neighbours text ≡ false → list_any (λ b. b == 47) text ≡ false → rule_of text ≡ Ok (Named text)
@@ -57,5 +74,6 @@ name_says text shape colon none other slash =
     ∙ ap (λ v. cond v (Err BadRule) (cond (list_any (λ b. b == 58) text) (Err BoundedGrid) (life_or_other text (life_sets text)))) shape
     ∙ ap (λ v. cond v (Err BoundedGrid) (life_or_other text (life_sets text))) colon
     ∙ ap (life_or_other text) none
+    ∙ ap (four_or_other text) (four_none text other)
     ∙ ap (λ v. cond v (Err UnsupportedRule) (cond (list_any (λ b. b == 47) text) (Err UnsupportedRule) (Ok (Named text)))) other
     ∙ ap (λ v. cond v (Err UnsupportedRule) (Ok (Named text))) slash

@@ -1,4 +1,4 @@
--- The text of a rule says that rule.
+-- The text of a rule of the eight neighbours says that rule.
 use Rattle.std.proofs.Common.{◌≡◌, ℕ, zero, suc, ◌<◌, ◌≤◌, List, [], ◌∷◌, ◌++◌, length, Bool, true, false, cond, not, ◌&&◌, ◌||◌, refl, ap, ◌∙◌, arith, length-append, append_assoc, ◌⊎◌, inl, inr}
 use Rattle.std.specs.Prelude.{codes, filter, nat_le, nat_lt, ◌==◌, Ok, Err, map}
 use Rattle.std.specs.List.{list_all, list_any, slice_split}
@@ -8,9 +8,9 @@ use Rattle.std.proofs.lemmas.List.Folds.{list_all-append}
 use Rattle.life_base.proofs.Numbers.{first, second}
 use Rattle.life_base.specs.Sets.{DigitSets}
 use Rattle.life_base.specs.Text.{is_whitespace, without_last, trim}
-use Rattle.life_base.specs.Rules.{digits_of, digit_set, is_count_digit, digit_groups, marks, upper, life_sets, life_form, rule_of, rule_of_trimmed, rule_text, is_bad_text, life_rule, life_or_other, AreLifeSets, RulesReadBack, sets}
+use Rattle.life_base.specs.Rules.{digits_of, digit_set, is_count_digit, digit_groups, marks, upper, life_sets, life_form, rule_of, rule_of_trimmed, rule_text, is_bad_text, life_rule, life_or_other, counting, IsLifeRule, sets}
 use Rattle.life_base.specs.declared.kind.Kind.TheVariants.{BadRule, BoundedGrid, BirthOnZero}
-use Rattle.life_base.specs.declared.rule.Rule.TheVariants.{Life, Named}
+use Rattle.life_base.specs.declared.rule.Near.TheVariants.{Moore}
 
 -- ---- each set of digits, by a test of all 512
 
@@ -40,7 +40,7 @@ set_at set h = all_below_at 512 set_test set each_set h
 eq-true : (a b : ℕ) → (a == b) ≡ true → a ≡ b
 eq-true a b h = grind (arith, nat_tests)
 
-set_again : (set : ℕ) → set < 512 → digit_set (digits_of set) ≡ set
+pub set_again : (set : ℕ) → set < 512 → digit_set (digits_of set) ≡ set
 set_again set h = eq-true _ _ (first _ _ (set_at set h))
 
 pub set_digits : (set : ℕ) → set < 512 → list_all is_count_digit (digits_of set) ≡ true
@@ -59,7 +59,7 @@ both : (a b : Bool) → a ≡ true → b ≡ true → (a && b) ≡ true
 both a b h k = ap (λ v. v && b) h ∙ k
 
 -- the whole text of a B/S rule, by its digits
-text_passes : (q : ℕ → Bool) → ((b : ℕ) → is_count_digit b ≡ true → q b ≡ true) → list_all q (codes "B/S") ≡ true
+pub text_passes : (q : ℕ → Bool) → ((b : ℕ) → is_count_digit b ≡ true → q b ≡ true) → list_all q (codes "B/S") ≡ true
     → (ds es : List ℕ) → list_all is_count_digit ds ≡ true → list_all is_count_digit es ≡ true → list_all q (66 ∷ (ds ++ 47 ∷ 83 ∷ es)) ≡ true
 text_passes q f m ds es d e =
     both (q 66) _ (first _ _ m)
@@ -115,7 +115,7 @@ marks_of_text : (ds es : List ℕ) → list_all is_count_digit ds ≡ true → l
     → marks (66 ∷ (ds ++ 47 ∷ 83 ∷ es)) ≡ codes "B/S"
 marks_of_text ds es h k = ap (λ (t : List ℕ). map upper (66 ∷ t)) (no_marks ds (47 ∷ 83 ∷ es) h ∙ ap (λ (t : List ℕ). 47 ∷ 83 ∷ t) (none_left es k))
 
-sets_again : (ds es : List ℕ) → list_all is_count_digit ds ≡ true → list_all is_count_digit es ≡ true
+pub sets_again : (ds es : List ℕ) → list_all is_count_digit ds ≡ true → list_all is_count_digit es ≡ true
     → life_sets (66 ∷ (ds ++ 47 ∷ 83 ∷ es)) ≡ sets ds es
 unfolding life_sets
 sets_again ds es h k =
@@ -129,10 +129,10 @@ visible b = nat_le 33 b && nat_le b 126
 digit_solid : (b : ℕ) → is_count_digit b ≡ true → not (is_whitespace b) ≡ true
 digit_solid b h = grind (arith, nat_tests)
 
-digit_visible : (b : ℕ) → is_count_digit b ≡ true → visible b ≡ true
+pub digit_visible : (b : ℕ) → is_count_digit b ≡ true → visible b ≡ true
 digit_visible b h = grind (arith, nat_tests)
 
-digit_no_colon : (b : ℕ) → is_count_digit b ≡ true → not (b == 58) ≡ true
+pub digit_no_colon : (b : ℕ) → is_count_digit b ≡ true → not (b == 58) ≡ true
 digit_no_colon b h = grind (arith, nat_tests)
 
 not_more : (n : ℕ) → n ≤ 255 → nat_lt 255 n ≡ false
@@ -151,7 +151,7 @@ module _ (ds es : List ℕ) (d : list_all is_count_digit ds ≡ true) (e : list_
   pub text_is_rule : is_bad_text text ≡ false
   text_is_rule = ap (λ v. v || not (list_all visible text)) (not_more (length text) text_short) ∙ ap not (text_passes visible digit_visible refl ds es d e)
 
-  text_rule : rule_of text ≡ life_rule (record { births = digit_set ds; survivals = digit_set es })
+  text_rule : rule_of text ≡ life_rule Moore (record { births = digit_set ds; survivals = digit_set es })
   unfolding rule_of
   text_rule =
       ap rule_of_trimmed text_trimmed
@@ -159,14 +159,10 @@ module _ (ds es : List ℕ) (d : list_all is_count_digit ds ≡ true) (e : list_
       ∙ ap (λ v. cond v (Err BoundedGrid) (life_or_other text (life_sets text))) (no_any (λ b. b == 58) text (text_passes (λ b. not (b == 58)) digit_no_colon refl ds es d e))
       ∙ ap (life_or_other text) (sets_again ds es d e)
 
-life_again : (v : DigitSets) → AreLifeSets v → rule_of (rule_text (Life v)) ≡ Ok (Life v)
-life_again v h =
+pub moore_again : (v : DigitSets) → IsLifeRule (record { sets = v; near = Moore }) → rule_of (rule_text (counting Moore v)) ≡ Ok (counting Moore v)
+moore_again v h =
     ap (λ (t : List ℕ). rule_of (66 ∷ t)) (append_assoc (digits_of v.births) (codes "/S") (digits_of v.survivals))
     ∙ text_rule (digits_of v.births) (digits_of v.survivals) (set_digits v.births h.births) (set_digits v.survivals h.survivals) (set_short v.births h.births) (set_short v.survivals h.survivals)
-    ∙ ap (λ (b : ℕ). life_rule (record { births = b; survivals = digit_set (digits_of v.survivals) })) (set_again v.births h.births)
-    ∙ ap (λ (s : ℕ). life_rule (record { births = v.births; survivals = s })) (set_again v.survivals h.survivals)
-    ∙ ap (λ w. cond w (Err BirthOnZero) (Ok (Life v))) h.no_birth_on_zero
-
-pub rules_read_back : RulesReadBack
-rules_read_back (Life v) h = life_again v h
-rules_read_back (Named name) h = h
+    ∙ ap (λ (b : ℕ). life_rule Moore (record { births = b; survivals = digit_set (digits_of v.survivals) })) (set_again v.births h.births)
+    ∙ ap (λ (s : ℕ). life_rule Moore (record { births = v.births; survivals = s })) (set_again v.survivals h.survivals)
+    ∙ ap (λ w. cond w (Err BirthOnZero) (Ok (counting Moore v))) h.no_birth_on_zero

@@ -7,13 +7,16 @@ use Rattle.std.proofs.lemmas.Slice.Eq.{bytes_eq-Decides}
 use Rattle.std.proofs.lemmas.List.{take-append-drop}
 use Rattle.std.proofs.Math.Seq.{take-append_seam, drop-append_seam}
 use Rattle.life_base.proofs.Numbers.{first, second}
-use Rattle.life_base.proofs.NamesRead.{all_pass, solid}
+use Rattle.std.proofs.lemmas.List.Folds.{list_all-append}
+use Rattle.life_base.proofs.NamesRead.{all_pass, solid, four_none}
 use Rattle.life_base.proofs.RoundTrip.{is_mark, split_at, split_end, no_marks, none_left, no_any}
 use Rattle.life_base.specs.Sets.{DigitSets}
 use Rattle.life_base.specs.Text.{is_whitespace, is_empty, trim, trim_start, without_last}
-use Rattle.life_base.specs.Rules.{is_count_digit, upper, digit_set, has_digit, digit_groups, marks, sets, life_form, life_sets, life_or_other, names_other_neighbours, is_bad_text, rule_of, rule_of_trimmed}
-use Rattle.life_base.specs.RuleForms.{IsForm, IsLifeText, IsAround, IsRuleWord, names_neighbours, IsOtherWord, WordSays, SaysRule}
+use Rattle.life_base.specs.Rules.{is_count_digit, upper, digit_set, has_digit, digit_groups, marks, sets, life_form, life_sets, four_sets, up_to_four, life_or_other, four_or_other, counting, names_other_neighbours, is_bad_text, rule_of, rule_of_trimmed}
+use Rattle.life_base.specs.RuleForms.{IsForm, IsLifeText, IsFourText, IsNearText, IsAround, IsRuleWord, names_neighbours, IsOtherWord, WordSays, SaysRule}
 use Rattle.life_base.specs.declared.kind.Kind.TheVariants.{BadRule, BoundedGrid, UnsupportedRule, BirthOnZero}
+use Rattle.life_base.specs.declared.rule.Near.{Near}
+use Rattle.life_base.specs.declared.rule.Near.TheVariants.{Moore, VonNeumann}
 use Rattle.life_base.specs.declared.rule.Rule.{Rule}
 use Rattle.life_base.specs.declared.rule.Rule.TheVariants.{Life, Named}
 
@@ -267,6 +270,125 @@ is_form_of_life text s l =
 pub life_texts_are_forms : (text : List ℕ) (s : DigitSets) → (life_sets text ≡ Some s) ↔ IsLifeText text s
 life_texts_are_forms text s = (life_is_form text s, is_form_of_life text s)
 
+-- ---- a von Neumann text
+
+-- no byte of a text of one of the five forms is a `V`
+abbrev no_v : ℕ → Bool
+no_v b = not (b == 86)
+
+digit_no_v : (b : ℕ) → is_count_digit b ≡ true → no_v b ≡ true
+digit_no_v b h = grind (arith, nat_tests)
+
+pass_two : (xs ys : List ℕ) → list_all no_v xs ≡ true → list_all no_v ys ≡ true → list_all no_v (xs ++ ys) ≡ true
+pass_two xs ys h k = list_all-append no_v xs ys ∙ both (list_all no_v xs) (list_all no_v ys) h k
+
+digits_no_v : (ds : List ℕ) → list_all is_count_digit ds ≡ true → list_all no_v ds ≡ true
+digits_no_v ds h = all_pass is_count_digit no_v digit_no_v ds h
+
+form_no_v : (text births survivals : List ℕ) → list_all no_v births ≡ true → list_all no_v survivals ≡ true → IsForm text births survivals → list_all no_v text ≡ true
+form_no_v text b s d e (inl w) = ap (list_all no_v) w ∙ pass_two ((codes "B" ++ b) ++ codes "/S") s (pass_two (codes "B" ++ b) (codes "/S") d refl) e
+form_no_v text b s d e (inr (inl w)) = ap (list_all no_v) w ∙ pass_two ((codes "S" ++ s) ++ codes "/B") b (pass_two (codes "S" ++ s) (codes "/B") e refl) d
+form_no_v text b s d e (inr (inr (inl w))) = ap (list_all no_v) w ∙ pass_two ((codes "B" ++ b) ++ codes "S") s (pass_two (codes "B" ++ b) (codes "S") d refl) e
+form_no_v text b s d e (inr (inr (inr (inl w)))) = ap (list_all no_v) w ∙ pass_two ((codes "S" ++ s) ++ codes "B") b (pass_two (codes "S" ++ s) (codes "B") e refl) d
+form_no_v text b s d e (inr (inr (inr (inr w)))) = ap (list_all no_v) w ∙ pass_two (s ++ codes "/") b (pass_two s (codes "/") e refl) d
+
+and_false : (v : Bool) → (v && false) ≡ false
+and_false true = refl
+and_false false = refl
+
+v_behind : (front : List ℕ) (last : ℕ) → upper last ≡ 86 → list_all no_v (map upper (front ++ last ∷ [])) ≡ false
+v_behind [] last e = ap (λ c. no_v c && true) e
+v_behind (b ∷ front) last e = ap (λ v. no_v (upper b) && v) (v_behind front last e) ∙ and_false (no_v (upper b))
+
+no_form_with_v : (word front : List ℕ) (last : ℕ) → word ≡ front ++ last ∷ [] → upper last ≡ 86 → (o : Option DigitSets) → life_sets word ≡ o → o ≡ None
+no_form_with_v word front last w e None h = refl
+no_form_with_v word front last w e (Some s) h =
+    let l = life_is_form word s h in
+    let k : true ≡ false =
+    sym (form_no_v (map upper word) l.births l.survivals (digits_no_v l.births l.birth_digits) (digits_no_v l.survivals l.survival_digits) l.form)
+    ∙ ap (λ (t : List ℕ). list_all no_v (map upper t)) w ∙ v_behind front last e in
+    cc
+
+below_32 : (n : ℕ) → nat_lt n 32 ≡ true → n < 32
+below_32 n h = grind (arith, nat_tests)
+
+is_below : (n : ℕ) → n < 32 → nat_lt n 32 ≡ true
+is_below n h = grind (arith, nat_tests)
+
+one_letter : (end : List ℕ) (c : ℕ) → map upper end ≡ c ∷ [] → (last : ℕ) × (end ≡ last ∷ []) × (upper last ≡ c)
+one_letter [] c h = cc
+one_letter (b ∷ []) c h = let e : upper b ≡ c = cc in (b, refl, e)
+one_letter (b ∷ d ∷ end) c h = cc
+
+begins_with : (front : List ℕ) → map upper (take 1 front) ≡ 66 ∷ [] → (rest : List ℕ) × (map upper front ≡ 66 ∷ rest)
+begins_with [] h = cc
+begins_with (b ∷ front) h = let e : upper b ≡ 66 = cc in (map upper front, ap (λ c. c ∷ map upper front) e)
+
+begins : (front rest : List ℕ) → map upper front ≡ 66 ∷ rest → bytes_eq (map upper (take 1 front)) (codes "B") ≡ true
+begins [] rest h = cc
+begins (b ∷ front) rest h = let e : upper b ≡ 66 = cc in ap (λ c. bytes_eq (c ∷ []) (codes "B")) e
+
+within : (found s : DigitSets) (u v : Bool) → nat_lt found.births 32 ≡ u → nat_lt found.survivals 32 ≡ v → cond (u && v) (Some found) None ≡ Some s
+    → (found ≡ s) × (found.births < 32) × (found.survivals < 32)
+within found s true true e f h = (some_is found s h, below_32 found.births e, below_32 found.survivals f)
+within found s true false e f h = cc
+within found s false v e f h = cc
+
+four_by : (text front end : List ℕ) (s : DigitSets) (v w : Bool) (o : Option DigitSets) → text ≡ front ++ end → life_sets front ≡ o
+    → bytes_eq (map upper (take 1 front)) (codes "B") ≡ v → bytes_eq (map upper end) (codes "V") ≡ w → cond (v && w) (up_to_four o) None ≡ Some s → IsFourText text s
+four_by text front end s true true (Some found) t l e f h =
+    let k = within found s (nat_lt found.births 32) (nat_lt found.survivals 32) refl refl h in
+    let p = one_letter end 86 (same_bytes (map upper end) (codes "V") f) in
+    let q = begins_with front (same_bytes (map upper (take 1 front)) (codes "B") e) in
+    subst (IsFourText text) k.0 (record {
+      front = front;
+      last = p.0;
+      is = t ∙ ap (λ (x : List ℕ). front ++ x) p.1;
+      letter = p.2;
+      rest = q.0;
+      begins = q.1;
+      form = life_is_form front found l;
+      births = k.1;
+      survivals = k.2;
+    })
+four_by text front end s true true None t l e f h = cc
+four_by text front end s true false o t l e f h = cc
+four_by text front end s false w o t l e f h = cc
+
+four_is_form : (text : List ℕ) (s : DigitSets) → four_sets text ≡ Some s → IsFourText text s
+unfolding four_sets
+four_is_form text s h =
+    let front = take (length text - 1) text in
+    let end = drop (length text - 1) text in
+    four_by text front end s (bytes_eq (map upper (take 1 front)) (codes "B")) (bytes_eq (map upper end) (codes "V")) (life_sets front)
+    (sym (take-append-drop (length text - 1) text)) refl refl refl h
+
+-- the bytes before the last one, and the last one
+module _ (word front : List ℕ) (last : ℕ) (w : word ≡ front ++ last ∷ []) where
+  cut : length word - 1 ≡ length front
+  cut = omega (arith, ap length w, length-append front (last ∷ []))
+
+  front_is : take (length word - 1) word ≡ front
+  front_is = ap (λ k. take k word) cut ∙ ap (take (length front)) w ∙ take-append_seam front (last ∷ [])
+
+  end_is : drop (length word - 1) word ≡ last ∷ []
+  end_is = ap (λ k. drop k word) cut ∙ ap (drop (length front)) w ∙ drop-append_seam front (last ∷ [])
+
+is_form_of_four : (text : List ℕ) (s : DigitSets) → IsFourText text s → four_sets text ≡ Some s
+unfolding four_sets
+is_form_of_four text s f =
+    let end : List ℕ = drop (length text - 1) text in
+    ap (λ (t : List ℕ). cond (bytes_eq (map upper (take 1 t)) (codes "B") && bytes_eq (map upper end) (codes "V")) (up_to_four (life_sets t)) None) (front_is text f.front f.last f.is)
+    ∙ ap (λ v. cond (v && bytes_eq (map upper end) (codes "V")) (up_to_four (life_sets f.front)) None) (begins f.front f.rest f.begins)
+    ∙ ap (λ (t : List ℕ). cond (bytes_eq (map upper t) (codes "V")) (up_to_four (life_sets f.front)) None) (end_is text f.front f.last f.is)
+    ∙ ap (λ c. cond (bytes_eq (c ∷ []) (codes "V")) (up_to_four (life_sets f.front)) None) f.letter
+    ∙ ap up_to_four (is_form_of_life f.front s f.form)
+    ∙ ap (λ v. cond (v && nat_lt s.survivals 32) (Some s) None) (is_below s.births f.births)
+    ∙ ap (λ v. cond v (Some s) None) (is_below s.survivals f.survivals)
+
+pub four_texts_are_forms : (text : List ℕ) (s : DigitSets) → (four_sets text ≡ Some s) ↔ IsFourText text s
+four_texts_are_forms text s = (four_is_form text s, is_form_of_four text s)
+
 -- ---- whitespace around a word
 
 record Front (text rest : List ℕ) : Type 0 where
@@ -398,11 +520,6 @@ letter_names last h =
       | inr r ↦ elim r [ inl e ↦ subst P (sym e) refl | inr q ↦ elim q [ inl e ↦ subst P (sym e) refl | inr e ↦ subst P (sym e) refl ] ]
     ]
 
-one_letter : (end : List ℕ) (c : ℕ) → map upper end ≡ c ∷ [] → (last : ℕ) × (end ≡ last ∷ []) × (upper last ≡ c)
-one_letter [] c h = cc
-one_letter (b ∷ []) c h = let e : upper b ≡ c = cc in (b, refl, e)
-one_letter (b ∷ d ∷ end) c h = cc
-
 v_names : (b : ℕ) → upper b ≡ 86 → names_neighbours b ≡ true
 v_names b h = grind (arith, nat_tests)
 
@@ -420,26 +537,17 @@ some_of None h = cc
 some_of (Some s) h = (s, refl)
 
 module _ (word front : List ℕ) (last : ℕ) (s : DigitSets) (w : word ≡ front ++ last ∷ []) (n : names_neighbours last ≡ true) (l : life_sets front ≡ Some s) where
-  cut : length word - 1 ≡ length front
-  cut = omega (arith, ap length w, length-append front (last ∷ []))
-
-  front_is : take (length word - 1) word ≡ front
-  front_is = ap (λ k. take k word) cut ∙ ap (take (length front)) w ∙ take-append_seam front (last ∷ [])
-
-  end_is : drop (length word - 1) word ≡ last ∷ []
-  end_is = ap (λ k. drop k word) cut ∙ ap (drop (length front)) w ∙ drop-append_seam front (last ∷ [])
-
   names_others : names_other_neighbours word ≡ true
   names_others =
       both (is_some (life_sets (take (length word - 1) word))) (names_other (drop (length word - 1) word))
-      (ap (λ (t : List ℕ). is_some (life_sets t)) front_is ∙ ap is_some l) (ap names_other end_is ∙ letter_names last n)
+      (ap (λ (t : List ℕ). is_some (life_sets t)) (front_is word front last w) ∙ ap is_some l) (ap names_other (end_is word front last w) ∙ letter_names last n)
 
 -- ---- what an accepted text says
 
-life_said : (word : List ℕ) (s : DigitSets) (rule : Rule) (v : Bool) → has_digit s.births 0 ≡ v → life_sets word ≡ Some s
-    → cond v (Err BirthOnZero) (Ok (Life s)) ≡ Ok rule → WordSays word rule
-life_said word s rule true e l h = cc
-life_said word s rule false e l h = let same : Life s ≡ rule = cc in subst (WordSays word) same (life_is_form word s l, e)
+life_said : (word : List ℕ) (near : Near) (s : DigitSets) (rule : Rule) (v : Bool) → has_digit s.births 0 ≡ v → IsNearText near word s
+    → cond v (Err BirthOnZero) (Ok (counting near s)) ≡ Ok rule → WordSays word rule
+life_said word near s rule true e l h = cc
+life_said word near s rule false e l h = let same : counting near s ≡ rule = cc in subst (WordSays word) same (l, e)
 
 is_other : (word : List ℕ) → life_sets word ≡ None → names_other_neighbours word ≡ false → list_any (λ b. b == 47) word ≡ false → IsOtherWord word
 is_other word none others slash = record {
@@ -454,12 +562,16 @@ other_said word rule true w e f none h = cc
 other_said word rule false true e f none h = cc
 other_said word rule false false e f none h = let same : Named word ≡ rule = cc in subst (WordSays word) same (refl, is_other word none e f)
 
+four_said : (word : List ℕ) (rule : Rule) (o : Option DigitSets) → life_sets word ≡ None → four_sets word ≡ o → four_or_other word o ≡ Ok rule → WordSays word rule
+four_said word rule (Some s) none f h = life_said word VonNeumann s rule (has_digit s.births 0) refl (four_is_form word s f) h
+four_said word rule None none f h = other_said word rule (names_other_neighbours word) (list_any (λ b. b == 47) word) refl refl none h
+
 said : (word : List ℕ) (rule : Rule) (v w : Bool) (o : Option DigitSets) → is_bad_text word ≡ v → list_any (λ b. b == 58) word ≡ w → life_sets word ≡ o
     → cond v (Err BadRule) (cond w (Err BoundedGrid) (life_or_other word o)) ≡ Ok rule → IsRuleWord word × WordSays word rule
 said word rule true w o e f l h = cc
 said word rule false true o e f l h = cc
-said word rule false false (Some s) e f l h = (rule_word word e f, life_said word s rule (has_digit s.births 0) refl l h)
-said word rule false false None e f l h = (rule_word word e f, other_said word rule (names_other_neighbours word) (list_any (λ b. b == 47) word) refl refl l h)
+said word rule false false (Some s) e f l h = (rule_word word e f, life_said word Moore s rule (has_digit s.births 0) refl (life_is_form word s l) h)
+said word rule false false None e f l h = (rule_word word e f, four_said word rule (four_sets word) l refl h)
 
 accepted : (text : List ℕ) (rule : Rule) → rule_of text ≡ Ok rule → SaysRule text rule
 unfolding rule_of
@@ -483,11 +595,21 @@ no_letter word h true e =
     let w : word ≡ front ++ p.0 ∷ [] = sym (take-append-drop (length word - 1) word) ∙ ap (λ (t : List ℕ). front ++ t) p.1 in
     absurd (h.no_neighbours front p.0 s.0 w p.2 (life_is_form front s.0 s.1))
 
+life_answers : (word : List ℕ) (near : Near) (sets : DigitSets) → IsNearText near word sets → has_digit sets.births 0 ≡ false
+    → life_or_other word (life_sets word) ≡ Ok (counting near sets)
+life_answers word Moore sets h quiet = ap (life_or_other word) (is_form_of_life word sets h) ∙ ap (λ v. cond v (Err BirthOnZero) (Ok (counting Moore sets))) quiet
+life_answers word VonNeumann sets h quiet =
+    ap (life_or_other word) (no_form_with_v word h.front h.last h.is h.letter (life_sets word) refl)
+    ∙ ap (four_or_other word) (is_form_of_four word sets h)
+    ∙ ap (λ v. cond v (Err BirthOnZero) (Ok (counting VonNeumann sets))) quiet
+
 answers : (word : List ℕ) (rule : Rule) → WordSays word rule → life_or_other word (life_sets word) ≡ Ok rule
-answers word (Life sets) h = ap (life_or_other word) (is_form_of_life word sets h.0) ∙ ap (λ v. cond v (Err BirthOnZero) (Ok (Life sets))) h.1
+answers word (Life rule) h = life_answers word rule.near rule.sets h.0 h.1
 answers word (Named name) h =
+    let letter = no_letter word h.1 (names_other_neighbours word) refl in
     ap (life_or_other word) (no_sets word h.1 (life_sets word) refl)
-    ∙ ap (λ v. cond v (Err UnsupportedRule) (cond (list_any (λ b. b == 47) word) (Err UnsupportedRule) (Ok (Named word)))) (no_letter word h.1 (names_other_neighbours word) refl)
+    ∙ ap (four_or_other word) (four_none word letter)
+    ∙ ap (λ v. cond v (Err UnsupportedRule) (cond (list_any (λ b. b == 47) word) (Err UnsupportedRule) (Ok (Named word)))) letter
     ∙ ap (λ v. cond v (Err UnsupportedRule) (Ok (Named word))) (no_any (λ b. b == 47) word h.1.no_slash)
     ∙ ap (λ (n : List ℕ). Ok (Named n)) (sym h.0)
 

@@ -4,7 +4,9 @@ use Rattle.std.specs.Prelude.{◌≡◌, ◌⊎◌, ◌↔◌, ℕ, ◌<◌, ◌
 use Rattle.std.specs.List.{list_all}
 use Rattle.life_base.specs.Sets.{DigitSets}
 use Rattle.life_base.specs.Text.{is_whitespace}
-use Rattle.life_base.specs.Rules.{is_count_digit, upper, digit_set, has_digit, life_sets, rule_of}
+use Rattle.life_base.specs.Rules.{is_count_digit, upper, digit_set, has_digit, life_sets, four_sets, rule_of}
+use Rattle.life_base.specs.declared.rule.Near.{Near}
+use Rattle.life_base.specs.declared.rule.Near.TheVariants.{Moore, VonNeumann}
 use Rattle.life_base.specs.declared.rule.Rule.{Rule}
 use Rattle.life_base.specs.declared.rule.Rule.TheVariants.{Life, Named}
 
@@ -28,6 +30,23 @@ pub record IsLifeText (text : List ℕ) (sets : DigitSets) : Type 0 where
   pub birth_set : sets.births ≡ digit_set births
   pub survival_set : sets.survivals ≡ digit_set survivals
 
+-- The text is a von Neumann rule with these sets: a B/S rule that begins with `B` or `b`, with no digit above 4, and then `V` or `v`.
+pub record IsFourText (text : List ℕ) (sets : DigitSets) : Type 0 where
+  pub front : List ℕ
+  pub last : ℕ
+  pub is : text ≡ front ++ last ∷ []
+  pub letter : upper last ≡ 86
+  pub rest : List ℕ
+  pub begins : map upper front ≡ 66 ∷ rest
+  pub form : IsLifeText front sets
+  pub births : sets.births < 32
+  pub survivals : sets.survivals < 32
+
+-- the text is a B/S rule with these neighbours and sets
+abbrev pub IsNearText : Near → List ℕ → DigitSets → Type 0
+IsNearText Moore text sets = IsLifeText text sets
+IsNearText VonNeumann text sets = IsFourText text sets
+
 -- the text is the word with whitespace in front of it and behind it, or without
 pub record IsAround (text word : List ℕ) : Type 0 where
   pub front : List ℕ
@@ -47,15 +66,15 @@ pub record IsRuleWord (word : List ℕ) : Type 0 where
 abbrev pub names_neighbours : ℕ → Bool
 names_neighbours b = b == 86 || b == 118 || b == 72 || b == 104
 
--- the word is no B/S rule, none behind which a letter names other neighbours, and has no slash
+-- the word is no B/S rule, none of the eight neighbours behind which a letter names others, and has no slash
 pub record IsOtherWord (word : List ℕ) : Type 0 where
   pub no_life : (sets : DigitSets) → IsLifeText word sets → ⊥
   pub no_neighbours : (front : List ℕ) (last : ℕ) (sets : DigitSets) → word ≡ front ++ last ∷ [] → names_neighbours last ≡ true → IsLifeText front sets → ⊥
   pub no_slash : list_all (λ b. not (b == 47)) word ≡ true
 
--- the word says this rule: B/S sets without a birth on 0, or itself as a name
+-- the word says this rule: a B/S rule without a birth on 0, or itself as a name
 abbrev pub WordSays : List ℕ → Rule → Type 0
-WordSays word (Life sets) = IsLifeText word sets × (has_digit sets.births 0 ≡ false)
+WordSays word (Life rule) = IsNearText rule.near word rule.sets × (has_digit rule.sets.births 0 ≡ false)
 WordSays word (Named name) = (name ≡ word) × IsOtherWord word
 
 -- the text, without whitespace at its ends, is a word that says this rule
@@ -68,6 +87,10 @@ pub record SaysRule (text : List ℕ) (rule : Rule) : Type 0 where
 -- the sets of a text are those of the five forms
 abbrev pub LifeTextsAreForms : Type 0
 LifeTextsAreForms = (text : List ℕ) (sets : DigitSets) → (life_sets text ≡ Some sets) ↔ IsLifeText text sets
+
+-- the sets of a von Neumann text are those of its form
+abbrev pub FourTextsAreForms : Type 0
+FourTextsAreForms = (text : List ℕ) (sets : DigitSets) → (four_sets text ≡ Some sets) ↔ IsFourText text sets
 
 -- a text is read as a rule exactly if it says that rule
 abbrev pub RuleTextsArePlain : Type 0

@@ -2,15 +2,17 @@
 -- QuickLife. The order of the tests, the kinds of fault, names and canonical texts are the project's own.
 use Rattle.std.specs.Prelude.{◌≡◌, ℕ, ◌+◌, ◌-◌, ◌/◌, ◌%◌, ◌^◌, ◌<◌, Bool, true, false, not, ◌&&◌, ◌||◌, List, [], ◌∷◌, ◌++◌, length, take, drop, map, filter, sum_by, nat_le, nat_lt, ◌==◌, if◌then◌else◌, bytes_eq, codes, is_some, Option, Some, None, Result, Ok, Err}
 use Rattle.std.specs.List.{list_all, list_any, slice_split}
-use Rattle.life_base.specs.Sets.{DigitSets}
+use Rattle.life_base.specs.Sets.{DigitSets, OuterTotalistic}
 use Rattle.life_base.specs.Text.{trim, is_empty}
 use Rattle.life_base.specs.declared.kind.Kind.{Kind}
 use Rattle.life_base.specs.declared.kind.Kind.TheVariants.{BadRule, BoundedGrid, UnsupportedRule, BirthOnZero}
 use Rattle.life_base.specs.declared.kind.Kind.TheVariants as kinds
+use Rattle.life_base.specs.declared.rule.Near.{Near}
+use Rattle.life_base.specs.declared.rule.Near.TheVariants.{Moore, VonNeumann}
 use Rattle.life_base.specs.declared.rule.Rule.{Rule}
 use Rattle.life_base.specs.declared.rule.Rule.TheVariants.{Life, Named}
 
--- the digits that a rule may name: how many of a cell's eight neighbours are alive (Golly Help, QuickLife)
+-- the digits that a rule may name: how many of a cell's neighbours are alive (Golly Help, QuickLife)
 abbrev pub counts : List ℕ
 counts = 0 ∷ 1 ∷ 2 ∷ 3 ∷ 4 ∷ 5 ∷ 6 ∷ 7 ∷ 8 ∷ []
 
@@ -69,13 +71,30 @@ names_other_neighbours text =
     is_some (life_sets (take (length text - 1) text))
     && (bytes_eq (map upper (drop (length text - 1) text)) (codes "V") || bytes_eq (map upper (drop (length text - 1) text)) (codes "H"))
 
+-- the sets, if no digit is above 4: the four neighbours of a cell are no more
+abbrev pub up_to_four : Option DigitSets → Option DigitSets
+up_to_four (Some sets) = if nat_lt sets.births 32 && nat_lt sets.survivals 32 then Some sets else None
+up_to_four None = None
+
+-- the births and survivals of a text of a von Neumann rule: `B`, births, `/S` or `S`, and survivals, with no digit above 4, and then `V`,
+-- letters in either case (Golly Help, QuickLife; without the `/`, the project's own)
+unfoldable pub four_sets : List ℕ → Option DigitSets
+four_sets text =
+    if bytes_eq (map upper (take 1 (take (length text - 1) text))) (codes "B") && bytes_eq (map upper (drop (length text - 1) text)) (codes "V")
+    then up_to_four (life_sets (take (length text - 1) text))
+    else None
+
 -- a text that no rule has: empty, above 255 bytes, or with a byte outside 0x21 to 0x7E, the visible characters of ASCII
 abbrev pub is_bad_text : List ℕ → Bool
 is_bad_text text = is_empty text || nat_lt 255 (length text) || not (list_all (λ b. nat_le 33 b && nat_le b 126) text)
 
+-- the B/S rule with these digits and neighbours
+abbrev pub counting : Near → DigitSets → Rule
+counting near sets = Life (record { sets = sets; near = near })
+
 -- a B/S rule, unless cells are born on 0: then the empty plane would not stay empty
-abbrev pub life_rule : DigitSets → Result Rule Kind
-life_rule sets = if has_digit sets.births 0 then Err BirthOnZero else Ok (Life sets)
+abbrev pub life_rule : Near → DigitSets → Result Rule Kind
+life_rule near sets = if has_digit sets.births 0 then Err BirthOnZero else Ok (counting near sets)
 
 -- a text that is no B/S rule: a name, kept byte for byte, unless it names other neighbours or has a slash
 abbrev pub other_rule : List ℕ → Result Rule Kind
@@ -83,10 +102,15 @@ other_rule text =
     if names_other_neighbours text then Err UnsupportedRule
     else (if list_any (λ b. b == 47) text then Err UnsupportedRule else Ok (Named text))
 
+-- the rule of a text of none of the five forms, by its sets if it is that of a von Neumann rule
+abbrev pub four_or_other : List ℕ → Option DigitSets → Result Rule Kind
+four_or_other text (Some sets) = life_rule VonNeumann sets
+four_or_other text None = other_rule text
+
 -- the rule of a text, by its sets if it is of one of the five forms
 abbrev pub life_or_other : List ℕ → Option DigitSets → Result Rule Kind
-life_or_other text (Some sets) = life_rule sets
-life_or_other text None = other_rule text
+life_or_other text (Some sets) = life_rule Moore sets
+life_or_other text None = four_or_other text (four_sets text)
 
 -- the rule of a text without whitespace at its ends, or why it is none: the first of these tests decides. A colon is that of a
 -- bounded grid (Golly Help, Bounded Grids).
@@ -99,24 +123,47 @@ rule_of_trimmed text =
 unfoldable pub rule_of : List ℕ → Result Rule Kind
 rule_of text = rule_of_trimmed (trim text)
 
--- the canonical text of a B/S rule: its digits in rising order, each once
+-- the rule of a text where the eight neighbours are the only ones, as files were read before: a von Neumann rule is refused
+abbrev pub moore_or_other : List ℕ → Option DigitSets → Result Rule Kind
+moore_or_other text (Some sets) = life_rule Moore sets
+moore_or_other text None = other_rule text
+
+abbrev pub moore_rule_of_trimmed : List ℕ → Result Rule Kind
+moore_rule_of_trimmed text =
+    if is_bad_text text then Err BadRule
+    else (if list_any (λ b. b == 58) text then Err BoundedGrid else moore_or_other text (life_sets text))
+
+abbrev pub moore_rule_of : List ℕ → Result Rule Kind
+moore_rule_of text = moore_rule_of_trimmed (trim text)
+
+-- the digits of a rule in rising order, each once
 abbrev pub sets_text : ℕ → ℕ → List ℕ
 sets_text births survivals = codes "B" ++ digits_of births ++ codes "/S" ++ digits_of survivals
 
+-- the text of the digits, with the letter of the neighbours behind it
+abbrev pub with_letter : Near → List ℕ → List ℕ
+with_letter Moore text = text
+with_letter VonNeumann text = text ++ codes "V"
+
 -- the canonical text of a rule: of a name its bytes
 abbrev pub rule_text : Rule → List ℕ
-rule_text (Life sets) = sets_text sets.births sets.survivals
+rule_text (Life rule) = with_letter rule.near (sets_text rule.sets.births rule.sets.survivals)
 rule_text (Named name) = name
 
 -- the rule of a file that names none, B3/S23 (the project's own)
 abbrev pub default_rule : Rule
-default_rule = Life (record { births = 8; survivals = 12 })
+default_rule = counting Moore (record { births = 8; survivals = 12 })
 
--- The sets of a B/S rule: digits 0 to 8 alone, and no birth on 0.
-pub record AreLifeSets (sets : DigitSets) : Type 0 where
-  pub births : sets.births < 512
-  pub survivals : sets.survivals < 512
-  pub no_birth_on_zero : has_digit sets.births 0 ≡ false
+-- how many neighbours count
+abbrev pub most_neighbours : Near → ℕ
+most_neighbours Moore = 8
+most_neighbours VonNeumann = 4
+
+-- A B/S rule: digits up to the number of neighbours alone, and no birth on 0.
+pub record IsLifeRule (rule : OuterTotalistic) : Type 0 where
+  pub births : rule.sets.births < 2 ^ (most_neighbours rule.near + 1)
+  pub survivals : rule.sets.survivals < 2 ^ (most_neighbours rule.near + 1)
+  pub no_birth_on_zero : has_digit rule.sets.births 0 ≡ false
 
 -- the bytes of a name are a rule text that says that name
 abbrev pub IsName : List ℕ → Type 0
@@ -124,7 +171,7 @@ IsName name = rule_of name ≡ Ok (Named name)
 
 -- what holds of every rule value
 abbrev pub IsRule : Rule → Type 0
-IsRule (Life sets) = AreLifeSets sets
+IsRule (Life rule) = IsLifeRule rule
 IsRule (Named name) = IsName name
 
 -- the canonical text of each rule says that rule
@@ -154,3 +201,12 @@ RuleTextsRefused = (text : List ℕ) (kind : Kind) → rule_of text ≡ Err kind
 -- what an accepted rule text says is a rule
 abbrev pub RuleTextsSayRules : Type 0
 RuleTextsSayRules = (text : List ℕ) (rule : Rule) → rule_of text ≡ Ok rule → IsRule rule
+
+-- live cells are counted among the eight neighbours, if they are counted
+abbrev pub CountsEight : Rule → Type 0
+CountsEight (Life rule) = rule.near ≡ Moore
+CountsEight (Named name) = Unit {0}
+
+-- a text that says a rule of the eight neighbours, or a name, where no other neighbours are known, says that rule
+abbrev pub MooreRulesStay : Type 0
+MooreRulesStay = (text : List ℕ) (rule : Rule) → moore_rule_of text ≡ Ok rule → (rule_of text ≡ Ok rule) × CountsEight rule

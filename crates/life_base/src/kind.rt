@@ -16,7 +16,8 @@ pub enum Kind {
     BadRule,
     /// A rule text with `:`.
     BoundedGrid,
-    /// A rule text with other neighbours than the eight (`V`, `H` at its end), or with `/` and of no known form.
+    /// A rule text with neighbours that aren't supported (`V` or `H` at the end of a B/S text, but for `V` behind `B`, `S` and digits up to 4), or
+    /// with `/` and of no known form.
     UnsupportedRule,
     /// A B/S rule with 0 among its births.
     BirthOnZero,

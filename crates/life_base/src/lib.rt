@@ -32,7 +32,7 @@ pub use line::{LONGEST_LINE, is_too_long, line_end, line_fits};
 pub use line_iterator::Lines;
 pub use line_log::LineLog;
 pub use reading::read_within;
-pub use rule::{LifeRule, Name, Rule};
+pub use rule::{LifeRule, Name, Near, Rule};
 pub use text::{
     begins_with, is_blank, is_digit_text, is_whitespace, lines, read_i64, read_u64, trimmed,
     trimmed_start,

@@ -1,15 +1,15 @@
 //! Rules, read from texts.
 
-ghost use Rattle.std.specs.Prelude.{◌≡◌, ◌<◌, ◌^◌, ◌==◌, ◌+◌, map, if◌then◌else◌, nat_le, ◌&&◌, ◌∷◌, [], IfSome, IfOk, IfErr, MatchResult, Some, None, Ok, Err, false, true, is_some};
+ghost use Rattle.std.specs.Prelude.{◌≡◌, ◌<◌, ◌^◌, ◌==◌, ◌+◌, map, take, codes, bytes_eq, if◌then◌else◌, nat_le, ◌&&◌, ◌∷◌, [], IfSome, IfOk, IfErr, MatchResult, Some, None, Ok, Err, false, true, is_some};
 ghost use Rattle.std.specs.List.{list_any, list_all};
 ghost use Rattle.std.specs.Option.{option_map};
 ghost use Rattle.life_base.specs.Sets.{DigitSets};
-ghost use Rattle.life_base.specs.Rules.{is_count_digit as is_counted, digit_set as digits_named, digit_groups as groups_of, marks as marks_of, upper as upper_case, life_form as form_of, life_sets as sets_of, names_other_neighbours as has_other_neighbours, is_bad_text as breaks_rules, life_rule as rule_of_sets, other_rule as rule_of_others, rule_of_trimmed, rule_of};
+ghost use Rattle.life_base.specs.Rules.{is_count_digit as is_counted, digit_set as digits_named, digit_groups as groups_of, marks as marks_of, upper as upper_case, life_form as form_of, life_sets as sets_of, up_to_four as within_four, four_sets as four_sets_of, most_neighbours, names_other_neighbours as has_other_neighbours, is_bad_text as breaks_rules, life_rule as rule_of_sets, other_rule as rule_of_others, four_or_other as rule_of_four_or_others, rule_of_trimmed, rule_of};
 ghost use Rattle.life_base.specs.Refusal.{Answers};
 ghost use Rattle.life_base.specs.declared.kind.Kind.TheVariants.{Memory};
 
 use crate::kind::Kind;
-use crate::rule::{LifeRule, Name, Rule};
+use crate::rule::{LifeRule, Name, Near, Rule};
 use crate::text::trimmed;
 use std::alloc::{AllocError, Global};
 
@@ -123,6 +123,41 @@ fn life_sets(alloc: Global, text: &[u8]) -> Result<Option<(u16, u16)>, Kind>
     Ok(life_form(&groups, &marks))
 }
 
+/// The births and the survivals, if no digit is above 4.
+fn up_to_four(found: Option<(u16, u16)>) -> Option<(u16, u16)>
+    ensures bounds { IfSome result (λ p. (p.0 < 32) × (p.1 < 32)) }
+    ensures within { option_map (λ p. record { births = p.0; survivals = p.1 }) result ≡ within_four (option_map (λ p. record { births = p.0; survivals = p.1 }) found) }
+{
+    match found {
+        Some((births, survivals)) if births < 32 && survivals < 32 => Some((births, survivals)),
+        _ => None,
+    }
+}
+
+/// Whether the first byte is `B` or `b`.
+fn begins_with_b(text: &[u8]) -> bool
+    ensures { result ≡ bytes_eq (map upper_case (take 1 text.now)) (codes "B") }
+{
+    match text {
+        [b'B' | b'b', ..] => true,
+        _ => false,
+    }
+}
+
+/// The births and the survivals of a text of a von Neumann rule.
+fn four_sets(alloc: Global, text: &[u8]) -> Result<Option<(u16, u16)>, Kind>
+    ensures ok { IfOk result (λ found. option_map (λ p. record { births = p.0; survivals = p.1 }) found ≡ four_sets_of text.now) }
+    ensures bounds { IfOk result (λ found. IfSome found (λ p. (p.0 < 32) × (p.1 < 32))) }
+    ensures err { IfErr result (λ kind. kind ≡ Memory) }
+{
+    match text {
+        [front @ .., b'V' | b'v'] if begins_with_b(front) => Ok(up_to_four(life_sets(
+            alloc, front,
+        )?)),
+        _ => Ok(None),
+    }
+}
+
 /// Whether a text is a B/S text followed by `V`, `v`, `H` or `h`.
 fn names_other_neighbours(alloc: Global, text: &[u8]) -> Result<bool, Kind>
     ensures ok { IfOk result (λ yes. yes ≡ has_other_neighbours text.now) }
@@ -149,22 +184,27 @@ fn is_visible(text: &[u8]) -> bool
 }
 
 /// The B/S rule of two sets, unless cells are born on 0.
-fn life_rule(births: u16, survivals: u16) -> Result<Rule, Kind>
-    requires births { births < 512 }
-    requires survivals { survivals < 512 }
-    ensures { result ≡ rule_of_sets (record { births = births; survivals = survivals }) }
+fn life_rule(near: Near, births: u16, survivals: u16) -> Result<Rule, Kind>
+    requires births { births < 2 ^ (most_neighbours near + 1) }
+    requires survivals { survivals < 2 ^ (most_neighbours near + 1) }
+    ensures { result ≡ rule_of_sets near (record { births = births; survivals = survivals }) }
 {
     if births & 1 == 1 {
         return Err(Kind::BirthOnZero);
     }
-    Ok(Rule::Life(LifeRule { births, survivals }))
+    Ok(Rule::Life(LifeRule {
+        births,
+        survivals,
+        near,
+    }))
 }
 
 /// The rule of a text that is no B/S text: a name, unless it names other neighbours or has a slash.
 fn other_rule(alloc: Global, text: &[u8]) -> Result<Rule, Kind>
     requires shape { breaks_rules text.now ≡ false }
     requires unbounded { list_any (λ b. b == 58) text.now ≡ false }
-    requires named { sets_of text.now ≡ None }
+    requires counted { sets_of text.now ≡ None }
+    requires named { four_sets_of text.now ≡ None }
     ensures { Answers result (rule_of_others text.now) }
 {
     if names_other_neighbours(alloc, text)? {
@@ -175,6 +215,19 @@ fn other_rule(alloc: Global, text: &[u8]) -> Result<Rule, Kind>
     }
     let text = Vec::from_slice(alloc, text)?;
     Ok(Rule::Named(Name { text }))
+}
+
+/// The rule of a text of none of the five forms: by the four neighbours, or another.
+fn four_or_other(alloc: Global, text: &[u8]) -> Result<Rule, Kind>
+    requires shape { breaks_rules text.now ≡ false }
+    requires unbounded { list_any (λ b. b == 58) text.now ≡ false }
+    requires counted { sets_of text.now ≡ None }
+    ensures { Answers result (rule_of_four_or_others text.now (four_sets_of text.now)) }
+{
+    match four_sets(alloc, text)? {
+        Some((births, survivals)) => life_rule(Near::VonNeumann, births, survivals),
+        None => other_rule(alloc, text),
+    }
 }
 
 /// The rule of a text without whitespace at its ends.
@@ -188,8 +241,8 @@ fn trimmed_rule(alloc: Global, text: &[u8]) -> Result<Rule, Kind>
         return Err(Kind::BoundedGrid);
     }
     match life_sets(alloc, text)? {
-        Some((births, survivals)) => life_rule(births, survivals),
-        None => other_rule(alloc, text),
+        Some((births, survivals)) => life_rule(Near::Moore, births, survivals),
+        None => four_or_other(alloc, text),
     }
 }
 

@@ -4,12 +4,14 @@ use Rattle.std.specs.Int.{bit_at}
 use Rattle.std.proofs.lemmas.Int.{ints}
 use Rattle.std.proofs.lemmas.Bool.{cases_lt}
 use Rattle.std.proofs.lemmas.Nat.Bits.{bit_at_cat_low, bit_at_cat_high}
-use Rattle.life_base.specs.Sets.{DigitSets}
+use Rattle.life_base.specs.Sets.{OuterTotalistic}
+use Rattle.life_base.specs.declared.rule.Near.{Near}
+use Rattle.life_base.specs.declared.rule.Near.TheVariants.{Moore, VonNeumann}
 use Rattle.life_base.specs.Tree.{Tree, point, quad}
-use Rattle.life_sweep.specs.Around.{before, after, eight_around}
+use Rattle.life_sweep.specs.Around.{before, after}
 use Rattle.life_sweep.specs.Generation.{next_by_count, next_life}
 use Rattle.life_table.specs.Meaning.{count_of}
-use Rattle.life_block.specs.Bits.{HasCells, HasRows, neighbours_in}
+use Rattle.life_block.specs.Bits.{HasCells, HasRows, counted_in}
 use Rattle.life_block.specs.Pieces.{IsPiece, ahead}
 use Rattle.life_block.proofs.WordLemmas.{bit-shr}
 
@@ -81,11 +83,10 @@ HasRows-eight cells x y a b c d la lb lc ha hb hc hd =
     (HasRows-behind cells x (ahead y 4) c d 2 2 lc hc (HasRows-moved cells x (ahead y 6) (ahead (ahead y 4) 2) 2 d far hd))))
 
 -- the next states of the places of a word of eight rows
-pub next-place : (sets : DigitSets) (cells : ℤ → ℤ → ℕ) (x y : ℤ) (rows : ℕ) → HasRows cells x y 8 rows → (r i : ℕ) → r < 6 → i < 6
-    → next_by_count sets (bit_at (rows / 2 ^ 8) (8 * r + i + 1)) (count_of 1 (neighbours_in (record { north = rows; here = rows / 2 ^ 8; south = rows / 2 ^ 16 }) (8 * r + i)))
-    ≡ next_life eight_around sets cells (x +ℤ pos (i + 1)) (y +ℤ pos (r + 1))
-next-place sets cells x y rows h r i lr li =
-    (λ j. next_by_count sets (c j) (count_of 1 (n j ∷ ne j ∷ e j ∷ se j ∷ s j ∷ sw j ∷ w j ∷ nw j ∷ [])))
+pub next-place : (rule : OuterTotalistic) (cells : ℤ → ℤ → ℕ) (x y : ℤ) (rows : ℕ) → HasRows cells x y 8 rows → (r i : ℕ) → r < 6 → i < 6
+    → next_by_count rule.sets (bit_at (rows / 2 ^ 8) (8 * r + i + 1)) (count_of 1 (counted_in rule.near (record { north = rows; here = rows / 2 ^ 8; south = rows / 2 ^ 16 }) (8 * r + i)))
+    ≡ next_life rule cells (x +ℤ pos (i + 1)) (y +ℤ pos (r + 1))
+next-place rule cells x y rows h r i lr li = by rule.near
   where
     north : (p a : ℕ) (z : ℤ) → a < 8 → p ≡ 8 * r + a → x +ℤ pos a ≡ z → bit_at rows p ≡ cells z (before (y +ℤ pos (r + 1)))
     north p a z la is e =
@@ -129,6 +130,12 @@ next-place sets cells x y rows h r i lr li =
 
     nw : bit_at rows (8 * r + i) ≡ cells (before (x +ℤ pos (i + 1))) (before (y +ℤ pos (r + 1)))
     nw = north _ i _ (omega (arith, li)) refl (omega (arith, ints))
+
+    by : (near : Near)
+        → next_by_count rule.sets (bit_at (rows / 2 ^ 8) (8 * r + i + 1)) (count_of 1 (counted_in near (record { north = rows; here = rows / 2 ^ 8; south = rows / 2 ^ 16 }) (8 * r + i)))
+        ≡ next_life (record { sets = rule.sets; near = near }) cells (x +ℤ pos (i + 1)) (y +ℤ pos (r + 1))
+    by Moore = (λ j. next_by_count rule.sets (c j) (count_of 1 (n j ∷ ne j ∷ e j ∷ se j ∷ s j ∷ sw j ∷ w j ∷ nw j ∷ [])))
+    by VonNeumann = (λ j. next_by_count rule.sets (c j) (count_of 1 (n j ∷ e j ∷ s j ∷ w j ∷ [])))
 
 -- the word has the states of the six rows of six cells that are one column east and one row south
 abbrev pub HasInner : (ℤ → ℤ → ℕ) → ℤ → ℤ → ℕ → Type 0

@@ -2,7 +2,12 @@
 use Rattle.std.proofs.Common.{◌≡◌, ℕ, ◌+◌, ◌<◌, ◌≤◌, Bool, cond, inl, inr, [], ◌∷◌, ◌∙◌, ap, arith}
 use Rattle.std.specs.Prelude.{nat_eq}
 use Rattle.std.proofs.lemmas.Bool.Decides.{eqb_tells}
+use Rattle.std.proofs.lemmas.Nat.Bits.{bit_at-lt}
+use Rattle.life_base.specs.declared.rule.Near.{Near}
+use Rattle.life_base.specs.declared.rule.Near.TheVariants.{Moore, VonNeumann}
 use Rattle.life_table.specs.Meaning.{count_of}
+use Rattle.life_block.specs.Bits.{counted_in}
+use Rattle.life_block.specs.declared.counts.Words.{Words}
 
 -- a state of 0 or 1 counts as itself
 one : (a : ℕ) → a < 2 → cond (nat_eq 1 a) 1 0 ≡ a
@@ -24,7 +29,27 @@ eight a b c d e f g h la lb lc ld le lf lg lh =
     let eh = one h lh in
     omega (arith, ea, eb, ec, ed, ee, ef, eg, eh)
 
-pub few-eight : (a b c d e f g h n : ℕ) → a < 2 → b < 2 → c < 2 → d < 2 → e < 2 → f < 2 → g < 2 → h < 2 → n ≡ count_of 1 (a ∷ b ∷ c ∷ d ∷ e ∷ f ∷ g ∷ h ∷ []) → n ≤ 8
+pub four : (a b c d : ℕ) → a < 2 → b < 2 → c < 2 → d < 2 → a + b + c + d ≡ count_of 1 (a ∷ b ∷ c ∷ d ∷ [])
+four a b c d la lb lc ld =
+    let ea = one a la in
+    let eb = one b lb in
+    let ec = one c lc in
+    let ed = one d ld in
+    omega (arith, ea, eb, ec, ed)
+
+few-eight : (a b c d e f g h n : ℕ) → a < 2 → b < 2 → c < 2 → d < 2 → e < 2 → f < 2 → g < 2 → h < 2 → n ≡ count_of 1 (a ∷ b ∷ c ∷ d ∷ e ∷ f ∷ g ∷ h ∷ []) → n ≤ 8
 few-eight a b c d e f g h n la lb lc ld le lf lg lh is =
     let sum = eight a b c d e f g h la lb lc ld le lf lg lh in
     omega (arith, is, sum, la, lb, lc, ld, le, lf, lg, lh)
+
+few-four : (a b c d n : ℕ) → a < 2 → b < 2 → c < 2 → d < 2 → n ≡ count_of 1 (a ∷ b ∷ c ∷ d ∷ []) → n ≤ 8
+few-four a b c d n la lb lc ld is =
+    let sum = four a b c d la lb lc ld in
+    omega (arith, is, sum, la, lb, lc, ld)
+
+-- eight neighbours at most
+pub few-counted : (near : Near) (w : Words) (i n : ℕ) → n ≡ count_of 1 (counted_in near w i) → n ≤ 8
+few-counted Moore w i n is =
+    few-eight _ _ _ _ _ _ _ _ n (bit_at-lt w.north (i + 1)) (bit_at-lt w.north (i + 2)) (bit_at-lt w.here (i + 2)) (bit_at-lt w.south (i + 2)) (bit_at-lt w.south (i + 1)) (bit_at-lt w.south i)
+    (bit_at-lt w.here i) (bit_at-lt w.north i) is
+few-counted VonNeumann w i n is = few-four _ _ _ _ n (bit_at-lt w.north (i + 1)) (bit_at-lt w.here (i + 2)) (bit_at-lt w.south (i + 1)) (bit_at-lt w.here i) is

@@ -2,16 +2,15 @@
 use Rattle.std.proofs.Common.{◌≡◌, ℕ, ◌-◌, ◌^◌, ◌<◌, ◌≤◌, inr, ℤ, None, refl, sym, ◌∙◌, arith}
 use Rattle.std.proofs.lemmas.Int.{ints}
 use Rattle.std.proofs.Math.Pow.{pow_mono}
-use Rattle.life_base.specs.Sets.{DigitSets}
+use Rattle.life_base.specs.Sets.{OuterTotalistic}
 use Rattle.life_base.specs.Tree.{Tree, depth, half_side, tree_cell}
 use Rattle.life_base.specs.declared.cell.TheConstants.{MAX_LEVEL}
 use Rattle.life_base.proofs.Squares.{Inside}
 use Rattle.life_quad.specs.Cells.{population}
 use Rattle.life_strip.specs.Given.{IsOnPlane}
 use Rattle.life_table.specs.Meaning.{Becomes, Ambiguous}
-use Rattle.life_table.specs.declared.table.Neighborhood.TheVariants.{Moore}
-use Rattle.life_sweep.specs.Around.{eight_around}
 use Rattle.life_sweep.specs.Generation.{next_life}
+use Rattle.life_sweep.specs.Laws.{LifeAnswersAt}
 use Rattle.life_sweep.specs.Refused.{HasStateFrom, SomeAmbiguous, GenerationRefusal}
 use Rattle.life_sweep.specs.Sweep.{IsLeft, LifeAnswers}
 use Rattle.life_block.proofs.RootLemmas.{cell-outside}
@@ -36,9 +35,9 @@ on-plane t x y low i =
     record { west = omega (arith, ints, small, w); east = omega (arith, ints, small, e); north = omega (arith, ints, small, n); south = omega (arith, ints, small, s) }
 
 -- where the next states are those of a square of the plane
-pub accepted : (sets : DigitSets) (t r : Tree) (most : ℕ) → ((x y : ℤ) → tree_cell t x y < 2) → population t ≤ most → depth r ≤ MAX_LEVEL
-    → ((x y : ℤ) → tree_cell r x y ≡ next_life eight_around sets (tree_cell t) x y) → GenerationRefusal (LifeAnswers Moore sets) 2 most t None
-accepted sets t r most states few low next = inr (many, inr (beyond, inr (ambiguous, inr (left, refl))))
+pub accepted : LifeAnswersAt → (rule : OuterTotalistic) (t r : Tree) (most : ℕ) → ((x y : ℤ) → tree_cell t x y < 2) → population t ≤ most → depth r ≤ MAX_LEVEL
+    → ((x y : ℤ) → tree_cell r x y ≡ next_life rule (tree_cell t) x y) → GenerationRefusal (LifeAnswers rule) 2 most t None
+accepted law rule t r most states few low next = inr (many, inr (beyond, inr (ambiguous, inr (left, refl))))
   where
     many : ¬ (most < population t)
     many l = omega (arith, l, few)
@@ -46,10 +45,10 @@ accepted sets t r most states few low next = inr (many, inr (beyond, inr (ambigu
     beyond : ¬ (HasStateFrom 2 (tree_cell t))
     beyond h = below-two (tree_cell t h.0 h.1) (states h.0 h.1) h.2
 
-    ambiguous : ¬ (SomeAmbiguous (LifeAnswers Moore sets) (tree_cell t))
-    ambiguous h = one-state (next_life eight_around sets (tree_cell t) h.0 h.1) h.2 h.3
+    ambiguous : ¬ (SomeAmbiguous (LifeAnswers rule) (tree_cell t))
+    ambiguous h = one-state (next_life rule (tree_cell t) h.0 h.1) h.2 ((law rule (tree_cell t) h.0 h.1 (Ambiguous h.2)).0 h.3)
 
-    left : ¬ (IsLeft (LifeAnswers Moore sets) (tree_cell t))
+    left : ¬ (IsLeft (LifeAnswers rule) (tree_cell t))
     left h =
-        h.nonzero (same-state h.next (next_life eight_around sets (tree_cell t) h.x h.y) h.answer ∙ sym (next h.x h.y)
+        h.nonzero (same-state h.next (next_life rule (tree_cell t) h.x h.y) ((law rule (tree_cell t) h.x h.y (Becomes h.next)).0 h.answer) ∙ sym (next h.x h.y)
         ∙ cell-outside r h.x h.y (λ i. h.outside (on-plane r h.x h.y low i)))

@@ -4,11 +4,13 @@ use Rattle.std.specs.Prelude.{if◌then◌else◌, ◌||◌}
 use Rattle.std.proofs.lemmas.Int.{ints, by_lt_z}
 use Rattle.std.proofs.Math.Pow.{pow_pos}
 use Rattle.life_base.specs.Rules.{has_digit}
-use Rattle.life_base.specs.Sets.{DigitSets}
+use Rattle.life_base.specs.Sets.{OuterTotalistic}
+use Rattle.life_base.specs.declared.rule.Near.{Near}
+use Rattle.life_base.specs.declared.rule.Near.TheVariants.{Moore, VonNeumann}
 use Rattle.life_base.specs.Tree.{Tree, quad, depth, blank}
 use Rattle.life_base.proofs.Squares.{depth-blank}
 use Rattle.life_quad.specs.declared.id.Id.{Id}
-use Rattle.life_sweep.specs.Around.{before, after, eight_around}
+use Rattle.life_sweep.specs.Around.{before, after}
 use Rattle.life_sweep.specs.Generation.{next_by_count, next_life}
 use Rattle.life_table.specs.Meaning.{count_of}
 use Rattle.life_block.specs.declared.grid.Three.{Three}
@@ -146,27 +148,49 @@ blank-of_zero cells (suc k) x y h =
     )
 
 -- a cell among cells of state 0
-pub next-zero : (sets : DigitSets) (cells : ℤ → ℤ → ℕ) (x y : ℤ) → has_digit sets.births 0 ≡ false
-    → ((u v : ℤ) → before x ≤ℤ u → u ≤ℤ after x → before y ≤ℤ v → v ≤ℤ after y → cells u v ≡ 0) → next_life eight_around sets cells x y ≡ 0
-next-zero sets cells x y quiet h =
-    let at : (u v : ℤ) → before x ≤ℤ u → u ≤ℤ after x → before y ≤ℤ v → v ≤ℤ after y → cells u v ≡ 0 = h in
-    let c = at x y (omega (arith, ints)) (omega (arith, ints)) (omega (arith, ints)) (omega (arith, ints)) in
-    let n = at x (before y) (omega (arith, ints)) (omega (arith, ints)) (omega (arith, ints)) (omega (arith, ints)) in
-    let ne = at (after x) (before y) (omega (arith, ints)) (omega (arith, ints)) (omega (arith, ints)) (omega (arith, ints)) in
-    let e = at (after x) y (omega (arith, ints)) (omega (arith, ints)) (omega (arith, ints)) (omega (arith, ints)) in
-    let se = at (after x) (after y) (omega (arith, ints)) (omega (arith, ints)) (omega (arith, ints)) (omega (arith, ints)) in
-    let s = at x (after y) (omega (arith, ints)) (omega (arith, ints)) (omega (arith, ints)) (omega (arith, ints)) in
-    let sw = at (before x) (after y) (omega (arith, ints)) (omega (arith, ints)) (omega (arith, ints)) (omega (arith, ints)) in
-    let w = at (before x) y (omega (arith, ints)) (omega (arith, ints)) (omega (arith, ints)) (omega (arith, ints)) in
-    let nw = at (before x) (before y) (omega (arith, ints)) (omega (arith, ints)) (omega (arith, ints)) (omega (arith, ints)) in
-    (λ i. next_by_count sets (c i) (count_of 1 (n i ∷ ne i ∷ e i ∷ se i ∷ s i ∷ sw i ∷ w i ∷ nw i ∷ [])))
-    ∙ ap (λ (b : Bool). if b || false then 1 else 0) quiet
+pub next-zero : (rule : OuterTotalistic) (cells : ℤ → ℤ → ℕ) (x y : ℤ) → has_digit rule.sets.births 0 ≡ false
+    → ((u v : ℤ) → before x ≤ℤ u → u ≤ℤ after x → before y ≤ℤ v → v ≤ℤ after y → cells u v ≡ 0) → next_life rule cells x y ≡ 0
+next-zero rule cells x y quiet h = by rule.near ∙ ap (λ (b : Bool). if b || false then 1 else 0) quiet
+  where
+    at : (u v : ℤ) → before x ≤ℤ u → u ≤ℤ after x → before y ≤ℤ v → v ≤ℤ after y → cells u v ≡ 0
+    at = h
+
+    c : cells x y ≡ 0
+    c = at x y (omega (arith, ints)) (omega (arith, ints)) (omega (arith, ints)) (omega (arith, ints))
+
+    n : cells x (before y) ≡ 0
+    n = at x (before y) (omega (arith, ints)) (omega (arith, ints)) (omega (arith, ints)) (omega (arith, ints))
+
+    ne : cells (after x) (before y) ≡ 0
+    ne = at (after x) (before y) (omega (arith, ints)) (omega (arith, ints)) (omega (arith, ints)) (omega (arith, ints))
+
+    e : cells (after x) y ≡ 0
+    e = at (after x) y (omega (arith, ints)) (omega (arith, ints)) (omega (arith, ints)) (omega (arith, ints))
+
+    se : cells (after x) (after y) ≡ 0
+    se = at (after x) (after y) (omega (arith, ints)) (omega (arith, ints)) (omega (arith, ints)) (omega (arith, ints))
+
+    s : cells x (after y) ≡ 0
+    s = at x (after y) (omega (arith, ints)) (omega (arith, ints)) (omega (arith, ints)) (omega (arith, ints))
+
+    sw : cells (before x) (after y) ≡ 0
+    sw = at (before x) (after y) (omega (arith, ints)) (omega (arith, ints)) (omega (arith, ints)) (omega (arith, ints))
+
+    w : cells (before x) y ≡ 0
+    w = at (before x) y (omega (arith, ints)) (omega (arith, ints)) (omega (arith, ints)) (omega (arith, ints))
+
+    nw : cells (before x) (before y) ≡ 0
+    nw = at (before x) (before y) (omega (arith, ints)) (omega (arith, ints)) (omega (arith, ints)) (omega (arith, ints))
+
+    by : (near : Near) → next_life (record { sets = rule.sets; near = near }) cells x y ≡ next_by_count rule.sets 0 0
+    by Moore = (λ i. next_by_count rule.sets (c i) (count_of 1 (n i ∷ ne i ∷ e i ∷ se i ∷ s i ∷ sw i ∷ w i ∷ nw i ∷ [])))
+    by VonNeumann = (λ i. next_by_count rule.sets (c i) (count_of 1 (n i ∷ e i ∷ s i ∷ w i ∷ [])))
 
 -- nine blank squares
-pub next-of_blank : (sets : DigitSets) (content : Id → Tree) (cells : ℤ → ℤ → ℕ) (k : ℕ) (x y : ℤ) (id : Id) (nine : Nine) → has_digit sets.births 0 ≡ false
-    → content id ≡ blank k → InNine (λ other. other ≡ id) nine → AreNine content cells (2 ^ k) x y nine → IsPiece (next_life eight_around sets cells) x y (content id)
-next-of_blank sets content cells k x y id nine quiet is all h =
-    subst (IsPiece (next_life eight_around sets cells) x y) (sym is) (blank-of_zero _ k x y whole)
+pub next-of_blank : (rule : OuterTotalistic) (content : Id → Tree) (cells : ℤ → ℤ → ℕ) (k : ℕ) (x y : ℤ) (id : Id) (nine : Nine) → has_digit rule.sets.births 0 ≡ false
+    → content id ≡ blank k → InNine (λ other. other ≡ id) nine → AreNine content cells (2 ^ k) x y nine → IsPiece (next_life rule cells) x y (content id)
+next-of_blank rule content cells k x y id nine quiet is all h =
+    subst (IsPiece (next_life rule cells) x y) (sym is) (blank-of_zero _ k x y whole)
   where
     at : (u v : ℤ) (other : Id) → other ≡ id → IsPiece cells u v (content other) → IsZero cells u v (ahead u (2 ^ k)) (ahead v (2 ^ k))
     at u v other e p = zero-of_blank cells k u v (subst (IsPiece cells u v) (ap content e ∙ is) p)
@@ -184,10 +208,10 @@ next-of_blank sets content cells k x y id nine quiet is all h =
         IsZero-below cells _ _ (ahead y (2 ^ k)) _ _
         (IsZero-below cells _ _ y _ _ (subst (λ u. IsZero cells (back x (2 ^ k)) (back y (2 ^ k)) (ahead (ahead x (2 ^ k)) (2 ^ k)) u) a (row _ _ all.north h.north)) (row y _ all.middle h.middle)) (row _ _ all.south h.south)
 
-    whole : IsZero (next_life eight_around sets cells) x y (ahead x (2 ^ k)) (ahead y (2 ^ k))
+    whole : IsZero (next_life rule cells) x y (ahead x (2 ^ k)) (ahead y (2 ^ k))
     whole =
         let some : 0 < 2 ^ k = pow_pos k in
         record {
           zero_at = λ u v w e n s.
-              next-zero sets cells u v quiet (λ i j a b c d. around.zero_at i j (omega (arith, ints, some, w, a)) (omega (arith, ints, some, e, b)) (omega (arith, ints, some, n, c)) (omega (arith, ints, some, s, d)));
+              next-zero rule cells u v quiet (λ i j a b c d. around.zero_at i j (omega (arith, ints, some, w, a)) (omega (arith, ints, some, e, b)) (omega (arith, ints, some, n, c)) (omega (arith, ints, some, s, d)));
         }

@@ -4,12 +4,11 @@ use Rattle.std.proofs.lemmas.Int.{ints}
 use Rattle.std.proofs.lemmas.Bool.{cases_lt}
 use Rattle.std.proofs.Math.Pow.{pow_pos}
 use Rattle.life_base.specs.Rules.{has_digit}
-use Rattle.life_base.specs.Sets.{DigitSets}
+use Rattle.life_base.specs.Sets.{OuterTotalistic}
 use Rattle.life_base.specs.Tree.{Tree, point, quad, depth, blank, state_at, half_side, tree_cell, IsFull}
 use Rattle.life_base.proofs.Squares.{at_nw, at_ne, at_sw, at_se, Inside, is_inside, inside_facts, inside_test, inside_offset, cell_inside, cell_outside}
 use Rattle.life_quad.specs.declared.id.Id.{Id}
 use Rattle.life_quad.specs.declared.moves.Quarters.{Quarters}
-use Rattle.life_sweep.specs.Around.{eight_around}
 use Rattle.life_sweep.specs.Generation.{next_life}
 use Rattle.life_block.specs.Pieces.{IsPiece, IsAt, InFour, InSixteen, AreFour, AreSixteen, back, ahead, four_of, at_north_west, at_north_east, at_south_west, at_south_east}
 use Rattle.life_block.proofs.PieceLemmas.{IsPiece-moved, AreFour-moved, blank-of_zero, next-zero}
@@ -125,12 +124,12 @@ cell-outside t x y apart = by (is_inside (half_side t) x y) refl
     by false e = cell_outside t x y e
 
 -- a square one level higher whose piece of the next states is the whole of it
-pub root-next : (sets : DigitSets) (t r : Tree) → has_digit sets.births 0 ≡ false → 1 ≤ depth t → IsFull r → depth r ≡ depth t + 1
-    → IsPiece (next_life eight_around sets (tree_cell t)) (corner r) (corner r) r → (x y : ℤ) → tree_cell r x y ≡ next_life eight_around sets (tree_cell t) x y
-root-next sets t r quiet high full level piece x y = by (is_inside (half_side r) x y) refl
+pub root-next : (rule : OuterTotalistic) (t r : Tree) → has_digit rule.sets.births 0 ≡ false → 1 ≤ depth t → IsFull r → depth r ≡ depth t + 1
+    → IsPiece (next_life rule (tree_cell t)) (corner r) (corner r) r → (x y : ℤ) → tree_cell r x y ≡ next_life rule (tree_cell t) x y
+root-next rule t r quiet high full level piece x y = by (is_inside (half_side r) x y) refl
   where
     next : ℤ → ℤ → ℕ
-    next = next_life eight_around sets (tree_cell t)
+    next = next_life rule (tree_cell t)
 
     whole : half_side r + half_side r ≡ 2 ^ depth r
     whole = side (depth r) (omega arith)
@@ -143,7 +142,7 @@ root-next sets t r quiet high full level piece x y = by (is_inside (half_side r)
     some : 0 < half_side t
     some = pow_pos (depth t - 1)
 
-    by : (b : Bool) → is_inside (half_side r) x y ≡ b → tree_cell r x y ≡ next_life eight_around sets (tree_cell t) x y
+    by : (b : Bool) → is_inside (half_side r) x y ≡ b → tree_cell r x y ≡ next_life rule (tree_cell t) x y
     by true e =
         let k = inside_facts (half_side r) x y e in
         let a = inside_offset (half_side r) x k.west k.east in
@@ -152,12 +151,12 @@ root-next sets t r quiet high full level piece x y = by (is_inside (half_side r)
         let at-y = b.1 in
         let ex : corner r +ℤ pos a.0 ≡ x = omega (arith, ints, at-x) in
         let ey : corner r +ℤ pos b.0 ≡ y = omega (arith, ints, at-y) in
-        cell_inside r x y a.0 b.0 e a.1 b.1 ∙ cells-of_piece (next_life eight_around sets (tree_cell t)) r (corner r) (corner r) full piece a.0 b.0 (omega (arith, whole, a.2)) (omega (arith, whole, b.2))
-        ∙ (λ z. next_life eight_around sets (tree_cell t) (ex z) (ey z))
+        cell_inside r x y a.0 b.0 e a.1 b.1 ∙ cells-of_piece (next_life rule (tree_cell t)) r (corner r) (corner r) full piece a.0 b.0 (omega (arith, whole, a.2)) (omega (arith, whole, b.2))
+        ∙ (λ z. next_life rule (tree_cell t) (ex z) (ey z))
     by false e =
         let apart : Inside (half_side r) x y → ⊥ = (λ i. true≢false (sym (inside_test (half_side r) x y i) ∙ e)) in
         cell_outside r x y e
-        ∙ sym (next-zero sets (tree_cell t) x y quiet (λ u v a b c d. cell-outside t u v (λ i. apart (record {
+        ∙ sym (next-zero rule (tree_cell t) x y quiet (λ u v a b c d. cell-outside t u v (λ i. apart (record {
           west = omega (arith, ints, halves, some, i.west, b);
           east = omega (arith, ints, halves, some, i.east, a);
           north = omega (arith, ints, halves, some, i.north, d);

@@ -1,7 +1,7 @@
 -- Worked examples, computed.
 use Rattle.std.specs.Prelude.{◌≡◌, ℕ, ℤ, pos, negsuc, List, [], ◌∷◌, refl, ◌&&◌, int_le, if◌then◌else◌}
 use Rattle.life_base.specs.Tree.{point, quad}
-use Rattle.life_block.specs.Bits.{neighbours_in, count_at}
+use Rattle.life_block.specs.Bits.{neighbours_in, sides_in, count_at}
 use Rattle.life_block.specs.Pieces.{IsPiece, back, ahead}
 
 -- the cells of a diagonal
@@ -29,6 +29,9 @@ two_east = refl
 -- three rows of three cells, whose north-eastern and western ones are alive
 around : neighbours_in (record { north = 4; here = 1; south = 0 }) 0 ≡ 0 ∷ 1 ∷ 0 ∷ 0 ∷ 0 ∷ 0 ∷ 1 ∷ 0 ∷ []
 around = refl
+
+sides : sides_in (record { north = 4; here = 1; south = 0 }) 0 ≡ 0 ∷ 0 ∷ 0 ∷ 1 ∷ []
+sides = refl
 
 -- 3 in the first column, 4 in the second
 three : count_at (record { ones = 1; twos = 1; fours = 2; eights = 0 }) 0 ≡ 3

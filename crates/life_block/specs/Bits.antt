@@ -1,6 +1,8 @@
 -- Cells as words of 64 bits.
 use Rattle.std.specs.Prelude.{◌≡◌, ℕ, ◌+◌, ◌*◌, ◌<◌, ℤ, pos, ◌+ℤ◌, List, [], ◌∷◌}
 use Rattle.std.specs.Int.{bit_at}
+use Rattle.life_base.specs.declared.rule.Near.{Near}
+use Rattle.life_base.specs.declared.rule.Near.TheVariants.{Moore, VonNeumann}
 use Rattle.life_block.specs.declared.counts.Counts.{Counts}
 use Rattle.life_block.specs.declared.counts.Words.{Words}
 
@@ -9,6 +11,15 @@ abbrev pub neighbours_in : Words → ℕ → List ℕ
 neighbours_in w i =
     bit_at w.north (i + 1) ∷ bit_at w.north (i + 2) ∷ bit_at w.here (i + 2) ∷ bit_at w.south (i + 2)
     ∷ bit_at w.south (i + 1) ∷ bit_at w.south i ∷ bit_at w.here i ∷ bit_at w.north i ∷ []
+
+-- of the four of them that share a side with the place, from north clockwise
+abbrev pub sides_in : Words → ℕ → List ℕ
+sides_in w i = bit_at w.north (i + 1) ∷ bit_at w.here (i + 2) ∷ bit_at w.south (i + 1) ∷ bit_at w.here i ∷ []
+
+-- of the neighbours that count
+abbrev pub counted_in : Near → Words → ℕ → List ℕ
+counted_in Moore = neighbours_in
+counted_in VonNeumann = sides_in
 
 -- the number that the four words have in column i
 abbrev pub count_at : Counts → ℕ → ℕ

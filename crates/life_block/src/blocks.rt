@@ -4,7 +4,6 @@ ghost use Rattle.life_base.specs.declared.kind.Kind.TheVariants.{Full, Memory};
 ghost use Rattle.life_base.specs.Rules.{has_digit};
 ghost use Rattle.life_base.specs.Tree.{Tree, depth, tree_cell};
 ghost use Rattle.life_quad.specs.declared.id.Id.{Id as IdValue};
-ghost use Rattle.life_sweep.specs.Around.{eight_around};
 ghost use Rattle.life_sweep.specs.Generation.{next_life};
 ghost use Rattle.life_block.specs.Pieces.{IsPiece, IsBinary, IsAt, InNine, InSixteen, AreNine, AreSixteen};
 
@@ -22,7 +21,7 @@ fn next_of_cells<S: Squares>(
 ) -> Result<Id, Kind>
     requires { InSixteen (IsAt (S.knows squares.old) (S.content squares.old) 1) sixteen.now }
     ensures at { IfOk result (IsAt (S.knows squares.new) (S.content squares.new) 2) }
-    ensures next { IfOk result (λ r. (cells : ℤ → ℤ → ℕ) (x y : ℤ) → IsBinary cells → AreSixteen (S.content squares.old) cells 2 x y sixteen.now → IsPiece (next_life eight_around rule.now cells) x y (S.content squares.new r)) }
+    ensures next { IfOk result (λ r. (cells : ℤ → ℤ → ℕ) (x y : ℤ) → IsBinary cells → AreSixteen (S.content squares.old) cells 2 x y sixteen.now → IsPiece (next_life rule.now cells) x y (S.content squares.new r)) }
     ensures keeps { (q : IdValue) → S.knows squares.old q → S.knows squares.new q × (S.content squares.new q ≡ S.content squares.old q) }
     ensures stays { (t : Tree) → Contains (S.stored squares.old) t → Contains (S.stored squares.new) t }
     ensures most { S.most squares.new ≡ S.most squares.old }
@@ -54,9 +53,9 @@ fn next_amid<S: Squares>(
     requires known { InNine (IsAt (S.knows squares.old) (S.content squares.old) level) nine.now }
     requires low { 2 ≤ level }
     requires high { level ≤ MAX_LEVEL }
-    requires quiet { has_digit rule.now.births 0 ≡ false }
+    requires quiet { has_digit rule.now.sets.births 0 ≡ false }
     ensures at { IfOk result (IsAt (S.knows squares.new) (S.content squares.new) level) }
-    ensures next { IfOk result (λ r. (cells : ℤ → ℤ → ℕ) (x y : ℤ) → IsBinary cells → AreNine (S.content squares.old) cells (2 ^ level) x y nine.now → IsPiece (next_life eight_around rule.now cells) x y (S.content squares.new r)) }
+    ensures next { IfOk result (λ r. (cells : ℤ → ℤ → ℕ) (x y : ℤ) → IsBinary cells → AreNine (S.content squares.old) cells (2 ^ level) x y nine.now → IsPiece (next_life rule.now cells) x y (S.content squares.new r)) }
     ensures keeps { (q : IdValue) → S.knows squares.old q → S.knows squares.new q × (S.content squares.new q ≡ S.content squares.old q) }
     ensures stays { (t : Tree) → Contains (S.stored squares.old) t → Contains (S.stored squares.new) t }
     ensures most { S.most squares.new ≡ S.most squares.old }
@@ -82,9 +81,9 @@ fn next_of_middle<S: Squares>(
     requires known { InSixteen (IsAt (S.knows squares.old) (S.content squares.old) level) sixteen.now }
     requires low { 1 ≤ level }
     requires high { level < MAX_LEVEL }
-    requires quiet { has_digit rule.now.births 0 ≡ false }
+    requires quiet { has_digit rule.now.sets.births 0 ≡ false }
     ensures at { IfOk result (IsAt (S.knows squares.new) (S.content squares.new) (level + 1)) }
-    ensures next { IfOk result (λ r. (cells : ℤ → ℤ → ℕ) (x y : ℤ) → IsBinary cells → AreSixteen (S.content squares.old) cells (2 ^ level) x y sixteen.now → IsPiece (next_life eight_around rule.now cells) x y (S.content squares.new r)) }
+    ensures next { IfOk result (λ r. (cells : ℤ → ℤ → ℕ) (x y : ℤ) → IsBinary cells → AreSixteen (S.content squares.old) cells (2 ^ level) x y sixteen.now → IsPiece (next_life rule.now cells) x y (S.content squares.new r)) }
     ensures keeps { (q : IdValue) → S.knows squares.old q → S.knows squares.new q × (S.content squares.new q ≡ S.content squares.old q) }
     ensures stays { (t : Tree) → Contains (S.stored squares.old) t → Contains (S.stored squares.new) t }
     ensures most { S.most squares.new ≡ S.most squares.old }
@@ -114,7 +113,7 @@ pub fn next_life_square<S: Squares>(squares: &mut S, rule: &LifeRule, id: Id) ->
     requires states { (x y : ℤ) → tree_cell (S.content squares.old id) x y < 2 }
     ensures known { IfOk result (S.knows squares.new) }
     ensures level { IfOk result (λ r. depth (S.content squares.new r) ≡ depth (S.content squares.old id) + 1) }
-    ensures next { IfOk result (λ r. (x y : ℤ) → tree_cell (S.content squares.new r) x y ≡ next_life eight_around rule.now (tree_cell (S.content squares.old id)) x y) }
+    ensures next { IfOk result (λ r. (x y : ℤ) → tree_cell (S.content squares.new r) x y ≡ next_life rule.now (tree_cell (S.content squares.old id)) x y) }
     ensures keeps { (q : IdValue) → S.knows squares.old q → S.knows squares.new q × (S.content squares.new q ≡ S.content squares.old q) }
     ensures stays { (t : Tree) → Contains (S.stored squares.old) t → Contains (S.stored squares.new) t }
     ensures most { S.most squares.new ≡ S.most squares.old }

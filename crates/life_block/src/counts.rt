@@ -3,9 +3,9 @@ ghost use Rattle.std.specs.Prelude.{◌≡◌, ℕ, ◌+◌, ◌-◌, ◌*◌, �
 ghost use Rattle.std.specs.Int.{bit_at};
 ghost use Rattle.life_table.specs.Meaning.{count_of};
 ghost use Rattle.life_sweep.specs.Generation.{next_by_count};
-ghost use Rattle.life_block.specs.Bits.{count_at, neighbours_in};
+ghost use Rattle.life_block.specs.Bits.{count_at, neighbours_in, sides_in, counted_in};
 
-use life_base::LifeRule;
+use life_base::{LifeRule, Near};
 
 /// The cells of 64 columns in three rows, one below the other: bit i is the cell i columns east of the first.
 #[derive(Clone, Copy)]
@@ -61,6 +61,31 @@ fn live_neighbours(words: &Words) -> Counts
     }
 }
 
+// How many of the four neighbours of each place that share a side with it are alive.
+fn live_sides(words: &Words) -> Counts
+    ensures { (i : ℕ) → count_at result i ≡ count_of 1 (sides_in words.now i) }
+{
+    let three = add(words.north >> 1, words.here, words.here >> 2);
+    let ones = add(three.ones, words.south >> 1, 0);
+    let twos = add(three.twos, ones.twos, 0);
+    Counts {
+        ones: ones.ones,
+        twos: twos.ones,
+        fours: twos.twos,
+        eights: 0,
+    }
+}
+
+// How many of the neighbours of each place that count are alive.
+fn live_counted(near: Near, words: &Words) -> Counts
+    ensures { (i : ℕ) → count_at result i ≡ count_of 1 (counted_in near words.now i) }
+{
+    match near {
+        Near::Moore => live_neighbours(words),
+        Near::VonNeumann => live_sides(words),
+    }
+}
+
 // The columns whose digit is 1, or those whose digit is 0.
 fn with_digit(digits: u64, one: bool) -> u64
     ensures { (i : ℕ) → i < 64 → bit_at result i ≡ (if one then bit_at digits i else 1 - bit_at digits i) }
@@ -97,9 +122,9 @@ impl Counts {
 
 /// The next states of the 62 places between the first column and the last, under a B/S rule: bit i is that of place i.
 pub(crate) fn next_word(words: &Words, rule: &LifeRule) -> u64
-    ensures { (i : ℕ) → i < 62 → bit_at result i ≡ next_by_count rule.now (bit_at words.now.here (i + 1)) (count_of 1 (neighbours_in words.now i)) }
+    ensures { (i : ℕ) → i < 62 → bit_at result i ≡ next_by_count rule.now.sets (bit_at words.now.here (i + 1)) (count_of 1 (counted_in rule.now.near words.now i)) }
 {
-    let counts = live_neighbours(words);
+    let counts = live_counted(rule.near, words);
     let alive = words.here >> 1;
     let born = counts.columns_in(rule.births) & !alive;
     let stay = counts.columns_in(rule.survivals) & alive;

@@ -4,8 +4,6 @@ ghost use Rattle.life_base.specs.declared.kind.Kind.TheVariants.{Full, Memory};
 ghost use Rattle.life_base.specs.Refusal.{fault_of};
 ghost use Rattle.life_base.specs.Tree.{Tree, depth, tree_cell};
 ghost use Rattle.life_quad.specs.declared.id.Id.{Id as IdValue};
-ghost use Rattle.life_table.specs.declared.table.Neighborhood.TheVariants.{Moore};
-ghost use Rattle.life_sweep.specs.Around.{eight_around};
 ghost use Rattle.life_sweep.specs.Generation.{next_life};
 ghost use Rattle.life_sweep.specs.Refused.{GenerationRefusal};
 ghost use Rattle.life_sweep.specs.Sweep.{LifeAnswers};
@@ -13,6 +11,7 @@ ghost use Rattle.life_sweep.specs.Sweep.{LifeAnswers};
 use crate::blocks::next_life_square;
 use life_base::{Fault, Kind, LifeRule, MAX_LEVEL};
 use life_quad::{Id, SharedSquares, population};
+use life_sweep::laws::life_answers_at;
 use life_sweep::{ByCounts, next_generation};
 use std::alloc::Global;
 
@@ -36,14 +35,15 @@ pub fn next_life_generation<S: SharedSquares>(
     ensures known { IfOk result (S.knows squares.new) }
     ensures high { IfOk result (λ r. 3 ≤ depth (S.content squares.new r)) }
     ensures low { IfOk result (λ r. depth (S.content squares.new r) ≤ MAX_LEVEL) }
-    ensures next { IfOk result (λ r. (x y : ℤ) → tree_cell (S.content squares.new r) x y ≡ next_life eight_around rule.now (tree_cell (S.content squares.old id)) x y) }
-    ensures accepted { IfOk result (λ _. GenerationRefusal (LifeAnswers Moore rule.now) 2 most (S.content squares.old id) None) }
-    ensures refusals { IfErr result (λ f. (f ≡ fault_of Full) ⊎ (f ≡ fault_of Memory) ⊎ GenerationRefusal (LifeAnswers Moore rule.now) 2 most (S.content squares.old id) (Some f)) }
+    ensures next { IfOk result (λ r. (x y : ℤ) → tree_cell (S.content squares.new r) x y ≡ next_life rule.now (tree_cell (S.content squares.old id)) x y) }
+    ensures accepted { IfOk result (λ _. GenerationRefusal (LifeAnswers rule.now) 2 most (S.content squares.old id) None) }
+    ensures refusals { IfErr result (λ f. (f ≡ fault_of Full) ⊎ (f ≡ fault_of Memory) ⊎ GenerationRefusal (LifeAnswers rule.now) 2 most (S.content squares.old id) (Some f)) }
     ensures full { result ≡ Err (fault_of Full) → length (S.stored squares.new) ≡ S.most squares.new }
     ensures keeps { (q : IdValue) → S.knows squares.old q → S.knows squares.new q × (S.content squares.new q ≡ S.content squares.old q) }
     ensures stays { (t : Tree) → Contains (S.stored squares.old) t → Contains (S.stored squares.new) t }
     ensures most { S.most squares.new ≡ S.most squares.old }
 {
+    life_answers_at();
     if squares.level(id) == MAX_LEVEL {
         let mut law = ByCounts::new(*rule);
         return next_generation(alloc, squares, &mut law, id, most);

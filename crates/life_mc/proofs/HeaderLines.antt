@@ -7,13 +7,16 @@ use Rattle.std.proofs.lemmas.Bool.Decides.{nat_tests}
 use Rattle.std.proofs.lemmas.Bool.{ltb-false, le-leb}
 use Rattle.std.proofs.lemmas.List.Folds.{list_all-append}
 use Rattle.life_base.proofs.NamesRead.{all_pass}
-use Rattle.life_base.proofs.RoundTrip.{rules_read_back}
+use Rattle.life_base.proofs.ReadBack.{rules_read_back}
+use Rattle.life_base.proofs.RuleTexts.{texts_visible}
 use Rattle.life_base.proofs.RuleValues.{named_is}
 use Rattle.life_base.specs.Sets.{DigitSets}
 use Rattle.life_base.specs.Text.{is_empty, is_digit_text, value_of, trim}
 use Rattle.life_base.specs.Numbers.{u64_of}
-use Rattle.life_base.specs.Rules.{rule_of, rule_text, digits_of, counts, has_digit, is_bad_text, IsRule}
+use Rattle.life_base.specs.Rules.{rule_of, rule_text, digits_of, counts, has_digit, is_bad_text, counting, IsRule}
 use Rattle.life_base.specs.declared.kind.Kind.TheVariants.{BadNumber, TooLarge}
+use Rattle.life_base.specs.declared.rule.Near.{Near}
+use Rattle.life_base.specs.declared.rule.Near.TheVariants.{Moore, VonNeumann}
 use Rattle.life_base.specs.declared.rule.Rule.{Rule}
 use Rattle.life_base.specs.declared.rule.Rule.TheVariants.{Life, Named}
 use Rattle.life_mc.specs.Reading.{fault_in}
@@ -47,11 +50,11 @@ digits_no_feed (d ∷ ds) = both _ _ (digit_no_feed d) (digits_no_feed ds)
 set_short : (set : ℕ) → length (digits_of set) ≤ 9
 set_short set = kept_short (has_digit set) counts
 
-life_short : (sets : DigitSets) → IsShortText (rule_text (Life sets))
-life_short sets =
+moore_short : (sets : DigitSets) → IsShortText (rule_text (counting Moore sets))
+moore_short sets =
     let ds = digits_of sets.births in
     let es = digits_of sets.survivals in
-    let e : rule_text (Life sets) ≡ 66 ∷ (ds ++ 47 ∷ 83 ∷ es) = ap (λ (t : List ℕ). 66 ∷ t) (append_assoc ds (codes "/S") es) in
+    let e : rule_text (counting Moore sets) ≡ 66 ∷ (ds ++ 47 ∷ 83 ∷ es) = ap (λ (t : List ℕ). 66 ∷ t) (append_assoc ds (codes "/S") es) in
     subst IsShortText (sym e) (record {
       short = omega (arith, length-append ds (47 ∷ 83 ∷ es), set_short sets.births, set_short sets.survivals);
       feed = list_all-append (λ b. not (b == 10)) ds (47 ∷ 83 ∷ es) ∙ both _ _ (digits_no_feed (filter (has_digit sets.births) counts)) (digits_no_feed (filter (has_digit sets.survivals) counts));
@@ -75,8 +78,12 @@ not_bad text h =
     let p = none_of_three (is_empty text) (nat_lt 255 (length text)) (list_all visible text) h in
     record { short = ltb-false 255 (length text) p.0; feed = all_pass visible (λ b. not (b == 10)) visible_no_feed text p.1 }
 
+life_short : (sets : DigitSets) (near : Near) → IsRule (counting near sets) → IsShortText (rule_text (counting near sets))
+life_short sets Moore h = moore_short sets
+life_short sets VonNeumann h = not_bad (rule_text (counting VonNeumann sets)) (texts_visible (counting VonNeumann sets) h)
+
 pub rule_short : (rule : Rule) → IsRule rule → IsShortText (rule_text rule)
-rule_short (Life sets) h = life_short sets
+rule_short (Life rule) h = life_short rule.sets rule.near h
 rule_short (Named name) h = let p = named_is name name h in subst IsShortText p.1 (not_bad (trim name) p.0)
 
 -- ---- the line of a rule

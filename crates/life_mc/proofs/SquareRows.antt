@@ -3,7 +3,7 @@ use Rattle.std.proofs.Common.{◌≡◌, ℕ, List, [], ◌∷◌, refl}
 use Rattle.std.specs.Prelude.{codes, pos, negsuc}
 use Rattle.std.specs.Fmt.{digits}
 use Rattle.life_base.specs.Text.{lines_of}
-use Rattle.life_base.specs.Rules.{rule_of, life_sets}
+use Rattle.life_base.specs.Rules.{rule_of, life_sets, four_sets}
 use Rattle.life_base.specs.Tree.{point, quad, blank, depth, state_at}
 use Rattle.life_mc.specs.Macrocell.{Macrocell}
 use Rattle.life_mc.specs.Cells.{node_lines}
@@ -79,15 +79,15 @@ abbrev file_of : List ℕ → Macrocell
 file_of bytes = record { rule = rule_in_force (lines_of bytes); generation = generation_in_force (lines_of bytes); lines = squares_of (lines_of bytes) }
 
 glider_back : squares_of (lines_of (mc_text (record { rule = rule_in_force []; generation = 0; lines = glider }))) ≡ glider
-unfolding rule_of life_sets digits row_cells
+unfolding rule_of life_sets four_sets digits row_cells
 glider_back = refl
 
 states_back : file_of (mc_text (file_of (codes "[M2]\n#R Foo\n#G 007\n1 0 0 0 255\n2 0 0 1 0"))) ≡ file_of (codes "[M2]\n#R Foo\n#G 7\n1 0 0 0 255\n2 0 0 1 0")
-unfolding rule_of life_sets digits row_cells
+unfolding rule_of life_sets four_sets digits row_cells
 states_back = refl
 
 -- ---- node lines
 
 unreached : node_lines (file_of (codes "[M2]\n#R Foo\n\n1 0 0 0 255\n#C unreached\n1 0 0 0 1\n2 0 0 1 0")) ≡ 3
-unfolding rule_of life_sets
+unfolding rule_of life_sets four_sets
 unreached = refl

@@ -4,7 +4,7 @@ use Rattle.std.proofs.Common.{◌≡◌, subst, ℕ, ℤ, List, [], ◌∷◌, r
 use Rattle.life_base.specs.declared.kind.Kind.TheVariants as kinds
 use Rattle.life_base.specs.declared.kind.Kind.{Kind}
 use Rattle.life_base.specs.declared.rule.Rule.{Rule}
-use Rattle.life_base.specs.Rules.{rule_of, life_sets, default_rule}
+use Rattle.life_base.specs.Rules.{rule_of, life_sets, four_sets, default_rule}
 use Rattle.life_base.specs.Text.{lines_of}
 use Rattle.life_rle.specs.States.{state_at}
 use Rattle.life_rle.specs.declared.item.Item.TheVariants.{Cells, RowEnds}
@@ -23,11 +23,11 @@ abbrev b3s23 : Rule
 b3s23 = default_rule
 
 rule_b3s23 : rule_of (codes "B3/S23") ≡ Ok b3s23
-unfolding rule_of life_sets
+unfolding rule_of life_sets four_sets
 rule_b3s23 = refl
 
 rule_23_3 : rule_of (codes "23/3") ≡ Ok b3s23
-unfolding rule_of life_sets
+unfolding rule_of life_sets four_sets
 rule_23_3 = refl
 
 -- a glider's five cells, with `!`
@@ -38,7 +38,7 @@ glider-Spells : Spells MAX_LEVEL (codes "bo$2bo$3o!") glider.items Mark
 glider-Spells = line-Spells MAX_LEVEL 7 (codes "bo$2bo$3o!")
 
 glider-IsRle : IsRle MAX_LEVEL (lines_of (codes "x = 3, y = 3, rule = B3/S23\nbo$2bo$3o!\n")) glider
-unfolding rule_of life_sets
+unfolding rule_of life_sets four_sets
 glider-IsRle = inr (record {
   front = codes "x = 3, y = 3, rule = B3/S23" ∷ [];
   last = codes "bo$2bo$3o!";
@@ -113,18 +113,18 @@ no_rule : opening_of MAX_LEVEL (codes "x = 1, y = 1") ≡ Ok (Header b3s23)
 no_rule = refl
 
 tight : opening_of MAX_LEVEL (codes "x=1,y=1,rule=B3/S23 ") ≡ Ok (Header b3s23)
-unfolding rule_of life_sets
+unfolding rule_of life_sets four_sets
 tight = refl
 
 cut_rule : opening_of MAX_LEVEL (codes "x = 2, y = 1, rule") ≡ Err kinds.BadHeader
 cut_rule = refl
 
 empty_rule : opening_of MAX_LEVEL (codes "x = 2, y = 1, rule = ") ≡ Err kinds.BadRule
-unfolding rule_of life_sets
+unfolding rule_of life_sets four_sets
 empty_rule = refl
 
 bounded : opening_of MAX_LEVEL (codes "x = 0, y = 0, rule = B3/S23:T30,20") ≡ Err kinds.BoundedGrid
-unfolding rule_of life_sets
+unfolding rule_of life_sets four_sets
 bounded = refl
 
 no_header : opening_of MAX_LEVEL (codes "y = 3") ≡ Err kinds.NoHeader
@@ -210,7 +210,7 @@ abbrev blank : Rule → Rle
 blank rule = record { rule = rule; position = default_position; items = [] }
 
 header-IsUnmarked : IsUnmarked MAX_LEVEL (codes "x = 1, y = 1, rule = B3/S23" ∷ []) (blank b3s23)
-unfolding rule_of life_sets
+unfolding rule_of life_sets four_sets
 header-IsUnmarked = record { before = []; header = codes "x = 1, y = 1, rule = B3/S23"; body = []; whole = refl; preamble = refl; rule = refl; items = refl; sound = refl }
 
 -- what breaks a line of items behind this header, where an item should stand

@@ -4,7 +4,7 @@ use Rattle.std.proofs.lemmas.Int.{ints}
 use Rattle.std.proofs.lemmas.Bool.Decides.{eqb_tells}
 use Rattle.std.proofs.Math.Pow.{pow_mono}
 use Rattle.life_base.specs.Refusal.{fault_of}
-use Rattle.life_base.specs.Sets.{DigitSets}
+use Rattle.life_base.specs.Sets.{OuterTotalistic}
 use Rattle.life_base.specs.Tree.{Tree, depth, half_side, tree_cell, IsFull}
 use Rattle.life_base.specs.declared.cell.Cell.{Cell}
 use Rattle.life_base.specs.declared.cell.TheConstants.{MAX_LEVEL}
@@ -14,7 +14,6 @@ use Rattle.life_quad.specs.Cells.{IsCellList, population}
 use Rattle.life_quad.proofs.LawLemmas.{cells_are_listed, list_is_population, cells_lie_inside}
 use Rattle.life_strip.specs.Given.{IsOnPlane}
 use Rattle.life_table.specs.Meaning.{Answer, Becomes, Ambiguous}
-use Rattle.life_sweep.specs.Around.{eight_around}
 use Rattle.life_sweep.specs.Generation.{next_life}
 use Rattle.life_sweep.specs.Refused.{IfElse, HasStateFrom, fault_on, GenerationRefusal}
 use Rattle.life_sweep.specs.Sweep as sweep_words
@@ -127,16 +126,16 @@ module _ (t : Tree) (u : Universe) (same : (x y : ℤ) → u.cell x y ≡ tree_c
 
 -- ---- a B/S rule: every cell has one next state, and no state is above 1
 
-pub life-refusal : (u : Universe) (sets : DigitSets) (most : ℕ) (refusal : Option Fault)
+pub life-refusal : (u : Universe) (life : OuterTotalistic) (most : ℕ) (refusal : Option Fault)
     → ((x y : ℤ) → u.cell x y ≤ 1)
     → IfElse (HasMoreCells most u) (refusal ≡ Some (fault_of kinds.TooManyCells))
     (IfElse (HasStateFrom 2 u.cell) (refusal ≡ Some (fault_of kinds.StateBeyondTable))
-    (IfElse (SomeAmbiguous (λ x y a. a ≡ Becomes (next_life eight_around sets u.cell x y)))
-    ((line : ℕ) × IsFirstAmbiguous (λ x y a. a ≡ Becomes (next_life eight_around sets u.cell x y)) line × (refusal ≡ Some (fault_on line)))
-    (IfElse (LeavesPlane (λ x y a. a ≡ Becomes (next_life eight_around sets u.cell x y)) MAX_LEVEL) (refusal ≡ Some (fault_of kinds.OutOfPlane)) (refusal ≡ None))))
+    (IfElse (SomeAmbiguous (λ x y a. a ≡ Becomes (next_life life u.cell x y)))
+    ((line : ℕ) × IsFirstAmbiguous (λ x y a. a ≡ Becomes (next_life life u.cell x y)) line × (refusal ≡ Some (fault_on line)))
+    (IfElse (LeavesPlane (λ x y a. a ≡ Becomes (next_life life u.cell x y)) MAX_LEVEL) (refusal ≡ Some (fault_of kinds.OutOfPlane)) (refusal ≡ None))))
     → IfElse (HasMoreCells most u) (refusal ≡ Some (fault_of kinds.TooManyCells))
-    (IfElse (LeavesByRule MAX_LEVEL sets u) (refusal ≡ Some (fault_of kinds.OutOfPlane)) (refusal ≡ None))
-life-refusal u sets most refusal small h = if-else (λ c. c) (λ c. c) (λ e. e) states h
+    (IfElse (LeavesByRule MAX_LEVEL life u) (refusal ≡ Some (fault_of kinds.OutOfPlane)) (refusal ≡ None))
+life-refusal u life most refusal small h = if-else (λ c. c) (λ c. c) (λ e. e) states h
   where
     clash : (s line : ℕ) → Ambiguous line ≡ Becomes s → ⊥
     clash s line e = cc
@@ -148,14 +147,14 @@ life-refusal u sets most refusal small h = if-else (λ c. c) (λ c. c) (λ e. e)
     high n a b = omega (arith, a, b)
 
     states : IfElse (HasStateFrom 2 u.cell) (refusal ≡ Some (fault_of kinds.StateBeyondTable))
-        (IfElse (SomeAmbiguous (λ x y a. a ≡ Becomes (next_life eight_around sets u.cell x y)))
-        ((line : ℕ) × IsFirstAmbiguous (λ x y a. a ≡ Becomes (next_life eight_around sets u.cell x y)) line × (refusal ≡ Some (fault_on line)))
-        (IfElse (LeavesPlane (λ x y a. a ≡ Becomes (next_life eight_around sets u.cell x y)) MAX_LEVEL) (refusal ≡ Some (fault_of kinds.OutOfPlane)) (refusal ≡ None)))
-        → IfElse (LeavesByRule MAX_LEVEL sets u) (refusal ≡ Some (fault_of kinds.OutOfPlane)) (refusal ≡ None)
+        (IfElse (SomeAmbiguous (λ x y a. a ≡ Becomes (next_life life u.cell x y)))
+        ((line : ℕ) × IsFirstAmbiguous (λ x y a. a ≡ Becomes (next_life life u.cell x y)) line × (refusal ≡ Some (fault_on line)))
+        (IfElse (LeavesPlane (λ x y a. a ≡ Becomes (next_life life u.cell x y)) MAX_LEVEL) (refusal ≡ Some (fault_of kinds.OutOfPlane)) (refusal ≡ None)))
+        → IfElse (LeavesByRule MAX_LEVEL life u) (refusal ≡ Some (fault_of kinds.OutOfPlane)) (refusal ≡ None)
     states (inl s) = absurd (high (u.cell s.0.0 s.0.1) s.0.2 (small s.0.0 s.0.1))
     states (inr (n, inl a)) = absurd (clash _ _ a.0.3)
     states (inr (n, inr (m, k))) =
         if-else
         (λ l. (l.0, l.1, l.3, λ z. l.4 (same_state l.2 _ l.5 ∙ z)))
-        (λ l. (l.0, l.1, next_life eight_around sets u.cell l.0 l.1, l.2, l.3, refl))
+        (λ l. (l.0, l.1, next_life life u.cell l.0 l.1, l.2, l.3, refl))
         (λ e. e) (λ e. e) k

@@ -3,16 +3,17 @@ use Rattle.std.proofs.Common.{ℕ, ◌-◌, ◌^◌, inl, Some, [], ◌∷◌, r
 use Rattle.std.specs.Prelude.{pos, ◌&&◌, int_le, if◌then◌else◌}
 use Rattle.std.proofs.lemmas.Int.{ints}
 use Rattle.life_base.specs.Refusal.{fault_of}
-use Rattle.life_base.specs.Sets.{DigitSets}
+use Rattle.life_base.specs.Sets.{OuterTotalistic}
 use Rattle.life_base.specs.declared.kind.Kind.TheVariants as kinds
+use Rattle.life_base.specs.declared.rule.Near.TheVariants.{Moore}
 use Rattle.life_base.specs.declared.rule.Rule.TheVariants.{Life, Named}
 use Rattle.life_canon.specs.Universe.{Universe, corner}
 use Rattle.life_step.specs.Refusals.{LifeRefusal, IsOfPlane, LeavesByRule}
 use Rattle.life_step.specs.Stepped.{IsLifeStep}
 
 -- B3/S23
-abbrev life : DigitSets
-life = record { births = 8; survivals = 12 }
+abbrev life : OuterTotalistic
+life = record { sets = record { births = 8; survivals = 12 }; near = Moore }
 
 -- no cell is alive
 abbrev empty : ℕ → Universe
@@ -20,7 +21,7 @@ empty generation = record { rule = Life life; generation = generation; cell = λ
 
 -- an empty plane stays empty, a generation later
 empty_stays : IsLifeStep (empty 7) (empty 8)
-empty_stays = record { sets = life; rule = refl; same_rule = refl; generation = refl; cells = λ x y. refl }
+empty_stays = record { life = life; rule = refl; same_rule = refl; generation = refl; cells = λ x y. refl }
 
 -- the last generation has no next
 last : LifeRefusal 60 (empty (2 ^ 64 - 1)) (Some (fault_of kinds.GenerationTooLarge))

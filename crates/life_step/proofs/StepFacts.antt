@@ -3,11 +3,13 @@ use Rattle.std.proofs.Common.{◌≡◌, ◌≢◌, ℕ, ◌+◌, ◌-◌, ◌^�
 use Rattle.std.specs.Prelude.{Contains, drop, slice_index, if◌then◌else◌, Result, Ok, Err, IfErr}
 use Rattle.life_base.specs.Refusal.{fault_of}
 use Rattle.life_base.specs.Rules.{IsRule}
-use Rattle.life_base.specs.Sets.{DigitSets}
+use Rattle.life_base.specs.Sets.{OuterTotalistic}
 use Rattle.life_base.specs.Tree.{Tree, depth, tree_cell, IsFull}
 use Rattle.life_base.specs.declared.cell.TheConstants.{MAX_LEVEL}
 use Rattle.life_base.specs.declared.fault.Fault.{Fault}
 use Rattle.life_base.specs.declared.kind.Kind.TheVariants as kinds
+use Rattle.life_base.specs.declared.rule.Near.{Near}
+use Rattle.life_base.specs.declared.rule.Near.TheVariants.{Moore, VonNeumann}
 use Rattle.life_base.specs.declared.rule.Rule.{Rule}
 use Rattle.life_base.specs.declared.rule.Rule.TheVariants.{Life, Named}
 use Rattle.life_mc.specs.Macrocell.{largest_state}
@@ -18,13 +20,13 @@ use Rattle.life_quad.specs.declared.id.Id.{Id}
 use Rattle.life_quad.proofs.LawLemmas.{trimming_keeps_cells, trimmed_is_fixed, trimming_stops}
 use Rattle.life_table.specs.Laws.{OneAnswer}
 use Rattle.life_table.specs.Meaning.{Answer, Becomes, count_of}
+use Rattle.life_table.specs.declared.table.Neighborhood.TheVariants as of_tables
 use Rattle.life_table.specs.declared.table.Table.{Table}
-use Rattle.life_table.specs.declared.table.Neighborhood.TheVariants.{Moore}
-use Rattle.life_sweep.specs.Around.{eight_around, before, after}
+use Rattle.life_sweep.specs.Around.{before, after}
 use Rattle.life_sweep.specs.Generation.{next_by_count, next_life, AnswersAt}
 use Rattle.life_sweep.specs.Laws.{LifeAnswersAt, TableAnswersAt}
 use Rattle.life_sweep.specs.Refused.{GenerationRefusal}
-use Rattle.life_sweep.specs.Sweep.{states_at, LifeAnswers, TableAnswers}
+use Rattle.life_sweep.specs.Sweep.{states_at, named, LifeAnswers, TableAnswers}
 use Rattle.life_canon.specs.Files.{Reads, Refuses, as_macrocell}
 use Rattle.life_canon.specs.Laws.{FilesAreOnPlane, TextsAreFiles, TextsTellUniverses}
 use Rattle.life_canon.specs.Listing.{canonical_file, canon_text}
@@ -64,17 +66,17 @@ step-refused bytes old new pattern Q read (Ok x) h = tt
 step-refused bytes old new pattern Q read (Err fault) (inl want) = inr (inl want)
 step-refused bytes old new pattern Q read (Err fault) (inr step) = inr (inr (step bytes read))
 
--- a rule that is none of sets is refused without a table
-pub needs-table : (u : Universe) (rule : Rule) (refusal : Option Fault) → rule ≡ u.rule → ((sets : DigitSets) → rule ≡ Life sets → ⊥) → refusal ≡ Some (fault_of kinds.NeedsTable)
+-- a rule that is no B/S rule is refused without a table
+pub needs-table : (u : Universe) (rule : Rule) (refusal : Option Fault) → rule ≡ u.rule → ((life : OuterTotalistic) → rule ≡ Life life → ⊥) → refusal ≡ Some (fault_of kinds.NeedsTable)
     → LifeRefusal MAX_LEVEL u refusal
 needs-table u rule refusal is other e = subst (λ (r : Rule). RuleRefusal MAX_LEVEL r u refusal) is (by rule other)
   where
-    by : (r : Rule) → ((sets : DigitSets) → r ≡ Life sets → ⊥) → RuleRefusal MAX_LEVEL r u refusal
+    by : (r : Rule) → ((life : OuterTotalistic) → r ≡ Life life → ⊥) → RuleRefusal MAX_LEVEL r u refusal
     by (Named name) h = e
-    by (Life sets) h = absurd (h sets refl)
+    by (Life life) h = absurd (h life refl)
 
 one-least : (rule : Rule) → 1 ≤ least_level rule
-one-least (Life sets) = omega arith
+one-least (Life life) = omega arith
 one-least (Named name) = omega arith
 
 -- a root is no single cell
@@ -153,45 +155,49 @@ same-states f g h x y =
 same_state : (a b : ℕ) → Becomes a ≡ Becomes b → a ≡ b
 same_state a b e = cc
 
-pub next-small : (sets : DigitSets) (cells : ℤ → ℤ → ℕ) (x y : ℤ) → next_life eight_around sets cells x y ≤ 1
-next-small sets cells x y = by _
+pub next-small : (life : OuterTotalistic) (cells : ℤ → ℤ → ℕ) (x y : ℤ) → next_life life cells x y ≤ 1
+next-small life cells x y = by _
   where
     by : (b : Bool) → (if b then 1 else 0) ≤ 1
     by true = omega arith
     by false = omega arith
 
 -- and equal next states
-pub same-next : (sets : DigitSets) (f g : ℤ → ℤ → ℕ) → ((x y : ℤ) → f x y ≡ g x y) → (x y : ℤ) → next_life eight_around sets f x y ≡ next_life eight_around sets g x y
-same-next sets f g h x y = ap (λ v. next_by_count sets (slice_index v 0) (count_of 1 (drop 1 v))) (same-states f g h x y)
+pub same-next : (life : OuterTotalistic) (f g : ℤ → ℤ → ℕ) → ((x y : ℤ) → f x y ≡ g x y) → (x y : ℤ) → next_life life f x y ≡ next_life life g x y
+same-next life f g h x y = by life.near
+  where
+    by : (near : Near) → next_life (record { sets = life.sets; near = near }) f x y ≡ next_life (record { sets = life.sets; near = near }) g x y
+    by Moore = ap (λ v. next_by_count life.sets (slice_index v 0) (count_of 1 (drop 1 v))) (same-states f g h x y)
+    by VonNeumann = ap (λ v. next_by_count life.sets (slice_index v 0) (count_of 1 (named of_tables.VonNeumann v))) (same-states f g h x y)
 
 -- ---- under a B/S rule
 
-module _ (law : LifeAnswersAt) (sets : DigitSets) (u : Universe) (t : Tree) (same : (x y : ℤ) → u.cell x y ≡ tree_cell t x y) where
-  life-to : (x y : ℤ) (a : Answer) → LifeAnswers Moore sets (states_at (tree_cell t) x y) a → a ≡ Becomes (next_life eight_around sets u.cell x y)
-  life-to x y a h = (law Moore sets u.cell x y a).0 (subst (λ v. LifeAnswers Moore sets v a) (sym (same-states u.cell (tree_cell t) same x y)) h)
+module _ (law : LifeAnswersAt) (life : OuterTotalistic) (u : Universe) (t : Tree) (same : (x y : ℤ) → u.cell x y ≡ tree_cell t x y) where
+  life-to : (x y : ℤ) (a : Answer) → LifeAnswers life (states_at (tree_cell t) x y) a → a ≡ Becomes (next_life life u.cell x y)
+  life-to x y a h = (law life u.cell x y a).0 (subst (λ v. LifeAnswers life v a) (sym (same-states u.cell (tree_cell t) same x y)) h)
 
-  life-from : (x y : ℤ) (a : Answer) → a ≡ Becomes (next_life eight_around sets u.cell x y) → LifeAnswers Moore sets (states_at (tree_cell t) x y) a
-  life-from x y a h = subst (λ v. LifeAnswers Moore sets v a) (same-states u.cell (tree_cell t) same x y) ((law Moore sets u.cell x y a).1 h)
+  life-from : (x y : ℤ) (a : Answer) → a ≡ Becomes (next_life life u.cell x y) → LifeAnswers life (states_at (tree_cell t) x y) a
+  life-from x y a h = subst (λ v. LifeAnswers life v a) (same-states u.cell (tree_cell t) same x y) ((law life u.cell x y a).1 h)
 
   -- the refusal is the one of the file
-  pub life-refused : u.rule ≡ Life sets → u.generation ≢ 2 ^ 64 - 1 → ((x y : ℤ) → u.cell x y ≤ 1) → IsFull t → 1 ≤ depth t
-      → (refusal : Option Fault) → GenerationRefusal (LifeAnswers Moore sets) 2 (2 ^ 20) t refusal → LifeRefusal MAX_LEVEL u refusal
+  pub life-refused : u.rule ≡ Life life → u.generation ≢ 2 ^ 64 - 1 → ((x y : ℤ) → u.cell x y ≤ 1) → IsFull t → 1 ≤ depth t
+      → (refusal : Option Fault) → GenerationRefusal (LifeAnswers life) 2 (2 ^ 20) t refusal → LifeRefusal MAX_LEVEL u refusal
   life-refused e generation small full high refusal h =
       subst (λ rule. RuleRefusal MAX_LEVEL rule u refusal) (sym e)
       (inr (
         generation,
-        life-refusal u sets (2 ^ 20) refusal small
-            (refusal-at t u same full high (LifeAnswers Moore sets) (λ x y a. a ≡ Becomes (next_life eight_around sets u.cell x y)) life-to life-from (λ states a b p q. p ∙ sym q) 2 (2 ^ 20) refusal h),
+        life-refusal u life (2 ^ 20) refusal small
+            (refusal-at t u same full high (LifeAnswers life) (λ x y a. a ≡ Becomes (next_life life u.cell x y)) life-to life-from (λ states a b p q. p ∙ sym q) 2 (2 ^ 20) refusal h),
       ))
 
 -- the text is that of the next generation
-pub life-stepped : (sets : DigitSets) (u : Universe) (rule : Rule) (generation : ℕ) (r : Tree) (text : List ℕ)
-    → u.rule ≡ Life sets → rule ≡ u.rule → generation ≡ u.generation + 1 → ((x y : ℤ) → tree_cell r x y ≡ next_life eight_around sets u.cell x y)
+pub life-stepped : (life : OuterTotalistic) (u : Universe) (rule : Rule) (generation : ℕ) (r : Tree) (text : List ℕ)
+    → u.rule ≡ Life life → rule ≡ u.rule → generation ≡ u.generation + 1 → ((x y : ℤ) → tree_cell r x y ≡ next_life life u.cell x y)
     → IsTextOf MAX_LEVEL (square_universe rule generation r) text → Stepped MAX_LEVEL IsLifeStep text u
-life-stepped sets u rule generation r text is same later next h = record {
+life-stepped life u rule generation r text is same later next h = record {
   after = h.universe;
   step = record {
-    sets = sets;
+    life = life;
     rule = is;
     same_rule = sym h.same.rule ∙ same;
     generation = sym h.same.generation ∙ later;
@@ -201,8 +207,8 @@ life-stepped sets u rule generation r text is same later next h = record {
   canonical = h.canonical;
 }
 
-pub life-last : (sets : DigitSets) (u : Universe) → u.rule ≡ Life sets → u.generation ≡ 2 ^ 64 - 1 → LifeRefusal MAX_LEVEL u (Some (fault_of kinds.GenerationTooLarge))
-life-last sets u e last = subst (λ rule. RuleRefusal MAX_LEVEL rule u (Some (fault_of kinds.GenerationTooLarge))) (sym e) (inl (last, refl))
+pub life-last : (life : OuterTotalistic) (u : Universe) → u.rule ≡ Life life → u.generation ≡ 2 ^ 64 - 1 → LifeRefusal MAX_LEVEL u (Some (fault_of kinds.GenerationTooLarge))
+life-last life u e last = subst (λ rule. RuleRefusal MAX_LEVEL rule u (Some (fault_of kinds.GenerationTooLarge))) (sym e) (inl (last, refl))
 
 pub life-named : (name : List ℕ) (u : Universe) → u.rule ≡ Named name → LifeRefusal MAX_LEVEL u (Some (fault_of kinds.NeedsTable))
 life-named name u e = subst (λ rule. RuleRefusal MAX_LEVEL rule u (Some (fault_of kinds.NeedsTable))) (sym e) refl

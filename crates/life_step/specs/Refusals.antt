@@ -1,6 +1,6 @@
 -- Why a pattern has no next generation: the first condition in order that holds. The order and the limits are the project's own.
 use Rattle.std.specs.Prelude.{◌≡◌, ◌≢◌, ℕ, ◌-◌, ◌^◌, ◌<◌, ℤ, List, length, Option, Some, None}
-use Rattle.life_base.specs.Sets.{DigitSets}
+use Rattle.life_base.specs.Sets.{OuterTotalistic}
 use Rattle.life_base.specs.Refusal.{fault_of}
 use Rattle.life_base.specs.declared.cell.Cell.{Cell}
 use Rattle.life_base.specs.declared.fault.Fault.{Fault}
@@ -9,7 +9,6 @@ use Rattle.life_base.specs.declared.rule.Rule.{Rule}
 use Rattle.life_base.specs.declared.rule.Rule.TheVariants.{Life, Named}
 use Rattle.life_table.specs.Meaning.{Answer, Becomes, Ambiguous}
 use Rattle.life_table.specs.declared.table.Table.{Table}
-use Rattle.life_sweep.specs.Around.{eight_around}
 use Rattle.life_sweep.specs.Generation.{next_life, AnswersAt}
 use Rattle.life_sweep.specs.Refused.{IfElse, HasStateFrom, fault_on}
 use Rattle.life_sweep.specs.Rows.{Precedes}
@@ -25,8 +24,8 @@ abbrev pub IsOfPlane : ℕ → ℤ → ℤ → Type 0
 IsOfPlane top x y = IsWithin top x × IsWithin top y
 
 -- a cell outside the plane would not become 0 under the B/S rule
-abbrev pub LeavesByRule : ℕ → DigitSets → Universe → Type 0
-LeavesByRule top sets u = (x : ℤ) × (y : ℤ) × (¬ (IsOfPlane top x y)) × (next_life eight_around sets u.cell x y ≢ 0)
+abbrev pub LeavesByRule : ℕ → OuterTotalistic → Universe → Type 0
+LeavesByRule top rule u = (x : ℤ) × (y : ℤ) × (¬ (IsOfPlane top x y)) × (next_life rule u.cell x y ≢ 0)
 
 -- what each cell's line of the table answers
 module _ (answers : ℤ → ℤ → Answer → Type 0) where
@@ -58,10 +57,10 @@ TableRefusal top table u refusal =
 -- why a pattern under this rule is not stepped without a table, if it isn't
 abbrev pub RuleRefusal : ℕ → Rule → Universe → Option Fault → Type 0
 RuleRefusal top (Named name) u refusal = refusal ≡ Some (fault_of kinds.NeedsTable)
-RuleRefusal top (Life sets) u refusal =
+RuleRefusal top (Life rule) u refusal =
     IfElse (u.generation ≡ 2 ^ 64 - 1) (refusal ≡ Some (fault_of kinds.GenerationTooLarge))
     (IfElse (HasMoreCells (2 ^ 20) u) (refusal ≡ Some (fault_of kinds.TooManyCells))
-    (IfElse (LeavesByRule top sets u) (refusal ≡ Some (fault_of kinds.OutOfPlane)) (refusal ≡ None)))
+    (IfElse (LeavesByRule top rule u) (refusal ≡ Some (fault_of kinds.OutOfPlane)) (refusal ≡ None)))
 
 abbrev pub LifeRefusal : ℕ → Universe → Option Fault → Type 0
 LifeRefusal top u refusal = RuleRefusal top u.rule u refusal

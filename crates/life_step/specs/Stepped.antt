@@ -1,11 +1,10 @@
 -- One generation of a pattern, and the text of the next one. A B/S rule is of Golly Help (QuickLife), a rule table of Golly Help (File
 -- Formats, rule table).
 use Rattle.std.specs.Prelude.{◌≡◌, ℕ, ◌+◌, List, ℤ}
-use Rattle.life_base.specs.Sets.{DigitSets}
+use Rattle.life_base.specs.Sets.{OuterTotalistic}
 use Rattle.life_base.specs.declared.rule.Rule.TheVariants.{Life, Named}
 use Rattle.life_table.specs.Meaning.{Becomes}
 use Rattle.life_table.specs.declared.table.Table.{Table}
-use Rattle.life_sweep.specs.Around.{eight_around}
 use Rattle.life_sweep.specs.Generation.{next_life, AnswersAt}
 use Rattle.life_canon.specs.Files.{Reads}
 use Rattle.life_canon.specs.Listing.{canon_text}
@@ -13,11 +12,11 @@ use Rattle.life_canon.specs.Universe.{Universe, IsSame}
 
 -- the next generation of a pattern under a B/S rule
 pub record IsLifeStep (before after : Universe) : Type 0 where
-  pub sets : DigitSets
-  pub rule : before.rule ≡ Life sets
+  pub life : OuterTotalistic
+  pub rule : before.rule ≡ Life life
   pub same_rule : after.rule ≡ before.rule
   pub generation : after.generation ≡ before.generation + 1
-  pub cells : (x y : ℤ) → after.cell x y ≡ next_life eight_around sets before.cell x y
+  pub cells : (x y : ℤ) → after.cell x y ≡ next_life life before.cell x y
 
 -- the next generation of a pattern by the table of its rule
 pub record IsTableStep (table : Table) (before after : Universe) : Type 0 where

@@ -1,10 +1,10 @@
 -- What laws answer, in the words of the plane.
 use Rattle.std.proofs.Common.{◌≡◌, ℕ, ℤ}
-use Rattle.life_table.specs.Meaning.{Decides}
+use Rattle.life_table.specs.Meaning.{Decides, Becomes, count_of}
 use Rattle.life_table.specs.declared.table.Neighborhood.{Neighborhood}
 use Rattle.life_table.specs.declared.table.Neighborhood.TheVariants.{VonNeumann, Moore}
 use Rattle.std.proofs.Common.{List, subst, sym, refl}
-use Rattle.life_sweep.specs.Generation.{neighbours_at}
+use Rattle.life_sweep.specs.Generation.{neighbours_at, neighborhood_of, next_by_count}
 use Rattle.life_sweep.specs.Laws.{LifeAnswersAt, TableAnswersAt}
 use Rattle.life_sweep.specs.Sweep.{states_at, named}
 
@@ -14,8 +14,10 @@ named-at VonNeumann cells x y = refl
 named-at Moore cells x y = refl
 
 pub life-answers-at : LifeAnswersAt
-life-answers-at VonNeumann sets cells x y answer = ((λ h. h), (λ h. h))
-life-answers-at Moore sets cells x y answer = ((λ h. h), (λ h. h))
+life-answers-at rule cells x y answer =
+    let e = named-at (neighborhood_of rule.near) cells x y in
+    let P = λ (others : List ℕ). answer ≡ Becomes (next_by_count rule.sets (cells x y) (count_of 1 others)) in
+    ((λ h. subst P e h), (λ h. subst P (sym e) h))
 
 pub table-answers-at : TableAnswersAt
 table-answers-at table cells x y answer =

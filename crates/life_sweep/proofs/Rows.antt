@@ -1,14 +1,18 @@
 -- Worked examples of a generation, computed.
 use Rattle.std.specs.Prelude.{◌≡◌, ℕ, ◌^◌, ◌-◌, ℤ, pos, negsuc, List, [], ◌∷◌, refl, Bool, ◌&&◌, int_le, if◌then◌else◌}
-use Rattle.life_base.specs.Sets.{DigitSets}
+use Rattle.life_base.specs.Sets.{OuterTotalistic}
+use Rattle.life_base.specs.declared.rule.Near.TheVariants as near
 use Rattle.life_base.specs.declared.cell.Cell.{Cell}
 use Rattle.life_table.specs.declared.table.Neighborhood.TheVariants.{VonNeumann, Moore}
-use Rattle.life_sweep.specs.Around.{eight_around, four_around}
 use Rattle.life_sweep.specs.Generation.{next_life, neighbours_at}
 
 -- B3/S23
-abbrev life : DigitSets
-life = record { births = 8; survivals = 12 }
+abbrev life : OuterTotalistic
+life = record { sets = record { births = 8; survivals = 12 }; near = near.Moore }
+
+-- B1/S0V
+abbrev four_sides : OuterTotalistic
+four_sides = record { sets = record { births = 2; survivals = 1 }; near = near.VonNeumann }
 
 abbrev same : ℤ → ℤ → Bool
 same a b = int_le a b && int_le b a
@@ -25,36 +29,36 @@ cell x y s = record { x = x; y = y; state = s }
 abbrev row : ℤ → ℤ → ℕ
 row = states (cell (pos 0) (pos 0) 1 ∷ cell (pos 1) (pos 0) 1 ∷ cell (pos 2) (pos 0) 1 ∷ [])
 
-born_above : next_life eight_around life row (pos 1) (negsuc 0) ≡ 1
+born_above : next_life life row (pos 1) (negsuc 0) ≡ 1
 born_above = refl
 
-born_below : next_life eight_around life row (pos 1) (pos 1) ≡ 1
+born_below : next_life life row (pos 1) (pos 1) ≡ 1
 born_below = refl
 
-stays : next_life eight_around life row (pos 1) (pos 0) ≡ 1
+stays : next_life life row (pos 1) (pos 0) ≡ 1
 stays = refl
 
-dies : next_life eight_around life row (pos 0) (pos 0) ≡ 0
+dies : next_life life row (pos 0) (pos 0) ≡ 0
 dies = refl
 
-stays_dead : next_life eight_around life row (pos 5) (pos 5) ≡ 0
+stays_dead : next_life life row (pos 5) (pos 5) ≡ 0
 stays_dead = refl
 
 -- at the southern edge of the plane a cell is born outside it
 abbrev edge : ℤ → ℤ → ℕ
 edge = states (cell (pos 0) (pos (2 ^ 59 - 1)) 1 ∷ cell (pos 1) (pos (2 ^ 59 - 1)) 1 ∷ cell (pos 2) (pos (2 ^ 59 - 1)) 1 ∷ [])
 
-leaves : next_life eight_around life edge (pos 1) (pos (2 ^ 59)) ≡ 1
+leaves : next_life life edge (pos 1) (pos (2 ^ 59)) ≡ 1
 leaves = refl
 
--- four neighbours, B1/S0: one cell becomes five
+-- four neighbours: one cell becomes five
 abbrev point : ℤ → ℤ → ℕ
 point = states (cell (pos 0) (pos 0) 1 ∷ [])
 
-east_of_it : next_life four_around (record { births = 2; survivals = 1 }) point (pos 1) (pos 0) ≡ 1
+east_of_it : next_life four_sides point (pos 1) (pos 0) ≡ 1
 east_of_it = refl
 
-corner_of_it : next_life four_around (record { births = 2; survivals = 1 }) point (pos 1) (pos 1) ≡ 0
+corner_of_it : next_life four_sides point (pos 1) (pos 1) ≡ 0
 corner_of_it = refl
 
 -- from north clockwise

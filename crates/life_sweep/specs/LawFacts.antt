@@ -2,7 +2,9 @@
 use Rattle.std.proofs.Common.{◌≡◌, ℕ, ◌<◌, Bool, false, ◌||◌, List, refl, sym, ◌∙◌, ap, subst, arith}
 use Rattle.std.specs.Prelude.{if◌then◌else◌, replicate, slice_index}
 use Rattle.life_base.specs.Rules.{has_digit}
-use Rattle.life_base.specs.Sets.{DigitSets}
+use Rattle.life_base.specs.Sets.{DigitSets, OuterTotalistic}
+use Rattle.life_base.specs.declared.rule.Near.{Near}
+use Rattle.life_base.specs.declared.rule.Near.TheVariants as near
 use Rattle.life_table.specs.Meaning.{Answer, Becomes, Decides}
 use Rattle.life_table.specs.Valid.{neighbour_count}
 use Rattle.life_table.specs.declared.table.Table.{Table}
@@ -15,12 +17,15 @@ use Rattle.life_sweep.specs.Sweep.{LifeAnswers, TableAnswers, named, zeros}
 pub two_positive : 0 < 2
 two_positive = omega arith
 
-pub life_quiet : (neighborhood : Neighborhood) (sets : DigitSets) → has_digit sets.births 0 ≡ false → LifeAnswers neighborhood sets zeros (Becomes 0)
-life_quiet VonNeumann sets e = ap (λ (b : Bool). Becomes (if b || false then 1 else 0)) (sym e)
-life_quiet Moore sets e = ap (λ (b : Bool). Becomes (if b || false then 1 else 0)) (sym e)
+quiet_in : (sets : DigitSets) (near : Near) → has_digit sets.births 0 ≡ false → LifeAnswers (record { sets = sets; near = near }) zeros (Becomes 0)
+quiet_in sets near.VonNeumann e = ap (λ (b : Bool). Becomes (if b || false then 1 else 0)) (sym e)
+quiet_in sets near.Moore e = ap (λ (b : Bool). Becomes (if b || false then 1 else 0)) (sym e)
 
-pub life_one : (neighborhood : Neighborhood) (sets : DigitSets) (states : List ℕ) (a b : Answer) → LifeAnswers neighborhood sets states a → LifeAnswers neighborhood sets states b → a ≡ b
-life_one neighborhood sets states a b p q = p ∙ sym q
+pub life_quiet : (rule : OuterTotalistic) → has_digit rule.sets.births 0 ≡ false → LifeAnswers rule zeros (Becomes 0)
+life_quiet rule e = quiet_in rule.sets rule.near e
+
+pub life_one : (rule : OuterTotalistic) (states : List ℕ) (a b : Answer) → LifeAnswers rule states a → LifeAnswers rule states b → a ≡ b
+life_one rule states a b p q = p ∙ sym q
 
 pub table_positive : (table : Table) → 0 < table.n_states
 table_positive table = let least = table.sound.least in omega (arith, least)

@@ -1,6 +1,6 @@
 -- What a sweep has done: the next states of the places before one are drawn.
 use Rattle.std.specs.Prelude.{◌≡◌, ◌≢◌, ◌⊎◌, ℕ, Bool, true, false, List, [], ◌∷◌, ℤ, ◌<ℤ◌, ◌≤ℤ◌, drop, slice_index, length, All, Contains, ◌↔◌, ◌^◌}
-use Rattle.life_base.specs.Sets.{DigitSets}
+use Rattle.life_base.specs.Sets.{OuterTotalistic}
 use Rattle.life_strip.specs.Given.{GivenRun, IsNext, IsOnPlane}
 use Rattle.life_table.specs.Orders.{images}
 use Rattle.life_table.specs.declared.table.Symmetry.{Symmetry}
@@ -9,7 +9,7 @@ use Rattle.life_table.specs.declared.table.Table.{Table}
 use Rattle.life_table.specs.declared.table.Neighborhood.{Neighborhood}
 use Rattle.life_table.specs.declared.table.Neighborhood.TheVariants.{VonNeumann, Moore}
 use Rattle.life_sweep.specs.Around.{eight_around}
-use Rattle.life_sweep.specs.Generation.{next_by_count}
+use Rattle.life_sweep.specs.Generation.{neighborhood_of, next_by_count}
 use Rattle.life_base.specs.declared.cell.Cell.{Cell}
 use Rattle.life_base.specs.declared.kind.Kind.TheVariants as kinds
 use Rattle.life_base.specs.declared.fault.Fault.{Fault}
@@ -32,8 +32,8 @@ named VonNeumann v = slice_index v 1 ∷ slice_index v 3 ∷ slice_index v 5 ∷
 named Moore v = drop 1 v
 
 -- the answer of a B/S rule, by a cell's state and the states of those neighbours that count
-abbrev pub LifeAnswers : Neighborhood → DigitSets → List ℕ → Answer → Type 0
-LifeAnswers neighborhood sets states answer = answer ≡ Becomes (next_by_count sets (slice_index states 0) (count_of 1 (named neighborhood states)))
+abbrev pub LifeAnswers : OuterTotalistic → List ℕ → Answer → Type 0
+LifeAnswers rule states answer = answer ≡ Becomes (next_by_count rule.sets (slice_index states 0) (count_of 1 (named (neighborhood_of rule.near) states)))
 
 -- the answer of a table
 abbrev pub TableAnswers : Table → List ℕ → Answer → Type 0

@@ -3,13 +3,14 @@ ghost use Rattle.std.specs.Prelude.{◌≡◌, ℕ, ◌<◌, ◌≤◌, ◌↔�
 ghost use Rattle.std.specs.List.Sorted.{IsPermutation};
 ghost use Rattle.std.proofs.Props.{props};
 ghost use Rattle.life_table.specs.Meaning.{Answer, Becomes, Ambiguous, count_of};
-ghost use Rattle.life_base.specs.Rules.{has_digit};
-ghost use Rattle.life_table.specs.declared.table.Neighborhood.TheVariants.{VonNeumann, Moore};
+ghost use Rattle.life_base.specs.Rules.{has_digit, most_neighbours};
+ghost use Rattle.life_table.specs.declared.table.Neighborhood.TheVariants.{VonNeumann};
 ghost use Rattle.life_table.specs.declared.table.Symmetry.TheVariants.{Rotate4};
+ghost use Rattle.life_sweep.specs.Generation.{neighborhood_of};
 ghost use Rattle.life_sweep.specs.Sweep.{SameImages, LifeAnswers, TableAnswers, named};
 ghost use Rattle.life_sweep.specs.LawFacts.{two_positive, life_quiet, life_one, table_positive, table_quiet, table_one};
 
-use life_base::{Fault, Kind, LifeRule, State};
+use life_base::{Fault, Kind, LifeRule, Near, State};
 use life_table::{Neighborhood, Neighbours, Symmetry, Table};
 use std::alloc::Global;
 use std::marker::Model;
@@ -51,7 +52,7 @@ pub trait Law {
 #[derive(Drop)]
 pub struct ByCounts {
     pub rule: LifeRule,
-    pub ghost quiet: { has_digit rule.births 0 ≡ false } by { Prim.hlevel props },
+    pub ghost quiet: { has_digit rule.sets.births 0 ≡ false } by { Prim.hlevel props },
 }
 
 impl ByCounts {
@@ -63,27 +64,31 @@ impl ByCounts {
     }
 }
 
-// How many neighbours are alive.
-fn live_neighbours(around: &[State; 9]) -> u8
+// How many of the neighbours that count are alive.
+fn live_neighbours(near: Near, around: &[State; 9]) -> u8
     requires { All (λ s. s < 2) around.now }
-    ensures count { result ≡ count_of 1 (named Moore around.now) }
-    ensures few { result ≤ 8 }
+    ensures count { result ≡ count_of 1 (named (neighborhood_of near) around.now) }
+    ensures few { result ≤ most_neighbours near }
 {
-    let [_, a, b, c, d, e, f, g, h] = *around;
-    a + b + c + d + e + f + g + h
+    let [_, n, ne, e, se, s, sw, w, nw] = *around;
+    match near {
+        Near::Moore => n + ne + e + se + s + sw + w + nw,
+        Near::VonNeumann => n + e + s + w,
+    }
 }
 
 impl Law for ByCounts {
     ghost bound = { λ s. 2 };
 
-    ghost answers = { λ s v a. LifeAnswers Moore s.rule v a };
+    ghost answers = { λ s v a. LifeAnswers s.rule v a };
 
     fn n_states(&self) -> u16 {
         2
     }
 
     fn next(&mut self, around: &[State; 9]) -> Result<State, Fault> {
-        if self.rule.next(around[0] == 1, live_neighbours(around)) {
+        let count = live_neighbours(self.rule.near, around);
+        if self.rule.next(around[0] == 1, count) {
             Ok(1)
         } else {
             Ok(0)
@@ -92,9 +97,9 @@ impl Law for ByCounts {
 
     ghost positive = { λ s. two_positive };
 
-    ghost quiet = { λ s. life_quiet Moore s.rule s.quiet };
+    ghost quiet = { λ s. life_quiet s.rule s.quiet };
 
-    ghost one_answer = { λ s v a b p q. life_one Moore s.rule v a b p q };
+    ghost one_answer = { λ s v a b p q. life_one s.rule v a b p q };
 }
 
 /// A neighbourhood and what a table makes of it.

@@ -6,7 +6,7 @@ use Rattle.std.proofs.lemmas.Bool.Decides.{eqb_tells}
 use Rattle.std.proofs.Math.Seq.{take-append_seam, get_or-append_seam}
 use Rattle.std.proofs.Math.ListN.{get_or-append}
 use Rattle.life_base.specs.Text.{numbered_from}
-use Rattle.life_base.specs.Rules.{rule_of, life_sets}
+use Rattle.life_base.specs.Rules.{rule_of, life_sets, four_sets}
 use Rattle.life_base.specs.Refusal.{Prefix, kept, continuations}
 use Rattle.life_base.specs.declared.kind.Kind.{Kind}
 use Rattle.life_base.proofs.Refusals.{UnbrokenBelow, IsByLines}
@@ -225,7 +225,7 @@ module _ (vars : List Var) (lines : List Transition) where
   )
 
   start_ends : Ends (said_parts None Ahead None None None vars lines)
-  unfolding told_by told_descriptor rule_of life_sets
+  unfolding told_by told_descriptor rule_of life_sets four_sets
   start_ends = (
     false ∷ false ∷ true ∷ true ∷ true ∷ false ∷ true ∷ true ∷ [],
     (RuleName (codes "a"), (λ _. refl), (TableOpens, (λ _. refl), (States 2, (λ _. refl), (Neighbors Moore, (λ _. refl), (Orders symmetries.Identity, (λ _. refl), refl))))),

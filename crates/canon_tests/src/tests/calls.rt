@@ -33,6 +33,13 @@ fn files_are_compared(rt: HostRuntime) {
         b"#CXRLE Gen=1\nx = 3, y = 1, rule = B3/S23\n3o!\n",
         false,
     );
+    compared(
+        &rt,
+        alloc,
+        THREE,
+        b"x = 3, y = 1, rule = B3/S23V\n3o!\n",
+        false,
+    );
     compared(&rt, alloc, ONE, FAR, false);
     compared(&rt, alloc, TOWER, CELL, true);
 }
@@ -134,6 +141,12 @@ fn files_are_written_as_runs(rt: HostRuntime) {
         alloc,
         b"x = 1, y = 1, rule = Foo\npA2$.C!\n",
         b"#CXRLE Pos=0,0\nx = 2, y = 3, rule = Foo\npA2$.C!\n",
+    );
+    converted(
+        &rt,
+        alloc,
+        b"x = 1, y = 1, rule = b31s20v\no!\n",
+        b"#CXRLE Pos=0,0\nx = 1, y = 1, rule = B13/S02V\no!\n",
     );
 }
 

@@ -67,6 +67,19 @@ fn one_rule_has_one_text(rt: HostRuntime) {
     canonical(&rt, alloc, b"x = 0, y = 0, rule = B33/S232\n", BLANK_TEXT);
 }
 
+#[test]
+fn a_rule_of_four_neighbours_has_its_letter(rt: HostRuntime) {
+    let alloc = rt.alloc();
+    let text = b"[M2] (canonical 1)\n#R B13/S02V\n$$$$....*$$$$\n";
+    canonical(&rt, alloc, b"x = 1, y = 1, rule = b31/s20v\no!\n", text);
+    canonical(
+        &rt,
+        alloc,
+        b"[M2]\n#R B13S02V\n3 0 0 0 0\n$$$$....*$$$$\n",
+        text,
+    );
+}
+
 /// Lines in front, and then a line for each level from 4 on with the number of the line before it in these words.
 pub(super) fn chain(
     alloc: Global,

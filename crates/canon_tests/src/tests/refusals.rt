@@ -68,7 +68,7 @@ fn rules_are_refused(rt: HostRuntime) {
     refused(
         &rt,
         alloc,
-        b"x = 0, y = 0, rule = B3S23V\n",
+        b"x = 0, y = 0, rule = B5S23V\n",
         1,
         Kind::UnsupportedRule,
     );

@@ -51,7 +51,11 @@ fn step_by(alloc: Global, input: &[u8], table: &[u8]) -> (u8, Limited, Limited) 
 
 #[test]
 fn next_generations(rt: HostRuntime) {
-    let rows: [(&[u8], &[u8]); 2] = [
+    let rows: [(&[u8], &[u8]); 3] = [
+        (
+            b"x = 1, y = 1, rule = b1s0v\no!\n",
+            b"[M2] (canonical 1)\n#R B1/S0V\n#G 1\n$$$....*$...***$....*$$$\n",
+        ),
         (
             b"x = 3, y = 1, rule = B3/S23\n3o!\n",
             b"[M2] (canonical 1)\n#R B3/S23\n#G 1\n$$$.....*$.....*$.....*$$$\n",

@@ -191,7 +191,8 @@ pub const STEP: Help = Help {
     summary: "Writes the next generation of a pattern file",
     about: "Writes the canonical text of the next generation of a pattern file.
 
-A pattern under a B/S rule, such as B3/S23, needs no table. One under a name needs
+A pattern under a B/S rule needs no table: B3/S23 counts the eight neighbours of a
+cell, and B1/S0V, with a V behind it, the four at its sides. One under a name needs
 the rule table of that name, the section @TABLE of a .rule file: the first line that
 fits a cell and its neighbours gives the cell's next state, and a cell that no line
 fits keeps its state. The table is read before the pattern is. A pattern with more

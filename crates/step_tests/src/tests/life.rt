@@ -131,6 +131,68 @@ fn the_first_condition_is_told(rt: HostRuntime) {
     );
 }
 
+#[test]
+fn a_cell_becomes_five_by_its_four_sides(rt: HostRuntime) {
+    gives(
+        &rt,
+        rt.alloc(),
+        b"x = 1, y = 1, rule = b1s0v\no!\n",
+        1,
+        b"[M2] (canonical 1)\n#R B1/S0V\n#G 1\n$$$....*$...***$....*$$$\n",
+    );
+}
+
+// A square of two by two: each of the eight places beside it has one live cell at a side, each of its cells two.
+#[test]
+fn corners_do_not_count_of_four_neighbours(rt: HostRuntime) {
+    let alloc = rt.alloc();
+    becomes(
+        &rt,
+        alloc,
+        b"x = 2, y = 2, rule = B1/S2V\n2o$2o!\n",
+        1,
+        b"#CXRLE Pos=-1,-1 Gen=1\nx = 4, y = 4, rule = B1/S2V\nb2o$4o$4o$b2o!\n",
+    );
+    becomes(
+        &rt,
+        alloc,
+        b"x = 2, y = 2, rule = B2/SV\nbo$o!\n",
+        1,
+        b"#CXRLE Gen=1\nx = 2, y = 2, rule = B2/SV\no$bo!\n",
+    );
+}
+
+#[test]
+fn four_live_sides_are_counted(rt: HostRuntime) {
+    becomes(
+        &rt,
+        rt.alloc(),
+        b"#CXRLE Pos=-100,0\nx = 200, y = 3, rule = B4/S4V\n200o$200o$200o!\n",
+        1,
+        b"#CXRLE Pos=-99,1 Gen=1\nx = 198, y = 1, rule = B4/S4V\n198o!\n",
+    );
+}
+
+// At the edge of the plane the next state is asked outside it too.
+#[test]
+fn a_cell_leaves_the_plane_by_its_side(rt: HostRuntime) {
+    let alloc = rt.alloc();
+    refuses(
+        &rt,
+        alloc,
+        b"#CXRLE Pos=576460752303423487,0\nx = 1, y = 1, rule = B1/SV\no!\n",
+        0,
+        Kind::OutOfPlane,
+    );
+    gives(
+        &rt,
+        alloc,
+        b"#CXRLE Pos=576460752303423487,0\nx = 1, y = 1, rule = B2/SV\no!\n",
+        1,
+        b"[M2] (canonical 1)\n#R B2/SV\n#G 1\n",
+    );
+}
+
 // 200 live cells side by side, west and east of column 0.
 #[test]
 fn a_long_row_becomes_three(rt: HostRuntime) {

@@ -2,7 +2,6 @@ use Rattle.std.proofs.Common.{◌≡◌, ◌^◌, sym, ◌∙◌, ap, subst}
 use Rattle.std.proofs.lemmas.Result.{IfOk-weaker}
 use Rattle.life_base.specs.Tree.{depth}
 use Rattle.life_quad.specs.declared.id.Id.{Id}
-use Rattle.life_sweep.specs.Around.{eight_around}
 use Rattle.life_sweep.specs.Generation.{next_life}
 use Rattle.life_block.specs.Pieces.{IsPiece, AreNine, ahead}
 use Rattle.life_block.proofs.PieceLemmas.{IsPiece-joined, AreSixteen-kept, nine-north_west, nine-north_east, nine-south_west, nine-south_east, next-of_blank}
@@ -49,7 +48,7 @@ next_of_middle-returns-clause-next g m c =
     let ene : C s4 c.in_ok-ne.ne ≡ C s2 c.in_ok-ne.ne = ne4.1 ∙ ne3.1 in
     IfOk-weaker c.join.result _ _
     (λ r e cells x y binary h.
-    let next = next_life eight_around rule cells in
+    let next = next_life rule cells in
     let h1 = AreSixteen-kept (K s0) (C s0) (C s1) (λ q k. (nw.keeps q k).1) cells side c.args.level x y s c.requires.known h in
     let h2 = AreSixteen-kept (K s0) (C s0) (C s2) to2 cells side c.args.level x y s c.requires.known h in
     let h3 = AreSixteen-kept (K s0) (C s0) (C s3) to3 cells side c.args.level x y s c.requires.known h in

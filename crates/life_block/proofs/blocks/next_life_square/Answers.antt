@@ -1,11 +1,10 @@
 use Rattle.std.proofs.Common.{◌≡◌, ℕ, suc, ◌+◌, ◌-◌, ◌^◌, Result, Ok, Err, IfOk, refl, sym, ◌∙◌, ap, subst, arith}
 use Rattle.std.proofs.lemmas.Int.{ints}
 use Rattle.life_base.specs.Rules.{has_digit}
-use Rattle.life_base.specs.Sets.{DigitSets}
+use Rattle.life_base.specs.Sets.{OuterTotalistic}
 use Rattle.life_base.specs.Tree.{Tree, quad, depth, blank, half_side, tree_cell, IsFull}
 use Rattle.life_quad.specs.declared.id.Id.{Id}
 use Rattle.life_quad.specs.declared.moves.Quarters.{Quarters}
-use Rattle.life_sweep.specs.Around.{eight_around}
 use Rattle.life_sweep.specs.Generation.{next_life}
 use Rattle.life_block.specs.Pieces.{IsPiece, IsAt, InSixteen, AreSixteen, back, ahead}
 use Rattle.life_block.proofs.PieceLemmas.{twice, IsPiece-moved, IsPiece-joined}
@@ -83,10 +82,10 @@ returns-clause-next g c =
     let s4 = c.next_of_middle-4.new.squares in
     let t = C s0 c.args.id in
     let cells = tree_cell t in
-    let next = next_life eight_around c.args.rule.now cells in
+    let next = next_life c.args.rule.now cells in
     let k = c.level-level.result - 1 in
     let start = corner t in
-    let quiet = ap (λ (d : DigitSets). has_digit d.births 0) (sym c.rule.view_is) ∙ c.rule.invariant.no_birth_on_zero in
+    let quiet = ap (λ (d : OuterTotalistic). has_digit d.sets.births 0) (sym c.rule.view_is) ∙ c.rule.invariant.no_birth_on_zero in
     let q = c.divide-root.result in
     let b = c.empty-blank.result in
     let nw = c.in_ok-north_west.ensures in

@@ -2,7 +2,6 @@ use Rattle.std.proofs.Common.{◌≡◌, ◌+◌, ◌*◌, pos, ◌+ℤ◌, refl
 use Rattle.std.proofs.lemmas.Int.{ints}
 use Rattle.std.proofs.lemmas.Result.{IfOk-weaker}
 use Rattle.life_base.specs.Tree.{depth}
-use Rattle.life_sweep.specs.Around.{eight_around}
 use Rattle.life_sweep.specs.Generation.{next_life}
 use Rattle.life_block.specs.Pieces.{back, ahead}
 use Rattle.life_block.proofs.BitmapLemmas.{HasInner, next-place, IsPiece-four}
@@ -41,7 +40,7 @@ returns-clause-next g c =
     let level : depth (C s4 c.in_ok-nw.nw) ≡ 1 = ap depth (enw ∙ nw.square) in
     IfOk-weaker c.join.result _ _
     (λ t e cells x y binary h.
-    let next = next_life eight_around rule cells in
+    let next = next_life rule cells in
     let rows = c.eight_rows-rows.ensures cells x y binary h in
     let inner : HasInner next (back x 2) (back y 2) word = (λ r i lr li. c.next_word-next.ensures (8 * r + i) (omega (arith, lr, li)) ∙ next-place rule cells (back x 2) (back y 2) c.eight_rows-rows.result rows r i lr li) in
     let x2 : back x 2 +ℤ pos (1 + 1) ≡ x = omega (arith, ints) in

@@ -1,6 +1,6 @@
 use Rattle.std.proofs.Common.{◌≡◌, ◌^◌, true, ap, inl, inr}
 use Rattle.std.proofs.lemmas.Result.{IfOk-weaker, err_from_is_err_and}
-use Rattle.life_base.proofs.RoundTrip.{rules_read_back}
+use Rattle.life_base.proofs.ReadBack.{rules_read_back}
 use Rattle.life_base.specs.Refusal.{fault_of}
 use Rattle.life_base.specs.declared.cell.TheConstants.{MAX_LEVEL}
 use Rattle.life_rle.proofs.StatesRead.{states-read}

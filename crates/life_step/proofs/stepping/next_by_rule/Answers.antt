@@ -4,9 +4,7 @@ use Rattle.life_base.specs.Tree.{depth, tree_cell}
 use Rattle.life_base.specs.declared.rule.Rule.TheVariants.{Life}
 use Rattle.life_base.specs.declared.cell.TheConstants.{MAX_LEVEL}
 use Rattle.life_mc.specs.Macrocell.{largest_state}
-use Rattle.life_table.specs.declared.table.Neighborhood.TheVariants.{Moore}
 use Rattle.life_quad.proofs.LawLemmas.{known_squares_are_full}
-use Rattle.life_sweep.specs.Around.{eight_around}
 use Rattle.life_sweep.specs.Generation.{next_life}
 use Rattle.life_sweep.specs.Refused.{GenerationRefusal}
 use Rattle.life_sweep.specs.Sweep.{LifeAnswers}
@@ -51,10 +49,10 @@ returns-in_err-square-clause-refused c =
     let store = c.args.store.now in
     let root = c.args.pattern.root in
     let t = content store root in
-    let sets = c.in-Life.rule in
+    let life = c.in-Life.rule in
     let fault = c.in_err-square.field-0.0 in
     let p = err_from_is_err_and c.from_residual-in_err-square.result c.from_residual-in_err-square.ensures.1 in
-    let each : GenerationRefusal (LifeAnswers Moore sets) 2 (2 ^ 20) t (Some fault) → (bytes : List ℕ) → IsRead MAX_LEVEL bytes store c.args.pattern
+    let each : GenerationRefusal (LifeAnswers life) 2 (2 ^ 20) t (Some fault) → (bytes : List ℕ) → IsRead MAX_LEVEL bytes store c.args.pattern
     → (u : Universe) × Reads MAX_LEVEL bytes u × LifeRefusal MAX_LEVEL u (Some fault) =
     λ h bytes r.
     let u = r.universe in
@@ -62,10 +60,10 @@ returns-in_err-square-clause-refused c =
     let plane = c.files_are_on_plane.ensures bytes u r.reads in
     let full = (known_squares_are_full store root fits.0.known.0).0 in
     let high = root-high c.args.pattern.rule _ fits.0.level in
-    let is : u.rule ≡ Life sets = fits.1.rule ∙ c.in-Life.is in
+    let is : u.rule ≡ Life life = fits.1.rule ∙ c.in-Life.is in
     let some : u.generation ≢ 2 ^ 64 - 1 = λ e. c.in_ok-generation.ensures.some (sym fits.1.generation ∙ e) in
     let small : (x y : ℤ) → u.cell x y ≤ 1 = λ x y. subst (λ q. u.cell x y ≤ largest_state q) is (plane.states x y) in
-    (u, r.reads, life-refused c.life_answers_at.ensures sets u t fits.1.cells is some small full high (Some fault) h) in
+    (u, r.reads, life-refused c.life_answers_at.ensures life u t fits.1.cells is some small full high (Some fault) h) in
     rw (p.1, p.2)
     (refused-by c.next_life_generation.new.squares fault _ _ each (λ e. c.in_err-square.ensures.full (ap Err e)) c.in_err-square.ensures.refusals)
 
@@ -76,8 +74,8 @@ pub text_of-requires-clause-states : goal.text_of-requires-clause-states
 text_of-requires-clause-states c =
     let t = content c.args.store.now c.args.pattern.root in
     let next = content c.next_life_generation.new.squares c.in_ok-square.square in
-    let sets = c.in-Life.rule in
-    λ x y. subst (λ q. tree_cell next x y ≤ largest_state q) (sym c.in-Life.is) (subst (λ n. n ≤ 1) (sym (c.in_ok-square.ensures.next x y)) (next-small sets (tree_cell t) x y))
+    let life = c.in-Life.rule in
+    λ x y. subst (λ q. tree_cell next x y ≤ largest_state q) (sym c.in-Life.is) (subst (λ n. n ≤ 1) (sym (c.in_ok-square.ensures.next x y)) (next-small life (tree_cell t) x y))
 
 pub text_of-requires-clause-high : goal.text_of-requires-clause-high
 text_of-requires-clause-high c =
@@ -88,7 +86,7 @@ returns-clause-stepped c =
     let store = c.args.store.now in
     let root = c.args.pattern.root in
     let t = content store root in
-    let sets = c.in-Life.rule in
+    let life = c.in-Life.rule in
     let next = content c.next_life_generation.new.squares c.in_ok-square.square in
     IfOk-weaker c.text_of.result _ _
     (λ text h bytes r.
@@ -97,15 +95,15 @@ returns-clause-stepped c =
     let plane = c.files_are_on_plane.ensures bytes u r.reads in
     let full = (known_squares_are_full store root fits.0.known.0).0 in
     let high = root-high c.args.pattern.rule _ fits.0.level in
-    let is : u.rule ≡ Life sets = fits.1.rule ∙ c.in-Life.is in
+    let is : u.rule ≡ Life life = fits.1.rule ∙ c.in-Life.is in
     let some : u.generation ≢ 2 ^ 64 - 1 = λ e. c.in_ok-generation.ensures.some (sym fits.1.generation ∙ e) in
     let small : (x y : ℤ) → u.cell x y ≤ 1 = λ x y. subst (λ q. u.cell x y ≤ largest_state q) is (plane.states x y) in
-    let accepted = life-refused c.life_answers_at.ensures sets u t fits.1.cells is some small full high None c.in_ok-square.ensures.accepted in
-    let cells : (x y : ℤ) → tree_cell next x y ≡ next_life eight_around sets u.cell x y = λ x y. c.in_ok-square.ensures.next x y ∙ same-next sets (tree_cell t) u.cell (λ i j. sym (fits.1.cells i j)) x y in (
+    let accepted = life-refused c.life_answers_at.ensures life u t fits.1.cells is some small full high None c.in_ok-square.ensures.accepted in
+    let cells : (x y : ℤ) → tree_cell next x y ≡ next_life life u.cell x y = λ x y. c.in_ok-square.ensures.next x y ∙ same-next life (tree_cell t) u.cell (λ i j. sym (fits.1.cells i j)) x y in (
       u,
       r.reads,
       accepted,
-      life-stepped sets u c.args.pattern.rule c.in_ok-generation.generation next text.items is (sym fits.1.rule)
+      life-stepped life u c.args.pattern.rule c.in_ok-generation.generation next text.items is (sym fits.1.rule)
           (c.in_ok-generation.ensures.after ∙ ap (λ n. n + 1) (sym fits.1.generation)) cells h,
     ))
     c.text_of.ensures.text
