@@ -34,6 +34,14 @@ pub(crate) struct Found {
     pub(crate) square: Id,
 }
 
+// A square of two columns of two strips, and where the eastern of the two columns stands in each.
+#[derive(Clone, Copy)]
+struct Joined {
+    square: Id,
+    north: usize,
+    south: usize,
+}
+
 // The square in a column, where the spans before `from` end before it.
 pub(crate) fn find(spans: &[Span], from: usize, column: u64, blank: Id) -> Found
     requires past { IsPast spans.now from column }
@@ -72,7 +80,7 @@ fn join_at<S: Squares>(
     column: u64,
     north: Found,
     south: Found,
-) -> Result<Id, Kind>
+) -> Result<Joined, Kind>
     requires low { level < MAX_LEVEL }
     requires column { column ≤ 2 ^ MAX_LEVEL }
     requires upper { IsStrip (S.knows squares.old) (S.content squares.old) level upper.now }
@@ -81,8 +89,10 @@ fn join_at<S: Squares>(
     requires blank { S.content squares.old blank ≡ blank_square level }
     requires north { IsFound upper.now (2 * column) blank north }
     requires south { IsFound lower.now (2 * column) blank south }
-    ensures known { IfOk result (λ r. S.knows squares.new r) }
-    ensures square { IfOk result (λ r. S.content squares.new r ≡ quad_at (S.content squares.old) level upper.now lower.now column) }
+    ensures known { IfOk result (λ r. S.knows squares.new r.square) }
+    ensures square { IfOk result (λ r. S.content squares.new r.square ≡ quad_at (S.content squares.old) level upper.now lower.now column) }
+    ensures north { IfOk result (λ r. IsPast upper.now r.north (2 * column + 1)) }
+    ensures south { IfOk result (λ r. IsPast lower.now r.south (2 * column + 1)) }
     ensures keeps { (q : IdValue) → S.knows squares.old q → S.knows squares.new q × (S.content squares.new q ≡ S.content squares.old q) }
     ensures stays { (t : Tree) → Contains (S.stored squares.old) t → Contains (S.stored squares.new) t }
     ensures most { S.most squares.new ≡ S.most squares.old }
@@ -93,7 +103,12 @@ fn join_at<S: Squares>(
     let east = 2 * column + 1;
     let ne = find(upper, north.index, east, blank);
     let se = find(lower, south.index, east, blank);
-    squares.join(north.square, ne.square, south.square, se.square)
+    let square = squares.join(north.square, ne.square, south.square, se.square)?;
+    Ok(Joined {
+        square,
+        north: ne.index,
+        south: se.index,
+    })
 }
 
 // The nearer of two ends.
@@ -146,14 +161,14 @@ pub(crate) fn pair<S: Squares>(
     let mut north = find(upper, 0, 0, blank);
     let mut south = find(lower, 0, 0, blank);
     while let Some(end) = nearer(north.end, south.end) {
-        let square = join_at(squares, upper, lower, level, blank, column, north, south)?;
+        let joined = join_at(squares, upper, lower, level, blank, column, north, south)?;
         column = next_column(column, end);
         spans.push(Span {
             end: column,
-            square,
+            square: joined.square,
         })?;
-        north = find(upper, north.index, 2 * column, blank);
-        south = find(lower, south.index, 2 * column, blank);
+        north = find(upper, joined.north, 2 * column, blank);
+        south = find(lower, joined.south, 2 * column, blank);
     }
     Ok(spans)
 }

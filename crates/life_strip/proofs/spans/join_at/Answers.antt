@@ -1,7 +1,6 @@
 use Rattle.std.proofs.Common.{arith, sym, ◌∙◌, subst}
 use Rattle.life_base.specs.Tree.{quad}
-use Rattle.std.proofs.lemmas.Result.{IfOk-weaker}
-use Rattle.life_base.proofs.Results.{on_err_both}
+use Rattle.std.proofs.lemmas.Result.{err_from_is_err_and}
 use Rattle.life_strip.specs.Strip.{quad_at}
 use Rattle.life_strip.proofs.SpanLemmas.{past_later, found-known, found-content, found-depth}
 use Rattle.life_strip.proofs.spans.join_at.Goals as goal
@@ -58,10 +57,10 @@ returns-clause-square g c =
     let ne = found-content (g.S.Squares.knows c.args.squares.now) (g.S.Squares.content c.args.squares.now) c.args.level c.args.upper.now r.upper c.args.blank r.known r.blank _ c.find-ne.result c.find-ne.ensures in
     let sw = found-content (g.S.Squares.knows c.args.squares.now) (g.S.Squares.content c.args.squares.now) c.args.level c.args.lower.now r.lower c.args.blank r.known r.blank _ c.args.south r.south in
     let se = found-content (g.S.Squares.knows c.args.squares.now) (g.S.Squares.content c.args.squares.now) c.args.level c.args.lower.now r.lower c.args.blank r.known r.blank _ c.find-se.result c.find-se.ensures in
-    IfOk-weaker c.join.result _ _ (λ x e. e ∙ (λ i. quad (nw i) (ne i) (sw i) (se i))) c.join.ensures.square
+    c.in_ok-square.ensures.square ∙ (λ i. quad (nw i) (ne i) (sw i) (se i))
 
-pub returns-clause-needed : goal.returns-clause-needed
-returns-clause-needed g c =
+pub returns-in_err-square-clause-needed : goal.returns-in_err-square-clause-needed
+returns-in_err-square-clause-needed g c =
     let r = c.requires in
     let s = c.args.squares.now in
     let K = g.S.Squares.knows s in
@@ -70,6 +69,7 @@ returns-clause-needed g c =
     let ne = found-content K C c.args.level c.args.upper.now r.upper c.args.blank r.known r.blank _ c.find-ne.result c.find-ne.ensures in
     let sw = found-content K C c.args.level c.args.lower.now r.lower c.args.blank r.known r.blank _ c.args.south r.south in
     let se = found-content K C c.args.level c.args.lower.now r.lower c.args.blank r.known r.blank _ c.find-se.result c.find-se.ensures in
-    on_err_both c.join.result
-    (λ n e. subst (λ q. g.S.Squares.needs_node q (quad_at C c.args.level c.args.upper.now c.args.lower.now c.args.column)) (sym e) (subst (g.S.Squares.needs_node s) (λ i. quad (nw i) (ne i) (sw i) (se i)) n))
-    c.join.ensures.needed c.join.ensures.unchanged
+    let p = err_from_is_err_and c.from_residual.result c.from_residual.ensures.1 in
+    rw p.1
+    (subst (λ q. g.S.Squares.needs_node q (quad_at C c.args.level c.args.upper.now c.args.lower.now c.args.column)) (sym c.in_err-square.ensures.unchanged)
+    (subst (g.S.Squares.needs_node s) (λ i. quad (nw i) (ne i) (sw i) (se i)) c.in_err-square.ensures.needed))

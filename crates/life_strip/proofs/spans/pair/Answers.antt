@@ -22,7 +22,7 @@ loop-end-preserved g c =
     let old = c.args.squares.now in
     let now = c.loop-end.squares in
     let new = c.join_at.new.squares in
-    let h = c.in_ok-square.ensures in
+    let h = c.in_ok-joined.ensures in
     let next = c.next_column-column.ensures in
     let within = inside g c in
     let side = at_most_side (suc c.args.level) in
@@ -34,7 +34,7 @@ loop-end-preserved g c =
     quad-same (K old) (C old) c.args.level c.args.upper.now c.args.lower.now r.upper r.lower c.empty-blank.result c.empty-blank.ensures.known c.empty-blank.ensures.square
     c.loop-end.column x c.loop-end.north c.loop-end.south inv.1 inv.2 lo (near.upper (2 * x + 1) on) (near.lower (2 * x + 1) on) in
     let pushed = PairedTo-push {knows = K now} {knows' = K new} {old = C old} {now = C now} {now' = C new} c.args.level c.args.upper.now c.args.lower.now c.loop-end.spans.items
-    c.loop-end.column c.next_column-column.result c.in_ok-square.square inv.0 h.keeps h.known e next.beyond within same in (
+    c.loop-end.column c.next_column-column.result c.in_ok-joined.joined.square inv.0 h.keeps h.known e next.beyond within same in (
       subst (λ z. PairedTo (K new) (C old) (C new) c.args.level c.args.upper.now c.args.lower.now z c.next_column-column.result) (sym c.in_ok-push.ensures.items) pushed,
       c.find-north-in-Some.ensures,
       c.find-south-in-Some.ensures,
@@ -58,8 +58,8 @@ returns-clause-paired g c =
     c.loop-end.column inv.0 (none-left c.args.upper.now (2 * c.loop-end.column) c.empty-blank.result c.loop-end.north inv.1 over.0)
     (none-left c.args.lower.now (2 * c.loop-end.column) c.empty-blank.result c.loop-end.south inv.2 over.1)
 
-pub returns-in_err-square-clause-needed : goal.returns-in_err-square-clause-needed
-returns-in_err-square-clause-needed g c =
+pub returns-in_err-joined-clause-needed : goal.returns-in_err-joined-clause-needed
+returns-in_err-joined-clause-needed g c =
     let r = c.requires in
     let K = g.S.Squares.knows in
     let C = g.S.Squares.content in
@@ -71,7 +71,7 @@ returns-in_err-square-clause-needed g c =
     let inside = next-within c.args.level c.args.upper.now c.args.lower.now r.low r.upper_within r.lower_within (2 * c.loop-end.column) c.empty-blank.result c.loop-end.north c.loop-end.south c.in-Some.end inv.1 inv.2
     c.in-Some.ensures (c.loop-end.column + 1) (omega (arith, beyond)) in
     let deeper : c.args.level + 1 ≡ suc c.args.level = omega arith in
-    λ e. (c.loop-end.column, subst (λ n. c.loop-end.column < 2 ^ (MAX_LEVEL - n)) (sym deeper) (omega (arith, inside)), subst (g.S.Squares.needs_node c.join_at.new.squares) same c.in_err-square.ensures.needed)
+    λ e. (c.loop-end.column, subst (λ n. c.loop-end.column < 2 ^ (MAX_LEVEL - n)) (sym deeper) (omega (arith, inside)), subst (g.S.Squares.needs_node c.join_at.new.squares) same c.in_err-joined.ensures.needed)
 
 pub loop-end-smaller : goal.loop-end-smaller
 loop-end-smaller g c =
