@@ -78,9 +78,10 @@ impl Plane {
         if self.rows == row {
             return Ok(());
         }
+        // Rows that follow one another are mostly of one length, so a row gets room for as many spans as the one before it had.
         let next = Strip {
             level: 0,
-            spans: Vec::new(self.alloc),
+            spans: Vec::with_capacity(self.alloc, self.row.spans.len())?,
         };
         let begun = mem::replace(&mut self.row, next);
         end_row(

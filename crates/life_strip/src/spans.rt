@@ -156,7 +156,7 @@ pub(crate) fn pair<S: Squares>(
     ensures needed { result ≡ Err Full → (column : ℕ) × (column < 2 ^ (MAX_LEVEL - (level + 1))) × S.needs_node squares.new (quad_at (S.content squares.old) level upper.now lower.now column) }
 {
     let blank = squares.empty(level);
-    let mut spans = Vec::with_capacity(alloc, upper.len() / 2 + lower.len() / 2)?;
+    let mut spans = Vec::with_capacity(alloc, upper.len() / 2 + lower.len() / 2 + 2)?;
     let mut column: u64 = 0;
     let mut north = find(upper, 0, 0, blank);
     let mut south = find(lower, 0, 0, blank);
