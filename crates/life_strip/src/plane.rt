@@ -9,7 +9,7 @@ ghost use Rattle.life_strip.specs.Needed.{SomeSquare};
 ghost use Rattle.life_strip.specs.Picture.{picture};
 ghost use Rattle.life_strip.specs.Plane.{IsFilled, IsUnfilled, IsFree, AddsRun, state_so_far, cell_so_far};
 
-use crate::rows::{end_row, whole};
+use crate::rows::{end_strip, whole};
 use crate::spans::{Strip, push_span};
 use life_base::{Kind, MAX_LEVEL, State};
 use life_quad::{Id, Squares};
@@ -84,7 +84,7 @@ impl Plane {
             spans: Vec::with_capacity(self.alloc, self.row.spans.len())?,
         };
         let begun = mem::replace(&mut self.row, next);
-        end_row(
+        end_strip(
             squares,
             self.alloc,
             &mut self.strips,
@@ -146,7 +146,7 @@ impl Plane {
             rows,
             row,
         } = self;
-        end_row(squares, alloc, &mut strips, row, SIDE - rows - 1)?;
+        end_strip(squares, alloc, &mut strips, row, SIDE - rows - 1)?;
         Ok(whole(squares, strips.as_slice()))
     }
 }

@@ -132,31 +132,31 @@ fn skip_rows<S: Squares>(
     skip_rows(squares, alloc, strips, count - (1 << level))
 }
 
-// A row of cells, and below it rows without cells.
-pub(crate) fn end_row<S: Squares>(
+// One strip more, below the others, and below it rows without cells.
+pub(crate) fn end_strip<S: Squares>(
     squares: &mut S,
     alloc: Global,
     strips: &mut Vec<Strip>,
-    row: Strip,
+    strip: Strip,
     blank_rows: u64,
 ) -> Result<(), Kind>
     requires sound { All (IsSound (S.knows squares.old) (S.content squares.old)) strips.old.items }
-    requires row { IsSound (S.knows squares.old) (S.content squares.old) row }
-    requires level { row.level ≡ 0 }
-    requires room { height strips.old.items + 1 + blank_rows ≤ 2 ^ MAX_LEVEL }
+    requires strip { IsSound (S.knows squares.old) (S.content squares.old) strip }
+    requires lowest { IsLowest strip.level strips.old.items }
+    requires room { height strips.old.items + 2 ^ strip.level + blank_rows ≤ 2 ^ MAX_LEVEL }
     requires falling { AreFalling strips.old.items }
     ensures falling { OnOk result (AreFalling strips.new.items) }
     ensures sound { OnOk result (All (IsSound (S.knows squares.new) (S.content squares.new)) strips.new.items) }
-    ensures height { OnOk result (height strips.new.items ≡ height strips.old.items + 1 + blank_rows) }
-    ensures picture { OnOk result ((column row_below : ℕ) → picture (S.content squares.new) strips.new.items column row_below ≡ picture (S.content squares.old) (strips.old.items ++ row ∷ []) column row_below) }
+    ensures height { OnOk result (height strips.new.items ≡ height strips.old.items + 2 ^ strip.level + blank_rows) }
+    ensures picture { OnOk result ((column row : ℕ) → picture (S.content squares.new) strips.new.items column row ≡ picture (S.content squares.old) (strips.old.items ++ strip ∷ []) column row) }
     ensures keeps { (q : IdValue) → S.knows squares.old q → S.knows squares.new q × (S.content squares.new q ≡ S.content squares.old q) }
     ensures stays { (t : Tree) → Contains (S.stored squares.old) t → Contains (S.stored squares.new) t }
     ensures most { S.most squares.new ≡ S.most squares.old }
     ensures refusals { IfErr result (λ e. (e ≡ Full) ⊎ (e ≡ Memory)) }
     ensures full { result ≡ Err Full → length (S.stored squares.new) ≡ S.most squares.new }
-    ensures needed { result ≡ Err Full → SomeSquare (S.needs_node squares.new) (height strips.old.items + 1 + blank_rows) (picture (S.content squares.old) (strips.old.items ++ row ∷ [])) }
+    ensures needed { result ≡ Err Full → SomeSquare (S.needs_node squares.new) (height strips.old.items + 2 ^ strip.level + blank_rows) (picture (S.content squares.old) (strips.old.items ++ strip ∷ [])) }
 {
-    push_strip(squares, alloc, strips, row)?;
+    push_strip(squares, alloc, strips, strip)?;
     skip_rows(squares, alloc, strips, blank_rows)
 }
 
