@@ -78,10 +78,11 @@ impl Plane {
         if self.rows == row {
             return Ok(());
         }
-        // Rows that follow one another are mostly of one length, so a row gets room for as many spans as the one before it had.
+        // Rows that follow one another are mostly alike, so a row gets room for a few more spans than the one before it has.
+        let room = self.row.spans.len() / 8 * 9 + 2;
         let next = Strip {
             level: 0,
-            spans: Vec::with_capacity(self.alloc, self.row.spans.len())?,
+            spans: Vec::with_capacity(self.alloc, room)?,
         };
         let begun = mem::replace(&mut self.row, next);
         end_strip(

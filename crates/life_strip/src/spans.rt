@@ -156,7 +156,10 @@ pub(crate) fn pair<S: Squares>(
     ensures needed { result ≡ Err Full → (column : ℕ) × (column < 2 ^ (MAX_LEVEL - (level + 1))) × S.needs_node squares.new (quad_at (S.content squares.old) level upper.now lower.now column) }
 {
     let blank = squares.empty(level);
-    let mut spans = Vec::with_capacity(alloc, upper.len() / 2 + lower.len() / 2 + 2)?;
+    // Each span has a column at least, and mostly ends where one of the two strips has an end.
+    let columns = covered(upper).max(covered(lower)) / 2 + 1;
+    let room = (upper.len() + lower.len()).min(columns as usize);
+    let mut spans = Vec::with_capacity(alloc, room)?;
     let mut column: u64 = 0;
     let mut north = find(upper, 0, 0, blank);
     let mut south = find(lower, 0, 0, blank);
