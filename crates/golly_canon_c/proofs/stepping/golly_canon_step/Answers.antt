@@ -1,0 +1,12 @@
+use Rattle.std.proofs.Common.{◌∙◌}
+use Rattle.golly_canon_c.specs.Stepping.{IsStepped, RefusesStepWithin}
+use Rattle.golly_canon_c.proofs.Answering.{answered, refused_step}
+use Rattle.golly_canon_c.proofs.stepping.golly_canon_step.Goals as goal
+
+pub returns : goal.returns
+returns c =
+    answered (λ text. text.items) (IsStepped c.args.bytes.now) (RefusesStepWithin c.args.limit c.args.bytes.now) _ _ c.step_life-found.result
+    c.step_life-found.ensures.stepped
+    (refused_step c.args.limit c.args.bytes.now c.step_life-found.new.store c.step_life-found.result
+    (c.step_life-found.ensures.keeps.limit ∙ c.store_of-store.ensures) c.step_life-found.ensures.refused)
+    c.tell.ensures.gives c.tell.ensures.no_line c.tell.ensures.tells

@@ -1,0 +1,4 @@
+pub mod Answers
+pub mod Comparing
+pub mod Stepping
+pub mod Naming

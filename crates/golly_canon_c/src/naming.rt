@@ -1,0 +1,101 @@
+//! The names of statuses, and the version.
+
+ghost use Rattle.std.specs.Prelude.{◌≡◌, ◌≢◌, ◌==◌, [], codes, find};
+ghost use Rattle.life_base.specs.declared.kind.Kind.{Kind as KindValue};
+ghost use Rattle.life_base.specs.Kinds.{kind_number, kind_name};
+ghost use Rattle.golly_canon_c.specs.Answers.{Gives};
+ghost use Rattle.golly_canon_c.specs.Naming.{status_name};
+
+use crate::telling::{NO_ROOM, give};
+use life_base::Kind;
+
+/// The version of the program, and so of the library.
+const VERSION: &[u8] = b"0.1.0";
+
+/// The kinds, by their numbers.
+const KINDS: [Kind; 41] = [
+    Kind::NoHeader,
+    Kind::BadHeader,
+    Kind::BadRule,
+    Kind::BoundedGrid,
+    Kind::UnsupportedRule,
+    Kind::BirthOnZero,
+    Kind::BadNumber,
+    Kind::TooLarge,
+    Kind::BadItem,
+    Kind::ZeroCount,
+    Kind::StateRange,
+    Kind::OutOfPlane,
+    Kind::LateHeader,
+    Kind::SecondHeader,
+    Kind::BadNode,
+    Kind::BadLevel,
+    Kind::BadChild,
+    Kind::BadLeaf,
+    Kind::Timeline,
+    Kind::LineTooLong,
+    Kind::Full,
+    Kind::Memory,
+    Kind::Spent,
+    Kind::NoRuleLine,
+    Kind::NoTable,
+    Kind::BadDescriptor,
+    Kind::UnsupportedNeighborhood,
+    Kind::UnsupportedSymmetry,
+    Kind::BadVariable,
+    Kind::BadTransition,
+    Kind::UnboundOutput,
+    Kind::NotQuiet,
+    Kind::RuleMismatch,
+    Kind::NeedsTable,
+    Kind::Ambiguous,
+    Kind::TooManyCells,
+    Kind::GenerationTooLarge,
+    Kind::StateBeyondTable,
+    Kind::ReadFault,
+    Kind::WriteFault,
+    Kind::InputTooLong,
+];
+
+/// The kind of this number, if one has it.
+fn kind_of(number: u32) -> Option<Kind>
+    ensures { result ≡ find (λ kind. kind_number kind == number) KINDS }
+{
+    KINDS
+        .iter()
+        .copied()
+        .find(|kind| kind.number() as u32 == number)
+}
+
+/// The name of a status: that of the kind, `OK` for 0, `NoRoom`, and no byte for a number that no call answers.
+fn name_of(number: u32) -> &'static [u8]
+    ensures { result.now ≡ status_name number }
+{
+    match number {
+        0 => b"OK",
+        NO_ROOM => b"NoRoom",
+        _ => match kind_of(number) {
+            Some(kind) => kind.name().as_bytes(),
+            None => b"",
+        },
+    }
+}
+
+/// The name of a status: `OK`, `NoRoom`, the name of the kind of fault, and no byte for a number that no call answers.
+#[unsafe(no_mangle)]
+pub extern "C" fn golly_canon_status_name(number: u32, out: &mut [u8], needed: &mut usize) -> u32
+    ensures kind { (kind : KindValue) → number ≡ kind_number kind → Gives (kind_name kind) (record { before = out.old; after = out.new; needed = needed.new; status = result }) }
+    ensures ok { number ≡ 0 → Gives (codes "OK") (record { before = out.old; after = out.new; needed = needed.new; status = result }) }
+    ensures no_room { number ≡ 64 → Gives (codes "NoRoom") (record { before = out.old; after = out.new; needed = needed.new; status = result }) }
+    ensures none { number ≢ 0 → number ≢ 64 → ((kind : KindValue) → number ≢ kind_number kind) → Gives [] (record { before = out.old; after = out.new; needed = needed.new; status = result }) }
+{
+    give(name_of(number), out, needed)
+}
+
+/// The version of the library, which is that of the program.
+#[unsafe(no_mangle)]
+pub extern "C" fn golly_canon_version(out: &mut [u8], needed: &mut usize) -> u32
+    ensures { Gives (codes "0.1.0") (record { before = out.old; after = out.new; needed = needed.new; status = result }) }
+{
+    give(VERSION, out, needed)
+}

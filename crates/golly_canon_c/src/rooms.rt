@@ -1,0 +1,22 @@
+//! The store of a call.
+
+ghost use Rattle.std.specs.Prelude.{◌≡◌};
+ghost use Rattle.golly_canon_c.specs.Answers.{room_of};
+
+use life_quad::Shared;
+use std::alloc::Global;
+
+/// How many different squares a store holds at most, whatever limit is asked for.
+const MOST_SQUARES: u64 = 1 << 62;
+
+/// An empty store for so many different squares, and for 2^62 where more are asked for.
+pub(crate) fn store_of(alloc: Global, limit: u64) -> Shared
+    ensures { result.limit ≡ room_of limit }
+{
+    let most = if limit < MOST_SQUARES {
+        limit
+    } else {
+        MOST_SQUARES
+    };
+    Shared::new(alloc, most)
+}

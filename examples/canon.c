@@ -1,0 +1,16 @@
+/* The canonical text of standard input: cc canon.c $(pkg-config --cflags --libs golly_canon) */
+#include <golly_canon.h>
+#include <stdio.h>
+
+int main(void)
+{
+    static unsigned char file[1 << 20], text[1 << 20], name[32];
+    size_t length = fread(file, 1, sizeof file, stdin), needed;
+    uint64_t line;
+    uint32_t status = golly_canon_canon(file, length, GOLLY_CANON_SQUARES, text, sizeof text, &needed, &line);
+    if (status == GOLLY_CANON_OK)
+        return fwrite(text, 1, needed, stdout) != needed;
+    golly_canon_status_name(status, name, sizeof name, &needed);
+    fprintf(stderr, "line %llu: %.*s\n", (unsigned long long)line, (int)needed, (char *)name);
+    return 2;
+}

@@ -1,0 +1,149 @@
+/* golly_canon: one canonical text for a cellular-automaton pattern, as calls of a library.
+ *
+ * A file is bytes in extended RLE or in macrocell. Each call reads the bytes that it is handed, answers a status, and keeps nothing: there is
+ * no state behind the calls, so threads may call at the same time, each on memory of its own. What the calls answer is proved for any bytes
+ * (docs/PROOFS.md of the project says what). The proof takes for granted what stands here under "The caller guarantees".
+ *
+ *     unsigned char text[4096];
+ *     size_t needed;
+ *     uint64_t line;
+ *     uint32_t status = golly_canon_canon(bytes, length, GOLLY_CANON_SQUARES, text, sizeof text, &needed, &line);
+ *
+ * Each call that gives bytes writes them into `room` bytes of memory at `out`, and their number into `*needed`:
+ *
+ *     GOLLY_CANON_OK        the text stands in the first `*needed` bytes at `out`. It has no 0 byte behind it, and what lies there is untouched.
+ *     GOLLY_CANON_NO_ROOM   the text has `*needed` bytes, which are more than `room`. Nothing was written at `out`: hand over more memory.
+ *     any other status      the number of a kind of fault. Nothing was written at `out`, and `*needed` is 0. `*line` is the number of the line
+ *                           that the file is refused at, counted from 1, or 0 where the fault is of no line.
+ *
+ * The caller guarantees, in each call:
+ *
+ *  - A pointer to bytes points to as many bytes as the number behind it says, and a pointer to a number to a number of that type, aligned as
+ *    the type is. No pointer is null or dangling, also where the number of bytes is 0: any address of the caller's own memory serves there.
+ *  - No number of bytes is more than PTRDIFF_MAX.
+ *  - What is read has been written before, the memory at `out` too: set it once, as by calloc or memset.
+ *  - The memory that a call writes (`out`, `needed`, `line`, `is_same`, `in_table`) overlaps no other memory that it is handed.
+ *  - Until the call returns, no other thread writes what it reads, or touches what it writes.
+ *  - malloc, realloc and free are those of one allocator, which aligns a block to each power of two up to 16 that divides its size.
+ *  - No call is made from a signal handler, or from the child that a process with threads has forked.
+ */
+#ifndef GOLLY_CANON_H
+#define GOLLY_CANON_H
+
+#include <stddef.h>
+#include <stdint.h>
+
+#ifdef __cplusplus
+extern "C" {
+#endif
+
+/* The limit of the store of the program `golly_canon`: how many different squares a pattern's tree may come to. */
+#define GOLLY_CANON_SQUARES ((uint64_t)1 << 31)
+
+/* What a call answers. The numbers stay as they are from version to version. */
+enum {
+    GOLLY_CANON_OK = 0,
+
+    /* a file in RLE or macrocell */
+    GOLLY_CANON_NO_HEADER = 1,
+    GOLLY_CANON_BAD_HEADER = 2,
+    GOLLY_CANON_BAD_RULE = 3,
+    GOLLY_CANON_BOUNDED_GRID = 4,
+    GOLLY_CANON_UNSUPPORTED_RULE = 5,
+    GOLLY_CANON_BIRTH_ON_ZERO = 6,
+    GOLLY_CANON_BAD_NUMBER = 7,
+    GOLLY_CANON_TOO_LARGE = 8,
+    GOLLY_CANON_BAD_ITEM = 9,
+    GOLLY_CANON_ZERO_COUNT = 10,
+    GOLLY_CANON_STATE_RANGE = 11,
+    GOLLY_CANON_OUT_OF_PLANE = 12,
+    GOLLY_CANON_LATE_HEADER = 13,
+    GOLLY_CANON_SECOND_HEADER = 14,
+    GOLLY_CANON_BAD_NODE = 15,
+    GOLLY_CANON_BAD_LEVEL = 16,
+    GOLLY_CANON_BAD_CHILD = 17,
+    GOLLY_CANON_BAD_LEAF = 18,
+    GOLLY_CANON_TIMELINE = 19,
+    GOLLY_CANON_LINE_TOO_LONG = 20,
+
+    /* a store, and memory */
+    GOLLY_CANON_FULL = 21,
+    GOLLY_CANON_MEMORY = 22,
+
+    /* a rule table */
+    GOLLY_CANON_NO_RULE_LINE = 31,
+    GOLLY_CANON_NO_TABLE = 32,
+    GOLLY_CANON_BAD_DESCRIPTOR = 33,
+    GOLLY_CANON_UNSUPPORTED_NEIGHBORHOOD = 34,
+    GOLLY_CANON_UNSUPPORTED_SYMMETRY = 35,
+    GOLLY_CANON_BAD_VARIABLE = 36,
+    GOLLY_CANON_BAD_TRANSITION = 37,
+    GOLLY_CANON_UNBOUND_OUTPUT = 38,
+    GOLLY_CANON_NOT_QUIET = 39,
+
+    /* a step */
+    GOLLY_CANON_RULE_MISMATCH = 41,
+    GOLLY_CANON_NEEDS_TABLE = 42,
+    GOLLY_CANON_AMBIGUOUS = 43,
+    GOLLY_CANON_TOO_MANY_CELLS = 44,
+    GOLLY_CANON_GENERATION_TOO_LARGE = 45,
+    GOLLY_CANON_STATE_BEYOND_TABLE = 46,
+
+    /* the text has more bytes than fit */
+    GOLLY_CANON_NO_ROOM = 64
+};
+
+/* `limit`, of each call: how many different squares the store of the call may hold. A call that comes to more is refused as Full. One above
+ * 2^62 counts as 2^62. */
+
+/* The canonical text of the pattern of a file. Two files have one text exactly if they are one pattern.
+ * The caller guarantees: `length` bytes to read at `bytes`; `room` bytes to write at `out`, `*needed` and `*line`, apart from each other and
+ * from those. */
+uint32_t golly_canon_canon(const unsigned char *bytes, size_t length, uint64_t limit,
+                           unsigned char *out, size_t room, size_t *needed, uint64_t *line);
+
+/* The pattern of a file in extended RLE; TooManyCells where more than 2^20 cells aren't 0.
+ * The caller guarantees what golly_canon_canon names. */
+uint32_t golly_canon_to_rle(const unsigned char *bytes, size_t length, uint64_t limit,
+                            unsigned char *out, size_t room, size_t *needed, uint64_t *line);
+
+/* Five lines on the pattern of a file: rule, generation, population, least box, and squares of the canonical text.
+ * The caller guarantees what golly_canon_canon names. */
+uint32_t golly_canon_show(const unsigned char *bytes, size_t length, uint64_t limit,
+                          unsigned char *out, size_t room, size_t *needed, uint64_t *line);
+
+/* The canonical text of the next generation of the pattern of a file, under its B/S rule.
+ * The caller guarantees what golly_canon_canon names. */
+uint32_t golly_canon_step(const unsigned char *bytes, size_t length, uint64_t limit,
+                          unsigned char *out, size_t room, size_t *needed, uint64_t *line);
+
+/* The same of a pattern under a name, by the rule table of that name: `table` is a .rule file. `*in_table` is 1 where the table is refused, so
+ * that `*line` is a line of the table, and else 0. With the status Ambiguous `*line` is a line of the table too, which was itself accepted.
+ * The caller guarantees what golly_canon_canon names; `table_length` bytes to read at `table`; `*in_table` to write, apart from all else. */
+uint32_t golly_canon_step_by_table(const unsigned char *bytes, size_t length,
+                                   const unsigned char *table, size_t table_length, uint64_t limit,
+                                   unsigned char *out, size_t room, size_t *needed, uint64_t *line,
+                                   uint32_t *in_table);
+
+/* Whether two files are one pattern: `*is_same` is 1 or 0, and 0 where the status isn't GOLLY_CANON_OK. The fault is that of the first file
+ * where that is refused, and else that of the second one.
+ * The caller guarantees: `first_length` bytes to read at `first`, and `second_length` at `second`, which may be the same memory; `*is_same`
+ * and `*line` to write, apart from each other and from those. */
+uint32_t golly_canon_same(const unsigned char *first, size_t first_length,
+                          const unsigned char *second, size_t second_length, uint64_t limit,
+                          uint32_t *is_same, uint64_t *line);
+
+/* The name of a status, as `BadChild` of GOLLY_CANON_BAD_CHILD, `OK` and `NoRoom`; no byte for a number that no call answers. The names are
+ * those that the program prints. None has more than 23 bytes.
+ * The caller guarantees: `room` bytes to write at `out`, and `*needed`, apart from each other. */
+uint32_t golly_canon_status_name(uint32_t status, unsigned char *out, size_t room, size_t *needed);
+
+/* The version of the library, which is that of the program, as `0.1.0`.
+ * The caller guarantees: `room` bytes to write at `out`, and `*needed`, apart from each other. */
+uint32_t golly_canon_version(unsigned char *out, size_t room, size_t *needed);
+
+#ifdef __cplusplus
+}
+#endif
+
+#endif

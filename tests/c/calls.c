@@ -1,0 +1,121 @@
+/* Does by the library what the program golly_canon does with the same words, to compare the two: it writes the same bytes, and ends with the
+   same status. The memory for a text is a byte at first, so that each text is asked for again.
+   calls canon FILE | show FILE | rle FILE | step FILE [TABLE] | same A B */
+#include <golly_canon.h>
+#include <stdio.h>
+#include <stdlib.h>
+#include <string.h>
+
+struct bytes {
+    unsigned char *at;
+    size_t length;
+};
+
+/* The status that the program ends with where memory is refused, which it is to this caller too. */
+static void no_memory(void)
+{
+    fputs("Memory\n", stderr);
+    exit(4);
+}
+
+static unsigned char *room_for(size_t length)
+{
+    unsigned char *at = calloc(length + 1, 1);
+    if (!at)
+        no_memory();
+    return at;
+}
+
+static struct bytes file_of(const char *name)
+{
+    struct bytes file = {room_for(0), 0};
+    FILE *source = fopen(name, "rb");
+    unsigned char piece[4096];
+    size_t count;
+    if (!source)
+        no_memory();
+    setvbuf(source, NULL, _IONBF, 0);
+    while ((count = fread(piece, 1, sizeof piece, source)) > 0) {
+        unsigned char *longer = realloc(file.at, file.length + count);
+        if (!longer)
+            no_memory();
+        memcpy(longer + file.length, piece, count);
+        file.at = longer;
+        file.length += count;
+    }
+    fclose(source);
+    return file;
+}
+
+static int refused(uint32_t status, uint64_t line, int in_table)
+{
+    unsigned char name[32] = {0};
+    size_t needed;
+    if (golly_canon_status_name(status, name, sizeof name, &needed) != GOLLY_CANON_OK)
+        return 99;
+    if (line)
+        fprintf(stderr, "%sline %llu: ", in_table || status == GOLLY_CANON_AMBIGUOUS ? "table " : "", (unsigned long long)line);
+    fprintf(stderr, "%.*s\n", (int)needed, (const char *)name);
+    return status == GOLLY_CANON_FULL || status == GOLLY_CANON_MEMORY ? 4 : 2;
+}
+
+typedef uint32_t text_call(const unsigned char *, size_t, uint64_t, unsigned char *, size_t, size_t *, uint64_t *);
+
+static int text(const char *word, struct bytes file, const struct bytes *table)
+{
+    text_call *call = !strcmp(word, "canon") ? golly_canon_canon
+        : !strcmp(word, "show")              ? golly_canon_show
+        : !strcmp(word, "rle")               ? golly_canon_to_rle
+                                             : golly_canon_step;
+    struct bytes answer = {room_for(1), 1};
+    size_t needed = 12345;
+    uint64_t line = 12345;
+    uint32_t in_table = 0, status;
+    for (;;) {
+        if (table)
+            status = golly_canon_step_by_table(file.at, file.length, table->at, table->length, GOLLY_CANON_SQUARES, answer.at, answer.length,
+                                               &needed, &line, &in_table);
+        else
+            status = call(file.at, file.length, GOLLY_CANON_SQUARES, answer.at, answer.length, &needed, &line);
+        if (status != GOLLY_CANON_NO_ROOM)
+            break;
+        free(answer.at);
+        answer.at = room_for(needed);
+        answer.length = needed;
+    }
+    if (status == GOLLY_CANON_OK)
+        fwrite(answer.at, 1, needed, stdout);
+    free(answer.at);
+    return status == GOLLY_CANON_OK ? 0 : refused(status, line, (int)in_table);
+}
+
+static int same(struct bytes first, struct bytes second)
+{
+    uint32_t is_same = 12345, status;
+    uint64_t line;
+    status = golly_canon_same(first.at, first.length, second.at, second.length, GOLLY_CANON_SQUARES, &is_same, &line);
+    if (status != GOLLY_CANON_OK)
+        return refused(status, line, 0);
+    fputs(is_same ? "same\n" : "different\n", stdout);
+    return is_same ? 0 : 1;
+}
+
+int main(int count, char **words)
+{
+    static char out[1 << 16];
+    struct bytes first, second = {NULL, 0};
+    int status;
+    if (count < 3)
+        return 5;
+    setvbuf(stdout, out, _IOFBF, sizeof out);
+    first = file_of(words[2]);
+    if (count > 3)
+        second = file_of(words[3]);
+    if (!strcmp(words[1], "same") && count > 3)
+        status = same(first, second);
+    else
+        status = text(words[1], first, count > 3 ? &second : NULL);
+    free(first.at);
+    free(second.at);
+    return status;
+}
