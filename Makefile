@@ -1,13 +1,15 @@
 # golly_canon: one canonical text for a cellular-automaton pattern.
 #
 #   make           builds the proved program as ./golly_canon and runs it on an example
+#   make library   builds the proved library for C in out/library: static, shared, and a pkg-config file
 #   make test      the merge gate, and every other check
 #   make quick     builds the same program without proving it, runs it on FILE=.. and keeps nothing
 #   make plants    tries the wrong bodies that the gate leaves out, before a release
 #   make fuzz      compares the program with the independent reader on CASES=.. random files by SEED=..
 #   make times     runs `rt ci`, and says how much processor time it took for each crate, its tests and its edits
 #   make bench     times the program beside plain programs in C (with SMALL=1 on smaller inputs, within three minutes)
-#   make install   installs the proved program to $(DESTDIR)$(PREFIX)/bin, and its man page and completions to $(DESTDIR)$(PREFIX)/share
+#   make install   installs the proved program to $(DESTDIR)$(PREFIX)/bin, its man page and completions to $(DESTDIR)$(PREFIX)/share, and the
+#                  library with its header to $(DESTDIR)$(PREFIX)/lib and include
 #   make clean     removes what was built; the proofs' work in crates/*/out stays
 #   make distclean removes that too
 
@@ -25,6 +27,9 @@ all: golly_canon
 
 golly_canon: FORCE
 	@RT="$(RT)" sh scripts/build
+
+library: FORCE
+	@RT="$(RT)" sh scripts/library "$(PREFIX)"
 
 quick:
 	@RT="$(RT)" FILE="$(FILE)" sh scripts/quick
@@ -44,7 +49,7 @@ times:
 bench: golly_canon
 	@RT="$(RT)" SMALL="$(SMALL)" python3 bench/run.py ./golly_canon out/bench
 
-install: golly_canon
+install: golly_canon library
 	install -d "$(DESTDIR)$(PREFIX)/bin"
 	install -m 755 golly_canon "$(DESTDIR)$(PREFIX)/bin/golly_canon"
 	install -d "$(SHARE)/man/man1" "$(SHARE)/bash-completion/completions" "$(SHARE)/zsh/site-functions" "$(SHARE)/fish/vendor_completions.d"
@@ -52,6 +57,7 @@ install: golly_canon
 	install -m 644 completions/golly_canon.bash "$(SHARE)/bash-completion/completions/golly_canon"
 	install -m 644 completions/_golly_canon "$(SHARE)/zsh/site-functions/_golly_canon"
 	install -m 644 completions/golly_canon.fish "$(SHARE)/fish/vendor_completions.d/golly_canon.fish"
+	@sh scripts/install_library out/library "$(PREFIX)" "$(DESTDIR)"
 
 clean:
 	rm -rf golly_canon out
@@ -61,4 +67,4 @@ distclean: clean
 
 FORCE:
 
-.PHONY: all quick test plants fuzz times bench install clean distclean FORCE
+.PHONY: all library quick test plants fuzz times bench install clean distclean FORCE

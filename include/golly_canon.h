@@ -37,7 +37,7 @@
 extern "C" {
 #endif
 
-/* The limit of the store of the program `golly_canon`: how many different squares a pattern's tree may come to. */
+/* The limit of the store of the program `golly_canon`. */
 #define GOLLY_CANON_SQUARES ((uint64_t)1 << 31)
 
 /* What a call answers. The numbers stay as they are from version to version. */
@@ -93,8 +93,8 @@ enum {
     GOLLY_CANON_NO_ROOM = 64
 };
 
-/* `limit`, of each call: how many different squares the store of the call may hold. A call that comes to more is refused as Full. One above
- * 2^62 counts as 2^62. */
+/* `limit`, of each call: how many different squares the store of the call may hold, those on the way to the answer too. A call that comes to
+ * more is refused as Full. A limit above 2^62 counts as 2^62. */
 
 /* The canonical text of the pattern of a file. Two files have one text exactly if they are one pattern.
  * The caller guarantees: `length` bytes to read at `bytes`; `room` bytes to write at `out`, `*needed` and `*line`, apart from each other and

@@ -1,8 +1,8 @@
 #!/bin/sh
 # The library for C. Its header's promises, checked in C; each pattern of examples/, and files that are refused, given by the library as by the
 # program, with a checker of memory where valgrind is there, and with each request for memory refused in turn; the shared object, from Python; the
-# programs of examples/; and what `make install` puts in place. It takes what `rt ci` (or `make library`) built of crates/golly_canon_c.
-# It needs a C compiler, python3 and pkg-config, for tests/refuse_allocation.c and the programs.
+# programs of examples/; and what `make install` puts in place. It builds the library of crates/golly_canon_c first.
+# It needs a C compiler, python3 and pkg-config, and the toolchain's rt.
 
 usage="usage: tests/library.sh PROGRAM"
 program=${1:?$usage}
@@ -16,7 +16,12 @@ folder=$(mktemp -d) || exit 1
 trap 'rm -rf "$folder"' EXIT
 cd "$folder" || exit 1
 archive=$top/crates/golly_canon_c/out/libgolly_canon_c.a
-[ -f "$archive" ] || { echo "there is no $archive: rt ci builds it, and so does make library"; exit 1; }
+rm -f "$archive"
+if ! (cd "$top/crates/golly_canon_c" && "$RT" lib) > said 2>&1; then
+    tail -n 20 said
+    echo "the library is not built: $RT lib"
+    exit 1
+fi
 sh "$top/scripts/link_library" "$archive" built || exit 1
 
 passed=0
