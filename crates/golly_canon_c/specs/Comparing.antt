@@ -13,8 +13,8 @@ pub record Compared : Type 0 where
   pub line : ℕ
 
 -- 1 where the files are one pattern, and 0 where they aren't
-abbrev pub Decides : List ℕ → List ℕ → ℕ → Type 0
-Decides first second is_same = ((is_same ≡ 1) × Same MAX_LEVEL first second) ⊎ ((is_same ≡ 0) × (¬ Same MAX_LEVEL first second))
+abbrev pub IsAnswerOf : List ℕ → List ℕ → ℕ → Type 0
+IsAnswerOf first second is_same = ((is_same ≡ 1) × Same MAX_LEVEL first second) ⊎ ((is_same ≡ 0) × (¬ Same MAX_LEVEL first second))
 
 -- why two files aren't compared: the first is none, or the second, or room or memory is wanted
 abbrev pub RefusesEither : ℕ → List ℕ → List ℕ → Fault → Type 0
@@ -23,7 +23,7 @@ RefusesEither limit first second fault =
 
 -- both are files, and the answer is told; or the fault that keeps it from being found
 pub data ComparesWithin (limit : ℕ) (first second : List ℕ) (told : Compared) : Type 0 where
-  by_answer : told.status ≡ 0 → told.line ≡ 0 → Accepted MAX_LEVEL first → Accepted MAX_LEVEL second → Decides first second told.is_same
+  by_answer : told.status ≡ 0 → told.line ≡ 0 → Accepted MAX_LEVEL first → Accepted MAX_LEVEL second → IsAnswerOf first second told.is_same
       → ComparesWithin limit first second told
   by_fault : (fault : Fault) → told.status ≡ kind_number fault.kind → told.line ≡ fault.place.line → told.is_same ≡ 0
       → RefusesEither limit first second fault → ComparesWithin limit first second told
