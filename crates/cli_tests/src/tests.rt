@@ -2,6 +2,7 @@
 
 mod canon;
 mod devices;
+mod pieces;
 mod plans;
 mod refusals;
 mod steps;

@@ -29,7 +29,7 @@ fn compare<A: Source, B: Source + Drop, O: Sink>(
 }
 
 /// A comparison leaves this, in the same way.
-fn assert_two<A: Source, B: Source + Drop>(
+pub(super) fn assert_two<A: Source, B: Source + Drop>(
     rt: &impl Abort,
     alloc: Global,
     first: &mut A,

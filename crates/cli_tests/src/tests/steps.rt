@@ -8,7 +8,7 @@ use life_cli::work;
 use std::alloc::Global;
 
 /// A state spreads to cells that have one cell of it beside them.
-const SPREAD: &[u8] =
+pub(super) const SPREAD: &[u8] =
     b"@RULE Spread\n@TABLE\nn_states:3\nneighborhood:vonNeumann\nsymmetries:rotate4\nvar a={1,2}\n0,a,0,0,0,a\n";
 
 /// A cell between two others takes either's state.
