@@ -1,7 +1,10 @@
 //! Patterns under B/S rules.
 
-use super::{becomes, gives, refuses};
+use super::{ROOM, becomes, gives, refuses};
 use life_base::Kind;
+use life_canon::read;
+use life_quad::Shared;
+use life_step::next_by_rule;
 
 const BLINKER: &[u8] = b"x = 3, y = 1, rule = B3/S23\n3o!\n";
 
@@ -21,6 +24,18 @@ fn a_blinker_turns(rt: HostRuntime) {
         BLINKER,
         2,
         b"[M2] (canonical 1)\n#R B3/S23\n#G 2\n$$$$....***$$$$\n",
+    );
+}
+
+#[test]
+fn a_pattern_of_a_store_is_stepped(rt: HostRuntime) {
+    let alloc = rt.alloc();
+    let mut store = Shared::new(alloc, ROOM);
+    let pattern = read(alloc, &mut store, BLINKER).expect(&rt, "a pattern");
+    let text = next_by_rule(alloc, &mut store, pattern).expect(&rt, "an answer");
+    assert_eq!(rt;
+        text.as_slice(),
+        b"[M2] (canonical 1)\n#R B3/S23\n#G 1\n$$$.....*$.....*$.....*$$$\n".as_slice()
     );
 }
 

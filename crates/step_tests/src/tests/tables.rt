@@ -1,7 +1,11 @@
 //! Patterns by rule tables.
 
-use super::{gives_by, refuses_by};
+use super::{ROOM, gives_by, refuses_by};
 use life_base::Kind;
+use life_canon::read;
+use life_quad::Shared;
+use life_step::next_by_table;
+use life_table::read_table;
 
 const SPREAD: &[u8] =
     b"@RULE Spread\n@TABLE\nn_states:3\nneighborhood:vonNeumann\nsymmetries:rotate4\nvar a={1,2}\n0,a,0,0,0,a\n";
@@ -38,6 +42,22 @@ fn a_state_spreads(rt: HostRuntime) {
         b"x = 1, y = 1, rule = Spread\nB!\n",
         1,
         b"[M2] (canonical 1)\n#R Spread\n#G 1\n1 0 0 2 0\n1 0 2 0 0\n1 2 2 2 0\n2 0 1 2 3\n",
+    );
+}
+
+#[test]
+fn a_pattern_of_a_store_is_stepped_by_a_table(rt: HostRuntime) {
+    let alloc = rt.alloc();
+    let table = read_table(alloc, SPREAD).expect(&rt, "a table");
+    let mut store = Shared::new(alloc, ROOM);
+    let pattern = read(alloc, &mut store, b"x = 1, y = 1, rule = Spread\nB!\n").expect(
+        &rt,
+        "a pattern",
+    );
+    let text = next_by_table(alloc, &mut store, pattern, &table).expect(&rt, "an answer");
+    assert_eq!(rt;
+        text.as_slice(),
+        b"[M2] (canonical 1)\n#R Spread\n#G 1\n1 0 0 2 0\n1 0 2 0 0\n1 2 2 2 0\n2 0 1 2 3\n".as_slice()
     );
 }
 
