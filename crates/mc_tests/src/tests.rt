@@ -120,7 +120,7 @@ fn files_are_refused(rt: HostRuntime) {
         (b"[M2]\n#R B03/S23\n", 2, Kind::BirthOnZero),
         (b"[M2]\n#R B3/S23:T30,20\n", 2, Kind::BoundedGrid),
         (b"[M2]\n#R 345/2/4\n", 2, Kind::UnsupportedRule),
-        (b"[M2]\n#R B3S23V\n", 2, Kind::UnsupportedRule),
+        (b"[M2]\n#R B3S23H\n", 2, Kind::UnsupportedRule),
         (b"[M2]\n#G\n", 2, Kind::BadNumber),
         (b"[M2]\n#G -1\n", 2, Kind::BadNumber),
         (b"[M2]\n#G 18446744073709551616\n", 2, Kind::TooLarge),

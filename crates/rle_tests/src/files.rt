@@ -101,7 +101,7 @@ B3/S23 0 0,0 0,0,1,1|#\x00\xff;x = 1, y = 1;#\x80;o!\xff
 1 BirthOnZero|x = 0, y = 0, rule = B03/S23
 1 BoundedGrid|x = 0, y = 0, rule = B3/S23:T30,20
 1 UnsupportedRule|x = 0, y = 0, rule = 345/2/4
-1 UnsupportedRule|x = 0, y = 0, rule = B3S23V
+1 UnsupportedRule|x = 0, y = 0, rule = B5S23V
 1 BadNumber|#CXRLE Pos=-1,
 1 BadNumber|#CXRLE Pos=1
 1 BadNumber|#CXRLE Pos=1,2,3
