@@ -307,8 +307,11 @@ fn the_default_rule_is_conways(rt: HostRuntime) {
 
 #[test]
 fn four_neighbours_are_counted_up_to_four(rt: HostRuntime) {
-    let Ok(Rule::Life(rule)) = Rule::parse(rt.alloc(), b"B24/S03V") else {
-        panic!(rt; "no B/S rule");
+    // B24/S03V
+    let rule = LifeRule {
+        births: 0b1_0100,
+        survivals: 0b1001,
+        near: Near::VonNeumann,
     };
     for count in 0..=4u8 {
         let next = next_states(&rule, count);
