@@ -1,8 +1,8 @@
 //! The plane, its cells and their states.
 
-/// The greatest level of a square: the plane is the square of this level, and its coordinates go from -2^59 to 2^59 - 1.
+/// The greatest level of a square: the plane is the square of this level, and its coordinates go from -2^61 to 2^61 - 1.
 /// It may be 62 at most, so that coordinates and counts fit their types.
-pub const MAX_LEVEL: u8 = 60;
+pub const MAX_LEVEL: u8 = 62;
 
 /// A state of a cell: 0 is dead, and a B/S rule has 0 and 1 alone.
 pub type State = u8;
