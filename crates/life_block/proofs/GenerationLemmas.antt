@@ -27,7 +27,7 @@ below-two n a b = omega (arith, a, b)
 -- a cell of a square of the greatest level at most is on the plane
 on-plane : (t : Tree) (x y : ℤ) → depth t ≤ MAX_LEVEL → Inside (half_side t) x y → IsOnPlane x y 1
 on-plane t x y low i =
-    let small : 2 ^ (depth t - 1) ≤ 2 ^ 59 = pow_mono {i = depth t - 1} {j = 59} (omega (arith, low)) in
+    let small : 2 ^ (depth t - 1) ≤ 2 ^ 61 = pow_mono {i = depth t - 1} {j = 61} (omega (arith, low)) in
     let w = i.west in
     let e = i.east in
     let n = i.north in

@@ -29,6 +29,7 @@ use Rattle.life_canon.proofs.CellFacts.{cells-of, sorted-cells, listed-cells}
 use Rattle.life_canon.proofs.Content.{least-one}
 use Rattle.life_canon.proofs.Fits.{read-fits, read-same}
 use Rattle.life_canon.proofs.Formats.{files_say_one, reads-plane}
+use Rattle.life_canon.proofs.TreeWords.{below_top}
 use Rattle.life_canon.proofs.TextLaws as laws
 
 -- ---- one store after another
@@ -54,7 +55,7 @@ feed-fault store before piece fault e (inr front) = inl (subst (λ bytes. Refuse
 -- ---- the canonical text
 
 on-plane : (bytes : List ℕ) (u : Universe) → Reads MAX_LEVEL bytes u → IsOnPlane MAX_LEVEL u
-on-plane bytes u r = reads-plane 59 bytes u (omega arith) r
+on-plane bytes u r = reads-plane below_top bytes u (omega arith) r
 
 text-is : (bytes : List ℕ) (store : Nodes) (pattern : Pattern) (r : IsRead MAX_LEVEL bytes store pattern) (text : List ℕ) → text ≡ canon_text MAX_LEVEL (universe_in store pattern)
     → text ≡ canon_text MAX_LEVEL r.universe
@@ -70,14 +71,14 @@ pub least-text : (bytes : List ℕ) (store : Nodes) (pattern : Pattern) → IsRe
 least-text bytes store pattern r text e =
     let u = r.universe in
     let h = on-plane bytes u r.reads in
-    let file = laws.texts_are_files 59 (omega arith) (lit< tt) (lit≤ tt) u h in
+    let file = laws.texts_are_files below_top (omega arith) (lit< tt) (lit≤ tt) u h in
     record {
       universe = u;
       reads = r.reads;
       file = canonical_file MAX_LEVEL u;
       says = subst (λ t. IsMacrocell MAX_LEVEL t (canonical_file MAX_LEVEL u)) (sym (text-is bytes store pattern r text e)) file.0;
       same = file.1;
-      least = laws.canonical_is_least 59 (omega arith) (lit< tt) (lit≤ tt) u h;
+      least = laws.canonical_is_least below_top (omega arith) (lit< tt) (lit≤ tt) u h;
     }
 
 -- ---- lists of cells
@@ -96,7 +97,7 @@ pub cells-sorted : (bytes : List ℕ) (store : Nodes) (pattern : Pattern) → Is
     → are_sorted_cells MAX_LEVEL pattern.rule cells ≡ true
 cells-sorted bytes store pattern r cells h =
     subst (λ q. are_sorted_cells MAX_LEVEL q cells ≡ true) (sym r.is.rule)
-    (sorted-cells 59 r.universe cells (on-plane bytes r.universe r.reads) (cells-read bytes store pattern r cells h))
+    (sorted-cells below_top r.universe cells (on-plane bytes r.universe r.reads) (cells-read bytes store pattern r cells h))
 
 rle-is : (bytes : List ℕ) (store : Nodes) (pattern : Pattern) (r : IsRead MAX_LEVEL bytes store pattern) (cells : List Cell) (text : List ℕ)
     → text ≡ rle_text pattern.rule pattern.generation cells → text ≡ rle_text r.universe.rule r.universe.generation cells
@@ -119,7 +120,7 @@ rle-same law bytes store pattern r cells h text e =
     let u = r.universe in
     let plane = on-plane bytes u r.reads in
     let are = cells-read bytes store pattern r cells h in
-    let back = law u.rule u.generation cells plane.rule plane.generation (sorted-cells 59 u cells plane are) in
+    let back = law u.rule u.generation cells plane.rule plane.generation (sorted-cells below_top u cells plane are) in
     record {
       first = u;
       second = rle_universe back.0;

@@ -11,7 +11,7 @@ use Rattle.life_quad.specs.Store.{Nodes}
 use Rattle.life_canon.specs.Universe.{Universe, IsSame, IsOnPlane, least_level, centred, whole}
 use Rattle.life_canon.specs.Store.{IsRead, IsTrimmed, content, universe_in}
 use Rattle.life_canon.specs.declared.pattern.Pattern.{Pattern}
-use Rattle.life_canon.proofs.TreeWords.{trimmed_to}
+use Rattle.life_canon.proofs.TreeWords.{below_top, trimmed_to}
 use Rattle.life_canon.proofs.Trees.{depth_is}
 use Rattle.life_canon.proofs.Content.{least-one}
 use Rattle.life_canon.proofs.Trees.{centred-trimmed}
@@ -37,20 +37,20 @@ whole-cells top u high h =
 
 pub read-same : (bytes : List ℕ) (store : Nodes) (pattern : Pattern) → (r : IsRead MAX_LEVEL bytes store pattern) → IsSame r.universe (universe_in store pattern)
 read-same bytes store pattern r =
-    let plane = reads-plane 59 bytes r.universe (omega arith) r.reads in
+    let plane = reads-plane below_top bytes r.universe (omega arith) r.reads in
     record {
       rule = sym r.is.rule;
       generation = sym r.is.generation;
-      cells = λ x y. sym (whole-cells 59 r.universe (omega arith) plane x y) ∙ sym (ap (λ t. tree_cell t x y) r.is.root);
+      cells = λ x y. sym (whole-cells below_top r.universe (omega arith) plane x y) ∙ sym (ap (λ t. tree_cell t x y) r.is.root);
     }
 
 pub read-fits : (bytes : List ℕ) (store : Nodes) (pattern : Pattern) → IsRead MAX_LEVEL bytes store pattern → IsTrimmed store pattern
 read-fits bytes store pattern r =
     let u = r.universe in
-    let plane = reads-plane 59 bytes u (omega arith) r.reads in
-    let w = whole-is 59 u (least-high u.rule 60 (omega arith)) plane in
+    let plane = reads-plane below_top bytes u (omega arith) r.reads in
+    let w = whole-is below_top u (least-high u.rule MAX_LEVEL (omega arith)) plane in
     let P : Tree → Rule → Type 0 = λ t q. (least_level q ≤ depth t) × (trimmed t (least_level q) ≡ t) × HasStatesUpTo (largest_state q) t in
-    let deep : least_level u.rule ≤ depth (whole 60 u) = subst (λ n. least_level u.rule ≤ n) (sym (depth_is w.depth_of)) w.least in
-    let all : P (whole 60 u) u.rule = (deep, whole-fixed 59 u (omega arith) plane, states-upto (largest_state u.rule) (whole 60 u) w.states) in
-    let there : P (content store pattern.root) pattern.rule = subst (λ t. P t pattern.rule) (sym r.is.root) (subst (P (whole 60 u)) (sym r.is.rule) all) in
+    let deep : least_level u.rule ≤ depth (whole MAX_LEVEL u) = subst (λ n. least_level u.rule ≤ n) (sym (depth_is w.depth_of)) w.least in
+    let all : P (whole MAX_LEVEL u) u.rule = (deep, whole-fixed below_top u (omega arith) plane, states-upto (largest_state u.rule) (whole MAX_LEVEL u) w.states) in
+    let there : P (content store pattern.root) pattern.rule = subst (λ t. P t pattern.rule) (sym r.is.root) (subst (P (whole MAX_LEVEL u)) (sym r.is.rule) all) in
     record { known = r.is.known; level = there.0; trimmed = there.1; states = there.2 }

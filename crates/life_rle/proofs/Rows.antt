@@ -68,8 +68,11 @@ far_left = refl
 late : opening_of MAX_LEVEL (codes "#CXRLE Pos=-1,-1 Gen=7") ≡ Ok (PositionLine (record { x = neg_ℤ (pos 1); y = neg_ℤ (pos 1); generation = 7 }))
 late = refl
 
-outside : opening_of MAX_LEVEL (codes "#CXRLE Pos=576460752303423488,0") ≡ Err kinds.OutOfPlane
+outside : opening_of MAX_LEVEL (codes "#CXRLE Pos=2305843009213693952,0") ≡ Err kinds.OutOfPlane
 outside = refl
+
+far_right : opening_of MAX_LEVEL (codes "#CXRLE Pos=576460752303423488,0") ≡ Ok (PositionLine (record { x = pos 576460752303423488; y = pos 0; generation = 0 }))
+far_right = refl
 
 too_old : opening_of MAX_LEVEL (codes "#CXRLE Gen=18446744073709551616") ≡ Err kinds.TooLarge
 too_old = refl
@@ -93,7 +96,7 @@ no_fields = refl
 other_fields : position_of MAX_LEVEL (codes "#CXRLE pos=z Pos Gen = ,") ≡ Ok default_position
 other_fields = refl
 
-form_first : position_of MAX_LEVEL (codes "#CXRLE Pos=576460752303423488,z") ≡ Err kinds.BadNumber
+form_first : position_of MAX_LEVEL (codes "#CXRLE Pos=2305843009213693952,z") ≡ Err kinds.BadNumber
 form_first = refl
 
 two_commas : position_of MAX_LEVEL (codes "#CXRLE Pos=1,2,3") ≡ Err kinds.BadNumber
@@ -102,10 +105,10 @@ two_commas = refl
 left_to_right : position_of MAX_LEVEL (codes "#CXRLE Gen=18446744073709551616 Pos=z") ≡ Err kinds.TooLarge
 left_to_right = refl
 
-least_corner : position_of MAX_LEVEL (codes "#CXRLE Pos=-576460752303423488,-000") ≡ Ok (corner_and_generation (neg_ℤ (pos 576460752303423488)) (pos 0) 0)
+least_corner : position_of MAX_LEVEL (codes "#CXRLE Pos=-2305843009213693952,-000") ≡ Ok (corner_and_generation (neg_ℤ (pos 2305843009213693952)) (pos 0) 0)
 least_corner = refl
 
-past_least : position_of MAX_LEVEL (codes "#CXRLE Pos=0,-576460752303423489") ≡ Err kinds.OutOfPlane
+past_least : position_of MAX_LEVEL (codes "#CXRLE Pos=0,-2305843009213693953") ≡ Err kinds.OutOfPlane
 past_least = refl
 
 -- headers
@@ -177,7 +180,7 @@ only_space = refl
 zeros : next_of MAX_LEVEL (codes "000z") ≡ Broken kinds.ZeroCount
 zeros = refl
 
-greatest_count : next_of MAX_LEVEL (codes "1152921504606846976$o") ≡ Spelled (RowEnds 1152921504606846976) (codes "o")
+greatest_count : next_of MAX_LEVEL (codes "4611686018427387904$o") ≡ Spelled (RowEnds 4611686018427387904) (codes "o")
 greatest_count = refl
 
 broken_prefix : next_of MAX_LEVEL (codes "p A") ≡ Broken kinds.BadItem
@@ -229,15 +232,15 @@ counted_mark = broken_text 3 (codes "3!") _ refl refl refl
 split_count : Breaks MAX_LEVEL (codes "x = 1, y = 1, rule = B3/S23" ∷ []) (codes "2 o!") kinds.BadItem
 split_count = broken_text 3 (codes "2 o!") _ refl refl refl
 
-large_count : Breaks MAX_LEVEL (codes "x = 1, y = 1, rule = B3/S23" ∷ []) (codes "1152921504606846977b!") kinds.TooLarge
-large_count = broken_text 3 (codes "1152921504606846977b!") _ refl refl refl
+large_count : Breaks MAX_LEVEL (codes "x = 1, y = 1, rule = B3/S23" ∷ []) (codes "4611686018427387905b!") kinds.TooLarge
+large_count = broken_text 3 (codes "4611686018427387905b!") _ refl refl refl
 
 cut_count : Breaks MAX_LEVEL (codes "x = 1, y = 1, rule = B3/S23" ∷ []) (codes "bo$2") kinds.BadItem
 cut_count = broken_text 4 (codes "bo$2") _ refl refl refl
 
 -- at the last row a row end is accepted, and a second one or a cell behind it isn't
 abbrev at_bottom : Rle
-at_bottom = record { rule = b3s23; position = record { x = pos 0; y = pos 576460752303423487; generation = 0 }; items = [] }
+at_bottom = record { rule = b3s23; position = record { x = pos 0; y = pos 2305843009213693951; generation = 0 }; items = [] }
 
 one_end : fault_behind MAX_LEVEL at_bottom [] (RowEnds 1) ≡ None
 one_end = refl
@@ -247,7 +250,7 @@ two_ends = refl
 
 -- at the last column one cell of any state is accepted, and a second one isn't; behind a row end the column is the corner's
 abbrev at_right : Rle
-at_right = record { rule = b3s23; position = corner_and_generation (pos 576460752303423487) (pos 0) 0; items = [] }
+at_right = record { rule = b3s23; position = corner_and_generation (pos 2305843009213693951) (pos 0) 0; items = [] }
 
 last_column : fault_behind MAX_LEVEL at_right [] (Cells 1 1) ≡ None
 last_column = refl

@@ -52,11 +52,11 @@ blank-outside t e x y n = elim (eqb_tells (tree_cell t x y) 0) [
   | inl z ↦ z.1
   | inr k ↦
       let i = cells_lie_inside t x y k.1 in
-      let half : half_side t ≤ 2 ^ 59 = pow_mono {i = depth t - 1} {j = 59} (omega (arith, e)) in
+      let half : half_side t ≤ 2 ^ 61 = pow_mono {i = depth t - 1} {j = 61} (omega (arith, e)) in
       absurd (n (of-plane x y (inside (half_side t) half i.0 i.1 i.2 i.3)))
 ]
   where
-    inside : (h : ℕ) → h ≤ 2 ^ 59 → neg_ℤ (pos h) ≤ℤ x → x <ℤ pos h → neg_ℤ (pos h) ≤ℤ y → y <ℤ pos h → IsOnPlane x y 1
+    inside : (h : ℕ) → h ≤ 2 ^ 61 → neg_ℤ (pos h) ≤ℤ x → x <ℤ pos h → neg_ℤ (pos h) ≤ℤ y → y <ℤ pos h → IsOnPlane x y 1
     inside h small a b c d = record {
       west = omega (arith, ints, small, a);
       east = omega (arith, ints, small, b);

@@ -5,6 +5,7 @@ use Rattle.std.proofs.lemmas.Int.{ints}
 use Rattle.life_base.specs.Refusal.{fault_of}
 use Rattle.life_base.specs.Sets.{OuterTotalistic}
 use Rattle.life_base.specs.declared.kind.Kind.TheVariants as kinds
+use Rattle.life_base.specs.declared.cell.TheConstants.{MAX_LEVEL}
 use Rattle.life_base.specs.declared.rule.Near.TheVariants.{Moore}
 use Rattle.life_base.specs.declared.rule.Rule.TheVariants.{Life, Named}
 use Rattle.life_canon.specs.Universe.{Universe, corner}
@@ -24,23 +25,23 @@ empty_stays : IsLifeStep (empty 7) (empty 8)
 empty_stays = record { life = life; rule = refl; same_rule = refl; generation = refl; cells = λ x y. refl }
 
 -- the last generation has no next
-last : LifeRefusal 60 (empty (2 ^ 64 - 1)) (Some (fault_of kinds.GenerationTooLarge))
+last : LifeRefusal MAX_LEVEL (empty (2 ^ 64 - 1)) (Some (fault_of kinds.GenerationTooLarge))
 last = inl (refl, refl)
 
 -- a name needs a table, in whatever generation
 abbrev wires : ℕ → Universe
 wires generation = record { rule = Named (87 ∷ []); generation = generation; cell = λ x y. 3 }
 
-needs : LifeRefusal 60 (wires (2 ^ 64 - 1)) (Some (fault_of kinds.NeedsTable))
+needs : LifeRefusal MAX_LEVEL (wires (2 ^ 64 - 1)) (Some (fault_of kinds.NeedsTable))
 needs = refl
 
 -- three live cells in a row at the southern edge of the plane: a cell south of them, outside it, would be born
 abbrev edge : Universe
-edge = record { rule = Life life; generation = 0; cell = λ x y. if int_le (pos (2 ^ 59 - 1)) y && int_le y (pos (2 ^ 59 - 1)) && int_le (pos 0) x && int_le x (pos 2) then 1 else 0 }
+edge = record { rule = Life life; generation = 0; cell = λ x y. if int_le (pos (2 ^ 61 - 1)) y && int_le y (pos (2 ^ 61 - 1)) && int_le (pos 0) x && int_le x (pos 2) then 1 else 0 }
 
-outside : ¬ (IsOfPlane 60 (pos 1) (pos (2 ^ 59)))
+outside : ¬ (IsOfPlane MAX_LEVEL (pos 1) (pos (2 ^ 61)))
 unfolding corner
 outside h = let south = h.1.1 in omega (arith, ints, south)
 
-leaves : LeavesByRule 60 life edge
-leaves = (pos 1, pos (2 ^ 59), outside, λ e. omega (arith, e))
+leaves : LeavesByRule MAX_LEVEL life edge
+leaves = (pos 1, pos (2 ^ 61), outside, λ e. omega (arith, e))

@@ -7,6 +7,7 @@ use Rattle.std.proofs.Math.Pow.{pow_mono}
 use Rattle.std.proofs.lemmas.List.{get_or_default}
 use Rattle.life_sweep.proofs.RowLemmas.{less-or-not}
 use Rattle.life_base.specs.declared.cell.Cell.{Cell}
+use Rattle.life_base.specs.declared.cell.TheConstants.{MAX_LEVEL}
 use Rattle.life_base.specs.Tree.{Tree, depth, half_side, tree_cell}
 use Rattle.life_quad.specs.Cells.{IsBefore, IsCellList}
 use Rattle.life_quad.proofs.LawLemmas.{cells_lie_inside}
@@ -84,16 +85,16 @@ pub record Inside (h : ℕ) (x y : ℤ) : Type 0 where
 pub nonzero-inside : (t : Tree) (x y : ℤ) → tree_cell t x y ≢ 0 → Inside (half_side t) x y
 nonzero-inside t x y n = let i = cells_lie_inside t x y n in record { west = i.0; east = i.1; north = i.2; south = i.3 }
 
-half-small : (k : ℕ) → k ≤ 60 → 2 ^ (k - 1) ≤ 2 ^ 61
+half-small : (k : ℕ) → k ≤ MAX_LEVEL → 2 ^ (k - 1) ≤ 2 ^ 61
 half-small k l = pow_mono {i = k - 1} {j = 61} (omega (arith, l))
 
-pub blank-before : (t : Tree) → depth t ≤ 60 → IsBlankBefore (tree_cell t)
+pub blank-before : (t : Tree) → depth t ≤ MAX_LEVEL → IsBlankBefore (tree_cell t)
 blank-before t l = record {
   west = λ x y u. elim (eqb_tells (tree_cell t x y) 0) [ inl e ↦ e.1 | inr n ↦ (let i = nonzero-inside t x y n.1 in let s = half-small (depth t) l in absurd (omega (arith, ints, u, i.west, s))) ];
   north = λ x y u. elim (eqb_tells (tree_cell t x y) 0) [ inl e ↦ e.1 | inr n ↦ (let i = nonzero-inside t x y n.1 in let s = half-small (depth t) l in absurd (omega (arith, ints, u, i.north, s))) ];
 }
 
-pub cells-sorted : (t : Tree) (list : List Cell) → depth t ≤ 60 → IsCellList t list → IsRestOf (tree_cell t) end_of_plane end_of_plane list
+pub cells-sorted : (t : Tree) (list : List Cell) → depth t ≤ MAX_LEVEL → IsCellList t list → IsRestOf (tree_cell t) end_of_plane end_of_plane list
 cells-sorted t list l h = sorted-from (tree_cell t) end_of_plane end_of_plane list h.in_order
     (λ d c. let here = h.true_cells d c in let i = inside d here in (here.0, from d i))
     (λ c r p n. h.all_cells (record { x = c; y = r; state = tree_cell t c r }) refl n)
@@ -104,7 +105,7 @@ cells-sorted t list l h = sorted-from (tree_cell t) end_of_plane end_of_plane li
     from : (d : Cell) → Inside (half_side t) d.x d.y → IsFrom end_of_plane end_of_plane d.x d.y
     from d i = let s = half-small (depth t) l in elim (less-or-not end_of_plane d.y) [ inl u ↦ inl u | inr u ↦ inr (omega (arith, ints, u, i.north, s), omega (arith, ints, i.west, s)) ]
 
-pub cells-inside : (t : Tree) (list : List Cell) → depth t ≤ 60 → IsCellList t list → All IsInside list
+pub cells-inside : (t : Tree) (list : List Cell) → depth t ≤ MAX_LEVEL → IsCellList t list → All IsInside list
 cells-inside t list l h k d m =
     let c = get_or list k d in
     let e = h.true_cells c (k, m, get_or_default list k c d m) in

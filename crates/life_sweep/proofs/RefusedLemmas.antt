@@ -64,7 +64,7 @@ module _ (A : List ℕ → Answer → Type 0) (one : (v : List ℕ) (a b : Answe
   none-left r level next l = elim (eqb_tells (tree_cell r l.x l.y) 0) [
     | inl z ↦ l.nonzero (same ∙ z.1)
     | inr z ↦ (let i = nonzero-inside r l.x l.y z.1 in
-        let half : half_side r ≡ 2 ^ 59 = ap (λ k. 2 ^ (k - 1)) level in
+        let half : half_side r ≡ 2 ^ 61 = ap (λ k. 2 ^ (k - 1)) level in
         l.outside (record { west = omega (arith, ints, i.west, half); east = omega (arith, ints, i.east, half); north = omega (arith, ints, i.north, half); south = omega (arith, ints, i.south, half) }))
   ]
     where

@@ -46,9 +46,9 @@ stays_dead = refl
 
 -- at the southern edge of the plane a cell is born outside it
 abbrev edge : ℤ → ℤ → ℕ
-edge = states (cell (pos 0) (pos (2 ^ 59 - 1)) 1 ∷ cell (pos 1) (pos (2 ^ 59 - 1)) 1 ∷ cell (pos 2) (pos (2 ^ 59 - 1)) 1 ∷ [])
+edge = states (cell (pos 0) (pos (2 ^ 61 - 1)) 1 ∷ cell (pos 1) (pos (2 ^ 61 - 1)) 1 ∷ cell (pos 2) (pos (2 ^ 61 - 1)) 1 ∷ [])
 
-leaves : next_life life edge (pos 1) (pos (2 ^ 59)) ≡ 1
+leaves : next_life life edge (pos 1) (pos (2 ^ 61)) ≡ 1
 leaves = refl
 
 -- four neighbours: one cell becomes five

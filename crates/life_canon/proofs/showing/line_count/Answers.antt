@@ -5,6 +5,7 @@ use Rattle.life_quad.proofs.LawLemmas.{known_squares_are_full}
 use Rattle.life_canon.specs.Listing.{listed, line_of}
 use Rattle.life_canon.specs.Store.{content}
 use Rattle.life_canon.proofs.NumberFacts.{file-of}
+use Rattle.life_canon.proofs.TreeWords.{below_top}
 use Rattle.life_canon.proofs.showing.line_count.Goals as goal
 
 pub returns-clause-lines : goal.returns-clause-lines
@@ -13,7 +14,7 @@ returns-clause-lines c =
     let p = c.args.pattern.now in
     let root = content store p.root in
     let k = known_squares_are_full store p.root c.requires.known.0 in
-    let file = file-of 59 p.rule p.generation root k.0 k.1 c.requires.level c.requires.trimmed in
+    let file = file-of below_top p.rule p.generation root k.0 k.1 c.requires.level c.requires.trimmed in
     let known = c.in_ok-known.known in
     let all = c.in_ok-known.ensures.listed ∙ ap (listed root) c.least_level.ensures in
     ap length c.as_slice.ensures.ids ∙ sym (length-map known (content store)) ∙ ap length all
