@@ -44,3 +44,4 @@ pub mod FrontLaws
 pub mod ValidFiles
 pub mod LongestRuns
 pub mod PlainFiles
+pub mod WiderPlanes

@@ -20,6 +20,10 @@ use Rattle.life_rle.specs.Sorted.{are_sorted_cells, state_in}
 abbrev pub IsOneRle : Type 0
 IsOneRle = (level : ℕ) (lines : List (List ℕ)) (f g : Rle) → IsRle level lines f → IsRle level lines g → f ≡ g
 
+-- every file of a plane is a file of each wider one, and is the same pattern there
+abbrev pub WiderPlanesKeepFiles : Type 0
+WiderPlanesKeepFiles = (level wider : ℕ) (lines : List (List ℕ)) (file : Rle) → level ≤ wider → IsRle level lines file → IsRle wider lines file
+
 -- a line that breaks a rule stands behind a front of a file, breaks one kind first, and no lines behind it make a file
 abbrev pub BreaksForGood : Type 0
 BreaksForGood =

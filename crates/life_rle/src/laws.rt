@@ -1,6 +1,7 @@
 //! Laws over the definitions alone.
 
-ghost use Rattle.life_rle.specs.Laws.{IsOneRle, BreaksForGood, FaultsAreUnique, FrontsAreUnbroken, LinesBreakByKinds, KindsNameLines, StatesReadBack, RleTextReadsBack, WrappedGreedily};
+ghost use Rattle.life_rle.specs.Laws.{IsOneRle, WiderPlanesKeepFiles, BreaksForGood, FaultsAreUnique, FrontsAreUnbroken, LinesBreakByKinds};
+ghost use Rattle.life_rle.specs.Laws.{KindsNameLines, StatesReadBack, RleTextReadsBack, WrappedGreedily};
 ghost use Rattle.life_rle.specs.Decided.{IsDecided};
 ghost use Rattle.life_rle.specs.FrontLaws.{LinesBehindMarkAreFree, IsMarkDecided, FrontsOfFronts, FrontsAreFiles, BeginsAsRle, MacrocellLineBreaks, LongLinesBreak};
 ghost use Rattle.life_rle.specs.LongestRuns.{RunsAreLongest};
@@ -14,6 +15,11 @@ ghost use Rattle.life_rle.specs.Plain.{ItemsArePlain, FaultsArePlain, HeadersAre
 /// Lines are an RLE file of at most one pattern.
 pub fn one_file()
     ensures { IsOneRle }
+{}
+
+/// Every RLE file of a plane is one of each wider plane, and says the same there.
+pub fn wider_planes_keep_files()
+    ensures { WiderPlanesKeepFiles }
 {}
 
 /// A line that breaks a rule stands behind the front of a file, breaks one rule first, and no lines behind it make a file.
