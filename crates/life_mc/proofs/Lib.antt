@@ -24,3 +24,4 @@ pub mod Outside
 pub mod SquareRows
 pub mod NodeLines
 pub mod Accepted
+pub mod WiderPlanes

@@ -1,5 +1,5 @@
 -- Laws of the macrocell format.
-use Rattle.std.specs.Prelude.{◌≡◌, ◌↔◌, ◌<◌, ◌^◌, ℕ, true, false, List, [], length, take, Some, None}
+use Rattle.std.specs.Prelude.{◌≡◌, ◌↔◌, ◌<◌, ◌≤◌, ◌^◌, ℕ, true, false, List, [], length, take, Some, None}
 use Rattle.std.specs.List.{slice_index_or}
 use Rattle.life_base.specs.Refusal.{Prefix, is_placeless}
 use Rattle.life_base.specs.declared.fault.Fault.{Fault}
@@ -39,3 +39,8 @@ KindsNameLines = (kind : Kind) → is_macrocell_kind kind ≡ true → is_placel
 -- lines that are no file are refused with one of the kinds of the format
 abbrev pub RefusalsHaveKinds : ℕ → Type 0
 RefusalsHaveKinds top = (lines : List (List ℕ)) (fault : Fault) → Refuses top lines fault → is_macrocell_kind fault.kind ≡ true
+
+-- every file of a plane is a file of each wider one, and says the same there
+abbrev pub WiderPlanesKeepFiles : Type 0
+WiderPlanesKeepFiles =
+    (top wider : ℕ) (lines : List (List ℕ)) (file : Macrocell) → top ≤ wider → AreMacrocell top lines file → AreMacrocell wider lines file

@@ -3,7 +3,8 @@
 ghost use Rattle.life_base.specs.declared.cell.TheConstants.{MAX_LEVEL};
 ghost use Rattle.life_mc.specs.Accepted.{FilesAreValid, LinesAreValid, IsBlankOutside, NodeLinesCounted};
 ghost use Rattle.life_mc.specs.Grammar.{GrammarsAgree};
-ghost use Rattle.life_mc.specs.Laws.{FilesAreUnique, FaultsAreUnique, FrontsAreUnbroken, FrontsAreFiles, KindsNameLines, LongLinesBreak, RefusalsHaveKinds};
+ghost use Rattle.life_mc.specs.Laws.{FilesAreUnique, FaultsAreUnique, FrontsAreUnbroken, FrontsAreFiles, KindsNameLines, LongLinesBreak};
+ghost use Rattle.life_mc.specs.Laws.{RefusalsHaveKinds, WiderPlanesKeepFiles};
 ghost use Rattle.life_mc.specs.Reading.{LinesBreakByKinds};
 ghost use Rattle.life_mc.specs.Squares.{LinesStandForSquares};
 ghost use Rattle.life_mc.specs.Writing.{TextsReadBack};
@@ -82,4 +83,9 @@ pub fn lines_stand_for_squares()
 /// The number of node lines of a file counts those of its bytes, whether the root reaches them or not.
 pub fn node_lines_counted()
     ensures { NodeLinesCounted MAX_LEVEL }
+{}
+
+/// Every macrocell file of a plane is one of each wider plane, and says the same there.
+pub fn wider_planes_keep_files()
+    ensures { WiderPlanesKeepFiles }
 {}
