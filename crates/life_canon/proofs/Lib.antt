@@ -15,6 +15,7 @@ mod FillFacts
 mod RleSound
 mod Formats
 mod TextLaws
+mod WiderPlanes
 mod Unions
 mod FeedFacts
 mod FrontFacts

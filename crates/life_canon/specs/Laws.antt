@@ -76,6 +76,12 @@ WiderPlaneKeepsTexts =
     (top wider : ℕ) (u : Universe) → 3 ≤ top → top ≤ wider → wider ≤ 62 → IsOnPlane top u
     → (canon_text wider u ≡ canon_text top u) × IsMacrocell wider (canon_text top u) (canonical_file top u)
 
+-- every file of a plane is a file of each wider one, up to level 62, and says the same there; its canonical text is the same too
+abbrev pub WiderPlanesKeepFiles : Type 0
+WiderPlanesKeepFiles =
+    (top wider : ℕ) (bytes : List ℕ) (u : Universe) → 3 ≤ top → top ≤ wider → wider ≤ 62 → Reads top bytes u
+    → Reads wider bytes u × (canon_text wider u ≡ canon_text top u)
+
 -- a pattern that was read may be numbered, and has the cells of the file
 abbrev pub PatternsFit : ℕ → Type 0
 PatternsFit top =

@@ -2,7 +2,10 @@
 
 ghost use Rattle.life_base.specs.declared.cell.TheConstants.{MAX_LEVEL};
 ghost use Rattle.life_quad.specs.Laws.{TrimmingIgnoresGrowth};
-ghost use Rattle.life_canon.specs.Laws.{FormatsDiffer, FilesAreUnique, FilesAreOnPlane, BlankOutside, FaultsAreUnique, RefusalsHaveKinds, TextsTellUniverses, TextsTellPatterns, TextsAreFiles, TextsKeepPatterns, TextsAreFixed, CanonicalIsLeast, SquaresHavePlaces, WiderPlaneKeepsTexts, PatternsFit, PatternsStay, PatternsTellFiles, ReadersStand};
+ghost use Rattle.life_canon.specs.Laws.{FormatsDiffer, FilesAreUnique, FilesAreOnPlane, BlankOutside, FaultsAreUnique, RefusalsHaveKinds};
+ghost use Rattle.life_canon.specs.Laws.{TextsTellUniverses, TextsTellPatterns, TextsAreFiles, TextsKeepPatterns, TextsAreFixed};
+ghost use Rattle.life_canon.specs.Laws.{CanonicalIsLeast, SquaresHavePlaces, WiderPlaneKeepsTexts, WiderPlanesKeepFiles};
+ghost use Rattle.life_canon.specs.Laws.{PatternsFit, PatternsStay, PatternsTellFiles, ReadersStand};
 
 /// No lines are a file of both formats.
 pub fn formats_differ()
@@ -77,6 +80,11 @@ pub fn squares_have_places()
 /// On every wider plane, up to level 62, a pattern has the same canonical text, and the text is a file of it there too.
 pub fn wider_plane_keeps_texts()
     ensures { WiderPlaneKeepsTexts }
+{}
+
+/// Every file of a plane is one of each wider plane, up to level 62, says the same there, and has the same canonical text.
+pub fn wider_planes_keep_files()
+    ensures { WiderPlanesKeepFiles }
 {}
 
 /// A pattern that was read may be numbered, and has the cells of the file.
