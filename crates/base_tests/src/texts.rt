@@ -281,14 +281,14 @@ fn a_refused_append_leaves_the_bytes(rt: HostRuntime) {
 }
 
 #[test]
-fn the_plane_is_the_square_of_level_60(rt: HostRuntime) {
-    assert_eq!(rt; MAX_LEVEL, 60);
+fn the_plane_is_the_square_of_level_62(rt: HostRuntime) {
+    assert_eq!(rt; MAX_LEVEL, 62);
     let corner = Cell {
         x: -(1 << (MAX_LEVEL - 1)),
         y: 0,
         state: 255,
     };
-    assert_eq!(rt; corner.x, -576460752303423488);
+    assert_eq!(rt; corner.x, -2305843009213693952);
 }
 
 #[test]

@@ -71,7 +71,7 @@ fn time_runs(rt: HostRuntime, squares: &mut Shared) -> io::Result<()> {
     eprintln!(rt; "runs: {} ms, nodes {}", spent.as_millis(), squares.len())
 }
 
-// Times the count and the box of a square of 2^60 columns.
+// Times the count and the box of a square of 2^62 columns.
 fn time_measures(rt: HostRuntime, squares: &mut Shared) -> io::Result<()> {
     let start = Instant::now(&rt)?;
     let (number, has_box) = measure(rt.alloc(), squares).unwrap_or((0, false));

@@ -2,7 +2,7 @@
 //!
 //! `bench_strips [RUNS] [time|cells]`, where RUNS is 1,000,000 by default:
 //!
-//! - with neither word it fills a store with a soup of so many runs, another with 50,000 rows of 2^60 cells, and says how many
+//! - with neither word it fills a store with a soup of so many runs, another with 50,000 rows of 2^62 cells, and says how many
 //!   squares it made and how many of them the answer has;
 //! - `time` says how long the filling of these two took;
 //! - `cells` says how long it took to list the cells of the soup, and of a hundredth as many single cells far from one another.

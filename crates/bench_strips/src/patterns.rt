@@ -13,7 +13,7 @@ use std::fmt;
 pub(crate) enum Pattern {
     /// A soup of so many runs.
     Soup(u32),
-    /// So many rows of 2^60 cells.
+    /// So many rows of 2^62 cells.
     Stripes(u32),
     /// So many single cells.
     Scattered(u32),
@@ -40,7 +40,7 @@ impl fmt::Display for Pattern {
     fn fmt<W: fmt::Write>(&self, f: &mut fmt::Formatter<W>) -> fmt::Result {
         match self {
             Pattern::Soup(runs) => write!(f, "soup of {runs} runs"),
-            Pattern::Stripes(rows) => write!(f, "{rows} rows of 2^60 cells"),
+            Pattern::Stripes(rows) => write!(f, "{rows} rows of 2^62 cells"),
             Pattern::Scattered(count) => write!(f, "{count} single cells"),
         }
     }

@@ -137,7 +137,7 @@ pub(crate) fn stripes<S: Squares>(alloc: Global, squares: &mut S, rows: u32) -> 
 {
     let mut builder = begun(alloc, squares);
     for row in 0..rows {
-        builder.add_run(squares, -(1 << 59), i64::from(row) * 2, 1 << 60, 1)?;
+        builder.add_run(squares, -(1 << 61), i64::from(row) * 2, 1 << 62, 1)?;
     }
     builder.finish(squares)
 }

@@ -22,6 +22,9 @@ const BLANK: &[u8] = b"x = 0, y = 0, rule = 23/3\n!\n";
 
 const BLANK_TEXT: &[u8] = b"[M2] (canonical 1)\n#R B3/S23\n";
 
+/// 2^60 + 1 dead cells.
+const LONG_BLANK: &[u8] = b"x = 1, y = 1\n1152921504606846977b!\n";
+
 const CELL: &[u8] = b"#CXRLE Pos=4,0\nx = 1, y = 1, rule = B3/S23\no!\n";
 
 const CELL_TEXT: &[u8] = b"[M2] (canonical 1)\n#R B3/S23\n....*$$$$$$$$\n4 0 0 0 1\n";
@@ -36,10 +39,13 @@ const WIRES_TEXT: &[u8] = b"[M2] (canonical 1)\n#R WireWorld\n#G 7\n1 1 25 0 0\n
 
 /// One cell in the north-west corner of the plane.
 const CORNER: &[u8] =
-    b"#CXRLE Pos=-576460752303423488,-576460752303423488\nx = 1, y = 1, rule = B3/S23\no!\n";
+    b"#CXRLE Pos=-2305843009213693952,-2305843009213693952\nx = 1, y = 1, rule = B3/S23\no!\n";
+
+/// One cell in column 2^59, which is half of a square of level 60.
+const EAST: &[u8] = b"#CXRLE Pos=576460752303423488,0\nx = 1, y = 1\no!\n";
 
 /// A whole row of the plane.
-const ROW: &[u8] = b"#CXRLE Pos=-576460752303423488,0\nx = 1, y = 1\n1152921504606846976o!\n";
+const ROW: &[u8] = b"#CXRLE Pos=-2305843009213693952,0\nx = 1, y = 1\n4611686018427387904o!\n";
 
 /// The square of one cell at (4, 0), and blank squares around it up to level 9.
 const TOWER: &[u8] =

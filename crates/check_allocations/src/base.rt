@@ -72,8 +72,8 @@ pub(crate) fn appended(alloc: Global) -> Result<bool, Fault> {
 /// A number added to a text.
 pub(crate) fn number_appended(alloc: Global) -> Result<bool, Fault> {
     let mut out = Vec::new(alloc);
-    append_number(&mut out, 1152921504606846976)?;
-    Ok(out.as_slice() == b"1152921504606846976".as_slice())
+    append_number(&mut out, 4611686018427387904)?;
+    Ok(out.as_slice() == b"4611686018427387904".as_slice())
 }
 
 /// Items added at the end.

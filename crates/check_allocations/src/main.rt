@@ -95,7 +95,7 @@ fn measuring_calls(rt: &HostRuntime) {
 fn shared_calls(rt: &HostRuntime) {
     let alloc = rt.alloc();
     let mut rows = Shared::new(alloc, 1000);
-    let mut row = Shared::new(alloc, 59);
+    let mut row = Shared::new(alloc, 61);
     let mut setting = Shared::new(alloc, 1000);
     let mut trimming = Shared::new(alloc, 1000);
     let mut growing = Shared::new(alloc, 1000);
@@ -103,11 +103,11 @@ fn shared_calls(rt: &HostRuntime) {
     for time in ["", ", again"] {
         let calls = Calls::at(rt, "Shared", time);
         calls.tell(
-            "rows of 2^60 cells",
+            "rows of 2^62 cells",
             squares::rows_measured(alloc, &mut rows),
         );
         calls.tell(
-            "a row of 2^60 cells at limit 59",
+            "a row of 2^62 cells at limit 61",
             squares::row_refused(&mut row),
         );
         calls.tell(

@@ -108,9 +108,9 @@ pub(crate) fn bounded<S: SharedSquares>(alloc: Global, squares: &mut S) -> Resul
 }
 
 // The column of the plane's west side, and its width.
-const WEST_SIDE: i64 = -576460752303423488;
+const WEST_SIDE: i64 = -2305843009213693952;
 
-const WIDTH: u64 = 1152921504606846976;
+const WIDTH: u64 = 4611686018427387904;
 
 /// Two rows of the plane, each put as one run: the number and the box of the cells of the first, and the number of those of both.
 pub(crate) fn rows_measured<S: SharedSquares>(
@@ -124,12 +124,12 @@ pub(crate) fn rows_measured<S: SharedSquares>(
     let two = put_run(squares, one, WEST_SIDE, 1, WIDTH, 1)?;
     let both = population(alloc, squares, two)?;
     let row = Bounds {
-        left: -576460752303423488,
+        left: -2305843009213693952,
         top: 0,
-        right: 576460752303423487,
+        right: 2305843009213693951,
         bottom: 0,
     };
-    Ok(number == 1152921504606846976 && least == Some(row) && both == 2305843009213693952)
+    Ok(number == 4611686018427387904 && least == Some(row) && both == 9223372036854775808)
 }
 
 // Whether a call was refused for this reason. It hands another refusal on.
@@ -141,11 +141,11 @@ fn is_refused<T: Drop>(answer: Result<T, Kind>, reason: Kind) -> Result<bool, Fa
     }
 }
 
-/// A row of the plane in a store for 59 nodes, which is one too few.
+/// A row of the plane in a store for 61 nodes, which is one too few.
 pub(crate) fn row_refused(squares: &mut Shared) -> Result<bool, Fault> {
     let blank = squares.empty(MAX_LEVEL);
     let row = put_run(squares, blank, WEST_SIDE, 0, WIDTH, 1);
-    Ok(is_refused(row, Kind::Full)? && squares.len() == 59)
+    Ok(is_refused(row, Kind::Full)? && squares.len() == 61)
 }
 
 /// Two cells, put in either order, and cleared again.

@@ -23,7 +23,7 @@ pub enum Kind {
     BirthOnZero,
     /// A text that should be a number and is none.
     BadNumber,
-    /// A number outside its type, or a count above 2^60.
+    /// A number outside its type, or a count above 2^62.
     TooLarge,
     /// Data of RLE that is no item.
     BadItem,

@@ -63,8 +63,8 @@ fn files_are_written(rt: HostRuntime) -> Result<(), Fail> {
         (b"[M2]\n#R\x0bFoo\n", b"[M2] (canonical 1)\n#R B3/S23\n"),
         // mixed levels, children of level 2 and 1, the greatest level and generation
         (
-            b"[M2]\n#R Foo\n#G 18446744073709551615\n1 0 0 0 9\n2 0 1 0 0\n3 2 2 0 0\n********\n4 3 4 0 0\n60 0 0 0 0\n",
-            b"[M2] (canonical 1)\n#R Foo\n#G 18446744073709551615\n1 0 0 0 9\n2 0 1 0 0\n3 2 2 0 0\n********$$$$$$$$\n4 3 4 0 0\n60 0 0 0 0\n",
+            b"[M2]\n#R Foo\n#G 18446744073709551615\n1 0 0 0 9\n2 0 1 0 0\n3 2 2 0 0\n********\n4 3 4 0 0\n62 0 0 0 0\n",
+            b"[M2] (canonical 1)\n#R Foo\n#G 18446744073709551615\n1 0 0 0 9\n2 0 1 0 0\n3 2 2 0 0\n********$$$$$$$$\n4 3 4 0 0\n62 0 0 0 0\n",
         ),
     ];
     for (input, text) in rows {
@@ -105,8 +105,8 @@ fn files_are_refused(rt: HostRuntime) {
         (b"[M2]\n#R B3/S23\n1 2 0 0 0\n", 3, Kind::StateRange),
         (b"[M2]\n1 1 0 0 0\n3 1 0 0 0\n", 3, Kind::BadChild),
         (b"[M2]\n0 0 0 0 0\n", 2, Kind::BadLevel),
-        (b"[M2]\n61 0 0 0 0\n", 2, Kind::BadLevel),
-        (b"[M2]\n61 0 0 0\n", 2, Kind::BadNode),
+        (b"[M2]\n63 0 0 0 0\n", 2, Kind::BadLevel),
+        (b"[M2]\n63 0 0 0\n", 2, Kind::BadNode),
         (b"[M2]\n4 0 0 0\n", 2, Kind::BadNode),
         (b"[M2]\n4 0 0 0 0 0\n", 2, Kind::BadNode),
         (b"[M2]\nx\n", 2, Kind::BadNode),
@@ -249,7 +249,7 @@ fn readers_are_spent(rt: HostRuntime) -> Result<(), Fail> {
         (b"#G 1".as_slice(), Kind::LateHeader),
         (b".o$", Kind::BadLeaf),
         (b"4 2 0 0 0", Kind::BadChild),
-        (b"61 0 0 0 0", Kind::BadLevel),
+        (b"63 0 0 0 0", Kind::BadLevel),
         (b"x", Kind::BadNode),
     ] {
         let mut reader = McLines::new(rt.alloc());

@@ -55,7 +55,7 @@ fn whole_row<S: Squares>(squares: &mut S, root: Id, y: i64) -> Result<Id, Kind>
     ensures level { IfOk result (λ r. depth (S.content squares.new r) ≡ depth (S.content squares.old root)) }
     ensures high { IfOk result (λ r. 1 ≤ depth (S.content squares.new r)) }
 {
-    put(squares, root, -(1 << 59), y, 1 << 60, 1)
+    put(squares, root, -(1 << 61), y, 1 << 62, 1)
 }
 
 // Two rows of the greatest square: the population and the box of the first, and the population of both.
@@ -75,29 +75,29 @@ fn two_rows<S: SharedSquares>(
 fn long_runs_share(rt: HostRuntime) {
     let mut squares = Shared::new(rt.alloc(), 1000);
     let row = Bounds {
-        left: -576460752303423488,
+        left: -2305843009213693952,
         top: 0,
-        right: 576460752303423487,
+        right: 2305843009213693951,
         bottom: 0,
     };
     assert_eq!(rt;
         two_rows(rt.alloc(), &mut squares),
-        Ok((1152921504606846976, Some(row), 2305843009213693952))
+        Ok((4611686018427387904, Some(row), 9223372036854775808))
     );
     assert_eq!(rt; squares.limit(), 1000);
 }
 
 // A row of the greatest square needs a node of each level from 1 up.
 #[test]
-fn a_long_run_needs_60_nodes(rt: HostRuntime) {
-    let mut small = Shared::new(rt.alloc(), 59);
+fn a_long_run_needs_62_nodes(rt: HostRuntime) {
+    let mut small = Shared::new(rt.alloc(), 61);
     let root = small.empty(MAX_LEVEL);
     let row = whole_row(&mut small, root, 0);
-    assert_eq!(rt; (row, small.len()), (Err(Kind::Full), 59));
-    let mut enough = Shared::new(rt.alloc(), 60);
+    assert_eq!(rt; (row, small.len()), (Err(Kind::Full), 61));
+    let mut enough = Shared::new(rt.alloc(), 62);
     let root = enough.empty(MAX_LEVEL);
     let row = whole_row(&mut enough, root, 0);
-    assert_eq!(rt; (row.is_ok(), enough.len()), (true, 60));
+    assert_eq!(rt; (row.is_ok(), enough.len()), (true, 62));
 }
 
 // The population and the box of the greatest square with each cell in state 1.
@@ -112,19 +112,19 @@ fn full_square<S: SharedSquares>(
     Ok((population(alloc, squares, id)?, bounds(alloc, squares, id)?))
 }
 
-// It has 2^120 cells in 60 nodes: the test ends only if each node is visited once.
+// It has 2^124 cells in 62 nodes: the test ends only if each node is visited once.
 #[test]
 fn a_full_square_is_measured_at_once(rt: HostRuntime) {
-    let mut squares = Shared::new(rt.alloc(), 60);
+    let mut squares = Shared::new(rt.alloc(), 62);
     let plane = Bounds {
-        left: -576460752303423488,
-        top: -576460752303423488,
-        right: 576460752303423487,
-        bottom: 576460752303423487,
+        left: -2305843009213693952,
+        top: -2305843009213693952,
+        right: 2305843009213693951,
+        bottom: 2305843009213693951,
     };
     assert_eq!(rt;
         full_square(rt.alloc(), &mut squares),
-        Ok((1329227995784915872903807060280344576, Some(plane)))
+        Ok((21267647932558653966460912964485513216, Some(plane)))
     );
 }
 
@@ -490,9 +490,9 @@ fn ids_are_listed_once(rt: HostRuntime) {
     let ids = [
         squares.cell(200),
         squares.cell(3),
-        squares.empty(60),
+        squares.empty(62),
         squares.cell(4),
-        squares.empty(59),
+        squares.empty(61),
     ];
     assert_listed_once(&rt, &mut IdList::new(rt.alloc()), ids);
 }

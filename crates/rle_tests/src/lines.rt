@@ -130,8 +130,8 @@ fn after_an_error_every_call_is_spent(rt: HostRuntime) {
         (b"0o!", Kind::ZeroCount),
         (b"oz!", Kind::BadItem),
         (b"B!", Kind::StateRange),
-        (b"1152921504606846977o!", Kind::TooLarge),
-        (b"576460752303423489o!", Kind::OutOfPlane),
+        (b"4611686018427387905o!", Kind::TooLarge),
+        (b"2305843009213693953o!", Kind::OutOfPlane),
     ] {
         assert_spent(&rt, rt.alloc(), line, kind);
     }

@@ -5,9 +5,9 @@ use life_rle::{RleFile, read_rle, sorted_cells, write_rle};
 use std::alloc::Global;
 use std::process::Abort;
 
-const FIRST: i64 = -(1 << 59);
+const FIRST: i64 = -(1 << 61);
 
-const LAST: i64 = (1 << 59) - 1;
+const LAST: i64 = (1 << 61) - 1;
 
 fn cell(x: i64, y: i64, state: u8) -> Cell {
     Cell { x, y, state }
@@ -194,9 +194,9 @@ fn a_state_of_two_letters_stays_on_one_line(rt: HostRuntime) {
 #[test]
 fn the_corners_of_the_plane_are_written(rt: HostRuntime) {
     let cells = [cell(FIRST, FIRST, 1), cell(LAST, LAST, 1)];
-    let wanted = b"#CXRLE Pos=-576460752303423488,-576460752303423488 Gen=18446744073709551615\n\
-        x = 1152921504606846976, y = 1152921504606846976, rule = B3/S23\n\
-        o1152921504606846975$1152921504606846975bo!\n";
+    let wanted = b"#CXRLE Pos=-2305843009213693952,-2305843009213693952 Gen=18446744073709551615\n\
+        x = 4611686018427387904, y = 4611686018427387904, rule = B3/S23\n\
+        o4611686018427387903$4611686018427387903bo!\n";
     assert_text(&rt, rt.alloc(), b"B3/S23", u64::MAX, &cells, wanted);
 }
 

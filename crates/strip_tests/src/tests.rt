@@ -24,16 +24,16 @@ fn add_runs<S: Squares>(builder: &mut Builder, store: &mut S) -> Result<(), Kind
     requires next { (x y : ℤ) → IsNext builder.old.runs x y }
     ensures filling { OnOk result (IsFilling (S.knows store.new) (S.content store.new) builder.new) }
 {
-    builder.add_run(store, -(1 << 59), -(1 << 59), 1, 1)?;
-    builder.add_run(store, (1 << 59) - 1, -(1 << 59), 1, 2)?;
+    builder.add_run(store, -(1 << 61), -(1 << 61), 1, 1)?;
+    builder.add_run(store, (1 << 61) - 1, -(1 << 61), 1, 2)?;
     builder.add_run(store, -3, -7, 5, 1)?;
     builder.add_run(store, 2, -7, 2, 3)?;
     builder.add_run(store, 5, -7, 1, 1)?;
     builder.add_run(store, -3, -6, 5, 1)?;
-    builder.add_run(store, -(1 << 59), 4, 1 << 60, 255)?;
+    builder.add_run(store, -(1 << 61), 4, 1 << 62, 255)?;
     builder.add_run(store, 1, 9, 3, 1)?;
-    builder.add_run(store, -(1 << 59), (1 << 59) - 1, 3, 4)?;
-    builder.add_run(store, (1 << 59) - 2, (1 << 59) - 1, 2, 5)
+    builder.add_run(store, -(1 << 61), (1 << 61) - 1, 3, 4)?;
+    builder.add_run(store, (1 << 61) - 2, (1 << 61) - 1, 2, 5)
 }
 
 fn by_rows<S: Squares>(alloc: Global, store: &mut S) -> Result<Id, Kind> {
@@ -45,16 +45,16 @@ fn by_rows<S: Squares>(alloc: Global, store: &mut S) -> Result<Id, Kind> {
 // The same runs, put into the plane one by one.
 fn one_by_one<S: Squares>(store: &mut S) -> Result<Id, Kind> {
     let root = store.empty(MAX_LEVEL);
-    let root = put_run(store, root, -(1 << 59), -(1 << 59), 1, 1)?;
-    let root = put_run(store, root, (1 << 59) - 1, -(1 << 59), 1, 2)?;
+    let root = put_run(store, root, -(1 << 61), -(1 << 61), 1, 1)?;
+    let root = put_run(store, root, (1 << 61) - 1, -(1 << 61), 1, 2)?;
     let root = put_run(store, root, -3, -7, 5, 1)?;
     let root = put_run(store, root, 2, -7, 2, 3)?;
     let root = put_run(store, root, 5, -7, 1, 1)?;
     let root = put_run(store, root, -3, -6, 5, 1)?;
-    let root = put_run(store, root, -(1 << 59), 4, 1 << 60, 255)?;
+    let root = put_run(store, root, -(1 << 61), 4, 1 << 62, 255)?;
     let root = put_run(store, root, 1, 9, 3, 1)?;
-    let root = put_run(store, root, -(1 << 59), (1 << 59) - 1, 3, 4)?;
-    put_run(store, root, (1 << 59) - 2, (1 << 59) - 1, 2, 5)
+    let root = put_run(store, root, -(1 << 61), (1 << 61) - 1, 3, 4)?;
+    put_run(store, root, (1 << 61) - 2, (1 << 61) - 1, 2, 5)
 }
 
 // Two cells that touch at the middle of the plane, in the least square with them.
@@ -136,10 +136,10 @@ fn no_cell_gives_the_blank_square(rt: HostRuntime) {
 // A cell needs one square of each level.
 #[test]
 fn a_store_without_room_is_full(rt: HostRuntime) {
-    let mut store = Shared::new(rt.alloc(), 59);
+    let mut store = Shared::new(rt.alloc(), 61);
     let answer = one_cell(rt.alloc(), &mut store);
-    assert_eq!(rt; (answer, store.len()), (Err(Kind::Full), 59));
-    let mut store = Shared::new(rt.alloc(), 60);
+    assert_eq!(rt; (answer, store.len()), (Err(Kind::Full), 61));
+    let mut store = Shared::new(rt.alloc(), 62);
     assert!(rt; one_cell(rt.alloc(), &mut store).is_ok());
 }
 

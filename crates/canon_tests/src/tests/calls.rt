@@ -87,7 +87,7 @@ fn patterns_are_shown(rt: HostRuntime) {
         &rt,
         alloc,
         ROW,
-        b"rule B3/S23\ngeneration 0\npopulation 1152921504606846976\nbox -576460752303423488 0 1152921504606846976 1\nnodes 58\n",
+        b"rule B3/S23\ngeneration 0\npopulation 4611686018427387904\nbox -2305843009213693952 0 4611686018427387904 1\nnodes 60\n",
     );
     shown(
         &rt,

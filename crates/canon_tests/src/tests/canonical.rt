@@ -1,8 +1,8 @@
 //! Canonical texts.
 
 use super::{
-    BLANK, BLANK_TEXT, CELL, CELL_TEXT, CORNER, GLIDER, GLIDER_CRLF, GLIDER_OPEN, GLIDER_TEXT,
-    LEVELS, PAIR, PAIR_TEXT, REPEATS, ROOM, ROW, TOWER, TURNED, TURNED_TEXT, WIRES, WIRES_TEXT,
+    BLANK, BLANK_TEXT, CELL, CELL_TEXT, CORNER, EAST, GLIDER, GLIDER_CRLF, GLIDER_OPEN, GLIDER_TEXT,
+    LEVELS, LONG_BLANK, PAIR, PAIR_TEXT, REPEATS, ROOM, ROW, TOWER, TURNED, TURNED_TEXT, WIRES, WIRES_TEXT,
     has_text,
 };
 use life_base::Kind;
@@ -23,6 +23,7 @@ fn runs_have_canonical_texts(rt: HostRuntime) {
     canonical(&rt, alloc, GLIDER_CRLF, GLIDER_TEXT);
     canonical(&rt, alloc, GLIDER_OPEN, GLIDER_TEXT);
     canonical(&rt, alloc, BLANK, BLANK_TEXT);
+    canonical(&rt, alloc, LONG_BLANK, BLANK_TEXT);
     canonical(&rt, alloc, CELL, CELL_TEXT);
     canonical(&rt, alloc, PAIR, PAIR_TEXT);
     canonical(&rt, alloc, WIRES, WIRES_TEXT);
@@ -57,6 +58,9 @@ fn node_lines_have_canonical_texts(rt: HostRuntime) {
         b"[M2] (canonical 1)\n#R B3/S23\n$$$...*$$$$$\n",
     );
     canonical(&rt, alloc, b"[M2]", BLANK_TEXT);
+    // blank squares of the greatest levels
+    canonical(&rt, alloc, b"[M2]\n61 0 0 0 0\n", BLANK_TEXT);
+    canonical(&rt, alloc, b"[M2]\n62 0 0 0 0\n", BLANK_TEXT);
 }
 
 #[test]
@@ -104,7 +108,7 @@ pub(super) fn chain(
 }
 
 #[test]
-fn the_corner_of_the_plane_has_58_lines(rt: HostRuntime) {
+fn the_corner_of_the_plane_has_60_lines(rt: HostRuntime) {
     let alloc = rt.alloc();
     let text = text_of_the_corner(alloc).expect(&rt, "memory");
     canonical(&rt, alloc, CORNER, &text);
@@ -113,17 +117,26 @@ fn the_corner_of_the_plane_has_58_lines(rt: HostRuntime) {
 /// The canonical text of a cell in the north-west corner of the plane.
 pub(super) fn text_of_the_corner(alloc: Global) -> Result<Vec<u8>, Kind> {
     let front = b"[M2] (canonical 1)\n#R B3/S23\n*$$$$$$$$\n";
-    chain(alloc, front, 58, false, b"")
+    chain(alloc, front, 60, false, b"")
 }
 
 /// The canonical text of a whole row of the plane.
 pub(super) fn text_of_the_row(alloc: Global) -> Result<Vec<u8>, Kind> {
     let front = b"[M2] (canonical 1)\n#R B3/S23\n********$$$$$$$$\n";
-    chain(alloc, front, 57, true, b"60 0 0 57 57\n")
+    chain(alloc, front, 59, true, b"62 0 0 59 59\n")
 }
 
 #[test]
-fn a_row_of_the_plane_has_58_lines(rt: HostRuntime) {
+fn a_cell_in_column_2_to_the_59_has_59_lines(rt: HostRuntime) {
+    let alloc = rt.alloc();
+    let front = b"[M2] (canonical 1)\n#R B3/S23\n*$$$$$$$$\n";
+    let behind = b"60 0 57 0 0\n61 0 0 0 58\n";
+    let text = chain(alloc, front, 57, false, behind).expect(&rt, "memory");
+    canonical(&rt, alloc, EAST, &text);
+}
+
+#[test]
+fn a_row_of_the_plane_has_60_lines(rt: HostRuntime) {
     let alloc = rt.alloc();
     let text = text_of_the_row(alloc).expect(&rt, "memory");
     canonical(&rt, alloc, ROW, &text);

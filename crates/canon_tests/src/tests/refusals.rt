@@ -35,9 +35,34 @@ fn positions_beyond_the_plane_are_refused(rt: HostRuntime) {
     refused(
         &rt,
         alloc,
-        b"#CXRLE Pos=576460752303423488,0\n",
+        b"#CXRLE Pos=2305843009213693952,0\n",
         1,
         Kind::OutOfPlane,
+    );
+    refused(
+        &rt,
+        alloc,
+        b"x = 1, y = 1\n4611686018427387904b!\n",
+        2,
+        Kind::OutOfPlane,
+    );
+    refused(
+        &rt,
+        alloc,
+        b"x = 1, y = 1\n4611686018427387905b!\n",
+        2,
+        Kind::TooLarge,
+    );
+}
+
+#[test]
+fn levels_above_the_plane_are_refused(rt: HostRuntime) {
+    refused(
+        &rt,
+        rt.alloc(),
+        b"[M2]\n63 0 0 0 0\n",
+        2,
+        Kind::BadLevel,
     );
 }
 
@@ -142,7 +167,7 @@ fn items_are_refused(rt: HostRuntime) {
     refused(
         &rt,
         alloc,
-        b"x = 1, y = 1, rule = B3/S23\n1152921504606846977b!\n",
+        b"x = 1, y = 1, rule = B3/S23\n4611686018427387905b!\n",
         2,
         Kind::TooLarge,
     );

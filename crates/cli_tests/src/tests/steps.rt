@@ -61,7 +61,7 @@ fn next_generations(rt: HostRuntime) {
             b"[M2] (canonical 1)\n#R B3/S23\n#G 1\n$$$.....*$.....*$.....*$$$\n",
         ),
         (
-            b"#CXRLE Pos=0,576460752303423487\nx = 3, y = 1\no!\n",
+            b"#CXRLE Pos=0,2305843009213693951\nx = 3, y = 1\no!\n",
             b"[M2] (canonical 1)\n#R B3/S23\n#G 1\n",
         ),
     ];
@@ -74,7 +74,7 @@ fn next_generations(rt: HostRuntime) {
 fn refused_steps(rt: HostRuntime) {
     let rows: [(&[u8], &[u8]); 6] = [
         (
-            b"#CXRLE Pos=-576460752303423488,0\nx = 1, y = 1\n1152921504606846976o!\n",
+            b"#CXRLE Pos=-2305843009213693952,0\nx = 1, y = 1\n4611686018427387904o!\n",
             b"TooManyCells\n",
         ),
         (
@@ -86,7 +86,7 @@ fn refused_steps(rt: HostRuntime) {
             b"line 1: TooLarge\n",
         ),
         (
-            b"#CXRLE Pos=0,576460752303423487\nx = 3, y = 1\n3o!\n",
+            b"#CXRLE Pos=0,2305843009213693951\nx = 3, y = 1\n3o!\n",
             b"OutOfPlane\n",
         ),
         (WIRES, b"NeedsTable\n"),

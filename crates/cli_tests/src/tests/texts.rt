@@ -123,8 +123,8 @@ fn shown(rt: HostRuntime) {
             b"rule B3/S23\ngeneration 0\npopulation 0\nbox none\nnodes 0\n",
         ),
         (
-            b"#CXRLE Pos=-576460752303423488,0\nx = 1, y = 1\n1152921504606846976o!\n",
-            b"rule B3/S23\ngeneration 0\npopulation 1152921504606846976\nbox -576460752303423488 0 1152921504606846976 1\nnodes 58\n",
+            b"#CXRLE Pos=-2305843009213693952,0\nx = 1, y = 1\n4611686018427387904o!\n",
+            b"rule B3/S23\ngeneration 0\npopulation 4611686018427387904\nbox -2305843009213693952 0 4611686018427387904 1\nnodes 60\n",
         ),
         (
             WIRES,

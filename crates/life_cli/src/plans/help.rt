@@ -46,7 +46,7 @@ output. With status 5 a text on standard error says what is wrong, or the line
   UnsupportedRule  the rule is of a kind that isn't supported
   BirthOnZero      the rule lets cells be born from nothing
   BadNumber        a position or the generation is no number
-  TooLarge         the generation is 2^64 or more, or a count is above 2^60
+  TooLarge         the generation is 2^64 or more, or a count is above 2^62
   LateHeader       a line #CXRLE behind the header, or #R or #G behind a square
   StateRange       a state is too large for the rule
   LineTooLong      a line has more than 2^20 bytes
@@ -55,12 +55,12 @@ output. With status 5 a text on standard error says what is wrong, or the line
   SecondHeader     a second header follows
   BadItem          something that is no count, state, `$` or `!`
   ZeroCount        a count is 0
-  OutOfPlane       a cell is outside -2^59 to 2^59 - 1
+  OutOfPlane       a cell is outside -2^61 to 2^61 - 1
  of macrocell files alone:
   Timeline         the file holds several patterns, with lines #FRAME
   BadNode          a line is neither a leaf nor five numbers
   BadLeaf          a leaf has another byte than . * $, or more than 8 x 8 cells
-  BadLevel         a square's level isn't from 1 to 60
+  BadLevel         a square's level isn't from 1 to 62
   BadChild         a quarter is no earlier square of the level below
  of rule tables alone:
   NoRuleLine              the file begins with no line `@RULE NAME`

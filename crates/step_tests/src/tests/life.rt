@@ -133,7 +133,7 @@ fn the_first_condition_is_told(rt: HostRuntime) {
     refuses(
         &rt,
         alloc,
-        b"#CXRLE Pos=-576460752303423488,0 Gen=18446744073709551615\nx = 1, y = 1\n1152921504606846976o!\n",
+        b"#CXRLE Pos=-2305843009213693952,0 Gen=18446744073709551615\nx = 1, y = 1\n4611686018427387904o!\n",
         0,
         Kind::GenerationTooLarge,
     );
@@ -195,14 +195,14 @@ fn a_cell_leaves_the_plane_by_its_side(rt: HostRuntime) {
     refuses(
         &rt,
         alloc,
-        b"#CXRLE Pos=576460752303423487,0\nx = 1, y = 1, rule = B1/SV\no!\n",
+        b"#CXRLE Pos=2305843009213693951,0\nx = 1, y = 1, rule = B1/SV\no!\n",
         0,
         Kind::OutOfPlane,
     );
     gives(
         &rt,
         alloc,
-        b"#CXRLE Pos=576460752303423487,0\nx = 1, y = 1, rule = B2/SV\no!\n",
+        b"#CXRLE Pos=2305843009213693951,0\nx = 1, y = 1, rule = B2/SV\no!\n",
         1,
         b"[M2] (canonical 1)\n#R B2/SV\n#G 1\n",
     );

@@ -100,7 +100,7 @@ fn the_first_condition_is_told(rt: HostRuntime) {
         &rt,
         alloc,
         EITHER,
-        b"#CXRLE Pos=0,576460752303423487\nx = 2, y = 1, rule = Spread\nA.B.C!\n",
+        b"#CXRLE Pos=0,2305843009213693951\nx = 2, y = 1, rule = Spread\nA.B.C!\n",
         0,
         Kind::StateBeyondTable,
     );
@@ -108,7 +108,7 @@ fn the_first_condition_is_told(rt: HostRuntime) {
         &rt,
         alloc,
         SPREAD,
-        b"#CXRLE Pos=0,576460752303423487\nx = 1, y = 1, rule = Spread\nB!\n",
+        b"#CXRLE Pos=0,2305843009213693951\nx = 1, y = 1, rule = Spread\nB!\n",
         0,
         Kind::OutOfPlane,
     );
@@ -120,7 +120,7 @@ fn a_row_of_the_plane_has_too_many_cells(rt: HostRuntime) {
         &rt,
         rt.alloc(),
         SPREAD,
-        b"#CXRLE Pos=-576460752303423488,0\nx = 1, y = 1, rule = Spread\n1152921504606846976C!\n",
+        b"#CXRLE Pos=-2305843009213693952,0\nx = 1, y = 1, rule = Spread\n4611686018427387904C!\n",
         0,
         Kind::TooManyCells,
     );
@@ -141,7 +141,7 @@ fn two_states_are_ambiguous(rt: HostRuntime) {
         &rt,
         alloc,
         ONE_OR_EITHER,
-        b"#CXRLE Pos=0,-576460752303423488\nx = 2, y = 5, rule = Spread\nA3$A$.B!\n",
+        b"#CXRLE Pos=0,-2305843009213693952\nx = 2, y = 5, rule = Spread\nA3$A$.B!\n",
         9,
         Kind::Ambiguous,
     );
@@ -149,7 +149,7 @@ fn two_states_are_ambiguous(rt: HostRuntime) {
         &rt,
         alloc,
         ONE_OR_EITHER,
-        b"#CXRLE Pos=0,-576460752303423488\nx = 1, y = 1, rule = Spread\nA!\n",
+        b"#CXRLE Pos=0,-2305843009213693952\nx = 1, y = 1, rule = Spread\nA!\n",
         0,
         Kind::OutOfPlane,
     );
