@@ -26,7 +26,7 @@ from running import ANY, CLOCK, MEGABYTE, Case, Front, Piped, results, said
 
 LIFE = b"[M2] (canonical 1)\n#R B3/S23\n"
 LONGEST = 1 << 20  # bytes of a line
-HALF = 1 << 59  # of the plane's width
+HALF = 1 << 61  # of the plane's width
 HEADER = b"x = 1, y = 1\n"  # of RLE, under B3/S23
 
 
@@ -126,9 +126,9 @@ def gathered(lines):
 
 
 def chains(count):
-    """Chains from a leaf to level 60, each line by its own numbers."""
+    """Chains from a leaf to level 62, each line by its own numbers."""
     for number in range(count):
-        yield b"*$\n" + chain(4, 60, b"L C 0 0 0\n", 58 * number + 1)
+        yield b"*$\n" + chain(4, 62, b"L C 0 0 0\n", 60 * number + 1)
 
 
 def random_states(count):
@@ -152,7 +152,7 @@ def wide_rows_text(states):
     """The canonical text of these rows."""
     nodes = Nodes()
     squares = list(states)
-    for level in range(1, 61):
+    for level in range(1, 63):
         squares += [0] * (len(squares) % 2)
         squares = [nodes.join(level, north, north, south, south) for north, south in zip(squares[::2], squares[1::2])]
     yield canonical(b"Foo")
@@ -193,7 +193,7 @@ def blocks(count):
 def node_lines(cells, least):
     """The node lines of cells, each a column, a row and a state (or 1), with leaves (`least` is 3) or from level 1 up."""
     nodes = Nodes()
-    level = next(level for level in range(least, 61) if all(-1 << level - 1 <= it < 1 << level - 1 for cell in cells for it in cell[:2]))
+    level = next(level for level in range(least, 63) if all(-1 << level - 1 <= it < 1 << level - 1 for cell in cells for it in cell[:2]))
     half = 1 << level - 1
     squares = {(x + half, y + half): state[0] if state else 1 for x, y, *state in cells}
     if least == 3:
@@ -388,25 +388,25 @@ MANY_LINES = [
     refused("a fault behind 2^20 squares", [*EMPTY_SQUARES, b"4 0 0 0\n"], "line 1048578: BadNode"),
     accepted("2^20 leaves, no two alike", [b"[M2]\n", lambda: leaves(LONGEST)], [LIFE, leaf(LONGEST) + b"\n"], times=3),
     accepted("a square of 2^20 leaves, no two alike", [b"[M2]\n", whole_tree], [LIFE, whole_tree], times=5),
-    accepted("17,500 chains of 58 lines", [b"[M2]\n", lambda: chains(17_500)], LIFE + b"*$$$$$$$$\n" + chain(4, 60, b"L C 0 0 0\n"), times=1.5),
+    accepted("17,000 chains of 60 lines", [b"[M2]\n", lambda: chains(17_000)], LIFE + b"*$$$$$$$$\n" + chain(4, 62, b"L C 0 0 0\n"), times=1.5),
 ]
 
 EACH_LINE = (b"\n#C first\n#CXRLE Gen=3 Pos=1,1 Other=9\n#CXRLE Pos=-4,0\n \t\nx=0,y=0,rule=b3s23\r\n\n#C more\no 3b\n4b o ! and the rest\n"
              b"#CXRLE\nx = 1\n")
 CORNERS = b"#CXRLE Pos=%d,%d\nx = 1, y = 1\no%dbo%d$o%dbo!\n" % (-HALF, -HALF, 2 * HALF - 2, 2 * HALF - 1, 2 * HALF - 2)
-CORNERS_TEXT = (LIFE + b"*$$$$$$$$\n" + chain(4, 59, b"L C 0 0 0\n", 1) + b".......*$$$$$$$$\n" + chain(4, 59, b"L 0 C 0 0\n", 58)
-                + b"$$$$$$$*$\n" + chain(4, 59, b"L 0 0 C 0\n", 115) + b"$$$$$$$.......*$\n" + chain(4, 59, b"L 0 0 0 C\n", 172)
-                + b"60 57 114 171 228\n")
+CORNERS_TEXT = (LIFE + b"*$$$$$$$$\n" + chain(4, 61, b"L C 0 0 0\n", 1) + b".......*$$$$$$$$\n" + chain(4, 61, b"L 0 C 0 0\n", 60)
+                + b"$$$$$$$*$\n" + chain(4, 61, b"L 0 0 C 0\n", 119) + b"$$$$$$$.......*$\n" + chain(4, 61, b"L 0 0 0 C\n", 178)
+                + b"62 59 118 177 236\n")
 WIDE_ROW = b"#CXRLE Pos=%d,0\nx = 1, y = 1\n%do!\n" % (-HALF, 2 * HALF)
-WIDE_ROW_TEXT = LIFE + b"********$$$$$$$$\n" + chain(4, 59, b"L C C 0 0\n") + b"60 0 0 57 57\n"
+WIDE_ROW_TEXT = LIFE + b"********$$$$$$$$\n" + chain(4, 61, b"L C C 0 0\n") + b"62 0 0 59 59\n"
 ROW_TEXT = LIFE + b"********$$$$$$$$\n" + chain(4, 20, b"L C C 0 0\n") + b"21 0 0 0 18\n"
 COMB_TEXT = LIFE + b"*.*.*.*$$$$$$$$\n" + chain(4, 20, b"L C C 0 0\n") + b"21 0 0 0 18\n"
 RLE = [
     accepted("each form of a line of RLE", EACH_LINE, LIFE + b"....*$$$$$$$$\n4 0 0 1 1\n"),
     accepted("an RLE file of a blank plane", HEADER + b"!\n", LIFE),
     accepted("a cell at each corner of the plane", CORNERS, CORNERS_TEXT),
-    accepted("a row of 2^60 cells", WIDE_ROW, WIDE_ROW_TEXT),
-    accepted("255 rows of 2^60 cells, each of another state", [lambda: wide_rows(range(1, 256))], [lambda: wide_rows_text(range(1, 256))]),
+    accepted("a row of 2^62 cells", WIDE_ROW, WIDE_ROW_TEXT),
+    accepted("255 rows of 2^62 cells, each of another state", [lambda: wide_rows(range(1, 256))], [lambda: wide_rows_text(range(1, 256))]),
     # A tooth of three bytes is two spans of 16.
     accepted("a comb of 2^19 teeth (18 times the input)", [HEADER, (b"ob\n", LONGEST // 2)], COMB_TEXT, times=18),
     accepted("lines of 2^20 and of 2^20 + 1 bytes with and behind !",
@@ -419,8 +419,8 @@ RLE = [
     accepted("! behind a line of 2^20 bytes, before one of 2^20 + 1", HEADER + b"b" * LONGEST + b"\n!\n" + b"o" * (LONGEST + 1), LIFE),
     accepted("a count of a million digits", HEADER + b"0" * (LONGEST - 3) + b"1o\n!", LIFE + b"$$$$....*$$$$\n"),
     accepted("2^20 lines of one cell (14 times the input)", [HEADER, (b"o\n", LONGEST)], ROW_TEXT, times=14),
-    refused("a row below the plane", [HEADER, (b"9$\n", 1_000_000), b"o1152921504606846976$\n"], "line 1000002: OutOfPlane"),
-    refused("a count above the width of the plane", b"x = 1, y = 1, rule = Life\n1152921504606846977b!\n", "line 2: TooLarge"),
+    refused("a row below the plane", [HEADER, (b"9$\n", 1_000_000), b"o4611686018427387904$\n"], "line 1000002: OutOfPlane"),
+    refused("a count above the width of the plane", b"x = 1, y = 1, rule = Life\n4611686018427387905b!\n", "line 2: TooLarge"),
 ]
 
 # Every form of a line: two squares of one text, a leaf that ends early and one that doesn't, squares that the root doesn't reach.
@@ -431,33 +431,33 @@ EACH_NODE_LINE = (b"[M2] made by hand\r\n#C first\n\n \t\n#R Foo\n#Rule is a com
 def corners():
     """A cell at each corner of the plane: four chains, level by level from the south-east one on."""
     yield b"[M2]\n$$$$$$$.......*$\n$$$$$$$*\n.......*\n*\n"
-    for level in range(4, 60):
+    for level in range(4, 62):
         south_east = 4 * (level - 4) + 1
         yield b"%d 0 0 0 %d\n" % (level, south_east) + b"%d 0 0 %d 0\n" % (level, south_east + 1)
         yield b"%d 0 %d 0 0\n" % (level, south_east + 2) + b"%d %d 0 0 0\n" % (level, south_east + 3)
-    yield b"60 228 227 226 225\n"
+    yield b"62 236 235 234 233\n"
 
 
-CHAIN = b"[M2]\n*$\n" + chain(4, 60, b"L C 0 0 0\n")
-PLANE = b"********$" * 8 + b"\n" + chain(4, 60, b"L C C C C\n")
-NAMED_CHAIN = b"1 0 0 0 255\n" + chain(2, 60, b"L 0 0 0 C\n")
+CHAIN = b"[M2]\n*$\n" + chain(4, 62, b"L C 0 0 0\n")
+PLANE = b"********$" * 8 + b"\n" + chain(4, 62, b"L C C C C\n")
+NAMED_CHAIN = b"1 0 0 0 255\n" + chain(2, 62, b"L 0 0 0 C\n")
 
 DEEP_SQUARES = [
     accepted("each form of a line of macrocell", EACH_NODE_LINE, LIFE + b"#G 7\n$$$$....*$$$$\n"),
-    accepted("a macrocell file of a blank plane", b"[M2]\n$\n" + chain(4, 60, b"L C C C C\n"), LIFE),
+    accepted("a macrocell file of a blank plane", b"[M2]\n$\n" + chain(4, 62, b"L C C C C\n"), LIFE),
     accepted("a cell at each corner of the plane, as macrocell", [corners], CORNERS_TEXT),
-    accepted("a row of 2^60 cells, as macrocell", b"[M2]\n********\n" + chain(4, 59, b"L C C 0 0\n") + b"60 0 0 57 57\n", WIDE_ROW_TEXT),
-    accepted("255 rows of 2^60 cells, as macrocell", [lambda: wide_rows_text(range(1, 256))], [lambda: wide_rows_text(range(1, 256))]),
-    accepted("a chain of 60 levels", CHAIN, CHAIN.replace(b"[M2]\n*$\n", LIFE + b"*$$$$$$$$\n")),
-    # Each square has its quarters four times over: 2^120 cells in 58 lines.
+    accepted("a row of 2^62 cells, as macrocell", b"[M2]\n********\n" + chain(4, 61, b"L C C 0 0\n") + b"62 0 0 59 59\n", WIDE_ROW_TEXT),
+    accepted("255 rows of 2^62 cells, as macrocell", [lambda: wide_rows_text(range(1, 256))], [lambda: wide_rows_text(range(1, 256))]),
+    accepted("a chain of 62 levels", CHAIN, CHAIN.replace(b"[M2]\n*$\n", LIFE + b"*$$$$$$$$\n")),
+    # Each square has its quarters four times over: 2^124 cells in 60 lines.
     accepted("the whole plane", b"[M2]\n" + PLANE, LIFE + PLANE),
     accepted("a chain from level 1", b"[M2]\n#R Foo\n" + NAMED_CHAIN, canonical(b"Foo") + NAMED_CHAIN),
     accepted("a comb over the whole plane", b"[M2]\n" + PLANE.replace(b"********", b"*.*.*.*."), LIFE + PLANE.replace(b"********", b"*.*.*.*")),
 ]
 
-# Teeth of the whole plane's width apart by 2^41 columns.
-TEETH = [b"#CXRLE Pos=%d,0\n" % -HALF, HEADER, (b"o%db\n" % (2 ** 41 - 1), 1 << 19)]
-TEETH_TEXT = (LIFE + b"*$$$$$$$$\n" + chain(4, 41, b"L C 0 0 0\n") + chain(42, 59, b"L C C 0 0\n", 39) + b"60 0 0 57 57\n")
+# Teeth of the whole plane's width apart by 2^43 columns.
+TEETH = [b"#CXRLE Pos=%d,0\n" % -HALF, HEADER, (b"o%db\n" % (2 ** 43 - 1), 1 << 19)]
+TEETH_TEXT = (LIFE + b"*$$$$$$$$\n" + chain(4, 43, b"L C 0 0 0\n") + chain(44, 61, b"L C C 0 0\n", 41) + b"62 0 0 59 59\n")
 ROW_OF_2_24 = LIFE + b"********$$$$$$$$\n" + chain(4, 24, b"L C C 0 0\n") + b"25 0 0 0 22\n"
 COMB_OF_2_24 = ROW_OF_2_24.replace(b"********", b".*.*.*.*")
 deep = functools.partial(deep_cells, 1 << 13)
@@ -466,7 +466,7 @@ scattered = functools.partial(scattered_cells, 1 << 13)
 
 LARGE_RLE = [
     accepted("2^19 teeth over the width of the plane", TEETH, TEETH_TEXT, times=9),
-    accepted("100,000 rows of 2^60 cells", [lambda: wide_rows(random_states(100_000))], [lambda: wide_rows_text(random_states(100_000))]),
+    accepted("100,000 rows of 2^62 cells", [lambda: wide_rows(random_states(100_000))], [lambda: wide_rows_text(random_states(100_000))]),
     accepted("15 million lines $", [HEADER, (b"$\n", 15_000_000)], LIFE, times=0),
     accepted("lines of 2^20 bytes $", [HEADER, (b"$" * LONGEST + b"\n", 29)], LIFE, times=0),
     accepted("2^24 items 1o", [HEADER, (b"1o" * (LONGEST // 2) + b"\n", 32)], ROW_OF_2_24, times=20),
@@ -530,7 +530,7 @@ FILES = {
     "bad.rule": b"@RULE Spread\n",
     "long.rule": b"#" * (LONGEST + 1) + b"\n",
     "last.rle": b"#CXRLE Gen=18446744073709551615\nx = 3, y = 1, rule = B3/S23\n3o!\n",
-    "edge.rle": b"#CXRLE Pos=0,576460752303423487\nx = 3, y = 1\n3o!\n",
+    "edge.rle": b"#CXRLE Pos=0,2305843009213693951\nx = 3, y = 1\n3o!\n",
     "still.rule": b"@RULE Still\n@TABLE\nn_states:2\nneighborhood:Moore\nsymmetries:none\n",
 }
 

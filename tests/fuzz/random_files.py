@@ -9,7 +9,7 @@ COMMENTS = [b"#C a comment", b"#", b"#N name", b"#P 1 1", b"#CXRLEfoo", b"#Rule"
 SPECIAL = [
     b"#R B36/S23", b"#R", b"#R Foo", b"#R B0/S", b"#R a:b", b"#G 5", b"#G", b"#G x", b"#FRAMES 10 0 1", b"#FRAME", b"#CXRLE Pos=1,2", b"#CXRLE",
     b"#CXRLE\tGen=4", b"x = 1, y = 1", b"x=0,y=0,rule=Foo", b"x y", b"x\t", b"xA", b"[M2]", b" [M2]", b"$", b"*$", b"$$$$$$$$", b"$$$$$$$$$", b".",
-    b"60 0 0 0 0", b"61 0 0 0 0", b"0 0 0 0 0", b"1 0 0 0 1", b"4 0 0 0 0", b"2 0 0 0", b"o!", b"0o", b"3", b"2$", b"!", b"@TABLE", b"@TABLE x",
+    b"62 0 0 0 0", b"63 0 0 0 0", b"0 0 0 0 0", b"1 0 0 0 1", b"4 0 0 0 0", b"2 0 0 0", b"o!", b"0o", b"3", b"2$", b"!", b"@TABLE", b"@TABLE x",
     b"@RULE Foo", b"@RULE", b"@COLORS", b"n_states:3", b"n_states:1", b"n_states:257", b"neighborhood:hexagonal", b"neighborhood:Moore",
     b"symmetries:none", b"symmetries:rotate8", b"symmetries:all", b"states:2", b":", b"var z={0,1}", b"var z={}", b"var", b"var 1={0}",
     b"0,0,0,0,0,0", b"0,0,0,0,0,1", b"0000000000", b"0,0,0,0,0,z",
@@ -111,8 +111,8 @@ def place(random):
     if chance(random, 0.05):
         return random.choice([-1, 1]) * random.choice(EDGES)
     if chance(random, 0.7):
-        return random.choice([-(2**59), -(2**59) + random.randint(0, 9), 2**59 - random.randint(1, 9), 2**59 - random.randint(1, 70)])
-    return random.choice([-1, 1]) * 2**random.choice([3, 8, 20, 31, 32, 58]) + random.randint(-9, 9)
+        return random.choice([-(2**61), -(2**61) + random.randint(0, 9), 2**61 - random.randint(1, 9), 2**61 - random.randint(1, 70)])
+    return random.choice([-1, 1]) * 2**random.choice([3, 8, 20, 31, 32, 60]) + random.randint(-9, 9)
 
 
 def position_line(random):
@@ -159,7 +159,7 @@ def count_text(random):
         return b""
     if share < 0.985:
         return number(random, random.choice([2, 3, 4, 7, 8, 9, 17, 64]))
-    return b"%d" % random.choice([*EDGES, 1000, 2**20 + 1, 2**30, 2**40, 2**59])
+    return b"%d" % random.choice([*EDGES, 1000, 2**20 + 1, 2**30, 2**40, 2**61])
 
 
 def data_lines(random, greatest):
@@ -218,10 +218,10 @@ def node_lines(random, greatest):
     for _ in range(random.choice([0, 1, 2, 3, 4, 8, 14, 14])):
         is_low = not levels or chance(random, 0.4)
         is_leaf = is_low and chance(random, 0.7 if greatest == 1 else 0.2)
-        level = 3 if is_leaf else 1 if is_low else min(random.choice(levels) + 1, 60)
+        level = 3 if is_leaf else 1 if is_low else min(random.choice(levels) + 1, 62)
         lines.append(leaf_line(random) if is_leaf else quarter_line(random, levels, level, greatest))
         levels.append(level)
-    top = random.choice([60, 60, 60, 61, 20, 9, 6]) if levels and chance(random, 0.3) else 0
+    top = random.choice([62, 62, 62, 63, 20, 9, 6]) if levels and chance(random, 0.3) else 0
     corner, is_straight = random.randrange(4), chance(random, 0.7)
     while levels and levels[-1] < top:
         quarters = [0] * 4

@@ -1,6 +1,6 @@
 """Squares of cells: what the sections "The cells" and "The canonical file" of docs/FORMATS.md speak of."""
 
-TOP = 60
+TOP = 62
 FIRST = -(2**(TOP - 1))
 END = 2**(TOP - 1)
 
