@@ -6,7 +6,7 @@
 //   generate states256 BYTES   the same with states 0 to 255
 //   generate cells BYTES       single cells, a few on each row of a square of 2^20 columns and rows
 //   generate deep BYTES        single cells, one on a row, anywhere in the whole plane
-//   generate rows LINES        an RLE file of so many rows of 2^60 cells each, with up to eight rows between them
+//   generate rows LINES        an RLE file of so many rows of 2^62 cells each, with up to eight rows between them
 //   generate far LINES         an RLE file of so many rows of two cells each, some 8,000,000 columns apart
 //   generate rotate4 LINES     a rule table of so many transitions under that symmetry: 8 states, Moore, ten variables
 //   generate permute LINES     the same under permute
@@ -50,9 +50,9 @@ static void level_lines(int level, long first, long count, long lines) {
 }
 
 static void levels(int level, long first, long count, long left) {
-    while (left > 0 && level <= 60) {
-        long lines = left > 40 && level < 60 ? left / 2 : left;
-        if (left <= 40 || level == 60) lines = level < 60 ? 1 : left;
+    while (left > 0 && level <= 62) {
+        long lines = left > 40 && level < 62 ? left / 2 : left;
+        if (left <= 40 || level == 62) lines = level < 62 ? 1 : left;
         level_lines(level, first, count, lines);
         first += count;
         count = lines;
@@ -141,10 +141,10 @@ static void cells(long bytes) {
 }
 
 static void deep(long bytes) {
-    puts("#CXRLE Pos=-576460752303423488,-576460752303423488\nx = 1, y = 1, rule = B3/S23");
-    uint64_t most = (1ull << 60) / (uint64_t)(bytes / 30 + 1); // so that the last row is in the plane
+    puts("#CXRLE Pos=-2305843009213693952,-2305843009213693952\nx = 1, y = 1, rule = B3/S23");
+    uint64_t most = (1ull << 62) / (uint64_t)(bytes / 30 + 1); // so that the last row is in the plane
     for (long written = 0; written < bytes;)
-        written += printf("%llubo%llu$\n", (unsigned long long)(1 + next_random() % ((1ull << 60) - 2)),
+        written += printf("%llubo%llu$\n", (unsigned long long)(1 + next_random() % ((1ull << 62) - 2)),
                           (unsigned long long)(1 + next_random() % most));
     puts("!");
 }
@@ -156,8 +156,8 @@ static void far(long lines) {
 }
 
 static void rows(long lines) {
-    puts("#CXRLE Pos=-576460752303423488,0\nx = 1, y = 1, rule = B3/S23");
-    for (long i = 0; i < lines; i++) printf("1152921504606846976o%d$\n", 1 + (int)((next_random() >> 20) % 8));
+    puts("#CXRLE Pos=-2305843009213693952,0\nx = 1, y = 1, rule = B3/S23");
+    for (long i = 0; i < lines; i++) printf("4611686018427387904o%d$\n", 1 + (int)((next_random() >> 20) % 8));
     puts("!");
 }
 

@@ -14,7 +14,7 @@ static void *room_for(void *items, size_t count, size_t *room, size_t size) {
 
 // ---- squares: 0 is blank at every level; under a name 1 to 255 are the cells; every other number is 256 + a place in `nodes`
 
-enum { FIRST = 256, TOP = 60 };
+enum { FIRST = 256, TOP = 62 };
 static const uint32_t LEAF = UINT32_MAX;
 
 struct node {

@@ -147,7 +147,7 @@ def kinds(folder):
         ("256 states, 10 MB", ".rle", "states256", 10_000_000),
         ("single cells in a square of 2^20, 7 MB", ".rle", "cells", 7_000_000),
         ("single cells in the whole plane, 1 MB", ".rle", "deep", 1_000_000),
-        ("50,000 rows of 2^60 cells", ".rle", "rows", 50_000),
+        ("50,000 rows of 2^62 cells", ".rle", "rows", 50_000),
         ("50,000 rows of two cells, 8,000,000 columns apart", ".rle", "far", 50_000))]
 
 
@@ -243,7 +243,7 @@ def store(folder):
     runs, full = least(r"runs: (\d+) ms", texts), least(r"full square: (\d+) ms", texts)
     print(f"  10,000 calls of put_run    {runs:.0f} ms; {nodes:.0f} nodes at the end, {peak / nodes:.0f} bytes a node at the peak,"
           f" plain {base_peak / 4e6:.0f} bytes")
-    print(f"  population and bounds of a full square of level 60: {full:.0f} ms")
+    print(f"  population and bounds of a full square of level 62: {full:.0f} ms")
 
 
 def strips(folder):
@@ -261,7 +261,7 @@ def strips(folder):
               f" peak memory {peak / 1e6:.0f} MB ({peak / squares:.0f} bytes a square), plain {base_peak / 1e6:.0f} MB")
     for what, index in (("time", 0), ("processor time", 1)):
         print(f"  10 times the runs take {times[1][index] / times[0][index]:.1f} times the {what}, in C {others[1][index] / others[0][index]:.1f} times")
-    print(f"  50,000 rows of 2^60 cells: {least(r'2.60 cells: [0-9]+ squares in ([0-9]+) ms', texts):.0f} ms")
+    print(f"  50,000 rows of 2^62 cells: {least(r'2.62 cells: [0-9]+ squares in ([0-9]+) ms', texts):.0f} ms")
     for runs in (1_000_000, 10_000_000):
         for line in timed([program, str(runs)])[2][0].splitlines():
             print(f"  {line}")
@@ -271,7 +271,7 @@ def strips(folder):
             cells, took = least(what + r": (\d+) cells", texts), least(what + r": \d+ cells in (\d+) ms", texts)
             listings.append(took)
             print(f"  the list of {cells:>10,.0f} cells of {'a soup' if what == 'runs' else 'single cells'}: {took:.0f} ms,"
-                  f" {took * 1e6 / cells / 60:.1f} ns a cell and level")
+                  f" {took * 1e6 / cells / 62:.1f} ns a cell and level")
     print(f"  10 times the cells take {listings[2] / listings[0]:.1f} times as long in a soup, {listings[3] / listings[1]:.1f} times as single cells")
 
 
