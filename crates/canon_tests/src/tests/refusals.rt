@@ -57,13 +57,7 @@ fn positions_beyond_the_plane_are_refused(rt: HostRuntime) {
 
 #[test]
 fn levels_above_the_plane_are_refused(rt: HostRuntime) {
-    refused(
-        &rt,
-        rt.alloc(),
-        b"[M2]\n63 0 0 0 0\n",
-        2,
-        Kind::BadLevel,
-    );
+    refused(&rt, rt.alloc(), b"[M2]\n63 0 0 0 0\n", 2, Kind::BadLevel);
 }
 
 #[test]
