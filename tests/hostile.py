@@ -405,6 +405,8 @@ RLE = [
     accepted("each form of a line of RLE", EACH_LINE, LIFE + b"....*$$$$$$$$\n4 0 0 1 1\n"),
     accepted("an RLE file of a blank plane", HEADER + b"!\n", LIFE),
     accepted("a cell at each corner of the plane", CORNERS, CORNERS_TEXT),
+    accepted("a cell in column 2^59", b"#CXRLE Pos=576460752303423488,0\n" + HEADER + b"o!\n",
+             LIFE + b"*$$$$$$$$\n" + chain(4, 59, b"L C 0 0 0\n") + b"60 0 57 0 0\n61 0 0 0 58\n"),
     accepted("a row of 2^62 cells", WIDE_ROW, WIDE_ROW_TEXT),
     accepted("255 rows of 2^62 cells, each of another state", [lambda: wide_rows(range(1, 256))], [lambda: wide_rows_text(range(1, 256))]),
     # A tooth of three bytes is two spans of 16.
@@ -420,7 +422,15 @@ RLE = [
     accepted("a count of a million digits", HEADER + b"0" * (LONGEST - 3) + b"1o\n!", LIFE + b"$$$$....*$$$$\n"),
     accepted("2^20 lines of one cell (14 times the input)", [HEADER, (b"o\n", LONGEST)], ROW_TEXT, times=14),
     refused("a row below the plane", [HEADER, (b"9$\n", 1_000_000), b"o4611686018427387904$\n"], "line 1000002: OutOfPlane"),
+    accepted("2^60 + 1 dead cells", HEADER + b"1152921504606846977b!\n", LIFE),
+    refused("a run as wide as the plane from its middle", HEADER + b"4611686018427387904b!\n", "line 2: OutOfPlane"),
+    refused("a run of the greatest count from the column behind the plane", b"#CXRLE Pos=2305843009213693951,0\n" + HEADER + b"o4611686018427387904b!\n",
+            "line 3: OutOfPlane"),
     refused("a count above the width of the plane", b"x = 1, y = 1, rule = Life\n4611686018427387905b!\n", "line 2: TooLarge"),
+    accepted("rows down to the one behind the plane", b"#CXRLE Pos=0,2305843009213693951\n" + HEADER + b"$!\n", LIFE),
+    refused("rows down by the greatest count from there", b"#CXRLE Pos=0,2305843009213693951\n" + HEADER + b"$4611686018427387904$!\n",
+            "line 3: OutOfPlane"),
+    refused("a position behind the plane", b"#CXRLE Pos=2305843009213693952,0\n" + HEADER + b"!\n", "line 1: OutOfPlane"),
 ]
 
 # Every form of a line: two squares of one text, a leaf that ends early and one that doesn't, squares that the root doesn't reach.
@@ -448,6 +458,8 @@ DEEP_SQUARES = [
     accepted("a cell at each corner of the plane, as macrocell", [corners], CORNERS_TEXT),
     accepted("a row of 2^62 cells, as macrocell", b"[M2]\n********\n" + chain(4, 61, b"L C C 0 0\n") + b"62 0 0 59 59\n", WIDE_ROW_TEXT),
     accepted("255 rows of 2^62 cells, as macrocell", [lambda: wide_rows_text(range(1, 256))], [lambda: wide_rows_text(range(1, 256))]),
+    accepted("a blank square of the greatest level", b"[M2]\n62 0 0 0 0\n", LIFE),
+    refused("a level above the greatest", b"[M2]\n63 0 0 0 0\n", "line 2: BadLevel"),
     accepted("a chain of 62 levels", CHAIN, CHAIN.replace(b"[M2]\n*$\n", LIFE + b"*$$$$$$$$\n")),
     # Each square has its quarters four times over: 2^124 cells in 60 lines.
     accepted("the whole plane", b"[M2]\n" + PLANE, LIFE + PLANE),
