@@ -7,7 +7,7 @@ use Rattle.life_sweep.specs.declared.column.Rows.{Rows}
 use Rattle.life_sweep.specs.declared.window.Window.{Window}
 use Rattle.life_sweep.specs.declared.band.Band.{Band}
 
--- before every coordinate of a plane of level 62 at most, and behind every one
+-- the first coordinate of a plane of level 62, and the first behind its last one
 abbrev pub end_of_plane : ℤ
 end_of_plane = neg_ℤ (pos (2 ^ 61))
 

@@ -11,7 +11,7 @@ put_run-requires-clause-high g c = omega (arith, c.loop-y.invariant.level)
 
 pub put_run-requires-clause-inside : goal.put_run-requires-clause-inside
 put_run-requires-clause-inside g c =
-    let half : half_side (g.S.Squares.content c.loop-y.squares c.loop-y.root) ≡ 2 ^ 59 = ap (λ l. 2 ^ (l - 1)) c.loop-y.invariant.level in
+    let half : half_side (g.S.Squares.content c.loop-y.squares c.loop-y.root) ≡ 2 ^ 61 = ap (λ l. 2 ^ (l - 1)) c.loop-y.invariant.level in
     let y = c.ranges.rows in
     let test = c.loop-y-test.true in
     record { west = omega (arith, ints, half); east = omega (arith, ints, half); north = omega (arith, ints, half); south = omega (arith, ints, half, y, test) }
