@@ -10,6 +10,8 @@
 #   make bench     times the program beside plain programs in C (with SMALL=1 on smaller inputs, within three minutes)
 #   make install   installs the proved program to $(DESTDIR)$(PREFIX)/bin, its man page and completions to $(DESTDIR)$(PREFIX)/share, and the
 #                  library with its header to $(DESTDIR)$(PREFIX)/lib and include
+#   make uninstall removes what make install put there, with the same PREFIX and DESTDIR
+#   make help      prints these lines
 #   make clean     removes what was built; the proofs' work in crates/*/out stays
 #   make distclean removes that too
 
@@ -59,6 +61,14 @@ install: golly_canon library
 	install -m 644 completions/golly_canon.fish "$(SHARE)/fish/vendor_completions.d/golly_canon.fish"
 	@sh scripts/install_library out/library "$(PREFIX)" "$(DESTDIR)"
 
+uninstall:
+	rm -f "$(DESTDIR)$(PREFIX)/bin/golly_canon" "$(SHARE)/man/man1/golly_canon.1" "$(SHARE)/bash-completion/completions/golly_canon"
+	rm -f "$(SHARE)/zsh/site-functions/_golly_canon" "$(SHARE)/fish/vendor_completions.d/golly_canon.fish"
+	rm -f "$(DESTDIR)$(PREFIX)/include/golly_canon.h" "$(DESTDIR)$(PREFIX)/lib/pkgconfig/golly_canon.pc" "$(DESTDIR)$(PREFIX)"/lib/libgolly_canon.*
+
+help:
+	@sed -n 's/^#  //p' Makefile
+
 clean:
 	rm -rf golly_canon out
 
@@ -67,4 +77,4 @@ distclean: clean
 
 FORCE:
 
-.PHONY: all library quick test plants fuzz times bench install clean distclean FORCE
+.PHONY: all library quick test plants fuzz times bench install uninstall help clean distclean FORCE
