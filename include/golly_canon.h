@@ -133,7 +133,7 @@ uint32_t golly_canon_same(const unsigned char *first, size_t first_length,
                           const unsigned char *second, size_t second_length, uint64_t limit,
                           uint32_t *is_same, uint64_t *line);
 
-/* The name of a status, as `BadChild` of GOLLY_CANON_BAD_CHILD, `OK` and `NoRoom`; no byte for a number that no call answers. The names are
+/* The name of a status, as `BadChild` of GOLLY_CANON_BAD_CHILD, `OK` and `NoRoom`; no byte for a number that no kind has. The names are
  * those that the program prints. None has more than 23 bytes.
  * The caller guarantees: `room` bytes to write at `out`, and `*needed`, apart from each other. */
 uint32_t golly_canon_status_name(uint32_t status, unsigned char *out, size_t room, size_t *needed);
