@@ -1,4 +1,4 @@
-/* The joins of bench_quad with a plain hash-consing store: open addressing over 32-bit slots, nodes of four 64-bit Ids. */
+/* The joins of the layer `quad` of bench_layers with a plain hash-consing store: open addressing over 32-bit slots, nodes of four 64-bit Ids. */
 #include <stdint.h>
 #include <stdio.h>
 #include <stdlib.h>

@@ -1,4 +1,4 @@
-/* The same soup as the program bench_strips, filled bottom up by the plainest C that does it: rows of node numbers,
+/* The same soup as the layer `strips` of bench_layers, filled bottom up by the plainest C that does it: rows of node numbers,
    two rows joined into one of the next level, each node kept once by a hash table.
    cc -O2 -o plain_strips plain_strips.c && ./plain_strips 1000000 */
 #include <stdint.h>

@@ -1,4 +1,4 @@
-/* The decisions of bench_table by the plain matcher, for a table from standard input.
+/* The decisions of the layer `table` of bench_layers by the plain matcher, for a table from standard input.
    cc -O2 -o plain_table plain_table.c && ./plain_table 1000000 <table */
 #include "plain_matcher.h"
 

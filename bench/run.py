@@ -6,8 +6,9 @@ usage: bench/run.py PROGRAM FOLDER    (PROGRAM: the built golly_canon; FOLDER: w
 Of each command the two programs take turns, five times each, and the least processor time (user and system) of each counts; their bytes are
 compared first. The memory is the peak resident size in one more run, which /usr/bin/time starts: what this script starts itself is said to be
 as large as this script. With SMALL=1 in the environment each input has a tenth of the size that its row names, each program has three turns, and
-the layers are left out: that ends within three minutes. The programs of crates/bench_* are proved and built first.
+the layers are left out: that ends within three minutes. The program of crates/bench_layers is proved and built first.
 """
+import functools
 import os
 import re
 import subprocess
@@ -83,14 +84,15 @@ def plain(folder, name):
     return path
 
 
-def proved(crate):
-    """A program of crates/, proved and built."""
-    folder = os.path.join(TOP, "crates", crate)
+@functools.lru_cache(maxsize=None)
+def layers():
+    """The program of crates/bench_layers, proved and built."""
+    folder = os.path.join(TOP, "crates", "bench_layers")
     done = subprocess.run([os.environ.get("RT", "rt"), "run"], cwd=folder, stdin=subprocess.DEVNULL,
                           stdout=subprocess.PIPE, stderr=subprocess.STDOUT)
     if done.returncode != 0:
         sys.exit(done.stdout.decode("utf-8", "replace"))
-    return os.path.join(folder, "out", crate)
+    return os.path.join(folder, "out", "bench_layers")
 
 
 def made(folder, name, kind, size):
@@ -207,11 +209,11 @@ def commands(program, folder):
 
 def rle(folder):
     print("reading RLE, beside a plain reader in C that checks nothing")
-    program, reference = proved("bench_rle"), plain(folder, "plain_rle")
+    program, reference = [layers(), "rle"], plain(folder, "plain_rle")
     soups = [(f"soup of {megabytes(size)}", soup_of(folder, size)) for size in SOUPS[:2]]
     times = []
     for label, path in soups:
-        took, peak, _, _ = timed([program, "read"], path)
+        took, peak, _, _ = timed([*program, "read"], path)
         base, base_peak, _, _ = timed([reference, "read"], path)
         times.append(took)
         print(f"  {label:<26} {took:.3f} s, plain {base:.3f} s; {took / base:.2f} times plain, peak memory {peak / 1e6:.0f} MB, plain {base_peak / 1e6:.0f} MB")
@@ -219,9 +221,9 @@ def rle(folder):
     print("writing the cells that were read, the writing alone, beside a plain writer in C")
     times = []
     for label, path in soups:
-        took, base = told([program], path, r"written: (\d+) us"), told([reference], path, r"written: (\d+) us")
+        took, base = told(program, path, r"written: (\d+) us"), told([reference], path, r"written: (\d+) us")
         times.append(took)
-        if output([program, "text"], path) != output([reference, "text"], path):
+        if output([*program, "text"], path) != output([reference, "text"], path):
             sys.exit(f"{path}: the two programs write other bytes")
         print(f"  {label:<26} {took / 1000:.1f} ms, plain {base / 1000:.1f} ms; {took / base:.2f} times plain, the same bytes")
     print(f"  10 times the bytes take {times[1] / times[0]:.1f} times as long")
@@ -234,7 +236,7 @@ def least(pattern, texts):
 
 def store(folder):
     print("the shared store, beside a plain hash-consing store in C")
-    _, peak, texts, _ = timed([proved("bench_quad")])
+    _, peak, texts, _ = timed([layers(), "quad"])
     _, base_peak, base, _ = timed([plain(folder, "plain_quad")])
     for what in ("fresh joins", "found joins"):
         took, other = least(what + r": (\d+) ms", texts), least(what + r" \d+ (\d+)", base)
@@ -248,10 +250,10 @@ def store(folder):
 
 def strips(folder):
     print("filling a store row by row, beside a plain bottom-up filler in C")
-    program, reference = proved("bench_strips"), plain(folder, "plain_strips")
+    program, reference = [layers(), "strips"], plain(folder, "plain_strips")
     times, others, listings = [], [], []
     for runs in (1_000_000, 10_000_000):
-        _, peak, texts, spent = timed([program, str(runs), "time"])
+        _, peak, texts, spent = timed([*program, str(runs), "time"])
         _, base_peak, base, base_spent = timed([reference, str(runs)])
         took, other = least(r"runs: \d+ squares in (\d+) ms", texts), least(r"(\d+) ms", base)
         squares, other_squares = least(r"runs: (\d+) squares", texts), least(r"(\d+) squares", base)
@@ -263,10 +265,10 @@ def strips(folder):
         print(f"  10 times the runs take {times[1][index] / times[0][index]:.1f} times the {what}, in C {others[1][index] / others[0][index]:.1f} times")
     print(f"  50,000 rows of 2^62 cells: {least(r'2.62 cells: [0-9]+ squares in ([0-9]+) ms', texts):.0f} ms")
     for runs in (1_000_000, 10_000_000):
-        for line in timed([program, str(runs)])[2][0].splitlines():
+        for line in timed([*program, str(runs)])[2][0].splitlines():
             print(f"  {line}")
     for runs in (1_000_000, 10_000_000):
-        _, peak, texts, _ = timed([program, str(runs), "cells"])
+        _, peak, texts, _ = timed([*program, str(runs), "cells"])
         for what in ("runs", "single cells"):
             cells, took = least(what + r": (\d+) cells", texts), least(what + r": \d+ cells in (\d+) ms", texts)
             listings.append(took)
@@ -277,10 +279,10 @@ def strips(folder):
 
 def table(folder):
     print("next states by a rule table of 300 transitions, beside a plain matcher in C; 1,000,000 decisions")
-    program, reference = proved("bench_table"), plain(folder, "plain_table")
+    program, reference = [layers(), "table"], plain(folder, "plain_table")
     for symmetry in ("rotate4", "permute"):
         path = made(folder, ".rule", symmetry, 300)
-        _, peak, texts, _ = timed([program, "1000000", "time"], path)
+        _, peak, texts, _ = timed([*program, "1000000", "time"], path)
         _, _, base, _ = timed([reference, "1000000"], path)
         answers, others = texts[0].splitlines()[0], base[0].splitlines()[0]
         if others != answers:
@@ -291,7 +293,7 @@ def table(folder):
 
 def step(folder):
     print("one generation of a soup of a million live cells, B3/S23")
-    _, peak, texts, spent = timed([proved("bench_step")])
+    _, peak, texts, spent = timed([layers(), "step"])
     alone, whole = least(r"next generation \w+: (\d+) us", texts), least(r"text to text: (\d+) us", texts)
     print(f"  the next generation {alone / 1000:.0f} ms, from text to text {whole / 1000:.0f} ms; peak memory {peak / 1e6:.0f} MB")
 

@@ -7,10 +7,14 @@ int main(void)
     static unsigned char file[1 << 20], text[1 << 20], name[32];
     size_t length = fread(file, 1, sizeof file, stdin), needed;
     uint64_t line;
+    if (!feof(stdin))
+        return fputs("the file can't be read, or has no end within 1 MB\n", stderr), 3;
     uint32_t status = golly_canon_canon(file, length, GOLLY_CANON_SQUARES, text, sizeof text, &needed, &line);
     if (status == GOLLY_CANON_OK)
         return fwrite(text, 1, needed, stdout) != needed;
     golly_canon_status_name(status, name, sizeof name, &needed);
-    fprintf(stderr, "line %llu: %.*s\n", (unsigned long long)line, (int)needed, (char *)name);
+    if (line)
+        fprintf(stderr, "line %llu: ", (unsigned long long)line);
+    fprintf(stderr, "%.*s\n", (int)needed, (char *)name);
     return 2;
 }

@@ -2,12 +2,17 @@
 import ctypes
 import sys
 
+NO_ROOM = 64
 library = ctypes.CDLL("libgolly_canon.so.0")
-file, text = sys.stdin.buffer.read(), ctypes.create_string_buffer(1 << 20)
+file, room, status = sys.stdin.buffer.read(), 1 << 20, NO_ROOM
 needed, line, squares = ctypes.c_size_t(), ctypes.c_uint64(), ctypes.c_uint64(1 << 31)
-out = text, ctypes.c_size_t(len(text)), ctypes.byref(needed)
-status = library.golly_canon_canon(file, ctypes.c_size_t(len(file)), squares, *out, ctypes.byref(line))
+while status == NO_ROOM:  # the second time with the room that the text needs
+    text = ctypes.create_string_buffer(room)
+    out = text, ctypes.c_size_t(room), ctypes.byref(needed)
+    status = library.golly_canon_canon(file, ctypes.c_size_t(len(file)), squares, *out, ctypes.byref(line))
+    room = needed.value
 if status:
     library.golly_canon_status_name(status, *out)
-    sys.exit(f"line {line.value}: {text.raw[:needed.value].decode()}")
+    name = text.raw[:needed.value].decode()
+    sys.exit(f"line {line.value}: {name}" if line.value else name)
 sys.stdout.buffer.write(text.raw[:needed.value])

@@ -16,6 +16,9 @@
  *     any other status      the number of a kind of fault. Nothing was written at `out`, and `*needed` is 0. `*line` is the number of the line
  *                           that the file is refused at, counted from 1, or 0 where the fault is of no line.
  *
+ * With the first two `*line` is 0. A file is its bytes as they stand, not compressed, and whole: of an RLE that was cut short a part can be a
+ * pattern too.
+ *
  * The caller guarantees, in each call:
  *
  *  - A pointer to bytes points to as many bytes as the number behind it says, and a pointer to a number to a number of that type, aligned as

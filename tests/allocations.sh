@@ -41,7 +41,7 @@ run() { # FIRST LAST PROGRAM WORDS..
     range="FIRST=$1 LAST=$2"
     shift 2
     echo "none none" > report
-    timeout 10 env $range REPORT=report LD_PRELOAD=./refuse.so "$@" < input > out 2> err
+    timeout 10 env $range REPORT=report LD_PRELOAD=../refuse.so "$@" < input > out 2> err
     status=$?
     read -r requests refused < report
 }
@@ -99,55 +99,57 @@ program_run() { # NAME STATUS OUTPUT ERROR WORDS..
     each_request "$name" judge_program "$status" "$program" "$@"
 }
 
-header='[M2] (canonical 1)\n#R'
+programs() {
+    header='[M2] (canonical 1)\n#R'
 
-# One cell under seven squares, from a file.
-nodes='....*$$$$$$$$\n4 1 0 0 0\n5 2 0 0 0\n6 3 0 0 0\n7 4 0 0 0\n8 5 0 0 0\n9 0 0 0 6\n'
-printf '%b' "[M2] (golly 4.2)\n#R B3/S23\n$nodes" > input
-cell='....*$$$$$$$$\n4 0 0 0 1\n'
-program_run "canon FILE" 0 "$header B3/S23\n$cell" "" canon input
+    # One cell under seven squares, from a file.
+    nodes='....*$$$$$$$$\n4 1 0 0 0\n5 2 0 0 0\n6 3 0 0 0\n7 4 0 0 0\n8 5 0 0 0\n9 0 0 0 6\n'
+    printf '%b' "[M2] (golly 4.2)\n#R B3/S23\n$nodes" > input
+    cell='....*$$$$$$$$\n4 0 0 0 1\n'
+    program_run "canon FILE" 0 "$header B3/S23\n$cell" "" canon input
 
-# Two cells nine columns apart, in extended RLE.
-printf '#CXRLE Pos=-4,0\nx = 9, y = 1, rule = B3/S23\no7bo!\n' > input
-pair='....*$$$$$$$$\n4 0 0 1 1\n'
-program_run "canon of RLE" 0 "$header B3/S23\n$pair" "" canon input
-printf '[M2]\n....*$\n....*$\n4 0 0 1 2\n' > other
-program_run "same A B" 0 'same\n' "" same input other
-program_run "show FILE" 0 'rule B3/S23\ngeneration 0\npopulation 2\nbox -4 0 9 1\nnodes 2\n' "" show input
-program_run "convert FILE --to rle" 0 '#CXRLE Pos=-4,0\nx = 9, y = 1, rule = B3/S23\no7bo!\n' "" convert other --to rle
-program_run "convert FILE --to mc" 0 "$header B3/S23\n$pair" "" convert input --to mc
+    # Two cells nine columns apart, in extended RLE.
+    printf '#CXRLE Pos=-4,0\nx = 9, y = 1, rule = B3/S23\no7bo!\n' > input
+    pair='....*$$$$$$$$\n4 0 0 1 1\n'
+    program_run "canon of RLE" 0 "$header B3/S23\n$pair" "" canon input
+    printf '[M2]\n....*$\n....*$\n4 0 0 1 2\n' > other
+    program_run "same A B" 0 'same\n' "" same input other
+    program_run "show FILE" 0 'rule B3/S23\ngeneration 0\npopulation 2\nbox -4 0 9 1\nnodes 2\n' "" show input
+    program_run "convert FILE --to rle" 0 '#CXRLE Pos=-4,0\nx = 9, y = 1, rule = B3/S23\no7bo!\n' "" convert other --to rle
+    program_run "convert FILE --to mc" 0 "$header B3/S23\n$pair" "" convert input --to mc
 
-# The next generation, of a row of three cells and of one cell that spreads by a table.
-printf 'x = 3, y = 1\n3o!\n' > input
-program_run "step FILE" 0 "$header B3/S23\n#G 1\n"'$$$.....*$.....*$.....*$$$\n' "" step input
-printf 'x = 1, y = 1, rule = Spread\nB!\n' > input
-printf '@RULE Spread\n@TABLE\nn_states:3\nneighborhood:vonNeumann\nsymmetries:rotate4\nvar a={1,2}\n0,a,0,0,0,a\n' > table
-program_run "step FILE --table RULE" 0 "$header Spread\n#G 1\n1 0 0 2 0\n1 0 2 0 0\n1 2 2 2 0\n2 0 1 2 3\n" "" step input --table table
+    # The next generation, of a row of three cells and of one cell that spreads by a table.
+    printf 'x = 3, y = 1\n3o!\n' > input
+    program_run "step FILE" 0 "$header B3/S23\n#G 1\n"'$$$.....*$.....*$.....*$$$\n' "" step input
+    printf 'x = 1, y = 1, rule = Spread\nB!\n' > input
+    printf '@RULE Spread\n@TABLE\nn_states:3\nneighborhood:vonNeumann\nsymmetries:rotate4\nvar a={1,2}\n0,a,0,0,0,a\n' > table
+    program_run "step FILE --table RULE" 0 "$header Spread\n#G 1\n1 0 0 2 0\n1 0 2 0 0\n1 2 2 2 0\n2 0 1 2 3\n" "" step input --table table
 
-# A file of 2 MiB, with so many squares in its front that room is made for those of the rest.
-awk 'BEGIN {
-    print "[M2]"
-    for (i = 1; i <= 700; i++) {
-        row = ""
-        for (n = i; n > 0; n = int(n / 2)) row = row (n % 2 ? "*" : ".") (length(row) % 9 == 7 ? "$" : "")
-        print row "$"
-    }
-    for (i = 0; i < 1048576; i++) print "#"
-    print "....*$$$$$$$$"
-}' > input
-program_run "canon of 2 MiB" 0 "$header B3/S23\n....*\$\$\$\$\$\$\$\$\n" "" canon input
+    # A file of 2 MiB, with so many squares in its front that room is made for those of the rest.
+    awk 'BEGIN {
+        print "[M2]"
+        for (i = 1; i <= 700; i++) {
+            row = ""
+            for (n = i; n > 0; n = int(n / 2)) row = row (n % 2 ? "*" : ".") (length(row) % 9 == 7 ? "$" : "")
+            print row "$"
+        }
+        for (i = 0; i < 1048576; i++) print "#"
+        print "....*$$$$$$$$"
+    }' > input
+    program_run "canon of 2 MiB" 0 "$header B3/S23\n....*\$\$\$\$\$\$\$\$\n" "" canon input
 
-# Two cells under the name of a rule, from standard input.
-printf '[M2]\n#R WireWorld\n#G 7\n1 1 25 0 0' > input
-program_run "canon -" 0 "$header WireWorld\n#G 7\n1 1 25 0 0\n" "" canon -
+    # Two cells under the name of a rule, from standard input.
+    printf '[M2]\n#R WireWorld\n#G 7\n1 1 25 0 0' > input
+    program_run "canon -" 0 "$header WireWorld\n#G 7\n1 1 25 0 0\n" "" canon -
 
-printf '[M2]\n#R B3/S23\n....*$$$$$$$$\n4 0 0 0 9\n' > input
-program_run "canon of a refused file" 2 "" "line 4: BadChild\n" canon input
-program_run "canon of an absent file" 3 "" "ReadFault\n" canon absent
+    printf '[M2]\n#R B3/S23\n....*$$$$$$$$\n4 0 0 0 9\n' > input
+    program_run "canon of a refused file" 2 "" "line 4: BadChild\n" canon input
+    program_run "canon of an absent file" 3 "" "ReadFault\n" canon absent
 
-# What these texts are, tests/hostile.py says.
-program_run "--help" 0 "$("$program" --help)\n" "" --help
-program_run "no file" 5 "" "$("$program" canon 2>&1)\n" canon
+    # What these texts are, tests/hostile.py says.
+    program_run "--help" 0 "$("$program" --help)\n" "" --help
+    program_run "no file" 5 "" "$("$program" canon 2>&1)\n" canon
+}
 
 # ---- the calls: `Memory` where memory was refused, the right answer from each other one, before and after
 
@@ -163,16 +165,34 @@ judge_calls() { # LAST REQUEST REFUSED
     grep ': Memory$' out >> met
 }
 
-: > input
-: > wanted_err
-: > met
-cp "$top/crates/check_allocations/stdout" wanted_out
-each_request "the calls of the libraries" judge_calls 0 "$calls"
+libraries() {
+    : > input
+    : > wanted_err
+    : > met
+    cp "$top/crates/check_allocations/stdout" wanted_out
+    each_request "the calls of the libraries" judge_calls 0 "$calls"
 
-# Each call meets a refusal of one request where it is made for the first time.
-grep -v ', again: ok$' wanted_out | sort > first_calls
-sed 's/: Memory$/: ok/' met | sort -u > met_calls
-verdict "each call meets a refusal" "$(comm -23 first_calls met_calls)"
+    # Each call meets a refusal of one request where it is made for the first time.
+    grep -v ', again: ok$' wanted_out | sort > first_calls
+    sed 's/: Memory$/: ok/' met | sort -u > met_calls
+    verdict "each call meets a refusal" "$(comm -23 first_calls met_calls)"
+}
 
+# ---- both, side by side, each in a folder of its own
+
+part() { # FUNCTION
+    mkdir "$1" && cd "$1" || exit 1
+    "$1"
+    echo "$passed $failed" > counts
+}
+(part programs) > programs.log 2>&1 &
+(part libraries)
+wait
+cat programs.log
+for name in programs libraries; do
+    read -r good bad < "$name/counts" || { good=0; bad=1; }
+    passed=$((passed + good))
+    failed=$((failed + bad))
+done
 echo "$passed passed, $failed failed"
 [ $failed = 0 ]

@@ -2,9 +2,10 @@
 """Compares the built program with the independent reader of `tests/independent`: standard output, the line on standard error and the status of each
 command, on small files of which every byte is cut and changed, and on random files.
 
-usage: tests/compare.py PROGRAM --cases N --seed SEED [--jobs N] [--only CASE]
+usage: tests/compare.py PROGRAM --cases N --seed SEED [--jobs N] [--first CASE] [--only CASE]
 
-A difference is printed with its seed, its case and its files. `--only` repeats one random case. The last line counts the cases.
+A difference is printed with its seed, its case and its files. `--first` goes on where an earlier run of the seed ended, with random cases alone,
+and `--only` repeats one of them. The last line counts the cases.
 """
 
 import argparse
@@ -14,7 +15,6 @@ import multiprocessing
 import os
 import random
 import signal
-import subprocess
 import sys
 import tempfile
 from typing import NamedTuple, Optional
@@ -37,6 +37,9 @@ BadVariable BadTransition UnboundOutput NotQuiet RuleMismatch NeedsTable Ambiguo
 STRIDE = 10000
 # A folder in memory, where there is one.
 FAST_FOLDER = "/dev/shm"
+# Where a run's standard output and standard error go, and how they are opened.
+OUTPUT, ERRORS = "standard-output", "standard-error"
+WRITTEN = os.O_WRONLY | os.O_CREAT | os.O_TRUNC
 
 
 class Case(NamedTuple):
@@ -109,11 +112,13 @@ def random_case(seed, number):
 # ---- One case
 
 
-def answer(program, words, folder, given):
-    """Runs the program."""
-    with open(os.path.join(folder, given), "rb") as source:
-        run = subprocess.run([program, *words], stdin=source, capture_output=True, cwd=folder, check=False)
-    return commands.Answer(run.returncode, run.stdout, run.stderr.decode("latin-1"))
+def answer(program, words, given):
+    """Runs the program in the folder of the cases. Its output goes to files there: that takes a third of the time of pipes."""
+    streams = [(0, given, os.O_RDONLY), (1, OUTPUT, WRITTEN), (2, ERRORS, WRITTEN)]
+    actions = [(os.POSIX_SPAWN_OPEN, stream, name, flags, 0o600) for stream, name, flags in streams]
+    pid = os.posix_spawn(program, [program, *words], os.environ, file_actions=actions)
+    status = os.waitstatus_to_exitcode(os.waitpid(pid, 0)[1])
+    return commands.Answer(status, contents(OUTPUT), contents(ERRORS).decode("latin-1"))
 
 
 def is_slow(file):
@@ -151,39 +156,44 @@ def told(case, words, program, reader):
     return "\n".join([f"{case.name}: {' '.join(words)}", *files, f"  program: {program}", f"  reader:  {reader}"])
 
 
-def put(folder, name, data):
-    with open(os.path.join(folder, name), "wb") as it:
+def put(name, data):
+    with open(name, "wb") as it:
         it.write(data)
 
 
-def respelling_problems(program, folder, case, text):
+def contents(name):
+    with open(name, "rb") as it:
+        return it.read()
+
+
+def respelling_problems(program, case, text):
     """An accepted file, its canonical text and its RLE are one pattern, and so is another spelling of it."""
-    put(folder, "text", text)
-    put(folder, "respelling", case.respelling)
-    found = answer(program, ["convert", "text", "--to", "rle"], folder, "pattern")
+    put("text", text)
+    put("respelling", case.respelling)
+    found = answer(program, ["convert", "text", "--to", "rle"], "pattern")
     runs = [
         (["canon", "text"], commands.Answer(0, text)),
         (["same", "pattern", "respelling"], commands.Answer(0, b"same\n")),
     ]
     if found.status == 0:
-        put(folder, "rle", found.output)
+        put("rle", found.output)
         runs.append((["canon", "rle"], commands.Answer(0, text)))
         runs.append((["same", "rle", "pattern"], commands.Answer(0, b"same\n")))
     for words, wanted in runs:
-        got = answer(program, words, folder, "pattern")
+        got = answer(program, words, "pattern")
         if got != wanted:
             yield told(case, words, got, wanted)
 
 
-def compared(program, folder, case):
+def compared(program, case):
     """The finding of a case."""
     files = {"pattern": case.pattern, "other": case.other, "table": case.table}
     for name, data in files.items():
         if data is not None:
-            put(folder, name, data)
+            put(name, data)
     problems, answers, text = [], collections.Counter(), None
     for words, wanted in wanted_answers(case):
-        got = answer(program, words, folder, "pattern")
+        got = answer(program, words, "pattern")
         if got != wanted:
             problems.append(told(case, words, got, wanted))
         answers[f"status {got.status}"] += 1
@@ -191,7 +201,7 @@ def compared(program, folder, case):
         if words[0] == "canon" and got.status == 0:
             text = got.output
     if case.respelling is not None and text is not None:
-        problems += respelling_problems(program, folder, case, text)
+        problems += respelling_problems(program, case, text)
     return Finding(problems, answers)
 
 
@@ -199,15 +209,21 @@ def compared(program, folder, case):
 
 
 def of_number(program, parent, seed, given):
-    """The finding of a case of `small_cases`, or of a random one by its number."""
+    """The finding of a case of `small_cases`, or of a random one by its number. Each process works in a folder of its own."""
     folder = os.path.join(parent, str(os.getpid()))
     os.makedirs(folder, exist_ok=True)
-    return compared(program, folder, given if isinstance(given, Case) else random_case(seed, given))
+    os.chdir(folder)
+    return compared(program, given if isinstance(given, Case) else random_case(seed, given))
 
 
 def findings(program, options):
     """The findings of all cases that were asked for, from several processes."""
-    cases = [options.only] if options.only is not None else [*small_cases(), *range(options.cases)]
+    if options.only is not None:
+        cases = [options.only]
+    elif options.first:
+        cases = range(options.first, options.first + options.cases)
+    else:
+        cases = [*small_cases(), *range(options.cases)]
     parent = FAST_FOLDER if os.path.isdir(FAST_FOLDER) else None
     with tempfile.TemporaryDirectory(dir=parent) as folder, multiprocessing.Pool(options.jobs) as pool:
         yield from pool.imap_unordered(functools.partial(of_number, program, folder, options.seed), cases, 16)
@@ -226,6 +242,7 @@ def main():
     parser.add_argument("--cases", type=int, default=2000)
     parser.add_argument("--seed", default="1")
     parser.add_argument("--jobs", type=int, default=os.cpu_count())
+    parser.add_argument("--first", type=int, default=0)
     parser.add_argument("--only", type=int)
     options = parser.parse_args()
     # So that an interrupted run ends its processes and removes its folder.

@@ -265,7 +265,7 @@ def rle_of(cells, rule=b"B3/S23", generation=0):
         west, east, north, south = min(it[0] for it in runs), max(it[0] + it[2] for it in runs), runs[0][1], runs[-1][1]
         yield b"#CXRLE Pos=%d,%d" % (west, north) + (b" Gen=%d" % generation if generation else b"") + b"\n"
         yield b"x = %d, y = %d, rule = %s\n" % (east - west, south - north + 1, rule)
-        yield from gathered(filled(items_of(runs, west, north, b"o" if rule == b"B3/S23" else b"A")))
+        yield from gathered(filled(items_of(runs, west, north, b"o" if b"/" in rule else b"A")))
     return [text]
 
 
@@ -475,6 +475,14 @@ COMB_OF_2_24 = ROW_OF_2_24.replace(b"********", b".*.*.*.*")
 deep = functools.partial(deep_cells, 1 << 13)
 DEEP_RLE, DEEP_TEXT = rle_of(deep), macrocell_of(deep)
 scattered = functools.partial(scattered_cells, 1 << 13)
+loners = functools.partial(deep_cells, 1 << 11)
+
+
+@functools.cache
+def rings():
+    """The cells beside each of these."""
+    return [(x + i, y + j) for x, y in loners() for j in (-1, 0, 1) for i in (-1, 0, 1) if i or j]
+
 
 LARGE_RLE = [
     accepted("2^19 teeth over the width of the plane", TEETH, TEETH_TEXT, times=9),
@@ -485,10 +493,12 @@ LARGE_RLE = [
     accepted("2^23 items bo", [HEADER, (b"bo" * (LONGEST // 2) + b"\n", 16)], COMB_OF_2_24, times=40),
     accepted("2^13 single cells anywhere", DEEP_RLE, DEEP_TEXT, each=4, times=150),
     accepted("2^13 single cells anywhere, as macrocell", DEEP_TEXT, DEEP_TEXT, times=9),
-    accepted("2^13 single cells anywhere that are shown", DEEP_RLE, shown(deep), "show input", each=6, times=320),
+    accepted("2^13 single cells anywhere that are shown", DEEP_RLE, shown(deep), "show input", each=4, times=150),
     accepted("2^13 single cells anywhere, to RLE", DEEP_RLE, DEEP_RLE, "convert input --to rle", each=4, times=100),
     accepted("2^13 single cells anywhere, to macrocell", DEEP_RLE, DEEP_TEXT, "convert input --to mc", each=4, times=150),
     accepted("2^13 single cells anywhere that die", DEEP_RLE, canonical(b"B3/S23", 1), "step input", each=4, times=100),
+    accepted("2^11 single cells anywhere that become rings", rle_of(loners, b"B1/S"), [canonical(b"B1/S", 1), lambda: lines_of(rings, 3)], "step input",
+             each=6, times=240),
     accepted("2^13 cells of many states in a row", [lambda: scattered_rle(scattered())], states_in_nodes(scattered), each=6, times=300),
     Case("2^13 single cells anywhere in both formats", "same input other", output=b"same\n", files={"input": DEEP_RLE, "other": DEEP_TEXT}),
 ]
@@ -712,6 +722,48 @@ LONG_TEXTS = [
     *long_jobs("killed while it writes", -signal.SIGKILL, "", Front, plays=kills_it),
     *(long_jobs("a full disk", 3, "WriteFault", Front, by=ON_A_SMALL_DISK) if CAN_MOUNT else []),
     *long_jobs("little memory", 4, "Memory", lambda text: b"", by='ulimit -v 5000; exec "$@"'),
+]
+
+
+# ---- few lines, many cells
+
+
+def repeated(front, last, times):
+    """The node lines of a square of level 61 that has 4^times times, far apart, the square of these lines, whose level is `last`."""
+    single = chain(last + 1, 61 - times, b"L C 0 0 0\n", front.count(b"\n"))
+    return front + single + chain(62 - times, 61, b"L C C C C\n", (front + single).count(b"\n"))
+
+
+# Blocks of four cells, and single cells, far apart over half the plane.
+BLOCK = b"**$**$$$$$$$\n"
+BLOCKS, FEW_BLOCKS = repeated(BLOCK, 3, 9), repeated(BLOCK, 3, 7)
+SPECKS = repeated(b"*$$$$$$$$\n", 3, 8)
+NAMED_SPECKS = repeated(b"1 1 0 0 0\n", 1, 8)
+
+
+def block_cells():
+    """The cells of 2^18 blocks, row by row."""
+    corners = [-(1 << 60) + (i << 52) for i in range(1 << 9)]
+    return [(x + i, y + j) for y in corners for j in (0, 1) for x in corners for i in (0, 1)]
+
+
+def few_lines(name, lines, output, words, more_files=(), rule=b"B3/S23", **more):
+    """A file of about 60 lines."""
+    return Case(name, words, output=output, files={"input": b"[M2]\n#R %s\n" % rule + lines, **dict(more_files)}, **more)
+
+
+BLOCKS_SHOWN = b"rule B3/S23\ngeneration 0\npopulation 1048576\nbox %d %d %d %d\nnodes 59\n" % (2 * (-HALF // 2,) + 2 * ((511 << 52) + 2,))
+STILL = {"still.rule": FILES["still.rule"]}.items()
+# A step visits each place of the plane beside which a cell is, and so takes the cells times the levels, however few lines say them. Such a file has
+# less than a kilobyte.
+FEW_LINES = [
+    few_lines("2^20 cells in 60 lines", BLOCKS, LIFE + BLOCKS, "canon input"),
+    few_lines("2^20 cells in 60 lines that are shown", BLOCKS, BLOCKS_SHOWN, "show input"),
+    few_lines("2^20 cells in 60 lines, to RLE", BLOCKS, rle_of(block_cells), "convert input --to rle", each=4000, little=60 * MEGABYTE),
+    few_lines("2^16 cells in 60 lines that stay", FEW_BLOCKS, LIFE + b"#G 1\n" + FEW_BLOCKS, "step input", each=6000),
+    few_lines("2^16 single cells in 60 lines that die", SPECKS, LIFE + b"#G 1\n", "step input", each=12_000),
+    few_lines("2^16 single cells in 60 lines that stay by a table", NAMED_SPECKS, canonical(b"Still", 1) + NAMED_SPECKS,
+              "step input --table still.rule", STILL, b"Still", each=4000),
 ]
 
 
@@ -939,7 +991,7 @@ TABLES = [
 
 CASES = [
     *FIRST_CASES, *LONG_LINES, *MANY_LINES, *RLE, *DEEP_SQUARES, *DEVICES, *JOBS, *STEPS, *SINKS, *SOURCES, *LONG_TEXTS, *CHANGES, *MISUSED, *ASKED,
-    *LARGE_RLE, *CHOSEN_KEYS, *TABLES, *LONGEST_INPUTS,
+    *LARGE_RLE, *FEW_LINES, *CHOSEN_KEYS, *TABLES, *LONGEST_INPUTS,
 ]
 
 

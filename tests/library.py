@@ -1,6 +1,6 @@
 #!/usr/bin/env python3
-"""Calls the shared library by ctypes, beside the program, on each file of a folder and on files that are refused, and from two threads at once.
-The last line is 'N passed, M failed'.
+"""Calls the shared library by ctypes, beside the program, on each file of a folder and on files that are refused, by each limit of a store in turn
+beside the independent reader, and from two threads at once. The last line is 'N passed, M failed'.
 
 usage: tests/library.py PROGRAM FOLDER"""
 
@@ -10,9 +10,35 @@ import subprocess
 import sys
 import threading
 
+from fuzz import small_files
+from independent import commands
+
 library = ctypes.CDLL("libgolly_canon.so.0")
 SQUARES = 1 << 31
 NO_ROOM = 64
+
+# The greatest limit of a store that is tried, and files that few squares suffice for.
+MOST_LIMIT = 4096
+BLANK = "a blank plane"
+WORKED = {
+    BLANK: b"x = 0, y = 0, rule = 23/3\n!\n",
+    **{
+        name: small_files.LIFE_FILES[name]
+        for name in (
+            "a glider",
+            "lines that end by CR LF",
+            "a rule of four neighbours",
+            "a row as wide as the plane",
+            "a root above its pattern",
+            "squares below the leaves",
+            "a line twice and one that is not reached",
+            "the example glider.mc",
+        )
+    },
+    **{name: small_files.NAMED_FILES[name][0] for name in ("two states at the corner", "levels and leaves under a name")},
+}
+STEPPED = {name: small_files.NAMED_FILES[name] for name in ("the example wire.rle", "a state that spreads", "levels and leaves under a name")}
+
 passed = failed = 0
 
 
@@ -43,6 +69,62 @@ def text_of(call, file, limit=SQUARES, room=64):
     return out.raw[: needed.value], ""
 
 
+def stepped_by(table):
+    """The call that steps by this table, with the arguments of the others."""
+    def call(file, length, *others):
+        in_table = ctypes.c_uint32()
+        return library.golly_canon_step_by_table(file, length, table, ctypes.c_size_t(len(table)), *others, ctypes.byref(in_table))
+    return call
+
+
+def compared_with(other):
+    """The call that compares with another file, with the arguments of the others. It writes the line of the program."""
+    def call(file, length, limit, out, room, needed, line):
+        is_same = ctypes.c_uint32()
+        status = library.golly_canon_same(file, length, other, ctypes.c_size_t(len(other)), limit, ctypes.byref(is_same), line)
+        text = b"" if status else (b"same\n" if is_same.value else b"different\n")
+        ctypes.memmove(out, text, len(text))
+        needed._obj.value = len(text)
+        return status
+    return call
+
+
+def first_limit(call, file, wanted):
+    """The first limit of a store that suffices. Below it the call answers Full, and from it on, up to 4096, the text that is wanted. None where
+    it answers otherwise."""
+    first = None
+    for limit in range(MOST_LIMIT + 1):
+        text, fault = text_of(call, file, limit, max(64, len(wanted)))
+        if first is None and not fault:
+            first = limit
+        if (text, fault) != ((b"", "Full\n") if first is None else (wanted, "")):
+            return None
+    return first
+
+
+def check_limits():
+    """Every limit from 0 on, by every call, over worked files of both formats. What is wanted the independent reader says."""
+    calls = {
+        "canon": (library.golly_canon_canon, commands.canon),
+        "show": (library.golly_canon_show, commands.show),
+        "to_rle": (library.golly_canon_to_rle, commands.convert_to_rle),
+        "step": (library.golly_canon_step, commands.step),
+    }
+    names = list(WORKED)
+    rows = []
+    for name, file in WORKED.items():
+        rows.extend((f"{word} of {name}", call, file, wanted(commands.File(file))) for word, (call, wanted) in calls.items())
+    for name, other in zip(names, names[1:] + names[:1]):
+        answer = commands.same(commands.File(WORKED[name]), commands.File(WORKED[other]))
+        rows.append((f"same of {name} and {other}", compared_with(WORKED[other]), WORKED[name], answer))
+    for name, (file, table) in STEPPED.items():
+        rows.append((f"step_by_table of {name}", stepped_by(table), file, commands.step(commands.File(file), commands.File(table))))
+    for what, call, file, answer in rows:
+        if answer.status < 2:
+            first = first_limit(call, file, answer.output)
+            check(first is not None and (first > 0 or what.endswith(BLANK)), f"each limit: {what}: {first}")
+
+
 def of_program(program, words, file):
     run = subprocess.run([program, *words], input=file, capture_output=True, check=False)
     return run.stdout, run.stderr.decode()
@@ -65,6 +147,8 @@ def main(program, folder):
     check(text_of(library.golly_canon_canon, files["child"])[1] == "line 4: BadChild\n", "the line of a refusal")
     check(text_of(library.golly_canon_canon, files["glider.mc"], 0)[1] == "Full\n", "a limit of 0")
     check(text_of(library.golly_canon_canon, files["glider.mc"], 2**64 - 1)[0] != b"", "the greatest limit")
+
+    check_limits()
 
     # Two threads at once: ctypes lets go of the interpreter while a call runs.
     wanted = {name: text_of(library.golly_canon_canon, file) for name, file in files.items()}

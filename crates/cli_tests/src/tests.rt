@@ -2,6 +2,7 @@
 
 mod canon;
 mod devices;
+mod failures;
 mod pieces;
 mod plans;
 mod refusals;

@@ -39,7 +39,7 @@ pub enum Kind {
     SecondHeader,
     /// A macrocell line that is neither a leaf nor five numbers.
     BadNode,
-    /// A level of 0, or above the greatest.
+    /// A level of a node line of 0, or above 62 (`MAX_LEVEL`), with any number of digits.
     BadLevel,
     /// A child that is no earlier line, or whose level isn't one less.
     BadChild,
@@ -49,13 +49,13 @@ pub enum Kind {
     Timeline,
     /// A line of more than 2^20 bytes.
     LineTooLong,
-    /// A new node was needed, and the store holds as many as it may.
+    /// A new square was needed, and the store holds as many as it may.
     Full,
     /// Memory was refused.
     Memory,
     /// A reader that has refused was used again.
     Spent,
-    /// A rule file without its first line `@RULE` and a name.
+    /// The first line of a rule file that is neither blank nor begins with `#` isn't `@RULE` and a name, or there is none.
     NoRuleLine,
     /// A rule file without a line `@TABLE`.
     NoTable,

@@ -1,6 +1,6 @@
 //! Squares of one level side by side.
 ghost use Rattle.std.specs.Prelude.{◌≡◌, ℕ, ℤ, ◌+◌, ◌^◌, ◌≤◌, true};
-ghost use Rattle.life_block.specs.Pieces.{IsAt, InThree, InNine, InFour, InSixteen, AreThree, AreNine, AreFour, AreSixteen, ahead, four_of, western as western_of, eastern as eastern_of, north_west_of, north_east_of, south_west_of, south_east_of, at_north_west, at_north_east, at_south_west, at_south_east};
+ghost use Rattle.life_block.specs.Pieces.{IsAt, InThree, InNine, InFour, InSixteen, AreThree, AreNine, AreFour, AreSixteen, ahead, four_of, western, eastern, north_west_of, north_east_of, south_west_of, south_east_of, at_north_west, at_north_east, at_south_west, at_south_east};
 
 use life_quad::{Id, Quarters, Squares, divide};
 
@@ -140,7 +140,7 @@ impl Four {
 
     /// The three western ones.
     fn western(&self) -> Three
-        ensures { result ≡ western_of self.now }
+        ensures { result ≡ western self.now }
     {
         Three {
             west: self.far_west,
@@ -151,7 +151,7 @@ impl Four {
 
     /// The three eastern ones.
     fn eastern(&self) -> Three
-        ensures { result ≡ eastern_of self.now }
+        ensures { result ≡ eastern self.now }
     {
         Three {
             west: self.west,

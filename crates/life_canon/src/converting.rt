@@ -23,7 +23,8 @@ const MOST_CELLS: u64 = 1 << 20;
 ///
 /// # Errors
 ///
-/// The place and the kind of the file's fault, `Full` where the store holds its limit, or `Memory`.
+/// The place and the kind of the file's fault, `Full` where the store holds its limit, or `Memory`. After a fault too each Id of the
+/// store names the square that it named, and nothing stored is gone.
 pub fn canon(alloc: Global, store: &mut Shared, bytes: &[u8]) -> Result<Vec<u8>, Fault>
     ensures text { IfOk result (λ text. IsCanonical MAX_LEVEL bytes.now text.items) }
     ensures least { IfOk result (λ text. IsLeastText MAX_LEVEL bytes.now text.items) }
@@ -54,7 +55,7 @@ pub fn rle_of(alloc: Global, store: &Shared, pattern: &Pattern) -> Result<Vec<u8
 ///
 /// # Errors
 ///
-/// `TooManyCells` where more than 2^20 cells aren't 0, and those of `canon`.
+/// Those of `canon`, and `TooManyCells`, at no line, where more than 2^20 cells aren't 0. The store keeps what it has as there.
 pub fn to_rle(alloc: Global, store: &mut Shared, bytes: &[u8]) -> Result<Vec<u8>, Fault>
     ensures text { IfOk result (λ text. IsRleOf MAX_LEVEL (2 ^ 20) bytes.now text.items) }
     ensures same { IfOk result (λ text. Same MAX_LEVEL bytes.now text.items) }

@@ -1,6 +1,6 @@
 //! Squares of a store, made from node lines.
 
-ghost use Rattle.std.specs.Prelude.{◌≡◌, ◌⊎◌, ℕ, ◌+◌, ◌-◌, ◌^◌, ◌<◌, ◌≤◌, length, Contains, Err, IfOk, IfErr, max};
+ghost use Rattle.std.specs.Prelude.{◌≡◌, ◌⊎◌, ℕ, ◌+◌, ◌-◌, ◌^◌, ◌<◌, ◌≤◌, length, Contains, Err, IfSome, IfOk, IfErr, max};
 ghost use Rattle.life_base.specs.declared.kind.Kind.TheVariants.{Full, Memory};
 ghost use Rattle.life_base.specs.declared.rule.Rule.{Rule as RuleValue};
 ghost use Rattle.life_base.specs.Tree.{Tree, depth, tree_cell};
@@ -8,6 +8,7 @@ ghost use Rattle.life_mc.specs.Cells.{leaf_cell};
 ghost use Rattle.life_mc.specs.Macrocell.{level_of, IsSquare, is_quarter};
 ghost use Rattle.life_mc.specs.Squares.{tree_at, tree_of, line_tree};
 ghost use Rattle.life_mc.specs.declared.line.Line.{Line as LineValue};
+ghost use Rattle.life_quad.specs.Store.{two, four};
 ghost use Rattle.life_quad.specs.declared.id.Id.{Id as IdValue};
 ghost use Rattle.life_canon.specs.Filling.{AreSquaresOf};
 ghost use Rattle.std.specs.Prelude.{List, map, true, ℤ};
@@ -45,6 +46,48 @@ fn four_cells<S: Squares>(squares: &mut S, rows: &[u8; 8], column: u8, row: u8) 
     squares.join(nw, ne, sw, se)
 }
 
+/// The cells of the square of level 1 whose north-west cell stands in this column and row of a leaf: a bit each, the north-west one the
+/// highest.
+fn four_bits(rows: &[u8; 8], column: u8, row: u8) -> u16
+    requires column { column < 7 }
+    requires row { row < 7 }
+    ensures square { two result ≡ tree_at (leaf_cell rows.now) 1 column row }
+    ensures small { result < 16 }
+{
+    let north = (rows[row as usize] >> (6 - column)) % 4;
+    let south = (rows[row as usize + 1] >> (6 - column)) % 4;
+    u16::from(4 * north + south)
+}
+
+/// The cells of the square of level 2 whose north-west cell stands in this column and row of a leaf, as `Squares::find_small` takes them.
+fn sixteen_bits(rows: &[u8; 8], column: u8, row: u8) -> u16
+    requires column { column < 5 }
+    requires row { row < 5 }
+    ensures { four result ≡ tree_at (leaf_cell rows.now) 2 column row }
+{
+    let nw = four_bits(rows, column, row);
+    let ne = four_bits(rows, column + 2, row);
+    let sw = four_bits(rows, column, row + 2);
+    let se = four_bits(rows, column + 2, row + 2);
+    4096 * nw + 256 * ne + 16 * sw + se
+}
+
+/// The square of a level whose north-west cell stands in this column and row of a leaf, where it is one of level 2 that the store finds by its
+/// cells.
+fn found_part<S: Squares>(squares: &S, rows: &[u8; 8], level: u8, column: u8, row: u8) -> Option<Id>
+    requires columns { column + 2 ^ level ≤ 8 }
+    requires rows { row + 2 ^ level ≤ 8 }
+    ensures known { IfSome result (S.knows squares.now) }
+    ensures square { IfSome result (λ id. S.content squares.now id ≡ tree_at (leaf_cell rows.now) level column row) }
+    ensures level { IfSome result (λ id. depth (S.content squares.now id) ≡ level) }
+{
+    if level == 2 {
+        squares.find_small(sixteen_bits(rows, column, row))
+    } else {
+        None
+    }
+}
+
 #[tactic(auto, using(crate::proofs::FillFacts::halves))]
 /// The square of a level, 3 at most, whose north-west cell stands in this column and row of a leaf.
 fn leaf_part<S: Squares>(
@@ -71,6 +114,9 @@ fn leaf_part<S: Squares>(
     }
     if level == 1 {
         return four_cells(squares, rows, column, row);
+    }
+    if let Some(id) = found_part(squares, rows, level, column, row) {
+        return Ok(id);
     }
     let half = 1 << (level - 1);
     let nw = leaf_part(squares, rows, level - 1, column, row)?;

@@ -1,9 +1,10 @@
 //! The rows of a leaf's cells, each cell looked up once.
 
 ghost use Rattle.std.specs.Prelude.{◌≡◌, ◌+◌, ◌*◌, ◌<◌, ◌∷◌, [], ℕ, slice_index};
-ghost use Rattle.life_base.specs.Tree.{depth, state_at as state_in};
+ghost use Rattle.life_base.specs.Tree.{depth, state_at};
 ghost use Rattle.life_mc.specs.Squares.{HasStatesUpTo};
 ghost use Rattle.life_canon.specs.Listing.{rows_of};
+ghost use Rattle.life_quad.specs.Store.{four};
 ghost use Rattle.life_canon.specs.Rows.{row_of_two, row_of_four};
 
 use life_quad::{Id, Quarters, Squares, divide};
@@ -13,7 +14,7 @@ fn bit<S: Squares>(squares: &S, id: Id) -> u8
     requires known { S.knows squares.now id }
     requires level { depth (S.content squares.now id) ≡ 0 }
     requires states { HasStatesUpTo 1 (S.content squares.now id) }
-    ensures state { result ≡ state_in (S.content squares.now id) 0 0 }
+    ensures state { result ≡ state_at (S.content squares.now id) 0 0 }
     ensures bit { result < 2 }
 {
     squares.state(id).unwrap_or(0)
@@ -34,6 +35,23 @@ fn two_rows<S: Squares>(squares: &S, id: Id) -> [u8; 2]
     ]
 }
 
+/// The four rows of the square of level 2 with these cells, as `Squares::small_cells` tells them.
+fn rows_of_cells(cells: u16) -> [u8; 4]
+    ensures rows { result ≡ row_of_four (four cells) 0 ∷ row_of_four (four cells) 1 ∷ row_of_four (four cells) 2 ∷ row_of_four (four cells) 3 ∷ [] }
+    ensures small { (y : ℕ) → slice_index result y < 16 }
+{
+    let nw = (cells / 4096) as u8;
+    let ne = (cells / 256 % 16) as u8;
+    let sw = (cells / 16 % 16) as u8;
+    let se = (cells % 16) as u8;
+    [
+        nw / 4 * 4 + ne / 4,
+        nw % 4 * 4 + ne % 4,
+        sw / 4 * 4 + se / 4,
+        sw % 4 * 4 + se % 4,
+    ]
+}
+
 /// The four rows of a square of level 2.
 fn four_rows<S: Squares>(squares: &S, id: Id) -> [u8; 4]
     requires known { S.knows squares.now id }
@@ -42,6 +60,9 @@ fn four_rows<S: Squares>(squares: &S, id: Id) -> [u8; 4]
     ensures rows { result ≡ row_of_four (S.content squares.now id) 0 ∷ row_of_four (S.content squares.now id) 1 ∷ row_of_four (S.content squares.now id) 2 ∷ row_of_four (S.content squares.now id) 3 ∷ [] }
     ensures small { (y : ℕ) → slice_index result y < 16 }
 {
+    if let Some(cells) = squares.small_cells(id) {
+        return rows_of_cells(cells);
+    }
     let Quarters { nw, ne, sw, se } = divide(squares, id);
     let nw = two_rows(squares, nw);
     let ne = two_rows(squares, ne);

@@ -3,7 +3,7 @@
 ghost use Rattle.std.specs.Prelude.{◌≡◌, ℕ, ◌^◌, ◌<◌, ◌≤◌, Bool, true, false, map, All, IsTrue, IfOk, IfErr, OnOk, IfSome, Some};
 ghost use Rattle.life_base.specs.declared.kind.Kind.TheVariants.{Memory};
 ghost use Rattle.life_base.specs.Tree.{depth, is_blank_tree};
-ghost use Rattle.life_canon.specs.Listing.{is_small as is_small_square, is_in, with_new, with_all, walk, listed as listed_squares, number_of as number_in, place};
+ghost use Rattle.life_canon.specs.Listing.{is_small, is_in, with_new, with_all, walk, listed, number_of, place};
 ghost use Rattle.life_canon.specs.Closed.{IsClosed};
 
 use life_base::Kind;
@@ -14,7 +14,7 @@ use std::alloc::Global;
 fn is_small<S: Squares>(squares: &S, least: u8, level: u8, id: Id) -> bool
     requires known { S.knows squares.now id }
     requires level { level ≡ depth (S.content squares.now id) }
-    ensures { result ≡ is_small_square least (S.content squares.now id) }
+    ensures { result ≡ is_small least (S.content squares.now id) }
 {
     level < least || is_blank_at(squares, level, id)
 }
@@ -83,7 +83,7 @@ pub(crate) fn listed<S: SharedSquares>(
 ) -> Result<IdList, Kind>
     requires least { 1 ≤ least }
     requires id { S.knows squares.now id }
-    ensures listed { IfOk result (λ known. map (S.content squares.now) known ≡ listed_squares (S.content squares.now id) least) }
+    ensures listed { IfOk result (λ known. map (S.content squares.now) known ≡ listed (S.content squares.now id) least) }
     ensures known { IfOk result (λ known. All (S.knows squares.now) known) }
     ensures kind { IfErr result (λ kind. kind ≡ Memory) }
 {
@@ -109,7 +109,7 @@ pub(crate) fn number_of<S: SharedSquares>(squares: &S, known: &IdList, id: Id) -
     requires id { S.knows squares.now id }
     requires known { All (S.knows squares.now) known.now }
     requires there { 1 ≤ depth (S.content squares.now id) → is_blank_tree (S.content squares.now id) ≡ false → is_in (map (S.content squares.now) known.now) (S.content squares.now id) ≡ true }
-    ensures { result ≡ number_in (map (S.content squares.now) known.now) (S.content squares.now id) }
+    ensures { result ≡ number_of (map (S.content squares.now) known.now) (S.content squares.now id) }
 {
     if let Some(state) = squares.state(id) {
         return u64::from(state);

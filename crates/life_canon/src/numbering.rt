@@ -8,8 +8,8 @@ ghost use Rattle.life_mc.specs.declared.line.Line.TheVariants.{Leaf};
 ghost use Rattle.life_mc.specs.Squares.{HasStatesUpTo};
 ghost use Rattle.life_mc.specs.Macrocell.{largest_state};
 ghost use Rattle.life_mc.specs.Cells.{node_lines};
-ghost use Rattle.life_canon.specs.Universe.{is_life, least_level as least_level_of};
-ghost use Rattle.life_canon.specs.Listing.{rows_of, is_in, listed as listed_squares, line_of as line_for, lines_for, square_file, canonical_file};
+ghost use Rattle.life_canon.specs.Universe.{is_life, least_level};
+ghost use Rattle.life_canon.specs.Listing.{rows_of, is_in, line_of, lines_for, square_file, canonical_file};
 ghost use Rattle.life_canon.specs.Least.{IsLeast};
 ghost use Rattle.life_canon.specs.Store.{IsTrimmed, universe_in, IsListed};
 
@@ -46,7 +46,7 @@ pub(crate) fn line_of<S: SharedSquares>(squares: &S, rule: &Rule, known: &IdList
     requires id { S.knows squares.now id }
     requires known { All (S.knows squares.now) known.now }
     requires listed { IsListed rule.now (map (S.content squares.now) known.now) (S.content squares.now id) }
-    ensures { result ≡ line_for rule.now (map (S.content squares.now) known.now) (S.content squares.now id) }
+    ensures { result ≡ line_of rule.now (map (S.content squares.now) known.now) (S.content squares.now id) }
 {
     let level = squares.level(id);
     if is_leaf(rule, level) {
@@ -63,7 +63,7 @@ pub(crate) fn line_of<S: SharedSquares>(squares: &S, rule: &Rule, known: &IdList
 }
 
 /// The node lines of the squares of the list, in its order.
-fn lines_of<S: SharedSquares>(
+fn lines_for<S: SharedSquares>(
     alloc: Global,
     squares: &S,
     rule: &Rule,
@@ -85,12 +85,12 @@ fn lines_of<S: SharedSquares>(
 fn numbered<S: SharedSquares>(alloc: Global, squares: &S, pattern: &Pattern) -> Result<McFile, Kind>
     requires known { S.knows squares.now pattern.now.root }
     requires states { HasStatesUpTo (largest_state pattern.now.rule) (S.content squares.now pattern.now.root) }
-    requires level { least_level_of pattern.now.rule ≤ depth (S.content squares.now pattern.now.root) }
+    requires level { least_level pattern.now.rule ≤ depth (S.content squares.now pattern.now.root) }
     ensures file { IfOk result (λ file. file ≡ square_file pattern.now.rule pattern.now.generation (S.content squares.now pattern.now.root)) }
     ensures kind { IfErr result (λ kind. kind ≡ Memory) }
 {
     let known = listed(alloc, squares, least_level(&pattern.rule), pattern.root)?;
-    let lines = lines_of(alloc, squares, &pattern.rule, &known)?;
+    let lines = lines_for(alloc, squares, &pattern.rule, &known)?;
     Ok(McFile {
         rule: pattern.rule.copy(alloc)?,
         generation: pattern.generation,

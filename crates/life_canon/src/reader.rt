@@ -55,7 +55,7 @@ impl Reader {
     /// # Errors
     ///
     /// The fault of a line that ends in this piece, or `LineTooLong` where the line's byte 2^20 + 1 comes in it; `Full` or `Memory`.
-    /// After an error each later call answers `Spent`.
+    /// After an error each later call answers `Spent`, and each Id of the store names the square that it named.
     pub fn feed(&mut self, store: &mut Shared, piece: &[u8]) -> Result<(), Fault>
         requires { self.old.spent ≡ false → Stands store.old self.old }
         ensures bytes { OnOk result (self.new.bytes ≡ self.old.bytes ++ piece.now) }
@@ -86,7 +86,7 @@ impl Reader {
     /// # Errors
     ///
     /// The fault of the last line where no line feed ends it, or `NoHeader` where the file lacks a header; `Full` or `Memory`;
-    /// `Spent` after an error of `feed`.
+    /// `Spent` after an error of `feed`. After an error too each Id of the store names the square that it named.
     pub fn finish(self, store: &mut Shared) -> Result<Pattern, Fault>
         requires { self.spent ≡ false → Stands store.old self }
         ensures pattern { IfOk result (λ pattern. (self.spent ≡ false) × IsRead MAX_LEVEL self.bytes store.new pattern) }

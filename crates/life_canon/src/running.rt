@@ -94,7 +94,8 @@ fn read_source<R: Source>(
 /// # Errors
 ///
 /// `ReadFault` where a read fails and `InputTooLong` where more than 2^30 bytes come, also behind a refused line; the fault of the file,
-/// once all of it was read; `Full` where the store holds its limit, and `Memory`, at once.
+/// once all of it was read; `Full` where the store holds its limit, and `Memory`, at once. After a fault too each Id of the store names the
+/// square that it named, and nothing stored is gone.
 pub fn read_from<R: Source>(
     alloc: Global,
     store: &mut Shared,
@@ -117,6 +118,7 @@ pub fn read_from<R: Source>(
 ///
 /// `ReadFault` where a read fails and `InputTooLong` where more than `most` bytes come, also behind a refused line; the fault of the
 /// file; `Full` where the store holds its limit, and `Memory`; `WriteFault` where a write or the flush fails, or a write takes no bytes.
+/// After a `WriteFault` the sink has a front of the text, after every other fault it is as it was. The store keeps what it has in each case.
 pub fn run_canon_within<R: Source, W: Sink>(
     alloc: Global,
     store: &mut Shared,
@@ -146,6 +148,10 @@ pub fn run_canon_within<R: Source, W: Sink>(
 
 /// Reads to the end of the input, then writes the canonical text of its pattern and flushes, as `run_canon_within` with at most 2^30
 /// bytes.
+///
+/// # Errors
+///
+/// Those of `run_canon_within`, which leave the sink and the store as there.
 pub fn run_canon<R: Source, W: Sink>(
     alloc: Global,
     store: &mut Shared,

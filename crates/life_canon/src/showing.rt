@@ -6,7 +6,7 @@ ghost use Rattle.life_base.specs.Refusal.{fault_of};
 ghost use Rattle.life_base.specs.Rules.{rule_text};
 ghost use Rattle.life_base.specs.declared.kind.Kind.TheVariants.{Memory};
 ghost use Rattle.life_base.specs.Tree.{depth, is_blank_tree};
-ghost use Rattle.life_quad.specs.Cells.{population as population_of, IsLeastBox};
+ghost use Rattle.life_quad.specs.Cells.{population, IsLeastBox};
 ghost use Rattle.life_quad.specs.declared.extent.Bounds.{Bounds as BoundsValue};
 ghost use Rattle.std.specs.Prelude.{Option, List, ℕ, true};
 ghost use Rattle.life_rle.specs.Written.{span};
@@ -102,7 +102,7 @@ fn five_lines(alloc: Global, store: &Shared, pattern: &Pattern) -> Result<Vec<u8
     requires trimmed { IsTrimmed store.now pattern.now }
     requires level { 1 ≤ depth (content store.now pattern.now.root) }
     ensures text { IfOk result (λ text. (box : Option BoundsValue) × MatchOption box (is_blank_tree (content store.now pattern.now.root) ≡ true) (IsLeastBox (content store.now pattern.now.root))
-        × (text.items ≡ show_text pattern.now.rule pattern.now.generation (population_of (content store.now pattern.now.root)) box (node_lines (canonical_file MAX_LEVEL (universe_in store.now pattern.now))))) }
+        × (text.items ≡ show_text pattern.now.rule pattern.now.generation (population (content store.now pattern.now.root)) box (node_lines (canonical_file MAX_LEVEL (universe_in store.now pattern.now))))) }
     ensures kind { IfErr result (λ kind. kind ≡ Memory) }
 {
     let nodes = line_count(alloc, store, pattern)?;
@@ -127,10 +127,7 @@ pub fn five_lines_of(alloc: Global, store: &Shared, pattern: &Pattern) -> Result
     ensures text { IfOk result (λ text. (bytes : List ℕ) → IsRead MAX_LEVEL bytes store.now pattern.now → IsShown MAX_LEVEL bytes text.items) }
     ensures memory { IfErr result (λ fault. fault ≡ fault_of Memory) }
 {
-    match five_lines(alloc, store, pattern) {
-        Ok(text) => Ok(text),
-        Err(kind) => Err(Fault::of(kind)),
-    }
+    Ok(five_lines(alloc, store, pattern)?)
 }
 
 /// Five lines on the pattern of a file of either format: its rule, its generation, how many cells aren't 0, their least box, and how
@@ -138,7 +135,7 @@ pub fn five_lines_of(alloc: Global, store: &Shared, pattern: &Pattern) -> Result
 ///
 /// # Errors
 ///
-/// Those of `canon`.
+/// Those of `canon`. The store keeps what it has as there.
 pub fn show(alloc: Global, store: &mut Shared, bytes: &[u8]) -> Result<Vec<u8>, Fault>
     ensures text { IfOk result (λ text. IsShown MAX_LEVEL bytes.now text.items) }
     ensures fault { IfErr result (λ fault. RefusesIn MAX_LEVEL bytes.now store.new fault) }

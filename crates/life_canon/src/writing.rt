@@ -7,7 +7,7 @@ ghost use Rattle.life_base.specs.Tree.{Tree, depth};
 ghost use Rattle.life_mc.specs.Macrocell.{largest_state};
 ghost use Rattle.life_mc.specs.Squares.{HasStatesUpTo};
 ghost use Rattle.life_mc.specs.Writing.{node_text, mc_text};
-ghost use Rattle.life_canon.specs.Universe.{least_level as least_level_of};
+ghost use Rattle.life_canon.specs.Universe.{least_level};
 ghost use Rattle.life_canon.specs.Listing.{lines_for, square_file, canon_text};
 ghost use Rattle.life_canon.specs.Store.{IsTrimmed, universe_in, IsListed};
 
@@ -41,7 +41,7 @@ fn append_lines<S: SharedSquares>(
 fn written<S: SharedSquares>(alloc: Global, squares: &S, pattern: &Pattern) -> Result<Vec<u8>, Kind>
     requires known { S.knows squares.now pattern.now.root }
     requires states { HasStatesUpTo (largest_state pattern.now.rule) (S.content squares.now pattern.now.root) }
-    requires level { least_level_of pattern.now.rule ≤ depth (S.content squares.now pattern.now.root) }
+    requires level { least_level pattern.now.rule ≤ depth (S.content squares.now pattern.now.root) }
     ensures text { IfOk result (λ text. text.items ≡ mc_text (square_file pattern.now.rule pattern.now.generation (S.content squares.now pattern.now.root))) }
     ensures kind { IfErr result (λ kind. kind ≡ Memory) }
 {

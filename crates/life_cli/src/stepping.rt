@@ -17,7 +17,7 @@ use life_table::{Table, read_table};
 use std::alloc::Global;
 
 /// The most bytes of a rule table.
-const LONGEST_INPUT: u64 = 1 << 30;
+const LONGEST_TABLE: u64 = 1 << 30;
 
 /// The text of the next generation of a source's pattern, under its B/S rule.
 fn next_of<A: Source>(alloc: Global, first: &mut A) -> Result<Vec<u8>, Fault>
@@ -50,7 +50,7 @@ fn read_whole<R: Source>(alloc: Global, reader: &mut R) -> Result<Vec<u8>, Fault
     ensures err { IfErr result (λ fault. InputRefuses (source_run R.remaining R.failures reader.old reader.new) fault ⊎ (fault ≡ fault_of Kind.Memory)) }
     ensures told { R.failures reader.new ≡ 1 → IsErrAnd result (λ fault. fault.kind ≡ Kind.ReadFault) }
 {
-    Ok(read_within(alloc, reader, LONGEST_INPUT)?)
+    Ok(read_within(alloc, reader, LONGEST_TABLE)?)
 }
 
 /// The rule table of a source.

@@ -3,7 +3,7 @@
 ghost use Rattle.std.specs.Prelude.{◌≡◌, ◌⊎◌, true, IfErr, OnErr};
 ghost use Rattle.life_base.specs.DeviceRuns.{sink_run};
 ghost use Rattle.life_base.specs.Writing.{WritesText};
-ghost use Rattle.life_cli.specs.Faults.{fault_line, is_of_table as is_of_table_by, line_word, status_of, Tells};
+ghost use Rattle.life_cli.specs.Faults.{fault_line, is_of_table, line_word, status_of, Tells};
 
 use itoa::Buffer;
 use life_base::{Fault, Kind, Sink, write_texts};
@@ -33,7 +33,7 @@ impl From<Fault> for Refusal {
 
 /// Whether a line of this kind of fault is one of a rule table, where `in_table` tells whether the table was being read.
 fn is_of_table(in_table: bool, kind: Kind) -> bool
-    ensures { result ≡ is_of_table_by in_table kind }
+    ensures { result ≡ is_of_table in_table kind }
 {
     match kind {
         Kind::NoRuleLine

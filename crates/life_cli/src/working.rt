@@ -16,7 +16,7 @@ use crate::stepping::{run_step, run_step_table};
 use crate::telling::{Refusal, status, tell};
 use life_base::{Fault, Kind, MAX_LEVEL, Sink, Source, deliver};
 use life_canon::laws::{patterns_stay, patterns_tell_files, refusals_have_kinds};
-use life_canon::{Pattern, are_same, five_lines_of, read_from, run_canon};
+use life_canon::{Pattern, are_same, five_lines_of, read_from, rle_of, run_canon};
 use life_quad::Shared;
 use std::alloc::Global;
 
@@ -34,15 +34,12 @@ pub(crate) fn write_whole<W: Sink>(writer: &mut W, text: &[u8]) -> Result<(), Re
 {
     match deliver(writer, text) {
         Ok(()) => Ok(()),
-        Err(kind) => Err(Refusal {
-            fault: Fault::of(kind),
-            in_table: false,
-        }),
+        Err(kind) => Err(Fault::of(kind).into()),
     }
 }
 
-/// The text of a source's pattern in extended RLE.
-fn rle_of<A: Source>(alloc: Global, first: &mut A) -> Result<Vec<u8>, Fault>
+/// The text in extended RLE of a source's pattern.
+fn rle_of_source<A: Source>(alloc: Global, first: &mut A) -> Result<Vec<u8>, Fault>
     requires { A.failures first.old ≡ 0 }
     ensures ok { IfOk result (λ text. HasText (IsRleOf MAX_LEVEL (2 ^ 20)) (source_run A.remaining A.failures first.old first.new) text.items) }
     ensures err { IfErr result (HasNoText RefusesRle (source_run A.remaining A.failures first.old first.new)) }
@@ -50,11 +47,11 @@ fn rle_of<A: Source>(alloc: Global, first: &mut A) -> Result<Vec<u8>, Fault>
 {
     let mut store = Shared::new(alloc, MOST_SQUARES);
     let pattern = read_from(alloc, &mut store, first)?;
-    life_canon::rle_of(alloc, &store, &pattern)
+    rle_of(alloc, &store, &pattern)
 }
 
 /// The five lines of a source's pattern.
-fn lines_of<A: Source>(alloc: Global, first: &mut A) -> Result<Vec<u8>, Fault>
+fn five_lines_of_source<A: Source>(alloc: Global, first: &mut A) -> Result<Vec<u8>, Fault>
     requires { A.failures first.old ≡ 0 }
     ensures ok { IfOk result (λ text. HasText (IsShown MAX_LEVEL) (source_run A.remaining A.failures first.old first.new) text.items) }
     ensures err { IfErr result (HasNoText (Refuses MAX_LEVEL) (source_run A.remaining A.failures first.old first.new)) }
@@ -157,7 +154,7 @@ fn run_rle<A: Source, O: Sink>(alloc: Global, first: &mut A, out: &mut O) -> Res
     ensures read_told { A.failures first.new ≡ 1 → IsErrAnd result (λ refusal. refusal.fault.kind ≡ Kind.ReadFault) }
     ensures write_told { (O.failures out.new ≡ 1) ⊎ (O.stalled out.new ≡ true) → IsErrAnd result (λ refusal. refusal.fault.kind ≡ Kind.WriteFault) }
 {
-    let text = rle_of(alloc, first)?;
+    let text = rle_of_source(alloc, first)?;
     write_whole(out, text.as_slice())?;
     Ok(0)
 }
@@ -177,13 +174,13 @@ fn run_show<A: Source, O: Sink>(alloc: Global, first: &mut A, out: &mut O) -> Re
     ensures read_told { A.failures first.new ≡ 1 → IsErrAnd result (λ refusal. refusal.fault.kind ≡ Kind.ReadFault) }
     ensures write_told { (O.failures out.new ≡ 1) ⊎ (O.stalled out.new ≡ true) → IsErrAnd result (λ refusal. refusal.fault.kind ≡ Kind.WriteFault) }
 {
-    let text = lines_of(alloc, first)?;
+    let text = five_lines_of_source(alloc, first)?;
     write_whole(out, text.as_slice())?;
     Ok(0)
 }
 
 /// The line of a comparison.
-fn line_of(is_same: bool) -> &'static [u8]
+fn answer_line(is_same: bool) -> &'static [u8]
     ensures { result.now ≡ (if is_same then codes "same\n" else codes "different\n") }
 {
     if is_same { b"same\n" } else { b"different\n" }
@@ -211,7 +208,7 @@ fn run_same<A: Source, B: Source, O: Sink>(
     ensures write_told { (O.failures out.new ≡ 1) ⊎ (O.stalled out.new ≡ true) → IsErrAnd result (λ refusal. refusal.fault.kind ≡ Kind.WriteFault) }
 {
     let is_same = compared(alloc, first, second)?;
-    write_whole(out, line_of(is_same))?;
+    write_whole(out, answer_line(is_same))?;
     Ok(if is_same { 0 } else { 1 })
 }
 

@@ -1,8 +1,8 @@
 //! One node line.
 
 ghost use Rattle.std.specs.Prelude.{◌≡◌, ◌<◌, ◌≤◌, ◌-◌, ◌^◌, ◌∷◌, [], ℕ, length, Some, None, MatchResult, slice_index, true};
-ghost use Rattle.life_mc.specs.Macrocell.{largest_state as greatest_state, is_child as names_child, is_quarter as stands_for_quarter};
-ghost use Rattle.life_mc.specs.Reading.{broken_by_square, broken_by_node, is_leaf_byte as begins_leaf, square_of};
+ghost use Rattle.life_mc.specs.Macrocell.{largest_state, is_child, is_quarter};
+ghost use Rattle.life_mc.specs.Reading.{broken_by_square, broken_by_node, is_leaf_byte, square_of};
 ghost use Rattle.life_mc.specs.declared.line.Line.TheVariants.{Quad};
 ghost use Rattle.std.specs.List.{list_all};
 
@@ -13,7 +13,7 @@ use life_base::{Kind, MAX_LEVEL, Rule};
 
 /// The greatest state under a rule.
 fn largest_state(rule: &Rule) -> u64
-    ensures { result ≡ greatest_state rule.now }
+    ensures { result ≡ largest_state rule.now }
 {
     match rule {
         Rule::Life(_) => 1,
@@ -23,7 +23,7 @@ fn largest_state(rule: &Rule) -> u64
 
 /// Whether a number is 0 or that of an earlier square of this level.
 fn is_child(levels: &[u8], level: u8, number: u64) -> bool
-    ensures { result ≡ names_child levels.now level number }
+    ensures { result ≡ is_child levels.now level number }
 {
     if number == 0 {
         return true;
@@ -37,7 +37,7 @@ fn is_child(levels: &[u8], level: u8, number: u64) -> bool
 /// Whether a number may stand for a quarter of a square of this level.
 fn is_quarter(rule: &Rule, levels: &[u8], level: u8, number: u64) -> bool
     requires { 1 ≤ level }
-    ensures { result ≡ stands_for_quarter rule.now levels.now level number }
+    ensures { result ≡ is_quarter rule.now levels.now level number }
 {
     if level == 1 {
         number <= largest_state(rule)
@@ -49,7 +49,7 @@ fn is_quarter(rule: &Rule, levels: &[u8], level: u8, number: u64) -> bool
 /// Whether four numbers may stand for the quarters of a square of this level.
 fn are_quarters(rule: &Rule, levels: &[u8], level: u8, numbers: Numbers) -> bool
     requires { 1 ≤ level }
-    ensures { result ≡ list_all (stands_for_quarter rule.now levels.now level) (numbers.nw ∷ numbers.ne ∷ numbers.sw ∷ numbers.se ∷ []) }
+    ensures { result ≡ list_all (is_quarter rule.now levels.now level) (numbers.nw ∷ numbers.ne ∷ numbers.sw ∷ numbers.se ∷ []) }
 {
     is_quarter(rule, levels, level, numbers.nw)
         && is_quarter(rule, levels, level, numbers.ne)
@@ -85,7 +85,7 @@ fn square_of_numbers(rule: &Rule, levels: &[u8], numbers: Numbers) -> Result<Lin
 
 /// Whether a node line begins as a leaf.
 fn is_leaf_line(text: &[u8]) -> bool
-    ensures { result ≡ begins_leaf (slice_index text.now 0) }
+    ensures { result ≡ is_leaf_byte (slice_index text.now 0) }
 {
     match text {
         [first, ..] => *first == b'.' || *first == b'*' || *first == b'$',

@@ -2,7 +2,7 @@
 
 ghost use Rattle.std.specs.Prelude.{◌≡◌, ◌∷◌, List, ℕ, true, false, take, MatchOption};
 ghost use Rattle.life_base.specs.Digits.{capped};
-ghost use Rattle.life_base.specs.Text.{is_blank, is_digit_text as has_digits_alone, value_of, words_of, is_empty};
+ghost use Rattle.life_base.specs.Text.{is_blank, is_digit_text, value_of, words_of, is_empty};
 ghost use Rattle.life_mc.specs.Standing.{begins_with_number, quad_words};
 ghost use Rattle.std.specs.Option.{option_map};
 ghost use Rattle.life_mc.specs.declared.line.Line.TheVariants.{Quad};
@@ -32,7 +32,7 @@ fn is_word_end(text: &[u8]) -> bool
 /// The first number of a text and what stands behind it, if the first word is a digit text.
 fn next_number(text: &[u8]) -> Option<(u64, &[u8])>
     ensures { MatchOption result (begins_with_number (words_of text.now) ≡ false)
-        (λ p. (word : List ℕ) × (words_of text.now ≡ word ∷ words_of p.1.now) × (has_digits_alone word ≡ true) × (p.0 ≡ capped (value_of word))) }
+        (λ p. (word : List ℕ) × (words_of text.now ≡ word ∷ words_of p.1.now) × (is_digit_text word ≡ true) × (p.0 ≡ capped (value_of word))) }
 {
     let text = trimmed_start(text);
     let (number, count) = leading_number(text);

@@ -28,9 +28,12 @@ fn take_line(reader: &mut McLines, squares: &mut Vec<Line>, line: &[u8]) -> Resu
     Ok(())
 }
 
-/// What a macrocell file says, or why the bytes are none: the place is the first line behind which they can't be continued to
-/// a file, 1 where there are no lines, and the kind is that of the first rule which that line breaks. Where a growth of memory
-/// is refused the fault is `Memory`, which names no line.
+/// What a macrocell file says.
+///
+/// # Errors
+///
+/// The place is the first line behind which the bytes can't be continued to a file, 1 where there are no lines, and the kind is that of
+/// the first rule which that line breaks. Where a growth of memory is refused the fault is `Memory`, which names no line.
 pub fn read_mc(alloc: Global, bytes: &[u8]) -> Result<McFile, Fault>
     ensures ok { IfOk result (λ file. IsFile MAX_LEVEL (lines_of bytes.now) file) }
     ensures err { IfErr result (λ fault. OrMemory fault (Refuses MAX_LEVEL (lines_of bytes.now) fault)) }

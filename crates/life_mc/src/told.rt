@@ -1,10 +1,10 @@
 //! What one line of a macrocell file tells.
 
 ghost use Rattle.std.specs.Prelude.{◌≡◌, ◌<◌, ◌-◌, ◌^◌, length, None, Some, Err, MatchResult, ◌⊎◌, drop, IfErr};
-ghost use Rattle.life_base.specs.Text.{is_blank as has_whitespace_alone, begins_with as has_front, trim, value_of};
+ghost use Rattle.life_base.specs.Text.{trim, value_of};
 ghost use Rattle.life_base.specs.Numbers.{u64_of};
 ghost use Rattle.life_base.specs.declared.kind.Kind.TheVariants.{Memory};
-ghost use Rattle.life_mc.specs.Reading.{is_command as has_command, fault_in};
+ghost use Rattle.life_mc.specs.Reading.{is_command, fault_in};
 ghost use Rattle.life_mc.specs.Standing.{broken_after, Tells};
 
 use crate::line::Line;
@@ -23,7 +23,7 @@ pub(crate) enum Told {
 
 /// Whether a line is `#` and the letter, followed by whitespace or by its end.
 fn is_command(letter: u8, line: &[u8]) -> bool
-    ensures { result ≡ has_command letter line.now }
+    ensures { result ≡ is_command letter line.now }
 {
     match line {
         [first, second] => *first == b'#' && *second == letter,

@@ -3,7 +3,7 @@
 ghost use Rattle.std.specs.Prelude.{◌≡◌, ◌++◌, ◌∷◌, [], ◌<◌, ◌≤◌, ◌==◌, take, flat_map, decimal, codes, OnOk, IfOk, IfErr, Err};
 ghost use Rattle.life_base.specs.Refusal.{fault_of};
 ghost use Rattle.life_base.specs.declared.kind.Kind.TheVariants.{Memory};
-ghost use Rattle.life_mc.specs.Writing.{mc_text, file_text, front_text, node_text, line_text, row_text, row_cells, generation_text, is_live as is_live_cell, cell_byte as byte_of_cell};
+ghost use Rattle.life_mc.specs.Writing.{mc_text, file_text, front_text, node_text, line_text, row_text, row_cells, generation_text, is_live, cell_byte};
 ghost use Rattle.life_base.specs.Text.{without_last};
 
 use crate::file::McFile;
@@ -14,7 +14,7 @@ use std::alloc::Global;
 /// Whether the cell in a column of a row is live.
 fn is_live(row: u8, column: u8) -> bool
     requires { column < 8 }
-    ensures { result ≡ is_live_cell row column }
+    ensures { result ≡ is_live row column }
 {
     (row >> (7 - column)) & 1 == 1
 }
@@ -22,7 +22,7 @@ fn is_live(row: u8, column: u8) -> bool
 /// The byte for a cell.
 fn cell_byte(row: u8, column: u8) -> u8
     requires { column < 8 }
-    ensures { result ≡ byte_of_cell row column }
+    ensures { result ≡ cell_byte row column }
 {
     if is_live(row, column) { b'*' } else { b'.' }
 }
@@ -114,8 +114,11 @@ fn append_square(out: &mut Vec<u8>, line: &Line) -> Result<(), Kind>
     }
 }
 
-/// Adds the line of a square at the end, ended by a line feed. A refusal, by `Memory` alone, leaves what was there and maybe a part
-/// of the line.
+/// Adds the line of a square at the end, ended by a line feed.
+///
+/// # Errors
+///
+/// `Memory`, and nothing else. What `out` holds then is not promised: drop it.
 pub fn append_line(out: &mut Vec<u8>, line: &Line) -> Result<(), Kind>
     ensures ok { OnOk result (out.new.items ≡ out.old.items ++ node_text line.now) }
     ensures kind { IfErr result (λ kind. kind ≡ Memory) }
@@ -149,8 +152,11 @@ fn append_generation(out: &mut Vec<u8>, generation: u64) -> Result<(), Kind>
     append(out, b"\n")
 }
 
-/// Adds the front of a file at the end: the header, the rule, and the generation if it isn't 0, each line ended by a line feed. A
-/// refusal, by `Memory` alone, leaves what was there and maybe a part of the front.
+/// Adds the front of a file at the end: the header, the rule, and the generation if it isn't 0, each line ended by a line feed.
+///
+/// # Errors
+///
+/// `Memory`, and nothing else. What `out` holds then is not promised: drop it.
 pub fn append_front(out: &mut Vec<u8>, rule: &Rule, generation: u64) -> Result<(), Kind>
     ensures ok { OnOk result (out.new.items ≡ out.old.items ++ front_text rule.now generation) }
     ensures kind { IfErr result (λ kind. kind ≡ Memory) }
@@ -171,7 +177,11 @@ fn append_parts(out: &mut Vec<u8>, rule: &Rule, generation: u64, lines: &[Line])
 }
 
 /// The text of a file: the header, the rule, the generation if it isn't 0, and the squares as they stand, each line ended by
-/// a line feed. The one fault is `Memory`.
+/// a line feed.
+///
+/// # Errors
+///
+/// `Memory`, at no line, and nothing else.
 pub fn write_mc(alloc: Global, file: &McFile) -> Result<Vec<u8>, Fault>
     ensures ok { IfOk result (λ out. out.items ≡ mc_text file.now) }
     ensures err { IfErr result (λ fault. fault ≡ fault_of Memory) }

@@ -4,7 +4,7 @@ use Rattle.std.proofs.lemmas.List.Elements.{All-cons, All-nil, Contains-append_l
 use Rattle.std.proofs.lemmas.List.{length-map, get_or-map, map_push}
 use Rattle.std.specs.List.{list_any, position, All, AllPairs}
 use Rattle.std.proofs.lemmas.List.Quantifiers.{position-Some}
-use Rattle.std.specs.Prelude.{◌==◌, if◌then◌else◌, IfOk, IsErr, IsErrAnd, slice_index_or}
+use Rattle.std.specs.Prelude.{if◌then◌else◌, IfOk, IsErr, IsErrAnd}
 use Rattle.indexmap.specs.IndexSet.{insert_key}
 use Rattle.std.proofs.lemmas.Option.{slice_get-get_or, slice_get_within, get_or_from_slice_get}
 use Rattle.std.proofs.lemmas.List.Folds.{list_any_at}
@@ -428,44 +428,52 @@ pub sound_added : (s new : Nodes) (n : Node) → IsSound s → IsShared s → Is
 sound_added s new n h u node large absent room grown =
     subst (λ v. IsSound v × IsShared v) (sym grown) (IsSound-both s n h node room.few, IsShared-both s n u absent large room.limit)
 
--- the marks of the small squares, when another Id is joined
-pub HasSeen-node : (seen : List Bool) (log log' : List ℕ) (k : ℕ) → HasSeen seen log → 66064 ≤ k → log' ≡ log ++ k ∷ [] → HasSeen seen log'
+-- the marks of the small squares, where none was joined
+pub HasSeen-none : (seen : Id → Bool) (log : List ℕ) → ((q : Id) → seen q ≡ false) → log ≡ [] → HasSeen seen log
+HasSeen-none seen log none empty = subst (HasSeen seen) (sym empty) (record {
+  joined = λ k mark. absurd (true≢false (sym mark ∙ none (id_of k)));
+  listed = λ k there low. absurd (omega (arith, there.1));
+})
+
+-- and when another Id is joined
+pub HasSeen-node : (seen : Id → Bool) (log log' : List ℕ) (k : ℕ) → HasSeen seen log → 66064 ≤ k → log' ≡ log ++ k ∷ [] → HasSeen seen log'
 HasSeen-node seen log log' k h high e = subst (HasSeen seen) (sym e) (record {
   joined = λ i mark. Contains-append_left log (k ∷ []) _ (h.joined i mark);
-  listed = λ i there low. by i low (Contains-push_cases log k (512 + i) there);
+  listed = λ i there low. by i low (Contains-push_cases log k i there);
 })
   where
-    by : (i : ℕ) → i < 65552 → Contains log (512 + i) ⊎ (k ≡ 512 + i) → slice_index_or seen i false ≡ true
+    by : (i : ℕ) → i < 66064 → Contains log i ⊎ (k ≡ i) → seen (id_of i) ≡ true
     by i low (inl old) = h.listed i old low
     by i low (inr f) = absurd (omega arith)
 
-pub HasSeen-same : (seen seen' : List Bool) (log : List ℕ) → HasSeen seen log → ((i : ℕ) → slice_index_or seen' i false ≡ slice_index_or seen i false) → HasSeen seen' log
-HasSeen-same seen seen' log h same = record { joined = λ i mark. h.joined i (sym (same i) ∙ mark); listed = λ i there low. same i ∙ h.listed i there low }
+pub HasSeen-same : (seen seen' : Id → Bool) (log : List ℕ) → HasSeen seen log → ((q : Id) → seen' q ≡ seen q) → HasSeen seen' log
+HasSeen-same seen seen' log h same = record { joined = λ i mark. h.joined i (sym (same (id_of i)) ∙ mark); listed = λ i there low. same (id_of i) ∙ h.listed i there low }
 
-pub HasSeen-mark : (seen seen' : List Bool) (log log' : List ℕ) (k index : ℕ) → HasSeen seen log → k ≡ 512 + index
-    → ((i : ℕ) → slice_index_or seen' i false ≡ (if i == index then true else slice_index_or seen i false)) → log' ≡ log ++ k ∷ [] → HasSeen seen' log'
-HasSeen-mark seen seen' log log' k index h e marks grown = subst (HasSeen seen') (sym grown) (record {
-  joined = λ i mark. joined i mark (i == index) refl;
-  listed = λ i there low. marks i ∙ listed i low (i == index) refl (Contains-push_cases log k (512 + i) there);
+same_or_other : (i k : ℕ) → (i ≡ k) ⊎ (i ≢ k)
+same_or_other i k = grind arith
+
+pub HasSeen-mark : (seen seen' : Id → Bool) (log log' : List ℕ) (k : ℕ) → HasSeen seen log → seen' (id_of k) ≡ true
+    → ((q : Id) → q ≢ id_of k → seen' q ≡ seen q) → log' ≡ log ++ k ∷ [] → HasSeen seen' log'
+HasSeen-mark seen seen' log log' k h marked others grown = subst (HasSeen seen') (sym grown) (record {
+  joined = λ i mark. joined i mark (same_or_other i k);
+  listed = λ i there low. listed i low (same_or_other i k) (Contains-push_cases log k i there);
 })
   where
-    joined : (i : ℕ) → slice_index_or seen' i false ≡ true → (b : Bool) → (i == index) ≡ b → Contains (log ++ k ∷ []) (512 + i)
-    joined i mark true f = let same : k ≡ 512 + i = grind arith in subst (Contains (log ++ k ∷ [])) same (Contains-push log k)
-    joined i mark false f = Contains-append_left log (k ∷ []) _ (h.joined i (sym (marks i ∙ ap (λ b. if b then true else slice_index_or seen i false) f) ∙ mark))
+    other : (i : ℕ) → i ≢ k → seen' (id_of i) ≡ seen (id_of i)
+    other i o = others (id_of i) (λ e. o (ap (λ (q : Id). q.0) e))
 
-    listed : (i : ℕ) → i < 65552 → (b : Bool) → (i == index) ≡ b → Contains log (512 + i) ⊎ (k ≡ 512 + i) → (if i == index then true else slice_index_or seen i false) ≡ true
-    listed i low true f there = ap (λ b. if b then true else slice_index_or seen i false) f
-    listed i low false f (inl old) = ap (λ b. if b then true else slice_index_or seen i false) f ∙ h.listed i old low
-    listed i low false f (inr g) = absurd (true≢false (let t : (i == index) ≡ true = grind arith in sym t ∙ f))
+    joined : (i : ℕ) → seen' (id_of i) ≡ true → (i ≡ k) ⊎ (i ≢ k) → Contains (log ++ k ∷ []) i
+    joined i mark (inl f) = subst (Contains (log ++ k ∷ [])) (sym f) (Contains-push log k)
+    joined i mark (inr o) = Contains-append_left log (k ∷ []) _ (h.joined i (sym (other i o) ∙ mark))
 
--- whether a small square was joined, by its mark
-pub seen_joined : (seen : List Bool) (log : List ℕ) (k : ℕ) → HasSeen seen log → 512 ≤ k → slice_index_or seen (k - 512) false ≡ true → Contains log k
-seen_joined seen log k h l mark = let same : 512 + (k - 512) ≡ k = omega arith in subst (Contains log) same (h.joined (k - 512) mark)
+    listed : (i : ℕ) → i < 66064 → (i ≡ k) ⊎ (i ≢ k) → Contains log i ⊎ (k ≡ i) → seen' (id_of i) ≡ true
+    listed i low (inl f) there = ap (λ n. seen' (id_of n)) f ∙ marked
+    listed i low (inr o) (inl old) = other i o ∙ h.listed i old low
+    listed i low (inr o) (inr f) = absurd (o (sym f))
 
-pub unseen : (seen : List Bool) (log : List ℕ) (k : ℕ) → HasSeen seen log → 512 ≤ k → k < 66064 → slice_index_or seen (k - 512) false ≡ false → ¬ Contains log k
-unseen seen log k h l u mark there =
-    let same : k ≡ 512 + (k - 512) = omega arith in
-    true≢false (sym (h.listed (k - 512) (subst (Contains log) same there) (omega arith)) ∙ mark)
+-- no small square without a mark was joined
+pub unseen : (seen : Id → Bool) (log : List ℕ) (k : ℕ) → HasSeen seen log → k < 66064 → seen (id_of k) ≡ false → ¬ Contains log k
+unseen seen log k h low mark there = true≢false (sym (h.listed k there low) ∙ mark)
 
 -- a small square that is marked
 pub small_added : (s new : Nodes) (k : ℕ) → IsSound s → IsShared s → IsSmall s.log (squares s.nodes) k → ¬ Contains s.log k → length s.log < s.limit → new ≡ with_id s k

@@ -1,6 +1,10 @@
 -- Values kept at the numbers of Ids.
-use Rattle.std.proofs.Common.{◌≡◌, ◌⊎◌, inl, inr, sym, subst}
+use Rattle.std.proofs.Common.{◌≡◌, ◌⊎◌, ℕ, inl, inr, ap, sym, subst}
 use Rattle.life_quad.specs.declared.id.Id.{Id}
+
+-- an Id is its number
+pub same_number : (a b : Id) → a.0 ≡ b.0 → a ≡ b
+same_number a b e = let mk : ℕ → Id = λ n. record { 0 = n } in ap mk e
 
 -- what holds of each Id and its value holds after one of them is set, if it holds of that one
 pub after_set : {X : Type 0} (R : Id → X → Type 0) (old new : Id → X) (id : Id) (value : X) → ((q : Id) → R q (old q))

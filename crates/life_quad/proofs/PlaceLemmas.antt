@@ -1,21 +1,22 @@
 -- The table of a list of Ids.
-use Rattle.std.proofs.Common.{◌≡◌, ◌≢◌, ◌↔◌, ℕ, zero, suc, ◌+◌, ◌-◌, ◌<◌, List, [], ◌∷◌, ◌++◌, length, get_or, set, Some, slice_get, ◌⊎◌, inl, inr, refl, ap, sym, ◌∙◌, arith, Contains, IsTrue, not, eqb}
+use Rattle.std.proofs.Common.{◌≡◌, ◌≢◌, ◌↔◌, ℕ, zero, suc, ◌+◌, ◌-◌, ◌<◌, List, [], ◌∷◌, ◌++◌, length, get_or, Some, slice_get, ◌⊎◌, inl, inr, refl, ap, sym, ◌∙◌, arith, Contains, IsTrue, not, eqb}
 use Rattle.std.specs.Prelude.{AllPairs}
 use Rattle.std.proofs.lemmas.List.{get_or_append_left}
 use Rattle.std.proofs.Math.Seq.{get_or-append_seam}
 use Rattle.std.proofs.lemmas.Bool.{false≢true}
 use Rattle.std.proofs.lemmas.Grind.{common_steps}
 use Rattle.std.proofs.lemmas.Option.{slice_get-get_or, slice_get_within, get_or_from_slice_get, same_Some}
-use Rattle.std.proofs.Common.{length-append, get_or-set_other, get_or-set_same}
+use Rattle.std.proofs.Common.{length-append}
 use Rattle.life_quad.specs.declared.id.Id.{Id}
 use Rattle.life_quad.specs.IdList.{HasPlaces}
+use Rattle.life_quad.proofs.MapLemmas.{same_number}
 
 -- an Id has one place
-pub distinct : (ids : List Id) (places : List ℕ) → HasPlaces ids places → AllPairs ◌≢◌ ids
-distinct ids places h = λ i j d l m e.
+pub distinct : (ids : List Id) (place : Id → ℕ) → HasPlaces ids place → AllPairs ◌≢◌ ids
+distinct ids place h = λ i j d l m e.
     let a = h.listed i (get_or ids i d) (slice_get-get_or ids i d (omega arith)) in
     let b = h.listed j (get_or ids j d) (slice_get-get_or ids j d m) in
-    let c : suc i ≡ suc j = sym a ∙ ap (λ (q : Id). get_or places q.0 0) e ∙ b in
+    let c : suc i ≡ suc j = sym a ∙ ap place e ∙ b in
     omega arith
 
 -- a place counted from 1 tells whether an Id is in the list
@@ -24,14 +25,18 @@ pub number_tells : (ids : List Id) (id : Id) (n : ℕ) → (n ≡ 0 → ¬ Conta
 number_tells ids id zero absent there = (λ t. absurd (false≢true t), λ h. absurd (absent refl h))
 number_tells ids id (suc n) absent there = (λ t. let s = there (omega arith) in (suc n - 1, slice_get_within ids _ id s, get_or_from_slice_get ids _ id id s), λ h. grind (arith, common_steps))
 
-same_number : (a b : Id) → a.0 ≡ b.0 → a ≡ b
-same_number a b e = let mk : ℕ → Id = λ n. record { 0 = n } in ap mk e
-
 cases : (i n : ℕ) → i < suc n → (i < n) ⊎ (i ≡ n)
 cases i n h = grind arith
 
-equal : (m n : ℕ) → (m ≡ n) ⊎ (m ≢ n)
-equal m n = grind arith
+equal : (a b : Id) → (a ≡ b) ⊎ (a ≢ b)
+equal a b = by (numbers a.0 b.0)
+  where
+    numbers : (m n : ℕ) → (m ≡ n) ⊎ (m ≢ n)
+    numbers m n = grind arith
+
+    by : (a.0 ≡ b.0) ⊎ (a.0 ≢ b.0) → (a ≡ b) ⊎ (a ≢ b)
+    by (inl e) = inl (same_number a b e)
+    by (inr o) = inr (λ e. o (ap (λ (q : Id). q.0) e))
 
 slice_get-front : (ids : List Id) (id : Id) (i : ℕ) → i < length ids → slice_get (ids ++ id ∷ []) i ≡ slice_get ids i
 slice_get-front ids id i h =
@@ -44,32 +49,30 @@ slice_get-end ids id =
     slice_get-get_or (ids ++ id ∷ []) (length ids) id (omega (arith, length-append ids (id ∷ [])))
     ∙ ap Some (get_or-append_seam ids id [] id)
 
--- one more Id, with the next place at its number
-pub one_more : (ids : List Id) (old places : List ℕ) (id : Id) (place : ℕ) → HasPlaces ids old → ((n : ℕ) → get_or places n 0 ≡ get_or old n 0) → id.0 < length places
-    → ¬ Contains ids id → place ≡ length ids + 1 → HasPlaces (ids ++ id ∷ []) (set places id.0 place)
-one_more ids old places id place h same room new is = record {
+-- one more Id, with the next place
+pub one_more : (ids : List Id) (old new : Id → ℕ) (id : Id) (place : ℕ) → HasPlaces ids old → new id ≡ place → ((q : Id) → q ≢ id → new q ≡ old q)
+    → ¬ Contains ids id → place ≡ length ids + 1 → HasPlaces (ids ++ id ∷ []) new
+one_more ids old new id place h set others absent is = record {
   listed = λ i q e.
       let l : i < length (ids ++ id ∷ []) = slice_get_within _ i q e in
       elim (cases i (length ids) (omega (arith, length-append ids (id ∷ [])))) [
         | inl below ↦
             let f : slice_get ids i ≡ Some q = sym (slice_get-front ids id i below) ∙ e in
-            let other : q.0 ≢ id.0 = λ g. new (i, below, get_or_from_slice_get ids i q id f ∙ same_number q id g) in
-            get_or-set_other places id.0 q.0 place 0 other ∙ same q.0 ∙ h.listed i q f
+            let other : q ≢ id = λ g. absent (i, below, get_or_from_slice_get ids i q id f ∙ g) in
+            others q other ∙ h.listed i q f
         | inr last ↦
             let f : Some q ≡ Some id = sym e ∙ ap (slice_get (ids ++ id ∷ [])) last ∙ slice_get-end ids id in
             let g : q ≡ id = same_Some q id f in
             let k : place ≡ suc i = omega arith in
-            ap (λ (v : Id). get_or (set places id.0 place) v.0 0) g ∙ get_or-set_same places id.0 place 0 room ∙ k
+            ap new g ∙ set ∙ k
       ];
-  placed = λ n i e. elim (equal n id.0) [
+  placed = λ q i e. elim (equal q id) [
     | inl here ↦
-        let f : place ≡ suc i = sym (get_or-set_same places id.0 place 0 room) ∙ ap (λ v. get_or (set places id.0 place) v 0) (sym here) ∙ e in
+        let f : place ≡ suc i = sym set ∙ ap new (sym here) ∙ e in
         let k : i ≡ length ids = omega arith in
-        let mk : ℕ → Id = λ v. record { 0 = v } in
-        ap (slice_get (ids ++ id ∷ [])) k ∙ slice_get-end ids id ∙ ap (λ v. Some (mk v)) (sym here)
+        ap (slice_get (ids ++ id ∷ [])) k ∙ slice_get-end ids id ∙ ap Some (sym here)
     | inr other ↦
-        let mk : ℕ → Id = λ v. record { 0 = v } in
-        let f : slice_get ids i ≡ Some (mk n) = h.placed n i (sym (same n) ∙ sym (get_or-set_other places id.0 n place 0 other) ∙ e) in
-        slice_get-front ids id i (slice_get_within ids i (mk n) f) ∙ f
+        let f : slice_get ids i ≡ Some q = h.placed q i (sym (others q other) ∙ e) in
+        slice_get-front ids id i (slice_get_within ids i q f) ∙ f
   ];
 }

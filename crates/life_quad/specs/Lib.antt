@@ -10,4 +10,5 @@ pub mod Distances
 pub mod Bands
 pub mod Laws
 pub mod IdList
+pub mod Pages
 pub mod IdMap

@@ -166,7 +166,7 @@ pub record Answers (old new : Nodes) (t : Tree) (r : Result Id Kind) : Type 0 wh
   pub needed : OnErr r (¬ Contains (held old) t)
   pub unchanged : OnErr r (new ≡ old)
 
--- the list says of each small square whether it was joined
-pub record HasSeen (seen : List Bool) (log : List ℕ) : Type 0 where
-  pub joined : (i : ℕ) → slice_index_or seen i false ≡ true → Contains log (512 + i)
-  pub listed : (i : ℕ) → Contains log (512 + i) → i < 65552 → slice_index_or seen i false ≡ true
+-- of each small square that is marked, and of no other, the number was joined
+pub record HasSeen (seen : Id → Bool) (log : List ℕ) : Type 0 where
+  pub joined : (k : ℕ) → seen (id_of k) ≡ true → Contains log k
+  pub listed : (k : ℕ) → Contains log k → k < 66064 → seen (id_of k) ≡ true

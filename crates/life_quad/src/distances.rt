@@ -100,9 +100,9 @@ fn find<S: Squares>(
 ) -> Result<Option<u64>, Kind>
     requires known { S.knows squares.now id }
     requires level { level ≡ depth (S.content squares.now id) }
-    requires right { (q : IdValue) → value_of known.old.values.items known.old.absent q ≢ UNKNOWN → IsLeast (HasCellAt side (S.content squares.now q)) (value_of known.old.values.items known.old.absent q) }
+    requires right { (q : IdValue) → value_of known.old q ≢ UNKNOWN → IsLeast (HasCellAt side (S.content squares.now q)) (value_of known.old q) }
     ensures least { IfOk result (IsLeastOf (HasCellAt side (S.content squares.now id))) }
-    ensures right { (q : IdValue) → value_of known.new.values.items known.new.absent q ≢ UNKNOWN → IsLeast (HasCellAt side (S.content squares.now q)) (value_of known.new.values.items known.new.absent q) }
+    ensures right { (q : IdValue) → value_of known.new q ≢ UNKNOWN → IsLeast (HasCellAt side (S.content squares.now q)) (value_of known.new q) }
     ensures refusals { IfErr result (λ e. e ≡ Memory) }
 {
     if is_blank_at(squares, level, id) {

@@ -1,48 +1,34 @@
 //! A list of Ids, each once.
-ghost use Rattle.std.specs.Prelude.{◌≡◌, ◌≢◌, ◌↔◌, ◌⊎◌, ◌∷◌, ◌++◌, ◌-◌, ◌^◌, ◌<◌, ℕ, [], AllPairs, Contains, IsTrue, MatchOption, OnOk, OnErr, IfErr, IfSome, Some, slice_get, slice_index, vec_len};
+ghost use Rattle.std.specs.Prelude.{◌≡◌, ◌≢◌, ◌↔◌, ◌∷◌, ◌++◌, ◌-◌, ◌^◌, ◌<◌, [], AllPairs, Contains, IsTrue, MatchOption, OnOk, OnErr, IfErr, IfSome, Some, slice_get};
 ghost use Rattle.life_base.specs.declared.kind.Kind.TheVariants.{Memory};
 
 use crate::Id;
+use crate::id_map::IdMap;
 use life_base::Kind;
 use std::alloc::Global;
 use std::marker::Model;
 
 /// Ids in the order in which they came, each once. The place of an Id is found by its number, in constant time: the list takes eight
-/// bytes for each Id and four for each number up to the greatest (of which the first 66,064 are those of cells, blank and small
-/// squares), and has room for 2^32 - 1 Ids.
+/// bytes for each Id, and four for each number of the pages of 256 numbers in which one of them stands. These pages have room for
+/// 2^32 - 256 numbers.
 #[derive(Drop)]
 pub struct IdList {
     ids: Vec<Id>,
-    // By the number of an Id: its place counted from 1, or 0 where it isn't in the list.
-    places: Vec<u32>,
+    // The place of an Id, counted from 1, or 0 where it isn't in the list.
+    places: IdMap<u32>,
 }
 
 impl Model for IdList {
     ghost use Rattle.std.specs.Prelude.{List};
     ghost use Rattle.life_quad.specs.declared.id.Id.{Id};
     ghost use Rattle.life_quad.specs.IdList.{HasPlaces};
+    ghost use Rattle.life_quad.specs.IdMap.{value_of};
 
     ghost Value = { List Id };
 
     ghost view = { λ a. a.ids.items };
 
-    ghost invariant = { λ a. HasPlaces a.ids.items a.places.items };
-}
-
-// Gives a number a place in the table, without a place in the list.
-fn make_room(places: &mut Vec<u32>, number: u64) -> Result<(), Kind>
-    ensures room { OnOk result (number < vec_len places.new) }
-    ensures same { (n : ℕ) → slice_index places.new.items n ≡ slice_index places.old.items n }
-    ensures kind { IfErr result (λ kind. kind ≡ Memory) }
-{
-    if number < places.len() as u64 {
-        return Ok(());
-    }
-    let Some(length) = number.checked_add(1) else {
-        return Err(Kind::Memory);
-    };
-    places.resize(length as usize, 0)?;
-    Ok(())
+    ghost invariant = { λ a. HasPlaces a.ids.items (value_of a.places) };
 }
 
 impl IdList {
@@ -51,7 +37,7 @@ impl IdList {
         ensures { result ≡ [] }
     {
         let ids = Vec::new(alloc);
-        let places = Vec::new(alloc);
+        let places = IdMap::new(alloc, 0);
         IdList { ids, places }
     }
 
@@ -60,10 +46,7 @@ impl IdList {
         ensures absent { result ≡ 0 → ¬ Contains self.now id }
         ensures there { 0 < result → slice_get self.now (result - 1) ≡ Some id }
     {
-        match self.places.get(id.0 as usize) {
-            Some(number) => *number,
-            None => 0,
-        }
+        self.places.get(id)
     }
 
     /// The place of an Id, counted from 0.
@@ -100,9 +83,9 @@ impl IdList {
         let Ok(place) = u32::try_from(self.ids.len() + 1) else {
             return Err(Kind::Memory);
         };
-        make_room(&mut self.places, id.0)?;
+        self.places.make_room(id)?;
         self.ids.push(id)?;
-        self.places[id.0 as usize] = place;
+        self.places.put(id, place);
         Ok(())
     }
 

@@ -1,64 +1,135 @@
 //! A value for each square.
-ghost use Rattle.std.specs.Prelude.{◌≡◌, ◌⊎◌, ◌<◌, ℕ, slice_index_or, vec_len, OnOk, IfErr};
+ghost use Rattle.std.specs.Prelude.{◌≡◌, ◌≢◌, ◌⊎◌, ◌<◌, ℕ, slice_index_or, vec_len, OnOk, OnErr, IfErr};
 ghost use Rattle.life_base.specs.declared.kind.Kind.TheVariants.{Memory};
 ghost use Rattle.life_quad.specs.declared.id.Id.{Id as IdValue};
-ghost use Rattle.life_quad.specs.IdMap.{value_of};
+ghost use Rattle.life_quad.specs.IdMap.{value_of, HasRoom};
+ghost use Rattle.life_quad.specs.Pages.{index_in};
 
 use crate::Id;
 use life_base::Kind;
 use std::alloc::Global;
+use std::marker::Model;
 
-// A value for each Id, found by its number in one step: the absent one, until another is set. It takes room for one value for each
-// number up to the greatest that was set.
+// How many numbers a page has.
+const PAGE: u64 = 256;
+
+// What stands for the first index of a page that wasn't made: no value has it.
+const NONE: u32 = u32::MAX;
+
+// A value for each Id, found by its number in two steps: the absent one, until another is set. The values stand in pages of 256 numbers that
+// follow, each made when the first of them is set: so a few squares take little room, whatever their numbers are, and many take one value for
+// each number and a 256th more.
 #[derive(Drop)]
 pub(crate) struct IdMap<T: Copy> {
+    // By the number of a page: the index of its first value.
+    starts: Vec<u32>,
+    // The pages, in the order in which they were made.
     values: Vec<T>,
     absent: T,
 }
 
-// Gives a number a place in the table, without a value of its own.
-fn make_room<T: Copy>(values: &mut Vec<T>, number: u64, absent: T) -> Result<(), Kind>
-    ensures room { OnOk result (number < vec_len values.new) }
-    ensures same { (n : ℕ) → slice_index_or values.new.items n absent ≡ slice_index_or values.old.items n absent }
+impl<T: Copy> Model for IdMap<T> {
+    ghost use Rattle.std.specs.Prelude.{length};
+    ghost use Rattle.life_quad.specs.Pages.{Pages, ArePages};
+
+    ghost Value = { Pages T };
+
+    ghost view = { λ m. record { starts = m.starts.items; values = m.values.items; absent = m.absent } };
+
+    ghost invariant = { λ m. ArePages m.starts.items (length m.values.items) };
+}
+
+// The index of a number's value. Where its page wasn't made it is behind all values.
+fn index_of(starts: &[u32], number: u64) -> usize
+    ensures { result ≡ index_in starts.now number }
+{
+    let start = match starts.get((number / PAGE) as usize) {
+        Some(start) => *start,
+        None => NONE,
+    };
+    start as usize + (number % PAGE) as usize
+}
+
+// Gives the number of a page a place, without a page.
+fn make_place(starts: &mut Vec<u32>, page: u64) -> Result<(), Kind>
+    ensures room { OnOk result (page < vec_len starts.new) }
+    ensures same { (n : ℕ) → slice_index_or starts.new.items n 4294967295 ≡ slice_index_or starts.old.items n 4294967295 }
     ensures kind { IfErr result (λ kind. kind ≡ Memory) }
 {
-    if number < values.len() as u64 {
+    if page < starts.len() as u64 {
         return Ok(());
     }
-    let Some(length) = number.checked_add(1) else {
+    let Some(length) = page.checked_add(1) else {
         return Err(Kind::Memory);
     };
-    values.resize(length as usize, absent)?;
+    starts.resize(length as usize, NONE)?;
     Ok(())
 }
 
 impl<T: Copy> IdMap<T> {
     // The absent value for every Id. It takes no memory.
     pub(crate) fn new(alloc: Global, absent: T) -> IdMap<T>
-        ensures { (q : IdValue) → value_of result.values.items result.absent q ≡ absent }
+        ensures { (q : IdValue) → value_of result q ≡ absent }
     {
+        let starts = Vec::new(alloc);
         let values = Vec::new(alloc);
-        IdMap { values, absent }
+        IdMap {
+            starts,
+            values,
+            absent,
+        }
     }
 
     // The value of an Id.
     pub(crate) fn get(&self, id: Id) -> T
-        ensures { result ≡ value_of self.now.values.items self.now.absent id }
+        ensures { result ≡ value_of self.now id }
     {
-        match self.values.get(id.0 as usize) {
+        match self.values.get(index_of(&self.starts, id.0)) {
             Some(value) => *value,
             None => self.absent,
         }
     }
 
-    // Sets the value of an Id. A refusal, by `Memory` alone, leaves each value as it was.
-    pub(crate) fn set(&mut self, id: Id, value: T) -> Result<(), Kind>
-        ensures only { (q : IdValue) → (value_of self.new.values.items self.new.absent q ≡ value_of self.old.values.items self.old.absent q) ⊎ ((q ≡ id) × (value_of self.new.values.items self.new.absent q ≡ value)) }
-        ensures set { OnOk result (value_of self.new.values.items self.new.absent id ≡ value) }
+    // Makes the page of an Id. Each value stays as it was, also where `Memory` refuses the page.
+    pub(crate) fn make_room(&mut self, id: Id) -> Result<(), Kind>
+        ensures room { OnOk result (HasRoom self.new id) }
+        ensures same { (q : IdValue) → value_of self.new q ≡ value_of self.old q }
         ensures refusals { IfErr result (λ e. e ≡ Memory) }
     {
-        make_room(&mut self.values, id.0, self.absent)?;
-        self.values[id.0 as usize] = value;
+        let start = self.values.len();
+        if index_of(&self.starts, id.0) < start {
+            return Ok(());
+        }
+        if start > (NONE as u64 - PAGE) as usize {
+            return Err(Kind::Memory);
+        }
+        let page = id.0 / PAGE;
+        make_place(&mut self.starts, page)?;
+        self.values.resize(start + PAGE as usize, self.absent)?;
+        self.starts[page as usize] = start as u32;
+        Ok(())
+    }
+
+    // Sets the value of an Id whose page was made.
+    pub(crate) fn put(&mut self, id: Id, value: T)
+        requires { HasRoom self.old id }
+        ensures set { value_of self.new id ≡ value }
+        ensures others { (q : IdValue) → q ≢ id → value_of self.new q ≡ value_of self.old q }
+    {
+        let index = index_of(&self.starts, id.0);
+        self.values[index] = value;
+    }
+
+    // Sets the value of an Id. A refusal, by `Memory` alone, leaves each value as it was.
+    pub(crate) fn set(&mut self, id: Id, value: T) -> Result<(), Kind>
+        ensures only { (q : IdValue) → (value_of self.new q ≡ value_of self.old q) ⊎ ((q ≡ id) × (value_of self.new q ≡ value)) }
+        ensures set { OnOk result (value_of self.new id ≡ value) }
+        ensures others { (q : IdValue) → q ≢ id → value_of self.new q ≡ value_of self.old q }
+        ensures same { OnErr result ((q : IdValue) → value_of self.new q ≡ value_of self.old q) }
+        ensures refusals { IfErr result (λ e. e ≡ Memory) }
+    {
+        self.make_room(id)?;
+        self.put(id, value);
         Ok(())
     }
 }

@@ -113,6 +113,14 @@ impl Squares for Plain {
         id.level(self.nodes.as_slice())
     }
 
+    fn find_small(&self, _cells: u16) -> Option<Id> {
+        None
+    }
+
+    fn small_cells(&self, id: Id) -> Option<u16> {
+        id.cells()
+    }
+
     ghost full = { full_content };
 
     ghost low = { low_content };

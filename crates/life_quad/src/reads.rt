@@ -30,9 +30,9 @@ pub fn population<S: SharedSquares>(alloc: Global, squares: &S, id: Id) -> Resul
 fn count<S: Squares>(squares: &S, level: u8, id: Id, known: &mut IdMap<u128>) -> Result<u128, Kind>
     requires known { S.knows squares.now id }
     requires level { level ≡ depth (S.content squares.now id) }
-    requires right { (q : IdValue) → 0 < value_of known.old.values.items known.old.absent q → value_of known.old.values.items known.old.absent q ≡ population_of (S.content squares.now q) }
+    requires right { (q : IdValue) → 0 < value_of known.old q → value_of known.old q ≡ population_of (S.content squares.now q) }
     ensures number { IfOk result (λ n. n ≡ population_of (S.content squares.now id)) }
-    ensures right { (q : IdValue) → 0 < value_of known.new.values.items known.new.absent q → value_of known.new.values.items known.new.absent q ≡ population_of (S.content squares.now q) }
+    ensures right { (q : IdValue) → 0 < value_of known.new q → value_of known.new q ≡ population_of (S.content squares.now q) }
     ensures refusals { IfErr result (λ e. e ≡ Memory) }
 {
     if let Some(state) = squares.state(id) {

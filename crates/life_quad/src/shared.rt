@@ -1,10 +1,11 @@
 //! A store that keeps each square once.
-ghost use Rattle.std.specs.Prelude.{◌≡◌, ◌≢◌, AllPairs, ℕ, ◌<◌, ◌≤◌, ◌^◌, [], ◌==◌, if◌then◌else◌, length, slice_index_or, vec_len, Contains, true, false, None, OnOk, OnErr, IfErr};
+ghost use Rattle.std.specs.Prelude.{◌≡◌, ◌≢◌, AllPairs, ◌<◌, ◌≤◌, ◌^◌, [], length, Contains, true, false, None, OnOk, OnErr, IfErr};
 ghost use Rattle.life_base.specs.declared.kind.Kind.TheVariants.{Memory};
 ghost use Rattle.life_quad.specs.declared.id.Id.{Id as IdValue};
 ghost use Rattle.life_base.specs.Tree.{Tree, depth, is_blank_tree};
 
-use crate::id::{FIRST_NODE, FIRST_SMALL, Node, are_blank, no_room, small_number};
+use crate::id::{FIRST_NODE, Node, are_blank, no_room, small_number};
+use crate::id_map::IdMap;
 use crate::join_log::JoinLog;
 use crate::{Id, SharedSquares, Squares};
 use indexmap::IndexSet;
@@ -12,15 +13,12 @@ use life_base::{Kind, State};
 use std::alloc::Global;
 use std::marker::Model;
 
-// How many Ids there are for small squares.
-const SMALL: usize = 65_552;
-
 /// Squares, each nonblank square once: small ones by a mark, the others by their nodes.
 #[derive(Drop)]
 pub struct Shared {
     nodes: IndexSet<Node>,
-    // By the number of a small square's Id, less the first: whether it was joined. Made at the first join of one.
-    seen: Vec<bool>,
+    // Whether a small square was joined.
+    seen: IdMap<bool>,
     // How many of these were joined.
     small: u64,
     // The Ids in the order of their first join.
@@ -30,52 +28,29 @@ pub struct Shared {
 
 impl Model for Shared {
     ghost use Rattle.std.specs.Prelude.{◌≡◌, ◌+◌, length};
+    ghost use Rattle.life_quad.specs.IdMap.{value_of};
     ghost use Rattle.life_quad.specs.Store.{Nodes, IsSound, IsShared, HasSeen};
 
     ghost Value = { Nodes };
 
     ghost view = { λ s. record { nodes = s.nodes.keys; log = s.log.ids; limit = s.limit } };
 
-    ghost invariant = { λ s. IsSound (record { nodes = s.nodes.keys; log = s.log.ids; limit = s.limit }) × IsShared (record { nodes = s.nodes.keys; log = s.log.ids; limit = s.limit }) × HasSeen s.seen.items s.log.ids × (length s.log.ids ≡ length s.nodes.keys + s.small) };
+    ghost invariant = { λ s. IsSound (record { nodes = s.nodes.keys; log = s.log.ids; limit = s.limit }) × IsShared (record { nodes = s.nodes.keys; log = s.log.ids; limit = s.limit }) × HasSeen (value_of s.seen) s.log.ids × (length s.log.ids ≡ length s.nodes.keys + s.small) };
 }
 
+ghost use Rattle.life_quad.specs.IdMap.{value_of};
 ghost use Rattle.life_quad.specs.StoreLaws.{full_content, low_content, same_id};
 ghost use Rattle.life_quad.specs.Store.{squares, content, held, node_square, number_of, small_square, Knows, IsShared, IsNode, IsSmall, Answers};
 
-// Whether there is a mark at an index.
-fn is_seen(seen: &Vec<bool>, index: usize) -> bool
-    ensures { result ≡ slice_index_or seen.now.items index false }
-{
-    match seen.get(index) {
-        Some(mark) => *mark,
-        None => false,
-    }
-}
-
-// Gives an index of a small square a place among the marks, without a mark.
-fn make_marks(seen: &mut Vec<bool>, index: usize) -> Result<(), Kind>
-    requires { index < 65552 }
-    ensures room { OnOk result (index < vec_len seen.new) }
-    ensures same { (i : ℕ) → slice_index_or seen.new.items i false ≡ slice_index_or seen.old.items i false }
-    ensures kind { IfErr result (λ kind. kind ≡ Memory) }
-{
-    if seen.len() <= index {
-        seen.resize(SMALL, false)?;
-    }
-    Ok(())
-}
-
-// Sets the mark at an index of a small square. It is never inlined, so that the join of one that is there stays short.
+// Marks a small square. It is never inlined, so that the join of one that is there stays short.
 #[inline(never)]
-fn see(seen: &mut Vec<bool>, index: usize) -> Result<(), Kind>
-    requires { index < 65552 }
-    ensures marks { OnOk result ((i : ℕ) → slice_index_or seen.new.items i false ≡ (if i == index then true else slice_index_or seen.old.items i false)) }
-    ensures same { OnErr result ((i : ℕ) → slice_index_or seen.new.items i false ≡ slice_index_or seen.old.items i false) }
+fn see(seen: &mut IdMap<bool>, id: Id) -> Result<(), Kind>
+    ensures marked { OnOk result (value_of seen.new id ≡ true) }
+    ensures others { (q : IdValue) → q ≢ id → value_of seen.new q ≡ value_of seen.old q }
+    ensures same { OnErr result ((q : IdValue) → value_of seen.new q ≡ value_of seen.old q) }
     ensures kind { IfErr result (λ kind. kind ≡ Memory) }
 {
-    make_marks(seen, index)?;
-    seen[index] = true;
-    Ok(())
+    seen.set(id, true)
 }
 
 impl Shared {
@@ -90,7 +65,7 @@ impl Shared {
     {
         Shared {
             nodes: IndexSet::new(alloc),
-            seen: Vec::new(alloc),
+            seen: IdMap::new(alloc, false),
             small: 0,
             log: JoinLog::new(),
             limit,
@@ -115,17 +90,17 @@ impl Shared {
         requires last { number < FIRST_NODE }
         ensures { Answers self.old self.new (small_square number) result }
     {
-        let index = (number - FIRST_SMALL) as usize;
-        if is_seen(&self.seen, index) {
-            return Ok(Id(number));
+        let id = Id(number);
+        if self.seen.get(id) {
+            return Ok(id);
         }
         if self.nodes.len() as u64 + self.small == self.limit {
             return Err(Kind::Full);
         }
-        see(&mut self.seen, index)?;
+        see(&mut self.seen, id)?;
         self.small += 1;
         self.log = self.log.then(&[number]);
-        Ok(Id(number))
+        Ok(id)
     }
 
     // The Id of a node, which is stored if it is new. It is never inlined, so that `join` can be.
@@ -223,6 +198,18 @@ impl Squares for Shared {
 
     fn level(&self, id: Id) -> u8 {
         id.level(self.nodes.as_slice())
+    }
+
+    fn find_small(&self, cells: u16) -> Option<Id> {
+        if cells == 0 {
+            return Some(self.empty(2));
+        }
+        let id = Id::of_cells(cells);
+        if self.seen.get(id) { Some(id) } else { None }
+    }
+
+    fn small_cells(&self, id: Id) -> Option<u16> {
+        id.cells()
     }
 
     ghost full = { λ s id h. full_content s id h.0 };

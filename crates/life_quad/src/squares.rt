@@ -1,8 +1,9 @@
 //! What a store of squares offers.
-ghost use Rattle.std.specs.Prelude.{◌≡◌, ◌↔◌, ◌⊎◌, ℕ, ◌<◌, ◌≤◌, List, [], ◌∷◌, ◌++◌, length, map, All, Contains, Ok, Err, MatchOption, IfOk, IfErr, OnOk, OnErr};
+ghost use Rattle.std.specs.Prelude.{◌≡◌, ◌↔◌, ◌⊎◌, ℕ, ◌<◌, ◌≤◌, List, [], ◌∷◌, ◌++◌, length, map, All, Contains, Ok, Err, MatchOption, IfSome, IfOk, IfErr, OnOk, OnErr};
 ghost use Rattle.life_base.specs.declared.kind.Kind.TheVariants.{Full, Memory};
 ghost use Rattle.life_quad.specs.declared.id.Id.{Id as IdValue};
 ghost use Rattle.life_base.specs.Tree.{Tree, point, quad, depth, blank, quarters, IsFull};
+ghost use Rattle.life_quad.specs.Store.{four};
 
 use crate::Id;
 use life_base::{Kind, MAX_LEVEL, State};
@@ -84,6 +85,18 @@ pub trait Squares {
         requires { knows self.now id }
         ensures level { result ≡ depth (content self.now id) }
         ensures low { result ≤ MAX_LEVEL };
+
+    /// The square of level 2 with these cells of the states 0 and 1, where the store can tell that it is there without its quarters; `None`
+    /// tells nothing. The highest four bits are the cells of the north-west quarter, then come those of the north-east, the south-west and
+    /// the south-east one, and the cells of a quarter stand in the same order.
+    fn find_small(&self, cells: u16) -> Option<Id>
+        ensures { IfSome result (λ id. knows self.now id × (content self.now id ≡ four cells)) };
+
+    /// The cells of a square of level 2 with the states 0 and 1, as `find_small` takes them, where the store can tell them without its
+    /// quarters; `None` tells nothing.
+    fn small_cells(&self, id: Id) -> Option<u16>
+        requires { knows self.now id }
+        ensures { IfSome result (λ cells. content self.now id ≡ four cells) };
 
     // Each Id stands for a full square of the greatest level at most.
     ghost full: { (store : Self) (id : IdValue) → knows store id → IsFull (content store id) };

@@ -31,6 +31,7 @@ pub mod Stands
 pub mod RunsLaws
 pub mod ItemsLaws
 pub mod DecidedLaw
+pub mod DigitInFront
 pub mod FormatLaws
 pub mod Rows
 pub mod ReadInputs

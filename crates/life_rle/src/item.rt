@@ -1,9 +1,9 @@
 //! The items of a line.
 
-ghost use Rattle.std.specs.Prelude.{◌≡◌, ◌∷◌, ℕ, List, true, IfSome, IsSome};
+ghost use Rattle.std.specs.Prelude.{◌≡◌, ◌∷◌, ◌==◌, ◌||◌, nat_le, ℕ, List, true, IfSome, IsSome};
 ghost use Rattle.std.specs.Option.{option_map};
 ghost use Rattle.life_base.specs.Digits.{capped};
-ghost use Rattle.life_base.specs.Text.{is_digit_text as has_digits_alone, value_of};
+ghost use Rattle.life_base.specs.Text.{is_digit_text, value_of};
 ghost use Rattle.life_rle.specs.States.{single_state, prefixed_state, state_at};
 ghost use Rattle.life_rle.specs.Items.{Spelled, item_behind, counted, next_of};
 ghost use Rattle.life_rle.specs.Reading.{is_short, next_value};
@@ -83,7 +83,7 @@ fn item_behind(count: u64, bytes: &[u8]) -> Found<'_>
 
 /// The item with a count that digits write.
 fn counted_item(count: u64, bytes: &[u8]) -> Found<'_>
-    ensures { (digits : List ℕ) → has_digits_alone digits ≡ true → count ≡ capped (value_of digits) → next_value result ≡ counted MAX_LEVEL digits bytes.now }
+    ensures { (digits : List ℕ) → is_digit_text digits ≡ true → count ≡ capped (value_of digits) → next_value result ≡ counted MAX_LEVEL digits bytes.now }
 {
     if count == 0 {
         return Found::Broken(Kind::ZeroCount);
@@ -138,12 +138,48 @@ fn short_item_at(bytes: &[u8]) -> Option<(Item, &[u8])>
     }
 }
 
+/// Whether a byte, of those that a state may begin with, is a letter or `.`: neither whitespace nor `!` nor a digit.
+fn is_letter_or_dot(byte: u8) -> bool
+    ensures { result ≡ (nat_le 65 byte || byte == 46) }
+{
+    byte >= b'A' || byte == b'.'
+}
+
+/// What stands in an item's place where that is a digit from 1 to 9 and a state.
+fn digit_and_state(digit: u8, bytes: &[u8]) -> Option<Found<'_>>
+    ensures { IfSome result (λ found. next_value found ≡ next_of MAX_LEVEL (digit ∷ bytes.now)) }
+{
+    let [first, ..] = bytes else {
+        return None;
+    };
+    if digit < b'1' || digit > b'9' || !is_letter_or_dot(*first) {
+        return None;
+    }
+    Some(item_behind(u64::from(digit - b'0'), bytes))
+}
+
+/// What stands in an item's place where that is a state, or a digit from 1 to 9 and a state.
+fn state_item_at(bytes: &[u8]) -> Option<Found<'_>>
+    ensures { IfSome result (λ found. next_value found ≡ next_of MAX_LEVEL bytes.now) }
+{
+    let [first, rest @ ..] = bytes else {
+        return None;
+    };
+    if is_letter_or_dot(*first) {
+        return Some(item_behind(1, bytes));
+    }
+    digit_and_state(*first, rest)
+}
+
 /// What stands in the next item's place.
 pub(crate) fn next_item(bytes: &[u8]) -> Found<'_>
     ensures { next_value result ≡ next_of MAX_LEVEL bytes.now }
 {
-    match short_item_at(bytes) {
-        Some((item, rest)) => Found::Spelled(item, rest),
+    if let Some((item, rest)) = short_item_at(bytes) {
+        return Found::Spelled(item, rest);
+    }
+    match state_item_at(bytes) {
+        Some(found) => found,
         None => any_item(bytes),
     }
 }

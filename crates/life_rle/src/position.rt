@@ -75,11 +75,7 @@ fn with_corner(position: Position, text: &[u8]) -> Result<Position, Kind>
     if !is_coordinate(y) {
         return Err(Kind::OutOfPlane);
     }
-    Ok(Position {
-        x,
-        y,
-        generation: position.generation,
-    })
+    Ok(Position { x, y, ..position })
 }
 
 /// The position with the generation that a text gives for its own.
@@ -88,9 +84,8 @@ fn with_generation(position: Position, text: &[u8]) -> Result<Position, Kind>
 {
     let generation = read_u64(text)?;
     Ok(Position {
-        x: position.x,
-        y: position.y,
         generation,
+        ..position
     })
 }
 

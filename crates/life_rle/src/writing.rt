@@ -126,7 +126,7 @@ fn append_cells(
 ///
 /// # Errors
 ///
-/// `Memory` where the text found no room, and nothing else.
+/// `Memory`, at no line, and nothing else.
 pub fn write_rle(
     alloc: Global,
     rule: &Rule,

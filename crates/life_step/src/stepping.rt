@@ -7,15 +7,15 @@ ghost use Rattle.life_base.specs.Tree.{depth, tree_cell};
 ghost use Rattle.life_base.specs.declared.rule.Rule.TheVariants.{Named as NamedRule};
 ghost use Rattle.life_canon.specs.Files.{Reads, Refuses};
 ghost use Rattle.life_canon.specs.Store.{Keeps, IsKnown, IsOfFile, IsRead, IsWant, content};
-ghost use Rattle.life_canon.specs.Universe.{Universe, least_level as least_level_of, square_universe};
+ghost use Rattle.life_canon.specs.Universe.{Universe, least_level, square_universe};
 ghost use Rattle.life_mc.specs.Macrocell.{largest_state};
 ghost use Rattle.life_step.specs.Refusals.{LifeRefusal, TableRefusal};
 ghost use Rattle.life_step.specs.Stepped.{IsLifeStep, IsTableStep, IsTextOf, Stepped};
 
-use life_base::{Fault, Kind, MAX_LEVEL, Rule, StepFault};
+use life_base::{Fault, Kind, MAX_LEVEL, Rule};
 use life_block::next_life_generation;
 use life_canon::laws::{files_are_on_plane, patterns_fit, texts_are_files, texts_tell_universes};
-use life_canon::{Pattern, read};
+use life_canon::{Pattern, read, text_of};
 use life_quad::{Id, Shared, trim};
 use life_sweep::laws::{life_answers_at, table_answers_at};
 use life_sweep::{ByTable, next_generation};
@@ -28,7 +28,7 @@ const MOST_CELLS: u64 = 1 << 20;
 
 /// The least level of the root of a pattern with this rule.
 fn least_level(rule: &Rule) -> u8
-    ensures { result ≡ least_level_of rule.now }
+    ensures { result ≡ least_level rule.now }
 {
     match rule {
         Rule::Life(_) => 3,
@@ -59,7 +59,7 @@ fn generation_after(generation: u64) -> Result<u64, Fault>
 }
 
 /// The canonical text of the cells of a square, under this rule and in this generation.
-fn text_of(
+fn text_of_square(
     alloc: Global,
     store: &mut Shared,
     rule: Rule,
@@ -67,7 +67,7 @@ fn text_of(
     square: Id,
 ) -> Result<Vec<u8>, Fault>
     requires known { IsKnown store.old square }
-    requires high { least_level_of rule ≤ depth (content store.old square) }
+    requires high { least_level rule ≤ depth (content store.old square) }
     requires rule { IsRule rule }
     requires states { (x y : ℤ) → tree_cell (content store.old square) x y ≤ largest_state rule }
     ensures text { IfOk result (λ text. IsTextOf MAX_LEVEL (square_universe rule generation (content store.old square)) text.items) }
@@ -83,19 +83,16 @@ fn text_of(
         generation,
         root,
     };
-    life_canon::text_of(alloc, store, &pattern)
+    text_of(alloc, store, &pattern)
 }
 
 /// The canonical text of the next generation of a pattern that was read into the store, under its B/S rule.
 ///
 /// # Errors
 ///
-/// Those of `step_life`, but for the file's fault. They name no line.
-pub fn next_by_rule(
-    alloc: Global,
-    store: &mut Shared,
-    pattern: Pattern,
-) -> Result<Vec<u8>, StepFault>
+/// Those of `step_life`, but for the file's fault. They name no line. After a fault too each Id of the store names the square that it
+/// named, so a caller that goes on with the pattern keeps its root and its generation, and a copy of its rule.
+pub fn next_by_rule(alloc: Global, store: &mut Shared, pattern: Pattern) -> Result<Vec<u8>, Fault>
     requires { IsOfFile MAX_LEVEL store.old pattern }
     ensures stepped { IfOk result (λ text. (bytes : List ℕ) → IsRead MAX_LEVEL bytes store.old pattern → (u : Universe) × Reads MAX_LEVEL bytes u × LifeRefusal MAX_LEVEL u None × Stepped MAX_LEVEL IsLifeStep text.items u) }
     ensures refused { IfErr result (λ fault. IsWant store.new fault ⊎ ((bytes : List ℕ) → IsRead MAX_LEVEL bytes store.old pattern → (u : Universe) × Reads MAX_LEVEL bytes u × LifeRefusal MAX_LEVEL u (Some fault))) }
@@ -109,7 +106,7 @@ pub fn next_by_rule(
     patterns_fit();
     life_answers_at();
     let square = next_life_generation(alloc, store, rule, pattern.root, MOST_CELLS)?;
-    text_of(alloc, store, pattern.rule, generation, square)
+    text_of_square(alloc, store, pattern.rule, generation, square)
 }
 
 /// The canonical text of the next generation of the pattern of a file, under its B/S rule.
@@ -118,8 +115,9 @@ pub fn next_by_rule(
 ///
 /// The place and the kind of the file's fault; then `NeedsTable` for a rule that is a name, `GenerationTooLarge` from the generation
 /// 2^64 - 1, `TooManyCells` where more than 2^20 cells aren't 0, and `OutOfPlane` where a cell outside the plane would not become 0;
-/// `Full` where the store holds its limit, and `Memory`. All but the file's fault name no line.
-pub fn step_life(alloc: Global, store: &mut Shared, bytes: &[u8]) -> Result<Vec<u8>, StepFault>
+/// `Full` where the store holds its limit, and `Memory`. All but the file's fault name no line. After a fault too each Id of the store
+/// names the square that it named, and nothing stored is gone.
+pub fn step_life(alloc: Global, store: &mut Shared, bytes: &[u8]) -> Result<Vec<u8>, Fault>
     ensures stepped { IfOk result (λ text. (u : Universe) × Reads MAX_LEVEL bytes.now u × LifeRefusal MAX_LEVEL u None × Stepped MAX_LEVEL IsLifeStep text.items u) }
     ensures refused { IfErr result (λ fault. Refuses MAX_LEVEL bytes.now fault ⊎ (IsWant store.new fault ⊎ ((u : Universe) × Reads MAX_LEVEL bytes.now u × LifeRefusal MAX_LEVEL u (Some fault)))) }
     ensures keeps { Keeps store.old store.new }
@@ -132,13 +130,13 @@ pub fn step_life(alloc: Global, store: &mut Shared, bytes: &[u8]) -> Result<Vec<
 ///
 /// # Errors
 ///
-/// Those of `step_table`, but for the file's fault. All but `Ambiguous` name no line.
+/// Those of `step_table`, but for the file's fault. All but `Ambiguous` name no line. The store keeps what it has, as after `next_by_rule`.
 pub fn next_by_table(
     alloc: Global,
     store: &mut Shared,
     pattern: Pattern,
     table: &Table,
-) -> Result<Vec<u8>, StepFault>
+) -> Result<Vec<u8>, Fault>
     requires { IsOfFile MAX_LEVEL store.old pattern }
     ensures stepped { IfOk result (λ text. (bytes : List ℕ) → IsRead MAX_LEVEL bytes store.old pattern → (u : Universe) × Reads MAX_LEVEL bytes u × TableRefusal MAX_LEVEL table.now u None × Stepped MAX_LEVEL (IsTableStep table.now) text.items u) }
     ensures refused { IfErr result (λ fault. IsWant store.new fault ⊎ ((bytes : List ℕ) → IsRead MAX_LEVEL bytes store.old pattern → (u : Universe) × Reads MAX_LEVEL bytes u × TableRefusal MAX_LEVEL table.now u (Some fault))) }
@@ -154,7 +152,7 @@ pub fn next_by_table(
     one_answer();
     let mut by_table = ByTable::new(alloc, table)?;
     let square = next_generation(alloc, store, &mut by_table, pattern.root, MOST_CELLS)?;
-    text_of(alloc, store, pattern.rule, generation, square)
+    text_of_square(alloc, store, pattern.rule, generation, square)
 }
 
 /// The canonical text of the next generation of the pattern of a file, by the table of its rule.
@@ -165,13 +163,14 @@ pub fn next_by_table(
 /// generation 2^64 - 1, `TooManyCells` where more than 2^20 cells aren't 0, `StateBeyondTable` where a cell's state isn't one of the
 /// table's, `Ambiguous` where a line of the table decides a cell and gives it two states, with the number of the line for the first such
 /// cell by row and then column, and `OutOfPlane` where a cell outside the plane would not become 0; `Full` where the store holds its
-/// limit, and `Memory`. All but the file's fault and `Ambiguous` name no line.
+/// limit, and `Memory`. All but the file's fault and `Ambiguous` name no line. After a fault too each Id of the store names the square
+/// that it named, and nothing stored is gone.
 pub fn step_table(
     alloc: Global,
     store: &mut Shared,
     bytes: &[u8],
     table: &Table,
-) -> Result<Vec<u8>, StepFault>
+) -> Result<Vec<u8>, Fault>
     ensures stepped { IfOk result (λ text. (u : Universe) × Reads MAX_LEVEL bytes.now u × TableRefusal MAX_LEVEL table.now u None × Stepped MAX_LEVEL (IsTableStep table.now) text.items u) }
     ensures refused { IfErr result (λ fault. Refuses MAX_LEVEL bytes.now fault ⊎ (IsWant store.new fault ⊎ ((u : Universe) × Reads MAX_LEVEL bytes.now u × TableRefusal MAX_LEVEL table.now u (Some fault)))) }
     ensures keeps { Keeps store.old store.new }

@@ -6,14 +6,14 @@ use Rattle.std.proofs.lemmas.Bool.Decides.{eqb_tells}
 use Rattle.std.proofs.lemmas.List.Elements.{All-head, All-tail}
 use Rattle.life_base.specs.declared.cell.Cell.{Cell}
 use Rattle.life_sweep.specs.Around.{before, after}
-use Rattle.life_sweep.specs.Rows.{IsRest, IsRestOf, IsFrom, BeginsAt, HasNoFirstIn, IsSplitAtRow, IsInside, IsBlankBefore, AreRows, IsBand, IsNextRow, IsLastBand, IsFarRow, GoesSouth, rows_left, end_of_plane, far}
+use Rattle.life_sweep.specs.Rows.{IsRest, IsRestOf, IsFrom, BeginsAt, HasNoFirstIn, IsSplitAtRow, IsInside, IsBlankBefore, AreRows, IsBand, IsNextRow, IsLastBand, IsFarRow, GoesSouth, rows_left, first_coordinate, far}
 use Rattle.life_sweep.specs.declared.column.Rows.{Rows}
 use Rattle.life_sweep.specs.declared.band.Band.{Band}
 use Rattle.life_sweep.proofs.RowLemmas.{less-or-not, column-is, IsRest-none}
 
 -- a row of the plane, and what is left south of it
 pub split-row : (cells : ℤ → ℤ → ℕ) (x y : ℤ) (row rest : List Cell) → All (λ (cell : Cell). cell.y ≡ y) row → HasNoFirstIn y rest → All IsInside rest
-    → IsRestOf cells x y (row ++ rest) → IsRest (λ c. cells c y) x row × IsRestOf cells end_of_plane (after y) rest
+    → IsRestOf cells x y (row ++ rest) → IsRest (λ c. cells c y) x row × IsRestOf cells first_coordinate (after y) rest
 split-row cells x y [] [] all none inside h =
     ((λ c l. h c y (inr (refl, l))), (λ c r f. h c r (inl (elim f [ inl a ↦ omega (arith, ints, a) | inr a ↦ omega (arith, ints, a.0) ]))))
 split-row cells x y [] (d ∷ rest) all none inside h =
@@ -22,7 +22,7 @@ split-row cells x y [] (d ∷ rest) all none inside h =
     south : y <ℤ d.y
     south = elim h.0 [ inl l ↦ l | inr e ↦ absurd (none (sym e.0)) ]
 
-    from : IsFrom end_of_plane (after y) d.x d.y
+    from : IsFrom first_coordinate (after y) d.x d.y
     from = elim (less-or-not (after y) d.y) [ inl l ↦ inl l | inr l ↦ inr (omega (arith, ints, south, l), (All-head IsInside d rest inside).west) ]
 split-row cells x y (cell ∷ row) rest all none inside h =
     let e : cell.y ≡ y = All-head (λ (cell : Cell). cell.y ≡ y) cell row all in
@@ -31,26 +31,26 @@ split-row cells x y (cell ∷ row) rest all none inside h =
     ((le, (λ c l u. h.1 c y (inr (refl, l)) (inr (sym e, u))), subst (λ z. cells cell.x z ≡ cell.state) e h.2, more.0), more.1)
 
 -- what is left from a row on is what is left from a later one that the first cell is in
-pub later-row : (cells : ℤ → ℤ → ℕ) (y m : ℤ) (rest : List Cell) → BeginsAt m rest → All IsInside rest → IsRestOf cells end_of_plane y rest → IsRestOf cells end_of_plane m rest
+pub later-row : (cells : ℤ → ℤ → ℕ) (y m : ℤ) (rest : List Cell) → BeginsAt m rest → All IsInside rest → IsRestOf cells first_coordinate y rest → IsRestOf cells first_coordinate m rest
 later-row cells y m [] b inside h = absurd b
 later-row cells y m (cell ∷ rest) b inside h =
     let le : y ≤ℤ m = elim h.0 [ inl l ↦ omega (arith, ints, l, b) | inr p ↦ omega (arith, ints, p.0, b) ] in
     (inr (sym b, (All-head IsInside cell rest inside).west), (λ c r f p. h.1 c r (earlier c r le f) p), h.2, h.3)
   where
-    earlier : (c r : ℤ) → y ≤ℤ m → IsFrom end_of_plane m c r → IsFrom end_of_plane y c r
+    earlier : (c r : ℤ) → y ≤ℤ m → IsFrom first_coordinate m c r → IsFrom first_coordinate y c r
     earlier c r le (inl l) = inl (omega (arith, ints, le, l))
     earlier c r le (inr p) = elim (less-or-not y r) [ inl l ↦ inl l | inr l ↦ inr (omega (arith, ints, le, p.0, l), p.1) ]
 
-pub first-row : (cells : ℤ → ℤ → ℕ) (y m : ℤ) (rest : List Cell) → BeginsAt m rest → IsRestOf cells end_of_plane y rest → y ≤ℤ m
+pub first-row : (cells : ℤ → ℤ → ℕ) (y m : ℤ) (rest : List Cell) → BeginsAt m rest → IsRestOf cells first_coordinate y rest → y ≤ℤ m
 first-row cells y m [] b h = absurd b
 first-row cells y m (cell ∷ rest) b h = elim h.0 [ inl l ↦ omega (arith, ints, l, b) | inr p ↦ omega (arith, ints, p.0, b) ]
 
 -- between there is no cell
-row-gap : (cells : ℤ → ℤ → ℕ) (y m : ℤ) (rest : List Cell) → BeginsAt m rest → IsRestOf cells end_of_plane y rest → (c r : ℤ) → end_of_plane ≤ℤ c → y ≤ℤ r → r <ℤ m → cells c r ≡ 0
+row-gap : (cells : ℤ → ℤ → ℕ) (y m : ℤ) (rest : List Cell) → BeginsAt m rest → IsRestOf cells first_coordinate y rest → (c r : ℤ) → first_coordinate ≤ℤ c → y ≤ℤ r → r <ℤ m → cells c r ≡ 0
 row-gap cells y m [] b h c r w l u = absurd b
 row-gap cells y m (cell ∷ rest) b h c r w l u = h.1 c r (elim (less-or-not y r) [ inl s ↦ inl s | inr s ↦ inr (omega (arith, ints, l, s), w) ]) (inl (omega (arith, ints, u, b)))
 
-row-none : (cells : ℤ → ℤ → ℕ) (y : ℤ) (rest : List Cell) → length rest ≡ 0 → IsRestOf cells end_of_plane y rest → (c r : ℤ) → end_of_plane ≤ℤ c → y ≤ℤ r → cells c r ≡ 0
+row-none : (cells : ℤ → ℤ → ℕ) (y : ℤ) (rest : List Cell) → length rest ≡ 0 → IsRestOf cells first_coordinate y rest → (c r : ℤ) → first_coordinate ≤ℤ c → y ≤ℤ r → cells c r ≡ 0
 row-none cells y [] e h c r w l = h c r (elim (less-or-not y r) [ inl s ↦ inl s | inr s ↦ inr (omega (arith, ints, l, s), w) ])
 row-none cells y (cell ∷ rest) e h c r w l = absurd (omega (arith, e))
 
@@ -60,8 +60,8 @@ IsRest-empty states x [] e h = h
 IsRest-empty states x (cell ∷ row) e h = absurd (omega (arith, e))
 
 -- a property of every column, from the columns of the plane
-on-all : (cells : ℤ → ℤ → ℕ) (r : ℤ) → IsBlankBefore cells → ((c : ℤ) → end_of_plane ≤ℤ c → cells c r ≡ 0) → (c : ℤ) → cells c r ≡ 0
-on-all cells r blank h c = elim (less-or-not c end_of_plane) [ inl l ↦ blank.west c r l | inr l ↦ h c l ]
+on-all : (cells : ℤ → ℤ → ℕ) (r : ℤ) → IsBlankBefore cells → ((c : ℤ) → first_coordinate ≤ℤ c → cells c r ≡ 0) → (c : ℤ) → cells c r ≡ 0
+on-all cells r blank h c = elim (less-or-not c first_coordinate) [ inl l ↦ blank.west c r l | inr l ↦ h c l ]
 
 -- three rows without cells
 far-row : (cells : ℤ → ℤ → ℕ) (r : ℤ) → ((s c : ℤ) → before r ≤ℤ s → s ≤ℤ after r → cells c s ≡ 0) → IsFarRow cells r
@@ -69,11 +69,11 @@ far-row cells r h x = column-is _ _ _ 0 0 0 (h (before r) x (omega (arith, ints)
 
 -- from the middle row on there is no cell before a row behind which the others are blank
 blank-rows : (cells : ℤ → ℤ → ℕ) (b : Band) → IsBlankBefore cells → IsBand cells b → length b.rows.here.now ≡ 0 → length b.rows.south.now ≡ 0
-    → (m : ℤ) → ((c r : ℤ) → end_of_plane ≤ℤ c → (b.y +ℤ pos 2) ≤ℤ r → r <ℤ m → cells c r ≡ 0) → (r c : ℤ) → b.y ≤ℤ r → r <ℤ m → cells c r ≡ 0
+    → (m : ℤ) → ((c r : ℤ) → first_coordinate ≤ℤ c → (b.y +ℤ pos 2) ≤ℤ r → r <ℤ m → cells c r ≡ 0) → (r c : ℤ) → b.y ≤ℤ r → r <ℤ m → cells c r ≡ 0
 blank-rows cells b blank h here south m beyond r c l u = elim (less-or-not r (after b.y)) [
-  | inl s ↦ subst (λ z. cells c z ≡ 0) (omega (arith, ints, l, s)) (on-all cells b.y blank (IsRest-none (λ c. cells c b.y) end_of_plane b.rows.here.now here h.rows.here) c)
+  | inl s ↦ subst (λ z. cells c z ≡ 0) (omega (arith, ints, l, s)) (on-all cells b.y blank (IsRest-none (λ c. cells c b.y) first_coordinate b.rows.here.now here h.rows.here) c)
   | inr s ↦ elim (less-or-not r (b.y +ℤ pos 2)) [
-    | inl t ↦ subst (λ z. cells c z ≡ 0) (omega (arith, ints, s, t)) (on-all cells (after b.y) blank (IsRest-none (λ c. cells c (after b.y)) end_of_plane b.rows.south.now south h.rows.south) c)
+    | inl t ↦ subst (λ z. cells c z ≡ 0) (omega (arith, ints, s, t)) (on-all cells (after b.y) blank (IsRest-none (λ c. cells c (after b.y)) first_coordinate b.rows.south.now south h.rows.south) c)
     | inr t ↦ on-all cells r blank (λ c w. beyond c r w t u) c
   ]
 ]
@@ -93,11 +93,11 @@ some-taken y cells (cell ∷ front) back s b = omega arith
 
 -- the next row's three rows: the two that were there, and the new southern one
 next-rows : (cells : ℤ → ℤ → ℕ) (y : ℤ) (b : Band) (rows : Rows) → rows.north.now ≡ b.rows.here.now → rows.here.now ≡ b.rows.south.now
-    → IsRest (λ c. cells c (before y)) end_of_plane b.rows.here.now → IsRest (λ c. cells c y) end_of_plane b.rows.south.now → IsRest (λ c. cells c (after y)) end_of_plane rows.south.now
-    → AreRows cells y end_of_plane rows
+    → IsRest (λ c. cells c (before y)) first_coordinate b.rows.here.now → IsRest (λ c. cells c y) first_coordinate b.rows.south.now → IsRest (λ c. cells c (after y)) first_coordinate rows.south.now
+    → AreRows cells y first_coordinate rows
 next-rows cells y b rows en eh north here south = record {
-  north = subst (λ z. IsRest (λ c. cells c (before y)) end_of_plane z) (sym en) north;
-  here = subst (λ z. IsRest (λ c. cells c y) end_of_plane z) (sym eh) here;
+  north = subst (λ z. IsRest (λ c. cells c (before y)) first_coordinate z) (sym en) north;
+  here = subst (λ z. IsRest (λ c. cells c y) first_coordinate z) (sym eh) here;
   south = south;
 }
 
@@ -106,30 +106,30 @@ pub goes-south : (cells : ℤ → ℤ → ℕ) (b new : Band) → IsBlankBefore 
     → GoesSouth cells b new
 goes-south cells b new blank h inside (inl p) en eh s inside' =
     let y = new.y in
-    let split = split-row cells end_of_plane (after y) new.rows.south.now new.rest.now s.row s.rest inside'
-    (subst (λ z. IsRestOf cells end_of_plane (after y) z) s.both (subst (λ z. IsRestOf cells end_of_plane z b.rest.now) (omega (arith, ints, p.0)) h.rest)) in
+    let split = split-row cells first_coordinate (after y) new.rows.south.now new.rest.now s.row s.rest inside'
+    (subst (λ z. IsRestOf cells first_coordinate (after y) z) s.both (subst (λ z. IsRestOf cells first_coordinate z b.rest.now) (omega (arith, ints, p.0)) h.rest)) in
     record {
       south = omega (arith, ints, p.0);
       here = record {
         rows = next-rows cells y b new.rows en eh
-            (subst (λ z. IsRest (λ c. cells c z) end_of_plane b.rows.here.now) (omega (arith, ints, p.0)) h.rows.here)
-            (subst (λ z. IsRest (λ c. cells c z) end_of_plane b.rows.south.now) (omega (arith, ints, p.0)) h.rows.south)
+            (subst (λ z. IsRest (λ c. cells c z) first_coordinate b.rows.here.now) (omega (arith, ints, p.0)) h.rows.here)
+            (subst (λ z. IsRest (λ c. cells c z) first_coordinate b.rows.south.now) (omega (arith, ints, p.0)) h.rows.south)
             split.0;
-        rest = subst (λ z. IsRestOf cells end_of_plane z new.rest.now) (omega (arith, ints)) split.1;
+        rest = subst (λ z. IsRestOf cells first_coordinate z new.rest.now) (omega (arith, ints)) split.1;
       };
       passed = λ r l u. absurd (omega (arith, ints, p.0, l, u));
     }
 goes-south cells b new blank h inside (inr p) en eh s inside' =
-    let split = split-row cells end_of_plane (after new.y) new.rows.south.now new.rest.now s.row s.rest inside'
-    (subst (λ z. IsRestOf cells end_of_plane (after new.y) z) s.both (later-row cells (b.y +ℤ pos 2) (after new.y) b.rest.now p.2 inside h.rest)) in
+    let split = split-row cells first_coordinate (after new.y) new.rows.south.now new.rest.now s.row s.rest inside'
+    (subst (λ z. IsRestOf cells first_coordinate (after new.y) z) s.both (later-row cells (b.y +ℤ pos 2) (after new.y) b.rest.now p.2 inside h.rest)) in
     record {
       south = omega (arith, ints, first);
       here = record {
         rows = next-rows cells new.y b new.rows en eh
-            (IsRest-empty (λ c. cells c (before new.y)) end_of_plane b.rows.here.now p.0 (λ c l. none (before new.y) c (omega (arith, ints, first)) (omega (arith, ints))))
-            (IsRest-empty (λ c. cells c new.y) end_of_plane b.rows.south.now p.1 (λ c l. none new.y c (omega (arith, ints, first)) (omega (arith, ints))))
+            (IsRest-empty (λ c. cells c (before new.y)) first_coordinate b.rows.here.now p.0 (λ c l. none (before new.y) c (omega (arith, ints, first)) (omega (arith, ints))))
+            (IsRest-empty (λ c. cells c new.y) first_coordinate b.rows.south.now p.1 (λ c l. none new.y c (omega (arith, ints, first)) (omega (arith, ints))))
             split.0;
-        rest = subst (λ z. IsRestOf cells end_of_plane z new.rest.now) (omega (arith, ints)) split.1;
+        rest = subst (λ z. IsRestOf cells first_coordinate z new.rest.now) (omega (arith, ints)) split.1;
       };
       passed = λ r l u. far-row cells r (λ t c w v. none t c (omega (arith, ints, l, w)) (omega (arith, ints, u, v)));
     }

@@ -12,7 +12,7 @@ use Rattle.life_base.specs.Tree.{Tree, depth, half_side, tree_cell}
 use Rattle.life_quad.specs.Cells.{IsBefore, IsCellList}
 use Rattle.life_quad.proofs.LawLemmas.{cells_lie_inside}
 use Rattle.life_sweep.specs.Around.{after}
-use Rattle.life_sweep.specs.Rows.{IsRestOf, IsFrom, Precedes, IsInside, IsBlankBefore, end_of_plane}
+use Rattle.life_sweep.specs.Rows.{IsRestOf, IsFrom, Precedes, IsInside, IsBlankBefore, first_coordinate}
 
 cases : (cell d : Cell) (rest : List Cell) → Contains (cell ∷ rest) d → (cell ≡ d) ⊎ Contains rest d
 cases cell d rest (zero, l, e) = inl e
@@ -94,16 +94,16 @@ blank-before t l = record {
   north = λ x y u. elim (eqb_tells (tree_cell t x y) 0) [ inl e ↦ e.1 | inr n ↦ (let i = nonzero-inside t x y n.1 in let s = half-small (depth t) l in absurd (omega (arith, ints, u, i.north, s))) ];
 }
 
-pub cells-sorted : (t : Tree) (list : List Cell) → depth t ≤ MAX_LEVEL → IsCellList t list → IsRestOf (tree_cell t) end_of_plane end_of_plane list
-cells-sorted t list l h = sorted-from (tree_cell t) end_of_plane end_of_plane list h.in_order
+pub cells-sorted : (t : Tree) (list : List Cell) → depth t ≤ MAX_LEVEL → IsCellList t list → IsRestOf (tree_cell t) first_coordinate first_coordinate list
+cells-sorted t list l h = sorted-from (tree_cell t) first_coordinate first_coordinate list h.in_order
     (λ d c. let here = h.true_cells d c in let i = inside d here in (here.0, from d i))
     (λ c r p n. h.all_cells (record { x = c; y = r; state = tree_cell t c r }) refl n)
   where
     inside : (d : Cell) → (tree_cell t d.x d.y ≡ d.state) × (d.state ≢ 0) → Inside (half_side t) d.x d.y
     inside d e = nonzero-inside t d.x d.y (λ z. e.1 (sym e.0 ∙ z))
 
-    from : (d : Cell) → Inside (half_side t) d.x d.y → IsFrom end_of_plane end_of_plane d.x d.y
-    from d i = let s = half-small (depth t) l in elim (less-or-not end_of_plane d.y) [ inl u ↦ inl u | inr u ↦ inr (omega (arith, ints, u, i.north, s), omega (arith, ints, i.west, s)) ]
+    from : (d : Cell) → Inside (half_side t) d.x d.y → IsFrom first_coordinate first_coordinate d.x d.y
+    from d i = let s = half-small (depth t) l in elim (less-or-not first_coordinate d.y) [ inl u ↦ inl u | inr u ↦ inr (omega (arith, ints, u, i.north, s), omega (arith, ints, i.west, s)) ]
 
 pub cells-inside : (t : Tree) (list : List Cell) → depth t ≤ MAX_LEVEL → IsCellList t list → All IsInside list
 cells-inside t list l h k d m =

@@ -4,7 +4,7 @@ use Rattle.std.proofs.lemmas.Int.{ints}
 use Rattle.life_table.specs.Meaning.{Answer, Becomes, Ambiguous}
 use Rattle.life_strip.specs.Given.{GivenRun, IsNext, state_by}
 use Rattle.life_sweep.specs.Around.{before, after}
-use Rattle.life_sweep.specs.Rows.{IsFrom, Precedes, IsFar, IsFarRow, IsBlankBefore, column_at, no_column, end_of_plane, IsWindow, GoesOn, states_of}
+use Rattle.life_sweep.specs.Rows.{IsFrom, Precedes, IsFar, IsFarRow, IsBlankBefore, column_at, no_column, first_coordinate, IsWindow, GoesOn, states_of}
 use Rattle.life_sweep.specs.Sweep.{states_at, zeros, IsDrawnAt, IsLeft, IsFirstAmbiguous, IsSwept, IsSweptRows, IsPut, IsReady, IsReadyRow}
 use Rattle.life_sweep.specs.declared.column.Column.{Column}
 use Rattle.life_sweep.specs.declared.window.Window.{Window}
@@ -25,13 +25,13 @@ far-in-row : (cells : ℤ → ℤ → ℕ) (y : ℤ) → IsFarRow cells y → (x
 far-in-row cells y h x = (h (before x), h x, h (after x))
 
 -- west of the plane there is no cell
-far-west : (cells : ℤ → ℤ → ℕ) (x y : ℤ) → IsBlankBefore cells → after x <ℤ end_of_plane → IsFar cells y x
+far-west : (cells : ℤ → ℤ → ℕ) (x y : ℤ) → IsBlankBefore cells → after x <ℤ first_coordinate → IsFar cells y x
 far-west cells x y blank l = (column (before x) (omega (arith, ints, l)), column x (omega (arith, ints, l)), column (after x) l)
   where
-    column : (c : ℤ) → c <ℤ end_of_plane → column_at cells y c ≡ no_column
+    column : (c : ℤ) → c <ℤ first_coordinate → column_at cells y c ≡ no_column
     column c l = column-is _ _ _ 0 0 0 (blank.west c (before y) l) (blank.west c y l) (blank.west c (after y) l)
 
-pub west-column : (cells : ℤ → ℤ → ℕ) (y c : ℤ) → IsBlankBefore cells → c <ℤ end_of_plane → column_at cells y c ≡ no_column
+pub west-column : (cells : ℤ → ℤ → ℕ) (y c : ℤ) → IsBlankBefore cells → c <ℤ first_coordinate → column_at cells y c ≡ no_column
 west-column cells y c blank l = column-is _ _ _ 0 0 0 (blank.west c (before y) l) (blank.west c y l) (blank.west c (after y) l)
 
 -- a place is before the next one if it is before this one, or this one
@@ -44,7 +44,7 @@ module _ (A : List ℕ → Answer → Type 0) (cells : ℤ → ℤ → ℕ) wher
   far-done drawn leaves x y quiet far e = record { next = 0; answer = subst (λ v. A v (Becomes 0)) (sym (far-states cells x y far)) quiet; kept = λ k. e }
 
   -- from the rows before y to the first place of the row
-  pub into-row : (drawn : ℤ → ℤ → ℕ) (leaves : Bool) (x y : ℤ) → A zeros (Becomes 0) → IsBlankBefore cells → after x <ℤ end_of_plane → IsSweptRows A cells drawn leaves y → IsSwept A cells drawn leaves (after x) y
+  pub into-row : (drawn : ℤ → ℤ → ℕ) (leaves : Bool) (x y : ℤ) → A zeros (Becomes 0) → IsBlankBefore cells → after x <ℤ first_coordinate → IsSweptRows A cells drawn leaves y → IsSwept A cells drawn leaves (after x) y
   into-row drawn leaves x y quiet blank l s = record {
     done = λ c r p. elim p [
       | inl m ↦ s.done c r m
@@ -206,14 +206,14 @@ ambiguous-here A cells drawn leaves y w z line quiet on s h =
     }
 
 -- before the first row nothing is drawn
-pub start-rows : (A : List ℕ → Answer → Type 0) (cells drawn : ℤ → ℤ → ℕ) (y : ℤ) → A zeros (Becomes 0) → IsBlankBefore cells → after y <ℤ end_of_plane → ((x r : ℤ) → drawn x r ≡ 0) → IsSweptRows A cells drawn false (after y)
+pub start-rows : (A : List ℕ → Answer → Type 0) (cells drawn : ℤ → ℤ → ℕ) (y : ℤ) → A zeros (Becomes 0) → IsBlankBefore cells → after y <ℤ first_coordinate → ((x r : ℤ) → drawn x r ≡ 0) → IsSweptRows A cells drawn false (after y)
 start-rows A cells drawn y quiet blank l none = record {
   done = λ c r p. far-done A cells drawn false c r quiet (far-in-row cells r (north r (omega (arith, ints, p, l))) c) (none c r);
   clear = λ c r p. none c r;
   left = λ e. absurd (true≢false (sym e));
 }
   where
-    north : (r : ℤ) → after r <ℤ end_of_plane → IsFarRow cells r
+    north : (r : ℤ) → after r <ℤ first_coordinate → IsFarRow cells r
     north r l x = column-is _ _ _ 0 0 0 (blank.north x (before r) (omega (arith, ints, l))) (blank.north x r (omega (arith, ints, l))) (blank.north x (after r) l)
 
 -- behind the last row all is drawn

@@ -8,8 +8,8 @@ use Rattle.life_sweep.specs.declared.window.Window.{Window}
 use Rattle.life_sweep.specs.declared.band.Band.{Band}
 
 -- the first coordinate of a plane of level 62, and the first behind its last one
-abbrev pub end_of_plane : ℤ
-end_of_plane = neg_ℤ (pos (2 ^ 61))
+abbrev pub first_coordinate : ℤ
+first_coordinate = neg_ℤ (pos (2 ^ 61))
 
 abbrev pub far : ℤ
 far = pos (2 ^ 61)
@@ -20,9 +20,9 @@ start_of_sweep = neg_ℤ (pos (2 ^ 61 + 2))
 
 -- within a plane of level 62 at most
 pub record IsInside (cell : Cell) : Type 0 where
-  pub west : end_of_plane ≤ℤ cell.x
+  pub west : first_coordinate ≤ℤ cell.x
   pub east : cell.x <ℤ far
-  pub north : end_of_plane ≤ℤ cell.y
+  pub north : first_coordinate ≤ℤ cell.y
   pub south : cell.y <ℤ far
 
 -- the list has the cells of a row from the column x on that aren't 0, from west to east
@@ -80,7 +80,7 @@ abbrev pub AreSortedFrom : ℤ → Rows → Type 0
 AreSortedFrom x rows = (cells : ℤ → ℤ → ℕ) × (y : ℤ) × AreRows cells y x rows
 
 abbrev pub AreSorted : Rows → Type 0
-AreSorted rows = AreSortedFrom end_of_plane rows
+AreSorted rows = AreSortedFrom first_coordinate rows
 
 -- a row has its first cell in the column
 abbrev pub SomeStartsAt : ℤ → Rows → Type 0
@@ -176,13 +176,13 @@ pub record IsSplitAtRow (y : ℤ) (cells front back : List Cell) : Type 0 where
 
 -- every pair of the first columns and rows has state 0
 pub record IsBlankBefore (cells : ℤ → ℤ → ℕ) : Type 0 where
-  pub west : (x y : ℤ) → x <ℤ end_of_plane → cells x y ≡ 0
-  pub north : (x y : ℤ) → y <ℤ end_of_plane → cells x y ≡ 0
+  pub west : (x y : ℤ) → x <ℤ first_coordinate → cells x y ≡ 0
+  pub north : (x y : ℤ) → y <ℤ first_coordinate → cells x y ≡ 0
 
 -- the three rows around y, and the cells south of them
 pub record IsBand (cells : ℤ → ℤ → ℕ) (b : Band) : Type 0 where
-  pub rows : AreRows cells b.y end_of_plane b.rows
-  pub rest : IsRestOf cells end_of_plane (b.y +ℤ pos 2) b.rest.now
+  pub rows : AreRows cells b.y first_coordinate b.rows
+  pub rest : IsRestOf cells first_coordinate (b.y +ℤ pos 2) b.rest.now
 
 -- the band's rows fit their type
 pub record IsSoundBand (b : Band) : Type 0 where
@@ -227,4 +227,4 @@ pub record IsLastBand (b : Band) : Type 0 where
 
 -- the cells are sorted: they are those of some plane
 abbrev pub IsSortedList : List Cell → Type 0
-IsSortedList list = (cells : ℤ → ℤ → ℕ) × IsBlankBefore cells × IsRestOf cells end_of_plane end_of_plane list
+IsSortedList list = (cells : ℤ → ℤ → ℕ) × IsBlankBefore cells × IsRestOf cells first_coordinate first_coordinate list

@@ -15,7 +15,7 @@ use Rattle.life_base.specs.declared.kind.Kind.TheVariants as kinds
 use Rattle.life_base.specs.declared.fault.Fault.{Fault}
 use Rattle.life_base.specs.Refusal.{fault_of}
 use Rattle.life_sweep.specs.declared.column.Rows.{Rows}
-use Rattle.life_sweep.specs.Rows.{IsFrom, Precedes, AreRows, IsBlankBefore, IsRestOf, end_of_plane}
+use Rattle.life_sweep.specs.Rows.{IsFrom, Precedes, AreRows, IsBlankBefore, IsRestOf, first_coordinate}
 use Rattle.life_sweep.specs.declared.law.Known.{Known}
 
 -- the state of a cell and of its eight neighbours
@@ -90,12 +90,12 @@ module _ (answers : List ℕ → Answer → Type 0) (cells : ℤ → ℤ → ℕ
 
 -- the rows around y are those of the cells
 pub record IsScene (cells : ℤ → ℤ → ℕ) (y : ℤ) (rows : Rows) : Type 0 where
-  pub rows_are : AreRows cells y end_of_plane rows
+  pub rows_are : AreRows cells y first_coordinate rows
   pub blank : IsBlankBefore cells
 
 -- the list has the cells of the plane, row by row
 pub record IsSorted (plane : ℤ → ℤ → ℕ) (cells : List Cell) : Type 0 where
-  pub cells_are : IsRestOf plane end_of_plane end_of_plane cells
+  pub cells_are : IsRestOf plane first_coordinate first_coordinate cells
   pub blank : IsBlankBefore plane
 
 -- why a step is refused: the first place that is ambiguous, or, where there is none, that a cell leaves the plane

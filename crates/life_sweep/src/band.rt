@@ -1,8 +1,9 @@
 //! The rows of the plane beside which cells stand, from north to south.
 ghost use Rattle.std.specs.Prelude.{◌≡◌, ℕ, ℤ, ◌+◌, ◌<◌, ◌≤◌, ◌+ℤ◌, ◌≤ℤ◌, ◌<ℤ◌, pos, true, false, All, IfSome, None, IsTrue, ◌↔◌, length, take, drop};
-ghost use Rattle.life_sweep.specs.Rows.{IsBand, IsSoundBand, IsBandBelow, GoesSouth, IsFarRow, IsRestOf, IsBlankBefore, IsInside, IsSortedList, IsSplitAtRow, IsNextRow, IsLastBand, AreInside, AreBelow, rows_left, start_of_sweep, end_of_plane, far};
+ghost use Rattle.life_sweep.specs.Rows.{IsBand, IsSoundBand, IsBandBelow, GoesSouth, IsFarRow, IsRestOf, IsBlankBefore, IsInside, IsSortedList, IsSplitAtRow, IsNextRow, IsLastBand, AreInside, AreBelow, rows_left, start_of_sweep, first_coordinate, far};
 
 use crate::column::Rows;
+use crate::plane::START;
 use life_base::Cell;
 
 /// Three rows of cells, and the cells south of them.
@@ -12,9 +13,6 @@ pub(crate) struct Band<'a> {
     pub(crate) rows: Rows<'a>,
     pub(crate) rest: &'a [Cell],
 }
-
-// North of every cell.
-const START: i64 = -(1 << 61) - 2;
 
 // Whether a cell is in the row.
 fn is_in_row(cell: &Cell, y: i64) -> bool
@@ -44,7 +42,7 @@ impl<'a> Band<'a> {
         ensures sound { IsSoundBand result }
         ensures below { (bound : ℕ) → All (λ cell. cell.state < bound) cells.now → IsBandBelow bound result }
         ensures start { result.y ≡ start_of_sweep }
-        ensures band { (plane : ℤ → ℤ → ℕ) → IsBlankBefore plane → IsRestOf plane end_of_plane end_of_plane cells.now → IsBand plane result }
+        ensures band { (plane : ℤ → ℤ → ℕ) → IsBlankBefore plane → IsRestOf plane first_coordinate first_coordinate cells.now → IsBand plane result }
     {
         Band {
             y: START,

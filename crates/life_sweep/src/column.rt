@@ -1,8 +1,9 @@
 //! Three rows of cells, column by column.
 ghost use Rattle.std.specs.Prelude.{◌≡◌, ◌⊎◌, ℕ, ℤ, ◌+◌, ◌<◌, ◌≤◌, ◌≤ℤ◌, ◌<ℤ◌, ◌+ℤ◌, true, All, IfSome, None, length};
 ghost use Rattle.life_sweep.specs.Around.{after};
-ghost use Rattle.life_sweep.specs.Rows.{IsRest, IsInside, StartsFrom, StartsAt, SomeStartsAt, InRows, AreInside, AreBelow, AreRows, IsColumn, column_at, is_blank_column, left_in, far, end_of_plane};
+ghost use Rattle.life_sweep.specs.Rows.{IsRest, IsInside, StartsFrom, StartsAt, SomeStartsAt, InRows, AreInside, AreBelow, AreRows, IsColumn, column_at, is_blank_column, left_in, far, first_coordinate};
 
+use crate::plane::HALF;
 use life_base::{Cell, State};
 
 /// The states of the cells of a column in three rows, one below the other.
@@ -29,7 +30,7 @@ pub(crate) const BLANK: Column = Column {
 };
 
 // East of every cell.
-const FAR: i64 = 1 << 61;
+const FAR: i64 = HALF;
 
 impl Column {
     /// Whether no cell stands in the column.
@@ -61,7 +62,7 @@ fn first_in(row: &[Cell]) -> i64
     requires inside { All IsInside row.now }
     ensures from { StartsFrom result row.now }
     ensures at { StartsAt result row.now ⊎ ((result ≡ far) × (length row.now ≡ 0)) }
-    ensures least { end_of_plane ≤ℤ result }
+    ensures least { first_coordinate ≤ℤ result }
     ensures most { result ≤ℤ far }
 {
     match row.first() {
@@ -85,7 +86,7 @@ impl<'a> Rows<'a> {
         requires inside { AreInside self.now }
         ensures from { IfSome result (λ x. InRows (StartsFrom x) self.now) }
         ensures at { IfSome result (λ x. SomeStartsAt x self.now) }
-        ensures least { IfSome result (λ x. end_of_plane ≤ℤ x) }
+        ensures least { IfSome result (λ x. first_coordinate ≤ℤ x) }
         ensures most { IfSome result (λ x. x <ℤ far) }
         ensures none { result ≡ None → left_in self.now ≡ 0 }
     {

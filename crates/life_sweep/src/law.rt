@@ -31,6 +31,10 @@ pub trait Law {
         ensures { result ≡ bound self.now };
 
     /// The next state, by the centre's state and then the neighbours' from north clockwise.
+    ///
+    /// # Errors
+    ///
+    /// `Ambiguous` where the law gives two states, with the line that does. The law is the same value then.
     fn next(&mut self, around: &[State; 9]) -> Result<State, Fault>
         requires { All (λ s. s < bound self.old) around.now }
         ensures same { self.new ≡ self.old }
@@ -234,7 +238,7 @@ impl<'a> ByTable<'a> {
     ///
     /// # Errors
     ///
-    /// `Memory`.
+    /// `Memory`, and nothing else.
     pub fn new(alloc: Global, table: &'a Table) -> Result<ByTable<'a>, Kind>
         ensures table { IfOk result (λ law. law ≡ table.now) }
         ensures refusals { IfErr result (λ kind. kind ≡ Kind.Memory) }

@@ -11,6 +11,7 @@ mod generation;
 mod law;
 pub mod laws;
 mod pen;
+mod plane;
 mod sweep;
 mod window;
 

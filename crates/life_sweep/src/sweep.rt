@@ -9,21 +9,19 @@ ghost use Rattle.life_sweep.specs.Pen.{IsHolding, drawn_runs};
 ghost use Rattle.life_strip.specs.Given.{IsOnPlane, state_by};
 ghost use Rattle.life_table.specs.Meaning.{Answer, Becomes, Ambiguous};
 ghost use Rattle.life_sweep.specs.Around.{after};
-ghost use Rattle.life_sweep.specs.Rows.{AreRows, AreInside, AreSorted, IsSortedList, AreBelow, IsBlankBefore, IsInside, IsSoundWindow, IsWindowBelow, IsRestOf, states_of, end_of_plane};
+ghost use Rattle.life_sweep.specs.Rows.{AreRows, AreInside, AreSorted, IsSortedList, AreBelow, IsBlankBefore, IsInside, IsSoundWindow, IsWindowBelow, IsRestOf, states_of, first_coordinate};
 ghost use Rattle.life_sweep.specs.Sweep.{IsScene, IsSorted, RefusesStep, states_at, IsPut, IsReady, IsReadyRow, IsSweptRows, IsFirstAmbiguous, IsDrawnAt, IsLeft, zeros};
 
 use crate::band::Band;
 use crate::column::Rows;
 use crate::law::Law;
 use crate::pen::Pen;
+use crate::plane::HALF;
 use crate::window::Window;
 use life_base::{Cell, Fault, Kind, MAX_LEVEL};
 use life_quad::{Id, Squares};
 use life_strip::laws::empty_builder_fills;
 use std::alloc::Global;
-
-// Half of the side of the plane.
-const HALF: i64 = 1 << (MAX_LEVEL - 1);
 
 // Whether a place is one of the plane.
 fn is_on_plane(x: i64, y: i64) -> bool

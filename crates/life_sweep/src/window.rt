@@ -3,6 +3,7 @@ ghost use Rattle.std.specs.Prelude.{◌≡◌, ℕ, ℤ, ◌<◌, ◌<ℤ◌, �
 ghost use Rattle.life_sweep.specs.Rows.{IsNextPlace, IsOver, far, IsWindow, IsSoundWindow, IsWindowBelow, GoesOn, IsFar, AreRows, AreInside, AreSorted, AreBelow, column_at, no_column, steps_left, states_of, start_of_sweep};
 
 use crate::column::{BLANK, Column, Rows};
+use crate::plane::START;
 use life_base::State;
 
 /// Three columns of three rows, and what is left of the rows east of them.
@@ -14,9 +15,6 @@ pub(crate) struct Window<'a> {
     pub(crate) east: Column,
     pub(crate) rows: Rows<'a>,
 }
-
-// West of every cell.
-const START: i64 = -(1 << 61) - 2;
 
 impl<'a> Window<'a> {
     /// Before the first place.

@@ -1,7 +1,7 @@
 //! Descriptors: the number of states, the neighbourhood and the symmetry.
 
 ghost use Rattle.std.specs.Prelude.{◌≡◌};
-ghost use Rattle.life_table.specs.Reading.{states_named as states_by_name, neighborhood_named as neighborhood_by_name, symmetry_named as symmetry_by_name, agree as are_listed, if_states, if_neighborhood, if_symmetry, told_descriptor as told_by_descriptor, is_neighborhood_key as names_neighborhood};
+ghost use Rattle.life_table.specs.Reading.{states_named, neighborhood_named, symmetry_named, agree, if_states, if_neighborhood, if_symmetry, told_descriptor, is_neighborhood_key};
 
 use crate::said::{Said, Told};
 use crate::table::{Neighborhood, Symmetry};
@@ -10,7 +10,7 @@ use life_base::{Kind, trimmed};
 
 /// The number of states that a word writes.
 fn states_named(word: &[u8]) -> Option<u16>
-    ensures { result ≡ states_by_name word.now }
+    ensures { result ≡ states_named word.now }
 {
     match number_below(word, 257) {
         Some(number) if 2 <= number => Some(number as u16),
@@ -20,7 +20,7 @@ fn states_named(word: &[u8]) -> Option<u16>
 
 /// The neighbourhood with this word.
 fn neighborhood_named(word: &[u8]) -> Option<Neighborhood>
-    ensures { result ≡ neighborhood_by_name word.now }
+    ensures { result ≡ neighborhood_named word.now }
 {
     if is_word(word, b"vonNeumann") {
         Some(Neighborhood::VonNeumann)
@@ -33,7 +33,7 @@ fn neighborhood_named(word: &[u8]) -> Option<Neighborhood>
 
 /// The symmetry with this word.
 fn symmetry_named(word: &[u8]) -> Option<Symmetry>
-    ensures { result ≡ symmetry_by_name word.now }
+    ensures { result ≡ symmetry_named word.now }
 {
     if is_word(word, b"none") {
         Some(Symmetry::Identity)
@@ -56,7 +56,7 @@ fn symmetry_named(word: &[u8]) -> Option<Symmetry>
 
 /// Whether the symmetry is listed for the neighbourhood, where both are known.
 fn agree(neighborhood: Option<Neighborhood>, symmetry: Option<Symmetry>) -> bool
-    ensures { result ≡ are_listed neighborhood symmetry }
+    ensures { result ≡ agree neighborhood symmetry }
 {
     match (neighborhood, symmetry) {
         (Some(Neighborhood::VonNeumann), Some(Symmetry::Rotate8 | Symmetry::Rotate8Reflect)) =>
@@ -67,7 +67,7 @@ fn agree(neighborhood: Option<Neighborhood>, symmetry: Option<Symmetry>) -> bool
 
 /// What a number of states says, or which rule it breaks.
 fn told_states(word: &[u8]) -> Result<Told, Kind>
-    ensures { result ≡ if_states (states_by_name word.now) }
+    ensures { result ≡ if_states (states_named word.now) }
 {
     match states_named(word) {
         Some(number) => Ok(Told::States(number)),
@@ -77,7 +77,7 @@ fn told_states(word: &[u8]) -> Result<Told, Kind>
 
 /// The same of a neighbourhood behind this symmetry.
 fn told_neighborhood(symmetry: Option<Symmetry>, word: &[u8]) -> Result<Told, Kind>
-    ensures { result ≡ if_neighborhood symmetry (neighborhood_by_name word.now) }
+    ensures { result ≡ if_neighborhood symmetry (neighborhood_named word.now) }
 {
     match neighborhood_named(word) {
         Some(neighborhood) => {
@@ -93,7 +93,7 @@ fn told_neighborhood(symmetry: Option<Symmetry>, word: &[u8]) -> Result<Told, Ki
 
 /// The same of a symmetry behind this neighbourhood.
 fn told_symmetry(neighborhood: Option<Neighborhood>, word: &[u8]) -> Result<Told, Kind>
-    ensures { result ≡ if_symmetry neighborhood (symmetry_by_name word.now) }
+    ensures { result ≡ if_symmetry neighborhood (symmetry_named word.now) }
 {
     match symmetry_named(word) {
         Some(symmetry) => {
@@ -109,7 +109,7 @@ fn told_symmetry(neighborhood: Option<Neighborhood>, word: &[u8]) -> Result<Told
 
 /// Whether a key stands before the neighbourhood.
 fn is_neighborhood_key(key: &[u8]) -> bool
-    ensures { result ≡ names_neighborhood key.now }
+    ensures { result ≡ is_neighborhood_key key.now }
 {
     is_word(key, b"neighborhood") || is_word(key, b"neighbourhood")
 }
@@ -117,7 +117,7 @@ fn is_neighborhood_key(key: &[u8]) -> bool
 /// What a descriptor says, or which rule it breaks.
 #[tactic(auto, unfolding(crate::specs::Reading::told_descriptor))]
 pub(crate) fn told_descriptor(said: &Said, text: &[u8]) -> Result<Told, Kind>
-    ensures { result ≡ told_by_descriptor said.now.n_states said.now.neighborhood said.now.symmetry text.now }
+    ensures { result ≡ told_descriptor said.now.n_states said.now.neighborhood said.now.symmetry text.now }
 {
     let (key, setting) = split_at_byte(text, b':');
     let (key, word) = (trimmed(key), trimmed(setting));

@@ -2,7 +2,7 @@
 
 ghost use Rattle.std.specs.Prelude.{◌≡◌, ◌≤◌, List, map, IfOk, IfErr, option_map, option_and_then};
 ghost use Rattle.life_base.specs.declared.kind.Kind.TheVariants.{Memory};
-ghost use Rattle.life_table.specs.Reading.{entry_of as entry_by_word, single as set_of_one, union as union_of_two, states_of_entry as states_of_place, states_listed as states_in_list, entries_of as entries_on, all_some, between_commas, bytes_alone};
+ghost use Rattle.life_table.specs.Reading.{entry_of, single, union, states_of_entry, states_listed, entries_of, all_some, between_commas, bytes_alone};
 
 use crate::by_name::Variables;
 use crate::table::Entry;
@@ -14,23 +14,17 @@ use std::alloc::Global;
 #[tactic(auto, unfolding(crate::specs::Reading::entry_of))]
 pub(crate) fn entry_of(n_states: u16, vars: &Variables, word: &[u8]) -> Option<Entry>
     requires most { n_states ≤ 256 }
-    ensures { result ≡ entry_by_word n_states vars.now word.now }
+    ensures { result ≡ entry_of n_states vars.now word.now }
 {
     if is_digit_text(word) {
-        return match number_below(word, n_states as u64) {
-            Some(state) => Some(Entry::Fixed(state as State)),
-            None => None,
-        };
+        return Some(Entry::Fixed(number_below(word, n_states as u64)? as State));
     }
-    match vars.number_of(word) {
-        Some(number) => Some(Entry::Var(number as u64)),
-        None => None,
-    }
+    Some(Entry::Var(vars.number_of(word)? as u64))
 }
 
 /// The set of one state.
 fn single(state: State) -> [u64; 4]
-    ensures { result ≡ set_of_one state }
+    ensures { result ≡ single state }
 {
     let mut states = [0; 4];
     states[state as usize / 64] = 1 << (state % 64);
@@ -39,7 +33,7 @@ fn single(state: State) -> [u64; 4]
 
 /// Adds the states of another set.
 fn unite(states: &mut [u64; 4], more: &[u64; 4])
-    ensures { states.new ≡ union_of_two states.old more.now }
+    ensures { states.new ≡ union states.old more.now }
 {
     *states = [
         states[0] | more[0],
@@ -51,7 +45,7 @@ fn unite(states: &mut [u64; 4], more: &[u64; 4])
 
 /// The states of an entry.
 fn states_of_entry(vars: &Variables, entry: Entry) -> Option<[u64; 4]>
-    ensures { result ≡ states_of_place vars.now entry }
+    ensures { result ≡ states_of_entry vars.now entry }
 {
     match entry {
         Entry::Fixed(state) => Some(single(state)),
@@ -62,28 +56,22 @@ fn states_of_entry(vars: &Variables, entry: Entry) -> Option<[u64; 4]>
 /// The states of the entry that a word writes.
 fn states_named(n_states: u16, vars: &Variables, word: &[u8]) -> Option<[u64; 4]>
     requires most { n_states ≤ 256 }
-    ensures { result ≡ option_and_then (states_of_place vars.now) (entry_by_word n_states vars.now word.now) }
+    ensures { result ≡ option_and_then (states_of_entry vars.now) (entry_of n_states vars.now word.now) }
 {
-    match entry_of(n_states, vars, word) {
-        Some(entry) => states_of_entry(vars, entry),
-        None => None,
-    }
+    states_of_entry(vars, entry_of(n_states, vars, word)?)
 }
 
 /// The states of all entries in a list.
 #[tactic(auto, unfolding(crate::specs::Reading::states_listed))]
 pub(crate) fn states_listed(n_states: u16, vars: &Variables, list: &[u8]) -> Option<[u64; 4]>
     requires most { n_states ≤ 256 }
-    ensures { result ≡ states_in_list n_states vars.now list.now }
+    ensures { result ≡ states_listed n_states vars.now list.now }
 {
     let mut states = [0; 4];
     let mut rest = Some(list);
     while let Some(left) = rest {
         let (word, behind) = first_part(left);
-        match states_named(n_states, vars, trimmed(word)) {
-            Some(more) => unite(&mut states, &more),
-            None => return None,
-        }
+        unite(&mut states, &states_named(n_states, vars, trimmed(word))?);
         rest = behind;
     }
     Some(states)
@@ -97,7 +85,7 @@ fn entries_between_commas(
     text: &[u8],
 ) -> Result<Option<Vec<Entry>>, Kind>
     requires most { n_states ≤ 256 }
-    ensures ok { IfOk result (λ found. option_map (λ entries. entries.items) found ≡ all_some (map (entry_by_word n_states vars.now) (between_commas text.now))) }
+    ensures ok { IfOk result (λ found. option_map (λ entries. entries.items) found ≡ all_some (map (entry_of n_states vars.now) (between_commas text.now))) }
     ensures err { IfErr result (λ kind. kind ≡ Memory) }
 {
     let mut entries = Vec::new(alloc);
@@ -121,7 +109,7 @@ fn entries_of_bytes(
     text: &[u8],
 ) -> Result<Option<Vec<Entry>>, Kind>
     requires most { n_states ≤ 256 }
-    ensures ok { IfOk result (λ found. option_map (λ entries. entries.items) found ≡ all_some (map (entry_by_word n_states vars.now) (bytes_alone text.now))) }
+    ensures ok { IfOk result (λ found. option_map (λ entries. entries.items) found ≡ all_some (map (entry_of n_states vars.now) (bytes_alone text.now))) }
     ensures err { IfErr result (λ kind. kind ≡ Memory) }
 {
     let mut entries = Vec::new(alloc);
@@ -145,7 +133,7 @@ pub(crate) fn entries_of(
     text: &[u8],
 ) -> Result<Option<Vec<Entry>>, Kind>
     requires most { n_states ≤ 256 }
-    ensures ok { IfOk result (λ found. option_map (λ entries. entries.items) found ≡ entries_on n_states vars.now text.now) }
+    ensures ok { IfOk result (λ found. option_map (λ entries. entries.items) found ≡ entries_of n_states vars.now text.now) }
     ensures err { IfErr result (λ kind. kind ≡ Memory) }
 {
     if has_byte(text, b',') {

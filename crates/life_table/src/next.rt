@@ -66,7 +66,11 @@ pub(crate) fn given_by(
 }
 
 impl Table {
-    /// The next state of a cell, by the first line that gives anything.
+    /// The next state of a cell, by the first line that gives anything, or its own where none does.
+    ///
+    /// # Errors
+    ///
+    /// `Ambiguous` where that line gives two states, with the number of the line in the table's file.
     pub fn next(&self, around: &Neighbours) -> Result<State, Fault>
         requires neighbours { length (cells_of around.now) ≡ neighbour_count self.now.neighborhood + 1 }
         requires states { All (λ s. s < self.now.n_states) (cells_of around.now) }

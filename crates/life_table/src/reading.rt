@@ -120,7 +120,13 @@ fn table_of(alloc: Global, said: Said, end: u64) -> Result<Table, Fault>
     }
 }
 
-/// The table that a `.rule` file writes, or why the bytes are none.
+/// The table that a `.rule` file writes.
+///
+/// # Errors
+///
+/// The place is the first line behind which the bytes can't be continued to a file with a table, or the number of lines plus 1 where they
+/// end before they have one, and the kind is that of the first rule which that line breaks, or of what is missing. Where a growth of memory
+/// is refused the fault is `Memory`, which names no line.
 pub fn read_table(alloc: Global, bytes: &[u8]) -> Result<Table, Fault>
     ensures ok { IfOk result (λ table. IsFile (lines_of bytes.now) table) }
     ensures err { IfErr result (λ fault. OrMemory fault (Refuses (lines_of bytes.now) fault)) }

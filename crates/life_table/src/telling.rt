@@ -3,7 +3,7 @@
 ghost use Rattle.std.specs.Prelude.{◌≡◌, ◌≤◌, Ok, MatchOption, drop, true, false};
 ghost use Rattle.life_base.specs.Refusal.{Answers};
 ghost use Rattle.life_base.specs.Rules.{rule_of};
-ghost use Rattle.life_table.specs.Reading.{begins_rule_line as begins_rule, name_in as name_of_rule, name_on, if_named, told_by, told_settled, told_ahead as told_before, told_in_table as told_inside, told_rest as told_others, is_described as has_settings};
+ghost use Rattle.life_table.specs.Reading.{begins_rule_line, name_in, name_on, if_named, told_by, told_settled, told_ahead, told_in_table, told_rest, is_described};
 ghost use Rattle.life_table.specs.Reader.{IsKept};
 
 use crate::descriptors::told_descriptor;
@@ -17,7 +17,7 @@ use std::alloc::Global;
 
 /// What stands behind `@RULE`, where that is followed by whitespace.
 fn text_of_rule_line(line: &[u8]) -> Option<&[u8]>
-    ensures { MatchOption result (begins_rule line.now ≡ false) (λ text. (begins_rule line.now ≡ true) × (text.now ≡ drop 5 line.now)) }
+    ensures { MatchOption result (begins_rule_line line.now ≡ false) (λ text. (begins_rule_line line.now ≡ true) × (text.now ≡ drop 5 line.now)) }
 {
     match line {
         [b'@', b'R', b'U', b'L', b'E', text @ ..] => match text {
@@ -30,7 +30,7 @@ fn text_of_rule_line(line: &[u8]) -> Option<&[u8]>
 
 /// The name of a rule text, if it is a name.
 fn name_in(alloc: Global, text: &[u8]) -> Result<Option<Name>, Kind>
-    ensures { Answers result (Ok (name_of_rule (rule_of text.now))) }
+    ensures { Answers result (Ok (name_in (rule_of text.now))) }
 {
     match Rule::parse(alloc, text) {
         Ok(Rule::Named(name)) => Ok(Some(name)),
@@ -55,7 +55,7 @@ fn told_name(alloc: Global, line: &[u8]) -> Result<Told, Kind>
 
 /// What a line before the table says.
 fn told_ahead(alloc: Global, named: &Option<Name>, line: &[u8]) -> Result<Told, Kind>
-    ensures { Answers result (told_before named.now line.now) }
+    ensures { Answers result (told_ahead named.now line.now) }
 {
     if named.is_some() {
         return if is_table_line(line) {
@@ -100,7 +100,7 @@ fn told_where_settled(
 /// What a variable or a transition says.
 fn told_rest(alloc: Global, said: &Said, fits: bool, number: u64, text: &[u8]) -> Result<Told, Kind>
     requires kept { IsKept said.now fits }
-    ensures { Answers result (told_others said.now.n_states said.now.neighborhood said.now.symmetry said.now.vars said.now.lines number text.now) }
+    ensures { Answers result (told_rest said.now.n_states said.now.neighborhood said.now.symmetry said.now.vars said.now.lines number text.now) }
 {
     match (said.n_states, said.neighborhood, said.symmetry) {
         (Some(n_states), Some(neighborhood), Some(_)) => told_where_settled(
@@ -118,7 +118,7 @@ fn told_rest(alloc: Global, said: &Said, fits: bool, number: u64, text: &[u8]) -
 
 /// Whether all settings are given.
 pub(crate) fn is_described(said: &Said) -> bool
-    ensures { result ≡ has_settings said.now }
+    ensures { result ≡ is_described said.now }
 {
     said.n_states.is_some() && said.neighborhood.is_some() && said.symmetry.is_some()
 }
@@ -132,7 +132,7 @@ fn told_in_table(
     line: &[u8],
 ) -> Result<Told, Kind>
     requires kept { IsKept said.now fits }
-    ensures { Answers result (told_inside said.now number line.now) }
+    ensures { Answers result (told_in_table said.now number line.now) }
 {
     if is_section_line(line) {
         return if is_described(said) {

@@ -3,8 +3,8 @@
 ghost use Rattle.std.specs.Prelude.{◌≡◌, ◌≤◌, List, IfOk, IfErr, Some, true, not, ◌||◌};
 ghost use Rattle.std.specs.List.{list_any, list_all};
 ghost use Rattle.life_base.specs.declared.kind.Kind.TheVariants.{Memory};
-ghost use Rattle.life_table.specs.Reading.{transition_of as transition_on, is_bound as has_input, if_transition};
-ghost use Rattle.life_table.specs.Valid.{neighbour_count as neighbours_in, is_variable as names, allows_zero as may_be_zero, fits_zero as fits_zeros, is_quiet_output as may_stay_zero, is_quiet};
+ghost use Rattle.life_table.specs.Reading.{transition_of, is_bound, if_transition};
+ghost use Rattle.life_table.specs.Valid.{neighbour_count, is_variable, allows_zero, fits_zero, is_quiet_output, is_quiet};
 
 use crate::by_name::Variables;
 use crate::entries::entries_of;
@@ -15,7 +15,7 @@ use std::alloc::Global;
 
 /// How many neighbours a cell has.
 pub(crate) fn neighbour_count(neighborhood: Neighborhood) -> usize
-    ensures { result ≡ neighbours_in neighborhood }
+    ensures { result ≡ neighbour_count neighborhood }
 {
     match neighborhood {
         Neighborhood::VonNeumann => 4,
@@ -34,7 +34,7 @@ pub(crate) fn transition_of(
     text: &[u8],
 ) -> Result<Option<Transition>, Kind>
     requires most { n_states ≤ 256 }
-    ensures ok { IfOk result (λ found. found ≡ transition_on n_states (neighbours_in neighborhood) vars.now number text.now) }
+    ensures ok { IfOk result (λ found. found ≡ transition_of n_states (neighbour_count neighborhood) vars.now number text.now) }
     ensures err { IfErr result (λ kind. kind ≡ Memory) }
 {
     let Some(mut parts) = entries_of(alloc, n_states, vars, text)? else {
@@ -55,7 +55,7 @@ pub(crate) fn transition_of(
 
 /// Whether an entry is the variable with this number.
 pub(crate) fn is_variable(number: u64, entry: Entry) -> bool
-    ensures { result ≡ names number entry }
+    ensures { result ≡ is_variable number entry }
 {
     match entry {
         Entry::Fixed(_) => false,
@@ -65,14 +65,14 @@ pub(crate) fn is_variable(number: u64, entry: Entry) -> bool
 
 /// Whether one of the entries is the variable with this number.
 fn has_variable(number: u64, entries: &[Entry]) -> bool
-    ensures { result ≡ list_any (names number) entries.now }
+    ensures { result ≡ list_any (is_variable number) entries.now }
 {
     entries.iter().any(|entry| is_variable(number, *entry))
 }
 
 /// Whether an output variable is an input.
 fn is_bound(inputs: &[Entry], output: Entry) -> bool
-    ensures { result ≡ has_input inputs.now output }
+    ensures { result ≡ is_bound inputs.now output }
 {
     match output {
         Entry::Fixed(_) => true,
@@ -83,7 +83,7 @@ fn is_bound(inputs: &[Entry], output: Entry) -> bool
 /// Whether an entry may be 0.
 #[tactic(auto, using(crate::proofs::Lookup::may_be_zero))]
 fn allows_zero(vars: &Variables, entry: Entry) -> bool
-    ensures { result ≡ may_be_zero vars.now entry }
+    ensures { result ≡ allows_zero vars.now entry }
 {
     match entry {
         Entry::Fixed(state) => state == 0,
@@ -96,14 +96,14 @@ fn allows_zero(vars: &Variables, entry: Entry) -> bool
 
 /// Whether the transition fits the neighbourhood in which each cell is 0.
 pub(crate) fn fits_zero(vars: &Variables, inputs: &[Entry]) -> bool
-    ensures { result ≡ list_all (may_be_zero vars.now) inputs.now }
+    ensures { result ≡ list_all (allows_zero vars.now) inputs.now }
 {
     inputs.iter().all(|entry| allows_zero(vars, *entry))
 }
 
 /// Whether an output is no fixed state but 0.
 fn is_quiet_output(output: Entry) -> bool
-    ensures { result ≡ may_stay_zero output }
+    ensures { result ≡ is_quiet_output output }
 {
     match output {
         Entry::Fixed(state) => state == 0,
@@ -113,7 +113,7 @@ fn is_quiet_output(output: Entry) -> bool
 
 /// Whether a transition keeps the table quiet, where this tells whether an earlier one fits the neighbourhood in which each cell is 0.
 fn stays_quiet(vars: &Variables, fits: bool, line: &Transition) -> bool
-    ensures { result ≡ (fits || not (fits_zeros vars.now line.now) || may_stay_zero line.now.output) }
+    ensures { result ≡ (fits || not (fits_zero vars.now line.now) || is_quiet_output line.now.output) }
 {
     fits || !fits_zero(vars, line.inputs.as_slice()) || is_quiet_output(line.output)
 }
@@ -121,7 +121,7 @@ fn stays_quiet(vars: &Variables, fits: bool, line: &Transition) -> bool
 /// What a transition says behind others, or which rule it breaks. `fits` tells whether one of those fits the neighbourhood in which
 /// each cell is 0.
 pub(crate) fn told_transition(vars: &Variables, fits: bool, line: Transition) -> Result<Told, Kind>
-    ensures { (earlier : List Transition) → fits ≡ list_any (fits_zeros vars.now) earlier → is_quiet vars.now earlier ≡ true
+    ensures { (earlier : List Transition) → fits ≡ list_any (fits_zero vars.now) earlier → is_quiet vars.now earlier ≡ true
         → result ≡ if_transition vars.now earlier (Some line) }
 {
     if !is_bound(line.inputs.as_slice(), line.output) {

@@ -3,7 +3,7 @@
 ghost use Rattle.std.specs.Prelude.{◌≡◌, ◌≤◌, length, MatchOption, IfOk, IfErr, true, false};
 ghost use Rattle.std.specs.List.{list_all};
 ghost use Rattle.life_base.specs.declared.kind.Kind.TheVariants.{Memory};
-ghost use Rattle.life_table.specs.Reading.{is_variable_line as begins_variable, is_name_byte as may_name, is_variable_name as names_variable, is_list, within_braces as list_within, variable_states as states_of_new, variable_of as variable_on};
+ghost use Rattle.life_table.specs.Reading.{is_variable_line, is_name_byte, is_variable_name, is_list, within_braces, variable_states, variable_of};
 
 use crate::by_name::Variables;
 use crate::entries::states_listed;
@@ -14,7 +14,7 @@ use std::alloc::Global;
 
 /// Whether a line is `var` and whitespace, followed by more.
 pub(crate) fn is_variable_line(text: &[u8]) -> bool
-    ensures { result ≡ begins_variable text.now }
+    ensures { result ≡ is_variable_line text.now }
 {
     match text {
         [b'v', b'a', b'r', next, ..] => is_whitespace(*next),
@@ -24,21 +24,21 @@ pub(crate) fn is_variable_line(text: &[u8]) -> bool
 
 /// Whether a variable's name may have the byte.
 fn is_name_byte(byte: u8) -> bool
-    ensures { result ≡ may_name byte }
+    ensures { result ≡ is_name_byte byte }
 {
-    33 <= byte && byte <= 126 && !has_byte(b",={}:#@", byte)
+    matches!(byte, b'!'..=b'~') && !has_byte(b",={}:#@", byte)
 }
 
 /// Whether each byte may stand in a variable's name.
 fn are_name_bytes(word: &[u8]) -> bool
-    ensures { result ≡ list_all may_name word.now }
+    ensures { result ≡ list_all is_name_byte word.now }
 {
     word.iter().all(|byte| is_name_byte(*byte))
 }
 
 /// Whether a word may name a variable.
 fn is_variable_name(word: &[u8]) -> bool
-    ensures { result ≡ names_variable word.now }
+    ensures { result ≡ is_variable_name word.now }
 {
     match word {
         [] => false,
@@ -48,7 +48,7 @@ fn is_variable_name(word: &[u8]) -> bool
 
 /// What stands between the braces of a list.
 fn within_braces(text: &[u8]) -> Option<&[u8]>
-    ensures { MatchOption result (is_list text.now ≡ false) (λ within. (is_list text.now ≡ true) × (within.now ≡ list_within text.now)) }
+    ensures { MatchOption result (is_list text.now ≡ false) (λ within. (is_list text.now ≡ true) × (within.now ≡ within_braces text.now)) }
 {
     match text {
         [b'{', within @ .., b'}'] => Some(within),
@@ -60,7 +60,7 @@ fn within_braces(text: &[u8]) -> Option<&[u8]>
 #[tactic(auto, unfolding(crate::specs::Reading::variable_states))]
 fn variable_states(n_states: u16, vars: &Variables, name: &[u8], list: &[u8]) -> Option<[u64; 4]>
     requires most { n_states ≤ 256 }
-    ensures { result ≡ states_of_new n_states vars.now name.now list.now }
+    ensures { result ≡ variable_states n_states vars.now name.now list.now }
 {
     if !is_variable_name(name) {
         return None;
@@ -68,10 +68,7 @@ fn variable_states(n_states: u16, vars: &Variables, name: &[u8], list: &[u8]) ->
     if vars.number_of(name).is_some() {
         return None;
     }
-    match within_braces(list) {
-        Some(within) => states_listed(n_states, vars, within),
-        None => None,
-    }
+    states_listed(n_states, vars, within_braces(list)?)
 }
 
 /// The variable that a line writes behind these variables, if it writes one.
@@ -84,7 +81,7 @@ pub(crate) fn variable_of(
 ) -> Result<Option<Var>, Kind>
     requires most { n_states ≤ 256 }
     requires long { 3 ≤ length text.now }
-    ensures ok { IfOk result (λ found. found ≡ variable_on n_states vars.now text.now) }
+    ensures ok { IfOk result (λ found. found ≡ variable_of n_states vars.now text.now) }
     ensures err { IfErr result (λ kind. kind ≡ Memory) }
 {
     let (before, behind) = split_at_byte(&text[3..], b'=');

@@ -2,7 +2,7 @@
 
 ghost use Rattle.std.specs.Prelude.{◌≡◌, ◌<◌, ◌==◌, ◌∷◌, position, length, IfSome, bytes_eq};
 ghost use Rattle.std.specs.List.{list_any, before_first, after_first, slice_split};
-ghost use Rattle.life_table.specs.Reading.{content as said_on, is_section_line as begins_section, is_table_line as begins_table, is_passed_over as says_nothing, number_below as digits_below};
+ghost use Rattle.life_table.specs.Reading.{content, is_section_line, is_table_line, is_passed_over, number_below};
 ghost use Rattle.life_table.specs.Reader.{parts_left};
 
 use life_base::{begins_with, is_blank, is_whitespace, read_u64, trimmed};
@@ -30,7 +30,7 @@ pub(crate) fn is_word(text: &[u8], word: &[u8]) -> bool
 
 /// The number that a digit text writes, if it is below a limit.
 pub(crate) fn number_below(word: &[u8], limit: u64) -> Option<u64>
-    ensures { result ≡ digits_below limit word.now }
+    ensures { result ≡ number_below limit word.now }
 {
     match read_u64(word) {
         Ok(number) if number < limit => Some(number),
@@ -62,28 +62,28 @@ pub(crate) fn first_part(text: &[u8]) -> (&[u8], Option<&[u8]>)
 
 /// What a line of a table says: the line without its comment and the whitespace at its ends.
 pub(crate) fn content(line: &[u8]) -> &[u8]
-    ensures { result.now ≡ said_on line.now }
+    ensures { result.now ≡ content line.now }
 {
     trimmed(split_at_byte(line, b'#').0)
 }
 
 /// Whether the line is passed over before the rule line.
 pub(crate) fn is_passed_over(line: &[u8]) -> bool
-    ensures { result ≡ says_nothing line.now }
+    ensures { result ≡ is_passed_over line.now }
 {
     is_blank(line) || begins_with(line, b"#")
 }
 
 /// Whether a section begins with the line.
 pub(crate) fn is_section_line(line: &[u8]) -> bool
-    ensures { result ≡ begins_section line.now }
+    ensures { result ≡ is_section_line line.now }
 {
     begins_with(line, b"@")
 }
 
 /// Whether the table begins with the line.
 pub(crate) fn is_table_line(line: &[u8]) -> bool
-    ensures { result ≡ begins_table line.now }
+    ensures { result ≡ is_table_line line.now }
 {
     match line {
         [b'@', b'T', b'A', b'B', b'L', b'E', rest @ ..] => match rest {

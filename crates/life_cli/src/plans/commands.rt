@@ -2,7 +2,7 @@
 
 ghost use Rattle.std.specs.Prelude.{◌≡◌, IfOk, IfErr, map, false};
 ghost use Rattle.clap.specs.Words.{App, rule_of, HasMatchesOf, HasKind, fault_of, with_subcommand};
-ghost use Rattle.life_cli.specs.CommandLine.{required_file, option as option_rule, required_option, one_file_line, convert_line, same_line, step_line, named, program, ReadsAs};
+ghost use Rattle.life_cli.specs.CommandLine.{required_file, option, required_option, one_file_line, convert_line, same_line, step_line, named, program, ReadsAs};
 
 use super::help::{CANON, CONVERT, Help, PROGRAM, SAME, SHOW, STEP};
 use clap::{Arg, ArgAction, ArgMatches, Command, Error};
@@ -18,7 +18,7 @@ fn file<'a>(alloc: Global, id: &'a str) -> Arg<'a>
 
 /// An option whose value the help calls `value`.
 fn option<'a>(alloc: Global, id: &'a str, value: &'a str) -> Arg<'a>
-    ensures rule { rule_of result ≡ option_rule id.entry.now }
+    ensures rule { rule_of result ≡ option id.entry.now }
     ensures local { result.global ≡ false }
 {
     Arg::new(alloc, id)
@@ -119,6 +119,10 @@ fn golly_canon<'a>(alloc: Global) -> Result<Command<'a>, AllocError>
 }
 
 /// The matches of the program's words.
+///
+/// # Errors
+///
+/// An error of one of the kinds that `clap` states for the words, which help and version are too, or for want of memory.
 pub fn parse<'a>(alloc: Global, words: &'a [&'a str]) -> Result<ArgMatches<'a>, Error>
     ensures ok { IfOk result (HasMatchesOf program (map (λ word. word.now) words.entry.now)) }
     ensures err { IfErr result (HasKind (fault_of program (map (λ word. word.now) words.entry.now))) }

@@ -224,6 +224,11 @@ fn from_matches(alloc: Global, matches: &ArgMatches<'_>) -> Result<Plan, Usage>
 }
 
 /// What the words ask for. They begin with the program's own name.
+///
+/// # Errors
+///
+/// `Words` with the text to show, where `clap` refuses the words, or answers `--help` or `--version`, or where there is no plan for them;
+/// `TwoInputs` where `-` stands for two files; `Memory`.
 pub fn plan<'a>(alloc: Global, words: &'a [&'a str]) -> Result<Plan, Usage>
     ensures ok { IfOk result (IsPlanOf (subcommand_of program (map (λ word. word.now) words.entry.now))) }
     ensures files { IfOk result (λ p. IsSome p.second ↔ HasSecond p.job) }

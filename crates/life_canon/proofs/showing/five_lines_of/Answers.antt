@@ -10,7 +10,7 @@ five_lines-requires-clause-trimmed c = read-fits c.requires.0 _ _ c.requires.1
 pub five_lines-requires-clause-level : goal.five_lines-requires-clause-level
 five_lines-requires-clause-level c = root-deep c.requires.0 _ _ c.requires.1
 
-pub returns-in-Ok-clause-text : goal.returns-in-Ok-clause-text
-returns-in-Ok-clause-text c =
-    let t = c.in-Ok.ensures.text in
+pub returns-clause-text : goal.returns-clause-text
+returns-clause-text c =
+    let t = c.in_ok-five_lines.ensures.text in
     λ bytes r. is-shown bytes _ _ r t.0 t.1 _ _ t.2 refl

@@ -11,5 +11,5 @@ returns-in_err-is_same-clause-refused g c =
 pub returns-in_err-write_whole-clause-refused : goal.returns-in_err-write_whole-clause-refused
 returns-in_err-write_whole-clause-refused g c =
     let p = err_from_is_err_and c.from_residual-in_err-write_whole.result c.from_residual-in_err-write_whole.ensures.1 in
-    let broken = rw c.line_of.ensures at c.in_err-write_whole.ensures.err in
+    let broken = rw c.answer_line.ensures at c.in_err-write_whole.ensures.err in
     rw (p.1, p.2) (broken.0, by_telling _ _ c.in_ok-is_same.ensures.ok broken.1)

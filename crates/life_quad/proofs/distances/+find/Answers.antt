@@ -27,7 +27,7 @@ pub returns-in-Some-clause-right : goal.returns-in-Some-clause-right
 returns-in-Some-clause-right g t c =
     let C : Id → Tree = g.S.Squares.content c.args.squares.now in
     let R : Id → ℕ → Type 0 = λ q v. v ≢ UNKNOWN → IsLeast (HasCellAt c.args.side (C q)) v in
-    after_set R _ (value_of c.set.new.self.values.items c.set.new.self.absent) _ _ c.in_ok-b.ensures.right c.set.ensures.only (λ known. returns-in-Some-clause-least g t c)
+    after_set R _ (value_of c.set.new.self) _ _ c.in_ok-b.ensures.right c.set.ensures.only (λ known. returns-in-Some-clause-least g t c)
 
 pub returns-in_err-set-clause-right : goal.returns-in_err-set-clause-right
 returns-in_err-set-clause-right g t c =
@@ -37,7 +37,7 @@ returns-in_err-set-clause-right g t c =
     let here : IsLeast (HasCellAt c.args.side (C c.args.id)) c.in-Some.distance =
     least_near _ _ _ _ _ _ (g.met.S.Squares.full _ _ c.requires.known) f.faces (omega (arith, f.nw_level, f.ne_level)) _ _ _
     c.in_ok-a.ensures.least c.in_ok-b.ensures.least (sym c.lesser.ensures ∙ c.in-Some.is) in
-    after_set R _ (value_of c.set.new.self.values.items c.set.new.self.absent) _ _ c.in_ok-b.ensures.right c.set.ensures.only (λ known. here)
+    after_set R _ (value_of c.set.new.self) _ _ c.in_ok-b.ensures.right c.set.ensures.only (λ known. here)
 
 pub returns-in_default-lesser-clause-least : goal.returns-in_default-lesser-clause-least
 returns-in_default-lesser-clause-least g t c =
@@ -60,7 +60,7 @@ pub returns-clause-right : goal.returns-clause-right
 returns-clause-right g t c =
     let C : Id → Tree = g.S.Squares.content c.args.squares.now in
     let R : Id → ℕ → Type 0 = λ q v. v ≢ UNKNOWN → IsLeast (HasCellAt c.args.side (C q)) v in
-    after_set R _ (value_of c.set-2.new.self.values.items c.set-2.new.self.absent) _ _ c.in_ok-b-2.ensures.right c.set-2.ensures.only (λ known. returns-clause-least g t c)
+    after_set R _ (value_of c.set-2.new.self) _ _ c.in_ok-b-2.ensures.right c.set-2.ensures.only (λ known. returns-clause-least g t c)
 
 pub returns-in_err-set-2-clause-right : goal.returns-in_err-set-2-clause-right
 returns-in_err-set-2-clause-right g t c =
@@ -73,4 +73,4 @@ returns-in_err-set-2-clause-right g t c =
     (least_behind _ _ _ _ _ _ (g.met.S.Squares.full _ _ c.requires.known) f.faces (omega (arith, f.nw_level, f.ne_level)) _ _ _ _ _
     c.in_ok-a.ensures.least c.in_ok-b.ensures.least (sym c.lesser.ensures ∙ c.in_default.is)
     c.in_ok-a-2.ensures.least c.in_ok-b-2.ensures.least (sym c.lesser-2.ensures ∙ c.in-Some-lesser.is)) in
-    after_set R _ (value_of c.set-2.new.self.values.items c.set-2.new.self.absent) _ _ c.in_ok-b-2.ensures.right c.set-2.ensures.only (λ known. here)
+    after_set R _ (value_of c.set-2.new.self) _ _ c.in_ok-b-2.ensures.right c.set-2.ensures.only (λ known. here)

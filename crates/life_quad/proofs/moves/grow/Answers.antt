@@ -1,8 +1,7 @@
-use Rattle.std.proofs.Common.{◌≡◌, ◌+◌, ◌<◌, inl, inr, refl, sym, ◌∙◌, ap, subst, arith}
+use Rattle.std.proofs.Common.{◌≡◌, inl, inr, refl, sym, ◌∙◌, ap, subst, arith}
 use Rattle.std.proofs.lemmas.Result.{IfOk-weaker}
 use Rattle.life_base.proofs.Results.{on_err_both}
 use Rattle.life_base.specs.Tree.{quad, depth, blank as blank_of}
-use Rattle.life_quad.specs.Refused.{SomePart}
 use Rattle.life_quad.proofs.RefusedLemmas.{error_is, grown_is, SomePart-grown}
 use Rattle.life_quad.proofs.moves.grow.Goals as goal
 

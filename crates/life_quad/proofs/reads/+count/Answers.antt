@@ -56,12 +56,12 @@ pub returns-clause-right : goal.returns-clause-right
 returns-clause-right g t c =
     let C : Id → Tree = g.S.Squares.content c.args.squares.now in
     let R : Id → ℕ → Type 0 = λ q n. 0 < n → n ≡ population (C q) in
-    after_set R _ (value_of c.set.new.self.values.items c.set.new.self.absent) _ _ c.in_ok-d.ensures.right c.set.ensures.only (λ some. returns-clause-number g t c)
+    after_set R _ (value_of c.set.new.self) _ _ c.in_ok-d.ensures.right c.set.ensures.only (λ some. returns-clause-number g t c)
 
 pub returns-in_err-set-clause-right : goal.returns-in_err-set-clause-right
 returns-in_err-set-clause-right g t c =
     let C : Id → Tree = g.S.Squares.content c.args.squares.now in
     let R : Id → ℕ → Type 0 = λ q n. 0 < n → n ≡ population (C q) in
     let all = ap population c.divide.ensures.square in
-    after_set R _ (value_of c.set.new.self.values.items c.set.new.self.absent) _ _ c.in_ok-d.ensures.right c.set.ensures.only
+    after_set R _ (value_of c.set.new.self) _ _ c.in_ok-d.ensures.right c.set.ensures.only
     (λ some. omega (arith, all, c.in_ok-a.ensures.number, c.in_ok-b.ensures.number, c.in_ok-c.ensures.number, c.in_ok-d.ensures.number))

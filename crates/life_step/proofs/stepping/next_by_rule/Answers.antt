@@ -70,15 +70,15 @@ returns-in_err-square-clause-refused c =
 pub returns-in_err-square-clause-keeps : goal.returns-in_err-square-clause-keeps
 returns-in_err-square-clause-keeps c = keeps-of _ _ c.in_err-square.ensures.keeps c.in_err-square.ensures.stays c.in_err-square.ensures.most
 
-pub text_of-requires-clause-states : goal.text_of-requires-clause-states
-text_of-requires-clause-states c =
+pub text_of_square-requires-clause-states : goal.text_of_square-requires-clause-states
+text_of_square-requires-clause-states c =
     let t = content c.args.store.now c.args.pattern.root in
     let next = content c.next_life_generation.new.squares c.in_ok-square.square in
     let life = c.in-Life.rule in
     λ x y. subst (λ q. tree_cell next x y ≤ largest_state q) (sym c.in-Life.is) (subst (λ n. n ≤ 1) (sym (c.in_ok-square.ensures.next x y)) (next-small life (tree_cell t) x y))
 
-pub text_of-requires-clause-high : goal.text_of-requires-clause-high
-text_of-requires-clause-high c =
+pub text_of_square-requires-clause-high : goal.text_of_square-requires-clause-high
+text_of_square-requires-clause-high c =
     subst (λ q. least_level q ≤ depth (content c.next_life_generation.new.squares c.in_ok-square.square)) (sym c.in-Life.is) c.in_ok-square.ensures.high
 
 pub returns-clause-stepped : goal.returns-clause-stepped
@@ -88,7 +88,7 @@ returns-clause-stepped c =
     let t = content store root in
     let life = c.in-Life.rule in
     let next = content c.next_life_generation.new.squares c.in_ok-square.square in
-    IfOk-weaker c.text_of.result _ _
+    IfOk-weaker c.text_of_square.result _ _
     (λ text h bytes r.
     let u = r.universe in
     let fits = c.patterns_fit.ensures _ _ _ r in
@@ -106,7 +106,7 @@ returns-clause-stepped c =
       life-stepped life u c.args.pattern.rule c.in_ok-generation.generation next text.items is (sym fits.1.rule)
           (c.in_ok-generation.ensures.after ∙ ap (λ n. n + 1) (sym fits.1.generation)) cells h,
     ))
-    c.text_of.ensures.text
+    c.text_of_square.ensures.text
 
 pub returns-clause-keeps : goal.returns-clause-keeps
-returns-clause-keeps c = keeps-all _ _ _ (keeps-of _ _ c.in_ok-square.ensures.keeps c.in_ok-square.ensures.stays c.in_ok-square.ensures.most) c.text_of.ensures.keeps
+returns-clause-keeps c = keeps-all _ _ _ (keeps-of _ _ c.in_ok-square.ensures.keeps c.in_ok-square.ensures.stays c.in_ok-square.ensures.most) c.text_of_square.ensures.keeps

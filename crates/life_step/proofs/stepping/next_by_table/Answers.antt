@@ -68,8 +68,8 @@ returns-in_err-square-clause-refused c =
 pub returns-in_err-square-clause-keeps : goal.returns-in_err-square-clause-keeps
 returns-in_err-square-clause-keeps c = keeps-of _ _ c.in_err-square.ensures.keeps c.in_err-square.ensures.stays c.in_err-square.ensures.most
 
-pub text_of-requires-clause-states : goal.text_of-requires-clause-states
-text_of-requires-clause-states c =
+pub text_of_square-requires-clause-states : goal.text_of_square-requires-clause-states
+text_of_square-requires-clause-states c =
     let squares = c.next_generation.new.squares in
     let next = content squares c.in_ok-square.square in
     let full = (known_squares_are_full squares c.in_ok-square.square c.in_ok-square.ensures.known.0).0 in
@@ -86,7 +86,7 @@ returns-clause-stepped c =
     let next = content c.next_generation.new.squares c.in_ok-square.square in
     let none = subst (λ (T : Table). GenerationRefusal (TableAnswers T) T.n_states (2 ^ 20) t None) same c.in_ok-square.ensures.accepted in
     let cells = subst (λ (T : Table). (x y : ℤ) → TableAnswers T (states_at (tree_cell t) x y) (Becomes (tree_cell next x y))) same c.in_ok-square.ensures.next in
-    IfOk-weaker c.text_of.result _ _
+    IfOk-weaker c.text_of_square.result _ _
     (λ text h bytes r.
     let u = r.universe in
     let fits = c.patterns_fit.ensures _ _ _ r in
@@ -100,7 +100,7 @@ returns-clause-stepped c =
       table-stepped c.table_answers_at.ensures table u t fits.1.cells c.args.pattern.rule c.in_ok-generation.generation next text.items is (sym fits.1.rule)
           (c.in_ok-generation.ensures.after ∙ ap (λ n. n + 1) (sym fits.1.generation)) cells h,
     ))
-    c.text_of.ensures.text
+    c.text_of_square.ensures.text
 
 pub returns-clause-keeps : goal.returns-clause-keeps
-returns-clause-keeps c = keeps-all _ _ _ (keeps-of _ _ c.in_ok-square.ensures.keeps c.in_ok-square.ensures.stays c.in_ok-square.ensures.most) c.text_of.ensures.keeps
+returns-clause-keeps c = keeps-all _ _ _ (keeps-of _ _ c.in_ok-square.ensures.keeps c.in_ok-square.ensures.stays c.in_ok-square.ensures.most) c.text_of_square.ensures.keeps

@@ -8,7 +8,7 @@ use Rattle.life_base.specs.declared.fault.Fault.{Fault}
 use Rattle.life_base.specs.declared.kind.Kind.{Kind}
 use Rattle.life_quad.specs.Cells.{population}
 use Rattle.life_sweep.specs.Refused.{GenerationRefusal}
-use Rattle.life_sweep.specs.Rows.{IsInside, IsRestOf, end_of_plane}
+use Rattle.life_sweep.specs.Rows.{IsInside, IsRestOf, first_coordinate}
 use Rattle.life_sweep.proofs.CellLemmas.{blank-before, cells-sorted, cells-inside}
 use Rattle.life_sweep.proofs.RefusedLemmas.{both-ok, has-from, none-from, beyond, step-refused, accepted}
 use Rattle.life_sweep.proofs.generation.next_generation.Goals as goal
@@ -31,7 +31,7 @@ pub next_square-requires-clause-sorted : goal.next_square-requires-clause-sorted
 next_square-requires-clause-sorted g c =
     let t = g.S.Squares.content c.args.squares.now c.args.id in
     let low = g.met.S.Squares.low c.args.squares.now c.args.id c.requires.known in
-    (tree_cell t, blank-before t low, subst (λ z. IsRestOf (tree_cell t) end_of_plane end_of_plane z) (sym c.deref-2.ensures.value) (cells-sorted t c.in_ok-list.list.items low c.in_ok-list.ensures.cells))
+    (tree_cell t, blank-before t low, subst (λ z. IsRestOf (tree_cell t) first_coordinate first_coordinate z) (sym c.deref-2.ensures.value) (cells-sorted t c.in_ok-list.list.items low c.in_ok-list.ensures.cells))
 
 pub returns-then-not-are_below-clause-refusals : goal.returns-then-not-are_below-clause-refusals
 returns-then-not-are_below-clause-refusals g c =
@@ -50,7 +50,7 @@ pub returns-clause-next : goal.returns-clause-next
 returns-clause-next g c =
     let t = g.S.Squares.content c.args.squares.now c.args.id in
     let low = g.met.S.Squares.low c.args.squares.now c.args.id c.requires.known in
-    let rest = subst (λ z. IsRestOf (tree_cell t) end_of_plane end_of_plane z) (sym c.deref-2.ensures.value) (cells-sorted t c.in_ok-list.list.items low c.in_ok-list.ensures.cells) in
+    let rest = subst (λ z. IsRestOf (tree_cell t) first_coordinate first_coordinate z) (sym c.deref-2.ensures.value) (cells-sorted t c.in_ok-list.list.items low c.in_ok-list.ensures.cells) in
     IfOk-weaker c.next_square.result _ _ (λ r h x y. h (tree_cell t) (record { cells_are = rest; blank = blank-before t low }) x y) c.next_square.ensures.next
 
 pub returns-clause-accepted : goal.returns-clause-accepted
@@ -60,7 +60,7 @@ returns-clause-accepted g c =
     let h = c.in_ok-list.ensures in
     let law = c.args.law.now in
     let bound = g.L.Law.bound law in
-    let rest = subst (λ z. IsRestOf (tree_cell t) end_of_plane end_of_plane z) (sym c.deref-2.ensures.value) (cells-sorted t c.in_ok-list.list.items low h.cells) in
+    let rest = subst (λ z. IsRestOf (tree_cell t) first_coordinate first_coordinate z) (sym c.deref-2.ensures.value) (cells-sorted t c.in_ok-list.list.items low h.cells) in
     let few : ¬ (c.args.most < population t) = λ m. omega (arith, m, h.number, h.few) in
     let below : All (λ (d : Cell). d.state < bound) c.in_ok-list.list.items =
     subst (λ (n : ℕ). All (λ (d : Cell). d.state < n) c.in_ok-list.list.items) c.n_states.ensures
@@ -77,7 +77,7 @@ returns-clause-refusals g c =
     let h = c.in_ok-list.ensures in
     let law = c.args.law.now in
     let bound = g.L.Law.bound law in
-    let rest = subst (λ z. IsRestOf (tree_cell t) end_of_plane end_of_plane z) (sym c.deref-2.ensures.value) (cells-sorted t c.in_ok-list.list.items low h.cells) in
+    let rest = subst (λ z. IsRestOf (tree_cell t) first_coordinate first_coordinate z) (sym c.deref-2.ensures.value) (cells-sorted t c.in_ok-list.list.items low h.cells) in
     let few : ¬ (c.args.most < population t) = λ m. omega (arith, m, h.number, h.few) in
     let below : All (λ (d : Cell). d.state < bound) c.in_ok-list.list.items =
     subst (λ (n : ℕ). All (λ (d : Cell). d.state < n) c.in_ok-list.list.items) c.n_states.ensures

@@ -3,7 +3,7 @@ use Rattle.std.proofs.lemmas.Int.{ints}
 use Rattle.std.proofs.lemmas.Result.{err_from_is_err_and}
 use Rattle.life_strip.specs.Given.{state_by}
 use Rattle.life_sweep.specs.Around.{after}
-use Rattle.life_sweep.specs.Rows.{IsWindowBelow, end_of_plane, states_of}
+use Rattle.life_sweep.specs.Rows.{IsWindowBelow, first_coordinate, states_of}
 use Rattle.life_table.specs.Meaning.{Ambiguous}
 use Rattle.life_sweep.specs.Pen.{drawn_runs}
 use Rattle.life_sweep.specs.Sweep.{IsReadyRow, IsScene, IsSweptRows}
@@ -15,7 +15,7 @@ loop-window-init g c =
     let y = to_z w64 (of_z w64 c.args.y) in
     let e : c.args.y ≡ y = omega (arith, ints, c.ranges.y) in
     let w = c.new-window.result in
-    let west : after w.x <ℤ end_of_plane = omega (arith, ints, c.new-window.ensures.start) in
+    let west : after w.x <ℤ first_coordinate = omega (arith, ints, c.new-window.ensures.start) in
     record {
       sound = c.new-window.ensures.sound;
       below = c.new-window.ensures.below _ (g.met.L.Law.positive c.args.law.now) c.requires.states;

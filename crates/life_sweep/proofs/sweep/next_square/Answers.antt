@@ -4,7 +4,7 @@ use Rattle.std.proofs.lemmas.Result.{err_from_is_err_and}
 use Rattle.life_strip.specs.Given.{state_by}
 use Rattle.life_table.specs.Meaning.{Becomes}
 use Rattle.life_sweep.specs.Around.{after}
-use Rattle.life_sweep.specs.Rows.{AreBelow, AreRows, end_of_plane}
+use Rattle.life_sweep.specs.Rows.{AreBelow, AreRows, first_coordinate}
 use Rattle.std.specs.Prelude.{IfSome, Option}
 use Rattle.life_sweep.specs.declared.pen.Run.{Run}
 use Rattle.life_sweep.specs.Pen.{IsOpen, drawn_runs}
@@ -65,7 +65,7 @@ loop-band-preserved g c =
           let s = inv.swept plane sorted in
           let on = c.advance.ensures.band c.loop-band-test.true plane sorted.blank s.0 in
           let passed = pass-rows A plane old c.loop-band.leaves (after c.loop-band.band.y) band.y (g.met.L.Law.quiet c.args.law.now) (omega (arith, ints, south)) (λ r l u. on.passed r (omega (arith, ints, l)) u) s.1 in
-          let scene : IsScene plane y band.rows = record { rows_are = subst (λ z. AreRows plane z end_of_plane band.rows) e on.here.rows; blank = sorted.blank } in
+          let scene : IsScene plane y band.rows = record { rows_are = subst (λ z. AreRows plane z first_coordinate band.rows) e on.here.rows; blank = sorted.blank } in
           let before = subst (λ z. IsSweptRows B plane old c.loop-band.leaves z) e (rows-law A B plane old c.loop-band.leaves band.y (λ v a. subst (λ law. g.L.Law.answers law v a) (sym inv.same)) passed) in
           (on.here, subst (λ z. IsSweptRows A plane new c.in_ok-leaves.leaves (after z)) (sym e) (rows-law B A plane new c.in_ok-leaves.leaves (after y) (λ v a. subst (λ law. g.L.Law.answers law v a) inv.same) (h.swept plane scene before)));
       keeps = λ q k. let a = inv.keeps q k in let b = h.keeps q a.0 in (b.0, b.1 ∙ a.1);
@@ -92,7 +92,7 @@ returns-in_err-leaves-clause-refusals g c =
             let s = inv.swept plane sorted in
             let on = c.advance.ensures.band c.loop-band-test.true plane sorted.blank s.0 in
             let passed = pass-rows A plane old c.loop-band.leaves (after c.loop-band.band.y) band.y (g.met.L.Law.quiet c.args.law.now) (omega (arith, ints, south)) (λ r l u. on.passed r (omega (arith, ints, l)) u) s.1 in
-            let scene : IsScene plane y band.rows = record { rows_are = subst (λ z. AreRows plane z end_of_plane band.rows) e on.here.rows; blank = sorted.blank } in
+            let scene : IsScene plane y band.rows = record { rows_are = subst (λ z. AreRows plane z first_coordinate band.rows) e on.here.rows; blank = sorted.blank } in
             let before = subst (λ z. IsSweptRows B plane old c.loop-band.leaves z) e (rows-law A B plane old c.loop-band.leaves band.y (λ v a. subst (λ law. g.L.Law.answers law v a) (sym inv.same)) passed) in
             inl (d.0, first-law B A plane _ (λ v a. subst (λ law. g.L.Law.answers law v a) inv.same) (d.1 plane scene before))))
       ]

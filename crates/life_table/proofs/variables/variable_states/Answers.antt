@@ -2,10 +2,10 @@ use Rattle.std.proofs.Common.{rules}
 use Rattle.life_table.specs.Reading.{variable_states}
 use Rattle.life_table.proofs.variables.variable_states.Goals as goal
 
-pub returns-in-Some : goal.returns-in-Some
+pub returns : goal.returns
 unfolding variable_states
-returns-in-Some c = search rules
+returns c = search rules
 
-pub returns-in-None : goal.returns-in-None
+pub returns-in_err-within_braces : goal.returns-in_err-within_braces
 unfolding variable_states
-returns-in-None c = search rules
+returns-in_err-within_braces c = search rules

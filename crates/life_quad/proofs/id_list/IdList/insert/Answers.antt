@@ -1,13 +1,15 @@
-use Rattle.std.proofs.Common.{◌≡◌, ◌<◌, ◌+◌, length, rules, Contains}
+use Rattle.std.proofs.Common.{◌≡◌, ◌≢◌, ◌+◌, ◌∙◌, length, rules, Contains}
+use Rattle.life_quad.specs.declared.id.Id.{Id}
+use Rattle.life_quad.specs.IdMap.{value_of}
 use Rattle.life_quad.proofs.PlaceLemmas.{one_more}
 use Rattle.life_quad.proofs.id_list.IdList.insert.Goals as goal
 
 pub invariant_of-self-2 : goal.invariant_of-self-2
 invariant_of-self-2 c =
-    let room : c.args.id.0 < length c.make_room.new.places.items = search rules in
-    let new : ¬ Contains c.self.inside.ids.items c.args.id = search rules in
+    let absent : ¬ Contains c.self.inside.ids.items c.args.id = search rules in
     let place : c.in-Ok.place ≡ length c.self.inside.ids.items + 1 = search rules in
-    rw c.in_ok-push.ensures.items (one_more c.self.inside.ids.items c.self.inside.places.items c.make_room.new.places.items c.args.id c.in-Ok.place c.self.invariant c.make_room.ensures.same room new place)
+    let others : (q : Id) → q ≢ c.args.id → value_of c.put.new.self q ≡ value_of c.self.inside.places q = λ q o. c.put.ensures.others q o ∙ c.make_room.ensures.same q in
+    rw c.in_ok-push.ensures.items (one_more c.self.inside.ids.items (value_of c.self.inside.places) (value_of c.put.new.self) c.args.id c.in-Ok.place c.self.invariant c.put.ensures.set others absent place)
 
 pub returns-then-contains-clause-added : goal.returns-then-contains-clause-added
 returns-then-contains-clause-added c = search rules

@@ -1,5 +1,6 @@
 use Rattle.std.proofs.Common.{◌≡◌, ◌+◌, ◌∷◌, [], ◌++◌, length, Contains, arith, refl, sym, ◌∙◌, ap, subst, Ok, Err, length-append}
 use Rattle.std.specs.Prelude.{if◌then◌else◌, is_some}
+use Rattle.life_quad.specs.IdMap.{value_of}
 use Rattle.life_quad.specs.Store.{Nodes, squares, node_square, id_of, IsNode, HasRoom, Answers}
 use Rattle.life_quad.specs.contracts.shared.Shared.{the_view}
 use Rattle.life_quad.proofs.CallLemmas.{absent_node, node_there, node_added, sound_added, answers_refused, answers_memory, HasSeen-node, position_node, not_there, inserted, found}
@@ -57,7 +58,7 @@ invariant_of-self-then-is_new c =
     let longer = ap length last ∙ length-append s.log ((66064 + length s.nodes) ∷ []) in
     let room : HasRoom s = record { limit = omega (arith, len, more, limit); few = omega (arith, len, few) } in
     let sound = sound_added s new c.args.node inv.0 inv.1 node c.requires.large is.0 room (λ i. record { nodes = is.1 i; log = last i; limit = s.limit }) in
-    (sound.0, sound.1, HasSeen-node c.self.inside.seen.items s.log new.log (66064 + length s.nodes) inv.2 (omega arith) last, omega (arith, longer, more, one))
+    (sound.0, sound.1, HasSeen-node (value_of c.self.inside.seen) s.log new.log (66064 + length s.nodes) inv.2 (omega arith) last, omega (arith, longer, more, one))
 
 pub returns-then-is_new : goal.returns-then-is_new
 returns-then-is_new c =

@@ -1,17 +1,18 @@
-use Rattle.std.proofs.Common.{◌≡◌, ◌+◌, ◌-◌, ◌∷◌, [], ◌++◌, length, arith, inl, refl, sym, ◌∙◌, ap, subst, Ok, Err, length-append}
+use Rattle.std.proofs.Common.{◌≡◌, ◌+◌, ◌∷◌, [], ◌++◌, length, arith, inl, refl, sym, ◌∙◌, ap, subst, Ok, Err, length-append}
 use Rattle.life_base.specs.declared.kind.Kind.TheVariants.{Full}
+use Rattle.life_quad.specs.IdMap.{value_of}
 use Rattle.life_quad.specs.Store.{Nodes, squares, small_square, id_of, IsSmall, Answers}
 use Rattle.life_quad.specs.contracts.shared.Shared.{the_view}
-use Rattle.life_quad.proofs.CallLemmas.{absent_small, small_there, small_added, sound_marked, answers_refused, answers_memory, HasSeen-mark, seen_joined, unseen}
+use Rattle.life_quad.proofs.CallLemmas.{absent_small, small_there, small_added, sound_marked, answers_refused, answers_memory, HasSeen-mark, HasSeen-same, unseen}
 use Rattle.life_quad.proofs.shared.Shared.mark.Goals as goal
 
-pub returns-then-is_seen : goal.returns-then-is_seen
-returns-then-is_seen c =
+pub returns-then-get : goal.returns-then-get
+returns-then-get c =
     let s = the_view c.self.inside in
     let v = c.self.view_is in
     let inv = c.self.invariant in
     let small = subst (λ v. IsSmall v.log (squares v.nodes) c.args.number) (sym v) c.requires.small in
-    let there = seen_joined c.self.inside.seen.items s.log c.args.number inv.2 c.requires.first (sym c.is_seen.ensures ∙ c.if-is_seen.true) in
+    let there = inv.2.joined c.args.number (sym c.get.ensures ∙ c.if-get.true) in
     subst (λ v. Answers v v (small_square c.args.number) (Ok (id_of c.args.number))) v (small_there s c.args.number inv.0 inv.1 small there)
 
 pub returns-then-len-self : goal.returns-then-len-self
@@ -20,7 +21,7 @@ returns-then-len-self c =
     let v = c.self.view_is in
     let inv = c.self.invariant in
     let small = subst (λ v. IsSmall v.log (squares v.nodes) c.args.number) (sym v) c.requires.small in
-    let absent = unseen c.self.inside.seen.items s.log c.args.number inv.2 c.requires.first c.requires.last (sym c.is_seen.ensures ∙ c.if-is_seen.false) in
+    let absent = unseen (value_of c.self.inside.seen) s.log c.args.number inv.2 c.requires.last (sym c.get.ensures ∙ c.if-get.false) in
     let same : c.len.result + c.self.inside.small ≡ length s.log = ap (λ n. n + c.self.inside.small) c.len.ensures.len ∙ sym inv.3 in
     let full = c.if-len-self.true in
     subst (λ v. Answers v v (small_square c.args.number) (Err Full)) v
@@ -32,7 +33,7 @@ returns-in_err-see c =
     let v = c.self.view_is in
     let inv = c.self.invariant in
     let small = subst (λ v. IsSmall v.log (squares v.nodes) c.args.number) (sym v) c.requires.small in
-    let absent = unseen c.self.inside.seen.items s.log c.args.number inv.2 c.requires.first c.requires.last (sym c.is_seen.ensures ∙ c.if-is_seen.false) in
+    let absent = unseen (value_of c.self.inside.seen) s.log c.args.number inv.2 c.requires.last (sym c.get.ensures ∙ c.if-get.false) in
     let told = c.from_residual.ensures in
     let kind = c.in_err-see.ensures.kind in
     let more = c.self.invariant.3 in
@@ -42,22 +43,26 @@ returns-in_err-see c =
     subst (λ v. Answers v s (small_square c.args.number) c.from_residual.result) v
     (answers_memory s s (small_square c.args.number) c.from_residual.result refl inv.1 (absent_small s c.args.number inv.0 inv.1 small absent) (omega (arith, len, more, most, below)) _ (λ k e. e ∙ kind) told.0 told.1)
 
+pub invariant_of-self : goal.invariant_of-self
+invariant_of-self c =
+    let inv = c.self.invariant in
+    (inv.0, inv.1, HasSeen-same (value_of c.self.inside.seen) (value_of c.see.new.seen) c.self.inside.log.ids inv.2 c.in_err-see.ensures.same, inv.3)
+
 pub invariant_of-self-2 : goal.invariant_of-self-2
 invariant_of-self-2 c =
     let s = the_view c.self.inside in
     let inv = c.self.invariant in
     let new : Nodes = record { nodes = s.nodes; log = c.then-self-inside.result.ids; limit = s.limit } in
     let small = subst (λ v. IsSmall v.log (squares v.nodes) c.args.number) (sym c.self.view_is) c.requires.small in
-    let absent = unseen c.self.inside.seen.items s.log c.args.number inv.2 c.requires.first c.requires.last (sym c.is_seen.ensures ∙ c.if-is_seen.false) in
+    let absent = unseen (value_of c.self.inside.seen) s.log c.args.number inv.2 c.requires.last (sym c.get.ensures ∙ c.if-get.false) in
     let len = c.len.ensures.len in
     let more = inv.3 in
     let most = inv.1.len in
     let below = c.if-len-self.false in
-    let first = c.requires.first in
     let grown : new.log ≡ s.log ++ c.args.number ∷ [] = c.then-self-inside.ensures in
     let longer = ap length grown ∙ length-append s.log (c.args.number ∷ []) in
     let sound = sound_marked s new c.args.number inv.0 inv.1 small absent (omega (arith, len, more, most, below)) (λ i. record { nodes = s.nodes; log = grown i; limit = s.limit }) in
-    (sound.0, sound.1, HasSeen-mark c.self.inside.seen.items c.see.new.seen.items s.log new.log c.args.number (c.args.number - 512) inv.2 (omega (arith, first)) c.in_ok-see.ensures.marks grown, omega (arith, longer, more))
+    (sound.0, sound.1, HasSeen-mark (value_of c.self.inside.seen) (value_of c.see.new.seen) s.log new.log c.args.number inv.2 c.in_ok-see.ensures.marked c.see.ensures.others grown, omega (arith, longer, more))
 
 pub returns : goal.returns
 returns c =
@@ -65,7 +70,7 @@ returns c =
     let inv = c.self.invariant in
     let new : Nodes = record { nodes = s.nodes; log = c.then-self-inside.result.ids; limit = s.limit } in
     let small = subst (λ v. IsSmall v.log (squares v.nodes) c.args.number) (sym c.self.view_is) c.requires.small in
-    let absent = unseen c.self.inside.seen.items s.log c.args.number inv.2 c.requires.first c.requires.last (sym c.is_seen.ensures ∙ c.if-is_seen.false) in
+    let absent = unseen (value_of c.self.inside.seen) s.log c.args.number inv.2 c.requires.last (sym c.get.ensures ∙ c.if-get.false) in
     let len = c.len.ensures.len in
     let more = inv.3 in
     let most = inv.1.len in

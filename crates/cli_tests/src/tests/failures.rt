@@ -1,0 +1,332 @@
+//! Each call of a device in turn fails: each read, also the one behind the last byte, a write behind a front of the text, and the flush.
+
+ghost use Rattle.std.specs.Prelude.{◌≡◌, ◌↔◌, IsSome, IfSome};
+ghost use Rattle.life_cli.specs.Plans.{HasSecond};
+
+use super::devices::{Clogged, Limited, assert_left, assert_one, sink_with};
+use super::steps::SPREAD;
+use super::{GLIDER, GLIDER_TEXT, TWINS, TWINS_IN_RLE, TWINS_TEXT};
+use life_base::{Device, Source};
+use life_cli::plans::{Job, Target};
+use life_cli::work;
+use std::alloc::Global;
+use std::io::{self, Read, Write};
+use std::process::Abort;
+
+const LINE: &[u8] = b"x = 3, y = 1, rule = B3/S23\n3o!\n";
+
+const NEXT_LINE: &[u8] = b"[M2] (canonical 1)\n#R B3/S23\n#G 1\n$$$.....*$.....*$.....*$$$\n";
+
+/// A cell of state 2, and the text of the next generation by the table `SPREAD`.
+const CELL: &[u8] = b"x = 1, y = 1, rule = Spread\nB!\n";
+
+const NEXT_CELLS: &[u8] =
+    b"[M2] (canonical 1)\n#R Spread\n#G 1\n1 0 0 2 0\n1 0 2 0 0\n1 2 2 2 0\n2 0 1 2 3\n";
+
+const SHOWN: &[u8] = b"rule B3/S23\ngeneration 0\npopulation 2\nbox -4 0 9 1\nnodes 2\n";
+
+const CONVERTED: &[u8] = b"#CXRLE Pos=-4,0\nx = 9, y = 1, rule = B3/S23\no7bo!\n";
+
+/// A reader of std that gives a byte at a time, and is interrupted behind some calls.
+#[derive(Drop)]
+struct Interrupted<'a> {
+    left: &'a [u8],
+    good: usize,
+}
+
+impl<'a> Read for Interrupted<'a> {
+    fn read(&mut self, buf: &mut [u8]) -> io::Result<usize> {
+        if self.good == 0 {
+            return Err(io::ErrorKind::Interrupted.into());
+        }
+        self.good -= 1;
+        if self.left.is_empty() || buf.is_empty() {
+            return Ok(0);
+        }
+        buf[0] = self.left[0];
+        self.left = &self.left[1..];
+        Ok(1)
+    }
+}
+
+/// A writer of std that takes `piece` bytes at a time, and is interrupted behind `room` bytes, or takes no more.
+#[derive(Drop)]
+struct Narrow<'a> {
+    taken: &'a mut Vec<u8>,
+    room: usize,
+    piece: usize,
+    is_interrupted: bool,
+}
+
+impl<'a> Write for Narrow<'a> {
+    fn write(&mut self, buf: &[u8]) -> io::Result<usize> {
+        if self.room == 0 && self.is_interrupted {
+            return Err(io::ErrorKind::Interrupted.into());
+        }
+        let count = buf.len().min(self.room).min(self.piece);
+        self.taken.extend_from_slice(&buf[..count])?;
+        self.room -= count;
+        Ok(count)
+    }
+
+    fn flush(&mut self) -> io::Result<()> {
+        Ok(())
+    }
+}
+
+/// A reader of these bytes that is interrupted behind so many calls.
+fn reader_of(left: &[u8], good: usize) -> Interrupted<'_> {
+    Interrupted { left, good }
+}
+
+/// A job of one file is told of a read that fails, whichever it is, and writes nothing.
+fn assert_each_read(rt: &impl Abort, alloc: Global, job: &Job, input: &[u8])
+    requires { ¬ HasSecond job.now }
+{
+    let fault = (3, b"".as_slice(), b"ReadFault\n".as_slice());
+    for good in 0..=input.len() {
+        let mut first = Device::new(reader_of(input, good));
+        assert_one(rt, alloc, job, &mut first, 999, 7, fault);
+    }
+}
+
+#[test]
+fn each_read_fails(rt: HostRuntime) {
+    let rows: [(Job, &[u8]); 6] = [
+        (Job::Canon, GLIDER),
+        (Job::Canon, TWINS_IN_RLE),
+        (Job::Show, TWINS),
+        (Job::Convert(Target::Rle), TWINS),
+        (Job::Convert(Target::Mc), TWINS_IN_RLE),
+        (Job::Step, LINE),
+    ];
+    for (job, input) in rows {
+        assert_each_read(&rt, rt.alloc(), &job, input);
+    }
+}
+
+/// A job of two files is told of a read that fails, of either.
+fn assert_read_of_two(
+    rt: &impl Abort,
+    alloc: Global,
+    job: &Job,
+    first: Interrupted<'_>,
+    second: Interrupted<'_>,
+)
+    requires { HasSecond job.now }
+{
+    let mut first = Device::new(first);
+    let mut second = Some(Device::new(second));
+    let mut out = sink_with(alloc, 999, 7);
+    let mut err = sink_with(alloc, 99, 3);
+    let status = work(alloc, job, &mut first, &mut second, &mut out, &mut err);
+    assert_left(rt, (status, out, err), (3, b"", b"ReadFault\n"));
+}
+
+#[test]
+fn each_read_of_two_files_fails(rt: HostRuntime) {
+    let alloc = rt.alloc();
+    for good in 0..=TWINS.len() {
+        let first = reader_of(TWINS, good);
+        assert_read_of_two(&rt, alloc, &Job::Same, first, reader_of(TWINS, 999));
+        let second = reader_of(TWINS, good);
+        assert_read_of_two(&rt, alloc, &Job::Same, reader_of(LINE, 999), second);
+    }
+    for good in 0..=CELL.len() {
+        let first = reader_of(CELL, good);
+        let table = reader_of(SPREAD, 999);
+        assert_read_of_two(&rt, alloc, &Job::StepTable, first, table);
+    }
+    for good in 0..=SPREAD.len() {
+        let first = reader_of(CELL, 999);
+        let table = reader_of(SPREAD, good);
+        assert_read_of_two(&rt, alloc, &Job::StepTable, first, table);
+    }
+}
+
+/// The status of a job that writes to this writer, and what standard error took.
+fn told<A: Source, B: Source, W: Write + Drop>(
+    alloc: Global,
+    job: &Job,
+    first: &mut A,
+    second: &mut Option<B>,
+    writer: W,
+) -> (u8, Limited)
+    requires first_reads { A.failures first.old ≡ 0 }
+    requires second_reads { IfSome second.old (λ b. B.failures b ≡ 0) }
+    requires second_given { IsSome second.old ↔ HasSecond job.now }
+{
+    let mut out = Device::new(writer);
+    let mut err = sink_with(alloc, 99, 3);
+    let status = work(alloc, job, first, second, &mut out, &mut err);
+    (status, err)
+}
+
+/// A job of one file whose output has too little room is told so, and has written what there was room for.
+fn assert_front(
+    rt: &impl Abort,
+    alloc: Global,
+    job: &Job,
+    input: &[u8],
+    text: &[u8],
+    room: usize,
+    piece: usize,
+    is_interrupted: bool,
+)
+    requires { ¬ HasSecond job.now }
+{
+    let mut taken = Vec::new(alloc);
+    let mut first = Device::new(input);
+    let mut second = None::<Device<&[u8]>>;
+    let writer = Narrow {
+        taken: &mut taken,
+        room,
+        piece,
+        is_interrupted,
+    };
+    let (status, err) = told(alloc, job, &mut first, &mut second, writer);
+    let found = (status, err.taken.as_slice());
+    assert_eq!(rt; found, (3, b"WriteFault\n".as_slice()));
+    assert!(rt; text.starts_with(&taken) && taken.len() == room, "{room}");
+}
+
+/// The same of a job of two files.
+fn assert_front_of_two(
+    rt: &impl Abort,
+    alloc: Global,
+    job: &Job,
+    first: &[u8],
+    second: &[u8],
+    text: &[u8],
+    room: usize,
+    piece: usize,
+    is_interrupted: bool,
+)
+    requires { HasSecond job.now }
+{
+    let mut taken = Vec::new(alloc);
+    let mut first = Device::new(first);
+    let mut second = Some(Device::new(second));
+    let writer = Narrow {
+        taken: &mut taken,
+        room,
+        piece,
+        is_interrupted,
+    };
+    let (status, err) = told(alloc, job, &mut first, &mut second, writer);
+    let found = (status, err.taken.as_slice());
+    assert_eq!(rt; found, (3, b"WriteFault\n".as_slice()));
+    assert!(rt; text.starts_with(&taken) && taken.len() == room, "{room}");
+}
+
+/// How many bytes are taken at most before a write is interrupted, or takes none: whole texts but the last byte, where 999 is said.
+const ROOMS: [usize; 4] = [0, 1, 7, 999];
+
+/// A byte or all at a time, and then an interrupted write or one that takes nothing.
+const ENDS: [(usize, bool); 4] = [(1, false), (1, true), (999, false), (999, true)];
+
+#[test]
+fn each_write_fails(rt: HostRuntime) {
+    let rows: [(Job, &[u8], &[u8]); 5] = [
+        (Job::Canon, GLIDER, GLIDER_TEXT),
+        (Job::Show, TWINS, SHOWN),
+        (Job::Convert(Target::Rle), TWINS, CONVERTED),
+        (Job::Convert(Target::Mc), TWINS_IN_RLE, TWINS_TEXT),
+        (Job::Step, LINE, NEXT_LINE),
+    ];
+    for (job, input, text) in rows {
+        for most in ROOMS {
+            let room = text.len().saturating_sub(1).min(most);
+            for (piece, is_interrupted) in ENDS {
+                assert_front(
+                    &rt,
+                    rt.alloc(),
+                    &job,
+                    input,
+                    text,
+                    room,
+                    piece,
+                    is_interrupted,
+                );
+            }
+        }
+    }
+}
+
+#[test]
+fn each_write_for_two_files_fails(rt: HostRuntime) {
+    let rows: [(Job, &[u8], &[u8], &[u8]); 3] = [
+        (Job::Same, TWINS, TWINS_IN_RLE, b"same\n"),
+        (Job::Same, TWINS, GLIDER, b"different\n"),
+        (Job::StepTable, CELL, SPREAD, NEXT_CELLS),
+    ];
+    for (job, first, second, text) in rows {
+        for most in ROOMS {
+            let room = text.len().saturating_sub(1).min(most);
+            for (piece, is_interrupted) in ENDS {
+                assert_front_of_two(
+                    &rt,
+                    rt.alloc(),
+                    &job,
+                    first,
+                    second,
+                    text,
+                    room,
+                    piece,
+                    is_interrupted,
+                );
+            }
+        }
+    }
+}
+
+/// A job whose text is written whole and can't be flushed is told so.
+#[test]
+fn each_flush_fails(rt: HostRuntime) {
+    let rows: [(Job, &[u8], &[u8]); 4] = [
+        (Job::Show, TWINS, SHOWN),
+        (Job::Convert(Target::Rle), TWINS, CONVERTED),
+        (Job::Convert(Target::Mc), TWINS_IN_RLE, TWINS_TEXT),
+        (Job::Step, LINE, NEXT_LINE),
+    ];
+    for (job, input, text) in rows {
+        let mut taken = Vec::new(rt.alloc());
+        let mut first = Device::new(input);
+        let mut second = None::<Device<&[u8]>>;
+        let writer = Clogged { taken: &mut taken };
+        let (status, err) = told(rt.alloc(), &job, &mut first, &mut second, writer);
+        let found = (status, err.taken.as_slice(), taken.as_slice());
+        assert_eq!(rt; found, (3, b"WriteFault\n".as_slice(), text));
+    }
+    let mut taken = Vec::new(rt.alloc());
+    let mut first = Device::new(CELL);
+    let mut second = Some(Device::new(SPREAD));
+    let writer = Clogged { taken: &mut taken };
+    let (status, err) = told(rt.alloc(), &Job::StepTable, &mut first, &mut second, writer);
+    let found = (status, err.taken.as_slice(), taken.as_slice());
+    assert_eq!(rt; found, (3, b"WriteFault\n".as_slice(), NEXT_CELLS));
+}
+
+/// Where standard error takes only a front of the fault's line, the status stays.
+#[test]
+fn each_write_to_standard_error_fails(rt: HostRuntime) {
+    let line = b"line 1: NoHeader\n".as_slice();
+    for room in 0..line.len() {
+        for piece in [1, 7, 999] {
+            let mut first = Device::new(b"o!\n".as_slice());
+            let mut second = None::<Device<&[u8]>>;
+            let mut out = sink_with(rt.alloc(), 999, 7);
+            let mut err = sink_with(rt.alloc(), room, piece);
+            let status = work(
+                rt.alloc(),
+                &Job::Canon,
+                &mut first,
+                &mut second,
+                &mut out,
+                &mut err,
+            );
+            let wanted = &line[..room];
+            assert_left(&rt, (status, out, err), (2, b"", wanted));
+        }
+    }
+}

@@ -1,0 +1,5 @@
+//! Tests of `life_rle`.
+
+mod files;
+mod lines;
+mod written;

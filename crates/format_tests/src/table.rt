@@ -1,0 +1,7 @@
+//! Tests of `life_table`.
+
+mod compare;
+mod files;
+mod hostile;
+mod large;
+mod orders;

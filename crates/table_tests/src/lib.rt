@@ -1,6 +1,0 @@
-//! Tests of the calls of `life_table`, for what no clause says: that the definitions are those of the format, and that calls
-//! succeed where memory is there.
-#![tactic(auto)]
-
-#[cfg(test)]
-mod tests;
