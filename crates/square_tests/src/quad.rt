@@ -439,7 +439,7 @@ fn glider_found<S: Squares>(
     let id = four(squares, [4, 2, 12, 8])?;
     let behind = squares.find_small(GLIDER);
     let quarter = match squares.parts(id) {
-        Some([nw, _, _, _]) => squares.small_cells(nw),
+        Some(quarters) => squares.small_cells(quarters[0]),
         None => None,
     };
     Ok((before, behind == Some(id), squares.small_cells(id), quarter))
