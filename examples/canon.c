@@ -11,7 +11,7 @@ int main(void)
         return fputs("the file can't be read, or has no end within 1 MB\n", stderr), 3;
     uint32_t status = golly_canon_canon(file, length, GOLLY_CANON_SQUARES, text, sizeof text, &needed, &line);
     if (status == GOLLY_CANON_OK)
-        return fwrite(text, 1, needed, stdout) != needed;
+        return fwrite(text, 1, needed, stdout) != needed || fflush(stdout) ? 3 : 0;
     golly_canon_status_name(status, name, sizeof name, &needed);
     if (line)
         fprintf(stderr, "line %llu: ", (unsigned long long)line);

@@ -1,5 +1,5 @@
 """The doubles of a folder: prints `FILE = FILE` for each file that is the same pattern as an earlier one, and `FILE: line N: KIND` for each
-that is no pattern, on standard error. usage: doubles.py FOLDER"""
+that is no pattern, or why it can't be read, on standard error. usage: doubles.py FOLDER"""
 import ctypes
 import pathlib
 import sys
@@ -33,11 +33,12 @@ def canonical(file, room=1 << 16):
 
 
 def main(folder):
+    sys.stdout.reconfigure(errors="surrogateescape")
     known = {}
     for path in sorted(it for it in pathlib.Path(folder).rglob("*") if it.is_file()):
         try:
             text = canonical(path.read_bytes())
-        except Refused as why:
+        except (OSError, Refused) as why:
             print(f"{path}: {why}", file=sys.stderr)
             continue
         first = known.setdefault(text, path)

@@ -4,7 +4,7 @@
  * no state behind the calls, so threads may call at the same time, each on memory of its own. What the calls answer is proved for any bytes
  * (docs/PROOFS.md of the project says what). The proof takes for granted what stands here under "The caller guarantees".
  *
- *     unsigned char text[4096];
+ *     static unsigned char text[4096];
  *     size_t needed;
  *     uint64_t line;
  *     uint32_t status = golly_canon_canon(bytes, length, GOLLY_CANON_SQUARES, text, sizeof text, &needed, &line);
@@ -16,8 +16,8 @@
  *     any other status      the number of a kind of fault. Nothing was written at `out`, and `*needed` is 0. `*line` is the number of the line
  *                           that the file is refused at, counted from 1, or 0 where the fault is of no line.
  *
- * With the first two `*line` is 0. A file is its bytes as they stand, not compressed, and whole: of an RLE that was cut short a part can be a
- * pattern too.
+ * With the first two `*line` is 0. A file is its bytes as they stand, not compressed, and whole: of a file of either format that was cut short a
+ * part can be a pattern too.
  *
  * The caller guarantees, in each call:
  *
@@ -97,7 +97,7 @@ enum {
 };
 
 /* `limit`, of each call: how many different squares the store of the call may hold, those on the way to the answer too. A call that comes to
- * more is refused as Full. A limit above 2^62 counts as 2^62. */
+ * more is refused as Full. A limit above 2^62 counts as 2^62; but beyond some 2^32 squares the answer is Memory, whatever the limit. */
 
 /* The canonical text of the pattern of a file. Two files have one text exactly if they are one pattern.
  * The caller guarantees: `length` bytes to read at `bytes`; `room` bytes to write at `out`, `*needed` and `*line`, apart from each other and
@@ -115,13 +115,15 @@ uint32_t golly_canon_to_rle(const unsigned char *bytes, size_t length, uint64_t 
 uint32_t golly_canon_show(const unsigned char *bytes, size_t length, uint64_t limit,
                           unsigned char *out, size_t room, size_t *needed, uint64_t *line);
 
-/* The canonical text of the next generation of the pattern of a file, under its B/S rule.
+/* The canonical text of the next generation of the pattern of a file, under its B/S rule; NeedsTable where the rule is a name, TooManyCells where
+ * more than 2^20 cells aren't 0 (docs/FORMATS.md of the project has every refusal of a step, and their order).
  * The caller guarantees what golly_canon_canon names. */
 uint32_t golly_canon_step(const unsigned char *bytes, size_t length, uint64_t limit,
                           unsigned char *out, size_t room, size_t *needed, uint64_t *line);
 
-/* The same of a pattern under a name, by the rule table of that name: `table` is a .rule file. `*in_table` is 1 where the table is refused, so
- * that `*line` is a line of the table, and else 0. With the status Ambiguous `*line` is a line of the table too, which was itself accepted.
+/* The same of a pattern under a name, by the rule table of that name: `table` is a .rule file; RuleMismatch under any other rule, a B/S rule too.
+ * `*in_table` is 1 where the table is refused, so that `*line` is a line of the table, and else 0. With the status Ambiguous `*line` is a line of
+ * the table too, which was itself accepted.
  * The caller guarantees what golly_canon_canon names; `table_length` bytes to read at `table`; `*in_table` to write, apart from all else. */
 uint32_t golly_canon_step_by_table(const unsigned char *bytes, size_t length,
                                    const unsigned char *table, size_t table_length, uint64_t limit,
