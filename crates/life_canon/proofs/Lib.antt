@@ -30,5 +30,6 @@ mod RefusalKinds
 mod Standing
 mod CellFacts
 mod CallFacts
+mod PieceFacts
 mod ShowFacts
 mod Rows

@@ -1,13 +1,13 @@
 -- The quarters of a listed square.
-use Rattle.std.proofs.Common.{◌≡◌, ℕ, suc, ◌+◌, ◌-◌, ◌^◌, ◌<◌, ◌≤◌, Bool, true, false, ◌&&◌, List, [], ◌∷◌, ◌++◌, length, map, take, get_or, refl, ap, sym, ◌∙◌, subst, arith}
-use Rattle.std.specs.Prelude.{◌==◌, nat_lt, ℤ, Contains}
+use Rattle.std.proofs.Common.{◌≡◌, ℕ, suc, ◌+◌, ◌-◌, ◌^◌, ◌<◌, ◌≤◌, true, false, ◌&&◌, List, length, map, get_or, refl, ap, sym, ◌∙◌, subst, arith}
+use Rattle.std.specs.Prelude.{◌==◌, ℤ, Contains}
 use Rattle.std.proofs.lemmas.Bool.Decides.{nat_tests}
 use Rattle.std.proofs.lemmas.List.{length-map, get_or-map}
 use Rattle.life_base.specs.Tree.{Tree, quad, depth, is_blank_tree as is_blank}
 use Rattle.life_base.specs.declared.rule.Rule.{Rule}
 use Rattle.life_base.specs.declared.rule.Rule.TheVariants.{Life, Named}
 use Rattle.life_canon.specs.Universe.{is_life, least_level, IsOnPlane}
-use Rattle.life_canon.specs.Listing.{is_small, is_in, quad_line, line_of}
+use Rattle.life_canon.specs.Listing.{is_small, is_in}
 use Rattle.life_canon.specs.Closed.{Quarters}
 use Rattle.life_canon.specs.Store.{IsListed}
 use Rattle.life_canon.specs.Listing.{listed, lines_for, square_file, canonical_file}

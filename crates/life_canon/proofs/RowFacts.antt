@@ -1,8 +1,8 @@
 -- Rows of a square by the rows of its quarters.
-use Rattle.std.proofs.Common.{List, [], ◌∷◌, get_or, ◌≡◌, ℕ, ◌+◌, ◌-◌, ◌*◌, ◌^◌, ◌<◌, ◌≤◌, true, false, refl, ap, arith, ◌∙◌, sym}
+use Rattle.std.proofs.Common.{List, [], ◌∷◌, get_or, ◌≡◌, ℕ, ◌+◌, ◌-◌, ◌*◌, ◌^◌, ◌<◌, ◌≤◌, true, false, refl, ap, arith}
 use Rattle.std.specs.Prelude.{nat_lt}
 use Rattle.std.proofs.lemmas.Bool.Decides.{nat_tests}
-use Rattle.life_base.specs.Tree.{Tree, point, quad, depth, state_at}
+use Rattle.life_base.specs.Tree.{Tree, quad, depth, state_at}
 use Rattle.life_canon.specs.Listing.{row_byte, rows_of}
 use Rattle.life_canon.specs.Rows.{row_of_four}
 

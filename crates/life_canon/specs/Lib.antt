@@ -10,5 +10,6 @@ pub mod Building
 pub mod Taking
 pub mod Feeding
 pub mod Running
+pub mod Pieces
 pub mod Laws
 pub mod Rows

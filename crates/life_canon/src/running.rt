@@ -8,16 +8,13 @@ ghost use Rattle.life_canon.specs.Store.{Keeps, IsWant};
 use crate::pattern::Pattern;
 use crate::reader::Reader;
 use crate::room::Room;
-use crate::writing::text_of;
-use life_base::{Fault, Kind, MAX_LEVEL, Sink, Source, deliver};
+use crate::writing::{PIECE, deliver_lines, front_of, squares_of};
+use life_base::{Fault, Kind, MAX_LEVEL, Sink, Source};
 use life_quad::Shared;
 use std::alloc::Global;
 
 /// The most bytes of an input.
 const LONGEST_INPUT: u64 = 1 << 30;
-
-/// How many bytes are asked of a source at once.
-const PIECE: usize = 65536;
 
 /// Whether a fault of this kind ends the run at once: want of room or of memory.
 fn ends_at_once(kind: Kind) -> bool
@@ -141,8 +138,9 @@ pub fn run_canon_within<R: Source, W: Sink>(
     ensures keeps { Keeps store.old store.new }
 {
     let pattern = read_source(alloc, store, reader, most)?;
-    let text = text_of(alloc, store, &pattern)?;
-    deliver(writer, &text)?;
+    let known = squares_of(alloc, store, &pattern)?;
+    let front = front_of(alloc, &pattern)?;
+    deliver_lines(store, &pattern.rule, &known, front, writer)?;
     Ok(())
 }
 

@@ -1,23 +1,28 @@
-//! The canonical text of a pattern, without a file value between.
+//! The canonical text of a pattern, without a file value between, whole or in pieces.
 
-ghost use Rattle.std.specs.Prelude.{◌≡◌, ◌++◌, ◌≤◌, map, flat_map, All, Contains, OnOk, IfOk, IfErr};
+ghost use Rattle.std.specs.Prelude.{◌≡◌, ◌⊎◌, ◌+◌, ◌++◌, ◌≤◌, true, map, flat_map, vec_len, vec_capacity, All, Contains, OnOk, OnErr, IfOk, IfErr};
 ghost use Rattle.life_base.specs.declared.kind.Kind.TheVariants.{Memory};
 ghost use Rattle.life_base.specs.Refusal.{fault_of};
-ghost use Rattle.life_base.specs.Tree.{Tree, depth};
+ghost use Rattle.life_base.specs.Writing.{WritesText, WritesPrefix};
+ghost use Rattle.life_base.specs.Tree.{Tree};
 ghost use Rattle.life_mc.specs.Macrocell.{largest_state};
 ghost use Rattle.life_mc.specs.Squares.{HasStatesUpTo};
-ghost use Rattle.life_mc.specs.Writing.{node_text, mc_text};
+ghost use Rattle.life_mc.specs.Writing.{front_text, node_text, mc_text};
 ghost use Rattle.life_canon.specs.Universe.{least_level};
-ghost use Rattle.life_canon.specs.Listing.{lines_for, square_file, canon_text};
+ghost use Rattle.life_canon.specs.Listing.{listed, lines_for, square_file, canon_text};
 ghost use Rattle.life_canon.specs.Store.{IsTrimmed, universe_in, IsListed};
+ghost use Rattle.life_canon.specs.Pieces.{WritesFront};
 
 use crate::listing::listed;
 use crate::numbering::line_of;
 use crate::pattern::{Pattern, least_level};
-use life_base::{Fault, Kind, MAX_LEVEL, Rule};
-use life_mc::{append_front, append_line};
+use life_base::{Fault, Kind, MAX_LEVEL, Rule, Sink, deliver, write_text};
+use life_mc::{LONGEST_NODE_LINE, append_front, append_line};
 use life_quad::{IdList, Shared, SharedSquares};
 use std::alloc::Global;
+
+/// How many bytes are read, or held before they are written, at once.
+pub(crate) const PIECE: usize = 65536;
 
 /// Adds the lines of the squares of the list at the end, in its order, each ended by a line feed.
 fn append_lines<S: SharedSquares>(
@@ -37,15 +42,31 @@ fn append_lines<S: SharedSquares>(
     Ok(())
 }
 
+/// The squares of a pattern that have lines, in their order.
+pub(crate) fn squares_of<S: SharedSquares>(
+    alloc: Global,
+    squares: &S,
+    pattern: &Pattern,
+) -> Result<IdList, Kind>
+    requires known { S.knows squares.now pattern.now.root }
+    requires states { HasStatesUpTo (largest_state pattern.now.rule) (S.content squares.now pattern.now.root) }
+    ensures listed { IfOk result (λ known. map (S.content squares.now) known ≡ listed (S.content squares.now pattern.now.root) (least_level pattern.now.rule)) }
+    ensures known { IfOk result (λ known. All (S.knows squares.now) known) }
+    ensures each { IfOk result (λ known. (t : Tree) → Contains (map (S.content squares.now) known) t → IsListed pattern.now.rule (map (S.content squares.now) known) t) }
+    ensures kind { IfErr result (λ kind. kind ≡ Memory) }
+{
+    let known = listed(alloc, squares, least_level(&pattern.rule), pattern.root)?;
+    Ok(known)
+}
+
 /// The macrocell text of a pattern, with one node line for each of its squares.
 fn written<S: SharedSquares>(alloc: Global, squares: &S, pattern: &Pattern) -> Result<Vec<u8>, Kind>
     requires known { S.knows squares.now pattern.now.root }
     requires states { HasStatesUpTo (largest_state pattern.now.rule) (S.content squares.now pattern.now.root) }
-    requires level { least_level pattern.now.rule ≤ depth (S.content squares.now pattern.now.root) }
     ensures text { IfOk result (λ text. text.items ≡ mc_text (square_file pattern.now.rule pattern.now.generation (S.content squares.now pattern.now.root))) }
     ensures kind { IfErr result (λ kind. kind ≡ Memory) }
 {
-    let known = listed(alloc, squares, least_level(&pattern.rule), pattern.root)?;
+    let known = squares_of(alloc, squares, pattern)?;
     let mut out = Vec::new(alloc);
     append_front(&mut out, &pattern.rule, pattern.generation)?;
     append_lines(squares, &pattern.rule, &known, &mut out)?;
@@ -63,4 +84,66 @@ pub fn text_of(alloc: Global, store: &Shared, pattern: &Pattern) -> Result<Vec<u
     ensures memory { IfErr result (λ fault. fault ≡ fault_of Memory) }
 {
     Ok(written(alloc, store, pattern)?)
+}
+
+/// The front of a pattern's text, with room for a piece behind it.
+pub(crate) fn front_of(alloc: Global, pattern: &Pattern) -> Result<Vec<u8>, Kind>
+    ensures front { IfOk result (λ front. front.items ≡ front_text pattern.now.rule pattern.now.generation) }
+    ensures room { IfOk result (λ front. 65536 ≤ vec_capacity front) }
+    ensures kind { IfErr result (λ kind. kind ≡ Memory) }
+{
+    let mut front = Vec::new(alloc);
+    append_front(&mut front, &pattern.rule, pattern.generation)?;
+    front.reserve(PIECE)?;
+    Ok(front)
+}
+
+/// Writes what the piece holds, and empties it, unless a line fits behind it. Its room stays.
+fn make_way<W: Sink>(piece: &mut Vec<u8>, writer: &mut W) -> Result<(), Kind>
+    requires { W.failures writer.old ≡ 0 }
+    ensures front { OnOk result (WritesFront (W.contents writer.old) (W.contents writer.new) piece.old.items piece.new.items) }
+    ensures prefix { OnErr result (WritesPrefix (W.contents writer.old) (W.contents writer.new) piece.old.items) }
+    ensures way { OnOk result (vec_len piece.new + 105 ≤ 65536) }
+    ensures room { vec_capacity piece.new ≡ vec_capacity piece.old }
+    ensures works { OnOk result (W.failures writer.new ≡ 0) }
+    ensures kind { IfErr result (λ k. k ≡ Kind.WriteFault) }
+    ensures cause { OnErr result ((W.failures writer.new ≡ 1) ⊎ (W.stalled writer.new ≡ true)) }
+    ensures stalled { OnOk result (W.stalled writer.new ≡ W.stalled writer.old) }
+    ensures failed { W.failures writer.new ≡ 1 → W.stalled writer.new ≡ W.stalled writer.old }
+{
+    if piece.len() <= PIECE - LONGEST_NODE_LINE {
+        return Ok(());
+    }
+    write_text(writer, piece)?;
+    piece.clear();
+    Ok(())
+}
+
+/// Writes the front and then the lines of the squares of the list, in its order, and flushes. The text is gathered in the front's room,
+/// which is all the memory that it takes, and written whenever a line may not fit.
+pub(crate) fn deliver_lines<S: SharedSquares, W: Sink>(
+    squares: &S,
+    rule: &Rule,
+    known: &IdList,
+    front: Vec<u8>,
+    writer: &mut W,
+) -> Result<(), Kind>
+    requires known { All (S.knows squares.now) known.now }
+    requires listed { (t : Tree) → Contains (map (S.content squares.now) known.now) t → IsListed rule.now (map (S.content squares.now) known.now) t }
+    requires room { 65536 ≤ vec_capacity front }
+    requires works { W.failures writer.old ≡ 0 }
+    ensures text { WritesText (W.contents writer.old) (W.contents writer.new) (front.items ++ flat_map node_text (lines_for rule.now (map (S.content squares.now) known.now))) result }
+    ensures works { OnOk result (W.failures writer.new ≡ 0) }
+    ensures flushed { OnOk result (W.flushed writer.new ≡ true) }
+    ensures kind { IfErr result (λ k. k ≡ Kind.WriteFault) }
+    ensures cause { OnErr result ((W.failures writer.new ≡ 1) ⊎ (W.stalled writer.new ≡ true)) }
+    ensures stalled { OnOk result (W.stalled writer.new ≡ W.stalled writer.old) }
+    ensures failed { W.failures writer.new ≡ 1 → W.stalled writer.new ≡ W.stalled writer.old }
+{
+    let mut piece = front;
+    for id in known.as_slice() {
+        make_way(&mut piece, writer)?;
+        append_line(&mut piece, &line_of(squares, rule, known, *id))?;
+    }
+    deliver(writer, &piece)
 }

@@ -3,6 +3,7 @@ pub mod Words
 pub mod Leaves
 pub mod ByLines
 pub mod RowCells
+pub mod LineRoom
 pub mod ReadLines
 pub mod LinesTaken
 pub mod Valid

@@ -21,7 +21,7 @@ cell_at row (suc (suc (suc (suc (suc (suc zero)))))) h = refl
 cell_at row (suc (suc (suc (suc (suc (suc (suc zero))))))) h = refl
 cell_at row (suc (suc (suc (suc (suc (suc (suc (suc c)))))))) h = absurd (omega arith)
 
-length_cells : (row : ℕ) → length (row_cells row) ≡ 8
+pub length_cells : (row : ℕ) → length (row_cells row) ≡ 8
 unfolding row_cells
 length_cells row = refl
 

@@ -5,6 +5,7 @@ mod file;
 pub mod laws;
 mod leaf;
 mod line;
+mod line_writing;
 mod lines;
 mod node;
 mod numbers;
@@ -14,6 +15,7 @@ mod writing;
 
 pub use file::McFile;
 pub use line::Line;
+pub use line_writing::{LONGEST_NODE_LINE, append_line};
 pub use lines::McLines;
 pub use reading::read_mc;
-pub use writing::{append_front, append_line, write_mc};
+pub use writing::{append_front, write_mc};

@@ -1,7 +1,6 @@
 use Rattle.std.proofs.Common.{◌≡◌, ◌+◌, ◌-◌, ◌*◌, ◌/◌, ◌%◌, ◌^◌, ◌<◌, ℕ, suc, sym, ap, ◌∙◌, arith, slice_index}
 use Rattle.std.proofs.Math.Nat.{div-div-eq-div-mul}
 use Rattle.life_base.specs.Tree.{point, quad}
-use Rattle.life_mc.specs.Cells.{leaf_cell}
 use Rattle.life_canon.proofs.filling.four_bits.Goals as goal
 
 -- a shift by one more

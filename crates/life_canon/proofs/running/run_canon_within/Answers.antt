@@ -1,9 +1,15 @@
-use Rattle.std.proofs.Common.{ap, arith, inl, inr, refl, rules, sym, true≢false, ◌∙◌}
+use Rattle.std.proofs.Common.{ap, arith, inl, inr, refl, rules, subst, sym, true≢false, ◌∙◌}
+use Rattle.std.specs.Io.KnownBytes.{Appends}
 use Rattle.std.proofs.lemmas.Result.{err_from_is_err_and}
-use Rattle.life_canon.specs.Running.{by_reading, by_writing}
+use Rattle.life_base.specs.Writing.{WritesPrefix}
+use Rattle.life_base.specs.declared.cell.TheConstants.{MAX_LEVEL}
+use Rattle.life_canon.specs.Listing.{canon_text}
+use Rattle.life_canon.specs.Store.{universe_in}
+use Rattle.life_canon.specs.Running.{by_reading, by_writing, by_want}
 use Rattle.life_base.specs.Refusal.{fault_of}
 use Rattle.life_canon.proofs.CallFacts.{canonical-text}
 use Rattle.life_canon.proofs.Fits.{read-fits}
+use Rattle.life_canon.proofs.PieceFacts.{pieces-text}
 use Rattle.life_canon.proofs.running.run_canon_within.Goals as goal
 
 pub returns-in_err-pattern-clause-err : goal.returns-in_err-pattern-clause-err
@@ -12,42 +18,51 @@ returns-in_err-pattern-clause-err g c =
     let answer = by_reading c.in_err-pattern.ensures.fault in
     rw (p.1, p.2) answer
 
-pub text_of-requires : goal.text_of-requires
-text_of-requires g c = read-fits c.in_ok-pattern.ensures.pattern.bytes c.read_source.new.store c.in_ok-pattern.pattern c.in_ok-pattern.ensures.pattern.is
+pub squares_of-requires-clause-known : goal.squares_of-requires-clause-known
+squares_of-requires-clause-known g c = (read-fits c.in_ok-pattern.ensures.pattern.bytes c.read_source.new.store c.in_ok-pattern.pattern c.in_ok-pattern.ensures.pattern.is).known
 
-pub returns-in_err-deliver-clause-err : goal.returns-in_err-deliver-clause-err
-returns-in_err-deliver-clause-err g c =
-    let p = err_from_is_err_and c.from_residual-in_err-deliver.result c.from_residual-in_err-deliver.ensures.1 in
-    let written = rw c.deref.ensures.value at c.in_err-deliver.ensures.text in
-    let answer = by_writing (ap fault_of c.in_err-deliver.ensures.kind) (record {
+pub squares_of-requires-clause-states : goal.squares_of-requires-clause-states
+squares_of-requires-clause-states g c = (read-fits c.in_ok-pattern.ensures.pattern.bytes c.read_source.new.store c.in_ok-pattern.pattern c.in_ok-pattern.ensures.pattern.is).states
+
+pub returns-in_err-deliver_lines-clause-err : goal.returns-in_err-deliver_lines-clause-err
+returns-in_err-deliver_lines-clause-err g c =
+    let p = err_from_is_err_and c.from_residual-in_err-deliver_lines.result c.from_residual-in_err-deliver_lines.ensures.1 in
+    let store = c.read_source.new.store in
+    let fits = read-fits c.in_ok-pattern.ensures.pattern.bytes store c.in_ok-pattern.pattern c.in_ok-pattern.ensures.pattern.is in
+    let e = pieces-text store c.in_ok-pattern.pattern fits _ _ c.in_ok-front.ensures.front c.in_ok-known.ensures.listed in
+    let answer = by_writing (ap fault_of c.in_err-deliver_lines.ensures.kind) (record {
       bytes = c.in_ok-pattern.ensures.pattern.bytes;
-      text = c.in_ok-text.text.items;
+      text = canon_text MAX_LEVEL (universe_in store c.in_ok-pattern.pattern);
       read = c.in_ok-pattern.ensures.pattern.read;
-      canonical = canonical-text c.in_ok-pattern.ensures.pattern.bytes c.read_source.new.store c.in_ok-pattern.pattern c.in_ok-pattern.ensures.pattern.is c.in_ok-text.text.items c.in_ok-text.ensures.text;
-      written = written;
-      cause = c.in_err-deliver.ensures.cause;
+      canonical = canonical-text c.in_ok-pattern.ensures.pattern.bytes store c.in_ok-pattern.pattern c.in_ok-pattern.ensures.pattern.is _ refl;
+      written = subst (WritesPrefix _ _) e c.in_err-deliver_lines.ensures.text;
+      cause = c.in_err-deliver_lines.ensures.cause;
     }) in
     rw (p.1, p.2) answer
 
 pub returns-clause-ok : goal.returns-clause-ok
-returns-clause-ok g c = record {
-  bytes = c.in_ok-pattern.ensures.pattern.bytes;
-  text = c.in_ok-text.text.items;
-  read = c.in_ok-pattern.ensures.pattern.read;
-  canonical = canonical-text c.in_ok-pattern.ensures.pattern.bytes c.read_source.new.store c.in_ok-pattern.pattern c.in_ok-pattern.ensures.pattern.is c.in_ok-text.text.items c.in_ok-text.ensures.text;
-  written = rw c.deref.ensures.value at c.in_ok-deliver.ensures.text;
-}
+returns-clause-ok g c =
+    let store = c.read_source.new.store in
+    let fits = read-fits c.in_ok-pattern.ensures.pattern.bytes store c.in_ok-pattern.pattern c.in_ok-pattern.ensures.pattern.is in
+    let e = pieces-text store c.in_ok-pattern.pattern fits _ _ c.in_ok-front.ensures.front c.in_ok-known.ensures.listed in
+    record {
+      bytes = c.in_ok-pattern.ensures.pattern.bytes;
+      text = canon_text MAX_LEVEL (universe_in store c.in_ok-pattern.pattern);
+      read = c.in_ok-pattern.ensures.pattern.read;
+      canonical = canonical-text c.in_ok-pattern.ensures.pattern.bytes store c.in_ok-pattern.pattern c.in_ok-pattern.ensures.pattern.is _ refl;
+      written = subst (Appends _ _) e c.in_ok-deliver_lines.ensures.text;
+    }
 
 pub returns-clause-flushed : goal.returns-clause-flushed
 returns-clause-flushed g c = search rules
 
-pub deliver-requires : goal.deliver-requires
-deliver-requires g c = c.requires.writes
+pub deliver_lines-requires-clause-works : goal.deliver_lines-requires-clause-works
+deliver_lines-requires-clause-works g c = c.requires.writes
 
 pub returns-clause-write_told : goal.returns-clause-write_told
 returns-clause-write_told g c = λ h. elim h [
-  | inl e ↦ absurd (omega (arith, e, c.in_ok-deliver.ensures.works))
-  | inr e ↦ absurd (true≢false (sym e ∙ c.in_ok-deliver.ensures.stalled ∙ c.requires.takes))
+  | inl e ↦ absurd (omega (arith, e, c.in_ok-deliver_lines.ensures.works))
+  | inr e ↦ absurd (true≢false (sym e ∙ c.in_ok-deliver_lines.ensures.stalled ∙ c.requires.takes))
 ]
 
 pub returns-in_err-pattern-clause-unwritten : goal.returns-in_err-pattern-clause-unwritten
@@ -61,13 +76,36 @@ returns-in_err-pattern-clause-write_told g c = λ h. elim h [
   | inr e ↦ absurd (true≢false (sym e ∙ c.requires.takes))
 ]
 
-pub returns-in_err-text-clause-unwritten : goal.returns-in_err-text-clause-unwritten
-returns-in_err-text-clause-unwritten g c =
-    let p = err_from_is_err_and c.from_residual-in_err-text.result c.from_residual-in_err-text.ensures.1 in
+pub returns-in_err-known-clause-err : goal.returns-in_err-known-clause-err
+returns-in_err-known-clause-err g c =
+    let p = err_from_is_err_and c.from_residual-in_err-known.result c.from_residual-in_err-known.ensures.1 in
+    let answer = by_reading (by_want (inl (ap fault_of c.in_err-known.ensures.kind))) in
+    rw (p.1, p.2) answer
+
+pub returns-in_err-known-clause-unwritten : goal.returns-in_err-known-clause-unwritten
+returns-in_err-known-clause-unwritten g c =
+    let p = err_from_is_err_and c.from_residual-in_err-known.result c.from_residual-in_err-known.ensures.1 in
     rw p.1 (λ h. refl)
 
-pub returns-in_err-text-clause-write_told : goal.returns-in_err-text-clause-write_told
-returns-in_err-text-clause-write_told g c = λ h. elim h [
+pub returns-in_err-known-clause-write_told : goal.returns-in_err-known-clause-write_told
+returns-in_err-known-clause-write_told g c = λ h. elim h [
+  | inl e ↦ absurd (omega (arith, e, c.requires.writes))
+  | inr e ↦ absurd (true≢false (sym e ∙ c.requires.takes))
+]
+
+pub returns-in_err-front-clause-err : goal.returns-in_err-front-clause-err
+returns-in_err-front-clause-err g c =
+    let p = err_from_is_err_and c.from_residual-in_err-front.result c.from_residual-in_err-front.ensures.1 in
+    let answer = by_reading (by_want (inl (ap fault_of c.in_err-front.ensures.kind))) in
+    rw (p.1, p.2) answer
+
+pub returns-in_err-front-clause-unwritten : goal.returns-in_err-front-clause-unwritten
+returns-in_err-front-clause-unwritten g c =
+    let p = err_from_is_err_and c.from_residual-in_err-front.result c.from_residual-in_err-front.ensures.1 in
+    rw p.1 (λ h. refl)
+
+pub returns-in_err-front-clause-write_told : goal.returns-in_err-front-clause-write_told
+returns-in_err-front-clause-write_told g c = λ h. elim h [
   | inl e ↦ absurd (omega (arith, e, c.requires.writes))
   | inr e ↦ absurd (true≢false (sym e ∙ c.requires.takes))
 ]

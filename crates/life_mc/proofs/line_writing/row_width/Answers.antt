@@ -1,7 +1,7 @@
 use Rattle.std.proofs.Common.{ap, sym, ◌∙◌, arith}
 use Rattle.life_mc.proofs.RowCells.{shorter_at, whole_at, all_cells, is_dot}
 use Rattle.life_base.specs.Text.{without_last}
-use Rattle.life_mc.proofs.writing.row_width.Goals as goal
+use Rattle.life_mc.proofs.line_writing.row_width.Goals as goal
 
 pub loop-width-preserved : goal.loop-width-preserved
 loop-width-preserved c = record {

@@ -2,7 +2,7 @@ use Rattle.std.proofs.Common.{◌≡◌, ◌≤◌, take}
 use Rattle.std.specs.Prelude.{◌==◌}
 use Rattle.life_base.specs.Text.{without_last}
 use Rattle.life_mc.specs.Writing.{row_cells}
-use Rattle.life_mc.proofs.writing.row_width.Given as goal
+use Rattle.life_mc.proofs.line_writing.row_width.Given as goal
 
 abbrev pub invariant-loop-width : goal.invariant-loop-width
 invariant-loop-width l = record {

@@ -1,0 +1,161 @@
+//! Node lines as texts, made in a room of a fixed size.
+
+ghost use Rattle.std.specs.Prelude.{◌≡◌, ◌++◌, ◌∷◌, ◌+◌, ◌<◌, ◌≤◌, ◌==◌, take, drop, length, flat_map, decimal, codes, vec_len, vec_capacity, OnOk, OnErr, IfErr};
+ghost use Rattle.life_base.specs.declared.kind.Kind.TheVariants.{Memory};
+ghost use Rattle.life_base.specs.Text.{without_last};
+ghost use Rattle.life_mc.specs.declared.line.Line.TheVariants.{Quad};
+ghost use Rattle.life_mc.specs.Writing.{node_text, row_text, row_cells, is_live, cell_byte};
+
+use crate::line::Line;
+use itoa::write_digits;
+use life_base::Kind;
+
+/// The most bytes of a node line: five numbers of 20 digits, the four spaces between them, and a line feed.
+pub const LONGEST_NODE_LINE: usize = 105;
+
+/// Whether the cell in a column of a row is live.
+fn is_live(row: u8, column: u8) -> bool
+    requires { column < 8 }
+    ensures { result ≡ is_live row column }
+{
+    (row >> (7 - column)) & 1 == 1
+}
+
+/// The byte for a cell.
+fn cell_byte(row: u8, column: u8) -> u8
+    requires { column < 8 }
+    ensures { result ≡ cell_byte row column }
+{
+    if is_live(row, column) { b'*' } else { b'.' }
+}
+
+/// How many cells of a row are written: those up to the last live one.
+fn row_width(row: u8) -> u8
+    ensures within { result ≤ 8 }
+    ensures cells { without_last (λ b. b == 46) (row_cells row) ≡ take result (row_cells row) }
+{
+    let mut width = 8;
+    while width > 0 {
+        if is_live(row, width - 1) {
+            break;
+        }
+        width -= 1;
+    }
+    width
+}
+
+/// The eight cells of a row, and `$`.
+#[tactic(auto, unfolding(crate::specs::Writing::row_cells))]
+fn cells_and_end(row: u8) -> [u8; 9]
+    ensures { result ≡ row_cells row ++ codes "$" }
+{
+    [
+        cell_byte(row, 0),
+        cell_byte(row, 1),
+        cell_byte(row, 2),
+        cell_byte(row, 3),
+        cell_byte(row, 4),
+        cell_byte(row, 5),
+        cell_byte(row, 6),
+        cell_byte(row, 7),
+        b'$',
+    ]
+}
+
+/// Writes a row of a leaf from a place on, and answers where it ends. What stood behind it is written over.
+fn write_row(room: &mut [u8; LONGEST_NODE_LINE], at: usize, row: u8) -> usize
+    requires { at ≤ 96 }
+    ensures written { take result room.new ≡ take at room.old ++ row_text row }
+    ensures end { result ≤ at + 9 }
+{
+    room[at..at + 9].copy_from_slice(&cells_and_end(row));
+    let end = at + usize::from(row_width(row));
+    room[end] = b'$';
+    end + 1
+}
+
+/// Writes the line of a leaf at the front of the room, and answers where it ends.
+fn write_leaf(room: &mut [u8; LONGEST_NODE_LINE], rows: &[u8; 8]) -> usize
+    ensures written { take result room.new ≡ flat_map row_text rows.now ++ codes "\n" }
+    ensures end { result ≤ 105 }
+{
+    let mut end = 0;
+    for row in rows {
+        end = write_row(room, end, *row);
+    }
+    room[end] = b'\n';
+    end + 1
+}
+
+/// Writes a byte before a place, and answers where it stands.
+fn write_byte(room: &mut [u8; LONGEST_NODE_LINE], end: usize, byte: u8) -> usize
+    requires { (1 ≤ end) × (end ≤ 105) }
+    ensures written { drop result room.new ≡ byte ∷ drop end room.old }
+    ensures start { result + 1 ≡ end }
+{
+    room[end - 1] = byte;
+    end - 1
+}
+
+/// Writes a space and a number before a place, and answers where they start.
+fn write_quarter(room: &mut [u8; LONGEST_NODE_LINE], end: usize, number: u64) -> usize
+    requires { (21 ≤ end) × (end ≤ 105) }
+    ensures written { drop result room.new ≡ codes " " ++ decimal number ++ drop end room.old }
+    ensures start { (result ≤ end) × (end ≤ result + 21) }
+{
+    let start = write_digits(number, room, end);
+    write_byte(room, start, b' ')
+}
+
+/// Writes the line of a square of four quarters at the end of the room, and answers where it starts.
+fn write_quad(
+    room: &mut [u8; LONGEST_NODE_LINE],
+    level: u8,
+    nw: u64,
+    ne: u64,
+    sw: u64,
+    se: u64,
+) -> usize
+    ensures written { drop result room.new ≡ node_text (Quad level nw ne sw se) }
+    ensures start { result ≤ 105 }
+{
+    let end = write_byte(room, LONGEST_NODE_LINE, b'\n');
+    let end = write_quarter(room, end, se);
+    let end = write_quarter(room, end, sw);
+    let end = write_quarter(room, end, ne);
+    let end = write_quarter(room, end, nw);
+    write_digits(u64::from(level), room, end)
+}
+
+/// Adds the line of a square at the end, ended by a line feed. A refusal leaves the vector as it was; where room for
+/// [`LONGEST_NODE_LINE`] bytes is there, none comes.
+///
+/// # Errors
+///
+/// `Memory`, and nothing else.
+pub fn append_line(out: &mut Vec<u8>, line: &Line) -> Result<(), Kind>
+    ensures ok { OnOk result (out.new.items ≡ out.old.items ++ node_text line.now) }
+    ensures err { OnErr result (out.new.items ≡ out.old.items) }
+    ensures kind { IfErr result (λ kind. kind ≡ Memory) }
+    ensures full { OnErr result (vec_capacity out.old < vec_len out.old + 105) }
+    ensures capacity { vec_capacity out.old ≤ vec_capacity out.new }
+{
+    let mut room = [0; LONGEST_NODE_LINE];
+    match line {
+        Line::Leaf(rows) => {
+            let end = write_leaf(&mut room, rows);
+            out.extend_from_slice(&room[..end])?;
+        }
+        Line::Quad {
+            level,
+            nw,
+            ne,
+            sw,
+            se,
+        } => {
+            let start = write_quad(&mut room, *level, *nw, *ne, *sw, *se);
+            out.extend_from_slice(&room[start..])?;
+        }
+    }
+    Ok(())
+}
