@@ -721,7 +721,7 @@ LONG_TEXTS = [
     *long_jobs("stopped and continued", 0, "", lambda text: text, plays=stops_it),
     *long_jobs("killed while it writes", -signal.SIGKILL, "", Front, plays=kills_it),
     *(long_jobs("a full disk", 3, "WriteFault", Front, by=ON_A_SMALL_DISK) if CAN_MOUNT else []),
-    *long_jobs("little memory", 4, "Memory", lambda text: b"", by='ulimit -v 5000; exec "$@"'),
+    *long_jobs("little memory", 4, "Memory", lambda text: b"", by='ulimit -v 3800; exec "$@"'),
 ]
 
 
