@@ -7,7 +7,7 @@ ghost use Rattle.life_canon.specs.Listing.{is_small, is_in, with_new, with_all, 
 ghost use Rattle.life_canon.specs.Closed.{IsClosed};
 
 use life_base::Kind;
-use life_quad::{Id, IdList, Quarters, SharedSquares, Squares, divide, is_blank, is_blank_at};
+use life_quad::{Id, IdList, Quarters, SharedSquares, Squares, divide, is_blank_at};
 use std::alloc::Global;
 
 /// Whether a square of a level is blank or of a level below the least one.
@@ -103,10 +103,11 @@ fn place_of<S: SharedSquares>(squares: &S, known: &IdList, id: Id) -> Option<usi
     known.place(id)
 }
 
-/// The number that stands for a square in a node line: a cell's state, 0 for a blank square, else its place in the list, counted
-/// from 1.
-pub(crate) fn number_of<S: SharedSquares>(squares: &S, known: &IdList, id: Id) -> u64
+/// The number that stands for a square of a level in a node line: a cell's state, 0 for a blank square, else its place in the list,
+/// counted from 1.
+pub(crate) fn number_of<S: SharedSquares>(squares: &S, known: &IdList, level: u8, id: Id) -> u64
     requires id { S.knows squares.now id }
+    requires level { level ≡ depth (S.content squares.now id) }
     requires known { All (S.knows squares.now) known.now }
     requires there { 1 ≤ depth (S.content squares.now id) → is_blank_tree (S.content squares.now id) ≡ false → is_in (map (S.content squares.now) known.now) (S.content squares.now id) ≡ true }
     ensures { result ≡ number_of (map (S.content squares.now) known.now) (S.content squares.now id) }
@@ -114,7 +115,7 @@ pub(crate) fn number_of<S: SharedSquares>(squares: &S, known: &IdList, id: Id) -
     if let Some(state) = squares.state(id) {
         return u64::from(state);
     }
-    if is_blank(squares, id) {
+    if is_blank_at(squares, level, id) {
         return 0;
     }
     match place_of(squares, known, id) {

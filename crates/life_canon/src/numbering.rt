@@ -55,10 +55,10 @@ pub(crate) fn line_of<S: SharedSquares>(squares: &S, rule: &Rule, known: &IdList
     let Quarters { nw, ne, sw, se } = divide(squares, id);
     Line::Quad {
         level,
-        nw: number_of(squares, known, nw),
-        ne: number_of(squares, known, ne),
-        sw: number_of(squares, known, sw),
-        se: number_of(squares, known, se),
+        nw: number_of(squares, known, level - 1, nw),
+        ne: number_of(squares, known, level - 1, ne),
+        sw: number_of(squares, known, level - 1, sw),
+        se: number_of(squares, known, level - 1, se),
     }
 }
 

@@ -16,9 +16,9 @@ use Rattle.life_quad.specs.declared.id.Node.{Node}
 use Rattle.life_quad.specs.contracts.id.NodePartialEq.TheImpl.{eq-value}
 use Rattle.life_base.specs.Tree.{Tree, point, quad, depth, quarters, blank, is_blank_tree, IsFull}
 use Rattle.life_base.proofs.Squares.{depth-blank, is_blank-blank, blank_is, quad_nw, quad_ne, quad_sw, quad_se, point_state, point≢quad}
-use Rattle.life_quad.specs.Store.{Nodes, two, four, small_square, number_of, id_of, square_of, node_square, squares, content, held, is_blank_id, IsEarlier, IsNode, IsSmall, IsSound, IsShared, Knows, IsIdOf, as_small, as_node, HasRoom, KeepsContents, Joined, was_there, is_new, Answers, HasSeen}
+use Rattle.life_quad.specs.Store.{Nodes, two, four, small_square, number_of, id_of, square_of, node_square, squares, levels_of, content, held, is_blank_id, IsNamed, IsEarlier, IsNode, IsSmall, IsSound, IsShared, Knows, IsIdOf, as_small, as_node, HasRoom, KeepsContents, Joined, was_there, is_new, Answers, HasSeen}
 use Rattle.life_quad.specs.SmallLaws.{small_range, quarters_range}
-use Rattle.life_quad.specs.StoreLaws.{Names, the_state, the_blank, the_node, names, same_id, same_ids, length-squares, squares-push, small_node, square_of-append, square_of-node, square_of-small, square_of-id, is_blank-content, full_content, slice_get-last, slice_get-push_cases, node_square-append}
+use Rattle.life_quad.specs.StoreLaws.{Kinds, a_state, a_blank, a_small, a_node, kind_of, Names, the_state, the_blank, the_node, names, same_id, same_ids, length-squares, squares-push, small_node, square_of-append, square_of-node, square_of-small, square_of-id, is_blank-content, full_content, slice_get-last, slice_get-push_cases, node_square-append}
 use Rattle.life_quad.proofs.GrowLemmas.{with_id, with_node, with_both, IsSound-id, IsSound-both, IsShared-id, IsShared-both}
 
 -- the Id of a state
@@ -89,6 +89,25 @@ pub node_content : (s : Nodes) (id : Id) (n : Node) → IsSound s → 66064 ≤ 
     → square_of (squares s.nodes) id ≡ node_square (squares s.nodes) n
 node_content s id n h l at = square_of-node s (id.0 - 66064) n id h at (omega arith)
 
+-- the level of a node's square
+pub node_level : (s : Nodes) (id : Id) (level d : ℕ) → Knows s id → 66064 ≤ id.0 → level ≡ get_or (levels_of s.nodes) (id.0 - 66064) d → level ≡ depth (square_of (squares s.nodes) id)
+node_level s id level d h l at = by (kind_of (squares s.nodes) id)
+  where
+    lt : id.0 - 66064 < length (squares s.nodes)
+    lt = let m = h.named.below in omega (arith, m, length-squares s.nodes)
+
+    by : Kinds (squares s.nodes) id → level ≡ depth (square_of (squares s.nodes) id)
+    by (a_state m e) = absurd (omega arith)
+    by (a_blank m u e) = absurd (omega arith)
+    by (a_small m u e) = absurd (omega arith)
+    by (a_node m e) = at ∙ get_or-map depth (squares s.nodes) (id.0 - 66064) (point 0) d lt ∙ sym (ap depth e)
+
+-- a known Id is among the cells, the blank and small squares, and the nodes that have levels
+pub named_level : (s : Nodes) (id : Id) (levels : List ℕ) → levels ≡ levels_of s.nodes → Knows s id → IsNamed (length levels) id
+named_level s id levels e h =
+    let len : length levels ≡ length s.nodes = ap length e ∙ length-map (squares s.nodes) depth ∙ length-squares s.nodes in
+    record { below = omega (arith, h.named.below, len); blank = h.named.blank }
+
 -- a quarter of a node or of a small square is known
 pub knows_quarter : (s : Nodes) (i : ℕ) (id : Id) → IsSound s → i ≤ length s.nodes → IsEarlier s.log i id → Knows s id
 knows_quarter s i id h le e = record { sound = h; named = record { below = omega (arith, e.named.below); blank = e.named.blank }; joined = e.joined }
@@ -108,12 +127,11 @@ small_level s id h l u = ap depth (square_of-small (squares s.nodes) id l u) ∙
 -- two nodes are equal as values where their test says so
 pub same_node : (a b : Node) → eq-value.it a b ≡ true → a ≡ b
 same_node a b h =
-    let level : a.level ≡ b.level = grind arith in
     let nw : a.nw ≡ b.nw = grind arith in
     let ne : a.ne ≡ b.ne = grind arith in
     let sw : a.sw ≡ b.sw = grind arith in
     let se : a.se ≡ b.se = grind arith in
-    λ x. record { level = level x; nw = nw x; ne = ne x; sw = sw x; se = se x }
+    λ x. record { nw = nw x; ne = ne x; sw = sw x; se = se x }
 
 pub same_node_test : (a : Node) → eq-value.it a a ≡ true
 same_node_test a = grind arith
@@ -205,8 +223,7 @@ held_id s i n h u le new there = by (held_from s (node_square S n) there)
         let ne = same_id s u (id_of m.ne) (id_of n.ne) (child j (id_of m.ne) lj node.ne) (child i (id_of n.ne) le new.ne) (quad_ne same) in
         let sw = same_id s u (id_of m.sw) (id_of n.sw) (child j (id_of m.sw) lj node.sw) (child i (id_of n.sw) le new.sw) (quad_sw same) in
         let se = same_id s u (id_of m.se) (id_of n.se) (child j (id_of m.se) lj node.se) (child i (id_of n.se) le new.se) (quad_se same) in
-        let level = sym node.level ∙ ap depth same ∙ new.level in
-        let equal : m ≡ n = λ x. record { level = level x; nw = (nw x).0; ne = (ne x).0; sw = (sw x).0; se = (se x).0 } in
+        let equal : m ≡ n = λ x. record { nw = (nw x).0; ne = (ne x).0; sw = (sw x).0; se = (se x).0 } in
         (id_of k, subst (λ z. IsIdOf s z (id_of k)) equal is)
 
     by : (k : ℕ) × Contains s.log k × (content s (id_of k) ≡ node_square S n) → (id : Id) × IsIdOf s n id
@@ -592,17 +609,16 @@ module _ (s : Nodes) (nw ne sw se : Id) (a : Knows s nw) (b : Knows s ne) (c : K
   blank_joined h = blank_is joined full_joined (is_blank-joined ∙ h)
 
   -- the node of four quarters that are not all blank
-  pub IsNode-joined : (level : ℕ) → level ≡ depth (square_of (squares s.nodes) nw) → depth (square_of (squares s.nodes) nw) < MAX_LEVEL
+  pub IsNode-joined : depth (square_of (squares s.nodes) nw) < MAX_LEVEL
       → (is_blank_id nw && is_blank_id ne && is_blank_id sw && is_blank_id se) ≡ false
-      → IsNode s.log (squares s.nodes) (length s.nodes) (record { level = level + 1; nw = nw.0; ne = ne.0; sw = sw.0; se = se.0 })
-  IsNode-joined level l room h =
+      → IsNode s.log (squares s.nodes) (length s.nodes) (record { nw = nw.0; ne = ne.0; sw = sw.0; se = se.0 })
+  IsNode-joined room h =
       record {
         nw = record { named = a.named; joined = a.joined };
         ne = record { named = b.named; joined = b.joined };
         sw = record { named = c.named; joined = c.joined };
         se = record { named = d.named; joined = d.joined };
         full = full_joined;
-        level = omega arith;
         low = omega arith;
         not_blank = is_blank-joined ∙ h;
       }
@@ -631,7 +647,6 @@ IsSmall-joined s n k e node =
         sw = record { named = record { below = omega (arith, r.2); blank = node.sw.named.blank }; joined = node.sw.joined };
         se = record { named = record { below = omega (arith, r.3); blank = node.se.named.blank }; joined = node.se.joined };
         full = node.full;
-        level = node.level;
         low = node.low;
         not_blank = node.not_blank;
       };

@@ -70,6 +70,10 @@ node_square stored n = quad (square_of stored (id_of n.nw)) (square_of stored (i
 unfoldable pub squares : List Node → List Tree
 squares nodes = fold (λ stored n. stored ++ node_square stored n ∷ []) [] nodes
 
+-- the levels of the nodes' squares
+abbrev pub levels_of : List Node → List ℕ
+levels_of nodes = map depth (squares nodes)
+
 -- the Id is a state, a blank square of the greatest level at most, a small square, or one of the first n nodes
 pub record IsNamed (n : ℕ) (id : Id) : Type 0 where
   pub below : id.0 < 66064 + n
@@ -88,15 +92,14 @@ pub record IsEarlier (log : List ℕ) (i : ℕ) (id : Id) : Type 0 where
 abbrev pub is_blank_id : Id → Bool
 is_blank_id id = id.0 == 0 || (nat_le 256 id.0 && nat_lt id.0 512)
 
--- node number i names earlier Ids, is not blank, and has a full square of its level, of the greatest at most
+-- node number i names earlier Ids, is not blank, and has a full square of the greatest level at most
 pub record IsNode (log : List ℕ) (stored : List Tree) (i : ℕ) (n : Node) : Type 0 where
   pub nw : IsEarlier log i (id_of n.nw)
   pub ne : IsEarlier log i (id_of n.ne)
   pub sw : IsEarlier log i (id_of n.sw)
   pub se : IsEarlier log i (id_of n.se)
   pub full : IsFull (node_square stored n)
-  pub level : depth (node_square stored n) ≡ n.level
-  pub low : n.level ≤ MAX_LEVEL
+  pub low : depth (node_square stored n) ≤ MAX_LEVEL
   pub not_blank : is_blank_tree (node_square stored n) ≡ false
 
 -- the number is that of a small square that is not blank and whose quarters were joined

@@ -1,14 +1,14 @@
 -- Facts about stores of nodes.
-use Rattle.std.proofs.Common.{◌≡◌, length-append, Contains, ◌⊎◌, inl, inr, true≢false, ℕ, suc, ◌+◌, ◌-◌, ◌≤◌, ◌<◌, Bool, true, false, nat_lt, List, [], ◌∷◌, ◌++◌, length, fold, None, Some, slice_get, get_or, refl, sym, ◌∙◌, ap, subst, arith}
+use Rattle.std.proofs.Common.{◌≡◌, length-append, Contains, ◌⊎◌, inl, inr, true≢false, ℕ, suc, ◌+◌, ◌-◌, ◌≤◌, ◌<◌, Bool, true, false, nat_lt, List, [], ◌∷◌, ◌++◌, length, fold, map, None, Some, slice_get, get_or, refl, sym, ◌∙◌, ap, subst, arith}
 use Rattle.std.proofs.lemmas.List.Sums.{fold-append}
-use Rattle.std.proofs.lemmas.List.{get_or_append_left}
+use Rattle.std.proofs.lemmas.List.{get_or_append_left, map_push}
 use Rattle.std.proofs.Math.Seq.{get_or-append_seam}
 use Rattle.std.proofs.lemmas.Option.{slice_get-get_or, slice_get_within, get_or_from_slice_get}
 use Rattle.life_base.specs.declared.cell.TheConstants.{MAX_LEVEL}
 use Rattle.life_quad.specs.declared.id.Id.{Id}
 use Rattle.life_quad.specs.declared.id.Node.{Node}
 use Rattle.life_base.specs.Tree.{Tree, point, quad, depth, blank, is_blank_tree, IsFull}
-use Rattle.life_quad.specs.Store.{Nodes, id_of, square_of, small_square, number_of, node_square, squares, is_blank_id, IsNamed, IsEarlier, IsNode, IsSound, IsShared, IsIdOf, as_small, as_node, Knows}
+use Rattle.life_quad.specs.Store.{Nodes, id_of, square_of, small_square, number_of, node_square, squares, levels_of, is_blank_id, IsNamed, IsEarlier, IsNode, IsSound, IsShared, IsIdOf, as_small, as_node, Knows}
 use Rattle.life_quad.specs.SmallLaws.{smalls, small_square-is, small_range}
 use Rattle.life_base.proofs.Squares.{depth-blank, full-blank, is_blank-blank, quad_nw, quad_ne, quad_sw, quad_se, point_state, point≢quad}
 
@@ -25,6 +25,10 @@ length-fold acc [] = omega arith
 length-fold acc (n ∷ ns) =
     let one : length (acc ++ node_square acc n ∷ []) ≡ length acc + 1 = length-append acc (node_square acc n ∷ []) in
     length-fold (push_square acc n) ns ∙ omega (arith, one)
+
+-- a new node adds its level last
+pub levels-push : (ns : List Node) (n : Node) → levels_of (ns ++ n ∷ []) ≡ levels_of ns ++ depth (node_square (squares ns) n) ∷ []
+levels-push ns n = ap (map depth) (squares-push ns n) ∙ map_push depth (squares ns) (node_square (squares ns) n)
 
 -- each node has its square
 pub length-squares : (ns : List Node) → length (squares ns) ≡ length ns
@@ -127,8 +131,7 @@ IsNode-append log stored more i n le e =
       sw = e.sw;
       se = e.se;
       full = subst IsFull (sym same) e.full;
-      level = ap depth same ∙ e.level;
-      low = e.low;
+      low = subst (λ t. depth t ≤ MAX_LEVEL) (sym same) e.low;
       not_blank = ap is_blank_tree same ∙ e.not_blank;
     }
 
@@ -140,7 +143,6 @@ IsNode-more log log' stored i n more e = record {
   sw = IsEarlier-more log log' i (id_of n.sw) more e.sw;
   se = IsEarlier-more log log' i (id_of n.se) more e.se;
   full = e.full;
-  level = e.level;
   low = e.low;
   not_blank = e.not_blank;
 }
@@ -168,7 +170,7 @@ names s id h = by (kind_of (squares s.nodes) id)
     by (a_node l e) =
         let i = id.0 - 66064 in
         let lt : i < length s.nodes = omega (arith, h.named.below) in
-        let n : Node = get_or s.nodes i (record { level = 0; nw = 0; ne = 0; sw = 0; se = 0 }) in
+        let n : Node = get_or s.nodes i (record { nw = 0; ne = 0; sw = 0; se = 0 }) in
         let at : slice_get s.nodes i ≡ Some n = slice_get-get_or s.nodes i _ lt in
         the_node i n (omega arith) (omega arith) (as_node i (omega arith) at) (h.sound.entries i n at) (e ∙ get_or_from_slice_get (squares s.nodes) i _ (point 0) (h.sound.square i n at))
 
@@ -217,7 +219,7 @@ low_content s id h = by (names s id h)
     by : Names s id → depth (square_of (squares s.nodes) id) ≤ MAX_LEVEL
     by (the_state l e) = let f = ap depth e in omega arith
     by (the_blank k l i e) = let f : depth (square_of (squares s.nodes) id) ≡ suc k = ap depth e ∙ depth-blank (suc k) in omega arith
-    by (the_node i n l le at node e) = let f : depth (square_of (squares s.nodes) id) ≡ n.level = ap depth e ∙ node.level in omega (arith, node.low)
+    by (the_node i n l le at node e) = subst (λ t. depth t ≤ MAX_LEVEL) (sym e) node.low
 
 -- a known Id is that of a blank square exactly if its square is blank
 pub is_blank-content : (s : Nodes) (id : Id) → Knows s id → is_blank_tree (square_of (squares s.nodes) id) ≡ is_blank_id id
@@ -272,8 +274,7 @@ same_quads s shared p q r u a b ha hb ea eb on_nw on_ne on_sw on_se = by (names 
         let ne = on_ne (id_of n.ne) (id_of n'.ne) (child i (id_of n.ne) le node.ne) (child i' (id_of n'.ne) le' node'.ne) (quad_ne left) (quad_ne right) in
         let sw = on_sw (id_of n.sw) (id_of n'.sw) (child i (id_of n.sw) le node.sw) (child i' (id_of n'.sw) le' node'.sw) (quad_sw left) (quad_sw right) in
         let se = on_se (id_of n.se) (id_of n'.se) (child i (id_of n.se) le node.se) (child i' (id_of n'.se) le' node'.se) (quad_se left) (quad_se right) in
-        let level = sym node.level ∙ ap depth (left ∙ sym right) ∙ node'.level in
-        let same : n ≡ n' = λ x. record { level = level x; nw = (nw x).0; ne = (ne x).0; sw = (sw x).0; se = (se x).0 } in
+        let same : n ≡ n' = λ x. record { nw = (nw x).0; ne = (ne x).0; sw = (sw x).0; se = (se x).0 } in
         one_id s shared n' a b (subst (λ m. IsIdOf s m a) same at) at'
 
 -- two known Ids of one square are equal

@@ -1,9 +1,9 @@
 //! A store that keeps each join as a node of its own.
 ghost use Rattle.std.specs.Prelude.{◌≡◌, ℕ, ◌<◌, ◌≤◌, ◌^◌, ◌+◌, [], ◌∷◌, ◌++◌, length, false, ◌↔◌, ◌⊎◌, Err, OnOk, OnErr, IfOk, IfErr};
 ghost use Rattle.life_base.specs.declared.kind.Kind.TheVariants.{Full, Memory};
-ghost use Rattle.life_base.specs.Tree.{is_blank_tree};
+ghost use Rattle.life_base.specs.Tree.{depth, is_blank_tree};
 ghost use Rattle.life_quad.specs.StoreLaws.{full_content, low_content};
-ghost use Rattle.life_quad.specs.Store.{squares, content, Knows, IsNode, IsSound};
+ghost use Rattle.life_quad.specs.Store.{squares, content, node_square, Knows, IsNode, IsSound};
 
 use crate::id::{FIRST_NODE, Node, are_blank, no_room};
 use crate::{Id, Squares};
@@ -15,18 +15,20 @@ use std::marker::Model;
 #[derive(Drop)]
 pub struct Plain {
     nodes: Vec<Node>,
+    // The level of each node's square.
+    levels: Vec<u8>,
     limit: u64,
 }
 
 impl Model for Plain {
-    ghost use Rattle.std.specs.Prelude.{[], ◌≤◌, length};
-    ghost use Rattle.life_quad.specs.Store.{Nodes, IsSound};
+    ghost use Rattle.std.specs.Prelude.{[], ◌≡◌, ◌≤◌, length};
+    ghost use Rattle.life_quad.specs.Store.{Nodes, IsSound, levels_of};
 
     ghost Value = { Nodes };
 
     ghost view = { λ s. record { nodes = s.nodes.items; log = []; limit = s.limit } };
 
-    ghost invariant = { λ s. IsSound (record { nodes = s.nodes.items; log = []; limit = s.limit }) × (length s.nodes.items ≤ s.limit) };
+    ghost invariant = { λ s. IsSound (record { nodes = s.nodes.items; log = []; limit = s.limit }) × (length s.nodes.items ≤ s.limit) × (s.levels.items ≡ levels_of s.nodes.items) };
 }
 
 impl Plain {
@@ -40,13 +42,15 @@ impl Plain {
     {
         Plain {
             nodes: Vec::new(alloc),
+            levels: Vec::new(alloc),
             limit,
         }
     }
 
-    // The Id of a new node.
-    fn add(&mut self, node: Node) -> Result<Id, Kind>
-        requires { IsNode self.old.log (squares self.old.nodes) (length self.old.nodes) node }
+    // The Id of a new node of a level.
+    fn add(&mut self, node: Node, level: u8) -> Result<Id, Kind>
+        requires node { IsNode self.old.log (squares self.old.nodes) (length self.old.nodes) node }
+        requires level { level ≡ depth (node_square (squares self.old.nodes) node) }
         ensures stored { OnOk result (self.new ≡ record { nodes = self.old.nodes ++ node ∷ []; log = self.old.log; limit = self.old.limit }) }
         ensures id { IfOk result (λ id. id.0 ≡ FIRST_NODE + length self.old.nodes) }
         ensures sound { IsSound self.new }
@@ -60,7 +64,9 @@ impl Plain {
         if let Some(kind) = no_room(index, index, self.limit) {
             return Err(kind);
         }
+        self.levels.reserve(1)?;
         self.nodes.push(node)?;
+        self.levels.push(level)?;
         Ok(Id(FIRST_NODE + index))
     }
 }
@@ -92,13 +98,13 @@ impl Squares for Plain {
         if are_blank(nw, ne, sw, se) {
             return Ok(self.empty(level));
         }
-        self.add(Node {
-            level,
+        let node = Node {
             nw: nw.0 as u32,
             ne: ne.0 as u32,
             sw: sw.0 as u32,
             se: se.0 as u32,
-        })
+        };
+        self.add(node, level)
     }
 
     fn parts(&self, id: Id) -> Option<[Id; 4]> {
@@ -110,7 +116,7 @@ impl Squares for Plain {
     }
 
     fn level(&self, id: Id) -> u8 {
-        id.level(self.nodes.as_slice())
+        id.level(self.levels.as_slice())
     }
 
     fn find_small(&self, _cells: u16) -> Option<Id> {

@@ -1,6 +1,6 @@
 //! A store that keeps each square once.
-ghost use Rattle.std.specs.Prelude.{◌≡◌, ◌≢◌, AllPairs, ◌<◌, ◌≤◌, ◌^◌, [], length, Contains, true, false, None, OnOk, OnErr, IfErr};
-ghost use Rattle.life_base.specs.declared.kind.Kind.TheVariants.{Memory};
+ghost use Rattle.std.specs.Prelude.{◌≡◌, ◌≢◌, ◌↔◌, ◌⊎◌, ◌+◌, AllPairs, ◌<◌, ◌≤◌, ◌^◌, [], length, vec_len, vec_capacity, Contains, true, false, None, MatchOption, OnOk, OnErr, IfErr};
+ghost use Rattle.life_base.specs.declared.kind.Kind.TheVariants.{Full, Memory};
 ghost use Rattle.life_quad.specs.declared.id.Id.{Id as IdValue};
 ghost use Rattle.life_base.specs.Tree.{Tree, depth, is_blank_tree};
 
@@ -17,6 +17,8 @@ use std::marker::Model;
 #[derive(Drop)]
 pub struct Shared {
     nodes: IndexSet<Node>,
+    // The level of each node's square.
+    levels: Vec<u8>,
     // Whether a small square was joined.
     seen: IdMap<bool>,
     // How many of these were joined.
@@ -29,15 +31,16 @@ pub struct Shared {
 impl Model for Shared {
     ghost use Rattle.std.specs.Prelude.{◌≡◌, ◌+◌, length};
     ghost use Rattle.life_quad.specs.IdMap.{value_of};
-    ghost use Rattle.life_quad.specs.Store.{Nodes, IsSound, IsShared, HasSeen};
+    ghost use Rattle.life_quad.specs.Store.{Nodes, IsSound, IsShared, HasSeen, levels_of};
 
     ghost Value = { Nodes };
 
     ghost view = { λ s. record { nodes = s.nodes.keys; log = s.log.ids; limit = s.limit } };
 
-    ghost invariant = { λ s. IsSound (record { nodes = s.nodes.keys; log = s.log.ids; limit = s.limit }) × IsShared (record { nodes = s.nodes.keys; log = s.log.ids; limit = s.limit }) × HasSeen (value_of s.seen) s.log.ids × (length s.log.ids ≡ length s.nodes.keys + s.small) };
+    ghost invariant = { λ s. IsSound (record { nodes = s.nodes.keys; log = s.log.ids; limit = s.limit }) × IsShared (record { nodes = s.nodes.keys; log = s.log.ids; limit = s.limit }) × HasSeen (value_of s.seen) s.log.ids × (length s.log.ids ≡ length s.nodes.keys + s.small) × (s.levels.items ≡ levels_of s.nodes.keys) };
 }
 
+ghost use Rattle.life_quad.specs.declared.id.TheConstants.{FIRST_NODE};
 ghost use Rattle.life_quad.specs.IdMap.{value_of};
 ghost use Rattle.life_quad.specs.StoreLaws.{full_content, low_content, same_id};
 ghost use Rattle.life_quad.specs.Store.{squares, content, held, node_square, number_of, small_square, Knows, IsShared, IsNode, IsSmall, Answers};
@@ -53,8 +56,24 @@ fn see(seen: &mut IdMap<bool>, id: Id) -> Result<(), Kind>
     seen.set(id, true)
 }
 
+// Makes room for the level of one more node, unless a store with so many squares and nodes takes no more of them: then it answers why.
+fn make_room(levels: &mut Vec<u8>, len: u64, nodes: u64, limit: u64) -> Option<Kind>
+    requires { len ≤ limit }
+    ensures room { MatchOption result ((len < limit) × (FIRST_NODE + nodes < 2 ^ 32) × (vec_len levels.new < vec_capacity levels.new)) (λ k. (k ≡ Full) ⊎ (k ≡ Memory)) }
+    ensures full { MatchOption result (len < limit) (λ k. (k ≡ Full) ↔ (len ≡ limit)) }
+    ensures levels { levels.new.items ≡ levels.old.items }
+{
+    if let Some(kind) = no_room(len, nodes, limit) {
+        return Some(kind);
+    }
+    if levels.reserve(1).is_err() {
+        return Some(Kind::Memory);
+    }
+    None
+}
+
 impl Shared {
-    ghost use Rattle.life_quad.specs.declared.id.TheConstants.{FIRST_SMALL, FIRST_NODE};
+    ghost use Rattle.life_quad.specs.declared.id.TheConstants.{FIRST_SMALL};
 
     /// An empty store for at most `limit` distinct nonblank squares of level 1 and up. With 2^32 - 66,064 of them beside the small ones
     /// (level 1 or 2, states 0 and 1) `join` answers `Memory` for a new one that isn't small, where the limit is higher.
@@ -65,6 +84,7 @@ impl Shared {
     {
         Shared {
             nodes: IndexSet::new(alloc),
+            levels: Vec::new(alloc),
             seen: IdMap::new(alloc, false),
             small: 0,
             log: JoinLog::new(),
@@ -103,15 +123,16 @@ impl Shared {
         Ok(id)
     }
 
-    // The Id of a node, which is stored if it is new. It is never inlined, so that `join` can be.
+    // The Id of a node of a level, which is stored if it is new. It is never inlined, so that `join` can be.
     #[inline(never)]
-    fn intern(&mut self, node: Node) -> Result<Id, Kind>
+    fn intern(&mut self, node: Node, level: u8) -> Result<Id, Kind>
         requires sound { IsNode self.old.log (squares self.old.nodes) (length self.old.nodes) node }
         requires large { number_of node ≡ None }
+        requires level { level ≡ depth (node_square (squares self.old.nodes) node) }
         ensures { Answers self.old self.new (node_square (squares self.old.nodes) node) result }
     {
         let nodes = self.nodes.len() as u64;
-        if let Some(kind) = no_room(nodes + self.small, nodes, self.limit) {
+        if let Some(kind) = make_room(&mut self.levels, nodes + self.small, nodes, self.limit) {
             let Some(i) = self.nodes.get_index_of(&node) else {
                 return Err(kind);
             };
@@ -120,6 +141,7 @@ impl Shared {
         let (i, is_new) = self.nodes.insert_full(node)?;
         let number = FIRST_NODE + i as u64;
         if is_new {
+            self.levels.push(level)?;
             self.log = self.log.then(&[number]);
         }
         Ok(Id(number))
@@ -137,7 +159,7 @@ impl Shared {
     pub fn reserve(&mut self, nodes: usize)
         ensures { self.new ≡ self.old }
     {
-        let _refused = self.nodes.reserve(nodes).is_err();
+        let _refused = self.nodes.reserve(nodes).is_err() || self.levels.reserve(nodes).is_err();
     }
 
     /// The most squares that may be held.
@@ -179,13 +201,14 @@ impl Squares for Shared {
         if let Some(number) = small_number(nw, ne, sw, se) {
             return self.mark(number);
         }
-        self.intern(Node {
-            level: self.level(nw) + 1,
+        let level = self.level(nw) + 1;
+        let node = Node {
             nw: nw.0 as u32,
             ne: ne.0 as u32,
             sw: sw.0 as u32,
             se: se.0 as u32,
-        })
+        };
+        self.intern(node, level)
     }
 
     fn parts(&self, id: Id) -> Option<[Id; 4]> {
@@ -197,7 +220,7 @@ impl Squares for Shared {
     }
 
     fn level(&self, id: Id) -> u8 {
-        id.level(self.nodes.as_slice())
+        id.level(self.levels.as_slice())
     }
 
     fn find_small(&self, cells: u16) -> Option<Id> {

@@ -27,15 +27,13 @@ returns-then-are_blank-clause-full c =
           absurd (true≢false (sym (is_blank-joined _ _ _ _ _ r.nw r.ne r.sw r.se r.ne_level r.sw_level r.se_level ∙ sym c.are_blank.ensures ∙ c.if-are_blank.true) ∙ needs.0)),
     )
 
-IsNode-there : (c : goal.After-add) → IsNode c.args.self.now.log (squares c.args.self.now.nodes) (length c.args.self.now.nodes) (record { level = c.level-level.result + 1; nw = c.args.nw.0; ne = c.args.ne.0; sw = c.args.sw.0; se = c.args.se.0 })
+IsNode-there : (c : goal.After-add) → IsNode c.args.self.now.log (squares c.args.self.now.nodes) (length c.args.self.now.nodes) (record { nw = c.args.nw.0; ne = c.args.ne.0; sw = c.args.sw.0; se = c.args.se.0 })
 IsNode-there c =
     let r = c.requires in
-    IsNode-joined _ _ _ _ _ r.nw r.ne r.sw r.se r.ne_level r.sw_level r.se_level _ c.level-level.ensures.level r.room (sym c.are_blank.ensures ∙ c.if-are_blank.false)
+    IsNode-joined _ _ _ _ _ r.nw r.ne r.sw r.se r.ne_level r.sw_level r.se_level r.room (sym c.are_blank.ensures ∙ c.if-are_blank.false)
 
 pub add-requires : goal.add-requires
-add-requires c =
-    let r = c.requires in
-    IsNode-joined _ _ _ _ _ r.nw r.ne r.sw r.se r.ne_level r.sw_level r.se_level _ c.level-level.ensures.level r.room (sym c.are_blank.ensures ∙ c.if-are_blank.false)
+add-requires c = record { node = let r = c.requires in IsNode-joined _ _ _ _ _ r.nw r.ne r.sw r.se r.ne_level r.sw_level r.se_level r.room (sym c.are_blank.ensures ∙ c.if-are_blank.false); level = let e = c.level-level.ensures.level in omega arith }
 
 pub returns-clause-known : goal.returns-clause-known
 returns-clause-known c = if_ok_both c.add.result (λ id i at. knows_last _ _ _ i c.add.ensures.sound id at) c.add.ensures.stored c.add.ensures.id

@@ -1,7 +1,9 @@
 use Rattle.std.proofs.Common.{◌≡◌, ◌+◌, ◌∷◌, [], ◌++◌, length, Contains, arith, refl, sym, ◌∙◌, ap, subst, Ok, Err, length-append}
 use Rattle.std.specs.Prelude.{if◌then◌else◌, is_some}
 use Rattle.life_quad.specs.IdMap.{value_of}
-use Rattle.life_quad.specs.Store.{Nodes, squares, node_square, id_of, IsNode, HasRoom, Answers}
+use Rattle.life_quad.specs.StoreLaws.{levels-push}
+use Rattle.life_base.specs.Tree.{depth}
+use Rattle.life_quad.specs.Store.{Nodes, squares, levels_of, node_square, id_of, IsNode, HasRoom, Answers}
 use Rattle.life_quad.specs.contracts.shared.Shared.{the_view}
 use Rattle.life_quad.proofs.CallLemmas.{absent_node, node_there, node_added, sound_added, answers_refused, answers_memory, HasSeen-node, position_node, not_there, inserted, found}
 use Rattle.life_quad.proofs.shared.Shared.intern.Goals as goal
@@ -13,7 +15,7 @@ returns-in_default-get_index_of c =
     let node = subst (λ v. IsNode v.log (squares v.nodes) (length v.nodes) c.args.node) (sym c.self.view_is) c.requires.sound in
     let missing : ¬ Contains s.nodes c.args.node = not_there s.nodes c.args.node (sym c.get_index_of.ensures.found ∙ ap is_some c.in_default-get_index_of.is) in
     let same : c.len-nodes.result + c.self.inside.small ≡ length s.log = ap (λ n. n + c.self.inside.small) c.len-nodes.ensures.len ∙ sym inv.3 in
-    subst (λ v. Answers v v (node_square (squares v.nodes) c.args.node) (Err c.in-Some.kind)) c.self.view_is
+    subst (λ v. Answers v s (node_square (squares v.nodes) c.args.node) (Err c.in-Some.kind)) c.self.view_is
     (answers_refused s s (node_square (squares s.nodes) c.args.node) c.in-Some.kind _ refl inv.1 (absent_node s c.args.node inv.0 inv.1 node c.requires.large missing) c.in-Some.ensures.room same c.in-Some.ensures.full)
 
 pub returns-in-Some : goal.returns-in-Some
@@ -22,7 +24,7 @@ returns-in-Some c =
     let inv = c.self.invariant in
     let i = c.in-Some-get_index_of.i in
     let at = position_node s.nodes c.args.node i (sym c.get_index_of.ensures.index ∙ c.in-Some-get_index_of.is) in
-    subst (λ v. Answers v v (node_square (squares v.nodes) c.args.node) (Ok (id_of (66064 + i)))) c.self.view_is (node_there s c.args.node i inv.0 inv.1 at)
+    subst (λ v. Answers v s (node_square (squares v.nodes) c.args.node) (Ok (id_of (66064 + i)))) c.self.view_is (node_there s c.args.node i inv.0 inv.1 at)
 
 pub returns-in_err-i : goal.returns-in_err-i
 returns-in_err-i c =
@@ -58,10 +60,13 @@ invariant_of-self-then-is_new c =
     let longer = ap length last ∙ length-append s.log ((66064 + length s.nodes) ∷ []) in
     let room : HasRoom s = record { limit = omega (arith, len, more, limit); few = omega (arith, len, few) } in
     let sound = sound_added s new c.args.node inv.0 inv.1 node c.requires.large is.0 room (λ i. record { nodes = is.1 i; log = last i; limit = s.limit }) in
-    (sound.0, sound.1, HasSeen-node (value_of c.self.inside.seen) s.log new.log (66064 + length s.nodes) inv.2 (omega arith) last, omega (arith, longer, more, one))
+    let level : c.args.level ≡ depth (node_square (squares s.nodes) c.args.node) = subst (λ v. c.args.level ≡ depth (node_square (squares v.nodes) c.args.node)) (sym c.self.view_is) c.requires.level in
+    let levels = c.in_ok-push.ensures.items ∙ ap (λ l. l ++ c.args.level ∷ []) (c.make_room.ensures.levels ∙ inv.4) ∙ ap (λ v. levels_of s.nodes ++ v ∷ []) level
+    ∙ sym (ap levels_of is.1 ∙ levels-push s.nodes c.args.node) in
+    (sound.0, sound.1, HasSeen-node (value_of c.self.inside.seen) s.log new.log (66064 + length s.nodes) inv.2 (omega arith) last, omega (arith, longer, more, one), levels)
 
-pub returns-then-is_new : goal.returns-then-is_new
-returns-then-is_new c =
+pub returns-in_ok-push : goal.returns-in_ok-push
+returns-in_ok-push c =
     let s = the_view c.self.inside in
     let inv = c.self.invariant in
     let new : Nodes = record { nodes = c.insert_full.new.self.keys; log = c.then-self-inside.result.ids; limit = s.limit } in

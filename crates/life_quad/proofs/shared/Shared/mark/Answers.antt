@@ -46,7 +46,7 @@ returns-in_err-see c =
 pub invariant_of-self : goal.invariant_of-self
 invariant_of-self c =
     let inv = c.self.invariant in
-    (inv.0, inv.1, HasSeen-same (value_of c.self.inside.seen) (value_of c.see.new.seen) c.self.inside.log.ids inv.2 c.in_err-see.ensures.same, inv.3)
+    (inv.0, inv.1, HasSeen-same (value_of c.self.inside.seen) (value_of c.see.new.seen) c.self.inside.log.ids inv.2 c.in_err-see.ensures.same, inv.3, inv.4)
 
 pub invariant_of-self-2 : goal.invariant_of-self-2
 invariant_of-self-2 c =
@@ -62,7 +62,7 @@ invariant_of-self-2 c =
     let grown : new.log ≡ s.log ++ c.args.number ∷ [] = c.then-self-inside.ensures in
     let longer = ap length grown ∙ length-append s.log (c.args.number ∷ []) in
     let sound = sound_marked s new c.args.number inv.0 inv.1 small absent (omega (arith, len, more, most, below)) (λ i. record { nodes = s.nodes; log = grown i; limit = s.limit }) in
-    (sound.0, sound.1, HasSeen-mark (value_of c.self.inside.seen) (value_of c.see.new.seen) s.log new.log c.args.number inv.2 c.in_ok-see.ensures.marked c.see.ensures.others grown, omega (arith, longer, more))
+    (sound.0, sound.1, HasSeen-mark (value_of c.self.inside.seen) (value_of c.see.new.seen) s.log new.log c.args.number inv.2 c.in_ok-see.ensures.marked c.see.ensures.others grown, omega (arith, longer, more), inv.4)
 
 pub returns : goal.returns
 returns c =

@@ -1,4 +1,4 @@
-use Rattle.std.proofs.Common.{◌≡◌, arith, refl, sym, ◌∙◌, ap, subst, true≢false, ◌+◌, ◌<◌, suc, false}
+use Rattle.std.proofs.Common.{◌≡◌, arith, sym, ◌∙◌, ap, subst, true≢false, ◌+◌, ◌<◌, suc, false}
 use Rattle.life_quad.specs.Store.{squares, content, node_square, Answers}
 use Rattle.life_quad.specs.StoreLaws.{small_node}
 use Rattle.life_quad.specs.SmallLaws.{small_range}
@@ -39,13 +39,13 @@ returns-then-are_blank-clause-fresh c = λ needs known.
 -- ---- a small square
 
 abbrev quarters_of : Shared → Id → Id → Id → Id → Node
-quarters_of s nw ne sw se = record { level = depth (content s nw) + 1; nw = nw.0; ne = ne.0; sw = sw.0; se = se.0 }
+quarters_of s nw ne sw se = record { nw = nw.0; ne = ne.0; sw = sw.0; se = se.0 }
 
 pub mark-requires : goal.mark-requires
 mark-requires c =
     let r = c.requires in
     let s = c.args.self.now in
-    let node = IsNode-joined _ _ _ _ _ r.nw.0 r.ne.0 r.sw.0 r.se.0 r.ne_level r.sw_level r.se_level _ refl r.room (sym c.are_blank.ensures ∙ c.if-are_blank.false) in
+    let node = IsNode-joined _ _ _ _ _ r.nw.0 r.ne.0 r.sw.0 r.se.0 r.ne_level r.sw_level r.se_level r.room (sym c.are_blank.ensures ∙ c.if-are_blank.false) in
     let number = sym c.small_number.ensures ∙ c.in-Some.is in
     let range = small_range c.args.nw.0 c.args.ne.0 c.args.sw.0 c.args.se.0 c.in-Some.number number in
     record { small = IsSmall-joined s (quarters_of s c.args.nw c.args.ne c.args.sw c.args.se) c.in-Some.number number node; first = range.0; last = range.1 }
@@ -97,8 +97,9 @@ pub intern-requires : goal.intern-requires
 intern-requires c =
     let r = c.requires in
     record {
-      sound = IsNode-joined _ _ _ _ _ r.nw.0 r.ne.0 r.sw.0 r.se.0 r.ne_level r.sw_level r.se_level _ c.level-2.ensures.level r.room (sym c.are_blank.ensures ∙ c.if-are_blank.false);
+      sound = IsNode-joined _ _ _ _ _ r.nw.0 r.ne.0 r.sw.0 r.se.0 r.ne_level r.sw_level r.se_level r.room (sym c.are_blank.ensures ∙ c.if-are_blank.false);
       large = sym c.small_number.ensures ∙ c.in_default.is;
+      level = let e = c.level-level.ensures.level in omega arith;
     }
 
 deep-node : (c : goal.After-intern) → 0 < depth (node_square (squares c.args.self.now.nodes) (quarters_of c.args.self.now c.args.nw c.args.ne c.args.sw c.args.se))
