@@ -1,5 +1,5 @@
 -- The front of a file: what its lines are as bytes come, and why it is refused.
-use Rattle.std.proofs.Common.{◌≡◌, ℕ, suc, ◌+◌, ◌-◌, ◌^◌, ◌<◌, ◌≤◌, min, Bool, true, false, cond, List, [], ◌∷◌, ◌++◌, length, take, refl, ap, sym, ◌∙◌, subst, arith, ◌⊎◌, inl, inr, Some, None, append_assoc}
+use Rattle.std.proofs.Common.{◌≡◌, ℕ, suc, ◌+◌, ◌-◌, ◌^◌, ◌<◌, ◌≤◌, min, max, Bool, true, false, cond, List, [], ◌∷◌, ◌++◌, length, take, refl, ap, sym, ◌∙◌, subst, arith, ◌⊎◌, inl, inr, Some, None, append_assoc}
 use Rattle.std.specs.Prelude.{MatchBool, IsTrue, ◌==◌, position, Result, Ok, Err, IfErr}
 use Rattle.std.specs.List.{slice_index_or}
 use Rattle.std.proofs.lemmas.Bool.Decides.{nat_tests}
@@ -13,7 +13,8 @@ use Rattle.life_base.specs.declared.cell.TheConstants.{MAX_LEVEL}
 use Rattle.life_base.specs.declared.fault.Fault.{Fault}
 use Rattle.life_base.specs.declared.kind.Kind.{Kind}
 use Rattle.life_base.specs.declared.kind.Kind.TheVariants.{LineTooLong, NoHeader, Memory}
-use Rattle.life_mc.specs.Reading.{broken}
+use Rattle.life_mc.specs.Cells.{root_level}
+use Rattle.life_mc.specs.Reading.{broken, squares_of}
 use Rattle.life_mc.proofs.LineKinds.{long_lines_break as long_lines_break_macrocell, broken_kind, names_line}
 use Rattle.life_quad.specs.Store.{Nodes}
 use Rattle.life_rle.specs.Decided.{LacksHeader}
@@ -24,6 +25,7 @@ use Rattle.life_rle.proofs.FrontLaws.{lines_behind_mark_are_free, mark_is_decide
 use Rattle.life_rle.proofs.LineKinds.{Breaks-kind, names_line as names_line_rle}
 use Rattle.life_canon.specs.Feeding.{RefusesFront, IsOverAt}
 use Rattle.life_canon.specs.Files.{Says, as_macrocell, as_rle, Reads, Accepts, Breaks, Refuses, missing, is_macrocell}
+use Rattle.life_canon.specs.Needs.{level_of_root}
 use Rattle.life_canon.specs.Store.{IsWant, IsWantKind}
 use Rattle.life_canon.specs.Taking.{IsEnd, bytes_of, taken, IsOpen, IsOver, IsLineFault, IsGoing, IsFront}
 use Rattle.life_canon.specs.Universe.{Universe, rle_universe}
@@ -322,7 +324,7 @@ pub kept-going : (bytes kept : List ℕ) (ended : ℕ) (p : Progress) → IsFron
 kept-going bytes kept ended p f h o = let e : length kept ≡ 0 = ap length (f.over o).none in absurd (omega arith)
 
 -- a rest is a line
-rest-lines : (bytes kept : List ℕ) (ended : ℕ) (lines : List (List ℕ)) → IsGoing bytes kept ended lines → 0 < length kept → lines_of bytes ≡ lines ++ kept ∷ []
+pub rest-lines : (bytes kept : List ℕ) (ended : ℕ) (lines : List (List ℕ)) → IsGoing bytes kept ended lines → 0 < length kept → lines_of bytes ≡ lines ++ kept ∷ []
 rest-lines bytes kept ended lines g h =
     lines_are_whole bytes ∙ ap (λ (ls : List (List ℕ)). ls ++ one_line (rest_line bytes)) (sym g.whole)
     ∙ ap (λ (r : List ℕ). lines ++ one_line r) (sym g.rest) ∙ ap (λ (ls : List (List ℕ)). lines ++ ls) (one-some kept h)
@@ -361,6 +363,14 @@ whole-end bytes kept ended p f h = record {
       );
 }
 
+-- the root of RLE has the level of the plane
+pub top-level : (lines : List (List ℕ)) → is_macrocell lines ≡ false → level_of_root MAX_LEVEL lines ≡ MAX_LEVEL
+top-level lines e = rw e refl
+
+-- and that of a macrocell file the level of its last node line
+pub macrocell-level : (lines : List (List ℕ)) → is_macrocell lines ≡ true → level_of_root MAX_LEVEL lines ≡ max 1 (root_level (squares_of lines))
+macrocell-level lines e = rw e refl
+
 -- what the lines say, the bytes say
 pub end-says : (bytes : List ℕ) (ended : ℕ) (p : Progress) (u : Universe) → IsEnd bytes ended p → Says MAX_LEVEL (taken p) u → Reads MAX_LEVEL bytes u
 end-says bytes ended progress.Undecided u e s = subst (λ (ls : List (List ℕ)). Says MAX_LEVEL ls u) (sym (e.going (λ v. v)).0) s
@@ -380,6 +390,30 @@ end-says bytes ended (progress.Rle reader builder runs) u e s = by u s
         let v = e.over (file, m) in
         subst (λ (ls : List (List ℕ)). Says MAX_LEVEL ls (rle_universe file)) (sym v.1)
         (as_rle file (inr (lines_behind_mark_are_free MAX_LEVEL reader.lines v.0 file m).0))
+
+-- the lines of the file are those that were taken, with free ones behind them: of the same format, and with the same root
+pub end-lines : (bytes : List ℕ) (ended : ℕ) (p : Progress) (u : Universe) → IsEnd bytes ended p → Says MAX_LEVEL (taken p) u
+    → (free : List (List ℕ)) × (lines_of bytes ≡ taken p ++ free) × (is_macrocell (taken p ++ free) ≡ is_macrocell (taken p))
+    × (level_of_root MAX_LEVEL (lines_of bytes) ≡ level_of_root MAX_LEVEL (taken p))
+end-lines bytes ended progress.Undecided u e s = ([], (e.going (λ v. v)).0, refl, ap (level_of_root MAX_LEVEL) (e.going (λ v. v)).0)
+end-lines bytes ended (progress.Macrocell reader ids) u e s =
+    let same = (e.going (λ v. v)).0 in
+    ([], same ∙ sym (append-nil reader.lines), ap is_macrocell (append-nil reader.lines), ap (level_of_root MAX_LEVEL) same)
+end-lines bytes ended (progress.Rle reader builder runs) u e s = by u s
+  where
+    with_free : (free : List (List ℕ)) → lines_of bytes ≡ reader.lines ++ free
+        → (free : List (List ℕ)) × (lines_of bytes ≡ reader.lines ++ free) × (is_macrocell (reader.lines ++ free) ≡ is_macrocell reader.lines)
+        × (level_of_root MAX_LEVEL (lines_of bytes) ≡ level_of_root MAX_LEVEL reader.lines)
+    with_free free is =
+        let goes = goes-on reader.lines free e.begun.some in
+        (free, is, goes, top-level (lines_of bytes) (ap is_macrocell is ∙ goes ∙ e.begun.format) ∙ sym (top-level reader.lines e.begun.format))
+
+    by : (u : Universe) → Says MAX_LEVEL reader.lines u
+        → (free : List (List ℕ)) × (lines_of bytes ≡ reader.lines ++ free) × (is_macrocell (reader.lines ++ free) ≡ is_macrocell reader.lines)
+        × (level_of_root MAX_LEVEL (lines_of bytes) ≡ level_of_root MAX_LEVEL reader.lines)
+    by _ (as_macrocell file are) = absurd (not-both (is_macrocell reader.lines) (macrocell-first MAX_LEVEL reader.lines file are) e.begun.format)
+    by _ (as_rle file (inl b)) = with_free [] ((e.going (λ v. mark_is_decided MAX_LEVEL reader.lines file v.0 b v.1)).0 ∙ sym (append-nil reader.lines))
+    by _ (as_rle file (inr m)) = let v = e.over (file, m) in with_free v.0 v.1
 
 lacks-mark : (lines : List (List ℕ)) → LacksHeader MAX_LEVEL lines → (file : Rle) → IsMarked MAX_LEVEL lines file → ⊥
 lacks-mark lines h file m = (decided MAX_LEVEL lines).1 (file, inr m) h

@@ -171,3 +171,13 @@ root-cells knows content file ids id good h some at =
     high : (levels : List ℕ) (line : Line) → IsSquare MAX_LEVEL file.rule levels line → 1 ≤ level_of line
     high levels (Leaf rows) q = omega arith
     high levels (Quad level a b c d) q = q.0
+
+-- and it is of the level of the root
+pub root-depth : (knows : Id → Type 0) (content : Id → Tree) (file : Macrocell) (ids : List Id) (id : Id) → AreSquaresOf knows content file.lines ids → 0 < length file.lines
+    → slice_get ids (length ids - 1) ≡ Some id → depth (content id) ≡ root_level file.lines
+root-depth knows content file ids id h some at =
+    let k : ℕ = length file.lines - 1 in
+    let small : k < length file.lines = omega arith in
+    let index : length ids - 1 ≡ k = omega (arith, h.count) in
+    let e = h.each k id (line_at file.lines k) (subst (λ (n : ℕ). slice_get ids n ≡ Some id) index at) (get-line_at file.lines k small) in
+    e.2 ∙ sym (root_level-last file.lines some)

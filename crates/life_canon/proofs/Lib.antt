@@ -24,6 +24,7 @@ mod BuildFacts
 mod RowFacts
 mod RunFacts
 mod GrowFacts
+mod NeedFacts
 mod PatternFacts
 pub mod Fits
 mod RefusalKinds

@@ -68,12 +68,12 @@ twelve_same true true true true true true true true true false k l = refl
 twelve_same true true true true true true true true true true false l = refl
 twelve_same true true true true true true true true true true true false = refl
 
-record IsTwoDeep (k : ℕ) (t : Tree) : Type 0 where
-  border : list_all is_blank (outer t) ≡ has_blank_border t
-  inner_is : inner t ≡ middle t
-  inner_depth : HasDepth (suc k) (middle t)
+pub record IsTwoDeep (k : ℕ) (t : Tree) : Type 0 where
+  pub border : list_all is_blank (outer t) ≡ has_blank_border t
+  pub inner_is : inner t ≡ middle t
+  pub inner_depth : HasDepth (suc k) (middle t)
 
-two-deep : (k : ℕ) (t : Tree) → HasDepth (suc (suc k)) t → IsTwoDeep k t
+pub two-deep : (k : ℕ) (t : Tree) → HasDepth (suc (suc k)) t → IsTwoDeep k t
 two-deep k t (quad_depth (quad_depth {nw = a} {ne = b} {sw = c} {se = d} ha hb hc hd) (quad_depth {nw = e} {ne = f} {sw = g} {se = h} he hf hg hh)
     (quad_depth {nw = i} {ne = j} {sw = l} {se = m} hi hj hl hm) (quad_depth {nw = n} {ne = o} {sw = p} {se = q} hn ho hp hq)) =
     record {
@@ -82,17 +82,17 @@ two-deep k t (quad_depth (quad_depth {nw = a} {ne = b} {sw = c} {se = d} ha hb h
       inner_depth = quad_depth hd hg hj hn;
     }
 
-can-not : (t : Tree) (m : ℕ) → depth t ≤ m → can_trim t m ≡ false
+pub can-not : (t : Tree) (m : ℕ) → depth t ≤ m → can_trim t m ≡ false
 can-not t m h = let e : nat_lt m (depth t) ≡ false = grind (arith, nat_tests) in rw e refl
 
-can-by : (t : Tree) (m : ℕ) → m < depth t → can_trim t m ≡ list_all is_blank (outer t)
+pub can-by : (t : Tree) (m : ℕ) → m < depth t → can_trim t m ≡ list_all is_blank (outer t)
 can-by t m h = let e : nat_lt m (depth t) ≡ true = grind (arith, nat_tests) in rw e refl
 
-stop : (n : ℕ) (t : Tree) (m : ℕ) → can_trim t m ≡ false → trim_up_to n t m ≡ t
+pub stop : (n : ℕ) (t : Tree) (m : ℕ) → can_trim t m ≡ false → trim_up_to n t m ≡ t
 stop zero t m h = refl
 stop (suc n) t m h = rw h refl
 
-go : (n : ℕ) (t : Tree) (m : ℕ) → can_trim t m ≡ true → trim_up_to (suc n) t m ≡ trim_up_to n (inner t) m
+pub go : (n : ℕ) (t : Tree) (m : ℕ) → can_trim t m ≡ true → trim_up_to (suc n) t m ≡ trim_up_to n (inner t) m
 go n t m h = rw h refl
 
 times-stop : (n : ℕ) (t : Tree) → has_blank_border t ≡ false → trim_times n t ≡ t

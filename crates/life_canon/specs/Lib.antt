@@ -7,6 +7,7 @@ pub mod Store
 pub mod Texts
 pub mod Filling
 pub mod Building
+pub mod Needs
 pub mod Taking
 pub mod Feeding
 pub mod Running

@@ -1,10 +1,11 @@
 //! A file of either format as a text of one form.
 
-ghost use Rattle.std.specs.Prelude.{◌≡◌, ◌⊎◌, ◌^◌, List, ℕ, IfOk, IfErr};
-ghost use Rattle.life_base.specs.declared.kind.Kind.TheVariants.{Memory, TooManyCells};
+ghost use Rattle.std.specs.Prelude.{◌≡◌, ◌⊎◌, ◌^◌, List, ℕ, Err, IfOk, IfErr};
+ghost use Rattle.life_base.specs.declared.kind.Kind.TheVariants.{Full, Memory, TooManyCells};
 ghost use Rattle.life_base.specs.Refusal.{fault_of};
 ghost use Rattle.life_canon.specs.Files.{Same};
 ghost use Rattle.life_canon.specs.Least.{IsLeastText};
+ghost use Rattle.life_canon.specs.Needs.{LacksFor};
 ghost use Rattle.life_canon.specs.Store.{Keeps, RefusesIn, IsOfFile, IsRead, IsTrimmed, universe_in};
 ghost use Rattle.life_canon.specs.Texts.{IsCanonical, IsRleOf, HasMoreCells};
 
@@ -29,6 +30,7 @@ pub fn canon(alloc: Global, store: &mut Shared, bytes: &[u8]) -> Result<Vec<u8>,
     ensures text { IfOk result (λ text. IsCanonical MAX_LEVEL bytes.now text.items) }
     ensures least { IfOk result (λ text. IsLeastText MAX_LEVEL bytes.now text.items) }
     ensures fault { IfErr result (λ fault. RefusesIn MAX_LEVEL bytes.now store.new fault) }
+    ensures needed { result ≡ Err (fault_of Full) → LacksFor MAX_LEVEL bytes.now store.new }
     ensures keeps { Keeps store.old store.new }
 {
     let pattern = read(alloc, store, bytes)?;
@@ -60,6 +62,7 @@ pub fn to_rle(alloc: Global, store: &mut Shared, bytes: &[u8]) -> Result<Vec<u8>
     ensures text { IfOk result (λ text. IsRleOf MAX_LEVEL (2 ^ 20) bytes.now text.items) }
     ensures same { IfOk result (λ text. Same MAX_LEVEL bytes.now text.items) }
     ensures fault { IfErr result (λ fault. RefusesIn MAX_LEVEL bytes.now store.new fault ⊎ ((fault ≡ fault_of TooManyCells) × HasMoreCells MAX_LEVEL bytes.now (2 ^ 20))) }
+    ensures needed { result ≡ Err (fault_of Full) → LacksFor MAX_LEVEL bytes.now store.new }
     ensures keeps { Keeps store.old store.new }
 {
     let pattern = read(alloc, store, bytes)?;

@@ -1,10 +1,10 @@
 //! The lines of a file of either format, put into a store as they come.
 
-ghost use Rattle.std.specs.Prelude.{◌≡◌, ◌↔◌, ◌⊎◌, ◌++◌, ◌∷◌, [], ℕ, ◌<◌, ◌≤◌, List, length, Contains, ℤ, Some, IsTrue, true, false, Err, IfOk, IfErr, OnOk, map};
+ghost use Rattle.std.specs.Prelude.{◌≡◌, ◌↔◌, ◌⊎◌, ◌++◌, ◌∷◌, [], ℕ, ◌<◌, ◌≤◌, List, length, Contains, ℤ, Some, IsTrue, true, false, Err, IfOk, IfErr, OnOk, map, max};
 ghost use Rattle.life_base.specs.declared.kind.Kind.TheVariants.{Full, Memory, NoHeader};
 ghost use Rattle.life_base.specs.Refusal.{Prefix};
 ghost use Rattle.life_base.specs.Tree.{Tree, depth, tree_cell};
-ghost use Rattle.life_mc.specs.Cells.{cell};
+ghost use Rattle.life_mc.specs.Cells.{cell, root_level};
 ghost use Rattle.life_mc.specs.Macrocell.{Macrocell, IsValid};
 ghost use Rattle.life_mc.specs.Reading.{Accepts as IsSomeMacrocell, squares_of, broken};
 ghost use Rattle.life_quad.specs.Store.{Nodes};
@@ -17,6 +17,7 @@ ghost use Rattle.life_canon.specs.Building.{IsBuilt, AreNext, given};
 ghost use Rattle.life_canon.specs.Files.{Breaks, Says, is_macrocell};
 ghost use Rattle.life_canon.specs.Store.{IsKnown, content, Keeps, IsWantKind, IsPatternOf};
 ghost use Rattle.life_canon.specs.Filling.{AreSquaresOf};
+ghost use Rattle.life_canon.specs.Needs.{IsNew, SomeAtEnd, SomeOfLines, SomeOfRuns, SomeRoot};
 ghost use Rattle.life_canon.specs.Taking.{IsOpen, IsOver, IsReady, StandsFor, taken};
 ghost use Rattle.life_canon.specs.Universe.{Universe};
 
@@ -51,6 +52,7 @@ fn add_runs<S: Squares>(squares: &mut S, builder: &mut Builder, runs: &[Run]) ->
     ensures stays { (t : Tree) → Contains (S.stored squares.old) t → Contains (S.stored squares.new) t }
     ensures most { S.most squares.new ≡ S.most squares.old }
     ensures full { result ≡ Err Full → length (S.stored squares.new) ≡ S.most squares.new }
+    ensures needed { result ≡ Err Full → SomeOfRuns (S.needs_node squares.new) (builder.old.runs ++ map given runs.now) }
 {
     for run in runs {
         builder.add_run(squares, run.x, run.y, run.len, run.state)?;
@@ -76,6 +78,7 @@ fn take_rle_line<S: Squares>(
     ensures stays { (t : Tree) → Contains (S.stored squares.old) t → Contains (S.stored squares.new) t }
     ensures most { S.most squares.new ≡ S.most squares.old }
     ensures full { result ≡ Err Full → length (S.stored squares.new) ≡ S.most squares.new }
+    ensures needed { result ≡ Err Full → SomeOfLines MAX_LEVEL (S.needs_node squares.new) (lines.old.lines ++ line.now ∷ []) }
 {
     runs.clear();
     lines.line_into(line, runs)?;
@@ -99,6 +102,7 @@ fn take_macrocell_line<S: Squares>(
     ensures stays { (t : Tree) → Contains (S.stored squares.old) t → Contains (S.stored squares.new) t }
     ensures most { S.most squares.new ≡ S.most squares.old }
     ensures full { result ≡ Err Full → length (S.stored squares.new) ≡ S.most squares.new }
+    ensures needed { result ≡ Err Full → SomeOfLines MAX_LEVEL (S.needs_node squares.new) (lines.old.lines ++ line.now ∷ []) }
 {
     let Some(square) = lines.line(line)? else {
         return Ok(());
@@ -124,6 +128,8 @@ fn trimmed_pattern<S: Squares>(
     ensures stays { (t : Tree) → Contains (S.stored squares.old) t → Contains (S.stored squares.new) t }
     ensures most { S.most squares.new ≡ S.most squares.old }
     ensures full { result ≡ Err Full → length (S.stored squares.new) ≡ S.most squares.new }
+    ensures needed { result ≡ Err Full → (universe : Universe) → universe.rule ≡ rule → ((x y : ℤ) → tree_cell (S.content squares.old root) x y ≡ universe.cell x y)
+        → SomeRoot (S.needs_node squares.new) universe (depth (S.content squares.old root)) }
 {
     let least = least_level(&rule);
     let root = grow_to(squares, root, least)?;
@@ -140,6 +146,7 @@ fn last_square<S: Squares>(squares: &S, ids: &[Id]) -> Id
     requires { (file : Macrocell) × IsValid MAX_LEVEL file × AreSquaresOf (S.knows squares.now) (S.content squares.now) file.lines ids.now }
     ensures known { S.knows squares.now result }
     ensures high { 1 ≤ depth (S.content squares.now result) }
+    ensures level { (file : Macrocell) → IsValid MAX_LEVEL file → AreSquaresOf (S.knows squares.now) (S.content squares.now) file.lines ids.now → depth (S.content squares.now result) ≡ max 1 (root_level file.lines) }
     ensures cells { (file : Macrocell) → IsValid MAX_LEVEL file → AreSquaresOf (S.knows squares.now) (S.content squares.now) file.lines ids.now
         → (x y : ℤ) → tree_cell (S.content squares.now result) x y ≡ cell file x y }
 {
@@ -199,6 +206,7 @@ impl Progress {
         ensures begun { OnOk result (IsOpen self.new) }
         ensures stands { OnOk result (StandsFor (IsKnown store.new) (content store.new) self.new) }
         ensures fault { IfErr result (λ kind. IsWantKind store.new kind ⊎ Breaks MAX_LEVEL (taken self.old) line.now kind) }
+        ensures needed { result ≡ Err Full → SomeOfLines MAX_LEVEL (IsNew store.new) (taken self.old ++ line.now ∷ []) }
         ensures keeps { Keeps store.old store.new }
     {
         self.begin(alloc, line);
@@ -217,6 +225,7 @@ impl Progress {
         requires stands { StandsFor (IsKnown store.old) (content store.old) self }
         ensures pattern { IfOk result (λ pattern. (universe : Universe) × Says MAX_LEVEL (taken self) universe × IsPatternOf MAX_LEVEL (IsKnown store.new) (content store.new) universe pattern) }
         ensures fault { IfErr result (λ kind. IsWantKind store.new kind ⊎ ((kind ≡ NoHeader) × LacksHeader MAX_LEVEL (taken self) × (is_macrocell (taken self) ≡ false))) }
+        ensures needed { result ≡ Err Full → SomeAtEnd MAX_LEVEL (IsNew store.new) (taken self) }
         ensures keeps { Keeps store.old store.new }
     {
         match self {

@@ -1,6 +1,6 @@
 //! Squares of a store, made from node lines.
 
-ghost use Rattle.std.specs.Prelude.{◌≡◌, ◌⊎◌, ℕ, ◌+◌, ◌-◌, ◌^◌, ◌<◌, ◌≤◌, length, Contains, Err, IfSome, IfOk, IfErr, max};
+ghost use Rattle.std.specs.Prelude.{◌≡◌, ◌⊎◌, ℕ, ◌+◌, ◌-◌, ◌^◌, ◌<◌, ◌≤◌, length, Contains, Err, IfSome, IfOk, IfErr, OnErr, max};
 ghost use Rattle.life_base.specs.declared.kind.Kind.TheVariants.{Full, Memory};
 ghost use Rattle.life_base.specs.declared.rule.Rule.{Rule as RuleValue};
 ghost use Rattle.life_base.specs.Tree.{Tree, depth, tree_cell};
@@ -10,7 +10,9 @@ ghost use Rattle.life_mc.specs.Squares.{tree_at, tree_of, line_tree};
 ghost use Rattle.life_mc.specs.declared.line.Line.{Line as LineValue};
 ghost use Rattle.life_quad.specs.Store.{two, four};
 ghost use Rattle.life_quad.specs.declared.id.Id.{Id as IdValue};
+ghost use Rattle.life_quad.specs.Refused.{SomePart};
 ghost use Rattle.life_canon.specs.Filling.{AreSquaresOf};
+ghost use Rattle.life_canon.specs.Needs.{SomeGrown, SomeOfLine};
 ghost use Rattle.std.specs.Prelude.{List, map, true, ℤ};
 
 use life_base::{Kind, MAX_LEVEL};
@@ -38,6 +40,7 @@ fn four_cells<S: Squares>(squares: &mut S, rows: &[u8; 8], column: u8, row: u8) 
     ensures most { S.most squares.new ≡ S.most squares.old }
     ensures refusals { IfErr result (λ e. (e ≡ Full) ⊎ (e ≡ Memory)) }
     ensures full { result ≡ Err Full → length (S.stored squares.new) ≡ S.most squares.new }
+    ensures needed { OnErr result (S.needs_node squares.new (tree_at (leaf_cell rows.now) 1 column row)) }
 {
     let nw = squares.cell(leaf_state(rows, column, row));
     let ne = squares.cell(leaf_state(rows, column + 1, row));
@@ -108,6 +111,7 @@ fn leaf_part<S: Squares>(
     ensures most { S.most squares.new ≡ S.most squares.old }
     ensures refusals { IfErr result (λ e. (e ≡ Full) ⊎ (e ≡ Memory)) }
     ensures full { result ≡ Err Full → length (S.stored squares.new) ≡ S.most squares.new }
+    ensures needed { OnErr result (SomePart (S.needs_node squares.new) (tree_at (leaf_cell rows.now) level column row)) }
 {
     if level == 0 {
         return Ok(squares.cell(leaf_state(rows, column, row)));
@@ -156,6 +160,8 @@ pub(crate) fn line_square<S: Squares>(squares: &mut S, ids: &[Id], line: Line) -
     ensures most { S.most squares.new ≡ S.most squares.old }
     ensures refusals { IfErr result (λ e. (e ≡ Full) ⊎ (e ≡ Memory)) }
     ensures full { result ≡ Err Full → length (S.stored squares.new) ≡ S.most squares.new }
+    ensures needed { (lines : List LineValue) (rule : RuleValue) → IsSquare MAX_LEVEL rule (map level_of lines) line → AreSquaresOf (S.knows squares.old) (S.content squares.old) lines ids.now
+        → OnErr result (SomeOfLine (S.needs_node squares.new) lines line) }
 {
     match line {
         Line::Leaf(rows) => leaf_part(squares, &rows, 3, 0, 0),
@@ -188,6 +194,7 @@ pub(crate) fn grow_to<S: Squares>(squares: &mut S, id: Id, level: u8) -> Result<
     ensures most { S.most squares.new ≡ S.most squares.old }
     ensures refusals { IfErr result (λ e. (e ≡ Full) ⊎ (e ≡ Memory)) }
     ensures full { result ≡ Err Full → length (S.stored squares.new) ≡ S.most squares.new }
+    ensures needed { OnErr result (SomeGrown (S.needs_node squares.new) (S.content squares.old id) level) }
 {
     if level <= squares.level(id) {
         return Ok(id);

@@ -1,11 +1,12 @@
 //! The front of a file, cut into lines.
 
-ghost use Rattle.std.specs.Prelude.{◌≡◌, ◌==◌, ◌⊎◌, ◌++◌, ◌∷◌, ◌<◌, ◌≤◌, ◌+◌, ◌-◌, ◌^◌, min, codes, true, ℕ, List, [], length, position, Some, None, IfSome, IfOk, IfErr, OnOk};
-ghost use Rattle.life_base.specs.declared.kind.Kind.TheVariants.{Memory};
+ghost use Rattle.std.specs.Prelude.{◌≡◌, ◌==◌, ◌⊎◌, ◌++◌, ◌∷◌, ◌<◌, ◌≤◌, ◌+◌, ◌-◌, ◌^◌, min, codes, true, ℕ, List, [], length, position, Some, None, Err, IfSome, IfOk, IfErr, OnOk};
+ghost use Rattle.life_base.specs.declared.kind.Kind.TheVariants.{Full, Memory};
 ghost use Rattle.life_base.specs.Lines.{has_no_feed};
 ghost use Rattle.life_base.specs.Refusal.{fault_at, fault_of};
 ghost use Rattle.life_quad.specs.Store.{Nodes};
 ghost use Rattle.life_canon.specs.Feeding.{RefusesFront};
+ghost use Rattle.life_canon.specs.Needs.{IsNew, LacksFor, LacksForFront, SomeOfLines};
 ghost use Rattle.life_canon.specs.Store.{Keeps, IsKnown, IsRead, IsWant, RefusesIn, content};
 ghost use Rattle.life_canon.specs.Taking.{IsEnd, IsFrontOf, IsLineFault, IsOpen, IsOver, StandsFor, bytes_of, taken};
 
@@ -76,6 +77,7 @@ impl Front {
         ensures kept { self.new.kept ≡ self.old.kept }
         ensures pieces { self.new.pieces ≡ self.old.pieces }
         ensures fault { IfErr result (λ fault. IsWant store.new fault ⊎ IsLineFault MAX_LEVEL (taken self.old.progress) line.now self.old.ended fault) }
+        ensures needed { result ≡ Err (fault_of Full) → SomeOfLines MAX_LEVEL (IsNew store.new) (taken self.old.progress ++ line.now ∷ []) }
         ensures keeps { Keeps store.old store.new }
     {
         match self.progress.take_line(self.alloc, store, line) {
@@ -115,6 +117,7 @@ impl Front {
         ensures kept { self.new.kept.items ≡ [] }
         ensures pieces { self.new.pieces ≡ self.old.pieces }
         ensures fault { IfErr result (λ fault. IsWant store.new fault ⊎ IsLineFault MAX_LEVEL (taken self.old.progress) self.old.kept.items self.old.ended fault) }
+        ensures needed { result ≡ Err (fault_of Full) → SomeOfLines MAX_LEVEL (IsNew store.new) (taken self.old.progress ++ self.old.kept.items ∷ []) }
         ensures keeps { Keeps store.old store.new }
     {
         let line = mem::replace(&mut self.kept, Vec::new(self.alloc));
@@ -135,6 +138,7 @@ impl Front {
         ensures short { length self.new.kept.items ≤ 2 ^ 20 }
         ensures pieces { self.new.pieces ≡ self.old.pieces }
         ensures fault { IfErr result (λ fault. IsWant store.new fault ⊎ IsLineFault MAX_LEVEL (taken self.old.progress) (self.old.kept.items ++ end.now) self.old.ended fault) }
+        ensures needed { result ≡ Err (fault_of Full) → SomeOfLines MAX_LEVEL (IsNew store.new) (taken self.old.progress ++ (self.old.kept.items ++ end.now) ∷ []) }
         ensures keeps { Keeps store.old store.new }
     {
         if self.kept.is_empty() {
@@ -156,6 +160,7 @@ impl Front {
         ensures short { length self.new.kept.items ≤ 2 ^ 20 }
         ensures fault { IfErr result (λ fault. IsWant store.new fault
             ⊎ ((rest : List ℕ) → RefusesFront MAX_LEVEL (bytes_of self.old.pieces.lines ++ end.now ++ codes "\n" ++ rest) fault)) }
+        ensures needed { result ≡ Err (fault_of Full) → (rest : List ℕ) → LacksForFront MAX_LEVEL (bytes_of self.old.pieces.lines ++ end.now ++ codes "\n" ++ rest) store.new }
         ensures keeps { Keeps store.old store.new }
     {
         self.take_ended(store, end)?;
@@ -189,6 +194,7 @@ impl Front {
         ensures stands { OnOk result (StandsFor (IsKnown store.new) (content store.new) self.new.progress) }
         ensures short { length self.new.kept.items ≤ 2 ^ 20 }
         ensures fault { IfErr result (λ fault. IsWant store.new fault ⊎ RefusesFront MAX_LEVEL (bytes_of self.old.pieces.lines ++ piece.now) fault) }
+        ensures needed { result ≡ Err (fault_of Full) → LacksForFront MAX_LEVEL (bytes_of self.old.pieces.lines ++ piece.now) store.new }
         ensures keeps { Keeps store.old store.new }
     {
         let mut rest = piece;
@@ -206,6 +212,7 @@ impl Front {
         ensures end { OnOk result (IsEnd (bytes_of self.old.pieces.lines) self.new.ended self.new.progress) }
         ensures stands { OnOk result (StandsFor (IsKnown store.new) (content store.new) self.new.progress) }
         ensures fault { IfErr result (RefusesIn MAX_LEVEL (bytes_of self.old.pieces.lines) store.new) }
+        ensures needed { result ≡ Err (fault_of Full) → LacksFor MAX_LEVEL (bytes_of self.old.pieces.lines) store.new }
         ensures keeps { Keeps store.old store.new }
     {
         if self.kept.is_empty() {
@@ -220,6 +227,7 @@ impl Front {
         requires stands { StandsFor (IsKnown store.old) (content store.old) self.progress }
         ensures pattern { IfOk result (IsRead MAX_LEVEL (bytes_of self.pieces.lines) store.new) }
         ensures fault { IfErr result (RefusesIn MAX_LEVEL (bytes_of self.pieces.lines) store.new) }
+        ensures needed { result ≡ Err (fault_of Full) → LacksFor MAX_LEVEL (bytes_of self.pieces.lines) store.new }
         ensures keeps { Keeps store.old store.new }
     {
         let mut front = self;

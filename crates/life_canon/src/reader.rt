@@ -1,11 +1,12 @@
 //! A file of either format that comes in pieces.
 
-ghost use Rattle.std.specs.Prelude.{◌≡◌, ◌⊎◌, ◌++◌, ℕ, List, [], true, false, IfOk, IfErr, OnOk, OnErr};
-ghost use Rattle.life_base.specs.declared.kind.Kind.TheVariants.{Spent};
+ghost use Rattle.std.specs.Prelude.{◌≡◌, ◌⊎◌, ◌++◌, ℕ, List, [], true, false, Err, IfOk, IfErr, OnOk, OnErr};
+ghost use Rattle.life_base.specs.declared.kind.Kind.TheVariants.{Full, Spent};
 ghost use Rattle.life_base.specs.declared.fault.Fault.{Fault as FaultValue};
 ghost use Rattle.life_base.specs.Refusal.{fault_of};
 ghost use Rattle.life_quad.specs.Store.{Nodes};
 ghost use Rattle.life_canon.specs.Feeding.{RefusesFront, IsOverAt, Stands};
+ghost use Rattle.life_canon.specs.Needs.{LacksFor, LacksForFront};
 ghost use Rattle.life_canon.specs.Store.{Keeps, IsRead, IsWant, RefusesIn};
 
 use crate::front::Front;
@@ -65,6 +66,7 @@ impl Reader {
         // A line's fault is told by the call in which the line ends or grows too long, and by no later one.
         ensures front { OnOk result ((fault : FaultValue) → RefusesFront MAX_LEVEL self.new.bytes fault → ⊥) }
         ensures fault { self.old.spent ≡ false → IfErr result (λ fault. IsWant store.new fault ⊎ RefusesFront MAX_LEVEL (self.old.bytes ++ piece.now) fault) }
+        ensures needed { result ≡ Err (fault_of Full) → LacksForFront MAX_LEVEL (self.old.bytes ++ piece.now) store.new }
         ensures refused { OnErr result (self.new.spent ≡ true) }
         ensures spent { self.old.spent ≡ true → IfErr result (λ fault. fault ≡ fault_of Spent) }
 
@@ -91,6 +93,7 @@ impl Reader {
         requires { self.spent ≡ false → Stands store.old self }
         ensures pattern { IfOk result (λ pattern. (self.spent ≡ false) × IsRead MAX_LEVEL self.bytes store.new pattern) }
         ensures fault { self.spent ≡ false → IfErr result (λ fault. RefusesIn MAX_LEVEL self.bytes store.new fault) }
+        ensures needed { result ≡ Err (fault_of Full) → LacksFor MAX_LEVEL self.bytes store.new }
         ensures spent { self.spent ≡ true → IfErr result (λ fault. fault ≡ fault_of Spent) }
         ensures keeps { Keeps store.old store.new }
     {

@@ -1,10 +1,10 @@
 //! What a pattern is, in five lines.
 
-ghost use Rattle.std.specs.Prelude.{◌≡◌, ◌++◌, ◌≤◌, ◌<◌, ◌+◌, ◌^◌, ◌≤ℤ◌, ◌-ℤ◌, ◌+ℤ◌, ◌<ℤ◌, pos, neg_ℤ, codes, decimal, IfOk, IfErr, IfSome, OnOk, MatchOption, length};
+ghost use Rattle.std.specs.Prelude.{◌≡◌, ◌++◌, ◌≤◌, ◌<◌, ◌+◌, ◌^◌, ◌≤ℤ◌, ◌-ℤ◌, ◌+ℤ◌, ◌<ℤ◌, pos, neg_ℤ, codes, decimal, Err, IfOk, IfErr, IfSome, OnOk, MatchOption, length};
 ghost use Rattle.std.specs.Fmt.{signed_decimal};
 ghost use Rattle.life_base.specs.Refusal.{fault_of};
 ghost use Rattle.life_base.specs.Rules.{rule_text};
-ghost use Rattle.life_base.specs.declared.kind.Kind.TheVariants.{Memory};
+ghost use Rattle.life_base.specs.declared.kind.Kind.TheVariants.{Full, Memory};
 ghost use Rattle.life_base.specs.Tree.{depth, is_blank_tree};
 ghost use Rattle.life_quad.specs.Cells.{population, IsLeastBox};
 ghost use Rattle.life_quad.specs.declared.extent.Bounds.{Bounds as BoundsValue};
@@ -12,6 +12,7 @@ ghost use Rattle.std.specs.Prelude.{Option, List, ℕ, true};
 ghost use Rattle.life_rle.specs.Written.{span};
 ghost use Rattle.life_mc.specs.Cells.{node_lines};
 ghost use Rattle.life_canon.specs.Listing.{canonical_file};
+ghost use Rattle.life_canon.specs.Needs.{LacksFor};
 ghost use Rattle.life_canon.specs.Store.{Keeps, RefusesIn, IsOfFile, IsRead, IsTrimmed, universe_in, content};
 ghost use Rattle.life_canon.specs.Texts.{IsShown, IsOrdered, AreOrdered, box_text, show_text};
 
@@ -139,6 +140,7 @@ pub fn five_lines_of(alloc: Global, store: &Shared, pattern: &Pattern) -> Result
 pub fn show(alloc: Global, store: &mut Shared, bytes: &[u8]) -> Result<Vec<u8>, Fault>
     ensures text { IfOk result (λ text. IsShown MAX_LEVEL bytes.now text.items) }
     ensures fault { IfErr result (λ fault. RefusesIn MAX_LEVEL bytes.now store.new fault) }
+    ensures needed { result ≡ Err (fault_of Full) → LacksFor MAX_LEVEL bytes.now store.new }
     ensures keeps { Keeps store.old store.new }
 {
     let pattern = read(alloc, store, bytes)?;

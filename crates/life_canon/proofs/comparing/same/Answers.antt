@@ -1,3 +1,5 @@
+use Rattle.std.proofs.Common.{inl, inr}
+use Rattle.std.proofs.lemmas.Result.{err_from_is_err_and}
 use Rattle.life_base.specs.declared.cell.TheConstants.{MAX_LEVEL}
 use Rattle.life_canon.proofs.CallFacts.{keeps-all, read-stays, same-read, read-equal}
 use Rattle.life_canon.proofs.comparing.same.Goals as goal
@@ -16,3 +18,14 @@ returns-clause-answer c =
       λ h. let e = test.0 h in same-read c.args.first.now c.args.second.now _ c.in_ok-a.a c.in_ok-b.b p q e.0 e.1 e.2,
       λ s. test.1 (read-equal c.args.first.now c.args.second.now _ c.in_ok-a.a c.in_ok-b.b p q s),
     )
+
+pub returns-in_err-a-clause-needed : goal.returns-in_err-a-clause-needed
+returns-in_err-a-clause-needed c =
+    let p = err_from_is_err_and c.from_residual.result c.from_residual.ensures.1 in
+    rw (p.1, p.2) (λ e. inl (c.in_err-a.ensures.needed (cc)))
+
+pub returns-in_err-b-clause-needed : goal.returns-in_err-b-clause-needed
+returns-in_err-b-clause-needed c =
+    let p = err_from_is_err_and c.from_residual-in_err-b.result c.from_residual-in_err-b.ensures.1 in
+    let read = c.in_ok-a.ensures.pattern in
+    rw (p.1, p.2) (λ e. inr ((read.universe, read.reads), c.in_err-b.ensures.needed (cc)))

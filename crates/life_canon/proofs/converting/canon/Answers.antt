@@ -1,5 +1,5 @@
 use Rattle.std.proofs.Common.{inl, inr}
-use Rattle.std.proofs.lemmas.Result.{IfOk-weaker, IfErr-weaker}
+use Rattle.std.proofs.lemmas.Result.{IfOk-weaker, IfErr-weaker, err_from_is_err_and}
 use Rattle.life_canon.proofs.CallFacts.{canonical-text, least-text}
 use Rattle.life_canon.proofs.Fits.{read-fits}
 use Rattle.life_canon.proofs.converting.canon.Goals as goal
@@ -18,3 +18,8 @@ returns-clause-fault c = IfErr-weaker c.text_of.result _ _ (λ fault e. inr (inl
 
 pub returns-clause-keeps : goal.returns-clause-keeps
 returns-clause-keeps c = c.in_ok-pattern.ensures.keeps
+
+pub returns-in_err-pattern-clause-needed : goal.returns-in_err-pattern-clause-needed
+returns-in_err-pattern-clause-needed c =
+    let p = err_from_is_err_and c.from_residual.result c.from_residual.ensures.1 in
+    rw (p.1, p.2) (λ e. c.in_err-pattern.ensures.needed (cc))

@@ -1,4 +1,4 @@
-use Rattle.std.proofs.lemmas.Result.{IfOk-weaker}
+use Rattle.std.proofs.lemmas.Result.{IfOk-weaker, err_from_is_err_and}
 use Rattle.life_canon.proofs.CallFacts.{rle-fault}
 use Rattle.life_canon.proofs.converting.to_rle.Goals as goal
 
@@ -16,3 +16,8 @@ returns-clause-fault c = rle-fault c.args.bytes.now _ _ c.in_ok-pattern.ensures.
 
 pub returns-clause-keeps : goal.returns-clause-keeps
 returns-clause-keeps c = c.in_ok-pattern.ensures.keeps
+
+pub returns-in_err-pattern-clause-needed : goal.returns-in_err-pattern-clause-needed
+returns-in_err-pattern-clause-needed c =
+    let p = err_from_is_err_and c.from_residual.result c.from_residual.ensures.1 in
+    rw (p.1, p.2) (λ e. c.in_err-pattern.ensures.needed (cc))

@@ -1,8 +1,12 @@
-use Rattle.std.proofs.Common.{◌≡◌, ◌<◌, [], ◌∷◌, ◌++◌, length, get_or, ap, ◌∙◌, arith, pos}
+use Rattle.std.proofs.Common.{◌≡◌, ◌<◌, [], ◌∷◌, ◌++◌, length, get_or, ap, ◌∙◌, arith, subst, ℤ, ◌+ℤ◌, pos}
+use Rattle.std.specs.Prelude.{nat_abs}
+use Rattle.std.proofs.lemmas.Result.{err_from_is_err_and}
 use Rattle.life_rle.specs.declared.file.Run.{Run}
-use Rattle.life_strip.specs.Given.{GivenRun}
+use Rattle.life_strip.specs.Given.{GivenRun, half_plane, state_by, by_columns}
+use Rattle.life_strip.specs.Needed.{SomeSquare}
 use Rattle.life_canon.specs.Building.{given}
 use Rattle.life_canon.proofs.BuildFacts.{given-more, next-more, read-run, run-next}
+use Rattle.life_canon.proofs.NeedFacts.{runs-above}
 use Rattle.life_canon.proofs.feeding.add_runs.Goals as goal
 
 pub add_run-requires-clause-positive : goal.add_run-requires-clause-positive
@@ -36,3 +40,15 @@ loop-run-preserved g c =
       stays = λ t k. e.stays t (i.stays t k);
       most = e.most ∙ i.most;
     }
+
+pub returns-in_err-add_run-clause-needed : goal.returns-in_err-add_run-clause-needed
+returns-in_err-add_run-clause-needed g c =
+    let none : Run = record { x = pos 0; y = pos 0; len = 0; state = 0 } in
+    let h : c.loop-run.run-index < length c.args.runs.now = omega arith in
+    let i = c.loop-run.invariant in
+    let P = g.S.Squares.needs_node c.add_run.new.squares in
+    let same = ap (λ (r : GivenRun). r.y) (read-run c.loop-run.builder.runs c.args.runs.now c.loop-run.run-index none h i.next) in
+    let p = err_from_is_err_and c.from_residual.result c.from_residual.ensures.1 in
+    rw (p.1, p.2)
+    (λ e. runs-above P c.args.builder.now.runs c.loop-run.builder.runs c.args.runs.now c.loop-run.run-index none h i.given_so_far
+    (subst (λ (y : ℤ). SomeSquare P (nat_abs (y +ℤ pos half_plane)) (by_columns (state_by c.loop-run.builder.runs))) same (c.in_err-add_run.ensures.needed e)))

@@ -1,9 +1,11 @@
-use Rattle.std.proofs.Common.{◌≡◌, ℕ, List, [], ◌∷◌, ◌++◌, sym, ap, ◌∙◌, subst}
+use Rattle.std.proofs.Common.{◌≡◌, ℕ, List, [], ◌∷◌, ◌++◌, refl, sym, ap, ◌∙◌, subst}
 use Rattle.std.specs.Prelude.{Option}
 use Rattle.std.specs.List.{cons_option}
 use Rattle.std.proofs.lemmas.Result.{err_from_is_err_and}
 use Rattle.life_base.specs.declared.kind.Kind.{Kind}
-use Rattle.life_mc.specs.Reading.{squares_of}
+use Rattle.life_base.specs.Refusal.{Prefix}
+use Rattle.life_base.specs.declared.cell.TheConstants.{MAX_LEVEL}
+use Rattle.life_mc.specs.Reading.{squares_of, Accepts as IsSomeMacrocell}
 use Rattle.life_base.specs.Lines.{LinesRead}
 use Rattle.life_mc.specs.declared.line.Line.{Line}
 use Rattle.life_quad.specs.declared.id.Id.{Id}
@@ -11,6 +13,7 @@ use Rattle.life_canon.specs.Filling.{AreSquaresOf}
 use Rattle.life_canon.proofs.GrowFacts.{last-square, squares-grow}
 use Rattle.life_canon.proofs.PatternFacts.{NextSquare, next-square, not-full}
 use Rattle.life_canon.proofs.Standing.{squares-stay}
+use Rattle.life_canon.specs.Needs.{of_node_line}
 use Rattle.life_canon.proofs.feeding.take_macrocell_line.Goals as goal
 
 pub returns-in_err-square-clause-full : goal.returns-in_err-square-clause-full
@@ -51,3 +54,24 @@ returns-clause-squares g c =
     (squares-stay (squares_of old) ids c.in_ok-id.ensures.keeps c.requires.squares) c.in_ok-id.ensures.known is in
     subst (λ (ls : List Line). AreSquaresOf (g.S.Squares.knows c.line_square.new.squares) (g.S.Squares.content c.line_square.new.squares) ls c.push.new.self.items) (sym squares)
     (subst (λ (is : List Id). AreSquaresOf (g.S.Squares.knows c.line_square.new.squares) (g.S.Squares.content c.line_square.new.squares) (squares_of old ++ square ∷ []) is) (sym c.in_ok-push.ensures.items) grown)
+
+pub returns-in_err-square-clause-needed : goal.returns-in_err-square-clause-needed
+returns-in_err-square-clause-needed g c =
+    let p = err_from_is_err_and c.from_residual.result c.from_residual.ensures.1 in
+    let kind : Kind = c.in_err-square.field-0.0 in
+    rw (p.1, p.2) (λ e. absurd (not-full c.args.lines.now.lines c.args.line.now kind c.in_err-square.ensures.fault (cc)))
+
+pub returns-in_err-id-clause-needed : goal.returns-in_err-id-clause-needed
+returns-in_err-id-clause-needed g c =
+    let old : List (List ℕ) = c.args.lines.now.lines in
+    let square : Line = c.in-Some.square in
+    let more : c.line.new.self.lines ≡ old ++ c.args.line.now ∷ [] = ap (λ (v : LinesRead). v.lines) c.in_ok-square.ensures.lines in
+    let squares : squares_of c.line.new.self.lines ≡ squares_of old ++ square ∷ [] =
+    c.in_ok-square.ensures.squares ∙ ap (λ (o : Option Line). squares_of old ++ cons_option o []) c.in-Some.is in
+    let next : NextSquare old square = next-square old c.line.new.self.lines c.args.line.now square more c.in_ok-square.ensures.front squares in
+    let one = last-square next.rule next.generation (squares_of old) square next.valid in
+    let were : AreSquaresOf (g.S.Squares.knows c.args.squares.now) (g.S.Squares.content c.args.squares.now) (squares_of old) c.deref.result.now =
+    subst (λ (is : List Id). AreSquaresOf (g.S.Squares.knows c.args.squares.now) (g.S.Squares.content c.args.squares.now) (squares_of old) is) (sym c.deref.ensures.value) c.requires.squares in
+    λ e. of_node_line old c.args.line.now [] square refl (subst (Prefix (IsSomeMacrocell MAX_LEVEL)) more c.in_ok-square.ensures.front)
+    (subst (λ (ls : List (List ℕ)). squares_of ls ≡ squares_of old ++ square ∷ []) more squares)
+    (c.in_err-id.ensures.needed (squares_of old) next.rule one were)

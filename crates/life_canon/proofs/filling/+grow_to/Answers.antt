@@ -1,7 +1,9 @@
-use Rattle.std.proofs.Common.{ap, ◌∙◌, rules}
-use Rattle.life_base.specs.Tree.{tree_cell}
+use Rattle.std.proofs.Common.{ap, ◌∙◌, subst, rules}
+use Rattle.life_base.specs.Tree.{Tree, tree_cell}
 use Rattle.life_quad.proofs.LawLemmas.{growing_keeps_cells}
-use Rattle.std.proofs.lemmas.Result.{IfOk-weaker}
+use Rattle.std.proofs.lemmas.Result.{IfOk-weaker, on_err_weaker}
+use Rattle.life_canon.specs.Needs.{SomeGrown}
+use Rattle.life_canon.proofs.NeedFacts.{SomeGrown-next}
 use Rattle.life_canon.proofs.filling.+grow_to.Goals as goal
 
 pub returns-clause-cells : goal.returns-clause-cells
@@ -18,3 +20,10 @@ grow-requires-clause-high g t c = search rules
 
 pub returns-clause-level : goal.returns-clause-level
 returns-clause-level g t c = search rules
+
+pub returns-clause-needed : goal.returns-clause-needed
+returns-clause-needed g t c =
+    let P = g.S.Squares.needs_node c.grow_to.new.squares in
+    on_err_weaker c.grow_to.result
+    (λ s. SomeGrown-next P _ c.args.level c.requires.low (subst (λ (t : Tree). SomeGrown P t c.args.level) c.in_ok-larger.ensures.square s))
+    c.grow_to.ensures.needed

@@ -1,5 +1,9 @@
 use Rattle.std.proofs.lemmas.Result.{err_from_is_err_and}
 use Rattle.life_canon.proofs.CallFacts.{keeps-all, feed-fault}
+use Rattle.std.proofs.Common.{ℕ, List, ◌++◌, ap, ◌∙◌, subst}
+use Rattle.life_base.specs.declared.cell.TheConstants.{MAX_LEVEL}
+use Rattle.life_canon.specs.Needs.{IsNew, LacksFor, LacksForFront}
+use Rattle.life_canon.proofs.NeedFacts.{whole-needs}
 use Rattle.life_canon.proofs.reading.read.Goals as goal
 
 pub returns-in_err-feed-clause-fault : goal.returns-in_err-feed-clause-fault
@@ -9,3 +13,15 @@ returns-in_err-feed-clause-fault c =
 
 pub returns-clause-keeps : goal.returns-clause-keeps
 returns-clause-keeps c = keeps-all _ _ _ c.in_ok-feed.ensures.keeps c.finish.ensures.keeps
+
+pub returns-in_err-feed-clause-needed : goal.returns-in_err-feed-clause-needed
+returns-in_err-feed-clause-needed c =
+    let p = err_from_is_err_and c.from_residual.result c.from_residual.ensures.1 in
+    let none = ap (λ (b : List ℕ). b ++ c.args.bytes.now) c.new-reader.ensures.bytes in
+    rw (p.1, p.2) (λ e. whole-needs (IsNew c.feed.new.store) c.args.bytes.now
+    (subst (λ (b : List ℕ). LacksForFront MAX_LEVEL b c.feed.new.store) none (c.in_err-feed.ensures.needed (cc))))
+
+pub returns-clause-needed : goal.returns-clause-needed
+returns-clause-needed c = λ e.
+    let all = c.in_ok-feed.ensures.bytes ∙ ap (λ (b : List ℕ). b ++ c.args.bytes.now) c.new-reader.ensures.bytes in
+    subst (λ (b : List ℕ). LacksFor MAX_LEVEL b c.finish.new.store) all (c.finish.ensures.needed e)

@@ -1,5 +1,5 @@
 use Rattle.std.proofs.Common.{inl, inr}
-use Rattle.std.proofs.lemmas.Result.{IfOk-weaker, IfErr-weaker}
+use Rattle.std.proofs.lemmas.Result.{IfOk-weaker, IfErr-weaker, err_from_is_err_and}
 use Rattle.life_canon.proofs.showing.show.Goals as goal
 
 pub five_lines_of-requires : goal.five_lines_of-requires
@@ -13,3 +13,8 @@ returns-clause-fault c = IfErr-weaker c.five_lines_of.result _ _ (λ fault e. in
 
 pub returns-clause-keeps : goal.returns-clause-keeps
 returns-clause-keeps c = c.in_ok-pattern.ensures.keeps
+
+pub returns-in_err-pattern-clause-needed : goal.returns-in_err-pattern-clause-needed
+returns-in_err-pattern-clause-needed c =
+    let p = err_from_is_err_and c.from_residual.result c.from_residual.ensures.1 in
+    rw (p.1, p.2) (λ e. c.in_err-pattern.ensures.needed (cc))

@@ -1,8 +1,10 @@
 use Rattle.std.proofs.Common.{◌≡◌, ℕ, List, ◌++◌, [], ◌∷◌, sym, ap, ◌∙◌, refl}
 use Rattle.std.proofs.lemmas.Result.{err_from_is_err_and}
 use Rattle.life_base.specs.declared.line_log.LineLog.{LineLog}
-use Rattle.life_canon.specs.Taking.{bytes_of}
+use Rattle.life_canon.specs.Needs.{IsNew}
+use Rattle.life_canon.specs.Taking.{bytes_of, taken}
 use Rattle.life_canon.proofs.FrontFacts.{line-told, front-ended, front-along, bytes-more}
+use Rattle.life_canon.proofs.NeedFacts.{ended-needs}
 use Rattle.life_canon.proofs.front.Front.end_line.Goals as goal
 
 pub returns-in_err-take_ended-clause-fault : goal.returns-in_err-take_ended-clause-fault
@@ -23,3 +25,10 @@ returns-clause-front c =
     front-along (sym bytes) (sym e.kept) refl refl
     (front-ended (bytes_of old) c.args.self.now.kept.items end c.args.self.now.ended c.take_ended.new.self.ended c.args.self.now.progress c.take_ended.new.self.progress
     (c.requires.front.going c.requires.going) c.requires.no_feed e.begun e.lines e.count)
+
+pub returns-in_err-take_ended-clause-needed : goal.returns-in_err-take_ended-clause-needed
+returns-in_err-take_ended-clause-needed c =
+    let p = err_from_is_err_and c.from_residual.result c.from_residual.ensures.1 in
+    let old = c.args.self.now in
+    rw (p.1, p.2) (λ e rest. ended-needs (IsNew c.take_ended.new.store) (bytes_of old.pieces.lines) old.kept.items c.args.end.now rest old.ended (taken old.progress)
+    (c.requires.front.going c.requires.going) c.requires.no_feed (c.in_err-take_ended.ensures.needed e))

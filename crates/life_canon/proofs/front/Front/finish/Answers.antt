@@ -1,10 +1,15 @@
-use Rattle.std.proofs.Common.{ℕ, ap, sym, ◌∙◌, subst}
-use Rattle.life_base.specs.Refusal.{fault_at}
+use Rattle.std.proofs.Common.{◌≡◌, ℕ, ◌+◌, ◌-◌, ◌^◌, min, Err, ap, sym, ◌∙◌, subst}
+use Rattle.std.proofs.lemmas.Result.{err_from_is_err_and}
+use Rattle.life_base.specs.Refusal.{fault_at, fault_of}
+use Rattle.life_base.specs.declared.kind.Kind.{Kind}
+use Rattle.life_base.specs.declared.kind.Kind.TheVariants.{Full}
 use Rattle.life_base.specs.declared.cell.TheConstants.{MAX_LEVEL}
 use Rattle.life_canon.specs.Store.{RefusesIn}
 use Rattle.life_canon.specs.Taking.{bytes_of}
 use Rattle.life_canon.proofs.CallFacts.{keeps-all}
 use Rattle.life_canon.proofs.FrontFacts.{end-says, end-fault}
+use Rattle.life_canon.specs.Needs.{IsNew, at_end}
+use Rattle.life_canon.proofs.NeedFacts.{kind-full, end-needs}
 use Rattle.life_canon.proofs.front.Front.finish.Goals as goal
 
 pub returns-in-Ok-clause-pattern : goal.returns-in-Ok-clause-pattern
@@ -27,3 +32,17 @@ returns-clause-fault c =
 
 pub returns-clause-keeps : goal.returns-clause-keeps
 returns-clause-keeps c = keeps-all c.args.store.now c.take_rest.new.store c.end.new.store c.take_rest.ensures.keeps c.end.ensures.keeps
+
+pub returns-in_err-take_rest-clause-needed : goal.returns-in_err-take_rest-clause-needed
+returns-in_err-take_rest-clause-needed c =
+    let p = err_from_is_err_and c.from_residual.result c.from_residual.ensures.1 in
+    rw (p.1, p.2) (λ e. c.in_err-take_rest.ensures.needed (cc))
+
+pub returns-clause-needed : goal.returns-clause-needed
+returns-clause-needed c = λ e.
+    let front = c.take_rest.new.self in
+    let fault : c.at.result ≡ fault_of Full = cc in
+    let told = c.at.ensures ∙ ap (λ (n : ℕ). fault_at n c.in-Err.kind) c.saturating_add.ensures in
+    let kind : c.in-Err.kind ≡ Full = kind-full (min (front.ended + 1) (2 ^ 64 - 1)) c.in-Err.kind (sym told ∙ fault) in
+    at_end (end-needs (IsNew c.end.new.store) (bytes_of c.args.self.pieces.lines) front.ended front.progress c.in_ok-take_rest.ensures.end
+    (c.in-Err.ensures.needed (ap (λ (k : Kind). Err k) kind)))

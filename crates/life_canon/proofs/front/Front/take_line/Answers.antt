@@ -1,12 +1,22 @@
-use Rattle.std.proofs.Common.{◌⊎◌, sym, subst}
+use Rattle.std.proofs.Common.{◌≡◌, ◌+◌, ◌-◌, ◌^◌, ◌⊎◌, min, Err, ap, sym, ◌∙◌, subst}
+use Rattle.life_base.specs.Refusal.{fault_of}
+use Rattle.life_base.specs.declared.kind.Kind.{Kind}
+use Rattle.life_base.specs.declared.kind.Kind.TheVariants.{Full}
 use Rattle.life_base.specs.declared.cell.TheConstants.{MAX_LEVEL}
 use Rattle.life_base.specs.declared.fault.Fault.{Fault}
 use Rattle.life_canon.specs.Store.{IsWant}
 use Rattle.life_canon.specs.Taking.{IsLineFault, taken}
 use Rattle.life_canon.proofs.FrontFacts.{fault-of-kind}
+use Rattle.life_canon.proofs.NeedFacts.{kind-full}
 use Rattle.life_canon.proofs.front.Front.take_line.Goals as goal
 
 pub returns-in-Err-clause-fault : goal.returns-in-Err-clause-fault
 returns-in-Err-clause-fault c =
     subst (λ (f : Fault). IsWant c.take_line.new.store f ⊎ IsLineFault MAX_LEVEL (taken c.args.self.now.progress) c.args.line.now c.args.self.now.ended f) (sym c.fault_here.ensures)
     (fault-of-kind c.take_line.new.store (taken c.args.self.now.progress) c.args.line.now c.args.self.now.ended c.in-Err.kind c.in-Err.ensures.fault)
+
+pub returns-in-Err-clause-needed : goal.returns-in-Err-clause-needed
+returns-in-Err-clause-needed c = λ e.
+    let told : c.fault_here.result ≡ fault_of Full = cc in
+    let kind : c.in-Err.kind ≡ Full = kind-full (min (c.args.self.now.ended + 1) (2 ^ 64 - 1)) c.in-Err.kind (sym c.fault_here.ensures ∙ told) in
+    c.in-Err.ensures.needed (ap (λ (k : Kind). Err k) kind)

@@ -6,6 +6,8 @@ use Rattle.life_canon.specs.Taking.{bytes_of, IsOver}
 use Rattle.life_canon.proofs.CallFacts.{keeps-all}
 use Rattle.life_canon.proofs.FeedFacts.{feed-before, feed-within, piece-split, is-none}
 use Rattle.life_canon.proofs.FrontFacts.{told-along, over-or-clean}
+use Rattle.life_base.specs.declared.cell.TheConstants.{MAX_LEVEL}
+use Rattle.life_canon.specs.Needs.{LacksForFront}
 use Rattle.life_canon.proofs.front.Front.take_piece.Goals as goal
 
 pub end_line-requires-clause-no_feed : goal.end_line-requires-clause-no_feed
@@ -46,3 +48,11 @@ loop-end-preserved c =
 pub end_piece-requires-clause-last : goal.end_piece-requires-clause-last
 end_piece-requires-clause-last c =
     over-or-clean (IsOver c.loop-end.self.progress) c.loop-end.rest.now (c.next_end.ensures.none (is-none c.next_end.result c.in_default.not-Some))
+
+pub returns-in_err-end_line-clause-needed : goal.returns-in_err-end_line-clause-needed
+returns-in_err-end_line-clause-needed c =
+    let p = err_from_is_err_and c.from_residual.result c.from_residual.ensures.1 in
+    let rest : List ℕ = c.loop-end.rest.now in
+    let all : bytes_of c.loop-end.self.pieces.lines ++ take c.in-Some.end rest ++ 10 ∷ [] ++ drop (c.in-Some.end + 1) rest ≡ bytes_of c.args.self.now.pieces.lines ++ c.args.piece.now =
+    piece-split (bytes_of c.loop-end.self.pieces.lines) rest c.in-Some.end c.in-Some.ensures.end ∙ c.loop-end.invariant.bytes in
+    rw (p.1, p.2) (λ e. subst (λ (b : List ℕ). LacksForFront MAX_LEVEL b c.end_line.new.store) all (c.in_err-end_line.ensures.needed e (drop (c.in-Some.end + 1) rest)))

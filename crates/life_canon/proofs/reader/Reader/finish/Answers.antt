@@ -1,4 +1,7 @@
-use Rattle.std.proofs.Common.{rules}
+use Rattle.std.proofs.Common.{subst, rules}
+use Rattle.life_base.specs.declared.cell.TheConstants.{MAX_LEVEL}
+use Rattle.life_canon.specs.Feeding.{Fed}
+use Rattle.life_canon.specs.Needs.{LacksFor}
 use Rattle.life_canon.proofs.reader.Reader.finish.Goals as goal
 
 pub finish-requires-clause-front : goal.finish-requires-clause-front
@@ -12,3 +15,6 @@ returns-clause-pattern c = search rules
 
 pub returns-clause-spent : goal.returns-clause-spent
 returns-clause-spent c = search rules
+
+pub returns-clause-needed : goal.returns-clause-needed
+returns-clause-needed c = λ e. subst (λ (v : Fed). LacksFor MAX_LEVEL v.bytes c.finish.new.store) c.self.view_is (c.finish.ensures.needed e)

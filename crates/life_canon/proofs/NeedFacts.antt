@@ -1,0 +1,218 @@
+-- The squares that a refused call lacked: of the root that is grown or trimmed, of runs, and of lines with more lines behind them.
+use Rattle.std.proofs.Common.{◌≡◌, ℕ, zero, suc, ◌+◌, ◌-◌, ◌^◌, ◌<◌, ◌≤◌, Bool, true, false, ◌||◌, cond, List, [], ◌∷◌, ◌++◌, length, take, drop, get_or, map, max, min, refl, ap, sym, ◌∙◌, subst, arith, ◌⊎◌, inl, inr, append_assoc, drop-cons, ℤ, ◌*◌, ◌+ℤ◌, ◌-ℤ◌, pos}
+use Rattle.std.specs.Prelude.{nat_abs}
+use Rattle.std.proofs.lemmas.List.{append-nil, map-append, take-append-drop}
+use Rattle.std.proofs.lemmas.Bool.Decides.{nat_tests}
+use Rattle.life_base.proofs.Squares.{depth-blank}
+use Rattle.life_base.specs.Lines.{has_no_feed, whole_lines}
+use Rattle.life_base.specs.Refusal.{fault_at, fault_of}
+use Rattle.life_base.specs.Text.{lines_of}
+use Rattle.life_base.specs.declared.cell.TheConstants.{MAX_LEVEL}
+use Rattle.life_base.specs.declared.fault.Fault.{Fault}
+use Rattle.life_base.specs.declared.kind.Kind.{Kind}
+use Rattle.life_base.specs.declared.kind.Kind.TheVariants.{Full, Memory}
+use Rattle.life_base.specs.Tree.{Tree, point, quad, depth, tree_cell, IsFull}
+use Rattle.life_base.proofs.WholeLines.{lines_are_whole}
+use Rattle.life_base.specs.Lines.{rest_line, one_line}
+use Rattle.life_mc.proofs.LineKinds.{broken_kind}
+use Rattle.life_rle.specs.File.{HasRuns}
+use Rattle.life_rle.specs.declared.file.Run.{Run}
+use Rattle.life_rle.proofs.LineKinds.{Breaks-kind}
+use Rattle.life_strip.specs.Given.{GivenRun, half_plane, state_by, by_columns}
+use Rattle.life_strip.specs.Needed.{SomeSquare}
+use Rattle.life_canon.specs.Building.{given}
+use Rattle.life_canon.specs.Feeding.{RefusesFront}
+use Rattle.life_canon.specs.Files.{is_file_kind, is_macrocell}
+use Rattle.life_canon.specs.Taking.{IsGoing, IsEnd, taken}
+use Rattle.life_canon.specs.declared.feeding.Progress.{Progress}
+use Rattle.life_canon.proofs.FrontFacts.{whole-at, end-says, end-lines}
+use Rattle.life_canon.proofs.RefusalKinds.{refusal-kinds}
+use Rattle.life_quad.specs.Moves.{grown, inner, can_trim, trim_up_to}
+use Rattle.life_quad.specs.Refused.{SomePart, SomeTrimmed}
+use Rattle.life_canon.specs.Needs.{SomeOfRuns, SomeOfLines, of_node_line, of_runs, grown_times, SomeGrown, SomeRoot, trimmed_root, grown_root, SomeOfFile, of_lines, SomeAtEnd, of_plane, of_root}
+use Rattle.life_canon.specs.Universe.{Universe, IsBlankOutside, centred, corner, least_level}
+use Rattle.life_canon.proofs.Content.{least-one}
+use Rattle.life_canon.proofs.Planes.{full-depth, two-deep, can-not, can-by, stop, go, centred-tree_cell, tree_cell-outside}
+use Rattle.life_canon.proofs.TreeWords.{HasDepth}
+use Rattle.life_canon.proofs.Trees.{bool_cases, true_false, depth_is, square-same, centred-depth, middle-centred, centred-grown, outside-more, border-outside}
+
+-- ---- a square that is grown
+
+depth-grown : (t : Tree) → 1 ≤ depth t → depth (grown t) ≡ suc (depth t)
+depth-grown (point s) h = absurd (omega arith)
+depth-grown (quad a b c d) h = ap (λ (n : ℕ). suc (suc n)) (depth-blank (depth a))
+
+pub SomeGrown-next : (P : Tree → Type 0) (t : Tree) (level : ℕ) → 1 ≤ depth t → SomeGrown P (grown t) level → SomeGrown P t level
+SomeGrown-next P t level h s = let d = depth-grown t h in record { more = suc s.more; low = omega (arith, d, s.low); part = s.part }
+
+-- ---- squares about (0, 0) with the cells of a pattern
+
+-- a square with these cells is the one of its level
+pub is-centred : (f : ℤ → ℤ → ℕ) (t : Tree) (k : ℕ) → IsFull t → depth t ≡ suc k → ((x y : ℤ) → tree_cell t x y ≡ f x y) → (t ≡ centred f (suc k)) × IsBlankOutside (suc k) f
+unfolding centred
+is-centred f t k full d cells =
+    let h : HasDepth (suc k) t = subst (λ (n : ℕ). HasDepth n t) d (full-depth t full) in
+    (sym (centred-tree_cell h) ∙ square-same (tree_cell t) f cells (suc k) (corner (suc k)) (corner (suc k)), λ x y n. sym (cells x y) ∙ tree_cell-outside h x y n)
+
+-- grown, it is one of a higher level
+grown-centred : (f : ℤ → ℤ → ℕ) (n k : ℕ) (t : Tree) → t ≡ centred f (suc k) → IsBlankOutside (suc k) f → grown_times n t ≡ centred f (suc (n + k))
+grown-centred f zero k t e o = let none : suc k ≡ suc (0 + k) = omega arith in e ∙ ap (centred f) none
+grown-centred f (suc n) k t e o =
+    let level : suc (n + suc k) ≡ suc (suc n + k) = omega arith in
+    grown-centred f n (suc k) (grown t) (ap grown e ∙ sym (centred-grown f k o)) (outside-more f k o) ∙ ap (centred f) level
+
+-- what can be trimmed of it is one of the level below
+record Smaller (f : ℤ → ℤ → ℕ) (m k : ℕ) : Type 0 where
+  below : ℕ
+  is : k ≡ suc below
+  least : m ≤ suc below
+  inner_is : inner (centred f (suc k)) ≡ centred f (suc below)
+  outside : IsBlankOutside (suc below) f
+
+smaller-centred : (f : ℤ → ℤ → ℕ) (m k : ℕ) → 1 ≤ m → IsBlankOutside (suc k) f → can_trim (centred f (suc k)) m ≡ true → Smaller f m k
+smaller-centred f m zero le o can =
+    let d : depth (centred f 1) ≡ 1 = depth_is (centred-depth f 1) in
+    absurd (true_false (can_trim (centred f 1) m) can (can-not (centred f 1) m (omega (arith, d, le))))
+smaller-centred f m (suc k) le o can = elim (deeper m (suc (suc k))) [
+  | inl high ↦
+      let h = centred-depth f (suc (suc k)) in
+      let two = two-deep k (centred f (suc (suc k))) h in
+      let border = sym two.border ∙ sym (can-by (centred f (suc (suc k))) m (subst (λ (d : ℕ). m < d) (sym (depth_is h)) high)) ∙ can in
+      record { below = k; is = refl; least = omega (arith, high); inner_is = two.inner_is ∙ middle-centred f k; outside = border-outside f k border o }
+  | inr low ↦
+      let d : depth (centred f (suc (suc k))) ≡ suc (suc k) = depth_is (centred-depth f (suc (suc k))) in
+      absurd (true_false (can_trim (centred f (suc (suc k))) m) can (can-not (centred f (suc (suc k))) m (omega (arith, d, low))))
+]
+  where
+    deeper : (m n : ℕ) → (m < n) ⊎ (n ≤ m)
+    deeper m n = grind arith
+
+-- so trimming goes through squares of lower levels
+record Through (P : Tree → Type 0) (f : ℤ → ℤ → ℕ) (m k : ℕ) : Type 0 where
+  level : ℕ
+  least : m ≤ level
+  lower : level < suc k
+  outside : IsBlankOutside level f
+  holds : P (centred f level)
+
+trimmed-through : (P : Tree → Type 0) (f : ℤ → ℤ → ℕ) (m n k : ℕ) → 1 ≤ m → IsBlankOutside (suc k) f → can_trim (trim_up_to n (centred f (suc k)) m) m ≡ true
+    → P (inner (trim_up_to n (centred f (suc k)) m)) → Through P f m k
+trimmed-through P f m zero k le o can p =
+    let s = smaller-centred f m k le o can in
+    record { level = suc s.below; least = s.least; lower = omega (arith, s.is); outside = s.outside; holds = subst P s.inner_is p }
+trimmed-through P f m (suc n) k le o can p = elim (bool_cases (can_trim (centred f (suc k)) m)) [
+  | inl can_be ↦
+      let s = smaller-centred f m k le o can_be in
+      let e : trim_up_to (suc n) (centred f (suc k)) m ≡ trim_up_to n (centred f (suc s.below)) m =
+      go n (centred f (suc k)) m can_be ∙ ap (λ (t : Tree). trim_up_to n t m) s.inner_is in
+      let r = trimmed-through P f m n s.below le s.outside (sym (ap (λ (t : Tree). can_trim t m) e) ∙ can) (subst (λ (t : Tree). P (inner t)) e p) in
+      record { level = r.level; least = r.least; lower = omega (arith, r.lower, s.is); outside = r.outside; holds = r.holds }
+  | inr cannot ↦
+      let e = stop (suc n) (centred f (suc k)) m cannot in
+      absurd (true_false (can_trim (centred f (suc k)) m) (sym (ap (λ (t : Tree). can_trim t m) e) ∙ can) cannot)
+]
+
+-- ---- the root of a pattern
+
+one-more : (n : ℕ) → 1 ≤ n → n ≡ suc (n - 1)
+one-more n h = omega arith
+
+-- it is grown
+pub root-grown : (P : Tree → Type 0) (u : Universe) (t : Tree) → IsFull t → 1 ≤ depth t → ((x y : ℤ) → tree_cell t x y ≡ u.cell x y) → SomeGrown P t (least_level u.rule)
+    → SomeRoot P u (depth t)
+root-grown P u t full h cells s =
+    let k : ℕ = depth t - 1 in
+    let d : depth t ≡ suc k = one-more (depth t) h in
+    let c = is-centred u.cell t k full d cells in
+    let e : grown_times (suc s.more) t ≡ centred u.cell (suc (suc s.more + k)) = grown-centred u.cell (suc s.more) k t c.0 c.1 in
+    grown_root (suc (suc s.more + k)) (omega (arith, d)) (omega (arith, d, s.low)) (subst (SomePart P) e s.part)
+
+-- it is trimmed, from the level of the root or from the least one
+pub root-trimmed : (P : Tree → Type 0) (u : Universe) (t : Tree) (n : ℕ) → IsFull t → depth t ≡ max (least_level u.rule) n → ((x y : ℤ) → tree_cell t x y ≡ u.cell x y)
+    → SomeTrimmed P t (least_level u.rule) → SomeRoot P u n
+root-trimmed P u t n full high cells s =
+    let m = least_level u.rule in
+    let one = least-one u.rule in
+    let k : ℕ = depth t - 1 in
+    let d : depth t ≡ suc k = one-more (depth t) (omega (arith, high, one)) in
+    let c = is-centred u.cell t k full d cells in
+    let r = trimmed-through P u.cell m s.steps k one c.1 (sym (ap (λ (v : Tree). can_trim (trim_up_to s.steps v m) m) (c.0)) ∙ s.can)
+    (subst (λ (v : Tree). P (inner (trim_up_to s.steps v m))) c.0 s.smaller) in
+    trimmed_root r.level r.least (omega (arith, r.least, r.lower, d, high)) r.outside r.holds
+
+-- ---- runs
+
+-- the square of the runs before the next one
+pub runs-above : (P : Tree → Type 0) (before so_far : List GivenRun) (runs : List Run) (i : ℕ) (d : Run) → i < length runs → so_far ≡ before ++ map given (take i runs)
+    → SomeSquare P (nat_abs ((get_or runs i d).y +ℤ pos half_plane)) (by_columns (state_by so_far)) → SomeOfRuns P (before ++ map given runs)
+runs-above P before so_far runs i d h e s =
+    let split : runs ≡ take i runs ++ get_or runs i d ∷ drop (suc i) runs =
+    sym (take-append-drop i runs) ∙ ap (λ (l : List Run). take i runs ++ l) (drop-cons runs i d h) in
+    record {
+      before = so_far;
+      run = given (get_or runs i d);
+      behind = map given (drop (suc i) runs);
+      are = ap (λ (l : List Run). before ++ map given l) split
+          ∙ ap (λ (l : List GivenRun). before ++ l) (map-append given (take i runs) (get_or runs i d ∷ drop (suc i) runs))
+          ∙ sym (append_assoc before (map given (take i runs)) (given (get_or runs i d) ∷ map given (drop (suc i) runs)))
+          ∙ ap (λ (l : List GivenRun). l ++ given (get_or runs i d) ∷ map given (drop (suc i) runs)) (sym e);
+      above = s;
+    }
+
+-- the runs of a line, behind those of the lines before it
+pub line-runs : (P : Tree → Type 0) (lines : List (List ℕ)) (before runs : List Run) (so_far : List GivenRun) (given_now : List Run) → HasRuns MAX_LEVEL lines (before ++ runs)
+    → so_far ≡ map given before → given_now ≡ runs → SomeOfRuns P (so_far ++ map given given_now) → SomeOfLines MAX_LEVEL P lines
+line-runs P lines before runs so_far given_now h e f s =
+    of_runs lines [] (before ++ runs) (sym (append-nil lines)) h
+    (subst (SomeOfRuns P) (ap (λ (l : List GivenRun). l ++ map given given_now) e ∙ ap (λ (l : List Run). map given before ++ map given l) f ∙ sym (map-append given before runs)) s)
+
+-- the same square of other runs with the same cells
+pub same-square : {P : Tree → Type 0} (rows : ℕ) (f g : ℤ → ℤ → ℕ) → ((x y : ℤ) → f x y ≡ g x y) → SomeSquare P rows (by_columns f) → SomeSquare P rows (by_columns g)
+same-square rows f g e s =
+    record {
+      square = s.square;
+      full = s.full;
+      deep = s.deep;
+      column = s.column;
+      row = s.row;
+      east = s.east;
+      south = s.south;
+      cells = λ i j li lj. s.cells i j li lj ∙ e (pos (s.column * 2 ^ depth s.square + i) -ℤ pos half_plane) (pos (s.row * 2 ^ depth s.square + j) -ℤ pos half_plane);
+      property = s.property;
+    }
+
+-- ---- lines
+
+-- more lines behind them
+pub more-lines : (P : Tree → Type 0) (front more all : List (List ℕ)) → all ≡ front ++ more → SomeOfLines MAX_LEVEL P front → SomeOfLines MAX_LEVEL P all
+more-lines P front more all e (of_node_line before line behind square whole prefix squares some) =
+    of_node_line before line (behind ++ more) square
+    (e ∙ ap (λ (ls : List (List ℕ)). ls ++ more) whole ∙ append_assoc before (line ∷ behind) more) prefix squares some
+more-lines P front more all e (of_runs begun behind runs whole are some) =
+    of_runs begun (behind ++ more) runs (e ∙ ap (λ (ls : List (List ℕ)). ls ++ more) whole ∙ append_assoc begun behind more) are some
+
+-- the line that ends, and lines behind it
+pub ended-needs : (P : Tree → Type 0) (bytes kept end rest : List ℕ) (ended : ℕ) (lines : List (List ℕ)) → IsGoing bytes kept ended lines → has_no_feed end ≡ true
+    → SomeOfLines MAX_LEVEL P (lines ++ (kept ++ end) ∷ []) → SomeOfLines MAX_LEVEL P (whole_lines (bytes ++ end ++ 10 ∷ [] ++ rest))
+ended-needs P bytes kept end rest ended lines g h =
+    more-lines P (lines ++ (kept ++ end) ∷ []) (whole_lines rest) (whole_lines (bytes ++ end ++ 10 ∷ [] ++ rest))
+    (whole-at bytes kept end rest ended lines g h ∙ sym (append_assoc lines ((kept ++ end) ∷ []) (whole_lines rest)))
+
+-- the whole lines are the first lines of the file
+pub whole-needs : (P : Tree → Type 0) (bytes : List ℕ) → SomeOfLines MAX_LEVEL P (whole_lines bytes) → SomeOfFile MAX_LEVEL P (lines_of bytes)
+whole-needs P bytes s = of_lines (more-lines P (whole_lines bytes) (one_line (rest_line bytes)) (lines_of bytes) (lines_are_whole bytes) s)
+
+-- what the end of the lines that were taken needs, the end of the file needs
+pub end-needs : (P : Tree → Type 0) (bytes : List ℕ) (ended : ℕ) (p : Progress) → IsEnd bytes ended p → SomeAtEnd MAX_LEVEL P (taken p) → SomeAtEnd MAX_LEVEL P (lines_of bytes)
+end-needs P bytes ended p e (of_plane u says rle some) =
+    let more = end-lines bytes ended p u e says in
+    of_plane u (end-says bytes ended p u e says) (ap is_macrocell more.1 ∙ more.2 ∙ rle) some
+end-needs P bytes ended p e (of_root u says some) =
+    let more = end-lines bytes ended p u e says in
+    of_root u (end-says bytes ended p u e says) (subst (SomeRoot P u) (sym more.3) some)
+
+-- ---- kinds
+
+-- a fault that is want of room is of that kind
+pub kind-full : (n : ℕ) (kind : Kind) → fault_at n kind ≡ fault_of Full → kind ≡ Full
+kind-full n kind e = ap (λ (f : Fault). f.kind) e

@@ -1,0 +1,86 @@
+-- The squares that reading a file has to store. Of these a refusal for want of room names one that the store lacks.
+use Rattle.std.specs.Prelude.{◌≡◌, ℕ, zero, suc, ◌+◌, ◌-◌, ◌^◌, ◌<◌, ◌≤◌, false, max, if◌then◌else◌, List, [], ◌∷◌, ◌++◌, map, Contains, nat_abs, ◌+ℤ◌, pos}
+use Rattle.life_base.specs.Lines.{whole_lines}
+use Rattle.life_base.specs.Refusal.{Prefix}
+use Rattle.life_base.specs.Text.{lines_of}
+use Rattle.life_base.specs.Tree.{Tree, quad, depth, is_blank_tree}
+use Rattle.life_mc.specs.Cells.{root_level}
+use Rattle.life_mc.specs.Reading.{squares_of, Accepts as IsSomeMacrocell}
+use Rattle.life_mc.specs.Squares.{tree_of, leaf_tree}
+use Rattle.life_mc.specs.declared.line.Line.{Line}
+use Rattle.life_mc.specs.declared.line.Line.TheVariants.{Leaf, Quad}
+use Rattle.life_quad.specs.Moves.{grown}
+use Rattle.life_quad.specs.Refused.{SomePart}
+use Rattle.life_quad.specs.Store.{Nodes, held}
+use Rattle.life_rle.specs.File.{HasRuns}
+use Rattle.life_rle.specs.declared.file.Run.{Run}
+use Rattle.life_strip.specs.Given.{GivenRun, half_plane, state_by, by_columns}
+use Rattle.life_strip.specs.Needed.{SomeSquare}
+use Rattle.life_canon.specs.Building.{given}
+use Rattle.life_canon.specs.Files.{Says, is_macrocell}
+use Rattle.life_canon.specs.Universe.{Universe, IsBlankOutside, least_level, centred}
+
+-- a square that isn't blank and that the store doesn't hold
+abbrev pub IsNew : Nodes → Tree → Type 0
+IsNew store t = (is_blank_tree t ≡ false) × ¬ Contains (held store) t
+
+-- a square of a node line behind these has a property: the square of the line, or a part of a leaf
+abbrev pub SomeOfLine : (Tree → Type 0) → List Line → Line → Type 0
+SomeOfLine P lines (Leaf rows) = SomePart P (leaf_tree rows)
+SomeOfLine P lines (Quad level nw ne sw se) =
+    P (quad (tree_of lines (level - 1) nw) (tree_of lines (level - 1) ne) (tree_of lines (level - 1) sw) (tree_of lines (level - 1) se))
+
+-- a square of runs has a property: a square of the plane above the row in which one of them begins, with the cells of the runs before it
+pub record SomeOfRuns (P : Tree → Type 0) (runs : List GivenRun) : Type 0 where
+  pub before : List GivenRun
+  pub run : GivenRun
+  pub behind : List GivenRun
+  pub are : runs ≡ before ++ run ∷ behind
+  pub above : SomeSquare P (nat_abs (run.y +ℤ pos half_plane)) (by_columns (state_by before))
+
+-- a square of the front of a file has a property: of a node line, or of the runs so far
+pub data SomeOfLines (top : ℕ) (P : Tree → Type 0) (lines : List (List ℕ)) : Type 0 where
+  of_node_line : (before : List (List ℕ)) (line : List ℕ) (behind : List (List ℕ)) (square : Line) → lines ≡ before ++ line ∷ behind
+      → Prefix (IsSomeMacrocell top) (before ++ line ∷ []) → squares_of (before ++ line ∷ []) ≡ squares_of before ++ square ∷ []
+      → SomeOfLine P (squares_of before) square → SomeOfLines top P lines
+  of_runs : (front behind : List (List ℕ)) (runs : List Run) → lines ≡ front ++ behind → HasRuns top front runs → SomeOfRuns P (map given runs)
+      → SomeOfLines top P lines
+
+-- the square, grown as often as this
+abbrev pub grown_times : ℕ → Tree → Tree
+grown_times zero t = t
+grown_times (suc n) t = grown_times n (grown t)
+
+-- a part of a square has a property that is grown from this one, up to a level
+pub record SomeGrown (P : Tree → Type 0) (t : Tree) (level : ℕ) : Type 0 where
+  pub more : ℕ
+  pub low : depth t + suc more ≤ level
+  pub part : SomePart P (grown_times (suc more) t)
+
+-- A square has a property that a pattern's root goes through: from a root of level n it is trimmed to each lower one with all nonzero cells,
+-- down to the least level, or grown up to the least level.
+pub data SomeRoot (P : Tree → Type 0) (u : Universe) (n : ℕ) : Type 0 where
+  trimmed_root : (level : ℕ) → least_level u.rule ≤ level → level < n → IsBlankOutside level u.cell → P (centred u.cell level) → SomeRoot P u n
+  grown_root : (level : ℕ) → n < level → level ≤ least_level u.rule → SomePart P (centred u.cell level) → SomeRoot P u n
+
+-- the level of the root that lines give: that of the last node line, or of the whole plane
+abbrev pub level_of_root : ℕ → List (List ℕ) → ℕ
+level_of_root top lines = if is_macrocell lines then max 1 (root_level (squares_of lines)) else top
+
+-- a square at the end of a file has a property: of the whole plane, which is filled to its last row under RLE, or of the root
+pub data SomeAtEnd (top : ℕ) (P : Tree → Type 0) (lines : List (List ℕ)) : Type 0 where
+  of_plane : (u : Universe) → Says top lines u → is_macrocell lines ≡ false → SomeSquare P (2 ^ top) (by_columns u.cell) → SomeAtEnd top P lines
+  of_root : (u : Universe) → Says top lines u → SomeRoot P u (level_of_root top lines) → SomeAtEnd top P lines
+
+-- a square of a file has a property
+pub data SomeOfFile (top : ℕ) (P : Tree → Type 0) (lines : List (List ℕ)) : Type 0 where
+  of_lines : SomeOfLines top P lines → SomeOfFile top P lines
+  at_end : SomeAtEnd top P lines → SomeOfFile top P lines
+
+-- the store lacks a square of the lines that have ended
+abbrev pub LacksForFront : ℕ → List ℕ → Nodes → Type 0
+LacksForFront top bytes store = SomeOfLines top (IsNew store) (whole_lines bytes)
+
+-- the store lacks a square of the file
+abbrev pub LacksFor : ℕ → List ℕ → Nodes → Type 0
+LacksFor top bytes store = SomeOfFile top (IsNew store) (lines_of bytes)
