@@ -1,4 +1,5 @@
--- The squares that reading a file has to store. Of these a refusal for want of room names one that the store lacks.
+-- The squares that are stored while a file is read: those of its node lines, or of the plane that its runs fill, and those through which its
+-- root is grown or trimmed. After `Full` the store lacks one of them. The project's own.
 use Rattle.std.specs.Prelude.{◌≡◌, ℕ, zero, suc, ◌+◌, ◌-◌, ◌^◌, ◌<◌, ◌≤◌, false, max, if◌then◌else◌, List, [], ◌∷◌, ◌++◌, map, Contains, nat_abs, ◌+ℤ◌, pos}
 use Rattle.life_base.specs.Lines.{whole_lines}
 use Rattle.life_base.specs.Refusal.{Prefix}
@@ -51,19 +52,19 @@ abbrev pub grown_times : ℕ → Tree → Tree
 grown_times zero t = t
 grown_times (suc n) t = grown_times n (grown t)
 
--- a part of a square has a property that is grown from this one, up to a level
+-- a square that is grown from this one, of this level at most, or a part of it, has a property
 pub record SomeGrown (P : Tree → Type 0) (t : Tree) (level : ℕ) : Type 0 where
   pub more : ℕ
   pub low : depth t + suc more ≤ level
   pub part : SomePart P (grown_times (suc more) t)
 
--- A square has a property that a pattern's root goes through: from a root of level n it is trimmed to each lower one with all nonzero cells,
--- down to the least level, or grown up to the least level.
+-- A square has a property through which the root of a pattern, of level n, goes: trimmed, the square about (0, 0) of a lower level, the least one
+-- or above it, that has all nonzero cells; grown, that of a higher level, up to the least one, or a part of it.
 pub data SomeRoot (P : Tree → Type 0) (u : Universe) (n : ℕ) : Type 0 where
   trimmed_root : (level : ℕ) → least_level u.rule ≤ level → level < n → IsBlankOutside level u.cell → P (centred u.cell level) → SomeRoot P u n
   grown_root : (level : ℕ) → n < level → level ≤ least_level u.rule → SomePart P (centred u.cell level) → SomeRoot P u n
 
--- the level of the root that lines give: that of the last node line, or of the whole plane
+-- the level of the root that lines give: that of the last node line, 1 where there is none, or that of the whole plane under RLE
 abbrev pub level_of_root : ℕ → List (List ℕ) → ℕ
 level_of_root top lines = if is_macrocell lines then max 1 (root_level (squares_of lines)) else top
 
