@@ -1,14 +1,17 @@
 -- The table of a list of Ids.
-use Rattle.std.proofs.Common.{◌≡◌, ◌≢◌, ◌↔◌, ℕ, zero, suc, ◌+◌, ◌-◌, ◌<◌, List, [], ◌∷◌, ◌++◌, length, get_or, Some, slice_get, ◌⊎◌, inl, inr, refl, ap, sym, ◌∙◌, arith, Contains, IsTrue, not, eqb}
+use Rattle.std.proofs.Common.{◌≡◌, ◌≢◌, ◌↔◌, ℕ, zero, suc, ◌+◌, ◌-◌, ◌<◌, List, [], ◌∷◌, ◌++◌, length, get_or, Some, slice_get, ◌⊎◌, inl, inr, refl, ap, sym, ◌∙◌, arith, Contains, IsTrue, not, eqb, ◌≤◌, set, get_or-set_same, get_or-set_other, length-set, map}
 use Rattle.std.specs.Prelude.{AllPairs}
-use Rattle.std.proofs.lemmas.List.{get_or_append_left}
+use Rattle.std.proofs.lemmas.List.{get_or_append_left, map-append}
 use Rattle.std.proofs.Math.Seq.{get_or-append_seam}
 use Rattle.std.proofs.lemmas.Bool.{false≢true}
 use Rattle.std.proofs.lemmas.Grind.{common_steps}
 use Rattle.std.proofs.lemmas.Option.{slice_get-get_or, slice_get_within, get_or_from_slice_get, same_Some}
 use Rattle.std.proofs.Common.{length-append}
 use Rattle.life_quad.specs.declared.id.Id.{Id}
+use Rattle.indexmap.proofs.IndexTableLemmas.Probe.{pigeonhole}
 use Rattle.life_quad.specs.IdList.{HasPlaces}
+use Rattle.life_quad.specs.IdNumbers.{number_at}
+use Rattle.life_quad.specs.Store.{id_of}
 use Rattle.life_quad.proofs.MapLemmas.{same_number}
 
 -- an Id has one place
@@ -76,3 +79,35 @@ one_more ids old new id place h set others absent is = record {
         slice_get-front ids id i (slice_get_within ids i q f) ∙ f
   ];
 }
+
+-- ---- numbers that stand in a list at those of the Ids
+
+beyond : (numbers : List ℕ) (k n : ℕ) → get_or numbers k 0 ≡ suc n → k < length numbers
+beyond [] k n e = absurd (omega (arith, e))
+beyond (x ∷ numbers) zero n e = omega arith
+beyond (x ∷ numbers) (suc k) n e = omega (arith, beyond numbers k n e)
+
+-- there are no more Ids than numbers that they may have
+pub few : (ids : List Id) (numbers : List ℕ) → HasPlaces ids (number_at numbers) → length ids ≤ length numbers
+few ids numbers h =
+    let d : Id = record { 0 = 0 } in
+    let at : (i : ℕ) → i < length ids → number_at numbers (get_or ids i d) ≡ suc i = λ i l. h.listed i (get_or ids i d) (slice_get-get_or ids i d l) in
+    pigeonhole (length ids) (length numbers) (λ i. (get_or ids i d).0) (λ i l. beyond numbers (get_or ids i d).0 i (at i l))
+    (λ i j l m e. let g : suc i ≡ suc j = sym (at i l) ∙ ap (number_at numbers) (same_number (get_or ids i d) (get_or ids j d) e) ∙ at j m in omega arith)
+
+-- one more Id, with the next number
+pub one_numbered : (ids : List Id) (numbers : List ℕ) (id : Id) (number : ℕ) → HasPlaces ids (number_at numbers) → ¬ Contains ids id → id.0 < length numbers → number ≡ length ids + 1
+    → HasPlaces (ids ++ id ∷ []) (number_at (set numbers id.0 number))
+one_numbered ids numbers id number h absent room is =
+    one_more ids (number_at numbers) (number_at (set numbers id.0 number)) id number h (get_or-set_same numbers id.0 number 0 room)
+    (λ q o. get_or-set_other numbers id.0 q.0 number 0 (λ e. o (same_number q id e))) absent is
+
+-- there is a number for it
+pub number_left : (ids : List Id) (numbers : List ℕ) (id : Id) → HasPlaces ids (number_at numbers) → ¬ Contains ids id → id.0 < length numbers → length ids < length numbers
+number_left ids numbers id h absent room =
+    let p = few (ids ++ id ∷ []) (set numbers id.0 (length ids + 1)) (one_numbered ids numbers id (length ids + 1) h absent room refl) in
+    omega (arith, p, length-append ids (id ∷ []), length-set numbers id.0 (length ids + 1))
+
+-- the numbers of a list's Ids, and one more
+pub ids_more : (log more : List ℕ) (id : Id) → more ≡ log ++ id.0 ∷ [] → map id_of more ≡ map id_of log ++ id ∷ []
+ids_more log more id e = ap (map id_of) e ∙ map-append id_of log (id.0 ∷ [])

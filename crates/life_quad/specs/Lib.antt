@@ -12,3 +12,4 @@ pub mod Laws
 pub mod IdList
 pub mod Pages
 pub mod IdMap
+pub mod IdNumbers

@@ -13,7 +13,7 @@ use crate::{Id, SharedSquares, Squares};
 use life_base::Kind;
 use std::alloc::Global;
 
-// A side of a square.
+/// A side of a square.
 #[derive(Clone, Copy)]
 pub(crate) enum Side {
     North,
@@ -22,11 +22,11 @@ pub(crate) enum Side {
     East,
 }
 
-// What the table has for a square that was not visited: no square is so large.
+/// What the table has for a square that was not visited: no square is so large.
 pub(crate) const UNKNOWN: u64 = u64::MAX;
 
-// The least distance of a nonzero cell from a side, in columns or rows: 0 for a cell that touches it. A blank square has none. At most
-// the squares that reach nearest to the side are visited, and each shared one once.
+/// The least distance of a nonzero cell from a side, in columns or rows: 0 for a cell that touches it. A blank square has none. At most
+/// the squares that reach nearest to the side are visited, and each shared one once.
 pub(crate) fn least_distance<S: SharedSquares>(
     alloc: Global,
     squares: &S,
@@ -41,7 +41,7 @@ pub(crate) fn least_distance<S: SharedSquares>(
     find(squares, side, squares.level(id), id, &mut known)
 }
 
-// The quarters of a square as they are seen with a side in the north.
+/// The quarters of a square as they are seen with a side in the north.
 fn facing<S: Squares>(squares: &S, side: Side, id: Id) -> Quarters
     requires known { S.knows squares.now id }
     requires deep { 1 ≤ depth (S.content squares.now id) }
@@ -79,7 +79,7 @@ fn facing<S: Squares>(squares: &S, side: Side, id: Id) -> Quarters
     }
 }
 
-// The lesser of two distances, of which either may be none.
+/// The lesser of two distances, of which either may be none.
 fn lesser(a: Option<u64>, b: Option<u64>) -> Option<u64>
     ensures { result ≡ lesser_of a b }
 {
@@ -90,7 +90,7 @@ fn lesser(a: Option<u64>, b: Option<u64>) -> Option<u64>
     }
 }
 
-// The least distance in a square of a level, where `known` has those of squares that were visited.
+/// The least distance in a square of a level, where `known` has those of squares that were visited.
 fn find<S: Squares>(
     squares: &S,
     side: Side,

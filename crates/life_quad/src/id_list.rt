@@ -14,7 +14,7 @@ use std::marker::Model;
 #[derive(Drop)]
 pub struct IdList {
     ids: Vec<Id>,
-    // The place of an Id, counted from 1, or 0 where it isn't in the list.
+    /// The place of an Id, counted from 1, or 0 where it isn't in the list.
     places: IdMap<u32>,
 }
 
@@ -41,7 +41,7 @@ impl IdList {
         IdList { ids, places }
     }
 
-    // The place of an Id counted from 1, or 0 where it isn't in the list.
+    /// The place of an Id counted from 1, or 0 where it isn't in the list.
     fn number(&self, id: Id) -> u32
         ensures absent { result ≡ 0 → ¬ Contains self.now id }
         ensures there { 0 < result → slice_get self.now (result - 1) ≡ Some id }
@@ -70,7 +70,11 @@ impl IdList {
         self.number(id) != 0
     }
 
-    /// Adds an Id at the end, unless it is there. A refusal, by `Memory` alone, leaves the list as it was.
+    /// Adds an Id at the end, unless it is there.
+    ///
+    /// # Errors
+    ///
+    /// `Memory`, and nothing else. The list is then as it was.
     pub fn insert(&mut self, id: Id) -> Result<(), Kind>
         ensures there { OnOk result (Contains self.old id → self.new ≡ self.old) }
         ensures added { OnOk result (¬ Contains self.old id → self.new ≡ self.old ++ id ∷ []) }

@@ -10,20 +10,20 @@ use life_base::Kind;
 use std::alloc::Global;
 use std::marker::Model;
 
-// How many numbers a page has.
+/// How many numbers a page has.
 const PAGE: u64 = 256;
 
-// What stands for the first index of a page that wasn't made: no value has it.
+/// What stands for the first index of a page that wasn't made: no value has it.
 const NONE: u32 = u32::MAX;
 
-// A value for each Id, found by its number in two steps: the absent one, until another is set. The values stand in pages of 256 numbers that
-// follow, each made when the first of them is set: so a few squares take little room, whatever their numbers are, and many take one value for
-// each number and a 256th more.
+/// A value for each Id, found by its number in two steps: the absent one, until another is set. The values stand in pages of 256 numbers that
+/// follow, each made when the first of them is set: so a few squares take little room, whatever their numbers are, and many take one value for
+/// each number and a 256th more.
 #[derive(Drop)]
 pub(crate) struct IdMap<T: Copy> {
-    // By the number of a page: the index of its first value.
+    /// By the number of a page: the index of its first value.
     starts: Vec<u32>,
-    // The pages, in the order in which they were made.
+    /// The pages, in the order in which they were made.
     values: Vec<T>,
     absent: T,
 }
@@ -39,7 +39,7 @@ impl<T: Copy> Model for IdMap<T> {
     ghost invariant = { λ m. ArePages m.starts.items (length m.values.items) };
 }
 
-// The index of a number's value. Where its page wasn't made it is behind all values.
+/// The index of a number's value. Where its page wasn't made it is behind all values.
 fn index_of(starts: &[u32], number: u64) -> usize
     ensures { result ≡ index_in starts.now number }
 {
@@ -50,7 +50,7 @@ fn index_of(starts: &[u32], number: u64) -> usize
     start as usize + (number % PAGE) as usize
 }
 
-// Gives the number of a page a place, without a page.
+/// Gives the number of a page a place, without a page.
 fn make_place(starts: &mut Vec<u32>, page: u64) -> Result<(), Kind>
     ensures room { OnOk result (page < vec_len starts.new) }
     ensures same { (n : ℕ) → slice_index_or starts.new.items n 4294967295 ≡ slice_index_or starts.old.items n 4294967295 }
@@ -67,7 +67,7 @@ fn make_place(starts: &mut Vec<u32>, page: u64) -> Result<(), Kind>
 }
 
 impl<T: Copy> IdMap<T> {
-    // The absent value for every Id. It takes no memory.
+    /// The absent value for every Id. It takes no memory.
     pub(crate) fn new(alloc: Global, absent: T) -> IdMap<T>
         ensures { (q : IdValue) → value_of result q ≡ absent }
     {
@@ -80,7 +80,7 @@ impl<T: Copy> IdMap<T> {
         }
     }
 
-    // The value of an Id.
+    /// The value of an Id.
     pub(crate) fn get(&self, id: Id) -> T
         ensures { result ≡ value_of self.now id }
     {
@@ -90,7 +90,7 @@ impl<T: Copy> IdMap<T> {
         }
     }
 
-    // Makes the page of an Id. Each value stays as it was, also where `Memory` refuses the page.
+    /// Makes the page of an Id. Each value stays as it was, also where `Memory` refuses the page.
     pub(crate) fn make_room(&mut self, id: Id) -> Result<(), Kind>
         ensures room { OnOk result (HasRoom self.new id) }
         ensures same { (q : IdValue) → value_of self.new q ≡ value_of self.old q }
@@ -110,7 +110,7 @@ impl<T: Copy> IdMap<T> {
         Ok(())
     }
 
-    // Sets the value of an Id whose page was made.
+    /// Sets the value of an Id whose page was made.
     pub(crate) fn put(&mut self, id: Id, value: T)
         requires { HasRoom self.old id }
         ensures set { value_of self.new id ≡ value }
@@ -120,7 +120,7 @@ impl<T: Copy> IdMap<T> {
         self.values[index] = value;
     }
 
-    // Sets the value of an Id. A refusal, by `Memory` alone, leaves each value as it was.
+    /// Sets the value of an Id. A refusal, by `Memory` alone, leaves each value as it was.
     pub(crate) fn set(&mut self, id: Id, value: T) -> Result<(), Kind>
         ensures only { (q : IdValue) → (value_of self.new q ≡ value_of self.old q) ⊎ ((q ≡ id) × (value_of self.new q ≡ value)) }
         ensures set { OnOk result (value_of self.new id ≡ value) }

@@ -6,7 +6,7 @@ ghost use Rattle.std.specs.Coded.{coded_list, coded_ℕ};
 
 use std::marker::Model;
 
-// The numbers so far. Code can neither read nor compare them; they exist in contracts and proofs alone.
+/// The numbers so far. Code can neither read nor compare them; they exist in contracts and proofs alone.
 #[derive(Drop)]
 pub(crate) struct JoinLog {
     pub(crate) ghost ids: { List ℕ } by { coded_list coded_ℕ },
@@ -17,14 +17,14 @@ impl Model for JoinLog {
 }
 
 impl JoinLog {
-    // None.
+    /// None.
     pub(crate) fn new() -> JoinLog
         ensures { result.ids ≡ [] }
     {
         Self {}
     }
 
-    // The numbers so far, and these.
+    /// The numbers so far, and these.
     pub(crate) fn then(&self, ids: &[u64]) -> JoinLog
         ensures { result.ids ≡ self.now.ids ++ ids.now }
     {

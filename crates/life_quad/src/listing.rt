@@ -15,14 +15,18 @@ use crate::{Id, Squares};
 use life_base::{Cell, Kind, MAX_LEVEL};
 use std::alloc::Global;
 
-// A square and the column of its western side.
+/// A square and the column of its western side.
 #[derive(Clone, Copy)]
 struct Placed {
     square: Id,
     column: i64,
 }
 
-/// The cells with a state other than 0, row by row, unless there are more than `limit`.
+/// The cells with a state other than 0, row by row.
+///
+/// # Errors
+///
+/// `TooManyCells` where there are more than `limit`, and `Memory`.
 pub fn cells<S: Squares>(alloc: Global, squares: &S, id: Id, limit: u64) -> Result<Vec<Cell>, Kind>
     requires known { S.knows squares.now id }
     requires high { 1 ≤ depth (S.content squares.now id) }
@@ -41,7 +45,7 @@ pub fn cells<S: Squares>(alloc: Global, squares: &S, id: Id, limit: u64) -> Resu
     Ok(list)
 }
 
-// The least column and row of a square.
+/// The least column and row of a square.
 fn least_coordinate(level: u8) -> i64
     requires low { 1 ≤ level }
     requires high { level ≤ MAX_LEVEL }
@@ -52,7 +56,7 @@ fn least_coordinate(level: u8) -> i64
     -(half_side(level) as i64)
 }
 
-// The column or row that is half a side further.
+/// The column or row that is half a side further.
 fn further(coordinate: i64, level: u8) -> i64
     requires low { 1 ≤ level }
     requires high { level ≤ MAX_LEVEL }
@@ -63,7 +67,7 @@ fn further(coordinate: i64, level: u8) -> i64
     coordinate + half_side(level) as i64
 }
 
-// One more square at the end of a band.
+/// One more square at the end of a band.
 fn place(band: &mut Vec<Placed>, square: Id, column: i64) -> Result<(), Kind>
     ensures ok { OnOk result (band.new.items ≡ band.old.items ++ (record { square = square; column = column }) ∷ []) }
     ensures refusals { IfErr result (λ e. e ≡ Memory) }
@@ -72,7 +76,7 @@ fn place(band: &mut Vec<Placed>, square: Id, column: i64) -> Result<(), Kind>
     Ok(())
 }
 
-// The same, unless the square is blank.
+/// The same, unless the square is blank.
 fn keep<S: Squares>(
     squares: &S,
     band: &mut Vec<Placed>,
@@ -95,7 +99,7 @@ fn keep<S: Squares>(
     place(band, square, column)
 }
 
-// The northern quarters of a square at the end of one band, and its southern ones at the end of another.
+/// The northern quarters of a square at the end of one band, and its southern ones at the end of another.
 fn split<S: Squares>(
     squares: &S,
     placed: Placed,
@@ -122,7 +126,7 @@ fn split<S: Squares>(
     keep(squares, south, level - 1, se, east)
 }
 
-// The upper and the lower half of a band.
+/// The upper and the lower half of a band.
 fn halves<S: Squares>(
     alloc: Global,
     squares: &S,
@@ -145,7 +149,7 @@ fn halves<S: Squares>(
     Ok((north, south))
 }
 
-// The cells of a band of level 0 at the end of a list.
+/// The cells of a band of level 0 at the end of a list.
 fn append_row<S: Squares>(
     squares: &S,
     band: &[Placed],
@@ -170,7 +174,7 @@ fn append_row<S: Squares>(
     Ok(())
 }
 
-// The cells of a band at the end of a list that may have at most `limit`.
+/// The cells of a band at the end of a list that may have at most `limit`.
 fn append_band<S: Squares>(
     alloc: Global,
     squares: &S,

@@ -43,7 +43,11 @@ pub fn divide<S: Squares>(squares: &S, id: Id) -> Quarters
     }
 }
 
-/// One level higher, with the square in the middle. A refused call leaves the square of every Id.
+/// One level higher, with the square in the middle.
+///
+/// # Errors
+///
+/// `Full` where a square is new and the store holds its limit, and `Memory`. After either each Id has its square.
 pub fn grow<S: Squares>(squares: &mut S, id: Id) -> Result<Id, Kind>
     requires known { S.knows squares.old id }
     requires low { 1 ≤ depth (S.content squares.old id) }
@@ -67,7 +71,7 @@ pub fn grow<S: Squares>(squares: &mut S, id: Id) -> Result<Id, Kind>
     squares.join(north_west, north_east, south_west, south_east)
 }
 
-// The square of the four inner grandchildren.
+/// The square of the four inner grandchildren.
 fn middle<S: Squares>(squares: &mut S, id: Id) -> Result<Id, Kind>
     requires known { S.knows squares.old id }
     requires deep { 2 ≤ depth (S.content squares.old id) }
@@ -106,7 +110,7 @@ pub fn is_blank_at<S: Squares>(squares: &S, level: u8, id: Id) -> bool
     id == squares.empty(level)
 }
 
-// Whether a square is above the least level, and its twelve outer grandchildren are blank.
+/// Whether a square is above the least level, and its twelve outer grandchildren are blank.
 fn can_be_trimmed<S: Squares>(squares: &S, id: Id, least: u8) -> bool
     requires known { S.knows squares.now id }
     requires positive { 1 ≤ least }
@@ -126,7 +130,7 @@ fn can_be_trimmed<S: Squares>(squares: &S, id: Id, least: u8) -> bool
         && are_three_blank(squares, se.ne, se.sw, se.se)
 }
 
-// Whether three squares are blank.
+/// Whether three squares are blank.
 fn are_three_blank<S: Squares>(squares: &S, a: Id, b: Id, c: Id) -> bool
     requires a { S.knows squares.now a }
     requires b { S.knows squares.now b }
@@ -137,6 +141,10 @@ fn are_three_blank<S: Squares>(squares: &S, a: Id, b: Id, c: Id) -> bool
 }
 
 /// While the square is above the least level and its outer grandchildren are blank, the square of its inner ones.
+///
+/// # Errors
+///
+/// `Full` where a square is new and the store holds its limit, and `Memory`. After either each Id has its square.
 pub fn trim<S: Squares>(squares: &mut S, id: Id, least: u8) -> Result<Id, Kind>
     requires known { S.knows squares.old id }
     requires positive { 1 ≤ least }

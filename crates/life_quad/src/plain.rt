@@ -15,7 +15,7 @@ use std::marker::Model;
 #[derive(Drop)]
 pub struct Plain {
     nodes: Vec<Node>,
-    // The level of each node's square.
+    /// The level of each node's square.
     levels: Vec<u8>,
     limit: u64,
 }
@@ -47,7 +47,7 @@ impl Plain {
         }
     }
 
-    // The Id of a new node of a level.
+    /// The Id of a new node of a level.
     fn add(&mut self, node: Node, level: u8) -> Result<Id, Kind>
         requires node { IsNode self.old.log (squares self.old.nodes) (length self.old.nodes) node }
         requires level { level ≡ depth (node_square (squares self.old.nodes) node) }

@@ -15,6 +15,10 @@ use life_base::Kind;
 use std::alloc::Global;
 
 /// How many cells have a state other than 0. Each shared square is visited once.
+///
+/// # Errors
+///
+/// `Memory`, and nothing else.
 pub fn population<S: SharedSquares>(alloc: Global, squares: &S, id: Id) -> Result<u128, Kind>
     requires known { S.knows squares.now id }
     requires high { 1 ≤ depth (S.content squares.now id) }
@@ -25,8 +29,8 @@ pub fn population<S: SharedSquares>(alloc: Global, squares: &S, id: Id) -> Resul
     count(squares, squares.level(id), id, &mut known)
 }
 
-// The number of cells with a state in a square of a level, where `known` has the numbers of squares that were visited, and 0 for others:
-// no square that isn't blank has that number.
+/// The number of cells with a state in a square of a level, where `known` has the numbers of squares that were visited, and 0 for others:
+/// no square that isn't blank has that number.
 fn count<S: Squares>(squares: &S, level: u8, id: Id, known: &mut IdMap<u128>) -> Result<u128, Kind>
     requires known { S.knows squares.now id }
     requires level { level ≡ depth (S.content squares.now id) }
@@ -57,6 +61,10 @@ fn count<S: Squares>(squares: &S, level: u8, id: Id, known: &mut IdMap<u128>) ->
 
 /// The least box around the cells with a state other than 0, or `None` if there are none. From each side inwards the squares are
 /// visited that reach nearest to it, each shared one once.
+///
+/// # Errors
+///
+/// `Memory`, and nothing else.
 pub fn bounds<S: SharedSquares>(alloc: Global, squares: &S, id: Id) -> Result<Option<Bounds>, Kind>
     requires known { S.knows squares.now id }
     requires high { 1 ≤ depth (S.content squares.now id) }
@@ -84,7 +92,7 @@ pub fn bounds<S: SharedSquares>(alloc: Global, squares: &S, id: Id) -> Result<Op
     }))
 }
 
-// The coordinate of a column or row.
+/// The coordinate of a column or row.
 fn coordinate(distance: u64, half: u64) -> i64
     requires small { half ≤ 2 ^ 61 }
     requires within { distance < half + half }

@@ -11,7 +11,7 @@ use crate::moves::{Quarters, divide};
 use crate::{Id, Squares};
 use life_base::{Kind, MAX_LEVEL, State};
 
-// Half of the side of a square of a level.
+/// Half of the side of a square of a level.
 pub(crate) fn half_side(level: u8) -> u64
     requires low { 1 ≤ level }
     requires high { level ≤ MAX_LEVEL }
@@ -21,7 +21,7 @@ pub(crate) fn half_side(level: u8) -> u64
     1 << (level - 1)
 }
 
-// How far a coordinate is from the west or north side.
+/// How far a coordinate is from the west or north side.
 fn offset(x: i64, half: u64) -> u64
     requires small { half ≤ 2 ^ 61 }
     requires low { neg_ℤ (pos half) ≤ℤ x }
@@ -31,9 +31,9 @@ fn offset(x: i64, half: u64) -> u64
     (x + half as i64) as u64
 }
 
+/// The square with a span of one row set. The span goes down both halves, and one half serves for
+/// both where it covers both and they are one square.
 #[cycle(span)]
-// The square with a span of one row set. The span goes down both halves, and one half serves for
-// both where it covers both and they are one square.
 fn set_span<S: Squares>(
     squares: &mut S,
     id: Id,
@@ -71,8 +71,8 @@ fn set_span<S: Squares>(
     }
 }
 
+/// Two squares side by side, of side `half`, with a span of one row set.
 #[cycle(span)]
-// Two squares side by side, of side `half`, with a span of one row set.
 fn set_halves<S: Squares>(
     squares: &mut S,
     left: Id,
@@ -122,6 +122,10 @@ fn set_halves<S: Squares>(
 }
 
 /// The root's square with the cells (x, y) to (x + len - 1, y) set.
+///
+/// # Errors
+///
+/// `Full` where a square is new and the store holds its limit, and `Memory`. After either each Id has its square.
 pub fn put_run<S: Squares>(
     squares: &mut S,
     root: Id,

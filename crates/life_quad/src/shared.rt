@@ -17,13 +17,13 @@ use std::marker::Model;
 #[derive(Drop)]
 pub struct Shared {
     nodes: IndexSet<Node>,
-    // The level of each node's square.
+    /// The level of each node's square.
     levels: Vec<u8>,
-    // Whether a small square was joined.
+    /// Whether a small square was joined.
     seen: IdMap<bool>,
-    // How many of these were joined.
+    /// How many of these were joined.
     small: u64,
-    // The Ids in the order of their first join.
+    /// The Ids in the order of their first join.
     log: JoinLog,
     limit: u64,
 }
@@ -45,7 +45,7 @@ ghost use Rattle.life_quad.specs.IdMap.{value_of};
 ghost use Rattle.life_quad.specs.StoreLaws.{full_content, low_content, same_id};
 ghost use Rattle.life_quad.specs.Store.{squares, content, held, node_square, number_of, small_square, Knows, IsShared, IsNode, IsSmall, Answers};
 
-// Marks a small square. It is never inlined, so that the join of one that is there stays short.
+/// Marks a small square. It is never inlined, so that the join of one that is there stays short.
 #[inline(never)]
 fn see(seen: &mut IdMap<bool>, id: Id) -> Result<(), Kind>
     ensures marked { OnOk result (value_of seen.new id ≡ true) }
@@ -56,7 +56,7 @@ fn see(seen: &mut IdMap<bool>, id: Id) -> Result<(), Kind>
     seen.set(id, true)
 }
 
-// Makes room for the level of one more node, unless a store with so many squares and nodes takes no more of them: then it answers why.
+/// Makes room for the level of one more node, unless a store with so many squares and nodes takes no more of them: then it answers why.
 fn make_room(levels: &mut Vec<u8>, len: u64, nodes: u64, limit: u64) -> Option<Kind>
     requires { len ≤ limit }
     ensures room { MatchOption result ((len < limit) × (FIRST_NODE + nodes < 2 ^ 32) × (vec_len levels.new < vec_capacity levels.new)) (λ k. (k ≡ Full) ⊎ (k ≡ Memory)) }
@@ -103,7 +103,7 @@ impl Shared {
         self.nodes.len() as u64 + self.small
     }
 
-    // The Id of a small square, which is marked if it is new.
+    /// The Id of a small square, which is marked if it is new.
     fn mark(&mut self, number: u64) -> Result<Id, Kind>
         requires small { IsSmall self.old.log (squares self.old.nodes) number }
         requires first { FIRST_SMALL ≤ number }
@@ -123,7 +123,7 @@ impl Shared {
         Ok(id)
     }
 
-    // The Id of a node of a level, which is stored if it is new. It is never inlined, so that `join` can be.
+    /// The Id of a node of a level, which is stored if it is new. It is never inlined, so that `join` can be.
     #[inline(never)]
     fn intern(&mut self, node: Node, level: u8) -> Result<Id, Kind>
         requires sound { IsNode self.old.log (squares self.old.nodes) (length self.old.nodes) node }
