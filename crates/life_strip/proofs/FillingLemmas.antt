@@ -65,22 +65,29 @@ needed-runs content b rows most cells s =
 unfilled-filled : (knows : Id → Type 0) (content : Id → Tree) (p : Plane) → IsUnfilled p → IsFilled knows content p
 unfilled-filled knows content p h =
     let none : length p.strips.items ≡ 0 = ap length h.strips in
+    let no_rows : length p.band.items ≡ 0 = ap length h.band in
     let few : length p.row.spans.items ≡ 0 = ap length h.row in
     record {
-      strips = λ k d lt. absurd (omega (arith, lt, none));
+      pile = record {
+        sound = λ k d lt. absurd (omega (arith, lt, none));
+        falling = λ i j d ij jl. absurd (omega (arith, jl, none));
+        lowest = λ k d lt. absurd (omega (arith, lt, none));
+        rows_sound = λ k d lt. absurd (omega (arith, lt, no_rows));
+        rows = λ k d lt. absurd (omega (arith, lt, no_rows));
+        few = omega (arith, no_rows);
+      };
       row = record {
         squares = λ column id e. absurd (let f : None ≡ Some id = sym (ap (λ z. id_at z column) h.row) ∙ e in cc);
         within = λ k d lt. absurd (omega (arith, lt, few));
       };
       level = h.level;
-      rows = ap height h.strips ∙ sym h.rows;
+      rows = (λ k. height (h.strips k ++ h.band k)) ∙ sym h.rows;
       most = let e = h.rows in omega (arith, e);
-      falling = λ i j d ij jl. absurd (omega (arith, jl, none));
     }
 
 unfilled-cells : (content : Id → Tree) (p : Plane) (x y : ℤ) → IsUnfilled p → cell_so_far content p x y ≡ 0
 unfilled-cells content p x y h =
-    (λ k. on_plane (picture content (h.strips k ++ p.row ∷ [])) x y)
+    (λ k. on_plane (picture content ((h.strips k ++ h.band k) ++ p.row ∷ [])) x y)
     ∙ (λ k. if is_inside half_plane x y then picture-blank content [] p.row h.row (unsigned_abs (x +ℤ pos half_plane)) (unsigned_abs (y +ℤ pos half_plane)) k else 0) ∙ by (is_inside half_plane x y) 0
   where
     by : (b : Bool) (n : ℕ) → (if b then n else n) ≡ n

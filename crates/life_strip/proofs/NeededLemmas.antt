@@ -81,7 +81,7 @@ column_east c i m h below =
     (ap (λ z. z / m) whole ∙ div-mul-add (2 * c + 1) m (i - m) small, ap (λ z. z % m) whole ∙ mod-mul-add (2 * c + 1) m (i - m) small)
 
 -- the rows below some strips
-picture-below : (content : Id → Tree) (xs ys : List Strip) (i j : ℕ) → picture content (xs ++ ys) i (height xs + j) ≡ picture content ys i j
+pub picture-below : (content : Id → Tree) (xs ys : List Strip) (i j : ℕ) → picture content (xs ++ ys) i (height xs + j) ≡ picture content ys i j
 picture-below content [] ys i j = ap (picture content ys i) (omega arith)
 picture-below content (x ∷ xs) ys i j =
     let out : nat_lt (2 ^ x.level + height xs + j) (2 ^ x.level) ≡ false = grind arith in
@@ -90,7 +90,7 @@ picture-below content (x ∷ xs) ys i j =
     ∙ ap (picture content (xs ++ ys) i) back ∙ picture-below content xs ys i j
 
 -- strips of a level or more have a number of rows that its squares divide
-height-divided : (xs : List Strip) (n : ℕ) → IsLowest n xs → (r : ℕ) × (height xs ≡ r * 2 ^ n)
+pub height-divided : (xs : List Strip) (n : ℕ) → IsLowest n xs → (r : ℕ) × (height xs ≡ r * 2 ^ n)
 height-divided [] n h = (0, omega arith)
 height-divided (x ∷ xs) n h =
     let more = height-divided xs n (λ k d lt. h (suc k) d (omega (arith, lt))) in
@@ -100,7 +100,7 @@ height-divided (x ∷ xs) n h =
     (2 ^ (x.level - n) + more.0, (λ y. e y + more.1 y) ∙ sym (add-mul (2 ^ (x.level - n)) more.0 (2 ^ n)))
 
 -- a column of squares of a level lies in the plane
-in_plane : (level c : ℕ) → level ≤ MAX_LEVEL → c < 2 ^ (MAX_LEVEL - level) → (c + 1) * 2 ^ level ≤ 2 ^ MAX_LEVEL
+pub in_plane : (level c : ℕ) → level ≤ MAX_LEVEL → c < 2 ^ (MAX_LEVEL - level) → (c + 1) * 2 ^ level ≤ 2 ^ MAX_LEVEL
 in_plane level c low within =
     let most : 2 ^ level * (c + 1) ≤ 2 ^ level * 2 ^ (MAX_LEVEL - level) = mul-le-mul_left (2 ^ level) (omega (arith, within)) in
     let sum : level + (MAX_LEVEL - level) ≡ MAX_LEVEL = omega (arith, low) in
@@ -122,7 +122,7 @@ module _ (knows : Id → Type 0) (content : Id → Tree) (a b : Strip) (sound : 
   deep = ap (λ z. 2 ^ z) (depth-square_at knows content a.level a.spans.items sound (2 * c))
 
   -- the cells of four squares of two strips
-  quad-cells : (i j : ℕ) → i < 2 * m → j < 2 * m
+  pub quad-cells : (i j : ℕ) → i < 2 * m → j < 2 * m
       → state_at (quad_at content a.level a.spans.items b.spans.items c) i j ≡ picture content (a ∷ b ∷ []) (c * (2 * m) + i) j
   quad-cells i j li lj = by (nat_lt j m) refl (nat_lt i m) refl
     where

@@ -152,6 +152,14 @@ pub on_ok_map : {T E : Type 0} {P Q : Type 0} (r : Result T E) → (P → Q) →
 on_ok_map (Ok x) f p = f p
 on_ok_map (Err e) f p = tt
 
+pub on_ok_map2 : {T E : Type 0} {P Q R : Type 0} (r : Result T E) → (P → Q → R) → OnOk r P → OnOk r Q → OnOk r R
+on_ok_map2 (Ok x) f p q = f p q
+on_ok_map2 (Err e) f p q = tt
+
+pub on_ok_map4 : {T E : Type 0} {P Q R S U : Type 0} (r : Result T E) → (P → Q → R → S → U) → OnOk r P → OnOk r Q → OnOk r R → OnOk r S → OnOk r U
+on_ok_map4 (Ok x) f p q s u = f p q s u
+on_ok_map4 (Err e) f p q s u = tt
+
 -- two strips of a level within the plane are of a level below the greatest
 pub fits_below : (h k : ℕ) → h + 2 ^ k + 2 ^ k ≤ 2 ^ MAX_LEVEL → k < MAX_LEVEL
 fits_below h k le = by (nat_lt k MAX_LEVEL) refl

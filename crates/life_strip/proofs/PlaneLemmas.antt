@@ -2,7 +2,7 @@
 use Rattle.std.proofs.Common.{◌≡◌, ℕ, zero, suc, ◌+◌, ◌-◌, ◌*◌, ◌/◌, ◌%◌, ◌^◌, ◌≤◌, ◌<◌, Bool, true, false, ◌&&◌, nat_lt, nat_le, List, [], ◌∷◌, ◌++◌, length, get_or, All, Option, Some, None, refl, sym, ◌∙◌, ap, subst, arith}
 use Rattle.std.proofs.Common.{ℤ, pos, neg_ℤ, ◌+ℤ◌, ◌≤ℤ◌, ◌<ℤ◌}
 use Rattle.std.specs.Prelude.{if◌then◌else◌, unsigned_abs}
-use Rattle.std.proofs.lemmas.List.Elements.{All-push}
+use Rattle.std.proofs.lemmas.List.Elements.{All-push, All-append}
 use Rattle.std.proofs.lemmas.Int.{ints}
 use Rattle.std.proofs.lemmas.Nat.{div-mul-add, mod-mul-add}
 use Rattle.life_base.specs.Tree.{Tree, point, depth, state_at}
@@ -15,6 +15,7 @@ use Rattle.life_strip.specs.declared.spans.Strip.{Strip}
 use Rattle.life_strip.specs.declared.plane.Plane.{Plane}
 use Rattle.life_strip.specs.Strip.{id_at, id_or, square_at, IsStrip}
 use Rattle.life_strip.specs.Picture.{state_in, picture, height, IsSound}
+use Rattle.life_strip.specs.Band.{IsPile}
 use Rattle.life_strip.specs.Given.{half_plane, IsOnPlane}
 use Rattle.life_strip.specs.Plane.{on_plane, cell_so_far, IsFilled, IsFree, AddsRun}
 use Rattle.life_strip.proofs.SpanLemmas.{Keeps, content_or, known_or, id_at-before, id_at-after}
@@ -270,20 +271,31 @@ no_gap xs b c h = h.1 ∙ ap (λ o. Some (id_or b o)) (sym h.1)
 
 module _ {knows knows' : Id → Type 0} {old new : Id → Tree} (keeps : Keeps knows knows' old new) where
   -- the squares are there in a store that keeps its Ids
+  pub pile-keeps : (strips band : List Strip) → IsPile knows old strips band → IsPile knows' new strips band
+  pile-keeps strips band h =
+      record {
+        sound = all-keeps {knows = knows} {knows' = knows'} {old = old} {new = new} keeps strips h.sound;
+        falling = h.falling;
+        lowest = h.lowest;
+        rows_sound = all-keeps {knows = knows} {knows' = knows'} {old = old} {new = new} keeps band h.rows_sound;
+        rows = h.rows;
+        few = h.few;
+      }
+
   pub filled-keeps : (b : Plane) → IsFilled knows old b → IsFilled knows' new b
   filled-keeps b h =
       record {
-        strips = all-keeps {knows = knows} {knows' = knows'} {old = old} {new = new} keeps b.strips.items h.strips;
+        pile = pile-keeps b.strips.items b.band.items h.pile;
         row = sound-keeps {knows = knows} {knows' = knows'} {old = old} {new = new} keeps b.row h.row;
         level = h.level;
         rows = h.rows;
         most = h.most;
-        falling = h.falling;
       }
 
   -- with the same cells
   pub cells-keep : (b : Plane) → IsFilled knows old b → (x y : ℤ) → cell_so_far new b x y ≡ cell_so_far old b x y
   cells-keep b h x y =
       let P = IsSound knows old in
-      let same = picture-keeps {knows = knows} {knows' = knows'} {old = old} {new = new} keeps (b.strips.items ++ b.row ∷ []) (All-push P b.strips.items b.row h.strips h.row) in
+      let over = All-append P b.strips.items b.band.items h.pile.sound h.pile.rows_sound in
+      let same = picture-keeps {knows = knows} {knows' = knows'} {old = old} {new = new} keeps ((b.strips.items ++ b.band.items) ++ b.row ∷ []) (All-push P (b.strips.items ++ b.band.items) b.row over h.row) in
       λ k. if is_inside half_plane x y then same (unsigned_abs (x +ℤ pos half_plane)) (unsigned_abs (y +ℤ pos half_plane)) k else 0

@@ -48,11 +48,11 @@ Some-is {X} {a} e = ap (λ o. only a o) e
     only z (Some x) = x
 
 -- the spans and one more
-append_one : (spans more : List Span) (s : Span) (c : ℕ) → id_at ((spans ++ s ∷ []) ++ more) c ≡ id_at (spans ++ s ∷ more) c
+pub append_one : (spans more : List Span) (s : Span) (c : ℕ) → id_at ((spans ++ s ∷ []) ++ more) c ≡ id_at (spans ++ s ∷ more) c
 append_one [] more s c = refl
 append_one (t ∷ rest) more s c = ap (λ o. if nat_lt c t.end then Some t.square else o) (append_one rest more s c)
 
-within_one : (level : ℕ) (spans : List Span) (s : Span) → AreWithin level spans → s.end ≤ 2 ^ (MAX_LEVEL - level) → AreWithin level (spans ++ s ∷ [])
+pub within_one : (level : ℕ) (spans : List Span) (s : Span) → AreWithin level spans → s.end ≤ 2 ^ (MAX_LEVEL - level) → AreWithin level (spans ++ s ∷ [])
 within_one level spans s h le = All-push (λ t. t.end ≤ 2 ^ (MAX_LEVEL - level)) spans s h le
 
 module _ {knows knows' : Id → Type 0} {old now : Id → Tree} (keeps : Keeps knows knows' old now) (level : ℕ) where
@@ -185,7 +185,7 @@ module _ (knows : Id → Type 0) (old now : Id → Tree) (level : ℕ) (upper lo
           absurd cc
 
 -- an earlier column comes before the end too
-before_earlier : (a b : ℕ) (end : Option ℕ) → a ≤ b → IsBefore b end → IsBefore a end
+pub before_earlier : (a b : ℕ) (end : Option ℕ) → a ≤ b → IsBefore b end → IsBefore a end
 before_earlier a b None le h = tt
 before_earlier a b (Some end) le h = omega (arith, le, h)
 

@@ -6,20 +6,21 @@ use Rattle.life_quad.specs.declared.id.Id.{Id}
 use Rattle.life_quad.specs.Cells.{IsInRun}
 use Rattle.life_strip.specs.declared.plane.Plane.{Plane}
 use Rattle.life_strip.specs.Given.{half_plane}
-use Rattle.life_strip.specs.Picture.{picture, height, AreFalling, IsSound}
+use Rattle.life_strip.specs.Picture.{picture, height, IsSound}
+use Rattle.life_strip.specs.Band.{IsPile}
 
--- the store knows every Id that is kept, and the strips of the whole rows have falling levels; the row that was begun is on the plane
+-- the store knows every Id that is kept, and the strips of the whole bands have falling levels; the row that was begun is on the plane
 pub record IsFilled (knows : Id → Type 0) (content : Id → Tree) (p : Plane) : Type 0 where
-  pub strips : All (IsSound knows content) p.strips.items
+  pub pile : IsPile knows content p.strips.items p.band.items
   pub row : IsSound knows content p.row
   pub level : p.row.level ≡ 0
-  pub rows : height p.strips.items ≡ p.rows
+  pub rows : height (p.strips.items ++ p.band.items) ≡ p.rows
   pub most : p.rows < 2 ^ MAX_LEVEL
-  pub falling : AreFalling p.strips.items
 
 -- no cell was filled yet
 pub record IsUnfilled (p : Plane) : Type 0 where
   pub strips : p.strips.items ≡ []
+  pub band : p.band.items ≡ []
   pub rows : p.rows ≡ 0
   pub level : p.row.level ≡ 0
   pub row : p.row.spans.items ≡ []
@@ -32,9 +33,9 @@ on_plane state x y =
     then state (unsigned_abs (x +ℤ half)) (unsigned_abs (y +ℤ half))
     else 0
 
--- the state in a column and a row, counted from the edges of the plane: the strips, and below them the row that was begun
+-- the state in a column and a row, counted from the edges of the plane: the strips, below them the rows of a band, and below those the row that was begun
 abbrev pub state_so_far : (Id → Tree) → Plane → ℕ → ℕ → ℕ
-state_so_far content p = picture content (p.strips.items ++ p.row ∷ [])
+state_so_far content p = picture content ((p.strips.items ++ p.band.items) ++ p.row ∷ [])
 
 -- the same by the coordinates of the plane
 abbrev pub cell_so_far : (Id → Tree) → Plane → ℤ → ℤ → ℕ

@@ -9,7 +9,7 @@ ghost use Rattle.life_strip.specs.Needed.{SomeSquare};
 ghost use Rattle.life_strip.specs.Picture.{picture};
 ghost use Rattle.life_strip.specs.Plane.{IsFilled, IsUnfilled, IsFree, AddsRun, state_so_far, cell_so_far};
 
-use crate::rows::{end_strip, whole};
+use crate::rows::{end_row, whole_plane};
 use crate::spans::{Strip, push_span};
 use life_base::{Kind, MAX_LEVEL, State};
 use life_quad::{Id, Squares};
@@ -26,8 +26,9 @@ const SIDE: u64 = 1 << MAX_LEVEL;
 #[derive(Drop)]
 pub(crate) struct Plane {
     alloc: Global,
-    // The rows that are over, from the north, in strips of falling levels.
+    // The rows that are over, from the north: whole bands of four in strips of falling levels, and the rows of the next band.
     strips: Vec<Strip>,
+    band: Vec<Strip>,
     // How many rows are over.
     rows: u64,
     // The row that follows, as far as it was given.
@@ -51,6 +52,7 @@ impl Plane {
         Plane {
             alloc,
             strips: Vec::new(alloc),
+            band: Vec::new(alloc),
             rows: 0,
             row: Strip {
                 level: 0,
@@ -67,7 +69,7 @@ impl Plane {
         ensures filled { OnOk result (IsFilled (S.knows squares.new) (S.content squares.new) self.new) }
         ensures rows { OnOk result (self.new.rows ≡ row) }
         ensures ends { OnOk result ((n : ℕ) → (self.old.rows ≡ row → All (λ s. s.end ≤ n) self.old.row.spans.items) → All (λ s. s.end ≤ n) self.new.row.spans.items) }
-        ensures picture { OnOk result ((i j : ℕ) → picture (S.content squares.new) (self.new.strips.items ++ self.new.row ∷ []) i j ≡ picture (S.content squares.old) (self.old.strips.items ++ self.old.row ∷ []) i j) }
+        ensures picture { OnOk result ((i j : ℕ) → picture (S.content squares.new) ((self.new.strips.items ++ self.new.band.items) ++ self.new.row ∷ []) i j ≡ picture (S.content squares.old) ((self.old.strips.items ++ self.old.band.items) ++ self.old.row ∷ []) i j) }
         ensures keeps { (q : IdValue) → S.knows squares.old q → S.knows squares.new q × (S.content squares.new q ≡ S.content squares.old q) }
         ensures stays { (t : Tree) → Contains (S.stored squares.old) t → Contains (S.stored squares.new) t }
         ensures most { S.most squares.new ≡ S.most squares.old }
@@ -85,10 +87,11 @@ impl Plane {
             spans: Vec::with_capacity(self.alloc, room)?,
         };
         let begun = mem::replace(&mut self.row, next);
-        end_strip(
+        end_row(
             squares,
             self.alloc,
             &mut self.strips,
+            &mut self.band,
             begun,
             row - self.rows - 1,
         )?;
@@ -144,10 +147,10 @@ impl Plane {
         let Plane {
             alloc,
             mut strips,
+            mut band,
             rows,
             row,
         } = self;
-        end_strip(squares, alloc, &mut strips, row, SIDE - rows - 1)?;
-        Ok(whole(squares, strips.as_slice()))
+        whole_plane(squares, alloc, &mut strips, &mut band, row, SIDE - rows - 1)
     }
 }

@@ -112,7 +112,7 @@ fn join_at<S: Squares>(
 }
 
 // The nearer of two ends.
-fn nearer(north: Option<u64>, south: Option<u64>) -> Option<u64>
+pub(crate) fn nearer(north: Option<u64>, south: Option<u64>) -> Option<u64>
     ensures { MatchOption result ((north ≡ None) × (south ≡ None)) (λ end. IsNearer end north south) }
 {
     match (north, south) {

@@ -68,12 +68,14 @@ fn diagonal<S: Squares>(alloc: Global, store: &mut S) -> Result<Id, Kind>
     trim(store, root, 1)
 }
 
-// A cell in each of three rows: the third row asks for the square of the first two.
-fn three_rows<S: Squares>(alloc: Global, store: &mut S) -> Result<(), Kind> {
+// A cell in each of five rows: the fifth row asks for the squares of the first four, one of level 1 and one of level 2.
+fn five_rows<S: Squares>(alloc: Global, store: &mut S) -> Result<(), Kind> {
     let mut builder = begun(alloc, store);
     builder.add_run(store, 0, 0, 1, 1)?;
     builder.add_run(store, 0, 1, 1, 1)?;
-    builder.add_run(store, 0, 2, 1, 1)
+    builder.add_run(store, 0, 2, 1, 1)?;
+    builder.add_run(store, 0, 3, 1, 1)?;
+    builder.add_run(store, 0, 4, 1, 1)
 }
 
 fn one_cell(alloc: Global, store: &mut Shared) -> Result<Id, Kind> {
@@ -147,14 +149,14 @@ fn a_store_without_room_is_full(rt: HostRuntime) {
 #[test]
 fn a_run_in_a_full_store_is_refused(rt: HostRuntime) {
     let mut store = Shared::new(rt.alloc(), 0);
-    let answer = three_rows(rt.alloc(), &mut store);
+    let answer = five_rows(rt.alloc(), &mut store);
     assert_eq!(rt; (answer, store.len()), (Err(Kind::Full), 0));
     let mut plain = Plain::new(rt.alloc(), 0);
-    assert_eq!(rt; three_rows(rt.alloc(), &mut plain), Err(Kind::Full));
+    assert_eq!(rt; five_rows(rt.alloc(), &mut plain), Err(Kind::Full));
 
-    let mut store = Shared::new(rt.alloc(), 1);
-    let answer = three_rows(rt.alloc(), &mut store);
-    assert_eq!(rt; (answer, store.len()), (Ok(()), 1));
+    let mut store = Shared::new(rt.alloc(), 2);
+    let answer = five_rows(rt.alloc(), &mut store);
+    assert_eq!(rt; (answer, store.len()), (Ok(()), 2));
 }
 
 // Whether the store is full behind the runs, and takes them again one by one and by rows.

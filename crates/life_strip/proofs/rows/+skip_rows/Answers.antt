@@ -1,27 +1,95 @@
-use Rattle.std.proofs.Common.{◌∙◌, arith}
+use Rattle.std.proofs.Common.{◌-◌, ◌^◌, ◌++◌, sym, ◌∙◌, ap, subst, arith, rules}
 use Rattle.std.proofs.lemmas.Result.{err_from_is_err_and}
+use Rattle.life_strip.specs.Picture.{picture, height, IsLowest}
 use Rattle.life_strip.proofs.NeededLemmas.{SomeSquare-same}
 use Rattle.life_strip.proofs.PictureLemmas.{on_ok_map, picture-blank}
+use Rattle.life_strip.proofs.BandPictures.{no-rows, none_of, four-divides, lowest-more, pile-alone}
 use Rattle.life_strip.proofs.rows.+skip_rows.Goals as goal
 
-pub returns-clause-picture : goal.returns-clause-picture
-returns-clause-picture g t c =
+pub returns-in_err-push_row-clause-needed : goal.returns-in_err-push_row-clause-needed
+returns-in_err-push_row-clause-needed g t c =
+    let p = err_from_is_err_and c.from_residual.result c.from_residual.ensures.1 in
+    rw (p.1, p.2)
+    (λ e. SomeSquare-same (omega (arith, c.if-count-eq0.false))
+    (λ i j. picture-blank (g.S.Squares.content c.args.squares.now) (c.args.strips.now.items ++ c.args.band.now.items) (record { level = 0; spans = c.new.result }) c.new.ensures.items i j)
+    (c.in_err-push_row.ensures.needed e))
+
+pub returns-then-count-lt4-clause-picture : goal.returns-then-count-lt4-clause-picture
+returns-then-count-lt4-clause-picture g t c =
     on_ok_map c.skip_rows.result
-    (λ e i j. e i j ∙ c.in_ok-push_strip.ensures.picture i j
-    ∙ picture-blank (g.S.Squares.content c.args.squares.now) c.args.strips.now.items (record { level = c.blank_level-level.result; spans = c.new.result }) c.new.ensures.items i j)
+    (λ e i j. e i j ∙ c.in_ok-push_row.ensures.picture i j
+    ∙ picture-blank (g.S.Squares.content c.args.squares.now) (c.args.strips.now.items ++ c.args.band.now.items) (record { level = 0; spans = c.new.result }) c.new.ensures.items i j)
     c.skip_rows.ensures.picture
+
+pub returns-then-count-lt4-clause-needed : goal.returns-then-count-lt4-clause-needed
+returns-then-count-lt4-clause-needed g t c = λ e.
+    SomeSquare-same (omega (arith, c.in_ok-push_row.ensures.height, c.if-count-eq0.false))
+    (λ i j. c.in_ok-push_row.ensures.picture i j
+    ∙ picture-blank (g.S.Squares.content c.args.squares.now) (c.args.strips.now.items ++ c.args.band.now.items) (record { level = 0; spans = c.new.result }) c.new.ensures.items i j)
+    (c.skip_rows.ensures.needed e)
+
+pub skip_rows-requires-2 : goal.skip_rows-requires-2
+skip_rows-requires-2 g t c κs within =
+    let xs = c.args.strips.now.items in
+    let ys = c.args.band.now.items in
+    let strips = c.push_strip.new.strips.items in
+    let none = none_of ys (grind (arith, c.is_empty.ensures, c.if-not-is_empty.false)) in
+    let level = c.blank_level-level.result in
+    let deep = c.blank_level-level.ensures.largest 2 (subst (IsLowest 2) (sym c.as_slice.ensures.value) c.requires.pile.lowest) (omega arith) (omega (arith, c.if-count-lt4.false)) in
+    let four = four-divides level deep in
+    let r = c.in_ok-push_strip.ensures in
+    let pile = pile-alone (g.S.Squares.knows c.push_strip.new.squares) (g.S.Squares.content c.push_strip.new.squares) strips ys none r.sound r.falling (lowest-more xs strips (2 ^ level) (2 ^ (level - 2)) c.requires.pile.lowest r.falling r.height four) in
+    let h = ap height (no-rows xs ys none) in
+    let k = ap height (no-rows strips ys none) in
+    (search rules, (search rules, (pile, omega (arith, h, k, r.height, c.requires.room, c.blank_level-level.ensures.fits))))
 
 pub returns-in_err-push_strip-clause-needed : goal.returns-in_err-push_strip-clause-needed
 returns-in_err-push_strip-clause-needed g t c =
-    let p = err_from_is_err_and c.from_residual.result c.from_residual.ensures.1 in
+    let C = g.S.Squares.content c.args.squares.now in
+    let xs = c.args.strips.now.items in
+    let ys = c.args.band.now.items in
+    let none = no-rows xs ys (none_of ys (grind (arith, c.is_empty.ensures, c.if-not-is_empty.false))) in
+    let h = ap height none in
+    let p = err_from_is_err_and c.from_residual-in_err-push_strip.result c.from_residual-in_err-push_strip.ensures.1 in
     rw (p.1, p.2)
-    (λ e. SomeSquare-same (omega (arith, c.blank_level-level.ensures.fits))
-    (λ i j. picture-blank (g.S.Squares.content c.args.squares.now) c.args.strips.now.items (record { level = c.blank_level-level.result; spans = c.new.result }) c.new.ensures.items i j)
+    (λ e. SomeSquare-same (omega (arith, h, c.blank_level-level.ensures.fits))
+    (λ i j. picture-blank C xs (record { level = c.blank_level-level.result; spans = c.new-2.result }) c.new-2.ensures.items i j ∙ sym (ap (λ z. picture C z i j) none))
     (c.in_err-push_strip.ensures.needed e))
 
+pub returns-clause-picture : goal.returns-clause-picture
+returns-clause-picture g t c =
+    let C = g.S.Squares.content c.args.squares.now in
+    let C' = g.S.Squares.content c.push_strip.new.squares in
+    let xs = c.args.strips.now.items in
+    let ys = c.args.band.now.items in
+    let strips = c.push_strip.new.strips.items in
+    let empty = none_of ys (grind (arith, c.is_empty.ensures, c.if-not-is_empty.false)) in
+    on_ok_map c.skip_rows-2.result
+    (λ e i j. e i j ∙ ap (λ z. picture C' z i j) (no-rows strips ys empty) ∙ c.in_ok-push_strip.ensures.picture i j
+    ∙ picture-blank C xs (record { level = c.blank_level-level.result; spans = c.new-2.result }) c.new-2.ensures.items i j ∙ sym (ap (λ z. picture C z i j) (no-rows xs ys empty)))
+    c.skip_rows-2.ensures.picture
+
 pub returns-clause-needed : goal.returns-clause-needed
-returns-clause-needed g t c = λ e.
-    SomeSquare-same (omega (arith, c.in_ok-push_strip.ensures.height, c.blank_level-level.ensures.fits))
-    (λ i j. c.in_ok-push_strip.ensures.picture i j
-    ∙ picture-blank (g.S.Squares.content c.args.squares.now) c.args.strips.now.items (record { level = c.blank_level-level.result; spans = c.new.result }) c.new.ensures.items i j)
-    (c.skip_rows.ensures.needed e)
+returns-clause-needed g t c =
+    let C = g.S.Squares.content c.args.squares.now in
+    let C' = g.S.Squares.content c.push_strip.new.squares in
+    let xs = c.args.strips.now.items in
+    let ys = c.args.band.now.items in
+    let strips = c.push_strip.new.strips.items in
+    let empty = none_of ys (grind (arith, c.is_empty.ensures, c.if-not-is_empty.false)) in
+    let h = ap height (no-rows xs ys empty) in
+    let k = ap height (no-rows strips ys empty) in
+    λ e. SomeSquare-same (omega (arith, h, k, c.in_ok-push_strip.ensures.height, c.blank_level-level.ensures.fits))
+    (λ i j. ap (λ z. picture C' z i j) (no-rows strips ys empty) ∙ c.in_ok-push_strip.ensures.picture i j
+    ∙ picture-blank C xs (record { level = c.blank_level-level.result; spans = c.new-2.result }) c.new-2.ensures.items i j ∙ sym (ap (λ z. picture C z i j) (no-rows xs ys empty)))
+    (c.skip_rows-2.ensures.needed e)
+
+pub returns-clause-height : goal.returns-clause-height
+returns-clause-height g t c =
+    let xs = c.args.strips.now.items in
+    let ys = c.args.band.now.items in
+    let strips = c.push_strip.new.strips.items in
+    let empty = none_of ys (grind (arith, c.is_empty.ensures, c.if-not-is_empty.false)) in
+    let h = ap height (no-rows xs ys empty) in
+    let k = ap height (no-rows strips ys empty) in
+    on_ok_map c.skip_rows-2.result (λ e. omega (arith, e, h, k, c.in_ok-push_strip.ensures.height, c.blank_level-level.ensures.fits)) c.skip_rows-2.ensures.height

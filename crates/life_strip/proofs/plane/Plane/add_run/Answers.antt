@@ -28,16 +28,16 @@ returns-clause-cells g c =
     let fill = c.in_ok-go_to_row.ensures.filled in
     let begun : IsStrip K C 0 self.row.spans.items = subst (λ n. IsStrip K C n self.row.spans.items) fill.level fill.row.squares in
     let row : Strip = record { level = self.row.level; spans = c.push_span.new.spans } in
-    let height_is : height self.strips.items ≡ c.offset-row.result = fill.rows ∙ c.in_ok-go_to_row.ensures.rows in
+    let height_is : height (self.strips.items ++ self.band.items) ≡ c.offset-row.result = fill.rows ∙ c.in_ok-go_to_row.ensures.rows in
     on_ok_map c.push_span.result
     (λ columns.
     let strip = row_strip K C self.row.spans.items row.spans.items c.offset-column.result c.args.len c.cell-blank.result c.cell-square.result begun
     c.cell-blank.ensures.known c.cell-blank.ensures.square c.cell-square.ensures.known (ap depth c.cell-square.ensures.square) columns in
     let states = row_pushed K C self.row row c.offset-column.result c.args.len c.args.state c.cell-blank.result c.cell-square.result fill.row fill.level fill.level strip
     c.cell-blank.ensures.known c.cell-blank.ensures.square c.cell-square.ensures.square columns in
-    AddsRun-span (picture (g.S.Squares.content c.args.squares.now) (c.args.self.now.strips.items ++ c.args.self.now.row ∷ [])) (picture C (self.strips.items ++ row ∷ []))
+    AddsRun-span (picture (g.S.Squares.content c.args.squares.now) ((c.args.self.now.strips.items ++ c.args.self.now.band.items) ++ c.args.self.now.row ∷ [])) (picture C ((self.strips.items ++ self.band.items) ++ row ∷ []))
     c.args.x c.args.y c.offset-column.result c.offset-row.result c.args.len c.args.state c.requires.inside ex ey
-    (λ i j. picture_pushed C self.strips.items self.row row c.offset-column.result c.args.len c.args.state fill.level fill.level states i j
+    (λ i j. picture_pushed C (self.strips.items ++ self.band.items) self.row row c.offset-column.result c.args.len c.args.state fill.level fill.level states i j
     ∙ (λ k. if is_in_span c.offset-column.result (height_is k) c.args.len i j then c.args.state else c.in_ok-go_to_row.ensures.picture i j k)))
     c.push_span.ensures.columns
 

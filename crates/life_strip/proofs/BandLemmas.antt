@@ -1,0 +1,227 @@
+-- Facts about four rows of cells.
+use Rattle.life_base.specs.declared.cell.TheConstants.{MAX_LEVEL}
+use Rattle.std.proofs.Common.{◌≡◌, ℕ, suc, ◌+◌, ◌-◌, ◌*◌, ◌/◌, ◌%◌, ◌^◌, ◌≤◌, ◌<◌, ◌⊎◌, inl, inr, Bool, true, false, nat_lt, List, [], ◌∷◌, ◌++◌, Option, Some, None, refl, sym, ◌∙◌, ap, subst, arith, append-nil}
+use Rattle.std.specs.Prelude.{MatchOption}
+use Rattle.life_quad.specs.declared.id.Id.{Id}
+use Rattle.life_quad.specs.Store.{two, four}
+use Rattle.life_base.specs.Tree.{Tree, quad, depth, blank}
+use Rattle.life_strip.specs.declared.spans.Span.{Span}
+use Rattle.life_strip.specs.declared.spans.Found.{Found}
+use Rattle.life_strip.specs.Strip.{id_at, square_or_blank, square_at, quad_at, IsStrip, IsFound, IsBefore, IsNearer, AreWithin}
+use Rattle.life_strip.specs.Band.{four_at}
+use Rattle.life_strip.proofs.SpanLemmas.{Keeps, Some-is, append_one, within_one, id_at-before, id_at-after, depth-square_at, quad-keeps, quad-same, found-within, before_earlier, none-left}
+
+-- the columns before this one have the squares that are wanted, and the others nothing yet
+pub record FilledTo (knows : Id → Type 0) (now : Id → Tree) (level : ℕ) (want : ℕ → Tree) (spans : List Span) (column : ℕ) : Type 0 where
+  pub done : (c : ℕ) → c < column → (id : Id) × ((more : List Span) → id_at (spans ++ more) c ≡ Some id) × knows id × (now id ≡ want c)
+  pub rest : (c : ℕ) → column ≤ c → (more : List Span) → id_at (spans ++ more) c ≡ id_at more c
+  pub within : AreWithin level spans
+
+pub FilledTo-start : (knows : Id → Type 0) (now : Id → Tree) (level : ℕ) (want : ℕ → Tree) → FilledTo knows now level want [] 0
+FilledTo-start knows now level want =
+    record { done = λ c h. absurd (omega arith); rest = λ c h more. refl; within = λ k d h. absurd (omega arith) }
+
+pub FilledTo-push : {knows knows' : Id → Type 0} {now now' : Id → Tree} (level : ℕ) (want : ℕ → Tree) (spans : List Span) (column next : ℕ) (r : Id)
+    → FilledTo knows now level want spans column → Keeps knows knows' now now'
+    → knows' r → now' r ≡ want column
+    → column < next → next ≤ 2 ^ (MAX_LEVEL - level) → ((c : ℕ) → column < c → c < next → want c ≡ want column)
+    → FilledTo knows' now' level want (spans ++ record { end = next; square = r } ∷ []) next
+FilledTo-push {knows} {knows'} {now} {now'} level want spans column next r p keeps kr er lt within same =
+    record { done = done; rest = rest; within = within_one level spans s p.within within }
+  where
+    s : Span
+    s = record { end = next; square = r }
+
+    done : (c : ℕ) → c < next → (id : Id) × ((more : List Span) → id_at ((spans ++ s ∷ []) ++ more) c ≡ Some id) × knows' id × (now' id ≡ want c)
+    done c h = by (nat_lt c column) refl
+      where
+        by : (b : Bool) → nat_lt c column ≡ b → (id : Id) × ((more : List Span) → id_at ((spans ++ s ∷ []) ++ more) c ≡ Some id) × knows' id × (now' id ≡ want c)
+        by true e =
+            let d = p.done c (grind arith) in
+            (d.0, (λ more. append_one spans more s c ∙ d.1 (s ∷ more)), (keeps d.0 d.2).0, (keeps d.0 d.2).1 ∙ d.3)
+        by false e =
+            let above : column ≤ c = grind arith in
+            (r, (λ more. append_one spans more s c ∙ p.rest c above (s ∷ more) ∙ id_at-before s more c h), kr, er ∙ sym (at (nat_lt column c) refl above))
+          where
+            at : (b : Bool) → nat_lt column c ≡ b → column ≤ c → want c ≡ want column
+            at true f above = same c (grind arith) h
+            at false f above = let e : c ≡ column = grind arith in ap want e
+
+    rest : (c : ℕ) → next ≤ c → (more : List Span) → id_at ((spans ++ s ∷ []) ++ more) c ≡ id_at more c
+    rest c h more = append_one spans more s c ∙ p.rest c (omega arith) (s ∷ more) ∙ id_at-after s more c h
+
+module _ (knows : Id → Type 0) (now : Id → Tree) (level : ℕ) (want : ℕ → Tree) (spans : List Span) (column : ℕ) (p : FilledTo knows now level want spans column) where
+  -- beyond the column only blank squares are wanted
+  pub FilledTo-all : ((c : ℕ) → column ≤ c → want c ≡ blank level) → (c : ℕ) → square_at now level spans c ≡ want c
+  FilledTo-all over c = by (nat_lt c column) refl
+    where
+      by : (b : Bool) → nat_lt c column ≡ b → square_at now level spans c ≡ want c
+      by true e =
+          let d = p.done c (grind arith) in
+          ap (λ z. square_or_blank now level (id_at z c)) (sym (append-nil spans)) ∙ ap (square_or_blank now level) (d.1 []) ∙ d.3
+      by false e =
+          let above : column ≤ c = grind arith in
+          ap (λ z. square_or_blank now level (id_at z c)) (sym (append-nil spans)) ∙ ap (square_or_blank now level) (p.rest c above []) ∙ sym (over c above)
+
+  pub FilledTo-strip : ((c : ℕ) → depth (want c) ≡ level) → IsStrip knows now level spans
+  FilledTo-strip deep c id at = by (nat_lt c column) refl
+    where
+      by : (b : Bool) → nat_lt c column ≡ b → knows id × (depth (now id) ≡ level)
+      by true e =
+          let d = p.done c (grind arith) in
+          let same : d.0 ≡ id = Some-is (sym (d.1 []) ∙ ap (λ z. id_at z c) (append-nil spans) ∙ at) in
+          (subst knows same d.2, ap (λ z. depth (now z)) (sym same) ∙ ap depth d.3 ∙ deep c)
+      by false e =
+          let none : Some id ≡ None = sym at ∙ ap (λ z. id_at z c) (sym (append-nil spans)) ∙ p.rest c (grind arith) [] in
+          absurd cc
+
+-- the square of the cells of four squares of level 1
+pub four-digits : (a b c d : ℕ) → a < 16 → b < 16 → c < 16 → d < 16 → four (4096 * a + 256 * b + 16 * c + d) ≡ quad (two a) (two b) (two c) (two d)
+four-digits a b c d la lb lc ld =
+    let n = 4096 * a + 256 * b + 16 * c + d in
+    let nw : n / 4096 ≡ a = omega arith in
+    let ne : n / 256 % 16 ≡ b = omega arith in
+    let sw : n / 16 % 16 ≡ c = omega arith in
+    let se : n % 16 ≡ d = omega arith in
+    λ i. quad (two (nw i)) (two (ne i)) (two (sw i)) (two (se i))
+
+-- the square of four rows has level 2
+pub depth-four_at : (knows : Id → Type 0) (content : Id → Tree) (a b c d : List Span) → IsStrip knows content 0 a → (column : ℕ) → depth (four_at content a b c d column) ≡ 2
+depth-four_at knows content a b c d strip column = ap (λ n. suc (suc n)) (depth-square_at knows content 0 a strip (2 * (2 * column)))
+
+pub four-keeps : {knows knows' : Id → Type 0} {old now : Id → Tree} → Keeps knows knows' old now → (a b c d : List Span) → IsStrip knows old 0 a → IsStrip knows old 0 b → IsStrip knows old 0 c → IsStrip knows old 0 d
+    → (column : ℕ) → four_at now a b c d column ≡ four_at old a b c d column
+four-keeps {knows} {knows'} {old} {now} keeps a b c d ka kb kc kd column =
+    let nw = quad-keeps {knows = knows} {knows' = knows'} {old = old} {now = now} keeps 0 a b ka kb (2 * column) in
+    let ne = quad-keeps {knows = knows} {knows' = knows'} {old = old} {now = now} keeps 0 a b ka kb (2 * column + 1) in
+    let sw = quad-keeps {knows = knows} {knows' = knows'} {old = old} {now = now} keeps 0 c d kc kd (2 * column) in
+    let se = quad-keeps {knows = knows} {knows' = knows'} {old = old} {now = now} keeps 0 c d kc kd (2 * column + 1) in
+    λ i. quad (nw i) (ne i) (sw i) (se i)
+
+-- two squares of two rows go on
+module _ (knows : Id → Type 0) (content : Id → Tree) (blank_id : Id) (known : knows blank_id) (is_blank : content blank_id ≡ blank 0) where
+  two-same : (upper lower : List Span) → IsStrip knows content 0 upper → IsStrip knows content 0 lower
+      → (column c : ℕ) (n s : Found) → IsFound upper (4 * column) blank_id n → IsFound lower (4 * column) blank_id s → column < c → IsBefore (4 * c + 3) n.end → IsBefore (4 * c + 3) s.end
+      → (quad_at content 0 upper lower (2 * c) ≡ quad_at content 0 upper lower (2 * column)) × (quad_at content 0 upper lower (2 * c + 1) ≡ quad_at content 0 upper lower (2 * column + 1))
+  two-same upper lower u l column c n s hn hs lt le me =
+      let twice : 4 * column ≡ 2 * (2 * column) = omega arith in
+      let fn = subst (λ k. IsFound upper k blank_id n) twice hn in
+      let fs = subst (λ k. IsFound lower k blank_id s) twice hs in
+      let at = λ (k : ℕ) (after : 2 * column < k) (most : 2 * k + 1 ≤ 4 * c + 3).
+      quad-same knows content 0 upper lower u l blank_id known is_blank (2 * column) k n s fn fs after (before_earlier (2 * k + 1) (4 * c + 3) n.end most le) (before_earlier (2 * k + 1) (4 * c + 3) s.end most me) in
+      (at (2 * c) (omega (arith, lt)) (omega arith), at (2 * c + 1) (omega (arith, lt)) (omega arith) ∙ sym (at (2 * column + 1) (omega arith) (omega (arith, lt))))
+
+  pub four-same : (a b c d : List Span) → IsStrip knows content 0 a → IsStrip knows content 0 b → IsStrip knows content 0 c → IsStrip knows content 0 d
+      → (column x : ℕ) (fa fb fc fd : Found) → IsFound a (4 * column) blank_id fa → IsFound b (4 * column) blank_id fb → IsFound c (4 * column) blank_id fc → IsFound d (4 * column) blank_id fd
+      → column < x → IsBefore (4 * x + 3) fa.end → IsBefore (4 * x + 3) fb.end → IsBefore (4 * x + 3) fc.end → IsBefore (4 * x + 3) fd.end
+      → four_at content a b c d x ≡ four_at content a b c d column
+  four-same a b c d ka kb kc kd column x fa fb fc fd ha hb hc hd lt la lb lc ld =
+      let north = two-same a b ka kb column x fa fb ha hb lt la lb in
+      let south = two-same c d kc kd column x fc fd hc hd lt lc ld in
+      λ i. quad (north.0 i) (north.1 i) (south.0 i) (south.1 i)
+
+-- the nearest of four ends
+pub record IsNearest (end : ℕ) (a b c d : Option ℕ) : Type 0 where
+  pub one : (a ≡ Some end) ⊎ (b ≡ Some end) ⊎ (c ≡ Some end) ⊎ (d ≡ Some end)
+  pub first : (column : ℕ) → column < end → IsBefore column a
+  pub second : (column : ℕ) → column < end → IsBefore column b
+  pub third : (column : ℕ) → column < end → IsBefore column c
+  pub fourth : (column : ℕ) → column < end → IsBefore column d
+
+-- the end that is nearer is that of one of the two
+nearer-one : (o a b : Option ℕ) (end : ℕ) → MatchOption o ((a ≡ None) × (b ≡ None)) (λ e. IsNearer e a b) → o ≡ Some end → (a ≡ Some end) ⊎ (b ≡ Some end)
+nearer-one None a b end h e = absurd cc
+nearer-one (Some x) a b end h e = subst (λ n. (a ≡ Some n) ⊎ (b ≡ Some n)) (Some-is e) h.one
+
+nearer-upper : (o a b : Option ℕ) (column : ℕ) → MatchOption o ((a ≡ None) × (b ≡ None)) (λ e. IsNearer e a b) → IsBefore column o → IsBefore column a × IsBefore column b
+nearer-upper None a b column h e = (subst (IsBefore column) (sym h.0) tt, subst (IsBefore column) (sym h.1) tt)
+nearer-upper (Some x) a b column h e = (h.upper column e, h.lower column e)
+
+pub nearest : (end : ℕ) (n s a b c d : Option ℕ) → MatchOption n ((a ≡ None) × (b ≡ None)) (λ e. IsNearer e a b) → MatchOption s ((c ≡ None) × (d ≡ None)) (λ e. IsNearer e c d) → IsNearer end n s → IsNearest end a b c d
+nearest end n s a b c d hn hs near =
+    record {
+      one = by near.one;
+      first = λ column lt. (nearer-upper n a b column hn (near.upper column lt)).0;
+      second = λ column lt. (nearer-upper n a b column hn (near.upper column lt)).1;
+      third = λ column lt. (nearer-upper s c d column hs (near.lower column lt)).0;
+      fourth = λ column lt. (nearer-upper s c d column hs (near.lower column lt)).1;
+    }
+  where
+    by : (n ≡ Some end) ⊎ (s ≡ Some end) → (a ≡ Some end) ⊎ (b ≡ Some end) ⊎ (c ≡ Some end) ⊎ (d ≡ Some end)
+    by (inl e) = upper (nearer-one n a b end hn e)
+      where
+        upper : (a ≡ Some end) ⊎ (b ≡ Some end) → (a ≡ Some end) ⊎ (b ≡ Some end) ⊎ (c ≡ Some end) ⊎ (d ≡ Some end)
+        upper (inl e) = inl e
+        upper (inr e) = inr (inl e)
+    by (inr e) = lower (nearer-one s c d end hs e)
+      where
+        lower : (c ≡ Some end) ⊎ (d ≡ Some end) → (a ≡ Some end) ⊎ (b ≡ Some end) ⊎ (c ≡ Some end) ⊎ (d ≡ Some end)
+        lower (inl e) = inr (inr (inl e))
+        lower (inr e) = inr (inr (inr e))
+
+-- no end is left
+pub nearer-none : (o a b : Option ℕ) → MatchOption o ((a ≡ None) × (b ≡ None)) (λ e. IsNearer e a b) → o ≡ None → (a ≡ None) × (b ≡ None)
+nearer-none None a b h e = h
+nearer-none (Some x) a b h e = absurd cc
+
+pub nearest-beyond : (column end : ℕ) (a b c d : Option ℕ) → IsNearest end a b c d → IsBefore column a → IsBefore column b → IsBefore column c → IsBefore column d → column < end
+nearest-beyond column end a b c d near ha hb hc hd = by near.one
+  where
+    by : (a ≡ Some end) ⊎ (b ≡ Some end) ⊎ (c ≡ Some end) ⊎ (d ≡ Some end) → column < end
+    by (inl e) = subst (IsBefore column) e ha
+    by (inr (inl e)) = subst (IsBefore column) e hb
+    by (inr (inr (inl e))) = subst (IsBefore column) e hc
+    by (inr (inr (inr e))) = subst (IsBefore column) e hd
+
+-- a column of squares of level 2 that begins before the nearest end is one of the plane
+pub fourth-side : 2 ^ (MAX_LEVEL - 0) ≡ 4 * 2 ^ (MAX_LEVEL - 2)
+fourth-side = omega arith
+
+pub nearest-within : (a b c d : List Span) → AreWithin 0 a → AreWithin 0 b → AreWithin 0 c → AreWithin 0 d
+    → (column : ℕ) (i : Id) (fa fb fc fd : Found) (end : ℕ) → IsFound a column i fa → IsFound b column i fb → IsFound c column i fc → IsFound d column i fd
+    → IsNearest end fa.end fb.end fc.end fd.end → end ≤ 4 * 2 ^ (MAX_LEVEL - 2)
+nearest-within a b c d wa wb wc wd column i fa fb fc fd end ha hb hc hd near = by near.one
+  where
+    by : (fa.end ≡ Some end) ⊎ (fb.end ≡ Some end) ⊎ (fc.end ≡ Some end) ⊎ (fd.end ≡ Some end) → end ≤ 4 * 2 ^ (MAX_LEVEL - 2)
+    by (inl e) = found-within 0 a wa column i fa end ha e
+    by (inr (inl e)) = found-within 0 b wb column i fb end hb e
+    by (inr (inr (inl e))) = found-within 0 c wc column i fc end hc e
+    by (inr (inr (inr e))) = found-within 0 d wd column i fd end hd e
+
+-- where no span is left all is blank
+module _ (content : Id → Tree) (column : ℕ) (i : Id) where
+  none-blank : (r : List Span) (f : Found) → IsFound r (4 * column) i f → f.end ≡ None → (c : ℕ) → 4 * column ≤ c → square_at content 0 r c ≡ blank 0
+  none-blank r f h e c le = ap (square_or_blank content 0) (none-left r (4 * column) i f h e c le)
+
+  pub four-blank : (a b c d : List Span) (fa fb fc fd : Found) → IsFound a (4 * column) i fa → IsFound b (4 * column) i fb → IsFound c (4 * column) i fc → IsFound d (4 * column) i fd
+      → fa.end ≡ None → fb.end ≡ None → fc.end ≡ None → fd.end ≡ None → (x : ℕ) → column ≤ x → four_at content a b c d x ≡ blank 2
+  four-blank a b c d fa fb fc fd ha hb hc hd ea eb ec ed x le =
+      let p = two a b fa fb ha hb ea eb in
+      let q = two c d fc fd hc hd ec ed in
+      λ j. quad (p (2 * x) (omega arith) j) (p (2 * x + 1) (omega arith) j) (q (2 * x) (omega arith) j) (q (2 * x + 1) (omega arith) j)
+    where
+      two : (u l : List Span) (fu fl : Found) → IsFound u (4 * column) i fu → IsFound l (4 * column) i fl → fu.end ≡ None → fl.end ≡ None → (k : ℕ) → 2 * x ≤ k → quad_at content 0 u l k ≡ blank 1
+      two u l fu fl hu hl eu el k more =
+          let nw = none-blank u fu hu eu (2 * k) (omega (arith, le, more)) in
+          let ne = none-blank u fu hu eu (2 * k + 1) (omega (arith, le, more)) in
+          let sw = none-blank l fl hl el (2 * k) (omega (arith, le, more)) in
+          let se = none-blank l fl hl el (2 * k + 1) (omega (arith, le, more)) in
+          λ j. quad (nw j) (ne j) (sw j) (se j)
+
+-- the nearest end is beyond the column, and one of the plane
+pub nearest-inside : (a b c d : List Span) → AreWithin 0 a → AreWithin 0 b → AreWithin 0 c → AreWithin 0 d
+    → (column : ℕ) (i : Id) (fa fb fc fd : Found) (end : ℕ) → IsFound a column i fa → IsFound b column i fb → IsFound c column i fc → IsFound d column i fd
+    → IsNearest end fa.end fb.end fc.end fd.end → (column < end) × (end ≤ 4 * 2 ^ (MAX_LEVEL - 2))
+nearest-inside a b c d wa wb wc wd column i fa fb fc fd end ha hb hc hd near = (
+  nearest-beyond column end fa.end fb.end fc.end fd.end near ha.beyond hb.beyond hc.beyond hd.beyond,
+  nearest-within a b c d wa wb wc wd column i fa fb fc fd end ha hb hc hd near,
+)
+
+-- the cells of four columns of four rows are those of the square there
+pub band-square : {knows knows' : Id → Type 0} {old now : Id → Tree} → Keeps knows knows' old now → (a b c d : List Span) → IsStrip knows old 0 a → IsStrip knows old 0 b → IsStrip knows old 0 c → IsStrip knows old 0 d
+    → (column p q r s : ℕ) → (two p ≡ quad_at now 0 a b (2 * column)) × (p < 16) → (two q ≡ quad_at now 0 a b (2 * column + 1)) × (q < 16)
+    → (two r ≡ quad_at now 0 c d (2 * column)) × (r < 16) → (two s ≡ quad_at now 0 c d (2 * column + 1)) × (s < 16)
+    → four (4096 * p + 256 * q + 16 * r + s) ≡ four_at old a b c d column
+band-square {knows} {knows'} {old} {now} keeps a b c d ka kb kc kd column p q r s hp hq hr hs =
+    four-digits p q r s hp.1 hq.1 hr.1 hs.1 ∙ (λ i. quad (hp.0 i) (hq.0 i) (hr.0 i) (hs.0 i))
+    ∙ four-keeps {knows = knows} {knows' = knows'} {old = old} {now = now} keeps a b c d ka kb kc kd column

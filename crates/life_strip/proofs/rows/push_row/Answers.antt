@@ -1,0 +1,69 @@
+use Rattle.std.proofs.Common.{length-append, ◌≡◌, ◌+◌, ◌^◌, ◌++◌, ◌∷◌, [], length, All, arith, refl, sym, ◌∙◌, ap, subst}
+use Rattle.std.proofs.lemmas.List.{append_assoc}
+use Rattle.std.proofs.lemmas.List.Elements.{All-push}
+use Rattle.life_strip.specs.Picture.{picture, height, IsSound}
+use Rattle.life_strip.specs.Band.{IsPile}
+use Rattle.life_strip.proofs.NeededLemmas.{SomeSquare-same}
+use Rattle.life_strip.proofs.PictureLemmas.{on_ok_map2, on_ok_map4, height-push}
+use Rattle.life_strip.proofs.BandPictures.{height-append, height-rows, lowest-more, no-rows, pile-alone, pile-push}
+use Rattle.life_strip.proofs.rows.push_row.Goals as goal
+
+pub returns-then-len-lt4-clause-pile : goal.returns-then-len-lt4-clause-pile
+returns-then-len-lt4-clause-pile g c =
+    let K = g.S.Squares.knows c.args.squares.now in
+    let C = g.S.Squares.content c.args.squares.now in
+    let items = c.in_ok-push.ensures.items in
+    let n = ap length items ∙ length-append c.args.band.now.items (c.args.row ∷ []) in
+    subst (IsPile K C c.args.strips.now.items) (sym items)
+    (pile-push K C c.args.strips.now.items c.args.band.now.items c.args.row c.requires.pile c.requires.row c.requires.level (omega (arith, n, c.len.ensures, c.if-len-lt4.true)))
+
+pub returns-then-len-lt4-clause-height : goal.returns-then-len-lt4-clause-height
+returns-then-len-lt4-clause-height g c =
+    let xs = c.args.strips.now.items in
+    let ys = c.args.band.now.items in
+    let in_order : xs ++ c.push.new.self.items ≡ (xs ++ ys) ++ c.args.row ∷ [] = ap (λ z. xs ++ z) c.in_ok-push.ensures.items ∙ sym (append_assoc xs ys (c.args.row ∷ [])) in
+    ap height in_order ∙ height-push (xs ++ ys) c.args.row ∙ ap (λ n. height (xs ++ ys) + 2 ^ n) c.requires.level
+
+pub close_band-requires-clause-band : goal.close_band-requires-clause-band
+close_band-requires-clause-band g c =
+    let P = IsSound (g.S.Squares.knows c.args.squares.now) (g.S.Squares.content c.args.squares.now) in
+    subst (All P) (sym c.in_ok-push.ensures.items) (All-push P c.args.band.now.items c.args.row c.requires.pile.rows_sound c.requires.row)
+
+pub close_band-requires-clause-room : goal.close_band-requires-clause-room
+close_band-requires-clause-room g c =
+    let xs = c.args.strips.now.items in
+    let ys = c.args.band.now.items in
+    let in_order : xs ++ c.push.new.self.items ≡ (xs ++ ys) ++ c.args.row ∷ [] = ap (λ z. xs ++ z) c.in_ok-push.ensures.items ∙ sym (append_assoc xs ys (c.args.row ∷ [])) in
+    let h = ap height in_order ∙ height-push (xs ++ ys) c.args.row ∙ ap (λ n. height (xs ++ ys) + 2 ^ n) c.requires.level in
+    omega (arith, h, c.requires.room)
+
+pub returns-clause-pile : goal.returns-clause-pile
+returns-clause-pile g c =
+    let xs = c.args.strips.now.items in
+    let ys = c.args.band.now.items in
+    let n = ap length c.in_ok-push.ensures.items ∙ length-append ys (c.args.row ∷ []) in
+    let in_order : xs ++ c.push.new.self.items ≡ (xs ++ ys) ++ c.args.row ∷ [] = ap (λ z. xs ++ z) c.in_ok-push.ensures.items ∙ sym (append_assoc xs ys (c.args.row ∷ [])) in
+    let h = ap height in_order ∙ height-push (xs ++ ys) c.args.row ∙ ap (λ n. height (xs ++ ys) + 2 ^ n) c.requires.level in
+    let over = height-append xs ys in
+    let rows = height-rows ys c.requires.pile.rows in
+    let r = c.close_band.ensures in
+    on_ok_map4 c.close_band.result
+    (λ sound falling empty e. pile-alone (g.S.Squares.knows c.close_band.new.squares) (g.S.Squares.content c.close_band.new.squares) c.close_band.new.strips.items c.close_band.new.band.items empty sound falling
+    (lowest-more xs c.close_band.new.strips.items 4 1 c.requires.pile.lowest falling (omega (arith, e, h, over, rows, n, c.len.ensures, c.if-len-lt4.false, c.requires.pile.few)) refl))
+    r.sound r.falling r.empty r.height
+
+pub returns-clause-height : goal.returns-clause-height
+returns-clause-height g c =
+    let xs = c.args.strips.now.items in
+    let ys = c.args.band.now.items in
+    let in_order : xs ++ c.push.new.self.items ≡ (xs ++ ys) ++ c.args.row ∷ [] = ap (λ z. xs ++ z) c.in_ok-push.ensures.items ∙ sym (append_assoc xs ys (c.args.row ∷ [])) in
+    let h = ap height in_order ∙ height-push (xs ++ ys) c.args.row ∙ ap (λ n. height (xs ++ ys) + 2 ^ n) c.requires.level in
+    on_ok_map2 c.close_band.result (λ empty e. ap height (no-rows c.close_band.new.strips.items c.close_band.new.band.items empty) ∙ e ∙ h) c.close_band.ensures.empty c.close_band.ensures.height
+
+pub returns-clause-needed : goal.returns-clause-needed
+returns-clause-needed g c =
+    let xs = c.args.strips.now.items in
+    let ys = c.args.band.now.items in
+    let in_order : xs ++ c.push.new.self.items ≡ (xs ++ ys) ++ c.args.row ∷ [] = ap (λ z. xs ++ z) c.in_ok-push.ensures.items ∙ sym (append_assoc xs ys (c.args.row ∷ [])) in
+    let h = ap height in_order ∙ height-push (xs ++ ys) c.args.row ∙ ap (λ n. height (xs ++ ys) + 2 ^ n) c.requires.level in
+    λ e. SomeSquare-same (omega (arith, h)) (λ i j. ap (λ z. picture (g.S.Squares.content c.args.squares.now) z i j) in_order) (c.close_band.ensures.needed e)
