@@ -1,5 +1,5 @@
 //! The cells of small squares as the bits of a word.
-ghost use Rattle.std.specs.Prelude.{◌≡◌, ◌⊎◌, ℕ, ℤ, pos, ◌+ℤ◌, ◌^◌, ◌<◌, ◌≤◌, length, Contains, Err, IfOk, IfErr};
+ghost use Rattle.std.specs.Prelude.{◌≡◌, ◌⊎◌, ℕ, ℤ, pos, ◌+ℤ◌, ◌^◌, ◌<◌, ◌≤◌, length, Contains, Err, IfOk, IfErr, OnErr};
 ghost use Rattle.std.specs.Int.{bit_at};
 ghost use Rattle.life_base.specs.declared.kind.Kind.TheVariants.{Full, Memory};
 ghost use Rattle.life_base.specs.Tree.{Tree, point, quad, depth};
@@ -84,6 +84,7 @@ pub(crate) fn join_cells<S: Squares>(squares: &mut S, word: u64) -> Result<Id, K
     ensures most { S.most squares.new ≡ S.most squares.old }
     ensures refusals { IfErr result (λ e. (e ≡ Full) ⊎ (e ≡ Memory)) }
     ensures full { result ≡ Err Full → length (S.stored squares.new) ≡ S.most squares.new }
+    ensures needed { OnErr result (S.needs_node squares.new (quad (point (bit_at word 0)) (point (bit_at word 1)) (point (bit_at word 8)) (point (bit_at word 9)))) }
 {
     let nw = squares.cell((word & 1) as u8);
     let ne = squares.cell(((word >> 1) & 1) as u8);

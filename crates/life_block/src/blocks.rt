@@ -1,10 +1,12 @@
 //! The next states of squares.
-ghost use Rattle.std.specs.Prelude.{◌≡◌, ◌⊎◌, ℕ, ℤ, ◌+◌, ◌*◌, ◌^◌, ◌<◌, ◌≤◌, false, length, Contains, Err, IfOk, IfErr};
+ghost use Rattle.std.specs.Prelude.{◌≡◌, ◌⊎◌, ℕ, ℤ, suc, ◌+◌, ◌*◌, ◌^◌, ◌<◌, ◌≤◌, false, length, Contains, Err, IfOk, IfErr, OnErr};
 ghost use Rattle.life_base.specs.declared.kind.Kind.TheVariants.{Full, Memory};
 ghost use Rattle.life_base.specs.Rules.{has_digit};
 ghost use Rattle.life_base.specs.Tree.{Tree, depth, tree_cell};
+ghost use Rattle.life_quad.specs.Refused.{SomePart};
 ghost use Rattle.life_quad.specs.declared.id.Id.{Id as IdValue};
 ghost use Rattle.life_sweep.specs.Generation.{next_life};
+ghost use Rattle.life_block.specs.Needed.{square_from, next_square};
 ghost use Rattle.life_block.specs.Pieces.{IsPiece, IsBinary, IsAt, InNine, InSixteen, AreNine, AreSixteen};
 
 use crate::bitmap::{eight_rows, join_cells};
@@ -27,6 +29,7 @@ fn next_of_cells<S: Squares>(
     ensures most { S.most squares.new ≡ S.most squares.old }
     ensures refusals { IfErr result (λ e. (e ≡ Full) ⊎ (e ≡ Memory)) }
     ensures full { result ≡ Err Full → length (S.stored squares.new) ≡ S.most squares.new }
+    ensures needed { OnErr result ((cells : ℤ → ℤ → ℕ) (x y : ℤ) → IsBinary cells → AreSixteen (S.content squares.old) cells 2 x y sixteen.now → SomePart (S.needs_node squares.new) (square_from (next_life rule.now cells) 2 x y)) }
 {
     let rows = eight_rows(squares, sixteen);
     let words = Words {
@@ -61,6 +64,7 @@ fn next_amid<S: Squares>(
     ensures most { S.most squares.new ≡ S.most squares.old }
     ensures refusals { IfErr result (λ e. (e ≡ Full) ⊎ (e ≡ Memory)) }
     ensures full { result ≡ Err Full → length (S.stored squares.new) ≡ S.most squares.new }
+    ensures needed { OnErr result ((cells : ℤ → ℤ → ℕ) (x y : ℤ) → IsBinary cells → AreNine (S.content squares.old) cells (2 ^ level) x y nine.now → SomePart (S.needs_node squares.new) (square_from (next_life rule.now cells) level x y)) }
 {
     let blank = squares.empty(level);
     if nine.are_all(blank) {
@@ -89,6 +93,7 @@ fn next_of_middle<S: Squares>(
     ensures most { S.most squares.new ≡ S.most squares.old }
     ensures refusals { IfErr result (λ e. (e ≡ Full) ⊎ (e ≡ Memory)) }
     ensures full { result ≡ Err Full → length (S.stored squares.new) ≡ S.most squares.new }
+    ensures needed { OnErr result ((cells : ℤ → ℤ → ℕ) (x y : ℤ) → IsBinary cells → AreSixteen (S.content squares.old) cells (2 ^ level) x y sixteen.now → SomePart (S.needs_node squares.new) (square_from (next_life rule.now cells) (suc level) x y)) }
 {
     if level == 1 {
         return next_of_cells(squares, rule, sixteen);
@@ -119,6 +124,7 @@ pub fn next_life_square<S: Squares>(squares: &mut S, rule: &LifeRule, id: Id) ->
     ensures most { S.most squares.new ≡ S.most squares.old }
     ensures refusals { IfErr result (λ e. (e ≡ Full) ⊎ (e ≡ Memory)) }
     ensures full { result ≡ Err Full → length (S.stored squares.new) ≡ S.most squares.new }
+    ensures needed { OnErr result (SomePart (S.needs_node squares.new) (next_square rule.now (S.content squares.old id))) }
 {
     // To read a field opens the invariant to the proof: no cell is born without live neighbours.
     let _ = &rule.births;

@@ -7,6 +7,7 @@ ghost use Rattle.life_quad.specs.declared.id.Id.{Id as IdValue};
 ghost use Rattle.life_sweep.specs.Generation.{next_life};
 ghost use Rattle.life_sweep.specs.Refused.{GenerationRefusal};
 ghost use Rattle.life_sweep.specs.Sweep.{LifeAnswers};
+ghost use Rattle.life_block.specs.Needed.{SomeOfNext, level_behind};
 
 use crate::blocks::next_life_square;
 use life_base::{Fault, Kind, LifeRule, MAX_LEVEL};
@@ -35,10 +36,12 @@ pub fn next_life_generation<S: SharedSquares>(
     ensures known { IfOk result (S.knows squares.new) }
     ensures high { IfOk result (λ r. 3 ≤ depth (S.content squares.new r)) }
     ensures low { IfOk result (λ r. depth (S.content squares.new r) ≤ MAX_LEVEL) }
+    ensures level { IfOk result (λ r. depth (S.content squares.new r) ≡ level_behind (depth (S.content squares.old id))) }
     ensures next { IfOk result (λ r. (x y : ℤ) → tree_cell (S.content squares.new r) x y ≡ next_life rule.now (tree_cell (S.content squares.old id)) x y) }
     ensures accepted { IfOk result (λ _. GenerationRefusal (LifeAnswers rule.now) 2 most (S.content squares.old id) None) }
     ensures refusals { IfErr result (λ f. (f ≡ fault_of Full) ⊎ (f ≡ fault_of Memory) ⊎ GenerationRefusal (LifeAnswers rule.now) 2 most (S.content squares.old id) (Some f)) }
     ensures full { result ≡ Err (fault_of Full) → length (S.stored squares.new) ≡ S.most squares.new }
+    ensures needed { result ≡ Err (fault_of Full) → SomeOfNext (S.needs_node squares.new) rule.now (S.content squares.old id) }
     ensures keeps { (q : IdValue) → S.knows squares.old q → S.knows squares.new q × (S.content squares.new q ≡ S.content squares.old q) }
     ensures stays { (t : Tree) → Contains (S.stored squares.old) t → Contains (S.stored squares.new) t }
     ensures most { S.most squares.new ≡ S.most squares.old }

@@ -1,4 +1,5 @@
 mod StateFacts
 mod RefusalFacts
 mod StepFacts
+mod NeedFacts
 mod Rows

@@ -1,14 +1,17 @@
 //! The steps of the pattern in a file.
 
-ghost use Rattle.std.specs.Prelude.{◌≡◌, ◌≢◌, ◌⊎◌, ◌+◌, ◌^◌, ◌-◌, ◌<◌, ◌≤◌, ◌↔◌, ℕ, ℤ, List, Some, None, IfOk, IfErr, OnOk, IsTrue};
+ghost use Rattle.std.specs.Prelude.{◌≡◌, ◌≢◌, ◌⊎◌, ◌+◌, ◌^◌, ◌-◌, ◌<◌, ◌≤◌, ◌↔◌, ℕ, ℤ, List, Some, None, Err, IfOk, IfErr, OnOk, IsTrue};
 ghost use Rattle.life_base.specs.Refusal.{fault_of};
 ghost use Rattle.life_base.specs.Rules.{IsRule};
 ghost use Rattle.life_base.specs.Tree.{depth, tree_cell};
 ghost use Rattle.life_base.specs.declared.rule.Rule.TheVariants.{Named as NamedRule};
 ghost use Rattle.life_canon.specs.Files.{Reads, Refuses};
+ghost use Rattle.life_canon.specs.Needs.{IsNew, LacksFor};
 ghost use Rattle.life_canon.specs.Store.{Keeps, IsKnown, IsOfFile, IsRead, IsWant, content};
-ghost use Rattle.life_canon.specs.Universe.{Universe, least_level, square_universe};
+ghost use Rattle.life_canon.specs.Universe.{Universe, least_level, square_universe, whole};
 ghost use Rattle.life_mc.specs.Macrocell.{largest_state};
+ghost use Rattle.life_quad.specs.Refused.{SomeTrimmed};
+ghost use Rattle.life_step.specs.Needed.{LacksForLife, LacksForTable};
 ghost use Rattle.life_step.specs.Refusals.{LifeRefusal, TableRefusal};
 ghost use Rattle.life_step.specs.Stepped.{IsLifeStep, IsTableStep, IsTextOf, Stepped};
 
@@ -72,6 +75,7 @@ fn text_of_square(
     requires states { (x y : ℤ) → tree_cell (content store.old square) x y ≤ largest_state rule }
     ensures text { IfOk result (λ text. IsTextOf MAX_LEVEL (square_universe rule generation (content store.old square)) text.items) }
     ensures want { IfErr result (IsWant store.new) }
+    ensures needed { result ≡ Err (fault_of Kind.Full) → SomeTrimmed (IsNew store.new) (content store.old square) (least_level rule) }
     ensures keeps { Keeps store.old store.new }
 {
     files_are_on_plane();
@@ -96,6 +100,7 @@ pub fn next_by_rule(alloc: Global, store: &mut Shared, pattern: Pattern) -> Resu
     requires { IsOfFile MAX_LEVEL store.old pattern }
     ensures stepped { IfOk result (λ text. (bytes : List ℕ) → IsRead MAX_LEVEL bytes store.old pattern → (u : Universe) × Reads MAX_LEVEL bytes u × LifeRefusal MAX_LEVEL u None × Stepped MAX_LEVEL IsLifeStep text.items u) }
     ensures refused { IfErr result (λ fault. IsWant store.new fault ⊎ ((bytes : List ℕ) → IsRead MAX_LEVEL bytes store.old pattern → (u : Universe) × Reads MAX_LEVEL bytes u × LifeRefusal MAX_LEVEL u (Some fault))) }
+    ensures needed { result ≡ Err (fault_of Kind.Full) → LacksForLife pattern.rule (content store.old pattern.root) store.new }
     ensures keeps { Keeps store.old store.new }
 {
     let Rule::Life(rule) = &pattern.rule else {
@@ -120,6 +125,7 @@ pub fn next_by_rule(alloc: Global, store: &mut Shared, pattern: Pattern) -> Resu
 pub fn step_life(alloc: Global, store: &mut Shared, bytes: &[u8]) -> Result<Vec<u8>, Fault>
     ensures stepped { IfOk result (λ text. (u : Universe) × Reads MAX_LEVEL bytes.now u × LifeRefusal MAX_LEVEL u None × Stepped MAX_LEVEL IsLifeStep text.items u) }
     ensures refused { IfErr result (λ fault. Refuses MAX_LEVEL bytes.now fault ⊎ (IsWant store.new fault ⊎ ((u : Universe) × Reads MAX_LEVEL bytes.now u × LifeRefusal MAX_LEVEL u (Some fault)))) }
+    ensures needed { result ≡ Err (fault_of Kind.Full) → LacksFor MAX_LEVEL bytes.now store.new ⊎ ((u : Universe) × Reads MAX_LEVEL bytes.now u × LacksForLife u.rule (whole MAX_LEVEL u) store.new) }
     ensures keeps { Keeps store.old store.new }
 {
     let pattern = read(alloc, store, bytes)?;
@@ -140,6 +146,7 @@ pub fn next_by_table(
     requires { IsOfFile MAX_LEVEL store.old pattern }
     ensures stepped { IfOk result (λ text. (bytes : List ℕ) → IsRead MAX_LEVEL bytes store.old pattern → (u : Universe) × Reads MAX_LEVEL bytes u × TableRefusal MAX_LEVEL table.now u None × Stepped MAX_LEVEL (IsTableStep table.now) text.items u) }
     ensures refused { IfErr result (λ fault. IsWant store.new fault ⊎ ((bytes : List ℕ) → IsRead MAX_LEVEL bytes store.old pattern → (u : Universe) × Reads MAX_LEVEL bytes u × TableRefusal MAX_LEVEL table.now u (Some fault))) }
+    ensures needed { result ≡ Err (fault_of Kind.Full) → LacksForTable table.now pattern.rule (content store.old pattern.root) store.new }
     ensures keeps { Keeps store.old store.new }
 {
     if !is_rule_of(table, &pattern.rule) {
@@ -173,6 +180,7 @@ pub fn step_table(
 ) -> Result<Vec<u8>, Fault>
     ensures stepped { IfOk result (λ text. (u : Universe) × Reads MAX_LEVEL bytes.now u × TableRefusal MAX_LEVEL table.now u None × Stepped MAX_LEVEL (IsTableStep table.now) text.items u) }
     ensures refused { IfErr result (λ fault. Refuses MAX_LEVEL bytes.now fault ⊎ (IsWant store.new fault ⊎ ((u : Universe) × Reads MAX_LEVEL bytes.now u × TableRefusal MAX_LEVEL table.now u (Some fault)))) }
+    ensures needed { result ≡ Err (fault_of Kind.Full) → LacksFor MAX_LEVEL bytes.now store.new ⊎ ((u : Universe) × Reads MAX_LEVEL bytes.now u × LacksForTable table.now u.rule (whole MAX_LEVEL u) store.new) }
     ensures keeps { Keeps store.old store.new }
 {
     let pattern = read(alloc, store, bytes)?;

@@ -3,6 +3,7 @@ pub mod BandLemmas
 pub mod WindowLemmas
 pub mod PenLemmas
 pub mod SweepLemmas
+pub mod NeedLemmas
 pub mod LawLemmas
 pub mod RepresentativeLemmas
 pub mod LawProofs

@@ -7,10 +7,10 @@ use Rattle.life_strip.proofs.GivenLemmas.{runs_grow}
 use Rattle.life_sweep.specs.Pen.{one_cell}
 
 -- the state of a run of a list's end, and of other cells
-inside-last : (runs : List GivenRun) (run : GivenRun) (x y : ℤ) → AreInOrder runs → IsNext runs run.x run.y → IsInRun run.x run.y run.len x y → state_by (runs ++ run ∷ []) x y ≡ run.state
+pub inside-last : (runs : List GivenRun) (run : GivenRun) (x y : ℤ) → AreInOrder runs → IsNext runs run.x run.y → IsInRun run.x run.y run.len x y → state_by (runs ++ run ∷ []) x y ≡ run.state
 inside-last runs run x y order next here = sym ((runs_grow runs run x y).1 order next run.state (λ _. refl) (λ out. absurd (out here)))
 
-outside-last : (runs : List GivenRun) (run : GivenRun) (x y : ℤ) → AreInOrder runs → IsNext runs run.x run.y → ¬ (IsInRun run.x run.y run.len x y) → state_by (runs ++ run ∷ []) x y ≡ state_by runs x y
+pub outside-last : (runs : List GivenRun) (run : GivenRun) (x y : ℤ) → AreInOrder runs → IsNext runs run.x run.y → ¬ (IsInRun run.x run.y run.len x y) → state_by (runs ++ run ∷ []) x y ≡ state_by runs x y
 outside-last runs run x y order next out = sym ((runs_grow runs run x y).1 order next (state_by runs x y) (λ i. absurd (out i)) (λ _. refl))
 
 -- a cell more

@@ -1,5 +1,5 @@
 -- What was drawn: the runs that a builder was given, and one that may be continued.
-use Rattle.std.specs.Prelude.{◌≡◌, ◌≤◌, ℤ, ◌+ℤ◌, pos, List, [], ◌∷◌, ◌++◌, ℕ, Option, Some, None, IfSome}
+use Rattle.std.specs.Prelude.{◌≡◌, ◌≢◌, ◌≤◌, ℤ, ◌+ℤ◌, pos, List, [], ◌∷◌, ◌++◌, ℕ, Option, Some, None, IfSome}
 use Rattle.life_base.specs.Tree.{Tree}
 use Rattle.life_quad.specs.declared.id.Id.{Id}
 use Rattle.life_strip.specs.Filling.{IsFilling}
@@ -23,11 +23,12 @@ drawn_runs pen = pen.builder.runs ++ open_runs pen.unclosed
 abbrev pub one_cell : ℤ → ℤ → ℕ → GivenRun
 one_cell x y state = record { x = x; y = y; len = 1; state = state }
 
--- the run may be given behind these
+-- the run may be given behind these, and isn't blank
 pub record IsOpen (runs : List GivenRun) (run : Run) : Type 0 where
   pub some_cell : 1 ≤ run.len
   pub inside : IsOnPlane run.x run.y run.len
   pub next : IsNext runs run.x run.y
+  pub nonzero : run.state ≢ 0
 
 -- the builder fills the store, and the open run may be given to it
 pub record IsHolding (knows : Id → Type 0) (content : Id → Tree) (pen : Pen) : Type 0 where

@@ -5,6 +5,7 @@ ghost use Rattle.life_base.specs.Refusal.{fault_of};
 ghost use Rattle.life_base.specs.Tree.{Tree, depth, tree_cell};
 ghost use Rattle.life_quad.specs.declared.id.Id.{Id as IdValue};
 ghost use Rattle.life_table.specs.Meaning.{Becomes};
+ghost use Rattle.life_sweep.specs.Needed.{SomeNext};
 ghost use Rattle.life_sweep.specs.Refused.{GenerationRefusal};
 ghost use Rattle.life_sweep.specs.Sweep.{states_at};
 
@@ -44,6 +45,7 @@ pub fn next_generation<S: Squares, L: Law>(
     ensures accepted { IfOk result (λ _. GenerationRefusal (L.answers law.old) (L.bound law.old) most (S.content squares.old id) None) }
     ensures refusals { IfErr result (λ f. (f ≡ fault_of Full) ⊎ (f ≡ fault_of Memory) ⊎ GenerationRefusal (L.answers law.old) (L.bound law.old) most (S.content squares.old id) (Some f)) }
     ensures full { result ≡ Err (fault_of Full) → length (S.stored squares.new) ≡ S.most squares.new }
+    ensures needed { result ≡ Err (fault_of Full) → SomeNext (S.needs_node squares.new) (L.answers law.old) (tree_cell (S.content squares.old id)) }
     ensures same { law.new ≡ law.old }
     ensures keeps { (q : IdValue) → S.knows squares.old q → S.knows squares.new q × (S.content squares.new q ≡ S.content squares.old q) }
     ensures stays { (t : Tree) → Contains (S.stored squares.old) t → Contains (S.stored squares.new) t }

@@ -1,10 +1,11 @@
 //! A builder that is given whole runs, though the sweep draws place by place.
-ghost use Rattle.std.specs.Prelude.{◌≡◌, ◌≤◌, ◌⊎◌, ℤ, IsTrue, ◌↔◌, [], Contains, length, Err, None, OnOk, IfOk, IfErr};
+ghost use Rattle.std.specs.Prelude.{◌≡◌, ◌≢◌, ◌≤◌, ◌⊎◌, ℤ, IsTrue, ◌↔◌, [], Contains, length, Err, None, OnOk, IfOk, IfErr};
 ghost use Rattle.life_base.specs.declared.kind.Kind.TheVariants.{Full, Memory};
 ghost use Rattle.life_base.specs.Tree.{Tree, depth, tree_cell};
 ghost use Rattle.life_quad.specs.declared.id.Id.{Id as IdValue};
 ghost use Rattle.life_strip.specs.Filling.{IsEmpty, IsFilling};
 ghost use Rattle.life_strip.specs.Given.{IsBehind, IsNext, IsOnPlane, state_by};
+ghost use Rattle.life_sweep.specs.Needed.{SomeAbove, SomeOfAll};
 ghost use Rattle.life_sweep.specs.Pen.{IsHolding, IsContinuedBy, drawn_runs, one_cell};
 
 use life_base::{Kind, MAX_LEVEL, State};
@@ -60,6 +61,7 @@ impl Pen {
         ensures most { S.most squares.new ≡ S.most squares.old }
         ensures refusals { IfErr result (λ e. (e ≡ Full) ⊎ (e ≡ Memory)) }
         ensures full { result ≡ Err Full → length (S.stored squares.new) ≡ S.most squares.new }
+        ensures needed { result ≡ Err Full → SomeAbove (S.needs_node squares.new) (drawn_runs self.old) }
     {
         let Some(run) = self.unclosed else {
             return Ok(());
@@ -70,7 +72,7 @@ impl Pen {
         Ok(())
     }
 
-    /// Gives the cell (x, y) a state. It is behind the cells that were drawn.
+    /// Gives the cell (x, y) a state other than 0. It is behind the cells that were drawn.
     pub(crate) fn draw<S: Squares>(
         &mut self,
         squares: &mut S,
@@ -81,6 +83,7 @@ impl Pen {
         requires holding { IsHolding (S.knows squares.old) (S.content squares.old) self.old }
         requires inside { IsOnPlane x y 1 }
         requires next { IsNext (drawn_runs self.old) x y }
+        requires nonzero { state ≢ 0 }
         ensures holding { OnOk result (IsHolding (S.knows squares.new) (S.content squares.new) self.new) }
         ensures here { OnOk result (state_by (drawn_runs self.new) x y ≡ state) }
         ensures others { OnOk result ((c r : ℤ) → (c ≡ x → r ≡ y → ⊥) → state_by (drawn_runs self.new) c r ≡ state_by (drawn_runs self.old) c r) }
@@ -90,6 +93,7 @@ impl Pen {
         ensures most { S.most squares.new ≡ S.most squares.old }
         ensures refusals { IfErr result (λ e. (e ≡ Full) ⊎ (e ≡ Memory)) }
         ensures full { result ≡ Err Full → length (S.stored squares.new) ≡ S.most squares.new }
+        ensures needed { result ≡ Err Full → SomeAbove (S.needs_node squares.new) (drawn_runs self.old) }
     {
         if let Some(run) = self.unclosed {
             if is_continued_by(&run, x, y, state) {
@@ -119,6 +123,7 @@ impl Pen {
         ensures most { S.most squares.new ≡ S.most squares.old }
         ensures refusals { IfErr result (λ e. (e ≡ Full) ⊎ (e ≡ Memory)) }
         ensures full { result ≡ Err Full → length (S.stored squares.new) ≡ S.most squares.new }
+        ensures needed { result ≡ Err Full → SomeAbove (S.needs_node squares.new) (drawn_runs self) ⊎ SomeOfAll (S.needs_node squares.new) (drawn_runs self) }
     {
         self.close(squares)?;
         self.builder.finish(squares)

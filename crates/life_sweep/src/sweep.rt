@@ -5,6 +5,7 @@ ghost use Rattle.life_base.specs.Refusal.{fault_of};
 ghost use Rattle.life_base.specs.Tree.{Tree, depth, tree_cell};
 ghost use Rattle.life_quad.specs.declared.id.Id.{Id as IdValue};
 ghost use Rattle.life_strip.specs.Filling.{IsFilling};
+ghost use Rattle.life_sweep.specs.Needed.{SomeAbove, SomeNext};
 ghost use Rattle.life_sweep.specs.Pen.{IsHolding, drawn_runs};
 ghost use Rattle.life_strip.specs.Given.{IsOnPlane, state_by};
 ghost use Rattle.life_table.specs.Meaning.{Answer, Becomes, Ambiguous};
@@ -54,6 +55,7 @@ fn draw_place<S: Squares, L: Law>(
     ensures most { S.most squares.new ≡ S.most squares.old }
     ensures refusals { IfErr result (λ f. (f ≡ fault_of Full) ⊎ ((f ≡ fault_of Memory) ⊎ ((f.kind ≡ Kind.Ambiguous) × L.answers law.old (states_of window.now) (Ambiguous f.place.line)))) }
     ensures full { result ≡ Err (fault_of Full) → length (S.stored squares.new) ≡ S.most squares.new }
+    ensures needed { result ≡ Err (fault_of Full) → SomeAbove (S.needs_node squares.new) (drawn_runs pen.old) }
 {
     let state = law.next(&window.around())?;
     if state == 0 {
@@ -90,6 +92,7 @@ fn draw_row<S: Squares, L: Law>(
     ensures most { S.most squares.new ≡ S.most squares.old }
     ensures refusals { IfErr result (λ f. (f ≡ fault_of Full) ⊎ ((f ≡ fault_of Memory) ⊎ ((f.kind ≡ Kind.Ambiguous) × ((cells : ℤ → ℤ → ℕ) → IsScene cells y rows.entry → IsSweptRows (L.answers law.old) cells (state_by (drawn_runs pen.old)) leaves y → IsFirstAmbiguous (L.answers law.old) cells f.place.line)))) }
     ensures full { result ≡ Err (fault_of Full) → length (S.stored squares.new) ≡ S.most squares.new }
+    ensures needed { result ≡ Err (fault_of Full) → (cells : ℤ → ℤ → ℕ) → IsScene cells y rows.entry → IsSweptRows (L.answers law.old) cells (state_by (drawn_runs pen.old)) leaves y → SomeNext (S.needs_node squares.new) (L.answers law.old) cells }
 {
     let mut left = leaves;
     let mut window = Window::new(rows);
@@ -118,6 +121,7 @@ pub(crate) fn next_square<S: Squares, L: Law>(
     ensures most { S.most squares.new ≡ S.most squares.old }
     ensures refusals { IfErr result (λ f. (f ≡ fault_of Full) ⊎ ((f ≡ fault_of Memory) ⊎ ((plane : ℤ → ℤ → ℕ) → IsSorted plane cells.now → RefusesStep (L.answers law.old) plane f))) }
     ensures full { result ≡ Err (fault_of Full) → length (S.stored squares.new) ≡ S.most squares.new }
+    ensures needed { result ≡ Err (fault_of Full) → (plane : ℤ → ℤ → ℕ) → IsSorted plane cells.now → SomeNext (S.needs_node squares.new) (L.answers law.old) plane }
 {
     let mut pen = Pen::new(alloc);
     empty_builder_fills::<S>();

@@ -1,5 +1,6 @@
-use Rattle.std.proofs.Common.{◌≡◌, ℕ, suc, ◌+◌, ◌-◌, ◌^◌, Result, Ok, Err, IfOk, refl, sym, ◌∙◌, ap, subst, arith}
+use Rattle.std.proofs.Common.{◌≡◌, ℕ, suc, ◌+◌, ◌-◌, ◌^◌, pos, neg_ℤ, Result, Ok, Err, IfOk, refl, sym, ◌∙◌, ap, subst, arith}
 use Rattle.std.proofs.lemmas.Int.{ints}
+use Rattle.std.proofs.lemmas.Result.{err_from_is_err_and}
 use Rattle.life_base.specs.Rules.{has_digit}
 use Rattle.life_base.specs.Sets.{OuterTotalistic}
 use Rattle.life_base.specs.Tree.{Tree, quad, depth, blank, half_side, tree_cell, IsFull}
@@ -7,6 +8,7 @@ use Rattle.life_quad.specs.declared.id.Id.{Id}
 use Rattle.life_quad.specs.declared.moves.Quarters.{Quarters}
 use Rattle.life_sweep.specs.Generation.{next_life}
 use Rattle.life_block.specs.Pieces.{IsPiece, IsAt, InSixteen, AreSixteen, back, ahead}
+use Rattle.life_block.proofs.NeedLemmas.{piece-is, north_west-root, north_east-root, south_west-root, south_east-root, whole-root, on-err, still-needs}
 use Rattle.life_block.proofs.PieceLemmas.{twice, IsPiece-moved, IsPiece-joined}
 use Rattle.life_block.proofs.RootLemmas.{IsAlone, AreQuarters, AreQuarters-kept, corner, alone-root, piece-of_root, root-next, known-north_west, pieces-south_east, pieces-south_west, pieces-north_east, pieces-north_west}
 use Rattle.life_block.proofs.blocks.next_life_square.Goals as goal
@@ -132,3 +134,181 @@ returns-clause-next g c =
     (IsPiece-moved next _ _ _ _ _ (sym side) (sym side) p4) in
     root-next c.args.rule.now t u quiet (omega (arith, level)) (g.met.S.Squares.full c.join.new.self r known) level-r (IsPiece-moved next _ _ _ _ u at at whole))
     c.join.ensures.known c.join.ensures.square
+
+pub returns-in_err-north_west-clause-needed : goal.returns-in_err-north_west-clause-needed
+returns-in_err-north_west-clause-needed g c =
+    let K = g.S.Squares.knows in
+    let C = g.S.Squares.content in
+    let s0 = c.args.squares.now in
+    let t = C s0 c.args.id in
+    let cells = tree_cell t in
+    let next = next_life c.args.rule.now cells in
+    let k = c.level-level.result - 1 in
+    let start = corner t in
+    let q = c.divide-root.result in
+    let b = c.empty-blank.result in
+    let d = c.divide-root.ensures in
+    let empty = c.empty-blank.ensures in
+    let q0 = quarters-at (K s0) (C s0) c.args.id c.divide-root.result c.empty-blank.result (c.level-level.result - 1) (g.met.S.Squares.full _ _ c.requires.known) (omega (arith, c.level-level.ensures.level, c.requires.high)) d.square d.nw d.ne d.sw d.se empty.known empty.square empty.level in
+    let level : depth t ≡ k + 1 = omega (arith, c.level-level.ensures.level, c.requires.high) in
+    let half : half_side t ≡ 2 ^ k = ap (λ n. 2 ^ (n - 1)) level ∙ ap (λ n. 2 ^ n) (less-one k) in
+    let alone = subst (IsAlone cells start) half (alone-root t) in
+    let west = back start (2 ^ k) in
+    let east = ahead start (2 ^ k) in
+    let at : start ≡ neg_ℤ (pos (2 ^ k)) = ap (λ n. neg_ℤ (pos n)) half in
+    let p = err_from_is_err_and c.from_residual.result c.from_residual.ensures.1 in
+    rw p.1
+    (north_west-root (g.S.Squares.needs_node c.next_of_middle.new.squares) next k start t level at
+    (c.in_err-north_west.ensures.needed cells west west c.requires.states (subst (AreSixteen (C s0) cells (2 ^ k) west west) (sym c.in_south_east.ensures) (pieces-south_east (K s0) (C s0) cells k start q b q0 alone))))
+
+pub returns-in_err-north_east-clause-needed : goal.returns-in_err-north_east-clause-needed
+returns-in_err-north_east-clause-needed g c =
+    let K = g.S.Squares.knows in
+    let C = g.S.Squares.content in
+    let s0 = c.args.squares.now in
+    let t = C s0 c.args.id in
+    let cells = tree_cell t in
+    let next = next_life c.args.rule.now cells in
+    let k = c.level-level.result - 1 in
+    let start = corner t in
+    let q = c.divide-root.result in
+    let b = c.empty-blank.result in
+    let d = c.divide-root.ensures in
+    let empty = c.empty-blank.ensures in
+    let q0 = quarters-at (K s0) (C s0) c.args.id c.divide-root.result c.empty-blank.result (c.level-level.result - 1) (g.met.S.Squares.full _ _ c.requires.known) (omega (arith, c.level-level.ensures.level, c.requires.high)) d.square d.nw d.ne d.sw d.se empty.known empty.square empty.level in
+    let level : depth t ≡ k + 1 = omega (arith, c.level-level.ensures.level, c.requires.high) in
+    let half : half_side t ≡ 2 ^ k = ap (λ n. 2 ^ (n - 1)) level ∙ ap (λ n. 2 ^ n) (less-one k) in
+    let alone = subst (IsAlone cells start) half (alone-root t) in
+    let west = back start (2 ^ k) in
+    let east = ahead start (2 ^ k) in
+    let nw = c.in_ok-north_west.ensures in
+    let s1 = c.next_of_middle.new.squares in
+    let to1 : (i : Id) → K s0 i → K s1 i × (C s1 i ≡ C s0 i) = (λ i h. nw.keeps i h) in
+    let q1 = AreQuarters-kept (K s0) (K s1) (C s0) (C s1) cells k start q b to1 q0 in
+    let at : start ≡ neg_ℤ (pos (2 ^ k)) = ap (λ n. neg_ℤ (pos n)) half in
+    let p = err_from_is_err_and c.from_residual-in_err-north_east.result c.from_residual-in_err-north_east.ensures.1 in
+    rw p.1
+    (north_east-root (g.S.Squares.needs_node c.next_of_middle-2.new.squares) next k start t level at
+    (c.in_err-north_east.ensures.needed cells east west c.requires.states (subst (AreSixteen (C s1) cells (2 ^ k) east west) (sym c.in_south_west.ensures) (pieces-south_west (K s1) (C s1) cells k start q b q1 alone))))
+
+pub returns-in_err-south_west-clause-needed : goal.returns-in_err-south_west-clause-needed
+returns-in_err-south_west-clause-needed g c =
+    let K = g.S.Squares.knows in
+    let C = g.S.Squares.content in
+    let s0 = c.args.squares.now in
+    let t = C s0 c.args.id in
+    let cells = tree_cell t in
+    let next = next_life c.args.rule.now cells in
+    let k = c.level-level.result - 1 in
+    let start = corner t in
+    let q = c.divide-root.result in
+    let b = c.empty-blank.result in
+    let d = c.divide-root.ensures in
+    let empty = c.empty-blank.ensures in
+    let q0 = quarters-at (K s0) (C s0) c.args.id c.divide-root.result c.empty-blank.result (c.level-level.result - 1) (g.met.S.Squares.full _ _ c.requires.known) (omega (arith, c.level-level.ensures.level, c.requires.high)) d.square d.nw d.ne d.sw d.se empty.known empty.square empty.level in
+    let level : depth t ≡ k + 1 = omega (arith, c.level-level.ensures.level, c.requires.high) in
+    let half : half_side t ≡ 2 ^ k = ap (λ n. 2 ^ (n - 1)) level ∙ ap (λ n. 2 ^ n) (less-one k) in
+    let alone = subst (IsAlone cells start) half (alone-root t) in
+    let west = back start (2 ^ k) in
+    let east = ahead start (2 ^ k) in
+    let nw = c.in_ok-north_west.ensures in
+    let ne = c.in_ok-north_east.ensures in
+    let s2 = c.next_of_middle-2.new.squares in
+    let to2 : (i : Id) → K s0 i → K s2 i × (C s2 i ≡ C s0 i) = (λ i h. let u = nw.keeps i h in let v = ne.keeps i u.0 in (v.0, v.1 ∙ u.1)) in
+    let q2 = AreQuarters-kept (K s0) (K s2) (C s0) (C s2) cells k start q b to2 q0 in
+    let at : start ≡ neg_ℤ (pos (2 ^ k)) = ap (λ n. neg_ℤ (pos n)) half in
+    let p = err_from_is_err_and c.from_residual-in_err-south_west.result c.from_residual-in_err-south_west.ensures.1 in
+    rw p.1
+    (south_west-root (g.S.Squares.needs_node c.next_of_middle-3.new.squares) next k start t level at
+    (c.in_err-south_west.ensures.needed cells west east c.requires.states (subst (AreSixteen (C s2) cells (2 ^ k) west east) (sym c.in_north_east.ensures) (pieces-north_east (K s2) (C s2) cells k start q b q2 alone))))
+
+pub returns-in_err-south_east-clause-needed : goal.returns-in_err-south_east-clause-needed
+returns-in_err-south_east-clause-needed g c =
+    let K = g.S.Squares.knows in
+    let C = g.S.Squares.content in
+    let s0 = c.args.squares.now in
+    let t = C s0 c.args.id in
+    let cells = tree_cell t in
+    let next = next_life c.args.rule.now cells in
+    let k = c.level-level.result - 1 in
+    let start = corner t in
+    let q = c.divide-root.result in
+    let b = c.empty-blank.result in
+    let d = c.divide-root.ensures in
+    let empty = c.empty-blank.ensures in
+    let q0 = quarters-at (K s0) (C s0) c.args.id c.divide-root.result c.empty-blank.result (c.level-level.result - 1) (g.met.S.Squares.full _ _ c.requires.known) (omega (arith, c.level-level.ensures.level, c.requires.high)) d.square d.nw d.ne d.sw d.se empty.known empty.square empty.level in
+    let level : depth t ≡ k + 1 = omega (arith, c.level-level.ensures.level, c.requires.high) in
+    let half : half_side t ≡ 2 ^ k = ap (λ n. 2 ^ (n - 1)) level ∙ ap (λ n. 2 ^ n) (less-one k) in
+    let alone = subst (IsAlone cells start) half (alone-root t) in
+    let west = back start (2 ^ k) in
+    let east = ahead start (2 ^ k) in
+    let nw = c.in_ok-north_west.ensures in
+    let ne = c.in_ok-north_east.ensures in
+    let sw = c.in_ok-south_west.ensures in
+    let s3 = c.next_of_middle-3.new.squares in
+    let to3 : (i : Id) → K s0 i → K s3 i × (C s3 i ≡ C s0 i) = (λ i h. let u = nw.keeps i h in let v = ne.keeps i u.0 in let w = sw.keeps i v.0 in (w.0, w.1 ∙ v.1 ∙ u.1)) in
+    let q3 = AreQuarters-kept (K s0) (K s3) (C s0) (C s3) cells k start q b to3 q0 in
+    let at : start ≡ neg_ℤ (pos (2 ^ k)) = ap (λ n. neg_ℤ (pos n)) half in
+    let p = err_from_is_err_and c.from_residual-in_err-south_east.result c.from_residual-in_err-south_east.ensures.1 in
+    rw p.1
+    (south_east-root (g.S.Squares.needs_node c.next_of_middle-4.new.squares) next k start t level at
+    (c.in_err-south_east.ensures.needed cells east east c.requires.states (subst (AreSixteen (C s3) cells (2 ^ k) east east) (sym c.in_north_west.ensures) (pieces-north_west (K s3) (C s3) cells k start q b q3 alone))))
+
+pub returns-clause-needed : goal.returns-clause-needed
+returns-clause-needed g c =
+    let K = g.S.Squares.knows in
+    let C = g.S.Squares.content in
+    let s0 = c.args.squares.now in
+    let t = C s0 c.args.id in
+    let cells = tree_cell t in
+    let next = next_life c.args.rule.now cells in
+    let k = c.level-level.result - 1 in
+    let start = corner t in
+    let q = c.divide-root.result in
+    let b = c.empty-blank.result in
+    let d = c.divide-root.ensures in
+    let empty = c.empty-blank.ensures in
+    let q0 = quarters-at (K s0) (C s0) c.args.id c.divide-root.result c.empty-blank.result (c.level-level.result - 1) (g.met.S.Squares.full _ _ c.requires.known) (omega (arith, c.level-level.ensures.level, c.requires.high)) d.square d.nw d.ne d.sw d.se empty.known empty.square empty.level in
+    let level : depth t ≡ k + 1 = omega (arith, c.level-level.ensures.level, c.requires.high) in
+    let half : half_side t ≡ 2 ^ k = ap (λ n. 2 ^ (n - 1)) level ∙ ap (λ n. 2 ^ n) (less-one k) in
+    let alone = subst (IsAlone cells start) half (alone-root t) in
+    let west = back start (2 ^ k) in
+    let east = ahead start (2 ^ k) in
+    let s1 = c.next_of_middle.new.squares in
+    let s2 = c.next_of_middle-2.new.squares in
+    let s3 = c.next_of_middle-3.new.squares in
+    let s4 = c.next_of_middle-4.new.squares in
+    let nw = c.in_ok-north_west.ensures in
+    let ne = c.in_ok-north_east.ensures in
+    let sw = c.in_ok-south_west.ensures in
+    let se = c.in_ok-south_east.ensures in
+    let to1 : (i : Id) → K s0 i → K s1 i × (C s1 i ≡ C s0 i) = (λ i h. nw.keeps i h) in
+    let to2 : (i : Id) → K s0 i → K s2 i × (C s2 i ≡ C s0 i) = (λ i h. let u = nw.keeps i h in let v = ne.keeps i u.0 in (v.0, v.1 ∙ u.1)) in
+    let to3 : (i : Id) → K s0 i → K s3 i × (C s3 i ≡ C s0 i) = (λ i h. let u = nw.keeps i h in let v = ne.keeps i u.0 in let w = sw.keeps i v.0 in (w.0, w.1 ∙ v.1 ∙ u.1)) in
+    let q1 = AreQuarters-kept (K s0) (K s1) (C s0) (C s1) cells k start q b to1 q0 in
+    let q2 = AreQuarters-kept (K s0) (K s2) (C s0) (C s2) cells k start q b to2 q0 in
+    let q3 = AreQuarters-kept (K s0) (K s3) (C s0) (C s3) cells k start q b to3 q0 in
+    let p1 = nw.next cells west west c.requires.states (subst (AreSixteen (C s0) cells (2 ^ k) west west) (sym c.in_south_east.ensures) (pieces-south_east (K s0) (C s0) cells k start q b q0 alone)) in
+    let p2 = ne.next cells east west c.requires.states (subst (AreSixteen (C s1) cells (2 ^ k) east west) (sym c.in_south_west.ensures) (pieces-south_west (K s1) (C s1) cells k start q b q1 alone)) in
+    let p3 = sw.next cells west east c.requires.states (subst (AreSixteen (C s2) cells (2 ^ k) west east) (sym c.in_north_east.ensures) (pieces-north_east (K s2) (C s2) cells k start q b q2 alone)) in
+    let p4 = se.next cells east east c.requires.states (subst (AreSixteen (C s3) cells (2 ^ k) east east) (sym c.in_north_west.ensures) (pieces-north_west (K s3) (C s3) cells k start q b q3 alone)) in
+    let nw2 = ne.keeps c.in_ok-north_west.north_west nw.at.known in
+    let nw3 = sw.keeps c.in_ok-north_west.north_west nw2.0 in
+    let nw4 = se.keeps c.in_ok-north_west.north_west nw3.0 in
+    let ne3 = sw.keeps c.in_ok-north_east.north_east ne.at.known in
+    let ne4 = se.keeps c.in_ok-north_east.north_east ne3.0 in
+    let sw4 = se.keeps c.in_ok-south_west.south_west sw.at.known in
+    let enw : C s4 c.in_ok-north_west.north_west ≡ C s1 c.in_ok-north_west.north_west = nw4.1 ∙ nw3.1 ∙ nw2.1 in
+    let ene : C s4 c.in_ok-north_east.north_east ≡ C s2 c.in_ok-north_east.north_east = ne4.1 ∙ ne3.1 in
+    let at : start ≡ neg_ℤ (pos (2 ^ k)) = ap (λ n. neg_ℤ (pos n)) half in
+    let full = g.met.S.Squares.full s4 in
+    let N = g.S.Squares.needs_node in
+    let more : k + 1 ≡ suc k = omega arith in
+    on-err c.join.result
+    (λ needs same. whole-root (N c.join.new.self) next k start t level at _ _ _ _
+    (piece-is next (suc k) west west _ (full _ nw4.0) (ap depth enw ∙ nw.at.level ∙ more) (subst (IsPiece next west west) (sym enw) p1))
+    (piece-is next (suc k) east west _ (full _ ne4.0) (ap depth ene ∙ ne.at.level ∙ more) (subst (IsPiece next east west) (sym ene) p2))
+    (piece-is next (suc k) west east _ (full _ sw4.0) (ap depth sw4.1 ∙ sw.at.level ∙ more) (subst (IsPiece next west east) (sym sw4.1) p3))
+    (piece-is next (suc k) east east _ (full _ se.at.known) (se.at.level ∙ more) p4)
+    (still-needs N _ _ _ same needs))
+    c.join.ensures.needed c.join.ensures.unchanged

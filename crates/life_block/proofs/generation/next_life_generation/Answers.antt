@@ -1,4 +1,4 @@
-use Rattle.std.proofs.Common.{◌≡◌, ◌≤◌, ◌⊎◌, ℤ, Some, None, IfOk, IfErr, subst, arith}
+use Rattle.std.proofs.Common.{◌≡◌, ◌≤◌, ◌⊎◌, ℤ, Some, None, IfOk, IfErr, sym, ◌∙◌, subst, arith}
 use Rattle.std.proofs.lemmas.Result.{IfOk-weaker}
 use Rattle.life_base.specs.Refusal.{fault_of}
 use Rattle.life_base.specs.Sets.{OuterTotalistic}
@@ -6,8 +6,10 @@ use Rattle.life_base.specs.Tree.{tree_cell}
 use Rattle.life_base.specs.declared.kind.Kind.TheVariants.{Full, Memory}
 use Rattle.life_quad.specs.Cells.{population}
 use Rattle.life_sweep.specs.Generation.{next_life}
+use Rattle.life_sweep.specs.Needed.{SomeNext}
 use Rattle.life_sweep.specs.Refused.{GenerationRefusal}
 use Rattle.life_sweep.specs.Sweep.{LifeAnswers}
+use Rattle.life_block.specs.Needed.{of_plane}
 use Rattle.life_block.proofs.GenerationLemmas.{accepted, same-state}
 use Rattle.life_block.proofs.generation.next_life_generation.Goals as goal
 
@@ -38,3 +40,10 @@ returns-clause-accepted g c =
     let low = c.requires.high in
     let r = g.S.Squares.content c.next_life_square.new.squares c.in_ok-next_life_square.field-0 in
     accepted c.life_answers_at.ensures c.args.rule.now t r c.args.most c.requires.states few (g.met.S.Squares.low _ _ e.known) e.next
+
+pub returns-then-level-eq-MAX_LEVEL-clause-needed : goal.returns-then-level-eq-MAX_LEVEL-clause-needed
+returns-then-level-eq-MAX_LEVEL-clause-needed g c full =
+    let t = g.S.Squares.content c.args.squares.now c.args.id in
+    let P = g.S.Squares.needs_node c.next_generation.new.squares in
+    of_plane (sym c.level.ensures.level ∙ c.if-level-eq-MAX_LEVEL.true)
+    (subst (λ (rule : OuterTotalistic). SomeNext P (LifeAnswers rule) (tree_cell t)) c.new-law.ensures (c.next_generation.ensures.needed full))

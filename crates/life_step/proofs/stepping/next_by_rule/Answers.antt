@@ -4,14 +4,18 @@ use Rattle.life_base.specs.Tree.{depth, tree_cell}
 use Rattle.life_base.specs.declared.rule.Rule.TheVariants.{Life}
 use Rattle.life_base.specs.declared.cell.TheConstants.{MAX_LEVEL}
 use Rattle.life_mc.specs.Macrocell.{largest_state}
+use Rattle.life_quad.specs.Refused.{SomeTrimmed}
 use Rattle.life_quad.proofs.LawLemmas.{known_squares_are_full}
 use Rattle.life_sweep.specs.Generation.{next_life}
 use Rattle.life_sweep.specs.Refused.{GenerationRefusal}
 use Rattle.life_sweep.specs.Sweep.{LifeAnswers}
 use Rattle.life_canon.specs.Files.{Reads}
+use Rattle.life_canon.specs.Needs.{IsNew}
 use Rattle.life_canon.specs.Store.{content, IsRead}
 use Rattle.life_canon.specs.Universe.{Universe, least_level}
+use Rattle.life_step.specs.Needed.{LacksForLife, of_generation, of_root}
 use Rattle.life_step.specs.Refusals.{LifeRefusal}
+use Rattle.life_step.proofs.NeedFacts.{full-again}
 use Rattle.life_step.proofs.StepFacts.{keeps-all, keeps-of, refused-by, root-high, next-small, same-next, needs-table, life-last, life-refused, life-stepped}
 use Rattle.life_step.proofs.stepping.next_by_rule.Goals as goal
 
@@ -110,3 +114,26 @@ returns-clause-stepped c =
 
 pub returns-clause-keeps : goal.returns-clause-keeps
 returns-clause-keeps c = keeps-all _ _ _ (keeps-of _ _ c.in_ok-square.ensures.keeps c.in_ok-square.ensures.stays c.in_ok-square.ensures.most) c.text_of_square.ensures.keeps
+
+pub returns-in_err-square-clause-needed : goal.returns-in_err-square-clause-needed
+returns-in_err-square-clause-needed c =
+    let root = content c.args.store.now c.args.pattern.root in
+    let p = err_from_is_err_and c.from_residual-in_err-square.result c.from_residual-in_err-square.ensures.1 in
+    rw (p.1, p.2)
+    (λ full. subst (λ q. LacksForLife q root c.next_life_generation.new.squares) (sym c.in-Life.is)
+    (of_generation (c.in_err-square.ensures.needed (full-again c.in_err-square.field-0.0 full))))
+
+pub returns-clause-needed : goal.returns-clause-needed
+returns-clause-needed c full =
+    let root = content c.args.store.now c.args.pattern.root in
+    let mid = c.next_life_generation.new.squares in
+    let id = c.in_ok-square.square in
+    let store = c.text_of_square.new.store in
+    subst (λ q. LacksForLife q root store) (sym c.in-Life.is)
+    (of_root (record {
+      square = content mid id;
+      full = (known_squares_are_full mid id c.in_ok-square.ensures.known.0).0;
+      is = c.in_ok-square.ensures.level;
+      cells = c.in_ok-square.ensures.next;
+      smaller = subst (λ q. SomeTrimmed (IsNew store) (content mid id) (least_level q)) c.in-Life.is (c.text_of_square.ensures.needed full);
+    }))

@@ -1,4 +1,4 @@
-use Rattle.std.proofs.Common.{◌≡◌, ◌≢◌, ap, sym, subst, ◌∙◌, ◌+◌, ◌-◌, ◌≤◌, ◌^◌, ℕ, ℤ, List, Some, None, Err, inl, inr, true≢false}
+use Rattle.std.proofs.Common.{◌≡◌, ◌≢◌, ap, sym, subst, ◌∙◌, ◌+◌, ◌-◌, ◌≤◌, ◌^◌, ℕ, ℤ, List, Some, None, Err, inl, inr, refl, true≢false}
 use Rattle.std.proofs.lemmas.Result.{IfOk-weaker, err_from_is_err_and}
 use Rattle.life_base.specs.declared.cell.TheConstants.{MAX_LEVEL}
 use Rattle.life_base.specs.declared.rule.Rule.TheVariants.{Named}
@@ -6,13 +6,17 @@ use Rattle.life_base.specs.Tree.{tree_cell}
 use Rattle.life_mc.specs.Macrocell.{largest_state}
 use Rattle.life_table.specs.declared.table.Table.{Table}
 use Rattle.life_table.specs.Meaning.{Becomes}
+use Rattle.life_quad.specs.Refused.{SomeTrimmed}
 use Rattle.life_quad.proofs.LawLemmas.{known_squares_are_full}
 use Rattle.life_sweep.specs.Refused.{GenerationRefusal}
 use Rattle.life_sweep.specs.Sweep.{TableAnswers, states_at}
 use Rattle.life_canon.specs.Files.{Reads}
+use Rattle.life_canon.specs.Needs.{IsNew}
 use Rattle.life_canon.specs.Store.{content, IsRead}
-use Rattle.life_canon.specs.Universe.{Universe}
+use Rattle.life_canon.specs.Universe.{Universe, least_level}
+use Rattle.life_step.specs.Needed.{SomeOfTable, of_next, of_next_root}
 use Rattle.life_step.specs.Refusals.{TableRefusal}
+use Rattle.life_step.proofs.NeedFacts.{full-again}
 use Rattle.life_step.proofs.StateFacts.{cell-byte}
 use Rattle.life_step.proofs.StepFacts.{keeps-all, keeps-of, refused-by, root-high, table-last, table-refused, table-stepped}
 use Rattle.life_step.proofs.stepping.next_by_table.Goals as goal
@@ -104,3 +108,35 @@ returns-clause-stepped c =
 
 pub returns-clause-keeps : goal.returns-clause-keeps
 returns-clause-keeps c = keeps-all _ _ _ (keeps-of _ _ c.in_ok-square.ensures.keeps c.in_ok-square.ensures.stays c.in_ok-square.ensures.most) c.text_of_square.ensures.keeps
+
+pub returns-in_err-square-clause-needed : goal.returns-in_err-square-clause-needed
+returns-in_err-square-clause-needed c =
+    let root = content c.args.store.now c.args.pattern.root in
+    let P = IsNew c.next_generation.new.squares in
+    let law : Table = c.in_ok-by_table.by_table in
+    let p = err_from_is_err_and c.from_residual-in_err-square.result c.from_residual-in_err-square.ensures.1 in
+    rw (p.1, p.2)
+    (λ full. (
+      c.is_rule_of.ensures.0 c.if-not-is_rule_of.false,
+      subst (λ (T : Table). SomeOfTable P T root) c.in_ok-by_table.ensures.table (of_next (c.in_err-square.ensures.needed (full-again c.in_err-square.field-0.0 full))),
+    ))
+
+pub returns-clause-needed : goal.returns-clause-needed
+returns-clause-needed c full =
+    let table = c.args.table.now in
+    let t = content c.args.store.now c.args.pattern.root in
+    let mid = c.next_generation.new.squares in
+    let id = c.in_ok-square.square in
+    let next = content mid id in
+    let store = c.text_of_square.new.store in
+    let is = c.is_rule_of.ensures.0 c.if-not-is_rule_of.false in
+    let cells = subst (λ (T : Table). (x y : ℤ) → TableAnswers T (states_at (tree_cell t) x y) (Becomes (tree_cell next x y))) c.in_ok-by_table.ensures.table c.in_ok-square.ensures.next in (
+      is,
+      of_next_root (tree_cell next) (λ x y. (c.table_answers_at.ensures table (tree_cell t) x y _).0 (cells x y)) (record {
+        square = next;
+        full = (known_squares_are_full mid id c.in_ok-square.ensures.known.0).0;
+        is = c.in_ok-square.ensures.level;
+        cells = λ x y. refl;
+        smaller = subst (λ q. SomeTrimmed (IsNew store) next (least_level q)) is (c.text_of_square.ensures.needed full);
+      }),
+    )

@@ -1,7 +1,9 @@
-use Rattle.std.proofs.Common.{ap, ◌∙◌}
+use Rattle.std.proofs.Common.{ℕ, ap, ◌∙◌, subst}
 use Rattle.std.proofs.lemmas.Result.{IfOk-weaker}
 use Rattle.life_quad.specs.Moves.{trimmed}
+use Rattle.life_quad.specs.Refused.{SomeTrimmed}
 use Rattle.life_quad.proofs.LawLemmas.{known_squares_are_full}
+use Rattle.life_canon.specs.Needs.{IsNew}
 use Rattle.life_canon.specs.Store.{content}
 use Rattle.life_step.proofs.StepFacts.{trimmed-fits, text-of-square}
 use Rattle.life_step.proofs.stepping.text_of_square.Goals as goal
@@ -22,3 +24,7 @@ returns-clause-text c =
     text-of-square c.files_are_on_plane.ensures c.texts_are_files.ensures c.texts_tell_universes.ensures c.trim.new.squares c.args.rule c.args.generation c.in_ok-root.root t c.requires.rule
     c.ranges.generation.fits (c.in_ok-root.ensures.square ∙ ap (trimmed t) c.least_level.ensures) known.0 known.1 c.requires.states text.items)
     c.text_of.ensures.text
+
+pub returns-in_err-root-clause-needed : goal.returns-in_err-root-clause-needed
+returns-in_err-root-clause-needed c full =
+    subst (λ (n : ℕ). SomeTrimmed (IsNew c.trim.new.squares) (content c.args.store.now c.args.square) n) c.least_level.ensures c.in_err-root.ensures.needed

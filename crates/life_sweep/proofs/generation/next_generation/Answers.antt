@@ -90,3 +90,10 @@ returns-clause-refusals g c =
             (r (tree_cell t) (record { cells_are = rest; blank = blank-before t low }))))
       ]
     ]) c.next_square.ensures.refusals
+
+pub returns-clause-needed : goal.returns-clause-needed
+returns-clause-needed g c full =
+    let t = g.S.Squares.content c.args.squares.now c.args.id in
+    let low = g.met.S.Squares.low c.args.squares.now c.args.id c.requires.known in
+    let rest = subst (λ z. IsRestOf (tree_cell t) first_coordinate first_coordinate z) (sym c.deref-2.ensures.value) (cells-sorted t c.in_ok-list.list.items low c.in_ok-list.ensures.cells) in
+    c.next_square.ensures.needed full (tree_cell t) (record { cells_are = rest; blank = blank-before t low })

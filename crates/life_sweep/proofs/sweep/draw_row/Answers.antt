@@ -7,6 +7,7 @@ use Rattle.life_sweep.specs.Rows.{IsWindowBelow, first_coordinate, states_of}
 use Rattle.life_table.specs.Meaning.{Ambiguous}
 use Rattle.life_sweep.specs.Pen.{drawn_runs}
 use Rattle.life_sweep.specs.Sweep.{IsReadyRow, IsScene, IsSweptRows}
+use Rattle.life_sweep.proofs.NeedLemmas.{swept-needs}
 use Rattle.life_sweep.proofs.SweepLemmas.{row-ready, ready-later, ready-row, into-row, west-column, step-in-row, out-of-row, put-law, ambiguous-here}
 use Rattle.life_sweep.proofs.sweep.draw_row.Goals as goal
 
@@ -109,3 +110,17 @@ returns-in_err-left-clause-keeps g c q k =
     let a = c.loop-window.invariant.keeps q k in
     let b = c.in_err-left.ensures.keeps q a.0 in
     (b.0, b.1 ∙ a.1)
+
+pub returns-in_err-left-clause-needed : goal.returns-in_err-left-clause-needed
+returns-in_err-left-clause-needed g c =
+    let y = to_z w64 (of_z w64 c.args.y) in
+    let e : c.args.y ≡ y = omega (arith, ints, c.ranges.y) in
+    let inv = c.loop-window.invariant in
+    let A = g.L.Law.answers c.args.law.now in
+    let start = state_by (drawn_runs c.args.pen.now) in
+    let runs = drawn_runs c.loop-window.pen in
+    let p = err_from_is_err_and c.from_residual.result c.from_residual.ensures.1 in
+    rw (p.1, p.2)
+    (λ full cells scene rows.
+    let s = inv.swept cells (subst (λ z. IsScene cells z c.args.rows) e scene) (subst (λ z. IsSweptRows A cells start c.args.leaves z) e rows) in
+    swept-needs (g.S.Squares.needs_node c.draw_place.new.squares) A cells runs c.loop-window.left (after c.loop-window.window.x) y s.1 (c.in_err-left.ensures.needed full))

@@ -7,8 +7,10 @@ use Rattle.life_sweep.specs.Around.{after}
 use Rattle.life_sweep.specs.Rows.{AreBelow, AreRows, first_coordinate}
 use Rattle.std.specs.Prelude.{IfSome, Option}
 use Rattle.life_sweep.specs.declared.pen.Run.{Run}
+use Rattle.life_sweep.specs.Needed.{SomeNext}
 use Rattle.life_sweep.specs.Pen.{IsOpen, drawn_runs}
 use Rattle.life_sweep.specs.Sweep.{IsReadyRow, IsScene, IsSweptRows, states_at}
+use Rattle.life_sweep.proofs.NeedLemmas.{all-needs, full-again, full-kind}
 use Rattle.life_sweep.proofs.SweepLemmas.{nothing-given, nothing-drawn, start-rows, pass-rows, rows-law, first-law, all-rows}
 use Rattle.life_sweep.proofs.sweep.next_square.Goals as goal
 
@@ -117,3 +119,38 @@ returns-clause-next g c plane sorted x y =
     let over = c.advance.ensures.over c.loop-band-test.false plane sorted.blank s.0 in
     let d = all-rows A plane drawn c.loop-band.leaves c.loop-band.band.y (g.met.L.Law.quiet c.args.law.now) over s.1 x y in
     subst (λ n. A (states_at plane x y) (Becomes n)) (sym (c.in_ok-finish.ensures.cells x y ∙ d.kept (inl c.if-leaves.false))) d.answer
+
+pub returns-in_err-leaves-clause-needed : goal.returns-in_err-leaves-clause-needed
+returns-in_err-leaves-clause-needed g c =
+    let inv = c.loop-band.invariant in
+    let band = c.advance.new.self in
+    let y = to_z w64 (of_z w64 band.y) in
+    let e : band.y ≡ y = omega (arith, ints, c.advance.ensures.sound.least, c.advance.ensures.sound.most) in
+    let south = c.advance.ensures.south c.loop-band-test.true in
+    let A = g.L.Law.answers c.args.law.now in
+    let B = g.L.Law.answers c.loop-band.law in
+    let old = state_by (drawn_runs c.loop-band.pen) in
+    let P = g.S.Squares.needs_node c.draw_row.new.squares in
+    let p = err_from_is_err_and c.from_residual.result c.from_residual.ensures.1 in
+    rw (p.1, p.2)
+    (λ full plane sorted.
+    let s = inv.swept plane sorted in
+    let on = c.advance.ensures.band c.loop-band-test.true plane sorted.blank s.0 in
+    let passed = pass-rows A plane old c.loop-band.leaves (after c.loop-band.band.y) band.y (g.met.L.Law.quiet c.args.law.now) (omega (arith, ints, south)) (λ r l u. on.passed r (omega (arith, ints, l)) u) s.1 in
+    let scene : IsScene plane y band.rows = record { rows_are = subst (λ z. AreRows plane z first_coordinate band.rows) e on.here.rows; blank = sorted.blank } in
+    let before = subst (λ z. IsSweptRows B plane old c.loop-band.leaves z) e (rows-law A B plane old c.loop-band.leaves band.y (λ v a. subst (λ law. g.L.Law.answers law v a) (sym inv.same)) passed) in
+    subst (λ law. SomeNext P (g.L.Law.answers law) plane) inv.same (c.in_err-leaves.ensures.needed (full-again c.in_err-leaves.field-0.0 full) plane scene before))
+
+pub returns-in_err-finish-clause-needed : goal.returns-in_err-finish-clause-needed
+returns-in_err-finish-clause-needed g c =
+    let inv = c.loop-band.invariant in
+    let A = g.L.Law.answers c.args.law.now in
+    let runs = drawn_runs c.loop-band.pen in
+    let p = err_from_is_err_and c.from_residual-in_err-finish.result c.from_residual-in_err-finish.ensures.1 in
+    rw (p.1, p.2)
+    (λ full plane sorted.
+    let s = inv.swept plane sorted in
+    let over = c.advance.ensures.over c.loop-band-test.false plane sorted.blank s.0 in
+    all-needs (g.S.Squares.needs_node c.finish.new.squares) A plane runs c.loop-band.leaves c.if-leaves.false
+    (all-rows A plane (state_by runs) c.loop-band.leaves c.loop-band.band.y (g.met.L.Law.quiet c.args.law.now) over s.1)
+    (c.in_err-finish.ensures.needed (full-kind c.in_err-finish.field-0.0 full)))

@@ -33,6 +33,7 @@ returns-then-is_continued_by-clause-holding g c =
           south = omega (arith, ints, ey, opened.inside.south);
         };
         next = subst (λ z. IsNext runs z y) ex (subst (λ z. IsNext runs run.x z) ey opened.next);
+        nonzero = opened.nonzero;
       };
     }
 
@@ -109,6 +110,7 @@ returns-clause-holding g c =
         some_cell = omega arith;
         inside = subst (λ z. IsOnPlane z y 1) ex (subst (λ z. IsOnPlane c.args.x z 1) ey c.requires.inside);
         next = subst (λ (l : List GivenRun). IsNext l x y) (sym c.in_ok-close.ensures.drawn) (subst (λ z. IsNext there z y) ex (subst (λ z. IsNext there c.args.x z) ey c.requires.next));
+        nonzero = c.requires.nonzero;
       };
     }
 

@@ -1,0 +1,148 @@
+-- The squares that a refused call lacked: of the runs that were drawn, and so of the next generation.
+use Rattle.std.proofs.Common.{◌≡◌, ℕ, ◌+◌, ◌*◌, ◌^◌, ◌<◌, ◌≤◌, Bool, true, false, inl, inr, ◌⊎◌, ℤ, pos, neg_ℤ, ◌+ℤ◌, ◌-ℤ◌, ◌<ℤ◌, ◌≤ℤ◌, List, [], ◌∷◌, ◌++◌, refl, sym, ◌∙◌, ap, subst, arith}
+use Rattle.std.specs.Prelude.{nat_abs, Result, Err, Option, Some, None, IfSome, if◌then◌else◌, unsigned_abs}
+use Rattle.std.proofs.lemmas.Int.{ints}
+use Rattle.std.proofs.lemmas.List.{append-nil}
+use Rattle.life_base.specs.Tree.{Tree, depth}
+use Rattle.life_base.proofs.Squares.{is_inside, inside_facts}
+use Rattle.life_base.specs.Refusal.{fault_of}
+use Rattle.life_base.specs.declared.fault.Fault.{Fault}
+use Rattle.life_base.specs.declared.kind.Kind.{Kind}
+use Rattle.life_base.specs.declared.kind.Kind.TheVariants.{Full}
+use Rattle.life_quad.specs.Cells.{IsInRun}
+use Rattle.life_quad.specs.declared.id.Id.{Id}
+use Rattle.life_strip.specs.Given.{GivenRun, AreInOrder, IsOnPlane, state_by, by_columns, half_plane}
+use Rattle.life_strip.specs.Needed.{SomeSquare}
+use Rattle.life_strip.specs.Plane.{on_plane, state_so_far}
+use Rattle.life_table.specs.Meaning.{Answer, Becomes}
+use Rattle.life_sweep.specs.declared.pen.Pen.{Pen}
+use Rattle.life_sweep.specs.declared.pen.Run.{Run}
+use Rattle.life_sweep.specs.Needed.{SomeAbove, SomeOfAll, SomeNext, above_cell, of_plane}
+use Rattle.life_sweep.specs.Pen.{given, open_runs, drawn_runs, IsOpen, IsHolding}
+use Rattle.life_sweep.specs.Rows.{Precedes}
+use Rattle.life_sweep.specs.Sweep.{states_at, IsDrawnAt, IsSwept}
+use Rattle.life_sweep.proofs.PenLemmas.{inside-last, outside-last}
+use Rattle.life_sweep.proofs.RowLemmas.{less-or-not}
+
+below : (row side j rows : ℕ) → j < side → (row + 1) * side ≤ rows → row * side + j < rows
+below row side j rows l h = grind arith
+
+north : (row : ℕ) (y : ℤ) → neg_ℤ (pos half_plane) ≤ℤ y → row < nat_abs (y +ℤ pos half_plane) → (pos row -ℤ pos half_plane) <ℤ y
+north row y on l = omega (arith, ints, on, l)
+
+-- the same square of a plane with the same cells above a row of the plane
+same-above : (P : Tree → Type 0) (f g : ℤ → ℤ → ℕ) (y : ℤ) → neg_ℤ (pos half_plane) ≤ℤ y → ((c r : ℤ) → r <ℤ y → f c r ≡ g c r)
+    → SomeSquare P (nat_abs (y +ℤ pos half_plane)) (by_columns f) → SomeSquare P (nat_abs (y +ℤ pos half_plane)) (by_columns g)
+same-above P f g y on same s =
+    record {
+      square = s.square;
+      full = s.full;
+      deep = s.deep;
+      column = s.column;
+      row = s.row;
+      east = s.east;
+      south = s.south;
+      cells = λ i j li lj.
+          let side = 2 ^ depth s.square in
+          let row = s.row * side + j in
+          s.cells i j li lj
+          ∙ same (pos (s.column * side + i) -ℤ pos half_plane) (pos row -ℤ pos half_plane) (north row y on (below s.row side j (nat_abs (y +ℤ pos half_plane)) lj s.south));
+      property = s.property;
+    }
+
+-- a run that can't be given is above none of the cells before it
+pub open-needs : (P : Tree → Type 0) (runs : List GivenRun) (run : Run) → AreInOrder runs → IsOpen runs run
+    → SomeSquare P (nat_abs (run.y +ℤ pos half_plane)) (by_columns (state_by runs)) → SomeAbove P (runs ++ given run ∷ [])
+open-needs P runs run order opened s =
+    let some = opened.some_cell in
+    let here : IsInRun run.x run.y run.len run.x run.y = record { same_row = refl; from = omega (arith, ints); to = omega (arith, ints, some) } in
+    let east = opened.inside.east in
+    record {
+      x = run.x;
+      y = run.y;
+      inside = record { west = opened.inside.west; east = omega (arith, ints, some, east); north = opened.inside.north; south = opened.inside.south };
+      nonzero = λ e. opened.nonzero (sym (inside-last runs (given run) run.x run.y order opened.next here) ∙ e);
+      square = same-above P (state_by runs) (state_by (runs ++ given run ∷ [])) run.y opened.inside.north
+          (λ c r l. sym (outside-last runs (given run) c r order opened.next (λ (i : IsInRun run.x run.y run.len c r). let e = i.same_row in omega (arith, ints, l, e)))) s;
+    }
+
+-- what was drawn is on the plane
+outside-plane : (state : ℕ → ℕ → ℕ) (x y : ℤ) → ¬ (IsOnPlane x y 1) → on_plane state x y ≡ 0
+outside-plane state x y out = by (is_inside half_plane x y) refl
+  where
+    by : (b : Bool) → is_inside half_plane x y ≡ b → on_plane state x y ≡ 0
+    by true e = let i = inside_facts half_plane x y e in let east = i.east in absurd (out (record { west = i.west; east = omega (arith, ints, east); north = i.north; south = i.south }))
+    by false e = ap (λ (c : Bool). if c then state (unsigned_abs (x +ℤ pos half_plane)) (unsigned_abs (y +ℤ pos half_plane)) else 0) e
+
+open-outside : (runs : List GivenRun) (o : Option Run) (x y : ℤ) → AreInOrder runs → IfSome o (IsOpen runs) → ¬ (IsOnPlane x y 1) → state_by runs x y ≡ 0 → state_by (runs ++ open_runs o) x y ≡ 0
+open-outside runs None x y order opened out e = ap (λ (l : List GivenRun). state_by l x y) (append-nil runs) ∙ e
+open-outside runs (Some run) x y order opened out e =
+    outside-last runs (given run) x y order opened.next (λ (i : IsInRun run.x run.y run.len x y). out (here i)) ∙ e
+  where
+    here : IsInRun run.x run.y run.len x y → IsOnPlane x y 1
+    here i =
+        let on = opened.inside in
+        let row : run.y ≡ y = sym i.same_row in
+        let west = on.west in
+        let east = on.east in
+        let from = i.from in
+        let to = i.to in
+        let north = on.north in
+        let south = on.south in
+        record { west = omega (arith, ints, west, from); east = omega (arith, ints, east, to); north = omega (arith, ints, north, row); south = omega (arith, ints, south, row) }
+
+pub drawn-outside : (knows : Id → Type 0) (content : Id → Tree) (pen : Pen) → IsHolding knows content pen → (x y : ℤ) → ¬ (IsOnPlane x y 1) → state_by (drawn_runs pen) x y ≡ 0
+drawn-outside knows content pen h x y out =
+    open-outside pen.builder.runs pen.unclosed x y h.filling.order h.unclosed out
+    (sym (h.filling.cells x y) ∙ outside-plane (state_so_far content pen.builder.kept) x y out)
+
+-- what was drawn is the next generation
+pub drawn-needs : (P : Tree → Type 0) (A : List ℕ → Answer → Type 0) (cells : ℤ → ℤ → ℕ) (runs : List GivenRun) (leaves : Bool) (s : SomeAbove P runs)
+    → ((c r : ℤ) → (r <ℤ s.y) ⊎ ((c ≡ s.x) × (r ≡ s.y)) → IsDrawnAt A cells (state_by runs) leaves c r) → SomeNext P A cells
+drawn-needs P A cells runs leaves s done =
+    let here = done s.x s.y (inr (refl, refl)) in
+    above_cell s.x s.y here.next (state_by runs) s.inside here.answer (λ e. s.nonzero (here.kept (inr s.inside) ∙ e))
+    (λ x y on l. let d = done x y (inl l) in subst (λ n. A (states_at cells x y) (Becomes n)) (sym (d.kept (inr on))) d.answer) s.square
+
+-- as far as it was drawn
+pub swept-needs : (P : Tree → Type 0) (A : List ℕ → Answer → Type 0) (cells : ℤ → ℤ → ℕ) (runs : List GivenRun) (leaves : Bool) (x y : ℤ)
+    → IsSwept A cells (state_by runs) leaves x y → SomeAbove P runs → SomeNext P A cells
+swept-needs P A cells runs leaves x y swept s = drawn-needs P A cells runs leaves s (λ c r h. swept.done c r (earlier c r h))
+  where
+    first : Precedes s.x s.y x y
+    first = elim (less-or-not s.y y) [
+      | inl l ↦ inl l
+      | inr l ↦ elim (less-or-not y s.y) [
+        | inl b ↦ absurd (s.nonzero (swept.clear s.x s.y (inl b)))
+        | inr b ↦ elim (less-or-not s.x x) [
+          | inl w ↦ inr (omega (arith, ints, l, b), w)
+          | inr w ↦ absurd (s.nonzero (swept.clear s.x s.y (inr (omega (arith, ints, l, b), w))))
+        ]
+      ]
+    ]
+
+    earlier : (c r : ℤ) → (r <ℤ s.y) ⊎ ((c ≡ s.x) × (r ≡ s.y)) → Precedes c r x y
+    earlier c r (inl l) = elim first [ inl m ↦ inl (omega (arith, ints, l, m)) | inr m ↦ let e = m.0 in inl (omega (arith, ints, l, e)) ]
+    earlier c r (inr e) = let column = e.0 in let row = e.1 in elim first [
+      | inl m ↦ inl (omega (arith, ints, row, m))
+      | inr m ↦ let a = m.0 in let b = m.1 in inr (omega (arith, ints, row, a), omega (arith, ints, column, b))
+    ]
+
+-- the whole of it
+pub all-needs : (P : Tree → Type 0) (A : List ℕ → Answer → Type 0) (cells : ℤ → ℤ → ℕ) (runs : List GivenRun) (leaves : Bool) → leaves ≡ false
+    → ((c r : ℤ) → IsDrawnAt A cells (state_by runs) leaves c r) → SomeAbove P runs ⊎ SomeOfAll P runs → SomeNext P A cells
+all-needs P A cells runs leaves stay done (inl s) = drawn-needs P A cells runs leaves s (λ c r h. done c r)
+all-needs P A cells runs leaves stay done (inr s) =
+    of_plane (state_by runs)
+    (record { states = λ x y. let d = done x y in subst (λ n. A (states_at cells x y) (Becomes n)) (sym (d.kept (inl stay))) d.answer; outside = s.outside })
+    s.square
+
+-- want of room is that whatever else is answered
+err-is : {T : Type 0} (a b : Fault) → ◌≡◌ {A = Result T Fault} (Err a) (Err b) → a ≡ b
+err-is a b e = cc
+
+pub full-again : {T U : Type 0} (f : Fault) → ◌≡◌ {A = Result T Fault} (Err f) (Err (fault_of Full)) → ◌≡◌ {A = Result U Fault} (Err f) (Err (fault_of Full))
+full-again f e = ap (λ (d : Fault). Err d) (err-is f (fault_of Full) e)
+
+pub full-kind : {T U : Type 0} (k : Kind) → ◌≡◌ {A = Result T Fault} (Err (fault_of k)) (Err (fault_of Full)) → ◌≡◌ {A = Result U Kind} (Err k) (Err Full)
+full-kind k e = ap (λ (d : Fault). Err d.kind) (err-is (fault_of k) (fault_of Full) e)
