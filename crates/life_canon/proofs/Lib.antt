@@ -32,5 +32,6 @@ mod Standing
 mod CellFacts
 mod CallFacts
 mod PieceFacts
+mod WalkingFacts
 mod ShowFacts
 mod Rows

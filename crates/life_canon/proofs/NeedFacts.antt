@@ -1,8 +1,7 @@
 -- The squares that a refused call lacked: of the root that is grown or trimmed, of runs, and of lines with more lines behind them.
-use Rattle.std.proofs.Common.{◌≡◌, ℕ, zero, suc, ◌+◌, ◌-◌, ◌^◌, ◌<◌, ◌≤◌, Bool, true, false, ◌||◌, cond, List, [], ◌∷◌, ◌++◌, length, take, drop, get_or, map, max, min, refl, ap, sym, ◌∙◌, subst, arith, ◌⊎◌, inl, inr, append_assoc, drop-cons, ℤ, ◌*◌, ◌+ℤ◌, ◌-ℤ◌, pos}
+use Rattle.std.proofs.Common.{◌≡◌, ℕ, zero, suc, ◌+◌, ◌-◌, ◌^◌, ◌<◌, ◌≤◌, true, List, [], ◌∷◌, ◌++◌, length, take, drop, get_or, map, max, refl, ap, sym, ◌∙◌, subst, arith, ◌⊎◌, inl, inr, append_assoc, drop-cons, ℤ, ◌*◌, ◌+ℤ◌, ◌-ℤ◌, pos}
 use Rattle.std.specs.Prelude.{nat_abs}
 use Rattle.std.proofs.lemmas.List.{append-nil, map-append, take-append-drop}
-use Rattle.std.proofs.lemmas.Bool.Decides.{nat_tests}
 use Rattle.life_base.proofs.Squares.{depth-blank}
 use Rattle.life_base.specs.Lines.{has_no_feed, whole_lines}
 use Rattle.life_base.specs.Refusal.{fault_at, fault_of}
@@ -10,23 +9,19 @@ use Rattle.life_base.specs.Text.{lines_of}
 use Rattle.life_base.specs.declared.cell.TheConstants.{MAX_LEVEL}
 use Rattle.life_base.specs.declared.fault.Fault.{Fault}
 use Rattle.life_base.specs.declared.kind.Kind.{Kind}
-use Rattle.life_base.specs.declared.kind.Kind.TheVariants.{Full, Memory}
+use Rattle.life_base.specs.declared.kind.Kind.TheVariants.{Full}
 use Rattle.life_base.specs.Tree.{Tree, point, quad, depth, tree_cell, IsFull}
 use Rattle.life_base.proofs.WholeLines.{lines_are_whole}
 use Rattle.life_base.specs.Lines.{rest_line, one_line}
-use Rattle.life_mc.proofs.LineKinds.{broken_kind}
 use Rattle.life_rle.specs.File.{HasRuns}
 use Rattle.life_rle.specs.declared.file.Run.{Run}
-use Rattle.life_rle.proofs.LineKinds.{Breaks-kind}
 use Rattle.life_strip.specs.Given.{GivenRun, half_plane, state_by, by_columns}
 use Rattle.life_strip.specs.Needed.{SomeSquare}
 use Rattle.life_canon.specs.Building.{given}
-use Rattle.life_canon.specs.Feeding.{RefusesFront}
-use Rattle.life_canon.specs.Files.{is_file_kind, is_macrocell}
+use Rattle.life_canon.specs.Files.{is_macrocell}
 use Rattle.life_canon.specs.Taking.{IsGoing, IsEnd, taken}
 use Rattle.life_canon.specs.declared.feeding.Progress.{Progress}
 use Rattle.life_canon.proofs.FrontFacts.{whole-at, end-says, end-lines}
-use Rattle.life_canon.proofs.RefusalKinds.{refusal-kinds}
 use Rattle.life_quad.specs.Moves.{grown, inner, can_trim, trim_up_to}
 use Rattle.life_quad.specs.Refused.{SomePart, SomeTrimmed}
 use Rattle.life_canon.specs.Needs.{SomeOfRuns, SomeOfLines, of_node_line, of_runs, grown_times, SomeGrown, SomeRoot, trimmed_root, grown_root, SomeOfFile, of_lines, SomeAtEnd, of_plane, of_root}

@@ -6,6 +6,7 @@ use Rattle.std.specs.Io.KnownBytes.{Consumes, IsAtEnd}
 use Rattle.std.proofs.KnownBytes.{Consumes-trans}
 use Rattle.std.proofs.lemmas.List.{append-nil}
 use Rattle.life_base.specs.Inputs.{ReadAll, CameBeyond}
+use Rattle.life_base.specs.Refusal.{fault_of}
 use Rattle.life_base.specs.Text.{lines_of}
 use Rattle.life_base.specs.declared.cell.TheConstants.{MAX_LEVEL}
 use Rattle.life_base.specs.declared.fault.Fault.{Fault}
@@ -14,7 +15,8 @@ use Rattle.life_base.specs.declared.kind.Kind.TheVariants.{Full, Memory}
 use Rattle.life_quad.specs.Store.{Nodes}
 use Rattle.life_canon.specs.Feeding.{Fed, RefusesFront, Stands}
 use Rattle.life_canon.specs.Files.{is_file_kind}
-use Rattle.life_canon.specs.Running.{ReadRefuses, by_file, by_want}
+use Rattle.life_canon.specs.Needs.{LacksFor, LacksForFront}
+use Rattle.life_canon.specs.Running.{ReadRefuses, by_file, by_want, LacksForRead, for_front, for_file}
 use Rattle.life_canon.specs.Store.{IsWant, RefusesIn}
 use Rattle.life_canon.specs.declared.pattern.Pattern.{Pattern}
 use Rattle.life_mc.proofs.LineKinds.{broken_kind}
@@ -89,6 +91,14 @@ refused-by store bytes fault (inr r) n m = r
 refused-by store bytes fault (inl (inl e)) n m = absurd (m (ap (λ (f : Fault). f.kind) e))
 refused-by store bytes fault (inl (inr e)) n m = absurd (n (ap (λ (f : Fault). f.kind) e.0))
 
+-- a line was refused, and that is no want of room
+module _ (store : Nodes) (before after : Option (List ℕ)) (total : ℕ) (refused : Option Fault) (fed : Fed) where
+  pub refused-not-full : IsReading store before after total refused fed → (fault : Fault) → refused ≡ Some fault → fault ≡ fault_of Full → ⊥
+  refused-not-full r fault is e =
+      let told : RefusesFront MAX_LEVEL r.bytes fault =
+      subst (λ (o : Option Fault). MatchOption o ((fed.spent ≡ false) × (fed.bytes ≡ r.bytes) × Stands store fed) (RefusesFront MAX_LEVEL r.bytes)) is r.state in
+      full-not fault.kind (front-kind r.bytes fault told) (ap (λ (f : Fault). f.kind) e)
+
 -- more came than allowed
 module _ (store : Nodes) (before mid after : Option (List ℕ)) (total count most : ℕ) (refused : Option Fault) (fed : Fed) (piece : List ℕ) where
   pub beyond-most : IsReading store before mid total refused fed → Consumes mid after piece → length piece ≡ count → most < total + count → CameBeyond most before after
@@ -97,6 +107,16 @@ module _ (store : Nodes) (before mid after : Option (List ℕ)) (total count mos
     taken = Consumes-trans before mid after r.bytes piece r.came came;
     long = omega (arith, r.count, len, more, length-append r.bytes piece);
   }
+
+-- a piece more was fed, and the store has no room for its lines
+module _ (store new : Nodes) (before mid after : Option (List ℕ)) (total count most failures : ℕ) (refused : Option Fault) (fed : Fed) (piece : List ℕ) where
+  pub lacks-front : IsReading store before mid total refused fed → Consumes mid after piece → length piece ≡ count → total + count ≤ most
+      → (refused ≡ None) × LacksForFront MAX_LEVEL (fed.bytes ++ piece) new → LacksForRead MAX_LEVEL most new (record { before = before; after = after; failures = failures })
+  lacks-front r came len short lacks =
+      let state : (fed.spent ≡ false) × (fed.bytes ≡ r.bytes) × Stands store fed =
+      subst (λ (o : Option Fault). MatchOption o ((fed.spent ≡ false) × (fed.bytes ≡ r.bytes) × Stands store fed) (RefusesFront MAX_LEVEL r.bytes)) lacks.0 r.state in
+      for_front (r.bytes ++ piece) (Consumes-trans before mid after r.bytes piece r.came came) (omega (arith, r.count, len, short, length-append r.bytes piece))
+      (subst (λ (b : List ℕ). LacksForFront MAX_LEVEL (b ++ piece) new) state.1 lacks.1)
 
 -- a read of no bytes is the end
 at-end : (mid after : Option (List ℕ)) (count : ℕ) (buf : List ℕ) → count ≡ 0 → 0 < length buf → Consumes mid after (take count buf) × (count ≡ 0 → 0 < length buf → IsAtEnd after)
@@ -113,6 +133,20 @@ module _ (store new : Nodes) (before mid after : Option (List ℕ)) (total most 
       let came = at-end mid after count buf e l h in
       by_file r.bytes (read-all most before mid after r.bytes r.came came.0 came.1 (omega (arith, r.count, short))) told.refuses
 
+  -- the end came, and the reader has all
+  ended-read : IsReading store before mid total refused fed → count ≡ 0 → 0 < length buf → Consumes mid after (take count buf) × (count ≡ 0 → 0 < length buf → IsAtEnd after)
+      → total ≤ most → refused ≡ None → ReadAll most before after fed.bytes
+  ended-read r e l h short is =
+      let state : (fed.spent ≡ false) × (fed.bytes ≡ r.bytes) × Stands store fed =
+      subst (λ (o : Option Fault). MatchOption o ((fed.spent ≡ false) × (fed.bytes ≡ r.bytes) × Stands store fed) (RefusesFront MAX_LEVEL r.bytes)) is r.state in
+      let came = at-end mid after count buf e l h in
+      subst (ReadAll most before after) (sym state.1) (read-all most before mid after r.bytes r.came came.0 came.1 (omega (arith, r.count, short)))
+
+  -- the end came, and the store has no room for what it has
+  pub ended-lacks : IsReading store before mid total refused fed → count ≡ 0 → 0 < length buf → Consumes mid after (take count buf) × (count ≡ 0 → 0 < length buf → IsAtEnd after)
+      → total ≤ most → refused ≡ None → LacksFor MAX_LEVEL fed.bytes new → LacksForRead MAX_LEVEL most new (record { before = before; after = after; failures = failures })
+  ended-lacks r e l h short is = for_file fed.bytes (ended-read r e l h short is)
+
   -- the end came, and the reader refuses what it has
   pub ended-open : IsReading store before mid total refused fed → count ≡ 0 → 0 < length buf → Consumes mid after (take count buf) × (count ≡ 0 → 0 < length buf → IsAtEnd after)
       → total ≤ most → refused ≡ None → (result : Result Pattern Fault) → (fed.spent ≡ false → IfErr result (λ fault. RefusesIn MAX_LEVEL fed.bytes new fault))
@@ -123,8 +157,7 @@ module _ (store new : Nodes) (before mid after : Option (List ℕ)) (total most 
       state = subst (λ (o : Option Fault). MatchOption o ((fed.spent ≡ false) × (fed.bytes ≡ r.bytes) × Stands store fed) (RefusesFront MAX_LEVEL r.bytes)) is r.state
 
       read : ReadAll most before after fed.bytes
-      read = let came = at-end mid after count buf e l h in
-          subst (ReadAll most before after) (sym state.1) (read-all most before mid after r.bytes r.came came.0 came.1 (omega (arith, r.count, short)))
+      read = ended-read r e l h short is
 
       each : (fault : Fault) → RefusesIn MAX_LEVEL fed.bytes new fault → ReadRefuses MAX_LEVEL most new (record { before = before; after = after; failures = failures }) fault
       each fault (inl refuses) = by_file fed.bytes read refuses

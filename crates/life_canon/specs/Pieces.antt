@@ -1,9 +1,31 @@
 -- A text that is written in pieces.
-use Rattle.std.specs.Prelude.{◌≡◌, ℕ, List, Option, ◌++◌}
+use Rattle.std.specs.Prelude.{◌≡◌, ℕ, List, Option, ◌++◌, map, flat_map}
 use Rattle.std.specs.Io.KnownBytes.{Appends}
+use Rattle.life_base.specs.Tree.{Tree}
+use Rattle.life_base.specs.Writing.{WritesPrefix}
+use Rattle.life_base.specs.declared.rule.Rule.{Rule}
+use Rattle.life_mc.specs.Writing.{node_text}
+use Rattle.life_canon.specs.Listing.{line_of}
 
 -- a front of the text was written, and this rest of it was not yet
 pub record WritesFront (old new : Option (List ℕ)) (text rest : List ℕ) : Type 0 where
   pub front : List ℕ
   pub written : Appends old new front
   pub whole : front ++ rest ≡ text
+
+-- the lines of some squares of a list, each ended by a line feed
+abbrev pub lines_text : Rule → List Tree → List Tree → List ℕ
+lines_text rule all squares = flat_map node_text (map (line_of rule all) squares)
+
+-- Where a front of `begun` and of the lines of the squares `old` was written, and `held` not yet, that is so of `begun` and the lines of `new`
+-- and of `left`, whatever squares come behind these.
+abbrev pub WritesOn : Rule → Option (List ℕ) → Option (List ℕ) → List ℕ → List ℕ → List Tree → List Tree → Type 0
+WritesOn rule before after held left old new =
+    (start : Option (List ℕ)) (begun : List ℕ) (all rest : List Tree) → all ≡ new ++ rest
+    → WritesFront start before (begun ++ lines_text rule all old) held → WritesFront start after (begun ++ lines_text rule all new) left
+
+-- where a front was written as above, a prefix of the whole text is, whatever squares come behind `new`
+abbrev pub BreaksIn : Rule → Option (List ℕ) → Option (List ℕ) → List ℕ → List Tree → List Tree → Type 0
+BreaksIn rule before after held old new =
+    (start : Option (List ℕ)) (begun : List ℕ) (all rest : List Tree) → all ≡ new ++ rest
+    → WritesFront start before (begun ++ lines_text rule all old) held → WritesPrefix start after (begun ++ lines_text rule all all)

@@ -1,7 +1,7 @@
 -- What a run over a source and a sink may leave, by its outcome. Of a device that doesn't tell its bytes these say nothing about bytes:
 -- `bytes` is then any list.
-use Rattle.std.specs.Prelude.{◌≡◌, ◌⊎◌, ℕ, true, List}
-use Rattle.std.specs.Io.KnownBytes.{Appends}
+use Rattle.std.specs.Prelude.{◌≡◌, ◌⊎◌, ◌≤◌, ℕ, true, List, length}
+use Rattle.std.specs.Io.KnownBytes.{Appends, Consumes}
 use Rattle.life_base.specs.DeviceRuns.{SourceRun, SinkRun}
 use Rattle.life_base.specs.Inputs.{ReadAll, CameBeyond}
 use Rattle.life_base.specs.Refusal.{fault_of}
@@ -10,6 +10,7 @@ use Rattle.life_base.specs.declared.fault.Fault.{Fault}
 use Rattle.life_base.specs.declared.kind.Kind.TheVariants.{ReadFault, WriteFault, InputTooLong}
 use Rattle.life_quad.specs.Store.{Nodes}
 use Rattle.life_canon.specs.Files.{Refuses}
+use Rattle.life_canon.specs.Needs.{LacksFor, LacksForFront}
 use Rattle.life_canon.specs.Store.{IsRead, IsWant}
 use Rattle.life_canon.specs.Texts.{IsCanonical}
 use Rattle.life_canon.specs.declared.pattern.Pattern.{Pattern}
@@ -38,6 +39,13 @@ pub data ReadRefuses (top most : ℕ) (store : Nodes) (source : SourceRun) (faul
   by_want : IsWant store fault → ReadRefuses top most store source fault
   by_length : fault ≡ fault_of InputTooLong → CameBeyond most source.before source.after → ReadRefuses top most store source fault
   by_source : fault ≡ fault_of ReadFault → source.failures ≡ 1 → ReadRefuses top most store source fault
+
+-- The store lacks a square which the bytes need that were read: what was left to read before, without what is left now. It is one of the
+-- lines that have ended, or, where all was read, of the file.
+pub data LacksForRead (top most : ℕ) (store : Nodes) (source : SourceRun) : Type 0 where
+  for_front : (bytes : List ℕ) → Consumes source.before source.after bytes → length bytes ≤ most → LacksForFront top bytes store
+      → LacksForRead top most store source
+  for_file : (bytes : List ℕ) → ReadAll most source.before source.after bytes → LacksFor top bytes store → LacksForRead top most store source
 
 -- why a run is refused: nothing came of the input, or its text could not be written
 pub data RunRefuses (top most : ℕ) (store : Nodes) (source : SourceRun) (sink : SinkRun) (fault : Fault) : Type 0 where

@@ -16,6 +16,7 @@ mod reading;
 mod room;
 mod running;
 mod showing;
+mod walking;
 mod writing;
 
 pub use comparing::{are_same, same};

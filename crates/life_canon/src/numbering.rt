@@ -22,7 +22,7 @@ use life_quad::{Id, IdList, Quarters, Shared, SharedSquares, Squares, divide};
 use std::alloc::Global;
 
 /// The leaf of a square of level 3.
-fn leaf<S: Squares>(squares: &S, id: Id) -> Line
+pub(crate) fn leaf<S: Squares>(squares: &S, id: Id) -> Line
     requires known { S.knows squares.now id }
     requires level { depth (S.content squares.now id) ≡ 3 }
     requires states { HasStatesUpTo 1 (S.content squares.now id) }
@@ -32,7 +32,7 @@ fn leaf<S: Squares>(squares: &S, id: Id) -> Line
 }
 
 /// Whether a square of a level is written as a leaf.
-fn is_leaf(rule: &Rule, level: u8) -> bool
+pub(crate) fn is_leaf(rule: &Rule, level: u8) -> bool
     ensures { result ≡ (is_life rule.now && level == 3) }
 {
     match rule {

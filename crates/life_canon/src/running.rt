@@ -1,16 +1,18 @@
 //! From a source to a sink.
 
-ghost use Rattle.std.specs.Prelude.{◌≡◌, ◌≢◌, ◌⊎◌, ◌≤◌, ◌^◌, List, ℕ, true, false, IsTrue, ◌↔◌, IfOk, IfErr, OnOk, IfSome, IsErrAnd, Some, None, ◌++◌};
-ghost use Rattle.life_canon.specs.Running.{Ran, RunRefuses, ReadRefuses, HasRead};
+ghost use Rattle.std.specs.Prelude.{◌≡◌, ◌≢◌, ◌⊎◌, ◌≤◌, ◌^◌, List, ℕ, true, false, IsTrue, ◌↔◌, IfOk, IfErr, OnOk, IfSome, IsErrAnd, Some, None, Err, ◌++◌};
+ghost use Rattle.life_base.specs.Refusal.{fault_of};
+ghost use Rattle.life_canon.specs.Running.{Ran, RunRefuses, ReadRefuses, HasRead, LacksForRead};
 ghost use Rattle.life_canon.specs.Feeding.{RefusesFront, Stands};
+ghost use Rattle.life_canon.specs.Needs.{LacksForFront};
 ghost use Rattle.life_canon.specs.Store.{Keeps, IsWant};
 
 use crate::pattern::Pattern;
 use crate::reader::Reader;
 use crate::room::Room;
-use crate::writing::{PIECE, deliver_lines, front_of, squares_of};
+use crate::writing::{PIECE, deliver_squares, front_of};
 use life_base::{Fault, Kind, MAX_LEVEL, Sink, Source};
-use life_quad::Shared;
+use life_quad::{IdNumbers, Shared};
 use std::alloc::Global;
 
 /// The most bytes of an input.
@@ -34,6 +36,7 @@ fn feed_piece(
     ensures going { IfOk result (λ next. next ≡ None → (refused ≡ None) × (reader.new.spent ≡ false) × (reader.new.bytes ≡ reader.old.bytes ++ piece.now) × Stands store.new reader.new) }
     ensures refused { IfOk result (λ next. IfSome next (λ fault. (refused ≡ Some fault) ⊎ ((refused ≡ None) × RefusesFront MAX_LEVEL (reader.old.bytes ++ piece.now) fault))) }
     ensures want { IfErr result (IsWant store.new) }
+    ensures needed { result ≡ Err (fault_of Kind.Full) → (refused ≡ None) × LacksForFront MAX_LEVEL (reader.old.bytes ++ piece.now) store.new }
     ensures keeps { Keeps store.old store.new }
 {
     match refused {
@@ -58,6 +61,7 @@ fn read_source<R: Source>(
     ensures pattern { IfOk result (λ pattern. HasRead MAX_LEVEL most store.new (record { before = R.remaining source.old; after = R.remaining source.new; failures = R.failures source.new }) pattern) }
     ensures works { OnOk result (R.failures source.new ≡ 0) }
     ensures fault { IfErr result (λ fault. ReadRefuses MAX_LEVEL most store.new (record { before = R.remaining source.old; after = R.remaining source.new; failures = R.failures source.new }) fault) }
+    ensures needed { result ≡ Err (fault_of Kind.Full) → LacksForRead MAX_LEVEL most store.new (record { before = R.remaining source.old; after = R.remaining source.new; failures = R.failures source.new }) }
     ensures told { R.failures source.new ≡ 1 → IsErrAnd result (λ fault. fault.kind ≡ Kind.ReadFault) }
     ensures keeps { Keeps store.old store.new }
 {
@@ -102,6 +106,7 @@ pub fn read_from<R: Source>(
     ensures pattern { IfOk result (λ pattern. HasRead MAX_LEVEL (2 ^ 30) store.new (record { before = R.remaining source.old; after = R.remaining source.new; failures = R.failures source.new }) pattern) }
     ensures works { OnOk result (R.failures source.new ≡ 0) }
     ensures fault { IfErr result (λ fault. ReadRefuses MAX_LEVEL (2 ^ 30) store.new (record { before = R.remaining source.old; after = R.remaining source.new; failures = R.failures source.new }) fault) }
+    ensures needed { result ≡ Err (fault_of Kind.Full) → LacksForRead MAX_LEVEL (2 ^ 30) store.new (record { before = R.remaining source.old; after = R.remaining source.new; failures = R.failures source.new }) }
     ensures told { R.failures source.new ≡ 1 → IsErrAnd result (λ fault. fault.kind ≡ Kind.ReadFault) }
     ensures keeps { Keeps store.old store.new }
 {
@@ -132,15 +137,16 @@ pub fn run_canon_within<R: Source, W: Sink>(
     ensures flushed { OnOk result (W.flushed writer.new ≡ true) }
     ensures err { IfErr result (RunRefuses MAX_LEVEL most store.new (record { before = R.remaining reader.old; after = R.remaining reader.new; failures = R.failures reader.new })
         (record { before = W.contents writer.old; after = W.contents writer.new; failures = W.failures writer.new; stalled = W.stalled writer.new })) }
+    ensures needed { result ≡ Err (fault_of Kind.Full) → LacksForRead MAX_LEVEL most store.new (record { before = R.remaining reader.old; after = R.remaining reader.new; failures = R.failures reader.new }) }
     ensures unwritten { IfErr result (λ fault. fault.kind ≢ Kind.WriteFault → writer.new ≡ writer.old) }
     ensures read_told { R.failures reader.new ≡ 1 → IsErrAnd result (λ fault. fault.kind ≡ Kind.ReadFault) }
     ensures write_told { (W.failures writer.new ≡ 1) ⊎ (W.stalled writer.new ≡ true) → IsErrAnd result (λ fault. fault.kind ≡ Kind.WriteFault) }
     ensures keeps { Keeps store.old store.new }
 {
     let pattern = read_source(alloc, store, reader, most)?;
-    let known = squares_of(alloc, store, &pattern)?;
+    let numbers = IdNumbers::new(alloc, store)?;
     let front = front_of(alloc, &pattern)?;
-    deliver_lines(store, &pattern.rule, &known, front, writer)?;
+    deliver_squares(store, &pattern, numbers, front, writer)?;
     Ok(())
 }
 
@@ -164,6 +170,7 @@ pub fn run_canon<R: Source, W: Sink>(
     ensures flushed { OnOk result (W.flushed writer.new ≡ true) }
     ensures err { IfErr result (RunRefuses MAX_LEVEL (2 ^ 30) store.new (record { before = R.remaining reader.old; after = R.remaining reader.new; failures = R.failures reader.new })
         (record { before = W.contents writer.old; after = W.contents writer.new; failures = W.failures writer.new; stalled = W.stalled writer.new })) }
+    ensures needed { result ≡ Err (fault_of Kind.Full) → LacksForRead MAX_LEVEL (2 ^ 30) store.new (record { before = R.remaining reader.old; after = R.remaining reader.new; failures = R.failures reader.new }) }
     ensures unwritten { IfErr result (λ fault. fault.kind ≢ Kind.WriteFault → writer.new ≡ writer.old) }
     ensures read_told { R.failures reader.new ≡ 1 → IsErrAnd result (λ fault. fault.kind ≡ Kind.ReadFault) }
     ensures write_told { (W.failures writer.new ≡ 1) ⊎ (W.stalled writer.new ≡ true) → IsErrAnd result (λ fault. fault.kind ≡ Kind.WriteFault) }

@@ -1,10 +1,12 @@
 //! The canonical text of a pattern, without a file value between, whole or in pieces.
 
-ghost use Rattle.std.specs.Prelude.{◌≡◌, ◌⊎◌, ◌+◌, ◌++◌, ◌≤◌, true, map, flat_map, vec_len, vec_capacity, All, Contains, OnOk, OnErr, IfOk, IfErr};
+ghost use Rattle.std.specs.Prelude.{◌≡◌, ◌⊎◌, ◌+◌, ◌++◌, ◌≤◌, [], true, map, flat_map, vec_len, vec_capacity, All, Contains, OnOk, OnErr, IfOk, IfErr};
 ghost use Rattle.life_base.specs.declared.kind.Kind.TheVariants.{Memory};
 ghost use Rattle.life_base.specs.Refusal.{fault_of};
 ghost use Rattle.life_base.specs.Writing.{WritesText, WritesPrefix};
-ghost use Rattle.life_base.specs.Tree.{Tree};
+ghost use Rattle.life_base.specs.Tree.{Tree, depth};
+ghost use Rattle.life_quad.specs.declared.id.Id.{Id as IdValue};
+ghost use Rattle.life_quad.specs.IdNumbers.{HasNumberRoom};
 ghost use Rattle.life_mc.specs.Macrocell.{largest_state};
 ghost use Rattle.life_mc.specs.Squares.{HasStatesUpTo};
 ghost use Rattle.life_mc.specs.Writing.{front_text, node_text, mc_text};
@@ -16,9 +18,10 @@ ghost use Rattle.life_canon.specs.Pieces.{WritesFront};
 use crate::listing::listed;
 use crate::numbering::line_of;
 use crate::pattern::{Pattern, least_level};
+use crate::walking::write_square;
 use life_base::{Fault, Kind, MAX_LEVEL, Rule, Sink, deliver, write_text};
 use life_mc::{LONGEST_NODE_LINE, append_front, append_line};
-use life_quad::{IdList, Shared, SharedSquares};
+use life_quad::{IdList, IdNumbers, Shared, SharedSquares, Squares};
 use std::alloc::Global;
 
 /// How many bytes are read, or held before they are written, at once.
@@ -99,7 +102,7 @@ pub(crate) fn front_of(alloc: Global, pattern: &Pattern) -> Result<Vec<u8>, Kind
 }
 
 /// Writes what the piece holds, and empties it, unless a line fits behind it. Its room stays.
-fn make_way<W: Sink>(piece: &mut Vec<u8>, writer: &mut W) -> Result<(), Kind>
+pub(crate) fn make_way<W: Sink>(piece: &mut Vec<u8>, writer: &mut W) -> Result<(), Kind>
     requires { W.failures writer.old ≡ 0 }
     ensures front { OnOk result (WritesFront (W.contents writer.old) (W.contents writer.new) piece.old.items piece.new.items) }
     ensures prefix { OnErr result (WritesPrefix (W.contents writer.old) (W.contents writer.new) piece.old.items) }
@@ -119,20 +122,23 @@ fn make_way<W: Sink>(piece: &mut Vec<u8>, writer: &mut W) -> Result<(), Kind>
     Ok(())
 }
 
-/// Writes the front and then the lines of the squares of the list, in its order, and flushes. The text is gathered in the front's room,
-/// which is all the memory that it takes, and written whenever a line may not fit.
-pub(crate) fn deliver_lines<S: SharedSquares, W: Sink>(
+/// Writes the front and then the lines of the squares of a pattern, in their order, and flushes. The text is gathered in the front's room,
+/// and written whenever a line may not fit. It takes no memory.
+pub(crate) fn deliver_squares<S: SharedSquares, W: Sink>(
     squares: &S,
-    rule: &Rule,
-    known: &IdList,
+    pattern: &Pattern,
+    mut numbers: IdNumbers,
     front: Vec<u8>,
     writer: &mut W,
 ) -> Result<(), Kind>
-    requires known { All (S.knows squares.now) known.now }
-    requires listed { (t : Tree) → Contains (map (S.content squares.now) known.now) t → IsListed rule.now (map (S.content squares.now) known.now) t }
+    requires known { S.knows squares.now pattern.now.root }
+    requires level { least_level pattern.now.rule ≤ depth (S.content squares.now pattern.now.root) }
+    requires states { HasStatesUpTo (largest_state pattern.now.rule) (S.content squares.now pattern.now.root) }
+    requires none { numbers.ids ≡ [] }
+    requires bound { (id : IdValue) → S.knows squares.now id → HasNumberRoom numbers id }
     requires room { 65536 ≤ vec_capacity front }
     requires works { W.failures writer.old ≡ 0 }
-    ensures text { WritesText (W.contents writer.old) (W.contents writer.new) (front.items ++ flat_map node_text (lines_for rule.now (map (S.content squares.now) known.now))) result }
+    ensures text { WritesText (W.contents writer.old) (W.contents writer.new) (front.items ++ flat_map node_text (lines_for pattern.now.rule (listed (S.content squares.now pattern.now.root) (least_level pattern.now.rule)))) result }
     ensures works { OnOk result (W.failures writer.new ≡ 0) }
     ensures flushed { OnOk result (W.flushed writer.new ≡ true) }
     ensures kind { IfErr result (λ k. k ≡ Kind.WriteFault) }
@@ -141,9 +147,15 @@ pub(crate) fn deliver_lines<S: SharedSquares, W: Sink>(
     ensures failed { W.failures writer.new ≡ 1 → W.stalled writer.new ≡ W.stalled writer.old }
 {
     let mut piece = front;
-    for id in known.as_slice() {
-        make_way(&mut piece, writer)?;
-        append_line(&mut piece, &line_of(squares, rule, known, *id))?;
-    }
+    let level = squares.level(pattern.root);
+    write_square(
+        squares,
+        &pattern.rule,
+        level,
+        pattern.root,
+        &mut numbers,
+        &mut piece,
+        writer,
+    )?;
     deliver(writer, &piece)
 }

@@ -1,7 +1,8 @@
 use Rattle.std.proofs.Common.{rules, take}
+use Rattle.std.proofs.lemmas.Result.{err_from_is_err_and}
 use Rattle.life_canon.specs.Running.{by_length}
 use Rattle.life_canon.proofs.CallFacts.{keeps-all}
-use Rattle.life_canon.proofs.RunFacts.{reading-on, beyond-most, ended-refused, ended-open}
+use Rattle.life_canon.proofs.RunFacts.{reading-on, beyond-most, ended-refused, ended-open, ended-lacks, lacks-front, refused-not-full}
 use Rattle.life_canon.proofs.running.read_source.Goals as goal
 
 pub returns-then-total-most-clause-fault : goal.returns-then-total-most-clause-fault
@@ -32,3 +33,16 @@ returns-in-None-clause-fault g c =
 
 pub returns-in-None-clause-keeps : goal.returns-in-None-clause-keeps
 returns-in-None-clause-keeps g c = keeps-all _ _ _ c.loop-reader.invariant.3 c.finish.ensures.keeps
+
+pub returns-in_err-refused-clause-needed : goal.returns-in_err-refused-clause-needed
+returns-in_err-refused-clause-needed g c =
+    let p = err_from_is_err_and c.from_residual-in_err-refused.result c.from_residual-in_err-refused.ensures.1 in
+    rw (p.1, p.2) (λ e. lacks-front _ _ _ _ _ c.loop-reader.total c.in_ok-count.count c.args.most _ c.loop-reader.refused c.loop-reader.reader (take c.in_ok-count.count c.read.new.buf)
+    c.loop-reader.invariant.0 c.in_ok-count.ensures.bytes.0 (search rules) (search rules) (c.in_err-refused.ensures.needed (cc)))
+
+pub returns-in-None-clause-needed : goal.returns-in-None-clause-needed
+returns-in-None-clause-needed g c =
+    λ e. ended-lacks _ _ _ _ _ _ _ _ _ _ _ _ c.loop-reader.invariant.0 (search rules) (search rules) c.in_ok-count.ensures.bytes c.loop-reader.invariant.2 c.in-None.is (c.finish.ensures.needed e)
+
+pub returns-in-Some-clause-needed : goal.returns-in-Some-clause-needed
+returns-in-Some-clause-needed g c = λ e. absurd (refused-not-full _ _ _ _ _ _ c.loop-reader.invariant.0 c.in-Some.fault c.in-Some.is (cc))

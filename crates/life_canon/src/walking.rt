@@ -1,0 +1,118 @@
+//! The walk that numbers the squares of a square and writes their lines.
+
+ghost use Rattle.std.specs.Prelude.{◌≡◌, ◌⊎◌, ◌++◌, ◌≤◌, true, false, map, vec_capacity, All, OnOk, OnErr, IfOk, IfErr, MatchOption};
+ghost use Rattle.life_base.specs.Writing.{WritesPrefix};
+ghost use Rattle.life_base.specs.Tree.{depth, is_blank_tree};
+ghost use Rattle.life_mc.specs.Macrocell.{largest_state};
+ghost use Rattle.life_mc.specs.Squares.{HasStatesUpTo};
+ghost use Rattle.life_mc.specs.Writing.{node_text};
+ghost use Rattle.life_quad.specs.declared.id.Id.{Id as IdValue};
+ghost use Rattle.life_quad.specs.IdNumbers.{HasNumberRoom};
+ghost use Rattle.life_canon.specs.Universe.{is_life, least_level};
+ghost use Rattle.life_canon.specs.Listing.{is_small, is_in, with_all, walk, number_of};
+ghost use Rattle.life_canon.specs.Closed.{IsClosed};
+ghost use Rattle.life_canon.specs.Pieces.{WritesFront, WritesOn, BreaksIn};
+
+use crate::numbering::{is_leaf, leaf};
+use crate::writing::make_way;
+use life_base::{Kind, Rule, Sink};
+use life_mc::{Line, append_line};
+use life_quad::{Id, IdNumbers, Quarters, SharedSquares, Squares, divide, is_blank_at};
+
+/// The number that stands for a square of a level in a node line, where nothing has to be written for it: a cell's state, 0 for a blank
+/// square, else the number that it has.
+fn known_number<S: SharedSquares>(
+    squares: &S,
+    level: u8,
+    numbers: &IdNumbers,
+    id: Id,
+) -> Option<u64>
+    requires id { S.knows squares.now id }
+    requires level { level ≡ depth (S.content squares.now id) }
+    requires numbers { All (S.knows squares.now) numbers.now.ids }
+    ensures number { MatchOption result ((1 ≤ depth (S.content squares.now id)) × (is_blank_tree (S.content squares.now id) ≡ false)) (λ number. number ≡ number_of (map (S.content squares.now) numbers.now.ids) (S.content squares.now id)) }
+    ensures there { MatchOption result (is_in (map (S.content squares.now) numbers.now.ids) (S.content squares.now id) ≡ false) (λ _. (is_small 1 (S.content squares.now id) ≡ true) ⊎ (is_in (map (S.content squares.now) numbers.now.ids) (S.content squares.now id) ≡ true)) }
+{
+    if let Some(state) = squares.state(id) {
+        return Some(u64::from(state));
+    }
+    if is_blank_at(squares, level, id) {
+        return Some(0);
+    }
+    numbers.get(id)
+}
+
+/// Adds a line, behind what the piece holds. Where it may not fit, that is written first.
+fn write_line<W: Sink>(line: &Line, piece: &mut Vec<u8>, writer: &mut W) -> Result<(), Kind>
+    requires room { 65536 ≤ vec_capacity piece.old }
+    requires works { W.failures writer.old ≡ 0 }
+    ensures front { OnOk result (WritesFront (W.contents writer.old) (W.contents writer.new) (piece.old.items ++ node_text line.now) piece.new.items) }
+    ensures prefix { OnErr result (WritesPrefix (W.contents writer.old) (W.contents writer.new) piece.old.items) }
+    ensures room { 65536 ≤ vec_capacity piece.new }
+    ensures works { OnOk result (W.failures writer.new ≡ 0) }
+    ensures kind { IfErr result (λ k. k ≡ Kind.WriteFault) }
+    ensures cause { OnErr result ((W.failures writer.new ≡ 1) ⊎ (W.stalled writer.new ≡ true)) }
+    ensures stalled { OnOk result (W.stalled writer.new ≡ W.stalled writer.old) }
+    ensures failed { W.failures writer.new ≡ 1 → W.stalled writer.new ≡ W.stalled writer.old }
+{
+    make_way(piece, writer)?;
+    append_line(piece, line)?;
+    Ok(())
+}
+
+/// Writes the lines of the squares of the walk over a square of a level that have no number yet, each behind those of its quarters, and gives
+/// them numbers. It answers the number that stands for the square in a node line.
+pub(crate) fn write_square<S: SharedSquares, W: Sink>(
+    squares: &S,
+    rule: &Rule,
+    level: u8,
+    id: Id,
+    numbers: &mut IdNumbers,
+    piece: &mut Vec<u8>,
+    writer: &mut W,
+) -> Result<u64, Kind>
+    requires id { S.knows squares.now id }
+    requires level { level ≡ depth (S.content squares.now id) }
+    requires high { is_life rule.now ≡ true → 3 ≤ level }
+    requires states { HasStatesUpTo (largest_state rule.now) (S.content squares.now id) }
+    requires numbers { All (S.knows squares.now) numbers.old.ids }
+    requires closed { IsClosed (least_level rule.now) (map (S.content squares.now) numbers.old.ids) }
+    requires bound { (q : IdValue) → S.knows squares.now q → HasNumberRoom numbers.old q }
+    requires room { 65536 ≤ vec_capacity piece.old }
+    requires works { W.failures writer.old ≡ 0 }
+    ensures walked { OnOk result (map (S.content squares.now) numbers.new.ids ≡ with_all (map (S.content squares.now) numbers.old.ids) (walk (S.content squares.now id) (least_level rule.now))) }
+    ensures number { IfOk result (λ number. number ≡ number_of (map (S.content squares.now) numbers.new.ids) (S.content squares.now id)) }
+    ensures text { OnOk result (WritesOn rule.now (W.contents writer.old) (W.contents writer.new) piece.old.items piece.new.items (map (S.content squares.now) numbers.old.ids) (map (S.content squares.now) numbers.new.ids)) }
+    ensures prefix { OnErr result (BreaksIn rule.now (W.contents writer.old) (W.contents writer.new) piece.old.items (map (S.content squares.now) numbers.old.ids) (with_all (map (S.content squares.now) numbers.old.ids) (walk (S.content squares.now id) (least_level rule.now)))) }
+    ensures numbers { OnOk result (All (S.knows squares.now) numbers.new.ids) }
+    ensures closed { OnOk result (IsClosed (least_level rule.now) (map (S.content squares.now) numbers.new.ids)) }
+    ensures bound { OnOk result (numbers.new.bound ≡ numbers.old.bound) }
+    ensures room { 65536 ≤ vec_capacity piece.new }
+    ensures works { OnOk result (W.failures writer.new ≡ 0) }
+    ensures kind { IfErr result (λ k. k ≡ Kind.WriteFault) }
+    ensures cause { OnErr result ((W.failures writer.new ≡ 1) ⊎ (W.stalled writer.new ≡ true)) }
+    ensures stalled { OnOk result (W.stalled writer.new ≡ W.stalled writer.old) }
+    ensures failed { W.failures writer.new ≡ 1 → W.stalled writer.new ≡ W.stalled writer.old }
+{
+    if let Some(number) = known_number(squares, level, numbers, id) {
+        return Ok(number);
+    }
+    if is_leaf(rule, level) {
+        write_line(&leaf(squares, id), piece, writer)?;
+        return Ok(numbers.push(id));
+    }
+    let Quarters { nw, ne, sw, se } = divide(squares, id);
+    let nw = write_square(squares, rule, level - 1, nw, numbers, piece, writer)?;
+    let ne = write_square(squares, rule, level - 1, ne, numbers, piece, writer)?;
+    let sw = write_square(squares, rule, level - 1, sw, numbers, piece, writer)?;
+    let se = write_square(squares, rule, level - 1, se, numbers, piece, writer)?;
+    let line = Line::Quad {
+        level,
+        nw,
+        ne,
+        sw,
+        se,
+    };
+    write_line(&line, piece, writer)?;
+    Ok(numbers.push(id))
+}
