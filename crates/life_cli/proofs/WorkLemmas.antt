@@ -12,7 +12,7 @@ use Rattle.life_base.specs.declared.kind.Kind.TheVariants.{Full, Memory, TooMany
 use Rattle.life_quad.specs.Store.{Nodes}
 use Rattle.life_canon.specs.Files.{Accepted, Refuses, Same as AreSame, is_file_kind}
 use Rattle.life_canon.specs.Laws.{RefusalsHaveKinds}
-use Rattle.life_canon.specs.Running.{HasRead, ReadRefuses}
+use Rattle.life_canon.specs.Running.{HasRead, ReadRefuses, LacksForRead}
 use Rattle.life_canon.specs.Running as reading
 use Rattle.life_canon.specs.Store.{IsRead, IsWant}
 use Rattle.life_canon.specs.Texts.{HasMoreCells}
@@ -22,16 +22,16 @@ use Rattle.life_table.specs.Reading.{Refuses as RefusesTable}
 use Rattle.life_table.specs.declared.table.Table.{Table}
 use Rattle.life_cli.specs.declared.plans.Job.TheVariants.{StepTable}
 use Rattle.life_cli.specs.declared.telling.Refusal.{Refusal}
-use Rattle.life_cli.specs.Jobs.{InputRefuses, by_length, by_source, HasNoText, by_input, by_file, by_want, IsHeld, AreCompared, AreUncompared, by_first, by_second, by_shortage, RefusesRle, Compares, Worked, HasText, FileRefuses, IsSteppedBy, RefusesStepBy, HasTable, HasNoTable, table_by_input, table_by_lines, table_by_memory, OfFile, JobRefuses}
+use Rattle.life_cli.specs.Jobs.{InputRefuses, by_length, by_source, HasNoText, by_input, by_file, by_want, IsHeld, AreCompared, AreUncompared, by_first, by_second, by_first_shortage, by_second_shortage, IsWantFor, WantsToStep, RefusesRle, Compares, Worked, HasText, FileRefuses, IsSteppedBy, RefusesStepBy, HasTable, HasNoTable, table_by_input, table_by_lines, table_by_memory, OfFile, JobRefuses}
 
 -- nothing comes of an input of which a store makes no pattern
 pub no_pattern : (refuses : List ℕ → Fault → Type 0) (source : SourceRun) (store : Nodes) (fault : Fault) → store.limit ≡ 2 ^ 31
     → ((bytes : List ℕ) → Refuses MAX_LEVEL bytes fault → refuses bytes fault) → ReadRefuses MAX_LEVEL (2 ^ 30) store source fault
-    → HasNoText refuses source fault
-no_pattern refuses source store fault limit f (reading.by_file bytes read h) = by_file bytes read (f bytes h)
-no_pattern refuses source store fault limit f (reading.by_want want) = by_want (inr (store, limit, want))
-no_pattern refuses source store fault limit f (reading.by_length is came) = by_input (by_length is came)
-no_pattern refuses source store fault limit f (reading.by_source is failed) = by_input (by_source is failed)
+    → (fault ≡ fault_of Full → LacksForRead MAX_LEVEL (2 ^ 30) store source) → HasNoText refuses source fault
+no_pattern refuses source store fault limit f (reading.by_file bytes read h) lacks = by_file bytes read (f bytes h)
+no_pattern refuses source store fault limit f (reading.by_want want) lacks = by_want (inr (store, limit, (want, lacks)))
+no_pattern refuses source store fault limit f (reading.by_length is came) lacks = by_input (by_length is came)
+no_pattern refuses source store fault limit f (reading.by_source is failed) lacks = by_input (by_source is failed)
 
 -- no text for want of memory, or with too many cells
 pub refused_lines : {X : Type 0} (source : SourceRun) (r : Result X Fault) → IfErr r (λ fault. fault ≡ fault_of Memory)
@@ -50,18 +50,19 @@ refused_rle source store pattern (Err fault) has (inr many) = by_file has.bytes 
 
 -- a fault of a kind that isn't a file's is none of a file
 pub no_file : (source : SourceRun) (store : Nodes) (fault : Fault) → RefusalsHaveKinds MAX_LEVEL → ReadRefuses MAX_LEVEL (2 ^ 30) store source fault
+    → (fault ≡ fault_of Full → LacksForRead MAX_LEVEL (2 ^ 30) store source)
     → (fault.kind ≡ ReadFault) ⊎ ((fault.kind ≡ InputTooLong) ⊎ ((fault.kind ≡ Full) ⊎ (fault.kind ≡ Memory)))
-    → InputRefuses source fault ⊎ IsWant store fault
-no_file source store fault law (reading.by_file bytes read h) k = absurd (other fault.kind (law (lines_of bytes) fault h).0 k)
+    → InputRefuses source fault ⊎ IsWantFor source store fault
+no_file source store fault law (reading.by_file bytes read h) lacks k = absurd (other fault.kind (law (lines_of bytes) fault h).0 k)
   where
     other : (kind : Kind) → is_file_kind kind ≡ true → (kind ≡ ReadFault) ⊎ ((kind ≡ InputTooLong) ⊎ ((kind ≡ Full) ⊎ (kind ≡ Memory))) → ⊥
     other kind is (inl e) = let n : is_file_kind ReadFault ≡ true = subst (λ (k : Kind). is_file_kind k ≡ true) e is in cc
     other kind is (inr (inl e)) = let n : is_file_kind InputTooLong ≡ true = subst (λ (k : Kind). is_file_kind k ≡ true) e is in cc
     other kind is (inr (inr (inl e))) = let n : is_file_kind Full ≡ true = subst (λ (k : Kind). is_file_kind k ≡ true) e is in cc
     other kind is (inr (inr (inr e))) = let n : is_file_kind Memory ≡ true = subst (λ (k : Kind). is_file_kind k ≡ true) e is in cc
-no_file source store fault law (reading.by_want want) k = inr want
-no_file source store fault law (reading.by_length is came) k = inl (by_length is came)
-no_file source store fault law (reading.by_source is failed) k = inl (by_source is failed)
+no_file source store fault law (reading.by_want want) lacks k = inr (want, lacks)
+no_file source store fault law (reading.by_length is came) lacks k = inl (by_length is came)
+no_file source store fault law (reading.by_source is failed) lacks k = inl (by_source is failed)
 
 -- a fault of another kind is that of the file
 pub held_fault : (source : SourceRun) (store : Nodes) (fault : Fault) → ReadRefuses MAX_LEVEL (2 ^ 30) store source fault
@@ -74,15 +75,15 @@ held_fault source store fault (reading.by_length is came) n = absurd (n (inr (in
 held_fault source store fault (reading.by_source is failed) n = absurd (n (inl (ap (λ (f : Fault). f.kind) is)))
 
 -- two files aren't compared
-pub no_first_input : (first second : SourceRun) (store : Nodes) (fault : Fault) → store.limit ≡ 2 ^ 31 → InputRefuses first fault ⊎ IsWant store fault
+pub no_first_input : (first second : SourceRun) (store : Nodes) (fault : Fault) → store.limit ≡ 2 ^ 31 → InputRefuses first fault ⊎ IsWantFor first store fault
     → AreUncompared first second fault
 no_first_input first second store fault limit (inl unread) = by_first unread
-no_first_input first second store fault limit (inr want) = by_shortage (inr (store, limit, want))
+no_first_input first second store fault limit (inr want) = by_first_shortage (inr (store, limit, want))
 
 pub no_second_input : (first second : SourceRun) (a : List ℕ) (store : Nodes) (fault : Fault) → ReadAll (2 ^ 30) first.before first.after a
-    → store.limit ≡ 2 ^ 31 → InputRefuses second fault ⊎ IsWant store fault → AreUncompared first second fault
+    → store.limit ≡ 2 ^ 31 → InputRefuses second fault ⊎ IsWantFor second store fault → AreUncompared first second fault
 no_second_input first second a store fault read limit (inl unread) = by_second a read unread
-no_second_input first second a store fault read limit (inr want) = by_shortage (inr (store, limit, want))
+no_second_input first second a store fault read limit (inr want) = by_second_shortage a read (inr (store, limit, want))
 
 -- what a comparison answers is its status and its line
 answers : (a b : List ℕ) (answer : Bool) → IsTrue answer ↔ AreSame MAX_LEVEL a b
@@ -112,10 +113,10 @@ text_of_pattern gives items source store pattern (Err fault) has is = tt
 pub refused_step : {X : Type 0} (refuses : List ℕ → Fault → Type 0) (source : SourceRun) (old new : Nodes) (pattern : Pattern) (r : Result X Fault)
     → HasRead MAX_LEVEL (2 ^ 30) old source pattern → new.limit ≡ 2 ^ 31
     → IfErr r (λ fault. IsWant new fault ⊎ ((bytes : List ℕ) → IsRead MAX_LEVEL bytes old pattern → refuses bytes fault))
-    → IfErr r (HasNoText (λ bytes fault. Refuses MAX_LEVEL bytes fault ⊎ refuses bytes fault) source)
+    → IfErr r (HasNoText (λ bytes fault. Refuses MAX_LEVEL bytes fault ⊎ (WantsToStep fault ⊎ refuses bytes fault)) source)
 refused_step refuses source old new pattern (Ok x) has limit h = tt
-refused_step refuses source old new pattern (Err fault) has limit (inl want) = by_want (inr (new, limit, want))
-refused_step refuses source old new pattern (Err fault) has limit (inr step) = by_file has.bytes has.read (inr (step has.bytes has.is))
+refused_step refuses source old new pattern (Err fault) has limit (inl want) = by_file has.bytes has.read (inr (inl (new, limit, want)))
+refused_step refuses source old new pattern (Err fault) has limit (inr step) = by_file has.bytes has.read (inr (inr (step has.bytes has.is)))
 
 -- a file gives a table, or none
 pub no_table_input : (source : SourceRun) (fault : Fault) → InputRefuses source fault ⊎ (fault ≡ fault_of Memory) → HasNoTable source fault

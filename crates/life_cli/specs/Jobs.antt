@@ -8,10 +8,10 @@ use Rattle.life_base.specs.Text.{lines_of}
 use Rattle.life_base.specs.Writing.{WritesPrefix}
 use Rattle.life_base.specs.declared.fault.Fault.{Fault}
 use Rattle.life_base.specs.declared.cell.TheConstants.{MAX_LEVEL}
-use Rattle.life_base.specs.declared.kind.Kind.TheVariants.{InputTooLong, Memory, ReadFault, WriteFault, TooManyCells}
+use Rattle.life_base.specs.declared.kind.Kind.TheVariants.{Full, InputTooLong, Memory, ReadFault, WriteFault, TooManyCells}
 use Rattle.life_quad.specs.Store.{Nodes}
 use Rattle.life_canon.specs.Files.{Accepted, Reads, Same as AreSame, Refuses}
-use Rattle.life_canon.specs.Running.{RunRefuses}
+use Rattle.life_canon.specs.Running.{RunRefuses, LacksForRead}
 use Rattle.life_canon.specs.Store.{IsRead, IsWant}
 use Rattle.life_canon.specs.Texts.{IsCanonical, IsRleOf, IsShown, HasMoreCells}
 use Rattle.life_canon.specs.Universe.{Universe}
@@ -67,9 +67,13 @@ pub data InputRefuses (source : SourceRun) (fault : Fault) : Type 0 where
   by_length : fault ≡ fault_of InputTooLong → CameBeyond (2 ^ 30) source.before source.after → InputRefuses source fault
   by_source : fault ≡ fault_of ReadFault → source.failures ≡ 1 → InputRefuses source fault
 
--- a growth of memory was refused, or a store of 2^31 squares holds its limit
-abbrev pub Wants : Fault → Type 0
-Wants fault = (fault ≡ fault_of Memory) ⊎ ((store : Nodes) × (store.limit ≡ 2 ^ 31) × IsWant store fault)
+-- the store holds its limit and lacks a square which the bytes need that were read of the file, or a growth of memory was refused
+abbrev pub IsWantFor : SourceRun → Nodes → Fault → Type 0
+IsWantFor source store fault = IsWant store fault × (fault ≡ fault_of Full → LacksForRead MAX_LEVEL (2 ^ 30) store source)
+
+-- that of a store of 2^31 squares, or a growth of memory was refused elsewhere
+abbrev pub Wants : SourceRun → Fault → Type 0
+Wants source fault = (fault ≡ fault_of Memory) ⊎ ((store : Nodes) × (store.limit ≡ 2 ^ 31) × IsWantFor source store fault)
 
 -- a prefix of the text was written, and the sink failed or took no bytes
 pub record Breaks (output : SinkRun) (text : List ℕ) (fault : Fault) : Type 0 where
@@ -87,7 +91,7 @@ pub record HasText (gives : List ℕ → List ℕ → Type 0) (source : SourceRu
 pub data HasNoText (refuses : List ℕ → Fault → Type 0) (source : SourceRun) (fault : Fault) : Type 0 where
   by_input : InputRefuses source fault → HasNoText refuses source fault
   by_file : (bytes : List ℕ) → ReadAll (2 ^ 30) source.before source.after bytes → refuses bytes fault → HasNoText refuses source fault
-  by_want : Wants fault → HasNoText refuses source fault
+  by_want : Wants source fault → HasNoText refuses source fault
 
 -- why a job of one file is refused: nothing comes of it, or its text could not be written
 pub data FileRefuses (gives : List ℕ → List ℕ → Type 0) (refuses : List ℕ → Fault → Type 0) (source : SourceRun) (output : SinkRun)
@@ -111,13 +115,14 @@ pub record AreCompared (first second : SourceRun) (status : ℕ) (text : List �
   pub writes : Writes Same first_bytes second_bytes status text
 
 -- Why two files aren't compared: the first isn't read; all of it was read, and the second isn't; all of both was read, and the first is no
--- file, or it is one and the second isn't; or room or memory is wanted.
+-- file, or it is one and the second isn't; or room or memory is wanted for the first, or, once all of it was read, for the second.
 pub data AreUncompared (first second : SourceRun) (fault : Fault) : Type 0 where
   by_first : InputRefuses first fault → AreUncompared first second fault
   by_second : (a : List ℕ) → ReadAll (2 ^ 30) first.before first.after a → InputRefuses second fault → AreUncompared first second fault
   by_files : (a b : List ℕ) → ReadAll (2 ^ 30) first.before first.after a → ReadAll (2 ^ 30) second.before second.after b
       → Refuses MAX_LEVEL a fault ⊎ (Accepted MAX_LEVEL a × Refuses MAX_LEVEL b fault) → AreUncompared first second fault
-  by_shortage : Wants fault → AreUncompared first second fault
+  by_first_shortage : Wants first fault → AreUncompared first second fault
+  by_second_shortage : (a : List ℕ) → ReadAll (2 ^ 30) first.before first.after a → Wants second fault → AreUncompared first second fault
 
 -- why the comparison of two files is refused: there is none, or its line could not be written
 pub data SameRefuses (first second : SourceRun) (output : SinkRun) (fault : Fault) : Type 0 where
@@ -132,15 +137,22 @@ RefusesRle bytes fault = Refuses MAX_LEVEL bytes fault ⊎ ((fault ≡ fault_of 
 -- why a run of `run_canon` in a store of 2^31 squares is refused
 abbrev pub CanonRefuses : SourceRun → SinkRun → Fault → Type 0
 CanonRefuses first output fault = (store : Nodes) × (store.limit ≡ 2 ^ 31) × RunRefuses MAX_LEVEL (2 ^ 30) store first output fault
+    × (fault ≡ fault_of Full → LacksForRead MAX_LEVEL (2 ^ 30) store first)
 
--- why bytes aren't stepped under their own rule: they are no file, or one whose pattern has no next generation
+-- a step found that a store of 2^31 squares holds its limit, or a growth of memory was refused to it
+abbrev pub WantsToStep : Fault → Type 0
+WantsToStep fault = (store : Nodes) × (store.limit ≡ 2 ^ 31) × IsWant store fault
+
+-- why bytes aren't stepped under their own rule: they are no file, room or memory is wanted, or they are one whose pattern has no next
+-- generation
 abbrev pub RefusesStep : List ℕ → Fault → Type 0
-RefusesStep bytes fault = Refuses MAX_LEVEL bytes fault ⊎ ((u : Universe) × Reads MAX_LEVEL bytes u × LifeRefusal MAX_LEVEL u (Some fault))
+RefusesStep bytes fault =
+    Refuses MAX_LEVEL bytes fault ⊎ (WantsToStep fault ⊎ ((u : Universe) × Reads MAX_LEVEL bytes u × LifeRefusal MAX_LEVEL u (Some fault)))
 
 -- the same by a table
 abbrev pub RefusesStepBy : Table → List ℕ → Fault → Type 0
 RefusesStepBy table bytes fault =
-    Refuses MAX_LEVEL bytes fault ⊎ ((u : Universe) × Reads MAX_LEVEL bytes u × TableRefusal MAX_LEVEL table u (Some fault))
+    Refuses MAX_LEVEL bytes fault ⊎ (WantsToStep fault ⊎ ((u : Universe) × Reads MAX_LEVEL bytes u × TableRefusal MAX_LEVEL table u (Some fault)))
 
 -- all of a file was read, and it is this rule table
 pub record HasTable (source : SourceRun) (table : Table) : Type 0 where

@@ -5,10 +5,10 @@ ghost use Rattle.std.specs.Io.KnownBytes.{Appends};
 ghost use Rattle.life_base.specs.DeviceRuns.{SourceRun, source_run, optional_source_run, sink_run};
 ghost use Rattle.life_cli.specs.declared.telling.Refusal.{Refusal};
 ghost use Rattle.life_canon.specs.Files.{Refuses};
-ghost use Rattle.life_canon.specs.Store.{Keeps, IsWant};
+ghost use Rattle.life_canon.specs.Store.{Keeps};
 ghost use Rattle.life_canon.specs.Texts.{IsRleOf, IsShown};
 ghost use Rattle.life_cli.specs.Faults.{fault_line, status_of, Tells};
-ghost use Rattle.life_cli.specs.Jobs.{Worked, OfFile, InputRefuses, Breaks, HasText, HasNoText, FileRefuses, AreCompared, AreUncompared, CanonRefuses, IsHeld, JobRefuses, RefusesRle};
+ghost use Rattle.life_cli.specs.Jobs.{Worked, OfFile, InputRefuses, Breaks, HasText, HasNoText, FileRefuses, AreCompared, AreUncompared, CanonRefuses, IsHeld, IsWantFor, JobRefuses, RefusesRle};
 ghost use Rattle.life_cli.specs.Plans.{HasSecond};
 
 use crate::plans::{Job, Target};
@@ -80,7 +80,7 @@ fn held<A: Source>(
 ) -> Result<Result<Pattern, Fault>, Fault>
     requires { A.failures source.old ≡ 0 }
     ensures held { IfOk result (IsHeld store.new (source_run A.remaining A.failures source.old source.new)) }
-    ensures err { IfErr result (λ fault. InputRefuses (source_run A.remaining A.failures source.old source.new) fault ⊎ IsWant store.new fault) }
+    ensures err { IfErr result (λ fault. InputRefuses (source_run A.remaining A.failures source.old source.new) fault ⊎ IsWantFor (source_run A.remaining A.failures source.old source.new) store.new fault) }
     ensures told { A.failures source.new ≡ 1 → IsErrAnd result (λ fault. fault.kind ≡ Kind.ReadFault) }
     ensures keeps { Keeps store.old store.new }
 {

@@ -11,7 +11,7 @@ use Rattle.life_cli.proofs.stepping.next_by.Goals as goal
 pub returns-in_err-pattern-clause-err : goal.returns-in_err-pattern-clause-err
 returns-in_err-pattern-clause-err g c =
     let p = err_from_is_err_and c.from_residual.result c.from_residual.ensures.1 in
-    rw (p.1, p.2) (no_pattern (RefusesStepBy c.args.table.now) _ c.read_from.new.store _ (c.read_from.ensures.keeps.limit ∙ c.new-store.ensures.most) (λ bytes refuses. inl refuses) c.in_err-pattern.ensures.fault)
+    rw (p.1, p.2) (no_pattern (RefusesStepBy c.args.table.now) _ c.read_from.new.store _ (c.read_from.ensures.keeps.limit ∙ c.new-store.ensures.most) (λ bytes refuses. inl refuses) c.in_err-pattern.ensures.fault (λ e. c.in_err-pattern.ensures.needed (cc)))
 
 pub next_by_table-requires : goal.next_by_table-requires
 next_by_table-requires g c = (c.in_ok-pattern.ensures.pattern.bytes, c.in_ok-pattern.ensures.pattern.is)

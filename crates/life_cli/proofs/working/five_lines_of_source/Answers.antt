@@ -9,7 +9,7 @@ use Rattle.life_cli.proofs.working.five_lines_of_source.Goals as goal
 pub returns-in_err-pattern-clause-err : goal.returns-in_err-pattern-clause-err
 returns-in_err-pattern-clause-err g c =
     let p = err_from_is_err_and c.from_residual.result c.from_residual.ensures.1 in
-    rw (p.1, p.2) (no_pattern (Refuses MAX_LEVEL) _ c.read_from.new.store _ (c.read_from.ensures.keeps.limit ∙ c.new-store.ensures.most) (λ bytes refuses. refuses) c.in_err-pattern.ensures.fault)
+    rw (p.1, p.2) (no_pattern (Refuses MAX_LEVEL) _ c.read_from.new.store _ (c.read_from.ensures.keeps.limit ∙ c.new-store.ensures.most) (λ bytes refuses. refuses) c.in_err-pattern.ensures.fault (λ e. c.in_err-pattern.ensures.needed (cc)))
 
 pub five_lines_of-requires : goal.five_lines_of-requires
 five_lines_of-requires g c = (c.in_ok-pattern.ensures.pattern.bytes, c.in_ok-pattern.ensures.pattern.is)
