@@ -1,6 +1,6 @@
 #!/bin/sh
-# Each edit in crates/*/more-must-fail can be applied: the text that it takes away stands in its file exactly once. The edits are tried by
-# `make plants`; those in must-fail/ by `rt ci`.
+# Each edit in crates/*/more-must-fail can be applied: each of its lines is one that `rt` reads, and the text that it takes away stands in its file
+# exactly once. The edits are tried by `make plants`; those in must-fail/ by `rt ci`.
 cd "$(dirname "$0")/.." || exit 1
 passed=0
 failed=0
@@ -17,6 +17,8 @@ for edit in crates/*/more-must-fail/*.edit; do
                 [ "$problems" != " no text is taken away;" ] || problems=
                 [ "$times" = 1 ] || problems="$problems '${line#old: }' stands $times times in $file;"
                 ;;
+            'new: '* | 'new:') ;;
+            *) problems="$problems '$line' is no line of an edit;" ;;
         esac
     done < "$edit"
     if [ -z "$problems" ]; then

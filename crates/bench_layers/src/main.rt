@@ -23,7 +23,7 @@ use std::{env, io};
 
 const GLIDER: &[u8] = b"x = 3, y = 3, rule = B3/S23\nbo$2bo$3o!\n";
 
-// What standard input holds.
+/// What standard input holds.
 fn input(rt: HostRuntime) -> Result<Vec<u8>, Kind> {
     let mut source = Device::new(rt.stdin());
     read_within(rt.alloc(), &mut source, 1 << 30)
@@ -37,7 +37,7 @@ fn time_all(rt: HostRuntime, words: &[String], table: &[u8]) -> io::Result<()> {
     table::time(rt, words, table)
 }
 
-// Times a layer by an input.
+/// Times a layer by an input.
 fn time_input(rt: HostRuntime, layer: &str, words: &[String], bytes: &[u8]) -> io::Result<()> {
     match layer {
         "rle" => rle::time(rt, words, bytes),
@@ -48,7 +48,7 @@ fn time_input(rt: HostRuntime, layer: &str, words: &[String], bytes: &[u8]) -> i
     }
 }
 
-// Times a layer of that name.
+/// Times a layer of that name.
 fn time(rt: HostRuntime, layer: &str, words: &[String]) -> io::Result<()> {
     match layer {
         "quad" => quad::time(rt),

@@ -11,7 +11,7 @@ use std::time::Instant;
 
 const JOINS: u32 = 4_000_000;
 
-// Joins that many different squares of level 1, or finds them where they were joined before.
+/// Joins that many different squares of level 1, or finds them where they were joined before.
 fn fill<S: Squares>(squares: &mut S, count: u32) -> Result<(), Kind> {
     for i in 0..count {
         let a = squares.cell((i & 255) as u8);
@@ -23,7 +23,7 @@ fn fill<S: Squares>(squares: &mut S, count: u32) -> Result<(), Kind> {
     Ok(())
 }
 
-// Puts a run of one cell into each row of a square of the greatest level.
+/// Puts a run of one cell into each row of a square of the greatest level.
 fn put_runs<S: Squares>(squares: &mut S, rows: u16) -> Result<(), Kind> {
     let mut root = squares.empty(MAX_LEVEL);
     for y in 0..rows {
@@ -32,7 +32,7 @@ fn put_runs<S: Squares>(squares: &mut S, rows: u16) -> Result<(), Kind> {
     Ok(())
 }
 
-// The greatest square with each cell in state 1.
+/// The greatest square with each cell in state 1.
 fn full_square<S: Squares>(squares: &mut S) -> Result<Id, Kind>
     ensures known { IfOk result (S.knows squares.new) }
     ensures level { IfOk result (λ r. depth (S.content squares.new r) ≡ MAX_LEVEL) }
@@ -44,14 +44,14 @@ fn full_square<S: Squares>(squares: &mut S) -> Result<Id, Kind>
     Ok(id)
 }
 
-// Its number of cells and whether it has a box.
+/// Its number of cells and whether it has a box.
 fn measure<S: SharedSquares>(alloc: Global, squares: &mut S) -> Result<(u128, bool), Kind> {
     let id = full_square(squares)?;
     let number = population(alloc, squares, id)?;
     Ok((number, bounds(alloc, squares, id)?.is_some()))
 }
 
-// Times that many joins.
+/// Times that many joins.
 fn time_joins(rt: HostRuntime, squares: &mut Shared, name: &str) -> io::Result<()> {
     let start = Instant::now(&rt)?;
     let joined = fill(squares, JOINS).is_ok();
@@ -60,7 +60,7 @@ fn time_joins(rt: HostRuntime, squares: &mut Shared, name: &str) -> io::Result<(
     eprintln!(rt; "{name} joins: {} ms", spent.as_millis())
 }
 
-// Times runs in 10,000 rows.
+/// Times runs in 10,000 rows.
 fn time_runs(rt: HostRuntime, squares: &mut Shared) -> io::Result<()> {
     let start = Instant::now(&rt)?;
     let put = put_runs(squares, 10_000).is_ok();
@@ -69,7 +69,7 @@ fn time_runs(rt: HostRuntime, squares: &mut Shared) -> io::Result<()> {
     eprintln!(rt; "runs: {} ms, nodes {}", spent.as_millis(), squares.len())
 }
 
-// Times the count and the box of a square of 2^62 columns.
+/// Times the count and the box of a square of 2^62 columns.
 fn time_measures(rt: HostRuntime, squares: &mut Shared) -> io::Result<()> {
     let start = Instant::now(&rt)?;
     let (number, has_box) = measure(rt.alloc(), squares).unwrap_or((0, false));
@@ -78,7 +78,7 @@ fn time_measures(rt: HostRuntime, squares: &mut Shared) -> io::Result<()> {
     eprintln!(rt; "full square: {} ms", spent.as_millis())
 }
 
-// Times the calls of one store in turn.
+/// Times the calls of one store in turn.
 fn time_calls(rt: HostRuntime, squares: &mut Shared) -> io::Result<()> {
     time_joins(rt, squares, "fresh")?;
     time_joins(rt, squares, "found")?;

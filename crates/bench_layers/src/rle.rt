@@ -10,7 +10,7 @@ use std::io;
 use std::io::Write;
 use std::time::Instant;
 
-// The cells of a file's runs, in the order of the runs.
+/// The cells of a file's runs, in the order of the runs.
 fn cells_of(alloc: Global, file: &RleFile) -> Result<Vec<Cell>, Kind> {
     let mut cells = Vec::new(alloc);
     for run in file.runs.as_slice() {
@@ -28,7 +28,7 @@ fn cells_of(alloc: Global, file: &RleFile) -> Result<Vec<Cell>, Kind> {
     Ok(cells)
 }
 
-// What the words ask for.
+/// What the words ask for.
 #[derive(Clone, Copy)]
 struct Options {
     reads_only: bool,
@@ -50,7 +50,7 @@ fn asked(words: &[String]) -> Options {
     options
 }
 
-// Writes the cells of a file, and tells how long that took.
+/// Writes the cells of a file, and tells how long that took.
 fn time_writing(rt: HostRuntime, file: &RleFile, cells: &[Cell], as_text: bool) -> io::Result<()> {
     if !sorted_cells(&file.rule, cells) {
         return println!(rt; "cells that can't be written");
@@ -68,7 +68,7 @@ fn time_writing(rt: HostRuntime, file: &RleFile, cells: &[Cell], as_text: bool) 
     eprintln!(rt; "written: {} us", spent.as_micros())
 }
 
-// Tells what a file holds, and writes it again.
+/// Tells what a file holds, and writes it again.
 fn report(rt: HostRuntime, file: &RleFile, options: Options) -> io::Result<()> {
     if !options.as_text {
         println!(rt; "{} runs", file.runs.as_slice().len())?;

@@ -14,10 +14,10 @@ use std::alloc::{AllocError, Global};
 use std::io;
 use std::time::Instant;
 
-// The columns and rows of a soup.
+/// The columns and rows of a soup.
 const SIDE: u32 = 1774;
 
-// A soup as extended RLE, a row a line.
+/// A soup as extended RLE, a row a line.
 fn soup(alloc: Global) -> Result<Vec<u8>, AllocError> {
     let mut text = Vec::from_slice(alloc, b"x = 1774, y = 1774, rule = B3/S23\n")?;
     let mut number = 1u64;
@@ -36,7 +36,7 @@ fn soup(alloc: Global) -> Result<Vec<u8>, AllocError> {
     Ok(text)
 }
 
-// Times the next generation alone.
+/// Times the next generation alone.
 fn time_generation(rt: HostRuntime, bytes: &[u8]) -> io::Result<()> {
     let alloc = rt.alloc();
     let mut store = Shared::new(alloc, 1 << 31);
@@ -58,7 +58,7 @@ fn time_generation(rt: HostRuntime, bytes: &[u8]) -> io::Result<()> {
     )
 }
 
-// Times the whole step, from text to text.
+/// Times the whole step, from text to text.
 fn time_step(rt: HostRuntime, bytes: &[u8]) -> io::Result<()> {
     let alloc = rt.alloc();
     let mut store = Shared::new(alloc, 1 << 31);
@@ -72,7 +72,7 @@ fn time_step(rt: HostRuntime, bytes: &[u8]) -> io::Result<()> {
     }
 }
 
-// Times both.
+/// Times both.
 fn time_both(rt: HostRuntime, bytes: &[u8]) -> io::Result<()> {
     time_generation(rt, bytes)?;
     time_step(rt, bytes)

@@ -23,7 +23,7 @@ enum Task {
     Cells,
 }
 
-// How many runs are asked for, and what is to be told of them.
+/// How many runs are asked for, and what is to be told of them.
 fn asked(words: &[String]) -> (u32, Task) {
     let mut runs = 1_000_000;
     let mut task = Task::Count;
@@ -37,7 +37,7 @@ fn asked(words: &[String]) -> (u32, Task) {
     (runs, task)
 }
 
-// Fills a store with a pattern, and tells what is asked.
+/// Fills a store with a pattern, and tells what is asked.
 fn tell(rt: HostRuntime, store: &mut Shared, pattern: Pattern, task: Task) -> io::Result<()> {
     let start = Instant::now(&rt)?;
     let answer = pattern.fill(rt.alloc(), store);

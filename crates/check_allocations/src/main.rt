@@ -8,6 +8,7 @@ mod calls;
 mod files;
 mod patterns;
 mod squares;
+mod steps;
 mod strips;
 mod tables;
 
@@ -212,6 +213,28 @@ fn pattern_calls<'x>(rt: &'x HostRuntime, stores: &mut Stores, time: &'x str) {
     example_calls(rt, stores, "two states of a name", &WIRES, time);
 }
 
+// Files in turn are stepped in one store.
+fn step_calls<'x>(rt: &'x HostRuntime, store: &mut Shared, time: &'x str) {
+    let alloc = rt.alloc();
+    let calls = Calls::at(rt, "life_step", time);
+    calls.tell(
+        "step_life, glider",
+        steps::by_rule(alloc, store, &steps::GLIDER),
+    );
+    calls.tell(
+        "step_life, blinker",
+        steps::by_rule(alloc, store, &steps::BLINKER),
+    );
+    calls.tell(
+        "step_table, one cell",
+        steps::by_table(alloc, store, &steps::ONE),
+    );
+    calls.tell(
+        "step_table, two cells",
+        steps::by_table(alloc, store, &steps::TWO),
+    );
+}
+
 fn main(rt: HostRuntime) {
     base_calls(&rt);
     file_calls(&rt);
@@ -223,4 +246,7 @@ fn main(rt: HostRuntime) {
     let mut stores = Stores::new(rt.alloc());
     pattern_calls(&rt, &mut stores, "");
     pattern_calls(&rt, &mut stores, ", again");
+    let mut stepping = Shared::new(rt.alloc(), LIMIT);
+    step_calls(&rt, &mut stepping, "");
+    step_calls(&rt, &mut stepping, ", again");
 }

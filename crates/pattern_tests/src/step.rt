@@ -2,6 +2,7 @@
 
 mod edges;
 mod life;
+mod limits;
 mod tables;
 
 use crate::worked::{ROOM, fault};

@@ -20,7 +20,7 @@ pub(crate) enum Pattern {
 }
 
 impl Pattern {
-    // Its square.
+    /// Its square.
     pub(crate) fn fill<S: Squares>(self, alloc: Global, squares: &mut S) -> Result<Id, Kind>
         ensures known { IfOk result (S.knows squares.new) }
         ensures level { IfOk result (λ r. depth (S.content squares.new r) ≡ MAX_LEVEL) }
@@ -46,7 +46,7 @@ impl fmt::Display for Pattern {
     }
 }
 
-// How many cells the list of a square's cells has.
+/// How many cells the list of a square's cells has.
 pub(crate) fn listed<S: Squares>(alloc: Global, squares: &S, id: Id) -> Result<usize, Kind>
     requires known { S.knows squares.now id }
     requires high { 1 ≤ depth (S.content squares.now id) }

@@ -16,7 +16,7 @@ pub(crate) fn reached<S: SharedSquares>(alloc: Global, squares: &S, id: Id) -> R
     Ok(seen.len())
 }
 
-// Adds the squares of a square to those that were seen.
+/// Adds the squares of a square to those that were seen.
 fn mark<S: Squares>(squares: &S, id: Id, seen: &mut HashSet<Id>) -> Result<(), Kind>
     requires { S.knows squares.now id }
 {

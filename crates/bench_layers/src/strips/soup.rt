@@ -12,7 +12,7 @@ use life_quad::{Id, Squares};
 use life_strip::{Builder, laws};
 use std::alloc::Global;
 
-// The cells `start` to `end - 1` of a row, and the number that the next ones are made from.
+/// The cells `start` to `end - 1` of a row, and the number that the next ones are made from.
 #[derive(Clone, Copy)]
 pub struct Stretch {
     pub(crate) seed: u64,
@@ -21,7 +21,7 @@ pub struct Stretch {
     pub(crate) end: u32,
 }
 
-// One of 0 to n - 1, from the bits of a number above `place`.
+/// One of 0 to n - 1, from the bits of a number above `place`.
 fn pick(seed: u64, place: u32, n: u32) -> u32
     requires place { place < 64 }
     requires positive { 1 ≤ n }
@@ -30,7 +30,7 @@ fn pick(seed: u64, place: u32, n: u32) -> u32
     ((seed >> place) % u64::from(n)) as u32
 }
 
-// One or two cells more, with probability 1 / 4 each.
+/// One or two cells more, with probability 1 / 4 each.
 fn sometimes(seed: u64, place: u32) -> u32
     requires { place < 64 }
     ensures { result < 2 }
@@ -38,7 +38,7 @@ fn sometimes(seed: u64, place: u32) -> u32
     if pick(seed, place, 4) == 0 { 1 } else { 0 }
 }
 
-// The stretch after one: in its row, or from the first column of the next row.
+/// The stretch after one: in its row, or from the first column of the next row.
 fn next(last: Stretch, width: u32) -> Stretch
     requires width { width ≤ 2 ^ 20 }
     requires end { last.end ≤ 2 ^ 20 + 4 }
@@ -72,7 +72,7 @@ fn next(last: Stretch, width: u32) -> Stretch
     }
 }
 
-// A builder without runs.
+/// A builder without runs.
 fn begun<S: Squares>(alloc: Global, squares: &S) -> Builder
     ensures filling { IsFilling (S.knows squares.now) (S.content squares.now) result }
     ensures next { (x y : ℤ) → IsNext result.runs x y }
@@ -81,7 +81,7 @@ fn begun<S: Squares>(alloc: Global, squares: &S) -> Builder
     Builder::new(alloc)
 }
 
-// Adds a stretch after another one.
+/// Adds a stretch after another one.
 fn add<S: Squares>(
     builder: &mut Builder,
     squares: &mut S,

@@ -2,7 +2,9 @@
 
 ghost use Rattle.std.specs.Prelude.{◌≡◌, false};
 
-use super::devices::{Clogged, Dripping, Limited, assert_one, sink_with};
+use super::devices::{
+    Clogged, WIDE, assert_one, assert_refused, assert_texts, sink_with, source_of,
+};
 use super::{GLIDER, GLIDER_TEXT, TWINS, TWINS_IN_RLE, TWINS_TEXT, WIRES, WIRES_TEXT};
 use life_base::{Device, Sink, Source};
 use life_cli::plans::Job;
@@ -36,19 +38,7 @@ fn writes_the_canonical_text(rt: HostRuntime) {
         (b"[M2]\n#G 7", b"[M2] (canonical 1)\n#R B3/S23\n#G 7\n"),
         (b"[M2]\r\n#G 0\r\n", b"[M2] (canonical 1)\n#R B3/S23\n"),
     ];
-    for (input, text) in rows {
-        let mut reader = Device::new(input);
-        assert_one(
-            &rt,
-            rt.alloc(),
-            &Job::Canon,
-            &mut reader,
-            999,
-            7,
-            (0, text, b""),
-        );
-        assert!(rt; !reader.failed());
-    }
+    assert_texts(&rt, rt.alloc(), &Job::Canon, &rows);
 }
 
 #[test]
@@ -63,39 +53,16 @@ fn tells_what_is_wrong(rt: HostRuntime) {
         ),
         (b"[M2]\n#FRAMES 10 0 1\n#R B3/S23\n", b"line 2: Timeline\n"),
     ];
-    for (input, line) in rows {
-        let mut reader = Device::new(input);
-        assert_one(
-            &rt,
-            rt.alloc(),
-            &Job::Canon,
-            &mut reader,
-            999,
-            999,
-            (2, b"", line),
-        );
-    }
+    assert_refused(&rt, rt.alloc(), &Job::Canon, &rows);
 }
 
 /// A failed read comes before what is wrong with the bytes that were read.
 #[test]
 fn failing_source(rt: HostRuntime) {
     for input in [GLIDER, b"o!\n".as_slice()] {
-        let mut reader = Dripping {
-            left: input,
-            good: 3,
-            failed: false,
-        };
-        let fault = b"ReadFault\n".as_slice();
-        assert_one(
-            &rt,
-            rt.alloc(),
-            &Job::Canon,
-            &mut reader,
-            999,
-            999,
-            (3, b"", fault),
-        );
+        let mut reader = source_of(input, 3);
+        let wanted = (3, b"".as_slice(), b"ReadFault\n".as_slice());
+        assert_one(&rt, rt.alloc(), &Job::Canon, &mut reader, WIDE, wanted);
         assert!(rt; reader.failed());
     }
 }
@@ -107,14 +74,14 @@ fn failing_sink(rt: HostRuntime) {
     let fault = b"WriteFault\n".as_slice();
     for (room, piece, taken) in rows {
         let mut reader = Device::new(GLIDER);
+        let wanted = (3, taken, fault);
         assert_one(
             &rt,
             rt.alloc(),
             &Job::Canon,
             &mut reader,
-            room,
-            piece,
-            (3, taken, fault),
+            (room, piece),
+            wanted,
         );
     }
 }

@@ -52,6 +52,17 @@ impl<'a> Source for Dripping<'a> {
     }
 }
 
+/// A source of these bytes that fails after so many reads.
+pub(super) fn source_of(left: &[u8], good: u64) -> Dripping<'_>
+    ensures { result.failed ≡ false }
+{
+    Dripping {
+        left,
+        good,
+        failed: false,
+    }
+}
+
 /// A sink that takes some bytes at a time, none where `piece` is 0, and fails when it is full.
 #[derive(Drop)]
 pub struct Limited {
@@ -95,6 +106,9 @@ impl Sink for Limited {
     }
 }
 
+/// Room for every text that a test writes, in pieces of seven bytes.
+pub(super) const WIDE: (usize, usize) = (9999, 7);
+
 /// A sink with room for `room` bytes that takes `piece` bytes at a time.
 pub(super) fn sink_with(alloc: Global, room: usize, piece: usize) -> Limited
     ensures failed { result.failed ≡ false }
@@ -109,7 +123,7 @@ pub(super) fn sink_with(alloc: Global, room: usize, piece: usize) -> Limited
     }
 }
 
-/// A job left this: its status, what standard output took, and what standard error took. Its status tells a failed output.
+/// A job left this. Its status tells a failed output.
 pub(super) fn assert_left(
     rt: &impl Abort,
     (status, out, err): (u8, Limited, Limited),
@@ -120,25 +134,66 @@ pub(super) fn assert_left(
     assert!(rt; !out.failed || status == 3);
 }
 
-/// A job of one file, where standard output takes so many bytes in such pieces, leaves this: its status, what standard output took, and
+/// A job of one file, where standard output has room for `sink.0` bytes and takes `sink.1` at a time, leaves this: its status, what standard output took, and
 /// what standard error took.
 pub(super) fn assert_one<A: Source>(
     rt: &impl Abort,
     alloc: Global,
     job: &Job,
     first: &mut A,
-    room: usize,
-    piece: usize,
+    sink: (usize, usize),
     wanted: (u8, &[u8], &[u8]),
 )
     requires alone { ¬ HasSecond job.now }
     requires reads { A.failures first.old ≡ 0 }
 {
     let mut second = None::<Device<&[u8]>>;
-    let mut out = sink_with(alloc, room, piece);
+    let mut out = sink_with(alloc, sink.0, sink.1);
     let mut err = sink_with(alloc, 99, 3);
     let status = work(alloc, job, first, &mut second, &mut out, &mut err);
     assert_left(rt, (status, out, err), wanted);
+}
+
+/// A job of two files leaves this, in the same way.
+pub(super) fn assert_two<A: Source, B: Source + Drop>(
+    rt: &impl Abort,
+    alloc: Global,
+    job: &Job,
+    first: &mut A,
+    second: B,
+    sink: (usize, usize),
+    wanted: (u8, &[u8], &[u8]),
+)
+    requires two { HasSecond job.now }
+    requires first_reads { A.failures first.old ≡ 0 }
+    requires second_reads { B.failures second ≡ 0 }
+{
+    let mut second = Some(second);
+    let mut out = sink_with(alloc, sink.0, sink.1);
+    let mut err = sink_with(alloc, 99, 3);
+    let status = work(alloc, job, first, &mut second, &mut out, &mut err);
+    assert_left(rt, (status, out, err), wanted);
+}
+
+/// A job of one file writes these texts, each for its input.
+pub(super) fn assert_texts(rt: &impl Abort, alloc: Global, job: &Job, rows: &[(&[u8], &[u8])])
+    requires { ¬ HasSecond job.now }
+{
+    for (input, text) in rows {
+        let mut first = Device::new(*input);
+        assert_one(rt, alloc, job, &mut first, WIDE, (0, text, b""));
+        assert!(rt; !first.failed());
+    }
+}
+
+/// A job of one file tells these faults, each of its input.
+pub(super) fn assert_refused(rt: &impl Abort, alloc: Global, job: &Job, rows: &[(&[u8], &[u8])])
+    requires { ¬ HasSecond job.now }
+{
+    for (input, line) in rows {
+        let mut first = Device::new(*input);
+        assert_one(rt, alloc, job, &mut first, WIDE, (2, b"", line));
+    }
 }
 
 /// A writer of std that takes all bytes and can't flush.

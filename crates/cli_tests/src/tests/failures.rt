@@ -3,8 +3,8 @@
 ghost use Rattle.std.specs.Prelude.{◌≡◌, ◌↔◌, IsSome, IfSome};
 ghost use Rattle.life_cli.specs.Plans.{HasSecond};
 
-use super::devices::{Clogged, Limited, assert_left, assert_one, sink_with};
-use super::steps::SPREAD;
+use super::devices::{Clogged, Limited, WIDE, assert_left, assert_one, assert_two, sink_with};
+use super::steps::{SEED, SPREAD, SPREAD_TEXT};
 use super::{GLIDER, GLIDER_TEXT, TWINS, TWINS_IN_RLE, TWINS_TEXT};
 use life_base::{Device, Source};
 use life_cli::plans::{Job, Target};
@@ -16,12 +16,6 @@ use std::process::Abort;
 const LINE: &[u8] = b"x = 3, y = 1, rule = B3/S23\n3o!\n";
 
 const NEXT_LINE: &[u8] = b"[M2] (canonical 1)\n#R B3/S23\n#G 1\n$$$.....*$.....*$.....*$$$\n";
-
-/// A cell of state 2, and the text of the next generation by the table `SPREAD`.
-const CELL: &[u8] = b"x = 1, y = 1, rule = Spread\nB!\n";
-
-const NEXT_CELLS: &[u8] =
-    b"[M2] (canonical 1)\n#R Spread\n#G 1\n1 0 0 2 0\n1 0 2 0 0\n1 2 2 2 0\n2 0 1 2 3\n";
 
 const SHOWN: &[u8] = b"rule B3/S23\ngeneration 0\npopulation 2\nbox -4 0 9 1\nnodes 2\n";
 
@@ -86,7 +80,7 @@ fn assert_each_read(rt: &impl Abort, alloc: Global, job: &Job, input: &[u8])
     let fault = (3, b"".as_slice(), b"ReadFault\n".as_slice());
     for good in 0..=input.len() {
         let mut first = Device::new(reader_of(input, good));
-        assert_one(rt, alloc, job, &mut first, 999, 7, fault);
+        assert_one(rt, alloc, job, &mut first, WIDE, fault);
     }
 }
 
@@ -105,42 +99,30 @@ fn each_read_fails(rt: HostRuntime) {
     }
 }
 
-/// A job of two files is told of a read that fails, of either.
-fn assert_read_of_two(
-    rt: &impl Abort,
-    alloc: Global,
-    job: &Job,
-    first: Interrupted<'_>,
-    second: Interrupted<'_>,
-)
+/// A job of two files is told of a read that fails, of either, whichever it is.
+fn assert_each_read_of_two(rt: &impl Abort, alloc: Global, job: &Job, a: &[u8], b: &[u8])
     requires { HasSecond job.now }
 {
-    let mut first = Device::new(first);
-    let mut second = Some(Device::new(second));
-    let mut out = sink_with(alloc, 999, 7);
-    let mut err = sink_with(alloc, 99, 3);
-    let status = work(alloc, job, &mut first, &mut second, &mut out, &mut err);
-    assert_left(rt, (status, out, err), (3, b"", b"ReadFault\n"));
+    let fault = (3, b"".as_slice(), b"ReadFault\n".as_slice());
+    for good in 0..=a.len() {
+        let mut first = Device::new(reader_of(a, good));
+        assert_two(rt, alloc, job, &mut first, Device::new(b), WIDE, fault);
+    }
+    for good in 0..=b.len() {
+        let second = Device::new(reader_of(b, good));
+        assert_two(rt, alloc, job, &mut Device::new(a), second, WIDE, fault);
+    }
 }
 
 #[test]
 fn each_read_of_two_files_fails(rt: HostRuntime) {
-    let alloc = rt.alloc();
-    for good in 0..=TWINS.len() {
-        let first = reader_of(TWINS, good);
-        assert_read_of_two(&rt, alloc, &Job::Same, first, reader_of(TWINS, 999));
-        let second = reader_of(TWINS, good);
-        assert_read_of_two(&rt, alloc, &Job::Same, reader_of(LINE, 999), second);
-    }
-    for good in 0..=CELL.len() {
-        let first = reader_of(CELL, good);
-        let table = reader_of(SPREAD, 999);
-        assert_read_of_two(&rt, alloc, &Job::StepTable, first, table);
-    }
-    for good in 0..=SPREAD.len() {
-        let first = reader_of(CELL, 999);
-        let table = reader_of(SPREAD, good);
-        assert_read_of_two(&rt, alloc, &Job::StepTable, first, table);
+    let rows: [(Job, &[u8], &[u8]); 3] = [
+        (Job::Same, TWINS, TWINS),
+        (Job::Same, LINE, TWINS),
+        (Job::StepTable, SEED, SPREAD),
+    ];
+    for (job, a, b) in rows {
+        assert_each_read_of_two(&rt, rt.alloc(), &job, a, b);
     }
 }
 
@@ -162,58 +144,29 @@ fn told<A: Source, B: Source, W: Write + Drop>(
     (status, err)
 }
 
-/// A job of one file whose output has too little room is told so, and has written what there was room for.
-fn assert_front(
-    rt: &impl Abort,
-    alloc: Global,
-    job: &Job,
-    input: &[u8],
-    text: &[u8],
-    room: usize,
-    piece: usize,
-    is_interrupted: bool,
-)
-    requires { ¬ HasSecond job.now }
-{
-    let mut taken = Vec::new(alloc);
-    let mut first = Device::new(input);
-    let mut second = None::<Device<&[u8]>>;
-    let writer = Narrow {
-        taken: &mut taken,
-        room,
-        piece,
-        is_interrupted,
-    };
-    let (status, err) = told(alloc, job, &mut first, &mut second, writer);
-    let found = (status, err.taken.as_slice());
-    assert_eq!(rt; found, (3, b"WriteFault\n".as_slice()));
-    assert!(rt; text.starts_with(&taken) && taken.len() == room, "{room}");
-}
-
-/// The same of a job of two files.
-fn assert_front_of_two(
+/// A job whose output takes the text only up to some byte is told so, and has written what was taken.
+fn assert_front<B: Source>(
     rt: &impl Abort,
     alloc: Global,
     job: &Job,
     first: &[u8],
-    second: &[u8],
+    second: &mut Option<B>,
     text: &[u8],
-    room: usize,
-    piece: usize,
-    is_interrupted: bool,
+    end: (usize, usize, bool),
 )
-    requires { HasSecond job.now }
+    requires second_reads { IfSome second.old (λ b. B.failures b ≡ 0) }
+    requires second_given { IsSome second.old ↔ HasSecond job.now }
 {
+    let (room, piece, is_interrupted) = end;
     let mut taken = Vec::new(alloc);
     let mut first = Device::new(first);
-    let mut second = Some(Device::new(second));
     let writer = Narrow {
         taken: &mut taken,
         room,
         piece,
         is_interrupted,
     };
-    let (status, err) = told(alloc, job, &mut first, &mut second, writer);
+    let (status, err) = told(alloc, job, &mut first, second, writer);
     let found = (status, err.taken.as_slice());
     assert_eq!(rt; found, (3, b"WriteFault\n".as_slice()));
     assert!(rt; text.starts_with(&taken) && taken.len() == room, "{room}");
@@ -227,54 +180,23 @@ const ENDS: [(usize, bool); 4] = [(1, false), (1, true), (999, false), (999, tru
 
 #[test]
 fn each_write_fails(rt: HostRuntime) {
-    let rows: [(Job, &[u8], &[u8]); 5] = [
-        (Job::Canon, GLIDER, GLIDER_TEXT),
-        (Job::Show, TWINS, SHOWN),
-        (Job::Convert(Target::Rle), TWINS, CONVERTED),
-        (Job::Convert(Target::Mc), TWINS_IN_RLE, TWINS_TEXT),
-        (Job::Step, LINE, NEXT_LINE),
-    ];
-    for (job, input, text) in rows {
-        for most in ROOMS {
-            let room = text.len().saturating_sub(1).min(most);
-            for (piece, is_interrupted) in ENDS {
-                assert_front(
-                    &rt,
-                    rt.alloc(),
-                    &job,
-                    input,
-                    text,
-                    room,
-                    piece,
-                    is_interrupted,
-                );
-            }
-        }
-    }
-}
-
-#[test]
-fn each_write_for_two_files_fails(rt: HostRuntime) {
-    let rows: [(Job, &[u8], &[u8], &[u8]); 3] = [
-        (Job::Same, TWINS, TWINS_IN_RLE, b"same\n"),
-        (Job::Same, TWINS, GLIDER, b"different\n"),
-        (Job::StepTable, CELL, SPREAD, NEXT_CELLS),
+    let rows: [(Job, &[u8], Option<&[u8]>, &[u8]); 8] = [
+        (Job::Canon, GLIDER, None, GLIDER_TEXT),
+        (Job::Show, TWINS, None, SHOWN),
+        (Job::Convert(Target::Rle), TWINS, None, CONVERTED),
+        (Job::Convert(Target::Mc), TWINS_IN_RLE, None, TWINS_TEXT),
+        (Job::Step, LINE, None, NEXT_LINE),
+        (Job::Same, TWINS, Some(TWINS_IN_RLE), b"same\n"),
+        (Job::Same, TWINS, Some(GLIDER), b"different\n"),
+        (Job::StepTable, SEED, Some(SPREAD), SPREAD_TEXT),
     ];
     for (job, first, second, text) in rows {
         for most in ROOMS {
             let room = text.len().saturating_sub(1).min(most);
             for (piece, is_interrupted) in ENDS {
-                assert_front_of_two(
-                    &rt,
-                    rt.alloc(),
-                    &job,
-                    first,
-                    second,
-                    text,
-                    room,
-                    piece,
-                    is_interrupted,
-                );
+                let end = (room, piece, is_interrupted);
+                let mut second = second.map(|bytes| Device::new(bytes));
+                assert_front(&rt, rt.alloc(), &job, first, &mut second, text, end);
             }
         }
     }
@@ -299,12 +221,12 @@ fn each_flush_fails(rt: HostRuntime) {
         assert_eq!(rt; found, (3, b"WriteFault\n".as_slice(), text));
     }
     let mut taken = Vec::new(rt.alloc());
-    let mut first = Device::new(CELL);
+    let mut first = Device::new(SEED);
     let mut second = Some(Device::new(SPREAD));
     let writer = Clogged { taken: &mut taken };
     let (status, err) = told(rt.alloc(), &Job::StepTable, &mut first, &mut second, writer);
     let found = (status, err.taken.as_slice(), taken.as_slice());
-    assert_eq!(rt; found, (3, b"WriteFault\n".as_slice(), NEXT_CELLS));
+    assert_eq!(rt; found, (3, b"WriteFault\n".as_slice(), SPREAD_TEXT));
 }
 
 /// Where standard error takes only a front of the fault's line, the status stays.

@@ -1,61 +1,10 @@
 //! What the jobs other than `canon` are refused for, in which order.
 
-ghost use Rattle.std.specs.Prelude.{◌≡◌, false};
-
 use super::TWINS;
-use super::devices::{Clogged, Dripping, Limited, assert_left, assert_one, sink_with};
-use life_base::{Device, Sink, Source};
+use super::devices::{Clogged, WIDE, assert_one, assert_two, sink_with, source_of};
+use life_base::Device;
 use life_cli::plans::{Job, Target};
 use life_cli::work;
-use std::alloc::Global;
-use std::process::Abort;
-
-/// The status of a comparison, and what standard error took.
-fn compare<A: Source, B: Source + Drop, O: Sink>(
-    alloc: Global,
-    first: &mut A,
-    second: B,
-    out: &mut O,
-) -> (u8, Limited)
-    requires first_reads { A.failures first.old ≡ 0 }
-    requires second_reads { B.failures second ≡ 0 }
-    requires writes { O.failures out.old ≡ 0 }
-    requires takes { O.stalled out.old ≡ false }
-{
-    let mut second = Some(second);
-    let mut err = sink_with(alloc, 99, 3);
-    let status = work(alloc, &Job::Same, first, &mut second, out, &mut err);
-    (status, err)
-}
-
-/// A comparison leaves this, in the same way.
-pub(super) fn assert_two<A: Source, B: Source + Drop>(
-    rt: &impl Abort,
-    alloc: Global,
-    first: &mut A,
-    second: B,
-    room: usize,
-    piece: usize,
-    wanted: (u8, &[u8], &[u8]),
-)
-    requires first_reads { A.failures first.old ≡ 0 }
-    requires second_reads { B.failures second ≡ 0 }
-{
-    let mut out = sink_with(alloc, room, piece);
-    let (status, err) = compare(alloc, first, second, &mut out);
-    assert_left(rt, (status, out, err), wanted);
-}
-
-/// A source of these bytes that fails after two reads.
-fn failing(bytes: &[u8]) -> Dripping<'_>
-    ensures { result.failed ≡ false }
-{
-    Dripping {
-        left: bytes,
-        good: 2,
-        failed: false,
-    }
-}
 
 #[test]
 fn first_refusal_of_two(rt: HostRuntime) {
@@ -68,7 +17,15 @@ fn first_refusal_of_two(rt: HostRuntime) {
     for (a, b, line) in rows {
         let mut first = Device::new(a);
         let second = Device::new(b);
-        assert_two(&rt, rt.alloc(), &mut first, second, 999, 7, (2, b"", line));
+        assert_two(
+            &rt,
+            rt.alloc(),
+            &Job::Same,
+            &mut first,
+            second,
+            WIDE,
+            (2, b"", line),
+        );
     }
 }
 
@@ -89,7 +46,7 @@ fn refused_texts(rt: HostRuntime) {
     ];
     for (job, input, line) in rows {
         let mut first = Device::new(input);
-        assert_one(&rt, rt.alloc(), &job, &mut first, 999, 7, (2, b"", line));
+        assert_one(&rt, rt.alloc(), &job, &mut first, WIDE, (2, b"", line));
     }
 }
 
@@ -99,12 +56,14 @@ fn failing_sources(rt: HostRuntime) {
     let alloc = rt.alloc();
     let fault = (3, b"".as_slice(), b"ReadFault\n".as_slice());
     for job in [Job::Show, Job::Convert(Target::Rle)] {
-        assert_one(&rt, alloc, &job, &mut failing(TWINS), 999, 7, fault);
+        assert_one(&rt, alloc, &job, &mut source_of(TWINS, 2), WIDE, fault);
     }
     let second = Device::new(TWINS);
-    assert_two(&rt, alloc, &mut failing(TWINS), second, 999, 7, fault);
+    let mut first = source_of(TWINS, 2);
+    assert_two(&rt, alloc, &Job::Same, &mut first, second, WIDE, fault);
     let mut first = Device::new(b"o!\n".as_slice());
-    assert_two(&rt, alloc, &mut first, failing(TWINS), 999, 7, fault);
+    let second = source_of(TWINS, 2);
+    assert_two(&rt, alloc, &Job::Same, &mut first, second, WIDE, fault);
 }
 
 /// What a sink took before it failed, or took no more, is a prefix of the text.
@@ -115,14 +74,15 @@ fn failing_sinks(rt: HostRuntime) {
     for (room, piece, taken) in [(3, 2, b"dif".as_slice()), (0, 9, b""), (999, 0, b"")] {
         let mut first = Device::new(TWINS);
         let second = Device::new(b"[M2]\n".as_slice());
+        let wanted = (3, taken, fault);
         assert_two(
             &rt,
             alloc,
+            &Job::Same,
             &mut first,
             second,
-            room,
-            piece,
-            (3, taken, fault),
+            (room, piece),
+            wanted,
         );
     }
     for (job, room, taken) in [
@@ -130,7 +90,7 @@ fn failing_sinks(rt: HostRuntime) {
         (Job::Convert(Target::Rle), 6, b"#CXRLE"),
     ] {
         let mut first = Device::new(TWINS);
-        assert_one(&rt, alloc, &job, &mut first, room, 5, (3, taken, fault));
+        assert_one(&rt, alloc, &job, &mut first, (room, 5), (3, taken, fault));
     }
 }
 
@@ -139,7 +99,16 @@ fn failing_flushes(rt: HostRuntime) {
     let mut taken = Vec::new(rt.alloc());
     let mut out = Device::new(Clogged { taken: &mut taken });
     let mut first = Device::new(TWINS);
-    let (status, err) = compare(rt.alloc(), &mut first, Device::new(TWINS), &mut out);
+    let mut second = Some(Device::new(TWINS));
+    let mut err = sink_with(rt.alloc(), 99, 3);
+    let status = work(
+        rt.alloc(),
+        &Job::Same,
+        &mut first,
+        &mut second,
+        &mut out,
+        &mut err,
+    );
     drop(out);
     let found = (status, err.taken.as_slice(), taken.as_slice());
     assert_eq!(rt;

@@ -1,52 +1,36 @@
 //! The jobs that step a pattern.
 
 use super::WIRES;
-use super::devices::{Dripping, Limited, assert_left, sink_with};
+use super::devices::{WIDE, assert_refused, assert_texts, assert_two, source_of};
 use life_base::Device;
 use life_cli::plans::Job;
-use life_cli::work;
 use std::alloc::Global;
+use std::process::Abort;
 
 /// A state spreads to cells that have one cell of it beside them.
 pub(super) const SPREAD: &[u8] =
     b"@RULE Spread\n@TABLE\nn_states:3\nneighborhood:vonNeumann\nsymmetries:rotate4\nvar a={1,2}\n0,a,0,0,0,a\n";
 
+/// A cell of state 2, and the text of the next generation by the table `SPREAD`.
+pub(super) const SEED: &[u8] = b"x = 1, y = 1, rule = Spread\nB!\n";
+
+pub(super) const SPREAD_TEXT: &[u8] =
+    b"[M2] (canonical 1)\n#R Spread\n#G 1\n1 0 0 2 0\n1 0 2 0 0\n1 2 2 2 0\n2 0 1 2 3\n";
+
 /// A cell between two others takes either's state.
 const TWO_ANSWERS: &[u8] =
     b"@RULE Spread\n@TABLE\nn_states:3\nneighborhood:vonNeumann\nsymmetries:permute\nvar a={1,2}\nvar b={1,2}\n0,a,b,0,0,a\n";
 
-/// The status of a step without a table, what standard output took, and what standard error took.
-fn step(alloc: Global, input: &[u8]) -> (u8, Limited, Limited) {
-    let mut reader = Device::new(input);
-    let mut second = None::<Device<&[u8]>>;
-    let mut out = sink_with(alloc, 9999, 7);
-    let mut err = sink_with(alloc, 99, 3);
-    let status = work(
-        alloc,
-        &Job::Step,
-        &mut reader,
-        &mut second,
-        &mut out,
-        &mut err,
-    );
-    (status, out, err)
-}
-
-/// The same of a step by a table.
-fn step_by(alloc: Global, input: &[u8], table: &[u8]) -> (u8, Limited, Limited) {
-    let mut reader = Device::new(input);
-    let mut second = Some(Device::new(table));
-    let mut out = sink_with(alloc, 9999, 7);
-    let mut err = sink_with(alloc, 99, 3);
-    let status = work(
-        alloc,
-        &Job::StepTable,
-        &mut reader,
-        &mut second,
-        &mut out,
-        &mut err,
-    );
-    (status, out, err)
+/// A step by a table leaves this.
+fn assert_by(
+    rt: &impl Abort,
+    alloc: Global,
+    input: &[u8],
+    table: &[u8],
+    wanted: (u8, &[u8], &[u8]),
+) {
+    let (mut first, second) = (Device::new(input), Device::new(table));
+    assert_two(rt, alloc, &Job::StepTable, &mut first, second, WIDE, wanted);
 }
 
 #[test]
@@ -65,9 +49,7 @@ fn next_generations(rt: HostRuntime) {
             b"[M2] (canonical 1)\n#R B3/S23\n#G 1\n",
         ),
     ];
-    for (input, text) in rows {
-        assert_left(&rt, step(rt.alloc(), input), (0, text, b""));
-    }
+    assert_texts(&rt, rt.alloc(), &Job::Step, &rows);
 }
 
 #[test]
@@ -92,17 +74,12 @@ fn refused_steps(rt: HostRuntime) {
         (WIRES, b"NeedsTable\n"),
         (b"o!\n", b"line 1: NoHeader\n"),
     ];
-    for (input, line) in rows {
-        assert_left(&rt, step(rt.alloc(), input), (2, b"", line));
-    }
+    assert_refused(&rt, rt.alloc(), &Job::Step, &rows);
 }
 
 #[test]
 fn next_generation_by_a_table(rt: HostRuntime) {
-    let left = step_by(rt.alloc(), b"x = 1, y = 1, rule = Spread\nB!\n", SPREAD);
-    let text =
-        b"[M2] (canonical 1)\n#R Spread\n#G 1\n1 0 0 2 0\n1 0 2 0 0\n1 2 2 2 0\n2 0 1 2 3\n".as_slice();
-    assert_left(&rt, left, (0, text, b""));
+    assert_by(&rt, rt.alloc(), SEED, SPREAD, (0, SPREAD_TEXT, b""));
 }
 
 #[test]
@@ -129,7 +106,7 @@ fn refused_steps_by_a_table(rt: HostRuntime) {
         ),
     ];
     for (input, table, line) in rows {
-        assert_left(&rt, step_by(rt.alloc(), input, table), (2, b"", line));
+        assert_by(&rt, rt.alloc(), input, table, (2, b"", line));
     }
 }
 
@@ -140,41 +117,35 @@ fn long_lines(rt: HostRuntime) {
     for _ in 0..1_048_577 {
         assert!(rt; long.push(b'#').is_ok());
     }
-    let left = step_by(rt.alloc(), b"o!\n", long.as_slice());
-    assert_left(&rt, left, (2, b"", b"table line 1: LineTooLong\n"));
-    let left = step_by(rt.alloc(), long.as_slice(), SPREAD);
-    assert_left(&rt, left, (2, b"", b"line 1: LineTooLong\n"));
+    let (alloc, long) = (rt.alloc(), long.as_slice());
+    assert_by(
+        &rt,
+        alloc,
+        b"o!\n",
+        long,
+        (2, b"", b"table line 1: LineTooLong\n"),
+    );
+    assert_by(&rt, alloc, long, SPREAD, (2, b"", b"line 1: LineTooLong\n"));
 }
 
 /// Where the table isn't read, or is refused, nothing of the pattern has been read.
 #[test]
 fn table_first(rt: HostRuntime) {
-    let pattern = b"x = 1, y = 1, rule = Spread\nB!\n".as_slice();
-    for (good, table, wanted, line) in [
+    for (good, table, status, line) in [
         (2, SPREAD, 3, b"ReadFault\n".as_slice()),
         (99, b"@RULE Spread\n", 2, b"table line 2: NoTable\n"),
     ] {
-        let mut first = Dripping {
-            left: pattern,
-            good: 999,
-            failed: false,
-        };
-        let mut second = Some(Dripping {
-            left: table,
-            good,
-            failed: false,
-        });
-        let mut out = sink_with(rt.alloc(), 999, 7);
-        let mut err = sink_with(rt.alloc(), 99, 3);
-        let status = work(
+        let (mut first, second) = (source_of(SEED, 999), source_of(table, good));
+        let wanted = (status, b"".as_slice(), line);
+        assert_two(
+            &rt,
             rt.alloc(),
             &Job::StepTable,
             &mut first,
-            &mut second,
-            &mut out,
-            &mut err,
+            second,
+            WIDE,
+            wanted,
         );
-        assert_eq!(rt; (first.left, first.good), (pattern, 999));
-        assert_left(&rt, (status, out, err), (wanted, b"", line));
+        assert_eq!(rt; (first.left, first.good), (SEED, 999));
     }
 }

@@ -1,43 +1,9 @@
 //! What the jobs write.
 
-ghost use Rattle.std.specs.Prelude.{◌≡◌, false};
-ghost use Rattle.life_cli.specs.Plans.{HasSecond};
-
-use super::devices::{Limited, assert_left, sink_with};
+use super::devices::{WIDE, assert_texts, assert_two};
 use super::{BLANK, TWINS, TWINS_IN_RLE, TWINS_TEXT, WIRES, WIRES_TEXT};
 use life_base::Device;
 use life_cli::plans::{Job, Target};
-use life_cli::work;
-use std::alloc::Global;
-
-/// The status of a job of one file, what standard output took, and what standard error took.
-fn run(alloc: Global, job: &Job, input: &[u8]) -> (u8, Limited, Limited)
-    requires { ¬ HasSecond job.now }
-{
-    let mut reader = Device::new(input);
-    let mut second = None::<Device<&[u8]>>;
-    let mut out = sink_with(alloc, 9999, 7);
-    let mut err = sink_with(alloc, 99, 3);
-    let status = work(alloc, job, &mut reader, &mut second, &mut out, &mut err);
-    (status, out, err)
-}
-
-/// The same of the comparison of two files.
-fn compare(alloc: Global, a: &[u8], b: &[u8]) -> (u8, Limited, Limited) {
-    let mut first = Device::new(a);
-    let mut second = Some(Device::new(b));
-    let mut out = sink_with(alloc, 9999, 7);
-    let mut err = sink_with(alloc, 99, 3);
-    let status = work(
-        alloc,
-        &Job::Same,
-        &mut first,
-        &mut second,
-        &mut out,
-        &mut err,
-    );
-    (status, out, err)
-}
 
 #[test]
 fn same_and_different(rt: HostRuntime) {
@@ -71,7 +37,17 @@ fn same_and_different(rt: HostRuntime) {
         (BLANK, b"[M2]", 0, b"same\n"),
     ];
     for (a, b, wanted, line) in rows {
-        assert_left(&rt, compare(rt.alloc(), a, b), (wanted, line, b""));
+        let (mut first, second) = (Device::new(a), Device::new(b));
+        let wanted = (wanted, line, b"".as_slice());
+        assert_two(
+            &rt,
+            rt.alloc(),
+            &Job::Same,
+            &mut first,
+            second,
+            WIDE,
+            wanted,
+        );
     }
 }
 
@@ -97,18 +73,13 @@ fn converted_to_rle(rt: HostRuntime) {
             b"#CXRLE Pos=0,0\nx = 73, y = 1, rule = B3/S23\nobobobobobobobobobobobobobobobobobobobobobobobobobobobobobobobobobobob\nobo!\n",
         ),
     ];
-    for (input, text) in rows {
-        let left = run(rt.alloc(), &Job::Convert(Target::Rle), input);
-        assert_left(&rt, left, (0, text, b""));
-    }
+    assert_texts(&rt, rt.alloc(), &Job::Convert(Target::Rle), &rows);
 }
 
 #[test]
 fn converted_to_macrocell(rt: HostRuntime) {
-    for (input, text) in [(WIRES, WIRES_TEXT), (TWINS_IN_RLE, TWINS_TEXT)] {
-        let left = run(rt.alloc(), &Job::Convert(Target::Mc), input);
-        assert_left(&rt, left, (0, text, b""));
-    }
+    let rows = [(WIRES, WIRES_TEXT), (TWINS_IN_RLE, TWINS_TEXT)];
+    assert_texts(&rt, rt.alloc(), &Job::Convert(Target::Mc), &rows);
 }
 
 #[test]
@@ -131,8 +102,5 @@ fn shown(rt: HostRuntime) {
             b"rule WireWorld\ngeneration 7\npopulation 2\nbox -1 -1 2 1\nnodes 1\n",
         ),
     ];
-    for (input, text) in rows {
-        let left = run(rt.alloc(), &Job::Show, input);
-        assert_left(&rt, left, (0, text, b""));
-    }
+    assert_texts(&rt, rt.alloc(), &Job::Show, &rows);
 }

@@ -22,26 +22,22 @@ fn compared(rt: &impl Abort, alloc: Global, first: &[u8], second: &[u8], answer:
 
 #[test]
 fn files_are_compared(rt: HostRuntime) {
-    let alloc = rt.alloc();
-    compared(&rt, alloc, THREE, TWO_RUNS, true);
-    compared(&rt, alloc, THREE, THREE_OF_LIFE, false);
-    compared(&rt, alloc, THREE, b"x = 3, y = 1, rule = 23/3\n3o!\n", true);
-    compared(
-        &rt,
-        alloc,
-        THREE,
-        b"#CXRLE Gen=1\nx = 3, y = 1, rule = B3/S23\n3o!\n",
-        false,
-    );
-    compared(
-        &rt,
-        alloc,
-        THREE,
-        b"x = 3, y = 1, rule = B3/S23V\n3o!\n",
-        false,
-    );
-    compared(&rt, alloc, ONE, FAR, false);
-    compared(&rt, alloc, TOWER, CELL, true);
+    let rows: [(&[u8], &[u8], bool); 7] = [
+        (THREE, TWO_RUNS, true),
+        (THREE, THREE_OF_LIFE, false),
+        (THREE, b"x = 3, y = 1, rule = 23/3\n3o!\n", true),
+        (
+            THREE,
+            b"#CXRLE Gen=1\nx = 3, y = 1, rule = B3/S23\n3o!\n",
+            false,
+        ),
+        (THREE, b"x = 3, y = 1, rule = B3/S23V\n3o!\n", false),
+        (ONE, FAR, false),
+        (TOWER, CELL, true),
+    ];
+    for (first, second, answer) in rows {
+        compared(&rt, rt.alloc(), first, second, answer);
+    }
 }
 
 #[test]
@@ -68,48 +64,38 @@ fn shown(rt: &impl Abort, alloc: Global, input: &[u8], text: &[u8]) {
     assert_eq!(rt; out.as_slice(), text);
 }
 
+const TWO_LINES: &[u8] = b"rule B3/S23\ngeneration 0\npopulation 1\nbox 4 0 1 1\nnodes 2\n";
+
 #[test]
 fn patterns_are_shown(rt: HostRuntime) {
-    let alloc = rt.alloc();
-    shown(
-        &rt,
-        alloc,
-        GLIDER,
-        b"rule B3/S23\ngeneration 0\npopulation 5\nbox 0 0 3 3\nnodes 1\n",
-    );
-    shown(
-        &rt,
-        alloc,
-        BLANK,
-        b"rule B3/S23\ngeneration 0\npopulation 0\nbox none\nnodes 0\n",
-    );
-    shown(
-        &rt,
-        alloc,
-        ROW,
-        b"rule B3/S23\ngeneration 0\npopulation 4611686018427387904\nbox -2305843009213693952 0 4611686018427387904 1\nnodes 60\n",
-    );
-    shown(
-        &rt,
-        alloc,
-        WIRES,
-        b"rule WireWorld\ngeneration 7\npopulation 2\nbox -1 -1 2 1\nnodes 1\n",
-    );
-}
-
-// Of the seven, four and four node lines of these files two are needed.
-#[test]
-fn the_least_node_lines_are_counted(rt: HostRuntime) {
-    let alloc = rt.alloc();
-    let cell = b"rule B3/S23\ngeneration 0\npopulation 1\nbox 4 0 1 1\nnodes 2\n";
-    shown(&rt, alloc, TOWER, cell);
-    shown(&rt, alloc, LEVELS, cell);
-    shown(
-        &rt,
-        alloc,
-        REPEATS,
-        b"rule B3/S23\ngeneration 0\npopulation 2\nbox -4 0 9 1\nnodes 2\n",
-    );
+    let rows: [(&[u8], &[u8]); 7] = [
+        (
+            GLIDER,
+            b"rule B3/S23\ngeneration 0\npopulation 5\nbox 0 0 3 3\nnodes 1\n",
+        ),
+        (
+            BLANK,
+            b"rule B3/S23\ngeneration 0\npopulation 0\nbox none\nnodes 0\n",
+        ),
+        (
+            ROW,
+            b"rule B3/S23\ngeneration 0\npopulation 4611686018427387904\nbox -2305843009213693952 0 4611686018427387904 1\nnodes 60\n",
+        ),
+        (
+            WIRES,
+            b"rule WireWorld\ngeneration 7\npopulation 2\nbox -1 -1 2 1\nnodes 1\n",
+        ),
+        // of the seven, four and four node lines of these files two are needed
+        (TOWER, TWO_LINES),
+        (LEVELS, TWO_LINES),
+        (
+            REPEATS,
+            b"rule B3/S23\ngeneration 0\npopulation 2\nbox -4 0 9 1\nnodes 2\n",
+        ),
+    ];
+    for (input, text) in rows {
+        shown(&rt, rt.alloc(), input, text);
+    }
 }
 
 /// The file is this text in RLE.
@@ -121,33 +107,26 @@ fn converted(rt: &impl Abort, alloc: Global, input: &[u8], text: &[u8]) {
 
 #[test]
 fn files_are_written_as_runs(rt: HostRuntime) {
-    let alloc = rt.alloc();
-    converted(&rt, alloc, PAIR, PAIR);
-    converted(&rt, alloc, WIRES, WIRES);
-    converted(
-        &rt,
-        alloc,
-        b"[M2] (canonical 1)\n#R WireWorld\n#G 7\n1 1 25 0 0\n",
-        WIRES,
-    );
-    converted(
-        &rt,
-        alloc,
-        BLANK,
-        b"#CXRLE Pos=0,0\nx = 0, y = 0, rule = B3/S23\n!\n",
-    );
-    converted(
-        &rt,
-        alloc,
-        b"x = 1, y = 1, rule = Foo\npA2$.C!\n",
-        b"#CXRLE Pos=0,0\nx = 2, y = 3, rule = Foo\npA2$.C!\n",
-    );
-    converted(
-        &rt,
-        alloc,
-        b"x = 1, y = 1, rule = b31s20v\no!\n",
-        b"#CXRLE Pos=0,0\nx = 1, y = 1, rule = B13/S02V\no!\n",
-    );
+    let rows: [(&[u8], &[u8]); 6] = [
+        (PAIR, PAIR),
+        (WIRES, WIRES),
+        (
+            b"[M2] (canonical 1)\n#R WireWorld\n#G 7\n1 1 25 0 0\n",
+            WIRES,
+        ),
+        (BLANK, b"#CXRLE Pos=0,0\nx = 0, y = 0, rule = B3/S23\n!\n"),
+        (
+            b"x = 1, y = 1, rule = Foo\npA2$.C!\n",
+            b"#CXRLE Pos=0,0\nx = 2, y = 3, rule = Foo\npA2$.C!\n",
+        ),
+        (
+            b"x = 1, y = 1, rule = b31s20v\no!\n",
+            b"#CXRLE Pos=0,0\nx = 1, y = 1, rule = B13/S02V\no!\n",
+        ),
+    ];
+    for (input, text) in rows {
+        converted(&rt, rt.alloc(), input, text);
+    }
 }
 
 #[test]

@@ -16,72 +16,53 @@ fn canonical(rt: &impl Abort, alloc: Global, input: &[u8], text: &[u8]) {
     has_text(rt, alloc, &mut Shared::new(alloc, ROOM), text, text);
 }
 
-#[test]
-fn runs_have_canonical_texts(rt: HostRuntime) {
-    let alloc = rt.alloc();
-    canonical(&rt, alloc, GLIDER, GLIDER_TEXT);
-    canonical(&rt, alloc, GLIDER_CRLF, GLIDER_TEXT);
-    canonical(&rt, alloc, GLIDER_OPEN, GLIDER_TEXT);
-    canonical(&rt, alloc, BLANK, BLANK_TEXT);
-    canonical(&rt, alloc, LONG_BLANK, BLANK_TEXT);
-    canonical(&rt, alloc, CELL, CELL_TEXT);
-    canonical(&rt, alloc, PAIR, PAIR_TEXT);
-    canonical(&rt, alloc, WIRES, WIRES_TEXT);
-    canonical(
-        &rt,
-        alloc,
-        b"x = 3, y = 3\nbo$",
-        b"[M2] (canonical 1)\n#R B3/S23\n$$$$.....*$$$$\n",
-    );
-    canonical(
-        &rt,
-        alloc,
-        b"x = 1, y = 1, rule = Foo\nyO!\n",
-        b"[M2] (canonical 1)\n#R Foo\n1 0 0 0 255\n",
-    );
-}
+/// A cell under a rule of four neighbours.
+const V_TEXT: &[u8] = b"[M2] (canonical 1)\n#R B13/S02V\n$$$$....*$$$$\n";
 
 #[test]
-fn node_lines_have_canonical_texts(rt: HostRuntime) {
-    let alloc = rt.alloc();
-    // a root of level 9 above blank squares, and leaves made of level 1 and 2
-    canonical(&rt, alloc, TOWER, CELL_TEXT);
-    canonical(&rt, alloc, LEVELS, CELL_TEXT);
-    canonical(&rt, alloc, REPEATS, PAIR_TEXT);
-    // numbers in the order of the walk
-    canonical(&rt, alloc, TURNED, TURNED_TEXT);
-    // a root below the level of a leaf
-    canonical(
-        &rt,
-        alloc,
-        b"[M2]\n#R B3/S23\n1 1 0 0 0\n",
-        b"[M2] (canonical 1)\n#R B3/S23\n$$$...*$$$$$\n",
-    );
-    canonical(&rt, alloc, b"[M2]", BLANK_TEXT);
-    // blank squares of the greatest levels
-    canonical(&rt, alloc, b"[M2]\n61 0 0 0 0\n", BLANK_TEXT);
-    canonical(&rt, alloc, b"[M2]\n62 0 0 0 0\n", BLANK_TEXT);
-}
-
-#[test]
-fn one_rule_has_one_text(rt: HostRuntime) {
-    let alloc = rt.alloc();
-    canonical(&rt, alloc, b"x = 0, y = 0, rule = b3s23\n", BLANK_TEXT);
-    canonical(&rt, alloc, b"x = 0, y = 0, rule = S32/b3\n", BLANK_TEXT);
-    canonical(&rt, alloc, b"x = 0, y = 0, rule = B33/S232\n", BLANK_TEXT);
-}
-
-#[test]
-fn a_rule_of_four_neighbours_has_its_letter(rt: HostRuntime) {
-    let alloc = rt.alloc();
-    let text = b"[M2] (canonical 1)\n#R B13/S02V\n$$$$....*$$$$\n";
-    canonical(&rt, alloc, b"x = 1, y = 1, rule = b31/s20v\no!\n", text);
-    canonical(
-        &rt,
-        alloc,
-        b"[M2]\n#R B13S02V\n3 0 0 0 0\n$$$$....*$$$$\n",
-        text,
-    );
+fn files_have_canonical_texts(rt: HostRuntime) {
+    let rows: [(&[u8], &[u8]); 23] = [
+        (GLIDER, GLIDER_TEXT),
+        (GLIDER_CRLF, GLIDER_TEXT),
+        (GLIDER_OPEN, GLIDER_TEXT),
+        (BLANK, BLANK_TEXT),
+        (LONG_BLANK, BLANK_TEXT),
+        (CELL, CELL_TEXT),
+        (PAIR, PAIR_TEXT),
+        (WIRES, WIRES_TEXT),
+        (
+            b"x = 3, y = 3\nbo$",
+            b"[M2] (canonical 1)\n#R B3/S23\n$$$$.....*$$$$\n",
+        ),
+        (
+            b"x = 1, y = 1, rule = Foo\nyO!\n",
+            b"[M2] (canonical 1)\n#R Foo\n1 0 0 0 255\n",
+        ),
+        // a root of level 9 above blank squares, and leaves made of level 1 and 2
+        (TOWER, CELL_TEXT),
+        (LEVELS, CELL_TEXT),
+        (REPEATS, PAIR_TEXT),
+        // numbers in the order of the walk
+        (TURNED, TURNED_TEXT),
+        // a root below the level of a leaf
+        (
+            b"[M2]\n#R B3/S23\n1 1 0 0 0\n",
+            b"[M2] (canonical 1)\n#R B3/S23\n$$$...*$$$$$\n",
+        ),
+        (b"[M2]", BLANK_TEXT),
+        // blank squares of the greatest levels
+        (b"[M2]\n61 0 0 0 0\n", BLANK_TEXT),
+        (b"[M2]\n62 0 0 0 0\n", BLANK_TEXT),
+        // one rule has one text, and one of four neighbours has its letter
+        (b"x = 0, y = 0, rule = b3s23\n", BLANK_TEXT),
+        (b"x = 0, y = 0, rule = S32/b3\n", BLANK_TEXT),
+        (b"x = 0, y = 0, rule = B33/S232\n", BLANK_TEXT),
+        (b"x = 1, y = 1, rule = b31/s20v\no!\n", V_TEXT),
+        (b"[M2]\n#R B13S02V\n3 0 0 0 0\n$$$$....*$$$$\n", V_TEXT),
+    ];
+    for (input, text) in rows {
+        canonical(&rt, rt.alloc(), input, text);
+    }
 }
 
 /// Lines in front, and then a line for each level from 4 on with the number of the line before it in these words.

@@ -61,51 +61,35 @@ fn four_squares_take_room_for_four(rt: HostRuntime) {
 }
 
 #[test]
-fn node_lines_take_room(rt: HostRuntime) {
-    let alloc = rt.alloc();
-    takes_room(&rt, alloc, TOWER, CELL_TEXT);
-    takes_room(&rt, alloc, LEVELS, CELL_TEXT);
-    takes_room(&rt, alloc, REPEATS, PAIR_TEXT);
-    takes_room(&rt, alloc, TURNED, TURNED_TEXT);
-}
-
-#[test]
-fn runs_take_room(rt: HostRuntime) {
-    let alloc = rt.alloc();
-    takes_room(&rt, alloc, GLIDER, GLIDER_TEXT);
-    takes_room(&rt, alloc, CELL, CELL_TEXT);
-    takes_room(&rt, alloc, PAIR, PAIR_TEXT);
-    takes_room(&rt, alloc, WIRES, WIRES_TEXT);
-    takes_room(&rt, alloc, THREE, THREE_TEXT);
-    takes_room(&rt, alloc, TWO_RUNS, THREE_TEXT);
-    takes_room(&rt, alloc, ONE, ONE_TEXT);
-}
-
-#[test]
-fn states_take_room(rt: HostRuntime) {
-    let alloc = rt.alloc();
-    takes_room(
-        &rt,
-        alloc,
-        THREE_OF_LIFE,
-        b"[M2] (canonical 1)\n#R Life\n1 1 1 0 0\n1 1 0 0 0\n2 1 2 0 0\n3 0 0 0 3\n",
-    );
-    takes_room(
-        &rt,
-        alloc,
-        b"x = 1, y = 1, rule = Spread\nB!\n",
-        b"[M2] (canonical 1)\n#R Spread\n1 0 0 0 2\n",
-    );
-}
-
-#[test]
-fn the_greatest_generation_takes_room(rt: HostRuntime) {
-    takes_room(
-        &rt,
-        rt.alloc(),
-        b"#CXRLE Gen=18446744073709551615\nx = 3, y = 1, rule = B3/S23\n3o!\n",
-        b"[M2] (canonical 1)\n#R B3/S23\n#G 18446744073709551615\n$$$$....***$$$$\n",
-    );
+fn files_take_room(rt: HostRuntime) {
+    let rows: [(&[u8], &[u8]); 14] = [
+        (TOWER, CELL_TEXT),
+        (LEVELS, CELL_TEXT),
+        (REPEATS, PAIR_TEXT),
+        (TURNED, TURNED_TEXT),
+        (GLIDER, GLIDER_TEXT),
+        (CELL, CELL_TEXT),
+        (PAIR, PAIR_TEXT),
+        (WIRES, WIRES_TEXT),
+        (THREE, THREE_TEXT),
+        (TWO_RUNS, THREE_TEXT),
+        (ONE, ONE_TEXT),
+        (
+            THREE_OF_LIFE,
+            b"[M2] (canonical 1)\n#R Life\n1 1 1 0 0\n1 1 0 0 0\n2 1 2 0 0\n3 0 0 0 3\n",
+        ),
+        (
+            b"x = 1, y = 1, rule = Spread\nB!\n",
+            b"[M2] (canonical 1)\n#R Spread\n1 0 0 0 2\n",
+        ),
+        (
+            b"#CXRLE Gen=18446744073709551615\nx = 3, y = 1, rule = B3/S23\n3o!\n",
+            b"[M2] (canonical 1)\n#R B3/S23\n#G 18446744073709551615\n$$$$....***$$$$\n",
+        ),
+    ];
+    for (input, text) in rows {
+        takes_room(&rt, rt.alloc(), input, text);
+    }
 }
 
 #[test]

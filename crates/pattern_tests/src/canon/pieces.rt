@@ -55,18 +55,18 @@ fn canonical_in_pieces(rt: &impl Abort, alloc: Global, input: &[u8], text: &[u8]
 }
 
 #[test]
-fn runs_are_read_in_pieces(rt: HostRuntime) {
-    let alloc = rt.alloc();
-    canonical_in_pieces(&rt, alloc, GLIDER, GLIDER_TEXT);
-    canonical_in_pieces(&rt, alloc, GLIDER_CRLF, GLIDER_TEXT);
-    canonical_in_pieces(&rt, alloc, GLIDER_OPEN, GLIDER_TEXT);
-    canonical_in_pieces(&rt, alloc, WIRES, WIRES_TEXT);
-    canonical_in_pieces(&rt, alloc, PAIR, PAIR_TEXT);
-}
-
-#[test]
-fn node_lines_are_read_in_pieces(rt: HostRuntime) {
-    canonical_in_pieces(&rt, rt.alloc(), REPEATS, PAIR_TEXT);
+fn files_are_read_in_pieces(rt: HostRuntime) {
+    let rows: [(&[u8], &[u8]); 6] = [
+        (GLIDER, GLIDER_TEXT),
+        (GLIDER_CRLF, GLIDER_TEXT),
+        (GLIDER_OPEN, GLIDER_TEXT),
+        (WIRES, WIRES_TEXT),
+        (PAIR, PAIR_TEXT),
+        (REPEATS, PAIR_TEXT),
+    ];
+    for (input, text) in rows {
+        canonical_in_pieces(&rt, rt.alloc(), input, text);
+    }
 }
 
 #[test]

@@ -21,149 +21,53 @@ fn refused(rt: &impl Abort, alloc: Global, input: &[u8], line: u64, kind: Kind) 
 }
 
 #[test]
-fn files_without_a_header_are_refused(rt: HostRuntime) {
-    let alloc = rt.alloc();
-    refused(&rt, alloc, b"", 1, Kind::NoHeader);
-    refused(&rt, alloc, b"\n", 2, Kind::NoHeader);
-    refused(&rt, alloc, b"y = 3\n", 1, Kind::NoHeader);
-    refused(&rt, alloc, b"[M2", 1, Kind::NoHeader);
-}
-
-#[test]
-fn positions_beyond_the_plane_are_refused(rt: HostRuntime) {
-    let alloc = rt.alloc();
-    refused(
-        &rt,
-        alloc,
-        b"#CXRLE Pos=2305843009213693952,0\n",
-        1,
-        Kind::OutOfPlane,
-    );
-    refused(
-        &rt,
-        alloc,
-        b"x = 1, y = 1\n4611686018427387904b!\n",
-        2,
-        Kind::OutOfPlane,
-    );
-    refused(
-        &rt,
-        alloc,
-        b"x = 1, y = 1\n4611686018427387905b!\n",
-        2,
-        Kind::TooLarge,
-    );
-}
-
-#[test]
-fn levels_above_the_plane_are_refused(rt: HostRuntime) {
-    refused(&rt, rt.alloc(), b"[M2]\n63 0 0 0 0\n", 2, Kind::BadLevel);
-}
-
-#[test]
-fn rules_are_refused(rt: HostRuntime) {
-    let alloc = rt.alloc();
-    refused(
-        &rt,
-        alloc,
-        b"x = 0, y = 0, rule = B03/S23\n",
-        1,
-        Kind::BirthOnZero,
-    );
-    refused(
-        &rt,
-        alloc,
-        b"x = 0, y = 0, rule = B3/S23:T30,20\n",
-        1,
-        Kind::BoundedGrid,
-    );
-    refused(
-        &rt,
-        alloc,
-        b"x = 0, y = 0, rule = 345/2/4\n",
-        1,
-        Kind::UnsupportedRule,
-    );
-    refused(
-        &rt,
-        alloc,
-        b"x = 0, y = 0, rule = B5S23V\n",
-        1,
-        Kind::UnsupportedRule,
-    );
-}
-
-#[test]
-fn node_lines_are_refused(rt: HostRuntime) {
-    let alloc = rt.alloc();
-    refused(
-        &rt,
-        alloc,
-        b"[M2]\n#R B3/S23\n....*$$$$$$$$\n4 0 0 0 9\n",
-        4,
-        Kind::BadChild,
-    );
-    refused(
-        &rt,
-        alloc,
-        b"[M2]\n#R B3/S23\n....*$$$$$$$$\n4 0 0",
-        4,
-        Kind::BadNode,
-    );
-    refused(&rt, alloc, b"[M2]\n#FRAMES 10 0 1\n", 2, Kind::Timeline);
-    refused(
-        &rt,
-        alloc,
-        b"[M2]\n#FRAMES 10 0 1\n#R B3/S23\n....*$$$$$$$$\n4 0 0 0 9\n",
-        2,
-        Kind::Timeline,
-    );
-}
-
-#[test]
-fn items_are_refused(rt: HostRuntime) {
-    let alloc = rt.alloc();
-    refused(
-        &rt,
-        alloc,
-        b"x = 1, y = 1, rule = Foo\nyP!\n",
-        2,
-        Kind::BadItem,
-    );
-    refused(
-        &rt,
-        alloc,
-        b"x = 1, y = 1, rule = B3/S23\nB!\n",
-        2,
-        Kind::StateRange,
-    );
-    refused(
-        &rt,
-        alloc,
-        b"x = 1, y = 1, rule = B3/S23\n0o!\n",
-        2,
-        Kind::ZeroCount,
-    );
-    refused(
-        &rt,
-        alloc,
-        b"x = 1, y = 1, rule = B3/S23\n3!\n",
-        2,
-        Kind::BadItem,
-    );
-    refused(
-        &rt,
-        alloc,
-        b"x = 1, y = 1, rule = B3/S23\n2 o!\n",
-        2,
-        Kind::BadItem,
-    );
-    refused(
-        &rt,
-        alloc,
-        b"x = 1, y = 1, rule = B3/S23\n4611686018427387905b!\n",
-        2,
-        Kind::TooLarge,
-    );
-    refused(&rt, alloc, b"x = 3, y = 3\nbo$2", 2, Kind::BadItem);
+fn files_are_refused(rt: HostRuntime) {
+    let rows: [(&[u8], u64, Kind); 23] = [
+        (b"", 1, Kind::NoHeader),
+        (b"\n", 2, Kind::NoHeader),
+        (b"y = 3\n", 1, Kind::NoHeader),
+        (b"[M2", 1, Kind::NoHeader),
+        (b"#CXRLE Pos=2305843009213693952,0\n", 1, Kind::OutOfPlane),
+        (
+            b"x = 1, y = 1\n4611686018427387904b!\n",
+            2,
+            Kind::OutOfPlane,
+        ),
+        (b"x = 1, y = 1\n4611686018427387905b!\n", 2, Kind::TooLarge),
+        (b"[M2]\n63 0 0 0 0\n", 2, Kind::BadLevel),
+        (b"x = 0, y = 0, rule = B03/S23\n", 1, Kind::BirthOnZero),
+        (
+            b"x = 0, y = 0, rule = B3/S23:T30,20\n",
+            1,
+            Kind::BoundedGrid,
+        ),
+        (b"x = 0, y = 0, rule = 345/2/4\n", 1, Kind::UnsupportedRule),
+        (b"x = 0, y = 0, rule = B5S23V\n", 1, Kind::UnsupportedRule),
+        (
+            b"[M2]\n#R B3/S23\n....*$$$$$$$$\n4 0 0 0 9\n",
+            4,
+            Kind::BadChild,
+        ),
+        (b"[M2]\n#R B3/S23\n....*$$$$$$$$\n4 0 0", 4, Kind::BadNode),
+        (b"[M2]\n#FRAMES 10 0 1\n", 2, Kind::Timeline),
+        (
+            b"[M2]\n#FRAMES 10 0 1\n#R B3/S23\n....*$$$$$$$$\n4 0 0 0 9\n",
+            2,
+            Kind::Timeline,
+        ),
+        (b"x = 1, y = 1, rule = Foo\nyP!\n", 2, Kind::BadItem),
+        (b"x = 1, y = 1, rule = B3/S23\nB!\n", 2, Kind::StateRange),
+        (b"x = 1, y = 1, rule = B3/S23\n0o!\n", 2, Kind::ZeroCount),
+        (b"x = 1, y = 1, rule = B3/S23\n3!\n", 2, Kind::BadItem),
+        (b"x = 1, y = 1, rule = B3/S23\n2 o!\n", 2, Kind::BadItem),
+        (
+            b"x = 1, y = 1, rule = B3/S23\n4611686018427387905b!\n",
+            2,
+            Kind::TooLarge,
+        ),
+        (b"x = 3, y = 3\nbo$2", 2, Kind::BadItem),
+    ];
+    for (input, line, kind) in rows {
+        refused(&rt, rt.alloc(), input, line, kind);
+    }
 }

@@ -7,7 +7,7 @@ use life_quad::Shared;
 use life_step::next_by_table;
 use life_table::read_table;
 
-const SPREAD: &[u8] =
+pub(super) const SPREAD: &[u8] =
     b"@RULE Spread\n@TABLE\nn_states:3\nneighborhood:vonNeumann\nsymmetries:rotate4\nvar a={1,2}\n0,a,0,0,0,a\n";
 
 /// Two neighbours of different states give a cell either.
@@ -19,7 +19,7 @@ const ONE_OR_EITHER: &[u8] =
     b"@RULE Spread\n@TABLE\nn_states:3\nneighborhood:vonNeumann\nsymmetries:permute\nvar a={1,2}\nvar b={1,2}\n0,a,0,0,0,a\n0,a,b,0,0,a\n";
 
 /// State 1 is the head of an electron, 2 its tail, 3 wire. A wire becomes a head beside one head or two.
-const WIREWORLD: &[u8] =
+pub(super) const WIREWORLD: &[u8] =
     b"@RULE WireWorld\n@TABLE\nn_states:4\nneighborhood:Moore\nsymmetries:permute\n\
     var a={0,1,2,3}\nvar b={a}\nvar c={a}\nvar d={a}\nvar e={a}\nvar f={a}\nvar g={a}\nvar h={a}\n\
     var i={0,2,3}\nvar j={i}\nvar k={i}\nvar l={i}\nvar m={i}\nvar n={i}\nvar o={i}\n\

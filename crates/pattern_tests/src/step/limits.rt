@@ -1,0 +1,109 @@
+//! Each limit of a store in turn: up to some limit a step is refused for want of room. The store that just suffices takes the step again.
+
+use super::one_step;
+use super::tables::{SPREAD, WIREWORLD};
+use crate::worked::fault;
+use life_base::Kind;
+use life_quad::Shared;
+use life_table::{Table, read_table};
+use std::alloc::Global;
+use std::process::Abort;
+
+/// The greatest limit that is tried.
+const MOST: u64 = 4096;
+
+/// Cells of a B/S rule whose squares no file of these tests has.
+const OTHER: &[u8] = b"x = 40, y = 3\nob2o3b4o5bo3bo2b5o!\n";
+
+/// The step of a full store that holds what it needs, and the same step behind a file for which there is no room.
+fn is_served(
+    rt: &impl Abort,
+    alloc: Global,
+    store: &mut Shared,
+    table: Option<&Table>,
+    file: &[u8],
+    text: &[u8],
+) {
+    let again = one_step(alloc, store, file, table).expect(rt, "an answer");
+    assert_eq!(rt; again.as_slice(), text);
+    assert_eq!(rt;
+        one_step(alloc, store, OTHER, None).err(),
+        Some(fault(0, Kind::Full))
+    );
+    let behind = one_step(alloc, store, file, table).expect(rt, "an answer");
+    assert_eq!(rt; behind.as_slice(), text);
+}
+
+/// Below the first limit that suffices the step is refused, by a store that is full then.
+fn takes_room(rt: &impl Abort, alloc: Global, table: Option<&Table>, file: &[u8], text: &[u8]) {
+    let mut suffices = false;
+    for limit in 0..=MOST {
+        let mut store = Shared::new(alloc, limit);
+        match one_step(alloc, &mut store, file, table) {
+            Ok(out) => {
+                assert_eq!(rt; out.as_slice(), text);
+                if !suffices {
+                    assert_eq!(rt; store.len(), limit);
+                    is_served(rt, alloc, &mut store, table, file, text);
+                }
+                suffices = true;
+            }
+            Err(found) => {
+                assert!(rt; !suffices);
+                assert_eq!(rt; found, fault(0, Kind::Full));
+                assert_eq!(rt; store.len(), limit);
+            }
+        }
+    }
+    assert!(rt; suffices);
+}
+
+#[test]
+fn steps_under_a_rule_take_room(rt: HostRuntime) {
+    let alloc = rt.alloc();
+    takes_room(
+        &rt,
+        alloc,
+        None,
+        b"x = 3, y = 1\n3o!\n",
+        b"[M2] (canonical 1)\n#R B3/S23\n#G 1\n$$$.....*$.....*$.....*$$$\n",
+    );
+    takes_room(
+        &rt,
+        alloc,
+        None,
+        b"x = 3, y = 3, rule = B3/S23\nbo$2bo$3o!\n",
+        b"[M2] (canonical 1)\n#R B3/S23\n#G 1\n$$$$$....*.*$.....**$.....*$\n",
+    );
+    takes_room(
+        &rt,
+        alloc,
+        None,
+        b"#CXRLE Pos=-12,0\nx = 23, y = 1\n3o17b3o!\n",
+        b"[M2] (canonical 1)\n#R B3/S23\n#G 1\n$$$$$$$.....*$\n4 0 0 1 0\n$$$$$$$.*$\n4 0 0 0 3\n\
+        .....*$.....*$$$$$$$\n4 5 0 0 0\n.*$.*$$$$$$$\n4 0 7 0 0\n5 2 4 6 8\n",
+    );
+}
+
+#[test]
+fn steps_by_a_table_take_room(rt: HostRuntime) {
+    let alloc = rt.alloc();
+    let spread = read_table(alloc, SPREAD).expect(&rt, "a table");
+    takes_room(
+        &rt,
+        alloc,
+        Some(&spread),
+        b"x = 4, y = 1, rule = Spread\nA2.B!\n",
+        b"[M2] (canonical 1)\n#R Spread\n#G 1\n1 0 0 1 0\n1 0 0 0 2\n2 0 0 1 2\n3 0 0 3 0\n1 0 1 0 0\n\
+        2 0 5 0 0\n3 0 6 0 0\n1 1 1 1 0\n1 2 2 0 2\n2 8 9 0 0\n1 2 0 0 0\n2 11 0 0 0\n3 10 12 0 0\n4 0 4 7 13\n",
+    );
+    let wire_world = read_table(alloc, WIREWORLD).expect(&rt, "a table");
+    takes_room(
+        &rt,
+        alloc,
+        Some(&wire_world),
+        b"x = 6, y = 1, rule = WireWorld\nBA4C!\n",
+        b"[M2] (canonical 1)\n#R WireWorld\n#G 1\n1 3 2 0 0\n1 1 3 0 0\n2 1 2 0 0\n1 3 3 0 0\n2 4 0 0 0\n\
+        3 3 5 0 0\n4 0 0 0 6\n",
+    );
+}
