@@ -1,11 +1,11 @@
 -- The rows of a leaf.
-use Rattle.std.proofs.Common.{◌≡◌, ℕ, zero, suc, ◌+◌, ◌/◌, ◌<◌, ◌≤◌, List, [], ◌∷◌, ◌++◌, length, take, drop, get_or, map, Bool, true, false, cond, ◌&&◌, ◌||◌, refl, ap, sym, ◌∙◌, arith, add-one, drop-cons, set}
+use Rattle.std.proofs.Common.{◌≡◌, ℕ, zero, suc, ◌+◌, ◌-◌, ◌/◌, ◌<◌, ◌≤◌, List, [], ◌∷◌, ◌++◌, length, take, drop, get_or, map, Bool, true, false, cond, ◌&&◌, ◌||◌, refl, ap, sym, ◌∙◌, arith, add-one, set}
 use Rattle.std.specs.Prelude.{◌==◌, nat_le, nat_lt, replicate}
 use Rattle.std.specs.List.{list_all}
 use Rattle.std.proofs.lemmas.Bool.{lt-leb}
 use Rattle.life_base.specs.Text.{is_empty, onto_first}
 use Rattle.life_mc.specs.Reading.{is_leaf, is_leaf_byte, leaf_rows, leaf_bytes, row_byte, is_at_end}
-use Rattle.life_mc.specs.Standing.{is_cell, is_row, are_rows, row_bytes}
+use Rattle.life_mc.specs.Standing.{first_row, is_cell, is_row, are_rows, row_bytes}
 
 and-false : (a : Bool) → (a && false) ≡ false
 and-false true = refl
@@ -24,7 +24,7 @@ and_mix true false false d = refl
 -- ---- one row
 
 -- the bits of cells, of which the first has this one
-abbrev bits_from : ℕ → List ℕ → ℕ
+abbrev pub bits_from : ℕ → List ℕ → ℕ
 bits_from bit [] = 0
 bits_from bit (b ∷ row) = cond (b == 42) bit 0 + bits_from (bit / 2) row
 
@@ -36,7 +36,7 @@ no_bits (b ∷ row) = either (b == 42) (no_bits row)
     either true h = omega (arith, h)
     either false h = omega (arith, h)
 
-row_bits : (row : List ℕ) → row_byte row ≡ bits_from 128 row
+pub row_bits : (row : List ℕ) → row_byte row ≡ bits_from 128 row
 row_bits [] = refl
 row_bits (a ∷ []) = omega arith
 row_bits (a ∷ b ∷ []) = omega arith
@@ -48,7 +48,7 @@ row_bits (a ∷ b ∷ c ∷ d ∷ e ∷ f ∷ g ∷ []) = omega arith
 row_bits (a ∷ b ∷ c ∷ d ∷ e ∷ f ∷ g ∷ i ∷ row) = omega (arith, no_bits row)
 
 -- cells that can stand from the column of this bit on
-abbrev fits : ℕ → List ℕ → Bool
+abbrev pub fits : ℕ → List ℕ → Bool
 fits bit [] = true
 fits bit (b ∷ row) = (is_cell b && nat_lt 0 bit) && fits (bit / 2) row
 
@@ -74,7 +74,7 @@ eight_columns (a ∷ b ∷ c ∷ d ∷ e ∷ f ∷ g ∷ []) = refl
 eight_columns (a ∷ b ∷ c ∷ d ∷ e ∷ f ∷ g ∷ i ∷ []) = refl
 eight_columns (a ∷ b ∷ c ∷ d ∷ e ∷ f ∷ g ∷ i ∷ j ∷ row) = sym (lt-leb (length (a ∷ b ∷ c ∷ d ∷ e ∷ f ∷ g ∷ i ∷ j ∷ row)) 8 (omega arith))
 
-row_fits_all : (row : List ℕ) → fits 128 row ≡ is_row row
+pub row_fits_all : (row : List ℕ) → fits 128 row ≡ is_row row
 row_fits_all row = cells_with_room 128 row ∙ ap (λ v. list_all is_cell row && v) (eight_columns row)
 
 -- ---- all rows
@@ -177,7 +177,32 @@ pad (suc n) (suc m) (row ∷ rows) h = ap (λ (t : List ℕ). row_byte row ∷ t
 pub leaf_bytes_are : (text : List ℕ) → leaf_bytes text ≡ row_bytes 8 (leaf_rows text)
 leaf_bytes_are text = pad 8 8 (leaf_rows text) (omega arith)
 
--- ---- the rest of a leaf, from a cell on
+-- ---- one row of several
+
+-- the bit of a column; of those behind the last one 0
+abbrev pub column_bit : ℕ → ℕ
+column_bit zero = 128
+column_bit (suc c) = column_bit c / 2
+
+goes_on : (text : List ℕ) (i : ℕ) → is_empty (first_row (drop i text)) ≡ false → first_row (drop i text) ≡ get_or text i 0 ∷ first_row (drop (suc i) text)
+goes_on [] zero h = cc
+goes_on [] (suc i) h = cc
+goes_on (b ∷ text) zero h = by (b == 36) h
+  where
+    by : (v : Bool) → is_empty (cond v [] (b ∷ first_row text)) ≡ false → cond v [] (b ∷ first_row text) ≡ b ∷ first_row text
+    by true h = cc
+    by false h = refl
+goes_on (b ∷ text) (suc i) h = goes_on text i h
+
+-- a row that has not ended goes on with a cell
+pub row_goes_on : (text : List ℕ) (i : ℕ) → is_empty (first_row (drop i text)) ≡ false → first_row (drop i text) ≡ get_or text i 0 ∷ first_row (drop (i + 1) text)
+row_goes_on text i h = rw add-one (goes_on text i h)
+
+pub no_more : (row : List ℕ) → is_empty row ≡ true → row ≡ []
+no_more [] h = refl
+no_more (b ∷ row) h = cc
+
+-- ---- all rows of several
 
 not_at_end : (text : List ℕ) → 0 < length text → is_at_end (leaf_rows text) ≡ false
 not_at_end [] h = absurd (omega arith)
@@ -189,142 +214,120 @@ not_at_end (b ∷ text) h = by (is_dollar b) (leaf_rows text) (some_rows text)
     by false (r ∷ []) h = refl
     by false (r ∷ s ∷ rs) h = refl
 
-at_end_is_empty : (text : List ℕ) → is_at_end (leaf_rows text) ≡ is_empty text
+pub at_end_is_empty : (text : List ℕ) → is_at_end (leaf_rows text) ≡ is_empty text
 at_end_is_empty [] = refl
 at_end_is_empty (b ∷ text) = not_at_end (b ∷ text) (omega arith)
-
--- a text ends a leaf, of which n rows can come behind this one, and this one goes on in the column of this bit
-abbrev pub ends_leaf : ℕ → ℕ → List ℕ → Bool
-ends_leaf n bit [] = true
-ends_leaf n bit (b ∷ text) =
-    cond (b == 36) (elim n [ zero ↦ is_empty text | suc m ↦ ends_leaf m 128 text ]) ((is_cell b && nat_lt 0 bit) && ends_leaf n (bit / 2) text)
-
--- the same, by the rows of the text
-abbrev are_left : ℕ → ℕ → List (List ℕ) → Bool
-are_left n bit [] = true
-are_left n bit (row ∷ rows) = fits bit row && are_rows n rows
 
 none_left : (n : ℕ) → are_rows n [] ≡ true
 none_left zero = refl
 none_left (suc n) = refl
 
-next_left : (n : ℕ) (rows : List (List ℕ)) → are_left n 128 rows ≡ are_rows (suc n) rows
-next_left n [] = refl
-next_left n (row ∷ rows) = ap (λ v. v && are_rows n rows) (row_fits_all row)
-
-left_cell : (n bit b : ℕ) (rows : List (List ℕ)) → 0 < length rows → are_left n bit (onto_first b rows) ≡ ((is_cell b && nat_lt 0 bit) && are_left n (bit / 2) rows)
-left_cell n bit b [] h = absurd (omega arith)
-left_cell n bit b (row ∷ rows) h = and_assoc (is_cell b && nat_lt 0 bit) (fits (bit / 2) row) (are_rows n rows)
-
-left_is : (n bit : ℕ) (text : List ℕ) → ends_leaf n bit text ≡ are_left n bit (leaf_rows text)
-left_is n bit [] = sym (none_left n)
-left_is n bit (b ∷ text) = by (b == 36) (λ n bit. left_is n bit text)
-  where
-    behind : (n : ℕ) → ((n bit : ℕ) → ends_leaf n bit text ≡ are_left n bit (leaf_rows text))
-        → elim n [ zero ↦ is_empty text | suc m ↦ ends_leaf m 128 text ] ≡ are_rows n (leaf_rows text)
-    behind zero ih = sym (at_end_is_empty text)
-    behind (suc m) ih = ih m 128 ∙ next_left m (leaf_rows text)
-
-    by : (v : Bool) → ((n bit : ℕ) → ends_leaf n bit text ≡ are_left n bit (leaf_rows text))
-        → cond v (elim n [ zero ↦ is_empty text | suc m ↦ ends_leaf m 128 text ]) ((is_cell b && nat_lt 0 bit) && ends_leaf n (bit / 2) text)
-        ≡ are_left n bit (cond v ([] ∷ leaf_rows text) (onto_first b (leaf_rows text)))
-    by true ih = behind n ih
-    by false ih = ap (λ v. (is_cell b && nat_lt 0 bit) && v) (ih n (bit / 2)) ∙ sym (left_cell n bit b (leaf_rows text) (some_rows text))
-
-pub leaf_ends : (text : List ℕ) → is_leaf text ≡ ends_leaf 7 128 text
-leaf_ends text = leaf_is text ∙ sym (left_is 7 128 text ∙ next_left 7 (leaf_rows text))
-
--- the bytes of this row, which has these bits so far, and of the later ones
-abbrev bytes_left : ℕ → ℕ → List ℕ → List ℕ → List ℕ
-bytes_left row bit later [] = row ∷ later
-bytes_left row bit later (b ∷ text) =
-    cond (b == 36) (row ∷ elim later [ [] ↦ [] | z ∷ more ↦ bytes_left 0 128 more text ]) (bytes_left (row + cond (b == 42) bit 0) (bit / 2) later text)
-
--- the same, by the rows of the text
-abbrev bytes_are_left : ℕ → ℕ → ℕ → List (List ℕ) → List ℕ
-bytes_are_left n row bit [] = []
-bytes_are_left n row bit (cells ∷ rows) = (row + bits_from bit cells) ∷ row_bytes n rows
-
 blank_left : (n : ℕ) → row_bytes n [] ≡ replicate n 0
 blank_left zero = refl
 blank_left (suc n) = ap (λ (t : List ℕ). 0 ∷ t) (blank_left n)
 
-next_bytes : (n : ℕ) (rows : List (List ℕ)) → 0 < length rows → bytes_are_left n 0 128 rows ≡ row_bytes (suc n) rows
-next_bytes n [] h = absurd (omega arith)
-next_bytes n (row ∷ rows) h = ap (λ byte. byte ∷ row_bytes n rows) (omega (arith, row_bits row))
-
-bytes_cell : (n row bit b : ℕ) (rows : List (List ℕ)) → 0 < length rows
-    → bytes_are_left n (row + cond (b == 42) bit 0) (bit / 2) rows ≡ bytes_are_left n row bit (onto_first b rows)
-bytes_cell n row bit b [] h = absurd (omega arith)
-bytes_cell n row bit b (cells ∷ rows) h = ap (λ byte. byte ∷ row_bytes n rows) (sum row (cond (b == 42) bit 0) (bits_from (bit / 2) cells))
+pub row_within : (text : List ℕ) → length (first_row text) ≤ length text
+row_within [] = omega arith
+row_within (b ∷ text) = by (b == 36) (row_within text)
   where
-    sum : (a b c : ℕ) → (a + b) + c ≡ a + (b + c)
-    sum a b c = omega arith
+    by : (v : Bool) → length (first_row text) ≤ length text → length (cond v [] (b ∷ first_row text)) ≤ suc (length text)
+    by true h = omega arith
+    by false h = omega (arith, h)
 
-nothing_more : (row : ℕ) → row ≡ row + 0
-nothing_more row = omega arith
-
-bytes_left_is : (n row bit : ℕ) (text : List ℕ) → bytes_left row bit (replicate n 0) text ≡ bytes_are_left n row bit (leaf_rows text)
-bytes_left_is n row bit [] = ap (λ (t : List ℕ). row ∷ t) (sym (blank_left n)) ∙ ap (λ byte. byte ∷ row_bytes n []) (nothing_more row)
-bytes_left_is n row bit (b ∷ text) = by (b == 36) (λ n row bit. bytes_left_is n row bit text)
+rows_begin : (text : List ℕ) → leaf_rows text ≡ first_row text ∷ tail_of (leaf_rows text)
+rows_begin [] = refl
+rows_begin (b ∷ text) = by (b == 36) (rows_begin text)
   where
-    behind : (n : ℕ) → ((n row bit : ℕ) → bytes_left row bit (replicate n 0) text ≡ bytes_are_left n row bit (leaf_rows text))
-        → row ∷ elim (replicate {A = ℕ} n 0) [ [] ↦ [] | z ∷ more ↦ bytes_left 0 128 more text ] ≡ bytes_are_left n row bit ([] ∷ leaf_rows text)
-    behind zero ih = ap (λ byte. byte ∷ []) (nothing_more row)
-    behind (suc m) ih =
-        ap (λ (t : List ℕ). row ∷ t) (ih m 0 128 ∙ next_bytes m (leaf_rows text) (some_rows text)) ∙ ap (λ byte. byte ∷ row_bytes (suc m) (leaf_rows text)) (nothing_more row)
+    by : (v : Bool) → leaf_rows text ≡ first_row text ∷ tail_of (leaf_rows text)
+        → cond v ([] ∷ leaf_rows text) (onto_first b (leaf_rows text)) ≡ cond v [] (b ∷ first_row text) ∷ tail_of (cond v ([] ∷ leaf_rows text) (onto_first b (leaf_rows text)))
+    by true ih = refl
+    by false ih = ap (onto_first b) ih ∙ ap (λ rows. (b ∷ first_row text) ∷ tail_of (onto_first b rows)) (sym ih)
 
-    by : (v : Bool) → ((n row bit : ℕ) → bytes_left row bit (replicate n 0) text ≡ bytes_are_left n row bit (leaf_rows text))
-        → cond v (row ∷ elim (replicate {A = ℕ} n 0) [ [] ↦ [] | z ∷ more ↦ bytes_left 0 128 more text ]) (bytes_left (row + cond (b == 42) bit 0) (bit / 2) (replicate n 0) text)
-        ≡ bytes_are_left n row bit (cond v ([] ∷ leaf_rows text) (onto_first b (leaf_rows text)))
-    by true ih = behind n ih
-    by false ih = ih n (row + cond (b == 42) bit 0) (bit / 2) ∙ bytes_cell n row bit b (leaf_rows text) (some_rows text)
+more_rows : (text : List ℕ) → length (first_row text) < length text → leaf_rows text ≡ first_row text ∷ leaf_rows (drop (suc (length (first_row text))) text)
+more_rows [] h = absurd (omega arith)
+more_rows (b ∷ text) h = by (b == 36) h (more_rows text)
+  where
+    by : (v : Bool) → length (cond v [] (b ∷ first_row text)) < suc (length text)
+        → (length (first_row text) < length text → leaf_rows text ≡ first_row text ∷ leaf_rows (drop (suc (length (first_row text))) text))
+        → cond v ([] ∷ leaf_rows text) (onto_first b (leaf_rows text))
+        ≡ cond v [] (b ∷ first_row text) ∷ leaf_rows (drop (suc (length (cond v [] (b ∷ first_row text)))) (b ∷ text))
+    by true h ih = refl
+    by false h ih = ap (onto_first b) (ih (omega (arith, h)))
 
--- ---- the rows so far, and those that come
+-- behind a row that ends before its text does come the rows of what is left
+rows_go_on : (text : List ℕ) → length (first_row text) < length text → leaf_rows text ≡ first_row text ∷ leaf_rows (drop (length (first_row text) + 1) text)
+rows_go_on text h = more_rows text h ∙ ap (λ j. first_row text ∷ leaf_rows (drop j text)) (sym (add-one (length (first_row text))))
 
--- the bytes of a leaf: of the rows that have ended, and of those that the text ends
-abbrev pub bytes_from : List ℕ → ℕ → ℕ → ℕ → List ℕ → List ℕ
-bytes_from rows ended row bit text = take ended rows ++ bytes_left row bit (drop (suc ended) rows) text
+one_row : (text : List ℕ) → length (first_row text) ≡ length text → leaf_rows text ≡ first_row text ∷ []
+one_row [] h = refl
+one_row (b ∷ text) h = by (b == 36) h (one_row text)
+  where
+    by : (v : Bool) → length (cond v [] (b ∷ first_row text)) ≡ suc (length text) → (length (first_row text) ≡ length text → leaf_rows text ≡ first_row text ∷ [])
+        → cond v ([] ∷ leaf_rows text) (onto_first b (leaf_rows text)) ≡ cond v [] (b ∷ first_row text) ∷ []
+    by true h ih = absurd (omega (arith, h))
+    by false h ih = ap (onto_first b) (ih (omega (arith, h)))
 
-pub bytes_begin : (text : List ℕ) → leaf_bytes text ≡ bytes_from (replicate 8 0) 0 0 128 text
-bytes_begin text = leaf_bytes_are text ∙ sym (bytes_left_is 7 0 128 text ∙ next_bytes 7 (leaf_rows text) (some_rows text))
+fewer : (k : ℕ) → k < 8 → 8 - k ≡ suc (8 - (k + 1))
+fewer k h = omega (arith, h)
 
-pub next : (text : List ℕ) (i : ℕ) → i < length text → drop i text ≡ get_or text i 0 ∷ drop (i + 1) text
-next text i h = rw add-one (drop-cons text i 0 h)
+-- whether the rows of a text end a leaf, of which k rows have come
+pub bad_row : (k : ℕ) (text : List ℕ) → k < 8 → is_row (first_row text) ≡ false → are_rows (8 - k) (leaf_rows text) ≡ false
+bad_row k text h e =
+    ap (are_rows (8 - k)) (rows_begin text) ∙ ap (λ n. are_rows n (first_row text ∷ tail_of (leaf_rows text))) (fewer k h)
+    ∙ ap (λ v. v && are_rows (8 - (k + 1)) (tail_of (leaf_rows text))) e
 
--- a cell more
-pub cell_ends : (n bit b : ℕ) (text : List ℕ) → (b == 36) ≡ false → ends_leaf n bit (b ∷ text) ≡ ((is_cell b && nat_lt 0 bit) && ends_leaf n (bit / 2) text)
-cell_ends n bit b text e = rw e refl
+pub last_row : (k : ℕ) (text : List ℕ) → k < 8 → length (first_row text) ≡ length text → is_row (first_row text) ≡ true → are_rows (8 - k) (leaf_rows text) ≡ true
+last_row k text h l e =
+    ap (are_rows (8 - k)) (one_row text l) ∙ ap (λ n. are_rows n (first_row text ∷ [])) (fewer k h) ∙ ap (λ v. v && are_rows (8 - (k + 1)) []) e ∙ none_left (8 - (k + 1))
 
-pub cell_bytes : (rows : List ℕ) (ended row bit b : ℕ) (text : List ℕ) → (b == 36) ≡ false
-    → bytes_from rows ended row bit (b ∷ text) ≡ bytes_from rows ended (row + cond (b == 42) bit 0) (bit / 2) text
-cell_bytes rows ended row bit b text e = rw e refl
+pub good_row : (k : ℕ) (text : List ℕ) → k < 8 → length (first_row text) < length text → is_row (first_row text) ≡ true
+    → are_rows (8 - k) (leaf_rows text) ≡ are_rows (8 - (k + 1)) (leaf_rows (drop (length (first_row text) + 1) text))
+good_row k text h l e =
+    let more = leaf_rows (drop (length (first_row text) + 1) text) in
+    ap (are_rows (8 - k)) (rows_go_on text l) ∙ ap (λ n. are_rows n (first_row text ∷ more)) (fewer k h) ∙ ap (λ v. v && are_rows (8 - (k + 1)) more) e
 
--- a row has ended
-pub row_ends : (n bit b : ℕ) (text : List ℕ) → (b == 36) ≡ true → ends_leaf (suc n) bit (b ∷ text) ≡ ends_leaf n 128 text
-row_ends n bit b text e = rw e refl
+-- the bytes of a leaf whose first k rows have these bytes, and the others are these rows
+abbrev pub with_rows : ℕ → List ℕ → List (List ℕ) → List ℕ
+with_rows k bytes rows = take k bytes ++ row_bytes (8 - k) rows
 
-pub row_bytes_from : (rows : List ℕ) (ended row bit b : ℕ) (text : List ℕ) → (b == 36) ≡ true → suc ended < length rows
-    → bytes_from rows ended row bit (b ∷ text) ≡ bytes_from (set rows ended row) (suc ended) 0 128 text
-row_bytes_from [] ended row bit b text e h = absurd (omega arith)
-row_bytes_from (r ∷ []) ended row bit b text e h = absurd (omega arith)
-row_bytes_from (r ∷ z ∷ rows) zero row bit b text e h = rw e refl
-row_bytes_from (r ∷ z ∷ rows) (suc ended) row bit b text e h = ap (λ (t : List ℕ). r ∷ t) (row_bytes_from (z ∷ rows) ended row bit b text e (omega arith))
+abbrev tail_bytes : List ℕ → List ℕ
+tail_bytes [] = []
+tail_bytes (b ∷ bytes) = bytes
 
--- the last row has ended
-pub last_ends : (bit b : ℕ) (text : List ℕ) → (b == 36) ≡ true → ends_leaf 0 bit (b ∷ text) ≡ is_empty text
-last_ends bit b text e = rw e refl
+put_last : (k n row : ℕ) (bytes cells : List ℕ) → drop k bytes ≡ replicate (suc n) 0 → row ≡ row_byte cells → take k bytes ++ row_bytes (suc n) (cells ∷ []) ≡ set bytes k row
+put_last zero n row [] cells h e = cc
+put_last (suc k) n row [] cells h e = cc
+put_last zero n row (b ∷ bytes) cells h e = ap (λ r. r ∷ row_bytes n []) (sym e) ∙ ap (λ (t : List ℕ). row ∷ t) (blank_left n ∙ sym (ap tail_bytes h))
+put_last (suc k) n row (b ∷ bytes) cells h e = ap (λ (t : List ℕ). b ∷ t) (put_last k n row bytes cells h e)
 
-pub last_bytes : (rows : List ℕ) (ended row bit b : ℕ) (text : List ℕ) → (b == 36) ≡ true → suc ended ≡ length rows
-    → bytes_from rows ended row bit (b ∷ text) ≡ set rows ended row
-last_bytes [] ended row bit b text e h = absurd (omega arith)
-last_bytes (r ∷ []) zero row bit b text e h = rw e refl
-last_bytes (r ∷ []) (suc ended) row bit b text e h = absurd (omega arith)
-last_bytes (r ∷ z ∷ rows) zero row bit b text e h = absurd (omega arith)
-last_bytes (r ∷ z ∷ rows) (suc ended) row bit b text e h = ap (λ (t : List ℕ). r ∷ t) (last_bytes (z ∷ rows) ended row bit b text e (omega arith))
+put_next : (k n row : ℕ) (bytes cells : List ℕ) (more : List (List ℕ)) → k < length bytes → row ≡ row_byte cells
+    → take k bytes ++ row_bytes (suc n) (cells ∷ more) ≡ take (suc k) (set bytes k row) ++ row_bytes n more
+put_next k n row [] cells more h e = absurd (omega (arith, h))
+put_next zero n row (b ∷ bytes) cells more h e = ap (λ r. r ∷ row_bytes n more) (sym e)
+put_next (suc k) n row (b ∷ bytes) cells more h e = ap (λ (t : List ℕ). b ∷ t) (put_next k n row bytes cells more (omega (arith, h)) e)
 
--- the text has ended
-pub end_bytes : (rows : List ℕ) (ended row bit : ℕ) → ended < length rows → bytes_from rows ended row bit [] ≡ set rows ended row
-end_bytes [] ended row bit h = absurd (omega arith)
-end_bytes (r ∷ rows) zero row bit h = refl
-end_bytes (r ∷ rows) (suc ended) row bit h = ap (λ (t : List ℕ). r ∷ t) (end_bytes rows ended row bit (omega arith))
+blank_behind : (k n row : ℕ) (bytes : List ℕ) → drop k bytes ≡ replicate (suc n) 0 → drop (suc k) (set bytes k row) ≡ replicate n 0
+blank_behind zero n row [] h = cc
+blank_behind (suc k) n row [] h = cc
+blank_behind zero n row (b ∷ bytes) h = ap tail_bytes h
+blank_behind (suc k) n row (b ∷ bytes) h = blank_behind k n row bytes h
+
+-- the byte of the last row is put in, and the rows behind it are empty
+pub put_last_row : (k row : ℕ) (bytes text : List ℕ) → k < 8 → drop k bytes ≡ replicate (8 - k) 0 → length (first_row text) ≡ length text → row ≡ row_byte (first_row text)
+    → with_rows k bytes (leaf_rows text) ≡ set bytes k row
+put_last_row k row bytes text h z l e =
+    ap (with_rows k bytes) (one_row text l) ∙ ap (λ n. take k bytes ++ row_bytes n (first_row text ∷ [])) (fewer k h)
+    ∙ put_last k (8 - (k + 1)) row bytes (first_row text) (z ∙ ap (λ n. replicate n 0) (fewer k h)) e
+
+-- the byte of a row is put in, and more rows come
+pub put_row : (k row : ℕ) (bytes text : List ℕ) → k < 8 → length bytes ≡ 8 → length (first_row text) < length text → row ≡ row_byte (first_row text)
+    → with_rows k bytes (leaf_rows text) ≡ with_rows (k + 1) (set bytes k row) (leaf_rows (drop (length (first_row text) + 1) text))
+put_row k row bytes text h w l e =
+    let more = leaf_rows (drop (length (first_row text) + 1) text) in
+    ap (with_rows k bytes) (rows_go_on text l) ∙ ap (λ n. take k bytes ++ row_bytes n (first_row text ∷ more)) (fewer k h)
+    ∙ put_next k (8 - (k + 1)) row bytes (first_row text) more (omega (arith, h, w)) e
+    ∙ ap (λ j. take j (set bytes k row) ++ row_bytes (8 - (k + 1)) more) (sym (add-one k))
+
+pub still_blank : (k row : ℕ) (bytes : List ℕ) → k < 8 → drop k bytes ≡ replicate (8 - k) 0 → drop (k + 1) (set bytes k row) ≡ replicate (8 - (k + 1)) 0
+still_blank k row bytes h z =
+    ap (λ j. drop j (set bytes k row)) (add-one k) ∙ blank_behind k (8 - (k + 1)) row bytes (z ∙ ap (λ n. replicate n 0) (fewer k h))
