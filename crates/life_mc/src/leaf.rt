@@ -71,9 +71,5 @@ pub(crate) fn read_leaf(text: &[u8]) -> Option<[u8; 8]>
         }
         rest = behind_row(rest, end);
     }
-    if rest.is_empty() {
-        Some(rows)
-    } else {
-        None
-    }
+    if rest.is_empty() { Some(rows) } else { None }
 }

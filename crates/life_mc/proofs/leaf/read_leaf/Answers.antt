@@ -1,5 +1,4 @@
 use Rattle.std.proofs.Common.{◌≡◌, ◌∙◌, ◌+◌, ◌-◌, ◌<◌, ℕ, List, false, sym, ap, refl, arith, drop, set, length, length-set}
-use Rattle.life_base.specs.Text.{is_empty}
 use Rattle.life_mc.specs.Reading.{is_leaf, leaf_rows}
 use Rattle.life_mc.specs.Standing.{are_rows, first_row}
 use Rattle.life_mc.proofs.Leaves.{at_end_is_empty, bad_row, good_row, last_row, leaf_bytes_are, leaf_is, put_last_row, put_row, row_within, still_blank, with_rows}
