@@ -26,3 +26,4 @@ pub mod SquareRows
 pub mod NodeLines
 pub mod Accepted
 pub mod WiderPlanes
+pub mod WholeRows

@@ -1,9 +1,12 @@
 //! The rows of a leaf line.
 
-ghost use Rattle.std.specs.Prelude.{◌≡◌, ◌<◌, ◌+◌, ◌==◌, ◌&&◌, true, false, nat_lt, drop, length, MatchOption, if◌then◌else◌};
+ghost use Rattle.std.specs.Prelude.{◌≡◌, ◌<◌, ◌≤◌, ◌+◌, ◌-◌, ◌%◌, ◌^◌, ◌==◌, ◌&&◌, take, map, true, false, nat_lt, drop, length, MatchOption, if◌then◌else◌};
+ghost use Rattle.std.specs.Simd.Lanes.{mask_l};
 ghost use Rattle.life_base.specs.Text.{is_empty};
 ghost use Rattle.life_mc.specs.Reading.{is_leaf, leaf_bytes, row_byte};
-ghost use Rattle.life_mc.specs.Standing.{first_row, is_cell, is_row};
+ghost use Rattle.life_mc.specs.Standing.{first_row, front_cells, is_cell, is_row};
+
+use std::simd::prelude::*;
 
 /// What a cell adds to the byte of its row, where its column has this bit, and 0 is behind the last one; nothing, if it can't stand there.
 /// It is computed without a branch on the state, which no processor can guess.
@@ -27,9 +30,59 @@ fn ends_at(text: &[u8], at: usize) -> bool
     }
 }
 
+/// Which of the first eight bytes of a text are this one: a bit each, that of the first byte the lowest.
+fn places(text: &[u8], byte: u8) -> u64
+    requires { 8 ≤ length text.now }
+    ensures { result ≡ mask_l (map (λ b. b == byte) (take 8 text.now)) }
+{
+    u8x8::from_slice(text)
+        .simd_eq(u8x8::splat(byte))
+        .to_bitmask()
+}
+
+/// How many cells are in front of a text, of its first eight bytes. Bit 8 stands for the byte behind these.
+fn cells_in_front(text: &[u8]) -> usize
+    requires { 8 ≤ length text.now }
+    ensures { result ≡ front_cells 8 text.now }
+{
+    let cells = places(text, b'*') + places(text, b'.');
+    (511 - cells).trailing_zeros() as usize
+}
+
+/// The first eight bytes of a text as a row.
+fn eight_columns(text: &[u8]) -> u8
+    requires { 8 ≤ length text.now }
+    ensures { result ≡ row_byte (take 8 text.now) }
+{
+    let bytes = u8x8::from_slice(text).reverse();
+    bytes.simd_eq(u8x8::splat(b'*')).to_bitmask() as u8
+}
+
+/// A row without its columns from this one on.
+fn first_columns(row: u8, column: usize) -> u8
+    requires { column ≤ 8 }
+    ensures { result ≡ row - row % 2 ^ (8 - column) }
+{
+    let rest = u32::from(row) % (1 << (8 - column));
+    row - rest as u8
+}
+
+/// The same as `cells_row`, of a text of more than eight bytes, which are looked at together.
+fn whole_row(text: &[u8]) -> Option<(u8, usize)>
+    requires { 8 < length text.now }
+    ensures { MatchOption result (is_row (first_row text.now) ≡ false)
+        (λ p. (is_row (first_row text.now) ≡ true) × (p.0 ≡ row_byte (first_row text.now)) × (p.1 ≡ length (first_row text.now))) }
+{
+    let end = cells_in_front(text);
+    if text[end] != b'$' {
+        return None;
+    }
+    Some((first_columns(eight_columns(text), end), end))
+}
+
 /// The first row of a text, if it is one of a leaf, and how many bytes it has. The loop has a fixed number of turns, so that it is laid out
 /// turn by turn.
-fn read_row(text: &[u8]) -> Option<(u8, usize)>
+fn cells_row(text: &[u8]) -> Option<(u8, usize)>
     ensures { MatchOption result (is_row (first_row text.now) ≡ false)
         (λ p. (is_row (first_row text.now) ≡ true) × (p.0 ≡ row_byte (first_row text.now)) × (p.1 ≡ length (first_row text.now))) }
 {
@@ -46,6 +99,18 @@ fn read_row(text: &[u8]) -> Option<(u8, usize)>
         Some((row, 8))
     } else {
         None
+    }
+}
+
+/// The first row of a text, if it is one of a leaf, and how many bytes it has.
+fn read_row(text: &[u8]) -> Option<(u8, usize)>
+    ensures { MatchOption result (is_row (first_row text.now) ≡ false)
+        (λ p. (is_row (first_row text.now) ≡ true) × (p.0 ≡ row_byte (first_row text.now)) × (p.1 ≡ length (first_row text.now))) }
+{
+    if text.len() > 8 {
+        whole_row(text)
+    } else {
+        cells_row(text)
     }
 }
 
