@@ -1,14 +1,13 @@
 -- The first eight bytes of a row, looked at together.
-use Rattle.std.proofs.Common.{◌≡◌, ℕ, zero, suc, ◌+◌, ◌-◌, ◌*◌, ◌/◌, ◌%◌, ◌<◌, ◌≤◌, List, [], ◌∷◌, ◌++◌, length, take, drop, get_or, map, replicate, Bool, true, false, not, cond, ◌&&◌, ◌||◌, refl, ap, sym, ◌∙◌, arith}
+use Rattle.std.proofs.Common.{◌≡◌, ℕ, zero, suc, ◌+◌, ◌-◌, ◌*◌, ◌/◌, ◌%◌, ◌<◌, ◌≤◌, List, [], ◌∷◌, ◌++◌, length, take, get_or, map, Bool, true, false, not, cond, ◌&&◌, refl, ap, ◌∙◌, arith}
 use Rattle.std.specs.Prelude.{◌==◌, ◌^◌, nat_le, nat_lt}
 use Rattle.std.specs.List.{list_all, prefix_len}
 use Rattle.std.specs.Simd.Lanes.{mask_l, top}
 use Rattle.std.proofs.lemmas.Bool.Decides.{nat_tests}
 use Rattle.std.proofs.lemmas.Bool.{le-leb}
-use Rattle.std.proofs.lemmas.Simd.{mask_l-lt}
 use Rattle.life_mc.specs.Reading.{row_byte}
 use Rattle.life_mc.specs.Standing.{first_row, front_cells, is_cell, is_row}
-use Rattle.life_mc.proofs.Leaves.{fits, row_fits_all}
+use Rattle.life_mc.proofs.Leaves.{fits}
 
 -- ---- marks of bytes
 
@@ -90,9 +89,32 @@ weighed a b c d e f g h = 0 + cond a 128 0 + cond b 64 0 + cond c 32 0 + cond d 
 
 marks_weighed : (a b c d e f g h : Bool)
     → (mark h + 2 * (mark g + 2 * (mark f + 2 * (mark e + 2 * (mark d + 2 * (mark c + 2 * (mark b + 2 * (mark a + 0)))))))) % 18446744073709551616 ≡ weighed a b c d e f g h
-marks_weighed a b c d e f g h = omega (arith, mark_is a, mark_is b, mark_is c, mark_is d, mark_is e, mark_is f, mark_is g, mark_is h,
-    weigh a 128, weigh b 64, weigh c 32, weigh d 16, weigh e 8, weigh f 4, weigh g 2,
-    at_most_one a, at_most_one b, at_most_one c, at_most_one d, at_most_one e, at_most_one f, at_most_one g, at_most_one h)
+marks_weighed a b c d e f g h = omega (
+  arith,
+  mark_is a,
+  mark_is b,
+  mark_is c,
+  mark_is d,
+  mark_is e,
+  mark_is f,
+  mark_is g,
+  mark_is h,
+  weigh a 128,
+  weigh b 64,
+  weigh c 32,
+  weigh d 16,
+  weigh e 8,
+  weigh f 4,
+  weigh g 2,
+  at_most_one a,
+  at_most_one b,
+  at_most_one c,
+  at_most_one d,
+  at_most_one e,
+  at_most_one f,
+  at_most_one g,
+  at_most_one h,
+)
 
 abbrev mark_at : List ℕ → ℕ → ℕ
 mark_at text k = cond (top 7 (cond (get_or (take 8 text ++ take 8 text) k 0 == 42) 255 0)) 1 0

@@ -1,4 +1,4 @@
-use Rattle.std.proofs.Common.{◌≡◌, ◌∙◌, ◌-◌, ◌%◌, ◌<◌, ◌≤◌, ℕ, List, false, ap, sym, arith, get_or, length, take}
+use Rattle.std.proofs.Common.{◌≡◌, ◌∙◌, ◌-◌, ◌%◌, ℕ, List, ap, sym, arith, get_or, length, take}
 use Rattle.std.specs.Prelude.{◌^◌}
 use Rattle.life_mc.specs.Reading.{row_byte}
 use Rattle.life_mc.specs.Standing.{first_row, front_cells, is_row}
