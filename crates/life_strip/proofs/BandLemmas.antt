@@ -131,10 +131,10 @@ last-more s (t ∷ u ∷ rest) (suc n) e c lt at = by (λ h. last-more s (u ∷ 
 pub extended-last : (column end : ℕ) (square : Id) → column < end → (spans : List Span) (n : ℕ) (d : Span) → n + 1 ≡ length spans → (get_or spans n d).square ≡ square
     → Covers spans column → IsExtended spans (set spans n (record { end = end; square = square })) column end square
 extended-last column end square later spans n d e q p = record {
-    ends = All-set (λ t. t.end ≤ end) spans n (record { end = end; square = square }) (omega arith) (λ k d h. let e = p.ends k d h in omega (arith, e, later));
-    earlier = λ c h. let b = p.each c h in last-earlier (record { end = end; square = square }) spans n d e q c b.0 (omega (arith, h, later)) b.1 ∙ sym b.1;
-    more = λ c le h. last-more (record { end = end; square = square }) spans n e c h (none_beyond spans column c p.ends le);
-  }
+  ends = All-set (λ t. t.end ≤ end) spans n (record { end = end; square = square }) (omega arith) (λ k d h. let e = p.ends k d h in omega (arith, e, later));
+  earlier = λ c h. let b = p.each c h in last-earlier (record { end = end; square = square }) spans n d e q c b.0 (omega (arith, h, later)) b.1 ∙ sym b.1;
+  more = λ c le h. last-more (record { end = end; square = square }) spans n e c h (none_beyond spans column c p.ends le);
+}
 
 -- the square of the cells of four squares of level 1
 pub four-digits : (a b c d : ℕ) → a < 16 → b < 16 → c < 16 → d < 16 → four (4096 * a + 256 * b + 16 * c + d) ≡ quad (two a) (two b) (two c) (two d)

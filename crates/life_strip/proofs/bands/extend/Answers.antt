@@ -21,8 +21,8 @@ pub returns-clause-columns : goal.returns-clause-columns
 returns-clause-columns c column covers later =
     let kept : c.match-last_mut.spans.items ≡ c.args.spans.now.items =
     elim c.match-last_mut.branch [
-      in-Some+else-eq w ↦
-        ap (λ s. s.items) w.spans-is ∙ ap (set c.args.spans.now.items (c.args.spans.now.len - 1)) w.in-Some.ensures.value ∙ set-get_or c.args.spans.now.items (c.args.spans.now.len - 1) w.in-Some.last.now
+      | in-Some+else-eq w ↦
+          ap (λ s. s.items) w.spans-is ∙ ap (set c.args.spans.now.items (c.args.spans.now.len - 1)) w.in-Some.ensures.value ∙ set-get_or c.args.spans.now.items (c.args.spans.now.len - 1) w.in-Some.last.now
       | in_default w ↦ ap (λ s. s.items) w.spans-is
     ] in
     subst (λ z. IsExtended c.args.spans.now.items z column c.args.end c.args.square) (sym (c.in_ok-push.ensures.items ∙ ap (λ z. z ++ record { end = c.args.end; square = c.args.square } ∷ []) kept))

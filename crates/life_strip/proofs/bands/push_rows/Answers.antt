@@ -34,8 +34,8 @@ loop-square-preserved g c =
     let lt : square < 16 = omega (arith, c.loop-square-test.true) in
     let next : 16 * block + square + 1 ≡ 16 * block + (square + 1) = omega arith in (
       (λ want p squares.
-      subst (λ k. FilledTo (g.S.Squares.knows c.push_square-in-loop-square.new.squares) (g.S.Squares.content c.push_square-in-loop-square.new.squares) want c.push_square-in-loop-square.new.spans.items k) next
-      (h.filled want (16 * block + square) (inv.0 want p squares) (omega arith) (one-column want (four (cells_at c.args.upper c.args.lower square)) (16 * block + square) (squares square lt)))),
+          subst (λ k. FilledTo (g.S.Squares.knows c.push_square-in-loop-square.new.squares) (g.S.Squares.content c.push_square-in-loop-square.new.squares) want c.push_square-in-loop-square.new.spans.items k) next
+          (h.filled want (16 * block + square) (inv.0 want p squares) (omega arith) (one-column want (four (cells_at c.args.upper c.args.lower square)) (16 * block + square) (squares square lt)))),
       (λ q k. let a = inv.1 q k in let b = h.keeps q a.0 in (b.0, b.1 ∙ a.1)),
       h.most ∙ inv.2,
       (λ t m. h.stays t (inv.3 t m)),

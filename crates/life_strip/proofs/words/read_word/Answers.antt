@@ -33,19 +33,21 @@ loop-index-preserved g c =
     let within = c.loop-index-test.true in
     let end = (slice_index_or row index d).end in
     elim c.if-column-span.branch [
-    then-column-span+in_ok-cells w ↦
-        let later : column ≤ end = omega (arith, w.if-column-span.true) in
-        let same = λ (x : ℕ) (from : column ≤ x) (lt : x < end). cell-some (g.S.Squares.content c.args.squares.now) row x (slice_index_or row index d).square w.in_ok-cells.field-0 (span-at row index column d inv.0 within x from lt) w.in_ok-cells.ensures.square in
-        let less = begun-less f c.args.start column c.loop-index.cells c.loop-index.rest inv.1 end w.bits_after-after.result later w.bits_after-after.ensures in
-        let step = begun-step f c.args.start column c.loop-index.cells c.loop-index.rest inv.1 end w.in_ok-cells.field-0 later (omega (arith, c.if-row-index.true)) w.in_ok-cells.ensures.small same
-        w.bits_after-after.result c.if-row-index.true w.bits_after-after.ensures less in
-        (subst (λ k. IsPast row (index + 1) k) (sym w.column-is) (past-next row index column d inv.0 within end later (omega arith)),
+      | then-column-span+in_ok-cells w ↦
+          let later : column ≤ end = omega (arith, w.if-column-span.true) in
+          let same = λ (x : ℕ) (from : column ≤ x) (lt : x < end). cell-some (g.S.Squares.content c.args.squares.now) row x (slice_index_or row index d).square w.in_ok-cells.field-0 (span-at row index column d inv.0 within x from lt) w.in_ok-cells.ensures.square in
+          let less = begun-less f c.args.start column c.loop-index.cells c.loop-index.rest inv.1 end w.bits_after-after.result later w.bits_after-after.ensures in
+          let step = begun-step f c.args.start column c.loop-index.cells c.loop-index.rest inv.1 end w.in_ok-cells.field-0 later (omega (arith, c.if-row-index.true)) w.in_ok-cells.ensures.small same
+          w.bits_after-after.result c.if-row-index.true w.bits_after-after.ensures less in (
+            subst (λ k. IsPast row (index + 1) k) (sym w.column-is) (past-next row index column d inv.0 within end later (omega arith)),
+            subst (λ k. IsBegun f c.args.start k c.if-column-span.cells c.if-column-span.rest) (sym w.column-is)
+                (subst (λ k. IsBegun f c.args.start end k c.if-column-span.rest) (sym w.cells-is) (subst (λ k. IsBegun f c.args.start end (c.loop-index.cells + w.in_ok-cells.field-0 * (c.loop-index.rest - w.bits_after-after.result)) k) (sym w.rest-is) step)),
+          )
+      | else-column-span w ↦ (
+        subst (λ k. IsPast row (index + 1) k) (sym w.column-is) (past-next row index column d inv.0 within column (omega arith) w.if-column-span.false),
         subst (λ k. IsBegun f c.args.start k c.if-column-span.cells c.if-column-span.rest) (sym w.column-is)
-        (subst (λ k. IsBegun f c.args.start end k c.if-column-span.rest) (sym w.cells-is) (subst (λ k. IsBegun f c.args.start end (c.loop-index.cells + w.in_ok-cells.field-0 * (c.loop-index.rest - w.bits_after-after.result)) k) (sym w.rest-is) step)))
-    | else-column-span w ↦
-        (subst (λ k. IsPast row (index + 1) k) (sym w.column-is) (past-next row index column d inv.0 within column (omega arith) w.if-column-span.false),
-        subst (λ k. IsBegun f c.args.start k c.if-column-span.cells c.if-column-span.rest) (sym w.column-is)
-        (subst (λ k. IsBegun f c.args.start column k c.if-column-span.rest) (sym w.cells-is) (subst (λ k. IsBegun f c.args.start column c.loop-index.cells k) (sym w.rest-is) inv.1)))
+            (subst (λ k. IsBegun f c.args.start column k c.if-column-span.rest) (sym w.cells-is) (subst (λ k. IsBegun f c.args.start column c.loop-index.cells k) (sym w.rest-is) inv.1)),
+      )
     ]
 
 pub bit-requires-then-index-row : goal.bit-requires-then-index-row
