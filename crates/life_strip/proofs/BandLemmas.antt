@@ -1,79 +1,140 @@
 -- Facts about four rows of cells.
 use Rattle.life_base.specs.declared.cell.TheConstants.{MAX_LEVEL}
-use Rattle.std.proofs.Common.{◌≡◌, ℕ, suc, ◌+◌, ◌-◌, ◌*◌, ◌/◌, ◌%◌, ◌^◌, ◌≤◌, ◌<◌, ◌⊎◌, inl, inr, Bool, true, false, nat_lt, List, [], ◌∷◌, ◌++◌, Option, Some, None, refl, sym, ◌∙◌, ap, subst, arith, append-nil}
-use Rattle.std.specs.Prelude.{MatchOption}
+use Rattle.std.proofs.Common.{◌≡◌, ℕ, suc, ◌+◌, ◌-◌, ◌*◌, ◌/◌, ◌%◌, ◌^◌, ◌≤◌, ◌<◌, ◌⊎◌, inl, inr, Bool, true, false, nat_lt, List, [], ◌∷◌, ◌++◌, length, get_or, zero, Option, Some, None, refl, sym, ◌∙◌, ap, subst, arith}
+use Rattle.std.specs.Prelude.{MatchOption, if◌then◌else◌}
 use Rattle.life_quad.specs.declared.id.Id.{Id}
 use Rattle.life_quad.specs.Store.{two, four}
 use Rattle.life_base.specs.Tree.{Tree, quad, depth, blank}
 use Rattle.life_strip.specs.declared.spans.Span.{Span}
 use Rattle.life_strip.specs.declared.spans.Found.{Found}
 use Rattle.life_strip.specs.Strip.{id_at, square_or_blank, square_at, quad_at, IsStrip, IsFound, IsBefore, IsNearer, AreWithin}
-use Rattle.life_strip.specs.Band.{four_at}
-use Rattle.life_strip.proofs.SpanLemmas.{Keeps, Some-is, append_one, within_one, id_at-before, id_at-after, depth-square_at, quad-keeps, quad-same, found-within, before_earlier, none-left}
+use Rattle.life_strip.specs.declared.words.Words.{Words}
+use Rattle.life_strip.specs.Band.{four_at, cell_in, IsWord, west_at, east_at, cells_at, Covers, IsExtended, FilledTo}
+use Rattle.std.proofs.Math.ListN.{set}
+use Rattle.std.proofs.lemmas.List.Elements.{All-push, All-set}
+use Rattle.life_strip.proofs.PlaneLemmas.{none-append, found-append, none_beyond}
+use Rattle.life_strip.proofs.WordLemmas.{west-square, east-square, west-small, east-small}
+use Rattle.life_strip.proofs.SpanLemmas.{Keeps, Some-is, id_at-before, id_at-after, depth-square_at, quad-keeps, quad-same, found-within, before_earlier, none-left}
 
--- the columns before this one have the squares that are wanted, and the others nothing yet
-pub record FilledTo (knows : Id → Type 0) (now : Id → Tree) (level : ℕ) (want : ℕ → Tree) (spans : List Span) (column : ℕ) : Type 0 where
-  pub done : (c : ℕ) → c < column → (id : Id) × ((more : List Span) → id_at (spans ++ more) c ≡ Some id) × knows id × (now id ≡ want c)
-  pub rest : (c : ℕ) → column ≤ c → (more : List Span) → id_at (spans ++ more) c ≡ id_at more c
-  pub within : AreWithin level spans
+module _ (knows : Id → Type 0) (now : Id → Tree) (want : ℕ → Tree) where
+  pub filled-start : FilledTo knows now want [] 0
+  filled-start = record { ends = λ k d h. absurd (omega (arith, h)); done = λ c h. absurd (omega (arith, h)) }
 
-pub FilledTo-start : (knows : Id → Type 0) (now : Id → Tree) (level : ℕ) (want : ℕ → Tree) → FilledTo knows now level want [] 0
-FilledTo-start knows now level want =
-    record { done = λ c h. absurd (omega arith); rest = λ c h more. refl; within = λ k d h. absurd (omega arith) }
+  pub filled-covers : (spans : List Span) (column : ℕ) → FilledTo knows now want spans column → Covers spans column
+  filled-covers spans column p = record { ends = p.ends; each = λ c h. let d = p.done c h in (d.0, d.1) }
 
-pub FilledTo-push : {knows knows' : Id → Type 0} {now now' : Id → Tree} (level : ℕ) (want : ℕ → Tree) (spans : List Span) (column next : ℕ) (r : Id)
-    → FilledTo knows now level want spans column → Keeps knows knows' now now'
-    → knows' r → now' r ≡ want column
-    → column < next → next ≤ 2 ^ (MAX_LEVEL - level) → ((c : ℕ) → column < c → c < next → want c ≡ want column)
-    → FilledTo knows' now' level want (spans ++ record { end = next; square = r } ∷ []) next
-FilledTo-push {knows} {knows'} {now} {now'} level want spans column next r p keeps kr er lt within same =
-    record { done = done; rest = rest; within = within_one level spans s p.within within }
-  where
-    s : Span
-    s = record { end = next; square = r }
-
-    done : (c : ℕ) → c < next → (id : Id) × ((more : List Span) → id_at ((spans ++ s ∷ []) ++ more) c ≡ Some id) × knows' id × (now' id ≡ want c)
-    done c h = by (nat_lt c column) refl
+  module _ (spans : List Span) (column : ℕ) (p : FilledTo knows now want spans column) where
+    -- beyond the column only blank squares are wanted
+    pub filled-all : ((c : ℕ) → column ≤ c → want c ≡ blank 2) → (c : ℕ) → square_at now 2 spans c ≡ want c
+    filled-all over c = by (nat_lt c column) refl
       where
-        by : (b : Bool) → nat_lt c column ≡ b → (id : Id) × ((more : List Span) → id_at ((spans ++ s ∷ []) ++ more) c ≡ Some id) × knows' id × (now' id ≡ want c)
-        by true e =
-            let d = p.done c (grind arith) in
-            (d.0, (λ more. append_one spans more s c ∙ d.1 (s ∷ more)), (keeps d.0 d.2).0, (keeps d.0 d.2).1 ∙ d.3)
+        by : (b : Bool) → nat_lt c column ≡ b → square_at now 2 spans c ≡ want c
+        by true e = let d = p.done c (grind arith) in ap (square_or_blank now 2) d.1 ∙ d.3
         by false e =
             let above : column ≤ c = grind arith in
-            (r, (λ more. append_one spans more s c ∙ p.rest c above (s ∷ more) ∙ id_at-before s more c h), kr, er ∙ sym (at (nat_lt column c) refl above))
-          where
-            at : (b : Bool) → nat_lt column c ≡ b → column ≤ c → want c ≡ want column
-            at true f above = same c (grind arith) h
-            at false f above = let e : c ≡ column = grind arith in ap want e
+            ap (square_or_blank now 2) (none_beyond spans column c p.ends above) ∙ sym (over c above)
 
-    rest : (c : ℕ) → next ≤ c → (more : List Span) → id_at ((spans ++ s ∷ []) ++ more) c ≡ id_at more c
-    rest c h more = append_one spans more s c ∙ p.rest c (omega arith) (s ∷ more) ∙ id_at-after s more c h
+    pub filled-strip : ((c : ℕ) → depth (want c) ≡ 2) → IsStrip knows now 2 spans
+    filled-strip deep c id at = by (nat_lt c column) refl
+      where
+        by : (b : Bool) → nat_lt c column ≡ b → knows id × (depth (now id) ≡ 2)
+        by true e =
+            let d = p.done c (grind arith) in
+            let same : d.0 ≡ id = Some-is (sym d.1 ∙ at) in
+            (subst knows same d.2, ap (λ z. depth (now z)) (sym same) ∙ ap depth d.3 ∙ deep c)
+        by false e =
+            let none : Some id ≡ None = sym at ∙ none_beyond spans column c p.ends (grind arith) in
+            absurd cc
 
-module _ (knows : Id → Type 0) (now : Id → Tree) (level : ℕ) (want : ℕ → Tree) (spans : List Span) (column : ℕ) (p : FilledTo knows now level want spans column) where
-  -- beyond the column only blank squares are wanted
-  pub FilledTo-all : ((c : ℕ) → column ≤ c → want c ≡ blank level) → (c : ℕ) → square_at now level spans c ≡ want c
-  FilledTo-all over c = by (nat_lt c column) refl
-    where
-      by : (b : Bool) → nat_lt c column ≡ b → square_at now level spans c ≡ want c
-      by true e =
-          let d = p.done c (grind arith) in
-          ap (λ z. square_or_blank now level (id_at z c)) (sym (append-nil spans)) ∙ ap (square_or_blank now level) (d.1 []) ∙ d.3
-      by false e =
-          let above : column ≤ c = grind arith in
-          ap (λ z. square_or_blank now level (id_at z c)) (sym (append-nil spans)) ∙ ap (square_or_blank now level) (p.rest c above []) ∙ sym (over c above)
+    pub filled-within : column ≤ 2 ^ (MAX_LEVEL - 2) → AreWithin 2 spans
+    filled-within le k d h = let end = p.ends k d h in omega (arith, le, end)
 
-  pub FilledTo-strip : ((c : ℕ) → depth (want c) ≡ level) → IsStrip knows now level spans
-  FilledTo-strip deep c id at = by (nat_lt c column) refl
-    where
-      by : (b : Bool) → nat_lt c column ≡ b → knows id × (depth (now id) ≡ level)
-      by true e =
-          let d = p.done c (grind arith) in
-          let same : d.0 ≡ id = Some-is (sym (d.1 []) ∙ ap (λ z. id_at z c) (append-nil spans) ∙ at) in
-          (subst knows same d.2, ap (λ z. depth (now z)) (sym same) ∙ ap depth d.3 ∙ deep c)
-      by false e =
-          let none : Some id ≡ None = sym at ∙ ap (λ z. id_at z c) (sym (append-nil spans)) ∙ p.rest c (grind arith) [] in
-          absurd cc
+pub filled-more : {knows knows' : Id → Type 0} {now now' : Id → Tree} → Keeps knows knows' now now' → (want : ℕ → Tree) (before after : List Span) (column end : ℕ) (id : Id)
+    → FilledTo knows now want before column → IsExtended before after column end id → knows' id → ((c : ℕ) → column ≤ c → c < end → want c ≡ now' id)
+    → FilledTo knows' now' want after end
+filled-more {knows} {knows'} {now} {now'} keeps want before after column end id p more known same = record { ends = more.ends; done = done }
+  where
+    done : (c : ℕ) → c < end → (q : Id) × (id_at after c ≡ Some q) × knows' q × (now' q ≡ want c)
+    done c h = by (nat_lt c column) refl
+      where
+        by : (b : Bool) → nat_lt c column ≡ b → (q : Id) × (id_at after c ≡ Some q) × knows' q × (now' q ≡ want c)
+        by true e =
+            let lt : c < column = grind arith in
+            let d = p.done c lt in
+            (d.0, more.earlier c lt ∙ d.1, (keeps d.0 d.2).0, (keeps d.0 d.2).1 ∙ d.3)
+        by false e =
+            let above : column ≤ c = grind arith in
+            (id, more.more c above h, known, sym (same c above h))
+
+-- where the rows go on the squares are all the first one
+pub goes-on : (want : ℕ → Tree) (t : Tree) (start end : ℕ) → want start ≡ t → ((c : ℕ) → start < c → 4 * c + 3 < end → want c ≡ want start)
+    → (c : ℕ) → start ≤ c → c < 16 * (end / 64) → want c ≡ t
+goes-on want t start end first on c le lt = by (nat_lt start c) refl
+  where
+    by : (b : Bool) → nat_lt start c ≡ b → want c ≡ t
+    by true e = on c (grind arith) (omega (arith, lt)) ∙ first
+    by false e = let same : c ≡ start = grind arith in ap want same ∙ first
+
+-- one column has the first square
+pub one-column : (want : ℕ → Tree) (t : Tree) (start : ℕ) → want start ≡ t → (c : ℕ) → start ≤ c → c < start + 1 → want c ≡ t
+one-column want t start first c le lt = let same : c ≡ start = omega (arith, le, lt) in ap want same ∙ first
+
+-- one span more, or the last span goes on to a new end
+module _ (column end : ℕ) (square : Id) (later : column < end) where
+  pub extended-push : (spans : List Span) → Covers spans column → IsExtended spans (spans ++ record { end = end; square = square } ∷ []) column end square
+  extended-push spans p = record {
+    ends = All-push (λ t. t.end ≤ end) spans (record { end = end; square = square }) (λ k d h. let e = p.ends k d h in omega (arith, e, later)) (omega arith);
+    earlier = λ c h. let d = p.each c h in found-append spans (record { end = end; square = square } ∷ []) c d.0 d.1 ∙ sym d.1;
+    more = λ c le h. none-append spans (record { end = end; square = square } ∷ []) c (none_beyond spans column c p.ends le) ∙ id_at-before (record { end = end; square = square }) [] c h;
+  }
+
+-- a first span that doesn't end after the column
+passed : (t : Span) (rest : List Span) (c : ℕ) (o : Option Id) → nat_lt c t.end ≡ false → id_at (t ∷ rest) c ≡ o → id_at rest c ≡ o
+passed t rest c o f at = sym (ap (λ b. if b then Some t.square else id_at rest c) f) ∙ at
+
+pass : (t : Span) (rest : List Span) (c : ℕ) (o : Option Id) → nat_lt c t.end ≡ false → id_at rest c ≡ o → id_at (t ∷ rest) c ≡ o
+pass t rest c o f at = ap (λ b. if b then Some t.square else id_at rest c) f ∙ at
+
+-- and one that does
+met : (t : Span) (rest more : List Span) (c : ℕ) → nat_lt c t.end ≡ true → id_at (t ∷ more) c ≡ id_at (t ∷ rest) c
+met t rest more c f = ap (λ b. if b then Some t.square else id_at more c) f ∙ sym (ap (λ b. if b then Some t.square else id_at rest c) f)
+
+met-none : (t : Span) (rest : List Span) (c : ℕ) → nat_lt c t.end ≡ true → id_at (t ∷ rest) c ≡ None → ⊥
+met-none t rest c f at = let g : Some t.square ≡ None = sym (ap (λ b. if b then Some t.square else id_at rest c) f) ∙ at in absurd cc
+
+last-earlier : (s : Span) (spans : List Span) (n : ℕ) (d : Span) → n + 1 ≡ length spans → (get_or spans n d).square ≡ s.square → (c : ℕ) (id : Id) → c < s.end → id_at spans c ≡ Some id → id_at (set spans n s) c ≡ Some id
+last-earlier s [] n d e q c id lt at = absurd (omega (arith, e))
+last-earlier s (t ∷ []) zero d e q c id lt at = by (nat_lt c t.end) refl
+  where
+    by : (b : Bool) → nat_lt c t.end ≡ b → id_at (s ∷ []) c ≡ Some id
+    by true f = id_at-before s [] c lt ∙ ap Some (sym q) ∙ sym (ap (λ b. if b then Some t.square else None) f) ∙ at
+    by false f = absurd (let none : None ≡ Some id = passed t [] c (Some id) f at in cc)
+last-earlier s (t ∷ []) (suc n) d e q c id lt at = absurd (omega (arith, e))
+last-earlier s (t ∷ u ∷ rest) zero d e q c id lt at = absurd (omega (arith, e))
+last-earlier s (t ∷ u ∷ rest) (suc n) d e q c id lt at = by (λ h. last-earlier s (u ∷ rest) n d (omega (arith, e)) q c id lt h) (nat_lt c t.end) refl
+  where
+    by : (id_at (u ∷ rest) c ≡ Some id → id_at (set (u ∷ rest) n s) c ≡ Some id) → (b : Bool) → nat_lt c t.end ≡ b → id_at (t ∷ set (u ∷ rest) n s) c ≡ Some id
+    by again true f = met t (u ∷ rest) (set (u ∷ rest) n s) c f ∙ at
+    by again false f = pass t (set (u ∷ rest) n s) c (Some id) f (again (passed t (u ∷ rest) c (Some id) f at))
+
+last-more : (s : Span) (spans : List Span) (n : ℕ) → n + 1 ≡ length spans → (c : ℕ) → c < s.end → id_at spans c ≡ None → id_at (set spans n s) c ≡ Some s.square
+last-more s [] n e c lt at = absurd (omega (arith, e))
+last-more s (t ∷ []) zero e c lt at = id_at-before s [] c lt
+last-more s (t ∷ []) (suc n) e c lt at = absurd (omega (arith, e))
+last-more s (t ∷ u ∷ rest) zero e c lt at = absurd (omega (arith, e))
+last-more s (t ∷ u ∷ rest) (suc n) e c lt at = by (λ h. last-more s (u ∷ rest) n (omega (arith, e)) c lt h) (nat_lt c t.end) refl
+  where
+    by : (id_at (u ∷ rest) c ≡ None → id_at (set (u ∷ rest) n s) c ≡ Some s.square) → (b : Bool) → nat_lt c t.end ≡ b → id_at (t ∷ set (u ∷ rest) n s) c ≡ Some s.square
+    by again true f = absurd (met-none t (u ∷ rest) c f at)
+    by again false f = pass t (set (u ∷ rest) n s) c (Some s.square) f (again (passed t (u ∷ rest) c None f at))
+
+pub extended-last : (column end : ℕ) (square : Id) → column < end → (spans : List Span) (n : ℕ) (d : Span) → n + 1 ≡ length spans → (get_or spans n d).square ≡ square
+    → Covers spans column → IsExtended spans (set spans n (record { end = end; square = square })) column end square
+extended-last column end square later spans n d e q p = record {
+  ends = All-set (λ t. t.end ≤ end) spans n (record { end = end; square = square }) (omega arith) (λ k d h. let e = p.ends k d h in omega (arith, e, later));
+  earlier = λ c h. let b = p.each c h in last-earlier (record { end = end; square = square }) spans n d e q c b.0 (omega (arith, h, later)) b.1 ∙ sym b.1;
+  more = λ c le h. last-more (record { end = end; square = square }) spans n e c h (none_beyond spans column c p.ends le);
+}
 
 -- the square of the cells of four squares of level 1
 pub four-digits : (a b c d : ℕ) → a < 16 → b < 16 → c < 16 → d < 16 → four (4096 * a + 256 * b + 16 * c + d) ≡ quad (two a) (two b) (two c) (two d)
@@ -217,11 +278,17 @@ nearest-inside a b c d wa wb wc wd column i fa fb fc fd end ha hb hc hd near = (
   nearest-within a b c d wa wb wc wd column i fa fb fc fd end ha hb hc hd near,
 )
 
--- the cells of four columns of four rows are those of the square there
-pub band-square : {knows knows' : Id → Type 0} {old now : Id → Tree} → Keeps knows knows' old now → (a b c d : List Span) → IsStrip knows old 0 a → IsStrip knows old 0 b → IsStrip knows old 0 c → IsStrip knows old 0 d
-    → (column p q r s : ℕ) → (two p ≡ quad_at now 0 a b (2 * column)) × (p < 16) → (two q ≡ quad_at now 0 a b (2 * column + 1)) × (q < 16)
-    → (two r ≡ quad_at now 0 c d (2 * column)) × (r < 16) → (two s ≡ quad_at now 0 c d (2 * column + 1)) × (s < 16)
-    → four (4096 * p + 256 * q + 16 * r + s) ≡ four_at old a b c d column
-band-square {knows} {knows'} {old} {now} keeps a b c d ka kb kc kd column p q r s hp hq hr hs =
-    four-digits p q r s hp.1 hq.1 hr.1 hs.1 ∙ (λ i. quad (hp.0 i) (hq.0 i) (hr.0 i) (hs.0 i))
+-- the cells of a square of level 2 of four words are those of the square there
+pub words-square : {knows knows' : Id → Type 0} {old now : Id → Tree} → Keeps knows knows' old now → (a b c d : List Span) → IsStrip knows old 0 a → IsStrip knows old 0 b → IsStrip knows old 0 c → IsStrip knows old 0 d
+    → IsStrip knows' now 0 a → IsStrip knows' now 0 b → IsStrip knows' now 0 c → IsStrip knows' now 0 d
+    → (start : ℕ) (upper lower : Words) → IsWord (cell_in now a) start upper.north.cells → IsWord (cell_in now b) start upper.south.cells
+    → IsWord (cell_in now c) start lower.north.cells → IsWord (cell_in now d) start lower.south.cells
+    → (square column : ℕ) → square < 16 → 4 * column ≡ start + 4 * square → four (cells_at upper lower square) ≡ four_at old a b c d column
+words-square {knows} {knows'} {old} {now} keeps a b c d ka kb kc kd ma mb mc md start upper lower ha hb hc hd square column lt e =
+    let nw = west-square knows' now a b ma mb start square upper ha hb lt column e in
+    let ne = east-square knows' now a b ma mb start square upper ha hb lt column e in
+    let sw = west-square knows' now c d mc md start square lower hc hd lt column e in
+    let se = east-square knows' now c d mc md start square lower hc hd lt column e in
+    four-digits (west_at upper square) (east_at upper square) (west_at lower square) (east_at lower square) (west-small square upper) (east-small square upper) (west-small square lower) (east-small square lower)
+    ∙ (λ i. quad (nw i) (ne i) (sw i) (se i))
     ∙ four-keeps {knows = knows} {knows' = knows'} {old = old} {now = now} keeps a b c d ka kb kc kd column

@@ -1,10 +1,11 @@
 -- Four rows of cells, one below the other.
-use Rattle.std.specs.Prelude.{◌≡◌, ℕ, ◌+◌, ◌*◌, ◌≤◌, List, length, All}
+use Rattle.std.specs.Prelude.{◌≡◌, ℕ, ◌+◌, ◌*◌, ◌≤◌, ◌<◌, ◌-◌, ◌/◌, ◌%◌, ◌^◌, zero, suc, List, length, All, Some}
 use Rattle.life_quad.specs.declared.id.Id.{Id}
-use Rattle.life_base.specs.Tree.{Tree, quad}
+use Rattle.life_base.specs.Tree.{Tree, quad, state_at}
 use Rattle.life_strip.specs.declared.spans.Span.{Span}
 use Rattle.life_strip.specs.declared.spans.Strip.{Strip}
-use Rattle.life_strip.specs.Strip.{quad_at}
+use Rattle.life_strip.specs.declared.words.Words.{Words}
+use Rattle.life_strip.specs.Strip.{quad_at, id_at, square_at}
 use Rattle.life_strip.specs.Picture.{AreFalling, IsLowest, IsSound}
 
 -- the square of level 2 in a column of four rows of cells
@@ -12,6 +13,51 @@ abbrev pub four_at : (Id → Tree) → List Span → List Span → List Span →
 four_at content first second third fourth column =
     quad (quad_at content 0 first second (2 * column)) (quad_at content 0 first second (2 * column + 1))
     (quad_at content 0 third fourth (2 * column)) (quad_at content 0 third fourth (2 * column + 1))
+
+-- the state in a column of a row of cells
+abbrev pub cell_in : (Id → Tree) → List Span → ℕ → ℕ
+cell_in content row column = state_at (square_at content 0 row column) 0 0
+
+-- the number whose n binary digits are the cells from a column on, the first one the highest
+abbrev pub binary : (ℕ → ℕ) → ℕ → ℕ → ℕ
+binary cell start zero = 0
+binary cell start (suc n) = 2 * binary cell start n + cell (start + n)
+
+-- the word of the 64 cells from a column on, which have the states 0 and 1
+pub record IsWord (cell : ℕ → ℕ) (start word : ℕ) : Type 0 where
+  pub digits : word ≡ binary cell start 64
+  pub states : (i : ℕ) → i < 64 → cell (start + i) ≤ 1
+
+-- the four binary digits of a word in the columns of one of its squares of level 2
+abbrev pub nibble_of : ℕ → ℕ → ℕ
+nibble_of word square = word / 2 ^ (60 - 4 * square) % 16
+
+-- the cells of two words in the columns of one square of level 2: its western and its eastern square of level 1
+abbrev pub west_at : Words → ℕ → ℕ
+west_at rows square = nibble_of rows.north.cells square / 4 * 4 + nibble_of rows.south.cells square / 4
+
+abbrev pub east_at : Words → ℕ → ℕ
+east_at rows square = nibble_of rows.north.cells square % 4 * 4 + nibble_of rows.south.cells square % 4
+
+-- the cells of a square of level 2 of four words
+abbrev pub cells_at : Words → Words → ℕ → ℕ
+cells_at upper lower square = 4096 * west_at upper square + 256 * east_at upper square + 16 * west_at lower square + east_at lower square
+
+-- the spans have the columns before this one, and no other
+pub record Covers (spans : List Span) (column : ℕ) : Type 0 where
+  pub ends : All (λ s. s.end ≤ column) spans
+  pub each : (c : ℕ) → c < column → (id : Id) × (id_at spans c ≡ Some id)
+
+-- from a column on one square goes on to an end
+pub record IsExtended (before after : List Span) (column end : ℕ) (square : Id) : Type 0 where
+  pub ends : All (λ s. s.end ≤ end) after
+  pub earlier : (c : ℕ) → c < column → id_at after c ≡ id_at before c
+  pub more : (c : ℕ) → column ≤ c → c < end → id_at after c ≡ Some square
+
+-- the columns before this one have the squares that are wanted, and the others none
+pub record FilledTo (knows : Id → Type 0) (content : Id → Tree) (want : ℕ → Tree) (spans : List Span) (column : ℕ) : Type 0 where
+  pub ends : All (λ s. s.end ≤ column) spans
+  pub done : (c : ℕ) → c < column → (id : Id) × (id_at spans c ≡ Some id) × knows id × (content id ≡ want c)
 
 -- the strips of whole bands of four rows have falling levels, and below them are at most three rows
 pub record IsPile (knows : Id → Type 0) (content : Id → Tree) (strips band : List Strip) : Type 0 where

@@ -1,85 +1,18 @@
-//! Four rows of cells of the states 0 and 1, made into squares of level 2 at once.
-ghost use Rattle.std.specs.Prelude.{◌≡◌, ℕ, ◌+◌, ◌-◌, ◌*◌, ◌^◌, ◌<◌, ◌≤◌, ◌⊎◌, Contains, length, Err, IfSome, IfOk, IfErr, OnErr};
+//! Four rows of cells of the states 0 and 1, made into squares of level 2 at once, 64 columns at a time.
+ghost use Rattle.std.specs.Prelude.{◌≡◌, ℕ, ◌+◌, ◌-◌, ◌*◌, ◌^◌, ◌<◌, ◌≤◌, ◌⊎◌, Contains, length, Err, IfSome, IfOk, IfErr, OnOk, OnErr};
 ghost use Rattle.life_base.specs.declared.kind.Kind.TheVariants.{Full, Memory};
-ghost use Rattle.life_base.specs.Tree.{Tree, quad, blank as blank_square};
+ghost use Rattle.life_base.specs.Tree.{Tree, quad};
 ghost use Rattle.life_quad.specs.declared.id.Id.{Id as IdValue};
 ghost use Rattle.life_quad.specs.Refused.{SomePart};
 ghost use Rattle.life_quad.specs.Store.{two, four};
-ghost use Rattle.life_strip.specs.Strip.{IsStrip, AreWithin, IsPast, IsFound, quad_at, square_at};
-ghost use Rattle.life_strip.specs.Band.{four_at};
+ghost use Rattle.life_strip.specs.Strip.{IsStrip, AreWithin, square_at};
+ghost use Rattle.life_strip.specs.Band.{four_at, Covers, IsExtended, FilledTo, cells_at};
 
-use crate::spans::{Found, Span, find, nearer};
+use crate::spans::{Span, find, nearer};
+use crate::words::{Words, cells_of, two_words};
 use life_base::{Kind, MAX_LEVEL};
 use life_quad::{Id, Squares};
 use std::alloc::Global;
-
-// Four columns of two rows: the cells of the western and of the eastern square of level 1, a bit each and the north-west one the highest,
-// and where the last column stands in each row.
-#[derive(Clone, Copy)]
-struct Cells {
-    west: u16,
-    east: u16,
-    north: usize,
-    south: usize,
-}
-
-// The cells of a square of level 1, a bit each and the north-west one the highest, if none has a state above 1.
-fn two_cells<S: Squares>(squares: &S, nw: Id, ne: Id, sw: Id, se: Id) -> Option<u16>
-    requires nw { S.knows squares.now nw }
-    requires ne { S.knows squares.now ne }
-    requires sw { S.knows squares.now sw }
-    requires se { S.knows squares.now se }
-    ensures square { IfSome result (λ cells. two cells ≡ quad (S.content squares.now nw) (S.content squares.now ne) (S.content squares.now sw) (S.content squares.now se)) }
-    ensures small { IfSome result (λ cells. cells < 16) }
-{
-    let nw = squares.state(nw)?;
-    let ne = squares.state(ne)?;
-    let sw = squares.state(sw)?;
-    let se = squares.state(se)?;
-    if nw > 1 || ne > 1 || sw > 1 || se > 1 {
-        return None;
-    }
-    Some(u16::from(8 * nw + 4 * ne + 2 * sw + se))
-}
-
-// The cells of four columns of two rows, if none has a state above 1.
-fn four_columns<S: Squares>(
-    squares: &S,
-    upper: &[Span],
-    lower: &[Span],
-    blank: Id,
-    column: u64,
-    north: Found,
-    south: Found,
-) -> Option<Cells>
-    requires column { column ≤ 2 ^ MAX_LEVEL }
-    requires upper { IsStrip (S.knows squares.now) (S.content squares.now) 0 upper.now }
-    requires lower { IsStrip (S.knows squares.now) (S.content squares.now) 0 lower.now }
-    requires known { S.knows squares.now blank }
-    requires blank { S.content squares.now blank ≡ blank_square 0 }
-    requires north { IsFound upper.now (2 * column) blank north }
-    requires south { IsFound lower.now (2 * column) blank south }
-    ensures west { IfSome result (λ r. (two r.west ≡ quad_at (S.content squares.now) 0 upper.now lower.now column) × (r.west < 16)) }
-    ensures east { IfSome result (λ r. (two r.east ≡ quad_at (S.content squares.now) 0 upper.now lower.now (column + 1)) × (r.east < 16)) }
-    ensures north { IfSome result (λ r. IsPast upper.now r.north (2 * column + 3)) }
-    ensures south { IfSome result (λ r. IsPast lower.now r.south (2 * column + 3)) }
-{
-    let second = 2 * column + 1;
-    let ne = find(upper, north.index, second, blank);
-    let se = find(lower, south.index, second, blank);
-    let west = two_cells(squares, north.square, ne.square, south.square, se.square)?;
-    let nw = find(upper, ne.index, second + 1, blank);
-    let sw = find(lower, se.index, second + 1, blank);
-    let ne = find(upper, nw.index, second + 2, blank);
-    let se = find(lower, sw.index, second + 2, blank);
-    let east = two_cells(squares, nw.square, ne.square, sw.square, se.square)?;
-    Some(Cells {
-        west,
-        east,
-        north: ne.index,
-        south: se.index,
-    })
-}
 
 // The square of level 1 with these cells.
 fn join_two<S: Squares>(squares: &mut S, cells: u16) -> Result<Id, Kind>
@@ -121,14 +54,80 @@ fn join_four<S: Squares>(squares: &mut S, cells: u16) -> Result<Id, Kind>
     squares.join(nw, ne, sw, se)
 }
 
-// The column of squares of level 2 up to which one goes on, where its rows go on to a column of cells.
-fn next_column(column: u64, end: u64) -> u64
-    requires { 4 * column < end }
-    ensures beyond { column < result }
-    ensures within { 4 * result ≤ end + 3 }
-    ensures goes_on { (c : ℕ) → column < c → c < result → 4 * c + 3 < end }
+// A square in the columns up to `end`, east of the others.
+fn extend(spans: &mut Vec<Span>, end: u64, square: Id) -> Result<(), Kind>
+    ensures columns { OnOk result ((column : ℕ) → Covers spans.old.items column → column < end → IsExtended spans.old.items spans.new.items column end square) }
+    ensures refusals { IfErr result (λ e. e ≡ Memory) }
 {
-    (end / 4).max(column + 1)
+    if let Some(last) = spans.last_mut() {
+        if last.square == square {
+            last.end = end;
+            return Ok(());
+        }
+    }
+    spans.push(Span { end, square })?;
+    Ok(())
+}
+
+// A square of level 2 of four rows in the columns up to `end`, east of the others.
+fn push_square<S: Squares>(
+    squares: &mut S,
+    spans: &mut Vec<Span>,
+    upper: Words,
+    lower: Words,
+    square: u64,
+    end: u64,
+) -> Result<(), Kind>
+    requires { square < 16 }
+    ensures filled { OnOk result ((want : ℕ → Tree) (column : ℕ) → FilledTo (S.knows squares.old) (S.content squares.old) want spans.old.items column → column < end → ((c : ℕ) → column ≤ c → c < end → want c ≡ four (cells_at upper lower square)) → FilledTo (S.knows squares.new) (S.content squares.new) want spans.new.items end) }
+    ensures keeps { (q : IdValue) → S.knows squares.old q → S.knows squares.new q × (S.content squares.new q ≡ S.content squares.old q) }
+    ensures stays { (t : Tree) → Contains (S.stored squares.old) t → Contains (S.stored squares.new) t }
+    ensures most { S.most squares.new ≡ S.most squares.old }
+    ensures refusals { IfErr result (λ e. (e ≡ Full) ⊎ (e ≡ Memory)) }
+    ensures full { result ≡ Err Full → length (S.stored squares.new) ≡ S.most squares.new }
+    ensures needed { result ≡ Err Full → SomePart (S.needs_node squares.new) (four (cells_at upper lower square)) }
+{
+    let id = join_four(squares, cells_of(upper, lower, square))?;
+    extend(spans, end, id)
+}
+
+// The squares of level 2 of 64 columns, and the block of columns up to which they go on, where the rows go on to a column of cells.
+fn push_rows<S: Squares>(
+    squares: &mut S,
+    spans: &mut Vec<Span>,
+    upper: Words,
+    lower: Words,
+    block: u64,
+    end: u64,
+) -> Result<u64, Kind>
+    requires column { 64 * block < end }
+    requires within { end ≤ 2 ^ MAX_LEVEL }
+    ensures beyond { IfOk result (λ next. block < next) }
+    ensures within { IfOk result (λ next. 64 * next ≤ 2 ^ MAX_LEVEL) }
+    ensures filled { IfOk result (λ next. (want : ℕ → Tree) → FilledTo (S.knows squares.old) (S.content squares.old) want spans.old.items (16 * block) → ((i : ℕ) → i < 16 → want (16 * block + i) ≡ four (cells_at upper lower i)) → ((c : ℕ) → 16 * block < c → 4 * c + 3 < end → want c ≡ want (16 * block)) → FilledTo (S.knows squares.new) (S.content squares.new) want spans.new.items (16 * next)) }
+    ensures keeps { (q : IdValue) → S.knows squares.old q → S.knows squares.new q × (S.content squares.new q ≡ S.content squares.old q) }
+    ensures stays { (t : Tree) → Contains (S.stored squares.old) t → Contains (S.stored squares.new) t }
+    ensures most { S.most squares.new ≡ S.most squares.old }
+    ensures refusals { IfErr result (λ e. (e ≡ Full) ⊎ (e ≡ Memory)) }
+    ensures full { result ≡ Err Full → length (S.stored squares.new) ≡ S.most squares.new }
+    ensures needed { result ≡ Err Full → (i : ℕ) × (i < 16) × SomePart (S.needs_node squares.new) (four (cells_at upper lower i)) }
+{
+    let next = end / 64;
+    if block < next {
+        push_square(squares, spans, upper, lower, 0, 16 * next)?;
+        return Ok(next);
+    }
+    for square in 0..16 {
+        push_square(
+            squares,
+            spans,
+            upper,
+            lower,
+            square,
+            16 * block + square + 1,
+        )?;
+    }
+    Ok(block + 1)
 }
 
 // The strip of level 2 of four rows of cells, if none of their cells has a state above 1.
@@ -165,30 +164,25 @@ pub(crate) fn band<S: Squares>(
         .max(third.len())
         .max(fourth.len());
     let mut spans = Vec::with_capacity(alloc, room)?;
-    let mut column: u64 = 0;
+    let mut block: u64 = 0;
     let mut a = find(first, 0, 0, blank);
     let mut b = find(second, 0, 0, blank);
     let mut c = find(third, 0, 0, blank);
     let mut d = find(fourth, 0, 0, blank);
     while let Some(end) = nearer(nearer(a.end, b.end), nearer(c.end, d.end)) {
-        let Some(upper) = four_columns(squares, first, second, blank, 2 * column, a, b) else {
+        let start = 64 * block;
+        let Some(upper) = two_words(squares, first, second, a.index, b.index, start) else {
             return Ok(None);
         };
-        let Some(lower) = four_columns(squares, third, fourth, blank, 2 * column, c, d) else {
+        let Some(lower) = two_words(squares, third, fourth, c.index, d.index, start) else {
             return Ok(None);
         };
-        let cells = 4096 * upper.west + 256 * upper.east + 16 * lower.west + lower.east;
-        let square = join_four(squares, cells)?;
-        column = next_column(column, end);
-        spans.push(Span {
-            end: column,
-            square,
-        })?;
-        let next = 4 * column;
-        a = find(first, upper.north, next, blank);
-        b = find(second, upper.south, next, blank);
-        c = find(third, lower.north, next, blank);
-        d = find(fourth, lower.south, next, blank);
+        block = push_rows(squares, &mut spans, upper, lower, block, end)?;
+        let next = 64 * block;
+        a = find(first, upper.north.index, next, blank);
+        b = find(second, upper.south.index, next, blank);
+        c = find(third, lower.north.index, next, blank);
+        d = find(fourth, lower.south.index, next, blank);
     }
     Ok(Some(spans))
 }

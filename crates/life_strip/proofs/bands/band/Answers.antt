@@ -1,36 +1,75 @@
-use Rattle.std.proofs.Common.{◌≡◌, ℕ, ◌+◌, ◌-◌, ◌*◌, ◌^◌, ◌<◌, ◌≤◌, arith, sym, ◌∙◌, subst}
+use Rattle.std.proofs.Common.{◌≡◌, ℕ, ◌+◌, ◌-◌, ◌*◌, ◌^◌, ◌<◌, ◌≤◌, List, arith, sym, ◌∙◌, ap, subst}
+use Rattle.std.proofs.lemmas.Result.{err_from_is_err_and}
 use Rattle.life_base.specs.declared.cell.TheConstants.{MAX_LEVEL}
 use Rattle.life_quad.specs.Refused.{SomePart}
-use Rattle.life_strip.specs.Band.{four_at}
-use Rattle.life_strip.proofs.BandLemmas.{FilledTo, FilledTo-push, FilledTo-all, FilledTo-strip, nearest, nearest-inside, nearer-none, band-square, four-same, four-blank, depth-four_at}
+use Rattle.life_quad.specs.Store.{four}
+use Rattle.life_strip.specs.declared.spans.Span.{Span}
+use Rattle.life_strip.specs.Strip.{IsStrip, IsFound}
+use Rattle.life_strip.specs.Band.{four_at, cells_at}
+use Rattle.life_strip.proofs.SpanLemmas.{strip-keeps, past_later}
+use Rattle.life_strip.proofs.NeededLemmas.{err_again}
+use Rattle.life_strip.proofs.BandLemmas.{filled-all, filled-strip, nearest, nearest-inside, nearer-none, words-square, four-same, four-blank, depth-four_at}
 use Rattle.life_strip.proofs.bands.band.Goals as goal
 
-pub returns-in_err-square-clause-needed : goal.returns-in_err-square-clause-needed
-returns-in_err-square-clause-needed g c =
+pub two_words-requires-in-Some-clause-upper : goal.two_words-requires-in-Some-clause-upper
+two_words-requires-in-Some-clause-upper g c =
+    strip-keeps {knows = g.S.Squares.knows c.args.squares.now} {knows' = g.S.Squares.knows c.loop-end.squares} {old = g.S.Squares.content c.args.squares.now} {now = g.S.Squares.content c.loop-end.squares}
+    c.loop-end.invariant.5 0 c.args.third.now c.requires.third
+
+pub two_words-requires-in-Some-clause-lower : goal.two_words-requires-in-Some-clause-lower
+two_words-requires-in-Some-clause-lower g c =
+    strip-keeps {knows = g.S.Squares.knows c.args.squares.now} {knows' = g.S.Squares.knows c.loop-end.squares} {old = g.S.Squares.content c.args.squares.now} {now = g.S.Squares.content c.loop-end.squares}
+    c.loop-end.invariant.5 0 c.args.fourth.now c.requires.fourth
+
+pub push_rows-requires-clause-within : goal.push_rows-requires-clause-within
+push_rows-requires-clause-within g c =
+    let r = c.requires in
+    let inv = c.loop-end.invariant in
+    let n = nearest c.in-Some.end c.nearer.result c.nearer-in-loop-end.result c.loop-end.a.end c.loop-end.b.end c.loop-end.c.end c.loop-end.d.end
+    c.nearer.ensures c.nearer-in-loop-end.ensures c.in-Some.ensures in
+    let inside = nearest-inside c.args.first.now c.args.second.now c.args.third.now c.args.fourth.now r.first_within r.second_within r.third_within r.fourth_within
+    (64 * c.loop-end.block) c.empty-blank.result c.loop-end.a c.loop-end.b c.loop-end.c c.loop-end.d c.in-Some.end inv.1 inv.2 inv.3 inv.4 n in
+    omega (arith, inside)
+
+pub returns-in_err-block-clause-keeps : goal.returns-in_err-block-clause-keeps
+returns-in_err-block-clause-keeps g c = λ q k. let a = c.loop-end.invariant.5 q k in let b = c.in_err-block.ensures.keeps q a.0 in (b.0, b.1 ∙ a.1)
+
+pub returns-in_err-block-clause-needed : goal.returns-in_err-block-clause-needed
+returns-in_err-block-clause-needed g c =
     let r = c.requires in
     let inv = c.loop-end.invariant in
     let K = g.S.Squares.knows in
     let C = g.S.Squares.content in
+    let old = c.args.squares.now in
+    let now = c.loop-end.squares in
     let n = nearest c.in-Some.end c.nearer.result c.nearer-in-loop-end.result c.loop-end.a.end c.loop-end.b.end c.loop-end.c.end c.loop-end.d.end
     c.nearer.ensures c.nearer-in-loop-end.ensures c.in-Some.ensures in
-    let i = nearest-inside c.args.first.now c.args.second.now c.args.third.now c.args.fourth.now r.first_within r.second_within r.third_within r.fourth_within
-    (4 * c.loop-end.column) c.empty-blank.result c.loop-end.a c.loop-end.b c.loop-end.c c.loop-end.d c.in-Some.end inv.1 inv.2 inv.3 inv.4 n in
-    let u = c.in-Some-four_columns.ensures in
-    let l = c.in-Some-four_columns-2.ensures in
-    let wanted = band-square {knows = K c.args.squares.now} {knows' = K c.loop-end.squares} {old = C c.args.squares.now} {now = C c.loop-end.squares} inv.5
-    c.args.first.now c.args.second.now c.args.third.now c.args.fourth.now r.first r.second r.third r.fourth c.loop-end.column
-    c.in-Some-four_columns.upper.west c.in-Some-four_columns.upper.east c.in-Some-four_columns-2.lower.west c.in-Some-four_columns-2.lower.east u.west u.east l.west l.east in
-    λ e. (c.loop-end.column, omega (arith, i), subst (SomePart (g.S.Squares.needs_node c.join_four.new.squares)) wanted c.in_err-square.ensures.needed)
+    let inside = nearest-inside c.args.first.now c.args.second.now c.args.third.now c.args.fourth.now r.first_within r.second_within r.third_within r.fourth_within
+    (64 * c.loop-end.block) c.empty-blank.result c.loop-end.a c.loop-end.b c.loop-end.c c.loop-end.d c.in-Some.end inv.1 inv.2 inv.3 inv.4 n in
+    let keep = λ (z : List Span) (s : IsStrip (K old) (C old) 0 z). strip-keeps {knows = K old} {knows' = K now} {old = C old} {now = C now} inv.5 0 z s in
+    let u = c.in-Some-two_words.ensures in
+    let l = c.in-Some-two_words-2.ensures in
+    let upper = c.in-Some-two_words.upper in
+    let lower = c.in-Some-two_words-2.lower in
+    let want = four_at (C old) c.args.first.now c.args.second.now c.args.third.now c.args.fourth.now in
+    let wanted : (i : ℕ) → i < 16 → four (cells_at upper lower i) ≡ want (16 * c.loop-end.block + i) =
+    λ i lt. words-square {knows = K old} {knows' = K now} {old = C old} {now = C now} inv.5 c.args.first.now c.args.second.now c.args.third.now c.args.fourth.now r.first r.second r.third r.fourth
+    (keep c.args.first.now r.first) (keep c.args.second.now r.second) (keep c.args.third.now r.third) (keep c.args.fourth.now r.fourth)
+    (64 * c.loop-end.block) upper lower u.north u.south l.north l.south i (16 * c.loop-end.block + i) lt (omega arith) in
+    let p = err_from_is_err_and c.from_residual-in_err-block.result c.from_residual-in_err-block.ensures.1 in
+    rw (p.1, p.2)
+    (λ e. let some = c.in_err-block.ensures.needed (err_again e) in
+    (16 * c.loop-end.block + some.0, omega (arith, inside, some.1), subst (SomePart (g.S.Squares.needs_node c.push_rows.new.squares)) (wanted some.0 some.1) some.2))
 
-pub overflow_mul-next : goal.overflow_mul-next
-overflow_mul-next g c =
-    let r = c.requires in
-    let inv = c.loop-end.invariant in
-    let n = nearest c.in-Some.end c.nearer.result c.nearer-in-loop-end.result c.loop-end.a.end c.loop-end.b.end c.loop-end.c.end c.loop-end.d.end
-    c.nearer.ensures c.nearer-in-loop-end.ensures c.in-Some.ensures in
-    let i = nearest-inside c.args.first.now c.args.second.now c.args.third.now c.args.fourth.now r.first_within r.second_within r.third_within r.fourth_within
-    (4 * c.loop-end.column) c.empty-blank.result c.loop-end.a c.loop-end.b c.loop-end.c c.loop-end.d c.in-Some.end inv.1 inv.2 inv.3 inv.4 n in
-    omega (arith, i, c.next_column-column.ensures.within)
+pub find-c-requires-in-Some : goal.find-c-requires-in-Some
+find-c-requires-in-Some g c =
+    let next = c.in_ok-block.ensures.beyond in
+    record { past = past_later c.args.third.now c.in-Some-two_words-2.lower.north.index (64 * c.loop-end.block + 64) (64 * c.in_ok-block.block) c.in-Some-two_words-2.ensures.north_past (omega (arith, next)) }
+
+pub find-d-requires-in-Some : goal.find-d-requires-in-Some
+find-d-requires-in-Some g c =
+    let next = c.in_ok-block.ensures.beyond in
+    record { past = past_later c.args.fourth.now c.in-Some-two_words-2.lower.south.index (64 * c.loop-end.block + 64) (64 * c.in_ok-block.block) c.in-Some-two_words-2.ensures.south_past (omega (arith, next)) }
 
 pub loop-end-preserved : goal.loop-end-preserved
 loop-end-preserved g c =
@@ -40,42 +79,46 @@ loop-end-preserved g c =
     let C = g.S.Squares.content in
     let old = c.args.squares.now in
     let now = c.loop-end.squares in
-    let new = c.join_four.new.squares in
-    let h = c.in_ok-square.ensures in
-    let next = c.next_column-column.ensures in
     let n = nearest c.in-Some.end c.nearer.result c.nearer-in-loop-end.result c.loop-end.a.end c.loop-end.b.end c.loop-end.c.end c.loop-end.d.end
     c.nearer.ensures c.nearer-in-loop-end.ensures c.in-Some.ensures in
-    let i = nearest-inside c.args.first.now c.args.second.now c.args.third.now c.args.fourth.now r.first_within r.second_within r.third_within r.fourth_within
-    (4 * c.loop-end.column) c.empty-blank.result c.loop-end.a c.loop-end.b c.loop-end.c c.loop-end.d c.in-Some.end inv.1 inv.2 inv.3 inv.4 n in
-    let u = c.in-Some-four_columns.ensures in
-    let l = c.in-Some-four_columns-2.ensures in
-    let wanted = band-square {knows = K c.args.squares.now} {knows' = K c.loop-end.squares} {old = C c.args.squares.now} {now = C c.loop-end.squares} inv.5
-    c.args.first.now c.args.second.now c.args.third.now c.args.fourth.now r.first r.second r.third r.fourth c.loop-end.column
-    c.in-Some-four_columns.upper.west c.in-Some-four_columns.upper.east c.in-Some-four_columns-2.lower.west c.in-Some-four_columns-2.lower.east u.west u.east l.west l.east in
-    let within : c.next_column-column.result ≤ 2 ^ (MAX_LEVEL - 2) = omega (arith, i, next.within) in
+    let inside = nearest-inside c.args.first.now c.args.second.now c.args.third.now c.args.fourth.now r.first_within r.second_within r.third_within r.fourth_within
+    (64 * c.loop-end.block) c.empty-blank.result c.loop-end.a c.loop-end.b c.loop-end.c c.loop-end.d c.in-Some.end inv.1 inv.2 inv.3 inv.4 n in
+    let keep = λ (z : List Span) (s : IsStrip (K old) (C old) 0 z). strip-keeps {knows = K old} {knows' = K now} {old = C old} {now = C now} inv.5 0 z s in
+    let u = c.in-Some-two_words.ensures in
+    let l = c.in-Some-two_words-2.ensures in
+    let upper = c.in-Some-two_words.upper in
+    let lower = c.in-Some-two_words-2.lower in
     let want = four_at (C old) c.args.first.now c.args.second.now c.args.third.now c.args.fourth.now in
-    let same : (x : ℕ) → c.loop-end.column < x → x < c.next_column-column.result → want x ≡ want c.loop-end.column =
-    λ x lo hi. let on = next.goes_on x lo hi in
+    let wanted : (i : ℕ) → i < 16 → four (cells_at upper lower i) ≡ want (16 * c.loop-end.block + i) =
+    λ i lt. words-square {knows = K old} {knows' = K now} {old = C old} {now = C now} inv.5 c.args.first.now c.args.second.now c.args.third.now c.args.fourth.now r.first r.second r.third r.fourth
+    (keep c.args.first.now r.first) (keep c.args.second.now r.second) (keep c.args.third.now r.third) (keep c.args.fourth.now r.fourth)
+    (64 * c.loop-end.block) upper lower u.north u.south l.north l.south i (16 * c.loop-end.block + i) lt (omega arith) in
+    let at : 64 * c.loop-end.block ≡ 4 * (16 * c.loop-end.block) = omega arith in
+    let fa = subst (λ k. IsFound c.args.first.now k c.empty-blank.result c.loop-end.a) at inv.1 in
+    let fb = subst (λ k. IsFound c.args.second.now k c.empty-blank.result c.loop-end.b) at inv.2 in
+    let fc = subst (λ k. IsFound c.args.third.now k c.empty-blank.result c.loop-end.c) at inv.3 in
+    let fd = subst (λ k. IsFound c.args.fourth.now k c.empty-blank.result c.loop-end.d) at inv.4 in
+    let h = c.in_ok-block.ensures in
+    let on : (x : ℕ) → 16 * c.loop-end.block < x → 4 * x + 3 < c.in-Some.end → want x ≡ want (16 * c.loop-end.block) =
+    λ x lo before.
     four-same (K old) (C old) c.empty-blank.result c.empty-blank.ensures.known c.empty-blank.ensures.square c.args.first.now c.args.second.now c.args.third.now c.args.fourth.now r.first r.second r.third r.fourth
-    c.loop-end.column x c.loop-end.a c.loop-end.b c.loop-end.c c.loop-end.d inv.1 inv.2 inv.3 inv.4 lo (n.first (4 * x + 3) on) (n.second (4 * x + 3) on) (n.third (4 * x + 3) on) (n.fourth (4 * x + 3) on) in
-    let pushed = FilledTo-push {knows = K now} {knows' = K new} {now = C now} {now' = C new} 2 want c.loop-end.spans.items c.loop-end.column c.next_column-column.result c.in_ok-square.square
-    inv.0 h.keeps h.known (h.square ∙ wanted) next.beyond within same in (
-      subst (λ z. FilledTo (K new) (C new) 2 want z c.next_column-column.result) (sym c.in_ok-push.ensures.items) pushed,
+    (16 * c.loop-end.block) x c.loop-end.a c.loop-end.b c.loop-end.c c.loop-end.d fa fb fc fd lo (n.first (4 * x + 3) before) (n.second (4 * x + 3) before) (n.third (4 * x + 3) before) (n.fourth (4 * x + 3) before) in (
+      h.filled want inv.0 (λ i lt. sym (wanted i lt)) on,
       c.find-a-in-Some.ensures,
       c.find-b-in-Some.ensures,
       c.find-c-in-Some.ensures,
       c.find-d-in-Some.ensures,
       (λ q k. let a = inv.5 q k in let b = h.keeps q a.0 in (b.0, b.1 ∙ a.1)),
       h.most ∙ inv.6,
-      within,
+      h.within,
       (λ t m. h.stays t (inv.8 t m)),
     )
 
 pub returns-clause-strip : goal.returns-clause-strip
 returns-clause-strip g c =
     let C = g.S.Squares.content in
-    FilledTo-strip (g.S.Squares.knows c.loop-end.squares) (C c.loop-end.squares) 2 (four_at (C c.args.squares.now) c.args.first.now c.args.second.now c.args.third.now c.args.fourth.now)
-    c.loop-end.spans.items c.loop-end.column c.loop-end.invariant.0
+    filled-strip (g.S.Squares.knows c.loop-end.squares) (C c.loop-end.squares) (four_at (C c.args.squares.now) c.args.first.now c.args.second.now c.args.third.now c.args.fourth.now)
+    c.loop-end.spans.items (16 * c.loop-end.block) c.loop-end.invariant.0
     (depth-four_at (g.S.Squares.knows c.args.squares.now) (C c.args.squares.now) c.args.first.now c.args.second.now c.args.third.now c.args.fourth.now c.requires.first)
 
 pub returns-clause-squares : goal.returns-clause-squares
@@ -85,7 +128,12 @@ returns-clause-squares g c =
     let over = c.in_default.ensures in
     let north = nearer-none c.nearer.result c.loop-end.a.end c.loop-end.b.end c.nearer.ensures over.0 in
     let south = nearer-none c.nearer-in-loop-end.result c.loop-end.c.end c.loop-end.d.end c.nearer-in-loop-end.ensures over.1 in
-    FilledTo-all (g.S.Squares.knows c.loop-end.squares) (C c.loop-end.squares) 2 (four_at (C c.args.squares.now) c.args.first.now c.args.second.now c.args.third.now c.args.fourth.now)
-    c.loop-end.spans.items c.loop-end.column inv.0
-    (four-blank (C c.args.squares.now) c.loop-end.column c.empty-blank.result c.args.first.now c.args.second.now c.args.third.now c.args.fourth.now
-    c.loop-end.a c.loop-end.b c.loop-end.c c.loop-end.d inv.1 inv.2 inv.3 inv.4 north.0 north.1 south.0 south.1)
+    let at : 64 * c.loop-end.block ≡ 4 * (16 * c.loop-end.block) = omega arith in
+    let fa = subst (λ k. IsFound c.args.first.now k c.empty-blank.result c.loop-end.a) at inv.1 in
+    let fb = subst (λ k. IsFound c.args.second.now k c.empty-blank.result c.loop-end.b) at inv.2 in
+    let fc = subst (λ k. IsFound c.args.third.now k c.empty-blank.result c.loop-end.c) at inv.3 in
+    let fd = subst (λ k. IsFound c.args.fourth.now k c.empty-blank.result c.loop-end.d) at inv.4 in
+    filled-all (g.S.Squares.knows c.loop-end.squares) (C c.loop-end.squares) (four_at (C c.args.squares.now) c.args.first.now c.args.second.now c.args.third.now c.args.fourth.now)
+    c.loop-end.spans.items (16 * c.loop-end.block) inv.0
+    (four-blank (C c.args.squares.now) (16 * c.loop-end.block) c.empty-blank.result c.args.first.now c.args.second.now c.args.third.now c.args.fourth.now
+    c.loop-end.a c.loop-end.b c.loop-end.c c.loop-end.d fa fb fc fd north.0 north.1 south.0 south.1)

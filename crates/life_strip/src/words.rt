@@ -1,0 +1,130 @@
+//! Rows of cells of the states 0 and 1, 64 columns at a time: a word has a bit for each column, and that of the westernmost is the highest.
+ghost use Rattle.std.specs.Prelude.{◌≡◌, ℕ, ◌+◌, ◌-◌, ◌*◌, ◌/◌, ◌%◌, ◌^◌, ◌<◌, ◌≤◌, IfSome};
+ghost use Rattle.life_base.specs.Tree.{point};
+ghost use Rattle.life_strip.specs.Strip.{IsStrip, IsPast};
+ghost use Rattle.life_strip.specs.Band.{cell_in, IsWord, nibble_of, west_at, east_at, cells_at};
+
+use crate::spans::Span;
+use life_base::MAX_LEVEL;
+use life_quad::{Id, Squares};
+
+// The cells of 64 columns of a row, and where the last of these columns stands.
+#[derive(Clone, Copy)]
+pub(crate) struct Word {
+    pub(crate) cells: u64,
+    pub(crate) index: usize,
+}
+
+// The words of two rows, one below the other.
+#[derive(Clone, Copy)]
+pub(crate) struct Words {
+    pub(crate) north: Word,
+    pub(crate) south: Word,
+}
+
+// The state of a cell, if it is 0 or 1.
+fn bit<S: Squares>(squares: &S, cell: Id) -> Option<u64>
+    requires { S.knows squares.now cell }
+    ensures square { IfSome result (λ b. S.content squares.now cell ≡ point b) }
+    ensures small { IfSome result (λ b. b ≤ 1) }
+{
+    let state = squares.state(cell)?;
+    if state > 1 {
+        return None;
+    }
+    Some(u64::from(state))
+}
+
+// The bits of all columns but the first ones.
+fn bits_after(columns: u64) -> u64
+    requires { columns < 64 }
+    ensures { result + 1 ≡ 2 ^ (64 - columns) }
+{
+    u64::MAX >> columns
+}
+
+// The word of a row that begins in a column, if none of its cells has a state above 1.
+pub(crate) fn read_word<S: Squares>(
+    squares: &S,
+    row: &[Span],
+    from: usize,
+    start: u64,
+) -> Option<Word>
+    requires start { start ≤ 2 ^ MAX_LEVEL }
+    requires row { IsStrip (S.knows squares.now) (S.content squares.now) 0 row.now }
+    requires past { IsPast row.now from start }
+    ensures cells { IfSome result (λ w. IsWord (cell_in (S.content squares.now) row.now) start w.cells) }
+    ensures past { IfSome result (λ w. IsPast row.now w.index (start + 64)) }
+{
+    let mut cells = 0;
+    let mut index = from;
+    let mut column = start;
+    let mut rest = u64::MAX;
+    while index < row.len() && row[index].end < start + 64 {
+        let span = row[index];
+        if column < span.end {
+            let after = bits_after(span.end - start);
+            cells += bit(squares, span.square)? * (rest - after);
+            column = span.end;
+            rest = after;
+        }
+        index += 1;
+    }
+    if index < row.len() {
+        cells += bit(squares, row[index].square)? * rest;
+    }
+    Some(Word { cells, index })
+}
+
+// The words of two rows.
+pub(crate) fn two_words<S: Squares>(
+    squares: &S,
+    upper: &[Span],
+    lower: &[Span],
+    north: usize,
+    south: usize,
+    start: u64,
+) -> Option<Words>
+    requires start { start ≤ 2 ^ MAX_LEVEL }
+    requires upper { IsStrip (S.knows squares.now) (S.content squares.now) 0 upper.now }
+    requires lower { IsStrip (S.knows squares.now) (S.content squares.now) 0 lower.now }
+    requires north { IsPast upper.now north start }
+    requires south { IsPast lower.now south start }
+    ensures north { IfSome result (λ r. IsWord (cell_in (S.content squares.now) upper.now) start r.north.cells) }
+    ensures south { IfSome result (λ r. IsWord (cell_in (S.content squares.now) lower.now) start r.south.cells) }
+    ensures north_past { IfSome result (λ r. IsPast upper.now r.north.index (start + 64)) }
+    ensures south_past { IfSome result (λ r. IsPast lower.now r.south.index (start + 64)) }
+{
+    let north = read_word(squares, upper, north, start)?;
+    let south = read_word(squares, lower, south, start)?;
+    Some(Words { north, south })
+}
+
+// The four cells of a word in the columns of a square of level 2.
+fn nibble(word: u64, square: u64) -> u16
+    requires { square < 16 }
+    ensures { result ≡ nibble_of word square }
+{
+    ((word >> (60 - 4 * square)) % 16) as u16
+}
+
+// The cells of two rows, each the western and the eastern square of level 1.
+fn halves(rows: Words, square: u64) -> (u16, u16)
+    requires { square < 16 }
+    ensures west { result.0 ≡ west_at rows square }
+    ensures east { result.1 ≡ east_at rows square }
+{
+    let north = nibble(rows.north.cells, square);
+    let south = nibble(rows.south.cells, square);
+    (north / 4 * 4 + south / 4, north % 4 * 4 + south % 4)
+}
+
+// The cells of a square of level 2, as `Squares::find_small` takes them.
+pub(crate) fn cells_of(upper: Words, lower: Words, square: u64) -> u16
+    requires { square < 16 }
+    ensures { result ≡ cells_at upper lower square }
+{
+    let (nw, ne) = halves(upper, square);
+    let (sw, se) = halves(lower, square);
+    4096 * nw + 256 * ne + 16 * sw + se
+}
