@@ -9,27 +9,50 @@ SQUARES = ctypes.c_uint64(1 << 31)
 NO_ROOM = 64
 
 
+class Stream(ctypes.Structure):
+    """A file that comes in pieces."""
+
+    _fields_ = [("is_open", ctypes.c_uint32), ("session", ctypes.c_void_p)]
+
+
 class Refused(Exception):
     pass
 
 
 def name_of(status):
     name, needed = ctypes.create_string_buffer(32), ctypes.c_size_t()
-    library.golly_canon_status_name(status, name, ctypes.c_size_t(32), ctypes.byref(needed))
+    library.golly_canon_status_name(ctypes.c_uint32(status), name, ctypes.c_size_t(32), ctypes.byref(needed))
     return name.raw[: needed.value].decode()
 
 
-def canonical(file, room=1 << 16):
-    """The canonical text of the bytes of a file."""
-    text, needed, line = ctypes.create_string_buffer(room), ctypes.c_size_t(), ctypes.c_uint64()
-    status = library.golly_canon_canon(
-        file, ctypes.c_size_t(len(file)), SQUARES, text, ctypes.c_size_t(room), ctypes.byref(needed), ctypes.byref(line)
-    )
+def finished(stream, text, needed, line):
+    return library.golly_canon_finish(stream, text, ctypes.c_size_t(len(text)), ctypes.byref(needed), ctypes.byref(line))
+
+
+def text_of(stream, file):
+    """The canonical text of an open file, which is read in pieces."""
+    needed, line = ctypes.c_size_t(), ctypes.c_uint64()
+    status = library.golly_canon_open_canon(stream, SQUARES)
+    while not status and (piece := file.read(1 << 16)):
+        status = library.golly_canon_feed(stream, piece, ctypes.c_size_t(len(piece)), ctypes.byref(line))
+    if not status:
+        status = finished(stream, ctypes.create_string_buffer(0), needed, line)
     if status == NO_ROOM:
-        return canonical(file, needed.value)
+        text = ctypes.create_string_buffer(needed.value)
+        status = finished(stream, text, needed, line)
     if status:
         raise Refused(f"line {line.value}: {name_of(status)}" if line.value else name_of(status))
-    return text.raw[: needed.value]
+    return text.raw
+
+
+def canonical(path):
+    """The canonical text of a file."""
+    stream = Stream()
+    try:
+        with open(path, "rb") as file:
+            return text_of(ctypes.byref(stream), file)
+    finally:
+        library.golly_canon_close(ctypes.byref(stream))
 
 
 def main(folder):
@@ -37,7 +60,7 @@ def main(folder):
     known = {}
     for path in sorted(it for it in pathlib.Path(folder).rglob("*") if it.is_file()):
         try:
-            text = canonical(path.read_bytes())
+            text = canonical(path)
         except (OSError, Refused) as why:
             print(f"{path}: {why}", file=sys.stderr)
             continue

@@ -1,8 +1,9 @@
 /* golly_canon: one canonical text for a cellular-automaton pattern, as calls of a library.
  *
- * A file is bytes in extended RLE or in macrocell. Each call reads the bytes that it is handed, answers a status, and keeps nothing: there is
- * no state behind the calls, so threads may call at the same time, each on memory of its own. What the calls answer is proved for any bytes
- * (docs/PROOFS.md of the project says what). The proof takes for granted what stands here under "The caller guarantees".
+ * A file is bytes in extended RLE or in macrocell. A call reads the bytes that it is handed, answers a status, and keeps nothing, but for the calls
+ * on a stream, which keep in it what came of its file so far. There is no other state behind the calls, so threads may call at the same time, each on
+ * memory and streams of its own. What the calls answer is proved for any bytes (docs/PROOFS.md of the project says what). The proof takes for granted
+ * what stands here under "The caller guarantees".
  *
  *     static unsigned char text[4096];
  *     size_t needed;
@@ -25,7 +26,7 @@
  *    the type is. No pointer is null or dangling, also where the number of bytes is 0: any address of the caller's own memory serves there.
  *  - No number of bytes is more than PTRDIFF_MAX.
  *  - What is read has been written before, the memory at `out` too: set it once, as by calloc or memset.
- *  - The memory that a call writes (`out`, `needed`, `line`, `is_same`, `in_table`) overlaps no other memory that it is handed.
+ *  - The memory that a call writes (`out`, `needed`, `line`, `is_same`, `in_table`, `stream`) overlaps no other memory that it is handed.
  *  - Until the call returns, no other thread writes what it reads, or touches what it writes.
  *  - malloc, realloc and free are those of one allocator, which aligns a block to each power of two up to 16 that divides its size.
  *  - No call is made from a signal handler, or from the child that a process with threads has forked.
@@ -72,6 +73,9 @@ enum {
     /* a store, and memory */
     GOLLY_CANON_FULL = 21,
     GOLLY_CANON_MEMORY = 22,
+
+    /* a stream that is closed, or a piece for one that has given its text */
+    GOLLY_CANON_SPENT = 23,
 
     /* a rule table */
     GOLLY_CANON_NO_RULE_LINE = 31,
@@ -137,6 +141,53 @@ uint32_t golly_canon_step_by_table(const unsigned char *bytes, size_t length,
 uint32_t golly_canon_same(const unsigned char *first, size_t first_length,
                           const unsigned char *second, size_t second_length, uint64_t limit,
                           uint32_t *is_same, uint64_t *line);
+
+/* A stream reads a file that comes in pieces, cut anywhere: open it, feed it each piece in turn, finish it, close it. The file need not be held.
+ *
+ *     golly_canon_stream stream = {0};
+ *     uint32_t status = golly_canon_open_canon(&stream, GOLLY_CANON_SQUARES);
+ *     while (status == GOLLY_CANON_OK && (length = fread(piece, 1, sizeof piece, file)) > 0)
+ *         status = golly_canon_feed(&stream, piece, length, &line);
+ *     if (status == GOLLY_CANON_OK)
+ *         status = golly_canon_finish(&stream, text, sizeof text, &needed, &line);
+ *     golly_canon_close(&stream);
+ *
+ * While pieces come, the stream keeps the squares of the pattern, and the bytes of the line that has not ended; behind the end, the text or the
+ * fault. The struct is the caller's memory, and what its members hold is the library's. A stream whose members are 0 is closed. An open one also has
+ * memory that the library took, and gives back when the stream is closed.
+ * The caller guarantees, of `stream` in each call below: its members are 0, or as the last call on it left them, and no copy of them that is older
+ * than that is ever used; an open stream is used by the thread that opened it alone. */
+typedef struct golly_canon_stream {
+    uint32_t is_open;
+    void *session;
+} golly_canon_stream;
+
+/* Opens a stream for a file that begins. One that is open is closed first. The name says what golly_canon_finish gives: what golly_canon_canon,
+ * golly_canon_to_rle, golly_canon_show or golly_canon_step gives of a whole file, with this `limit`. The status is OK, or Memory, and then the stream
+ * is closed.
+ * The caller guarantees what is said of `stream`. */
+uint32_t golly_canon_open_canon(golly_canon_stream *stream, uint64_t limit);
+uint32_t golly_canon_open_to_rle(golly_canon_stream *stream, uint64_t limit);
+uint32_t golly_canon_open_show(golly_canon_stream *stream, uint64_t limit);
+uint32_t golly_canon_open_step(golly_canon_stream *stream, uint64_t limit);
+
+/* Takes the next piece of the file, of any length, also 0. The status is OK, or the number of a kind of fault, with its line of the file in `*line`,
+ * or 0. The fault of a line is told by the call that brings the line feed behind it, or the byte that makes the line too long. A stream that has told
+ * a fault stays refused: each further golly_canon_feed or golly_canon_finish tells the same fault and line. Spent is told, with 0 in `*line`, where
+ * the stream is closed, or has ended with a text, given or without room; it then stays as it is.
+ * The caller guarantees what is said of `stream`; `length` bytes to read at `piece`; `*line` to write, apart from those and from the stream. */
+uint32_t golly_canon_feed(golly_canon_stream *stream, const unsigned char *piece, size_t length, uint64_t *line);
+
+/* Ends the file, and answers what the call on a whole file answers of all the bytes that were fed: status, text, `*needed` and `*line`. A last line
+ * without a line feed is read here. Called again it gives the same text, or tells the same fault, and computes nothing anew: behind NoRoom hand over
+ * more memory. A closed stream is Spent, with 0 in `*needed` and `*line`.
+ * The caller guarantees what is said of `stream`; `room` bytes to write at `out`, `*needed` and `*line`, apart from each other and from the
+ * stream. */
+uint32_t golly_canon_finish(golly_canon_stream *stream, unsigned char *out, size_t room, size_t *needed, uint64_t *line);
+
+/* Closes a stream, finished or not, and gives its memory back. A closed one stays closed.
+ * The caller guarantees what is said of `stream`. */
+void golly_canon_close(golly_canon_stream *stream);
 
 /* The name of a status, as `BadChild` of GOLLY_CANON_BAD_CHILD, `OK` and `NoRoom`; no byte for a number that no kind has. The names are
  * those that the program prints. None has more than 23 bytes.

@@ -126,7 +126,7 @@ class Requests:
                 found = subprocess.run([self.program, *run.words], check=False, **how)
             except subprocess.TimeoutExpired:
                 return Answer(None, b"", b"it did not end"), 1, 1
-            requests, refused = map(int, (report.read() or b"0 0").split())
+            requests, refused, _ = map(int, (report.read() or b"0 0 0").split())
         return Answer(found.returncode, found.stdout, found.stderr), requests, refused
 
     def total(self, run):

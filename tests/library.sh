@@ -1,7 +1,7 @@
 #!/bin/sh
 # The library for C. Its header's promises, checked in C; each pattern of examples/, and files that are refused, given by the library as by the
-# program, with a checker of memory where valgrind is there, and with each request for memory refused in turn; the shared object, from Python; the
-# programs of examples/; and what `make install` puts in place. It builds the library of crates/golly_canon_c first.
+# program, whole and in pieces, with a checker of memory where valgrind is there, and with each request for memory refused in turn; the shared
+# object, from Python; the programs of examples/; and what `make install` puts in place. It builds the library of crates/golly_canon_c first.
 # It needs a C compiler, python3 and pkg-config, and the toolchain's rt.
 
 usage="usage: tests/library.sh PROGRAM"
@@ -76,7 +76,7 @@ sed -n 's/^    \(GOLLY_CANON_[A-Z_]*\) = [0-9]*,*$/\1/p' "$top/include/golly_can
 verdict "the header's numbers have their names" "$(awk '
     { name = $2; gsub(/[A-Z]/, "_&", name); name = "GOLLY_CANON" toupper(name); if ($2 == "OK") name = "GOLLY_CANON_OK" }
     name != $1 { print " " $0 }
-    END { if (NR != 39) print " " NR " numbers" }' told 2>&1)"
+    END { if (NR != 40) print " " NR " numbers" }' told 2>&1)"
 verdict "the header serves C++" "$(printf '#include <golly_canon.h>\nint main() { return 0; }\n' > header.cpp
     ! command -v c++ > /dev/null || c++ -Wall -Wextra -Werror -I"$top/include" -c header.cpp -o header.o 2>&1)"
 
@@ -85,15 +85,15 @@ verdict "the header serves C++" "$(printf '#include <golly_canon.h>\nint main() 
 built calls tests/c/calls.c built/libgolly_canon.a
 
 # Runs the program and the library on the same words, and tells where they differ.
-compared() { # WORD-OF-CALLS WORDS-OF-PROGRAM.. -- FILES..
-    word=$1
+compared() { # WORDS-OF-CALLS WORDS-OF-PROGRAM FILES..
+    words=$1
     "$program" $2 > wanted_out 2> wanted_err
     wanted_status=$?
     shift 2
-    ./calls "$word" "$@" > out 2> err
+    ./calls $words "$@" > out 2> err
     status=$?
     if [ "$status" != "$wanted_status" ] || ! cmp -s out wanted_out || ! cmp -s err wanted_err; then
-        echo " $word $*: status $status and not $wanted_status, $(diff out wanted_out | head -n 3) $(diff err wanted_err | head -n 3);"
+        echo " $words $*: status $status and not $wanted_status, $(diff out wanted_out | head -n 3) $(diff err wanted_err | head -n 3);"
     fi
 }
 
@@ -122,10 +122,24 @@ for file in files/*; do
 done
 verdict "the library does what the program does, on $count pairs of files" "$problems"
 
+problems=
+count=0
+for file in files/*; do
+    for size in 1 7 65536; do
+        problems="$problems$(compared "pieces $size canon" "canon $file" "$file")$(compared "pieces $size show" "show $file" "$file")"
+        problems="$problems$(compared "pieces $size rle" "convert $file --to rle" "$file")$(compared "pieces $size step" "step $file" "$file")"
+        count=$((count + 1))
+    done
+done
+verdict "streams do what the program does, on $count files in pieces" "$problems"
+
 if command -v valgrind > /dev/null; then
     problems=
     for words in "canon files/gosper_glider_gun.mc" "show files/gosper_glider_gun.mc" "rle files/gosper_glider_gun.mc" "step files/glider.rle" \
-        "step files/wire.rle files/WireWorld.rule" "step files/wire.rle files/broken.rule" "same files/glider.rle files/glider.mc" "canon files/child.mc"; do
+        "step files/wire.rle files/WireWorld.rule" "step files/wire.rle files/broken.rule" "same files/glider.rle files/glider.mc" \
+        "canon files/child.mc" \
+        "pieces 1 canon files/gosper_glider_gun.mc" "pieces 7 show files/gosper_glider_gun.mc" "pieces 65536 rle files/gosper_glider_gun.mc" \
+        "pieces 7 step files/glider.rle" "pieces 1 canon files/child.mc" "pieces 7 step files/wire.rle" "pieces 1 show files/empty.rle"; do
         valgrind -q --error-exitcode=9 --leak-check=full --show-leak-kinds=all ./calls $words > out 2> err
         [ $? != 9 ] || problems="$problems $words: $(head -n 5 err);"
     done
@@ -139,21 +153,31 @@ each_request() { # WORDS..
     ./calls "$@" > wanted_out 2> wanted_err
     wanted_status=$?
     problems=
-    FIRST=0 LAST=0 REPORT=report LD_PRELOAD=./refuse.so ./calls "$@" > out 2> err
+    requests_refused 0 0 "$@"
     read -r total _ < report
-    [ "$total" -gt 3 ] || problems=" only $total requests;"
+    [ "$total" -gt 3 ] || problems="$problems only $total requests;"
     request=1
     while [ $request -le "$total" ]; do
         for last in $request 1000000000; do
-            FIRST=$request LAST=$last REPORT=report LD_PRELOAD=./refuse.so timeout 10 ./calls "$@" > out 2> err
-            status=$?
-            if [ "$status" != "$wanted_status" ] || ! cmp -s out wanted_out || ! cmp -s err wanted_err; then
-                [ "$status" = 4 ] && [ "$(cat err)" = Memory ] && [ ! -s out ] || problems="$problems request $request: status $status;"
-            fi
+            requests_refused $request $last "$@"
         done
         request=$((request + 1))
     done
     verdict "$*: each of $total requests refused" "$problems"
+}
+
+# Refuses some requests of a run, which then does as ever, or answers Memory. A stream gives all of its memory back.
+requests_refused() { # FIRST LAST WORDS..
+    first=$1
+    last=$2
+    shift 2
+    : > report
+    timeout 10 env FIRST="$first" LAST="$last" REPORT=report LD_PRELOAD=./refuse.so ./calls "$@" > out 2> err
+    status=$?
+    if [ "$status" != "$wanted_status" ] || ! cmp -s out wanted_out || ! cmp -s err wanted_err; then
+        [ "$first" -gt 0 ] && [ "$status" = 4 ] && [ "$(cat err)" = Memory ] && [ ! -s out ] || problems="$problems request $first: status $status;"
+    fi
+    [ "$1" != pieces ] || [ "$(cut -d ' ' -f 3 report)" = 0 ] || problems="$problems request $first: memory is held;"
 }
 each_request canon files/glider.rle
 each_request show files/glider.rle
@@ -162,6 +186,13 @@ each_request step files/glider.rle
 each_request step files/wire.rle files/WireWorld.rule
 each_request same files/glider.rle files/glider.mc
 each_request canon files/child.mc
+each_request pieces 1 canon files/glider.rle
+each_request pieces 7 canon files/gosper_glider_gun.mc
+each_request pieces 7 show files/glider.rle
+each_request pieces 7 rle files/glider.mc
+each_request pieces 7 step files/glider.rle
+each_request pieces 7 canon files/child.mc
+each_request pieces 65536 step files/wire.rle
 
 # ---- what is installed, and the programs of examples/
 
@@ -178,6 +209,29 @@ verdict "examples/canon.c" "$([ "$(./canon < files/glider.rle)" = "$wanted" ] ||
 verdict "examples/canon.c refuses" "$([ "$(./canon < files/child.mc 2>&1)" = "line 4: BadChild" ] || ./canon < files/child.mc 2>&1)"
 verdict "examples/canon.py" "$([ "$(python3 -B "$top/examples/canon.py" < files/glider.rle)" = "$wanted" ] || echo another)"
 verdict "examples/canon.py refuses" "$([ "$(python3 -B "$top/examples/canon.py" < files/child.mc 2>&1)" = "line 4: BadChild" ] || echo another)"
+"$CC" -std=c11 -Wall -Wextra -Werror -o pieces "$top/examples/pieces.c" $(pkg-config --cflags --libs golly_canon) > said 2>&1
+verdict "examples/pieces.c finds the library" "$(cat said)"
+# A glider behind more comments than a piece has room for, and a soup whose text has no room in a piece either.
+awk 'BEGIN { while (line++ < 5000) print "#C a line that is passed over" }' > comments
+cat comments files/glider.rle > comments.rle
+awk 'BEGIN {
+    print "x = 0, y = 0"
+    seed = 1
+    for (row = 0; row < 500; row++) {
+        for (at = 1; at <= 200; at++) {
+            seed = (seed * 75 + 74) % 65537
+            printf "%d%s%s", seed % 9 + 1, at % 2 ? "b" : "o", at % 20 ? "" : "\n"
+        }
+        print "$"
+    }
+    print "!"
+}' > soup.rle
+verdict "examples/pieces.c of a long file" "$([ "$(./pieces < comments.rle)" = "$wanted" ] || ./pieces < comments.rle 2>&1)"
+"$program" canon soup.rle > wanted_soup
+verdict "examples/pieces.c of a long text" "$(./pieces < soup.rle 2>&1 | cmp - wanted_soup 2>&1
+    [ "$(wc -c < wanted_soup)" -gt 65536 ] || echo "a short text")"
+verdict "examples/pieces.c refuses" "$([ "$(cat comments files/zero.rle | ./pieces 2>&1)" = "line 5002: ZeroCount" ] || echo another)"
+verdict "examples/pieces.c refuses an empty file" "$([ "$(./pieces < files/empty.rle 2>&1)" = "line 1: NoHeader" ] || echo another)"
 mkdir -p 'some files/deeper'
 cp files/glider.rle files/wire.rle files/child.mc 'some files'
 printf '[M2]\n#R b3s23\n.*$..*$***$\n4 0 0 0 1\n' > 'some files/deeper/a glider.mc'

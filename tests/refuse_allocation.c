@@ -1,6 +1,6 @@
 /* Loaded into a program before the C library (LD_PRELOAD), refuses some of its requests for memory: those whose numbers, counted
    from 1, go from the variable FIRST to the variable LAST. At the end it writes, into the file that the variable REPORT names, how
-   many requests there were and how many of them it refused. */
+   many requests there were, how many of them it refused, and how many blocks were not given back. */
 #define _GNU_SOURCE
 #include <dlfcn.h>
 #include <errno.h>
@@ -15,6 +15,7 @@
         next = (__typeof__(name) *)dlsym(RTLD_NEXT, #name)
 
 static unsigned long first, last, requests, refused;
+static long held;
 static int counting;
 
 static unsigned long number_in(const char *name)
@@ -37,7 +38,7 @@ __attribute__((destructor)) static void end(void)
     counting = 0;
     report = name ? fopen(name, "w") : NULL;
     if (report) {
-        fprintf(report, "%lu %lu\n", requests, refused);
+        fprintf(report, "%lu %lu %ld\n", requests, refused, held);
         fclose(report);
     }
 }
@@ -54,32 +55,53 @@ static int is_refused(void)
     return 1;
 }
 
+/* Counts a block that was handed out. */
+static void *handed_out(void *block)
+{
+    held += counting && block;
+    return block;
+}
+
 void *malloc(size_t size)
 {
     NEXT(malloc);
-    return is_refused() ? NULL : next(size);
+    return is_refused() ? NULL : handed_out(next(size));
 }
 
 void *calloc(size_t count, size_t size)
 {
     NEXT(calloc);
-    return is_refused() ? NULL : next(count, size);
+    return is_refused() ? NULL : handed_out(next(count, size));
 }
 
 void *realloc(void *old, size_t size)
 {
     NEXT(realloc);
-    return is_refused() ? NULL : next(old, size);
+    if (is_refused())
+        return NULL;
+    if (!old)
+        return handed_out(next(old, size));
+    held -= counting && !size;
+    return next(old, size);
 }
 
 void *aligned_alloc(size_t alignment, size_t size)
 {
     NEXT(aligned_alloc);
-    return is_refused() ? NULL : next(alignment, size);
+    return is_refused() ? NULL : handed_out(next(alignment, size));
 }
 
 int posix_memalign(void **block, size_t alignment, size_t size)
 {
     NEXT(posix_memalign);
-    return is_refused() ? ENOMEM : next(block, alignment, size);
+    int status = is_refused() ? ENOMEM : next(block, alignment, size);
+    held += counting && status == 0;
+    return status;
+}
+
+void free(void *block)
+{
+    NEXT(free);
+    held -= counting && block;
+    next(block);
 }

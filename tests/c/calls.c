@@ -1,6 +1,8 @@
 /* Does by the library what the program golly_canon does with the same words, to compare the two: it writes the same bytes, and ends with the
    same status. The memory for a text is a byte at first, so that each text is asked for again.
-   calls canon FILE | show FILE | rle FILE | step FILE [TABLE] | same A B */
+   calls canon FILE | show FILE | rle FILE | step FILE [TABLE] | same A B
+   calls pieces N canon FILE | show FILE | rle FILE | step FILE: by a stream, which is fed N bytes at a time. Nothing is held at the end then,
+   also where memory is refused. */
 #include <golly_canon.h>
 #include <stdio.h>
 #include <stdlib.h>
@@ -100,6 +102,69 @@ static int same(struct bytes first, struct bytes second)
     return is_same ? 0 : 1;
 }
 
+typedef uint32_t open_call(golly_canon_stream *, uint64_t);
+
+/* The fault that a stream has told, if each further call tells it too, and else no status. */
+static uint32_t told(golly_canon_stream *stream, uint32_t status, uint64_t line)
+{
+    unsigned char byte = '!';
+    uint64_t at = 12345;
+    size_t needed = 12345;
+    int stays = golly_canon_feed(stream, &byte, 1, &at) == status && at == line;
+    stays = stays && golly_canon_finish(stream, &byte, 1, &needed, &at) == status && at == line && needed == 0;
+    return stays ? status : 99;
+}
+
+/* Feeds a file to a stream, piece by piece, behind an empty one. */
+static uint32_t feed(golly_canon_stream *stream, FILE *source, unsigned char *piece, size_t size, uint64_t *line)
+{
+    size_t count;
+    uint32_t status = golly_canon_feed(stream, piece, 0, line);
+    while (status == GOLLY_CANON_OK && (count = fread(piece, 1, size, source)) > 0)
+        status = golly_canon_feed(stream, piece, count, line);
+    return status == GOLLY_CANON_OK ? status : told(stream, status, *line);
+}
+
+/* Asks a stream for its text, with no more room than it needs. The caller frees the answer. */
+static uint32_t finish(golly_canon_stream *stream, struct bytes *answer, uint64_t *line)
+{
+    unsigned char none = 0;
+    uint32_t status = golly_canon_finish(stream, &none, 1, &answer->length, line);
+    if (status != GOLLY_CANON_NO_ROOM)
+        return status == GOLLY_CANON_OK ? status : told(stream, status, *line);
+    answer->at = calloc(answer->length, 1);
+    return answer->at ? golly_canon_finish(stream, answer->at, answer->length, &answer->length, line) : GOLLY_CANON_MEMORY;
+}
+
+static int stream(const char *word, const char *name, size_t size)
+{
+    static char in[1 << 16];
+    open_call *open = !strcmp(word, "canon") ? golly_canon_open_canon
+        : !strcmp(word, "show")              ? golly_canon_open_show
+        : !strcmp(word, "rle")               ? golly_canon_open_to_rle
+                                             : golly_canon_open_step;
+    golly_canon_stream stream = {0};
+    struct bytes answer = {NULL, 12345};
+    unsigned char *piece = calloc(size, 1);
+    FILE *source = fopen(name, "rb");
+    uint64_t line = 0;
+    uint32_t status = piece && source ? open(&stream, GOLLY_CANON_SQUARES) : GOLLY_CANON_MEMORY;
+    if (source)
+        setvbuf(source, in, _IOFBF, sizeof in);
+    if (status == GOLLY_CANON_OK)
+        status = feed(&stream, source, piece, size, &line);
+    if (status == GOLLY_CANON_OK)
+        status = finish(&stream, &answer, &line);
+    golly_canon_close(&stream);
+    if (status == GOLLY_CANON_OK)
+        fwrite(answer.at, 1, answer.length, stdout);
+    if (source)
+        fclose(source);
+    free(piece);
+    free(answer.at);
+    return status == GOLLY_CANON_OK ? 0 : refused(status, line, 0);
+}
+
 int main(int count, char **words)
 {
     static char out[1 << 16];
@@ -108,6 +173,8 @@ int main(int count, char **words)
     if (count < 3)
         return 5;
     setvbuf(stdout, out, _IOFBF, sizeof out);
+    if (!strcmp(words[1], "pieces"))
+        return count == 5 ? stream(words[3], words[4], strtoul(words[2], NULL, 10)) : 5;
     first = file_of(words[2]);
     if (count > 3)
         second = file_of(words[3]);

@@ -131,6 +131,246 @@ static void comparisons(void)
               && line == 2, "same refuses the first file first");
 }
 
+/* A file of a stream, and the text that its finish gives. */
+typedef uint32_t open_call(golly_canon_stream *, uint64_t);
+static const struct {
+    const char *what;
+    open_call *open;
+    const unsigned char *file;
+    size_t length;
+    const char *text;
+} given[] = {
+    {"canon in pieces", golly_canon_open_canon, BYTES(GLIDER), GLIDER_TEXT},
+    {"canon of a macrocell in pieces", golly_canon_open_canon, BYTES("[M2]\r\n#C\r\n#R 23/3\r\n.*$..*$***$\r\n4 0 0 0 1\r\n"), GLIDER_TEXT},
+    {"a last line without a line feed", golly_canon_open_canon, BYTES("x = 1, y = 1\no!"), "[M2] (canonical 1)\n#R B3/S23\n$$$$....*$$$$\n"},
+    {"what stands behind the end of the pattern is free", golly_canon_open_canon, BYTES(GLIDER "0o!\nx\n\0\n"), GLIDER_TEXT},
+    {"to_rle in pieces", golly_canon_open_to_rle, BYTES(GLIDER_TEXT), "#CXRLE Pos=0,0\nx = 3, y = 3, rule = B3/S23\nbo$2bo$3o!\n"},
+    {"show in pieces", golly_canon_open_show, BYTES(GLIDER), "rule B3/S23\ngeneration 0\npopulation 5\nbox 0 0 3 3\nnodes 1\n"},
+    {"step in pieces", golly_canon_open_step, BYTES("x = 3, y = 1\n3o!\n"), "[M2] (canonical 1)\n#R B3/S23\n#G 1\n$$$.....*$.....*$.....*$$$\n"},
+};
+
+/* A file that is refused: the first byte of `refused` is the first that is fed with the fault, and where it has no byte, finish tells the fault. */
+static const struct {
+    const char *what;
+    open_call *open;
+    const unsigned char *taken;
+    size_t taken_length;
+    const char *refused;
+    uint32_t status;
+    uint64_t line;
+} refusals[] = {
+    {"a child", golly_canon_open_canon, BYTES("[M2]\n#R B3/S23\n....*$$$$$$$$\n4 0 0 0 9"), "\n4 0 0 0 1\n", GOLLY_CANON_BAD_CHILD, 4},
+    {"a header", golly_canon_open_show, BYTES("x = 3"), "\nx = 3, y = 1\n3o!\n", GOLLY_CANON_BAD_HEADER, 1},
+    {"a count", golly_canon_open_to_rle, BYTES("x = 1, y = 1\n\n0o!"), "\no!\n", GOLLY_CANON_ZERO_COUNT, 3},
+    {"a 0 byte", golly_canon_open_step, BYTES("x = 1, y = 1\no\0!"), "\n", GOLLY_CANON_BAD_ITEM, 2},
+    {"a last line", golly_canon_open_canon, BYTES("x = 1, y = 1\n0o!"), "", GOLLY_CANON_ZERO_COUNT, 2},
+    {"an empty file", golly_canon_open_canon, BYTES(""), "", GOLLY_CANON_NO_HEADER, 1},
+    {"too many cells", golly_canon_open_to_rle, BYTES("x = 2000000, y = 1\n2000000o!\n"), "", GOLLY_CANON_TOO_MANY_CELLS, 0},
+    {"a name without a table", golly_canon_open_step, BYTES(WIRE), "", GOLLY_CANON_NEEDS_TABLE, 0},
+};
+
+static uint32_t feed(golly_canon_stream *stream, const void *piece, size_t length)
+{
+    line = 12345;
+    return golly_canon_feed(stream, piece, length, &line);
+}
+
+static uint32_t finish(golly_canon_stream *stream, size_t room)
+{
+    return golly_canon_finish(stream, fresh(), room, &needed, &line);
+}
+
+static int is_fed(golly_canon_stream *stream, const void *piece, size_t length)
+{
+    return feed(stream, piece, length) == GOLLY_CANON_OK && line == 0;
+}
+
+static int is_told(golly_canon_stream *stream, const void *piece, size_t length, uint32_t status, uint64_t at)
+{
+    return feed(stream, piece, length) == status && line == at;
+}
+
+/* A stream that has given its text gives it again and again, and takes no piece. */
+static int is_finished(golly_canon_stream *stream, const char *text)
+{
+    size_t length = strlen(text);
+    return finish(stream, 0) == GOLLY_CANON_NO_ROOM && needed == length && line == 0 && untouched_from(0)
+        && is_told(stream, BYTES("x"), GOLLY_CANON_SPENT, 0)
+        && finish(stream, length - 1) == GOLLY_CANON_NO_ROOM && needed == length && line == 0 && untouched_from(0)
+        && is_text(finish(stream, length), text) && line == 0
+        && is_told(stream, BYTES(""), GOLLY_CANON_SPENT, 0)
+        && is_text(finish(stream, WIDE), text) && line == 0;
+}
+
+/* A stream that has told its fault tells it again and again. */
+static int is_refused(golly_canon_stream *stream, uint32_t status, uint64_t at)
+{
+    return is_fault(finish(stream, WIDE), status, at) && is_told(stream, BYTES(GLIDER), status, at) && is_told(stream, BYTES(""), status, at)
+        && is_fault(finish(stream, 0), status, at);
+}
+
+static int is_spent(golly_canon_stream *stream)
+{
+    return is_fault(finish(stream, WIDE), GOLLY_CANON_SPENT, 0) && is_told(stream, BYTES(GLIDER), GOLLY_CANON_SPENT, 0)
+        && is_told(stream, BYTES(""), GOLLY_CANON_SPENT, 0) && is_fault(finish(stream, 0), GOLLY_CANON_SPENT, 0);
+}
+
+/* Feeds a file in pieces of this size, the first of them shorter by `offset`. */
+static int are_fed(golly_canon_stream *stream, const unsigned char *file, size_t length, size_t size, size_t offset)
+{
+    size_t at = 0, end = size - offset;
+    for (; at < length; at = end, end += size) {
+        if (end > length)
+            end = length;
+        if (!is_fed(stream, file + at, end - at))
+            return 0;
+    }
+    return is_fed(stream, file + length, 0);
+}
+
+/* Each text by pieces of each size, which begin with a piece of each smaller size. */
+static void texts_in_pieces(void)
+{
+    golly_canon_stream stream = {0};
+    size_t i, size, offset;
+    for (i = 0; i < sizeof given / sizeof *given; i++) {
+        int holds = 1;
+        for (size = 1; size <= given[i].length + 1; size++)
+            for (offset = 0; offset < size; offset++)
+                holds = holds && given[i].open(&stream, LIMIT) == GOLLY_CANON_OK && are_fed(&stream, given[i].file, given[i].length, size, offset)
+                    && is_finished(&stream, given[i].text);
+        check(holds && size > 1, given[i].what);
+    }
+    golly_canon_close(&stream);
+}
+
+/* Each refused file: byte by byte, cut into two pieces anywhere, and whole. */
+static void refusals_in_pieces(void)
+{
+    golly_canon_stream stream = {0};
+    unsigned char file[WIDE];
+    size_t i, at;
+    for (i = 0; i < sizeof refusals / sizeof *refusals; i++) {
+        uint32_t status = refusals[i].status;
+        uint64_t where = refusals[i].line;
+        size_t taken = refusals[i].taken_length, length = taken + strlen(refusals[i].refused);
+        int holds = refusals[i].open(&stream, LIMIT) == GOLLY_CANON_OK;
+        memcpy(file, refusals[i].taken, taken);
+        memcpy(file + taken, refusals[i].refused, length - taken);
+        for (at = 0; at < length; at++)
+            holds = holds && (at < taken ? is_fed(&stream, file + at, 1) : is_told(&stream, file + at, 1, status, where));
+        holds = holds && is_refused(&stream, status, where);
+        for (at = 0; at <= length; at++) {
+            holds = holds && refusals[i].open(&stream, LIMIT) == GOLLY_CANON_OK;
+            holds = holds && (at <= taken ? is_fed(&stream, file, at) : is_told(&stream, file, at, status, where));
+            holds = holds && (length == taken ? is_fed(&stream, file + at, length - at)
+                                              : is_told(&stream, file + at, length - at, status, where));
+            holds = holds && is_refused(&stream, status, where);
+        }
+        check(holds && at > 0, refusals[i].what);
+    }
+    golly_canon_close(&stream);
+}
+
+/* A line may have 2^20 bytes. */
+static void long_lines(void)
+{
+    static unsigned char longest[1 << 20];
+    golly_canon_stream stream = {0};
+    memset(longest, '#', sizeof longest);
+    check(golly_canon_open_canon(&stream, LIMIT) == GOLLY_CANON_OK && is_fed(&stream, longest, sizeof longest) && is_fed(&stream, BYTES("\n"))
+              && is_fed(&stream, BYTES(GLIDER)) && is_finished(&stream, GLIDER_TEXT), "a line of 2^20 bytes is taken");
+    check(golly_canon_open_canon(&stream, LIMIT) == GOLLY_CANON_OK && is_fed(&stream, BYTES("\n")) && is_fed(&stream, longest, sizeof longest)
+              && is_told(&stream, BYTES("#"), GOLLY_CANON_LINE_TOO_LONG, 2) && is_refused(&stream, GOLLY_CANON_LINE_TOO_LONG, 2),
+          "a byte more is told at once");
+    golly_canon_close(&stream);
+}
+
+static void closed_streams(void)
+{
+    golly_canon_stream stream = {0};
+    int turn, holds = 1;
+    check(is_spent(&stream), "a stream of zeros is closed");
+    golly_canon_close(&stream);
+    check(is_spent(&stream), "a closed stream may be closed");
+    check(golly_canon_open_show(&stream, LIMIT) == GOLLY_CANON_OK && is_fed(&stream, BYTES(GLIDER)), "a closed stream may be opened");
+    golly_canon_close(&stream);
+    check(is_spent(&stream), "a stream is closed before its end");
+    golly_canon_close(&stream);
+    check(is_spent(&stream), "a stream is closed twice");
+    for (turn = 0; turn < 500; turn++) {
+        size_t row = (size_t)turn % (sizeof given / sizeof *given);
+        int stop = turn % 5;
+        holds = holds && given[row].open(&stream, LIMIT) == GOLLY_CANON_OK;
+        holds = holds && (stop < 1 || is_fed(&stream, given[row].file, given[row].length / 2));
+        holds = holds && (stop < 2 || is_fed(&stream, given[row].file + given[row].length / 2, given[row].length - given[row].length / 2));
+        holds = holds && (stop < 3 || is_finished(&stream, given[row].text));
+        holds = holds && (stop < 4 || given[row].open(&stream, LIMIT) == GOLLY_CANON_OK);
+        golly_canon_close(&stream);
+        holds = holds && is_spent(&stream);
+    }
+    check(holds && turn == 500, "a stream is opened and closed many times");
+}
+
+/* An open stream begins anew, also behind its text and behind a fault. */
+static void open_streams(void)
+{
+    golly_canon_stream stream = {0};
+    check(golly_canon_open_canon(&stream, LIMIT) == GOLLY_CANON_OK && is_fed(&stream, BYTES("[M2]\n#R B3"))
+              && golly_canon_open_show(&stream, LIMIT) == GOLLY_CANON_OK && is_fed(&stream, given[5].file, given[5].length)
+              && is_finished(&stream, given[5].text), "an open stream is opened");
+    check(golly_canon_open_canon(&stream, LIMIT) == GOLLY_CANON_OK && is_fed(&stream, BYTES(GLIDER)) && is_finished(&stream, GLIDER_TEXT),
+          "a finished stream is opened");
+    check(golly_canon_open_step(&stream, LIMIT) == GOLLY_CANON_OK && is_told(&stream, BYTES("x\n"), GOLLY_CANON_BAD_HEADER, 1)
+              && golly_canon_open_canon(&stream, LIMIT) == GOLLY_CANON_OK && is_fed(&stream, BYTES(GLIDER)) && is_finished(&stream, GLIDER_TEXT),
+          "a refused stream is opened");
+    golly_canon_close(&stream);
+}
+
+/* Each store needs a square for the glider. Feed or finish may be the first to find none. */
+static void limited_streams(void)
+{
+    golly_canon_stream stream = {0};
+    uint32_t status;
+    check(golly_canon_open_canon(&stream, 0) == GOLLY_CANON_OK, "a limit of 0 may be asked for");
+    status = feed(&stream, BYTES(GLIDER));
+    check((status == GOLLY_CANON_OK || status == GOLLY_CANON_FULL) && line == 0 && is_refused(&stream, GOLLY_CANON_FULL, 0), "a limit of 0 is full");
+    check(golly_canon_open_canon(&stream, UINT64_MAX) == GOLLY_CANON_OK && is_fed(&stream, BYTES(GLIDER)) && is_finished(&stream, GLIDER_TEXT),
+          "a stream takes any limit");
+    golly_canon_close(&stream);
+}
+
+/* Two streams side by side, byte by byte in turn: each has its own file, limit and text. */
+static void two_streams(void)
+{
+    static const char spare[] = "#\n" GLIDER;
+    golly_canon_stream one = {0}, two = {0};
+    size_t at;
+    int holds = golly_canon_open_canon(&one, LIMIT) == GOLLY_CANON_OK && golly_canon_open_to_rle(&two, LIMIT) == GOLLY_CANON_OK;
+    for (at = 0; at < sizeof GLIDER_TEXT - 1 || at < sizeof spare - 1; at++) {
+        holds = holds && (at >= sizeof spare - 1 || is_fed(&one, spare + at, 1));
+        holds = holds && (at >= sizeof GLIDER_TEXT - 1 || is_fed(&two, GLIDER_TEXT + at, 1));
+    }
+    check(holds && at > 1 && is_finished(&two, given[4].text) && is_finished(&one, GLIDER_TEXT) && is_finished(&two, given[4].text),
+          "two streams side by side");
+    check(golly_canon_open_canon(&two, LIMIT) == GOLLY_CANON_OK && is_told(&two, BYTES("x\n"), GOLLY_CANON_BAD_HEADER, 1)
+              && is_finished(&one, GLIDER_TEXT), "a refused stream beside one with a text");
+    golly_canon_close(&two);
+    check(is_spent(&two) && is_finished(&one, GLIDER_TEXT), "a closed stream beside one with a text");
+    golly_canon_close(&one);
+}
+
+static void streams(void)
+{
+    texts_in_pieces();
+    refusals_in_pieces();
+    long_lines();
+    closed_streams();
+    open_streams();
+    limited_streams();
+    two_streams();
+}
+
 static int is_name(uint32_t status, const char *name)
 {
     return is_text(golly_canon_status_name(status, fresh(), WIDE, &needed), name);
@@ -159,13 +399,14 @@ static void names(void)
     check(golly_canon_version(fresh(), 1, &needed) == GOLLY_CANON_NO_ROOM && untouched_from(0), "the version may lack room");
 }
 
-/* Two threads, each on data of its own. */
-static void *thread(void *given)
+/* Two threads, each on data and streams of its own. */
+static void *thread(void *given_count)
 {
     unsigned char own[WIDE] = {0};
-    size_t length;
+    golly_canon_stream stream = {0};
+    size_t length, at_byte;
     uint64_t at;
-    long *wrong = given;
+    long *wrong = given_count;
     int turn;
     for (turn = 0; turn < 2000; turn++) {
         uint32_t status = turn % 2 ? golly_canon_canon(BYTES(GLIDER), LIMIT, own, sizeof own, &length, &at)
@@ -174,6 +415,15 @@ static void *thread(void *given)
                      : status != GOLLY_CANON_BAD_HEADER || at != 1)
             ++*wrong;
     }
+    for (turn = 0; turn < 200; turn++) {
+        uint32_t status = golly_canon_open_canon(&stream, LIMIT);
+        for (at_byte = 0; at_byte < sizeof GLIDER - 1 && status == GOLLY_CANON_OK; at_byte++)
+            status = golly_canon_feed(&stream, (const unsigned char *)GLIDER + at_byte, 1, &at);
+        if (status != GOLLY_CANON_OK || golly_canon_finish(&stream, own, sizeof own, &length, &at) != GOLLY_CANON_OK
+            || length != sizeof GLIDER_TEXT - 1 || memcmp(own, GLIDER_TEXT, length))
+            ++*wrong;
+    }
+    golly_canon_close(&stream);
     return NULL;
 }
 
@@ -195,6 +445,7 @@ int main(void)
     texts();
     tables();
     comparisons();
+    streams();
     names();
     threads();
     printf("%d passed, %d failed\n", passed, failed);

@@ -2,3 +2,6 @@ pub mod Answers
 pub mod Comparing
 pub mod Stepping
 pub mod Naming
+pub mod Forms
+pub mod Owning
+pub mod Streams

@@ -1,12 +1,18 @@
 //! What programs in C call: the calls of the library on slices of bytes, and the answers in memory of the caller. `include/golly_canon.h`
 //! declares them, and says what a caller in C guarantees.
 //!
-//! A call keeps nothing behind it, and touches nothing but its arguments: calls on different memory run side by side.
+//! A call touches nothing but its arguments and what an open stream holds: calls on different memory and streams run side by side.
 #![tactic(auto)]
 
 mod comparing;
+mod feeding;
+mod form;
+mod held;
 mod naming;
+mod pieces;
 mod rooms;
+mod session;
 mod stepping;
+mod streams;
 mod telling;
 mod texts;
