@@ -1,6 +1,7 @@
 #!/usr/bin/env python3
 """Compares the built program with the independent reader of `tests/independent`: standard output, the line on standard error and the status of each
-command, on small files of which every byte is cut and changed, and on random files.
+command, on small files of which every byte is cut and changed, and on random files. Where PROGRAM is the shared library, its calls are compared in
+place of the commands, which takes half the time.
 
 usage: tests/compare.py PROGRAM --cases N --seed SEED [--jobs N] [--first CASE] [--only CASE]
 
@@ -23,6 +24,7 @@ sys.path.insert(0, os.path.dirname(os.path.abspath(__file__)))
 
 from fuzz import random_files, small_files  # noqa: E402
 from independent import commands  # noqa: E402
+from judged import Library, Program  # noqa: E402
 
 REPLACED_BY = [0, 10, ord("$"), ord("9"), ord("o"), ord("!"), ord(","), 127, 128, 255]
 # A pattern with more cells than this, and no more than the program takes, is neither stepped nor written as RLE: the reader is slow there.
@@ -37,9 +39,6 @@ BadVariable BadTransition UnboundOutput NotQuiet RuleMismatch NeedsTable Ambiguo
 STRIDE = 10000
 # A folder in memory, where there is one.
 FAST_FOLDER = "/dev/shm"
-# Where a run's standard output and standard error go, and how they are opened.
-OUTPUT, ERRORS = "standard-output", "standard-error"
-WRITTEN = os.O_WRONLY | os.O_CREAT | os.O_TRUNC
 
 
 class Case(NamedTuple):
@@ -112,15 +111,6 @@ def random_case(seed, number):
 # ---- One case
 
 
-def answer(program, words, given):
-    """Runs the program in the folder of the cases. Its output goes to files there: that takes a third of the time of pipes."""
-    streams = [(0, given, os.O_RDONLY), (1, OUTPUT, WRITTEN), (2, ERRORS, WRITTEN)]
-    actions = [(os.POSIX_SPAWN_OPEN, stream, name, flags, 0o600) for stream, name, flags in streams]
-    pid = os.posix_spawn(program, [program, *words], os.environ, file_actions=actions)
-    status = os.waitstatus_to_exitcode(os.waitpid(pid, 0)[1])
-    return commands.Answer(status, contents(OUTPUT), contents(ERRORS).decode("latin-1"))
-
-
 def is_slow(file):
     """Whether the reader would take long to list the cells of a file."""
     return not isinstance(file.reading, commands.Fault) and MOST_CELLS < file.reading.plane.population <= commands.MOST_CELLS
@@ -156,44 +146,34 @@ def told(case, words, program, reader):
     return "\n".join([f"{case.name}: {' '.join(words)}", *files, f"  program: {program}", f"  reader:  {reader}"])
 
 
-def put(name, data):
-    with open(name, "wb") as it:
-        it.write(data)
-
-
-def contents(name):
-    with open(name, "rb") as it:
-        return it.read()
-
-
-def respelling_problems(program, case, text):
+def respelling_problems(judged, case, text):
     """An accepted file, its canonical text and its RLE are one pattern, and so is another spelling of it."""
-    put("text", text)
-    put("respelling", case.respelling)
-    found = answer(program, ["convert", "text", "--to", "rle"], "pattern")
+    judged.put("text", text)
+    judged.put("respelling", case.respelling)
+    found = judged.answer(["convert", "text", "--to", "rle"], "pattern")
     runs = [
         (["canon", "text"], commands.Answer(0, text)),
         (["same", "pattern", "respelling"], commands.Answer(0, b"same\n")),
     ]
     if found.status == 0:
-        put("rle", found.output)
+        judged.put("rle", found.output)
         runs.append((["canon", "rle"], commands.Answer(0, text)))
         runs.append((["same", "rle", "pattern"], commands.Answer(0, b"same\n")))
     for words, wanted in runs:
-        got = answer(program, words, "pattern")
+        got = judged.answer(words, "pattern")
         if got != wanted:
             yield told(case, words, got, wanted)
 
 
-def compared(program, case):
+def compared(judged, case):
     """The finding of a case."""
     files = {"pattern": case.pattern, "other": case.other, "table": case.table}
     for name, data in files.items():
         if data is not None:
-            put(name, data)
+            judged.put(name, data)
     problems, answers, text = [], collections.Counter(), None
     for words, wanted in wanted_answers(case):
-        got = answer(program, words, "pattern")
+        got = judged.answer(words, "pattern")
         if got != wanted:
             problems.append(told(case, words, got, wanted))
         answers[f"status {got.status}"] += 1
@@ -201,22 +181,22 @@ def compared(program, case):
         if words[0] == "canon" and got.status == 0:
             text = got.output
     if case.respelling is not None and text is not None:
-        problems += respelling_problems(program, case, text)
+        problems += respelling_problems(judged, case, text)
     return Finding(problems, answers)
 
 
 # ---- All cases
 
 
-def of_number(program, parent, seed, given):
+def of_number(judged, parent, seed, given):
     """The finding of a case of `small_cases`, or of a random one by its number. Each process works in a folder of its own."""
     folder = os.path.join(parent, str(os.getpid()))
     os.makedirs(folder, exist_ok=True)
     os.chdir(folder)
-    return compared(program, given if isinstance(given, Case) else random_case(seed, given))
+    return compared(judged, given if isinstance(given, Case) else random_case(seed, given))
 
 
-def findings(program, options):
+def findings(judged, options):
     """The findings of all cases that were asked for, from several processes."""
     if options.only is not None:
         cases = [options.only]
@@ -226,7 +206,7 @@ def findings(program, options):
         cases = [*small_cases(), *range(options.cases)]
     parent = FAST_FOLDER if os.path.isdir(FAST_FOLDER) else None
     with tempfile.TemporaryDirectory(dir=parent) as folder, multiprocessing.Pool(options.jobs) as pool:
-        yield from pool.imap_unordered(functools.partial(of_number, program, folder, options.seed), cases, 16)
+        yield from pool.imap_unordered(functools.partial(of_number, judged, folder, options.seed), cases, 16)
 
 
 def shares(answers):
@@ -249,7 +229,8 @@ def main():
     signal.signal(signal.SIGTERM, lambda *_: sys.exit(1))
     passed = failed = 0
     answers = collections.Counter()
-    for finding in findings(os.path.abspath(options.program), options):
+    path = os.path.abspath(options.program)
+    for finding in findings(Library(path) if path.endswith(".so") else Program(path), options):
         answers += finding.answers
         passed, failed = passed + (not finding.problems), failed + bool(finding.problems)
         for problem in finding.problems:
