@@ -6,6 +6,7 @@
 #   make quick     builds the same program without proving it, runs it on FILE=.. and keeps nothing
 #   make plants    tries the wrong bodies that the gate leaves out, before a release
 #   make fuzz      compares the program with the independent reader on CASES=.. random files by SEED=..
+#   make fuzz_library  the same of the library for C, its streams too, which takes half the time
 #   make times     runs `rt ci`, and says how much processor time it took for each crate, its tests and its edits
 #   make bench     times the program beside plain programs in C (with SMALL=1 on smaller inputs, within three minutes)
 #   make install   installs the proved program to $(DESTDIR)$(PREFIX)/bin, its man page and completions to $(DESTDIR)$(PREFIX)/share, and the
@@ -45,6 +46,9 @@ plants:
 fuzz: golly_canon
 	@python3 -B tests/compare.py ./golly_canon --cases "$(CASES)" --seed "$(SEED)"
 
+fuzz_library: library
+	@python3 -B tests/compare.py out/library/libgolly_canon.so --cases "$(CASES)" --seed "$(SEED)"
+
 times:
 	@RT="$(RT)" python3 scripts/times
 
@@ -77,4 +81,4 @@ distclean: clean
 
 FORCE:
 
-.PHONY: all library quick test plants fuzz times bench install uninstall help clean distclean FORCE
+.PHONY: all library quick test plants fuzz fuzz_library times bench install uninstall help clean distclean FORCE

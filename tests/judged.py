@@ -130,4 +130,4 @@ class Library:
             status = (self.by_stream if words[1] == "-" else self.by_call)(name, first)
         if status:
             return self.refusal(status, self.flag.value)
-        return commands.Answer(0, self.out.raw[: self.needed.value] if self.needed.value > 4096 else self.out[: self.needed.value])
+        return commands.Answer(0, self.out[: self.needed.value])

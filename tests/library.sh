@@ -1,7 +1,8 @@
 #!/bin/sh
 # The library for C. Its header's promises, checked in C; each pattern of examples/, and files that are refused, given by the library as by the
 # program, whole and in pieces, with a checker of memory where valgrind is there, and with each request for memory refused in turn; the shared
-# object, from Python; the programs of examples/; and what `make install` puts in place. It builds the library of crates/golly_canon_c first.
+# object, from Python and beside the independent reader; the programs of examples/; and what `make install` puts in place. It builds the library of
+# crates/golly_canon_c first.
 # It needs a C compiler, python3 and pkg-config, and the toolchain's rt.
 
 usage="usage: tests/library.sh PROGRAM"
@@ -240,6 +241,8 @@ python3 -B "$top/examples/doubles.py" 'some files' > out 2>&1
 verdict "examples/doubles.py" "$(sort out | diff - wanted)"
 python3 -B "$top/tests/library.py" "$program" "$top/examples" > said 2>&1
 counted "the library from Python" $?
+python3 -B "$top/tests/compare.py" built/libgolly_canon.so --cases 2000 --seed 2 > said 2>&1
+counted "the library beside the independent reader" $?
 
 echo "$passed passed, $failed failed"
 [ $failed = 0 ]
