@@ -1,0 +1,50 @@
+//! Why a row has no answer.
+
+use life_base::Kind;
+use std::alloc::{AllocError, AllocFailed};
+
+/// Why a row has no answer. What a call refuses is an answer, and none of these.
+#[derive(Clone, Copy, PartialEq, Eq)]
+pub(crate) enum Unanswered {
+    /// A call was refused that can only be for want of memory.
+    Refused(Kind),
+    /// There is no `|` behind the call.
+    NoInput,
+    /// There is no call of that name.
+    NoCall,
+    /// The input's bytes are written in none of the ways for them.
+    BadEscape,
+    /// The input is none of this call.
+    BadInput,
+}
+
+impl Unanswered {
+    /// The line that tells it.
+    pub(crate) fn text(self) -> &'static str {
+        match self {
+            Unanswered::Refused(kind) => kind.name(),
+            Unanswered::NoInput => "no input",
+            Unanswered::NoCall => "no such call",
+            Unanswered::BadEscape => "no such escape",
+            Unanswered::BadInput => "no input of this call",
+        }
+    }
+}
+
+impl From<Kind> for Unanswered {
+    fn from(kind: Kind) -> Unanswered {
+        Unanswered::Refused(kind)
+    }
+}
+
+impl From<AllocError> for Unanswered {
+    fn from(_refused: AllocError) -> Unanswered {
+        Unanswered::Refused(Kind::Memory)
+    }
+}
+
+impl<T: Drop> From<AllocFailed<T>> for Unanswered {
+    fn from(_refused: AllocFailed<T>) -> Unanswered {
+        Unanswered::Refused(Kind::Memory)
+    }
+}

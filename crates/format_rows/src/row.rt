@@ -1,0 +1,52 @@
+//! A row and its answer.
+
+use crate::answer::Unanswered;
+use crate::escaped::bytes_of;
+use crate::{base, mc, rle, table};
+use std::alloc::Global;
+
+/// A text in front of its first `|`, and what stands behind it.
+pub(crate) fn halves(text: &[u8]) -> Result<(&[u8], &[u8]), Unanswered> {
+    match text.iter().position(|byte| *byte == b'|') {
+        Some(bar) => Ok((&text[..bar], &text[bar + 1..])),
+        None => Err(Unanswered::NoInput),
+    }
+}
+
+/// Adds what a call answers to an input.
+fn answer(alloc: Global, out: &mut String, call: &str, input: &[u8]) -> Result<(), Unanswered> {
+    match call {
+        "rule" => base::rule(alloc, out, input),
+        "same_rules" => base::same_rules(alloc, out, input),
+        "lines" => base::numbered_lines(out, input),
+        "begins_with" => base::front(out, input),
+        "split_word" => base::first_word(out, input),
+        "leading_number" => base::number_in_front(out, input),
+        "line_end" => base::first_end(out, input),
+        "line_fits" => base::fitting(out, input),
+        "read_u64" => base::unsigned(out, input),
+        "read_i64" => base::signed(out, input),
+        "read_rle" => rle::file(alloc, out, input),
+        "rle_lines" => rle::by_lines(alloc, out, input),
+        "read_mc" => mc::file(alloc, out, input),
+        "mc_squares" => mc::squares(alloc, out, input),
+        "mc_lines" => mc::by_lines(alloc, out, input),
+        "read_table" => table::refusal(alloc, out, input),
+        "table_counts" => table::counts(alloc, out, input),
+        "table" => table::whole(alloc, out, input),
+        "next" => table::next(alloc, out, input),
+        _ => Err(Unanswered::NoCall),
+    }
+}
+
+/// The answer of a row.
+pub(crate) fn answer_to(alloc: Global, row: &[u8]) -> Result<String, Unanswered> {
+    let (call, text) = halves(row)?;
+    let Ok(call) = std::str::from_utf8(call) else {
+        return Err(Unanswered::NoCall);
+    };
+    let input = bytes_of(alloc, text)?;
+    let mut out = String::new(alloc);
+    answer(alloc, &mut out, call, &input)?;
+    Ok(out)
+}

@@ -1,0 +1,162 @@
+//! Calls of `life_table`.
+
+use crate::answer::Unanswered;
+use crate::row::halves;
+use crate::shown::{show_bytes, show_fault};
+use life_base::{Fault, State};
+use life_table::{Entry, Neighborhood, Neighbours, Table, Transition, Var, read_table};
+use std::alloc::Global;
+
+/// `read` of a table, or the line and the kind of a fault.
+pub(crate) fn refusal(alloc: Global, out: &mut String, input: &[u8]) -> Result<(), Unanswered> {
+    match read_table(alloc, input) {
+        Ok(_) => out.push_str("read")?,
+        Err(fault) => show_fault(out, &fault)?,
+    }
+    Ok(())
+}
+
+/// Adds the name, the number of states, the neighbours and the symmetry of a table.
+fn show_settings(out: &mut String, table: &Table) -> Result<(), Unanswered> {
+    show_bytes(out, table.name.bytes())?;
+    write!(
+        out,
+        " {} {:?} {:?}",
+        table.n_states, table.neighborhood, table.symmetry
+    )?;
+    Ok(())
+}
+
+/// The settings of a table and how many variables and transitions it has; or the line and the kind of a fault.
+pub(crate) fn counts(alloc: Global, out: &mut String, input: &[u8]) -> Result<(), Unanswered> {
+    match read_table(alloc, input) {
+        Ok(table) => {
+            show_settings(out, &table)?;
+            let variables = table.vars.as_slice().len();
+            let transitions = table.lines.as_slice().len();
+            write!(out, " {variables} {transitions}")?;
+        }
+        Err(fault) => show_fault(out, &fault)?,
+    }
+    Ok(())
+}
+
+/// Adds the name of a variable and the four words of its states.
+fn show_variable(out: &mut String, variable: &Var) -> Result<(), Unanswered> {
+    show_bytes(out, variable.name.as_slice())?;
+    let [a, b, c, d] = variable.states;
+    write!(out, "={a},{b},{c},{d}")?;
+    Ok(())
+}
+
+/// Adds a state, or `v` and the number of a variable.
+fn show_entry(out: &mut String, entry: Entry) -> Result<(), Unanswered> {
+    match entry {
+        Entry::Fixed(state) => write!(out, "{state}")?,
+        Entry::Var(number) => write!(out, "v{number}")?,
+    }
+    Ok(())
+}
+
+/// Adds the line and the entries of a transition.
+fn show_transition(out: &mut String, transition: &Transition) -> Result<(), Unanswered> {
+    write!(out, "{}:", transition.line)?;
+    for entry in transition.inputs.as_slice() {
+        show_entry(out, *entry)?;
+        out.push_str(",")?;
+    }
+    show_entry(out, transition.output)
+}
+
+/// Adds the settings, the variables and the transitions of a table.
+fn show_table(out: &mut String, table: &Table) -> Result<(), Unanswered> {
+    show_settings(out, table)?;
+    for variable in table.vars.as_slice() {
+        out.push_str(" ")?;
+        show_variable(out, variable)?;
+    }
+    for transition in table.lines.as_slice() {
+        out.push_str(" ")?;
+        show_transition(out, transition)?;
+    }
+    Ok(())
+}
+
+/// The settings, the variables and the transitions of a table; or the line and the kind of a fault.
+pub(crate) fn whole(alloc: Global, out: &mut String, input: &[u8]) -> Result<(), Unanswered> {
+    match read_table(alloc, input) {
+        Ok(table) => show_table(out, &table),
+        Err(fault) => show_fault(out, &fault),
+    }
+}
+
+/// The state that a text writes.
+fn state_of(text: &[u8]) -> Result<State, Unanswered> {
+    let Ok(text) = std::str::from_utf8(text) else {
+        return Err(Unanswered::BadInput);
+    };
+    text.parse::<u8>().map_err(|_| Unanswered::BadInput)
+}
+
+/// The cell and its four or eight neighbours that a text writes.
+fn around_of(alloc: Global, text: &[u8]) -> Result<Neighbours, Unanswered> {
+    let mut states = Vec::new(alloc);
+    for word in text.split(|byte| *byte == b',') {
+        states.push(state_of(word)?)?;
+    }
+    match states.as_slice() {
+        [c, n, e, s, w] => Ok(Neighbours::Four([*c, *n, *e, *s, *w])),
+        [c, n, ne, e, se, s, sw, w, nw] => Ok(Neighbours::Eight([
+            *c, *n, *ne, *e, *se, *s, *sw, *w, *nw,
+        ])),
+        _ => Err(Unanswered::BadInput),
+    }
+}
+
+/// What a table makes of a cell and its four neighbours; nothing, if they are none of the table.
+fn decided_by_four(table: &Table, cells: [State; 5]) -> Option<Result<State, Fault>> {
+    if table.neighborhood != Neighborhood::VonNeumann {
+        return None;
+    }
+    if cells
+        .iter()
+        .any(|state| u16::from(*state) >= table.n_states)
+    {
+        return None;
+    }
+    Some(table.next(&Neighbours::Four(cells)))
+}
+
+/// What a table makes of a cell and its eight neighbours; nothing, if they are none of the table.
+fn decided_by_eight(table: &Table, cells: [State; 9]) -> Option<Result<State, Fault>> {
+    if table.neighborhood != Neighborhood::Moore {
+        return None;
+    }
+    if cells
+        .iter()
+        .any(|state| u16::from(*state) >= table.n_states)
+    {
+        return None;
+    }
+    Some(table.next(&Neighbours::Eight(cells)))
+}
+
+/// The state that a table makes of a cell and its neighbours; or the line and the kind of a fault.
+pub(crate) fn next(alloc: Global, out: &mut String, input: &[u8]) -> Result<(), Unanswered> {
+    let (states, text) = halves(input)?;
+    let around = around_of(alloc, states)?;
+    let table = match read_table(alloc, text) {
+        Ok(table) => table,
+        Err(fault) => return show_fault(out, &fault),
+    };
+    let decided = match around {
+        Neighbours::Four(cells) => decided_by_four(&table, cells),
+        Neighbours::Eight(cells) => decided_by_eight(&table, cells),
+    };
+    match decided {
+        Some(Ok(state)) => write!(out, "{state}")?,
+        Some(Err(fault)) => show_fault(out, &fault)?,
+        None => return Err(Unanswered::BadInput),
+    }
+    Ok(())
+}
