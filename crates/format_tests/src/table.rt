@@ -1,7 +1,4 @@
 //! Tests of `life_table`.
 
-mod compare;
-mod files;
-mod hostile;
 mod large;
 mod orders;

@@ -1,168 +1,39 @@
-//! Large files: long lines, long numbers, all states and many variables.
-use super::compare::{assert_only_transition, assert_variable, refusal};
+//! A large file: many variables.
 use life_base::{Fault, Kind};
-use life_table::{Entry, Table, read_table};
+use life_table::{Entry, Table, Transition, Var, read_table};
 use std::alloc::{AllocError, Global};
 use std::process::Abort;
 use std::rt::HostRuntime;
 
-const LONGEST_LINE: usize = 1048576;
-
-const WHOLE: &str = "@RULE A\n@TABLE\nn_states:2\nneighborhood:vonNeumann\nsymmetries:none\n";
-
-const SHUT: &str = "@RULE A\n@TABLE\nn_states:2\nneighborhood:vonNeumann\nsymmetries:none\n@\n";
-
-// What stands behind a line of such a table, from the end of that line on.
-const FROM_TABLE: &str = "\n@TABLE\nn_states:2\nneighborhood:vonNeumann\nsymmetries:none\n";
-
-const FROM_STATES: &str = "\nn_states:2\nneighborhood:vonNeumann\nsymmetries:none\n";
-
-const FROM_NEIGHBORS: &str = "\nneighborhood:vonNeumann\nsymmetries:none\n";
-
-/// Two texts that are filled up with a byte to a length, and two texts behind them.
-fn filled(
-    alloc: Global,
-    before: [&str; 2],
-    byte: u8,
-    length: usize,
-    behind: [&str; 2],
-) -> Result<Vec<u8>, AllocError> {
-    let mut bytes = Vec::new(alloc);
-    for text in &before {
-        bytes.extend_from_slice(text.as_bytes())?;
+/// The place and the kind of a refusal.
+fn refusal(answer: Result<Table, Fault>) -> Option<(u64, Kind)> {
+    match answer {
+        Ok(_) => None,
+        Err(fault) => Some((fault.place.line, fault.kind)),
     }
-    bytes.resize(length, byte)?;
-    for text in &behind {
-        bytes.extend_from_slice(text.as_bytes())?;
-    }
-    Ok(bytes)
 }
 
-/// Such texts are refused with this place and kind, or read where there is none.
-fn assert_filled(
+/// A variable has this name and these states.
+fn assert_variable(rt: &impl Abort, row: &str, variable: &Var, name: &[u8], states: [u64; 4]) {
+    let found = (variable.name.as_slice(), variable.states);
+    assert_eq!(rt; found, (name, states), "{row}");
+}
+
+/// There is one transition, on this line and with these entries.
+fn assert_only_transition(
     rt: &impl Abort,
-    alloc: Global,
-    before: [&str; 2],
-    byte: u8,
-    length: usize,
-    behind: [&str; 2],
-    wanted: Option<(u64, Kind)>,
+    row: &str,
+    transitions: &[Transition],
+    line: u64,
+    inputs: &[Entry],
+    output: Entry,
 ) {
-    let bytes = filled(alloc, before, byte, length, behind).expect(rt, "memory");
-    assert_eq!(rt;
-        refusal(read_table(alloc, &bytes)),
-        wanted,
-        "{before:?} {byte} {length} {behind:?}"
-    );
-}
-
-/// A line that is filled up to the longest has this answer, and is too long with one byte more.
-fn assert_longest_line(
-    rt: &impl Abort,
-    alloc: Global,
-    texts: [&str; 2],
-    byte: u8,
-    behind: &str,
-    number: u64,
-    answer: Option<(u64, Kind)>,
-) {
-    let [before, _] = texts;
-    let longest = before.len().saturating_add(LONGEST_LINE);
-    assert_filled(rt, alloc, texts, byte, longest, [behind, ""], answer);
-    let longer = longest.saturating_add(1);
-    let too_long = Some((number, Kind::LineTooLong));
-    assert_filled(rt, alloc, texts, byte, longer, [behind, ""], too_long);
-}
-
-#[test]
-fn a_line_has_at_most_2_20_bytes(rt: HostRuntime) {
-    for &(before, start, byte, behind, number, answer) in &[
-        (
-            "",
-            "#",
-            b'x',
-            "\n@RULE A\n@TABLE\n",
-            1,
-            Some((4, Kind::BadDescriptor)),
-        ),
-        ("", "", b' ', "\n@RULE A\n", 1, Some((3, Kind::NoTable))),
-        ("", "@RULE A", b' ', FROM_TABLE, 1, None),
-        (
-            "",
-            "@RULE A",
-            b'a',
-            FROM_TABLE,
-            1,
-            Some((1, Kind::NoRuleLine)),
-        ),
-        ("@RULE A\n", "x", b'x', FROM_TABLE, 2, None),
-        ("@RULE A\n", "@TABLE", b' ', FROM_STATES, 2, None),
-        (
-            "@RULE A\n",
-            "@TABLE",
-            b'x',
-            FROM_STATES,
-            2,
-            Some((6, Kind::NoTable)),
-        ),
-        (
-            "@RULE A\n@TABLE\n",
-            "n_states:2",
-            b' ',
-            FROM_NEIGHBORS,
-            3,
-            None,
-        ),
-        (
-            "@RULE A\n@TABLE\n",
-            "n_states:2",
-            b'2',
-            FROM_NEIGHBORS,
-            3,
-            Some((3, Kind::BadDescriptor)),
-        ),
-        (WHOLE, "0,0,0,0,0,0#", b':', "\n", 6, None),
-        (WHOLE, "junk", b'x', "\n", 6, Some((6, Kind::BadTransition))),
-        (
-            WHOLE,
-            "var a={1}",
-            b'}',
-            "\n",
-            6,
-            Some((6, Kind::BadVariable)),
-        ),
-        (WHOLE, "var a={1}", b' ', "", 6, None),
-        (WHOLE, "@", b'x', "\njunk\n", 6, None),
-        (SHUT, "x", b'x', "\n", 7, None),
-    ] {
-        let texts = [before, start];
-        assert_longest_line(&rt, rt.alloc(), texts, byte, behind, number, answer);
-    }
-}
-
-#[test]
-fn numbers_have_any_length(rt: HostRuntime) {
-    let others = "neighborhood:vonNeumann\nsymmetries:none\n000000\n";
-    for &(start, byte, last, answer) in &[
-        ("n_states:", b'9', "\n", Some((3, Kind::BadDescriptor))),
-        ("n_states:1", b'0', "\n", Some((3, Kind::BadDescriptor))),
-        ("n_states:", b'0', "\n", Some((3, Kind::BadDescriptor))),
-        ("n_states:", b'0', "1\n", Some((3, Kind::BadDescriptor))),
-        ("n_states:", b'0', "2\n", None),
-        ("n_states:", b'0', "256\n", None),
-        ("n_states:", b'0', "257\n", Some((3, Kind::BadDescriptor))),
-        ("n_states:", b'0', "2 2\n", Some((3, Kind::BadDescriptor))),
-        ("n_states:", b'0', "+2\n", Some((3, Kind::BadDescriptor))),
-    ] {
-        let texts = ["@RULE A\n@TABLE\n", start];
-        assert_filled(
-            &rt,
-            rt.alloc(),
-            texts,
-            byte,
-            1000000,
-            [last, others],
-            answer,
+    assert_eq!(rt; transitions.len(), 1, "{row}");
+    for found in transitions {
+        assert_eq!(rt;
+            (found.line, found.inputs.as_slice(), found.output),
+            (line, inputs, output),
+            "{row}"
         );
     }
 }
@@ -176,49 +47,6 @@ fn digits(number: usize) -> [u8; 5] {
         b'0' + (number / 10 % 10) as u8,
         b'0' + (number % 10) as u8,
     ]
-}
-
-/// A table of 256 states with a variable that has those below a number.
-fn with_states_below(alloc: Global, number: usize) -> Result<Result<Table, Fault>, AllocError> {
-    let mut bytes = Vec::new(alloc);
-    bytes.extend_from_slice(
-        b"@RULE A\n@TABLE\nn_states:256\nneighborhood:Moore\nsymmetries:none\nvar a={0",
-    )?;
-    for state in 0..number {
-        bytes.push(b',')?;
-        bytes.extend_from_slice(&digits(state))?;
-    }
-    bytes.extend_from_slice(b"}\n255,a,a,a,a,a,a,a,a,a\n")?;
-    Ok(read_table(alloc, &bytes))
-}
-
-/// The table with the states below a number is read, and its variable has these.
-fn assert_states_below(rt: &impl Abort, alloc: Global, number: usize, states: [u64; 4]) {
-    let answer = with_states_below(alloc, number).expect(rt, "memory");
-    let table = answer.expect(rt, "table");
-    let counts = (table.n_states, table.vars.as_slice().len());
-    assert_eq!(rt; counts, (256, 1), "{number}");
-    for var in table.vars.as_slice() {
-        assert_eq!(rt; var.states, states, "{number}");
-    }
-}
-
-/// A word of a variable that has each of its 64 states.
-const ALL: u64 = 18446744073709551615;
-
-#[test]
-fn a_variable_has_all_states(rt: HostRuntime) {
-    for &(number, states) in &[
-        (1, [1, 0, 0, 0]),
-        (64, [ALL, 0, 0, 0]),
-        (65, [ALL, 1, 0, 0]),
-        (255, [ALL, ALL, ALL, ALL / 2]),
-        (256, [ALL, ALL, ALL, ALL]),
-    ] {
-        assert_states_below(&rt, rt.alloc(), number, states);
-    }
-    let answer = with_states_below(rt.alloc(), 257).expect(&rt, "memory");
-    assert_eq!(rt; refusal(answer), Some((6, Kind::BadVariable)));
 }
 
 /// The name of a variable of a chain.

@@ -1,18 +1,29 @@
 //! The neighbours under `permute`: by counts, and in each of their orders.
 ghost use Rattle.std.specs.Prelude.{◌≡◌, ◌<◌, All};
 
-use super::compare::{assert_next, table_of};
 use life_base::{Fault, Kind, Place, State};
-use life_table::{Entry, Neighborhood, Neighbours, Symmetry, Table, Transition};
-use std::alloc::Global;
+use life_table::{Entry, Neighborhood, Neighbours, Symmetry, Table, Transition, read_table};
+use std::alloc::{AllocError, Global};
 use std::process::Abort;
 use std::rt::HostRuntime;
 
 const HEAD: &str =
     "@RULE A\n@TABLE\nn_states:3\nneighborhood:vonNeumann\nsymmetries:permute\nvar a={0,1,2}\nvar b={0,1,2}\n";
 
-const EIGHT: &str =
-    "@RULE A\n@TABLE\nn_states:9\nneighborhood:Moore\nsymmetries:permute\nvar a={1,2,3,4,5,6,7}\nvar b={a}\nvar c={a}\nvar d={a}\nvar e={a}\nvar f={a}\nvar g={a}\n";
+/// The table that texts write one behind another.
+fn read_texts(alloc: Global, texts: &[&str]) -> Result<Result<Table, Fault>, AllocError> {
+    let mut bytes = Vec::new(alloc);
+    for text in texts {
+        bytes.extend_from_slice(text.as_bytes())?;
+    }
+    Ok(read_table(alloc, &bytes))
+}
+
+/// The table that texts write one behind another, and no refusal.
+fn table_of(rt: &impl Abort, alloc: Global, texts: &[&str]) -> Table {
+    let answer = read_texts(alloc, texts).expect(rt, "memory");
+    answer.expect(rt, "table")
+}
 
 /// The states that a line gives: none, one, or more than one.
 #[derive(Clone, Copy)]
@@ -129,21 +140,6 @@ fn assert_next_by_orders(
 }
 
 #[test]
-fn counts_decide(rt: HostRuntime) {
-    for (line, cells, answer) in [
-        ("0,a,a,b,b,a\n", [0, 1, 2, 1, 2], Err(ambiguous(8))),
-        ("0,a,a,a,b,a\n", [0, 1, 1, 2, 1], Ok(1)),
-        ("0,a,a,a,b,a\n", [0, 0, 1, 1, 1], Ok(1)),
-        ("0,a,a,a,b,a\n", [0, 1, 1, 2, 2], Ok(0)),
-        ("0,a,a,a,b,a\n", [0, 2, 2, 2, 2], Ok(2)),
-    ] {
-        let table = table_with(&rt, rt.alloc(), line);
-        assert_next(&rt, &table, &[line], Neighbours::Four(cells), answer);
-        assert_next_by_orders(&rt, &table, line, cells, answer);
-    }
-}
-
-#[test]
 fn counts_agree_with_all_orders(rt: HostRuntime) {
     for line in &["0,a,a,b,b,a\n", "0,a,a,a,b,a\n"] {
         let table = table_with(&rt, rt.alloc(), line);
@@ -152,23 +148,5 @@ fn counts_agree_with_all_orders(rt: HostRuntime) {
             let answer = table.next(&Neighbours::Four(cells));
             assert_next_by_orders(&rt, &table, line, cells, answer);
         }
-    }
-}
-
-#[test]
-fn eight_variables_are_decided(rt: HostRuntime) {
-    for &(last, line, answer) in &[
-        ("var h={a}\n", "0,a,b,c,d,e,f,g,h,1\n", Ok(0)),
-        ("var h={0}\n", "0,a,b,c,d,e,f,g,h,1\n", Ok(0)),
-        ("var h={8}\n", "0,a,b,c,d,e,f,g,h,1\n", Ok(1)),
-        ("var h={8}\n", "0,a,b,c,d,e,f,g,h,h\n", Ok(8)),
-        ("var h={8}\n", "0,a,b,c,d,e,f,h,g,g\n", Err(14)),
-        ("var h={8}\n", "0,a,b,c,d,e,f,h,h,1\n", Ok(0)),
-    ] {
-        let texts = [EIGHT, last, line];
-        let table = table_of(&rt, rt.alloc(), &texts);
-        assert!(rt; table.neighborhood == Neighborhood::Moore && table.n_states == 9);
-        let around = Neighbours::Eight([0, 8, 7, 6, 5, 4, 3, 2, 1]);
-        assert_next(&rt, &table, &texts, around, answer.map_err(ambiguous));
     }
 }
