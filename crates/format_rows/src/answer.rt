@@ -6,7 +6,7 @@ use std::alloc::{AllocError, AllocFailed};
 /// Why a row has no answer. What a call refuses is an answer, and none of these.
 #[derive(Clone, Copy, PartialEq, Eq)]
 pub(crate) enum Unanswered {
-    /// A call was refused that can only be for want of memory.
+    /// A call on the way to the answer was refused, as for want of memory.
     Refused(Kind),
     /// There is no `|` behind the call.
     NoInput,
