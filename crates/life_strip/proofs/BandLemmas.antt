@@ -14,7 +14,7 @@ use Rattle.std.proofs.Math.ListN.{set}
 use Rattle.std.proofs.lemmas.List.Elements.{All-push, All-set}
 use Rattle.life_strip.proofs.PlaneLemmas.{none-append, found-append, none_beyond}
 use Rattle.life_strip.proofs.WordLemmas.{west-square, east-square, west-small, east-small}
-use Rattle.life_strip.proofs.SpanLemmas.{Keeps, Some-is, id_at-before, id_at-after, depth-square_at, quad-keeps, quad-same, found-within, before_earlier, none-left}
+use Rattle.life_strip.proofs.SpanLemmas.{Keeps, Some-is, id_at-before, depth-square_at, quad-keeps, quad-same, found-within, before_earlier, none-left}
 
 module _ (knows : Id → Type 0) (now : Id → Tree) (want : ℕ → Tree) where
   pub filled-start : FilledTo knows now want [] 0
@@ -74,10 +74,6 @@ goes-on want t start end first on c le lt = by (nat_lt start c) refl
     by : (b : Bool) → nat_lt start c ≡ b → want c ≡ t
     by true e = on c (grind arith) (omega (arith, lt)) ∙ first
     by false e = let same : c ≡ start = grind arith in ap want same ∙ first
-
--- one column has the first square
-pub one-column : (want : ℕ → Tree) (t : Tree) (start : ℕ) → want start ≡ t → (c : ℕ) → start ≤ c → c < start + 1 → want c ≡ t
-one-column want t start first c le lt = let same : c ≡ start = omega (arith, le, lt) in ap want same ∙ first
 
 -- one span more, or the last span goes on to a new end
 module _ (column end : ℕ) (square : Id) (later : column < end) where

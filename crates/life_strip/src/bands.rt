@@ -9,7 +9,7 @@ ghost use Rattle.life_strip.specs.Strip.{IsStrip, AreWithin, square_at};
 ghost use Rattle.life_strip.specs.Band.{four_at, Covers, IsExtended, FilledTo, cells_at};
 
 use crate::spans::{Span, find, nearer};
-use crate::words::{Words, cells_of, two_words};
+use crate::words::{Words, cells_of, next_square, two_words};
 use life_base::{Kind, MAX_LEVEL};
 use life_quad::{Id, Squares};
 use std::alloc::Global;
@@ -69,25 +69,22 @@ fn extend(spans: &mut Vec<Span>, end: u64, square: Id) -> Result<(), Kind>
     Ok(())
 }
 
-// A square of level 2 of four rows in the columns up to `end`, east of the others.
+// A square of level 2 with these cells in the columns up to `end`, east of the others.
 fn push_square<S: Squares>(
     squares: &mut S,
     spans: &mut Vec<Span>,
-    upper: Words,
-    lower: Words,
-    square: u64,
+    cells: u16,
     end: u64,
 ) -> Result<(), Kind>
-    requires { square < 16 }
-    ensures filled { OnOk result ((want : ℕ → Tree) (column : ℕ) → FilledTo (S.knows squares.old) (S.content squares.old) want spans.old.items column → column < end → ((c : ℕ) → column ≤ c → c < end → want c ≡ four (cells_at upper lower square)) → FilledTo (S.knows squares.new) (S.content squares.new) want spans.new.items end) }
+    ensures filled { OnOk result ((want : ℕ → Tree) (column : ℕ) → FilledTo (S.knows squares.old) (S.content squares.old) want spans.old.items column → column < end → ((c : ℕ) → column ≤ c → c < end → want c ≡ four cells) → FilledTo (S.knows squares.new) (S.content squares.new) want spans.new.items end) }
     ensures keeps { (q : IdValue) → S.knows squares.old q → S.knows squares.new q × (S.content squares.new q ≡ S.content squares.old q) }
     ensures stays { (t : Tree) → Contains (S.stored squares.old) t → Contains (S.stored squares.new) t }
     ensures most { S.most squares.new ≡ S.most squares.old }
     ensures refusals { IfErr result (λ e. (e ≡ Full) ⊎ (e ≡ Memory)) }
     ensures full { result ≡ Err Full → length (S.stored squares.new) ≡ S.most squares.new }
-    ensures needed { result ≡ Err Full → SomePart (S.needs_node squares.new) (four (cells_at upper lower square)) }
+    ensures needed { result ≡ Err Full → SomePart (S.needs_node squares.new) (four cells) }
 {
-    let id = join_four(squares, cells_of(upper, lower, square))?;
+    let id = join_four(squares, cells)?;
     extend(spans, end, id)
 }
 
@@ -114,18 +111,15 @@ fn push_rows<S: Squares>(
 {
     let next = end / 64;
     if block < next {
-        push_square(squares, spans, upper, lower, 0, 16 * next)?;
+        push_square(squares, spans, cells_of(upper, lower, 0), 16 * next)?;
         return Ok(next);
     }
-    for square in 0..16 {
-        push_square(
-            squares,
-            spans,
-            upper,
-            lower,
-            square,
-            16 * block + square + 1,
-        )?;
+    let mut square = 0;
+    while square < 16 {
+        let cells = cells_of(upper, lower, square);
+        let after = next_square(upper, lower, square, cells);
+        push_square(squares, spans, cells, 16 * block + after)?;
+        square = after;
     }
     Ok(block + 1)
 }

@@ -128,3 +128,19 @@ pub(crate) fn cells_of(upper: Words, lower: Words, square: u64) -> u16
     let (sw, se) = halves(lower, square);
     4096 * nw + 256 * ne + 16 * sw + se
 }
+
+// The square of level 2 before which the one with these cells goes on at least: as far as it is blank, and else for one column.
+pub(crate) fn next_square(upper: Words, lower: Words, square: u64, cells: u16) -> u64
+    requires { square < 16 }
+    ensures beyond { square < result }
+    ensures within { result ≤ 16 }
+    ensures goes_on { (i : ℕ) → square ≤ i → i < result → cells_at upper lower i ≡ cells_at upper lower square }
+{
+    if cells > 0 {
+        return square + 1;
+    }
+    let all = upper.north.cells | upper.south.cells | lower.north.cells | lower.south.cells;
+    let rest = all & bits_after(4 * square);
+    let blank = u64::from(rest.leading_zeros() / 4);
+    blank.max(square + 1)
+}

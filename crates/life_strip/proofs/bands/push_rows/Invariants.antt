@@ -1,4 +1,4 @@
-use Rattle.std.proofs.Common.{◌≡◌, ℕ, ◌+◌, ◌*◌, ◌<◌, Contains}
+use Rattle.std.proofs.Common.{◌≡◌, ℕ, ◌+◌, ◌-◌, ◌*◌, ◌<◌, ◌≤◌, Contains}
 use Rattle.life_base.specs.Tree.{Tree}
 use Rattle.life_quad.specs.Store.{four}
 use Rattle.life_strip.specs.Band.{FilledTo, cells_at}
@@ -13,3 +13,7 @@ invariant-loop-square g l =
     × Keeps (g.S.Squares.knows l.fn.squares) (g.S.Squares.knows l.squares) (g.S.Squares.content l.fn.squares) (g.S.Squares.content l.squares)
     × (g.S.Squares.most l.squares ≡ g.S.Squares.most l.fn.squares)
     × ((t : Tree) → Contains (g.S.Squares.stored l.fn.squares) t → Contains (g.S.Squares.stored l.squares) t)
+    × (l.square ≤ 16)
+
+abbrev pub decreases-loop-square : goal.decreases-loop-square
+decreases-loop-square g l = 16 - l.square

@@ -1,5 +1,4 @@
-use Rattle.std.proofs.Common.{◌≡◌, ℕ, ◌+◌, ◌-◌, ◌*◌, arith, sym, ◌∙◌, ap, subst}
-use Rattle.life_quad.specs.Store.{four}
+use Rattle.std.proofs.Common.{sym, ◌∙◌}
 use Rattle.life_strip.proofs.PictureLemmas.{on_ok_map}
 use Rattle.life_strip.proofs.BandLemmas.{filled-covers, filled-more}
 use Rattle.life_strip.proofs.bands.push_square.Goals as goal
@@ -13,5 +12,5 @@ returns-clause-filled g c =
     let more = columns column (filled-covers (K c.args.squares.now) (C c.args.squares.now) want c.args.spans.now.items column p) later in
     filled-more {knows = K c.args.squares.now} {knows' = K c.join_four.new.squares} {now = C c.args.squares.now} {now' = C c.join_four.new.squares} c.in_ok-id.ensures.keeps
     want c.args.spans.now.items c.extend.new.spans.items column c.args.end c.in_ok-id.id p more c.in_ok-id.ensures.known
-    (λ x le lt. same x le lt ∙ ap four (sym c.cells_of.ensures) ∙ sym c.in_ok-id.ensures.square))
+    (λ x le lt. same x le lt ∙ sym c.in_ok-id.ensures.square))
     c.extend.ensures.columns
