@@ -12,7 +12,8 @@ use Rattle.life_strip.proofs.bands.push_rows.Goals as goal
 pub returns-in_err-push_square-clause-needed : goal.returns-in_err-push_square-clause-needed
 returns-in_err-push_square-clause-needed g c =
     let p = err_from_is_err_and c.from_residual.result c.from_residual.ensures.1 in
-    rw (p.1, p.2) (λ e. (0, omega arith, subst (λ n. SomePart (g.S.Squares.needs_node c.push_square.new.squares) (four n)) c.cells_of.ensures (c.in_err-push_square.ensures.needed (err_again e))))
+    let needs = λ (n : ℕ). SomePart (g.S.Squares.needs_node c.push_square.new.squares) (four n) in
+    rw (p.1, p.2) (λ e. (0, omega arith, subst needs c.cells_of.ensures (c.in_err-push_square.ensures.needed (err_again e))))
 
 pub returns-then-block-next-clause-filled : goal.returns-then-block-next-clause-filled
 returns-then-block-next-clause-filled g c want p squares on =
@@ -28,12 +29,9 @@ returns-in_err-push_square-2-clause-stays g c = λ t m. c.in_err-push_square-2.e
 pub returns-in_err-push_square-2-clause-needed : goal.returns-in_err-push_square-2-clause-needed
 returns-in_err-push_square-2-clause-needed g c =
     let p = err_from_is_err_and c.from_residual-in_err-push_square-2.result c.from_residual-in_err-push_square-2.ensures.1 in
+    let needs = λ (n : ℕ). SomePart (g.S.Squares.needs_node c.push_square-in-loop-square.new.squares) (four n) in
     rw (p.1, p.2)
-    (λ e. (
-      c.loop-square.square,
-      c.loop-square-test.true,
-      subst (λ n. SomePart (g.S.Squares.needs_node c.push_square-in-loop-square.new.squares) (four n)) c.cells_of-cells.ensures (c.in_err-push_square-2.ensures.needed (err_again e)),
-    ))
+    (λ e. (c.loop-square.square, c.loop-square-test.true, subst needs c.cells_of-cells.ensures (c.in_err-push_square-2.ensures.needed (err_again e))))
 
 pub loop-square-preserved : goal.loop-square-preserved
 loop-square-preserved g c =
@@ -42,9 +40,10 @@ loop-square-preserved g c =
     let n = c.next_square-after.ensures in
     let block = c.args.block in
     let square = c.loop-square.square in
+    let after = c.next_square-after.result in
     let alike = λ (want : ℕ → Tree) (squares : (i : ℕ) → i < 16 → want (16 * block + i) ≡ four (cells_at c.args.upper c.args.lower i)) (x : ℕ)
-    (le : 16 * block + square ≤ x) (lt : x < 16 * block + c.next_square-after.result).
-    same-columns want c.args.upper c.args.lower block square c.next_square-after.result n.within squares n.goes_on x le lt ∙ ap four (sym c.cells_of-cells.ensures) in (
+    (le : 16 * block + square ≤ x) (lt : x < 16 * block + after).
+    same-columns want c.args.upper c.args.lower block square after n.within squares n.goes_on x le lt ∙ ap four (sym c.cells_of-cells.ensures) in (
       (λ want p squares. h.filled want (16 * block + square) (inv.0 want p squares) (omega (arith, n.beyond)) (alike want squares)),
       (λ q k. let a = inv.1 q k in let b = h.keeps q a.0 in (b.0, b.1 ∙ a.1)),
       h.most ∙ inv.2,
