@@ -43,30 +43,14 @@ smalls a b c d k h = by (is_bit_id a && is_bit_id b && is_bit_id c && is_bit_id 
         of_digits (is_digit a all.0) (is_digit b all.1) (is_digit c all.2) (is_digit d all.3) (sym n)
     by false e false f = absurd (let none : None ≡ Some k = grind arith in cc)
 
--- division of four digits
-eighth : (a b c d : ℕ) → a < 2 → b < 2 → c < 2 → d < 2 → (a * 8 + b * 4 + c * 2 + d) / 8 ≡ a
-eighth a b c d la lb lc ld = omega arith
+-- four binary or hexadecimal digits, found again by division
+bits_of : (a b c d : ℕ) → a < 2 → b < 2 → c < 2 → d < 2
+    → (let n = a * 8 + b * 4 + c * 2 + d in (n / 8 ≡ a) × (n / 4 % 2 ≡ b) × (n / 2 % 2 ≡ c) × (n % 2 ≡ d))
+bits_of a b c d la lb lc ld = (omega arith, omega arith, omega arith, omega arith)
 
-fourth : (a b c d : ℕ) → a < 2 → b < 2 → c < 2 → d < 2 → (a * 8 + b * 4 + c * 2 + d) / 4 % 2 ≡ b
-fourth a b c d la lb lc ld = omega arith
-
-second : (a b c d : ℕ) → a < 2 → b < 2 → c < 2 → d < 2 → (a * 8 + b * 4 + c * 2 + d) / 2 % 2 ≡ c
-second a b c d la lb lc ld = omega arith
-
-first : (a b c d : ℕ) → a < 2 → b < 2 → c < 2 → d < 2 → (a * 8 + b * 4 + c * 2 + d) % 2 ≡ d
-first a b c d la lb lc ld = omega arith
-
-of_4096 : (a b c d : ℕ) → a < 16 → b < 16 → c < 16 → d < 16 → (a * 4096 + b * 256 + c * 16 + d) / 4096 ≡ a
-of_4096 a b c d la lb lc ld = omega arith
-
-of_256 : (a b c d : ℕ) → a < 16 → b < 16 → c < 16 → d < 16 → (a * 4096 + b * 256 + c * 16 + d) / 256 % 16 ≡ b
-of_256 a b c d la lb lc ld = omega arith
-
-of_16 : (a b c d : ℕ) → a < 16 → b < 16 → c < 16 → d < 16 → (a * 4096 + b * 256 + c * 16 + d) / 16 % 16 ≡ c
-of_16 a b c d la lb lc ld = omega arith
-
-of_1 : (a b c d : ℕ) → a < 16 → b < 16 → c < 16 → d < 16 → (a * 4096 + b * 256 + c * 16 + d) % 16 ≡ d
-of_1 a b c d la lb lc ld = omega arith
+digits_of : (a b c d : ℕ) → a < 16 → b < 16 → c < 16 → d < 16
+    → (let n = a * 4096 + b * 256 + c * 16 + d in (n / 4096 ≡ a) × (n / 256 % 16 ≡ b) × (n / 16 % 16 ≡ c) × (n % 16 ≡ d))
+digits_of a b c d la lb lc ld = (omega arith, omega arith, omega arith, omega arith)
 
 pub below_16 : (q : ℕ) → IsDigit q → q - 512 < 16
 below_16 q (digit_0 e) = omega arith
@@ -93,15 +77,17 @@ unfolding small_square
 small_square-is S a b c d k (of_bits la lb lc ld e) =
     let low : nat_lt k 528 ≡ true = grind arith in
     let n : k - 512 ≡ a * 8 + b * 4 + c * 2 + d = omega arith in
-    rw low (ap two n ∙ (λ i. quad ((ap point (eighth a b c d la lb lc ld) ∙ sym (square_of-bit S a la)) i) ((ap point (fourth a b c d la lb lc ld) ∙ sym (square_of-bit S b lb)) i)
-    ((ap point (second a b c d la lb lc ld) ∙ sym (square_of-bit S c lc)) i) ((ap point (first a b c d la lb lc ld) ∙ sym (square_of-bit S d ld)) i)))
+    let q = bits_of a b c d la lb lc ld in
+    rw low (ap two n ∙ (λ i. quad ((ap point q.0 ∙ sym (square_of-bit S a la)) i) ((ap point q.1 ∙ sym (square_of-bit S b lb)) i)
+    ((ap point q.2 ∙ sym (square_of-bit S c lc)) i) ((ap point q.3 ∙ sym (square_of-bit S d ld)) i)))
 small_square-is S a b c d k (of_digits ia ib ic id e) =
     let p = a - 512 in let q = b - 512 in let r = c - 512 in let t = d - 512 in
     let la : p < 16 = below_16 a ia in let lb : q < 16 = below_16 b ib in let lc : r < 16 = below_16 c ic in let ld : t < 16 = below_16 d id in
     let low : nat_lt k 528 ≡ false = grind arith in
     let n : k - 528 ≡ p * 4096 + q * 256 + r * 16 + t = omega arith in
-    rw low (ap four n ∙ (λ i. quad ((ap two (of_4096 p q r t la lb lc ld) ∙ sym (square_of-digit S a ia)) i) ((ap two (of_256 p q r t la lb lc ld) ∙ sym (square_of-digit S b ib)) i)
-    ((ap two (of_16 p q r t la lb lc ld) ∙ sym (square_of-digit S c ic)) i) ((ap two (of_1 p q r t la lb lc ld) ∙ sym (square_of-digit S d id)) i)))
+    let o = digits_of p q r t la lb lc ld in
+    rw low (ap four n ∙ (λ i. quad ((ap two o.0 ∙ sym (square_of-digit S a ia)) i) ((ap two o.1 ∙ sym (square_of-digit S b ib)) i)
+    ((ap two o.2 ∙ sym (square_of-digit S c ic)) i) ((ap two o.3 ∙ sym (square_of-digit S d id)) i)))
 
 -- the quarters by division
 pub bits_are : (a b c d k bits : ℕ) → small_of a b c d ≡ Some k → k < 528 → bits ≡ k - 512 → (bits / 8 ≡ a) × (bits / 4 % 2 ≡ b) × (bits / 2 % 2 ≡ c) × (bits % 2 ≡ d)
@@ -110,7 +96,8 @@ bits_are a b c d k bits h low e = by (smalls a b c d k h)
     by : Smalls a b c d k → (bits / 8 ≡ a) × (bits / 4 % 2 ≡ b) × (bits / 2 % 2 ≡ c) × (bits % 2 ≡ d)
     by (of_bits la lb lc ld f) =
         let n : bits ≡ a * 8 + b * 4 + c * 2 + d = omega arith in
-        (ap (λ z. z / 8) n ∙ eighth a b c d la lb lc ld, ap (λ z. z / 4 % 2) n ∙ fourth a b c d la lb lc ld, ap (λ z. z / 2 % 2) n ∙ second a b c d la lb lc ld, ap (λ z. z % 2) n ∙ first a b c d la lb lc ld)
+        let q = bits_of a b c d la lb lc ld in
+        (ap (λ z. z / 8) n ∙ q.0, ap (λ z. z / 4 % 2) n ∙ q.1, ap (λ z. z / 2 % 2) n ∙ q.2, ap (λ z. z % 2) n ∙ q.3)
     by (of_digits ia ib ic id f) = absurd (omega arith)
 
 id_of-digit : (q n : ℕ) → IsDigit q → n ≡ q - 512 → digit_id n ≡ id_of q
@@ -131,11 +118,12 @@ digits_are a b c d k digits h high e = by (smalls a b c d k h)
     by (of_digits ia ib ic id f) =
         let p = a - 512 in let q = b - 512 in let r = c - 512 in let t = d - 512 in
         let la : p < 16 = below_16 a ia in let lb : q < 16 = below_16 b ib in let lc : r < 16 = below_16 c ic in let ld : t < 16 = below_16 d id in
-        let n : digits ≡ p * 4096 + q * 256 + r * 16 + t = omega arith in (
-          id_of-digit a _ ia (ap (λ z. z / 4096) n ∙ of_4096 p q r t la lb lc ld),
-          id_of-digit b _ ib (ap (λ z. z / 256 % 16) n ∙ of_256 p q r t la lb lc ld),
-          id_of-digit c _ ic (ap (λ z. z / 16 % 16) n ∙ of_16 p q r t la lb lc ld),
-          id_of-digit d _ id (ap (λ z. z % 16) n ∙ of_1 p q r t la lb lc ld),
+        let n : digits ≡ p * 4096 + q * 256 + r * 16 + t = omega arith in
+        let o = digits_of p q r t la lb lc ld in (
+          id_of-digit a _ ia (ap (λ z. z / 4096) n ∙ o.0),
+          id_of-digit b _ ib (ap (λ z. z / 256 % 16) n ∙ o.1),
+          id_of-digit c _ ic (ap (λ z. z / 16 % 16) n ∙ o.2),
+          id_of-digit d _ id (ap (λ z. z % 16) n ∙ o.3),
         )
 
 -- the numbers of small squares and of their quarters
