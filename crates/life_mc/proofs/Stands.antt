@@ -16,7 +16,8 @@ use Rattle.life_base.specs.declared.kind.Kind.TheVariants.{LineTooLong, NoHeader
 use Rattle.life_base.specs.declared.rule.Rule.{Rule}
 use Rattle.life_mc.specs.Macrocell.{level_of}
 use Rattle.life_mc.specs.Reading.{broken, broken_behind, broken_by_node, fault_in, is_command, rule_in_force, generation_in_force, squares_of, square_behind, square_on, rule_on, generation_on, last_or, square_of}
-use Rattle.life_mc.specs.Standing.{Standing, StandsAfter, broken_after, Tells, told_rule, told_generation, told_square, or_value, level_told}
+use Rattle.life_mc.specs.Grammar.{form_rule, form_generation, form_square}
+use Rattle.life_mc.specs.Standing.{Standing, StandsAfter, broken_after, Tells, form_of, or_value, level_told}
 use Rattle.life_mc.specs.declared.told.Told.{Told}
 use Rattle.life_mc.specs.declared.line.Line.{Line}
 use Rattle.life_mc.proofs.Valid.{command_is_hash}
@@ -189,19 +190,20 @@ module _ (top : ℕ) (lines : List (List ℕ)) (line : List ℕ) (old new : Stan
       )
 
   -- a line behind it
-  pub stands_next : (told : Told) → old.started ≡ true → broken_after top old.rule old.levels line ≡ None → Tells line told → new.started ≡ old.started
-      → new.rule ≡ or_value (told_rule told) old.rule → new.generation ≡ or_value (told_generation told) old.generation → new.levels ≡ old.levels ++ level_told (told_square told)
-      → (told_square told ≡ square_behind lines line) × StandsAfter top (lines ++ line ∷ []) new
+  pub stands_next : (told : Told) → let form = form_of told in old.started ≡ true → broken_after top old.rule old.levels line ≡ None → Tells line told
+      → new.started ≡ old.started → new.rule ≡ or_value (form_rule form) old.rule → new.generation ≡ or_value (form_generation form) old.generation
+      → new.levels ≡ old.levels ++ level_told (form_square form) → (form_square form ≡ square_behind lines line) × StandsAfter top (lines ++ line ∷ []) new
   stands_next told t b tells st r g l =
+      let form = form_of told in
       let some : is_empty lines ≡ false = not-true old.started (is_empty lines) s.started t in
-      let here : square_behind lines line ≡ told_square told = square_here lines line some ∙ tells.2 in (
+      let here : square_behind lines line ≡ form_square form = square_here lines line some ∙ tells.2 in (
         sym here,
         record {
           unbroken = unbroken_more top lines line s.unbroken (broken_is top lines line old s h t ∙ b);
           started = st ∙ t ∙ some_lines lines line;
-          rule = r ∙ ap (or_value (told_rule told)) s.rule ∙ sym (rule_more lines line (told_rule told) some tells.0);
-          generation = g ∙ ap (or_value (told_generation told)) s.generation ∙ sym (generation_more lines line (told_generation told) some tells.1);
-          levels = l ∙ ap (λ (ls : List ℕ). ls ++ level_told (told_square told)) s.levels ∙ sym (levels_more lines line (told_square told) here);
+          rule = r ∙ ap (or_value (form_rule form)) s.rule ∙ sym (rule_more lines line (form_rule form) some tells.0);
+          generation = g ∙ ap (or_value (form_generation form)) s.generation ∙ sym (generation_more lines line (form_generation form) some tells.1);
+          levels = l ∙ ap (λ (ls : List ℕ). ls ++ level_told (form_square form)) s.levels ∙ sym (levels_more lines line (form_square form) here);
         },
       )
 

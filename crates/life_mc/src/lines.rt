@@ -40,7 +40,8 @@ fn level_of_square(square: &Line) -> u8
 impl Kept {
     ghost use Rattle.std.specs.Prelude.{◌++◌, ◌∷◌, [], ℕ, List, ◌⊎◌, IfOk, IfErr, OnOk, MatchOption, Some, true, false};
     ghost use Rattle.life_base.specs.declared.kind.Kind.TheVariants.{Memory};
-    ghost use Rattle.life_mc.specs.Standing.{StandsAfter, told_rule, told_generation, told_square, or_value, level_told};
+    ghost use Rattle.life_mc.specs.Grammar.{form_rule, form_generation, form_square};
+    ghost use Rattle.life_mc.specs.Standing.{StandsAfter, form_of, or_value, level_told};
     ghost use Rattle.life_mc.specs.Reading.{broken, square_behind};
 
     /// What is kept of no line.
@@ -79,10 +80,10 @@ impl Kept {
 
     /// Keeps what a line tells, and answers its square.
     fn keep(&mut self, told: Told) -> Result<Option<Line>, Kind>
-        ensures square { IfOk result (λ square. square ≡ told_square told) }
-        ensures rule { OnOk result (self.new.rule ≡ or_value (told_rule told) self.old.rule) }
-        ensures generation { OnOk result (self.new.generation ≡ or_value (told_generation told) self.old.generation) }
-        ensures levels { OnOk result (self.new.levels ≡ self.old.levels ++ level_told (told_square told)) }
+        ensures square { IfOk result (λ square. square ≡ form_square (form_of told)) }
+        ensures rule { OnOk result (self.new.rule ≡ or_value (form_rule (form_of told)) self.old.rule) }
+        ensures generation { OnOk result (self.new.generation ≡ or_value (form_generation (form_of told)) self.old.generation) }
+        ensures levels { OnOk result (self.new.levels ≡ self.old.levels ++ level_told (form_square (form_of told))) }
         ensures started { self.new.started ≡ self.old.started }
         ensures err { IfErr result (λ kind. kind ≡ Memory) }
     {
