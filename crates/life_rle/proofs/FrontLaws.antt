@@ -12,7 +12,7 @@ use Rattle.life_rle.specs.Pattern.{Rle}
 use Rattle.life_rle.specs.Grammar.{opening_of, later_of, IsMarked, IsSomeRle, Breaks, before_header, by_form}
 use Rattle.life_rle.specs.Decided.{LacksHeader, HasBroken}
 use Rattle.life_rle.specs.FrontLaws.{LinesBehindMarkAreFree, IsMarkDecided, FrontsOfFronts, FrontsAreFiles, BeginsAsRle, MacrocellLineBreaks, LongLinesBreak}
-use Rattle.life_rle.proofs.Progress.{progress, open_step, progress-Refused}
+use Rattle.life_rle.proofs.Progress.{progress, open_step, progress-Refused, IsMarked-append}
 use Rattle.life_rle.proofs.Refusal.{Goes, Goes-Prefix, Prefix-Goes, Goes-front, IsRle-Goes, IsPreamble-Prefix}
 use Rattle.life_rle.proofs.Unique.{Breaks-unique, Breaks-no_more, Breaks-no_prefix, IsUnmarked-progress, IsMarked-progress}
 use Rattle.life_rle.proofs.DecidedLaw.{decided}
@@ -25,26 +25,12 @@ mark_is_decided level lines file other u m = let x = IsUnmarked-progress level l
 
 -- ---- behind the mark
 
-marked-on : (level : ℕ) (lines more : List (List ℕ)) (file : Rle) → IsMarked level lines file → IsMarked level (lines ++ more) file
-marked-on level lines more file m = record {
-  front = m.front;
-  last = m.last;
-  free = m.free ++ more;
-  whole = ap (λ (ls : List (List ℕ)). ls ++ more) m.whole ∙ append_assoc m.front (m.last ∷ m.free) more;
-  earlier = m.earlier;
-  final = m.final;
-  items = m.items;
-  begun = m.begun;
-  marked = m.marked;
-  sound = m.sound;
-}
-
 pub lines_behind_mark_are_free : LinesBehindMarkAreFree
 lines_behind_mark_are_free level lines more file m =
-    let on : IsMarked level (lines ++ more) file = marked-on level lines more file m in (
+    let on : IsMarked level (lines ++ more) file = IsMarked-append level lines more file m in (
       on,
       λ line kind b. Breaks-no_more level (lines ++ more) line kind [] file b
-          (inr (marked-on level ((lines ++ more) ++ line ∷ []) [] file (marked-on level (lines ++ more) (line ∷ []) file on))),
+          (inr (IsMarked-append level ((lines ++ more) ++ line ∷ []) [] file (IsMarked-append level (lines ++ more) (line ∷ []) file on))),
     )
 
 -- ---- fronts

@@ -26,7 +26,7 @@ use Rattle.life_rle.specs.Grammar.{opening_of, later_of, IsPreamble, LineSpells,
 use Rattle.life_rle.specs.PlainPosition.{IsPositionText}
 use Rattle.life_rle.specs.PlainFile.{IsShort, IsComment, ArePreamble, IsRuleLine, IsData, IsBodyLine, IsLastLine, AreBody, MayStand, IsOpenFile, IsEndedFile, FilesArePlain}
 use Rattle.life_rle.proofs.Texts.{both_true}
-use Rattle.life_rle.proofs.Progress.{first_kind-both}
+use Rattle.life_rle.proofs.Progress.{first_kind-both, IsOpenBy-map, IsEndedBy-map}
 use Rattle.life_rle.proofs.PlainItems.{items_are_plain}
 use Rattle.life_rle.proofs.PlainHeader.{headers_are_plain}
 use Rattle.life_rle.proofs.PlainPosition.{positions_are_plain}
@@ -321,59 +321,20 @@ places-fault level rule (q ∷ ps) h =
 -- ---- files
 
 open-plain : (level : ℕ) (lines : List (List ℕ)) (file : Rle) → IsUnmarked level lines file → IsOpenFile level lines file
-open-plain level lines file u =
-    let header = opening-header level u.header file.rule u.rule in
-    record {
-      before = u.before;
-      header = u.header;
-      body = u.body;
-      whole = u.whole;
-      preamble = preamble-plain level default_position file.position u.before u.preamble;
-      short = header.0;
-      rule = header.1;
-      items = body-plain level u.body file.items u.items;
-      place = fault-places level file.rule (placed file) u.sound;
-    }
+open-plain level =
+    IsOpenBy-map (λ before position. preamble-plain level default_position position before) (opening-header level) (body-plain level)
+    (λ file. fault-places level file.rule (placed file))
 
 plain-open : (level : ℕ) (lines : List (List ℕ)) (file : Rle) → IsOpenFile level lines file → IsUnmarked level lines file
-plain-open level lines file u = record {
-  before = u.before;
-  header = u.header;
-  body = u.body;
-  whole = u.whole;
-  preamble = plain-preamble level default_position file.position u.before u.preamble;
-  rule = header-opening level u.header file.rule u.short u.rule;
-  items = plain-body level u.body file.items u.items;
-  sound = places-fault level file.rule (placed file) u.place;
-}
+plain-open level =
+    IsOpenBy-map (λ before position. plain-preamble level default_position position before) (λ header rule h. header-opening level header rule h.0 h.1)
+    (plain-body level) (λ file. places-fault level file.rule (placed file))
 
 ended-plain : (level : ℕ) (lines : List (List ℕ)) (file : Rle) → IsMarked level lines file → IsEndedFile level lines file
-ended-plain level lines file m = record {
-  front = m.front;
-  last = m.last;
-  free = m.free;
-  whole = m.whole;
-  earlier = m.earlier;
-  final = m.final;
-  items = m.items;
-  begun = open-plain level m.front (record file { items = m.earlier }) m.begun;
-  ended = last-plain level m.last m.final m.marked;
-  place = fault-places level file.rule (placed file) m.sound;
-}
+ended-plain level = IsEndedBy-map (open-plain level) (last-plain level) (λ file. fault-places level file.rule (placed file))
 
 plain-ended : (level : ℕ) (lines : List (List ℕ)) (file : Rle) → IsEndedFile level lines file → IsMarked level lines file
-plain-ended level lines file m = record {
-  front = m.front;
-  last = m.last;
-  free = m.free;
-  whole = m.whole;
-  earlier = m.earlier;
-  final = m.final;
-  items = m.items;
-  begun = plain-open level m.front (record file { items = m.earlier }) m.begun;
-  marked = plain-last level m.last m.final m.ended;
-  sound = places-fault level file.rule (placed file) m.place;
-}
+plain-ended level = IsEndedBy-map (plain-open level) (plain-last level) (λ file. places-fault level file.rule (placed file))
 
 file-plain : (level : ℕ) (lines : List (List ℕ)) (file : Rle) → IsRle level lines file → IsOpenFile level lines file ⊎ IsEndedFile level lines file
 file-plain level lines file (inl u) = inl (open-plain level lines file u)

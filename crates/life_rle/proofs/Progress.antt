@@ -11,7 +11,7 @@ use Rattle.life_rle.specs.Position.{default_position}
 use Rattle.life_rle.specs.Pattern.{Rle, Placed, placed, placed_item, placed_behind, first_fault, first_kind, placed_fault}
 use Rattle.life_rle.specs.declared.opening.Opening.{Opening}
 use Rattle.life_rle.specs.declared.opening.Opening.TheVariants.{Comment, PositionLine, Header}
-use Rattle.life_rle.specs.Grammar.{opening_of, later_of, IsPreamble, LineSpells, BodySpells, IsUnmarked, IsMarked}
+use Rattle.life_rle.specs.Grammar.{opening_of, later_of, IsPreamble, LineSpells, BodySpells, IsUnmarked, IsOpenBy, IsEndedBy, IsMarked}
 use Rattle.life_rle.specs.declared.opening.Later.{Later}
 use Rattle.life_rle.specs.declared.opening.Later.TheVariants.{Passed, Data}
 use Rattle.life_rle.proofs.ReadSteps.{items_read, last_read, line-Spells}
@@ -157,18 +157,56 @@ IsMarked-begun level lines file line more b s sound = record {
   sound = first_fault-with_items level file more ∙ ap (λ k. first_kind k (first_fault level file.rule (placed_behind file.position file.items more))) b.sound ∙ sound;
 }
 
-pub IsMarked-push : (level : ℕ) (lines : List (List ℕ)) (file : Rle) (line : List ℕ) → IsMarked level lines file → IsMarked level (lines ++ line ∷ []) file
-IsMarked-push level lines file line b = record {
+pub IsMarked-append : (level : ℕ) (lines more : List (List ℕ)) (file : Rle) → IsMarked level lines file → IsMarked level (lines ++ more) file
+IsMarked-append level lines more file b = record {
   front = b.front;
   last = b.last;
-  free = b.free ++ line ∷ [];
-  whole = ap (λ ls. ls ++ line ∷ []) b.whole ∙ append_assoc b.front (b.last ∷ b.free) (line ∷ []);
+  free = b.free ++ more;
+  whole = ap (λ (ls : List (List ℕ)). ls ++ more) b.whole ∙ append_assoc b.front (b.last ∷ b.free) more;
   earlier = b.earlier;
   final = b.final;
   items = b.items;
   begun = b.begun;
   marked = b.marked;
   sound = b.sound;
+}
+
+pub IsMarked-push : (level : ℕ) (lines : List (List ℕ)) (file : Rle) (line : List ℕ) → IsMarked level lines file → IsMarked level (lines ++ line ∷ []) file
+IsMarked-push level lines file line b = IsMarked-append level lines (line ∷ []) file b
+
+-- a file in other words for its parts
+pub IsOpenBy-map : {Are Are' : List (List ℕ) → Position → Type 0} {IsHeader IsHeader' : List ℕ → Rule → Type 0}
+    → {Items Items' : List (List ℕ) → List Item → Type 0} {IsSound IsSound' : Rle → Type 0}
+    → ((before : List (List ℕ)) (position : Position) → Are before position → Are' before position)
+    → ((header : List ℕ) (rule : Rule) → IsHeader header rule → IsHeader' header rule)
+    → ((body : List (List ℕ)) (items : List Item) → Items body items → Items' body items) → ((file : Rle) → IsSound file → IsSound' file)
+    → (lines : List (List ℕ)) (file : Rle) → IsOpenBy Are IsHeader Items IsSound lines file → IsOpenBy Are' IsHeader' Items' IsSound' lines file
+IsOpenBy-map preamble rule items sound lines file b = record {
+  before = b.before;
+  header = b.header;
+  body = b.body;
+  whole = b.whole;
+  preamble = preamble b.before file.position b.preamble;
+  rule = rule b.header file.rule b.rule;
+  items = items b.body file.items b.items;
+  sound = sound file b.sound;
+}
+
+pub IsEndedBy-map : {IsOpen IsOpen' : List (List ℕ) → Rle → Type 0} {IsLast IsLast' : List ℕ → List Item → Type 0} {IsSound IsSound' : Rle → Type 0}
+    → ((front : List (List ℕ)) (file : Rle) → IsOpen front file → IsOpen' front file)
+    → ((last : List ℕ) (items : List Item) → IsLast last items → IsLast' last items) → ((file : Rle) → IsSound file → IsSound' file)
+    → (lines : List (List ℕ)) (file : Rle) → IsEndedBy IsOpen IsLast IsSound lines file → IsEndedBy IsOpen' IsLast' IsSound' lines file
+IsEndedBy-map begun marked sound lines file b = record {
+  front = b.front;
+  last = b.last;
+  free = b.free;
+  whole = b.whole;
+  earlier = b.earlier;
+  final = b.final;
+  items = b.items;
+  begun = begun b.front (record file { items = b.earlier }) b.begun;
+  marked = marked b.last b.final b.marked;
+  sound = sound file b.sound;
 }
 
 pub header-IsUnmarked : (level : ℕ) (lines : List (List ℕ)) (o : Position) (line : List ℕ) (rule : Rule) → IsPreamble level default_position lines o → opening_of level line ≡ Ok (Header rule) → IsUnmarked level (lines ++ line ∷ []) (record { rule = rule; position = o; items = [] })

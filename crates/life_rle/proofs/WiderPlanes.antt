@@ -13,7 +13,7 @@ use Rattle.life_rle.specs.declared.item.Item.TheVariants.{Cells, RowEnds}
 use Rattle.life_rle.specs.declared.opening.Opening.{Opening}
 use Rattle.life_rle.specs.declared.opening.Opening.TheVariants.{Comment, PositionLine, Header}
 use Rattle.life_rle.specs.declared.position.Position.{Position}
-use Rattle.life_rle.specs.Grammar.{IsUnmarked, IsMarked, IsPreamble, LineSpells, BodySpells, opening_of}
+use Rattle.life_rle.specs.Grammar.{IsUnmarked, IsMarked, HasNoFault, IsPreamble, LineSpells, BodySpells, opening_of}
 use Rattle.life_rle.specs.Header.{header_of}
 use Rattle.life_rle.specs.Items.{Next, End, Mark, Spelled, Broken, Spells, next_of, item_in, counted, item_behind, front_digits, behind_digits}
 use Rattle.life_rle.specs.Laws.{WiderPlanesKeepFiles}
@@ -22,7 +22,7 @@ use Rattle.life_rle.specs.Plane.{edge, is_coordinate, most_count}
 use Rattle.life_rle.specs.Position.{default_position, Field, Corner, and_then, corner_of, corner_in, field_of, with_field}
 use Rattle.life_rle.specs.Position.{position_with, position_of, is_position_line}
 use Rattle.life_rle.specs.States.{is_state_of}
-use Rattle.life_rle.proofs.Progress.{first_kind-both}
+use Rattle.life_rle.proofs.Progress.{first_kind-both, IsOpenBy-map, IsEndedBy-map}
 
 -- ---- the numbers of the plane
 
@@ -204,32 +204,20 @@ sound-wider level wider rule (p ∷ ps) wide h =
 
 -- ---- files
 
-unmarked-wider : (level wider : ℕ) (lines : List (List ℕ)) (file : Rle) → level ≤ wider
-    → IsUnmarked level lines file → IsUnmarked wider lines file
-unmarked-wider level wider lines file wide u = record {
-  before = u.before;
-  header = u.header;
-  body = u.body;
-  whole = u.whole;
-  preamble = preamble-wider level wider default_position u.before file.position wide u.preamble;
-  rule = opening-wider level wider u.header (Header file.rule) wide u.rule;
-  items = body-wider level wider u.body file.items wide u.items;
-  sound = sound-wider level wider file.rule (placed file) wide u.sound;
-}
+sound-file : (level wider : ℕ) (file : Rle) → level ≤ wider → HasNoFault level file → HasNoFault wider file
+sound-file level wider file wide h = sound-wider level wider file.rule (placed file) wide h
+
+unmarked-wider : (level wider : ℕ) (lines : List (List ℕ)) (file : Rle) → level ≤ wider → IsUnmarked level lines file → IsUnmarked wider lines file
+unmarked-wider level wider lines file wide =
+    IsOpenBy-map (λ before position. preamble-wider level wider default_position before position wide)
+    (λ header rule. opening-wider level wider header (Header rule) wide) (λ body items. body-wider level wider body items wide)
+    (λ whole. sound-file level wider whole wide) lines file
 
 marked-wider : (level wider : ℕ) (lines : List (List ℕ)) (file : Rle) → level ≤ wider → IsMarked level lines file → IsMarked wider lines file
-marked-wider level wider lines file wide m = record {
-  front = m.front;
-  last = m.last;
-  free = m.free;
-  whole = m.whole;
-  earlier = m.earlier;
-  final = m.final;
-  items = m.items;
-  begun = unmarked-wider level wider m.front (record file { items = m.earlier }) wide m.begun;
-  marked = line-wider level wider m.last m.final Mark wide (λ e. cc) m.marked;
-  sound = sound-wider level wider file.rule (placed file) wide m.sound;
-}
+marked-wider level wider lines file wide =
+    IsEndedBy-map (λ front begun. unmarked-wider level wider front begun wide)
+    (λ line items. line-wider level wider line items Mark wide (λ e. cc))
+    (λ whole. sound-file level wider whole wide) lines file
 
 -- every file of a plane is one of each wider plane
 pub wider_planes_keep_files : WiderPlanesKeepFiles

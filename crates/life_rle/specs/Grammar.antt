@@ -4,6 +4,7 @@ use Rattle.std.specs.Prelude.{◌≡◌, ℕ, ◌⊎◌, ◌||◌, Bool, true, f
 use Rattle.life_base.specs.declared.kind.Kind.{Kind}
 use Rattle.life_base.specs.declared.kind.Kind.TheVariants.{LineTooLong, NoHeader, LateHeader, SecondHeader}
 use Rattle.life_base.specs.declared.kind.Kind.TheVariants as kinds
+use Rattle.life_base.specs.declared.rule.Rule.{Rule}
 use Rattle.life_base.specs.Text.{is_too_long, is_blank, begins_with}
 use Rattle.life_rle.specs.declared.item.Item.{Item}
 use Rattle.life_rle.specs.declared.position.Position.{Position}
@@ -55,19 +56,21 @@ BodySpells level [] items = items ≡ []
 BodySpells level (line ∷ lines) items =
     (first rest : List Item) × (items ≡ first ++ rest) × LineSpells level line first End × BodySpells level lines rest
 
--- a header stands in the lines, and no `!` has ended the pattern: the end of the input ends it
-pub record IsUnmarked (level : ℕ) (lines : List (List ℕ)) (file : Rle) : Type 0 where
+-- lines before the header, the header, and lines of items behind it, with these words for each part
+pub record IsOpenBy (ArePreamble : List (List ℕ) → Position → Type 0) (IsHeader : List ℕ → Rule → Type 0) (AreItems : List (List ℕ) → List Item → Type 0)
+    (IsSound : Rle → Type 0) (lines : List (List ℕ)) (file : Rle) : Type 0 where
   pub before : List (List ℕ)
   pub header : List ℕ
   pub body : List (List ℕ)
   pub whole : lines ≡ before ++ header ∷ body
-  pub preamble : IsPreamble level default_position before file.position
-  pub rule : opening_of level header ≡ Ok (Header file.rule)
-  pub items : BodySpells level body file.items
-  pub sound : first_fault level file.rule (placed file) ≡ None
+  pub preamble : ArePreamble before file.position
+  pub rule : IsHeader header file.rule
+  pub items : AreItems body file.items
+  pub sound : IsSound file
 
--- a line's `!` ends the pattern, and the lines behind it are free
-pub record IsMarked (level : ℕ) (lines : List (List ℕ)) (file : Rle) : Type 0 where
+-- lines of the earlier items, the line that ends them with the final ones, and lines behind it, which are free, with these words for each part
+pub record IsEndedBy (IsOpen : List (List ℕ) → Rle → Type 0) (IsLast : List ℕ → List Item → Type 0) (IsSound : Rle → Type 0) (lines : List (List ℕ))
+    (file : Rle) : Type 0 where
   pub front : List (List ℕ)
   pub last : List ℕ
   pub free : List (List ℕ)
@@ -75,9 +78,22 @@ pub record IsMarked (level : ℕ) (lines : List (List ℕ)) (file : Rle) : Type 
   pub earlier : List Item
   pub final : List Item
   pub items : file.items ≡ earlier ++ final
-  pub begun : IsUnmarked level front (record file { items = earlier })
-  pub marked : LineSpells level last final Mark
-  pub sound : first_fault level file.rule (placed file) ≡ None
+  pub begun : IsOpen front (record file { items = earlier })
+  pub marked : IsLast last final
+  pub sound : IsSound file
+
+-- no item breaks a rule
+abbrev pub HasNoFault : ℕ → Rle → Type 0
+HasNoFault level file = first_fault level file.rule (placed file) ≡ None
+
+-- a header stands in the lines, and no `!` has ended the pattern: the end of the input ends it
+abbrev pub IsUnmarked : ℕ → List (List ℕ) → Rle → Type 0
+IsUnmarked level =
+    IsOpenBy (IsPreamble level default_position) (λ line rule. opening_of level line ≡ Ok (Header rule)) (BodySpells level) (HasNoFault level)
+
+-- a line's `!` ends the pattern, and the lines behind it are free
+abbrev pub IsMarked : ℕ → List (List ℕ) → Rle → Type 0
+IsMarked level = IsEndedBy (IsUnmarked level) (λ line items. LineSpells level line items Mark) (HasNoFault level)
 
 -- the lines are an RLE file of this rule, position and list of items
 abbrev pub IsRle : ℕ → List (List ℕ) → Rle → Type 0

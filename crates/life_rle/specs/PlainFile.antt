@@ -14,7 +14,7 @@ use Rattle.life_rle.specs.Pattern.{Rle, Placed}
 use Rattle.life_rle.specs.ItemsLaw.{IsItem}
 use Rattle.life_rle.specs.Plain.{IsHeaderLine, IsTextOf}
 use Rattle.life_rle.specs.PlainPosition.{IsPositionText}
-use Rattle.life_rle.specs.Grammar.{IsRle}
+use Rattle.life_rle.specs.Grammar.{IsRle, IsOpenBy, IsEndedBy}
 
 -- a line that isn't too long
 abbrev pub IsShort : List ℕ → Type 0
@@ -64,29 +64,13 @@ abbrev pub AreInPlace : ℕ → Rle → Type 0
 AreInPlace level file = (i : ℕ) (p : Placed) → IsItem file i p → MayStand level file.rule p.row p.column p.item
 
 -- a file without `!`: comments and position lines, the header, and the lines of its items
-pub record IsOpenFile (level : ℕ) (lines : List (List ℕ)) (file : Rle) : Type 0 where
-  pub before : List (List ℕ)
-  pub header : List ℕ
-  pub body : List (List ℕ)
-  pub whole : lines ≡ before ++ header ∷ body
-  pub preamble : ArePreamble level default_position before file.position
-  pub short : IsShort header
-  pub rule : IsRuleLine header file.rule
-  pub items : AreBody level body file.items
-  pub place : AreInPlace level file
+abbrev pub IsOpenFile : ℕ → List (List ℕ) → Rle → Type 0
+IsOpenFile level =
+    IsOpenBy (ArePreamble level default_position) (λ line rule. IsShort line × IsRuleLine line rule) (AreBody level) (AreInPlace level)
 
 -- a file without `!`, then the line with `!`, and then any lines
-pub record IsEndedFile (level : ℕ) (lines : List (List ℕ)) (file : Rle) : Type 0 where
-  pub front : List (List ℕ)
-  pub last : List ℕ
-  pub free : List (List ℕ)
-  pub whole : lines ≡ front ++ last ∷ free
-  pub earlier : List Item
-  pub final : List Item
-  pub items : file.items ≡ earlier ++ final
-  pub begun : IsOpenFile level front (record file { items = earlier })
-  pub ended : IsLastLine level last final
-  pub place : AreInPlace level file
+abbrev pub IsEndedFile : ℕ → List (List ℕ) → Rle → Type 0
+IsEndedFile level = IsEndedBy (IsOpenFile level) (IsLastLine level) (AreInPlace level)
 
 abbrev pub IsPlainRle : ℕ → List (List ℕ) → Rle → Type 0
 IsPlainRle level lines file = IsOpenFile level lines file ⊎ IsEndedFile level lines file
