@@ -18,7 +18,7 @@ use Rattle.life_strip.proofs.SpanLemmas.{Keeps, depth-square_at}
 use Rattle.life_strip.proofs.GivenLemmas.{all_rest}
 use Rattle.life_strip.proofs.PlaneLemmas.{picture-keeps}
 use Rattle.life_strip.proofs.PictureLemmas.{positive_power, height-falling, state_in-keeps}
-use Rattle.life_strip.proofs.NeededLemmas.{quad-cells, full-quad_at, in_plane, picture-below, height-divided}
+use Rattle.life_strip.proofs.NeededLemmas.{quad-cells, full-quad_at, in_plane, picture-below, height-divided, SomeSquare-within}
 
 -- the height of strips below others
 pub height-append : (xs ys : List Strip) → height (xs ++ ys) ≡ height xs + height ys
@@ -379,20 +379,7 @@ picture-above content xs ys i j lt =
 
 -- a square of strips is one of the strips and those below them
 pub SomeSquare-above : {P : Tree → Type 0} (content : Id → Tree) (xs ys : List Strip) (rows : ℕ) → height xs ≤ rows → SomeSquare P (height xs) (picture content xs) → SomeSquare P rows (picture content (xs ++ ys))
-SomeSquare-above content xs ys rows le s =
-    record {
-      square = s.square;
-      full = s.full;
-      deep = s.deep;
-      column = s.column;
-      row = s.row;
-      east = s.east;
-      south = let h = s.south in omega (arith, h, le);
-      cells = λ i j li lj. s.cells i j li lj
-          ∙ sym (picture-above content xs ys (s.column * 2 ^ depth s.square + i) (s.row * 2 ^ depth s.square + j)
-          (let h = s.south in let one = add-mul s.row 1 (2 ^ depth s.square) in omega (arith, h, one, lj)));
-      property = s.property;
-    }
+SomeSquare-above content xs ys rows le s = SomeSquare-within le (λ i j li lj. sym (picture-above content xs ys i j lj)) s
 
 -- strips of falling levels below which four, eight or more rows were put are of level 2 or more
 pub lowest-more : (xs ys : List Strip) (n k : ℕ) → IsLowest 2 xs → AreFalling ys → height ys ≡ height xs + n → n ≡ k * 4 → IsLowest 2 ys

@@ -4,7 +4,7 @@ use Rattle.std.proofs.Common.{ℤ, pos, ◌+ℤ◌, ◌≤ℤ◌, ◌<ℤ◌}
 use Rattle.std.specs.Prelude.{if◌then◌else◌, unsigned_abs, ◌-ℤ◌}
 use Rattle.std.proofs.lemmas.Int.{ints}
 use Rattle.life_base.specs.declared.cell.TheConstants.{MAX_LEVEL}
-use Rattle.life_base.specs.Tree.{Tree, depth}
+use Rattle.life_base.specs.Tree.{Tree}
 use Rattle.life_quad.specs.declared.id.Id.{Id}
 use Rattle.life_base.proofs.Squares.{is_inside, inside_test}
 use Rattle.life_strip.specs.declared.plane.Plane.{Plane}
@@ -15,6 +15,7 @@ use Rattle.life_strip.specs.Needed.{SomeSquare}
 use Rattle.life_strip.specs.Plane.{IsFilled, IsUnfilled, IsFree, AddsRun, state_so_far, cell_so_far, on_plane}
 use Rattle.life_strip.specs.Filling.{Building, IsFilling, EmptyFills, FillingStays}
 use Rattle.life_strip.proofs.PictureLemmas.{picture-blank}
+use Rattle.life_strip.proofs.NeededLemmas.{SomeSquare-within}
 use Rattle.life_strip.proofs.PlaneLemmas.{plane_inside, filled-keeps, cells-keep}
 use Rattle.life_strip.proofs.GivenLemmas.{order-push, next-last, state_by-push}
 
@@ -38,19 +39,7 @@ filling-push knows content new before runs run order next cells filled adds belo
 -- the square that a refused call had to store is one of the runs'
 pub needed-runs : {P : Tree → Type 0} (content : Id → Tree) (b : Building) (rows : ℕ) → rows ≤ 2 ^ MAX_LEVEL
     → ((x y : ℤ) → cell_so_far content b.kept x y ≡ state_by b.runs x y) → SomeSquare P rows (state_so_far content b.kept) → SomeSquare P rows (by_columns (state_by b.runs))
-needed-runs content b rows most cells s =
-    record {
-      square = s.square;
-      full = s.full;
-      deep = s.deep;
-      column = s.column;
-      row = s.row;
-      east = s.east;
-      south = s.south;
-      cells = λ i j li lj. s.cells i j li lj
-          ∙ at (s.column * 2 ^ depth s.square + i) (s.row * 2 ^ depth s.square + j) (let e = s.east in omega (arith, e, li)) (let e = s.south in omega (arith, e, lj, most));
-      property = s.property;
-    }
+needed-runs content b rows most cells s = SomeSquare-within (omega arith) (λ i j li lj. at i j li (omega (arith, lj, most))) s
   where
     at : (i j : ℕ) → i < 2 ^ MAX_LEVEL → j < 2 ^ MAX_LEVEL → state_so_far content b.kept i j ≡ by_columns (state_by b.runs) i j
     at i j li lj =

@@ -25,9 +25,10 @@ err_again {T} {E = E} {x} e = ap Err (ap only e)
     only (Ok t) = x
     only (Err z) = z
 
--- the same square of another picture with the same states, and with as many rows or more
-pub SomeSquare-same : {P : Tree → Type 0} {f g : ℕ → ℕ → ℕ} {rows more : ℕ} → rows ≤ more → ((i j : ℕ) → f i j ≡ g i j) → SomeSquare P rows f → SomeSquare P more g
-SomeSquare-same le e s =
+-- the same square of another picture with the same states on the plane above the rows, and with as many rows or more
+pub SomeSquare-within : {P : Tree → Type 0} {f g : ℕ → ℕ → ℕ} {rows more : ℕ} → rows ≤ more → ((i j : ℕ) → i < 2 ^ MAX_LEVEL → j < rows → f i j ≡ g i j)
+    → SomeSquare P rows f → SomeSquare P more g
+SomeSquare-within le e s =
     record {
       square = s.square;
       full = s.full;
@@ -36,9 +37,16 @@ SomeSquare-same le e s =
       row = s.row;
       east = s.east;
       south = omega (arith, s.south, le);
-      cells = λ i j li lj. s.cells i j li lj ∙ e (s.column * 2 ^ depth s.square + i) (s.row * 2 ^ depth s.square + j);
+      cells = λ i j li lj. s.cells i j li lj
+          ∙ e (s.column * 2 ^ depth s.square + i) (s.row * 2 ^ depth s.square + j)
+          (let h = s.east in let one = add-mul s.column 1 (2 ^ depth s.square) in omega (arith, h, one, li))
+          (let h = s.south in let one = add-mul s.row 1 (2 ^ depth s.square) in omega (arith, h, one, lj));
       property = s.property;
     }
+
+-- of another picture with the same states everywhere
+pub SomeSquare-same : {P : Tree → Type 0} {f g : ℕ → ℕ → ℕ} {rows more : ℕ} → rows ≤ more → ((i j : ℕ) → f i j ≡ g i j) → SomeSquare P rows f → SomeSquare P more g
+SomeSquare-same le e s = SomeSquare-within le (λ i j li lj. e i j) s
 
 -- each square of a strip is full, and so are four of two strips
 module _ (knows : Id → Type 0) (content : Id → Tree) (full : (id : Id) → knows id → IsFull (content id)) (level : ℕ) where
