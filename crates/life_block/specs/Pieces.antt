@@ -79,16 +79,17 @@ pub record InThree (P : Id → Type 0) (three : Three) : Type 0 where
   pub middle : P three.middle
   pub east : P three.east
 
-pub record InNine (P : Id → Type 0) (nine : Nine) : Type 0 where
-  pub north : InThree P nine.north
-  pub middle : InThree P nine.middle
-  pub south : InThree P nine.south
-
 pub record InFour (P : Id → Type 0) (four : Four) : Type 0 where
   pub far_west : P four.far_west
   pub west : P four.west
   pub east : P four.east
   pub far_east : P four.far_east
+
+-- each square of each row has it
+pub record InNine (P : Id → Type 0) (nine : Nine) : Type 0 where
+  pub north : InThree P nine.north
+  pub middle : InThree P nine.middle
+  pub south : InThree P nine.south
 
 pub record InSixteen (P : Id → Type 0) (sixteen : Sixteen) : Type 0 where
   pub far_north : InFour P sixteen.far_north
