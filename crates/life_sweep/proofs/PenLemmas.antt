@@ -1,10 +1,12 @@
 -- Runs that grow by one cell.
-use Rattle.std.proofs.Common.{◌≡◌, ℕ, ◌+◌, inl, inr, ℤ, pos, ◌+ℤ◌, ◌<ℤ◌, List, [], ◌∷◌, ◌++◌, refl, sym, arith}
+use Rattle.std.proofs.Common.{◌≡◌, ℕ, ◌+◌, inl, inr, ℤ, pos, ◌+ℤ◌, ◌<ℤ◌, List, [], ◌∷◌, ◌++◌, refl, sym, subst, arith, to_z, of_z, w64}
+use Rattle.std.specs.Prelude.{IfSome, Option, Some}
 use Rattle.std.proofs.lemmas.Int.{ints}
 use Rattle.life_quad.specs.Cells.{IsInRun}
 use Rattle.life_strip.specs.Given.{GivenRun, IsNext, IsBehind, AreInOrder, state_by}
 use Rattle.life_strip.proofs.GivenLemmas.{runs_grow}
-use Rattle.life_sweep.specs.Pen.{one_cell}
+use Rattle.life_sweep.specs.declared.pen.Run.{Run}
+use Rattle.life_sweep.specs.Pen.{IsOpen, IsContinuedBy, one_cell}
 
 -- the state of a run of a list's end, and of other cells
 pub inside-last : (runs : List GivenRun) (run : GivenRun) (x y : ℤ) → AreInOrder runs → IsNext runs run.x run.y → IsInRun run.x run.y run.len x y → state_by (runs ++ run ∷ []) x y ≡ run.state
@@ -47,3 +49,35 @@ longer-others runs left y len state x order next e c r ne =
 pub longer-next : (runs : List GivenRun) (left y : ℤ) (len state : ℕ) (x : ℤ) → (left +ℤ pos len) ≡ x → (c r : ℤ) → IsBehind (one_cell x y state) c r → IsNext (runs ++ run_of left y (len + 1) state ∷ []) c r
 longer-next runs left y len state x e c r h =
     (runs_grow runs (run_of left y (len + 1) state) c r).0.1 (elim h [ inl l ↦ inl l | inr p ↦ inr (p.0, omega (arith, ints, p.1, e)) ])
+
+-- ---- numbers as they are kept in 64 bits
+
+abbrev pub kept : ℤ → ℤ
+kept x = to_z w64 (of_z w64 x)
+
+-- the open run is continued by a cell
+pub record GoesOn (runs : List GivenRun) (run : Run) (x y : ℤ) (state : ℕ) : Type 0 where
+  pub opened : IsOpen runs run
+  pub column : run.x ≡ kept run.x
+  pub row : run.y ≡ kept run.y
+  pub next : IsNext runs (kept run.x) (kept run.y)
+  pub more : IsContinuedBy run x y state
+
+pub goes-on : (runs : List GivenRun) (unclosed : Option Run) (run : Run) (x y : ℤ) (state : ℕ) → unclosed ≡ Some run → IfSome unclosed (IsOpen runs)
+    → kept x ≡ x → kept y ≡ y → IsContinuedBy run (kept x) (kept y) state → GoesOn runs run x y state
+goes-on runs unclosed run x y state is open_run ax ay more =
+    let opened : IsOpen runs run = subst (λ (o : Option Run). IfSome o (IsOpen runs)) is open_run in
+    let ex : run.x ≡ kept run.x = omega (arith, ints, opened.inside.west, opened.inside.east) in
+    let ey : run.y ≡ kept run.y = omega (arith, ints, opened.inside.north, opened.inside.south) in
+    record {
+      opened = opened;
+      column = ex;
+      row = ey;
+      next = subst (λ z. IsNext runs z (kept run.y)) ex (subst (λ z. IsNext runs run.x z) ey opened.next);
+      more = subst (λ z. IsContinuedBy run z y state) ax (subst (λ z. IsContinuedBy run (kept x) z state) ay more);
+    }
+
+-- a run is begun by a cell
+pub next-kept : (runs there : List GivenRun) (x y : ℤ) → x ≡ kept x → y ≡ kept y → runs ≡ there → IsNext there x y → IsNext runs (kept x) (kept y)
+next-kept runs there x y ex ey e h =
+    subst (λ (l : List GivenRun). IsNext l (kept x) (kept y)) (sym e) (subst (λ z. IsNext there z (kept y)) ex (subst (λ z. IsNext there x z) ey h))
