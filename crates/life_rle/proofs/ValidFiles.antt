@@ -9,6 +9,7 @@ use Rattle.life_base.specs.declared.kind.Kind.{Kind}
 use Rattle.life_base.specs.declared.kind.Kind.TheVariants.{LineTooLong, NoHeader, BadNumber, TooLarge, OutOfPlane}
 use Rattle.life_base.specs.declared.rule.Rule.{Rule}
 use Rattle.life_base.proofs.RuleValues.{rule_values}
+use Rattle.life_rle.specs.declared.opening.Opening.{Opening}
 use Rattle.life_rle.specs.declared.opening.Opening.TheVariants.{Comment, PositionLine, Header}
 use Rattle.life_rle.specs.declared.position.Position.{Position}
 use Rattle.life_rle.specs.Grammar.{IsRle, IsUnmarked, IsPreamble, opening_of}
@@ -19,25 +20,43 @@ use Rattle.life_rle.specs.Position.{default_position, Field, Corner, Generation,
 use Rattle.life_rle.specs.Valid.{FilesAreValid}
 use Rattle.life_rle.proofs.RunsLaws.{IsRle-plane}
 
--- ---- the rule
-
-open-header : (a b c d e : Bool) (p : Result Position Kind) (h : Result Rule Kind) (rule : Rule)
-    → cond a (Err LineTooLong) (cond b (Ok Comment) (cond c (and_then p (λ x. Ok (PositionLine x))) (cond d (Ok Comment) (cond e (and_then h (λ r. Ok (Header r))) (Err NoHeader))))) ≡ Ok (Header rule)
-    → h ≡ Ok rule
-open-header true b c d e p h rule q = cc
-open-header false true c d e p h rule q = cc
-open-header false false true d e (Ok x) h rule q = cc
-open-header false false true d e (Err k) h rule q = cc
-open-header false false false true e p h rule q = cc
-open-header false false false false true p (Ok r) rule q = cc
-open-header false false false false true p (Err k) rule q = cc
-open-header false false false false false p h rule q = cc
-
-default-valid : IsRule default_rule
-default-valid = record { births = lit< tt; survivals = lit< tt; no_birth_on_zero = refl }
+-- ---- a line before the header
 
 one-value : {X : Type 0} (a b : X) (r : Result X Kind) → r ≡ Ok a → r ≡ Ok b → a ≡ b
 one-value a b r p q = cc
+
+-- what a line before the header is says what its position, or its header, was read as
+abbrev IsReadAs : Result Position Kind → Result Rule Kind → Opening → Type 0
+IsReadAs p h Comment = Unit {0}
+IsReadAs p h (PositionLine position) = p ≡ Ok position
+IsReadAs p h (Header rule) = h ≡ Ok rule
+
+opened : (p : Result Position Kind) (h : Result Rule Kind) (here found : Opening) → IsReadAs p h here → ◌≡◌ {A = Result Opening Kind} (Ok here) (Ok found)
+    → IsReadAs p h found
+opened p h here found r q = subst (IsReadAs p h) (one-value here found (Ok here) refl q) r
+
+read-as : (a b c d e : Bool) (p : Result Position Kind) (h : Result Rule Kind) (found : Opening)
+    → cond a (Err LineTooLong) (cond b (Ok Comment)
+    (cond c (and_then p (λ x. Ok (PositionLine x))) (cond d (Ok Comment) (cond e (and_then h (λ r. Ok (Header r))) (Err NoHeader))))) ≡ Ok found
+    → IsReadAs p h found
+read-as true b c d e p h found q = absurd (cc)
+read-as false true c d e p h found q = opened p h Comment found tt q
+read-as false false true d e (Ok x) h found q = opened (Ok x) h (PositionLine x) found refl q
+read-as false false true d e (Err k) h found q = absurd (cc)
+read-as false false false true e p h found q = opened p h Comment found tt q
+read-as false false false false true p (Ok r) found q = opened p (Ok r) (Header r) found refl q
+read-as false false false false true p (Err k) found q = absurd (cc)
+read-as false false false false false p h found q = absurd (cc)
+
+line-reads : (level : ℕ) (line : List ℕ) (found : Opening) → opening_of level line ≡ Ok found → IsReadAs (position_of level line) (header_of line) found
+line-reads level line found h =
+    read-as (is_too_long line) (is_blank line) (is_position_line line) (begins_with line (codes "#")) (begins_with line (codes "x"))
+    (position_of level line) (header_of line) found h
+
+-- ---- the rule
+
+default-valid : IsRule default_rule
+default-valid = record { births = lit< tt; survivals = lit< tt; no_birth_on_zero = refl }
 
 rule-in-valid : (o : Option (Option (List ℕ))) (rule : Rule) → rule_in o ≡ Ok rule → IsRule rule
 rule-in-valid None rule h = cc
@@ -45,23 +64,9 @@ rule-in-valid (Some None) rule h = let P : Rule → Type 0 = λ r. IsRule r in s
 rule-in-valid (Some (Some text)) rule h = rule_values text rule h
 
 rule-valid : (level : ℕ) (line : List ℕ) (rule : Rule) → opening_of level line ≡ Ok (Header rule) → IsRule rule
-rule-valid level line rule h =
-    rule-in-valid (header_form line) rule
-    (open-header (is_too_long line) (is_blank line) (is_position_line line) (begins_with line (codes "#")) (begins_with line (codes "x")) (position_of level line) (header_of line) rule h)
+rule-valid level line rule h = rule-in-valid (header_form line) rule (line-reads level line (Header rule) h)
 
 -- ---- the generation
-
-open-position : (a b c d e : Bool) (p : Result Position Kind) (h : Result Rule Kind) (position : Position)
-    → cond a (Err LineTooLong) (cond b (Ok Comment) (cond c (and_then p (λ x. Ok (PositionLine x))) (cond d (Ok Comment) (cond e (and_then h (λ r. Ok (Header r))) (Err NoHeader))))) ≡ Ok (PositionLine position)
-    → p ≡ Ok position
-open-position true b c d e p h position q = cc
-open-position false true c d e p h position q = cc
-open-position false false true d e (Ok x) h position q = cc
-open-position false false true d e (Err k) h position q = cc
-open-position false false false true e p h position q = cc
-open-position false false false false true p (Ok r) position q = cc
-open-position false false false false true p (Err k) position q = cc
-open-position false false false false false p h position q = cc
 
 number-small : (u : Bool) (value n : ℕ) → cond (not u) (Err BadNumber) (cond (nat_le value (2 ^ 64 - 1)) (Ok value) (Err TooLarge)) ≡ Ok n → n < 2 ^ 64
 number-small u value n h = by u (nat_le value (2 ^ 64 - 1)) refl h
@@ -111,7 +116,7 @@ preamble-small level given (line ∷ lines) position (inl p) l = preamble-small 
 preamble-small level given (line ∷ lines) position (inr p) l =
     preamble-small level p.0 lines position p.2
     (fields-small level default_position (words_of (drop 6 line)) p.0
-    (open-position (is_too_long line) (is_blank line) (is_position_line line) (begins_with line (codes "#")) (begins_with line (codes "x")) (position_of level line) (header_of line) p.0 p.1) (lit< tt))
+    (line-reads level line (PositionLine p.0) p.1) (lit< tt))
 
 unmarked-valid : (level : ℕ) (lines : List (List ℕ)) (file : Rle) → IsUnmarked level lines file → IsRule file.rule × (file.position.generation < 2 ^ 64)
 unmarked-valid level lines file u = (rule-valid level u.header file.rule u.rule, preamble-small level default_position u.before file.position u.preamble (lit< tt))

@@ -63,12 +63,12 @@ MayStand level rule row column (RowEnds count) = (row +ℤ pos count) ≤ℤ edg
 abbrev pub AreInPlace : ℕ → Rle → Type 0
 AreInPlace level file = (i : ℕ) (p : Placed) → IsItem file i p → MayStand level file.rule p.row p.column p.item
 
--- a file without `!`: comments and position lines, the header, and the lines of its items
+-- a file without `!`: comments and position lines, the header, and the lines of its items (`IsOpenBy` of Grammar.antt says where they stand)
 abbrev pub IsOpenFile : ℕ → List (List ℕ) → Rle → Type 0
 IsOpenFile level =
     IsOpenBy (ArePreamble level default_position) (λ line rule. IsShort line × IsRuleLine line rule) (AreBody level) (AreInPlace level)
 
--- a file without `!`, then the line with `!`, and then any lines
+-- a file without `!`, then the line with `!`, and then any lines (`IsEndedBy` of Grammar.antt)
 abbrev pub IsEndedFile : ℕ → List (List ℕ) → Rle → Type 0
 IsEndedFile level = IsEndedBy (IsOpenFile level) (IsLastLine level) (AreInPlace level)
 
