@@ -112,29 +112,28 @@ abbrev pub life_or_other : List ℕ → Option DigitSets → Result Rule Kind
 life_or_other text (Some sets) = life_rule Moore sets
 life_or_other text None = four_or_other text (four_sets text)
 
--- the rule of a text without whitespace at its ends, or why it is none: the first of these tests decides. A colon is that of a
--- bounded grid (Golly Help, Bounded Grids).
-abbrev pub rule_of_trimmed : List ℕ → Result Rule Kind
-rule_of_trimmed text =
+-- the rule of a text without whitespace at its ends, or why it is none: the first of these tests decides, and behind them `otherwise`, which has the
+-- sets of a text of one of the five forms. A colon is that of a bounded grid (Golly Help, Bounded Grids).
+abbrev pub tested_rule : (List ℕ → Option DigitSets → Result Rule Kind) → List ℕ → Result Rule Kind
+tested_rule otherwise text =
     if is_bad_text text then Err BadRule
-    else (if list_any (λ b. b == 58) text then Err BoundedGrid else life_or_other text (life_sets text))
+    else (if list_any (λ b. b == 58) text then Err BoundedGrid else otherwise text (life_sets text))
+
+abbrev pub rule_of_trimmed : List ℕ → Result Rule Kind
+rule_of_trimmed = tested_rule life_or_other
 
 -- the rule of a text, or why it is none
 unfoldable pub rule_of : List ℕ → Result Rule Kind
 rule_of text = rule_of_trimmed (trim text)
 
--- the rule of a text where the eight neighbours are the only ones, as files were read before: a von Neumann rule is refused
+-- the rule of a text, by its sets if it is of one of the five forms, and no von Neumann rule
 abbrev pub moore_or_other : List ℕ → Option DigitSets → Result Rule Kind
 moore_or_other text (Some sets) = life_rule Moore sets
 moore_or_other text None = other_rule text
 
-abbrev pub moore_rule_of_trimmed : List ℕ → Result Rule Kind
-moore_rule_of_trimmed text =
-    if is_bad_text text then Err BadRule
-    else (if list_any (λ b. b == 58) text then Err BoundedGrid else moore_or_other text (life_sets text))
-
+-- the rule of a text where the eight neighbours are the only ones, as files were read before: a von Neumann rule is refused
 abbrev pub moore_rule_of : List ℕ → Result Rule Kind
-moore_rule_of text = moore_rule_of_trimmed (trim text)
+moore_rule_of text = tested_rule moore_or_other (trim text)
 
 -- the digits of a rule in rising order, each once
 abbrev pub sets_text : ℕ → ℕ → List ℕ
