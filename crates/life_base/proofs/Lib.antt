@@ -13,6 +13,7 @@ pub mod MooreRules
 pub mod NamesRead
 pub mod WritingLemmas
 pub mod RuleKinds
+pub mod LineKinds
 pub mod RuleTexts
 pub mod RuleValues
 pub mod RuleForms

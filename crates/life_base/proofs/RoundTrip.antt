@@ -14,14 +14,14 @@ use Rattle.life_base.specs.declared.rule.Near.TheVariants.{Moore}
 
 -- ---- each set of digits, by a test of all 512
 
-abbrev all_below : ℕ → (ℕ → Bool) → Bool
+abbrev pub all_below : ℕ → (ℕ → Bool) → Bool
 all_below zero p = true
 all_below (suc n) p = p n && all_below n p
 
 at_or_below : (k n : ℕ) → k < suc n → (k ≡ n) ⊎ (k < n)
 at_or_below k n h = grind arith
 
-all_below_at : (n : ℕ) (p : ℕ → Bool) (k : ℕ) → all_below n p ≡ true → k < n → p k ≡ true
+pub all_below_at : (n : ℕ) (p : ℕ → Bool) (k : ℕ) → all_below n p ≡ true → k < n → p k ≡ true
 all_below_at zero p k h l = absurd (omega arith)
 all_below_at (suc n) p k h l = elim (at_or_below k n l) [
   | inl e ↦ ap p e ∙ first _ _ h

@@ -1,5 +1,5 @@
 -- The text of a file, read back: the parts.
-use Rattle.std.proofs.Common.{◌≡◌, ℕ, zero, suc, ◌<◌, List, [], ◌∷◌, ◌++◌, length, Bool, true, false, cond, not, ◌&&◌, refl, ap, ◌∙◌, arith, ◌⊎◌, inl, inr, append_assoc}
+use Rattle.std.proofs.Common.{◌≡◌, ℕ, zero, suc, ◌<◌, List, [], ◌∷◌, ◌++◌, length, Bool, true, false, cond, not, ◌&&◌, refl, ap, ◌∙◌, arith, append_assoc}
 use Rattle.std.specs.Prelude.{◌==◌, flat_map, map}
 use Rattle.std.specs.List.{list_all, AllByRecursion, onto_first as onto_first_byte}
 use Rattle.std.proofs.lemmas.Bool.Decides.{nat_tests}
@@ -10,6 +10,7 @@ use Rattle.life_mc.specs.Writing.{row_cells, row_text}
 use Rattle.life_mc.specs.Standing.{is_cell, is_row, are_rows, row_bytes}
 use Rattle.life_mc.proofs.Leaves.{leaf_is, leaf_bytes_are}
 use Rattle.life_base.proofs.NamesRead.{all_pass, solid}
+use Rattle.life_base.proofs.RoundTrip.{all_below, all_below_at}
 
 is_false : (v : Bool) → not v ≡ true → v ≡ false
 is_false true h = cc
@@ -28,20 +29,6 @@ line_ended (b ∷ text) rest h =
 -- the cells of a row that are written
 abbrev pub written : ℕ → List ℕ
 written row = without_last (λ b. b == 46) (row_cells row)
-
-abbrev all_below : ℕ → (ℕ → Bool) → Bool
-all_below zero p = true
-all_below (suc n) p = p n && all_below n p
-
-at_or_below : (k n : ℕ) → k < suc n → (k ≡ n) ⊎ (k < n)
-at_or_below k n h = grind arith
-
-all_below_at : (n : ℕ) (p : ℕ → Bool) (k : ℕ) → all_below n p ≡ true → k < n → p k ≡ true
-all_below_at zero p k h l = absurd (omega arith)
-all_below_at (suc n) p k h l = elim (at_or_below k n l) [
-  | inl e ↦ ap p e ∙ first _ _ h
-  | inr m ↦ all_below_at n p k (second _ _ h) m
-]
 
 abbrev row_test : ℕ → Bool
 row_test row = (row_byte (written row) == row) && is_row (written row)

@@ -4,7 +4,6 @@ use mir.Val.{to_z, of_z}
 use Rattle.std.proofs.lemmas.Int.{ints, to_z-of_z}
 use Rattle.std.specs.Prelude.{int_lt, int_le}
 use Rattle.life_base.specs.declared.kind.Kind.{Kind}
-use Rattle.life_base.specs.declared.kind.Kind.TheVariants as kinds
 use Rattle.life_base.specs.declared.kind.Kind.TheVariants.{LineTooLong, NoHeader, LateHeader, SecondHeader, BadRule, BoundedGrid, UnsupportedRule, BirthOnZero, StateRange, OutOfPlane}
 use Rattle.life_base.specs.declared.rule.Rule.{Rule}
 use Rattle.life_base.specs.Rules.{rule_of}
@@ -13,6 +12,7 @@ use Rattle.life_base.proofs.RuleKinds.{rule_kind}
 use Rattle.life_base.specs.Refusal.{is_placeless, Answers}
 use Rattle.life_base.specs.declared.cell.TheConstants.{MAX_LEVEL}
 use Rattle.life_base.specs.Text.{is_too_long, is_blank, begins_with}
+use Rattle.life_base.proofs.LineKinds.{names_line as kinds_name_lines}
 use Rattle.life_rle.specs.declared.item.Item.{Item}
 use Rattle.life_rle.specs.declared.item.Item.TheVariants.{Cells, RowEnds}
 use Rattle.life_rle.specs.Items.{Broken, Spells}
@@ -135,22 +135,7 @@ Breaks-long level front line b = only-long (is_too_long line) (Breaks-line_kind 
 
 -- each of these kinds names a line
 pub names_line : (kind : Kind) → is_rle_kind kind ≡ true → is_placeless kind ≡ false
-names_line kinds.NoHeader h = refl
-names_line kinds.BadHeader h = refl
-names_line kinds.BadRule h = refl
-names_line kinds.BoundedGrid h = refl
-names_line kinds.UnsupportedRule h = refl
-names_line kinds.BirthOnZero h = refl
-names_line kinds.BadNumber h = refl
-names_line kinds.TooLarge h = refl
-names_line kinds.BadItem h = refl
-names_line kinds.ZeroCount h = refl
-names_line kinds.StateRange h = refl
-names_line kinds.OutOfPlane h = refl
-names_line kinds.LateHeader h = refl
-names_line kinds.SecondHeader h = refl
-names_line kinds.LineTooLong h = refl
-names_line _ h = cc
+names_line = kinds_name_lines is_rle_kind refl
 
 pub Breaks-placed : (level : ℕ) (front : List (List ℕ)) (line : List ℕ) (kind : Kind) → Breaks level front line kind → is_placeless kind ≡ false
 Breaks-placed level front line kind b = names_line kind (Breaks-kind level front line kind b)

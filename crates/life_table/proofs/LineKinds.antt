@@ -6,6 +6,7 @@ use Rattle.life_base.specs.Text.{is_empty, is_too_long, numbered_from}
 use Rattle.life_base.specs.Refusal.{is_placeless}
 use Rattle.life_base.specs.declared.kind.Kind.{Kind}
 use Rattle.life_base.specs.declared.kind.Kind.TheVariants as kinds
+use Rattle.life_base.proofs.LineKinds.{names_line as kinds_name_lines}
 use Rattle.life_base.proofs.RuleKinds.{errs_by, errs_by_cases}
 use Rattle.life_table.specs.Valid.{neighbour_count, is_quiet}
 use Rattle.life_table.specs.Laws.{LinesBreakByKinds, RefusalsHaveKinds}
@@ -149,44 +150,4 @@ refusals_have_kinds lines fault r = elim (within_or_not (length lines) r.n) [
 
 -- each of these kinds names a line
 pub names_line : (kind : Kind) → is_table_kind kind ≡ true → is_placeless kind ≡ false
-names_line kinds.NoHeader h = refl
-names_line kinds.BadHeader h = refl
-names_line kinds.BadRule h = refl
-names_line kinds.BoundedGrid h = refl
-names_line kinds.UnsupportedRule h = refl
-names_line kinds.BirthOnZero h = refl
-names_line kinds.BadNumber h = refl
-names_line kinds.TooLarge h = refl
-names_line kinds.BadItem h = refl
-names_line kinds.ZeroCount h = refl
-names_line kinds.StateRange h = refl
-names_line kinds.OutOfPlane h = refl
-names_line kinds.LateHeader h = refl
-names_line kinds.SecondHeader h = refl
-names_line kinds.BadNode h = refl
-names_line kinds.BadLevel h = refl
-names_line kinds.BadChild h = refl
-names_line kinds.BadLeaf h = refl
-names_line kinds.Timeline h = refl
-names_line kinds.LineTooLong h = refl
-names_line kinds.Full h = cc
-names_line kinds.Memory h = cc
-names_line kinds.Spent h = cc
-names_line kinds.NoRuleLine h = refl
-names_line kinds.NoTable h = refl
-names_line kinds.BadDescriptor h = refl
-names_line kinds.UnsupportedNeighborhood h = refl
-names_line kinds.UnsupportedSymmetry h = refl
-names_line kinds.BadVariable h = refl
-names_line kinds.BadTransition h = refl
-names_line kinds.UnboundOutput h = refl
-names_line kinds.NotQuiet h = refl
-names_line kinds.RuleMismatch h = cc
-names_line kinds.NeedsTable h = cc
-names_line kinds.Ambiguous h = refl
-names_line kinds.TooManyCells h = cc
-names_line kinds.GenerationTooLarge h = cc
-names_line kinds.StateBeyondTable h = cc
-names_line kinds.ReadFault h = cc
-names_line kinds.WriteFault h = cc
-names_line kinds.InputTooLong h = cc
+names_line = kinds_name_lines is_table_kind refl

@@ -1,0 +1,40 @@
+-- The kinds of a format name lines.
+use Rattle.std.proofs.Common.{◌≡◌, List, [], ◌∷◌, Bool, true, false, not, ◌&&◌, refl, sym, ◌∙◌}
+use Rattle.std.specs.List.{list_all, AllByRecursion}
+use Rattle.life_base.specs.Refusal.{is_placeless}
+use Rattle.life_base.specs.declared.kind.Kind.{Kind}
+use Rattle.life_base.specs.declared.kind.Kind.TheVariants as kinds
+use Rattle.life_base.proofs.Numbers.{first, second}
+
+-- the kinds that name no line
+abbrev pub placeless_kinds : List Kind
+placeless_kinds =
+    kinds.Full ∷ kinds.Memory ∷ kinds.Spent ∷ kinds.RuleMismatch ∷ kinds.NeedsTable ∷ kinds.TooManyCells ∷ kinds.GenerationTooLarge ∷ kinds.StateBeyondTable
+    ∷ kinds.ReadFault ∷ kinds.WriteFault ∷ kinds.InputTooLong ∷ []
+
+module _ (is_kind : Kind → Bool) where
+  not-one : (v : Bool) → not v ≡ true → v ≡ false
+  not-one true h = cc
+  not-one false h = refl
+
+  none-of : (list : List Kind) → list_all (λ kind. not (is_kind kind)) list ≡ true → AllByRecursion (λ kind. is_kind kind ≡ false) list
+  none-of [] h = tt
+  none-of (kind ∷ list) h = (not-one (is_kind kind) (first _ _ h), none-of list (second _ _ h))
+
+  by-kind : AllByRecursion (λ kind. is_kind kind ≡ false) placeless_kinds → (kind : Kind) → is_kind kind ≡ true → is_placeless kind ≡ false
+  by-kind n kinds.Full h = sym h ∙ n.0
+  by-kind n kinds.Memory h = sym h ∙ n.1.0
+  by-kind n kinds.Spent h = sym h ∙ n.1.1.0
+  by-kind n kinds.RuleMismatch h = sym h ∙ n.1.1.1.0
+  by-kind n kinds.NeedsTable h = sym h ∙ n.1.1.1.1.0
+  by-kind n kinds.TooManyCells h = sym h ∙ n.1.1.1.1.1.0
+  by-kind n kinds.GenerationTooLarge h = sym h ∙ n.1.1.1.1.1.1.0
+  by-kind n kinds.StateBeyondTable h = sym h ∙ n.1.1.1.1.1.1.1.0
+  by-kind n kinds.ReadFault h = sym h ∙ n.1.1.1.1.1.1.1.1.0
+  by-kind n kinds.WriteFault h = sym h ∙ n.1.1.1.1.1.1.1.1.1.0
+  by-kind n kinds.InputTooLong h = sym h ∙ n.1.1.1.1.1.1.1.1.1.1.0
+  by-kind n _ h = refl
+
+  -- kinds of which none is one of these name a line each
+  pub names_line : list_all (λ kind. not (is_kind kind)) placeless_kinds ≡ true → (kind : Kind) → is_kind kind ≡ true → is_placeless kind ≡ false
+  names_line none = by-kind (none-of placeless_kinds none)
