@@ -11,7 +11,7 @@ use Rattle.life_base.specs.declared.kind.Kind.TheVariants.{Memory, TooManyCells}
 use Rattle.life_mc.specs.Reading.{IsMacrocell}
 use Rattle.life_mc.specs.Writing.{mc_text}
 use Rattle.life_quad.specs.Cells.{IsCellList, population}
-use Rattle.life_quad.specs.Store.{Nodes, Knows}
+use Rattle.life_quad.specs.Store.{Nodes}
 use Rattle.life_quad.proofs.LawLemmas.{known_squares_are_full, equal_squares_have_one_id, cells_are_listed, list_is_population}
 use Rattle.life_rle.specs.Sorted.{are_sorted_cells}
 use Rattle.life_rle.specs.Laws.{RleTextReadsBack}
@@ -82,9 +82,6 @@ least-text bytes store pattern r text e =
     }
 
 -- ---- lists of cells
-
-pub root-known : (bytes : List ℕ) (store : Nodes) (pattern : Pattern) → IsRead MAX_LEVEL bytes store pattern → Knows store pattern.root
-root-known bytes store pattern r = r.is.known.0
 
 pub root-deep : (bytes : List ℕ) (store : Nodes) (pattern : Pattern) → IsRead MAX_LEVEL bytes store pattern → 1 ≤ depth (content store pattern.root)
 root-deep bytes store pattern r = let l = (read-fits bytes store pattern r).level in let o = least-one pattern.rule in omega arith

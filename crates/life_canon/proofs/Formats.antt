@@ -25,6 +25,7 @@ use Rattle.life_rle.specs.States.{is_state_of}
 use Rattle.life_rle.specs.declared.file.Run.{Run}
 use Rattle.life_rle.proofs.RunsLaws.{runs_are_cells, blank_outside}
 use Rattle.life_rle.proofs.Unique.{IsRle-unique}
+use Rattle.life_rle.proofs.ValidFiles.{files_are_valid as rles_are_valid}
 use Rattle.life_canon.specs.Universe.{Universe, macrocell_universe, rle_universe, corner, IsBlankOutside, IsOnPlane}
 use Rattle.life_canon.specs.Files.{Says, as_macrocell, as_rle, Reads, is_macrocell}
 use Rattle.life_canon.specs.Laws.{FormatsDiffer, FilesAreUnique}
@@ -35,7 +36,6 @@ use Rattle.life_canon.proofs.Least.{reach, sum_back}
 use Rattle.life_canon.proofs.Planes.{tree_cell-below, states-below, upto-below}
 use Rattle.life_mc.proofs.Squares.{lines_stand_for_squares}
 use Rattle.life_canon.proofs.Trees.{outside-by}
-use Rattle.life_canon.proofs.RleSound.{rle-sound}
 
 -- ---- the two formats differ by their first line
 
@@ -148,7 +148,7 @@ rle-outside top lines file r x y n =
 
 rle-on_plane : (top : ℕ) (lines : List (List ℕ)) (file : Rle) → IsRle (suc top) lines file → IsOnPlane (suc top) (rle_universe file)
 rle-on_plane top lines file r =
-    let s = rle-sound (suc top) lines file r in
+    let s = rles_are_valid (suc top) lines file r in
     let c = runs_are_cells (suc top) lines file r in
     record {
       rule = s.rule;

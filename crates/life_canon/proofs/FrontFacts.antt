@@ -513,9 +513,6 @@ pub no-length : (bytes : List ℕ) → length bytes ≡ 0 → bytes ≡ []
 no-length [] h = refl
 no-length (b ∷ bytes) h = absurd (omega arith)
 
-pub some-length : (n : ℕ) → (n == 0) ≡ false → 0 < n
-some-length n h = grind (arith, nat_tests)
-
 pub rest-fault : (r : Result (Unit {0}) Fault) (store : Nodes) (bytes kept : List ℕ) (ended : ℕ) (p : Progress) → IsFront bytes kept ended p → 0 < length kept
     → IfErr r (λ fault. IsWant store fault ⊎ IsLineFault MAX_LEVEL (taken p) kept ended fault) → IfErr r (λ fault. Refuses MAX_LEVEL bytes fault ⊎ IsWant store fault)
 rest-fault (Ok x) store bytes kept ended p f h e = tt

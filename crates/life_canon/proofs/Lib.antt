@@ -12,7 +12,6 @@ mod Least
 mod Keys
 mod NumberFacts
 mod FillFacts
-mod RleSound
 mod Formats
 mod TextLaws
 mod WiderPlanes

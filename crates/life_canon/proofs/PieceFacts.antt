@@ -1,9 +1,7 @@
 -- Texts that are written in pieces.
-use Rattle.std.proofs.Common.{◌≡◌, ℕ, ◌+◌, ◌<◌, ◌≤◌, List, [], ◌∷◌, ◌++◌, Option, Result, Ok, Err, map, take, drop, length, get_or, ap, sym, ◌∙◌, subst}
+use Rattle.std.proofs.Common.{◌≡◌, ℕ, List, ◌++◌, Option, Result, Ok, Err, ap, sym, ◌∙◌, subst}
 use Rattle.std.specs.Prelude.{flat_map}
-use Rattle.std.proofs.lemmas.List.{append_assoc, append-nil, take_all, take_more, take-append-drop}
-use Rattle.std.proofs.lemmas.List.Folds.{flat_map-map}
-use Rattle.std.proofs.lemmas.Grind.{flat_map-append}
+use Rattle.std.proofs.lemmas.List.{append_assoc}
 use Rattle.std.specs.Io.KnownBytes.{Appends}
 use Rattle.std.proofs.KnownBytes.{Appends-trans}
 use Rattle.life_base.specs.Tree.{Tree}
@@ -11,7 +9,6 @@ use Rattle.life_base.specs.Writing.{WritesPrefix, WritesText}
 use Rattle.life_base.specs.declared.cell.TheConstants.{MAX_LEVEL}
 use Rattle.life_base.proofs.WritingLemmas.{prefix-after}
 use Rattle.life_mc.specs.Writing.{mc_text, node_text, front_text}
-use Rattle.life_mc.specs.declared.line.Line.{Line}
 use Rattle.life_quad.specs.Store.{Nodes}
 use Rattle.life_quad.proofs.LawLemmas.{known_squares_are_full}
 use Rattle.life_canon.specs.Universe.{least_level}
@@ -51,33 +48,6 @@ module _ (a b : Option (List ℕ)) (text rest : List ℕ) (w : WritesFront a b t
   -- the text and the rest are told in another way
   pub front-as : (other left : List ℕ) → text ≡ other → left ≡ rest → WritesFront a b other left
   front-as other left e f = subst (WritesFront a b other) (sym f) (subst (λ t. WritesFront a b t rest) e w)
-
--- the lines of a list's squares, told by its keys
-module _ {K : Type 0} (line : Tree → Line) (square : K → Tree) (keys : List K) (front : List ℕ) where
-  abbrev text : K → List ℕ
-  text k = node_text (line (square k))
-
-  lines-whole : flat_map text keys ≡ flat_map node_text (map line (map square keys))
-  lines-whole = sym (flat_map-map node_text line (map square keys) ∙ flat_map-map (λ t. node_text (line t)) square keys)
-
-  -- those up to a place, and those behind it
-  pub lines-cut : (i : ℕ) → front ++ flat_map text (take i keys) ++ flat_map text (drop i keys) ≡ front ++ flat_map node_text (map line (map square keys))
-  lines-cut i =
-      append_assoc front (flat_map text (take i keys)) (flat_map text (drop i keys))
-      ∙ ap (λ l. front ++ l) (sym (flat_map-append text (take i keys) (drop i keys)) ∙ ap (flat_map text) (take-append-drop i keys) ∙ lines-whole)
-
-  -- those up to the end
-  pub lines-end : (i : ℕ) → length keys ≤ i → front ++ flat_map text (take i keys) ≡ front ++ flat_map node_text (map line (map square keys))
-  lines-end i h = ap (λ l. front ++ flat_map text l) (take_all i keys h) ∙ ap (λ l. front ++ l) lines-whole
-
-  -- and one more
-  pub lines-next : (items : List K) (i : ℕ) (d : K) (l : Line) → items ≡ keys → i < length items → l ≡ line (square (get_or items i d))
-      → front ++ flat_map text (take i keys) ++ node_text l ≡ front ++ flat_map text (take (i + 1) keys)
-  lines-next items i d l same h e =
-      ap (λ k. front ++ flat_map text (take i keys) ++ node_text k) (e ∙ ap (λ ks. line (square (get_or ks i d))) same)
-      ∙ append_assoc front (flat_map text (take i keys)) (text (get_or keys i d))
-      ∙ ap (λ l. front ++ l) (sym (ap (flat_map text) (take_more keys i d (subst (λ ks. i < length ks) same h)) ∙ flat_map-append text (take i keys) (get_or keys i d ∷ [])
-      ∙ ap (λ l. flat_map text (take i keys) ++ l) (append-nil (text (get_or keys i d)))))
 
 -- the macrocell text of a pattern in its least square is its canonical text
 pub text-of-trimmed : (store : Nodes) (p : Pattern) → IsTrimmed store p → (text : List ℕ) → text ≡ mc_text (square_file p.rule p.generation (content store p.root))

@@ -187,15 +187,6 @@ centred-tree_cell {k = k} {t = t} h =
     (λ i j p q. state_at-centred (tree_cell t) (suc k) i j p q
     ∙ tree_cell-at t (2 ^ k) i j (half-of t k (depth_is h)) (omega (arith, pow_suc k)) (omega (arith, pow_suc k)))
 
-not_within : (n : ℕ) (x : ℤ) → ¬ ((neg_ℤ (pos n) ≤ℤ x) × (x <ℤ (neg_ℤ (pos n) +ℤ pos (n + n)))) → int_le (neg_ℤ (pos n)) x ≡ true → int_lt x (pos n) ≡ true → ⊥
-not_within n x h p q = h (le, lt)
-  where
-    le : neg_ℤ (pos n) ≤ℤ x
-    le = grind (arith, ints)
-
-    lt : x <ℤ (neg_ℤ (pos n) +ℤ pos (n + n))
-    lt = grind (arith, ints)
-
 within_of : (n : ℕ) (x : ℤ) → int_le (neg_ℤ (pos n)) x ≡ true → int_lt x (pos n) ≡ true → (neg_ℤ (pos n) ≤ℤ x) × (x <ℤ (neg_ℤ (pos n) +ℤ pos (n + n)))
 within_of n x p q = (le, lt)
   where

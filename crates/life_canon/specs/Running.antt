@@ -15,21 +15,21 @@ use Rattle.life_canon.specs.Store.{IsRead, IsWant}
 use Rattle.life_canon.specs.Texts.{IsCanonical}
 use Rattle.life_canon.specs.declared.pattern.Pattern.{Pattern}
 
--- all was read, and what was written is the canonical text of what was read, and nothing else
-pub record Ran (top most : ℕ) (source : SourceRun) (sink : SinkRun) : Type 0 where
+-- all was read, and the canonical text of what was read was written as `IsWritten` says
+pub record Wrote (top most : ℕ) (source : SourceRun) (IsWritten : List ℕ → Type 0) : Type 0 where
   pub bytes : List ℕ
   pub text : List ℕ
   pub read : ReadAll most source.before source.after bytes
   pub canonical : IsCanonical top bytes text
-  pub written : Appends sink.before sink.after text
+  pub written : IsWritten text
 
--- all was read, a prefix of that text was written, and the sink failed or took no bytes
+-- that text was written, and nothing else
+abbrev pub Ran : ℕ → ℕ → SourceRun → SinkRun → Type 0
+Ran top most source sink = Wrote top most source (Appends sink.before sink.after)
+
+-- a prefix of that text was written, and the sink failed or took no bytes
 pub record Broke (top most : ℕ) (source : SourceRun) (sink : SinkRun) : Type 0 where
-  pub bytes : List ℕ
-  pub text : List ℕ
-  pub read : ReadAll most source.before source.after bytes
-  pub canonical : IsCanonical top bytes text
-  pub written : WritesPrefix sink.before sink.after text
+  pub wrote : Wrote top most source (WritesPrefix sink.before sink.after)
   pub cause : (sink.failures ≡ 1) ⊎ (sink.stalled ≡ true)
 
 -- why nothing comes of an input: all of it was read and is no file; the store holds its limit, or memory was refused; too much came; or

@@ -1,16 +1,40 @@
-use Rattle.std.proofs.Common.{ap, arith, inl, inr, refl, rules, subst, sym, true≢false, ◌∙◌}
+use Rattle.std.proofs.Common.{ap, arith, inl, inr, refl, rules, subst, sym, true, false, true≢false, Bool, List, ℕ, ◌++◌, ◌≡◌, ◌⊎◌, ◌∙◌}
 use Rattle.std.specs.Io.KnownBytes.{Appends}
+use Rattle.std.specs.Prelude.{flat_map}
 use Rattle.std.proofs.lemmas.Result.{err_from_is_err_and}
+use Rattle.life_base.specs.DeviceRuns.{SourceRun}
+use Rattle.life_base.specs.Refusal.{fault_of}
 use Rattle.life_base.specs.Writing.{WritesPrefix}
 use Rattle.life_base.specs.declared.cell.TheConstants.{MAX_LEVEL}
-use Rattle.life_canon.specs.Listing.{canon_text}
-use Rattle.life_canon.specs.Store.{universe_in}
-use Rattle.life_canon.specs.Running.{by_reading, by_writing, by_want}
-use Rattle.life_base.specs.Refusal.{fault_of}
+use Rattle.life_mc.specs.Writing.{node_text, front_text}
+use Rattle.life_quad.specs.Store.{Nodes}
+use Rattle.life_canon.specs.Listing.{canon_text, lines_for, listed}
+use Rattle.life_canon.specs.Running.{HasRead, Wrote, by_reading, by_writing, by_want}
+use Rattle.life_canon.specs.Store.{content, universe_in}
+use Rattle.life_canon.specs.Universe.{least_level}
+use Rattle.life_canon.specs.declared.pattern.Pattern.{Pattern}
 use Rattle.life_canon.proofs.CallFacts.{canonical-text}
 use Rattle.life_canon.proofs.Fits.{read-fits}
 use Rattle.life_canon.proofs.PieceFacts.{pieces-text}
 use Rattle.life_canon.proofs.running.run_canon_within.Goals as goal
+
+-- the front and the lines of the pattern that was read are its text
+wrote : (most : ℕ) (store : Nodes) (source : SourceRun) (pattern : Pattern) (IsWritten : List ℕ → Type 0) (front : List ℕ)
+    → HasRead MAX_LEVEL most store source pattern → front ≡ front_text pattern.rule pattern.generation
+    → IsWritten (front ++ flat_map node_text (lines_for pattern.rule (listed (content store pattern.root) (least_level pattern.rule))))
+    → Wrote MAX_LEVEL most source IsWritten
+wrote most store source pattern IsWritten front has is written = record {
+  bytes = has.bytes;
+  text = canon_text MAX_LEVEL (universe_in store pattern);
+  read = has.read;
+  canonical = canonical-text has.bytes store pattern has.is _ refl;
+  written = subst IsWritten (pieces-text store pattern (read-fits has.bytes store pattern has.is) front _ is refl) written;
+}
+
+-- a sink that neither failed nor stalled
+no_failure : {P : Type 0} (failures : ℕ) (stalled : Bool) → failures ≡ 0 → stalled ≡ false → (failures ≡ 1) ⊎ (stalled ≡ true) → P
+no_failure failures stalled none takes (inl e) = absurd (omega arith)
+no_failure failures stalled none takes (inr e) = absurd (true≢false (sym e ∙ takes))
 
 pub returns-in_err-pattern-clause-err : goal.returns-in_err-pattern-clause-err
 returns-in_err-pattern-clause-err g c =
@@ -33,31 +57,14 @@ deliver_squares-requires-clause-bound g c = λ q k. c.in_ok-numbers.ensures.room
 pub returns-in_err-deliver_squares-clause-err : goal.returns-in_err-deliver_squares-clause-err
 returns-in_err-deliver_squares-clause-err g c =
     let p = err_from_is_err_and c.from_residual-in_err-deliver_squares.result c.from_residual-in_err-deliver_squares.ensures.1 in
-    let store = c.read_source.new.store in
-    let fits = read-fits c.in_ok-pattern.ensures.pattern.bytes store c.in_ok-pattern.pattern c.in_ok-pattern.ensures.pattern.is in
-    let e = pieces-text store c.in_ok-pattern.pattern fits _ _ c.in_ok-front.ensures.front refl in
     let answer = by_writing (ap fault_of c.in_err-deliver_squares.ensures.kind) (record {
-      bytes = c.in_ok-pattern.ensures.pattern.bytes;
-      text = canon_text MAX_LEVEL (universe_in store c.in_ok-pattern.pattern);
-      read = c.in_ok-pattern.ensures.pattern.read;
-      canonical = canonical-text c.in_ok-pattern.ensures.pattern.bytes store c.in_ok-pattern.pattern c.in_ok-pattern.ensures.pattern.is _ refl;
-      written = subst (WritesPrefix _ _) e c.in_err-deliver_squares.ensures.text;
+      wrote = wrote _ _ _ _ (WritesPrefix _ _) _ c.in_ok-pattern.ensures.pattern c.in_ok-front.ensures.front c.in_err-deliver_squares.ensures.text;
       cause = c.in_err-deliver_squares.ensures.cause;
     }) in
     rw (p.1, p.2) answer
 
 pub returns-clause-ok : goal.returns-clause-ok
-returns-clause-ok g c =
-    let store = c.read_source.new.store in
-    let fits = read-fits c.in_ok-pattern.ensures.pattern.bytes store c.in_ok-pattern.pattern c.in_ok-pattern.ensures.pattern.is in
-    let e = pieces-text store c.in_ok-pattern.pattern fits _ _ c.in_ok-front.ensures.front refl in
-    record {
-      bytes = c.in_ok-pattern.ensures.pattern.bytes;
-      text = canon_text MAX_LEVEL (universe_in store c.in_ok-pattern.pattern);
-      read = c.in_ok-pattern.ensures.pattern.read;
-      canonical = canonical-text c.in_ok-pattern.ensures.pattern.bytes store c.in_ok-pattern.pattern c.in_ok-pattern.ensures.pattern.is _ refl;
-      written = subst (Appends _ _) e c.in_ok-deliver_squares.ensures.text;
-    }
+returns-clause-ok g c = wrote _ _ _ _ (Appends _ _) _ c.in_ok-pattern.ensures.pattern c.in_ok-front.ensures.front c.in_ok-deliver_squares.ensures.text
 
 pub returns-clause-flushed : goal.returns-clause-flushed
 returns-clause-flushed g c = search rules
@@ -66,10 +73,7 @@ pub deliver_squares-requires-clause-works : goal.deliver_squares-requires-clause
 deliver_squares-requires-clause-works g c = c.requires.writes
 
 pub returns-clause-write_told : goal.returns-clause-write_told
-returns-clause-write_told g c = λ h. elim h [
-  | inl e ↦ absurd (omega (arith, e, c.in_ok-deliver_squares.ensures.works))
-  | inr e ↦ absurd (true≢false (sym e ∙ c.in_ok-deliver_squares.ensures.stalled ∙ c.requires.takes))
-]
+returns-clause-write_told g c = no_failure _ _ c.in_ok-deliver_squares.ensures.works (c.in_ok-deliver_squares.ensures.stalled ∙ c.requires.takes)
 
 pub returns-in_err-pattern-clause-unwritten : goal.returns-in_err-pattern-clause-unwritten
 returns-in_err-pattern-clause-unwritten g c =
@@ -77,10 +81,7 @@ returns-in_err-pattern-clause-unwritten g c =
     rw p.1 (λ h. refl)
 
 pub returns-in_err-pattern-clause-write_told : goal.returns-in_err-pattern-clause-write_told
-returns-in_err-pattern-clause-write_told g c = λ h. elim h [
-  | inl e ↦ absurd (omega (arith, e, c.requires.writes))
-  | inr e ↦ absurd (true≢false (sym e ∙ c.requires.takes))
-]
+returns-in_err-pattern-clause-write_told g c = no_failure _ _ c.requires.writes c.requires.takes
 
 pub returns-in_err-numbers-clause-err : goal.returns-in_err-numbers-clause-err
 returns-in_err-numbers-clause-err g c =
@@ -94,10 +95,7 @@ returns-in_err-numbers-clause-unwritten g c =
     rw p.1 (λ h. refl)
 
 pub returns-in_err-numbers-clause-write_told : goal.returns-in_err-numbers-clause-write_told
-returns-in_err-numbers-clause-write_told g c = λ h. elim h [
-  | inl e ↦ absurd (omega (arith, e, c.requires.writes))
-  | inr e ↦ absurd (true≢false (sym e ∙ c.requires.takes))
-]
+returns-in_err-numbers-clause-write_told g c = no_failure _ _ c.requires.writes c.requires.takes
 
 pub returns-in_err-front-clause-err : goal.returns-in_err-front-clause-err
 returns-in_err-front-clause-err g c =
@@ -111,10 +109,7 @@ returns-in_err-front-clause-unwritten g c =
     rw p.1 (λ h. refl)
 
 pub returns-in_err-front-clause-write_told : goal.returns-in_err-front-clause-write_told
-returns-in_err-front-clause-write_told g c = λ h. elim h [
-  | inl e ↦ absurd (omega (arith, e, c.requires.writes))
-  | inr e ↦ absurd (true≢false (sym e ∙ c.requires.takes))
-]
+returns-in_err-front-clause-write_told g c = no_failure _ _ c.requires.writes c.requires.takes
 
 pub returns-in_err-pattern-clause-needed : goal.returns-in_err-pattern-clause-needed
 returns-in_err-pattern-clause-needed g c =
