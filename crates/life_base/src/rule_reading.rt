@@ -246,12 +246,29 @@ fn trimmed_rule(alloc: Global, text: &[u8]) -> Result<Rule, Kind>
     }
 }
 
+/// Whether a text is that of the rule that most files have.
+fn is_usual(text: &[u8]) -> bool
+    ensures { result ≡ bytes_eq text.now (codes "B3/S23") }
+{
+    text == b"B3/S23".as_slice()
+}
+
+/// The rule of a text without whitespace at its ends. That of most files is known at sight.
+fn usual_or_other(alloc: Global, text: &[u8]) -> Result<Rule, Kind>
+    ensures { Answers result (rule_of_trimmed text.now) }
+{
+    if is_usual(text) {
+        return Ok(Rule::default_rule());
+    }
+    trimmed_rule(alloc, text)
+}
+
 impl Rule {
     /// The rule of a text, taken without whitespace at its ends. It is refused as `BadRule`, `BoundedGrid`, `UnsupportedRule` or
     /// `BirthOnZero`, and as `Memory`.
     pub fn parse(alloc: Global, text: &[u8]) -> Result<Rule, Kind>
         ensures { Answers result (rule_of text.now) }
     {
-        trimmed_rule(alloc, trimmed(text))
+        usual_or_other(alloc, trimmed(text))
     }
 }

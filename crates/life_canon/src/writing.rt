@@ -27,6 +27,9 @@ use std::alloc::Global;
 /// How many bytes are read, or held before they are written, at once.
 pub(crate) const PIECE: usize = 65536;
 
+/// How many bytes a text that is made whole has room for from the start: a small pattern's text needs no more.
+const FIRST_ROOM: usize = 512;
+
 /// Adds the lines of the squares of the list at the end, in its order, each ended by a line feed.
 fn append_lines<S: SharedSquares>(
     squares: &S,
@@ -71,6 +74,7 @@ fn written<S: SharedSquares>(alloc: Global, squares: &S, pattern: &Pattern) -> R
 {
     let known = squares_of(alloc, squares, pattern)?;
     let mut out = Vec::new(alloc);
+    out.reserve(FIRST_ROOM)?;
     append_front(&mut out, &pattern.rule, pattern.generation)?;
     append_lines(squares, &pattern.rule, &known, &mut out)?;
     Ok(out)

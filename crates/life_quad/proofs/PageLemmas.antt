@@ -1,14 +1,31 @@
 -- Values in pages.
-use Rattle.std.proofs.Common.{◌≡◌, ◌≢◌, ◌⊎◌, inl, inr, ℕ, ◌+◌, ◌/◌, ◌%◌, ◌<◌, ◌≤◌, Bool, true, false, nat_lt, List, [], ◌++◌, length, get_or, set, replicate, refl, sym, ◌∙◌, ap, arith, get_or-set_other}
+use Rattle.std.proofs.Common.{◌≡◌, ◌≢◌, ◌⊎◌, inl, inr, ℕ, ◌+◌, ◌/◌, ◌%◌, ◌<◌, ◌≤◌, Bool, true, false, ◌==◌, if◌then◌else◌, nat_lt, List, [], ◌++◌, length, get_or, set, replicate, refl, sym, ◌∙◌, ap, arith, get_or-set_other}
 use Rattle.std.proofs.lemmas.Grind.{common_steps}
 use Rattle.std.proofs.lemmas.List.{get_or_past}
-use Rattle.life_quad.specs.Pages.{ArePages, start_in, index_in}
+use Rattle.life_quad.specs.Pages.{ArePages, place_of, start_in, index_in}
 
 equal : (m n : ℕ) → (m ≡ n) ⊎ (m ≢ n)
 equal m n = grind arith
 
 less-or-not : (m n : ℕ) → (m < n) ⊎ (n ≤ m)
 less-or-not m n = grind arith
+
+-- no two pages have one place
+one_place : (m n : ℕ) → place_of m ≡ place_of n → m / 256 ≡ n / 256
+unfolding place_of
+one_place m n e = by (m / 256) (n / 256) (m / 256 == 258) (n / 256 == 258) (nat_lt (m / 256) 258) (nat_lt (n / 256) 258) refl refl refl refl e
+  where
+    by : (p q : ℕ) (a b c d : Bool) → (p == 258) ≡ a → (q == 258) ≡ b → nat_lt p 258 ≡ c → nat_lt q 258 ≡ d
+        → (if a then 0 else (if c then p + 1 else p)) ≡ (if b then 0 else (if d then q + 1 else q)) → p ≡ q
+    by p q true true _ _ f g _ _ _ = grind (arith, common_steps)
+    by p q true false _ true f g h k e = grind (arith, common_steps)
+    by p q true false _ false f g h k e = grind (arith, common_steps)
+    by p q false true true _ f g h k e = grind (arith, common_steps)
+    by p q false true false _ f g h k e = grind (arith, common_steps)
+    by p q false false true true f g h k e = grind (arith, common_steps)
+    by p q false false true false f g h k e = grind (arith, common_steps)
+    by p q false false false true f g h k e = grind (arith, common_steps)
+    by p q false false false false f g h k e = e
 
 -- absent values behind the others change none
 pub filled : {X : Type 0} (values : List X) (n i : ℕ) (absent : X) → get_or (values ++ replicate n absent) i absent ≡ get_or values i absent
@@ -23,60 +40,61 @@ no_pages = record { few = omega arith; whole = λ page l. omega (arith, l); apar
 
 -- an index of a value is below the number of values
 inside : (starts : List ℕ) (size n : ℕ) → ArePages starts size → index_in starts n < 4294967295 → index_in starts n < size
-inside starts size n h l = let whole = h.whole (n / 256) (omega (arith, l)) in omega (arith, whole)
+inside starts size n h l = let whole = h.whole (place_of n) (omega (arith, l)) in omega (arith, whole)
 
 -- where the page of a number wasn't made, no number of the page has a value
-behind : (starts : List ℕ) (size m n : ℕ) → ArePages starts size → n / 256 ≡ m / 256 → size ≤ index_in starts m → size ≤ index_in starts n
-behind starts size m n h page none = by (less-or-not (index_in starts n) size)
+behind : (starts : List ℕ) (size m n : ℕ) → ArePages starts size → place_of n ≡ place_of m → size ≤ index_in starts m → size ≤ index_in starts n
+behind starts size m n h place none = by (less-or-not (index_in starts n) size)
   where
     by : (index_in starts n < size) ⊎ (size ≤ index_in starts n) → size ≤ index_in starts n
     by (inl l) =
-        let same : start_in starts (n / 256) ≡ start_in starts (m / 256) = ap (start_in starts) page in
+        let same : start_in starts (place_of n) ≡ start_in starts (place_of m) = ap (start_in starts) place in
         let few = h.few in
-        let whole = h.whole (n / 256) (omega (arith, l, few)) in
+        let whole = h.whole (place_of n) (omega (arith, l, few)) in
         absurd (omega (arith, same, whole, none))
     by (inr l) = l
 
 -- one page more
-pub one_page : (starts new : List ℕ) (size page : ℕ) → ArePages starts size → size + 256 ≤ 4294967295 → start_in new page ≡ size
-    → ((p : ℕ) → p ≢ page → start_in new p ≡ start_in starts p) → ArePages new (size + 256)
-one_page starts new size page h room here others = record { few = room; whole = λ p l. whole p l (equal p page); apart = λ m n e l. apart m n e l (equal (m / 256) page) (equal (n / 256) page) }
+pub one_page : (starts new : List ℕ) (size more place : ℕ) → ArePages starts size → more ≡ size + 256 → more ≤ 4294967295 → start_in new place ≡ size
+    → ((p : ℕ) → p ≢ place → start_in new p ≡ start_in starts p) → ArePages new more
+one_page starts new size more place h sum room here others = record { few = room; whole = λ p l. whole p l (equal p place); apart = λ m n e l. apart m n e l (equal (place_of m) place) (equal (place_of n) place) }
   where
-    whole : (p : ℕ) → start_in new p < 4294967295 → (p ≡ page) ⊎ (p ≢ page) → start_in new p + 256 ≤ size + 256
-    whole p l (inl same) = let start : start_in new p ≡ size = ap (start_in new) same ∙ here in omega (arith, start)
-    whole p l (inr other) = let start = others p other in let old = h.whole p (omega (arith, start, l)) in omega (arith, start, old)
+    whole : (p : ℕ) → start_in new p < 4294967295 → (p ≡ place) ⊎ (p ≢ place) → start_in new p + 256 ≤ more
+    whole p l (inl same) = let start : start_in new p ≡ size = ap (start_in new) same ∙ here in omega (arith, start, sum)
+    whole p l (inr other) = let start = others p other in let old = h.whole p (omega (arith, start, l)) in omega (arith, start, old, sum)
 
-    apart : (m n : ℕ) → index_in new m ≡ index_in new n → index_in new n < size + 256 → (m / 256 ≡ page) ⊎ (m / 256 ≢ page) → (n / 256 ≡ page) ⊎ (n / 256 ≢ page) → m ≡ n
+    apart : (m n : ℕ) → index_in new m ≡ index_in new n → index_in new n < more → (place_of m ≡ place) ⊎ (place_of m ≢ place) → (place_of n ≡ place) ⊎ (place_of n ≢ place) → m ≡ n
     apart m n e l (inl a) (inl b) =
-        let f : start_in new (m / 256) ≡ size = ap (start_in new) a ∙ here in
-        let g : start_in new (n / 256) ≡ size = ap (start_in new) b ∙ here in
-        omega (arith, a, b, e, f, g)
+        let f : start_in new (place_of m) ≡ size = ap (start_in new) a ∙ here in
+        let g : start_in new (place_of n) ≡ size = ap (start_in new) b ∙ here in
+        let pages = one_place m n (a ∙ sym b) in
+        omega (arith, pages, e, f, g)
     apart m n e l (inl a) (inr b) =
-        let f : start_in new (m / 256) ≡ size = ap (start_in new) a ∙ here in
-        let g = others (n / 256) b in
-        let old = inside starts size n h (omega (arith, g, l, room)) in
+        let f : start_in new (place_of m) ≡ size = ap (start_in new) a ∙ here in
+        let g = others (place_of n) b in
+        let old = inside starts size n h (omega (arith, g, l, sum, room)) in
         omega (arith, e, f, g, old)
     apart m n e l (inr a) (inl b) =
-        let f = others (m / 256) a in
-        let g : start_in new (n / 256) ≡ size = ap (start_in new) b ∙ here in
-        let old = inside starts size m h (omega (arith, e, f, l, room)) in
+        let f = others (place_of m) a in
+        let g : start_in new (place_of n) ≡ size = ap (start_in new) b ∙ here in
+        let old = inside starts size m h (omega (arith, e, f, l, sum, room)) in
         omega (arith, e, f, g, old)
     apart m n e l (inr a) (inr b) =
-        let f = others (m / 256) a in
-        let g = others (n / 256) b in
-        h.apart m n (omega (arith, e, f, g)) (inside starts size n h (omega (arith, g, l, room)))
+        let f = others (place_of m) a in
+        let g = others (place_of n) b in
+        h.apart m n (omega (arith, e, f, g)) (inside starts size n h (omega (arith, g, l, sum, room)))
 
 -- and no value is another by it
-pub same_values : {X : Type 0} (starts new : List ℕ) (values : List X) (absent : X) (page m n : ℕ) → ArePages starts (length values) → m / 256 ≡ page → length values ≤ index_in starts m
-    → start_in new page ≡ length values → ((p : ℕ) → p ≢ page → start_in new p ≡ start_in starts p)
+pub same_values : {X : Type 0} (starts new : List ℕ) (values : List X) (absent : X) (place m n : ℕ) → ArePages starts (length values) → place_of m ≡ place → length values ≤ index_in starts m
+    → start_in new place ≡ length values → ((p : ℕ) → p ≢ place → start_in new p ≡ start_in starts p)
     → get_or (values ++ replicate 256 absent) (index_in new n) absent ≡ get_or values (index_in starts n) absent
-same_values {X} starts new values absent page m n h number none here others = filled values 256 (index_in new n) absent ∙ by (equal (n / 256) page)
+same_values {X} starts new values absent place m n h number none here others = filled values 256 (index_in new n) absent ∙ by (equal (place_of n) place)
   where
-    by : (n / 256 ≡ page) ⊎ (n / 256 ≢ page) → get_or values (index_in new n) absent ≡ get_or values (index_in starts n) absent
+    by : (place_of n ≡ place) ⊎ (place_of n ≢ place) → get_or values (index_in new n) absent ≡ get_or values (index_in starts n) absent
     by (inl e) =
-        let f : start_in new (n / 256) ≡ length values = ap (start_in new) e ∙ here in
+        let f : start_in new (place_of n) ≡ length values = ap (start_in new) e ∙ here in
         get_or_past values (index_in new n) absent (omega (arith, f)) ∙ sym (get_or_past values (index_in starts n) absent (behind starts (length values) m n h (e ∙ sym number) none))
-    by (inr o) = ap (λ s. get_or values (s + n % 256) absent) (others (n / 256) o)
+    by (inr o) = ap (λ s. get_or values (s + n % 256) absent) (others (place_of n) o)
 
 -- a value that is set is that of one number alone
 pub other_values : {X : Type 0} (starts : List ℕ) (values : List X) (absent value : X) (m n : ℕ) → ArePages starts (length values) → index_in starts m < length values → n ≢ m

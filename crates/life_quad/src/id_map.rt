@@ -3,15 +3,19 @@ ghost use Rattle.std.specs.Prelude.{◌≡◌, ◌≢◌, ◌⊎◌, ◌<◌, �
 ghost use Rattle.life_base.specs.declared.kind.Kind.TheVariants.{Memory};
 ghost use Rattle.life_quad.specs.declared.id.Id.{Id as IdValue};
 ghost use Rattle.life_quad.specs.IdMap.{value_of, HasRoom};
-ghost use Rattle.life_quad.specs.Pages.{index_in};
+ghost use Rattle.life_quad.specs.Pages.{index_in, place_of as place_of_page};
 
 use crate::Id;
+use crate::id::FIRST_NODE;
 use life_base::Kind;
 use std::alloc::Global;
 use std::marker::Model;
 
 /// How many numbers a page has.
 const PAGE: u64 = 256;
+
+/// The page of the first nodes.
+const NODES: u64 = FIRST_NODE / PAGE;
 
 /// What stands for the first index of a page that wasn't made: no value has it.
 const NONE: u32 = u32::MAX;
@@ -21,7 +25,7 @@ const NONE: u32 = u32::MAX;
 /// each number and a 256th more.
 #[derive(Drop)]
 pub(crate) struct IdMap<T: Copy> {
-    /// By the number of a page: the index of its first value.
+    /// By the place of a page: the index of its first value.
     starts: Vec<u32>,
     /// The pages, in the order in which they were made.
     values: Vec<T>,
@@ -39,27 +43,43 @@ impl<T: Copy> Model for IdMap<T> {
     ghost invariant = { λ m. ArePages m.starts.items (length m.values.items) };
 }
 
+/// The place of the page of a number: that of the first nodes stands before all others. So a few squares take no place for all the small ones
+/// before them.
+#[tactic(auto, unfolding(crate::specs::Pages::place_of))]
+fn place_of(number: u64) -> u64
+    ensures { result ≡ place_of_page number }
+{
+    let page = number / PAGE;
+    if page == NODES {
+        0
+    } else if page < NODES {
+        page + 1
+    } else {
+        page
+    }
+}
+
 /// The index of a number's value. Where its page wasn't made it is behind all values.
 fn index_of(starts: &[u32], number: u64) -> usize
     ensures { result ≡ index_in starts.now number }
 {
-    let start = match starts.get((number / PAGE) as usize) {
+    let start = match starts.get(place_of(number) as usize) {
         Some(start) => *start,
         None => NONE,
     };
     start as usize + (number % PAGE) as usize
 }
 
-/// Gives the number of a page a place, without a page.
-fn make_place(starts: &mut Vec<u32>, page: u64) -> Result<(), Kind>
-    ensures room { OnOk result (page < vec_len starts.new) }
+/// Makes a place, without a page.
+fn make_place(starts: &mut Vec<u32>, place: u64) -> Result<(), Kind>
+    ensures room { OnOk result (place < vec_len starts.new) }
     ensures same { (n : ℕ) → slice_index_or starts.new.items n 4294967295 ≡ slice_index_or starts.old.items n 4294967295 }
     ensures kind { IfErr result (λ kind. kind ≡ Memory) }
 {
-    if page < starts.len() as u64 {
+    if place < starts.len() as u64 {
         return Ok(());
     }
-    let Some(length) = page.checked_add(1) else {
+    let Some(length) = place.checked_add(1) else {
         return Err(Kind::Memory);
     };
     starts.resize(length as usize, NONE)?;
@@ -103,10 +123,10 @@ impl<T: Copy> IdMap<T> {
         if start > (NONE as u64 - PAGE) as usize {
             return Err(Kind::Memory);
         }
-        let page = id.0 / PAGE;
-        make_place(&mut self.starts, page)?;
+        let place = place_of(id.0);
+        make_place(&mut self.starts, place)?;
         self.values.resize(start + PAGE as usize, self.absent)?;
-        self.starts[page as usize] = start as u32;
+        self.starts[place as usize] = start as u32;
         Ok(())
     }
 
