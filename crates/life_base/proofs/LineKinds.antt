@@ -1,5 +1,5 @@
 -- The kinds of a format name lines.
-use Rattle.std.proofs.Common.{◌≡◌, List, [], ◌∷◌, Bool, true, false, not, ◌&&◌, refl, sym, ◌∙◌}
+use Rattle.std.proofs.Common.{◌≡◌, List, [], ◌∷◌, Bool, true, false, not, refl, sym, ◌∙◌}
 use Rattle.std.specs.List.{list_all, AllByRecursion}
 use Rattle.life_base.specs.Refusal.{is_placeless}
 use Rattle.life_base.specs.declared.kind.Kind.{Kind}
