@@ -209,19 +209,19 @@ module _ (top : ℕ) (before : List (List ℕ)) (line : List ℕ) where
   by_node = broken_by_node top (rule_in_force before) (map level_of (squares_of before)) (trim line)
 
   -- a line that gives no square
-  pub told_stands : (form : Form) → HasForm line form → form_square form ≡ None → (is_no_command form ≡ false → squares_of before ≡ []) → broken_behind top before line ≡ None
-  told_stands blank_line h n k = by_tests line true false false false false late by_rule by_generation by_node (blank_tests line h)
-  told_stands comment_line h n k = by_tests line false false false false true late by_rule by_generation by_node (comment_tests line h)
-  told_stands (rule_line rule) h n k =
+  pub parsed_stands : (form : Form) → HasForm line form → form_square form ≡ None → (is_no_command form ≡ false → squares_of before ≡ []) → broken_behind top before line ≡ None
+  parsed_stands blank_line h n k = by_tests line true false false false false late by_rule by_generation by_node (blank_tests line h)
+  parsed_stands comment_line h n k = by_tests line false false false false true late by_rule by_generation by_node (comment_tests line h)
+  parsed_stands (rule_line rule) h n k =
       by_tests line false false true false true late by_rule by_generation by_node (rule_tests line h.text h.is)
       ∙ ap (λ (xs : List Line). cond (nat_lt 0 (length xs)) (Some LateHeader) by_rule) (k refl)
       ∙ ap (λ s. fault_in (rule_of s)) (behind_command 82 h.text line h.is) ∙ ap fault_in h.says
-  told_stands (generation_line generation) h n k =
+  parsed_stands (generation_line generation) h n k =
       by_tests line false false false true true late by_rule by_generation by_node (generation_tests line h.rest h.is)
       ∙ ap (λ (xs : List Line). cond (nat_lt 0 (length xs)) (Some LateHeader) by_generation) (k refl)
       ∙ ap (λ s. fault_in (u64_of s)) (number_read line generation h)
       ∙ number_fits h.digits h.number (let e = h.value in let f = h.fits in omega arith)
-  told_stands (node_line square) h n k = cc
+  parsed_stands (node_line square) h n k = cc
 
   -- a node line
   pub node_stands : (square : Line) → IsNodeLine line square → broken_by_square top (rule_in_force before) (map level_of (squares_of before)) (Some square) ≡ None → broken_behind top before line ≡ None

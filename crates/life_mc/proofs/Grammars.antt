@@ -18,7 +18,7 @@ use Rattle.life_mc.specs.Standing.{or_value}
 use Rattle.life_mc.specs.declared.line.Line.{Line}
 use Rattle.life_mc.specs.declared.line.Line.TheVariants.{Leaf, Quad}
 use Rattle.life_mc.proofs.Around.{begins, begun}
-use Rattle.life_mc.proofs.Forms.{gives, told_stands, node_stands, form_on, command_first}
+use Rattle.life_mc.proofs.Forms.{gives, parsed_stands, node_stands, form_on, command_first}
 use Rattle.life_mc.proofs.ReadLines.{squares_none, squares_some}
 use Rattle.life_mc.proofs.Stands.{rule_more}
 use Rattle.life_mc.proofs.Valid.{squares_valid}
@@ -250,11 +250,11 @@ module _ (top : ℕ) (header : List ℕ) where
 
   line_stands : (file : Macrocell) (form : Form) (forms : List Form) (before : List (List ℕ)) (line : List ℕ) → HasForm line form → AreSquares top file.rule file.lines → Ahead file (form ∷ forms) before
       → broken_behind top (header ∷ before) line ≡ None
-  line_stands file blank_line forms before line h v a = told_stands top (header ∷ before) line blank_line h refl (λ n. first_of_all blank_line forms before n a.order)
-  line_stands file comment_line forms before line h v a = told_stands top (header ∷ before) line comment_line h refl (λ n. first_of_all comment_line forms before n a.order)
-  line_stands file (rule_line rule) forms before line h v a = told_stands top (header ∷ before) line (rule_line rule) h refl (λ n. first_of_all (rule_line rule) forms before n a.order)
+  line_stands file blank_line forms before line h v a = parsed_stands top (header ∷ before) line blank_line h refl (λ n. first_of_all blank_line forms before n a.order)
+  line_stands file comment_line forms before line h v a = parsed_stands top (header ∷ before) line comment_line h refl (λ n. first_of_all comment_line forms before n a.order)
+  line_stands file (rule_line rule) forms before line h v a = parsed_stands top (header ∷ before) line (rule_line rule) h refl (λ n. first_of_all (rule_line rule) forms before n a.order)
   line_stands file (generation_line generation) forms before line h v a =
-      told_stands top (header ∷ before) line (generation_line generation) h refl (λ n. first_of_all (generation_line generation) forms before n a.order)
+      parsed_stands top (header ∷ before) line (generation_line generation) h refl (λ n. first_of_all (generation_line generation) forms before n a.order)
   line_stands file (node_line square) forms before line h v a = node_stands top (header ∷ before) line square h (square_stands file square forms before v a)
 
   stand_all : (file : Macrocell) (lines : List (List ℕ)) (forms : List Form) (before : List (List ℕ)) → AllZip HasForm lines forms → AreSquares top file.rule file.lines → Ahead file forms before → Stand lines before

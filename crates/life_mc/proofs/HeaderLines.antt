@@ -20,8 +20,8 @@ use Rattle.life_base.specs.declared.rule.Near.TheVariants.{Moore, VonNeumann}
 use Rattle.life_base.specs.declared.rule.Rule.{Rule}
 use Rattle.life_base.specs.declared.rule.Rule.TheVariants.{Life, Named}
 use Rattle.life_mc.specs.Reading.{fault_in}
-use Rattle.life_mc.specs.Standing.{broken_after, Tells}
-use Rattle.life_mc.specs.declared.told.Told.TheVariants.{ToldRule, ToldGeneration}
+use Rattle.life_mc.specs.Standing.{broken_after, IsParsed}
+use Rattle.life_mc.specs.declared.line.Directive.TheVariants.{RuleLine, GenerationLine}
 use Rattle.life_mc.proofs.ReadBack.{has_no_feed}
 use Rattle.life_mc.proofs.LineTexts.{decimal_digits, decimal_value, decimal_short, digits_trimmed, digits_have_no_feed}
 use Rattle.life_mc.proofs.TestFacts.{both}
@@ -102,8 +102,8 @@ module _ (top : ℕ) (rule now : Rule) (h : IsRule rule) where
   pub rule_stands : broken_after top now [] (rule_line rule) ≡ None
   rule_stands = ap fault_in rule_read
 
-  pub rule_told : Tells (rule_line rule) (ToldRule rule)
-  rule_told = (ap result_ok rule_read, refl, refl)
+  pub rule_parsed : IsParsed (rule_line rule) (RuleLine rule)
+  rule_parsed = (ap result_ok rule_read, refl, refl)
 
 -- ---- the line of a generation
 
@@ -129,8 +129,8 @@ module _ (top : ℕ) (now : Rule) (generation : ℕ) (h : generation < 2 ^ 64) w
       by false w p q = cc
       by true false p q = cc
 
-  pub generation_told : Tells (generation_line generation) (ToldGeneration generation)
-  generation_told = (refl, ap (λ t. Some (value_of t)) text_trimmed ∙ ap Some value, refl)
+  pub generation_parsed : IsParsed (generation_line generation) (GenerationLine generation)
+  generation_parsed = (refl, ap (λ t. Some (value_of t)) text_trimmed ∙ ap Some value, refl)
 
   pub generation_short : IsShortText (generation_line generation)
   generation_short = record { short = omega (arith, decimal_short generation (omega arith)); feed = digits_have_no_feed (decimal generation) digits }

@@ -24,7 +24,7 @@ within-part room text at n inside fits size e =
 pub row-in-room : (room text : List ℕ) (at size w row : ℕ) → length room ≡ 105 → at ≤ 96 → w ≤ 8 → size ≡ 9 → text ≡ row_cells row ++ codes "$"
     → without_last is_dot (row_cells row) ≡ take w (row_cells row)
     → take (at + w + 1) (slice_set (put_mid at size room text) (at + w) 36) ≡ take at room ++ row_text row
-row-in-room room text at size w row long low short nine e told =
+row-in-room room text at size w row long low short nine e directive =
     let cells = length_cells row in
     let nine_long = ap length e ∙ length-append (row_cells row) (codes "$") in
     let whole = ap length (take-put_mid at size room text (at + 9) (omega (arith, nine_long, cells)) (omega (arith, long, low))) ∙ length-append (take at room) text in
@@ -33,7 +33,7 @@ row-in-room room text at size w row long low short nine e told =
     take_more_set m (at + w) 36 inside
     ∙ ap (λ l. l ++ 36 ∷ []) (within-part room text at w (omega (arith, long, low)) (omega (arith, nine_long, cells, short)) size (omega (arith, nine, nine_long, cells)))
     ∙ ap (λ l. take at room ++ take w l ++ 36 ∷ []) e
-    ∙ ap (λ l. take at room ++ l ++ 36 ∷ []) (take-append-le w (row_cells row) (codes "$") (omega (arith, cells, short)) ∙ sym told)
+    ∙ ap (λ l. take at room ++ l ++ 36 ∷ []) (take-append-le w (row_cells row) (codes "$") (omega (arith, cells, short)) ∙ sym directive)
     ∙ append_assoc (take at room) (without_last is_dot (row_cells row)) (36 ∷ [])
 
 -- a number has at most 20 digits

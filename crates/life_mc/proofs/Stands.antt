@@ -17,8 +17,8 @@ use Rattle.life_base.specs.declared.rule.Rule.{Rule}
 use Rattle.life_mc.specs.Macrocell.{level_of}
 use Rattle.life_mc.specs.Reading.{broken, broken_behind, broken_by_node, fault_in, is_command, rule_in_force, generation_in_force, squares_of, square_behind, square_on, rule_on, generation_on, last_or, square_of}
 use Rattle.life_mc.specs.Grammar.{form_rule, form_generation, form_square}
-use Rattle.life_mc.specs.Standing.{Standing, StandsAfter, broken_after, Tells, form_of, or_value, level_told}
-use Rattle.life_mc.specs.declared.told.Told.{Told}
+use Rattle.life_mc.specs.Standing.{Standing, StandsAfter, broken_after, IsParsed, form_of, or_value, level_in}
+use Rattle.life_mc.specs.declared.line.Directive.{Directive}
 use Rattle.life_mc.specs.declared.line.Line.{Line}
 use Rattle.life_mc.proofs.Valid.{command_is_hash}
 use Rattle.life_mc.proofs.ReadLines.{squares_none, squares_some}
@@ -165,7 +165,7 @@ square_here [] line h = cc
 square_here (header ∷ lines) line h = refl
 
 levels_more : (lines : List (List ℕ)) (line : List ℕ) (o : Option Line) → square_behind lines line ≡ o
-    → map level_of (squares_of (lines ++ line ∷ [])) ≡ map level_of (squares_of lines) ++ level_told o
+    → map level_of (squares_of (lines ++ line ∷ [])) ≡ map level_of (squares_of lines) ++ level_in o
 levels_more lines line None h = ap (map level_of) (squares_none lines line h) ∙ sym (append_nothing (map level_of (squares_of lines)))
 levels_more lines line (Some square) h = ap (map level_of) (squares_some lines line square h) ∙ map-append level_of (squares_of lines) (square ∷ [])
 
@@ -190,11 +190,11 @@ module _ (top : ℕ) (lines : List (List ℕ)) (line : List ℕ) (old new : Stan
       )
 
   -- a line behind it
-  pub stands_next : (told : Told) → let form = form_of told in old.started ≡ true → broken_after top old.rule old.levels line ≡ None → Tells line told
+  pub stands_next : (directive : Directive) → let form = form_of directive in old.started ≡ true → broken_after top old.rule old.levels line ≡ None → IsParsed line directive
       → new.started ≡ old.started → new.rule ≡ or_value (form_rule form) old.rule → new.generation ≡ or_value (form_generation form) old.generation
-      → new.levels ≡ old.levels ++ level_told (form_square form) → (form_square form ≡ square_behind lines line) × StandsAfter top (lines ++ line ∷ []) new
-  stands_next told t b tells st r g l =
-      let form = form_of told in
+      → new.levels ≡ old.levels ++ level_in (form_square form) → (form_square form ≡ square_behind lines line) × StandsAfter top (lines ++ line ∷ []) new
+  stands_next directive t b tells st r g l =
+      let form = form_of directive in
       let some : is_empty lines ≡ false = not-true old.started (is_empty lines) s.started t in
       let here : square_behind lines line ≡ form_square form = square_here lines line some ∙ tells.2 in (
         sym here,
@@ -203,7 +203,7 @@ module _ (top : ℕ) (lines : List (List ℕ)) (line : List ℕ) (old new : Stan
           started = st ∙ t ∙ some_lines lines line;
           rule = r ∙ ap (or_value (form_rule form)) s.rule ∙ sym (rule_more lines line (form_rule form) some tells.0);
           generation = g ∙ ap (or_value (form_generation form)) s.generation ∙ sym (generation_more lines line (form_generation form) some tells.1);
-          levels = l ∙ ap (λ (ls : List ℕ). ls ++ level_told (form_square form)) s.levels ∙ sym (levels_more lines line (form_square form) here);
+          levels = l ∙ ap (λ (ls : List ℕ). ls ++ level_in (form_square form)) s.levels ∙ sym (levels_more lines line (form_square form) here);
         },
       )
 
@@ -224,9 +224,9 @@ generation_breaks top rule levels line b f r g l =
     by false false false false l p q u s t = cc
     by false false false true true p q u s t = cc
 
-pub tells_generation : (line : List ℕ) (n : ℕ) → is_command 82 line ≡ false → is_command 71 line ≡ true → n ≡ value_of (trim (drop 2 line))
+pub generation_parsed_so : (line : List ℕ) (n : ℕ) → is_command 82 line ≡ false → is_command 71 line ≡ true → n ≡ value_of (trim (drop 2 line))
     → (rule_on line ≡ None) × (generation_on line ≡ Some n) × (square_on line ≡ None)
-tells_generation line n r g e = (
+generation_parsed_so line n r g e = (
   ap (λ v. cond v (result_ok (rule_of (drop 2 line))) None) r,
   ap (λ v. cond v (Some (value_of (trim (drop 2 line)))) None) g ∙ ap Some (sym e),
   ap (λ v. cond (not (is_blank line) && not v) (square_of (trim line)) None) (command_is_hash 0 71 line g) ∙ none (not (is_blank line)),

@@ -14,12 +14,12 @@ use Rattle.life_base.specs.declared.kind.Kind.TheVariants.{Timeline, LateHeader,
 use Rattle.life_base.specs.declared.rule.Rule.{Rule}
 use Rattle.life_mc.specs.Macrocell.{Macrocell, AreSquares, IsSquare, IsValid, level_of, is_quarter, is_child, is_level, largest_state}
 use Rattle.life_mc.specs.Reading.{IsMacrocell, broken_by_node, broken_by_square, fault_in, is_command, squares_of, square_of}
-use Rattle.life_mc.specs.Standing.{Standing, StandsAfter, Tells, broken_after}
+use Rattle.life_mc.specs.Standing.{Standing, StandsAfter, IsParsed, broken_after}
 use Rattle.life_mc.specs.Writing.{mc_text, line_text, TextsReadBack}
 use Rattle.life_mc.specs.declared.line.Line.{Line}
 use Rattle.life_mc.specs.declared.line.Line.TheVariants.{Leaf, Quad}
-use Rattle.life_mc.specs.declared.told.Told.TheVariants.{ToldRule, ToldGeneration, ToldSquare}
-use Rattle.life_mc.proofs.HeaderLines.{rule_short, rule_line, rule_stands, rule_told, generation_line, generation_stands, generation_told, generation_short}
+use Rattle.life_mc.specs.declared.line.Directive.TheVariants.{RuleLine, GenerationLine, NodeLine}
+use Rattle.life_mc.proofs.HeaderLines.{rule_short, rule_line, rule_stands, rule_parsed, generation_line, generation_stands, generation_parsed, generation_short}
 use Rattle.life_mc.proofs.LineTexts.{IsTextOf, leaf_text, quad_text}
 use Rattle.life_mc.proofs.ReadBack.{has_no_feed, line_ended}
 use Rattle.life_mc.proofs.ReadLines.{squares_some}
@@ -85,8 +85,8 @@ module _ (top : ℕ) (rule : Rule) (levels : List ℕ) (line : Line) (text : Lis
   says : square_of (trim text) ≡ Some line
   says = ap square_of t.trimmed ∙ t.says
 
-  node_told : Tells text (ToldSquare line)
-  node_told = (
+  node_parsed : IsParsed text (NodeLine line)
+  node_parsed = (
     ap (λ v. cond v (result_ok (rule_of (drop 2 text))) None) mark.1,
     ap (λ v. cond v (Some (value_of (trim (drop 2 text)))) None) mark.2,
     by (is_blank text) (begins_with text (codes "#")) t.blank t.hash ∙ says,
@@ -134,7 +134,7 @@ module _ (top : ℕ) where
   rule_says : (rule : Rule) → IsRule rule → Says top (header_line ∷ rule_line rule ∷ []) rule 0 []
   rule_says rule h = record {
     stands = (stands_next top (header_line ∷ []) (rule_line rule) (state default_rule 0 []) (state rule 0 []) header_says.stands (omega (arith, (rule_short rule h).short))
-        (ToldRule rule) refl (rule_stands top rule default_rule h) (rule_told top rule default_rule h) refl refl refl refl).1;
+        (RuleLine rule) refl (rule_stands top rule default_rule h) (rule_parsed top rule default_rule h) refl refl refl refl).1;
     squares_are = refl;
   }
 
@@ -143,7 +143,7 @@ module _ (top : ℕ) where
   generation_says rule generation h g = record {
     stands = (stands_next top (header_line ∷ rule_line rule ∷ []) (generation_line generation) (state rule 0 []) (state rule generation []) (rule_says rule h).stands
         (omega (arith, (generation_short top rule generation g).short))
-        (ToldGeneration generation) refl (generation_stands top rule generation g) (generation_told top rule generation g) refl refl refl refl).1;
+        (GenerationLine generation) refl (generation_stands top rule generation g) (generation_parsed top rule generation g) refl refl refl refl).1;
     squares_are = refl;
   }
 
@@ -171,8 +171,8 @@ module _ (top : ℕ) (low : top < 10 ^ 64) (rule : Rule) (generation : ℕ) (all
       let f : take (length done) all ≡ done = subst Q e (take-append_seam done (line ∷ left)) in
       let is : IsSquare top rule (map level_of done) line = subst R f (valid (length done) line g) in
       let t : IsTextOf line (line_text line) = text_at (length done) line g in
-      let next = stands_next top lines (line_text line) (state rule generation done) (state rule generation (done ++ line ∷ [])) s.stands t.short (ToldSquare line)
-      refl (node_stands top rule (map level_of done) line (line_text line) t is) (node_told top rule (map level_of done) line (line_text line) t)
+      let next = stands_next top lines (line_text line) (state rule generation done) (state rule generation (done ++ line ∷ [])) s.stands t.short (NodeLine line)
+      refl (node_stands top rule (map level_of done) line (line_text line) t is) (node_parsed top rule (map level_of done) line (line_text line) t)
       refl refl refl (map-append level_of done (line ∷ [])) in
       record {
         stands = next.1;

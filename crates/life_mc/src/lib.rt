@@ -10,7 +10,6 @@ mod lines;
 mod node;
 mod numbers;
 mod reading;
-mod told;
 mod writing;
 
 pub use file::McFile;

@@ -3,8 +3,7 @@
 ghost use Rattle.std.specs.Prelude.{◌≡◌};
 ghost use Rattle.life_mc.specs.Macrocell.{level_of};
 
-use crate::line::Line;
-use crate::told::{Told, read_told};
+use crate::line::{Directive, Line, parse_line};
 use life_base::{Kind, LineLog, MAX_LEVEL, Rule, begins_with, is_too_long};
 use std::alloc::Global;
 use std::marker::Model;
@@ -41,7 +40,7 @@ impl Kept {
     ghost use Rattle.std.specs.Prelude.{◌++◌, ◌∷◌, [], ℕ, List, ◌⊎◌, IfOk, IfErr, OnOk, MatchOption, Some, true, false};
     ghost use Rattle.life_base.specs.declared.kind.Kind.TheVariants.{Memory};
     ghost use Rattle.life_mc.specs.Grammar.{form_rule, form_generation, form_square};
-    ghost use Rattle.life_mc.specs.Standing.{StandsAfter, form_of, or_value, level_told};
+    ghost use Rattle.life_mc.specs.Standing.{StandsAfter, form_of, or_value, level_in};
     ghost use Rattle.life_mc.specs.Reading.{broken, square_behind};
 
     /// What is kept of no line.
@@ -74,30 +73,30 @@ impl Kept {
             self.started = true;
             return Ok(None);
         }
-        let told = read_told(self.alloc, &self.rule, &self.levels, line)?;
-        self.keep(told)
+        let directive = parse_line(self.alloc, &self.rule, &self.levels, line)?;
+        self.keep(directive)
     }
 
-    /// Keeps what a line tells, and answers its square.
-    fn keep(&mut self, told: Told) -> Result<Option<Line>, Kind>
-        ensures square { IfOk result (λ square. square ≡ form_square (form_of told)) }
-        ensures rule { OnOk result (self.new.rule ≡ or_value (form_rule (form_of told)) self.old.rule) }
-        ensures generation { OnOk result (self.new.generation ≡ or_value (form_generation (form_of told)) self.old.generation) }
-        ensures levels { OnOk result (self.new.levels ≡ self.old.levels ++ level_told (form_square (form_of told))) }
+    /// Keeps what a line is, and answers its square.
+    fn keep(&mut self, directive: Directive) -> Result<Option<Line>, Kind>
+        ensures square { IfOk result (λ square. square ≡ form_square (form_of directive)) }
+        ensures rule { OnOk result (self.new.rule ≡ or_value (form_rule (form_of directive)) self.old.rule) }
+        ensures generation { OnOk result (self.new.generation ≡ or_value (form_generation (form_of directive)) self.old.generation) }
+        ensures levels { OnOk result (self.new.levels ≡ self.old.levels ++ level_in (form_square (form_of directive))) }
         ensures started { self.new.started ≡ self.old.started }
         ensures err { IfErr result (λ kind. kind ≡ Memory) }
     {
-        match told {
-            Told::Nothing => Ok(None),
-            Told::ToldRule(rule) => {
+        match directive {
+            Directive::Nothing => Ok(None),
+            Directive::RuleLine(rule) => {
                 self.rule = rule;
                 Ok(None)
             }
-            Told::ToldGeneration(generation) => {
+            Directive::GenerationLine(generation) => {
                 self.generation = generation;
                 Ok(None)
             }
-            Told::ToldSquare(square) => {
+            Directive::NodeLine(square) => {
                 self.levels.push(level_of_square(&square))?;
                 Ok(Some(square))
             }
@@ -105,7 +104,7 @@ impl Kept {
     }
 
     /// The rule and the generation, if a line came.
-    fn said(self) -> Option<(Rule, u64)>
+    fn rule_and_generation(self) -> Option<(Rule, u64)>
         ensures { MatchOption result (self.started ≡ false) (λ found. (self.started ≡ true) × (found.0 ≡ self.rule) × (found.1 ≡ self.generation)) }
     {
         if self.started {
@@ -201,6 +200,6 @@ impl McLines {
         if self.refused {
             return Err(Kind::Spent);
         }
-        self.kept.said().ok_or(Kind::NoHeader)
+        self.kept.rule_and_generation().ok_or(Kind::NoHeader)
     }
 }

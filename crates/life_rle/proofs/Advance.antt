@@ -3,7 +3,7 @@ use Rattle.std.proofs.Common.{◌≡◌, ℕ, ◌+◌, ◌^◌, Bool, true, fals
 use Rattle.std.proofs.lemmas.List.{append-nil}
 use Rattle.std.proofs.lemmas.Int.{ints}
 use Rattle.std.specs.List.{before_first, after_first}
-use Rattle.life_rle.specs.declared.reader.Phase.TheVariants as phases
+use Rattle.life_rle.specs.declared.lines.Phase.TheVariants as phases
 use Rattle.life_base.specs.declared.kind.Kind.{Kind}
 use Rattle.life_base.specs.declared.kind.Kind.TheVariants.{OutOfPlane, TooLarge, BadNumber}
 use Rattle.life_base.specs.declared.rule.Rule.{Rule}
@@ -20,9 +20,9 @@ use Rattle.life_rle.specs.declared.position.Position.{Position}
 use Rattle.life_rle.specs.Plane.{edge, is_coordinate}
 use Rattle.life_rle.specs.Pattern.{Rle, Placed, placed, placed_item, placed_behind, first_fault, item_fault, rows_in, columns_in}
 use Rattle.life_rle.specs.Runs.{runs_of}
-use Rattle.life_rle.specs.declared.opening.Opening.TheVariants.{Comment, PositionLine, Header}
+use Rattle.life_rle.specs.declared.line.Opening.TheVariants.{Comment, PositionLine, Header}
 use Rattle.life_rle.specs.Grammar.{opening_of, later_of, IsPreamble, IsUnmarked, IsRle, Breaks, before_header, by_form, by_text, by_item}
-use Rattle.life_rle.specs.declared.opening.Later.TheVariants.{Passed, Data}
+use Rattle.life_rle.specs.declared.line.Later.TheVariants.{Passed, Data}
 use Rattle.life_rle.specs.File.{HasRuns}
 use Rattle.life_rle.specs.Cursor.{IsBehind, start_of, moved, moved_behind, placed_at}
 use Rattle.life_rle.specs.Standing.{StandsAt, Advances}

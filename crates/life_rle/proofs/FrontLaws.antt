@@ -6,7 +6,7 @@ use Rattle.life_base.specs.declared.kind.Kind.{Kind}
 use Rattle.life_base.specs.declared.kind.Kind.TheVariants.{LineTooLong, NoHeader}
 use Rattle.life_base.specs.Refusal.{Prefix}
 use Rattle.life_base.specs.Text.{begins_with, is_too_long}
-use Rattle.life_rle.specs.declared.opening.Opening.{Opening}
+use Rattle.life_rle.specs.declared.line.Opening.{Opening}
 use Rattle.life_rle.specs.Position.{default_position}
 use Rattle.life_rle.specs.Pattern.{Rle}
 use Rattle.life_rle.specs.Grammar.{opening_of, later_of, IsMarked, IsSomeRle, Breaks, before_header, by_form}

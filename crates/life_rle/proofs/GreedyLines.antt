@@ -7,7 +7,7 @@ use Rattle.life_base.specs.declared.rule.Rule.{Rule}
 use Rattle.life_rle.specs.declared.item.Item.{Item}
 use Rattle.life_rle.specs.Written.{wrapped, item_text, items_from, box_of}
 use Rattle.life_rle.specs.Laws.{IsWrapped, WrappedGreedily}
-use Rattle.life_rle.proofs.Lines.{AreWritten, item_text-short}
+use Rattle.life_rle.proofs.FileLines.{AreWritten, item_text-short}
 use Rattle.life_rle.proofs.CellsLaw.{items_from-good}
 use Rattle.life_rle.proofs.Sorting.{AreGood-AreWritten, sorted-Follow, sorted-IsInPlane}
 

@@ -14,7 +14,7 @@ pub mod Advance
 pub mod Texts
 pub mod CellsLaw
 pub mod Sorting
-pub mod Lines
+pub mod FileLines
 pub mod ReadBack
 pub mod OneLine
 pub mod ReadPosition

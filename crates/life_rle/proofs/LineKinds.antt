@@ -22,11 +22,11 @@ use Rattle.life_rle.specs.Plane.{edge, is_coordinate}
 use Rattle.life_rle.specs.Header.{header_form, rule_in, header_of}
 use Rattle.life_rle.specs.Pattern.{item_fault, rows_in, columns_in}
 use Rattle.life_rle.specs.States.{is_state_of}
-use Rattle.life_rle.specs.declared.opening.Opening.{Opening}
-use Rattle.life_rle.specs.declared.opening.Opening.TheVariants.{Comment, PositionLine, Header}
+use Rattle.life_rle.specs.declared.line.Opening.{Opening}
+use Rattle.life_rle.specs.declared.line.Opening.TheVariants.{Comment, PositionLine, Header}
 use Rattle.life_rle.specs.Grammar.{opening_of, later_of, Breaks, before_header, by_form, by_text, by_item, is_rle_kind}
-use Rattle.life_rle.specs.declared.opening.Later.{Later}
-use Rattle.life_rle.specs.declared.opening.Later.TheVariants.{Passed, Data}
+use Rattle.life_rle.specs.declared.line.Later.{Later}
+use Rattle.life_rle.specs.declared.line.Later.TheVariants.{Passed, Data}
 use Rattle.life_rle.proofs.ShortKinds.{is_short_kind, IsLineKind, short-line, line-rle, only-long}
 use Rattle.life_rle.proofs.ReadItems.{Broken-kind}
 use Rattle.life_rle.proofs.Advance.{IsInPlane, IsPlanePosition, position_of-plane}

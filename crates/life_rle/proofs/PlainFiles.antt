@@ -12,10 +12,10 @@ use Rattle.life_base.specs.Text.{is_too_long, is_blank, begins_with}
 use Rattle.life_rle.specs.declared.item.Item.{Item}
 use Rattle.life_rle.specs.declared.item.Item.TheVariants.{Cells, RowEnds}
 use Rattle.life_rle.specs.declared.position.Position.{Position}
-use Rattle.life_rle.specs.declared.opening.Opening.{Opening}
-use Rattle.life_rle.specs.declared.opening.Opening.TheVariants.{Comment, PositionLine, Header}
-use Rattle.life_rle.specs.declared.opening.Later.{Later}
-use Rattle.life_rle.specs.declared.opening.Later.TheVariants.{Passed, Data}
+use Rattle.life_rle.specs.declared.line.Opening.{Opening}
+use Rattle.life_rle.specs.declared.line.Opening.TheVariants.{Comment, PositionLine, Header}
+use Rattle.life_rle.specs.declared.line.Later.{Later}
+use Rattle.life_rle.specs.declared.line.Later.TheVariants.{Passed, Data}
 use Rattle.life_rle.specs.Plane.{edge}
 use Rattle.life_rle.specs.States.{is_state_of}
 use Rattle.life_rle.specs.Items.{End, Mark}

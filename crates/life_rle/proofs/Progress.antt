@@ -9,11 +9,11 @@ use Rattle.life_rle.specs.Items.{Next, End, Mark, Spelled, Broken, next_of, Spel
 use Rattle.life_rle.specs.declared.position.Position.{Position}
 use Rattle.life_rle.specs.Position.{default_position}
 use Rattle.life_rle.specs.Pattern.{Rle, Placed, placed, placed_item, placed_behind, first_fault, first_kind, placed_fault}
-use Rattle.life_rle.specs.declared.opening.Opening.{Opening}
-use Rattle.life_rle.specs.declared.opening.Opening.TheVariants.{Comment, PositionLine, Header}
+use Rattle.life_rle.specs.declared.line.Opening.{Opening}
+use Rattle.life_rle.specs.declared.line.Opening.TheVariants.{Comment, PositionLine, Header}
 use Rattle.life_rle.specs.Grammar.{opening_of, later_of, IsPreamble, LineSpells, BodySpells, IsUnmarked, IsOpenBy, IsEndedBy, IsMarked}
-use Rattle.life_rle.specs.declared.opening.Later.{Later}
-use Rattle.life_rle.specs.declared.opening.Later.TheVariants.{Passed, Data}
+use Rattle.life_rle.specs.declared.line.Later.{Later}
+use Rattle.life_rle.specs.declared.line.Later.TheVariants.{Passed, Data}
 use Rattle.life_rle.proofs.ReadSteps.{items_read, last_read, line-Spells}
 
 abbrev pub fault_of_next : Next → Option Kind

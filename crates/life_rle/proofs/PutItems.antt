@@ -9,7 +9,7 @@ use Rattle.life_rle.specs.declared.item.Item.TheVariants.{Cells, RowEnds}
 use Rattle.life_rle.specs.Cursor.{item_count}
 use Rattle.life_rle.specs.Written.{count_text, item_text, item_lines, wrapped}
 use Rattle.life_rle.specs.Writing.{tag_text, text_from, items_text, Puts}
-use Rattle.life_rle.proofs.Lines.{state_text-short}
+use Rattle.life_rle.proofs.FileLines.{state_text-short}
 
 pub tag-short : (rule : Rule) (item : Item) → length (tag_text rule item) ≤ 2
 tag-short rule (Cells n s) = state_text-short rule s

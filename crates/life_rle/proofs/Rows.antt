@@ -14,8 +14,8 @@ use Rattle.life_rle.specs.Position.{position_of, default_position}
 use Rattle.life_rle.specs.Pattern.{Rle, placed, placed_behind, first_fault, cell}
 use Rattle.life_rle.specs.Runs.{runs_of}
 use Rattle.life_rle.specs.Grammar.{IsPreamble, IsUnmarked, IsRle, Breaks, fault_behind, by_text, by_item, opening_of, later_of}
-use Rattle.life_rle.specs.declared.opening.Opening.TheVariants.{PositionLine, Header}
-use Rattle.life_rle.specs.declared.opening.Later.TheVariants.{Data}
+use Rattle.life_rle.specs.declared.line.Opening.TheVariants.{PositionLine, Header}
+use Rattle.life_rle.specs.declared.line.Later.TheVariants.{Data}
 use Rattle.life_rle.proofs.ReadSteps.{items_read, last_read, line-Spells}
 use Rattle.life_base.specs.declared.cell.TheConstants.{MAX_LEVEL}
 

@@ -2,8 +2,8 @@
 use Rattle.std.proofs.Common.{◌≡◌, ℕ, true, false, List, refl, sym, subst, inr}
 use Rattle.life_base.specs.Refusal.{Prefix}
 use Rattle.life_rle.specs.declared.cursor.Cursor.{Cursor}
-use Rattle.life_rle.specs.declared.reader.Phase.{Phase}
-use Rattle.life_rle.specs.declared.reader.Phase.TheVariants as phases
+use Rattle.life_rle.specs.declared.lines.Phase.{Phase}
+use Rattle.life_rle.specs.declared.lines.Phase.TheVariants as phases
 use Rattle.life_rle.specs.Standing.{StandsAt, is_refused, is_over}
 use Rattle.life_rle.specs.Pattern.{Rle}
 use Rattle.life_rle.specs.Grammar.{IsSomeRle, IsMarked}

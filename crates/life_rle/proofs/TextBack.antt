@@ -12,7 +12,7 @@ use Rattle.life_base.specs.Rules.{IsRule, rule_of, rule_text, RulesReadBack}
 use Rattle.life_rle.specs.declared.item.Item.{Item}
 use Rattle.life_rle.specs.declared.item.Item.TheVariants.{Cells, RowEnds}
 use Rattle.life_rle.specs.declared.position.Position.{Position}
-use Rattle.life_rle.specs.declared.opening.Opening.TheVariants.{PositionLine, Header}
+use Rattle.life_rle.specs.declared.line.Opening.TheVariants.{PositionLine, Header}
 use Rattle.life_rle.specs.Position.{position_of, and_then}
 use Rattle.life_rle.specs.Plane.{is_coordinate, edge}
 use Rattle.life_rle.specs.Grammar.{opening_of, IsUnmarked, IsMarked}
@@ -20,7 +20,7 @@ use Rattle.life_rle.specs.Pattern.{Rle, cell_among, placed_behind, first_fault}
 use Rattle.life_rle.specs.Header.{header_of}
 use Rattle.life_rle.specs.Written.{position_text, generation_text, header_text, rle_lines, item_lines, item_text, items_from, box_of, span}
 use Rattle.life_rle.specs.Laws.{StatesReadBack, RleTextReadsBack}
-use Rattle.life_rle.proofs.Lines.{AreWritten, wrapped-IsMarked}
+use Rattle.life_rle.proofs.FileLines.{AreWritten, wrapped-IsMarked}
 use Rattle.life_rle.proofs.ReadBack.{is_one_line, AreLines, lines-ended, header_of-written}
 use Rattle.life_rle.proofs.RuleTexts.{rule_text-is, visible-one_line, visible-bare}
 use Rattle.life_rle.proofs.OneLine.{one_line-append, wrapped-AreLines, decimal-one_line, item_text-one_line}

@@ -8,7 +8,7 @@ use Rattle.life_rle.specs.declared.position.Position.{Position}
 use Rattle.life_rle.specs.Position.{default_position}
 use Rattle.life_rle.specs.Pattern.{Rle, placed_behind, first_fault, first_kind}
 use Rattle.life_rle.specs.Grammar.{later_of, IsPreamble, LineSpells, BodySpells, IsUnmarked, IsMarked, IsRle, IsSomeRle, fault_behind, Breaks, before_header, by_form, by_text, by_item}
-use Rattle.life_rle.specs.declared.opening.Later.TheVariants.{Data}
+use Rattle.life_rle.specs.declared.line.Later.TheVariants.{Data}
 use Rattle.life_rle.proofs.Shrinks.{IsStop, items_read-line, last_read-line, items_read-before}
 use Rattle.life_rle.proofs.Progress.{Before, Begun, Ended, Refused, fault_of_next, items_fault, line_items, line_last, with_items, after_items, open_step, later_step, step, progress, start, progress-append, progress-Refused, progress-Ended, placed_behind-append, first_fault-append, first_kind-both, with_items-nil}
 

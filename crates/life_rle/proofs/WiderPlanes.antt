@@ -10,8 +10,8 @@ use Rattle.life_base.specs.declared.kind.Kind.TheVariants.{LineTooLong, NoHeader
 use Rattle.life_base.specs.declared.rule.Rule.{Rule}
 use Rattle.life_rle.specs.declared.item.Item.{Item}
 use Rattle.life_rle.specs.declared.item.Item.TheVariants.{Cells, RowEnds}
-use Rattle.life_rle.specs.declared.opening.Opening.{Opening}
-use Rattle.life_rle.specs.declared.opening.Opening.TheVariants.{Comment, PositionLine, Header}
+use Rattle.life_rle.specs.declared.line.Opening.{Opening}
+use Rattle.life_rle.specs.declared.line.Opening.TheVariants.{Comment, PositionLine, Header}
 use Rattle.life_rle.specs.declared.position.Position.{Position}
 use Rattle.life_rle.specs.Grammar.{IsUnmarked, IsMarked, HasNoFault, IsPreamble, LineSpells, BodySpells, opening_of}
 use Rattle.life_rle.specs.Header.{header_of}

@@ -2,8 +2,8 @@
 use Rattle.std.specs.Prelude.{◌≡◌, ℕ, Bool, true, false, List, [], ◌∷◌, ◌++◌}
 use Rattle.life_rle.specs.declared.cursor.Cursor.{Cursor}
 use Rattle.life_rle.specs.declared.file.Run.{Run}
-use Rattle.life_rle.specs.declared.reader.Phase.{Phase}
-use Rattle.life_rle.specs.declared.reader.Phase.TheVariants as phases
+use Rattle.life_rle.specs.declared.lines.Phase.{Phase}
+use Rattle.life_rle.specs.declared.lines.Phase.TheVariants as phases
 use Rattle.life_rle.specs.Pattern.{Rle}
 use Rattle.life_rle.specs.Position.{default_position}
 use Rattle.life_rle.specs.Grammar.{IsPreamble, IsUnmarked, IsMarked}

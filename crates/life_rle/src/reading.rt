@@ -9,8 +9,8 @@ ghost use Rattle.life_rle.specs.Pattern.{Rle};
 ghost use Rattle.life_rle.specs.PlainFile.{IsPlainRle};
 
 use crate::file::{RleFile, Run};
+use crate::lines::RleLines;
 use crate::position::Position;
-use crate::reader::RleLines;
 use life_base::{Fault, Items, MAX_LEVEL, Rule, lines};
 use std::alloc::Global;
 

@@ -6,10 +6,10 @@ use Rattle.std.proofs.lemmas.List.Elements.{All-nil, All-cons, All-head, All-tai
 use Rattle.life_base.specs.Text.{numbered_from}
 use Rattle.life_base.specs.declared.kind.Kind.TheVariants.{NoRuleLine, NoTable, BadDescriptor}
 use Rattle.life_table.specs.Valid.{neighbour_count}
-use Rattle.life_table.specs.Reading.{Numbered, texts_of, table_texts, Describes, said_by, lacking, is_ahead, is_descriptor, states_of, neighborhood_of, symmetry_of, variables_in, variables_written, transitions_in, transitions_written, is_transition_line, transition_of, transition_from, entries_of}
+use Rattle.life_table.specs.Reading.{Numbered, texts_of, table_texts, Describes, parsed_by, lacking, is_ahead, is_descriptor, states_of, neighborhood_of, symmetry_of, variables_in, variables_written, transitions_in, transitions_written, is_transition_line, transition_of, transition_from, entries_of}
 use Rattle.life_table.specs.Reader.{IsGood}
 use Rattle.life_table.specs.Laws.{AcceptedWritesTable, NothingDropped, HasAll, HasSetting}
-use Rattle.life_table.specs.declared.said.Said.{Said}
+use Rattle.life_table.specs.declared.directive.Parsed.{Parsed}
 use Rattle.life_table.specs.declared.table.Neighborhood.{Neighborhood}
 use Rattle.life_table.specs.declared.table.Symmetry.{Symmetry}
 use Rattle.life_table.specs.declared.table.Var.{Var}
@@ -43,10 +43,10 @@ whole_of (Some title) false (Some n) None oy e = absurd (let z : ⊥ = cc in z)
 whole_of (Some title) false (Some n) (Some h) None e = absurd (let z : ⊥ = cc in z)
 whole_of (Some title) false (Some n) (Some h) (Some y) e = record { title = title; is_title = refl; n = n; is_n = refl; h = h; is_h = refl; y = y; is_y = refl }
 
-described_by : (said : Said) → IsGood said → lacking said ≡ None → (table : Table) × Describes said table
-described_by said g e =
-    let w = whole_of said.name (is_ahead said.section) said.n_states said.neighborhood said.symmetry e in (
-      record { name = w.title; n_states = w.n; neighborhood = w.h; symmetry = w.y; vars = said.vars; lines = said.lines; sound = sound_of said g w.n w.h w.y w.is_n w.is_h w.is_y },
+described_by : (parsed : Parsed) → IsGood parsed → lacking parsed ≡ None → (table : Table) × Describes parsed table
+described_by parsed g e =
+    let w = whole_of parsed.name (is_ahead parsed.section) parsed.n_states parsed.neighborhood parsed.symmetry e in (
+      record { name = w.title; n_states = w.n; neighborhood = w.h; symmetry = w.y; vars = parsed.vars; lines = parsed.lines; sound = sound_of parsed g w.n w.h w.y w.is_n w.is_h w.is_y },
       record { name = w.is_title; n_states = w.is_n; neighborhood = w.is_h; symmetry = w.is_y; vars = refl; lines = refl },
     )
 
@@ -54,7 +54,7 @@ pub accepted : AcceptedWritesTable
 accepted lines = (
   (λ file.
       let r = reach lines file.unbroken in
-      let d = described_by (said_by (numbered_from 1 lines)) r.good (sym (missing_is lines) ∙ file.whole) in
+      let d = described_by (parsed_by (numbered_from 1 lines)) r.good (sym (missing_is lines) ∙ file.whole) in
       (d.0, record { file = file; says = d.1 })),
   λ table are. are.file,
 )
@@ -73,11 +73,11 @@ line_number n k vars number text t h = let f = followed (transition_from k numbe
 abbrev numbers_of : List Transition → List ℕ
 numbers_of lines = map (λ (line : Transition). line.line) lines
 
-abbrev told_numbers : List Numbered → List ℕ
-told_numbers ts = map (λ (text : Numbered). text.0) (filter (λ (text : Numbered). is_transition_line text.1) ts)
+abbrev directive_numbers : List Numbered → List ℕ
+directive_numbers ts = map (λ (text : Numbered). text.0) (filter (λ (text : Numbered). is_transition_line text.1) ts)
 
 numbers_step : (n k : ℕ) (vars : List Var) (b : Bool) (x : Numbered) (ts : List Numbered) → is_transition_line x.1 ≡ b → IsRead n k vars x
-    → numbers_of (transitions_written n k vars ts) ≡ told_numbers ts → numbers_of (transitions_written n k vars (x ∷ ts)) ≡ told_numbers (x ∷ ts)
+    → numbers_of (transitions_written n k vars ts) ≡ directive_numbers ts → numbers_of (transitions_written n k vars (x ∷ ts)) ≡ directive_numbers (x ∷ ts)
 numbers_step n k vars false x ts e r ih =
     ap (λ (b : Bool). numbers_of (cons_option (if b then transition_of n k vars x.0 x.1 else None) (transitions_written n k vars ts))) e ∙ ih
     ∙ sym (ap (λ (b : Bool). map (λ (text : Numbered). text.0) (if b then x ∷ filter (λ (text : Numbered). is_transition_line text.1) ts else filter (λ (text : Numbered). is_transition_line text.1) ts)) e)
@@ -89,7 +89,7 @@ numbers_step n k vars true x ts e r ih =
     ∙ ap (λ (ms : List ℕ). x.0 ∷ ms) ih
     ∙ sym (ap (λ (b : Bool). map (λ (text : Numbered). text.0) (if b then x ∷ filter (λ (text : Numbered). is_transition_line text.1) ts else filter (λ (text : Numbered). is_transition_line text.1) ts)) e)
 
-numbers_are : (n k : ℕ) (vars : List Var) (ts : List Numbered) → All (IsRead n k vars) ts → numbers_of (transitions_written n k vars ts) ≡ told_numbers ts
+numbers_are : (n k : ℕ) (vars : List Var) (ts : List Numbered) → All (IsRead n k vars) ts → numbers_of (transitions_written n k vars ts) ≡ directive_numbers ts
 numbers_are n k vars [] h = refl
 numbers_are n k vars (x ∷ ts) h =
     numbers_step n k vars (is_transition_line x.1) x ts refl (All-head (IsRead n k vars) x ts h) (numbers_are n k vars ts (All-tail (IsRead n k vars) x ts h))

@@ -10,13 +10,13 @@ use Rattle.life_base.specs.Rules.{rule_of, life_sets, four_sets}
 use Rattle.life_base.specs.Refusal.{Prefix, kept, continuations}
 use Rattle.life_base.specs.declared.kind.Kind.{Kind}
 use Rattle.life_base.proofs.Refusals.{UnbrokenBelow, IsByLines}
-use Rattle.life_table.specs.Reading.{Numbered, IsTableFile, broken, missing, lacking, said_by, told_by, told_descriptor, number_behind, fault_in, is_described, content}
+use Rattle.life_table.specs.Reading.{Numbered, IsTableFile, broken, missing, lacking, parsed_by, parse_line, parse_descriptor, number_behind, fault_in, is_described, content}
 use Rattle.life_table.specs.Reader.{IsGood, after}
-use Rattle.life_table.specs.declared.said.Said.{Said}
-use Rattle.life_table.specs.declared.said.Section.{Section}
-use Rattle.life_table.specs.declared.said.Section.TheVariants.{Ahead, Open, Behind}
-use Rattle.life_table.specs.declared.said.Told.{Told}
-use Rattle.life_table.specs.declared.said.Told.TheVariants.{RuleName, TableOpens, States, Neighbors, Orders, Variable, Line}
+use Rattle.life_table.specs.declared.directive.Parsed.{Parsed}
+use Rattle.life_table.specs.declared.directive.Section.{Section}
+use Rattle.life_table.specs.declared.directive.Section.TheVariants.{Ahead, Open, Behind}
+use Rattle.life_table.specs.declared.directive.Directive.{Directive}
+use Rattle.life_table.specs.declared.directive.Directive.TheVariants.{RuleName, TableOpens, States, Neighbors, Orders, Variable, Line}
 use Rattle.life_table.specs.declared.table.Neighborhood.{Neighborhood}
 use Rattle.life_table.specs.declared.table.Neighborhood.TheVariants.{VonNeumann, Moore}
 use Rattle.life_table.specs.declared.table.Symmetry.{Symmetry}
@@ -24,20 +24,20 @@ use Rattle.life_table.specs.declared.table.Symmetry.TheVariants as symmetries
 use Rattle.life_table.specs.declared.table.Var.{Var}
 use Rattle.life_table.specs.declared.table.Transition.{Transition}
 use Rattle.life_table.proofs.Cases.{Says, states, neighbors, orders, variable, transition, Case, passed, named, ahead, opens, ends, silent, says, behind, line_case}
-use Rattle.life_table.proofs.Lines.{Stands, line_more, stands_start, said_start}
+use Rattle.life_table.proofs.FileLines.{Stands, line_more, stands_start, parsed_start}
 use Rattle.life_table.proofs.Good.{good_more, good_start}
 
 -- 1. What is said at each stage
 
-pub record IsStaged (said : Said) : Type 0 where
-  pub states_ahead : said.section ≡ Ahead → said.n_states ≡ None
-  pub neighbors_ahead : said.section ≡ Ahead → said.neighborhood ≡ None
-  pub orders_ahead : said.section ≡ Ahead → said.symmetry ≡ None
-  pub described : said.section ≡ Behind → is_described said ≡ true
-  pub unnamed : said.name ≡ None → said.section ≡ Ahead
+pub record IsStaged (parsed : Parsed) : Type 0 where
+  pub states_ahead : parsed.section ≡ Ahead → parsed.n_states ≡ None
+  pub neighbors_ahead : parsed.section ≡ Ahead → parsed.neighborhood ≡ None
+  pub orders_ahead : parsed.section ≡ Ahead → parsed.symmetry ≡ None
+  pub described : parsed.section ≡ Behind → is_described parsed ≡ true
+  pub unnamed : parsed.name ≡ None → parsed.section ≡ Ahead
 
-staged_open : (said : Said) (next : Said) → IsStaged said → said.section ≡ Open → next.section ≡ said.section → next.name ≡ said.name → IsStaged next
-staged_open said next g s e n = record {
+staged_open : (parsed : Parsed) (next : Parsed) → IsStaged parsed → parsed.section ≡ Open → next.section ≡ parsed.section → next.name ≡ parsed.name → IsStaged next
+staged_open parsed next g s e n = record {
   states_ahead = λ is. absurd (let z : Open ≡ Ahead = sym (e ∙ s) ∙ is in let w : ⊥ = cc in w);
   neighbors_ahead = λ is. absurd (let z : Open ≡ Ahead = sym (e ∙ s) ∙ is in let w : ⊥ = cc in w);
   orders_ahead = λ is. absurd (let z : Open ≡ Ahead = sym (e ∙ s) ∙ is in let w : ⊥ = cc in w);
@@ -45,40 +45,40 @@ staged_open said next g s e n = record {
   unnamed = λ is. e ∙ g.unnamed (sym n ∙ is);
 }
 
-staged_says : (said : Said) (number : ℕ) (text : List ℕ) (told : Told) → IsStaged said → said.section ≡ Open → Says said number text told → IsStaged (after said told)
-staged_says said number text told g s (states d k none n e is) = subst (λ (t : Told). IsStaged (after said t)) (sym is) (staged_open said (after said (States n)) g s refl refl)
-staged_says said number text told g s (neighbors d l k none h e a is) = subst (λ (t : Told). IsStaged (after said t)) (sym is) (staged_open said (after said (Neighbors h)) g s refl refl)
-staged_says said number text told g s (orders d l m k none y e a is) = subst (λ (t : Told). IsStaged (after said t)) (sym is) (staged_open said (after said (Orders y)) g s refl refl)
-staged_says said number text told g s (variable d n h y en eh ey v var e is) = subst (λ (t : Told). IsStaged (after said t)) (sym is) (staged_open said (after said (Variable var)) g s refl refl)
-staged_says said number text told g s (transition d n h y en eh ey v t e b q is) = subst (λ (t : Told). IsStaged (after said t)) (sym is) (staged_open said (after said (Line t)) g s refl refl)
+staged_says : (parsed : Parsed) (number : ℕ) (text : List ℕ) (directive : Directive) → IsStaged parsed → parsed.section ≡ Open → Says parsed number text directive → IsStaged (after parsed directive)
+staged_says parsed number text directive g s (states d k none n e is) = subst (λ (t : Directive). IsStaged (after parsed t)) (sym is) (staged_open parsed (after parsed (States n)) g s refl refl)
+staged_says parsed number text directive g s (neighbors d l k none h e a is) = subst (λ (t : Directive). IsStaged (after parsed t)) (sym is) (staged_open parsed (after parsed (Neighbors h)) g s refl refl)
+staged_says parsed number text directive g s (orders d l m k none y e a is) = subst (λ (t : Directive). IsStaged (after parsed t)) (sym is) (staged_open parsed (after parsed (Orders y)) g s refl refl)
+staged_says parsed number text directive g s (variable d n h y en eh ey v var e is) = subst (λ (t : Directive). IsStaged (after parsed t)) (sym is) (staged_open parsed (after parsed (Variable var)) g s refl refl)
+staged_says parsed number text directive g s (transition d n h y en eh ey v t e b q is) = subst (λ (t : Directive). IsStaged (after parsed t)) (sym is) (staged_open parsed (after parsed (Line t)) g s refl refl)
 
-staged_more : (said : Said) (number : ℕ) (line : List ℕ) (told : Told) → IsStaged said → Case said number line told → IsStaged (after said told)
-staged_more said number line told g (passed s n p is) = subst (λ (t : Told). IsStaged (after said t)) (sym is) g
-staged_more said number line told g (named s n p name e is) = subst (λ (t : Told). IsStaged (after said t)) (sym is) (record {
+staged_more : (parsed : Parsed) (number : ℕ) (line : List ℕ) (directive : Directive) → IsStaged parsed → Case parsed number line directive → IsStaged (after parsed directive)
+staged_more parsed number line directive g (passed s n p is) = subst (λ (t : Directive). IsStaged (after parsed t)) (sym is) g
+staged_more parsed number line directive g (named s n p name e is) = subst (λ (t : Directive). IsStaged (after parsed t)) (sym is) (record {
   states_ahead = g.states_ahead;
   neighbors_ahead = g.neighbors_ahead;
   orders_ahead = g.orders_ahead;
   described = λ b. absurd (let z : Ahead ≡ Behind = sym s ∙ b in let w : ⊥ = cc in w);
   unnamed = λ b. absurd (let w : ⊥ = cc in w);
 })
-staged_more said number line told g (ahead s name n p is) = subst (λ (t : Told). IsStaged (after said t)) (sym is) g
-staged_more said number line told g (opens s name n p is) = subst (λ (t : Told). IsStaged (after said t)) (sym is) (record {
+staged_more parsed number line directive g (ahead s name n p is) = subst (λ (t : Directive). IsStaged (after parsed t)) (sym is) g
+staged_more parsed number line directive g (opens s name n p is) = subst (λ (t : Directive). IsStaged (after parsed t)) (sym is) (record {
   states_ahead = λ b. absurd (let w : ⊥ = cc in w);
   neighbors_ahead = λ b. absurd (let w : ⊥ = cc in w);
   orders_ahead = λ b. absurd (let w : ⊥ = cc in w);
   described = λ b. absurd (let w : ⊥ = cc in w);
   unnamed = λ b. absurd (let z : Some name ≡ None = sym n ∙ b in let w : ⊥ = cc in w);
 })
-staged_more said number line told g (ends s l d is) = subst (λ (t : Told). IsStaged (after said t)) (sym is) (record {
+staged_more parsed number line directive g (ends s l d is) = subst (λ (t : Directive). IsStaged (after parsed t)) (sym is) (record {
   states_ahead = λ b. absurd (let w : ⊥ = cc in w);
   neighbors_ahead = λ b. absurd (let w : ⊥ = cc in w);
   orders_ahead = λ b. absurd (let w : ⊥ = cc in w);
   described = λ b. d;
   unnamed = λ b. absurd (let z : Open ≡ Ahead = sym s ∙ g.unnamed b in let w : ⊥ = cc in w);
 })
-staged_more said number line told g (silent s l e is) = subst (λ (t : Told). IsStaged (after said t)) (sym is) g
-staged_more said number line told g (says s l e more) = staged_says said number (content line) told g s more
-staged_more said number line told g (behind s is) = subst (λ (t : Told). IsStaged (after said t)) (sym is) g
+staged_more parsed number line directive g (silent s l e is) = subst (λ (t : Directive). IsStaged (after parsed t)) (sym is) g
+staged_more parsed number line directive g (says s l e more) = staged_says parsed number (content line) directive g s more
+staged_more parsed number line directive g (behind s is) = subst (λ (t : Directive). IsStaged (after parsed t)) (sym is) g
 
 -- 2. One more line
 
@@ -97,15 +97,15 @@ numbered_more lines line = number_next 1 lines line (omega arith)
 pub record Reach (lines : List (List ℕ)) : Type 0 where
   pub unbroken : UnbrokenBelow IsTableFile broken missing lines (length lines)
   pub stands : Stands (numbered_from 1 lines)
-  pub good : IsGood (said_by (numbered_from 1 lines))
-  pub staged : IsStaged (said_by (numbered_from 1 lines))
+  pub good : IsGood (parsed_by (numbered_from 1 lines))
+  pub staged : IsStaged (parsed_by (numbered_from 1 lines))
 
 pub reach_none : Reach []
 reach_none = record {
   unbroken = λ k h. absurd (omega arith);
   stands = stands_start;
-  good = subst IsGood (sym said_start) good_start;
-  staged = subst IsStaged (sym said_start) (record { states_ahead = λ _. refl; neighbors_ahead = λ _. refl; orders_ahead = λ _. refl; described = λ b. absurd (let w : ⊥ = cc in w); unnamed = λ _. refl });
+  good = subst IsGood (sym parsed_start) good_start;
+  staged = subst IsStaged (sym parsed_start) (record { states_ahead = λ _. refl; neighbors_ahead = λ _. refl; orders_ahead = λ _. refl; described = λ b. absurd (let w : ⊥ = cc in w); unnamed = λ _. refl });
 }
 
 unbroken_more : (lines : List (List ℕ)) (line : List ℕ) → UnbrokenBelow IsTableFile broken missing lines (length lines) → broken lines line ≡ None
@@ -125,36 +125,36 @@ unbroken_more lines line u b k h = elim (cases_lt k (length lines) (omega (arith
     cases_lt : (k n : ℕ) → k < n + 1 → (k < n) ⊎ (k ≡ n)
     cases_lt k n h = elim (eqb_tells k n) [ inl same ↦ inr same.1 | inr other ↦ inl (omega (arith, h, other.1)) ]
 
-pub told_unbroken : (lines : List (List ℕ)) (line : List ℕ) (told : Told) → told_by (said_by (numbered_from 1 lines)) (number_behind lines) line ≡ Ok told → broken lines line ≡ None
+pub directive_unbroken : (lines : List (List ℕ)) (line : List ℕ) (directive : Directive) → parse_line (parsed_by (numbered_from 1 lines)) (number_behind lines) line ≡ Ok directive → broken lines line ≡ None
 unfolding broken
-told_unbroken lines line told h = ap fault_in h
+directive_unbroken lines line directive h = ap fault_in h
 
-pub told_broken : (lines : List (List ℕ)) (line : List ℕ) (kind : Kind) → told_by (said_by (numbered_from 1 lines)) (number_behind lines) line ≡ Err kind → broken lines line ≡ Some kind
+pub directive_broken : (lines : List (List ℕ)) (line : List ℕ) (kind : Kind) → parse_line (parsed_by (numbered_from 1 lines)) (number_behind lines) line ≡ Err kind → broken lines line ≡ Some kind
 unfolding broken
-told_broken lines line kind h = ap fault_in h
+directive_broken lines line kind h = ap fault_in h
 
-no_fault : (r : Result Told Kind) → fault_in r ≡ None → (told : Told) × (r ≡ Ok told)
-no_fault (Ok told) h = (told, refl)
+no_fault : (r : Result Directive Kind) → fault_in r ≡ None → (directive : Directive) × (r ≡ Ok directive)
+no_fault (Ok directive) h = (directive, refl)
 no_fault (Err kind) h = absurd (let z : ⊥ = cc in z)
 
-pub unbroken_told : (lines : List (List ℕ)) (line : List ℕ) → broken lines line ≡ None → (told : Told) × (told_by (said_by (numbered_from 1 lines)) (number_behind lines) line ≡ Ok told)
+pub unbroken_directive : (lines : List (List ℕ)) (line : List ℕ) → broken lines line ≡ None → (directive : Directive) × (parse_line (parsed_by (numbered_from 1 lines)) (number_behind lines) line ≡ Ok directive)
 unfolding broken
-unbroken_told lines line h = no_fault (told_by (said_by (numbered_from 1 lines)) (number_behind lines) line) h
+unbroken_directive lines line h = no_fault (parse_line (parsed_by (numbered_from 1 lines)) (number_behind lines) line) h
 
-pub reach_more : (lines : List (List ℕ)) (line : List ℕ) (told : Told) → Reach lines → told_by (said_by (numbered_from 1 lines)) (number_behind lines) line ≡ Ok told
-    → (said_by (numbered_from 1 (lines ++ line ∷ [])) ≡ after (said_by (numbered_from 1 lines)) told) × Reach (lines ++ line ∷ [])
-reach_more lines line told r h =
+pub reach_more : (lines : List (List ℕ)) (line : List ℕ) (directive : Directive) → Reach lines → parse_line (parsed_by (numbered_from 1 lines)) (number_behind lines) line ≡ Ok directive
+    → (parsed_by (numbered_from 1 (lines ++ line ∷ [])) ≡ after (parsed_by (numbered_from 1 lines)) directive) × Reach (lines ++ line ∷ [])
+reach_more lines line directive r h =
     let ps = numbered_from 1 lines in
-    let case : Case (said_by (numbered_from 1 lines)) (number_behind lines) line told = line_case (said_by (numbered_from 1 lines)) (number_behind lines) line told h in
-    let m = line_more (numbered_from 1 lines) (number_behind lines, line) r.stands told case in
+    let case : Case (parsed_by (numbered_from 1 lines)) (number_behind lines) line directive = line_case (parsed_by (numbered_from 1 lines)) (number_behind lines) line directive h in
+    let m = line_more (numbered_from 1 lines) (number_behind lines, line) r.stands directive case in
     let e : numbered_from 1 (lines ++ line ∷ []) ≡ numbered_from 1 lines ++ (number_behind lines, line) ∷ [] = numbered_more lines line in
-    let is : said_by (numbered_from 1 (lines ++ line ∷ [])) ≡ after (said_by (numbered_from 1 lines)) told = ap said_by e ∙ m.0 in (
+    let is : parsed_by (numbered_from 1 (lines ++ line ∷ [])) ≡ after (parsed_by (numbered_from 1 lines)) directive = ap parsed_by e ∙ m.0 in (
       is,
       record {
-        unbroken = unbroken_more lines line r.unbroken (told_unbroken lines line told h);
+        unbroken = unbroken_more lines line r.unbroken (directive_unbroken lines line directive h);
         stands = subst Stands (sym e) m.1;
-        good = subst IsGood (sym is) (good_more (said_by (numbered_from 1 lines)) (number_behind lines) line told r.good case);
-        staged = subst IsStaged (sym is) (staged_more (said_by (numbered_from 1 lines)) (number_behind lines) line told r.staged case);
+        good = subst IsGood (sym is) (good_more (parsed_by (numbered_from 1 lines)) (number_behind lines) line directive r.good case);
+        staged = subst IsStaged (sym is) (staged_more (parsed_by (numbered_from 1 lines)) (number_behind lines) line directive r.staged case);
       },
     )
 
@@ -163,7 +163,7 @@ reach_front : (lines : List (List ℕ)) → UnbrokenBelow IsTableFile broken mis
 reach_front lines u zero h = reach_none
 reach_front lines u (suc k) h =
     let r = reach_front lines u k (omega arith) in
-    let t = unbroken_told (take k lines) (get_or lines k []) (u k (omega arith)) in
+    let t = unbroken_directive (take k lines) (get_or lines k []) (u k (omega arith)) in
     let m = reach_more (take k lines) (get_or lines k []) t.0 r t.1 in
     subst Reach (sym (ap (λ (j : ℕ). take j lines) (sym (add-one k)) ∙ take_more lines k [] (omega arith))) m.1
 
@@ -172,31 +172,31 @@ reach lines u = subst Reach (take_all (length lines) lines (omega arith)) (reach
 
 -- 3. Lines that make a whole file
 
-pub missing_is : (lines : List (List ℕ)) → missing lines ≡ lacking (said_by (numbered_from 1 lines))
+pub missing_is : (lines : List (List ℕ)) → missing lines ≡ lacking (parsed_by (numbered_from 1 lines))
 unfolding missing
 missing_is lines = refl
 
 -- each line breaks no rule behind those before it, and at the end nothing is lacking
-abbrev Runs : Said → List (List ℕ) → Type 0
-Runs said [] = lacking said ≡ None
-Runs said (line ∷ lines) = (told : Told) × ((number : ℕ) → told_by said number line ≡ Ok told) × Runs (after said told) lines
+abbrev Runs : Parsed → List (List ℕ) → Type 0
+Runs parsed [] = lacking parsed ≡ None
+Runs parsed (line ∷ lines) = (directive : Directive) × ((number : ℕ) → parse_line parsed number line ≡ Ok directive) × Runs (after parsed directive) lines
 
-run : (more lines : List (List ℕ)) → Reach lines → Runs (said_by (numbered_from 1 lines)) more → IsTableFile (lines ++ more)
+run : (more lines : List (List ℕ)) → Reach lines → Runs (parsed_by (numbered_from 1 lines)) more → IsTableFile (lines ++ more)
 run [] lines r whole = subst IsTableFile (sym (append-nil lines)) (record { unbroken = r.unbroken; whole = missing_is lines ∙ whole })
 run (line ∷ more) lines r runs =
     let m = reach_more lines line runs.0 r (runs.1 (number_behind lines)) in
-    let rest : Runs (said_by (numbered_from 1 (lines ++ line ∷ []))) more = subst (λ (s : Said). Runs s more) (sym m.0) runs.2 in
+    let rest : Runs (parsed_by (numbered_from 1 (lines ++ line ∷ []))) more = subst (λ (s : Parsed). Runs s more) (sym m.0) runs.2 in
     subst IsTableFile (append_assoc lines (line ∷ []) more) (run more (lines ++ line ∷ []) m.1 rest)
 
-abbrev said_parts : Option (List ℕ) → Section → Option ℕ → Option Neighborhood → Option Symmetry → List Var → List Transition → Said
-said_parts name section on oh oy vars lines = record { name = name; section = section; n_states = on; neighborhood = oh; symmetry = oy; vars = vars; lines = lines }
+abbrev parsed_parts : Option (List ℕ) → Section → Option ℕ → Option Neighborhood → Option Symmetry → List Var → List Transition → Parsed
+parsed_parts name section on oh oy vars lines = record { name = name; section = section; n_states = on; neighborhood = oh; symmetry = oy; vars = vars; lines = lines }
 
-abbrev Ends : Said → Type 0
-Ends said = (keeps : List Bool) × Runs said (kept keeps continuations)
+abbrev Ends : Parsed → Type 0
+Ends parsed = (keeps : List Bool) × Runs parsed (kept keeps continuations)
 
 module _ (vars : List Var) (lines : List Transition) where
-  open_ends : (name : List ℕ) (on : Option ℕ) (oh : Option Neighborhood) (oy : Option Symmetry) → Ends (said_parts (Some name) Open on oh oy vars lines)
-  unfolding told_by told_descriptor
+  open_ends : (name : List ℕ) (on : Option ℕ) (oh : Option Neighborhood) (oy : Option Symmetry) → Ends (parsed_parts (Some name) Open on oh oy vars lines)
+  unfolding parse_line parse_descriptor
   open_ends name None None None =
       (false ∷ false ∷ false ∷ false ∷ true ∷ false ∷ true ∷ true ∷ [], (States 2, (λ _. refl), (Neighbors Moore, (λ _. refl), (Orders symmetries.Identity, (λ _. refl), refl))))
   open_ends name None None (Some y) =
@@ -217,15 +217,15 @@ module _ (vars : List Var) (lines : List Transition) where
       (false ∷ false ∷ false ∷ false ∷ false ∷ false ∷ false ∷ true ∷ [], (Orders symmetries.Identity, (λ _. refl), refl))
   open_ends name (Some n) (Some h) (Some y) = ([], refl)
 
-  named_ends : (name : List ℕ) → Ends (said_parts (Some name) Ahead None None None vars lines)
-  unfolding told_by told_descriptor
+  named_ends : (name : List ℕ) → Ends (parsed_parts (Some name) Ahead None None None vars lines)
+  unfolding parse_line parse_descriptor
   named_ends name = (
     false ∷ false ∷ false ∷ true ∷ true ∷ false ∷ true ∷ true ∷ [],
     (TableOpens, (λ _. refl), (States 2, (λ _. refl), (Neighbors Moore, (λ _. refl), (Orders symmetries.Identity, (λ _. refl), refl)))),
   )
 
-  start_ends : Ends (said_parts None Ahead None None None vars lines)
-  unfolding told_by told_descriptor rule_of life_sets four_sets
+  start_ends : Ends (parsed_parts None Ahead None None None vars lines)
+  unfolding parse_line parse_descriptor rule_of life_sets four_sets
   start_ends = (
     false ∷ false ∷ true ∷ true ∷ true ∷ false ∷ true ∷ true ∷ [],
     (RuleName (codes "a"), (λ _. refl), (TableOpens, (λ _. refl), (States 2, (λ _. refl), (Neighbors Moore, (λ _. refl), (Orders symmetries.Identity, (λ _. refl), refl))))),
@@ -233,17 +233,17 @@ module _ (vars : List Var) (lines : List Transition) where
 
   -- whatever is said at a stage, some of the continuations make it whole
   ends_at : (name : Option (List ℕ)) (section : Section) (on : Option ℕ) (oh : Option Neighborhood) (oy : Option Symmetry)
-      → IsStaged (said_parts name section on oh oy vars lines) → Ends (said_parts name section on oh oy vars lines)
+      → IsStaged (parsed_parts name section on oh oy vars lines) → Ends (parsed_parts name section on oh oy vars lines)
   ends_at None section on oh oy g =
       let s : section ≡ Ahead = g.unnamed refl in
-      subst (λ (z : Section). Ends (said_parts None z on oh oy vars lines)) (sym s)
-      (subst (λ (o : Option ℕ). Ends (said_parts None Ahead o oh oy vars lines)) (sym (g.states_ahead s))
-      (subst (λ (o : Option Neighborhood). Ends (said_parts None Ahead None o oy vars lines)) (sym (g.neighbors_ahead s))
-      (subst (λ (o : Option Symmetry). Ends (said_parts None Ahead None None o vars lines)) (sym (g.orders_ahead s)) start_ends)))
+      subst (λ (z : Section). Ends (parsed_parts None z on oh oy vars lines)) (sym s)
+      (subst (λ (o : Option ℕ). Ends (parsed_parts None Ahead o oh oy vars lines)) (sym (g.states_ahead s))
+      (subst (λ (o : Option Neighborhood). Ends (parsed_parts None Ahead None o oy vars lines)) (sym (g.neighbors_ahead s))
+      (subst (λ (o : Option Symmetry). Ends (parsed_parts None Ahead None None o vars lines)) (sym (g.orders_ahead s)) start_ends)))
   ends_at (Some name) Ahead on oh oy g =
-      subst (λ (o : Option ℕ). Ends (said_parts (Some name) Ahead o oh oy vars lines)) (sym (g.states_ahead refl))
-      (subst (λ (o : Option Neighborhood). Ends (said_parts (Some name) Ahead None o oy vars lines)) (sym (g.neighbors_ahead refl))
-      (subst (λ (o : Option Symmetry). Ends (said_parts (Some name) Ahead None None o vars lines)) (sym (g.orders_ahead refl)) (named_ends name)))
+      subst (λ (o : Option ℕ). Ends (parsed_parts (Some name) Ahead o oh oy vars lines)) (sym (g.states_ahead refl))
+      (subst (λ (o : Option Neighborhood). Ends (parsed_parts (Some name) Ahead None o oy vars lines)) (sym (g.neighbors_ahead refl))
+      (subst (λ (o : Option Symmetry). Ends (parsed_parts (Some name) Ahead None None o vars lines)) (sym (g.orders_ahead refl)) (named_ends name)))
   ends_at (Some name) Open on oh oy g = open_ends name on oh oy
   ends_at (Some name) Behind None oh oy g = absurd (let z : false ≡ true = g.described refl in let w : ⊥ = cc in w)
   ends_at (Some name) Behind (Some n) None oy g = absurd (let z : false ≡ true = g.described refl in let w : ⊥ = cc in w)
@@ -253,8 +253,8 @@ module _ (vars : List Var) (lines : List Transition) where
 front : (lines : List (List ℕ)) → UnbrokenBelow IsTableFile broken missing lines (length lines) → Prefix IsTableFile lines
 front lines u =
     let r = reach lines u in
-    let said : Said = said_by (numbered_from 1 lines) in
-    let e = ends_at said.vars said.lines said.name said.section said.n_states said.neighborhood said.symmetry r.staged in
+    let parsed : Parsed = parsed_by (numbered_from 1 lines) in
+    let e = ends_at parsed.vars parsed.lines parsed.name parsed.section parsed.n_states parsed.neighborhood parsed.symmetry r.staged in
     (e.0, run (kept e.0 continuations) lines r e.1)
 
 pub by_lines : IsByLines IsTableFile broken missing

@@ -10,7 +10,7 @@ use Rattle.life_table.specs.Meaning.{IsChoice, has_state, state_of, count_of, Gi
 use Rattle.life_table.specs.Found.{Tells}
 use Rattle.life_table.specs.Valid.{is_variable}
 use Rattle.life_table.specs.Taking.{of_state, free_count, can_be_state, settled, settled_count, open_state, open_count, wanted, first_variable, IsGrouped, Completes, CompletesWith}
-use Rattle.life_table.proofs.Adding.{tells_same}
+use Rattle.life_table.proofs.Adding.{directives_same}
 use Rattle.life_table.proofs.Choices.{changed, changed_same, changed_choice}
 use Rattle.life_table.proofs.Counts.{count-cons}
 use Rattle.life_table.proofs.Grouping.{of_group, is_clash}
@@ -184,7 +184,7 @@ module _ (vars : List Var) (line : Transition) (first : Entry) (rest : List Entr
         Tells (GivesByCounts vars line centre others) found
     unfolding from_gives
     gives_open may is found h =
-        tells_same (CompletesWith vars output_groups others free) (GivesByCounts vars line centre others)
+        directives_same (CompletesWith vars output_groups others free) (GivesByCounts vars line centre others)
         (λ s c. let r = to_gives may c.completes in subst (GivesByCounts vars line centre others) ((open_is c.completes.choice r.0 r.1 line.output is first_one).0 ∙ c.is) r.2)
         (λ s g. record { completes = from_gives s g; is = sym (open_is g.choice g.choice (record { first_is = centre_of s g; others = λ i open_i. refl }) line.output is first_one).1 ∙ g.output })
         found h

@@ -6,7 +6,7 @@ use Rattle.std.proofs.lemmas.List.Elements.{Contains-append_left, Contains-appen
 use Rattle.life_table.specs.Meaning.{state_of}
 use Rattle.life_table.specs.Found.{Tells, Adds, GivesAs, SomeGives}
 use Rattle.life_table.proofs.Members.{in_head, in_none, in_one}
-use Rattle.life_table.proofs.Adding.{tells_same, tells_more, adds_same, adds_more, adds_none}
+use Rattle.life_table.proofs.Adding.{directives_same, tells_more, adds_same, adds_more, adds_none}
 use Rattle.life_table.specs.declared.found.Found.{Found}
 use Rattle.life_table.specs.declared.table.Var.{Var}
 use Rattle.life_table.specs.declared.table.Entry.{Entry}
@@ -53,6 +53,6 @@ module _ (vars : List Var) (line : Transition) where
   -- more images tell what they give too
   pub images_more : (list more : List (List ℕ)) (old new : Found) → Tells (SomeGives vars line list) old → Adds (SomeGives vars line more) old new → Tells (SomeGives vars line (list ++ more)) new
   images_more list more old new h k =
-      tells_same (λ s. SomeGives vars line list s ⊎ SomeGives vars line more s) (SomeGives vars line (list ++ more))
+      directives_same (λ s. SomeGives vars line list s ⊎ SomeGives vars line more s) (SomeGives vars line (list ++ more))
       (from_either list more) (to_either list more) new
       (tells_more (SomeGives vars line list) (SomeGives vars line more) old new h k)

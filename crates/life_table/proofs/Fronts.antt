@@ -4,8 +4,8 @@ use Rattle.std.specs.Prelude.{Option, None, if◌then◌else◌, option_and_then
 use Rattle.std.specs.List.{list_any}
 use Rattle.life_base.specs.Text.{is_empty}
 use Rattle.life_table.specs.Reading.{Numbered, from_first, up_to, first_of, from_rule, from_table, table_texts, contents, content, name_of, name_on, section_of, is_passed_over, is_table_line, is_section_line}
-use Rattle.life_table.specs.declared.said.Section.{Section}
-use Rattle.life_table.specs.declared.said.Section.TheVariants.{Ahead, Open, Behind}
+use Rattle.life_table.specs.declared.directive.Section.{Section}
+use Rattle.life_table.specs.declared.directive.Section.TheVariants.{Ahead, Open, Behind}
 
 module _ {X : Type 0} (p : X → Bool) where
   kept_step : (x : X) (xs : List X) (b : Bool) (y : X) (ys : List X) (z : X) → p x ≡ b

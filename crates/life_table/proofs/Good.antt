@@ -14,12 +14,12 @@ use Rattle.life_base.specs.Text.{value_of}
 use Rattle.life_table.specs.Meaning.{has_state}
 use Rattle.life_table.specs.Valid.{IsEntry, IsTransition, IsVariable, IsSound, neighbour_count, is_listed, allows_zero, fits_zero, is_quiet_output, is_quiet}
 use Rattle.life_table.specs.Reading.{variable_named, states_named, number_below, agree, setting_of, content}
-use Rattle.life_table.specs.Reader.{IsGood, IsKept, after, fits_after, nothing_said}
-use Rattle.life_table.specs.declared.said.Said.{Said}
-use Rattle.life_table.specs.declared.said.Section.{Section}
-use Rattle.life_table.specs.declared.said.Section.TheVariants.{Open, Behind}
-use Rattle.life_table.specs.declared.said.Told.{Told}
-use Rattle.life_table.specs.declared.said.Told.TheVariants.{States, Neighbors, Orders, Variable, Line}
+use Rattle.life_table.specs.Reader.{IsGood, IsKept, after, fits_after, nothing_parsed}
+use Rattle.life_table.specs.declared.directive.Parsed.{Parsed}
+use Rattle.life_table.specs.declared.directive.Section.{Section}
+use Rattle.life_table.specs.declared.directive.Section.TheVariants.{Open, Behind}
+use Rattle.life_table.specs.declared.directive.Directive.{Directive}
+use Rattle.life_table.specs.declared.directive.Directive.TheVariants.{States, Neighbors, Orders, Variable, Line}
 use Rattle.life_table.specs.declared.table.Neighborhood.{Neighborhood}
 use Rattle.life_table.specs.declared.table.Symmetry.{Symmetry}
 use Rattle.life_table.specs.declared.table.Var.{Var}
@@ -119,11 +119,11 @@ states_range word n h =
 
 -- 3. One more line
 
-abbrev rest_of : Said → Option (List ℕ) → Section → Said
-rest_of said name section = record { name = name; section = section; n_states = said.n_states; neighborhood = said.neighborhood; symmetry = said.symmetry; vars = said.vars; lines = said.lines }
+abbrev rest_of : Parsed → Option (List ℕ) → Section → Parsed
+rest_of parsed name section = record { name = name; section = section; n_states = parsed.n_states; neighborhood = parsed.neighborhood; symmetry = parsed.symmetry; vars = parsed.vars; lines = parsed.lines }
 
-good_elsewhere : (said : Said) (name : Option (List ℕ)) (section : Section) → IsGood said → IsGood (rest_of said name section)
-good_elsewhere said name section g = record {
+good_elsewhere : (parsed : Parsed) (name : Option (List ℕ)) (section : Section) → IsGood parsed → IsGood (rest_of parsed name section)
+good_elsewhere parsed name section g = record {
   states = g.states;
   listed = g.listed;
   names = g.names;
@@ -135,8 +135,8 @@ good_elsewhere said name section g = record {
   quiet = g.quiet;
 }
 
-good_states : (said : Said) (n : ℕ) (word : List ℕ) → IsGood said → said.n_states ≡ None → states_named word ≡ Some n → IsGood (after said (States n))
-good_states said n word g none e =
+good_states : (parsed : Parsed) (n : ℕ) (word : List ℕ) → IsGood parsed → parsed.n_states ≡ None → states_named word ≡ Some n → IsGood (after parsed (States n))
+good_states parsed n word g none e =
     let range = states_range word n e in
     record {
       states = λ m is. (let same : n ≡ m = (let z : Some n ≡ Some m = is in cc) in (omega (arith, same, range.0), omega (arith, same, range.1)));
@@ -146,12 +146,12 @@ good_states said n word g none e =
       no_variables = λ is. absurd (let z : ⊥ = cc in z);
       no_transitions = λ is. absurd (let z : ⊥ = cc in z);
       none_without = g.none_without;
-      transitions = λ m h is ih. subst (All (IsTransition m (neighbour_count h) said.vars)) (sym (g.no_transitions none)) (All-nil (IsTransition m (neighbour_count h) said.vars));
+      transitions = λ m h is ih. subst (All (IsTransition m (neighbour_count h) parsed.vars)) (sym (g.no_transitions none)) (All-nil (IsTransition m (neighbour_count h) parsed.vars));
       quiet = g.quiet;
     }
 
-good_neighbors : (said : Said) (h : Neighborhood) → IsGood said → said.neighborhood ≡ None → agree (Some h) said.symmetry ≡ true → IsGood (after said (Neighbors h))
-good_neighbors said h g none e = record {
+good_neighbors : (parsed : Parsed) (h : Neighborhood) → IsGood parsed → parsed.neighborhood ≡ None → agree (Some h) parsed.symmetry ≡ true → IsGood (after parsed (Neighbors h))
+good_neighbors parsed h g none e = record {
   states = g.states;
   listed = λ k y ik iy. (let same : h ≡ k = (let z : Some h ≡ Some k = ik in cc) in
       subst (λ (k : Neighborhood). IsTrue (is_listed k y)) same (sym (ap (agree (Some h)) iy) ∙ e));
@@ -160,12 +160,12 @@ good_neighbors said h g none e = record {
   no_variables = g.no_variables;
   no_transitions = g.no_transitions;
   none_without = λ is. absurd (let z : ⊥ = cc in z);
-  transitions = λ m k is ik. subst (All (IsTransition m (neighbour_count k) said.vars)) (sym (g.none_without none)) (All-nil (IsTransition m (neighbour_count k) said.vars));
+  transitions = λ m k is ik. subst (All (IsTransition m (neighbour_count k) parsed.vars)) (sym (g.none_without none)) (All-nil (IsTransition m (neighbour_count k) parsed.vars));
   quiet = g.quiet;
 }
 
-good_orders : (said : Said) (y : Symmetry) → IsGood said → agree said.neighborhood (Some y) ≡ true → IsGood (after said (Orders y))
-good_orders said y g e = record {
+good_orders : (parsed : Parsed) (y : Symmetry) → IsGood parsed → agree parsed.neighborhood (Some y) ≡ true → IsGood (after parsed (Orders y))
+good_orders parsed y g e = record {
   states = g.states;
   listed = λ k z ik iz. (let same : y ≡ z = (let w : Some y ≡ Some z = iz in cc) in
       subst (λ (z : Symmetry). IsTrue (is_listed k z)) same (sym (ap (λ (o : Option Neighborhood). agree o (Some y)) ik) ∙ e));
@@ -178,22 +178,22 @@ good_orders said y g e = record {
   quiet = g.quiet;
 }
 
-module _ (said : Said) (n : ℕ) (h : Neighborhood) (g : IsGood said) (en : said.n_states ≡ Some n) (eh : said.neighborhood ≡ Some h) where
-  good_variable : (text : List ℕ) (var : Var) → IsVariable n var → variable_named said.vars var.name ≡ None → IsGood (after said (Variable var))
+module _ (parsed : Parsed) (n : ℕ) (h : Neighborhood) (g : IsGood parsed) (en : parsed.n_states ≡ Some n) (eh : parsed.neighborhood ≡ Some h) where
+  good_variable : (text : List ℕ) (var : Var) → IsVariable n var → variable_named parsed.vars var.name ≡ None → IsGood (after parsed (Variable var))
   good_variable text var is none = record {
     states = g.states;
     listed = g.listed;
-    names = apart_more said.vars var g.names none;
+    names = apart_more parsed.vars var g.names none;
     variables = λ m im. (let same : n ≡ m = (let z : Some n ≡ Some m = sym en ∙ im in cc) in
-        subst (λ (m : ℕ). All (IsVariable m) (said.vars ++ var ∷ [])) same (all_more (IsVariable n) said.vars var (g.variables n en) is));
+        subst (λ (m : ℕ). All (IsVariable m) (parsed.vars ++ var ∷ [])) same (all_more (IsVariable n) parsed.vars var (g.variables n en) is));
     no_variables = λ im. absurd (let z : Some n ≡ None = sym en ∙ im in let w : ⊥ = cc in w);
     no_transitions = g.no_transitions;
     none_without = g.none_without;
-    transitions = λ m k im ik. λ j d below. transition_more m (neighbour_count k) said.vars var (get_or said.lines j d) (g.transitions m k im ik j d below);
-    quiet = quiet_same n (neighbour_count h) said.vars var said.lines (g.transitions n h en eh) ∙ g.quiet;
+    transitions = λ m k im ik. λ j d below. transition_more m (neighbour_count k) parsed.vars var (get_or parsed.lines j d) (g.transitions m k im ik j d below);
+    quiet = quiet_same n (neighbour_count h) parsed.vars var parsed.lines (g.transitions n h en eh) ∙ g.quiet;
   }
 
-  good_line : (t : Transition) → IsTransition n (neighbour_count h) said.vars t → is_quiet said.vars (said.lines ++ t ∷ []) ≡ true → IsGood (after said (Line t))
+  good_line : (t : Transition) → IsTransition n (neighbour_count h) parsed.vars t → is_quiet parsed.vars (parsed.lines ++ t ∷ []) ≡ true → IsGood (after parsed (Line t))
   good_line t is quiet = record {
     states = g.states;
     listed = g.listed;
@@ -205,33 +205,33 @@ module _ (said : Said) (n : ℕ) (h : Neighborhood) (g : IsGood said) (en : said
     transitions = λ m k im ik.
         (let same_n : n ≡ m = (let z : Some n ≡ Some m = sym en ∙ im in cc) in
         let same_h : h ≡ k = (let z : Some h ≡ Some k = sym eh ∙ ik in cc) in
-        subst (λ (m : ℕ). All (IsTransition m (neighbour_count k) said.vars) (said.lines ++ t ∷ [])) same_n
-        (subst (λ (k : Neighborhood). All (IsTransition n (neighbour_count k) said.vars) (said.lines ++ t ∷ [])) same_h
-        (all_more (IsTransition n (neighbour_count h) said.vars) said.lines t (g.transitions n h en eh) is)));
+        subst (λ (m : ℕ). All (IsTransition m (neighbour_count k) parsed.vars) (parsed.lines ++ t ∷ [])) same_n
+        (subst (λ (k : Neighborhood). All (IsTransition n (neighbour_count k) parsed.vars) (parsed.lines ++ t ∷ [])) same_h
+        (all_more (IsTransition n (neighbour_count h) parsed.vars) parsed.lines t (g.transitions n h en eh) is)));
     quiet = quiet;
   }
 
-good_says : (said : Said) (number : ℕ) (text : List ℕ) (told : Told) → IsGood said → Says said number text told → IsGood (after said told)
-good_says said number text told g (states d k none n e is) = subst (λ (t : Told). IsGood (after said t)) (sym is) (good_states said n (setting_of text) g none e)
-good_says said number text told g (neighbors d s k none h e agrees is) = subst (λ (t : Told). IsGood (after said t)) (sym is) (good_neighbors said h g none agrees)
-good_says said number text told g (orders d s m k none y e agrees is) = subst (λ (t : Told). IsGood (after said t)) (sym is) (good_orders said y g agrees)
-good_says said number text told g (variable d n h y en eh ey v var e is) =
-    let w = is_variable_written n (g.states n en).1 said.vars (g.variables n en) text var e in
-    subst (λ (t : Told). IsGood (after said t)) (sym is) (good_variable said n h g en eh text var w.0 w.1)
-good_says said number text told g (transition d n h y en eh ey v t e bound quiet is) =
-    subst (λ (t : Told). IsGood (after said t)) (sym is) (good_line said n h g en eh t (is_transition n (neighbour_count h) said.vars number text t e bound) quiet)
+good_says : (parsed : Parsed) (number : ℕ) (text : List ℕ) (directive : Directive) → IsGood parsed → Says parsed number text directive → IsGood (after parsed directive)
+good_says parsed number text directive g (states d k none n e is) = subst (λ (t : Directive). IsGood (after parsed t)) (sym is) (good_states parsed n (setting_of text) g none e)
+good_says parsed number text directive g (neighbors d s k none h e agrees is) = subst (λ (t : Directive). IsGood (after parsed t)) (sym is) (good_neighbors parsed h g none agrees)
+good_says parsed number text directive g (orders d s m k none y e agrees is) = subst (λ (t : Directive). IsGood (after parsed t)) (sym is) (good_orders parsed y g agrees)
+good_says parsed number text directive g (variable d n h y en eh ey v var e is) =
+    let w = is_variable_written n (g.states n en).1 parsed.vars (g.variables n en) text var e in
+    subst (λ (t : Directive). IsGood (after parsed t)) (sym is) (good_variable parsed n h g en eh text var w.0 w.1)
+good_says parsed number text directive g (transition d n h y en eh ey v t e bound quiet is) =
+    subst (λ (t : Directive). IsGood (after parsed t)) (sym is) (good_line parsed n h g en eh t (is_transition n (neighbour_count h) parsed.vars number text t e bound) quiet)
 
-pub good_more : (said : Said) (number : ℕ) (line : List ℕ) (told : Told) → IsGood said → Case said number line told → IsGood (after said told)
-good_more said number line told g (passed s n p is) = subst (λ (t : Told). IsGood (after said t)) (sym is) g
-good_more said number line told g (named s n p name e is) = subst (λ (t : Told). IsGood (after said t)) (sym is) (good_elsewhere said (Some name) said.section g)
-good_more said number line told g (ahead s name n p is) = subst (λ (t : Told). IsGood (after said t)) (sym is) g
-good_more said number line told g (opens s name n p is) = subst (λ (t : Told). IsGood (after said t)) (sym is) (good_elsewhere said said.name Open g)
-good_more said number line told g (ends s l d is) = subst (λ (t : Told). IsGood (after said t)) (sym is) (good_elsewhere said said.name Behind g)
-good_more said number line told g (silent s l e is) = subst (λ (t : Told). IsGood (after said t)) (sym is) g
-good_more said number line told g (says s l e more) = good_says said number (content line) told g more
-good_more said number line told g (behind s is) = subst (λ (t : Told). IsGood (after said t)) (sym is) g
+pub good_more : (parsed : Parsed) (number : ℕ) (line : List ℕ) (directive : Directive) → IsGood parsed → Case parsed number line directive → IsGood (after parsed directive)
+good_more parsed number line directive g (passed s n p is) = subst (λ (t : Directive). IsGood (after parsed t)) (sym is) g
+good_more parsed number line directive g (named s n p name e is) = subst (λ (t : Directive). IsGood (after parsed t)) (sym is) (good_elsewhere parsed (Some name) parsed.section g)
+good_more parsed number line directive g (ahead s name n p is) = subst (λ (t : Directive). IsGood (after parsed t)) (sym is) g
+good_more parsed number line directive g (opens s name n p is) = subst (λ (t : Directive). IsGood (after parsed t)) (sym is) (good_elsewhere parsed parsed.name Open g)
+good_more parsed number line directive g (ends s l d is) = subst (λ (t : Directive). IsGood (after parsed t)) (sym is) (good_elsewhere parsed parsed.name Behind g)
+good_more parsed number line directive g (silent s l e is) = subst (λ (t : Directive). IsGood (after parsed t)) (sym is) g
+good_more parsed number line directive g (says s l e more) = good_says parsed number (content line) directive g more
+good_more parsed number line directive g (behind s is) = subst (λ (t : Directive). IsGood (after parsed t)) (sym is) g
 
-pub good_start : IsGood nothing_said
+pub good_start : IsGood nothing_parsed
 good_start = record {
   states = λ n is. absurd (let z : ⊥ = cc in z);
   listed = λ n s is. absurd (let z : ⊥ = cc in z);
@@ -245,9 +245,9 @@ good_start = record {
 }
 
 -- what is said makes a table
-pub sound_of : (said : Said) → IsGood said → (n : ℕ) (h : Neighborhood) (y : Symmetry) → said.n_states ≡ Some n → said.neighborhood ≡ Some h → said.symmetry ≡ Some y
-    → IsSound n h y said.vars said.lines
-sound_of said g n h y en eh ey = record {
+pub sound_of : (parsed : Parsed) → IsGood parsed → (n : ℕ) (h : Neighborhood) (y : Symmetry) → parsed.n_states ≡ Some n → parsed.neighborhood ≡ Some h → parsed.symmetry ≡ Some y
+    → IsSound n h y parsed.vars parsed.lines
+sound_of parsed g n h y en eh ey = record {
   least = (g.states n en).0;
   most = (g.states n en).1;
   listed = g.listed h y eh ey;
@@ -275,34 +275,34 @@ any_more p (u ∷ ts) t = ap (λ (b : Bool). p u || b) (any_more p ts t) ∙ or_
     or_assoc true b c = refl
     or_assoc false b c = refl
 
-fits_says : (said : Said) (number : ℕ) (text : List ℕ) (told : Told) (fit : Bool) → IsGood said → fit ≡ list_any (fits_zero said.vars) said.lines → Says said number text told
-    → fits_after fit said.vars told ≡ list_any (fits_zero (after said told).vars) (after said told).lines
-fits_says said number text told fit g f (states d k none n e is) = subst (λ (t : Told). fits_after fit said.vars t ≡ list_any (fits_zero (after said t).vars) (after said t).lines) (sym is) f
-fits_says said number text told fit g f (neighbors d s k none h e agrees is) = subst (λ (t : Told). fits_after fit said.vars t ≡ list_any (fits_zero (after said t).vars) (after said t).lines) (sym is) f
-fits_says said number text told fit g f (orders d s m k none y e agrees is) = subst (λ (t : Told). fits_after fit said.vars t ≡ list_any (fits_zero (after said t).vars) (after said t).lines) (sym is) f
-fits_says said number text told fit g f (variable d n h y en eh ey v var e is) =
-    subst (λ (t : Told). fits_after fit said.vars t ≡ list_any (fits_zero (after said t).vars) (after said t).lines) (sym is)
-    (f ∙ sym (any_same n (neighbour_count h) said.vars var said.lines (g.transitions n h en eh)))
-fits_says said number text told fit g f (transition d n h y en eh ey v t e bound quiet is) =
-    subst (λ (t : Told). fits_after fit said.vars t ≡ list_any (fits_zero (after said t).vars) (after said t).lines) (sym is)
-    (ap (λ (b : Bool). b || fits_zero said.vars t) f ∙ sym (any_more (fits_zero said.vars) said.lines t))
+fits_says : (parsed : Parsed) (number : ℕ) (text : List ℕ) (directive : Directive) (fit : Bool) → IsGood parsed → fit ≡ list_any (fits_zero parsed.vars) parsed.lines → Says parsed number text directive
+    → fits_after fit parsed.vars directive ≡ list_any (fits_zero (after parsed directive).vars) (after parsed directive).lines
+fits_says parsed number text directive fit g f (states d k none n e is) = subst (λ (t : Directive). fits_after fit parsed.vars t ≡ list_any (fits_zero (after parsed t).vars) (after parsed t).lines) (sym is) f
+fits_says parsed number text directive fit g f (neighbors d s k none h e agrees is) = subst (λ (t : Directive). fits_after fit parsed.vars t ≡ list_any (fits_zero (after parsed t).vars) (after parsed t).lines) (sym is) f
+fits_says parsed number text directive fit g f (orders d s m k none y e agrees is) = subst (λ (t : Directive). fits_after fit parsed.vars t ≡ list_any (fits_zero (after parsed t).vars) (after parsed t).lines) (sym is) f
+fits_says parsed number text directive fit g f (variable d n h y en eh ey v var e is) =
+    subst (λ (t : Directive). fits_after fit parsed.vars t ≡ list_any (fits_zero (after parsed t).vars) (after parsed t).lines) (sym is)
+    (f ∙ sym (any_same n (neighbour_count h) parsed.vars var parsed.lines (g.transitions n h en eh)))
+fits_says parsed number text directive fit g f (transition d n h y en eh ey v t e bound quiet is) =
+    subst (λ (t : Directive). fits_after fit parsed.vars t ≡ list_any (fits_zero (after parsed t).vars) (after parsed t).lines) (sym is)
+    (ap (λ (b : Bool). b || fits_zero parsed.vars t) f ∙ sym (any_more (fits_zero parsed.vars) parsed.lines t))
 
-fits_case : (said : Said) (number : ℕ) (line : List ℕ) (told : Told) (fit : Bool) → IsGood said → fit ≡ list_any (fits_zero said.vars) said.lines → Case said number line told
-    → fits_after fit said.vars told ≡ list_any (fits_zero (after said told).vars) (after said told).lines
-fits_case said number line told fit g f (passed s n p is) = subst (λ (t : Told). fits_after fit said.vars t ≡ list_any (fits_zero (after said t).vars) (after said t).lines) (sym is) f
-fits_case said number line told fit g f (named s n p name e is) = subst (λ (t : Told). fits_after fit said.vars t ≡ list_any (fits_zero (after said t).vars) (after said t).lines) (sym is) f
-fits_case said number line told fit g f (ahead s name n p is) = subst (λ (t : Told). fits_after fit said.vars t ≡ list_any (fits_zero (after said t).vars) (after said t).lines) (sym is) f
-fits_case said number line told fit g f (opens s name n p is) = subst (λ (t : Told). fits_after fit said.vars t ≡ list_any (fits_zero (after said t).vars) (after said t).lines) (sym is) f
-fits_case said number line told fit g f (ends s l d is) = subst (λ (t : Told). fits_after fit said.vars t ≡ list_any (fits_zero (after said t).vars) (after said t).lines) (sym is) f
-fits_case said number line told fit g f (silent s l e is) = subst (λ (t : Told). fits_after fit said.vars t ≡ list_any (fits_zero (after said t).vars) (after said t).lines) (sym is) f
-fits_case said number line told fit g f (says s l e more) = fits_says said number (content line) told fit g f more
-fits_case said number line told fit g f (behind s is) = subst (λ (t : Told). fits_after fit said.vars t ≡ list_any (fits_zero (after said t).vars) (after said t).lines) (sym is) f
+fits_case : (parsed : Parsed) (number : ℕ) (line : List ℕ) (directive : Directive) (fit : Bool) → IsGood parsed → fit ≡ list_any (fits_zero parsed.vars) parsed.lines → Case parsed number line directive
+    → fits_after fit parsed.vars directive ≡ list_any (fits_zero (after parsed directive).vars) (after parsed directive).lines
+fits_case parsed number line directive fit g f (passed s n p is) = subst (λ (t : Directive). fits_after fit parsed.vars t ≡ list_any (fits_zero (after parsed t).vars) (after parsed t).lines) (sym is) f
+fits_case parsed number line directive fit g f (named s n p name e is) = subst (λ (t : Directive). fits_after fit parsed.vars t ≡ list_any (fits_zero (after parsed t).vars) (after parsed t).lines) (sym is) f
+fits_case parsed number line directive fit g f (ahead s name n p is) = subst (λ (t : Directive). fits_after fit parsed.vars t ≡ list_any (fits_zero (after parsed t).vars) (after parsed t).lines) (sym is) f
+fits_case parsed number line directive fit g f (opens s name n p is) = subst (λ (t : Directive). fits_after fit parsed.vars t ≡ list_any (fits_zero (after parsed t).vars) (after parsed t).lines) (sym is) f
+fits_case parsed number line directive fit g f (ends s l d is) = subst (λ (t : Directive). fits_after fit parsed.vars t ≡ list_any (fits_zero (after parsed t).vars) (after parsed t).lines) (sym is) f
+fits_case parsed number line directive fit g f (silent s l e is) = subst (λ (t : Directive). fits_after fit parsed.vars t ≡ list_any (fits_zero (after parsed t).vars) (after parsed t).lines) (sym is) f
+fits_case parsed number line directive fit g f (says s l e more) = fits_says parsed number (content line) directive fit g f more
+fits_case parsed number line directive fit g f (behind s is) = subst (λ (t : Directive). fits_after fit parsed.vars t ≡ list_any (fits_zero (after parsed t).vars) (after parsed t).lines) (sym is) f
 
-pub kept_start : IsKept nothing_said false
+pub kept_start : IsKept nothing_parsed false
 kept_start = record { most = tt; fits = refl; quiet = refl }
 
-pub kept_more : (said : Said) (number : ℕ) (line : List ℕ) (told : Told) (fit : Bool) → IsGood said → IsKept said fit → Case said number line told
-    → IsKept (after said told) (fits_after fit said.vars told)
-kept_more said number line told fit g k case =
-    let next = good_more said number line told g case in
-    record { most = kept_most (after said told).n_states next.states; fits = fits_case said number line told fit g k.fits case; quiet = next.quiet }
+pub kept_more : (parsed : Parsed) (number : ℕ) (line : List ℕ) (directive : Directive) (fit : Bool) → IsGood parsed → IsKept parsed fit → Case parsed number line directive
+    → IsKept (after parsed directive) (fits_after fit parsed.vars directive)
+kept_more parsed number line directive fit g k case =
+    let next = good_more parsed number line directive g case in
+    record { most = kept_most (after parsed directive).n_states next.states; fits = fits_case parsed number line directive fit g k.fits case; quiet = next.quiet }

@@ -8,7 +8,7 @@ use Rattle.life_table.specs.Meaning.{Gives, GivesByCounts}
 use Rattle.life_table.specs.Found.{Tells, SomeGives}
 use Rattle.life_table.specs.Valid.{neighbour_count}
 use Rattle.life_table.proofs.Members.{in_map, from_map}
-use Rattle.life_table.proofs.Adding.{tells_same}
+use Rattle.life_table.proofs.Adding.{directives_same}
 use Rattle.life_table.proofs.LawProofs.{permute_law}
 use Rattle.life_table.specs.declared.found.Found.{Found}
 use Rattle.life_table.specs.declared.table.Neighborhood.{Neighborhood}
@@ -28,7 +28,7 @@ family reflect step v = cond reflect (turns v step ++ reflected_turns v step) (t
 
 pub tells_permute : (vars : List Var) (line : Transition) (centre : ℕ) (others : List ℕ) (found : Found) → Tells (GivesByCounts vars line centre others) found → Tells (Gives Permute vars line centre others) found
 tells_permute vars line centre others found h =
-    tells_same (GivesByCounts vars line centre others) (Gives Permute vars line centre others)
+    directives_same (GivesByCounts vars line centre others) (Gives Permute vars line centre others)
     (λ s g. (permute_law vars line centre others s).1 g) (λ s g. (permute_law vars line centre others s).0 g) found h
 
 once : (v : List ℕ) → 0 < length v → turns v (length v) ≡ turn v 0 ∷ []
@@ -52,7 +52,7 @@ family_is symmetry sort is v chosen step reflect same are = ap (λ y. images y v
 pub tells_images : (symmetry : Symmetry) (vars : List Var) (line : Transition) (centre : ℕ) (others : List ℕ) (list : List (List ℕ)) (found : Found) →
     list ≡ map (λ w. centre ∷ w) (images symmetry others) → Tells (SomeGives vars line list) found → Tells (Gives symmetry vars line centre others) found
 tells_images symmetry vars line centre others list found are h =
-    tells_same (SomeGives vars line list) (Gives symmetry vars line centre others)
+    directives_same (SomeGives vars line list) (Gives symmetry vars line centre others)
     (λ s g.
     let u = from_map (λ w. centre ∷ w) (images symmetry others) g.image (subst (λ ws. Contains ws g.image) are g.is_image) in
     record { image = u.0; is_image = u.1; choice = g.gives.choice; is_choice = g.gives.is_choice; inputs = g.gives.inputs ∙ sym u.2; output = g.gives.output })

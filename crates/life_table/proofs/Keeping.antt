@@ -85,8 +85,8 @@ module _ (n : ℕ) (vars : List Var) (v : Var) where
 
 -- 3. Variables
 
-abbrev pub told : Var → List ℕ × Option (List ℕ)
-told var = (var.name, Some var.states)
+abbrev pub directive : Var → List ℕ × Option (List ℕ)
+directive var = (var.name, Some var.states)
 
 abbrev pub variable_texts : List Numbered → List Numbered
 variable_texts ts = filter (λ (text : Numbered). is_variable_text text.1) ts
@@ -96,23 +96,23 @@ on_lines n vars ts = map (λ (text : Numbered). variable_on n vars text.1) ts
 
 -- each line of a variable gives one, with its name and its states
 abbrev pub AreVariables : ℕ → List Var → List Numbered → Type 0
-AreVariables n vars ts = map told vars ≡ on_lines n vars (variable_texts ts)
+AreVariables n vars ts = map directive vars ≡ on_lines n vars (variable_texts ts)
 
 same_pair : (a b : List ℕ) (o p : Option (List ℕ)) → a ≡ b → o ≡ p → (let q : List ℕ × Option (List ℕ) = (a, o) in q) ≡ (b, p)
 same_pair a b o p e f = cc
 
-on_lines_kept : (n : ℕ) (vars : List Var) (v : Var) (some : List Var) (ts : List Numbered) → map told some ≡ on_lines n vars ts → map told some ≡ on_lines n (vars ++ v ∷ []) ts
+on_lines_kept : (n : ℕ) (vars : List Var) (v : Var) (some : List Var) (ts : List Numbered) → map directive some ≡ on_lines n vars ts → map directive some ≡ on_lines n (vars ++ v ∷ []) ts
 on_lines_kept n vars v [] [] h = refl
 on_lines_kept n vars v [] (t ∷ ts) h = absurd (let z : ⊥ = cc in z)
 on_lines_kept n vars v (w ∷ some) [] h = absurd (let z : ⊥ = cc in z)
 on_lines_kept n vars v (w ∷ some) (t ∷ ts) h =
-    let first : told w ≡ variable_on n vars t.1 = cc in
-    let rest : map told some ≡ on_lines n vars ts = cc in
+    let first : directive w ≡ variable_on n vars t.1 = cc in
+    let rest : map directive some ≡ on_lines n vars ts = cc in
     let name : w.name ≡ name_text t.1 = ap (λ (p : List ℕ × Option (List ℕ)). p.0) first in
     let states : Some w.states ≡ states_listed n vars (within_braces (list_text t.1)) = ap (λ (p : List ℕ × Option (List ℕ)). p.1) first in
     let kept : states_listed n (vars ++ v ∷ []) (within_braces (list_text t.1)) ≡ Some w.states = list_kept n vars v (within_braces (list_text t.1)) w.states (sym states) in
-    let head : told w ≡ variable_on n (vars ++ v ∷ []) t.1 = same_pair w.name (name_text t.1) (Some w.states) (states_listed n (vars ++ v ∷ []) (within_braces (list_text t.1))) name (sym kept) in
-    ap (λ (p : List ℕ × Option (List ℕ)). p ∷ map told some) head
+    let head : directive w ≡ variable_on n (vars ++ v ∷ []) t.1 = same_pair w.name (name_text t.1) (Some w.states) (states_listed n (vars ++ v ∷ []) (within_braces (list_text t.1))) name (sym kept) in
+    ap (λ (p : List ℕ × Option (List ℕ)). p ∷ map directive some) head
     ∙ ap (λ (ps : List (List ℕ × Option (List ℕ))). variable_on n (vars ++ v ∷ []) t.1 ∷ ps) (on_lines_kept n vars v some ts rest)
 
 written_parts : (n : ℕ) (vars : List Var) (text : List ℕ) (var : Var) → variable_of n vars text ≡ Some var
@@ -137,9 +137,9 @@ pub variables_new : (n : ℕ) (vars : List Var) (v : Var) (ts : List Numbered) (
 variables_new n vars v ts x a e w =
     let p = written_parts n vars x.1 v w in
     let states : states_listed n (vars ++ v ∷ []) (within_braces (list_text x.1)) ≡ Some v.states = list_kept n vars v (within_braces (list_text x.1)) v.states p.1 in
-    let new : told v ≡ variable_on n (vars ++ v ∷ []) x.1 = same_pair v.name (name_text x.1) (Some v.states) (states_listed n (vars ++ v ∷ []) (within_braces (list_text x.1))) p.0 (sym states) in
-    map-append told vars (v ∷ [])
-    ∙ ap (λ (us : List (List ℕ × Option (List ℕ))). us ++ told v ∷ []) (on_lines_kept n vars v vars (variable_texts ts) a)
+    let new : directive v ≡ variable_on n (vars ++ v ∷ []) x.1 = same_pair v.name (name_text x.1) (Some v.states) (states_listed n (vars ++ v ∷ []) (within_braces (list_text x.1))) p.0 (sym states) in
+    map-append directive vars (v ∷ [])
+    ∙ ap (λ (us : List (List ℕ × Option (List ℕ))). us ++ directive v ∷ []) (on_lines_kept n vars v vars (variable_texts ts) a)
     ∙ ap (λ (u : List ℕ × Option (List ℕ)). on_lines n (vars ++ v ∷ []) (variable_texts ts) ++ u ∷ []) new
     ∙ sym (map-append (λ (text : Numbered). variable_on n (vars ++ v ∷ []) text.1) (variable_texts ts) (x ∷ []))
     ∙ ap (on_lines n (vars ++ v ∷ [])) (sym (texts_more ts x true e))
@@ -157,4 +157,4 @@ no_texts (t ∷ ts) h =
     no_variable false b e = refl
 
 pub variables_none : (n : ℕ) (vars : List Var) (ts : List Numbered) → AreDescriptors ts → vars ≡ [] → AreVariables n vars ts
-variables_none n vars ts d e = ap (map told) e ∙ sym (ap (on_lines n vars) (no_texts ts d))
+variables_none n vars ts d e = ap (map directive) e ∙ sym (ap (on_lines n vars) (no_texts ts d))

@@ -54,8 +54,8 @@ states_are word n d v l m =
     ∙ take_then (is_digit_text word && nat_lt (value_of word) 257) (Some (value_of word)) None (both_true (is_digit_text word) (nat_lt (value_of word) 257) d high)
     ∙ ap Some v
 
-pub states_said : (word : List ℕ) (n : ℕ) → states_named word ≡ Some n → (is_digit_text word ≡ true) × (value_of word ≡ n) × (2 ≤ n) × (n ≤ 256)
-states_said word n h =
+pub states_parsed : (word : List ℕ) (n : ℕ) → states_named word ≡ Some n → (is_digit_text word ≡ true) × (value_of word ≡ n) × (2 ≤ n) × (n ≤ 256)
+states_parsed word n h =
     let a = tested (nat_le 2 (value_of word)) (number_below 257 word) n h in
     let b = tested (is_digit_text word && nat_lt (value_of word) 257) (Some (value_of word)) n a.1 in
     let c = below_limit 257 word n a.1 in
@@ -80,8 +80,8 @@ pub neighborhood_is : (h : Neighborhood) → neighborhood_named (neighborhood_wo
 neighborhood_is VonNeumann = refl
 neighborhood_is Moore = refl
 
-pub neighborhood_said : (word : List ℕ) (h : Neighborhood) → neighborhood_named word ≡ Some h → word ≡ neighborhood_word h
-neighborhood_said word =
+pub neighborhood_parsed : (word : List ℕ) (h : Neighborhood) → neighborhood_named word ≡ Some h → word ≡ neighborhood_word h
+neighborhood_parsed word =
     one_word neighborhood_word word (codes "vonNeumann") VonNeumann (if bytes_eq word (codes "Moore") then Some Moore else None) refl
     (one_word neighborhood_word word (codes "Moore") Moore None refl (no_word neighborhood_word word))
 
@@ -94,8 +94,8 @@ symmetry_is Permute = refl
 symmetry_is Rotate8 = refl
 symmetry_is Rotate8Reflect = refl
 
-pub symmetry_said : (word : List ℕ) (y : Symmetry) → symmetry_named word ≡ Some y → word ≡ symmetry_word y
-symmetry_said word =
+pub symmetry_parsed : (word : List ℕ) (y : Symmetry) → symmetry_named word ≡ Some y → word ≡ symmetry_word y
+symmetry_parsed word =
     let last : Option Symmetry = if bytes_eq word (codes "rotate8reflect") then Some Rotate8Reflect else None in
     let sixth : Option Symmetry = if bytes_eq word (codes "rotate8") then Some Rotate8 else last in
     let fifth : Option Symmetry = if bytes_eq word (codes "permute") then Some Permute else sixth in
@@ -128,9 +128,9 @@ module _ (n : ℕ) (vars : List Var) (text : List ℕ) (var : Var) where
       ∙ take_then (is_list (list_text text)) (states_listed n vars (within_braces (list_text text))) None v.braces ∙ v.states in
       ap (option_map (λ (s : List ℕ). new_var s (name_text text))) states ∙ ap (λ (name : List ℕ). Some (new_var var.states name)) (sym v.name)
 
-  pub variable_said : is_descriptor text ≡ false → is_variable_line text ≡ true → variable_of n vars text ≡ Some var → IsVariableLine n vars text var
+  pub variable_parsed : is_descriptor text ≡ false → is_variable_line text ≡ true → variable_of n vars text ≡ Some var → IsVariableLine n vars text var
   unfolding variable_of variable_states
-  variable_said d b h =
+  variable_parsed d b h =
       let listed : Option (List ℕ) = if is_list (list_text text) then states_listed n vars (within_braces (list_text text)) else None in
       let m = mapped (λ (s : List ℕ). new_var s (name_text text)) (variable_states n vars (name_text text) (list_text text)) var h in
       let x = tested (is_variable_name (name_text text)) (if is_some (variable_named vars (name_text text)) then None else listed) m.0 m.1 in
@@ -166,11 +166,11 @@ none_some : (es : List Entry) (R : List ℕ → Entry → Type 0) → all_some (
 none_some [] R h = tt
 none_some (e ∷ es) R h = absurd (let z : ⊥ = cc in z)
 
-words_said : (n : ℕ) (vars : List Var) (words : List (List ℕ)) (es : List Entry) → all_some (map (entry_of n vars) words) ≡ Some es → AllZip (Writes n vars) words es
-words_said n vars [] es h = none_some es (Writes n vars) h
-words_said n vars (word ∷ words) es h =
+words_parsed : (n : ℕ) (vars : List Var) (words : List (List ℕ)) (es : List Entry) → all_some (map (entry_of n vars) words) ≡ Some es → AllZip (Writes n vars) words es
+words_parsed n vars [] es h = none_some es (Writes n vars) h
+words_parsed n vars (word ∷ words) es h =
     let s = split_some (entry_of n vars word) (map (entry_of n vars) words) es h in
-    subst (AllZip (Writes n vars) (word ∷ words)) (sym s.4) (s.2, words_said n vars words s.1 s.3)
+    subst (AllZip (Writes n vars) (word ∷ words)) (sym s.4) (s.2, words_parsed n vars words s.1 s.3)
 
 last_at : {X : Type 0} (xs : List X) (x : X) → slice_get (xs ++ x ∷ []) (length xs) ≡ Some x
 last_at [] x = refl
@@ -201,10 +201,10 @@ module _ (n k : ℕ) (vars : List Var) (number : ℕ) (text : List ℕ) (line : 
       ∙ ap (option_map made) last ∙ ap (λ (inputs : List Entry). Some (new_line number inputs line.output)) front
       ∙ ap (λ (m : ℕ). Some (new_line m line.inputs line.output)) (sym t.number_is)
 
-  pub transition_said : is_descriptor text ≡ false → is_variable_line text ≡ false → transition_of n k vars number text ≡ Some line → is_bound line.inputs line.output ≡ true
+  pub transition_parsed : is_descriptor text ≡ false → is_variable_line text ≡ false → transition_of n k vars number text ≡ Some line → is_bound line.inputs line.output ≡ true
       → IsTransitionLine n k vars number text line
   unfolding transition_of entries_of
-  transition_said d b h o =
+  transition_parsed d b h o =
       let f = followed (transition_from k number) (all_some (map (entry_of n vars) (transition_words text))) line h in
       let es : List Entry = f.0 in
       let g = tested (length es == k + 2) (option_map (new_line number (take (k + 1) es)) (slice_get es (k + 1))) line f.2 in
@@ -214,7 +214,7 @@ module _ (n k : ℕ) (vars : List Var) (number : ℕ) (text : List ℕ) (line : 
       record {
         colon = d;
         begins = b;
-        words = subst (AllZip (Writes n vars) (transition_words text)) (sym parts) (words_said n vars (transition_words text) es f.1);
+        words = subst (AllZip (Writes n vars) (transition_words text)) (sym parts) (words_parsed n vars (transition_words text) es f.1);
         count = ap (λ (l : Transition). length l.inputs) m.2 ∙ omega (arith, length-take-le (k + 1) es (omega (arith, long)));
         number_is = ap (λ (l : Transition). l.line) m.2;
         bound = o;

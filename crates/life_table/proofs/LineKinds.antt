@@ -10,22 +10,22 @@ use Rattle.life_base.proofs.LineKinds.{names_line as kinds_name_lines}
 use Rattle.life_base.proofs.RuleKinds.{errs_by, errs_by_cases}
 use Rattle.life_table.specs.Valid.{neighbour_count, is_quiet}
 use Rattle.life_table.specs.Laws.{LinesBreakByKinds, RefusalsHaveKinds}
-use Rattle.life_table.specs.Reading.{is_table_kind, broken, missing, lacking, is_ahead, is_described, said_by, number_behind, fault_in, told_by, told_in, told_in_table, told_rest, told_settled, told_ahead, told_descriptor, if_named, if_states, if_neighborhood, if_symmetry, if_variable, if_transition, name_on, is_passed_over, is_table_line, is_section_line, is_descriptor, content, key_of, setting_of, is_states_key, is_neighborhood_key, is_symmetry_key, states_named, neighborhood_named, symmetry_named, agree, is_variable_line, variable_of, transition_of, is_bound}
-use Rattle.life_table.specs.declared.said.Said.{Said}
-use Rattle.life_table.specs.declared.said.Section.{Section}
-use Rattle.life_table.specs.declared.said.Section.TheVariants.{Ahead, Open, Behind}
-use Rattle.life_table.specs.declared.said.Told.{Told}
-use Rattle.life_table.specs.declared.said.Told.TheVariants.{Nothing, TableOpens, TableEnds, Neighbors, Orders, Line}
+use Rattle.life_table.specs.Reading.{is_table_kind, broken, missing, lacking, is_ahead, is_described, parsed_by, number_behind, fault_in, parse_line, parse_in_section, parse_in_table, parse_rest, parse_settled, parse_ahead, parse_descriptor, if_named, if_states, if_neighborhood, if_symmetry, if_variable, if_transition, name_on, is_passed_over, is_table_line, is_section_line, is_descriptor, content, key_of, setting_of, is_states_key, is_neighborhood_key, is_symmetry_key, states_named, neighborhood_named, symmetry_named, agree, is_variable_line, variable_of, transition_of, is_bound}
+use Rattle.life_table.specs.declared.directive.Parsed.{Parsed}
+use Rattle.life_table.specs.declared.directive.Section.{Section}
+use Rattle.life_table.specs.declared.directive.Section.TheVariants.{Ahead, Open, Behind}
+use Rattle.life_table.specs.declared.directive.Directive.{Directive}
+use Rattle.life_table.specs.declared.directive.Directive.TheVariants.{Nothing, TableOpens, TableEnds, Neighbors, Orders, Line}
 use Rattle.life_table.specs.declared.table.Neighborhood.{Neighborhood}
 use Rattle.life_table.specs.declared.table.Symmetry.{Symmetry}
 use Rattle.life_table.specs.declared.table.Transition.{Transition}
 use Rattle.life_table.specs.declared.table.Var.{Var}
 
 -- the answer is no fault, or one of these kinds
-abbrev InKinds : Result Told Kind → Type 0
+abbrev InKinds : Result Directive Kind → Type 0
 InKinds r = errs_by is_table_kind r ≡ true
 
-either : (b : Bool) (r s : Result Told Kind) → InKinds r → InKinds s → InKinds (cond b r s)
+either : (b : Bool) (r s : Result Directive Kind) → InKinds r → InKinds s → InKinds (cond b r s)
 either = errs_by_cases is_table_kind
 
 -- ---- before the table
@@ -34,7 +34,7 @@ in_name : (o : Option (List ℕ)) → InKinds (if_named o)
 in_name None = refl
 in_name (Some name) = refl
 
-in_front : (o : Option (List ℕ)) (line : List ℕ) → InKinds (told_ahead o line)
+in_front : (o : Option (List ℕ)) (line : List ℕ) → InKinds (parse_ahead o line)
 in_front None line = either (is_passed_over line) (Ok Nothing) (if_named (name_on line)) refl (in_name (name_on line))
 in_front (Some name) line = either (is_table_line line) (Ok TableOpens) (Ok Nothing) refl refl
 
@@ -52,15 +52,15 @@ in_symmetry : (neighborhood : Option Neighborhood) (o : Option Symmetry) → InK
 in_symmetry neighborhood None = refl
 in_symmetry neighborhood (Some y) = either (agree neighborhood (Some y)) (Ok (Orders y)) (Err kinds.UnsupportedSymmetry) refl refl
 
-in_descriptor : (n : Option ℕ) (h : Option Neighborhood) (y : Option Symmetry) (text : List ℕ) → InKinds (told_descriptor n h y text)
-unfolding told_descriptor
+in_descriptor : (n : Option ℕ) (h : Option Neighborhood) (y : Option Symmetry) (text : List ℕ) → InKinds (parse_descriptor n h y text)
+unfolding parse_descriptor
 in_descriptor n h y text =
-    let bad : Result Told Kind = Err kinds.BadDescriptor in
-    let states : Result Told Kind = if_states (states_named (setting_of text)) in
-    let neighborhood : Result Told Kind = if_neighborhood y (neighborhood_named (setting_of text)) in
-    let symmetry : Result Told Kind = if_symmetry h (symmetry_named (setting_of text)) in
-    let third : Result Told Kind = cond (is_symmetry_key (key_of text)) (cond (is_some y) bad symmetry) bad in
-    let second : Result Told Kind = cond (is_neighborhood_key (key_of text)) (cond (is_some h) bad neighborhood) third in
+    let bad : Result Directive Kind = Err kinds.BadDescriptor in
+    let states : Result Directive Kind = if_states (states_named (setting_of text)) in
+    let neighborhood : Result Directive Kind = if_neighborhood y (neighborhood_named (setting_of text)) in
+    let symmetry : Result Directive Kind = if_symmetry h (symmetry_named (setting_of text)) in
+    let third : Result Directive Kind = cond (is_symmetry_key (key_of text)) (cond (is_some y) bad symmetry) bad in
+    let second : Result Directive Kind = cond (is_neighborhood_key (key_of text)) (cond (is_some h) bad neighborhood) third in
     either (is_states_key (key_of text)) (cond (is_some n) bad states) second (either (is_some n) bad states refl (in_states (states_named (setting_of text))))
     (either (is_neighborhood_key (key_of text)) (cond (is_some h) bad neighborhood) third (either (is_some h) bad neighborhood refl (in_neighborhood y (neighborhood_named (setting_of text))))
     (either (is_symmetry_key (key_of text)) (cond (is_some y) bad symmetry) bad (either (is_some y) bad symmetry refl (in_symmetry h (symmetry_named (setting_of text)))) refl))
@@ -74,15 +74,15 @@ in_variable (Some var) = refl
 in_transition : (vars : List Var) (earlier : List Transition) (o : Option Transition) → InKinds (if_transition vars earlier o)
 in_transition vars earlier None = refl
 in_transition vars earlier (Some line) =
-    let quiet : Result Told Kind = cond (is_quiet vars (earlier ++ line ∷ [])) (Ok (Line line)) (Err kinds.NotQuiet) in
+    let quiet : Result Directive Kind = cond (is_quiet vars (earlier ++ line ∷ [])) (Ok (Line line)) (Err kinds.NotQuiet) in
     either (not (is_bound line.inputs line.output)) (Err kinds.UnboundOutput) quiet refl (either (is_quiet vars (earlier ++ line ∷ [])) (Ok (Line line)) (Err kinds.NotQuiet) refl refl)
 
-in_settled : (n : ℕ) (h : Neighborhood) (vars : List Var) (lines : List Transition) (number : ℕ) (text : List ℕ) → InKinds (told_settled n h vars lines number text)
+in_settled : (n : ℕ) (h : Neighborhood) (vars : List Var) (lines : List Transition) (number : ℕ) (text : List ℕ) → InKinds (parse_settled n h vars lines number text)
 in_settled n h vars lines number text =
     either (is_variable_line text) (if_variable (variable_of n vars text)) (if_transition vars lines (transition_of n (neighbour_count h) vars number text))
     (in_variable (variable_of n vars text)) (in_transition vars lines (transition_of n (neighbour_count h) vars number text))
 
-in_rest : (n : Option ℕ) (h : Option Neighborhood) (y : Option Symmetry) (vars : List Var) (lines : List Transition) (number : ℕ) (text : List ℕ) → InKinds (told_rest n h y vars lines number text)
+in_rest : (n : Option ℕ) (h : Option Neighborhood) (y : Option Symmetry) (vars : List Var) (lines : List Transition) (number : ℕ) (text : List ℕ) → InKinds (parse_rest n h y vars lines number text)
 in_rest (Some n) (Some h) (Some y) vars lines number text = in_settled n h vars lines number text
 in_rest (Some n) (Some h) None vars lines number text = refl
 in_rest (Some n) None y vars lines number text = refl
@@ -90,39 +90,39 @@ in_rest None h y vars lines number text = refl
 
 -- ---- a line
 
-in_table : (said : Said) (number : ℕ) (line : List ℕ) → InKinds (told_in_table said number line)
-in_table said number line =
-    let closing : Result Told Kind = cond (is_described said) (Ok TableEnds) (Err kinds.BadDescriptor) in
-    let descriptor : Result Told Kind = told_descriptor said.n_states said.neighborhood said.symmetry (content line) in
-    let rest : Result Told Kind = told_rest said.n_states said.neighborhood said.symmetry said.vars said.lines number (content line) in
-    let says : Result Told Kind = cond (is_descriptor (content line)) descriptor rest in
-    let blank : Result Told Kind = cond (is_empty (content line)) (Ok Nothing) says in
-    either (is_section_line line) closing blank (either (is_described said) (Ok TableEnds) (Err kinds.BadDescriptor) refl refl)
+in_table : (parsed : Parsed) (number : ℕ) (line : List ℕ) → InKinds (parse_in_table parsed number line)
+in_table parsed number line =
+    let closing : Result Directive Kind = cond (is_described parsed) (Ok TableEnds) (Err kinds.BadDescriptor) in
+    let descriptor : Result Directive Kind = parse_descriptor parsed.n_states parsed.neighborhood parsed.symmetry (content line) in
+    let rest : Result Directive Kind = parse_rest parsed.n_states parsed.neighborhood parsed.symmetry parsed.vars parsed.lines number (content line) in
+    let says : Result Directive Kind = cond (is_descriptor (content line)) descriptor rest in
+    let blank : Result Directive Kind = cond (is_empty (content line)) (Ok Nothing) says in
+    either (is_section_line line) closing blank (either (is_described parsed) (Ok TableEnds) (Err kinds.BadDescriptor) refl refl)
     (either (is_empty (content line)) (Ok Nothing) says refl
-    (either (is_descriptor (content line)) descriptor rest (in_descriptor said.n_states said.neighborhood said.symmetry (content line))
-    (in_rest said.n_states said.neighborhood said.symmetry said.vars said.lines number (content line))))
+    (either (is_descriptor (content line)) descriptor rest (in_descriptor parsed.n_states parsed.neighborhood parsed.symmetry (content line))
+    (in_rest parsed.n_states parsed.neighborhood parsed.symmetry parsed.vars parsed.lines number (content line))))
 
-in_section : (section : Section) (said : Said) (number : ℕ) (line : List ℕ) → InKinds (told_in section said number line)
-in_section Ahead said number line = in_front said.name line
-in_section Open said number line = in_table said number line
-in_section Behind said number line = refl
+in_section : (section : Section) (parsed : Parsed) (number : ℕ) (line : List ℕ) → InKinds (parse_in_section section parsed number line)
+in_section Ahead parsed number line = in_front parsed.name line
+in_section Open parsed number line = in_table parsed number line
+in_section Behind parsed number line = refl
 
-pub told_kinds : (said : Said) (number : ℕ) (line : List ℕ) → errs_by is_table_kind (told_by said number line) ≡ true
-unfolding told_by
-told_kinds said number line = either (is_too_long line) (Err kinds.LineTooLong) (told_in said.section said number line) refl (in_section said.section said number line)
+pub directive_kinds : (parsed : Parsed) (number : ℕ) (line : List ℕ) → errs_by is_table_kind (parse_line parsed number line) ≡ true
+unfolding parse_line
+directive_kinds parsed number line = either (is_too_long line) (Err kinds.LineTooLong) (parse_in_section parsed.section parsed number line) refl (in_section parsed.section parsed number line)
 
-pub told_kind : (said : Said) (number : ℕ) (line : List ℕ) (kind : Kind) → told_by said number line ≡ Err kind → is_table_kind kind ≡ true
-told_kind said number line kind e = sym (ap (errs_by is_table_kind) e) ∙ told_kinds said number line
+pub directive_kind : (parsed : Parsed) (number : ℕ) (line : List ℕ) (kind : Kind) → parse_line parsed number line ≡ Err kind → is_table_kind kind ≡ true
+directive_kind parsed number line kind e = sym (ap (errs_by is_table_kind) e) ∙ directive_kinds parsed number line
 
-kind_of : (r : Result Told Kind) (kind : Kind) → errs_by is_table_kind r ≡ true → fault_in r ≡ Some kind → is_table_kind kind ≡ true
-kind_of (Ok told) kind h e = cc
+kind_of : (r : Result Directive Kind) (kind : Kind) → errs_by is_table_kind r ≡ true → fault_in r ≡ Some kind → is_table_kind kind ≡ true
+kind_of (Ok directive) kind h e = cc
 kind_of (Err other) kind h e = let same : other ≡ kind = cc in ap is_table_kind (sym same) ∙ h
 
 pub lines_break_by_kinds : LinesBreakByKinds
 unfolding broken
 lines_break_by_kinds front line kind e =
-    let said : Said = said_by (numbered_from 1 front) in
-    kind_of (told_by said (number_behind front) line) kind (told_kinds said (number_behind front) line) e
+    let parsed : Parsed = parsed_by (numbered_from 1 front) in
+    kind_of (parse_line parsed (number_behind front) line) kind (directive_kinds parsed (number_behind front) line) e
 
 -- ---- the end of a file
 
@@ -132,12 +132,12 @@ by_lack false true d kind e = let same : kinds.NoTable ≡ kind = cc in ap is_ta
 by_lack false false true kind e = cc
 by_lack false false false kind e = let same : kinds.BadDescriptor ≡ kind = cc in ap is_table_kind (sym same)
 
-pub lacking_kind : (said : Said) (kind : Kind) → lacking said ≡ Some kind → is_table_kind kind ≡ true
-lacking_kind said kind e = by_lack (is_none said.name) (is_ahead said.section) (is_described said) kind e
+pub lacking_kind : (parsed : Parsed) (kind : Kind) → lacking parsed ≡ Some kind → is_table_kind kind ≡ true
+lacking_kind parsed kind e = by_lack (is_none parsed.name) (is_ahead parsed.section) (is_described parsed) kind e
 
 missing_kind : (lines : List (List ℕ)) (kind : Kind) → missing lines ≡ Some kind → is_table_kind kind ≡ true
 unfolding missing
-missing_kind lines kind e = lacking_kind (said_by (numbered_from 1 lines)) kind e
+missing_kind lines kind e = lacking_kind (parsed_by (numbered_from 1 lines)) kind e
 
 within_or_not : (m n : ℕ) → (n ≤ m) ⊎ (m < n)
 within_or_not m n = grind arith

@@ -59,8 +59,8 @@ module _ (vars : List Var) (choice : ℕ → ℕ) (is_choice : IsChoice vars cho
     state_there i below = get_or-map (state_of choice) rest i (entries.Fixed 0) 0 below
 
     -- the place is told of an entry with its state
-    told : (i k : ℕ) → i < length rest → k < 16 → state_of choice (get_or rest i (entries.Fixed 0)) ≡ slice_index others (k % length others) → bit_at (places seen (get_or rest i (entries.Fixed 0))) k ≡ 1
-    told i k below room is =
+    directive : (i k : ℕ) → i < length rest → k < 16 → state_of choice (get_or rest i (entries.Fixed 0)) ≡ slice_index others (k % length others) → bit_at (places seen (get_or rest i (entries.Fixed 0))) k ≡ 1
+    directive i k below room is =
         let e = get_or rest i (entries.Fixed 0) in
         is_seen e k room (subst (λ s. can_be_state vars e s ≡ true) is (may_be e (are i (entries.Fixed 0) below)))
 
@@ -70,7 +70,7 @@ module _ (vars : List Var) (choice : ℕ → ℕ) (is_choice : IsChoice vars cho
         let counted = is_counted t (map (state_of choice) rest) i (simp length-map below) (state_there i below) in
         let r = stands_at t others (subst (λ n. 0 < n) (counts t) counted) in
         set_not_zero (places seen (get_or rest i (entries.Fixed 0))) r.0
-        (told i r.0 below (omega (arith, r.1, few)) (sym r.2 ∙ ap (slice_index others) (sym (mod-eq_of_lt r.1))))
+        (directive i r.0 below (omega (arith, r.1, few)) (sym r.2 ∙ ap (slice_index others) (sym (mod-eq_of_lt r.1))))
 
     pub some_entry : 0 < length others → (k : ℕ) → k < 16 → (i : ℕ) × (i < length rest) × (bit_at (places seen (get_or rest i (entries.Fixed 0))) k ≡ 1)
     some_entry some k room =
@@ -79,18 +79,18 @@ module _ (vars : List Var) (choice : ℕ → ℕ) (is_choice : IsChoice vars cho
         let counted = is_counted t others at (mod-lt k some) refl in
         let r = stands_at t (map (state_of choice) rest) (subst (λ n. 0 < n) (sym (counts t)) counted) in
         let below : r.0 < length rest = subst (λ n. r.0 < n) (length-map rest (state_of choice)) r.1 in
-        (r.0, below, told r.0 k below room (sym (state_there r.0 below) ∙ r.2))
+        (r.0, below, directive r.0 k below room (sym (state_there r.0 below) ∙ r.2))
 
 place_below : (reflect : Bool) (n i r : ℕ) → n ≤ 8 → i < n → r < n → cond reflect (n - i) i + r < 16
 place_below true n i r few below inside = omega (arith, few, below, inside)
 place_below false n i r few below inside = omega (arith, few, below, inside)
 
 -- where the inputs have the states of a turn, each may be the neighbour that comes to it
-pub turn_told : (vars : List Var) (choice : ℕ → ℕ) (is_choice : IsChoice vars choice) (first : Entry) (rest : List Entry) (centre : ℕ) (others : List ℕ) (seen : Seen) (reflect : Bool) (r : ℕ) →
+pub turn_directive : (vars : List Var) (choice : ℕ → ℕ) (is_choice : IsChoice vars choice) (first : Entry) (rest : List Entry) (centre : ℕ) (others : List ℕ) (seen : Seen) (reflect : Bool) (r : ℕ) →
     All (IsEntry 256 vars) rest → length rest ≡ length others → length others ≤ 8 → r < length others → IsSeen vars others seen →
     map (state_of choice) (first ∷ rest) ≡ centre ∷ turned_by reflect others r →
     (i : ℕ) → i < length rest → bit_at (places seen (get_or rest i (entries.Fixed 0))) (cond reflect (length rest - i) i + r) ≡ 1
-turn_told vars choice is_choice first rest centre others seen reflect r are same few inside is_seen values i below =
+turn_directive vars choice is_choice first rest centre others seen reflect r are same few inside is_seen values i below =
     let e = get_or rest i (entries.Fixed 0) in
     let k = cond reflect (length rest - i) i + r in
     let state : state_of choice e ≡ slice_index others (k % length others) =

@@ -6,8 +6,8 @@ use Rattle.life_base.specs.declared.kind.Kind.{Kind}
 use Rattle.life_base.specs.declared.kind.Kind.TheVariants.{UnboundOutput, NotQuiet}
 use Rattle.life_table.specs.Valid.{fits_zero, is_quiet_output, is_quiet}
 use Rattle.life_table.specs.Reading.{if_transition, is_bound}
-use Rattle.life_table.specs.declared.said.Told.{Told}
-use Rattle.life_table.specs.declared.said.Told.TheVariants.{Line}
+use Rattle.life_table.specs.declared.directive.Directive.{Directive}
+use Rattle.life_table.specs.declared.directive.Directive.TheVariants.{Line}
 use Rattle.life_table.specs.declared.table.Var.{Var}
 use Rattle.life_table.specs.declared.table.Transition.{Transition}
 
@@ -36,9 +36,9 @@ pub quiet_more : (vars : List Var) (earlier : List Transition) (line : Transitio
     → is_quiet vars (earlier ++ line ∷ []) ≡ (list_any (fits_zero vars) earlier || not (fits_zero vars line) || is_quiet_output line.output)
 quiet_more vars earlier line q = more vars earlier line q ∙ sym (or_assoc (list_any (fits_zero vars) earlier) (not (fits_zero vars line)) (is_quiet_output line.output))
 
-abbrev answer : Bool → Bool → Transition → Result Told Kind
+abbrev answer : Bool → Bool → Transition → Result Directive Kind
 answer bound quiet line = if not bound then Err UnboundOutput else (if quiet then Ok (Line line) else Err NotQuiet)
 
-pub told_so : (vars : List Var) (earlier : List Transition) (line : Transition) (bound quiet : Bool) → bound ≡ is_bound line.inputs line.output
+pub directive_so : (vars : List Var) (earlier : List Transition) (line : Transition) (bound quiet : Bool) → bound ≡ is_bound line.inputs line.output
     → quiet ≡ is_quiet vars (earlier ++ line ∷ []) → answer bound quiet line ≡ if_transition vars earlier (Some line)
-told_so vars earlier line bound quiet b q = ap (λ (x : Bool). answer x quiet line) b ∙ ap (λ (x : Bool). answer (is_bound line.inputs line.output) x line) q
+directive_so vars earlier line bound quiet b q = ap (λ (x : Bool). answer x quiet line) b ∙ ap (λ (x : Bool). answer (is_bound line.inputs line.output) x line) q

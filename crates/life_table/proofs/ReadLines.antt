@@ -8,80 +8,80 @@ use Rattle.life_base.specs.declared.fault.Fault.{Fault}
 use Rattle.life_base.proofs.Refusals.{refusal_at_end}
 use Rattle.life_base.proofs.NumberedLines.{number_at, length_texts, all_read}
 use Rattle.life_base.proofs.NumberedLines as numbered
-use Rattle.life_table.specs.Reading.{Numbered, texts_of, IsTableFile, AreTable, Describes, broken, missing, lacking, said_by, told_by, number_behind, Refuses}
-use Rattle.life_table.specs.Reader.{IsGood, IsKept, after, fits_after, nothing_said}
-use Rattle.life_table.specs.declared.said.Said.{Said}
-use Rattle.life_table.specs.declared.said.Told.{Told}
+use Rattle.life_table.specs.Reading.{Numbered, texts_of, IsTableFile, AreTable, Describes, broken, missing, lacking, parsed_by, parse_line, number_behind, Refuses}
+use Rattle.life_table.specs.Reader.{IsGood, IsKept, after, fits_after, nothing_parsed}
+use Rattle.life_table.specs.declared.directive.Parsed.{Parsed}
+use Rattle.life_table.specs.declared.directive.Directive.{Directive}
 use Rattle.life_table.specs.declared.table.Table.{Table}
 use Rattle.life_table.proofs.Cases.{line_case}
-use Rattle.life_table.proofs.Lines.{said_start}
+use Rattle.life_table.proofs.FileLines.{parsed_start}
 use Rattle.life_table.proofs.Good.{kept_start, kept_more}
-use Rattle.life_table.proofs.ByLines.{by_lines, Reach, reach_none, reach_more, numbered_more, told_broken, missing_is}
+use Rattle.life_table.proofs.ByLines.{by_lines, Reach, reach_none, reach_more, numbered_more, directive_broken, missing_is}
 
 -- what was read of the lines so far
-pub record Reads (pairs : List Numbered) (said : Said) (fit : Bool) : Type 0 where
+pub record Reads (pairs : List Numbered) (parsed : Parsed) (fit : Bool) : Type 0 where
   pub numbers : pairs ≡ numbered_from 1 (texts_of pairs)
   pub reached : Reach (texts_of pairs)
-  pub is : said ≡ said_by pairs
-  pub keeps : IsKept said fit
+  pub is : parsed ≡ parsed_by pairs
+  pub keeps : IsKept parsed fit
 
-pub reads_none : Reads [] nothing_said false
-reads_none = record { numbers = refl; reached = reach_none; is = sym said_start; keeps = kept_start }
+pub reads_none : Reads [] nothing_parsed false
+reads_none = record { numbers = refl; reached = reach_none; is = sym parsed_start; keeps = kept_start }
 
-pub good_reads : (pairs : List Numbered) (said : Said) (fit : Bool) → Reads pairs said fit → IsGood said
-good_reads pairs said fit reads = subst (λ (s : Said). IsGood s) (sym (reads.is ∙ ap said_by reads.numbers)) reads.reached.good
+pub good_reads : (pairs : List Numbered) (parsed : Parsed) (fit : Bool) → Reads pairs parsed fit → IsGood parsed
+good_reads pairs parsed fit reads = subst (λ (s : Parsed). IsGood s) (sym (reads.is ∙ ap parsed_by reads.numbers)) reads.reached.good
 
 module _ (lines : List (List ℕ)) (pairs : List Numbered) (number : ℕ) (line : List ℕ) (rest : List Numbered) (all : pairs ++ (number, line) ∷ rest ≡ numbered_from 1 lines)
-    (said : Said) (fit : Bool) (reads : Reads pairs said fit) where
+    (parsed : Parsed) (fit : Bool) (reads : Reads pairs parsed fit) where
   pub number_is : number ≡ number_behind (texts_of pairs)
   number_is = let e = number_at lines pairs 1 number line rest (omega arith) all in omega (arith, e, length_texts pairs)
 
   -- what the line tells, as the definitions have it
-  told_there : (r : Result Told Kind) → told_by said number line ≡ r → told_by (said_by (numbered_from 1 (texts_of pairs))) (number_behind (texts_of pairs)) line ≡ r
-  told_there r h =
-      ap (λ (s : Said). told_by s (number_behind (texts_of pairs)) line) (sym (reads.is ∙ ap said_by reads.numbers))
-      ∙ ap (λ (k : ℕ). told_by said k line) (sym number_is) ∙ h
+  directive_there : (r : Result Directive Kind) → parse_line parsed number line ≡ r → parse_line (parsed_by (numbered_from 1 (texts_of pairs))) (number_behind (texts_of pairs)) line ≡ r
+  directive_there r h =
+      ap (λ (s : Parsed). parse_line s (number_behind (texts_of pairs)) line) (sym (reads.is ∙ ap parsed_by reads.numbers))
+      ∙ ap (λ (k : ℕ). parse_line parsed k line) (sym number_is) ∙ h
 
-  pub reads_more : (told : Told) (next : Said) (next_fit : Bool) → told_by said number line ≡ Ok told → next ≡ after said told → next_fit ≡ fits_after fit said.vars told
+  pub reads_more : (directive : Directive) (next : Parsed) (next_fit : Bool) → parse_line parsed number line ≡ Ok directive → next ≡ after parsed directive → next_fit ≡ fits_after fit parsed.vars directive
       → Reads (pairs ++ (number, line) ∷ []) next next_fit
-  reads_more told next next_fit h n f =
-      let m = reach_more (texts_of pairs) line told reads.reached (told_there (Ok told) h) in
+  reads_more directive next next_fit h n f =
+      let m = reach_more (texts_of pairs) line directive reads.reached (directive_there (Ok directive) h) in
       let t : texts_of (pairs ++ (number, line) ∷ []) ≡ texts_of pairs ++ line ∷ [] = map-append (λ (p : Numbered). p.1) pairs ((number, line) ∷ []) in
       let numbers : pairs ++ (number, line) ∷ [] ≡ numbered_from 1 (texts_of pairs ++ line ∷ []) =
       ap (λ (ps : List Numbered). ps ++ (number, line) ∷ []) reads.numbers ∙ ap (λ (k : ℕ). numbered_from 1 (texts_of pairs) ++ (k, line) ∷ []) number_is ∙ sym (numbered_more (texts_of pairs) line) in
-      let k : IsKept (after said told) (fits_after fit said.vars told) = kept_more said number line told fit (good_reads pairs said fit reads) reads.keeps (line_case said number line told h) in
+      let k : IsKept (after parsed directive) (fits_after fit parsed.vars directive) = kept_more parsed number line directive fit (good_reads pairs parsed fit reads) reads.keeps (line_case parsed number line directive h) in
       record {
         numbers = numbers ∙ ap (numbered_from 1) (sym t);
         reached = subst Reach (sym t) m.1;
-        is = n ∙ ap (λ (s : Said). after s told) (reads.is ∙ ap said_by reads.numbers) ∙ sym m.0 ∙ ap said_by (sym numbers);
-        keeps = subst (λ (s : Said). IsKept s next_fit) (sym n) (subst (IsKept (after said told)) (sym f) k);
+        is = n ∙ ap (λ (s : Parsed). after s directive) (reads.is ∙ ap parsed_by reads.numbers) ∙ sym m.0 ∙ ap parsed_by (sym numbers);
+        keeps = subst (λ (s : Parsed). IsKept s next_fit) (sym n) (subst (IsKept (after parsed directive)) (sym f) k);
       }
 
   pub next_number : (next : ℕ) → next ≡ min (number + 1) (2 ^ 64 - 1) → next ≡ min (length (pairs ++ (number, line) ∷ []) + 1) (2 ^ 64 - 1)
   next_number next h = let e = number_at lines pairs 1 number line rest (omega arith) all in omega (arith, h, e, length-append pairs ((number, line) ∷ []))
 
-  pub refused_at : (fault : Fault) → told_by said number line ≡ Err fault.kind → fault.place.line ≡ number → Refuses lines fault
+  pub refused_at : (fault : Fault) → parse_line parsed number line ≡ Err fault.kind → fault.place.line ≡ number → Refuses lines fault
   refused_at fault h l =
-      numbered.refused_at IsTableFile broken missing by_lines lines pairs number line rest fault all reads.reached.unbroken (told_broken (texts_of pairs) line fault.kind (told_there (Err fault.kind) h)) l
+      numbered.refused_at IsTableFile broken missing by_lines lines pairs number line rest fault all reads.reached.unbroken (directive_broken (texts_of pairs) line fault.kind (directive_there (Err fault.kind) h)) l
 
 module _ (lines : List (List ℕ)) (pairs rest : List Numbered) (all : pairs ++ rest ≡ numbered_from 1 lines) (none : rest ≡ [])
-    (said : Said) (fit : Bool) (reads : Reads pairs said fit) where
-  said_is : said ≡ said_by (numbered_from 1 lines)
-  said_is = reads.is ∙ ap said_by (reads.numbers ∙ ap (numbered_from 1) (all_read lines pairs rest all none))
+    (parsed : Parsed) (fit : Bool) (reads : Reads pairs parsed fit) where
+  parsed_is : parsed ≡ parsed_by (numbered_from 1 lines)
+  parsed_is = reads.is ∙ ap parsed_by (reads.numbers ∙ ap (numbered_from 1) (all_read lines pairs rest all none))
 
   reached : Reach lines
   reached = subst Reach (all_read lines pairs rest all none) reads.reached
 
-  pub read_whole : (table : Table) → lacking said ≡ None → Describes said table → AreTable lines table
+  pub read_whole : (table : Table) → lacking parsed ≡ None → Describes parsed table → AreTable lines table
   read_whole table l d = record {
-    file = record { unbroken = reached.unbroken; whole = missing_is lines ∙ ap lacking (sym said_is) ∙ l };
-    says = subst (λ (s : Said). Describes s table) said_is d;
+    file = record { unbroken = reached.unbroken; whole = missing_is lines ∙ ap lacking (sym parsed_is) ∙ l };
+    says = subst (λ (s : Parsed). Describes s table) parsed_is d;
   }
 
-  pub refused_at_end : (fault : Fault) (next : ℕ) → lacking said ≡ Some fault.kind → fault.place.line ≡ next → next ≡ min (length pairs + 1) (2 ^ 64 - 1)
+  pub refused_at_end : (fault : Fault) (next : ℕ) → lacking parsed ≡ Some fault.kind → fault.place.line ≡ next → next ≡ min (length pairs + 1) (2 ^ 64 - 1)
       → Refuses lines fault
   refused_at_end fault next l at n =
-      let lacks : missing lines ≡ Some fault.kind = missing_is lines ∙ ap lacking (sym said_is) ∙ l in
+      let lacks : missing lines ≡ Some fault.kind = missing_is lines ∙ ap lacking (sym parsed_is) ∙ l in
       let r = refusal_at_end IsTableFile broken missing by_lines lines fault.kind reached.unbroken (λ g. let z : None ≡ Some fault.kind = sym g.whole ∙ lacks in cc) lacks in
       let size : length lines ≡ length pairs = sym (ap length (all_read lines pairs rest all none)) ∙ length_texts pairs in
       subst (λ (k : ℕ). Refuses lines (record { place = record { line = k }; kind = fault.kind })) (omega (arith, at, n, size)) r

@@ -5,13 +5,13 @@ use Rattle.std.specs.List.{cons_option}
 use Rattle.std.proofs.lemmas.List.{append-nil}
 use Rattle.std.proofs.lemmas.Slice.Eq.{bytes_eq-Decides}
 use Rattle.life_table.specs.Valid.{neighbour_count}
-use Rattle.life_table.specs.Reading.{Numbered, texts_of, said_in, is_descriptor, key_of, setting_of, is_states_key, is_neighborhood_key, is_symmetry_key, states_named, neighborhood_named, symmetry_named, states_of, neighborhood_of, symmetry_of, is_variable_line, variable_of, variables_written, variables_in, is_transition_line, transition_of, transitions_written, transitions_in}
+use Rattle.life_table.specs.Reading.{Numbered, texts_of, parsed_in, is_descriptor, key_of, setting_of, is_states_key, is_neighborhood_key, is_symmetry_key, states_named, neighborhood_named, symmetry_named, states_of, neighborhood_of, symmetry_of, is_variable_line, variable_of, variables_written, variables_in, is_transition_line, transition_of, transitions_written, transitions_in}
 use Rattle.life_table.specs.Reader.{after}
-use Rattle.life_table.specs.declared.said.Said.{Said}
-use Rattle.life_table.specs.declared.said.Section.{Section}
-use Rattle.life_table.specs.declared.said.Section.TheVariants.{Open}
-use Rattle.life_table.specs.declared.said.Told.{Told}
-use Rattle.life_table.specs.declared.said.Told.TheVariants.{States, Neighbors, Orders, Variable, Line}
+use Rattle.life_table.specs.declared.directive.Parsed.{Parsed}
+use Rattle.life_table.specs.declared.directive.Section.{Section}
+use Rattle.life_table.specs.declared.directive.Section.TheVariants.{Open}
+use Rattle.life_table.specs.declared.directive.Directive.{Directive}
+use Rattle.life_table.specs.declared.directive.Directive.TheVariants.{States, Neighbors, Orders, Variable, Line}
 use Rattle.life_table.specs.declared.table.Neighborhood.{Neighborhood}
 use Rattle.life_table.specs.declared.table.Symmetry.{Symmetry}
 use Rattle.life_table.specs.declared.table.Var.{Var}
@@ -46,11 +46,11 @@ neighbors_alone key e = elim (or_cases (bytes_eq key (codes "neighborhood")) (by
 ]
 
 -- one said of five equal parts
-said_same : (name : Option (List ℕ)) (section : Section) (a a' : Option ℕ) (b b' : Option Neighborhood) (c c' : Option Symmetry) (d d' : List Var) (e e' : List Transition)
+parsed_same : (name : Option (List ℕ)) (section : Section) (a a' : Option ℕ) (b b' : Option Neighborhood) (c c' : Option Symmetry) (d d' : List Var) (e e' : List Transition)
     → a ≡ a' → b ≡ b' → c ≡ c' → d ≡ d' → e ≡ e'
-    → (let s : Said = record { name = name; section = section; n_states = a; neighborhood = b; symmetry = c; vars = d; lines = e } in s)
+    → (let s : Parsed = record { name = name; section = section; n_states = a; neighborhood = b; symmetry = c; vars = d; lines = e } in s)
     ≡ record { name = name; section = section; n_states = a'; neighborhood = b'; symmetry = c'; vars = d'; lines = e' }
-said_same name section a a' b b' c c' d d' e e' p q r s t = cc
+parsed_same name section a a' b b' c c' d d' e e' p q r s t = cc
 
 not_described : (a b c : Bool) → (a ≡ false) ⊎ ((b ≡ false) ⊎ (c ≡ false)) → (a && b && c) ≡ false
 not_described true true c (inl h) = cc
@@ -170,8 +170,8 @@ module _ (name : Option (List ℕ)) (ts : List Numbered) (number : ℕ) (text : 
         ∙ ap (λ (b : Bool). if not b then transition_of n (neighbour_count h) vars number text else None) v
 
   -- what the texts say together with one more, and that they stand
-  abbrev SaysMore : Told → Type 0
-  SaysMore told = (said_in name Open (ts ++ x ∷ []) ≡ after (said_in name Open ts) told) × TextsStand (ts ++ x ∷ [])
+  abbrev SaysMore : Directive → Type 0
+  SaysMore directive = (parsed_in name Open (ts ++ x ∷ []) ≡ after (parsed_in name Open ts) directive) × TextsStand (ts ++ x ∷ [])
 
   says_states : is_descriptor text ≡ true → is_states_key (key_of text) ≡ true → on ≡ None → (n : ℕ) → states_named (setting_of text) ≡ Some n → SaysMore (States n)
   says_states d k none n e =
@@ -179,7 +179,7 @@ module _ (name : Option (List ℕ)) (ts : List Numbered) (number : ℕ) (text : 
       let states : on' ≡ Some n = setting_new is_states_key states_named ts x (this_key is_states_key text d k) none ∙ e in
       let neighbors : oh' ≡ oh = setting_same is_neighborhood_key neighborhood_named ts x (other_key is_neighborhood_key text (states_alone (key_of text) k)) in
       let symmetry : oy' ≡ oy = setting_same is_symmetry_key symmetry_named ts x (other_key is_symmetry_key text (states_alone_too (key_of text) k)) in (
-        said_same name Open on' (Some n) oh' oh oy' oy _ _ _ _ states neighbors symmetry
+        parsed_same name Open on' (Some n) oh' oh oy' oy _ _ _ _ states neighbors symmetry
             (described_vars d all) (described_lines d all),
         described_stand d all (stays_none on on' none) (stays_same oh oh' neighbors) (stays_same oy oy' symmetry) (inl (k, n, e, states)),
       )
@@ -191,7 +191,7 @@ module _ (name : Option (List ℕ)) (ts : List Numbered) (number : ℕ) (text : 
       let states : on' ≡ on = setting_same is_states_key states_named ts x (other_key is_states_key text s) in
       let neighbors : oh' ≡ Some h = setting_new is_neighborhood_key neighborhood_named ts x (this_key is_neighborhood_key text d k) none ∙ e in
       let symmetry : oy' ≡ oy = setting_same is_symmetry_key symmetry_named ts x (other_key is_symmetry_key text (neighbors_alone (key_of text) k)) in (
-        said_same name Open on' on oh' (Some h) oy' oy _ _ _ _ states neighbors symmetry
+        parsed_same name Open on' on oh' (Some h) oy' oy _ _ _ _ states neighbors symmetry
             (described_vars d all) (described_lines d all),
         described_stand d all (stays_same on on' states) (stays_none oh oh' none) (stays_same oy oy' symmetry) (inr (inl (k, h, e, neighbors))),
       )
@@ -203,7 +203,7 @@ module _ (name : Option (List ℕ)) (ts : List Numbered) (number : ℕ) (text : 
       let states : on' ≡ on = setting_same is_states_key states_named ts x (other_key is_states_key text s) in
       let neighbors : oh' ≡ oh = setting_same is_neighborhood_key neighborhood_named ts x (other_key is_neighborhood_key text m) in
       let symmetry : oy' ≡ Some y = setting_new is_symmetry_key symmetry_named ts x (this_key is_symmetry_key text d k) none ∙ e in (
-        said_same name Open on' on oh' oh oy' (Some y) _ _ _ _ states neighbors symmetry
+        parsed_same name Open on' on oh' oh oy' (Some y) _ _ _ _ states neighbors symmetry
             (described_vars d all) (described_lines d all),
         described_stand d all (stays_same on on' states) (stays_same oh oh' neighbors) (stays_none oy oy' none) (inr (inr (k, y, e, symmetry))),
       )
@@ -222,7 +222,7 @@ module _ (name : Option (List ℕ)) (ts : List Numbered) (number : ℕ) (text : 
       let last : IsRead n (neighbour_count h) (V d n h y en eh ey ++ var ∷ []) x = λ is. absurd (
       let no : is_transition_line text ≡ false = ap (λ (b : Bool). not (is_descriptor text) && not b) v ∙ and_false (not (is_descriptor text)) in
       let z : true ≡ false = sym is ∙ no in let q : ⊥ = cc in q) in (
-        said_same name Open on' on oh' oh oy' oy _ _ _ _ (states_same d n h y en eh ey) (neighbors_same d n h y en eh ey) (symmetry_same d n h y en eh ey)
+        parsed_same name Open on' on oh' oh oy' oy _ _ _ _ (states_same d n h y en eh ey) (neighbors_same d n h y en eh ey) (symmetry_same d n h y en eh ey)
             (vars ∙ ap (λ (vs : List Var). vs ++ var ∷ []) (sym (vars_are d n h y en eh ey))) lines,
         stand_then d n h y en eh ey (subst (λ (vs : List Var). All (IsRead n (neighbour_count h) vs) (ts ++ x ∷ [])) (sym there)
             (all_more (IsRead n (neighbour_count h) (V d n h y en eh ey ++ var ∷ [])) ts x kept.1 last))
@@ -246,7 +246,7 @@ module _ (name : Option (List ℕ)) (ts : List Numbered) (number : ℕ) (text : 
       ∙ ap (λ (o : Option Transition). transitions_written n (neighbour_count h) (V d n h y en eh ey) ts ++ cons_option o []) (transition_there d n h y en eh ey (V d n h y en eh ey) v ∙ read)
       ∙ ap (λ (ls : List Transition). ls ++ t ∷ []) (sym (lines_are d n h y en eh ey)) in
       let there : variables_written n (texts_of (ts ++ x ∷ [])) ≡ V d n h y en eh ey = variables_more n ts x ∙ ap (λ (vs : List Var). V d n h y en eh ey ++ vs) w ∙ append-nil (V d n h y en eh ey) in (
-        said_same name Open on' on oh' oh oy' oy _ _ _ _ (states_same d n h y en eh ey) (neighbors_same d n h y en eh ey) (symmetry_same d n h y en eh ey)
+        parsed_same name Open on' on oh' oh oy' oy _ _ _ _ (states_same d n h y en eh ey) (neighbors_same d n h y en eh ey) (symmetry_same d n h y en eh ey)
             (vars ∙ sym (vars_are d n h y en eh ey)) lines,
         stand_then d n h y en eh ey (subst (λ (vs : List Var). All (IsRead n (neighbour_count h) vs) (ts ++ x ∷ [])) (sym there)
             (all_more (IsRead n (neighbour_count h) (V d n h y en eh ey)) ts x (all_read d n h y en eh ey) (λ is. (t, read))))
@@ -254,9 +254,9 @@ module _ (name : Option (List ℕ)) (ts : List Numbered) (number : ℕ) (text : 
             (variables_same n (V d n h y en eh ey) ts x (stand.variables n en) (ap (λ (b : Bool). b && not (is_descriptor text)) v))),
       )
 
-  pub says_more : (told : Told) → Says (said_in name Open ts) number text told → SaysMore told
-  says_more told (states d k none n e is) = subst SaysMore (sym is) (says_states d k none n e)
-  says_more told (neighbors d s k none h e agree is) = subst SaysMore (sym is) (says_neighbors d s k none h e)
-  says_more told (orders d s m k none y e agree is) = subst SaysMore (sym is) (says_orders d s m k none y e)
-  says_more told (variable d n h y en eh ey v var e is) = subst SaysMore (sym is) (says_variable d n h y en eh ey v var e)
-  says_more told (transition d n h y en eh ey v t e bound quiet is) = subst SaysMore (sym is) (says_transition d n h y en eh ey v t e)
+  pub says_more : (directive : Directive) → Says (parsed_in name Open ts) number text directive → SaysMore directive
+  says_more directive (states d k none n e is) = subst SaysMore (sym is) (says_states d k none n e)
+  says_more directive (neighbors d s k none h e agree is) = subst SaysMore (sym is) (says_neighbors d s k none h e)
+  says_more directive (orders d s m k none y e agree is) = subst SaysMore (sym is) (says_orders d s m k none y e)
+  says_more directive (variable d n h y en eh ey v var e is) = subst SaysMore (sym is) (says_variable d n h y en eh ey v var e)
+  says_more directive (transition d n h y en eh ey v t e bound quiet is) = subst SaysMore (sym is) (says_transition d n h y en eh ey v t e)

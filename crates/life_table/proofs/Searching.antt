@@ -11,7 +11,7 @@ use Rattle.life_table.specs.Meaning.{HasState}
 use Rattle.life_table.specs.Found.{Consistent, Tells, Adds}
 use Rattle.life_table.specs.declared.found.Found.{Found}
 use Rattle.life_table.specs.declared.found.Found.TheVariants.{Nothing, Two}
-use Rattle.life_table.proofs.Adding.{tells_same, adds_more}
+use Rattle.life_table.proofs.Adding.{directives_same, adds_more}
 use Rattle.life_table.specs.Taking.{of_state, free_count, wanted, has_group, IsDistinct, first_variable, AreGroups, Completes, CompletesWith, AreFailed, Takes}
 use Rattle.life_table.proofs.Choices.{changed, changed_same, changed_choice}
 use Rattle.life_table.proofs.Free.{same_state, none_free, no_count, at_place}
@@ -197,7 +197,7 @@ module _ (vars : List Var) (groups : List Group) (states : List ℕ) (free n : �
   pub tell_more : (old new : Found) → Tells (IsFoundBy vars groups states free n) old → bit_at free n ≡ 1 → CompletesWith vars groups states free (slice_index states n) →
       Adds (λ t. t ≡ slice_index states n) old new → Tells (IsFoundBy vars groups states free (n + 1)) new
   tell_more old new h set here k =
-      tells_same (λ s. IsFoundBy vars groups states free n s ⊎ (s ≡ slice_index states n)) (IsFoundBy vars groups states free (n + 1))
+      directives_same (λ s. IsFoundBy vars groups states free n s ⊎ (s ≡ slice_index states n)) (IsFoundBy vars groups states free (n + 1))
       (λ s x. elim x [
         | inl f ↦ found_old s f
         | inr e ↦ record { completes = subst (CompletesWith vars groups states free) (sym e) here; place = n; below = omega arith; is_free = set; is = sym e }
@@ -211,7 +211,7 @@ module _ (vars : List Var) (groups : List Group) (states : List ℕ) (free n : �
   pub tell_skip : (found : Found) → Tells (IsFoundBy vars groups states free n) found → (bit_at free n ≡ 1 → (c : Completes vars groups states free) → slice_index states n ≡ c.choice (first_variable groups) → ⊥) →
       Tells (IsFoundBy vars groups states free (n + 1)) found
   tell_skip found h none =
-      tells_same (IsFoundBy vars groups states free n) (IsFoundBy vars groups states free (n + 1))
+      directives_same (IsFoundBy vars groups states free n) (IsFoundBy vars groups states free (n + 1))
       found_old
       (λ s f. elim (eqb_tells f.place n) [
         | inl same ↦ absurd (none (subst (λ k. bit_at free k ≡ 1) same.1 f.is_free) f.completes.completes (ap (slice_index states) (sym same.1) ∙ f.is ∙ sym f.completes.is))
@@ -229,7 +229,7 @@ module _ (vars : List Var) (groups : List Group) (states : List ℕ) (free n : �
 pub tell_all : (vars : List Var) (groups : List Group) (states : List ℕ) (free : ℕ) → 0 < length groups → AreGroups vars groups → (found : Found) → Tells (IsFoundBy vars groups states free (length states)) found →
     Tells (CompletesWith vars groups states free) found
 tell_all vars groups states free some are found h =
-    tells_same (IsFoundBy vars groups states free (length states)) (CompletesWith vars groups states free)
+    directives_same (IsFoundBy vars groups states free (length states)) (CompletesWith vars groups states free)
     (λ s f. f.completes)
     (λ s c. let p = at_some_place vars groups states free 0 no_group some are c.completes in record { completes = c; place = p.0; below = p.1; is_free = p.2; is = p.3 ∙ c.is })
     found h

@@ -5,12 +5,12 @@ use Rattle.std.specs.Prelude.{◌≡◌, ◌↔◌, ◌⊎◌, ◌≢◌, ℕ, �
 use Rattle.std.specs.List.{AllZip}
 use Rattle.life_base.specs.Text.{is_digit_text, value_of}
 use Rattle.life_table.specs.Valid.{neighbour_count, is_quiet}
-use Rattle.life_table.specs.Reader.{after, nothing_said}
+use Rattle.life_table.specs.Reader.{after, nothing_parsed}
 use Rattle.life_table.specs.Reading.{AreTable, Describes, agree, content, entry_of, is_bound, is_descriptor, is_list, is_passed_over, is_section_line, is_table_line, is_variable_line, is_variable_name, key_of, list_text, name_on, name_text, setting_of, states_listed, transition_words, variable_named, within_braces}
-use Rattle.life_table.specs.declared.said.Said.{Said}
-use Rattle.life_table.specs.declared.said.Section.TheVariants.{Ahead, Open, Behind}
-use Rattle.life_table.specs.declared.said.Told.{Told}
-use Rattle.life_table.specs.declared.said.Told.TheVariants.{Nothing, RuleName, TableOpens, TableEnds, States, Neighbors, Orders, Variable, Line}
+use Rattle.life_table.specs.declared.directive.Parsed.{Parsed}
+use Rattle.life_table.specs.declared.directive.Section.TheVariants.{Ahead, Open, Behind}
+use Rattle.life_table.specs.declared.directive.Directive.{Directive}
+use Rattle.life_table.specs.declared.directive.Directive.TheVariants.{Nothing, RuleName, TableOpens, TableEnds, States, Neighbors, Orders, Variable, Line}
 use Rattle.life_table.specs.declared.table.Neighborhood.{Neighborhood}
 use Rattle.life_table.specs.declared.table.Neighborhood.TheVariants.{VonNeumann, Moore}
 use Rattle.life_table.specs.declared.table.Symmetry.{Symmetry}
@@ -77,52 +77,52 @@ pub record IsTransitionLine (n_states neighbours : ℕ) (vars : List Var) (numbe
   pub bound : is_bound line.inputs line.output ≡ true
 
 -- all three settings were given
-pub record AreGiven (said : Said) (n_states : ℕ) (neighborhood : Neighborhood) (symmetry : Symmetry) : Type 0 where
-  pub states : said.n_states ≡ Some n_states
-  pub neighbours : said.neighborhood ≡ Some neighborhood
-  pub orders : said.symmetry ≡ Some symmetry
+pub record AreGiven (parsed : Parsed) (n_states : ℕ) (neighborhood : Neighborhood) (symmetry : Symmetry) : Type 0 where
+  pub states : parsed.n_states ≡ Some n_states
+  pub neighbours : parsed.neighborhood ≡ Some neighborhood
+  pub orders : parsed.symmetry ≡ Some symmetry
 
 -- What a line of the table says behind lines that said this. The settings come once each, in any order, before all else; a
 -- symmetry is listed for the neighbourhood; and no transition lets a cell of state 0 leave it among cells of state 0.
-pub data TextSays (said : Said) (number : ℕ) (text : List ℕ) (told : Told) : Type 0 where
-  states : (n : ℕ) → IsStates text n → said.n_states ≡ None → told ≡ States n → TextSays said number text told
-  neighborhood : (h : Neighborhood) → IsNeighborhood text h → said.neighborhood ≡ None → agree (Some h) said.symmetry ≡ true → told ≡ Neighbors h → TextSays said number text told
-  symmetry : (y : Symmetry) → IsDescriptor text (codes "symmetries") (symmetry_word y) → said.symmetry ≡ None → agree said.neighborhood (Some y) ≡ true → told ≡ Orders y
-      → TextSays said number text told
-  variable : (n : ℕ) (h : Neighborhood) (y : Symmetry) (var : Var) → AreGiven said n h y → IsVariableLine n said.vars text var → told ≡ Variable var → TextSays said number text told
-  transition : (n : ℕ) (h : Neighborhood) (y : Symmetry) (line : Transition) → AreGiven said n h y → IsTransitionLine n (neighbour_count h) said.vars number text line
-      → is_quiet said.vars (said.lines ++ line ∷ []) ≡ true → told ≡ Line line → TextSays said number text told
+pub data TextSays (parsed : Parsed) (number : ℕ) (text : List ℕ) (directive : Directive) : Type 0 where
+  states : (n : ℕ) → IsStates text n → parsed.n_states ≡ None → directive ≡ States n → TextSays parsed number text directive
+  neighborhood : (h : Neighborhood) → IsNeighborhood text h → parsed.neighborhood ≡ None → agree (Some h) parsed.symmetry ≡ true → directive ≡ Neighbors h → TextSays parsed number text directive
+  symmetry : (y : Symmetry) → IsDescriptor text (codes "symmetries") (symmetry_word y) → parsed.symmetry ≡ None → agree parsed.neighborhood (Some y) ≡ true → directive ≡ Orders y
+      → TextSays parsed number text directive
+  variable : (n : ℕ) (h : Neighborhood) (y : Symmetry) (var : Var) → AreGiven parsed n h y → IsVariableLine n parsed.vars text var → directive ≡ Variable var → TextSays parsed number text directive
+  transition : (n : ℕ) (h : Neighborhood) (y : Symmetry) (line : Transition) → AreGiven parsed n h y → IsTransitionLine n (neighbour_count h) parsed.vars number text line
+      → is_quiet parsed.vars (parsed.lines ++ line ∷ []) ≡ true → directive ≡ Line line → TextSays parsed number text directive
 
 -- ---- what a line of the file says behind lines that said this
 
-pub data LineSays (said : Said) (number : ℕ) (line : List ℕ) (told : Told) : Type 0 where
+pub data LineSays (parsed : Parsed) (number : ℕ) (line : List ℕ) (directive : Directive) : Type 0 where
   -- before the rule line: a blank line or a comment
-  passed : said.section ≡ Ahead → said.name ≡ None → is_passed_over line ≡ true → told ≡ Nothing → LineSays said number line told
-  rule_line : (name : List ℕ) → said.section ≡ Ahead → said.name ≡ None → is_passed_over line ≡ false → name_on line ≡ Some name → told ≡ RuleName name → LineSays said number line told
+  passed : parsed.section ≡ Ahead → parsed.name ≡ None → is_passed_over line ≡ true → directive ≡ Nothing → LineSays parsed number line directive
+  rule_line : (name : List ℕ) → parsed.section ≡ Ahead → parsed.name ≡ None → is_passed_over line ≡ false → name_on line ≡ Some name → directive ≡ RuleName name → LineSays parsed number line directive
   -- before the table: a line of another section
-  other : (name : List ℕ) → said.section ≡ Ahead → said.name ≡ Some name → is_table_line line ≡ false → told ≡ Nothing → LineSays said number line told
-  table_line : (name : List ℕ) → said.section ≡ Ahead → said.name ≡ Some name → is_table_line line ≡ true → told ≡ TableOpens → LineSays said number line told
+  other : (name : List ℕ) → parsed.section ≡ Ahead → parsed.name ≡ Some name → is_table_line line ≡ false → directive ≡ Nothing → LineSays parsed number line directive
+  table_line : (name : List ℕ) → parsed.section ≡ Ahead → parsed.name ≡ Some name → is_table_line line ≡ true → directive ≡ TableOpens → LineSays parsed number line directive
   -- in the table: a blank line or a comment, or one that says something
-  blank : said.section ≡ Open → is_section_line line ≡ false → content line ≡ [] → told ≡ Nothing → LineSays said number line told
-  says : said.section ≡ Open → is_section_line line ≡ false → content line ≢ [] → TextSays said number (content line) told → LineSays said number line told
+  blank : parsed.section ≡ Open → is_section_line line ≡ false → content line ≡ [] → directive ≡ Nothing → LineSays parsed number line directive
+  says : parsed.section ≡ Open → is_section_line line ≡ false → content line ≢ [] → TextSays parsed number (content line) directive → LineSays parsed number line directive
   -- the next section, and whatever comes behind its first line
-  section_line : (n : ℕ) (h : Neighborhood) (y : Symmetry) → said.section ≡ Open → is_section_line line ≡ true → AreGiven said n h y → told ≡ TableEnds → LineSays said number line told
-  behind : said.section ≡ Behind → told ≡ Nothing → LineSays said number line told
+  section_line : (n : ℕ) (h : Neighborhood) (y : Symmetry) → parsed.section ≡ Open → is_section_line line ≡ true → AreGiven parsed n h y → directive ≡ TableEnds → LineSays parsed number line directive
+  behind : parsed.section ≡ Behind → directive ≡ Nothing → LineSays parsed number line directive
 
 -- ---- a file
 
 -- Further lines, the first of which has this number, lead from what was said to this. A number above 2 ^ 64 - 1 is told as that.
-abbrev pub Lead : Said → ℕ → List (List ℕ) → Said → Type 0
-Lead said number [] end = said ≡ end
-Lead said number (line ∷ lines) end =
-    (told : Told) × (length line ≤ 2 ^ 20) × LineSays said number line told × Lead (after said told) (min (number + 1) (2 ^ 64 - 1)) lines end
+abbrev pub Lead : Parsed → ℕ → List (List ℕ) → Parsed → Type 0
+Lead parsed number [] end = parsed ≡ end
+Lead parsed number (line ∷ lines) end =
+    (directive : Directive) × (length line ≤ 2 ^ 20) × LineSays parsed number line directive × Lead (after parsed directive) (min (number + 1) (2 ^ 64 - 1)) lines end
 
 -- The lines are a file that writes this table: from nothing they lead to its parts, and a table line was among them.
 pub record IsFile (lines : List (List ℕ)) (table : Table) : Type 0 where
-  pub said : Said
-  pub leads : Lead nothing_said 1 lines said
-  pub came : said.section ≢ Ahead
-  pub describes : Describes said table
+  pub parsed : Parsed
+  pub leads : Lead nothing_parsed 1 lines parsed
+  pub came : parsed.section ≢ Ahead
+  pub describes : Describes parsed table
 
 -- Lines are such a file exactly if no line breaks a rule and nothing is lacking, and then they write the same table.
 abbrev pub GrammarsAgree : Type 0

@@ -3,10 +3,10 @@ use Rattle.std.specs.Prelude.{◌≡◌, ℕ, ◌+◌, ◌<◌, ◌≤◌, Bool,
 use Rattle.std.proofs.Common.{Bor}
 use Rattle.std.specs.List.{list_any, slice_split}
 use Rattle.life_table.specs.Valid.{fits_zero, is_quiet, is_listed, neighbour_count, IsVariable, IsTransition}
-use Rattle.life_table.specs.declared.said.Said.{Said}
-use Rattle.life_table.specs.declared.said.Section.TheVariants.{Ahead, Open, Behind}
-use Rattle.life_table.specs.declared.said.Told.{Told}
-use Rattle.life_table.specs.declared.said.Told.TheVariants.{Nothing, RuleName, TableOpens, TableEnds, States, Neighbors, Orders, Variable, Line}
+use Rattle.life_table.specs.declared.directive.Parsed.{Parsed}
+use Rattle.life_table.specs.declared.directive.Section.TheVariants.{Ahead, Open, Behind}
+use Rattle.life_table.specs.declared.directive.Directive.{Directive}
+use Rattle.life_table.specs.declared.directive.Directive.TheVariants.{Nothing, RuleName, TableOpens, TableEnds, States, Neighbors, Orders, Variable, Line}
 use Rattle.life_table.specs.declared.table.Neighborhood.{Neighborhood}
 use Rattle.life_table.specs.declared.table.Symmetry.{Symmetry}
 use Rattle.life_table.specs.declared.table.Var.{Var}
@@ -22,40 +22,40 @@ bytes_left None = 0
 bytes_left (Some text) = length text.now + 1
 
 -- what lines say together with one more
-abbrev pub after : Said → Told → Said
-after said Nothing = said
-after said (RuleName name) = record said { name = Some name }
-after said TableOpens = record said { section = Open }
-after said TableEnds = record said { section = Behind }
-after said (States n_states) = record said { n_states = Some n_states }
-after said (Neighbors neighborhood) = record said { neighborhood = Some neighborhood }
-after said (Orders symmetry) = record said { symmetry = Some symmetry }
-after said (Variable var) = record said { vars = said.vars ++ var ∷ [] }
-after said (Line line) = record said { lines = said.lines ++ line ∷ [] }
+abbrev pub after : Parsed → Directive → Parsed
+after parsed Nothing = parsed
+after parsed (RuleName name) = record parsed { name = Some name }
+after parsed TableOpens = record parsed { section = Open }
+after parsed TableEnds = record parsed { section = Behind }
+after parsed (States n_states) = record parsed { n_states = Some n_states }
+after parsed (Neighbors neighborhood) = record parsed { neighborhood = Some neighborhood }
+after parsed (Orders symmetry) = record parsed { symmetry = Some symmetry }
+after parsed (Variable var) = record parsed { vars = parsed.vars ++ var ∷ [] }
+after parsed (Line line) = record parsed { lines = parsed.lines ++ line ∷ [] }
 
 -- nothing was said
-abbrev pub nothing_said : Said
-nothing_said = record { name = None; section = Ahead; n_states = None; neighborhood = None; symmetry = None; vars = []; lines = [] }
+abbrev pub nothing_parsed : Parsed
+nothing_parsed = record { name = None; section = Ahead; n_states = None; neighborhood = None; symmetry = None; vars = []; lines = [] }
 
 -- whether a transition fits the all-zero neighbourhood, one more line counted
-abbrev pub fits_after : Bool → List Var → Told → Bool
+abbrev pub fits_after : Bool → List Var → Directive → Bool
 fits_after fits vars (Line line) = fits || fits_zero vars line
 fits_after fits vars _ = fits
 
 -- there are at most 256 states, the transitions so far are quiet, and it is known whether one fits the all-zero neighbourhood
-pub record IsKept (said : Said) (fit : Bool) : Type 0 where
-  pub most : IfSome said.n_states (λ n. n ≤ 256)
-  pub fits : fit ≡ list_any (fits_zero said.vars) said.lines
-  pub quiet : is_quiet said.vars said.lines ≡ true
+pub record IsKept (parsed : Parsed) (fit : Bool) : Type 0 where
+  pub most : IfSome parsed.n_states (λ n. n ≤ 256)
+  pub fits : fit ≡ list_any (fits_zero parsed.vars) parsed.lines
+  pub quiet : is_quiet parsed.vars parsed.lines ≡ true
 
 -- what is said so far are parts of a rule table
-pub record IsGood (said : Said) : Type 0 where
-  pub states : (n : ℕ) → said.n_states ≡ Some n → (2 ≤ n) × (n ≤ 256)
-  pub listed : (n : Neighborhood) (s : Symmetry) → said.neighborhood ≡ Some n → said.symmetry ≡ Some s → IsTrue (is_listed n s)
-  pub names : (i j : ℕ) (x y : Var) → i < j → slice_get said.vars i ≡ Some x → slice_get said.vars j ≡ Some y → x.name ≢ y.name
-  pub variables : (n : ℕ) → said.n_states ≡ Some n → All (IsVariable n) said.vars
-  pub no_variables : said.n_states ≡ None → said.vars ≡ []
-  pub no_transitions : said.n_states ≡ None → said.lines ≡ []
-  pub none_without : said.neighborhood ≡ None → said.lines ≡ []
-  pub transitions : (n : ℕ) (h : Neighborhood) → said.n_states ≡ Some n → said.neighborhood ≡ Some h → All (IsTransition n (neighbour_count h) said.vars) said.lines
-  pub quiet : is_quiet said.vars said.lines ≡ true
+pub record IsGood (parsed : Parsed) : Type 0 where
+  pub states : (n : ℕ) → parsed.n_states ≡ Some n → (2 ≤ n) × (n ≤ 256)
+  pub listed : (n : Neighborhood) (s : Symmetry) → parsed.neighborhood ≡ Some n → parsed.symmetry ≡ Some s → IsTrue (is_listed n s)
+  pub names : (i j : ℕ) (x y : Var) → i < j → slice_get parsed.vars i ≡ Some x → slice_get parsed.vars j ≡ Some y → x.name ≢ y.name
+  pub variables : (n : ℕ) → parsed.n_states ≡ Some n → All (IsVariable n) parsed.vars
+  pub no_variables : parsed.n_states ≡ None → parsed.vars ≡ []
+  pub no_transitions : parsed.n_states ≡ None → parsed.lines ≡ []
+  pub none_without : parsed.neighborhood ≡ None → parsed.lines ≡ []
+  pub transitions : (n : ℕ) (h : Neighborhood) → parsed.n_states ≡ Some n → parsed.neighborhood ≡ Some h → All (IsTransition n (neighbour_count h) parsed.vars) parsed.lines
+  pub quiet : is_quiet parsed.vars parsed.lines ≡ true

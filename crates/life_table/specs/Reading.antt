@@ -20,11 +20,11 @@ use Rattle.life_table.specs.declared.table.Entry.{Entry}
 use Rattle.life_table.specs.declared.table.Entry.TheVariants as entries
 use Rattle.life_table.specs.declared.table.Transition.{Transition}
 use Rattle.life_table.specs.declared.table.Table.{Table}
-use Rattle.life_table.specs.declared.said.Said.{Said}
-use Rattle.life_table.specs.declared.said.Section.{Section}
-use Rattle.life_table.specs.declared.said.Section.TheVariants.{Ahead, Open, Behind}
-use Rattle.life_table.specs.declared.said.Told.{Told}
-use Rattle.life_table.specs.declared.said.Told.TheVariants.{Nothing, RuleName, TableOpens, TableEnds, States, Neighbors, Orders, Variable, Line}
+use Rattle.life_table.specs.declared.directive.Parsed.{Parsed}
+use Rattle.life_table.specs.declared.directive.Section.{Section}
+use Rattle.life_table.specs.declared.directive.Section.TheVariants.{Ahead, Open, Behind}
+use Rattle.life_table.specs.declared.directive.Directive.{Directive}
+use Rattle.life_table.specs.declared.directive.Directive.TheVariants.{Nothing, RuleName, TableOpens, TableEnds, States, Neighbors, Orders, Variable, Line}
 
 -- 1. The parts of a file
 
@@ -326,8 +326,8 @@ is_bound inputs (entries.Var i) = list_any (is_variable i) inputs
 -- 6. What lines say
 
 -- what the table's texts say, behind this name and in this section
-abbrev pub said_in : Option (List ℕ) → Section → List Numbered → Said
-said_in name section texts =
+abbrev pub parsed_in : Option (List ℕ) → Section → List Numbered → Parsed
+parsed_in name section texts =
     let n_states = states_of (texts_of texts) in
     let neighborhood = neighborhood_of (texts_of texts) in
     let vars = variables_in n_states (texts_of texts) in
@@ -342,84 +342,84 @@ said_in name section texts =
     }
 
 -- what these lines say
-abbrev pub said_by : List Numbered → Said
-said_by lines = said_in (name_of lines) (section_of lines) (table_texts lines)
+abbrev pub parsed_by : List Numbered → Parsed
+parsed_by lines = parsed_in (name_of lines) (section_of lines) (table_texts lines)
 
 -- 7. What one more line says, or which rule it breaks
 
-abbrev pub if_named : Option (List ℕ) → Result Told Kind
+abbrev pub if_named : Option (List ℕ) → Result Directive Kind
 if_named None = Err NoRuleLine
 if_named (Some name) = Ok (RuleName name)
 
 -- before the table
-abbrev pub told_ahead : Option (List ℕ) → List ℕ → Result Told Kind
-told_ahead None line = if is_passed_over line then Ok Nothing else if_named (name_on line)
-told_ahead (Some name) line = if is_table_line line then Ok TableOpens else Ok Nothing
+abbrev pub parse_ahead : Option (List ℕ) → List ℕ → Result Directive Kind
+parse_ahead None line = if is_passed_over line then Ok Nothing else if_named (name_on line)
+parse_ahead (Some name) line = if is_table_line line then Ok TableOpens else Ok Nothing
 
-abbrev pub if_states : Option ℕ → Result Told Kind
+abbrev pub if_states : Option ℕ → Result Directive Kind
 if_states None = Err BadDescriptor
 if_states (Some n_states) = Ok (States n_states)
 
-abbrev pub if_neighborhood : Option Symmetry → Option Neighborhood → Result Told Kind
+abbrev pub if_neighborhood : Option Symmetry → Option Neighborhood → Result Directive Kind
 if_neighborhood symmetry None = Err UnsupportedNeighborhood
 if_neighborhood symmetry (Some neighborhood) = if agree (Some neighborhood) symmetry then Ok (Neighbors neighborhood) else Err UnsupportedSymmetry
 
-abbrev pub if_symmetry : Option Neighborhood → Option Symmetry → Result Told Kind
+abbrev pub if_symmetry : Option Neighborhood → Option Symmetry → Result Directive Kind
 if_symmetry neighborhood None = Err UnsupportedSymmetry
 if_symmetry neighborhood (Some symmetry) = if agree neighborhood (Some symmetry) then Ok (Orders symmetry) else Err UnsupportedSymmetry
 
 -- A descriptor: one of three, given for the first time, with one of its values. (Behind the first variable or transition all three
 -- were given.)
-unfoldable pub told_descriptor : Option ℕ → Option Neighborhood → Option Symmetry → List ℕ → Result Told Kind
-told_descriptor n_states neighborhood symmetry text =
+unfoldable pub parse_descriptor : Option ℕ → Option Neighborhood → Option Symmetry → List ℕ → Result Directive Kind
+parse_descriptor n_states neighborhood symmetry text =
     if is_states_key (key_of text) then (if is_some n_states then Err BadDescriptor else if_states (states_named (setting_of text)))
     else (if is_neighborhood_key (key_of text) then (if is_some neighborhood then Err BadDescriptor else if_neighborhood symmetry (neighborhood_named (setting_of text)))
     else (if is_symmetry_key (key_of text) then (if is_some symmetry then Err BadDescriptor else if_symmetry neighborhood (symmetry_named (setting_of text)))
     else Err BadDescriptor))
 
-abbrev pub if_variable : Option Var → Result Told Kind
+abbrev pub if_variable : Option Var → Result Directive Kind
 if_variable None = Err BadVariable
 if_variable (Some var) = Ok (Variable var)
 
-abbrev pub if_transition : List Var → List Transition → Option Transition → Result Told Kind
+abbrev pub if_transition : List Var → List Transition → Option Transition → Result Directive Kind
 if_transition vars earlier None = Err BadTransition
 if_transition vars earlier (Some line) =
     if not (is_bound line.inputs line.output) then Err UnboundOutput
     else (if is_quiet vars (earlier ++ line ∷ []) then Ok (Line line) else Err NotQuiet)
 
 -- a variable or a transition
-abbrev pub told_settled : ℕ → Neighborhood → List Var → List Transition → ℕ → List ℕ → Result Told Kind
-told_settled n_states neighborhood vars lines number text =
+abbrev pub parse_settled : ℕ → Neighborhood → List Var → List Transition → ℕ → List ℕ → Result Directive Kind
+parse_settled n_states neighborhood vars lines number text =
     if is_variable_line text then if_variable (variable_of n_states vars text)
     else if_transition vars lines (transition_of n_states (neighbour_count neighborhood) vars number text)
 
 -- they stand behind all three descriptors
-abbrev pub told_rest : Option ℕ → Option Neighborhood → Option Symmetry → List Var → List Transition → ℕ → List ℕ → Result Told Kind
-told_rest (Some n_states) (Some neighborhood) (Some symmetry) vars lines number text = told_settled n_states neighborhood vars lines number text
-told_rest _ _ _ vars lines number text = Err BadDescriptor
+abbrev pub parse_rest : Option ℕ → Option Neighborhood → Option Symmetry → List Var → List Transition → ℕ → List ℕ → Result Directive Kind
+parse_rest (Some n_states) (Some neighborhood) (Some symmetry) vars lines number text = parse_settled n_states neighborhood vars lines number text
+parse_rest _ _ _ vars lines number text = Err BadDescriptor
 
-abbrev pub is_described : Said → Bool
-is_described said = is_some said.n_states && is_some said.neighborhood && is_some said.symmetry
+abbrev pub is_described : Parsed → Bool
+is_described parsed = is_some parsed.n_states && is_some parsed.neighborhood && is_some parsed.symmetry
 
 -- in the table
-abbrev pub told_in_table : Said → ℕ → List ℕ → Result Told Kind
-told_in_table said number line =
-    if is_section_line line then (if is_described said then Ok TableEnds else Err BadDescriptor)
+abbrev pub parse_in_table : Parsed → ℕ → List ℕ → Result Directive Kind
+parse_in_table parsed number line =
+    if is_section_line line then (if is_described parsed then Ok TableEnds else Err BadDescriptor)
     else (if is_empty (content line) then Ok Nothing
-    else (if is_descriptor (content line) then told_descriptor said.n_states said.neighborhood said.symmetry (content line)
-    else told_rest said.n_states said.neighborhood said.symmetry said.vars said.lines number (content line)))
+    else (if is_descriptor (content line) then parse_descriptor parsed.n_states parsed.neighborhood parsed.symmetry (content line)
+    else parse_rest parsed.n_states parsed.neighborhood parsed.symmetry parsed.vars parsed.lines number (content line)))
 
-abbrev pub told_in : Section → Said → ℕ → List ℕ → Result Told Kind
-told_in Ahead said number line = told_ahead said.name line
-told_in Open said number line = told_in_table said number line
-told_in Behind said number line = Ok Nothing
+abbrev pub parse_in_section : Section → Parsed → ℕ → List ℕ → Result Directive Kind
+parse_in_section Ahead parsed number line = parse_ahead parsed.name line
+parse_in_section Open parsed number line = parse_in_table parsed number line
+parse_in_section Behind parsed number line = Ok Nothing
 
 -- what a line says behind lines that say this, or the first rule of the format that it breaks
-unfoldable pub told_by : Said → ℕ → List ℕ → Result Told Kind
-told_by said number line = if is_too_long line then Err LineTooLong else told_in said.section said number line
+unfoldable pub parse_line : Parsed → ℕ → List ℕ → Result Directive Kind
+parse_line parsed number line = if is_too_long line then Err LineTooLong else parse_in_section parsed.section parsed number line
 
-abbrev pub fault_in : Result Told Kind → Option Kind
-fault_in (Ok told) = None
+abbrev pub fault_in : Result Directive Kind → Option Kind
+fault_in (Ok directive) = None
 fault_in (Err kind) = Some kind
 
 -- 8. The whole file
@@ -430,7 +430,7 @@ number_behind before = min (length before + 1) (2 ^ 64 - 1)
 
 -- the first rule of the format that a line breaks behind these lines, if it breaks one
 unfoldable pub broken : List (List ℕ) → List ℕ → Option Kind
-broken before line = fault_in (told_by (said_by (numbered_from 1 before)) (number_behind before) line)
+broken before line = fault_in (parse_line (parsed_by (numbered_from 1 before)) (number_behind before) line)
 
 abbrev pub is_ahead : Section → Bool
 is_ahead Ahead = true
@@ -438,15 +438,15 @@ is_ahead Open = false
 is_ahead Behind = false
 
 -- what a file that says this lacks, if it lacks something
-abbrev pub lacking : Said → Option Kind
-lacking said =
-    if is_none said.name then Some NoRuleLine
-    else (if is_ahead said.section then Some NoTable
-    else (if is_described said then None else Some BadDescriptor))
+abbrev pub lacking : Parsed → Option Kind
+lacking parsed =
+    if is_none parsed.name then Some NoRuleLine
+    else (if is_ahead parsed.section then Some NoTable
+    else (if is_described parsed then None else Some BadDescriptor))
 
 -- what a file of these lines lacks, if it lacks something
 unfoldable pub missing : List (List ℕ) → Option Kind
-missing lines = lacking (said_by (numbered_from 1 lines))
+missing lines = lacking (parsed_by (numbered_from 1 lines))
 
 -- the kinds with which a rule table is refused
 abbrev pub is_table_kind : Kind → Bool
@@ -468,18 +468,18 @@ pub record IsTableFile (lines : List (List ℕ)) : Type 0 where
   pub whole : missing lines ≡ None
 
 -- what is said is this table
-pub record Describes (said : Said) (table : Table) : Type 0 where
-  pub name : said.name ≡ Some table.name
-  pub n_states : said.n_states ≡ Some table.n_states
-  pub neighborhood : said.neighborhood ≡ Some table.neighborhood
-  pub symmetry : said.symmetry ≡ Some table.symmetry
-  pub vars : said.vars ≡ table.vars
-  pub lines : said.lines ≡ table.lines
+pub record Describes (parsed : Parsed) (table : Table) : Type 0 where
+  pub name : parsed.name ≡ Some table.name
+  pub n_states : parsed.n_states ≡ Some table.n_states
+  pub neighborhood : parsed.neighborhood ≡ Some table.neighborhood
+  pub symmetry : parsed.symmetry ≡ Some table.symmetry
+  pub vars : parsed.vars ≡ table.vars
+  pub lines : parsed.lines ≡ table.lines
 
 -- The lines are a file that writes this table.
 pub record AreTable (file_lines : List (List ℕ)) (table : Table) : Type 0 where
   pub file : IsTableFile file_lines
-  pub says : Describes (said_by (numbered_from 1 file_lines)) table
+  pub says : Describes (parsed_by (numbered_from 1 file_lines)) table
 
 -- the bytes are a file that writes this table
 abbrev pub IsTable : List ℕ → Table → Type 0

@@ -1,9 +1,9 @@
 //! Descriptors: the number of states, the neighbourhood and the symmetry.
 
 ghost use Rattle.std.specs.Prelude.{◌≡◌};
-ghost use Rattle.life_table.specs.Reading.{states_named, neighborhood_named, symmetry_named, agree, if_states, if_neighborhood, if_symmetry, told_descriptor, is_neighborhood_key};
+ghost use Rattle.life_table.specs.Reading.{states_named, neighborhood_named, symmetry_named, agree, if_states, if_neighborhood, if_symmetry, parse_descriptor, is_neighborhood_key};
 
-use crate::said::{Said, Told};
+use crate::directive::{Directive, Parsed};
 use crate::table::{Neighborhood, Symmetry};
 use crate::words::{is_word, number_below, split_at_byte};
 use life_base::{Kind, trimmed};
@@ -66,23 +66,23 @@ fn agree(neighborhood: Option<Neighborhood>, symmetry: Option<Symmetry>) -> bool
 }
 
 /// What a number of states says, or which rule it breaks.
-fn told_states(word: &[u8]) -> Result<Told, Kind>
+fn parse_states(word: &[u8]) -> Result<Directive, Kind>
     ensures { result ≡ if_states (states_named word.now) }
 {
     match states_named(word) {
-        Some(number) => Ok(Told::States(number)),
+        Some(number) => Ok(Directive::States(number)),
         None => Err(Kind::BadDescriptor),
     }
 }
 
 /// The same of a neighbourhood behind this symmetry.
-fn told_neighborhood(symmetry: Option<Symmetry>, word: &[u8]) -> Result<Told, Kind>
+fn parse_neighborhood(symmetry: Option<Symmetry>, word: &[u8]) -> Result<Directive, Kind>
     ensures { result ≡ if_neighborhood symmetry (neighborhood_named word.now) }
 {
     match neighborhood_named(word) {
         Some(neighborhood) => {
             if agree(Some(neighborhood), symmetry) {
-                Ok(Told::Neighbors(neighborhood))
+                Ok(Directive::Neighbors(neighborhood))
             } else {
                 Err(Kind::UnsupportedSymmetry)
             }
@@ -92,13 +92,13 @@ fn told_neighborhood(symmetry: Option<Symmetry>, word: &[u8]) -> Result<Told, Ki
 }
 
 /// The same of a symmetry behind this neighbourhood.
-fn told_symmetry(neighborhood: Option<Neighborhood>, word: &[u8]) -> Result<Told, Kind>
+fn parse_symmetry(neighborhood: Option<Neighborhood>, word: &[u8]) -> Result<Directive, Kind>
     ensures { result ≡ if_symmetry neighborhood (symmetry_named word.now) }
 {
     match symmetry_named(word) {
         Some(symmetry) => {
             if agree(neighborhood, Some(symmetry)) {
-                Ok(Told::Orders(symmetry))
+                Ok(Directive::Orders(symmetry))
             } else {
                 Err(Kind::UnsupportedSymmetry)
             }
@@ -115,31 +115,31 @@ fn is_neighborhood_key(key: &[u8]) -> bool
 }
 
 /// What a descriptor says, or which rule it breaks.
-#[tactic(auto, unfolding(crate::specs::Reading::told_descriptor))]
-pub(crate) fn told_descriptor(said: &Said, text: &[u8]) -> Result<Told, Kind>
-    ensures { result ≡ told_descriptor said.now.n_states said.now.neighborhood said.now.symmetry text.now }
+#[tactic(auto, unfolding(crate::specs::Reading::parse_descriptor))]
+pub(crate) fn parse_descriptor(parsed: &Parsed, text: &[u8]) -> Result<Directive, Kind>
+    ensures { result ≡ parse_descriptor parsed.now.n_states parsed.now.neighborhood parsed.now.symmetry text.now }
 {
     let (key, setting) = split_at_byte(text, b':');
     let (key, word) = (trimmed(key), trimmed(setting));
     if is_word(key, b"n_states") {
-        return if said.n_states.is_some() {
+        return if parsed.n_states.is_some() {
             Err(Kind::BadDescriptor)
         } else {
-            told_states(word)
+            parse_states(word)
         };
     }
     if is_neighborhood_key(key) {
-        return if said.neighborhood.is_some() {
+        return if parsed.neighborhood.is_some() {
             Err(Kind::BadDescriptor)
         } else {
-            told_neighborhood(said.symmetry, word)
+            parse_neighborhood(parsed.symmetry, word)
         };
     }
     if is_word(key, b"symmetries") {
-        return if said.symmetry.is_some() {
+        return if parsed.symmetry.is_some() {
             Err(Kind::BadDescriptor)
         } else {
-            told_symmetry(said.neighborhood, word)
+            parse_symmetry(parsed.neighborhood, word)
         };
     }
     Err(Kind::BadDescriptor)

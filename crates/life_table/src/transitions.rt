@@ -7,8 +7,8 @@ ghost use Rattle.life_table.specs.Reading.{transition_of, is_bound, if_transitio
 ghost use Rattle.life_table.specs.Valid.{neighbour_count, is_variable, allows_zero, fits_zero, is_quiet_output, is_quiet};
 
 use crate::by_name::Variables;
+use crate::directive::Directive;
 use crate::entries::entries_of;
-use crate::said::Told;
 use crate::table::{Entry, Neighborhood, Transition};
 use life_base::{Items, Kind};
 use std::alloc::Global;
@@ -120,7 +120,11 @@ fn stays_quiet(vars: &Variables, fits: bool, line: &Transition) -> bool
 
 /// What a transition says behind others, or which rule it breaks. `fits` tells whether one of those fits the neighbourhood in which
 /// each cell is 0.
-pub(crate) fn told_transition(vars: &Variables, fits: bool, line: Transition) -> Result<Told, Kind>
+pub(crate) fn parse_transition(
+    vars: &Variables,
+    fits: bool,
+    line: Transition,
+) -> Result<Directive, Kind>
     ensures { (earlier : List Transition) → fits ≡ list_any (fits_zero vars.now) earlier → is_quiet vars.now earlier ≡ true
         → result ≡ if_transition vars.now earlier (Some line) }
 {
@@ -128,7 +132,7 @@ pub(crate) fn told_transition(vars: &Variables, fits: bool, line: Transition) ->
         return Err(Kind::UnboundOutput);
     }
     if stays_quiet(vars, fits, &line) {
-        return Ok(Told::Line(line));
+        return Ok(Directive::Line(line));
     }
     Err(Kind::NotQuiet)
 }

@@ -9,7 +9,7 @@ use Rattle.life_table.specs.declared.table.Entry.TheVariants as entries
 use Rattle.life_table.proofs.Adding.{adds_none}
 use Rattle.life_table.proofs.Deciding.{shape_of, rest_entries}
 use Rattle.life_table.proofs.Fitting.{no_turns_yet, image_more}
-use Rattle.life_table.proofs.Pairing.{turn_told}
+use Rattle.life_table.proofs.Pairing.{turn_directive}
 use Rattle.life_table.proofs.Turning.{first_turns, turned_by, turns_more, turn_below, all_turns}
 use Rattle.life_table.proofs.fit.with_turns.Goals as goal
 use Rattle.life_table.proofs.fit.with_turns.Goals.{then-fits-r-eq1, else-fits-r-eq1}
@@ -46,7 +46,7 @@ loop-k-preserved c =
           (more c.loop-k.found (adds_none (GivesAs vars line turned)
           (λ s g. w.if-fits-r-eq1.false (shr_and_one c.turns_that_may_fit-fits.result (k * step)
           ∙ c.turns_that_may_fit-fits.ensures (k * step) (omega (arith, inside, c.requires.room))
-          (turn_told vars g.choice g.is_choice first rest (slice_index cells 0) others c.args.seen.now c.args.reflect (k * step)
+          (turn_directive vars g.choice g.is_choice first rest (slice_index cells 0) others c.args.seen.now c.args.reflect (k * step)
           (rest_entries (IsEntry 256 vars) line.inputs first rest shape c.requires.entries) same (omega (arith, size, c.requires.room)) (omega (arith, size, inside)) c.requires.seen
           (sym (ap (map (state_of g.choice)) shape) ∙ g.inputs))))
           c.loop-k.found))

@@ -6,11 +6,11 @@ use Rattle.life_base.specs.Text.{lines_of, numbered_from}
 use Rattle.life_base.specs.Refusal.{OrMemory}
 use Rattle.life_base.specs.declared.fault.Fault.{Fault}
 use Rattle.life_table.specs.Grammar.{IsFile}
-use Rattle.life_table.specs.Reading.{Numbered, Refuses, Describes, is_table_kind, lacking, told_by}
-use Rattle.life_table.specs.Reader.{nothing_said}
-use Rattle.life_table.specs.declared.said.Said.{Said}
+use Rattle.life_table.specs.Reading.{Numbered, Refuses, Describes, is_table_kind, lacking, parse_line}
+use Rattle.life_table.specs.Reader.{nothing_parsed}
+use Rattle.life_table.specs.declared.directive.Parsed.{Parsed}
 use Rattle.life_table.proofs.Grammars.{grammars_agree}
-use Rattle.life_table.proofs.LineKinds.{told_kind, lacking_kind}
+use Rattle.life_table.proofs.LineKinds.{directive_kind, lacking_kind}
 use Rattle.life_table.proofs.ReadLines.{Reads, reads_none, reads_more, next_number, refused_at, read_whole, refused_at_end, good_reads}
 use Rattle.life_table.proofs.reading.read_table.Invariants.{numbered}
 use Rattle.life_table.proofs.reading.read_table.Goals as goal
@@ -18,32 +18,32 @@ use Rattle.life_table.proofs.reading.read_table.Goals as goal
 pub loop-number-init : goal.loop-number-init
 loop-number-init c = record {
   all = search rules;
-  reads = subst (λ (s : Said). Reads [] s c.new-reader.result.fits) (sym c.new-reader.ensures.said)
-      (subst (λ (b : Bool). Reads [] nothing_said b) (sym c.new-reader.ensures.fits) reads_none);
+  reads = subst (λ (s : Parsed). Reads [] s c.new-reader.result.fits) (sym c.new-reader.ensures.parsed)
+      (subst (λ (b : Bool). Reads [] nothing_parsed b) (sym c.new-reader.ensures.fits) reads_none);
   next = refl;
 }
 
-pub returns-in_err-take-clause-err : goal.returns-in_err-take-clause-err
-returns-in_err-take-clause-err c =
+pub returns-in_err-line-clause-err : goal.returns-in_err-line-clause-err
+returns-in_err-line-clause-err c =
     let p = err_from_is_err_and c.from_residual.result c.from_residual.ensures.1 in
     let pairs : List Numbered = map numbered c.loop-number.yielded in
-    let fault : Fault = c.in_err-take.field-0.0 in
-    let told : OrMemory fault ((told_by c.loop-number.reader.said c.in-Some.number c.in-Some.line.now ≡ Err fault.kind) × (fault.place.line ≡ c.in-Some.number)) = c.in_err-take.ensures.err in
+    let fault : Fault = c.in_err-line.field-0.0 in
+    let directive : OrMemory fault ((parse_line c.loop-number.reader.parsed c.in-Some.number c.in-Some.line.now ≡ Err fault.kind) × (fault.place.line ≡ c.in-Some.number)) = c.in_err-line.ensures.err in
     let all : pairs ++ (c.in-Some.number, c.in-Some.line.now) ∷ numbered_from c.next.new.self.number (lines_of c.next.new.self.rest.now) ≡ numbered_from 1 (lines_of c.args.bytes.now) =
     ap (λ (t : List Numbered). pairs ++ t) (sym c.in-Some.ensures.steps) ∙ c.loop-number.invariant.all in
-    let answer : OrMemory fault (Refuses (lines_of c.args.bytes.now) fault) = elim told [
+    let answer : OrMemory fault (Refuses (lines_of c.args.bytes.now) fault) = elim directive [
       | inl m ↦ inl m
-      | inr w ↦ inr (refused_at (lines_of c.args.bytes.now) pairs c.in-Some.number c.in-Some.line.now _ all c.loop-number.reader.said c.loop-number.reader.fits c.loop-number.invariant.reads fault w.0 w.1)
+      | inr w ↦ inr (refused_at (lines_of c.args.bytes.now) pairs c.in-Some.number c.in-Some.line.now _ all c.loop-number.reader.parsed c.loop-number.reader.fits c.loop-number.invariant.reads fault w.0 w.1)
     ] in
     rw (p.1, p.2) answer
 
-pub returns-in_err-take-clause-kinds : goal.returns-in_err-take-clause-kinds
-returns-in_err-take-clause-kinds c =
+pub returns-in_err-line-clause-kinds : goal.returns-in_err-line-clause-kinds
+returns-in_err-line-clause-kinds c =
     let p = err_from_is_err_and c.from_residual.result c.from_residual.ensures.1 in
-    let fault : Fault = c.in_err-take.field-0.0 in
-    let said : Said = c.loop-number.reader.said in
-    let told : OrMemory fault ((told_by said c.in-Some.number c.in-Some.line.now ≡ Err fault.kind) × (fault.place.line ≡ c.in-Some.number)) = c.in_err-take.ensures.err in
-    let answer : OrMemory fault (is_table_kind fault.kind ≡ true) = elim told [ inl m ↦ inl m | inr w ↦ inr (told_kind said c.in-Some.number c.in-Some.line.now fault.kind w.0) ] in
+    let fault : Fault = c.in_err-line.field-0.0 in
+    let parsed : Parsed = c.loop-number.reader.parsed in
+    let directive : OrMemory fault ((parse_line parsed c.in-Some.number c.in-Some.line.now ≡ Err fault.kind) × (fault.place.line ≡ c.in-Some.number)) = c.in_err-line.ensures.err in
+    let answer : OrMemory fault (is_table_kind fault.kind ≡ true) = elim directive [ inl m ↦ inl m | inr w ↦ inr (directive_kind parsed c.in-Some.number c.in-Some.line.now fault.kind w.0) ] in
     rw (p.1, p.2) answer
 
 pub loop-number-preserved : goal.loop-number-preserved
@@ -56,35 +56,35 @@ loop-number-preserved c =
     let all : pairs ++ (number, line) ∷ rest ≡ numbered_from 1 lines = ap (λ (t : List Numbered). pairs ++ t) (sym c.in-Some.ensures.steps) ∙ c.loop-number.invariant.all in
     let more : map numbered (c.loop-number.yielded ++ (c.in-Some.number, c.in-Some.line) ∷ []) ≡ pairs ++ (number, line) ∷ [] =
     map-append numbered c.loop-number.yielded ((c.in-Some.number, c.in-Some.line) ∷ []) in
-    let ok = c.in_ok-take.ensures.ok in
+    let ok = c.in_ok-line.ensures.ok in
     record {
       all = ap (λ (t : List Numbered). t ++ rest) more ∙ append_assoc pairs ((number, line) ∷ []) rest ∙ all;
-      reads = subst (λ (ps : List Numbered). Reads ps c.take.new.self.said c.take.new.self.fits) (sym more)
-          (reads_more lines pairs number line rest all c.loop-number.reader.said c.loop-number.reader.fits c.loop-number.invariant.reads ok.0 c.take.new.self.said c.take.new.self.fits ok.1 ok.2 ok.3);
-      next = next_number lines pairs number line rest all c.loop-number.reader.said c.loop-number.reader.fits c.loop-number.invariant.reads c.saturating_add-next.result c.saturating_add-next.ensures
+      reads = subst (λ (ps : List Numbered). Reads ps c.line.new.self.parsed c.line.new.self.fits) (sym more)
+          (reads_more lines pairs number line rest all c.loop-number.reader.parsed c.loop-number.reader.fits c.loop-number.invariant.reads ok.0 c.line.new.self.parsed c.line.new.self.fits ok.1 ok.2 ok.3);
+      next = next_number lines pairs number line rest all c.loop-number.reader.parsed c.loop-number.reader.fits c.loop-number.invariant.reads c.saturating_add-next.result c.saturating_add-next.ensures
           ∙ ap (λ (ps : List Numbered). min (length ps + 1) (2 ^ 64 - 1)) (sym more);
     }
 
 pub returns-clause-ok : goal.returns-clause-ok
 returns-clause-ok c =
     let lines : List (List ℕ) = lines_of c.args.bytes.now in
-    IfOk-weaker c.table_of.result (λ table. (lacking c.loop-number.reader.said ≡ None) × Describes c.loop-number.reader.said table) (IsFile lines)
+    IfOk-weaker c.table_of.result (λ table. (lacking c.loop-number.reader.parsed ≡ None) × Describes c.loop-number.reader.parsed table) (IsFile lines)
     (λ table h. (grammars_agree lines table).1 (read_whole lines (map numbered c.loop-number.yielded) _ c.loop-number.invariant.all c.in-None.ensures.steps.0
-    c.loop-number.reader.said c.loop-number.reader.fits c.loop-number.invariant.reads table h.0 h.1))
+    c.loop-number.reader.parsed c.loop-number.reader.fits c.loop-number.invariant.reads table h.0 h.1))
     c.table_of.ensures.ok
 
 pub returns-clause-err : goal.returns-clause-err
 returns-clause-err c =
-    MatchResult-weaker c.table_of.result {Q = λ fault. OrMemory fault ((lacking c.loop-number.reader.said ≡ Some fault.kind) × (fault.place.line ≡ c.loop-number.next))} c.table_of.ensures.err (λ table h. h) (λ fault h. elim h [
+    MatchResult-weaker c.table_of.result {Q = λ fault. OrMemory fault ((lacking c.loop-number.reader.parsed ≡ Some fault.kind) × (fault.place.line ≡ c.loop-number.next))} c.table_of.ensures.err (λ table h. h) (λ fault h. elim h [
       | inl m ↦ inl m
       | inr w ↦ inr (refused_at_end (lines_of c.args.bytes.now) (map numbered c.loop-number.yielded) _ c.loop-number.invariant.all c.in-None.ensures.steps.0
-          c.loop-number.reader.said c.loop-number.reader.fits c.loop-number.invariant.reads fault c.loop-number.next w.0 w.1 c.loop-number.invariant.next)
+          c.loop-number.reader.parsed c.loop-number.reader.fits c.loop-number.invariant.reads fault c.loop-number.next w.0 w.1 c.loop-number.invariant.next)
     ])
 
 pub returns-clause-kinds : goal.returns-clause-kinds
 returns-clause-kinds c =
-    MatchResult-weaker c.table_of.result {Q = λ fault. OrMemory fault ((lacking c.loop-number.reader.said ≡ Some fault.kind) × (fault.place.line ≡ c.loop-number.next))} c.table_of.ensures.err (λ table h. h)
-    (λ fault h. elim h [ inl m ↦ inl m | inr w ↦ inr (lacking_kind c.loop-number.reader.said fault.kind w.0) ])
+    MatchResult-weaker c.table_of.result {Q = λ fault. OrMemory fault ((lacking c.loop-number.reader.parsed ≡ Some fault.kind) × (fault.place.line ≡ c.loop-number.next))} c.table_of.ensures.err (λ table h. h)
+    (λ fault h. elim h [ inl m ↦ inl m | inr w ↦ inr (lacking_kind c.loop-number.reader.parsed fault.kind w.0) ])
 
 pub table_of-requires : goal.table_of-requires
-table_of-requires c = record { good = good_reads (map numbered c.loop-number.yielded) c.loop-number.reader.said c.loop-number.reader.fits c.loop-number.invariant.reads }
+table_of-requires c = record { good = good_reads (map numbered c.loop-number.yielded) c.loop-number.reader.parsed c.loop-number.reader.fits c.loop-number.invariant.reads }

@@ -10,8 +10,8 @@ invariant_of-result c =
     let h = c.in-Some-Some-Some.neighborhood in
     let y = c.in-Some-Some-Some.symmetry in
     record {
-      sound = subst (λ (vars : List Var). IsSound n h y vars c.args.said.lines) (sym c.in_ok-vars-in-Some-Some-Some.ensures.ok)
-          (sound_of c.args.said c.requires.good n h y c.in-Some-Some-Some.is-0 c.in-Some-Some-Some.is-1 c.in-Some-Some-Some.is-2);
+      sound = subst (λ (vars : List Var). IsSound n h y vars c.args.parsed.lines) (sym c.in_ok-vars-in-Some-Some-Some.ensures.ok)
+          (sound_of c.args.parsed c.requires.good n h y c.in-Some-Some-Some.is-0 c.in-Some-Some-Some.is-1 c.in-Some-Some-Some.is-2);
     }
 
 pub returns-then-eq-clause-err : goal.returns-then-eq-clause-err

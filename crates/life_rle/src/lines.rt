@@ -1,0 +1,299 @@
+//! An RLE file that comes line by line.
+
+ghost use Rattle.std.specs.Prelude.{◌≡◌, ◌⊎◌, List, [], ℕ, Err, Ok, false, true, IfOk, IfErr, OnErr, IsErrOf, IsOkAnd};
+ghost use Rattle.life_rle.specs.Cursor.{IsNear};
+ghost use Rattle.life_rle.specs.File.{IsFrontOf};
+ghost use Rattle.life_rle.specs.Grammar.{opening_of, later_of, Breaks};
+ghost use Rattle.life_rle.specs.Reading.{ItemsBreak};
+ghost use Rattle.life_rle.specs.Standing.{is_refused, is_over, Advances, TakesLine, IsPlaced, StandsAt};
+ghost use Rattle.life_rle.specs.declared.line.Later.TheVariants.{Data};
+ghost use Rattle.life_rle.specs.declared.position.Position.{Position};
+
+use crate::cursor::Cursor;
+use crate::file::Run;
+use crate::line::{Later, Opening, later_of, opening_of};
+use crate::line_items::read_items;
+use crate::position::Position;
+use life_base::{Kind, LineLog, MAX_LEVEL, Rule};
+use std::alloc::Global;
+use std::marker::Model;
+use std::mem;
+
+/// Where the lines so far have come to.
+#[derive(Drop)]
+pub enum Phase {
+    /// No header yet.
+    Before(Position),
+    /// Behind the header.
+    Items(Rule, Position),
+    /// Behind the mark.
+    Over(Rule, Position),
+    /// A line was refused.
+    Refused,
+}
+
+/// Where a line has brought the reader.
+#[derive(Drop)]
+struct Advance {
+    phase: Phase,
+    cursor: Cursor,
+}
+
+/// A line before the header.
+fn before_header(
+    alloc: Global,
+    position: Position,
+    cursor: Cursor,
+    line: &[u8],
+) -> Result<Advance, Kind>
+    ensures advance { IfOk result (λ next. Advances MAX_LEVEL (Phase.Before position) cursor line.now next.phase next.cursor []) }
+    ensures going { IfOk result (λ next. is_refused next.phase ≡ false) }
+    ensures fault { IfErr result (λ kind. (kind ≡ Kind.Memory) ⊎ (opening_of MAX_LEVEL line.now ≡ Err kind)) }
+{
+    match opening_of(alloc, line)? {
+        Opening::Comment => Ok(Advance {
+            phase: Phase::Before(position),
+            cursor,
+        }),
+        Opening::PositionLine(found) => Ok(Advance {
+            phase: Phase::Before(found),
+            cursor: Cursor {
+                left: found.x,
+                x: found.x,
+                y: found.y,
+            },
+        }),
+        Opening::Header(rule) => Ok(Advance {
+            phase: Phase::Items(rule, position),
+            cursor,
+        }),
+    }
+}
+
+/// A line of data: its items, and whether `!` ends them.
+fn behind_items(
+    rule: Rule,
+    position: Position,
+    cursor: Cursor,
+    line: &[u8],
+    runs: &mut Vec<Run>,
+) -> Result<Advance, Kind>
+    requires near { IsNear MAX_LEVEL cursor }
+    requires data { later_of line.now ≡ Ok Data }
+    ensures advance { IfOk result (λ next. TakesLine MAX_LEVEL (Phase.Items rule position) cursor line.now next.phase next.cursor runs.old.items runs.new.items) }
+    ensures going { IfOk result (λ next. is_refused next.phase ≡ false) }
+    ensures fault { IfErr result (λ kind. (kind ≡ Kind.Memory) ⊎ ItemsBreak MAX_LEVEL rule cursor line.now kind) }
+    ensures kept { OnErr result (IsFrontOf runs.old.items runs.new.items) }
+{
+    let read = read_items(&rule, cursor, line, runs)?;
+    let phase = if read.marked {
+        Phase::Over(rule, position)
+    } else {
+        Phase::Items(rule, position)
+    };
+    Ok(Advance {
+        phase,
+        cursor: read.cursor,
+    })
+}
+
+/// A line behind the header.
+fn behind_header(
+    rule: Rule,
+    position: Position,
+    cursor: Cursor,
+    line: &[u8],
+    runs: &mut Vec<Run>,
+) -> Result<Advance, Kind>
+    requires { IsNear MAX_LEVEL cursor }
+    ensures advance { IfOk result (λ next. TakesLine MAX_LEVEL (Phase.Items rule position) cursor line.now next.phase next.cursor runs.old.items runs.new.items) }
+    ensures going { IfOk result (λ next. is_refused next.phase ≡ false) }
+    ensures fault { IfErr result (λ kind. (kind ≡ Kind.Memory) ⊎ (later_of line.now ≡ Err kind) ⊎ ((later_of line.now ≡ Ok Data) × ItemsBreak MAX_LEVEL rule cursor line.now kind)) }
+    ensures kept { OnErr result (IsFrontOf runs.old.items runs.new.items) }
+{
+    match later_of(line)? {
+        Later::Passed => Ok(Advance {
+            phase: Phase::Items(rule, position),
+            cursor,
+        }),
+        Later::Data => behind_items(rule, position, cursor, line, runs),
+    }
+}
+
+/// A line at any place; its runs go behind the runs.
+fn after_line(
+    alloc: Global,
+    phase: Phase,
+    cursor: Cursor,
+    line: &[u8],
+    runs: &mut Vec<Run>,
+) -> Result<Advance, Kind>
+    requires { IsPlaced MAX_LEVEL phase cursor }
+    ensures advance { IfOk result (λ next. TakesLine MAX_LEVEL phase cursor line.now next.phase next.cursor runs.old.items runs.new.items) }
+    ensures going { IfOk result (λ next. is_refused next.phase ≡ false) }
+    ensures fault { IfErr result (λ kind. (kind ≡ Kind.Memory) ⊎ ((kind ≡ Kind.Spent) × (is_refused phase ≡ true))
+        ⊎ ((lines : List (List ℕ)) → StandsAt MAX_LEVEL phase cursor lines → Breaks MAX_LEVEL lines line.now kind)) }
+    ensures kept { OnErr result (IsFrontOf runs.old.items runs.new.items) }
+    ensures unspent { IfOk result (λ _. is_refused phase ≡ false) }
+    ensures spent { is_refused phase ≡ true → IsErrOf result Kind.Spent }
+    ensures free { is_over phase ≡ true → IsOkAnd result (λ _. runs.new.items ≡ runs.old.items) }
+{
+    match phase {
+        Phase::Before(position) => before_header(alloc, position, cursor, line),
+        Phase::Items(rule, position) => behind_header(rule, position, cursor, line, runs),
+        Phase::Over(rule, position) => Ok(Advance {
+            phase: Phase::Over(rule, position),
+            cursor,
+        }),
+        Phase::Refused => Err(Kind::Spent),
+    }
+}
+
+/// Takes the lines of a file in extended RLE one after another. It keeps the rule, the position and a place, and no text.
+#[derive(Drop)]
+pub struct RleLines {
+    alloc: Global,
+    phase: Phase,
+    cursor: Cursor,
+    log: LineLog,
+}
+
+impl Model for RleLines {
+    ghost use Rattle.life_base.specs.declared.cell.TheConstants.{MAX_LEVEL};
+    ghost use Rattle.life_base.specs.Lines.{LinesRead};
+    ghost use Rattle.life_rle.specs.Standing.{is_refused, StandsAt};
+
+    ghost Value = { LinesRead };
+
+    ghost view = { λ r. record { lines = r.log.lines; refused = is_refused r.phase } };
+
+    ghost invariant = { λ r. StandsAt MAX_LEVEL r.phase r.cursor r.log.lines };
+}
+
+impl RleLines {
+    ghost use Rattle.std.specs.Prelude.{◌++◌, ◌∷◌, ◌↔◌, IsTrue, IsOk, OnOk, OnErr};
+    ghost use Rattle.life_base.specs.Refusal.{Prefix};
+    ghost use Rattle.life_rle.specs.Pattern.{Rle};
+    ghost use Rattle.life_rle.specs.Position.{default_position};
+    ghost use Rattle.life_rle.specs.Grammar.{IsSomeRle, IsRle, IsMarked, IsPreamble};
+    ghost use Rattle.life_base.specs.Lines.{LinesRead};
+    ghost use Rattle.life_rle.specs.File.{HasRuns, AddsRuns};
+
+    /// A reader that no line came to. It takes no memory.
+    pub fn new(alloc: Global) -> RleLines
+        ensures { result ≡ record { lines = []; refused = false } }
+    {
+        RleLines {
+            alloc,
+            phase: Phase::Before(Position {
+                x: 0,
+                y: 0,
+                generation: 0,
+            }),
+            cursor: Cursor {
+                left: 0,
+                x: 0,
+                y: 0,
+            },
+            log: LineLog::new(),
+        }
+    }
+
+    /// Takes the next line, without its line feed, and answers its runs of nonzero state. Behind the line that holds `!` each line is
+    /// accepted, of any length.
+    ///
+    /// # Errors
+    ///
+    /// The kind of the first rule that the line breaks, or `Memory`. After an error each later call answers `Spent`.
+    pub fn line(&mut self, line: &[u8]) -> Result<Vec<Run>, Kind>
+        ensures lines { OnOk result (self.new ≡ record { lines = self.old.lines ++ line.now ∷ []; refused = false }) }
+
+        // The lines so far are the front of a file, and the answers are its runs.
+        ensures front { OnOk result (Prefix (IsSomeRle MAX_LEVEL) self.new.lines) }
+        ensures runs { IfOk result (λ runs. (before : List Run) → HasRuns MAX_LEVEL self.old.lines before → HasRuns MAX_LEVEL self.new.lines (before ++ runs.items)) }
+
+        // A refused line is the first that breaks a rule, and every later call answers Spent.
+        ensures fault { IfErr result (λ kind. (kind ≡ Kind.Memory) ⊎ (kind ≡ Kind.Spent) ⊎ Breaks MAX_LEVEL self.old.lines line.now kind) }
+        ensures spent { IsErrOf result Kind.Spent ↔ (self.old.refused ≡ true) }
+        ensures refused { OnErr result (self.new ≡ record { lines = self.old.lines; refused = true }) }
+
+        // Behind the mark nothing is refused, not even for want of memory.
+        ensures free { self.old.refused ≡ false → ((file : Rle) × IsMarked MAX_LEVEL self.old.lines file)
+            → IsOkAnd result (λ runs. runs.items ≡ []) }
+    {
+        let mut runs = Vec::new(self.alloc);
+        self.line_into(line, &mut runs)?;
+        Ok(runs)
+    }
+
+    /// Takes the next line, without its line feed, and puts its runs of nonzero state behind the runs that are lent. Behind the line that
+    /// holds `!` each line is accepted, of any length. Lines whose runs are lent the same vector take memory only where it grows.
+    ///
+    /// # Errors
+    ///
+    /// The kind of the first rule that the line breaks, or `Memory`. After an error each later call answers `Spent`. The runs that were
+    /// lent stay in front then; behind them there may be runs of items that the line spells before its fault.
+    pub fn line_into(&mut self, line: &[u8], runs: &mut Vec<Run>) -> Result<(), Kind>
+        ensures lines { OnOk result (self.new ≡ record { lines = self.old.lines ++ line.now ∷ []; refused = false }) }
+
+        // The lines so far are the front of a file, and what is put behind the runs is its runs.
+        ensures front { OnOk result (Prefix (IsSomeRle MAX_LEVEL) self.new.lines) }
+        ensures runs { OnOk result (AddsRuns MAX_LEVEL self.old.lines self.new.lines runs.old.items runs.new.items) }
+
+        // A refused line is the first that breaks a rule, and every later call answers Spent.
+        ensures fault { IfErr result (λ kind. (kind ≡ Kind.Memory) ⊎ (kind ≡ Kind.Spent) ⊎ Breaks MAX_LEVEL self.old.lines line.now kind) }
+        ensures spent { IsErrOf result Kind.Spent ↔ (self.old.refused ≡ true) }
+        ensures refused { OnErr result (self.new ≡ record { lines = self.old.lines; refused = true }) }
+        ensures kept { OnErr result (IsFrontOf runs.old.items runs.new.items) }
+
+        // Behind the mark nothing is refused, not even for want of memory.
+        ensures free { self.old.refused ≡ false → ((file : Rle) × IsMarked MAX_LEVEL self.old.lines file)
+            → IsOkAnd result (λ _. runs.new.items ≡ runs.old.items) }
+    {
+        let phase = mem::replace(&mut self.phase, Phase::Refused);
+        let next = after_line(self.alloc, phase, self.cursor, line, runs)?;
+        self.log = self.log.then(line);
+        self.phase = next.phase;
+        self.cursor = next.cursor;
+        Ok(())
+    }
+
+    /// Whether `!` has ended the pattern.
+    pub fn over(&self) -> bool
+        ensures over { self.now.refused ≡ false → (IsTrue result ↔ ((file : Rle) × IsMarked MAX_LEVEL self.now.lines file)) }
+        ensures refused { self.now.refused ≡ true → result ≡ false }
+    {
+        matches!(self.phase, Phase::Over(_, _))
+    }
+
+    /// The rule and the position of the file that the lines are.
+    pub(crate) fn finish(self) -> Result<(Rule, Position), Kind>
+        ensures file { IfOk result (λ found. (file : Rle) × IsRle MAX_LEVEL self.lines file × (found.0 ≡ file.rule) × (found.1 ≡ file.position)) }
+        ensures missing { IsErrOf result Kind.NoHeader → (position : Position) × IsPreamble MAX_LEVEL default_position self.lines position }
+        ensures spent { IsErrOf result Kind.Spent ↔ (self.refused ≡ true) }
+        ensures only { IfErr result (λ kind. (kind ≡ Kind.NoHeader) ⊎ (kind ≡ Kind.Spent)) }
+    {
+        match self.phase {
+            Phase::Before(_) => Err(Kind::NoHeader),
+            Phase::Items(rule, position) => Ok((rule, position)),
+            Phase::Over(rule, position) => Ok((rule, position)),
+            Phase::Refused => Err(Kind::Spent),
+        }
+    }
+
+    /// The rule and the generation of the file that the lines are.
+    ///
+    /// # Errors
+    ///
+    /// `NoHeader` where they lack one, and `Spent` after a refused line.
+    pub fn end(self) -> Result<(Rule, u64), Kind>
+        ensures file { IfOk result (λ found. (file : Rle) × IsRle MAX_LEVEL self.lines file × (found.0 ≡ file.rule) × (found.1 ≡ file.position.generation)) }
+        ensures whole { self.refused ≡ false → IsSomeRle MAX_LEVEL self.lines → IsOk result }
+        ensures missing { self.refused ≡ false → (IsErrOf result Kind.NoHeader ↔ ((position : Position) × IsPreamble MAX_LEVEL default_position self.lines position)) }
+        ensures spent { IsErrOf result Kind.Spent ↔ (self.refused ≡ true) }
+        ensures only { IfErr result (λ kind. (kind ≡ Kind.NoHeader) ⊎ (kind ≡ Kind.Spent)) }
+    {
+        let (rule, position) = self.finish()?;
+        Ok((rule, position.generation))
+    }
+}
