@@ -20,9 +20,12 @@ use Rattle.life_canon.specs.declared.pattern.Pattern.{Pattern}
 use Rattle.life_table.specs.Grammar.{IsFile}
 use Rattle.life_table.specs.Reading.{Refuses as RefusesTable}
 use Rattle.life_table.specs.declared.table.Table.{Table}
+use Rattle.life_cli.specs.declared.plans.Job.{Job}
 use Rattle.life_cli.specs.declared.plans.Job.TheVariants.{StepTable}
 use Rattle.life_cli.specs.declared.telling.Refusal.{Refusal}
-use Rattle.life_cli.specs.Jobs.{InputRefuses, by_length, by_source, HasNoText, by_input, by_file, by_want, IsHeld, AreCompared, AreUncompared, by_first, by_second, by_first_shortage, by_second_shortage, IsWantFor, WantsToStep, RefusesRle, Compares, Worked, HasText, FileRefuses, IsSteppedBy, RefusesStepBy, HasTable, HasNoTable, table_by_input, table_by_lines, table_by_memory, OfFile, JobRefuses}
+use Rattle.life_cli.specs.Faults.{refusal_of}
+use Rattle.life_cli.specs.Plans.{HasSecond}
+use Rattle.life_cli.specs.Jobs.{InputRefuses, by_length, by_source, HasNoText, by_input, by_file, by_want, IsHeld, AreCompared, AreUncompared, by_first, by_second, by_first_shortage, by_second_shortage, IsWantFor, WantsToStep, RefusesRle, Compares, Writes, Worked, Breaks, HasText, FileRefuses, by_reading, by_writing, IsSteppedBy, RefusesStepBy, HasTable, HasNoTable, table_by_input, table_by_lines, table_by_memory, OfFile, JobRefuses}
 
 -- nothing comes of an input of which a store makes no pattern
 pub no_pattern : (refuses : List ℕ → Fault → Type 0) (source : SourceRun) (store : Nodes) (fault : Fault) → store.limit ≡ 2 ^ 31
@@ -138,25 +141,52 @@ pub read_as_table : (source : SourceRun) (bytes : List ℕ) (r : Result Table Fa
 read_as_table source bytes (Ok table) read is = record { bytes = bytes; read = read; is = is }
 read_as_table source bytes (Err fault) read is = tt
 
--- a step by a table, from its parts
-pub stepped_by : (table : Table) (first second : SourceRun) (output : SinkRun) (text : List ℕ) → HasText (IsSteppedBy table) first text
-    → Appends output.before output.after text → HasTable second table → Worked StepTable 0 first second output
-stepped_by table first second output text has written table_has = record {
-  first_bytes = has.bytes;
-  second_bytes = table_has.bytes;
-  text = text;
-  first_read = has.read;
-  second_read = λ _. table_has.read;
-  writes = (refl, (table, table_has.is, has.is));
-  written = written;
-}
+-- what a job of one file did, by its status
+pub worked_and_done : (job : Job) (first second : SourceRun) (output : SinkRun) (r : Result ℕ Refusal) → IfOk r (λ status. status ≡ 0)
+    → OnOk r ((second : SourceRun) → Worked job 0 first second output) → IfOk r (λ status. Worked job status first second output)
+worked_and_done job first second output (Ok status) zero worked =
+    let P : ℕ → Type 0 = λ n. Worked job n first second output in subst P (sym zero) (worked second)
+worked_and_done job first second output (Err refusal) zero worked = tt
 
-pub worked_by_table : (table : Table) (first second : SourceRun) (output : SinkRun) (r : Result ℕ Refusal) → HasTable second table
-    → IfOk r (λ status. status ≡ 0) → OnOk r ((s : SourceRun) → HasTable s table → Worked StepTable 0 first s output)
-    → IfOk r (λ status. Worked StepTable status first second output)
-worked_by_table table first second output (Ok status) has zero worked =
-    let P : ℕ → Type 0 = λ n. Worked StepTable n first second output in subst P (sym zero) (worked second has)
-worked_by_table table first second output (Err refusal) has zero worked = tt
+-- what a job did whose text was made of its first file
+pub worked_by_text : {X : Type 0} (gives : List ℕ → List ℕ → Type 0) (items : X → List ℕ) (job : Job) (first second : SourceRun) (output : SinkRun)
+    (others : List ℕ) (made : Result X Fault) (r : Result ℕ Refusal) → (HasSecond job → ReadAll (2 ^ 30) second.before second.after others)
+    → ((bytes text : List ℕ) → gives bytes text → Writes job bytes others 0 text) → IfOk made (λ x. HasText gives first (items x))
+    → IfErr made (λ fault. r ≡ Err (refusal_of fault)) → OnOk r (IfOk made (λ x. Appends output.before output.after (items x)))
+    → IfOk r (λ status. status ≡ 0) → IfOk r (λ status. Worked job status first second output)
+worked_by_text gives items job first second output others made (Err refusal) read is has un written zero = tt
+worked_by_text gives items job first second output others (Err fault) (Ok status) read is has un written zero = absurd cc
+worked_by_text gives items job first second output others (Ok x) (Ok status) read is has un written zero =
+    let P : ℕ → Type 0 = λ n. Worked job n first second output in
+    let worked : Worked job 0 first second output = record {
+      first_bytes = has.bytes;
+      second_bytes = others;
+      text = items x;
+      first_read = has.read;
+      second_read = read;
+      writes = is has.bytes (items x) has.is;
+      written = written;
+    } in
+    subst P (sym zero) worked
+
+-- the same of a step by a table
+pub worked_by_table : {X : Type 0} (table : Table) (items : X → List ℕ) (first second : SourceRun) (output : SinkRun) (made : Result X Fault)
+    (r : Result ℕ Refusal) → HasTable second table → IfOk made (λ x. HasText (IsSteppedBy table) first (items x))
+    → IfErr made (λ fault. r ≡ Err (refusal_of fault)) → OnOk r (IfOk made (λ x. Appends output.before output.after (items x)))
+    → IfOk r (λ status. status ≡ 0) → IfOk r (λ status. Worked StepTable status first second output)
+worked_by_table table items first second output made r table_has has un written zero =
+    worked_by_text (IsSteppedBy table) items StepTable first second output table_has.bytes made r (λ _. table_has.read)
+    (λ bytes text is. (refl, (table, table_has.is, is))) has un written zero
+
+-- why such a job is refused
+pub refused_by_text : {X : Type 0} (gives : List ℕ → List ℕ → Type 0) (refuses : List ℕ → Fault → Type 0) (items : X → List ℕ) (source : SourceRun)
+    (output : SinkRun) (made : Result X Fault) (r : Result ℕ Refusal) → IfOk made (λ x. HasText gives source (items x))
+    → IfErr made (HasNoText refuses source) → IfErr made (λ fault. r ≡ Err (refusal_of fault))
+    → IfErr r (λ refusal. IfOk made (λ x. OfFile (Breaks output (items x)) refusal)) → IfErr r (OfFile (FileRefuses gives refuses source output))
+refused_by_text gives refuses items source output (Err fault) r has none un broken =
+    let P : Result ℕ Refusal → Type 0 = λ r. IfErr r (OfFile (FileRefuses gives refuses source output)) in subst P (sym un) (refl, by_reading none)
+refused_by_text gives refuses items source output (Ok x) (Ok status) has none un broken = tt
+refused_by_text gives refuses items source output (Ok x) (Err refusal) has none un broken = (broken.0, by_writing (items x) has broken.1)
 
 pub refused_by_table : {X : Type 0} (table : Table) (first second : SourceRun) (output : SinkRun) (r : Result X Refusal) → HasTable second table
     → IfErr r (OfFile (FileRefuses (IsSteppedBy table) (RefusesStepBy table) first output)) → IfErr r (JobRefuses StepTable first second output)

@@ -1,14 +1,14 @@
 //! The work of the jobs that step a pattern.
 
 ghost use Rattle.std.specs.Prelude.{◌≡◌, ◌≢◌, ◌⊎◌, ◌<◌, ◌^◌, IfOk, IfErr, IsErrAnd, OnOk, true, false};
-ghost use Rattle.life_base.specs.DeviceRuns.{SourceRun, source_run, sink_run};
+ghost use Rattle.life_base.specs.DeviceRuns.{source_run, sink_run};
 ghost use Rattle.life_base.specs.Inputs.{ReadAll};
 ghost use Rattle.life_base.specs.Refusal.{fault_of};
-ghost use Rattle.life_cli.specs.Jobs.{Worked, InputRefuses, JobRefuses, OfFile, OfTable, FileRefuses, HasText, HasNoText, IsStepped, IsSteppedBy, RefusesStep, RefusesStepBy, HasTable, HasNoTable};
+ghost use Rattle.life_cli.specs.Jobs.{Worked, InputRefuses, JobRefuses, OfTable, HasText, HasNoText, IsStepped, IsSteppedBy, RefusesStep, RefusesStepBy, HasTable, HasNoTable};
 
 use crate::plans::Job;
 use crate::telling::Refusal;
-use crate::working::{MOST_SQUARES, write_whole};
+use crate::working::{MOST_SQUARES, write_made};
 use life_base::{Fault, Kind, Sink, Source, read_within};
 use life_canon::read_from;
 use life_quad::Shared;
@@ -20,7 +20,7 @@ use std::alloc::Global;
 const LONGEST_TABLE: u64 = 1 << 30;
 
 /// The text of the next generation of a source's pattern, under its B/S rule.
-fn next_of<A: Source>(alloc: Global, first: &mut A) -> Result<Vec<u8>, Fault>
+pub(crate) fn next_of<A: Source>(alloc: Global, first: &mut A) -> Result<Vec<u8>, Fault>
     requires { A.failures first.old ≡ 0 }
     ensures ok { IfOk result (λ text. HasText IsStepped (source_run A.remaining A.failures first.old first.new) text.items) }
     ensures err { IfErr result (HasNoText RefusesStep (source_run A.remaining A.failures first.old first.new)) }
@@ -80,55 +80,6 @@ fn table_of<B: Source>(alloc: Global, source: &mut B) -> Result<Table, Refusal>
     }
 }
 
-/// Writes the next generation of the first file, under its B/S rule.
-pub(crate) fn run_step<A: Source, O: Sink>(
-    alloc: Global,
-    first: &mut A,
-    out: &mut O,
-) -> Result<u8, Refusal>
-    requires reads { A.failures first.old ≡ 0 }
-    requires writes { O.failures out.old ≡ 0 }
-    requires takes { O.stalled out.old ≡ false }
-    ensures done { IfOk result (λ status. status ≡ 0) }
-    ensures worked { OnOk result ((second : SourceRun) → Worked Job.Step 0 (source_run A.remaining A.failures first.old first.new) second
-        (sink_run O.contents O.failures O.stalled out.old out.new)) }
-    ensures flushed { OnOk result (O.flushed out.new ≡ true) }
-    ensures refused { IfErr result (OfFile (FileRefuses IsStepped RefusesStep (source_run A.remaining A.failures first.old first.new)
-        (sink_run O.contents O.failures O.stalled out.old out.new))) }
-    ensures unwritten { IfErr result (λ refusal. refusal.fault.kind ≢ Kind.WriteFault → out.new ≡ out.old) }
-    ensures read_told { A.failures first.new ≡ 1 → IsErrAnd result (λ refusal. refusal.fault.kind ≡ Kind.ReadFault) }
-    ensures write_told { (O.failures out.new ≡ 1) ⊎ (O.stalled out.new ≡ true) → IsErrAnd result (λ refusal. refusal.fault.kind ≡ Kind.WriteFault) }
-{
-    let text = next_of(alloc, first)?;
-    write_whole(out, text.as_slice())?;
-    Ok(0)
-}
-
-/// Writes the next generation of the first file, by a table.
-fn run_by<A: Source, O: Sink>(
-    alloc: Global,
-    first: &mut A,
-    table: &Table,
-    out: &mut O,
-) -> Result<u8, Refusal>
-    requires reads { A.failures first.old ≡ 0 }
-    requires writes { O.failures out.old ≡ 0 }
-    requires takes { O.stalled out.old ≡ false }
-    ensures done { IfOk result (λ status. status ≡ 0) }
-    ensures worked { OnOk result ((second : SourceRun) → HasTable second table.now → Worked Job.StepTable 0
-        (source_run A.remaining A.failures first.old first.new) second (sink_run O.contents O.failures O.stalled out.old out.new)) }
-    ensures flushed { OnOk result (O.flushed out.new ≡ true) }
-    ensures refused { IfErr result (OfFile (FileRefuses (IsSteppedBy table.now) (RefusesStepBy table.now)
-        (source_run A.remaining A.failures first.old first.new) (sink_run O.contents O.failures O.stalled out.old out.new))) }
-    ensures unwritten { IfErr result (λ refusal. refusal.fault.kind ≢ Kind.WriteFault → out.new ≡ out.old) }
-    ensures read_told { A.failures first.new ≡ 1 → IsErrAnd result (λ refusal. refusal.fault.kind ≡ Kind.ReadFault) }
-    ensures write_told { (O.failures out.new ≡ 1) ⊎ (O.stalled out.new ≡ true) → IsErrAnd result (λ refusal. refusal.fault.kind ≡ Kind.WriteFault) }
-{
-    let text = next_by(alloc, first, table)?;
-    write_whole(out, text.as_slice())?;
-    Ok(0)
-}
-
 /// Reads the table of the second file, then writes the next generation of the first one by it.
 pub(crate) fn run_step_table<A: Source, B: Source, O: Sink>(
     alloc: Global,
@@ -151,5 +102,5 @@ pub(crate) fn run_step_table<A: Source, B: Source, O: Sink>(
     ensures write_told { (O.failures out.new ≡ 1) ⊎ (O.stalled out.new ≡ true) → IsErrAnd result (λ refusal. refusal.fault.kind ≡ Kind.WriteFault) }
 {
     let table = table_of(alloc, second)?;
-    run_by(alloc, first, &table, out)
+    write_made(out, next_by(alloc, first, &table))
 }

@@ -1,18 +1,18 @@
 //! The work of a job.
 
-ghost use Rattle.std.specs.Prelude.{◌≡◌, ◌≢◌, ◌⊎◌, ◌<◌, ◌↔◌, ◌^◌, ℕ, IsSome, IfSome, IfOk, IfErr, OnOk, IsErrAnd, IsTrue, true, false, if◌then◌else◌, codes};
+ghost use Rattle.std.specs.Prelude.{◌≡◌, ◌≢◌, ◌⊎◌, ◌<◌, ◌↔◌, ◌^◌, IsSome, IfSome, Err, IfOk, IfErr, OnOk, IsErrAnd, IsTrue, true, false, if◌then◌else◌, codes};
 ghost use Rattle.std.specs.Io.KnownBytes.{Appends};
 ghost use Rattle.life_base.specs.DeviceRuns.{SourceRun, source_run, optional_source_run, sink_run};
 ghost use Rattle.life_cli.specs.declared.telling.Refusal.{Refusal};
 ghost use Rattle.life_canon.specs.Files.{Refuses};
 ghost use Rattle.life_canon.specs.Store.{Keeps};
 ghost use Rattle.life_canon.specs.Texts.{IsRleOf, IsShown};
-ghost use Rattle.life_cli.specs.Faults.{fault_line, status_of, Tells};
-ghost use Rattle.life_cli.specs.Jobs.{Worked, OfFile, InputRefuses, Breaks, HasText, HasNoText, FileRefuses, AreCompared, AreUncompared, CanonRefuses, IsHeld, IsWantFor, JobRefuses, RefusesRle};
+ghost use Rattle.life_cli.specs.Faults.{fault_line, refusal_of, status_of, Tells};
+ghost use Rattle.life_cli.specs.Jobs.{Worked, OfFile, InputRefuses, Breaks, HasText, HasNoText, AreCompared, AreUncompared, CanonRefuses, IsHeld, IsWantFor, JobRefuses, RefusesRle};
 ghost use Rattle.life_cli.specs.Plans.{HasSecond};
 
 use crate::plans::{Job, Target};
-use crate::stepping::{run_step, run_step_table};
+use crate::stepping::{next_of, run_step_table};
 use crate::telling::{Refusal, status, tell};
 use life_base::{Fault, Kind, MAX_LEVEL, Sink, Source, deliver};
 use life_canon::laws::{patterns_stay, patterns_tell_files, refusals_have_kinds};
@@ -36,6 +36,27 @@ pub(crate) fn write_whole<W: Sink>(writer: &mut W, text: &[u8]) -> Result<(), Re
         Ok(()) => Ok(()),
         Err(kind) => Err(Fault::of(kind).into()),
     }
+}
+
+/// Writes the text that was made for a job, where there is one, and answers the status of a job that is done.
+pub(crate) fn write_made<W: Sink>(
+    writer: &mut W,
+    made: Result<Vec<u8>, Fault>,
+) -> Result<u8, Refusal>
+    requires works { W.failures writer.old ≡ 0 }
+    requires takes { W.stalled writer.old ≡ false }
+    ensures done { IfOk result (λ status. status ≡ 0) }
+    ensures written { OnOk result (IfOk made (λ text. Appends (W.contents writer.old) (W.contents writer.new) text.items)) }
+    ensures flushed { OnOk result (W.flushed writer.new ≡ true) }
+    ensures unmade { IfErr made (λ fault. result ≡ Err (refusal_of fault)) }
+    ensures broken { IfErr result (λ refusal. IfOk made (λ text. OfFile (Breaks (sink_run W.contents W.failures W.stalled writer.old writer.new) text.items) refusal)) }
+    ensures unwritten { IfErr result (λ refusal. refusal.fault.kind ≢ Kind.WriteFault → writer.new ≡ writer.old) }
+    ensures read_told { IsErrAnd made (λ fault. fault.kind ≡ Kind.ReadFault) → IsErrAnd result (λ refusal. refusal.fault.kind ≡ Kind.ReadFault) }
+    ensures write_told { (W.failures writer.new ≡ 1) ⊎ (W.stalled writer.new ≡ true) → IsErrAnd result (λ refusal. refusal.fault.kind ≡ Kind.WriteFault) }
+{
+    let text = made?;
+    write_whole(writer, text.as_slice())?;
+    Ok(0)
 }
 
 /// The text in extended RLE of a source's pattern.
@@ -139,46 +160,6 @@ fn run_canonical<A: Source, O: Sink>(
     Ok(0)
 }
 
-/// Writes the first file in extended RLE.
-fn run_rle<A: Source, O: Sink>(alloc: Global, first: &mut A, out: &mut O) -> Result<u8, Refusal>
-    requires reads { A.failures first.old ≡ 0 }
-    requires writes { O.failures out.old ≡ 0 }
-    requires takes { O.stalled out.old ≡ false }
-    ensures done { IfOk result (λ status. status ≡ 0) }
-    ensures worked { OnOk result ((second : SourceRun) → Worked (Job.Convert Target.Rle) 0 (source_run A.remaining A.failures first.old first.new) second
-        (sink_run O.contents O.failures O.stalled out.old out.new)) }
-    ensures flushed { OnOk result (O.flushed out.new ≡ true) }
-    ensures refused { IfErr result (OfFile (FileRefuses (IsRleOf MAX_LEVEL (2 ^ 20)) RefusesRle (source_run A.remaining A.failures first.old first.new)
-        (sink_run O.contents O.failures O.stalled out.old out.new))) }
-    ensures unwritten { IfErr result (λ refusal. refusal.fault.kind ≢ Kind.WriteFault → out.new ≡ out.old) }
-    ensures read_told { A.failures first.new ≡ 1 → IsErrAnd result (λ refusal. refusal.fault.kind ≡ Kind.ReadFault) }
-    ensures write_told { (O.failures out.new ≡ 1) ⊎ (O.stalled out.new ≡ true) → IsErrAnd result (λ refusal. refusal.fault.kind ≡ Kind.WriteFault) }
-{
-    let text = rle_of_source(alloc, first)?;
-    write_whole(out, text.as_slice())?;
-    Ok(0)
-}
-
-/// Writes the five lines of the first file.
-fn run_show<A: Source, O: Sink>(alloc: Global, first: &mut A, out: &mut O) -> Result<u8, Refusal>
-    requires reads { A.failures first.old ≡ 0 }
-    requires writes { O.failures out.old ≡ 0 }
-    requires takes { O.stalled out.old ≡ false }
-    ensures done { IfOk result (λ status. status ≡ 0) }
-    ensures worked { OnOk result ((second : SourceRun) → Worked Job.Show 0 (source_run A.remaining A.failures first.old first.new) second
-        (sink_run O.contents O.failures O.stalled out.old out.new)) }
-    ensures flushed { OnOk result (O.flushed out.new ≡ true) }
-    ensures refused { IfErr result (OfFile (FileRefuses (IsShown MAX_LEVEL) (Refuses MAX_LEVEL) (source_run A.remaining A.failures first.old first.new)
-        (sink_run O.contents O.failures O.stalled out.old out.new))) }
-    ensures unwritten { IfErr result (λ refusal. refusal.fault.kind ≢ Kind.WriteFault → out.new ≡ out.old) }
-    ensures read_told { A.failures first.new ≡ 1 → IsErrAnd result (λ refusal. refusal.fault.kind ≡ Kind.ReadFault) }
-    ensures write_told { (O.failures out.new ≡ 1) ⊎ (O.stalled out.new ≡ true) → IsErrAnd result (λ refusal. refusal.fault.kind ≡ Kind.WriteFault) }
-{
-    let text = five_lines_of_source(alloc, first)?;
-    write_whole(out, text.as_slice())?;
-    Ok(0)
-}
-
 /// The line of a comparison.
 fn answer_line(is_same: bool) -> &'static [u8]
     ensures { result.now ≡ (if is_same then codes "same\n" else codes "different\n") }
@@ -238,12 +219,12 @@ fn run<A: Source, B: Source, O: Sink>(
 {
     match (job, second) {
         (Job::Canon, _) => run_canonical(alloc, first, out),
-        (Job::Convert(Target::Rle), _) => run_rle(alloc, first, out),
+        (Job::Convert(Target::Rle), _) => write_made(out, rle_of_source(alloc, first)),
         (Job::Convert(Target::Mc), _) => run_canonical(alloc, first, out),
         (Job::Same, Some(second)) => run_same(alloc, first, second, out),
         (Job::Same, None) => unreachable!(),
-        (Job::Show, _) => run_show(alloc, first, out),
-        (Job::Step, _) => run_step(alloc, first, out),
+        (Job::Show, _) => write_made(out, five_lines_of_source(alloc, first)),
+        (Job::Step, _) => write_made(out, next_of(alloc, first)),
         (Job::StepTable, Some(second)) => run_step_table(alloc, first, second, out),
         (Job::StepTable, None) => unreachable!(),
     }
