@@ -16,19 +16,6 @@ one a l = elim (eqb_tells 1 a) [
   | inr f ↦ ap (λ (b : Bool). cond b 1 0) f.0 ∙ (let ne = f.1 in omega (arith, l, ne))
 ]
 
-pub eight : (a b c d e f g h : ℕ) → a < 2 → b < 2 → c < 2 → d < 2 → e < 2 → f < 2 → g < 2 → h < 2
-    → a + b + c + d + e + f + g + h ≡ count_of 1 (a ∷ b ∷ c ∷ d ∷ e ∷ f ∷ g ∷ h ∷ [])
-eight a b c d e f g h la lb lc ld le lf lg lh =
-    let ea = one a la in
-    let eb = one b lb in
-    let ec = one c lc in
-    let ed = one d ld in
-    let ee = one e le in
-    let ef = one f lf in
-    let eg = one g lg in
-    let eh = one h lh in
-    omega (arith, ea, eb, ec, ed, ee, ef, eg, eh)
-
 pub four : (a b c d : ℕ) → a < 2 → b < 2 → c < 2 → d < 2 → a + b + c + d ≡ count_of 1 (a ∷ b ∷ c ∷ d ∷ [])
 four a b c d la lb lc ld =
     let ea = one a la in
@@ -36,6 +23,13 @@ four a b c d la lb lc ld =
     let ec = one c lc in
     let ed = one d ld in
     omega (arith, ea, eb, ec, ed)
+
+pub eight : (a b c d e f g h : ℕ) → a < 2 → b < 2 → c < 2 → d < 2 → e < 2 → f < 2 → g < 2 → h < 2
+    → a + b + c + d + e + f + g + h ≡ count_of 1 (a ∷ b ∷ c ∷ d ∷ e ∷ f ∷ g ∷ h ∷ [])
+eight a b c d e f g h la lb lc ld le lf lg lh =
+    let first = four a b c d la lb lc ld in
+    let last = four e f g h le lf lg lh in
+    omega (arith, first, last)
 
 few-eight : (a b c d e f g h n : ℕ) → a < 2 → b < 2 → c < 2 → d < 2 → e < 2 → f < 2 → g < 2 → h < 2 → n ≡ count_of 1 (a ∷ b ∷ c ∷ d ∷ e ∷ f ∷ g ∷ h ∷ []) → n ≤ 8
 few-eight a b c d e f g h n la lb lc ld le lf lg lh is =

@@ -152,38 +152,40 @@ pub next-zero : (rule : OuterTotalistic) (cells : ℤ → ℤ → ℕ) (x y : �
     → ((u v : ℤ) → before x ≤ℤ u → u ≤ℤ after x → before y ≤ℤ v → v ≤ℤ after y → cells u v ≡ 0) → next_life rule cells x y ≡ 0
 next-zero rule cells x y quiet h = by rule.near ∙ ap (λ (b : Bool). if b || false then 1 else 0) quiet
   where
-    at : (u v : ℤ) → before x ≤ℤ u → u ≤ℤ after x → before y ≤ℤ v → v ≤ℤ after y → cells u v ≡ 0
-    at = h
+    at : (u v : ℤ) → (before x ≤ℤ u) × (u ≤ℤ after x) → (before y ≤ℤ v) × (v ≤ℤ after y) → cells u v ≡ 0
+    at u v a b = h u v a.0 a.1 b.0 b.1
+
+    one_less : (z : ℤ) → (before z ≤ℤ before z) × (before z ≤ℤ after z)
+    one_less z = (omega (arith, ints), omega (arith, ints))
+
+    itself : (z : ℤ) → (before z ≤ℤ z) × (z ≤ℤ after z)
+    itself z = (omega (arith, ints), omega (arith, ints))
+
+    one_more : (z : ℤ) → (before z ≤ℤ after z) × (after z ≤ℤ after z)
+    one_more z = (omega (arith, ints), omega (arith, ints))
 
     c : cells x y ≡ 0
-    c = at x y (omega (arith, ints)) (omega (arith, ints)) (omega (arith, ints)) (omega (arith, ints))
+    c = at x y (itself x) (itself y)
 
     n : cells x (before y) ≡ 0
-    n = at x (before y) (omega (arith, ints)) (omega (arith, ints)) (omega (arith, ints)) (omega (arith, ints))
-
-    ne : cells (after x) (before y) ≡ 0
-    ne = at (after x) (before y) (omega (arith, ints)) (omega (arith, ints)) (omega (arith, ints)) (omega (arith, ints))
+    n = at x (before y) (itself x) (one_less y)
 
     e : cells (after x) y ≡ 0
-    e = at (after x) y (omega (arith, ints)) (omega (arith, ints)) (omega (arith, ints)) (omega (arith, ints))
-
-    se : cells (after x) (after y) ≡ 0
-    se = at (after x) (after y) (omega (arith, ints)) (omega (arith, ints)) (omega (arith, ints)) (omega (arith, ints))
+    e = at (after x) y (one_more x) (itself y)
 
     s : cells x (after y) ≡ 0
-    s = at x (after y) (omega (arith, ints)) (omega (arith, ints)) (omega (arith, ints)) (omega (arith, ints))
-
-    sw : cells (before x) (after y) ≡ 0
-    sw = at (before x) (after y) (omega (arith, ints)) (omega (arith, ints)) (omega (arith, ints)) (omega (arith, ints))
+    s = at x (after y) (itself x) (one_more y)
 
     w : cells (before x) y ≡ 0
-    w = at (before x) y (omega (arith, ints)) (omega (arith, ints)) (omega (arith, ints)) (omega (arith, ints))
-
-    nw : cells (before x) (before y) ≡ 0
-    nw = at (before x) (before y) (omega (arith, ints)) (omega (arith, ints)) (omega (arith, ints)) (omega (arith, ints))
+    w = at (before x) y (one_less x) (itself y)
 
     by : (near : Near) → next_life (record { sets = rule.sets; near = near }) cells x y ≡ next_by_count rule.sets 0 0
-    by Moore = (λ i. next_by_count rule.sets (c i) (count_of 1 (n i ∷ ne i ∷ e i ∷ se i ∷ s i ∷ sw i ∷ w i ∷ nw i ∷ [])))
+    by Moore =
+        let ne = at (after x) (before y) (one_more x) (one_less y) in
+        let se = at (after x) (after y) (one_more x) (one_more y) in
+        let sw = at (before x) (after y) (one_less x) (one_more y) in
+        let nw = at (before x) (before y) (one_less x) (one_less y) in
+        (λ i. next_by_count rule.sets (c i) (count_of 1 (n i ∷ ne i ∷ e i ∷ se i ∷ s i ∷ sw i ∷ w i ∷ nw i ∷ [])))
     by VonNeumann = (λ i. next_by_count rule.sets (c i) (count_of 1 (n i ∷ e i ∷ s i ∷ w i ∷ [])))
 
 -- nine blank squares

@@ -9,6 +9,7 @@ use Rattle.life_base.specs.Tree.{Tree, point, quad, depth, blank, state_at, half
 use Rattle.life_base.proofs.Squares.{at_nw, at_ne, at_sw, at_se, Inside, is_inside, inside_facts, inside_test, inside_offset, cell_inside, cell_outside}
 use Rattle.life_quad.specs.declared.id.Id.{Id}
 use Rattle.life_quad.specs.declared.moves.Quarters.{Quarters}
+use Rattle.life_block.specs.declared.grid.Four.{Four}
 use Rattle.life_sweep.specs.Generation.{next_life}
 use Rattle.life_block.specs.Pieces.{IsPiece, IsAt, InFour, InSixteen, AreFour, AreSixteen, back, ahead, four_of, at_north_west, at_north_east, at_south_west, at_south_east}
 use Rattle.life_block.proofs.PieceLemmas.{IsPiece-moved, AreFour-moved, blank-of_zero, next-zero}
@@ -276,38 +277,35 @@ module _ (knows : Id → Type 0) (content : Id → Tree) (cells : ℤ → ℤ �
   northern : start ≡ back (ahead start (2 ^ k)) (2 ^ k)
   northern = omega (arith, ints)
 
-  pub pieces-south_east : AreSixteen content cells (2 ^ k) (back start (2 ^ k)) (back start (2 ^ k)) (at_south_east q b)
-  pieces-south_east =
+  -- two rows with the quarters, and nothing north of them, or south
+  in_south : (x : ℤ) (upper lower : Four) → AreFour content cells (2 ^ k) x start upper → AreFour content cells (2 ^ k) x (ahead start (2 ^ k)) lower
+      → AreSixteen content cells (2 ^ k) x (back start (2 ^ k)) (record { far_north = four_of b b b b; north = four_of b b b b; south = upper; far_south = lower })
+  in_south x upper lower first second =
       record {
         far_north = no-north _ _ (omega (arith, ints));
         north = no-north _ _ (omega (arith, ints));
-        south = AreFour-moved content cells (2 ^ k) _ _ _ _ southern (east-row _ _ _ h.nw h.ne);
-        far_south = AreFour-moved content cells (2 ^ k) _ _ _ _ (ap (λ z. ahead z (2 ^ k)) southern) (east-row _ _ _ h.sw h.se);
+        south = AreFour-moved content cells (2 ^ k) _ _ _ _ southern first;
+        far_south = AreFour-moved content cells (2 ^ k) _ _ _ _ (ap (λ z. ahead z (2 ^ k)) southern) second;
       }
+
+  in_north : (x : ℤ) (upper lower : Four) → AreFour content cells (2 ^ k) x start upper → AreFour content cells (2 ^ k) x (ahead start (2 ^ k)) lower
+      → AreSixteen content cells (2 ^ k) x (ahead start (2 ^ k)) (record { far_north = upper; north = lower; south = four_of b b b b; far_south = four_of b b b b })
+  in_north x upper lower first second =
+      record {
+        far_north = AreFour-moved content cells (2 ^ k) _ _ _ _ northern first;
+        north = second;
+        south = no-south _ _ (omega (arith, ints));
+        far_south = no-south _ _ (omega (arith, ints));
+      }
+
+  pub pieces-south_east : AreSixteen content cells (2 ^ k) (back start (2 ^ k)) (back start (2 ^ k)) (at_south_east q b)
+  pieces-south_east = in_south _ _ _ (east-row _ _ _ h.nw h.ne) (east-row _ _ _ h.sw h.se)
 
   pub pieces-south_west : AreSixteen content cells (2 ^ k) (ahead start (2 ^ k)) (back start (2 ^ k)) (at_south_west q b)
-  pieces-south_west =
-      record {
-        far_north = no-north _ _ (omega (arith, ints));
-        north = no-north _ _ (omega (arith, ints));
-        south = AreFour-moved content cells (2 ^ k) _ _ _ _ southern (west-row _ _ _ h.nw h.ne);
-        far_south = AreFour-moved content cells (2 ^ k) _ _ _ _ (ap (λ z. ahead z (2 ^ k)) southern) (west-row _ _ _ h.sw h.se);
-      }
+  pieces-south_west = in_south _ _ _ (west-row _ _ _ h.nw h.ne) (west-row _ _ _ h.sw h.se)
 
   pub pieces-north_east : AreSixteen content cells (2 ^ k) (back start (2 ^ k)) (ahead start (2 ^ k)) (at_north_east q b)
-  pieces-north_east =
-      record {
-        far_north = AreFour-moved content cells (2 ^ k) _ _ _ _ northern (east-row _ _ _ h.nw h.ne);
-        north = east-row _ _ _ h.sw h.se;
-        south = no-south _ _ (omega (arith, ints));
-        far_south = no-south _ _ (omega (arith, ints));
-      }
+  pieces-north_east = in_north _ _ _ (east-row _ _ _ h.nw h.ne) (east-row _ _ _ h.sw h.se)
 
   pub pieces-north_west : AreSixteen content cells (2 ^ k) (ahead start (2 ^ k)) (ahead start (2 ^ k)) (at_north_west q b)
-  pieces-north_west =
-      record {
-        far_north = AreFour-moved content cells (2 ^ k) _ _ _ _ northern (west-row _ _ _ h.nw h.ne);
-        north = west-row _ _ _ h.sw h.se;
-        south = no-south _ _ (omega (arith, ints));
-        far_south = no-south _ _ (omega (arith, ints));
-      }
+  pieces-north_west = in_north _ _ _ (west-row _ _ _ h.nw h.ne) (west-row _ _ _ h.sw h.se)
