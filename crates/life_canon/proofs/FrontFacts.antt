@@ -81,28 +81,26 @@ long-breaks (progress.Macrocell reader ids) line o n h =
 
 -- ---- bytes that come
 
--- the lines up to the end of a line, and those behind it
-pub lines-at : (bytes kept end rest : List ℕ) (ended : ℕ) (lines : List (List ℕ)) → IsGoing bytes kept ended lines → has_no_feed end ≡ true
-    → lines_of (bytes ++ end ++ 10 ∷ [] ++ rest) ≡ lines ++ (kept ++ end) ∷ lines_of rest
-lines-at bytes kept end rest ended lines g h =
+-- the lines up to the end of a line, and those behind it, where all lines or the whole ones are meant
+lines-behind : (all : List ℕ → List (List ℕ)) → ((front more : List ℕ) → all (front ++ more) ≡ whole_lines front ++ all (rest_line front ++ more))
+    → (bytes kept end rest : List ℕ) (ended : ℕ) (lines : List (List ℕ)) → IsGoing bytes kept ended lines → has_no_feed end ≡ true
+    → all (bytes ++ end ++ 10 ∷ [] ++ rest) ≡ lines ++ (kept ++ end) ∷ all rest
+lines-behind all continue bytes kept end rest ended lines g h =
     let e = lines_ended bytes end h in
-    (lines_continue (bytes ++ end ++ 10 ∷ []) rest).lines
-    ∙ ap (λ (r : List ℕ). whole_lines (bytes ++ end ++ 10 ∷ []) ++ lines_of (r ++ rest)) e.rest
-    ∙ ap (λ (ls : List (List ℕ)). ls ++ lines_of rest) e.whole
-    ∙ ap (λ (r : List ℕ). whole_lines bytes ++ (r ++ end) ∷ [] ++ lines_of rest) (sym g.rest)
-    ∙ ap (λ (ls : List (List ℕ)). ls ++ (kept ++ end) ∷ [] ++ lines_of rest) (sym g.whole)
-    ∙ append_assoc lines ((kept ++ end) ∷ []) (lines_of rest)
+    continue (bytes ++ end ++ 10 ∷ []) rest
+    ∙ ap (λ (r : List ℕ). whole_lines (bytes ++ end ++ 10 ∷ []) ++ all (r ++ rest)) e.rest
+    ∙ ap (λ (ls : List (List ℕ)). ls ++ all rest) e.whole
+    ∙ ap (λ (r : List ℕ). whole_lines bytes ++ (r ++ end) ∷ [] ++ all rest) (sym g.rest)
+    ∙ ap (λ (ls : List (List ℕ)). ls ++ (kept ++ end) ∷ [] ++ all rest) (sym g.whole)
+    ∙ append_assoc lines ((kept ++ end) ∷ []) (all rest)
+
+lines-at : (bytes kept end rest : List ℕ) (ended : ℕ) (lines : List (List ℕ)) → IsGoing bytes kept ended lines → has_no_feed end ≡ true
+    → lines_of (bytes ++ end ++ 10 ∷ [] ++ rest) ≡ lines ++ (kept ++ end) ∷ lines_of rest
+lines-at = lines-behind lines_of (λ front more. (lines_continue front more).lines)
 
 pub whole-at : (bytes kept end rest : List ℕ) (ended : ℕ) (lines : List (List ℕ)) → IsGoing bytes kept ended lines → has_no_feed end ≡ true
     → whole_lines (bytes ++ end ++ 10 ∷ [] ++ rest) ≡ lines ++ (kept ++ end) ∷ whole_lines rest
-whole-at bytes kept end rest ended lines g h =
-    let e = lines_ended bytes end h in
-    (lines_continue (bytes ++ end ++ 10 ∷ []) rest).whole
-    ∙ ap (λ (r : List ℕ). whole_lines (bytes ++ end ++ 10 ∷ []) ++ whole_lines (r ++ rest)) e.rest
-    ∙ ap (λ (ls : List (List ℕ)). ls ++ whole_lines rest) e.whole
-    ∙ ap (λ (r : List ℕ). whole_lines bytes ++ (r ++ end) ∷ [] ++ whole_lines rest) (sym g.rest)
-    ∙ ap (λ (ls : List (List ℕ)). ls ++ (kept ++ end) ∷ [] ++ whole_lines rest) (sym g.whole)
-    ∙ append_assoc lines ((kept ++ end) ∷ []) (whole_lines rest)
+whole-at = lines-behind whole_lines (λ front more. (lines_continue front more).whole)
 
 -- a line's end ends one line more
 pub front-ended : (bytes kept end : List ℕ) (ended next : ℕ) (p q : Progress) → IsGoing bytes kept ended (taken p) → has_no_feed end ≡ true → IsOpen q

@@ -154,9 +154,10 @@ squares-grow knows content rule generation lines square ids id good h known is =
 
 -- the square of the last line has the cells of the file
 pub root-cells : (knows : Id → Type 0) (content : Id → Tree) (file : Macrocell) (ids : List Id) (id : Id) → IsValid MAX_LEVEL file → AreSquaresOf knows content file.lines ids
-    → 0 < length file.lines → slice_get ids (length ids - 1) ≡ Some id → knows id × (1 ≤ depth (content id)) × ((x y : ℤ) → tree_cell (content id) x y ≡ cell file x y)
-root-cells knows content file ids id good h some at =
+    → slice_get ids (length ids - 1) ≡ Some id → knows id × (1 ≤ depth (content id)) × ((x y : ℤ) → tree_cell (content id) x y ≡ cell file x y)
+root-cells knows content file ids id good h at =
     let lines = file.lines in
+    let some : 0 < length lines = omega (arith, get-within ids (length ids - 1) id at, h.count) in
     let k : ℕ = length lines - 1 in
     let one : suc k ≡ length lines = omega arith in
     let small : k < length lines = omega arith in
@@ -173,9 +174,10 @@ root-cells knows content file ids id good h some at =
     high levels (Quad level a b c d) q = q.0
 
 -- and it is of the level of the root
-pub root-depth : (knows : Id → Type 0) (content : Id → Tree) (file : Macrocell) (ids : List Id) (id : Id) → AreSquaresOf knows content file.lines ids → 0 < length file.lines
+pub root-depth : (knows : Id → Type 0) (content : Id → Tree) (file : Macrocell) (ids : List Id) (id : Id) → AreSquaresOf knows content file.lines ids
     → slice_get ids (length ids - 1) ≡ Some id → depth (content id) ≡ root_level file.lines
-root-depth knows content file ids id h some at =
+root-depth knows content file ids id h at =
+    let some : 0 < length file.lines = omega (arith, get-within ids (length ids - 1) id at, h.count) in
     let k : ℕ = length file.lines - 1 in
     let small : k < length file.lines = omega arith in
     let index : length ids - 1 ≡ k = omega (arith, h.count) in

@@ -1,5 +1,5 @@
 -- The squares that a refused call lacked: of the root that is grown or trimmed, of runs, and of lines with more lines behind them.
-use Rattle.std.proofs.Common.{◌≡◌, ℕ, zero, suc, ◌+◌, ◌-◌, ◌^◌, ◌<◌, ◌≤◌, true, List, [], ◌∷◌, ◌++◌, length, take, drop, get_or, map, max, refl, ap, sym, ◌∙◌, subst, arith, ◌⊎◌, inl, inr, append_assoc, drop-cons, ℤ, ◌*◌, ◌+ℤ◌, ◌-ℤ◌, pos}
+use Rattle.std.proofs.Common.{◌≡◌, ℕ, zero, suc, ◌+◌, ◌-◌, ◌<◌, ◌≤◌, true, List, [], ◌∷◌, ◌++◌, length, take, drop, get_or, map, max, refl, ap, sym, ◌∙◌, subst, arith, ◌⊎◌, inl, inr, append_assoc, drop-cons, ℤ, ◌+ℤ◌, pos}
 use Rattle.std.specs.Prelude.{nat_abs}
 use Rattle.std.proofs.lemmas.List.{append-nil, map-append, take-append-drop}
 use Rattle.life_base.proofs.Squares.{depth-blank}
@@ -163,18 +163,7 @@ line-runs P lines before runs so_far given_now h e f s =
 
 -- the same square of other runs with the same cells
 pub same-square : {P : Tree → Type 0} (rows : ℕ) (f g : ℤ → ℤ → ℕ) → ((x y : ℤ) → f x y ≡ g x y) → SomeSquare P rows (by_columns f) → SomeSquare P rows (by_columns g)
-same-square rows f g e s =
-    record {
-      square = s.square;
-      full = s.full;
-      deep = s.deep;
-      column = s.column;
-      row = s.row;
-      east = s.east;
-      south = s.south;
-      cells = λ i j li lj. s.cells i j li lj ∙ e (pos (s.column * 2 ^ depth s.square + i) -ℤ pos half_plane) (pos (s.row * 2 ^ depth s.square + j) -ℤ pos half_plane);
-      property = s.property;
-    }
+same-square {P = P} rows f g e s = subst (λ (cells : ℤ → ℤ → ℕ). SomeSquare P rows (by_columns cells)) (λ i x y. e x y i) s
 
 -- ---- lines
 

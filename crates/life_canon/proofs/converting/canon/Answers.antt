@@ -16,9 +16,6 @@ returns-clause-least c = IfOk-weaker c.text_of.result _ _ (λ text e. least-text
 pub returns-clause-fault : goal.returns-clause-fault
 returns-clause-fault c = IfErr-weaker c.text_of.result _ _ (λ fault e. inr (inl e)) c.text_of.ensures.memory
 
-pub returns-clause-keeps : goal.returns-clause-keeps
-returns-clause-keeps c = c.in_ok-pattern.ensures.keeps
-
 pub returns-in_err-pattern-clause-needed : goal.returns-in_err-pattern-clause-needed
 returns-in_err-pattern-clause-needed c =
     let p = err_from_is_err_and c.from_residual.result c.from_residual.ensures.1 in

@@ -14,9 +14,6 @@ returns-clause-same c = IfOk-weaker c.rle_of.result _ _ (λ text h. h c.args.byt
 pub returns-clause-fault : goal.returns-clause-fault
 returns-clause-fault c = rle-fault c.args.bytes.now _ _ c.in_ok-pattern.ensures.pattern c.rle_of.result c.rle_of.ensures.fault
 
-pub returns-clause-keeps : goal.returns-clause-keeps
-returns-clause-keeps c = c.in_ok-pattern.ensures.keeps
-
 pub returns-in_err-pattern-clause-needed : goal.returns-in_err-pattern-clause-needed
 returns-in_err-pattern-clause-needed c =
     let p = err_from_is_err_and c.from_residual.result c.from_residual.ensures.1 in

@@ -8,13 +8,10 @@ five_lines_of-requires c = (c.args.bytes.now, c.in_ok-pattern.ensures.pattern)
 pub returns-clause-text : goal.returns-clause-text
 returns-clause-text c = IfOk-weaker c.five_lines_of.result _ _ (λ text h. h c.args.bytes.now c.in_ok-pattern.ensures.pattern) c.five_lines_of.ensures.text
 
-pub returns-clause-fault : goal.returns-clause-fault
-returns-clause-fault c = IfErr-weaker c.five_lines_of.result _ _ (λ fault e. inr (inl e)) c.five_lines_of.ensures.memory
-
-pub returns-clause-keeps : goal.returns-clause-keeps
-returns-clause-keeps c = c.in_ok-pattern.ensures.keeps
-
 pub returns-in_err-pattern-clause-needed : goal.returns-in_err-pattern-clause-needed
 returns-in_err-pattern-clause-needed c =
     let p = err_from_is_err_and c.from_residual.result c.from_residual.ensures.1 in
     rw (p.1, p.2) (λ e. c.in_err-pattern.ensures.needed (cc))
+
+pub returns-clause-fault : goal.returns-clause-fault
+returns-clause-fault c = IfErr-weaker c.five_lines_of.result _ _ (λ fault e. inr (inl e)) c.five_lines_of.ensures.memory
