@@ -1,5 +1,5 @@
 -- The squares that a refused step lacked.
-use Rattle.std.proofs.Common.{◌≡◌, ℕ, List, Result, Err, ap, subst}
+use Rattle.std.proofs.Common.{◌≡◌, ℕ, List, Result, Ok, Err, IsErrAnd, ap, subst, sym, ◌∙◌}
 use Rattle.life_base.specs.Refusal.{fault_of}
 use Rattle.life_base.specs.declared.cell.TheConstants.{MAX_LEVEL}
 use Rattle.life_base.specs.declared.fault.Fault.{Fault}
@@ -18,6 +18,12 @@ err-is a b e = cc
 
 pub full-again : {T U : Type 0} (f : Fault) → ◌≡◌ {A = Result T Fault} (Err f) (Err (fault_of Full)) → ◌≡◌ {A = Result U Fault} (Err f) (Err (fault_of Full))
 full-again f e = ap (λ (d : Fault). Err d) (err-is f (fault_of Full) e)
+
+-- and of a call that hands the fault on
+pub handed-on : {T U P : Type 0} (r : Result U Fault) (f : Fault) → IsErrAnd r (λ g. g ≡ f) → (◌≡◌ {A = Result T Fault} (Err f) (Err (fault_of Full)) → P)
+    → r ≡ Err (fault_of Full) → P
+handed-on (Ok x) f bad needed full = absurd bad
+handed-on (Err g) f is needed full = needed (ap (λ (d : Fault). Err d) (sym is ∙ err-is g (fault_of Full) full))
 
 -- what the step of a pattern lacks is what the step of its file lacks
 pub step-lacks : (Lacks : Rule → Tree → Type 0) (bytes : List ℕ) (store : Nodes) (pattern : Pattern) → IsRead MAX_LEVEL bytes store pattern → Lacks pattern.rule (content store pattern.root)

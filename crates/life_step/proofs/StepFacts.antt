@@ -1,5 +1,5 @@
 -- Steps: what the law of a rule answers for the square of a pattern is the next generation of what its file says.
-use Rattle.std.proofs.Common.{◌≡◌, ◌≢◌, ℕ, ◌+◌, ◌-◌, ◌^◌, ◌<◌, ◌≤◌, Bool, true, false, ◌⊎◌, inl, inr, ℤ, List, length, Option, Some, refl, sym, ◌∙◌, ap, subst, arith}
+use Rattle.std.proofs.Common.{◌≡◌, ◌≢◌, ℕ, ◌+◌, ◌-◌, ◌^◌, ◌<◌, ◌≤◌, Bool, true, false, ◌⊎◌, inl, inr, ℤ, List, length, Option, None, Some, refl, sym, ◌∙◌, ap, subst, arith}
 use Rattle.std.specs.Prelude.{Contains, drop, slice_index, if◌then◌else◌, Result, Ok, Err, IfErr}
 use Rattle.life_base.specs.Refusal.{fault_of}
 use Rattle.life_base.specs.Rules.{IsRule}
@@ -17,7 +17,7 @@ use Rattle.life_mc.specs.Squares.{HasStatesUpTo}
 use Rattle.life_quad.specs.Moves.{trimmed}
 use Rattle.life_quad.specs.Store.{Nodes, held}
 use Rattle.life_quad.specs.declared.id.Id.{Id}
-use Rattle.life_quad.proofs.LawLemmas.{trimming_keeps_cells, trimmed_is_fixed, trimming_stops}
+use Rattle.life_quad.proofs.LawLemmas.{known_squares_are_full, trimming_keeps_cells, trimmed_is_fixed, trimming_stops}
 use Rattle.life_table.specs.Laws.{OneAnswer}
 use Rattle.life_table.specs.Meaning.{Answer, Becomes, count_of}
 use Rattle.life_table.specs.declared.table.Neighborhood.TheVariants as of_tables
@@ -28,7 +28,7 @@ use Rattle.life_sweep.specs.Laws.{LifeAnswersAt, TableAnswersAt}
 use Rattle.life_sweep.specs.Refused.{GenerationRefusal}
 use Rattle.life_sweep.specs.Sweep.{states_at, named, LifeAnswers, TableAnswers}
 use Rattle.life_canon.specs.Files.{Reads, Refuses, as_macrocell}
-use Rattle.life_canon.specs.Laws.{FilesAreOnPlane, TextsAreFiles, TextsTellUniverses}
+use Rattle.life_canon.specs.Laws.{FilesAreOnPlane, PatternsFit, TextsAreFiles, TextsTellUniverses}
 use Rattle.life_canon.specs.Listing.{canonical_file, canon_text}
 use Rattle.life_canon.specs.Store.{IsKnown, content, Keeps, IsRead, IsTrimmed, IsWant, universe_in}
 use Rattle.life_canon.specs.Universe.{Universe, IsSame, IsOnPlane, least_level, square_universe, macrocell_universe}
@@ -254,3 +254,59 @@ table-mismatch table u n = inl (n, refl)
 
 pub table-last : (table : Table) (u : Universe) → u.rule ≡ Named table.name → u.generation ≡ 2 ^ 64 - 1 → TableRefusal MAX_LEVEL table u (Some (fault_of kinds.GenerationTooLarge))
 table-last table u e last = inr (λ n. n e, inl (last, refl))
+
+-- ---- a pattern that was read
+
+module _ (fit : PatternsFit MAX_LEVEL) (store : Nodes) (pattern : Pattern) (bytes : List ℕ) (r : IsRead MAX_LEVEL bytes store pattern) where
+  -- what refuses the step of its square refuses that of its file
+  pub life-refused-read : FilesAreOnPlane MAX_LEVEL → LifeAnswersAt → (life : OuterTotalistic) → pattern.rule ≡ Life life → pattern.generation ≢ 2 ^ 64 - 1
+      → (refusal : Option Fault) → GenerationRefusal (LifeAnswers life) 2 (2 ^ 20) (content store pattern.root) refusal → LifeRefusal MAX_LEVEL r.universe refusal
+  life-refused-read plane law life is some refusal h =
+      let u = r.universe in
+      let fits = fit bytes store pattern r in
+      let rule : u.rule ≡ Life life = fits.1.rule ∙ is in
+      let small : (x y : ℤ) → u.cell x y ≤ 1 = λ x y. subst (λ q. u.cell x y ≤ largest_state q) rule ((plane bytes u r.reads).states x y) in
+      life-refused law life u (content store pattern.root) fits.1.cells rule (λ e. some (sym fits.1.generation ∙ e)) small
+      ((known_squares_are_full store pattern.root fits.0.known.0).0) (root-high pattern.rule _ fits.0.level) refusal h
+
+  -- the step of its square is that of its file
+  pub life-stepped-read : FilesAreOnPlane MAX_LEVEL → LifeAnswersAt → (life : OuterTotalistic) → pattern.rule ≡ Life life → pattern.generation ≢ 2 ^ 64 - 1
+      → (generation : ℕ) (next : Tree) (text : List ℕ) → generation ≡ pattern.generation + 1
+      → ((x y : ℤ) → tree_cell next x y ≡ next_life life (tree_cell (content store pattern.root)) x y)
+      → GenerationRefusal (LifeAnswers life) 2 (2 ^ 20) (content store pattern.root) None → IsTextOf MAX_LEVEL (square_universe pattern.rule generation next) text
+      → (u : Universe) × Reads MAX_LEVEL bytes u × LifeRefusal MAX_LEVEL u None × Stepped MAX_LEVEL IsLifeStep text u
+  life-stepped-read plane law life is some generation next text later cells accepted h =
+      let u = r.universe in
+      let same = (fit bytes store pattern r).1 in
+      let moved : (x y : ℤ) → tree_cell next x y ≡ next_life life u.cell x y =
+      λ x y. cells x y ∙ same-next life (tree_cell (content store pattern.root)) u.cell (λ i j. sym (same.cells i j)) x y in (
+        u,
+        r.reads,
+        life-refused-read plane law life is some None accepted,
+        life-stepped life u pattern.rule generation next text (same.rule ∙ is) (sym same.rule) (later ∙ ap (λ n. n + 1) (sym same.generation)) moved h,
+      )
+
+  -- the same by a table
+  pub table-refused-read : TableAnswersAt → OneAnswer → (table : Table) → pattern.rule ≡ Named table.name → pattern.generation ≢ 2 ^ 64 - 1
+      → (refusal : Option Fault) → GenerationRefusal (TableAnswers table) table.n_states (2 ^ 20) (content store pattern.root) refusal
+      → TableRefusal MAX_LEVEL table r.universe refusal
+  table-refused-read law one table is some refusal h =
+      let fits = fit bytes store pattern r in
+      table-refused law table r.universe (content store pattern.root) fits.1.cells one (fits.1.rule ∙ is) (λ e. some (sym fits.1.generation ∙ e))
+      ((known_squares_are_full store pattern.root fits.0.known.0).0) (root-high pattern.rule _ fits.0.level) refusal h
+
+  pub table-stepped-read : TableAnswersAt → OneAnswer → (table : Table) → pattern.rule ≡ Named table.name → pattern.generation ≢ 2 ^ 64 - 1
+      → (generation : ℕ) (next : Tree) (text : List ℕ) → generation ≡ pattern.generation + 1
+      → ((x y : ℤ) → TableAnswers table (states_at (tree_cell (content store pattern.root)) x y) (Becomes (tree_cell next x y)))
+      → GenerationRefusal (TableAnswers table) table.n_states (2 ^ 20) (content store pattern.root) None
+      → IsTextOf MAX_LEVEL (square_universe pattern.rule generation next) text
+      → (u : Universe) × Reads MAX_LEVEL bytes u × TableRefusal MAX_LEVEL table u None × Stepped MAX_LEVEL (IsTableStep table) text u
+  table-stepped-read law one table is some generation next text later cells accepted h =
+      let u = r.universe in
+      let same = (fit bytes store pattern r).1 in (
+        u,
+        r.reads,
+        table-refused-read law one table is some None accepted,
+        table-stepped law table u (content store pattern.root) same.cells pattern.rule generation next text (same.rule ∙ is) (sym same.rule)
+            (later ∙ ap (λ n. n + 1) (sym same.generation)) cells h,
+      )

@@ -1,12 +1,10 @@
-use Rattle.std.proofs.Common.{◌≡◌, ◌≢◌, arith, ap, sym, subst, ◌∙◌, ◌+◌, ◌-◌, ◌≤◌, ◌^◌, ℕ, ℤ, List, Some, None, Err, inr}
+use Rattle.std.proofs.Common.{arith, ap, sym, subst, ◌∙◌, ◌≤◌, ◌^◌, ℕ, List, Some, Err, inr}
 use Rattle.std.proofs.lemmas.Result.{IfOk-weaker, err_from_is_err_and}
 use Rattle.life_base.specs.Tree.{depth, tree_cell}
-use Rattle.life_base.specs.declared.rule.Rule.TheVariants.{Life}
 use Rattle.life_base.specs.declared.cell.TheConstants.{MAX_LEVEL}
 use Rattle.life_mc.specs.Macrocell.{largest_state}
 use Rattle.life_quad.specs.Refused.{SomeTrimmed}
 use Rattle.life_quad.proofs.LawLemmas.{known_squares_are_full}
-use Rattle.life_sweep.specs.Generation.{next_life}
 use Rattle.life_sweep.specs.Refused.{GenerationRefusal}
 use Rattle.life_sweep.specs.Sweep.{LifeAnswers}
 use Rattle.life_canon.specs.Files.{Reads}
@@ -16,7 +14,7 @@ use Rattle.life_canon.specs.Universe.{Universe, least_level}
 use Rattle.life_step.specs.Needed.{LacksForLife, of_generation, of_root}
 use Rattle.life_step.specs.Refusals.{LifeRefusal}
 use Rattle.life_step.proofs.NeedFacts.{full-again}
-use Rattle.life_step.proofs.StepFacts.{keeps-all, keeps-of, refused-by, root-high, next-small, same-next, needs-table, life-last, life-refused, life-stepped}
+use Rattle.life_step.proofs.StepFacts.{keeps-all, keeps-of, refused-by, next-small, needs-table, life-last, life-refused-read, life-stepped-read}
 use Rattle.life_step.proofs.stepping.next_by_rule.Goals as goal
 
 pub returns-in_default-clause-refused : goal.returns-in_default-clause-refused
@@ -51,23 +49,17 @@ next_life_generation-requires-clause-states c =
 pub returns-in_err-square-clause-refused : goal.returns-in_err-square-clause-refused
 returns-in_err-square-clause-refused c =
     let store = c.args.store.now in
-    let root = c.args.pattern.root in
-    let t = content store root in
     let life = c.in-Life.rule in
     let fault = c.in_err-square.field-0.0 in
     let p = err_from_is_err_and c.from_residual-in_err-square.result c.from_residual-in_err-square.ensures.1 in
-    let each : GenerationRefusal (LifeAnswers life) 2 (2 ^ 20) t (Some fault) → (bytes : List ℕ) → IsRead MAX_LEVEL bytes store c.args.pattern
-    → (u : Universe) × Reads MAX_LEVEL bytes u × LifeRefusal MAX_LEVEL u (Some fault) =
-    λ h bytes r.
-    let u = r.universe in
-    let fits = c.patterns_fit.ensures _ _ _ r in
-    let plane = c.files_are_on_plane.ensures bytes u r.reads in
-    let full = (known_squares_are_full store root fits.0.known.0).0 in
-    let high = root-high c.args.pattern.rule _ fits.0.level in
-    let is : u.rule ≡ Life life = fits.1.rule ∙ c.in-Life.is in
-    let some : u.generation ≢ 2 ^ 64 - 1 = λ e. c.in_ok-generation.ensures.some (sym fits.1.generation ∙ e) in
-    let small : (x y : ℤ) → u.cell x y ≤ 1 = λ x y. subst (λ q. u.cell x y ≤ largest_state q) is (plane.states x y) in
-    (u, r.reads, life-refused c.life_answers_at.ensures life u t fits.1.cells is some small full high (Some fault) h) in
+    let each : GenerationRefusal (LifeAnswers life) 2 (2 ^ 20) (content store c.args.pattern.root) (Some fault)
+    → (bytes : List ℕ) → IsRead MAX_LEVEL bytes store c.args.pattern → (u : Universe) × Reads MAX_LEVEL bytes u × LifeRefusal MAX_LEVEL u (Some fault) =
+    λ h bytes r. (
+      r.universe,
+      r.reads,
+      life-refused-read c.patterns_fit.ensures store c.args.pattern bytes r c.files_are_on_plane.ensures c.life_answers_at.ensures
+          life c.in-Life.is c.in_ok-generation.ensures.some (Some fault) h,
+    ) in
     rw (p.1, p.2)
     (refused-by c.next_life_generation.new.squares fault _ _ each (λ e. c.in_err-square.ensures.full (ap Err e)) c.in_err-square.ensures.refusals)
 
@@ -87,29 +79,11 @@ text_of_square-requires-clause-high c =
 
 pub returns-clause-stepped : goal.returns-clause-stepped
 returns-clause-stepped c =
-    let store = c.args.store.now in
-    let root = c.args.pattern.root in
-    let t = content store root in
-    let life = c.in-Life.rule in
     let next = content c.next_life_generation.new.squares c.in_ok-square.square in
     IfOk-weaker c.text_of_square.result _ _
-    (λ text h bytes r.
-    let u = r.universe in
-    let fits = c.patterns_fit.ensures _ _ _ r in
-    let plane = c.files_are_on_plane.ensures bytes u r.reads in
-    let full = (known_squares_are_full store root fits.0.known.0).0 in
-    let high = root-high c.args.pattern.rule _ fits.0.level in
-    let is : u.rule ≡ Life life = fits.1.rule ∙ c.in-Life.is in
-    let some : u.generation ≢ 2 ^ 64 - 1 = λ e. c.in_ok-generation.ensures.some (sym fits.1.generation ∙ e) in
-    let small : (x y : ℤ) → u.cell x y ≤ 1 = λ x y. subst (λ q. u.cell x y ≤ largest_state q) is (plane.states x y) in
-    let accepted = life-refused c.life_answers_at.ensures life u t fits.1.cells is some small full high None c.in_ok-square.ensures.accepted in
-    let cells : (x y : ℤ) → tree_cell next x y ≡ next_life life u.cell x y = λ x y. c.in_ok-square.ensures.next x y ∙ same-next life (tree_cell t) u.cell (λ i j. sym (fits.1.cells i j)) x y in (
-      u,
-      r.reads,
-      accepted,
-      life-stepped life u c.args.pattern.rule c.in_ok-generation.generation next text.items is (sym fits.1.rule)
-          (c.in_ok-generation.ensures.after ∙ ap (λ n. n + 1) (sym fits.1.generation)) cells h,
-    ))
+    (λ text h bytes r. life-stepped-read c.patterns_fit.ensures c.args.store.now c.args.pattern bytes r c.files_are_on_plane.ensures c.life_answers_at.ensures
+    c.in-Life.rule c.in-Life.is c.in_ok-generation.ensures.some c.in_ok-generation.generation next text.items c.in_ok-generation.ensures.after
+    c.in_ok-square.ensures.next c.in_ok-square.ensures.accepted h)
     c.text_of_square.ensures.text
 
 pub returns-clause-keeps : goal.returns-clause-keeps

@@ -1,4 +1,4 @@
-use Rattle.std.proofs.Common.{◌≡◌, ◌≢◌, ap, sym, subst, ◌∙◌, ◌+◌, ◌-◌, ◌≤◌, ◌^◌, ℕ, ℤ, List, Some, None, Err, inl, inr, refl, true≢false}
+use Rattle.std.proofs.Common.{◌≡◌, ap, sym, subst, ◌∙◌, ◌≤◌, ◌^◌, ℕ, ℤ, List, Some, None, Err, inl, inr, refl, true≢false}
 use Rattle.std.proofs.lemmas.Result.{IfOk-weaker, err_from_is_err_and}
 use Rattle.life_base.specs.declared.cell.TheConstants.{MAX_LEVEL}
 use Rattle.life_base.specs.declared.rule.Rule.TheVariants.{Named}
@@ -18,7 +18,7 @@ use Rattle.life_step.specs.Needed.{SomeOfTable, of_next, of_next_root}
 use Rattle.life_step.specs.Refusals.{TableRefusal}
 use Rattle.life_step.proofs.NeedFacts.{full-again}
 use Rattle.life_step.proofs.StateFacts.{cell-byte}
-use Rattle.life_step.proofs.StepFacts.{keeps-all, keeps-of, refused-by, root-high, table-last, table-refused, table-stepped}
+use Rattle.life_step.proofs.StepFacts.{keeps-all, keeps-of, refused-by, root-high, table-last, table-refused-read, table-stepped-read}
 use Rattle.life_step.proofs.stepping.next_by_table.Goals as goal
 
 pub returns-then-not-is_rule_of-clause-refused : goal.returns-then-not-is_rule_of-clause-refused
@@ -45,32 +45,23 @@ next_generation-requires-clause-high c =
 pub returns-in_err-square-clause-refused : goal.returns-in_err-square-clause-refused
 returns-in_err-square-clause-refused c =
     let store = c.args.store.now in
-    let root = c.args.pattern.root in
     let table = c.args.table.now in
-    let t = content store root in
+    let t = content store c.args.pattern.root in
     let fault = c.in_err-square.field-0.0 in
     let law : Table = c.in_ok-by_table.by_table in
     let same : law ≡ table = c.in_ok-by_table.ensures.table in
     let p = err_from_is_err_and c.from_residual-in_err-square.result c.from_residual-in_err-square.ensures.1 in
     let each : GenerationRefusal (TableAnswers law) law.n_states (2 ^ 20) t (Some fault) → (bytes : List ℕ) → IsRead MAX_LEVEL bytes store c.args.pattern
     → (u : Universe) × Reads MAX_LEVEL bytes u × TableRefusal MAX_LEVEL table u (Some fault) =
-    λ h bytes r.
-    let u = r.universe in
-    let fits = c.patterns_fit.ensures _ _ _ r in
-    let full = (known_squares_are_full store root fits.0.known.0).0 in
-    let high = root-high c.args.pattern.rule _ fits.0.level in
-    let is : u.rule ≡ Named table.name = fits.1.rule ∙ c.is_rule_of.ensures.0 c.if-not-is_rule_of.false in
-    let some : u.generation ≢ 2 ^ 64 - 1 = λ e. c.in_ok-generation.ensures.some (sym fits.1.generation ∙ e) in (
-      u,
+    λ h bytes r. (
+      r.universe,
       r.reads,
-      table-refused c.table_answers_at.ensures table u t fits.1.cells c.one_answer.ensures is some full high (Some fault)
+      table-refused-read c.patterns_fit.ensures store c.args.pattern bytes r c.table_answers_at.ensures c.one_answer.ensures table
+          (c.is_rule_of.ensures.0 c.if-not-is_rule_of.false) c.in_ok-generation.ensures.some (Some fault)
           (subst (λ (T : Table). GenerationRefusal (TableAnswers T) T.n_states (2 ^ 20) t (Some fault)) same h),
     ) in
     rw (p.1, p.2)
     (refused-by c.next_generation.new.squares fault _ _ each (λ e. c.in_err-square.ensures.full (ap Err e)) c.in_err-square.ensures.refusals)
-
-pub returns-in_err-square-clause-keeps : goal.returns-in_err-square-clause-keeps
-returns-in_err-square-clause-keeps c = keeps-of _ _ c.in_err-square.ensures.keeps c.in_err-square.ensures.stays c.in_err-square.ensures.most
 
 pub text_of_square-requires-clause-states : goal.text_of_square-requires-clause-states
 text_of_square-requires-clause-states c =
@@ -79,32 +70,21 @@ text_of_square-requires-clause-states c =
     let full = (known_squares_are_full squares c.in_ok-square.square c.in_ok-square.ensures.known.0).0 in
     λ x y. subst (λ q. tree_cell next x y ≤ largest_state q) (sym (c.is_rule_of.ensures.0 c.if-not-is_rule_of.false)) (cell-byte next full x y)
 
+pub returns-in_err-square-clause-keeps : goal.returns-in_err-square-clause-keeps
+returns-in_err-square-clause-keeps c = keeps-of _ _ c.in_err-square.ensures.keeps c.in_err-square.ensures.stays c.in_err-square.ensures.most
+
 pub returns-clause-stepped : goal.returns-clause-stepped
 returns-clause-stepped c =
-    let store = c.args.store.now in
-    let root = c.args.pattern.root in
-    let table = c.args.table.now in
-    let t = content store root in
+    let t = content c.args.store.now c.args.pattern.root in
     let law : Table = c.in_ok-by_table.by_table in
-    let same : law ≡ table = c.in_ok-by_table.ensures.table in
+    let same : law ≡ c.args.table.now = c.in_ok-by_table.ensures.table in
     let next = content c.next_generation.new.squares c.in_ok-square.square in
     let none = subst (λ (T : Table). GenerationRefusal (TableAnswers T) T.n_states (2 ^ 20) t None) same c.in_ok-square.ensures.accepted in
     let cells = subst (λ (T : Table). (x y : ℤ) → TableAnswers T (states_at (tree_cell t) x y) (Becomes (tree_cell next x y))) same c.in_ok-square.ensures.next in
     IfOk-weaker c.text_of_square.result _ _
-    (λ text h bytes r.
-    let u = r.universe in
-    let fits = c.patterns_fit.ensures _ _ _ r in
-    let full = (known_squares_are_full store root fits.0.known.0).0 in
-    let high = root-high c.args.pattern.rule _ fits.0.level in
-    let is : u.rule ≡ Named table.name = fits.1.rule ∙ c.is_rule_of.ensures.0 c.if-not-is_rule_of.false in
-    let some : u.generation ≢ 2 ^ 64 - 1 = λ e. c.in_ok-generation.ensures.some (sym fits.1.generation ∙ e) in (
-      u,
-      r.reads,
-      table-refused c.table_answers_at.ensures table u t fits.1.cells c.one_answer.ensures is some full high None none,
-      table-stepped c.table_answers_at.ensures table u t fits.1.cells c.args.pattern.rule c.in_ok-generation.generation next text.items is (sym fits.1.rule)
-          (c.in_ok-generation.ensures.after ∙ ap (λ n. n + 1) (sym fits.1.generation)) cells h,
-    ))
-    c.text_of_square.ensures.text
+    (λ text h bytes r. table-stepped-read c.patterns_fit.ensures c.args.store.now c.args.pattern bytes r c.table_answers_at.ensures c.one_answer.ensures
+    c.args.table.now (c.is_rule_of.ensures.0 c.if-not-is_rule_of.false) c.in_ok-generation.ensures.some c.in_ok-generation.generation next text.items
+    c.in_ok-generation.ensures.after cells none h) c.text_of_square.ensures.text
 
 pub returns-clause-keeps : goal.returns-clause-keeps
 returns-clause-keeps c = keeps-all _ _ _ (keeps-of _ _ c.in_ok-square.ensures.keeps c.in_ok-square.ensures.stays c.in_ok-square.ensures.most) c.text_of_square.ensures.keeps
