@@ -1,5 +1,5 @@
 -- What the reader and the store of a stream make of the bytes that came.
-use Rattle.std.proofs.Common.{◌≡◌, ℕ, ◌<◌, ◌≤◌, ◌^◌, ◌++◌, ◌∙◌, ap, subst, sym, List, ◌⊎◌, inl, inr, Option, Some}
+use Rattle.std.proofs.Common.{◌≡◌, ℕ, ◌<◌, ◌≤◌, ◌^◌, ◌++◌, ◌∙◌, ap, subst, sym, List, ◌⊎◌, inl, inr, Option, Some, Result, Ok, Err, IfOk, IfErr}
 use Rattle.life_base.specs.Refusal.{fault_of}
 use Rattle.life_base.specs.Rules.{IsRule}
 use Rattle.life_base.specs.declared.cell.TheConstants.{MAX_LEVEL}
@@ -85,6 +85,22 @@ pub next-fault : (limit : ℕ) (bytes : List ℕ) (old store : Nodes) (pattern :
     → RefusesTextOf Next limit bytes fault
 next-fault limit bytes old store pattern fault is read (inl want) = inr (inl (store, is, want))
 next-fault limit bytes old store pattern fault is read (inr step) = inr (inr (step bytes read))
+
+-- the text of what was read is one of this form
+pub form-text : {X : Type 0} {form : Form} {inside self : Piecewise} {store : Nodes} {pattern : Pattern} (items : X → List ℕ) (r : Result X Fault) → inside ≡ self
+    → inside.form ≡ form → IsRead MAX_LEVEL inside.bytes store pattern
+    → IfOk r (λ x. (bytes : List ℕ) → IsRead MAX_LEVEL bytes store pattern → IsTextOf form bytes (items x)) → IfOk r (λ x. IsTextOf self.form self.bytes (items x))
+form-text {inside = inside} items (Ok x) is same read text =
+    subst (λ (v : Piecewise). IsTextOf v.form v.bytes (items x)) is (subst (λ (f : Form). IsTextOf f inside.bytes (items x)) (sym same) (text inside.bytes read))
+form-text items (Err fault) is same read text = tt
+
+-- memory is wanted for a text of any form
+pub wants : {X : Type 0} {inside self : Piecewise} (store : Nodes) (r : Result X Fault) → inside ≡ self → store.limit ≡ inside.room
+    → IfErr r (λ fault. fault ≡ fault_of Memory) → IfErr r (λ fault. (limit : ℕ) → self.room ≡ room_of limit → RefusesTextOf self.form limit self.bytes fault)
+wants store (Ok x) is room memory = tt
+wants {inside = inside} store (Err fault) is room memory = λ limit most.
+    subst (λ (v : Piecewise). RefusesTextOf v.form limit v.bytes fault) is
+    (text-fault inside.form limit inside.bytes store fault (room ∙ ap (λ (v : Piecewise). v.room) is ∙ most) (inr (inl memory)))
 
 -- why a piece is refused
 pub piece-fault : (limit : ℕ) (bytes : List ℕ) (store : Nodes) (fault : Fault) → store.limit ≡ room_of limit

@@ -1,9 +1,9 @@
-use Rattle.std.proofs.Common.{◌∙◌, sym, ap, subst, inl, inr}
+use Rattle.std.proofs.Common.{◌∙◌, sym, ap, subst}
 use Rattle.std.proofs.lemmas.Result.{IfOk-weaker, IfErr-weaker, err_from_is_err_and}
 use Rattle.golly_canon_c.specs.Forms.{Piecewise, IsTextOf, RefusesTextOf}
 use Rattle.golly_canon_c.specs.declared.form.Form.{Form}
 use Rattle.golly_canon_c.proofs.Answering.{both}
-use Rattle.golly_canon_c.proofs.StreamFacts.{text-fault, rle-fault, next-fault}
+use Rattle.golly_canon_c.proofs.StreamFacts.{form-text, text-fault, wants, rle-fault, next-fault}
 use Rattle.golly_canon_c.proofs.feeding.Feeding.text.Goals as goal
 
 pub returns-in_err-pattern-clause-fault : goal.returns-in_err-pattern-clause-fault
@@ -15,16 +15,10 @@ returns-in_err-pattern-clause-fault c =
 
 pub returns-in-Canonical-clause-text : goal.returns-in-Canonical-clause-text
 returns-in-Canonical-clause-text c =
-    let bytes = c.self.inside.reader.bytes in
-    IfOk-weaker c.canonical_of.result _ _ (λ text is. subst (λ (v : Piecewise). IsTextOf v.form v.bytes text.items) c.self.view_is
-    (subst (λ (form : Form). IsTextOf form bytes text.items) (sym c.in-Canonical.is) (is bytes c.in_ok-pattern.ensures.pattern.1))) c.canonical_of.ensures.text
+    form-text (λ text. text.items) c.canonical_of.result c.self.view_is c.in-Canonical.is c.in_ok-pattern.ensures.pattern.1 c.canonical_of.ensures.text
 
 pub returns-in-Canonical-clause-fault : goal.returns-in-Canonical-clause-fault
-returns-in-Canonical-clause-fault c =
-    IfErr-weaker c.canonical_of.result _ _ (λ fault why limit is.
-    let room = c.finish.ensures.keeps.limit ∙ ap (λ (v : Piecewise). v.room) c.self.view_is ∙ is in
-    subst (λ (v : Piecewise). RefusesTextOf v.form limit v.bytes fault) c.self.view_is
-    (text-fault _ limit _ c.finish.new.store fault room (inr (inl why)))) c.canonical_of.ensures.memory
+returns-in-Canonical-clause-fault c = wants c.finish.new.store c.canonical_of.result c.self.view_is c.finish.ensures.keeps.limit c.canonical_of.ensures.memory
 
 pub returns-in-Rle-clause-text : goal.returns-in-Rle-clause-text
 returns-in-Rle-clause-text c =
@@ -43,16 +37,10 @@ returns-in-Rle-clause-fault c =
 
 pub returns-in-Lines-clause-text : goal.returns-in-Lines-clause-text
 returns-in-Lines-clause-text c =
-    let bytes = c.self.inside.reader.bytes in
-    IfOk-weaker c.five_lines_of.result _ _ (λ text is. subst (λ (v : Piecewise). IsTextOf v.form v.bytes text.items) c.self.view_is
-    (subst (λ (form : Form). IsTextOf form bytes text.items) (sym c.in-Lines.is) (is bytes c.in_ok-pattern.ensures.pattern.1))) c.five_lines_of.ensures.text
+    form-text (λ text. text.items) c.five_lines_of.result c.self.view_is c.in-Lines.is c.in_ok-pattern.ensures.pattern.1 c.five_lines_of.ensures.text
 
 pub returns-in-Lines-clause-fault : goal.returns-in-Lines-clause-fault
-returns-in-Lines-clause-fault c =
-    IfErr-weaker c.five_lines_of.result _ _ (λ fault why limit is.
-    let room = c.finish.ensures.keeps.limit ∙ ap (λ (v : Piecewise). v.room) c.self.view_is ∙ is in
-    subst (λ (v : Piecewise). RefusesTextOf v.form limit v.bytes fault) c.self.view_is
-    (text-fault _ limit _ c.finish.new.store fault room (inr (inl why)))) c.five_lines_of.ensures.memory
+returns-in-Lines-clause-fault c = wants c.finish.new.store c.five_lines_of.result c.self.view_is c.finish.ensures.keeps.limit c.five_lines_of.ensures.memory
 
 pub returns-clause-fault : goal.returns-clause-fault
 returns-clause-fault c =
