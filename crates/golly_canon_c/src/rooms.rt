@@ -7,16 +7,16 @@ use life_quad::Shared;
 use std::alloc::Global;
 
 /// How many different squares a store holds at most, whatever limit is asked for.
-const MOST_SQUARES: u64 = 1 << 62;
+const GREATEST_LIMIT: u64 = 1 << 62;
 
 /// An empty store for so many different squares, and for 2^62 where more are asked for.
 pub(crate) fn store_of(alloc: Global, limit: u64) -> Shared
     ensures { result.limit ≡ room_of limit }
 {
-    let most = if limit < MOST_SQUARES {
+    let most = if limit < GREATEST_LIMIT {
         limit
     } else {
-        MOST_SQUARES
+        GREATEST_LIMIT
     };
     Shared::new(alloc, most)
 }
