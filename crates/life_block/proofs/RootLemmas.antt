@@ -279,7 +279,8 @@ module _ (knows : Id → Type 0) (content : Id → Tree) (cells : ℤ → ℤ �
 
   -- two rows with the quarters, and nothing north of them, or south
   in_south : (x : ℤ) (upper lower : Four) → AreFour content cells (2 ^ k) x start upper → AreFour content cells (2 ^ k) x (ahead start (2 ^ k)) lower
-      → AreSixteen content cells (2 ^ k) x (back start (2 ^ k)) (record { far_north = four_of b b b b; north = four_of b b b b; south = upper; far_south = lower })
+      → AreSixteen content cells (2 ^ k) x (back start (2 ^ k))
+      (record { far_north = four_of b b b b; north = four_of b b b b; south = upper; far_south = lower })
   in_south x upper lower first second =
       record {
         far_north = no-north _ _ (omega (arith, ints));
@@ -289,7 +290,8 @@ module _ (knows : Id → Type 0) (content : Id → Tree) (cells : ℤ → ℤ �
       }
 
   in_north : (x : ℤ) (upper lower : Four) → AreFour content cells (2 ^ k) x start upper → AreFour content cells (2 ^ k) x (ahead start (2 ^ k)) lower
-      → AreSixteen content cells (2 ^ k) x (ahead start (2 ^ k)) (record { far_north = upper; north = lower; south = four_of b b b b; far_south = four_of b b b b })
+      → AreSixteen content cells (2 ^ k) x (ahead start (2 ^ k))
+      (record { far_north = upper; north = lower; south = four_of b b b b; far_south = four_of b b b b })
   in_north x upper lower first second =
       record {
         far_north = AreFour-moved content cells (2 ^ k) _ _ _ _ northern first;
