@@ -1,18 +1,12 @@
-//! Tests of `life_canon`: worked files, with the answers that the formats give.
+//! Tests of `life_canon`: worked files in stores with little room, in pieces, and from a source to a sink.
 
-mod calls;
-mod canonical;
+mod chains;
 mod limits;
 mod pieces;
-mod refusals;
 mod runs;
 mod stores;
 
 use crate::worked::{ROOM, fault};
-use life_canon::canon;
-use life_quad::Shared;
-use std::alloc::Global;
-use std::process::Abort;
 
 const GLIDER: &[u8] = b"x = 3, y = 3, rule = B3/S23\nbo$2bo$3o!\n";
 
@@ -21,9 +15,6 @@ const GLIDER_TEXT: &[u8] = b"[M2] (canonical 1)\n#R B3/S23\n$$$$.....*$......*$.
 const BLANK: &[u8] = b"x = 0, y = 0, rule = 23/3\n!\n";
 
 const BLANK_TEXT: &[u8] = b"[M2] (canonical 1)\n#R B3/S23\n";
-
-/// 2^60 + 1 dead cells.
-const LONG_BLANK: &[u8] = b"x = 1, y = 1\n1152921504606846977b!\n";
 
 const CELL: &[u8] = b"#CXRLE Pos=4,0\nx = 1, y = 1, rule = B3/S23\no!\n";
 
@@ -40,9 +31,6 @@ const WIRES_TEXT: &[u8] = b"[M2] (canonical 1)\n#R WireWorld\n#G 7\n1 1 25 0 0\n
 /// One cell in the north-west corner of the plane.
 const CORNER: &[u8] =
     b"#CXRLE Pos=-2305843009213693952,-2305843009213693952\nx = 1, y = 1, rule = B3/S23\no!\n";
-
-/// One cell in column 2^59, which is half of a square of level 60.
-const EAST: &[u8] = b"#CXRLE Pos=576460752303423488,0\nx = 1, y = 1\no!\n";
 
 /// A whole row of the plane.
 const ROW: &[u8] = b"#CXRLE Pos=-2305843009213693952,0\nx = 1, y = 1\n4611686018427387904o!\n";
@@ -80,9 +68,3 @@ const GLIDER_CRLF: &[u8] = b"x = 3, y = 3, rule = B3/S23\r\nbo$2bo$3o!\r\n";
 
 /// The glider without `!`.
 const GLIDER_OPEN: &[u8] = b"x = 3, y = 3, rule = B3/S23\nbo$2bo$3o";
-
-/// The file has this canonical text.
-fn has_text(rt: &impl Abort, alloc: Global, store: &mut Shared, input: &[u8], text: &[u8]) {
-    let out = canon(alloc, store, input).expect(rt, "an answer");
-    assert_eq!(rt; out.as_slice(), text);
-}

@@ -1,34 +1,15 @@
-//! Tests of `life_step`: worked steps, with the answers that the rules give.
-
-mod edges;
-mod life;
-mod limits;
-mod tables;
+//! Tests of `life_step`: each limit of a store in turn. Up to some limit a step is refused for want of room. The store that just suffices
+//! takes the step again.
 
 use crate::worked::{ROOM, fault};
 use life_base::{Fault, Kind};
-use life_canon::canon;
 use life_quad::Shared;
 use life_step::{step_life, step_table};
 use life_table::{Table, read_table};
 use std::alloc::Global;
 use std::process::Abort;
 
-/// The canonical text behind some steps, one or more, by a table or under the file's own rule.
-fn stepped(
-    alloc: Global,
-    file: &[u8],
-    table: Option<&Table>,
-    steps: u32,
-) -> Result<Vec<u8>, Fault> {
-    let mut store = Shared::new(alloc, ROOM);
-    let mut text = one_step(alloc, &mut store, file, table)?;
-    for _ in 1..steps {
-        text = one_step(alloc, &mut store, &text, table)?;
-    }
-    Ok(text)
-}
-
+/// The canonical text of the next generation of a file, by a table or under the file's own rule.
 fn one_step(
     alloc: Global,
     store: &mut Shared,
@@ -41,41 +22,124 @@ fn one_step(
     }
 }
 
-/// The pattern becomes that of another file, whose canonical text is longer than it: `canon` answers it, by its contract the one of this
-/// pattern.
-fn becomes(rt: &impl Abort, alloc: Global, file: &[u8], steps: u32, other: &[u8]) {
-    let text = stepped(alloc, file, None, steps).expect(rt, "an answer");
-    let mut store = Shared::new(alloc, ROOM);
-    let wanted = canon(alloc, &mut store, other).expect(rt, "an answer");
-    assert_eq!(rt; text.as_slice(), wanted.as_slice());
-}
+const SPREAD: &[u8] =
+    b"@RULE Spread\n@TABLE\nn_states:3\nneighborhood:vonNeumann\nsymmetries:rotate4\nvar a={1,2}\n0,a,0,0,0,a\n";
 
-/// Some steps of the file have this text.
-fn gives(rt: &impl Abort, alloc: Global, file: &[u8], steps: u32, text: &[u8]) {
-    let out = stepped(alloc, file, None, steps).expect(rt, "an answer");
-    assert_eq!(rt; out.as_slice(), text);
-}
+/// State 1 is the head of an electron, 2 its tail, 3 wire. A wire becomes a head beside one head or two.
+const WIREWORLD: &[u8] =
+    b"@RULE WireWorld\n@TABLE\nn_states:4\nneighborhood:Moore\nsymmetries:permute\n\
+    var a={0,1,2,3}\nvar b={a}\nvar c={a}\nvar d={a}\nvar e={a}\nvar f={a}\nvar g={a}\nvar h={a}\n\
+    var i={0,2,3}\nvar j={i}\nvar k={i}\nvar l={i}\nvar m={i}\nvar n={i}\nvar o={i}\n\
+    1,a,b,c,d,e,f,g,h,2\n2,a,b,c,d,e,f,g,h,3\n3,1,i,j,k,l,m,n,o,1\n3,1,1,i,j,k,l,m,n,1\n";
 
-/// Some steps of the file by a table have this text.
-fn gives_by(rt: &impl Abort, alloc: Global, table: &[u8], file: &[u8], steps: u32, text: &[u8]) {
-    let table = read_table(alloc, table).expect(rt, "an answer");
-    let out = stepped(alloc, file, Some(&table), steps).expect(rt, "an answer");
-    assert_eq!(rt; out.as_slice(), text);
-}
+/// The greatest limit that is tried.
+const MOST: u64 = 4096;
 
-/// A step of the file is refused at this line.
-fn refuses(rt: &impl Abort, alloc: Global, file: &[u8], line: u64, kind: Kind) {
+/// Cells of a B/S rule whose squares no file of these tests has.
+const OTHER: &[u8] = b"x = 40, y = 3\nob2o3b4o5bo3bo2b5o!\n";
+
+/// The step of a full store that holds what it needs, and the same step behind a file for which there is no room.
+fn is_served(
+    rt: &impl Abort,
+    alloc: Global,
+    store: &mut Shared,
+    table: Option<&Table>,
+    file: &[u8],
+    text: &[u8],
+) {
+    let again = one_step(alloc, store, file, table).expect(rt, "an answer");
+    assert_eq!(rt; again.as_slice(), text);
     assert_eq!(rt;
-        stepped(alloc, file, None, 1).err(),
-        Some(fault(line, kind))
+        one_step(alloc, store, OTHER, None).err(),
+        Some(fault(0, Kind::Full))
+    );
+    let behind = one_step(alloc, store, file, table).expect(rt, "an answer");
+    assert_eq!(rt; behind.as_slice(), text);
+}
+
+/// Below the first limit that suffices the step is refused, by a store that is full then.
+fn takes_room(rt: &impl Abort, alloc: Global, table: Option<&Table>, file: &[u8], text: &[u8]) {
+    let mut suffices = false;
+    for limit in 0..=MOST {
+        let mut store = Shared::new(alloc, limit);
+        match one_step(alloc, &mut store, file, table) {
+            Ok(out) => {
+                assert_eq!(rt; out.as_slice(), text);
+                if !suffices {
+                    assert_eq!(rt; store.len(), limit);
+                    is_served(rt, alloc, &mut store, table, file, text);
+                }
+                suffices = true;
+            }
+            Err(found) => {
+                assert!(rt; !suffices);
+                assert_eq!(rt; found, fault(0, Kind::Full));
+                assert_eq!(rt; store.len(), limit);
+            }
+        }
+    }
+    assert!(rt; suffices);
+}
+
+#[test]
+fn steps_under_a_rule_take_room(rt: HostRuntime) {
+    let alloc = rt.alloc();
+    takes_room(
+        &rt,
+        alloc,
+        None,
+        b"x = 3, y = 1\n3o!\n",
+        b"[M2] (canonical 1)\n#R B3/S23\n#G 1\n$$$.....*$.....*$.....*$$$\n",
+    );
+    takes_room(
+        &rt,
+        alloc,
+        None,
+        b"x = 3, y = 3, rule = B3/S23\nbo$2bo$3o!\n",
+        b"[M2] (canonical 1)\n#R B3/S23\n#G 1\n$$$$$....*.*$.....**$.....*$\n",
+    );
+    takes_room(
+        &rt,
+        alloc,
+        None,
+        b"#CXRLE Pos=-12,0\nx = 23, y = 1\n3o17b3o!\n",
+        b"[M2] (canonical 1)\n#R B3/S23\n#G 1\n$$$$$$$.....*$\n4 0 0 1 0\n$$$$$$$.*$\n4 0 0 0 3\n\
+        .....*$.....*$$$$$$$\n4 5 0 0 0\n.*$.*$$$$$$$\n4 0 7 0 0\n5 2 4 6 8\n",
     );
 }
 
-/// A step of the file by a table is refused.
-fn refuses_by(rt: &impl Abort, alloc: Global, table: &[u8], file: &[u8], line: u64, kind: Kind) {
-    let table = read_table(alloc, table).expect(rt, "an answer");
-    assert_eq!(rt;
-        stepped(alloc, file, Some(&table), 1).err(),
-        Some(fault(line, kind))
+#[test]
+fn steps_by_a_table_take_room(rt: HostRuntime) {
+    let alloc = rt.alloc();
+    let spread = read_table(alloc, SPREAD).expect(&rt, "a table");
+    takes_room(
+        &rt,
+        alloc,
+        Some(&spread),
+        b"x = 4, y = 1, rule = Spread\nA2.B!\n",
+        b"[M2] (canonical 1)\n#R Spread\n#G 1\n1 0 0 1 0\n1 0 0 0 2\n2 0 0 1 2\n3 0 0 3 0\n1 0 1 0 0\n\
+        2 0 5 0 0\n3 0 6 0 0\n1 1 1 1 0\n1 2 2 0 2\n2 8 9 0 0\n1 2 0 0 0\n2 11 0 0 0\n3 10 12 0 0\n4 0 4 7 13\n",
     );
+    let wire_world = read_table(alloc, WIREWORLD).expect(&rt, "a table");
+    takes_room(
+        &rt,
+        alloc,
+        Some(&wire_world),
+        b"x = 6, y = 1, rule = WireWorld\nBA4C!\n",
+        b"[M2] (canonical 1)\n#R WireWorld\n#G 1\n1 3 2 0 0\n1 1 3 0 0\n2 1 2 0 0\n1 3 3 0 0\n2 4 0 0 0\n\
+        3 3 5 0 0\n4 0 0 0 6\n",
+    );
+}
+
+#[test]
+fn a_full_store_takes_no_step(rt: HostRuntime) {
+    let alloc = rt.alloc();
+    let mut store = Shared::new(alloc, 0);
+    assert_eq!(rt;
+        step_life(alloc, &mut store, b"x = 3, y = 1\n3o!\n").err(),
+        Some(fault(0, Kind::Full))
+    );
+    assert_eq!(rt; store.len(), 0);
+    let mut room = Shared::new(alloc, ROOM);
+    assert!(rt; step_life(alloc, &mut room, b"x = 3, y = 1\n3o!\n").is_ok());
 }

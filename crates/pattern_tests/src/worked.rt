@@ -1,4 +1,4 @@
-//! What the worked files and steps share.
+//! What the tests of files and steps share.
 
 use life_base::{Fault, Kind, Place};
 

@@ -1,6 +1,6 @@
 //! Each limit of a store in turn: up to some limit a file is refused for want of room, and from there on it has its text.
 
-use super::canonical::{chain, text_of_the_corner};
+use super::chains::{chain, text_of_the_corner};
 use super::{
     BLANK, BLANK_TEXT, CELL, CELL_TEXT, CORNER, FAR, GLIDER, GLIDER_TEXT, LEVELS, ONE, PAIR,
     PAIR_TEXT, REPEATS, THREE, THREE_OF_LIFE, TOWER, TURNED, TURNED_TEXT, TWO_RUNS, WIRES,

@@ -2,7 +2,7 @@
 ghost use Rattle.std.specs.Prelude.{◌≡◌, false};
 ghost use Rattle.life_canon.specs.Feeding.{Stands};
 
-use super::canonical::text_of_the_row;
+use super::chains::text_of_the_row;
 use super::{
     GLIDER, GLIDER_CRLF, GLIDER_OPEN, GLIDER_TEXT, PAIR, PAIR_TEXT, REPEATS, ROOM, ROW, WIRES,
     WIRES_TEXT, fault,

@@ -1,19 +1,16 @@
 //! From a source to a sink.
 
+use super::stores::text_run;
 use super::{BLANK_TEXT, PAIR, PAIR_TEXT, ROOM, fault};
 use life_base::{Device, Kind};
-use life_canon::{five_lines_of, read_from, rle_of, run_canon, run_canon_within};
+use life_canon::{five_lines_of, read_from, rle_of, run_canon_within};
 use life_quad::Shared;
 
 #[test]
 fn a_file_goes_from_source_to_sink(rt: HostRuntime) {
     let alloc = rt.alloc();
     let mut store = Shared::new(alloc, ROOM);
-    let mut text = Vec::new(alloc);
-    let mut reader = Device::new(PAIR);
-    let mut writer = Device::new(&mut text);
-    run_canon(alloc, &mut store, &mut reader, &mut writer).expect(&rt, "an answer");
-    drop(writer);
+    let text = text_run(alloc, &mut store, PAIR).expect(&rt, "an answer");
     assert_eq!(rt; text.as_slice(), PAIR_TEXT);
 }
 

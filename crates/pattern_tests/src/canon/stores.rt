@@ -4,13 +4,19 @@
 use super::pieces::text_of;
 use super::{
     BLANK, BLANK_TEXT, CELL, CELL_TEXT, GLIDER, GLIDER_TEXT, PAIR, PAIR_TEXT, REPEATS, ROOM, TOWER,
-    WIRES, WIRES_TEXT, fault, has_text,
+    WIRES, WIRES_TEXT, fault,
 };
 use life_base::{Device, Fault, Kind};
 use life_canon::{Reader, canon, run_canon, same, show, to_rle};
 use life_quad::Shared;
 use std::alloc::Global;
 use std::process::Abort;
+
+/// The file has this canonical text.
+fn has_text(rt: &impl Abort, alloc: Global, store: &mut Shared, input: &[u8], text: &[u8]) {
+    let out = canon(alloc, store, input).expect(rt, "an answer");
+    assert_eq!(rt; out.as_slice(), text);
+}
 
 #[test]
 fn a_store_without_room_takes_a_blank_pattern(rt: HostRuntime) {
@@ -39,7 +45,7 @@ fn text_fed(alloc: Global, store: &mut Shared, input: &[u8]) -> Result<Vec<u8>, 
 }
 
 /// The canonical text of a file that goes from a source to a sink.
-fn text_run(alloc: Global, store: &mut Shared, input: &[u8]) -> Result<Vec<u8>, Fault> {
+pub(super) fn text_run(alloc: Global, store: &mut Shared, input: &[u8]) -> Result<Vec<u8>, Fault> {
     let mut text = Vec::new(alloc);
     let mut reader = Device::new(input);
     let mut writer = Device::new(&mut text);

@@ -4,6 +4,9 @@ use crate::answer::Unanswered;
 use life_base::{Fault, Kind, Rule};
 use std::alloc::Global;
 
+/// More squares than a store may hold in these tests.
+pub(crate) const ROOM: u64 = 1 << 31;
+
 /// Adds a byte as a row writes it.
 fn show_byte(out: &mut String, byte: u8) -> Result<(), Unanswered> {
     match byte {
@@ -36,6 +39,17 @@ pub(crate) fn show_bool(out: &mut String, holds: bool) -> Result<(), Unanswered>
 pub(crate) fn show_fault(out: &mut String, fault: &Fault) -> Result<(), Unanswered> {
     write!(out, "{} {}", fault.place.line, fault.kind.name())?;
     Ok(())
+}
+
+/// Adds a text, or the line and the kind of a fault.
+pub(crate) fn show_text(
+    out: &mut String,
+    answer: Result<Vec<u8>, Fault>,
+) -> Result<(), Unanswered> {
+    match answer {
+        Ok(text) => show_bytes(out, &text),
+        Err(fault) => show_fault(out, &fault),
+    }
 }
 
 /// Adds the text of a rule.

@@ -1,6 +1,6 @@
 //! Why a row has no answer.
 
-use life_base::Kind;
+use life_base::{Fault, Kind};
 use std::alloc::{AllocError, AllocFailed};
 
 /// Why a row has no answer. What a call refuses is an answer, and none of these.
@@ -34,6 +34,12 @@ impl Unanswered {
 impl From<Kind> for Unanswered {
     fn from(kind: Kind) -> Unanswered {
         Unanswered::Refused(kind)
+    }
+}
+
+impl From<Fault> for Unanswered {
+    fn from(fault: Fault) -> Unanswered {
+        Unanswered::Refused(fault.kind)
     }
 }
 

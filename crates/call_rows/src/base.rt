@@ -1,7 +1,7 @@
 //! Calls of `life_base`.
 
 use crate::answer::Unanswered;
-use crate::row::halves;
+use crate::row::{halves, number_of};
 use crate::shown::{show_bool, show_bytes, show_rule};
 use life_base::{
     Kind, Rule, begins_with, leading_number, line_end, line_fits, lines, read_i64, read_u64,
@@ -90,14 +90,6 @@ pub(crate) fn first_end(out: &mut String, text: &[u8]) -> Result<(), Unanswered>
         None => out.push_str("none")?,
     }
     Ok(())
-}
-
-/// The number of a text that has digits alone.
-fn number_of(text: &[u8]) -> Result<u64, Unanswered> {
-    let Ok(text) = std::str::from_utf8(text) else {
-        return Err(Unanswered::BadInput);
-    };
-    text.parse::<u64>().map_err(|_| Unanswered::BadInput)
 }
 
 /// Whether a line of so many bytes may have so many more.

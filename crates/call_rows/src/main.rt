@@ -1,6 +1,6 @@
-//! Answers rows of standard input: tests of `life_base`, `life_rle`, `life_mc` and `life_table` for what no clause says, where they are
-//! tables of inputs and answers. The inputs stand in the file `stdin` of this crate and the answers in `stdout`, so that a row more is
-//! nothing more to prove.
+//! Answers rows of standard input: tests of `life_base`, `life_rle`, `life_mc`, `life_table`, `life_canon` and `life_step` for what no
+//! clause says, where they are tables of inputs and answers. The inputs stand in the file `stdin` of this crate and the answers in
+//! `stdout`, so that a row more is nothing more to prove.
 //!
 //! A row is the name of a call, `|` and an input, whose bytes are written so:
 //!
@@ -8,17 +8,19 @@
 //! - `\t`, `\r` and `\\` are a tab, a carriage return and a backslash, and `\xNN` is the byte of that number;
 //! - `\NUMBER*` stands for so many times the byte that is written behind it.
 //!
-//! An input of two has another `|` between them. Each row is answered by a line, and a last line tells how many there were. Rows that begin
+//! An input of several has another `|` between each two. Each row is answered by a line, and a last line tells how many there were. Rows that begin
 //! with `#` are comments. A row that has no answer, as one of a call that is not there, ends the program with status 1.
 #![tactic(auto)]
 
 mod answer;
 mod base;
+mod canon;
 mod escaped;
 mod mc;
 mod rle;
 mod row;
 mod shown;
+mod step;
 mod table;
 
 use life_base::{Device, Kind, lines, read_within};

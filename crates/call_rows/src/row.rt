@@ -2,7 +2,7 @@
 
 use crate::answer::Unanswered;
 use crate::escaped::bytes_of;
-use crate::{base, mc, rle, table};
+use crate::{base, canon, mc, rle, step, table};
 use std::alloc::Global;
 
 /// A text in front of its first `|`, and what stands behind it.
@@ -11,6 +11,14 @@ pub(crate) fn halves(text: &[u8]) -> Result<(&[u8], &[u8]), Unanswered> {
         Some(bar) => Ok((&text[..bar], &text[bar + 1..])),
         None => Err(Unanswered::NoInput),
     }
+}
+
+/// The number of a text that has digits alone.
+pub(crate) fn number_of(text: &[u8]) -> Result<u64, Unanswered> {
+    let Ok(text) = std::str::from_utf8(text) else {
+        return Err(Unanswered::BadInput);
+    };
+    text.parse::<u64>().map_err(|_| Unanswered::BadInput)
 }
 
 /// Adds what a call answers to an input.
@@ -35,6 +43,16 @@ fn answer(alloc: Global, out: &mut String, call: &str, input: &[u8]) -> Result<(
         "table_counts" => table::counts(alloc, out, input),
         "table" => table::whole(alloc, out, input),
         "next" => table::next(alloc, out, input),
+        "canonical" => canon::canonical(alloc, out, input),
+        "refused" => canon::refused(alloc, out, input),
+        "same" => canon::compared(alloc, out, input),
+        "show" => canon::five_lines(alloc, out, input),
+        "to_rle" => canon::runs(alloc, out, input),
+        "step_life" => step::by_rule(alloc, out, input),
+        "step_table" => step::by_table(alloc, out, input),
+        "becomes" => step::becomes(alloc, out, input),
+        "next_by_rule" => step::next_of_pattern(alloc, out, input),
+        "next_by_table" => step::next_of_pattern_by_table(alloc, out, input),
         _ => Err(Unanswered::NoCall),
     }
 }
