@@ -13,8 +13,8 @@ use Rattle.life_mc.specs.Cells.{cell as macrocell_cell}
 use Rattle.life_mc.specs.Reading.{AreMacrocell, broken}
 use Rattle.life_mc.proofs.Accepted.{files_are_valid}
 use Rattle.life_mc.proofs.FormatLaws.{files_are_unique}
-use Rattle.life_rle.specs.declared.opening.Opening.{Opening}
-use Rattle.life_rle.specs.declared.opening.Opening.TheVariants.{Comment, PositionLine, Header}
+use Rattle.life_rle.specs.declared.line.Opening.{Opening}
+use Rattle.life_rle.specs.declared.line.Opening.TheVariants.{Comment, PositionLine, Header}
 use Rattle.life_rle.specs.declared.position.Position.{Position}
 use Rattle.life_rle.specs.Grammar.{IsRle, IsUnmarked, IsPreamble, opening_of}
 use Rattle.life_rle.specs.Pattern.{Rle, placed, cell as rle_cell}
