@@ -1,9 +1,10 @@
 -- A cell joins the run in front of it, or ends it.
-use Rattle.std.proofs.Common.{◌≡◌, ℕ, zero, suc, ◌+◌, ◌<◌, ◌⊎◌, inl, inr, Bool, true, false, cond, ◌&&◌, List, [], ◌∷◌, ◌++◌, refl, sym, ap, ◌∙◌, subst, arith, eqb, ℤ, pos, ◌+ℤ◌, ◌-ℤ◌, ◌≤ℤ◌, ◌<ℤ◌}
+use Rattle.std.proofs.Common.{◌≡◌, ℕ, zero, suc, ◌+◌, ◌<◌, ◌⊎◌, inl, inr, Bool, true, false, cond, ◌&&◌, List, [], ◌∷◌, ◌++◌, refl, sym, ap, ◌∙◌, subst, arith, eqb, ℤ, pos, ◌+ℤ◌, ◌-ℤ◌, ◌≤ℤ◌, ◌<ℤ◌, FitsSigned, w64}
 use Rattle.std.specs.Prelude.{nat_abs}
 use Rattle.std.specs.Ordering.{int_eq}
-use Rattle.std.proofs.lemmas.Int.{ints}
+use Rattle.std.proofs.lemmas.Int.{ints, to_z-of_z}
 use Rattle.std.proofs.lemmas.Bool.Decides.{nat_tests}
+use mir.Val.{to_z, of_z}
 use Rattle.life_base.specs.declared.cell.Cell.{Cell}
 use Rattle.life_rle.specs.declared.item.Item.{Item}
 use Rattle.life_rle.specs.declared.item.Item.TheVariants.{Cells, RowEnds}
@@ -13,6 +14,10 @@ use Rattle.life_rle.specs.declared.bounds.Bounds.{Bounds}
 use Rattle.life_rle.specs.declared.pen.Pen.{Pen}
 use Rattle.life_rle.specs.Writing.{with_open, way_to, joins, items_text, pen_text, Puts, IsPen, IsGoodCell, IsAhead, Follow, WritesCell, WritesUpTo}
 use Rattle.life_rle.proofs.PutItems.{Puts-then}
+
+-- how far apart two coordinates are that were passed as words of the machine
+pub distance_is : (n : ℕ) (from to : ℤ) → FitsSigned w64 from → FitsSigned w64 to → n ≡ nat_abs (to_z w64 (of_z w64 to) -ℤ to_z w64 (of_z w64 from)) → n ≡ nat_abs (to -ℤ from)
+distance_is n from to f t e = simp to_z-of_z at e
 
 eqb-same : (n : ℕ) → eqb n n ≡ true
 eqb-same n = grind (arith, nat_tests)

@@ -93,46 +93,6 @@ fn distance(from: i64, to: i64) -> u64
     (to - from) as u64
 }
 
-/// How many rows a cell lies behind the pen.
-fn rows_ahead(pen: Pen, cell: &Cell) -> u64
-    requires pen { IsPen pen }
-    requires cell { cell.now.y <ℤ edge MAX_LEVEL }
-    requires rises { pen.y ≤ℤ cell.now.y }
-    ensures { result ≡ nat_abs (cell.now.y -ℤ pen.y) }
-{
-    distance(pen.y, cell.y)
-}
-
-/// How many dead cells lie between the pen and a cell of its row.
-fn cells_ahead(pen: Pen, cell: &Cell) -> u64
-    requires pen { IsPen pen }
-    requires cell { cell.now.x <ℤ edge MAX_LEVEL }
-    requires rises { pen.x ≤ℤ cell.now.x }
-    ensures { result ≡ nat_abs (cell.now.x -ℤ pen.x) }
-{
-    distance(pen.x, cell.x)
-}
-
-/// How many dead cells lie in front of a cell that is the first of its row.
-fn cells_in_front(pen: Pen, cell: &Cell) -> u64
-    requires pen { IsPen pen }
-    requires cell { cell.now.x <ℤ edge MAX_LEVEL }
-    requires rises { pen.left ≤ℤ cell.now.x }
-    ensures { result ≡ nat_abs (cell.now.x -ℤ pen.left) }
-{
-    distance(pen.left, cell.x)
-}
-
-/// How many dead cells lie in front of the first cell.
-fn first_gap(bounds: Bounds, cell: &Cell) -> u64
-    requires left { neg_ℤ (edge MAX_LEVEL) ≤ℤ bounds.left }
-    requires cell { cell.now.x <ℤ edge MAX_LEVEL }
-    requires rises { bounds.left ≤ℤ cell.now.x }
-    ensures { result ≡ nat_abs (cell.now.x -ℤ bounds.left) }
-{
-    distance(bounds.left, cell.x)
-}
-
 /// Writes what stands between the pen's run and a cell ahead of it.
 fn put_way(
     out: &mut Vec<u8>,
@@ -148,12 +108,12 @@ fn put_way(
     ensures way { IfOk result (λ next. Puts rule.now used (way_to pen.left pen.x pen.y cell.now) out.old.items next out.new.items) }
     ensures memory { IfErr result (λ kind. kind ≡ Kind.Memory) }
 {
-    let count = rows_ahead(pen, cell);
+    let count = distance(pen.y, cell.y);
     if count == 0 {
-        return put_gap(out, rule, used, cells_ahead(pen, cell));
+        return put_gap(out, rule, used, distance(pen.x, cell.x));
     }
     let next = put_item(out, rule, used, Item::RowEnds { count })?;
-    put_gap(out, rule, next, cells_in_front(pen, cell))
+    put_gap(out, rule, next, distance(pen.left, cell.x))
 }
 
 /// Takes the next cell: it joins the pen's run, or the run is written with what stands before the cell.
@@ -201,6 +161,6 @@ pub(crate) fn write_cells(
     ensures text { OnOk result (out.new.items ≡ out.old.items ++ items_text rule.now 0 (items_from bounds.left bounds.left bounds.top (first.now ∷ cells.now))) }
     ensures memory { IfErr result (λ kind. kind ≡ Kind.Memory) }
 {
-    let used = put_gap(out, rule, 0, first_gap(bounds, first))?;
+    let used = put_gap(out, rule, 0, distance(bounds.left, first.x))?;
     write_behind(out, rule, first_pen(bounds, used, first), cells)
 }
