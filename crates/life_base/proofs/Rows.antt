@@ -1,5 +1,5 @@
 -- The definitions at worked examples, by computation.
-use Rattle.std.proofs.Common.{◌≡◌, ℕ, ◌^◌, List, [], ◌∷◌, refl}
+use Rattle.std.proofs.Common.{◌≡◌, ℕ, ◌^◌, List, [], ◌∷◌, map, refl}
 use Rattle.std.specs.Prelude.{codes, Result, Ok, Err}
 use Rattle.life_base.specs.Text.{lines_of, words_of, value_of}
 use Rattle.life_base.specs.Rules.{rule_of, rule_text, life_sets, four_sets, moore_rule_of, counting}
@@ -9,145 +9,53 @@ use Rattle.life_base.specs.declared.rule.Near.TheVariants.{VonNeumann}
 use Rattle.life_base.specs.declared.rule.Rule.{Rule}
 use Rattle.life_base.specs.declared.rule.Rule.TheVariants.{Named}
 
+-- the canonical text of a rule, where it is one
 abbrev text_of : Result Rule Kind → Result (List ℕ) Kind
 text_of (Ok rule) = Ok (rule_text rule)
 text_of (Err kind) = Err kind
 
-row_0 : text_of (rule_of (codes "B/S")) ≡ Ok (codes "B/S")
-unfolding rule_of life_sets four_sets
-row_0 = refl
+-- texts of rules, and what is read in each
+abbrev rule_rows : List (List ℕ × Result (List ℕ) Kind)
+rule_rows =
+    (codes "B/S", Ok (codes "B/S")) ∷
+    (codes "BS", Ok (codes "B/S")) ∷
+    (codes "/", Ok (codes "B/S")) ∷
+    (codes "23/", Ok (codes "B/S23")) ∷
+    (codes "23/3", Ok (codes "B3/S23")) ∷
+    (codes "b3s23", Ok (codes "B3/S23")) ∷
+    (codes "S23/B3", Ok (codes "B3/S23")) ∷
+    (codes "s32B333", Ok (codes "B3/S23")) ∷
+    (codes " B3/S23\t", Ok (codes "B3/S23")) ∷
+    (codes "b012/s", Err BirthOnZero) ∷
+    (codes "B3", Ok (codes "B3")) ∷
+    (codes "Life", Ok (codes "Life")) ∷
+    (codes "B2-a/S12", Err UnsupportedRule) ∷
+    (codes "B2/", Err UnsupportedRule) ∷
+    (codes "B9/S1", Err UnsupportedRule) ∷
+    (codes "B3S23V", Ok (codes "B3/S23V")) ∷
+    (codes "23/3V", Err UnsupportedRule) ∷
+    (codes "B3/S23h", Err UnsupportedRule) ∷
+    (codes "a/b/c", Err UnsupportedRule) ∷
+    (codes "B3/S23:T20", Err BoundedGrid) ∷
+    (codes "", Err BadRule) ∷
+    (codes "B3 S23", Err BadRule) ∷
+    (codes "B36/S125", Ok (codes "B36/S125")) ∷
+    (codes "W110", Ok (codes "W110")) ∷
+    (codes "B2-aS12", Ok (codes "B2-aS12")) ∷
+    (codes "b31/s20v", Ok (codes "B13/S02V")) ∷
+    (codes "B0/S1V", Err BirthOnZero) ∷
+    (codes "B05/S2V", Err UnsupportedRule) ∷
+    (codes "B3/S23H", Err UnsupportedRule) ∷
+    (codes "S23/B3V", Err UnsupportedRule) ∷
+    (codes "B/SV", Ok (codes "B/SV")) ∷
+    (codes "BSv", Ok (codes "B/SV")) ∷
+    (codes "B1/S4VV", Err UnsupportedRule) ∷
+    (codes "V", Ok (codes "V")) ∷
+    []
 
-row_1 : text_of (rule_of (codes "BS")) ≡ Ok (codes "B/S")
+rules_are_read : map (λ row. text_of (rule_of row.0)) rule_rows ≡ map (λ row. row.1) rule_rows
 unfolding rule_of life_sets four_sets
-row_1 = refl
-
-row_2 : text_of (rule_of (codes "/")) ≡ Ok (codes "B/S")
-unfolding rule_of life_sets four_sets
-row_2 = refl
-
-row_3 : text_of (rule_of (codes "23/")) ≡ Ok (codes "B/S23")
-unfolding rule_of life_sets four_sets
-row_3 = refl
-
-row_4 : text_of (rule_of (codes "23/3")) ≡ Ok (codes "B3/S23")
-unfolding rule_of life_sets four_sets
-row_4 = refl
-
-row_5 : text_of (rule_of (codes "b3s23")) ≡ Ok (codes "B3/S23")
-unfolding rule_of life_sets four_sets
-row_5 = refl
-
-row_6 : text_of (rule_of (codes "S23/B3")) ≡ Ok (codes "B3/S23")
-unfolding rule_of life_sets four_sets
-row_6 = refl
-
-row_7 : text_of (rule_of (codes "s32B333")) ≡ Ok (codes "B3/S23")
-unfolding rule_of life_sets four_sets
-row_7 = refl
-
-row_8 : text_of (rule_of (codes " B3/S23\t")) ≡ Ok (codes "B3/S23")
-unfolding rule_of life_sets four_sets
-row_8 = refl
-
-row_9 : text_of (rule_of (codes "b012/s")) ≡ Err BirthOnZero
-unfolding rule_of life_sets four_sets
-row_9 = refl
-
-row_10 : text_of (rule_of (codes "B3")) ≡ Ok (codes "B3")
-unfolding rule_of life_sets four_sets
-row_10 = refl
-
-row_11 : text_of (rule_of (codes "Life")) ≡ Ok (codes "Life")
-unfolding rule_of life_sets four_sets
-row_11 = refl
-
-row_12 : text_of (rule_of (codes "B2-a/S12")) ≡ Err UnsupportedRule
-unfolding rule_of life_sets four_sets
-row_12 = refl
-
-row_13 : text_of (rule_of (codes "B2/")) ≡ Err UnsupportedRule
-unfolding rule_of life_sets four_sets
-row_13 = refl
-
-row_14 : text_of (rule_of (codes "B9/S1")) ≡ Err UnsupportedRule
-unfolding rule_of life_sets four_sets
-row_14 = refl
-
-row_15 : text_of (rule_of (codes "B3S23V")) ≡ Ok (codes "B3/S23V")
-unfolding rule_of life_sets four_sets
-row_15 = refl
-
-row_16 : text_of (rule_of (codes "23/3V")) ≡ Err UnsupportedRule
-unfolding rule_of life_sets four_sets
-row_16 = refl
-
-row_17 : text_of (rule_of (codes "B3/S23h")) ≡ Err UnsupportedRule
-unfolding rule_of life_sets four_sets
-row_17 = refl
-
-row_18 : text_of (rule_of (codes "a/b/c")) ≡ Err UnsupportedRule
-unfolding rule_of life_sets four_sets
-row_18 = refl
-
-row_19 : text_of (rule_of (codes "B3/S23:T20")) ≡ Err BoundedGrid
-unfolding rule_of life_sets four_sets
-row_19 = refl
-
-row_20 : text_of (rule_of (codes "")) ≡ Err BadRule
-unfolding rule_of life_sets four_sets
-row_20 = refl
-
-row_21 : text_of (rule_of (codes "B3 S23")) ≡ Err BadRule
-unfolding rule_of life_sets four_sets
-row_21 = refl
-
-row_22 : text_of (rule_of (codes "B36/S125")) ≡ Ok (codes "B36/S125")
-unfolding rule_of life_sets four_sets
-row_22 = refl
-
-row_23 : text_of (rule_of (codes "W110")) ≡ Ok (codes "W110")
-unfolding rule_of life_sets four_sets
-row_23 = refl
-
-row_24 : text_of (rule_of (codes "B2-aS12")) ≡ Ok (codes "B2-aS12")
-unfolding rule_of life_sets four_sets
-row_24 = refl
-
-row_25 : text_of (rule_of (codes "b31/s20v")) ≡ Ok (codes "B13/S02V")
-unfolding rule_of life_sets four_sets
-row_25 = refl
-
-row_26 : text_of (rule_of (codes "B0/S1V")) ≡ Err BirthOnZero
-unfolding rule_of life_sets four_sets
-row_26 = refl
-
-row_27 : text_of (rule_of (codes "B05/S2V")) ≡ Err UnsupportedRule
-unfolding rule_of life_sets four_sets
-row_27 = refl
-
-row_28 : text_of (rule_of (codes "B3/S23H")) ≡ Err UnsupportedRule
-unfolding rule_of life_sets four_sets
-row_28 = refl
-
-row_29 : text_of (rule_of (codes "S23/B3V")) ≡ Err UnsupportedRule
-unfolding rule_of life_sets four_sets
-row_29 = refl
-
-row_30 : text_of (rule_of (codes "B/SV")) ≡ Ok (codes "B/SV")
-unfolding rule_of life_sets four_sets
-row_30 = refl
-
-row_31 : text_of (rule_of (codes "BSv")) ≡ Ok (codes "B/SV")
-unfolding rule_of life_sets four_sets
-row_31 = refl
-
-row_32 : text_of (rule_of (codes "B1/S4VV")) ≡ Err UnsupportedRule
-unfolding rule_of life_sets four_sets
-row_32 = refl
-
-row_33 : text_of (rule_of (codes "V")) ≡ Ok (codes "V")
-unfolding rule_of life_sets four_sets
-row_33 = refl
+rules_are_read = refl
 
 four_is_a_rule : rule_of (codes "B1/S0V") ≡ Ok (counting VonNeumann (record { births = 2; survivals = 1 }))
 unfolding rule_of life_sets four_sets

@@ -40,40 +40,21 @@ blank_is (quad a b c d) f h =
     λ i. quad (ea i) (eb i) (ec i) (ed i)
 
 -- quarters of equal squares are equal
-pub quad_nw : {a b c d p q r s : Tree} → quad a b c d ≡ quad p q r s → a ≡ p
-quad_nw {a} e = ap (λ t. first a t) e
-  where
-    first : Tree → Tree → Tree
-    first z (point n) = z
-    first z (quad w x y v) = w
+module _ {a b c d p q r s : Tree} (e : quad a b c d ≡ quad p q r s) where
+  pub quad_nw : a ≡ p
+  quad_nw = cc
 
-pub quad_ne : {a b c d p q r s : Tree} → quad a b c d ≡ quad p q r s → b ≡ q
-quad_ne {a} e = ap (λ t. second a t) e
-  where
-    second : Tree → Tree → Tree
-    second z (point n) = z
-    second z (quad w x y v) = x
+  pub quad_ne : b ≡ q
+  quad_ne = cc
 
-pub quad_sw : {a b c d p q r s : Tree} → quad a b c d ≡ quad p q r s → c ≡ r
-quad_sw {a} e = ap (λ t. third a t) e
-  where
-    third : Tree → Tree → Tree
-    third z (point n) = z
-    third z (quad w x y v) = y
+  pub quad_sw : c ≡ r
+  quad_sw = cc
 
-pub quad_se : {a b c d p q r s : Tree} → quad a b c d ≡ quad p q r s → d ≡ s
-quad_se {a} e = ap (λ t. fourth a t) e
-  where
-    fourth : Tree → Tree → Tree
-    fourth z (point n) = z
-    fourth z (quad w x y v) = v
+  pub quad_se : d ≡ s
+  quad_se = cc
 
 pub point_state : {a b : ℕ} → point a ≡ point b → a ≡ b
-point_state {a} e = ap (λ t. only a t) e
-  where
-    only : ℕ → Tree → ℕ
-    only z (point n) = n
-    only z (quad w x y v) = z
+point_state e = cc
 
 -- a point is no square of four quarters
 pub point≢quad : {n : ℕ} {a b c d : Tree} → point n ≡ quad a b c d → ⊥
