@@ -4,9 +4,10 @@ use Rattle.std.specs.Prelude.{◌==◌, flat_map, map, slice_index, codes, Optio
 use Rattle.std.specs.List.{list_all, AllByRecursion}
 use Rattle.std.specs.Char.{is_ascii_digit}
 use Rattle.std.proofs.lemmas.Bool.Decides.{nat_tests}
-use Rattle.std.proofs.lemmas.Bool.{leb-true}
+use Rattle.std.proofs.lemmas.Bool.{leb-true, not-true}
 use Rattle.std.proofs.lemmas.Fmt.{decimal_is_IsNumeral_wide, length-decimal-le_wide}
 use Rattle.std.proofs.lemmas.List.Folds.{list_all-append}
+use mathlib.Core.Bool.{and-false}
 use Rattle.life_base.proofs.Numbers.{first, second, own}
 use Rattle.life_base.proofs.NamesRead.{all_pass, solid, solid_trimmed}
 use Rattle.life_base.proofs.RoundTrip.{none_passes}
@@ -16,7 +17,7 @@ use Rattle.life_mc.specs.Writing.{row_text, line_text}
 use Rattle.life_mc.specs.declared.line.Line.{Line}
 use Rattle.life_mc.specs.declared.line.Line.TheVariants.{Leaf, Quad}
 use Rattle.life_mc.proofs.ReadBack.{has_no_feed, written, row_is_row, leaf_again, word_then, word_alone}
-use Rattle.life_mc.proofs.TestFacts.{is_false, and-false, both}
+use Rattle.life_mc.proofs.TestFacts.{both}
 
 -- What a text needs to be the node line of a square.
 pub record IsTextOf (square : Line) (text : List ℕ) : Type 0 where
@@ -38,16 +39,19 @@ no_hash b text h = ap (λ v. v && true) h
 all_of_both : (p : ℕ → Bool) (xs ys : List ℕ) → list_all p xs ≡ true → list_all p ys ≡ true → list_all p (xs ++ ys) ≡ true
 all_of_both p xs ys h k = list_all-append p xs ys ∙ both _ _ h k
 
+-- a byte that may begin a node line, and no line feed
+record IsInner (b : ℕ) : Type 0 where
+  solid : not (is_whitespace b) ≡ true
+  no_feed : not (b == 10) ≡ true
+  no_hash : (b == 35) ≡ false
+
+leaf_inner : (b : ℕ) → is_leaf_byte b ≡ true → IsInner b
+leaf_inner b h = record { solid = grind (arith, nat_tests); no_feed = grind (arith, nat_tests); no_hash = grind (arith, nat_tests) }
+
+digit_inner : (b : ℕ) → is_ascii_digit b ≡ true → IsInner b
+digit_inner b h = record { solid = grind (arith, nat_tests); no_feed = grind (arith, nat_tests); no_hash = grind (arith, nat_tests) }
+
 -- ---- a leaf
-
-leaf_solid : (b : ℕ) → is_leaf_byte b ≡ true → solid b ≡ true
-leaf_solid b h = grind (arith, nat_tests)
-
-leaf_no_feed : (b : ℕ) → is_leaf_byte b ≡ true → not (b == 10) ≡ true
-leaf_no_feed b h = grind (arith, nat_tests)
-
-leaf_no_hash : (b : ℕ) → is_leaf_byte b ≡ true → (b == 35) ≡ false
-leaf_no_hash b h = grind (arith, nat_tests)
 
 -- rows of at most eight cells and a `$` each
 short_rows : (rows : List ℕ) → AllByRecursion (λ row. row < 256) rows → length (flat_map row_text rows) ≤ 9 * length rows
@@ -66,11 +70,11 @@ leaf_of (b ∷ text) rows some short is says =
     let all : list_all is_leaf_byte (b ∷ text) ≡ true = first _ _ (first _ _ is) in
     let one : is_leaf_byte b ≡ true = first _ _ all in
     record {
-      feed = all_pass is_leaf_byte (λ c. not (c == 10)) leaf_no_feed (b ∷ text) all;
+      feed = all_pass is_leaf_byte (λ c. not (c == 10)) (λ c l. (leaf_inner c l).no_feed) (b ∷ text) all;
       short = short;
-      blank = no_blank b text (is_false (is_whitespace b) (leaf_solid b one));
-      hash = no_hash b text (leaf_no_hash b one);
-      trimmed = solid_trimmed (b ∷ text) (all_pass is_leaf_byte solid leaf_solid (b ∷ text) all);
+      blank = no_blank b text (not-true (is_whitespace b) (leaf_inner b one).solid);
+      hash = no_hash b text (leaf_inner b one).no_hash;
+      trimmed = solid_trimmed (b ∷ text) (all_pass is_leaf_byte solid (λ c l. (leaf_inner c l).solid) (b ∷ text) all);
       no_bad_leaf = ap (λ v. is_leaf_byte b && not v) is ∙ and-false (is_leaf_byte b);
       says = by_tests (is_leaf_byte b) (is_leaf (b ∷ text)) _ one is ∙ ap (λ (rs : List ℕ). Some (Leaf rs)) says;
     }
@@ -109,34 +113,28 @@ decimal_short n h = length-decimal-le_wide 64 n (omega arith) h h
 spelled : (n : ℕ) → n < 10 ^ 64 → Spells (decimal n) n
 spelled n h = record { digits = decimal_digits n h; value = decimal_value n h; short = decimal_short n h }
 
-digit_solid : (b : ℕ) → is_ascii_digit b ≡ true → solid b ≡ true
-digit_solid b h = grind (arith, nat_tests)
-
-digit_no_feed : (b : ℕ) → is_ascii_digit b ≡ true → not (b == 10) ≡ true
-digit_no_feed b h = grind (arith, nat_tests)
-
-digit_no_hash : (b : ℕ) → is_ascii_digit b ≡ true → (b == 35) ≡ false
-digit_no_hash b h = grind (arith, nat_tests)
-
 digit_no_leaf : (b : ℕ) → is_ascii_digit b ≡ true → is_leaf_byte b ≡ false
 digit_no_leaf b h = grind (arith, nat_tests)
 
 pub digits_pass : (p : ℕ → Bool) → ((b : ℕ) → is_ascii_digit b ≡ true → p b ≡ true) → (text : List ℕ) → is_digit_text text ≡ true → list_all p text ≡ true
 digits_pass p f text h = all_pass is_ascii_digit p f text (second (not (is_empty text)) _ h)
 
+digits_solid : (text : List ℕ) → is_digit_text text ≡ true → list_all solid text ≡ true
+digits_solid text h = digits_pass solid (λ b d. (digit_inner b d).solid) text h
+
 pub digits_have_no_feed : (text : List ℕ) → is_digit_text text ≡ true → has_no_feed text ≡ true
-digits_have_no_feed text h = digits_pass (λ b. not (b == 10)) digit_no_feed text h
+digits_have_no_feed text h = digits_pass (λ b. not (b == 10)) (λ b d. (digit_inner b d).no_feed) text h
 
 pub digits_trimmed : (text : List ℕ) → is_digit_text text ≡ true → trim text ≡ text
-digits_trimmed text h = solid_trimmed text (digits_pass solid digit_solid text h)
+digits_trimmed text h = solid_trimmed text (digits_solid text h)
 
 number_then : (word rest : List ℕ) → is_digit_text word ≡ true → words_of (word ++ 32 ∷ rest) ≡ word ∷ words_of rest
 number_then [] rest h = cc
-number_then (b ∷ word) rest h = word_then b word rest (digits_pass solid digit_solid (b ∷ word) h)
+number_then (b ∷ word) rest h = word_then b word rest (digits_solid (b ∷ word) h)
 
 number_alone : (word : List ℕ) → is_digit_text word ≡ true → words_of word ≡ word ∷ []
 number_alone [] h = cc
-number_alone (b ∷ word) h = word_alone b word (digits_pass solid digit_solid (b ∷ word) h)
+number_alone (b ∷ word) h = word_alone b word (digits_solid (b ∷ word) h)
 
 -- no whitespace stands at the end
 record EndsSolid (text : List ℕ) : Type 0 where
@@ -146,8 +144,8 @@ record EndsSolid (text : List ℕ) : Type 0 where
 number_ends : (word : List ℕ) → is_digit_text word ≡ true → EndsSolid word
 number_ends [] h = cc
 number_ends (b ∷ word) h =
-    let all : list_all solid (b ∷ word) ≡ true = digits_pass solid digit_solid (b ∷ word) h in
-    record { whole = none_passes is_whitespace (b ∷ word) all; some = no_blank b word (is_false (is_whitespace b) (first _ _ all)) }
+    let all : list_all solid (b ∷ word) ≡ true = digits_solid (b ∷ word) h in
+    record { whole = none_passes is_whitespace (b ∷ word) all; some = no_blank b word (not-true (is_whitespace b) (first _ _ all)) }
 
 ends_behind : (front text : List ℕ) → EndsSolid text → EndsSolid (front ++ text)
 ends_behind [] text e = e
@@ -171,8 +169,8 @@ number_starts : (word rest : List ℕ) → is_digit_text word ≡ true
 number_starts [] rest h = cc
 number_starts (b ∷ word) rest h =
     let one : is_ascii_digit b ≡ true = first _ _ (second (not (is_empty (b ∷ word))) _ h) in
-    let no : is_whitespace b ≡ false = is_false (is_whitespace b) (digit_solid b one) in
-    (no_blank b (word ++ rest) no, no_hash b (word ++ rest) (digit_no_hash b one), start_stays b (word ++ rest) no, digit_no_leaf b one)
+    let no : is_whitespace b ≡ false = not-true (is_whitespace b) (digit_inner b one).solid in
+    (no_blank b (word ++ rest) no, no_hash b (word ++ rest) (digit_inner b one).no_hash, start_stays b (word ++ rest) no, digit_no_leaf b one)
 
 module _ (a b c d e : List ℕ) (level nw ne sw se : ℕ) (p : Spells a level) (q : Spells b nw) (r : Spells c ne) (s : Spells d sw) (t : Spells e se) where
   abbrev text : List ℕ

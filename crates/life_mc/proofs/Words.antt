@@ -4,6 +4,7 @@ use Rattle.std.specs.Prelude.{Option, Some, None, ◌==◌, take_while}
 use Rattle.std.specs.List.{list_all, prefix_len}
 use Rattle.std.specs.Char.{is_ascii_digit}
 use Rattle.std.proofs.lemmas.Bool.Decides.{nat_tests}
+use mathlib.Core.Bool.{and-true, and-false}
 use Rattle.life_base.proofs.FrontDigits.{digit_text_in_front}
 use Rattle.life_base.proofs.Numbers.{first}
 use Rattle.life_base.proofs.WordEnds.{ends, further, words_in}
@@ -35,14 +36,6 @@ behind text = drop (digits text) text
 
 digit_no_space : (b : ℕ) → is_ascii_digit b ≡ true → is_whitespace b ≡ false
 digit_no_space b h = grind (arith, nat_tests)
-
-and-false : (a : Bool) → (a && false) ≡ false
-and-false true = refl
-and-false false = refl
-
-and-true : (a : Bool) → (a && true) ≡ a
-and-true true = refl
-and-true false = refl
 
 whole_step : (v : Bool) (b : ℕ) (text : List ℕ) → is_ascii_digit b ≡ v → (is_blank (take 1 (behind text)) ≡ true → ends text ≡ digits text)
     → is_blank (take 1 (drop (cond v (1 + digits text) 0) (b ∷ text))) ≡ true → ends (b ∷ text) ≡ cond v (1 + digits text) 0
@@ -125,21 +118,21 @@ all_five a b c d e = Some (Quad (capped (value_of a)) (capped (value_of b)) (cap
 
 just_five : (a b c d e : List ℕ) (rest : List (List ℕ)) → is_empty rest ≡ true → is_digit_text a ≡ true → is_digit_text b ≡ true → is_digit_text c ≡ true
     → is_digit_text d ≡ true → is_digit_text e ≡ true → quad_words (a ∷ b ∷ c ∷ d ∷ e ∷ rest) ≡ all_five a b c d e
-just_five a b c d e [] h p q r s t =
-    ap (λ v. fives v (a ∷ b ∷ c ∷ d ∷ e ∷ [])) (all_true (is_digit_text a) (is_digit_text b) (is_digit_text c) (is_digit_text d) (is_digit_text e) p q r s t)
-  where
-    all_true : (a b c d e : Bool) → a ≡ true → b ≡ true → c ≡ true → d ≡ true → e ≡ true → (a && (b && (c && (d && (e && true))))) ≡ true
-    all_true true true true true true p q r s t = refl
-    all_true false b c d e p q r s t = cc
-    all_true true false c d e p q r s t = cc
-    all_true true true false d e p q r s t = cc
-    all_true true true true false e p q r s t = cc
-    all_true true true true true false p q r s t = cc
+just_five a b c d e [] h p q r s t = rw (p, q, r, s, t) refl
 just_five a b c d e (f ∷ rest) h p q r s t = cc
 
--- words that stand in front of others
-abbrev pub Follows : List (List ℕ) → List ℕ → List (List ℕ) → Type 0
-Follows words word rest = words ≡ word ∷ rest
+-- one word more in front
+onto : {words more : List (List ℕ)} (word : List ℕ) → words ≡ more → word ∷ words ≡ word ∷ more
+onto word h = ap (λ (t : List (List ℕ)). word ∷ t) h
+
+-- words that were found one after another
+pub four_in_front : {ws after_a after_b after_c after_d : List (List ℕ)} {a b c d : List ℕ} → ws ≡ a ∷ after_a → after_a ≡ b ∷ after_b → after_b ≡ c ∷ after_c → after_c ≡ d ∷ after_d
+    → ws ≡ a ∷ b ∷ c ∷ d ∷ after_d
+four_in_front {a} {b} {c} p q r s = p ∙ onto a (q ∙ onto b (r ∙ onto c s))
+
+pub five_in_front : {ws after_a after_b after_c after_d after_e : List (List ℕ)} {a b c d e : List ℕ} → ws ≡ a ∷ after_a → after_a ≡ b ∷ after_b → after_b ≡ c ∷ after_c → after_c ≡ d ∷ after_d
+    → after_d ≡ e ∷ after_e → ws ≡ a ∷ b ∷ c ∷ d ∷ e ∷ after_e
+five_in_front {a} {b} {c} {d} p q r s t = four_in_front p q r s ∙ onto a (onto b (onto c (onto d t)))
 
 pub quad_short : (t a b c d : List ℕ) (ws : List (List ℕ)) → ws ≡ a ∷ b ∷ c ∷ d ∷ words_of t → begins_with_number (words_of t) ≡ false → quad_words ws ≡ None
 quad_short t a b c d ws h n = ap quad_words h ∙ no_five a b c d (words_of t) n
