@@ -1,14 +1,16 @@
 -- Lines and their parts: what stands at the front, between whitespace, and word by word.
-use Rattle.std.proofs.Common.{◌≡◌, ℕ, List, [], ◌∷◌, ◌++◌, length, take, drop, Bool, true, false, cond, not, ◌&&◌, refl, ap, sym, ◌∙◌}
+use Rattle.std.proofs.Common.{◌≡◌, ℕ, List, [], ◌∷◌, ◌++◌, length, take, drop, Bool, true, false, cond, ◌&&◌, refl, ap, sym, ◌∙◌}
 use Rattle.std.specs.Prelude.{codes, slice_index}
 use Rattle.std.specs.List.{list_all}
 use Rattle.std.specs.Char.{is_ascii_digit}
 use Rattle.std.proofs.Math.Seq.{take-append_seam}
-use Rattle.std.proofs.lemmas.List.{take-append-drop}
+use Rattle.std.proofs.lemmas.List.{take-append-drop, append-nil}
 use Rattle.std.proofs.lemmas.List.Folds.{list_all-append}
 use Rattle.std.proofs.lemmas.Slice.Eq.{bytes_eq-Decides}
 use Rattle.std.proofs.lemmas.Bool.Decides.{nat_tests}
 use Rattle.std.proofs.Common.{arith}
+use Rattle.std.proofs.lemmas.Bool.{not-true}
+use mathlib.Core.Bool.{and-true}
 use Rattle.life_base.specs.Text.{is_whitespace, is_blank, begins_with, trim, trim_start, trim_end, words_of, onto_first, is_digit_text}
 use Rattle.life_base.proofs.Numbers.{first, second}
 use Rattle.life_base.proofs.NamesRead.{solid, solid_trimmed}
@@ -16,16 +18,8 @@ use Rattle.life_mc.specs.Grammar.{Begins, IsCommand, IsAround, Separates}
 use Rattle.life_mc.specs.Reading.{is_command, is_leaf_byte}
 use Rattle.life_base.proofs.WordEnds.{trimmed_words}
 
-is_false : (v : Bool) → not v ≡ true → v ≡ false
-is_false true h = cc
-is_false false h = refl
-
 no : true ≡ false → ⊥
 no e = cc
-
-append_nothing : (xs : List ℕ) → xs ++ [] ≡ xs
-append_nothing [] = refl
-append_nothing (x ∷ xs) = ap (λ (t : List ℕ). x ∷ t) (append_nothing xs)
 
 -- ---- at the front
 
@@ -60,10 +54,6 @@ blank_ends : (text : List ℕ) → is_blank text ≡ true → trim_end text ≡ 
 blank_ends [] h = refl
 blank_ends (b ∷ text) h = ap (λ v. cond v [] (b ∷ trim_end text)) h
 
-and-true : (v : Bool) → (v && true) ≡ v
-and-true true = refl
-and-true false = refl
-
 blank_back : (text behind : List ℕ) → is_blank behind ≡ true → trim_end (text ++ behind) ≡ trim_end text
 blank_back [] behind h = blank_ends behind h
 blank_back (b ∷ text) behind h =
@@ -75,9 +65,9 @@ blank_back (b ∷ text) behind h =
 pub around_trim : (line : List ℕ) (b : ℕ) (text : List ℕ) → list_all solid (b ∷ text) ≡ true → IsAround line (b ∷ text) → trim line ≡ b ∷ text
 around_trim line b text s a =
     ap trim a.is ∙ ap trim_end (blank_front a.before ((b ∷ text) ++ a.behind) a.blank_before)
-    ∙ ap (λ v. trim_end (cond v (trim_start (text ++ a.behind)) (b ∷ (text ++ a.behind)))) (is_false (is_whitespace b) (first (solid b) _ s))
+    ∙ ap (λ v. trim_end (cond v (trim_start (text ++ a.behind)) (b ∷ (text ++ a.behind)))) (not-true (is_whitespace b) (first (solid b) _ s))
     ∙ blank_back (b ∷ text) a.behind a.blank_behind
-    ∙ ap (λ v. trim_end (cond v (trim_start text) (b ∷ text))) (sym (is_false (is_whitespace b) (first (solid b) _ s)))
+    ∙ ap (λ v. trim_end (cond v (trim_start text) (b ∷ text))) (sym (not-true (is_whitespace b) (first (solid b) _ s)))
     ∙ solid_trimmed (b ∷ text) s
 
 start_split : (text : List ℕ) → (before : List ℕ) × (text ≡ before ++ trim_start text) × (is_blank before ≡ true)
@@ -105,7 +95,7 @@ trimmed_around line =
     record { before = s.0; behind = e.0; is = s.1 ∙ ap (λ (t : List ℕ). s.0 ++ t) e.1; blank_before = s.2; blank_behind = e.2 }
 
 pub blank_trimmed : (line : List ℕ) → is_blank line ≡ true → trim line ≡ []
-blank_trimmed line h = ap trim (sym (append_nothing line)) ∙ ap trim_end (blank_front line [] h)
+blank_trimmed line h = ap trim (sym (append-nil line)) ∙ ap trim_end (blank_front line [] h)
 
 -- ---- words
 
@@ -118,7 +108,7 @@ blank_words (b ∷ before) text h =
     ap (λ v. step_to b (before ++ text) v (is_blank (take 1 (before ++ text)))) (first (is_whitespace b) _ h) ∙ blank_words before text (second (is_whitespace b) _ h)
 
 no_words : (text : List ℕ) → is_blank text ≡ true → words_of text ≡ []
-no_words text h = ap words_of (sym (append_nothing text)) ∙ blank_words text [] h
+no_words text h = ap words_of (sym (append-nil text)) ∙ blank_words text [] h
 
 take_blank : (text : List ℕ) → is_blank text ≡ true → is_blank (take 1 text) ≡ true
 take_blank [] h = refl
@@ -142,11 +132,11 @@ words_trimmed line =
 
 first_word : (b : ℕ) (word rest : List ℕ) → list_all solid (b ∷ word) ≡ true → is_blank (take 1 rest) ≡ true → words_of ((b ∷ word) ++ rest) ≡ (b ∷ word) ∷ words_of rest
 first_word b [] rest h k =
-    ap (λ v. step_to b rest v (is_blank (take 1 rest))) (is_false (is_whitespace b) (first (solid b) _ h)) ∙ ap (λ w. step_to b rest false w) k
+    ap (λ v. step_to b rest v (is_blank (take 1 rest))) (not-true (is_whitespace b) (first (solid b) _ h)) ∙ ap (λ w. step_to b rest false w) k
 first_word b (c ∷ word) rest h k =
     let more : list_all solid (c ∷ word) ≡ true = second (solid b) _ h in
-    ap (λ v. step_to b (c ∷ (word ++ rest)) v (is_whitespace c && true)) (is_false (is_whitespace b) (first (solid b) _ h))
-    ∙ ap (λ v. step_to b (c ∷ (word ++ rest)) false (v && true)) (is_false (is_whitespace c) (first (solid c) _ more))
+    ap (λ v. step_to b (c ∷ (word ++ rest)) v (is_whitespace c && true)) (not-true (is_whitespace b) (first (solid b) _ h))
+    ∙ ap (λ v. step_to b (c ∷ (word ++ rest)) false (v && true)) (not-true (is_whitespace c) (first (solid c) _ more))
     ∙ ap (onto_first b) (first_word c word rest more k)
 
 digit_solid : (b : ℕ) → is_ascii_digit b ≡ true → solid b ≡ true

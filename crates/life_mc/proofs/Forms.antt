@@ -4,6 +4,7 @@ use Rattle.std.specs.Prelude.{codes, nat_le, nat_lt, slice_index, Option, Some, 
 use Rattle.std.specs.List.{list_all}
 use Rattle.std.specs.Result.{result_ok}
 use Rattle.std.proofs.lemmas.Bool.{leb-true, le-leb}
+use mathlib.Core.Bool.{and-false}
 use Rattle.life_base.specs.Text.{is_blank, begins_with, trim, words_of, is_digit_text, value_of}
 use Rattle.life_base.specs.Numbers.{u64_of}
 use Rattle.life_base.specs.Rules.{rule_of}
@@ -130,10 +131,6 @@ no_rule_on line h = ap (λ v. cond v (result_ok (rule_of (drop 2 line))) None) h
 
 no_generation_on : (line : List ℕ) → is_command 71 line ≡ false → generation_on line ≡ None
 no_generation_on line h = ap (λ v. cond v (Some (value_of (trim (drop 2 line)))) None) h
-
-and-false : (v : Bool) → (v && false) ≡ false
-and-false true = refl
-and-false false = refl
 
 hash_no_square : (line : List ℕ) → begins_with line (codes "#") ≡ true → square_on line ≡ None
 hash_no_square line h = ap (λ v. cond (not (is_blank line) && not v) (square_of (trim line)) None) h ∙ ap (λ v. cond v (square_of (trim line)) None) (and-false (not (is_blank line)))

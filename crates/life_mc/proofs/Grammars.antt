@@ -5,6 +5,7 @@ use Rattle.std.specs.List.{list_all, AllZip, slice_get}
 use Rattle.std.proofs.Math.Seq.{take-append_seam}
 use Rattle.std.proofs.lemmas.Bool.{le-leb, ltb-false}
 use Rattle.std.proofs.lemmas.Bool.Decides.{nat_tests}
+use Rattle.std.proofs.lemmas.List.{append-nil}
 use Rattle.life_base.specs.Text.{begins_with, is_too_long}
 use Rattle.life_base.specs.Rules.{default_rule}
 use Rattle.life_base.specs.declared.kind.Kind.{Kind}
@@ -87,10 +88,6 @@ same_map f g same (line ∷ lines) [] z = absurd z
 same_map {X = X} f g same (line ∷ lines) (form ∷ forms) z =
     filter_step f line lines (g form) (same line form z.0) ∙ ap (λ (t : List X). option_list (g form) ++ t) (same_map f g same lines forms z.1) ∙ sym (filter_step g form forms (g form) refl)
 
-append_nothing : {X : Type 0} (xs : List X) → xs ++ [] ≡ xs
-append_nothing [] = refl
-append_nothing {X = X} (x ∷ xs) = ap (λ (t : List X). x ∷ t) (append_nothing xs)
-
 square_ok : (top : ℕ) (rule : Rule) (levels : List ℕ) (square : Line) → IsSquare top rule levels square → broken_by_square top rule levels (Some square) ≡ None
 square_ok top rule levels (Leaf rows) h = refl
 square_ok top rule levels (Quad level nw ne sw se) h =
@@ -109,13 +106,13 @@ module _ (top : ℕ) (header : List ℕ) where
   stand_from : (lines before : List (List ℕ)) → ((k : ℕ) → k < length lines → broken_behind top (header ∷ (before ++ take k lines)) (get_or lines k []) ≡ None) → Stand lines before
   stand_from [] before h = tt
   stand_from (line ∷ lines) before h = (
-    sym (ap (λ ls. broken_behind top (header ∷ ls) line) (append_nothing before)) ∙ h 0 (omega arith),
+    sym (ap (λ ls. broken_behind top (header ∷ ls) line) (append-nil before)) ∙ h 0 (omega arith),
     stand_from lines (before ++ line ∷ []) (λ k l. ap (λ ls. broken_behind top (header ∷ ls) (get_or lines k [])) (append_assoc before (line ∷ []) (take k lines)) ∙ h (suc k) (omega arith)),
   )
 
   stand_at : (lines before : List (List ℕ)) → Stand lines before → (k : ℕ) → k < length lines → broken_behind top (header ∷ (before ++ take k lines)) (get_or lines k []) ≡ None
   stand_at [] before s k l = absurd (omega arith)
-  stand_at (line ∷ lines) before s zero l = ap (λ ls. broken_behind top (header ∷ ls) line) (append_nothing before) ∙ s.0
+  stand_at (line ∷ lines) before s zero l = ap (λ ls. broken_behind top (header ∷ ls) line) (append-nil before) ∙ s.0
   stand_at (line ∷ lines) before s (suc k) l =
       sym (ap (λ ls. broken_behind top (header ∷ ls) (get_or lines k [])) (append_assoc before (line ∷ []) (take k lines))) ∙ stand_at lines (before ++ line ∷ []) s.1 k (omega arith)
 
@@ -132,7 +129,7 @@ module _ (top : ℕ) (header : List ℕ) where
   squares before = squares_of (header ∷ before)
 
   squares_more : (before : List (List ℕ)) (line : List ℕ) (o : Option Line) → square_on line ≡ o → squares (before ++ line ∷ []) ≡ squares before ++ option_list o
-  squares_more before line None h = squares_none (header ∷ before) line h ∙ sym (append_nothing (squares before))
+  squares_more before line None h = squares_none (header ∷ before) line h ∙ sym (append-nil (squares before))
   squares_more before line (Some square) h = squares_some (header ∷ before) line square h
 
   longer : (before : List (List ℕ)) (line : List ℕ) (o : Option Line) → square_on line ≡ o → 0 < length (squares before) → 0 < length (squares (before ++ line ∷ []))

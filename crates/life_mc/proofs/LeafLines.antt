@@ -3,6 +3,7 @@ use Rattle.std.proofs.Common.{◌≡◌, ℕ, zero, suc, ◌+◌, ◌-◌, ◌*�
 use Rattle.std.specs.Prelude.{codes, slice_index, ◌==◌, nat_le, flat_map}
 use Rattle.std.specs.List.{list_all, AllByRecursion, onto_first as onto_first_byte, slice_index_or}
 use Rattle.std.proofs.lemmas.Bool.Decides.{nat_tests}
+use Rattle.std.proofs.lemmas.Bool.{not-true}
 use Rattle.life_base.proofs.Numbers.{first, second}
 use Rattle.life_base.proofs.NamesRead.{solid, all_pass}
 use Rattle.life_base.specs.Text.{trim}
@@ -14,6 +15,7 @@ use Rattle.life_mc.proofs.Leaves.{leaf_is, leaf_bytes_are, some_rows}
 use Rattle.life_mc.proofs.ReadBack.{row_ended}
 use Rattle.life_mc.proofs.Valid.{row_fits}
 use Rattle.life_mc.proofs.Around.{around_trim, trimmed_around}
+use Rattle.life_mc.proofs.TestFacts.{weigh, at_most_one}
 
 -- ---- rows, and the text that they make
 
@@ -29,12 +31,8 @@ no_dollars row h = all_pass is_cell (λ b. not (b == 36)) cell_no_dollar row (fi
 one_row : (row : List ℕ) → list_all (λ b. not (b == 36)) row ≡ true → leaf_rows row ≡ row ∷ []
 one_row [] h = refl
 one_row (b ∷ row) h =
-    let e : (b == 36) ≡ false = is_false (b == 36) (first _ _ h) in
+    let e : (b == 36) ≡ false = not-true (b == 36) (first _ _ h) in
     ap (λ v. cond v ([] ∷ leaf_rows row) (onto_first_byte b (leaf_rows row))) e ∙ ap (onto_first_byte b) (one_row row (second (not (b == 36)) _ h))
-  where
-    is_false : (v : Bool) → not v ≡ true → v ≡ false
-    is_false true h = cc
-    is_false false h = refl
 
 regroup : (row rest last : List ℕ) → (ended row ++ rest) ++ last ≡ row ++ 36 ∷ (rest ++ last)
 regroup row rest last = ap (λ (t : List ℕ). t ++ last) (append_assoc row (36 ∷ []) rest) ∙ append_assoc row (36 ∷ rest) last
@@ -137,14 +135,6 @@ rows_are (suc n) (row ∷ rows) last h =
 
 -- ---- a row's byte and its cells
 
-twice : (v : Bool) (n : ℕ) → cond v n 0 ≡ n * cond v 1 0
-twice true n = omega arith
-twice false n = omega arith
-
-low : (v : Bool) → cond v 1 0 ≤ 1
-low true = omega arith
-low false = omega arith
-
 abbrev live : List ℕ → ℕ → Bool
 live row c = slice_index row c == 42
 
@@ -155,14 +145,14 @@ weighed row =
 row_weighed : (row : List ℕ) → row_byte row ≡ weighed row
 row_weighed row = omega (
   arith,
-  twice (live row 0) 128,
-  twice (live row 1) 64,
-  twice (live row 2) 32,
-  twice (live row 3) 16,
-  twice (live row 4) 8,
-  twice (live row 5) 4,
-  twice (live row 6) 2,
-  twice (live row 7) 1,
+  weigh (live row 0) 128,
+  weigh (live row 1) 64,
+  weigh (live row 2) 32,
+  weigh (live row 3) 16,
+  weigh (live row 4) 8,
+  weigh (live row 5) 4,
+  weigh (live row 6) 2,
+  weigh (live row 7) 1,
 )
 
 abbrev IsStateAt : ℕ → List ℕ → ℕ → Type 0
@@ -178,7 +168,7 @@ sum_of_bits n h = omega arith
 state_at : (row : List ℕ) (x : ℕ) → x < 8 → IsStateAt (row_byte row) row x
 state_at row x h =
     let b = bits_of_sum (row_byte row) (state_in row 0) (state_in row 1) (state_in row 2) (state_in row 3) (state_in row 4) (state_in row 5) (state_in row 6) (state_in row 7) (row_weighed row)
-    (low (live row 0)) (low (live row 1)) (low (live row 2)) (low (live row 3)) (low (live row 4)) (low (live row 5)) (low (live row 6)) (low (live row 7)) in
+    (at_most_one (live row 0)) (at_most_one (live row 1)) (at_most_one (live row 2)) (at_most_one (live row 3)) (at_most_one (live row 4)) (at_most_one (live row 5)) (at_most_one (live row 6)) (at_most_one (live row 7)) in
     by x h b.0 b.1 b.2 b.3 b.4 b.5 b.6 b.7
   where
     by : (x : ℕ) → x < 8 → IsStateAt (row_byte row) row 0 → IsStateAt (row_byte row) row 1 → IsStateAt (row_byte row) row 2 → IsStateAt (row_byte row) row 3

@@ -3,13 +3,10 @@ use Rattle.std.proofs.Common.{◌≡◌, ℕ, zero, suc, ◌+◌, ◌-◌, ◌/�
 use Rattle.std.specs.Prelude.{◌==◌, nat_le, nat_lt, replicate}
 use Rattle.std.specs.List.{list_all}
 use Rattle.std.proofs.lemmas.Bool.{lt-leb}
+use mathlib.Core.Bool.{and-false}
 use Rattle.life_base.specs.Text.{is_empty, onto_first}
 use Rattle.life_mc.specs.Reading.{is_leaf, is_leaf_byte, leaf_rows, leaf_bytes, row_byte, is_at_end}
 use Rattle.life_mc.specs.Standing.{first_row, is_cell, is_row, are_rows, row_bytes}
-
-and-false : (a : Bool) → (a && false) ≡ false
-and-false true = refl
-and-false false = refl
 
 and_assoc : (a b c : Bool) → ((a && b) && c) ≡ (a && (b && c))
 and_assoc true b c = refl

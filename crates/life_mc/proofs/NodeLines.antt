@@ -3,6 +3,7 @@ use Rattle.std.proofs.Common.{◌≡◌, ℕ, suc, ◌+◌, ◌<◌, List, [], �
 use Rattle.std.specs.Prelude.{codes, nat_lt, slice_index, Option, Some, None, filter_map}
 use Rattle.std.specs.List.{cons_option}
 use Rattle.std.proofs.lemmas.List.Sums.{sum_by-cons}
+use Rattle.std.proofs.lemmas.Bool.{not-true}
 use Rattle.life_base.proofs.Numbers.{first, second}
 use Rattle.life_base.specs.Text.{begins_with, is_blank, is_too_long, lines_of, trim}
 use Rattle.life_base.specs.Numbers.{u64_of}
@@ -15,7 +16,6 @@ use Rattle.life_mc.specs.Accepted.{NodeLinesCounted}
 use Rattle.life_mc.specs.Reading.{broken, broken_behind, broken_by_node, broken_by_square, fault_in, is_command, is_leaf, is_leaf_byte, is_node_line, rule_in_force, square_of, square_on, squares_of}
 use Rattle.life_mc.specs.declared.line.Line.{Line}
 use Rattle.life_mc.proofs.TextBack.{no_mark}
-use Rattle.life_mc.proofs.TestFacts.{is_false}
 
 abbrev IsThere : Option Line → Type 0
 IsThere o = (square : Line) × (o ≡ Some square)
@@ -34,10 +34,10 @@ module _ (top : ℕ) (header : List ℕ) (front : List (List ℕ)) (line : List 
   before = header ∷ front
 
   blank : is_blank line ≡ false
-  blank = is_false (is_blank line) (first _ (not (begins_with line (codes "#"))) n)
+  blank = not-true (is_blank line) (first _ (not (begins_with line (codes "#"))) n)
 
   hash : begins_with line (codes "#") ≡ false
-  hash = is_false (begins_with line (codes "#")) (second (not (is_blank line)) _ n)
+  hash = not-true (begins_with line (codes "#")) (second (not (is_blank line)) _ n)
 
   judged : broken_behind top before line ≡ broken_by_node top (rule_in_force before) (map level_of (squares_of before)) (trim line)
   judged =

@@ -4,6 +4,7 @@ use Rattle.std.specs.Prelude.{Option, Some, None, ◌==◌, nat_le, slice_index,
 use Rattle.std.specs.List.{list_all, slice_get}
 use Rattle.std.proofs.lemmas.Bool.{lt-leb}
 use Rattle.std.proofs.lemmas.Bool.Decides.{nat_tests}
+use mathlib.Core.Bool.{and-false}
 use Rattle.life_base.specs.Text.{words_of, value_of, is_digit_text}
 use Rattle.life_base.specs.declared.kind.Kind.{Kind}
 use Rattle.life_base.specs.declared.kind.Kind.TheVariants.{BadLevel, BadChild, BadNode, BadLeaf, StateRange}
@@ -82,10 +83,6 @@ module _ (top : ℕ) (rule : Rule) (levels : List ℕ) (low : top ≤ 255) (few 
 
   level_low : (n : ℕ) → top_number < n → (nat_le 1 n && nat_le n top) ≡ false
   level_low n h = ap (λ v. nat_le 1 n && v) (lt-leb n top (omega arith)) ∙ and-false (nat_le 1 n)
-    where
-      and-false : (a : Bool) → (a && false) ≡ false
-      and-false true = refl
-      and-false false = refl
 
   level_high : (nat_le 1 top_number && nat_le top_number top) ≡ false
   level_high = lt-leb top_number top (omega arith)

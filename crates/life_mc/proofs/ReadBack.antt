@@ -3,6 +3,7 @@ use Rattle.std.proofs.Common.{◌≡◌, ℕ, zero, suc, ◌<◌, List, [], ◌�
 use Rattle.std.specs.Prelude.{◌==◌, flat_map, map}
 use Rattle.std.specs.List.{list_all, AllByRecursion, onto_first as onto_first_byte}
 use Rattle.std.proofs.lemmas.Bool.Decides.{nat_tests}
+use Rattle.std.proofs.lemmas.Bool.{not-true}
 use Rattle.life_base.proofs.Numbers.{first, second}
 use Rattle.life_base.specs.Text.{lines_of, onto_first, without_last, words_of, is_whitespace}
 use Rattle.life_mc.specs.Reading.{row_byte, leaf_rows, is_leaf, leaf_bytes}
@@ -12,10 +13,6 @@ use Rattle.life_mc.proofs.Leaves.{leaf_is, leaf_bytes_are}
 use Rattle.life_base.proofs.NamesRead.{all_pass, solid}
 use Rattle.life_base.proofs.RoundTrip.{all_below, all_below_at}
 
-is_false : (v : Bool) → not v ≡ true → v ≡ false
-is_false true h = cc
-is_false false h = refl
-
 abbrev pub has_no_feed : List ℕ → Bool
 has_no_feed text = list_all (λ b. not (b == 10)) text
 
@@ -23,7 +20,7 @@ has_no_feed text = list_all (λ b. not (b == 10)) text
 pub line_ended : (text rest : List ℕ) → has_no_feed text ≡ true → lines_of (text ++ 10 ∷ rest) ≡ text ∷ lines_of rest
 line_ended [] rest h = refl
 line_ended (b ∷ text) rest h =
-    let e : (b == 10) ≡ false = is_false (b == 10) (first _ _ h) in
+    let e : (b == 10) ≡ false = not-true (b == 10) (first _ _ h) in
     ap (λ v. cond v ([] ∷ lines_of (text ++ 10 ∷ rest)) (onto_first b (lines_of (text ++ 10 ∷ rest)))) e ∙ ap (onto_first b) (line_ended text rest (second _ _ h))
 
 -- the cells of a row that are written
@@ -51,7 +48,7 @@ row_is_row row h = second (row_byte (written row) == row) _ (all_below_at 256 ro
 pub row_ended : (cells rest : List ℕ) → list_all (λ b. not (b == 36)) cells ≡ true → leaf_rows (cells ++ 36 ∷ rest) ≡ cells ∷ leaf_rows rest
 row_ended [] rest h = refl
 row_ended (b ∷ cells) rest h =
-    let e : (b == 36) ≡ false = is_false (b == 36) (first _ _ h) in
+    let e : (b == 36) ≡ false = not-true (b == 36) (first _ _ h) in
     ap (λ v. cond v ([] ∷ leaf_rows (cells ++ 36 ∷ rest)) (onto_first_byte b (leaf_rows (cells ++ 36 ∷ rest)))) e
     ∙ ap (onto_first_byte b) (row_ended cells rest (second (not (b == 36)) _ h))
 
@@ -96,17 +93,17 @@ abbrev step_to : ℕ → List ℕ → Bool → Bool → List (List ℕ)
 step_to b text v w = cond v (words_of text) (cond w ((b ∷ []) ∷ words_of text) (onto_first b (words_of text)))
 
 pub word_then : (b : ℕ) (word rest : List ℕ) → list_all solid (b ∷ word) ≡ true → words_of ((b ∷ word) ++ 32 ∷ rest) ≡ (b ∷ word) ∷ words_of rest
-word_then b [] rest h = ap (λ v. step_to b (32 ∷ rest) v true) (is_false (is_whitespace b) (first _ _ h))
+word_then b [] rest h = ap (λ v. step_to b (32 ∷ rest) v true) (not-true (is_whitespace b) (first _ _ h))
 word_then b (c ∷ word) rest h =
     let more : list_all solid (c ∷ word) ≡ true = second (solid b) _ h in
-    ap (λ v. step_to b (c ∷ (word ++ 32 ∷ rest)) v (is_whitespace c && true)) (is_false (is_whitespace b) (first _ _ h))
-    ∙ ap (λ v. step_to b (c ∷ (word ++ 32 ∷ rest)) false (v && true)) (is_false (is_whitespace c) (first _ _ more))
+    ap (λ v. step_to b (c ∷ (word ++ 32 ∷ rest)) v (is_whitespace c && true)) (not-true (is_whitespace b) (first _ _ h))
+    ∙ ap (λ v. step_to b (c ∷ (word ++ 32 ∷ rest)) false (v && true)) (not-true (is_whitespace c) (first _ _ more))
     ∙ ap (onto_first b) (word_then c word rest more)
 
 pub word_alone : (b : ℕ) (word : List ℕ) → list_all solid (b ∷ word) ≡ true → words_of (b ∷ word) ≡ (b ∷ word) ∷ []
-word_alone b [] h = ap (λ v. step_to b [] v true) (is_false (is_whitespace b) (first _ _ h))
+word_alone b [] h = ap (λ v. step_to b [] v true) (not-true (is_whitespace b) (first _ _ h))
 word_alone b (c ∷ word) h =
     let more : list_all solid (c ∷ word) ≡ true = second (solid b) _ h in
-    ap (λ v. step_to b (c ∷ word) v (is_whitespace c && true)) (is_false (is_whitespace b) (first _ _ h))
-    ∙ ap (λ v. step_to b (c ∷ word) false (v && true)) (is_false (is_whitespace c) (first _ _ more))
+    ap (λ v. step_to b (c ∷ word) v (is_whitespace c && true)) (not-true (is_whitespace b) (first _ _ h))
+    ∙ ap (λ v. step_to b (c ∷ word) false (v && true)) (not-true (is_whitespace c) (first _ _ more))
     ∙ ap (onto_first b) (word_alone c word more)

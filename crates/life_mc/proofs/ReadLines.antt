@@ -2,6 +2,7 @@
 use Rattle.std.proofs.Common.{◌≡◌, ℕ, ◌<◌, List, [], ◌∷◌, ◌++◌, length, refl, ap, ◌∙◌, arith}
 use Rattle.std.specs.Prelude.{Some, None, filter_map}
 use Rattle.std.proofs.lemmas.List.Elements.{filter_map-append}
+use Rattle.std.proofs.lemmas.List.{append-nil}
 use Rattle.life_base.specs.Text.{numbered_from}
 use Rattle.life_base.specs.Refusal.{fault_at}
 use Rattle.life_base.specs.declared.kind.Kind.TheVariants.{NoHeader}
@@ -13,10 +14,6 @@ use Rattle.life_mc.specs.Reading.{Accepts, Refuses, broken, missing, squares_of,
 use Rattle.life_mc.specs.declared.line.Line.{Line}
 use Rattle.life_mc.proofs.ByLines.{by_lines}
 
-append_nothing : (xs : List Line) → xs ++ [] ≡ xs
-append_nothing [] = refl
-append_nothing (x ∷ xs) = ap (λ (t : List Line). x ∷ t) (append_nothing xs)
-
 none_on : (line : List ℕ) → square_on line ≡ None → filter_map square_on (line ∷ []) ≡ []
 none_on line h = rw h refl
 
@@ -26,7 +23,7 @@ one_on line square h = rw h refl
 pub squares_none : (before : List (List ℕ)) (line : List ℕ) → square_behind before line ≡ None → squares_of (before ++ line ∷ []) ≡ squares_of before
 squares_none [] line h = refl
 squares_none (header ∷ before) line h =
-    filter_map-append square_on before (line ∷ []) ∙ ap (λ (t : List Line). filter_map square_on before ++ t) (none_on line h) ∙ append_nothing (filter_map square_on before)
+    filter_map-append square_on before (line ∷ []) ∙ ap (λ (t : List Line). filter_map square_on before ++ t) (none_on line h) ∙ append-nil (filter_map square_on before)
 
 pub squares_some : (before : List (List ℕ)) (line : List ℕ) (square : Line) → square_behind before line ≡ Some square → squares_of (before ++ line ∷ []) ≡ squares_of before ++ square ∷ []
 squares_some [] line square h = cc

@@ -1,12 +1,12 @@
 -- What a reader keeps, line after line.
-use Rattle.std.proofs.Common.{◌≡◌, ℕ, suc, ◌+◌, ◌-◌, ◌^◌, ◌<◌, ◌≤◌, List, [], ◌∷◌, ◌++◌, length, take, drop, get_or, map, Bool, true, false, cond, not, ◌&&◌, ◌||◌, refl, ap, sym, subst, ◌∙◌, arith, length-append, ◌⊎◌, inl, inr}
+use Rattle.std.proofs.Common.{◌≡◌, ℕ, ◌+◌, ◌-◌, ◌^◌, ◌<◌, ◌≤◌, List, [], ◌∷◌, ◌++◌, length, take, drop, get_or, map, Bool, true, false, cond, not, ◌&&◌, ◌||◌, refl, ap, sym, subst, ◌∙◌, arith, length-append, ◌⊎◌, inl, inr}
 use Rattle.std.specs.Prelude.{Option, Some, None, codes, nat_lt, nat_le, Result, Ok, Err, MatchResult, filter_map, IfOk, OnOk, ◌==◌}
 use Rattle.std.specs.Result.{result_ok}
 use Rattle.std.specs.List.{slice_index_or}
 use Rattle.std.proofs.lemmas.Bool.Decides.{nat_tests}
 use Rattle.std.proofs.Math.Seq.{take-append_seam, get_or-append_seam}
 use Rattle.std.proofs.Math.ListN.{get_or-append}
-use Rattle.std.proofs.lemmas.List.{take-append-le, map-append}
+use Rattle.std.proofs.lemmas.List.{take-append-le, map-append, append-nil, length-map}
 use Rattle.std.proofs.lemmas.List.Elements.{filter_map-append}
 use Rattle.life_base.specs.Text.{is_empty, begins_with, is_too_long, trim, is_blank, is_digit_text, value_of}
 use Rattle.life_base.specs.Numbers.{u64_of}
@@ -72,15 +72,7 @@ nothing [] h = refl
 nothing (line ∷ lines) h = cc
 
 any_squares : (xs : List Line) → nat_lt 0 (length xs) ≡ nat_lt 0 (length (map level_of xs))
-any_squares [] = refl
-any_squares (x ∷ xs) = length_same x xs
-  where
-    length_map : (xs : List Line) → length (map level_of xs) ≡ length xs
-    length_map [] = refl
-    length_map (x ∷ xs) = ap suc (length_map xs)
-
-    length_same : (x : Line) (xs : List Line) → nat_lt 0 (length (x ∷ xs)) ≡ nat_lt 0 (length (map level_of (x ∷ xs)))
-    length_same x xs = ap (λ n. nat_lt 0 (suc n)) (sym (length_map xs))
+any_squares xs = ap (λ n. nat_lt 0 n) (sym (length-map xs level_of))
 
 abbrev cascade : ℕ → Rule → List ℕ → List ℕ → Bool → Option Kind
 cascade top rule levels line some =
@@ -134,15 +126,11 @@ last_of : {X : Type 0} (x y : X) (xs : List X) → last_or x (xs ++ y ∷ []) �
 last_of x y [] = refl
 last_of x y (z ∷ xs) = last_of z y xs
 
-append_nothing : {X : Type 0} (xs : List X) → xs ++ [] ≡ xs
-append_nothing [] = refl
-append_nothing {X = X} (x ∷ xs) = ap (λ (t : List X). x ∷ t) (append_nothing xs)
-
 -- the last of some values, with one more or none
 one_more : {X Y : Type 0} (f : Y → Option X) (x : X) (ys : List Y) (y : Y) (o : Option X) → f y ≡ o
     → last_or x (filter_map f (ys ++ y ∷ [])) ≡ or_value o (last_or x (filter_map f ys))
 one_more {X = X} f x ys y None h =
-    ap (last_or x) (filter_map-append f ys (y ∷ []) ∙ ap (λ (t : List X). filter_map f ys ++ t) (none_on h) ∙ append_nothing (filter_map f ys))
+    ap (last_or x) (filter_map-append f ys (y ∷ []) ∙ ap (λ (t : List X). filter_map f ys ++ t) (none_on h) ∙ append-nil (filter_map f ys))
   where
     none_on : f y ≡ None → filter_map f (y ∷ []) ≡ []
     none_on e = rw e refl
@@ -166,7 +154,7 @@ square_here (header ∷ lines) line h = refl
 
 levels_more : (lines : List (List ℕ)) (line : List ℕ) (o : Option Line) → square_behind lines line ≡ o
     → map level_of (squares_of (lines ++ line ∷ [])) ≡ map level_of (squares_of lines) ++ level_in o
-levels_more lines line None h = ap (map level_of) (squares_none lines line h) ∙ sym (append_nothing (map level_of (squares_of lines)))
+levels_more lines line None h = ap (map level_of) (squares_none lines line h) ∙ sym (append-nil (map level_of (squares_of lines)))
 levels_more lines line (Some square) h = ap (map level_of) (squares_some lines line square h) ∙ map-append level_of (squares_of lines) (square ∷ [])
 
 some_lines : (lines : List (List ℕ)) (line : List ℕ) → true ≡ not (is_empty (lines ++ line ∷ []))
@@ -211,18 +199,7 @@ module _ (top : ℕ) (lines : List (List ℕ)) (line : List ℕ) (old new : Stan
 
 pub generation_breaks : (top : ℕ) (rule : Rule) (levels : List ℕ) (line : List ℕ) → is_blank line ≡ false → begins_with line (codes "#FRAME") ≡ false → is_command 82 line ≡ false
     → is_command 71 line ≡ true → nat_lt 0 (length levels) ≡ false → broken_after top rule levels line ≡ fault_in (u64_of (trim (drop 2 line)))
-generation_breaks top rule levels line b f r g l =
-    by (is_blank line) (begins_with line (codes "#FRAME")) (is_command 82 line) (is_command 71 line) (nat_lt 0 (length levels)) b f r g l
-  where
-    by : (b f r g l : Bool) → b ≡ false → f ≡ false → r ≡ false → g ≡ true → l ≡ false
-        → cond b None (cond f (Some Timeline) (cond ((r || g) && l) (Some LateHeader) (cond r (fault_in (rule_of (drop 2 line))) (cond g (fault_in (u64_of (trim (drop 2 line)))) (cond (begins_with line (codes "#")) None (broken_by_node top rule levels (trim line)))))))
-        ≡ fault_in (u64_of (trim (drop 2 line)))
-    by false false false true false p q r s t = refl
-    by true f r g l p q u s t = cc
-    by false true r g l p q u s t = cc
-    by false false true g l p q u s t = cc
-    by false false false false l p q u s t = cc
-    by false false false true true p q u s t = cc
+generation_breaks top rule levels line b f r g l = rw (b, f, r, g, l) refl
 
 pub generation_parsed_so : (line : List ℕ) (n : ℕ) → is_command 82 line ≡ false → is_command 71 line ≡ true → n ≡ value_of (trim (drop 2 line))
     → (rule_on line ≡ None) × (generation_on line ≡ Some n) × (square_on line ≡ None)

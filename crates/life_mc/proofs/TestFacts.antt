@@ -1,22 +1,10 @@
 -- Small facts on tests.
-use Rattle.std.proofs.Common.{◌≡◌, ℕ, suc, ◌≤◌, Bool, true, false, not, ◌&&◌, refl, ap, ◌∙◌, arith}
+use Rattle.std.proofs.Common.{◌≡◌, ℕ, suc, ◌*◌, ◌≤◌, Bool, true, false, cond, ◌&&◌, refl, ap, ◌∙◌, arith}
 use Rattle.std.specs.Prelude.{◌==◌}
 use Rattle.std.proofs.lemmas.Bool.Decides.{nat_tests}
 use Rattle.life_base.specs.declared.rule.Rule.{Rule}
 use Rattle.life_base.specs.declared.rule.Rule.TheVariants.{Life, Named}
 use Rattle.life_mc.specs.Macrocell.{largest_state}
-
-pub is_false : (v : Bool) → not v ≡ true → v ≡ false
-is_false true h = cc
-is_false false h = refl
-
-pub and-true : (v : Bool) → (v && true) ≡ v
-and-true true = refl
-and-true false = refl
-
-pub and-false : (v : Bool) → (v && false) ≡ false
-and-false true = refl
-and-false false = refl
 
 pub both : (v w : Bool) → v ≡ true → w ≡ true → (v && w) ≡ true
 both v w h k = ap (λ u. u && w) h ∙ k
@@ -27,6 +15,15 @@ all_four true true true false h = cc
 all_four true true false d h = cc
 all_four true false c d h = cc
 all_four false b c d h = cc
+
+-- a test's weight
+pub weigh : (v : Bool) (w : ℕ) → cond v w 0 ≡ w * cond v 1 0
+weigh true w = omega arith
+weigh false w = omega arith
+
+pub at_most_one : (v : Bool) → cond v 1 0 ≤ 1
+at_most_one true = omega arith
+at_most_one false = omega arith
 
 pub not_zero : (i : ℕ) → (suc i == 0) ≡ false
 not_zero i = grind (arith, nat_tests)

@@ -7,6 +7,7 @@ use Rattle.std.proofs.lemmas.Bool.Decides.{nat_tests}
 use Rattle.std.proofs.lemmas.Bool.{leb-true, le-leb}
 use Rattle.std.proofs.lemmas.List.{map-append, append-nil}
 use Rattle.std.proofs.Math.Seq.{take-append_seam}
+use mathlib.Core.Bool.{and-true}
 use Rattle.life_base.specs.Text.{lines_of, is_empty, is_blank, begins_with, trim, value_of}
 use Rattle.life_base.specs.Numbers.{u64_of}
 use Rattle.life_base.specs.Rules.{rule_of, rule_text, default_rule, IsRule}
@@ -24,7 +25,7 @@ use Rattle.life_mc.proofs.LineTexts.{IsTextOf, leaf_text, quad_text}
 use Rattle.life_mc.proofs.ReadBack.{has_no_feed, line_ended}
 use Rattle.life_mc.proofs.ReadLines.{squares_some}
 use Rattle.life_mc.proofs.Stands.{stands_first, stands_next}
-use Rattle.life_mc.proofs.TestFacts.{and-true, all_four, not_zero, few_states}
+use Rattle.life_mc.proofs.TestFacts.{all_four, not_zero, few_states}
 
 -- ---- a square's text, where the squares before it have these levels
 

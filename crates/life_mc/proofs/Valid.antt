@@ -7,7 +7,7 @@ use Rattle.std.specs.Result.{result_ok}
 use Rattle.std.proofs.Math.Seq.{take-length, take-append_seam}
 use Rattle.std.proofs.lemmas.List.{take_more, length-take-le, take-append-le}
 use Rattle.std.proofs.lemmas.List.Elements.{filter_map-append}
-use Rattle.std.proofs.lemmas.Bool.{leb-true, ltb-false}
+use Rattle.std.proofs.lemmas.Bool.{leb-true, ltb-false, not-true}
 use Rattle.life_base.specs.Text.{is_blank, is_whitespace, begins_with, trim, is_too_long, words_of, value_of, is_digit_text}
 use Rattle.life_base.specs.Rules.{rule_of, default_rule}
 use Rattle.life_base.specs.Numbers.{u64_of}
@@ -32,10 +32,6 @@ module _ (top : ℕ) where
   not_taken : (v : Bool) (a b : Option Kind) → v ≡ false → cond v a b ≡ None → b ≡ None
   not_taken true a b e h = cc
   not_taken false a b e h = h
-
-  is_false : (v : Bool) → not v ≡ true → v ≡ false
-  is_false true h = cc
-  is_false false h = refl
 
   contradicts : (v : Bool) → (v ≡ true → ⊥) → v ≡ false
   contradicts true h = absurd (h refl)
@@ -75,8 +71,8 @@ module _ (top : ℕ) where
     node_stands : (line : List ℕ) → broken_behind top before line ≡ None → is_node_line line ≡ true
         → broken_by_node top (rule_in_force before) (map level_of (squares_of before)) (trim line) ≡ None
     node_stands line e n =
-        let blank : is_blank line ≡ false = is_false _ (first _ (not (begins_with line (codes "#"))) n) in
-        let hash : begins_with line (codes "#") ≡ false = is_false _ (second (not (is_blank line)) _ n) in
+        let blank : is_blank line ≡ false = not-true _ (first _ (not (begins_with line (codes "#"))) n) in
+        let hash : begins_with line (codes "#") ≡ false = not-true _ (second (not (is_blank line)) _ n) in
         let s1 = not_taken (is_blank line) None _ blank e in
         let s2 = (passed (begins_with line (codes "#FRAME")) Timeline _ s1).1 in
         let s3 = (passed ((is_command 82 line || is_command 71 line) && nat_lt 0 (length (squares_of before))) LateHeader _ s2).1 in
@@ -228,7 +224,7 @@ module _ (top : ℕ) where
     with_square None h = with_rule (rule_on line) refl h
     with_square (Some square) h =
         let t = taken (is_node_line line) (square_of (trim line)) square h in
-        let hash : begins_with line (codes "#") ≡ false = is_false _ (second (not (is_blank line)) _ t.0) in
+        let hash : begins_with line (codes "#") ≡ false = not-true _ (second (not (is_blank line)) _ t.0) in
         let none : rule_on line ≡ None = not_command (is_command 82 line) (result_ok (rule_of (drop 2 line))) (no_command 82 line hash) in
         let is : IsSquare top (rule_in_force (header ∷ lines)) (map level_of (squares_of (header ∷ lines))) square =
         node_is_square _ _ (trim line) square (node_stands header lines line stands t.0) t.1 in

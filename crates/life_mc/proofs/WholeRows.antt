@@ -5,9 +5,11 @@ use Rattle.std.specs.List.{list_all, prefix_len}
 use Rattle.std.specs.Simd.Lanes.{mask_l, top}
 use Rattle.std.proofs.lemmas.Bool.Decides.{nat_tests}
 use Rattle.std.proofs.lemmas.Bool.{le-leb}
+use mathlib.Core.Bool.{and-false}
 use Rattle.life_mc.specs.Reading.{row_byte}
 use Rattle.life_mc.specs.Standing.{first_row, front_cells, is_cell, is_row}
 use Rattle.life_mc.proofs.Leaves.{fits}
+use Rattle.life_mc.proofs.TestFacts.{weigh, at_most_one}
 
 -- ---- marks of bytes
 
@@ -75,14 +77,6 @@ mark v = cond (top 7 (cond v 255 0)) 1 0
 mark_is : (v : Bool) → mark v ≡ cond v 1 0
 mark_is true = refl
 mark_is false = refl
-
-weigh : (v : Bool) (w : ℕ) → cond v w 0 ≡ w * cond v 1 0
-weigh true w = omega arith
-weigh false w = omega arith
-
-at_most_one : (v : Bool) → cond v 1 0 ≤ 1
-at_most_one true = omega arith
-at_most_one false = omega arith
 
 abbrev weighed : Bool → Bool → Bool → Bool → Bool → Bool → Bool → Bool → ℕ
 weighed a b c d e f g h = 0 + cond a 128 0 + cond b 64 0 + cond c 32 0 + cond d 16 0 + cond e 8 0 + cond f 4 0 + cond g 2 0 + cond h 1 0
@@ -237,10 +231,6 @@ last_bit (suc (suc n)) = 2 * last_bit (suc n)
 half_of : (n : ℕ) → last_bit (suc n) / 2 ≡ last_bit n
 half_of zero = refl
 half_of (suc n) = omega arith
-
-and-false : (a : Bool) → (a && false) ≡ false
-and-false true = refl
-and-false false = refl
 
 -- where another byte is there, the row is none of a leaf
 pub no_row_in_front : (n : ℕ) (text : List ℕ) → n < length text → (get_or text (front_cells n text) 0 ≡ 36 → ⊥) → fits (last_bit n) (first_row text) ≡ false
