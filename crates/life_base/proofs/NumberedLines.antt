@@ -1,5 +1,5 @@
 -- Lines that are read one after another, each with its number.
-use Rattle.std.proofs.Common.{◌≡◌, ℕ, ◌+◌, ◌-◌, ◌^◌, ◌≤◌, min, suc, List, [], ◌∷◌, ◌++◌, length, take, get_or, map, refl, ap, sym, subst, ◌∙◌, arith, length-append}
+use Rattle.std.proofs.Common.{◌≡◌, ℕ, ◌+◌, ◌-◌, ◌^◌, ◌≤◌, min, suc, List, [], ◌∷◌, ◌++◌, length, take, get_or, map, Bor, refl, ap, sym, subst, ◌∙◌, arith, length-append}
 use Rattle.std.specs.Prelude.{Option, Some}
 use Rattle.std.proofs.Math.Seq.{take-append_seam, get_or-append_seam}
 use Rattle.std.proofs.Math.ListN.{get_or-append}
@@ -47,6 +47,15 @@ number_at (x ∷ lines) (p ∷ before) n k line rest h e =
 pub all_read : (lines : List (List ℕ)) (before rest : List (ℕ × List ℕ)) → before ++ rest ≡ numbered_from 1 lines → rest ≡ [] → texts before ≡ lines
 all_read lines before rest e none =
     ap texts (sym (append-nil before) ∙ ap (λ (t : List (ℕ × List ℕ)). before ++ t) (sym none) ∙ e) ∙ numbered_texts lines 1
+
+-- a line that an iterator of numbered lines has handed out
+abbrev pub numbered : ℕ × Bor (List ℕ) → ℕ × List ℕ
+numbered p = (p.0, p.1.now)
+
+-- the same of a reader that has taken each line
+pub whole_read : (lines read : List (List ℕ)) (yielded : List (ℕ × Bor (List ℕ))) (rest : List (ℕ × List ℕ)) → read ≡ texts (map numbered yielded)
+    → map numbered yielded ++ rest ≡ numbered_from 1 lines → rest ≡ [] → read ≡ lines
+whole_read lines read yielded rest taken all none = taken ∙ all_read lines (map numbered yielded) rest all none
 
 -- the lines of a file are those before a line, the line and those behind it
 pub lines_around : (lines : List (List ℕ)) (before : List (ℕ × List ℕ)) (k : ℕ) (line : List ℕ) (rest : List (ℕ × List ℕ))

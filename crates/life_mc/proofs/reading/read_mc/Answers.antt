@@ -6,14 +6,13 @@ use Rattle.life_base.specs.declared.fault.Fault.{Fault}
 use Rattle.life_base.specs.declared.kind.Kind.{Kind}
 use Rattle.life_base.specs.declared.kind.Kind.TheVariants.{Memory, NoHeader, Spent}
 use Rattle.life_base.specs.declared.cell.TheConstants.{MAX_LEVEL}
-use Rattle.life_base.proofs.NumberedLines.{all_read}
+use Rattle.life_base.proofs.NumberedLines.{numbered, whole_read}
 use Rattle.life_mc.specs.Grammar.{IsFile}
 use Rattle.life_mc.specs.Macrocell.{Macrocell}
 use Rattle.life_mc.specs.Reading.{broken, Refuses, is_macrocell_kind}
 use Rattle.life_mc.proofs.LineKinds.{broken_kind, names_line}
 use Rattle.life_mc.proofs.LinesTaken.{refused_here, file_of}
 use Rattle.life_mc.proofs.ReadLines.{no_lines}
-use Rattle.life_mc.proofs.reading.read_mc.Invariants.{numbered}
 use Rattle.life_mc.proofs.reading.read_mc.Goals as goal
 
 -- the fault of a line that breaks a rule behind these
@@ -61,26 +60,25 @@ invariant_of-result c =
 
 pub returns-in-Ok-clause-ok : goal.returns-in-Ok-clause-ok
 returns-in-Ok-clause-ok c =
-    let pairs : List (ℕ × List ℕ) = map numbered c.loop-number.yielded in
     let said = c.in-Ok.ensures.file in
     let read : List (List ℕ) = c.loop-number.reader.lines in
     let file : Macrocell = record { rule = c.in-Ok.rule; generation = c.in-Ok.generation; lines = c.from_vec.result } in
     let is : IsFile MAX_LEVEL read file = file_of MAX_LEVEL read said.0 file said.1 said.2 said.3 (c.from_vec.ensures ∙ c.loop-number.invariant.squares) in
-    let whole : read ≡ lines_of c.args.bytes.now = c.loop-number.invariant.taken ∙ all_read (lines_of c.args.bytes.now) pairs _ c.loop-number.invariant.all c.in-None.ensures.steps.0 in
+    let loop = c.loop-number.invariant in
+    let whole = whole_read (lines_of c.args.bytes.now) c.loop-number.reader.lines c.loop-number.yielded _ loop.taken loop.all c.in-None.ensures.steps.0 in
     subst (λ ls. IsFile MAX_LEVEL ls file) whole is
 
 pub returns-in-Err-end-clause-err : goal.returns-in-Err-end-clause-err
 returns-in-Err-end-clause-err c =
-    let pairs : List (ℕ × List ℕ) = map numbered c.loop-number.yielded in
     let lines : List (List ℕ) = lines_of c.args.bytes.now in
-    let read : List (List ℕ) = c.loop-number.reader.lines in
-    let whole : read ≡ lines = c.loop-number.invariant.taken ∙ all_read lines pairs _ c.loop-number.invariant.all c.in-None.ensures.steps.0 in
+    let loop = c.loop-number.invariant in
+    let whole = whole_read lines c.loop-number.reader.lines c.loop-number.yielded _ loop.taken loop.all c.in-None.ensures.steps.0 in
     let kind : Kind = c.in-Err-end.kind in
     let e : c.at-in-Err-end.result ≡ fault_at 1 kind = c.at-in-Err-end.ensures in
     let only : (kind ≡ NoHeader) ⊎ (kind ≡ Spent) = c.in-Err-end.ensures.only in
     let Q : List (List ℕ) → Type 0 = λ ls. Refuses MAX_LEVEL ls (fault_at 1 NoHeader) in
     let answer : OrMemory c.at-in-Err-end.result (Refuses MAX_LEVEL lines c.at-in-Err-end.result) = elim only [
-      | inl m ↦ (let none : read ≡ [] = (c.in-Err-end.ensures.missing c.loop-number.invariant.fresh).0 (ap Err m) in
+      | inl m ↦ (let none : c.loop-number.reader.lines ≡ [] = (c.in-Err-end.ensures.missing c.loop-number.invariant.fresh).0 (ap Err m) in
           inr (subst (Refuses MAX_LEVEL lines) (sym (e ∙ ap (fault_at 1) m)) (subst Q (sym none ∙ whole) (no_lines MAX_LEVEL))))
       | inr s ↦ (let refused : c.loop-number.reader.refused ≡ true = c.in-Err-end.ensures.spent.0 (ap Err s) in let fresh : c.loop-number.reader.refused ≡ false = c.loop-number.invariant.fresh in cc)
     ] in

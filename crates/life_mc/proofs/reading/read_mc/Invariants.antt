@@ -1,13 +1,10 @@
-use Rattle.std.proofs.Common.{◌≡◌, ◌++◌, List, ℕ, map, false, Bor}
+use Rattle.std.proofs.Common.{◌≡◌, ◌++◌, map, false}
 use Rattle.life_base.specs.Text.{lines_of, numbered_from}
 use Rattle.life_mc.specs.Reading.{squares_of}
 use Rattle.life_mc.specs.Laws.{AreUnbroken}
-use Rattle.life_base.proofs.NumberedLines.{texts}
+use Rattle.life_base.proofs.NumberedLines.{texts, numbered}
 use Rattle.life_base.specs.declared.cell.TheConstants.{MAX_LEVEL}
 use Rattle.life_mc.proofs.reading.read_mc.Given as goal
-
-abbrev pub numbered : ℕ × Bor (List ℕ) → ℕ × List ℕ
-numbered p = (p.0, p.1.now)
 
 abbrev pub invariant-loop-number : goal.invariant-loop-number
 invariant-loop-number l = record {

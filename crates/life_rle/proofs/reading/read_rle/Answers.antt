@@ -8,7 +8,7 @@ use Rattle.life_base.specs.declared.fault.Fault.{Fault}
 use Rattle.life_base.specs.declared.kind.Kind.{Kind}
 use Rattle.life_base.specs.declared.kind.Kind.TheVariants.{NoHeader, Spent}
 use Rattle.life_base.specs.declared.cell.TheConstants.{MAX_LEVEL}
-use Rattle.life_base.proofs.NumberedLines.{texts, all_read, number_at, length_texts}
+use Rattle.life_base.proofs.NumberedLines.{texts, numbered, whole_read, number_at, length_texts}
 use Rattle.life_rle.specs.declared.file.RleFile.{RleFile}
 use Rattle.life_rle.specs.declared.position.Position.{Position}
 use Rattle.life_base.specs.Lines.{LinesRead}
@@ -19,7 +19,6 @@ use Rattle.life_rle.proofs.Advance.{known-runs}
 use Rattle.life_rle.proofs.LineKinds.{Breaks-kind}
 use Rattle.life_rle.proofs.PlainFiles.{files_are_plain}
 use Rattle.life_rle.proofs.ReadInputs.{no_runs, refused_here, refused_at_end}
-use Rattle.life_rle.proofs.reading.read_rle.Invariants.{numbered}
 use Rattle.life_rle.proofs.reading.read_rle.Goals as goal
 
 pub returns-in_err-take_numbered-clause-fault : goal.returns-in_err-take_numbered-clause-fault
@@ -61,10 +60,9 @@ returns-in-Err-clause-kinds c =
 
 pub returns-in-Ok-clause-file : goal.returns-in-Ok-clause-file
 returns-in-Ok-clause-file c =
-    let pairs : List (ℕ × List ℕ) = map numbered c.loop-number.yielded in
     let lines : List (List ℕ) = lines_of c.args.bytes.now in
-    let read : List (List ℕ) = c.loop-number.reader.lines in
-    let whole : read ≡ lines = c.loop-number.invariant.taken ∙ all_read lines pairs _ c.loop-number.invariant.all c.in-None.ensures.steps.0 in
+    let loop = c.loop-number.invariant in
+    let whole = whole_read lines c.loop-number.reader.lines c.loop-number.yielded _ loop.taken loop.all c.in-None.ensures.steps.0 in
     let told = c.in-Ok.ensures.file in
     let file : Rle = told.0 in
     let is : IsRle MAX_LEVEL lines file = subst (λ ls. IsRle MAX_LEVEL ls file) whole told.1 in
@@ -82,10 +80,9 @@ returns-in-Ok-clause-file c =
 
 pub returns-in-Err-clause-fault : goal.returns-in-Err-clause-fault
 returns-in-Err-clause-fault c =
-    let pairs : List (ℕ × List ℕ) = map numbered c.loop-number.yielded in
     let lines : List (List ℕ) = lines_of c.args.bytes.now in
-    let read : List (List ℕ) = c.loop-number.reader.lines in
-    let whole : read ≡ lines = c.loop-number.invariant.taken ∙ all_read lines pairs _ c.loop-number.invariant.all c.in-None.ensures.steps.0 in
+    let loop = c.loop-number.invariant in
+    let whole = whole_read lines c.loop-number.reader.lines c.loop-number.yielded _ loop.taken loop.all c.in-None.ensures.steps.0 in
     let kind : Kind = c.in-Err.kind in
     let number : ℕ = c.saturating_add.result in
     let e : c.at.result ≡ fault_at number kind = c.at.ensures in
@@ -93,7 +90,8 @@ returns-in-Err-clause-fault c =
     let answer : OrMemory c.at.result (Refuses MAX_LEVEL lines c.at.result) = elim only [
       | inl m ↦ (let pre = c.in-Err.ensures.missing (ap Err m) in
           inr (subst (Refuses MAX_LEVEL lines) (sym e)
-          (refused_at_end MAX_LEVEL lines read pre.0 number c.loop-number.last kind whole pre.1 m c.loop-number.invariant.counted c.saturating_add.ensures)))
+          (refused_at_end MAX_LEVEL lines c.loop-number.reader.lines pre.0 number c.loop-number.last kind
+          whole pre.1 m c.loop-number.invariant.counted c.saturating_add.ensures)))
       | inr s ↦ (let refused : c.loop-number.reader.refused ≡ true = c.in-Err.ensures.spent.0 (ap Err s) in let fresh : c.loop-number.reader.refused ≡ false = c.loop-number.invariant.fresh in cc)
     ] in
     answer

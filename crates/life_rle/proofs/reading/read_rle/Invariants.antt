@@ -1,12 +1,9 @@
-use Rattle.std.proofs.Common.{◌≡◌, ◌++◌, ◌-◌, ◌^◌, List, ℕ, map, min, length, false, Bor}
+use Rattle.std.proofs.Common.{◌≡◌, ◌++◌, ◌-◌, ◌^◌, map, min, length, false}
 use Rattle.life_base.specs.Text.{lines_of, numbered_from}
 use Rattle.life_base.specs.declared.cell.TheConstants.{MAX_LEVEL}
-use Rattle.life_base.proofs.NumberedLines.{texts}
+use Rattle.life_base.proofs.NumberedLines.{texts, numbered}
 use Rattle.life_rle.specs.File.{HasRuns}
 use Rattle.life_rle.proofs.reading.read_rle.Given as goal
-
-abbrev pub numbered : ℕ × Bor (List ℕ) → ℕ × List ℕ
-numbered p = (p.0, p.1.now)
 
 abbrev pub invariant-loop-number : goal.invariant-loop-number
 invariant-loop-number l = record {
