@@ -168,7 +168,8 @@ sum_of_bits n h = omega arith
 state_at : (row : List ℕ) (x : ℕ) → x < 8 → IsStateAt (row_byte row) row x
 state_at row x h =
     let b = bits_of_sum (row_byte row) (state_in row 0) (state_in row 1) (state_in row 2) (state_in row 3) (state_in row 4) (state_in row 5) (state_in row 6) (state_in row 7) (row_weighed row)
-    (at_most_one (live row 0)) (at_most_one (live row 1)) (at_most_one (live row 2)) (at_most_one (live row 3)) (at_most_one (live row 4)) (at_most_one (live row 5)) (at_most_one (live row 6)) (at_most_one (live row 7)) in
+    (at_most_one (live row 0)) (at_most_one (live row 1)) (at_most_one (live row 2)) (at_most_one (live row 3))
+    (at_most_one (live row 4)) (at_most_one (live row 5)) (at_most_one (live row 6)) (at_most_one (live row 7)) in
     by x h b.0 b.1 b.2 b.3 b.4 b.5 b.6 b.7
   where
     by : (x : ℕ) → x < 8 → IsStateAt (row_byte row) row 0 → IsStateAt (row_byte row) row 1 → IsStateAt (row_byte row) row 2 → IsStateAt (row_byte row) row 3

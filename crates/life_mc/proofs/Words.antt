@@ -126,12 +126,12 @@ onto : {words more : List (List ℕ)} (word : List ℕ) → words ≡ more → w
 onto word h = ap (λ (t : List (List ℕ)). word ∷ t) h
 
 -- words that were found one after another
-pub four_in_front : {ws after_a after_b after_c after_d : List (List ℕ)} {a b c d : List ℕ} → ws ≡ a ∷ after_a → after_a ≡ b ∷ after_b → after_b ≡ c ∷ after_c → after_c ≡ d ∷ after_d
-    → ws ≡ a ∷ b ∷ c ∷ d ∷ after_d
+pub four_in_front : {ws after_a after_b after_c after_d : List (List ℕ)} {a b c d : List ℕ}
+    → ws ≡ a ∷ after_a → after_a ≡ b ∷ after_b → after_b ≡ c ∷ after_c → after_c ≡ d ∷ after_d → ws ≡ a ∷ b ∷ c ∷ d ∷ after_d
 four_in_front {a} {b} {c} p q r s = p ∙ onto a (q ∙ onto b (r ∙ onto c s))
 
-pub five_in_front : {ws after_a after_b after_c after_d after_e : List (List ℕ)} {a b c d e : List ℕ} → ws ≡ a ∷ after_a → after_a ≡ b ∷ after_b → after_b ≡ c ∷ after_c → after_c ≡ d ∷ after_d
-    → after_d ≡ e ∷ after_e → ws ≡ a ∷ b ∷ c ∷ d ∷ e ∷ after_e
+pub five_in_front : {ws after_a after_b after_c after_d after_e : List (List ℕ)} {a b c d e : List ℕ}
+    → ws ≡ a ∷ after_a → after_a ≡ b ∷ after_b → after_b ≡ c ∷ after_c → after_c ≡ d ∷ after_d → after_d ≡ e ∷ after_e → ws ≡ a ∷ b ∷ c ∷ d ∷ e ∷ after_e
 five_in_front {a} {b} {c} {d} p q r s t = four_in_front p q r s ∙ onto a (onto b (onto c (onto d t)))
 
 pub quad_short : (t a b c d : List ℕ) (ws : List (List ℕ)) → ws ≡ a ∷ b ∷ c ∷ d ∷ words_of t → begins_with_number (words_of t) ≡ false → quad_words ws ≡ None

@@ -1,5 +1,5 @@
-use Rattle.std.proofs.Common.{◌∙◌, sym}
-use Rattle.life_base.specs.Text.{words_of}
+use Rattle.std.proofs.Common.{◌≡◌, ◌∙◌, true, sym}
+use Rattle.life_base.specs.Text.{words_of, is_empty}
 use Rattle.life_mc.proofs.Words.{four_in_front, five_in_front, quad_short, quad_long, quad_whole}
 use Rattle.life_mc.proofs.numbers.read_numbers.Goals as goal
 
@@ -21,5 +21,6 @@ returns c =
     let e = c.in_ok-sw.ensures in
     let f = c.in_ok-se.ensures in
     let words = five_in_front a.1 b.1 d.1 e.1 f.1 in
-    let whole = quad_whole _ _ _ _ _ (words_of c.args.text.now) (words_of c.in_ok-se.rest.now) words (sym c.has_no_word.ensures ∙ c.if-not-has_no_word.false) a.2 b.2 d.2 e.2 f.2 in
+    let none : is_empty (words_of c.in_ok-se.rest.now) ≡ true = sym c.has_no_word.ensures ∙ c.if-not-has_no_word.false in
+    let whole = quad_whole _ _ _ _ _ (words_of c.args.text.now) (words_of c.in_ok-se.rest.now) words none a.2 b.2 d.2 e.2 f.2 in
     rw (a.3, b.3, d.3, e.3, f.3) (sym whole)
