@@ -125,34 +125,27 @@ corner-read level text left right x y e h k =
 abbrev pos_text : List ℕ → List ℕ
 pos_text rest = codes "Pos=" ++ rest
 
-corner-ok : (level : ℕ) (text rest : List ℕ) (field : Field) (a b : Option ℤ) → text ≡ pos_text rest → signed_number (before rest) ≡ a → signed_number (behind rest) ≡ b
-    → corner_of level a b ≡ Ok field → IsFieldText level text field
-corner-ok level text rest field None b t e f h = cc
-corner-ok level text rest field (Some x) None t e f h = cc
-corner-ok level text rest field (Some x) (Some y) t e f h =
-    elim (is_coordinate level x && is_coordinate level y)
-    as (λ v. (is_coordinate level x && is_coordinate level y) ≡ v → cond v (Ok (Corner x y)) (Err OutOfPlane) ≡ Ok field → IsFieldText level text field) [
-      | true ↦ λ v k.
-          let parts = both_true (is_coordinate level x) (is_coordinate level y) v in
-          let same : field ≡ Corner x y = cc in
-          corner (before rest) (behind rest) x y (t ∙ ap pos_text (two-numbers rest y f)) (number-text (before rest) x e) (number-text (behind rest) y f) parts.0 parts.1 same
-      | false ↦ λ _ k. cc
-    ] refl h
+-- what a field is by what is read of it
+abbrev IsReadAs : ℕ → List ℕ → Result Field Kind → Type 0
+IsReadAs level text (Ok field) = IsFieldText level text field
+IsReadAs level text (Err kind) = IsNoField level text kind
 
-corner-err : (level : ℕ) (text rest : List ℕ) (kind : Kind) (a b : Option ℤ) → text ≡ pos_text rest → signed_number (before rest) ≡ a → signed_number (behind rest) ≡ b
-    → corner_of level a b ≡ Err kind → IsNoField level text kind
-corner-err level text rest kind None b t e f h =
-    no_corner rest t (λ left right x y s l r. let n : None ≡ Some x = sym e ∙ number-before rest left right x s l in cc) (let q : kind ≡ BadNumber = cc in q)
-corner-err level text rest kind (Some x) None t e f h =
-    no_corner rest t (λ left right z y s l r. let n : None ≡ Some y = sym f ∙ number-behind rest left right z y s l r in cc) (let q : kind ≡ BadNumber = cc in q)
-corner-err level text rest kind (Some x) (Some y) t e f h =
-    elim (is_coordinate level x && is_coordinate level y)
-    as (λ v. (is_coordinate level x && is_coordinate level y) ≡ v → cond v (Ok (Corner x y)) (Err OutOfPlane) ≡ Err kind → IsNoField level text kind) [
-      | true ↦ λ _ k. cc
-      | false ↦ λ v k.
-          let same : kind ≡ OutOfPlane = cc in
-          outside (before rest) (behind rest) x y (t ∙ ap pos_text (two-numbers rest y f)) (number-text (before rest) x e) (number-text (behind rest) y f) v same
-    ] refl h
+corner-IsReadAs : (level : ℕ) (text rest : List ℕ) (a b : Option ℤ) → text ≡ pos_text rest → signed_number (before rest) ≡ a
+    → signed_number (behind rest) ≡ b → IsReadAs level text (corner_of level a b)
+corner-IsReadAs level text rest None b t e f =
+    no_corner rest t (λ left right x y s l r. let n : None ≡ Some x = sym e ∙ number-before rest left right x s l in cc) refl
+corner-IsReadAs level text rest (Some x) None t e f =
+    no_corner rest t (λ left right z y s l r. let n : None ≡ Some y = sym f ∙ number-behind rest left right z y s l r in cc) refl
+corner-IsReadAs level text rest (Some x) (Some y) t e f = by (is_coordinate level x && is_coordinate level y) refl
+  where
+    whole : text ≡ pos_text (before rest ++ (codes "," ++ behind rest))
+    whole = t ∙ ap pos_text (two-numbers rest y f)
+
+    by : (v : Bool) → (is_coordinate level x && is_coordinate level y) ≡ v → IsReadAs level text (cond v (Ok (Corner x y)) (Err OutOfPlane))
+    by true v =
+        let parts = both_true (is_coordinate level x) (is_coordinate level y) v in
+        corner (before rest) (behind rest) x y whole (number-text (before rest) x e) (number-text (behind rest) y f) parts.0 parts.1 refl
+    by false v = outside (before rest) (behind rest) x y whole (number-text (before rest) x e) (number-text (behind rest) y f) v refl
 
 no-numbers : (level : ℕ) (rest : List ℕ) (a b : Option ℤ) → signed_number (before rest) ≡ a → signed_number (behind rest) ≡ b
     → ((left right : List ℕ) (x y : ℤ) → rest ≡ left ++ (codes "," ++ right) → IsNumberText left x → IsNumberText right y → ⊥) → corner_of level a b ≡ Err BadNumber
@@ -180,17 +173,11 @@ fits-not n h = grind (arith, nat_tests)
 not-fits : (n : ℕ) → 2 ^ 64 ≤ n → leb n (2 ^ 64 - 1) ≡ false
 not-fits n h = grind (arith, nat_tests)
 
-generation-ok : (level : ℕ) (text rest : List ℕ) (field : Field) (digits fits : Bool) → text ≡ gen_text rest → is_digit_text rest ≡ digits → leb (value_of rest) (2 ^ 64 - 1) ≡ fits
-    → generation_by digits fits (value_of rest) ≡ Ok field → IsFieldText level text field
-generation-ok level text rest field false fits t d f h = cc
-generation-ok level text rest field true false t d f h = cc
-generation-ok level text rest field true true t d f h = let same : field ≡ Generation (value_of rest) = cc in generation rest t d (fits-below (value_of rest) f) same
-
-generation-err : (level : ℕ) (text rest : List ℕ) (kind : Kind) (digits fits : Bool) → text ≡ gen_text rest → is_digit_text rest ≡ digits → leb (value_of rest) (2 ^ 64 - 1) ≡ fits
-    → generation_by digits fits (value_of rest) ≡ Err kind → IsNoField level text kind
-generation-err level text rest kind false fits t d f h = let same : kind ≡ BadNumber = cc in no_generation rest t d same
-generation-err level text rest kind true false t d f h = let same : kind ≡ TooLarge = cc in large rest t d (fits-not (value_of rest) f) same
-generation-err level text rest kind true true t d f h = cc
+generation-IsReadAs : (level : ℕ) (text rest : List ℕ) (digits fits : Bool) → text ≡ gen_text rest → is_digit_text rest ≡ digits
+    → leb (value_of rest) (2 ^ 64 - 1) ≡ fits → IsReadAs level text (generation_by digits fits (value_of rest))
+generation-IsReadAs level text rest false fits t d f = no_generation rest t d refl
+generation-IsReadAs level text rest true false t d f = large rest t d (fits-not (value_of rest) f) refl
+generation-IsReadAs level text rest true true t d f = generation rest t d (fits-below (value_of rest) f) refl
 
 -- ---- a field
 
@@ -198,28 +185,24 @@ abbrev field_by : ℕ → List ℕ → Bool → Bool → Result Field Kind
 field_by level text at_pos at_gen =
     cond at_pos (corner_in level (drop 4 text)) (cond at_gen (and_then (u64_of (drop 4 text)) (λ n. Ok (Generation n))) (Ok Other))
 
-field-text_by : (level : ℕ) (text : List ℕ) (field : Field) (p g : Bool) → begins_with text (codes "Pos=") ≡ p → begins_with text (codes "Gen=") ≡ g
-    → field_by level text p g ≡ Ok field → IsFieldText level text field
-field-text_by level text field true g e f h =
-    corner-ok level text (drop 4 text) field (signed_number (before (drop 4 text))) (signed_number (behind (drop 4 text))) (begins-split text (codes "Pos=") e) refl refl h
-field-text_by level text field false true e f h =
-    generation-ok level text (drop 4 text) field (is_digit_text (drop 4 text)) (leb (value_of (drop 4 text)) (2 ^ 64 - 1)) (begins-split text (codes "Gen=") f) refl refl h
-field-text_by level text field false false e f h =
-    let same : field ≡ Other = cc in other (begins-not text (codes "Pos=") e) (begins-not text (codes "Gen=") f) same
+field-IsReadAs_by : (level : ℕ) (text : List ℕ) (p g : Bool) → begins_with text (codes "Pos=") ≡ p → begins_with text (codes "Gen=") ≡ g
+    → IsReadAs level text (field_by level text p g)
+field-IsReadAs_by level text true g e f =
+    let rest = drop 4 text in
+    corner-IsReadAs level text rest (signed_number (before rest)) (signed_number (behind rest)) (begins-split text (codes "Pos=") e) refl refl
+field-IsReadAs_by level text false true e f =
+    let rest = drop 4 text in
+    generation-IsReadAs level text rest (is_digit_text rest) (leb (value_of rest) (2 ^ 64 - 1)) (begins-split text (codes "Gen=") f) refl refl
+field-IsReadAs_by level text false false e f = other (begins-not text (codes "Pos=") e) (begins-not text (codes "Gen=") f) refl
+
+field-IsReadAs : (level : ℕ) (text : List ℕ) → IsReadAs level text (field_of level text)
+field-IsReadAs level text = field-IsReadAs_by level text (begins_with text (codes "Pos=")) (begins_with text (codes "Gen=")) refl refl
 
 field-text : (level : ℕ) (text : List ℕ) (field : Field) → field_of level text ≡ Ok field → IsFieldText level text field
-field-text level text field h = field-text_by level text field (begins_with text (codes "Pos=")) (begins_with text (codes "Gen=")) refl refl h
-
-field-fault_by : (level : ℕ) (text : List ℕ) (kind : Kind) (p g : Bool) → begins_with text (codes "Pos=") ≡ p → begins_with text (codes "Gen=") ≡ g
-    → field_by level text p g ≡ Err kind → IsNoField level text kind
-field-fault_by level text kind true g e f h =
-    corner-err level text (drop 4 text) kind (signed_number (before (drop 4 text))) (signed_number (behind (drop 4 text))) (begins-split text (codes "Pos=") e) refl refl h
-field-fault_by level text kind false true e f h =
-    generation-err level text (drop 4 text) kind (is_digit_text (drop 4 text)) (leb (value_of (drop 4 text)) (2 ^ 64 - 1)) (begins-split text (codes "Gen=") f) refl refl h
-field-fault_by level text kind false false e f h = cc
+field-text level text field h = subst (IsReadAs level text) h (field-IsReadAs level text)
 
 field-fault : (level : ℕ) (text : List ℕ) (kind : Kind) → field_of level text ≡ Err kind → IsNoField level text kind
-field-fault level text kind h = field-fault_by level text kind (begins_with text (codes "Pos=")) (begins_with text (codes "Gen=")) refl refl h
+field-fault level text kind h = subst (IsReadAs level text) h (field-IsReadAs level text)
 
 at-pos : (level : ℕ) (text rest : List ℕ) → text ≡ pos_text rest → field_of level text ≡ corner_in level rest
 at-pos level text rest e = ap (field_of level) e
