@@ -4,6 +4,7 @@ use Rattle.std.specs.List.{list_all}
 use Rattle.std.proofs.lemmas.Bool.Decides.{nat_tests}
 use Rattle.std.proofs.lemmas.List.Folds.{list_all-append}
 use Rattle.std.specs.Char.{is_ascii_digit}
+use Rattle.life_base.proofs.NamesRead.{all_pass}
 use Rattle.life_rle.specs.Written.{wrapped, count_text, item_text}
 use Rattle.life_base.specs.declared.rule.Rule.{Rule}
 use Rattle.life_base.specs.declared.rule.Rule.TheVariants.{Life, Named}
@@ -11,7 +12,7 @@ use Rattle.life_rle.specs.declared.item.Item.{Item}
 use Rattle.life_rle.specs.declared.item.Item.TheVariants.{Cells, RowEnds}
 use Rattle.life_rle.specs.States.{state_text, lettered}
 use Rattle.life_rle.specs.Cursor.{item_count}
-use Rattle.life_rle.proofs.Texts.{both_true, decimal-is_digit_text}
+use Rattle.life_rle.proofs.Texts.{decimal-is_digit_text}
 use Rattle.life_rle.proofs.ReadBack.{is_one_line, AreLines, digits-all}
 use Rattle.life_rle.specs.Plane.{most_count}
 use Rattle.life_base.specs.declared.cell.TheConstants.{MAX_LEVEL}
@@ -30,10 +31,7 @@ digit-inner : (d : ℕ) → is_ascii_digit d ≡ true → not (eqb d 10) ≡ tru
 digit-inner d h = grind (arith, nat_tests)
 
 pub digits-one_line : (digits : List ℕ) → list_all is_ascii_digit digits ≡ true → is_one_line digits ≡ true
-digits-one_line [] h = refl
-digits-one_line (d ∷ digits) h =
-    let parts = both_true (is_ascii_digit d) (list_all is_ascii_digit digits) h in
-    ap (λ t. t && is_one_line digits) (digit-inner d parts.0) ∙ digits-one_line digits parts.1
+digits-one_line digits h = all_pass is_ascii_digit (λ b. not (eqb b 10)) digit-inner digits h
 
 pub decimal-one_line : (n : ℕ) → n < 2 ^ 64 → is_one_line (decimal n) ≡ true
 decimal-one_line n h = digits-one_line (decimal n) (digits-all (decimal n) (decimal-is_digit_text n h))

@@ -1,5 +1,5 @@
 -- The text of a rule is short, and of visible bytes alone.
-use Rattle.std.proofs.Common.{◌≡◌, ℕ, ◌≤◌, List, [], ◌∷◌, length, Bool, true, false, cond, not, ◌&&◌, ◌||◌, refl, ap, ◌∙◌, arith}
+use Rattle.std.proofs.Common.{◌≡◌, ℕ, ◌≤◌, List, [], ◌∷◌, length, Bool, true, false, cond, not, ◌&&◌, ◌||◌, refl, ap, arith}
 use Rattle.std.specs.Prelude.{nat_le, nat_lt, ◌==◌}
 use Rattle.std.specs.List.{list_all}
 use Rattle.std.proofs.lemmas.Bool.Decides.{nat_tests}
@@ -7,6 +7,7 @@ use Rattle.std.proofs.lemmas.Bool.{ltb-false}
 use Rattle.life_base.specs.Text.{is_whitespace, is_empty, trim_start}
 use Rattle.life_base.specs.Rules.{rule_text, IsRule}
 use Rattle.life_base.specs.declared.rule.Rule.{Rule}
+use Rattle.life_base.proofs.NamesRead.{all_pass}
 use Rattle.life_base.proofs.RuleTexts.{texts_visible}
 use Rattle.life_rle.proofs.Texts.{both_true}
 use Rattle.life_rle.proofs.ReadBack.{is_one_line}
@@ -39,10 +40,7 @@ visible-inner : (b : ℕ) → is_visible b ≡ true → not (b == 10) ≡ true
 visible-inner b h = grind (arith, nat_tests)
 
 pub visible-one_line : (text : List ℕ) → list_all is_visible text ≡ true → is_one_line text ≡ true
-visible-one_line [] h = refl
-visible-one_line (b ∷ text) h =
-    let parts = both_true (is_visible b) (list_all is_visible text) h in
-    ap (λ v. v && is_one_line text) (visible-inner b parts.0) ∙ visible-one_line text parts.1
+visible-one_line text h = all_pass is_visible (λ b. not (b == 10)) visible-inner text h
 
 pub visible-bare : (text : List ℕ) → list_all is_visible text ≡ true → trim_start text ≡ text
 visible-bare [] h = refl

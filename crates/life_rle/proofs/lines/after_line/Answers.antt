@@ -1,6 +1,7 @@
-use Rattle.std.proofs.Common.{◌≡◌, ◌⊎◌, ℕ, true, List, [], Result, Ok, Err, sym, subst, inl, inr}
+use Rattle.std.proofs.Common.{◌≡◌, ◌⊎◌, ℕ, true, List, [], Ok, Err, sym, subst, inl, inr}
 use Rattle.std.specs.Result.{IfErr}
 use Rattle.std.proofs.lemmas.List.{append-nil}
+use Rattle.std.proofs.lemmas.Result.{IfErr-weaker}
 use Rattle.life_base.specs.declared.kind.Kind.{Kind}
 use Rattle.life_base.specs.declared.kind.Kind.TheVariants.{Memory, Spent}
 use Rattle.life_base.specs.declared.cell.TheConstants.{MAX_LEVEL}
@@ -20,16 +21,13 @@ abbrev Tells : Phase → Cursor → List ℕ → Kind → Type 0
 Tells phase cursor line kind =
     (kind ≡ Memory) ⊎ ((kind ≡ Spent) × (is_refused phase ≡ true)) ⊎ ((lines : List (List ℕ)) → StandsAt MAX_LEVEL phase cursor lines → Breaks MAX_LEVEL lines line kind)
 
-IfErr-map : {T : Type 0} (P Q : Kind → Type 0) (r : Result T Kind) → ((kind : Kind) → P kind → Q kind) → IfErr r P → IfErr r Q
-IfErr-map P Q (Ok t) f h = h
-IfErr-map P Q (Err kind) f h = f kind h
-
 pub returns-in-Before-clause-fault : goal.returns-in-Before-clause-fault
 returns-in-Before-clause-fault c =
     let line = c.args.line.now in
     let cursor = c.args.cursor in
     subst (λ (p : Phase). IfErr c.before_header.result (Tells p cursor line)) (sym c.in-Before.is)
-    (IfErr-map (λ kind. (kind ≡ Memory) ⊎ (opening_of MAX_LEVEL line ≡ Err kind)) (Tells (phases.Before c.in-Before.position) cursor line) c.before_header.result
+    (IfErr-weaker c.before_header.result (λ kind. (kind ≡ Memory) ⊎ (opening_of MAX_LEVEL line ≡ Err kind))
+    (Tells (phases.Before c.in-Before.position) cursor line)
     (λ kind h. elim h [ inl m ↦ inl m | inr e ↦ inr (inr (breaks-before MAX_LEVEL c.in-Before.position cursor line kind e)) ]) c.before_header.ensures.fault)
 
 pub returns-in-Items-clause-fault : goal.returns-in-Items-clause-fault
@@ -39,7 +37,9 @@ returns-in-Items-clause-fault c =
     let rule = c.in-Items.rule in
     let position = c.in-Items.position in
     subst (λ (p : Phase). IfErr c.behind_header.result (Tells p cursor line)) (sym c.in-Items.is)
-    (IfErr-map (λ kind. (kind ≡ Memory) ⊎ (later_of line ≡ Err kind) ⊎ ((later_of line ≡ Ok Data) × ItemsBreak MAX_LEVEL rule cursor line kind)) (Tells (phases.Items rule position) cursor line) c.behind_header.result
+    (IfErr-weaker c.behind_header.result
+    (λ kind. (kind ≡ Memory) ⊎ (later_of line ≡ Err kind) ⊎ ((later_of line ≡ Ok Data) × ItemsBreak MAX_LEVEL rule cursor line kind))
+    (Tells (phases.Items rule position) cursor line)
     (λ kind h. elim h [ inl m ↦ inl m | inr e ↦ elim e [ inl f ↦ inr (inr (breaks-form MAX_LEVEL rule position cursor line kind f)) | inr b ↦ inr (inr (breaks-items MAX_LEVEL rule position cursor line kind b.0 b.1)) ] ]) c.behind_header.ensures.fault)
 
 pub returns-in-Over-clause-advance : goal.returns-in-Over-clause-advance
