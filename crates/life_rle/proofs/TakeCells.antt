@@ -16,7 +16,8 @@ use Rattle.life_rle.specs.Writing.{with_open, way_to, joins, items_text, pen_tex
 use Rattle.life_rle.proofs.PutItems.{Puts-then}
 
 -- how far apart two coordinates are that were passed as words of the machine
-pub distance_is : (n : ℕ) (from to : ℤ) → FitsSigned w64 from → FitsSigned w64 to → n ≡ nat_abs (to_z w64 (of_z w64 to) -ℤ to_z w64 (of_z w64 from)) → n ≡ nat_abs (to -ℤ from)
+pub distance_is : (n : ℕ) (from to : ℤ) → FitsSigned w64 from → FitsSigned w64 to
+    → n ≡ nat_abs (to_z w64 (of_z w64 to) -ℤ to_z w64 (of_z w64 from)) → n ≡ nat_abs (to -ℤ from)
 distance_is n from to f t e = simp to_z-of_z at e
 
 eqb-same : (n : ℕ) → eqb n n ≡ true

@@ -13,7 +13,8 @@ returns-clause-text c =
     let middle = c.put_gap.new.out.items in
     let columns = distance_is c.distance.result bounds.left first.x (search rules) (search rules) c.distance.ensures in
     on_ok_weaker c.write_behind.result
-    (λ e. from-first rule bounds first c.args.cells.now c.args.out.now.items c.distance.result c.in_ok-used.used middle c.write_behind.new.out.items c.requires.top columns c.in_ok-used.ensures.gap
+    (λ e. from-first rule bounds first c.args.cells.now c.args.out.now.items c.distance.result c.in_ok-used.used middle
+    c.write_behind.new.out.items c.requires.top columns c.in_ok-used.ensures.gap
     (e ∙ ap (λ pen. middle ++ pen_text rule pen c.args.cells.now) c.first_pen.ensures))
     c.write_behind.ensures.text
 
