@@ -1,6 +1,6 @@
 //! The turned and reflected neighbours.
-ghost use Rattle.std.specs.Prelude.{◌≡◌, ◌≢◌, ℕ, ◌/◌, ◌<◌, ◌≤◌, ◌∷◌, ◌++◌, List, take, drop, length, slice_index, if◌then◌else◌};
-ghost use Rattle.life_table.specs.Orders.{turn, turns, reflected_turn, reflected_turns, images};
+ghost use Rattle.std.specs.Prelude.{◌≡◌, ◌≢◌, ℕ, ◌/◌, ◌<◌, ◌≤◌, ◌∷◌, List, take, drop, length, slice_index, if◌then◌else◌};
+ghost use Rattle.life_table.specs.Orders.{turn, reflected_turn, images, family};
 
 use crate::table::Symmetry;
 use life_base::State;
@@ -39,7 +39,7 @@ pub(crate) fn turns_of(symmetry: Symmetry, n: usize) -> Turns
     requires { 3 < n }
     ensures positive { 0 < result.step }
     ensures count { result.count ≡ n / result.step }
-    ensures images { symmetry ≢ Symmetry.Permute → (v : List ℕ) → length v ≡ n → images symmetry v ≡ (if result.reflect then turns v result.step ++ reflected_turns v result.step else turns v result.step) }
+    ensures images { symmetry ≢ Symmetry.Permute → (v : List ℕ) → length v ≡ n → images symmetry v ≡ family result.reflect result.step v }
 {
     let (step, reflect) = match symmetry {
         Symmetry::Identity => (n, false),
