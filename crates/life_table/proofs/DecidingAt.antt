@@ -7,7 +7,7 @@ use Rattle.life_table.specs.Meaning.{GivesByCounts, state_of, count_of}
 use Rattle.life_table.specs.Found.{Tells}
 use Rattle.life_table.specs.Seen.{places}
 use Rattle.life_table.specs.Site.{IsSite, IsLineAt, centre_of, others_of}
-use Rattle.life_table.specs.Taking.{free_count, can_be_state, settled, settled_count, IsGrouped, AreGroups, Completes, CompletesWith}
+use Rattle.life_table.specs.Taking.{free_count, can_be_state, settled, settled_count, IsGrouped, IsSearch, Completes, CompletesWith}
 use Rattle.life_table.specs.Valid.{IsEntry, is_variable}
 use Rattle.life_table.proofs.Pairing.{some_place, some_entry}
 use Rattle.life_table.proofs.Grouping.{are_groups}
@@ -56,10 +56,15 @@ module _ (site : Site) (line : Transition) (is_site : IsSite site) (is_line : Is
       (too_many site.vars.now line (first_of inputs) (behind inputs) shape (centre_of site) (behind site.cells.now) t few)
 
   module _ (groups : List Group) (grouped : IsGrouped (first_of inputs) line.output (behind inputs) groups) where
-    pub are_groups_at : AreGroups site.vars.now groups
-    are_groups_at =
-        are_groups site.vars.now (first_of inputs) line.output (behind inputs) groups rest_are
-        (λ i is. subst (λ es. IsTrue (list_any (is_variable i) es)) shape (is_line.bound i is)) grouped
+    -- they can be searched
+    pub search_at : length groups ≤ 9 → IsSearch site.vars.now groups (behind site.cells.now)
+    search_at few = record {
+      size = omega (arith, ap length (rest_of site.cells.now), length-drop 1 site.cells.now, is_site.room);
+      are_groups = are_groups site.vars.now (first_of inputs) line.output (behind inputs) groups rest_are
+          (λ i is. subst (λ es. IsTrue (list_any (is_variable i) es)) shape (is_line.bound i is)) grouped;
+      few = few;
+      choosable = is_site.choosable;
+    }
 
     module _ (free : ℕ) (left : (t : ℕ) → settled_count (first_of inputs) (centre_of site) t (behind inputs) + free_count t free (behind site.cells.now) ≡ count_of t (behind site.cells.now)) where
       -- the groups take the free places

@@ -1,6 +1,7 @@
-use Rattle.std.proofs.Common.{refl, sym, ◌∙◌, take}
+use Rattle.std.proofs.Common.{refl, sym, ◌∙◌, take, arith}
+use Rattle.std.proofs.lemmas.Grind.{common_steps}
 use Rattle.life_table.proofs.Grouping.{is_clash}
-use Rattle.life_table.proofs.DecidingAt.{takes_all, too_many_at, are_groups_at, completes_at, gives_settled_at, gives_open_at}
+use Rattle.life_table.proofs.DecidingAt.{takes_all, too_many_at, search_at, completes_at, gives_settled_at, gives_open_at}
 use Rattle.life_table.proofs.choose.by_counts.Goals as goal
 
 pub returns-then-not-may_take_all : goal.returns-then-not-may_take_all
@@ -13,15 +14,15 @@ returns-in_default c =
     let few = c.in_default.ensures.none refl in
     too_many_at c.args.site.now c.args.line.now c.requires.site c.requires.line c.as_slice-inputs.result.now c.as_slice-inputs.ensures few.0 few.1
 
-pub can_complete-requires-clause-groups : goal.can_complete-requires-clause-groups
-can_complete-requires-clause-groups c =
-    are_groups_at c.args.site.now c.args.line.now c.requires.site c.requires.line c.as_slice-inputs.result.now c.as_slice-inputs.ensures
-    (take c.groups_of-count.result.1 c.groups_of-count.result.0) c.groups_of-count.ensures.grouped
+pub can_complete-requires-clause-search : goal.can_complete-requires-clause-search
+can_complete-requires-clause-search c =
+    search_at c.args.site.now c.args.line.now c.requires.site c.requires.line c.as_slice-inputs.result.now c.as_slice-inputs.ensures
+    (take c.groups_of-count.result.1 c.groups_of-count.result.0) c.groups_of-count.ensures.grouped (grind (arith, common_steps, c.groups_of-count.ensures.count))
 
-pub first_states-requires-clause-groups : goal.first_states-requires-clause-groups
-first_states-requires-clause-groups c =
-    are_groups_at c.args.site.now c.args.line.now c.requires.site c.requires.line c.as_slice-inputs.result.now c.as_slice-inputs.ensures
-    (take c.groups_of-count.result.1 c.groups_of-count.result.0) c.groups_of-count.ensures.grouped
+pub first_states-requires-clause-search : goal.first_states-requires-clause-search
+first_states-requires-clause-search c =
+    search_at c.args.site.now c.args.line.now c.requires.site c.requires.line c.as_slice-inputs.result.now c.as_slice-inputs.ensures
+    (take c.groups_of-count.result.1 c.groups_of-count.result.0) c.groups_of-count.ensures.grouped (grind (arith, common_steps, c.groups_of-count.ensures.count))
 
 pub returns-then-can_complete : goal.returns-then-can_complete
 returns-then-can_complete c =
