@@ -11,7 +11,7 @@ use crate::found::Found;
 use crate::seen::Seen;
 use crate::site::Site;
 use crate::table::{Entry, Transition};
-use crate::turn::image_of;
+use crate::turn::{image_of, place_before};
 
 /// The turns, or the reflected ones, in which each input alone may be the neighbour that comes to its place: bit `r` is the turn by `r`.
 fn turns_that_may_fit(seen: &Seen, inputs: &[Entry], reflect: bool) -> u16
@@ -22,7 +22,7 @@ fn turns_that_may_fit(seen: &Seen, inputs: &[Entry], reflect: bool) -> u16
 {
     let mut fits = 255;
     for (i, entry) in inputs.iter().enumerate() {
-        let first = if reflect { inputs.len() - i } else { i };
+        let first = place_before(i, inputs.len(), reflect);
         fits &= seen.places(*entry) >> first;
         if fits == 0 {
             return fits;
