@@ -44,13 +44,16 @@ module _ (site : Site) (line : Transition) (is_site : IsSite site) (is_line : Is
   takes_all s g =
       let size : length (others_of site) ≡ length site.cells.now - 1 = length-drop 1 site.cells.now in
       let few : length (others_of site) ≤ 8 = omega (arith, size, is_site.room) in
-      let counts : (t : ℕ) → count_of t (map (state_of g.choice) (behind inputs)) ≡ count_of t (others_of site) = λ t. ap (λ es. count_of t (map (state_of g.choice) (drop 1 es))) (sym shape) ∙ g.counts t in (
+      let counts : (t : ℕ) → count_of t (map (state_of g.choice) (behind inputs)) ≡ count_of t (others_of site) =
+      λ t. ap (λ es. count_of t (map (state_of g.choice) (drop 1 es))) (sym shape) ∙ g.counts t in (
         some_place site.vars.now g.choice g.is_choice (behind inputs) (others_of site) site.seen.now rest_are few is_site.seen counts,
-        some_entry site.vars.now g.choice g.is_choice (behind inputs) (others_of site) site.seen.now rest_are few is_site.seen counts (omega (arith, size, is_site.some)),
+        some_entry site.vars.now g.choice g.is_choice (behind inputs) (others_of site) site.seen.now rest_are few is_site.seen counts
+        (omega (arith, size, is_site.some)),
       )
 
   -- the settled inputs are too many
-  pub too_many_at : (t : ℕ) → count_of t (behind site.cells.now) < settled_count (first_of inputs) (centre_of site) t (behind inputs) → (s : ℕ) → GivesAt site line s → ⊥
+  pub too_many_at : (t : ℕ) → count_of t (behind site.cells.now) < settled_count (first_of inputs) (centre_of site) t (behind inputs) → (s : ℕ) →
+      GivesAt site line s → ⊥
   too_many_at t few =
       subst (λ (others : List ℕ). (s : ℕ) → GivesByCounts site.vars.now line (centre_of site) others s → ⊥) (rest_of site.cells.now)
       (too_many site.vars.now line (first_of inputs) (behind inputs) shape (centre_of site) (behind site.cells.now) t few)
@@ -66,23 +69,29 @@ module _ (site : Site) (line : Transition) (is_site : IsSite site) (is_line : Is
       choosable = is_site.choosable;
     }
 
-    module _ (free : ℕ) (left : (t : ℕ) → settled_count (first_of inputs) (centre_of site) t (behind inputs) + free_count t free (behind site.cells.now) ≡ count_of t (behind site.cells.now)) where
+    module _ (free : ℕ)
+        (left : (t : ℕ) → settled_count (first_of inputs) (centre_of site) t (behind inputs) + free_count t free (behind site.cells.now)
+            ≡ count_of t (behind site.cells.now)) where
       -- the groups take the free places
       pub completes_at : (s : ℕ) → GivesAt site line s → Completes site.vars.now groups (behind site.cells.now) free
       completes_at =
-          subst (λ (others : List ℕ). (s : ℕ) → GivesByCounts site.vars.now line (centre_of site) others s → Completes site.vars.now groups (behind site.cells.now) free) (rest_of site.cells.now)
+          subst (λ (others : List ℕ). (s : ℕ) → GivesByCounts site.vars.now line (centre_of site) others s →
+          Completes site.vars.now groups (behind site.cells.now) free) (rest_of site.cells.now)
           (from_gives site.vars.now line (first_of inputs) (behind inputs) shape (centre_of site) (behind site.cells.now) groups free grouped left)
 
       -- where the output is settled
-      pub gives_settled_at : can_be_state site.vars.now (first_of inputs) (centre_of site) ≡ true → (o : ℕ) → settled (first_of inputs) (centre_of site) line.output ≡ Some o →
+      pub gives_settled_at : can_be_state site.vars.now (first_of inputs) (centre_of site) ≡ true → (o : ℕ) →
+          settled (first_of inputs) (centre_of site) line.output ≡ Some o →
           Completes site.vars.now groups (behind site.cells.now) free → Tells (GivesAt site line) (One o)
       gives_settled_at may o is c =
           subst (λ (others : List ℕ). Tells (GivesByCounts site.vars.now line (centre_of site) others) (One o)) (rest_of site.cells.now)
-          (gives_settled site.vars.now line (first_of inputs) (behind inputs) shape (centre_of site) (behind site.cells.now) groups free grouped left may o is c)
+          (gives_settled site.vars.now line (first_of inputs) (behind inputs) shape (centre_of site) (behind site.cells.now) groups free grouped left
+          may o is c)
 
       -- where the output is open
       pub gives_open_at : can_be_state site.vars.now (first_of inputs) (centre_of site) ≡ true → settled (first_of inputs) (centre_of site) line.output ≡ None →
           (found : Found) → Tells (CompletesWith site.vars.now groups (behind site.cells.now) free) found → Tells (GivesAt site line) found
       gives_open_at may is found h =
           subst (λ (others : List ℕ). Tells (GivesByCounts site.vars.now line (centre_of site) others) found) (rest_of site.cells.now)
-          (gives_open site.vars.now line (first_of inputs) (behind inputs) shape (centre_of site) (behind site.cells.now) groups free grouped left may is found h)
+          (gives_open site.vars.now line (first_of inputs) (behind inputs) shape (centre_of site) (behind site.cells.now) groups free grouped left
+          may is found h)

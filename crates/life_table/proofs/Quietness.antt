@@ -44,8 +44,9 @@ directive_so : (vars : List Var) (earlier : List Transition) (line : Transition)
 directive_so vars earlier line bound quiet b q = ap (λ (x : Bool). answer x quiet line) b ∙ ap (λ (x : Bool). answer (is_bound line.inputs line.output) x line) q
 
 -- what a transition says, by whether its output is bound and whether it keeps the table quiet
-pub directive_more : (vars : List Var) (earlier : List Transition) (line : Transition) (fits bound stays : Bool) → fits ≡ list_any (fits_zero vars) earlier → is_quiet vars earlier ≡ true
-    → bound ≡ is_bound line.inputs line.output → stays ≡ (fits || not (fits_zero vars line) || is_quiet_output line.output) → answer bound stays line ≡ if_transition vars earlier (Some line)
+pub directive_more : (vars : List Var) (earlier : List Transition) (line : Transition) (fits bound stays : Bool) → fits ≡ list_any (fits_zero vars) earlier
+    → is_quiet vars earlier ≡ true → bound ≡ is_bound line.inputs line.output → stays ≡ (fits || not (fits_zero vars line) || is_quiet_output line.output)
+    → answer bound stays line ≡ if_transition vars earlier (Some line)
 directive_more vars earlier line fits bound stays f q b s =
     directive_so vars earlier line bound stays b
     (s ∙ ap (λ (x : Bool). x || not (fits_zero vars line) || is_quiet_output line.output) f ∙ sym (quiet_more vars earlier line q))

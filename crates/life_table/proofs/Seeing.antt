@@ -82,8 +82,8 @@ and_shifted fits p first r one other =
     omega (arith, e, moved, one, other)
 
 -- a turn stays where an entry may be the neighbour that comes to it
-pub turn_stays : (seen : Seen) (entry : Entry) (fits told first from r : ℕ) → told ≡ places seen entry → first ≡ from → bit_at fits r ≡ 1 → bit_at (places seen entry) (from + r) ≡ 1 →
-    bit_at (bit_and fits (told / 2 ^ first)) r ≡ 1
+pub turn_stays : (seen : Seen) (entry : Entry) (fits told first from r : ℕ) → told ≡ places seen entry → first ≡ from → bit_at fits r ≡ 1 →
+    bit_at (places seen entry) (from + r) ≡ 1 → bit_at (bit_and fits (told / 2 ^ first)) r ≡ 1
 turn_stays seen entry fits told first from r is same one other =
     and_shifted fits told first r one (ap (λ p. bit_at p (first + r)) is ∙ ap (λ f. bit_at (places seen entry) (f + r)) same ∙ other)
 

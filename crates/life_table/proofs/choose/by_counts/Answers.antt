@@ -17,18 +17,21 @@ returns-in_default c =
 pub can_complete-requires-clause-search : goal.can_complete-requires-clause-search
 can_complete-requires-clause-search c =
     search_at c.args.site.now c.args.line.now c.requires.site c.requires.line c.as_slice-inputs.result.now c.as_slice-inputs.ensures
-    (take c.groups_of-count.result.1 c.groups_of-count.result.0) c.groups_of-count.ensures.grouped (grind (arith, common_steps, c.groups_of-count.ensures.count))
+    (take c.groups_of-count.result.1 c.groups_of-count.result.0) c.groups_of-count.ensures.grouped
+    (grind (arith, common_steps, c.groups_of-count.ensures.count))
 
 pub first_states-requires-clause-search : goal.first_states-requires-clause-search
 first_states-requires-clause-search c =
     search_at c.args.site.now c.args.line.now c.requires.site c.requires.line c.as_slice-inputs.result.now c.as_slice-inputs.ensures
-    (take c.groups_of-count.result.1 c.groups_of-count.result.0) c.groups_of-count.ensures.grouped (grind (arith, common_steps, c.groups_of-count.ensures.count))
+    (take c.groups_of-count.result.1 c.groups_of-count.result.0) c.groups_of-count.ensures.grouped
+    (grind (arith, common_steps, c.groups_of-count.ensures.count))
 
 pub returns-then-can_complete : goal.returns-then-can_complete
 returns-then-can_complete c =
     gives_settled_at c.args.site.now c.args.line.now c.requires.site c.requires.line c.as_slice-inputs.result.now c.as_slice-inputs.ensures
     (take c.groups_of-count.result.1 c.groups_of-count.result.0) c.groups_of-count.ensures.grouped c.in-Some.free c.in-Some.ensures.counts
-    (sym c.can_be.ensures.exact ∙ c.if-not-can_be.false) c.in-Some-settled_state.s (sym c.settled_state.ensures ∙ c.in-Some-settled_state.is) (c.can_complete.ensures.0 c.if-can_complete.true)
+    (sym c.can_be.ensures.exact ∙ c.if-not-can_be.false) c.in-Some-settled_state.s (sym c.settled_state.ensures ∙ c.in-Some-settled_state.is)
+    (c.can_complete.ensures.0 c.if-can_complete.true)
 
 pub returns-else-can_complete : goal.returns-else-can_complete
 returns-else-can_complete c = λ s g.

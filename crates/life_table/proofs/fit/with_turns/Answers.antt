@@ -30,7 +30,8 @@ loop-k-preserved c =
     (image_more vars line (first_turns c.args.reflect cells step k) turned c.args.found c.loop-k.found mid c.loop-k.invariant added) in
     elim c.if-fits-r-eq1.branch [
       | then-fits-r-eq1 w ↦
-          let whole : take (length c.as_slice-inputs.result.now) w.image_of-image.result ≡ turned = ap (λ n. take n w.image_of-image.result) (ap length c.as_slice-inputs.ensures ∙ c.requires.line.count) ∙ w.image_of-image.ensures in
+          let whole : take (length c.as_slice-inputs.result.now) w.image_of-image.result ≡ turned = ap (λ n. take n w.image_of-image.result)
+          (ap length c.as_slice-inputs.ensures ∙ c.requires.line.count) ∙ w.image_of-image.ensures in
           subst (λ f. Adds (SomeGives vars line (first_turns c.args.reflect cells step (k + 1))) c.args.found f) (sym w.found-is)
           (more w.with_image-found.result (subst (λ v. Adds (GivesAs vars line v) c.loop-k.found w.with_image-found.result) whole w.with_image-found.ensures))
       | else-fits-r-eq1 w ↦
@@ -40,13 +41,15 @@ loop-k-preserved c =
           let parts : line.inputs ≡ first ∷ rest = shape c.args.site.now line c.requires.site c.requires.line seen c.as_slice-inputs.ensures in
           let size : length others ≡ length cells - 1 = length-drop 1 cells in
           let same : length rest ≡ length others = omega (arith, size, c.requires.line.count, ap length parts) in
-          let inside : k * step < length cells - 1 = turn_below (length cells - 1) step k c.requires.turns.positive (omega (arith, c.loop-k-test.true, c.requires.turns.turns)) in
+          let inside : k * step < length cells - 1 = turn_below (length cells - 1) step k c.requires.turns.positive
+          (omega (arith, c.loop-k-test.true, c.requires.turns.turns)) in
           subst (λ f. Adds (SomeGives vars line (first_turns c.args.reflect cells step (k + 1))) c.args.found f) (sym w.found-is)
           (more c.loop-k.found (adds_none (GivesAs vars line turned)
           (λ s g. w.if-fits-r-eq1.false (shr_and_one c.turns_that_may_fit-fits.result (k * step)
           ∙ c.turns_that_may_fit-fits.ensures (k * step) (omega (arith, inside, c.requires.site.room))
           (turn_directive vars g.choice g.is_choice first rest (slice_index cells 0) others c.args.site.now.seen.now c.args.reflect (k * step)
-          (rest_are c.args.site.now line c.requires.site c.requires.line seen c.as_slice-inputs.ensures) same (omega (arith, size, c.requires.site.room)) (omega (arith, size, inside)) c.requires.site.seen
+          (rest_are c.args.site.now line c.requires.site c.requires.line seen c.as_slice-inputs.ensures) same (omega (arith, size, c.requires.site.room))
+          (omega (arith, size, inside)) c.requires.site.seen
           (sym (ap (map (state_of g.choice)) parts) ∙ g.inputs))))
           c.loop-k.found))
     ]
@@ -54,4 +57,5 @@ loop-k-preserved c =
 pub returns : goal.returns
 returns c =
     let end : c.loop-k.k ≡ (length c.args.site.now.cells.now - 1) / c.args.site.now.ways.step = omega (arith, c.requires.turns.turns) in
-    subst (λ list. Adds (SomeGives c.args.site.now.vars.now c.args.line.now list) c.args.found c.loop-k.found) (all_turns c.args.reflect c.args.site.now.cells.now c.args.site.now.ways.step c.loop-k.k end) c.loop-k.invariant
+    subst (λ list. Adds (SomeGives c.args.site.now.vars.now c.args.line.now list) c.args.found c.loop-k.found)
+    (all_turns c.args.reflect c.args.site.now.cells.now c.args.site.now.ways.step c.loop-k.k end) c.loop-k.invariant

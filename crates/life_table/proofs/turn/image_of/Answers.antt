@@ -7,9 +7,11 @@ loop-i-preserved c =
     let n : ℕ = length c.args.cells.now - 1 in
     let i : ℕ = c.loop-i.i in
     let from : ℕ = (c.place_before.result + c.args.r) % n in
-    let from_is : from ≡ source n c.args.reflect c.args.r i = ap (λ k. (k + c.args.r) % n) c.place_before.ensures ∙ sym (source_is n c.args.reflect c.args.r i) in
+    let from_is : from ≡ source n c.args.reflect c.args.r i = ap (λ k. (k + c.args.r) % n) c.place_before.ensures
+    ∙ sym (source_is n c.args.reflect c.args.r i) in
     record {
-      front = front_more c.args.cells.now c.loop-i.image c.args.reflect c.args.r i from (omega (arith, c.loop-i.invariant.size)) from_is c.loop-i.invariant.front;
+      front = front_more c.args.cells.now c.loop-i.image c.args.reflect c.args.r i from (omega (arith, c.loop-i.invariant.size)) from_is
+          c.loop-i.invariant.front;
       size = length-set c.loop-i.image (i + 1) (slice_index c.args.cells.now (1 + from)) ∙ c.loop-i.invariant.size;
     }
 

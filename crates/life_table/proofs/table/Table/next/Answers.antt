@@ -12,7 +12,8 @@ use Rattle.life_table.proofs.table.Table.next.Goals as goal
 pub given_by-requires-clause-site : goal.given_by-requires-clause-site
 given_by-requires-clause-site c =
     let few = four_or_eight c.args.self.now.neighborhood in
-    let size : length c.as_slice-cells.result.now ≡ neighbour_count c.args.self.now.neighborhood + 1 = ap length c.as_slice-cells.ensures ∙ c.requires.neighbours in
+    let size : length c.as_slice-cells.result.now ≡ neighbour_count c.args.self.now.neighborhood + 1 =
+    ap length c.as_slice-cells.ensures ∙ c.requires.neighbours in
     record {
       some = omega (arith, few.0, size);
       room = omega (arith, few.1, size);
