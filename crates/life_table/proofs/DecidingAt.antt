@@ -48,7 +48,7 @@ module _ (site : Site) (line : Transition) (is_site : IsSite site) (is_line : Is
       λ t. ap (λ es. count_of t (map (state_of g.choice) (drop 1 es))) (sym shape) ∙ g.counts t in (
         some_place site.vars.now g.choice g.is_choice (behind inputs) (others_of site) site.seen.now rest_are few is_site.seen counts,
         some_entry site.vars.now g.choice g.is_choice (behind inputs) (others_of site) site.seen.now rest_are few is_site.seen counts
-        (omega (arith, size, is_site.some)),
+            (omega (arith, size, is_site.some)),
       )
 
   -- the settled inputs are too many
@@ -71,7 +71,7 @@ module _ (site : Site) (line : Transition) (is_site : IsSite site) (is_line : Is
 
     module _ (free : ℕ)
         (left : (t : ℕ) → settled_count (first_of inputs) (centre_of site) t (behind inputs) + free_count t free (behind site.cells.now)
-            ≡ count_of t (behind site.cells.now)) where
+        ≡ count_of t (behind site.cells.now)) where
       -- the groups take the free places
       pub completes_at : (s : ℕ) → GivesAt site line s → Completes site.vars.now groups (behind site.cells.now) free
       completes_at =
