@@ -119,13 +119,13 @@ states_range word n h =
 
 -- 3. One more line
 
-abbrev rest_of : Parsed → Option (List ℕ) → Section → Parsed
-rest_of parsed name section = record { name = name; section = section; n_states = parsed.n_states; neighborhood = parsed.neighborhood; symmetry = parsed.symmetry; vars = parsed.vars; lines = parsed.lines }
-
-good_elsewhere : (parsed : Parsed) (name : Option (List ℕ)) (section : Section) → IsGood parsed → IsGood (rest_of parsed name section)
-good_elsewhere parsed name section g = record {
+-- a symmetry that is listed for the neighbourhood; the name and the section don't matter
+good_with : (parsed : Parsed) (name : Option (List ℕ)) (section : Section) (symmetry : Option Symmetry) → IsGood parsed →
+    ((h : Neighborhood) (y : Symmetry) → parsed.neighborhood ≡ Some h → symmetry ≡ Some y → IsTrue (is_listed h y)) →
+    IsGood (record parsed { name = name; section = section; symmetry = symmetry })
+good_with parsed name section symmetry g listed = record {
   states = g.states;
-  listed = g.listed;
+  listed = listed;
   names = g.names;
   variables = g.variables;
   no_variables = g.no_variables;
@@ -134,6 +134,9 @@ good_elsewhere parsed name section g = record {
   transitions = g.transitions;
   quiet = g.quiet;
 }
+
+good_elsewhere : (parsed : Parsed) (name : Option (List ℕ)) (section : Section) → IsGood parsed → IsGood (record parsed { name = name; section = section })
+good_elsewhere parsed name section g = good_with parsed name section parsed.symmetry g g.listed
 
 good_states : (parsed : Parsed) (n : ℕ) (word : List ℕ) → IsGood parsed → parsed.n_states ≡ None → states_named word ≡ Some n → IsGood (after parsed (States n))
 good_states parsed n word g none e =
@@ -165,18 +168,9 @@ good_neighbors parsed h g none e = record {
 }
 
 good_orders : (parsed : Parsed) (y : Symmetry) → IsGood parsed → agree parsed.neighborhood (Some y) ≡ true → IsGood (after parsed (Orders y))
-good_orders parsed y g e = record {
-  states = g.states;
-  listed = λ k z ik iz. (let same : y ≡ z = (let w : Some y ≡ Some z = iz in cc) in
-      subst (λ (z : Symmetry). IsTrue (is_listed k z)) same (sym (ap (λ (o : Option Neighborhood). agree o (Some y)) ik) ∙ e));
-  names = g.names;
-  variables = g.variables;
-  no_variables = g.no_variables;
-  no_transitions = g.no_transitions;
-  none_without = g.none_without;
-  transitions = g.transitions;
-  quiet = g.quiet;
-}
+good_orders parsed y g e = good_with parsed parsed.name parsed.section (Some y) g (λ k z ik iz.
+    let same : y ≡ z = (let w : Some y ≡ Some z = iz in cc) in
+    subst (λ (z : Symmetry). IsTrue (is_listed k z)) same (sym (ap (λ (o : Option Neighborhood). agree o (Some y)) ik) ∙ e))
 
 module _ (parsed : Parsed) (n : ℕ) (h : Neighborhood) (g : IsGood parsed) (en : parsed.n_states ≡ Some n) (eh : parsed.neighborhood ≡ Some h) where
   good_variable : (text : List ℕ) (var : Var) → IsVariable n var → variable_named parsed.vars var.name ≡ None → IsGood (after parsed (Variable var))

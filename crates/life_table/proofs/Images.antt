@@ -1,9 +1,9 @@
 -- The images of a symmetry are turns by multiples of a step, and their reflections.
-use Rattle.std.proofs.Common.{◌≡◌, ℕ, ◌*◌, ◌<◌, ◌≤◌, ◌∷◌, ◌++◌, List, map, length, Bool, true, false, cond, ap, sym, ◌∙◌, subst, arith}
+use Rattle.std.proofs.Common.{◌≡◌, ℕ, ◌*◌, ◌<◌, ◌≤◌, ◌∷◌, ◌++◌, List, map, length, Bool, true, false, ap, sym, ◌∙◌, subst, arith}
 use Rattle.std.specs.Prelude.{[], Contains}
 use Rattle.std.proofs.Math.Nat.{div_self, zero-mul}
 use Rattle.std.specs.List.{range_with_len}
-use Rattle.life_table.specs.Orders.{turn, turns, reflected_turn, reflected_turns, images}
+use Rattle.life_table.specs.Orders.{turn, turns, reflected_turn, reflected_turns, family, images}
 use Rattle.life_table.specs.Meaning.{Gives, GivesByCounts}
 use Rattle.life_table.specs.Found.{Tells, SomeGives}
 use Rattle.life_table.specs.Valid.{neighbour_count}
@@ -21,10 +21,6 @@ use Rattle.life_table.specs.declared.table.Transition.{Transition}
 pub four_or_eight : (n : Neighborhood) → (4 ≤ neighbour_count n) × (neighbour_count n ≤ 8)
 four_or_eight VonNeumann = (omega arith, omega arith)
 four_or_eight Moore = (omega arith, omega arith)
-
--- the turns, and the reflected ones where these count too
-abbrev pub family : Bool → ℕ → List ℕ → List (List ℕ)
-family reflect step v = cond reflect (turns v step ++ reflected_turns v step) (turns v step)
 
 pub tells_permute : (vars : List Var) (line : Transition) (centre : ℕ) (others : List ℕ) (found : Found) → Tells (GivesByCounts vars line centre others) found → Tells (Gives Permute vars line centre others) found
 tells_permute vars line centre others found h =

@@ -13,6 +13,8 @@ use Rattle.std.proofs.lemmas.Option.{slice_get_within, get_or_from_slice_get}
 use Rattle.life_table.specs.Meaning.{has_state}
 use Rattle.life_table.specs.Taking.{can_be_state}
 use Rattle.life_table.specs.Seen.{places, IsSeen}
+use Rattle.life_table.specs.declared.seen.Seen.{Seen}
+use Rattle.life_table.specs.declared.table.Entry.{Entry}
 use Rattle.life_table.specs.declared.table.Entry.TheVariants as entries
 use Rattle.life_table.specs.declared.table.Var.{Var}
 
@@ -73,11 +75,17 @@ pub set_not_zero : (n k : ℕ) → bit_at n k ≡ 1 → n ≢ 0
 set_not_zero n k h = λ z. let e = sym h ∙ ap (λ m. bit_at m k) z ∙ bit_at-zero k in absurd (omega (arith, e))
 
 -- a bit of both stays where one is shifted down
-pub and_shifted : (fits p first r : ℕ) → bit_at fits r ≡ 1 → bit_at p (first + r) ≡ 1 → bit_at (bit_and fits (p / 2 ^ first)) r ≡ 1
+and_shifted : (fits p first r : ℕ) → bit_at fits r ≡ 1 → bit_at p (first + r) ≡ 1 → bit_at (bit_and fits (p / 2 ^ first)) r ≡ 1
 and_shifted fits p first r one other =
     let e = bit_at_and fits (p / 2 ^ first) r in
     let moved : bit_at (p / 2 ^ first) r ≡ bit_at p (first + r) = ap (λ n. n % 2) (div-div-eq-div-mul p (2 ^ first) (2 ^ r)) ∙ ap (λ n. p / n % 2) (sym (pow-add 2 first r)) in
     omega (arith, e, moved, one, other)
+
+-- a turn stays where an entry may be the neighbour that comes to it
+pub turn_stays : (seen : Seen) (entry : Entry) (fits told first from r : ℕ) → told ≡ places seen entry → first ≡ from → bit_at fits r ≡ 1 →
+    bit_at (places seen entry) (from + r) ≡ 1 → bit_at (bit_and fits (told / 2 ^ first)) r ≡ 1
+turn_stays seen entry fits told first from r is same one other =
+    and_shifted fits told first r one (ap (λ p. bit_at p (first + r)) is ∙ ap (λ f. bit_at (places seen entry) (f + r)) same ∙ other)
 
 -- sixteen bits are all that there are
 pub all_sixteen : (n : ℕ) → n < 2 ^ 16 → ((k : ℕ) → k < 16 → bit_at n k ≡ 1) → n ≡ 2 ^ 16 - 1

@@ -9,4 +9,5 @@ pub mod Laws
 pub mod Found
 pub mod Around
 pub mod Seen
+pub mod Site
 pub mod Taking

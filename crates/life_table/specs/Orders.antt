@@ -1,5 +1,5 @@
 -- The orders in which the neighbours of a cell are read.
-use Rattle.std.specs.Prelude.{ℕ, ◌+◌, ◌-◌, ◌*◌, ◌/◌, ◌%◌, List, [], ◌∷◌, ◌++◌, map, flat_map, length, slice_index}
+use Rattle.std.specs.Prelude.{ℕ, Bool, ◌+◌, ◌-◌, ◌*◌, ◌/◌, ◌%◌, List, [], ◌∷◌, ◌++◌, map, flat_map, length, slice_index, if◌then◌else◌}
 use Rattle.std.specs.List.{range_with_len}
 use Rattle.life_table.specs.declared.table.Symmetry.{Symmetry}
 use Rattle.life_table.specs.declared.table.Symmetry.TheVariants.{Identity, Rotate4, Rotate4Reflect, ReflectHorizontal, Permute, Rotate8, Rotate8Reflect}
@@ -18,6 +18,10 @@ turns v step = map (λ k. turn v (k * step)) (range_with_len 0 (length v / step)
 
 abbrev pub reflected_turns : List ℕ → ℕ → List (List ℕ)
 reflected_turns v step = map (λ k. reflected_turn v (k * step)) (range_with_len 0 (length v / step))
+
+-- the turns, and the reflected ones where these count too
+abbrev pub family : Bool → ℕ → List ℕ → List (List ℕ)
+family reflect step v = if reflect then turns v step ++ reflected_turns v step else turns v step
 
 -- the lists that have x at one more place
 abbrev pub insertions : ℕ → List ℕ → List (List ℕ)

@@ -3,6 +3,7 @@ use Rattle.std.specs.Prelude.{◌≡◌, ℕ, ◌+◌, ◌/◌, ◌%◌, ◌<◌
 use Rattle.std.specs.Int.{bit_at}
 use Rattle.std.specs.List.{list_any, sum_by}
 use Rattle.std.specs.Option.{option_map_or}
+use Rattle.life_table.specs.Found.{Consistent}
 use Rattle.life_table.specs.Meaning.{IsChoice, HasState, has_state}
 use Rattle.life_table.specs.Valid.{is_variable}
 use Rattle.life_table.specs.declared.table.Var.{Var}
@@ -78,6 +79,13 @@ pub record AreGroups (vars : List Var) (groups : List Group) : Type 0 where
   pub there : All (λ g. g.variable < length vars) groups
   pub some : All (λ g. 0 < g.times) groups
   pub distinct : IsDistinct groups
+
+-- what a search is given: at most nine groups, of variables that have states, and at most eight neighbours
+pub record IsSearch (vars : List Var) (groups : List Group) (states : List ℕ) : Type 0 where
+  pub size : length states ≤ 8
+  pub are_groups : AreGroups vars groups
+  pub few : length groups ≤ 9
+  pub choosable : Consistent vars [] []
 
 -- some choice makes the inputs of these groups the states at the free places
 pub record Completes (vars : List Var) (groups : List Group) (states : List ℕ) (free : ℕ) : Type 0 where

@@ -1,16 +1,16 @@
 //! One line at one cell: which states it gives.
-ghost use Rattle.std.specs.Prelude.{◌≡◌, ℕ, ◌+◌, ◌<◌, ◌≤◌, ◌↔◌, ◌++◌, ◌∷◌, [], take, drop, length, List, All, IsTrue, slice_index};
+ghost use Rattle.std.specs.Prelude.{◌≡◌, ℕ, ◌+◌, ◌<◌, ◌↔◌, ◌++◌, ◌∷◌, [], take, length, List, All, IsTrue};
 ghost use Rattle.std.specs.List.{list_any};
 ghost use Rattle.life_table.specs.Found.{Adds, Consistent, GivesAs, Tells};
 ghost use Rattle.life_table.specs.Meaning.{IsChoice, state_of, has_state, GivesByCounts};
-ghost use Rattle.life_table.specs.Seen.{IsSeen};
+ghost use Rattle.life_table.specs.Site.{IsSite, IsLineAt, centre_of, others_of};
 ghost use Rattle.life_table.specs.Taking.{can_be_state};
 ghost use Rattle.life_table.specs.Valid.{IsEntry, is_variable};
 
 use crate::complete::{can_complete, first_states};
 use crate::found::Found;
 use crate::groups::{free_after, groups_of, settled_state};
-use crate::seen::Seen;
+use crate::site::Site;
 use crate::table::{Entry, Transition, Var};
 use life_base::State;
 
@@ -101,26 +101,22 @@ pub(crate) fn can_be(vars: &[Var], entry: Entry, s: State) -> bool
 }
 
 /// The states that a line gives at one cell under `permute`, by the counts of the neighbours.
-pub(crate) fn by_counts(vars: &[Var], line: &Transition, cells: &[State], seen: &Seen) -> Found
-    requires count { length line.now.inputs ≡ length cells.now }
-    requires some { 1 < length cells.now }
-    requires room { length cells.now ≤ 9 }
-    requires entries { All (IsEntry 256 vars.now) line.now.inputs }
-    requires bound { (i : ℕ) → line.now.output ≡ Entry.Var i → IsTrue (list_any (is_variable i) line.now.inputs) }
-    requires choosable { Consistent vars.now [] [] }
-    requires seen { IsSeen vars.now (drop 1 cells.now) seen.now }
-    ensures { Tells (GivesByCounts vars.now line.now (slice_index cells.now 0) (drop 1 cells.now)) result }
+pub(crate) fn by_counts(site: &Site, line: &Transition) -> Found
+    requires site { IsSite site.now }
+    requires line { IsLineAt site.now line.now }
+    ensures { Tells (GivesByCounts site.now.vars.now line.now (centre_of site.now) (others_of site.now)) result }
 {
-    let centre = cells[0];
+    let vars = site.vars;
+    let centre = site.cells[0];
     let inputs = line.inputs.as_slice();
     let first = inputs[0];
     if !can_be(vars, first, centre) {
         return Found::Nothing;
     }
-    if !seen.may_take_all(&inputs[1..]) {
+    if !site.seen.may_take_all(&inputs[1..]) {
         return Found::Nothing;
     }
-    let others = &cells[1..];
+    let others = &site.cells[1..];
     let Some(free) = free_after(&inputs[1..], first, centre, others) else {
         return Found::Nothing;
     };

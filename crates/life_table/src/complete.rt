@@ -1,9 +1,9 @@
 //! The search for states of the open variables.
-ghost use Rattle.std.specs.Prelude.{◌≡◌, ◌^◌, ◌<◌, ◌≤◌, ◌↔◌, [], slice_get, length, drop, slice_index, IfSome, IsTrue};
+ghost use Rattle.std.specs.Prelude.{◌≡◌, ◌^◌, ◌<◌, ◌≤◌, ◌↔◌, slice_get, length, drop, slice_index, IfSome, IsTrue};
 ghost use Rattle.std.specs.Int.{bit_at};
 ghost use Rattle.life_table.specs.Meaning.{HasState};
-ghost use Rattle.life_table.specs.Found.{Consistent, Tells};
-ghost use Rattle.life_table.specs.Taking.{free_count, Takes, AreGroups, Completes, CompletesWith, AreFailed};
+ghost use Rattle.life_table.specs.Found.{Tells};
+ghost use Rattle.life_table.specs.Taking.{free_count, Takes, IsSearch, Completes, CompletesWith, AreFailed};
 
 use crate::choose::{has_state, with_state};
 use crate::found::Found;
@@ -39,11 +39,8 @@ fn completes(
     failed: &mut [u8; 256],
 ) -> bool
     requires k { k ≤ length groups.now }
-    requires size { length states.now ≤ 8 }
+    requires search { IsSearch vars.now groups.now states.now }
     requires free { free < 2 ^ length states.now }
-    requires groups { AreGroups vars.now groups.now }
-    requires few { length groups.now ≤ 9 }
-    requires choosable { Consistent vars.now [] [] }
     requires failed { AreFailed vars.now groups.now states.now failed.old }
     ensures completes { IsTrue result ↔ Completes vars.now (drop k groups.now) states.now free }
     ensures failed { AreFailed vars.now groups.now states.now failed.new }
@@ -67,11 +64,8 @@ fn completes(
 
 /// Tells whether the groups can take exactly the free places.
 pub(crate) fn can_complete(vars: &[Var], groups: &[Group], states: &[State], free: u8) -> bool
-    requires size { length states.now ≤ 8 }
+    requires search { IsSearch vars.now groups.now states.now }
     requires free { free < 2 ^ length states.now }
-    requires groups { AreGroups vars.now groups.now }
-    requires few { length groups.now ≤ 9 }
-    requires choosable { Consistent vars.now [] [] }
     ensures { IsTrue result ↔ Completes vars.now groups.now states.now free }
 {
     if groups.is_empty() {
@@ -84,11 +78,8 @@ pub(crate) fn can_complete(vars: &[Var], groups: &[Group], states: &[State], fre
 
 /// The states of the first group's variable with which the groups can take exactly the free places.
 pub(crate) fn first_states(vars: &[Var], groups: &[Group], states: &[State], free: u8) -> Found
-    requires size { length states.now ≤ 8 }
+    requires search { IsSearch vars.now groups.now states.now }
     requires free { free < 2 ^ length states.now }
-    requires groups { AreGroups vars.now groups.now }
-    requires few { length groups.now ≤ 9 }
-    requires choosable { Consistent vars.now [] [] }
     requires some { 0 < length groups.now }
     ensures { Tells (CompletesWith vars.now groups.now states.now free) result }
 {

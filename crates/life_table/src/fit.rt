@@ -1,18 +1,17 @@
 //! One line at the images of a cell's neighbours.
-ghost use Rattle.std.specs.Prelude.{◌≡◌, ℕ, ◌+◌, ◌-◌, ◌/◌, ◌<◌, ◌≤◌, [], ◌∷◌, ◌++◌, drop, map, length, slice_index, slice_index_or, All, IsTrue, if◌then◌else◌};
+ghost use Rattle.std.specs.Prelude.{◌≡◌, ℕ, ◌+◌, ◌-◌, ◌<◌, ◌≤◌, ◌∷◌, map, length, slice_index_or, if◌then◌else◌};
 ghost use Rattle.std.specs.Int.{bit_at};
-ghost use Rattle.std.specs.List.{list_any};
-ghost use Rattle.life_table.specs.Found.{Adds, Tells, Consistent, SomeGives};
-ghost use Rattle.life_table.specs.Orders.{turns, reflected_turns};
-ghost use Rattle.life_table.specs.Seen.{places, IsSeen};
-ghost use Rattle.life_table.specs.Valid.{IsEntry, is_variable};
+ghost use Rattle.life_table.specs.Found.{Adds, Tells, SomeGives};
+ghost use Rattle.life_table.specs.Orders.{turns, reflected_turns, family};
+ghost use Rattle.life_table.specs.Seen.{places};
+ghost use Rattle.life_table.specs.Site.{IsSite, IsLineAt, GoesRound, centre_of, others_of};
 
 use crate::choose::with_image;
 use crate::found::Found;
 use crate::seen::Seen;
-use crate::table::{Entry, Transition, Var};
-use crate::turn::{Turns, image_of};
-use life_base::State;
+use crate::site::Site;
+use crate::table::{Entry, Transition};
+use crate::turn::{image_of, place_before};
 
 /// The turns, or the reflected ones, in which each input alone may be the neighbour that comes to its place: bit `r` is the turn by `r`.
 fn turns_that_may_fit(seen: &Seen, inputs: &[Entry], reflect: bool) -> u16
@@ -23,7 +22,7 @@ fn turns_that_may_fit(seen: &Seen, inputs: &[Entry], reflect: bool) -> u16
 {
     let mut fits = 255;
     for (i, entry) in inputs.iter().enumerate() {
-        let first = if reflect { inputs.len() - i } else { i };
+        let first = place_before(i, inputs.len(), reflect);
         fits &= seen.places(*entry) >> first;
         if fits == 0 {
             return fits;
@@ -33,62 +32,36 @@ fn turns_that_may_fit(seen: &Seen, inputs: &[Entry], reflect: bool) -> u16
 }
 
 /// Adds what a line gives over the turns of the neighbours, or over their reflected turns.
-fn with_turns(
-    vars: &[Var],
-    line: &Transition,
-    cells: &[State],
-    seen: &Seen,
-    ways: Turns,
-    reflect: bool,
-    found: Found,
-) -> Found
-    requires count { length line.now.inputs ≡ length cells.now }
-    requires some { 1 < length cells.now }
-    requires room { length cells.now ≤ 9 }
-    requires entries { All (IsEntry 256 vars.now) line.now.inputs }
-    requires bound { (i : ℕ) → line.now.output ≡ Entry.Var i → IsTrue (list_any (is_variable i) line.now.inputs) }
-    requires choosable { Consistent vars.now [] [] }
-    requires seen { IsSeen vars.now (drop 1 cells.now) seen.now }
-    requires positive { 0 < ways.step }
-    requires turns { ways.count ≡ (length cells.now - 1) / ways.step }
-    ensures { Adds (SomeGives vars.now line.now (map (λ v. slice_index cells.now 0 ∷ v) (if reflect then reflected_turns (drop 1 cells.now) ways.step else turns (drop 1 cells.now) ways.step))) found result }
+fn with_turns(site: &Site, line: &Transition, reflect: bool, found: Found) -> Found
+    requires site { IsSite site.now }
+    requires line { IsLineAt site.now line.now }
+    requires turns { GoesRound site.now }
+    ensures { Adds (SomeGives site.now.vars.now line.now (map (λ v. centre_of site.now ∷ v) (if reflect then reflected_turns (others_of site.now) site.now.ways.step else turns (others_of site.now) site.now.ways.step))) found result }
 {
     let inputs = line.inputs.as_slice();
-    let fits = turns_that_may_fit(seen, &inputs[1..], reflect);
+    let fits = turns_that_may_fit(site.seen, &inputs[1..], reflect);
     let mut found = found;
-    for k in 0..ways.count {
-        let r = k * ways.step;
+    for k in 0..site.ways.count {
+        let r = k * site.ways.step;
         if fits >> r & 1 == 1 {
-            let image = image_of(cells, reflect, r);
+            let image = image_of(site.cells, reflect, r);
             let states = &image[..inputs.len()];
-            found = with_image(vars, line, states, found);
+            found = with_image(site.vars, line, states, found);
         }
     }
     found
 }
 
 /// The states that a line gives over the images of the neighbours, each behind the centre.
-pub(crate) fn by_images(
-    vars: &[Var],
-    line: &Transition,
-    cells: &[State],
-    seen: &Seen,
-    ways: Turns,
-) -> Found
-    requires count { length line.now.inputs ≡ length cells.now }
-    requires some { 1 < length cells.now }
-    requires room { length cells.now ≤ 9 }
-    requires entries { All (IsEntry 256 vars.now) line.now.inputs }
-    requires bound { (i : ℕ) → line.now.output ≡ Entry.Var i → IsTrue (list_any (is_variable i) line.now.inputs) }
-    requires choosable { Consistent vars.now [] [] }
-    requires seen { IsSeen vars.now (drop 1 cells.now) seen.now }
-    requires positive { 0 < ways.step }
-    requires turns { ways.count ≡ (length cells.now - 1) / ways.step }
-    ensures { Tells (SomeGives vars.now line.now (map (λ v. slice_index cells.now 0 ∷ v) (if ways.reflect then turns (drop 1 cells.now) ways.step ++ reflected_turns (drop 1 cells.now) ways.step else turns (drop 1 cells.now) ways.step))) result }
+pub(crate) fn by_images(site: &Site, line: &Transition) -> Found
+    requires site { IsSite site.now }
+    requires line { IsLineAt site.now line.now }
+    requires turns { GoesRound site.now }
+    ensures { Tells (SomeGives site.now.vars.now line.now (map (λ v. centre_of site.now ∷ v) (family site.now.ways.reflect site.now.ways.step (others_of site.now)))) result }
 {
-    let found = with_turns(vars, line, cells, seen, ways, false, Found::Nothing);
-    if ways.reflect {
-        with_turns(vars, line, cells, seen, ways, true, found)
+    let found = with_turns(site, line, false, Found::Nothing);
+    if site.ways.reflect {
+        with_turns(site, line, true, found)
     } else {
         found
     }

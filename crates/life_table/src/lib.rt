@@ -17,6 +17,7 @@ mod next;
 mod places;
 mod reading;
 mod seen;
+mod site;
 mod table;
 mod transitions;
 mod turn;

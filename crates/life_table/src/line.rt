@@ -8,6 +8,7 @@ ghost use Rattle.life_table.specs.Reader.{IsKept};
 
 use crate::descriptors::parse_descriptor;
 use crate::directive::{Directive, Parsed, Section};
+use crate::lines::TableLines;
 use crate::table::Neighborhood;
 use crate::transitions::{parse_transition, transition_of};
 use crate::variables::{is_variable_line, variable_of};
@@ -70,58 +71,6 @@ fn parse_ahead(alloc: Global, named: &Option<Name>, line: &[u8]) -> Result<Direc
     parse_name(alloc, line)
 }
 
-/// What a variable or a transition of a table says, where all settings are given.
-fn parse_settled(
-    alloc: Global,
-    n_states: u16,
-    neighborhood: Neighborhood,
-    parsed: &Parsed,
-    fits: bool,
-    number: u64,
-    text: &[u8],
-) -> Result<Directive, Kind>
-    requires most { n_states ≤ 256 }
-    requires kept { IsKept parsed.now fits }
-    ensures { Answers result (parse_settled n_states neighborhood parsed.now.vars parsed.now.lines number text.now) }
-{
-    let vars = &parsed.vars;
-    if is_variable_line(text) {
-        return match variable_of(alloc, n_states, vars, text)? {
-            Some(var) => Ok(Directive::Variable(var)),
-            None => Err(Kind::BadVariable),
-        };
-    }
-    match transition_of(alloc, n_states, neighborhood, vars, number, text)? {
-        Some(line) => parse_transition(vars, fits, line),
-        None => Err(Kind::BadTransition),
-    }
-}
-
-/// What a variable or a transition says.
-fn parse_rest(
-    alloc: Global,
-    parsed: &Parsed,
-    fits: bool,
-    number: u64,
-    text: &[u8],
-) -> Result<Directive, Kind>
-    requires kept { IsKept parsed.now fits }
-    ensures { Answers result (parse_rest parsed.now.n_states parsed.now.neighborhood parsed.now.symmetry parsed.now.vars parsed.now.lines number text.now) }
-{
-    match (parsed.n_states, parsed.neighborhood, parsed.symmetry) {
-        (Some(n_states), Some(neighborhood), Some(_)) => parse_settled(
-            alloc,
-            n_states,
-            neighborhood,
-            parsed,
-            fits,
-            number,
-            text,
-        ),
-        _ => Err(Kind::BadDescriptor),
-    }
-}
-
 /// Whether all settings are given.
 pub(crate) fn is_described(parsed: &Parsed) -> bool
     ensures { result ≡ is_described parsed.now }
@@ -129,53 +78,91 @@ pub(crate) fn is_described(parsed: &Parsed) -> bool
     parsed.n_states.is_some() && parsed.neighborhood.is_some() && parsed.symmetry.is_some()
 }
 
-/// What a line of the table says.
-fn parse_in_table(
-    alloc: Global,
-    parsed: &Parsed,
-    fits: bool,
-    number: u64,
-    line: &[u8],
-) -> Result<Directive, Kind>
-    requires kept { IsKept parsed.now fits }
-    ensures { Answers result (parse_in_table parsed.now number line.now) }
-{
-    if is_section_line(line) {
-        return if is_described(parsed) {
-            Ok(Directive::TableEnds)
-        } else {
-            Err(Kind::BadDescriptor)
-        };
+impl TableLines {
+    /// What a variable or a transition of a table says, where all settings are given.
+    fn parse_settled(
+        &self,
+        alloc: Global,
+        n_states: u16,
+        neighborhood: Neighborhood,
+        number: u64,
+        text: &[u8],
+    ) -> Result<Directive, Kind>
+        requires most { n_states ≤ 256 }
+        requires kept { IsKept self.now.parsed self.now.fits }
+        ensures { Answers result (parse_settled n_states neighborhood self.now.parsed.vars self.now.parsed.lines number text.now) }
+    {
+        let vars = &self.parsed.vars;
+        if is_variable_line(text) {
+            return match variable_of(alloc, n_states, vars, text)? {
+                Some(var) => Ok(Directive::Variable(var)),
+                None => Err(Kind::BadVariable),
+            };
+        }
+        match transition_of(alloc, n_states, neighborhood, vars, number, text)? {
+            Some(line) => parse_transition(vars, self.fits, line),
+            None => Err(Kind::BadTransition),
+        }
     }
-    let text = content(line);
-    if text.is_empty() {
-        return Ok(Directive::Nothing);
-    }
-    if has_byte(text, b':') {
-        return parse_descriptor(parsed, text);
-    }
-    parse_rest(alloc, parsed, fits, number, text)
-}
 
-/// What a line says behind others, or which rule it breaks. `fits` tells whether one of the transitions before it fits the
-/// neighbourhood in which each cell is 0.
-#[tactic(auto, unfolding(crate::specs::Reading::parse_line))]
-pub(crate) fn parse_line(
-    alloc: Global,
-    parsed: &Parsed,
-    fits: bool,
-    number: u64,
-    line: &[u8],
-) -> Result<Directive, Kind>
-    requires kept { IsKept parsed.now fits }
-    ensures { Answers result (parse_line parsed.now number line.now) }
-{
-    if is_too_long(line) {
-        return Err(Kind::LineTooLong);
+    /// What a variable or a transition says.
+    fn parse_rest(&self, alloc: Global, number: u64, text: &[u8]) -> Result<Directive, Kind>
+        requires kept { IsKept self.now.parsed self.now.fits }
+        ensures { Answers result (parse_rest self.now.parsed.n_states self.now.parsed.neighborhood self.now.parsed.symmetry self.now.parsed.vars self.now.parsed.lines number text.now) }
+    {
+        let parsed = &self.parsed;
+        match (parsed.n_states, parsed.neighborhood, parsed.symmetry) {
+            (Some(n_states), Some(neighborhood), Some(_)) => self.parse_settled(
+                alloc,
+                n_states,
+                neighborhood,
+                number,
+                text,
+            ),
+            _ => Err(Kind::BadDescriptor),
+        }
     }
-    match parsed.section {
-        Section::Ahead => parse_ahead(alloc, &parsed.name, line),
-        Section::Open => parse_in_table(alloc, parsed, fits, number, line),
-        Section::Behind => Ok(Directive::Nothing),
+
+    /// What a line of the table says.
+    fn parse_in_table(&self, alloc: Global, number: u64, line: &[u8]) -> Result<Directive, Kind>
+        requires kept { IsKept self.now.parsed self.now.fits }
+        ensures { Answers result (parse_in_table self.now.parsed number line.now) }
+    {
+        if is_section_line(line) {
+            return if is_described(&self.parsed) {
+                Ok(Directive::TableEnds)
+            } else {
+                Err(Kind::BadDescriptor)
+            };
+        }
+        let text = content(line);
+        if text.is_empty() {
+            return Ok(Directive::Nothing);
+        }
+        if has_byte(text, b':') {
+            return parse_descriptor(&self.parsed, text);
+        }
+        self.parse_rest(alloc, number, text)
+    }
+
+    /// What a line says behind those that were kept, or which rule it breaks.
+    #[tactic(auto, unfolding(crate::specs::Reading::parse_line))]
+    pub(crate) fn parse_line(
+        &self,
+        alloc: Global,
+        number: u64,
+        line: &[u8],
+    ) -> Result<Directive, Kind>
+        requires kept { IsKept self.now.parsed self.now.fits }
+        ensures { Answers result (parse_line self.now.parsed number line.now) }
+    {
+        if is_too_long(line) {
+            return Err(Kind::LineTooLong);
+        }
+        match self.parsed.section {
+            Section::Ahead => parse_ahead(alloc, &self.parsed.name, line),
+            Section::Open => self.parse_in_table(alloc, number, line),
+            Section::Behind => Ok(Directive::Nothing),
+        }
     }
 }

@@ -8,7 +8,6 @@ ghost use Rattle.life_table.specs.Reader.{IsKept, after, fits_after, nothing_par
 
 use crate::by_name::Variables;
 use crate::directive::{Directive, Parsed, Section};
-use crate::line::parse_line;
 use crate::table::Var;
 use crate::transitions::fits_zero;
 use life_base::{Fault, Items, Kind};
@@ -19,7 +18,7 @@ use std::alloc::Global;
 pub(crate) struct TableLines {
     pub(crate) parsed: Parsed,
     /// Whether a transition fits the neighbourhood in which each cell is 0.
-    fits: bool,
+    pub(crate) fits: bool,
 }
 
 impl TableLines {
@@ -74,7 +73,7 @@ impl TableLines {
             × (self.new.fits ≡ fits_after self.old.fits self.old.parsed.vars directive)) }
         ensures err { IfErr result (λ fault. OrMemory fault ((parse_line self.old.parsed number line.now ≡ Err fault.kind) × (fault.place.line ≡ number))) }
     {
-        match parse_line(alloc, &self.parsed, self.fits, number, line) {
+        match self.parse_line(alloc, number, line) {
             Ok(directive) => Ok(self.keep(directive)?),
             Err(kind) => Err(Fault::at(number, kind)),
         }

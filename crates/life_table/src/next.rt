@@ -1,19 +1,19 @@
 //! What a table makes of a cell and its neighbours.
-ghost use Rattle.std.specs.Prelude.{◌≡◌, ◌≢◌, ℕ, ◌+◌, ◌<◌, ◌≤◌, ◌∷◌, length, drop, All, MatchResult, slice_index, List, [], IsTrue, ◌-◌, ◌/◌, ◌++◌, if◌then◌else◌};
-ghost use Rattle.std.specs.List.{list_any};
-ghost use Rattle.life_table.specs.Found.{Tells, Consistent};
+ghost use Rattle.std.specs.Prelude.{◌≡◌, ◌≢◌, ◌+◌, ◌<◌, length, drop, All, MatchResult, slice_index};
+ghost use Rattle.life_table.specs.Found.{Tells};
 ghost use Rattle.life_table.specs.Meaning.{Gives, Decides, Becomes, Ambiguous};
-ghost use Rattle.life_table.specs.Valid.{IsEntry, is_variable, neighbour_count};
+ghost use Rattle.life_table.specs.Valid.{neighbour_count};
 ghost use Rattle.life_table.specs.Around.{cells_of};
-ghost use Rattle.life_table.specs.Orders.{images, turns, reflected_turns};
-ghost use Rattle.life_table.specs.Seen.{IsSeen};
+ghost use Rattle.life_table.specs.Orders.{images, family};
+ghost use Rattle.life_table.specs.Site.{IsSite, IsLineAt, GoesRound, centre_of, others_of};
 
 use crate::choose::{by_counts, can_be};
 use crate::fit::by_images;
 use crate::found::Found;
 use crate::seen::Seen;
-use crate::table::{Entry, Symmetry, Table, Transition, Var};
-use crate::turn::{Turns, turns_of};
+use crate::site::Site;
+use crate::table::{Symmetry, Table, Transition};
+use crate::turn::turns_of;
 use life_base::{Fault, Kind, Place, State};
 
 /// A cell and its neighbours: the centre first, then from north clockwise.
@@ -36,32 +36,19 @@ impl Neighbours {
 }
 
 /// The states that a line gives at one cell: none, one or two.
-pub(crate) fn given_by(
-    symmetry: Symmetry,
-    vars: &[Var],
-    line: &Transition,
-    cells: &[State],
-    seen: &Seen,
-    ways: Turns,
-) -> Found
-    requires count { length line.now.inputs ≡ length cells.now }
-    requires some { 4 < length cells.now }
-    requires room { length cells.now ≤ 9 }
-    requires entries { All (IsEntry 256 vars.now) line.now.inputs }
-    requires bound { (i : ℕ) → line.now.output ≡ Entry.Var i → IsTrue (list_any (is_variable i) line.now.inputs) }
-    requires choosable { Consistent vars.now [] [] }
-    requires positive { 0 < ways.step }
-    requires turns { ways.count ≡ (length cells.now - 1) / ways.step }
-    requires images { symmetry ≢ Symmetry.Permute → images symmetry (drop 1 cells.now) ≡ (if ways.reflect then turns (drop 1 cells.now) ways.step ++ reflected_turns (drop 1 cells.now) ways.step else turns (drop 1 cells.now) ways.step) }
-    requires seen { IsSeen vars.now (drop 1 cells.now) seen.now }
-    ensures { Tells (Gives symmetry vars.now line.now (slice_index cells.now 0) (drop 1 cells.now)) result }
+pub(crate) fn given_by(symmetry: Symmetry, site: &Site, line: &Transition) -> Found
+    requires site { IsSite site.now }
+    requires line { IsLineAt site.now line.now }
+    requires turns { GoesRound site.now }
+    requires images { symmetry ≢ Symmetry.Permute → images symmetry (others_of site.now) ≡ family site.now.ways.reflect site.now.ways.step (others_of site.now) }
+    ensures { Tells (Gives symmetry site.now.vars.now line.now (centre_of site.now) (others_of site.now)) result }
 {
-    if !can_be(vars, line.inputs.as_slice()[0], cells[0]) {
+    if !can_be(site.vars, line.inputs.as_slice()[0], site.cells[0]) {
         return Found::Nothing;
     }
     match symmetry {
-        Symmetry::Permute => by_counts(vars, line, cells, seen),
-        _ => by_images(vars, line, cells, seen, ways),
+        Symmetry::Permute => by_counts(site, line),
+        _ => by_images(site, line),
     }
 }
 
@@ -79,11 +66,16 @@ impl Table {
             (λ fault. (fault.kind ≡ Kind.Ambiguous) × Decides self.now.symmetry self.now.vars (slice_index (cells_of around.now) 0) (drop 1 (cells_of around.now)) self.now.lines (Ambiguous fault.place.line)) }
     {
         let cells = around.as_slice();
-        let ways = turns_of(self.symmetry, cells.len() - 1);
         let vars = self.vars.as_slice();
         let seen = Seen::new(vars, &cells[1..]);
+        let site = Site {
+            vars,
+            cells,
+            seen: &seen,
+            ways: turns_of(self.symmetry, cells.len() - 1),
+        };
         for line in self.lines.as_slice() {
-            match given_by(self.symmetry, vars, line, cells, &seen, ways) {
+            match given_by(self.symmetry, &site, line) {
                 Found::Nothing => {}
                 Found::One(state) => return Ok(state),
                 Found::Two => {

@@ -8,7 +8,7 @@ ghost use Rattle.life_table.specs.Valid.{neighbour_count, is_variable, allows_ze
 
 use crate::by_name::Variables;
 use crate::directive::Directive;
-use crate::entries::entries_of;
+use crate::entries::Scope;
 use crate::table::{Entry, Neighborhood, Transition};
 use life_base::{Items, Kind};
 use std::alloc::Global;
@@ -37,7 +37,8 @@ pub(crate) fn transition_of(
     ensures ok { IfOk result (λ found. found ≡ transition_of n_states (neighbour_count neighborhood) vars.now number text.now) }
     ensures err { IfErr result (λ kind. kind ≡ Memory) }
 {
-    let Some(mut parts) = entries_of(alloc, n_states, vars, text)? else {
+    let scope = Scope { n_states, vars };
+    let Some(mut parts) = scope.entries_of(alloc, text)? else {
         return Ok(None);
     };
     if parts.len() != neighbour_count(neighborhood) + 2 {

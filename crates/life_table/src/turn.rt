@@ -1,6 +1,6 @@
 //! The turned and reflected neighbours.
-ghost use Rattle.std.specs.Prelude.{◌≡◌, ◌≢◌, ℕ, ◌/◌, ◌<◌, ◌≤◌, ◌∷◌, ◌++◌, List, take, drop, length, slice_index, if◌then◌else◌};
-ghost use Rattle.life_table.specs.Orders.{turn, turns, reflected_turn, reflected_turns, images};
+ghost use Rattle.std.specs.Prelude.{◌≡◌, ◌≢◌, ℕ, ◌-◌, ◌/◌, ◌<◌, ◌≤◌, ◌∷◌, List, take, drop, length, slice_index, if◌then◌else◌};
+ghost use Rattle.life_table.specs.Orders.{turn, reflected_turn, images, family};
 
 use crate::table::Symmetry;
 use life_base::State;
@@ -11,6 +11,14 @@ pub(crate) struct Turns {
     pub step: usize,
     pub count: usize,
     pub reflect: bool,
+}
+
+/// The place, going round, of the neighbour that stands at place `i` of `n` before a turn. Reflected neighbours stand the other way round.
+pub(crate) fn place_before(i: usize, n: usize, reflect: bool) -> usize
+    requires { i ≤ n }
+    ensures { result ≡ (if reflect then n - i else i) }
+{
+    if reflect { n - i } else { i }
 }
 
 /// A cell with its neighbours turned by r, or reflected and then turned.
@@ -24,11 +32,7 @@ pub(crate) fn image_of(cells: &[State], reflect: bool, r: usize) -> [State; 9]
     let mut image = [0; 9];
     image[0] = cells[0];
     for i in 0..n {
-        let from = if reflect {
-            (n - i + r) % n
-        } else {
-            (i + r) % n
-        };
+        let from = (place_before(i, n, reflect) + r) % n;
         image[i + 1] = cells[1 + from];
     }
     image
@@ -39,7 +43,7 @@ pub(crate) fn turns_of(symmetry: Symmetry, n: usize) -> Turns
     requires { 3 < n }
     ensures positive { 0 < result.step }
     ensures count { result.count ≡ n / result.step }
-    ensures images { symmetry ≢ Symmetry.Permute → (v : List ℕ) → length v ≡ n → images symmetry v ≡ (if result.reflect then turns v result.step ++ reflected_turns v result.step else turns v result.step) }
+    ensures images { symmetry ≢ Symmetry.Permute → (v : List ℕ) → length v ≡ n → images symmetry v ≡ family result.reflect result.step v }
 {
     let (step, reflect) = match symmetry {
         Symmetry::Identity => (n, false),

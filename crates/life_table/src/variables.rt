@@ -6,7 +6,7 @@ ghost use Rattle.life_base.specs.declared.kind.Kind.TheVariants.{Memory};
 ghost use Rattle.life_table.specs.Reading.{is_variable_line, is_name_byte, is_variable_name, is_list, within_braces, variable_states, variable_of};
 
 use crate::by_name::Variables;
-use crate::entries::states_listed;
+use crate::entries::Scope;
 use crate::table::Var;
 use crate::words::{has_byte, split_at_byte};
 use life_base::{Items, Kind, is_whitespace, trimmed};
@@ -68,7 +68,8 @@ fn variable_states(n_states: u16, vars: &Variables, name: &[u8], list: &[u8]) ->
     if vars.number_of(name).is_some() {
         return None;
     }
-    states_listed(n_states, vars, within_braces(list)?)
+    let within = within_braces(list)?;
+    Scope { n_states, vars }.states_listed(within)
 }
 
 /// The variable that a line writes behind these variables, if it writes one.

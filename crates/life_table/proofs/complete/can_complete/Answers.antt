@@ -9,7 +9,7 @@ returns-then-is_empty c =
       | inl same ↦ same.1
       | inr other ↦ absurd (let e : true ≡ false = sym c.if-is_empty.true ∙ c.is_empty.ensures ∙ other.0 in let z : ⊥ = cc in z)
     ] in
-    at_end c.args.vars.now c.args.groups.now c.args.states.now c.args.free 0 (omega (arith, none)) c.requires.free c.requires.choosable
+    at_end c.args.vars.now c.args.groups.now c.args.states.now c.args.free 0 (omega (arith, none)) c.requires.free c.requires.search.choosable
 
 pub completes-requires-clause-failed : goal.completes-requires-clause-failed
 completes-requires-clause-failed c = none_failed c.args.vars.now c.args.groups.now c.args.states.now 256

@@ -16,7 +16,8 @@ pub returns-in-Two : goal.returns-in-Two
 returns-in-Two c =
     tell_two c.args.vars.now c.args.groups.now c.args.states.now c.args.free (c.loop-place.place + 1) c.with_state-found.result c.in-Two.is
     (tell_more c.args.vars.now c.args.groups.now c.args.states.now c.args.free c.loop-place.place c.loop-place.found c.with_state-found.result c.loop-place.invariant.tells c.in-Some.ensures.some.is_free
-    (taken_with c.args.vars.now c.args.groups.now c.args.states.now c.args.free 0 no_group c.requires.some c.requires.groups c.loop-place.place c.in-Some.rest c.in-Some.ensures.some
+    (taken_with c.args.vars.now c.args.groups.now c.args.states.now c.args.free 0 no_group c.requires.some c.requires.search.are_groups c.loop-place.place
+    c.in-Some.rest c.in-Some.ensures.some
     (c.completes.ensures.completes.0 c.if-completes.true))
     c.with_state-found.ensures)
 
@@ -26,7 +27,8 @@ loop-place-preserved c =
       | in-Some+then-completes+in_default-found w ↦ record {
         tells = subst (Tells (IsFoundBy c.args.vars.now c.args.groups.now c.args.states.now c.args.free (c.loop-place.place + 1))) (sym w.found-is)
             (tell_more c.args.vars.now c.args.groups.now c.args.states.now c.args.free c.loop-place.place c.loop-place.found w.with_state-found.result c.loop-place.invariant.tells w.in-Some.ensures.some.is_free
-            (taken_with c.args.vars.now c.args.groups.now c.args.states.now c.args.free 0 no_group c.requires.some c.requires.groups c.loop-place.place w.in-Some.rest w.in-Some.ensures.some
+            (taken_with c.args.vars.now c.args.groups.now c.args.states.now c.args.free 0 no_group c.requires.some c.requires.search.are_groups
+            c.loop-place.place w.in-Some.rest w.in-Some.ensures.some
             (w.completes.ensures.completes.0 w.if-completes.true))
             w.with_state-found.ensures);
         failed = subst (AreFailed c.args.vars.now c.args.groups.now c.args.states.now) (sym w.failed-is) w.completes.ensures.failed;
@@ -34,14 +36,16 @@ loop-place-preserved c =
       | in-Some+else-completes w ↦ record {
         tells = subst (Tells (IsFoundBy c.args.vars.now c.args.groups.now c.args.states.now c.args.free (c.loop-place.place + 1))) (sym w.found-is)
             (tell_skip c.args.vars.now c.args.groups.now c.args.states.now c.args.free c.loop-place.place c.loop-place.found c.loop-place.invariant.tells
-            (λ _. taken_fails c.args.vars.now c.args.groups.now c.args.states.now c.args.free 0 no_group c.requires.some c.requires.groups c.loop-place.place w.in-Some.rest w.in-Some.ensures.some
+            (λ _. taken_fails c.args.vars.now c.args.groups.now c.args.states.now c.args.free 0 no_group c.requires.some c.requires.search.are_groups
+            c.loop-place.place w.in-Some.rest w.in-Some.ensures.some
             (λ h. let e : true ≡ false = sym (w.completes.ensures.completes.1 h) ∙ w.if-completes.false in absurd (let z : ⊥ = cc in z))));
         failed = subst (AreFailed c.args.vars.now c.args.groups.now c.args.states.now) (sym w.failed-is) w.completes.ensures.failed;
       }
       | in_default w ↦ record {
         tells = subst (Tells (IsFoundBy c.args.vars.now c.args.groups.now c.args.states.now c.args.free (c.loop-place.place + 1))) (sym w.found-is)
             (tell_skip c.args.vars.now c.args.groups.now c.args.states.now c.args.free c.loop-place.place c.loop-place.found c.loop-place.invariant.tells
-            (untaken_fails c.args.vars.now c.args.groups.now c.args.states.now c.args.free 0 no_group c.requires.some c.requires.groups c.loop-place.place (w.in_default.ensures.none refl)));
+            (untaken_fails c.args.vars.now c.args.groups.now c.args.states.now c.args.free 0 no_group c.requires.some c.requires.search.are_groups
+            c.loop-place.place (w.in_default.ensures.none refl)));
         failed = subst (AreFailed c.args.vars.now c.args.groups.now c.args.states.now) (sym w.failed-is) c.loop-place.invariant.failed;
       }
     ]
@@ -49,5 +53,5 @@ loop-place-preserved c =
 pub returns : goal.returns
 returns c =
     let all : c.loop-place.place ≡ length c.args.states.now = omega (arith, c.loop-place-test.false, c.loop-place.auto.place-end) in
-    tell_all c.args.vars.now c.args.groups.now c.args.states.now c.args.free c.requires.some c.requires.groups c.loop-place.found
+    tell_all c.args.vars.now c.args.groups.now c.args.states.now c.args.free c.requires.some c.requires.search.are_groups c.loop-place.found
     (subst (λ n. Tells (IsFoundBy c.args.vars.now c.args.groups.now c.args.states.now c.args.free n) c.loop-place.found) all c.loop-place.invariant.tells)

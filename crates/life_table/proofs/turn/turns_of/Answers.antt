@@ -1,6 +1,7 @@
 use Rattle.std.proofs.Common.{◌/◌, ◌<◌, refl, false, true, ap, ◌∙◌, arith, length}
 use Rattle.life_table.specs.declared.table.Symmetry.TheVariants as symmetries
-use Rattle.life_table.proofs.Images.{family, family_is, identity_family, horizontal_family}
+use Rattle.life_table.specs.Orders.{family}
+use Rattle.life_table.proofs.Images.{family_is, identity_family, horizontal_family}
 use Rattle.life_table.proofs.turn.turns_of.Goals as goal
 use Rattle.life_table.proofs.turn.turns_of.Goals.{in-Identity, in-Rotate4, in-Rotate4Reflect, in-ReflectHorizontal, in-Permute, in-Rotate8, in-Rotate8Reflect}
 

@@ -6,6 +6,6 @@ pub returns : goal.returns
 unfolding variable_states
 returns c = search rules
 
-pub returns-in_err-within_braces : goal.returns-in_err-within_braces
+pub returns-in_err-within : goal.returns-in_err-within
 unfolding variable_states
-returns-in_err-within_braces c = search rules
+returns-in_err-within c = search rules

@@ -1,12 +1,25 @@
-use Rattle.std.proofs.Common.{refl}
+use Rattle.std.proofs.Common.{◌≡◌, ◌+◌, length, refl, ap, ◌∙◌, subst, arith}
 use Rattle.life_table.specs.Around.{cells_of}
 use Rattle.life_table.specs.Meaning.{Becomes, Ambiguous}
+use Rattle.life_table.specs.Seen.{IsSeen}
+use Rattle.life_table.specs.Valid.{neighbour_count}
 use Rattle.life_table.proofs.Choosing.{choosable}
+use Rattle.life_table.proofs.Deciding.{rest_of}
+use Rattle.life_table.proofs.Images.{four_or_eight}
 use Rattle.life_table.proofs.Answering.{answer_here, silent_more, silent_all}
 use Rattle.life_table.proofs.table.Table.next.Goals as goal
 
-pub given_by-requires-clause-choosable : goal.given_by-requires-clause-choosable
-given_by-requires-clause-choosable c = rw c.as_slice-vars.ensures (choosable c.args.self.now.n_states c.args.self.now.vars c.args.self.now.sound.variables)
+pub given_by-requires-clause-site : goal.given_by-requires-clause-site
+given_by-requires-clause-site c =
+    let few = four_or_eight c.args.self.now.neighborhood in
+    let size : length c.as_slice-cells.result.now ≡ neighbour_count c.args.self.now.neighborhood + 1 =
+    ap length c.as_slice-cells.ensures ∙ c.requires.neighbours in
+    record {
+      some = omega (arith, few.0, size);
+      room = omega (arith, few.1, size);
+      choosable = rw c.as_slice-vars.ensures (choosable c.args.self.now.n_states c.args.self.now.vars c.args.self.now.sound.variables);
+      seen = subst (λ others. IsSeen c.as_slice-vars.result.now others c.new-seen.result) (rest_of c.as_slice-cells.result.now) c.new-seen.ensures;
+    }
 
 pub returns-in-One : goal.returns-in-One
 returns-in-One c = answer_here c.args.self.now.symmetry c.args.self.now.vars c.as_slice-vars.result.now (cells_of c.args.around.now) c.as_slice-cells.result.now c.as_slice-vars.ensures c.as_slice-cells.ensures

@@ -5,15 +5,15 @@ use Rattle.life_table.specs.Reading.{entry_of, all_some, between_commas, states_
 use Rattle.life_table.specs.Reader.{parts_left, bytes_left}
 use Rattle.life_table.proofs.Listed.{united}
 use Rattle.life_table.specs.declared.table.Var.{Var}
-use Rattle.life_table.proofs.entries.states_listed.Given as goal
+use Rattle.life_table.proofs.entries.Scope.states_listed.Given as goal
 
 abbrev pub set_named : ℕ → List Var → List ℕ → Option (List ℕ)
 set_named n_states vars word = option_and_then (states_of_entry vars) (entry_of n_states vars word)
 
 abbrev pub invariant-loop-rest : goal.invariant-loop-rest
 invariant-loop-rest l =
-    united (0 ∷ 0 ∷ 0 ∷ 0 ∷ []) (all_some (map (set_named l.n_states l.vars) (between_commas l.list)))
-    ≡ united l.states (all_some (map (set_named l.n_states l.vars) (map trim (parts_left l.rest))))
+    united (0 ∷ 0 ∷ 0 ∷ 0 ∷ []) (all_some (map (set_named l.self.n_states l.self.vars.now) (between_commas l.list)))
+    ≡ united l.states (all_some (map (set_named l.self.n_states l.self.vars.now) (map trim (parts_left l.rest))))
 
 abbrev pub decreases-loop-rest : goal.decreases-loop-rest
 decreases-loop-rest l = bytes_left l.rest

@@ -3,12 +3,12 @@ use Rattle.life_base.specs.Text.{trim}
 use Rattle.life_table.specs.Reading.{entry_of, all_some, between_commas}
 use Rattle.life_table.specs.Reader.{parts_left, bytes_left}
 use Rattle.life_table.proofs.Listed.{joined}
-use Rattle.life_table.proofs.entries.entries_between_commas.Given as goal
+use Rattle.life_table.proofs.entries.Scope.between_commas.Given as goal
 
 abbrev pub invariant-loop-rest : goal.invariant-loop-rest
 invariant-loop-rest l =
-    all_some (map (entry_of l.n_states l.vars) (between_commas l.text))
-    ≡ joined l.entries.items (all_some (map (entry_of l.n_states l.vars) (map trim (parts_left l.rest))))
+    all_some (map (entry_of l.self.n_states l.self.vars.now) (between_commas l.text))
+    ≡ joined l.entries.items (all_some (map (entry_of l.self.n_states l.self.vars.now) (map trim (parts_left l.rest))))
 
 abbrev pub decreases-loop-rest : goal.decreases-loop-rest
 decreases-loop-rest l = bytes_left l.rest

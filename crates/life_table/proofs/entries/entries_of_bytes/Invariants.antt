@@ -1,9 +1,0 @@
-use Rattle.std.proofs.Common.{◌≡◌, map, drop}
-use Rattle.life_table.specs.Reading.{entry_of, all_some, bytes_alone}
-use Rattle.life_table.proofs.Listed.{joined, solid}
-use Rattle.life_table.proofs.entries.entries_of_bytes.Given as goal
-
-abbrev pub invariant-loop-byte : goal.invariant-loop-byte
-invariant-loop-byte l =
-    all_some (map (entry_of l.n_states l.vars) (bytes_alone l.text))
-    ≡ joined l.entries.items (all_some (map (entry_of l.n_states l.vars) (solid (drop l.byte-index l.text))))
