@@ -1,4 +1,3 @@
-use Rattle.clap.specs.Words.{first_of, found_of, rows_of}
 use Rattle.std.proofs.Common.{inl, inr}
 use Rattle.std.proofs.lemmas.Result.{err_from_is_err_and}
 use Rattle.life_cli.proofs.plans.planning.over_files.Goals as goal
