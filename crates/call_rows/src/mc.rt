@@ -1,7 +1,7 @@
 //! Calls of `life_mc`.
 
 use crate::answer::Unanswered;
-use crate::shown::{show_bytes, show_end, show_fault, show_rule};
+use crate::shown::{Show, show_bytes, show_each, show_end, show_fault, show_rule};
 use life_base::lines;
 use life_mc::{Line, McFile, McLines, read_mc, write_mc};
 use std::alloc::Global;
@@ -17,32 +17,30 @@ pub(crate) fn file(alloc: Global, out: &mut String, input: &[u8]) -> Result<(), 
     }
 }
 
-/// Adds a square: the eight rows of a leaf, or a level and four quarters.
-fn show_square(out: &mut String, square: &Line) -> Result<(), Unanswered> {
-    match square {
-        Line::Leaf([a, b, c, d, e, f, g, h]) => {
-            write!(out, "{a},{b},{c},{d},{e},{f},{g},{h}")?;
+impl Show for Line {
+    /// A square: the eight rows of a leaf, or a level and four quarters.
+    fn show(&self, out: &mut String) -> Result<(), Unanswered> {
+        match self {
+            Line::Leaf([a, b, c, d, e, f, g, h]) => {
+                write!(out, "{a},{b},{c},{d},{e},{f},{g},{h}")?;
+            }
+            Line::Quad {
+                level,
+                nw,
+                ne,
+                sw,
+                se,
+            } => write!(out, "{level}:{nw},{ne},{sw},{se}")?,
         }
-        Line::Quad {
-            level,
-            nw,
-            ne,
-            sw,
-            se,
-        } => write!(out, "{level}:{nw},{ne},{sw},{se}")?,
+        Ok(())
     }
-    Ok(())
 }
 
 /// Adds the rule, the generation and the squares of a file.
 fn show_squares(alloc: Global, out: &mut String, file: &McFile) -> Result<(), Unanswered> {
     show_rule(alloc, out, &file.rule)?;
     write!(out, " {}", file.generation)?;
-    for square in file.lines.as_slice() {
-        out.push_str(" ")?;
-        show_square(out, square)?;
-    }
-    Ok(())
+    show_each(out, file.lines.as_slice())
 }
 
 /// The rule, the generation and each square of a file; or the line and the kind of a fault.
@@ -59,7 +57,7 @@ pub(crate) fn by_lines(alloc: Global, out: &mut String, input: &[u8]) -> Result<
     let mut reader = McLines::new(alloc);
     for (_, line) in lines(input) {
         match reader.line(line) {
-            Ok(Some(square)) => show_square(out, &square)?,
+            Ok(Some(square)) => square.show(out)?,
             Ok(None) => out.push_str("-")?,
             Err(kind) => out.push_str(kind.name())?,
         }

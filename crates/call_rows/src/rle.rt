@@ -1,26 +1,24 @@
 //! Calls of `life_rle`.
 
 use crate::answer::Unanswered;
-use crate::shown::{show_end, show_fault, show_rule};
+use crate::shown::{Show, show_each, show_end, show_fault, show_rule};
 use life_base::lines;
 use life_rle::{RleFile, RleLines, Run, read_rle};
 use std::alloc::Global;
 
-/// Adds the column, the row, the length and the state of a run.
-fn show_run(out: &mut String, run: &Run) -> Result<(), Unanswered> {
-    write!(out, "{},{},{},{}", run.x, run.y, run.len, run.state)?;
-    Ok(())
+impl Show for Run {
+    /// The column, the row, the length and the state.
+    fn show(&self, out: &mut String) -> Result<(), Unanswered> {
+        write!(out, "{},{},{},{}", self.x, self.y, self.len, self.state)?;
+        Ok(())
+    }
 }
 
 /// Adds the rule, the generation, the corner and the runs of a file.
 fn show_file(alloc: Global, out: &mut String, file: &RleFile) -> Result<(), Unanswered> {
     show_rule(alloc, out, &file.rule)?;
     write!(out, " {} {},{}", file.generation, file.x, file.y)?;
-    for run in file.runs.as_slice() {
-        out.push_str(" ")?;
-        show_run(out, run)?;
-    }
-    Ok(())
+    show_each(out, file.runs.as_slice())
 }
 
 /// The rule, the generation, the corner and each run of a file; or the line and the kind of a fault.
@@ -34,10 +32,7 @@ pub(crate) fn file(alloc: Global, out: &mut String, input: &[u8]) -> Result<(), 
 /// Adds the runs of a line.
 fn show_runs(out: &mut String, runs: &[Run]) -> Result<(), Unanswered> {
     out.push_str("[")?;
-    for run in runs {
-        out.push_str(" ")?;
-        show_run(out, run)?;
-    }
+    show_each(out, runs)?;
     out.push_str(" ]")?;
     Ok(())
 }

@@ -7,6 +7,21 @@ use std::alloc::Global;
 /// More squares than a store may hold in these tests.
 pub(crate) const ROOM: u64 = 1 << 31;
 
+/// What stands in an answer as one of several.
+pub(crate) trait Show {
+    /// Adds it to the answer.
+    fn show(&self, out: &mut String) -> Result<(), Unanswered>;
+}
+
+/// Adds each of these behind a space.
+pub(crate) fn show_each<T: Show>(out: &mut String, items: &[T]) -> Result<(), Unanswered> {
+    for item in items {
+        out.push_str(" ")?;
+        item.show(out)?;
+    }
+    Ok(())
+}
+
 /// Adds a byte as a row writes it.
 fn show_byte(out: &mut String, byte: u8) -> Result<(), Unanswered> {
     match byte {

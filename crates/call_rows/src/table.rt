@@ -2,7 +2,7 @@
 
 use crate::answer::Unanswered;
 use crate::row::halves;
-use crate::shown::{show_bytes, show_fault};
+use crate::shown::{Show, show_bytes, show_each, show_fault};
 use life_base::{Fault, State};
 use life_table::{Entry, Neighborhood, Neighbours, Table, Transition, Var, read_table};
 use std::alloc::Global;
@@ -41,12 +41,14 @@ pub(crate) fn counts(alloc: Global, out: &mut String, input: &[u8]) -> Result<()
     Ok(())
 }
 
-/// Adds the name of a variable and the four words of its states.
-fn show_variable(out: &mut String, variable: &Var) -> Result<(), Unanswered> {
-    show_bytes(out, variable.name.as_slice())?;
-    let [a, b, c, d] = variable.states;
-    write!(out, "={a},{b},{c},{d}")?;
-    Ok(())
+impl Show for Var {
+    /// The name and the four words of the states.
+    fn show(&self, out: &mut String) -> Result<(), Unanswered> {
+        show_bytes(out, self.name.as_slice())?;
+        let [a, b, c, d] = self.states;
+        write!(out, "={a},{b},{c},{d}")?;
+        Ok(())
+    }
 }
 
 /// Adds a state, or `v` and the number of a variable.
@@ -58,28 +60,23 @@ fn show_entry(out: &mut String, entry: Entry) -> Result<(), Unanswered> {
     Ok(())
 }
 
-/// Adds the line and the entries of a transition.
-fn show_transition(out: &mut String, transition: &Transition) -> Result<(), Unanswered> {
-    write!(out, "{}:", transition.line)?;
-    for entry in transition.inputs.as_slice() {
-        show_entry(out, *entry)?;
-        out.push_str(",")?;
+impl Show for Transition {
+    /// The line and the entries.
+    fn show(&self, out: &mut String) -> Result<(), Unanswered> {
+        write!(out, "{}:", self.line)?;
+        for entry in self.inputs.as_slice() {
+            show_entry(out, *entry)?;
+            out.push_str(",")?;
+        }
+        show_entry(out, self.output)
     }
-    show_entry(out, transition.output)
 }
 
 /// Adds the settings, the variables and the transitions of a table.
 fn show_table(out: &mut String, table: &Table) -> Result<(), Unanswered> {
     show_settings(out, table)?;
-    for variable in table.vars.as_slice() {
-        out.push_str(" ")?;
-        show_variable(out, variable)?;
-    }
-    for transition in table.lines.as_slice() {
-        out.push_str(" ")?;
-        show_transition(out, transition)?;
-    }
-    Ok(())
+    show_each(out, table.vars.as_slice())?;
+    show_each(out, table.lines.as_slice())
 }
 
 /// The settings, the variables and the transitions of a table; or the line and the kind of a fault.

@@ -179,30 +179,20 @@ fn example_calls<'x>(
 ) {
     let alloc = rt.alloc();
     let calls = Calls::at(rt, name, time);
-    calls.tell(
-        "read, number, text_of",
-        patterns::numbered(alloc, &mut stores.numbered, example),
-    );
-    calls.tell(
-        "canon",
-        patterns::canonical(alloc, &mut stores.canonical, example),
-    );
-    calls.tell(
-        "same",
-        patterns::compared(alloc, &mut stores.compared, example),
-    );
-    calls.tell(
-        "to_rle",
-        patterns::converted(alloc, &mut stores.converted, example),
-    );
-    calls.tell(
-        "show",
-        patterns::described(alloc, &mut stores.described, example),
-    );
-    calls.tell(
-        "Reader",
-        patterns::pieced(alloc, &mut stores.pieced, example),
-    );
+    let Stores {
+        numbered,
+        canonical,
+        compared,
+        converted,
+        described,
+        pieced,
+    } = stores;
+    calls.tell("read, number, text_of", example.numbered(alloc, numbered));
+    calls.tell("canon", example.canonical(alloc, canonical));
+    calls.tell("same", example.compared(alloc, compared));
+    calls.tell("to_rle", example.converted(alloc, converted));
+    calls.tell("show", example.described(alloc, described));
+    calls.tell("Reader", example.pieced(alloc, pieced));
 }
 
 // Files in turn: where one call is refused, the next on the same store reads another file.
@@ -217,22 +207,10 @@ fn pattern_calls<'x>(rt: &'x HostRuntime, stores: &mut Stores, time: &'x str) {
 fn step_calls<'x>(rt: &'x HostRuntime, store: &mut Shared, time: &'x str) {
     let alloc = rt.alloc();
     let calls = Calls::at(rt, "life_step", time);
-    calls.tell(
-        "step_life, glider",
-        steps::by_rule(alloc, store, &steps::GLIDER),
-    );
-    calls.tell(
-        "step_life, blinker",
-        steps::by_rule(alloc, store, &steps::BLINKER),
-    );
-    calls.tell(
-        "step_table, one cell",
-        steps::by_table(alloc, store, &steps::ONE),
-    );
-    calls.tell(
-        "step_table, two cells",
-        steps::by_table(alloc, store, &steps::TWO),
-    );
+    calls.tell("step_life, glider", steps::GLIDER.by_rule(alloc, store));
+    calls.tell("step_life, blinker", steps::BLINKER.by_rule(alloc, store));
+    calls.tell("step_table, one cell", steps::ONE.by_table(alloc, store));
+    calls.tell("step_table, two cells", steps::TWO.by_table(alloc, store));
 }
 
 fn main(rt: HostRuntime) {

@@ -63,61 +63,43 @@ fn is_canonical(
     Ok(written.as_slice() == wanted && text.as_slice() == wanted)
 }
 
-/// The pattern of the file, its node lines and its text.
-pub(crate) fn numbered(
-    alloc: Global,
-    store: &mut Shared,
-    example: &Example,
-) -> Result<bool, Fault> {
-    let pattern = read(alloc, store, example.input)?;
-    is_canonical(alloc, store, &pattern, example.canonical)
-}
-
-/// The canonical text of the file.
-pub(crate) fn canonical(
-    alloc: Global,
-    store: &mut Shared,
-    example: &Example,
-) -> Result<bool, Fault> {
-    let text = canon(alloc, store, example.input)?;
-    Ok(text.as_slice() == example.canonical)
-}
-
-/// The file beside its canonical text.
-pub(crate) fn compared(
-    alloc: Global,
-    store: &mut Shared,
-    example: &Example,
-) -> Result<bool, Fault> {
-    same(alloc, store, example.input, example.canonical)
-}
-
-/// The text of the file in extended RLE.
-pub(crate) fn converted(
-    alloc: Global,
-    store: &mut Shared,
-    example: &Example,
-) -> Result<bool, Fault> {
-    let text = to_rle(alloc, store, example.input)?;
-    Ok(text.as_slice() == example.runs)
-}
-
-/// The five lines of the file.
-pub(crate) fn described(
-    alloc: Global,
-    store: &mut Shared,
-    example: &Example,
-) -> Result<bool, Fault> {
-    let text = show(alloc, store, example.input)?;
-    Ok(text.as_slice() == example.shown)
-}
-
-/// The node lines of the file, which comes in pieces of seven bytes.
-pub(crate) fn pieced(alloc: Global, store: &mut Shared, example: &Example) -> Result<bool, Fault> {
-    let mut reader = Reader::new(alloc);
-    for piece in example.input.chunks(7) {
-        reader.feed(store, piece)?;
+impl Example {
+    /// The pattern of the file, its node lines and its text.
+    pub(crate) fn numbered(&self, alloc: Global, store: &mut Shared) -> Result<bool, Fault> {
+        let pattern = read(alloc, store, self.input)?;
+        is_canonical(alloc, store, &pattern, self.canonical)
     }
-    let pattern = reader.finish(store)?;
-    is_canonical(alloc, store, &pattern, example.canonical)
+
+    /// The canonical text of the file.
+    pub(crate) fn canonical(&self, alloc: Global, store: &mut Shared) -> Result<bool, Fault> {
+        let text = canon(alloc, store, self.input)?;
+        Ok(text.as_slice() == self.canonical)
+    }
+
+    /// The file beside its canonical text.
+    pub(crate) fn compared(&self, alloc: Global, store: &mut Shared) -> Result<bool, Fault> {
+        same(alloc, store, self.input, self.canonical)
+    }
+
+    /// The text of the file in extended RLE.
+    pub(crate) fn converted(&self, alloc: Global, store: &mut Shared) -> Result<bool, Fault> {
+        let text = to_rle(alloc, store, self.input)?;
+        Ok(text.as_slice() == self.runs)
+    }
+
+    /// The five lines of the file.
+    pub(crate) fn described(&self, alloc: Global, store: &mut Shared) -> Result<bool, Fault> {
+        let text = show(alloc, store, self.input)?;
+        Ok(text.as_slice() == self.shown)
+    }
+
+    /// The node lines of the file, which comes in pieces of seven bytes.
+    pub(crate) fn pieced(&self, alloc: Global, store: &mut Shared) -> Result<bool, Fault> {
+        let mut reader = Reader::new(alloc);
+        for piece in self.input.chunks(7) {
+            reader.feed(store, piece)?;
+        }
+        let pattern = reader.finish(store)?;
+        is_canonical(alloc, store, &pattern, self.canonical)
+    }
 }

@@ -39,15 +39,17 @@ pub(crate) const TWO: Step = Step {
 const SPREAD: &[u8] =
     b"@RULE Spread\n@TABLE\nn_states:3\nneighborhood:vonNeumann\nsymmetries:rotate4\nvar a={1,2}\n0,a,0,0,0,a\n";
 
-/// The next generation of the file under its B/S rule.
-pub(crate) fn by_rule(alloc: Global, store: &mut Shared, step: &Step) -> Result<bool, Fault> {
-    let text = step_life(alloc, store, step.file)?;
-    Ok(text.as_slice() == step.next)
-}
+impl Step {
+    /// The next generation of the file under its B/S rule.
+    pub(crate) fn by_rule(&self, alloc: Global, store: &mut Shared) -> Result<bool, Fault> {
+        let text = step_life(alloc, store, self.file)?;
+        Ok(text.as_slice() == self.next)
+    }
 
-/// The next generation of the file by the table of its rule.
-pub(crate) fn by_table(alloc: Global, store: &mut Shared, step: &Step) -> Result<bool, Fault> {
-    let table = read_table(alloc, SPREAD)?;
-    let text = step_table(alloc, store, step.file, &table)?;
-    Ok(text.as_slice() == step.next)
+    /// The next generation of the file by the table of its rule.
+    pub(crate) fn by_table(&self, alloc: Global, store: &mut Shared) -> Result<bool, Fault> {
+        let table = read_table(alloc, SPREAD)?;
+        let text = step_table(alloc, store, self.file, &table)?;
+        Ok(text.as_slice() == self.next)
+    }
 }

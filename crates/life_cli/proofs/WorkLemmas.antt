@@ -1,5 +1,5 @@
 -- From the parts of a job to what it did, or why it is refused.
-use Rattle.std.proofs.Common.{◌≡◌, ℕ, ◌^◌, ◌⊎◌, inl, inr, List, Bool, true, false, Result, Ok, Err, IfErr, IfOk, OnOk, if◌then◌else◌, codes, refl, ap, IsTrue, ◌↔◌, subst, sym}
+use Rattle.std.proofs.Common.{◌≡◌, ℕ, ◌^◌, ◌⊎◌, inl, inr, List, Bool, true, false, Result, Ok, Err, IfErr, IfOk, OnOk, refl, ap, IsTrue, ◌↔◌, subst, sym}
 use Rattle.std.specs.Io.KnownBytes.{Appends}
 use Rattle.life_base.specs.DeviceRuns.{SourceRun, SinkRun}
 use Rattle.life_base.specs.Inputs.{ReadAll}
@@ -15,17 +15,24 @@ use Rattle.life_canon.specs.Laws.{RefusalsHaveKinds}
 use Rattle.life_canon.specs.Running.{HasRead, ReadRefuses, LacksForRead}
 use Rattle.life_canon.specs.Running as reading
 use Rattle.life_canon.specs.Store.{IsRead, IsWant}
-use Rattle.life_canon.specs.Texts.{HasMoreCells}
+use Rattle.life_canon.specs.Texts.{HasMoreCells, IsRleOf, IsShown}
 use Rattle.life_canon.specs.declared.pattern.Pattern.{Pattern}
 use Rattle.life_table.specs.Grammar.{IsFile}
 use Rattle.life_table.specs.Reading.{Refuses as RefusesTable}
 use Rattle.life_table.specs.declared.table.Table.{Table}
 use Rattle.life_cli.specs.declared.plans.Job.{Job}
-use Rattle.life_cli.specs.declared.plans.Job.TheVariants.{StepTable}
+use Rattle.life_cli.specs.declared.plans.Job.TheVariants.{Canon, Convert, Same, Show, Step, StepTable}
+use Rattle.life_cli.specs.declared.plans.Target.TheVariants.{Rle, Mc}
 use Rattle.life_cli.specs.declared.telling.Refusal.{Refusal}
-use Rattle.life_cli.specs.Faults.{refusal_of}
-use Rattle.life_cli.specs.Plans.{HasSecond}
-use Rattle.life_cli.specs.Jobs.{InputRefuses, by_length, by_source, HasNoText, by_input, by_file, by_want, IsHeld, AreCompared, AreUncompared, by_first, by_second, by_first_shortage, by_second_shortage, IsWantFor, WantsToStep, RefusesRle, Compares, Writes, Worked, Breaks, HasText, FileRefuses, by_reading, by_writing, IsSteppedBy, RefusesStepBy, HasTable, HasNoTable, table_by_input, table_by_lines, table_by_memory, OfFile, JobRefuses}
+use Rattle.life_cli.specs.declared.working.Made.{Made}
+use Rattle.life_cli.specs.declared.working.Made.TheVariants.{Comparison}
+use Rattle.life_cli.specs.Plans.{HasSecond, WritesCanonical}
+use Rattle.life_cli.specs.Jobs.{InputRefuses, by_length, by_source, HasNoText, by_input, by_file, by_want, IsHeld, AreCompared, IsComparedAs, AreUncompared}
+use Rattle.life_cli.specs.Jobs.{by_first, by_second, by_first_shortage, by_second_shortage}
+use Rattle.life_cli.specs.Jobs.{IsWantFor, WantsToStep, RefusesRle, Compares, made_text, made_status, Makes, Writes, Worked, Breaks, HasText, FileRefuses}
+use Rattle.life_cli.specs.Jobs.{by_reading, by_writing, by_telling}
+use Rattle.life_cli.specs.Jobs.{IsStepped, RefusesStep, IsSteppedBy, RefusesStepBy, HasTable, HasNoTable, HasNoTextByTable, table_by_input, table_by_lines}
+use Rattle.life_cli.specs.Jobs.{table_by_memory, OfFile, JobRefuses}
 
 -- nothing comes of an input of which a store makes no pattern
 pub no_pattern : (refuses : List ℕ → Fault → Type 0) (source : SourceRun) (store : Nodes) (fault : Fault) → store.limit ≡ 2 ^ 31
@@ -90,13 +97,13 @@ no_second_input first second a store fault read limit (inr want) = by_second_sho
 
 -- what a comparison answers is its status and its line
 answers : (a b : List ℕ) (answer : Bool) → IsTrue answer ↔ AreSame MAX_LEVEL a b
-    → Compares a b (if answer then 0 else 1) (if answer then codes "same\n" else codes "different\n")
+    → Compares a b (made_status (Comparison answer)) (made_text (Comparison answer))
 answers a b true is = inl (refl, is.0 refl, refl)
 answers a b false is = inr (refl, (λ same. let bad : false ≡ true = is.1 same in absurd cc), refl)
 
 pub compared_files : (first second : SourceRun) (a b : List ℕ) (answer : Bool) → ReadAll (2 ^ 30) first.before first.after a
     → ReadAll (2 ^ 30) second.before second.after b → Accepted MAX_LEVEL a → Accepted MAX_LEVEL b → IsTrue answer ↔ AreSame MAX_LEVEL a b
-    → AreCompared first second (if answer then 0 else 1) (if answer then codes "same\n" else codes "different\n")
+    → IsComparedAs first second answer
 compared_files first second a b answer one two first_is second_is is = record {
   first_bytes = a;
   second_bytes = b;
@@ -141,54 +148,106 @@ pub read_as_table : (source : SourceRun) (bytes : List ℕ) (r : Result Table Fa
 read_as_table source bytes (Ok table) read is = record { bytes = bytes; read = read; is = is }
 read_as_table source bytes (Err fault) read is = tt
 
--- what a job of one file did, by its status
-pub worked_and_done : (job : Job) (first second : SourceRun) (output : SinkRun) (r : Result ℕ Refusal) → IfOk r (λ status. status ≡ 0)
-    → OnOk r ((second : SourceRun) → Worked job 0 first second output) → IfOk r (λ status. Worked job status first second output)
-worked_and_done job first second output (Ok status) zero worked =
-    let P : ℕ → Type 0 = λ n. Worked job n first second output in subst P (sym zero) (worked second)
-worked_and_done job first second output (Err refusal) zero worked = tt
+-- a text that was made of the first file, and of what was read of the second one
+pub made_of_file : (gives : List ℕ → List ℕ → Type 0) (job : Job) (first second : SourceRun) (others : List ℕ) (made : Made)
+    → HasText gives first (made_text made) → (HasSecond job → ReadAll (2 ^ 30) second.before second.after others)
+    → ((bytes : List ℕ) → gives bytes (made_text made) → Writes job bytes others (made_status made) (made_text made)) → Makes job first second made
+made_of_file gives job first second others made has read is = record {
+  first_bytes = has.bytes;
+  second_bytes = others;
+  first_read = has.read;
+  second_read = read;
+  writes = is has.bytes has.is;
+}
 
--- what a job did whose text was made of its first file
-pub worked_by_text : {X : Type 0} (gives : List ℕ → List ℕ → Type 0) (items : X → List ℕ) (job : Job) (first second : SourceRun) (output : SinkRun)
-    (others : List ℕ) (made : Result X Fault) (r : Result ℕ Refusal) → (HasSecond job → ReadAll (2 ^ 30) second.before second.after others)
-    → ((bytes text : List ℕ) → gives bytes text → Writes job bytes others 0 text) → IfOk made (λ x. HasText gives first (items x))
-    → IfErr made (λ fault. r ≡ Err (refusal_of fault)) → OnOk r (IfOk made (λ x. Appends output.before output.after (items x)))
-    → IfOk r (λ status. status ≡ 0) → IfOk r (λ status. Worked job status first second output)
-worked_by_text gives items job first second output others made (Err refusal) read is has un written zero = tt
-worked_by_text gives items job first second output others (Err fault) (Ok status) read is has un written zero = absurd cc
-worked_by_text gives items job first second output others (Ok x) (Ok status) read is has un written zero =
-    let P : ℕ → Type 0 = λ n. Worked job n first second output in
-    let worked : Worked job 0 first second output = record {
-      first_bytes = has.bytes;
-      second_bytes = others;
-      text = items x;
-      first_read = has.read;
-      second_read = read;
-      writes = is has.bytes (items x) has.is;
-      written = written;
+-- the answer of a comparison
+pub made_of_files : (first second : SourceRun) (answer : Bool) → IsComparedAs first second answer → Makes Same first second (Comparison answer)
+made_of_files first second answer are = record {
+  first_bytes = are.first_bytes;
+  second_bytes = are.second_bytes;
+  first_read = are.first_read;
+  second_read = λ _. are.second_read;
+  writes = are.writes;
+}
+
+-- a test that answers no
+pub not_so : (answer : Bool) (P : Type 0) → IsTrue answer ↔ P → answer ≡ false → ¬ P
+not_so true P is fails holds = absurd cc
+not_so false P is fails holds = let bad : false ≡ true = is.1 holds in absurd cc
+
+-- what was made is written: the job is done
+pub worked : (job : Job) (first second : SourceRun) (output : SinkRun) (made : Made) → Makes job first second made
+    → Appends output.before output.after (made_text made) → Worked job (made_status made) first second output
+worked job first second output made makes written = record {
+  first_bytes = makes.first_bytes;
+  second_bytes = makes.second_bytes;
+  text = made_text made;
+  first_read = makes.first_read;
+  second_read = makes.second_read;
+  writes = makes.writes;
+  written = written;
+}
+
+-- it could not be written
+broken_text : (gives : List ℕ → List ℕ → Type 0) (refuses : List ℕ → Fault → Type 0) (source : SourceRun) (output : SinkRun) (bytes text : List ℕ)
+    (fault : Fault) → ReadAll (2 ^ 30) source.before source.after bytes → gives bytes text → Breaks output text fault
+    → FileRefuses gives refuses source output fault
+broken_text gives refuses source output bytes text fault read is broken = by_writing text (record { bytes = bytes; read = read; is = is }) broken
+
+pub unwritten : (job : Job) (first second : SourceRun) (output : SinkRun) (made : Made) (refusal : Refusal) → ¬ WritesCanonical job
+    → Makes job first second made → OfFile (Breaks output (made_text made)) refusal → JobRefuses job first second output refusal
+unwritten Canon first second output made refusal other makes broken = absurd (other tt)
+unwritten (Convert Rle) first second output made refusal other makes broken =
+    (broken.0, broken_text (IsRleOf MAX_LEVEL (2 ^ 20)) RefusesRle first output _ _ refusal.fault makes.first_read makes.writes.1 broken.1)
+unwritten (Convert Mc) first second output made refusal other makes broken = absurd (other tt)
+unwritten Same first second output made refusal other makes broken =
+    let compared : AreCompared first second (made_status made) (made_text made) = record {
+      first_bytes = makes.first_bytes;
+      second_bytes = makes.second_bytes;
+      first_read = makes.first_read;
+      second_read = makes.second_read tt;
+      writes = makes.writes;
     } in
-    subst P (sym zero) worked
+    (broken.0, by_telling _ _ compared broken.1)
+unwritten Show first second output made refusal other makes broken =
+    (broken.0, broken_text (IsShown MAX_LEVEL) (Refuses MAX_LEVEL) first output _ _ refusal.fault makes.first_read makes.writes.1 broken.1)
+unwritten Step first second output made refusal other makes broken =
+    (broken.0, broken_text IsStepped RefusesStep first output _ _ refusal.fault makes.first_read makes.writes.1 broken.1)
+unwritten StepTable first second output made refusal other makes broken =
+    let table = makes.writes.1.0 in
+    let has : HasTable second table = record { bytes = makes.second_bytes; read = makes.second_read tt; is = makes.writes.1.1 } in
+    let broken_by = broken_text (IsSteppedBy table) (RefusesStepBy table) first output _ _ refusal.fault makes.first_read makes.writes.1.2 broken.1 in
+    inr (broken.0, (table, has, broken_by))
 
--- the same of a step by a table
-pub worked_by_table : {X : Type 0} (table : Table) (items : X → List ℕ) (first second : SourceRun) (output : SinkRun) (made : Result X Fault)
-    (r : Result ℕ Refusal) → HasTable second table → IfOk made (λ x. HasText (IsSteppedBy table) first (items x))
-    → IfErr made (λ fault. r ≡ Err (refusal_of fault)) → OnOk r (IfOk made (λ x. Appends output.before output.after (items x)))
-    → IfOk r (λ status. status ≡ 0) → IfOk r (λ status. Worked StepTable status first second output)
-worked_by_table table items first second output made r table_has has un written zero =
-    worked_by_text (IsSteppedBy table) items StepTable first second output table_has.bytes made r (λ _. table_has.read)
-    (λ bytes text is. (refl, (table, table_has.is, is))) has un written zero
+-- no text comes by a table, whatever the output
+pub no_text_by_table : (first second : SourceRun) (output : SinkRun) (refusal : Refusal) → HasNoTextByTable first second refusal
+    → JobRefuses StepTable first second output refusal
+no_text_by_table first second output refusal (inl no_table) = inl no_table
+no_text_by_table first second output refusal (inr no_text) =
+    inr (no_text.0, (no_text.1.0, no_text.1.1, by_reading no_text.1.2))
 
--- why such a job is refused
-pub refused_by_text : {X : Type 0} (gives : List ℕ → List ℕ → Type 0) (refuses : List ℕ → Fault → Type 0) (items : X → List ℕ) (source : SourceRun)
-    (output : SinkRun) (made : Result X Fault) (r : Result ℕ Refusal) → IfOk made (λ x. HasText gives source (items x))
-    → IfErr made (HasNoText refuses source) → IfErr made (λ fault. r ≡ Err (refusal_of fault))
-    → IfErr r (λ refusal. IfOk made (λ x. OfFile (Breaks output (items x)) refusal)) → IfErr r (OfFile (FileRefuses gives refuses source output))
-refused_by_text gives refuses items source output (Err fault) r has none un broken =
-    let P : Result ℕ Refusal → Type 0 = λ r. IfErr r (OfFile (FileRefuses gives refuses source output)) in subst P (sym un) (refl, by_reading none)
-refused_by_text gives refuses items source output (Ok x) (Ok status) has none un broken = tt
-refused_by_text gives refuses items source output (Ok x) (Err refusal) has none un broken = (broken.0, by_writing (items x) has broken.1)
+-- a job that writes the canonical text of its file
+canonical_as : (job : Job) (first second : SourceRun) (output : SinkRun) → WritesCanonical job → Worked Canon 0 first second output
+    → Worked job 0 first second output
+canonical_as Canon first second output is done = done
+canonical_as (Convert Rle) first second output is done = absurd is
+canonical_as (Convert Mc) first second output is done = record {
+  first_bytes = done.first_bytes;
+  second_bytes = done.second_bytes;
+  text = done.text;
+  first_read = done.first_read;
+  second_read = done.second_read;
+  writes = done.writes;
+  written = done.written;
+}
+canonical_as Same first second output is done = absurd is
+canonical_as Show first second output is done = absurd is
+canonical_as Step first second output is done = absurd is
+canonical_as StepTable first second output is done = absurd is
 
-pub refused_by_table : {X : Type 0} (table : Table) (first second : SourceRun) (output : SinkRun) (r : Result X Refusal) → HasTable second table
-    → IfErr r (OfFile (FileRefuses (IsSteppedBy table) (RefusesStepBy table) first output)) → IfErr r (JobRefuses StepTable first second output)
-refused_by_table table first second output (Ok x) has h = tt
-refused_by_table table first second output (Err refusal) has h = inr (h.0, (table, has, h.1))
+pub worked_canonical : (job : Job) (first second : SourceRun) (output : SinkRun) (r : Result ℕ Refusal) → WritesCanonical job
+    → IfOk r (λ status. status ≡ 0) → OnOk r ((second : SourceRun) → Worked Canon 0 first second output)
+    → IfOk r (λ status. Worked job status first second output)
+worked_canonical job first second output (Ok status) is zero done =
+    let P : ℕ → Type 0 = λ n. Worked job n first second output in subst P (sym zero) (canonical_as job first second output is (done second))
+worked_canonical job first second output (Err refusal) is zero done = tt

@@ -1,5 +1,5 @@
 -- What a job writes, by the bytes of its files, and why it is refused.
-use Rattle.std.specs.Prelude.{◌≡◌, ◌⊎◌, ◌^◌, ℕ, true, false, List, None, Some, Result, IfOk, IfErr, codes}
+use Rattle.std.specs.Prelude.{◌≡◌, ◌⊎◌, ◌^◌, ℕ, Bool, true, false, List, None, Some, Result, IfOk, IfErr, codes, if◌then◌else◌}
 use Rattle.std.specs.Io.KnownBytes.{Appends}
 use Rattle.life_base.specs.DeviceRuns.{SourceRun, SinkRun}
 use Rattle.life_base.specs.Inputs.{ReadAll, CameBeyond}
@@ -26,6 +26,8 @@ use Rattle.life_cli.specs.declared.plans.Job.{Job}
 use Rattle.life_cli.specs.declared.plans.Job.TheVariants.{Canon, Convert, Same, Show, Step, StepTable}
 use Rattle.life_cli.specs.declared.plans.Target.TheVariants.{Rle, Mc}
 use Rattle.life_cli.specs.declared.telling.Refusal.{Refusal}
+use Rattle.life_cli.specs.declared.working.Made.{Made}
+use Rattle.life_cli.specs.declared.working.Made.TheVariants.{Text, Comparison}
 
 -- the status and the line of two files that are compared
 abbrev pub Compares : List ℕ → List ℕ → ℕ → List ℕ → Type 0
@@ -61,6 +63,23 @@ pub record Worked (job : Job) (status : ℕ) (first second : SourceRun) (output 
   pub second_read : HasSecond job → ReadAll (2 ^ 30) second.before second.after second_bytes
   pub writes : Writes job first_bytes second_bytes status text
   pub written : Appends output.before output.after text
+
+-- what is written of what a job made, and its status
+abbrev pub made_text : Made → List ℕ
+made_text (Text text) = text.items
+made_text (Comparison is_same) = if is_same then codes "same\n" else codes "different\n"
+
+abbrev pub made_status : Made → ℕ
+made_status (Text text) = 0
+made_status (Comparison is_same) = if is_same then 0 else 1
+
+-- the files were read to their ends, and this is what the job makes of them
+pub record Makes (job : Job) (first second : SourceRun) (made : Made) : Type 0 where
+  pub first_bytes : List ℕ
+  pub second_bytes : List ℕ
+  pub first_read : ReadAll (2 ^ 30) first.before first.after first_bytes
+  pub second_read : HasSecond job → ReadAll (2 ^ 30) second.before second.after second_bytes
+  pub writes : Writes job first_bytes second_bytes (made_status made) (made_text made)
 
 -- why an input isn't read to its end: too much came, or the source failed
 pub data InputRefuses (source : SourceRun) (fault : Fault) : Type 0 where
@@ -113,6 +132,10 @@ pub record AreCompared (first second : SourceRun) (status : ℕ) (text : List �
   pub first_read : ReadAll (2 ^ 30) first.before first.after first_bytes
   pub second_read : ReadAll (2 ^ 30) second.before second.after second_bytes
   pub writes : Writes Same first_bytes second_bytes status text
+
+-- the same of the answer
+abbrev pub IsComparedAs : (first second : SourceRun) → Bool → Type 0
+IsComparedAs first second is_same = AreCompared first second (made_status (Comparison is_same)) (made_text (Comparison is_same))
 
 -- Why two files aren't compared: the first isn't read; all of it was read, and the second isn't; all of both was read, and the first is no
 -- file, or it is one and the second isn't; or room or memory is wanted for the first, or, once all of it was read, for the second.
@@ -182,6 +205,15 @@ OfTable refuses refusal = (refusal.in_table ≡ true) × refuses refusal.fault
 -- no table was being read, and the fault comes for this reason
 abbrev pub OfFile : (Fault → Type 0) → Refusal → Type 0
 OfFile refuses refusal = (refusal.in_table ≡ false) × refuses refusal.fault
+
+-- the second file is a rule table, and the first was stepped to this text by it
+abbrev pub HasTextByTable : (first second : SourceRun) → List ℕ → Type 0
+HasTextByTable first second text = (table : Table) × HasTable second table × HasText (IsSteppedBy table) first text
+
+-- why there is no such text: the table's file gives none, and the first one is unread; or nothing comes of the first one by it
+abbrev pub HasNoTextByTable : (first second : SourceRun) → Refusal → Type 0
+HasNoTextByTable first second refusal = (OfTable (HasNoTable second) refusal × IsUnread first)
+    ⊎ OfFile (λ fault. (table : Table) × HasTable second table × HasNoText (RefusesStepBy table) first fault) refusal
 
 -- why a job is refused with this fault, and what it left of its files and the output
 abbrev pub JobRefuses : Job → (first second : SourceRun) → SinkRun → Refusal → Type 0

@@ -34,6 +34,25 @@ HasSecond Show = ⊥
 HasSecond Step = ⊥
 HasSecond StepTable = Unit {0}
 
+-- the job writes the canonical text of its file
+abbrev pub WritesCanonical : Job → Type 0
+WritesCanonical Canon = Unit {0}
+WritesCanonical (Convert Rle) = ⊥
+WritesCanonical (Convert Mc) = Unit {0}
+WritesCanonical Same = ⊥
+WritesCanonical Show = ⊥
+WritesCanonical Step = ⊥
+WritesCanonical StepTable = ⊥
+
+-- the command of the job takes a file and nothing more
+abbrev pub TakesFileAlone : Job → Type 0
+TakesFileAlone Canon = Unit {0}
+TakesFileAlone (Convert target) = ⊥
+TakesFileAlone Same = ⊥
+TakesFileAlone Show = Unit {0}
+TakesFileAlone Step = ⊥
+TakesFileAlone StepTable = ⊥
+
 -- the only file is FILE
 abbrev pub HoldsFile : List Row → Plan → Type 0
 HoldsFile rows p = (first_of (codes "FILE") rows ≡ Some (string_bytes p.first)) × (p.second ≡ None)

@@ -1,15 +1,14 @@
 //! The work of the jobs that step a pattern.
 
-ghost use Rattle.std.specs.Prelude.{◌≡◌, ◌≢◌, ◌⊎◌, ◌<◌, ◌^◌, IfOk, IfErr, IsErrAnd, OnOk, true, false};
-ghost use Rattle.life_base.specs.DeviceRuns.{source_run, sink_run};
+ghost use Rattle.std.specs.Prelude.{◌≡◌, ◌⊎◌, ◌^◌, IfOk, IfErr, IsErrAnd};
+ghost use Rattle.life_base.specs.DeviceRuns.{source_run};
 ghost use Rattle.life_base.specs.Inputs.{ReadAll};
 ghost use Rattle.life_base.specs.Refusal.{fault_of};
-ghost use Rattle.life_cli.specs.Jobs.{Worked, InputRefuses, JobRefuses, OfTable, HasText, HasNoText, IsStepped, IsSteppedBy, RefusesStep, RefusesStepBy, HasTable, HasNoTable};
+ghost use Rattle.life_cli.specs.Jobs.{InputRefuses, OfTable, HasText, HasNoText, IsStepped, IsSteppedBy, RefusesStep, RefusesStepBy, HasTable, HasNoTable, HasTextByTable, HasNoTextByTable};
 
-use crate::plans::Job;
 use crate::telling::Refusal;
-use crate::working::{MOST_SQUARES, write_made};
-use life_base::{Fault, Kind, Sink, Source, read_within};
+use crate::working::MOST_SQUARES;
+use life_base::{Fault, Kind, Source, read_within};
 use life_canon::read_from;
 use life_quad::Shared;
 use life_step::{next_by_rule, next_by_table};
@@ -80,27 +79,18 @@ fn table_of<B: Source>(alloc: Global, source: &mut B) -> Result<Table, Refusal>
     }
 }
 
-/// Reads the table of the second file, then writes the next generation of the first one by it.
-pub(crate) fn run_step_table<A: Source, B: Source, O: Sink>(
+/// The text of the next generation of the first source's pattern, by the rule table of the second one, which is read before.
+pub(crate) fn next_by_table_of<A: Source, B: Source>(
     alloc: Global,
     first: &mut A,
     second: &mut B,
-    out: &mut O,
-) -> Result<u8, Refusal>
+) -> Result<Vec<u8>, Refusal>
     requires first_reads { A.failures first.old ≡ 0 }
     requires second_reads { B.failures second.old ≡ 0 }
-    requires writes { O.failures out.old ≡ 0 }
-    requires takes { O.stalled out.old ≡ false }
-    ensures done { IfOk result (λ status. status < 2) }
-    ensures worked { IfOk result (λ status. Worked Job.StepTable status (source_run A.remaining A.failures first.old first.new)
-        (source_run B.remaining B.failures second.old second.new) (sink_run O.contents O.failures O.stalled out.old out.new)) }
-    ensures flushed { OnOk result (O.flushed out.new ≡ true) }
-    ensures refused { IfErr result (JobRefuses Job.StepTable (source_run A.remaining A.failures first.old first.new)
-        (source_run B.remaining B.failures second.old second.new) (sink_run O.contents O.failures O.stalled out.old out.new)) }
-    ensures unwritten { IfErr result (λ refusal. refusal.fault.kind ≢ Kind.WriteFault → out.new ≡ out.old) }
-    ensures read_told { (A.failures first.new ≡ 1) ⊎ (B.failures second.new ≡ 1) → IsErrAnd result (λ refusal. refusal.fault.kind ≡ Kind.ReadFault) }
-    ensures write_told { (O.failures out.new ≡ 1) ⊎ (O.stalled out.new ≡ true) → IsErrAnd result (λ refusal. refusal.fault.kind ≡ Kind.WriteFault) }
+    ensures ok { IfOk result (λ text. HasTextByTable (source_run A.remaining A.failures first.old first.new) (source_run B.remaining B.failures second.old second.new) text.items) }
+    ensures err { IfErr result (HasNoTextByTable (source_run A.remaining A.failures first.old first.new) (source_run B.remaining B.failures second.old second.new)) }
+    ensures told { (A.failures first.new ≡ 1) ⊎ (B.failures second.new ≡ 1) → IsErrAnd result (λ refusal. refusal.fault.kind ≡ Kind.ReadFault) }
 {
     let table = table_of(alloc, second)?;
-    write_made(out, next_by(alloc, first, &table))
+    Ok(next_by(alloc, first, &table)?)
 }

@@ -1,18 +1,18 @@
 //! The work of a job.
 
-ghost use Rattle.std.specs.Prelude.{◌≡◌, ◌≢◌, ◌⊎◌, ◌<◌, ◌↔◌, ◌^◌, IsSome, IfSome, Err, IfOk, IfErr, OnOk, IsErrAnd, IsTrue, true, false, if◌then◌else◌, codes};
+ghost use Rattle.std.specs.Prelude.{◌≡◌, ◌≢◌, ◌⊎◌, ◌<◌, ◌↔◌, ◌^◌, IsSome, IfSome, IfOk, IfErr, OnOk, IsErrAnd, IsTrue, true, false};
 ghost use Rattle.std.specs.Io.KnownBytes.{Appends};
-ghost use Rattle.life_base.specs.DeviceRuns.{SourceRun, source_run, optional_source_run, sink_run};
+ghost use Rattle.life_base.specs.DeviceRuns.{SinkRun, SourceRun, source_run, optional_source_run, sink_run};
 ghost use Rattle.life_cli.specs.declared.telling.Refusal.{Refusal};
 ghost use Rattle.life_canon.specs.Files.{Refuses};
 ghost use Rattle.life_canon.specs.Store.{Keeps};
 ghost use Rattle.life_canon.specs.Texts.{IsRleOf, IsShown};
-ghost use Rattle.life_cli.specs.Faults.{fault_line, refusal_of, status_of, Tells};
-ghost use Rattle.life_cli.specs.Jobs.{Worked, OfFile, InputRefuses, Breaks, HasText, HasNoText, AreCompared, AreUncompared, CanonRefuses, IsHeld, IsWantFor, JobRefuses, RefusesRle};
-ghost use Rattle.life_cli.specs.Plans.{HasSecond};
+ghost use Rattle.life_cli.specs.Faults.{fault_line, status_of, Tells};
+ghost use Rattle.life_cli.specs.Jobs.{made_status, made_text, Makes, Worked, OfFile, InputRefuses, Breaks, HasText, HasNoText, IsComparedAs, AreUncompared, CanonRefuses, IsHeld, IsWantFor, JobRefuses, RefusesRle};
+ghost use Rattle.life_cli.specs.Plans.{HasSecond, WritesCanonical};
 
 use crate::plans::{Job, Target};
-use crate::stepping::{next_of, run_step_table};
+use crate::stepping::{next_by_table_of, next_of};
 use crate::telling::{Refusal, status, tell};
 use life_base::{Fault, Kind, MAX_LEVEL, Sink, Source, deliver};
 use life_canon::laws::{patterns_stay, patterns_tell_files, refusals_have_kinds};
@@ -23,8 +23,40 @@ use std::alloc::Global;
 /// How many different squares a store of the program holds at most.
 pub(crate) const MOST_SQUARES: u64 = 1 << 31;
 
+/// What a job made of its files, before any of it is written.
+#[derive(Drop)]
+pub enum Made {
+    /// A text.
+    Text(Vec<u8>),
+    /// Whether the two files are the same pattern.
+    Comparison(bool),
+}
+
+impl Made {
+    /// What is written.
+    fn text(&self) -> &[u8]
+        ensures { result.now ≡ made_text self.now }
+    {
+        match self {
+            Made::Text(text) => text.as_slice(),
+            Made::Comparison(true) => b"same\n",
+            Made::Comparison(false) => b"different\n",
+        }
+    }
+
+    /// The status of the job.
+    fn status(&self) -> u8
+        ensures { result ≡ made_status self.now }
+    {
+        match self {
+            Made::Text(_) | Made::Comparison(true) => 0,
+            Made::Comparison(false) => 1,
+        }
+    }
+}
+
 /// Writes the whole text and flushes.
-pub(crate) fn write_whole<W: Sink>(writer: &mut W, text: &[u8]) -> Result<(), Refusal>
+fn write_whole<W: Sink>(writer: &mut W, text: &[u8]) -> Result<(), Refusal>
     requires works { W.failures writer.old ≡ 0 }
     requires takes { W.stalled writer.old ≡ false }
     ensures ok { OnOk result (Appends (W.contents writer.old) (W.contents writer.new) text.now) }
@@ -36,27 +68,6 @@ pub(crate) fn write_whole<W: Sink>(writer: &mut W, text: &[u8]) -> Result<(), Re
         Ok(()) => Ok(()),
         Err(kind) => Err(Fault::of(kind).into()),
     }
-}
-
-/// Writes the text that was made for a job, where there is one, and answers the status of a job that is done.
-pub(crate) fn write_made<W: Sink>(
-    writer: &mut W,
-    made: Result<Vec<u8>, Fault>,
-) -> Result<u8, Refusal>
-    requires works { W.failures writer.old ≡ 0 }
-    requires takes { W.stalled writer.old ≡ false }
-    ensures done { IfOk result (λ status. status ≡ 0) }
-    ensures written { OnOk result (IfOk made (λ text. Appends (W.contents writer.old) (W.contents writer.new) text.items)) }
-    ensures flushed { OnOk result (W.flushed writer.new ≡ true) }
-    ensures unmade { IfErr made (λ fault. result ≡ Err (refusal_of fault)) }
-    ensures broken { IfErr result (λ refusal. IfOk made (λ text. OfFile (Breaks (sink_run W.contents W.failures W.stalled writer.old writer.new) text.items) refusal)) }
-    ensures unwritten { IfErr result (λ refusal. refusal.fault.kind ≢ Kind.WriteFault → writer.new ≡ writer.old) }
-    ensures read_told { IsErrAnd made (λ fault. fault.kind ≡ Kind.ReadFault) → IsErrAnd result (λ refusal. refusal.fault.kind ≡ Kind.ReadFault) }
-    ensures write_told { (W.failures writer.new ≡ 1) ⊎ (W.stalled writer.new ≡ true) → IsErrAnd result (λ refusal. refusal.fault.kind ≡ Kind.WriteFault) }
-{
-    let text = made?;
-    write_whole(writer, text.as_slice())?;
-    Ok(0)
 }
 
 /// The text in extended RLE of a source's pattern.
@@ -121,8 +132,7 @@ fn compared<A: Source, B: Source>(
 ) -> Result<bool, Fault>
     requires first { A.failures first.old ≡ 0 }
     requires second { B.failures second.old ≡ 0 }
-    ensures ok { IfOk result (λ is_same. AreCompared (source_run A.remaining A.failures first.old first.new)
-        (source_run B.remaining B.failures second.old second.new) (if is_same then 0 else 1) (if is_same then codes "same\n" else codes "different\n")) }
+    ensures ok { IfOk result (IsComparedAs (source_run A.remaining A.failures first.old first.new) (source_run B.remaining B.failures second.old second.new)) }
     ensures err { IfErr result (AreUncompared (source_run A.remaining A.failures first.old first.new) (source_run B.remaining B.failures second.old second.new)) }
     ensures told { (A.failures first.new ≡ 1) ⊎ (B.failures second.new ≡ 1) → IsErrAnd result (λ fault. fault.kind ≡ Kind.ReadFault) }
 {
@@ -132,6 +142,41 @@ fn compared<A: Source, B: Source>(
     let a = held(alloc, &mut store, first)?;
     let b = held(alloc, &mut store, second)?;
     Ok(are_same(&a?, &b?))
+}
+
+/// What is written for a job, of those that don't write the canonical text of a file.
+fn make<A: Source, B: Source>(
+    alloc: Global,
+    job: &Job,
+    first: &mut A,
+    second: &mut Option<B>,
+) -> Result<Made, Refusal>
+    requires first_reads { A.failures first.old ≡ 0 }
+    requires second_reads { IfSome second.old (λ b. B.failures b ≡ 0) }
+    requires second_given { IsSome second.old ↔ HasSecond job.now }
+    requires other { ¬ WritesCanonical job.now }
+    ensures ok { IfOk result (Makes job.now (source_run A.remaining A.failures first.old first.new) (optional_source_run B.remaining B.failures second.old second.new)) }
+    ensures err { IfErr result (λ refusal. (output : SinkRun) → JobRefuses job.now (source_run A.remaining A.failures first.old first.new)
+        (optional_source_run B.remaining B.failures second.old second.new) output refusal) }
+    ensures first_told { A.failures first.new ≡ 1 → IsErrAnd result (λ refusal. refusal.fault.kind ≡ Kind.ReadFault) }
+    ensures second_told { IfSome second.new (λ b. B.failures b ≡ 1 → IsErrAnd result (λ refusal. refusal.fault.kind ≡ Kind.ReadFault)) }
+{
+    Ok(match (job, second) {
+        (Job::Convert(Target::Rle), _) => Made::Text(rle_of_source(alloc, first)?),
+        (Job::Same, Some(second)) => Made::Comparison(compared(alloc, first, second)?),
+        (Job::Show, _) => Made::Text(five_lines_of_source(alloc, first)?),
+        (Job::Step, _) => Made::Text(next_of(alloc, first)?),
+        (Job::StepTable, Some(second)) => Made::Text(next_by_table_of(alloc, first, second)?),
+        (Job::Same, None) | (Job::StepTable, None) => unreachable!(),
+        (Job::Canon, _) | (Job::Convert(Target::Mc), _) => unreachable!(),
+    })
+}
+
+/// Whether the job writes the canonical text of its file.
+fn writes_canonical(job: &Job) -> bool
+    ensures { IsTrue result ↔ WritesCanonical job.now }
+{
+    matches!(job, Job::Canon | Job::Convert(Target::Mc))
 }
 
 /// Writes the canonical text of the first file.
@@ -146,8 +191,6 @@ fn run_canonical<A: Source, O: Sink>(
     ensures done { IfOk result (λ status. status ≡ 0) }
     ensures canon { OnOk result ((second : SourceRun) → Worked Job.Canon 0 (source_run A.remaining A.failures first.old first.new) second
         (sink_run O.contents O.failures O.stalled out.old out.new)) }
-    ensures convert { OnOk result ((second : SourceRun) → Worked (Job.Convert Target.Mc) 0 (source_run A.remaining A.failures first.old first.new) second
-        (sink_run O.contents O.failures O.stalled out.old out.new)) }
     ensures flushed { OnOk result (O.flushed out.new ≡ true) }
     ensures refused { IfErr result (OfFile (CanonRefuses (source_run A.remaining A.failures first.old first.new)
         (sink_run O.contents O.failures O.stalled out.old out.new))) }
@@ -158,39 +201,6 @@ fn run_canonical<A: Source, O: Sink>(
     let mut store = Shared::new(alloc, MOST_SQUARES);
     run_canon(alloc, &mut store, first, out)?;
     Ok(0)
-}
-
-/// The line of a comparison.
-fn answer_line(is_same: bool) -> &'static [u8]
-    ensures { result.now ≡ (if is_same then codes "same\n" else codes "different\n") }
-{
-    if is_same { b"same\n" } else { b"different\n" }
-}
-
-/// Writes whether the two files are the same pattern.
-fn run_same<A: Source, B: Source, O: Sink>(
-    alloc: Global,
-    first: &mut A,
-    second: &mut B,
-    out: &mut O,
-) -> Result<u8, Refusal>
-    requires first_reads { A.failures first.old ≡ 0 }
-    requires second_reads { B.failures second.old ≡ 0 }
-    requires writes { O.failures out.old ≡ 0 }
-    requires takes { O.stalled out.old ≡ false }
-    ensures done { IfOk result (λ status. status < 2) }
-    ensures worked { IfOk result (λ status. Worked Job.Same status (source_run A.remaining A.failures first.old first.new)
-        (source_run B.remaining B.failures second.old second.new) (sink_run O.contents O.failures O.stalled out.old out.new)) }
-    ensures flushed { OnOk result (O.flushed out.new ≡ true) }
-    ensures refused { IfErr result (JobRefuses Job.Same (source_run A.remaining A.failures first.old first.new)
-        (source_run B.remaining B.failures second.old second.new) (sink_run O.contents O.failures O.stalled out.old out.new)) }
-    ensures unwritten { IfErr result (λ refusal. refusal.fault.kind ≢ Kind.WriteFault → out.new ≡ out.old) }
-    ensures read_told { (A.failures first.new ≡ 1) ⊎ (B.failures second.new ≡ 1) → IsErrAnd result (λ refusal. refusal.fault.kind ≡ Kind.ReadFault) }
-    ensures write_told { (O.failures out.new ≡ 1) ⊎ (O.stalled out.new ≡ true) → IsErrAnd result (λ refusal. refusal.fault.kind ≡ Kind.WriteFault) }
-{
-    let is_same = compared(alloc, first, second)?;
-    write_whole(out, answer_line(is_same))?;
-    Ok(if is_same { 0 } else { 1 })
 }
 
 /// Does the job, and answers the status of one that is done.
@@ -217,17 +227,12 @@ fn run<A: Source, B: Source, O: Sink>(
     ensures second_told { IfSome second.new (λ b. B.failures b ≡ 1 → IsErrAnd result (λ refusal. refusal.fault.kind ≡ Kind.ReadFault)) }
     ensures write_told { (O.failures out.new ≡ 1) ⊎ (O.stalled out.new ≡ true) → IsErrAnd result (λ refusal. refusal.fault.kind ≡ Kind.WriteFault) }
 {
-    match (job, second) {
-        (Job::Canon, _) => run_canonical(alloc, first, out),
-        (Job::Convert(Target::Rle), _) => write_made(out, rle_of_source(alloc, first)),
-        (Job::Convert(Target::Mc), _) => run_canonical(alloc, first, out),
-        (Job::Same, Some(second)) => run_same(alloc, first, second, out),
-        (Job::Same, None) => unreachable!(),
-        (Job::Show, _) => write_made(out, five_lines_of_source(alloc, first)),
-        (Job::Step, _) => write_made(out, next_of(alloc, first)),
-        (Job::StepTable, Some(second)) => run_step_table(alloc, first, second, out),
-        (Job::StepTable, None) => unreachable!(),
+    if writes_canonical(job) {
+        return run_canonical(alloc, first, out);
     }
+    let made = make(alloc, job, first, second)?;
+    write_whole(out, made.text())?;
+    Ok(made.status())
 }
 
 /// Does the job, and answers the status that the program ends with. `second` is the second file of a job that has one.

@@ -8,6 +8,20 @@ pub struct Help {
     pub notes: &'static str,
 }
 
+/// The notes of a command over one file: its own, which end within the list of its statuses, and the end that these commands share.
+macro_rules! notes_over_one_file {
+    ($own:literal) => {
+        concat!(
+            $own,
+            "  3  the file can't be opened or read, or the output can't be written
+  4  there isn't enough memory, or room in the store of squares
+  5  the command line isn't understood
+
+See `golly_canon --help` for the lines on standard error."
+        )
+    };
+}
+
 pub const PROGRAM: Help = Help {
     summary: "Gives each cellular-automaton pattern one canonical text, and compares, shows, converts and steps pattern files",
     about: "Gives each pattern of a cellular automaton one canonical text, and compares, shows,
@@ -98,7 +112,8 @@ It is a macrocell file: the line `[M2] (canonical 1)`, the rule in its canonical
 spelling, the generation if it isn't 0, and each different square that isn't
 blank once, each behind its quarters. The last one is the least square about the
 middle of the plane that holds the pattern. Every cell keeps its state.",
-    notes: "Examples:
+    notes: notes_over_one_file!(
+        "Examples:
   golly_canon canon glider.rle
   golly_canon canon - < glider.mc > canonical.mc
   golly_canon canon glider.rle | sha256sum
@@ -107,11 +122,8 @@ middle of the plane that holds the pattern. Every cell keeps its state.",
 Exit status:
   0  the text was written
   2  the file was refused
-  3  the file can't be opened or read, or the output can't be written
-  4  there isn't enough memory, or room in the store of squares
-  5  the command line isn't understood
-
-See `golly_canon --help` for the lines on standard error.",
+"
+    ),
 };
 
 pub const CONVERT: Help = Help {
@@ -122,18 +134,16 @@ rle  extended RLE: where the pattern lies, its rule, its generation if it isn't 
      and its cells, row by row. A pattern with more than 2^20 cells that aren't 0
      is refused (TooManyCells).
 mc   macrocell: the canonical text, as `golly_canon canon` writes it.",
-    notes: "Examples:
+    notes: notes_over_one_file!(
+        "Examples:
   golly_canon convert glider.mc --to rle
   golly_canon convert - --to mc < glider.rle > glider.mc
 
 Exit status:
   0  the text was written
   2  the file was refused, or has too many cells for RLE
-  3  the file can't be opened or read, or the output can't be written
-  4  there isn't enough memory, or room in the store of squares
-  5  the command line isn't understood
-
-See `golly_canon --help` for the lines on standard error.",
+"
+    ),
 };
 
 pub const SAME: Help = Help {
@@ -172,7 +182,8 @@ population P                how many cells aren't 0
 box LEFT TOP WIDTH HEIGHT   the least box of these cells, or `box none`; y grows
                             downwards
 nodes N                     how many squares the canonical text has, a line each",
-    notes: "Examples:
+    notes: notes_over_one_file!(
+        "Examples:
   golly_canon show glider.rle
   golly_canon show - < glider.mc
   golly_canon show glider.rle | grep population
@@ -180,11 +191,8 @@ nodes N                     how many squares the canonical text has, a line each
 Exit status:
   0  the lines were written
   2  the file was refused
-  3  the file can't be opened or read, or the output can't be written
-  4  there isn't enough memory, or room in the store of squares
-  5  the command line isn't understood
-
-See `golly_canon --help` for the lines on standard error.",
+"
+    ),
 };
 
 pub const STEP: Help = Help {

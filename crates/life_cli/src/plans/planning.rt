@@ -1,9 +1,9 @@
 //! The plan that the words ask for.
 
-ghost use Rattle.std.specs.Prelude.{◌≡◌, ◌≢◌, ◌↔◌, ⊤, [], IfOk, IfErr, OnOk, Some, None, IsSome, MatchOption, map, option_map, string_bytes, codes};
+ghost use Rattle.std.specs.Prelude.{◌≡◌, ◌≢◌, ◌⊎◌, ◌↔◌, ⊤, [], IfOk, IfErr, OnOk, Some, None, IsSome, MatchOption, map, option_map, string_bytes, codes};
 ghost use Rattle.clap.specs.Words.{fault_of, found_of, first_of, rows_of, subcommand_of, subcommand_rows_of};
 ghost use Rattle.life_cli.specs.CommandLine.{program};
-ghost use Rattle.life_cli.specs.Plans.{IsPlanOf, HasSecond, NamesInputTwice, Explains, ExplainsWhere, input_count, is_input, target_word};
+ghost use Rattle.life_cli.specs.Plans.{IsPlanOf, HasSecond, HoldsFile, HoldsFiles, NamesInputTwice, Explains, ExplainsWhere, TakesFileAlone, command_of, input_count, is_input, target_word};
 ghost use Rattle.life_cli.specs.declared.plans.Target.{Target as TargetValue};
 
 use super::commands::parse;
@@ -80,17 +80,47 @@ fn target(alloc: Global, found: &ArgMatches<'_>) -> Result<Target, Usage>
     }
 }
 
-fn canon(alloc: Global, found: &ArgMatches<'_>) -> Result<Plan, Usage>
-    requires { ¬ NamesInputTwice (Some (codes "canon", rows_of (found_of found.now))) }
-    ensures ok { IfOk result (IsPlanOf (Some (codes "canon", rows_of (found_of found.now)))) }
-    ensures err { IfErr result (Explains [] (Some (codes "canon", rows_of (found_of found.now)))) }
+/// The plan of a job over one file.
+fn over_file(alloc: Global, found: &ArgMatches<'_>, job: Job) -> Result<Plan, Usage>
+    ensures ok { IfOk result (λ p. (p.job ≡ job) × HoldsFile (rows_of (found_of found.now)) p) }
+    ensures err { IfErr result (ExplainsWhere (first_of (codes "FILE") (rows_of (found_of found.now)) ≡ None)) }
 {
     let first = required(alloc, found, "FILE")?;
     Ok(Plan {
-        job: Job::Canon,
+        job,
         first,
         second: None,
     })
+}
+
+/// The plan of a job over the files of these names.
+fn over_files(
+    alloc: Global,
+    found: &ArgMatches<'_>,
+    job: Job,
+    first: &str,
+    second: &str,
+) -> Result<Plan, Usage>
+    ensures ok { IfOk result (λ p. (p.job ≡ job) × HoldsFiles first.now second.now (rows_of (found_of found.now)) p) }
+    ensures err { IfErr result (ExplainsWhere ((first_of first.now (rows_of (found_of found.now)) ≡ None) ⊎ (first_of second.now (rows_of (found_of found.now)) ≡ None))) }
+{
+    let first = required(alloc, found, first)?;
+    let second = required(alloc, found, second)?;
+    Ok(Plan {
+        job,
+        first,
+        second: Some(second),
+    })
+}
+
+/// The plan of a command that takes a file and nothing more.
+fn plain(alloc: Global, found: &ArgMatches<'_>, job: Job) -> Result<Plan, Usage>
+    requires plain { TakesFileAlone job }
+    requires once { ¬ NamesInputTwice (Some (command_of job, rows_of (found_of found.now))) }
+    ensures ok { IfOk result (IsPlanOf (Some (command_of job, rows_of (found_of found.now)))) }
+    ensures err { IfErr result (Explains [] (Some (command_of job, rows_of (found_of found.now)))) }
+{
+    over_file(alloc, found, job)
 }
 
 fn convert(alloc: Global, found: &ArgMatches<'_>) -> Result<Plan, Usage>
@@ -99,12 +129,7 @@ fn convert(alloc: Global, found: &ArgMatches<'_>) -> Result<Plan, Usage>
     ensures err { IfErr result (Explains [] (Some (codes "convert", rows_of (found_of found.now)))) }
 {
     let target = target(alloc, found)?;
-    let first = required(alloc, found, "FILE")?;
-    Ok(Plan {
-        job: Job::Convert(target),
-        first,
-        second: None,
-    })
+    over_file(alloc, found, Job::Convert(target))
 }
 
 fn same(alloc: Global, found: &ArgMatches<'_>) -> Result<Plan, Usage>
@@ -112,26 +137,7 @@ fn same(alloc: Global, found: &ArgMatches<'_>) -> Result<Plan, Usage>
     ensures ok { IfOk result (IsPlanOf (Some (codes "same", rows_of (found_of found.now)))) }
     ensures err { IfErr result (Explains [] (Some (codes "same", rows_of (found_of found.now)))) }
 {
-    let first = required(alloc, found, "A")?;
-    let second = required(alloc, found, "B")?;
-    Ok(Plan {
-        job: Job::Same,
-        first,
-        second: Some(second),
-    })
-}
-
-fn show(alloc: Global, found: &ArgMatches<'_>) -> Result<Plan, Usage>
-    requires { ¬ NamesInputTwice (Some (codes "show", rows_of (found_of found.now))) }
-    ensures ok { IfOk result (IsPlanOf (Some (codes "show", rows_of (found_of found.now)))) }
-    ensures err { IfErr result (Explains [] (Some (codes "show", rows_of (found_of found.now)))) }
-{
-    let first = required(alloc, found, "FILE")?;
-    Ok(Plan {
-        job: Job::Show,
-        first,
-        second: None,
-    })
+    over_files(alloc, found, Job::Same, "A", "B")
 }
 
 fn step(alloc: Global, found: &ArgMatches<'_>) -> Result<Plan, Usage>
@@ -139,21 +145,9 @@ fn step(alloc: Global, found: &ArgMatches<'_>) -> Result<Plan, Usage>
     ensures ok { IfOk result (IsPlanOf (Some (codes "step", rows_of (found_of found.now)))) }
     ensures err { IfErr result (Explains [] (Some (codes "step", rows_of (found_of found.now)))) }
 {
-    let first = required(alloc, found, "FILE")?;
     match value(found, "table") {
-        Some(table) => {
-            let table = copied(alloc, table)?;
-            Ok(Plan {
-                job: Job::StepTable,
-                first,
-                second: Some(table),
-            })
-        }
-        None => Ok(Plan {
-            job: Job::Step,
-            first,
-            second: None,
-        }),
+        Some(_) => over_files(alloc, found, Job::StepTable, "FILE", "table"),
+        None => over_file(alloc, found, Job::Step),
     }
 }
 
@@ -193,7 +187,7 @@ fn from_command(alloc: Global, matches: &ArgMatches<'_>) -> Result<Plan, Usage>
     ensures refused { IfErr result (Explains [] (subcommand_rows_of matches.now)) }
 {
     if let Some(found) = matches.subcommand_matches("canon") {
-        return canon(alloc, found);
+        return plain(alloc, found, Job::Canon);
     }
     if let Some(found) = matches.subcommand_matches("convert") {
         return convert(alloc, found);
@@ -202,7 +196,7 @@ fn from_command(alloc: Global, matches: &ArgMatches<'_>) -> Result<Plan, Usage>
         return same(alloc, found);
     }
     if let Some(found) = matches.subcommand_matches("show") {
-        return show(alloc, found);
+        return plain(alloc, found, Job::Show);
     }
     if let Some(found) = matches.subcommand_matches("step") {
         return step(alloc, found);

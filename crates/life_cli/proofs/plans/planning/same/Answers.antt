@@ -1,17 +1,17 @@
-use Rattle.std.proofs.Common.{Some, codes}
-use Rattle.std.proofs.lemmas.Result.{err_from_is_err_and}
-use Rattle.clap.specs.Words.{found_of, rows_of}
-use Rattle.life_cli.proofs.MatchesLemmas.{no_first, no_second}
+use Rattle.std.proofs.Common.{◌≡◌, ◌⊎◌, None, Some, codes}
+use Rattle.clap.specs.Words.{first_of, found_of, rows_of}
+use Rattle.life_cli.specs.Plans.{HoldsFiles}
+use Rattle.life_cli.specs.declared.plans.Job.TheVariants.{Same}
+use Rattle.life_cli.proofs.MatchesLemmas.{explained, no_files, plan_of}
 use Rattle.life_cli.proofs.plans.planning.same.Goals as goal
 
-pub returns-in_err-first-clause-err : goal.returns-in_err-first-clause-err
-returns-in_err-first-clause-err c =
-    let p = err_from_is_err_and c.from_residual.result c.from_residual.ensures.1 in
-    let answer = c.in_err-first.ensures.err (Some (codes "same", rows_of (found_of c.args.found.now))) (λ none. no_first (rows_of (found_of c.args.found.now)) none) c.requires in
-    rw (p.1, p.2) answer
+pub returns-clause-ok : goal.returns-clause-ok
+returns-clause-ok c =
+    let rows = rows_of (found_of c.args.found.now) in
+    plan_of (HoldsFiles (codes "A") (codes "B") rows) Same rows c.over_files.result (λ p files. files) c.over_files.ensures.ok
 
-pub returns-in_err-second-clause-err : goal.returns-in_err-second-clause-err
-returns-in_err-second-clause-err c =
-    let p = err_from_is_err_and c.from_residual-in_err-second.result c.from_residual-in_err-second.ensures.1 in
-    let answer = c.in_err-second.ensures.err (Some (codes "same", rows_of (found_of c.args.found.now))) (λ none. no_second (rows_of (found_of c.args.found.now)) none) c.requires in
-    rw (p.1, p.2) answer
+pub returns-clause-err : goal.returns-clause-err
+returns-clause-err c =
+    let rows = rows_of (found_of c.args.found.now) in
+    explained ((first_of (codes "A") rows ≡ None) ⊎ (first_of (codes "B") rows ≡ None)) (Some (codes "same", rows)) c.over_files.result
+    (λ none. no_files rows none) c.requires c.over_files.ensures.err

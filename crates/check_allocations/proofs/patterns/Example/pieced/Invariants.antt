@@ -1,5 +1,5 @@
 use Rattle.life_canon.specs.Feeding.{Stands}
-use Rattle.check_allocations.proofs.patterns.pieced.Given as goal
+use Rattle.check_allocations.proofs.patterns.Example.pieced.Given as goal
 
 -- the store that was lent has the squares of the reader
 abbrev pub invariant-loop-piece : goal.invariant-loop-piece
