@@ -40,17 +40,6 @@ use Rattle.life_step.proofs.StateFacts.{states-up-to}
 
 -- ---- the store
 
-pub keeps-all : (old mid new : Nodes) → Keeps old mid → Keeps mid new → Keeps old new
-keeps-all old mid new a b = record {
-  contents = λ id k. let p = a.contents id k in let q = b.contents id p.0 in (q.0, q.1 ∙ p.1);
-  stored = λ t h. b.stored t (a.stored t h);
-  limit = b.limit ∙ a.limit;
-}
-
-pub keeps-of : (old new : Nodes) → ((id : Id) → IsKnown old id → IsKnown new id × (content new id ≡ content old id)) → ((t : Tree) → Contains (held old) t → Contains (held new) t)
-    → new.limit ≡ old.limit → Keeps old new
-keeps-of old new contents stored limit = record { contents = contents; stored = stored; limit = limit }
-
 -- want of room or of memory, or a fault of the step
 pub refused-by : (store : Nodes) (fault : Fault) (P Q : Type 0) → (P → Q) → (fault ≡ fault_of kinds.Full → length (held store) ≡ store.limit)
     → (fault ≡ fault_of kinds.Full) ⊎ ((fault ≡ fault_of kinds.Memory) ⊎ P) → IsWant store fault ⊎ Q

@@ -1,6 +1,7 @@
 use Rattle.std.proofs.Common.{◌≡◌, inl, inr, refl, sym, ◌∙◌, subst, arith, w64, to_z, of_z}
 use Rattle.std.proofs.lemmas.Int.{ints}
 use Rattle.std.proofs.lemmas.Result.{err_from_is_err_and}
+use Rattle.life_quad.proofs.KeepingLemmas.{keeps-same, keeps-then}
 use Rattle.life_strip.specs.Given.{state_by}
 use Rattle.life_table.specs.Meaning.{Becomes}
 use Rattle.life_sweep.specs.Around.{after}
@@ -31,9 +32,7 @@ loop-band-init g c =
         c.new-band.ensures.band plane sorted.blank sorted.cells_are,
         start-rows A plane drawn c.new-band.result.y (g.met.L.Law.quiet c.args.law.now) sorted.blank (omega (arith, ints, c.new-band.ensures.start)) (nothing-drawn (drawn_runs c.new-pen.result) c.new-pen.ensures.drawn),
       );
-      keeps = λ q k. (k, refl);
-      stays = λ t m. m;
-      most = refl;
+      keeps = keeps-same c.args.squares.now;
     }
 
 pub draw_row-requires-clause-states : goal.draw_row-requires-clause-states
@@ -70,9 +69,7 @@ loop-band-preserved g c =
           let scene : IsScene plane y band.rows = record { rows_are = subst (λ z. AreRows plane z first_coordinate band.rows) e on.here.rows; blank = sorted.blank } in
           let before = subst (λ z. IsSweptRows B plane old c.loop-band.leaves z) e (rows-law A B plane old c.loop-band.leaves band.y (λ v a. subst (λ law. g.L.Law.answers law v a) (sym inv.same)) passed) in
           (on.here, subst (λ z. IsSweptRows A plane new c.in_ok-leaves.leaves (after z)) (sym e) (rows-law B A plane new c.in_ok-leaves.leaves (after y) (λ v a. subst (λ law. g.L.Law.answers law v a) inv.same) (h.swept plane scene before)));
-      keeps = λ q k. let a = inv.keeps q k in let b = h.keeps q a.0 in (b.0, b.1 ∙ a.1);
-      stays = λ t m. h.stays t (inv.stays t m);
-      most = h.most ∙ inv.most;
+      keeps = keeps-then inv.keeps h.keeps;
     }
 
 pub returns-in_err-leaves-clause-refusals : goal.returns-in_err-leaves-clause-refusals
