@@ -1,5 +1,5 @@
 -- What calls do to a store that they are lent, and what patterns in it stand for.
-use Rattle.std.specs.Prelude.{◌≡◌, ℕ, ◌≤◌, ◌⊎◌, true, false, List, length, Contains}
+use Rattle.std.specs.Prelude.{◌≡◌, ℕ, ◌≤◌, ◌⊎◌, true, false, List, length}
 use Rattle.life_base.specs.Tree.{Tree, depth}
 use Rattle.life_base.specs.Refusal.{fault_of}
 use Rattle.life_base.specs.declared.rule.Rule.{Rule}

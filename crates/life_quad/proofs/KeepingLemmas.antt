@@ -1,5 +1,5 @@
 -- Calls on one store, one behind the other.
-use Rattle.std.proofs.Common.{◌≡◌, ◌∙◌, ℕ, List, refl}
+use Rattle.std.proofs.Common.{◌∙◌, ℕ, List, refl}
 use Rattle.life_base.specs.Tree.{Tree}
 use Rattle.life_quad.specs.declared.id.Id.{Id}
 use Rattle.life_quad.specs.Keeping.{KeepsSquares}

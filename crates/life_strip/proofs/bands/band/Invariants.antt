@@ -1,5 +1,5 @@
 use Rattle.life_base.specs.declared.cell.TheConstants.{MAX_LEVEL}
-use Rattle.std.proofs.Common.{◌-◌, ◌≡◌, ◌*◌, ◌^◌, ◌≤◌}
+use Rattle.std.proofs.Common.{◌-◌, ◌*◌, ◌^◌, ◌≤◌}
 use Rattle.life_quad.specs.Keeping.{KeepsSquares}
 use Rattle.life_strip.specs.Strip.{IsFound}
 use Rattle.life_strip.specs.Band.{four_at, FilledTo}

@@ -115,3 +115,6 @@ returns-in_err-left-clause-needed g c =
     (λ full cells scene rows.
     let s = inv.swept cells (subst (λ z. IsScene cells z c.args.rows) e scene) (subst (λ z. IsSweptRows A cells start c.args.leaves z) e rows) in
     swept-needs (g.S.Squares.needs_node c.draw_place.new.squares) A cells runs c.loop-window.left (after c.loop-window.window.x) y s.1 (c.in_err-left.ensures.needed full))
+
+pub returns-in_err-left-clause-keeps : goal.returns-in_err-left-clause-keeps
+returns-in_err-left-clause-keeps g c = keeps-then c.loop-window.invariant.keeps c.in_err-left.ensures.keeps

@@ -10,6 +10,7 @@ use Rattle.life_mc.proofs.Grammars.{grammars_agree}
 use Rattle.life_quad.specs.declared.id.Id.{Id}
 use Rattle.std.proofs.lemmas.Result.{IfOk-weaker}
 use Rattle.life_strip.specs.Given.{GivenRun, state_by}
+use Rattle.life_quad.proofs.KeepingLemmas.{keeps-then}
 use Rattle.life_canon.specs.Files.{Says, as_rle, as_macrocell, is_macrocell}
 use Rattle.life_canon.specs.Needs.{IsNew, SomeRoot, of_plane, of_root, level_of_root}
 use Rattle.life_canon.specs.Store.{IsKnown, content}
