@@ -1,9 +1,9 @@
 //! The cells of small squares as the bits of a word.
-ghost use Rattle.std.specs.Prelude.{◌≡◌, ◌⊎◌, ℕ, ℤ, pos, ◌+ℤ◌, ◌^◌, ◌<◌, ◌≤◌, length, Contains, Err, IfOk, IfErr, OnErr};
+ghost use Rattle.std.specs.Prelude.{◌≡◌, ◌⊎◌, ℕ, ℤ, pos, ◌+ℤ◌, ◌^◌, ◌<◌, ◌≤◌, length, Err, IfOk, IfErr, OnErr};
 ghost use Rattle.std.specs.Int.{bit_at};
 ghost use Rattle.life_base.specs.declared.kind.Kind.TheVariants.{Full, Memory};
-ghost use Rattle.life_base.specs.Tree.{Tree, point, quad, depth};
-ghost use Rattle.life_quad.specs.declared.id.Id.{Id as IdValue};
+ghost use Rattle.life_base.specs.Tree.{point, quad, depth};
+ghost use Rattle.life_quad.specs.Keeping.{KeepsSquares};
 ghost use Rattle.life_block.specs.Bits.{HasCells, HasRows};
 ghost use Rattle.life_block.specs.Pieces.{IsPiece, IsBinary, IsAt, InFour, InSixteen, AreFour, AreSixteen, back, ahead};
 
@@ -79,9 +79,7 @@ pub(crate) fn eight_rows<S: Squares>(squares: &S, sixteen: &Sixteen) -> u64
 pub(crate) fn join_cells<S: Squares>(squares: &mut S, word: u64) -> Result<Id, Kind>
     ensures known { IfOk result (S.knows squares.new) }
     ensures square { IfOk result (λ r. S.content squares.new r ≡ quad (point (bit_at word 0)) (point (bit_at word 1)) (point (bit_at word 8)) (point (bit_at word 9))) }
-    ensures keeps { (q : IdValue) → S.knows squares.old q → S.knows squares.new q × (S.content squares.new q ≡ S.content squares.old q) }
-    ensures stays { (t : Tree) → Contains (S.stored squares.old) t → Contains (S.stored squares.new) t }
-    ensures most { S.most squares.new ≡ S.most squares.old }
+    ensures keeps { KeepsSquares S.knows S.content S.stored S.most squares.old squares.new }
     ensures refusals { IfErr result (λ e. (e ≡ Full) ⊎ (e ≡ Memory)) }
     ensures full { result ≡ Err Full → length (S.stored squares.new) ≡ S.most squares.new }
     ensures needed { OnErr result (S.needs_node squares.new (quad (point (bit_at word 0)) (point (bit_at word 1)) (point (bit_at word 8)) (point (bit_at word 9)))) }

@@ -1,9 +1,9 @@
 //! The next generation of a pattern.
-ghost use Rattle.std.specs.Prelude.{◌≡◌, ◌⊎◌, ℤ, ◌<◌, ◌≤◌, length, Contains, Err, Some, None, IfOk, IfErr};
+ghost use Rattle.std.specs.Prelude.{◌≡◌, ◌⊎◌, ℤ, ◌<◌, ◌≤◌, length, Err, Some, None, IfOk, IfErr};
 ghost use Rattle.life_base.specs.declared.kind.Kind.TheVariants.{Full, Memory};
 ghost use Rattle.life_base.specs.Refusal.{fault_of};
-ghost use Rattle.life_base.specs.Tree.{Tree, depth, tree_cell};
-ghost use Rattle.life_quad.specs.declared.id.Id.{Id as IdValue};
+ghost use Rattle.life_base.specs.Tree.{depth, tree_cell};
+ghost use Rattle.life_quad.specs.Keeping.{KeepsSquares};
 ghost use Rattle.life_sweep.specs.Generation.{next_life};
 ghost use Rattle.life_sweep.specs.Refused.{GenerationRefusal};
 ghost use Rattle.life_sweep.specs.Sweep.{LifeAnswers};
@@ -42,9 +42,7 @@ pub fn next_life_generation<S: SharedSquares>(
     ensures refusals { IfErr result (λ f. (f ≡ fault_of Full) ⊎ (f ≡ fault_of Memory) ⊎ GenerationRefusal (LifeAnswers rule.now) 2 most (S.content squares.old id) (Some f)) }
     ensures full { result ≡ Err (fault_of Full) → length (S.stored squares.new) ≡ S.most squares.new }
     ensures needed { result ≡ Err (fault_of Full) → SomeOfNext (S.needs_node squares.new) rule.now (S.content squares.old id) }
-    ensures keeps { (q : IdValue) → S.knows squares.old q → S.knows squares.new q × (S.content squares.new q ≡ S.content squares.old q) }
-    ensures stays { (t : Tree) → Contains (S.stored squares.old) t → Contains (S.stored squares.new) t }
-    ensures most { S.most squares.new ≡ S.most squares.old }
+    ensures keeps { KeepsSquares S.knows S.content S.stored S.most squares.old squares.new }
 {
     life_answers_at();
     if squares.level(id) == MAX_LEVEL {

@@ -34,13 +34,6 @@ use Rattle.life_canon.proofs.TextLaws as laws
 
 -- ---- one store after another
 
-pub keeps-all : (old mid new : Nodes) → Keeps old mid → Keeps mid new → Keeps old new
-keeps-all old mid new a b = record {
-  contents = λ id k. let p = a.contents id k in let q = b.contents id p.0 in (q.0, q.1 ∙ p.1);
-  stored = λ t h. b.stored t (a.stored t h);
-  limit = b.limit ∙ a.limit;
-}
-
 -- what was read stays read
 pub read-stays : (top : ℕ) (bytes : List ℕ) (old new : Nodes) (pattern : Pattern) → Keeps old new → IsRead top bytes old pattern → IsRead top bytes new pattern
 read-stays top bytes old new pattern k r =

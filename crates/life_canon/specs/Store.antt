@@ -1,5 +1,5 @@
 -- What calls do to a store that they are lent, and what patterns in it stand for.
-use Rattle.std.specs.Prelude.{◌≡◌, ℕ, ◌≤◌, ◌⊎◌, true, false, List, length, Contains}
+use Rattle.std.specs.Prelude.{◌≡◌, ℕ, ◌≤◌, ◌⊎◌, true, false, List, length}
 use Rattle.life_base.specs.Tree.{Tree, depth}
 use Rattle.life_base.specs.Refusal.{fault_of}
 use Rattle.life_base.specs.declared.rule.Rule.{Rule}
@@ -8,6 +8,7 @@ use Rattle.life_base.specs.declared.kind.Kind.{Kind}
 use Rattle.life_base.specs.declared.kind.Kind.TheVariants.{Full, Memory}
 use Rattle.life_mc.specs.Macrocell.{largest_state}
 use Rattle.life_mc.specs.Squares.{HasStatesUpTo}
+use Rattle.life_quad.specs.Keeping.{KeepsSquares}
 use Rattle.life_quad.specs.Moves.{trimmed}
 use Rattle.life_quad.specs.Store.{Nodes, Knows, IsShared, held, squares, square_of}
 use Rattle.life_quad.specs.declared.id.Id.{Id}
@@ -30,10 +31,8 @@ abbrev pub KeepsContents : Nodes → Nodes → Type 0
 KeepsContents old new = (id : Id) → IsKnown old id → IsKnown new id × (content new id ≡ content old id)
 
 -- each Id keeps its square, nothing stored is taken away, and the limit stays
-pub record Keeps (old new : Nodes) : Type 0 where
-  pub contents : KeepsContents old new
-  pub stored : (t : Tree) → Contains (held old) t → Contains (held new) t
-  pub limit : new.limit ≡ old.limit
+abbrev pub Keeps : Nodes → Nodes → Type 0
+Keeps = KeepsSquares IsKnown content held (λ store. store.limit)
 
 -- the store holds its limit, or a growth of memory was refused
 abbrev pub IsWant : Nodes → Fault → Type 0

@@ -1,14 +1,14 @@
 //! The lines of a file of either format, put into a store as they come.
 
-ghost use Rattle.std.specs.Prelude.{◌≡◌, ◌↔◌, ◌⊎◌, ◌++◌, ◌∷◌, [], ℕ, ◌<◌, ◌≤◌, List, length, Contains, ℤ, Some, IsTrue, true, false, Err, IfOk, IfErr, OnOk, map, max};
+ghost use Rattle.std.specs.Prelude.{◌≡◌, ◌↔◌, ◌⊎◌, ◌++◌, ◌∷◌, [], ℕ, ◌<◌, ◌≤◌, List, length, ℤ, Some, IsTrue, true, false, Err, IfOk, IfErr, OnOk, map, max};
 ghost use Rattle.life_base.specs.declared.kind.Kind.TheVariants.{Full, Memory, NoHeader};
 ghost use Rattle.life_base.specs.Refusal.{Prefix};
-ghost use Rattle.life_base.specs.Tree.{Tree, depth, tree_cell};
+ghost use Rattle.life_base.specs.Tree.{depth, tree_cell};
 ghost use Rattle.life_mc.specs.Cells.{cell, root_level};
 ghost use Rattle.life_mc.specs.Macrocell.{Macrocell, IsValid};
 ghost use Rattle.life_mc.specs.Reading.{Accepts as IsSomeMacrocell, squares_of, broken};
 ghost use Rattle.life_quad.specs.Store.{Nodes};
-ghost use Rattle.life_quad.specs.declared.id.Id.{Id as IdValue};
+ghost use Rattle.life_quad.specs.Keeping.{KeepsSquares};
 ghost use Rattle.life_rle.specs.Decided.{LacksHeader};
 ghost use Rattle.life_rle.specs.File.{HasRuns};
 ghost use Rattle.life_rle.specs.Grammar.{Breaks as BreaksRle, IsSomeRle};
@@ -48,9 +48,7 @@ fn add_runs<S: Squares>(squares: &mut S, builder: &mut Builder, runs: &[Run]) ->
     ensures filling { OnOk result (IsFilling (S.knows squares.new) (S.content squares.new) builder.new) }
     ensures runs { OnOk result (builder.new.runs ≡ builder.old.runs ++ map given runs.now) }
     ensures refusals { IfErr result (λ e. (e ≡ Full) ⊎ (e ≡ Memory)) }
-    ensures keeps { (q : IdValue) → S.knows squares.old q → S.knows squares.new q × (S.content squares.new q ≡ S.content squares.old q) }
-    ensures stays { (t : Tree) → Contains (S.stored squares.old) t → Contains (S.stored squares.new) t }
-    ensures most { S.most squares.new ≡ S.most squares.old }
+    ensures keeps { KeepsSquares S.knows S.content S.stored S.most squares.old squares.new }
     ensures full { result ≡ Err Full → length (S.stored squares.new) ≡ S.most squares.new }
     ensures needed { result ≡ Err Full → SomeOfRuns (S.needs_node squares.new) (builder.old.runs ++ map given runs.now) }
 {
@@ -74,9 +72,7 @@ fn take_rle_line<S: Squares>(
     ensures front { OnOk result (Prefix (IsSomeRle MAX_LEVEL) lines.new.lines) }
     ensures built { OnOk result (IsBuilt (S.knows squares.new) (S.content squares.new) (HasRuns MAX_LEVEL lines.new.lines) builder.new) }
     ensures fault { IfErr result (λ kind. (kind ≡ Full) ⊎ (kind ≡ Memory) ⊎ BreaksRle MAX_LEVEL lines.old.lines line.now kind) }
-    ensures keeps { (q : IdValue) → S.knows squares.old q → S.knows squares.new q × (S.content squares.new q ≡ S.content squares.old q) }
-    ensures stays { (t : Tree) → Contains (S.stored squares.old) t → Contains (S.stored squares.new) t }
-    ensures most { S.most squares.new ≡ S.most squares.old }
+    ensures keeps { KeepsSquares S.knows S.content S.stored S.most squares.old squares.new }
     ensures full { result ≡ Err Full → length (S.stored squares.new) ≡ S.most squares.new }
     ensures needed { result ≡ Err Full → SomeOfLines MAX_LEVEL (S.needs_node squares.new) (lines.old.lines ++ line.now ∷ []) }
 {
@@ -98,9 +94,7 @@ fn take_macrocell_line<S: Squares>(
     ensures front { OnOk result (Prefix (IsSomeMacrocell MAX_LEVEL) lines.new.lines) }
     ensures squares { OnOk result (AreSquaresOf (S.knows squares.new) (S.content squares.new) (squares_of lines.new.lines) ids.new.items) }
     ensures fault { IfErr result (λ kind. (kind ≡ Full) ⊎ (kind ≡ Memory) ⊎ (broken MAX_LEVEL lines.old.lines line.now ≡ Some kind)) }
-    ensures keeps { (q : IdValue) → S.knows squares.old q → S.knows squares.new q × (S.content squares.new q ≡ S.content squares.old q) }
-    ensures stays { (t : Tree) → Contains (S.stored squares.old) t → Contains (S.stored squares.new) t }
-    ensures most { S.most squares.new ≡ S.most squares.old }
+    ensures keeps { KeepsSquares S.knows S.content S.stored S.most squares.old squares.new }
     ensures full { result ≡ Err Full → length (S.stored squares.new) ≡ S.most squares.new }
     ensures needed { result ≡ Err Full → SomeOfLines MAX_LEVEL (S.needs_node squares.new) (lines.old.lines ++ line.now ∷ []) }
 {
@@ -124,9 +118,7 @@ fn trimmed_pattern<S: Squares>(
     ensures pattern { (universe : Universe) → universe.rule ≡ rule → universe.generation ≡ generation → ((x y : ℤ) → tree_cell (S.content squares.old root) x y ≡ universe.cell x y)
         → IfOk result (IsPatternOf MAX_LEVEL (S.knows squares.new) (S.content squares.new) universe) }
     ensures refusals { IfErr result (λ e. (e ≡ Full) ⊎ (e ≡ Memory)) }
-    ensures keeps { (q : IdValue) → S.knows squares.old q → S.knows squares.new q × (S.content squares.new q ≡ S.content squares.old q) }
-    ensures stays { (t : Tree) → Contains (S.stored squares.old) t → Contains (S.stored squares.new) t }
-    ensures most { S.most squares.new ≡ S.most squares.old }
+    ensures keeps { KeepsSquares S.knows S.content S.stored S.most squares.old squares.new }
     ensures full { result ≡ Err Full → length (S.stored squares.new) ≡ S.most squares.new }
     ensures needed { result ≡ Err Full → (universe : Universe) → universe.rule ≡ rule → ((x y : ℤ) → tree_cell (S.content squares.old root) x y ≡ universe.cell x y)
         → SomeRoot (S.needs_node squares.new) universe (depth (S.content squares.old root)) }

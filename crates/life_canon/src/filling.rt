@@ -1,19 +1,19 @@
 //! Squares of a store, made from node lines.
 
-ghost use Rattle.std.specs.Prelude.{◌≡◌, ◌⊎◌, ℕ, ◌+◌, ◌-◌, ◌^◌, ◌<◌, ◌≤◌, length, Contains, Err, IfSome, IfOk, IfErr, OnErr, max};
+ghost use Rattle.std.specs.Prelude.{◌≡◌, ◌⊎◌, ℕ, ◌+◌, ◌-◌, ◌^◌, ◌<◌, ◌≤◌, length, Err, IfSome, IfOk, IfErr, OnErr, max};
 ghost use Rattle.life_base.specs.declared.kind.Kind.TheVariants.{Full, Memory};
 ghost use Rattle.life_base.specs.declared.rule.Rule.{Rule as RuleValue};
-ghost use Rattle.life_base.specs.Tree.{Tree, depth, tree_cell};
+ghost use Rattle.life_base.specs.Tree.{depth, tree_cell};
 ghost use Rattle.life_mc.specs.Cells.{leaf_cell};
 ghost use Rattle.life_mc.specs.Macrocell.{level_of, IsSquare, is_quarter};
 ghost use Rattle.life_mc.specs.Squares.{tree_at, tree_of, line_tree};
 ghost use Rattle.life_mc.specs.declared.line.Line.{Line as LineValue};
 ghost use Rattle.life_quad.specs.Store.{two, four};
-ghost use Rattle.life_quad.specs.declared.id.Id.{Id as IdValue};
 ghost use Rattle.life_quad.specs.Refused.{SomePart};
 ghost use Rattle.life_canon.specs.Filling.{AreSquaresOf};
 ghost use Rattle.life_canon.specs.Needs.{SomeGrown, SomeOfLine};
 ghost use Rattle.std.specs.Prelude.{List, map, true, ℤ};
+ghost use Rattle.life_quad.specs.Keeping.{KeepsSquares};
 
 use life_base::{Kind, MAX_LEVEL};
 use life_mc::Line;
@@ -35,9 +35,7 @@ fn four_cells<S: Squares>(squares: &mut S, rows: &[u8; 8], column: u8, row: u8) 
     ensures known { IfOk result (S.knows squares.new) }
     ensures square { IfOk result (λ id. S.content squares.new id ≡ tree_at (leaf_cell rows.now) 1 column row) }
     ensures level { IfOk result (λ id. depth (S.content squares.new id) ≡ 1) }
-    ensures keeps { (q : IdValue) → S.knows squares.old q → S.knows squares.new q × (S.content squares.new q ≡ S.content squares.old q) }
-    ensures stays { (t : Tree) → Contains (S.stored squares.old) t → Contains (S.stored squares.new) t }
-    ensures most { S.most squares.new ≡ S.most squares.old }
+    ensures keeps { KeepsSquares S.knows S.content S.stored S.most squares.old squares.new }
     ensures refusals { IfErr result (λ e. (e ≡ Full) ⊎ (e ≡ Memory)) }
     ensures full { result ≡ Err Full → length (S.stored squares.new) ≡ S.most squares.new }
     ensures needed { OnErr result (S.needs_node squares.new (tree_at (leaf_cell rows.now) 1 column row)) }
@@ -106,9 +104,7 @@ fn leaf_part<S: Squares>(
     ensures known { IfOk result (S.knows squares.new) }
     ensures square { IfOk result (λ id. S.content squares.new id ≡ tree_at (leaf_cell rows.now) level column row) }
     ensures level { IfOk result (λ id. depth (S.content squares.new id) ≡ level) }
-    ensures keeps { (q : IdValue) → S.knows squares.old q → S.knows squares.new q × (S.content squares.new q ≡ S.content squares.old q) }
-    ensures stays { (t : Tree) → Contains (S.stored squares.old) t → Contains (S.stored squares.new) t }
-    ensures most { S.most squares.new ≡ S.most squares.old }
+    ensures keeps { KeepsSquares S.knows S.content S.stored S.most squares.old squares.new }
     ensures refusals { IfErr result (λ e. (e ≡ Full) ⊎ (e ≡ Memory)) }
     ensures full { result ≡ Err Full → length (S.stored squares.new) ≡ S.most squares.new }
     ensures needed { OnErr result (SomePart (S.needs_node squares.new) (tree_at (leaf_cell rows.now) level column row)) }
@@ -155,9 +151,7 @@ pub(crate) fn line_square<S: Squares>(squares: &mut S, ids: &[Id], line: Line) -
     ensures known { IfOk result (S.knows squares.new) }
     ensures square { (lines : List LineValue) (rule : RuleValue) → IsSquare MAX_LEVEL rule (map level_of lines) line → AreSquaresOf (S.knows squares.old) (S.content squares.old) lines ids.now
         → IfOk result (λ id. S.content squares.new id ≡ line_tree (tree_of lines (level_of line - 1)) line) }
-    ensures keeps { (q : IdValue) → S.knows squares.old q → S.knows squares.new q × (S.content squares.new q ≡ S.content squares.old q) }
-    ensures stays { (t : Tree) → Contains (S.stored squares.old) t → Contains (S.stored squares.new) t }
-    ensures most { S.most squares.new ≡ S.most squares.old }
+    ensures keeps { KeepsSquares S.knows S.content S.stored S.most squares.old squares.new }
     ensures refusals { IfErr result (λ e. (e ≡ Full) ⊎ (e ≡ Memory)) }
     ensures full { result ≡ Err Full → length (S.stored squares.new) ≡ S.most squares.new }
     ensures needed { (lines : List LineValue) (rule : RuleValue) → IsSquare MAX_LEVEL rule (map level_of lines) line → AreSquaresOf (S.knows squares.old) (S.content squares.old) lines ids.now
@@ -189,9 +183,7 @@ pub(crate) fn grow_to<S: Squares>(squares: &mut S, id: Id, level: u8) -> Result<
     ensures known { IfOk result (S.knows squares.new) }
     ensures level { IfOk result (λ r. depth (S.content squares.new r) ≡ max level (depth (S.content squares.old id))) }
     ensures cells { IfOk result (λ r. (x y : ℤ) → tree_cell (S.content squares.new r) x y ≡ tree_cell (S.content squares.old id) x y) }
-    ensures keeps { (q : IdValue) → S.knows squares.old q → S.knows squares.new q × (S.content squares.new q ≡ S.content squares.old q) }
-    ensures stays { (t : Tree) → Contains (S.stored squares.old) t → Contains (S.stored squares.new) t }
-    ensures most { S.most squares.new ≡ S.most squares.old }
+    ensures keeps { KeepsSquares S.knows S.content S.stored S.most squares.old squares.new }
     ensures refusals { IfErr result (λ e. (e ≡ Full) ⊎ (e ≡ Memory)) }
     ensures full { result ≡ Err Full → length (S.stored squares.new) ≡ S.most squares.new }
     ensures needed { OnErr result (SomeGrown (S.needs_node squares.new) (S.content squares.old id) level) }

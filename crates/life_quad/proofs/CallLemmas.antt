@@ -17,6 +17,7 @@ use Rattle.life_quad.specs.contracts.id.NodePartialEq.TheImpl.{eq-value}
 use Rattle.life_base.specs.Tree.{Tree, point, quad, depth, quarters, blank, is_blank_tree, IsFull}
 use Rattle.life_base.proofs.Squares.{depth-blank, is_blank-blank, blank_is, quad_nw, quad_ne, quad_sw, quad_se, point_state, point≢quad}
 use Rattle.life_quad.specs.Store.{Nodes, two, four, small_square, number_of, id_of, square_of, node_square, squares, levels_of, content, held, is_blank_id, IsNamed, IsEarlier, IsNode, IsSmall, IsSound, IsShared, Knows, IsIdOf, as_small, as_node, HasRoom, KeepsContents, Joined, was_there, is_new, Answers, HasSeen}
+use Rattle.life_quad.specs.Keeping.{KeepsSquares}
 use Rattle.life_quad.specs.SmallLaws.{small_range, quarters_range}
 use Rattle.life_quad.specs.StoreLaws.{Kinds, a_state, a_blank, a_small, a_node, kind_of, Names, the_state, the_blank, the_node, names, same_id, same_ids, length-squares, squares-push, small_node, square_of-append, square_of-node, square_of-small, square_of-id, is_blank-content, full_content, slice_get-last, slice_get-push_cases, node_square-append}
 use Rattle.life_quad.proofs.GrowLemmas.{with_id, with_node, with_both, IsSound-id, IsSound-both, IsShared-id, IsShared-both}
@@ -536,21 +537,24 @@ module _ (old new : Nodes) (t : Tree) (deep : 0 < depth t) (not_blank : is_blank
   same_keeps : new ≡ old → KeepsContents old new
   same_keeps same id k = (subst (λ s. Knows s id × IsShared s) (sym same) k, ap (λ s. content s id) same)
 
-  pub join_keeps : (r : Result Id Kind) → Answers old new t r → KeepsContents old new
-  join_keeps (Ok id) a = by a.joined
+  join_contents : (r : Result Id Kind) → Answers old new t r → KeepsContents old new
+  join_contents (Ok id) a = by a.joined
     where
       by : Joined old new t id → KeepsContents old new
       by (was_there same there known is) = same_keeps same
       by (is_new absent keeps added known is) = keeps
-  join_keeps (Err k) a = same_keeps a.unchanged
+  join_contents (Err k) a = same_keeps a.unchanged
 
-  pub join_stays : (r : Result Id Kind) → Answers old new t r → (u : Tree) → Contains (held old) u → Contains (held new) u
+  join_stays : (r : Result Id Kind) → Answers old new t r → (u : Tree) → Contains (held old) u → Contains (held new) u
   join_stays (Ok id) a u h = by a.joined
     where
       by : Joined old new t id → Contains (held new) u
       by (was_there same there known is) = subst (λ s. Contains (held s) u) (sym same) h
       by (is_new absent keeps added known is) = subst (λ l. Contains l u) (sym added) (Contains-append_left (held old) (t ∷ []) u h)
   join_stays (Err k) a u h = subst (λ s. Contains (held s) u) (sym a.unchanged) h
+
+  pub join_keeps : (r : Result Id Kind) → Answers old new t r → KeepsSquares (λ s id. Knows s id × IsShared s) content held (λ s. s.limit) old new
+  join_keeps r a = record { contents = join_contents r a; stored = join_stays r a; limit = a.limit }
 
   pub join_added : (r : Result Id Kind) → Answers old new t r → OnOk r (Needs → held new ≡ held old ++ t ∷ [])
   join_added (Ok id) a = λ needs. by needs a.joined
@@ -674,23 +678,28 @@ pub square_of-added : (old new : Nodes) (n : Node) → IsNode old.log (squares o
     → (id : Id) → id.0 ≡ 66064 + length old.nodes → square_of (squares new.nodes) id ≡ node_square (squares old.nodes) n
 square_of-added old new n node i sound id e = ap (λ k. square_of (squares new.nodes) (id_of k)) e ∙ square_of-last old n node new (ap (λ s. s.nodes) i) sound
 
-pub keeps_added : {T E : Type 0} (r : Result T E) (old new : Nodes) (n : Node) → OnOk r (new ≡ with_node old n) → OnErr r (new ≡ old) → IsSound new
+contents_added : {T E : Type 0} (r : Result T E) (old new : Nodes) (n : Node) → OnOk r (new ≡ with_node old n) → OnErr r (new ≡ old) → IsSound new
     → (id : Id) → Knows old id → Knows new id × (square_of (squares new.nodes) id ≡ square_of (squares old.nodes) id)
-keeps_added (Ok x) old new n i same sound id k =
+contents_added (Ok x) old new n i same sound id k =
     let len = ap (λ s. length s.nodes) i ∙ length-append old.nodes (n ∷ []) in
     knows-grown old new _ (ap (λ s. squares s.nodes) i ∙ squares-push old.nodes n) (omega (arith, len)) (λ j there. subst (λ s. Contains s.log j) (sym i) there) sound id k
-keeps_added (Err x) old new n i same sound id k =
+contents_added (Err x) old new n i same sound id k =
     (subst (λ s. Knows s id) (sym same) k, ap (λ s. square_of (squares s.nodes) id) same)
 
--- the Id that an added node gets
-pub knows_last : (old new : Nodes) (n : Node) → new ≡ with_node old n → IsSound new → (id : Id) → id.0 ≡ 66064 + length old.nodes → Knows new id
-knows_last old new n i sound id e = knows_id new n id sound (as_node (length old.nodes) e (ap (λ s. slice_get s.nodes (length old.nodes)) i ∙ slice_get-last old.nodes n))
-
-pub stays_added : {T E : Type 0} (r : Result T E) (old new : Nodes) (n : Node) → OnOk r (new ≡ with_node old n) → OnErr r (new ≡ old)
+stays_added : {T E : Type 0} (r : Result T E) (old new : Nodes) (n : Node) → OnOk r (new ≡ with_node old n) → OnErr r (new ≡ old)
     → (t : Tree) → Contains (squares old.nodes) t → Contains (squares new.nodes) t
 stays_added (Ok x) old new n i same t h =
     subst (λ S. Contains S t) (sym (ap (λ s. squares s.nodes) i ∙ squares-push old.nodes n)) (Contains-append_left (squares old.nodes) (node_square (squares old.nodes) n ∷ []) t h)
 stays_added (Err x) old new n i same t h = subst (λ s. Contains (squares s.nodes) t) (sym same) h
+
+-- what a store keeps to which a node is added, or whose call is refused
+pub keeps_added : {T E : Type 0} (r : Result T E) (old new : Nodes) (n : Node) → OnOk r (new ≡ with_node old n) → OnErr r (new ≡ old) → IsSound new
+    → new.limit ≡ old.limit → KeepsSquares Knows content (λ s. squares s.nodes) (λ s. s.limit) old new
+keeps_added r old new n i same sound limit = record { contents = contents_added r old new n i same sound; stored = stays_added r old new n i same; limit = limit }
+
+-- the Id that an added node gets
+pub knows_last : (old new : Nodes) (n : Node) → new ≡ with_node old n → IsSound new → (id : Id) → id.0 ≡ 66064 + length old.nodes → Knows new id
+knows_last old new n i sound id e = knows_id new n id sound (as_node (length old.nodes) e (ap (λ s. slice_get s.nodes (length old.nodes)) i ∙ slice_get-last old.nodes n))
 
 -- a store that was refused memory for a node has room for it
 pub room_left : {T : Type 0} (r : Result T Kind) (old new : Nodes) → length old.nodes ≤ old.limit → (r ≡ Err Full) ↔ (length old.nodes ≡ old.limit) → OnErr r (new ≡ old)

@@ -1,6 +1,7 @@
 pub mod Moves
 pub mod Refused
 pub mod Store
+pub mod Keeping
 pub mod SmallLaws
 pub mod StoreLaws
 pub mod Cells

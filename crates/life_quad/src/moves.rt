@@ -1,10 +1,10 @@
 //! Squares made of other squares.
-ghost use Rattle.std.specs.Prelude.{◌≡◌, ◌+◌, ◌&&◌, ◌⊎◌, ◌<◌, ◌≤◌, length, Contains, Err, IfOk, IfErr, OnErr};
+ghost use Rattle.std.specs.Prelude.{◌≡◌, ◌+◌, ◌&&◌, ◌⊎◌, ◌<◌, ◌≤◌, length, Err, IfOk, IfErr, OnErr};
 ghost use Rattle.life_base.specs.declared.kind.Kind.TheVariants.{Full, Memory};
-ghost use Rattle.life_quad.specs.declared.id.Id.{Id as IdValue};
-ghost use Rattle.life_base.specs.Tree.{Tree, quad, depth, is_blank_tree};
+ghost use Rattle.life_base.specs.Tree.{quad, depth, is_blank_tree};
 ghost use Rattle.life_quad.specs.Moves.{grown, trimmed, inner, can_trim};
 ghost use Rattle.life_quad.specs.Refused.{SomePart, SomeTrimmed};
+ghost use Rattle.life_quad.specs.Keeping.{KeepsSquares};
 
 use crate::{Id, Squares};
 use life_base::{Kind, MAX_LEVEL};
@@ -54,9 +54,7 @@ pub fn grow<S: Squares>(squares: &mut S, id: Id) -> Result<Id, Kind>
     requires high { depth (S.content squares.old id) < MAX_LEVEL }
     ensures known { IfOk result (S.knows squares.new) }
     ensures square { IfOk result (λ r. S.content squares.new r ≡ grown (S.content squares.old id)) }
-    ensures keeps { (q : IdValue) → S.knows squares.old q → S.knows squares.new q × (S.content squares.new q ≡ S.content squares.old q) }
-    ensures stays { (t : Tree) → Contains (S.stored squares.old) t → Contains (S.stored squares.new) t }
-    ensures most { S.most squares.new ≡ S.most squares.old }
+    ensures keeps { KeepsSquares S.knows S.content S.stored S.most squares.old squares.new }
     ensures refusals { IfErr result (λ e. (e ≡ Full) ⊎ (e ≡ Memory)) }
     ensures full { result ≡ Err Full → length (S.stored squares.new) ≡ S.most squares.new }
     ensures room { result ≡ Err Memory → length (S.stored squares.new) < S.most squares.new }
@@ -77,9 +75,7 @@ fn middle<S: Squares>(squares: &mut S, id: Id) -> Result<Id, Kind>
     requires deep { 2 ≤ depth (S.content squares.old id) }
     ensures known { IfOk result (S.knows squares.new) }
     ensures square { IfOk result (λ r. S.content squares.new r ≡ inner (S.content squares.old id)) }
-    ensures keeps { (q : IdValue) → S.knows squares.old q → S.knows squares.new q × (S.content squares.new q ≡ S.content squares.old q) }
-    ensures stays { (t : Tree) → Contains (S.stored squares.old) t → Contains (S.stored squares.new) t }
-    ensures most { S.most squares.new ≡ S.most squares.old }
+    ensures keeps { KeepsSquares S.knows S.content S.stored S.most squares.old squares.new }
     ensures refusals { IfErr result (λ e. (e ≡ Full) ⊎ (e ≡ Memory)) }
     ensures full { result ≡ Err Full → length (S.stored squares.new) ≡ S.most squares.new }
     ensures room { result ≡ Err Memory → length (S.stored squares.new) < S.most squares.new }
@@ -150,9 +146,7 @@ pub fn trim<S: Squares>(squares: &mut S, id: Id, least: u8) -> Result<Id, Kind>
     requires positive { 1 ≤ least }
     ensures known { IfOk result (S.knows squares.new) }
     ensures square { IfOk result (λ r. S.content squares.new r ≡ trimmed (S.content squares.old id) least) }
-    ensures keeps { (q : IdValue) → S.knows squares.old q → S.knows squares.new q × (S.content squares.new q ≡ S.content squares.old q) }
-    ensures stays { (t : Tree) → Contains (S.stored squares.old) t → Contains (S.stored squares.new) t }
-    ensures most { S.most squares.new ≡ S.most squares.old }
+    ensures keeps { KeepsSquares S.knows S.content S.stored S.most squares.old squares.new }
     ensures refusals { IfErr result (λ e. (e ≡ Full) ⊎ (e ≡ Memory)) }
     ensures full { result ≡ Err Full → length (S.stored squares.new) ≡ S.most squares.new }
     ensures room { result ≡ Err Memory → length (S.stored squares.new) < S.most squares.new }

@@ -1,11 +1,11 @@
 //! Runs of cells.
-ghost use Rattle.std.specs.Prelude.{◌≡◌, ◌⊎◌, ℤ, pos, neg_ℤ, ◌≤ℤ◌, ◌<ℤ◌, ◌+ℤ◌, ◌-◌, ◌+◌, ◌^◌, ◌<◌, ◌≤◌, length, Contains, Err, IfOk, IfErr, OnErr};
+ghost use Rattle.std.specs.Prelude.{◌≡◌, ◌⊎◌, ℤ, pos, neg_ℤ, ◌≤ℤ◌, ◌<ℤ◌, ◌+ℤ◌, ◌-◌, ◌+◌, ◌^◌, ◌<◌, ◌≤◌, length, Err, IfOk, IfErr, OnErr};
 ghost use Rattle.life_base.specs.declared.kind.Kind.TheVariants.{Full, Memory};
-ghost use Rattle.life_quad.specs.declared.id.Id.{Id as IdValue};
 ghost use Rattle.life_base.specs.Tree.{Tree, depth};
 ghost use Rattle.life_quad.specs.Span.{SetsSpan, SetsHalves};
 ghost use Rattle.life_quad.specs.Cells.{IsRunInside, SetsRun};
 ghost use Rattle.life_quad.specs.Refused.{SomePart};
+ghost use Rattle.life_quad.specs.Keeping.{KeepsSquares};
 
 use crate::moves::{Quarters, divide};
 use crate::{Id, Squares};
@@ -48,9 +48,7 @@ fn set_span<S: Squares>(
     requires rows { row < 2 ^ depth (S.content squares.old id) }
     ensures known { IfOk result (S.knows squares.new) }
     ensures square { IfOk result (λ r. SetsSpan (S.content squares.old id) (S.content squares.new r) column row len state) }
-    ensures keeps { (q : IdValue) → S.knows squares.old q → S.knows squares.new q × (S.content squares.new q ≡ S.content squares.old q) }
-    ensures stays { (t : Tree) → Contains (S.stored squares.old) t → Contains (S.stored squares.new) t }
-    ensures most { S.most squares.new ≡ S.most squares.old }
+    ensures keeps { KeepsSquares S.knows S.content S.stored S.most squares.old squares.new }
     ensures refusals { IfErr result (λ e. (e ≡ Full) ⊎ (e ≡ Memory)) }
     ensures full { result ≡ Err Full → length (S.stored squares.new) ≡ S.most squares.new }
     ensures room { result ≡ Err Memory → length (S.stored squares.new) < S.most squares.new }
@@ -94,9 +92,7 @@ fn set_halves<S: Squares>(
     ensures left { IfOk result (λ r. S.knows squares.new r.0) }
     ensures right { IfOk result (λ r. S.knows squares.new r.1) }
     ensures squares { IfOk result (λ r. SetsHalves (S.content squares.old left) (S.content squares.old right) (S.content squares.new r.0) (S.content squares.new r.1) column row len state) }
-    ensures keeps { (q : IdValue) → S.knows squares.old q → S.knows squares.new q × (S.content squares.new q ≡ S.content squares.old q) }
-    ensures stays { (t : Tree) → Contains (S.stored squares.old) t → Contains (S.stored squares.new) t }
-    ensures most { S.most squares.new ≡ S.most squares.old }
+    ensures keeps { KeepsSquares S.knows S.content S.stored S.most squares.old squares.new }
     ensures refusals { IfErr result (λ e. (e ≡ Full) ⊎ (e ≡ Memory)) }
     ensures full { result ≡ Err Full → length (S.stored squares.new) ≡ S.most squares.new }
     ensures room { result ≡ Err Memory → length (S.stored squares.new) < S.most squares.new }
@@ -140,9 +136,7 @@ pub fn put_run<S: Squares>(
     requires inside { IsRunInside (S.content squares.old root) x y len }
     ensures known { IfOk result (S.knows squares.new) }
     ensures square { IfOk result (λ r. SetsRun (S.content squares.old root) (S.content squares.new r) x y len state) }
-    ensures keeps { (q : IdValue) → S.knows squares.old q → S.knows squares.new q × (S.content squares.new q ≡ S.content squares.old q) }
-    ensures stays { (t : Tree) → Contains (S.stored squares.old) t → Contains (S.stored squares.new) t }
-    ensures most { S.most squares.new ≡ S.most squares.old }
+    ensures keeps { KeepsSquares S.knows S.content S.stored S.most squares.old squares.new }
     ensures refusals { IfErr result (λ e. (e ≡ Full) ⊎ (e ≡ Memory)) }
     ensures full { result ≡ Err Full → length (S.stored squares.new) ≡ S.most squares.new }
     ensures room { result ≡ Err Memory → length (S.stored squares.new) < S.most squares.new }

@@ -1,9 +1,10 @@
 //! What a store of squares offers.
-ghost use Rattle.std.specs.Prelude.{◌≡◌, ◌↔◌, ◌⊎◌, ℕ, ◌<◌, ◌≤◌, List, [], ◌∷◌, ◌++◌, length, map, All, Contains, Ok, Err, MatchOption, IfSome, IfOk, IfErr, OnOk, OnErr};
+ghost use Rattle.std.specs.Prelude.{◌≡◌, ◌↔◌, ◌⊎◌, ℕ, ◌<◌, ◌≤◌, List, [], ◌∷◌, ◌++◌, length, map, All, Ok, Err, MatchOption, IfSome, IfOk, IfErr, OnOk, OnErr};
 ghost use Rattle.life_base.specs.declared.kind.Kind.TheVariants.{Full, Memory};
 ghost use Rattle.life_quad.specs.declared.id.Id.{Id as IdValue};
 ghost use Rattle.life_base.specs.Tree.{Tree, point, quad, depth, blank, quarters, IsFull};
 ghost use Rattle.life_quad.specs.Store.{four};
+ghost use Rattle.life_quad.specs.Keeping.{KeepsSquares};
 
 use crate::Id;
 use life_base::{Kind, MAX_LEVEL, State};
@@ -52,9 +53,7 @@ pub trait Squares {
         requires room { depth (content self.old nw) < MAX_LEVEL }
         ensures known { IfOk result (λ id. knows self.new id) }
         ensures square { IfOk result (λ id. content self.new id ≡ quad (content self.old nw) (content self.old ne) (content self.old sw) (content self.old se)) }
-        ensures keeps { (id : IdValue) → knows self.old id → knows self.new id × (content self.new id ≡ content self.old id) }
-        ensures stays { (t : Tree) → Contains (stored self.old) t → Contains (stored self.new) t }
-        ensures most { most self.new ≡ most self.old }
+        ensures keeps { KeepsSquares knows content stored most self.old self.new }
 
         // The squares that are stored.
         ensures added { let t = quad (content self.old nw) (content self.old ne) (content self.old sw) (content self.old se) in OnOk result (needs_node self.old t → stored self.new ≡ stored self.old ++ t ∷ []) }

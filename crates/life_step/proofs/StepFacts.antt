@@ -1,6 +1,6 @@
 -- Steps: what the law of a rule answers for the square of a pattern is the next generation of what its file says.
 use Rattle.std.proofs.Common.{◌≡◌, ◌≢◌, ℕ, ◌+◌, ◌-◌, ◌^◌, ◌<◌, ◌≤◌, Bool, true, false, ◌⊎◌, inl, inr, ℤ, List, length, Option, None, Some, refl, sym, ◌∙◌, ap, subst, arith}
-use Rattle.std.specs.Prelude.{Contains, drop, slice_index, if◌then◌else◌, Result, Ok, Err, IfErr}
+use Rattle.std.specs.Prelude.{drop, slice_index, if◌then◌else◌, Result, Ok, Err, IfErr}
 use Rattle.life_base.specs.Refusal.{fault_of}
 use Rattle.life_base.specs.Rules.{IsRule}
 use Rattle.life_base.specs.Sets.{OuterTotalistic}
@@ -30,7 +30,7 @@ use Rattle.life_sweep.specs.Sweep.{states_at, named, LifeAnswers, TableAnswers}
 use Rattle.life_canon.specs.Files.{Reads, Refuses, as_macrocell}
 use Rattle.life_canon.specs.Laws.{FilesAreOnPlane, PatternsFit, TextsAreFiles, TextsTellUniverses}
 use Rattle.life_canon.specs.Listing.{canonical_file, canon_text}
-use Rattle.life_canon.specs.Store.{IsKnown, content, Keeps, IsRead, IsTrimmed, IsWant, universe_in}
+use Rattle.life_canon.specs.Store.{IsKnown, content, IsRead, IsTrimmed, IsWant, universe_in}
 use Rattle.life_canon.specs.Universe.{Universe, IsSame, IsOnPlane, least_level, square_universe, macrocell_universe}
 use Rattle.life_canon.specs.declared.pattern.Pattern.{Pattern}
 use Rattle.life_step.specs.Refusals.{TableRefusal, LifeRefusal, RuleRefusal}
@@ -39,17 +39,6 @@ use Rattle.life_step.proofs.RefusalFacts.{refusal-at, life-refusal, blank-outsid
 use Rattle.life_step.proofs.StateFacts.{states-up-to}
 
 -- ---- the store
-
-pub keeps-all : (old mid new : Nodes) → Keeps old mid → Keeps mid new → Keeps old new
-keeps-all old mid new a b = record {
-  contents = λ id k. let p = a.contents id k in let q = b.contents id p.0 in (q.0, q.1 ∙ p.1);
-  stored = λ t h. b.stored t (a.stored t h);
-  limit = b.limit ∙ a.limit;
-}
-
-pub keeps-of : (old new : Nodes) → ((id : Id) → IsKnown old id → IsKnown new id × (content new id ≡ content old id)) → ((t : Tree) → Contains (held old) t → Contains (held new) t)
-    → new.limit ≡ old.limit → Keeps old new
-keeps-of old new contents stored limit = record { contents = contents; stored = stored; limit = limit }
 
 -- want of room or of memory, or a fault of the step
 pub refused-by : (store : Nodes) (fault : Fault) (P Q : Type 0) → (P → Q) → (fault ≡ fault_of kinds.Full → length (held store) ≡ store.limit)

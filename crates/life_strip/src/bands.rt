@@ -1,10 +1,10 @@
 //! Four rows of cells of the states 0 and 1, made into squares of level 2 at once, 64 columns at a time.
-ghost use Rattle.std.specs.Prelude.{◌≡◌, ℕ, ◌+◌, ◌-◌, ◌*◌, ◌^◌, ◌<◌, ◌≤◌, ◌⊎◌, Contains, length, Err, IfSome, IfOk, IfErr, OnOk, OnErr};
+ghost use Rattle.std.specs.Prelude.{◌≡◌, ℕ, ◌+◌, ◌-◌, ◌*◌, ◌^◌, ◌<◌, ◌≤◌, ◌⊎◌, length, Err, IfSome, IfOk, IfErr, OnOk, OnErr};
 ghost use Rattle.life_base.specs.declared.kind.Kind.TheVariants.{Full, Memory};
 ghost use Rattle.life_base.specs.Tree.{Tree, quad};
-ghost use Rattle.life_quad.specs.declared.id.Id.{Id as IdValue};
 ghost use Rattle.life_quad.specs.Refused.{SomePart};
 ghost use Rattle.life_quad.specs.Store.{two, four};
+ghost use Rattle.life_quad.specs.Keeping.{KeepsSquares};
 ghost use Rattle.life_strip.specs.Strip.{IsStrip, AreWithin, square_at};
 ghost use Rattle.life_strip.specs.Band.{four_at, Covers, IsExtended, FilledTo, cells_at};
 
@@ -19,9 +19,7 @@ fn join_two<S: Squares>(squares: &mut S, cells: u16) -> Result<Id, Kind>
     requires small { cells < 16 }
     ensures known { IfOk result (S.knows squares.new) }
     ensures square { IfOk result (λ r. S.content squares.new r ≡ two cells) }
-    ensures keeps { (q : IdValue) → S.knows squares.old q → S.knows squares.new q × (S.content squares.new q ≡ S.content squares.old q) }
-    ensures stays { (t : Tree) → Contains (S.stored squares.old) t → Contains (S.stored squares.new) t }
-    ensures most { S.most squares.new ≡ S.most squares.old }
+    ensures keeps { KeepsSquares S.knows S.content S.stored S.most squares.old squares.new }
     ensures refusals { IfErr result (λ e. (e ≡ Full) ⊎ (e ≡ Memory)) }
     ensures full { result ≡ Err Full → length (S.stored squares.new) ≡ S.most squares.new }
     ensures needed { OnErr result (S.needs_node squares.new (two cells)) }
@@ -37,9 +35,7 @@ fn join_two<S: Squares>(squares: &mut S, cells: u16) -> Result<Id, Kind>
 fn join_four<S: Squares>(squares: &mut S, cells: u16) -> Result<Id, Kind>
     ensures known { IfOk result (S.knows squares.new) }
     ensures square { IfOk result (λ r. S.content squares.new r ≡ four cells) }
-    ensures keeps { (q : IdValue) → S.knows squares.old q → S.knows squares.new q × (S.content squares.new q ≡ S.content squares.old q) }
-    ensures stays { (t : Tree) → Contains (S.stored squares.old) t → Contains (S.stored squares.new) t }
-    ensures most { S.most squares.new ≡ S.most squares.old }
+    ensures keeps { KeepsSquares S.knows S.content S.stored S.most squares.old squares.new }
     ensures refusals { IfErr result (λ e. (e ≡ Full) ⊎ (e ≡ Memory)) }
     ensures full { result ≡ Err Full → length (S.stored squares.new) ≡ S.most squares.new }
     ensures needed { OnErr result (SomePart (S.needs_node squares.new) (four cells)) }
@@ -77,9 +73,7 @@ fn push_square<S: Squares>(
     end: u64,
 ) -> Result<(), Kind>
     ensures filled { OnOk result ((want : ℕ → Tree) (column : ℕ) → FilledTo (S.knows squares.old) (S.content squares.old) want spans.old.items column → column < end → ((c : ℕ) → column ≤ c → c < end → want c ≡ four cells) → FilledTo (S.knows squares.new) (S.content squares.new) want spans.new.items end) }
-    ensures keeps { (q : IdValue) → S.knows squares.old q → S.knows squares.new q × (S.content squares.new q ≡ S.content squares.old q) }
-    ensures stays { (t : Tree) → Contains (S.stored squares.old) t → Contains (S.stored squares.new) t }
-    ensures most { S.most squares.new ≡ S.most squares.old }
+    ensures keeps { KeepsSquares S.knows S.content S.stored S.most squares.old squares.new }
     ensures refusals { IfErr result (λ e. (e ≡ Full) ⊎ (e ≡ Memory)) }
     ensures full { result ≡ Err Full → length (S.stored squares.new) ≡ S.most squares.new }
     ensures needed { result ≡ Err Full → SomePart (S.needs_node squares.new) (four cells) }
@@ -102,9 +96,7 @@ fn push_rows<S: Squares>(
     ensures beyond { IfOk result (λ next. block < next) }
     ensures within { IfOk result (λ next. 64 * next ≤ 2 ^ MAX_LEVEL) }
     ensures filled { IfOk result (λ next. (want : ℕ → Tree) → FilledTo (S.knows squares.old) (S.content squares.old) want spans.old.items (16 * block) → ((i : ℕ) → i < 16 → want (16 * block + i) ≡ four (cells_at upper lower i)) → ((c : ℕ) → 16 * block < c → 4 * c + 3 < end → want c ≡ want (16 * block)) → FilledTo (S.knows squares.new) (S.content squares.new) want spans.new.items (16 * next)) }
-    ensures keeps { (q : IdValue) → S.knows squares.old q → S.knows squares.new q × (S.content squares.new q ≡ S.content squares.old q) }
-    ensures stays { (t : Tree) → Contains (S.stored squares.old) t → Contains (S.stored squares.new) t }
-    ensures most { S.most squares.new ≡ S.most squares.old }
+    ensures keeps { KeepsSquares S.knows S.content S.stored S.most squares.old squares.new }
     ensures refusals { IfErr result (λ e. (e ≡ Full) ⊎ (e ≡ Memory)) }
     ensures full { result ≡ Err Full → length (S.stored squares.new) ≡ S.most squares.new }
     ensures needed { result ≡ Err Full → (i : ℕ) × (i < 16) × SomePart (S.needs_node squares.new) (four (cells_at upper lower i)) }
@@ -144,9 +136,7 @@ pub(crate) fn band<S: Squares>(
     ensures strip { IfOk result (λ r. IfSome r (λ spans. IsStrip (S.knows squares.new) (S.content squares.new) 2 spans.items)) }
     ensures within { IfOk result (λ r. IfSome r (λ spans. AreWithin 2 spans.items)) }
     ensures squares { IfOk result (λ r. IfSome r (λ spans. (column : ℕ) → square_at (S.content squares.new) 2 spans.items column ≡ four_at (S.content squares.old) first.now second.now third.now fourth.now column)) }
-    ensures keeps { (q : IdValue) → S.knows squares.old q → S.knows squares.new q × (S.content squares.new q ≡ S.content squares.old q) }
-    ensures stays { (t : Tree) → Contains (S.stored squares.old) t → Contains (S.stored squares.new) t }
-    ensures most { S.most squares.new ≡ S.most squares.old }
+    ensures keeps { KeepsSquares S.knows S.content S.stored S.most squares.old squares.new }
     ensures refusals { IfErr result (λ e. (e ≡ Full) ⊎ (e ≡ Memory)) }
     ensures full { result ≡ Err Full → length (S.stored squares.new) ≡ S.most squares.new }
     ensures needed { result ≡ Err Full → (column : ℕ) × (column < 2 ^ (MAX_LEVEL - 2)) × SomePart (S.needs_node squares.new) (four_at (S.content squares.old) first.now second.now third.now fourth.now column) }

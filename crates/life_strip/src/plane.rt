@@ -1,9 +1,9 @@
 //! The plane as far as it is filled, row by row.
-ghost use Rattle.std.specs.Prelude.{◌≡◌, ℕ, ℤ, pos, neg_ℤ, nat_abs, ◌+ℤ◌, ◌<ℤ◌, ◌≤ℤ◌, suc, ◌+◌, ◌^◌, ◌<◌, ◌≤◌, ◌⊎◌, ◌++◌, ◌∷◌, [], List, All, Contains, length, Err, IfOk, IfErr, OnOk};
+ghost use Rattle.std.specs.Prelude.{◌≡◌, ℕ, ℤ, pos, neg_ℤ, nat_abs, ◌+ℤ◌, ◌<ℤ◌, ◌≤ℤ◌, suc, ◌+◌, ◌^◌, ◌<◌, ◌≤◌, ◌⊎◌, ◌++◌, ◌∷◌, [], List, All, length, Err, IfOk, IfErr, OnOk};
 ghost use Rattle.life_base.specs.declared.kind.Kind.TheVariants.{Full, Memory};
-ghost use Rattle.life_base.specs.Tree.{Tree, depth};
-ghost use Rattle.life_quad.specs.declared.id.Id.{Id as IdValue};
+ghost use Rattle.life_base.specs.Tree.{depth};
 ghost use Rattle.life_base.specs.Tree.{tree_cell as cell_of};
+ghost use Rattle.life_quad.specs.Keeping.{KeepsSquares};
 ghost use Rattle.life_strip.specs.Given.{IsOnPlane, half_plane};
 ghost use Rattle.life_strip.specs.Needed.{SomeSquare};
 ghost use Rattle.life_strip.specs.Picture.{picture};
@@ -70,9 +70,7 @@ impl Plane {
         ensures rows { OnOk result (self.new.rows ≡ row) }
         ensures ends { OnOk result ((n : ℕ) → (self.old.rows ≡ row → All (λ s. s.end ≤ n) self.old.row.spans.items) → All (λ s. s.end ≤ n) self.new.row.spans.items) }
         ensures picture { OnOk result ((i j : ℕ) → picture (S.content squares.new) ((self.new.strips.items ++ self.new.band.items) ++ self.new.row ∷ []) i j ≡ picture (S.content squares.old) ((self.old.strips.items ++ self.old.band.items) ++ self.old.row ∷ []) i j) }
-        ensures keeps { (q : IdValue) → S.knows squares.old q → S.knows squares.new q × (S.content squares.new q ≡ S.content squares.old q) }
-        ensures stays { (t : Tree) → Contains (S.stored squares.old) t → Contains (S.stored squares.new) t }
-        ensures most { S.most squares.new ≡ S.most squares.old }
+        ensures keeps { KeepsSquares S.knows S.content S.stored S.most squares.old squares.new }
         ensures refusals { IfErr result (λ e. (e ≡ Full) ⊎ (e ≡ Memory)) }
         ensures full { result ≡ Err Full → length (S.stored squares.new) ≡ S.most squares.new }
         ensures needed { result ≡ Err Full → SomeSquare (S.needs_node squares.new) row (state_so_far (S.content squares.old) self.old) }
@@ -116,9 +114,7 @@ impl Plane {
         ensures cells { OnOk result (AddsRun (cell_so_far (S.content squares.old) self.old) (cell_so_far (S.content squares.new) self.new) x y len state) }
         ensures below { OnOk result ((column row : ℤ) → y <ℤ row → IsFree self.new column row) }
         ensures beside { OnOk result ((column : ℤ) → (x +ℤ pos len) ≤ℤ column → IsFree self.new column y) }
-        ensures keeps { (q : IdValue) → S.knows squares.old q → S.knows squares.new q × (S.content squares.new q ≡ S.content squares.old q) }
-        ensures stays { (t : Tree) → Contains (S.stored squares.old) t → Contains (S.stored squares.new) t }
-        ensures most { S.most squares.new ≡ S.most squares.old }
+        ensures keeps { KeepsSquares S.knows S.content S.stored S.most squares.old squares.new }
         ensures refusals { IfErr result (λ e. (e ≡ Full) ⊎ (e ≡ Memory)) }
         ensures full { result ≡ Err Full → length (S.stored squares.new) ≡ S.most squares.new }
         ensures needed { result ≡ Err Full → SomeSquare (S.needs_node squares.new) (nat_abs (y +ℤ pos half_plane)) (state_so_far (S.content squares.old) self.old) }
@@ -137,9 +133,7 @@ impl Plane {
         ensures known { IfOk result (S.knows squares.new) }
         ensures level { IfOk result (λ r. depth (S.content squares.new r) ≡ MAX_LEVEL) }
         ensures cells { IfOk result (λ r. (x y : ℤ) → cell_of (S.content squares.new r) x y ≡ cell_so_far (S.content squares.old) self x y) }
-        ensures keeps { (q : IdValue) → S.knows squares.old q → S.knows squares.new q × (S.content squares.new q ≡ S.content squares.old q) }
-        ensures stays { (t : Tree) → Contains (S.stored squares.old) t → Contains (S.stored squares.new) t }
-        ensures most { S.most squares.new ≡ S.most squares.old }
+        ensures keeps { KeepsSquares S.knows S.content S.stored S.most squares.old squares.new }
         ensures refusals { IfErr result (λ e. (e ≡ Full) ⊎ (e ≡ Memory)) }
         ensures full { result ≡ Err Full → length (S.stored squares.new) ≡ S.most squares.new }
         ensures needed { result ≡ Err Full → SomeSquare (S.needs_node squares.new) (2 ^ MAX_LEVEL) (state_so_far (S.content squares.old) self) }

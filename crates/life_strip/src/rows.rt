@@ -1,8 +1,8 @@
 //! Strips one below the other.
-ghost use Rattle.std.specs.Prelude.{◌≡◌, ℕ, suc, ◌+◌, ◌-◌, ◌^◌, ◌<◌, ◌≤◌, ◌⊎◌, ◌++◌, ◌∷◌, [], All, Contains, length, Err, IfSome, IfOk, IfErr, OnOk};
+ghost use Rattle.std.specs.Prelude.{◌≡◌, ℕ, suc, ◌+◌, ◌-◌, ◌^◌, ◌<◌, ◌≤◌, ◌⊎◌, ◌++◌, ◌∷◌, [], All, length, Err, IfSome, IfOk, IfErr, OnOk};
 ghost use Rattle.life_base.specs.declared.kind.Kind.TheVariants.{Full, Memory};
-ghost use Rattle.life_base.specs.Tree.{Tree, depth, state_at};
-ghost use Rattle.life_quad.specs.declared.id.Id.{Id as IdValue};
+ghost use Rattle.life_base.specs.Tree.{depth, state_at};
+ghost use Rattle.life_quad.specs.Keeping.{KeepsSquares};
 ghost use Rattle.life_strip.specs.Strip.{quad_at};
 ghost use Rattle.life_strip.specs.Picture.{picture, height, AreFalling, IsLowest, IsSound, IsStack};
 ghost use Rattle.life_strip.specs.Needed.{SomeSquare};
@@ -28,9 +28,7 @@ fn merge<S: Squares>(
     ensures sound { IfOk result (λ r. IsSound (S.knows squares.new) (S.content squares.new) r) }
     ensures level { IfOk result (λ r. r.level ≡ suc upper.now.level) }
     ensures stack { IfOk result (λ r. IsStack (S.content squares.old) (S.content squares.new) upper.now lower.now r) }
-    ensures keeps { (q : IdValue) → S.knows squares.old q → S.knows squares.new q × (S.content squares.new q ≡ S.content squares.old q) }
-    ensures stays { (t : Tree) → Contains (S.stored squares.old) t → Contains (S.stored squares.new) t }
-    ensures most { S.most squares.new ≡ S.most squares.old }
+    ensures keeps { KeepsSquares S.knows S.content S.stored S.most squares.old squares.new }
     ensures refusals { IfErr result (λ e. (e ≡ Full) ⊎ (e ≡ Memory)) }
     ensures full { result ≡ Err Full → length (S.stored squares.new) ≡ S.most squares.new }
     ensures needed { result ≡ Err Full → (column : ℕ) × (column < 2 ^ (MAX_LEVEL - (upper.now.level + 1))) × S.needs_node squares.new (quad_at (S.content squares.old) upper.now.level upper.now.spans.items lower.now.spans.items column) }
@@ -64,9 +62,7 @@ fn push_strip<S: Squares>(
     ensures sound { OnOk result (All (IsSound (S.knows squares.new) (S.content squares.new)) strips.new.items) }
     ensures height { OnOk result (height strips.new.items ≡ height strips.old.items + 2 ^ strip.level) }
     ensures picture { OnOk result ((column row : ℕ) → picture (S.content squares.new) strips.new.items column row ≡ picture (S.content squares.old) (strips.old.items ++ strip ∷ []) column row) }
-    ensures keeps { (q : IdValue) → S.knows squares.old q → S.knows squares.new q × (S.content squares.new q ≡ S.content squares.old q) }
-    ensures stays { (t : Tree) → Contains (S.stored squares.old) t → Contains (S.stored squares.new) t }
-    ensures most { S.most squares.new ≡ S.most squares.old }
+    ensures keeps { KeepsSquares S.knows S.content S.stored S.most squares.old squares.new }
     ensures refusals { IfErr result (λ e. (e ≡ Full) ⊎ (e ≡ Memory)) }
     ensures full { result ≡ Err Full → length (S.stored squares.new) ≡ S.most squares.new }
     ensures needed { result ≡ Err Full → SomeSquare (S.needs_node squares.new) (height strips.old.items + 2 ^ strip.level) (picture (S.content squares.old) (strips.old.items ++ strip ∷ [])) }
@@ -118,9 +114,7 @@ fn push_rows<S: Squares>(
     ensures sound { OnOk result (All (IsSound (S.knows squares.new) (S.content squares.new)) strips.new.items) }
     ensures height { OnOk result (height strips.new.items ≡ height (strips.old.items ++ band.old.items)) }
     ensures picture { OnOk result ((column row : ℕ) → picture (S.content squares.new) strips.new.items column row ≡ picture (S.content squares.old) (strips.old.items ++ band.old.items) column row) }
-    ensures keeps { (q : IdValue) → S.knows squares.old q → S.knows squares.new q × (S.content squares.new q ≡ S.content squares.old q) }
-    ensures stays { (t : Tree) → Contains (S.stored squares.old) t → Contains (S.stored squares.new) t }
-    ensures most { S.most squares.new ≡ S.most squares.old }
+    ensures keeps { KeepsSquares S.knows S.content S.stored S.most squares.old squares.new }
     ensures refusals { IfErr result (λ e. (e ≡ Full) ⊎ (e ≡ Memory)) }
     ensures full { result ≡ Err Full → length (S.stored squares.new) ≡ S.most squares.new }
     ensures needed { result ≡ Err Full → SomeSquare (S.needs_node squares.new) (height (strips.old.items ++ band.old.items)) (picture (S.content squares.old) (strips.old.items ++ band.old.items)) }
@@ -144,9 +138,7 @@ fn band_strip<S: Squares>(
     ensures sound { IfOk result (λ r. IfSome r (λ s. IsSound (S.knows squares.new) (S.content squares.new) s)) }
     ensures level { IfOk result (λ r. IfSome r (λ s. s.level ≡ 2)) }
     ensures picture { IfOk result (λ r. IfSome r (λ s. (column row : ℕ) → picture (S.content squares.new) (s ∷ []) column row ≡ picture (S.content squares.old) rows.now column row)) }
-    ensures keeps { (q : IdValue) → S.knows squares.old q → S.knows squares.new q × (S.content squares.new q ≡ S.content squares.old q) }
-    ensures stays { (t : Tree) → Contains (S.stored squares.old) t → Contains (S.stored squares.new) t }
-    ensures most { S.most squares.new ≡ S.most squares.old }
+    ensures keeps { KeepsSquares S.knows S.content S.stored S.most squares.old squares.new }
     ensures refusals { IfErr result (λ e. (e ≡ Full) ⊎ (e ≡ Memory)) }
     ensures full { result ≡ Err Full → length (S.stored squares.new) ≡ S.most squares.new }
     ensures needed { result ≡ Err Full → SomeSquare (S.needs_node squares.new) 4 (picture (S.content squares.old) rows.now) }
@@ -180,9 +172,7 @@ fn close_band<S: Squares>(
     ensures sound { OnOk result (All (IsSound (S.knows squares.new) (S.content squares.new)) strips.new.items) }
     ensures height { OnOk result (height strips.new.items ≡ height (strips.old.items ++ band.old.items)) }
     ensures picture { OnOk result ((column row : ℕ) → picture (S.content squares.new) strips.new.items column row ≡ picture (S.content squares.old) (strips.old.items ++ band.old.items) column row) }
-    ensures keeps { (q : IdValue) → S.knows squares.old q → S.knows squares.new q × (S.content squares.new q ≡ S.content squares.old q) }
-    ensures stays { (t : Tree) → Contains (S.stored squares.old) t → Contains (S.stored squares.new) t }
-    ensures most { S.most squares.new ≡ S.most squares.old }
+    ensures keeps { KeepsSquares S.knows S.content S.stored S.most squares.old squares.new }
     ensures refusals { IfErr result (λ e. (e ≡ Full) ⊎ (e ≡ Memory)) }
     ensures full { result ≡ Err Full → length (S.stored squares.new) ≡ S.most squares.new }
     ensures needed { result ≡ Err Full → SomeSquare (S.needs_node squares.new) (height (strips.old.items ++ band.old.items)) (picture (S.content squares.old) (strips.old.items ++ band.old.items)) }
@@ -209,9 +199,7 @@ fn push_row<S: Squares>(
     ensures pile { OnOk result (IsPile (S.knows squares.new) (S.content squares.new) strips.new.items band.new.items) }
     ensures height { OnOk result (height (strips.new.items ++ band.new.items) ≡ height (strips.old.items ++ band.old.items) + 1) }
     ensures picture { OnOk result ((column j : ℕ) → picture (S.content squares.new) (strips.new.items ++ band.new.items) column j ≡ picture (S.content squares.old) ((strips.old.items ++ band.old.items) ++ row ∷ []) column j) }
-    ensures keeps { (q : IdValue) → S.knows squares.old q → S.knows squares.new q × (S.content squares.new q ≡ S.content squares.old q) }
-    ensures stays { (t : Tree) → Contains (S.stored squares.old) t → Contains (S.stored squares.new) t }
-    ensures most { S.most squares.new ≡ S.most squares.old }
+    ensures keeps { KeepsSquares S.knows S.content S.stored S.most squares.old squares.new }
     ensures refusals { IfErr result (λ e. (e ≡ Full) ⊎ (e ≡ Memory)) }
     ensures full { result ≡ Err Full → length (S.stored squares.new) ≡ S.most squares.new }
     ensures needed { result ≡ Err Full → SomeSquare (S.needs_node squares.new) (height (strips.old.items ++ band.old.items) + 1) (picture (S.content squares.old) ((strips.old.items ++ band.old.items) ++ row ∷ [])) }
@@ -236,9 +224,7 @@ fn skip_rows<S: Squares>(
     ensures pile { OnOk result (IsPile (S.knows squares.new) (S.content squares.new) strips.new.items band.new.items) }
     ensures height { OnOk result (height (strips.new.items ++ band.new.items) ≡ height (strips.old.items ++ band.old.items) + count) }
     ensures picture { OnOk result ((column row : ℕ) → picture (S.content squares.new) (strips.new.items ++ band.new.items) column row ≡ picture (S.content squares.old) (strips.old.items ++ band.old.items) column row) }
-    ensures keeps { (q : IdValue) → S.knows squares.old q → S.knows squares.new q × (S.content squares.new q ≡ S.content squares.old q) }
-    ensures stays { (t : Tree) → Contains (S.stored squares.old) t → Contains (S.stored squares.new) t }
-    ensures most { S.most squares.new ≡ S.most squares.old }
+    ensures keeps { KeepsSquares S.knows S.content S.stored S.most squares.old squares.new }
     ensures refusals { IfErr result (λ e. (e ≡ Full) ⊎ (e ≡ Memory)) }
     ensures full { result ≡ Err Full → length (S.stored squares.new) ≡ S.most squares.new }
     ensures needed { result ≡ Err Full → SomeSquare (S.needs_node squares.new) (height (strips.old.items ++ band.old.items) + count) (picture (S.content squares.old) (strips.old.items ++ band.old.items)) }
@@ -279,9 +265,7 @@ pub(crate) fn end_row<S: Squares>(
     ensures pile { OnOk result (IsPile (S.knows squares.new) (S.content squares.new) strips.new.items band.new.items) }
     ensures height { OnOk result (height (strips.new.items ++ band.new.items) ≡ height (strips.old.items ++ band.old.items) + 1 + blank_rows) }
     ensures picture { OnOk result ((column j : ℕ) → picture (S.content squares.new) (strips.new.items ++ band.new.items) column j ≡ picture (S.content squares.old) ((strips.old.items ++ band.old.items) ++ row ∷ []) column j) }
-    ensures keeps { (q : IdValue) → S.knows squares.old q → S.knows squares.new q × (S.content squares.new q ≡ S.content squares.old q) }
-    ensures stays { (t : Tree) → Contains (S.stored squares.old) t → Contains (S.stored squares.new) t }
-    ensures most { S.most squares.new ≡ S.most squares.old }
+    ensures keeps { KeepsSquares S.knows S.content S.stored S.most squares.old squares.new }
     ensures refusals { IfErr result (λ e. (e ≡ Full) ⊎ (e ≡ Memory)) }
     ensures full { result ≡ Err Full → length (S.stored squares.new) ≡ S.most squares.new }
     ensures needed { result ≡ Err Full → SomeSquare (S.needs_node squares.new) (height (strips.old.items ++ band.old.items) + 1 + blank_rows) (picture (S.content squares.old) ((strips.old.items ++ band.old.items) ++ row ∷ [])) }
@@ -322,9 +306,7 @@ pub(crate) fn whole_plane<S: Squares>(
     ensures known { IfOk result (S.knows squares.new) }
     ensures level { IfOk result (λ r. depth (S.content squares.new r) ≡ MAX_LEVEL) }
     ensures cells { IfOk result (λ r. (column j : ℕ) → column < 2 ^ MAX_LEVEL → j < 2 ^ MAX_LEVEL → state_at (S.content squares.new r) column j ≡ picture (S.content squares.old) ((strips.old.items ++ band.old.items) ++ row ∷ []) column j) }
-    ensures keeps { (q : IdValue) → S.knows squares.old q → S.knows squares.new q × (S.content squares.new q ≡ S.content squares.old q) }
-    ensures stays { (t : Tree) → Contains (S.stored squares.old) t → Contains (S.stored squares.new) t }
-    ensures most { S.most squares.new ≡ S.most squares.old }
+    ensures keeps { KeepsSquares S.knows S.content S.stored S.most squares.old squares.new }
     ensures refusals { IfErr result (λ e. (e ≡ Full) ⊎ (e ≡ Memory)) }
     ensures full { result ≡ Err Full → length (S.stored squares.new) ≡ S.most squares.new }
     ensures needed { result ≡ Err Full → SomeSquare (S.needs_node squares.new) (2 ^ MAX_LEVEL) (picture (S.content squares.old) ((strips.old.items ++ band.old.items) ++ row ∷ [])) }

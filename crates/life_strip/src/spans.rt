@@ -1,9 +1,10 @@
 //! Strips of squares, and how two of them make one of the next level.
-ghost use Rattle.std.specs.Prelude.{◌≡◌, ℕ, ◌+◌, ◌-◌, ◌*◌, ◌^◌, ◌<◌, ◌≤◌, ◌⊎◌, ◌&&◌, nat_le, nat_lt, if◌then◌else◌, All, Contains, Some, None, MatchOption, length, slice_get, Err, IfOk, IfErr, OnOk, OnErr};
+ghost use Rattle.std.specs.Prelude.{◌≡◌, ℕ, ◌+◌, ◌-◌, ◌*◌, ◌^◌, ◌<◌, ◌≤◌, ◌⊎◌, ◌&&◌, nat_le, nat_lt, if◌then◌else◌, All, Some, None, MatchOption, length, slice_get, Err, IfOk, IfErr, OnOk, OnErr};
 ghost use Rattle.life_base.specs.declared.kind.Kind.TheVariants.{Full, Memory};
 ghost use Rattle.life_quad.specs.declared.id.Id.{Id as IdValue};
 ghost use Rattle.life_strip.specs.declared.spans.Span.{Span as SpanValue};
-ghost use Rattle.life_base.specs.Tree.{Tree, depth, blank as blank_square};
+ghost use Rattle.life_base.specs.Tree.{depth, blank as blank_square};
+ghost use Rattle.life_quad.specs.Keeping.{KeepsSquares};
 ghost use Rattle.life_strip.specs.Strip.{IsStrip, AreWithin, IsPaired, IsPast, IsFound, IsNearer, id_at, id_or, quad_at};
 
 use life_base::{Kind, MAX_LEVEL};
@@ -93,9 +94,7 @@ fn join_at<S: Squares>(
     ensures square { IfOk result (λ r. S.content squares.new r.square ≡ quad_at (S.content squares.old) level upper.now lower.now column) }
     ensures north { IfOk result (λ r. IsPast upper.now r.north (2 * column + 1)) }
     ensures south { IfOk result (λ r. IsPast lower.now r.south (2 * column + 1)) }
-    ensures keeps { (q : IdValue) → S.knows squares.old q → S.knows squares.new q × (S.content squares.new q ≡ S.content squares.old q) }
-    ensures stays { (t : Tree) → Contains (S.stored squares.old) t → Contains (S.stored squares.new) t }
-    ensures most { S.most squares.new ≡ S.most squares.old }
+    ensures keeps { KeepsSquares S.knows S.content S.stored S.most squares.old squares.new }
     ensures refusals { IfErr result (λ e. (e ≡ Full) ⊎ (e ≡ Memory)) }
     ensures full { result ≡ Err Full → length (S.stored squares.new) ≡ S.most squares.new }
     ensures needed { OnErr result (S.needs_node squares.new (quad_at (S.content squares.old) level upper.now lower.now column)) }
@@ -148,9 +147,7 @@ pub(crate) fn pair<S: Squares>(
     ensures strip { IfOk result (λ r. IsStrip (S.knows squares.new) (S.content squares.new) (level + 1) r.items) }
     ensures within { IfOk result (λ r. AreWithin (level + 1) r.items) }
     ensures paired { IfOk result (λ r. IsPaired (S.content squares.old) (S.content squares.new) level upper.now lower.now r.items) }
-    ensures keeps { (q : IdValue) → S.knows squares.old q → S.knows squares.new q × (S.content squares.new q ≡ S.content squares.old q) }
-    ensures stays { (t : Tree) → Contains (S.stored squares.old) t → Contains (S.stored squares.new) t }
-    ensures most { S.most squares.new ≡ S.most squares.old }
+    ensures keeps { KeepsSquares S.knows S.content S.stored S.most squares.old squares.new }
     ensures refusals { IfErr result (λ e. (e ≡ Full) ⊎ (e ≡ Memory)) }
     ensures full { result ≡ Err Full → length (S.stored squares.new) ≡ S.most squares.new }
     ensures needed { result ≡ Err Full → (column : ℕ) × (column < 2 ^ (MAX_LEVEL - (level + 1))) × S.needs_node squares.new (quad_at (S.content squares.old) level upper.now lower.now column) }

@@ -1,9 +1,9 @@
 //! The next generation of a square.
-ghost use Rattle.std.specs.Prelude.{◌≡◌, ◌⊎◌, ◌↔◌, ℤ, ◌<◌, ◌≤◌, All, IsTrue, Contains, Err, Some, None, IfOk, IfErr, length};
+ghost use Rattle.std.specs.Prelude.{◌≡◌, ◌⊎◌, ◌↔◌, ℤ, ◌<◌, ◌≤◌, All, IsTrue, Err, Some, None, IfOk, IfErr, length};
 ghost use Rattle.life_base.specs.declared.kind.Kind.TheVariants.{Full, Memory};
 ghost use Rattle.life_base.specs.Refusal.{fault_of};
-ghost use Rattle.life_base.specs.Tree.{Tree, depth, tree_cell};
-ghost use Rattle.life_quad.specs.declared.id.Id.{Id as IdValue};
+ghost use Rattle.life_base.specs.Tree.{depth, tree_cell};
+ghost use Rattle.life_quad.specs.Keeping.{KeepsSquares};
 ghost use Rattle.life_table.specs.Meaning.{Becomes};
 ghost use Rattle.life_sweep.specs.Needed.{SomeNext};
 ghost use Rattle.life_sweep.specs.Refused.{GenerationRefusal};
@@ -47,9 +47,7 @@ pub fn next_generation<S: Squares, L: Law>(
     ensures full { result ≡ Err (fault_of Full) → length (S.stored squares.new) ≡ S.most squares.new }
     ensures needed { result ≡ Err (fault_of Full) → SomeNext (S.needs_node squares.new) (L.answers law.old) (tree_cell (S.content squares.old id)) }
     ensures same { law.new ≡ law.old }
-    ensures keeps { (q : IdValue) → S.knows squares.old q → S.knows squares.new q × (S.content squares.new q ≡ S.content squares.old q) }
-    ensures stays { (t : Tree) → Contains (S.stored squares.old) t → Contains (S.stored squares.new) t }
-    ensures most { S.most squares.new ≡ S.most squares.old }
+    ensures keeps { KeepsSquares S.knows S.content S.stored S.most squares.old squares.new }
 {
     let list = cells(alloc, squares, id, most)?;
     if !are_below(&list, law.n_states()) {

@@ -2,6 +2,7 @@ use Rattle.std.proofs.Common.{◌≡◌, ◌^◌, sym, ◌∙◌, ap, subst}
 use Rattle.std.proofs.lemmas.Result.{IfOk-weaker, err_from_is_err_and}
 use Rattle.life_base.specs.Tree.{depth}
 use Rattle.life_quad.specs.declared.id.Id.{Id}
+use Rattle.life_quad.proofs.KeepingLemmas.{keeps-then}
 use Rattle.life_sweep.specs.Generation.{next_life}
 use Rattle.life_block.specs.Pieces.{IsPiece, AreNine, ahead}
 use Rattle.life_block.proofs.NeedLemmas.{piece-is, whole-part, north_west-part, north_east-part, south_west-part, south_east-part, on-err, still-needs}
@@ -12,14 +13,16 @@ pub next_amid-returns-then-are_all-clause-next : goal.next_amid-returns-then-are
 next_amid-returns-then-are_all-clause-next g t c cells x y binary h =
     next-of_blank c.args.rule.now (g.S.Squares.content c.args.squares.now) cells c.args.level x y c.empty-blank.result c.args.nine.now c.requires.quiet c.empty-blank.ensures.square (c.are_all.ensures c.if-are_all.true) h
 
-pub next_of_middle-returns-in_err-sw-clause-stays : goal.next_of_middle-returns-in_err-sw-clause-stays
-next_of_middle-returns-in_err-sw-clause-stays g m c t h = c.in_err-sw.ensures.stays t (c.in_ok-ne.ensures.stays t (c.in_ok-nw.ensures.stays t h))
+pub next_of_middle-returns-in_err-sw-clause-keeps : goal.next_of_middle-returns-in_err-sw-clause-keeps
+next_of_middle-returns-in_err-sw-clause-keeps g m c = keeps-then (keeps-then c.in_ok-nw.ensures.keeps c.in_ok-ne.ensures.keeps) c.in_err-sw.ensures.keeps
 
-pub next_of_middle-returns-in_err-se-clause-stays : goal.next_of_middle-returns-in_err-se-clause-stays
-next_of_middle-returns-in_err-se-clause-stays g m c t h = c.in_err-se.ensures.stays t (c.in_ok-sw.ensures.stays t (c.in_ok-ne.ensures.stays t (c.in_ok-nw.ensures.stays t h)))
+pub next_of_middle-returns-in_err-se-clause-keeps : goal.next_of_middle-returns-in_err-se-clause-keeps
+next_of_middle-returns-in_err-se-clause-keeps g m c =
+    keeps-then (keeps-then (keeps-then c.in_ok-nw.ensures.keeps c.in_ok-ne.ensures.keeps) c.in_ok-sw.ensures.keeps) c.in_err-se.ensures.keeps
 
-pub next_of_middle-returns-clause-stays : goal.next_of_middle-returns-clause-stays
-next_of_middle-returns-clause-stays g m c t h = c.join.ensures.stays t (c.in_ok-se.ensures.stays t (c.in_ok-sw.ensures.stays t (c.in_ok-ne.ensures.stays t (c.in_ok-nw.ensures.stays t h))))
+pub next_of_middle-returns-clause-keeps : goal.next_of_middle-returns-clause-keeps
+next_of_middle-returns-clause-keeps g m c =
+    keeps-then (keeps-then (keeps-then (keeps-then c.in_ok-nw.ensures.keeps c.in_ok-ne.ensures.keeps) c.in_ok-sw.ensures.keeps) c.in_ok-se.ensures.keeps) c.join.ensures.keeps
 
 pub next_of_middle-returns-clause-next : goal.next_of_middle-returns-clause-next
 next_of_middle-returns-clause-next g m c =
@@ -37,20 +40,18 @@ next_of_middle-returns-clause-next g m c =
     let ne = c.in_ok-ne.ensures in
     let sw = c.in_ok-sw.ensures in
     let se = c.in_ok-se.ensures in
-    let to2 : (q : Id) → K s0 q → C s2 q ≡ C s0 q = λ q k. let a = nw.keeps q k in (ne.keeps q a.0).1 ∙ a.1 in
-    let to3 : (q : Id) → K s0 q → C s3 q ≡ C s0 q = λ q k. let a = nw.keeps q k in let b = ne.keeps q a.0 in (sw.keeps q b.0).1 ∙ b.1 ∙ a.1 in
-    let nw2 = ne.keeps c.in_ok-nw.nw nw.at.known in
-    let nw3 = sw.keeps c.in_ok-nw.nw nw2.0 in
-    let nw4 = se.keeps c.in_ok-nw.nw nw3.0 in
-    let ne3 = sw.keeps c.in_ok-ne.ne ne.at.known in
-    let ne4 = se.keeps c.in_ok-ne.ne ne3.0 in
-    let sw4 = se.keeps c.in_ok-sw.sw sw.at.known in
-    let enw : C s4 c.in_ok-nw.nw ≡ C s1 c.in_ok-nw.nw = nw4.1 ∙ nw3.1 ∙ nw2.1 in
-    let ene : C s4 c.in_ok-ne.ne ≡ C s2 c.in_ok-ne.ne = ne4.1 ∙ ne3.1 in
+    let to2 : (q : Id) → K s0 q → C s2 q ≡ C s0 q = λ q k. ((keeps-then nw.keeps ne.keeps).contents q k).1 in
+    let to3 : (q : Id) → K s0 q → C s3 q ≡ C s0 q = λ q k. ((keeps-then (keeps-then nw.keeps ne.keeps) sw.keeps).contents q k).1 in
+    let south = keeps-then sw.keeps se.keeps in
+    let nw4 = (keeps-then ne.keeps south).contents c.in_ok-nw.nw nw.at.known in
+    let ne4 = south.contents c.in_ok-ne.ne ne.at.known in
+    let sw4 = se.keeps.contents c.in_ok-sw.sw sw.at.known in
+    let enw : C s4 c.in_ok-nw.nw ≡ C s1 c.in_ok-nw.nw = nw4.1 in
+    let ene : C s4 c.in_ok-ne.ne ≡ C s2 c.in_ok-ne.ne = ne4.1 in
     IfOk-weaker c.join.result _ _
     (λ r e cells x y binary h.
     let next = next_life rule cells in
-    let h1 = AreSixteen-kept (K s0) (C s0) (C s1) (λ q k. (nw.keeps q k).1) cells side c.args.level x y s c.requires.known h in
+    let h1 = AreSixteen-kept (K s0) (C s0) (C s1) (λ q k. (nw.keeps.contents q k).1) cells side c.args.level x y s c.requires.known h in
     let h2 = AreSixteen-kept (K s0) (C s0) (C s2) to2 cells side c.args.level x y s c.requires.known h in
     let h3 = AreSixteen-kept (K s0) (C s0) (C s3) to3 cells side c.args.level x y s c.requires.known h in
     let p1 = nw.next cells x y binary (subst (λ n. AreNine (C s0) cells side x y n) (sym c.north_west.ensures) (nine-north_west (C s0) cells side x y s h)) in
@@ -85,7 +86,7 @@ next_of_middle-returns-in_err-ne-clause-needed g m c =
     let P = g.S.Squares.needs_node c.next_amid-2.new.squares in
     let nw = c.in_ok-nw.ensures in
     let s1 = c.next_amid.new.squares in
-    let to : (q : Id) → K s0 q → C s1 q ≡ C s0 q = λ q k. (nw.keeps q k).1 in
+    let to : (q : Id) → K s0 q → C s1 q ≡ C s0 q = λ q k. (nw.keeps.contents q k).1 in
     let p = err_from_is_err_and c.from_residual-in_err-ne.result c.from_residual-in_err-ne.ensures.1 in
     rw p.1
     (λ cells x y binary h.
@@ -103,7 +104,7 @@ next_of_middle-returns-in_err-sw-clause-needed g m c =
     let nw = c.in_ok-nw.ensures in
     let ne = c.in_ok-ne.ensures in
     let s1 = c.next_amid-2.new.squares in
-    let to : (q : Id) → K s0 q → C s1 q ≡ C s0 q = λ q k. let a = nw.keeps q k in (ne.keeps q a.0).1 ∙ a.1 in
+    let to : (q : Id) → K s0 q → C s1 q ≡ C s0 q = λ q k. ((keeps-then nw.keeps ne.keeps).contents q k).1 in
     let p = err_from_is_err_and c.from_residual-in_err-sw.result c.from_residual-in_err-sw.ensures.1 in
     rw p.1
     (λ cells x y binary h.
@@ -122,7 +123,7 @@ next_of_middle-returns-in_err-se-clause-needed g m c =
     let ne = c.in_ok-ne.ensures in
     let sw = c.in_ok-sw.ensures in
     let s1 = c.next_amid-3.new.squares in
-    let to : (q : Id) → K s0 q → C s1 q ≡ C s0 q = λ q k. let a = nw.keeps q k in let b = ne.keeps q a.0 in (sw.keeps q b.0).1 ∙ b.1 ∙ a.1 in
+    let to : (q : Id) → K s0 q → C s1 q ≡ C s0 q = λ q k. ((keeps-then (keeps-then nw.keeps ne.keeps) sw.keeps).contents q k).1 in
     let p = err_from_is_err_and c.from_residual-in_err-se.result c.from_residual-in_err-se.ensures.1 in
     rw p.1
     (λ cells x y binary h.
@@ -145,22 +146,20 @@ next_of_middle-returns-clause-needed g m c =
     let ne = c.in_ok-ne.ensures in
     let sw = c.in_ok-sw.ensures in
     let se = c.in_ok-se.ensures in
-    let to2 : (q : Id) → K s0 q → C s2 q ≡ C s0 q = λ q k. let a = nw.keeps q k in (ne.keeps q a.0).1 ∙ a.1 in
-    let to3 : (q : Id) → K s0 q → C s3 q ≡ C s0 q = λ q k. let a = nw.keeps q k in let b = ne.keeps q a.0 in (sw.keeps q b.0).1 ∙ b.1 ∙ a.1 in
-    let nw2 = ne.keeps c.in_ok-nw.nw nw.at.known in
-    let nw3 = sw.keeps c.in_ok-nw.nw nw2.0 in
-    let nw4 = se.keeps c.in_ok-nw.nw nw3.0 in
-    let ne3 = sw.keeps c.in_ok-ne.ne ne.at.known in
-    let ne4 = se.keeps c.in_ok-ne.ne ne3.0 in
-    let sw4 = se.keeps c.in_ok-sw.sw sw.at.known in
-    let enw : C s4 c.in_ok-nw.nw ≡ C s1 c.in_ok-nw.nw = nw4.1 ∙ nw3.1 ∙ nw2.1 in
-    let ene : C s4 c.in_ok-ne.ne ≡ C s2 c.in_ok-ne.ne = ne4.1 ∙ ne3.1 in
+    let to2 : (q : Id) → K s0 q → C s2 q ≡ C s0 q = λ q k. ((keeps-then nw.keeps ne.keeps).contents q k).1 in
+    let to3 : (q : Id) → K s0 q → C s3 q ≡ C s0 q = λ q k. ((keeps-then (keeps-then nw.keeps ne.keeps) sw.keeps).contents q k).1 in
+    let south = keeps-then sw.keeps se.keeps in
+    let nw4 = (keeps-then ne.keeps south).contents c.in_ok-nw.nw nw.at.known in
+    let ne4 = south.contents c.in_ok-ne.ne ne.at.known in
+    let sw4 = se.keeps.contents c.in_ok-sw.sw sw.at.known in
+    let enw : C s4 c.in_ok-nw.nw ≡ C s1 c.in_ok-nw.nw = nw4.1 in
+    let ene : C s4 c.in_ok-ne.ne ≡ C s2 c.in_ok-ne.ne = ne4.1 in
     let full = g.met.S.Squares.full s4 in
     let N = g.S.Squares.needs_node in
     on-err c.join.result
     (λ needs same cells x y binary h.
     let next = next_life rule cells in
-    let h1 = AreSixteen-kept (K s0) (C s0) (C s1) (λ q k. (nw.keeps q k).1) cells side c.args.level x y s c.requires.known h in
+    let h1 = AreSixteen-kept (K s0) (C s0) (C s1) (λ q k. (nw.keeps.contents q k).1) cells side c.args.level x y s c.requires.known h in
     let h2 = AreSixteen-kept (K s0) (C s0) (C s2) to2 cells side c.args.level x y s c.requires.known h in
     let h3 = AreSixteen-kept (K s0) (C s0) (C s3) to3 cells side c.args.level x y s c.requires.known h in
     let p1 = nw.next cells x y binary (subst (λ n. AreNine (C s0) cells side x y n) (sym c.north_west.ensures) (nine-north_west (C s0) cells side x y s h)) in

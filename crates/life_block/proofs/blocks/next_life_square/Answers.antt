@@ -6,6 +6,7 @@ use Rattle.life_base.specs.Sets.{OuterTotalistic}
 use Rattle.life_base.specs.Tree.{Tree, quad, depth, blank, half_side, tree_cell, IsFull}
 use Rattle.life_quad.specs.declared.id.Id.{Id}
 use Rattle.life_quad.specs.declared.moves.Quarters.{Quarters}
+use Rattle.life_quad.proofs.KeepingLemmas.{keeps-then}
 use Rattle.life_sweep.specs.Generation.{next_life}
 use Rattle.life_block.specs.Pieces.{IsPiece, IsAt, InSixteen, AreSixteen, back, ahead}
 use Rattle.life_block.proofs.NeedLemmas.{piece-is, north_west-root, north_east-root, south_west-root, south_east-root, whole-root, on-err, still-needs}
@@ -57,21 +58,24 @@ next_of_middle-requires-4-clause-known g c =
     let C = g.S.Squares.content in
     let s0 = c.args.squares.now in
     let s3 = c.next_of_middle-3.new.squares in
-    let to3 : (q : Id) → K s0 q → K s3 q × (C s3 q ≡ C s0 q) = (λ q k. let a = nw.keeps q k in let b = ne.keeps q a.0 in let e = sw.keeps q b.0 in (e.0, e.1 ∙ b.1 ∙ a.1)) in
+    let to3 = (keeps-then (keeps-then nw.keeps ne.keeps) sw.keeps).contents in
     let d = c.divide-root.ensures in
     let empty = c.empty-blank.ensures in
     let first = quarters-at (K s0) (C s0) c.args.id c.divide-root.result c.empty-blank.result (c.level-level.result - 1) (g.met.S.Squares.full _ _ c.requires.known) (omega (arith, c.level-level.ensures.level, c.requires.high)) d.square d.nw d.ne d.sw d.se empty.known empty.square empty.level in
     let here = AreQuarters-kept (K s0) (K s3) (C s0) (C s3) _ _ _ _ _ to3 first in
     subst (InSixteen (IsAt (K s3) (C s3) (c.level-level.result - 1))) (sym c.in_north_west.ensures) (known-north_west (K s3) (C s3) _ _ _ _ _ here)
 
-pub returns-in_err-south_west-clause-stays : goal.returns-in_err-south_west-clause-stays
-returns-in_err-south_west-clause-stays g c t h = c.in_err-south_west.ensures.stays t (c.in_ok-north_east.ensures.stays t (c.in_ok-north_west.ensures.stays t h))
+pub returns-in_err-south_west-clause-keeps : goal.returns-in_err-south_west-clause-keeps
+returns-in_err-south_west-clause-keeps g c =
+    keeps-then (keeps-then c.in_ok-north_west.ensures.keeps c.in_ok-north_east.ensures.keeps) c.in_err-south_west.ensures.keeps
 
-pub returns-in_err-south_east-clause-stays : goal.returns-in_err-south_east-clause-stays
-returns-in_err-south_east-clause-stays g c t h = c.in_err-south_east.ensures.stays t (c.in_ok-south_west.ensures.stays t (c.in_ok-north_east.ensures.stays t (c.in_ok-north_west.ensures.stays t h)))
+pub returns-in_err-south_east-clause-keeps : goal.returns-in_err-south_east-clause-keeps
+returns-in_err-south_east-clause-keeps g c =
+    keeps-then (keeps-then (keeps-then c.in_ok-north_west.ensures.keeps c.in_ok-north_east.ensures.keeps) c.in_ok-south_west.ensures.keeps) c.in_err-south_east.ensures.keeps
 
-pub returns-clause-stays : goal.returns-clause-stays
-returns-clause-stays g c t h = c.join.ensures.stays t (c.in_ok-south_east.ensures.stays t (c.in_ok-south_west.ensures.stays t (c.in_ok-north_east.ensures.stays t (c.in_ok-north_west.ensures.stays t h))))
+pub returns-clause-keeps : goal.returns-clause-keeps
+returns-clause-keeps g c =
+    keeps-then (keeps-then (keeps-then (keeps-then c.in_ok-north_west.ensures.keeps c.in_ok-north_east.ensures.keeps) c.in_ok-south_west.ensures.keeps) c.in_ok-south_east.ensures.keeps) c.join.ensures.keeps
 
 pub returns-clause-next : goal.returns-clause-next
 returns-clause-next g c =
@@ -94,9 +98,9 @@ returns-clause-next g c =
     let ne = c.in_ok-north_east.ensures in
     let sw = c.in_ok-south_west.ensures in
     let se = c.in_ok-south_east.ensures in
-    let to1 : (i : Id) → K s0 i → K s1 i × (C s1 i ≡ C s0 i) = (λ i h. nw.keeps i h) in
-    let to2 : (i : Id) → K s0 i → K s2 i × (C s2 i ≡ C s0 i) = (λ i h. let u = nw.keeps i h in let v = ne.keeps i u.0 in (v.0, v.1 ∙ u.1)) in
-    let to3 : (i : Id) → K s0 i → K s3 i × (C s3 i ≡ C s0 i) = (λ i h. let u = nw.keeps i h in let v = ne.keeps i u.0 in let w = sw.keeps i v.0 in (w.0, w.1 ∙ v.1 ∙ u.1)) in
+    let to1 = nw.keeps.contents in
+    let to2 = (keeps-then nw.keeps ne.keeps).contents in
+    let to3 = (keeps-then (keeps-then nw.keeps ne.keeps) sw.keeps).contents in
     let d = c.divide-root.ensures in
     let empty = c.empty-blank.ensures in
     let q0 = quarters-at (K s0) (C s0) c.args.id c.divide-root.result c.empty-blank.result (c.level-level.result - 1) (g.met.S.Squares.full _ _ c.requires.known) (omega (arith, c.level-level.ensures.level, c.requires.high)) d.square d.nw d.ne d.sw d.se empty.known empty.square empty.level in
@@ -113,14 +117,12 @@ returns-clause-next g c =
     let p2 = ne.next cells east west c.requires.states (subst (AreSixteen (C s1) cells (2 ^ k) east west) (sym c.in_south_west.ensures) (pieces-south_west (K s1) (C s1) cells k start q b q1 alone)) in
     let p3 = sw.next cells west east c.requires.states (subst (AreSixteen (C s2) cells (2 ^ k) west east) (sym c.in_north_east.ensures) (pieces-north_east (K s2) (C s2) cells k start q b q2 alone)) in
     let p4 = se.next cells east east c.requires.states (subst (AreSixteen (C s3) cells (2 ^ k) east east) (sym c.in_north_west.ensures) (pieces-north_west (K s3) (C s3) cells k start q b q3 alone)) in
-    let nw2 = ne.keeps c.in_ok-north_west.north_west nw.at.known in
-    let nw3 = sw.keeps c.in_ok-north_west.north_west nw2.0 in
-    let nw4 = se.keeps c.in_ok-north_west.north_west nw3.0 in
-    let ne3 = sw.keeps c.in_ok-north_east.north_east ne.at.known in
-    let ne4 = se.keeps c.in_ok-north_east.north_east ne3.0 in
-    let sw4 = se.keeps c.in_ok-south_west.south_west sw.at.known in
-    let enw : C s4 c.in_ok-north_west.north_west ≡ C s1 c.in_ok-north_west.north_west = nw4.1 ∙ nw3.1 ∙ nw2.1 in
-    let ene : C s4 c.in_ok-north_east.north_east ≡ C s2 c.in_ok-north_east.north_east = ne4.1 ∙ ne3.1 in
+    let south = keeps-then sw.keeps se.keeps in
+    let nw4 = (keeps-then ne.keeps south).contents c.in_ok-north_west.north_west nw.at.known in
+    let ne4 = south.contents c.in_ok-north_east.north_east ne.at.known in
+    let sw4 = se.keeps.contents c.in_ok-south_west.south_west sw.at.known in
+    let enw : C s4 c.in_ok-north_west.north_west ≡ C s1 c.in_ok-north_west.north_west = nw4.1 in
+    let ene : C s4 c.in_ok-north_east.north_east ≡ C s2 c.in_ok-north_east.north_east = ne4.1 in
     let deep : depth (C s4 c.in_ok-north_west.north_west) ≡ k + 1 = ap depth enw ∙ nw.at.level in
     both c.join.result
     (λ r known e.
@@ -183,7 +185,7 @@ returns-in_err-north_east-clause-needed g c =
     let east = ahead start (2 ^ k) in
     let nw = c.in_ok-north_west.ensures in
     let s1 = c.next_of_middle.new.squares in
-    let to1 : (i : Id) → K s0 i → K s1 i × (C s1 i ≡ C s0 i) = (λ i h. nw.keeps i h) in
+    let to1 = nw.keeps.contents in
     let q1 = AreQuarters-kept (K s0) (K s1) (C s0) (C s1) cells k start q b to1 q0 in
     let at : start ≡ neg_ℤ (pos (2 ^ k)) = ap (λ n. neg_ℤ (pos n)) half in
     let p = err_from_is_err_and c.from_residual-in_err-north_east.result c.from_residual-in_err-north_east.ensures.1 in
@@ -214,7 +216,7 @@ returns-in_err-south_west-clause-needed g c =
     let nw = c.in_ok-north_west.ensures in
     let ne = c.in_ok-north_east.ensures in
     let s2 = c.next_of_middle-2.new.squares in
-    let to2 : (i : Id) → K s0 i → K s2 i × (C s2 i ≡ C s0 i) = (λ i h. let u = nw.keeps i h in let v = ne.keeps i u.0 in (v.0, v.1 ∙ u.1)) in
+    let to2 = (keeps-then nw.keeps ne.keeps).contents in
     let q2 = AreQuarters-kept (K s0) (K s2) (C s0) (C s2) cells k start q b to2 q0 in
     let at : start ≡ neg_ℤ (pos (2 ^ k)) = ap (λ n. neg_ℤ (pos n)) half in
     let p = err_from_is_err_and c.from_residual-in_err-south_west.result c.from_residual-in_err-south_west.ensures.1 in
@@ -246,7 +248,7 @@ returns-in_err-south_east-clause-needed g c =
     let ne = c.in_ok-north_east.ensures in
     let sw = c.in_ok-south_west.ensures in
     let s3 = c.next_of_middle-3.new.squares in
-    let to3 : (i : Id) → K s0 i → K s3 i × (C s3 i ≡ C s0 i) = (λ i h. let u = nw.keeps i h in let v = ne.keeps i u.0 in let w = sw.keeps i v.0 in (w.0, w.1 ∙ v.1 ∙ u.1)) in
+    let to3 = (keeps-then (keeps-then nw.keeps ne.keeps) sw.keeps).contents in
     let q3 = AreQuarters-kept (K s0) (K s3) (C s0) (C s3) cells k start q b to3 q0 in
     let at : start ≡ neg_ℤ (pos (2 ^ k)) = ap (λ n. neg_ℤ (pos n)) half in
     let p = err_from_is_err_and c.from_residual-in_err-south_east.result c.from_residual-in_err-south_east.ensures.1 in
@@ -282,9 +284,9 @@ returns-clause-needed g c =
     let ne = c.in_ok-north_east.ensures in
     let sw = c.in_ok-south_west.ensures in
     let se = c.in_ok-south_east.ensures in
-    let to1 : (i : Id) → K s0 i → K s1 i × (C s1 i ≡ C s0 i) = (λ i h. nw.keeps i h) in
-    let to2 : (i : Id) → K s0 i → K s2 i × (C s2 i ≡ C s0 i) = (λ i h. let u = nw.keeps i h in let v = ne.keeps i u.0 in (v.0, v.1 ∙ u.1)) in
-    let to3 : (i : Id) → K s0 i → K s3 i × (C s3 i ≡ C s0 i) = (λ i h. let u = nw.keeps i h in let v = ne.keeps i u.0 in let w = sw.keeps i v.0 in (w.0, w.1 ∙ v.1 ∙ u.1)) in
+    let to1 = nw.keeps.contents in
+    let to2 = (keeps-then nw.keeps ne.keeps).contents in
+    let to3 = (keeps-then (keeps-then nw.keeps ne.keeps) sw.keeps).contents in
     let q1 = AreQuarters-kept (K s0) (K s1) (C s0) (C s1) cells k start q b to1 q0 in
     let q2 = AreQuarters-kept (K s0) (K s2) (C s0) (C s2) cells k start q b to2 q0 in
     let q3 = AreQuarters-kept (K s0) (K s3) (C s0) (C s3) cells k start q b to3 q0 in
@@ -292,14 +294,12 @@ returns-clause-needed g c =
     let p2 = ne.next cells east west c.requires.states (subst (AreSixteen (C s1) cells (2 ^ k) east west) (sym c.in_south_west.ensures) (pieces-south_west (K s1) (C s1) cells k start q b q1 alone)) in
     let p3 = sw.next cells west east c.requires.states (subst (AreSixteen (C s2) cells (2 ^ k) west east) (sym c.in_north_east.ensures) (pieces-north_east (K s2) (C s2) cells k start q b q2 alone)) in
     let p4 = se.next cells east east c.requires.states (subst (AreSixteen (C s3) cells (2 ^ k) east east) (sym c.in_north_west.ensures) (pieces-north_west (K s3) (C s3) cells k start q b q3 alone)) in
-    let nw2 = ne.keeps c.in_ok-north_west.north_west nw.at.known in
-    let nw3 = sw.keeps c.in_ok-north_west.north_west nw2.0 in
-    let nw4 = se.keeps c.in_ok-north_west.north_west nw3.0 in
-    let ne3 = sw.keeps c.in_ok-north_east.north_east ne.at.known in
-    let ne4 = se.keeps c.in_ok-north_east.north_east ne3.0 in
-    let sw4 = se.keeps c.in_ok-south_west.south_west sw.at.known in
-    let enw : C s4 c.in_ok-north_west.north_west ≡ C s1 c.in_ok-north_west.north_west = nw4.1 ∙ nw3.1 ∙ nw2.1 in
-    let ene : C s4 c.in_ok-north_east.north_east ≡ C s2 c.in_ok-north_east.north_east = ne4.1 ∙ ne3.1 in
+    let south = keeps-then sw.keeps se.keeps in
+    let nw4 = (keeps-then ne.keeps south).contents c.in_ok-north_west.north_west nw.at.known in
+    let ne4 = south.contents c.in_ok-north_east.north_east ne.at.known in
+    let sw4 = se.keeps.contents c.in_ok-south_west.south_west sw.at.known in
+    let enw : C s4 c.in_ok-north_west.north_west ≡ C s1 c.in_ok-north_west.north_west = nw4.1 in
+    let ene : C s4 c.in_ok-north_east.north_east ≡ C s2 c.in_ok-north_east.north_east = ne4.1 in
     let at : start ≡ neg_ℤ (pos (2 ^ k)) = ap (λ n. neg_ℤ (pos n)) half in
     let full = g.met.S.Squares.full s4 in
     let N = g.S.Squares.needs_node in

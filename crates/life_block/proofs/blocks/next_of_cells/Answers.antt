@@ -2,6 +2,7 @@ use Rattle.std.proofs.Common.{◌≡◌, ◌+◌, ◌*◌, pos, ◌+ℤ◌, refl
 use Rattle.std.proofs.lemmas.Int.{ints}
 use Rattle.std.proofs.lemmas.Result.{IfOk-weaker, err_from_is_err_and}
 use Rattle.life_base.specs.Tree.{depth}
+use Rattle.life_quad.proofs.KeepingLemmas.{keeps-then}
 use Rattle.life_sweep.specs.Generation.{next_life}
 use Rattle.life_block.specs.Pieces.{back, ahead}
 use Rattle.life_block.proofs.BitmapLemmas.{HasInner, next-place, IsPiece-four}
@@ -9,14 +10,16 @@ use Rattle.life_block.proofs.NeedLemmas.{own-part, whole-part, north_west-part, 
 use Rattle.life_block.proofs.PieceLemmas.{IsPiece-joined}
 use Rattle.life_block.proofs.blocks.next_of_cells.Goals as goal
 
-pub returns-in_err-sw-clause-stays : goal.returns-in_err-sw-clause-stays
-returns-in_err-sw-clause-stays g c t h = c.in_err-sw.ensures.stays t (c.in_ok-ne.ensures.stays t (c.in_ok-nw.ensures.stays t h))
+pub returns-in_err-sw-clause-keeps : goal.returns-in_err-sw-clause-keeps
+returns-in_err-sw-clause-keeps g c = keeps-then (keeps-then c.in_ok-nw.ensures.keeps c.in_ok-ne.ensures.keeps) c.in_err-sw.ensures.keeps
 
-pub returns-in_err-se-clause-stays : goal.returns-in_err-se-clause-stays
-returns-in_err-se-clause-stays g c t h = c.in_err-se.ensures.stays t (c.in_ok-sw.ensures.stays t (c.in_ok-ne.ensures.stays t (c.in_ok-nw.ensures.stays t h)))
+pub returns-in_err-se-clause-keeps : goal.returns-in_err-se-clause-keeps
+returns-in_err-se-clause-keeps g c =
+    keeps-then (keeps-then (keeps-then c.in_ok-nw.ensures.keeps c.in_ok-ne.ensures.keeps) c.in_ok-sw.ensures.keeps) c.in_err-se.ensures.keeps
 
-pub returns-clause-stays : goal.returns-clause-stays
-returns-clause-stays g c t h = c.join.ensures.stays t (c.in_ok-se.ensures.stays t (c.in_ok-sw.ensures.stays t (c.in_ok-ne.ensures.stays t (c.in_ok-nw.ensures.stays t h))))
+pub returns-clause-keeps : goal.returns-clause-keeps
+returns-clause-keeps g c =
+    keeps-then (keeps-then (keeps-then (keeps-then c.in_ok-nw.ensures.keeps c.in_ok-ne.ensures.keeps) c.in_ok-sw.ensures.keeps) c.in_ok-se.ensures.keeps) c.join.ensures.keeps
 
 pub returns-clause-next : goal.returns-clause-next
 returns-clause-next g c =
@@ -30,14 +33,12 @@ returns-clause-next g c =
     let ne = c.in_ok-ne.ensures in
     let sw = c.in_ok-sw.ensures in
     let se = c.in_ok-se.ensures in
-    let nw2 = ne.keeps c.in_ok-nw.nw nw.known in
-    let nw3 = sw.keeps c.in_ok-nw.nw nw2.0 in
-    let nw4 = se.keeps c.in_ok-nw.nw nw3.0 in
-    let ne3 = sw.keeps c.in_ok-ne.ne ne.known in
-    let ne4 = se.keeps c.in_ok-ne.ne ne3.0 in
-    let sw4 = se.keeps c.in_ok-sw.sw sw.known in
-    let enw : C s4 c.in_ok-nw.nw ≡ C s1 c.in_ok-nw.nw = nw4.1 ∙ nw3.1 ∙ nw2.1 in
-    let ene : C s4 c.in_ok-ne.ne ≡ C s2 c.in_ok-ne.ne = ne4.1 ∙ ne3.1 in
+    let south = keeps-then sw.keeps se.keeps in
+    let nw4 = (keeps-then ne.keeps south).contents c.in_ok-nw.nw nw.known in
+    let ne4 = south.contents c.in_ok-ne.ne ne.known in
+    let sw4 = se.keeps.contents c.in_ok-sw.sw sw.known in
+    let enw : C s4 c.in_ok-nw.nw ≡ C s1 c.in_ok-nw.nw = nw4.1 in
+    let ene : C s4 c.in_ok-ne.ne ≡ C s2 c.in_ok-ne.ne = ne4.1 in
     let level : depth (C s4 c.in_ok-nw.nw) ≡ 1 = ap depth (enw ∙ nw.square) in
     IfOk-weaker c.join.result _ _
     (λ t e cells x y binary h.
@@ -110,12 +111,10 @@ returns-clause-needed g c =
     let ne = c.in_ok-ne.ensures in
     let sw = c.in_ok-sw.ensures in
     let se = c.in_ok-se.ensures in
-    let nw2 = ne.keeps c.in_ok-nw.nw nw.known in
-    let nw3 = sw.keeps c.in_ok-nw.nw nw2.0 in
-    let nw4 = se.keeps c.in_ok-nw.nw nw3.0 in
-    let ne3 = sw.keeps c.in_ok-ne.ne ne.known in
-    let ne4 = se.keeps c.in_ok-ne.ne ne3.0 in
-    let sw4 = se.keeps c.in_ok-sw.sw sw.known in
+    let south = keeps-then sw.keeps se.keeps in
+    let nw4 = (keeps-then ne.keeps south).contents c.in_ok-nw.nw nw.known in
+    let ne4 = south.contents c.in_ok-ne.ne ne.known in
+    let sw4 = se.keeps.contents c.in_ok-sw.sw sw.known in
     on-err c.join.result
     (λ needs same cells x y binary h.
     let next = next_life c.args.rule.now cells in
@@ -123,8 +122,8 @@ returns-clause-needed g c =
     let rows = c.eight_rows-rows.ensures cells x y binary h in
     let inner : HasInner next (back x 2) (back y 2) word = (λ r i lr li. c.next_word-next.ensures (8 * r + i) (omega (arith, lr, li)) ∙ next-place c.args.rule.now cells (back x 2) (back y 2) c.eight_rows-rows.result rows r i lr li) in
     whole-part (N c.join.new.self) next 1 x y _ _ _ _
-    (nw4.1 ∙ nw3.1 ∙ nw2.1 ∙ nw.square ∙ north_west-bits next x y word inner)
-    (ne4.1 ∙ ne3.1 ∙ ne.square ∙ north_east-bits next x y word inner)
+    (nw4.1 ∙ nw.square ∙ north_west-bits next x y word inner)
+    (ne4.1 ∙ ne.square ∙ north_east-bits next x y word inner)
     (sw4.1 ∙ sw.square ∙ south_west-bits next x y word inner)
     (se.square ∙ south_east-bits next x y word inner)
     (still-needs N _ _ _ same needs))

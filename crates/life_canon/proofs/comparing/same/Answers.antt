@@ -1,14 +1,15 @@
 use Rattle.std.proofs.Common.{inl, inr}
 use Rattle.std.proofs.lemmas.Result.{err_from_is_err_and}
 use Rattle.life_base.specs.declared.cell.TheConstants.{MAX_LEVEL}
-use Rattle.life_canon.proofs.CallFacts.{keeps-all, read-stays, same-read, read-equal}
+use Rattle.life_quad.proofs.KeepingLemmas.{keeps-then}
+use Rattle.life_canon.proofs.CallFacts.{read-stays, same-read, read-equal}
 use Rattle.life_canon.proofs.comparing.same.Goals as goal
 
 pub returns-in_err-b-clause-keeps : goal.returns-in_err-b-clause-keeps
-returns-in_err-b-clause-keeps c = keeps-all _ _ _ c.in_ok-a.ensures.keeps c.in_err-b.ensures.keeps
+returns-in_err-b-clause-keeps c = keeps-then c.in_ok-a.ensures.keeps c.in_err-b.ensures.keeps
 
 pub returns-clause-keeps : goal.returns-clause-keeps
-returns-clause-keeps c = keeps-all _ _ _ c.in_ok-a.ensures.keeps c.in_ok-b.ensures.keeps
+returns-clause-keeps c = keeps-then c.in_ok-a.ensures.keeps c.in_ok-b.ensures.keeps
 
 pub returns-clause-answer : goal.returns-clause-answer
 returns-clause-answer c =

@@ -2,6 +2,7 @@ use Rattle.std.proofs.Common.{◌≡◌, ◌<◌, [], ◌∷◌, ◌++◌, lengt
 use Rattle.std.specs.Prelude.{nat_abs}
 use Rattle.std.proofs.lemmas.Result.{err_from_is_err_and}
 use Rattle.life_rle.specs.declared.file.Run.{Run}
+use Rattle.life_quad.proofs.KeepingLemmas.{keeps-then}
 use Rattle.life_strip.specs.Given.{GivenRun, half_plane, state_by, by_columns}
 use Rattle.life_strip.specs.Needed.{SomeSquare}
 use Rattle.life_canon.specs.Building.{given}
@@ -36,9 +37,7 @@ loop-run-preserved g c =
       filling = e.filling;
       given_so_far = given-more c.args.builder.now.runs c.loop-run.builder.runs c.add_run.new.self.runs c.args.runs.now c.loop-run.run-index none h i.given_so_far runs;
       next = next-more c.loop-run.builder.runs c.add_run.new.self.runs c.args.runs.now c.loop-run.run-index none h i.next runs;
-      keeps = λ q k. let p = i.keeps q k in let r = e.keeps q p.0 in (r.0, r.1 ∙ p.1);
-      stays = λ t k. e.stays t (i.stays t k);
-      most = e.most ∙ i.most;
+      keeps = keeps-then i.keeps e.keeps;
     }
 
 pub returns-in_err-add_run-clause-needed : goal.returns-in_err-add_run-clause-needed

@@ -51,7 +51,7 @@ returns-clause-squares g c =
     let is = c.in_ok-id.ensures.square (squares_of old) next.rule one were in
     let grown : AreSquaresOf (g.S.Squares.knows c.line_square.new.squares) (g.S.Squares.content c.line_square.new.squares) (squares_of old ++ square ∷ []) (ids ++ c.in_ok-id.id ∷ []) =
     squares-grow (g.S.Squares.knows c.line_square.new.squares) (g.S.Squares.content c.line_square.new.squares) next.rule next.generation (squares_of old) square ids c.in_ok-id.id next.valid
-    (squares-stay (squares_of old) ids c.in_ok-id.ensures.keeps c.requires.squares) c.in_ok-id.ensures.known is in
+    (squares-stay (squares_of old) ids c.in_ok-id.ensures.keeps.contents c.requires.squares) c.in_ok-id.ensures.known is in
     subst (λ (ls : List Line). AreSquaresOf (g.S.Squares.knows c.line_square.new.squares) (g.S.Squares.content c.line_square.new.squares) ls c.push.new.self.items) (sym squares)
     (subst (λ (is : List Id). AreSquaresOf (g.S.Squares.knows c.line_square.new.squares) (g.S.Squares.content c.line_square.new.squares) (squares_of old ++ square ∷ []) is) (sym c.in_ok-push.ensures.items) grown)
 

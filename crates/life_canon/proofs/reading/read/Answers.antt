@@ -1,5 +1,6 @@
 use Rattle.std.proofs.lemmas.Result.{err_from_is_err_and}
-use Rattle.life_canon.proofs.CallFacts.{keeps-all, feed-fault}
+use Rattle.life_quad.proofs.KeepingLemmas.{keeps-then}
+use Rattle.life_canon.proofs.CallFacts.{feed-fault}
 use Rattle.std.proofs.Common.{ℕ, List, ◌++◌, ap, ◌∙◌, subst}
 use Rattle.life_base.specs.declared.cell.TheConstants.{MAX_LEVEL}
 use Rattle.life_canon.specs.Needs.{IsNew, LacksFor, LacksForFront}
@@ -12,7 +13,7 @@ returns-in_err-feed-clause-fault c =
     rw (p.1, p.2) (feed-fault _ _ _ _ c.new-reader.ensures.bytes (c.in_err-feed.ensures.fault c.new-reader.ensures.spent))
 
 pub returns-clause-keeps : goal.returns-clause-keeps
-returns-clause-keeps c = keeps-all _ _ _ c.in_ok-feed.ensures.keeps c.finish.ensures.keeps
+returns-clause-keeps c = keeps-then c.in_ok-feed.ensures.keeps c.finish.ensures.keeps
 
 pub returns-in_err-feed-clause-needed : goal.returns-in_err-feed-clause-needed
 returns-in_err-feed-clause-needed c =

@@ -1,7 +1,7 @@
 use Rattle.std.proofs.Common.{rules, take}
 use Rattle.std.proofs.lemmas.Result.{err_from_is_err_and}
+use Rattle.life_quad.proofs.KeepingLemmas.{keeps-then}
 use Rattle.life_canon.specs.Running.{by_length}
-use Rattle.life_canon.proofs.CallFacts.{keeps-all}
 use Rattle.life_canon.proofs.RunFacts.{reading-on, beyond-most, ended-refused, ended-open, ended-lacks, lacks-front, refused-not-full}
 use Rattle.life_canon.proofs.running.read_source.Goals as goal
 
@@ -12,7 +12,7 @@ returns-then-total-most-clause-fault g c =
     c.args.most c.loop-reader.refused c.loop-reader.reader (take c.in_ok-count.count c.read.new.buf) c.loop-reader.invariant.0 c.in_ok-count.ensures.bytes.0 (search rules) (search rules))
 
 pub returns-in_err-refused-clause-keeps : goal.returns-in_err-refused-clause-keeps
-returns-in_err-refused-clause-keeps g c = keeps-all _ _ _ c.loop-reader.invariant.3 c.feed_piece.ensures.keeps
+returns-in_err-refused-clause-keeps g c = keeps-then c.loop-reader.invariant.3 c.feed_piece.ensures.keeps
 
 pub loop-reader-preserved : goal.loop-reader-preserved
 loop-reader-preserved g c = (
@@ -20,7 +20,7 @@ loop-reader-preserved g c = (
       (reading-on _ _ _ _ _ _ _ _ _ _ _ _ c.loop-reader.invariant.0 c.in_ok-count.ensures.bytes.0 (search rules) c.in_ok-refused.ensures.going c.in_ok-refused.ensures.refused),
   search rules,
   search rules,
-  rw c.make.ensures (keeps-all _ _ _ c.loop-reader.invariant.3 c.feed_piece.ensures.keeps),
+  rw c.make.ensures (keeps-then c.loop-reader.invariant.3 c.feed_piece.ensures.keeps),
 )
 
 pub returns-in-Some-clause-fault : goal.returns-in-Some-clause-fault
@@ -32,7 +32,7 @@ returns-in-None-clause-fault g c =
     ended-open _ _ _ _ _ _ _ _ _ _ _ _ c.loop-reader.invariant.0 (search rules) (search rules) c.in_ok-count.ensures.bytes c.loop-reader.invariant.2 c.in-None.is _ c.finish.ensures.fault
 
 pub returns-in-None-clause-keeps : goal.returns-in-None-clause-keeps
-returns-in-None-clause-keeps g c = keeps-all _ _ _ c.loop-reader.invariant.3 c.finish.ensures.keeps
+returns-in-None-clause-keeps g c = keeps-then c.loop-reader.invariant.3 c.finish.ensures.keeps
 
 pub returns-in_err-refused-clause-needed : goal.returns-in_err-refused-clause-needed
 returns-in_err-refused-clause-needed g c =

@@ -19,8 +19,8 @@ set_span-returns-in_ok-left-clause-square g t c =
     subst IsFull d.square (g.met.S.Squares.full o c.args.id c.requires.known) in
     let half = half_of _ _ _ c.level-level.ensures.level d.nw_level in
     let low : c.args.row < 2 ^ depth (C o c.divide.result.nw) = subst (λ n. c.args.row < n) (c.half_side-half.ensures.half ∙ half) c.if-row-half.true in
-    let sw = (h.keeps c.divide.result.sw d.sw).1 in
-    let se = (h.keeps c.divide.result.se d.se).1 in
+    let sw = (h.keeps.contents c.divide.result.sw d.sw).1 in
+    let se = (h.keeps.contents c.divide.result.se d.se).1 in
     let span = SetsSpan-north _ _ _ _ _ _ c.args.column c.args.row c.args.len c.args.state full low h.squares in
     IfOk-weaker c.join.result _ _
     (λ r e. subst (λ s. SetsSpan s (C c.join.new.self r) c.args.column c.args.row c.args.len c.args.state) (sym d.square)
@@ -38,8 +38,8 @@ set_span-returns-in_ok-left-2-clause-square g t c =
     subst IsFull d.square (g.met.S.Squares.full o c.args.id c.requires.known) in
     let half = half_of _ _ _ c.level-level.ensures.level d.nw_level in
     let low : 2 ^ depth (C o c.divide.result.nw) ≤ c.args.row = subst (λ n. n ≤ c.args.row) (c.half_side-half.ensures.half ∙ half) c.if-row-half.false in
-    let nw = (h.keeps c.divide.result.nw d.nw).1 in
-    let ne = (h.keeps c.divide.result.ne d.ne).1 in
+    let nw = (h.keeps.contents c.divide.result.nw d.nw).1 in
+    let ne = (h.keeps.contents c.divide.result.ne d.ne).1 in
     let halves = subst (λ n. SetsHalves (C o c.divide.result.sw) (C o c.divide.result.se) (C c.set_halves-else-row-half.new.squares c.in_ok-left-2.left) (C c.set_halves-else-row-half.new.squares c.in_ok-left-2.right) c.args.column (c.args.row - n) c.args.len c.args.state) (c.half_side-half.ensures.half ∙ half) h.squares in
     let span = SetsSpan-south _ _ _ _ _ _ c.args.column c.args.row c.args.len c.args.state full low halves in
     IfOk-weaker c.join-else-row-half.result _ _
@@ -126,7 +126,7 @@ set_halves-returns-in_err-new_right-clause-needed g t c =
     let n = c.in_err-new_right.ensures.needed in
     let inside : c.args.column < c.args.half = grind (arith, c.if-half-column.false) in
     let beyond : c.args.half < c.args.column + c.args.len = grind (arith, c.if-end-half.false) in
-    let kept = (left.keeps c.args.right r.right).1 in
+    let kept = (left.keeps.contents c.args.right r.right).1 in
     let right : SetsSpan (g.S.Squares.content o c.args.right) n.0 0 c.args.row (c.args.column + c.args.len - c.args.half) c.args.state =
     subst (λ s. SetsSpan s n.0 0 c.args.row (c.args.column + c.args.len - c.args.half) c.args.state) kept n.1 in
     on_err_any c.from_residual-in_err-new_right.result (
@@ -184,8 +184,8 @@ set_span-returns-in_ok-left-clause-needed g t c =
     subst IsFull d.square (g.met.S.Squares.full o c.args.id c.requires.known) in
     let half = half_of _ _ _ c.level-level.ensures.level d.nw_level in
     let low : c.args.row < 2 ^ depth (C o c.divide.result.nw) = subst (λ n. c.args.row < n) (c.half_side-half.ensures.half ∙ half) c.if-row-half.true in
-    let sw = (h.keeps c.divide.result.sw d.sw).1 in
-    let se = (h.keeps c.divide.result.se d.se).1 in
+    let sw = (h.keeps.contents c.divide.result.sw d.sw).1 in
+    let se = (h.keeps.contents c.divide.result.se d.se).1 in
     let whole = quad (C s c.in_ok-left.left) (C s c.in_ok-left.right) (C s c.divide.result.sw) (C s c.divide.result.se) in
     let span = SetsSpan-north _ _ _ _ _ _ c.args.column c.args.row c.args.len c.args.state full low h.squares in
     let set : SetsSpan (C o c.args.id) whole c.args.column c.args.row c.args.len c.args.state =
@@ -205,8 +205,8 @@ set_span-returns-in_ok-left-2-clause-needed g t c =
     subst IsFull d.square (g.met.S.Squares.full o c.args.id c.requires.known) in
     let half = half_of _ _ _ c.level-level.ensures.level d.nw_level in
     let low : 2 ^ depth (C o c.divide.result.nw) ≤ c.args.row = subst (λ n. n ≤ c.args.row) (c.half_side-half.ensures.half ∙ half) c.if-row-half.false in
-    let nw = (h.keeps c.divide.result.nw d.nw).1 in
-    let ne = (h.keeps c.divide.result.ne d.ne).1 in
+    let nw = (h.keeps.contents c.divide.result.nw d.nw).1 in
+    let ne = (h.keeps.contents c.divide.result.ne d.ne).1 in
     let whole = quad (C s c.divide.result.nw) (C s c.divide.result.ne) (C s c.in_ok-left-2.left) (C s c.in_ok-left-2.right) in
     let halves = subst (λ n. SetsHalves (C o c.divide.result.sw) (C o c.divide.result.se) (C s c.in_ok-left-2.left) (C s c.in_ok-left-2.right) c.args.column (c.args.row - n) c.args.len c.args.state) (c.half_side-half.ensures.half ∙ half) h.squares in
     let span = SetsSpan-south _ _ _ _ _ _ c.args.column c.args.row c.args.len c.args.state full low halves in

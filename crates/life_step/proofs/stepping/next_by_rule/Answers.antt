@@ -7,6 +7,7 @@ use Rattle.life_quad.specs.Refused.{SomeTrimmed}
 use Rattle.life_quad.proofs.LawLemmas.{known_squares_are_full}
 use Rattle.life_sweep.specs.Refused.{GenerationRefusal}
 use Rattle.life_sweep.specs.Sweep.{LifeAnswers}
+use Rattle.life_quad.proofs.KeepingLemmas.{keeps-then}
 use Rattle.life_canon.specs.Files.{Reads}
 use Rattle.life_canon.specs.Needs.{IsNew}
 use Rattle.life_canon.specs.Store.{content, IsRead}
@@ -14,7 +15,7 @@ use Rattle.life_canon.specs.Universe.{Universe, least_level}
 use Rattle.life_step.specs.Needed.{LacksForLife, of_generation, of_root}
 use Rattle.life_step.specs.Refusals.{LifeRefusal}
 use Rattle.life_step.proofs.NeedFacts.{full-again}
-use Rattle.life_step.proofs.StepFacts.{keeps-all, keeps-of, refused-by, next-small, needs-table, life-last, life-refused-read, life-stepped-read}
+use Rattle.life_step.proofs.StepFacts.{refused-by, next-small, needs-table, life-last, life-refused-read, life-stepped-read}
 use Rattle.life_step.proofs.stepping.next_by_rule.Goals as goal
 
 pub returns-in_default-clause-refused : goal.returns-in_default-clause-refused
@@ -64,7 +65,7 @@ returns-in_err-square-clause-refused c =
     (refused-by c.next_life_generation.new.squares fault _ _ each (λ e. c.in_err-square.ensures.full (ap Err e)) c.in_err-square.ensures.refusals)
 
 pub returns-in_err-square-clause-keeps : goal.returns-in_err-square-clause-keeps
-returns-in_err-square-clause-keeps c = keeps-of _ _ c.in_err-square.ensures.keeps c.in_err-square.ensures.stays c.in_err-square.ensures.most
+returns-in_err-square-clause-keeps c = c.in_err-square.ensures.keeps
 
 pub text_of_square-requires-clause-states : goal.text_of_square-requires-clause-states
 text_of_square-requires-clause-states c =
@@ -87,7 +88,7 @@ returns-clause-stepped c =
     c.text_of_square.ensures.text
 
 pub returns-clause-keeps : goal.returns-clause-keeps
-returns-clause-keeps c = keeps-all _ _ _ (keeps-of _ _ c.in_ok-square.ensures.keeps c.in_ok-square.ensures.stays c.in_ok-square.ensures.most) c.text_of_square.ensures.keeps
+returns-clause-keeps c = keeps-then c.in_ok-square.ensures.keeps c.text_of_square.ensures.keeps
 
 pub returns-in_err-square-clause-needed : goal.returns-in_err-square-clause-needed
 returns-in_err-square-clause-needed c =

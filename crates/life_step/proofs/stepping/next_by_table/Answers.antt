@@ -10,6 +10,7 @@ use Rattle.life_quad.specs.Refused.{SomeTrimmed}
 use Rattle.life_quad.proofs.LawLemmas.{known_squares_are_full}
 use Rattle.life_sweep.specs.Refused.{GenerationRefusal}
 use Rattle.life_sweep.specs.Sweep.{TableAnswers, states_at}
+use Rattle.life_quad.proofs.KeepingLemmas.{keeps-then}
 use Rattle.life_canon.specs.Files.{Reads}
 use Rattle.life_canon.specs.Needs.{IsNew}
 use Rattle.life_canon.specs.Store.{content, IsRead}
@@ -18,7 +19,7 @@ use Rattle.life_step.specs.Needed.{SomeOfTable, of_next, of_next_root}
 use Rattle.life_step.specs.Refusals.{TableRefusal}
 use Rattle.life_step.proofs.NeedFacts.{full-again}
 use Rattle.life_step.proofs.StateFacts.{cell-byte}
-use Rattle.life_step.proofs.StepFacts.{keeps-all, keeps-of, refused-by, root-high, table-last, table-refused-read, table-stepped-read}
+use Rattle.life_step.proofs.StepFacts.{refused-by, root-high, table-last, table-refused-read, table-stepped-read}
 use Rattle.life_step.proofs.stepping.next_by_table.Goals as goal
 
 pub returns-then-not-is_rule_of-clause-refused : goal.returns-then-not-is_rule_of-clause-refused
@@ -71,7 +72,7 @@ text_of_square-requires-clause-states c =
     λ x y. subst (λ q. tree_cell next x y ≤ largest_state q) (sym (c.is_rule_of.ensures.0 c.if-not-is_rule_of.false)) (cell-byte next full x y)
 
 pub returns-in_err-square-clause-keeps : goal.returns-in_err-square-clause-keeps
-returns-in_err-square-clause-keeps c = keeps-of _ _ c.in_err-square.ensures.keeps c.in_err-square.ensures.stays c.in_err-square.ensures.most
+returns-in_err-square-clause-keeps c = c.in_err-square.ensures.keeps
 
 pub returns-clause-stepped : goal.returns-clause-stepped
 returns-clause-stepped c =
@@ -87,7 +88,7 @@ returns-clause-stepped c =
     c.in_ok-generation.ensures.after cells none h) c.text_of_square.ensures.text
 
 pub returns-clause-keeps : goal.returns-clause-keeps
-returns-clause-keeps c = keeps-all _ _ _ (keeps-of _ _ c.in_ok-square.ensures.keeps c.in_ok-square.ensures.stays c.in_ok-square.ensures.most) c.text_of_square.ensures.keeps
+returns-clause-keeps c = keeps-then c.in_ok-square.ensures.keeps c.text_of_square.ensures.keeps
 
 pub returns-in_err-square-clause-needed : goal.returns-in_err-square-clause-needed
 returns-in_err-square-clause-needed c =

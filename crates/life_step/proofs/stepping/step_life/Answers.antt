@@ -1,11 +1,12 @@
 use Rattle.std.proofs.Common.{inl, inr}
 use Rattle.std.proofs.lemmas.Result.{IfOk-weaker}
 use Rattle.life_base.specs.declared.cell.TheConstants.{MAX_LEVEL}
+use Rattle.life_quad.proofs.KeepingLemmas.{keeps-then}
 use Rattle.life_step.specs.Needed.{LacksForLife}
 use Rattle.life_step.specs.Refusals.{LifeRefusal}
 use Rattle.std.specs.Prelude.{Some}
 use Rattle.life_step.proofs.NeedFacts.{handed-on, step-lacks}
-use Rattle.life_step.proofs.StepFacts.{keeps-all, step-refused}
+use Rattle.life_step.proofs.StepFacts.{step-refused}
 use Rattle.life_step.proofs.stepping.step_life.Goals as goal
 
 pub next_by_rule-requires : goal.next_by_rule-requires
@@ -19,7 +20,7 @@ returns-clause-refused c =
     step-refused c.args.bytes.now _ _ _ (λ fault u. LifeRefusal MAX_LEVEL u (Some fault)) c.in_ok-pattern.ensures.pattern c.next_by_rule.result c.next_by_rule.ensures.refused
 
 pub returns-clause-keeps : goal.returns-clause-keeps
-returns-clause-keeps c = keeps-all _ _ _ c.in_ok-pattern.ensures.keeps c.next_by_rule.ensures.keeps
+returns-clause-keeps c = keeps-then c.in_ok-pattern.ensures.keeps c.next_by_rule.ensures.keeps
 
 pub returns-in_err-pattern-clause-needed : goal.returns-in_err-pattern-clause-needed
 returns-in_err-pattern-clause-needed c full =

@@ -1,11 +1,12 @@
 use Rattle.std.proofs.Common.{inl, inr}
 use Rattle.std.proofs.lemmas.Result.{IfOk-weaker}
 use Rattle.life_base.specs.declared.cell.TheConstants.{MAX_LEVEL}
+use Rattle.life_quad.proofs.KeepingLemmas.{keeps-then}
 use Rattle.life_step.specs.Needed.{LacksForTable}
 use Rattle.life_step.specs.Refusals.{TableRefusal}
 use Rattle.std.specs.Prelude.{Some}
 use Rattle.life_step.proofs.NeedFacts.{handed-on, step-lacks}
-use Rattle.life_step.proofs.StepFacts.{keeps-all, step-refused}
+use Rattle.life_step.proofs.StepFacts.{step-refused}
 use Rattle.life_step.proofs.stepping.step_table.Goals as goal
 
 pub next_by_table-requires : goal.next_by_table-requires
@@ -15,7 +16,7 @@ pub returns-clause-stepped : goal.returns-clause-stepped
 returns-clause-stepped c = IfOk-weaker c.next_by_table.result _ _ (λ text h. h c.args.bytes.now c.in_ok-pattern.ensures.pattern) c.next_by_table.ensures.stepped
 
 pub returns-clause-keeps : goal.returns-clause-keeps
-returns-clause-keeps c = keeps-all _ _ _ c.in_ok-pattern.ensures.keeps c.next_by_table.ensures.keeps
+returns-clause-keeps c = keeps-then c.in_ok-pattern.ensures.keeps c.next_by_table.ensures.keeps
 
 pub returns-clause-refused : goal.returns-clause-refused
 returns-clause-refused c =

@@ -1,8 +1,8 @@
-use Rattle.std.proofs.Common.{◌≡◌, ℕ, ◌+◌, ◌-◌, ◌*◌, ◌^◌, ◌<◌, ◌≤◌, List, arith, sym, ◌∙◌, ap, subst}
+use Rattle.std.proofs.Common.{◌≡◌, ℕ, ◌+◌, ◌-◌, ◌*◌, ◌<◌, List, arith, sym, subst}
 use Rattle.std.proofs.lemmas.Result.{err_from_is_err_and}
-use Rattle.life_base.specs.declared.cell.TheConstants.{MAX_LEVEL}
 use Rattle.life_quad.specs.Refused.{SomePart}
 use Rattle.life_quad.specs.Store.{four}
+use Rattle.life_quad.proofs.KeepingLemmas.{keeps-then}
 use Rattle.life_strip.specs.declared.spans.Span.{Span}
 use Rattle.life_strip.specs.Strip.{IsStrip, IsFound}
 use Rattle.life_strip.specs.Band.{four_at, cells_at}
@@ -14,12 +14,12 @@ use Rattle.life_strip.proofs.bands.band.Goals as goal
 pub two_words-requires-in-Some-clause-upper : goal.two_words-requires-in-Some-clause-upper
 two_words-requires-in-Some-clause-upper g c =
     strip-keeps {knows = g.S.Squares.knows c.args.squares.now} {knows' = g.S.Squares.knows c.loop-end.squares} {old = g.S.Squares.content c.args.squares.now} {now = g.S.Squares.content c.loop-end.squares}
-    c.loop-end.invariant.5 0 c.args.third.now c.requires.third
+    c.loop-end.invariant.5.contents 0 c.args.third.now c.requires.third
 
 pub two_words-requires-in-Some-clause-lower : goal.two_words-requires-in-Some-clause-lower
 two_words-requires-in-Some-clause-lower g c =
     strip-keeps {knows = g.S.Squares.knows c.args.squares.now} {knows' = g.S.Squares.knows c.loop-end.squares} {old = g.S.Squares.content c.args.squares.now} {now = g.S.Squares.content c.loop-end.squares}
-    c.loop-end.invariant.5 0 c.args.fourth.now c.requires.fourth
+    c.loop-end.invariant.5.contents 0 c.args.fourth.now c.requires.fourth
 
 pub push_rows-requires-clause-within : goal.push_rows-requires-clause-within
 push_rows-requires-clause-within g c =
@@ -32,7 +32,7 @@ push_rows-requires-clause-within g c =
     omega (arith, inside)
 
 pub returns-in_err-block-clause-keeps : goal.returns-in_err-block-clause-keeps
-returns-in_err-block-clause-keeps g c = λ q k. let a = c.loop-end.invariant.5 q k in let b = c.in_err-block.ensures.keeps q a.0 in (b.0, b.1 ∙ a.1)
+returns-in_err-block-clause-keeps g c = keeps-then c.loop-end.invariant.5 c.in_err-block.ensures.keeps
 
 pub returns-in_err-block-clause-needed : goal.returns-in_err-block-clause-needed
 returns-in_err-block-clause-needed g c =
@@ -46,14 +46,14 @@ returns-in_err-block-clause-needed g c =
     c.nearer.ensures c.nearer-in-loop-end.ensures c.in-Some.ensures in
     let inside = nearest-inside c.args.first.now c.args.second.now c.args.third.now c.args.fourth.now r.first_within r.second_within r.third_within r.fourth_within
     (64 * c.loop-end.block) c.empty-blank.result c.loop-end.a c.loop-end.b c.loop-end.c c.loop-end.d c.in-Some.end inv.1 inv.2 inv.3 inv.4 n in
-    let keep = λ (z : List Span) (s : IsStrip (K old) (C old) 0 z). strip-keeps {knows = K old} {knows' = K now} {old = C old} {now = C now} inv.5 0 z s in
+    let keep = λ (z : List Span) (s : IsStrip (K old) (C old) 0 z). strip-keeps {knows = K old} {knows' = K now} {old = C old} {now = C now} inv.5.contents 0 z s in
     let u = c.in-Some-two_words.ensures in
     let l = c.in-Some-two_words-2.ensures in
     let upper = c.in-Some-two_words.upper in
     let lower = c.in-Some-two_words-2.lower in
     let want = four_at (C old) c.args.first.now c.args.second.now c.args.third.now c.args.fourth.now in
     let wanted : (i : ℕ) → i < 16 → four (cells_at upper lower i) ≡ want (16 * c.loop-end.block + i) =
-    λ i lt. words-square {knows = K old} {knows' = K now} {old = C old} {now = C now} inv.5 c.args.first.now c.args.second.now c.args.third.now c.args.fourth.now r.first r.second r.third r.fourth
+    λ i lt. words-square {knows = K old} {knows' = K now} {old = C old} {now = C now} inv.5.contents c.args.first.now c.args.second.now c.args.third.now c.args.fourth.now r.first r.second r.third r.fourth
     (keep c.args.first.now r.first) (keep c.args.second.now r.second) (keep c.args.third.now r.third) (keep c.args.fourth.now r.fourth)
     (64 * c.loop-end.block) upper lower u.north u.south l.north l.south i (16 * c.loop-end.block + i) lt (omega arith) in
     let p = err_from_is_err_and c.from_residual-in_err-block.result c.from_residual-in_err-block.ensures.1 in
@@ -83,14 +83,14 @@ loop-end-preserved g c =
     c.nearer.ensures c.nearer-in-loop-end.ensures c.in-Some.ensures in
     let inside = nearest-inside c.args.first.now c.args.second.now c.args.third.now c.args.fourth.now r.first_within r.second_within r.third_within r.fourth_within
     (64 * c.loop-end.block) c.empty-blank.result c.loop-end.a c.loop-end.b c.loop-end.c c.loop-end.d c.in-Some.end inv.1 inv.2 inv.3 inv.4 n in
-    let keep = λ (z : List Span) (s : IsStrip (K old) (C old) 0 z). strip-keeps {knows = K old} {knows' = K now} {old = C old} {now = C now} inv.5 0 z s in
+    let keep = λ (z : List Span) (s : IsStrip (K old) (C old) 0 z). strip-keeps {knows = K old} {knows' = K now} {old = C old} {now = C now} inv.5.contents 0 z s in
     let u = c.in-Some-two_words.ensures in
     let l = c.in-Some-two_words-2.ensures in
     let upper = c.in-Some-two_words.upper in
     let lower = c.in-Some-two_words-2.lower in
     let want = four_at (C old) c.args.first.now c.args.second.now c.args.third.now c.args.fourth.now in
     let wanted : (i : ℕ) → i < 16 → four (cells_at upper lower i) ≡ want (16 * c.loop-end.block + i) =
-    λ i lt. words-square {knows = K old} {knows' = K now} {old = C old} {now = C now} inv.5 c.args.first.now c.args.second.now c.args.third.now c.args.fourth.now r.first r.second r.third r.fourth
+    λ i lt. words-square {knows = K old} {knows' = K now} {old = C old} {now = C now} inv.5.contents c.args.first.now c.args.second.now c.args.third.now c.args.fourth.now r.first r.second r.third r.fourth
     (keep c.args.first.now r.first) (keep c.args.second.now r.second) (keep c.args.third.now r.third) (keep c.args.fourth.now r.fourth)
     (64 * c.loop-end.block) upper lower u.north u.south l.north l.south i (16 * c.loop-end.block + i) lt (omega arith) in
     let at : 64 * c.loop-end.block ≡ 4 * (16 * c.loop-end.block) = omega arith in
@@ -108,10 +108,8 @@ loop-end-preserved g c =
       c.find-b-in-Some.ensures,
       c.find-c-in-Some.ensures,
       c.find-d-in-Some.ensures,
-      (λ q k. let a = inv.5 q k in let b = h.keeps q a.0 in (b.0, b.1 ∙ a.1)),
-      h.most ∙ inv.6,
+      keeps-then inv.5 h.keeps,
       h.within,
-      (λ t m. h.stays t (inv.8 t m)),
     )
 
 pub returns-clause-strip : goal.returns-clause-strip

@@ -1,10 +1,13 @@
+-- A square of four that are made one behind the other: what the five calls keep.
+use Rattle.life_quad.proofs.KeepingLemmas.{keeps-then}
 use Rattle.life_strip.proofs.bands.join_four.Goals as goal
 
-pub returns-in_err-sw-clause-stays : goal.returns-in_err-sw-clause-stays
-returns-in_err-sw-clause-stays g c = λ t h. c.in_err-sw.ensures.stays t (c.in_ok-ne.ensures.stays t (c.in_ok-nw.ensures.stays t h))
+pub returns-in_err-sw-clause-keeps : goal.returns-in_err-sw-clause-keeps
+returns-in_err-sw-clause-keeps g c = keeps-then (keeps-then c.in_ok-nw.ensures.keeps c.in_ok-ne.ensures.keeps) c.in_err-sw.ensures.keeps
 
-pub returns-in_err-se-clause-stays : goal.returns-in_err-se-clause-stays
-returns-in_err-se-clause-stays g c = λ t h. c.in_err-se.ensures.stays t (c.in_ok-sw.ensures.stays t (c.in_ok-ne.ensures.stays t (c.in_ok-nw.ensures.stays t h)))
+pub returns-in_err-se-clause-keeps : goal.returns-in_err-se-clause-keeps
+returns-in_err-se-clause-keeps g c = keeps-then (keeps-then (keeps-then c.in_ok-nw.ensures.keeps c.in_ok-ne.ensures.keeps) c.in_ok-sw.ensures.keeps) c.in_err-se.ensures.keeps
 
-pub returns-clause-stays : goal.returns-clause-stays
-returns-clause-stays g c = λ t h. c.join.ensures.stays t (c.in_ok-se.ensures.stays t (c.in_ok-sw.ensures.stays t (c.in_ok-ne.ensures.stays t (c.in_ok-nw.ensures.stays t h))))
+pub returns-clause-keeps : goal.returns-clause-keeps
+returns-clause-keeps g c =
+    keeps-then (keeps-then (keeps-then (keeps-then c.in_ok-nw.ensures.keeps c.in_ok-ne.ensures.keeps) c.in_ok-sw.ensures.keeps) c.in_ok-se.ensures.keeps) c.join.ensures.keeps

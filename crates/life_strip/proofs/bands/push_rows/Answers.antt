@@ -3,6 +3,7 @@ use Rattle.std.proofs.lemmas.Result.{err_from_is_err_and}
 use Rattle.life_base.specs.Tree.{Tree}
 use Rattle.life_quad.specs.Refused.{SomePart}
 use Rattle.life_quad.specs.Store.{four}
+use Rattle.life_quad.proofs.KeepingLemmas.{keeps-then}
 use Rattle.life_strip.specs.Band.{FilledTo, cells_at}
 use Rattle.life_strip.proofs.NeededLemmas.{err_again}
 use Rattle.life_strip.proofs.BandLemmas.{goes-on}
@@ -23,9 +24,6 @@ returns-then-block-next-clause-filled g c want p squares on =
     c.in_ok-push_square.ensures.filled want (16 * c.args.block) p (omega (arith, more))
     (goes-on want (four c.cells_of.result) (16 * c.args.block) c.args.end first on)
 
-pub returns-in_err-push_square-2-clause-stays : goal.returns-in_err-push_square-2-clause-stays
-returns-in_err-push_square-2-clause-stays g c = λ t m. c.in_err-push_square-2.ensures.stays t (c.loop-square.invariant.3 t m)
-
 pub returns-in_err-push_square-2-clause-needed : goal.returns-in_err-push_square-2-clause-needed
 returns-in_err-push_square-2-clause-needed g c =
     let p = err_from_is_err_and c.from_residual-in_err-push_square-2.result c.from_residual-in_err-push_square-2.ensures.1 in
@@ -45,15 +43,13 @@ loop-square-preserved g c =
     (le : 16 * block + square ≤ x) (lt : x < 16 * block + after).
     same-columns want c.args.upper c.args.lower block square after n.within squares n.goes_on x le lt ∙ ap four (sym c.cells_of-cells.ensures) in (
       (λ want p squares. h.filled want (16 * block + square) (inv.0 want p squares) (omega (arith, n.beyond)) (alike want squares)),
-      (λ q k. let a = inv.1 q k in let b = h.keeps q a.0 in (b.0, b.1 ∙ a.1)),
-      h.most ∙ inv.2,
-      (λ t m. h.stays t (inv.3 t m)),
+      keeps-then inv.1 h.keeps,
       n.within,
     )
 
 pub returns-clause-filled : goal.returns-clause-filled
 returns-clause-filled g c want p squares on =
     let inv = c.loop-square.invariant in
-    let last : c.loop-square.square ≡ 16 = omega (arith, c.loop-square-test.false, inv.4) in
+    let last : c.loop-square.square ≡ 16 = omega (arith, c.loop-square-test.false, inv.2) in
     let next : 16 * c.args.block + c.loop-square.square ≡ 16 * (c.args.block + 1) = omega (arith, last) in
     subst (λ k. FilledTo (g.S.Squares.knows c.loop-square.squares) (g.S.Squares.content c.loop-square.squares) want c.loop-square.spans.items k) next (inv.0 want p squares)

@@ -1,8 +1,8 @@
-use Rattle.std.proofs.Common.{◌≡◌, ℕ, ◌+◌, ◌-◌, ◌*◌, ◌<◌, ◌≤◌, Contains}
+use Rattle.std.proofs.Common.{◌≡◌, ℕ, ◌+◌, ◌-◌, ◌*◌, ◌<◌, ◌≤◌}
 use Rattle.life_base.specs.Tree.{Tree}
+use Rattle.life_quad.specs.Keeping.{KeepsSquares}
 use Rattle.life_quad.specs.Store.{four}
 use Rattle.life_strip.specs.Band.{FilledTo, cells_at}
-use Rattle.life_strip.proofs.SpanLemmas.{Keeps}
 use Rattle.life_strip.proofs.bands.push_rows.Given as goal
 
 abbrev pub invariant-loop-square : goal.invariant-loop-square
@@ -10,9 +10,7 @@ invariant-loop-square g l =
     ((want : ℕ → Tree) → FilledTo (g.S.Squares.knows l.fn.squares) (g.S.Squares.content l.fn.squares) want l.fn.spans.items (16 * l.block)
     → ((i : ℕ) → i < 16 → want (16 * l.block + i) ≡ four (cells_at l.upper l.lower i))
     → FilledTo (g.S.Squares.knows l.squares) (g.S.Squares.content l.squares) want l.spans.items (16 * l.block + l.square))
-    × Keeps (g.S.Squares.knows l.fn.squares) (g.S.Squares.knows l.squares) (g.S.Squares.content l.fn.squares) (g.S.Squares.content l.squares)
-    × (g.S.Squares.most l.squares ≡ g.S.Squares.most l.fn.squares)
-    × ((t : Tree) → Contains (g.S.Squares.stored l.fn.squares) t → Contains (g.S.Squares.stored l.squares) t)
+    × KeepsSquares g.S.Squares.knows g.S.Squares.content g.S.Squares.stored g.S.Squares.most l.fn.squares l.squares
     × (l.square ≤ 16)
 
 abbrev pub decreases-loop-square : goal.decreases-loop-square

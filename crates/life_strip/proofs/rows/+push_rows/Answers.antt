@@ -53,7 +53,7 @@ returns-clause-picture g t c =
     let r = c.in_ok-push_rows.ensures in
     on_ok_map c.push_strip.result
     (λ e i j. e i j
-    ∙ picture-under {knows = K old} {knows' = K now} {old = C old} {new = C now} r.keeps c.push_rows.new.strips.items over (c.in-Some.last ∷ []) (all-one (IsSound (K old) (C old)) c.in-Some.last last) r.height r.picture i j
+    ∙ picture-under {knows = K old} {knows' = K now} {old = C old} {new = C now} r.keeps.contents c.push_rows.new.strips.items over (c.in-Some.last ∷ []) (all-one (IsSound (K old) (C old)) c.in-Some.last last) r.height r.picture i j
     ∙ ap (λ z. picture (C old) z i j) in_order)
     c.push_strip.ensures.picture
 
@@ -86,6 +86,6 @@ returns-clause-needed g t c =
     let last = all_last (IsSound (K old) (C old)) init c.in-Some.last (subst (All (IsSound (K old) (C old))) items c.requires.band) in
     let r = c.in_ok-push_rows.ensures in
     λ e. SomeSquare-same (omega (arith, h, r.height))
-    (λ i j. picture-under {knows = K old} {knows' = K now} {old = C old} {new = C now} r.keeps c.push_rows.new.strips.items over (c.in-Some.last ∷ []) (all-one (IsSound (K old) (C old)) c.in-Some.last last) r.height r.picture i j
+    (λ i j. picture-under {knows = K old} {knows' = K now} {old = C old} {new = C now} r.keeps.contents c.push_rows.new.strips.items over (c.in-Some.last ∷ []) (all-one (IsSound (K old) (C old)) c.in-Some.last last) r.height r.picture i j
     ∙ ap (λ z. picture (C old) z i j) in_order)
     (c.push_strip.ensures.needed e)

@@ -26,7 +26,7 @@ returns-in_err-strip-clause-needed g c =
 pub push_rows-requires-clause-sound : goal.push_rows-requires-clause-sound
 push_rows-requires-clause-sound g c =
     all-keeps {knows = g.S.Squares.knows c.args.squares.now} {knows' = g.S.Squares.knows c.band_strip.new.squares} {old = g.S.Squares.content c.args.squares.now} {new = g.S.Squares.content c.band_strip.new.squares}
-    c.in_ok-strip.ensures.keeps c.args.strips.now.items c.requires.sound
+    c.in_ok-strip.ensures.keeps.contents c.args.strips.now.items c.requires.sound
 
 pub returns-in_default-clause-picture : goal.returns-in_default-clause-picture
 returns-in_default-clause-picture g c =
@@ -36,7 +36,7 @@ returns-in_default-clause-picture g c =
     let now = c.band_strip.new.squares in
     let all = All-append (IsSound (K old) (C old)) c.args.strips.now.items c.args.band.now.items c.requires.sound c.requires.band in
     on_ok_map c.push_rows.result
-    (λ e i j. e i j ∙ picture-keeps {knows = K old} {knows' = K now} {old = C old} {new = C now} c.in_ok-strip.ensures.keeps (c.args.strips.now.items ++ c.args.band.now.items) all i j)
+    (λ e i j. e i j ∙ picture-keeps {knows = K old} {knows' = K now} {old = C old} {new = C now} c.in_ok-strip.ensures.keeps.contents (c.args.strips.now.items ++ c.args.band.now.items) all i j)
     c.push_rows.ensures.picture
 
 pub returns-in_default-clause-needed : goal.returns-in_default-clause-needed
@@ -47,13 +47,13 @@ returns-in_default-clause-needed g c =
     let now = c.band_strip.new.squares in
     let all = All-append (IsSound (K old) (C old)) c.args.strips.now.items c.args.band.now.items c.requires.sound c.requires.band in
     λ e. SomeSquare-same (omega arith)
-    (λ i j. picture-keeps {knows = K old} {knows' = K now} {old = C old} {new = C now} c.in_ok-strip.ensures.keeps (c.args.strips.now.items ++ c.args.band.now.items) all i j)
+    (λ i j. picture-keeps {knows = K old} {knows' = K now} {old = C old} {new = C now} c.in_ok-strip.ensures.keeps.contents (c.args.strips.now.items ++ c.args.band.now.items) all i j)
     (c.push_rows.ensures.needed e)
 
 pub push_strip-requires-clause-sound : goal.push_strip-requires-clause-sound
 push_strip-requires-clause-sound g c =
     all-keeps {knows = g.S.Squares.knows c.args.squares.now} {knows' = g.S.Squares.knows c.band_strip.new.squares} {old = g.S.Squares.content c.args.squares.now} {new = g.S.Squares.content c.band_strip.new.squares}
-    c.in_ok-strip.ensures.keeps c.args.strips.now.items c.requires.sound
+    c.in_ok-strip.ensures.keeps.contents c.args.strips.now.items c.requires.sound
 
 pub push_strip-requires-clause-room : goal.push_strip-requires-clause-room
 push_strip-requires-clause-room g c =
@@ -80,7 +80,7 @@ returns-clause-picture g c =
     let same : (i j : ℕ) → picture (C now) (c.in-Some.strip ∷ []) i j ≡ picture (C old) c.args.band.now.items i j = λ i j. cells i j ∙ ap (λ z. picture (C old) z i j) c.as_slice.ensures.value in
     on_ok_map c.push_strip.result
     (λ e i j. e i j
-    ∙ picture-over {knows = K old} {knows' = K now} {old = C old} {new = C now} r.keeps c.args.strips.now.items (c.in-Some.strip ∷ []) c.args.band.now.items c.requires.sound same i j)
+    ∙ picture-over {knows = K old} {knows' = K now} {old = C old} {new = C now} r.keeps.contents c.args.strips.now.items (c.in-Some.strip ∷ []) c.args.band.now.items c.requires.sound same i j)
     c.push_strip.ensures.picture
 
 pub returns-clause-needed : goal.returns-clause-needed
@@ -96,5 +96,5 @@ returns-clause-needed g c =
     let cells = subst (λ o. IfSome o (λ s. (i j : ℕ) → picture (C now) (s ∷ []) i j ≡ picture (C old) c.as_slice.result.now i j)) c.in-Some.is r.picture in
     let same : (i j : ℕ) → picture (C now) (c.in-Some.strip ∷ []) i j ≡ picture (C old) c.args.band.now.items i j = λ i j. cells i j ∙ ap (λ z. picture (C old) z i j) c.as_slice.ensures.value in
     λ e. SomeSquare-same (omega (arith, h, four, two, c.requires.whole))
-    (picture-over {knows = K old} {knows' = K now} {old = C old} {new = C now} r.keeps c.args.strips.now.items (c.in-Some.strip ∷ []) c.args.band.now.items c.requires.sound same)
+    (picture-over {knows = K old} {knows' = K now} {old = C old} {new = C now} r.keeps.contents c.args.strips.now.items (c.in-Some.strip ∷ []) c.args.band.now.items c.requires.sound same)
     (c.push_strip.ensures.needed e)

@@ -1,5 +1,6 @@
 use Rattle.std.proofs.Common.{◌≡◌, ℕ, suc, ◌+◌, ◌-◌, ◌*◌, ◌^◌, ◌<◌, ◌≤◌, arith, sym, ◌∙◌, subst}
 use Rattle.life_base.specs.declared.cell.TheConstants.{MAX_LEVEL}
+use Rattle.life_quad.proofs.KeepingLemmas.{keeps-then}
 use Rattle.life_strip.specs.Strip.{quad_at}
 use Rattle.life_strip.proofs.SpanLemmas.{PairedTo, PairedTo-push, PairedTo-strip, PairedTo-paired, quad-keeps, quad-same, none-left, at_most_side, before_nearer, next-within}
 use Rattle.life_strip.proofs.spans.pair.Given.{Over}
@@ -28,21 +29,19 @@ loop-end-preserved g c =
     let side = at_most_side (suc c.args.level) in
     let whole : c.next_column-column.result ≤ 2 ^ MAX_LEVEL = omega (arith, within, side) in
     let near = c.in-Some.ensures in
-    let e = h.square ∙ quad-keeps {knows = K old} {knows' = K now} {old = C old} {now = C now} inv.3 c.args.level c.args.upper.now c.args.lower.now r.upper r.lower c.loop-end.column in
+    let e = h.square ∙ quad-keeps {knows = K old} {knows' = K now} {old = C old} {now = C now} inv.3.contents c.args.level c.args.upper.now c.args.lower.now r.upper r.lower c.loop-end.column in
     let same : (x : ℕ) → c.loop-end.column < x → x < c.next_column-column.result → quad_at (C old) c.args.level c.args.upper.now c.args.lower.now x ≡ quad_at (C old) c.args.level c.args.upper.now c.args.lower.now c.loop-end.column =
     λ x lo hi. let on = next.goes_on x lo hi in
     quad-same (K old) (C old) c.args.level c.args.upper.now c.args.lower.now r.upper r.lower c.empty-blank.result c.empty-blank.ensures.known c.empty-blank.ensures.square
     c.loop-end.column x c.loop-end.north c.loop-end.south inv.1 inv.2 lo (near.upper (2 * x + 1) on) (near.lower (2 * x + 1) on) in
     let pushed = PairedTo-push {knows = K now} {knows' = K new} {old = C old} {now = C now} {now' = C new} c.args.level c.args.upper.now c.args.lower.now c.loop-end.spans.items
-    c.loop-end.column c.next_column-column.result c.in_ok-joined.joined.square inv.0 h.keeps h.known e next.beyond within same in (
+    c.loop-end.column c.next_column-column.result c.in_ok-joined.joined.square inv.0 h.keeps.contents h.known e next.beyond within same in (
       subst (λ z. PairedTo (K new) (C old) (C new) c.args.level c.args.upper.now c.args.lower.now z c.next_column-column.result) (sym c.in_ok-push.ensures.items) pushed,
       c.find-north-in-Some.ensures,
       c.find-south-in-Some.ensures,
-      (λ q k. let a = inv.3 q k in let b = h.keeps q a.0 in (b.0, b.1 ∙ a.1)),
-      h.most ∙ inv.4,
+      keeps-then inv.3 h.keeps,
       whole,
       within,
-      (λ t m. h.stays t (inv.7 t m)),
     )
 
 pub returns-clause-strip : goal.returns-clause-strip
@@ -65,7 +64,7 @@ returns-in_err-joined-clause-needed g c =
     let C = g.S.Squares.content in
     let old = c.args.squares.now in
     let now = c.loop-end.squares in
-    let same = quad-keeps {knows = K old} {knows' = K now} {old = C old} {now = C now} c.loop-end.invariant.3 c.args.level c.args.upper.now c.args.lower.now r.upper r.lower c.loop-end.column in
+    let same = quad-keeps {knows = K old} {knows' = K now} {old = C old} {now = C now} c.loop-end.invariant.3.contents c.args.level c.args.upper.now c.args.lower.now r.upper r.lower c.loop-end.column in
     let inv = c.loop-end.invariant in
     let beyond = before_nearer (2 * c.loop-end.column) c.in-Some.end c.loop-end.north.end c.loop-end.south.end c.in-Some.ensures inv.1.beyond inv.2.beyond in
     let inside = next-within c.args.level c.args.upper.now c.args.lower.now r.low r.upper_within r.lower_within (2 * c.loop-end.column) c.empty-blank.result c.loop-end.north c.loop-end.south c.in-Some.end inv.1 inv.2

@@ -1,6 +1,7 @@
 use Rattle.std.proofs.Common.{◌≡◌, inl, inr, ◌<ℤ◌, refl, sym, ◌∙◌, subst, arith, w64, to_z, of_z}
 use Rattle.std.proofs.lemmas.Int.{ints}
 use Rattle.std.proofs.lemmas.Result.{err_from_is_err_and}
+use Rattle.life_quad.proofs.KeepingLemmas.{keeps-same, keeps-then}
 use Rattle.life_strip.specs.Given.{state_by}
 use Rattle.life_sweep.specs.Around.{after}
 use Rattle.life_sweep.specs.Rows.{IsWindowBelow, first_coordinate, states_of}
@@ -27,9 +28,7 @@ loop-window-init g c =
         c.new-window.ensures.window cells y scene.rows_are (λ column l. west-column cells y column scene.blank l),
         into-row (g.L.Law.answers c.args.law.now) cells (state_by (drawn_runs c.args.pen.now)) c.args.leaves w.x y (g.met.L.Law.quiet c.args.law.now) scene.blank west rows,
       );
-      keeps = λ q k. (k, refl);
-      stays = λ t m. m;
-      most = refl;
+      keeps = keeps-same c.args.squares.now;
     }
 
 pub draw_place-requires-clause-states : goal.draw_place-requires-clause-states
@@ -60,9 +59,7 @@ loop-window-preserved g c =
           let s = inv.swept cells scene rows in
           let on = c.advance.ensures.window c.loop-window-test.true cells y s.0 in
           (on.here, step-in-row A cells old new c.loop-window.left c.in_ok-left.left y c.loop-window.window c.advance.new.self (g.met.L.Law.quiet c.args.law.now) on s.1 (λ e. put-law (g.L.Law.answers c.loop-window.law) A _ new _ _ _ y (λ v a. subst (λ law. g.L.Law.answers law v a) inv.same) (h.put e)) h.others);
-      keeps = λ q k. let a = inv.keeps q k in let b = h.keeps q a.0 in (b.0, b.1 ∙ a.1);
-      stays = λ t m. h.stays t (inv.stays t m);
-      most = h.most ∙ inv.most;
+      keeps = keeps-then inv.keeps h.keeps;
     }
 
 pub returns-in_err-left-clause-refusals : goal.returns-in_err-left-clause-refusals
@@ -105,12 +102,6 @@ returns-clause-swept g c cells scene rows =
     subst (λ z. IsSweptRows A cells drawn c.loop-window.left (after z)) (sym e)
     (out-of-row A cells drawn c.loop-window.left c.loop-window.window.x y (g.met.L.Law.quiet c.args.law.now) (c.advance.ensures.over c.loop-window-test.false cells y s.0) s.1)
 
-pub returns-in_err-left-clause-keeps : goal.returns-in_err-left-clause-keeps
-returns-in_err-left-clause-keeps g c q k =
-    let a = c.loop-window.invariant.keeps q k in
-    let b = c.in_err-left.ensures.keeps q a.0 in
-    (b.0, b.1 ∙ a.1)
-
 pub returns-in_err-left-clause-needed : goal.returns-in_err-left-clause-needed
 returns-in_err-left-clause-needed g c =
     let y = to_z w64 (of_z w64 c.args.y) in
@@ -124,3 +115,6 @@ returns-in_err-left-clause-needed g c =
     (λ full cells scene rows.
     let s = inv.swept cells (subst (λ z. IsScene cells z c.args.rows) e scene) (subst (λ z. IsSweptRows A cells start c.args.leaves z) e rows) in
     swept-needs (g.S.Squares.needs_node c.draw_place.new.squares) A cells runs c.loop-window.left (after c.loop-window.window.x) y s.1 (c.in_err-left.ensures.needed full))
+
+pub returns-in_err-left-clause-keeps : goal.returns-in_err-left-clause-keeps
+returns-in_err-left-clause-keeps g c = keeps-then c.loop-window.invariant.keeps c.in_err-left.ensures.keeps

@@ -1,7 +1,5 @@
 use Rattle.std.proofs.Common.{◌≡◌, ℕ, ℤ}
-use Rattle.std.specs.Prelude.{Contains}
-use Rattle.life_base.specs.Tree.{Tree}
-use Rattle.life_quad.specs.declared.id.Id.{Id}
+use Rattle.life_quad.specs.Keeping.{KeepsSquares}
 use Rattle.life_sweep.specs.Pen.{IsHolding, drawn_runs}
 use Rattle.life_strip.specs.Given.{state_by}
 use Rattle.life_sweep.specs.Around.{after}
@@ -20,9 +18,7 @@ invariant-loop-window g l = record {
   swept : (cells : ℤ → ℤ → ℕ) → IsScene cells l.y l.fn.rows
       → IsSweptRows (g.L.Law.answers l.fn.law) cells (state_by (drawn_runs l.fn.pen)) l.leaves l.y
       → IsWindow cells l.y l.window × IsSwept (g.L.Law.answers l.fn.law) cells (state_by (drawn_runs l.pen)) l.left (after l.window.x) l.y;
-  keeps : (q : Id) → g.S.Squares.knows l.fn.squares q → g.S.Squares.knows l.squares q × (g.S.Squares.content l.squares q ≡ g.S.Squares.content l.fn.squares q);
-  stays : (t : Tree) → Contains (g.S.Squares.stored l.fn.squares) t → Contains (g.S.Squares.stored l.squares) t;
-  most : g.S.Squares.most l.squares ≡ g.S.Squares.most l.fn.squares;
+  keeps : KeepsSquares g.S.Squares.knows g.S.Squares.content g.S.Squares.stored g.S.Squares.most l.fn.squares l.squares;
 }
 
 abbrev pub decreases-loop-window : goal.decreases-loop-window

@@ -1,6 +1,7 @@
 use Rattle.std.proofs.Common.{◌≡◌, inl, inr, refl, sym, ◌∙◌, subst, arith, w64, to_z, of_z}
 use Rattle.std.proofs.lemmas.Int.{ints}
 use Rattle.std.proofs.lemmas.Result.{err_from_is_err_and}
+use Rattle.life_quad.proofs.KeepingLemmas.{keeps-same, keeps-then}
 use Rattle.life_strip.specs.Given.{state_by}
 use Rattle.life_table.specs.Meaning.{Becomes}
 use Rattle.life_sweep.specs.Around.{after}
@@ -31,9 +32,7 @@ loop-band-init g c =
         c.new-band.ensures.band plane sorted.blank sorted.cells_are,
         start-rows A plane drawn c.new-band.result.y (g.met.L.Law.quiet c.args.law.now) sorted.blank (omega (arith, ints, c.new-band.ensures.start)) (nothing-drawn (drawn_runs c.new-pen.result) c.new-pen.ensures.drawn),
       );
-      keeps = λ q k. (k, refl);
-      stays = λ t m. m;
-      most = refl;
+      keeps = keeps-same c.args.squares.now;
     }
 
 pub draw_row-requires-clause-states : goal.draw_row-requires-clause-states
@@ -70,9 +69,7 @@ loop-band-preserved g c =
           let scene : IsScene plane y band.rows = record { rows_are = subst (λ z. AreRows plane z first_coordinate band.rows) e on.here.rows; blank = sorted.blank } in
           let before = subst (λ z. IsSweptRows B plane old c.loop-band.leaves z) e (rows-law A B plane old c.loop-band.leaves band.y (λ v a. subst (λ law. g.L.Law.answers law v a) (sym inv.same)) passed) in
           (on.here, subst (λ z. IsSweptRows A plane new c.in_ok-leaves.leaves (after z)) (sym e) (rows-law B A plane new c.in_ok-leaves.leaves (after y) (λ v a. subst (λ law. g.L.Law.answers law v a) inv.same) (h.swept plane scene before)));
-      keeps = λ q k. let a = inv.keeps q k in let b = h.keeps q a.0 in (b.0, b.1 ∙ a.1);
-      stays = λ t m. h.stays t (inv.stays t m);
-      most = h.most ∙ inv.most;
+      keeps = keeps-then inv.keeps h.keeps;
     }
 
 pub returns-in_err-leaves-clause-refusals : goal.returns-in_err-leaves-clause-refusals
@@ -154,3 +151,12 @@ returns-in_err-finish-clause-needed g c =
     all-needs (g.S.Squares.needs_node c.finish.new.squares) A plane runs c.loop-band.leaves c.if-leaves.false
     (all-rows A plane (state_by runs) c.loop-band.leaves c.loop-band.band.y (g.met.L.Law.quiet c.args.law.now) over s.1)
     (c.in_err-finish.ensures.needed (full-kind c.in_err-finish.field-0.0 full)))
+
+pub returns-in_err-leaves-clause-keeps : goal.returns-in_err-leaves-clause-keeps
+returns-in_err-leaves-clause-keeps g c = keeps-then c.loop-band.invariant.keeps c.in_err-leaves.ensures.keeps
+
+pub returns-in_err-finish-clause-keeps : goal.returns-in_err-finish-clause-keeps
+returns-in_err-finish-clause-keeps g c = keeps-then c.loop-band.invariant.keeps c.in_err-finish.ensures.keeps
+
+pub returns-clause-keeps : goal.returns-clause-keeps
+returns-clause-keeps g c = keeps-then c.loop-band.invariant.keeps c.in_ok-finish.ensures.keeps

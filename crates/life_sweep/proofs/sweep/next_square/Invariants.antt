@@ -1,7 +1,5 @@
 use Rattle.std.proofs.Common.{◌≡◌, ℕ, ℤ}
-use Rattle.std.specs.Prelude.{Contains}
-use Rattle.life_base.specs.Tree.{Tree}
-use Rattle.life_quad.specs.declared.id.Id.{Id}
+use Rattle.life_quad.specs.Keeping.{KeepsSquares}
 use Rattle.life_sweep.specs.Pen.{IsHolding, drawn_runs}
 use Rattle.life_strip.specs.Given.{state_by}
 use Rattle.life_sweep.specs.Around.{after}
@@ -19,9 +17,7 @@ invariant-loop-band g l = record {
   ready : IsReadyRow (drawn_runs l.pen) (after l.band.y);
   swept : (plane : ℤ → ℤ → ℕ) → IsSorted plane l.cells
       → IsBand plane l.band × IsSweptRows (g.L.Law.answers l.fn.law) plane (state_by (drawn_runs l.pen)) l.leaves (after l.band.y);
-  keeps : (q : Id) → g.S.Squares.knows l.fn.squares q → g.S.Squares.knows l.squares q × (g.S.Squares.content l.squares q ≡ g.S.Squares.content l.fn.squares q);
-  stays : (t : Tree) → Contains (g.S.Squares.stored l.fn.squares) t → Contains (g.S.Squares.stored l.squares) t;
-  most : g.S.Squares.most l.squares ≡ g.S.Squares.most l.fn.squares;
+  keeps : KeepsSquares g.S.Squares.knows g.S.Squares.content g.S.Squares.stored g.S.Squares.most l.fn.squares l.squares;
 }
 
 abbrev pub decreases-loop-band : goal.decreases-loop-band

@@ -10,6 +10,7 @@ use Rattle.life_mc.proofs.Grammars.{grammars_agree}
 use Rattle.life_quad.specs.declared.id.Id.{Id}
 use Rattle.std.proofs.lemmas.Result.{IfOk-weaker}
 use Rattle.life_strip.specs.Given.{GivenRun, state_by}
+use Rattle.life_quad.proofs.KeepingLemmas.{keeps-then}
 use Rattle.life_canon.specs.Files.{Says, as_rle, as_macrocell, is_macrocell}
 use Rattle.life_canon.specs.Needs.{IsNew, SomeRoot, of_plane, of_root, level_of_root}
 use Rattle.life_canon.specs.Store.{IsKnown, content}
@@ -44,11 +45,7 @@ returns-in-Rle-clause-pattern c =
     (λ x y. c.in_ok-root-in-Rle.ensures.cells x y ∙ ap (λ (rs : List GivenRun). state_by rs x y) built.same ∙ file-cells c.in-Rle.lines.lines built.runs found.0 built.are found.1 x y))
 
 pub returns-in-Rle-clause-keeps : goal.returns-in-Rle-clause-keeps
-returns-in-Rle-clause-keeps c = record {
-  contents = λ id k. let p = c.in_ok-root-in-Rle.ensures.keeps id k in let q = c.trimmed_pattern.ensures.keeps id p.0 in (q.0, q.1 ∙ p.1);
-  stored = λ t h. c.trimmed_pattern.ensures.stays t (c.in_ok-root-in-Rle.ensures.stays t h);
-  limit = c.trimmed_pattern.ensures.most ∙ c.in_ok-root-in-Rle.ensures.most;
-}
+returns-in-Rle-clause-keeps c = keeps-then c.in_ok-root-in-Rle.ensures.keeps c.trimmed_pattern.ensures.keeps
 
 pub last_square-root-requires : goal.last_square-root-requires
 last_square-root-requires c =

@@ -4,9 +4,9 @@ use Rattle.life_base.specs.Refusal.{fault_at, fault_of}
 use Rattle.life_base.specs.declared.kind.Kind.{Kind}
 use Rattle.life_base.specs.declared.kind.Kind.TheVariants.{Full}
 use Rattle.life_base.specs.declared.cell.TheConstants.{MAX_LEVEL}
+use Rattle.life_quad.proofs.KeepingLemmas.{keeps-then}
 use Rattle.life_canon.specs.Store.{RefusesIn}
 use Rattle.life_canon.specs.Taking.{bytes_of}
-use Rattle.life_canon.proofs.CallFacts.{keeps-all}
 use Rattle.life_canon.proofs.FrontFacts.{end-says, end-fault}
 use Rattle.life_canon.specs.Needs.{IsNew, at_end}
 use Rattle.life_canon.proofs.NeedFacts.{kind-full, end-needs}
@@ -22,7 +22,7 @@ returns-in-Ok-clause-pattern c =
     }
 
 pub returns-in-Ok-clause-keeps : goal.returns-in-Ok-clause-keeps
-returns-in-Ok-clause-keeps c = keeps-all c.args.store.now c.take_rest.new.store c.end.new.store c.take_rest.ensures.keeps c.end.ensures.keeps
+returns-in-Ok-clause-keeps c = keeps-then c.take_rest.ensures.keeps c.end.ensures.keeps
 
 pub returns-clause-fault : goal.returns-clause-fault
 returns-clause-fault c =
@@ -31,7 +31,7 @@ returns-clause-fault c =
     (end-fault c.end.new.store (bytes_of c.args.self.pieces.lines) c.take_rest.new.self.ended c.take_rest.new.self.progress c.in-Err.kind c.in_ok-take_rest.ensures.end c.in-Err.ensures.fault)
 
 pub returns-clause-keeps : goal.returns-clause-keeps
-returns-clause-keeps c = keeps-all c.args.store.now c.take_rest.new.store c.end.new.store c.take_rest.ensures.keeps c.end.ensures.keeps
+returns-clause-keeps c = keeps-then c.take_rest.ensures.keeps c.end.ensures.keeps
 
 pub returns-in_err-take_rest-clause-needed : goal.returns-in_err-take_rest-clause-needed
 returns-in_err-take_rest-clause-needed c =

@@ -2,8 +2,8 @@ use Rattle.std.proofs.Common.{◌≡◌, ℕ, ◌+◌, ◌-◌, ◌<◌, ◌≤�
 use Rattle.std.proofs.lemmas.Grind.{common_steps}
 use Rattle.std.proofs.lemmas.Result.{err_from_is_err_and}
 use Rattle.life_base.proofs.LineEnds.{all_behind}
+use Rattle.life_quad.proofs.KeepingLemmas.{keeps-then}
 use Rattle.life_canon.specs.Taking.{bytes_of, IsOver}
-use Rattle.life_canon.proofs.CallFacts.{keeps-all}
 use Rattle.life_canon.proofs.FeedFacts.{feed-before, feed-within, piece-split, is-none}
 use Rattle.life_canon.proofs.FrontFacts.{told-along, over-or-clean}
 use Rattle.life_base.specs.declared.cell.TheConstants.{MAX_LEVEL}
@@ -23,7 +23,7 @@ returns-in_err-end_line-clause-fault c =
     (bytes_of c.args.self.now.pieces.lines ++ c.args.piece.now) c.in_err-end_line.field-0.0 all c.in_err-end_line.ensures.fault)
 
 pub returns-in_err-end_line-clause-keeps : goal.returns-in_err-end_line-clause-keeps
-returns-in_err-end_line-clause-keeps c = keeps-all c.args.store.now c.loop-end.store c.end_line.new.store c.loop-end.invariant.keeps c.end_line.ensures.keeps
+returns-in_err-end_line-clause-keeps c = keeps-then c.loop-end.invariant.keeps c.end_line.ensures.keeps
 
 pub overflow_add-rest : goal.overflow_add-rest
 overflow_add-rest c =
@@ -42,7 +42,7 @@ loop-end-preserved c =
           ∙ ap (λ (b : List ℕ). b ++ drop (c.in-Some.end + 1) rest) c.in_ok-end_line.ensures.bytes
           ∙ piece-split (bytes_of c.loop-end.self.pieces.lines) rest c.in-Some.end c.in-Some.ensures.end ∙ c.loop-end.invariant.bytes;
       shorter = subst (λ (r : List ℕ). length r ≤ length c.args.piece.now) (sym behind) (omega (arith, length-drop (c.in-Some.end + 1) rest, c.loop-end.invariant.shorter));
-      keeps = keeps-all c.args.store.now c.loop-end.store c.end_line.new.store c.loop-end.invariant.keeps c.end_line.ensures.keeps;
+      keeps = keeps-then c.loop-end.invariant.keeps c.end_line.ensures.keeps;
     }
 
 pub end_piece-requires-clause-last : goal.end_piece-requires-clause-last

@@ -4,7 +4,7 @@ use Rattle.life_base.proofs.Results.{if_ok_both}
 use Rattle.life_quad.specs.Store.{squares, square_of, IsNode}
 use Rattle.life_quad.specs.StoreLaws.{length-squares, squares-push}
 use Rattle.life_base.specs.Tree.{depth, blank}
-use Rattle.life_quad.proofs.CallLemmas.{is_blank-joined, blank_joined, IsNode-joined, keeps_added, knows_last, square_of-added, stays_added, room_left}
+use Rattle.life_quad.proofs.CallLemmas.{is_blank-joined, blank_joined, IsNode-joined, keeps_added, knows_last, square_of-added, room_left}
 use Rattle.life_quad.proofs.plain.PlainSquares.join.Goals as goal
 
 pub returns-then-are_blank-clause-square : goal.returns-then-are_blank-clause-square
@@ -43,7 +43,7 @@ returns-clause-square c =
     if_ok_both c.add.result (λ id i at. square_of-added _ _ _ (IsNode-there c) i c.add.ensures.sound id at) c.add.ensures.stored c.add.ensures.id
 
 pub returns-clause-keeps : goal.returns-clause-keeps
-returns-clause-keeps c = keeps_added c.add.result _ _ _ c.add.ensures.stored c.add.ensures.unchanged c.add.ensures.sound
+returns-clause-keeps c = keeps_added c.add.result _ _ _ c.add.ensures.stored c.add.ensures.unchanged c.add.ensures.sound c.add.ensures.limit
 
 pub returns-clause-added : goal.returns-clause-added
 returns-clause-added c = on_ok_weaker c.add.result (λ i needs. ap (λ s. squares s.nodes) i ∙ squares-push _ _) c.add.ensures.stored
@@ -63,9 +63,6 @@ returns-clause-room c =
 
 pub returns-clause-needed : goal.returns-clause-needed
 returns-clause-needed c = on_err_weaker c.add.result (λ same. (IsNode-there c).not_blank) c.add.ensures.unchanged
-
-pub returns-clause-stays : goal.returns-clause-stays
-returns-clause-stays c = stays_added c.add.result _ _ _ c.add.ensures.stored c.add.ensures.unchanged
 
 pub returns-clause-fresh : goal.returns-clause-fresh
 returns-clause-fresh c = if_ok_both c.add.result (λ id i last needs known. let b = known.named.below in let e : id.0 ≡ 66064 + length c.args.self.now.nodes = last in absurd (omega arith)) c.add.ensures.stored c.add.ensures.id

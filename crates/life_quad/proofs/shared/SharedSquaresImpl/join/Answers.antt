@@ -6,7 +6,7 @@ use Rattle.life_base.specs.Tree.{depth, blank, is_blank_tree}
 use Rattle.life_quad.specs.declared.id.Id.{Id}
 use Rattle.life_quad.specs.declared.id.Node.{Node}
 use Rattle.life_quad.specs.declared.shared.Shared.{Shared}
-use Rattle.life_quad.proofs.CallLemmas.{is_blank-joined, blank_joined, IsNode-joined, IsSmall-joined, join_known, join_square, join_keeps, join_stays, join_added, join_there, join_fresh, join_full, join_needed}
+use Rattle.life_quad.proofs.CallLemmas.{is_blank-joined, blank_joined, IsNode-joined, IsSmall-joined, join_known, join_square, join_keeps, join_added, join_there, join_fresh, join_full, join_needed}
 use Rattle.life_quad.proofs.shared.SharedSquaresImpl.join.Goals as goal
 
 -- ---- four blank squares
@@ -73,9 +73,6 @@ returns-in-Some-clause-square c = join_square _ _ _ (deep-small c) (not_blank-sm
 pub returns-in-Some-clause-keeps : goal.returns-in-Some-clause-keeps
 returns-in-Some-clause-keeps c = join_keeps _ _ _ (deep-small c) (not_blank-small c) _ (small c)
 
-pub returns-in-Some-clause-stays : goal.returns-in-Some-clause-stays
-returns-in-Some-clause-stays c = join_stays _ _ _ (deep-small c) (not_blank-small c) _ (small c)
-
 pub returns-in-Some-clause-added : goal.returns-in-Some-clause-added
 returns-in-Some-clause-added c = join_added _ _ _ (deep-small c) (not_blank-small c) _ (small c)
 
@@ -118,9 +115,6 @@ returns-clause-square c = join_square _ _ _ (deep-node c) (not_blank-node c) _ c
 
 pub returns-clause-keeps : goal.returns-clause-keeps
 returns-clause-keeps c = join_keeps _ _ _ (deep-node c) (not_blank-node c) _ c.intern.ensures
-
-pub returns-clause-stays : goal.returns-clause-stays
-returns-clause-stays c = join_stays _ _ _ (deep-node c) (not_blank-node c) _ c.intern.ensures
 
 pub returns-clause-added : goal.returns-clause-added
 returns-clause-added c = join_added _ _ _ (deep-node c) (not_blank-node c) _ c.intern.ensures
