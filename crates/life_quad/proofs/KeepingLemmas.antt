@@ -5,7 +5,6 @@ use Rattle.life_quad.specs.declared.id.Id.{Id}
 use Rattle.life_quad.specs.Keeping.{KeepsSquares}
 
 module _ {S : Type 0} {knows : S → Id → Type 0} {content : S → Id → Tree} {stored : S → List Tree} {most : S → ℕ} where
-
   -- a store that no call has changed
   pub keeps-same : (store : S) → KeepsSquares knows content stored most store store
   keeps-same store = record {
