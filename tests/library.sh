@@ -2,7 +2,7 @@
 # The library for C. Its header's promises, checked in C; each pattern of examples/, and files that are refused, given by the library as by the
 # program, whole and in pieces, with a checker of memory where valgrind is there, and with each request for memory refused in turn; the shared
 # object, from Python and beside the independent reader; the programs of examples/; and what `make install` puts in place. It builds the library of
-# crates/golly_canon_c first.
+# crates/golly_canon_c first, over what `rt ci` has proved.
 # It needs a C compiler, python3 and pkg-config, and the toolchain's rt.
 
 usage="usage: tests/library.sh PROGRAM"
@@ -18,9 +18,9 @@ trap 'rm -rf "$folder"' EXIT
 cd "$folder" || exit 1
 archive=$top/crates/golly_canon_c/out/libgolly_canon_c.a
 rm -f "$archive"
-if ! (cd "$top/crates/golly_canon_c" && "$RT" lib) > said 2>&1; then
+if ! sh "$top/scripts/archive" > said 2>&1; then
     tail -n 20 said
-    echo "the library is not built: $RT lib"
+    echo "the library is not built: scripts/archive"
     exit 1
 fi
 sh "$top/scripts/link_library" "$archive" built || exit 1
