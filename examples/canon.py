@@ -1,4 +1,5 @@
-"""The canonical text of standard input, by the library."""
+"""The canonical text of standard input, by the library. usage: canon.py < FILE
+A fault goes to standard error, and ends it with status 1. The library is found where the system looks for it, or in LD_LIBRARY_PATH."""
 import ctypes
 import sys
 

@@ -1,5 +1,6 @@
 """The doubles of a folder: prints `FILE = FILE` for each file that is the same pattern as an earlier one, and `FILE: line N: KIND` for each
-that is no pattern, or why it can't be read, on standard error. usage: doubles.py FOLDER"""
+that is no pattern, or why it can't be read, on standard error. Each different text is kept in memory; of a large collection keep a hash of each
+(hashlib.sha256(text).digest()). usage: doubles.py FOLDER"""
 import ctypes
 import pathlib
 import sys

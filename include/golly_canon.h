@@ -17,8 +17,8 @@
  *     any other status      the number of a kind of fault. Nothing was written at `out`, and `*needed` is 0. `*line` is the number of the line
  *                           that the file is refused at, counted from 1, or 0 where the fault is of no line.
  *
- * With the first two `*line` is 0. A file is its bytes as they stand, not compressed, and whole: of a file of either format that was cut short a
- * part can be a pattern too.
+ * With the first two `*line` is 0. With a `room` of 0 a call tells the length of its text alone, and the next one reads the file again; a stream
+ * doesn't. A file is its bytes as they stand, not compressed, and whole: of a file of either format that was cut short a part can be a pattern too.
  *
  * The caller guarantees, in each call:
  *
@@ -101,7 +101,8 @@ enum {
 };
 
 /* `limit`, of each call: how many different squares the store of the call may hold, those on the way to the answer too. A call that comes to
- * more is refused as Full. A limit above 2^62 counts as 2^62; but beyond some 2^32 squares the answer is Memory, whatever the limit. */
+ * more is refused as Full. A limit above 2^62 counts as 2^62; but beyond some 2^32 squares the answer is Memory, whatever the limit. As measured, a
+ * square takes 32 to 39 bytes of the store, or less where it has at most 4 x 4 cells of the states 0 and 1. */
 
 /* The canonical text of the pattern of a file. Two files have one text exactly if they are one pattern.
  * The caller guarantees: `length` bytes to read at `bytes`; `room` bytes to write at `out`, `*needed` and `*line`, apart from each other and
