@@ -25,7 +25,11 @@ _golly_canon() {
                 canon | same | show) COMPREPLY=($(compgen -W "--help -h" -- "$word")) ;;
             esac
             ;;
-        *) compopt -o filenames 2> /dev/null && COMPREPLY=($(compgen -f -- "$word")) ;;
+        *)
+            # One file a line, as a name may have spaces.
+            compopt -o filenames 2> /dev/null
+            mapfile -t COMPREPLY < <(compgen -f -- "$word")
+            ;;
     esac
 }
 

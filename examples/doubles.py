@@ -1,7 +1,8 @@
 """The doubles of a folder: prints `FILE = FILE` for each file that is the same pattern as an earlier one, and `FILE: line N: KIND` for each
-that is no pattern, or why it can't be read, on standard error. Each different text is kept in memory; of a large collection keep a hash of each
-(hashlib.sha256(text).digest()). usage: doubles.py FOLDER"""
+that is no pattern, or why it can't be read, on standard error. It keeps the SHA-256 hash of each different text. The status is 0, or 1 where a file
+has no text. usage: doubles.py FOLDER"""
 import ctypes
+import hashlib
 import pathlib
 import sys
 
@@ -56,19 +57,23 @@ def canonical(path):
         library.golly_canon_close(ctypes.byref(stream))
 
 
-def main(folder):
+def main(words):
+    if len(words) != 2 or not pathlib.Path(words[1]).is_dir():
+        sys.exit("usage: doubles.py FOLDER")
     sys.stdout.reconfigure(errors="surrogateescape")
-    known = {}
-    for path in sorted(it for it in pathlib.Path(folder).rglob("*") if it.is_file()):
+    known, status = {}, 0
+    for path in sorted(it for it in pathlib.Path(words[1]).rglob("*") if it.is_file()):
         try:
-            text = canonical(path)
+            key = hashlib.sha256(canonical(path)).digest()
         except (OSError, Refused) as why:
             print(f"{path}: {why}", file=sys.stderr)
+            status = 1
             continue
-        first = known.setdefault(text, path)
+        first = known.setdefault(key, path)
         if first != path:
             print(f"{first} = {path}")
+    return status
 
 
 if __name__ == "__main__":
-    main(sys.argv[1])
+    sys.exit(main(sys.argv))
