@@ -1,6 +1,7 @@
 #!/usr/bin/env python3
-"""Holds the documents against the repository: each file that they link to or name by its path is there, the table of sizes in docs/PROOFS.md is what
-scripts/sizes prints, and each planted bug of its table is an edit that turns what the table says, and nothing else.
+"""Holds the documents against the repository: each file and heading that they link to, and each file that they name by its path, is there; the table
+of sizes in docs/PROOFS.md is what scripts/sizes prints; each planted bug of its table is an edit that turns what the table says, and nothing else; and
+no line of documents, definitions and proofs is too wide.
 
 usage: tests/documents.py
 """
@@ -15,10 +16,13 @@ DOCUMENTS = ["README.md", "CHANGELOG.md", *sorted(f"docs/{it}" for it in os.list
 SIZES = "docs/PROOFS.md"
 # A path in backticks: of a folder at the top, or of a crate, whose name may stand without `crates/`.
 NAMED = re.compile(r"`((?:docs|tests|scripts|bench|examples|include|completions|crates)/[\w./*-]+|(?:[a-z]+_)+[a-z]+/(?:src|specs|proofs)/[\w./+*-]+)`")
-LINKED = re.compile(r"\]\(([^)#:\s]+)\)")
+LINKED = re.compile(r"\]\(([^)#:\s]*)(?:#([^)\s]+))?\)")
 # A row of the table of planted bugs: the crate, the function, what is wrong, what is right, what is planted, and the edit.
 PLANTED = re.compile(r"\| `(\w+)` \| `([\w:]+)` \| [^|]+ \| `([^`]+)` \| `([^`]+)` \| `(\w+)` \|")
 BUGS = 20
+# The most columns of a line, and what stands on one line however wide it is: a row of a table, a line of a program, and an import.
+WIDTH = 160
+WIDE = re.compile(r"\||    |(?:pub )?use ")
 # A file or folder that a document names by its pattern, as `proofs/MODULE/FUNCTION/`, names no file.
 PATTERN = re.compile(r"[A-Z]{3,}/|/[A-Z]{3,}\b(?!\.(?:md|antt))")
 
@@ -30,6 +34,33 @@ def text_of(path):
 
 def is_there(path):
     return bool(glob.glob(os.path.join(TOP, path)) or glob.glob(os.path.join(TOP, "crates", path)))
+
+
+def headings(path):
+    """The anchors of a document's headings, as they are made where it is shown."""
+    names = re.findall(r"^#+ (.*)$", text_of(path), re.MULTILINE)
+    return {re.sub(r"[^\w\- ]", "", name.lower()).replace(" ", "-") for name in names}
+
+
+def leads_somewhere(document, file, anchor):
+    path = os.path.normpath(os.path.join(os.path.dirname(document), file)) if file else document
+    return is_there(path) and (not anchor or anchor in headings(path))
+
+
+def wide_lines(path, kept):
+    """The numbers of the lines of a file that are too wide, but for those that are kept."""
+    return [number for number, line in enumerate(text_of(path).splitlines(), 1) if len(line) > WIDTH and not kept.match(line)]
+
+
+def widths():
+    """Whether no line is too wide: of each document, and of the definitions and proofs of each crate."""
+    for document in DOCUMENTS:
+        found = wide_lines(document, WIDE)
+        yield f"{document}: lines of more than {WIDTH} columns: {found}", not found
+    for crate in sorted(os.listdir(os.path.join(TOP, "crates"))):
+        files = [it for part in ("specs", "proofs") for it in glob.glob(f"crates/{crate}/{part}/**/*.antt", root_dir=TOP, recursive=True)]
+        found = [f"{it}:{number}" for it in files for number in wide_lines(it, re.compile("(?:pub )?use "))]
+        yield f"{crate}: lines of more than {WIDTH} columns: {' '.join(found)}", not found
 
 
 def plants(crate, right, planted, edit):
@@ -49,8 +80,8 @@ def findings():
     """What was looked at, and whether it holds."""
     for document in DOCUMENTS:
         text = text_of(document)
-        for link in sorted(set(LINKED.findall(text))):
-            yield f"{document}: link to {link}", is_there(os.path.join(os.path.dirname(document), link))
+        for file, anchor in sorted(set(LINKED.findall(text))):
+            yield f"{document}: link to {file}#{anchor}", leads_somewhere(document, file, anchor)
         for name in sorted(set(NAMED.findall(text))):
             if not PATTERN.search(name):
                 yield f"{document}: {name}", is_there(name)
@@ -62,6 +93,7 @@ def findings():
     table = set(text_of(SIZES).splitlines())
     for line in printed:
         yield f"{SIZES}: {line}", line in table
+    yield from widths()
 
 
 def main():
