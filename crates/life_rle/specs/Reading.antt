@@ -3,8 +3,8 @@ use Rattle.std.specs.Prelude.{◌≡◌, ℕ, Bool, true, false, ◌==◌, ◌||
 use Rattle.life_base.specs.declared.kind.Kind.{Kind}
 use Rattle.life_base.specs.declared.rule.Rule.{Rule}
 use Rattle.life_rle.specs.declared.item.Item.{Item}
-use Rattle.life_rle.specs.declared.item.Found.{Found}
-use Rattle.life_rle.specs.declared.item.Found.TheVariants as found
+use Rattle.life_rle.specs.declared.item.Token.{Token}
+use Rattle.life_rle.specs.declared.item.Token.TheVariants as found
 use Rattle.life_rle.specs.declared.cursor.Cursor.{Cursor}
 use Rattle.life_rle.specs.declared.file.Run.{Run}
 use Rattle.life_rle.specs.Items.{Next, End, Mark, Spelled, Broken, Spells}
@@ -18,7 +18,7 @@ abbrev pub is_short : ℕ → Bool
 is_short b = b == 98 || b == 111 || b == 36
 
 -- what was found in an item's place
-abbrev pub next_value : Found → Next
+abbrev pub next_value : Token → Next
 next_value found.Nothing = End
 next_value found.Mark = Mark
 next_value (found.Spelled item rest) = Spelled item rest.now

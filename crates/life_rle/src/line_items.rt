@@ -11,7 +11,7 @@ ghost use Rattle.life_rle.specs.Reading.{ReadsItems, last_of, ItemsBreak};
 
 use crate::cursor::{Cursor, item_fault, moved};
 use crate::file::Run;
-use crate::item::{Found, Item, next_item};
+use crate::item::{Item, Token, next_item};
 use bstr::ByteSlice;
 use life_base::{Kind, MAX_LEVEL, Rule};
 
@@ -126,20 +126,20 @@ pub(crate) fn read_items(
     let mut rest = line;
     loop {
         match next_item(rest) {
-            Found::Nothing => {
+            Token::Nothing => {
                 return Ok(ItemsRead {
                     cursor,
                     marked: false,
                 });
             }
-            Found::Mark => {
+            Token::Mark => {
                 return Ok(ItemsRead {
                     cursor,
                     marked: true,
                 });
             }
-            Found::Broken(kind) => return Err(kind),
-            Found::Spelled(item, behind) => {
+            Token::Broken(kind) => return Err(kind),
+            Token::Spelled(item, behind) => {
                 cursor = take_item(rule, cursor, item, runs)?;
                 rest = behind;
             }
