@@ -1,12 +1,12 @@
 -- What rule texts say, told as what each text is. The B/S notation, and what its digits mean, are of Golly Help, QuickLife; names and the
 -- bounds of a text are the project's own.
 use Rattle.std.specs.Prelude.{◌≡◌, ◌⊎◌, ◌↔◌, ℕ, ◌<◌, ◌≤◌, Bool, true, false, not, ◌&&◌, ◌||◌, List, [], ◌∷◌, ◌++◌, length, map, nat_le, ◌==◌, codes, Some, Ok}
-use Rattle.std.specs.Char.{is_ascii_graphic}
+use Rattle.std.specs.Char.{is_ascii_graphic, to_ascii_uppercase}
 use Rattle.std.specs.List.{list_all}
 use Rattle.std.specs.Str.{byte}
 use Rattle.life_base.specs.Sets.{DigitSets}
 use Rattle.life_base.specs.Text.{is_whitespace}
-use Rattle.life_base.specs.Rules.{is_count_digit, upper, digit_set, has_digit, life_sets, four_sets, rule_of}
+use Rattle.life_base.specs.Rules.{is_count_digit, digit_set, has_digit, life_sets, four_sets, rule_of}
 use Rattle.life_base.specs.declared.rule.Near.{Near}
 use Rattle.life_base.specs.declared.rule.Near.TheVariants.{Moore, VonNeumann}
 use Rattle.life_base.specs.declared.rule.Rule.{Rule}
@@ -28,7 +28,7 @@ pub record IsLifeText (text : List ℕ) (sets : DigitSets) : Type 0 where
   pub survivals : List ℕ
   pub birth_digits : list_all is_count_digit births ≡ true
   pub survival_digits : list_all is_count_digit survivals ≡ true
-  pub form : IsForm (map upper text) births survivals
+  pub form : IsForm (map to_ascii_uppercase text) births survivals
   pub birth_set : sets.births ≡ digit_set births
   pub survival_set : sets.survivals ≡ digit_set survivals
 
@@ -37,9 +37,9 @@ pub record IsFourText (text : List ℕ) (sets : DigitSets) : Type 0 where
   pub front : List ℕ
   pub last : ℕ
   pub is : text ≡ front ++ last ∷ []
-  pub letter : upper last ≡ byte "V"
+  pub letter : to_ascii_uppercase last ≡ byte "V"
   pub rest : List ℕ
-  pub begins : map upper front ≡ byte "B" ∷ rest
+  pub begins : map to_ascii_uppercase front ≡ byte "B" ∷ rest
   pub form : IsLifeText front sets
   pub births : sets.births < 32
   pub survivals : sets.survivals < 32

@@ -34,17 +34,13 @@ digits_of set = map (λ d. byte "0" + d) (filter (has_digit set) counts)
 abbrev pub is_count_digit : ℕ → Bool
 is_count_digit b = nat_le (byte "0") b && nat_le b (byte "8")
 
--- a letter in upper case
-abbrev pub upper : ℕ → ℕ
-upper b = to_ascii_uppercase b
-
 -- the texts before, between and behind the bytes that are no digits `0` to `8`
 abbrev pub digit_groups : List ℕ → List (List ℕ)
 digit_groups text = slice_split (λ b. not (is_count_digit b)) text
 
 -- the bytes that are no digits `0` to `8`, letters in upper case
 abbrev pub marks : List ℕ → List ℕ
-marks text = map upper (filter (λ b. not (is_count_digit b)) text)
+marks text = map to_ascii_uppercase (filter (λ b. not (is_count_digit b)) text)
 
 -- the sets of two texts of digits
 abbrev pub sets : List ℕ → List ℕ → Option DigitSets
@@ -71,7 +67,7 @@ life_sets text = life_form (digit_groups text) (marks text)
 abbrev pub names_other_neighbours : List ℕ → Bool
 names_other_neighbours text =
     is_some (life_sets (take (length text - 1) text))
-    && (bytes_eq (map upper (drop (length text - 1) text)) (codes "V") || bytes_eq (map upper (drop (length text - 1) text)) (codes "H"))
+    && (bytes_eq (map to_ascii_uppercase (drop (length text - 1) text)) (codes "V") || bytes_eq (map to_ascii_uppercase (drop (length text - 1) text)) (codes "H"))
 
 -- the sets, if no digit is above 4: the four neighbours of a cell are no more
 abbrev pub up_to_four : Option DigitSets → Option DigitSets
@@ -82,7 +78,7 @@ up_to_four None = None
 -- letters in either case (Golly Help, QuickLife; without the `/`, the project's own)
 unfoldable pub four_sets : List ℕ → Option DigitSets
 four_sets text =
-    if bytes_eq (map upper (take 1 (take (length text - 1) text))) (codes "B") && bytes_eq (map upper (drop (length text - 1) text)) (codes "V")
+    if bytes_eq (map to_ascii_uppercase (take 1 (take (length text - 1) text))) (codes "B") && bytes_eq (map to_ascii_uppercase (drop (length text - 1) text)) (codes "V")
     then up_to_four (life_sets (take (length text - 1) text))
     else None
 
