@@ -2,6 +2,7 @@
 
 ghost use Rattle.std.specs.Prelude.{◌≡◌, ◌∷◌, ◌==◌, ◌||◌, nat_le, ℕ, List, true, IfSome, IsSome};
 ghost use Rattle.std.specs.Option.{option_map};
+ghost use Rattle.std.specs.Str.{byte};
 ghost use Rattle.life_base.specs.Digits.{capped};
 ghost use Rattle.life_base.specs.Text.{is_digit_text, value_of};
 ghost use Rattle.life_rle.specs.States.{single_state, prefixed_state, state_at};
@@ -139,10 +140,10 @@ fn short_item_at(bytes: &[u8]) -> Option<(Item, &[u8])>
 }
 
 /// Whether a byte, of those that a state may begin with, is a letter or `.`: neither whitespace nor `!` nor a digit.
-fn is_letter_or_dot(byte: u8) -> bool
-    ensures { result ≡ (nat_le 65 byte || byte == 46) }
+fn is_letter_or_dot(first: u8) -> bool
+    ensures { result ≡ (nat_le (byte "A") first || first == byte ".") }
 {
-    byte >= b'A' || byte == b'.'
+    first >= b'A' || first == b'.'
 }
 
 /// What stands in an item's place where that is a digit from 1 to 9 and a state.
