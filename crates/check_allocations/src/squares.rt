@@ -3,9 +3,9 @@
 ghost use Rattle.std.specs.Prelude.{◌≡◌, IfOk};
 ghost use Rattle.life_base.specs.Tree.{depth};
 
-use life_base::{Cell, Fault, Kind, MAX_LEVEL};
+use life_base::{Bounds, Cell, Fault, Kind, MAX_LEVEL};
 use life_quad::{
-    Bounds, Id, Shared, SharedSquares, Squares, bounds, cells, grow, population, put_run, trim,
+    Id, Shared, SharedSquares, Squares, bounds, cells, grow, population, put_run, trim,
 };
 use std::alloc::Global;
 

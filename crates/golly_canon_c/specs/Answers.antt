@@ -62,7 +62,7 @@ RefusesWithin limit bytes fault = Refuses MAX_LEVEL bytes fault ⊎ Wants limit 
 abbrev pub RefusesRleWithin : ℕ → List ℕ → Fault → Type 0
 RefusesRleWithin limit bytes fault = RefusesWithin limit bytes fault ⊎ ((fault ≡ fault_of TooManyCells) × HasMoreCells MAX_LEVEL bytes (2 ^ 20))
 
--- the text is the canonical text of the bytes, and has the fewest node lines
+-- the text is the canonical text of the bytes, and has the fewest node lines, under a name of the files without leaf lines
 abbrev pub IsCanonicalText : List ℕ → List ℕ → Type 0
 IsCanonicalText bytes text = IsCanonical MAX_LEVEL bytes text × IsLeastText MAX_LEVEL bytes text
 

@@ -5,7 +5,8 @@ use Rattle.life_base.specs.declared.fault.Fault.{Fault}
 use Rattle.life_canon.specs.Feeding.{RefusesFront}
 use Rattle.life_canon.specs.Texts.{IsShown}
 use Rattle.golly_canon_c.specs.Answers.{IsCanonicalText, IsRleText, RefusesWithin, RefusesRleWithin, Wants}
-use Rattle.golly_canon_c.specs.Stepping.{IsStepped, RefusesStepWithin}
+use Rattle.life_step.specs.Stepped.{IsStepped}
+use Rattle.golly_canon_c.specs.Stepping.{RefusesStepWithin}
 use Rattle.golly_canon_c.specs.declared.form.Form.{Form}
 use Rattle.golly_canon_c.specs.declared.form.Form.TheVariants.{Canonical, Rle, Lines, Next}
 

@@ -1,5 +1,5 @@
 -- What the steps of a pattern tell.
-use Rattle.std.specs.Prelude.{◌≡◌, ◌⊎◌, ℕ, List, Some, None}
+use Rattle.std.specs.Prelude.{◌≡◌, ◌⊎◌, ℕ, List, Some}
 use Rattle.life_base.specs.Refusal.{OrMemory}
 use Rattle.life_base.specs.Text.{lines_of}
 use Rattle.life_base.specs.declared.cell.TheConstants.{MAX_LEVEL}
@@ -10,17 +10,8 @@ use Rattle.life_table.specs.Grammar.{IsFile}
 use Rattle.life_table.specs.Reading.{Refuses as RefusesTable}
 use Rattle.life_table.specs.declared.table.Table.{Table}
 use Rattle.life_step.specs.Refusals.{LifeRefusal, TableRefusal}
-use Rattle.life_step.specs.Stepped.{IsLifeStep, IsTableStep, Stepped}
+use Rattle.life_step.specs.Stepped.{IsSteppedBy}
 use Rattle.golly_canon_c.specs.Answers.{Told, Tells, Answers, Wants}
-
--- the bytes are a file whose pattern has a next generation under its B/S rule, and the text is the canonical text of that
-abbrev pub IsStepped : List ℕ → List ℕ → Type 0
-IsStepped bytes text = (u : Universe) × Reads MAX_LEVEL bytes u × LifeRefusal MAX_LEVEL u None × Stepped MAX_LEVEL IsLifeStep text u
-
--- the same by a table
-abbrev pub IsSteppedBy : Table → List ℕ → List ℕ → Type 0
-IsSteppedBy table bytes text =
-    (u : Universe) × Reads MAX_LEVEL bytes u × TableRefusal MAX_LEVEL table u None × Stepped MAX_LEVEL (IsTableStep table) text u
 
 -- why bytes aren't stepped under their own rule: they are no file, or room or memory is wanted, or their pattern has no next generation
 abbrev pub RefusesStepWithin : ℕ → List ℕ → Fault → Type 0

@@ -1,7 +1,8 @@
 //! The calls that step a pattern.
 
 ghost use Rattle.golly_canon_c.specs.Answers.{Answers};
-ghost use Rattle.golly_canon_c.specs.Stepping.{IsStepped, IsSteppedBy, RefusesStepByWithin, RefusesStepWithin, StepsByTable};
+ghost use Rattle.life_step.specs.Stepped.{IsStepped, IsSteppedBy};
+ghost use Rattle.golly_canon_c.specs.Stepping.{RefusesStepByWithin, RefusesStepWithin, StepsByTable};
 
 use crate::rooms::store_of;
 use crate::telling::{refuse, tell};

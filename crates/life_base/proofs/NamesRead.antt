@@ -3,11 +3,12 @@ use Rattle.std.proofs.Common.{◌≡◌, ℕ, ◌-◌, List, take, drop, [], ◌
 use Rattle.std.specs.Prelude.{nat_le, nat_lt, ◌==◌, map, codes, bytes_eq, is_some, Option, Some, None, Ok, Err}
 use Rattle.std.specs.List.{list_all, list_any}
 use Rattle.std.proofs.lemmas.Bool.Decides.{nat_tests}
+use Rattle.std.specs.Char.{to_ascii_uppercase}
 use Rattle.life_base.proofs.Numbers.{first, second}
 use Rattle.life_base.proofs.RoundTrip.{none_passes}
 use Rattle.life_base.specs.Sets.{DigitSets}
 use Rattle.life_base.specs.Text.{is_whitespace, without_last, trim, trim_start, is_empty}
-use Rattle.life_base.specs.Rules.{life_sets, rule_of, rule_of_trimmed, is_bad_text, life_or_other, four_or_other, four_sets, up_to_four, upper, names_other_neighbours}
+use Rattle.life_base.specs.Rules.{life_sets, rule_of, rule_of_trimmed, is_bad_text, life_or_other, four_or_other, four_sets, up_to_four, names_other_neighbours}
 use Rattle.life_base.specs.declared.kind.Kind.TheVariants.{BadRule, BoundedGrid, UnsupportedRule}
 use Rattle.life_base.specs.declared.rule.Rule.TheVariants.{Named}
 
@@ -63,7 +64,7 @@ unfolding four_sets
 four_none text h =
     let front = take (length text - 1) text in
     let end = drop (length text - 1) text in
-    none_by (life_sets front) (bytes_eq (map upper (take 1 front)) (codes "B")) (bytes_eq (map upper end) (codes "V")) (bytes_eq (map upper end) (codes "H")) h
+    none_by (life_sets front) (bytes_eq (map to_ascii_uppercase (take 1 front)) (codes "B")) (bytes_eq (map to_ascii_uppercase end) (codes "V")) (bytes_eq (map to_ascii_uppercase end) (codes "H")) h
 
 -- the last step of `rule_of`
 pub name_says : (text : List ℕ) → is_bad_text text ≡ false → list_any (λ b. b == 58) text ≡ false → life_sets text ≡ None

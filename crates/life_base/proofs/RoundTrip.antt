@@ -5,10 +5,11 @@ use Rattle.std.specs.List.{list_all, list_any, slice_split}
 use Rattle.std.proofs.lemmas.Bool.{leb-true}
 use Rattle.std.proofs.lemmas.Bool.Decides.{nat_tests}
 use Rattle.std.proofs.lemmas.List.Folds.{list_all-append}
+use Rattle.std.specs.Char.{to_ascii_uppercase}
 use Rattle.life_base.proofs.Numbers.{first, second}
 use Rattle.life_base.specs.Sets.{DigitSets}
 use Rattle.life_base.specs.Text.{is_whitespace, without_last, trim}
-use Rattle.life_base.specs.Rules.{digits_of, digit_set, is_count_digit, digit_groups, marks, upper, life_sets, life_form, rule_of, rule_of_trimmed, rule_text, is_bad_text, life_rule, life_or_other, counting, IsLifeRule, sets}
+use Rattle.life_base.specs.Rules.{digits_of, digit_set, is_count_digit, digit_groups, marks, life_sets, life_form, rule_of, rule_of_trimmed, rule_text, is_bad_text, life_rule, life_or_other, counting, IsLifeRule, sets}
 use Rattle.life_base.specs.declared.kind.Kind.TheVariants.{BadRule, BoundedGrid, BirthOnZero}
 use Rattle.life_base.specs.declared.rule.Near.TheVariants.{Moore}
 
@@ -113,7 +114,7 @@ groups_of_text ds es h k = ap (λ (t : List (List ℕ)). [] ∷ t) (split_at ds 
 
 marks_of_text : (ds es : List ℕ) → list_all is_count_digit ds ≡ true → list_all is_count_digit es ≡ true
     → marks (66 ∷ (ds ++ 47 ∷ 83 ∷ es)) ≡ codes "B/S"
-marks_of_text ds es h k = ap (λ (t : List ℕ). map upper (66 ∷ t)) (no_marks ds (47 ∷ 83 ∷ es) h ∙ ap (λ (t : List ℕ). 47 ∷ 83 ∷ t) (none_left es k))
+marks_of_text ds es h k = ap (λ (t : List ℕ). map to_ascii_uppercase (66 ∷ t)) (no_marks ds (47 ∷ 83 ∷ es) h ∙ ap (λ (t : List ℕ). 47 ∷ 83 ∷ t) (none_left es k))
 
 pub sets_again : (ds es : List ℕ) → list_all is_count_digit ds ≡ true → list_all is_count_digit es ≡ true
     → life_sets (66 ∷ (ds ++ 47 ∷ 83 ∷ es)) ≡ sets ds es

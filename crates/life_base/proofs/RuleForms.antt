@@ -6,13 +6,14 @@ use Rattle.std.proofs.lemmas.Bool.Decides.{nat_tests}
 use Rattle.std.proofs.lemmas.Slice.Eq.{bytes_eq-Decides}
 use Rattle.std.proofs.lemmas.List.{take-append-drop}
 use Rattle.std.proofs.Math.Seq.{take-append_seam, drop-append_seam}
+use Rattle.std.specs.Char.{to_ascii_uppercase}
 use Rattle.life_base.proofs.Numbers.{first, second}
 use Rattle.std.proofs.lemmas.List.Folds.{list_all-append}
 use Rattle.life_base.proofs.NamesRead.{all_pass, solid, four_none}
 use Rattle.life_base.proofs.RoundTrip.{is_mark, split_at, split_end, no_marks, none_left, no_any}
 use Rattle.life_base.specs.Sets.{DigitSets}
 use Rattle.life_base.specs.Text.{is_whitespace, is_empty, trim, trim_start, without_last}
-use Rattle.life_base.specs.Rules.{is_count_digit, upper, digit_set, has_digit, digit_groups, marks, sets, life_form, life_sets, four_sets, up_to_four, life_or_other, four_or_other, counting, names_other_neighbours, is_bad_text, rule_of, rule_of_trimmed}
+use Rattle.life_base.specs.Rules.{is_count_digit, digit_set, has_digit, digit_groups, marks, sets, life_form, life_sets, four_sets, up_to_four, life_or_other, four_or_other, counting, names_other_neighbours, is_bad_text, rule_of, rule_of_trimmed}
 use Rattle.life_base.specs.RuleForms.{IsForm, IsLifeText, IsFourText, IsNearText, IsAround, IsRuleWord, names_neighbours, IsOtherWord, WordSays, SaysRule}
 use Rattle.life_base.specs.declared.kind.Kind.TheVariants.{BadRule, BoundedGrid, UnsupportedRule, BirthOnZero}
 use Rattle.life_base.specs.declared.rule.Near.{Near}
@@ -22,13 +23,13 @@ use Rattle.life_base.specs.declared.rule.Rule.TheVariants.{Life, Named}
 
 -- ---- letters in upper case
 
-upper_digit : (b : ℕ) → is_count_digit b ≡ true → upper b ≡ b
+upper_digit : (b : ℕ) → is_count_digit b ≡ true → to_ascii_uppercase b ≡ b
 upper_digit b h = grind (arith, nat_tests)
 
-digit_of_upper : (b : ℕ) → is_count_digit (upper b) ≡ is_count_digit b
+digit_of_upper : (b : ℕ) → is_count_digit (to_ascii_uppercase b) ≡ is_count_digit b
 digit_of_upper b = grind (arith, nat_tests)
 
-upper_again : (b : ℕ) → upper (upper b) ≡ upper b
+upper_again : (b : ℕ) → to_ascii_uppercase (to_ascii_uppercase b) ≡ to_ascii_uppercase b
 upper_again b = grind (arith, nat_tests)
 
 not_true : (v : Bool) → not v ≡ true → v ≡ false
@@ -54,18 +55,18 @@ woven_further b (group ∷ groups) [] = refl
 woven_further b (group ∷ groups) (m ∷ ms) = refl
 
 weave_step : (v : Bool) (b : ℕ) (groups : List (List ℕ)) (ms : List ℕ) → is_count_digit b ≡ v
-    → upper b ∷ woven groups ms ≡ woven (cond (not v) ([] ∷ groups) (onto_first b groups)) (cond (not v) (upper b ∷ ms) ms)
+    → to_ascii_uppercase b ∷ woven groups ms ≡ woven (cond (not v) ([] ∷ groups) (onto_first b groups)) (cond (not v) (to_ascii_uppercase b ∷ ms) ms)
 weave_step true b groups ms e = ap (λ c. c ∷ woven groups ms) (upper_digit b e) ∙ sym (woven_further b groups ms)
 weave_step false b groups ms e = refl
 
-marks_step : (v : Bool) (b : ℕ) (text : List ℕ) → map upper (cond v (b ∷ text) text) ≡ cond v (upper b ∷ map upper text) (map upper text)
+marks_step : (v : Bool) (b : ℕ) (text : List ℕ) → map to_ascii_uppercase (cond v (b ∷ text) text) ≡ cond v (to_ascii_uppercase b ∷ map to_ascii_uppercase text) (map to_ascii_uppercase text)
 marks_step true b text = refl
 marks_step false b text = refl
 
-weave : (text : List ℕ) → map upper text ≡ woven (digit_groups text) (marks text)
+weave : (text : List ℕ) → map to_ascii_uppercase text ≡ woven (digit_groups text) (marks text)
 weave [] = refl
 weave (b ∷ text) =
-    ap (λ (t : List ℕ). upper b ∷ t) (weave text) ∙ weave_step (is_count_digit b) b (digit_groups text) (marks text) refl
+    ap (λ (t : List ℕ). to_ascii_uppercase b ∷ t) (weave text) ∙ weave_step (is_count_digit b) b (digit_groups text) (marks text) refl
     ∙ ap (λ (ms : List ℕ). woven (digit_groups (b ∷ text)) ms) (sym (marks_step (is_mark b) b (filter is_mark text)))
 
 abbrev are_digits : List (List ℕ) → Bool
@@ -110,7 +111,7 @@ sets_of births survivals = record { births = digit_set births; survivals = digit
 
 module _ (text : List ℕ) (s : DigitSets) where
   form_is : (births survivals : List ℕ) → list_all is_count_digit births ≡ true → list_all is_count_digit survivals ≡ true
-      → sets_of births survivals ≡ s → IsForm (map upper text) births survivals → IsLifeText text s
+      → sets_of births survivals ≡ s → IsForm (map to_ascii_uppercase text) births survivals → IsLifeText text s
   form_is births survivals d e same form = record {
     births = births;
     survivals = survivals;
@@ -122,41 +123,41 @@ module _ (text : List ℕ) (s : DigitSets) where
   }
 
   -- the three shapes of a text by its groups a and b and its marks
-  plain : (a b ms : List ℕ) → map upper text ≡ woven (a ∷ b ∷ []) ms → list_all is_count_digit a ≡ true → list_all is_count_digit b ≡ true
+  plain : (a b ms : List ℕ) → map to_ascii_uppercase text ≡ woven (a ∷ b ∷ []) ms → list_all is_count_digit a ≡ true → list_all is_count_digit b ≡ true
       → cond (bytes_eq ms (codes "/")) (sets b a) None ≡ Some s → IsLifeText text s
   plain a b ms t d e h =
       let p = the_one (bytes_eq ms (codes "/")) (sets_of b a) s h in
-      let w : map upper text ≡ (a ++ codes "/") ++ b =
+      let w : map to_ascii_uppercase text ≡ (a ++ codes "/") ++ b =
       t ∙ ap (woven (a ∷ b ∷ [])) (same_bytes ms (codes "/") p.0) ∙ sym (append_assoc a (codes "/") b) in
       form_is b a e d p.1 (inr (inr (inr (inr w))))
 
-  lettered : (a b ms : List ℕ) → map upper text ≡ woven ([] ∷ a ∷ b ∷ []) ms → list_all is_count_digit a ≡ true → list_all is_count_digit b ≡ true
+  lettered : (a b ms : List ℕ) → map to_ascii_uppercase text ≡ woven ([] ∷ a ∷ b ∷ []) ms → list_all is_count_digit a ≡ true → list_all is_count_digit b ≡ true
       → cond (bytes_eq ms (codes "BS")) (sets a b) (cond (bytes_eq ms (codes "SB")) (sets b a) None) ≡ Some s → IsLifeText text s
   lettered a b ms t d e h = elim (one_of (bytes_eq ms (codes "BS")) (bytes_eq ms (codes "SB")) (sets_of a b) (sets_of b a) s h) [
     | inl p ↦
-        let w : map upper text ≡ ((codes "B" ++ a) ++ codes "S") ++ b =
+        let w : map to_ascii_uppercase text ≡ ((codes "B" ++ a) ++ codes "S") ++ b =
         t ∙ ap (woven ([] ∷ a ∷ b ∷ [])) (same_bytes ms (codes "BS") p.0) ∙ sym (append_assoc (66 ∷ a) (codes "S") b) in
         form_is a b d e p.1 (inr (inr (inl w)))
     | inr p ↦
-        let w : map upper text ≡ ((codes "S" ++ a) ++ codes "B") ++ b =
+        let w : map to_ascii_uppercase text ≡ ((codes "S" ++ a) ++ codes "B") ++ b =
         t ∙ ap (woven ([] ∷ a ∷ b ∷ [])) (same_bytes ms (codes "SB") p.0) ∙ sym (append_assoc (83 ∷ a) (codes "B") b) in
         form_is b a e d p.1 (inr (inr (inr (inl w))))
   ]
 
-  slashed : (a b ms : List ℕ) → map upper text ≡ woven ([] ∷ a ∷ [] ∷ b ∷ []) ms → list_all is_count_digit a ≡ true → list_all is_count_digit b ≡ true
+  slashed : (a b ms : List ℕ) → map to_ascii_uppercase text ≡ woven ([] ∷ a ∷ [] ∷ b ∷ []) ms → list_all is_count_digit a ≡ true → list_all is_count_digit b ≡ true
       → cond (bytes_eq ms (codes "B/S")) (sets a b) (cond (bytes_eq ms (codes "S/B")) (sets b a) None) ≡ Some s → IsLifeText text s
   slashed a b ms t d e h = elim (one_of (bytes_eq ms (codes "B/S")) (bytes_eq ms (codes "S/B")) (sets_of a b) (sets_of b a) s h) [
     | inl p ↦
-        let w : map upper text ≡ ((codes "B" ++ a) ++ codes "/S") ++ b =
+        let w : map to_ascii_uppercase text ≡ ((codes "B" ++ a) ++ codes "/S") ++ b =
         t ∙ ap (woven ([] ∷ a ∷ [] ∷ b ∷ [])) (same_bytes ms (codes "B/S") p.0) ∙ sym (append_assoc (66 ∷ a) (codes "/S") b) in
         form_is a b d e p.1 (inl w)
     | inr p ↦
-        let w : map upper text ≡ ((codes "S" ++ a) ++ codes "/B") ++ b =
+        let w : map to_ascii_uppercase text ≡ ((codes "S" ++ a) ++ codes "/B") ++ b =
         t ∙ ap (woven ([] ∷ a ∷ [] ∷ b ∷ [])) (same_bytes ms (codes "S/B") p.0) ∙ sym (append_assoc (83 ∷ a) (codes "/B") b) in
         form_is b a e d p.1 (inr (inl w))
   ]
 
-  shaped : (groups : List (List ℕ)) (ms : List ℕ) → map upper text ≡ woven groups ms → are_digits groups ≡ true → life_form groups ms ≡ Some s → IsLifeText text s
+  shaped : (groups : List (List ℕ)) (ms : List ℕ) → map to_ascii_uppercase text ≡ woven groups ms → are_digits groups ≡ true → life_form groups ms ≡ Some s → IsLifeText text s
   shaped [] ms t d h = cc
   shaped ([] ∷ []) ms t d h = cc
   shaped ((x ∷ a) ∷ []) ms t d h = cc
@@ -183,27 +184,27 @@ module _ (text : List ℕ) (s : DigitSets) where
 
 -- letters in upper case have the same groups and marks
 groups_step : (v w : Bool) (b : ℕ) (text : List ℕ) → is_count_digit b ≡ v → v ≡ w
-    → cond (not w) ([] ∷ digit_groups text) (onto_first (upper b) (digit_groups text)) ≡ cond (not v) ([] ∷ digit_groups text) (onto_first b (digit_groups text))
+    → cond (not w) ([] ∷ digit_groups text) (onto_first (to_ascii_uppercase b) (digit_groups text)) ≡ cond (not v) ([] ∷ digit_groups text) (onto_first b (digit_groups text))
 groups_step true true b text e h = ap (λ c. onto_first c (digit_groups text)) (upper_digit b e)
 groups_step true false b text e h = cc
 groups_step false true b text e h = cc
 groups_step false false b text e h = refl
 
-groups_upper : (text : List ℕ) → digit_groups (map upper text) ≡ digit_groups text
+groups_upper : (text : List ℕ) → digit_groups (map to_ascii_uppercase text) ≡ digit_groups text
 groups_upper [] = refl
 groups_upper (b ∷ text) =
-    ap (λ (g : List (List ℕ)). cond (is_mark (upper b)) ([] ∷ g) (onto_first (upper b) g)) (groups_upper text)
-    ∙ groups_step (is_count_digit b) (is_count_digit (upper b)) b text refl (sym (digit_of_upper b))
+    ap (λ (g : List (List ℕ)). cond (is_mark (to_ascii_uppercase b)) ([] ∷ g) (onto_first (to_ascii_uppercase b) g)) (groups_upper text)
+    ∙ groups_step (is_count_digit b) (is_count_digit (to_ascii_uppercase b)) b text refl (sym (digit_of_upper b))
 
-marks_upper_step : (v : Bool) (b : ℕ) (xs ys : List ℕ) → map upper xs ≡ map upper ys → map upper (cond v (upper b ∷ xs) xs) ≡ map upper (cond v (b ∷ ys) ys)
-marks_upper_step true b xs ys e = ap (λ c. c ∷ map upper xs) (upper_again b) ∙ ap (λ (t : List ℕ). upper b ∷ t) e
+marks_upper_step : (v : Bool) (b : ℕ) (xs ys : List ℕ) → map to_ascii_uppercase xs ≡ map to_ascii_uppercase ys → map to_ascii_uppercase (cond v (to_ascii_uppercase b ∷ xs) xs) ≡ map to_ascii_uppercase (cond v (b ∷ ys) ys)
+marks_upper_step true b xs ys e = ap (λ c. c ∷ map to_ascii_uppercase xs) (upper_again b) ∙ ap (λ (t : List ℕ). to_ascii_uppercase b ∷ t) e
 marks_upper_step false b xs ys e = e
 
-marks_upper : (text : List ℕ) → marks (map upper text) ≡ marks text
+marks_upper : (text : List ℕ) → marks (map to_ascii_uppercase text) ≡ marks text
 marks_upper [] = refl
 marks_upper (b ∷ text) =
-    ap (λ v. map upper (cond (not v) (upper b ∷ filter is_mark (map upper text)) (filter is_mark (map upper text)))) (digit_of_upper b)
-    ∙ marks_upper_step (is_mark b) b (filter is_mark (map upper text)) (filter is_mark text) (marks_upper text)
+    ap (λ v. map to_ascii_uppercase (cond (not v) (to_ascii_uppercase b ∷ filter is_mark (map to_ascii_uppercase text)) (filter is_mark (map to_ascii_uppercase text)))) (digit_of_upper b)
+    ∙ marks_upper_step (is_mark b) b (filter is_mark (map to_ascii_uppercase text)) (filter is_mark text) (marks_upper text)
 
 births_first : (a b : List ℕ) → life_form ([] ∷ a ∷ b ∷ []) (codes "BS") ≡ Some (sets_of a b)
 births_first a [] = refl
@@ -219,7 +220,7 @@ plain_form (x ∷ a) b = refl
 
 module _ (text births survivals : List ℕ) (d : list_all is_count_digit births ≡ true) (e : list_all is_count_digit survivals ≡ true) where
   -- by the groups and the marks of the text in upper case
-  by_parts : (whole : List ℕ) (groups : List (List ℕ)) (ms : List ℕ) → map upper text ≡ whole → digit_groups whole ≡ groups → marks whole ≡ ms
+  by_parts : (whole : List ℕ) (groups : List (List ℕ)) (ms : List ℕ) → map to_ascii_uppercase text ≡ whole → digit_groups whole ≡ groups → marks whole ≡ ms
       → life_sets text ≡ life_form groups ms
   unfolding life_sets
   by_parts whole groups ms w g m =
@@ -228,29 +229,29 @@ module _ (text births survivals : List ℕ) (d : list_all is_count_digit births 
 
   -- a letter, digits, a slash and a letter, digits
   with_slash : (x y : ℕ) (a b : List ℕ) → list_all is_count_digit a ≡ true → list_all is_count_digit b ≡ true → is_mark x ≡ true → is_mark y ≡ true
-      → map upper text ≡ x ∷ (a ++ 47 ∷ y ∷ b) → life_sets text ≡ life_form ([] ∷ a ∷ [] ∷ b ∷ []) (upper x ∷ 47 ∷ upper y ∷ [])
+      → map to_ascii_uppercase text ≡ x ∷ (a ++ 47 ∷ y ∷ b) → life_sets text ≡ life_form ([] ∷ a ∷ [] ∷ b ∷ []) (to_ascii_uppercase x ∷ 47 ∷ to_ascii_uppercase y ∷ [])
   with_slash x y a b h k m n w =
       by_parts _ _ _ w
       (split_at [] x (a ++ 47 ∷ y ∷ b) refl m
       ∙ ap (λ (t : List (List ℕ)). [] ∷ t)
       (split_at a 47 (y ∷ b) h refl ∙ ap (λ (t : List (List ℕ)). a ∷ t) (split_at [] y b refl n ∙ ap (λ (t : List (List ℕ)). [] ∷ t) (split_end b k))))
-      (ap (map upper) (kept_mark x (a ++ 47 ∷ y ∷ b) m ∙ ap (λ (t : List ℕ). x ∷ t) (no_marks a (47 ∷ y ∷ b) h ∙ ap (λ (t : List ℕ). 47 ∷ t) (kept_mark y b n ∙ ap (λ (t : List ℕ). y ∷ t) (none_left b k)))))
+      (ap (map to_ascii_uppercase) (kept_mark x (a ++ 47 ∷ y ∷ b) m ∙ ap (λ (t : List ℕ). x ∷ t) (no_marks a (47 ∷ y ∷ b) h ∙ ap (λ (t : List ℕ). 47 ∷ t) (kept_mark y b n ∙ ap (λ (t : List ℕ). y ∷ t) (none_left b k)))))
     where
       kept_mark : (z : ℕ) (rest : List ℕ) → is_mark z ≡ true → filter is_mark (z ∷ rest) ≡ z ∷ filter is_mark rest
       kept_mark z rest q = ap (λ v. cond v (z ∷ filter is_mark rest) (filter is_mark rest)) q
 
   -- a letter, digits, a letter, digits
   without_slash : (x y : ℕ) (a b : List ℕ) → list_all is_count_digit a ≡ true → list_all is_count_digit b ≡ true → is_mark x ≡ true → is_mark y ≡ true
-      → map upper text ≡ x ∷ (a ++ y ∷ b) → life_sets text ≡ life_form ([] ∷ a ∷ b ∷ []) (upper x ∷ upper y ∷ [])
+      → map to_ascii_uppercase text ≡ x ∷ (a ++ y ∷ b) → life_sets text ≡ life_form ([] ∷ a ∷ b ∷ []) (to_ascii_uppercase x ∷ to_ascii_uppercase y ∷ [])
   without_slash x y a b h k m n w =
       by_parts _ _ _ w
       (split_at [] x (a ++ y ∷ b) refl m ∙ ap (λ (t : List (List ℕ)). [] ∷ t) (split_at a y b h n ∙ ap (λ (t : List (List ℕ)). a ∷ t) (split_end b k)))
-      (ap (map upper) (kept_mark x (a ++ y ∷ b) m ∙ ap (λ (t : List ℕ). x ∷ t) (no_marks a (y ∷ b) h ∙ kept_mark y b n ∙ ap (λ (t : List ℕ). y ∷ t) (none_left b k))))
+      (ap (map to_ascii_uppercase) (kept_mark x (a ++ y ∷ b) m ∙ ap (λ (t : List ℕ). x ∷ t) (no_marks a (y ∷ b) h ∙ kept_mark y b n ∙ ap (λ (t : List ℕ). y ∷ t) (none_left b k))))
     where
       kept_mark : (z : ℕ) (rest : List ℕ) → is_mark z ≡ true → filter is_mark (z ∷ rest) ≡ z ∷ filter is_mark rest
       kept_mark z rest q = ap (λ v. cond v (z ∷ filter is_mark rest) (filter is_mark rest)) q
 
-  form_sets : IsForm (map upper text) births survivals → life_sets text ≡ Some (sets_of births survivals)
+  form_sets : IsForm (map to_ascii_uppercase text) births survivals → life_sets text ≡ Some (sets_of births survivals)
   form_sets (inl w) = with_slash 66 83 births survivals d e refl refl (w ∙ append_assoc (66 ∷ births) (codes "/S") survivals)
   form_sets (inr (inl w)) = with_slash 83 66 survivals births e d refl refl (w ∙ append_assoc (83 ∷ survivals) (codes "/B") births)
   form_sets (inr (inr (inl w))) = without_slash 66 83 births survivals d e refl refl (w ∙ append_assoc (66 ∷ births) (codes "S") survivals) ∙ births_first births survivals
@@ -258,7 +259,7 @@ module _ (text births survivals : List ℕ) (d : list_all is_count_digit births 
   form_sets (inr (inr (inr (inr w)))) =
       by_parts _ (survivals ∷ births ∷ []) (codes "/") (w ∙ append_assoc survivals (codes "/") births)
       (split_at survivals 47 births e refl ∙ ap (λ (t : List (List ℕ)). survivals ∷ t) (split_end births d))
-      (ap (map upper) (no_marks survivals (47 ∷ births) e ∙ ap (λ (t : List ℕ). 47 ∷ t) (none_left births d)))
+      (ap (map to_ascii_uppercase) (no_marks survivals (47 ∷ births) e ∙ ap (λ (t : List ℕ). 47 ∷ t) (none_left births d)))
       ∙ plain_form survivals births
 
 is_form_of_life : (text : List ℕ) (s : DigitSets) → IsLifeText text s → life_sets text ≡ Some s
@@ -296,17 +297,17 @@ and_false : (v : Bool) → (v && false) ≡ false
 and_false true = refl
 and_false false = refl
 
-v_behind : (front : List ℕ) (last : ℕ) → upper last ≡ 86 → list_all no_v (map upper (front ++ last ∷ [])) ≡ false
+v_behind : (front : List ℕ) (last : ℕ) → to_ascii_uppercase last ≡ 86 → list_all no_v (map to_ascii_uppercase (front ++ last ∷ [])) ≡ false
 v_behind [] last e = ap (λ c. no_v c && true) e
-v_behind (b ∷ front) last e = ap (λ v. no_v (upper b) && v) (v_behind front last e) ∙ and_false (no_v (upper b))
+v_behind (b ∷ front) last e = ap (λ v. no_v (to_ascii_uppercase b) && v) (v_behind front last e) ∙ and_false (no_v (to_ascii_uppercase b))
 
-no_form_with_v : (word front : List ℕ) (last : ℕ) → word ≡ front ++ last ∷ [] → upper last ≡ 86 → (o : Option DigitSets) → life_sets word ≡ o → o ≡ None
+no_form_with_v : (word front : List ℕ) (last : ℕ) → word ≡ front ++ last ∷ [] → to_ascii_uppercase last ≡ 86 → (o : Option DigitSets) → life_sets word ≡ o → o ≡ None
 no_form_with_v word front last w e None h = refl
 no_form_with_v word front last w e (Some s) h =
     let l = life_is_form word s h in
     let k : true ≡ false =
-    sym (form_no_v (map upper word) l.births l.survivals (digits_no_v l.births l.birth_digits) (digits_no_v l.survivals l.survival_digits) l.form)
-    ∙ ap (λ (t : List ℕ). list_all no_v (map upper t)) w ∙ v_behind front last e in
+    sym (form_no_v (map to_ascii_uppercase word) l.births l.survivals (digits_no_v l.births l.birth_digits) (digits_no_v l.survivals l.survival_digits) l.form)
+    ∙ ap (λ (t : List ℕ). list_all no_v (map to_ascii_uppercase t)) w ∙ v_behind front last e in
     cc
 
 below_32 : (n : ℕ) → nat_lt n 32 ≡ true → n < 32
@@ -315,18 +316,18 @@ below_32 n h = grind (arith, nat_tests)
 is_below : (n : ℕ) → n < 32 → nat_lt n 32 ≡ true
 is_below n h = grind (arith, nat_tests)
 
-one_letter : (end : List ℕ) (c : ℕ) → map upper end ≡ c ∷ [] → (last : ℕ) × (end ≡ last ∷ []) × (upper last ≡ c)
+one_letter : (end : List ℕ) (c : ℕ) → map to_ascii_uppercase end ≡ c ∷ [] → (last : ℕ) × (end ≡ last ∷ []) × (to_ascii_uppercase last ≡ c)
 one_letter [] c h = cc
-one_letter (b ∷ []) c h = let e : upper b ≡ c = cc in (b, refl, e)
+one_letter (b ∷ []) c h = let e : to_ascii_uppercase b ≡ c = cc in (b, refl, e)
 one_letter (b ∷ d ∷ end) c h = cc
 
-begins_with : (front : List ℕ) → map upper (take 1 front) ≡ 66 ∷ [] → (rest : List ℕ) × (map upper front ≡ 66 ∷ rest)
+begins_with : (front : List ℕ) → map to_ascii_uppercase (take 1 front) ≡ 66 ∷ [] → (rest : List ℕ) × (map to_ascii_uppercase front ≡ 66 ∷ rest)
 begins_with [] h = cc
-begins_with (b ∷ front) h = let e : upper b ≡ 66 = cc in (map upper front, ap (λ c. c ∷ map upper front) e)
+begins_with (b ∷ front) h = let e : to_ascii_uppercase b ≡ 66 = cc in (map to_ascii_uppercase front, ap (λ c. c ∷ map to_ascii_uppercase front) e)
 
-begins : (front rest : List ℕ) → map upper front ≡ 66 ∷ rest → bytes_eq (map upper (take 1 front)) (codes "B") ≡ true
+begins : (front rest : List ℕ) → map to_ascii_uppercase front ≡ 66 ∷ rest → bytes_eq (map to_ascii_uppercase (take 1 front)) (codes "B") ≡ true
 begins [] rest h = cc
-begins (b ∷ front) rest h = let e : upper b ≡ 66 = cc in ap (λ c. bytes_eq (c ∷ []) (codes "B")) e
+begins (b ∷ front) rest h = let e : to_ascii_uppercase b ≡ 66 = cc in ap (λ c. bytes_eq (c ∷ []) (codes "B")) e
 
 within : (found s : DigitSets) (u v : Bool) → nat_lt found.births 32 ≡ u → nat_lt found.survivals 32 ≡ v → cond (u && v) (Some found) None ≡ Some s
     → (found ≡ s) × (found.births < 32) × (found.survivals < 32)
@@ -335,11 +336,11 @@ within found s true false e f h = cc
 within found s false v e f h = cc
 
 four_by : (text front end : List ℕ) (s : DigitSets) (v w : Bool) (o : Option DigitSets) → text ≡ front ++ end → life_sets front ≡ o
-    → bytes_eq (map upper (take 1 front)) (codes "B") ≡ v → bytes_eq (map upper end) (codes "V") ≡ w → cond (v && w) (up_to_four o) None ≡ Some s → IsFourText text s
+    → bytes_eq (map to_ascii_uppercase (take 1 front)) (codes "B") ≡ v → bytes_eq (map to_ascii_uppercase end) (codes "V") ≡ w → cond (v && w) (up_to_four o) None ≡ Some s → IsFourText text s
 four_by text front end s true true (Some found) t l e f h =
     let k = within found s (nat_lt found.births 32) (nat_lt found.survivals 32) refl refl h in
-    let p = one_letter end 86 (same_bytes (map upper end) (codes "V") f) in
-    let q = begins_with front (same_bytes (map upper (take 1 front)) (codes "B") e) in
+    let p = one_letter end 86 (same_bytes (map to_ascii_uppercase end) (codes "V") f) in
+    let q = begins_with front (same_bytes (map to_ascii_uppercase (take 1 front)) (codes "B") e) in
     subst (IsFourText text) k.0 (record {
       front = front;
       last = p.0;
@@ -360,7 +361,7 @@ unfolding four_sets
 four_is_form text s h =
     let front = take (length text - 1) text in
     let end = drop (length text - 1) text in
-    four_by text front end s (bytes_eq (map upper (take 1 front)) (codes "B")) (bytes_eq (map upper end) (codes "V")) (life_sets front)
+    four_by text front end s (bytes_eq (map to_ascii_uppercase (take 1 front)) (codes "B")) (bytes_eq (map to_ascii_uppercase end) (codes "V")) (life_sets front)
     (sym (take-append-drop (length text - 1) text)) refl refl refl h
 
 -- the bytes before the last one, and the last one
@@ -378,9 +379,9 @@ is_form_of_four : (text : List ℕ) (s : DigitSets) → IsFourText text s → fo
 unfolding four_sets
 is_form_of_four text s f =
     let end : List ℕ = drop (length text - 1) text in
-    ap (λ (t : List ℕ). cond (bytes_eq (map upper (take 1 t)) (codes "B") && bytes_eq (map upper end) (codes "V")) (up_to_four (life_sets t)) None) (front_is text f.front f.last f.is)
-    ∙ ap (λ v. cond (v && bytes_eq (map upper end) (codes "V")) (up_to_four (life_sets f.front)) None) (begins f.front f.rest f.begins)
-    ∙ ap (λ (t : List ℕ). cond (bytes_eq (map upper t) (codes "V")) (up_to_four (life_sets f.front)) None) (end_is text f.front f.last f.is)
+    ap (λ (t : List ℕ). cond (bytes_eq (map to_ascii_uppercase (take 1 t)) (codes "B") && bytes_eq (map to_ascii_uppercase end) (codes "V")) (up_to_four (life_sets t)) None) (front_is text f.front f.last f.is)
+    ∙ ap (λ v. cond (v && bytes_eq (map to_ascii_uppercase end) (codes "V")) (up_to_four (life_sets f.front)) None) (begins f.front f.rest f.begins)
+    ∙ ap (λ (t : List ℕ). cond (bytes_eq (map to_ascii_uppercase t) (codes "V")) (up_to_four (life_sets f.front)) None) (end_is text f.front f.last f.is)
     ∙ ap (λ c. cond (bytes_eq (c ∷ []) (codes "V")) (up_to_four (life_sets f.front)) None) f.letter
     ∙ ap up_to_four (is_form_of_life f.front s f.form)
     ∙ ap (λ v. cond (v && nat_lt s.survivals 32) (Some s) None) (is_below s.births f.births)
@@ -507,7 +508,7 @@ rule_word word h k =
 -- ---- a letter behind a B/S text
 
 abbrev names_other : List ℕ → Bool
-names_other end = bytes_eq (map upper end) (codes "V") || bytes_eq (map upper end) (codes "H")
+names_other end = bytes_eq (map to_ascii_uppercase end) (codes "V") || bytes_eq (map to_ascii_uppercase end) (codes "H")
 
 four : (b : ℕ) → names_neighbours b ≡ true → (b ≡ 86) ⊎ ((b ≡ 118) ⊎ ((b ≡ 72) ⊎ (b ≡ 104)))
 four b h = grind (arith, nat_tests)
@@ -520,16 +521,16 @@ letter_names last h =
       | inr r ↦ elim r [ inl e ↦ subst P (sym e) refl | inr q ↦ elim q [ inl e ↦ subst P (sym e) refl | inr e ↦ subst P (sym e) refl ] ]
     ]
 
-v_names : (b : ℕ) → upper b ≡ 86 → names_neighbours b ≡ true
+v_names : (b : ℕ) → to_ascii_uppercase b ≡ 86 → names_neighbours b ≡ true
 v_names b h = grind (arith, nat_tests)
 
-h_names : (b : ℕ) → upper b ≡ 72 → names_neighbours b ≡ true
+h_names : (b : ℕ) → to_ascii_uppercase b ≡ 72 → names_neighbours b ≡ true
 h_names b h = grind (arith, nat_tests)
 
-named_end : (end : List ℕ) (v w : Bool) → bytes_eq (map upper end) (codes "V") ≡ v → bytes_eq (map upper end) (codes "H") ≡ w → (v || w) ≡ true
+named_end : (end : List ℕ) (v w : Bool) → bytes_eq (map to_ascii_uppercase end) (codes "V") ≡ v → bytes_eq (map to_ascii_uppercase end) (codes "H") ≡ w → (v || w) ≡ true
     → (last : ℕ) × (end ≡ last ∷ []) × (names_neighbours last ≡ true)
-named_end end true w e f h = let p = one_letter end 86 (same_bytes (map upper end) (codes "V") e) in (p.0, p.1, v_names p.0 p.2)
-named_end end false true e f h = let p = one_letter end 72 (same_bytes (map upper end) (codes "H") f) in (p.0, p.1, h_names p.0 p.2)
+named_end end true w e f h = let p = one_letter end 86 (same_bytes (map to_ascii_uppercase end) (codes "V") e) in (p.0, p.1, v_names p.0 p.2)
+named_end end false true e f h = let p = one_letter end 72 (same_bytes (map to_ascii_uppercase end) (codes "H") f) in (p.0, p.1, h_names p.0 p.2)
 named_end end false false e f h = cc
 
 some_of : (o : Option DigitSets) → is_some o ≡ true → (s : DigitSets) × (o ≡ Some s)
@@ -591,7 +592,7 @@ no_letter word h true e =
     let front = take (length word - 1) word in
     let end = drop (length word - 1) word in
     let s = some_of (life_sets front) (first (is_some (life_sets front)) (names_other end) e) in
-    let p = named_end end (bytes_eq (map upper end) (codes "V")) (bytes_eq (map upper end) (codes "H")) refl refl (second (is_some (life_sets front)) (names_other end) e) in
+    let p = named_end end (bytes_eq (map to_ascii_uppercase end) (codes "V")) (bytes_eq (map to_ascii_uppercase end) (codes "H")) refl refl (second (is_some (life_sets front)) (names_other end) e) in
     let w : word ≡ front ++ p.0 ∷ [] = sym (take-append-drop (length word - 1) word) ∙ ap (λ (t : List ℕ). front ++ t) p.1 in
     absurd (h.no_neighbours front p.0 s.0 w p.2 (life_is_form front s.0 s.1))
 

@@ -1,6 +1,7 @@
 -- Lines of bytes that may go on, and what a reader of single lines has taken. The rules of this file are the project's own.
-use Rattle.std.specs.Prelude.{◌≡◌, ℕ, ◌+◌, ◌-◌, ◌^◌, min, Bool, true, not, List, [], ◌∷◌, ◌++◌, length, map, ◌==◌, if◌then◌else◌}
+use Rattle.std.specs.Prelude.{◌≡◌, ℕ, ◌+◌, ◌-◌, ◌^◌, min, Bool, true, not, List, [], ◌∷◌, ◌++◌, length, map, ◌==◌, if◌then◌else◌, codes}
 use Rattle.std.specs.List.{list_all}
+use Rattle.std.specs.Str.{byte}
 use Rattle.life_base.specs.Text.{lines_of, numbered_from}
 
 -- what contracts see of a reader of single lines: the lines that it took, and whether it has refused one
@@ -10,7 +11,7 @@ pub record LinesRead : Type 0 where
 
 -- no byte is a line feed
 abbrev pub has_no_feed : List ℕ → Bool
-has_no_feed bytes = list_all (λ b. not (b == 10)) bytes
+has_no_feed bytes = list_all (λ b. not (b == byte "\n")) bytes
 
 -- one byte more at the front of the first line, if there is one
 abbrev pub onto_next : ℕ → List (List ℕ) → List (List ℕ)
@@ -20,7 +21,7 @@ onto_next b (line ∷ lines) = (b ∷ line) ∷ lines
 -- the lines that have ended, each at its line feed
 abbrev pub whole_lines : List ℕ → List (List ℕ)
 whole_lines [] = []
-whole_lines (b ∷ bytes) = if b == 10 then [] ∷ whole_lines bytes else onto_next b (whole_lines bytes)
+whole_lines (b ∷ bytes) = if b == byte "\n" then [] ∷ whole_lines bytes else onto_next b (whole_lines bytes)
 
 -- the bytes behind the last line feed: a line that has not ended
 abbrev pub rest_line : List ℕ → List ℕ
@@ -53,8 +54,8 @@ pub record IsLonger (bytes more : List ℕ) : Type 0 where
 
 -- behind bytes without a line feed, and a line feed, one line more has ended: the rest with these bytes
 pub record IsEnded (bytes end : List ℕ) : Type 0 where
-  pub whole : whole_lines (bytes ++ end ++ 10 ∷ []) ≡ whole_lines bytes ++ (rest_line bytes ++ end) ∷ []
-  pub rest : rest_line (bytes ++ end ++ 10 ∷ []) ≡ []
+  pub whole : whole_lines (bytes ++ end ++ codes "\n") ≡ whole_lines bytes ++ (rest_line bytes ++ end) ∷ []
+  pub rest : rest_line (bytes ++ end ++ codes "\n") ≡ []
 
 -- what bytes without a line feed do to the lines, alone or with one behind them
 abbrev pub LinesGrow : Type 0
@@ -63,7 +64,7 @@ LinesGrow = (bytes more : List ℕ) → has_no_feed more ≡ true → IsLonger b
 -- the lines one after another, each with a line feed behind it
 abbrev pub joined : List (List ℕ) → List ℕ
 joined [] = []
-joined (line ∷ lines) = line ++ 10 ∷ joined lines
+joined (line ∷ lines) = line ++ byte "\n" ∷ joined lines
 
 -- the bytes are these lines, each with a line feed behind it, and a rest; and no line feed is in a line or in the rest
 pub record AreJoined (bytes : List ℕ) (lines : List (List ℕ)) (rest : List ℕ) : Type 0 where

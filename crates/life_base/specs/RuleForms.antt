@@ -1,10 +1,12 @@
 -- What rule texts say, told as what each text is. The B/S notation, and what its digits mean, are of Golly Help, QuickLife; names and the
 -- bounds of a text are the project's own.
 use Rattle.std.specs.Prelude.{◌≡◌, ◌⊎◌, ◌↔◌, ℕ, ◌<◌, ◌≤◌, Bool, true, false, not, ◌&&◌, ◌||◌, List, [], ◌∷◌, ◌++◌, length, map, nat_le, ◌==◌, codes, Some, Ok}
+use Rattle.std.specs.Char.{is_ascii_graphic, to_ascii_uppercase}
 use Rattle.std.specs.List.{list_all}
+use Rattle.std.specs.Str.{byte}
 use Rattle.life_base.specs.Sets.{DigitSets}
 use Rattle.life_base.specs.Text.{is_whitespace}
-use Rattle.life_base.specs.Rules.{is_count_digit, upper, digit_set, has_digit, life_sets, four_sets, rule_of}
+use Rattle.life_base.specs.Rules.{is_count_digit, digit_set, has_digit, life_sets, four_sets, rule_of}
 use Rattle.life_base.specs.declared.rule.Near.{Near}
 use Rattle.life_base.specs.declared.rule.Near.TheVariants.{Moore, VonNeumann}
 use Rattle.life_base.specs.declared.rule.Rule.{Rule}
@@ -26,7 +28,7 @@ pub record IsLifeText (text : List ℕ) (sets : DigitSets) : Type 0 where
   pub survivals : List ℕ
   pub birth_digits : list_all is_count_digit births ≡ true
   pub survival_digits : list_all is_count_digit survivals ≡ true
-  pub form : IsForm (map upper text) births survivals
+  pub form : IsForm (map to_ascii_uppercase text) births survivals
   pub birth_set : sets.births ≡ digit_set births
   pub survival_set : sets.survivals ≡ digit_set survivals
 
@@ -35,9 +37,9 @@ pub record IsFourText (text : List ℕ) (sets : DigitSets) : Type 0 where
   pub front : List ℕ
   pub last : ℕ
   pub is : text ≡ front ++ last ∷ []
-  pub letter : upper last ≡ 86
+  pub letter : to_ascii_uppercase last ≡ byte "V"
   pub rest : List ℕ
-  pub begins : map upper front ≡ 66 ∷ rest
+  pub begins : map to_ascii_uppercase front ≡ byte "B" ∷ rest
   pub form : IsLifeText front sets
   pub births : sets.births < 32
   pub survivals : sets.survivals < 32
@@ -59,18 +61,18 @@ pub record IsAround (text word : List ℕ) : Type 0 where
 pub record IsRuleWord (word : List ℕ) : Type 0 where
   pub some : 0 < length word
   pub short : length word ≤ 255
-  pub visible : list_all (λ b. nat_le 33 b && nat_le b 126) word ≡ true
-  pub unbounded : list_all (λ b. not (b == 58)) word ≡ true
+  pub visible : list_all is_ascii_graphic word ≡ true
+  pub unbounded : list_all (λ b. not (b == byte ":")) word ≡ true
 
 -- `V`, `v`, `H` or `h`
 abbrev pub names_neighbours : ℕ → Bool
-names_neighbours b = b == 86 || b == 118 || b == 72 || b == 104
+names_neighbours b = b == byte "V" || b == byte "v" || b == byte "H" || b == byte "h"
 
 -- the word is no B/S rule, none of the eight neighbours behind which a letter names others, and has no slash
 pub record IsOtherWord (word : List ℕ) : Type 0 where
   pub no_life : (sets : DigitSets) → IsLifeText word sets → ⊥
   pub no_neighbours : (front : List ℕ) (last : ℕ) (sets : DigitSets) → word ≡ front ++ last ∷ [] → names_neighbours last ≡ true → IsLifeText front sets → ⊥
-  pub no_slash : list_all (λ b. not (b == 47)) word ≡ true
+  pub no_slash : list_all (λ b. not (b == byte "/")) word ≡ true
 
 -- the word says this rule: a B/S rule without a birth on 0, or itself as a name
 abbrev pub WordSays : List ℕ → Rule → Type 0

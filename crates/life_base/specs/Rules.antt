@@ -1,7 +1,9 @@
 -- Rule texts: what each text says, and the text of each rule. The B/S notation, and what its digits mean, are of Golly Help,
 -- QuickLife. The order of the tests, the kinds of fault, names and canonical texts are the project's own.
 use Rattle.std.specs.Prelude.{◌≡◌, ℕ, ◌+◌, ◌-◌, ◌/◌, ◌%◌, ◌^◌, ◌<◌, Bool, true, false, not, ◌&&◌, ◌||◌, List, [], ◌∷◌, ◌++◌, length, take, drop, map, filter, sum_by, nat_le, nat_lt, ◌==◌, if◌then◌else◌, bytes_eq, codes, is_some, Option, Some, None, Result, Ok, Err}
+use Rattle.std.specs.Char.{is_ascii_graphic, to_ascii_uppercase}
 use Rattle.std.specs.List.{list_all, list_any, slice_split}
+use Rattle.std.specs.Str.{byte}
 use Rattle.life_base.specs.Sets.{DigitSets, OuterTotalistic}
 use Rattle.life_base.specs.Text.{trim, is_empty}
 use Rattle.life_base.specs.declared.kind.Kind.{Kind}
@@ -22,19 +24,15 @@ has_digit set d = set / 2 ^ d % 2 == 1
 
 -- the set of the digits that a text names, in any order and any number of times (the project's own)
 abbrev pub digit_set : List ℕ → ℕ
-digit_set text = sum_by (λ d. if list_any (λ b. b == 48 + d) text then 2 ^ d else 0) counts
+digit_set text = sum_by (λ d. if list_any (λ b. b == byte "0" + d) text then 2 ^ d else 0) counts
 
 -- the digits of a set, in rising order
 abbrev pub digits_of : ℕ → List ℕ
-digits_of set = map (λ d. 48 + d) (filter (has_digit set) counts)
+digits_of set = map (λ d. byte "0" + d) (filter (has_digit set) counts)
 
 -- `0` to `8`
 abbrev pub is_count_digit : ℕ → Bool
-is_count_digit b = nat_le 48 b && nat_le b 56
-
--- a letter in upper case
-abbrev pub upper : ℕ → ℕ
-upper b = if nat_le 97 b && nat_le b 122 then b - 32 else b
+is_count_digit b = nat_le (byte "0") b && nat_le b (byte "8")
 
 -- the texts before, between and behind the bytes that are no digits `0` to `8`
 abbrev pub digit_groups : List ℕ → List (List ℕ)
@@ -42,7 +40,7 @@ digit_groups text = slice_split (λ b. not (is_count_digit b)) text
 
 -- the bytes that are no digits `0` to `8`, letters in upper case
 abbrev pub marks : List ℕ → List ℕ
-marks text = map upper (filter (λ b. not (is_count_digit b)) text)
+marks text = map to_ascii_uppercase (filter (λ b. not (is_count_digit b)) text)
 
 -- the sets of two texts of digits
 abbrev pub sets : List ℕ → List ℕ → Option DigitSets
@@ -69,7 +67,7 @@ life_sets text = life_form (digit_groups text) (marks text)
 abbrev pub names_other_neighbours : List ℕ → Bool
 names_other_neighbours text =
     is_some (life_sets (take (length text - 1) text))
-    && (bytes_eq (map upper (drop (length text - 1) text)) (codes "V") || bytes_eq (map upper (drop (length text - 1) text)) (codes "H"))
+    && (bytes_eq (map to_ascii_uppercase (drop (length text - 1) text)) (codes "V") || bytes_eq (map to_ascii_uppercase (drop (length text - 1) text)) (codes "H"))
 
 -- the sets, if no digit is above 4: the four neighbours of a cell are no more
 abbrev pub up_to_four : Option DigitSets → Option DigitSets
@@ -80,13 +78,13 @@ up_to_four None = None
 -- letters in either case (Golly Help, QuickLife; without the `/`, the project's own)
 unfoldable pub four_sets : List ℕ → Option DigitSets
 four_sets text =
-    if bytes_eq (map upper (take 1 (take (length text - 1) text))) (codes "B") && bytes_eq (map upper (drop (length text - 1) text)) (codes "V")
+    if bytes_eq (map to_ascii_uppercase (take 1 (take (length text - 1) text))) (codes "B") && bytes_eq (map to_ascii_uppercase (drop (length text - 1) text)) (codes "V")
     then up_to_four (life_sets (take (length text - 1) text))
     else None
 
 -- a text that no rule has: empty, above 255 bytes, or with a byte outside 0x21 to 0x7E, the visible characters of ASCII
 abbrev pub is_bad_text : List ℕ → Bool
-is_bad_text text = is_empty text || nat_lt 255 (length text) || not (list_all (λ b. nat_le 33 b && nat_le b 126) text)
+is_bad_text text = is_empty text || nat_lt 255 (length text) || not (list_all is_ascii_graphic text)
 
 -- the B/S rule with these digits and neighbours
 abbrev pub counting : Near → DigitSets → Rule
@@ -100,7 +98,7 @@ life_rule near sets = if has_digit sets.births 0 then Err BirthOnZero else Ok (c
 abbrev pub other_rule : List ℕ → Result Rule Kind
 other_rule text =
     if names_other_neighbours text then Err UnsupportedRule
-    else (if list_any (λ b. b == 47) text then Err UnsupportedRule else Ok (Named text))
+    else (if list_any (λ b. b == byte "/") text then Err UnsupportedRule else Ok (Named text))
 
 -- the rule of a text of none of the five forms, by its sets if it is that of a von Neumann rule
 abbrev pub four_or_other : List ℕ → Option DigitSets → Result Rule Kind
@@ -117,7 +115,7 @@ life_or_other text None = four_or_other text (four_sets text)
 abbrev pub tested_rule : (List ℕ → Option DigitSets → Result Rule Kind) → List ℕ → Result Rule Kind
 tested_rule otherwise text =
     if is_bad_text text then Err BadRule
-    else (if list_any (λ b. b == 58) text then Err BoundedGrid else otherwise text (life_sets text))
+    else (if list_any (λ b. b == byte ":") text then Err BoundedGrid else otherwise text (life_sets text))
 
 abbrev pub rule_of_trimmed : List ℕ → Result Rule Kind
 rule_of_trimmed = tested_rule life_or_other

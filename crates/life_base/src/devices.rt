@@ -60,7 +60,8 @@ pub trait Sink {
         ensures count { WritesAtMost result buf.now }
         ensures failure { CountsFailure (failures self.old) (failures self.new) result Kind.WriteFault }
         ensures bytes { WriteAppends (contents self.old) (contents self.new) result buf.now }
-        ensures stalled { stalled self.new ≡ (stalled self.old || takes_none result buf.now) };
+        ensures stalled { stalled self.new ≡ (stalled self.old || takes_none result buf.now) }
+        ensures flushed { flushed self.new ≡ false };
 
     /// Hands on what was written, as far as the sink still holds it. A failure of any cause is `WriteFault`.
     fn flush(&mut self) -> Result<(), Kind>

@@ -53,7 +53,7 @@ pub enum Kind {
     Full,
     /// Memory was refused.
     Memory,
-    /// A reader that has refused was used again.
+    /// A reader that has refused was used again, or a stream of the library for C that was closed or has ended.
     Spent,
     /// The first line of a rule file that is neither blank nor begins with `#` isn't `@RULE` and a name, or there is none.
     NoRuleLine,

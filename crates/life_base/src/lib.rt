@@ -3,6 +3,7 @@
 #![tactic(auto)]
 
 mod appending;
+mod bounds;
 mod cell;
 mod devices;
 mod fault;
@@ -22,6 +23,7 @@ mod words;
 mod writing;
 
 pub use appending::{append, append_number, append_signed, append_u128};
+pub use bounds::Bounds;
 pub use cell::{Cell, MAX_LEVEL, State};
 pub use devices::{Device, Sink, Source};
 pub use fault::{Fault, Place, StepFault};

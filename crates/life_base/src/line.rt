@@ -1,5 +1,6 @@
 //! Where lines end, and how long they may be.
 
+ghost use Rattle.std.specs.Str.{byte};
 ghost use Rattle.std.specs.Prelude.{◌≡◌, ◌==◌, ◌+◌, ◌^◌, nat_le, position};
 ghost use Rattle.life_base.specs.Text.{is_too_long as breaks_limit};
 
@@ -25,7 +26,7 @@ pub fn line_fits(kept: u64, more: u64) -> bool
 
 /// Where the first line feed stands.
 pub fn line_end(bytes: &[u8]) -> Option<usize>
-    ensures { result ≡ position (λ b. b == 10) bytes.now }
+    ensures { result ≡ position (λ b. b == byte "\n") bytes.now }
 {
     bytes.find_byte(b'\n')
 }

@@ -2,9 +2,11 @@
 
 ghost use Rattle.std.specs.Prelude.{◌≡◌, ◌<◌, ◌^◌, ◌==◌, ◌+◌, map, take, codes, bytes_eq, if◌then◌else◌, nat_le, ◌&&◌, ◌∷◌, [], IfSome, IfOk, IfErr, MatchResult, Some, None, Ok, Err, false, true, is_some};
 ghost use Rattle.std.specs.List.{list_any, list_all};
+ghost use Rattle.std.specs.Char.{is_ascii_graphic, to_ascii_uppercase};
 ghost use Rattle.std.specs.Option.{option_map};
+ghost use Rattle.std.specs.Str.{byte};
 ghost use Rattle.life_base.specs.Sets.{DigitSets};
-ghost use Rattle.life_base.specs.Rules.{is_count_digit as is_counted, digit_set as digits_named, digit_groups as groups_of, marks as marks_of, upper as upper_case, life_form as form_of, life_sets as sets_of, up_to_four as within_four, four_sets as four_sets_of, most_neighbours, names_other_neighbours as has_other_neighbours, is_bad_text as breaks_rules, life_rule as rule_of_sets, other_rule as rule_of_others, four_or_other as rule_of_four_or_others, rule_of_trimmed, rule_of};
+ghost use Rattle.life_base.specs.Rules.{is_count_digit as is_counted, digit_set as digits_named, digit_groups as groups_of, marks as marks_of, life_form as form_of, life_sets as sets_of, up_to_four as within_four, four_sets as four_sets_of, most_neighbours, names_other_neighbours as has_other_neighbours, is_bad_text as breaks_rules, life_rule as rule_of_sets, other_rule as rule_of_others, four_or_other as rule_of_four_or_others, rule_of_trimmed, rule_of};
 ghost use Rattle.life_base.specs.Refusal.{Answers};
 ghost use Rattle.life_base.specs.declared.kind.Kind.TheVariants.{Memory};
 
@@ -17,15 +19,15 @@ use std::alloc::{AllocError, Global};
 fn is_count_digit(byte: u8) -> bool
     ensures { result ≡ is_counted byte }
 {
-    48 <= byte && byte <= 56
+    b'0' <= byte && byte <= b'8'
 }
 
 /// The bit of a digit that a text names, else 0.
 fn digit_bit(text: &[u8], digit: u8) -> u16
     requires { digit < 9 }
-    ensures { result ≡ (if list_any (λ b. b == 48 + digit) text.now then 2 ^ digit else 0) }
+    ensures { result ≡ (if list_any (λ b. b == byte "0" + digit) text.now then 2 ^ digit else 0) }
 {
-    if text.contains(&(48 + digit)) {
+    if text.contains(&(b'0' + digit)) {
         1 << digit
     } else {
         0
@@ -51,24 +53,13 @@ fn digit_groups(alloc: Global, text: &[u8]) -> Result<Vec<&[u8]>, AllocError>
     text.split(|b| !is_count_digit(*b)).collect(alloc)
 }
 
-/// The byte, a letter in upper case.
-fn upper(byte: u8) -> u8
-    ensures { result ≡ upper_case byte }
-{
-    if 97 <= byte && byte <= 122 {
-        byte - 32
-    } else {
-        byte
-    }
-}
-
 /// The bytes that are no digits, letters in upper case.
 fn marks(alloc: Global, text: &[u8]) -> Result<Vec<u8>, AllocError>
     ensures { IfOk result (λ marks. marks.items ≡ marks_of text.now) }
 {
     text.iter()
         .filter(|b| !is_count_digit(**b))
-        .map(|b| upper(*b))
+        .map(|b| b.to_ascii_uppercase())
         .collect(alloc)
 }
 
@@ -136,7 +127,7 @@ fn up_to_four(found: Option<(u16, u16)>) -> Option<(u16, u16)>
 
 /// Whether the first byte is `B` or `b`.
 fn begins_with_b(text: &[u8]) -> bool
-    ensures { result ≡ bytes_eq (map upper_case (take 1 text.now)) (codes "B") }
+    ensures { result ≡ bytes_eq (map to_ascii_uppercase (take 1 text.now)) (codes "B") }
 {
     match text {
         [b'B' | b'b', ..] => true,
@@ -178,9 +169,9 @@ fn is_bad_text(text: &[u8]) -> bool
 
 /// Whether each byte is a visible ASCII character.
 fn is_visible(text: &[u8]) -> bool
-    ensures { result ≡ list_all (λ b. nat_le 33 b && nat_le b 126) text.now }
+    ensures { result ≡ list_all is_ascii_graphic text.now }
 {
-    text.iter().all(|b| 33 <= *b && *b <= 126)
+    text.iter().all(|byte| byte.is_ascii_graphic())
 }
 
 /// The B/S rule of two sets, unless cells are born on 0.

@@ -9,7 +9,7 @@ use Rattle.life_base.specs.declared.cell.TheConstants.{MAX_LEVEL}
 use Rattle.life_quad.specs.Cells.{IsLeastBox as IsLeastBoxOf, population}
 use Rattle.life_quad.specs.Store.{Nodes}
 use Rattle.life_quad.proofs.LawLemmas.{known_squares_are_full}
-use Rattle.life_quad.specs.declared.extent.Bounds.{Bounds}
+use Rattle.life_base.specs.declared.bounds.Bounds.{Bounds}
 use Rattle.life_rle.specs.Written.{span}
 use Rattle.life_canon.specs.Universe.{corner, IsWithin}
 use Rattle.life_canon.specs.Listing.{canonical_file}

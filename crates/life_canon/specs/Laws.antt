@@ -61,11 +61,12 @@ TextsTellPatterns top =
 abbrev pub TextsAreFixed : ℕ → Type 0
 TextsAreFixed top = (u v : Universe) → IsOnPlane top u → Reads top (canon_text top u) v → canon_text top v ≡ canon_text top u
 
--- no macrocell file of the same pattern has fewer node lines than the canonical one
+-- no macrocell file of the same pattern, under a name none without leaf lines, has fewer node lines than the canonical one
 abbrev pub CanonicalIsLeast : ℕ → Type 0
 CanonicalIsLeast top = (u : Universe) → IsOnPlane top u → IsLeast top u (node_lines (canonical_file top u))
 
--- the squares of the canonical list have node lines in every macrocell file of the pattern, no two of them one line
+-- the squares of the canonical list have node lines in every macrocell file of the pattern, under a name in every one without leaf lines, and no
+-- two of them have one line
 abbrev pub SquaresHavePlaces : ℕ → Type 0
 SquaresHavePlaces top =
     (u : Universe) (b : List ℕ) (file : Macrocell) → IsOnPlane top u → IsMacrocell top b file → IsSame u (macrocell_universe file) → IsRival file → HasPlaces top u file

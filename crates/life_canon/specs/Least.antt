@@ -19,13 +19,13 @@ HasNoLeaves file = (index : ℕ) (rows : List ℕ) → ¬ (slice_get file.lines 
 abbrev pub IsRival : Macrocell → Type 0
 IsRival file = (is_life file.rule ≡ true) ⊎ HasNoLeaves file
 
--- no macrocell file of this pattern has fewer than n node lines: a higher root, mixed levels, repeats and lines that the root
+-- no macrocell file of this pattern, of those to which a canonical one is compared, has fewer than n node lines: a higher root, mixed levels, repeats and lines that the root
 -- doesn't reach are allowed
 abbrev pub IsLeast : ℕ → Universe → ℕ → Type 0
 IsLeast top u n =
     (bytes : List ℕ) (file : Macrocell) → IsMacrocell top bytes file → IsSame u (macrocell_universe file) → IsRival file → n ≤ node_lines file
 
--- the text is a macrocell file of the same pattern with the fewest node lines
+-- the text is a macrocell file of the same pattern with the fewest node lines, under a name of those without leaf lines
 pub record IsLeastText (top : ℕ) (bytes text : List ℕ) : Type 0 where
   pub universe : Universe
   pub reads : Reads top bytes universe

@@ -6,7 +6,7 @@ use Rattle.life_base.specs.declared.cell.Cell.{Cell}
 use Rattle.life_base.specs.declared.rule.Rule.{Rule}
 use Rattle.life_mc.specs.Cells.{node_lines}
 use Rattle.life_quad.specs.Cells.{IsBefore}
-use Rattle.life_quad.specs.declared.extent.Bounds.{Bounds}
+use Rattle.life_base.specs.declared.bounds.Bounds.{Bounds}
 use Rattle.life_rle.specs.Written.{rle_text, span}
 use Rattle.life_canon.specs.Universe.{Universe}
 use Rattle.life_canon.specs.Files.{Reads}

@@ -1,6 +1,7 @@
 //! The front of a file, cut into lines.
 
 ghost use Rattle.std.specs.Prelude.{◌≡◌, ◌==◌, ◌⊎◌, ◌++◌, ◌∷◌, ◌<◌, ◌≤◌, ◌+◌, ◌-◌, ◌^◌, min, codes, true, ℕ, List, [], length, position, Some, None, Err, IfSome, IfOk, IfErr, OnOk};
+ghost use Rattle.std.specs.Str.{byte};
 ghost use Rattle.life_base.specs.declared.kind.Kind.TheVariants.{Full, Memory};
 ghost use Rattle.life_base.specs.Lines.{has_no_feed};
 ghost use Rattle.life_base.specs.Refusal.{fault_at, fault_of};
@@ -56,8 +57,8 @@ impl Front {
     fn next_end(&self, bytes: &[u8]) -> Option<usize>
         requires { IsOpen self.now.progress }
         ensures going { IfSome result (λ _. IsOver self.now.progress → ⊥) }
-        ensures end { IfSome result (λ end. position (λ b. b == 10) bytes.now ≡ Some end) }
-        ensures none { result ≡ None → IsOver self.now.progress ⊎ (position (λ b. b == 10) bytes.now ≡ None) }
+        ensures end { IfSome result (λ end. position (λ b. b == byte "\n") bytes.now ≡ Some end) }
+        ensures none { result ≡ None → IsOver self.now.progress ⊎ (position (λ b. b == byte "\n") bytes.now ≡ None) }
     {
         if self.progress.is_over() {
             None

@@ -67,12 +67,13 @@ pub fn trimming_ignores_growth()
     ensures { TrimmingIgnoresGrowth }
 {}
 
-/// No macrocell file of a pattern has fewer node lines than its canonical one.
+/// No macrocell file of a pattern has fewer node lines than its canonical one; under a name, none without leaf lines.
 pub fn canonical_is_least()
     ensures { CanonicalIsLeast MAX_LEVEL }
 {}
 
-/// Each square of a canonical file has a node line in every macrocell file of the pattern, no two of them one line.
+/// Each square of a canonical file has a node line in every macrocell file of the pattern, no two of them one line; under a name, in every one
+/// without leaf lines.
 pub fn squares_have_places()
     ensures { SquaresHavePlaces MAX_LEVEL }
 {}

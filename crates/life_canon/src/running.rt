@@ -1,6 +1,7 @@
 //! From a source to a sink.
 
 ghost use Rattle.std.specs.Prelude.{◌≡◌, ◌≢◌, ◌⊎◌, ◌≤◌, ◌^◌, List, ℕ, true, false, IsTrue, ◌↔◌, IfOk, IfErr, OnOk, IfSome, IsErrAnd, Some, None, Err, ◌++◌};
+ghost use Rattle.life_base.specs.DeviceRuns.{source_run, sink_run};
 ghost use Rattle.life_base.specs.Refusal.{fault_of};
 ghost use Rattle.life_canon.specs.Running.{Ran, RunRefuses, ReadRefuses, HasRead, LacksForRead};
 ghost use Rattle.life_canon.specs.Feeding.{RefusesFront, Stands};
@@ -58,10 +59,10 @@ fn read_source<R: Source>(
 ) -> Result<Pattern, Fault>
     requires working { R.failures source.old ≡ 0 }
     requires bound { most ≤ 2 ^ 30 }
-    ensures pattern { IfOk result (λ pattern. HasRead MAX_LEVEL most store.new (record { before = R.remaining source.old; after = R.remaining source.new; failures = R.failures source.new }) pattern) }
+    ensures pattern { IfOk result (λ pattern. HasRead MAX_LEVEL most store.new (source_run R.remaining R.failures source.old source.new) pattern) }
     ensures works { OnOk result (R.failures source.new ≡ 0) }
-    ensures fault { IfErr result (λ fault. ReadRefuses MAX_LEVEL most store.new (record { before = R.remaining source.old; after = R.remaining source.new; failures = R.failures source.new }) fault) }
-    ensures needed { result ≡ Err (fault_of Kind.Full) → LacksForRead MAX_LEVEL most store.new (record { before = R.remaining source.old; after = R.remaining source.new; failures = R.failures source.new }) }
+    ensures fault { IfErr result (λ fault. ReadRefuses MAX_LEVEL most store.new (source_run R.remaining R.failures source.old source.new) fault) }
+    ensures needed { result ≡ Err (fault_of Kind.Full) → LacksForRead MAX_LEVEL most store.new (source_run R.remaining R.failures source.old source.new) }
     ensures told { R.failures source.new ≡ 1 → IsErrAnd result (λ fault. fault.kind ≡ Kind.ReadFault) }
     ensures keeps { Keeps store.old store.new }
 {
@@ -103,10 +104,10 @@ pub fn read_from<R: Source>(
     source: &mut R,
 ) -> Result<Pattern, Fault>
     requires { R.failures source.old ≡ 0 }
-    ensures pattern { IfOk result (λ pattern. HasRead MAX_LEVEL (2 ^ 30) store.new (record { before = R.remaining source.old; after = R.remaining source.new; failures = R.failures source.new }) pattern) }
+    ensures pattern { IfOk result (λ pattern. HasRead MAX_LEVEL (2 ^ 30) store.new (source_run R.remaining R.failures source.old source.new) pattern) }
     ensures works { OnOk result (R.failures source.new ≡ 0) }
-    ensures fault { IfErr result (λ fault. ReadRefuses MAX_LEVEL (2 ^ 30) store.new (record { before = R.remaining source.old; after = R.remaining source.new; failures = R.failures source.new }) fault) }
-    ensures needed { result ≡ Err (fault_of Kind.Full) → LacksForRead MAX_LEVEL (2 ^ 30) store.new (record { before = R.remaining source.old; after = R.remaining source.new; failures = R.failures source.new }) }
+    ensures fault { IfErr result (λ fault. ReadRefuses MAX_LEVEL (2 ^ 30) store.new (source_run R.remaining R.failures source.old source.new) fault) }
+    ensures needed { result ≡ Err (fault_of Kind.Full) → LacksForRead MAX_LEVEL (2 ^ 30) store.new (source_run R.remaining R.failures source.old source.new) }
     ensures told { R.failures source.new ≡ 1 → IsErrAnd result (λ fault. fault.kind ≡ Kind.ReadFault) }
     ensures keeps { Keeps store.old store.new }
 {
@@ -132,12 +133,12 @@ pub fn run_canon_within<R: Source, W: Sink>(
     requires writes { W.failures writer.old ≡ 0 }
     requires takes { W.stalled writer.old ≡ false }
     requires bound { most ≤ 2 ^ 30 }
-    ensures ok { OnOk result (Ran MAX_LEVEL most (record { before = R.remaining reader.old; after = R.remaining reader.new; failures = R.failures reader.new })
-        (record { before = W.contents writer.old; after = W.contents writer.new; failures = W.failures writer.new; stalled = W.stalled writer.new })) }
+    ensures ok { OnOk result (Ran MAX_LEVEL most (source_run R.remaining R.failures reader.old reader.new)
+        (sink_run W.contents W.failures W.stalled writer.old writer.new)) }
     ensures flushed { OnOk result (W.flushed writer.new ≡ true) }
-    ensures err { IfErr result (RunRefuses MAX_LEVEL most store.new (record { before = R.remaining reader.old; after = R.remaining reader.new; failures = R.failures reader.new })
-        (record { before = W.contents writer.old; after = W.contents writer.new; failures = W.failures writer.new; stalled = W.stalled writer.new })) }
-    ensures needed { result ≡ Err (fault_of Kind.Full) → LacksForRead MAX_LEVEL most store.new (record { before = R.remaining reader.old; after = R.remaining reader.new; failures = R.failures reader.new }) }
+    ensures err { IfErr result (RunRefuses MAX_LEVEL most store.new (source_run R.remaining R.failures reader.old reader.new)
+        (sink_run W.contents W.failures W.stalled writer.old writer.new)) }
+    ensures needed { result ≡ Err (fault_of Kind.Full) → LacksForRead MAX_LEVEL most store.new (source_run R.remaining R.failures reader.old reader.new) }
     ensures unwritten { IfErr result (λ fault. fault.kind ≢ Kind.WriteFault → writer.new ≡ writer.old) }
     ensures read_told { R.failures reader.new ≡ 1 → IsErrAnd result (λ fault. fault.kind ≡ Kind.ReadFault) }
     ensures write_told { (W.failures writer.new ≡ 1) ⊎ (W.stalled writer.new ≡ true) → IsErrAnd result (λ fault. fault.kind ≡ Kind.WriteFault) }
@@ -165,12 +166,12 @@ pub fn run_canon<R: Source, W: Sink>(
     requires reads { R.failures reader.old ≡ 0 }
     requires writes { W.failures writer.old ≡ 0 }
     requires takes { W.stalled writer.old ≡ false }
-    ensures ok { OnOk result (Ran MAX_LEVEL (2 ^ 30) (record { before = R.remaining reader.old; after = R.remaining reader.new; failures = R.failures reader.new })
-        (record { before = W.contents writer.old; after = W.contents writer.new; failures = W.failures writer.new; stalled = W.stalled writer.new })) }
+    ensures ok { OnOk result (Ran MAX_LEVEL (2 ^ 30) (source_run R.remaining R.failures reader.old reader.new)
+        (sink_run W.contents W.failures W.stalled writer.old writer.new)) }
     ensures flushed { OnOk result (W.flushed writer.new ≡ true) }
-    ensures err { IfErr result (RunRefuses MAX_LEVEL (2 ^ 30) store.new (record { before = R.remaining reader.old; after = R.remaining reader.new; failures = R.failures reader.new })
-        (record { before = W.contents writer.old; after = W.contents writer.new; failures = W.failures writer.new; stalled = W.stalled writer.new })) }
-    ensures needed { result ≡ Err (fault_of Kind.Full) → LacksForRead MAX_LEVEL (2 ^ 30) store.new (record { before = R.remaining reader.old; after = R.remaining reader.new; failures = R.failures reader.new }) }
+    ensures err { IfErr result (RunRefuses MAX_LEVEL (2 ^ 30) store.new (source_run R.remaining R.failures reader.old reader.new)
+        (sink_run W.contents W.failures W.stalled writer.old writer.new)) }
+    ensures needed { result ≡ Err (fault_of Kind.Full) → LacksForRead MAX_LEVEL (2 ^ 30) store.new (source_run R.remaining R.failures reader.old reader.new) }
     ensures unwritten { IfErr result (λ fault. fault.kind ≢ Kind.WriteFault → writer.new ≡ writer.old) }
     ensures read_told { R.failures reader.new ≡ 1 → IsErrAnd result (λ fault. fault.kind ≡ Kind.ReadFault) }
     ensures write_told { (W.failures writer.new ≡ 1) ⊎ (W.stalled writer.new ≡ true) → IsErrAnd result (λ fault. fault.kind ≡ Kind.WriteFault) }

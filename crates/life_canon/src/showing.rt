@@ -7,7 +7,7 @@ ghost use Rattle.life_base.specs.Rules.{rule_text};
 ghost use Rattle.life_base.specs.declared.kind.Kind.TheVariants.{Full, Memory};
 ghost use Rattle.life_base.specs.Tree.{depth, is_blank_tree};
 ghost use Rattle.life_quad.specs.Cells.{population, IsLeastBox};
-ghost use Rattle.life_quad.specs.declared.extent.Bounds.{Bounds as BoundsValue};
+ghost use Rattle.life_base.specs.declared.bounds.Bounds.{Bounds as BoundsValue};
 ghost use Rattle.std.specs.Prelude.{Option, List, ℕ, true};
 ghost use Rattle.life_rle.specs.Written.{span};
 ghost use Rattle.life_mc.specs.Cells.{node_lines};
@@ -19,8 +19,10 @@ ghost use Rattle.life_canon.specs.Texts.{IsShown, IsOrdered, AreOrdered, box_tex
 use crate::listing::listed;
 use crate::pattern::{Pattern, least_level};
 use crate::reading::read;
-use life_base::{Fault, Kind, MAX_LEVEL, append, append_number, append_signed, append_u128};
-use life_quad::{Bounds, Shared, bounds, population};
+use life_base::{
+    Bounds, Fault, Kind, MAX_LEVEL, append, append_number, append_signed, append_u128,
+};
+use life_quad::{Shared, bounds, population};
 use std::alloc::Global;
 
 /// Adds a word, the number behind it and a line feed at the end.

@@ -27,6 +27,7 @@ use Rattle.life_cli.specs.declared.telling.Refusal.{Refusal}
 use Rattle.life_cli.specs.declared.working.Made.{Made}
 use Rattle.life_cli.specs.declared.working.Made.TheVariants.{Comparison}
 use Rattle.life_cli.specs.Plans.{HasSecond, WritesCanonical}
+use Rattle.life_step.specs.Stepped.{}
 use Rattle.life_cli.specs.Jobs.{InputRefuses, by_length, by_source, HasNoText, by_input, by_file, by_want, IsHeld, AreCompared, IsComparedAs, AreUncompared}
 use Rattle.life_cli.specs.Jobs.{by_first, by_second, by_first_shortage, by_second_shortage}
 use Rattle.life_cli.specs.Jobs.{IsWantFor, WantsToStep, RefusesRle, Compares, made_text, made_status, Makes, Writes, Worked, Breaks, HasText, FileRefuses}

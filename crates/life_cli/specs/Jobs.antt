@@ -1,5 +1,5 @@
 -- What a job writes, by the bytes of its files, and why it is refused.
-use Rattle.std.specs.Prelude.{◌≡◌, ◌⊎◌, ◌^◌, ℕ, Bool, true, false, List, None, Some, Result, IfOk, IfErr, codes, if◌then◌else◌}
+use Rattle.std.specs.Prelude.{◌≡◌, ◌⊎◌, ◌^◌, ℕ, Bool, true, false, List, Some, Result, IfOk, IfErr, codes, if◌then◌else◌}
 use Rattle.std.specs.Io.KnownBytes.{Appends}
 use Rattle.life_base.specs.DeviceRuns.{SourceRun, SinkRun}
 use Rattle.life_base.specs.Inputs.{ReadAll, CameBeyond}
@@ -20,7 +20,7 @@ use Rattle.life_table.specs.Grammar.{IsFile}
 use Rattle.life_table.specs.Reading.{Refuses as RefusesTable}
 use Rattle.life_table.specs.declared.table.Table.{Table}
 use Rattle.life_step.specs.Refusals.{LifeRefusal, TableRefusal}
-use Rattle.life_step.specs.Stepped.{IsLifeStep, IsTableStep, Stepped}
+use Rattle.life_step.specs.Stepped.{IsStepped, IsSteppedBy}
 use Rattle.life_cli.specs.Plans.{HasSecond}
 use Rattle.life_cli.specs.declared.plans.Job.{Job}
 use Rattle.life_cli.specs.declared.plans.Job.TheVariants.{Canon, Convert, Same, Show, Step, StepTable}
@@ -34,15 +34,6 @@ abbrev pub Compares : List ℕ → List ℕ → ℕ → List ℕ → Type 0
 Compares first second status text =
     ((status ≡ 0) × AreSame MAX_LEVEL first second × (text ≡ codes "same\n"))
     ⊎ ((status ≡ 1) × (¬ AreSame MAX_LEVEL first second) × (text ≡ codes "different\n"))
-
--- the bytes are a file whose pattern has a next generation under its B/S rule, and the text is the canonical text of that
-abbrev pub IsStepped : List ℕ → List ℕ → Type 0
-IsStepped bytes text = (u : Universe) × Reads MAX_LEVEL bytes u × LifeRefusal MAX_LEVEL u None × Stepped MAX_LEVEL IsLifeStep text u
-
--- the same by a table
-abbrev pub IsSteppedBy : Table → List ℕ → List ℕ → Type 0
-IsSteppedBy table bytes text =
-    (u : Universe) × Reads MAX_LEVEL bytes u × TableRefusal MAX_LEVEL table u None × Stepped MAX_LEVEL (IsTableStep table) text u
 
 -- the status and the text of a job on the bytes of its files
 abbrev pub Writes : Job → List ℕ → List ℕ → ℕ → List ℕ → Type 0

@@ -4,7 +4,8 @@ ghost use Rattle.std.specs.Prelude.{◌≡◌, ◌⊎◌, ◌^◌, IfOk, IfErr, 
 ghost use Rattle.life_base.specs.DeviceRuns.{source_run};
 ghost use Rattle.life_base.specs.Inputs.{ReadAll};
 ghost use Rattle.life_base.specs.Refusal.{fault_of};
-ghost use Rattle.life_cli.specs.Jobs.{InputRefuses, OfTable, HasText, HasNoText, IsStepped, IsSteppedBy, RefusesStep, RefusesStepBy, HasTable, HasNoTable, HasTextByTable, HasNoTextByTable};
+ghost use Rattle.life_step.specs.Stepped.{IsStepped, IsSteppedBy};
+ghost use Rattle.life_cli.specs.Jobs.{InputRefuses, OfTable, HasText, HasNoText, RefusesStep, RefusesStepBy, HasTable, HasNoTable, HasTextByTable, HasNoTextByTable};
 
 use crate::telling::Refusal;
 use crate::working::MOST_SQUARES;

@@ -3,6 +3,7 @@
 -- lengths, levels and generations, the order of lines, that blank lines may stand anywhere, and that `#FRAME` is refused.
 use Rattle.std.specs.Prelude.{◌≡◌, ◌↔◌, ℕ, ◌+◌, ◌^◌, ◌<◌, ◌≤◌, Bool, true, false, ◌&&◌, ◌||◌, List, [], ◌∷◌, ◌++◌, length, take, map, flat_map, filter_map, nat_le, ◌==◌, if◌then◌else◌, slice_index, codes, Option, Some, None, Ok}
 use Rattle.std.specs.List.{list_all, AllByRecursion, AllZip, slice_index_or}
+use Rattle.std.specs.Str.{byte}
 use Rattle.life_base.specs.Text.{is_blank, is_digit_text, value_of}
 use Rattle.life_base.specs.Rules.{rule_of, default_rule}
 use Rattle.life_base.specs.declared.rule.Rule.{Rule}
@@ -63,11 +64,11 @@ pub record IsGenerationLine (line : List ℕ) (generation : ℕ) : Type 0 where
 
 -- at most eight cells, each `.` or `*`
 abbrev pub are_cells : List ℕ → Bool
-are_cells row = list_all (λ b. b == 46 || b == 42) row && nat_le (length row) 8
+are_cells row = list_all (λ b. b == byte "." || b == byte "*") row && nat_le (length row) 8
 
 -- the state of the cell in a column: 1 at `*`; a cell that isn't written is empty
 abbrev pub state_in : List ℕ → ℕ → ℕ
-state_in row column = if slice_index row column == 42 then 1 else 0
+state_in row column = if slice_index row column == byte "*" then 1 else 0
 
 -- A leaf line: at most eight rows that `$` ends, and behind the last `$` further cells where the rows are fewer; the bytes
 -- hold the states of their cells.

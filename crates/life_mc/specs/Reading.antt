@@ -2,6 +2,7 @@
 use Rattle.std.specs.Prelude.{◌≡◌, ℕ, ◌-◌, ◌^◌, ◌<◌, Bool, true, false, not, ◌&&◌, ◌||◌, List, [], ◌∷◌, ◌++◌, length, take, drop, map, replicate, sum_by, filter_map, nat_le, nat_lt, ◌==◌, if◌then◌else◌, slice_index, codes, Option, Some, None, Result, Ok, Err}
 use Rattle.std.specs.List.{list_all, slice_split, slice_index_or}
 use Rattle.std.specs.Result.{result_ok}
+use Rattle.std.specs.Str.{byte}
 use Rattle.life_base.specs.Text.{is_empty, is_blank, trim, begins_with, is_digit_text, value_of, words_of, lines_of, is_too_long}
 use Rattle.life_base.specs.Numbers.{u64_of}
 use Rattle.life_base.specs.Rules.{rule_of, default_rule}
@@ -17,7 +18,7 @@ use Rattle.life_mc.specs.declared.line.Line.TheVariants.{Leaf, Quad}
 
 -- a line `#R` or `#G`: `#` and the letter, followed by whitespace or by its end
 abbrev pub is_command : ℕ → List ℕ → Bool
-is_command letter line = begins_with line (35 ∷ letter ∷ []) && is_blank (take 1 (drop 2 line))
+is_command letter line = begins_with line (byte "#" ∷ letter ∷ []) && is_blank (take 1 (drop 2 line))
 
 -- a node line is neither blank nor begins with `#`
 abbrev pub is_node_line : List ℕ → Bool
@@ -25,11 +26,11 @@ is_node_line line = not (is_blank line) && not (begins_with line (codes "#"))
 
 -- `.`, `*` or `$`
 abbrev pub is_leaf_byte : ℕ → Bool
-is_leaf_byte b = b == 46 || b == 42 || b == 36
+is_leaf_byte b = b == byte "." || b == byte "*" || b == byte "$"
 
 -- the rows of a leaf, each ended by `$`; behind the last `$` a further one
 abbrev pub leaf_rows : List ℕ → List (List ℕ)
-leaf_rows text = slice_split (λ b. b == 36) text
+leaf_rows text = slice_split (λ b. b == byte "$") text
 
 -- behind the eighth `$` stands nothing
 abbrev pub is_at_end : List (List ℕ) → Bool
@@ -47,7 +48,7 @@ columns = 0 ∷ 1 ∷ 2 ∷ 3 ∷ 4 ∷ 5 ∷ 6 ∷ 7 ∷ []
 
 -- a row as a byte, with bit 7 - c for a live cell `*` in column c
 abbrev pub row_byte : List ℕ → ℕ
-row_byte row = sum_by (λ c. if slice_index row c == 42 then 2 ^ (7 - c) else 0) columns
+row_byte row = sum_by (λ c. if slice_index row c == byte "*" then 2 ^ (7 - c) else 0) columns
 
 -- the eight rows of a leaf; rows that aren't written are empty
 abbrev pub leaf_bytes : List ℕ → List ℕ

@@ -2,6 +2,7 @@
 
 ghost use Rattle.std.specs.Prelude.{◌≡◌, ◌<◌, ◌≤◌, ◌+◌, ◌-◌, ◌%◌, ◌^◌, ◌==◌, ◌&&◌, take, map, true, false, nat_lt, drop, length, MatchOption, if◌then◌else◌};
 ghost use Rattle.std.specs.Simd.Lanes.{mask_l};
+ghost use Rattle.std.specs.Str.{byte};
 ghost use Rattle.life_base.specs.Text.{is_empty};
 ghost use Rattle.life_mc.specs.Reading.{is_leaf, leaf_bytes, row_byte};
 ghost use Rattle.life_mc.specs.Standing.{first_row, front_cells, is_cell, is_row};
@@ -10,14 +11,14 @@ use std::simd::prelude::*;
 
 /// What a cell adds to the byte of its row, where its column has this bit, and 0 is behind the last one; nothing, if it can't stand there.
 /// It is computed without a branch on the state, which no processor can guess.
-fn cell_bit(byte: u8, bit: u8) -> Option<u8>
-    ensures { MatchOption result ((is_cell byte && nat_lt 0 bit) ≡ false)
-        (λ added. ((is_cell byte && nat_lt 0 bit) ≡ true) × (added ≡ (if byte == 42 then bit else 0))) }
+fn cell_bit(cell: u8, bit: u8) -> Option<u8>
+    ensures { MatchOption result ((is_cell cell && nat_lt 0 bit) ≡ false)
+        (λ added. ((is_cell cell && nat_lt 0 bit) ≡ true) × (added ≡ (if cell == byte "*" then bit else 0))) }
 {
-    if bit == 0 || (byte != b'*' && byte != b'.') {
+    if bit == 0 || (cell != b'*' && cell != b'.') {
         return None;
     }
-    Some(bit * u8::from(byte == b'*'))
+    Some(bit * u8::from(cell == b'*'))
 }
 
 /// Whether the first row of a text has ended before this byte.

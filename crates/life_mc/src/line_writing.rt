@@ -1,6 +1,7 @@
 //! Node lines as texts, made in a room of a fixed size.
 
 ghost use Rattle.std.specs.Prelude.{◌≡◌, ◌++◌, ◌∷◌, ◌+◌, ◌<◌, ◌≤◌, ◌==◌, take, drop, length, flat_map, decimal, codes, vec_len, vec_capacity, OnOk, OnErr, IfErr};
+ghost use Rattle.std.specs.Str.{byte};
 ghost use Rattle.life_base.specs.declared.kind.Kind.TheVariants.{Memory};
 ghost use Rattle.life_base.specs.Text.{without_last};
 ghost use Rattle.life_mc.specs.declared.line.Line.TheVariants.{Quad};
@@ -32,7 +33,7 @@ fn cell_byte(row: u8, column: u8) -> u8
 /// How many cells of a row are written: those up to the last live one.
 fn row_width(row: u8) -> u8
     ensures within { result ≤ 8 }
-    ensures cells { without_last (λ b. b == 46) (row_cells row) ≡ take result (row_cells row) }
+    ensures cells { without_last (λ b. b == byte ".") (row_cells row) ≡ take result (row_cells row) }
 {
     let mut width = 8;
     while width > 0 {

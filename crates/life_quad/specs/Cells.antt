@@ -1,7 +1,7 @@
 -- The cells of a square on the plane: a square of level k covers the columns and rows from -2^(k-1) to 2^(k-1) - 1.
 use Rattle.std.specs.Prelude.{◌≡◌, ◌≢◌, ◌==◌, ℕ, ◌+◌, ◌⊎◌, if◌then◌else◌, ℤ, pos, neg_ℤ, ◌+ℤ◌, ◌<ℤ◌, ◌≤ℤ◌, List, Contains, AllPairs}
 use Rattle.life_base.specs.declared.cell.Cell.{Cell}
-use Rattle.life_quad.specs.declared.extent.Bounds.{Bounds}
+use Rattle.life_base.specs.declared.bounds.Bounds.{Bounds}
 use Rattle.life_base.specs.Tree.{Tree, point, quad, depth, half_side, tree_cell as cell, IsFull}
 
 -- (x, y) is one of the cells (left, row) to (left + len - 1, row)

@@ -82,7 +82,7 @@ abbrev pub KnownSquaresAreFull : Type 0
 KnownSquaresAreFull =
     (s : Nodes) (id : Id) → Knows s id → IsFull (content s id) × (depth (content s id) ≤ MAX_LEVEL)
 
--- where no node is there twice, two known Ids of one square are equal
+-- where no node is there twice or is that of a small square, two known Ids of one square are equal
 abbrev pub EqualSquaresHaveOneId : Type 0
 EqualSquaresHaveOneId =
     (s : Nodes) → IsShared s → (a b : Id) → Knows s a → Knows s b → content s a ≡ content s b → a ≡ b

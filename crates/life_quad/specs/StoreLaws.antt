@@ -1,4 +1,4 @@
--- Facts about stores of nodes.
+-- Facts about stores of nodes: proofs, for the ghost members of the stores.
 use Rattle.std.proofs.Common.{◌≡◌, length-append, Contains, ◌⊎◌, inl, inr, true≢false, ℕ, suc, ◌+◌, ◌-◌, ◌≤◌, ◌<◌, Bool, true, false, nat_lt, List, [], ◌∷◌, ◌++◌, length, fold, map, None, Some, slice_get, get_or, refl, sym, ◌∙◌, ap, subst, arith}
 use Rattle.std.proofs.lemmas.List.Sums.{fold-append}
 use Rattle.std.proofs.lemmas.List.{get_or_append_left, map_push}

@@ -2,7 +2,6 @@
 #![tactic(auto)]
 
 mod distances;
-mod extent;
 mod id;
 mod id_list;
 mod id_map;
@@ -17,7 +16,6 @@ mod runs;
 mod shared;
 mod squares;
 
-pub use extent::Bounds;
 pub use id::Id;
 pub use id_list::IdList;
 pub use id_numbers::IdNumbers;

@@ -10,8 +10,8 @@ use crate::distances::{Side, least_distance};
 use crate::id_map::IdMap;
 use crate::moves::{Quarters, divide, is_blank_at};
 use crate::runs::half_side;
-use crate::{Bounds, Id, SharedSquares, Squares};
-use life_base::Kind;
+use crate::{Id, SharedSquares, Squares};
+use life_base::{Bounds, Kind};
 use std::alloc::Global;
 
 /// How many cells have a state other than 0. Each shared square is visited once.

@@ -10,7 +10,7 @@ use Rattle.life_rle.specs.declared.item.Item.{Item}
 use Rattle.life_rle.specs.declared.item.Item.TheVariants.{Cells, RowEnds}
 use Rattle.life_rle.specs.Written.{with_gap, with_cell, items_from}
 use Rattle.life_base.specs.declared.rule.Rule.{Rule}
-use Rattle.life_rle.specs.declared.bounds.Bounds.{Bounds}
+use Rattle.life_base.specs.declared.bounds.Bounds.{Bounds}
 use Rattle.life_rle.specs.declared.pen.Pen.{Pen}
 use Rattle.life_rle.specs.Writing.{with_open, way_to, joins, items_text, pen_text, Puts, IsPen, IsGoodCell, IsAhead, Follow, WritesCell, WritesUpTo}
 use Rattle.life_rle.proofs.PutItems.{Puts-then}

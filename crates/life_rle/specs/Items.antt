@@ -3,6 +3,7 @@
 use Rattle.std.specs.Prelude.{◌≡◌, ℕ, List, [], ◌∷◌, drop, take_while, Option, Some, None, if◌then◌else◌, ◌==◌, nat_lt}
 use Rattle.std.specs.Char.{is_ascii_digit}
 use Rattle.std.specs.List.{prefix_len}
+use Rattle.std.specs.Str.{byte}
 use Rattle.life_base.specs.declared.kind.Kind.{Kind}
 use Rattle.life_base.specs.declared.kind.Kind.TheVariants.{ZeroCount, TooLarge, BadItem}
 use Rattle.life_base.specs.Text.{trim_start, value_of}
@@ -34,7 +35,7 @@ cells_of count (Some found) = Spelled (Cells count found.0) found.1
 -- an item with this count, whose `$` or state is in front of the bytes
 abbrev pub item_behind : ℕ → List ℕ → Next
 item_behind count [] = Broken BadItem
-item_behind count (b ∷ bytes) = if b == 36 then Spelled (RowEnds count) bytes else cells_of count (state_at (b ∷ bytes))
+item_behind count (b ∷ bytes) = if b == byte "$" then Spelled (RowEnds count) bytes else cells_of count (state_at (b ∷ bytes))
 
 -- an item with these digits in front; without digits the count is 1, and else from 1 to the width of the plane
 abbrev pub counted : ℕ → List ℕ → List ℕ → Next
@@ -47,7 +48,7 @@ counted level (d ∷ digits) bytes =
 -- what is in front of bytes that begin without whitespace
 abbrev pub item_in : ℕ → List ℕ → Next
 item_in level [] = End
-item_in level (b ∷ bytes) = if b == 33 then Mark else counted level (front_digits (b ∷ bytes)) (behind_digits (b ∷ bytes))
+item_in level (b ∷ bytes) = if b == byte "!" then Mark else counted level (front_digits (b ∷ bytes)) (behind_digits (b ∷ bytes))
 
 -- what stands in the next item's place, whitespace passed over
 abbrev pub next_of : ℕ → List ℕ → Next

@@ -2,6 +2,7 @@
 -- tokens are of Golly Help (File Formats, RLE); the bounds of counts are the project's own.
 use Rattle.std.specs.Prelude.{◌≡◌, ℕ, ◌+◌, ◌*◌, ◌<◌, ◌≤◌, ◌⊎◌, ◌↔◌, true, false, List, [], ◌∷◌, ◌++◌, Option, Some, None, codes}
 use Rattle.std.specs.Char.{is_ascii_digit}
+use Rattle.std.specs.Str.{byte}
 use Rattle.life_base.specs.declared.kind.Kind.{Kind}
 use Rattle.life_base.specs.declared.kind.Kind.TheVariants.{ZeroCount, TooLarge, BadItem}
 use Rattle.life_base.specs.Text.{is_whitespace, is_blank, is_digit_text, value_of}
@@ -43,7 +44,7 @@ abbrev pub ItemsArePlain : Type 0
 ItemsArePlain =
     (level : ℕ) (line : List ℕ) (items : List Item)
     → (Spells level line items End ↔ IsTextOf level line items [])
-    × (Spells level line items Mark ↔ ((free : List ℕ) × IsTextOf level line items (33 ∷ free)))
+    × (Spells level line items Mark ↔ ((free : List ℕ) × IsTextOf level line items (byte "!" ∷ free)))
     × ((item : Item) (rest : List ℕ) → Spells level line items (Spelled item rest) ↔ ((text : List ℕ) × IsItemText level text item × IsTextOf level line items (text ++ rest)))
 
 -- tokens one after another, each with any whitespace behind it, and then these bytes
@@ -84,7 +85,7 @@ HasNoState bytes = ((text rest : List ℕ) (state : ℕ) → IsStateText text st
 -- bytes that begin an item: something, and neither whitespace nor `!` in front
 abbrev pub HasItemPlace : List ℕ → Type 0
 HasItemPlace [] = ⊥
-HasItemPlace (b ∷ bytes) = (is_whitespace b ≡ false) × ((b ≡ 33) → ⊥)
+HasItemPlace (b ∷ bytes) = (is_whitespace b ≡ false) × ((b ≡ byte "!") → ⊥)
 
 -- Which rule the bytes in an item's place break: a count of 0, a count above the width of the plane, or, behind a count or without one,
 -- neither a state nor `$`.

@@ -1,6 +1,7 @@
 -- RLE files, said of whole texts: which lines are a file, and what each of them is put together from. What `!` ends, and what header lines and
 -- items are, is of Golly Help (File Formats, Extended RLE format); the limit of a line, which lines are data, and the plane are the project's own.
 use Rattle.std.specs.Prelude.{◌≡◌, ◌↔◌, ◌⊎◌, ℕ, ◌≤◌, ◌^◌, true, false, List, [], ◌∷◌, ◌++◌, length, ℤ, pos, ◌+ℤ◌, ◌≤ℤ◌, ◌<ℤ◌, Some, None, Ok, codes}
+use Rattle.std.specs.Str.{byte}
 use Rattle.life_base.specs.declared.rule.Rule.{Rule}
 use Rattle.life_base.specs.Rules.{rule_of, default_rule}
 use Rattle.life_base.specs.Text.{is_blank, begins_with}
@@ -47,7 +48,7 @@ IsBodyLine level line items = IsShort line × ((IsComment line × (items ≡ [])
 
 -- the line with `!`: the texts of these items in front of it, and anything behind it
 abbrev pub IsLastLine : ℕ → List ℕ → List Item → Type 0
-IsLastLine level line items = IsShort line × IsData line × ((free : List ℕ) × IsTextOf level line items (33 ∷ free))
+IsLastLine level line items = IsShort line × IsData line × ((free : List ℕ) × IsTextOf level line items (byte "!" ∷ free))
 
 -- lines behind the header, of these items together
 abbrev pub AreBody : ℕ → List (List ℕ) → List Item → Type 0

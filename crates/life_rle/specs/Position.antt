@@ -2,6 +2,7 @@
 -- order and the defaults are the project's own.
 use Rattle.std.specs.Prelude.{ℕ, Bool, ◌&&◌, List, [], ◌∷◌, take, drop, ℤ, pos, neg_ℤ, Option, Some, None, Result, Ok, Err, if◌then◌else◌, ◌==◌, codes}
 use Rattle.std.specs.List.{before_first, after_first}
+use Rattle.std.specs.Str.{byte}
 use Rattle.life_base.specs.declared.kind.Kind.{Kind}
 use Rattle.life_base.specs.declared.kind.Kind.TheVariants.{BadNumber, OutOfPlane}
 use Rattle.life_base.specs.Text.{is_blank, is_digit_text, value_of, begins_with, words_of}
@@ -42,7 +43,7 @@ corner_of level (Some x) None = Err BadNumber
 
 -- the corner that a text gives: two numbers with a comma between them
 abbrev pub corner_in : ℕ → List ℕ → Result Field Kind
-corner_in level text = corner_of level (signed_number (before_first (λ b. b == 44) text)) (signed_number (after_first (λ b. b == 44) text))
+corner_in level text = corner_of level (signed_number (before_first (λ b. b == byte ",") text)) (signed_number (after_first (λ b. b == byte ",") text))
 
 -- what one field gives: `Pos=` with a corner, `Gen=` with a generation below 2 ^ 64, or any other text
 abbrev pub field_of : ℕ → List ℕ → Result Field Kind

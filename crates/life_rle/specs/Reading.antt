@@ -1,10 +1,11 @@
 -- What a reader keeps while it goes over the items of a line.
 use Rattle.std.specs.Prelude.{◌≡◌, ℕ, Bool, true, false, ◌==◌, ◌||◌, List, ◌++◌, Option, Some, None, ℤ}
+use Rattle.std.specs.Str.{byte}
 use Rattle.life_base.specs.declared.kind.Kind.{Kind}
 use Rattle.life_base.specs.declared.rule.Rule.{Rule}
 use Rattle.life_rle.specs.declared.item.Item.{Item}
-use Rattle.life_rle.specs.declared.item.Found.{Found}
-use Rattle.life_rle.specs.declared.item.Found.TheVariants as found
+use Rattle.life_rle.specs.declared.item.Token.{Token}
+use Rattle.life_rle.specs.declared.item.Token.TheVariants as found
 use Rattle.life_rle.specs.declared.cursor.Cursor.{Cursor}
 use Rattle.life_rle.specs.declared.file.Run.{Run}
 use Rattle.life_rle.specs.Items.{Next, End, Mark, Spelled, Broken, Spells}
@@ -15,10 +16,10 @@ use Rattle.life_rle.specs.Cursor.{IsNear, moved_behind, placed_at}
 
 -- the bytes that most items end with: `b`, `o` and `$`
 abbrev pub is_short : ℕ → Bool
-is_short b = b == 98 || b == 111 || b == 36
+is_short b = b == byte "b" || b == byte "o" || b == byte "$"
 
 -- what was found in an item's place
-abbrev pub next_value : Found → Next
+abbrev pub next_value : Token → Next
 next_value found.Nothing = End
 next_value found.Mark = Mark
 next_value (found.Spelled item rest) = Spelled item rest.now

@@ -1,6 +1,7 @@
 -- The runs of an RLE file: its items of nonzero state. The project's own; the texts of states are of Golly Help (File Formats, Extended RLE
 -- format).
 use Rattle.std.specs.Prelude.{ℕ, Bool, ◌==◌, ◌||◌, ◌&&◌, nat_le, zero, suc, List, [], ◌∷◌, ℤ}
+use Rattle.std.specs.Str.{byte}
 use Rattle.life_rle.specs.declared.file.Run.{Run}
 use Rattle.life_rle.specs.declared.item.Item.{Item}
 use Rattle.life_rle.specs.declared.item.Item.TheVariants.{Cells, RowEnds}
@@ -19,4 +20,4 @@ runs_of (p ∷ ps) = with_run p.row p.column p.item (runs_of ps)
 
 -- the last byte of the text of a nonzero state: `o`, or `A` to `X`
 abbrev pub is_run_end : ℕ → Bool
-is_run_end b = b == 111 || (nat_le 65 b && nat_le b 88)
+is_run_end b = b == byte "o" || (nat_le (byte "A") b && nat_le b (byte "X"))

@@ -1,24 +1,25 @@
 -- The states of cells as texts (Golly Help, File Formats, Extended RLE).
-use Rattle.std.specs.Prelude.{ℕ, ◌+◌, ◌-◌, ◌*◌, ◌/◌, ◌%◌, Bool, ◌&&◌, ◌||◌, List, [], ◌∷◌, Option, Some, None, if◌then◌else◌, ◌==◌, nat_le}
+use Rattle.std.specs.Prelude.{ℕ, ◌+◌, ◌-◌, ◌*◌, ◌/◌, ◌%◌, Bool, ◌&&◌, ◌||◌, List, [], ◌∷◌, Option, Some, None, if◌then◌else◌, ◌==◌, nat_le, codes}
+use Rattle.std.specs.Str.{byte}
 use Rattle.life_base.specs.declared.rule.Rule.{Rule}
 use Rattle.life_base.specs.declared.rule.Rule.TheVariants.{Life, Named}
 
 -- the state that one byte names: `b` and `.` are 0, `o` is 1, `A` to `X` are 1 to 24
 abbrev pub single_state : ℕ → Option ℕ
 single_state b =
-    if b == 98 || b == 46 then Some 0
-    else if b == 111 then Some 1
-    else if nat_le 65 b && nat_le b 88 then Some (b - 64)
+    if b == byte "b" || b == byte "." then Some 0
+    else if b == byte "o" then Some 1
+    else if nat_le (byte "A") b && nat_le b (byte "X") then Some (b - byte "@")
     else None
 
 -- 24 times the place of the prefix from `p` on, and the place of the letter, both counted from 1
 abbrev pub prefixed_number : ℕ → ℕ → ℕ
-prefixed_number prefix letter = 24 * (prefix - 111) + (letter - 64)
+prefixed_number prefix letter = 24 * (prefix - byte "o") + (letter - byte "@")
 
 -- the state that a prefix `p` to `y` and a letter `A` to `X` name, if it is no more than 255
 abbrev pub prefixed_state : ℕ → ℕ → Option ℕ
 prefixed_state prefix letter =
-    if (nat_le 112 prefix && nat_le prefix 121) && (nat_le 65 letter && nat_le letter 88) && nat_le (prefixed_number prefix letter) 255
+    if (nat_le (byte "p") prefix && nat_le prefix (byte "y")) && (nat_le (byte "A") letter && nat_le letter (byte "X")) && nat_le (prefixed_number prefix letter) 255
     then Some (prefixed_number prefix letter) else None
 
 -- a state and the bytes behind it
@@ -45,7 +46,7 @@ is_state_of (Named name) state = nat_le state 255
 -- the text of a state under a name: `.`, a letter, or a prefix and a letter
 abbrev pub lettered : ℕ → List ℕ
 lettered n =
-    if n == 0 then 46 ∷ []
+    if n == 0 then codes "."
     else if nat_le n 24 then (64 + n) ∷ []
     else (111 + (n - 1) / 24) ∷ (65 + (n - 1) % 24) ∷ []
 

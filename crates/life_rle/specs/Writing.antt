@@ -1,12 +1,12 @@
 -- What the writer has still to write.
-use Rattle.std.specs.Prelude.{◌≡◌, ℕ, ◌+◌, ◌≤◌, ◌<◌, ◌⊎◌, List, [], ◌∷◌, ◌++◌, length, map, Bool, ◌&&◌, true, ℤ, pos, neg_ℤ, ◌+ℤ◌, ◌-ℤ◌, ◌≤ℤ◌, ◌<ℤ◌, nat_abs, if◌then◌else◌, ◌==◌, nat_le}
+use Rattle.std.specs.Prelude.{◌≡◌, ℕ, ◌+◌, ◌≤◌, ◌<◌, ◌⊎◌, List, [], ◌∷◌, ◌++◌, length, map, Bool, ◌&&◌, true, ℤ, pos, neg_ℤ, ◌+ℤ◌, ◌-ℤ◌, ◌≤ℤ◌, ◌<ℤ◌, nat_abs, if◌then◌else◌, ◌==◌, nat_le, codes}
 use Rattle.std.specs.Ordering.{int_eq}
 use Rattle.life_base.specs.declared.cell.Cell.{Cell}
 use Rattle.life_base.specs.declared.cell.TheConstants.{MAX_LEVEL}
 use Rattle.life_base.specs.declared.rule.Rule.{Rule}
 use Rattle.life_rle.specs.declared.item.Item.{Item}
 use Rattle.life_rle.specs.declared.item.Item.TheVariants.{Cells, RowEnds}
-use Rattle.life_rle.specs.declared.bounds.Bounds.{Bounds}
+use Rattle.life_base.specs.declared.bounds.Bounds.{Bounds}
 use Rattle.life_rle.specs.declared.pen.Pen.{Pen}
 use Rattle.life_rle.specs.Plane.{edge}
 use Rattle.life_rle.specs.States.{is_state_of, state_text}
@@ -15,11 +15,11 @@ use Rattle.life_rle.specs.Written.{with_gap, item_text, items_from, joined, box_
 -- the text of an item without its count
 abbrev pub tag_text : Rule → Item → List ℕ
 tag_text rule (Cells count state) = state_text rule state
-tag_text rule (RowEnds count) = 36 ∷ []
+tag_text rule (RowEnds count) = codes "$"
 
 -- the line feed in front of a text of this length that doesn't fit on the line
 abbrev pub feed : ℕ → ℕ → List ℕ
-feed used len = if nat_le (used + len) 70 then [] else 10 ∷ []
+feed used len = if nat_le (used + len) 70 then [] else codes "\n"
 
 -- how many bytes the line has behind such a text
 abbrev pub used_behind : ℕ → ℕ → ℕ
@@ -27,12 +27,12 @@ used_behind used len = if nat_le (used + len) 70 then used + len else len
 
 -- texts and the last line feed, from a line on that has some bytes
 abbrev pub text_from : ℕ → List (List ℕ) → List ℕ
-text_from used [] = 10 ∷ []
+text_from used [] = codes "\n"
 text_from used (text ∷ texts) = feed used (length text) ++ (text ++ text_from (used_behind used (length text)) texts)
 
 -- items and `!`, from such a line on
 abbrev pub items_text : Rule → ℕ → List Item → List ℕ
-items_text rule used items = text_from used (map (item_text rule) items ++ (33 ∷ []) ∷ [])
+items_text rule used items = text_from used (map (item_text rule) items ++ codes "!" ∷ [])
 
 -- these items were written, whatever items follow
 pub record Puts (rule : Rule) (used : ℕ) (items : List Item) (old : List ℕ) (next : ℕ) (new : List ℕ) : Type 0 where

@@ -8,7 +8,7 @@ use Rattle.life_base.specs.declared.cell.Cell.{Cell}
 use Rattle.life_base.specs.declared.rule.Rule.{Rule}
 use Rattle.life_base.specs.Rules.{rule_text}
 use Rattle.life_rle.specs.States.{state_text}
-use Rattle.life_rle.specs.declared.bounds.Bounds.{Bounds}
+use Rattle.life_base.specs.declared.bounds.Bounds.{Bounds}
 use Rattle.life_rle.specs.declared.item.Item.{Item}
 use Rattle.life_rle.specs.declared.item.Item.TheVariants.{Cells, RowEnds}
 
@@ -56,7 +56,7 @@ count_text n = if n == 1 then [] else decimal n
 
 abbrev pub item_text : Rule → Item → List ℕ
 item_text rule (Cells count state) = count_text count ++ state_text rule state
-item_text rule (RowEnds count) = count_text count ++ 36 ∷ []
+item_text rule (RowEnds count) = count_text count ++ codes "$"
 
 -- texts on lines: a text goes on the current line if the line then has at most 70 bytes, else it begins the next line
 abbrev pub wrapped : List ℕ → List (List ℕ) → List (List ℕ)
@@ -65,7 +65,7 @@ wrapped line (text ∷ texts) = if nat_le (length line + length text) 70 then wr
 
 -- the lines of the items, with `!` behind them
 abbrev pub item_lines : Rule → List Item → List (List ℕ)
-item_lines rule items = wrapped [] (map (item_text rule) items ++ (33 ∷ []) ∷ [])
+item_lines rule items = wrapped [] (map (item_text rule) items ++ codes "!" ∷ [])
 
 -- ` Gen=G`, if the generation isn't 0
 abbrev pub generation_text : ℕ → List ℕ
@@ -96,4 +96,4 @@ rle_lines rule generation (c ∷ cells) = lines_in_box rule generation (box_of c
 
 -- each line ended by a line feed
 abbrev pub rle_text : Rule → ℕ → List Cell → List ℕ
-rle_text rule generation cells = flat_map (λ line. line ++ 10 ∷ []) (rle_lines rule generation cells)
+rle_text rule generation cells = flat_map (λ line. line ++ codes "\n") (rle_lines rule generation cells)

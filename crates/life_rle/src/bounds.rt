@@ -4,16 +4,7 @@ ghost use Rattle.std.specs.Prelude.{◌≡◌};
 ghost use Rattle.std.specs.Int.{int_min, int_max};
 ghost use Rattle.life_rle.specs.Written.{box_of, box_of_cell};
 
-use life_base::Cell;
-
-/// The first and the last column and row of a box.
-#[derive(Clone, Copy, Debug, PartialEq, Eq)]
-pub struct Bounds {
-    pub left: i64,
-    pub top: i64,
-    pub right: i64,
-    pub bottom: i64,
-}
+use life_base::{Bounds, Cell};
 
 /// The box of one cell.
 fn bounds_of_cell(cell: &Cell) -> Bounds

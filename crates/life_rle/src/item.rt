@@ -2,6 +2,7 @@
 
 ghost use Rattle.std.specs.Prelude.{◌≡◌, ◌∷◌, ◌==◌, ◌||◌, nat_le, ℕ, List, true, IfSome, IsSome};
 ghost use Rattle.std.specs.Option.{option_map};
+ghost use Rattle.std.specs.Str.{byte};
 ghost use Rattle.life_base.specs.Digits.{capped};
 ghost use Rattle.life_base.specs.Text.{is_digit_text, value_of};
 ghost use Rattle.life_rle.specs.States.{single_state, prefixed_state, state_at};
@@ -19,7 +20,7 @@ pub enum Item {
 }
 
 /// What stands in an item's place: nothing, the mark `!`, an item and the bytes behind it, or neither.
-pub(crate) enum Found<'a> {
+pub(crate) enum Token<'a> {
     Nothing,
     Mark,
     Spelled(Item, &'a [u8]),
@@ -68,28 +69,28 @@ fn state_at(bytes: &[u8]) -> Option<(State, &[u8])>
 }
 
 /// The item with this count, whose `$` or state is in front of the bytes.
-fn item_behind(count: u64, bytes: &[u8]) -> Found<'_>
+fn item_behind(count: u64, bytes: &[u8]) -> Token<'_>
     ensures { next_value result ≡ item_behind count bytes.now }
 {
     match bytes {
-        [] => Found::Broken(Kind::BadItem),
-        [b'$', rest @ ..] => Found::Spelled(Item::RowEnds { count }, rest),
+        [] => Token::Broken(Kind::BadItem),
+        [b'$', rest @ ..] => Token::Spelled(Item::RowEnds { count }, rest),
         _ => match state_at(bytes) {
-            Some((state, rest)) => Found::Spelled(Item::Cells { count, state }, rest),
-            None => Found::Broken(Kind::BadItem),
+            Some((state, rest)) => Token::Spelled(Item::Cells { count, state }, rest),
+            None => Token::Broken(Kind::BadItem),
         },
     }
 }
 
 /// The item with a count that digits write.
-fn counted_item(count: u64, bytes: &[u8]) -> Found<'_>
+fn counted_item(count: u64, bytes: &[u8]) -> Token<'_>
     ensures { (digits : List ℕ) → is_digit_text digits ≡ true → count ≡ capped (value_of digits) → next_value result ≡ counted MAX_LEVEL digits bytes.now }
 {
     if count == 0 {
-        return Found::Broken(Kind::ZeroCount);
+        return Token::Broken(Kind::ZeroCount);
     }
     if count > MOST_COUNT {
-        return Found::Broken(Kind::TooLarge);
+        return Token::Broken(Kind::TooLarge);
     }
     item_behind(count, bytes)
 }
@@ -139,14 +140,14 @@ fn short_item_at(bytes: &[u8]) -> Option<(Item, &[u8])>
 }
 
 /// Whether a byte, of those that a state may begin with, is a letter or `.`: neither whitespace nor `!` nor a digit.
-fn is_letter_or_dot(byte: u8) -> bool
-    ensures { result ≡ (nat_le 65 byte || byte == 46) }
+fn is_letter_or_dot(first: u8) -> bool
+    ensures { result ≡ (nat_le (byte "A") first || first == byte ".") }
 {
-    byte >= b'A' || byte == b'.'
+    first >= b'A' || first == b'.'
 }
 
 /// What stands in an item's place where that is a digit from 1 to 9 and a state.
-fn digit_and_state(digit: u8, bytes: &[u8]) -> Option<Found<'_>>
+fn digit_and_state(digit: u8, bytes: &[u8]) -> Option<Token<'_>>
     ensures { IfSome result (λ found. next_value found ≡ next_of MAX_LEVEL (digit ∷ bytes.now)) }
 {
     let [first, ..] = bytes else {
@@ -159,7 +160,7 @@ fn digit_and_state(digit: u8, bytes: &[u8]) -> Option<Found<'_>>
 }
 
 /// What stands in an item's place where that is a state, or a digit from 1 to 9 and a state.
-fn state_item_at(bytes: &[u8]) -> Option<Found<'_>>
+fn state_item_at(bytes: &[u8]) -> Option<Token<'_>>
     ensures { IfSome result (λ found. next_value found ≡ next_of MAX_LEVEL bytes.now) }
 {
     let [first, rest @ ..] = bytes else {
@@ -172,11 +173,11 @@ fn state_item_at(bytes: &[u8]) -> Option<Found<'_>>
 }
 
 /// What stands in the next item's place.
-pub(crate) fn next_item(bytes: &[u8]) -> Found<'_>
+pub(crate) fn next_item(bytes: &[u8]) -> Token<'_>
     ensures { next_value result ≡ next_of MAX_LEVEL bytes.now }
 {
     if let Some((item, rest)) = short_item_at(bytes) {
-        return Found::Spelled(item, rest);
+        return Token::Spelled(item, rest);
     }
     match state_item_at(bytes) {
         Some(found) => found,
@@ -185,15 +186,15 @@ pub(crate) fn next_item(bytes: &[u8]) -> Found<'_>
 }
 
 /// The same of any item.
-fn any_item(bytes: &[u8]) -> Found<'_>
+fn any_item(bytes: &[u8]) -> Token<'_>
     ensures { next_value result ≡ next_of MAX_LEVEL bytes.now }
 {
     let text = trimmed_start(bytes);
     if text.is_empty() {
-        return Found::Nothing;
+        return Token::Nothing;
     }
     if text[0] == b'!' {
-        return Found::Mark;
+        return Token::Mark;
     }
     let (count, digits) = leading_number(text);
     if digits == 0 {

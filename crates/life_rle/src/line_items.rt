@@ -2,6 +2,7 @@
 
 ghost use Rattle.std.specs.Prelude.{◌≡◌, ◌≤◌, ◌+◌, ◌⊎◌, ◌++◌, ◌==◌, not, [], Some, None, IfOk, IfErr, OnOk, OnErr, length, filter, position, take_while};
 ghost use Rattle.std.specs.Vec.{vec_len, vec_capacity};
+ghost use Rattle.std.specs.Str.{byte};
 ghost use Rattle.life_rle.specs.Plane.{most_count};
 ghost use Rattle.life_rle.specs.Pattern.{item_fault};
 ghost use Rattle.life_rle.specs.Runs.{with_run, is_run_end};
@@ -11,7 +12,7 @@ ghost use Rattle.life_rle.specs.Reading.{ReadsItems, last_of, ItemsBreak};
 
 use crate::cursor::{Cursor, item_fault, moved};
 use crate::file::Run;
-use crate::item::{Found, Item, next_item};
+use crate::item::{Item, Token, next_item};
 use bstr::ByteSlice;
 use life_base::{Kind, MAX_LEVEL, Rule};
 
@@ -24,14 +25,14 @@ pub(crate) struct ItemsRead {
 
 /// Where the first `!` stands.
 fn mark_place(line: &[u8]) -> Option<usize>
-    ensures { result ≡ position (λ b. b == 33) line.now }
+    ensures { result ≡ position (λ b. b == byte "!") line.now }
 {
     line.find_byte(b'!')
 }
 
 /// The bytes of a line in front of its first `!`.
 fn before_mark(line: &[u8]) -> &[u8]
-    ensures { result.now ≡ take_while (λ b. not (b == 33)) line.now }
+    ensures { result.now ≡ take_while (λ b. not (b == byte "!")) line.now }
 {
     match mark_place(line) {
         Some(end) => &line[..end],
@@ -60,7 +61,7 @@ fn run_ends(text: &[u8]) -> usize
 /// Makes room for the runs of a line, so that it takes memory once at most. Where there is room for a run at each byte they aren't counted.
 fn reserve_runs(line: &[u8], runs: &mut Vec<Run>) -> Result<(), Kind>
     ensures runs { runs.new.items ≡ runs.old.items }
-    ensures room { OnOk result (vec_len runs.old + length (filter is_run_end (take_while (λ b. not (b == 33)) line.now)) ≤ vec_capacity runs.new) }
+    ensures room { OnOk result (vec_len runs.old + length (filter is_run_end (take_while (λ b. not (b == byte "!")) line.now)) ≤ vec_capacity runs.new) }
     ensures memory { IfErr result (λ kind. kind ≡ Kind.Memory) }
 {
     if runs.capacity() - runs.len() < line.len() {
@@ -126,20 +127,20 @@ pub(crate) fn read_items(
     let mut rest = line;
     loop {
         match next_item(rest) {
-            Found::Nothing => {
+            Token::Nothing => {
                 return Ok(ItemsRead {
                     cursor,
                     marked: false,
                 });
             }
-            Found::Mark => {
+            Token::Mark => {
                 return Ok(ItemsRead {
                     cursor,
                     marked: true,
                 });
             }
-            Found::Broken(kind) => return Err(kind),
-            Found::Spelled(item, behind) => {
+            Token::Broken(kind) => return Err(kind),
+            Token::Spelled(item, behind) => {
                 cursor = take_item(rule, cursor, item, runs)?;
                 rest = behind;
             }

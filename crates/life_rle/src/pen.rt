@@ -6,10 +6,9 @@ ghost use Rattle.life_rle.specs.Plane.{edge};
 ghost use Rattle.life_rle.specs.Written.{items_from};
 ghost use Rattle.life_rle.specs.Writing.{Puts, IsPen, IsGoodCell, IsAhead, Follow, joins, way_to, pen_text, items_text, WritesCell};
 
-use crate::bounds::Bounds;
 use crate::item::Item;
 use crate::wrapping::{put_gap, put_item, put_mark};
-use life_base::{Cell, Kind, MAX_LEVEL, Rule, State};
+use life_base::{Bounds, Cell, Kind, MAX_LEVEL, Rule, State};
 
 /// Where the writer is: the column at which rows begin, the bytes on the last line, and the run that isn't written yet, with the
 /// place behind it.

@@ -7,11 +7,11 @@ ghost use Rattle.life_rle.specs.Sorted.{are_sorted_cells};
 ghost use Rattle.life_rle.specs.Written.{generation_text, position_text, header_text, rle_text, span};
 ghost use Rattle.life_rle.specs.Writing.{IsInPlane};
 
-use crate::bounds::{Bounds, bounds_of};
+use crate::bounds::bounds_of;
 use crate::pen::write_cells;
 use crate::position::Position;
 use crate::wrapping::put_mark;
-use life_base::{Cell, Fault, Kind, MAX_LEVEL, Rule, append, append_number, append_signed};
+use life_base::{Bounds, Cell, Fault, Kind, MAX_LEVEL, Rule, append, append_number, append_signed};
 use std::alloc::Global;
 
 /// Adds a generation at the end, if it isn't 0.

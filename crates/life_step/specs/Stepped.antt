@@ -1,6 +1,7 @@
 -- One generation of a pattern, and the text of the next one. A B/S rule is of Golly Help (QuickLife), a rule table of Golly Help (File
 -- Formats, rule table).
-use Rattle.std.specs.Prelude.{◌≡◌, ℕ, ◌+◌, List, ℤ}
+use Rattle.std.specs.Prelude.{◌≡◌, ℕ, ◌+◌, List, ℤ, None}
+use Rattle.life_base.specs.declared.cell.TheConstants.{MAX_LEVEL}
 use Rattle.life_base.specs.Sets.{OuterTotalistic}
 use Rattle.life_base.specs.declared.rule.Rule.TheVariants.{Life, Named}
 use Rattle.life_table.specs.Meaning.{Becomes}
@@ -9,6 +10,7 @@ use Rattle.life_sweep.specs.Generation.{next_life, AnswersAt}
 use Rattle.life_canon.specs.Files.{Reads}
 use Rattle.life_canon.specs.Listing.{canon_text}
 use Rattle.life_canon.specs.Universe.{Universe, IsSame}
+use Rattle.life_step.specs.Refusals.{LifeRefusal, TableRefusal}
 
 -- the next generation of a pattern under a B/S rule
 pub record IsLifeStep (before after : Universe) : Type 0 where
@@ -38,3 +40,12 @@ pub record Stepped (top : ℕ) (Step : Universe → Universe → Type 0) (text :
   pub step : Step before after
   pub reads : Reads top text after
   pub canonical : text ≡ canon_text top after
+
+-- the bytes are a file whose pattern has a next generation under its B/S rule, and the text is the canonical text of that
+abbrev pub IsStepped : List ℕ → List ℕ → Type 0
+IsStepped bytes text = (u : Universe) × Reads MAX_LEVEL bytes u × LifeRefusal MAX_LEVEL u None × Stepped MAX_LEVEL IsLifeStep text u
+
+-- the same by a table
+abbrev pub IsSteppedBy : Table → List ℕ → List ℕ → Type 0
+IsSteppedBy table bytes text =
+    (u : Universe) × Reads MAX_LEVEL bytes u × TableRefusal MAX_LEVEL table u None × Stepped MAX_LEVEL (IsTableStep table) text u

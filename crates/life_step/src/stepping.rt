@@ -13,7 +13,7 @@ ghost use Rattle.life_mc.specs.Macrocell.{largest_state};
 ghost use Rattle.life_quad.specs.Refused.{SomeTrimmed};
 ghost use Rattle.life_step.specs.Needed.{LacksForLife, LacksForTable};
 ghost use Rattle.life_step.specs.Refusals.{LifeRefusal, TableRefusal};
-ghost use Rattle.life_step.specs.Stepped.{IsLifeStep, IsTableStep, IsTextOf, Stepped};
+ghost use Rattle.life_step.specs.Stepped.{IsStepped, IsSteppedBy, IsTextOf};
 
 use life_base::{Fault, Kind, MAX_LEVEL, Rule};
 use life_block::next_life_generation;
@@ -98,7 +98,7 @@ fn text_of_square(
 /// named, so a caller that goes on with the pattern keeps its root and its generation, and a copy of its rule.
 pub fn next_by_rule(alloc: Global, store: &mut Shared, pattern: Pattern) -> Result<Vec<u8>, Fault>
     requires { IsOfFile MAX_LEVEL store.old pattern }
-    ensures stepped { IfOk result (λ text. (bytes : List ℕ) → IsRead MAX_LEVEL bytes store.old pattern → (u : Universe) × Reads MAX_LEVEL bytes u × LifeRefusal MAX_LEVEL u None × Stepped MAX_LEVEL IsLifeStep text.items u) }
+    ensures stepped { IfOk result (λ text. (bytes : List ℕ) → IsRead MAX_LEVEL bytes store.old pattern → IsStepped bytes text.items) }
     ensures refused { IfErr result (λ fault. IsWant store.new fault ⊎ ((bytes : List ℕ) → IsRead MAX_LEVEL bytes store.old pattern → (u : Universe) × Reads MAX_LEVEL bytes u × LifeRefusal MAX_LEVEL u (Some fault))) }
     ensures needed { result ≡ Err (fault_of Kind.Full) → LacksForLife pattern.rule (content store.old pattern.root) store.new }
     ensures keeps { Keeps store.old store.new }
@@ -123,7 +123,7 @@ pub fn next_by_rule(alloc: Global, store: &mut Shared, pattern: Pattern) -> Resu
 /// `Full` where the store holds its limit, and `Memory`. All but the file's fault name no line. After a fault too each Id of the store
 /// names the square that it named, and nothing stored is gone.
 pub fn step_life(alloc: Global, store: &mut Shared, bytes: &[u8]) -> Result<Vec<u8>, Fault>
-    ensures stepped { IfOk result (λ text. (u : Universe) × Reads MAX_LEVEL bytes.now u × LifeRefusal MAX_LEVEL u None × Stepped MAX_LEVEL IsLifeStep text.items u) }
+    ensures stepped { IfOk result (λ text. IsStepped bytes.now text.items) }
     ensures refused { IfErr result (λ fault. Refuses MAX_LEVEL bytes.now fault ⊎ (IsWant store.new fault ⊎ ((u : Universe) × Reads MAX_LEVEL bytes.now u × LifeRefusal MAX_LEVEL u (Some fault)))) }
     ensures needed { result ≡ Err (fault_of Kind.Full) → LacksFor MAX_LEVEL bytes.now store.new ⊎ ((u : Universe) × Reads MAX_LEVEL bytes.now u × LacksForLife u.rule (whole MAX_LEVEL u) store.new) }
     ensures keeps { Keeps store.old store.new }
@@ -144,7 +144,7 @@ pub fn next_by_table(
     table: &Table,
 ) -> Result<Vec<u8>, Fault>
     requires { IsOfFile MAX_LEVEL store.old pattern }
-    ensures stepped { IfOk result (λ text. (bytes : List ℕ) → IsRead MAX_LEVEL bytes store.old pattern → (u : Universe) × Reads MAX_LEVEL bytes u × TableRefusal MAX_LEVEL table.now u None × Stepped MAX_LEVEL (IsTableStep table.now) text.items u) }
+    ensures stepped { IfOk result (λ text. (bytes : List ℕ) → IsRead MAX_LEVEL bytes store.old pattern → IsSteppedBy table.now bytes text.items) }
     ensures refused { IfErr result (λ fault. IsWant store.new fault ⊎ ((bytes : List ℕ) → IsRead MAX_LEVEL bytes store.old pattern → (u : Universe) × Reads MAX_LEVEL bytes u × TableRefusal MAX_LEVEL table.now u (Some fault))) }
     ensures needed { result ≡ Err (fault_of Kind.Full) → LacksForTable table.now pattern.rule (content store.old pattern.root) store.new }
     ensures keeps { Keeps store.old store.new }
@@ -178,7 +178,7 @@ pub fn step_table(
     bytes: &[u8],
     table: &Table,
 ) -> Result<Vec<u8>, Fault>
-    ensures stepped { IfOk result (λ text. (u : Universe) × Reads MAX_LEVEL bytes.now u × TableRefusal MAX_LEVEL table.now u None × Stepped MAX_LEVEL (IsTableStep table.now) text.items u) }
+    ensures stepped { IfOk result (λ text. IsSteppedBy table.now bytes.now text.items) }
     ensures refused { IfErr result (λ fault. Refuses MAX_LEVEL bytes.now fault ⊎ (IsWant store.new fault ⊎ ((u : Universe) × Reads MAX_LEVEL bytes.now u × TableRefusal MAX_LEVEL table.now u (Some fault)))) }
     ensures needed { result ≡ Err (fault_of Kind.Full) → LacksFor MAX_LEVEL bytes.now store.new ⊎ ((u : Universe) × Reads MAX_LEVEL bytes.now u × LacksForTable table.now u.rule (whole MAX_LEVEL u) store.new) }
     ensures keeps { Keeps store.old store.new }

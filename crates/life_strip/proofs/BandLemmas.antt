@@ -6,7 +6,7 @@ use Rattle.life_quad.specs.declared.id.Id.{Id}
 use Rattle.life_quad.specs.Store.{two, four}
 use Rattle.life_base.specs.Tree.{Tree, quad, depth, blank}
 use Rattle.life_strip.specs.declared.spans.Span.{Span}
-use Rattle.life_strip.specs.declared.spans.Found.{Found}
+use Rattle.life_strip.specs.declared.spans.Stretch.{Stretch}
 use Rattle.life_strip.specs.Strip.{id_at, square_or_blank, square_at, quad_at, IsStrip, IsFound, IsBefore, IsNearer, AreWithin}
 use Rattle.life_strip.specs.declared.words.Words.{Words}
 use Rattle.life_strip.specs.Band.{four_at, cell_in, IsWord, west_at, east_at, cells_at, Covers, IsExtended, FilledTo}
@@ -158,7 +158,7 @@ four-keeps {knows} {knows'} {old} {now} keeps a b c d ka kb kc kd column =
 -- two squares of two rows go on
 module _ (knows : Id → Type 0) (content : Id → Tree) (blank_id : Id) (known : knows blank_id) (is_blank : content blank_id ≡ blank 0) where
   two-same : (upper lower : List Span) → IsStrip knows content 0 upper → IsStrip knows content 0 lower
-      → (column c : ℕ) (n s : Found) → IsFound upper (4 * column) blank_id n → IsFound lower (4 * column) blank_id s → column < c → IsBefore (4 * c + 3) n.end → IsBefore (4 * c + 3) s.end
+      → (column c : ℕ) (n s : Stretch) → IsFound upper (4 * column) blank_id n → IsFound lower (4 * column) blank_id s → column < c → IsBefore (4 * c + 3) n.end → IsBefore (4 * c + 3) s.end
       → (quad_at content 0 upper lower (2 * c) ≡ quad_at content 0 upper lower (2 * column)) × (quad_at content 0 upper lower (2 * c + 1) ≡ quad_at content 0 upper lower (2 * column + 1))
   two-same upper lower u l column c n s hn hs lt le me =
       let twice : 4 * column ≡ 2 * (2 * column) = omega arith in
@@ -169,7 +169,7 @@ module _ (knows : Id → Type 0) (content : Id → Tree) (blank_id : Id) (known 
       (at (2 * c) (omega (arith, lt)) (omega arith), at (2 * c + 1) (omega (arith, lt)) (omega arith) ∙ sym (at (2 * column + 1) (omega arith) (omega (arith, lt))))
 
   pub four-same : (a b c d : List Span) → IsStrip knows content 0 a → IsStrip knows content 0 b → IsStrip knows content 0 c → IsStrip knows content 0 d
-      → (column x : ℕ) (fa fb fc fd : Found) → IsFound a (4 * column) blank_id fa → IsFound b (4 * column) blank_id fb → IsFound c (4 * column) blank_id fc → IsFound d (4 * column) blank_id fd
+      → (column x : ℕ) (fa fb fc fd : Stretch) → IsFound a (4 * column) blank_id fa → IsFound b (4 * column) blank_id fb → IsFound c (4 * column) blank_id fc → IsFound d (4 * column) blank_id fd
       → column < x → IsBefore (4 * x + 3) fa.end → IsBefore (4 * x + 3) fb.end → IsBefore (4 * x + 3) fc.end → IsBefore (4 * x + 3) fd.end
       → four_at content a b c d x ≡ four_at content a b c d column
   four-same a b c d ka kb kc kd column x fa fb fc fd ha hb hc hd lt la lb lc ld =
@@ -235,7 +235,7 @@ pub fourth-side : 2 ^ (MAX_LEVEL - 0) ≡ 4 * 2 ^ (MAX_LEVEL - 2)
 fourth-side = omega arith
 
 pub nearest-within : (a b c d : List Span) → AreWithin 0 a → AreWithin 0 b → AreWithin 0 c → AreWithin 0 d
-    → (column : ℕ) (i : Id) (fa fb fc fd : Found) (end : ℕ) → IsFound a column i fa → IsFound b column i fb → IsFound c column i fc → IsFound d column i fd
+    → (column : ℕ) (i : Id) (fa fb fc fd : Stretch) (end : ℕ) → IsFound a column i fa → IsFound b column i fb → IsFound c column i fc → IsFound d column i fd
     → IsNearest end fa.end fb.end fc.end fd.end → end ≤ 4 * 2 ^ (MAX_LEVEL - 2)
 nearest-within a b c d wa wb wc wd column i fa fb fc fd end ha hb hc hd near = by near.one
   where
@@ -247,17 +247,17 @@ nearest-within a b c d wa wb wc wd column i fa fb fc fd end ha hb hc hd near = b
 
 -- where no span is left all is blank
 module _ (content : Id → Tree) (column : ℕ) (i : Id) where
-  none-blank : (r : List Span) (f : Found) → IsFound r (4 * column) i f → f.end ≡ None → (c : ℕ) → 4 * column ≤ c → square_at content 0 r c ≡ blank 0
+  none-blank : (r : List Span) (f : Stretch) → IsFound r (4 * column) i f → f.end ≡ None → (c : ℕ) → 4 * column ≤ c → square_at content 0 r c ≡ blank 0
   none-blank r f h e c le = ap (square_or_blank content 0) (none-left r (4 * column) i f h e c le)
 
-  pub four-blank : (a b c d : List Span) (fa fb fc fd : Found) → IsFound a (4 * column) i fa → IsFound b (4 * column) i fb → IsFound c (4 * column) i fc → IsFound d (4 * column) i fd
+  pub four-blank : (a b c d : List Span) (fa fb fc fd : Stretch) → IsFound a (4 * column) i fa → IsFound b (4 * column) i fb → IsFound c (4 * column) i fc → IsFound d (4 * column) i fd
       → fa.end ≡ None → fb.end ≡ None → fc.end ≡ None → fd.end ≡ None → (x : ℕ) → column ≤ x → four_at content a b c d x ≡ blank 2
   four-blank a b c d fa fb fc fd ha hb hc hd ea eb ec ed x le =
       let p = two a b fa fb ha hb ea eb in
       let q = two c d fc fd hc hd ec ed in
       λ j. quad (p (2 * x) (omega arith) j) (p (2 * x + 1) (omega arith) j) (q (2 * x) (omega arith) j) (q (2 * x + 1) (omega arith) j)
     where
-      two : (u l : List Span) (fu fl : Found) → IsFound u (4 * column) i fu → IsFound l (4 * column) i fl → fu.end ≡ None → fl.end ≡ None → (k : ℕ) → 2 * x ≤ k → quad_at content 0 u l k ≡ blank 1
+      two : (u l : List Span) (fu fl : Stretch) → IsFound u (4 * column) i fu → IsFound l (4 * column) i fl → fu.end ≡ None → fl.end ≡ None → (k : ℕ) → 2 * x ≤ k → quad_at content 0 u l k ≡ blank 1
       two u l fu fl hu hl eu el k more =
           let nw = none-blank u fu hu eu (2 * k) (omega (arith, le, more)) in
           let ne = none-blank u fu hu eu (2 * k + 1) (omega (arith, le, more)) in
@@ -267,7 +267,7 @@ module _ (content : Id → Tree) (column : ℕ) (i : Id) where
 
 -- the nearest end is beyond the column, and one of the plane
 pub nearest-inside : (a b c d : List Span) → AreWithin 0 a → AreWithin 0 b → AreWithin 0 c → AreWithin 0 d
-    → (column : ℕ) (i : Id) (fa fb fc fd : Found) (end : ℕ) → IsFound a column i fa → IsFound b column i fb → IsFound c column i fc → IsFound d column i fd
+    → (column : ℕ) (i : Id) (fa fb fc fd : Stretch) (end : ℕ) → IsFound a column i fa → IsFound b column i fb → IsFound c column i fc → IsFound d column i fd
     → IsNearest end fa.end fb.end fc.end fd.end → (column < end) × (end ≤ 4 * 2 ^ (MAX_LEVEL - 2))
 nearest-inside a b c d wa wb wc wd column i fa fb fc fd end ha hb hc hd near = (
   nearest-beyond column end fa.end fb.end fc.end fd.end near ha.beyond hb.beyond hc.beyond hd.beyond,

@@ -12,7 +12,7 @@ use Rattle.std.proofs.lemmas.Option.{get_or_from_slice_get}
 use Rattle.life_quad.specs.declared.id.Id.{Id}
 use Rattle.life_base.specs.Tree.{Tree, quad, depth, blank, state_at}
 use Rattle.life_strip.specs.declared.spans.Strip.{Strip}
-use Rattle.life_strip.specs.declared.spans.Found.{Found}
+use Rattle.life_strip.specs.declared.spans.Stretch.{Stretch}
 use Rattle.life_strip.specs.Strip.{square_at, IsStrip, IsPaired, IsFound}
 use Rattle.life_strip.specs.Picture.{state_in, picture, height, AreFalling, IsLowest, IsSound, IsStack}
 use Rattle.life_strip.proofs.SpanLemmas.{Keeps, double, depth-square_at, square-keeps, strip-keeps, found-known, found-depth, found-content}
@@ -324,7 +324,7 @@ pub record IsWhole (knows : Id → Type 0) (content : Id → Tree) (strips : Lis
   pub level : depth (content id) ≡ MAX_LEVEL
   pub cells : (i j : ℕ) → i < 2 ^ MAX_LEVEL → j < 2 ^ MAX_LEVEL → state_at (content id) i j ≡ picture content strips i j
 
-pub whole-strip : (knows : Id → Type 0) (content : Id → Tree) (s : Strip) (b : Id) (f : Found) → IsSound knows content s → s.level ≡ MAX_LEVEL → knows b → content b ≡ blank MAX_LEVEL
+pub whole-strip : (knows : Id → Type 0) (content : Id → Tree) (s : Strip) (b : Id) (f : Stretch) → IsSound knows content s → s.level ≡ MAX_LEVEL → knows b → content b ≡ blank MAX_LEVEL
     → IsFound s.spans.items 0 b f → IsWhole knows content (s ∷ []) f.square
 whole-strip knows content s b f sound e known is_blank h =
     record {

@@ -8,7 +8,7 @@ use Rattle.life_quad.specs.declared.id.Id.{Id}
 use Rattle.life_base.specs.Tree.{Tree, quad, depth, blank}
 use Rattle.life_base.proofs.Squares.{depth-blank}
 use Rattle.life_strip.specs.declared.spans.Span.{Span}
-use Rattle.life_strip.specs.declared.spans.Found.{Found}
+use Rattle.life_strip.specs.declared.spans.Stretch.{Stretch}
 use Rattle.life_strip.specs.Strip.{id_at, square_or_blank, square_at, id_or, quad_at, IsStrip, IsPast, IsFound, IsBefore, IsNearer, IsPaired, AreWithin}
 
 -- a store knows what it knew, with the same square
@@ -105,17 +105,17 @@ module _ (knows : Id → Type 0) (content : Id → Tree) (level : ℕ) (spans : 
         by None = is_blank
         by (Some id) = refl
 
-    pub found-known : (c : ℕ) (f : Found) → IsFound spans c b f → knows f.square
+    pub found-known : (c : ℕ) (f : Stretch) → IsFound spans c b f → knows f.square
     found-known c f h = subst knows (h.square c (omega arith) h.beyond) (known_or c)
 
-    pub found-content : (c : ℕ) (f : Found) → IsFound spans c b f → content f.square ≡ square_at content level spans c
+    pub found-content : (c : ℕ) (f : Stretch) → IsFound spans c b f → content f.square ≡ square_at content level spans c
     found-content c f h = ap content (sym (h.square c (omega arith) h.beyond)) ∙ content_or c
 
-    pub found-depth : (c : ℕ) (f : Found) → IsFound spans c b f → depth (content f.square) ≡ level
+    pub found-depth : (c : ℕ) (f : Stretch) → IsFound spans c b f → depth (content f.square) ≡ level
     found-depth c f h = ap depth (found-content c f h) ∙ depth-square_at c
 
     -- one square goes on
-    pub found-same : (c x y : ℕ) (f : Found) → IsFound spans c b f → c ≤ x → IsBefore x f.end → c ≤ y → IsBefore y f.end → square_at content level spans x ≡ square_at content level spans y
+    pub found-same : (c x y : ℕ) (f : Stretch) → IsFound spans c b f → c ≤ x → IsBefore x f.end → c ≤ y → IsBefore y f.end → square_at content level spans x ≡ square_at content level spans y
     found-same c x y f h xl xu yl yu = sym (content_or x) ∙ ap content (h.square x xl xu ∙ sym (h.square y yl yu)) ∙ content_or y
 
 -- no column yet
@@ -191,7 +191,7 @@ before_earlier a b (Some end) le h = omega (arith, le, h)
 
 -- the four squares go on
 pub quad-same : (knows : Id → Type 0) (content : Id → Tree) (level : ℕ) (upper lower : List Span) → IsStrip knows content level upper → IsStrip knows content level lower
-    → (b : Id) → knows b → content b ≡ blank level → (column c : ℕ) (n s : Found) → IsFound upper (2 * column) b n → IsFound lower (2 * column) b s
+    → (b : Id) → knows b → content b ≡ blank level → (column c : ℕ) (n s : Stretch) → IsFound upper (2 * column) b n → IsFound lower (2 * column) b s
     → column < c → IsBefore (2 * c + 1) n.end → IsBefore (2 * c + 1) s.end → quad_at content level upper lower c ≡ quad_at content level upper lower column
 quad-same knows content level upper lower u l b known is_blank column c n s hn hs lt le me =
     let k = 2 * column in
@@ -216,12 +216,12 @@ half-side level low =
     ap (λ n. 2 ^ n) more ∙ double (MAX_LEVEL - suc level)
 
 -- no span goes on
-pub none-left : (spans : List Span) (column : ℕ) (b : Id) (f : Found) → IsFound spans column b f → f.end ≡ None → (c : ℕ) → column ≤ c → id_at spans c ≡ None
+pub none-left : (spans : List Span) (column : ℕ) (b : Id) (f : Stretch) → IsFound spans column b f → f.end ≡ None → (c : ℕ) → column ≤ c → id_at spans c ≡ None
 none-left spans column b f h e =
     subst (λ o. MatchOption o ((c : ℕ) → column ≤ c → id_at spans c ≡ None) (λ end. (level : ℕ) → AreWithin level spans → end ≤ 2 ^ (MAX_LEVEL - level))) e h.last
 
 -- the span found ends within the plane, if there is one
-pub found-within : (level : ℕ) (spans : List Span) → AreWithin level spans → (column : ℕ) (b : Id) (f : Found) (end : ℕ) → IsFound spans column b f → f.end ≡ Some end → end ≤ 2 ^ (MAX_LEVEL - level)
+pub found-within : (level : ℕ) (spans : List Span) → AreWithin level spans → (column : ℕ) (b : Id) (f : Stretch) (end : ℕ) → IsFound spans column b f → f.end ≡ Some end → end ≤ 2 ^ (MAX_LEVEL - level)
 found-within level spans within column b f end h e =
     subst (λ o. MatchOption o ((c : ℕ) → column ≤ c → id_at spans c ≡ None) (λ n. (l : ℕ) → AreWithin l spans → n ≤ 2 ^ (MAX_LEVEL - l))) e h.last level within
 
@@ -235,7 +235,7 @@ before_nearer column end north south near hn hs = by near.one
 
 -- a column of squares twice as wide that begins before the nearer end of two strips ends within the plane
 pub next-within : (level : ℕ) (upper lower : List Span) → level < MAX_LEVEL → AreWithin level upper → AreWithin level lower
-    → (column : ℕ) (b : Id) (n s : Found) (end : ℕ) → IsFound upper column b n → IsFound lower column b s → IsNearer end n.end s.end
+    → (column : ℕ) (b : Id) (n s : Stretch) (end : ℕ) → IsFound upper column b n → IsFound lower column b s → IsNearer end n.end s.end
     → (next : ℕ) → 2 * next ≤ end + 1 → next ≤ 2 ^ (MAX_LEVEL - suc level)
 next-within level upper lower low u l column b n s end hn hs near next most = by near.one
   where

@@ -4,7 +4,7 @@ use Rattle.std.specs.Prelude.{◌≡◌, ℕ, suc, ◌+◌, ◌-◌, ◌*◌, �
 use Rattle.life_quad.specs.declared.id.Id.{Id}
 use Rattle.life_base.specs.Tree.{Tree, quad, depth, blank}
 use Rattle.life_strip.specs.declared.spans.Span.{Span}
-use Rattle.life_strip.specs.declared.spans.Found.{Found}
+use Rattle.life_strip.specs.declared.spans.Stretch.{Stretch}
 
 -- the Id in a column: that of the first span that ends after it
 abbrev pub id_at : List Span → ℕ → Option Id
@@ -53,7 +53,7 @@ IsBefore column None = Unit {0}
 IsBefore column (Some end) = column < end
 
 -- one square goes on from the column to the end, or for ever where no span is left
-pub record IsFound (spans : List Span) (column : ℕ) (blank : Id) (found : Found) : Type 0 where
+pub record IsFound (spans : List Span) (column : ℕ) (blank : Id) (found : Stretch) : Type 0 where
   pub past : IsPast spans found.index column
   pub square : (c : ℕ) → column ≤ c → IsBefore c found.end → id_or blank (id_at spans c) ≡ found.square
   pub beyond : IsBefore column found.end

@@ -27,7 +27,7 @@ pub(crate) struct Strip {
 
 // The square in a column, how far it goes on, and where its span stands.
 #[derive(Clone, Copy)]
-pub(crate) struct Found {
+pub(crate) struct Stretch {
     pub(crate) index: usize,
 
     // The column where it ends, if a span does.
@@ -44,7 +44,7 @@ struct Joined {
 }
 
 // The square in a column, where the spans before `from` end before it.
-pub(crate) fn find(spans: &[Span], from: usize, column: u64, blank: Id) -> Found
+pub(crate) fn find(spans: &[Span], from: usize, column: u64, blank: Id) -> Stretch
     requires past { IsPast spans.now from column }
     ensures { IsFound spans.now column blank result }
 {
@@ -57,13 +57,13 @@ pub(crate) fn find(spans: &[Span], from: usize, column: u64, blank: Id) -> Found
         index += 1;
     }
     if index < spans.len() {
-        Found {
+        Stretch {
             index,
             end: Some(spans[index].end),
             square: spans[index].square,
         }
     } else {
-        Found {
+        Stretch {
             index,
             end: None,
             square: blank,
@@ -79,8 +79,8 @@ fn join_at<S: Squares>(
     level: u8,
     blank: Id,
     column: u64,
-    north: Found,
-    south: Found,
+    north: Stretch,
+    south: Stretch,
 ) -> Result<Joined, Kind>
     requires low { level < MAX_LEVEL }
     requires column { column ≤ 2 ^ MAX_LEVEL }

@@ -11,7 +11,7 @@ use Rattle.life_table.specs.declared.table.Table.{Table}
 use Rattle.life_table.specs.declared.table.Neighborhood.{Neighborhood}
 use Rattle.life_table.specs.declared.table.Neighborhood.TheVariants.{VonNeumann, Moore}
 
--- of the neighbours that a neighbourhood names
+-- the states of the neighbours that a neighbourhood names
 abbrev pub neighbours_at : Neighborhood → (ℤ → ℤ → ℕ) → ℤ → ℤ → List ℕ
 neighbours_at VonNeumann = four_around
 neighbours_at Moore = eight_around

@@ -2,6 +2,7 @@
 use Rattle.std.specs.Prelude.{◌≡◌, ℕ, ◌+◌, ◌<◌, ◌≤◌, Bool, true, List, [], ◌∷◌, ◌++◌, length, Option, Some, None, IfSome, ◌==◌, ◌||◌, ◌≢◌, All, IsTrue, slice_get}
 use Rattle.std.proofs.Common.{Bor}
 use Rattle.std.specs.List.{list_any, slice_split}
+use Rattle.std.specs.Str.{byte}
 use Rattle.life_table.specs.Valid.{fits_zero, is_quiet, is_listed, neighbour_count, IsVariable, IsTransition}
 use Rattle.life_table.specs.declared.directive.Parsed.{Parsed}
 use Rattle.life_table.specs.declared.directive.Section.TheVariants.{Ahead, Open, Behind}
@@ -14,7 +15,7 @@ use Rattle.life_table.specs.declared.table.Var.{Var}
 -- the texts between commas that are left, none behind the last
 abbrev pub parts_left : Option (Bor (List ℕ)) → List (List ℕ)
 parts_left None = []
-parts_left (Some text) = slice_split (λ b. b == 44) text.now
+parts_left (Some text) = slice_split (λ b. b == byte ",") text.now
 
 -- a bound of the bytes that are left
 abbrev pub bytes_left : Option (Bor (List ℕ)) → ℕ

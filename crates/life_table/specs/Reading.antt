@@ -1,7 +1,8 @@
 -- The `.rule` format: which lines a file may have, and which table they write.
 use Rattle.std.specs.Prelude.{◌≡◌, ℕ, ◌+◌, ◌-◌, ◌/◌, ◌%◌, ◌^◌, ◌<◌, Bool, true, false, not, min, ◌&&◌, ◌||◌, List, [], ◌∷◌, ◌++◌, length, take, drop, map, filter, filter_map, fold, position, nat_le, nat_lt, ◌==◌, if◌then◌else◌, slice_index, slice_index_or, slice_get, bit_or, bytes_eq, codes, Option, Some, None, Result, Ok, Err, is_some, is_none, option_map, option_and_then, option_to_list}
-use Rattle.std.specs.Char.{is_ascii_digit}
+use Rattle.std.specs.Char.{is_ascii_digit, is_ascii_graphic}
 use Rattle.std.specs.List.{list_all, list_any, slice_split, before_first, after_first}
+use Rattle.std.specs.Str.{byte}
 use Rattle.life_base.specs.Text.{is_empty, is_whitespace, is_blank, trim, begins_with, is_digit_text, value_of, lines_of, is_too_long, numbered_from}
 use Rattle.life_base.specs.Rules.{rule_of}
 use Rattle.life_base.specs.Refusal.{IsRefusal, BreaksBy}
@@ -95,7 +96,7 @@ table_lines lines = up_to (λ line. is_section_line line.1) (drop 1 (from_table 
 
 -- a line of the table, without its comment and the whitespace at its ends
 abbrev pub content : List ℕ → List ℕ
-content line = trim (before_first (λ b. b == 35) line)
+content line = trim (before_first (λ b. b == byte "#") line)
 
 -- the lines of the table that say something
 abbrev pub contents : List Numbered → List Numbered
@@ -119,14 +120,14 @@ section_of lines =
 
 -- a descriptor is a line with a colon
 abbrev pub is_descriptor : List ℕ → Bool
-is_descriptor text = list_any (λ b. b == 58) text
+is_descriptor text = list_any (λ b. b == byte ":") text
 
 -- what stands before the first colon, and behind it
 abbrev pub key_of : List ℕ → List ℕ
-key_of text = trim (before_first (λ b. b == 58) text)
+key_of text = trim (before_first (λ b. b == byte ":") text)
 
 abbrev pub setting_of : List ℕ → List ℕ
-setting_of text = trim (after_first (λ b. b == 58) text)
+setting_of text = trim (after_first (λ b. b == byte ":") text)
 
 -- the three keys
 abbrev pub is_states_key : List ℕ → Bool
@@ -205,7 +206,7 @@ entry_of n_states vars word =
 
 -- the texts between commas, without whitespace at their ends
 abbrev pub between_commas : List ℕ → List (List ℕ)
-between_commas text = map trim (slice_split (λ b. b == 44) text)
+between_commas text = map trim (slice_split (λ b. b == byte ",") text)
 
 -- 4. Variables
 
@@ -215,17 +216,17 @@ is_variable_line text = begins_with text (codes "var") && list_any is_whitespace
 
 -- a byte of a variable's name: visible ASCII, and none of `, = { } : # @`
 abbrev pub is_name_byte : ℕ → Bool
-is_name_byte b = nat_le 33 b && nat_le b 126 && not (list_any (λ c. b == c) (codes ",={}:#@"))
+is_name_byte b = is_ascii_graphic b && not (list_any (λ c. b == c) (codes ",={}:#@"))
 
 abbrev pub is_variable_name : List ℕ → Bool
 is_variable_name word = not (is_empty word) && list_all is_name_byte word && not (list_any is_ascii_digit (take 1 word))
 
 -- the name before the equals sign, and what stands behind it
 abbrev pub name_text : List ℕ → List ℕ
-name_text text = trim (before_first (λ b. b == 61) (drop 3 text))
+name_text text = trim (before_first (λ b. b == byte "=") (drop 3 text))
 
 abbrev pub list_text : List ℕ → List ℕ
-list_text text = trim (after_first (λ b. b == 61) (drop 3 text))
+list_text text = trim (after_first (λ b. b == byte "=") (drop 3 text))
 
 -- a list in braces
 abbrev pub is_list : List ℕ → Bool
@@ -286,7 +287,7 @@ bytes_alone text = map (λ b. b ∷ []) (filter (λ b. not (is_whitespace b)) te
 -- the words of a transition: between commas, or where there is none each byte that isn't whitespace
 abbrev pub transition_words : List ℕ → List (List ℕ)
 transition_words text =
-    if list_any (λ b. b == 44) text then between_commas text
+    if list_any (λ b. b == byte ",") text then between_commas text
     else bytes_alone text
 
 -- the entries of a transition, if each of its words is one

@@ -2,6 +2,7 @@
 
 ghost use Rattle.std.specs.Prelude.{◌≡◌, ◌<◌, ◌==◌, ◌∷◌, position, length, IfSome, bytes_eq};
 ghost use Rattle.std.specs.List.{list_any, before_first, after_first, slice_split};
+ghost use Rattle.std.specs.Str.{byte};
 ghost use Rattle.life_table.specs.Reading.{content, is_section_line, is_table_line, is_passed_over, number_below};
 ghost use Rattle.life_table.specs.Reader.{parts_left};
 
@@ -51,7 +52,7 @@ pub(crate) fn split_at_byte(text: &[u8], mark: u8) -> (&[u8], &[u8])
 
 /// What stands before the first comma, and what stands behind it, if there is one.
 pub(crate) fn first_part(text: &[u8]) -> (&[u8], Option<&[u8]>)
-    ensures parts { slice_split (λ b. b == 44) text.now ≡ result.0.now ∷ parts_left result.1 }
+    ensures parts { slice_split (λ b. b == byte ",") text.now ≡ result.0.now ∷ parts_left result.1 }
     ensures shorter { IfSome result.1 (λ rest. length rest.now < length text.now) }
 {
     match first_place(text, b',') {

@@ -4,10 +4,10 @@ ghost use Rattle.std.specs.Prelude.{◌≡◌, ◌≤◌, ◌-◌, ◌^◌, IfOk
 ghost use Rattle.life_base.specs.Tree.{depth};
 ghost use Rattle.life_quad.specs.Keeping.{KeepsSquares};
 
-use life_base::{Cell, Kind, MAX_LEVEL};
+use life_base::{Bounds, Cell, Kind, MAX_LEVEL};
 use life_quad::{
-    Bounds, Id, IdList, Plain, Quarters, Shared, SharedSquares, Squares, bounds, cells, divide,
-    grow, is_blank, is_blank_at, population, put_run, trim,
+    Id, IdList, Plain, Quarters, Shared, SharedSquares, Squares, bounds, cells, divide, grow,
+    is_blank, is_blank_at, population, put_run, trim,
 };
 use std::alloc::Global;
 use std::process::Abort;

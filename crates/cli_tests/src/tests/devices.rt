@@ -71,6 +71,7 @@ pub struct Limited {
     pub piece: usize,
     pub failed: bool,
     pub stalled: bool,
+    pub flushed: bool,
 }
 
 impl Sink for Limited {
@@ -80,7 +81,7 @@ impl Sink for Limited {
 
     ghost stalled = { λ s. s.stalled };
 
-    ghost flushed = { λ _. true };
+    ghost flushed = { λ s. s.flushed };
 
     ghost at_most_one = { λ s. elim s.failed as (λ f. count_of f ≤ 1) [ true ↦ Prim.search rules | false ↦ Prim.search rules ] };
 
@@ -89,6 +90,7 @@ impl Sink for Limited {
     }
 
     fn write(&mut self, buf: &[u8]) -> Result<usize, Kind> {
+        self.flushed = false;
         let count = buf.len().min(self.room).min(self.piece);
         if self.room == 0 || self.taken.extend_from_slice(&buf[..count]).is_err() {
             self.failed = true;
@@ -102,6 +104,7 @@ impl Sink for Limited {
     }
 
     fn flush(&mut self) -> Result<(), Kind> {
+        self.flushed = true;
         Ok(())
     }
 }
@@ -120,6 +123,7 @@ pub(super) fn sink_with(alloc: Global, room: usize, piece: usize) -> Limited
         piece,
         failed: false,
         stalled: false,
+        flushed: false,
     }
 }
 

@@ -1,5 +1,6 @@
 use Rattle.std.proofs.Common.{◌∙◌}
-use Rattle.golly_canon_c.specs.Stepping.{IsStepped, RefusesStepWithin}
+use Rattle.life_step.specs.Stepped.{IsStepped}
+use Rattle.golly_canon_c.specs.Stepping.{RefusesStepWithin}
 use Rattle.golly_canon_c.proofs.Answering.{answered, refused_step}
 use Rattle.golly_canon_c.proofs.stepping.golly_canon_step.Goals as goal
 

@@ -1,5 +1,6 @@
 use Rattle.std.proofs.Common.{◌∙◌}
-use Rattle.golly_canon_c.specs.Stepping.{IsSteppedBy, RefusesStepByWithin}
+use Rattle.life_step.specs.Stepped.{IsSteppedBy}
+use Rattle.golly_canon_c.specs.Stepping.{RefusesStepByWithin}
 use Rattle.golly_canon_c.proofs.Answering.{answered, refused_step_by}
 use Rattle.golly_canon_c.proofs.stepping.step_by.Goals as goal
 

@@ -4,7 +4,8 @@ use Rattle.life_base.specs.declared.cell.TheConstants.{MAX_LEVEL}
 use Rattle.life_canon.specs.Files.{Reads}
 use Rattle.life_canon.specs.Universe.{Universe}
 use Rattle.life_step.specs.Refusals.{LifeRefusal}
-use Rattle.life_cli.specs.Jobs.{IsStepped, RefusesStep}
+use Rattle.life_step.specs.Stepped.{IsStepped}
+use Rattle.life_cli.specs.Jobs.{RefusesStep}
 use Rattle.life_cli.proofs.WorkLemmas.{no_pattern, refused_step, text_of_pattern}
 use Rattle.life_cli.proofs.stepping.next_of.Goals as goal
 

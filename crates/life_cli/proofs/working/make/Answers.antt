@@ -2,7 +2,8 @@ use Rattle.std.proofs.Common.{◌≡◌, ◌^◌, [], refl, rules}
 use Rattle.std.proofs.lemmas.Result.{err_from_is_err_and}
 use Rattle.life_base.specs.declared.cell.TheConstants.{MAX_LEVEL}
 use Rattle.life_canon.specs.Texts.{IsRleOf, IsShown}
-use Rattle.life_cli.specs.Jobs.{IsStepped, IsSteppedBy, by_comparing, by_reading}
+use Rattle.life_step.specs.Stepped.{IsStepped, IsSteppedBy}
+use Rattle.life_cli.specs.Jobs.{by_comparing, by_reading}
 use Rattle.life_cli.specs.declared.plans.Job.TheVariants.{Convert, Show, Step, StepTable}
 use Rattle.life_cli.specs.declared.plans.Target.TheVariants.{Rle}
 use Rattle.life_cli.proofs.WorkLemmas.{made_of_file, made_of_files, no_text_by_table}
