@@ -1,106 +1,71 @@
-use Rattle.std.proofs.Common.{◌≡◌, ◌-◌, ◌^◌, ◌≤◌, ◌+ℤ◌, pos, arith, to_z, of_z, w64}
+use Rattle.std.proofs.Common.{◌≡◌, ℕ, ℤ, neg_ℤ, ◌≤ℤ◌, Result, OnOk, ◌-◌, ◌^◌, ◌≤◌, ◌+ℤ◌, pos, arith, to_z, of_z, w64}
 use Rattle.std.proofs.lemmas.Result.{on_ok_weaker}
 use Rattle.std.proofs.lemmas.Int.{ints}
 use Rattle.std.proofs.Math.Pow.{pow_mono}
+use Rattle.std.specs.Prelude.{IfErr, IsErrAnd}
+use Rattle.life_base.specs.declared.kind.Kind.{Kind}
+use Rattle.life_base.specs.declared.kind.Kind.TheVariants.{Memory}
+use Rattle.life_base.specs.Tree.{Tree}
+use Rattle.life_quad.specs.Bands.{IsPlaced}
+use Rattle.life_quad.specs.declared.id.Id.{Id}
+use Rattle.life_quad.specs.declared.listing.Placed.{Placed}
 use Rattle.life_quad.proofs.BandLemmas.{northern_kept, southern_kept}
 use Rattle.life_quad.proofs.CellListLemmas.{halves_side}
 use Rattle.life_quad.proofs.RefusedLemmas.{error_is}
 use Rattle.life_quad.proofs.listing.split.Goals as goal
 
+-- a refusal that is passed on
+refused : {e : Kind} (north south northern southern : Type 0) (r : Result Unit Kind) → IsErrAnd r (λ f. f ≡ e) → e ≡ Memory
+    → record { north : OnOk r north; south : OnOk r south; northern : OnOk r northern; southern : OnOk r southern; refusals : IfErr r (λ e. e ≡ Memory) }
+refused north south northern southern r told memory =
+    let p = error_is r told in
+    record { north = rw p tt; south = rw p tt; northern = rw p tt; southern = rw p tt; refusals = rw p memory }
+
+-- the halves of a placed square lie between the same columns
+fits_west : {K : Id → Type 0} {C : Id → Tree} (level : ℕ) (p : Placed) → 1 ≤ level → IsPlaced K C level p
+    → (neg_ℤ (pos (2 ^ 61)) ≤ℤ to_z w64 (of_z w64 p.column)) × ((to_z w64 (of_z w64 p.column) +ℤ pos (2 ^ (level - 1))) ≤ℤ pos (2 ^ 61))
+fits_west level p low placed =
+    let west = placed.west in
+    let east = placed.east in
+    let le : 2 ^ (level - 1) ≤ 2 ^ level = pow_mono (omega arith) in
+    (omega (arith, ints, west, east), omega (arith, ints, west, east, le))
+
+fits_east : {K : Id → Type 0} {C : Id → Tree} (level : ℕ) (p : Placed) (column : ℤ) → 1 ≤ level → IsPlaced K C level p → column ≡ to_z w64 (of_z w64 p.column) +ℤ pos (2 ^ (level - 1))
+    → (neg_ℤ (pos (2 ^ 61)) ≤ℤ to_z w64 (of_z w64 column)) × ((to_z w64 (of_z w64 column) +ℤ pos (2 ^ (level - 1))) ≤ℤ pos (2 ^ 61))
+fits_east level p column low placed half =
+    let west = placed.west in
+    let east = placed.east in
+    let twice = halves_side level low in
+    (omega (arith, ints, west, east, half, twice), omega (arith, ints, west, east, half, twice))
+
 pub keep-requires : goal.keep-requires
 keep-requires g c =
-    let d = c.divide.ensures in
-    let p = c.requires.placed in
-    let west = p.west in
-    let east = p.east in
-    let le : 2 ^ (c.args.level - 1) ≤ 2 ^ c.args.level = pow_mono (omega arith) in
-    record {
-      known = d.nw;
-      level = omega (arith, d.nw_level, p.level);
-      west = omega (arith, ints, west, east);
-      east = omega (arith, ints, west, east, le);
-      each = c.requires.north;
-    }
+    let fits = fits_west c.args.level c.args.placed c.requires.low c.requires.placed in
+    record { known = c.divide.ensures.nw; level = omega (arith, c.divide.ensures.nw_level, c.requires.placed.level); west = fits.0; east = fits.1; each = c.requires.north }
 
 pub keep-requires-2 : goal.keep-requires-2
 keep-requires-2 g c =
-    let d = c.divide.ensures in
-    let p = c.requires.placed in
-    let west = p.west in
-    let east = p.east in
-    let twice = halves_side c.args.level c.requires.low in
-    let half = c.further-east.ensures in
-    record {
-      known = d.ne;
-      level = omega (arith, d.ne_level, p.level);
-      west = omega (arith, ints, west, east, half, twice);
-      east = omega (arith, ints, west, east, half, twice);
-      each = c.in_ok-keep.ensures.each;
-    }
+    let fits = fits_east c.args.level c.args.placed c.further-east.result c.requires.low c.requires.placed c.further-east.ensures in
+    record { known = c.divide.ensures.ne; level = omega (arith, c.divide.ensures.ne_level, c.requires.placed.level); west = fits.0; east = fits.1; each = c.in_ok-keep.ensures.each }
 
 pub keep-requires-3 : goal.keep-requires-3
 keep-requires-3 g c =
-    let d = c.divide.ensures in
-    let p = c.requires.placed in
-    let west = p.west in
-    let east = p.east in
-    let le : 2 ^ (c.args.level - 1) ≤ 2 ^ c.args.level = pow_mono (omega arith) in
-    record {
-      known = d.sw;
-      level = omega (arith, d.sw_level, p.level);
-      west = omega (arith, ints, west, east);
-      east = omega (arith, ints, west, east, le);
-      each = c.requires.south;
-    }
+    let fits = fits_west c.args.level c.args.placed c.requires.low c.requires.placed in
+    record { known = c.divide.ensures.sw; level = omega (arith, c.divide.ensures.sw_level, c.requires.placed.level); west = fits.0; east = fits.1; each = c.requires.south }
 
 pub keep-requires-4 : goal.keep-requires-4
 keep-requires-4 g c =
-    let d = c.divide.ensures in
-    let p = c.requires.placed in
-    let west = p.west in
-    let east = p.east in
-    let twice = halves_side c.args.level c.requires.low in
-    let half = c.further-east.ensures in
-    record {
-      known = d.se;
-      level = omega (arith, d.se_level, p.level);
-      west = omega (arith, ints, west, east, half, twice);
-      east = omega (arith, ints, west, east, half, twice);
-      each = c.in_ok-keep-3.ensures.each;
-    }
+    let fits = fits_east c.args.level c.args.placed c.further-east.result c.requires.low c.requires.placed c.further-east.ensures in
+    record { known = c.divide.ensures.se; level = omega (arith, c.divide.ensures.se_level, c.requires.placed.level); west = fits.0; east = fits.1; each = c.in_ok-keep-3.ensures.each }
 
 pub returns-in_err-keep : goal.returns-in_err-keep
-returns-in_err-keep g c =
-    let p = error_is c.from_residual.result c.from_residual.ensures.1 in
-    record {
-      north = rw p tt;
-      south = rw p tt;
-      northern = rw p tt;
-      southern = rw p tt;
-      refusals = rw p c.in_err-keep.ensures.refusals;
-    }
+returns-in_err-keep g c = refused _ _ _ _ c.from_residual.result c.from_residual.ensures.1 c.in_err-keep.ensures.refusals
 
 pub returns-in_err-keep-2 : goal.returns-in_err-keep-2
-returns-in_err-keep-2 g c =
-    let p = error_is c.from_residual-in_err-keep-2.result c.from_residual-in_err-keep-2.ensures.1 in
-    record {
-      north = rw p tt;
-      south = rw p tt;
-      northern = rw p tt;
-      southern = rw p tt;
-      refusals = rw p c.in_err-keep-2.ensures.refusals;
-    }
+returns-in_err-keep-2 g c = refused _ _ _ _ c.from_residual-in_err-keep-2.result c.from_residual-in_err-keep-2.ensures.1 c.in_err-keep-2.ensures.refusals
 
 pub returns-in_err-keep-3 : goal.returns-in_err-keep-3
-returns-in_err-keep-3 g c =
-    let p = error_is c.from_residual-in_err-keep-3.result c.from_residual-in_err-keep-3.ensures.1 in
-    record {
-      north = rw p tt;
-      south = rw p tt;
-      northern = rw p tt;
-      southern = rw p tt;
-      refusals = rw p c.in_err-keep-3.ensures.refusals;
-    }
+returns-in_err-keep-3 g c = refused _ _ _ _ c.from_residual-in_err-keep-3.result c.from_residual-in_err-keep-3.ensures.1 c.in_err-keep-3.ensures.refusals
 
 pub returns : goal.returns
 returns g c =

@@ -1,11 +1,32 @@
-use Rattle.std.proofs.Common.{◌≡◌, ℕ, ◌<◌, ◌≤◌, ◌^◌, arith, sym, ◌∙◌, ap}
+use Rattle.std.proofs.Common.{◌≡◌, Result, IfOk, ℕ, ◌<◌, ◌≤◌, ◌^◌, arith, sym, ◌∙◌, ap}
+use Rattle.std.specs.Prelude.{IfErr, IsErrAnd}
+use Rattle.life_base.specs.declared.kind.Kind.{Kind}
+use Rattle.life_base.specs.declared.kind.Kind.TheVariants.{Memory}
 use Rattle.life_base.specs.Tree.{Tree}
 use Rattle.life_quad.specs.declared.id.Id.{Id}
 use Rattle.life_quad.specs.Cells.{population}
 use Rattle.life_quad.specs.IdMap.{value_of}
-use Rattle.life_quad.proofs.CountLemmas.{population-blank, quarter_small}
+use Rattle.life_quad.proofs.CountLemmas.{population-blank, quarters_small}
 use Rattle.life_quad.proofs.MapLemmas.{after_set}
+use Rattle.life_quad.proofs.RefusedLemmas.{error_is}
 use Rattle.life_quad.proofs.reads.+count.Goals as goal
+
+-- a refusal that is passed on
+refused : {R : Type 0} {e : Kind} (number : ℕ → Type 0) (r : Result ℕ Kind) → IsErrAnd r (λ f. f ≡ e) → R → e ≡ Memory
+    → record { number : IfOk r number; right : R; refusals : IfErr r (λ e. e ≡ Memory) }
+refused number r told right memory = let p = error_is r told in record { number = rw p tt; right = right; refusals = rw p memory }
+
+pub returns-in_err-a : goal.returns-in_err-a
+returns-in_err-a g t c = refused _ c.from_residual.result c.from_residual.ensures.1 c.in_err-a.ensures.right c.in_err-a.ensures.refusals
+
+pub returns-in_err-b : goal.returns-in_err-b
+returns-in_err-b g t c = refused _ c.from_residual-in_err-b.result c.from_residual-in_err-b.ensures.1 c.in_err-b.ensures.right c.in_err-b.ensures.refusals
+
+pub returns-in_err-c : goal.returns-in_err-c
+returns-in_err-c g t c = refused _ c.from_residual-in_err-c.result c.from_residual-in_err-c.ensures.1 c.in_err-c.ensures.right c.in_err-c.ensures.refusals
+
+pub returns-in_err-d : goal.returns-in_err-d
+returns-in_err-d g t c = refused _ c.from_residual-in_err-d.result c.from_residual-in_err-d.ensures.1 c.in_err-d.ensures.right c.in_err-d.ensures.refusals
 
 pub returns-then-is_blank_at-clause-number : goal.returns-then-is_blank_at-clause-number
 returns-then-is_blank_at-clause-number g t c =
@@ -13,39 +34,18 @@ returns-then-is_blank_at-clause-number g t c =
 
 pub overflow_add-sum : goal.overflow_add-sum
 overflow_add-sum g t c =
-    let law = g.met.S.Squares in
-    let C = g.S.Squares.content in
-    let o = c.args.squares.now in
-    let d = c.divide.ensures in
-    let top = law.low o c.args.id c.requires.known in
-    let small_a : c.in_ok-a.a ≤ 4 ^ 61 = quarter_small (C o c.divide.result.nw) _ _ (law.full o c.divide.result.nw d.nw) d.nw_level top c.in_ok-a.ensures.number in
-    let small_b : c.in_ok-b.b ≤ 4 ^ 61 = quarter_small (C o c.divide.result.ne) _ _ (law.full o c.divide.result.ne d.ne) d.ne_level top c.in_ok-b.ensures.number in
-    omega (arith, small_a, small_b)
+    let few = quarters_small _ _ _ _ _ (g.met.S.Squares.full _ _ c.requires.known) (g.met.S.Squares.low _ _ c.requires.known) c.divide.ensures.square in
+    omega (arith, few, c.in_ok-a.ensures.number, c.in_ok-b.ensures.number)
 
 pub overflow_add-sum-2 : goal.overflow_add-sum-2
 overflow_add-sum-2 g t c =
-    let law = g.met.S.Squares in
-    let C = g.S.Squares.content in
-    let o = c.args.squares.now in
-    let d = c.divide.ensures in
-    let top = law.low o c.args.id c.requires.known in
-    let small_a : c.in_ok-a.a ≤ 4 ^ 61 = quarter_small (C o c.divide.result.nw) _ _ (law.full o c.divide.result.nw d.nw) d.nw_level top c.in_ok-a.ensures.number in
-    let small_b : c.in_ok-b.b ≤ 4 ^ 61 = quarter_small (C o c.divide.result.ne) _ _ (law.full o c.divide.result.ne d.ne) d.ne_level top c.in_ok-b.ensures.number in
-    let small_c : c.in_ok-c.c ≤ 4 ^ 61 = quarter_small (C o c.divide.result.sw) _ _ (law.full o c.divide.result.sw d.sw) d.sw_level top c.in_ok-c.ensures.number in
-    omega (arith, small_a, small_b, small_c)
+    let few = quarters_small _ _ _ _ _ (g.met.S.Squares.full _ _ c.requires.known) (g.met.S.Squares.low _ _ c.requires.known) c.divide.ensures.square in
+    omega (arith, few, c.in_ok-a.ensures.number, c.in_ok-b.ensures.number, c.in_ok-c.ensures.number)
 
 pub overflow_add-sum-3 : goal.overflow_add-sum-3
 overflow_add-sum-3 g t c =
-    let law = g.met.S.Squares in
-    let C = g.S.Squares.content in
-    let o = c.args.squares.now in
-    let d = c.divide.ensures in
-    let top = law.low o c.args.id c.requires.known in
-    let small_a : c.in_ok-a.a ≤ 4 ^ 61 = quarter_small (C o c.divide.result.nw) _ _ (law.full o c.divide.result.nw d.nw) d.nw_level top c.in_ok-a.ensures.number in
-    let small_b : c.in_ok-b.b ≤ 4 ^ 61 = quarter_small (C o c.divide.result.ne) _ _ (law.full o c.divide.result.ne d.ne) d.ne_level top c.in_ok-b.ensures.number in
-    let small_c : c.in_ok-c.c ≤ 4 ^ 61 = quarter_small (C o c.divide.result.sw) _ _ (law.full o c.divide.result.sw d.sw) d.sw_level top c.in_ok-c.ensures.number in
-    let small_d : c.in_ok-d.d ≤ 4 ^ 61 = quarter_small (C o c.divide.result.se) _ _ (law.full o c.divide.result.se d.se) d.se_level top c.in_ok-d.ensures.number in
-    omega (arith, small_a, small_b, small_c, small_d)
+    let few = quarters_small _ _ _ _ _ (g.met.S.Squares.full _ _ c.requires.known) (g.met.S.Squares.low _ _ c.requires.known) c.divide.ensures.square in
+    omega (arith, few, c.in_ok-a.ensures.number, c.in_ok-b.ensures.number, c.in_ok-c.ensures.number, c.in_ok-d.ensures.number)
 
 pub returns-clause-number : goal.returns-clause-number
 returns-clause-number g t c =
