@@ -293,9 +293,11 @@ module _ (level : ℕ) (row first middle : ℤ) (content : Id → Tree) (named s
   halves_are =
       let north_is = upper_is ∙ ap (λ b. upper (2 ^ (level - 1)) (pieces content b)) is in
       let south_is = lower_is ∙ ap (λ b. lower (2 ^ (level - 1)) (pieces content b)) is in
-      band_step level row middle both (omega arith) place ∙ (λ i. band_cells (level - 1) (sym same i) (sym north_is i) ++ band_cells (level - 1) middle (sym south_is i))
+      band_step level row middle both (omega arith) place ∙
+      (λ i. band_cells (level - 1) (sym same i) (sym north_is i) ++ band_cells (level - 1) middle (sym south_is i))
 
-  pub both_halves : (old list new : List Cell) → list ≡ old ++ band_cells (level - 1) first north → new ≡ list ++ band_cells (level - 1) middle south → new ≡ old ++ band_cells level row both
+  pub both_halves : (old list new : List Cell) → list ≡ old ++ band_cells (level - 1) first north → new ≡ list ++ band_cells (level - 1) middle south
+      → new ≡ old ++ band_cells level row both
   both_halves old list new e f =
       f ∙ ap (λ l. l ++ band_cells (level - 1) middle south) e ∙ append_assoc old (band_cells (level - 1) first north) (band_cells (level - 1) middle south) ∙ ap (λ l. old ++ l) (sym halves_are)
 
@@ -308,13 +310,15 @@ module _ (level : ℕ) (row first middle : ℤ) (content : Id → Tree) (named s
   more_in_first r old limit h = IfErr-weaker r _ _ (λ e f is. let n = f is in omega (arith, n, both_lengths)) h
 
   pub more_in_second : {T : Type 0} (r : Result T Kind) (old list : List Cell) (limit : ℕ) → list ≡ old ++ band_cells (level - 1) first north
-      → IfErr r (λ e. e ≡ TooManyCells → limit < length list + length (band_cells (level - 1) middle south)) → IfErr r (λ e. e ≡ TooManyCells → limit < length old + length (band_cells level row both))
+      → IfErr r (λ e. e ≡ TooManyCells → limit < length list + length (band_cells (level - 1) middle south))
+      → IfErr r (λ e. e ≡ TooManyCells → limit < length old + length (band_cells level row both))
   more_in_second r old list limit is h =
       let l = ap length is ∙ length-append old (band_cells (level - 1) first north) in
       IfErr-weaker r _ _ (λ e f same. let n = f same in omega (arith, n, l, both_lengths)) h
 
 -- a band of the one square, from the column `west` on, and its cells
-module _ (t : Tree) (full : IsFull t) (level : ℕ) (west : ℤ) (content : Id → Tree) (old band : List Placed) (top : level ≡ depth t) (half : west ≡ neg_ℤ (pos (2 ^ (level - 1))))
+module _ (t : Tree) (full : IsFull t) (level : ℕ) (west : ℤ) (content : Id → Tree) (old band : List Placed) (top : level ≡ depth t)
+    (half : west ≡ neg_ℤ (pos (2 ^ (level - 1))))
     (none : old ≡ []) (kept_is : pieces content band ≡ pieces content old ++ kept t west) where
   west_is : west ≡ neg_ℤ (pos (half_side t))
   west_is = half ∙ ap (λ l. neg_ℤ (pos (2 ^ (l - 1)))) top
@@ -332,7 +336,8 @@ module _ (t : Tree) (full : IsFull t) (level : ℕ) (west : ℤ) (content : Id �
   whole_list before list empty e = e ∙ (λ i. empty i ++ cells_are i)
 
   pub more_in_square : {T : Type 0} (r : Result T Kind) (before : List Cell) (limit : ℕ) → before ≡ []
-      → IfErr r (λ e. e ≡ TooManyCells → limit < length before + length (band_cells level west (pieces content band))) → IfErr r (λ e. e ≡ TooManyCells → limit < population t)
+      → IfErr r (λ e. e ≡ TooManyCells → limit < length before + length (band_cells level west (pieces content band)))
+      → IfErr r (λ e. e ≡ TooManyCells → limit < population t)
   more_in_square r before limit empty h =
       let same : length (band_cells level west (pieces content band)) ≡ population t = ap length cells_are ∙ square_length t full in
       let short = ap length empty in
@@ -345,19 +350,23 @@ module _ (content : Id → Tree) (band : List Placed) (i : ℕ) (d : Placed) (lt
   piece = record { square = content (get_or band i d).square; column = (get_or band i d).column }
 
   pieces_more : pieces content (take (i + 1) band) ≡ pieces content (take i band) ++ piece ∷ []
-  pieces_more = ap (pieces content) (take_more band i d lt) ∙ map_push (λ p. record { square = content p.square; column = p.column }) (take i band) (get_or band i d)
+  pieces_more = ap (pieces content) (take_more band i d lt) ∙ map_push (λ p. record { square = content p.square; column = p.column }) (take i band)
+      (get_or band i d)
 
   -- its quarters, behind those of the squares before it
-  pub quarters_more : (f : Piece → List Piece) (old new : List Piece) → old ≡ flat_map f (pieces content (take i band)) → new ≡ old ++ f piece → new ≡ flat_map f (pieces content (take (i + 1) band))
+  pub quarters_more : (f : Piece → List Piece) (old new : List Piece) → old ≡ flat_map f (pieces content (take i band)) → new ≡ old ++ f piece
+      → new ≡ flat_map f (pieces content (take (i + 1) band))
   quarters_more f old new e g = g ∙ ap (λ l. l ++ f piece) e ∙ flat_map_more f [] (pieces content (take i band)) piece ∙ ap (flat_map f) (sym pieces_more)
 
   -- its cell, behind those of the squares before it
-  pub cell_more : (row column : ℤ) (state : ℕ) (old list new : List Cell) → list ≡ old ++ row_cells row (pieces content (take i band)) → new ≡ list ++ record { x = column; y = row; state = state } ∷ []
-      → content (get_or band i d).square ≡ point state → column ≡ (get_or band i d).column → new ≡ old ++ row_cells row (pieces content (take (i + 1) band))
+  pub cell_more : (row column : ℤ) (state : ℕ) (old list new : List Cell) → list ≡ old ++ row_cells row (pieces content (take i band))
+      → new ≡ list ++ record { x = column; y = row; state = state } ∷ [] → content (get_or band i d).square ≡ point state → column ≡ (get_or band i d).column
+      → new ≡ old ++ row_cells row (pieces content (take (i + 1) band))
   cell_more row column state old list new e g is at =
       let here : Cell = record { x = column; y = row; state = state } in
       let same : here ≡ record { x = (get_or band i d).column; y = row; state = state_at (content (get_or band i d).square) 0 0 } =
       (λ j. record { x = at j; y = row; state = state_at (sym is j) 0 0 }) in
       let rows = row_cells row (pieces content (take i band)) in
-      let more = ap (row_cells row) pieces_more ∙ map_push (λ p. record { x = p.column; y = row; state = state_at p.square 0 0 }) (pieces content (take i band)) piece in
+      let more = ap (row_cells row) pieces_more ∙ map_push (λ p. record { x = p.column; y = row; state = state_at p.square 0 0 }) (pieces content (take i band))
+      piece in
       g ∙ (λ j. e j ++ same j ∷ []) ∙ append_assoc old rows _ ∙ ap (λ l. old ++ l) (sym more)

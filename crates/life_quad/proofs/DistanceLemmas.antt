@@ -83,10 +83,14 @@ module _ (a b c d : Tree) (full : IsFull (quad a b c d)) where
 
 -- a cell so far from the side of a square lies in one of its quarters, and the other way round
 found : (side : Side) (t a b c d : Tree) → IsFull t → Faces side t a b c d → (n : ℕ) → HasCellAt side t n → Found side a b c d (2 ^ depth a) n
-found North t a b c d full is n h = let k = subst (λ z. HasCellAt North z n) is h in found_north a b c d (subst IsFull is full) k.far (quarter_of a b c d (subst IsFull is full) _ _ k.cell)
-found South t a b c d full is n h = let k = subst (λ z. HasCellAt South z n) is h in found_south c d a b (subst IsFull is full) k.far (quarter_of c d a b (subst IsFull is full) _ _ k.cell)
-found West t a b c d full is n h = let k = subst (λ z. HasCellAt West z n) is h in found_west a c b d (subst IsFull is full) k.far (quarter_of a c b d (subst IsFull is full) _ _ k.cell)
-found East t a b c d full is n h = let k = subst (λ z. HasCellAt East z n) is h in found_east c a d b (subst IsFull is full) k.far (quarter_of c a d b (subst IsFull is full) _ _ k.cell)
+found North t a b c d full is n h = let k = subst (λ z. HasCellAt North z n) is h in found_north a b c d (subst IsFull is full) k.far
+    (quarter_of a b c d (subst IsFull is full) _ _ k.cell)
+found South t a b c d full is n h = let k = subst (λ z. HasCellAt South z n) is h in found_south c d a b (subst IsFull is full) k.far
+    (quarter_of c d a b (subst IsFull is full) _ _ k.cell)
+found West t a b c d full is n h = let k = subst (λ z. HasCellAt West z n) is h in found_west a c b d (subst IsFull is full) k.far
+    (quarter_of a c b d (subst IsFull is full) _ _ k.cell)
+found East t a b c d full is n h = let k = subst (λ z. HasCellAt East z n) is h in found_east c a d b (subst IsFull is full) k.far
+    (quarter_of c a d b (subst IsFull is full) _ _ k.cell)
 
 at_side : (side : Side) (t a b c d : Tree) → IsFull t → Faces side t a b c d → (n : ℕ) → Found side a b c d (2 ^ depth a) n → HasCellAt side t n
 at_side North t a b c d full is n h = subst (λ z. HasCellAt North z n) (sym is) (at_north a b c d (subst IsFull is full) n h)

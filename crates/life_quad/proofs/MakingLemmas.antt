@@ -10,26 +10,12 @@ use Rattle.life_quad.proofs.KeepingLemmas.{keeps-then}
 use Rattle.life_quad.proofs.RefusedLemmas.{error_is}
 
 module _ {S : Type 0} (knows : S → Id → Type 0) (content : S → Id → Tree) (stored : S → List Tree) (most : S → ℕ) where
-  -- the clauses of a call that makes a square: what its answer is, and what a refusal had to store
+  -- the clauses of a call that makes squares: what its answer is, and what a refusal had to store
   abbrev pub Makes : {T : Type 0} (old new : S) (known square : T → Type 0) (needed : Type 0) → Result T Kind → Type 0
   Makes old new known square needed r =
       record {
         known : IfOk r known;
         square : IfOk r square;
-        keeps : KeepsSquares knows content stored most old new;
-        refusals : IfErr r (λ e. (e ≡ Full) ⊎ (e ≡ Memory));
-        full : r ≡ Err Full → length (stored new) ≡ most new;
-        room : r ≡ Err Memory → length (stored new) < most new;
-        needed : OnErr r needed;
-      }
-
-  -- of a call that makes two
-  abbrev pub MakesTwo : {T : Type 0} (old new : S) (left right squares : T → Type 0) (needed : Type 0) → Result T Kind → Type 0
-  MakesTwo old new left right squares needed r =
-      record {
-        left : IfOk r left;
-        right : IfOk r right;
-        squares : IfOk r squares;
         keeps : KeepsSquares knows content stored most old new;
         refusals : IfErr r (λ e. (e ≡ Full) ⊎ (e ≡ Memory));
         full : r ≡ Err Full → length (stored new) ≡ most new;
@@ -56,34 +42,15 @@ module _ {S : Type 0} (knows : S → Id → Type 0) (content : S → Id → Tree
 
 module _ {S : Type 0} {knows : S → Id → Type 0} {content : S → Id → Tree} {stored : S → List Tree} {most : S → ℕ} where
   -- an answer
-  pub made : {T K Q : Type 0} {old new : S} (x : T) → K → Q → KeepsSquares knows content stored most old new → record {
-    known : K;
-    square : Q;
-    keeps : KeepsSquares knows content stored most old new;
-    refusals : Unit {0};
-    full : Ok x ≡ Err Full → length (stored new) ≡ most new;
-    room : Ok x ≡ Err Memory → length (stored new) < most new;
-    needed : Unit {0};
-  }
+  pub made : {T K Q : Type 0} {old new : S} (x : T) → K → Q → KeepsSquares knows content stored most old new
+      → Makes knows content stored most old new (λ _. K) (λ _. Q) ⊥ (Ok x)
   made x known square keeps =
       record { known = known; square = square; keeps = keeps; refusals = tt; full = λ f. absurd (cc); room = λ f. absurd (cc); needed = tt }
 
-  pub made-two : {T L R Q : Type 0} {old new : S} (x : T) → L → R → Q → KeepsSquares knows content stored most old new → record {
-    left : L;
-    right : R;
-    squares : Q;
-    keeps : KeepsSquares knows content stored most old new;
-    refusals : Unit {0};
-    full : Ok x ≡ Err Full → length (stored new) ≡ most new;
-    room : Ok x ≡ Err Memory → length (stored new) < most new;
-    needed : Unit {0};
-  }
-  made-two x left right squares keeps =
-      record { left = left; right = right; squares = squares; keeps = keeps; refusals = tt; full = λ f. absurd (cc); room = λ f. absurd (cc); needed = tt }
-
   -- a refusal that is passed on
   pub refused : {T : Type 0} {old new : S} {needed : Type 0} {e : Kind} (known square : T → Type 0) (r : Result T Kind) → IsErrAnd r (λ f. f ≡ e)
-      → KeepsSquares knows content stored most old new → (e ≡ Full) ⊎ (e ≡ Memory) → (e ≡ Full → length (stored new) ≡ most new) → (e ≡ Memory → length (stored new) < most new)
+      → KeepsSquares knows content stored most old new → (e ≡ Full) ⊎ (e ≡ Memory) → (e ≡ Full → length (stored new) ≡ most new)
+      → (e ≡ Memory → length (stored new) < most new)
       → needed → Makes knows content stored most old new known square needed r
   refused known square r told keeps kinds full room needed =
       let p = error_is r told in
@@ -97,17 +64,11 @@ module _ {S : Type 0} {knows : S → Id → Type 0} {content : S → Id → Tree
         needed = rw p needed;
       }
 
-  pub refused-two : {T : Type 0} {old new : S} {needed : Type 0} {e : Kind} (left right squares : T → Type 0) (r : Result T Kind) → IsErrAnd r (λ f. f ≡ e)
-      → KeepsSquares knows content stored most old new → (e ≡ Full) ⊎ (e ≡ Memory) → (e ≡ Full → length (stored new) ≡ most new) → (e ≡ Memory → length (stored new) < most new)
-      → needed → MakesTwo knows content stored most old new left right squares needed r
-  refused-two left right squares r told keeps kinds full room needed =
-      let one = refused left right r told keeps kinds full room needed in
-      let two = refused left squares r told keeps kinds full room needed in
-      record { left = one.known; right = one.square; squares = two.square; keeps = keeps; refusals = one.refusals; full = one.full; room = one.room; needed = one.needed }
-
   -- calls that end with a join
-  pub joined-last : {old mid new : S} {t : Tree} {needed : Type 0} (needs : S → Tree → Type 0) (square : Tree → Type 0) (r : Result Id Kind) → KeepsSquares knows content stored most old mid
-      → Joins knows content stored most needs mid new t r → square t → (needs new t → needed) → Makes knows content stored most old new (knows new) (λ id. square (content new id)) needed r
+  pub joined-last : {old mid new : S} {t : Tree} {needed : Type 0} (needs : S → Tree → Type 0) (square : Tree → Type 0) (r : Result Id Kind)
+      → KeepsSquares knows content stored most old mid
+      → Joins knows content stored most needs mid new t r → square t → (needs new t → needed)
+      → Makes knows content stored most old new (knows new) (λ id. square (content new id)) needed r
   joined-last needs square (Ok id) first join is why =
       record {
         known = join.known;
@@ -130,7 +91,8 @@ module _ {S : Type 0} {knows : S → Id → Type 0} {content : S → Id → Tree
       }
 
   -- and a join that is refused behind other calls
-  pub join-refused : {T : Type 0} {old mid new : S} {t : Tree} {needed : Type 0} {e : Kind} (needs : S → Tree → Type 0) (known square : T → Type 0) (r : Result T Kind) → IsErrAnd r (λ f. f ≡ e)
+  pub join-refused : {T : Type 0} {old mid new : S} {t : Tree} {needed : Type 0} {e : Kind} (needs : S → Tree → Type 0)
+      (known square : T → Type 0) (r : Result T Kind) → IsErrAnd r (λ f. f ≡ e)
       → KeepsSquares knows content stored most old mid → Joins knows content stored most needs mid new t (Err e) → (needs new t → needed)
       → Makes knows content stored most old new known square needed r
   join-refused {t = t} needs known square r told first join why =

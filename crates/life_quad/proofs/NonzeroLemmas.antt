@@ -79,17 +79,17 @@ module _ (a b c d : Tree) (full : IsFull (quad a b c d)) where
 
   pub from_quarter : (i j : ℕ) → InQuarter a b c d (2 ^ depth a) i j → IsNonzeroAt (quad a b c d) i j
   from_quarter i j (in_nw h) =
-      let li = h.column in let lj = h.row in
-      record { column = omega (arith, s.whole, li); row = omega (arith, s.whole, lj); state = λ e. h.state (sym (state_nw a b c d full i j li lj) ∙ e) }
+      let w = s.whole in let li = h.column in let lj = h.row in
+      record { column = omega arith; row = omega arith; state = λ e. h.state (sym (state_nw a b c d full i j li lj) ∙ e) }
   from_quarter i j (in_ne m p h) =
-      let li = h.column in let lj = h.row in
-      record { column = omega (arith, s.whole, s.ne, p, li); row = omega (arith, s.whole, s.ne, lj); state = λ e. h.state (sym (state_ne a b c d full i m j p lj) ∙ e) }
+      let w = s.whole in let side = s.ne in let li = h.column in let lj = h.row in
+      record { column = omega arith; row = omega arith; state = λ e. h.state (sym (state_ne a b c d full i m j p lj) ∙ e) }
   from_quarter i j (in_sw n q h) =
-      let li = h.column in let lj = h.row in
-      record { column = omega (arith, s.whole, s.sw, li); row = omega (arith, s.whole, s.sw, q, lj); state = λ e. h.state (sym (state_sw a b c d full i j n q li) ∙ e) }
+      let w = s.whole in let side = s.sw in let li = h.column in let lj = h.row in
+      record { column = omega arith; row = omega arith; state = λ e. h.state (sym (state_sw a b c d full i j n q li) ∙ e) }
   from_quarter i j (in_se m n p q h) =
-      let li = h.column in let lj = h.row in
-      record { column = omega (arith, s.whole, s.se, p, li); row = omega (arith, s.whole, s.se, q, lj); state = λ e. h.state (sym (state_se a b c d full i m j n p q) ∙ e) }
+      let w = s.whole in let side = s.se in let li = h.column in let lj = h.row in
+      record { column = omega arith; row = omega arith; state = λ e. h.state (sym (state_se a b c d full i m j n p q) ∙ e) }
 
 abbrev HasNone : Tree → Type 0
 HasNone t = (i j : ℕ) → IsNonzeroAt t i j → ⊥

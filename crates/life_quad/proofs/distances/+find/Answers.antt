@@ -26,10 +26,12 @@ pub returns-in_err-b : goal.returns-in_err-b
 returns-in_err-b g t c = refused _ c.from_residual-in_err-b.result c.from_residual-in_err-b.ensures.1 c.in_err-b.ensures.right c.in_err-b.ensures.refusals
 
 pub returns-in_err-a-2 : goal.returns-in_err-a-2
-returns-in_err-a-2 g t c = refused _ c.from_residual-in_err-a-2.result c.from_residual-in_err-a-2.ensures.1 c.in_err-a-2.ensures.right c.in_err-a-2.ensures.refusals
+returns-in_err-a-2 g t c = refused _ c.from_residual-in_err-a-2.result c.from_residual-in_err-a-2.ensures.1 c.in_err-a-2.ensures.right
+    c.in_err-a-2.ensures.refusals
 
 pub returns-in_err-b-2 : goal.returns-in_err-b-2
-returns-in_err-b-2 g t c = refused _ c.from_residual-in_err-b-2.result c.from_residual-in_err-b-2.ensures.1 c.in_err-b-2.ensures.right c.in_err-b-2.ensures.refusals
+returns-in_err-b-2 g t c = refused _ c.from_residual-in_err-b-2.result c.from_residual-in_err-b-2.ensures.1 c.in_err-b-2.ensures.right
+    c.in_err-b-2.ensures.refusals
 
 pub returns-then-is_blank_at-clause-least : goal.returns-then-is_blank_at-clause-least
 returns-then-is_blank_at-clause-least g t c =

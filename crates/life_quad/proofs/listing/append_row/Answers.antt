@@ -15,7 +15,8 @@ loop-placed-preserved g c =
     let p = c.requires.each c.loop-placed.placed-index none c.loop-placed-test.true in
     let west = p.west in
     let east = p.east in
-    cell_more (g.S.Squares.content c.args.squares.now) c.args.band.now _ none c.loop-placed-test.true _ _ _ _ _ _ c.loop-placed.invariant c.in_ok-push.ensures.items
+    cell_more (g.S.Squares.content c.args.squares.now) c.args.band.now _ none c.loop-placed-test.true _ _ _ _ _ _ c.loop-placed.invariant
+    c.in_ok-push.ensures.items
     c.in-Some.ensures (omega (arith, ints, west, east))
 
 pub returns-clause-cells : goal.returns-clause-cells

@@ -20,20 +20,26 @@ append_band-requires-clause-south g c = omega (arith, ints, c.least_coordinate-w
 
 pub append_band-requires-clause-band : goal.append_band-requires-clause-band
 append_band-requires-clause-band g c =
-    let half : to_z w64 (of_z w64 c.least_coordinate-west.result) ≡ neg_ℤ (pos (2 ^ (c.level-level.result - 1))) = omega (arith, ints, c.least_coordinate-west.ensures.half) in
-    whole_in_band _ (g.met.S.Squares.full _ _ c.requires.known) _ _ (g.S.Squares.content c.args.squares.now) _ _ c.level-level.ensures.level half c.new-band.ensures.items c.in_ok-keep.ensures.pieces
+    let half : to_z w64 (of_z w64 c.least_coordinate-west.result) ≡ neg_ℤ (pos (2 ^ (c.level-level.result - 1))) =
+    omega (arith, ints, c.least_coordinate-west.ensures.half) in
+    whole_in_band _ (g.met.S.Squares.full _ _ c.requires.known) _ _ (g.S.Squares.content c.args.squares.now) _ _ c.level-level.ensures.level half
+    c.new-band.ensures.items c.in_ok-keep.ensures.pieces
 
 pub returns-in_err-append_band : goal.returns-in_err-append_band
 returns-in_err-append_band g c =
     let p = error_is c.from_residual-in_err-append_band.result c.from_residual-in_err-append_band.ensures.1 in
-    let half : to_z w64 (of_z w64 c.least_coordinate-west.result) ≡ neg_ℤ (pos (2 ^ (c.level-level.result - 1))) = omega (arith, ints, c.least_coordinate-west.ensures.half) in
-    let many = more_in_square _ (g.met.S.Squares.full _ _ c.requires.known) _ _ (g.S.Squares.content c.args.squares.now) _ _ c.level-level.ensures.level half c.new-band.ensures.items c.in_ok-keep.ensures.pieces {T = Unit {0}} (Err _) _ c.args.limit c.new-list.ensures.items c.in_err-append_band.ensures.many in
+    let half : to_z w64 (of_z w64 c.least_coordinate-west.result) ≡ neg_ℤ (pos (2 ^ (c.level-level.result - 1))) =
+    omega (arith, ints, c.least_coordinate-west.ensures.half) in
+    let many = more_in_square _ (g.met.S.Squares.full _ _ c.requires.known) _ _ (g.S.Squares.content c.args.squares.now) _ _ c.level-level.ensures.level half
+    c.new-band.ensures.items c.in_ok-keep.ensures.pieces {T = Unit {0}} (Err _) _ c.args.limit c.new-list.ensures.items c.in_err-append_band.ensures.many in
     record { cells = rw p tt; number = rw p tt; few = rw p tt; many = rw p many; refusals = rw p c.in_err-append_band.ensures.refusals }
 
 list_is : (g : Over) (c : goal.In_ok-append_band g) → c.append_band.new.list.items ≡ square_cells (g.S.Squares.content c.args.squares.now c.args.id)
 list_is g c =
-    let half : to_z w64 (of_z w64 c.least_coordinate-west.result) ≡ neg_ℤ (pos (2 ^ (c.level-level.result - 1))) = omega (arith, ints, c.least_coordinate-west.ensures.half) in
-    whole_list _ (g.met.S.Squares.full _ _ c.requires.known) _ _ (g.S.Squares.content c.args.squares.now) _ _ c.level-level.ensures.level half c.new-band.ensures.items c.in_ok-keep.ensures.pieces _ _ c.new-list.ensures.items c.in_ok-append_band.ensures.cells
+    let half : to_z w64 (of_z w64 c.least_coordinate-west.result) ≡ neg_ℤ (pos (2 ^ (c.level-level.result - 1))) =
+    omega (arith, ints, c.least_coordinate-west.ensures.half) in
+    whole_list _ (g.met.S.Squares.full _ _ c.requires.known) _ _ (g.S.Squares.content c.args.squares.now) _ _ c.level-level.ensures.level half
+    c.new-band.ensures.items c.in_ok-keep.ensures.pieces _ _ c.new-list.ensures.items c.in_ok-append_band.ensures.cells
 
 pub returns-clause-cells : goal.returns-clause-cells
 returns-clause-cells g c = subst (IsCellList _) (sym (list_is g c)) (IsCellList-square _ (g.met.S.Squares.full _ _ c.requires.known) c.requires.high)

@@ -13,7 +13,12 @@ loop-placed-init g c =
     let P = IsPlaced (g.S.Squares.knows c.args.squares.now) C (c.args.level - 1) in
     let north = c.new-north.ensures.items in
     let south = c.new-south.ensures.items in
-    record { north = subst (All P) (sym north) (All-nil P); south = subst (All P) (sym south) (All-nil P); upper = ap (pieces C) north; lower = ap (pieces C) south }
+    record {
+      north = subst (All P) (sym north) (All-nil P);
+      south = subst (All P) (sym south) (All-nil P);
+      upper = ap (pieces C) north;
+      lower = ap (pieces C) south;
+    }
 
 pub split-requires : goal.split-requires
 split-requires g c =
@@ -44,4 +49,10 @@ returns g c =
     let half = 2 ^ (c.args.level - 1) in
     let l = c.loop-placed.invariant in
     let all = take_all c.loop-placed.placed-index c.args.band.now c.loop-placed-test.false in
-    record { north = l.north; south = l.south; upper = l.upper ∙ ap (λ b. upper half (pieces C b)) all; lower = l.lower ∙ ap (λ b. lower half (pieces C b)) all; refusals = tt }
+    record {
+      north = l.north;
+      south = l.south;
+      upper = l.upper ∙ ap (λ b. upper half (pieces C b)) all;
+      lower = l.lower ∙ ap (λ b. lower half (pieces C b)) all;
+      refusals = tt;
+    }

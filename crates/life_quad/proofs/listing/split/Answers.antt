@@ -1,11 +1,11 @@
-use Rattle.std.proofs.Common.{◌≡◌, ℕ, ℤ, neg_ℤ, ◌≤ℤ◌, Result, OnOk, ◌-◌, ◌^◌, ◌≤◌, ◌+ℤ◌, pos, arith, to_z, of_z, w64}
+use Rattle.std.proofs.Common.{◌≡◌, ℕ, ◌+◌, ℤ, neg_ℤ, ◌≤ℤ◌, Result, OnOk, ◌-◌, ◌^◌, ◌≤◌, ◌+ℤ◌, pos, arith, to_z, of_z, w64}
 use Rattle.std.proofs.lemmas.Result.{on_ok_weaker}
 use Rattle.std.proofs.lemmas.Int.{ints}
 use Rattle.std.proofs.Math.Pow.{pow_mono}
 use Rattle.std.specs.Prelude.{IfErr, IsErrAnd}
 use Rattle.life_base.specs.declared.kind.Kind.{Kind}
 use Rattle.life_base.specs.declared.kind.Kind.TheVariants.{Memory}
-use Rattle.life_base.specs.Tree.{Tree}
+use Rattle.life_base.specs.Tree.{Tree, depth}
 use Rattle.life_quad.specs.Bands.{IsPlaced}
 use Rattle.life_quad.specs.declared.id.Id.{Id}
 use Rattle.life_quad.specs.declared.listing.Placed.{Placed}
@@ -21,42 +21,62 @@ refused north south northern southern r told memory =
     let p = error_is r told in
     record { north = rw p tt; south = rw p tt; northern = rw p tt; southern = rw p tt; refusals = rw p memory }
 
--- the halves of a placed square lie between the same columns
-fits_west : {K : Id → Type 0} {C : Id → Tree} (level : ℕ) (p : Placed) → 1 ≤ level → IsPlaced K C level p
-    → (neg_ℤ (pos (2 ^ 61)) ≤ℤ to_z w64 (of_z w64 p.column)) × ((to_z w64 (of_z w64 p.column) +ℤ pos (2 ^ (level - 1))) ≤ℤ pos (2 ^ 61))
-fits_west level p low placed =
-    let west = placed.west in
-    let east = placed.east in
-    let le : 2 ^ (level - 1) ≤ 2 ^ level = pow_mono (omega arith) in
-    (omega (arith, ints, west, east), omega (arith, ints, west, east, le))
+-- what is kept in a band of the level below: a known quarter whose columns lie in the half from this one on
+abbrev Half : (K : Id → Type 0) (C : Id → Tree) (k : ℕ) (column : ℤ) (q : Id) → Type 0 → Type 0
+Half K C k column q E =
+    record {
+      known : K q;
+      level : depth (C q) ≡ k - 1;
+      west : neg_ℤ (pos (2 ^ 61)) ≤ℤ to_z w64 (of_z w64 column);
+      east : (to_z w64 (of_z w64 column) +ℤ pos (2 ^ (k - 1))) ≤ℤ pos (2 ^ 61);
+      each : E;
+    }
 
-fits_east : {K : Id → Type 0} {C : Id → Tree} (level : ℕ) (p : Placed) (column : ℤ) → 1 ≤ level → IsPlaced K C level p → column ≡ to_z w64 (of_z w64 p.column) +ℤ pos (2 ^ (level - 1))
-    → (neg_ℤ (pos (2 ^ 61)) ≤ℤ to_z w64 (of_z w64 column)) × ((to_z w64 (of_z w64 column) +ℤ pos (2 ^ (level - 1))) ≤ℤ pos (2 ^ 61))
-fits_east level p column low placed half =
-    let west = placed.west in
-    let east = placed.east in
-    let twice = halves_side level low in
-    (omega (arith, ints, west, east, half, twice), omega (arith, ints, west, east, half, twice))
+module _ {K : Id → Type 0} {C : Id → Tree} {each : Type 0} (level : ℕ) (p : Placed) (q : Id) (low : 1 ≤ level) (placed : IsPlaced K C level p) (known : K q)
+    (one : depth (C q) + 1 ≡ depth (C p.square)) (e : each) where
+  west_half : Half K C level p.column q each
+  west_half =
+      let west = placed.west in
+      let east = placed.east in
+      let le : 2 ^ (level - 1) ≤ 2 ^ level = pow_mono (omega arith) in
+      record {
+        known = known;
+        level = omega (arith, one, placed.level);
+        west = omega (arith, ints, west, east);
+        east = omega (arith, ints, west, east, le);
+        each = e;
+      }
+
+  east_half : (column : ℤ) → column ≡ to_z w64 (of_z w64 p.column) +ℤ pos (2 ^ (level - 1)) → Half K C level column q each
+  east_half column half =
+      let west = placed.west in
+      let east = placed.east in
+      let twice = halves_side level low in
+      record {
+        known = known;
+        level = omega (arith, one, placed.level);
+        west = omega (arith, ints, west, east, half, twice);
+        east = omega (arith, ints, west, east, half, twice);
+        each = e;
+      }
 
 pub keep-requires : goal.keep-requires
 keep-requires g c =
-    let fits = fits_west c.args.level c.args.placed c.requires.low c.requires.placed in
-    record { known = c.divide.ensures.nw; level = omega (arith, c.divide.ensures.nw_level, c.requires.placed.level); west = fits.0; east = fits.1; each = c.requires.north }
+    west_half c.args.level c.args.placed _ c.requires.low c.requires.placed c.divide.ensures.nw c.divide.ensures.nw_level c.requires.north
 
 pub keep-requires-2 : goal.keep-requires-2
 keep-requires-2 g c =
-    let fits = fits_east c.args.level c.args.placed c.further-east.result c.requires.low c.requires.placed c.further-east.ensures in
-    record { known = c.divide.ensures.ne; level = omega (arith, c.divide.ensures.ne_level, c.requires.placed.level); west = fits.0; east = fits.1; each = c.in_ok-keep.ensures.each }
+    east_half c.args.level c.args.placed _ c.requires.low c.requires.placed c.divide.ensures.ne c.divide.ensures.ne_level
+    c.in_ok-keep.ensures.each _ c.further-east.ensures
 
 pub keep-requires-3 : goal.keep-requires-3
 keep-requires-3 g c =
-    let fits = fits_west c.args.level c.args.placed c.requires.low c.requires.placed in
-    record { known = c.divide.ensures.sw; level = omega (arith, c.divide.ensures.sw_level, c.requires.placed.level); west = fits.0; east = fits.1; each = c.requires.south }
+    west_half c.args.level c.args.placed _ c.requires.low c.requires.placed c.divide.ensures.sw c.divide.ensures.sw_level c.requires.south
 
 pub keep-requires-4 : goal.keep-requires-4
 keep-requires-4 g c =
-    let fits = fits_east c.args.level c.args.placed c.further-east.result c.requires.low c.requires.placed c.further-east.ensures in
-    record { known = c.divide.ensures.se; level = omega (arith, c.divide.ensures.se_level, c.requires.placed.level); west = fits.0; east = fits.1; each = c.in_ok-keep-3.ensures.each }
+    east_half c.args.level c.args.placed _ c.requires.low c.requires.placed c.divide.ensures.se c.divide.ensures.se_level
+    c.in_ok-keep-3.ensures.each _ c.further-east.ensures
 
 pub returns-in_err-keep : goal.returns-in_err-keep
 returns-in_err-keep g c = refused _ _ _ _ c.from_residual.result c.from_residual.ensures.1 c.in_err-keep.ensures.refusals

@@ -32,7 +32,8 @@ returns g t c =
     let P = g.S.Squares.needs_node c.trim.new.squares in
     record {
       known = call.known;
-      square = IfOk-weaker c.trim.result _ _ (λ r e. e ∙ ap (λ t. trimmed t c.args.least) smaller.square ∙ trimmed-smaller _ _ full c.requires.positive can) call.square;
+      square = IfOk-weaker c.trim.result _ _ (λ r e. e ∙ ap (λ t. trimmed t c.args.least) smaller.square ∙ trimmed-smaller _ _ full c.requires.positive can)
+          call.square;
       keeps = keeps-then smaller.keeps call.keeps;
       refusals = call.refusals;
       full = call.full;

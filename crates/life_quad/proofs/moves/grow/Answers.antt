@@ -1,48 +1,67 @@
-use Rattle.std.proofs.Common.{◌≡◌, ℕ, ◌+◌, inl, inr, refl, sym, ◌∙◌, ap, subst, arith}
-use Rattle.life_base.specs.Tree.{quad, depth, blank as blank_of}
+use Rattle.std.proofs.Common.{◌≡◌, ℕ, ◌+◌, ◌<◌, List, inl, inr, refl, sym, ◌∙◌, ap, subst, arith}
+use Rattle.life_base.specs.declared.cell.TheConstants.{MAX_LEVEL}
+use Rattle.life_base.specs.Tree.{Tree, quad, depth, blank as blank_of}
+use Rattle.life_quad.specs.Keeping.{KeepsSquares}
 use Rattle.life_quad.specs.Moves.{grown}
+use Rattle.life_quad.specs.declared.id.Id.{Id}
 use Rattle.life_quad.proofs.RefusedLemmas.{grown_is, SomePart-grown}
 use Rattle.life_quad.proofs.KeepingLemmas.{keeps-same, keeps-then}
 use Rattle.life_quad.proofs.MakingLemmas.{joined-last, join-refused}
 use Rattle.life_quad.proofs.moves.grow.Goals as goal
 
--- a blank square and a quarter are of one level
-one_level : {e q a b whole : ℕ} → e ≡ a → q ≡ b → a + 1 ≡ whole → b + 1 ≡ whole → q ≡ e
-one_level f g h i = omega (arith, f, g, h, i)
+-- a blank square and a quarter behind calls that keep the squares of a store
+kept : {S : Type 0} {knows : S → Id → Type 0} {content : S → Id → Tree} {stored : S → List Tree} {most : S → ℕ} {old new : S} {e q : Id} {level whole : ℕ}
+    → KeepsSquares knows content stored most old new → knows old e → knows old q → depth (content old e) ≡ level → level + 1 ≡ whole
+    → depth (content old q) + 1 ≡ whole → whole < MAX_LEVEL
+    → record { blank : knows new e; quarter : knows new q; same : depth (content new q) ≡ depth (content new e); room : depth (content new e) < MAX_LEVEL }
+kept k known_e known_q level one other high =
+    let e = k.contents _ known_e in
+    let q = k.contents _ known_q in
+    let at = ap depth e.1 in
+    record { blank = e.0; quarter = q.0; same = omega (arith, at, ap depth q.1, level, one, other); room = omega (arith, at, level, one, high) }
+
+-- a square made of the two is the same before and behind the calls
+needs_before : {S : Type 0} {knows : S → Id → Type 0} {content : S → Id → Tree} {stored : S → List Tree} {most : S → ℕ} {old new : S} {e q : Id}
+    (needs : Tree → Type 0) (f : Tree → Tree → Tree) → KeepsSquares knows content stored most old new → knows old e → knows old q
+    → needs (f (content new e) (content new q)) → needs (f (content old e) (content old q))
+needs_before needs f k known_e known_q = subst needs (λ i. f ((k.contents _ known_e).1 i) ((k.contents _ known_q).1 i))
 
 pub join-requires : goal.join-requires
 join-requires g c =
     let blank = c.empty-e.ensures in
     let d = c.divide.ensures in
     let side = blank.level ∙ c.level.ensures.level in
-    record { nw = blank.known; ne = blank.known; sw = blank.known; se = d.nw; ne_level = refl; sw_level = refl; se_level = sym side; room = omega (arith, side, d.nw_level, c.requires.high) }
+    record {
+      nw = blank.known;
+      ne = blank.known;
+      sw = blank.known;
+      se = d.nw;
+      ne_level = refl;
+      sw_level = refl;
+      se_level = sym side;
+      room = omega (arith, side, d.nw_level, c.requires.high);
+    }
 
 pub join-requires-2 : goal.join-requires-2
 join-requires-2 g c =
-    let keeps = c.join.ensures.keeps in
-    let e = keeps.contents _ c.empty-e.ensures.known in
-    let q = keeps.contents _ c.divide.ensures.ne in
-    let side = ap depth e.1 ∙ c.empty-e.ensures.level ∙ c.level.ensures.level in
-    let same = one_level side (ap depth q.1) c.divide.ensures.nw_level c.divide.ensures.ne_level in
-    record { nw = e.0; ne = e.0; sw = q.0; se = e.0; ne_level = refl; sw_level = same; se_level = refl; room = omega (arith, side, c.divide.ensures.nw_level, c.requires.high) }
+    let d = c.divide.ensures in
+    let k = kept c.join.ensures.keeps c.empty-e.ensures.known d.ne (c.empty-e.ensures.level ∙ c.level.ensures.level) d.nw_level d.ne_level c.requires.high in
+    record { nw = k.blank; ne = k.blank; sw = k.quarter; se = k.blank; ne_level = refl; sw_level = k.same; se_level = refl; room = k.room }
 
 pub join-requires-3 : goal.join-requires-3
 join-requires-3 g c =
-    let keeps = keeps-then c.join.ensures.keeps c.join-2.ensures.keeps in
-    let e = keeps.contents _ c.empty-e.ensures.known in
-    let q = keeps.contents _ c.divide.ensures.sw in
-    let side = ap depth e.1 ∙ c.empty-e.ensures.level ∙ c.level.ensures.level in
-    let same = one_level side (ap depth q.1) c.divide.ensures.nw_level c.divide.ensures.sw_level in
-    record { nw = e.0; ne = q.0; sw = e.0; se = e.0; ne_level = same; sw_level = refl; se_level = refl; room = omega (arith, side, c.divide.ensures.nw_level, c.requires.high) }
+    let d = c.divide.ensures in
+    let k = kept (keeps-then c.join.ensures.keeps c.join-2.ensures.keeps) c.empty-e.ensures.known d.sw (c.empty-e.ensures.level ∙ c.level.ensures.level)
+    d.nw_level d.sw_level c.requires.high in
+    record { nw = k.blank; ne = k.quarter; sw = k.blank; se = k.blank; ne_level = k.same; sw_level = refl; se_level = refl; room = k.room }
 
 pub join-requires-4 : goal.join-requires-4
 join-requires-4 g c =
-    let keeps = keeps-then (keeps-then c.join.ensures.keeps c.join-2.ensures.keeps) c.join-3.ensures.keeps in
-    let e = keeps.contents _ c.empty-e.ensures.known in
-    let q = keeps.contents _ c.divide.ensures.se in
-    let side = ap depth e.1 ∙ c.empty-e.ensures.level ∙ c.level.ensures.level in
-    let same = one_level side (ap depth q.1) c.divide.ensures.nw_level c.divide.ensures.se_level in
-    record { nw = q.0; ne = e.0; sw = e.0; se = e.0; ne_level = sym same; sw_level = sym same; se_level = sym same; room = omega (arith, side, same, c.divide.ensures.nw_level, c.requires.high) }
+    let d = c.divide.ensures in
+    let k = kept (keeps-then (keeps-then c.join.ensures.keeps c.join-2.ensures.keeps) c.join-3.ensures.keeps) c.empty-e.ensures.known d.se
+    (c.empty-e.ensures.level ∙ c.level.ensures.level) d.nw_level d.se_level c.requires.high in
+    let same = sym k.same in
+    record { nw = k.quarter; ne = k.blank; sw = k.blank; se = k.blank; ne_level = same; sw_level = same; se_level = same; room = omega (arith, same, k.room) }
 
 pub join-requires-5 : goal.join-requires-5
 join-requires-5 g c =
@@ -93,31 +112,28 @@ pub returns-in_err-north_east : goal.returns-in_err-north_east
 returns-in_err-north_east g c =
     let keeps = c.join.ensures.keeps in
     let side = c.empty-e.ensures.square ∙ ap blank_of c.level.ensures.level in
-    let N = g.S.Squares.needs_node c.join-2.new.self in
-    let e = (keeps.contents _ c.empty-e.ensures.known).1 in
-    let q = (keeps.contents _ c.divide.ensures.ne).1 in
-    join-refused g.S.Squares.needs_node _ _ c.from_residual-in_err-north_east.result c.from_residual-in_err-north_east.ensures.1 keeps c.in_err-north_east.ensures
-    (λ n. SomePart-grown _ _ _ _ _ _ c.divide.ensures.square side N (inr (inr (inl (inl (subst N (λ i. quad (e i) (e i) (q i) (e i)) n))))))
+    let N = g.S.Squares.needs_node in
+    join-refused N _ _ c.from_residual-in_err-north_east.result c.from_residual-in_err-north_east.ensures.1 keeps c.in_err-north_east.ensures
+    (λ n. SomePart-grown _ _ _ _ _ _ c.divide.ensures.square side (N c.join-2.new.self)
+    (inr (inr (inl (inl (needs_before (N c.join-2.new.self) (λ e q. quad e e q e) keeps c.empty-e.ensures.known c.divide.ensures.ne n))))))
 
 pub returns-in_err-south_west : goal.returns-in_err-south_west
 returns-in_err-south_west g c =
     let keeps = keeps-then c.join.ensures.keeps c.join-2.ensures.keeps in
     let side = c.empty-e.ensures.square ∙ ap blank_of c.level.ensures.level in
-    let N = g.S.Squares.needs_node c.join-3.new.self in
-    let e = (keeps.contents _ c.empty-e.ensures.known).1 in
-    let q = (keeps.contents _ c.divide.ensures.sw).1 in
-    join-refused g.S.Squares.needs_node _ _ c.from_residual-in_err-south_west.result c.from_residual-in_err-south_west.ensures.1 keeps c.in_err-south_west.ensures
-    (λ n. SomePart-grown _ _ _ _ _ _ c.divide.ensures.square side N (inr (inr (inr (inl (inl (subst N (λ i. quad (e i) (q i) (e i) (e i)) n)))))))
+    let N = g.S.Squares.needs_node in
+    join-refused N _ _ c.from_residual-in_err-south_west.result c.from_residual-in_err-south_west.ensures.1 keeps c.in_err-south_west.ensures
+    (λ n. SomePart-grown _ _ _ _ _ _ c.divide.ensures.square side (N c.join-3.new.self)
+    (inr (inr (inr (inl (inl (needs_before (N c.join-3.new.self) (λ e q. quad e q e e) keeps c.empty-e.ensures.known c.divide.ensures.sw n)))))))
 
 pub returns-in_err-south_east : goal.returns-in_err-south_east
 returns-in_err-south_east g c =
     let keeps = keeps-then (keeps-then c.join.ensures.keeps c.join-2.ensures.keeps) c.join-3.ensures.keeps in
     let side = c.empty-e.ensures.square ∙ ap blank_of c.level.ensures.level in
-    let N = g.S.Squares.needs_node c.join-4.new.self in
-    let e = (keeps.contents _ c.empty-e.ensures.known).1 in
-    let q = (keeps.contents _ c.divide.ensures.se).1 in
-    join-refused g.S.Squares.needs_node _ _ c.from_residual-in_err-south_east.result c.from_residual-in_err-south_east.ensures.1 keeps c.in_err-south_east.ensures
-    (λ n. SomePart-grown _ _ _ _ _ _ c.divide.ensures.square side N (inr (inr (inr (inr (inl (subst N (λ i. quad (q i) (e i) (e i) (e i)) n)))))))
+    let N = g.S.Squares.needs_node in
+    join-refused N _ _ c.from_residual-in_err-south_east.result c.from_residual-in_err-south_east.ensures.1 keeps c.in_err-south_east.ensures
+    (λ n. SomePart-grown _ _ _ _ _ _ c.divide.ensures.square side (N c.join-4.new.self)
+    (inr (inr (inr (inr (inl (needs_before (N c.join-4.new.self) (λ e q. quad q e e e) keeps c.empty-e.ensures.known c.divide.ensures.se n)))))))
 
 pub returns : goal.returns
 returns g c =
@@ -164,3 +180,5 @@ returns g c =
     let keeps = keeps-then (keeps-then (keeps-then first.keeps second.keeps) third.keeps) fourth.keeps in
     joined-last N (λ u. u ≡ grown (C o c.args.id)) c.join-5.result keeps c.join-5.ensures (whole ∙ grown_is _ _ _ _ _ _ d.square side)
     (λ n. SomePart-grown _ _ _ _ _ _ d.square side (N c.join-5.new.self) (inl (subst (N c.join-5.new.self) whole n)))
+
+-- These are the answers of the five joins.

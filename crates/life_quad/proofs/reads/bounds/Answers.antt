@@ -13,7 +13,10 @@ use Rattle.life_quad.proofs.RefusedLemmas.{error_is}
 use Rattle.life_quad.proofs.reads.bounds.Goals as goal
 
 -- a refusal that is passed on
-refused : {T : Type 0} {e : Kind} (least : T → Type 0) (r : Result T Kind) → IsErrAnd r (λ f. f ≡ e) → e ≡ Memory → record { least : IfOk r least; refusals : IfErr r (λ e. e ≡ Memory) }
+refused : {T : Type 0} {e : Kind} (least : T → Type 0) (r : Result T Kind) → IsErrAnd r (λ f. f ≡ e) → e ≡ Memory → record {
+  least : IfOk r least;
+  refusals : IfErr r (λ e. e ≡ Memory);
+}
 refused least r told memory = let p = error_is r told in record { least = rw p tt; refusals = rw p memory }
 
 pub returns-in_err-west : goal.returns-in_err-west

@@ -4,7 +4,7 @@ use Rattle.life_base.specs.Tree.{depth}
 use Rattle.life_quad.specs.Span.{SetsSpan, SetsHalves}
 use Rattle.life_quad.specs.StoreLaws.{same_ids}
 use Rattle.life_quad.proofs.KeepingLemmas.{keeps-same, keeps-then}
-use Rattle.life_quad.proofs.MakingLemmas.{made, refused, made-two, refused-two, joined-last}
+use Rattle.life_quad.proofs.MakingLemmas.{made, refused, joined-last}
 use Rattle.life_quad.proofs.RefusedLemmas.{SomePart-north, SomePart-south, SetsHalves-left, SetsHalves-right, SetsHalves-both, SetsHalves-same, with_span, span_of_point}
 use Rattle.life_quad.proofs.SpanLemmas.{in_north, in_south}
 use Rattle.life_quad.proofs.runs.+span.Goals as goal
@@ -30,8 +30,9 @@ set_halves-returns-then-end-half g t c =
     let kept = call.keeps.contents _ r.right in
     let fits : c.args.column + c.args.len ≤ c.args.half = c.if-end-half.true in
     let set = SetsHalves-left _ _ c.args.half _ _ _ _ r.side r.one_level _ (g.met.S.Squares.full o c.args.right r.right) fits call.square in
-    let there = subst (λ u. SetsHalves (C o c.args.left) (C o c.args.right) (C c.set_span.new.squares c.in_ok-set_span.field-0) u c.args.column c.args.row c.args.len c.args.state) (sym kept.1) set in
-    made-two _ call.known kept.0 there call.keeps
+    let there = subst (λ u. SetsHalves (C o c.args.left) (C o c.args.right) (C c.set_span.new.squares c.in_ok-set_span.field-0) u c.args.column c.args.row
+    c.args.len c.args.state) (sym kept.1) set in
+    made _ (call.known, kept.0) there call.keeps
 
 pub set_halves-returns-then-half-column : goal.set_halves-returns-then-half-column
 set_halves-returns-then-half-column g t c =
@@ -43,8 +44,9 @@ set_halves-returns-then-half-column g t c =
     let from : c.args.half ≤ c.args.column = c.if-half-column.true in
     let set = SetsHalves-right _ _ c.args.half _ _ _ _ r.side r.one_level _ (g.met.S.Squares.full o c.args.left r.left) from call.square in
     let n = c.set_span-then-half-column.new.squares in
-    let there = subst (λ u. SetsHalves (C o c.args.left) (C o c.args.right) u (C n c.in_ok-set_span-2.field-0) c.args.column c.args.row c.args.len c.args.state) (sym kept.1) set in
-    made-two _ kept.0 call.known there call.keeps
+    let there = subst (λ u. SetsHalves (C o c.args.left) (C o c.args.right) u (C n c.in_ok-set_span-2.field-0) c.args.column c.args.row c.args.len c.args.state)
+    (sym kept.1) set in
+    made _ (kept.0, call.known) there call.keeps
 
 pub set_halves-returns-then-len-half : goal.set_halves-returns-then-len-half
 set_halves-returns-then-len-half g t c =
@@ -53,7 +55,7 @@ set_halves-returns-then-len-half g t c =
     let test = c.eq.ensures in
     let one : c.args.left.0 ≡ c.args.right.0 = grind arith in
     let same = ap (g.S.Squares.content c.args.squares.now) (same_ids one) in
-    made-two _ call.known call.known (SetsHalves-same _ _ _ c.args.half _ _ _ _ r.side same r.positive r.columns c.if-len-half.true call.square) call.keeps
+    made _ (call.known, call.known) (SetsHalves-same _ _ _ c.args.half _ _ _ _ r.side same r.positive r.columns c.if-len-half.true call.square) call.keeps
 
 pub set_halves-returns : goal.set_halves-returns
 set_halves-returns g t c =
@@ -65,9 +67,11 @@ set_halves-returns g t c =
     let kept = second.keeps.contents _ first.known in
     let inside : c.args.column < c.args.half = grind (arith, c.if-half-column.false) in
     let beyond : c.args.half < c.args.column + c.args.len = grind (arith, c.if-end-half.false) in
-    let set = SetsHalves-both _ _ c.args.half _ _ _ _ r.side r.one_level _ _ inside beyond first.square (rw (first.keeps.contents _ r.right).1 at second.square) in
-    let there = subst (λ u. SetsHalves (C o c.args.left) (C o c.args.right) u (C c.set_span-3.new.squares c.in_ok-new_right.new_right) c.args.column c.args.row c.args.len c.args.state) (sym kept.1) set in
-    made-two _ kept.0 second.known there (keeps-then first.keeps second.keeps)
+    let set = SetsHalves-both _ _ c.args.half _ _ _ _ r.side r.one_level _ _ inside beyond first.square
+    (rw (first.keeps.contents _ r.right).1 at second.square) in
+    let there = subst (λ u. SetsHalves (C o c.args.left) (C o c.args.right) u (C c.set_span-3.new.squares c.in_ok-new_right.new_right) c.args.column c.args.row
+    c.args.len c.args.state) (sym kept.1) set in
+    made _ (kept.0, second.known) there (keeps-then first.keeps second.keeps)
 
 -- A refusal: what is set in the other half is a square too, though it is not in the store.
 pub set_halves-returns-in_err-set_span : goal.set_halves-returns-in_err-set_span
@@ -78,7 +82,7 @@ set_halves-returns-in_err-set_span g t c =
     let n = call.needed in
     let fits : c.args.column + c.args.len ≤ c.args.half = c.if-end-half.true in
     let set = SetsHalves-left _ _ c.args.half _ _ _ _ r.side r.one_level n.0 (g.met.S.Squares.full o c.args.right r.right) fits n.1 in
-    refused-two _ _ _ c.from_residual.result c.from_residual.ensures.1 call.keeps call.refusals (λ f. call.full (ap Err f)) (λ f. call.room (ap Err f))
+    refused _ _ c.from_residual.result c.from_residual.ensures.1 call.keeps call.refusals (λ f. call.full (ap Err f)) (λ f. call.room (ap Err f))
     (n.0, g.S.Squares.content o c.args.right, set, inl n.2)
 
 pub set_halves-returns-in_err-set_span-2 : goal.set_halves-returns-in_err-set_span-2
@@ -90,19 +94,20 @@ set_halves-returns-in_err-set_span-2 g t c =
     let n = call.needed in
     let from : c.args.half ≤ c.args.column = c.if-half-column.true in
     let set = SetsHalves-right _ _ c.args.half _ _ _ _ r.side r.one_level n.0 (g.met.S.Squares.full o c.args.left r.left) from n.1 in
-    refused-two _ _ _ told.result told.ensures.1 call.keeps call.refusals (λ f. call.full (ap Err f)) (λ f. call.room (ap Err f)) (g.S.Squares.content o c.args.left, n.0, set, inr n.2)
+    refused _ _ told.result told.ensures.1 call.keeps call.refusals (λ f. call.full (ap Err f)) (λ f. call.room (ap Err f))
+    (g.S.Squares.content o c.args.left, n.0, set, inr n.2)
 
 pub set_halves-returns-in_err-both : goal.set_halves-returns-in_err-both
 set_halves-returns-in_err-both g t c =
-    let o = c.args.squares.now in
     let r = c.requires in
     let call = c.in_err-both.ensures in
     let told = c.from_residual-in_err-both in
     let n = call.needed in
     let test = c.eq.ensures in
     let one : c.args.left.0 ≡ c.args.right.0 = grind arith in
-    let set = SetsHalves-same _ _ n.0 c.args.half _ _ _ _ r.side (ap (g.S.Squares.content o) (same_ids one)) r.positive r.columns c.if-len-half.true n.1 in
-    refused-two _ _ _ told.result told.ensures.1 call.keeps call.refusals (λ f. call.full (ap Err f)) (λ f. call.room (ap Err f)) (n.0, n.0, set, inl n.2)
+    let set = SetsHalves-same _ _ n.0 c.args.half _ _ _ _ r.side (ap (g.S.Squares.content c.args.squares.now) (same_ids one)) r.positive r.columns
+    c.if-len-half.true n.1 in
+    refused _ _ told.result told.ensures.1 call.keeps call.refusals (λ f. call.full (ap Err f)) (λ f. call.room (ap Err f)) (n.0, n.0, set, inl n.2)
 
 pub set_halves-returns-in_err-new_left : goal.set_halves-returns-in_err-new_left
 set_halves-returns-in_err-new_left g t c =
@@ -117,7 +122,7 @@ set_halves-returns-in_err-new_left g t c =
     let sides : 2 ^ depth (g.S.Squares.content o c.args.right) ≡ c.args.half = ap (λ d. 2 ^ d) r.one_level ∙ sym r.side in
     let other = with_span c.args.state (omega arith) (g.S.Squares.content o c.args.right) (g.met.S.Squares.full o c.args.right r.right) 0 c.args.row (c.args.column + c.args.len - c.args.half)
     (omega (arith, beyond)) (omega (arith, r.columns, sides)) (omega (arith, r.rows, sides)) in
-    refused-two _ _ _ told.result told.ensures.1 call.keeps call.refusals (λ f. call.full (ap Err f)) (λ f. call.room (ap Err f))
+    refused _ _ told.result told.ensures.1 call.keeps call.refusals (λ f. call.full (ap Err f)) (λ f. call.room (ap Err f))
     (n.0, other.0, SetsHalves-both _ _ c.args.half _ _ _ _ r.side r.one_level n.0 other.0 inside beyond n.1 other.1, inl n.2)
 
 pub set_halves-returns-in_err-new_right : goal.set_halves-returns-in_err-new_right
@@ -130,7 +135,8 @@ set_halves-returns-in_err-new_right g t c =
     let inside : c.args.column < c.args.half = grind (arith, c.if-half-column.false) in
     let beyond : c.args.half < c.args.column + c.args.len = grind (arith, c.if-end-half.false) in
     let set = SetsHalves-both _ _ c.args.half _ _ _ _ r.side r.one_level _ n.0 inside beyond first.square (rw (first.keeps.contents _ r.right).1 at n.1) in
-    refused-two _ _ _ told.result told.ensures.1 (keeps-then first.keeps call.keeps) call.refusals (λ f. call.full (ap Err f)) (λ f. call.room (ap Err f)) (_, n.0, set, inr n.2)
+    refused _ _ told.result told.ensures.1 (keeps-then first.keeps call.keeps) call.refusals (λ f. call.full (ap Err f)) (λ f. call.room (ap Err f))
+    (_, n.0, set, inr n.2)
 
 -- ---- a square, by its halves
 
@@ -145,15 +151,15 @@ pub set_span-join-requires : goal.set_span-join-requires
 set_span-join-requires g t c =
     let d = c.divide.ensures in
     let h = c.in_ok-left.ensures in
-    let a = h.squares.left_level in
+    let a = h.square.left_level in
     let sw = h.keeps.contents _ d.sw in
     let se = h.keeps.contents _ d.se in
     record {
-      nw = h.left;
-      ne = h.right;
+      nw = h.known.0;
+      ne = h.known.1;
       sw = sw.0;
       se = se.0;
-      ne_level = omega (arith, a, h.squares.right_level, d.nw_level, d.ne_level);
+      ne_level = omega (arith, a, h.square.right_level, d.nw_level, d.ne_level);
       sw_level = omega (arith, a, ap depth sw.1, d.nw_level, d.sw_level);
       se_level = omega (arith, a, ap depth se.1, d.nw_level, d.se_level);
       room = omega (arith, a, d.nw_level, c.level-level.ensures.level, c.level-level.ensures.low);
@@ -169,11 +175,11 @@ set_span-join-requires-else-row-half g t c =
     record {
       nw = nw.0;
       ne = ne.0;
-      sw = h.left;
-      se = h.right;
+      sw = h.known.0;
+      se = h.known.1;
       ne_level = omega (arith, a, ap depth ne.1, d.nw_level, d.ne_level);
-      sw_level = omega (arith, a, h.squares.left_level, d.nw_level, d.sw_level);
-      se_level = omega (arith, a, h.squares.right_level, d.nw_level, d.se_level);
+      sw_level = omega (arith, a, h.square.left_level, d.nw_level, d.sw_level);
+      se_level = omega (arith, a, h.square.right_level, d.nw_level, d.se_level);
       room = omega (arith, a, d.nw_level, c.level-level.ensures.level, c.level-level.ensures.low);
     }
 
@@ -183,7 +189,8 @@ set_span-returns-in_err-left g t c =
     let call = c.in_err-left.ensures in
     let n = call.needed in
     let full = g.met.S.Squares.full c.args.squares.now c.args.id c.requires.known in
-    let set = in_north _ _ _ _ _ _ _ _ _ _ _ full d.square c.level-level.ensures.level d.nw_level c.half_side-half.ensures.half n.0 n.1 _ _ c.if-row-half.true n.2 refl refl in
+    let set = in_north _ _ _ _ _ _ _ _ _ _ _ full d.square c.level-level.ensures.level d.nw_level c.half_side-half.ensures.half n.0 n.1 _ _ c.if-row-half.true
+    n.2 refl refl in
     refused _ _ c.from_residual.result c.from_residual.ensures.1 call.keeps call.refusals (λ f. call.full (ap Err f)) (λ f. call.room (ap Err f))
     (_, set, SomePart-north (g.S.Squares.needs_node c.set_halves.new.squares) _ _ _ _ n.3)
 
@@ -194,7 +201,8 @@ set_span-returns-in_err-left-2 g t c =
     let told = c.from_residual-in_err-left-2 in
     let n = call.needed in
     let full = g.met.S.Squares.full c.args.squares.now c.args.id c.requires.known in
-    let set = in_south _ _ _ _ _ _ _ _ _ _ _ full d.square c.level-level.ensures.level d.nw_level c.half_side-half.ensures.half _ _ n.0 n.1 c.if-row-half.false n.2 refl refl in
+    let set = in_south _ _ _ _ _ _ _ _ _ _ _ full d.square c.level-level.ensures.level d.nw_level c.half_side-half.ensures.half _ _ n.0 n.1 c.if-row-half.false
+    n.2 refl refl in
     refused _ _ told.result told.ensures.1 call.keeps call.refusals (λ f. call.full (ap Err f)) (λ f. call.room (ap Err f))
     (_, set, SomePart-south (g.S.Squares.needs_node c.set_halves-else-row-half.new.squares) _ _ _ _ n.3)
 
@@ -204,9 +212,11 @@ set_span-returns-in_ok-left g t c =
     let h = c.in_ok-left.ensures in
     let t = g.S.Squares.content c.args.squares.now c.args.id in
     let full = g.met.S.Squares.full c.args.squares.now c.args.id c.requires.known in
-    let set = in_north _ _ _ _ _ _ _ _ _ _ _ full d.square c.level-level.ensures.level d.nw_level c.half_side-half.ensures.half _ _ _ _ c.if-row-half.true h.squares
+    let set = in_north _ _ _ _ _ _ _ _ _ _ _ full d.square c.level-level.ensures.level d.nw_level c.half_side-half.ensures.half _ _ _ _ c.if-row-half.true
+    h.square
     (h.keeps.contents _ d.sw).1 (h.keeps.contents _ d.se).1 in
-    joined-last g.S.Squares.needs_node (λ u. SetsSpan t u c.args.column c.args.row c.args.len c.args.state) c.join.result h.keeps c.join.ensures set (λ n. (_, set, inl n))
+    joined-last g.S.Squares.needs_node (λ u. SetsSpan t u c.args.column c.args.row c.args.len c.args.state) c.join.result h.keeps c.join.ensures set
+    (λ n. (_, set, inl n))
 
 pub set_span-returns-in_ok-left-2 : goal.set_span-returns-in_ok-left-2
 set_span-returns-in_ok-left-2 g t c =
@@ -214,6 +224,8 @@ set_span-returns-in_ok-left-2 g t c =
     let h = c.in_ok-left-2.ensures in
     let t = g.S.Squares.content c.args.squares.now c.args.id in
     let full = g.met.S.Squares.full c.args.squares.now c.args.id c.requires.known in
-    let set = in_south _ _ _ _ _ _ _ _ _ _ _ full d.square c.level-level.ensures.level d.nw_level c.half_side-half.ensures.half _ _ _ _ c.if-row-half.false h.squares
+    let set = in_south _ _ _ _ _ _ _ _ _ _ _ full d.square c.level-level.ensures.level d.nw_level c.half_side-half.ensures.half _ _ _ _ c.if-row-half.false
+    h.square
     (h.keeps.contents _ d.nw).1 (h.keeps.contents _ d.ne).1 in
-    joined-last g.S.Squares.needs_node (λ u. SetsSpan t u c.args.column c.args.row c.args.len c.args.state) c.join-else-row-half.result h.keeps c.join-else-row-half.ensures set (λ n. (_, set, inl n))
+    joined-last g.S.Squares.needs_node (λ u. SetsSpan t u c.args.column c.args.row c.args.len c.args.state) c.join-else-row-half.result h.keeps
+    c.join-else-row-half.ensures set (λ n. (_, set, inl n))

@@ -50,7 +50,8 @@ abbrev new : goal.After-self-1 → Nodes
 new c = record { nodes = c.insert_full.new.self.keys; log = c.then-self-inside.result.ids; limit = c.self.inside.limit }
 
 -- the node is new and behind the others, and there was room for it
-added : (c : goal.After-self-1) → IsNode (old c).log (squares (old c).nodes) (length (old c).nodes) c.args.node × (¬ Contains (old c).nodes c.args.node) × HasRoom (old c)
+added : (c : goal.After-self-1)
+    → IsNode (old c).log (squares (old c).nodes) (length (old c).nodes) c.args.node × (¬ Contains (old c).nodes c.args.node) × HasRoom (old c)
     × (new c ≡ with_both (old c) c.args.node) × (c.in_ok-i.i ≡ length (old c).nodes)
 added c =
     let s = old c in
@@ -80,8 +81,14 @@ invariant_of-self-then-is_new c =
     let more = inv.3 in
     let level : c.args.level ≡ depth (node_square (squares s.nodes) c.args.node) = subst (λ v. c.args.level ≡ depth (node_square (squares v.nodes) c.args.node)) (sym c.self.view_is) c.requires.level in
     let levels = c.in_ok-push.ensures.items ∙ ap (λ l. l ++ c.args.level ∷ []) (c.make_room.ensures.levels ∙ inv.4) ∙ ap (λ v. levels_of s.nodes ++ v ∷ []) level
-    ∙ sym (ap levels_of nodes ∙ levels-push s.nodes c.args.node) in
-    (sound.0, sound.1, HasSeen-node (value_of c.self.inside.seen) s.log (new c).log (66064 + length s.nodes) inv.2 (omega arith) last, omega (arith, longer, more, one), levels)
+    ∙ sym (ap levels_of nodes ∙ levels-push s.nodes c.args.node) in (
+      sound.0,
+      sound.1,
+      HasSeen-node (value_of c.self.inside.seen) s.log (new c).log (66064 + length s.nodes) inv.2 (omega arith) last,
+      omega
+          (arith, longer, more, one),
+      levels,
+    )
 
 pub returns-in_ok-push : goal.returns-in_ok-push
 returns-in_ok-push c =

@@ -10,11 +10,10 @@ use Rattle.life_quad.proofs.shared.Shared.mark.Goals as goal
 pub returns-then-get : goal.returns-then-get
 returns-then-get c =
     let s = the_view c.self.inside in
-    let v = c.self.view_is in
     let inv = c.self.invariant in
-    let small = subst (λ v. IsSmall v.log (squares v.nodes) c.args.number) (sym v) c.requires.small in
+    let small = subst (λ v. IsSmall v.log (squares v.nodes) c.args.number) (sym c.self.view_is) c.requires.small in
     let there = inv.2.joined c.args.number (sym c.get.ensures ∙ c.if-get.true) in
-    subst (λ v. Answers v v (small_square c.args.number) (Ok (id_of c.args.number))) v (small_there s c.args.number inv.0 inv.1 small there)
+    subst (λ v. Answers v v (small_square c.args.number) (Ok (id_of c.args.number))) c.self.view_is (small_there s c.args.number inv.0 inv.1 small there)
 
 pub returns-then-len-self : goal.returns-then-len-self
 returns-then-len-self c =
@@ -56,7 +55,9 @@ abbrev new : goal.After-self-2-1 → Nodes
 new c = record { nodes = c.self.inside.nodes.keys; log = c.then-self-inside.result.ids; limit = c.self.inside.limit }
 
 -- the square is new, and there was room for it
-added : (c : goal.After-self-2-1) → IsSmall (old c).log (squares (old c).nodes) c.args.number × (¬ Contains (old c).log c.args.number) × (length (old c).log < (old c).limit) × (new c ≡ with_id (old c) c.args.number)
+added : (c : goal.After-self-2-1)
+    → IsSmall (old c).log (squares (old c).nodes) c.args.number × (¬ Contains (old c).log c.args.number)
+    × (length (old c).log < (old c).limit) × (new c ≡ with_id (old c) c.args.number)
 added c =
     let s = old c in
     let inv = c.self.invariant in
@@ -77,8 +78,14 @@ invariant_of-self-2 c =
     let grown : (new c).log ≡ s.log ++ c.args.number ∷ [] = c.then-self-inside.ensures in
     let longer = ap length grown ∙ length-append s.log (c.args.number ∷ []) in
     let more = inv.3 in
-    let sound = sound_marked s (new c) c.args.number inv.0 inv.1 a.0 a.1 a.2 a.3 in
-    (sound.0, sound.1, HasSeen-mark (value_of c.self.inside.seen) (value_of c.see.new.seen) s.log (new c).log c.args.number inv.2 c.in_ok-see.ensures.marked c.see.ensures.others grown, omega (arith, longer, more), inv.4)
+    let sound = sound_marked s (new c) c.args.number inv.0 inv.1 a.0 a.1 a.2 a.3 in (
+      sound.0,
+      sound.1,
+      HasSeen-mark (value_of c.self.inside.seen) (value_of c.see.new.seen) s.log (new c).log c.args.number inv.2 c.in_ok-see.ensures.marked
+          c.see.ensures.others grown,
+      omega (arith, longer, more),
+      inv.4,
+    )
 
 pub returns : goal.returns
 returns c =

@@ -1,8 +1,8 @@
-use Rattle.std.proofs.Common.{◌≡◌, arith, sym, ◌∙◌, ap, subst, true≢false, ◌+◌, ◌<◌, suc, false}
+use Rattle.std.proofs.Common.{◌≡◌, arith, sym, ◌∙◌, ap, subst, true≢false, ◌+◌, suc}
 use Rattle.life_quad.specs.Store.{squares, content, node_square, Answers}
 use Rattle.life_quad.specs.StoreLaws.{small_node}
 use Rattle.life_quad.specs.SmallLaws.{small_range}
-use Rattle.life_base.specs.Tree.{depth, blank, is_blank_tree}
+use Rattle.life_base.specs.Tree.{depth, blank}
 use Rattle.life_quad.specs.declared.id.Id.{Id}
 use Rattle.life_quad.specs.declared.id.Node.{Node}
 use Rattle.life_quad.specs.declared.shared.Shared.{Shared}
@@ -56,7 +56,8 @@ returns-in-Some c =
     let s = c.args.self.now in
     let node = quarters_of s c.args.nw c.args.ne c.args.sw c.args.se in
     let not_blank = is_blank-joined _ _ _ _ _ r.nw.0 r.ne.0 r.sw.0 r.se.0 r.ne_level r.sw_level r.se_level ∙ sym c.are_blank.ensures ∙ c.if-are_blank.false in
-    let answers = subst (λ t. Answers s c.mark.new.self t c.mark.result) (small_node (squares s.nodes) node c.in-Some.number (sym c.small_number.ensures ∙ c.in-Some.is)) c.mark.ensures in
+    let answers = subst (λ t. Answers s c.mark.new.self t c.mark.result)
+    (small_node (squares s.nodes) node c.in-Some.number (sym c.small_number.ensures ∙ c.in-Some.is)) c.mark.ensures in
     join_answers s c.mark.new.self (node_square (squares s.nodes) node) (omega arith) not_blank c.mark.result answers
 
 -- ---- a node
@@ -75,4 +76,5 @@ returns c =
     let r = c.requires in
     let s = c.args.self.now in
     let not_blank = is_blank-joined _ _ _ _ _ r.nw.0 r.ne.0 r.sw.0 r.se.0 r.ne_level r.sw_level r.se_level ∙ sym c.are_blank.ensures ∙ c.if-are_blank.false in
-    join_answers s c.intern.new.self (node_square (squares s.nodes) (quarters_of s c.args.nw c.args.ne c.args.sw c.args.se)) (omega arith) not_blank c.intern.result c.intern.ensures
+    join_answers s c.intern.new.self (node_square (squares s.nodes) (quarters_of s c.args.nw c.args.ne c.args.sw c.args.se)) (omega arith) not_blank
+    c.intern.result c.intern.ensures
