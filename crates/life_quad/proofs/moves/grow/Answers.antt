@@ -42,11 +42,26 @@ join-requires g c =
       room = omega (arith, side, d.nw_level, c.requires.high);
     }
 
+-- in whichever of the four places the quarter stands
 pub join-requires-2 : goal.join-requires-2
 join-requires-2 g c =
     let d = c.divide.ensures in
-    let k = kept c.join.ensures.keeps c.empty-e.ensures.known d.ne (c.empty-e.ensures.level ∙ c.level.ensures.level) d.nw_level d.ne_level c.requires.high in
-    record { nw = k.blank; ne = k.blank; sw = k.quarter; se = k.blank; ne_level = refl; sw_level = k.same; se_level = refl; room = k.room }
+    let blank = c.empty-e.ensures in
+    let side = blank.level ∙ c.level.ensures.level in
+    let e = c.join.ensures.keeps.contents _ blank.known in
+    let ne = c.join.ensures.keeps.contents _ d.ne in
+    let level = ap depth ne.1 in
+    let blank_level = ap depth e.1 in
+    record {
+      nw = assumption (e, ne);
+      ne = assumption (e, ne);
+      sw = assumption (e, ne);
+      se = assumption (e, ne);
+      ne_level = omega (arith, level, blank_level, side, d.nw_level, d.ne_level);
+      sw_level = omega (arith, level, blank_level, side, d.nw_level, d.ne_level);
+      se_level = omega (arith, level, blank_level, side, d.nw_level, d.ne_level);
+      room = omega (arith, level, blank_level, side, d.nw_level, d.ne_level, c.requires.high);
+    }
 
 pub join-requires-3 : goal.join-requires-3
 join-requires-3 g c =

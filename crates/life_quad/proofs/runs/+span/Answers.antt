@@ -48,15 +48,6 @@ set_halves-returns-then-half-column g t c =
     (sym kept.1) set in
     made _ (kept.0, call.known) there call.keeps
 
-pub set_halves-returns-then-len-half : goal.set_halves-returns-then-len-half
-set_halves-returns-then-len-half g t c =
-    let r = c.requires in
-    let call = c.in_ok-both.ensures in
-    let test = c.eq.ensures in
-    let one : c.args.left.0 ≡ c.args.right.0 = grind arith in
-    let same = ap (g.S.Squares.content c.args.squares.now) (same_ids one) in
-    made _ (call.known, call.known) (SetsHalves-same _ _ _ c.args.half _ _ _ _ r.side same r.positive r.columns c.if-len-half.true call.square) call.keeps
-
 pub set_halves-returns : goal.set_halves-returns
 set_halves-returns g t c =
     let o = c.args.squares.now in
