@@ -20,6 +20,7 @@ use Rattle.life_quad.specs.Store.{Nodes, two, four, small_square, number_of, id_
 use Rattle.life_quad.specs.Keeping.{KeepsSquares}
 use Rattle.life_quad.specs.SmallLaws.{small_range, quarters_range}
 use Rattle.life_quad.specs.StoreLaws.{Kinds, a_state, a_blank, a_small, a_node, kind_of, Names, the_state, the_blank, the_node, names, same_id, same_ids, length-squares, squares-push, small_node, square_of-append, square_of-node, square_of-small, square_of-id, is_blank-content, full_content, slice_get-last, slice_get-push_cases, node_square-append}
+use Rattle.life_quad.proofs.MakingLemmas.{Joins}
 use Rattle.life_quad.proofs.GrowLemmas.{with_id, with_node, with_both, IsSound-id, IsSound-both, IsShared-id, IsShared-both}
 
 -- the Id of a state
@@ -515,10 +516,10 @@ node_there s n i h u at = answers_ok s s (node_square (squares s.nodes) n) (id_o
 
 -- what a join of a square that isn't blank answers
 module _ (old new : Nodes) (t : Tree) (deep : 0 < depth t) (not_blank : is_blank_tree t ≡ false) where
-  abbrev pub Needs : Type 0
+  abbrev Needs : Type 0
   Needs = (is_blank_tree t ≡ false) × ¬ Contains (held old) t
 
-  pub join_known : (r : Result Id Kind) → Answers old new t r → IfOk r (λ id. Knows new id × IsShared new)
+  join_known : (r : Result Id Kind) → Answers old new t r → IfOk r (λ id. Knows new id × IsShared new)
   join_known (Ok id) a = by a.joined
     where
       by : Joined old new t id → Knows new id × IsShared new
@@ -526,7 +527,7 @@ module _ (old new : Nodes) (t : Tree) (deep : 0 < depth t) (not_blank : is_blank
       by (is_new absent keeps added known is) = known
   join_known (Err k) a = tt
 
-  pub join_square : (r : Result Id Kind) → Answers old new t r → IfOk r (λ id. content new id ≡ t)
+  join_square : (r : Result Id Kind) → Answers old new t r → IfOk r (λ id. content new id ≡ t)
   join_square (Ok id) a = by a.joined
     where
       by : Joined old new t id → content new id ≡ t
@@ -553,10 +554,10 @@ module _ (old new : Nodes) (t : Tree) (deep : 0 < depth t) (not_blank : is_blank
       by (is_new absent keeps added known is) = subst (λ l. Contains l u) (sym added) (Contains-append_left (held old) (t ∷ []) u h)
   join_stays (Err k) a u h = subst (λ s. Contains (held s) u) (sym a.unchanged) h
 
-  pub join_keeps : (r : Result Id Kind) → Answers old new t r → KeepsSquares (λ s id. Knows s id × IsShared s) content held (λ s. s.limit) old new
+  join_keeps : (r : Result Id Kind) → Answers old new t r → KeepsSquares (λ s id. Knows s id × IsShared s) content held (λ s. s.limit) old new
   join_keeps r a = record { contents = join_contents r a; stored = join_stays r a; limit = a.limit }
 
-  pub join_added : (r : Result Id Kind) → Answers old new t r → OnOk r (Needs → held new ≡ held old ++ t ∷ [])
+  join_added : (r : Result Id Kind) → Answers old new t r → OnOk r (Needs → held new ≡ held old ++ t ∷ [])
   join_added (Ok id) a = λ needs. by needs a.joined
     where
       by : Needs → Joined old new t id → held new ≡ held old ++ t ∷ []
@@ -564,7 +565,7 @@ module _ (old new : Nodes) (t : Tree) (deep : 0 < depth t) (not_blank : is_blank
       by needs (is_new absent keeps added known is) = added
   join_added (Err k) a = tt
 
-  pub join_there : (r : Result Id Kind) → Answers old new t r → OnOk r (¬ Needs → held new ≡ held old)
+  join_there : (r : Result Id Kind) → Answers old new t r → OnOk r (¬ Needs → held new ≡ held old)
   join_there (Ok id) a = λ unneeded. by unneeded a.joined
     where
       by : ¬ Needs → Joined old new t id → held new ≡ held old
@@ -572,7 +573,7 @@ module _ (old new : Nodes) (t : Tree) (deep : 0 < depth t) (not_blank : is_blank
       by unneeded (is_new absent keeps added known is) = absurd (unneeded (not_blank, absent))
   join_there (Err k) a = tt
 
-  pub join_fresh : (r : Result Id Kind) → Answers old new t r → IfOk r (λ id. Needs → ¬ (Knows old id × IsShared old))
+  join_fresh : (r : Result Id Kind) → Answers old new t r → IfOk r (λ id. Needs → ¬ (Knows old id × IsShared old))
   join_fresh (Ok id) a = λ needs known. by needs known a.joined
     where
       by : Needs → Knows old id × IsShared old → Joined old new t id → ⊥
@@ -582,12 +583,29 @@ module _ (old new : Nodes) (t : Tree) (deep : 0 < depth t) (not_blank : is_blank
           absent (subst (Contains (held old)) same (held-complete old known.1 id known.0 (ap is_blank_tree same ∙ not_blank) (subst (λ z. 0 < depth z) (sym same) deep)))
   join_fresh (Err k) a = tt
 
-  pub join_full : (r : Result Id Kind) → Answers old new t r → (r ≡ Err Full) ↔ (Needs × (length (held old) ≡ old.limit))
+  join_full : (r : Result Id Kind) → Answers old new t r → (r ≡ Err Full) ↔ (Needs × (length (held old) ≡ old.limit))
   join_full r a = (λ e. let f = a.full.0 e in ((not_blank, f.0), f.1), λ needs. a.full.1 (needs.0.1, needs.1))
 
-  pub join_needed : (r : Result Id Kind) → Answers old new t r → OnErr r Needs
+  join_needed : (r : Result Id Kind) → Answers old new t r → OnErr r Needs
   join_needed (Ok id) a = tt
   join_needed (Err k) a = (not_blank, a.needed)
+
+  pub join_answers : (r : Result Id Kind) → Answers old new t r
+      → Joins (λ s id. Knows s id × IsShared s) content held (λ s. s.limit) (λ s u. (is_blank_tree u ≡ false) × ¬ Contains (held s) u) old new t r
+  join_answers r a =
+      record {
+        known = join_known r a;
+        square = join_square r a;
+        keeps = join_keeps r a;
+        added = join_added r a;
+        there = join_there r a;
+        fresh = join_fresh r a;
+        full = join_full r a;
+        room = a.room;
+        refusals = a.refusals;
+        needed = join_needed r a;
+        unchanged = a.unchanged;
+      }
 
 module _ (s : Nodes) (nw ne sw se : Id) (a : Knows s nw) (b : Knows s ne) (c : Knows s sw) (d : Knows s se)
     (e : depth (square_of (squares s.nodes) ne) ≡ depth (square_of (squares s.nodes) nw))

@@ -1,10 +1,10 @@
 -- The list of the cells of a square.
-use Rattle.std.proofs.Common.{◌≡◌, ◌≢◌, ℕ, zero, suc, ◌+◌, ◌-◌, ◌^◌, ◌≤◌, ◌<◌, Bool, true, false, ◌&&◌, ◌⊎◌, inl, inr, ℤ, pos, neg_ℤ, ◌+ℤ◌, ◌≤ℤ◌, ◌<ℤ◌, List, [], ◌∷◌, ◌++◌, length, length-append, Contains, get_or, refl, sym, ◌∙◌, ap, subst, arith}
+use Rattle.std.proofs.Common.{◌≡◌, ◌≢◌, ℕ, zero, suc, ◌+◌, ◌-◌, ◌^◌, ◌≤◌, ◌<◌, Bool, true, false, ◌&&◌, ◌⊎◌, inl, inr, ℤ, pos, neg_ℤ, ◌+ℤ◌, ◌≤ℤ◌, ◌<ℤ◌, List, [], ◌∷◌, ◌++◌, length, length-append, Contains, get_or, map, take, refl, sym, ◌∙◌, ap, subst, arith}
 use Rattle.std.proofs.lemmas.Result.{IfErr-weaker}
 use Rattle.std.specs.Prelude.{if◌then◌else◌}
-use Rattle.std.specs.List.{AllPairs}
+use Rattle.std.specs.List.{AllPairs, flat_map}
 use Rattle.std.proofs.lemmas.Int.{ints}
-use Rattle.std.proofs.lemmas.List.{append_assoc, append-nil}
+use Rattle.std.proofs.lemmas.List.{append_assoc, append-nil, flat_map_more, map_push, take_more}
 use Rattle.std.proofs.lemmas.List.Kept.{AllPairs-cons}
 use Rattle.std.proofs.lemmas.List.Elements.{Contains-get_or}
 use Rattle.life_base.specs.declared.cell.Cell.{Cell}
@@ -283,43 +283,90 @@ pub halves_side : (level : ℕ) → 1 ≤ level → 2 ^ level ≡ 2 ^ (level - 1
 halves_side level low = sym (side level low)
 
 -- the cells of a band by those of its halves
-module _ (level : ℕ) (row first middle : ℤ) (band north south : List Piece) (low : 1 ≤ level) (same : first ≡ row) (place : middle ≡ row +ℤ pos (2 ^ (level - 1)))
-    (upper_is : north ≡ upper (2 ^ (level - 1)) band) (lower_is : south ≡ lower (2 ^ (level - 1)) band) where
-  halves_are : band_cells level row band ≡ band_cells (level - 1) first north ++ band_cells (level - 1) middle south
-  halves_are = band_step level row middle band low place ∙ (λ i. band_cells (level - 1) (sym same i) (sym upper_is i) ++ band_cells (level - 1) middle (sym lower_is i))
+module _ (level : ℕ) (row first middle : ℤ) (content : Id → Tree) (named seen : List Placed) (north south : List Piece) (some : level ≢ 0) (same : first ≡ row)
+    (place : middle ≡ row +ℤ pos (2 ^ (level - 1))) (is : seen ≡ named)
+    (upper_is : north ≡ upper (2 ^ (level - 1)) (pieces content seen)) (lower_is : south ≡ lower (2 ^ (level - 1)) (pieces content seen)) where
+  abbrev both : List Piece
+  both = pieces content named
 
-  pub both_halves : (old list new : List Cell) → list ≡ old ++ band_cells (level - 1) first north → new ≡ list ++ band_cells (level - 1) middle south → new ≡ old ++ band_cells level row band
+  halves_are : band_cells level row both ≡ band_cells (level - 1) first north ++ band_cells (level - 1) middle south
+  halves_are =
+      let north_is = upper_is ∙ ap (λ b. upper (2 ^ (level - 1)) (pieces content b)) is in
+      let south_is = lower_is ∙ ap (λ b. lower (2 ^ (level - 1)) (pieces content b)) is in
+      band_step level row middle both (omega arith) place ∙
+      (λ i. band_cells (level - 1) (sym same i) (sym north_is i) ++ band_cells (level - 1) middle (sym south_is i))
+
+  pub both_halves : (old list new : List Cell) → list ≡ old ++ band_cells (level - 1) first north → new ≡ list ++ band_cells (level - 1) middle south
+      → new ≡ old ++ band_cells level row both
   both_halves old list new e f =
       f ∙ ap (λ l. l ++ band_cells (level - 1) middle south) e ∙ append_assoc old (band_cells (level - 1) first north) (band_cells (level - 1) middle south) ∙ ap (λ l. old ++ l) (sym halves_are)
 
-  both_lengths : length (band_cells level row band) ≡ length (band_cells (level - 1) first north) + length (band_cells (level - 1) middle south)
+  both_lengths : length (band_cells level row both) ≡ length (band_cells (level - 1) first north) + length (band_cells (level - 1) middle south)
   both_lengths = ap length halves_are ∙ length-append (band_cells (level - 1) first north) (band_cells (level - 1) middle south)
 
   -- more cells in a half than a limit leaves room for are more in the whole
   pub more_in_first : {T : Type 0} (r : Result T Kind) (old limit : ℕ) → IfErr r (λ e. e ≡ TooManyCells → limit < old + length (band_cells (level - 1) first north))
-      → IfErr r (λ e. e ≡ TooManyCells → limit < old + length (band_cells level row band))
+      → IfErr r (λ e. e ≡ TooManyCells → limit < old + length (band_cells level row both))
   more_in_first r old limit h = IfErr-weaker r _ _ (λ e f is. let n = f is in omega (arith, n, both_lengths)) h
 
   pub more_in_second : {T : Type 0} (r : Result T Kind) (old list : List Cell) (limit : ℕ) → list ≡ old ++ band_cells (level - 1) first north
-      → IfErr r (λ e. e ≡ TooManyCells → limit < length list + length (band_cells (level - 1) middle south)) → IfErr r (λ e. e ≡ TooManyCells → limit < length old + length (band_cells level row band))
+      → IfErr r (λ e. e ≡ TooManyCells → limit < length list + length (band_cells (level - 1) middle south))
+      → IfErr r (λ e. e ≡ TooManyCells → limit < length old + length (band_cells level row both))
   more_in_second r old list limit is h =
       let l = ap length is ∙ length-append old (band_cells (level - 1) first north) in
       IfErr-weaker r _ _ (λ e f same. let n = f same in omega (arith, n, l, both_lengths)) h
 
--- a band of the one square, and its cells
-pub whole_band : (content : Id → Tree) (band old : List Placed) (t : Tree) (west : ℤ) → old ≡ [] → west ≡ neg_ℤ (pos (half_side t)) → pieces content band ≡ pieces content old ++ kept t west
-    → pieces content band ≡ whole t
-whole_band content band old t west none w e = e ∙ (λ i. pieces content (none i) ++ kept t (w i))
+-- a band of the one square, from the column `west` on, and its cells
+module _ (t : Tree) (full : IsFull t) (level : ℕ) (west : ℤ) (content : Id → Tree) (old band : List Placed) (top : level ≡ depth t)
+    (half : west ≡ neg_ℤ (pos (2 ^ (level - 1))))
+    (none : old ≡ []) (kept_is : pieces content band ≡ pieces content old ++ kept t west) where
+  west_is : west ≡ neg_ℤ (pos (half_side t))
+  west_is = half ∙ ap (λ l. neg_ℤ (pos (2 ^ (l - 1)))) top
 
-pub whole_list : (t : Tree) (level : ℕ) (row : ℤ) (band : List Piece) (old list : List Cell) → level ≡ depth t → row ≡ neg_ℤ (pos (half_side t)) → band ≡ whole t → old ≡ []
-    → list ≡ old ++ band_cells level row band → list ≡ square_cells t
-whole_list t level row band old list l r b none e = e ∙ (λ i. none i ++ band_cells (l i) (r i) (b i))
+  is_whole : pieces content band ≡ whole t
+  is_whole = kept_is ∙ (λ i. pieces content (none i) ++ kept t (west_is i))
 
-pub whole_in_band : (t : Tree) (level : ℕ) (band : List Piece) → IsFull t → level ≡ depth t → band ≡ whole t → InBand level band
-whole_in_band t level band full l b = subst (InBand level) (sym b) (subst (λ n. InBand n (whole t)) (sym l) (neg_ℤ (pos (half_side t)), IsBand-whole t full))
+  cells_are : band_cells level west (pieces content band) ≡ square_cells t
+  cells_are = λ i. band_cells (top i) (west_is i) (is_whole i)
 
-pub more_in_square : {T : Type 0} (r : Result T Kind) (t : Tree) (old limit level : ℕ) (row : ℤ) (band : List Piece) → IsFull t → old ≡ 0 → level ≡ depth t → row ≡ neg_ℤ (pos (half_side t)) → band ≡ whole t
-    → IfErr r (λ e. e ≡ TooManyCells → limit < old + length (band_cells level row band)) → IfErr r (λ e. e ≡ TooManyCells → limit < population t)
-more_in_square r t old limit level row band full none l w b h =
-    let same : length (band_cells level row band) ≡ population t = (λ i. length (band_cells (l i) (w i) (b i))) ∙ square_length t full in
-    IfErr-weaker r _ _ (λ e f is. let n = f is in omega (arith, n, same)) h
+  pub whole_in_band : InBand level (pieces content band)
+  whole_in_band = subst (InBand level) (sym is_whole) (subst (λ n. InBand n (whole t)) (sym top) (neg_ℤ (pos (half_side t)), IsBand-whole t full))
+
+  pub whole_list : (before list : List Cell) → before ≡ [] → list ≡ before ++ band_cells level west (pieces content band) → list ≡ square_cells t
+  whole_list before list empty e = e ∙ (λ i. empty i ++ cells_are i)
+
+  pub more_in_square : {T : Type 0} (r : Result T Kind) (before : List Cell) (limit : ℕ) → before ≡ []
+      → IfErr r (λ e. e ≡ TooManyCells → limit < length before + length (band_cells level west (pieces content band)))
+      → IfErr r (λ e. e ≡ TooManyCells → limit < population t)
+  more_in_square r before limit empty h =
+      let same : length (band_cells level west (pieces content band)) ≡ population t = ap length cells_are ∙ square_length t full in
+      let short = ap length empty in
+      IfErr-weaker r _ _ (λ e f is. let n = f is in omega (arith, n, same, short)) h
+
+-- ---- one more square of a band
+
+module _ (content : Id → Tree) (band : List Placed) (i : ℕ) (d : Placed) (lt : i < length band) where
+  abbrev piece : Piece
+  piece = record { square = content (get_or band i d).square; column = (get_or band i d).column }
+
+  pieces_more : pieces content (take (i + 1) band) ≡ pieces content (take i band) ++ piece ∷ []
+  pieces_more = ap (pieces content) (take_more band i d lt) ∙ map_push (λ p. record { square = content p.square; column = p.column }) (take i band)
+      (get_or band i d)
+
+  -- its quarters, behind those of the squares before it
+  pub quarters_more : (f : Piece → List Piece) (old new : List Piece) → old ≡ flat_map f (pieces content (take i band)) → new ≡ old ++ f piece
+      → new ≡ flat_map f (pieces content (take (i + 1) band))
+  quarters_more f old new e g = g ∙ ap (λ l. l ++ f piece) e ∙ flat_map_more f [] (pieces content (take i band)) piece ∙ ap (flat_map f) (sym pieces_more)
+
+  -- its cell, behind those of the squares before it
+  pub cell_more : (row column : ℤ) (state : ℕ) (old list new : List Cell) → list ≡ old ++ row_cells row (pieces content (take i band))
+      → new ≡ list ++ record { x = column; y = row; state = state } ∷ [] → content (get_or band i d).square ≡ point state → column ≡ (get_or band i d).column
+      → new ≡ old ++ row_cells row (pieces content (take (i + 1) band))
+  cell_more row column state old list new e g is at =
+      let here : Cell = record { x = column; y = row; state = state } in
+      let same : here ≡ record { x = (get_or band i d).column; y = row; state = state_at (content (get_or band i d).square) 0 0 } =
+      (λ j. record { x = at j; y = row; state = state_at (sym is j) 0 0 }) in
+      let rows = row_cells row (pieces content (take i band)) in
+      let more = ap (row_cells row) pieces_more ∙ map_push (λ p. record { x = p.column; y = row; state = state_at p.square 0 0 }) (pieces content (take i band))
+      piece in
+      g ∙ (λ j. e j ++ same j ∷ []) ∙ append_assoc old rows _ ∙ ap (λ l. old ++ l) (sym more)

@@ -1,5 +1,5 @@
 -- Facts about the number of cells.
-use Rattle.std.proofs.Common.{◌≡◌, ℕ, suc, ◌+◌, ◌^◌, ◌≤◌, true, ◌&&◌, subst, arith}
+use Rattle.std.proofs.Common.{◌≡◌, ℕ, suc, ◌+◌, ◌^◌, ◌≤◌, true, ◌&&◌, refl, ap, subst, arith}
 use Rattle.std.proofs.Math.Nat.{pow-le-pow_right}
 use Rattle.life_base.specs.declared.cell.TheConstants.{MAX_LEVEL}
 use Rattle.life_base.specs.Tree.{Tree, point, quad, depth, is_blank_tree, IsFull}
@@ -33,9 +33,22 @@ population-small (quad a b c d) f =
     omega (arith, pa, pb, pc, pd, e)
 
 -- the number of a quarter, of level 61 at most
-pub quarter_small : (t : Tree) (whole n : ℕ) → IsFull t → depth t + 1 ≡ whole → whole ≤ MAX_LEVEL → n ≡ population t → n ≤ 4 ^ 61
+quarter_small : (t : Tree) (whole n : ℕ) → IsFull t → depth t + 1 ≡ whole → whole ≤ MAX_LEVEL → n ≡ population t → n ≤ 4 ^ 61
 quarter_small t whole n f e l h =
     let p = population-small t f in
     let low : depth t ≤ 61 = omega (arith, e, l) in
     let q : 4 ^ depth t ≤ 4 ^ 61 = pow-le-pow_right (omega arith) low in
     omega (arith, p, q, h)
+
+-- the quarters of a square have few cells
+pub quarters_small : (t a b c d : Tree) → IsFull t → depth t ≤ MAX_LEVEL → t ≡ quad a b c d
+    → (population a ≤ 4 ^ 61) × (population b ≤ 4 ^ 61) × (population c ≤ 4 ^ 61) × (population d ≤ 4 ^ 61)
+quarters_small t a b c d full low is =
+    let f : IsFull (quad a b c d) = subst IsFull is full in
+    let top = ap depth is in
+    let one : depth a + 1 ≤ MAX_LEVEL = omega (arith, top, low) in (
+      quarter_small a _ _ f.0 refl one refl,
+      quarter_small b _ _ f.1 (ap (λ n. n + 1) f.4) one refl,
+      quarter_small c _ _ f.2 (ap (λ n. n + 1) f.5) one refl,
+      quarter_small d _ _ f.3 (ap (λ n. n + 1) f.6) one refl,
+    )

@@ -3,10 +3,10 @@ use Rattle.std.proofs.Common.{◌≡◌, ◌==◌, ℕ, suc, ◌+◌, ◌-◌, �
 use Rattle.std.specs.Prelude.{nat_le}
 use Rattle.life_base.specs.Tree.{Tree, point, quad, depth, is_blank_tree, IsFull}
 use Rattle.life_quad.specs.Boxes.{IsNonzeroAt, IsLeastWithin}
-use Rattle.life_quad.specs.Distances.{HasCellAt, IsLeast, IsLeastOf, Faces, lesser_of}
+use Rattle.life_quad.specs.Distances.{distance, HasCellAt, IsLeast, IsLeastOf, Faces, lesser_of}
 use Rattle.life_quad.specs.declared.distances.Side.{Side}
 use Rattle.life_quad.specs.declared.distances.Side.TheVariants.{North, South, West, East}
-use Rattle.life_quad.proofs.NonzeroLemmas.{InQuarter, in_nw, in_ne, in_sw, in_se, double, quarter_of, from_quarter, others_have_one, blank_has_none}
+use Rattle.life_quad.proofs.NonzeroLemmas.{InQuarter, in_nw, in_ne, in_sw, in_se, Sides, sides, quarter_of, from_quarter, others_have_one, blank_has_none}
 
 -- no cell lies further than the side is long
 pub distance_within : (side : Side) (t : Tree) (n : ℕ) → HasCellAt side t n → n < 2 ^ depth t
@@ -14,6 +14,10 @@ distance_within North t n h = let r = h.cell.row in let f = h.far in omega arith
 distance_within South t n h = let r = h.cell.row in let f = h.far in omega arith
 distance_within West t n h = let r = h.cell.column in let f = h.far in omega arith
 distance_within East t n h = let r = h.cell.column in let f = h.far in omega arith
+
+-- a nonzero cell, by how far it is
+at_cell : {side : Side} {t : Tree} {i j n : ℕ} → IsNonzeroAt t i j → distance side (2 ^ depth t) i j ≡ n → HasCellAt side t n
+at_cell {i = i} {j = j} cell far = record { column = i; row = j; cell = cell; far = far }
 
 -- where a cell lies that is so far from the side, by the quarters a and b at the side and c and d behind them
 data Found (side : Side) (a b c d : Tree) (half n : ℕ) : Type 0 where
@@ -23,120 +27,70 @@ data Found (side : Side) (a b c d : Tree) (half n : ℕ) : Type 0 where
   in_d : (m : ℕ) → n ≡ m + half → HasCellAt side d m → Found side a b c d half n
 
 module _ (a b c d : Tree) (full : IsFull (quad a b c d)) where
-  twice : 2 ^ suc (depth a) ≡ 2 ^ depth a + 2 ^ depth a
-  twice = double (depth a)
+  s : Sides a b c d
+  s = sides a b c d full
 
-  side_b : 2 ^ depth b ≡ 2 ^ depth a
-  side_b = ap (λ k. 2 ^ k) full.4
+  from : {i j : ℕ} → InQuarter a b c d (2 ^ depth a) i j → IsNonzeroAt (quad a b c d) i j
+  from = from_quarter a b c d full _ _
 
-  side_c : 2 ^ depth c ≡ 2 ^ depth a
-  side_c = ap (λ k. 2 ^ k) full.5
+  found_north : {n i j : ℕ} → j ≡ n → InQuarter a b c d (2 ^ depth a) i j → Found North a b c d (2 ^ depth a) n
+  found_north far (in_nw q) = in_a (at_cell q far)
+  found_north far (in_ne m e q) = in_b (at_cell q far)
+  found_north far (in_sw k e q) = in_c k (omega (arith, far, e)) (at_cell q refl)
+  found_north far (in_se m k e f q) = in_d k (omega (arith, far, f)) (at_cell q refl)
 
-  side_d : 2 ^ depth d ≡ 2 ^ depth a
-  side_d = ap (λ k. 2 ^ k) full.6
+  found_west : {n i j : ℕ} → i ≡ n → InQuarter a b c d (2 ^ depth a) i j → Found West a c b d (2 ^ depth a) n
+  found_west far (in_nw q) = in_a (at_cell q far)
+  found_west far (in_sw k e q) = in_b (at_cell q far)
+  found_west far (in_ne m e q) = in_c m (omega (arith, far, e)) (at_cell q refl)
+  found_west far (in_se m k e f q) = in_d m (omega (arith, far, e)) (at_cell q refl)
 
-  found_north : (n : ℕ) → HasCellAt North (quad a b c d) n → Found North a b c d (2 ^ depth a) n
-  found_north n h = by (quarter_of a b c d full h.column h.row h.cell)
-    where
-      far : h.row ≡ n
-      far = h.far
+  found_south : {n i j : ℕ} → 2 ^ suc (depth a) - suc j ≡ n → InQuarter a b c d (2 ^ depth a) i j → Found South c d a b (2 ^ depth c) n
+  found_south far (in_sw k e q) = in_a (at_cell q (let l = q.row in omega (arith, far, e, l, s.whole, s.sw)))
+  found_south far (in_se m k e f q) = in_b (at_cell q (let l = q.row in omega (arith, far, f, l, s.whole, s.se)))
+  found_south far (in_nw q) = let l = q.row in in_c _ (omega (arith, far, l, s.whole, s.sw)) (at_cell q refl)
+  found_south far (in_ne m e q) = let l = q.row in in_d _ (omega (arith, far, l, s.whole, s.ne, s.sw)) (at_cell q refl)
 
-      by : InQuarter a b c d (2 ^ depth a) h.column h.row → Found North a b c d (2 ^ depth a) n
-      by (in_nw q) = in_a (record { column = h.column; row = h.row; cell = q; far = far })
-      by (in_ne m e q) = in_b (record { column = m; row = h.row; cell = q; far = far })
-      by (in_sw k e q) = in_c k (omega (arith, far, e)) (record { column = h.column; row = k; cell = q; far = refl })
-      by (in_se m k e f q) = in_d k (omega (arith, far, f)) (record { column = m; row = k; cell = q; far = refl })
-
-  found_west : (n : ℕ) → HasCellAt West (quad a b c d) n → Found West a c b d (2 ^ depth a) n
-  found_west n h = by (quarter_of a b c d full h.column h.row h.cell)
-    where
-      far : h.column ≡ n
-      far = h.far
-
-      by : InQuarter a b c d (2 ^ depth a) h.column h.row → Found West a c b d (2 ^ depth a) n
-      by (in_nw q) = in_a (record { column = h.column; row = h.row; cell = q; far = far })
-      by (in_sw k e q) = in_b (record { column = h.column; row = k; cell = q; far = far })
-      by (in_ne m e q) = in_c m (omega (arith, far, e)) (record { column = m; row = h.row; cell = q; far = refl })
-      by (in_se m k e f q) = in_d m (omega (arith, far, e)) (record { column = m; row = k; cell = q; far = refl })
-
-  found_south : (n : ℕ) → HasCellAt South (quad a b c d) n → Found South c d a b (2 ^ depth c) n
-  found_south n h = by (quarter_of a b c d full h.column h.row h.cell)
-    where
-      far : 2 ^ suc (depth a) - suc h.row ≡ n
-      far = h.far
-
-      by : InQuarter a b c d (2 ^ depth a) h.column h.row → Found South c d a b (2 ^ depth c) n
-      by (in_sw k e q) = let l = q.row in in_a (record { column = h.column; row = k; cell = q; far = omega (arith, far, e, l, twice, side_c) })
-      by (in_se m k e f q) = let l = q.row in in_b (record { column = m; row = k; cell = q; far = omega (arith, far, f, l, twice, side_d) })
-      by (in_nw q) = let l = q.row in in_c (2 ^ depth a - suc h.row) (omega (arith, far, l, twice, side_c)) (record { column = h.column; row = h.row; cell = q; far = refl })
-      by (in_ne m e q) = let l = q.row in in_d (2 ^ depth b - suc h.row) (omega (arith, far, l, twice, side_b, side_c)) (record { column = m; row = h.row; cell = q; far = refl })
-
-  found_east : (n : ℕ) → HasCellAt East (quad a b c d) n → Found East b d a c (2 ^ depth b) n
-  found_east n h = by (quarter_of a b c d full h.column h.row h.cell)
-    where
-      far : 2 ^ suc (depth a) - suc h.column ≡ n
-      far = h.far
-
-      by : InQuarter a b c d (2 ^ depth a) h.column h.row → Found East b d a c (2 ^ depth b) n
-      by (in_ne m e q) = let l = q.column in in_a (record { column = m; row = h.row; cell = q; far = omega (arith, far, e, l, twice, side_b) })
-      by (in_se m k e f q) = let l = q.column in in_b (record { column = m; row = k; cell = q; far = omega (arith, far, e, l, twice, side_d) })
-      by (in_nw q) = let l = q.column in in_c (2 ^ depth a - suc h.column) (omega (arith, far, l, twice, side_b)) (record { column = h.column; row = h.row; cell = q; far = refl })
-      by (in_sw k e q) = let l = q.column in in_d (2 ^ depth c - suc h.column) (omega (arith, far, l, twice, side_b, side_c)) (record { column = h.column; row = k; cell = q; far = refl })
+  found_east : {n i j : ℕ} → 2 ^ suc (depth a) - suc i ≡ n → InQuarter a b c d (2 ^ depth a) i j → Found East b d a c (2 ^ depth b) n
+  found_east far (in_ne m e q) = in_a (at_cell q (let l = q.column in omega (arith, far, e, l, s.whole, s.ne)))
+  found_east far (in_se m k e f q) = in_b (at_cell q (let l = q.column in omega (arith, far, e, l, s.whole, s.se)))
+  found_east far (in_nw q) = let l = q.column in in_c _ (omega (arith, far, l, s.whole, s.ne)) (at_cell q refl)
+  found_east far (in_sw k e q) = let l = q.column in in_d _ (omega (arith, far, l, s.whole, s.ne, s.sw)) (at_cell q refl)
 
   at_north : (n : ℕ) → Found North a b c d (2 ^ depth a) n → HasCellAt North (quad a b c d) n
-  at_north n (in_a h) = record { column = h.column; row = h.row; cell = from_quarter a b c d full _ _ (in_nw h.cell); far = h.far }
-  at_north n (in_b h) = record { column = 2 ^ depth a + h.column; row = h.row; cell = from_quarter a b c d full _ _ (in_ne h.column refl h.cell); far = h.far }
-  at_north n (in_c m e h) =
-      let f = h.far in
-      record { column = h.column; row = 2 ^ depth a + h.row; cell = from_quarter a b c d full _ _ (in_sw h.row refl h.cell); far = omega (arith, e, f) }
-  at_north n (in_d m e h) =
-      let f = h.far in
-      record { column = 2 ^ depth a + h.column; row = 2 ^ depth a + h.row; cell = from_quarter a b c d full _ _ (in_se h.column h.row refl refl h.cell); far = omega (arith, e, f) }
+  at_north n (in_a h) = at_cell (from (in_nw h.cell)) h.far
+  at_north n (in_b h) = at_cell (from (in_ne h.column refl h.cell)) h.far
+  at_north n (in_c m e h) = at_cell (from (in_sw h.row refl h.cell)) (omega (arith, e, h.far))
+  at_north n (in_d m e h) = at_cell (from (in_se h.column h.row refl refl h.cell)) (omega (arith, e, h.far))
 
   at_west : (n : ℕ) → Found West a c b d (2 ^ depth a) n → HasCellAt West (quad a b c d) n
-  at_west n (in_a h) = record { column = h.column; row = h.row; cell = from_quarter a b c d full _ _ (in_nw h.cell); far = h.far }
-  at_west n (in_b h) = record { column = h.column; row = 2 ^ depth a + h.row; cell = from_quarter a b c d full _ _ (in_sw h.row refl h.cell); far = h.far }
-  at_west n (in_c m e h) =
-      let f = h.far in
-      record { column = 2 ^ depth a + h.column; row = h.row; cell = from_quarter a b c d full _ _ (in_ne h.column refl h.cell); far = omega (arith, e, f) }
-  at_west n (in_d m e h) =
-      let f = h.far in
-      record { column = 2 ^ depth a + h.column; row = 2 ^ depth a + h.row; cell = from_quarter a b c d full _ _ (in_se h.column h.row refl refl h.cell); far = omega (arith, e, f) }
+  at_west n (in_a h) = at_cell (from (in_nw h.cell)) h.far
+  at_west n (in_b h) = at_cell (from (in_sw h.row refl h.cell)) h.far
+  at_west n (in_c m e h) = at_cell (from (in_ne h.column refl h.cell)) (omega (arith, e, h.far))
+  at_west n (in_d m e h) = at_cell (from (in_se h.column h.row refl refl h.cell)) (omega (arith, e, h.far))
 
   at_south : (n : ℕ) → Found South c d a b (2 ^ depth c) n → HasCellAt South (quad a b c d) n
-  at_south n (in_a h) =
-      let f = h.far in let l = h.cell.row in
-      record { column = h.column; row = 2 ^ depth a + h.row; cell = from_quarter a b c d full _ _ (in_sw h.row refl h.cell); far = omega (arith, f, l, twice, side_c) }
-  at_south n (in_b h) =
-      let f = h.far in let l = h.cell.row in
-      record { column = 2 ^ depth a + h.column; row = 2 ^ depth a + h.row; cell = from_quarter a b c d full _ _ (in_se h.column h.row refl refl h.cell); far = omega (arith, f, l, twice, side_d) }
-  at_south n (in_c m e h) =
-      let f = h.far in let l = h.cell.row in
-      record { column = h.column; row = h.row; cell = from_quarter a b c d full _ _ (in_nw h.cell); far = omega (arith, e, f, l, twice, side_c) }
-  at_south n (in_d m e h) =
-      let f = h.far in let l = h.cell.row in
-      record { column = 2 ^ depth a + h.column; row = h.row; cell = from_quarter a b c d full _ _ (in_ne h.column refl h.cell); far = omega (arith, e, f, l, twice, side_b, side_c) }
+  at_south n (in_a h) = let l = h.cell.row in at_cell (from (in_sw h.row refl h.cell)) (omega (arith, h.far, l, s.whole, s.sw))
+  at_south n (in_b h) = let l = h.cell.row in at_cell (from (in_se h.column h.row refl refl h.cell)) (omega (arith, h.far, l, s.whole, s.se))
+  at_south n (in_c m e h) = let l = h.cell.row in at_cell (from (in_nw h.cell)) (omega (arith, e, h.far, l, s.whole, s.sw))
+  at_south n (in_d m e h) = let l = h.cell.row in at_cell (from (in_ne h.column refl h.cell)) (omega (arith, e, h.far, l, s.whole, s.ne, s.sw))
 
   at_east : (n : ℕ) → Found East b d a c (2 ^ depth b) n → HasCellAt East (quad a b c d) n
-  at_east n (in_a h) =
-      let f = h.far in let l = h.cell.column in
-      record { column = 2 ^ depth a + h.column; row = h.row; cell = from_quarter a b c d full _ _ (in_ne h.column refl h.cell); far = omega (arith, f, l, twice, side_b) }
-  at_east n (in_b h) =
-      let f = h.far in let l = h.cell.column in
-      record { column = 2 ^ depth a + h.column; row = 2 ^ depth a + h.row; cell = from_quarter a b c d full _ _ (in_se h.column h.row refl refl h.cell); far = omega (arith, f, l, twice, side_d) }
-  at_east n (in_c m e h) =
-      let f = h.far in let l = h.cell.column in
-      record { column = h.column; row = h.row; cell = from_quarter a b c d full _ _ (in_nw h.cell); far = omega (arith, e, f, l, twice, side_b) }
-  at_east n (in_d m e h) =
-      let f = h.far in let l = h.cell.column in
-      record { column = h.column; row = 2 ^ depth a + h.row; cell = from_quarter a b c d full _ _ (in_sw h.row refl h.cell); far = omega (arith, e, f, l, twice, side_b, side_c) }
+  at_east n (in_a h) = let l = h.cell.column in at_cell (from (in_ne h.column refl h.cell)) (omega (arith, h.far, l, s.whole, s.ne))
+  at_east n (in_b h) = let l = h.cell.column in at_cell (from (in_se h.column h.row refl refl h.cell)) (omega (arith, h.far, l, s.whole, s.se))
+  at_east n (in_c m e h) = let l = h.cell.column in at_cell (from (in_nw h.cell)) (omega (arith, e, h.far, l, s.whole, s.ne))
+  at_east n (in_d m e h) = let l = h.cell.column in at_cell (from (in_sw h.row refl h.cell)) (omega (arith, e, h.far, l, s.whole, s.ne, s.sw))
 
 -- a cell so far from the side of a square lies in one of its quarters, and the other way round
 found : (side : Side) (t a b c d : Tree) → IsFull t → Faces side t a b c d → (n : ℕ) → HasCellAt side t n → Found side a b c d (2 ^ depth a) n
-found North t a b c d full is n h = found_north a b c d (subst IsFull is full) n (subst (λ z. HasCellAt North z n) is h)
-found South t a b c d full is n h = found_south c d a b (subst IsFull is full) n (subst (λ z. HasCellAt South z n) is h)
-found West t a b c d full is n h = found_west a c b d (subst IsFull is full) n (subst (λ z. HasCellAt West z n) is h)
-found East t a b c d full is n h = found_east c a d b (subst IsFull is full) n (subst (λ z. HasCellAt East z n) is h)
+found North t a b c d full is n h = let k = subst (λ z. HasCellAt North z n) is h in found_north a b c d (subst IsFull is full) k.far
+    (quarter_of a b c d (subst IsFull is full) _ _ k.cell)
+found South t a b c d full is n h = let k = subst (λ z. HasCellAt South z n) is h in found_south c d a b (subst IsFull is full) k.far
+    (quarter_of c d a b (subst IsFull is full) _ _ k.cell)
+found West t a b c d full is n h = let k = subst (λ z. HasCellAt West z n) is h in found_west a c b d (subst IsFull is full) k.far
+    (quarter_of a c b d (subst IsFull is full) _ _ k.cell)
+found East t a b c d full is n h = let k = subst (λ z. HasCellAt East z n) is h in found_east c a d b (subst IsFull is full) k.far
+    (quarter_of c a d b (subst IsFull is full) _ _ k.cell)
 
 at_side : (side : Side) (t a b c d : Tree) → IsFull t → Faces side t a b c d → (n : ℕ) → Found side a b c d (2 ^ depth a) n → HasCellAt side t n
 at_side North t a b c d full is n h = subst (λ z. HasCellAt North z n) (sym is) (at_north a b c d (subst IsFull is full) n h)

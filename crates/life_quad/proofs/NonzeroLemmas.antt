@@ -38,24 +38,25 @@ module _ (a b c d : Tree) (full : IsFull (quad a b c d)) where
       let back_j : j - 2 ^ depth a ≡ n = omega arith in
       at_se a b c d i j (grind arith) (grind arith) ∙ (λ z. state_at d (back_i z) (back_j z))
 
+-- the sides of the quarters of a full square, which are half as long as its own
+pub record Sides (a b c d : Tree) : Type 0 where
+  pub whole : 2 ^ suc (depth a) ≡ 2 ^ depth a + 2 ^ depth a
+  pub ne : 2 ^ depth b ≡ 2 ^ depth a
+  pub sw : 2 ^ depth c ≡ 2 ^ depth a
+  pub se : 2 ^ depth d ≡ 2 ^ depth a
+
+pub sides : (a b c d : Tree) → IsFull (quad a b c d) → Sides a b c d
+sides a b c d full = record { whole = double (depth a); ne = ap (λ k. 2 ^ k) full.4; sw = ap (λ k. 2 ^ k) full.5; se = ap (λ k. 2 ^ k) full.6 }
+
 module _ (a b c d : Tree) (full : IsFull (quad a b c d)) where
-  half : ℕ
-  half = 2 ^ depth a
-
-  side_b : 2 ^ depth b ≡ 2 ^ depth a
-  side_b = ap (λ k. 2 ^ k) full.4
-
-  side_c : 2 ^ depth c ≡ 2 ^ depth a
-  side_c = ap (λ k. 2 ^ k) full.5
-
-  side_d : 2 ^ depth d ≡ 2 ^ depth a
-  side_d = ap (λ k. 2 ^ k) full.6
+  s : Sides a b c d
+  s = sides a b c d full
 
   pub quarter_of : (i j : ℕ) → IsNonzeroAt (quad a b c d) i j → InQuarter a b c d (2 ^ depth a) i j
   quarter_of i j h = by (nat_lt j (2 ^ depth a)) refl (nat_lt i (2 ^ depth a)) refl
     where
       twice : 2 ^ suc (depth a) ≡ 2 ^ depth a + 2 ^ depth a
-      twice = double (depth a)
+      twice = s.whole
 
       li : i < 2 ^ suc (depth a)
       li = h.column
@@ -68,47 +69,27 @@ module _ (a b c d : Tree) (full : IsFull (quad a b c d)) where
           in_nw (record { column = grind arith; row = grind arith; state = λ e. h.state (at_nw a b c d i j g f ∙ e) })
       by true g false f =
           in_ne (i - 2 ^ depth a) (grind arith)
-          (record { column = let s = side_b in grind arith; row = let s = side_b in grind arith; state = λ e. h.state (at_ne a b c d i j g f ∙ e) })
+          (record { column = let side = s.ne in grind arith; row = let side = s.ne in grind arith; state = λ e. h.state (at_ne a b c d i j g f ∙ e) })
       by false g true f =
           in_sw (j - 2 ^ depth a) (grind arith)
-          (record { column = let s = side_c in grind arith; row = let s = side_c in grind arith; state = λ e. h.state (at_sw a b c d i j g f ∙ e) })
+          (record { column = let side = s.sw in grind arith; row = let side = s.sw in grind arith; state = λ e. h.state (at_sw a b c d i j g f ∙ e) })
       by false g false f =
           in_se (i - 2 ^ depth a) (j - 2 ^ depth a) (grind arith) (grind arith)
-          (record { column = let s = side_d in grind arith; row = let s = side_d in grind arith; state = λ e. h.state (at_se a b c d i j g f ∙ e) })
+          (record { column = let side = s.se in grind arith; row = let side = s.se in grind arith; state = λ e. h.state (at_se a b c d i j g f ∙ e) })
 
   pub from_quarter : (i j : ℕ) → InQuarter a b c d (2 ^ depth a) i j → IsNonzeroAt (quad a b c d) i j
   from_quarter i j (in_nw h) =
-      let twice : 2 ^ suc (depth a) ≡ 2 ^ depth a + 2 ^ depth a = double (depth a) in
-      let li = h.column in let lj = h.row in
-      let g : nat_lt j (2 ^ depth a) ≡ true = grind arith in
-      let f : nat_lt i (2 ^ depth a) ≡ true = grind arith in
-      record { column = omega arith; row = omega arith; state = λ e. h.state (sym (at_nw a b c d i j g f) ∙ e) }
+      let w = s.whole in let li = h.column in let lj = h.row in
+      record { column = omega arith; row = omega arith; state = λ e. h.state (sym (state_nw a b c d full i j li lj) ∙ e) }
   from_quarter i j (in_ne m p h) =
-      let twice : 2 ^ suc (depth a) ≡ 2 ^ depth a + 2 ^ depth a = double (depth a) in
-      let s = side_b in let li = h.column in let lj = h.row in
-      let g : nat_lt j (2 ^ depth a) ≡ true = grind arith in
-      let f : nat_lt i (2 ^ depth a) ≡ false = grind arith in
-      let back : i - 2 ^ depth a ≡ m = omega arith in
-      record { column = omega arith; row = omega arith; state = λ e. h.state (ap (λ z. state_at b z j) (sym back) ∙ sym (at_ne a b c d i j g f) ∙ e) }
+      let w = s.whole in let side = s.ne in let li = h.column in let lj = h.row in
+      record { column = omega arith; row = omega arith; state = λ e. h.state (sym (state_ne a b c d full i m j p lj) ∙ e) }
   from_quarter i j (in_sw n q h) =
-      let twice : 2 ^ suc (depth a) ≡ 2 ^ depth a + 2 ^ depth a = double (depth a) in
-      let s = side_c in let li = h.column in let lj = h.row in
-      let g : nat_lt j (2 ^ depth a) ≡ false = grind arith in
-      let f : nat_lt i (2 ^ depth a) ≡ true = grind arith in
-      let back : j - 2 ^ depth a ≡ n = omega arith in
-      record { column = omega arith; row = omega arith; state = λ e. h.state (ap (λ z. state_at c i z) (sym back) ∙ sym (at_sw a b c d i j g f) ∙ e) }
+      let w = s.whole in let side = s.sw in let li = h.column in let lj = h.row in
+      record { column = omega arith; row = omega arith; state = λ e. h.state (sym (state_sw a b c d full i j n q li) ∙ e) }
   from_quarter i j (in_se m n p q h) =
-      let twice : 2 ^ suc (depth a) ≡ 2 ^ depth a + 2 ^ depth a = double (depth a) in
-      let s = side_d in let li = h.column in let lj = h.row in
-      let g : nat_lt j (2 ^ depth a) ≡ false = grind arith in
-      let f : nat_lt i (2 ^ depth a) ≡ false = grind arith in
-      let back_i : i - 2 ^ depth a ≡ m = omega arith in
-      let back_j : j - 2 ^ depth a ≡ n = omega arith in
-      record {
-        column = omega arith;
-        row = omega arith;
-        state = λ e. h.state (ap (λ z. state_at d z n) (sym back_i) ∙ ap (λ z. state_at d (i - 2 ^ depth a) z) (sym back_j) ∙ sym (at_se a b c d i j g f) ∙ e);
-      }
+      let w = s.whole in let side = s.se in let li = h.column in let lj = h.row in
+      record { column = omega arith; row = omega arith; state = λ e. h.state (sym (state_se a b c d full i m j n p q) ∙ e) }
 
 abbrev HasNone : Tree → Type 0
 HasNone t = (i j : ℕ) → IsNonzeroAt t i j → ⊥

@@ -5,6 +5,7 @@ use Rattle.std.proofs.lemmas.Result.{err_from_is_err_and}
 use Rattle.life_base.specs.Tree.{Tree, point, quad, depth, blank, state_at, IsFull}
 use Rattle.life_quad.specs.Moves.{grown, inner, can_trim, trim_up_to}
 use Rattle.life_quad.specs.Refused.{SomePart, SomeTrimmed}
+use Rattle.life_quad.proofs.NonzeroLemmas.{double}
 use Rattle.life_quad.specs.Span.{is_in_span, SetsSpan, SetsHalves}
 use Rattle.life_quad.proofs.SpanLemmas.{SetsSpan-north, SetsSpan-south}
 
@@ -96,6 +97,22 @@ module _ (left right : Tree) (half column row len state : ℕ) (side : half ≡ 
             ∙ ap (λ c. if c then state else state_at right i j) (right_of_both column row len half i j h l ∙ moved_column i j);
       }
 
+-- two equal squares, set from end to end
+pub SetsHalves-same : (left right new : Tree) (half column row len state : ℕ) → half ≡ 2 ^ depth left → left ≡ right → 1 ≤ len → column + len ≤ half + half
+    → len ≡ half + half
+    → SetsSpan left new 0 row half state → SetsHalves left right new new column row len state
+SetsHalves-same left right new half column row len state side same positive within whole s =
+    let first : column ≡ 0 = omega (arith, within, whole) in
+    let inside : column < half = omega (arith, positive, whole, first) in
+    let beyond : half < column + len = omega (arith, positive, whole) in
+    let left_len : half ≡ half - column = omega (arith, first) in
+    let right_len : half ≡ column + len - half = omega (arith, first, whole) in
+    let a : SetsSpan left new column row (half - column) state =
+    subst (λ k. SetsSpan left new k row (half - column) state) (sym first) (subst (λ k. SetsSpan left new 0 row k state) left_len s) in
+    let b : SetsSpan right new 0 row (column + len - half) state =
+    subst (λ u. SetsSpan u new 0 row (column + len - half) state) same (subst (λ k. SetsSpan left new 0 row k state) right_len s) in
+    SetsHalves-both left right half column row len state side (ap depth (sym same)) new new inside beyond a b
+
 -- a square with the state in the span, for each span of the square
 abbrev pub HasSpans : ℕ → Tree → Type 0
 HasSpans state t =
@@ -131,9 +148,6 @@ halves_with_span state left right fl fr level hl hr column row len positive with
         let t = hr 0 row (column + len - 2 ^ depth left) (omega (arith, beyond)) (subst (λ n. 0 + (column + len - 2 ^ depth left) ≤ n) (sym side) fits) low_right in
         (s.0, t.0, SetsHalves-both left right (2 ^ depth left) column row len state refl level s.0 t.0 from beyond s.1 t.1)
 
-double : (n : ℕ) → 2 ^ suc n ≡ 2 ^ n + 2 ^ n
-double n = grind arith
-
 -- the same of a square of four quarters
 quad_with_span : (state : ℕ) (a b c d : Tree) → IsFull (quad a b c d) → HasSpans state a → HasSpans state b → HasSpans state c → HasSpans state d
     → HasSpans state (quad a b c d)
@@ -154,15 +168,20 @@ quad_with_span state a b c d full ha hb hc hd column row len positive within low
         (quad a b h.0 h.1, SetsSpan-south a b c d h.0 h.1 column row len state full south h.2)
 
 -- and of a square of one cell
-point_with_span : (state s : ℕ) → state < 256 → HasSpans state (point s)
-point_with_span state s small column row len positive within low =
-    (point state, record { full = small; level = refl; cells = λ i j li lj. ap (λ b. if b then state else s) (whole i j li lj) })
+pub span_of_point : (t new : Tree) (column row len state : ℕ) → depth t ≡ 0 → new ≡ point state → state < 256 → 1 ≤ len → column + len ≤ 2 ^ depth t
+    → row < 2 ^ depth t
+    → SetsSpan t new column row len state
+span_of_point (quad a b c d) new column row len state flat is small positive within low = absurd (omega arith)
+span_of_point (point s) new column row len state flat is small positive within low =
+    subst (λ u. SetsSpan (point s) u column row len state) (sym is)
+    (record { full = small; level = refl; cells = λ i j li lj. ap (λ b. if b then state else s) (whole i j li lj) })
   where
     whole : (i j : ℕ) → i < 1 → j < 1 → true ≡ is_in_span column row len i j
     whole i j li lj = grind (arith, positive, within, low, li, lj)
 
 -- every full square has one
 pub with_span : (state : ℕ) → state < 256 → (t : Tree) → IsFull t → HasSpans state t
-with_span state small (point s) full = point_with_span state s small
+with_span state small (point s) full = λ column row len positive within low.
+    (point state, span_of_point (point s) (point state) column row len state refl refl small positive within low)
 with_span state small (quad a b c d) full =
     quad_with_span state a b c d full (with_span state small a full.0) (with_span state small b full.1) (with_span state small c full.2) (with_span state small d full.3)

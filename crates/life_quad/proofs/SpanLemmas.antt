@@ -1,16 +1,14 @@
 -- Facts about spans of cells.
-use Rattle.std.proofs.Common.{◌≡◌, ℕ, suc, ◌+◌, ◌-◌, ◌^◌, ◌≤◌, ◌<◌, Bool, true, false, ◌&&◌, ◌==◌, nat_lt, nat_le, refl, sym, ◌∙◌, ap, arith}
+use Rattle.std.proofs.Common.{◌≡◌, ℕ, suc, ◌+◌, ◌-◌, ◌^◌, ◌≤◌, ◌<◌, Bool, true, false, ◌&&◌, ◌==◌, nat_lt, nat_le, refl, sym, ◌∙◌, ap, subst, arith}
 use Rattle.std.specs.Prelude.{if◌then◌else◌}
 use Rattle.life_base.specs.Tree.{Tree, quad, depth, state_at, IsFull}
 use Rattle.life_base.proofs.Squares.{at_nw, at_ne, at_sw, at_se}
+use Rattle.life_quad.proofs.NonzeroLemmas.{double}
 use Rattle.life_quad.specs.Span.{is_in_span, SetsSpan, SetsHalves}
 
 -- a cell of another row is in no span
 pub other_row : (column row len i j : ℕ) → (j == row) ≡ false → is_in_span column row len i j ≡ false
 other_row column row len i j h = grind (arith, h)
-
-double : (n : ℕ) → 2 ^ suc n ≡ 2 ^ n + 2 ^ n
-double n = grind arith
 
 -- a span in the two northern quarters
 pub SetsSpan-north : (a b c d a' b' : Tree) (column row len state : ℕ) → IsFull (quad a b c d) → row < 2 ^ depth a
@@ -98,3 +96,24 @@ SetsSpan-south a b c d c' d' column row len state full low h =
 -- half of the side of a square is the side of its quarters
 pub half_of : (level whole part : ℕ) → level ≡ whole → part + 1 ≡ whole → 2 ^ (level - 1) ≡ 2 ^ part
 half_of level whole part e f = let same : level - 1 ≡ part = omega arith in ap (λ n. 2 ^ n) same
+
+-- the same spans in a square that has these quarters, by half of its side, where the other two quarters have new names
+module _ (t a b c d : Tree) (level half column row len state : ℕ) (full : IsFull t) (is : t ≡ quad a b c d) (top : level ≡ depth t)
+    (one : depth a + 1 ≡ depth t) (side : half ≡ 2 ^ (level - 1)) where
+  half_is : half ≡ 2 ^ depth a
+  half_is = side ∙ half_of level (depth t) (depth a) top one
+
+  pub in_north : (a' b' c' d' : Tree) → row < half → SetsHalves a b a' b' column row len state → c' ≡ c → d' ≡ d
+      → SetsSpan t (quad a' b' c' d') column row len state
+  in_north a' b' c' d' low h e f =
+      subst (λ s. SetsSpan s (quad a' b' c' d') column row len state) (sym is)
+      (subst (λ s. SetsSpan (quad a b c d) s column row len state) (λ i. quad a' b' (sym e i) (sym f i))
+      (SetsSpan-north a b c d a' b' column row len state (subst IsFull is full) (subst (λ n. row < n) half_is low) h))
+
+  pub in_south : (a' b' c' d' : Tree) → half ≤ row → SetsHalves c d c' d' column (row - half) len state → a' ≡ a → b' ≡ b
+      → SetsSpan t (quad a' b' c' d') column row len state
+  in_south a' b' c' d' low h e f =
+      subst (λ s. SetsSpan s (quad a' b' c' d') column row len state) (sym is)
+      (subst (λ s. SetsSpan (quad a b c d) s column row len state) (λ i. quad (sym e i) (sym f i) c' d')
+      (SetsSpan-south a b c d c' d' column row len state (subst IsFull is full) (subst (λ n. n ≤ row) half_is low)
+      (subst (λ n. SetsHalves c d c' d' column (row - n) len state) half_is h)))

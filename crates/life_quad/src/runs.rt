@@ -89,9 +89,8 @@ fn set_halves<S: Squares>(
     requires positive { 1 ≤ len }
     requires columns { column + len ≤ half + half }
     requires rows { row < half }
-    ensures left { IfOk result (λ r. S.knows squares.new r.0) }
-    ensures right { IfOk result (λ r. S.knows squares.new r.1) }
-    ensures squares { IfOk result (λ r. SetsHalves (S.content squares.old left) (S.content squares.old right) (S.content squares.new r.0) (S.content squares.new r.1) column row len state) }
+    ensures known { IfOk result (λ r. S.knows squares.new r.0 × S.knows squares.new r.1) }
+    ensures square { IfOk result (λ r. SetsHalves (S.content squares.old left) (S.content squares.old right) (S.content squares.new r.0) (S.content squares.new r.1) column row len state) }
     ensures keeps { KeepsSquares S.knows S.content S.stored S.most squares.old squares.new }
     ensures refusals { IfErr result (λ e. (e ≡ Full) ⊎ (e ≡ Memory)) }
     ensures full { result ≡ Err Full → length (S.stored squares.new) ≡ S.most squares.new }

@@ -1,4 +1,7 @@
-use Rattle.std.proofs.Common.{◌≡◌, ◌≢◌, ℕ, suc, ◌^◌, ◌+◌, sym, subst, ◌∙◌, ap, arith}
+use Rattle.std.proofs.Common.{◌≡◌, ◌≢◌, Option, Result, IfOk, ℕ, suc, ◌^◌, ◌+◌, sym, subst, ◌∙◌, ap, arith}
+use Rattle.std.specs.Prelude.{IfErr, IsErrAnd}
+use Rattle.life_base.specs.declared.kind.Kind.{Kind}
+use Rattle.life_base.specs.declared.kind.Kind.TheVariants.{Memory}
 use Rattle.life_base.specs.Tree.{Tree, depth}
 use Rattle.life_quad.specs.declared.id.Id.{Id}
 use Rattle.life_quad.specs.declared.distances.TheConstants.{UNKNOWN}
@@ -8,7 +11,27 @@ use Rattle.life_quad.proofs.SpanLemmas.{half_of}
 use Rattle.life_quad.proofs.MapLemmas.{after_set}
 use Rattle.life_quad.proofs.NonzeroLemmas.{double}
 use Rattle.life_quad.proofs.DistanceLemmas.{distance_within, blank_nowhere, least_of_cell, least_near, least_behind, least_nowhere}
+use Rattle.life_quad.proofs.RefusedLemmas.{error_is}
 use Rattle.life_quad.proofs.distances.+find.Goals as goal
+
+-- a refusal that is passed on
+refused : {R : Type 0} {e : Kind} (least : Option ℕ → Type 0) (r : Result (Option ℕ) Kind) → IsErrAnd r (λ f. f ≡ e) → R → e ≡ Memory
+    → record { least : IfOk r least; right : R; refusals : IfErr r (λ e. e ≡ Memory) }
+refused least r told right memory = let p = error_is r told in record { least = rw p tt; right = right; refusals = rw p memory }
+
+pub returns-in_err-a : goal.returns-in_err-a
+returns-in_err-a g t c = refused _ c.from_residual.result c.from_residual.ensures.1 c.in_err-a.ensures.right c.in_err-a.ensures.refusals
+
+pub returns-in_err-b : goal.returns-in_err-b
+returns-in_err-b g t c = refused _ c.from_residual-in_err-b.result c.from_residual-in_err-b.ensures.1 c.in_err-b.ensures.right c.in_err-b.ensures.refusals
+
+pub returns-in_err-a-2 : goal.returns-in_err-a-2
+returns-in_err-a-2 g t c = refused _ c.from_residual-in_err-a-2.result c.from_residual-in_err-a-2.ensures.1 c.in_err-a-2.ensures.right
+    c.in_err-a-2.ensures.refusals
+
+pub returns-in_err-b-2 : goal.returns-in_err-b-2
+returns-in_err-b-2 g t c = refused _ c.from_residual-in_err-b-2.result c.from_residual-in_err-b-2.ensures.1 c.in_err-b-2.ensures.right
+    c.in_err-b-2.ensures.refusals
 
 pub returns-then-is_blank_at-clause-least : goal.returns-then-is_blank_at-clause-least
 returns-then-is_blank_at-clause-least g t c =

@@ -1,11 +1,13 @@
-use Rattle.std.proofs.Common.{◌≡◌, ◌-◌, ◌^◌, ◌≤◌, ◌+ℤ◌, pos, length, arith, sym, ◌∙◌, ap, subst, refl, rules, to_z, of_z, w64}
+use Rattle.std.proofs.Common.{◌≡◌, ◌-◌, ◌^◌, ◌≤◌, length, arith, sym, ◌∙◌, ap, subst, refl, inr, Err, rules, to_z, of_z, w64}
 use Rattle.std.proofs.lemmas.Result.{on_ok_weaker}
 use Rattle.std.proofs.lemmas.Int.{ints}
 use Rattle.std.proofs.lemmas.List.{length-map}
 use Rattle.std.proofs.Math.Pow.{pow_mono}
+use Rattle.life_base.specs.declared.kind.Kind.TheVariants.{Memory, TooManyCells}
 use Rattle.life_quad.specs.Bands.{InBand, pieces, upper, lower}
 use Rattle.life_quad.proofs.BandLemmas.{InBand-upper, InBand-lower}
 use Rattle.life_quad.proofs.CellListLemmas.{band_least, append_none, halves_side, both_halves, more_in_first, more_in_second}
+use Rattle.life_quad.proofs.RefusedLemmas.{error_is}
 use Rattle.life_quad.proofs.listing.+append_band.Goals as goal
 
 pub returns-then-limit-len-clause-many : goal.returns-then-limit-len-clause-many
@@ -47,36 +49,43 @@ append_band-requires-2 g t c κs within =
     let south = c.requires.south in
     (search rules, (search rules, (search rules, (o.south, (band, (omega (arith, ints, north, half), (omega (arith, ints, south, half, twice), search rules)))))))
 
-pub returns-in_err-append_band-clause-many : goal.returns-in_err-append_band-clause-many
-returns-in_err-append_band-clause-many g t c =
+pub returns-in_err-north : goal.returns-in_err-north
+returns-in_err-north g t c =
+    let p = error_is c.from_residual.result c.from_residual.ensures.1 in
+    let memory = c.in_err-north.ensures.refusals in
+    record {
+      cells = rw p tt;
+      few = rw p tt;
+      many = rw p (λ f. absurd (let kinds : Memory ≡ TooManyCells = sym memory ∙ f in cc));
+      refusals = rw p (inr memory);
+    }
+
+pub returns-in_err-append_band : goal.returns-in_err-append_band
+returns-in_err-append_band g t c =
     let o = c.in_ok-north.ensures in
-    let low : 1 ≤ c.args.level = let n = c.if-level-eq0.false in omega arith in
-    let content = g.S.Squares.content c.args.squares.now in
-    let upper_is = o.upper ∙ ap (λ b. upper (2 ^ (c.args.level - 1)) (pieces content b)) c.deref-2.ensures.value in
-    let lower_is = o.lower ∙ ap (λ b. lower (2 ^ (c.args.level - 1)) (pieces content b)) c.deref-2.ensures.value in
+    let C = g.S.Squares.content c.args.squares.now in
+    let told = c.from_residual-in_err-append_band in
+    let p = error_is told.result told.ensures.1 in
     let first : to_z w64 (of_z w64 c.args.row) ≡ c.args.row = omega (arith, ints, c.ranges.row) in
-    let many = more_in_first c.args.level c.args.row _ _ (pieces content c.args.band.items) _ _ low first refl upper_is lower_is c.append_band.result (length c.args.list.now.items) c.args.limit c.append_band.ensures.many in
-    search (rules, many)
+    let many = more_in_first c.args.level c.args.row _ _ C c.args.band.items _ _ _ c.if-level-eq0.false first refl c.deref-2.ensures.value o.upper o.lower
+    {T = Unit {0}} (Err _) (length c.args.list.now.items) c.args.limit c.in_err-append_band.ensures.many in
+    record { cells = rw p tt; few = rw p tt; many = rw p many; refusals = rw p c.in_err-append_band.ensures.refusals }
 
 pub returns-clause-cells : goal.returns-clause-cells
 returns-clause-cells g t c =
     let o = c.in_ok-north.ensures in
-    let low : 1 ≤ c.args.level = let n = c.if-level-eq0.false in omega arith in
-    let content = g.S.Squares.content c.args.squares.now in
-    let upper_is = o.upper ∙ ap (λ b. upper (2 ^ (c.args.level - 1)) (pieces content b)) c.deref-2.ensures.value in
-    let lower_is = o.lower ∙ ap (λ b. lower (2 ^ (c.args.level - 1)) (pieces content b)) c.deref-2.ensures.value in
-    let first : to_z w64 (of_z w64 c.args.row) ≡ c.args.row = omega (arith, ints, c.ranges.row) in
-    let place : to_z w64 (of_z w64 c.further-middle.result) ≡ c.args.row +ℤ pos (2 ^ (c.args.level - 1)) = omega (arith, ints, c.further-middle.ensures, c.ranges.row) in
     on_ok_weaker c.append_band-2.result
-    (λ e. both_halves c.args.level c.args.row _ _ (pieces content c.args.band.items) _ _ low first place upper_is lower_is _ _ _ c.in_ok-append_band.ensures.cells e) c.append_band-2.ensures.cells
+    (λ e. both_halves c.args.level c.args.row (to_z w64 (of_z w64 c.args.row)) (to_z w64 (of_z w64 c.further-middle.result)) _ c.args.band.items _ _ _
+    c.if-level-eq0.false
+    (omega (arith, ints, c.ranges.row)) (omega (arith, ints, c.further-middle.ensures, c.ranges.row)) c.deref-2.ensures.value o.upper o.lower _ _ _
+    c.in_ok-append_band.ensures.cells e)
+    c.append_band-2.ensures.cells
 
 pub returns-clause-many : goal.returns-clause-many
 returns-clause-many g t c =
     let o = c.in_ok-north.ensures in
-    let low : 1 ≤ c.args.level = let n = c.if-level-eq0.false in omega arith in
-    let content = g.S.Squares.content c.args.squares.now in
-    let upper_is = o.upper ∙ ap (λ b. upper (2 ^ (c.args.level - 1)) (pieces content b)) c.deref-2.ensures.value in
-    let lower_is = o.lower ∙ ap (λ b. lower (2 ^ (c.args.level - 1)) (pieces content b)) c.deref-2.ensures.value in
-    let first : to_z w64 (of_z w64 c.args.row) ≡ c.args.row = omega (arith, ints, c.ranges.row) in
-    let place : to_z w64 (of_z w64 c.further-middle.result) ≡ c.args.row +ℤ pos (2 ^ (c.args.level - 1)) = omega (arith, ints, c.further-middle.ensures, c.ranges.row) in
-    more_in_second c.args.level c.args.row _ _ (pieces content c.args.band.items) _ _ low first place upper_is lower_is c.append_band-2.result _ _ c.args.limit c.in_ok-append_band.ensures.cells c.append_band-2.ensures.many
+    more_in_second c.args.level c.args.row (to_z w64 (of_z w64 c.args.row)) (to_z w64 (of_z w64 c.further-middle.result)) _ c.args.band.items _ _ _
+    c.if-level-eq0.false
+    (omega (arith, ints, c.ranges.row)) (omega (arith, ints, c.further-middle.ensures, c.ranges.row)) c.deref-2.ensures.value o.upper o.lower
+    c.append_band-2.result _ _ c.args.limit
+    c.in_ok-append_band.ensures.cells c.append_band-2.ensures.many

@@ -1,15 +1,35 @@
-use Rattle.std.proofs.Common.{◌≡◌, inl, inr, refl, sym, ◌∙◌, ap, subst, arith}
-use Rattle.std.proofs.lemmas.Result.{IfOk-weaker}
-use Rattle.life_base.proofs.Results.{on_err_both}
-use Rattle.life_base.specs.Tree.{quad, depth, blank as blank_of}
-use Rattle.life_quad.proofs.RefusedLemmas.{error_is, grown_is, SomePart-grown}
-use Rattle.life_quad.proofs.KeepingLemmas.{keeps-then}
+use Rattle.std.proofs.Common.{◌≡◌, ℕ, ◌+◌, ◌<◌, List, inl, inr, refl, sym, ◌∙◌, ap, subst, arith}
+use Rattle.life_base.specs.declared.cell.TheConstants.{MAX_LEVEL}
+use Rattle.life_base.specs.Tree.{Tree, quad, depth, blank as blank_of}
+use Rattle.life_quad.specs.Keeping.{KeepsSquares}
+use Rattle.life_quad.specs.Moves.{grown}
+use Rattle.life_quad.specs.declared.id.Id.{Id}
+use Rattle.life_quad.proofs.RefusedLemmas.{grown_is, SomePart-grown}
+use Rattle.life_quad.proofs.KeepingLemmas.{keeps-same, keeps-then}
+use Rattle.life_quad.proofs.MakingLemmas.{joined-last, join-refused}
 use Rattle.life_quad.proofs.moves.grow.Goals as goal
+
+-- a blank square and a quarter behind calls that keep the squares of a store
+kept : {S : Type 0} {knows : S → Id → Type 0} {content : S → Id → Tree} {stored : S → List Tree} {most : S → ℕ} {old new : S} {e q : Id} {level whole : ℕ}
+    → KeepsSquares knows content stored most old new → knows old e → knows old q → depth (content old e) ≡ level → level + 1 ≡ whole
+    → depth (content old q) + 1 ≡ whole → whole < MAX_LEVEL
+    → record { blank : knows new e; quarter : knows new q; same : depth (content new q) ≡ depth (content new e); room : depth (content new e) < MAX_LEVEL }
+kept k known_e known_q level one other high =
+    let e = k.contents _ known_e in
+    let q = k.contents _ known_q in
+    let at = ap depth e.1 in
+    record { blank = e.0; quarter = q.0; same = omega (arith, at, ap depth q.1, level, one, other); room = omega (arith, at, level, one, high) }
+
+-- a square made of the two is the same before and behind the calls
+needs_before : {S : Type 0} {knows : S → Id → Type 0} {content : S → Id → Tree} {stored : S → List Tree} {most : S → ℕ} {old new : S} {e q : Id}
+    (needs : Tree → Type 0) (f : Tree → Tree → Tree) → KeepsSquares knows content stored most old new → knows old e → knows old q
+    → needs (f (content new e) (content new q)) → needs (f (content old e) (content old q))
+needs_before needs f k known_e known_q = subst needs (λ i. f ((k.contents _ known_e).1 i) ((k.contents _ known_q).1 i))
 
 pub join-requires : goal.join-requires
 join-requires g c =
-    let d = c.divide.ensures in
     let blank = c.empty-e.ensures in
+    let d = c.divide.ensures in
     let side = blank.level ∙ c.level.ensures.level in
     record {
       nw = blank.known;
@@ -22,6 +42,7 @@ join-requires g c =
       room = omega (arith, side, d.nw_level, c.requires.high);
     }
 
+-- in whichever of the four places the quarter stands
 pub join-requires-2 : goal.join-requires-2
 join-requires-2 g c =
     let d = c.divide.ensures in
@@ -45,53 +66,17 @@ join-requires-2 g c =
 pub join-requires-3 : goal.join-requires-3
 join-requires-3 g c =
     let d = c.divide.ensures in
-    let blank = c.empty-e.ensures in
-    let side = blank.level ∙ c.level.ensures.level in
-    let first = c.join.ensures.keeps.contents in
-    let second = c.join-2.ensures.keeps.contents in
-    let e_1 = first _ blank.known in
-    let e = second _ e_1.0 in
-    let sw_1 = first _ d.sw in
-    let sw = second _ sw_1.0 in
-    record {
-      nw = e.0;
-      ne = sw.0;
-      sw = e.0;
-      se = e.0;
-      ne_level = omega (arith, ap depth (sw.1 ∙ sw_1.1), ap depth (e.1 ∙ e_1.1), side, d.nw_level, d.sw_level);
-      sw_level = refl;
-      se_level = refl;
-      room = omega (arith, ap depth (e.1 ∙ e_1.1), side, d.nw_level, c.requires.high);
-    }
+    let k = kept (keeps-then c.join.ensures.keeps c.join-2.ensures.keeps) c.empty-e.ensures.known d.sw (c.empty-e.ensures.level ∙ c.level.ensures.level)
+    d.nw_level d.sw_level c.requires.high in
+    record { nw = k.blank; ne = k.quarter; sw = k.blank; se = k.blank; ne_level = k.same; sw_level = refl; se_level = refl; room = k.room }
 
 pub join-requires-4 : goal.join-requires-4
 join-requires-4 g c =
-    let C = g.S.Squares.content in
     let d = c.divide.ensures in
-    let blank = c.empty-e.ensures in
-    let side = blank.level ∙ c.level.ensures.level in
-    let first = c.join.ensures.keeps.contents in
-    let second = c.join-2.ensures.keeps.contents in
-    let third = c.join-3.ensures.keeps.contents in
-    let e_1 = first _ blank.known in
-    let e_2 = second _ e_1.0 in
-    let e = third _ e_2.0 in
-    let se_1 = first _ d.se in
-    let se_2 = second _ se_1.0 in
-    let se = third _ se_2.0 in
-    let level = ap depth (se.1 ∙ se_2.1 ∙ se_1.1) in
-    let same : depth (C c.join-3.new.self c.empty-e.result) ≡ depth (C c.join-3.new.self c.divide.result.se) =
-    omega (arith, level, ap depth (e.1 ∙ e_2.1 ∙ e_1.1), side, d.nw_level, d.se_level) in
-    record {
-      nw = se.0;
-      ne = e.0;
-      sw = e.0;
-      se = e.0;
-      ne_level = same;
-      sw_level = same;
-      se_level = same;
-      room = omega (arith, level, d.se_level, c.requires.high);
-    }
+    let k = kept (keeps-then (keeps-then c.join.ensures.keeps c.join-2.ensures.keeps) c.join-3.ensures.keeps) c.empty-e.ensures.known d.se
+    (c.empty-e.ensures.level ∙ c.level.ensures.level) d.nw_level d.se_level c.requires.high in
+    let same = sym k.same in
+    record { nw = k.quarter; ne = k.blank; sw = k.blank; se = k.blank; ne_level = same; sw_level = same; se_level = same; room = omega (arith, same, k.room) }
 
 pub join-requires-5 : goal.join-requires-5
 join-requires-5 g c =
@@ -134,92 +119,36 @@ join-requires-5 g c =
 
 pub returns-in_err-north_west : goal.returns-in_err-north_west
 returns-in_err-north_west g c =
-    let d = c.divide.ensures in
     let side = c.empty-e.ensures.square ∙ ap blank_of c.level.ensures.level in
-    let join = c.in_err-north_west.ensures in
-    let p = error_is c.from_residual.result c.from_residual.ensures.1 in
-    let P = g.S.Squares.needs_node c.join.new.self in
-    record {
-      known = rw p tt;
-      square = rw p tt;
-      keeps = join.keeps;
-      refusals = rw p join.refusals;
-      full = λ f. rw join.unchanged (join.full.0 (sym p ∙ f)).1;
-      room = λ f. join.room (sym p ∙ f);
-      needed = rw p (SomePart-grown _ _ _ _ _ _ d.square side P (inr (inl (inl (rw join.unchanged join.needed)))));
-    }
+    join-refused g.S.Squares.needs_node _ _ c.from_residual.result c.from_residual.ensures.1 (keeps-same c.args.squares.now) c.in_err-north_west.ensures
+    (λ n. SomePart-grown _ _ _ _ _ _ c.divide.ensures.square side (g.S.Squares.needs_node c.join.new.self) (inr (inl (inl n))))
 
 pub returns-in_err-north_east : goal.returns-in_err-north_east
 returns-in_err-north_east g c =
-    let d = c.divide.ensures in
+    let keeps = c.join.ensures.keeps in
     let side = c.empty-e.ensures.square ∙ ap blank_of c.level.ensures.level in
-    let first = c.join.ensures in
-    let join = c.in_err-north_east.ensures in
-    let p = error_is c.from_residual-in_err-north_east.result c.from_residual-in_err-north_east.ensures.1 in
     let N = g.S.Squares.needs_node in
-    let e = (first.keeps.contents _ c.empty-e.ensures.known).1 in
-    let ne = (first.keeps.contents _ d.ne).1 in
-    let needed = subst (N c.join.new.self) (λ i. quad (e i) (e i) (ne i) (e i)) join.needed in
-    record {
-      known = rw p tt;
-      square = rw p tt;
-      keeps = keeps-then first.keeps join.keeps;
-      refusals = rw p join.refusals;
-      full = λ f. rw join.unchanged (join.full.0 (sym p ∙ f)).1;
-      room = λ f. join.room (sym p ∙ f);
-      needed = rw p (SomePart-grown _ _ _ _ _ _ d.square side (N c.join-2.new.self) (inr (inr (inl (inl (rw join.unchanged needed))))));
-    }
+    join-refused N _ _ c.from_residual-in_err-north_east.result c.from_residual-in_err-north_east.ensures.1 keeps c.in_err-north_east.ensures
+    (λ n. SomePart-grown _ _ _ _ _ _ c.divide.ensures.square side (N c.join-2.new.self)
+    (inr (inr (inl (inl (needs_before (N c.join-2.new.self) (λ e q. quad e e q e) keeps c.empty-e.ensures.known c.divide.ensures.ne n))))))
 
 pub returns-in_err-south_west : goal.returns-in_err-south_west
 returns-in_err-south_west g c =
-    let d = c.divide.ensures in
+    let keeps = keeps-then c.join.ensures.keeps c.join-2.ensures.keeps in
     let side = c.empty-e.ensures.square ∙ ap blank_of c.level.ensures.level in
-    let first = c.join.ensures in
-    let second = c.join-2.ensures in
-    let join = c.in_err-south_west.ensures in
-    let p = error_is c.from_residual-in_err-south_west.result c.from_residual-in_err-south_west.ensures.1 in
     let N = g.S.Squares.needs_node in
-    let e_1 = first.keeps.contents _ c.empty-e.ensures.known in
-    let e = (second.keeps.contents _ e_1.0).1 ∙ e_1.1 in
-    let sw_1 = first.keeps.contents _ d.sw in
-    let sw = (second.keeps.contents _ sw_1.0).1 ∙ sw_1.1 in
-    let needed = subst (N c.join-2.new.self) (λ i. quad (e i) (sw i) (e i) (e i)) join.needed in
-    record {
-      known = rw p tt;
-      square = rw p tt;
-      keeps = keeps-then (keeps-then first.keeps second.keeps) join.keeps;
-      refusals = rw p join.refusals;
-      full = λ f. rw join.unchanged (join.full.0 (sym p ∙ f)).1;
-      room = λ f. join.room (sym p ∙ f);
-      needed = rw p (SomePart-grown _ _ _ _ _ _ d.square side (N c.join-3.new.self) (inr (inr (inr (inl (inl (rw join.unchanged needed)))))));
-    }
+    join-refused N _ _ c.from_residual-in_err-south_west.result c.from_residual-in_err-south_west.ensures.1 keeps c.in_err-south_west.ensures
+    (λ n. SomePart-grown _ _ _ _ _ _ c.divide.ensures.square side (N c.join-3.new.self)
+    (inr (inr (inr (inl (inl (needs_before (N c.join-3.new.self) (λ e q. quad e q e e) keeps c.empty-e.ensures.known c.divide.ensures.sw n)))))))
 
 pub returns-in_err-south_east : goal.returns-in_err-south_east
 returns-in_err-south_east g c =
-    let d = c.divide.ensures in
+    let keeps = keeps-then (keeps-then c.join.ensures.keeps c.join-2.ensures.keeps) c.join-3.ensures.keeps in
     let side = c.empty-e.ensures.square ∙ ap blank_of c.level.ensures.level in
-    let first = c.join.ensures in
-    let second = c.join-2.ensures in
-    let third = c.join-3.ensures in
-    let join = c.in_err-south_east.ensures in
-    let p = error_is c.from_residual-in_err-south_east.result c.from_residual-in_err-south_east.ensures.1 in
     let N = g.S.Squares.needs_node in
-    let e_1 = first.keeps.contents _ c.empty-e.ensures.known in
-    let e_2 = second.keeps.contents _ e_1.0 in
-    let e = (third.keeps.contents _ e_2.0).1 ∙ e_2.1 ∙ e_1.1 in
-    let se_1 = first.keeps.contents _ d.se in
-    let se_2 = second.keeps.contents _ se_1.0 in
-    let se = (third.keeps.contents _ se_2.0).1 ∙ se_2.1 ∙ se_1.1 in
-    let needed = subst (N c.join-3.new.self) (λ i. quad (se i) (e i) (e i) (e i)) join.needed in
-    record {
-      known = rw p tt;
-      square = rw p tt;
-      keeps = keeps-then (keeps-then (keeps-then first.keeps second.keeps) third.keeps) join.keeps;
-      refusals = rw p join.refusals;
-      full = λ f. rw join.unchanged (join.full.0 (sym p ∙ f)).1;
-      room = λ f. join.room (sym p ∙ f);
-      needed = rw p (SomePart-grown _ _ _ _ _ _ d.square side (N c.join-4.new.self) (inr (inr (inr (inr (inl (rw join.unchanged needed)))))));
-    }
+    join-refused N _ _ c.from_residual-in_err-south_east.result c.from_residual-in_err-south_east.ensures.1 keeps c.in_err-south_east.ensures
+    (λ n. SomePart-grown _ _ _ _ _ _ c.divide.ensures.square side (N c.join-4.new.self)
+    (inr (inr (inr (inr (inl (needs_before (N c.join-4.new.self) (λ e q. quad q e e e) keeps c.empty-e.ensures.known c.divide.ensures.se n)))))))
 
 pub returns : goal.returns
 returns g c =
@@ -230,7 +159,6 @@ returns g c =
     let second = c.join-2.ensures in
     let third = c.join-3.ensures in
     let fourth = c.join-4.ensures in
-    let join = c.join-5.ensures in
     let north_west = c.in_ok-north_west.ensures in
     let north_east = c.in_ok-north_east.ensures in
     let south_west = c.in_ok-south_west.ensures in
@@ -264,16 +192,8 @@ returns g c =
     ≡ quad (quad e e e (C o c.divide.result.nw)) (quad e e (C o c.divide.result.ne) e) (quad e (C o c.divide.result.sw) e e) (quad (C o c.divide.result.se) e e e) =
     (λ i. quad (nw i) (ne i) (sw i) (se i)) in
     let N = g.S.Squares.needs_node in
-    record {
-      known = join.known;
-      square = IfOk-weaker c.join-5.result _ _ (λ r made. made ∙ whole ∙ grown_is _ _ _ _ _ _ d.square side) join.square;
-      keeps = keeps-then (keeps-then (keeps-then (keeps-then first.keeps second.keeps) third.keeps) fourth.keeps) join.keeps;
-      refusals = join.refusals;
-      full = λ f. rw (rw f at join.unchanged) (join.full.0 f).1;
-      room = join.room;
-      needed = on_err_both c.join-5.result
-          (λ n u. SomePart-grown _ _ _ _ _ _ d.square side (N c.join-5.new.self) (inl (rw u (subst (N c.join-4.new.self) whole n))))
-          join.needed join.unchanged;
-    }
+    let keeps = keeps-then (keeps-then (keeps-then first.keeps second.keeps) third.keeps) fourth.keeps in
+    joined-last N (λ u. u ≡ grown (C o c.args.id)) c.join-5.result keeps c.join-5.ensures (whole ∙ grown_is _ _ _ _ _ _ d.square side)
+    (λ n. SomePart-grown _ _ _ _ _ _ d.square side (N c.join-5.new.self) (inl (subst (N c.join-5.new.self) whole n)))
 
 -- These are the answers of the five joins.

@@ -1,9 +1,9 @@
-use Rattle.std.proofs.Common.{◌≡◌, ℕ, ◌<◌, ◌≤◌, ◌^◌, arith, sym, ◌∙◌, ap}
+use Rattle.std.proofs.Common.{◌≡◌, ℕ, ◌<◌, arith, sym, ◌∙◌, ap}
 use Rattle.life_base.specs.Tree.{Tree}
 use Rattle.life_quad.specs.declared.id.Id.{Id}
 use Rattle.life_quad.specs.Cells.{population}
 use Rattle.life_quad.specs.IdMap.{value_of}
-use Rattle.life_quad.proofs.CountLemmas.{population-blank, quarter_small}
+use Rattle.life_quad.proofs.CountLemmas.{population-blank, quarters_small}
 use Rattle.life_quad.proofs.MapLemmas.{after_set}
 use Rattle.life_quad.proofs.reads.+count.Goals as goal
 
@@ -13,39 +13,18 @@ returns-then-is_blank_at-clause-number g t c =
 
 pub overflow_add-sum : goal.overflow_add-sum
 overflow_add-sum g t c =
-    let law = g.met.S.Squares in
-    let C = g.S.Squares.content in
-    let o = c.args.squares.now in
-    let d = c.divide.ensures in
-    let top = law.low o c.args.id c.requires.known in
-    let small_a : c.in_ok-a.a ≤ 4 ^ 61 = quarter_small (C o c.divide.result.nw) _ _ (law.full o c.divide.result.nw d.nw) d.nw_level top c.in_ok-a.ensures.number in
-    let small_b : c.in_ok-b.b ≤ 4 ^ 61 = quarter_small (C o c.divide.result.ne) _ _ (law.full o c.divide.result.ne d.ne) d.ne_level top c.in_ok-b.ensures.number in
-    omega (arith, small_a, small_b)
+    let few = quarters_small _ _ _ _ _ (g.met.S.Squares.full _ _ c.requires.known) (g.met.S.Squares.low _ _ c.requires.known) c.divide.ensures.square in
+    omega (arith, few, c.in_ok-a.ensures.number, c.in_ok-b.ensures.number)
 
 pub overflow_add-sum-2 : goal.overflow_add-sum-2
 overflow_add-sum-2 g t c =
-    let law = g.met.S.Squares in
-    let C = g.S.Squares.content in
-    let o = c.args.squares.now in
-    let d = c.divide.ensures in
-    let top = law.low o c.args.id c.requires.known in
-    let small_a : c.in_ok-a.a ≤ 4 ^ 61 = quarter_small (C o c.divide.result.nw) _ _ (law.full o c.divide.result.nw d.nw) d.nw_level top c.in_ok-a.ensures.number in
-    let small_b : c.in_ok-b.b ≤ 4 ^ 61 = quarter_small (C o c.divide.result.ne) _ _ (law.full o c.divide.result.ne d.ne) d.ne_level top c.in_ok-b.ensures.number in
-    let small_c : c.in_ok-c.c ≤ 4 ^ 61 = quarter_small (C o c.divide.result.sw) _ _ (law.full o c.divide.result.sw d.sw) d.sw_level top c.in_ok-c.ensures.number in
-    omega (arith, small_a, small_b, small_c)
+    let few = quarters_small _ _ _ _ _ (g.met.S.Squares.full _ _ c.requires.known) (g.met.S.Squares.low _ _ c.requires.known) c.divide.ensures.square in
+    omega (arith, few, c.in_ok-a.ensures.number, c.in_ok-b.ensures.number, c.in_ok-c.ensures.number)
 
 pub overflow_add-sum-3 : goal.overflow_add-sum-3
 overflow_add-sum-3 g t c =
-    let law = g.met.S.Squares in
-    let C = g.S.Squares.content in
-    let o = c.args.squares.now in
-    let d = c.divide.ensures in
-    let top = law.low o c.args.id c.requires.known in
-    let small_a : c.in_ok-a.a ≤ 4 ^ 61 = quarter_small (C o c.divide.result.nw) _ _ (law.full o c.divide.result.nw d.nw) d.nw_level top c.in_ok-a.ensures.number in
-    let small_b : c.in_ok-b.b ≤ 4 ^ 61 = quarter_small (C o c.divide.result.ne) _ _ (law.full o c.divide.result.ne d.ne) d.ne_level top c.in_ok-b.ensures.number in
-    let small_c : c.in_ok-c.c ≤ 4 ^ 61 = quarter_small (C o c.divide.result.sw) _ _ (law.full o c.divide.result.sw d.sw) d.sw_level top c.in_ok-c.ensures.number in
-    let small_d : c.in_ok-d.d ≤ 4 ^ 61 = quarter_small (C o c.divide.result.se) _ _ (law.full o c.divide.result.se d.se) d.se_level top c.in_ok-d.ensures.number in
-    omega (arith, small_a, small_b, small_c, small_d)
+    let few = quarters_small _ _ _ _ _ (g.met.S.Squares.full _ _ c.requires.known) (g.met.S.Squares.low _ _ c.requires.known) c.divide.ensures.square in
+    omega (arith, few, c.in_ok-a.ensures.number, c.in_ok-b.ensures.number, c.in_ok-c.ensures.number, c.in_ok-d.ensures.number)
 
 pub returns-clause-number : goal.returns-clause-number
 returns-clause-number g t c =

@@ -1,12 +1,35 @@
-use Rattle.std.proofs.Common.{◌≡◌, suc, ◌+◌, ◌-◌, ◌^◌, arith, ◌∙◌, ap, subst}
+use Rattle.std.proofs.Common.{◌≡◌, Result, IfOk, suc, ◌+◌, ◌-◌, ◌^◌, arith, ◌∙◌, ap, subst}
 use Rattle.std.proofs.lemmas.Int.{ints}
+use Rattle.std.specs.Prelude.{IfErr, IsErrAnd}
+use Rattle.life_base.specs.declared.kind.Kind.{Kind}
+use Rattle.life_base.specs.declared.kind.Kind.TheVariants.{Memory}
 use Rattle.life_base.specs.Tree.{depth, half_side}
 use Rattle.life_quad.specs.Distances.{HasCellAt, IsLeastOf}
 use Rattle.life_quad.specs.declared.distances.Side.TheVariants.{North, South, West, East}
 use Rattle.life_quad.proofs.DistanceLemmas.{nowhere_blank, box_of_distances}
 use Rattle.life_quad.proofs.PlaneLemmas.{least_box}
 use Rattle.life_quad.proofs.RunLemmas.{side}
+use Rattle.life_quad.proofs.RefusedLemmas.{error_is}
 use Rattle.life_quad.proofs.reads.bounds.Goals as goal
+
+-- a refusal that is passed on
+refused : {T : Type 0} {e : Kind} (least : T → Type 0) (r : Result T Kind) → IsErrAnd r (λ f. f ≡ e) → e ≡ Memory → record {
+  least : IfOk r least;
+  refusals : IfErr r (λ e. e ≡ Memory);
+}
+refused least r told memory = let p = error_is r told in record { least = rw p tt; refusals = rw p memory }
+
+pub returns-in_err-west : goal.returns-in_err-west
+returns-in_err-west g c = refused _ c.from_residual.result c.from_residual.ensures.1 c.in_err-west.ensures.refusals
+
+pub returns-in_err-north : goal.returns-in_err-north
+returns-in_err-north g c = refused _ c.from_residual-in_err-north.result c.from_residual-in_err-north.ensures.1 c.in_err-north.ensures.refusals
+
+pub returns-in_err-east : goal.returns-in_err-east
+returns-in_err-east g c = refused _ c.from_residual-in_err-east.result c.from_residual-in_err-east.ensures.1 c.in_err-east.ensures.refusals
+
+pub returns-in_err-south : goal.returns-in_err-south
+returns-in_err-south g c = refused _ c.from_residual-in_err-south.result c.from_residual-in_err-south.ensures.1 c.in_err-south.ensures.refusals
 
 pub returns-in_default-clause-least : goal.returns-in_default-clause-least
 returns-in_default-clause-least g c =

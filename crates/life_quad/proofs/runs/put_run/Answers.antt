@@ -18,20 +18,20 @@ offset-requires-2-clause-small g c =
     let small = pow_mono {i = c.level.result - 1} {j = 61} (omega arith) in
     let e = c.half_side-half.ensures.half in omega arith
 
-pub returns-clause-square : goal.returns-clause-square
-returns-clause-square g c =
+pub returns : goal.returns
+returns g c =
     let half : c.half_side-half.result ≡ half_side (g.S.Squares.content c.args.squares.now c.args.root) = c.half_side-half.ensures.half ∙ ap (λ l. 2 ^ (l - 1)) c.level.ensures.level in
     let ex : pos c.offset.result ≡ c.args.x +ℤ pos c.half_side-half.result = omega (arith, ints, c.offset.ensures, c.ranges.x) in
     let ey : pos c.offset-2.result ≡ c.args.y +ℤ pos c.half_side-half.result = omega (arith, ints, c.offset-2.ensures, c.ranges.y) in
-    IfOk-weaker c.set_span.result _ _
-    (λ r s. SetsRun-span _ _ _ _ _ _ _ _ c.requires.high c.requires.inside (ex ∙ ap (λ h. c.args.x +ℤ pos h) half) (ey ∙ ap (λ h. c.args.y +ℤ pos h) half) s)
-    c.set_span.ensures.square
-
-pub returns-clause-needed : goal.returns-clause-needed
-returns-clause-needed g c =
-    let half : c.half_side-half.result ≡ half_side (g.S.Squares.content c.args.squares.now c.args.root) = c.half_side-half.ensures.half ∙ ap (λ l. 2 ^ (l - 1)) c.level.ensures.level in
-    let ex : pos c.offset.result ≡ c.args.x +ℤ pos c.half_side-half.result = omega (arith, ints, c.offset.ensures, c.ranges.x) in
-    let ey : pos c.offset-2.result ≡ c.args.y +ℤ pos c.half_side-half.result = omega (arith, ints, c.offset-2.ensures, c.ranges.y) in
-    on_err_weaker c.set_span.result
-    (λ s. (s.0, SetsRun-span _ _ _ _ _ _ _ _ c.requires.high c.requires.inside (ex ∙ ap (λ h. c.args.x +ℤ pos h) half) (ey ∙ ap (λ h. c.args.y +ℤ pos h) half) s.1, s.2))
-    c.set_span.ensures.needed
+    let x = ex ∙ ap (λ h. c.args.x +ℤ pos h) half in
+    let y = ey ∙ ap (λ h. c.args.y +ℤ pos h) half in
+    let call = c.set_span.ensures in
+    record {
+      known = call.known;
+      square = IfOk-weaker c.set_span.result _ _ (λ r s. SetsRun-span _ _ _ _ _ _ _ _ c.requires.high c.requires.inside x y s) call.square;
+      keeps = call.keeps;
+      refusals = call.refusals;
+      full = call.full;
+      room = call.room;
+      needed = on_err_weaker c.set_span.result (λ s. (s.0, SetsRun-span _ _ _ _ _ _ _ _ c.requires.high c.requires.inside x y s.1, s.2)) call.needed;
+    }

@@ -5,6 +5,7 @@ use Rattle.life_quad.specs.StoreLaws.{levels-push}
 use Rattle.life_base.specs.Tree.{depth}
 use Rattle.life_quad.specs.Store.{Nodes, squares, levels_of, node_square, id_of, IsNode, HasRoom, Answers}
 use Rattle.life_quad.specs.contracts.shared.Shared.{the_view}
+use Rattle.life_quad.proofs.GrowLemmas.{with_both}
 use Rattle.life_quad.proofs.CallLemmas.{absent_node, node_there, node_added, sound_added, answers_refused, answers_memory, HasSeen-node, position_node, not_there, inserted, found}
 use Rattle.life_quad.proofs.shared.Shared.intern.Goals as goal
 
@@ -42,47 +43,61 @@ returns-in_err-i c =
     (answers_memory s new (node_square (squares s.nodes) c.args.node) c.from_residual.result (λ i. record { nodes = kept i; log = s.log; limit = s.limit }) inv.1
     (absent_node s c.args.node inv.0 inv.1 node c.requires.large missing) (omega (arith, len, more, room)) _ (λ k e. e) told.0 told.1)
 
-pub invariant_of-self-then-is_new : goal.invariant_of-self-then-is_new
-invariant_of-self-then-is_new c =
-    let s = the_view c.self.inside in
-    let inv = c.self.invariant in
-    let new : Nodes = record { nodes = c.insert_full.new.self.keys; log = c.then-self-inside.result.ids; limit = s.limit } in
-    let node = subst (λ v. IsNode v.log (squares v.nodes) (length v.nodes) c.args.node) (sym c.self.view_is) c.requires.sound in
+abbrev old : goal.After-self-1 → Nodes
+old c = the_view c.self.inside
+
+abbrev new : goal.After-self-1 → Nodes
+new c = record { nodes = c.insert_full.new.self.keys; log = c.then-self-inside.result.ids; limit = c.self.inside.limit }
+
+-- the node is new and behind the others, and there was room for it
+added : (c : goal.After-self-1)
+    → IsNode (old c).log (squares (old c).nodes) (length (old c).nodes) c.args.node × (¬ Contains (old c).nodes c.args.node) × HasRoom (old c)
+    × (new c ≡ with_both (old c) c.args.node) × (c.in_ok-i.i ≡ length (old c).nodes)
+added c =
+    let s = old c in
     let i = c.in_ok-i.i in
-    let one : length new.nodes ≡ length s.nodes + 1 = c.in_ok-i.ensures.len ∙ ap (λ b. length s.nodes + (if b then 1 else 0)) c.if-is_new.true in
-    let is = inserted s.nodes new.nodes c.args.node i c.in_ok-i.ensures.keys one c.in_ok-i.ensures.stored in
-    let grown : new.log ≡ s.log ++ (66064 + i) ∷ [] = c.then-self-inside.ensures in
-    let last : new.log ≡ s.log ++ (66064 + length s.nodes) ∷ [] = grown ∙ ap (λ j. s.log ++ (66064 + j) ∷ []) is.2 in
+    let one : length (new c).nodes ≡ length s.nodes + 1 = c.in_ok-i.ensures.len ∙ ap (λ b. length s.nodes + (if b then 1 else 0)) c.if-is_new.true in
+    let is = inserted s.nodes (new c).nodes c.args.node i c.in_ok-i.ensures.keys one c.in_ok-i.ensures.stored in
+    let grown : (new c).log ≡ s.log ++ (66064 + i) ∷ [] = c.then-self-inside.ensures in
+    let last : (new c).log ≡ s.log ++ (66064 + length s.nodes) ∷ [] = grown ∙ ap (λ j. s.log ++ (66064 + j) ∷ []) is.2 in
+    let node = subst (λ v. IsNode v.log (squares v.nodes) (length v.nodes) c.args.node) (sym c.self.view_is) c.requires.sound in
     let len = c.len-nodes.ensures.len in
-    let more = inv.3 in
+    let more = c.self.invariant.3 in
     let limit = c.in_default.ensures.room.0 in
     let few = c.in_default.ensures.room.1 in
-    let longer = ap length last ∙ length-append s.log ((66064 + length s.nodes) ∷ []) in
     let room : HasRoom s = record { limit = omega (arith, len, more, limit); few = omega (arith, len, few) } in
-    let sound = sound_added s new c.args.node inv.0 inv.1 node c.requires.large is.0 room (λ i. record { nodes = is.1 i; log = last i; limit = s.limit }) in
+    (node, is.0, room, (λ j. record { nodes = is.1 j; log = last j; limit = s.limit }), is.2)
+
+pub invariant_of-self-then-is_new : goal.invariant_of-self-then-is_new
+invariant_of-self-then-is_new c =
+    let s = old c in
+    let inv = c.self.invariant in
+    let a = added c in
+    let sound = sound_added s (new c) c.args.node inv.0 inv.1 a.0 c.requires.large a.1 a.2 a.3 in
+    let last : (new c).log ≡ s.log ++ (66064 + length s.nodes) ∷ [] = ap (λ v. v.log) a.3 in
+    let longer = ap length last ∙ length-append s.log ((66064 + length s.nodes) ∷ []) in
+    let nodes : (new c).nodes ≡ s.nodes ++ c.args.node ∷ [] = ap (λ v. v.nodes) a.3 in
+    let one = ap length nodes ∙ length-append s.nodes (c.args.node ∷ []) in
+    let more = inv.3 in
     let level : c.args.level ≡ depth (node_square (squares s.nodes) c.args.node) = subst (λ v. c.args.level ≡ depth (node_square (squares v.nodes) c.args.node)) (sym c.self.view_is) c.requires.level in
     let levels = c.in_ok-push.ensures.items ∙ ap (λ l. l ++ c.args.level ∷ []) (c.make_room.ensures.levels ∙ inv.4) ∙ ap (λ v. levels_of s.nodes ++ v ∷ []) level
-    ∙ sym (ap levels_of is.1 ∙ levels-push s.nodes c.args.node) in
-    (sound.0, sound.1, HasSeen-node (value_of c.self.inside.seen) s.log new.log (66064 + length s.nodes) inv.2 (omega arith) last, omega (arith, longer, more, one), levels)
+    ∙ sym (ap levels_of nodes ∙ levels-push s.nodes c.args.node) in (
+      sound.0,
+      sound.1,
+      HasSeen-node (value_of c.self.inside.seen) s.log (new c).log (66064 + length s.nodes) inv.2 (omega arith) last,
+      omega
+          (arith, longer, more, one),
+      levels,
+    )
 
 pub returns-in_ok-push : goal.returns-in_ok-push
 returns-in_ok-push c =
-    let s = the_view c.self.inside in
+    let s = old c in
     let inv = c.self.invariant in
-    let new : Nodes = record { nodes = c.insert_full.new.self.keys; log = c.then-self-inside.result.ids; limit = s.limit } in
-    let node = subst (λ v. IsNode v.log (squares v.nodes) (length v.nodes) c.args.node) (sym c.self.view_is) c.requires.sound in
+    let a = added c in
     let i = c.in_ok-i.i in
-    let one : length new.nodes ≡ length s.nodes + 1 = c.in_ok-i.ensures.len ∙ ap (λ b. length s.nodes + (if b then 1 else 0)) c.if-is_new.true in
-    let is = inserted s.nodes new.nodes c.args.node i c.in_ok-i.ensures.keys one c.in_ok-i.ensures.stored in
-    let grown : new.log ≡ s.log ++ (66064 + i) ∷ [] = c.then-self-inside.ensures in
-    let last : new.log ≡ s.log ++ (66064 + length s.nodes) ∷ [] = grown ∙ ap (λ j. s.log ++ (66064 + j) ∷ []) is.2 in
-    let len = c.len-nodes.ensures.len in
-    let more = inv.3 in
-    let limit = c.in_default.ensures.room.0 in
-    let few = c.in_default.ensures.room.1 in
-    let room : HasRoom s = record { limit = omega (arith, len, more, limit); few = omega (arith, len, few) } in
-    subst (λ v. Answers v new (node_square (squares v.nodes) c.args.node) (Ok (id_of (66064 + i)))) c.self.view_is
-    (node_added s new c.args.node i inv.0 inv.1 node c.requires.large is.0 room (λ i. record { nodes = is.1 i; log = last i; limit = s.limit }) is.2)
+    subst (λ v. Answers v (new c) (node_square (squares v.nodes) c.args.node) (Ok (id_of (66064 + i)))) c.self.view_is
+    (node_added s (new c) c.args.node i inv.0 inv.1 a.0 c.requires.large a.1 a.2 a.3 a.4)
 
 pub returns-else-is_new : goal.returns-else-is_new
 returns-else-is_new c =

@@ -1,19 +1,19 @@
-use Rattle.std.proofs.Common.{◌≡◌, ◌+◌, ◌∷◌, [], ◌++◌, length, arith, inl, refl, sym, ◌∙◌, ap, subst, Ok, Err, length-append}
+use Rattle.std.proofs.Common.{◌≡◌, ◌+◌, ◌<◌, ◌∷◌, [], ◌++◌, length, Contains, arith, inl, refl, sym, ◌∙◌, ap, subst, Ok, Err, length-append}
 use Rattle.life_base.specs.declared.kind.Kind.TheVariants.{Full}
 use Rattle.life_quad.specs.IdMap.{value_of}
 use Rattle.life_quad.specs.Store.{Nodes, squares, small_square, id_of, IsSmall, Answers}
 use Rattle.life_quad.specs.contracts.shared.Shared.{the_view}
+use Rattle.life_quad.proofs.GrowLemmas.{with_id}
 use Rattle.life_quad.proofs.CallLemmas.{absent_small, small_there, small_added, sound_marked, answers_refused, answers_memory, HasSeen-mark, HasSeen-same, unseen}
 use Rattle.life_quad.proofs.shared.Shared.mark.Goals as goal
 
 pub returns-then-get : goal.returns-then-get
 returns-then-get c =
     let s = the_view c.self.inside in
-    let v = c.self.view_is in
     let inv = c.self.invariant in
-    let small = subst (λ v. IsSmall v.log (squares v.nodes) c.args.number) (sym v) c.requires.small in
+    let small = subst (λ v. IsSmall v.log (squares v.nodes) c.args.number) (sym c.self.view_is) c.requires.small in
     let there = inv.2.joined c.args.number (sym c.get.ensures ∙ c.if-get.true) in
-    subst (λ v. Answers v v (small_square c.args.number) (Ok (id_of c.args.number))) v (small_there s c.args.number inv.0 inv.1 small there)
+    subst (λ v. Answers v v (small_square c.args.number) (Ok (id_of c.args.number))) c.self.view_is (small_there s c.args.number inv.0 inv.1 small there)
 
 pub returns-then-len-self : goal.returns-then-len-self
 returns-then-len-self c =
@@ -48,33 +48,47 @@ invariant_of-self c =
     let inv = c.self.invariant in
     (inv.0, inv.1, HasSeen-same (value_of c.self.inside.seen) (value_of c.see.new.seen) c.self.inside.log.ids inv.2 c.in_err-see.ensures.same, inv.3, inv.4)
 
-pub invariant_of-self-2 : goal.invariant_of-self-2
-invariant_of-self-2 c =
-    let s = the_view c.self.inside in
+abbrev old : goal.After-self-2-1 → Nodes
+old c = the_view c.self.inside
+
+abbrev new : goal.After-self-2-1 → Nodes
+new c = record { nodes = c.self.inside.nodes.keys; log = c.then-self-inside.result.ids; limit = c.self.inside.limit }
+
+-- the square is new, and there was room for it
+added : (c : goal.After-self-2-1)
+    → IsSmall (old c).log (squares (old c).nodes) c.args.number × (¬ Contains (old c).log c.args.number)
+    × (length (old c).log < (old c).limit) × (new c ≡ with_id (old c) c.args.number)
+added c =
+    let s = old c in
     let inv = c.self.invariant in
-    let new : Nodes = record { nodes = s.nodes; log = c.then-self-inside.result.ids; limit = s.limit } in
     let small = subst (λ v. IsSmall v.log (squares v.nodes) c.args.number) (sym c.self.view_is) c.requires.small in
     let absent = unseen (value_of c.self.inside.seen) s.log c.args.number inv.2 c.requires.last (sym c.get.ensures ∙ c.if-get.false) in
     let len = c.len.ensures.len in
     let more = inv.3 in
     let most = inv.1.len in
     let below = c.if-len-self.false in
-    let grown : new.log ≡ s.log ++ c.args.number ∷ [] = c.then-self-inside.ensures in
+    let grown : (new c).log ≡ s.log ++ c.args.number ∷ [] = c.then-self-inside.ensures in
+    (small, absent, omega (arith, len, more, most, below), (λ i. record { nodes = s.nodes; log = grown i; limit = s.limit }))
+
+pub invariant_of-self-2 : goal.invariant_of-self-2
+invariant_of-self-2 c =
+    let s = old c in
+    let inv = c.self.invariant in
+    let a = added c in
+    let grown : (new c).log ≡ s.log ++ c.args.number ∷ [] = c.then-self-inside.ensures in
     let longer = ap length grown ∙ length-append s.log (c.args.number ∷ []) in
-    let sound = sound_marked s new c.args.number inv.0 inv.1 small absent (omega (arith, len, more, most, below)) (λ i. record { nodes = s.nodes; log = grown i; limit = s.limit }) in
-    (sound.0, sound.1, HasSeen-mark (value_of c.self.inside.seen) (value_of c.see.new.seen) s.log new.log c.args.number inv.2 c.in_ok-see.ensures.marked c.see.ensures.others grown, omega (arith, longer, more), inv.4)
+    let more = inv.3 in
+    let sound = sound_marked s (new c) c.args.number inv.0 inv.1 a.0 a.1 a.2 a.3 in (
+      sound.0,
+      sound.1,
+      HasSeen-mark (value_of c.self.inside.seen) (value_of c.see.new.seen) s.log (new c).log c.args.number inv.2 c.in_ok-see.ensures.marked
+          c.see.ensures.others grown,
+      omega (arith, longer, more),
+      inv.4,
+    )
 
 pub returns : goal.returns
 returns c =
-    let s = the_view c.self.inside in
-    let inv = c.self.invariant in
-    let new : Nodes = record { nodes = s.nodes; log = c.then-self-inside.result.ids; limit = s.limit } in
-    let small = subst (λ v. IsSmall v.log (squares v.nodes) c.args.number) (sym c.self.view_is) c.requires.small in
-    let absent = unseen (value_of c.self.inside.seen) s.log c.args.number inv.2 c.requires.last (sym c.get.ensures ∙ c.if-get.false) in
-    let len = c.len.ensures.len in
-    let more = inv.3 in
-    let most = inv.1.len in
-    let below = c.if-len-self.false in
-    let grown : new.log ≡ s.log ++ c.args.number ∷ [] = c.then-self-inside.ensures in
-    subst (λ v. Answers v new (small_square c.args.number) (Ok (id_of c.args.number))) c.self.view_is
-    (small_added s new c.args.number inv.0 inv.1 small absent (omega (arith, len, more, most, below)) (λ i. record { nodes = s.nodes; log = grown i; limit = s.limit }))
+    let a = added c in
+    subst (λ v. Answers v (new c) (small_square c.args.number) (Ok (id_of c.args.number))) c.self.view_is
+    (small_added (old c) (new c) c.args.number c.self.invariant.0 c.self.invariant.1 a.0 a.1 a.2 a.3)

@@ -1,12 +1,12 @@
-use Rattle.std.proofs.Common.{◌≡◌, arith, sym, ◌∙◌, ap, subst, true≢false, ◌+◌, ◌<◌, suc, false}
+use Rattle.std.proofs.Common.{◌≡◌, arith, sym, ◌∙◌, ap, subst, true≢false, ◌+◌, suc}
 use Rattle.life_quad.specs.Store.{squares, content, node_square, Answers}
 use Rattle.life_quad.specs.StoreLaws.{small_node}
 use Rattle.life_quad.specs.SmallLaws.{small_range}
-use Rattle.life_base.specs.Tree.{depth, blank, is_blank_tree}
+use Rattle.life_base.specs.Tree.{depth, blank}
 use Rattle.life_quad.specs.declared.id.Id.{Id}
 use Rattle.life_quad.specs.declared.id.Node.{Node}
 use Rattle.life_quad.specs.declared.shared.Shared.{Shared}
-use Rattle.life_quad.proofs.CallLemmas.{is_blank-joined, blank_joined, IsNode-joined, IsSmall-joined, join_known, join_square, join_keeps, join_added, join_there, join_fresh, join_full, join_needed}
+use Rattle.life_quad.proofs.CallLemmas.{is_blank-joined, blank_joined, IsNode-joined, IsSmall-joined, join_answers}
 use Rattle.life_quad.proofs.shared.SharedSquaresImpl.join.Goals as goal
 
 -- ---- four blank squares
@@ -50,43 +50,15 @@ mark-requires c =
     let range = small_range c.args.nw.0 c.args.ne.0 c.args.sw.0 c.args.se.0 c.in-Some.number number in
     record { small = IsSmall-joined s (quarters_of s c.args.nw c.args.ne c.args.sw c.args.se) c.in-Some.number number node; first = range.0; last = range.1 }
 
-deep-small : (c : goal.After-mark) → 0 < depth (node_square (squares c.args.self.now.nodes) (quarters_of c.args.self.now c.args.nw c.args.ne c.args.sw c.args.se))
-deep-small c = omega arith
-
-not_blank-small : (c : goal.After-mark) → is_blank_tree (node_square (squares c.args.self.now.nodes) (quarters_of c.args.self.now c.args.nw c.args.ne c.args.sw c.args.se)) ≡ false
-not_blank-small c =
+pub returns-in-Some : goal.returns-in-Some
+returns-in-Some c =
     let r = c.requires in
-    is_blank-joined _ _ _ _ _ r.nw.0 r.ne.0 r.sw.0 r.se.0 r.ne_level r.sw_level r.se_level ∙ sym c.are_blank.ensures ∙ c.if-are_blank.false
-
-small : (c : goal.After-mark) → Answers c.args.self.now c.mark.new.self (node_square (squares c.args.self.now.nodes) (quarters_of c.args.self.now c.args.nw c.args.ne c.args.sw c.args.se)) c.mark.result
-small c =
     let s = c.args.self.now in
-    subst (λ t. Answers s c.mark.new.self t c.mark.result)
-    (small_node (squares s.nodes) (quarters_of s c.args.nw c.args.ne c.args.sw c.args.se) c.in-Some.number (sym c.small_number.ensures ∙ c.in-Some.is)) c.mark.ensures
-
-pub returns-in-Some-clause-known : goal.returns-in-Some-clause-known
-returns-in-Some-clause-known c = join_known _ _ _ (deep-small c) (not_blank-small c) _ (small c)
-
-pub returns-in-Some-clause-square : goal.returns-in-Some-clause-square
-returns-in-Some-clause-square c = join_square _ _ _ (deep-small c) (not_blank-small c) _ (small c)
-
-pub returns-in-Some-clause-keeps : goal.returns-in-Some-clause-keeps
-returns-in-Some-clause-keeps c = join_keeps _ _ _ (deep-small c) (not_blank-small c) _ (small c)
-
-pub returns-in-Some-clause-added : goal.returns-in-Some-clause-added
-returns-in-Some-clause-added c = join_added _ _ _ (deep-small c) (not_blank-small c) _ (small c)
-
-pub returns-in-Some-clause-there : goal.returns-in-Some-clause-there
-returns-in-Some-clause-there c = join_there _ _ _ (deep-small c) (not_blank-small c) _ (small c)
-
-pub returns-in-Some-clause-fresh : goal.returns-in-Some-clause-fresh
-returns-in-Some-clause-fresh c = join_fresh _ _ _ (deep-small c) (not_blank-small c) _ (small c)
-
-pub returns-in-Some-clause-full : goal.returns-in-Some-clause-full
-returns-in-Some-clause-full c = join_full _ _ _ (deep-small c) (not_blank-small c) _ (small c)
-
-pub returns-in-Some-clause-needed : goal.returns-in-Some-clause-needed
-returns-in-Some-clause-needed c = join_needed _ _ _ (deep-small c) (not_blank-small c) _ (small c)
+    let node = quarters_of s c.args.nw c.args.ne c.args.sw c.args.se in
+    let not_blank = is_blank-joined _ _ _ _ _ r.nw.0 r.ne.0 r.sw.0 r.se.0 r.ne_level r.sw_level r.se_level ∙ sym c.are_blank.ensures ∙ c.if-are_blank.false in
+    let answers = subst (λ t. Answers s c.mark.new.self t c.mark.result)
+    (small_node (squares s.nodes) node c.in-Some.number (sym c.small_number.ensures ∙ c.in-Some.is)) c.mark.ensures in
+    join_answers s c.mark.new.self (node_square (squares s.nodes) node) (omega arith) not_blank c.mark.result answers
 
 -- ---- a node
 
@@ -99,34 +71,10 @@ intern-requires c =
       level = let e = c.level-level.ensures.level in omega arith;
     }
 
-deep-node : (c : goal.After-intern) → 0 < depth (node_square (squares c.args.self.now.nodes) (quarters_of c.args.self.now c.args.nw c.args.ne c.args.sw c.args.se))
-deep-node c = omega arith
-
-not_blank-node : (c : goal.After-intern) → is_blank_tree (node_square (squares c.args.self.now.nodes) (quarters_of c.args.self.now c.args.nw c.args.ne c.args.sw c.args.se)) ≡ false
-not_blank-node c =
+pub returns : goal.returns
+returns c =
     let r = c.requires in
-    is_blank-joined _ _ _ _ _ r.nw.0 r.ne.0 r.sw.0 r.se.0 r.ne_level r.sw_level r.se_level ∙ sym c.are_blank.ensures ∙ c.if-are_blank.false
-
-pub returns-clause-known : goal.returns-clause-known
-returns-clause-known c = join_known _ _ _ (deep-node c) (not_blank-node c) _ c.intern.ensures
-
-pub returns-clause-square : goal.returns-clause-square
-returns-clause-square c = join_square _ _ _ (deep-node c) (not_blank-node c) _ c.intern.ensures
-
-pub returns-clause-keeps : goal.returns-clause-keeps
-returns-clause-keeps c = join_keeps _ _ _ (deep-node c) (not_blank-node c) _ c.intern.ensures
-
-pub returns-clause-added : goal.returns-clause-added
-returns-clause-added c = join_added _ _ _ (deep-node c) (not_blank-node c) _ c.intern.ensures
-
-pub returns-clause-there : goal.returns-clause-there
-returns-clause-there c = join_there _ _ _ (deep-node c) (not_blank-node c) _ c.intern.ensures
-
-pub returns-clause-fresh : goal.returns-clause-fresh
-returns-clause-fresh c = join_fresh _ _ _ (deep-node c) (not_blank-node c) _ c.intern.ensures
-
-pub returns-clause-full : goal.returns-clause-full
-returns-clause-full c = join_full _ _ _ (deep-node c) (not_blank-node c) _ c.intern.ensures
-
-pub returns-clause-needed : goal.returns-clause-needed
-returns-clause-needed c = join_needed _ _ _ (deep-node c) (not_blank-node c) _ c.intern.ensures
+    let s = c.args.self.now in
+    let not_blank = is_blank-joined _ _ _ _ _ r.nw.0 r.ne.0 r.sw.0 r.se.0 r.ne_level r.sw_level r.se_level ∙ sym c.are_blank.ensures ∙ c.if-are_blank.false in
+    join_answers s c.intern.new.self (node_square (squares s.nodes) (quarters_of s c.args.nw c.args.ne c.args.sw c.args.se)) (omega arith) not_blank
+    c.intern.result c.intern.ensures
