@@ -1,6 +1,7 @@
 use Rattle.std.proofs.Common.{◌≡◌, ◌++◌, ◌∷◌, [], All, arith, rules, sym, ◌∙◌, ap, subst}
 use Rattle.std.proofs.lemmas.List.{append_assoc}
 use Rattle.std.proofs.lemmas.Result.{err_from_is_err_and}
+use Rattle.life_quad.proofs.KeepingLemmas.{keeps-then}
 use Rattle.life_strip.specs.Picture.{picture, height, IsSound}
 use Rattle.life_strip.specs.Needed.{SomeSquare}
 use Rattle.life_strip.proofs.NeededLemmas.{SomeSquare-same}
@@ -37,6 +38,9 @@ returns-clause-height g t c =
     append_assoc c.args.strips.now.items init (c.in-Some.last ∷ []) ∙ ap (λ z. c.args.strips.now.items ++ z) (sym items) in
     let h = sym (ap height in_order) ∙ height-push (c.args.strips.now.items ++ init) c.in-Some.last in
     on_ok_map c.push_strip.result (λ e. omega (arith, e, h, c.in_ok-push_rows.ensures.height)) c.push_strip.ensures.height
+
+pub returns-clause-keeps : goal.returns-clause-keeps
+returns-clause-keeps g t c = keeps-then c.in_ok-push_rows.ensures.keeps c.push_strip.ensures.keeps
 
 pub returns-clause-picture : goal.returns-clause-picture
 returns-clause-picture g t c =

@@ -1,5 +1,6 @@
 use Rattle.std.proofs.Common.{◌-◌, ◌^◌, ◌++◌, sym, ◌∙◌, ap, subst, arith, rules}
 use Rattle.std.proofs.lemmas.Result.{err_from_is_err_and}
+use Rattle.life_quad.proofs.KeepingLemmas.{keeps-then}
 use Rattle.life_strip.specs.Picture.{picture, height, IsLowest}
 use Rattle.life_strip.proofs.NeededLemmas.{SomeSquare-same}
 use Rattle.life_strip.proofs.PictureLemmas.{on_ok_map, picture-blank}
@@ -13,6 +14,9 @@ returns-in_err-push_row-clause-needed g t c =
     (λ e. SomeSquare-same (omega (arith, c.if-count-eq0.false))
     (λ i j. picture-blank (g.S.Squares.content c.args.squares.now) (c.args.strips.now.items ++ c.args.band.now.items) (record { level = 0; spans = c.new.result }) c.new.ensures.items i j)
     (c.in_err-push_row.ensures.needed e))
+
+pub returns-then-count-lt4-clause-keeps : goal.returns-then-count-lt4-clause-keeps
+returns-then-count-lt4-clause-keeps g t c = keeps-then c.in_ok-push_row.ensures.keeps c.skip_rows.ensures.keeps
 
 pub returns-then-count-lt4-clause-picture : goal.returns-then-count-lt4-clause-picture
 returns-then-count-lt4-clause-picture g t c =
@@ -55,6 +59,9 @@ returns-in_err-push_strip-clause-needed g t c =
     (λ e. SomeSquare-same (omega (arith, h, c.blank_level-level.ensures.fits))
     (λ i j. picture-blank C xs (record { level = c.blank_level-level.result; spans = c.new-2.result }) c.new-2.ensures.items i j ∙ sym (ap (λ z. picture C z i j) none))
     (c.in_err-push_strip.ensures.needed e))
+
+pub returns-clause-keeps : goal.returns-clause-keeps
+returns-clause-keeps g t c = keeps-then c.in_ok-push_strip.ensures.keeps c.skip_rows-2.ensures.keeps
 
 pub returns-clause-picture : goal.returns-clause-picture
 returns-clause-picture g t c =

@@ -2,6 +2,7 @@ use Rattle.std.proofs.Common.{◌≡◌, ℕ, ◌^◌, ◌++◌, ◌∷◌, [], 
 use Rattle.std.specs.Prelude.{IfSome}
 use Rattle.std.proofs.lemmas.List.Elements.{All-append}
 use Rattle.std.proofs.lemmas.Result.{err_from_is_err_and}
+use Rattle.life_quad.proofs.KeepingLemmas.{keeps-then}
 use Rattle.life_strip.specs.Picture.{picture, IsSound}
 use Rattle.life_strip.specs.Needed.{SomeSquare}
 use Rattle.life_strip.proofs.NeededLemmas.{SomeSquare-same, err_again}
@@ -27,6 +28,9 @@ pub push_rows-requires-clause-sound : goal.push_rows-requires-clause-sound
 push_rows-requires-clause-sound g c =
     all-keeps {knows = g.S.Squares.knows c.args.squares.now} {knows' = g.S.Squares.knows c.band_strip.new.squares} {old = g.S.Squares.content c.args.squares.now} {new = g.S.Squares.content c.band_strip.new.squares}
     c.in_ok-strip.ensures.keeps.contents c.args.strips.now.items c.requires.sound
+
+pub returns-in_default-clause-keeps : goal.returns-in_default-clause-keeps
+returns-in_default-clause-keeps g c = keeps-then c.in_ok-strip.ensures.keeps c.push_rows.ensures.keeps
 
 pub returns-in_default-clause-picture : goal.returns-in_default-clause-picture
 returns-in_default-clause-picture g c =
@@ -68,6 +72,9 @@ returns-clause-height g c =
     let four = height-rows c.args.band.now.items c.requires.rows in
     let two : 2 ^ c.in-Some.strip.level ≡ 4 = ap (λ n. 2 ^ n) (subst (λ o. IfSome o (λ s. s.level ≡ 2)) c.in-Some.is c.in_ok-strip.ensures.level) in
     on_ok_map c.push_strip.result (λ e. omega (arith, e, h, four, two, c.requires.whole)) c.push_strip.ensures.height
+
+pub returns-clause-keeps : goal.returns-clause-keeps
+returns-clause-keeps g c = keeps-then c.in_ok-strip.ensures.keeps c.push_strip.ensures.keeps
 
 pub returns-clause-picture : goal.returns-clause-picture
 returns-clause-picture g c =
