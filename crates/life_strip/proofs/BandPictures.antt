@@ -9,8 +9,9 @@ use Rattle.life_quad.specs.declared.id.Id.{Id}
 use Rattle.life_quad.specs.Refused.{SomePart}
 use Rattle.life_base.specs.Tree.{Tree, point, quad, depth, state_at, IsFull}
 use Rattle.life_base.proofs.Squares.{at_nw, at_ne, at_sw, at_se}
+use Rattle.life_strip.specs.declared.spans.Span.{Span}
 use Rattle.life_strip.specs.declared.spans.Strip.{Strip}
-use Rattle.life_strip.specs.Strip.{square_at, quad_at, IsStrip}
+use Rattle.life_strip.specs.Strip.{square_at, quad_at, IsStrip, AreWithin}
 use Rattle.life_strip.specs.Picture.{state_in, picture, height, AreFalling, IsLowest, IsSound}
 use Rattle.life_strip.specs.Needed.{SomeSquare}
 use Rattle.life_strip.specs.Band.{IsPile, four_at}
@@ -436,6 +437,16 @@ are-rows knows content xs a b c d e ea eb ec ed sound rows =
       third = subst (IsSound knows content) lc (strips 2 a (omega arith));
       fourth = subst (IsSound knows content) ld (strips 3 a (omega arith));
     }
+
+-- the spans of one of them
+pub spans-at : (knows : Id → Type 0) (content : Id → Tree) (xs : List Strip) (k : ℕ) (d : Strip) (spans : List Span) → k < length xs → spans ≡ (get_or xs k d).spans.items
+    → All (IsSound knows content) xs → All (λ s. s.level ≡ 0) xs → IsStrip knows content 0 spans × AreWithin 0 spans
+spans-at knows content xs k d spans lt e sound rows =
+    let s = get_or xs k d in
+    let h = sound k d lt in
+    let squares = subst (λ n. IsStrip knows content n s.spans.items) (rows k d lt) h.squares in
+    let within = subst (λ n. AreWithin n s.spans.items) (rows k d lt) h.within in
+    (subst (IsStrip knows content 0) (sym e) squares, subst (AreWithin 0) (sym e) within)
 
 -- no rows below strips
 pub no-rows : (xs ys : List Strip) → ys ≡ [] → xs ++ ys ≡ xs

@@ -2,14 +2,42 @@ use Rattle.std.proofs.Common.{◌≡◌, ℕ, ◌+◌, ◌-◌, ◌*◌, ◌<◌
 use Rattle.std.proofs.lemmas.Result.{err_from_is_err_and}
 use Rattle.life_quad.specs.Refused.{SomePart}
 use Rattle.life_quad.specs.Store.{four}
-use Rattle.life_quad.proofs.KeepingLemmas.{keeps-then}
+use Rattle.life_quad.proofs.KeepingLemmas.{keeps-same, keeps-then}
 use Rattle.life_strip.specs.declared.spans.Span.{Span}
 use Rattle.life_strip.specs.Strip.{IsStrip, IsFound}
 use Rattle.life_strip.specs.Band.{four_at, cells_at}
 use Rattle.life_strip.proofs.SpanLemmas.{strip-keeps, past_later}
 use Rattle.life_strip.proofs.NeededLemmas.{err_again}
-use Rattle.life_strip.proofs.BandLemmas.{filled-all, filled-strip, nearest, nearest-inside, nearer-none, words-square, four-same, four-blank, depth-four_at}
+use Rattle.life_strip.proofs.BandLemmas.{filled-all, filled-strip, filled-within, nearest, nearest-beyond, nearest-inside, nearer-none, words-square, four-same, four-blank, depth-four_at}
 use Rattle.life_strip.proofs.bands.band.Goals as goal
+
+pub two_words-requires-clause-start : goal.two_words-requires-clause-start
+two_words-requires-clause-start g c = c.loop-end.invariant.6
+
+pub two_words-requires-clause-upper : goal.two_words-requires-clause-upper
+two_words-requires-clause-upper g c =
+    strip-keeps {knows = g.S.Squares.knows c.args.squares.now} {knows' = g.S.Squares.knows c.loop-end.squares} {old = g.S.Squares.content c.args.squares.now} {now = g.S.Squares.content c.loop-end.squares}
+    c.loop-end.invariant.5.contents 0 c.args.first.now c.requires.first
+
+pub two_words-requires-clause-lower : goal.two_words-requires-clause-lower
+two_words-requires-clause-lower g c =
+    strip-keeps {knows = g.S.Squares.knows c.args.squares.now} {knows' = g.S.Squares.knows c.loop-end.squares} {old = g.S.Squares.content c.args.squares.now} {now = g.S.Squares.content c.loop-end.squares}
+    c.loop-end.invariant.5.contents 0 c.args.second.now c.requires.second
+
+pub two_words-requires-clause-north : goal.two_words-requires-clause-north
+two_words-requires-clause-north g c = c.loop-end.invariant.1.past
+
+pub two_words-requires-clause-south : goal.two_words-requires-clause-south
+two_words-requires-clause-south g c = c.loop-end.invariant.2.past
+
+pub two_words-requires-in-Some-clause-start : goal.two_words-requires-in-Some-clause-start
+two_words-requires-in-Some-clause-start g c = c.loop-end.invariant.6
+
+pub two_words-requires-in-Some-clause-north : goal.two_words-requires-in-Some-clause-north
+two_words-requires-in-Some-clause-north g c = c.loop-end.invariant.3.past
+
+pub two_words-requires-in-Some-clause-south : goal.two_words-requires-in-Some-clause-south
+two_words-requires-in-Some-clause-south g c = c.loop-end.invariant.4.past
 
 pub two_words-requires-in-Some-clause-upper : goal.two_words-requires-in-Some-clause-upper
 two_words-requires-in-Some-clause-upper g c =
@@ -30,6 +58,25 @@ push_rows-requires-clause-within g c =
     let inside = nearest-inside c.args.first.now c.args.second.now c.args.third.now c.args.fourth.now r.first_within r.second_within r.third_within r.fourth_within
     (64 * c.loop-end.block) c.empty-blank.result c.loop-end.a c.loop-end.b c.loop-end.c c.loop-end.d c.in-Some.end inv.1 inv.2 inv.3 inv.4 n in
     omega (arith, inside)
+
+pub push_rows-requires-clause-column : goal.push_rows-requires-clause-column
+push_rows-requires-clause-column g c =
+    let inv = c.loop-end.invariant in
+    let n = nearest c.in-Some.end c.nearer.result c.nearer-in-loop-end.result c.loop-end.a.end c.loop-end.b.end c.loop-end.c.end c.loop-end.d.end
+    c.nearer.ensures c.nearer-in-loop-end.ensures c.in-Some.ensures in
+    nearest-beyond (64 * c.loop-end.block) c.in-Some.end c.loop-end.a.end c.loop-end.b.end c.loop-end.c.end c.loop-end.d.end n inv.1.beyond inv.2.beyond inv.3.beyond inv.4.beyond
+
+pub returns-in_err-spans-clause-keeps : goal.returns-in_err-spans-clause-keeps
+returns-in_err-spans-clause-keeps g c = keeps-same c.args.squares.now
+
+pub returns-in_default-two_words-clause-keeps : goal.returns-in_default-two_words-clause-keeps
+returns-in_default-two_words-clause-keeps g c = c.loop-end.invariant.5
+
+pub returns-in_default-two_words-2-clause-keeps : goal.returns-in_default-two_words-2-clause-keeps
+returns-in_default-two_words-2-clause-keeps g c = c.loop-end.invariant.5
+
+pub returns-clause-keeps : goal.returns-clause-keeps
+returns-clause-keeps g c = c.loop-end.invariant.5
 
 pub returns-in_err-block-clause-keeps : goal.returns-in_err-block-clause-keeps
 returns-in_err-block-clause-keeps g c = keeps-then c.loop-end.invariant.5 c.in_err-block.ensures.keeps
@@ -60,6 +107,16 @@ returns-in_err-block-clause-needed g c =
     rw (p.1, p.2)
     (λ e. let some = c.in_err-block.ensures.needed (err_again e) in
     (16 * c.loop-end.block + some.0, omega (arith, inside, some.1), subst (SomePart (g.S.Squares.needs_node c.push_rows.new.squares)) (wanted some.0 some.1) some.2))
+
+pub find-a-requires-in-Some : goal.find-a-requires-in-Some
+find-a-requires-in-Some g c =
+    let next = c.in_ok-block.ensures.beyond in
+    record { past = past_later c.args.first.now c.in-Some-two_words.upper.north.index (64 * c.loop-end.block + 64) (64 * c.in_ok-block.block) c.in-Some-two_words.ensures.north_past (omega (arith, next)) }
+
+pub find-b-requires-in-Some : goal.find-b-requires-in-Some
+find-b-requires-in-Some g c =
+    let next = c.in_ok-block.ensures.beyond in
+    record { past = past_later c.args.second.now c.in-Some-two_words.upper.south.index (64 * c.loop-end.block + 64) (64 * c.in_ok-block.block) c.in-Some-two_words.ensures.south_past (omega (arith, next)) }
 
 pub find-c-requires-in-Some : goal.find-c-requires-in-Some
 find-c-requires-in-Some g c =
@@ -111,6 +168,15 @@ loop-end-preserved g c =
       keeps-then inv.5 h.keeps,
       h.within,
     )
+
+pub loop-end-smaller : goal.loop-end-smaller
+loop-end-smaller g c = omega (arith, c.in_ok-block.ensures.beyond, c.in_ok-block.ensures.within)
+
+pub returns-clause-within : goal.returns-clause-within
+returns-clause-within g c =
+    let C = g.S.Squares.content in
+    filled-within (g.S.Squares.knows c.loop-end.squares) (C c.loop-end.squares) (four_at (C c.args.squares.now) c.args.first.now c.args.second.now c.args.third.now c.args.fourth.now)
+    c.loop-end.spans.items (16 * c.loop-end.block) c.loop-end.invariant.0 (omega (arith, c.loop-end.invariant.6))
 
 pub returns-clause-strip : goal.returns-clause-strip
 returns-clause-strip g c =

@@ -1,7 +1,9 @@
 use Rattle.std.proofs.Common.{length-append, ◌≡◌, ◌+◌, ◌^◌, ◌++◌, ◌∷◌, [], length, All, arith, refl, sym, ◌∙◌, ap, subst}
 use Rattle.std.proofs.lemmas.List.{append_assoc}
 use Rattle.std.proofs.lemmas.List.Elements.{All-push}
+use Rattle.life_quad.proofs.KeepingLemmas.{keeps-same}
 use Rattle.life_strip.specs.Picture.{picture, height, IsSound}
+use Rattle.life_strip.specs.declared.spans.Strip.{Strip}
 use Rattle.life_strip.specs.Band.{IsPile}
 use Rattle.life_strip.proofs.NeededLemmas.{SomeSquare-same}
 use Rattle.life_strip.proofs.PictureLemmas.{on_ok_map2, on_ok_map4, height-push}
@@ -23,6 +25,36 @@ returns-then-len-lt4-clause-height g c =
     let ys = c.args.band.now.items in
     let in_order : xs ++ c.push.new.self.items ≡ (xs ++ ys) ++ c.args.row ∷ [] = ap (λ z. xs ++ z) c.in_ok-push.ensures.items ∙ sym (append_assoc xs ys (c.args.row ∷ [])) in
     ap height in_order ∙ height-push (xs ++ ys) c.args.row ∙ ap (λ n. height (xs ++ ys) + 2 ^ n) c.requires.level
+
+pub returns-then-len-lt4-clause-picture : goal.returns-then-len-lt4-clause-picture
+returns-then-len-lt4-clause-picture g c i j =
+    ap (λ z. picture (g.S.Squares.content c.args.squares.now) z i j)
+    (ap (λ z. c.args.strips.now.items ++ z) c.in_ok-push.ensures.items ∙ sym (append_assoc c.args.strips.now.items c.args.band.now.items (c.args.row ∷ [])))
+
+pub returns-then-len-lt4-clause-keeps : goal.returns-then-len-lt4-clause-keeps
+returns-then-len-lt4-clause-keeps g c = keeps-same c.args.squares.now
+
+pub returns-in_err-push-clause-keeps : goal.returns-in_err-push-clause-keeps
+returns-in_err-push-clause-keeps g c = keeps-same c.args.squares.now
+
+pub close_band-requires-clause-sound : goal.close_band-requires-clause-sound
+close_band-requires-clause-sound g c = c.requires.pile.sound
+
+pub close_band-requires-clause-falling : goal.close_band-requires-clause-falling
+close_band-requires-clause-falling g c = c.requires.pile.falling
+
+pub close_band-requires-clause-lowest : goal.close_band-requires-clause-lowest
+close_band-requires-clause-lowest g c = c.requires.pile.lowest
+
+pub close_band-requires-clause-rows : goal.close_band-requires-clause-rows
+close_band-requires-clause-rows g c =
+    let P = λ (s : Strip). s.level ≡ 0 in
+    subst (All P) (sym c.in_ok-push.ensures.items) (All-push P c.args.band.now.items c.args.row c.requires.pile.rows c.requires.level)
+
+pub close_band-requires-clause-whole : goal.close_band-requires-clause-whole
+close_band-requires-clause-whole g c =
+    let n = ap length c.in_ok-push.ensures.items ∙ length-append c.args.band.now.items (c.args.row ∷ []) in
+    omega (arith, n, c.len.ensures, c.if-len-lt4.false, c.requires.pile.few)
 
 pub close_band-requires-clause-band : goal.close_band-requires-clause-band
 close_band-requires-clause-band g c =
@@ -51,6 +83,20 @@ returns-clause-pile g c =
     (λ sound falling empty e. pile-alone (g.S.Squares.knows c.close_band.new.squares) (g.S.Squares.content c.close_band.new.squares) c.close_band.new.strips.items c.close_band.new.band.items empty sound falling
     (lowest-more xs c.close_band.new.strips.items 4 1 c.requires.pile.lowest falling (omega (arith, e, h, over, rows, n, c.len.ensures, c.if-len-lt4.false, c.requires.pile.few)) refl))
     r.sound r.falling r.empty r.height
+
+pub returns-clause-picture : goal.returns-clause-picture
+returns-clause-picture g c =
+    let C = g.S.Squares.content in
+    let xs = c.args.strips.now.items in
+    let ys = c.args.band.now.items in
+    let in_order : xs ++ c.push.new.self.items ≡ (xs ++ ys) ++ c.args.row ∷ [] = ap (λ z. xs ++ z) c.in_ok-push.ensures.items ∙ sym (append_assoc xs ys (c.args.row ∷ [])) in
+    on_ok_map2 c.close_band.result
+    (λ empty e i j. ap (λ z. picture (C c.close_band.new.squares) z i j) (no-rows c.close_band.new.strips.items c.close_band.new.band.items empty) ∙ e i j
+    ∙ ap (λ z. picture (C c.args.squares.now) z i j) in_order)
+    c.close_band.ensures.empty c.close_band.ensures.picture
+
+pub returns-clause-keeps : goal.returns-clause-keeps
+returns-clause-keeps g c = c.close_band.ensures.keeps
 
 pub returns-clause-height : goal.returns-clause-height
 returns-clause-height g c =
