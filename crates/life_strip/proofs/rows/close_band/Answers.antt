@@ -6,7 +6,7 @@ use Rattle.life_quad.proofs.KeepingLemmas.{keeps-then}
 use Rattle.life_strip.specs.Picture.{picture, IsSound}
 use Rattle.life_strip.specs.Needed.{SomeSquare}
 use Rattle.life_strip.proofs.NeededLemmas.{SomeSquare-same, err_again}
-use Rattle.life_strip.proofs.PictureLemmas.{on_ok_map, all-keeps}
+use Rattle.life_strip.proofs.PictureLemmas.{on_ok_map, strips-kept}
 use Rattle.life_strip.proofs.PlaneLemmas.{picture-keeps}
 use Rattle.life_strip.proofs.BandPictures.{height-append, height-rows, picture-over, SomeSquare-below}
 use Rattle.life_strip.proofs.rows.close_band.Goals as goal
@@ -25,9 +25,7 @@ returns-in_err-strip-clause-needed g c =
     (subst (λ z. SomeSquare (g.S.Squares.needs_node c.band_strip.new.squares) 4 (picture C z)) c.as_slice.ensures.value (c.in_err-strip.ensures.needed (err_again e)))))
 
 pub push_rows-requires-clause-sound : goal.push_rows-requires-clause-sound
-push_rows-requires-clause-sound g c =
-    all-keeps {knows = g.S.Squares.knows c.args.squares.now} {knows' = g.S.Squares.knows c.band_strip.new.squares} {old = g.S.Squares.content c.args.squares.now} {new = g.S.Squares.content c.band_strip.new.squares}
-    c.in_ok-strip.ensures.keeps.contents c.args.strips.now.items c.requires.sound
+push_rows-requires-clause-sound g c = strips-kept c.in_ok-strip.ensures.keeps c.args.strips.now.items c.requires.sound
 
 pub returns-in_default-clause-keeps : goal.returns-in_default-clause-keeps
 returns-in_default-clause-keeps g c = keeps-then c.in_ok-strip.ensures.keeps c.push_rows.ensures.keeps
@@ -55,9 +53,7 @@ returns-in_default-clause-needed g c =
     (c.push_rows.ensures.needed e)
 
 pub push_strip-requires-clause-sound : goal.push_strip-requires-clause-sound
-push_strip-requires-clause-sound g c =
-    all-keeps {knows = g.S.Squares.knows c.args.squares.now} {knows' = g.S.Squares.knows c.band_strip.new.squares} {old = g.S.Squares.content c.args.squares.now} {new = g.S.Squares.content c.band_strip.new.squares}
-    c.in_ok-strip.ensures.keeps.contents c.args.strips.now.items c.requires.sound
+push_strip-requires-clause-sound g c = strips-kept c.in_ok-strip.ensures.keeps c.args.strips.now.items c.requires.sound
 
 pub push_strip-requires-clause-room : goal.push_strip-requires-clause-room
 push_strip-requires-clause-room g c =
