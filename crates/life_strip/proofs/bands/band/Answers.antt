@@ -1,28 +1,22 @@
-use Rattle.std.proofs.Common.{◌≡◌, ℕ, ◌+◌, ◌-◌, ◌*◌, ◌<◌, List, arith, sym, subst}
+use Rattle.std.proofs.Common.{◌≡◌, ℕ, ◌+◌, ◌*◌, ◌<◌, arith, sym, subst}
 use Rattle.std.proofs.lemmas.Result.{err_from_is_err_and}
 use Rattle.life_quad.specs.Refused.{SomePart}
-use Rattle.life_quad.specs.Store.{four}
 use Rattle.life_quad.proofs.KeepingLemmas.{keeps-same, keeps-then}
-use Rattle.life_strip.specs.declared.spans.Span.{Span}
-use Rattle.life_strip.specs.Strip.{IsStrip, IsFound}
-use Rattle.life_strip.specs.Band.{four_at, cells_at}
-use Rattle.life_strip.proofs.SpanLemmas.{strip-keeps, past_later}
+use Rattle.life_strip.specs.Strip.{IsFound}
+use Rattle.life_strip.specs.Band.{four_at}
+use Rattle.life_strip.proofs.SpanLemmas.{strip-kept, past_later}
 use Rattle.life_strip.proofs.NeededLemmas.{err_again}
-use Rattle.life_strip.proofs.BandLemmas.{filled-all, filled-strip, filled-within, nearest, nearest-beyond, nearest-inside, nearer-none, words-square, four-same, four-blank, depth-four_at}
+use Rattle.life_strip.proofs.BandLemmas.{filled-all, filled-strip, filled-within, nearest, nearest-inside, nearer-none, words-wanted, four-same, four-blank, depth-four_at}
 use Rattle.life_strip.proofs.bands.band.Goals as goal
 
 pub two_words-requires-clause-start : goal.two_words-requires-clause-start
 two_words-requires-clause-start g c = c.loop-end.invariant.6
 
 pub two_words-requires-clause-upper : goal.two_words-requires-clause-upper
-two_words-requires-clause-upper g c =
-    strip-keeps {knows = g.S.Squares.knows c.args.squares.now} {knows' = g.S.Squares.knows c.loop-end.squares} {old = g.S.Squares.content c.args.squares.now} {now = g.S.Squares.content c.loop-end.squares}
-    c.loop-end.invariant.5.contents 0 c.args.first.now c.requires.first
+two_words-requires-clause-upper g c = strip-kept c.loop-end.invariant.5 0 c.args.first.now c.requires.first
 
 pub two_words-requires-clause-lower : goal.two_words-requires-clause-lower
-two_words-requires-clause-lower g c =
-    strip-keeps {knows = g.S.Squares.knows c.args.squares.now} {knows' = g.S.Squares.knows c.loop-end.squares} {old = g.S.Squares.content c.args.squares.now} {now = g.S.Squares.content c.loop-end.squares}
-    c.loop-end.invariant.5.contents 0 c.args.second.now c.requires.second
+two_words-requires-clause-lower g c = strip-kept c.loop-end.invariant.5 0 c.args.second.now c.requires.second
 
 pub two_words-requires-clause-north : goal.two_words-requires-clause-north
 two_words-requires-clause-north g c = c.loop-end.invariant.1.past
@@ -40,31 +34,23 @@ pub two_words-requires-in-Some-clause-south : goal.two_words-requires-in-Some-cl
 two_words-requires-in-Some-clause-south g c = c.loop-end.invariant.4.past
 
 pub two_words-requires-in-Some-clause-upper : goal.two_words-requires-in-Some-clause-upper
-two_words-requires-in-Some-clause-upper g c =
-    strip-keeps {knows = g.S.Squares.knows c.args.squares.now} {knows' = g.S.Squares.knows c.loop-end.squares} {old = g.S.Squares.content c.args.squares.now} {now = g.S.Squares.content c.loop-end.squares}
-    c.loop-end.invariant.5.contents 0 c.args.third.now c.requires.third
+two_words-requires-in-Some-clause-upper g c = strip-kept c.loop-end.invariant.5 0 c.args.third.now c.requires.third
 
 pub two_words-requires-in-Some-clause-lower : goal.two_words-requires-in-Some-clause-lower
-two_words-requires-in-Some-clause-lower g c =
-    strip-keeps {knows = g.S.Squares.knows c.args.squares.now} {knows' = g.S.Squares.knows c.loop-end.squares} {old = g.S.Squares.content c.args.squares.now} {now = g.S.Squares.content c.loop-end.squares}
-    c.loop-end.invariant.5.contents 0 c.args.fourth.now c.requires.fourth
+two_words-requires-in-Some-clause-lower g c = strip-kept c.loop-end.invariant.5 0 c.args.fourth.now c.requires.fourth
+
+pub push_rows-requires-clause-column : goal.push_rows-requires-clause-column
+push_rows-requires-clause-column g c =
+    let r = c.requires in
+    let inv = c.loop-end.invariant in
+    (nearest-inside inv.1 inv.2 inv.3 inv.4 r.first_within r.second_within r.third_within r.fourth_within c.nearer.ensures c.nearer-in-loop-end.ensures c.in-Some.ensures).0
 
 pub push_rows-requires-clause-within : goal.push_rows-requires-clause-within
 push_rows-requires-clause-within g c =
     let r = c.requires in
     let inv = c.loop-end.invariant in
-    let n = nearest c.in-Some.end c.nearer.result c.nearer-in-loop-end.result c.loop-end.a.end c.loop-end.b.end c.loop-end.c.end c.loop-end.d.end
-    c.nearer.ensures c.nearer-in-loop-end.ensures c.in-Some.ensures in
-    let inside = nearest-inside c.args.first.now c.args.second.now c.args.third.now c.args.fourth.now r.first_within r.second_within r.third_within r.fourth_within
-    (64 * c.loop-end.block) c.empty-blank.result c.loop-end.a c.loop-end.b c.loop-end.c c.loop-end.d c.in-Some.end inv.1 inv.2 inv.3 inv.4 n in
+    let inside = nearest-inside inv.1 inv.2 inv.3 inv.4 r.first_within r.second_within r.third_within r.fourth_within c.nearer.ensures c.nearer-in-loop-end.ensures c.in-Some.ensures in
     omega (arith, inside)
-
-pub push_rows-requires-clause-column : goal.push_rows-requires-clause-column
-push_rows-requires-clause-column g c =
-    let inv = c.loop-end.invariant in
-    let n = nearest c.in-Some.end c.nearer.result c.nearer-in-loop-end.result c.loop-end.a.end c.loop-end.b.end c.loop-end.c.end c.loop-end.d.end
-    c.nearer.ensures c.nearer-in-loop-end.ensures c.in-Some.ensures in
-    nearest-beyond (64 * c.loop-end.block) c.in-Some.end c.loop-end.a.end c.loop-end.b.end c.loop-end.c.end c.loop-end.d.end n inv.1.beyond inv.2.beyond inv.3.beyond inv.4.beyond
 
 pub returns-in_err-spans-clause-keeps : goal.returns-in_err-spans-clause-keeps
 returns-in_err-spans-clause-keeps g c = keeps-same c.args.squares.now
@@ -85,24 +71,11 @@ pub returns-in_err-block-clause-needed : goal.returns-in_err-block-clause-needed
 returns-in_err-block-clause-needed g c =
     let r = c.requires in
     let inv = c.loop-end.invariant in
-    let K = g.S.Squares.knows in
-    let C = g.S.Squares.content in
-    let old = c.args.squares.now in
-    let now = c.loop-end.squares in
-    let n = nearest c.in-Some.end c.nearer.result c.nearer-in-loop-end.result c.loop-end.a.end c.loop-end.b.end c.loop-end.c.end c.loop-end.d.end
-    c.nearer.ensures c.nearer-in-loop-end.ensures c.in-Some.ensures in
-    let inside = nearest-inside c.args.first.now c.args.second.now c.args.third.now c.args.fourth.now r.first_within r.second_within r.third_within r.fourth_within
-    (64 * c.loop-end.block) c.empty-blank.result c.loop-end.a c.loop-end.b c.loop-end.c c.loop-end.d c.in-Some.end inv.1 inv.2 inv.3 inv.4 n in
-    let keep = λ (z : List Span) (s : IsStrip (K old) (C old) 0 z). strip-keeps {knows = K old} {knows' = K now} {old = C old} {now = C now} inv.5.contents 0 z s in
     let u = c.in-Some-two_words.ensures in
     let l = c.in-Some-two_words-2.ensures in
-    let upper = c.in-Some-two_words.upper in
-    let lower = c.in-Some-two_words-2.lower in
-    let want = four_at (C old) c.args.first.now c.args.second.now c.args.third.now c.args.fourth.now in
-    let wanted : (i : ℕ) → i < 16 → four (cells_at upper lower i) ≡ want (16 * c.loop-end.block + i) =
-    λ i lt. words-square {knows = K old} {knows' = K now} {old = C old} {now = C now} inv.5.contents c.args.first.now c.args.second.now c.args.third.now c.args.fourth.now r.first r.second r.third r.fourth
-    (keep c.args.first.now r.first) (keep c.args.second.now r.second) (keep c.args.third.now r.third) (keep c.args.fourth.now r.fourth)
-    (64 * c.loop-end.block) upper lower u.north u.south l.north l.south i (16 * c.loop-end.block + i) lt (omega arith) in
+    let inside = nearest-inside inv.1 inv.2 inv.3 inv.4 r.first_within r.second_within r.third_within r.fourth_within c.nearer.ensures c.nearer-in-loop-end.ensures c.in-Some.ensures in
+    let wanted = words-wanted inv.5 c.args.first.now c.args.second.now c.args.third.now c.args.fourth.now r.first r.second r.third r.fourth
+    c.loop-end.block c.in-Some-two_words.upper c.in-Some-two_words-2.lower u.north u.south l.north l.south in
     let p = err_from_is_err_and c.from_residual-in_err-block.result c.from_residual-in_err-block.ensures.1 in
     rw (p.1, p.2)
     (λ e. let some = c.in_err-block.ensures.needed (err_again e) in
@@ -132,24 +105,15 @@ pub loop-end-preserved : goal.loop-end-preserved
 loop-end-preserved g c =
     let r = c.requires in
     let inv = c.loop-end.invariant in
-    let K = g.S.Squares.knows in
-    let C = g.S.Squares.content in
-    let old = c.args.squares.now in
-    let now = c.loop-end.squares in
+    let K = g.S.Squares.knows c.args.squares.now in
+    let C = g.S.Squares.content c.args.squares.now in
     let n = nearest c.in-Some.end c.nearer.result c.nearer-in-loop-end.result c.loop-end.a.end c.loop-end.b.end c.loop-end.c.end c.loop-end.d.end
     c.nearer.ensures c.nearer-in-loop-end.ensures c.in-Some.ensures in
-    let inside = nearest-inside c.args.first.now c.args.second.now c.args.third.now c.args.fourth.now r.first_within r.second_within r.third_within r.fourth_within
-    (64 * c.loop-end.block) c.empty-blank.result c.loop-end.a c.loop-end.b c.loop-end.c c.loop-end.d c.in-Some.end inv.1 inv.2 inv.3 inv.4 n in
-    let keep = λ (z : List Span) (s : IsStrip (K old) (C old) 0 z). strip-keeps {knows = K old} {knows' = K now} {old = C old} {now = C now} inv.5.contents 0 z s in
     let u = c.in-Some-two_words.ensures in
     let l = c.in-Some-two_words-2.ensures in
-    let upper = c.in-Some-two_words.upper in
-    let lower = c.in-Some-two_words-2.lower in
-    let want = four_at (C old) c.args.first.now c.args.second.now c.args.third.now c.args.fourth.now in
-    let wanted : (i : ℕ) → i < 16 → four (cells_at upper lower i) ≡ want (16 * c.loop-end.block + i) =
-    λ i lt. words-square {knows = K old} {knows' = K now} {old = C old} {now = C now} inv.5.contents c.args.first.now c.args.second.now c.args.third.now c.args.fourth.now r.first r.second r.third r.fourth
-    (keep c.args.first.now r.first) (keep c.args.second.now r.second) (keep c.args.third.now r.third) (keep c.args.fourth.now r.fourth)
-    (64 * c.loop-end.block) upper lower u.north u.south l.north l.south i (16 * c.loop-end.block + i) lt (omega arith) in
+    let want = four_at C c.args.first.now c.args.second.now c.args.third.now c.args.fourth.now in
+    let wanted = words-wanted inv.5 c.args.first.now c.args.second.now c.args.third.now c.args.fourth.now r.first r.second r.third r.fourth
+    c.loop-end.block c.in-Some-two_words.upper c.in-Some-two_words-2.lower u.north u.south l.north l.south in
     let at : 64 * c.loop-end.block ≡ 4 * (16 * c.loop-end.block) = omega arith in
     let fa = subst (λ k. IsFound c.args.first.now k c.empty-blank.result c.loop-end.a) at inv.1 in
     let fb = subst (λ k. IsFound c.args.second.now k c.empty-blank.result c.loop-end.b) at inv.2 in
@@ -158,7 +122,7 @@ loop-end-preserved g c =
     let h = c.in_ok-block.ensures in
     let on : (x : ℕ) → 16 * c.loop-end.block < x → 4 * x + 3 < c.in-Some.end → want x ≡ want (16 * c.loop-end.block) =
     λ x lo before.
-    four-same (K old) (C old) c.empty-blank.result c.empty-blank.ensures.known c.empty-blank.ensures.square c.args.first.now c.args.second.now c.args.third.now c.args.fourth.now r.first r.second r.third r.fourth
+    four-same K C c.empty-blank.result c.empty-blank.ensures.known c.empty-blank.ensures.square c.args.first.now c.args.second.now c.args.third.now c.args.fourth.now r.first r.second r.third r.fourth
     (16 * c.loop-end.block) x c.loop-end.a c.loop-end.b c.loop-end.c c.loop-end.d fa fb fc fd lo (n.first (4 * x + 3) before) (n.second (4 * x + 3) before) (n.third (4 * x + 3) before) (n.fourth (4 * x + 3) before) in (
       h.filled want inv.0 (λ i lt. sym (wanted i lt)) on,
       c.find-a-in-Some.ensures,

@@ -1,46 +1,31 @@
-use Rattle.std.proofs.Common.{◌≡◌, ℕ, arith, refl, sym, ◌∙◌, ap, subst}
+use Rattle.std.proofs.Common.{◌≡◌, ℕ, arith, refl, subst}
 use Rattle.std.specs.Prelude.{IfSome}
 use Rattle.std.proofs.lemmas.Result.{err_from_is_err_and}
-use Rattle.life_quad.specs.Refused.{SomePart}
 use Rattle.life_strip.specs.Strip.{square_at}
-use Rattle.life_strip.specs.Picture.{picture}
-use Rattle.life_strip.specs.Needed.{SomeSquare}
 use Rattle.life_strip.specs.Band.{four_at}
 use Rattle.life_strip.proofs.NeededLemmas.{err_again}
 use Rattle.life_strip.proofs.BandPictures.{spans-at, picture-read, SomeSquare-read}
 use Rattle.life_strip.proofs.rows.band_strip.Goals as goal
 
-pub band-requires-clause-first : goal.band-requires-clause-first
-band-requires-clause-first g c =
-    (spans-at (g.S.Squares.knows c.args.squares.now) (g.S.Squares.content c.args.squares.now) c.args.rows.now 0 c.index-rows-0.result _ (omega (arith, c.requires.count)) c.as_slice-first.ensures.value c.requires.sound c.requires.rows).0
-
-pub band-requires-clause-first_within : goal.band-requires-clause-first_within
-band-requires-clause-first_within g c =
-    (spans-at (g.S.Squares.knows c.args.squares.now) (g.S.Squares.content c.args.squares.now) c.args.rows.now 0 c.index-rows-0.result _ (omega (arith, c.requires.count)) c.as_slice-first.ensures.value c.requires.sound c.requires.rows).1
-
-pub band-requires-clause-second : goal.band-requires-clause-second
-band-requires-clause-second g c =
-    (spans-at (g.S.Squares.knows c.args.squares.now) (g.S.Squares.content c.args.squares.now) c.args.rows.now 1 c.index-rows-1.result _ (omega (arith, c.requires.count)) c.as_slice-second.ensures.value c.requires.sound c.requires.rows).0
-
-pub band-requires-clause-second_within : goal.band-requires-clause-second_within
-band-requires-clause-second_within g c =
-    (spans-at (g.S.Squares.knows c.args.squares.now) (g.S.Squares.content c.args.squares.now) c.args.rows.now 1 c.index-rows-1.result _ (omega (arith, c.requires.count)) c.as_slice-second.ensures.value c.requires.sound c.requires.rows).1
-
-pub band-requires-clause-third : goal.band-requires-clause-third
-band-requires-clause-third g c =
-    (spans-at (g.S.Squares.knows c.args.squares.now) (g.S.Squares.content c.args.squares.now) c.args.rows.now 2 c.index-rows-2.result _ (omega (arith, c.requires.count)) c.as_slice-third.ensures.value c.requires.sound c.requires.rows).0
-
-pub band-requires-clause-third_within : goal.band-requires-clause-third_within
-band-requires-clause-third_within g c =
-    (spans-at (g.S.Squares.knows c.args.squares.now) (g.S.Squares.content c.args.squares.now) c.args.rows.now 2 c.index-rows-2.result _ (omega (arith, c.requires.count)) c.as_slice-third.ensures.value c.requires.sound c.requires.rows).1
-
-pub band-requires-clause-fourth : goal.band-requires-clause-fourth
-band-requires-clause-fourth g c =
-    (spans-at (g.S.Squares.knows c.args.squares.now) (g.S.Squares.content c.args.squares.now) c.args.rows.now 3 c.index-rows-3.result _ (omega (arith, c.requires.count)) c.as_slice-fourth.ensures.value c.requires.sound c.requires.rows).0
-
-pub band-requires-clause-fourth_within : goal.band-requires-clause-fourth_within
-band-requires-clause-fourth_within g c =
-    (spans-at (g.S.Squares.knows c.args.squares.now) (g.S.Squares.content c.args.squares.now) c.args.rows.now 3 c.index-rows-3.result _ (omega (arith, c.requires.count)) c.as_slice-fourth.ensures.value c.requires.sound c.requires.rows).1
+pub band-requires : goal.band-requires
+band-requires g c =
+    let K = g.S.Squares.knows c.args.squares.now in
+    let C = g.S.Squares.content c.args.squares.now in
+    let rows = c.args.rows.now in
+    let r = c.requires in
+    let first = spans-at K C rows 0 _ _ (omega (arith, r.count)) c.as_slice-first.ensures.value r.sound r.rows in
+    let second = spans-at K C rows 1 _ _ (omega (arith, r.count)) c.as_slice-second.ensures.value r.sound r.rows in
+    let third = spans-at K C rows 2 _ _ (omega (arith, r.count)) c.as_slice-third.ensures.value r.sound r.rows in
+    let fourth = spans-at K C rows 3 _ _ (omega (arith, r.count)) c.as_slice-fourth.ensures.value r.sound r.rows in record {
+      first = first.0;
+      second = second.0;
+      third = third.0;
+      fourth = fourth.0;
+      first_within = first.1;
+      second_within = second.1;
+      third_within = third.1;
+      fourth_within = fourth.1;
+    }
 
 pub returns-in_err-spans-clause-needed : goal.returns-in_err-spans-clause-needed
 returns-in_err-spans-clause-needed g c =
