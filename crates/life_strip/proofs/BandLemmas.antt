@@ -268,8 +268,10 @@ module _ (content : Id → Tree) (column : ℕ) (i : Id) where
 
 -- the nearest end is beyond the column, and one of the plane
 pub nearest-inside : {a b c d : List Span} {column end : ℕ} {i : Id} {fa fb fc fd : Found} {n s : Option ℕ}
-    → IsFound a column i fa → IsFound b column i fb → IsFound c column i fc → IsFound d column i fd → AreWithin 0 a → AreWithin 0 b → AreWithin 0 c → AreWithin 0 d
-    → MatchOption n ((fa.end ≡ None) × (fb.end ≡ None)) (λ e. IsNearer e fa.end fb.end) → MatchOption s ((fc.end ≡ None) × (fd.end ≡ None)) (λ e. IsNearer e fc.end fd.end) → IsNearer end n s
+    → IsFound a column i fa → IsFound b column i fb → IsFound c column i fc → IsFound d column i fd → AreWithin 0 a → AreWithin 0 b → AreWithin 0 c
+    → AreWithin 0 d
+    → MatchOption n ((fa.end ≡ None) × (fb.end ≡ None)) (λ e. IsNearer e fa.end fb.end)
+    → MatchOption s ((fc.end ≡ None) × (fd.end ≡ None)) (λ e. IsNearer e fc.end fd.end) → IsNearer end n s
     → (column < end) × (end ≤ 4 * 2 ^ (MAX_LEVEL - 2))
 nearest-inside {a} {b} {c} {d} {column} {end} {i} {fa} {fb} {fc} {fd} {n} {s} ha hb hc hd wa wb wc wd north south both =
     let near = nearest end n s fa.end fb.end fc.end fd.end north south both in (
@@ -278,7 +280,8 @@ nearest-inside {a} {b} {c} {d} {column} {end} {i} {fa} {fb} {fc} {fd} {n} {s} ha
     )
 
 -- the cells of a square of level 2 of four words are those of the square there
-words-square : {knows knows' : Id → Type 0} {old now : Id → Tree} → Keeps knows knows' old now → (a b c d : List Span) → IsStrip knows old 0 a → IsStrip knows old 0 b → IsStrip knows old 0 c → IsStrip knows old 0 d
+words-square : {knows knows' : Id → Type 0} {old now : Id → Tree} → Keeps knows knows' old now → (a b c d : List Span) → IsStrip knows old 0 a
+    → IsStrip knows old 0 b → IsStrip knows old 0 c → IsStrip knows old 0 d
     → IsStrip knows' now 0 a → IsStrip knows' now 0 b → IsStrip knows' now 0 c → IsStrip knows' now 0 d
     → (start : ℕ) (upper lower : Words) → IsWord (cell_in now a) start upper.north.cells → IsWord (cell_in now b) start upper.south.cells
     → IsWord (cell_in now c) start lower.north.cells → IsWord (cell_in now d) start lower.south.cells
@@ -292,9 +295,12 @@ words-square {knows} {knows'} {old} {now} keeps a b c d ka kb kc kd ma mb mc md 
     ∙ (λ i. quad (nw i) (ne i) (sw i) (se i))
     ∙ four-keeps {knows = knows} {knows' = knows'} {old = old} {now = now} keeps a b c d ka kb kc kd column
 
-pub words-wanted : {S : Type 0} {knows : S → Id → Type 0} {content : S → Id → Tree} {stored : S → List Tree} {most : S → ℕ} {old new : S} → KeepsSquares knows content stored most old new
-    → (a b c d : List Span) → IsStrip (knows old) (content old) 0 a → IsStrip (knows old) (content old) 0 b → IsStrip (knows old) (content old) 0 c → IsStrip (knows old) (content old) 0 d
-    → (block : ℕ) (upper lower : Words) → IsWord (cell_in (content new) a) (64 * block) upper.north.cells → IsWord (cell_in (content new) b) (64 * block) upper.south.cells
+pub words-wanted : {S : Type 0} {knows : S → Id → Type 0} {content : S → Id → Tree} {stored : S → List Tree} {most : S → ℕ} {old new : S}
+    → KeepsSquares knows content stored most old new
+    → (a b c d : List Span) → IsStrip (knows old) (content old) 0 a → IsStrip (knows old) (content old) 0 b → IsStrip (knows old) (content old) 0 c
+    → IsStrip (knows old) (content old) 0 d
+    → (block : ℕ) (upper lower : Words) → IsWord (cell_in (content new) a) (64 * block) upper.north.cells
+    → IsWord (cell_in (content new) b) (64 * block) upper.south.cells
     → IsWord (cell_in (content new) c) (64 * block) lower.north.cells → IsWord (cell_in (content new) d) (64 * block) lower.south.cells
     → (square : ℕ) → square < 16 → four (cells_at upper lower square) ≡ four_at (content old) a b c d (16 * block + square)
 words-wanted {knows = knows} {content = content} {old = old} {new = new} keeps a b c d ka kb kc kd block upper lower ha hb hc hd square lt =

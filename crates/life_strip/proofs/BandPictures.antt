@@ -405,9 +405,11 @@ are-rows knows content xs a b c d e ea eb ec ed sound rows =
     }
 
 -- four rows and their spans, read one by one
-module _ (knows : Id → Type 0) (content : Id → Tree) (xs : List Strip) (count : length xs ≡ 4) (sound : All (IsSound knows content) xs) (cells : All (λ s. s.level ≡ 0) xs)
+module _ (knows : Id → Type 0) (content : Id → Tree) (xs : List Strip) (count : length xs ≡ 4) (sound : All (IsSound knows content) xs)
+    (cells : All (λ s. s.level ≡ 0) xs)
     (ra rb rc rd : Strip) (a b c d : List Span) (ea : ra ≡ get_or xs 0 ra) (eb : rb ≡ get_or xs 1 rb) (ec : rc ≡ get_or xs 2 rc) (ed : rd ≡ get_or xs 3 rd)
-    (fa : a ≡ (get_or xs 0 ra).spans.items) (fb : b ≡ (get_or xs 1 rb).spans.items) (fc : c ≡ (get_or xs 2 rc).spans.items) (fd : d ≡ (get_or xs 3 rd).spans.items) where
+    (fa : a ≡ (get_or xs 0 ra).spans.items) (fb : b ≡ (get_or xs 1 rb).spans.items) (fc : c ≡ (get_or xs 2 rc).spans.items)
+    (fd : d ≡ (get_or xs 3 rd).spans.items) where
   rows-read : AreRows knows content xs ra rb rc rd
   rows-read = are-rows knows content xs ra rb rc rd count ea eb ec ed sound cells
 
@@ -428,16 +430,17 @@ module _ (knows : Id → Type 0) (content : Id → Tree) (xs : List Strip) (coun
       ∙ ap (λ z. picture content z i j) (sym r.are)
 
   -- and a square of them or a part of it is one of theirs
-  pub SomeSquare-read : (P : Tree → Type 0) → ((id : Id) → knows id → IsFull (content id)) → (k : ℕ) → k < 2 ^ (MAX_LEVEL - 2) → SomePart P (four_at content a b c d k)
-      → SomeSquare P 4 (picture content xs)
+  pub SomeSquare-read : (P : Tree → Type 0) → ((id : Id) → knows id → IsFull (content id)) → (k : ℕ) → k < 2 ^ (MAX_LEVEL - 2)
+      → SomePart P (four_at content a b c d k) → SomeSquare P 4 (picture content xs)
   SomeSquare-read P full k inside p =
       let r = rows-read in
       subst (λ z. SomeSquare P 4 (picture content z)) (sym r.are)
-      (SomeSquare-band knows content ra rb rc rd r.first.squares r.second.squares r.third.squares r.fourth.squares P full k inside (subst (SomePart P) (squares-read k) p))
+      (SomeSquare-band knows content ra rb rc rd r.first.squares r.second.squares r.third.squares r.fourth.squares P full k inside
+      (subst (SomePart P) (squares-read k) p))
 
 -- the spans of one of them
-pub spans-at : (knows : Id → Type 0) (content : Id → Tree) (xs : List Strip) (k : ℕ) (d : Strip) (spans : List Span) → k < length xs → spans ≡ (get_or xs k d).spans.items
-    → All (IsSound knows content) xs → All (λ s. s.level ≡ 0) xs → IsStrip knows content 0 spans × AreWithin 0 spans
+pub spans-at : (knows : Id → Type 0) (content : Id → Tree) (xs : List Strip) (k : ℕ) (d : Strip) (spans : List Span) → k < length xs
+    → spans ≡ (get_or xs k d).spans.items → All (IsSound knows content) xs → All (λ s. s.level ≡ 0) xs → IsStrip knows content 0 spans × AreWithin 0 spans
 spans-at knows content xs k d spans lt e sound rows =
     let s = get_or xs k d in
     let h = sound k d lt in

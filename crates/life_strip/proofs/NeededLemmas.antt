@@ -117,8 +117,8 @@ in_plane level c low within =
     omega (arith, most, whole, turned)
 
 -- a full square of a level with the cells of one place of a picture
-pub SomeSquare-at : {P : Tree → Type 0} {rows : ℕ} {f : ℕ → ℕ → ℕ} (level column row : ℕ) (t : Tree) → IsFull t → depth t ≡ level → 1 ≤ level → level ≤ MAX_LEVEL
-    → column < 2 ^ (MAX_LEVEL - level) → (row + 1) * 2 ^ level ≤ rows
+pub SomeSquare-at : {P : Tree → Type 0} {rows : ℕ} {f : ℕ → ℕ → ℕ} (level column row : ℕ) (t : Tree) → IsFull t → depth t ≡ level → 1 ≤ level
+    → level ≤ MAX_LEVEL → column < 2 ^ (MAX_LEVEL - level) → (row + 1) * 2 ^ level ≤ rows
     → ((i j : ℕ) → i < 2 ^ level → j < 2 ^ level → state_at t i j ≡ f (column * 2 ^ level + i) (row * 2 ^ level + j)) → P t → SomeSquare P rows f
 SomeSquare-at {rows = rows} {f = f} level column row t full same deep low east south cells p =
     record {

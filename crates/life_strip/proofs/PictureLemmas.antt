@@ -156,7 +156,8 @@ module _ {knows knows' : Id → Type 0} {old new : Id → Tree} (keeps : Keeps k
       λ y. if nat_lt j (2 ^ x.level) then here y else more y
 
 -- strips that a call keeps
-pub strips-kept : {S : Type 0} {knows : S → Id → Type 0} {content : S → Id → Tree} {stored : S → List Tree} {most : S → ℕ} {old new : S} → KeepsSquares knows content stored most old new
+pub strips-kept : {S : Type 0} {knows : S → Id → Type 0} {content : S → Id → Tree} {stored : S → List Tree} {most : S → ℕ} {old new : S}
+    → KeepsSquares knows content stored most old new
     → (xs : List Strip) → All (IsSound (knows old) (content old)) xs → All (IsSound (knows new) (content new)) xs
 strips-kept {knows = knows} {content = content} {old = old} {new = new} keeps =
     all-keeps {knows = knows old} {knows' = knows new} {old = content old} {new = content new} keeps.contents

@@ -43,13 +43,15 @@ pub push_rows-requires-clause-column : goal.push_rows-requires-clause-column
 push_rows-requires-clause-column g c =
     let r = c.requires in
     let inv = c.loop-end.invariant in
-    (nearest-inside inv.1 inv.2 inv.3 inv.4 r.first_within r.second_within r.third_within r.fourth_within c.nearer.ensures c.nearer-in-loop-end.ensures c.in-Some.ensures).0
+    (nearest-inside inv.1 inv.2 inv.3 inv.4 r.first_within r.second_within r.third_within r.fourth_within c.nearer.ensures c.nearer-in-loop-end.ensures
+    c.in-Some.ensures).0
 
 pub push_rows-requires-clause-within : goal.push_rows-requires-clause-within
 push_rows-requires-clause-within g c =
     let r = c.requires in
     let inv = c.loop-end.invariant in
-    let inside = nearest-inside inv.1 inv.2 inv.3 inv.4 r.first_within r.second_within r.third_within r.fourth_within c.nearer.ensures c.nearer-in-loop-end.ensures c.in-Some.ensures in
+    let inside = nearest-inside inv.1 inv.2 inv.3 inv.4 r.first_within r.second_within r.third_within r.fourth_within c.nearer.ensures
+    c.nearer-in-loop-end.ensures c.in-Some.ensures in
     omega (arith, inside)
 
 pub returns-in_err-spans-clause-keeps : goal.returns-in_err-spans-clause-keeps
@@ -73,7 +75,8 @@ returns-in_err-block-clause-needed g c =
     let inv = c.loop-end.invariant in
     let u = c.in-Some-two_words.ensures in
     let l = c.in-Some-two_words-2.ensures in
-    let inside = nearest-inside inv.1 inv.2 inv.3 inv.4 r.first_within r.second_within r.third_within r.fourth_within c.nearer.ensures c.nearer-in-loop-end.ensures c.in-Some.ensures in
+    let inside = nearest-inside inv.1 inv.2 inv.3 inv.4 r.first_within r.second_within r.third_within r.fourth_within c.nearer.ensures
+    c.nearer-in-loop-end.ensures c.in-Some.ensures in
     let wanted = words-wanted inv.5 c.args.first.now c.args.second.now c.args.third.now c.args.fourth.now r.first r.second r.third r.fourth
     c.loop-end.block c.in-Some-two_words.upper c.in-Some-two_words-2.lower u.north u.south l.north l.south in
     let p = err_from_is_err_and c.from_residual-in_err-block.result c.from_residual-in_err-block.ensures.1 in
@@ -84,12 +87,18 @@ returns-in_err-block-clause-needed g c =
 pub find-a-requires-in-Some : goal.find-a-requires-in-Some
 find-a-requires-in-Some g c =
     let next = c.in_ok-block.ensures.beyond in
-    record { past = past_later c.args.first.now c.in-Some-two_words.upper.north.index (64 * c.loop-end.block + 64) (64 * c.in_ok-block.block) c.in-Some-two_words.ensures.north_past (omega (arith, next)) }
+    record {
+      past = past_later c.args.first.now c.in-Some-two_words.upper.north.index (64 * c.loop-end.block + 64) (64 * c.in_ok-block.block)
+          c.in-Some-two_words.ensures.north_past (omega (arith, next));
+    }
 
 pub find-b-requires-in-Some : goal.find-b-requires-in-Some
 find-b-requires-in-Some g c =
     let next = c.in_ok-block.ensures.beyond in
-    record { past = past_later c.args.second.now c.in-Some-two_words.upper.south.index (64 * c.loop-end.block + 64) (64 * c.in_ok-block.block) c.in-Some-two_words.ensures.south_past (omega (arith, next)) }
+    record {
+      past = past_later c.args.second.now c.in-Some-two_words.upper.south.index (64 * c.loop-end.block + 64) (64 * c.in_ok-block.block)
+          c.in-Some-two_words.ensures.south_past (omega (arith, next));
+    }
 
 pub find-c-requires-in-Some : goal.find-c-requires-in-Some
 find-c-requires-in-Some g c =
@@ -122,7 +131,8 @@ loop-end-preserved g c =
     let h = c.in_ok-block.ensures in
     let on : (x : ℕ) → 16 * c.loop-end.block < x → 4 * x + 3 < c.in-Some.end → want x ≡ want (16 * c.loop-end.block) =
     λ x lo before.
-    four-same K C c.empty-blank.result c.empty-blank.ensures.known c.empty-blank.ensures.square c.args.first.now c.args.second.now c.args.third.now c.args.fourth.now r.first r.second r.third r.fourth
+    four-same K C c.empty-blank.result c.empty-blank.ensures.known c.empty-blank.ensures.square c.args.first.now c.args.second.now c.args.third.now
+    c.args.fourth.now r.first r.second r.third r.fourth
     (16 * c.loop-end.block) x c.loop-end.a c.loop-end.b c.loop-end.c c.loop-end.d fa fb fc fd lo (n.first (4 * x + 3) before) (n.second (4 * x + 3) before) (n.third (4 * x + 3) before) (n.fourth (4 * x + 3) before) in (
       h.filled want inv.0 (λ i lt. sym (wanted i lt)) on,
       c.find-a-in-Some.ensures,
@@ -139,7 +149,8 @@ loop-end-smaller g c = omega (arith, c.in_ok-block.ensures.beyond, c.in_ok-block
 pub returns-clause-within : goal.returns-clause-within
 returns-clause-within g c =
     let C = g.S.Squares.content in
-    filled-within (g.S.Squares.knows c.loop-end.squares) (C c.loop-end.squares) (four_at (C c.args.squares.now) c.args.first.now c.args.second.now c.args.third.now c.args.fourth.now)
+    filled-within (g.S.Squares.knows c.loop-end.squares) (C c.loop-end.squares)
+    (four_at (C c.args.squares.now) c.args.first.now c.args.second.now c.args.third.now c.args.fourth.now)
     c.loop-end.spans.items (16 * c.loop-end.block) c.loop-end.invariant.0 (omega (arith, c.loop-end.invariant.6))
 
 pub returns-clause-strip : goal.returns-clause-strip

@@ -13,9 +13,11 @@ use Rattle.life_strip.proofs.BandPictures.{all-one, picture-under, SomeSquare-ab
 use Rattle.life_strip.proofs.rows.+push_rows.Goals as goal
 
 -- the last row, below strips that have the cells of the rows above it, is the last of all
-last-below : {S : Type 0} {knows : S → Id → Type 0} {content : S → Id → Tree} {stored : S → List Tree} {most : S → ℕ} {old new : S} → KeepsSquares knows content stored most old new
+last-below : {S : Type 0} {knows : S → Id → Type 0} {content : S → Id → Tree} {stored : S → List Tree} {most : S → ℕ} {old new : S}
+    → KeepsSquares knows content stored most old new
     → (xs ys zs over : List Strip) (last : Strip) → zs ≡ ys ++ last ∷ [] → All (IsSound (knows old) (content old)) zs → height over ≡ height (xs ++ ys)
-    → ((i j : ℕ) → picture (content new) over i j ≡ picture (content old) (xs ++ ys) i j) → (i j : ℕ) → picture (content new) (over ++ last ∷ []) i j ≡ picture (content old) (xs ++ zs) i j
+    → ((i j : ℕ) → picture (content new) over i j ≡ picture (content old) (xs ++ ys) i j)
+    → (i j : ℕ) → picture (content new) (over ++ last ∷ []) i j ≡ picture (content old) (xs ++ zs) i j
 last-below {knows = knows} {content = content} {old = old} {new = new} keeps xs ys zs over last items sound same cells i j =
     let P = IsSound (knows old) (content old) in
     picture-under {knows = knows old} {knows' = knows new} {old = content old} {new = content new} keeps.contents over (xs ++ ys) (last ∷ [])
@@ -50,7 +52,8 @@ returns-clause-picture g t c =
     let r = c.in_ok-push_rows.ensures in
     on_ok_map c.push_strip.result
     (λ e i j. e i j
-    ∙ last-below r.keeps c.args.strips.now.items c.pop.new.self.items c.args.band.now.items c.push_rows.new.strips.items c.in-Some.last c.in-Some.ensures.items c.requires.band r.height r.picture i j)
+    ∙ last-below r.keeps c.args.strips.now.items c.pop.new.self.items c.args.band.now.items c.push_rows.new.strips.items c.in-Some.last c.in-Some.ensures.items
+    c.requires.band r.height r.picture i j)
     c.push_strip.ensures.picture
 
 pub returns-in_err-push_rows-clause-needed : goal.returns-in_err-push_rows-clause-needed
@@ -63,7 +66,8 @@ returns-in_err-push_rows-clause-needed g t c =
     let h = height-last xs ys zs last c.in-Some.ensures.items in
     let p = err_from_is_err_and c.from_residual.result c.from_residual.ensures.1 in
     rw (p.1, p.2)
-    (λ e. subst (λ z. SomeSquare (g.S.Squares.needs_node c.push_rows.new.squares) (height (xs ++ zs)) (picture C z)) (sym (append-last xs ys zs last c.in-Some.ensures.items))
+    (λ e. subst (λ z. SomeSquare (g.S.Squares.needs_node c.push_rows.new.squares) (height (xs ++ zs)) (picture C z))
+    (sym (append-last xs ys zs last c.in-Some.ensures.items))
     (SomeSquare-above C (xs ++ ys) (last ∷ []) (height (xs ++ zs)) (omega (arith, h)) (c.in_err-push_rows.ensures.needed e)))
 
 pub returns-clause-needed : goal.returns-clause-needed
@@ -71,5 +75,6 @@ returns-clause-needed g t c =
     let r = c.in_ok-push_rows.ensures in
     let h = height-last c.args.strips.now.items c.pop.new.self.items c.args.band.now.items c.in-Some.last c.in-Some.ensures.items in
     λ e. SomeSquare-same (omega (arith, h, r.height))
-    (last-below r.keeps c.args.strips.now.items c.pop.new.self.items c.args.band.now.items c.push_rows.new.strips.items c.in-Some.last c.in-Some.ensures.items c.requires.band r.height r.picture)
+    (last-below r.keeps c.args.strips.now.items c.pop.new.self.items c.args.band.now.items c.push_rows.new.strips.items c.in-Some.last c.in-Some.ensures.items
+    c.requires.band r.height r.picture)
     (c.push_strip.ensures.needed e)

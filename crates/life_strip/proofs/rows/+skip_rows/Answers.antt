@@ -11,10 +11,12 @@ use Rattle.life_strip.proofs.BandPictures.{no-rows, none_of, four-divides, lowes
 use Rattle.life_strip.proofs.rows.+skip_rows.Goals as goal
 
 -- a blank strip that is put below strips without rows changes no cell
-skipped : (content new : Id → Tree) (xs ys zs : List Strip) (s : Strip) → ys ≡ [] → s.spans.items ≡ [] → ((i j : ℕ) → picture new zs i j ≡ picture content (xs ++ s ∷ []) i j)
+skipped : (content new : Id → Tree) (xs ys zs : List Strip) (s : Strip) → ys ≡ [] → s.spans.items ≡ []
+    → ((i j : ℕ) → picture new zs i j ≡ picture content (xs ++ s ∷ []) i j)
     → (i j : ℕ) → picture new (zs ++ ys) i j ≡ picture content (xs ++ ys) i j
 skipped content new xs ys zs s none blank cells i j =
-    ap (λ z. picture new z i j) (no-rows zs ys none) ∙ cells i j ∙ picture-blank content xs s blank i j ∙ sym (ap (λ z. picture content z i j) (no-rows xs ys none))
+    ap (λ z. picture new z i j) (no-rows zs ys none) ∙ cells i j ∙ picture-blank content xs s blank i j
+    ∙ sym (ap (λ z. picture content z i j) (no-rows xs ys none))
 
 skipped-height : (xs ys zs : List Strip) (n : ℕ) → ys ≡ [] → height zs ≡ height xs + n → height (zs ++ ys) ≡ height (xs ++ ys) + n
 skipped-height xs ys zs n none e =
@@ -82,7 +84,8 @@ returns-clause-picture g t c =
     let empty = none_of c.args.band.now.items (grind (arith, c.is_empty.ensures, c.if-not-is_empty.false)) in
     on_ok_map c.skip_rows-2.result
     (λ e i j. e i j
-    ∙ skipped (g.S.Squares.content c.args.squares.now) (g.S.Squares.content c.push_strip.new.squares) c.args.strips.now.items c.args.band.now.items c.push_strip.new.strips.items
+    ∙ skipped (g.S.Squares.content c.args.squares.now) (g.S.Squares.content c.push_strip.new.squares) c.args.strips.now.items c.args.band.now.items
+    c.push_strip.new.strips.items
     (record { level = c.blank_level-level.result; spans = c.new-2.result }) empty c.new-2.ensures.items c.in_ok-push_strip.ensures.picture i j)
     c.skip_rows-2.ensures.picture
 
@@ -101,5 +104,6 @@ returns-clause-needed g t c =
 pub returns-clause-height : goal.returns-clause-height
 returns-clause-height g t c =
     let empty = none_of c.args.band.now.items (grind (arith, c.is_empty.ensures, c.if-not-is_empty.false)) in
-    let h = skipped-height c.args.strips.now.items c.args.band.now.items c.push_strip.new.strips.items (2 ^ c.blank_level-level.result) empty c.in_ok-push_strip.ensures.height in
+    let h = skipped-height c.args.strips.now.items c.args.band.now.items c.push_strip.new.strips.items (2 ^ c.blank_level-level.result) empty
+    c.in_ok-push_strip.ensures.height in
     on_ok_map c.skip_rows-2.result (λ e. omega (arith, e, h, c.blank_level-level.ensures.fits)) c.skip_rows-2.ensures.height

@@ -32,8 +32,10 @@ returns-in_err-spans-clause-needed g c =
     let p = err_from_is_err_and c.from_residual.result c.from_residual.ensures.1 in
     rw (p.1, p.2)
     (λ e. let n = c.in_err-spans.ensures.needed (err_again e) in
-    SomeSquare-read (g.S.Squares.knows c.args.squares.now) (g.S.Squares.content c.args.squares.now) c.args.rows.now c.requires.count c.requires.sound c.requires.rows _ _ _ _ _ _ _ _
-    c.index-rows-0.is c.index-rows-1.is c.index-rows-2.is c.index-rows-3.is c.as_slice-first.ensures.value c.as_slice-second.ensures.value c.as_slice-third.ensures.value c.as_slice-fourth.ensures.value
+    SomeSquare-read (g.S.Squares.knows c.args.squares.now) (g.S.Squares.content c.args.squares.now) c.args.rows.now c.requires.count
+    c.requires.sound c.requires.rows _ _ _ _ _ _ _ _
+    c.index-rows-0.is c.index-rows-1.is c.index-rows-2.is c.index-rows-3.is c.as_slice-first.ensures.value c.as_slice-second.ensures.value
+    c.as_slice-third.ensures.value c.as_slice-fourth.ensures.value
     (g.S.Squares.needs_node c.band.new.squares) (g.met.S.Squares.full c.args.squares.now) n.0 n.1 n.2)
 
 pub returns-in-Some-clause-picture : goal.returns-in-Some-clause-picture
@@ -43,5 +45,6 @@ returns-in-Some-clause-picture g c =
     let squares = subst (λ o. IfSome o (λ spans. (k : ℕ) → square_at C' 2 spans.items k ≡ four_at C c.as_slice-first.result.now c.as_slice-second.result.now c.as_slice-third.result.now c.as_slice-fourth.result.now k)) c.in-Some.is
     c.in_ok-spans.ensures.squares in
     picture-read (g.S.Squares.knows c.args.squares.now) C c.args.rows.now c.requires.count c.requires.sound c.requires.rows _ _ _ _ _ _ _ _
-    c.index-rows-0.is c.index-rows-1.is c.index-rows-2.is c.index-rows-3.is c.as_slice-first.ensures.value c.as_slice-second.ensures.value c.as_slice-third.ensures.value c.as_slice-fourth.ensures.value
+    c.index-rows-0.is c.index-rows-1.is c.index-rows-2.is c.index-rows-3.is c.as_slice-first.ensures.value c.as_slice-second.ensures.value
+    c.as_slice-third.ensures.value c.as_slice-fourth.ensures.value
     C' (record { level = 2; spans = c.in-Some.spans }) refl squares

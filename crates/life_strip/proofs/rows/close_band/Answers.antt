@@ -16,14 +16,17 @@ use Rattle.life_strip.proofs.BandPictures.{height-append, height-rows, picture-o
 use Rattle.life_strip.proofs.rows.close_band.Goals as goal
 
 -- strips and rows that a call kept have the cells that they had
-kept : {S : Type 0} {knows : S → Id → Type 0} {content : S → Id → Tree} {stored : S → List Tree} {most : S → ℕ} {old new : S} → KeepsSquares knows content stored most old new
+kept : {S : Type 0} {knows : S → Id → Type 0} {content : S → Id → Tree} {stored : S → List Tree} {most : S → ℕ} {old new : S}
+    → KeepsSquares knows content stored most old new
     → (xs ys : List Strip) → All (IsSound (knows old) (content old)) xs → All (IsSound (knows old) (content old)) ys
     → (i j : ℕ) → picture (content new) (xs ++ ys) i j ≡ picture (content old) (xs ++ ys) i j
 kept {knows = knows} {content = content} {old = old} {new = new} keeps xs ys over below =
-    picture-keeps {knows = knows old} {knows' = knows new} {old = content old} {new = content new} keeps.contents (xs ++ ys) (All-append (IsSound (knows old) (content old)) xs ys over below)
+    picture-keeps {knows = knows old} {knows' = knows new} {old = content old} {new = content new} keeps.contents (xs ++ ys)
+    (All-append (IsSound (knows old) (content old)) xs ys over below)
 
 -- a strip that was made of the rows has their height
-band-height : (xs ys : List Strip) (o : Option Strip) (s : Strip) → All (λ r. r.level ≡ 0) ys → length ys ≡ 4 → o ≡ Some s → IfSome o (λ b. b.level ≡ 2) → height xs + 2 ^ s.level ≡ height (xs ++ ys)
+band-height : (xs ys : List Strip) (o : Option Strip) (s : Strip) → All (λ r. r.level ≡ 0) ys → length ys ≡ 4 → o ≡ Some s → IfSome o (λ b. b.level ≡ 2)
+    → height xs + 2 ^ s.level ≡ height (xs ++ ys)
 band-height xs ys o s rows whole is level =
     let two : 2 ^ s.level ≡ 4 = ap (λ n. 2 ^ n) (subst (λ o. IfSome o (λ b. b.level ≡ 2)) is level) in
     let h = height-append xs ys in
@@ -31,7 +34,8 @@ band-height xs ys o s rows whole is level =
     omega (arith, h, four, two, whole)
 
 -- and their cells, below the strips that the call kept
-band-cells : {S : Type 0} {knows : S → Id → Type 0} {content : S → Id → Tree} {stored : S → List Tree} {most : S → ℕ} {old new : S} → KeepsSquares knows content stored most old new
+band-cells : {S : Type 0} {knows : S → Id → Type 0} {content : S → Id → Tree} {stored : S → List Tree} {most : S → ℕ} {old new : S}
+    → KeepsSquares knows content stored most old new
     → (xs ys zs : List Strip) (o : Option Strip) (s : Strip) → All (IsSound (knows old) (content old)) xs → o ≡ Some s → zs ≡ ys
     → IfSome o (λ b. (i j : ℕ) → picture (content new) (b ∷ []) i j ≡ picture (content old) zs i j)
     → (i j : ℕ) → picture (content new) (xs ++ s ∷ []) i j ≡ picture (content old) (xs ++ ys) i j
@@ -67,19 +71,22 @@ returns-in_default-clause-picture g c =
 
 pub returns-in_default-clause-needed : goal.returns-in_default-clause-needed
 returns-in_default-clause-needed g c =
-    λ e. SomeSquare-same (omega arith) (kept c.in_ok-strip.ensures.keeps c.args.strips.now.items c.args.band.now.items c.requires.sound c.requires.band) (c.push_rows.ensures.needed e)
+    λ e. SomeSquare-same (omega arith) (kept c.in_ok-strip.ensures.keeps c.args.strips.now.items c.args.band.now.items c.requires.sound c.requires.band)
+    (c.push_rows.ensures.needed e)
 
 pub push_strip-requires-clause-sound : goal.push_strip-requires-clause-sound
 push_strip-requires-clause-sound g c = strips-kept c.in_ok-strip.ensures.keeps c.args.strips.now.items c.requires.sound
 
 pub push_strip-requires-clause-room : goal.push_strip-requires-clause-room
 push_strip-requires-clause-room g c =
-    let h = band-height c.args.strips.now.items c.args.band.now.items _ c.in-Some.strip c.requires.rows c.requires.whole c.in-Some.is c.in_ok-strip.ensures.level in
+    let h = band-height c.args.strips.now.items c.args.band.now.items _ c.in-Some.strip c.requires.rows c.requires.whole c.in-Some.is
+    c.in_ok-strip.ensures.level in
     omega (arith, h, c.requires.room)
 
 pub returns-clause-height : goal.returns-clause-height
 returns-clause-height g c =
-    let h = band-height c.args.strips.now.items c.args.band.now.items _ c.in-Some.strip c.requires.rows c.requires.whole c.in-Some.is c.in_ok-strip.ensures.level in
+    let h = band-height c.args.strips.now.items c.args.band.now.items _ c.in-Some.strip c.requires.rows c.requires.whole c.in-Some.is
+    c.in_ok-strip.ensures.level in
     on_ok_map c.push_strip.result (λ e. e ∙ h) c.push_strip.ensures.height
 
 pub returns-clause-keeps : goal.returns-clause-keeps
@@ -89,7 +96,8 @@ pub returns-clause-picture : goal.returns-clause-picture
 returns-clause-picture g c =
     let r = c.in_ok-strip.ensures in
     on_ok_map c.push_strip.result
-    (λ e i j. e i j ∙ band-cells r.keeps c.args.strips.now.items c.args.band.now.items _ _ c.in-Some.strip c.requires.sound c.in-Some.is c.as_slice.ensures.value r.picture i j)
+    (λ e i j. e i j ∙ band-cells r.keeps c.args.strips.now.items c.args.band.now.items _ _ c.in-Some.strip c.requires.sound c.in-Some.is
+    c.as_slice.ensures.value r.picture i j)
     c.push_strip.ensures.picture
 
 pub returns-clause-needed : goal.returns-clause-needed

@@ -17,7 +17,8 @@ end_row-requires-clause-room g c = omega (arith, c.requires.whole)
 
 pub whole-requires-clause-sound : goal.whole-requires-clause-sound
 whole-requires-clause-sound g c =
-    subst (All (IsSound (g.S.Squares.knows c.end_row.new.squares) (g.S.Squares.content c.end_row.new.squares))) (sym c.as_slice.ensures.value) c.in_ok-end_row.ensures.pile.sound
+    subst (All (IsSound (g.S.Squares.knows c.end_row.new.squares) (g.S.Squares.content c.end_row.new.squares))) (sym c.as_slice.ensures.value)
+    c.in_ok-end_row.ensures.pile.sound
 
 pub whole-requires-clause-falling : goal.whole-requires-clause-falling
 whole-requires-clause-falling g c = subst AreFalling (sym c.as_slice.ensures.value) c.in_ok-end_row.ensures.pile.falling
