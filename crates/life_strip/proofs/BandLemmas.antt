@@ -3,6 +3,7 @@ use Rattle.life_base.specs.declared.cell.TheConstants.{MAX_LEVEL}
 use Rattle.std.proofs.Common.{◌≡◌, ℕ, suc, ◌+◌, ◌-◌, ◌*◌, ◌/◌, ◌%◌, ◌^◌, ◌≤◌, ◌<◌, ◌⊎◌, inl, inr, Bool, true, false, nat_lt, List, [], ◌∷◌, ◌++◌, length, get_or, zero, Option, Some, None, refl, sym, ◌∙◌, ap, subst, arith}
 use Rattle.std.specs.Prelude.{MatchOption, if◌then◌else◌}
 use Rattle.life_quad.specs.declared.id.Id.{Id}
+use Rattle.life_quad.specs.Keeping.{KeepsSquares}
 use Rattle.life_quad.specs.Store.{two, four}
 use Rattle.life_base.specs.Tree.{Tree, quad, depth, blank}
 use Rattle.life_strip.specs.declared.spans.Span.{Span}
@@ -14,7 +15,7 @@ use Rattle.std.proofs.Math.ListN.{set}
 use Rattle.std.proofs.lemmas.List.Elements.{All-push, All-set}
 use Rattle.life_strip.proofs.PlaneLemmas.{none-append, found-append, none_beyond}
 use Rattle.life_strip.proofs.WordLemmas.{west-square, east-square, west-small, east-small}
-use Rattle.life_strip.proofs.SpanLemmas.{Keeps, Some-is, id_at-before, depth-square_at, quad-keeps, quad-same, found-within, before_earlier, none-left}
+use Rattle.life_strip.proofs.SpanLemmas.{Keeps, Some-is, id_at-before, strip-kept, depth-square_at, quad-keeps, quad-same, found-within, before_earlier, none-left}
 
 module _ (knows : Id → Type 0) (now : Id → Tree) (want : ℕ → Tree) where
   pub filled-start : FilledTo knows now want [] 0
@@ -266,16 +267,21 @@ module _ (content : Id → Tree) (column : ℕ) (i : Id) where
           λ j. quad (nw j) (ne j) (sw j) (se j)
 
 -- the nearest end is beyond the column, and one of the plane
-pub nearest-inside : (a b c d : List Span) → AreWithin 0 a → AreWithin 0 b → AreWithin 0 c → AreWithin 0 d
-    → (column : ℕ) (i : Id) (fa fb fc fd : Stretch) (end : ℕ) → IsFound a column i fa → IsFound b column i fb → IsFound c column i fc → IsFound d column i fd
-    → IsNearest end fa.end fb.end fc.end fd.end → (column < end) × (end ≤ 4 * 2 ^ (MAX_LEVEL - 2))
-nearest-inside a b c d wa wb wc wd column i fa fb fc fd end ha hb hc hd near = (
-  nearest-beyond column end fa.end fb.end fc.end fd.end near ha.beyond hb.beyond hc.beyond hd.beyond,
-  nearest-within a b c d wa wb wc wd column i fa fb fc fd end ha hb hc hd near,
-)
+pub nearest-inside : {a b c d : List Span} {column end : ℕ} {i : Id} {fa fb fc fd : Stretch} {n s : Option ℕ}
+    → IsFound a column i fa → IsFound b column i fb → IsFound c column i fc → IsFound d column i fd → AreWithin 0 a → AreWithin 0 b → AreWithin 0 c
+    → AreWithin 0 d
+    → MatchOption n ((fa.end ≡ None) × (fb.end ≡ None)) (λ e. IsNearer e fa.end fb.end)
+    → MatchOption s ((fc.end ≡ None) × (fd.end ≡ None)) (λ e. IsNearer e fc.end fd.end) → IsNearer end n s
+    → (column < end) × (end ≤ 4 * 2 ^ (MAX_LEVEL - 2))
+nearest-inside {a} {b} {c} {d} {column} {end} {i} {fa} {fb} {fc} {fd} {n} {s} ha hb hc hd wa wb wc wd north south both =
+    let near = nearest end n s fa.end fb.end fc.end fd.end north south both in (
+      nearest-beyond column end fa.end fb.end fc.end fd.end near ha.beyond hb.beyond hc.beyond hd.beyond,
+      nearest-within a b c d wa wb wc wd column i fa fb fc fd end ha hb hc hd near,
+    )
 
 -- the cells of a square of level 2 of four words are those of the square there
-pub words-square : {knows knows' : Id → Type 0} {old now : Id → Tree} → Keeps knows knows' old now → (a b c d : List Span) → IsStrip knows old 0 a → IsStrip knows old 0 b → IsStrip knows old 0 c → IsStrip knows old 0 d
+words-square : {knows knows' : Id → Type 0} {old now : Id → Tree} → Keeps knows knows' old now → (a b c d : List Span) → IsStrip knows old 0 a
+    → IsStrip knows old 0 b → IsStrip knows old 0 c → IsStrip knows old 0 d
     → IsStrip knows' now 0 a → IsStrip knows' now 0 b → IsStrip knows' now 0 c → IsStrip knows' now 0 d
     → (start : ℕ) (upper lower : Words) → IsWord (cell_in now a) start upper.north.cells → IsWord (cell_in now b) start upper.south.cells
     → IsWord (cell_in now c) start lower.north.cells → IsWord (cell_in now d) start lower.south.cells
@@ -288,3 +294,16 @@ words-square {knows} {knows'} {old} {now} keeps a b c d ka kb kc kd ma mb mc md 
     four-digits (west_at upper square) (east_at upper square) (west_at lower square) (east_at lower square) (west-small square upper) (east-small square upper) (west-small square lower) (east-small square lower)
     ∙ (λ i. quad (nw i) (ne i) (sw i) (se i))
     ∙ four-keeps {knows = knows} {knows' = knows'} {old = old} {now = now} keeps a b c d ka kb kc kd column
+
+pub words-wanted : {S : Type 0} {knows : S → Id → Type 0} {content : S → Id → Tree} {stored : S → List Tree} {most : S → ℕ} {old new : S}
+    → KeepsSquares knows content stored most old new
+    → (a b c d : List Span) → IsStrip (knows old) (content old) 0 a → IsStrip (knows old) (content old) 0 b → IsStrip (knows old) (content old) 0 c
+    → IsStrip (knows old) (content old) 0 d
+    → (block : ℕ) (upper lower : Words) → IsWord (cell_in (content new) a) (64 * block) upper.north.cells
+    → IsWord (cell_in (content new) b) (64 * block) upper.south.cells
+    → IsWord (cell_in (content new) c) (64 * block) lower.north.cells → IsWord (cell_in (content new) d) (64 * block) lower.south.cells
+    → (square : ℕ) → square < 16 → four (cells_at upper lower square) ≡ four_at (content old) a b c d (16 * block + square)
+words-wanted {knows = knows} {content = content} {old = old} {new = new} keeps a b c d ka kb kc kd block upper lower ha hb hc hd square lt =
+    words-square {knows = knows old} {knows' = knows new} {old = content old} {now = content new} keeps.contents a b c d ka kb kc kd
+    (strip-kept keeps 0 a ka) (strip-kept keeps 0 b kb) (strip-kept keeps 0 c kc) (strip-kept keeps 0 d kd)
+    (64 * block) upper lower ha hb hc hd square (16 * block + square) lt (omega arith)

@@ -9,8 +9,9 @@ use Rattle.life_quad.specs.declared.id.Id.{Id}
 use Rattle.life_quad.specs.Refused.{SomePart}
 use Rattle.life_base.specs.Tree.{Tree, point, quad, depth, state_at, IsFull}
 use Rattle.life_base.proofs.Squares.{at_nw, at_ne, at_sw, at_se}
+use Rattle.life_strip.specs.declared.spans.Span.{Span}
 use Rattle.life_strip.specs.declared.spans.Strip.{Strip}
-use Rattle.life_strip.specs.Strip.{square_at, quad_at, IsStrip}
+use Rattle.life_strip.specs.Strip.{square_at, quad_at, IsStrip, AreWithin}
 use Rattle.life_strip.specs.Picture.{state_in, picture, height, AreFalling, IsLowest, IsSound}
 use Rattle.life_strip.specs.Needed.{SomeSquare}
 use Rattle.life_strip.specs.Band.{IsPile, four_at}
@@ -18,7 +19,7 @@ use Rattle.life_strip.proofs.SpanLemmas.{Keeps, depth-square_at}
 use Rattle.life_strip.proofs.GivenLemmas.{all_rest}
 use Rattle.life_strip.proofs.PlaneLemmas.{picture-keeps}
 use Rattle.life_strip.proofs.PictureLemmas.{positive_power, height-falling, state_in-keeps}
-use Rattle.life_strip.proofs.NeededLemmas.{quad-cells, full-quad_at, in_plane, picture-below, height-divided, SomeSquare-within}
+use Rattle.life_strip.proofs.NeededLemmas.{quad-cells, full-quad_at, picture-below, height-divided, SomeSquare-at, SomeSquare-within}
 
 -- the height of strips below others
 pub height-append : (xs ys : List Strip) → height (xs ++ ys) ≡ height xs + height ys
@@ -241,78 +242,44 @@ module _ (knows : Id → Type 0) (content : Id → Tree) (ra rb rc rd : Strip)
     half : (q : ℕ) → q ≤ 2 * k + 1 → q < 2 ^ (MAX_LEVEL - 1)
     half q le = omega (arith, le, inside)
 
-    first : (t : Tree) (j : ℕ) → j ≡ 0 * 2 ^ depth t + j
-    first t j = omega arith
-
     full-upper : (q : ℕ) → IsFull (upper q)
     full-upper = full-quad_at knows content full 0 ra.spans.items rb.spans.items ka kb
 
     full-lower : (q : ℕ) → IsFull (lower q)
     full-lower = full-quad_at knows content full 0 rc.spans.items rd.spans.items kc kd
 
+    first : (j side : ℕ) → j ≡ 0 * side + j
+    first j side = omega arith
+
     whole : P (four k) → SomeSquare P 4 (picture content rows)
     whole p =
         let nw = sym (depth-upper (2 * k)) in
-        let level : depth (four k) ≡ 2 = ap suc (depth-upper (2 * k)) in
-        let side : 2 ^ depth (four k) ≡ 4 = ap (λ n. 2 ^ n) level in
-        record {
-          square = four k;
-          full = (
-            full-upper (2 * k),
-            full-upper (2 * k + 1),
-            full-lower (2 * k),
-            full-lower (2 * k + 1),
-            depth-upper (2 * k + 1) ∙ nw,
-            depth-lower (2 * k) ∙ nw,
-            depth-lower (2 * k + 1) ∙ nw,
-          );
-          deep = omega (arith, level);
-          column = k;
-          row = 0;
-          east = subst (λ n. (k + 1) * 2 ^ n ≤ 2 ^ MAX_LEVEL) (sym level) (in_plane 2 k (omega arith) inside);
-          south = omega (arith, side);
-          cells = λ i j li lj. four-cells k i j (subst (λ n. i < n) side li) (subst (λ n. j < n) side lj)
-              ∙ (λ x. picture content rows (k * sym side x + i) (first (four k) j x));
-          property = p;
-        }
+        let full-four : IsFull (four k) = (
+          full-upper (2 * k),
+          full-upper (2 * k + 1),
+          full-lower (2 * k),
+          full-lower (2 * k + 1),
+          depth-upper (2 * k + 1) ∙ nw,
+          depth-lower (2 * k) ∙ nw,
+          depth-lower (2 * k + 1) ∙ nw,
+        ) in
+        SomeSquare-at 2 k 0 (four k) full-four (ap suc (depth-upper (2 * k))) (omega arith) (omega arith) inside (omega arith)
+        (λ i j li lj. four-cells k i j li lj ∙ ap (picture content rows (k * 4 + i)) (first j 4)) p
 
     upper-part : (q : ℕ) → q ≤ 2 * k + 1 → SomePart P (upper q) → SomeSquare P 4 (picture content rows)
     upper-part q le p =
-        let level = depth-upper q in
-        let side : 2 ^ depth (upper q) ≡ 2 = ap (λ n. 2 ^ n) level in
         let a = depth-square_at knows content 0 ra.spans.items ka in
         let b = depth-square_at knows content 0 rb.spans.items kb in
-        record {
-          square = upper q;
-          full = full-upper q;
-          deep = omega (arith, level);
-          column = q;
-          row = 0;
-          east = subst (λ n. (q + 1) * 2 ^ n ≤ 2 ^ MAX_LEVEL) (sym level) (in_plane 1 q (omega arith) (half q le));
-          south = omega (arith, side);
-          cells = λ i j li lj. upper-cells q i j (subst (λ n. i < n) side li) (subst (λ n. j < n) side lj)
-              ∙ (λ x. picture content rows (q * sym side x + i) (first (upper q) j x));
-          property = part-two P _ _ _ _ (a (2 * q)) (a (2 * q + 1)) (b (2 * q)) (b (2 * q + 1)) p;
-        }
+        SomeSquare-at 1 q 0 (upper q) (full-upper q) (depth-upper q) (omega arith) (omega arith) (half q le) (omega arith)
+        (λ i j li lj. upper-cells q i j li lj ∙ ap (picture content rows (q * 2 + i)) (first j 2))
+        (part-two P _ _ _ _ (a (2 * q)) (a (2 * q + 1)) (b (2 * q)) (b (2 * q + 1)) p)
 
     lower-part : (q : ℕ) → q ≤ 2 * k + 1 → SomePart P (lower q) → SomeSquare P 4 (picture content rows)
     lower-part q le p =
-        let level = depth-lower q in
-        let side : 2 ^ depth (lower q) ≡ 2 = ap (λ n. 2 ^ n) level in
         let c = depth-square_at knows content 0 rc.spans.items kc in
         let d = depth-square_at knows content 0 rd.spans.items kd in
-        record {
-          square = lower q;
-          full = full-lower q;
-          deep = omega (arith, level);
-          column = q;
-          row = 1;
-          east = subst (λ n. (q + 1) * 2 ^ n ≤ 2 ^ MAX_LEVEL) (sym level) (in_plane 1 q (omega arith) (half q le));
-          south = omega (arith, side);
-          cells = λ i j li lj. lower-cells q i j (subst (λ n. i < n) side li) (subst (λ n. j < n) side lj)
-              ∙ (λ x. picture content rows (q * sym side x + i) (1 * sym side x + j));
-          property = part-two P _ _ _ _ (c (2 * q)) (c (2 * q + 1)) (d (2 * q)) (d (2 * q + 1)) p;
-        }
+        SomeSquare-at 1 q 1 (lower q) (full-lower q) (depth-lower q) (omega arith) (omega arith) (half q le) (omega arith) (lower-cells q)
+        (part-two P _ _ _ _ (c (2 * q)) (c (2 * q + 1)) (d (2 * q)) (d (2 * q + 1)) p)
 
     -- a square of level 2 or a quarter of it is one of the band
     pub SomeSquare-band : SomePart P (four k) → SomeSquare P 4 (picture content rows)
@@ -436,6 +403,50 @@ are-rows knows content xs a b c d e ea eb ec ed sound rows =
       third = subst (IsSound knows content) lc (strips 2 a (omega arith));
       fourth = subst (IsSound knows content) ld (strips 3 a (omega arith));
     }
+
+-- four rows and their spans, read one by one
+module _ (knows : Id → Type 0) (content : Id → Tree) (xs : List Strip) (count : length xs ≡ 4) (sound : All (IsSound knows content) xs)
+    (cells : All (λ s. s.level ≡ 0) xs)
+    (ra rb rc rd : Strip) (a b c d : List Span) (ea : ra ≡ get_or xs 0 ra) (eb : rb ≡ get_or xs 1 rb) (ec : rc ≡ get_or xs 2 rc) (ed : rd ≡ get_or xs 3 rd)
+    (fa : a ≡ (get_or xs 0 ra).spans.items) (fb : b ≡ (get_or xs 1 rb).spans.items) (fc : c ≡ (get_or xs 2 rc).spans.items)
+    (fd : d ≡ (get_or xs 3 rd).spans.items) where
+  rows-read : AreRows knows content xs ra rb rc rd
+  rows-read = are-rows knows content xs ra rb rc rd count ea eb ec ed sound cells
+
+  squares-read : (k : ℕ) → four_at content a b c d k ≡ four_at content ra.spans.items rb.spans.items rc.spans.items rd.spans.items k
+  squares-read k =
+      let va = fa ∙ ap (λ s. s.spans.items) (sym ea) in
+      let vb = fb ∙ ap (λ s. s.spans.items) (sym eb) in
+      let vc = fc ∙ ap (λ s. s.spans.items) (sym ec) in
+      let vd = fd ∙ ap (λ s. s.spans.items) (sym ed) in
+      λ i. four_at content (va i) (vb i) (vc i) (vd i) k
+
+  -- a strip of their squares has their cells
+  pub picture-read : (new : Id → Tree) (s : Strip) → s.level ≡ 2 → ((k : ℕ) → square_at new 2 s.spans.items k ≡ four_at content a b c d k)
+      → (i j : ℕ) → picture new (s ∷ []) i j ≡ picture content xs i j
+  picture-read new s two squares i j =
+      let r = rows-read in
+      band-picture knows content ra rb rc rd r.first.squares r.second.squares r.third.squares r.fourth.squares new s two (λ k. squares k ∙ squares-read k) i j
+      ∙ ap (λ z. picture content z i j) (sym r.are)
+
+  -- and a square of them or a part of it is one of theirs
+  pub SomeSquare-read : (P : Tree → Type 0) → ((id : Id) → knows id → IsFull (content id)) → (k : ℕ) → k < 2 ^ (MAX_LEVEL - 2)
+      → SomePart P (four_at content a b c d k) → SomeSquare P 4 (picture content xs)
+  SomeSquare-read P full k inside p =
+      let r = rows-read in
+      subst (λ z. SomeSquare P 4 (picture content z)) (sym r.are)
+      (SomeSquare-band knows content ra rb rc rd r.first.squares r.second.squares r.third.squares r.fourth.squares P full k inside
+      (subst (SomePart P) (squares-read k) p))
+
+-- the spans of one of them
+pub spans-at : (knows : Id → Type 0) (content : Id → Tree) (xs : List Strip) (k : ℕ) (d : Strip) (spans : List Span) → k < length xs
+    → spans ≡ (get_or xs k d).spans.items → All (IsSound knows content) xs → All (λ s. s.level ≡ 0) xs → IsStrip knows content 0 spans × AreWithin 0 spans
+spans-at knows content xs k d spans lt e sound rows =
+    let s = get_or xs k d in
+    let h = sound k d lt in
+    let squares = subst (λ n. IsStrip knows content n s.spans.items) (rows k d lt) h.squares in
+    let within = subst (λ n. AreWithin n s.spans.items) (rows k d lt) h.within in
+    (subst (IsStrip knows content 0) (sym e) squares, subst (AreWithin 0) (sym e) within)
 
 -- no rows below strips
 pub no-rows : (xs ys : List Strip) → ys ≡ [] → xs ++ ys ≡ xs

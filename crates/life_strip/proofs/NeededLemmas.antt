@@ -116,6 +116,23 @@ in_plane level c low within =
     let turned = mul_comm (c + 1) (2 ^ level) in
     omega (arith, most, whole, turned)
 
+-- a full square of a level with the cells of one place of a picture
+pub SomeSquare-at : {P : Tree → Type 0} {rows : ℕ} {f : ℕ → ℕ → ℕ} (level column row : ℕ) (t : Tree) → IsFull t → depth t ≡ level → 1 ≤ level
+    → level ≤ MAX_LEVEL → column < 2 ^ (MAX_LEVEL - level) → (row + 1) * 2 ^ level ≤ rows
+    → ((i j : ℕ) → i < 2 ^ level → j < 2 ^ level → state_at t i j ≡ f (column * 2 ^ level + i) (row * 2 ^ level + j)) → P t → SomeSquare P rows f
+SomeSquare-at {rows = rows} {f = f} level column row t full same deep low east south cells p =
+    record {
+      square = t;
+      full = full;
+      deep = omega (arith, same, deep);
+      column = column;
+      row = row;
+      east = subst (λ n. (column + 1) * 2 ^ n ≤ 2 ^ MAX_LEVEL) (sym same) (in_plane level column low east);
+      south = subst (λ n. (row + 1) * 2 ^ n ≤ rows) (sym same) south;
+      cells = subst (λ n. (i j : ℕ) → i < 2 ^ n → j < 2 ^ n → state_at t i j ≡ f (column * 2 ^ n + i) (row * 2 ^ n + j)) (sym same) cells;
+      property = p;
+    }
+
 module _ (knows : Id → Type 0) (content : Id → Tree) (a b : Strip) (sound : IsStrip knows content a.level a.spans.items) (same : b.level ≡ a.level) (c : ℕ) where
   abbrev m : ℕ
   m = 2 ^ a.level

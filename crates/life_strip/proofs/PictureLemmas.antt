@@ -6,10 +6,11 @@ use Rattle.std.proofs.lemmas.Nat.{div-mul-add, mod-mul-add, mod_below, div-add-m
 use Rattle.std.proofs.Math.Nat.{mul_assoc, add-mul}
 use Rattle.std.proofs.Math.Pow.{pow_mono}
 use Rattle.std.proofs.Math.Seq.{get_or-append_seam}
-use Rattle.std.proofs.lemmas.List.{get_or_append_left}
+use Rattle.std.proofs.lemmas.List.{append_assoc, get_or_append_left}
 use Rattle.std.proofs.lemmas.List.Quantifiers.{all_pairs_push}
 use Rattle.std.proofs.lemmas.Option.{get_or_from_slice_get}
 use Rattle.life_quad.specs.declared.id.Id.{Id}
+use Rattle.life_quad.specs.Keeping.{KeepsSquares}
 use Rattle.life_base.specs.Tree.{Tree, quad, depth, blank, state_at}
 use Rattle.life_strip.specs.declared.spans.Strip.{Strip}
 use Rattle.life_strip.specs.declared.spans.Stretch.{Stretch}
@@ -103,6 +104,13 @@ pub height-push : (xs : List Strip) (s : Strip) → height (xs ++ s ∷ []) ≡ 
 height-push [] s = omega arith
 height-push (x ∷ xs) s = let e = height-push xs s in omega (arith, e)
 
+-- strips below others, the last of them apart
+pub append-last : (xs ys zs : List Strip) (s : Strip) → zs ≡ ys ++ s ∷ [] → xs ++ zs ≡ (xs ++ ys) ++ s ∷ []
+append-last xs ys zs s e = ap (λ z. xs ++ z) e ∙ sym (append_assoc xs ys (s ∷ []))
+
+pub height-last : (xs ys zs : List Strip) (s : Strip) → zs ≡ ys ++ s ∷ [] → height (xs ++ zs) ≡ height (xs ++ ys) + 2 ^ s.level
+height-last xs ys zs s e = ap height (append-last xs ys zs s e) ∙ height-push (xs ++ ys) s
+
 module _ {knows knows' : Id → Type 0} {old new : Id → Tree} (keeps : Keeps knows knows' old new) where
   -- a strip keeps its cells
   pub state_in-keeps : (s : Strip) → IsSound knows old s → (i j : ℕ) → state_in new s i j ≡ state_in old s i j
@@ -146,6 +154,13 @@ module _ {knows knows' : Id → Type 0} {old new : Id → Tree} (keeps : Keeps k
       let here = state_in-keeps x (h 0 x (omega arith)) i j in
       let more = picture-merge xs a b ab (λ k d lt. h (suc k) d (omega (arith, lt))) same level st i (j - 2 ^ x.level) in
       λ y. if nat_lt j (2 ^ x.level) then here y else more y
+
+-- strips that a call keeps
+pub strips-kept : {S : Type 0} {knows : S → Id → Type 0} {content : S → Id → Tree} {stored : S → List Tree} {most : S → ℕ} {old new : S}
+    → KeepsSquares knows content stored most old new
+    → (xs : List Strip) → All (IsSound (knows old) (content old)) xs → All (IsSound (knows new) (content new)) xs
+strips-kept {knows = knows} {content = content} {old = old} {new = new} keeps =
+    all-keeps {knows = knows old} {knows' = knows new} {old = content old} {new = content new} keeps.contents
 
 -- what follows of an accepted call
 pub on_ok_map : {T E : Type 0} {P Q : Type 0} (r : Result T E) → (P → Q) → OnOk r P → OnOk r Q

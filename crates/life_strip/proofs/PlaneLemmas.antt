@@ -1,6 +1,6 @@
 -- Facts about the cells of the plane as far as it is filled.
 use Rattle.std.proofs.Common.{◌≡◌, ℕ, zero, suc, ◌+◌, ◌-◌, ◌*◌, ◌/◌, ◌%◌, ◌^◌, ◌≤◌, ◌<◌, Bool, true, false, ◌&&◌, nat_lt, nat_le, List, [], ◌∷◌, ◌++◌, length, get_or, All, Option, Some, None, refl, sym, ◌∙◌, ap, subst, arith}
-use Rattle.std.proofs.Common.{ℤ, pos, neg_ℤ, ◌+ℤ◌, ◌≤ℤ◌, ◌<ℤ◌}
+use Rattle.std.proofs.Common.{ℤ, pos, ◌+ℤ◌, ◌≤ℤ◌, ◌<ℤ◌}
 use Rattle.std.specs.Prelude.{if◌then◌else◌, unsigned_abs}
 use Rattle.std.proofs.lemmas.List.Elements.{All-push, All-append}
 use Rattle.std.proofs.lemmas.Int.{ints}
@@ -9,7 +9,7 @@ use Rattle.life_base.specs.Tree.{Tree, point, depth, state_at}
 use Rattle.life_quad.specs.declared.id.Id.{Id}
 use Rattle.life_quad.specs.Cells.{IsInRun}
 use Rattle.life_quad.specs.Span.{is_in_span}
-use Rattle.life_base.proofs.Squares.{is_inside, inside_offset, inside_facts, inside_test}
+use Rattle.life_base.proofs.Squares.{Inside, is_inside, inside_offset, inside_facts, inside_test}
 use Rattle.life_strip.specs.declared.spans.Span.{Span}
 use Rattle.life_strip.specs.declared.spans.Strip.{Strip}
 use Rattle.life_strip.specs.declared.plane.Plane.{Plane}
@@ -212,18 +212,17 @@ AddsRun-span P Q x y column row len state inside e f cells = record { run = in_r
 
     in_run : (i j : ℤ) → IsInRun x y len i j → on_plane Q i j ≡ state
     in_run i j r =
-        let w : neg_ℤ (pos h) ≤ℤ i = omega (arith, ints, inside.west, r.from) in
-        let u : i <ℤ pos h = omega (arith, ints, inside.east, r.to) in
-        let v : neg_ℤ (pos h) ≤ℤ j = subst (λ z. neg_ℤ (pos h) ≤ℤ z) (sym r.same_row) inside.north in
-        let z : j <ℤ pos h = subst (λ k. k <ℤ pos h) (sym r.same_row) inside.south in
-        let a = inside_offset h i w u in
-        let b = inside_offset h j v z in
-        let row_is : b.0 ≡ row = let k = b.1 in let l = r.same_row in omega (arith, ints) in
-        let from : column ≤ a.0 = let k = a.1 in let l = r.from in omega (arith, ints) in
-        let to : a.0 < column + len = let k = a.1 in let l = r.to in omega (arith, ints) in
-        let t = in_span column row len a.0 b.0 row_is from to in
-        plane_inside Q i j a.0 b.0 (inside_test h i j (record { west = w; east = u; north = v; south = z })) a.1 b.1 ∙ cells a.0 b.0
-        ∙ ap (λ c. if c then state else P a.0 b.0) t
+        let same = r.same_row in
+        let on : Inside h i j = record {
+          west = omega (arith, ints, inside.west, r.from);
+          east = omega (arith, ints, inside.east, r.to);
+          north = omega (arith, ints, inside.north, same);
+          south = omega (arith, ints, inside.south, same);
+        } in
+        let a = inside_offset h i on.west on.east in
+        let b = inside_offset h j on.north on.south in
+        let t = in_span column row len a.0 b.0 (omega (arith, ints, same, b.1, f)) (omega (arith, ints, r.from, a.1, e)) (omega (arith, ints, r.to, a.1, e)) in
+        plane_inside Q i j a.0 b.0 (inside_test h i j on) a.1 b.1 ∙ cells a.0 b.0 ∙ ap (λ c. if c then state else P a.0 b.0) t
 
     out_of_run : (i j : ℤ) → ¬ IsInRun x y len i j → on_plane Q i j ≡ on_plane P i j
     out_of_run i j r = by (is_inside h i j) refl

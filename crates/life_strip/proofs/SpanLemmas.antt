@@ -5,6 +5,7 @@ use Rattle.std.specs.Prelude.{if◌then◌else◌, MatchOption}
 use Rattle.std.proofs.lemmas.List.Elements.{All-push}
 use Rattle.std.proofs.Math.Pow.{pow_mono}
 use Rattle.life_quad.specs.declared.id.Id.{Id}
+use Rattle.life_quad.specs.Keeping.{KeepsSquares}
 use Rattle.life_base.specs.Tree.{Tree, quad, depth, blank}
 use Rattle.life_base.proofs.Squares.{depth-blank}
 use Rattle.life_strip.specs.declared.spans.Span.{Span}
@@ -78,6 +79,12 @@ module _ {knows knows' : Id → Type 0} {old now : Id → Tree} (keeps : Keeps k
       let d = square-keeps lower l (2 * c) in
       let e = square-keeps lower l (2 * c + 1) in
       λ i. quad (a i) (b i) (d i) (e i)
+
+pub strip-kept : {S : Type 0} {knows : S → Id → Type 0} {content : S → Id → Tree} {stored : S → List Tree} {most : S → ℕ} {old new : S}
+    → KeepsSquares knows content stored most old new
+    → (level : ℕ) (spans : List Span) → IsStrip (knows old) (content old) level spans → IsStrip (knows new) (content new) level spans
+strip-kept {knows = knows} {content = content} {old = old} {new = new} keeps = strip-keeps {knows = knows old} {knows' = knows new} {old = content old}
+    {now = content new} keeps.contents
 
 module _ (knows : Id → Type 0) (content : Id → Tree) (level : ℕ) (spans : List Span) (s : IsStrip knows content level spans) where
   -- each square of a strip has its level

@@ -1,35 +1,70 @@
-use Rattle.std.proofs.Common.{◌≡◌, ℕ, ◌+◌, ◌-◌, ◌*◌, ◌<◌, List, arith, sym, subst}
+use Rattle.std.proofs.Common.{◌≡◌, ℕ, ◌+◌, ◌*◌, ◌<◌, arith, sym, subst}
 use Rattle.std.proofs.lemmas.Result.{err_from_is_err_and}
 use Rattle.life_quad.specs.Refused.{SomePart}
-use Rattle.life_quad.specs.Store.{four}
-use Rattle.life_quad.proofs.KeepingLemmas.{keeps-then}
-use Rattle.life_strip.specs.declared.spans.Span.{Span}
-use Rattle.life_strip.specs.Strip.{IsStrip, IsFound}
-use Rattle.life_strip.specs.Band.{four_at, cells_at}
-use Rattle.life_strip.proofs.SpanLemmas.{strip-keeps, past_later}
+use Rattle.life_quad.proofs.KeepingLemmas.{keeps-same, keeps-then}
+use Rattle.life_strip.specs.Strip.{IsFound}
+use Rattle.life_strip.specs.Band.{four_at}
+use Rattle.life_strip.proofs.SpanLemmas.{strip-kept, past_later}
 use Rattle.life_strip.proofs.NeededLemmas.{err_again}
-use Rattle.life_strip.proofs.BandLemmas.{filled-all, filled-strip, nearest, nearest-inside, nearer-none, words-square, four-same, four-blank, depth-four_at}
+use Rattle.life_strip.proofs.BandLemmas.{filled-all, filled-strip, filled-within, nearest, nearest-inside, nearer-none, words-wanted, four-same, four-blank, depth-four_at}
 use Rattle.life_strip.proofs.bands.band.Goals as goal
 
+pub two_words-requires-clause-start : goal.two_words-requires-clause-start
+two_words-requires-clause-start g c = c.loop-end.invariant.6
+
+pub two_words-requires-clause-upper : goal.two_words-requires-clause-upper
+two_words-requires-clause-upper g c = strip-kept c.loop-end.invariant.5 0 c.args.first.now c.requires.first
+
+pub two_words-requires-clause-lower : goal.two_words-requires-clause-lower
+two_words-requires-clause-lower g c = strip-kept c.loop-end.invariant.5 0 c.args.second.now c.requires.second
+
+pub two_words-requires-clause-north : goal.two_words-requires-clause-north
+two_words-requires-clause-north g c = c.loop-end.invariant.1.past
+
+pub two_words-requires-clause-south : goal.two_words-requires-clause-south
+two_words-requires-clause-south g c = c.loop-end.invariant.2.past
+
+pub two_words-requires-in-Some-clause-start : goal.two_words-requires-in-Some-clause-start
+two_words-requires-in-Some-clause-start g c = c.loop-end.invariant.6
+
+pub two_words-requires-in-Some-clause-north : goal.two_words-requires-in-Some-clause-north
+two_words-requires-in-Some-clause-north g c = c.loop-end.invariant.3.past
+
+pub two_words-requires-in-Some-clause-south : goal.two_words-requires-in-Some-clause-south
+two_words-requires-in-Some-clause-south g c = c.loop-end.invariant.4.past
+
 pub two_words-requires-in-Some-clause-upper : goal.two_words-requires-in-Some-clause-upper
-two_words-requires-in-Some-clause-upper g c =
-    strip-keeps {knows = g.S.Squares.knows c.args.squares.now} {knows' = g.S.Squares.knows c.loop-end.squares} {old = g.S.Squares.content c.args.squares.now} {now = g.S.Squares.content c.loop-end.squares}
-    c.loop-end.invariant.5.contents 0 c.args.third.now c.requires.third
+two_words-requires-in-Some-clause-upper g c = strip-kept c.loop-end.invariant.5 0 c.args.third.now c.requires.third
 
 pub two_words-requires-in-Some-clause-lower : goal.two_words-requires-in-Some-clause-lower
-two_words-requires-in-Some-clause-lower g c =
-    strip-keeps {knows = g.S.Squares.knows c.args.squares.now} {knows' = g.S.Squares.knows c.loop-end.squares} {old = g.S.Squares.content c.args.squares.now} {now = g.S.Squares.content c.loop-end.squares}
-    c.loop-end.invariant.5.contents 0 c.args.fourth.now c.requires.fourth
+two_words-requires-in-Some-clause-lower g c = strip-kept c.loop-end.invariant.5 0 c.args.fourth.now c.requires.fourth
+
+pub push_rows-requires-clause-column : goal.push_rows-requires-clause-column
+push_rows-requires-clause-column g c =
+    let r = c.requires in
+    let inv = c.loop-end.invariant in
+    (nearest-inside inv.1 inv.2 inv.3 inv.4 r.first_within r.second_within r.third_within r.fourth_within c.nearer.ensures c.nearer-in-loop-end.ensures
+    c.in-Some.ensures).0
 
 pub push_rows-requires-clause-within : goal.push_rows-requires-clause-within
 push_rows-requires-clause-within g c =
     let r = c.requires in
     let inv = c.loop-end.invariant in
-    let n = nearest c.in-Some.end c.nearer.result c.nearer-in-loop-end.result c.loop-end.a.end c.loop-end.b.end c.loop-end.c.end c.loop-end.d.end
-    c.nearer.ensures c.nearer-in-loop-end.ensures c.in-Some.ensures in
-    let inside = nearest-inside c.args.first.now c.args.second.now c.args.third.now c.args.fourth.now r.first_within r.second_within r.third_within r.fourth_within
-    (64 * c.loop-end.block) c.empty-blank.result c.loop-end.a c.loop-end.b c.loop-end.c c.loop-end.d c.in-Some.end inv.1 inv.2 inv.3 inv.4 n in
+    let inside = nearest-inside inv.1 inv.2 inv.3 inv.4 r.first_within r.second_within r.third_within r.fourth_within c.nearer.ensures
+    c.nearer-in-loop-end.ensures c.in-Some.ensures in
     omega (arith, inside)
+
+pub returns-in_err-spans-clause-keeps : goal.returns-in_err-spans-clause-keeps
+returns-in_err-spans-clause-keeps g c = keeps-same c.args.squares.now
+
+pub returns-in_default-two_words-clause-keeps : goal.returns-in_default-two_words-clause-keeps
+returns-in_default-two_words-clause-keeps g c = c.loop-end.invariant.5
+
+pub returns-in_default-two_words-2-clause-keeps : goal.returns-in_default-two_words-2-clause-keeps
+returns-in_default-two_words-2-clause-keeps g c = c.loop-end.invariant.5
+
+pub returns-clause-keeps : goal.returns-clause-keeps
+returns-clause-keeps g c = c.loop-end.invariant.5
 
 pub returns-in_err-block-clause-keeps : goal.returns-in_err-block-clause-keeps
 returns-in_err-block-clause-keeps g c = keeps-then c.loop-end.invariant.5 c.in_err-block.ensures.keeps
@@ -38,28 +73,32 @@ pub returns-in_err-block-clause-needed : goal.returns-in_err-block-clause-needed
 returns-in_err-block-clause-needed g c =
     let r = c.requires in
     let inv = c.loop-end.invariant in
-    let K = g.S.Squares.knows in
-    let C = g.S.Squares.content in
-    let old = c.args.squares.now in
-    let now = c.loop-end.squares in
-    let n = nearest c.in-Some.end c.nearer.result c.nearer-in-loop-end.result c.loop-end.a.end c.loop-end.b.end c.loop-end.c.end c.loop-end.d.end
-    c.nearer.ensures c.nearer-in-loop-end.ensures c.in-Some.ensures in
-    let inside = nearest-inside c.args.first.now c.args.second.now c.args.third.now c.args.fourth.now r.first_within r.second_within r.third_within r.fourth_within
-    (64 * c.loop-end.block) c.empty-blank.result c.loop-end.a c.loop-end.b c.loop-end.c c.loop-end.d c.in-Some.end inv.1 inv.2 inv.3 inv.4 n in
-    let keep = λ (z : List Span) (s : IsStrip (K old) (C old) 0 z). strip-keeps {knows = K old} {knows' = K now} {old = C old} {now = C now} inv.5.contents 0 z s in
     let u = c.in-Some-two_words.ensures in
     let l = c.in-Some-two_words-2.ensures in
-    let upper = c.in-Some-two_words.upper in
-    let lower = c.in-Some-two_words-2.lower in
-    let want = four_at (C old) c.args.first.now c.args.second.now c.args.third.now c.args.fourth.now in
-    let wanted : (i : ℕ) → i < 16 → four (cells_at upper lower i) ≡ want (16 * c.loop-end.block + i) =
-    λ i lt. words-square {knows = K old} {knows' = K now} {old = C old} {now = C now} inv.5.contents c.args.first.now c.args.second.now c.args.third.now c.args.fourth.now r.first r.second r.third r.fourth
-    (keep c.args.first.now r.first) (keep c.args.second.now r.second) (keep c.args.third.now r.third) (keep c.args.fourth.now r.fourth)
-    (64 * c.loop-end.block) upper lower u.north u.south l.north l.south i (16 * c.loop-end.block + i) lt (omega arith) in
+    let inside = nearest-inside inv.1 inv.2 inv.3 inv.4 r.first_within r.second_within r.third_within r.fourth_within c.nearer.ensures
+    c.nearer-in-loop-end.ensures c.in-Some.ensures in
+    let wanted = words-wanted inv.5 c.args.first.now c.args.second.now c.args.third.now c.args.fourth.now r.first r.second r.third r.fourth
+    c.loop-end.block c.in-Some-two_words.upper c.in-Some-two_words-2.lower u.north u.south l.north l.south in
     let p = err_from_is_err_and c.from_residual-in_err-block.result c.from_residual-in_err-block.ensures.1 in
     rw (p.1, p.2)
     (λ e. let some = c.in_err-block.ensures.needed (err_again e) in
     (16 * c.loop-end.block + some.0, omega (arith, inside, some.1), subst (SomePart (g.S.Squares.needs_node c.push_rows.new.squares)) (wanted some.0 some.1) some.2))
+
+pub find-a-requires-in-Some : goal.find-a-requires-in-Some
+find-a-requires-in-Some g c =
+    let next = c.in_ok-block.ensures.beyond in
+    record {
+      past = past_later c.args.first.now c.in-Some-two_words.upper.north.index (64 * c.loop-end.block + 64) (64 * c.in_ok-block.block)
+          c.in-Some-two_words.ensures.north_past (omega (arith, next));
+    }
+
+pub find-b-requires-in-Some : goal.find-b-requires-in-Some
+find-b-requires-in-Some g c =
+    let next = c.in_ok-block.ensures.beyond in
+    record {
+      past = past_later c.args.second.now c.in-Some-two_words.upper.south.index (64 * c.loop-end.block + 64) (64 * c.in_ok-block.block)
+          c.in-Some-two_words.ensures.south_past (omega (arith, next));
+    }
 
 pub find-c-requires-in-Some : goal.find-c-requires-in-Some
 find-c-requires-in-Some g c =
@@ -75,24 +114,15 @@ pub loop-end-preserved : goal.loop-end-preserved
 loop-end-preserved g c =
     let r = c.requires in
     let inv = c.loop-end.invariant in
-    let K = g.S.Squares.knows in
-    let C = g.S.Squares.content in
-    let old = c.args.squares.now in
-    let now = c.loop-end.squares in
+    let K = g.S.Squares.knows c.args.squares.now in
+    let C = g.S.Squares.content c.args.squares.now in
     let n = nearest c.in-Some.end c.nearer.result c.nearer-in-loop-end.result c.loop-end.a.end c.loop-end.b.end c.loop-end.c.end c.loop-end.d.end
     c.nearer.ensures c.nearer-in-loop-end.ensures c.in-Some.ensures in
-    let inside = nearest-inside c.args.first.now c.args.second.now c.args.third.now c.args.fourth.now r.first_within r.second_within r.third_within r.fourth_within
-    (64 * c.loop-end.block) c.empty-blank.result c.loop-end.a c.loop-end.b c.loop-end.c c.loop-end.d c.in-Some.end inv.1 inv.2 inv.3 inv.4 n in
-    let keep = λ (z : List Span) (s : IsStrip (K old) (C old) 0 z). strip-keeps {knows = K old} {knows' = K now} {old = C old} {now = C now} inv.5.contents 0 z s in
     let u = c.in-Some-two_words.ensures in
     let l = c.in-Some-two_words-2.ensures in
-    let upper = c.in-Some-two_words.upper in
-    let lower = c.in-Some-two_words-2.lower in
-    let want = four_at (C old) c.args.first.now c.args.second.now c.args.third.now c.args.fourth.now in
-    let wanted : (i : ℕ) → i < 16 → four (cells_at upper lower i) ≡ want (16 * c.loop-end.block + i) =
-    λ i lt. words-square {knows = K old} {knows' = K now} {old = C old} {now = C now} inv.5.contents c.args.first.now c.args.second.now c.args.third.now c.args.fourth.now r.first r.second r.third r.fourth
-    (keep c.args.first.now r.first) (keep c.args.second.now r.second) (keep c.args.third.now r.third) (keep c.args.fourth.now r.fourth)
-    (64 * c.loop-end.block) upper lower u.north u.south l.north l.south i (16 * c.loop-end.block + i) lt (omega arith) in
+    let want = four_at C c.args.first.now c.args.second.now c.args.third.now c.args.fourth.now in
+    let wanted = words-wanted inv.5 c.args.first.now c.args.second.now c.args.third.now c.args.fourth.now r.first r.second r.third r.fourth
+    c.loop-end.block c.in-Some-two_words.upper c.in-Some-two_words-2.lower u.north u.south l.north l.south in
     let at : 64 * c.loop-end.block ≡ 4 * (16 * c.loop-end.block) = omega arith in
     let fa = subst (λ k. IsFound c.args.first.now k c.empty-blank.result c.loop-end.a) at inv.1 in
     let fb = subst (λ k. IsFound c.args.second.now k c.empty-blank.result c.loop-end.b) at inv.2 in
@@ -101,7 +131,8 @@ loop-end-preserved g c =
     let h = c.in_ok-block.ensures in
     let on : (x : ℕ) → 16 * c.loop-end.block < x → 4 * x + 3 < c.in-Some.end → want x ≡ want (16 * c.loop-end.block) =
     λ x lo before.
-    four-same (K old) (C old) c.empty-blank.result c.empty-blank.ensures.known c.empty-blank.ensures.square c.args.first.now c.args.second.now c.args.third.now c.args.fourth.now r.first r.second r.third r.fourth
+    four-same K C c.empty-blank.result c.empty-blank.ensures.known c.empty-blank.ensures.square c.args.first.now c.args.second.now c.args.third.now
+    c.args.fourth.now r.first r.second r.third r.fourth
     (16 * c.loop-end.block) x c.loop-end.a c.loop-end.b c.loop-end.c c.loop-end.d fa fb fc fd lo (n.first (4 * x + 3) before) (n.second (4 * x + 3) before) (n.third (4 * x + 3) before) (n.fourth (4 * x + 3) before) in (
       h.filled want inv.0 (λ i lt. sym (wanted i lt)) on,
       c.find-a-in-Some.ensures,
@@ -111,6 +142,16 @@ loop-end-preserved g c =
       keeps-then inv.5 h.keeps,
       h.within,
     )
+
+pub loop-end-smaller : goal.loop-end-smaller
+loop-end-smaller g c = omega (arith, c.in_ok-block.ensures.beyond, c.in_ok-block.ensures.within)
+
+pub returns-clause-within : goal.returns-clause-within
+returns-clause-within g c =
+    let C = g.S.Squares.content in
+    filled-within (g.S.Squares.knows c.loop-end.squares) (C c.loop-end.squares)
+    (four_at (C c.args.squares.now) c.args.first.now c.args.second.now c.args.third.now c.args.fourth.now)
+    c.loop-end.spans.items (16 * c.loop-end.block) c.loop-end.invariant.0 (omega (arith, c.loop-end.invariant.6))
 
 pub returns-clause-strip : goal.returns-clause-strip
 returns-clause-strip g c =

@@ -2,6 +2,9 @@
 use Rattle.life_quad.proofs.KeepingLemmas.{keeps-then}
 use Rattle.life_strip.proofs.bands.join_four.Goals as goal
 
+pub returns-in_err-ne-clause-keeps : goal.returns-in_err-ne-clause-keeps
+returns-in_err-ne-clause-keeps g c = keeps-then c.in_ok-nw.ensures.keeps c.in_err-ne.ensures.keeps
+
 pub returns-in_err-sw-clause-keeps : goal.returns-in_err-sw-clause-keeps
 returns-in_err-sw-clause-keeps g c = keeps-then (keeps-then c.in_ok-nw.ensures.keeps c.in_ok-ne.ensures.keeps) c.in_err-sw.ensures.keeps
 

@@ -31,6 +31,9 @@ returns-in_err-push_square-2-clause-needed g c =
     rw (p.1, p.2)
     (λ e. (c.loop-square.square, c.loop-square-test.true, subst needs c.cells_of-cells.ensures (c.in_err-push_square-2.ensures.needed (err_again e))))
 
+pub returns-in_err-push_square-2-clause-keeps : goal.returns-in_err-push_square-2-clause-keeps
+returns-in_err-push_square-2-clause-keeps g c = keeps-then c.loop-square.invariant.1 c.in_err-push_square-2.ensures.keeps
+
 pub loop-square-preserved : goal.loop-square-preserved
 loop-square-preserved g c =
     let inv = c.loop-square.invariant in

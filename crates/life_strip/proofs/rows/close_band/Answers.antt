@@ -1,14 +1,48 @@
-use Rattle.std.proofs.Common.{◌≡◌, ℕ, ◌^◌, ◌++◌, ◌∷◌, [], arith, refl, ◌∙◌, ap, subst}
+use Rattle.std.proofs.Common.{◌≡◌, ℕ, ◌+◌, ◌^◌, ◌++◌, ◌∷◌, [], List, length, All, Option, Some, arith, refl, ◌∙◌, ap, subst}
 use Rattle.std.specs.Prelude.{IfSome}
 use Rattle.std.proofs.lemmas.List.Elements.{All-append}
 use Rattle.std.proofs.lemmas.Result.{err_from_is_err_and}
-use Rattle.life_strip.specs.Picture.{picture, IsSound}
+use Rattle.life_base.specs.Tree.{Tree}
+use Rattle.life_quad.specs.declared.id.Id.{Id}
+use Rattle.life_quad.specs.Keeping.{KeepsSquares}
+use Rattle.life_quad.proofs.KeepingLemmas.{keeps-then}
+use Rattle.life_strip.specs.declared.spans.Strip.{Strip}
+use Rattle.life_strip.specs.Picture.{picture, height, IsSound}
 use Rattle.life_strip.specs.Needed.{SomeSquare}
 use Rattle.life_strip.proofs.NeededLemmas.{SomeSquare-same, err_again}
-use Rattle.life_strip.proofs.PictureLemmas.{on_ok_map, all-keeps}
+use Rattle.life_strip.proofs.PictureLemmas.{on_ok_map, strips-kept}
 use Rattle.life_strip.proofs.PlaneLemmas.{picture-keeps}
 use Rattle.life_strip.proofs.BandPictures.{height-append, height-rows, picture-over, SomeSquare-below}
 use Rattle.life_strip.proofs.rows.close_band.Goals as goal
+
+-- strips and rows that a call kept have the cells that they had
+kept : {S : Type 0} {knows : S → Id → Type 0} {content : S → Id → Tree} {stored : S → List Tree} {most : S → ℕ} {old new : S}
+    → KeepsSquares knows content stored most old new
+    → (xs ys : List Strip) → All (IsSound (knows old) (content old)) xs → All (IsSound (knows old) (content old)) ys
+    → (i j : ℕ) → picture (content new) (xs ++ ys) i j ≡ picture (content old) (xs ++ ys) i j
+kept {knows = knows} {content = content} {old = old} {new = new} keeps xs ys over below =
+    picture-keeps {knows = knows old} {knows' = knows new} {old = content old} {new = content new} keeps.contents (xs ++ ys)
+    (All-append (IsSound (knows old) (content old)) xs ys over below)
+
+-- a strip that was made of the rows has their height
+band-height : (xs ys : List Strip) (o : Option Strip) (s : Strip) → All (λ r. r.level ≡ 0) ys → length ys ≡ 4 → o ≡ Some s → IfSome o (λ b. b.level ≡ 2)
+    → height xs + 2 ^ s.level ≡ height (xs ++ ys)
+band-height xs ys o s rows whole is level =
+    let two : 2 ^ s.level ≡ 4 = ap (λ n. 2 ^ n) (subst (λ o. IfSome o (λ b. b.level ≡ 2)) is level) in
+    let h = height-append xs ys in
+    let four = height-rows ys rows in
+    omega (arith, h, four, two, whole)
+
+-- and their cells, below the strips that the call kept
+band-cells : {S : Type 0} {knows : S → Id → Type 0} {content : S → Id → Tree} {stored : S → List Tree} {most : S → ℕ} {old new : S}
+    → KeepsSquares knows content stored most old new
+    → (xs ys zs : List Strip) (o : Option Strip) (s : Strip) → All (IsSound (knows old) (content old)) xs → o ≡ Some s → zs ≡ ys
+    → IfSome o (λ b. (i j : ℕ) → picture (content new) (b ∷ []) i j ≡ picture (content old) zs i j)
+    → (i j : ℕ) → picture (content new) (xs ++ s ∷ []) i j ≡ picture (content old) (xs ++ ys) i j
+band-cells {knows = knows} {content = content} {old = old} {new = new} keeps xs ys zs o s sound is same cells =
+    let here = subst (λ o. IfSome o (λ b. (i j : ℕ) → picture (content new) (b ∷ []) i j ≡ picture (content old) zs i j)) is cells in
+    picture-over {knows = knows old} {knows' = knows new} {old = content old} {new = content new} keeps.contents xs (s ∷ []) ys sound
+    (λ i j. here i j ∙ ap (λ z. picture (content old) z i j) same)
 
 pub returns-in_err-strip-clause-needed : goal.returns-in_err-strip-clause-needed
 returns-in_err-strip-clause-needed g c =
@@ -24,77 +58,52 @@ returns-in_err-strip-clause-needed g c =
     (subst (λ z. SomeSquare (g.S.Squares.needs_node c.band_strip.new.squares) 4 (picture C z)) c.as_slice.ensures.value (c.in_err-strip.ensures.needed (err_again e)))))
 
 pub push_rows-requires-clause-sound : goal.push_rows-requires-clause-sound
-push_rows-requires-clause-sound g c =
-    all-keeps {knows = g.S.Squares.knows c.args.squares.now} {knows' = g.S.Squares.knows c.band_strip.new.squares} {old = g.S.Squares.content c.args.squares.now} {new = g.S.Squares.content c.band_strip.new.squares}
-    c.in_ok-strip.ensures.keeps.contents c.args.strips.now.items c.requires.sound
+push_rows-requires-clause-sound g c = strips-kept c.in_ok-strip.ensures.keeps c.args.strips.now.items c.requires.sound
+
+pub returns-in_default-clause-keeps : goal.returns-in_default-clause-keeps
+returns-in_default-clause-keeps g c = keeps-then c.in_ok-strip.ensures.keeps c.push_rows.ensures.keeps
 
 pub returns-in_default-clause-picture : goal.returns-in_default-clause-picture
 returns-in_default-clause-picture g c =
-    let K = g.S.Squares.knows in
-    let C = g.S.Squares.content in
-    let old = c.args.squares.now in
-    let now = c.band_strip.new.squares in
-    let all = All-append (IsSound (K old) (C old)) c.args.strips.now.items c.args.band.now.items c.requires.sound c.requires.band in
     on_ok_map c.push_rows.result
-    (λ e i j. e i j ∙ picture-keeps {knows = K old} {knows' = K now} {old = C old} {new = C now} c.in_ok-strip.ensures.keeps.contents (c.args.strips.now.items ++ c.args.band.now.items) all i j)
+    (λ e i j. e i j ∙ kept c.in_ok-strip.ensures.keeps c.args.strips.now.items c.args.band.now.items c.requires.sound c.requires.band i j)
     c.push_rows.ensures.picture
 
 pub returns-in_default-clause-needed : goal.returns-in_default-clause-needed
 returns-in_default-clause-needed g c =
-    let K = g.S.Squares.knows in
-    let C = g.S.Squares.content in
-    let old = c.args.squares.now in
-    let now = c.band_strip.new.squares in
-    let all = All-append (IsSound (K old) (C old)) c.args.strips.now.items c.args.band.now.items c.requires.sound c.requires.band in
-    λ e. SomeSquare-same (omega arith)
-    (λ i j. picture-keeps {knows = K old} {knows' = K now} {old = C old} {new = C now} c.in_ok-strip.ensures.keeps.contents (c.args.strips.now.items ++ c.args.band.now.items) all i j)
+    λ e. SomeSquare-same (omega arith) (kept c.in_ok-strip.ensures.keeps c.args.strips.now.items c.args.band.now.items c.requires.sound c.requires.band)
     (c.push_rows.ensures.needed e)
 
 pub push_strip-requires-clause-sound : goal.push_strip-requires-clause-sound
-push_strip-requires-clause-sound g c =
-    all-keeps {knows = g.S.Squares.knows c.args.squares.now} {knows' = g.S.Squares.knows c.band_strip.new.squares} {old = g.S.Squares.content c.args.squares.now} {new = g.S.Squares.content c.band_strip.new.squares}
-    c.in_ok-strip.ensures.keeps.contents c.args.strips.now.items c.requires.sound
+push_strip-requires-clause-sound g c = strips-kept c.in_ok-strip.ensures.keeps c.args.strips.now.items c.requires.sound
 
 pub push_strip-requires-clause-room : goal.push_strip-requires-clause-room
 push_strip-requires-clause-room g c =
-    let h = height-append c.args.strips.now.items c.args.band.now.items in
-    let four = height-rows c.args.band.now.items c.requires.rows in
-    let two : 2 ^ c.in-Some.strip.level ≡ 4 = ap (λ n. 2 ^ n) (subst (λ o. IfSome o (λ s. s.level ≡ 2)) c.in-Some.is c.in_ok-strip.ensures.level) in
-    omega (arith, h, four, two, c.requires.whole, c.requires.room)
+    let h = band-height c.args.strips.now.items c.args.band.now.items _ c.in-Some.strip c.requires.rows c.requires.whole c.in-Some.is
+    c.in_ok-strip.ensures.level in
+    omega (arith, h, c.requires.room)
 
 pub returns-clause-height : goal.returns-clause-height
 returns-clause-height g c =
-    let h = height-append c.args.strips.now.items c.args.band.now.items in
-    let four = height-rows c.args.band.now.items c.requires.rows in
-    let two : 2 ^ c.in-Some.strip.level ≡ 4 = ap (λ n. 2 ^ n) (subst (λ o. IfSome o (λ s. s.level ≡ 2)) c.in-Some.is c.in_ok-strip.ensures.level) in
-    on_ok_map c.push_strip.result (λ e. omega (arith, e, h, four, two, c.requires.whole)) c.push_strip.ensures.height
+    let h = band-height c.args.strips.now.items c.args.band.now.items _ c.in-Some.strip c.requires.rows c.requires.whole c.in-Some.is
+    c.in_ok-strip.ensures.level in
+    on_ok_map c.push_strip.result (λ e. e ∙ h) c.push_strip.ensures.height
+
+pub returns-clause-keeps : goal.returns-clause-keeps
+returns-clause-keeps g c = keeps-then c.in_ok-strip.ensures.keeps c.push_strip.ensures.keeps
 
 pub returns-clause-picture : goal.returns-clause-picture
 returns-clause-picture g c =
-    let K = g.S.Squares.knows in
-    let C = g.S.Squares.content in
-    let old = c.args.squares.now in
-    let now = c.band_strip.new.squares in
     let r = c.in_ok-strip.ensures in
-    let cells = subst (λ o. IfSome o (λ s. (i j : ℕ) → picture (C now) (s ∷ []) i j ≡ picture (C old) c.as_slice.result.now i j)) c.in-Some.is r.picture in
-    let same : (i j : ℕ) → picture (C now) (c.in-Some.strip ∷ []) i j ≡ picture (C old) c.args.band.now.items i j = λ i j. cells i j ∙ ap (λ z. picture (C old) z i j) c.as_slice.ensures.value in
     on_ok_map c.push_strip.result
-    (λ e i j. e i j
-    ∙ picture-over {knows = K old} {knows' = K now} {old = C old} {new = C now} r.keeps.contents c.args.strips.now.items (c.in-Some.strip ∷ []) c.args.band.now.items c.requires.sound same i j)
+    (λ e i j. e i j ∙ band-cells r.keeps c.args.strips.now.items c.args.band.now.items _ _ c.in-Some.strip c.requires.sound c.in-Some.is
+    c.as_slice.ensures.value r.picture i j)
     c.push_strip.ensures.picture
 
 pub returns-clause-needed : goal.returns-clause-needed
 returns-clause-needed g c =
-    let K = g.S.Squares.knows in
-    let C = g.S.Squares.content in
-    let old = c.args.squares.now in
-    let now = c.band_strip.new.squares in
     let r = c.in_ok-strip.ensures in
-    let h = height-append c.args.strips.now.items c.args.band.now.items in
-    let four = height-rows c.args.band.now.items c.requires.rows in
-    let two : 2 ^ c.in-Some.strip.level ≡ 4 = ap (λ n. 2 ^ n) (subst (λ o. IfSome o (λ s. s.level ≡ 2)) c.in-Some.is r.level) in
-    let cells = subst (λ o. IfSome o (λ s. (i j : ℕ) → picture (C now) (s ∷ []) i j ≡ picture (C old) c.as_slice.result.now i j)) c.in-Some.is r.picture in
-    let same : (i j : ℕ) → picture (C now) (c.in-Some.strip ∷ []) i j ≡ picture (C old) c.args.band.now.items i j = λ i j. cells i j ∙ ap (λ z. picture (C old) z i j) c.as_slice.ensures.value in
-    λ e. SomeSquare-same (omega (arith, h, four, two, c.requires.whole))
-    (picture-over {knows = K old} {knows' = K now} {old = C old} {new = C now} r.keeps.contents c.args.strips.now.items (c.in-Some.strip ∷ []) c.args.band.now.items c.requires.sound same)
+    let h = band-height c.args.strips.now.items c.args.band.now.items _ c.in-Some.strip c.requires.rows c.requires.whole c.in-Some.is r.level in
+    λ e. SomeSquare-same (omega (arith, h))
+    (band-cells r.keeps c.args.strips.now.items c.args.band.now.items _ _ c.in-Some.strip c.requires.sound c.in-Some.is c.as_slice.ensures.value r.picture)
     (c.push_strip.ensures.needed e)

@@ -1,8 +1,38 @@
-use Rattle.std.proofs.Common.{◌≡◌, ◌^◌, ◌++◌, sym, ◌∙◌, ap}
+use Rattle.std.proofs.Common.{◌≡◌, ◌^◌, ◌++◌, All, arith, refl, sym, ◌∙◌, ap, subst}
+use Rattle.std.proofs.lemmas.Result.{err_from_is_err_and}
 use Rattle.life_base.specs.declared.cell.TheConstants.{MAX_LEVEL}
-use Rattle.life_strip.specs.Picture.{picture, height}
+use Rattle.life_strip.specs.Picture.{picture, height, AreFalling, IsSound}
+use Rattle.life_strip.proofs.NeededLemmas.{err_again, SomeSquare-same}
 use Rattle.life_strip.proofs.BandPictures.{band-over, no-rows}
 use Rattle.life_strip.proofs.rows.whole_plane.Goals as goal
+
+pub end_row-requires-clause-pile : goal.end_row-requires-clause-pile
+end_row-requires-clause-pile g c = c.requires.pile
+
+pub end_row-requires-clause-row : goal.end_row-requires-clause-row
+end_row-requires-clause-row g c = c.requires.row
+
+pub end_row-requires-clause-room : goal.end_row-requires-clause-room
+end_row-requires-clause-room g c = omega (arith, c.requires.whole)
+
+pub whole-requires-clause-sound : goal.whole-requires-clause-sound
+whole-requires-clause-sound g c =
+    subst (All (IsSound (g.S.Squares.knows c.end_row.new.squares) (g.S.Squares.content c.end_row.new.squares))) (sym c.as_slice.ensures.value)
+    c.in_ok-end_row.ensures.pile.sound
+
+pub whole-requires-clause-falling : goal.whole-requires-clause-falling
+whole-requires-clause-falling g c = subst AreFalling (sym c.as_slice.ensures.value) c.in_ok-end_row.ensures.pile.falling
+
+pub returns-in_err-end_row-clause-keeps : goal.returns-in_err-end_row-clause-keeps
+returns-in_err-end_row-clause-keeps g c = c.in_err-end_row.ensures.keeps
+
+pub returns-in_err-end_row-clause-needed : goal.returns-in_err-end_row-clause-needed
+returns-in_err-end_row-clause-needed g c =
+    let p = err_from_is_err_and c.from_residual.result c.from_residual.ensures.1 in
+    rw (p.1, p.2) (λ e. SomeSquare-same (omega (arith, c.requires.whole)) (λ i j. refl) (c.in_err-end_row.ensures.needed (err_again e)))
+
+pub returns-clause-keeps : goal.returns-clause-keeps
+returns-clause-keeps g c = c.in_ok-end_row.ensures.keeps
 
 pub whole-requires-clause-full : goal.whole-requires-clause-full
 whole-requires-clause-full g c =

@@ -1,4 +1,4 @@
-use Rattle.std.proofs.Common.{◌≡◌, ℕ, ◌+◌, ◌-◌, ◌*◌, ◌≤◌, ◌<◌, slice_index_or, arith, sym, ◌∙◌, ap, subst}
+use Rattle.std.proofs.Common.{◌≡◌, ℕ, ◌+◌, ◌-◌, ◌*◌, ◌≤◌, ◌<◌, slice_index_or, arith, sym, subst}
 use Rattle.life_strip.specs.declared.spans.Span.{Span}
 use Rattle.life_strip.specs.Strip.{IsPast}
 use Rattle.life_strip.specs.Band.{cell_in, IsWord}

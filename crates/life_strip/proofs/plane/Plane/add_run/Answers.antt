@@ -1,13 +1,13 @@
-use Rattle.std.proofs.Common.{◌≡◌, ◌++◌, ◌∷◌, [], ◌∙◌, ap, subst, arith, pos, ◌+ℤ◌}
+use Rattle.std.proofs.Common.{◌≡◌, ◌++◌, ◌∷◌, [], sym, ◌∙◌, ap, subst, arith, pos, ◌+ℤ◌}
 use Rattle.std.specs.Prelude.{if◌then◌else◌}
 use Rattle.std.proofs.lemmas.Int.{ints}
 use Rattle.life_base.specs.Tree.{depth}
 use Rattle.life_quad.specs.Span.{is_in_span}
 use Rattle.life_strip.specs.declared.spans.Strip.{Strip}
-use Rattle.life_strip.specs.Strip.{IsStrip}
+use Rattle.life_strip.specs.Strip.{IsStrip, AreWithin}
 use Rattle.life_strip.specs.Picture.{picture, height}
 use Rattle.life_strip.specs.Given.{half_plane}
-use Rattle.life_strip.proofs.PictureLemmas.{on_ok_map}
+use Rattle.life_strip.proofs.PictureLemmas.{on_ok_map, on_ok_map2}
 use Rattle.life_strip.proofs.PlaneLemmas.{next_ends, below_run, beside_run, row_pushed, row_strip, picture_pushed, AddsRun-span}
 use Rattle.life_strip.proofs.plane.Plane.add_run.Goals as goal
 
@@ -40,6 +40,38 @@ returns-clause-cells g c =
     (λ i j. picture_pushed C (self.strips.items ++ self.band.items) self.row row c.offset-column.result c.args.len c.args.state fill.level fill.level states i j
     ∙ (λ k. if is_in_span c.offset-column.result (height_is k) c.args.len i j then c.args.state else c.in_ok-go_to_row.ensures.picture i j k)))
     c.push_span.ensures.columns
+
+pub go_to_row-requires-clause-filled : goal.go_to_row-requires-clause-filled
+go_to_row-requires-clause-filled g c = c.requires.filled
+
+pub returns-in_err-go_to_row-clause-keeps : goal.returns-in_err-go_to_row-clause-keeps
+returns-in_err-go_to_row-clause-keeps g c = c.in_err-go_to_row.ensures.keeps
+
+pub returns-clause-keeps : goal.returns-clause-keeps
+returns-clause-keeps g c = c.in_ok-go_to_row.ensures.keeps
+
+pub returns-clause-filled : goal.returns-clause-filled
+returns-clause-filled g c =
+    let ex : pos c.offset-column.result ≡ c.args.x +ℤ pos half_plane = omega (arith, ints, c.offset-column.ensures, c.ranges.x) in
+    let K = g.S.Squares.knows c.go_to_row.new.squares in
+    let C = g.S.Squares.content c.go_to_row.new.squares in
+    let old = c.go_to_row.new.self.row.spans.items in
+    let new = c.push_span.new.spans.items in
+    let fill = c.in_ok-go_to_row.ensures.filled in
+    let begun : IsStrip K C 0 old = subst (λ n. IsStrip K C n old) fill.level fill.row.squares in
+    on_ok_map2 c.push_span.result
+    (λ columns ends.
+    let strip = row_strip K C old new c.offset-column.result c.args.len c.cell-blank.result c.cell-square.result begun
+    c.cell-blank.ensures.known c.cell-blank.ensures.square c.cell-square.ensures.known (ap depth c.cell-square.ensures.square) columns in
+    let within : AreWithin 0 new = λ k d lt. let e = ends k d lt in omega (arith, ints, e, ex, c.requires.inside.east) in
+    record {
+      pile = fill.pile;
+      row = record { squares = subst (λ n. IsStrip K C n new) (sym fill.level) strip; within = subst (λ n. AreWithin n new) (sym fill.level) within };
+      level = fill.level;
+      rows = fill.rows;
+      most = fill.most;
+    })
+    c.push_span.ensures.columns c.push_span.ensures.ends
 
 pub returns-clause-below : goal.returns-clause-below
 returns-clause-below g c =

@@ -1,10 +1,37 @@
-use Rattle.std.proofs.Common.{◌++◌, ◌∷◌, [], ◌∙◌, ap, refl, subst, arith}
+use Rattle.std.proofs.Common.{◌≡◌, ◌++◌, ◌∷◌, [], ◌∙◌, ap, refl, sym, subst, arith}
 use Rattle.std.proofs.lemmas.Result.{err_from_is_err_and}
-use Rattle.life_strip.specs.Picture.{picture}
+use Rattle.life_quad.proofs.KeepingLemmas.{keeps-same}
+use Rattle.life_strip.specs.declared.spans.Strip.{Strip}
+use Rattle.life_strip.specs.Picture.{picture, IsSound}
 use Rattle.life_strip.specs.Needed.{SomeSquare}
 use Rattle.life_strip.proofs.PictureLemmas.{picture-blank}
 use Rattle.life_strip.proofs.NeededLemmas.{SomeSquare-same}
 use Rattle.life_strip.proofs.plane.Plane.go_to_row.Goals as goal
+
+pub end_row-requires-clause-pile : goal.end_row-requires-clause-pile
+end_row-requires-clause-pile g c = c.requires.filled.pile
+
+pub end_row-requires-clause-row : goal.end_row-requires-clause-row
+end_row-requires-clause-row g c =
+    subst (IsSound (g.S.Squares.knows c.args.squares.now) (g.S.Squares.content c.args.squares.now)) (sym c.replace-begun.ensures.value) c.requires.filled.row
+
+pub end_row-requires-clause-level : goal.end_row-requires-clause-level
+end_row-requires-clause-level g c = subst (λ (s : Strip). s.level ≡ 0) (sym c.replace-begun.ensures.value) c.requires.filled.level
+
+pub end_row-requires-clause-room : goal.end_row-requires-clause-room
+end_row-requires-clause-room g c = omega (arith, c.requires.filled.rows, c.requires.later, c.requires.inside, c.if-self-row.false)
+
+pub returns-then-self-row-clause-keeps : goal.returns-then-self-row-clause-keeps
+returns-then-self-row-clause-keeps g c = keeps-same c.args.squares.now
+
+pub returns-in_err-with_capacity-clause-keeps : goal.returns-in_err-with_capacity-clause-keeps
+returns-in_err-with_capacity-clause-keeps g c = keeps-same c.args.squares.now
+
+pub returns-in_err-end_row-clause-keeps : goal.returns-in_err-end_row-clause-keeps
+returns-in_err-end_row-clause-keeps g c = c.in_err-end_row.ensures.keeps
+
+pub returns-clause-keeps : goal.returns-clause-keeps
+returns-clause-keeps g c = c.in_ok-end_row.ensures.keeps
 
 pub returns-clause-picture : goal.returns-clause-picture
 returns-clause-picture g c i j =
