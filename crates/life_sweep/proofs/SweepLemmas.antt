@@ -170,29 +170,6 @@ step-in-row A cells old new leaves all y w z quiet on s put others =
     let same = window-states cells y z on.here in
     put-place A cells old new leaves all z.x y passed (subst (λ v. IsPut A v new leaves all z.x y) same (put (passed.clear z.x y (inr (refl, omega (arith, ints)))))) others
 
--- laws that answer the same
-pub put-law : (A B : List ℕ → Answer → Type 0) (states : List ℕ) (drawn : ℤ → ℤ → ℕ) (old new : Bool) (x y : ℤ) → ((v : List ℕ) (a : Answer) → A v a → B v a)
-    → IsPut A states drawn old new x y → IsPut B states drawn old new x y
-put-law A B states drawn old new x y f p = record { next = p.next; answer = f states (Becomes p.next) p.answer; kept = p.kept; stays = p.stays; told = p.told }
-
-drawn-law : (A B : List ℕ → Answer → Type 0) (cells drawn : ℤ → ℤ → ℕ) (leaves : Bool) (x y : ℤ) → ((v : List ℕ) (a : Answer) → A v a → B v a)
-    → IsDrawnAt A cells drawn leaves x y → IsDrawnAt B cells drawn leaves x y
-drawn-law A B cells drawn leaves x y f d = record { next = d.next; answer = f _ _ d.answer; kept = d.kept }
-
-left-law : (A B : List ℕ → Answer → Type 0) (cells : ℤ → ℤ → ℕ) → ((v : List ℕ) (a : Answer) → A v a → B v a) → IsLeft A cells → IsLeft B cells
-left-law A B cells f l = record { x = l.x; y = l.y; next = l.next; answer = f _ _ l.answer; outside = l.outside; nonzero = l.nonzero }
-
-pub rows-law : (A B : List ℕ → Answer → Type 0) (cells drawn : ℤ → ℤ → ℕ) (leaves : Bool) (y : ℤ) → ((v : List ℕ) (a : Answer) → A v a → B v a)
-    → IsSweptRows A cells drawn leaves y → IsSweptRows B cells drawn leaves y
-rows-law A B cells drawn leaves y f s = record {
-  done = λ c r l. drawn-law A B cells drawn leaves c r f (s.done c r l);
-  clear = s.clear;
-  left = λ e. left-law A B cells f (s.left e);
-}
-
-pub first-law : (A B : List ℕ → Answer → Type 0) (cells : ℤ → ℤ → ℕ) (line : ℕ) → ((v : List ℕ) (a : Answer) → A v a → B v a) → IsFirstAmbiguous A cells line → IsFirstAmbiguous B cells line
-first-law A B cells line f h = record { x = h.x; y = h.y; here = f _ _ h.here; before = λ c r p. let b = h.before c r p in (b.0, f _ _ b.1) }
-
 -- a window stopped at an ambiguous place
 pub ambiguous-here : (A : List ℕ → Answer → Type 0) (cells drawn : ℤ → ℤ → ℕ) (leaves : Bool) (y : ℤ) (w z : Window) (line : ℕ) → A zeros (Becomes 0)
     → GoesOn cells y w z → IsSwept A cells drawn leaves (after w.x) y → A (states_of z) (Ambiguous line) → IsFirstAmbiguous A cells line
