@@ -5,7 +5,7 @@ use Rattle.life_table.specs.Meaning.{Answer, Becomes, Ambiguous}
 use Rattle.life_strip.specs.Given.{GivenRun, IsNext, state_by}
 use Rattle.life_sweep.specs.Around.{before, after}
 use Rattle.life_sweep.specs.Rows.{IsFrom, Precedes, IsFar, IsFarRow, IsBlankBefore, column_at, no_column, first_coordinate, IsWindow, GoesOn, states_of}
-use Rattle.life_sweep.specs.Sweep.{states_at, zeros, IsDrawnAt, IsLeft, IsFirstAmbiguous, IsSwept, IsSweptRows, IsPut, IsReady, IsReadyRow}
+use Rattle.life_sweep.specs.Sweep.{states_at, zeros, IsDrawnAt, IsFirstAmbiguous, IsSwept, IsSweptRows, IsPut, IsReady, IsReadyRow}
 use Rattle.life_sweep.specs.declared.column.Column.{Column}
 use Rattle.life_sweep.specs.declared.window.Window.{Window}
 use Rattle.life_sweep.proofs.RowLemmas.{less-or-not, column-is}

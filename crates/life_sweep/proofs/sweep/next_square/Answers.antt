@@ -10,7 +10,7 @@ use Rattle.std.specs.Prelude.{IfSome, Option}
 use Rattle.life_sweep.specs.declared.pen.Run.{Run}
 use Rattle.life_sweep.specs.Needed.{SomeNext}
 use Rattle.life_sweep.specs.Pen.{IsOpen, drawn_runs}
-use Rattle.life_sweep.specs.Sweep.{IsDrawnAt, IsFirstAmbiguous, IsReadyRow, IsScene, IsSorted, IsSweptRows, states_at}
+use Rattle.life_sweep.specs.Sweep.{IsFirstAmbiguous, IsReadyRow, IsScene, IsSorted, IsSweptRows, states_at}
 use Rattle.life_sweep.proofs.NeedLemmas.{all-needs, full-again, full-kind}
 use Rattle.life_sweep.proofs.PenLemmas.{kept}
 use Rattle.life_sweep.proofs.SweepLemmas.{nothing-given, nothing-drawn, start-rows, pass-rows, all-rows}
@@ -89,8 +89,8 @@ loop-band-preserved g c =
       swept = λ plane sorted. (
         (on g a plane sorted).here,
         subst (λ z. IsSweptRows (g.L.Law.answers c.args.law.now) plane (state_by new) c.in_ok-leaves.leaves (after z)) (sym (row g a))
-        (subst (λ law. IsSweptRows (g.L.Law.answers law) plane (state_by new) c.in_ok-leaves.leaves (after (kept c.advance.new.self.y))) inv.same
-        (h.swept plane (scene g a plane sorted) (before g a plane sorted))),
+            (subst (λ law. IsSweptRows (g.L.Law.answers law) plane (state_by new) c.in_ok-leaves.leaves (after (kept c.advance.new.self.y))) inv.same
+            (h.swept plane (scene g a plane sorted) (before g a plane sorted))),
       );
       keeps = keeps-then inv.keeps h.keeps;
     }

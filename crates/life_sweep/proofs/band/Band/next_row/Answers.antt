@@ -2,8 +2,7 @@ use Rattle.std.proofs.Common.{◌≡◌, ◌⊎◌, inl, inr, ℕ, ◌<◌, ◌=
 use Rattle.std.proofs.lemmas.Int.{ints}
 use Rattle.std.proofs.lemmas.Bool.Decides.{eqb_tells}
 use Rattle.life_base.proofs.Numbers.{not_zero}
-use Rattle.life_sweep.specs.Around.{after}
-use Rattle.life_sweep.specs.Rows.{IsInside, far}
+use Rattle.life_sweep.specs.Rows.{IsInside}
 use Rattle.life_sweep.proofs.BandLemmas.{first-is, begins, next-within}
 use Rattle.life_sweep.proofs.band.Band.next_row.Goals as goal
 use Rattle.life_sweep.proofs.band.Band.next_row.Goals.{then-not-is_empty-via-then-not-is_empty, then-not-is_empty-via-else-not-is_empty+then-not-is_empty-2}
