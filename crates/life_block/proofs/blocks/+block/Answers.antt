@@ -25,8 +25,10 @@ next_of_middle-returns-clause-keeps g m c =
     keeps-then (keeps-then (keeps-then (keeps-then c.in_ok-nw.ensures.keeps c.in_ok-ne.ensures.keeps) c.in_ok-sw.ensures.keeps) c.in_ok-se.ensures.keeps) c.join.ensures.keeps
 
 -- the four answers are the quarters of the next square
-parts : (g : Over) (m : ℕ) (c : goal.next_of_middle-After-join g m) (cells : ℤ → ℤ → ℕ) (x y : ℤ) → IsBinary cells → AreSixteen (g.S.Squares.content c.args.squares.now) cells (2 ^ c.args.level) x y c.args.sixteen.now
-    → let now = g.S.Squares.content c.next_amid-4.new.squares in AreParts (next_life c.args.rule.now cells) c.args.level x y (now c.in_ok-nw.nw) (now c.in_ok-ne.ne) (now c.in_ok-sw.sw) (now c.in_ok-se.se)
+parts : (g : Over) (m : ℕ) (c : goal.next_of_middle-After-join g m) (cells : ℤ → ℤ → ℕ) (x y : ℤ) → IsBinary cells
+    → AreSixteen (g.S.Squares.content c.args.squares.now) cells (2 ^ c.args.level) x y c.args.sixteen.now
+    → let now = g.S.Squares.content c.next_amid-4.new.squares in
+    AreParts (next_life c.args.rule.now cells) c.args.level x y (now c.in_ok-nw.nw) (now c.in_ok-ne.ne) (now c.in_ok-sw.sw) (now c.in_ok-se.se)
 parts g m c cells x y binary h =
     let f = next_life c.args.rule.now cells in
     let k = c.args.level in
@@ -80,4 +82,6 @@ next_of_middle-returns-in_err-se-clause-needed g m c =
 pub next_of_middle-returns-clause-needed : goal.next_of_middle-returns-clause-needed
 next_of_middle-returns-clause-needed g m c =
     let N = g.S.Squares.needs_node in
-    on_err_both c.join.result (λ needs same cells x y binary h. own-part (N c.join.new.self) _ _ x y _ (joined-is (parts g m c cells x y binary h)) (still-needs N _ _ _ same needs)) c.join.ensures.needed c.join.ensures.unchanged
+    on_err_both c.join.result
+    (λ needs same cells x y binary h. own-part (N c.join.new.self) _ _ x y _ (joined-is (parts g m c cells x y binary h)) (still-needs N _ _ _ same needs))
+    c.join.ensures.needed c.join.ensures.unchanged

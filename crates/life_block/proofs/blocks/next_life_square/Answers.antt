@@ -35,16 +35,24 @@ divided g c =
     }
 
 pub next_of_middle-requires-clause-known : goal.next_of_middle-requires-clause-known
-next_of_middle-requires-clause-known g c = known-south_east (divided g (goal.at.next_of_middle-requires-clause-known g c).After-empty-blank).quarters c.in_south_east.ensures
+next_of_middle-requires-clause-known g c =
+    let d = divided g (goal.at.next_of_middle-requires-clause-known g c).After-empty-blank in
+    known-south_east d.quarters c.in_south_east.ensures
 
 pub next_of_middle-requires-2-clause-known : goal.next_of_middle-requires-2-clause-known
-next_of_middle-requires-2-clause-known g c = known-south_west (IsDivided-kept c.in_ok-north_west.ensures.keeps (divided g (goal.at.next_of_middle-requires-2-clause-known g c).After-empty-blank)).quarters c.in_south_west.ensures
+next_of_middle-requires-2-clause-known g c =
+    let d = divided g (goal.at.next_of_middle-requires-2-clause-known g c).After-empty-blank in
+    known-south_west (IsDivided-kept c.in_ok-north_west.ensures.keeps d).quarters c.in_south_west.ensures
 
 pub next_of_middle-requires-3-clause-known : goal.next_of_middle-requires-3-clause-known
-next_of_middle-requires-3-clause-known g c = known-north_east (IsDivided-kept (keeps-then c.in_ok-north_west.ensures.keeps c.in_ok-north_east.ensures.keeps) (divided g (goal.at.next_of_middle-requires-3-clause-known g c).After-empty-blank)).quarters c.in_north_east.ensures
+next_of_middle-requires-3-clause-known g c =
+    let d = divided g (goal.at.next_of_middle-requires-3-clause-known g c).After-empty-blank in
+    known-north_east (IsDivided-kept (keeps-then c.in_ok-north_west.ensures.keeps c.in_ok-north_east.ensures.keeps) d).quarters c.in_north_east.ensures
 
 pub next_of_middle-requires-4-clause-known : goal.next_of_middle-requires-4-clause-known
-next_of_middle-requires-4-clause-known g c = known-north_west (IsDivided-kept (keeps-then (keeps-then c.in_ok-north_west.ensures.keeps c.in_ok-north_east.ensures.keeps) c.in_ok-south_west.ensures.keeps) (divided g (goal.at.next_of_middle-requires-4-clause-known g c).After-empty-blank)).quarters c.in_north_west.ensures
+next_of_middle-requires-4-clause-known g c =
+    let d = divided g (goal.at.next_of_middle-requires-4-clause-known g c).After-empty-blank in
+    known-north_west (IsDivided-kept (keeps-then (keeps-then c.in_ok-north_west.ensures.keeps c.in_ok-north_east.ensures.keeps) c.in_ok-south_west.ensures.keeps) d).quarters c.in_north_west.ensures
 
 pub returns-in_err-south_west-clause-keeps : goal.returns-in_err-south_west-clause-keeps
 returns-in_err-south_west-clause-keeps g c =
@@ -108,21 +116,24 @@ returns-in_err-north_west-clause-needed g c =
 
 pub returns-in_err-north_east-clause-needed : goal.returns-in_err-north_east-clause-needed
 returns-in_err-north_east-clause-needed g c =
-    let d = IsDivided-kept c.in_ok-north_west.ensures.keeps (divided g (goal.at.returns-in_err-north_east-clause-needed g c).After-empty-blank) in
+    let kept = c.in_ok-north_west.ensures.keeps in
+    let d = IsDivided-kept kept (divided g (goal.at.returns-in_err-north_east-clause-needed g c).After-empty-blank) in
     on_err_any c.from_residual-in_err-north_east.result
     (in-north_east d (g.S.Squares.needs_node c.next_of_middle-2.new.squares) (next_life c.args.rule.now (tree_cell (g.S.Squares.content c.args.squares.now c.args.id)))
     (c.in_err-north_east.ensures.needed _ _ _ c.requires.states (around-north_east d c.in_south_west.ensures)))
 
 pub returns-in_err-south_west-clause-needed : goal.returns-in_err-south_west-clause-needed
 returns-in_err-south_west-clause-needed g c =
-    let d = IsDivided-kept (keeps-then c.in_ok-north_west.ensures.keeps c.in_ok-north_east.ensures.keeps) (divided g (goal.at.returns-in_err-south_west-clause-needed g c).After-empty-blank) in
+    let kept = keeps-then c.in_ok-north_west.ensures.keeps c.in_ok-north_east.ensures.keeps in
+    let d = IsDivided-kept kept (divided g (goal.at.returns-in_err-south_west-clause-needed g c).After-empty-blank) in
     on_err_any c.from_residual-in_err-south_west.result
     (in-south_west d (g.S.Squares.needs_node c.next_of_middle-3.new.squares) (next_life c.args.rule.now (tree_cell (g.S.Squares.content c.args.squares.now c.args.id)))
     (c.in_err-south_west.ensures.needed _ _ _ c.requires.states (around-south_west d c.in_north_east.ensures)))
 
 pub returns-in_err-south_east-clause-needed : goal.returns-in_err-south_east-clause-needed
 returns-in_err-south_east-clause-needed g c =
-    let d = IsDivided-kept (keeps-then (keeps-then c.in_ok-north_west.ensures.keeps c.in_ok-north_east.ensures.keeps) c.in_ok-south_west.ensures.keeps) (divided g (goal.at.returns-in_err-south_east-clause-needed g c).After-empty-blank) in
+    let kept = keeps-then (keeps-then c.in_ok-north_west.ensures.keeps c.in_ok-north_east.ensures.keeps) c.in_ok-south_west.ensures.keeps in
+    let d = IsDivided-kept kept (divided g (goal.at.returns-in_err-south_east-clause-needed g c).After-empty-blank) in
     on_err_any c.from_residual-in_err-south_east.result
     (in-south_east d (g.S.Squares.needs_node c.next_of_middle-4.new.squares) (next_life c.args.rule.now (tree_cell (g.S.Squares.content c.args.squares.now c.args.id)))
     (c.in_err-south_east.ensures.needed _ _ _ c.requires.states (around-south_east d c.in_north_west.ensures)))
@@ -131,4 +142,5 @@ pub returns-clause-needed : goal.returns-clause-needed
 returns-clause-needed g c =
     let N = g.S.Squares.needs_node in
     let joined = joined-is (parts g c (divided g (goal.at.returns-clause-needed g c).After-empty-blank)) in
-    on_err_both c.join.result (λ needs same. own-part (N c.join.new.self) _ _ _ _ _ joined (still-needs N _ _ _ same needs)) c.join.ensures.needed c.join.ensures.unchanged
+    on_err_both c.join.result (λ needs same. own-part (N c.join.new.self) _ _ _ _ _ joined (still-needs N _ _ _ same needs))
+    c.join.ensures.needed c.join.ensures.unchanged
