@@ -116,24 +116,21 @@ returns-in_err-north_west-clause-needed g c =
 
 pub returns-in_err-north_east-clause-needed : goal.returns-in_err-north_east-clause-needed
 returns-in_err-north_east-clause-needed g c =
-    let kept = c.in_ok-north_west.ensures.keeps in
-    let d = IsDivided-kept kept (divided g (goal.at.returns-in_err-north_east-clause-needed g c).After-empty-blank) in
+    let d = IsDivided-kept c.in_ok-north_west.ensures.keeps (divided g (goal.at.returns-in_err-north_east-clause-needed g c).After-empty-blank) in
     on_err_any c.from_residual-in_err-north_east.result
     (in-north_east d (g.S.Squares.needs_node c.next_of_middle-2.new.squares) (next_life c.args.rule.now (tree_cell (g.S.Squares.content c.args.squares.now c.args.id)))
     (c.in_err-north_east.ensures.needed _ _ _ c.requires.states (around-north_east d c.in_south_west.ensures)))
 
 pub returns-in_err-south_west-clause-needed : goal.returns-in_err-south_west-clause-needed
 returns-in_err-south_west-clause-needed g c =
-    let kept = keeps-then c.in_ok-north_west.ensures.keeps c.in_ok-north_east.ensures.keeps in
-    let d = IsDivided-kept kept (divided g (goal.at.returns-in_err-south_west-clause-needed g c).After-empty-blank) in
+    let d = IsDivided-kept (keeps-then c.in_ok-north_west.ensures.keeps c.in_ok-north_east.ensures.keeps) (divided g (goal.at.returns-in_err-south_west-clause-needed g c).After-empty-blank) in
     on_err_any c.from_residual-in_err-south_west.result
     (in-south_west d (g.S.Squares.needs_node c.next_of_middle-3.new.squares) (next_life c.args.rule.now (tree_cell (g.S.Squares.content c.args.squares.now c.args.id)))
     (c.in_err-south_west.ensures.needed _ _ _ c.requires.states (around-south_west d c.in_north_east.ensures)))
 
 pub returns-in_err-south_east-clause-needed : goal.returns-in_err-south_east-clause-needed
 returns-in_err-south_east-clause-needed g c =
-    let kept = keeps-then (keeps-then c.in_ok-north_west.ensures.keeps c.in_ok-north_east.ensures.keeps) c.in_ok-south_west.ensures.keeps in
-    let d = IsDivided-kept kept (divided g (goal.at.returns-in_err-south_east-clause-needed g c).After-empty-blank) in
+    let d = IsDivided-kept (keeps-then (keeps-then c.in_ok-north_west.ensures.keeps c.in_ok-north_east.ensures.keeps) c.in_ok-south_west.ensures.keeps) (divided g (goal.at.returns-in_err-south_east-clause-needed g c).After-empty-blank) in
     on_err_any c.from_residual-in_err-south_east.result
     (in-south_east d (g.S.Squares.needs_node c.next_of_middle-4.new.squares) (next_life c.args.rule.now (tree_cell (g.S.Squares.content c.args.squares.now c.args.id)))
     (c.in_err-south_east.ensures.needed _ _ _ c.requires.states (around-south_east d c.in_north_west.ensures)))

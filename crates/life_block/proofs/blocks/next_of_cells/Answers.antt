@@ -60,30 +60,26 @@ returns-clause-next g c =
 pub returns-in_err-nw-clause-needed : goal.returns-in_err-nw-clause-needed
 returns-in_err-nw-clause-needed g c =
     on_err_any c.from_residual.result
-    (λ cells x y binary h. let P = g.S.Squares.needs_node c.join_cells.new.squares in
-    north_west-part P _ 1 x y (own-part P _ 0 _ _ _ (words g (goal.at.returns-in_err-nw-clause-needed g c).After-next_word-next cells x y binary h).nw
-    c.in_err-nw.ensures.needed))
+    (λ cells x y binary h. north_west-part (g.S.Squares.needs_node c.join_cells.new.squares) _ 1 x y
+    (own-part (g.S.Squares.needs_node c.join_cells.new.squares) _ 0 _ _ _ (words g (goal.at.returns-in_err-nw-clause-needed g c).After-next_word-next cells x y binary h).nw c.in_err-nw.ensures.needed))
 
 pub returns-in_err-ne-clause-needed : goal.returns-in_err-ne-clause-needed
 returns-in_err-ne-clause-needed g c =
     on_err_any c.from_residual-in_err-ne.result
-    (λ cells x y binary h. let P = g.S.Squares.needs_node c.join_cells-2.new.squares in
-    north_east-part P _ 1 x y (own-part P _ 0 _ _ _ (words g (goal.at.returns-in_err-ne-clause-needed g c).After-next_word-next cells x y binary h).ne
-    c.in_err-ne.ensures.needed))
+    (λ cells x y binary h. north_east-part (g.S.Squares.needs_node c.join_cells-2.new.squares) _ 1 x y
+    (own-part (g.S.Squares.needs_node c.join_cells-2.new.squares) _ 0 _ _ _ (words g (goal.at.returns-in_err-ne-clause-needed g c).After-next_word-next cells x y binary h).ne c.in_err-ne.ensures.needed))
 
 pub returns-in_err-sw-clause-needed : goal.returns-in_err-sw-clause-needed
 returns-in_err-sw-clause-needed g c =
     on_err_any c.from_residual-in_err-sw.result
-    (λ cells x y binary h. let P = g.S.Squares.needs_node c.join_cells-3.new.squares in
-    south_west-part P _ 1 x y (own-part P _ 0 _ _ _ (words g (goal.at.returns-in_err-sw-clause-needed g c).After-next_word-next cells x y binary h).sw
-    c.in_err-sw.ensures.needed))
+    (λ cells x y binary h. south_west-part (g.S.Squares.needs_node c.join_cells-3.new.squares) _ 1 x y
+    (own-part (g.S.Squares.needs_node c.join_cells-3.new.squares) _ 0 _ _ _ (words g (goal.at.returns-in_err-sw-clause-needed g c).After-next_word-next cells x y binary h).sw c.in_err-sw.ensures.needed))
 
 pub returns-in_err-se-clause-needed : goal.returns-in_err-se-clause-needed
 returns-in_err-se-clause-needed g c =
     on_err_any c.from_residual-in_err-se.result
-    (λ cells x y binary h. let P = g.S.Squares.needs_node c.join_cells-4.new.squares in
-    south_east-part P _ 1 x y (own-part P _ 0 _ _ _ (words g (goal.at.returns-in_err-se-clause-needed g c).After-next_word-next cells x y binary h).se
-    c.in_err-se.ensures.needed))
+    (λ cells x y binary h. south_east-part (g.S.Squares.needs_node c.join_cells-4.new.squares) _ 1 x y
+    (own-part (g.S.Squares.needs_node c.join_cells-4.new.squares) _ 0 _ _ _ (words g (goal.at.returns-in_err-se-clause-needed g c).After-next_word-next cells x y binary h).se c.in_err-se.ensures.needed))
 
 pub returns-clause-needed : goal.returns-clause-needed
 returns-clause-needed g c =
