@@ -1,5 +1,5 @@
 -- Words of cells, put together and shifted.
-use Rattle.std.proofs.Common.{◌≡◌, ℕ, ◌+◌, ◌*◌, ◌-◌, ◌/◌, ◌^◌, ◌<◌, inl, inr, ℤ, pos, ◌+ℤ◌, [], ◌∷◌, refl, sym, ◌∙◌, ap, subst, arith}
+use Rattle.std.proofs.Common.{◌≡◌, ℕ, ◌+◌, ◌*◌, ◌-◌, ◌/◌, ◌^◌, ◌<◌, inl, inr, ℤ, pos, ◌+ℤ◌, [], ◌∷◌, refl, ◌∙◌, ap, arith}
 use Rattle.std.specs.Int.{bit_at}
 use Rattle.std.proofs.lemmas.Int.{ints}
 use Rattle.std.proofs.lemmas.Bool.{cases_lt}
@@ -7,12 +7,11 @@ use Rattle.std.proofs.lemmas.Nat.Bits.{bit_at_cat_low, bit_at_cat_high}
 use Rattle.life_base.specs.Sets.{OuterTotalistic}
 use Rattle.life_base.specs.declared.rule.Near.{Near}
 use Rattle.life_base.specs.declared.rule.Near.TheVariants.{Moore, VonNeumann}
-use Rattle.life_base.specs.Tree.{Tree, point, quad}
 use Rattle.life_sweep.specs.Around.{before, after}
 use Rattle.life_sweep.specs.Generation.{next_by_count, next_life}
 use Rattle.life_table.specs.Meaning.{count_of}
 use Rattle.life_block.specs.Bits.{HasCells, HasRows, counted_in}
-use Rattle.life_block.specs.Pieces.{IsPiece, ahead}
+use Rattle.life_block.specs.Pieces.{ahead}
 use Rattle.life_block.proofs.WordLemmas.{bit-shr}
 
 -- the bits of a word behind another one
@@ -140,20 +139,3 @@ next-place rule cells x y rows h r i lr li = by rule.near
 -- the word has the states of the six rows of six cells that are one column east and one row south
 abbrev pub HasInner : (ℤ → ℤ → ℕ) → ℤ → ℤ → ℕ → Type 0
 HasInner next x y word = (r i : ℕ) → r < 6 → i < 6 → bit_at word (8 * r + i) ≡ next (x +ℤ pos (i + 1)) (y +ℤ pos (r + 1))
-
--- four of them
-pub IsPiece-four : (next : ℤ → ℤ → ℕ) (x y : ℤ) (word k r i : ℕ) (u v : ℤ) (t : Tree) → HasInner next x y word → r < 5 → i < 5 → k ≡ 8 * r + i → x +ℤ pos (i + 1) ≡ u → y +ℤ pos (r + 1) ≡ v
-    → t ≡ quad (point (bit_at (word / 2 ^ k) 0)) (point (bit_at (word / 2 ^ k) 1)) (point (bit_at (word / 2 ^ k) 8)) (point (bit_at (word / 2 ^ k) 9)) → IsPiece next u v t
-IsPiece-four next x y word k r i u v t h lr li at eu ev is =
-    let p0 : 0 + k ≡ 8 * r + i = omega (arith, at) in
-    let p1 : 1 + k ≡ 8 * r + (i + 1) = omega (arith, at) in
-    let p8 : 8 + k ≡ 8 * (r + 1) + i = omega (arith, at) in
-    let p9 : 9 + k ≡ 8 * (r + 1) + (i + 1) = omega (arith, at) in
-    let fu : x +ℤ pos (i + 1 + 1) ≡ u +ℤ pos 1 = omega (arith, ints, eu) in
-    let fv : y +ℤ pos (r + 1 + 1) ≡ v +ℤ pos 1 = omega (arith, ints, ev) in
-    subst (IsPiece next u v) (sym is) (
-      bit-shr word k 0 ∙ ap (bit_at word) p0 ∙ h r i (omega (arith, lr)) (omega (arith, li)) ∙ (λ j. next (eu j) (ev j)),
-      bit-shr word k 1 ∙ ap (bit_at word) p1 ∙ h r (i + 1) (omega (arith, lr)) (omega (arith, li)) ∙ (λ j. next (fu j) (ev j)),
-      bit-shr word k 8 ∙ ap (bit_at word) p8 ∙ h (r + 1) i (omega (arith, lr)) (omega (arith, li)) ∙ (λ j. next (eu j) (fv j)),
-      bit-shr word k 9 ∙ ap (bit_at word) p9 ∙ h (r + 1) (i + 1) (omega (arith, lr)) (omega (arith, li)) ∙ (λ j. next (fu j) (fv j)),
-    )

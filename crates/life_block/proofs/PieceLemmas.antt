@@ -1,5 +1,5 @@
 -- Pieces of a plane of cells: moved, joined, side by side, and blank.
-use Rattle.std.proofs.Common.{◌≡◌, ℕ, zero, suc, ◌+◌, ◌^◌, ◌<◌, false, Bool, ℤ, ◌≤ℤ◌, ◌<ℤ◌, [], ◌∷◌, refl, sym, ◌∙◌, ap, subst, arith, add-one}
+use Rattle.std.proofs.Common.{◌≡◌, ℕ, zero, suc, ◌+◌, ◌^◌, ◌<◌, false, Bool, ℤ, ◌≤ℤ◌, ◌<ℤ◌, List, [], ◌∷◌, refl, sym, ◌∙◌, ap, subst, arith, add-one}
 use Rattle.std.specs.Prelude.{if◌then◌else◌, ◌||◌}
 use Rattle.std.proofs.lemmas.Int.{ints, by_lt_z}
 use Rattle.std.proofs.Math.Pow.{pow_pos}
@@ -9,6 +9,7 @@ use Rattle.life_base.specs.declared.rule.Near.{Near}
 use Rattle.life_base.specs.declared.rule.Near.TheVariants.{Moore, VonNeumann}
 use Rattle.life_base.specs.Tree.{Tree, quad, depth, blank}
 use Rattle.life_base.proofs.Squares.{depth-blank}
+use Rattle.life_quad.specs.Keeping.{KeepsSquares}
 use Rattle.life_quad.specs.declared.id.Id.{Id}
 use Rattle.life_sweep.specs.Around.{before, after}
 use Rattle.life_sweep.specs.Generation.{next_by_count, next_life}
@@ -40,61 +41,69 @@ IsPiece-joined cells x y a b c d t k level is pa pb pc pd =
 
 -- ---- squares side by side
 
-module _ (content : Id → Tree) (cells : ℤ → ℤ → ℕ) (side : ℕ) where
-  pub western-three : (x y : ℤ) (four : Four) → AreFour content cells side x y four → AreThree content cells side x y (western four)
-  western-three x y four h = record { west = h.far_west; middle = h.west; east = h.east }
+back-ahead : (side : ℕ) (y : ℤ) → y ≡ back (ahead y side) side
+back-ahead side y = omega (arith, ints)
 
-  pub eastern-three : (x y : ℤ) (four : Four) → AreFour content cells side x y four → AreThree content cells side (ahead x side) y (eastern four)
-  eastern-three x y four h =
-      let e : x ≡ back (ahead x side) side = omega (arith, ints) in
-      record { west = IsPiece-moved cells x _ y y _ e refl h.west; middle = h.east; east = h.far_east }
+module _ {content : Id → Tree} {cells : ℤ → ℤ → ℕ} {side : ℕ} where
+  western-three : {x y : ℤ} {four : Four} → AreFour content cells side x y four → AreThree content cells side x y (western four)
+  western-three h = record { west = h.far_west; middle = h.west; east = h.east }
 
-  pub AreThree-moved : (x y w : ℤ) (three : Three) → y ≡ w → AreThree content cells side x y three → AreThree content cells side x w three
-  AreThree-moved x y w three e h = subst (λ u. AreThree content cells side x u three) e h
+  eastern-three : {x y : ℤ} {four : Four} → AreFour content cells side x y four → AreThree content cells side (ahead x side) y (eastern four)
+  eastern-three {x = x} {y = y} h =
+      record { west = IsPiece-moved cells x _ y y _ (back-ahead side x) refl h.west; middle = h.east; east = h.far_east }
 
-  pub AreFour-moved : (x y w : ℤ) (four : Four) → y ≡ w → AreFour content cells side x y four → AreFour content cells side x w four
-  AreFour-moved x y w four e h = subst (λ u. AreFour content cells side x u four) e h
+  AreThree-moved : {x y w : ℤ} {three : Three} → y ≡ w → AreThree content cells side x y three → AreThree content cells side x w three
+  AreThree-moved {x = x} {three = three} e = subst (λ u. AreThree content cells side x u three) e
 
-  pub nine-north_west : (x y : ℤ) (s : Sixteen) → AreSixteen content cells side x y s → AreNine content cells side x y (north_west_of s)
-  nine-north_west x y s h =
-      record { north = western-three x _ _ h.far_north; middle = western-three x _ _ h.north; south = western-three x _ _ h.south }
+  pub AreFour-moved : {x y w : ℤ} {four : Four} → y ≡ w → AreFour content cells side x y four → AreFour content cells side x w four
+  AreFour-moved {x = x} {four = four} e = subst (λ u. AreFour content cells side x u four) e
 
-  pub nine-north_east : (x y : ℤ) (s : Sixteen) → AreSixteen content cells side x y s → AreNine content cells side (ahead x side) y (north_east_of s)
-  nine-north_east x y s h =
-      record { north = eastern-three x _ _ h.far_north; middle = eastern-three x _ _ h.north; south = eastern-three x _ _ h.south }
+  pub nine-north_west : {x y : ℤ} {s : Sixteen} {n : Nine} → n ≡ north_west_of s → AreSixteen content cells side x y s → AreNine content cells side x y n
+  nine-north_west {x = x} {y = y} e h =
+      subst (AreNine content cells side x y) (sym e)
+      (record { north = western-three h.far_north; middle = western-three h.north; south = western-three h.south })
 
-  pub nine-south_west : (x y : ℤ) (s : Sixteen) → AreSixteen content cells side x y s → AreNine content cells side x (ahead y side) (south_west_of s)
-  nine-south_west x y s h =
-      let e : y ≡ back (ahead y side) side = omega (arith, ints) in
-      record { north = AreThree-moved x _ _ _ e (western-three x _ _ h.north); middle = western-three x _ _ h.south; south = western-three x _ _ h.far_south }
+  pub nine-north_east : {x y : ℤ} {s : Sixteen} {n : Nine} → n ≡ north_east_of s → AreSixteen content cells side x y s → AreNine content cells side (ahead x side) y n
+  nine-north_east {x = x} {y = y} e h =
+      subst (AreNine content cells side (ahead x side) y) (sym e)
+      (record { north = eastern-three h.far_north; middle = eastern-three h.north; south = eastern-three h.south })
 
-  pub nine-south_east : (x y : ℤ) (s : Sixteen) → AreSixteen content cells side x y s → AreNine content cells side (ahead x side) (ahead y side) (south_east_of s)
-  nine-south_east x y s h =
-      let e : y ≡ back (ahead y side) side = omega (arith, ints) in
-      record { north = AreThree-moved _ _ _ _ e (eastern-three x _ _ h.north); middle = eastern-three x _ _ h.south; south = eastern-three x _ _ h.far_south }
+  pub nine-south_west : {x y : ℤ} {s : Sixteen} {n : Nine} → n ≡ south_west_of s → AreSixteen content cells side x y s → AreNine content cells side x (ahead y side) n
+  nine-south_west {x = x} {y = y} e h =
+      subst (AreNine content cells side x (ahead y side)) (sym e)
+      (record { north = AreThree-moved (back-ahead side y) (western-three h.north); middle = western-three h.south; south = western-three h.far_south })
+
+  pub nine-south_east : {x y : ℤ} {s : Sixteen} {n : Nine} → n ≡ south_east_of s → AreSixteen content cells side x y s → AreNine content cells side (ahead x side) (ahead y side) n
+  nine-south_east {x = x} {y = y} e h =
+      subst (AreNine content cells side (ahead x side) (ahead y side)) (sym e)
+      (record { north = AreThree-moved (back-ahead side y) (eastern-three h.north); middle = eastern-three h.south; south = eastern-three h.far_south })
 
 -- what is known stays
-module _ (knows : Id → Type 0) (old new : Id → Tree) (keeps : (q : Id) → knows q → new q ≡ old q) (cells : ℤ → ℤ → ℕ) (side k : ℕ) where
-  IsPiece-kept : (x y : ℤ) (q : Id) → IsAt knows old k q → IsPiece cells x y (old q) → IsPiece cells x y (new q)
-  IsPiece-kept x y q known h = subst (IsPiece cells x y) (sym (keeps q known.known)) h
+module _ {S : Type 0} {knows : S → Id → Type 0} {content : S → Id → Tree} {stored : S → List Tree} {most : S → ℕ} {old new : S} (keeps : KeepsSquares knows content stored most old new) where
+  pub IsAt-kept : {k : ℕ} {q : Id} → IsAt (knows old) (content old) k q → IsAt (knows new) (content new) k q
+  IsAt-kept at = let e = keeps.contents _ at.known in record { known = e.0; level = ap depth e.1 ∙ at.level }
 
-  AreFour-kept : (x y : ℤ) (four : Four) → InFour (IsAt knows old k) four → AreFour old cells side x y four → AreFour new cells side x y four
-  AreFour-kept x y four known h =
-      record {
-        far_west = IsPiece-kept _ _ _ known.far_west h.far_west;
-        west = IsPiece-kept _ _ _ known.west h.west;
-        east = IsPiece-kept _ _ _ known.east h.east;
-        far_east = IsPiece-kept _ _ _ known.far_east h.far_east;
-      }
+  pub IsPiece-kept : {k : ℕ} {q : Id} (cells : ℤ → ℤ → ℕ) (x y : ℤ) → IsAt (knows old) (content old) k q → IsPiece cells x y (content old q) → IsPiece cells x y (content new q)
+  IsPiece-kept cells x y at h = subst (IsPiece cells x y) (sym (keeps.contents _ at.known).1) h
 
-  pub AreSixteen-kept : (x y : ℤ) (s : Sixteen) → InSixteen (IsAt knows old k) s → AreSixteen old cells side x y s → AreSixteen new cells side x y s
-  AreSixteen-kept x y s known h =
-      record {
-        far_north = AreFour-kept _ _ _ known.far_north h.far_north;
-        north = AreFour-kept _ _ _ known.north h.north;
-        south = AreFour-kept _ _ _ known.south h.south;
-        far_south = AreFour-kept _ _ _ known.far_south h.far_south;
-      }
+  module _ {k : ℕ} {cells : ℤ → ℤ → ℕ} where
+    AreFour-kept : {side : ℕ} {x y : ℤ} {four : Four} → InFour (IsAt (knows old) (content old) k) four → AreFour (content old) cells side x y four → AreFour (content new) cells side x y four
+    AreFour-kept known h =
+        record {
+          far_west = IsPiece-kept cells _ _ known.far_west h.far_west;
+          west = IsPiece-kept cells _ _ known.west h.west;
+          east = IsPiece-kept cells _ _ known.east h.east;
+          far_east = IsPiece-kept cells _ _ known.far_east h.far_east;
+        }
+
+    pub AreSixteen-kept : {side : ℕ} {x y : ℤ} {s : Sixteen} → InSixteen (IsAt (knows old) (content old) k) s → AreSixteen (content old) cells side x y s → AreSixteen (content new) cells side x y s
+    AreSixteen-kept known h =
+        record {
+          far_north = AreFour-kept known.far_north h.far_north;
+          north = AreFour-kept known.north h.north;
+          south = AreFour-kept known.south h.south;
+          far_south = AreFour-kept known.far_south h.far_south;
+        }
 
 -- ---- blank squares
 

@@ -1,5 +1,5 @@
 -- A square about the middle of the plane, its pieces, and the four corners of the square one level higher.
-use Rattle.std.proofs.Common.{◌≡◌, inl, inr, ℕ, zero, suc, ◌+◌, ◌-◌, ◌^◌, ◌<◌, ◌≤◌, Bool, true, false, true≢false, ℤ, pos, neg_ℤ, ◌+ℤ◌, ◌≤ℤ◌, ◌<ℤ◌, refl, sym, ◌∙◌, ap, subst, arith}
+use Rattle.std.proofs.Common.{◌≡◌, inl, inr, ℕ, zero, suc, ◌+◌, ◌-◌, ◌^◌, ◌<◌, ◌≤◌, Bool, true, false, true≢false, ℤ, pos, neg_ℤ, ◌+ℤ◌, ◌≤ℤ◌, ◌<ℤ◌, List, refl, sym, ◌∙◌, ap, subst, arith, add-one}
 use Rattle.std.proofs.lemmas.Int.{ints}
 use Rattle.std.proofs.lemmas.Bool.{cases_lt}
 use Rattle.std.proofs.Math.Pow.{pow_pos}
@@ -7,12 +7,17 @@ use Rattle.life_base.specs.Rules.{has_digit}
 use Rattle.life_base.specs.Sets.{OuterTotalistic}
 use Rattle.life_base.specs.Tree.{Tree, point, quad, depth, blank, state_at, half_side, tree_cell, IsFull}
 use Rattle.life_base.proofs.Squares.{at_nw, at_ne, at_sw, at_se, Inside, is_inside, inside_facts, inside_test, inside_offset, cell_inside, cell_outside}
+use Rattle.life_quad.specs.Keeping.{KeepsSquares}
+use Rattle.life_quad.specs.Refused.{SomePart}
 use Rattle.life_quad.specs.declared.id.Id.{Id}
 use Rattle.life_quad.specs.declared.moves.Quarters.{Quarters}
 use Rattle.life_block.specs.declared.grid.Four.{Four}
+use Rattle.life_block.specs.declared.grid.Sixteen.{Sixteen}
 use Rattle.life_sweep.specs.Generation.{next_life}
+use Rattle.life_block.specs.Needed.{square_from}
 use Rattle.life_block.specs.Pieces.{IsPiece, IsAt, InFour, InSixteen, AreFour, AreSixteen, back, ahead, four_of, at_north_west, at_north_east, at_south_west, at_south_east}
-use Rattle.life_block.proofs.PieceLemmas.{IsPiece-moved, AreFour-moved, blank-of_zero, next-zero}
+use Rattle.life_block.proofs.NeedLemmas.{north_west-part, north_east-part, south_west-part, south_east-part}
+use Rattle.life_block.proofs.PieceLemmas.{twice, IsPiece-moved, AreFour-moved, IsAt-kept, IsPiece-kept, blank-of_zero, next-zero}
 
 double : (n : ℕ) → 2 ^ suc n ≡ 2 ^ n + 2 ^ n
 double n = grind arith
@@ -124,9 +129,13 @@ cell-outside t x y apart = by (is_inside (half_side t) x y) refl
     by true e = absurd (apart (inside_facts (half_side t) x y e))
     by false e = cell_outside t x y e
 
+-- the north-western corner of the square one level higher
+abbrev pub outer : Tree → ℤ
+outer t = neg_ℤ (pos (2 ^ depth t))
+
 -- a square one level higher whose piece of the next states is the whole of it
 pub root-next : (rule : OuterTotalistic) (t r : Tree) → has_digit rule.sets.births 0 ≡ false → 1 ≤ depth t → IsFull r → depth r ≡ depth t + 1
-    → IsPiece (next_life rule (tree_cell t)) (corner r) (corner r) r → (x y : ℤ) → tree_cell r x y ≡ next_life rule (tree_cell t) x y
+    → IsPiece (next_life rule (tree_cell t)) (outer t) (outer t) r → (x y : ℤ) → tree_cell r x y ≡ next_life rule (tree_cell t) x y
 root-next rule t r quiet high full level piece x y = by (is_inside (half_side r) x y) refl
   where
     next : ℤ → ℤ → ℕ
@@ -135,10 +144,14 @@ root-next rule t r quiet high full level piece x y = by (is_inside (half_side r)
     whole : half_side r + half_side r ≡ 2 ^ depth r
     whole = side (depth r) (omega arith)
 
+    same : depth r - 1 ≡ depth t
+    same = omega arith
+
     halves : half_side r ≡ half_side t + half_side t
-    halves =
-        let same : depth r - 1 ≡ depth t = omega arith in
-        ap (λ n. 2 ^ n) same ∙ sym (side (depth t) high)
+    halves = ap (λ n. 2 ^ n) same ∙ sym (side (depth t) high)
+
+    from : outer t ≡ corner r
+    from = ap (λ n. neg_ℤ (pos (2 ^ n))) (sym same)
 
     some : 0 < half_side t
     some = pow_pos (depth t - 1)
@@ -152,7 +165,7 @@ root-next rule t r quiet high full level piece x y = by (is_inside (half_side r)
         let at-y = b.1 in
         let ex : corner r +ℤ pos a.0 ≡ x = omega (arith, ints, at-x) in
         let ey : corner r +ℤ pos b.0 ≡ y = omega (arith, ints, at-y) in
-        cell_inside r x y a.0 b.0 e a.1 b.1 ∙ cells-of_piece (next_life rule (tree_cell t)) r (corner r) (corner r) full piece a.0 b.0 (omega (arith, whole, a.2)) (omega (arith, whole, b.2))
+        cell_inside r x y a.0 b.0 e a.1 b.1 ∙ cells-of_piece (next_life rule (tree_cell t)) r (corner r) (corner r) full (IsPiece-moved next _ _ _ _ r from from piece) a.0 b.0 (omega (arith, whole, a.2)) (omega (arith, whole, b.2))
         ∙ (λ z. next_life rule (tree_cell t) (ex z) (ey z))
     by false e =
         let apart : Inside (half_side r) x y → ⊥ = (λ i. true≢false (sym (inside_test (half_side r) x y i) ∙ e)) in
@@ -179,27 +192,45 @@ pub record AreQuarters (knows : Id → Type 0) (content : Id → Tree) (cells : 
   pub se : IsPiece cells (ahead start (2 ^ k)) (ahead start (2 ^ k)) (content q.se)
   pub blank_other : content other ≡ blank k
 
-pub AreQuarters-kept : (knows later : Id → Type 0) (old new : Id → Tree) (cells : ℤ → ℤ → ℕ) (k : ℕ) (start : ℤ) (q : Quarters) (other : Id)
-    → ((id : Id) → knows id → later id × (new id ≡ old id)) → AreQuarters knows old cells k start q other → AreQuarters later new cells k start q other
-AreQuarters-kept knows later old new cells k start q other keeps h =
+pub AreQuarters-kept : {S : Type 0} {knows : S → Id → Type 0} {content : S → Id → Tree} {stored : S → List Tree} {most : S → ℕ} {old new : S}
+    {cells : ℤ → ℤ → ℕ} {k : ℕ} {start : ℤ} {q : Quarters} {other : Id}
+    → KeepsSquares knows content stored most old new → AreQuarters (knows old) (content old) cells k start q other → AreQuarters (knows new) (content new) cells k start q other
+AreQuarters-kept keeps h =
     record {
-      known_nw = at q.nw h.known_nw;
-      known_ne = at q.ne h.known_ne;
-      known_sw = at q.sw h.known_sw;
-      known_se = at q.se h.known_se;
-      known_other = at other h.known_other;
-      nw = piece _ _ q.nw h.known_nw h.nw;
-      ne = piece _ _ q.ne h.known_ne h.ne;
-      sw = piece _ _ q.sw h.known_sw h.sw;
-      se = piece _ _ q.se h.known_se h.se;
-      blank_other = (keeps other h.known_other.known).1 ∙ h.blank_other;
+      known_nw = IsAt-kept keeps h.known_nw;
+      known_ne = IsAt-kept keeps h.known_ne;
+      known_sw = IsAt-kept keeps h.known_sw;
+      known_se = IsAt-kept keeps h.known_se;
+      known_other = IsAt-kept keeps h.known_other;
+      nw = IsPiece-kept keeps _ _ _ h.known_nw h.nw;
+      ne = IsPiece-kept keeps _ _ _ h.known_ne h.ne;
+      sw = IsPiece-kept keeps _ _ _ h.known_sw h.sw;
+      se = IsPiece-kept keeps _ _ _ h.known_se h.se;
+      blank_other = (keeps.contents _ h.known_other.known).1 ∙ h.blank_other;
     }
-  where
-    at : (id : Id) → IsAt knows old k id → IsAt later new k id
-    at id i = let e = keeps id i.known in record { known = e.0; level = ap depth e.1 ∙ i.level }
 
-    piece : (x y : ℤ) (id : Id) → IsAt knows old k id → IsPiece cells x y (old id) → IsPiece cells x y (new id)
-    piece x y id i p = subst (IsPiece cells x y) (sym (keeps id i.known).1) p
+-- a square's quarters, and a blank one of their level
+pub quarters-at : (knows : Id → Type 0) (content : Id → Tree) (t : Tree) (q : Quarters) (b : Id) (k : ℕ) → IsFull t → depth t ≡ k + 1
+    → t ≡ quad (content q.nw) (content q.ne) (content q.sw) (content q.se) → knows q.nw → knows q.ne → knows q.sw → knows q.se → knows b → content b ≡ blank k → depth (content b) ≡ k
+    → AreQuarters knows content (tree_cell t) k (corner t) q b
+quarters-at knows content t q b k full level is nw ne sw se known_b blank_b level_b =
+    let whole : IsFull (quad (content q.nw) (content q.ne) (content q.sw) (content q.se)) = subst IsFull is full in
+    let deep : suc (depth (content q.nw)) ≡ k + 1 = ap depth (sym is) ∙ level in
+    let one : depth (content q.nw) ≡ k = omega (arith, deep) in
+    let e : ahead (corner t) (2 ^ depth (content q.nw)) ≡ ahead (corner t) (2 ^ k) = ap (λ n. ahead (corner t) (2 ^ n)) one in
+    let pieces : IsPiece (tree_cell t) (corner t) (corner t) (quad (content q.nw) (content q.ne) (content q.sw) (content q.se)) = subst (IsPiece (tree_cell t) (corner t) (corner t)) is (piece-of_root t full (omega (arith, level))) in
+    record {
+      known_nw = record { known = nw; level = one };
+      known_ne = record { known = ne; level = whole.4 ∙ one };
+      known_sw = record { known = sw; level = whole.5 ∙ one };
+      known_se = record { known = se; level = whole.6 ∙ one };
+      known_other = record { known = known_b; level = level_b };
+      nw = pieces.0;
+      ne = IsPiece-moved _ _ _ _ _ _ e refl pieces.1;
+      sw = IsPiece-moved _ _ _ _ _ _ refl e pieces.2;
+      se = IsPiece-moved _ _ _ _ _ _ e e pieces.3;
+      blank_other = blank_b;
+    }
 
 -- no cell before the square's first column or row, or behind its last
 pub record IsAlone (cells : ℤ → ℤ → ℕ) (start : ℤ) (half : ℕ) : Type 0 where
@@ -217,18 +248,31 @@ alone-root t =
       south = λ x y l. cell-outside t x y (λ i. omega (arith, ints, i.south, l));
     }
 
-module _ (knows : Id → Type 0) (content : Id → Tree) (cells : ℤ → ℤ → ℕ) (k : ℕ) (start : ℤ) (q : Quarters) (b : Id) (h : AreQuarters knows content cells k start q b) where
-  pub known-north_west : InSixteen (IsAt knows content k) (at_north_west q b)
-  known-north_west =
-      record {
-        far_north = record { far_west = h.known_nw; west = h.known_ne; east = h.known_other; far_east = h.known_other };
-        north = record { far_west = h.known_sw; west = h.known_se; east = h.known_other; far_east = h.known_other };
-        south = none;
-        far_south = none;
-      }
-    where
-      none : InFour (IsAt knows content k) (four_of b b b b)
-      none = record { far_west = h.known_other; west = h.known_other; east = h.known_other; far_east = h.known_other }
+module _ {knows : Id → Type 0} {content : Id → Tree} {cells : ℤ → ℤ → ℕ} {k : ℕ} {start : ℤ} {q : Quarters} {b : Id} (h : AreQuarters knows content cells k start q b) where
+  abbrev InAll : Sixteen → Type 0
+  InAll s = InSixteen (IsAt knows content k) s
+
+  none : InFour (IsAt knows content k) (four_of b b b b)
+  none = record { far_west = h.known_other; west = h.known_other; east = h.known_other; far_east = h.known_other }
+
+  -- two squares at the western end of a row, and at the eastern end
+  west-end : {a c : Id} → IsAt knows content k a → IsAt knows content k c → InFour (IsAt knows content k) (four_of a c b b)
+  west-end a c = record { far_west = a; west = c; east = h.known_other; far_east = h.known_other }
+
+  east-end : {a c : Id} → IsAt knows content k a → IsAt knows content k c → InFour (IsAt knows content k) (four_of b b a c)
+  east-end a c = record { far_west = h.known_other; west = h.known_other; east = a; far_east = c }
+
+  pub known-south_east : {s : Sixteen} → s ≡ at_south_east q b → InAll s
+  known-south_east e = subst InAll (sym e) (record { far_north = none; north = none; south = east-end h.known_nw h.known_ne; far_south = east-end h.known_sw h.known_se })
+
+  pub known-south_west : {s : Sixteen} → s ≡ at_south_west q b → InAll s
+  known-south_west e = subst InAll (sym e) (record { far_north = none; north = none; south = west-end h.known_nw h.known_ne; far_south = west-end h.known_sw h.known_se })
+
+  pub known-north_east : {s : Sixteen} → s ≡ at_north_east q b → InAll s
+  known-north_east e = subst InAll (sym e) (record { far_north = east-end h.known_nw h.known_ne; north = east-end h.known_sw h.known_se; south = none; far_south = none })
+
+  pub known-north_west : {s : Sixteen} → s ≡ at_north_west q b → InAll s
+  known-north_west e = subst InAll (sym e) (record { far_north = west-end h.known_nw h.known_ne; north = west-end h.known_sw h.known_se; south = none; far_south = none })
 
 module _ (knows : Id → Type 0) (content : Id → Tree) (cells : ℤ → ℤ → ℕ) (k : ℕ) (start : ℤ) (q : Quarters) (b : Id) (h : AreQuarters knows content cells k start q b) (alone : IsAlone cells start (2 ^ k)) where
   nothing : (x y : ℤ) → ((u v : ℤ) → x ≤ℤ u → u <ℤ ahead x (2 ^ k) → y ≤ℤ v → v <ℤ ahead y (2 ^ k) → cells u v ≡ 0) → IsPiece cells x y (content b)
@@ -285,8 +329,8 @@ module _ (knows : Id → Type 0) (content : Id → Tree) (cells : ℤ → ℤ �
       record {
         far_north = no-north _ _ (omega (arith, ints));
         north = no-north _ _ (omega (arith, ints));
-        south = AreFour-moved content cells (2 ^ k) _ _ _ _ southern first;
-        far_south = AreFour-moved content cells (2 ^ k) _ _ _ _ (ap (λ z. ahead z (2 ^ k)) southern) second;
+        south = AreFour-moved southern first;
+        far_south = AreFour-moved (ap (λ z. ahead z (2 ^ k)) southern) second;
       }
 
   in_north : (x : ℤ) (upper lower : Four) → AreFour content cells (2 ^ k) x start upper → AreFour content cells (2 ^ k) x (ahead start (2 ^ k)) lower
@@ -294,20 +338,81 @@ module _ (knows : Id → Type 0) (content : Id → Tree) (cells : ℤ → ℤ �
       (record { far_north = upper; north = lower; south = four_of b b b b; far_south = four_of b b b b })
   in_north x upper lower first second =
       record {
-        far_north = AreFour-moved content cells (2 ^ k) _ _ _ _ northern first;
+        far_north = AreFour-moved northern first;
         north = second;
         south = no-south _ _ (omega (arith, ints));
         far_south = no-south _ _ (omega (arith, ints));
       }
 
-  pub pieces-south_east : AreSixteen content cells (2 ^ k) (back start (2 ^ k)) (back start (2 ^ k)) (at_south_east q b)
+  pieces-south_east : AreSixteen content cells (2 ^ k) (back start (2 ^ k)) (back start (2 ^ k)) (at_south_east q b)
   pieces-south_east = in_south _ _ _ (east-row _ _ _ h.nw h.ne) (east-row _ _ _ h.sw h.se)
 
-  pub pieces-south_west : AreSixteen content cells (2 ^ k) (ahead start (2 ^ k)) (back start (2 ^ k)) (at_south_west q b)
+  pieces-south_west : AreSixteen content cells (2 ^ k) (ahead start (2 ^ k)) (back start (2 ^ k)) (at_south_west q b)
   pieces-south_west = in_south _ _ _ (west-row _ _ _ h.nw h.ne) (west-row _ _ _ h.sw h.se)
 
-  pub pieces-north_east : AreSixteen content cells (2 ^ k) (back start (2 ^ k)) (ahead start (2 ^ k)) (at_north_east q b)
+  pieces-north_east : AreSixteen content cells (2 ^ k) (back start (2 ^ k)) (ahead start (2 ^ k)) (at_north_east q b)
   pieces-north_east = in_north _ _ _ (east-row _ _ _ h.nw h.ne) (east-row _ _ _ h.sw h.se)
 
-  pub pieces-north_west : AreSixteen content cells (2 ^ k) (ahead start (2 ^ k)) (ahead start (2 ^ k)) (at_north_west q b)
+  pieces-north_west : AreSixteen content cells (2 ^ k) (ahead start (2 ^ k)) (ahead start (2 ^ k)) (at_north_west q b)
   pieces-north_west = in_north _ _ _ (west-row _ _ _ h.nw h.ne) (west-row _ _ _ h.sw h.se)
+
+-- ---- the square one level higher
+
+-- a square, its quarters, and a blank square of their level
+pub record IsDivided (knows : Id → Type 0) (content : Id → Tree) (t : Tree) (k : ℕ) (q : Quarters) (b : Id) : Type 0 where
+  pub level : depth t ≡ k + 1
+  pub quarters : AreQuarters knows content (tree_cell t) k (corner t) q b
+
+pub IsDivided-kept : {S : Type 0} {knows : S → Id → Type 0} {content : S → Id → Tree} {stored : S → List Tree} {most : S → ℕ} {old new : S} {t : Tree} {k : ℕ} {q : Quarters} {b : Id}
+    → KeepsSquares knows content stored most old new → IsDivided (knows old) (content old) t k q b → IsDivided (knows new) (content new) t k q b
+IsDivided-kept keeps d = record { level = d.level; quarters = AreQuarters-kept keeps d.quarters }
+
+module _ {knows : Id → Type 0} {content : Id → Tree} {t : Tree} {k : ℕ} {q : Quarters} {b : Id} (d : IsDivided knows content t k q b) where
+  half : half_side t ≡ 2 ^ k
+  half = let level = d.level in let e : depth t - 1 ≡ k = omega (arith, level) in ap (λ n. 2 ^ n) e
+
+  whole : 2 ^ depth t ≡ 2 ^ k + 2 ^ k
+  whole = ap (λ n. 2 ^ n) d.level ∙ twice k
+
+  near : back (corner t) (2 ^ k) ≡ outer t
+  near = let e = half in let f = whole in omega (arith, ints, e, f)
+
+  middle : ahead (corner t) (2 ^ k) ≡ ahead (outer t) (2 ^ depth t)
+  middle = let e = half in let f = whole in omega (arith, ints, e, f)
+
+  alone : IsAlone (tree_cell t) (corner t) (2 ^ k)
+  alone = subst (IsAlone (tree_cell t) (corner t)) half (alone-root t)
+
+  at : {s r : Sixteen} {x y z w : ℤ} → r ≡ s → x ≡ z → y ≡ w → AreSixteen content (tree_cell t) (2 ^ k) x y s → AreSixteen content (tree_cell t) (2 ^ k) z w r
+  at {s = s} {x = x} {z = z} {w = w} e ex ey p =
+      subst (AreSixteen content (tree_cell t) (2 ^ k) z w) (sym e) (subst (λ u. AreSixteen content (tree_cell t) (2 ^ k) u w s) ex (subst (λ u. AreSixteen content (tree_cell t) (2 ^ k) x u s) ey p))
+
+  -- the quarters amid blank squares, about each corner of the square
+  pub around-north_west : {s : Sixteen} → s ≡ at_south_east q b → AreSixteen content (tree_cell t) (2 ^ k) (outer t) (outer t) s
+  around-north_west e = at e near near (pieces-south_east knows content (tree_cell t) k (corner t) q b d.quarters alone)
+
+  pub around-north_east : {s : Sixteen} → s ≡ at_south_west q b → AreSixteen content (tree_cell t) (2 ^ k) (ahead (outer t) (2 ^ depth t)) (outer t) s
+  around-north_east e = at e middle near (pieces-south_west knows content (tree_cell t) k (corner t) q b d.quarters alone)
+
+  pub around-south_west : {s : Sixteen} → s ≡ at_north_east q b → AreSixteen content (tree_cell t) (2 ^ k) (outer t) (ahead (outer t) (2 ^ depth t)) s
+  around-south_west e = at e near middle (pieces-north_east knows content (tree_cell t) k (corner t) q b d.quarters alone)
+
+  pub around-south_east : {s : Sixteen} → s ≡ at_north_west q b → AreSixteen content (tree_cell t) (2 ^ k) (ahead (outer t) (2 ^ depth t)) (ahead (outer t) (2 ^ depth t)) s
+  around-south_east e = at e middle middle (pieces-north_west knows content (tree_cell t) k (corner t) q b d.quarters alone)
+
+  -- a part of a square of half its side is one of the square's
+  of-level : (P : Tree → Type 0) (f : ℤ → ℤ → ℕ) (x y : ℤ) → SomePart P (square_from f (suc k) x y) → SomePart P (square_from f (depth t) x y)
+  of-level P f x y = subst (λ n. SomePart P (square_from f n x y)) (sym (add-one k) ∙ sym d.level)
+
+  module _ (P : Tree → Type 0) (f : ℤ → ℤ → ℕ) where
+    pub in-north_west : SomePart P (square_from f (suc k) (outer t) (outer t)) → SomePart P (square_from f (suc (depth t)) (outer t) (outer t))
+    in-north_west s = north_west-part P f (depth t) (outer t) (outer t) (of-level P f (outer t) (outer t) s)
+
+    pub in-north_east : SomePart P (square_from f (suc k) (ahead (outer t) (2 ^ depth t)) (outer t)) → SomePart P (square_from f (suc (depth t)) (outer t) (outer t))
+    in-north_east s = north_east-part P f (depth t) (outer t) (outer t) (of-level P f (ahead (outer t) (2 ^ depth t)) (outer t) s)
+
+    pub in-south_west : SomePart P (square_from f (suc k) (outer t) (ahead (outer t) (2 ^ depth t))) → SomePart P (square_from f (suc (depth t)) (outer t) (outer t))
+    in-south_west s = south_west-part P f (depth t) (outer t) (outer t) (of-level P f (outer t) (ahead (outer t) (2 ^ depth t)) s)
+
+    pub in-south_east : SomePart P (square_from f (suc k) (ahead (outer t) (2 ^ depth t)) (ahead (outer t) (2 ^ depth t))) → SomePart P (square_from f (suc (depth t)) (outer t) (outer t))
+    in-south_east s = south_east-part P f (depth t) (outer t) (outer t) (of-level P f (ahead (outer t) (2 ^ depth t)) (ahead (outer t) (2 ^ depth t)) s)

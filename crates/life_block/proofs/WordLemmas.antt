@@ -46,6 +46,9 @@ binary p q r s n lp lq lr ls e = (omega (arith, lp, e), omega (arith, lp, lq, e)
 abbrev pub picked : ℕ → ℕ → ℕ
 picked p d = if d == 1 then p else 1 - p
 
+abbrev pub all_picked : ℕ → ℕ → ℕ → ℕ → ℕ → ℕ
+all_picked p q r s n = min (min (min (picked p (n % 2)) (picked q (n / 2 % 2))) (picked r (n / 4 % 2))) (picked s (n / 8))
+
 pick : (p d : ℕ) → p < 2 → d < 2 → ((p ≡ d) × (picked p d ≡ 1)) ⊎ ((p ≡ d → ⊥) × (picked p d ≡ 0))
 pick zero zero lp ld = inl (refl, refl)
 pick zero (suc zero) lp ld = inr ((λ e. omega (arith, e)), refl)
@@ -55,7 +58,7 @@ pick (suc (suc p)) d lp ld = absurd (omega (arith, lp))
 pick p (suc (suc d)) lp ld = absurd (omega (arith, ld))
 
 pub pick-all : (p q r s n : ℕ) → p < 2 → q < 2 → r < 2 → s < 2 → n < 16 → p + 2 * q + 4 * r + 8 * s ≡ n
-    → min (min (min (picked p (n % 2)) (picked q (n / 2 % 2))) (picked r (n / 4 % 2))) (picked s (n / 8)) ≡ 1
+    → all_picked p q r s n ≡ 1
 pick-all p q r s n lp lq lr ls ln e =
     let b = binary p q r s n lp lq lr ls e in
     let one : (x y : ℕ) → x < 2 → y < 2 → x ≡ y → picked x y ≡ 1 = λ x y lx ly h. elim (pick x y lx ly) [ inl t ↦ t.1 | inr t ↦ absurd (t.0 h) ] in
@@ -66,7 +69,7 @@ pick-all p q r s n lp lq lr ls ln e =
     omega (arith, ep, eq, er, es)
 
 pub pick-none : (p q r s n : ℕ) → p < 2 → q < 2 → r < 2 → s < 2 → n < 16 → (p + 2 * q + 4 * r + 8 * s ≡ n → ⊥)
-    → min (min (min (picked p (n % 2)) (picked q (n / 2 % 2))) (picked r (n / 4 % 2))) (picked s (n / 8)) ≡ 0
+    → all_picked p q r s n ≡ 0
 pick-none p q r s n lp lq lr ls ln ne = elim (pick p (n % 2) lp (omega arith)) [
   | inr t ↦ (let e = t.1 in omega (arith, e))
   | inl tp ↦ elim (pick q (n / 2 % 2) lq (omega arith)) [
@@ -81,13 +84,12 @@ pick-none p q r s n lp lq lr ls ln ne = elim (pick p (n % 2) lp (omega arith)) [
   ]
 ]
 
-pub bit-and4 : (a b c d i : ℕ) → bit_at (bit_and (bit_and (bit_and a b) c) d) i ≡ min (min (min (bit_at a i) (bit_at b i)) (bit_at c i)) (bit_at d i)
-bit-and4 a b c d i =
+pub bits-picked : (a b c d i p q r s n : ℕ) → bit_at a i ≡ picked p (n % 2) → bit_at b i ≡ picked q (n / 2 % 2) → bit_at c i ≡ picked r (n / 4 % 2) → bit_at d i ≡ picked s (n / 8)
+    → bit_at (bit_and (bit_and (bit_and a b) c) d) i ≡ all_picked p q r s n
+bits-picked a b c d i p q r s n ea eb ec ed =
     bit_at_and (bit_and (bit_and a b) c) d i
     ∙ ap (λ z. min z (bit_at d i)) (bit_at_and (bit_and a b) c i ∙ ap (λ z. min z (bit_at c i)) (bit_at_and a b i))
-
-pub same-min4 : (a b c d a' b' c' d' : ℕ) → a ≡ a' → b ≡ b' → c ≡ c' → d ≡ d' → min (min (min a b) c) d ≡ min (min (min a' b') c') d'
-same-min4 a b c d a' b' c' d' ea eb ec ed = cc
+    ∙ (λ j. min (min (min (ea j) (eb j)) (ec j)) (ed j))
 
 -- the next state by the digits of both sets at a count
 pub next-of : (b s h : ℕ) → b < 2 → s < 2 → h < 2 → max (min b (1 - h)) (min s h) ≡ if (h == 0 && b == 1) || (h == 1 && s == 1) then 1 else 0

@@ -1,6 +1,6 @@
 -- Bands: what a step to the next row keeps.
 use Rattle.std.proofs.Common.{◌≡◌, ℕ, ◌+◌, ◌*◌, ◌<◌, ◌==◌, Bool, ◌⊎◌, inl, inr, ℤ, pos, ◌+ℤ◌, ◌≤ℤ◌, ◌<ℤ◌, List, [], ◌∷◌, ◌++◌, length, length-append, refl, sym, ◌∙◌, ap, subst, arith}
-use Rattle.std.specs.Prelude.{All, if◌then◌else◌}
+use Rattle.std.specs.Prelude.{All, Some, slice_get, if◌then◌else◌}
 use Rattle.std.proofs.lemmas.Int.{ints}
 use Rattle.std.proofs.lemmas.Bool.Decides.{eqb_tells}
 use Rattle.std.proofs.lemmas.List.Elements.{All-head, All-tail}
@@ -189,3 +189,19 @@ here-end y b (inr p) (inr l) = inl p.1
 pub south-end : (y : ℤ) (row : List Cell) → All IsInside row → All (λ (cell : Cell). cell.y ≡ y) row → (length row ≡ 0) ⊎ (y <ℤ far)
 south-end y [] inside all = inl refl
 south-end y (cell ∷ row) inside all = inr (omega (arith, ints, (All-head IsInside cell row inside).south, All-head (λ (cell : Cell). cell.y ≡ y) cell row all))
+
+-- the first cell of a list
+pub first-is : (P : Cell → Type 0) (cells : List Cell) (cell : Cell) → Some cell ≡ slice_get cells 0 → All P cells → P cell
+first-is P [] cell e all = absurd cc
+first-is P (d ∷ rest) cell e all = let same : d ≡ cell = cc in subst P same (All-head P d rest all)
+
+pub begins : (y : ℤ) (cells : List Cell) (cell : Cell) → Some cell ≡ slice_get cells 0 → cell.y ≡ y → BeginsAt y cells
+begins y [] cell e at = absurd cc
+begins y (d ∷ rest) cell e at = let same : d ≡ cell = cc in ap (λ (c : Cell). c.y) same ∙ at
+
+-- where a cell stands in the middle row or the southern one, the next row is one of the plane, or the first behind it
+pub next-within : (here south : ℕ) (y : ℤ) → (here ≡ 0) ⊎ (y <ℤ far) → (south ≡ 0) ⊎ (after y <ℤ far) → (0 < here) ⊎ (0 < south) → after y ≤ℤ far
+next-within here south y (inr h) s some = omega (arith, ints, h)
+next-within here south y (inl h) (inr s) some = omega (arith, ints, s)
+next-within here south y (inl h) (inl s) (inl l) = absurd (omega (arith, h, l))
+next-within here south y (inl h) (inl s) (inr l) = absurd (omega (arith, s, l))

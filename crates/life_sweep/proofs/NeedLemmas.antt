@@ -8,7 +8,7 @@ use Rattle.life_base.proofs.Squares.{is_inside, inside_facts}
 use Rattle.life_base.specs.Refusal.{fault_of}
 use Rattle.life_base.specs.declared.fault.Fault.{Fault}
 use Rattle.life_base.specs.declared.kind.Kind.{Kind}
-use Rattle.life_base.specs.declared.kind.Kind.TheVariants.{Full}
+use Rattle.life_base.specs.declared.kind.Kind.TheVariants.{Full, Ambiguous}
 use Rattle.life_quad.specs.Cells.{IsInRun}
 use Rattle.life_quad.specs.declared.id.Id.{Id}
 use Rattle.life_strip.specs.Given.{GivenRun, AreInOrder, IsOnPlane, state_by, by_columns, half_plane}
@@ -146,3 +146,10 @@ full-again f e = ap (λ (d : Fault). Err d) (err-is f (fault_of Full) e)
 
 pub full-kind : {T U : Type 0} (k : Kind) → ◌≡◌ {A = Result T Fault} (Err (fault_of k)) (Err (fault_of Full)) → ◌≡◌ {A = Result U Kind} (Err k) (Err Full)
 full-kind k e = ap (λ (d : Fault). Err d.kind) (err-is (fault_of k) (fault_of Full) e)
+
+-- and that the law is ambiguous is none
+pub not-full : {T : Type 0} {P : Type 0} (f : Fault) → f.kind ≡ Ambiguous → ◌≡◌ {A = Result T Fault} (Err f) (Err (fault_of Full)) → P
+not-full f kind e = absurd (other (sym kind ∙ ap (λ (d : Fault). d.kind) (err-is f (fault_of Full) e)))
+  where
+    other : ◌≡◌ {A = Kind} Ambiguous Full → ⊥
+    other k = cc

@@ -1,5 +1,5 @@
 -- Neighbours whose images are the same have the same answers.
-use Rattle.std.proofs.Common.{◌≡◌, ℕ, ◌<◌, List, [], ◌∷◌, ◌++◌, drop, length, get_or, sym, ◌∙◌, subst, inl, inr, arith}
+use Rattle.std.proofs.Common.{◌≡◌, ℕ, ◌<◌, List, [], ◌∷◌, ◌++◌, drop, length, get_or, refl, sym, ◌∙◌, subst, inl, inr, arith}
 use Rattle.std.specs.Prelude.{All, Contains, ◌↔◌, nat_eq, cond, slice_index}
 use Rattle.std.specs.List.Sorted.{IsPermutation}
 use Rattle.std.proofs.lemmas.List.Elements.{All-cons, All-tail, Contains-append_left, Contains-append_right, Contains-append_cases}
@@ -18,33 +18,29 @@ use Rattle.life_sweep.specs.Sweep.{SameImages, TableAnswers, named}
 pub images_back : (symmetry : Symmetry) (v w : List ℕ) → SameImages symmetry v w → SameImages symmetry w v
 images_back symmetry v w h image = let k = h image in (k.1, k.0)
 
+gives : (symmetry : Symmetry) (vars : List Var) (centre : ℕ) (v w : List ℕ) → SameImages symmetry v w → (line : Transition) (s : ℕ) → Gives symmetry vars line centre v s → Gives symmetry vars line centre w s
+gives symmetry vars centre v w same line s g = record {
+  image = g.image;
+  is_image = (same g.image).0 g.is_image;
+  choice = g.choice;
+  is_choice = g.is_choice;
+  inputs = g.inputs;
+  output = g.output;
+}
+
 module _ (symmetry : Symmetry) (vars : List Var) (centre : ℕ) (v w : List ℕ) (same : SameImages symmetry v w) where
-  gives : (line : Transition) (s : ℕ) → Gives symmetry vars line centre v s → Gives symmetry vars line centre w s
-  gives line s g = record {
-    image = g.image;
-    is_image = (same g.image).0 g.is_image;
-    choice = g.choice;
-    is_choice = g.is_choice;
-    inputs = g.inputs;
-    output = g.output;
-  }
+  gives_there : (line : Transition) (s : ℕ) → Gives symmetry vars line centre v s → Gives symmetry vars line centre w s
+  gives_there = gives symmetry vars centre v w same
 
   gives_back : (line : Transition) (s : ℕ) → Gives symmetry vars line centre w s → Gives symmetry vars line centre v s
-  gives_back line s g = record {
-    image = g.image;
-    is_image = (same g.image).1 g.is_image;
-    choice = g.choice;
-    is_choice = g.is_choice;
-    inputs = g.inputs;
-    output = g.output;
-  }
+  gives_back = gives symmetry vars centre w v (images_back symmetry v w same)
 
   silent : (line : Transition) → GivesNothing symmetry vars centre v line → GivesNothing symmetry vars centre w line
   silent line h s g = h s (gives_back line s g)
 
   answers : (line : Transition) (answer : Answer) → LineAnswers symmetry vars centre v line answer → LineAnswers symmetry vars centre w line answer
-  answers line (Becomes s) h = (gives line s h.0, λ t g. h.1 t (gives_back line t g))
-  answers line (Ambiguous n) h = (h.0, h.1, h.2, h.3, gives line h.1 h.4, gives line h.2 h.5)
+  answers line (Becomes s) h = (gives_there line s h.0, λ t g. h.1 t (gives_back line t g))
+  answers line (Ambiguous n) h = (h.0, h.1, h.2, h.3, gives_there line h.1 h.4, gives_there line h.2 h.5)
 
   pub decides : (lines : List Transition) (answer : Answer) → Decides symmetry vars centre v lines answer → Decides symmetry vars centre w lines answer
   decides lines answer h = elim h [
@@ -105,17 +101,22 @@ moved_all n (c ∷ v) (d ∷ w) lv lw centre moved all =
 moved_all n [] w lv lw centre moved all = absurd (omega (arith, lv))
 moved_all n v [] lv lw centre moved all = absurd (omega (arith, lw))
 
-pub same_both : (symmetry : Symmetry) (u v w : List ℕ) → SameImages symmetry u v → SameImages symmetry v w → SameImages symmetry u w
-same_both symmetry u v w one other image =
-    let a = one image in
-    let b = other image in
-    (λ h. b.0 (a.0 h), λ h. a.1 (b.1 h))
-
 -- the same cell with its neighbours turned
 pub record IsTurnOf (v w : List ℕ) : Type 0 where
   pub centre : slice_index w 0 ≡ slice_index v 0
   pub same : SameImages Rotate4 (drop 1 v) (drop 1 w)
   pub states : (n : ℕ) → All (λ s. s < n) v → All (λ s. s < n) w
+
+pub IsTurnOf-same : (v : List ℕ) → IsTurnOf v v
+IsTurnOf-same v = record { centre = refl; same = λ image. (λ h. h, λ h. h); states = λ n h. h }
+
+pub IsTurnOf-then : {u v w : List ℕ} → IsTurnOf u v → IsTurnOf v w → IsTurnOf u w
+IsTurnOf-then a b =
+    record {
+      centre = b.centre ∙ a.centre;
+      same = λ image. (λ h. (b.same image).0 ((a.same image).0 h), λ h. (a.same image).1 ((b.same image).1 h));
+      states = λ n h. b.states n (a.states n h);
+    }
 
 -- the first of a list stands last as well
 first_last : (x : List ℕ) (xs : List (List ℕ)) (image : List ℕ) → Contains (x ∷ xs) image ↔ Contains (xs ++ x ∷ []) image

@@ -5,7 +5,7 @@ use Rattle.life_table.specs.Meaning.{Answer, Becomes, Ambiguous}
 use Rattle.life_strip.specs.Given.{GivenRun, IsNext, state_by}
 use Rattle.life_sweep.specs.Around.{before, after}
 use Rattle.life_sweep.specs.Rows.{IsFrom, Precedes, IsFar, IsFarRow, IsBlankBefore, column_at, no_column, first_coordinate, IsWindow, GoesOn, states_of}
-use Rattle.life_sweep.specs.Sweep.{states_at, zeros, IsDrawnAt, IsLeft, IsFirstAmbiguous, IsSwept, IsSweptRows, IsPut, IsReady, IsReadyRow}
+use Rattle.life_sweep.specs.Sweep.{states_at, zeros, IsDrawnAt, IsFirstAmbiguous, IsSwept, IsSweptRows, IsPut, IsReady, IsReadyRow}
 use Rattle.life_sweep.specs.declared.column.Column.{Column}
 use Rattle.life_sweep.specs.declared.window.Window.{Window}
 use Rattle.life_sweep.proofs.RowLemmas.{less-or-not, column-is}
@@ -169,29 +169,6 @@ step-in-row A cells old new leaves all y w z quiet on s put others =
     let passed = pass-places A cells old leaves w.x z.x y quiet on.east on.passed s in
     let same = window-states cells y z on.here in
     put-place A cells old new leaves all z.x y passed (subst (λ v. IsPut A v new leaves all z.x y) same (put (passed.clear z.x y (inr (refl, omega (arith, ints)))))) others
-
--- laws that answer the same
-pub put-law : (A B : List ℕ → Answer → Type 0) (states : List ℕ) (drawn : ℤ → ℤ → ℕ) (old new : Bool) (x y : ℤ) → ((v : List ℕ) (a : Answer) → A v a → B v a)
-    → IsPut A states drawn old new x y → IsPut B states drawn old new x y
-put-law A B states drawn old new x y f p = record { next = p.next; answer = f states (Becomes p.next) p.answer; kept = p.kept; stays = p.stays; told = p.told }
-
-drawn-law : (A B : List ℕ → Answer → Type 0) (cells drawn : ℤ → ℤ → ℕ) (leaves : Bool) (x y : ℤ) → ((v : List ℕ) (a : Answer) → A v a → B v a)
-    → IsDrawnAt A cells drawn leaves x y → IsDrawnAt B cells drawn leaves x y
-drawn-law A B cells drawn leaves x y f d = record { next = d.next; answer = f _ _ d.answer; kept = d.kept }
-
-left-law : (A B : List ℕ → Answer → Type 0) (cells : ℤ → ℤ → ℕ) → ((v : List ℕ) (a : Answer) → A v a → B v a) → IsLeft A cells → IsLeft B cells
-left-law A B cells f l = record { x = l.x; y = l.y; next = l.next; answer = f _ _ l.answer; outside = l.outside; nonzero = l.nonzero }
-
-pub rows-law : (A B : List ℕ → Answer → Type 0) (cells drawn : ℤ → ℤ → ℕ) (leaves : Bool) (y : ℤ) → ((v : List ℕ) (a : Answer) → A v a → B v a)
-    → IsSweptRows A cells drawn leaves y → IsSweptRows B cells drawn leaves y
-rows-law A B cells drawn leaves y f s = record {
-  done = λ c r l. drawn-law A B cells drawn leaves c r f (s.done c r l);
-  clear = s.clear;
-  left = λ e. left-law A B cells f (s.left e);
-}
-
-pub first-law : (A B : List ℕ → Answer → Type 0) (cells : ℤ → ℤ → ℕ) (line : ℕ) → ((v : List ℕ) (a : Answer) → A v a → B v a) → IsFirstAmbiguous A cells line → IsFirstAmbiguous B cells line
-first-law A B cells line f h = record { x = h.x; y = h.y; here = f _ _ h.here; before = λ c r p. let b = h.before c r p in (b.0, f _ _ b.1) }
 
 -- a window stopped at an ambiguous place
 pub ambiguous-here : (A : List ℕ → Answer → Type 0) (cells drawn : ℤ → ℤ → ℕ) (leaves : Bool) (y : ℤ) (w z : Window) (line : ℕ) → A zeros (Becomes 0)

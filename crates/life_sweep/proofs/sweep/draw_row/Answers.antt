@@ -1,20 +1,23 @@
-use Rattle.std.proofs.Common.{◌≡◌, inl, inr, ◌<ℤ◌, refl, sym, ◌∙◌, subst, arith, w64, to_z, of_z}
+use Rattle.std.proofs.Common.{◌≡◌, ℕ, ℤ, inl, inr, ◌<ℤ◌, refl, sym, ◌∙◌, subst, arith}
 use Rattle.std.proofs.lemmas.Int.{ints}
 use Rattle.std.proofs.lemmas.Result.{err_from_is_err_and}
 use Rattle.life_quad.proofs.KeepingLemmas.{keeps-same, keeps-then}
 use Rattle.life_strip.specs.Given.{state_by}
 use Rattle.life_sweep.specs.Around.{after}
-use Rattle.life_sweep.specs.Rows.{IsWindowBelow, first_coordinate, states_of}
+use Rattle.life_sweep.specs.Rows.{IsWindow, IsWindowBelow, first_coordinate, states_of}
 use Rattle.life_table.specs.Meaning.{Ambiguous}
 use Rattle.life_sweep.specs.Pen.{drawn_runs}
-use Rattle.life_sweep.specs.Sweep.{IsReadyRow, IsScene, IsSweptRows}
+use Rattle.life_sweep.specs.Sweep.{IsPut, IsReadyRow, IsScene, IsSwept, IsSweptRows}
 use Rattle.life_sweep.proofs.NeedLemmas.{swept-needs}
-use Rattle.life_sweep.proofs.SweepLemmas.{row-ready, ready-later, ready-row, into-row, west-column, step-in-row, out-of-row, put-law, ambiguous-here}
+use Rattle.life_sweep.proofs.PenLemmas.{kept}
+use Rattle.life_sweep.proofs.SweepLemmas.{row-ready, ready-later, ready-row, into-row, west-column, step-in-row, out-of-row, ambiguous-here}
+use Rattle.life_sweep.proofs.sweep.draw_row.Given.{Over}
 use Rattle.life_sweep.proofs.sweep.draw_row.Goals as goal
+use Rattle.life_sweep.proofs.sweep.draw_row.Goals.{After-draw_place}
 
 pub loop-window-init : goal.loop-window-init
 loop-window-init g c =
-    let y = to_z w64 (of_z w64 c.args.y) in
+    let y = kept c.args.y in
     let e : c.args.y ≡ y = omega (arith, ints, c.ranges.y) in
     let w = c.new-window.result in
     let west : after w.x <ℤ first_coordinate = omega (arith, ints, c.new-window.ensures.start) in
@@ -37,16 +40,16 @@ draw_place-requires-clause-states g c =
 
 pub draw_place-requires-clause-ready : goal.draw_place-requires-clause-ready
 draw_place-requires-clause-ready g c =
-    let y = to_z w64 (of_z w64 c.args.y) in
+    let y = kept c.args.y in
     let east = c.advance.ensures.east c.loop-window-test.true in
     ready-later (drawn_runs c.loop-window.pen) (after c.loop-window.window.x) c.advance.new.self.x y (omega (arith, ints, east)) c.loop-window.invariant.ready
 
 pub loop-window-preserved : goal.loop-window-preserved
 loop-window-preserved g c =
-    let y = to_z w64 (of_z w64 c.args.y) in
+    let y = kept c.args.y in
+    let z = c.advance.new.self in
     let inv = c.loop-window.invariant in
     let h = c.in_ok-left.ensures in
-    let A = g.L.Law.answers c.args.law.now in
     let old = state_by (drawn_runs c.loop-window.pen) in
     let new = state_by (drawn_runs c.draw_place.new.pen) in
     record {
@@ -58,18 +61,24 @@ loop-window-preserved g c =
       swept = λ cells scene rows.
           let s = inv.swept cells scene rows in
           let on = c.advance.ensures.window c.loop-window-test.true cells y s.0 in
-          (on.here, step-in-row A cells old new c.loop-window.left c.in_ok-left.left y c.loop-window.window c.advance.new.self (g.met.L.Law.quiet c.args.law.now) on s.1 (λ e. put-law (g.L.Law.answers c.loop-window.law) A _ new _ _ _ y (λ v a. subst (λ law. g.L.Law.answers law v a) inv.same) (h.put e)) h.others);
+          let put : old z.x y ≡ 0 → IsPut (g.L.Law.answers c.args.law.now) (states_of z) new c.loop-window.left c.in_ok-left.left z.x y = (λ e. subst (λ law. IsPut (g.L.Law.answers law) (states_of z) new c.loop-window.left c.in_ok-left.left z.x y) inv.same (h.put e)) in
+          (on.here, step-in-row (g.L.Law.answers c.args.law.now) cells old new c.loop-window.left c.in_ok-left.left y c.loop-window.window z (g.met.L.Law.quiet c.args.law.now) on s.1 put h.others);
       keeps = keeps-then inv.keeps h.keeps;
     }
 
+-- the places of the row so far are drawn
+swept : (g : Over) (c : After-draw_place g) (cells : ℤ → ℤ → ℕ) → IsScene cells c.args.y c.args.rows
+    → IsSweptRows (g.L.Law.answers c.args.law.now) cells (state_by (drawn_runs c.args.pen.now)) c.args.leaves c.args.y
+    → IsWindow cells (kept c.args.y) c.loop-window.window
+    × IsSwept (g.L.Law.answers c.args.law.now) cells (state_by (drawn_runs c.loop-window.pen)) c.loop-window.left (after c.loop-window.window.x) (kept c.args.y)
+swept g c cells scene rows =
+    let e : c.args.y ≡ kept c.args.y = omega (arith, ints, c.ranges.y) in
+    c.loop-window.invariant.swept cells (subst (λ z. IsScene cells z c.args.rows) e scene)
+    (subst (λ z. IsSweptRows (g.L.Law.answers c.args.law.now) cells (state_by (drawn_runs c.args.pen.now)) c.args.leaves z) e rows)
+
 pub returns-in_err-left-clause-refusals : goal.returns-in_err-left-clause-refusals
 returns-in_err-left-clause-refusals g c =
-    let y = to_z w64 (of_z w64 c.args.y) in
-    let e : c.args.y ≡ y = omega (arith, ints, c.ranges.y) in
-    let inv = c.loop-window.invariant in
-    let A = g.L.Law.answers c.args.law.now in
-    let start = state_by (drawn_runs c.args.pen.now) in
-    let old = state_by (drawn_runs c.loop-window.pen) in
+    let z = c.advance.new.self in
     let p = err_from_is_err_and c.from_residual.result c.from_residual.ensures.1 in
     rw (p.1, p.2) (elim c.in_err-left.ensures.refusals [
       | inl full ↦ inl full
@@ -78,22 +87,23 @@ returns-in_err-left-clause-refusals g c =
         | inr d ↦ inr (inr (
           d.0,
           (λ cells scene rows.
-              let s = inv.swept cells (subst (λ z. IsScene cells z c.args.rows) e scene) (subst (λ z. IsSweptRows A cells start c.args.leaves z) e rows) in
-              let on = c.advance.ensures.window c.loop-window-test.true cells y s.0 in
-              ambiguous-here A cells old c.loop-window.left y c.loop-window.window c.advance.new.self _ (g.met.L.Law.quiet c.args.law.now) on s.1 (subst (λ law. g.L.Law.answers law (states_of c.advance.new.self) (Ambiguous c.in_err-left.field-0.0.place.line)) inv.same d.1)),
+              let s = swept g (goal.at.returns-in_err-left-clause-refusals g c).After-draw_place cells scene rows in
+              let on = c.advance.ensures.window c.loop-window-test.true cells (kept c.args.y) s.0 in
+              let here = subst (λ law. g.L.Law.answers law (states_of z) (Ambiguous c.in_err-left.field-0.0.place.line)) c.loop-window.invariant.same d.1 in
+              ambiguous-here (g.L.Law.answers c.args.law.now) cells _ c.loop-window.left _ c.loop-window.window z _ (g.met.L.Law.quiet c.args.law.now) on s.1 here),
         ))
       ]
     ])
 
 pub returns-clause-ready : goal.returns-clause-ready
 returns-clause-ready g c column row l =
-    let y = to_z w64 (of_z w64 c.args.y) in
+    let y = kept c.args.y in
     let e : c.args.y ≡ y = omega (arith, ints, c.ranges.y) in
     ready-row (drawn_runs c.loop-window.pen) (after c.loop-window.window.x) y c.loop-window.invariant.ready column row (omega (arith, ints, l, e))
 
 pub returns-clause-swept : goal.returns-clause-swept
 returns-clause-swept g c cells scene rows =
-    let y = to_z w64 (of_z w64 c.args.y) in
+    let y = kept c.args.y in
     let e : c.args.y ≡ y = omega (arith, ints, c.ranges.y) in
     let A = g.L.Law.answers c.args.law.now in
     let start = state_by (drawn_runs c.args.pen.now) in
@@ -104,17 +114,11 @@ returns-clause-swept g c cells scene rows =
 
 pub returns-in_err-left-clause-needed : goal.returns-in_err-left-clause-needed
 returns-in_err-left-clause-needed g c =
-    let y = to_z w64 (of_z w64 c.args.y) in
-    let e : c.args.y ≡ y = omega (arith, ints, c.ranges.y) in
-    let inv = c.loop-window.invariant in
-    let A = g.L.Law.answers c.args.law.now in
-    let start = state_by (drawn_runs c.args.pen.now) in
-    let runs = drawn_runs c.loop-window.pen in
     let p = err_from_is_err_and c.from_residual.result c.from_residual.ensures.1 in
     rw (p.1, p.2)
     (λ full cells scene rows.
-    let s = inv.swept cells (subst (λ z. IsScene cells z c.args.rows) e scene) (subst (λ z. IsSweptRows A cells start c.args.leaves z) e rows) in
-    swept-needs (g.S.Squares.needs_node c.draw_place.new.squares) A cells runs c.loop-window.left (after c.loop-window.window.x) y s.1 (c.in_err-left.ensures.needed full))
+    let s = swept g (goal.at.returns-in_err-left-clause-needed g c).After-draw_place cells scene rows in
+    swept-needs (g.S.Squares.needs_node c.draw_place.new.squares) (g.L.Law.answers c.args.law.now) cells (drawn_runs c.loop-window.pen) c.loop-window.left _ _ s.1 (c.in_err-left.ensures.needed full))
 
 pub returns-in_err-left-clause-keeps : goal.returns-in_err-left-clause-keeps
 returns-in_err-left-clause-keeps g c = keeps-then c.loop-window.invariant.keeps c.in_err-left.ensures.keeps

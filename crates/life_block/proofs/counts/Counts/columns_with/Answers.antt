@@ -1,19 +1,17 @@
 use Rattle.std.specs.Int.{bit_at}
 use Rattle.std.proofs.Common.{◌∙◌}
 use Rattle.std.proofs.lemmas.Nat.Bits.{bit_at-lt}
-use Rattle.life_block.proofs.WordLemmas.{pick-all, pick-none, bit-and4, same-min4}
+use Rattle.life_block.proofs.WordLemmas.{pick-all, pick-none, bits-picked}
 use Rattle.life_block.proofs.counts.Counts.columns_with.Goals as goal
 
 pub returns-clause-here : goal.returns-clause-here
 returns-clause-here c i l e =
     let s = c.args.self.now in
-    bit-and4 c.with_digit.result c.with_digit-2.result c.with_digit-3.result c.with_digit-4.result i
-    ∙ same-min4 _ _ _ _ _ _ _ _ (c.with_digit.ensures i l) (c.with_digit-2.ensures i l) (c.with_digit-3.ensures i l) (c.with_digit-4.ensures i l)
+    bits-picked _ _ _ _ i (bit_at s.ones i) (bit_at s.twos i) (bit_at s.fours i) (bit_at s.eights i) c.args.count (c.with_digit.ensures i l) (c.with_digit-2.ensures i l) (c.with_digit-3.ensures i l) (c.with_digit-4.ensures i l)
     ∙ pick-all (bit_at s.ones i) (bit_at s.twos i) (bit_at s.fours i) (bit_at s.eights i) c.args.count (bit_at-lt s.ones i) (bit_at-lt s.twos i) (bit_at-lt s.fours i) (bit_at-lt s.eights i) c.requires e
 
 pub returns-clause-others : goal.returns-clause-others
 returns-clause-others c i l ne =
     let s = c.args.self.now in
-    bit-and4 c.with_digit.result c.with_digit-2.result c.with_digit-3.result c.with_digit-4.result i
-    ∙ same-min4 _ _ _ _ _ _ _ _ (c.with_digit.ensures i l) (c.with_digit-2.ensures i l) (c.with_digit-3.ensures i l) (c.with_digit-4.ensures i l)
+    bits-picked _ _ _ _ i (bit_at s.ones i) (bit_at s.twos i) (bit_at s.fours i) (bit_at s.eights i) c.args.count (c.with_digit.ensures i l) (c.with_digit-2.ensures i l) (c.with_digit-3.ensures i l) (c.with_digit-4.ensures i l)
     ∙ pick-none (bit_at s.ones i) (bit_at s.twos i) (bit_at s.fours i) (bit_at s.eights i) c.args.count (bit_at-lt s.ones i) (bit_at-lt s.twos i) (bit_at-lt s.fours i) (bit_at-lt s.eights i) c.requires ne

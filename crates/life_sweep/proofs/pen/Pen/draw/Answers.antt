@@ -5,15 +5,19 @@ use Rattle.life_strip.specs.Given.{GivenRun, IsBehind, IsOnPlane, state_by}
 use Rattle.life_strip.proofs.GivenLemmas.{runs_grow}
 use Rattle.life_sweep.specs.declared.pen.Run.{Run}
 use Rattle.life_sweep.specs.Pen.{drawn_runs, open_runs, one_cell}
-use Rattle.life_sweep.proofs.PenLemmas.{run_of, cell-here, cell-others, longer-here, longer-others, longer-next, kept, goes-on, next-kept}
+use Rattle.life_sweep.proofs.PenLemmas.{run_of, cell-here, cell-others, longer-here, longer-others, longer-next, kept, GoesOn, goes-on, next-kept}
+use Rattle.life_sweep.proofs.pen.Pen.draw.Given.{Over}
 use Rattle.life_sweep.proofs.pen.Pen.draw.Goals as goal
+
+-- the open run goes on with the cell
+on : (g : Over) (c : goal.After-self-1 g) → GoesOn c.args.self.now.builder.runs c.in-Some.run' c.args.x c.args.y c.args.state
+on g c =
+    goes-on c.args.self.now.builder.runs c.args.self.now.unclosed c.in-Some.run' c.args.x c.args.y c.args.state c.in-Some.is c.requires.holding.unclosed (omega (arith, ints, c.ranges.x))
+    (omega (arith, ints, c.ranges.y)) (c.is_continued_by.ensures.0 c.if-is_continued_by.true)
 
 pub returns-then-is_continued_by-clause-holding : goal.returns-then-is_continued_by-clause-holding
 returns-then-is_continued_by-clause-holding g c =
-    let runs = c.args.self.now.builder.runs in
-    let run = c.in-Some.run' in
-    let on = goes-on runs c.args.self.now.unclosed run c.args.x c.args.y c.args.state c.in-Some.is c.requires.holding.unclosed
-    (omega (arith, ints, c.ranges.x)) (omega (arith, ints, c.ranges.y)) (c.is_continued_by.ensures.0 c.if-is_continued_by.true) in
+    let on = on g c in
     record {
       filling = c.requires.holding.filling;
       unclosed = record {
@@ -33,8 +37,7 @@ pub returns-then-is_continued_by-clause-here : goal.returns-then-is_continued_by
 returns-then-is_continued_by-clause-here g c =
     let runs = c.args.self.now.builder.runs in
     let run = c.in-Some.run' in
-    let on = goes-on runs c.args.self.now.unclosed run c.args.x c.args.y c.args.state c.in-Some.is c.requires.holding.unclosed
-    (omega (arith, ints, c.ranges.x)) (omega (arith, ints, c.ranges.y)) (c.is_continued_by.ensures.0 c.if-is_continued_by.true) in
+    let on = on g c in
     let x = kept run.x in
     let y = kept run.y in
     let row : c.args.y ≡ y = sym on.more.same_row ∙ on.row in
@@ -47,8 +50,7 @@ pub returns-then-is_continued_by-clause-others : goal.returns-then-is_continued_
 returns-then-is_continued_by-clause-others g c column row ne =
     let runs = c.args.self.now.builder.runs in
     let run = c.in-Some.run' in
-    let on = goes-on runs c.args.self.now.unclosed run c.args.x c.args.y c.args.state c.in-Some.is c.requires.holding.unclosed
-    (omega (arith, ints, c.ranges.x)) (omega (arith, ints, c.ranges.y)) (c.is_continued_by.ensures.0 c.if-is_continued_by.true) in
+    let on = on g c in
     let x = kept run.x in
     let y = kept run.y in
     let before : drawn_runs c.args.self.now ≡ runs ++ run_of x y run.len run.state ∷ [] =
@@ -63,17 +65,23 @@ pub returns-then-is_continued_by-clause-next : goal.returns-then-is_continued_by
 returns-then-is_continued_by-clause-next g c column row h =
     let runs = c.args.self.now.builder.runs in
     let run = c.in-Some.run' in
-    let on = goes-on runs c.args.self.now.unclosed run c.args.x c.args.y c.args.state c.in-Some.is c.requires.holding.unclosed
-    (omega (arith, ints, c.ranges.x)) (omega (arith, ints, c.ranges.y)) (c.is_continued_by.ensures.0 c.if-is_continued_by.true) in
+    let on = on g c in
     longer-next runs (kept run.x) (kept run.y) run.len run.state c.args.x (sym (ap (λ z. z +ℤ pos run.len) on.column) ∙ on.more.east) column row
     (subst (λ z. IsBehind (one_cell c.args.x z run.state) column row) (sym on.more.same_row ∙ on.row) h)
+
+-- the cell's place is one of numbers of 64 bits
+x-kept : (g : Over) (c : goal.After-self-2-1 g) → c.args.x ≡ kept c.args.x
+x-kept g c = omega (arith, ints, c.ranges.x)
+
+y-kept : (g : Over) (c : goal.After-self-2-1 g) → c.args.y ≡ kept c.args.y
+y-kept g c = omega (arith, ints, c.ranges.y)
 
 pub returns-clause-holding : goal.returns-clause-holding
 returns-clause-holding g c =
     let x = kept c.args.x in
     let y = kept c.args.y in
-    let ex : c.args.x ≡ x = omega (arith, ints, c.ranges.x) in
-    let ey : c.args.y ≡ y = omega (arith, ints, c.ranges.y) in
+    let ex = x-kept g c in
+    let ey = y-kept g c in
     record {
       filling = c.in_ok-close.ensures.filling;
       unclosed = record {
@@ -88,8 +96,8 @@ pub returns-clause-here : goal.returns-clause-here
 returns-clause-here g c =
     let x = kept c.args.x in
     let y = kept c.args.y in
-    let ex : c.args.x ≡ x = omega (arith, ints, c.ranges.x) in
-    let ey : c.args.y ≡ y = omega (arith, ints, c.ranges.y) in
+    let ex = x-kept g c in
+    let ey = y-kept g c in
     let runs = c.close.new.self.builder.runs in
     let all = runs ++ one_cell x y c.args.state ∷ [] in
     let next = next-kept runs (drawn_runs c.args.self.now) c.args.x c.args.y ex ey c.in_ok-close.ensures.drawn c.requires.next in
@@ -97,8 +105,8 @@ returns-clause-here g c =
 
 pub returns-clause-others : goal.returns-clause-others
 returns-clause-others g c column row ne =
-    let ex : c.args.x ≡ kept c.args.x = omega (arith, ints, c.ranges.x) in
-    let ey : c.args.y ≡ kept c.args.y = omega (arith, ints, c.ranges.y) in
+    let ex = x-kept g c in
+    let ey = y-kept g c in
     let runs = c.close.new.self.builder.runs in
     let next = next-kept runs (drawn_runs c.args.self.now) c.args.x c.args.y ex ey c.in_ok-close.ensures.drawn c.requires.next in
     cell-others runs _ _ c.args.state c.in_ok-close.ensures.filling.order next column row (λ e1 e2. ne (e1 ∙ sym ex) (e2 ∙ sym ey))
@@ -108,7 +116,7 @@ pub returns-clause-next : goal.returns-clause-next
 returns-clause-next g c column row h =
     let x = kept c.args.x in
     let y = kept c.args.y in
-    let ex : c.args.x ≡ x = omega (arith, ints, c.ranges.x) in
-    let ey : c.args.y ≡ y = omega (arith, ints, c.ranges.y) in
+    let ex = x-kept g c in
+    let ey = y-kept g c in
     (runs_grow c.close.new.self.builder.runs (one_cell x y c.args.state) column row).0.1
     (subst (λ z. IsBehind (one_cell z y c.args.state) column row) ex (subst (λ z. IsBehind (one_cell c.args.x z c.args.state) column row) ey h))
