@@ -1,13 +1,12 @@
-use Rattle.std.proofs.Common.{◌≡◌, ◌≤◌, map, refl, sym, ◌∙◌, subst}
+use Rattle.std.proofs.Common.{map, sym, ◌∙◌}
 use Rattle.std.proofs.lemmas.List.Elements.{All-push}
 use Rattle.std.proofs.lemmas.Result.{err_from_is_err_and}
-use Rattle.life_mc.specs.declared.line.Line.TheVariants.{Quad}
 use Rattle.life_canon.specs.Universe.{least_level}
 use Rattle.life_canon.specs.Listing.{with_all, walk}
 use Rattle.life_canon.proofs.Content.{least-one}
 use Rattle.life_canon.proofs.Keys.{still-closed}
-use Rattle.life_canon.proofs.WalkingFacts.{Behind, behind-all, writes-none, writes-two, writes-line, breaks-then, breaks-line, known-skip, absent-keys, fronts}
-use Rattle.life_canon.proofs.WalkingFacts.{quad-line, big, leaf-level, leaf-line, no-leaf, leaf-walk, absent-still, quad-walk, trees-more, number-pushed}
+use Rattle.life_canon.proofs.WalkingFacts.{behind-all, writes-none, writes-line, breaks-line, known-skip, absent-keys, big, leaf-level, leaf-line, leaf-walk, trees-more}
+use Rattle.life_canon.proofs.WalkingFacts.{number-pushed, breaks-nw, breaks-ne, breaks-sw, breaks-se, breaks-own, absent-own, walked-own, writes-own}
 use Rattle.life_canon.proofs.walking.+write_square.Goals as goal
 
 pub returns-in-Some-clause-walked : goal.returns-in-Some-clause-walked
@@ -60,132 +59,81 @@ returns-then-is_leaf-clause-text g t c =
 pub returns-in_err-nw-clause-prefix : goal.returns-in_err-nw-clause-prefix
 returns-in_err-nw-clause-prefix g t c =
     let p = err_from_is_err_and c.from_residual-in_err-nw.result c.from_residual-in_err-nw.ensures.1 in
-    let content = g.S.Squares.content c.args.squares.now in
-    let rule = c.args.rule.now in
-    let m = least_level c.args.rule.now in
-    let all0 = map content c.args.numbers.now.ids in
-    let small = big c.args.rule.now (content c.args.id) c.args.level c.requires.level c.requires.high c.in_default.ensures.number in
-    let whole = with_all all0 (walk (content c.args.id) m) in
-    let far : Behind (with_all all0 (walk (content c.divide.result.nw) m)) whole = (fronts m (content c.args.id) _ _ _ _ all0 _ _ _ small c.divide.ensures.square refl refl refl).one in
-    let answer = breaks-then rule all0 all0 (walk (content c.divide.result.nw) m) whole (writes-none rule all0)
-    c.in_err-nw.ensures.prefix far in
+    let answer = breaks-nw (g.S.Squares.content c.args.squares.now) c.args.rule.now c.args.id _ _ _ _ c.args.numbers.now.ids c.divide.ensures.square
+    (big c.args.rule.now (g.S.Squares.content c.args.squares.now c.args.id) c.args.level c.requires.level c.requires.high c.in_default.ensures.number)
+    c.in_err-nw.ensures.prefix in
     rw p.1 answer
 
 pub returns-in_err-ne-clause-prefix : goal.returns-in_err-ne-clause-prefix
 returns-in_err-ne-clause-prefix g t c =
     let p = err_from_is_err_and c.from_residual-in_err-ne.result c.from_residual-in_err-ne.ensures.1 in
-    let content = g.S.Squares.content c.args.squares.now in
-    let rule = c.args.rule.now in
-    let m = least_level c.args.rule.now in
-    let all0 = map content c.args.numbers.now.ids in
-    let all1 = map content c.write_square.new.numbers.ids in
-    let small = big c.args.rule.now (content c.args.id) c.args.level c.requires.level c.requires.high c.in_default.ensures.number in
-    let whole = with_all all0 (walk (content c.args.id) m) in
-    let far : Behind (with_all all1 (walk (content c.divide.result.ne) m)) whole = (fronts m (content c.args.id) _ _ _ _ all0 _ _ _ small c.divide.ensures.square c.in_ok-nw.ensures.walked refl refl).two in
-    let answer = breaks-then rule all0 all1 (walk (content c.divide.result.ne) m) whole c.in_ok-nw.ensures.text
-    c.in_err-ne.ensures.prefix far in
+    let answer = breaks-ne (g.S.Squares.content c.args.squares.now) c.args.rule.now c.args.id _ _ _ _ c.args.numbers.now.ids c.divide.ensures.square
+    (big c.args.rule.now (g.S.Squares.content c.args.squares.now c.args.id) c.args.level c.requires.level c.requires.high c.in_default.ensures.number)
+    c.write_square.new.numbers.ids
+    c.in_ok-nw.ensures.walked
+    c.in_ok-nw.ensures.text c.in_err-ne.ensures.prefix in
     rw p.1 answer
 
 pub returns-in_err-sw-clause-prefix : goal.returns-in_err-sw-clause-prefix
 returns-in_err-sw-clause-prefix g t c =
     let p = err_from_is_err_and c.from_residual-in_err-sw.result c.from_residual-in_err-sw.ensures.1 in
-    let content = g.S.Squares.content c.args.squares.now in
-    let rule = c.args.rule.now in
-    let m = least_level c.args.rule.now in
-    let all0 = map content c.args.numbers.now.ids in
-    let all1 = map content c.write_square.new.numbers.ids in
-    let all2 = map content c.write_square-2.new.numbers.ids in
-    let small = big c.args.rule.now (content c.args.id) c.args.level c.requires.level c.requires.high c.in_default.ensures.number in
-    let whole = with_all all0 (walk (content c.args.id) m) in
-    let far : Behind (with_all all2 (walk (content c.divide.result.sw) m)) whole = (fronts m (content c.args.id) _ _ _ _ all0 _ _ _ small c.divide.ensures.square c.in_ok-nw.ensures.walked c.in_ok-ne.ensures.walked refl).three in
-    let answer = breaks-then rule all0 all2 (walk (content c.divide.result.sw) m) whole (writes-two rule all0 all1 (walk (content c.divide.result.ne) m) all2 c.in_ok-nw.ensures.text c.in_ok-ne.ensures.text c.in_ok-ne.ensures.walked)
-    c.in_err-sw.ensures.prefix far in
+    let answer = breaks-sw (g.S.Squares.content c.args.squares.now) c.args.rule.now c.args.id _ _ _ _ c.args.numbers.now.ids c.divide.ensures.square
+    (big c.args.rule.now (g.S.Squares.content c.args.squares.now c.args.id) c.args.level c.requires.level c.requires.high c.in_default.ensures.number)
+    c.write_square.new.numbers.ids c.write_square-2.new.numbers.ids
+    c.in_ok-nw.ensures.walked c.in_ok-ne.ensures.walked
+    c.in_ok-nw.ensures.text c.in_ok-ne.ensures.text c.in_err-sw.ensures.prefix in
     rw p.1 answer
 
 pub returns-in_err-se-clause-prefix : goal.returns-in_err-se-clause-prefix
 returns-in_err-se-clause-prefix g t c =
     let p = err_from_is_err_and c.from_residual-in_err-se.result c.from_residual-in_err-se.ensures.1 in
-    let content = g.S.Squares.content c.args.squares.now in
-    let rule = c.args.rule.now in
-    let m = least_level c.args.rule.now in
-    let all0 = map content c.args.numbers.now.ids in
-    let all1 = map content c.write_square.new.numbers.ids in
-    let all2 = map content c.write_square-2.new.numbers.ids in
-    let all3 = map content c.write_square-3.new.numbers.ids in
-    let small = big c.args.rule.now (content c.args.id) c.args.level c.requires.level c.requires.high c.in_default.ensures.number in
-    let whole = with_all all0 (walk (content c.args.id) m) in
-    let far : Behind (with_all all3 (walk (content c.divide.result.se) m)) whole = (fronts m (content c.args.id) _ _ _ _ all0 _ _ _ small c.divide.ensures.square c.in_ok-nw.ensures.walked c.in_ok-ne.ensures.walked c.in_ok-sw.ensures.walked).four in
-    let answer = breaks-then rule all0 all3 (walk (content c.divide.result.se) m) whole (writes-two rule all0 all2 (walk (content c.divide.result.sw) m) all3 (writes-two rule all0 all1 (walk (content c.divide.result.ne) m) all2 c.in_ok-nw.ensures.text c.in_ok-ne.ensures.text c.in_ok-ne.ensures.walked) c.in_ok-sw.ensures.text c.in_ok-sw.ensures.walked)
-    c.in_err-se.ensures.prefix far in
+    let answer = breaks-se (g.S.Squares.content c.args.squares.now) c.args.rule.now c.args.id _ _ _ _ c.args.numbers.now.ids c.divide.ensures.square
+    (big c.args.rule.now (g.S.Squares.content c.args.squares.now c.args.id) c.args.level c.requires.level c.requires.high c.in_default.ensures.number)
+    c.write_square.new.numbers.ids c.write_square-2.new.numbers.ids c.write_square-3.new.numbers.ids
+    c.in_ok-nw.ensures.walked c.in_ok-ne.ensures.walked c.in_ok-sw.ensures.walked
+    c.in_ok-nw.ensures.text c.in_ok-ne.ensures.text c.in_ok-sw.ensures.text c.in_err-se.ensures.prefix in
     rw p.1 answer
 
 pub returns-in_err-write_line-2-clause-prefix : goal.returns-in_err-write_line-2-clause-prefix
 returns-in_err-write_line-2-clause-prefix g t c =
     let p = err_from_is_err_and c.from_residual-in_err-write_line-2.result c.from_residual-in_err-write_line-2.ensures.1 in
-    let content = g.S.Squares.content c.args.squares.now in
-    let rule = c.args.rule.now in
-    let m = least_level c.args.rule.now in
-    let all0 = map content c.args.numbers.now.ids in
-    let all1 = map content c.write_square.new.numbers.ids in
-    let all2 = map content c.write_square-2.new.numbers.ids in
-    let all3 = map content c.write_square-3.new.numbers.ids in
-    let all4 = map content c.write_square-4.new.numbers.ids in
-    let small = big c.args.rule.now (content c.args.id) c.args.level c.requires.level c.requires.high c.in_default.ensures.number in
-    let whole = with_all all0 (walk (content c.args.id) m) in
-    let far : Behind all4 whole = subst (λ l. Behind l whole) (sym c.in_ok-se.ensures.walked) (fronts m (content c.args.id) _ _ _ _ all0 _ _ _ small c.divide.ensures.square c.in_ok-nw.ensures.walked c.in_ok-ne.ensures.walked c.in_ok-sw.ensures.walked).four in
-    let answer = breaks-line rule all0 all4 whole (writes-two rule all0 all3 (walk (content c.divide.result.se) m) all4 (writes-two rule all0 all2 (walk (content c.divide.result.sw) m) all3 (writes-two rule all0 all1 (walk (content c.divide.result.ne) m) all2 c.in_ok-nw.ensures.text c.in_ok-ne.ensures.text c.in_ok-ne.ensures.walked) c.in_ok-sw.ensures.text c.in_ok-sw.ensures.walked) c.in_ok-se.ensures.text c.in_ok-se.ensures.walked)
-    c.in_err-write_line-2.ensures.prefix far in
+    let answer = breaks-own (g.S.Squares.content c.args.squares.now) c.args.rule.now c.args.id _ _ _ _ c.args.numbers.now.ids c.divide.ensures.square
+    c.write_square.new.numbers.ids c.write_square-2.new.numbers.ids c.write_square-3.new.numbers.ids c.write_square-4.new.numbers.ids
+    c.in_ok-nw.ensures.walked c.in_ok-ne.ensures.walked c.in_ok-sw.ensures.walked c.in_ok-se.ensures.walked
+    (big c.args.rule.now (g.S.Squares.content c.args.squares.now c.args.id) c.args.level c.requires.level c.requires.high c.in_default.ensures.number)
+    c.in_ok-nw.ensures.text c.in_ok-ne.ensures.text c.in_ok-sw.ensures.text c.in_ok-se.ensures.text c.in_err-write_line-2.ensures.prefix in
     rw p.1 answer
 
 pub push-requires-2-clause-new : goal.push-requires-2-clause-new
 push-requires-2-clause-new g t c =
-    let content = g.S.Squares.content c.args.squares.now in
-    let m = least_level c.args.rule.now in
-    let all0 = map content c.args.numbers.now.ids in
-    let all1 = map content c.write_square.new.numbers.ids in
-    let all2 = map content c.write_square-2.new.numbers.ids in
-    let all3 = map content c.write_square-3.new.numbers.ids in
-    let all4 = map content c.write_square-4.new.numbers.ids in
-    absent-keys content c.args.id c.write_square-4.new.numbers.ids
+    absent-keys (g.S.Squares.content c.args.squares.now) c.args.id c.write_square-4.new.numbers.ids
     (λ k d l e. g.met.S.SharedSquares.same_id c.args.squares.now _ c.args.id (c.in_ok-se.ensures.numbers k d l) c.requires.id e)
-    (absent-still m (content c.args.id) _ _ _ _ all0 all1 all2 all3 all4 (g.met.S.Squares.full _ _ c.requires.id) c.divide.ensures.square
-    c.in_ok-nw.ensures.walked c.in_ok-ne.ensures.walked c.in_ok-sw.ensures.walked c.in_ok-se.ensures.walked c.in_default.ensures.there)
+    (absent-own (g.S.Squares.content c.args.squares.now) c.args.rule.now c.args.id _ _ _ _ c.args.numbers.now.ids c.divide.ensures.square
+    c.write_square.new.numbers.ids c.write_square-2.new.numbers.ids c.write_square-3.new.numbers.ids c.write_square-4.new.numbers.ids
+    c.in_ok-nw.ensures.walked c.in_ok-ne.ensures.walked c.in_ok-sw.ensures.walked c.in_ok-se.ensures.walked
+    (g.met.S.Squares.full _ _ c.requires.id) c.in_default.ensures.there)
 
 pub returns-clause-walked : goal.returns-clause-walked
 returns-clause-walked g t c =
-    let content = g.S.Squares.content c.args.squares.now in
-    let rule = c.args.rule.now in
-    let m = least_level c.args.rule.now in
-    let all0 = map content c.args.numbers.now.ids in
-    let all1 = map content c.write_square.new.numbers.ids in
-    let all2 = map content c.write_square-2.new.numbers.ids in
-    let all3 = map content c.write_square-3.new.numbers.ids in
-    let all4 = map content c.write_square-4.new.numbers.ids in
-    let small = big c.args.rule.now (content c.args.id) c.args.level c.requires.level c.requires.high c.in_default.ensures.number in
-    quad-walk rule (content c.args.id) _ _ _ _ all0 all1 all2 all3 all4 (map content c.push-2.new.self.ids) small c.divide.ensures.square
+    walked-own (g.S.Squares.content c.args.squares.now) c.args.rule.now c.args.id _ _ _ _ c.args.numbers.now.ids c.divide.ensures.square
+    c.write_square.new.numbers.ids c.write_square-2.new.numbers.ids c.write_square-3.new.numbers.ids c.write_square-4.new.numbers.ids
     c.in_ok-nw.ensures.walked c.in_ok-ne.ensures.walked c.in_ok-sw.ensures.walked c.in_ok-se.ensures.walked
-    (absent-still m (content c.args.id) _ _ _ _ all0 all1 all2 all3 all4 (g.met.S.Squares.full _ _ c.requires.id) c.divide.ensures.square
-    c.in_ok-nw.ensures.walked c.in_ok-ne.ensures.walked c.in_ok-sw.ensures.walked c.in_ok-se.ensures.walked c.in_default.ensures.there)
-    (trees-more content c.write_square-4.new.numbers.ids c.push-2.new.self.ids c.args.id c.push-2.ensures.added)
+    c.push-2.new.self.ids (big c.args.rule.now (g.S.Squares.content c.args.squares.now c.args.id) c.args.level c.requires.level c.requires.high c.in_default.ensures.number) (g.met.S.Squares.full _ _ c.requires.id)
+    c.in_default.ensures.there c.push-2.ensures.added
 
 pub returns-clause-closed : goal.returns-clause-closed
 returns-clause-closed g t c =
-    let content = g.S.Squares.content c.args.squares.now in
-    still-closed (content c.args.id) (least_level c.args.rule.now) (map content c.args.numbers.now.ids) (map content c.push-2.new.self.ids) (least-one c.args.rule.now) c.requires.closed
-    (returns-clause-walked g t c)
+    still-closed (g.S.Squares.content c.args.squares.now c.args.id) (least_level c.args.rule.now) (map (g.S.Squares.content c.args.squares.now) c.args.numbers.now.ids) (map (g.S.Squares.content c.args.squares.now) c.push-2.new.self.ids)
+    (least-one c.args.rule.now) c.requires.closed (returns-clause-walked g t c)
 
 pub returns-clause-number : goal.returns-clause-number
 returns-clause-number g t c =
-    let content = g.S.Squares.content c.args.squares.now in
-    let m = least_level c.args.rule.now in
-    let all0 = map content c.args.numbers.now.ids in
-    let all1 = map content c.write_square.new.numbers.ids in
-    let all2 = map content c.write_square-2.new.numbers.ids in
-    let all3 = map content c.write_square-3.new.numbers.ids in
-    let all4 = map content c.write_square-4.new.numbers.ids in
-    number-pushed content c.write_square-4.new.numbers.ids c.push-2.new.self.ids c.args.id c.push-2.ensures.added c.push-2.result c.push-2.ensures.number c.in_default.ensures.number
-    (absent-still m (content c.args.id) _ _ _ _ all0 all1 all2 all3 all4 (g.met.S.Squares.full _ _ c.requires.id) c.divide.ensures.square
-    c.in_ok-nw.ensures.walked c.in_ok-ne.ensures.walked c.in_ok-sw.ensures.walked c.in_ok-se.ensures.walked c.in_default.ensures.there)
+    number-pushed (g.S.Squares.content c.args.squares.now) c.write_square-4.new.numbers.ids c.push-2.new.self.ids c.args.id c.push-2.ensures.added c.push-2.result c.push-2.ensures.number
+    c.in_default.ensures.number
+    (absent-own (g.S.Squares.content c.args.squares.now) c.args.rule.now c.args.id _ _ _ _ c.args.numbers.now.ids c.divide.ensures.square
+    c.write_square.new.numbers.ids c.write_square-2.new.numbers.ids c.write_square-3.new.numbers.ids c.write_square-4.new.numbers.ids
+    c.in_ok-nw.ensures.walked c.in_ok-ne.ensures.walked c.in_ok-sw.ensures.walked c.in_ok-se.ensures.walked
+    (g.met.S.Squares.full _ _ c.requires.id) c.in_default.ensures.there)
 
 pub returns-clause-numbers : goal.returns-clause-numbers
 returns-clause-numbers g t c =
@@ -193,19 +141,9 @@ returns-clause-numbers g t c =
 
 pub returns-clause-text : goal.returns-clause-text
 returns-clause-text g t c =
-    let content = g.S.Squares.content c.args.squares.now in
-    let rule = c.args.rule.now in
-    let m = least_level c.args.rule.now in
-    let all0 = map content c.args.numbers.now.ids in
-    let all1 = map content c.write_square.new.numbers.ids in
-    let all2 = map content c.write_square-2.new.numbers.ids in
-    let all3 = map content c.write_square-3.new.numbers.ids in
-    let all4 = map content c.write_square-4.new.numbers.ids in
-    writes-line rule all0 all4 (map content c.push-2.new.self.ids) (content c.args.id) (Quad c.args.level c.in_ok-nw.nw c.in_ok-ne.ne c.in_ok-sw.sw c.in_ok-se.se)
-    (trees-more content c.write_square-4.new.numbers.ids c.push-2.new.self.ids c.args.id c.push-2.ensures.added)
-    (writes-two rule all0 all3 (walk (content c.divide.result.se) m) all4 (writes-two rule all0 all2 (walk (content c.divide.result.sw) m) all3 (writes-two rule all0 all1 (walk (content c.divide.result.ne) m) all2 c.in_ok-nw.ensures.text c.in_ok-ne.ensures.text c.in_ok-ne.ensures.walked) c.in_ok-sw.ensures.text c.in_ok-sw.ensures.walked) c.in_ok-se.ensures.text c.in_ok-se.ensures.walked)
-    c.in_ok-write_line-2.ensures.front
-    (λ all rest e. quad-line rule (content c.args.id) _ _ _ _ c.args.level _ _ _ _ all0 all1 all2 all3 all4 all rest c.divide.ensures.square (g.met.S.Squares.full _ _ c.requires.id)
-    (λ r. subst (λ n. 3 ≤ n) c.requires.level (c.requires.high r)) (no-leaf rule (content c.args.id) c.args.level c.requires.level (sym c.is_leaf.ensures ∙ c.if-is_leaf.false))
-    c.requires.level c.requires.closed c.in_ok-nw.ensures.walked c.in_ok-ne.ensures.walked c.in_ok-sw.ensures.walked c.in_ok-se.ensures.walked
-    c.in_ok-nw.ensures.number c.in_ok-ne.ensures.number c.in_ok-sw.ensures.number c.in_ok-se.ensures.number e)
+    writes-own (g.S.Squares.content c.args.squares.now) c.args.rule.now c.args.id _ _ _ _ c.args.numbers.now.ids c.divide.ensures.square
+    c.write_square.new.numbers.ids c.write_square-2.new.numbers.ids c.write_square-3.new.numbers.ids c.write_square-4.new.numbers.ids
+    c.in_ok-nw.ensures.walked c.in_ok-ne.ensures.walked c.in_ok-sw.ensures.walked c.in_ok-se.ensures.walked
+    c.args.level _ _ _ _ c.push-2.new.self.ids c.push-2.ensures.added (g.met.S.Squares.full _ _ c.requires.id) c.requires.closed c.requires.level c.requires.high
+    (sym c.is_leaf.ensures ∙ c.if-is_leaf.false) c.in_ok-nw.ensures.number c.in_ok-ne.ensures.number c.in_ok-sw.ensures.number c.in_ok-se.ensures.number
+    c.in_ok-nw.ensures.text c.in_ok-ne.ensures.text c.in_ok-sw.ensures.text c.in_ok-se.ensures.text c.in_ok-write_line-2.ensures.front

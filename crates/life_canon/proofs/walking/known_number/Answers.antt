@@ -1,6 +1,5 @@
 use Rattle.std.proofs.Common.{◌≡◌, ◌≤◌, sym, ◌∙◌, false}
 use Rattle.life_base.specs.Tree.{depth, is_blank_tree}
-use Rattle.life_quad.specs.declared.id.Id.{Id}
 use Rattle.life_canon.proofs.WalkingFacts.{number-keys, there-keys}
 use Rattle.life_canon.proofs.walking.known_number.Goals as goal
 
