@@ -1,5 +1,6 @@
 -- The quarters of a listed square.
-use Rattle.std.proofs.Common.{◌≡◌, ℕ, suc, ◌+◌, ◌-◌, ◌^◌, ◌<◌, ◌≤◌, true, false, ◌&&◌, List, [], ◌∷◌, ◌++◌, length, take, map, get_or, refl, ap, sym, ◌∙◌, subst, arith, add-one}
+use Rattle.std.proofs.Common.{◌≡◌, ℕ, suc, ◌+◌, ◌-◌, ◌^◌, ◌<◌, ◌≤◌, true, false, ◌&&◌, List, [], ◌∷◌, ◌++◌, length, take, map, get_or, refl, ap, sym}
+use Rattle.std.proofs.Common.{◌∙◌, subst, arith, add-one}
 use Rattle.std.proofs.Math.Seq.{take-suc}
 use Rattle.std.proofs.lemmas.Grind.{flat_map-append}
 use Rattle.std.specs.Prelude.{◌==◌, ℤ, Contains, flat_map}
@@ -136,5 +137,6 @@ more-lines {K} text before now new keys items i d e l was is =
     subst P (sym e)
     (λ h n. n ∙ ap (λ t. t ++ text (get_or keys i d)) was ∙ append_assoc before (flat_map text (take i keys)) (text (get_or keys i d))
     ∙ ap (λ t. before ++ (flat_map text (take i keys) ++ t)) (sym (append-nil (text (get_or keys i d))))
-    ∙ sym (ap (λ t. before ++ t) (ap (λ n. flat_map text (take n keys)) (add-one i) ∙ ap (flat_map text) (take-suc keys i d h) ∙ flat_map-append text (take i keys) (get_or keys i d ∷ []))))
+    ∙ sym (ap (λ t. before ++ t) (ap (λ n. flat_map text (take n keys)) (add-one i) ∙ ap (flat_map text) (take-suc keys i d h) ∙ flat_map-append text
+    (take i keys) (get_or keys i d ∷ []))))
     l is

@@ -98,7 +98,8 @@ front-more old new rest all p e = e ∙ ap (λ l. l ++ rest) p.1 ∙ append_asso
 
 module _ (rule : Rule) {a b : Option (List ℕ)} {h l : List ℕ} (old mid : List Tree) where
   -- a walk that breaks behind a call
-  pub breaks-then : {c : Option (List ℕ)} (ws far : List Tree) → WritesOn rule a b h l old mid → BreaksIn rule b c l mid (with_all mid ws) → Behind (with_all mid ws) far
+  pub breaks-then : {c : Option (List ℕ)} (ws far : List Tree) → WritesOn rule a b h l old mid → BreaksIn rule b c l mid (with_all mid ws)
+      → Behind (with_all mid ws) far
       → BreaksIn rule a c h old far
   breaks-then ws far u v q = λ start begun all rest e w.
       let p = behind-all mid ws in
@@ -106,7 +107,8 @@ module _ (rule : Rule) {a b : Option (List ℕ)} {h l : List ℕ} (old mid : Lis
       v start begun all (q.0 ++ rest) more (u start begun all (p.0 ++ (q.0 ++ rest)) (front-more mid (with_all mid ws) (q.0 ++ rest) all p more) w)
 
   -- a line behind a call
-  pub writes-line : {c : Option (List ℕ)} {k : List ℕ} (new : List Tree) (t : Tree) (line : Line) → new ≡ mid ++ t ∷ [] → WritesOn rule a b h l old mid → WritesFront b c (l ++ node_text line) k
+  pub writes-line : {c : Option (List ℕ)} {k : List ℕ} (new : List Tree) (t : Tree) (line : Line) → new ≡ mid ++ t ∷ [] → WritesOn rule a b h l old mid
+      → WritesFront b c (l ++ node_text line) k
       → ((all rest : List Tree) → all ≡ (mid ++ t ∷ []) ++ rest → line ≡ line_of rule all t) → WritesOn rule a c h k old new
   writes-line {c = c} {k = k} new t line n u v is = subst (WritesOn rule a c h k old) (sym n) (λ start begun all rest e w.
       let before = u start begun all (t ∷ rest) (e ∙ append_assoc mid (t ∷ []) rest) w in
@@ -241,7 +243,8 @@ pub no-leaf : (rule : Rule) (t : Tree) (level : ℕ) → level ≡ depth t → (
 no-leaf rule t level l h = ap (λ n. is_life rule && n == 3) (sym l) ∙ h
 
 -- a square of the least level is added alone
-pub leaf-walk : (rule : Rule) (t : Tree) (all new : List Tree) → is_small (least_level rule) t ≡ false → IsFull t → depth t ≡ least_level rule → is_in all t ≡ false
+pub leaf-walk : (rule : Rule) (t : Tree) (all new : List Tree) → is_small (least_level rule) t ≡ false → IsFull t → depth t ≡ least_level rule
+    → is_in all t ≡ false
     → new ≡ all ++ t ∷ [] → new ≡ with_all all (walk t (least_level rule))
 leaf-walk rule t all new small full l absent e = least-step t (least_level rule) all new (least-one rule) small full l (e ∙ sym (with_new-fresh all t absent))
 
@@ -284,25 +287,33 @@ Wrote content rule a b h l old new = WritesOn rule a b h l (map content old) (ma
 abbrev Broke : (Id → Tree) → Rule → Id → Option (List ℕ) → Option (List ℕ) → List ℕ → List Id → List Id → Type 0
 Broke content rule q a b h begun old = BreaksIn rule a b h (map content begun) (with_all (map content old) (walk (content q) (least_level rule)))
 
-module _ (content : Id → Tree) (rule : Rule) (id nw ne sw se : Id) (old : List Id) (square : content id ≡ quad (content nw) (content ne) (content sw) (content se)) where
+module _ (content : Id → Tree) (rule : Rule) (id nw ne sw se : Id) (old : List Id)
+    (square : content id ≡ quad (content nw) (content ne) (content sw) (content se)) where
   behind-one : (q : Id) (mid new : List Id) → HasWalked content rule q mid new → Behind (map content mid) (map content new)
   behind-one q mid new p = subst (Behind (map content mid)) (sym p) (behind-all (map content mid) (walk (content q) (least_level rule)))
 
-  both : {a b c : Option (List ℕ)} {h l k : List ℕ} (q : Id) (mid new : List Id) → Wrote content rule a b h l old mid → Wrote content rule b c l k mid new → HasWalked content rule q mid new
+  both : {a b c : Option (List ℕ)} {h l k : List ℕ} (q : Id) (mid new : List Id) → Wrote content rule a b h l old mid → Wrote content rule b c l k mid new
+      → HasWalked content rule q mid new
       → Wrote content rule a c h k old new
   both q mid new u v p = λ start begun all rest e w.
       let b = behind-one q mid new p in
       v start begun all rest e (u start begun all (b.0 ++ rest) (front-more (map content mid) (map content new) rest all b e) w)
 
   module _ (small : is_small (least_level rule) (content id) ≡ false) where
-    begun : (all1 all2 all3 : List Tree) → all1 ≡ with_all (map content old) (walk (content nw) (least_level rule)) → all2 ≡ with_all all1 (walk (content ne) (least_level rule))
+    begun : (all1 all2 all3 : List Tree) → all1 ≡ with_all (map content old) (walk (content nw) (least_level rule))
+        → all2 ≡ with_all all1 (walk (content ne) (least_level rule))
         → all3 ≡ with_all all2 (walk (content sw) (least_level rule))
         → Fronts (least_level rule) (content ne) (content sw) (content se) all1 all2 all3 (with_all (map content old) (walk (content id) (least_level rule)))
-    begun all1 all2 all3 = fronts (least_level rule) (content id) (content nw) (content ne) (content sw) (content se) (map content old) all1 all2 all3 small square
+    begun all1 all2 all3 =
+        fronts (least_level rule) (content id) (content nw) (content ne) (content sw) (content se) (map content old) all1 all2 all3 small square
 
-    breaks : {a b c : Option (List ℕ)} {h l : List ℕ} (q : Id) (mid : List Id) → Wrote content rule a b h l old mid → BreaksIn rule b c l (map content mid) (with_all (map content mid) (walk (content q) (least_level rule)))
-        → Behind (with_all (map content mid) (walk (content q) (least_level rule))) (with_all (map content old) (walk (content id) (least_level rule))) → Broke content rule id a c h old old
-    breaks q mid u v b = breaks-then rule (map content old) (map content mid) (walk (content q) (least_level rule)) (with_all (map content old) (walk (content id) (least_level rule))) u v b
+    breaks : {a b c : Option (List ℕ)} {h l : List ℕ} (q : Id) (mid : List Id) → Wrote content rule a b h l old mid
+        → BreaksIn rule b c l (map content mid) (with_all (map content mid) (walk (content q) (least_level rule)))
+        → Behind (with_all (map content mid) (walk (content q) (least_level rule))) (with_all (map content old) (walk (content id) (least_level rule)))
+        → Broke content rule id a c h old old
+    breaks q mid u v b =
+        breaks-then rule (map content old) (map content mid) (walk (content q) (least_level rule))
+        (with_all (map content old) (walk (content id) (least_level rule))) u v b
 
     pub breaks-nw : {a b : Option (List ℕ)} {h : List ℕ} → Broke content rule nw a b h old old → Broke content rule id a b h old old
     breaks-nw v = breaks nw old (writes-none rule (map content old)) v (begun _ _ _ refl refl refl).one
@@ -315,14 +326,17 @@ module _ (content : Id → Tree) (rule : Rule) (id nw ne sw se : Id) (old : List
         → Wrote content rule a b h l old one → Wrote content rule b c l k one two → Broke content rule sw c d k two two → Broke content rule id a d h old old
     breaks-sw one two p q u v x = breaks sw two (both ne one two u v q) x (begun _ _ _ p q refl).three
 
-    pub breaks-se : {a b c d e : Option (List ℕ)} {h l k j : List ℕ} (one two three : List Id) → HasWalked content rule nw old one → HasWalked content rule ne one two
+    pub breaks-se : {a b c d e : Option (List ℕ)} {h l k j : List ℕ} (one two three : List Id) → HasWalked content rule nw old one
+        → HasWalked content rule ne one two
         → HasWalked content rule sw two three → Wrote content rule a b h l old one → Wrote content rule b c l k one two → Wrote content rule c d k j two three
         → Broke content rule se d e j three three → Broke content rule id a e h old old
     breaks-se one two three p q r u v x y = breaks se three (both sw two three (both ne one two u v q) x r) y (begun _ _ _ p q r).four
 
-  module _ (one two three four : List Id) (p : HasWalked content rule nw old one) (q : HasWalked content rule ne one two) (r : HasWalked content rule sw two three)
+  module _ (one two three four : List Id) (p : HasWalked content rule nw old one) (q : HasWalked content rule ne one two)
+      (r : HasWalked content rule sw two three)
       (s : HasWalked content rule se three four) where
-    wrote-four : {a b c d e : Option (List ℕ)} {h l k j i : List ℕ} → Wrote content rule a b h l old one → Wrote content rule b c l k one two → Wrote content rule c d k j two three
+    wrote-four : {a b c d e : Option (List ℕ)} {h l k j i : List ℕ} → Wrote content rule a b h l old one → Wrote content rule b c l k one two
+        → Wrote content rule c d k j two three
         → Wrote content rule d e j i three four → Wrote content rule a e h i old four
     wrote-four u v x y = both se three four (both sw two three (both ne one two u v q) x r) y s
 
@@ -335,21 +349,26 @@ module _ (content : Id → Tree) (rule : Rule) (id nw ne sw se : Id) (old : List
         (subst (λ l. Behind l whole) (sym s) (begun small (map content one) (map content two) (map content three) p q r).four)
 
     pub absent-own : IsFull (content id) → is_in (map content old) (content id) ≡ false → is_in (map content four) (content id) ≡ false
-    absent-own full absent = absent-still (least_level rule) (content id) (content nw) (content ne) (content sw) (content se) _ _ _ _ _ full square p q r s absent
+    absent-own full absent =
+        absent-still (least_level rule) (content id) (content nw) (content ne) (content sw) (content se) _ _ _ _ _ full square p q r s absent
 
-    pub walked-own : (new : List Id) → is_small (least_level rule) (content id) ≡ false → IsFull (content id) → is_in (map content old) (content id) ≡ false → new ≡ four ++ id ∷ []
+    pub walked-own : (new : List Id) → is_small (least_level rule) (content id) ≡ false → IsFull (content id) → is_in (map content old) (content id) ≡ false
+        → new ≡ four ++ id ∷ []
         → HasWalked content rule id old new
     walked-own new small full absent added =
-        quad-walk rule (content id) (content nw) (content ne) (content sw) (content se) _ _ _ _ _ _ small square p q r s (absent-own full absent) (trees-more content four new id added)
+        quad-walk rule (content id) (content nw) (content ne) (content sw) (content se) _ _ _ _ _ _ small square p q r s (absent-own full absent)
+        (trees-more content four new id added)
 
-    pub writes-own : {a b c d e f : Option (List ℕ)} {h l k j i o : List ℕ} (level na nb nc nd : ℕ) (new : List Id) → new ≡ four ++ id ∷ [] → IsFull (content id)
+    pub writes-own : {a b c d e f : Option (List ℕ)} {h l k j i o : List ℕ} (level na nb nc nd : ℕ) (new : List Id) → new ≡ four ++ id ∷ []
+        → IsFull (content id)
         → IsClosed (least_level rule) (map content old) → level ≡ depth (content id) → (is_life rule ≡ true → 3 ≤ level) → (is_life rule && level == 3) ≡ false
         → na ≡ number_of (map content one) (content nw) → nb ≡ number_of (map content two) (content ne) → nc ≡ number_of (map content three) (content sw)
         → nd ≡ number_of (map content four) (content se)
         → Wrote content rule a b h l old one → Wrote content rule b c l k one two → Wrote content rule c d k j two three → Wrote content rule d e j i three four
         → WritesFront e f (i ++ node_text (Quad level na nb nc nd)) o → Wrote content rule a f h o old new
     writes-own level na nb nc nd new added full closed is high other ea eb ec ed u v x y z =
-        writes-line rule (map content old) (map content four) (map content new) (content id) (Quad level na nb nc nd) (trees-more content four new id added) (wrote-four u v x y) z
+        writes-line rule (map content old) (map content four) (map content new) (content id) (Quad level na nb nc nd) (trees-more content four new id added)
+        (wrote-four u v x y) z
         (λ all rest e. quad-line rule (content id) (content nw) (content ne) (content sw) (content se) level na nb nc nd _ _ _ _ _ all rest square full
         (λ l. subst (λ n. 3 ≤ n) is (high l)) (no-leaf rule (content id) level is other) is closed p q r s ea eb ec ed e)
 

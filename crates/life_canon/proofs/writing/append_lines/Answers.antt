@@ -15,8 +15,10 @@ pub loop-id-preserved : goal.loop-id-preserved
 loop-id-preserved g c =
     let content = g.S.Squares.content c.args.squares.now in
     let line = line_of c.args.rule.now (map content c.args.known.now) in
-    more-lines (λ id. node_text (line (content id))) c.args.out.now.items c.loop-id.out.items c.append_line.new.out.items c.args.known.now c.as_slice-id-items.result.now c.loop-id.id-index _
-    c.as_slice-id-items.ensures.ids c.loop-id-test.true c.loop-id.invariant (c.in_ok-append_line.ensures.ok ∙ ap (λ l. c.loop-id.out.items ++ node_text l) c.line_of.ensures)
+    more-lines (λ id. node_text (line (content id))) c.args.out.now.items c.loop-id.out.items c.append_line.new.out.items c.args.known.now
+    c.as_slice-id-items.result.now c.loop-id.id-index _
+    c.as_slice-id-items.ensures.ids c.loop-id-test.true c.loop-id.invariant
+    (c.in_ok-append_line.ensures.ok ∙ ap (λ l. c.loop-id.out.items ++ node_text l) c.line_of.ensures)
 
 pub returns-clause-lines : goal.returns-clause-lines
 returns-clause-lines g c =
