@@ -62,10 +62,11 @@ feed-split bytes i h =
     ∙ ap (λ (b : ℕ). take i bytes ++ b ∷ drop (suc i) bytes) (is-ten (get_or bytes i 0) p.1) ∙ ap (λ (n : ℕ). take i bytes ++ 10 ∷ drop n bytes) same
 
 -- what comes in a piece, in the order of its parts
-pub piece-split : (bytes rest : List ℕ) (i : ℕ) → position is_feed rest ≡ Some i → bytes ++ take i rest ++ 10 ∷ [] ++ drop (i + 1) rest ≡ bytes ++ rest
-piece-split bytes rest i h =
+pub piece-split : {whole : List ℕ} (bytes rest : List ℕ) (i : ℕ) → position is_feed rest ≡ Some i → bytes ++ rest ≡ whole
+    → bytes ++ take i rest ++ 10 ∷ [] ++ drop (i + 1) rest ≡ whole
+piece-split bytes rest i h e =
     append_assoc (bytes ++ take i rest) (10 ∷ []) (drop (i + 1) rest) ∙ append_assoc bytes (take i rest) (10 ∷ drop (i + 1) rest)
-    ∙ ap (λ (r : List ℕ). bytes ++ r) (sym (feed-split rest i h))
+    ∙ ap (λ (r : List ℕ). bytes ++ r) (sym (feed-split rest i h)) ∙ e
 
 -- no answer
 pub is-none : {X : Type 0} (r : Option X) → ((x : X) → r ≡ Some x → ⊥) → r ≡ None

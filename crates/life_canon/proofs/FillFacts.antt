@@ -103,3 +103,15 @@ numbers-of rule levels line level nw ne sw se e h = by (subst (IsSquare MAX_LEVE
         let four = four-of (is_quarter rule levels level) nw ne sw se s.2 in
         let into = λ (number : ℕ) (t : is_quarter rule levels level number ≡ true). subst (λ n. is_quarter rule levels n number ≡ true) (back level s.0) t in
         record { low = s.0; high = s.1; nw = into nw four.first; ne = into ne four.second; sw = into sw four.third; se = into se four.fourth }
+
+-- the square of four quarters that stand for the numbers of a node line
+pub quad-of : (rule : Rule) (lines : List Line) (line : Line) (level nw ne sw se : ℕ) (a b c d : Tree)
+    → line ≡ Quad level nw ne sw se → IsSquare MAX_LEVEL rule (map level_of lines) line
+    → (is_quarter rule (map level_of lines) ((level - 1) + 1) nw ≡ true → a ≡ tree_of lines (level - 1) nw)
+    → (is_quarter rule (map level_of lines) ((level - 1) + 1) ne ≡ true → b ≡ tree_of lines (level - 1) ne)
+    → (is_quarter rule (map level_of lines) ((level - 1) + 1) sw ≡ true → c ≡ tree_of lines (level - 1) sw)
+    → (is_quarter rule (map level_of lines) ((level - 1) + 1) se ≡ true → d ≡ tree_of lines (level - 1) se)
+    → quad a b c d ≡ quad (tree_of lines (level - 1) nw) (tree_of lines (level - 1) ne) (tree_of lines (level - 1) sw) (tree_of lines (level - 1) se)
+quad-of rule lines line level nw ne sw se a b c d e h p q r s =
+    let n = numbers-of rule (map level_of lines) line level nw ne sw se e h in
+    λ i. quad (p n.nw i) (q n.ne i) (r n.sw i) (s n.se i)

@@ -2,6 +2,7 @@
 use Rattle.std.proofs.Common.{◌≡◌, ℕ, zero, suc, ◌+◌, ◌-◌, ◌^◌, ◌<◌, ◌≤◌, Bool, true, false, cond, ◌&&◌, refl, ap, sym, ◌∙◌, subst, arith, ◌⊎◌, inl, inr, ℤ, pos, neg_ℤ, ◌+ℤ◌, ◌≤ℤ◌, ◌<ℤ◌}
 use Rattle.std.specs.Prelude.{nat_lt, int_le, int_lt, unsigned_abs}
 use Rattle.std.specs.List.{list_all}
+use Rattle.std.proofs.Math.Bool.{and_assoc, and-true}
 use Rattle.std.proofs.lemmas.Bool.Decides.{nat_tests}
 use Rattle.std.proofs.lemmas.Int.{ints}
 use Rattle.life_base.specs.Tree.{Tree, point, quad, depth, state_at, half_side, tree_cell, IsFull, is_blank_tree as is_blank}
@@ -52,22 +53,6 @@ depth-full bound l (quad_depth p q r s) h = (
 
 -- ---- trimming, by a count of steps
 
-twelve_same : (a b c d e f g h i j k l : Bool)
-    → (a && b && c && d && e && f && g && h && i && j && k && l) ≡ (a && (b && (c && (d && (e && (f && (g && (h && (i && (j && (k && (l && true))))))))))))
-twelve_same true true true true true true true true true true true true = refl
-twelve_same false b c d e f g h i j k l = refl
-twelve_same true false c d e f g h i j k l = refl
-twelve_same true true false d e f g h i j k l = refl
-twelve_same true true true false e f g h i j k l = refl
-twelve_same true true true true false f g h i j k l = refl
-twelve_same true true true true true false g h i j k l = refl
-twelve_same true true true true true true false h i j k l = refl
-twelve_same true true true true true true true false i j k l = refl
-twelve_same true true true true true true true true false j k l = refl
-twelve_same true true true true true true true true true false k l = refl
-twelve_same true true true true true true true true true true false l = refl
-twelve_same true true true true true true true true true true true false = refl
-
 pub record IsTwoDeep (k : ℕ) (t : Tree) : Type 0 where
   pub border : list_all is_blank (outer t) ≡ has_blank_border t
   pub inner_is : inner t ≡ middle t
@@ -77,7 +62,7 @@ pub two-deep : (k : ℕ) (t : Tree) → HasDepth (suc (suc k)) t → IsTwoDeep k
 two-deep k t (quad_depth (quad_depth {nw = a} {ne = b} {sw = c} {se = d} ha hb hc hd) (quad_depth {nw = e} {ne = f} {sw = g} {se = h} he hf hg hh)
     (quad_depth {nw = i} {ne = j} {sw = l} {se = m} hi hj hl hm) (quad_depth {nw = n} {ne = o} {sw = p} {se = q} hn ho hp hq)) =
     record {
-      border = sym (twelve_same (is_blank a) (is_blank b) (is_blank c) (is_blank e) (is_blank f) (is_blank h) (is_blank i) (is_blank l) (is_blank m) (is_blank o) (is_blank p) (is_blank q));
+      border = simp (and_assoc, and-true);
       inner_is = refl;
       inner_depth = quad_depth hd hg hj hn;
     }

@@ -25,31 +25,29 @@ module _ (a b c d : Tree) (half : ℕ) (e : 2 ^ depth a ≡ half) (x y : ℕ) wh
   at_se : half ≤ x → half ≤ y → state_at (quad a b c d) x y ≡ state_at d (x - half) (y - half)
   at_se p q = rw (e, above y half q, above x half p) refl
 
+-- a row of a square of level 3, by those of its western and its eastern quarter
+eight_cells : (t a b : Tree) (y v : ℕ) → ((x : ℕ) → x < 4 → state_at t x y ≡ state_at a x v) → ((x : ℕ) → 4 ≤ x → state_at t x y ≡ state_at b (x - 4) v)
+    → row_byte t y ≡ 16 * row_of_four a v + row_of_four b v
+eight_cells t a b y v west east =
+    let s0 = west 0 (omega arith) in
+    let s1 = west 1 (omega arith) in
+    let s2 = west 2 (omega arith) in
+    let s3 = west 3 (omega arith) in
+    let s4 : state_at t 4 y ≡ state_at b 0 v = east 4 (omega arith) in
+    let s5 : state_at t 5 y ≡ state_at b 1 v = east 5 (omega arith) in
+    let s6 : state_at t 6 y ≡ state_at b 2 v = east 6 (omega arith) in
+    let s7 : state_at t 7 y ≡ state_at b 3 v = east 7 (omega arith) in
+    omega arith
+
 eight_north : (a b c d : Tree) (y : ℕ) → depth a ≡ 2 → y < 4 → row_byte (quad a b c d) y ≡ 16 * row_of_four a y + row_of_four b y
 eight_north a b c d y e l =
     let h : 2 ^ depth a ≡ 4 = ap (λ k. 2 ^ k) e in
-    let s0 = at_nw a b c d 4 h 0 y (omega arith) l in
-    let s1 = at_nw a b c d 4 h 1 y (omega arith) l in
-    let s2 = at_nw a b c d 4 h 2 y (omega arith) l in
-    let s3 = at_nw a b c d 4 h 3 y (omega arith) l in
-    let s4 : state_at (quad a b c d) 4 y ≡ state_at b 0 y = at_ne a b c d 4 h 4 y (omega arith) l in
-    let s5 : state_at (quad a b c d) 5 y ≡ state_at b 1 y = at_ne a b c d 4 h 5 y (omega arith) l in
-    let s6 : state_at (quad a b c d) 6 y ≡ state_at b 2 y = at_ne a b c d 4 h 6 y (omega arith) l in
-    let s7 : state_at (quad a b c d) 7 y ≡ state_at b 3 y = at_ne a b c d 4 h 7 y (omega arith) l in
-    omega arith
+    eight_cells (quad a b c d) a b y y (λ x p. at_nw a b c d 4 h x y p l) (λ x p. at_ne a b c d 4 h x y p l)
 
 eight_south : (a b c d : Tree) (y : ℕ) → depth a ≡ 2 → 4 ≤ y → row_byte (quad a b c d) y ≡ 16 * row_of_four c (y - 4) + row_of_four d (y - 4)
 eight_south a b c d y e l =
     let h : 2 ^ depth a ≡ 4 = ap (λ k. 2 ^ k) e in
-    let s0 = at_sw a b c d 4 h 0 y (omega arith) l in
-    let s1 = at_sw a b c d 4 h 1 y (omega arith) l in
-    let s2 = at_sw a b c d 4 h 2 y (omega arith) l in
-    let s3 = at_sw a b c d 4 h 3 y (omega arith) l in
-    let s4 : state_at (quad a b c d) 4 y ≡ state_at d 0 (y - 4) = at_se a b c d 4 h 4 y (omega arith) l in
-    let s5 : state_at (quad a b c d) 5 y ≡ state_at d 1 (y - 4) = at_se a b c d 4 h 5 y (omega arith) l in
-    let s6 : state_at (quad a b c d) 6 y ≡ state_at d 2 (y - 4) = at_se a b c d 4 h 6 y (omega arith) l in
-    let s7 : state_at (quad a b c d) 7 y ≡ state_at d 3 (y - 4) = at_se a b c d 4 h 7 y (omega arith) l in
-    omega arith
+    eight_cells (quad a b c d) c d y (y - 4) (λ x p. at_sw a b c d 4 h x y p l) (λ x p. at_se a b c d 4 h x y p l)
 
 -- the rows of a square of level 3
 pub record EightRows (t a b c d : Tree) : Type 0 where

@@ -1,6 +1,6 @@
 -- What the walk that writes needs.
 use Rattle.std.proofs.Common.{◌≡◌, ℕ, suc, ◌+◌, ◌-◌, ◌<◌, ◌≤◌, true, false, ◌&&◌, List, [], ◌∷◌, ◌++◌, Option, length, map, refl, ap, sym, ◌∙◌, subst, arith, ◌⊎◌, inl, inr, length-append}
-use Rattle.std.specs.Prelude.{◌==◌, Contains, flat_map, All, AllPairs, Bool, Decides, Some, None, ◌≢◌, slice_get, MatchOption, IfSome}
+use Rattle.std.specs.Prelude.{◌==◌, Contains, flat_map, All, AllPairs, Some, None, ◌≢◌, slice_get, MatchOption, IfSome}
 use Rattle.std.proofs.lemmas.Bool.Decides.{nat_tests}
 use Rattle.std.proofs.lemmas.List.{append_assoc, append-nil, map-append, length-map}
 use Rattle.std.proofs.lemmas.Grind.{flat_map-append}
@@ -10,6 +10,7 @@ use Rattle.life_base.specs.declared.rule.Rule.{Rule}
 use Rattle.life_base.specs.declared.rule.Rule.TheVariants.{Life, Named}
 use Rattle.life_base.proofs.WritingLemmas.{prefix-grows}
 use Rattle.life_mc.specs.Writing.{node_text}
+use Rattle.life_quad.specs.declared.id.Id.{Id}
 use Rattle.life_mc.specs.declared.line.Line.{Line}
 use Rattle.life_mc.specs.declared.line.Line.TheVariants.{Leaf, Quad}
 use Rattle.life_canon.specs.Universe.{is_life, least_level}
@@ -95,25 +96,21 @@ lines-more rule all xs ys = ap (flat_map node_text) (map-append (line_of rule al
 front-more : (old new rest all : List Tree) (p : Behind old new) → all ≡ new ++ rest → all ≡ old ++ (p.0 ++ rest)
 front-more old new rest all p e = e ∙ ap (λ l. l ++ rest) p.1 ∙ append_assoc old p.0 rest
 
-module _ (rule : Rule) (a b : Option (List ℕ)) (h l : List ℕ) (old mid : List Tree) where
-  -- nothing is written
-  pub writes-none : a ≡ b → h ≡ l → old ≡ mid → WritesOn rule a b h l old mid
-  writes-none e f g = λ start begun all rest whole w. subst (λ s. WritesFront start s (begun ++ lines_text rule all mid) l) e (front-as start a _ h (subst (λ o. WritesFront start a (begun ++ lines_text rule all o) h) g w) _ l refl (sym f))
-
-  -- one call behind the other
-  pub writes-then : (c : Option (List ℕ)) (k : List ℕ) (new : List Tree) → WritesOn rule a b h l old mid → WritesOn rule b c l k mid new → Behind mid new → WritesOn rule a c h k old new
-  writes-then c k new u v p = λ start begun all rest e w. v start begun all rest e (u start begun all (p.0 ++ rest) (front-more mid new rest all p e) w)
-
-  -- a call that breaks behind another
-  pub breaks-then : (c : Option (List ℕ)) (near far : List Tree) → WritesOn rule a b h l old mid → BreaksIn rule b c l mid near → Behind mid near → Behind near far → BreaksIn rule a c h old far
-  breaks-then c near far u v p q = λ start begun all rest e w.
-      let more = front-more near far rest all q e in
-      v start begun all (q.0 ++ rest) more (u start begun all (p.0 ++ (q.0 ++ rest)) (front-more mid near (q.0 ++ rest) all p more) w)
+module _ (rule : Rule) {a b : Option (List ℕ)} {h l : List ℕ} (old mid : List Tree) where
+  -- a walk that breaks behind a call
+  pub breaks-then : {c : Option (List ℕ)} (ws far : List Tree) → WritesOn rule a b h l old mid → BreaksIn rule b c l mid (with_all mid ws)
+      → Behind (with_all mid ws) far
+      → BreaksIn rule a c h old far
+  breaks-then ws far u v q = λ start begun all rest e w.
+      let p = behind-all mid ws in
+      let more = front-more (with_all mid ws) far rest all q e in
+      v start begun all (q.0 ++ rest) more (u start begun all (p.0 ++ (q.0 ++ rest)) (front-more mid (with_all mid ws) (q.0 ++ rest) all p more) w)
 
   -- a line behind a call
-  pub writes-line : (c : Option (List ℕ)) (k : List ℕ) (t : Tree) (line : Line) → WritesOn rule a b h l old mid → WritesFront b c (l ++ node_text line) k
-      → ((all rest : List Tree) → all ≡ (mid ++ t ∷ []) ++ rest → line ≡ line_of rule all t) → WritesOn rule a c h k old (mid ++ t ∷ [])
-  writes-line c k t line u v is = λ start begun all rest e w.
+  pub writes-line : {c : Option (List ℕ)} {k : List ℕ} (new : List Tree) (t : Tree) (line : Line) → new ≡ mid ++ t ∷ [] → WritesOn rule a b h l old mid
+      → WritesFront b c (l ++ node_text line) k
+      → ((all rest : List Tree) → all ≡ (mid ++ t ∷ []) ++ rest → line ≡ line_of rule all t) → WritesOn rule a c h k old new
+  writes-line {c = c} {k = k} new t line n u v is = subst (WritesOn rule a c h k old) (sym n) (λ start begun all rest e w.
       let before = u start begun all (t ∷ rest) (e ∙ append_assoc mid (t ∷ []) rest) w in
       let after = front-after start b _ _ (front-grows start b _ l before (node_text line)) c k v in
       front-as start c _ k after _ k (
@@ -121,41 +118,40 @@ module _ (rule : Rule) (a b : Option (List ℕ)) (h l : List ℕ) (old mid : Lis
       ∙ ap (λ r. begun ++ (lines_text rule all mid ++ node_text r)) (is all rest e)
       ∙ ap (λ r. begun ++ (lines_text rule all mid ++ r)) (sym (append-nil (node_text (line_of rule all t))))
       ∙ ap (λ r. begun ++ r) (sym (lines-more rule all mid (t ∷ [])))
-      ) refl
+      ) refl)
 
   -- a line that breaks behind a call
-  pub breaks-line : (c : Option (List ℕ)) (far : List Tree) → WritesOn rule a b h l old mid → WritesPrefix b c l → Behind mid far → BreaksIn rule a c h old far
-  breaks-line c far u v p = λ start begun all rest e w.
+  pub breaks-line : {c : Option (List ℕ)} (far : List Tree) → WritesOn rule a b h l old mid → WritesPrefix b c l → Behind mid far → BreaksIn rule a c h old far
+  breaks-line {c = c} far u v p = λ start begun all rest e w.
       let more = front-more mid far rest all p e in
       let before = front-prefix start b _ l (u start begun all (p.0 ++ rest) more w) c v in
       subst (WritesPrefix start c)
       (append_assoc begun (lines_text rule all mid) (lines_text rule all (p.0 ++ rest)) ∙ ap (λ r. begun ++ r) (sym (lines-more rule all mid (p.0 ++ rest)) ∙ ap (lines_text rule all) (sym more)))
       (prefix-grows start c _ (lines_text rule all (p.0 ++ rest)) before)
 
--- the same, where the second walks on
-pub writes-two : (rule : Rule) (s0 s1 s2 : Option (List ℕ)) (h0 h1 h2 : List ℕ) (all all1 all2 ws : List Tree) → WritesOn rule s0 s1 h0 h1 all all1 → WritesOn rule s1 s2 h1 h2 all1 all2
-    → all2 ≡ with_all all1 ws → WritesOn rule s0 s2 h0 h2 all all2
-writes-two rule s0 s1 s2 h0 h1 h2 all all1 all2 ws u v p = writes-then rule s0 s1 h0 h1 all all1 s2 h2 all2 u v (subst (Behind all1) (sym p) (behind-all all1 ws))
+-- nothing is written
+pub writes-none : (rule : Rule) {a : Option (List ℕ)} {h : List ℕ} (old : List Tree) → WritesOn rule a a h h old old
+writes-none rule old = λ start begun all rest e w. w
 
 -- ---- the number of an Id is that of its square
 
-module _ {K : Type 0} (content : K → Tree) (eq : K → K → Bool) (decides : (a b : K) → Decides (eq a b) (a ≡ b)) (id : K) (keys : List K) (inj : All (λ a. content a ≡ content id → a ≡ id) keys) where
+module _ (content : Id → Tree) (id : Id) (keys : List Id) (inj : All (λ a. content a ≡ content id → a ≡ id) keys) where
   pub number-keys : (r : Option ℕ) → AllPairs ◌≢◌ keys → 1 ≤ depth (content id) → is_blank (content id) ≡ false → MatchOption r (¬ Contains keys id) (λ n. slice_get keys (n - 1) ≡ Some id)
       → IfSome r (λ n. 1 ≤ n) → MatchOption r ((1 ≤ depth (content id)) × (is_blank (content id) ≡ false)) (λ n. n ≡ number_of (map content keys) (content id))
   number-keys None once some shown at counted = (some, shown)
   number-keys (Some n) once some shown at counted =
-      let p : place (map content keys) (content id) ≡ n - 1 = place-keys content eq decides id keys (n - 1) inj once at in
+      let p : place (map content keys) (content id) ≡ n - 1 = place-keys content id keys (n - 1) inj once at in
       let q = number-place_of (map content keys) (content id) some shown in
       omega (arith, p, q, counted)
 
   pub there-keys : (r : Option ℕ) → MatchOption r (¬ Contains keys id) (λ n. slice_get keys (n - 1) ≡ Some id)
       → MatchOption r (is_in (map content keys) (content id) ≡ false) (λ _. (is_small 1 (content id) ≡ true) ⊎ (is_in (map content keys) (content id) ≡ true))
-  there-keys None absent = elim (bool_cases (is_in (map content keys) (content id))) [ inl h ↦ absurd (absent ((in-keys content eq decides id keys inj).0 h)) | inr h ↦ h ]
-  there-keys (Some n) at = inr ((in-keys content eq decides id keys inj).1 (n - 1, slice_get_within keys (n - 1) id at, get_or_from_slice_get keys (n - 1) id id at))
+  there-keys None absent = elim (bool_cases (is_in (map content keys) (content id))) [ inl h ↦ absurd (absent ((in-keys content id keys inj).0 h)) | inr h ↦ h ]
+  there-keys (Some n) at = inr ((in-keys content id keys inj).1 (n - 1, slice_get_within keys (n - 1) id at, get_or_from_slice_get keys (n - 1) id id at))
 
   -- no square of the list is its square, so the Id is not there
   pub absent-keys : is_in (map content keys) (content id) ≡ false → ¬ Contains keys id
-  absent-keys h = λ c. true_false _ ((in-keys content eq decides id keys inj).1 c) h
+  absent-keys h = λ c. true_false _ ((in-keys content id keys inj).1 c) h
 
 -- ---- the walk of a square
 
@@ -247,9 +243,10 @@ pub no-leaf : (rule : Rule) (t : Tree) (level : ℕ) → level ≡ depth t → (
 no-leaf rule t level l h = ap (λ n. is_life rule && n == 3) (sym l) ∙ h
 
 -- a square of the least level is added alone
-pub leaf-walk : (rule : Rule) (t : Tree) (all new : List Tree) → IsClosed (least_level rule) all → is_small (least_level rule) t ≡ false → IsFull t → depth t ≡ least_level rule → is_in all t ≡ false
-    → new ≡ all ++ t ∷ [] → (new ≡ with_all all (walk t (least_level rule))) × IsClosed (least_level rule) new
-leaf-walk rule t all new h small full l absent e = least-step t (least_level rule) all new (least-one rule) h small full l (e ∙ sym (with_new-fresh all t absent))
+pub leaf-walk : (rule : Rule) (t : Tree) (all new : List Tree) → is_small (least_level rule) t ≡ false → IsFull t → depth t ≡ least_level rule
+    → is_in all t ≡ false
+    → new ≡ all ++ t ∷ [] → new ≡ with_all all (walk t (least_level rule))
+leaf-walk rule t all new small full l absent e = least-step t (least_level rule) all new (least-one rule) small full l (e ∙ sym (with_new-fresh all t absent))
 
 -- a square isn't there behind its quarters
 pub absent-still : (m : ℕ) (t a b c d : Tree) (all all1 all2 all3 all4 : List Tree) → IsFull t → t ≡ quad a b c d → all1 ≡ with_all all (walk a m) → all2 ≡ with_all all1 (walk b m)
@@ -261,11 +258,11 @@ absent-still m t a b c d all all1 all2 all3 all4 full e p1 p2 p3 p4 absent =
     (fresh m all2 all3 c t p3 f.2 (omega (arith, deep, f.5)) (fresh m all1 all2 b t p2 f.1 (omega (arith, deep, f.4)) (fresh m all all1 a t p1 f.0 (omega (arith, deep)) absent)))
 
 -- it is added behind them
-pub quad-walk : (rule : Rule) (t a b c d : Tree) (all all1 all2 all3 all4 new : List Tree) → IsClosed (least_level rule) all → is_small (least_level rule) t ≡ false → t ≡ quad a b c d
+pub quad-walk : (rule : Rule) (t a b c d : Tree) (all all1 all2 all3 all4 new : List Tree) → is_small (least_level rule) t ≡ false → t ≡ quad a b c d
     → all1 ≡ with_all all (walk a (least_level rule)) → all2 ≡ with_all all1 (walk b (least_level rule)) → all3 ≡ with_all all2 (walk c (least_level rule)) → all4 ≡ with_all all3 (walk d (least_level rule))
-    → is_in all4 t ≡ false → new ≡ all4 ++ t ∷ [] → (new ≡ with_all all (walk t (least_level rule))) × IsClosed (least_level rule) new
-quad-walk rule t a b c d all all1 all2 all3 all4 new h small e p1 p2 p3 p4 absent n =
-    step t a b c d (least_level rule) all all1 all2 all3 all4 new (least-one rule) h small e p1 p2 p3 p4 (n ∙ sym (with_new-fresh all4 t absent))
+    → is_in all4 t ≡ false → new ≡ all4 ++ t ∷ [] → new ≡ with_all all (walk t (least_level rule))
+quad-walk rule t a b c d all all1 all2 all3 all4 new small e p1 p2 p3 p4 absent n =
+    step t a b c d (least_level rule) all all1 all2 all3 all4 new small e p1 p2 p3 p4 (n ∙ sym (with_new-fresh all4 t absent))
 
 module _ {K : Type 0} (content : K → Tree) (ids new : List K) (id : K) (added : new ≡ ids ++ id ∷ []) where
   pub trees-more : map content new ≡ map content ids ++ content id ∷ []
@@ -275,6 +272,105 @@ module _ {K : Type 0} (content : K → Tree) (ids new : List K) (id : K) (added 
   number-pushed n e p absent =
       let long : length new ≡ length (map content ids) + 1 = sym (length-map new content) ∙ ap length trees-more ∙ length-append (map content ids) (content id ∷ []) in
       e ∙ long ∙ sym (number-last (map content ids) (content id) p.0 p.1 absent) ∙ ap (λ l. number_of l (content id)) (sym trees-more)
+
+-- ---- a square above the leaves: its quarters are walked one behind the other, and then it is added
+
+-- the squares of the second list are those of the first, and what the walk over the square of an Id adds
+abbrev HasWalked : (Id → Tree) → Rule → Id → List Id → List Id → Type 0
+HasWalked content rule q old new = map content new ≡ with_all (map content old) (walk (content q) (least_level rule))
+
+-- a call wrote the lines of the squares that it added
+abbrev Wrote : (Id → Tree) → Rule → Option (List ℕ) → Option (List ℕ) → List ℕ → List ℕ → List Id → List Id → Type 0
+Wrote content rule a b h l old new = WritesOn rule a b h l (map content old) (map content new)
+
+-- a call broke that walked over the square of an Id
+abbrev Broke : (Id → Tree) → Rule → Id → Option (List ℕ) → Option (List ℕ) → List ℕ → List Id → List Id → Type 0
+Broke content rule q a b h begun old = BreaksIn rule a b h (map content begun) (with_all (map content old) (walk (content q) (least_level rule)))
+
+module _ (content : Id → Tree) (rule : Rule) (id nw ne sw se : Id) (old : List Id)
+    (square : content id ≡ quad (content nw) (content ne) (content sw) (content se)) where
+  behind-one : (q : Id) (mid new : List Id) → HasWalked content rule q mid new → Behind (map content mid) (map content new)
+  behind-one q mid new p = subst (Behind (map content mid)) (sym p) (behind-all (map content mid) (walk (content q) (least_level rule)))
+
+  both : {a b c : Option (List ℕ)} {h l k : List ℕ} (q : Id) (mid new : List Id) → Wrote content rule a b h l old mid → Wrote content rule b c l k mid new
+      → HasWalked content rule q mid new
+      → Wrote content rule a c h k old new
+  both q mid new u v p = λ start begun all rest e w.
+      let b = behind-one q mid new p in
+      v start begun all rest e (u start begun all (b.0 ++ rest) (front-more (map content mid) (map content new) rest all b e) w)
+
+  module _ (small : is_small (least_level rule) (content id) ≡ false) where
+    begun : (all1 all2 all3 : List Tree) → all1 ≡ with_all (map content old) (walk (content nw) (least_level rule))
+        → all2 ≡ with_all all1 (walk (content ne) (least_level rule))
+        → all3 ≡ with_all all2 (walk (content sw) (least_level rule))
+        → Fronts (least_level rule) (content ne) (content sw) (content se) all1 all2 all3 (with_all (map content old) (walk (content id) (least_level rule)))
+    begun all1 all2 all3 =
+        fronts (least_level rule) (content id) (content nw) (content ne) (content sw) (content se) (map content old) all1 all2 all3 small square
+
+    breaks : {a b c : Option (List ℕ)} {h l : List ℕ} (q : Id) (mid : List Id) → Wrote content rule a b h l old mid
+        → BreaksIn rule b c l (map content mid) (with_all (map content mid) (walk (content q) (least_level rule)))
+        → Behind (with_all (map content mid) (walk (content q) (least_level rule))) (with_all (map content old) (walk (content id) (least_level rule)))
+        → Broke content rule id a c h old old
+    breaks q mid u v b =
+        breaks-then rule (map content old) (map content mid) (walk (content q) (least_level rule))
+        (with_all (map content old) (walk (content id) (least_level rule))) u v b
+
+    pub breaks-nw : {a b : Option (List ℕ)} {h : List ℕ} → Broke content rule nw a b h old old → Broke content rule id a b h old old
+    breaks-nw v = breaks nw old (writes-none rule (map content old)) v (begun _ _ _ refl refl refl).one
+
+    pub breaks-ne : {a b c : Option (List ℕ)} {h l : List ℕ} (one : List Id) → HasWalked content rule nw old one → Wrote content rule a b h l old one
+        → Broke content rule ne b c l one one → Broke content rule id a c h old old
+    breaks-ne one p u v = breaks ne one u v (begun _ _ _ p refl refl).two
+
+    pub breaks-sw : {a b c d : Option (List ℕ)} {h l k : List ℕ} (one two : List Id) → HasWalked content rule nw old one → HasWalked content rule ne one two
+        → Wrote content rule a b h l old one → Wrote content rule b c l k one two → Broke content rule sw c d k two two → Broke content rule id a d h old old
+    breaks-sw one two p q u v x = breaks sw two (both ne one two u v q) x (begun _ _ _ p q refl).three
+
+    pub breaks-se : {a b c d e : Option (List ℕ)} {h l k j : List ℕ} (one two three : List Id) → HasWalked content rule nw old one
+        → HasWalked content rule ne one two
+        → HasWalked content rule sw two three → Wrote content rule a b h l old one → Wrote content rule b c l k one two → Wrote content rule c d k j two three
+        → Broke content rule se d e j three three → Broke content rule id a e h old old
+    breaks-se one two three p q r u v x y = breaks se three (both sw two three (both ne one two u v q) x r) y (begun _ _ _ p q r).four
+
+  module _ (one two three four : List Id) (p : HasWalked content rule nw old one) (q : HasWalked content rule ne one two)
+      (r : HasWalked content rule sw two three)
+      (s : HasWalked content rule se three four) where
+    wrote-four : {a b c d e : Option (List ℕ)} {h l k j i : List ℕ} → Wrote content rule a b h l old one → Wrote content rule b c l k one two
+        → Wrote content rule c d k j two three
+        → Wrote content rule d e j i three four → Wrote content rule a e h i old four
+    wrote-four u v x y = both se three four (both sw two three (both ne one two u v q) x r) y s
+
+    pub breaks-own : {a b c d e f : Option (List ℕ)} {h l k j i : List ℕ} → is_small (least_level rule) (content id) ≡ false
+        → Wrote content rule a b h l old one → Wrote content rule b c l k one two → Wrote content rule c d k j two three → Wrote content rule d e j i three four
+        → WritesPrefix e f i → Broke content rule id a f h old old
+    breaks-own small u v x y z =
+        let whole = with_all (map content old) (walk (content id) (least_level rule)) in
+        breaks-line rule (map content old) (map content four) whole (wrote-four u v x y) z
+        (subst (λ l. Behind l whole) (sym s) (begun small (map content one) (map content two) (map content three) p q r).four)
+
+    pub absent-own : IsFull (content id) → is_in (map content old) (content id) ≡ false → is_in (map content four) (content id) ≡ false
+    absent-own full absent =
+        absent-still (least_level rule) (content id) (content nw) (content ne) (content sw) (content se) _ _ _ _ _ full square p q r s absent
+
+    pub walked-own : (new : List Id) → is_small (least_level rule) (content id) ≡ false → IsFull (content id) → is_in (map content old) (content id) ≡ false
+        → new ≡ four ++ id ∷ []
+        → HasWalked content rule id old new
+    walked-own new small full absent added =
+        quad-walk rule (content id) (content nw) (content ne) (content sw) (content se) _ _ _ _ _ _ small square p q r s (absent-own full absent)
+        (trees-more content four new id added)
+
+    pub writes-own : {a b c d e f : Option (List ℕ)} {h l k j i o : List ℕ} (level na nb nc nd : ℕ) (new : List Id) → new ≡ four ++ id ∷ []
+        → IsFull (content id)
+        → IsClosed (least_level rule) (map content old) → level ≡ depth (content id) → (is_life rule ≡ true → 3 ≤ level) → (is_life rule && level == 3) ≡ false
+        → na ≡ number_of (map content one) (content nw) → nb ≡ number_of (map content two) (content ne) → nc ≡ number_of (map content three) (content sw)
+        → nd ≡ number_of (map content four) (content se)
+        → Wrote content rule a b h l old one → Wrote content rule b c l k one two → Wrote content rule c d k j two three → Wrote content rule d e j i three four
+        → WritesFront e f (i ++ node_text (Quad level na nb nc nd)) o → Wrote content rule a f h o old new
+    writes-own level na nb nc nd new added full closed is high other ea eb ec ed u v x y z =
+        writes-line rule (map content old) (map content four) (map content new) (content id) (Quad level na nb nc nd) (trees-more content four new id added)
+        (wrote-four u v x y) z
+        (λ all rest e. quad-line rule (content id) (content nw) (content ne) (content sw) (content se) level na nb nc nd _ _ _ _ _ all rest square full
+        (λ l. subst (λ n. 3 ≤ n) is (high l)) (no-leaf rule (content id) level is other) is closed p q r s ea eb ec ed e)
 
 -- ---- a whole pattern, from no squares on
 

@@ -30,3 +30,20 @@ returns-in_err-b-clause-needed c =
     let p = err_from_is_err_and c.from_residual-in_err-b.result c.from_residual-in_err-b.ensures.1 in
     let read = c.in_ok-a.ensures.pattern in
     rw (p.1, p.2) (λ e. inr ((read.universe, read.reads), c.in_err-b.ensures.needed (cc)))
+
+pub returns-clause-accepted : goal.returns-clause-accepted
+returns-clause-accepted c =
+    let a = c.in_ok-a.ensures.pattern in
+    let b = c.in_ok-b.ensures.pattern in
+    ((a.universe, a.reads), (b.universe, b.reads))
+
+pub returns-in_err-a-clause-fault : goal.returns-in_err-a-clause-fault
+returns-in_err-a-clause-fault c =
+    let p = err_from_is_err_and c.from_residual.result c.from_residual.ensures.1 in
+    rw (p.1, p.2) (elim c.in_err-a.ensures.fault [ inl refuses ↦ inl refuses | inr want ↦ inr (inr want) ])
+
+pub returns-in_err-b-clause-fault : goal.returns-in_err-b-clause-fault
+returns-in_err-b-clause-fault c =
+    let p = err_from_is_err_and c.from_residual-in_err-b.result c.from_residual-in_err-b.ensures.1 in
+    let read = c.in_ok-a.ensures.pattern in
+    rw (p.1, p.2) (elim c.in_err-b.ensures.fault [ inl refuses ↦ inr (inl ((read.universe, read.reads), refuses)) | inr want ↦ inr (inr want) ])

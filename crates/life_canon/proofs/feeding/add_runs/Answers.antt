@@ -51,3 +51,6 @@ returns-in_err-add_run-clause-needed g c =
     rw (p.1, p.2)
     (λ e. runs-above P c.args.builder.now.runs c.loop-run.builder.runs c.args.runs.now c.loop-run.run-index none h i.given_so_far
     (subst (λ (y : ℤ). SomeSquare P (nat_abs (y +ℤ pos half_plane)) (by_columns (state_by c.loop-run.builder.runs))) same (c.in_err-add_run.ensures.needed e)))
+
+pub returns-in_err-add_run-clause-keeps : goal.returns-in_err-add_run-clause-keeps
+returns-in_err-add_run-clause-keeps g c = keeps-then c.loop-run.invariant.keeps c.in_err-add_run.ensures.keeps

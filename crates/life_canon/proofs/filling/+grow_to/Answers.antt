@@ -2,6 +2,7 @@ use Rattle.std.proofs.Common.{ap, ◌∙◌, subst, rules}
 use Rattle.life_base.specs.Tree.{Tree, tree_cell}
 use Rattle.life_quad.proofs.LawLemmas.{growing_keeps_cells}
 use Rattle.std.proofs.lemmas.Result.{IfOk-weaker, on_err_weaker}
+use Rattle.life_quad.proofs.KeepingLemmas.{keeps-then}
 use Rattle.life_canon.specs.Needs.{SomeGrown}
 use Rattle.life_canon.proofs.NeedFacts.{SomeGrown-next}
 use Rattle.life_canon.proofs.filling.+grow_to.Goals as goal
@@ -27,3 +28,6 @@ returns-clause-needed g t c =
     on_err_weaker c.grow_to.result
     (λ s. SomeGrown-next P _ c.args.level c.requires.low (subst (λ (t : Tree). SomeGrown P t c.args.level) c.in_ok-larger.ensures.square s))
     c.grow_to.ensures.needed
+
+pub returns-clause-keeps : goal.returns-clause-keeps
+returns-clause-keeps g t c = keeps-then c.in_ok-larger.ensures.keeps c.grow_to.ensures.keeps

@@ -6,6 +6,9 @@ use Rattle.std.proofs.lemmas.Result.{IfOk-weaker}
 use Rattle.life_canon.proofs.FillFacts.{part-quarters, half-is}
 use Rattle.life_canon.proofs.filling.+leaf_part.Goals as goal
 
+pub returns-in_err-ne-clause-keeps : goal.returns-in_err-ne-clause-keeps
+returns-in_err-ne-clause-keeps g t c = keeps-then c.in_ok-nw.ensures.keeps c.in_err-ne.ensures.keeps
+
 pub returns-in_err-sw-clause-keeps : goal.returns-in_err-sw-clause-keeps
 returns-in_err-sw-clause-keeps g t c = keeps-then (keeps-then c.in_ok-nw.ensures.keeps c.in_ok-ne.ensures.keeps) c.in_err-sw.ensures.keeps
 

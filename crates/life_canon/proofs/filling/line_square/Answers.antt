@@ -1,11 +1,10 @@
 use Rattle.std.proofs.Common.{◌-◌, sym, ◌∙◌, ap, subst, map}
 use Rattle.life_base.proofs.Results.{on_err_both}
-use Rattle.life_base.specs.Tree.{quad}
 use Rattle.life_mc.specs.Macrocell.{level_of}
 use Rattle.life_mc.specs.Squares.{tree_of, line_tree}
 use Rattle.std.proofs.lemmas.Result.{IfOk-weaker}
 use Rattle.life_canon.specs.Needs.{SomeOfLine}
-use Rattle.life_canon.proofs.FillFacts.{numbers-of}
+use Rattle.life_canon.proofs.FillFacts.{numbers-of, quad-of}
 use Rattle.life_canon.proofs.filling.line_square.Goals as goal
 
 pub quarter-sw-requires-clause-quarter : goal.quarter-sw-requires-clause-quarter
@@ -20,23 +19,15 @@ quarter-se-requires-clause-quarter g c =
 
 pub returns-in-Quad-clause-square : goal.returns-in-Quad-clause-square
 returns-in-Quad-clause-square g c = λ lines rule h s.
-    let n = numbers-of rule (map level_of lines) c.args.line _ _ _ _ _ c.in-Quad.is h in
-    let nw = c.quarter-nw.ensures.square lines rule n.nw s in
-    let ne = c.quarter-ne.ensures.square lines rule n.ne s in
-    let sw = c.quarter-sw.ensures.square lines rule n.sw s in
-    let se = c.quarter-se.ensures.square lines rule n.se s in
+    let same = quad-of rule lines c.args.line _ _ _ _ _ _ _ _ _ c.in-Quad.is h (λ n. c.quarter-nw.ensures.square lines rule n s)
+    (λ n. c.quarter-ne.ensures.square lines rule n s) (λ n. c.quarter-sw.ensures.square lines rule n s) (λ n. c.quarter-se.ensures.square lines rule n s) in
     let line = ap (λ l. line_tree (tree_of lines (level_of l - 1)) l) c.in-Quad.is in
-    IfOk-weaker c.join.result _ _ (λ id e. e ∙ (λ i. quad (nw i) (ne i) (sw i) (se i)) ∙ sym line) c.join.ensures.square
+    IfOk-weaker c.join.result _ _ (λ id e. e ∙ same ∙ sym line) c.join.ensures.square
 
 pub returns-in-Quad-clause-needed : goal.returns-in-Quad-clause-needed
 returns-in-Quad-clause-needed g c = λ lines rule h s.
-    let n = numbers-of rule (map level_of lines) c.args.line _ _ _ _ _ c.in-Quad.is h in
-    let nw = c.quarter-nw.ensures.square lines rule n.nw s in
-    let ne = c.quarter-ne.ensures.square lines rule n.ne s in
-    let sw = c.quarter-sw.ensures.square lines rule n.sw s in
-    let se = c.quarter-se.ensures.square lines rule n.se s in
     let P = g.S.Squares.needs_node c.join.new.self in
-    on_err_both c.join.result
-    (λ new same. subst (SomeOfLine P lines) (sym c.in-Quad.is)
-    (subst P (λ i. quad (nw i) (ne i) (sw i) (se i)) (rw same new)))
+    let same = quad-of rule lines c.args.line _ _ _ _ _ _ _ _ _ c.in-Quad.is h (λ n. c.quarter-nw.ensures.square lines rule n s)
+    (λ n. c.quarter-ne.ensures.square lines rule n s) (λ n. c.quarter-sw.ensures.square lines rule n s) (λ n. c.quarter-se.ensures.square lines rule n s) in
+    on_err_both c.join.result (λ new kept. subst (SomeOfLine P lines) (sym c.in-Quad.is) (subst P same (rw kept new)))
     c.join.ensures.needed c.join.ensures.unchanged

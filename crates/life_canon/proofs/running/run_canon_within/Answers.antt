@@ -1,15 +1,18 @@
 use Rattle.std.proofs.Common.{ap, arith, inl, inr, refl, rules, subst, sym, true, false, true≢false, Bool, List, ℕ, ◌++◌, ◌≡◌, ◌⊎◌, ◌∙◌}
 use Rattle.std.specs.Io.KnownBytes.{Appends}
-use Rattle.std.specs.Prelude.{flat_map}
+use Rattle.std.specs.Prelude.{flat_map, ◌≢◌, Result, Ok, Err, IfErr, IsErrAnd}
 use Rattle.std.proofs.lemmas.Result.{err_from_is_err_and}
-use Rattle.life_base.specs.DeviceRuns.{SourceRun}
+use Rattle.life_base.specs.DeviceRuns.{SourceRun, SinkRun}
 use Rattle.life_base.specs.Refusal.{fault_of}
 use Rattle.life_base.specs.Writing.{WritesPrefix}
 use Rattle.life_base.specs.declared.cell.TheConstants.{MAX_LEVEL}
+use Rattle.life_base.specs.declared.fault.Fault.{Fault}
+use Rattle.life_base.specs.declared.kind.Kind.{Kind}
+use Rattle.life_base.specs.declared.kind.Kind.TheVariants.{Memory, WriteFault}
 use Rattle.life_mc.specs.Writing.{node_text, front_text}
 use Rattle.life_quad.specs.Store.{Nodes}
 use Rattle.life_canon.specs.Listing.{canon_text, lines_for, listed}
-use Rattle.life_canon.specs.Running.{HasRead, Wrote, by_reading, by_writing, by_want}
+use Rattle.life_canon.specs.Running.{HasRead, RunRefuses, Wrote, by_reading, by_writing, by_want}
 use Rattle.life_canon.specs.Store.{content, universe_in}
 use Rattle.life_canon.specs.Universe.{least_level}
 use Rattle.life_canon.specs.declared.pattern.Pattern.{Pattern}
@@ -35,6 +38,17 @@ wrote most store source pattern IsWritten front has is written = record {
 no_failure : {P : Type 0} (failures : ℕ) (stalled : Bool) → failures ≡ 0 → stalled ≡ false → (failures ≡ 1) ⊎ (stalled ≡ true) → P
 no_failure failures stalled none takes (inl e) = absurd (omega arith)
 no_failure failures stalled none takes (inr e) = absurd (true≢false (sym e ∙ takes))
+
+-- a refusal before anything was written
+as_it_was : {X W : Type 0} (r : Result X Fault) (writer : W) → IfErr r (λ fault. fault.kind ≢ WriteFault → writer ≡ writer)
+as_it_was (Ok x) writer = tt
+as_it_was (Err fault) writer = λ other. refl
+
+-- one for want of memory
+memory_wanted : {X : Type 0} (most : ℕ) (store : Nodes) (source : SourceRun) (sink : SinkRun) (r : Result X Fault) (kind : Kind) → kind ≡ Memory
+    → IsErrAnd r (λ fault. fault ≡ fault_of kind) → IfErr r (RunRefuses MAX_LEVEL most store source sink)
+memory_wanted most store source sink (Ok x) kind is told = tt
+memory_wanted most store source sink (Err fault) kind is told = by_reading (by_want (inl (told ∙ ap fault_of is)))
 
 pub returns-in_err-pattern-clause-err : goal.returns-in_err-pattern-clause-err
 returns-in_err-pattern-clause-err g c =
@@ -76,37 +90,27 @@ pub returns-clause-write_told : goal.returns-clause-write_told
 returns-clause-write_told g c = no_failure _ _ c.in_ok-deliver_squares.ensures.works (c.in_ok-deliver_squares.ensures.stalled ∙ c.requires.takes)
 
 pub returns-in_err-pattern-clause-unwritten : goal.returns-in_err-pattern-clause-unwritten
-returns-in_err-pattern-clause-unwritten g c =
-    let p = err_from_is_err_and c.from_residual.result c.from_residual.ensures.1 in
-    rw p.1 (λ h. refl)
+returns-in_err-pattern-clause-unwritten g c = as_it_was c.from_residual.result _
 
 pub returns-in_err-pattern-clause-write_told : goal.returns-in_err-pattern-clause-write_told
 returns-in_err-pattern-clause-write_told g c = no_failure _ _ c.requires.writes c.requires.takes
 
 pub returns-in_err-numbers-clause-err : goal.returns-in_err-numbers-clause-err
 returns-in_err-numbers-clause-err g c =
-    let p = err_from_is_err_and c.from_residual-in_err-numbers.result c.from_residual-in_err-numbers.ensures.1 in
-    let answer = by_reading (by_want (inl (ap fault_of c.in_err-numbers.ensures.kind))) in
-    rw (p.1, p.2) answer
+    memory_wanted _ _ _ _ c.from_residual-in_err-numbers.result _ c.in_err-numbers.ensures.kind c.from_residual-in_err-numbers.ensures.1
 
 pub returns-in_err-numbers-clause-unwritten : goal.returns-in_err-numbers-clause-unwritten
-returns-in_err-numbers-clause-unwritten g c =
-    let p = err_from_is_err_and c.from_residual-in_err-numbers.result c.from_residual-in_err-numbers.ensures.1 in
-    rw p.1 (λ h. refl)
+returns-in_err-numbers-clause-unwritten g c = as_it_was c.from_residual-in_err-numbers.result _
 
 pub returns-in_err-numbers-clause-write_told : goal.returns-in_err-numbers-clause-write_told
 returns-in_err-numbers-clause-write_told g c = no_failure _ _ c.requires.writes c.requires.takes
 
 pub returns-in_err-front-clause-err : goal.returns-in_err-front-clause-err
 returns-in_err-front-clause-err g c =
-    let p = err_from_is_err_and c.from_residual-in_err-front.result c.from_residual-in_err-front.ensures.1 in
-    let answer = by_reading (by_want (inl (ap fault_of c.in_err-front.ensures.kind))) in
-    rw (p.1, p.2) answer
+    memory_wanted _ _ _ _ c.from_residual-in_err-front.result _ c.in_err-front.ensures.kind c.from_residual-in_err-front.ensures.1
 
 pub returns-in_err-front-clause-unwritten : goal.returns-in_err-front-clause-unwritten
-returns-in_err-front-clause-unwritten g c =
-    let p = err_from_is_err_and c.from_residual-in_err-front.result c.from_residual-in_err-front.ensures.1 in
-    rw p.1 (λ h. refl)
+returns-in_err-front-clause-unwritten g c = as_it_was c.from_residual-in_err-front.result _
 
 pub returns-in_err-front-clause-write_told : goal.returns-in_err-front-clause-write_told
 returns-in_err-front-clause-write_told g c = no_failure _ _ c.requires.writes c.requires.takes

@@ -17,8 +17,7 @@ pub returns-in_err-end_line-clause-fault : goal.returns-in_err-end_line-clause-f
 returns-in_err-end_line-clause-fault c =
     let p = err_from_is_err_and c.from_residual.result c.from_residual.ensures.1 in
     let rest : List ℕ = c.loop-end.rest.now in
-    let all : bytes_of c.loop-end.self.pieces.lines ++ take c.in-Some.end rest ++ 10 ∷ [] ++ drop (c.in-Some.end + 1) rest ≡ bytes_of c.args.self.now.pieces.lines ++ c.args.piece.now =
-    piece-split (bytes_of c.loop-end.self.pieces.lines) rest c.in-Some.end c.in-Some.ensures.end ∙ c.loop-end.invariant.bytes in
+    let all = piece-split (bytes_of c.loop-end.self.pieces.lines) rest c.in-Some.end c.in-Some.ensures.end c.loop-end.invariant.bytes in
     rw (p.1, p.2) (told-along c.end_line.new.store (bytes_of c.loop-end.self.pieces.lines ++ take c.in-Some.end rest ++ 10 ∷ []) (drop (c.in-Some.end + 1) rest)
     (bytes_of c.args.self.now.pieces.lines ++ c.args.piece.now) c.in_err-end_line.field-0.0 all c.in_err-end_line.ensures.fault)
 
@@ -40,7 +39,7 @@ loop-end-preserved c =
       stands = c.in_ok-end_line.ensures.stands;
       bytes = ap (λ (r : List ℕ). bytes_of c.end_line.new.self.pieces.lines ++ r) behind
           ∙ ap (λ (b : List ℕ). b ++ drop (c.in-Some.end + 1) rest) c.in_ok-end_line.ensures.bytes
-          ∙ piece-split (bytes_of c.loop-end.self.pieces.lines) rest c.in-Some.end c.in-Some.ensures.end ∙ c.loop-end.invariant.bytes;
+          ∙ piece-split (bytes_of c.loop-end.self.pieces.lines) rest c.in-Some.end c.in-Some.ensures.end c.loop-end.invariant.bytes;
       shorter = subst (λ (r : List ℕ). length r ≤ length c.args.piece.now) (sym behind) (omega (arith, length-drop (c.in-Some.end + 1) rest, c.loop-end.invariant.shorter));
       keeps = keeps-then c.loop-end.invariant.keeps c.end_line.ensures.keeps;
     }
@@ -53,6 +52,5 @@ pub returns-in_err-end_line-clause-needed : goal.returns-in_err-end_line-clause-
 returns-in_err-end_line-clause-needed c =
     let p = err_from_is_err_and c.from_residual.result c.from_residual.ensures.1 in
     let rest : List ℕ = c.loop-end.rest.now in
-    let all : bytes_of c.loop-end.self.pieces.lines ++ take c.in-Some.end rest ++ 10 ∷ [] ++ drop (c.in-Some.end + 1) rest ≡ bytes_of c.args.self.now.pieces.lines ++ c.args.piece.now =
-    piece-split (bytes_of c.loop-end.self.pieces.lines) rest c.in-Some.end c.in-Some.ensures.end ∙ c.loop-end.invariant.bytes in
+    let all = piece-split (bytes_of c.loop-end.self.pieces.lines) rest c.in-Some.end c.in-Some.ensures.end c.loop-end.invariant.bytes in
     rw (p.1, p.2) (λ e. subst (λ (b : List ℕ). LacksForFront MAX_LEVEL b c.end_line.new.store) all (c.in_err-end_line.ensures.needed e (drop (c.in-Some.end + 1) rest)))
