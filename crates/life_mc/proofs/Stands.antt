@@ -198,8 +198,8 @@ module _ (top : ℕ) (lines : List (List ℕ)) (line : List ℕ) (old new : Stan
 
 -- ---- a rule line or a generation line
 
-pub rule_breaks : (top : ℕ) (rule : Rule) (levels : List ℕ) (line : List ℕ) → is_blank line ≡ false → begins_with line (codes "#FRAME") ≡ false → is_command 82 line ≡ true
-    → nat_lt 0 (length levels) ≡ false → broken_after top rule levels line ≡ fault_in (rule_of (drop 2 line))
+pub rule_breaks : (top : ℕ) (rule : Rule) (levels : List ℕ) (line : List ℕ) → is_blank line ≡ false → begins_with line (codes "#FRAME") ≡ false
+    → is_command 82 line ≡ true → nat_lt 0 (length levels) ≡ false → broken_after top rule levels line ≡ fault_in (rule_of (drop 2 line))
 rule_breaks top rule levels line b f r l = rw (b, f, r, l) refl
 
 pub generation_breaks : (top : ℕ) (rule : Rule) (levels : List ℕ) (line : List ℕ) → is_blank line ≡ false → begins_with line (codes "#FRAME") ≡ false → is_command 82 line ≡ false

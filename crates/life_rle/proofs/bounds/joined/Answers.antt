@@ -3,7 +3,8 @@ use Rattle.std.specs.Int.{int_min, int_max}
 use Rattle.life_rle.proofs.bounds.joined.Goals as goal
 
 -- the least or the greatest of two numbers of the type
-side : (least : ℤ → ℤ → ℤ) (n a b : ℤ) → FitsSigned w64 n → FitsSigned w64 a → FitsSigned w64 b → n ≡ least (to_z w64 (of_z w64 a)) (to_z w64 (of_z w64 b)) → to_z w64 (of_z w64 n) ≡ least a b
+side : (least : ℤ → ℤ → ℤ) (n a b : ℤ) → FitsSigned w64 n → FitsSigned w64 a → FitsSigned w64 b
+    → n ≡ least (to_z w64 (of_z w64 a)) (to_z w64 (of_z w64 b)) → to_z w64 (of_z w64 n) ≡ least a b
 side least n a b f g h e = simp to_z-of_z (simp to_z-of_z at e)
 
 pub returns-clause-left : goal.returns-clause-left

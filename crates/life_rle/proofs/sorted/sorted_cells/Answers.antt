@@ -21,8 +21,10 @@ module _ (rule : Rule) (c : Cell) where
   bad_cell [] e = e
   bad_cell (d ∷ cells) e = ap (λ v. (v && rises c d) && are_sorted_cells MAX_LEVEL rule (d ∷ cells)) e
 
-  good_cell : (d : Cell) (cells : List Cell) → is_live_cell MAX_LEVEL rule c ≡ true → rises c d ≡ true → are_sorted_cells MAX_LEVEL rule (c ∷ d ∷ cells) ≡ are_sorted_cells MAX_LEVEL rule (d ∷ cells)
-  good_cell d cells e f = ap (λ v. (v && rises c d) && are_sorted_cells MAX_LEVEL rule (d ∷ cells)) e ∙ ap (λ v. v && are_sorted_cells MAX_LEVEL rule (d ∷ cells)) f
+  good_cell : (d : Cell) (cells : List Cell) → is_live_cell MAX_LEVEL rule c ≡ true → rises c d ≡ true
+      → are_sorted_cells MAX_LEVEL rule (c ∷ d ∷ cells) ≡ are_sorted_cells MAX_LEVEL rule (d ∷ cells)
+  good_cell d cells e f =
+      ap (λ v. (v && rises c d) && are_sorted_cells MAX_LEVEL rule (d ∷ cells)) e ∙ ap (λ v. v && are_sorted_cells MAX_LEVEL rule (d ∷ cells)) f
 
 pub loop-i-init : goal.loop-i-init
 loop-i-init c = refl
@@ -42,7 +44,8 @@ returns-then-not-rises c =
     let i = c.loop-i.i in
     let first : Cell = get_or cells i none in
     let sorted : List Cell → Bool = are_sorted_cells MAX_LEVEL rule in
-    sym (neither (is_live_cell MAX_LEVEL rule first) (rises first (get_or cells (i + 1) none)) (sorted (get_or cells (i + 1) none ∷ drop (i + 1 + 1) cells)) (sym c.rises.ensures ∙ c.if-not-rises.true))
+    sym (neither (is_live_cell MAX_LEVEL rule first) (rises first (get_or cells (i + 1) none)) (sorted (get_or cells (i + 1) none ∷ drop (i + 1 + 1) cells))
+    (sym c.rises.ensures ∙ c.if-not-rises.true))
     ∙ sym (at_drop_more (λ rest. sorted (first ∷ rest)) cells (i + 1) none c.if-i-cells.true)
     ∙ sym (at_drop_more sorted cells i none c.loop-i-test.true) ∙ c.loop-i.invariant
 
@@ -61,7 +64,8 @@ loop-i-preserved c =
           ∙ sym (good_cell rule first (get_or cells (i + 1) none) (drop (i + 1 + 1) cells) live (sym w.rises.ensures ∙ w.if-not-rises.false))
           ∙ sym (at_drop_more (λ rest. sorted (first ∷ rest)) cells (i + 1) none w.if-i-cells.true) ∙ here
       | else-i-cells-via-else-i-cells w ↦
-          at_drop_all sorted cells (i + 1) w.if-i-cells.false ∙ sym live ∙ sym (at_drop_all (λ rest. sorted (first ∷ rest)) cells (i + 1) w.if-i-cells.false) ∙ here
+          at_drop_all sorted cells (i + 1) w.if-i-cells.false ∙ sym live
+          ∙ sym (at_drop_all (λ rest. sorted (first ∷ rest)) cells (i + 1) w.if-i-cells.false) ∙ here
     ]
 
 pub returns : goal.returns

@@ -27,4 +27,5 @@ returns-clause-item c =
     let size = c.write_item-start.array_long in
     put-below c.args.rule.now c.args.used c.args.item start room old c.append-2.new.out.items said.start said.written c.if-used-len-le-LINE_WIDTH.false
     (c.in_ok-append-2.ensures.ok
-    ∙ ap (λ t. old ++ t) (from_place fed (start - 1) (length-set room (start - 1) 10 ∙ size) ∙ room-feed room start said.feed (omega (arith, said.start, size))))
+    ∙ ap (λ t. old ++ t) (from_place fed (start - 1) (length-set room (start - 1) 10 ∙ size)
+    ∙ room-feed room start said.feed (omega (arith, said.start, size))))

@@ -13,10 +13,13 @@ pub returns-then-state-le24-clause-written : goal.returns-then-state-le24-clause
 returns-then-state-le24-clause-written c = c.write_byte-then-state-le24.ensures.written ∙ sym (letter c.args.state c.if-state-eq0.false c.if-state-le24.true)
 
 pub returns-then-state-le24-clause-start : goal.returns-then-state-le24-clause-start
-returns-then-state-le24-clause-start c = ap (λ n. n + length (lettered c.args.state)) c.write_byte-then-state-le24.ensures.start ∙ ap (λ l. 22 + length l) (letter c.args.state c.if-state-eq0.false c.if-state-le24.true)
+returns-then-state-le24-clause-start c =
+    ap (λ n. n + length (lettered c.args.state)) c.write_byte-then-state-le24.ensures.start
+    ∙ ap (λ l. 22 + length l) (letter c.args.state c.if-state-eq0.false c.if-state-le24.true)
 
 pub returns-else-state-le24-clause-written : goal.returns-else-state-le24-clause-written
 returns-else-state-le24-clause-written c = c.write_pair.ensures.written ∙ sym (pair c.args.state c.if-state-le24.false)
 
 pub returns-else-state-le24-clause-start : goal.returns-else-state-le24-clause-start
-returns-else-state-le24-clause-start c = ap (λ n. n + length (lettered c.args.state)) c.write_pair.ensures.start ∙ ap (λ l. 21 + length l) (pair c.args.state c.if-state-le24.false)
+returns-else-state-le24-clause-start c =
+    ap (λ n. n + length (lettered c.args.state)) c.write_pair.ensures.start ∙ ap (λ l. 21 + length l) (pair c.args.state c.if-state-le24.false)

@@ -13,6 +13,8 @@ joined a b c d e f g old first second third fourth fifth sixth new p q r s t u v
 pub returns-clause-ok : goal.returns-clause-ok
 returns-clause-ok c = on_ok_weaker c.append-4.result
     (joined (codes "x = ") (decimal c.args.width) (codes ", y = ") (decimal c.args.height) (codes ", rule = ") (rule_text c.args.rule.now) (10 ∷ [])
-    c.args.out.now.items c.append.new.out.items c.append_number.new.out.items c.append-2.new.out.items c.append_number-2.new.out.items c.append-3.new.out.items c.write.new.out.items c.append-4.new.out.items
-    c.in_ok-append.ensures.ok c.in_ok-append_number.ensures.ok c.in_ok-append-2.ensures.ok c.in_ok-append_number-2.ensures.ok c.in_ok-append-3.ensures.ok c.in_ok-write.ensures.ok)
+    c.args.out.now.items c.append.new.out.items c.append_number.new.out.items c.append-2.new.out.items
+    c.append_number-2.new.out.items c.append-3.new.out.items c.write.new.out.items c.append-4.new.out.items
+    c.in_ok-append.ensures.ok c.in_ok-append_number.ensures.ok c.in_ok-append-2.ensures.ok
+    c.in_ok-append_number-2.ensures.ok c.in_ok-append-3.ensures.ok c.in_ok-write.ensures.ok)
     c.append-4.ensures.ok

@@ -17,10 +17,12 @@ by_parts n_states vars text before behind name list states a b e f g = rw (g, e,
 
 pub returns-in_default-clause-ok : goal.returns-in_default-clause-ok
 returns-in_default-clause-ok c =
-    by_parts c.args.n_states c.args.vars.now c.args.text.now _ _ _ _ None c.split_at_byte.ensures.before c.split_at_byte.ensures.behind c.trimmed-name.ensures c.trimmed.ensures
+    by_parts c.args.n_states c.args.vars.now c.args.text.now _ _ _ _ None
+    c.split_at_byte.ensures.before c.split_at_byte.ensures.behind c.trimmed-name.ensures c.trimmed.ensures
     (sym c.in_default.is ∙ c.variable_states.ensures)
 
 pub returns-clause-ok : goal.returns-clause-ok
 returns-clause-ok c = rw (c.from_vec.ensures, c.in_ok-bytes.ensures.items)
-    (by_parts c.args.n_states c.args.vars.now c.args.text.now _ _ _ _ (Some c.in-Some.states) c.split_at_byte.ensures.before c.split_at_byte.ensures.behind c.trimmed-name.ensures c.trimmed.ensures
+    (by_parts c.args.n_states c.args.vars.now c.args.text.now _ _ _ _ (Some c.in-Some.states)
+    c.split_at_byte.ensures.before c.split_at_byte.ensures.behind c.trimmed-name.ensures c.trimmed.ensures
     (sym c.in-Some.is ∙ c.variable_states.ensures))

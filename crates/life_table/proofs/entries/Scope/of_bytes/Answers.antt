@@ -13,7 +13,8 @@ loop-byte-init c = at_start _ c.new-entries.result.items c.new-entries.ensures.i
 
 -- the words of this byte on, where it isn't whitespace
 module _ (f : List ℕ → Option Entry) (done : List Entry) (text : List ℕ) (i : ℕ) where
-  word_next : (whole : Option (List Entry)) → i < length text → is_whitespace (get_or text i 0) ≡ false → whole ≡ joined done (all_some (map f (solid (drop i text))))
+  word_next : (whole : Option (List Entry)) → i < length text → is_whitespace (get_or text i 0) ≡ false
+      → whole ≡ joined done (all_some (map f (solid (drop i text))))
       → whole ≡ joined done (all_some (map f ((get_or text i 0 ∷ []) ∷ solid (drop (i + 1) text))))
   word_next whole h e w = w ∙ ap (λ words. joined done (all_some (map f words))) (solid_next text i h e)
 
@@ -26,7 +27,8 @@ loop-byte-preserved c =
     elim c.if-not-is_whitespace.branch [
       | then-not-is_whitespace+in-Some+in_ok-push w ↦ rw (w.entries-is, w.in_ok-push.ensures.items)
           (word_read f _ done (get_or text i 0 ∷ []) (solid (drop (i + 1) text)) w.in-Some.entry
-          (word_next f done text i _ c.loop-byte-test.true (sym c.is_whitespace.ensures ∙ w.if-not-is_whitespace.true) c.loop-byte.invariant) (sym w.entry_of.ensures ∙ w.in-Some.is))
+          (word_next f done text i _ c.loop-byte-test.true (sym c.is_whitespace.ensures ∙ w.if-not-is_whitespace.true) c.loop-byte.invariant)
+          (sym w.entry_of.ensures ∙ w.in-Some.is))
       | else-not-is_whitespace w ↦ rw w.entries-is (c.loop-byte.invariant ∙ ap (λ words. joined done (all_some (map f words)))
           (solid_skips text i c.loop-byte-test.true (sym c.is_whitespace.ensures ∙ w.if-not-is_whitespace.false)))
     ]
@@ -38,9 +40,11 @@ returns-in_default-clause-ok c =
     let i = c.loop-byte.byte-index in
     let done = c.loop-byte.entries.items in
     word_unread f _ done (get_or text i 0 ∷ []) (solid (drop (i + 1) text))
-    (word_next f done text i _ c.loop-byte-test.true (sym c.is_whitespace.ensures ∙ c.if-not-is_whitespace.true) c.loop-byte.invariant) (sym c.entry_of.ensures ∙ c.in_default.is)
+    (word_next f done text i _ c.loop-byte-test.true (sym c.is_whitespace.ensures ∙ c.if-not-is_whitespace.true) c.loop-byte.invariant)
+    (sym c.entry_of.ensures ∙ c.in_default.is)
 
 pub returns-clause-ok : goal.returns-clause-ok
 returns-clause-ok c =
     let f : List ℕ → Option Entry = entry_of c.args.self.now.n_states c.args.self.now.vars.now in
-    all_read f _ c.loop-byte.entries.items (c.loop-byte.invariant ∙ ap (λ (t : List ℕ). joined c.loop-byte.entries.items (all_some (map f (solid t)))) (drop_of_length-le c.args.text.now c.loop-byte-test.false))
+    let done = c.loop-byte.entries.items in
+    all_read f _ done (c.loop-byte.invariant ∙ ap (λ (t : List ℕ). joined done (all_some (map f (solid t)))) (drop_of_length-le c.args.text.now c.loop-byte-test.false))
