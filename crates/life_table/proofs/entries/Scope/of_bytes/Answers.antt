@@ -47,4 +47,5 @@ pub returns-clause-ok : goal.returns-clause-ok
 returns-clause-ok c =
     let f : List ℕ → Option Entry = entry_of c.args.self.now.n_states c.args.self.now.vars.now in
     let done = c.loop-byte.entries.items in
-    all_read f _ done (c.loop-byte.invariant ∙ ap (λ (t : List ℕ). joined done (all_some (map f (solid t)))) (drop_of_length-le c.args.text.now c.loop-byte-test.false))
+    all_read f _ done
+    (c.loop-byte.invariant ∙ ap (λ (t : List ℕ). joined done (all_some (map f (solid t)))) (drop_of_length-le c.args.text.now c.loop-byte-test.false))
