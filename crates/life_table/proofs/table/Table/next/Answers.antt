@@ -40,6 +40,3 @@ loop-line-preserved c = silent_more c.args.self.now.symmetry c.args.self.now.var
 pub returns : goal.returns
 returns c = rw c.as_slice-cells.ensures (silent_all c.args.self.now.symmetry c.args.self.now.vars c.args.self.now.vars (cells_of c.args.around.now) (cells_of c.args.around.now) refl refl
     c.args.self.now.lines c.as_slice-line-items.result.now c.as_slice-line-items.ensures c.loop-line.line-index c.loop-line-test.false c.loop-line.invariant)
-
-pub loop-line-init : goal.loop-line-init
-loop-line-init c k d h s g = omega (arith, h)
