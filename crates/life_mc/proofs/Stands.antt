@@ -20,6 +20,7 @@ use Rattle.life_mc.specs.Grammar.{form_rule, form_generation, form_square}
 use Rattle.life_mc.specs.Standing.{Standing, StandsAfter, broken_after, IsParsed, form_of, or_value, level_in}
 use Rattle.life_mc.specs.declared.line.Directive.{Directive}
 use Rattle.life_mc.specs.declared.line.Line.{Line}
+use Rattle.life_mc.proofs.Around.{commands}
 use Rattle.life_mc.proofs.Valid.{command_is_hash}
 use Rattle.life_mc.proofs.ReadLines.{squares_none, squares_some}
 
@@ -195,23 +196,38 @@ module _ (top : ℕ) (lines : List (List ℕ)) (line : List ℕ) (old new : Stan
         },
       )
 
--- ---- a generation line
+-- ---- a rule line or a generation line
+
+pub rule_breaks : (top : ℕ) (rule : Rule) (levels : List ℕ) (line : List ℕ) → is_blank line ≡ false → begins_with line (codes "#FRAME") ≡ false
+    → is_command 82 line ≡ true → nat_lt 0 (length levels) ≡ false → broken_after top rule levels line ≡ fault_in (rule_of (drop 2 line))
+rule_breaks top rule levels line b f r l = rw (b, f, r, l) refl
 
 pub generation_breaks : (top : ℕ) (rule : Rule) (levels : List ℕ) (line : List ℕ) → is_blank line ≡ false → begins_with line (codes "#FRAME") ≡ false → is_command 82 line ≡ false
     → is_command 71 line ≡ true → nat_lt 0 (length levels) ≡ false → broken_after top rule levels line ≡ fault_in (u64_of (trim (drop 2 line)))
 generation_breaks top rule levels line b f r g l = rw (b, f, r, g, l) refl
+
+no_square : (line : List ℕ) → begins_with line (codes "#") ≡ true → square_on line ≡ None
+no_square line h = ap (λ v. cond (not (is_blank line) && not v) (square_of (trim line)) None) h ∙ none (not (is_blank line))
+  where
+    none : (v : Bool) → cond (v && false) (square_of (trim line)) None ≡ None
+    none true = refl
+    none false = refl
+
+pub rule_parsed_so : (line : List ℕ) (rule : Rule) → is_command 82 line ≡ true → rule_of (drop 2 line) ≡ Ok rule
+    → (rule_on line ≡ Some rule) × (generation_on line ≡ None) × (square_on line ≡ None)
+rule_parsed_so line rule r e = (
+  ap (λ v. cond v (result_ok (rule_of (drop 2 line))) None) r ∙ ap result_ok e,
+  ap (λ (l : List ℕ). cond (is_command 71 l) (Some (value_of (trim (drop 2 line)))) None) (commands 82 line r).0,
+  no_square line (command_is_hash 0 82 line r),
+)
 
 pub generation_parsed_so : (line : List ℕ) (n : ℕ) → is_command 82 line ≡ false → is_command 71 line ≡ true → n ≡ value_of (trim (drop 2 line))
     → (rule_on line ≡ None) × (generation_on line ≡ Some n) × (square_on line ≡ None)
 generation_parsed_so line n r g e = (
   ap (λ v. cond v (result_ok (rule_of (drop 2 line))) None) r,
   ap (λ v. cond v (Some (value_of (trim (drop 2 line)))) None) g ∙ ap Some (sym e),
-  ap (λ v. cond (not (is_blank line) && not v) (square_of (trim line)) None) (command_is_hash 0 71 line g) ∙ none (not (is_blank line)),
+  no_square line (command_is_hash 0 71 line g),
 )
-  where
-    none : (v : Bool) → cond (v && false) (square_of (trim line)) None ≡ None
-    none true = refl
-    none false = refl
 
 pub combine : {X E : Type 0} {P Q : X → Type 0} {A B C : Type 0} (r : Result X E) → IfOk r P → OnOk r A → OnOk r B → OnOk r C → ((x : X) → P x → A → B → C → Q x) → IfOk r Q
 combine (Ok x) p a b c f = f x p a b c

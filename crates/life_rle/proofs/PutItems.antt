@@ -98,3 +98,7 @@ lines-text position header rule items old first second new a b e =
 pub four-texts : (a b c d old first second third new : List ℕ) → first ≡ old ++ a → second ≡ first ++ b → third ≡ second ++ c → new ≡ third ++ d → new ≡ old ++ (((a ++ b) ++ c) ++ d)
 four-texts a b c d old first second third new e f g h =
     h ∙ ap (λ t. t ++ d) (g ∙ ap (λ t. t ++ c) (f ∙ ap (λ t. t ++ b) e ∙ append_assoc old a b) ∙ append_assoc old (a ++ b) c) ∙ append_assoc old ((a ++ b) ++ c) d
+
+-- three texts, one behind the other
+pub three-texts : (a b c old first second new : List ℕ) → first ≡ old ++ a → second ≡ first ++ b → new ≡ second ++ c → new ≡ old ++ (a ++ (b ++ c))
+three-texts a b c old first second new e f g = rw (g, f, e) (simp append_assoc)

@@ -39,7 +39,3 @@ none false i h = refl
 -- there is no separator
 pub parts_without : (p : ℕ → Bool) (text : List ℕ) → position p text ≡ None → slice_split p text ≡ text ∷ []
 parts_without p text h = last_part p text (ltb-false _ _ (none (ltb (position_or_len p text) (length text)) _ h))
-
--- what is behind a place, cut at its own length
-pub all_behind : (text : List ℕ) (n : ℕ) → take (length text - n) (drop n text) ≡ drop n text
-all_behind text n = ap (λ k. take k (drop n text)) (sym (length-drop n text)) ∙ take-length (drop n text)

@@ -73,7 +73,6 @@ fn variable_states(n_states: u16, vars: &Variables, name: &[u8], list: &[u8]) ->
 }
 
 /// The variable that a line writes behind these variables, if it writes one.
-#[tactic(auto, using(crate::proofs::Parts::all_behind), unfolding(crate::specs::Reading::variable_of))]
 pub(crate) fn variable_of(
     alloc: Global,
     n_states: u16,

@@ -1,44 +1,70 @@
-use Rattle.std.proofs.Common.{◌≡◌, ◌∙◌, ap, sym, inr, drop, length, false, true, List, ℕ, ◌⊎◌}
-use Rattle.std.specs.Prelude.{codes, nat_lt, Some}
+use Rattle.std.proofs.Common.{◌≡◌, ◌∙◌, ◌-◌, ap, sym, inl, inr, drop, take, length, Ok, Err, List, ℕ, ◌⊎◌}
+use Rattle.std.specs.Prelude.{Option, Some}
 use Rattle.std.proofs.lemmas.Result.{err_from_is_err_and}
-use Rattle.life_base.specs.Text.{is_blank, begins_with, trim, value_of}
+use Rattle.life_base.specs.Text.{trim, value_of}
 use Rattle.life_base.specs.Numbers.{u64_of}
+use Rattle.life_base.specs.Refusal.{Answers}
+use Rattle.life_base.specs.Rules.{rule_of}
+use Rattle.life_base.specs.declared.cell.TheConstants.{MAX_LEVEL}
 use Rattle.life_base.specs.declared.kind.Kind.{Kind}
 use Rattle.life_base.specs.declared.kind.Kind.TheVariants.{Memory}
+use Rattle.life_base.specs.declared.rule.Rule.{Rule}
 use Rattle.life_base.proofs.LineEnds.{all_behind}
-use Rattle.life_mc.specs.Reading.{is_command, fault_in}
-use Rattle.life_mc.specs.Standing.{broken_after}
-use Rattle.life_base.specs.declared.cell.TheConstants.{MAX_LEVEL}
-use Rattle.life_mc.proofs.Stands.{generation_breaks, generation_parsed_so, none_left}
+use Rattle.life_mc.specs.Reading.{fault_in}
+use Rattle.life_mc.proofs.Stands.{rule_breaks, rule_parsed_so, generation_breaks, generation_parsed_so, none_left}
 use Rattle.life_mc.proofs.line.parse_line.Goals as goal
+
+rule_read : (line : List ℕ) (rule : Rule) → Answers (Ok rule) (rule_of (take (length line - 2) (drop 2 line))) → rule_of (drop 2 line) ≡ Ok rule
+rule_read line rule (inl m) = cc
+rule_read line rule (inr e) = ap rule_of (sym (all_behind line 2)) ∙ sym e
+
+rule_refused : (line : List ℕ) (kind : Kind) (breaks : Option Kind) → breaks ≡ fault_in (rule_of (drop 2 line))
+    → Answers (Err kind) (rule_of (take (length line - 2) (drop 2 line))) → (kind ≡ Memory) ⊎ (breaks ≡ Some kind)
+rule_refused line kind breaks b (inl m) = inl cc
+rule_refused line kind breaks b (inr e) = inr (b ∙ ap (λ (t : List ℕ). fault_in (rule_of t)) (sym (all_behind line 2)) ∙ ap fault_in (sym e))
+
+pub returns-in_err-parse : goal.returns-in_err-parse
+returns-in_err-parse c =
+    let line = c.args.line.now in
+    let levels = c.args.levels.now in
+    let p = err_from_is_err_and c.from_residual.result c.from_residual.ensures.1 in
+    let breaks = rule_breaks MAX_LEVEL c.args.rule.now levels line
+    (sym c.is_blank.ensures ∙ c.if-is_blank.false) (sym c.begins_with.ensures ∙ c.if-begins_with.false)
+    (sym c.is_command.ensures ∙ c.if-is_command.true) (none_left levels c.is_empty.result c.is_empty.ensures c.if-not-is_empty.false) in
+    rw (p.1, p.2) (rule_refused line c.in_err-parse.field-0.0 _ breaks c.in_err-parse.ensures)
+
+pub returns-then-is_command : goal.returns-then-is_command
+returns-then-is_command c =
+    let line = c.args.line.now in
+    let levels = c.args.levels.now in
+    let rule = sym c.is_command.ensures ∙ c.if-is_command.true in
+    let read = rule_read line c.in_ok-parse.field-0 c.in_ok-parse.ensures in (
+      rule_parsed_so line c.in_ok-parse.field-0 rule read,
+      rule_breaks MAX_LEVEL c.args.rule.now levels line (sym c.is_blank.ensures ∙ c.if-is_blank.false) (sym c.begins_with.ensures ∙ c.if-begins_with.false) rule
+          (none_left levels c.is_empty.result c.is_empty.ensures c.if-not-is_empty.false) ∙ ap fault_in read,
+    )
 
 pub returns-in_err-read_generation : goal.returns-in_err-read_generation
 returns-in_err-read_generation c =
     let line = c.args.line.now in
     let levels = c.args.levels.now in
-    let blank : is_blank line ≡ false = sym c.is_blank.ensures ∙ c.if-is_blank.false in
-    let frame : begins_with line (codes "#FRAME") ≡ false = sym c.begins_with.ensures ∙ c.if-begins_with.false in
-    let rule : is_command 82 line ≡ false = sym c.is_command.ensures ∙ c.if-is_command.false in
-    let generation : is_command 71 line ≡ true = sym c.is_command-2.ensures ∙ c.if-is_command-2.true in
-    let none : nat_lt 0 (length levels) ≡ false = none_left levels c.is_empty-then-is_command-2.result c.is_empty-then-is_command-2.ensures c.if-not-is_empty-2.false in
-    let kind : Kind = c.in_err-read_generation.field-0.0 in
-    let directive : fault_in (u64_of (trim (drop 2 line))) ≡ Some kind = ap (λ (t : List ℕ). fault_in (u64_of (trim t))) (sym (all_behind line 2)) ∙ c.in_err-read_generation.ensures in
     let p = err_from_is_err_and c.from_residual-in_err-read_generation.result c.from_residual-in_err-read_generation.ensures.1 in
-    let answer : (kind ≡ Memory) ⊎ (broken_after MAX_LEVEL c.args.rule.now levels line ≡ Some kind) =
-    inr (generation_breaks MAX_LEVEL c.args.rule.now levels line blank frame rule generation none ∙ directive) in
-    rw (p.1, p.2) answer
+    let breaks = generation_breaks MAX_LEVEL c.args.rule.now levels line
+    (sym c.is_blank.ensures ∙ c.if-is_blank.false) (sym c.begins_with.ensures ∙ c.if-begins_with.false)
+    (sym c.is_command.ensures ∙ c.if-is_command.false) (sym c.is_command-2.ensures ∙ c.if-is_command-2.true)
+    (none_left levels c.is_empty-then-is_command-2.result c.is_empty-then-is_command-2.ensures c.if-not-is_empty-2.false) in
+    rw (p.1, p.2) (inr (breaks ∙ ap (λ (t : List ℕ). fault_in (u64_of (trim t))) (sym (all_behind line 2)) ∙ c.in_err-read_generation.ensures))
 
 pub returns-then-is_command-2 : goal.returns-then-is_command-2
 returns-then-is_command-2 c =
     let line = c.args.line.now in
     let levels = c.args.levels.now in
-    let blank : is_blank line ≡ false = sym c.is_blank.ensures ∙ c.if-is_blank.false in
-    let frame : begins_with line (codes "#FRAME") ≡ false = sym c.begins_with.ensures ∙ c.if-begins_with.false in
-    let rule : is_command 82 line ≡ false = sym c.is_command.ensures ∙ c.if-is_command.false in
-    let generation : is_command 71 line ≡ true = sym c.is_command-2.ensures ∙ c.if-is_command-2.true in
-    let none : nat_lt 0 (length levels) ≡ false = none_left levels c.is_empty-then-is_command-2.result c.is_empty-then-is_command-2.ensures c.if-not-is_empty-2.false in
-    let e = c.in_ok-read_generation.ensures in (
-      generation_parsed_so line c.in_ok-read_generation.field-0 rule generation (e.0 ∙ ap (λ (t : List ℕ). value_of (trim t)) (all_behind line 2)),
-      generation_breaks MAX_LEVEL c.args.rule.now levels line blank frame rule generation none
-          ∙ ap (λ (t : List ℕ). fault_in (u64_of (trim t))) (sym (all_behind line 2)) ∙ e.1,
+    let rule = sym c.is_command.ensures ∙ c.if-is_command.false in
+    let generation = sym c.is_command-2.ensures ∙ c.if-is_command-2.true in
+    let read = c.in_ok-read_generation.ensures in (
+      generation_parsed_so line c.in_ok-read_generation.field-0 rule generation (read.0 ∙ ap (λ (t : List ℕ). value_of (trim t)) (all_behind line 2)),
+      generation_breaks MAX_LEVEL c.args.rule.now levels line
+          (sym c.is_blank.ensures ∙ c.if-is_blank.false) (sym c.begins_with.ensures ∙ c.if-begins_with.false) rule generation
+          (none_left levels c.is_empty-then-is_command-2.result c.is_empty-then-is_command-2.ensures c.if-not-is_empty-2.false)
+          ∙ ap (λ (t : List ℕ). fault_in (u64_of (trim t))) (sym (all_behind line 2)) ∙ read.1,
     )

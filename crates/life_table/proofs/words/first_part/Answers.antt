@@ -1,6 +1,7 @@
 use Rattle.std.proofs.Common.{◌==◌, ◌∷◌, ◌+◌, ◌∙◌, List, ℕ, ap, sym, take}
 use Rattle.std.specs.List.{slice_split}
-use Rattle.life_table.proofs.Parts.{parts_at, parts_without, all_behind}
+use Rattle.life_table.proofs.Parts.{parts_at, parts_without}
+use Rattle.life_base.proofs.LineEnds.{all_behind}
 use Rattle.life_table.proofs.words.first_part.Goals as goal
 
 pub returns-in-Some-clause-parts : goal.returns-in-Some-clause-parts
