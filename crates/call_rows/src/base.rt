@@ -2,10 +2,11 @@
 
 use crate::answer::Unanswered;
 use crate::row::{halves, number_of};
-use crate::shown::{show_bool, show_bytes, show_rule};
+use crate::shown::{Show, show_bool, show_bytes, show_each, show_rule};
 use life_base::{
-    Kind, Rule, begins_with, leading_number, line_end, line_fits, lines, read_i64, read_u64,
-    split_word, trimmed,
+    Device, Items, Kind, LifeRule, Near, Rule, Source, append_number, append_signed, append_u128,
+    begins_with, is_too_long, leading_number, line_end, line_fits, lines, read_i64, read_u64,
+    read_within, split_word, trimmed,
 };
 use std::alloc::Global;
 
@@ -112,6 +113,110 @@ pub(crate) fn signed(out: &mut String, text: &[u8]) -> Result<(), Unanswered> {
     match read_i64(text) {
         Ok(number) => write!(out, "{number}")?,
         Err(kind) => out.push_str(kind.name())?,
+    }
+    Ok(())
+}
+
+/// Whether a line is too long.
+pub(crate) fn too_long(out: &mut String, line: &[u8]) -> Result<(), Unanswered> {
+    show_bool(out, is_too_long(line))
+}
+
+impl Show for u64 {
+    /// The number.
+    fn show(&self, out: &mut String) -> Result<(), Unanswered> {
+        write!(out, "{self}")?;
+        Ok(())
+    }
+}
+
+/// Numbers that become items one behind another: all of them behind each.
+pub(crate) fn items(alloc: Global, out: &mut String, numbers: &[u8]) -> Result<(), Unanswered> {
+    let mut items = Items::<u64>::new(alloc);
+    for number in numbers.split(|byte| *byte == b' ') {
+        items.push(number_of(number)?)?;
+        show_each(out, items.as_slice())?;
+        out.push_str(",")?;
+        items = Items::from_vec(items.into_vec());
+    }
+    Ok(())
+}
+
+/// The texts of rules that became items.
+pub(crate) fn rules(alloc: Global, out: &mut String, texts: &[u8]) -> Result<(), Unanswered> {
+    let mut rules = Items::<Rule>::new(alloc);
+    for text in texts.split(|byte| *byte == b'|') {
+        rules.push(Rule::parse(alloc, text)?)?;
+    }
+    for rule in rules.as_slice() {
+        show_rule(alloc, out, rule)?;
+        out.push_str(" ")?;
+    }
+    Ok(())
+}
+
+/// Adds a number of the type of this name.
+fn append_of(text: &mut Vec<u8>, name: &[u8], number: &[u8]) -> Result<(), Unanswered> {
+    match name {
+        b"u64" => append_number(text, number_of(number)?)?,
+        b"i64" => append_signed(text, number_of(number)?)?,
+        b"u128" => append_u128(text, number_of(number)?)?,
+        _ => return Err(Unanswered::BadInput),
+    }
+    Ok(())
+}
+
+/// Numbers of a type one behind another, as they are added to `#G `.
+pub(crate) fn numbers(alloc: Global, out: &mut String, input: &[u8]) -> Result<(), Unanswered> {
+    let (name, numbers) = halves(input)?;
+    let mut text = Vec::from_slice(alloc, b"#G ")?;
+    for number in numbers.split(|byte| *byte == b' ') {
+        append_of(&mut text, name, number)?;
+    }
+    show_bytes(out, &text)
+}
+
+/// Adds, as digits, whether a dead cell and a live one are alive next by each count of live neighbours up to the most.
+fn show_next(out: &mut String, rule: &LifeRule) -> Result<(), Unanswered> {
+    for alive in [false, true] {
+        out.push_str(" ")?;
+        for count in 0..=8u8 {
+            if count <= 4 || rule.near == Near::Moore {
+                out.push_str(if rule.next(alive, count) { "1" } else { "0" })?;
+            }
+        }
+    }
+    Ok(())
+}
+
+/// The text of a rule, of the default one for no text, and the states that it gives.
+pub(crate) fn next_states(alloc: Global, out: &mut String, text: &[u8]) -> Result<(), Unanswered> {
+    let rule = if text.is_empty() {
+        Rule::default_rule()
+    } else {
+        Rule::parse(alloc, text)?
+    };
+    show_rule(alloc, out, &rule)?;
+    match rule {
+        Rule::Life(rule) => show_next(out, &rule),
+        Rule::Named(_) => Err(Unanswered::BadInput),
+    }
+}
+
+/// Whether what is read of an input is all of it, or a kind; and `failed` where the source says so.
+pub(crate) fn within(alloc: Global, out: &mut String, input: &[u8]) -> Result<(), Unanswered> {
+    let (most, bytes) = halves(input)?;
+    let most = number_of::<u64>(most)?;
+    if most > 1 << 30 {
+        return Err(Unanswered::BadInput);
+    }
+    let mut source = Device::new(bytes);
+    match read_within(alloc, &mut source, most) {
+        Ok(read) => show_bool(out, read.as_slice() == bytes)?,
+        Err(kind) => out.push_str(kind.name())?,
+    }
+    if Source::failed(&source) {
+        out.push_str(" failed")?;
     }
     Ok(())
 }

@@ -4,6 +4,8 @@ use crate::answer::Unanswered;
 use crate::escaped::bytes_of;
 use crate::{base, canon, mc, rle, step, table};
 use std::alloc::Global;
+use std::num::ParseIntError;
+use std::str::FromStr;
 
 /// A text in front of its first `|`, and what stands behind it.
 pub(crate) fn halves(text: &[u8]) -> Result<(&[u8], &[u8]), Unanswered> {
@@ -13,12 +15,12 @@ pub(crate) fn halves(text: &[u8]) -> Result<(&[u8], &[u8]), Unanswered> {
     }
 }
 
-/// The number of a text that has digits alone.
-pub(crate) fn number_of(text: &[u8]) -> Result<u64, Unanswered> {
+/// The number that a text writes.
+pub(crate) fn number_of<N: FromStr<Err = ParseIntError>>(text: &[u8]) -> Result<N, Unanswered> {
     let Ok(text) = std::str::from_utf8(text) else {
         return Err(Unanswered::BadInput);
     };
-    text.parse::<u64>().map_err(|_| Unanswered::BadInput)
+    text.parse::<N>().map_err(|_| Unanswered::BadInput)
 }
 
 /// Adds what a call answers to an input.
@@ -32,10 +34,20 @@ fn answer(alloc: Global, out: &mut String, call: &str, input: &[u8]) -> Result<(
         "leading_number" => base::number_in_front(out, input),
         "line_end" => base::first_end(out, input),
         "line_fits" => base::fitting(out, input),
+        "is_too_long" => base::too_long(out, input),
+        "items" => base::items(alloc, out, input),
+        "rules" => base::rules(alloc, out, input),
+        "append_numbers" => base::numbers(alloc, out, input),
+        "next_states" => base::next_states(alloc, out, input),
+        "read_within" => base::within(alloc, out, input),
         "read_u64" => base::unsigned(out, input),
         "read_i64" => base::signed(out, input),
         "read_rle" => rle::file(alloc, out, input),
         "rle_lines" => rle::by_lines(alloc, out, input),
+        "rle_lines_into" => rle::into_one(alloc, out, input),
+        "sorted_cells" => rle::sorted(alloc, out, input),
+        "write_rle" => rle::written(alloc, out, input),
+        "write_and_read_rle" => rle::read_again(alloc, out, input),
         "read_mc" => mc::file(alloc, out, input),
         "mc_squares" => mc::squares(alloc, out, input),
         "mc_lines" => mc::by_lines(alloc, out, input),

@@ -1,7 +1,7 @@
 //! Calls of `life_table`.
 
 use crate::answer::Unanswered;
-use crate::row::halves;
+use crate::row::{halves, number_of};
 use crate::shown::{Show, show_bytes, show_each, show_fault};
 use life_base::{Fault, State};
 use life_table::{Entry, Neighborhood, Neighbours, Table, Transition, Var, read_table};
@@ -87,19 +87,11 @@ pub(crate) fn whole(alloc: Global, out: &mut String, input: &[u8]) -> Result<(),
     }
 }
 
-/// The state that a text writes.
-fn state_of(text: &[u8]) -> Result<State, Unanswered> {
-    let Ok(text) = std::str::from_utf8(text) else {
-        return Err(Unanswered::BadInput);
-    };
-    text.parse::<u8>().map_err(|_| Unanswered::BadInput)
-}
-
 /// The cell and its four or eight neighbours that a text writes.
 fn around_of(alloc: Global, text: &[u8]) -> Result<Neighbours, Unanswered> {
     let mut states = Vec::new(alloc);
     for word in text.split(|byte| *byte == b',') {
-        states.push(state_of(word)?)?;
+        states.push(number_of::<State>(word)?)?;
     }
     match states.as_slice() {
         [c, n, e, s, w] => Ok(Neighbours::Four([*c, *n, *e, *s, *w])),

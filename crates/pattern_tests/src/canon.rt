@@ -6,7 +6,7 @@ mod pieces;
 mod runs;
 mod stores;
 
-use crate::worked::{ROOM, fault};
+use crate::worked::{ROOM, fault, is_text};
 
 const GLIDER: &[u8] = b"x = 3, y = 3, rule = B3/S23\nbo$2bo$3o!\n";
 

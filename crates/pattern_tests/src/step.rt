@@ -1,7 +1,9 @@
 //! Tests of `life_step`: each limit of a store in turn. Up to some limit a step is refused for want of room. The store that just suffices
 //! takes the step again.
 
-use crate::worked::{ROOM, fault};
+ghost use Rattle.std.specs.Prelude.{◌≤◌, ◌^◌};
+
+use crate::worked::{Call, ROOM, fault, first_limit, is_text};
 use life_base::{Fault, Kind};
 use life_quad::Shared;
 use life_step::{step_life, step_table};
@@ -9,16 +11,19 @@ use life_table::{Table, read_table};
 use std::alloc::Global;
 use std::process::Abort;
 
-/// The canonical text of the next generation of a file, by a table or under the file's own rule.
-fn one_step(
-    alloc: Global,
-    store: &mut Shared,
-    file: &[u8],
-    table: Option<&Table>,
-) -> Result<Vec<u8>, Fault> {
-    match table {
-        None => step_life(alloc, store, file),
-        Some(table) => step_table(alloc, store, file, table),
+/// A file, stepped by a table or under its own rule.
+#[derive(Clone, Copy)]
+struct Step<'a> {
+    file: &'a [u8],
+    table: Option<&'a Table>,
+}
+
+impl<'a> Call for Step<'a> {
+    fn text(&self, alloc: Global, store: &mut Shared) -> Result<Vec<u8>, Fault> {
+        match self.table {
+            None => step_life(alloc, store, self.file),
+            Some(table) => step_table(alloc, store, self.file, table),
+        }
     }
 }
 
@@ -32,53 +37,26 @@ const WIREWORLD: &[u8] =
     var i={0,2,3}\nvar j={i}\nvar k={i}\nvar l={i}\nvar m={i}\nvar n={i}\nvar o={i}\n\
     1,a,b,c,d,e,f,g,h,2\n2,a,b,c,d,e,f,g,h,3\n3,1,i,j,k,l,m,n,o,1\n3,1,1,i,j,k,l,m,n,1\n";
 
-/// The greatest limit that is tried.
-const MOST: u64 = 4096;
-
 /// Cells of a B/S rule whose squares no file of these tests has.
 const OTHER: &[u8] = b"x = 40, y = 3\nob2o3b4o5bo3bo2b5o!\n";
 
-/// The step of a full store that holds what it needs, and the same step behind a file for which there is no room.
-fn is_served(
-    rt: &impl Abort,
-    alloc: Global,
-    store: &mut Shared,
-    table: Option<&Table>,
-    file: &[u8],
-    text: &[u8],
-) {
-    let again = one_step(alloc, store, file, table).expect(rt, "an answer");
-    assert_eq!(rt; again.as_slice(), text);
-    assert_eq!(rt;
-        one_step(alloc, store, OTHER, None).err(),
-        Some(fault(0, Kind::Full))
-    );
-    let behind = one_step(alloc, store, file, table).expect(rt, "an answer");
-    assert_eq!(rt; behind.as_slice(), text);
+/// A step in a store of this limit, which is full then, the same step again, and behind a file for which there is no room.
+fn is_served(alloc: Global, step: &Step, limit: u64, text: &[u8]) -> bool
+    requires { limit ≤ 4096 }
+{
+    let mut store = Shared::new(alloc, limit);
+    let first = is_text(step.text(alloc, &mut store), text) && store.len() == limit;
+    let again = is_text(step.text(alloc, &mut store), text);
+    let refused = step_life(alloc, &mut store, OTHER).err();
+    let behind = is_text(step.text(alloc, &mut store), text);
+    first && again && refused == Some(fault(0, Kind::Full)) && behind
 }
 
-/// Below the first limit that suffices the step is refused, by a store that is full then.
+/// The store whose limit just suffices for a step takes it again.
 fn takes_room(rt: &impl Abort, alloc: Global, table: Option<&Table>, file: &[u8], text: &[u8]) {
-    let mut suffices = false;
-    for limit in 0..=MOST {
-        let mut store = Shared::new(alloc, limit);
-        match one_step(alloc, &mut store, file, table) {
-            Ok(out) => {
-                assert_eq!(rt; out.as_slice(), text);
-                if !suffices {
-                    assert_eq!(rt; store.len(), limit);
-                    is_served(rt, alloc, &mut store, table, file, text);
-                }
-                suffices = true;
-            }
-            Err(found) => {
-                assert!(rt; !suffices);
-                assert_eq!(rt; found, fault(0, Kind::Full));
-                assert_eq!(rt; store.len(), limit);
-            }
-        }
-    }
-    assert!(rt; suffices);
+    let step = Step { file, table };
+    let first = first_limit(alloc, &step, text);
+    assert!(rt; first.is_some_and(|limit| limit <= 4096 && is_served(alloc, &step, limit, text)));
 }
 
 #[test]
@@ -131,15 +109,19 @@ fn steps_by_a_table_take_room(rt: HostRuntime) {
     );
 }
 
+/// What a step is refused for in a store of this limit, and how many squares the store holds then.
+fn refusal_within(alloc: Global, limit: u64) -> (Option<Fault>, u64)
+    requires { limit ≤ 2 ^ 31 }
+{
+    let mut store = Shared::new(alloc, limit);
+    let refused = step_life(alloc, &mut store, b"x = 3, y = 1\n3o!\n").err();
+    (refused, store.len())
+}
+
 #[test]
 fn a_full_store_takes_no_step(rt: HostRuntime) {
-    let alloc = rt.alloc();
-    let mut store = Shared::new(alloc, 0);
-    assert_eq!(rt;
-        step_life(alloc, &mut store, b"x = 3, y = 1\n3o!\n").err(),
-        Some(fault(0, Kind::Full))
-    );
-    assert_eq!(rt; store.len(), 0);
-    let mut room = Shared::new(alloc, ROOM);
-    assert!(rt; step_life(alloc, &mut room, b"x = 3, y = 1\n3o!\n").is_ok());
+    let full = Some(fault(0, Kind::Full));
+    assert!(rt; refusal_within(rt.alloc(), 0) == (full, 0));
+    let (refused, _) = refusal_within(rt.alloc(), ROOM);
+    assert!(rt; refused.is_none());
 }

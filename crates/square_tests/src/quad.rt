@@ -58,92 +58,100 @@ fn whole_row<S: Squares>(squares: &mut S, root: Id, y: i64) -> Result<Id, Kind>
     put(squares, root, -(1 << 61), y, 1 << 62, 1)
 }
 
-// Two rows of the greatest square: the population and the box of the first, and the population of both.
-fn two_rows<S: SharedSquares>(
+// Whether a square has this population and this box.
+fn has_measures<S: SharedSquares>(
     alloc: Global,
-    squares: &mut S,
-) -> Result<(u128, Option<Bounds>, u128), Kind> {
-    let root = squares.empty(MAX_LEVEL);
-    let one = whole_row(squares, root, 0)?;
-    let first = population(alloc, squares, one)?;
-    let least = bounds(alloc, squares, one)?;
-    let two = whole_row(squares, one, 1)?;
-    Ok((first, least, population(alloc, squares, two)?))
+    squares: &S,
+    id: Id,
+    number: u128,
+    least: Option<Bounds>,
+) -> Result<bool, Kind>
+    requires known { S.knows squares.now id }
+    requires high { 1 ≤ depth (S.content squares.now id) }
+{
+    Ok(population(alloc, squares, id)? == number && bounds(alloc, squares, id)? == least)
 }
 
-#[test]
-fn long_runs_share(rt: HostRuntime) {
-    let mut squares = Shared::new(rt.alloc(), 1000);
+// Whether a row of the greatest square has the population and the box of a row, and two have the population of two.
+fn two_rows<S: SharedSquares + Drop>(alloc: Global, store: S) -> Result<bool, Kind> {
+    let mut squares = store;
+    let root = squares.empty(MAX_LEVEL);
+    let one = whole_row(&mut squares, root, 0)?;
     let row = Bounds {
         left: -2305843009213693952,
         top: 0,
         right: 2305843009213693951,
         bottom: 0,
     };
-    assert_eq!(rt;
-        two_rows(rt.alloc(), &mut squares),
-        Ok((4611686018427387904, Some(row), 9223372036854775808))
-    );
-    assert_eq!(rt; squares.limit(), 1000);
+    let is_row = has_measures(alloc, &squares, one, 4611686018427387904, Some(row))?;
+    let two = whole_row(&mut squares, one, 1)?;
+    Ok(is_row && population(alloc, &squares, two)? == 9223372036854775808)
 }
 
-// A row of the greatest square needs a node of each level from 1 up.
+#[test]
+fn long_runs_share(rt: HostRuntime) {
+    let found = two_rows(rt.alloc(), Shared::new(rt.alloc(), 1000));
+    assert!(rt; found == Ok(true));
+}
+
+// A row of the greatest square in a store of this limit, and the limit and the number of nodes that the store tells.
+fn row_within(alloc: Global, limit: u64) -> (Result<Id, Kind>, u64, u64)
+    requires { limit ≤ 62 }
+{
+    let mut squares = Shared::new(alloc, limit);
+    let root = squares.empty(MAX_LEVEL);
+    let row = whole_row(&mut squares, root, 0);
+    (row, squares.limit(), squares.len())
+}
+
+// It needs a node of each level from 1 up.
 #[test]
 fn a_long_run_needs_62_nodes(rt: HostRuntime) {
-    let mut small = Shared::new(rt.alloc(), 61);
-    let root = small.empty(MAX_LEVEL);
-    let row = whole_row(&mut small, root, 0);
-    assert_eq!(rt; (row, small.len()), (Err(Kind::Full), 61));
-    let mut enough = Shared::new(rt.alloc(), 62);
-    let root = enough.empty(MAX_LEVEL);
-    let row = whole_row(&mut enough, root, 0);
-    assert_eq!(rt; (row.is_ok(), enough.len()), (true, 62));
+    assert!(rt; row_within(rt.alloc(), 61) == (Err(Kind::Full), 61, 61));
+    let (row, limit, len) = row_within(rt.alloc(), 62);
+    assert!(rt; row.is_ok() && limit == 62 && len == 62);
 }
 
-// The population and the box of the greatest square with each cell in state 1.
-fn full_square<S: SharedSquares>(
-    alloc: Global,
-    squares: &mut S,
-) -> Result<(u128, Option<Bounds>), Kind> {
+// Whether the greatest square with each cell in state 1 has the population and the box of the plane.
+fn full_square<S: SharedSquares + Drop>(alloc: Global, store: S) -> Result<bool, Kind> {
+    let mut squares = store;
     let mut id = squares.cell(1);
     for _level in 0..MAX_LEVEL {
         id = squares.join(id, id, id, id)?;
     }
-    Ok((population(alloc, squares, id)?, bounds(alloc, squares, id)?))
-}
-
-// It has 2^124 cells in 62 nodes: the test ends only if each node is visited once.
-#[test]
-fn a_full_square_is_measured_at_once(rt: HostRuntime) {
-    let mut squares = Shared::new(rt.alloc(), 62);
     let plane = Bounds {
         left: -2305843009213693952,
         top: -2305843009213693952,
         right: 2305843009213693951,
         bottom: 2305843009213693951,
     };
-    assert_eq!(rt;
-        full_square(rt.alloc(), &mut squares),
-        Ok((21267647932558653966460912964485513216, Some(plane)))
-    );
+    let number = 21267647932558653966460912964485513216;
+    has_measures(alloc, &squares, id, number, Some(plane))
+}
+
+// It has 2^124 cells in 62 nodes: the test ends only if each node is visited once.
+#[test]
+fn a_full_square_is_measured_at_once(rt: HostRuntime) {
+    let found = full_square(rt.alloc(), Shared::new(rt.alloc(), 62));
+    assert!(rt; found == Ok(true));
 }
 
 // Two cells in either order, and both cleared again.
-fn orders<S: SharedSquares>(squares: &mut S) -> Result<(bool, bool), Kind> {
+fn orders<S: SharedSquares + Drop>(store: S) -> Result<(bool, bool), Kind> {
+    let mut squares = store;
     let blank = squares.empty(5);
-    let a = put(squares, blank, 0, 0, 1, 1)?;
-    let ab = put(squares, a, 5, 3, 1, 1)?;
-    let b = put(squares, blank, 5, 3, 1, 1)?;
-    let ba = put(squares, b, 0, 0, 1, 1)?;
-    let without_a = put(squares, ab, 0, 0, 1, 0)?;
-    let none = put(squares, without_a, 5, 3, 1, 0)?;
+    let a = put(&mut squares, blank, 0, 0, 1, 1)?;
+    let ab = put(&mut squares, a, 5, 3, 1, 1)?;
+    let b = put(&mut squares, blank, 5, 3, 1, 1)?;
+    let ba = put(&mut squares, b, 0, 0, 1, 1)?;
+    let without_a = put(&mut squares, ab, 0, 0, 1, 0)?;
+    let none = put(&mut squares, without_a, 5, 3, 1, 0)?;
     Ok((ab == ba, none == blank))
 }
 
 #[test]
 fn orders_do_not_matter(rt: HostRuntime) {
-    let mut squares = Shared::new(rt.alloc(), 1000);
-    assert_eq!(rt; orders(&mut squares), Ok((true, true)));
+    assert!(rt; orders(Shared::new(rt.alloc(), 1000)) == Ok((true, true)));
 }
 
 // The levels of squares of level 9 with one cell after trimming: (4, 0) with the least levels 1 and 3, then (0, 0).
@@ -184,38 +192,45 @@ fn grown_and_back<S: Squares>(squares: &mut S) -> Result<(Id, [u8; 3], [bool; 2]
     Ok((five, levels, [four == made, back == made]))
 }
 
+// A population, three levels, and whether two squares are one.
+type Counted = (u128, [u8; 3], [bool; 2]);
+
 // The same with the population of the grown one.
-fn counted_and_back<S: SharedSquares>(
-    alloc: Global,
-    squares: &mut S,
-) -> Result<(u128, [u8; 3], [bool; 2]), Kind> {
+fn counted_and_back<S: SharedSquares>(alloc: Global, squares: &mut S) -> Result<Counted, Kind> {
     let (grown, levels, same) = grown_and_back(squares)?;
     Ok((population(alloc, squares, grown)?, levels, same))
 }
 
-#[test]
-fn squares_are_trimmed(rt: HostRuntime) {
-    let mut squares = Shared::new(rt.alloc(), 1000);
-    let found = (
-        trims(&mut squares),
-        counted_and_back(rt.alloc(), &mut squares),
-    );
-    assert_eq!(rt; found, (Ok([4, 4, 1, 3]), Ok((1, [4, 5, 4], [true, true]))));
-    let mut plain = Plain::new(rt.alloc(), 1000);
+// What both of these find in one store that shares.
+fn shared_trims(alloc: Global) -> (Result<[u8; 4], Kind>, Result<Counted, Kind>) {
+    let mut squares = Shared::new(alloc, 1000);
+    let levels = trims(&mut squares);
+    (levels, counted_and_back(alloc, &mut squares))
+}
+
+// The levels of both in one store that doesn't share.
+fn plain_trims(alloc: Global) -> (Result<[u8; 4], Kind>, Result<[u8; 3], Kind>) {
+    let mut plain = Plain::new(alloc, 1000);
     let levels = trims(&mut plain);
     let grown = grown_and_back(&mut plain).map(|(_grown, levels, _same)| levels);
-    assert_eq!(rt; (levels, grown), (Ok([4, 4, 1, 3]), Ok([4, 5, 4])));
+    (levels, grown)
+}
+
+#[test]
+fn squares_are_trimmed(rt: HostRuntime) {
+    let (levels, grown) = shared_trims(rt.alloc());
+    assert!(rt; levels == Ok([4, 4, 1, 3]) && grown == Ok((1, [4, 5, 4], [true, true])));
+    let (levels, grown) = plain_trims(rt.alloc());
+    assert!(rt; levels == Ok([4, 4, 1, 3]) && grown == Ok([4, 5, 4]));
 }
 
 // A cell in a square of level 9, which takes 9 nodes, and then that square grown, trimmed, and with another cell.
-fn moves_of_nine<S: Squares>(
-    squares: &mut S,
-) -> Result<(Result<Id, Kind>, Result<Id, Kind>, Result<Id, Kind>), Kind> {
+fn moves_of_nine<S: Squares>(squares: &mut S) -> Result<[Result<Id, Kind>; 3], Kind> {
     let blank = squares.empty(9);
     let nine = put(squares, blank, 4, 0, 1, 1)?;
     let grown = grow(squares, nine);
     let trimmed = trim(squares, nine, 1);
-    Ok((grown, trimmed, put(squares, nine, 0, 0, 1, 1)))
+    Ok([grown, trimmed, put(squares, nine, 0, 0, 1, 1)])
 }
 
 // A blank square of level 9 grown and trimmed, which takes no node: the levels.
@@ -226,136 +241,143 @@ fn moves_of_none<S: Squares>(squares: &mut S) -> Result<[u8; 2], Kind> {
     Ok([squares.level(grown), squares.level(trimmed)])
 }
 
+// Whether each of the moves is refused where the first square filled the store, and none of the others.
+fn moves<S: Squares>(squares: &mut S) -> Result<bool, Kind> {
+    let nine = moves_of_nine(squares)?;
+    let levels = moves_of_none(squares)?;
+    Ok(nine == [Err(Kind::Full); 3] && levels == [10, 1])
+}
+
+// The same in a store that shares, and the number of its nodes.
+fn shared_moves(alloc: Global) -> (Result<bool, Kind>, u64) {
+    let mut squares = Shared::new(alloc, 9);
+    (moves(&mut squares), squares.len())
+}
+
 #[test]
 fn full_stores_refuse_new_squares(rt: HostRuntime) {
-    let full = Ok((Err(Kind::Full), Err(Kind::Full), Err(Kind::Full)));
-    let mut squares = Shared::new(rt.alloc(), 9);
-    let found = (
-        moves_of_nine(&mut squares),
-        squares.len(),
-        moves_of_none(&mut squares),
-    );
-    assert_eq!(rt; found, (full, 9, Ok([10, 1])));
-    let mut plain = Plain::new(rt.alloc(), 9);
-    let found = (moves_of_nine(&mut plain), moves_of_none(&mut plain));
-    assert_eq!(rt; found, (full, Ok([10, 1])));
+    assert!(rt; shared_moves(rt.alloc()) == (Ok(true), 9));
+    assert!(rt; moves(&mut Plain::new(rt.alloc(), 9)) == Ok(true));
 }
 
-// The cells of a square in which two cells were set.
-fn two_cells<S: Squares>(alloc: Global, squares: &mut S, limit: u64) -> Result<Vec<Cell>, Kind> {
+// Whether the cells of a square in which two cells were set are these.
+fn are_two_cells<S: Squares + Drop>(
+    alloc: Global,
+    store: S,
+    limit: u64,
+    wanted: [Cell; 2],
+) -> Result<bool, Kind> {
+    let mut squares = store;
     let blank = squares.empty(5);
-    let one = put(squares, blank, 3, -2, 1, 7)?;
-    let two = put(squares, one, -4, -2, 1, 1)?;
-    cells(alloc, squares, two, limit)
+    let one = put(&mut squares, blank, 3, -2, 1, 7)?;
+    let two = put(&mut squares, one, -4, -2, 1, 1)?;
+    Ok(cells(alloc, &squares, two, limit)?.as_slice() == wanted.as_slice())
 }
 
-fn one_cell<S: Squares>(alloc: Global, squares: &mut S) -> Result<Vec<Cell>, Kind> {
+// Whether this is the cell of a square in which one was set.
+fn is_one_cell<S: Squares + Drop>(alloc: Global, store: S, wanted: Cell) -> Result<bool, Kind> {
+    let mut squares = store;
     let blank = squares.empty(5);
-    let one = put(squares, blank, 0, 0, 1, 1)?;
-    cells(alloc, squares, one, 1)
+    let one = put(&mut squares, blank, 0, 0, 1, 1)?;
+    Ok(cells(alloc, &squares, one, 1)?.as_slice() == [wanted].as_slice())
 }
 
-fn assert_list(rt: &impl Abort, found: Result<Vec<Cell>, Kind>, wanted: Result<&[Cell], Kind>) {
-    match &found {
-        Ok(list) => assert_eq!(rt; Ok(list.as_slice()), wanted),
-        Err(kind) => assert_eq!(rt; Err(*kind), wanted),
-    }
+// A cell of this column, row and state.
+fn cell(x: i64, y: i64, state: u8) -> Cell {
+    Cell { x, y, state }
 }
 
 #[test]
 fn cells_are_listed(rt: HostRuntime) {
-    let west = Cell {
-        x: -4,
-        y: -2,
-        state: 1,
-    };
-    let east = Cell {
-        x: 3,
-        y: -2,
-        state: 7,
-    };
-    let middle = Cell {
-        x: 0,
-        y: 0,
-        state: 1,
-    };
-    let mut squares = Shared::new(rt.alloc(), 1000);
-    let list = two_cells(rt.alloc(), &mut squares, 2);
-    assert_list(&rt, list, Ok([west, east].as_slice()));
-    let list = two_cells(rt.alloc(), &mut squares, 1);
-    assert_list(&rt, list, Err(Kind::TooManyCells));
-    let mut plain = Plain::new(rt.alloc(), 1000);
-    let list = one_cell(rt.alloc(), &mut plain);
-    assert_list(&rt, list, Ok([middle].as_slice()));
-    let mut small = Plain::new(rt.alloc(), 4);
-    assert_list(&rt, one_cell(rt.alloc(), &mut small), Err(Kind::Full));
+    let alloc = rt.alloc();
+    let pair = [cell(-4, -2, 1), cell(3, -2, 7)];
+    let found = are_two_cells(alloc, Shared::new(alloc, 1000), 2, pair);
+    assert!(rt; found == Ok(true));
+    let found = are_two_cells(alloc, Shared::new(alloc, 1000), 1, pair);
+    assert!(rt; found == Err(Kind::TooManyCells));
+    let found = is_one_cell(alloc, Plain::new(alloc, 1000), cell(0, 0, 1));
+    assert!(rt; found == Ok(true));
+    let found = is_one_cell(alloc, Plain::new(alloc, 4), cell(0, 0, 1));
+    assert!(rt; found == Err(Kind::Full));
 }
 
 // Whether a blank square lists no cell at the limits 0 and 9, and whether one with a cell is refused at limit 0.
-fn least_lists<S: Squares>(alloc: Global, squares: &mut S) -> Result<[bool; 3], Kind> {
+fn least_lists<S: Squares + Drop>(alloc: Global, store: S) -> Result<[bool; 3], Kind> {
+    let mut squares = store;
     let blank = squares.empty(5);
-    let one = put(squares, blank, 0, 0, 1, 1)?;
-    let refused = matches!(cells(alloc, squares, one, 0), Err(Kind::TooManyCells));
-    let at_0 = cells(alloc, squares, blank, 0)?.is_empty();
-    let at_9 = cells(alloc, squares, blank, 9)?.is_empty();
+    let one = put(&mut squares, blank, 0, 0, 1, 1)?;
+    let refused = matches!(cells(alloc, &squares, one, 0), Err(Kind::TooManyCells));
+    let at_0 = cells(alloc, &squares, blank, 0)?.is_empty();
+    let at_9 = cells(alloc, &squares, blank, 9)?.is_empty();
     Ok([at_0, at_9, refused])
 }
 
 #[test]
 fn blank_squares_list_no_cell(rt: HostRuntime) {
-    let mut squares = Shared::new(rt.alloc(), 1000);
-    assert_eq!(rt; least_lists(rt.alloc(), &mut squares), Ok([true; 3]));
-    let mut plain = Plain::new(rt.alloc(), 1000);
-    assert_eq!(rt; least_lists(rt.alloc(), &mut plain), Ok([true; 3]));
+    let alloc = rt.alloc();
+    assert!(rt; least_lists(alloc, Shared::new(alloc, 1000)) == Ok([true; 3]));
+    assert!(rt; least_lists(alloc, Plain::new(alloc, 1000)) == Ok([true; 3]));
 }
 
-// A square of level 1 by its quarters.
-fn divided<S: Squares>(squares: &mut S) -> Result<(bool, Option<u8>, u8, bool), Kind> {
+// Whether a square of level 1 has the quarters that it was joined of, the states and the levels.
+fn divided<S: Squares>(squares: &mut S) -> Result<bool, Kind> {
     let one = squares.cell(1);
     let none = squares.empty(0);
     let square = squares.join(none, one, none, none)?;
     let parts = squares.parts(square);
-    Ok((
-        parts == Some([none, one, none, none]),
-        squares.state(one),
-        squares.level(square),
-        squares.parts(one).is_none(),
-    ))
+    let has_parts = parts == Some([none, one, none, none]) && squares.parts(one).is_none();
+    Ok(has_parts && squares.state(one) == Some(1) && squares.level(square) == 1)
 }
 
-// The same quarters by name, and which of the square, its quarters, and the square by its level are blank.
-fn named<S: Squares>(squares: &mut S) -> Result<(bool, [bool; 4]), Kind> {
+// Whether it has the same quarters by name.
+fn named<S: Squares>(squares: &mut S) -> Result<bool, Kind> {
     let one = squares.cell(1);
     let none = squares.empty(0);
     let square = squares.join(none, one, none, none)?;
     let Quarters { nw, ne, sw, se } = divide(squares, square);
+    Ok(nw == none && ne == one && sw == none && se == none)
+}
+
+// Which of the square, two of its quarters, and the square by its level are blank.
+fn blank_ones<S: Squares>(squares: &mut S) -> Result<[bool; 4], Kind> {
+    let one = squares.cell(1);
+    let none = squares.empty(0);
+    let square = squares.join(none, one, none, none)?;
     let level = squares.level(square);
-    let blank = [
+    Ok([
         is_blank(squares, square),
-        is_blank(squares, ne),
-        is_blank(squares, nw),
+        is_blank(squares, one),
+        is_blank(squares, none),
         is_blank_at(squares, level, square),
+    ])
+}
+
+// What these say in a store of one node that shares, and the number of its nodes.
+fn shared_quarters(alloc: Global) -> ([Result<bool, Kind>; 3], Result<[bool; 4], Kind>, u64) {
+    let mut squares = Shared::new(alloc, 1);
+    let quarters = [
+        divided(&mut squares),
+        divided(&mut squares),
+        named(&mut squares),
     ];
-    Ok(([nw, ne, sw, se] == [none, one, none, none], blank))
+    (quarters, blank_ones(&mut squares), squares.len())
+}
+
+// Whether a store of one node that doesn't share divides a square once.
+fn plain_quarters(alloc: Global) -> [Result<bool, Kind>; 2] {
+    let mut plain = Plain::new(alloc, 1);
+    [divided(&mut plain), divided(&mut plain)]
 }
 
 #[test]
 fn squares_have_quarters(rt: HostRuntime) {
-    let quarters = Ok((true, Some(1), 1, true));
-    let names = Ok((true, [false, false, true, false]));
-    let mut squares = Shared::new(rt.alloc(), 1);
-    let found = (
-        divided(&mut squares),
-        divided(&mut squares),
-        named(&mut squares),
-        squares.len(),
-    );
-    assert_eq!(rt; found, (quarters, quarters, names, 1));
-    let mut plain = Plain::new(rt.alloc(), 1);
-    let found = (divided(&mut plain), divided(&mut plain));
-    assert_eq!(rt; found, (quarters, Err(Kind::Full)));
-    let mut plain = Plain::new(rt.alloc(), 1);
-    assert_eq!(rt; named(&mut plain), names);
+    let alloc = rt.alloc();
+    let wanted = Ok([false, false, true, false]);
+    let (quarters, blank, len) = shared_quarters(alloc);
+    assert!(rt; quarters == [Ok(true); 3] && blank == wanted && len == 1);
+    assert!(rt; plain_quarters(alloc) == [Ok(true), Err(Kind::Full)]);
+    assert!(rt; named(&mut Plain::new(alloc, 1)) == Ok(true));
+    assert!(rt; blank_ones(&mut Plain::new(alloc, 1)) == wanted);
 }
 
 // The square of level 1 of the four lowest binary digits of a number.
@@ -417,13 +439,11 @@ fn plain_leaf_twice(alloc: Global, limit: u64) -> (Result<Id, Kind>, Result<Id, 
 fn small_squares_are_counted(rt: HostRuntime) {
     for limit in 0..26 {
         let (first, again, len) = leaf_twice(rt.alloc(), limit);
-        assert_eq!(rt; first.is_ok(), limit >= 20);
-        assert_eq!(rt; first == Err(Kind::Full), limit < 20);
-        assert_eq!(rt; first, again);
-        assert_eq!(rt; len, limit.min(20));
+        let is_refused = first == Err(Kind::Full);
+        assert!(rt; first.is_ok() == (limit >= 20) && is_refused == (limit < 20));
+        assert!(rt; first == again && len == limit.min(20));
         let (first, again) = plain_leaf_twice(rt.alloc(), limit);
-        assert_eq!(rt; first.is_ok(), limit >= 20);
-        assert_eq!(rt; again, Err(Kind::Full));
+        assert!(rt; first.is_ok() == (limit >= 20) && again == Err(Kind::Full));
     }
 }
 
@@ -456,52 +476,49 @@ fn blank_found<S: Squares>(squares: &S) -> (bool, [Option<u16>; 3]) {
     (found, told)
 }
 
+// Both in one store.
+fn small_found<S: Squares + Drop>(
+    store: S,
+) -> (
+    Result<(Option<Id>, bool, Option<u16>, Option<u16>), Kind>,
+    (bool, [Option<u16>; 3]),
+) {
+    let mut squares = store;
+    let glider = glider_found(&mut squares);
+    (glider, blank_found(&squares))
+}
+
 #[test]
 fn small_squares_are_found_by_their_cells(rt: HostRuntime) {
-    let mut shared = Shared::new(rt.alloc(), 100);
-    let found = glider_found(&mut shared);
-    assert_eq!(rt; found, Ok((None, true, Some(GLIDER), None)));
-    assert_eq!(rt; blank_found(&shared), (true, [None, Some(0), None]));
+    let (glider, blank) = small_found(Shared::new(rt.alloc(), 100));
+    assert!(rt; glider == Ok((None, true, Some(GLIDER), None)));
+    assert!(rt; blank == (true, [None, Some(0), None]));
     // A store that doesn't share has no names for them.
-    let mut plain = Plain::new(rt.alloc(), 100);
-    let found = glider_found(&mut plain);
-    assert_eq!(rt; found, Ok((None, false, None, None)));
-    assert_eq!(rt; blank_found(&plain), (false, [None, Some(0), None]));
+    let (glider, blank) = small_found(Plain::new(rt.alloc(), 100));
+    assert!(rt; glider == Ok((None, false, None, None)));
+    assert!(rt; blank == (false, [None, Some(0), None]));
 }
 
-// The population and the box of a blank square and of one with a block of cells of states above 1.
-fn measures<S: SharedSquares>(
-    alloc: Global,
-    squares: &mut S,
-) -> Result<(u128, Option<Bounds>, u128, Option<Bounds>), Kind> {
+// Whether a blank square and one with cells of states above 1 have their populations and boxes.
+fn measures<S: SharedSquares + Drop>(alloc: Global, store: S) -> Result<bool, Kind> {
+    let mut squares = store;
     let blank = squares.empty(7);
-    let none = (
-        population(alloc, squares, blank)?,
-        bounds(alloc, squares, blank)?,
-    );
-    let one = put(squares, blank, -9, 4, 6, 200)?;
-    let two = put(squares, one, 11, -30, 2, 3)?;
-    Ok((
-        none.0,
-        none.1,
-        population(alloc, squares, two)?,
-        bounds(alloc, squares, two)?,
-    ))
-}
-
-#[test]
-fn squares_are_measured(rt: HostRuntime) {
-    let mut squares = Shared::new(rt.alloc(), 1000);
+    let is_blank = has_measures(alloc, &squares, blank, 0, None)?;
+    let one = put(&mut squares, blank, -9, 4, 6, 200)?;
+    let two = put(&mut squares, one, 11, -30, 2, 3)?;
     let least = Bounds {
         left: -9,
         top: -30,
         right: 12,
         bottom: 4,
     };
-    assert_eq!(rt;
-        measures(rt.alloc(), &mut squares),
-        Ok((0, None, 8, Some(least)))
-    );
+    Ok(is_blank && has_measures(alloc, &squares, two, 8, Some(least))?)
+}
+
+#[test]
+fn squares_are_measured(rt: HostRuntime) {
+    let found = measures(rt.alloc(), Shared::new(rt.alloc(), 1000));
+    assert!(rt; found == Ok(true));
 }
 
 fn insert_all(list: &mut IdList, ids: &[Id]) -> Result<(), Kind> {
@@ -511,30 +528,40 @@ fn insert_all(list: &mut IdList, ids: &[Id]) -> Result<(), Kind> {
     Ok(())
 }
 
-// An empty list takes the first three of these Ids, and each once.
-fn assert_listed_once(rt: &impl Abort, list: &mut IdList, ids: [Id; 5]) {
+// Whether a list has the first three of these Ids, each once.
+fn are_listed(list: &IdList, ids: [Id; 5]) -> bool {
     let [first, second, third, fourth, fifth] = ids;
-    assert!(rt; list.as_slice().is_empty() && !list.contains(first));
-    let added = insert_all(list, &[first, second, first, third, second]);
-    assert_eq!(rt; added, Ok(()));
-    assert_eq!(rt; list.as_slice(), [first, second, third].as_slice());
-    assert_eq!(rt;
-        (list.place(first), list.place(second), list.place(third)),
-        (Some(0), Some(1), Some(2))
-    );
-    assert!(rt; list.contains(third) && !list.contains(fourth));
-    assert_eq!(rt; list.place(fifth), None);
+    list.as_slice() == [first, second, third].as_slice()
+        && list.place(first) == Some(0)
+        && list.place(second) == Some(1)
+        && list.place(third) == Some(2)
+        && list.place(fifth).is_none()
+        && list.contains(third)
+        && !list.contains(fourth)
+}
+
+// Whether an empty list takes the first three of these Ids, and each once.
+fn are_listed_once(alloc: Global, ids: [Id; 5]) -> Result<bool, Kind> {
+    let [first, second, third, _, _] = ids;
+    let mut list = IdList::new(alloc);
+    let is_empty = list.as_slice().is_empty() && !list.contains(first);
+    insert_all(&mut list, &[first, second, first, third, second])?;
+    Ok(is_empty && are_listed(&list, ids))
+}
+
+// Five Ids of a store.
+fn five_ids<S: Squares + Drop>(store: S) -> [Id; 5] {
+    [
+        store.cell(200),
+        store.cell(3),
+        store.empty(62),
+        store.cell(4),
+        store.empty(61),
+    ]
 }
 
 #[test]
 fn ids_are_listed_once(rt: HostRuntime) {
-    let squares = Shared::new(rt.alloc(), 0);
-    let ids = [
-        squares.cell(200),
-        squares.cell(3),
-        squares.empty(62),
-        squares.cell(4),
-        squares.empty(61),
-    ];
-    assert_listed_once(&rt, &mut IdList::new(rt.alloc()), ids);
+    let ids = five_ids(Shared::new(rt.alloc(), 0));
+    assert!(rt; are_listed_once(rt.alloc(), ids) == Ok(true));
 }

@@ -1,5 +1,5 @@
 //! Tests of `life_strip`: runs by rows against runs put one by one, and against squares joined by hand.
-ghost use Rattle.std.specs.Prelude.{IfOk, OnOk, ℤ};
+ghost use Rattle.std.specs.Prelude.{◌≤◌, IfOk, OnOk, ℤ};
 ghost use Rattle.life_strip.specs.Filling.{IsFilling};
 ghost use Rattle.life_strip.specs.Given.{IsNext};
 
@@ -85,20 +85,22 @@ fn one_cell(alloc: Global, store: &mut Shared) -> Result<Id, Kind> {
 }
 
 // Whether both ways give the same square.
-fn agree<S: Squares>(alloc: Global, store: &mut S) -> Result<bool, Kind> {
-    let expected = one_by_one(store)?;
-    Ok(by_rows(alloc, store)? == expected)
+fn agree<S: Squares + Drop>(alloc: Global, store: S) -> Result<bool, Kind> {
+    let mut store = store;
+    let expected = one_by_one(&mut store)?;
+    Ok(by_rows(alloc, &mut store)? == expected)
 }
 
 #[test]
 fn runs_by_rows_give_the_square_of_runs_one_by_one(rt: HostRuntime) {
-    let mut store = Shared::new(rt.alloc(), 10_000);
-    assert_eq!(rt; agree(rt.alloc(), &mut store), Ok(true));
+    let store = Shared::new(rt.alloc(), 10_000);
+    assert!(rt; agree(rt.alloc(), store) == Ok(true));
 }
 
 // Whether the two cells are the square joined of them by hand.
-fn is_joined<S: Squares>(alloc: Global, store: &mut S) -> Result<bool, Kind> {
-    let answer = diagonal(alloc, store)?;
+fn is_joined<S: Squares + Drop>(alloc: Global, store: S) -> Result<bool, Kind> {
+    let mut store = store;
+    let answer = diagonal(alloc, &mut store)?;
     let dead = store.cell(0);
     let first = store.cell(1);
     let second = store.cell(2);
@@ -106,8 +108,9 @@ fn is_joined<S: Squares>(alloc: Global, store: &mut S) -> Result<bool, Kind> {
 }
 
 // The states of their quarters.
-fn quarter_states<S: Squares>(alloc: Global, store: &mut S) -> Result<[Option<u8>; 4], Kind> {
-    let answer = diagonal(alloc, store)?;
+fn quarter_states<S: Squares + Drop>(alloc: Global, store: S) -> Result<[Option<u8>; 4], Kind> {
+    let mut store = store;
+    let answer = diagonal(alloc, &mut store)?;
     let parts = store.parts(answer).ok_or(Kind::Memory)?;
     Ok([
         store.state(parts[0]),
@@ -119,60 +122,80 @@ fn quarter_states<S: Squares>(alloc: Global, store: &mut S) -> Result<[Option<u8
 
 #[test]
 fn two_cells_give_the_square_joined_by_hand(rt: HostRuntime) {
-    let mut store = Shared::new(rt.alloc(), 1000);
-    assert_eq!(rt; is_joined(rt.alloc(), &mut store), Ok(true));
-    let mut plain = Plain::new(rt.alloc(), 1000);
-    assert_eq!(rt;
-        quarter_states(rt.alloc(), &mut plain),
-        Ok([Some(1), Some(0), Some(0), Some(2)])
-    );
+    let alloc = rt.alloc();
+    assert!(rt; is_joined(alloc, Shared::new(alloc, 1000)) == Ok(true));
+    let states = quarter_states(alloc, Plain::new(alloc, 1000));
+    assert!(rt; states == Ok([Some(1), Some(0), Some(0), Some(2)]));
+}
+
+// Whether no run gives the blank square.
+fn gives_blank<S: Squares + Drop>(alloc: Global, store: S) -> Result<bool, Kind> {
+    let mut store = store;
+    let answer = begun(alloc, &store).finish(&mut store)?;
+    Ok(answer == store.empty(MAX_LEVEL))
 }
 
 #[test]
 fn no_cell_gives_the_blank_square(rt: HostRuntime) {
-    let mut store = Shared::new(rt.alloc(), 0);
-    let answer = begun(rt.alloc(), &store).finish(&mut store);
-    assert_eq!(rt; answer, Ok(store.empty(MAX_LEVEL)));
+    assert!(rt; gives_blank(rt.alloc(), Shared::new(rt.alloc(), 0)) == Ok(true));
+}
+
+// Whether a store of this limit takes a cell, and the number of its nodes.
+fn one_cell_within(alloc: Global, limit: u64) -> (Result<(), Kind>, u64)
+    requires { limit ≤ 62 }
+{
+    let mut store = Shared::new(alloc, limit);
+    let answer = one_cell(alloc, &mut store);
+    (answer.map(|_root| ()), store.len())
 }
 
 // A cell needs one square of each level.
 #[test]
 fn a_store_without_room_is_full(rt: HostRuntime) {
-    let mut store = Shared::new(rt.alloc(), 61);
-    let answer = one_cell(rt.alloc(), &mut store);
-    assert_eq!(rt; (answer, store.len()), (Err(Kind::Full), 61));
-    let mut store = Shared::new(rt.alloc(), 62);
-    assert!(rt; one_cell(rt.alloc(), &mut store).is_ok());
+    assert!(rt; one_cell_within(rt.alloc(), 61) == (Err(Kind::Full), 61));
+    let (answer, _) = one_cell_within(rt.alloc(), 62);
+    assert!(rt; answer.is_ok());
+}
+
+// Whether a store of this limit takes five rows, and the number of its nodes.
+fn five_rows_within(alloc: Global, limit: u64) -> (Result<(), Kind>, u64)
+    requires { limit ≤ 62 }
+{
+    let mut store = Shared::new(alloc, limit);
+    (five_rows(alloc, &mut store), store.len())
 }
 
 // A store at its limit refuses a run as Full, not for want of memory.
 #[test]
 fn a_run_in_a_full_store_is_refused(rt: HostRuntime) {
-    let mut store = Shared::new(rt.alloc(), 0);
-    let answer = five_rows(rt.alloc(), &mut store);
-    assert_eq!(rt; (answer, store.len()), (Err(Kind::Full), 0));
-    let mut plain = Plain::new(rt.alloc(), 0);
-    assert_eq!(rt; five_rows(rt.alloc(), &mut plain), Err(Kind::Full));
-
-    let mut store = Shared::new(rt.alloc(), 2);
-    let answer = five_rows(rt.alloc(), &mut store);
-    assert_eq!(rt; (answer, store.len()), (Ok(()), 2));
+    let alloc = rt.alloc();
+    assert!(rt; five_rows_within(alloc, 0) == (Err(Kind::Full), 0));
+    assert!(rt; five_rows(alloc, &mut Plain::new(alloc, 0)) == Err(Kind::Full));
+    assert!(rt; five_rows_within(alloc, 2) == (Ok(()), 2));
 }
 
-// Whether the store is full behind the runs, and takes them again one by one and by rows.
-fn takes_again(alloc: Global, store: &mut Shared) -> Result<[bool; 3], Kind> {
-    let first = one_by_one(store)?;
+// How many squares a store holds behind the runs.
+fn room_of_runs(alloc: Global) -> Result<u64, Kind> {
+    let mut ample = Shared::new(alloc, 10_000);
+    one_by_one(&mut ample)?;
+    Ok(ample.len())
+}
+
+// Whether a store of this limit is full behind the runs, and takes them again one by one and by rows.
+fn takes_again(alloc: Global, limit: u64) -> Result<[bool; 3], Kind>
+    requires { limit ≤ 10_000 }
+{
+    let mut store = Shared::new(alloc, limit);
+    let first = one_by_one(&mut store)?;
     let is_full = store.len() == store.limit();
-    let again = one_by_one(store)?;
-    let by_rows = by_rows(alloc, store)?;
+    let again = one_by_one(&mut store)?;
+    let by_rows = by_rows(alloc, &mut store)?;
     Ok([is_full, again == first, by_rows == first])
 }
 
 // Every square of the runs is there, so a store without room takes them again.
 #[test]
 fn a_full_store_takes_runs_that_are_there(rt: HostRuntime) {
-    let mut ample = Shared::new(rt.alloc(), 10_000);
-    assert!(rt; one_by_one(&mut ample).is_ok());
-    let mut store = Shared::new(rt.alloc(), ample.len().min(10_000));
-    assert_eq!(rt; takes_again(rt.alloc(), &mut store), Ok([true; 3]));
+    let room = room_of_runs(rt.alloc()).expect(&rt, "room").min(10_000);
+    assert!(rt; takes_again(rt.alloc(), room) == Ok([true; 3]));
 }

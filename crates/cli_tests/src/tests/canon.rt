@@ -1,32 +1,9 @@
 //! The job `canon` over devices that fail.
 
-ghost use Rattle.std.specs.Prelude.{◌≡◌, false};
-
-use super::devices::{
-    Clogged, WIDE, assert_one, assert_refused, assert_texts, sink_with, source_of,
-};
+use super::devices::{WIDE, assert_one, assert_refused, assert_texts, source_of};
 use super::{GLIDER, GLIDER_TEXT, TWINS, TWINS_IN_RLE, TWINS_TEXT, WIRES, WIRES_TEXT};
-use life_base::{Device, Sink, Source};
+use life_base::{Device, Source};
 use life_cli::plans::Job;
-use life_cli::work;
-use std::alloc::Global;
-
-/// The status of `canon`, and what standard error took, where it has room for `room` bytes.
-fn canon<R: Source, W: Sink>(
-    alloc: Global,
-    reader: &mut R,
-    writer: &mut W,
-    room: usize,
-) -> (u8, Vec<u8>)
-    requires reads { R.failures reader.old ≡ 0 }
-    requires writes { W.failures writer.old ≡ 0 }
-    requires takes { W.stalled writer.old ≡ false }
-{
-    let mut err = sink_with(alloc, room, 3);
-    let mut second = None::<Device<&[u8]>>;
-    let status = work(alloc, &Job::Canon, reader, &mut second, writer, &mut err);
-    (status, err.taken)
-}
 
 #[test]
 fn writes_the_canonical_text(rt: HostRuntime) {
@@ -84,24 +61,4 @@ fn failing_sink(rt: HostRuntime) {
             wanted,
         );
     }
-}
-
-#[test]
-fn failing_flush(rt: HostRuntime) {
-    let mut taken = Vec::new(rt.alloc());
-    let mut reader = Device::new(GLIDER);
-    let mut writer = Device::new(Clogged { taken: &mut taken });
-    let (status, told) = canon(rt.alloc(), &mut reader, &mut writer, 99);
-    let fault = b"WriteFault\n".as_slice();
-    let found = (status, told.as_slice(), taken.as_slice());
-    assert_eq!(rt; found, (3, fault, GLIDER_TEXT));
-}
-
-/// Where the fault line can't be written, the status stays.
-#[test]
-fn failing_error_output(rt: HostRuntime) {
-    let mut reader = Device::new(b"o!\n".as_slice());
-    let mut writer = sink_with(rt.alloc(), 999, 999);
-    let (status, told) = canon(rt.alloc(), &mut reader, &mut writer, 4);
-    assert_eq!(rt; (status, told.as_slice()), (2, b"line".as_slice()));
 }

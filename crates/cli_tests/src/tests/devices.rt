@@ -9,8 +9,6 @@ use life_base::{Device, Kind, Sink, Source};
 use life_cli::plans::Job;
 use life_cli::work;
 use std::alloc::Global;
-use std::io;
-use std::io::Write;
 use std::process::Abort;
 
 /// A source that gives a byte at a time, and fails after some reads.
@@ -133,8 +131,9 @@ pub(super) fn assert_left(
     (status, out, err): (u8, Limited, Limited),
     wanted: (u8, &[u8], &[u8]),
 ) {
-    let left = (status, out.taken.as_slice(), err.taken.as_slice());
-    assert_eq!(rt; left, wanted);
+    assert!(rt; status == wanted.0, "status {status}");
+    assert!(rt; out.taken.as_slice() == wanted.1, "standard output");
+    assert!(rt; err.taken.as_slice() == wanted.2, "standard error");
     assert!(rt; !out.failed || status == 3);
 }
 
@@ -179,6 +178,21 @@ pub(super) fn assert_two<A: Source, B: Source + Drop>(
     assert_left(rt, (status, out, err), wanted);
 }
 
+/// A job of two files that are given whole leaves this.
+pub(super) fn assert_files(
+    rt: &impl Abort,
+    alloc: Global,
+    job: &Job,
+    files: (&[u8], &[u8]),
+    wanted: (u8, &[u8], &[u8]),
+)
+    requires { HasSecond job.now }
+{
+    let (a, b) = files;
+    let mut first = Device::new(a);
+    assert_two(rt, alloc, job, &mut first, Device::new(b), WIDE, wanted);
+}
+
 /// A job of one file writes these texts, each for its input.
 pub(super) fn assert_texts(rt: &impl Abort, alloc: Global, job: &Job, rows: &[(&[u8], &[u8])])
     requires { ¬ HasSecond job.now }
@@ -197,22 +211,5 @@ pub(super) fn assert_refused(rt: &impl Abort, alloc: Global, job: &Job, rows: &[
     for (input, line) in rows {
         let mut first = Device::new(*input);
         assert_one(rt, alloc, job, &mut first, WIDE, (2, b"", line));
-    }
-}
-
-/// A writer of std that takes all bytes and can't flush.
-#[derive(Drop)]
-pub struct Clogged<'a> {
-    pub taken: &'a mut Vec<u8>,
-}
-
-impl<'a> Write for Clogged<'a> {
-    fn write(&mut self, buf: &[u8]) -> io::Result<usize> {
-        self.taken.extend_from_slice(buf)?;
-        Ok(buf.len())
-    }
-
-    fn flush(&mut self) -> io::Result<()> {
-        Err(io::Error::other("clogged"))
     }
 }

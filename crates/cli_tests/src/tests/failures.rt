@@ -3,7 +3,7 @@
 ghost use Rattle.std.specs.Prelude.{◌≡◌, ◌↔◌, IsSome, IfSome};
 ghost use Rattle.life_cli.specs.Plans.{HasSecond};
 
-use super::devices::{Clogged, Limited, WIDE, assert_left, assert_one, assert_two, sink_with};
+use super::devices::{Limited, WIDE, assert_left, assert_one, assert_two, sink_with};
 use super::steps::{SEED, SPREAD, SPREAD_TEXT};
 use super::{GLIDER, GLIDER_TEXT, TWINS, TWINS_IN_RLE, TWINS_TEXT};
 use life_base::{Device, Source};
@@ -43,18 +43,26 @@ impl<'a> Read for Interrupted<'a> {
     }
 }
 
-/// A writer of std that takes `piece` bytes at a time, and is interrupted behind `room` bytes, or takes no more.
+/// What becomes of a writer behind its room: it takes no more, is interrupted, or can't flush.
+#[derive(Clone, Copy, PartialEq, Eq)]
+enum End {
+    Stops,
+    Interrupted,
+    Unflushed,
+}
+
+/// A writer of std that takes `piece` bytes at a time, `room` bytes at most.
 #[derive(Drop)]
 struct Narrow<'a> {
     taken: &'a mut Vec<u8>,
     room: usize,
     piece: usize,
-    is_interrupted: bool,
+    end: End,
 }
 
 impl<'a> Write for Narrow<'a> {
     fn write(&mut self, buf: &[u8]) -> io::Result<usize> {
-        if self.room == 0 && self.is_interrupted {
+        if self.room == 0 && self.end == End::Interrupted {
             return Err(io::ErrorKind::Interrupted.into());
         }
         let count = buf.len().min(self.room).min(self.piece);
@@ -64,6 +72,9 @@ impl<'a> Write for Narrow<'a> {
     }
 
     fn flush(&mut self) -> io::Result<()> {
+        if self.end == End::Unflushed {
+            return Err(io::Error::other("unflushed"));
+        }
         Ok(())
     }
 }
@@ -144,6 +155,11 @@ fn told<A: Source, B: Source, W: Write + Drop>(
     (status, err)
 }
 
+/// Whether the line of a failed write was told.
+fn is_write_fault(err: &Limited) -> bool {
+    err.taken.as_slice() == b"WriteFault\n".as_slice()
+}
+
 /// A job whose output takes the text only up to some byte is told so, and has written what was taken.
 fn assert_front<B: Source>(
     rt: &impl Abort,
@@ -152,23 +168,22 @@ fn assert_front<B: Source>(
     first: &[u8],
     second: &mut Option<B>,
     text: &[u8],
-    end: (usize, usize, bool),
+    end: (usize, usize, End),
 )
     requires second_reads { IfSome second.old (λ b. B.failures b ≡ 0) }
     requires second_given { IsSome second.old ↔ HasSecond job.now }
 {
-    let (room, piece, is_interrupted) = end;
+    let (room, piece, end) = end;
     let mut taken = Vec::new(alloc);
     let mut first = Device::new(first);
     let writer = Narrow {
         taken: &mut taken,
         room,
         piece,
-        is_interrupted,
+        end,
     };
     let (status, err) = told(alloc, job, &mut first, second, writer);
-    let found = (status, err.taken.as_slice());
-    assert_eq!(rt; found, (3, b"WriteFault\n".as_slice()));
+    assert!(rt; status == 3 && is_write_fault(&err), "{room}");
     assert!(rt; text.starts_with(&taken) && taken.len() == room, "{room}");
 }
 
@@ -176,79 +191,73 @@ fn assert_front<B: Source>(
 const ROOMS: [usize; 4] = [0, 1, 7, 999];
 
 /// A byte or all at a time, and then an interrupted write or one that takes nothing.
-const ENDS: [(usize, bool); 4] = [(1, false), (1, true), (999, false), (999, true)];
+const ENDS: [(usize, End); 4] = [
+    (1, End::Stops),
+    (1, End::Interrupted),
+    (999, End::Stops),
+    (999, End::Interrupted),
+];
+
+/// Jobs with their files and what they write.
+const JOBS: [(Job, &[u8], Option<&[u8]>, &[u8]); 9] = [
+    (Job::Canon, GLIDER, None, GLIDER_TEXT),
+    (Job::Show, TWINS, None, SHOWN),
+    (Job::Convert(Target::Rle), TWINS, None, CONVERTED),
+    (Job::Convert(Target::Mc), TWINS_IN_RLE, None, TWINS_TEXT),
+    (Job::Step, LINE, None, NEXT_LINE),
+    (Job::Same, TWINS, Some(TWINS), b"same\n"),
+    (Job::Same, TWINS, Some(TWINS_IN_RLE), b"same\n"),
+    (Job::Same, TWINS, Some(GLIDER), b"different\n"),
+    (Job::StepTable, SEED, Some(SPREAD), SPREAD_TEXT),
+];
 
 #[test]
 fn each_write_fails(rt: HostRuntime) {
-    let rows: [(Job, &[u8], Option<&[u8]>, &[u8]); 8] = [
-        (Job::Canon, GLIDER, None, GLIDER_TEXT),
-        (Job::Show, TWINS, None, SHOWN),
-        (Job::Convert(Target::Rle), TWINS, None, CONVERTED),
-        (Job::Convert(Target::Mc), TWINS_IN_RLE, None, TWINS_TEXT),
-        (Job::Step, LINE, None, NEXT_LINE),
-        (Job::Same, TWINS, Some(TWINS_IN_RLE), b"same\n"),
-        (Job::Same, TWINS, Some(GLIDER), b"different\n"),
-        (Job::StepTable, SEED, Some(SPREAD), SPREAD_TEXT),
-    ];
-    for (job, first, second, text) in rows {
+    for (job, first, second, text) in JOBS {
         for most in ROOMS {
             let room = text.len().saturating_sub(1).min(most);
-            for (piece, is_interrupted) in ENDS {
-                let end = (room, piece, is_interrupted);
+            for (piece, end) in ENDS {
                 let mut second = second.map(|bytes| Device::new(bytes));
+                let end = (room, piece, end);
                 assert_front(&rt, rt.alloc(), &job, first, &mut second, text, end);
             }
         }
     }
 }
 
-/// A job whose text is written whole and can't be flushed is told so.
+/// A text that is written whole and can't be flushed is told so.
 #[test]
 fn each_flush_fails(rt: HostRuntime) {
-    let rows: [(Job, &[u8], &[u8]); 4] = [
-        (Job::Show, TWINS, SHOWN),
-        (Job::Convert(Target::Rle), TWINS, CONVERTED),
-        (Job::Convert(Target::Mc), TWINS_IN_RLE, TWINS_TEXT),
-        (Job::Step, LINE, NEXT_LINE),
-    ];
-    for (job, input, text) in rows {
-        let mut taken = Vec::new(rt.alloc());
-        let mut first = Device::new(input);
-        let mut second = None::<Device<&[u8]>>;
-        let writer = Clogged { taken: &mut taken };
-        let (status, err) = told(rt.alloc(), &job, &mut first, &mut second, writer);
-        let found = (status, err.taken.as_slice(), taken.as_slice());
-        assert_eq!(rt; found, (3, b"WriteFault\n".as_slice(), text));
+    for (job, first, second, text) in JOBS {
+        let mut second = second.map(|bytes| Device::new(bytes));
+        let end = (text.len(), 999, End::Unflushed);
+        assert_front(&rt, rt.alloc(), &job, first, &mut second, text, end);
     }
-    let mut taken = Vec::new(rt.alloc());
-    let mut first = Device::new(SEED);
-    let mut second = Some(Device::new(SPREAD));
-    let writer = Clogged { taken: &mut taken };
-    let (status, err) = told(rt.alloc(), &Job::StepTable, &mut first, &mut second, writer);
-    let found = (status, err.taken.as_slice(), taken.as_slice());
-    assert_eq!(rt; found, (3, b"WriteFault\n".as_slice(), SPREAD_TEXT));
 }
 
 /// Where standard error takes only a front of the fault's line, the status stays.
+fn assert_error_front(rt: &impl Abort, alloc: Global, room: usize, piece: usize, wanted: &[u8]) {
+    let mut first = Device::new(b"o!\n".as_slice());
+    let mut second = None::<Device<&[u8]>>;
+    let mut out = sink_with(alloc, 999, 7);
+    let mut err = sink_with(alloc, room, piece);
+    let status = work(
+        alloc,
+        &Job::Canon,
+        &mut first,
+        &mut second,
+        &mut out,
+        &mut err,
+    );
+    assert_left(rt, (status, out, err), (2, b"", wanted));
+}
+
 #[test]
 fn each_write_to_standard_error_fails(rt: HostRuntime) {
     let line = b"line 1: NoHeader\n".as_slice();
     for room in 0..line.len() {
-        for piece in [1, 7, 999] {
-            let mut first = Device::new(b"o!\n".as_slice());
-            let mut second = None::<Device<&[u8]>>;
-            let mut out = sink_with(rt.alloc(), 999, 7);
-            let mut err = sink_with(rt.alloc(), room, piece);
-            let status = work(
-                rt.alloc(),
-                &Job::Canon,
-                &mut first,
-                &mut second,
-                &mut out,
-                &mut err,
-            );
-            let wanted = &line[..room];
-            assert_left(&rt, (status, out, err), (2, b"", wanted));
+        for piece in [1, 3, 7, 999] {
+            assert_error_front(&rt, rt.alloc(), room, piece, &line[..room]);
         }
     }
 }

@@ -25,10 +25,7 @@ fn assert_plan(
         Some(name) => Some(name.as_str()),
         None => None,
     };
-    assert_eq!(rt;
-        (found.job, found.first.as_str(), found_second),
-        (job, first, second)
-    );
+    assert!(rt; found.job == job && found.first.as_str() == first && found_second == second);
 }
 
 #[test]

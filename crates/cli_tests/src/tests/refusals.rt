@@ -1,10 +1,9 @@
 //! What the jobs other than `canon` are refused for, in which order.
 
 use super::TWINS;
-use super::devices::{Clogged, WIDE, assert_one, assert_two, sink_with, source_of};
+use super::devices::{WIDE, assert_files, assert_one, assert_two, source_of};
 use life_base::Device;
 use life_cli::plans::{Job, Target};
-use life_cli::work;
 
 #[test]
 fn first_refusal_of_two(rt: HostRuntime) {
@@ -15,17 +14,7 @@ fn first_refusal_of_two(rt: HostRuntime) {
         (b"x = 1, y = 1\n0o!\n", TWINS, b"line 2: ZeroCount\n"),
     ];
     for (a, b, line) in rows {
-        let mut first = Device::new(a);
-        let second = Device::new(b);
-        assert_two(
-            &rt,
-            rt.alloc(),
-            &Job::Same,
-            &mut first,
-            second,
-            WIDE,
-            (2, b"", line),
-        );
+        assert_files(&rt, rt.alloc(), &Job::Same, (a, b), (2, b"", line));
     }
 }
 
@@ -92,27 +81,4 @@ fn failing_sinks(rt: HostRuntime) {
         let mut first = Device::new(TWINS);
         assert_one(&rt, alloc, &job, &mut first, (room, 5), (3, taken, fault));
     }
-}
-
-#[test]
-fn failing_flushes(rt: HostRuntime) {
-    let mut taken = Vec::new(rt.alloc());
-    let mut out = Device::new(Clogged { taken: &mut taken });
-    let mut first = Device::new(TWINS);
-    let mut second = Some(Device::new(TWINS));
-    let mut err = sink_with(rt.alloc(), 99, 3);
-    let status = work(
-        rt.alloc(),
-        &Job::Same,
-        &mut first,
-        &mut second,
-        &mut out,
-        &mut err,
-    );
-    drop(out);
-    let found = (status, err.taken.as_slice(), taken.as_slice());
-    assert_eq!(rt;
-        found,
-        (3, b"WriteFault\n".as_slice(), b"same\n".as_slice())
-    );
 }

@@ -1,11 +1,8 @@
 //! The jobs that step a pattern.
 
 use super::WIRES;
-use super::devices::{WIDE, assert_refused, assert_texts, assert_two, source_of};
-use life_base::Device;
+use super::devices::{WIDE, assert_files, assert_refused, assert_texts, assert_two, source_of};
 use life_cli::plans::Job;
-use std::alloc::Global;
-use std::process::Abort;
 
 /// A state spreads to cells that have one cell of it beside them.
 pub(super) const SPREAD: &[u8] =
@@ -20,18 +17,6 @@ pub(super) const SPREAD_TEXT: &[u8] =
 /// A cell between two others takes either's state.
 const TWO_ANSWERS: &[u8] =
     b"@RULE Spread\n@TABLE\nn_states:3\nneighborhood:vonNeumann\nsymmetries:permute\nvar a={1,2}\nvar b={1,2}\n0,a,b,0,0,a\n";
-
-/// A step by a table leaves this.
-fn assert_by(
-    rt: &impl Abort,
-    alloc: Global,
-    input: &[u8],
-    table: &[u8],
-    wanted: (u8, &[u8], &[u8]),
-) {
-    let (mut first, second) = (Device::new(input), Device::new(table));
-    assert_two(rt, alloc, &Job::StepTable, &mut first, second, WIDE, wanted);
-}
 
 #[test]
 fn next_generations(rt: HostRuntime) {
@@ -79,7 +64,8 @@ fn refused_steps(rt: HostRuntime) {
 
 #[test]
 fn next_generation_by_a_table(rt: HostRuntime) {
-    assert_by(&rt, rt.alloc(), SEED, SPREAD, (0, SPREAD_TEXT, b""));
+    let wanted = (0, SPREAD_TEXT, b"".as_slice());
+    assert_files(&rt, rt.alloc(), &Job::StepTable, (SEED, SPREAD), wanted);
 }
 
 #[test]
@@ -106,26 +92,26 @@ fn refused_steps_by_a_table(rt: HostRuntime) {
         ),
     ];
     for (input, table, line) in rows {
-        assert_by(&rt, rt.alloc(), input, table, (2, b"", line));
+        let files = (input, table);
+        assert_files(&rt, rt.alloc(), &Job::StepTable, files, (2, b"", line));
     }
 }
 
 /// A line that is too long is told as the table's where it is the table's.
 #[test]
 fn long_lines(rt: HostRuntime) {
-    let mut long = Vec::new(rt.alloc());
-    for _ in 0..1_048_577 {
-        assert!(rt; long.push(b'#').is_ok());
+    let long = vec![in rt.alloc(); b'#'; 1_048_577].expect(&rt, "memory");
+    for (input, table, line) in [
+        (
+            b"o!\n".as_slice(),
+            long.as_slice(),
+            b"table line 1: LineTooLong\n".as_slice(),
+        ),
+        (&long, SPREAD, b"line 1: LineTooLong\n"),
+    ] {
+        let files = (input, table);
+        assert_files(&rt, rt.alloc(), &Job::StepTable, files, (2, b"", line));
     }
-    let (alloc, long) = (rt.alloc(), long.as_slice());
-    assert_by(
-        &rt,
-        alloc,
-        b"o!\n",
-        long,
-        (2, b"", b"table line 1: LineTooLong\n"),
-    );
-    assert_by(&rt, alloc, long, SPREAD, (2, b"", b"line 1: LineTooLong\n"));
 }
 
 /// Where the table isn't read, or is refused, nothing of the pattern has been read.
@@ -146,6 +132,6 @@ fn table_first(rt: HostRuntime) {
             WIDE,
             wanted,
         );
-        assert_eq!(rt; (first.left, first.good), (SEED, 999));
+        assert!(rt; first.left == SEED && first.good == 999);
     }
 }

@@ -1,8 +1,7 @@
 //! What the jobs write.
 
-use super::devices::{WIDE, assert_texts, assert_two};
+use super::devices::{assert_files, assert_texts};
 use super::{BLANK, TWINS, TWINS_IN_RLE, TWINS_TEXT, WIRES, WIRES_TEXT};
-use life_base::Device;
 use life_cli::plans::{Job, Target};
 
 #[test]
@@ -37,17 +36,8 @@ fn same_and_different(rt: HostRuntime) {
         (BLANK, b"[M2]", 0, b"same\n"),
     ];
     for (a, b, wanted, line) in rows {
-        let (mut first, second) = (Device::new(a), Device::new(b));
         let wanted = (wanted, line, b"".as_slice());
-        assert_two(
-            &rt,
-            rt.alloc(),
-            &Job::Same,
-            &mut first,
-            second,
-            WIDE,
-            wanted,
-        );
+        assert_files(&rt, rt.alloc(), &Job::Same, (a, b), wanted);
     }
 }
 

@@ -84,5 +84,5 @@ fn kinds_have_their_numbers_names_and_lines(rt: HostRuntime) {
 fn a_fault_tells_its_line_and_its_kind(rt: HostRuntime) {
     let fault = Fault::at(u64::MAX, Kind::BadNode);
     let text = format!(in rt.alloc(); "{fault}").expect(&rt, "memory");
-    assert_eq!(rt; text.as_str(), "line 18446744073709551615: BadNode");
+    assert!(rt; text.as_str() == "line 18446744073709551615: BadNode");
 }

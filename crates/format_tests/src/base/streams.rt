@@ -1,6 +1,7 @@
 //! Devices over readers and writers of `std`, and what is read and written through them.
 
-ghost use Rattle.std.specs.Prelude.{◌≤◌, ◌^◌};
+ghost use Rattle.std.specs.Prelude.{◌≡◌, ◌≤◌, ◌^◌, false};
+ghost use Rattle.life_base.specs.DeviceState.{has_failed};
 
 use life_base::{Device, Kind, Sink, Source, deliver, read_within, write_text, write_texts};
 use std::alloc::Global;
@@ -96,14 +97,17 @@ impl<'a> Write for Narrow<'a> {
     }
 }
 
+/// A device over what counts its calls, and fails or not.
+fn device_over(calls: &mut u64, fails: bool) -> Device<Counting<'_>>
+    ensures { has_failed result ≡ false }
+{
+    Device::new(Counting { calls, fails })
+}
+
 /// One read of a device is one of the reader inside, which fails or not.
 fn assert_one_read(rt: &impl Abort, fails: bool, wanted: Result<usize, Kind>) {
     let mut calls = 0;
-    let calls_inside = &mut calls;
-    let mut reader = Device::new(Counting {
-        calls: calls_inside,
-        fails,
-    });
+    let mut reader = device_over(&mut calls, fails);
     let mut piece = [0u8; 2];
     let got = reader.read(&mut piece);
     assert!(rt; got == wanted && Source::failed(&reader) == fails);
@@ -114,11 +118,7 @@ fn assert_one_read(rt: &impl Abort, fails: bool, wanted: Result<usize, Kind>) {
 /// One write to a device is one to the writer inside, which fails or not.
 fn assert_one_write(rt: &impl Abort, fails: bool, wanted: Result<usize, Kind>) {
     let mut calls = 0;
-    let calls_inside = &mut calls;
-    let mut writer = Device::new(Counting {
-        calls: calls_inside,
-        fails,
-    });
+    let mut writer = device_over(&mut calls, fails);
     let got = writer.write(b"ab");
     assert!(rt; got == wanted && Sink::failed(&writer) == fails);
     drop(writer);
@@ -128,11 +128,7 @@ fn assert_one_write(rt: &impl Abort, fails: bool, wanted: Result<usize, Kind>) {
 /// One flush of a device is one of the writer inside, which fails or not.
 fn assert_one_flush(rt: &impl Abort, fails: bool, wanted: Result<(), Kind>) {
     let mut calls = 0;
-    let calls_inside = &mut calls;
-    let mut writer = Device::new(Counting {
-        calls: calls_inside,
-        fails,
-    });
+    let mut writer = device_over(&mut calls, fails);
     let got = writer.flush();
     assert!(rt; got == wanted && Sink::failed(&writer) == fails);
     drop(writer);
@@ -156,39 +152,7 @@ fn each_failure_inside_is_told(rt: HostRuntime) {
 #[test]
 fn expected_bytes_are_told(rt: HostRuntime) {
     let reader = Device::new(&b"ab"[..]);
-    assert_eq!(rt; reader.expected(), 0);
-    assert_eq!(rt; reader.expecting(7).expected(), 7);
-}
-
-/// An input is read to its end, or refused above so many bytes.
-fn assert_read(rt: &impl Abort, alloc: Global, input: &[u8], most: u64, wanted: Result<&[u8], Kind>)
-    requires { most ≤ 2 ^ 30 }
-{
-    let mut reader = Device::new(input);
-    let got = read_within(alloc, &mut reader, most);
-    match got {
-        Ok(bytes) => assert!(rt; wanted == Ok(bytes.as_slice())),
-        Err(kind) => assert!(rt; wanted == Err(kind)),
-    }
-    assert!(rt; !Source::failed(&reader));
-}
-
-#[test]
-fn input_is_read_to_its_end_or_its_bound(rt: HostRuntime) {
-    let alloc = rt.alloc();
-    assert_read(&rt, alloc, b"", 0, Ok(b""));
-    assert_read(&rt, alloc, b"a", 0, Err(Kind::InputTooLong));
-    assert_read(&rt, alloc, b"abc", 3, Ok(b"abc"));
-    assert_read(&rt, alloc, b"abc", 2, Err(Kind::InputTooLong));
-    assert_read(&rt, alloc, b"abc", 1 << 20, Ok(b"abc"));
-}
-
-#[test]
-fn long_input_is_read_in_pieces(rt: HostRuntime) {
-    let mut long = Vec::new(rt.alloc());
-    long.resize(200_000, b'x').expect(&rt, "memory");
-    assert_read(&rt, rt.alloc(), &long, 200_000, Ok(&long));
-    assert_read(&rt, rt.alloc(), &long, 199_999, Err(Kind::InputTooLong));
+    assert!(rt; reader.expected() == 0 && reader.expecting(7).expected() == 7);
 }
 
 /// A reader of four bytes that fails after some good calls is read so, within a bound.
@@ -217,28 +181,36 @@ fn a_failed_read_is_no_end(rt: HostRuntime) {
     assert_dripped(&rt, rt.alloc(), 3, 2, Err(Kind::InputTooLong));
 }
 
+/// Writes `abcdefgh` by each call that writes.
+fn write_all<W: Sink>(writer: &mut W) -> Result<(), Kind>
+    requires { W.failures writer.old ≡ 0 }
+{
+    write_text(writer, b"ab")?;
+    write_texts(writer, &[b"cd", b"", b"efg"])?;
+    deliver(writer, b"h")
+}
+
 #[test]
 fn texts_are_written_one_after_another(rt: HostRuntime) {
-    let mut taken = Vec::with_capacity(rt.alloc(), 8).expect(&rt, "memory");
+    let mut taken = Vec::new(rt.alloc());
     let mut writer = Device::new(&mut taken);
-    write_text(&mut writer, b"ab").expect(&rt, "memory");
-    write_texts(&mut writer, &[b"cd", b"", b"efg"]).expect(&rt, "memory");
-    deliver(&mut writer, b"h").expect(&rt, "memory");
-    assert!(rt; !Sink::failed(&writer));
+    let written = write_all(&mut writer);
+    assert!(rt; written == Ok(()) && !Sink::failed(&writer));
     drop(writer);
-    assert_eq!(rt; taken.as_slice(), b"abcdefgh".as_slice());
+    assert!(rt; taken.as_slice() == b"abcdefgh".as_slice());
 }
 
 /// Of `abcdefgh`, in two texts, a writer has the bytes that it had room for: it takes no more, or fails.
 fn assert_front(
     rt: &impl Abort,
-    taken: &mut Vec<u8>,
+    alloc: Global,
     room: usize,
     fails: bool,
     wanted: Result<(), Kind>,
 ) {
+    let mut taken = Vec::new(alloc);
     let mut writer = Device::new(Narrow {
-        taken,
+        taken: &mut taken,
         room,
         fails,
         flush_fails: false,
@@ -249,33 +221,32 @@ fn assert_front(
         got == wanted && Sink::failed(&writer) == failed,
         "with room for {room}"
     );
+    drop(writer);
+    let is_front = b"abcdefgh".starts_with(&taken) && taken.len() == room;
+    assert!(rt; is_front, "with room for {room}");
 }
 
 #[test]
 fn a_writer_that_stops_has_the_front_of_the_text(rt: HostRuntime) {
     for fails in [false, true] {
         for room in 0..=7usize {
-            let mut taken = Vec::with_capacity(rt.alloc(), 8).expect(&rt, "memory");
-            assert_front(&rt, &mut taken, room, fails, Err(Kind::WriteFault));
-            assert_eq!(rt; taken.as_slice(), &b"abcdefgh"[..room]);
+            assert_front(&rt, rt.alloc(), room, fails, Err(Kind::WriteFault));
         }
-        let mut taken = Vec::with_capacity(rt.alloc(), 8).expect(&rt, "memory");
-        assert_front(&rt, &mut taken, 8, fails, Ok(()));
-        assert_eq!(rt; taken.as_slice(), b"abcdefgh".as_slice());
+        assert_front(&rt, rt.alloc(), 8, fails, Ok(()));
     }
 }
 
 #[test]
 fn a_flush_that_fails_is_told(rt: HostRuntime) {
-    let mut taken = Vec::with_capacity(rt.alloc(), 8).expect(&rt, "memory");
+    let mut taken = Vec::new(rt.alloc());
     let mut writer = Device::new(Narrow {
         taken: &mut taken,
         room: 9,
         fails: false,
         flush_fails: true,
     });
-    assert_eq!(rt; deliver(&mut writer, b"abc"), Err(Kind::WriteFault));
-    assert!(rt; Sink::failed(&writer));
+    let told = deliver(&mut writer, b"abc");
+    assert!(rt; told == Err(Kind::WriteFault) && Sink::failed(&writer));
     drop(writer);
-    assert_eq!(rt; taken.as_slice(), b"abc".as_slice());
+    assert!(rt; taken.as_slice() == b"abc".as_slice());
 }

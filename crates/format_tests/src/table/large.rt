@@ -1,42 +1,9 @@
 //! A large file: many variables.
 use life_base::{Fault, Kind};
-use life_table::{Entry, Table, Transition, Var, read_table};
+use life_table::{Entry, Transition, Var, read_table};
 use std::alloc::{AllocError, Global};
 use std::process::Abort;
 use std::rt::HostRuntime;
-
-/// The place and the kind of a refusal.
-fn refusal(answer: Result<Table, Fault>) -> Option<(u64, Kind)> {
-    match answer {
-        Ok(_) => None,
-        Err(fault) => Some((fault.place.line, fault.kind)),
-    }
-}
-
-/// A variable has this name and these states.
-fn assert_variable(rt: &impl Abort, row: &str, variable: &Var, name: &[u8], states: [u64; 4]) {
-    let found = (variable.name.as_slice(), variable.states);
-    assert_eq!(rt; found, (name, states), "{row}");
-}
-
-/// There is one transition, on this line and with these entries.
-fn assert_only_transition(
-    rt: &impl Abort,
-    row: &str,
-    transitions: &[Transition],
-    line: u64,
-    inputs: &[Entry],
-    output: Entry,
-) {
-    assert_eq!(rt; transitions.len(), 1, "{row}");
-    for found in transitions {
-        assert_eq!(rt;
-            (found.line, found.inputs.as_slice(), found.output),
-            (line, inputs, output),
-            "{row}"
-        );
-    }
-}
 
 /// A number below 100,000 with each of its five digits.
 fn digits(number: usize) -> [u8; 5] {
@@ -55,8 +22,8 @@ fn name_of(number: usize) -> [u8; 6] {
     [b'v', first, second, third, fourth, fifth]
 }
 
-/// As many variables, from the first on with the states 1 and 2, each with the states of the one before.
-fn chain(alloc: Global, count: usize) -> Result<Vec<u8>, AllocError> {
+/// As many variables, from the first on with the states 1 and 2, each with the states of the one before, and a line behind them.
+fn chain(alloc: Global, count: usize, line: &str) -> Result<Vec<u8>, AllocError> {
     let mut bytes = Vec::new(alloc);
     bytes.extend_from_slice(
         b"@RULE A\n@TABLE\nn_states:3\nneighborhood:vonNeumann\nsymmetries:none\nvar v00000={1,2}\n",
@@ -68,20 +35,36 @@ fn chain(alloc: Global, count: usize) -> Result<Vec<u8>, AllocError> {
         bytes.extend_from_slice(&name_of(number - 1))?;
         bytes.extend_from_slice(b"}\n")?;
     }
+    bytes.extend_from_slice(line.as_bytes())?;
     Ok(bytes)
+}
+
+/// Whether the variables are those of a chain.
+fn is_chain(variables: &[Var]) -> bool {
+    for (number, var) in variables.iter().enumerate() {
+        if var.name.as_slice() != name_of(number).as_slice() || var.states != [6, 0, 0, 0] {
+            return false;
+        }
+    }
+    variables.len() == 10000
+}
+
+/// Whether there is one transition, on this line and with these entries.
+fn is_only(transitions: &[Transition], line: u64, inputs: &[Entry], output: Entry) -> bool {
+    match transitions {
+        [found] => {
+            found.line == line && found.inputs.as_slice() == inputs && found.output == output
+        }
+        _ => false,
+    }
 }
 
 #[test]
 fn a_chain_of_variables_is_read(rt: HostRuntime) {
-    let mut bytes = chain(rt.alloc(), 10000).expect(&rt, "memory");
-    bytes
-        .extend_from_slice(b"0,v09999,v00000,v05000,0,v05000\n")
-        .expect(&rt, "memory");
+    let line = "0,v09999,v00000,v05000,0,v05000\n";
+    let bytes = chain(rt.alloc(), 10000, line).expect(&rt, "memory");
     let table = read_table(rt.alloc(), &bytes).expect(&rt, "table");
-    assert_eq!(rt; table.vars.as_slice().len(), 10000);
-    for (number, var) in table.vars.as_slice().iter().enumerate() {
-        assert_variable(&rt, "a chain", var, &name_of(number), [6, 0, 0, 0]);
-    }
+    assert!(rt; is_chain(table.vars.as_slice()));
     let middle = Entry::Var(5000);
     let inputs = [
         Entry::Fixed(0),
@@ -90,24 +73,14 @@ fn a_chain_of_variables_is_read(rt: HostRuntime) {
         middle,
         Entry::Fixed(0),
     ];
-    assert_only_transition(
-        &rt,
-        "a chain",
-        table.lines.as_slice(),
-        10006,
-        &inputs,
-        middle,
-    );
+    assert!(rt; is_only(table.lines.as_slice(), 10006, &inputs, middle));
 }
 
 /// The line behind a chain of 10,000 variables is refused with this kind.
 fn assert_chain_ends(rt: &impl Abort, alloc: Global, line: &str, kind: Kind) {
-    let mut bytes = chain(alloc, 10000).expect(rt, "memory");
-    bytes
-        .extend_from_slice(line.as_bytes())
-        .expect(rt, "memory");
-    let refused = refusal(read_table(alloc, &bytes));
-    assert_eq!(rt; refused, Some((10006, kind)), "{line}");
+    let bytes = chain(alloc, 10000, line).expect(rt, "memory");
+    let refused = read_table(alloc, &bytes).err();
+    assert!(rt; refused == Some(Fault::at(10006, kind)), "{line}");
 }
 
 #[test]

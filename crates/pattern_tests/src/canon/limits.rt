@@ -4,9 +4,10 @@ use super::chains::{chain, text_of_the_corner};
 use super::{
     BLANK, BLANK_TEXT, CELL, CELL_TEXT, CORNER, FAR, GLIDER, GLIDER_TEXT, LEVELS, ONE, PAIR,
     PAIR_TEXT, REPEATS, THREE, THREE_OF_LIFE, TOWER, TURNED, TURNED_TEXT, TWO_RUNS, WIRES,
-    WIRES_TEXT, fault,
+    WIRES_TEXT,
 };
-use life_base::Kind;
+use crate::worked::{Call, first_limit};
+use life_base::Fault;
 use life_canon::canon;
 use life_quad::Shared;
 use std::alloc::Global;
@@ -16,48 +17,35 @@ const ONE_TEXT: &[u8] = b"[M2] (canonical 1)\n#R B3/S23\n$$$$....*$$$$\n";
 
 const THREE_TEXT: &[u8] = b"[M2] (canonical 1)\n#R B3/S23\n$$$$....***$$$$\n";
 
-/// The greatest limit that is tried.
-const MOST: u64 = 4096;
+/// The canonical text of a file.
+#[derive(Clone, Copy)]
+struct Canon<'a> {
+    file: &'a [u8],
+}
 
-/// The first limit that suffices for the file. Below it the file is refused, by a store that is full then; from it on the file has
-/// this text.
-fn first_limit(rt: &impl Abort, alloc: Global, input: &[u8], text: &[u8]) -> Option<u64> {
-    let mut first = None;
-    for limit in 0..=MOST {
-        let mut store = Shared::new(alloc, limit);
-        match canon(alloc, &mut store, input) {
-            Ok(out) => {
-                assert_eq!(rt; out.as_slice(), text);
-                first = first.or(Some(limit));
-            }
-            Err(found) => {
-                assert_eq!(rt; found, fault(0, Kind::Full));
-                assert_eq!(rt; store.len(), limit);
-                assert_eq!(rt; first, None);
-            }
-        }
+impl<'a> Call for Canon<'a> {
+    fn text(&self, alloc: Global, store: &mut Shared) -> Result<Vec<u8>, Fault> {
+        canon(alloc, store, self.file)
     }
-    first
 }
 
 /// Some limit above 0 suffices for the file.
-fn takes_room(rt: &impl Abort, alloc: Global, input: &[u8], text: &[u8]) {
-    let first = first_limit(rt, alloc, input, text);
+fn takes_room(rt: &impl Abort, alloc: Global, file: &[u8], text: &[u8]) {
+    let first = first_limit(alloc, &Canon { file }, text);
     assert!(rt; first.is_some_and(|limit| limit > 0));
 }
 
 #[test]
 fn a_blank_pattern_takes_no_room(rt: HostRuntime) {
-    let first = first_limit(&rt, rt.alloc(), BLANK, BLANK_TEXT);
-    assert_eq!(rt; first, Some(0));
+    let blank = Canon { file: BLANK };
+    assert!(rt; first_limit(rt.alloc(), &blank, BLANK_TEXT) == Some(0));
 }
 
 #[test]
 fn four_squares_take_room_for_four(rt: HostRuntime) {
     // one square each of levels 1 to 4
-    let input = b"[M2] (golly 4.2)\n#R B3/S23\n....*$\n4 0 0 1 1\n";
-    let first = first_limit(&rt, rt.alloc(), input, PAIR_TEXT);
-    assert_eq!(rt; first, Some(4));
+    let file = b"[M2] (golly 4.2)\n#R B3/S23\n....*$\n4 0 0 1 1\n".as_slice();
+    assert!(rt; first_limit(rt.alloc(), &Canon { file }, PAIR_TEXT) == Some(4));
 }
 
 #[test]

@@ -5,7 +5,7 @@ ghost use Rattle.life_canon.specs.Feeding.{Stands};
 use super::chains::text_of_the_row;
 use super::{
     GLIDER, GLIDER_CRLF, GLIDER_OPEN, GLIDER_TEXT, PAIR, PAIR_TEXT, REPEATS, ROOM, ROW, WIRES,
-    WIRES_TEXT, fault,
+    WIRES_TEXT, fault, is_text,
 };
 use life_base::{Device, Fault, Kind};
 use life_canon::{Reader, number, run_canon};
@@ -14,7 +14,6 @@ use life_quad::Shared;
 use std::alloc::Global;
 use std::io;
 use std::io::Read;
-use std::process::Abort;
 
 /// The canonical text of what a reader was fed.
 pub(super) fn text_of(alloc: Global, store: &mut Shared, reader: Reader) -> Result<Vec<u8>, Fault>
@@ -44,14 +43,14 @@ fn text_of_bytes(alloc: Global, input: &[u8]) -> Result<Vec<u8>, Fault> {
     text_of(alloc, &mut store, reader)
 }
 
-/// The file has this canonical text, cut anywhere into two pieces, and byte by byte.
-fn canonical_in_pieces(rt: &impl Abort, alloc: Global, input: &[u8], text: &[u8]) {
+/// Whether the file has this canonical text, cut anywhere into two pieces, and byte by byte.
+fn is_text_in_pieces(alloc: Global, input: &[u8], text: &[u8]) -> bool {
     for cut in 0..=input.len() {
-        let out = text_of_pieces(alloc, &input[..cut], &input[cut..]).expect(rt, "an answer");
-        assert_eq!(rt; out.as_slice(), text);
+        if !is_text(text_of_pieces(alloc, &input[..cut], &input[cut..]), text) {
+            return false;
+        }
     }
-    let out = text_of_bytes(alloc, input).expect(rt, "an answer");
-    assert_eq!(rt; out.as_slice(), text);
+    is_text(text_of_bytes(alloc, input), text)
 }
 
 #[test]
@@ -65,7 +64,7 @@ fn files_are_read_in_pieces(rt: HostRuntime) {
         (REPEATS, PAIR_TEXT),
     ];
     for (input, text) in rows {
-        canonical_in_pieces(&rt, rt.alloc(), input, text);
+        assert!(rt; is_text_in_pieces(rt.alloc(), input, text));
     }
 }
 
@@ -73,7 +72,7 @@ fn files_are_read_in_pieces(rt: HostRuntime) {
 fn a_row_of_the_plane_is_read_in_pieces(rt: HostRuntime) {
     let alloc = rt.alloc();
     let text = text_of_the_row(alloc).expect(&rt, "memory");
-    canonical_in_pieces(&rt, alloc, ROW, &text);
+    assert!(rt; is_text_in_pieces(alloc, ROW, &text));
 }
 
 /// A reader of std that gives a byte at a time.
@@ -104,7 +103,6 @@ fn text_run(alloc: Global, input: &[u8]) -> Result<Vec<u8>, Fault> {
 
 #[test]
 fn a_source_gives_a_byte_at_a_time(rt: HostRuntime) {
-    let alloc = rt.alloc();
     let rows = [
         (GLIDER_CRLF, GLIDER_TEXT),
         (GLIDER_OPEN, GLIDER_TEXT),
@@ -112,32 +110,33 @@ fn a_source_gives_a_byte_at_a_time(rt: HostRuntime) {
         (REPEATS, PAIR_TEXT),
     ];
     for (input, text) in rows {
-        let out = text_run(alloc, input).expect(&rt, "an answer");
-        assert_eq!(rt; out.as_slice(), text);
+        assert!(rt; is_text(text_run(rt.alloc(), input), text));
     }
+}
+
+/// What a reader tells for these three pieces, and at its end.
+fn refusals(alloc: Global, pieces: [&[u8]; 3]) -> [Option<Fault>; 4] {
+    let [first, second, third] = pieces;
+    let mut store = Shared::new(alloc, ROOM);
+    let mut reader = Reader::new(alloc);
+    [
+        reader.feed(&mut store, first).err(),
+        reader.feed(&mut store, second).err(),
+        reader.feed(&mut store, third).err(),
+        reader.finish(&mut store).err(),
+    ]
 }
 
 #[test]
 fn a_refused_reader_is_spent(rt: HostRuntime) {
-    let alloc = rt.alloc();
-    let mut store = Shared::new(alloc, ROOM);
-    let mut reader = Reader::new(alloc);
-    assert_eq!(rt; reader.feed(&mut store, b"y = 3").err(), None);
-    assert_eq!(rt;
-        reader.feed(&mut store, b"\n").err(),
-        Some(fault(1, Kind::NoHeader))
-    );
-    assert_eq!(rt;
-        reader.feed(&mut store, b"").err(),
-        Some(fault(0, Kind::Spent))
-    );
-    assert!(rt; matches!(reader.finish(&mut store), Err(found) if found == fault(0, Kind::Spent)));
+    let refused = refusals(rt.alloc(), [b"y = 3", b"\n", b""]);
+    let spent = Some(fault(0, Kind::Spent));
+    assert!(rt; refused == [None, Some(fault(1, Kind::NoHeader)), spent, spent]);
 }
 
 #[test]
 fn no_byte_is_kept_behind_the_mark(rt: HostRuntime) {
     let alloc = rt.alloc();
     let free = vec![in alloc; 111u8; 2097152].expect(&rt, "memory");
-    let text = text_of_pieces(alloc, GLIDER, &free).expect(&rt, "an answer");
-    assert_eq!(rt; text.as_slice(), GLIDER_TEXT);
+    assert!(rt; is_text(text_of_pieces(alloc, GLIDER, &free), GLIDER_TEXT));
 }
