@@ -68,7 +68,8 @@ of_step limit bytes store fault is (inr (inl want)) = inr (inl (store, is, want)
 of_step limit bytes store fault is (inr (inr step)) = inr (inr step)
 
 pub refused_step : {X : Type 0} (limit : ℕ) (bytes : List ℕ) (store : Nodes) (r : Result X Fault) → store.limit ≡ room_of limit
-    → IfErr r (λ fault. Refuses MAX_LEVEL bytes fault ⊎ (IsWant store fault ⊎ ((u : Universe) × Reads MAX_LEVEL bytes u × LifeRefusal MAX_LEVEL u (Some fault))))
+    → IfErr r (λ fault. Refuses MAX_LEVEL bytes fault
+    ⊎ (IsWant store fault ⊎ ((u : Universe) × Reads MAX_LEVEL bytes u × LifeRefusal MAX_LEVEL u (Some fault))))
     → IfErr r (RefusesStepWithin limit bytes)
 refused_step limit bytes store (Ok x) is h = tt
 refused_step limit bytes store (Err fault) is h = of_step limit bytes store fault is h
@@ -82,7 +83,8 @@ of_step_by table limit bytes store fault is (inr (inl want)) = inr (inl (store, 
 of_step_by table limit bytes store fault is (inr (inr step)) = inr (inr step)
 
 pub refused_step_by : {X : Type 0} (table : Table) (limit : ℕ) (bytes : List ℕ) (store : Nodes) (r : Result X Fault) → store.limit ≡ room_of limit
-    → IfErr r (λ fault. Refuses MAX_LEVEL bytes fault ⊎ (IsWant store fault ⊎ ((u : Universe) × Reads MAX_LEVEL bytes u × TableRefusal MAX_LEVEL table u (Some fault))))
+    → IfErr r (λ fault. Refuses MAX_LEVEL bytes fault
+    ⊎ (IsWant store fault ⊎ ((u : Universe) × Reads MAX_LEVEL bytes u × TableRefusal MAX_LEVEL table u (Some fault))))
     → IfErr r (RefusesStepByWithin table limit bytes)
 refused_step_by table limit bytes store (Ok x) is h = tt
 refused_step_by table limit bytes store (Err fault) is h = of_step_by table limit bytes store fault is h

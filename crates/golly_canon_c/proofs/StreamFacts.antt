@@ -73,7 +73,8 @@ text-fault Next limit bytes store fault is (inr want) = inr (inl (store, is, wan
 -- the same of a text in extended RLE, which may have too many cells
 pub rle-fault : (limit : ℕ) (bytes : List ℕ) (store : Nodes) (pattern : Pattern) (fault : Fault) → store.limit ≡ room_of limit
     → IsRead MAX_LEVEL bytes store pattern
-    → (fault ≡ fault_of Memory) ⊎ ((fault ≡ fault_of TooManyCells) × ((bytes : List ℕ) → IsRead MAX_LEVEL bytes store pattern → HasMoreCells MAX_LEVEL bytes (2 ^ 20)))
+    → (fault ≡ fault_of Memory) ⊎ ((fault ≡ fault_of TooManyCells)
+    × ((bytes : List ℕ) → IsRead MAX_LEVEL bytes store pattern → HasMoreCells MAX_LEVEL bytes (2 ^ 20)))
     → RefusesTextOf Rle limit bytes fault
 rle-fault limit bytes store pattern fault is read (inl memory) = inl (inr (store, is, inl memory))
 rle-fault limit bytes store pattern fault is read (inr many) = inr (many.0, many.1 bytes read)
@@ -81,17 +82,21 @@ rle-fault limit bytes store pattern fault is read (inr many) = inr (many.0, many
 -- the same of a step, which may be refused
 pub next-fault : (limit : ℕ) (bytes : List ℕ) (old store : Nodes) (pattern : Pattern) (fault : Fault) → store.limit ≡ room_of limit
     → IsRead MAX_LEVEL bytes old pattern
-    → IsWant store fault ⊎ ((bytes : List ℕ) → IsRead MAX_LEVEL bytes old pattern → (u : Universe) × Reads MAX_LEVEL bytes u × LifeRefusal MAX_LEVEL u (Some fault))
+    → IsWant store fault ⊎ ((bytes : List ℕ) → IsRead MAX_LEVEL bytes old pattern → (u : Universe) × Reads MAX_LEVEL bytes u
+    × LifeRefusal MAX_LEVEL u (Some fault))
     → RefusesTextOf Next limit bytes fault
 next-fault limit bytes old store pattern fault is read (inl want) = inr (inl (store, is, want))
 next-fault limit bytes old store pattern fault is read (inr step) = inr (inr (step bytes read))
 
 -- the text of what was read is one of this form
-pub form-text : {X : Type 0} {form : Form} {inside self : Piecewise} {store : Nodes} {pattern : Pattern} (items : X → List ℕ) (r : Result X Fault) → inside ≡ self
+pub form-text : {X : Type 0} {form : Form} {inside self : Piecewise} {store : Nodes} {pattern : Pattern} (items : X → List ℕ) (r : Result X Fault)
+    → inside ≡ self
     → inside.form ≡ form → IsRead MAX_LEVEL inside.bytes store pattern
-    → IfOk r (λ x. (bytes : List ℕ) → IsRead MAX_LEVEL bytes store pattern → IsTextOf form bytes (items x)) → IfOk r (λ x. IsTextOf self.form self.bytes (items x))
+    → IfOk r (λ x. (bytes : List ℕ) → IsRead MAX_LEVEL bytes store pattern → IsTextOf form bytes (items x))
+    → IfOk r (λ x. IsTextOf self.form self.bytes (items x))
 form-text {inside = inside} items (Ok x) is same read text =
-    subst (λ (v : Piecewise). IsTextOf v.form v.bytes (items x)) is (subst (λ (f : Form). IsTextOf f inside.bytes (items x)) (sym same) (text inside.bytes read))
+    subst (λ (v : Piecewise). IsTextOf v.form v.bytes (items x)) is
+    (subst (λ (f : Form). IsTextOf f inside.bytes (items x)) (sym same) (text inside.bytes read))
 form-text items (Err fault) is same read text = tt
 
 -- memory is wanted for a text of any form

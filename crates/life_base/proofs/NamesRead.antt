@@ -64,7 +64,8 @@ unfolding four_sets
 four_none text h =
     let front = take (length text - 1) text in
     let end = drop (length text - 1) text in
-    none_by (life_sets front) (bytes_eq (map to_ascii_uppercase (take 1 front)) (codes "B")) (bytes_eq (map to_ascii_uppercase end) (codes "V")) (bytes_eq (map to_ascii_uppercase end) (codes "H")) h
+    none_by (life_sets front) (bytes_eq (map to_ascii_uppercase (take 1 front)) (codes "B")) (bytes_eq (map to_ascii_uppercase end) (codes "V"))
+    (bytes_eq (map to_ascii_uppercase end) (codes "H")) h
 
 -- the last step of `rule_of`
 pub name_says : (text : List ℕ) → is_bad_text text ≡ false → list_any (λ b. b == 58) text ≡ false → life_sets text ≡ None

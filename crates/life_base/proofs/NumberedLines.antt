@@ -74,7 +74,8 @@ module _ (Grammar : List (List ℕ) → Type 0) (broken : List (List ℕ) → Li
   -- the line breaks a rule, and none before it does
   pub refused_line : (before : List (List ℕ)) (line : List ℕ) (rest : List (List ℕ)) (kind : Kind)
       → UnbrokenBelow Grammar broken missing before (length before) → broken before line ≡ Some kind
-      → IsRefusal Grammar (BreaksBy broken) missing (before ++ line ∷ rest) (record { place = record { line = min (length before + 1) (2 ^ 64 - 1) }; kind = kind })
+      → IsRefusal Grammar (BreaksBy broken) missing (before ++ line ∷ rest)
+      (record { place = record { line = min (length before + 1) (2 ^ 64 - 1) }; kind = kind })
   refused_line before line rest kind u b =
       refusal_at Grammar broken missing by_lines (before ++ line ∷ rest) (length before) kind (omega (arith, length-append before (line ∷ rest)))
       (λ k h.
@@ -90,7 +91,9 @@ module _ (Grammar : List (List ℕ) → Type 0) (broken : List (List ℕ) → Li
       → before ++ (k, line) ∷ rest ≡ numbered_from 1 lines → UnbrokenBelow Grammar broken missing (texts before) (length (texts before))
       → broken (texts before) line ≡ Some fault.kind → fault.place.line ≡ k → IsRefusal Grammar (BreaksBy broken) missing lines fault
   refused_at lines before k line rest fault e u b l =
-      let m : min (length (texts before) + 1) (2 ^ 64 - 1) ≡ fault.place.line = omega (arith, number_at lines before 1 k line rest (omega arith) e, length_texts before) in
+      let m : min (length (texts before) + 1) (2 ^ 64 - 1) ≡ fault.place.line = omega
+      (arith, number_at lines before 1 k line rest (omega arith) e, length_texts before) in
       let P : List (List ℕ) → Type 0 = λ ls. IsRefusal Grammar (BreaksBy broken) missing ls fault in
-      let Q : ℕ → Type 0 = λ n. IsRefusal Grammar (BreaksBy broken) missing (texts before ++ line ∷ texts rest) (record { place = record { line = n }; kind = fault.kind }) in
+      let Q : ℕ → Type 0 = λ n. IsRefusal Grammar (BreaksBy broken) missing (texts before ++ line ∷ texts rest)
+      (record { place = record { line = n }; kind = fault.kind }) in
       subst P (lines_around lines before k line rest e) (subst Q m (refused_line (texts before) line (texts rest) fault.kind u b))

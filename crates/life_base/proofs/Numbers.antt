@@ -55,7 +55,8 @@ not_empty (b ∷ text) h = omega arith
 not_less : (m n : ℕ) → (m < n → ⊥) → n ≤ m
 not_less m n h = omega (arith, h)
 
-pub too_large : {E : Type 0} (text : List ℕ) (r : Result ℕ E) (e : E) → is_digit_text text ≡ true → ParsesUnsigned 64 10 text r → r ≡ Err e → Err TooLarge ≡ u64_of text
+pub too_large : {E : Type 0} (text : List ℕ) (r : Result ℕ E) (e : E) → is_digit_text text ≡ true → ParsesUnsigned 64 10 text r → r ≡ Err e
+    → Err TooLarge ≡ u64_of text
 too_large text r e h p is =
     let all : list_all is_ascii_digit text ≡ true = second (not (is_empty text)) _ h in
     let some : 0 < length text = not_empty text (first _ (list_all is_ascii_digit text) h) in

@@ -39,7 +39,8 @@ module _ (v : DigitSets) (h : IsLifeRule (record { sets = v; near = VonNeumann }
   survivals_small : v.survivals < 512
   survivals_small = small v.survivals h.survivals
 
-  passes : (q : ℕ → Bool) → ((b : ℕ) → is_count_digit b ≡ true → q b ≡ true) → list_all q (codes "B/S") ≡ true → list_all q (codes "V") ≡ true → list_all q word ≡ true
+  passes : (q : ℕ → Bool) → ((b : ℕ) → is_count_digit b ≡ true → q b ≡ true) → list_all q (codes "B/S") ≡ true → list_all q (codes "V") ≡ true
+      → list_all q word ≡ true
   passes q f m n =
       list_all-append q front (codes "V")
       ∙ both (list_all q front) _ (text_passes q f m ds es (set_digits v.births births_small) (set_digits v.survivals survivals_small)) n
@@ -66,7 +67,13 @@ module _ (v : DigitSets) (h : IsLifeRule (record { sets = v; near = VonNeumann }
   is_word : IsRuleWord word
   is_word = record {
     some = omega (arith, length-append front (codes "V"));
-    short = omega (arith, length-append front (codes "V"), length-append ds (47 ∷ 83 ∷ es), set_short v.births births_small, set_short v.survivals survivals_small);
+    short = omega (
+      arith,
+      length-append front (codes "V"),
+      length-append ds (47 ∷ 83 ∷ es),
+      set_short v.births births_small,
+      set_short v.survivals survivals_small,
+    );
     visible = passes (λ b. nat_le 33 b && nat_le b 126) digit_visible refl refl;
     unbounded = passes (λ b. not (b == 58)) digit_no_colon refl refl;
   }

@@ -64,7 +64,8 @@ module _ (Grammar : List (List ℕ) → Type 0) (broken : List (List ℕ) → Li
         let more = kept keeps continuations in
         let e : take k (lines ++ more) ≡ take k lines = take-append-le k lines more (omega arith) in
         let f : get_or (lines ++ more) k [] ≡ get_or lines k [] = get_or-append lines more [] k h in
-        let u : broken (take k (lines ++ more)) (get_or (lines ++ more) k []) ≡ None = by_lines.sound (lines ++ more) g k (omega (arith, length-append lines more)) in
+        let u : broken (take k (lines ++ more)) (get_or (lines ++ more) k []) ≡ None = by_lines.sound (lines ++ more) g k
+        (omega (arith, length-append lines more)) in
         rw (← e, ← f) u
 
     cut : (lines : List (List ℕ)) (n : ℕ) → n ≤ length lines → UnbrokenBelow lines n → UnbrokenBelow (take n lines) (length (take n lines))
@@ -85,7 +86,8 @@ module _ (Grammar : List (List ℕ) → Type 0) (broken : List (List ℕ) → Li
           let m : n + 1 ≤ length lines = l in
           let v : broken (take n (take (n + 1) lines)) (get_or (take (n + 1) lines) n []) ≡ None =
           front_unbroken (take (n + 1) lines) p n (omega (arith, length-take-le (n + 1) lines m)) in
-          let w : broken (take n lines) (get_or lines n []) ≡ None = rw (take-take n (n + 1) lines (omega arith), get_or-take (n + 1) lines n [] (omega arith)) at v in
+          let w : broken (take n lines) (get_or lines n []) ≡ None = rw (take-take n (n + 1) lines (omega arith), get_or-take (n + 1) lines n [] (omega arith))
+          at v in
           cc;
     }
 

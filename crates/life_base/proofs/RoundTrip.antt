@@ -92,7 +92,8 @@ no_any test (b ∷ xs) h = ap (λ v. v || list_any test xs) (not-true (test b) (
 abbrev pub is_mark : ℕ → Bool
 is_mark b = not (is_count_digit b)
 
-pub split_at : (ds : List ℕ) (m : ℕ) (rest : List ℕ) → list_all is_count_digit ds ≡ true → is_mark m ≡ true → slice_split is_mark (ds ++ m ∷ rest) ≡ ds ∷ slice_split is_mark rest
+pub split_at : (ds : List ℕ) (m : ℕ) (rest : List ℕ) → list_all is_count_digit ds ≡ true → is_mark m ≡ true → slice_split is_mark (ds ++ m ∷ rest)
+    ≡ ds ∷ slice_split is_mark rest
 split_at [] m rest h k = rw k refl
 split_at (d ∷ ds) m rest h k = let e : is_count_digit d ≡ true = first _ _ h in rw (e, split_at ds m rest (second (is_count_digit d) _ h) k) refl
 
@@ -114,7 +115,8 @@ groups_of_text ds es h k = ap (λ (t : List (List ℕ)). [] ∷ t) (split_at ds 
 
 marks_of_text : (ds es : List ℕ) → list_all is_count_digit ds ≡ true → list_all is_count_digit es ≡ true
     → marks (66 ∷ (ds ++ 47 ∷ 83 ∷ es)) ≡ codes "B/S"
-marks_of_text ds es h k = ap (λ (t : List ℕ). map to_ascii_uppercase (66 ∷ t)) (no_marks ds (47 ∷ 83 ∷ es) h ∙ ap (λ (t : List ℕ). 47 ∷ 83 ∷ t) (none_left es k))
+marks_of_text ds es h k = ap (λ (t : List ℕ). map to_ascii_uppercase (66 ∷ t))
+    (no_marks ds (47 ∷ 83 ∷ es) h ∙ ap (λ (t : List ℕ). 47 ∷ 83 ∷ t) (none_left es k))
 
 pub sets_again : (ds es : List ℕ) → list_all is_count_digit ds ≡ true → list_all is_count_digit es ≡ true
     → life_sets (66 ∷ (ds ++ 47 ∷ 83 ∷ es)) ≡ sets ds es
@@ -157,13 +159,15 @@ module _ (ds es : List ℕ) (d : list_all is_count_digit ds ≡ true) (e : list_
   text_rule =
       ap rule_of_trimmed text_trimmed
       ∙ ap (λ v. cond v (Err BadRule) (cond (list_any (λ b. b == 58) text) (Err BoundedGrid) (life_or_other text (life_sets text)))) text_is_rule
-      ∙ ap (λ v. cond v (Err BoundedGrid) (life_or_other text (life_sets text))) (no_any (λ b. b == 58) text (text_passes (λ b. not (b == 58)) digit_no_colon refl ds es d e))
+      ∙ ap (λ v. cond v (Err BoundedGrid) (life_or_other text (life_sets text)))
+      (no_any (λ b. b == 58) text (text_passes (λ b. not (b == 58)) digit_no_colon refl ds es d e))
       ∙ ap (life_or_other text) (sets_again ds es d e)
 
 pub moore_again : (v : DigitSets) → IsLifeRule (record { sets = v; near = Moore }) → rule_of (rule_text (counting Moore v)) ≡ Ok (counting Moore v)
 moore_again v h =
     ap (λ (t : List ℕ). rule_of (66 ∷ t)) (append_assoc (digits_of v.births) (codes "/S") (digits_of v.survivals))
-    ∙ text_rule (digits_of v.births) (digits_of v.survivals) (set_digits v.births h.births) (set_digits v.survivals h.survivals) (set_short v.births h.births) (set_short v.survivals h.survivals)
+    ∙ text_rule (digits_of v.births) (digits_of v.survivals) (set_digits v.births h.births) (set_digits v.survivals h.survivals) (set_short v.births h.births)
+    (set_short v.survivals h.survivals)
     ∙ ap (λ (b : ℕ). life_rule Moore (record { births = b; survivals = digit_set (digits_of v.survivals) })) (set_again v.births h.births)
     ∙ ap (λ (s : ℕ). life_rule Moore (record { births = v.births; survivals = s })) (set_again v.survivals h.survivals)
     ∙ ap (λ w. cond w (Err BirthOnZero) (Ok (counting Moore v))) h.no_birth_on_zero

@@ -59,7 +59,8 @@ weave_step : (v : Bool) (b : ℕ) (groups : List (List ℕ)) (ms : List ℕ) →
 weave_step true b groups ms e = ap (λ c. c ∷ woven groups ms) (upper_digit b e) ∙ sym (woven_further b groups ms)
 weave_step false b groups ms e = refl
 
-marks_step : (v : Bool) (b : ℕ) (text : List ℕ) → map to_ascii_uppercase (cond v (b ∷ text) text) ≡ cond v (to_ascii_uppercase b ∷ map to_ascii_uppercase text) (map to_ascii_uppercase text)
+marks_step : (v : Bool) (b : ℕ) (text : List ℕ) → map to_ascii_uppercase (cond v (b ∷ text) text) ≡ cond v (to_ascii_uppercase b ∷ map to_ascii_uppercase text)
+    (map to_ascii_uppercase text)
 marks_step true b text = refl
 marks_step false b text = refl
 
@@ -144,7 +145,8 @@ module _ (text : List ℕ) (s : DigitSets) where
         form_is b a e d p.1 (inr (inr (inr (inl w))))
   ]
 
-  slashed : (a b ms : List ℕ) → map to_ascii_uppercase text ≡ woven ([] ∷ a ∷ [] ∷ b ∷ []) ms → list_all is_count_digit a ≡ true → list_all is_count_digit b ≡ true
+  slashed : (a b ms : List ℕ) → map to_ascii_uppercase text ≡ woven ([] ∷ a ∷ [] ∷ b ∷ []) ms → list_all is_count_digit a ≡ true
+      → list_all is_count_digit b ≡ true
       → cond (bytes_eq ms (codes "B/S")) (sets a b) (cond (bytes_eq ms (codes "S/B")) (sets b a) None) ≡ Some s → IsLifeText text s
   slashed a b ms t d e h = elim (one_of (bytes_eq ms (codes "B/S")) (bytes_eq ms (codes "S/B")) (sets_of a b) (sets_of b a) s h) [
     | inl p ↦
@@ -157,16 +159,19 @@ module _ (text : List ℕ) (s : DigitSets) where
         form_is b a e d p.1 (inr (inl w))
   ]
 
-  shaped : (groups : List (List ℕ)) (ms : List ℕ) → map to_ascii_uppercase text ≡ woven groups ms → are_digits groups ≡ true → life_form groups ms ≡ Some s → IsLifeText text s
+  shaped : (groups : List (List ℕ)) (ms : List ℕ) → map to_ascii_uppercase text ≡ woven groups ms → are_digits groups ≡ true → life_form groups ms ≡ Some s
+      → IsLifeText text s
   shaped [] ms t d h = cc
   shaped ([] ∷ []) ms t d h = cc
   shaped ((x ∷ a) ∷ []) ms t d h = cc
   shaped ([] ∷ b ∷ []) ms t d h = plain [] b ms t refl (first (list_all is_count_digit b) true d) h
   shaped ((x ∷ a) ∷ b ∷ []) ms t d h =
-      let e = second (list_all is_count_digit (x ∷ a)) _ d in plain (x ∷ a) b ms t (first (list_all is_count_digit (x ∷ a)) _ d) (first (list_all is_count_digit b) true e) h
+      let e = second (list_all is_count_digit (x ∷ a)) _ d in
+      plain (x ∷ a) b ms t (first (list_all is_count_digit (x ∷ a)) _ d) (first (list_all is_count_digit b) true e) h
   shaped ([] ∷ a ∷ [] ∷ []) ms t d h = lettered a [] ms t (first (list_all is_count_digit a) true d) refl h
   shaped ([] ∷ a ∷ (x ∷ b) ∷ []) ms t d h =
-      let e = second (list_all is_count_digit a) _ d in lettered a (x ∷ b) ms t (first (list_all is_count_digit a) _ d) (first (list_all is_count_digit (x ∷ b)) true e) h
+      let e = second (list_all is_count_digit a) _ d in
+      lettered a (x ∷ b) ms t (first (list_all is_count_digit a) _ d) (first (list_all is_count_digit (x ∷ b)) true e) h
   shaped ((x ∷ a) ∷ b ∷ c ∷ []) ms t d h = cc
   shaped ([] ∷ a ∷ [] ∷ b ∷ []) ms t d h =
       let e = second (list_all is_count_digit a) _ d in slashed a b ms t (first (list_all is_count_digit a) _ d) (first (list_all is_count_digit b) true e) h
@@ -184,7 +189,8 @@ module _ (text : List ℕ) (s : DigitSets) where
 
 -- letters in upper case have the same groups and marks
 groups_step : (v w : Bool) (b : ℕ) (text : List ℕ) → is_count_digit b ≡ v → v ≡ w
-    → cond (not w) ([] ∷ digit_groups text) (onto_first (to_ascii_uppercase b) (digit_groups text)) ≡ cond (not v) ([] ∷ digit_groups text) (onto_first b (digit_groups text))
+    → cond (not w) ([] ∷ digit_groups text) (onto_first (to_ascii_uppercase b) (digit_groups text)) ≡ cond (not v) ([] ∷ digit_groups text)
+    (onto_first b (digit_groups text))
 groups_step true true b text e h = ap (λ c. onto_first c (digit_groups text)) (upper_digit b e)
 groups_step true false b text e h = cc
 groups_step false true b text e h = cc
@@ -196,14 +202,16 @@ groups_upper (b ∷ text) =
     ap (λ (g : List (List ℕ)). cond (is_mark (to_ascii_uppercase b)) ([] ∷ g) (onto_first (to_ascii_uppercase b) g)) (groups_upper text)
     ∙ groups_step (is_count_digit b) (is_count_digit (to_ascii_uppercase b)) b text refl (sym (digit_of_upper b))
 
-marks_upper_step : (v : Bool) (b : ℕ) (xs ys : List ℕ) → map to_ascii_uppercase xs ≡ map to_ascii_uppercase ys → map to_ascii_uppercase (cond v (to_ascii_uppercase b ∷ xs) xs) ≡ map to_ascii_uppercase (cond v (b ∷ ys) ys)
+marks_upper_step : (v : Bool) (b : ℕ) (xs ys : List ℕ) → map to_ascii_uppercase xs ≡ map to_ascii_uppercase ys
+    → map to_ascii_uppercase (cond v (to_ascii_uppercase b ∷ xs) xs) ≡ map to_ascii_uppercase (cond v (b ∷ ys) ys)
 marks_upper_step true b xs ys e = ap (λ c. c ∷ map to_ascii_uppercase xs) (upper_again b) ∙ ap (λ (t : List ℕ). to_ascii_uppercase b ∷ t) e
 marks_upper_step false b xs ys e = e
 
 marks_upper : (text : List ℕ) → marks (map to_ascii_uppercase text) ≡ marks text
 marks_upper [] = refl
 marks_upper (b ∷ text) =
-    ap (λ v. map to_ascii_uppercase (cond (not v) (to_ascii_uppercase b ∷ filter is_mark (map to_ascii_uppercase text)) (filter is_mark (map to_ascii_uppercase text)))) (digit_of_upper b)
+    ap (λ v. map to_ascii_uppercase
+    (cond (not v) (to_ascii_uppercase b ∷ filter is_mark (map to_ascii_uppercase text)) (filter is_mark (map to_ascii_uppercase text)))) (digit_of_upper b)
     ∙ marks_upper_step (is_mark b) b (filter is_mark (map to_ascii_uppercase text)) (filter is_mark text) (marks_upper text)
 
 births_first : (a b : List ℕ) → life_form ([] ∷ a ∷ b ∷ []) (codes "BS") ≡ Some (sets_of a b)
@@ -229,13 +237,16 @@ module _ (text births survivals : List ℕ) (d : list_all is_count_digit births 
 
   -- a letter, digits, a slash and a letter, digits
   with_slash : (x y : ℕ) (a b : List ℕ) → list_all is_count_digit a ≡ true → list_all is_count_digit b ≡ true → is_mark x ≡ true → is_mark y ≡ true
-      → map to_ascii_uppercase text ≡ x ∷ (a ++ 47 ∷ y ∷ b) → life_sets text ≡ life_form ([] ∷ a ∷ [] ∷ b ∷ []) (to_ascii_uppercase x ∷ 47 ∷ to_ascii_uppercase y ∷ [])
+      → map to_ascii_uppercase text ≡ x ∷ (a ++ 47 ∷ y ∷ b)
+      → life_sets text ≡ life_form ([] ∷ a ∷ [] ∷ b ∷ []) (to_ascii_uppercase x ∷ 47 ∷ to_ascii_uppercase y ∷ [])
   with_slash x y a b h k m n w =
       by_parts _ _ _ w
       (split_at [] x (a ++ 47 ∷ y ∷ b) refl m
       ∙ ap (λ (t : List (List ℕ)). [] ∷ t)
       (split_at a 47 (y ∷ b) h refl ∙ ap (λ (t : List (List ℕ)). a ∷ t) (split_at [] y b refl n ∙ ap (λ (t : List (List ℕ)). [] ∷ t) (split_end b k))))
-      (ap (map to_ascii_uppercase) (kept_mark x (a ++ 47 ∷ y ∷ b) m ∙ ap (λ (t : List ℕ). x ∷ t) (no_marks a (47 ∷ y ∷ b) h ∙ ap (λ (t : List ℕ). 47 ∷ t) (kept_mark y b n ∙ ap (λ (t : List ℕ). y ∷ t) (none_left b k)))))
+      (ap (map to_ascii_uppercase) (kept_mark x (a ++ 47 ∷ y ∷ b) m
+      ∙ ap (λ (t : List ℕ). x ∷ t) (no_marks a (47 ∷ y ∷ b) h
+      ∙ ap (λ (t : List ℕ). 47 ∷ t) (kept_mark y b n ∙ ap (λ (t : List ℕ). y ∷ t) (none_left b k)))))
     where
       kept_mark : (z : ℕ) (rest : List ℕ) → is_mark z ≡ true → filter is_mark (z ∷ rest) ≡ z ∷ filter is_mark rest
       kept_mark z rest q = ap (λ v. cond v (z ∷ filter is_mark rest) (filter is_mark rest)) q
@@ -246,7 +257,8 @@ module _ (text births survivals : List ℕ) (d : list_all is_count_digit births 
   without_slash x y a b h k m n w =
       by_parts _ _ _ w
       (split_at [] x (a ++ y ∷ b) refl m ∙ ap (λ (t : List (List ℕ)). [] ∷ t) (split_at a y b h n ∙ ap (λ (t : List (List ℕ)). a ∷ t) (split_end b k)))
-      (ap (map to_ascii_uppercase) (kept_mark x (a ++ y ∷ b) m ∙ ap (λ (t : List ℕ). x ∷ t) (no_marks a (y ∷ b) h ∙ kept_mark y b n ∙ ap (λ (t : List ℕ). y ∷ t) (none_left b k))))
+      (ap (map to_ascii_uppercase) (kept_mark x (a ++ y ∷ b) m
+      ∙ ap (λ (t : List ℕ). x ∷ t) (no_marks a (y ∷ b) h ∙ kept_mark y b n ∙ ap (λ (t : List ℕ). y ∷ t) (none_left b k))))
     where
       kept_mark : (z : ℕ) (rest : List ℕ) → is_mark z ≡ true → filter is_mark (z ∷ rest) ≡ z ∷ filter is_mark rest
       kept_mark z rest q = ap (λ v. cond v (z ∷ filter is_mark rest) (filter is_mark rest)) q
@@ -254,8 +266,10 @@ module _ (text births survivals : List ℕ) (d : list_all is_count_digit births 
   form_sets : IsForm (map to_ascii_uppercase text) births survivals → life_sets text ≡ Some (sets_of births survivals)
   form_sets (inl w) = with_slash 66 83 births survivals d e refl refl (w ∙ append_assoc (66 ∷ births) (codes "/S") survivals)
   form_sets (inr (inl w)) = with_slash 83 66 survivals births e d refl refl (w ∙ append_assoc (83 ∷ survivals) (codes "/B") births)
-  form_sets (inr (inr (inl w))) = without_slash 66 83 births survivals d e refl refl (w ∙ append_assoc (66 ∷ births) (codes "S") survivals) ∙ births_first births survivals
-  form_sets (inr (inr (inr (inl w)))) = without_slash 83 66 survivals births e d refl refl (w ∙ append_assoc (83 ∷ survivals) (codes "B") births) ∙ survivals_first survivals births
+  form_sets (inr (inr (inl w))) = without_slash 66 83 births survivals d e refl refl (w ∙ append_assoc (66 ∷ births) (codes "S") survivals)
+      ∙ births_first births survivals
+  form_sets (inr (inr (inr (inl w)))) = without_slash 83 66 survivals births e d refl refl (w ∙ append_assoc (83 ∷ survivals) (codes "B") births)
+      ∙ survivals_first survivals births
   form_sets (inr (inr (inr (inr w)))) =
       by_parts _ (survivals ∷ births ∷ []) (codes "/") (w ∙ append_assoc survivals (codes "/") births)
       (split_at survivals 47 births e refl ∙ ap (λ (t : List (List ℕ)). survivals ∷ t) (split_end births d))
@@ -286,11 +300,13 @@ pass_two xs ys h k = list_all-append no_v xs ys ∙ both (list_all no_v xs) (lis
 digits_no_v : (ds : List ℕ) → list_all is_count_digit ds ≡ true → list_all no_v ds ≡ true
 digits_no_v ds h = all_pass is_count_digit no_v digit_no_v ds h
 
-form_no_v : (text births survivals : List ℕ) → list_all no_v births ≡ true → list_all no_v survivals ≡ true → IsForm text births survivals → list_all no_v text ≡ true
+form_no_v : (text births survivals : List ℕ) → list_all no_v births ≡ true → list_all no_v survivals ≡ true → IsForm text births survivals
+    → list_all no_v text ≡ true
 form_no_v text b s d e (inl w) = ap (list_all no_v) w ∙ pass_two ((codes "B" ++ b) ++ codes "/S") s (pass_two (codes "B" ++ b) (codes "/S") d refl) e
 form_no_v text b s d e (inr (inl w)) = ap (list_all no_v) w ∙ pass_two ((codes "S" ++ s) ++ codes "/B") b (pass_two (codes "S" ++ s) (codes "/B") e refl) d
 form_no_v text b s d e (inr (inr (inl w))) = ap (list_all no_v) w ∙ pass_two ((codes "B" ++ b) ++ codes "S") s (pass_two (codes "B" ++ b) (codes "S") d refl) e
-form_no_v text b s d e (inr (inr (inr (inl w)))) = ap (list_all no_v) w ∙ pass_two ((codes "S" ++ s) ++ codes "B") b (pass_two (codes "S" ++ s) (codes "B") e refl) d
+form_no_v text b s d e (inr (inr (inr (inl w)))) = ap (list_all no_v) w
+    ∙ pass_two ((codes "S" ++ s) ++ codes "B") b (pass_two (codes "S" ++ s) (codes "B") e refl) d
 form_no_v text b s d e (inr (inr (inr (inr w)))) = ap (list_all no_v) w ∙ pass_two (s ++ codes "/") b (pass_two s (codes "/") e refl) d
 
 and_false : (v : Bool) → (v && false) ≡ false
@@ -301,7 +317,8 @@ v_behind : (front : List ℕ) (last : ℕ) → to_ascii_uppercase last ≡ 86 �
 v_behind [] last e = ap (λ c. no_v c && true) e
 v_behind (b ∷ front) last e = ap (λ v. no_v (to_ascii_uppercase b) && v) (v_behind front last e) ∙ and_false (no_v (to_ascii_uppercase b))
 
-no_form_with_v : (word front : List ℕ) (last : ℕ) → word ≡ front ++ last ∷ [] → to_ascii_uppercase last ≡ 86 → (o : Option DigitSets) → life_sets word ≡ o → o ≡ None
+no_form_with_v : (word front : List ℕ) (last : ℕ) → word ≡ front ++ last ∷ [] → to_ascii_uppercase last ≡ 86 → (o : Option DigitSets) → life_sets word ≡ o
+    → o ≡ None
 no_form_with_v word front last w e None h = refl
 no_form_with_v word front last w e (Some s) h =
     let l = life_is_form word s h in
@@ -336,7 +353,8 @@ within found s true false e f h = cc
 within found s false v e f h = cc
 
 four_by : (text front end : List ℕ) (s : DigitSets) (v w : Bool) (o : Option DigitSets) → text ≡ front ++ end → life_sets front ≡ o
-    → bytes_eq (map to_ascii_uppercase (take 1 front)) (codes "B") ≡ v → bytes_eq (map to_ascii_uppercase end) (codes "V") ≡ w → cond (v && w) (up_to_four o) None ≡ Some s → IsFourText text s
+    → bytes_eq (map to_ascii_uppercase (take 1 front)) (codes "B") ≡ v → bytes_eq (map to_ascii_uppercase end) (codes "V") ≡ w
+    → cond (v && w) (up_to_four o) None ≡ Some s → IsFourText text s
 four_by text front end s true true (Some found) t l e f h =
     let k = within found s (nat_lt found.births 32) (nat_lt found.survivals 32) refl refl h in
     let p = one_letter end 86 (same_bytes (map to_ascii_uppercase end) (codes "V") f) in
@@ -361,7 +379,8 @@ unfolding four_sets
 four_is_form text s h =
     let front = take (length text - 1) text in
     let end = drop (length text - 1) text in
-    four_by text front end s (bytes_eq (map to_ascii_uppercase (take 1 front)) (codes "B")) (bytes_eq (map to_ascii_uppercase end) (codes "V")) (life_sets front)
+    four_by text front end s (bytes_eq (map to_ascii_uppercase (take 1 front)) (codes "B")) (bytes_eq (map to_ascii_uppercase end) (codes "V"))
+    (life_sets front)
     (sym (take-append-drop (length text - 1) text)) refl refl refl h
 
 -- the bytes before the last one, and the last one
@@ -379,7 +398,8 @@ is_form_of_four : (text : List ℕ) (s : DigitSets) → IsFourText text s → fo
 unfolding four_sets
 is_form_of_four text s f =
     let end : List ℕ = drop (length text - 1) text in
-    ap (λ (t : List ℕ). cond (bytes_eq (map to_ascii_uppercase (take 1 t)) (codes "B") && bytes_eq (map to_ascii_uppercase end) (codes "V")) (up_to_four (life_sets t)) None) (front_is text f.front f.last f.is)
+    ap (λ (t : List ℕ). cond (bytes_eq (map to_ascii_uppercase (take 1 t)) (codes "B") && bytes_eq (map to_ascii_uppercase end) (codes "V"))
+    (up_to_four (life_sets t)) None) (front_is text f.front f.last f.is)
     ∙ ap (λ v. cond (v && bytes_eq (map to_ascii_uppercase end) (codes "V")) (up_to_four (life_sets f.front)) None) (begins f.front f.rest f.begins)
     ∙ ap (λ (t : List ℕ). cond (bytes_eq (map to_ascii_uppercase t) (codes "V")) (up_to_four (life_sets f.front)) None) (end_is text f.front f.last f.is)
     ∙ ap (λ c. cond (bytes_eq (c ∷ []) (codes "V")) (up_to_four (life_sets f.front)) None) f.letter
@@ -432,7 +452,8 @@ around text =
 
 skip_front : (front rest : List ℕ) → list_all is_whitespace front ≡ true → trim_start (front ++ rest) ≡ trim_start rest
 skip_front [] rest h = refl
-skip_front (b ∷ front) rest h = ap (λ v. cond v (trim_start (front ++ rest)) (b ∷ (front ++ rest))) (first _ _ h) ∙ skip_front front rest (second (is_whitespace b) _ h)
+skip_front (b ∷ front) rest h = ap (λ v. cond v (trim_start (front ++ rest)) (b ∷ (front ++ rest))) (first _ _ h)
+    ∙ skip_front front rest (second (is_whitespace b) _ h)
 
 none_kept : (back : List ℕ) → list_all is_whitespace back ≡ true → without_last is_whitespace back ≡ []
 none_kept [] h = refl
@@ -527,7 +548,8 @@ v_names b h = grind (arith, nat_tests)
 h_names : (b : ℕ) → to_ascii_uppercase b ≡ 72 → names_neighbours b ≡ true
 h_names b h = grind (arith, nat_tests)
 
-named_end : (end : List ℕ) (v w : Bool) → bytes_eq (map to_ascii_uppercase end) (codes "V") ≡ v → bytes_eq (map to_ascii_uppercase end) (codes "H") ≡ w → (v || w) ≡ true
+named_end : (end : List ℕ) (v w : Bool) → bytes_eq (map to_ascii_uppercase end) (codes "V") ≡ v → bytes_eq (map to_ascii_uppercase end) (codes "H") ≡ w
+    → (v || w) ≡ true
     → (last : ℕ) × (end ≡ last ∷ []) × (names_neighbours last ≡ true)
 named_end end true w e f h = let p = one_letter end 86 (same_bytes (map to_ascii_uppercase end) (codes "V") e) in (p.0, p.1, v_names p.0 p.2)
 named_end end false true e f h = let p = one_letter end 72 (same_bytes (map to_ascii_uppercase end) (codes "H") f) in (p.0, p.1, h_names p.0 p.2)
@@ -537,11 +559,13 @@ some_of : (o : Option DigitSets) → is_some o ≡ true → (s : DigitSets) × (
 some_of None h = cc
 some_of (Some s) h = (s, refl)
 
-module _ (word front : List ℕ) (last : ℕ) (s : DigitSets) (w : word ≡ front ++ last ∷ []) (n : names_neighbours last ≡ true) (l : life_sets front ≡ Some s) where
-  names_others : names_other_neighbours word ≡ true
-  names_others =
-      both (is_some (life_sets (take (length word - 1) word))) (names_other (drop (length word - 1) word))
-      (ap (λ (t : List ℕ). is_some (life_sets t)) (front_is word front last w) ∙ ap is_some l) (ap names_other (end_is word front last w) ∙ letter_names last n)
+module _ (word front : List ℕ) (last : ℕ) (s : DigitSets) (w : word ≡ front ++ last ∷ []) (n : names_neighbours last ≡ true) (l : life_sets front ≡ Some s)
+  where
+    names_others : names_other_neighbours word ≡ true
+    names_others =
+        both (is_some (life_sets (take (length word - 1) word))) (names_other (drop (length word - 1) word))
+        (ap (λ (t : List ℕ). is_some (life_sets t)) (front_is word front last w) ∙ ap is_some l)
+        (ap names_other (end_is word front last w) ∙ letter_names last n)
 
 -- ---- what an accepted text says
 
@@ -563,7 +587,8 @@ other_said word rule true w e f none h = cc
 other_said word rule false true e f none h = cc
 other_said word rule false false e f none h = let same : Named word ≡ rule = cc in subst (WordSays word) same (refl, is_other word none e f)
 
-four_said : (word : List ℕ) (rule : Rule) (o : Option DigitSets) → life_sets word ≡ None → four_sets word ≡ o → four_or_other word o ≡ Ok rule → WordSays word rule
+four_said : (word : List ℕ) (rule : Rule) (o : Option DigitSets) → life_sets word ≡ None → four_sets word ≡ o → four_or_other word o ≡ Ok rule
+    → WordSays word rule
 four_said word rule (Some s) none f h = life_said word VonNeumann s rule (has_digit s.births 0) refl (four_is_form word s f) h
 four_said word rule None none f h = other_said word rule (names_other_neighbours word) (list_any (λ b. b == 47) word) refl refl none h
 
@@ -592,13 +617,15 @@ no_letter word h true e =
     let front = take (length word - 1) word in
     let end = drop (length word - 1) word in
     let s = some_of (life_sets front) (first (is_some (life_sets front)) (names_other end) e) in
-    let p = named_end end (bytes_eq (map to_ascii_uppercase end) (codes "V")) (bytes_eq (map to_ascii_uppercase end) (codes "H")) refl refl (second (is_some (life_sets front)) (names_other end) e) in
+    let p = named_end end (bytes_eq (map to_ascii_uppercase end) (codes "V")) (bytes_eq (map to_ascii_uppercase end) (codes "H")) refl refl
+    (second (is_some (life_sets front)) (names_other end) e) in
     let w : word ≡ front ++ p.0 ∷ [] = sym (take-append-drop (length word - 1) word) ∙ ap (λ (t : List ℕ). front ++ t) p.1 in
     absurd (h.no_neighbours front p.0 s.0 w p.2 (life_is_form front s.0 s.1))
 
 life_answers : (word : List ℕ) (near : Near) (sets : DigitSets) → IsNearText near word sets → has_digit sets.births 0 ≡ false
     → life_or_other word (life_sets word) ≡ Ok (counting near sets)
-life_answers word Moore sets h quiet = ap (life_or_other word) (is_form_of_life word sets h) ∙ ap (λ v. cond v (Err BirthOnZero) (Ok (counting Moore sets))) quiet
+life_answers word Moore sets h quiet = ap (life_or_other word) (is_form_of_life word sets h) ∙ ap (λ v. cond v (Err BirthOnZero) (Ok (counting Moore sets)))
+    quiet
 life_answers word VonNeumann sets h quiet =
     ap (life_or_other word) (no_form_with_v word h.front h.last h.is h.letter (life_sets word) refl)
     ∙ ap (four_or_other word) (is_form_of_four word sets h)

@@ -16,7 +16,8 @@ errs_by test (Ok x) = true
 errs_by test (Err kind) = test kind
 
 -- so is that of either case
-pub errs_by_cases : {X : Type 0} (test : Kind → Bool) (b : Bool) (r s : Result X Kind) → errs_by test r ≡ true → errs_by test s ≡ true → errs_by test (cond b r s) ≡ true
+pub errs_by_cases : {X : Type 0} (test : Kind → Bool) (b : Bool) (r s : Result X Kind) → errs_by test r ≡ true → errs_by test s ≡ true
+    → errs_by test (cond b r s) ≡ true
 errs_by_cases test true r s h k = h
 errs_by_cases test false r s h k = k
 
@@ -26,16 +27,20 @@ kind_passes test r kind h e = sym (ap (errs_by test) e) ∙ h
 by_four : (text : List ℕ) (found : Option DigitSets) → errs_by is_rule_kind (four_or_other text found) ≡ true
 by_four text (Some sets) = errs_by_cases is_rule_kind (has_digit sets.births 0) (Err BirthOnZero) (Ok (counting VonNeumann sets)) refl refl
 by_four text None =
-    errs_by_cases is_rule_kind (names_other_neighbours text) (Err UnsupportedRule) (cond (list_any (λ b. b == 47) text) (Err UnsupportedRule) (Ok (Named text))) refl
+    errs_by_cases is_rule_kind (names_other_neighbours text) (Err UnsupportedRule) (cond (list_any (λ b. b == 47) text) (Err UnsupportedRule) (Ok (Named text)))
+    refl
     (errs_by_cases is_rule_kind (list_any (λ b. b == 47) text) (Err UnsupportedRule) (Ok (Named text)) refl refl)
 
 by_form : (text : List ℕ) (found : Option DigitSets) → errs_by is_rule_kind (life_or_other text found) ≡ true
 by_form text (Some sets) = errs_by_cases is_rule_kind (has_digit sets.births 0) (Err BirthOnZero) (Ok (counting Moore sets)) refl refl
 by_form text None = by_four text (four_sets text)
 
-trimmed_kinds : (text : List ℕ) → errs_by is_rule_kind (cond (is_bad_text text) (Err BadRule) (cond (list_any (λ b. b == 58) text) (Err BoundedGrid) (life_or_other text (life_sets text)))) ≡ true
+trimmed_kinds : (text : List ℕ)
+    → errs_by is_rule_kind (cond (is_bad_text text) (Err BadRule) (cond (list_any (λ b. b == 58) text) (Err BoundedGrid) (life_or_other text (life_sets text))))
+    ≡ true
 trimmed_kinds text =
-    errs_by_cases is_rule_kind (is_bad_text text) (Err BadRule) (cond (list_any (λ b. b == 58) text) (Err BoundedGrid) (life_or_other text (life_sets text))) refl
+    errs_by_cases is_rule_kind (is_bad_text text) (Err BadRule) (cond (list_any (λ b. b == 58) text) (Err BoundedGrid) (life_or_other text (life_sets text)))
+    refl
     (errs_by_cases is_rule_kind (list_any (λ b. b == 58) text) (Err BoundedGrid) (life_or_other text (life_sets text)) refl (by_form text (life_sets text)))
 
 pub rule_errs : (text : List ℕ) → errs_by is_rule_kind (rule_of text) ≡ true

@@ -55,7 +55,8 @@ name_visible name h =
 moore_visible : (v : DigitSets) → IsLifeRule (record { sets = v; near = Moore }) → is_bad_text (rule_text (counting Moore v)) ≡ false
 moore_visible v h =
     ap (λ (t : List ℕ). is_bad_text (66 ∷ t)) (append_assoc (digits_of v.births) (codes "/S") (digits_of v.survivals))
-    ∙ text_is_rule (digits_of v.births) (digits_of v.survivals) (set_digits v.births h.births) (set_digits v.survivals h.survivals) (set_short v.births h.births) (set_short v.survivals h.survivals)
+    ∙ text_is_rule (digits_of v.births) (digits_of v.survivals) (set_digits v.births h.births) (set_digits v.survivals h.survivals)
+    (set_short v.births h.births) (set_short v.survivals h.survivals)
 
 life_visible : (v : DigitSets) (near : Near) → IsLifeRule (record { sets = v; near = near }) → is_bad_text (rule_text (counting near v)) ≡ false
 life_visible v Moore h = moore_visible v h

@@ -126,12 +126,14 @@ four_below : (text : List ℕ) → AreBelow 32 (four_sets text)
 unfolding four_sets
 four_below text = either 32 _ _ None (up_to_four_below (life_sets (take (length text - 1) text))) tt
 
-other_not_life : (text : List ℕ) (rule : OuterTotalistic) (v w : Bool) → cond v (Err UnsupportedRule) (cond w (Err UnsupportedRule) (Ok (Named text))) ≡ Ok (Life rule) → ⊥
+other_not_life : (text : List ℕ) (rule : OuterTotalistic) (v w : Bool) → cond v (Err UnsupportedRule) (cond w (Err UnsupportedRule) (Ok (Named text)))
+    ≡ Ok (Life rule) → ⊥
 other_not_life text rule true w h = cc
 other_not_life text rule false true h = cc
 other_not_life text rule false false h = cc
 
-life_said : (near : Near) (found : DigitSets) (rule : OuterTotalistic) → AreBelow (2 ^ (most_neighbours near + 1)) (Some found) → (v : Bool) → has_digit found.births 0 ≡ v
+life_said : (near : Near) (found : DigitSets) (rule : OuterTotalistic) → AreBelow (2 ^ (most_neighbours near + 1)) (Some found) → (v : Bool)
+    → has_digit found.births 0 ≡ v
     → cond v (Err BirthOnZero) (Ok (counting near found)) ≡ Ok (Life rule) → IsLifeRule rule
 life_said near found rule s true e h = cc
 life_said near found rule s false e h =
@@ -152,7 +154,8 @@ life_by text rule false false None s h = four_by text rule (four_sets text) (fou
 
 life_is : (text : List ℕ) (rule : OuterTotalistic) → rule_of text ≡ Ok (Life rule) → IsLifeRule rule
 unfolding rule_of
-life_is text rule h = life_by (trim text) rule (is_bad_text (trim text)) (list_any (λ b. b == 58) (trim text)) (life_sets (trim text)) (life_small (trim text)) h
+life_is text rule h = life_by (trim text) rule (is_bad_text (trim text)) (list_any (λ b. b == 58) (trim text)) (life_sets (trim text)) (life_small (trim text))
+    h
 
 pub rule_values : (text : List ℕ) (rule : Rule) → rule_of text ≡ Ok rule → IsRule rule
 rule_values text (Life rule) h = life_is text rule h

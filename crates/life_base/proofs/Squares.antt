@@ -97,7 +97,8 @@ pub inside_test : (h : ℕ) (x y : ℤ) → Inside h x y → is_inside h x y ≡
 inside_test h x y i = grind (arith, ints, i.west, i.east, i.north, i.south)
 
 -- the state of a pair inside
-pub cell_inside : (t : Tree) (x y : ℤ) (n m : ℕ) → is_inside (half_side t) x y ≡ true → x +ℤ pos (half_side t) ≡ pos n → y +ℤ pos (half_side t) ≡ pos m → cell t x y ≡ state_at t n m
+pub cell_inside : (t : Tree) (x y : ℤ) (n m : ℕ) → is_inside (half_side t) x y ≡ true → x +ℤ pos (half_side t) ≡ pos n → y +ℤ pos (half_side t) ≡ pos m
+    → cell t x y ≡ state_at t n m
 cell_inside t x y n m i e f =
     ap (λ b. if b then state_at t (unsigned_abs (x +ℤ pos (half_side t))) (unsigned_abs (y +ℤ pos (half_side t))) else 0) i
     ∙ (λ j. state_at t (unsigned_abs (e j)) (unsigned_abs (f j)))

@@ -97,7 +97,8 @@ words_without text h =
     let l : length t ≤ ends t = ltb-false _ _ (none (ltb (ends t) (length t)) _ h) in
     let a : take (ends t) t ≡ t = take_all (ends t) t l in
     let b : drop (ends t) t ≡ [] = drop_all (ends t) t l in
-    sym (trimmed_words text) ∙ words_cut t (starts text) ∙ ap (λ (x : List ℕ). with_word x (words_of (drop (ends t) t))) a ∙ ap (λ (x : List ℕ). with_word t (words_of x)) b
+    sym (trimmed_words text) ∙ words_cut t (starts text) ∙ ap (λ (x : List ℕ). with_word x (words_of (drop (ends t) t))) a
+    ∙ ap (λ (x : List ℕ). with_word t (words_of x)) b
 
 trim_shorter : (v : Bool) (b : ℕ) (text : List ℕ) → length (trim_start text) ≤ length text → length (cond v (trim_start text) (b ∷ text)) ≤ length (b ∷ text)
 trim_shorter true b text h = omega arith

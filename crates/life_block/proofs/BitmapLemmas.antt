@@ -83,7 +83,8 @@ HasRows-eight cells x y a b c d la lb lc ha hb hc hd =
 
 -- the next states of the places of a word of eight rows
 pub next-place : (rule : OuterTotalistic) (cells : ℤ → ℤ → ℕ) (x y : ℤ) (rows : ℕ) → HasRows cells x y 8 rows → (r i : ℕ) → r < 6 → i < 6
-    → next_by_count rule.sets (bit_at (rows / 2 ^ 8) (8 * r + i + 1)) (count_of 1 (counted_in rule.near (record { north = rows; here = rows / 2 ^ 8; south = rows / 2 ^ 16 }) (8 * r + i)))
+    → next_by_count rule.sets (bit_at (rows / 2 ^ 8) (8 * r + i + 1))
+    (count_of 1 (counted_in rule.near (record { north = rows; here = rows / 2 ^ 8; south = rows / 2 ^ 16 }) (8 * r + i)))
     ≡ next_life rule cells (x +ℤ pos (i + 1)) (y +ℤ pos (r + 1))
 next-place rule cells x y rows h r i lr li = by rule.near
   where
@@ -131,7 +132,8 @@ next-place rule cells x y rows h r i lr li = by rule.near
     nw = north _ i _ (omega (arith, li)) refl (omega (arith, ints))
 
     by : (near : Near)
-        → next_by_count rule.sets (bit_at (rows / 2 ^ 8) (8 * r + i + 1)) (count_of 1 (counted_in near (record { north = rows; here = rows / 2 ^ 8; south = rows / 2 ^ 16 }) (8 * r + i)))
+        → next_by_count rule.sets (bit_at (rows / 2 ^ 8) (8 * r + i + 1))
+        (count_of 1 (counted_in near (record { north = rows; here = rows / 2 ^ 8; south = rows / 2 ^ 16 }) (8 * r + i)))
         ≡ next_life (record { sets = rule.sets; near = near }) cells (x +ℤ pos (i + 1)) (y +ℤ pos (r + 1))
     by Moore = (λ j. next_by_count rule.sets (c j) (count_of 1 (n j ∷ ne j ∷ e j ∷ se j ∷ s j ∷ sw j ∷ w j ∷ nw j ∷ [])))
     by VonNeumann = (λ j. next_by_count rule.sets (c j) (count_of 1 (n j ∷ e j ∷ s j ∷ w j ∷ [])))

@@ -31,7 +31,8 @@ eight a b c d e f g h la lb lc ld le lf lg lh =
     let last = four e f g h le lf lg lh in
     omega (arith, first, last)
 
-few-eight : (a b c d e f g h n : ℕ) → a < 2 → b < 2 → c < 2 → d < 2 → e < 2 → f < 2 → g < 2 → h < 2 → n ≡ count_of 1 (a ∷ b ∷ c ∷ d ∷ e ∷ f ∷ g ∷ h ∷ []) → n ≤ 8
+few-eight : (a b c d e f g h n : ℕ) → a < 2 → b < 2 → c < 2 → d < 2 → e < 2 → f < 2 → g < 2 → h < 2 → n ≡ count_of 1 (a ∷ b ∷ c ∷ d ∷ e ∷ f ∷ g ∷ h ∷ [])
+    → n ≤ 8
 few-eight a b c d e f g h n la lb lc ld le lf lg lh is =
     let sum = eight a b c d e f g h la lb lc ld le lf lg lh in
     omega (arith, is, sum, la, lb, lc, ld, le, lf, lg, lh)
@@ -44,6 +45,7 @@ few-four a b c d n la lb lc ld is =
 -- eight neighbours at most
 pub few-counted : (near : Near) (w : Words) (i n : ℕ) → n ≡ count_of 1 (counted_in near w i) → n ≤ 8
 few-counted Moore w i n is =
-    few-eight _ _ _ _ _ _ _ _ n (bit_at-lt w.north (i + 1)) (bit_at-lt w.north (i + 2)) (bit_at-lt w.here (i + 2)) (bit_at-lt w.south (i + 2)) (bit_at-lt w.south (i + 1)) (bit_at-lt w.south i)
+    few-eight _ _ _ _ _ _ _ _ n (bit_at-lt w.north (i + 1)) (bit_at-lt w.north (i + 2)) (bit_at-lt w.here (i + 2)) (bit_at-lt w.south (i + 2))
+    (bit_at-lt w.south (i + 1)) (bit_at-lt w.south i)
     (bit_at-lt w.here i) (bit_at-lt w.north i) is
 few-counted VonNeumann w i n is = few-four _ _ _ _ n (bit_at-lt w.north (i + 1)) (bit_at-lt w.here (i + 2)) (bit_at-lt w.south (i + 1)) (bit_at-lt w.here i) is

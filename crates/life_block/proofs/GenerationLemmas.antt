@@ -32,7 +32,12 @@ on-plane t x y low i =
     let e = i.east in
     let n = i.north in
     let s = i.south in
-    record { west = omega (arith, ints, small, w); east = omega (arith, ints, small, e); north = omega (arith, ints, small, n); south = omega (arith, ints, small, s) }
+    record {
+      west = omega (arith, ints, small, w);
+      east = omega (arith, ints, small, e);
+      north = omega (arith, ints, small, n);
+      south = omega (arith, ints, small, s);
+    }
 
 -- where the next states are those of a square of the plane
 pub accepted : LifeAnswersAt → (rule : OuterTotalistic) (t r : Tree) (most : ℕ) → ((x y : ℤ) → tree_cell t x y < 2) → population t ≤ most → depth r ≤ MAX_LEVEL

@@ -42,7 +42,8 @@ square-piece : (f : ℤ → ℤ → ℕ) (k : ℕ) (x y : ℤ) → IsPiece f x y
 unfolding square_from
 square-piece f zero x y = refl
 square-piece f (suc k) x y =
-    IsPiece-joined f x y _ _ _ _ _ k (depth-square f k x y) refl (square-piece f k x y) (square-piece f k (ahead x (2 ^ k)) y) (square-piece f k x (ahead y (2 ^ k)))
+    IsPiece-joined f x y _ _ _ _ _ k (depth-square f k x y) refl (square-piece f k x y) (square-piece f k (ahead x (2 ^ k)) y)
+    (square-piece f k x (ahead y (2 ^ k)))
     (square-piece f k (ahead x (2 ^ k)) (ahead y (2 ^ k)))
 
 pub is-piece : (f : ℤ → ℤ → ℕ) (k : ℕ) (x y : ℤ) (t : Tree) → t ≡ square_from f k x y → IsPiece f x y t
@@ -88,7 +89,8 @@ module _ (P : Tree → Type 0) (f : ℤ → ℤ → ℕ) (k : ℕ) (x y : ℤ) w
 abbrev pub bits : ℕ → ℕ → Tree
 bits word k = quad (point (bit_at (word / 2 ^ k) 0)) (point (bit_at (word / 2 ^ k) 1)) (point (bit_at (word / 2 ^ k) 8)) (point (bit_at (word / 2 ^ k) 9))
 
-bits-are : (f : ℤ → ℤ → ℕ) (x y : ℤ) (word k r i : ℕ) (u v : ℤ) → HasInner f x y word → r < 5 → i < 5 → k ≡ 8 * r + i → x +ℤ pos (i + 1) ≡ u → y +ℤ pos (r + 1) ≡ v → bits word k ≡ square_from f 1 u v
+bits-are : (f : ℤ → ℤ → ℕ) (x y : ℤ) (word k r i : ℕ) (u v : ℤ) → HasInner f x y word → r < 5 → i < 5 → k ≡ 8 * r + i → x +ℤ pos (i + 1) ≡ u
+    → y +ℤ pos (r + 1) ≡ v → bits word k ≡ square_from f 1 u v
 unfolding square_from
 bits-are f x y word k r i u v h lr li at eu ev =
     let p0 : 0 + k ≡ 8 * r + i = omega (arith, at) in
@@ -121,7 +123,8 @@ module _ (f : ℤ → ℤ → ℕ) (x y : ℤ) (word : ℕ) (inner : HasInner f 
 -- ---- answers of calls on a store
 
 -- a square that was answered as a piece is the square of its level still, behind further calls
-pub still-is : {S : Type 0} {knows : S → Id → Type 0} {content : S → Id → Tree} {stored : S → List Tree} {most : S → ℕ} {old new : S} {n : ℕ} {id : Id} (f : ℤ → ℤ → ℕ) (k : ℕ) (x y : ℤ)
+pub still-is : {S : Type 0} {knows : S → Id → Type 0} {content : S → Id → Tree} {stored : S → List Tree} {most : S → ℕ} {old new : S} {n : ℕ} {id : Id}
+    (f : ℤ → ℤ → ℕ) (k : ℕ) (x y : ℤ)
     → KeepsSquares knows content stored most old new → IsFull (content old id) → IsAt (knows old) (content old) n id → n ≡ k → IsPiece f x y (content old id)
     → content new id ≡ square_from f k x y
 still-is f k x y keeps full at level h = (keeps.contents _ at.known).1 ∙ piece-is f k x y _ full (at.level ∙ level) h

@@ -37,7 +37,12 @@ IsPiece-joined cells x y a b c d t k level is pa pb pc pd =
     let side : 2 ^ k ≡ 2 ^ depth a = ap (λ n. 2 ^ n) (sym level) in
     let ex : ahead x (2 ^ k) ≡ ahead x (2 ^ depth a) = ap (ahead x) side in
     let ey : ahead y (2 ^ k) ≡ ahead y (2 ^ depth a) = ap (ahead y) side in
-    subst (IsPiece cells x y) (sym is) (pa, IsPiece-moved cells _ _ y y b ex refl pb, IsPiece-moved cells x x _ _ c refl ey pc, IsPiece-moved cells _ _ _ _ d ex ey pd)
+    subst (IsPiece cells x y) (sym is) (
+      pa,
+      IsPiece-moved cells _ _ y y b ex refl pb,
+      IsPiece-moved cells x x _ _ c refl ey pc,
+      IsPiece-moved cells _ _ _ _ d ex ey pd,
+    )
 
 -- ---- squares side by side
 
@@ -63,31 +68,37 @@ module _ {content : Id → Tree} {cells : ℤ → ℤ → ℕ} {side : ℕ} wher
       subst (AreNine content cells side x y) (sym e)
       (record { north = western-three h.far_north; middle = western-three h.north; south = western-three h.south })
 
-  pub nine-north_east : {x y : ℤ} {s : Sixteen} {n : Nine} → n ≡ north_east_of s → AreSixteen content cells side x y s → AreNine content cells side (ahead x side) y n
+  pub nine-north_east : {x y : ℤ} {s : Sixteen} {n : Nine} → n ≡ north_east_of s → AreSixteen content cells side x y s
+      → AreNine content cells side (ahead x side) y n
   nine-north_east {x = x} {y = y} e h =
       subst (AreNine content cells side (ahead x side) y) (sym e)
       (record { north = eastern-three h.far_north; middle = eastern-three h.north; south = eastern-three h.south })
 
-  pub nine-south_west : {x y : ℤ} {s : Sixteen} {n : Nine} → n ≡ south_west_of s → AreSixteen content cells side x y s → AreNine content cells side x (ahead y side) n
+  pub nine-south_west : {x y : ℤ} {s : Sixteen} {n : Nine} → n ≡ south_west_of s → AreSixteen content cells side x y s
+      → AreNine content cells side x (ahead y side) n
   nine-south_west {x = x} {y = y} e h =
       subst (AreNine content cells side x (ahead y side)) (sym e)
       (record { north = AreThree-moved (back-ahead side y) (western-three h.north); middle = western-three h.south; south = western-three h.far_south })
 
-  pub nine-south_east : {x y : ℤ} {s : Sixteen} {n : Nine} → n ≡ south_east_of s → AreSixteen content cells side x y s → AreNine content cells side (ahead x side) (ahead y side) n
+  pub nine-south_east : {x y : ℤ} {s : Sixteen} {n : Nine} → n ≡ south_east_of s → AreSixteen content cells side x y s
+      → AreNine content cells side (ahead x side) (ahead y side) n
   nine-south_east {x = x} {y = y} e h =
       subst (AreNine content cells side (ahead x side) (ahead y side)) (sym e)
       (record { north = AreThree-moved (back-ahead side y) (eastern-three h.north); middle = eastern-three h.south; south = eastern-three h.far_south })
 
 -- what is known stays
-module _ {S : Type 0} {knows : S → Id → Type 0} {content : S → Id → Tree} {stored : S → List Tree} {most : S → ℕ} {old new : S} (keeps : KeepsSquares knows content stored most old new) where
+module _ {S : Type 0} {knows : S → Id → Type 0} {content : S → Id → Tree} {stored : S → List Tree} {most : S → ℕ} {old new : S}
+    (keeps : KeepsSquares knows content stored most old new) where
   pub IsAt-kept : {k : ℕ} {q : Id} → IsAt (knows old) (content old) k q → IsAt (knows new) (content new) k q
   IsAt-kept at = let e = keeps.contents _ at.known in record { known = e.0; level = ap depth e.1 ∙ at.level }
 
-  pub IsPiece-kept : {k : ℕ} {q : Id} (cells : ℤ → ℤ → ℕ) (x y : ℤ) → IsAt (knows old) (content old) k q → IsPiece cells x y (content old q) → IsPiece cells x y (content new q)
+  pub IsPiece-kept : {k : ℕ} {q : Id} (cells : ℤ → ℤ → ℕ) (x y : ℤ) → IsAt (knows old) (content old) k q → IsPiece cells x y (content old q)
+      → IsPiece cells x y (content new q)
   IsPiece-kept cells x y at h = subst (IsPiece cells x y) (sym (keeps.contents _ at.known).1) h
 
   module _ {k : ℕ} {cells : ℤ → ℤ → ℕ} where
-    AreFour-kept : {side : ℕ} {x y : ℤ} {four : Four} → InFour (IsAt (knows old) (content old) k) four → AreFour (content old) cells side x y four → AreFour (content new) cells side x y four
+    AreFour-kept : {side : ℕ} {x y : ℤ} {four : Four} → InFour (IsAt (knows old) (content old) k) four → AreFour (content old) cells side x y four
+        → AreFour (content new) cells side x y four
     AreFour-kept known h =
         record {
           far_west = IsPiece-kept cells _ _ known.far_west h.far_west;
@@ -96,7 +107,8 @@ module _ {S : Type 0} {knows : S → Id → Type 0} {content : S → Id → Tree
           far_east = IsPiece-kept cells _ _ known.far_east h.far_east;
         }
 
-    pub AreSixteen-kept : {side : ℕ} {x y : ℤ} {s : Sixteen} → InSixteen (IsAt (knows old) (content old) k) s → AreSixteen (content old) cells side x y s → AreSixteen (content new) cells side x y s
+    pub AreSixteen-kept : {side : ℕ} {x y : ℤ} {s : Sixteen} → InSixteen (IsAt (knows old) (content old) k) s → AreSixteen (content old) cells side x y s
+        → AreSixteen (content new) cells side x y s
     AreSixteen-kept known h =
         record {
           far_north = AreFour-kept known.far_north h.far_north;
@@ -111,11 +123,13 @@ module _ {S : Type 0} {knows : S → Id → Type 0} {content : S → Id → Tree
 pub record IsZero (cells : ℤ → ℤ → ℕ) (west north east south : ℤ) : Type 0 where
   pub zero_at : (x y : ℤ) → west ≤ℤ x → x <ℤ east → north ≤ℤ y → y <ℤ south → cells x y ≡ 0
 
-IsZero-beside : (cells : ℤ → ℤ → ℕ) (west middle north east south : ℤ) → IsZero cells west north middle south → IsZero cells middle north east south → IsZero cells west north east south
+IsZero-beside : (cells : ℤ → ℤ → ℕ) (west middle north east south : ℤ) → IsZero cells west north middle south → IsZero cells middle north east south
+    → IsZero cells west north east south
 IsZero-beside cells west middle north east south p q =
     record { zero_at = λ x y w e n s. by_lt_z x middle (λ l. p.zero_at x y w l n s) (λ l. q.zero_at x y l e n s) }
 
-IsZero-below : (cells : ℤ → ℤ → ℕ) (west north middle east south : ℤ) → IsZero cells west north east middle → IsZero cells west middle east south → IsZero cells west north east south
+IsZero-below : (cells : ℤ → ℤ → ℕ) (west north middle east south : ℤ) → IsZero cells west north east middle → IsZero cells west middle east south
+    → IsZero cells west north east south
 IsZero-below cells west north middle east south p q =
     record { zero_at = λ x y w e n s. by_lt_z y middle (λ l. p.zero_at x y w e n l) (λ l. q.zero_at x y w e l s) }
 
@@ -139,7 +153,8 @@ zero-of_blank cells (suc k) x y h =
     let fx : ahead (ahead x (2 ^ k)) (2 ^ k) ≡ ahead x (2 ^ suc k) = omega (arith, ints, double) in
     let fy : ahead (ahead y (2 ^ k)) (2 ^ k) ≡ ahead y (2 ^ suc k) = omega (arith, ints, double) in
     subst (λ e. IsZero cells x y e (ahead y (2 ^ suc k))) fx (subst (λ s. IsZero cells x y (ahead (ahead x (2 ^ k)) (2 ^ k)) s) fy
-    (IsZero-below cells x y (ahead y (2 ^ k)) _ _ (IsZero-beside cells x (ahead x (2 ^ k)) y _ _ nw ne) (IsZero-beside cells x (ahead x (2 ^ k)) (ahead y (2 ^ k)) _ _ sw se)))
+    (IsZero-below cells x y (ahead y (2 ^ k)) _ _ (IsZero-beside cells x (ahead x (2 ^ k)) y _ _ nw ne)
+    (IsZero-beside cells x (ahead x (2 ^ k)) (ahead y (2 ^ k)) _ _ sw se)))
 
 pub blank-of_zero : (cells : ℤ → ℤ → ℕ) (k : ℕ) (x y : ℤ) → IsZero cells x y (ahead x (2 ^ k)) (ahead y (2 ^ k)) → IsPiece cells x y (blank k)
 blank-of_zero cells zero x y h = sym (h.zero_at x y (omega (arith, ints)) (omega (arith, ints)) (omega (arith, ints)) (omega (arith, ints)))
@@ -148,12 +163,18 @@ blank-of_zero cells (suc k) x y h =
     let ex : ahead x (2 ^ k) ≡ ahead x (2 ^ depth (blank k)) = ap (ahead x) side in
     let ey : ahead y (2 ^ k) ≡ ahead y (2 ^ depth (blank k)) = ap (ahead y) side in
     let double : 2 ^ suc k ≡ 2 ^ k + 2 ^ k = grind arith in
-    let part : (u v : ℤ) → x ≤ℤ u → ahead u (2 ^ k) ≤ℤ ahead x (2 ^ suc k) → y ≤ℤ v → ahead v (2 ^ k) ≤ℤ ahead y (2 ^ suc k) → IsPiece cells u v (blank k) = (λ u v w e n s.
-    blank-of_zero cells k u v (record { zero_at = λ i j a b c d. h.zero_at i j (omega (arith, ints, w, a)) (omega (arith, ints, e, b)) (omega (arith, ints, n, c)) (omega (arith, ints, s, d)) })) in (
+    let part : (u v : ℤ) → x ≤ℤ u → ahead u (2 ^ k) ≤ℤ ahead x (2 ^ suc k) → y ≤ℤ v → ahead v (2 ^ k) ≤ℤ ahead y (2 ^ suc k)
+    → IsPiece cells u v (blank k) = (λ u v w e n s.
+    blank-of_zero cells k u v (record {
+      zero_at = λ i j a b c d. h.zero_at i j (omega (arith, ints, w, a)) (omega (arith, ints, e, b)) (omega (arith, ints, n, c)) (omega (arith, ints, s, d));
+    })) in (
       part x y (omega (arith, ints)) (omega (arith, ints, double)) (omega (arith, ints)) (omega (arith, ints, double)),
-      IsPiece-moved cells _ _ y y (blank k) ex refl (part (ahead x (2 ^ k)) y (omega (arith, ints)) (omega (arith, ints, double)) (omega (arith, ints)) (omega (arith, ints, double))),
-      IsPiece-moved cells x x _ _ (blank k) refl ey (part x (ahead y (2 ^ k)) (omega (arith, ints)) (omega (arith, ints, double)) (omega (arith, ints)) (omega (arith, ints, double))),
-      IsPiece-moved cells _ _ _ _ (blank k) ex ey (part (ahead x (2 ^ k)) (ahead y (2 ^ k)) (omega (arith, ints)) (omega (arith, ints, double)) (omega (arith, ints)) (omega (arith, ints, double))),
+      IsPiece-moved cells _ _ y y (blank k) ex refl
+          (part (ahead x (2 ^ k)) y (omega (arith, ints)) (omega (arith, ints, double)) (omega (arith, ints)) (omega (arith, ints, double))),
+      IsPiece-moved cells x x _ _ (blank k) refl ey
+          (part x (ahead y (2 ^ k)) (omega (arith, ints)) (omega (arith, ints, double)) (omega (arith, ints)) (omega (arith, ints, double))),
+      IsPiece-moved cells _ _ _ _ (blank k) ex ey
+          (part (ahead x (2 ^ k)) (ahead y (2 ^ k)) (omega (arith, ints)) (omega (arith, ints, double)) (omega (arith, ints)) (omega (arith, ints, double))),
     )
 
 -- a cell among cells of state 0
@@ -198,7 +219,8 @@ next-zero rule cells x y quiet h = by rule.near ∙ ap (λ (b : Bool). if b || f
     by VonNeumann = (λ i. next_by_count rule.sets (c i) (count_of 1 (n i ∷ e i ∷ s i ∷ w i ∷ [])))
 
 -- nine blank squares
-pub next-of_blank : (rule : OuterTotalistic) (content : Id → Tree) (cells : ℤ → ℤ → ℕ) (k : ℕ) (x y : ℤ) (id : Id) (nine : Nine) → has_digit rule.sets.births 0 ≡ false
+pub next-of_blank : (rule : OuterTotalistic) (content : Id → Tree) (cells : ℤ → ℤ → ℕ) (k : ℕ) (x y : ℤ) (id : Id) (nine : Nine)
+    → has_digit rule.sets.births 0 ≡ false
     → content id ≡ blank k → InNine (λ other. other ≡ id) nine → AreNine content cells (2 ^ k) x y nine → IsPiece (next_life rule cells) x y (content id)
 next-of_blank rule content cells k x y id nine quiet is all h =
     subst (IsPiece (next_life rule cells) x y) (sym is) (blank-of_zero _ k x y whole)
@@ -211,18 +233,22 @@ next-of_blank rule content cells k x y id nine quiet is all h =
     row v three e p =
         let a : ahead (back x (2 ^ k)) (2 ^ k) ≡ x = omega (arith, ints) in
         IsZero-beside cells _ (ahead x (2 ^ k)) v _ _
-        (IsZero-beside cells _ x v _ _ (subst (λ u. IsZero cells (back x (2 ^ k)) v u (ahead v (2 ^ k))) a (at _ v _ e.west p.west)) (at x v _ e.middle p.middle)) (at _ v _ e.east p.east)
+        (IsZero-beside cells _ x v _ _ (subst (λ u. IsZero cells (back x (2 ^ k)) v u (ahead v (2 ^ k))) a (at _ v _ e.west p.west))
+        (at x v _ e.middle p.middle)) (at _ v _ e.east p.east)
 
     around : IsZero cells (back x (2 ^ k)) (back y (2 ^ k)) (ahead (ahead x (2 ^ k)) (2 ^ k)) (ahead (ahead y (2 ^ k)) (2 ^ k))
     around =
         let a : ahead (back y (2 ^ k)) (2 ^ k) ≡ y = omega (arith, ints) in
         IsZero-below cells _ _ (ahead y (2 ^ k)) _ _
-        (IsZero-below cells _ _ y _ _ (subst (λ u. IsZero cells (back x (2 ^ k)) (back y (2 ^ k)) (ahead (ahead x (2 ^ k)) (2 ^ k)) u) a (row _ _ all.north h.north)) (row y _ all.middle h.middle)) (row _ _ all.south h.south)
+        (IsZero-below cells _ _ y _ _ (subst (λ u. IsZero cells (back x (2 ^ k)) (back y (2 ^ k)) (ahead (ahead x (2 ^ k)) (2 ^ k)) u) a
+        (row _ _ all.north h.north)) (row y _ all.middle h.middle)) (row _ _ all.south h.south)
 
     whole : IsZero (next_life rule cells) x y (ahead x (2 ^ k)) (ahead y (2 ^ k))
     whole =
         let some : 0 < 2 ^ k = pow_pos k in
         record {
           zero_at = λ u v w e n s.
-              next-zero rule cells u v quiet (λ i j a b c d. around.zero_at i j (omega (arith, ints, some, w, a)) (omega (arith, ints, some, e, b)) (omega (arith, ints, some, n, c)) (omega (arith, ints, some, s, d)));
+              next-zero rule cells u v quiet
+              (λ i j a b c d. around.zero_at i j (omega (arith, ints, some, w, a)) (omega (arith, ints, some, e, b)) (omega (arith, ints, some, n, c))
+              (omega (arith, ints, some, s, d)));
         }

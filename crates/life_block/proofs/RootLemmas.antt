@@ -54,7 +54,8 @@ side (suc k) h =
 
 -- ---- a square is a piece exactly if its cells have the states of the plane
 
-pub piece-of_cells : (cells : ℤ → ℤ → ℕ) (t : Tree) (x y : ℤ) → IsFull t → ((i j : ℕ) → i < 2 ^ depth t → j < 2 ^ depth t → state_at t i j ≡ cells (x +ℤ pos i) (y +ℤ pos j)) → IsPiece cells x y t
+pub piece-of_cells : (cells : ℤ → ℤ → ℕ) (t : Tree) (x y : ℤ) → IsFull t
+    → ((i j : ℕ) → i < 2 ^ depth t → j < 2 ^ depth t → state_at t i j ≡ cells (x +ℤ pos i) (y +ℤ pos j)) → IsPiece cells x y t
 piece-of_cells cells (point s) x y full h =
     let ex : x +ℤ pos 0 ≡ x = omega (arith, ints) in
     let ey : y +ℤ pos 0 ≡ y = omega (arith, ints) in
@@ -67,15 +68,19 @@ piece-of_cells cells (quad a b c d) x y full h =
     let further : (z : ℤ) (i : ℕ) → z +ℤ pos (2 ^ depth a + i) ≡ ahead z (2 ^ depth a) +ℤ pos i = (λ z i. omega (arith, ints)) in (
       piece-of_cells cells a x y full.0 (λ i j li lj. sym (state_nw a b c d full i j li lj) ∙ h i j (omega (arith, li, d2)) (omega (arith, lj, d2))),
       piece-of_cells cells b (ahead x (2 ^ depth a)) y full.1
-          (λ i j li lj. sym (state_ne a b c d full (2 ^ depth a + i) i j refl lj) ∙ h (2 ^ depth a + i) j (omega (arith, li, d2, sb)) (omega (arith, lj, d2, sb)) ∙ ap (λ u. cells u (y +ℤ pos j)) (further x i)),
+          (λ i j li lj. sym (state_ne a b c d full (2 ^ depth a + i) i j refl lj)
+          ∙ h (2 ^ depth a + i) j (omega (arith, li, d2, sb)) (omega (arith, lj, d2, sb)) ∙ ap (λ u. cells u (y +ℤ pos j)) (further x i)),
       piece-of_cells cells c x (ahead y (2 ^ depth a)) full.2
-          (λ i j li lj. sym (state_sw a b c d full i (2 ^ depth a + j) j refl li) ∙ h i (2 ^ depth a + j) (omega (arith, li, d2, sc)) (omega (arith, lj, d2, sc)) ∙ ap (cells (x +ℤ pos i)) (further y j)),
+          (λ i j li lj. sym (state_sw a b c d full i (2 ^ depth a + j) j refl li)
+          ∙ h i (2 ^ depth a + j) (omega (arith, li, d2, sc)) (omega (arith, lj, d2, sc)) ∙ ap (cells (x +ℤ pos i)) (further y j)),
       piece-of_cells cells d (ahead x (2 ^ depth a)) (ahead y (2 ^ depth a)) full.3
-          (λ i j li lj. sym (state_se a b c d full (2 ^ depth a + i) i (2 ^ depth a + j) j refl refl) ∙ h (2 ^ depth a + i) (2 ^ depth a + j) (omega (arith, li, d2, sd)) (omega (arith, lj, d2, sd))
+          (λ i j li lj. sym (state_se a b c d full (2 ^ depth a + i) i (2 ^ depth a + j) j refl refl)
+          ∙ h (2 ^ depth a + i) (2 ^ depth a + j) (omega (arith, li, d2, sd)) (omega (arith, lj, d2, sd))
           ∙ (let ex = further x i in let ey = further y j in (λ z. cells (ex z) (ey z)))),
     )
 
-pub cells-of_piece : (cells : ℤ → ℤ → ℕ) (t : Tree) (x y : ℤ) → IsFull t → IsPiece cells x y t → (i j : ℕ) → i < 2 ^ depth t → j < 2 ^ depth t → state_at t i j ≡ cells (x +ℤ pos i) (y +ℤ pos j)
+pub cells-of_piece : (cells : ℤ → ℤ → ℕ) (t : Tree) (x y : ℤ) → IsFull t → IsPiece cells x y t → (i j : ℕ) → i < 2 ^ depth t → j < 2 ^ depth t
+    → state_at t i j ≡ cells (x +ℤ pos i) (y +ℤ pos j)
 cells-of_piece cells (point s) x y full h i j li lj =
     let ex : x ≡ x +ℤ pos i = omega (arith, ints, li) in
     let ey : y ≡ y +ℤ pos j = omega (arith, ints, lj) in
@@ -102,7 +107,8 @@ cells-of_piece cells (quad a b c d) x y full h i j li lj =
                 ∙ ap (cells (x +ℤ pos i)) back-y
             | inr east ↦ (let back-x : ahead x (2 ^ depth a) +ℤ pos (i - 2 ^ depth a) ≡ x +ℤ pos i = omega (arith, ints, east) in
                 state_se a b c d full i m j n (omega (arith, east)) (omega (arith, above))
-                ∙ cells-of_piece cells d (ahead x (2 ^ depth a)) (ahead y (2 ^ depth a)) full.3 h.3 m n (omega (arith, li, d2, sd, east)) (omega (arith, lj, d2, sd, above))
+                ∙ cells-of_piece cells d (ahead x (2 ^ depth a)) (ahead y (2 ^ depth a)) full.3 h.3 m n (omega (arith, li, d2, sd, east))
+                (omega (arith, lj, d2, sd, above))
                 ∙ (λ z. cells (back-x z) (back-y z)))
           ])
     ]
@@ -118,7 +124,12 @@ piece-of_root t full high =
     let twice = side (depth t) high in
     let x = corner t +ℤ pos i in
     let y = corner t +ℤ pos j in
-    let inside : Inside (half_side t) x y = record { west = omega (arith, ints); east = omega (arith, ints, twice, li); north = omega (arith, ints); south = omega (arith, ints, twice, lj) } in
+    let inside : Inside (half_side t) x y = record {
+      west = omega (arith, ints);
+      east = omega (arith, ints, twice, li);
+      north = omega (arith, ints);
+      south = omega (arith, ints, twice, lj);
+    } in
     sym (cell_inside t x y i j (inside_test (half_side t) x y inside) (omega (arith, ints)) (omega (arith, ints))))
 
 -- a cell outside a square
@@ -165,7 +176,8 @@ root-next rule t r quiet high full level piece x y = by (is_inside (half_side r)
         let at-y = b.1 in
         let ex : corner r +ℤ pos a.0 ≡ x = omega (arith, ints, at-x) in
         let ey : corner r +ℤ pos b.0 ≡ y = omega (arith, ints, at-y) in
-        cell_inside r x y a.0 b.0 e a.1 b.1 ∙ cells-of_piece (next_life rule (tree_cell t)) r (corner r) (corner r) full (IsPiece-moved next _ _ _ _ r from from piece) a.0 b.0 (omega (arith, whole, a.2)) (omega (arith, whole, b.2))
+        cell_inside r x y a.0 b.0 e a.1 b.1 ∙ cells-of_piece (next_life rule (tree_cell t)) r (corner r) (corner r) full
+        (IsPiece-moved next _ _ _ _ r from from piece) a.0 b.0 (omega (arith, whole, a.2)) (omega (arith, whole, b.2))
         ∙ (λ z. next_life rule (tree_cell t) (ex z) (ey z))
     by false e =
         let apart : Inside (half_side r) x y → ⊥ = (λ i. true≢false (sym (inside_test (half_side r) x y i) ∙ e)) in
@@ -194,7 +206,8 @@ pub record AreQuarters (knows : Id → Type 0) (content : Id → Tree) (cells : 
 
 pub AreQuarters-kept : {S : Type 0} {knows : S → Id → Type 0} {content : S → Id → Tree} {stored : S → List Tree} {most : S → ℕ} {old new : S}
     {cells : ℤ → ℤ → ℕ} {k : ℕ} {start : ℤ} {q : Quarters} {other : Id}
-    → KeepsSquares knows content stored most old new → AreQuarters (knows old) (content old) cells k start q other → AreQuarters (knows new) (content new) cells k start q other
+    → KeepsSquares knows content stored most old new → AreQuarters (knows old) (content old) cells k start q other
+    → AreQuarters (knows new) (content new) cells k start q other
 AreQuarters-kept keeps h =
     record {
       known_nw = IsAt-kept keeps h.known_nw;
@@ -211,14 +224,16 @@ AreQuarters-kept keeps h =
 
 -- a square's quarters, and a blank one of their level
 pub quarters-at : (knows : Id → Type 0) (content : Id → Tree) (t : Tree) (q : Quarters) (b : Id) (k : ℕ) → IsFull t → depth t ≡ k + 1
-    → t ≡ quad (content q.nw) (content q.ne) (content q.sw) (content q.se) → knows q.nw → knows q.ne → knows q.sw → knows q.se → knows b → content b ≡ blank k → depth (content b) ≡ k
+    → t ≡ quad (content q.nw) (content q.ne) (content q.sw) (content q.se) → knows q.nw → knows q.ne → knows q.sw → knows q.se → knows b → content b ≡ blank k
+    → depth (content b) ≡ k
     → AreQuarters knows content (tree_cell t) k (corner t) q b
 quarters-at knows content t q b k full level is nw ne sw se known_b blank_b level_b =
     let whole : IsFull (quad (content q.nw) (content q.ne) (content q.sw) (content q.se)) = subst IsFull is full in
     let deep : suc (depth (content q.nw)) ≡ k + 1 = ap depth (sym is) ∙ level in
     let one : depth (content q.nw) ≡ k = omega (arith, deep) in
     let e : ahead (corner t) (2 ^ depth (content q.nw)) ≡ ahead (corner t) (2 ^ k) = ap (λ n. ahead (corner t) (2 ^ n)) one in
-    let pieces : IsPiece (tree_cell t) (corner t) (corner t) (quad (content q.nw) (content q.ne) (content q.sw) (content q.se)) = subst (IsPiece (tree_cell t) (corner t) (corner t)) is (piece-of_root t full (omega (arith, level))) in
+    let pieces : IsPiece (tree_cell t) (corner t) (corner t) (quad (content q.nw) (content q.ne) (content q.sw) (content q.se)) = subst
+    (IsPiece (tree_cell t) (corner t) (corner t)) is (piece-of_root t full (omega (arith, level))) in
     record {
       known_nw = record { known = nw; level = one };
       known_ne = record { known = ne; level = whole.4 ∙ one };
@@ -248,7 +263,8 @@ alone-root t =
       south = λ x y l. cell-outside t x y (λ i. omega (arith, ints, i.south, l));
     }
 
-module _ {knows : Id → Type 0} {content : Id → Tree} {cells : ℤ → ℤ → ℕ} {k : ℕ} {start : ℤ} {q : Quarters} {b : Id} (h : AreQuarters knows content cells k start q b) where
+module _ {knows : Id → Type 0} {content : Id → Tree} {cells : ℤ → ℤ → ℕ} {k : ℕ} {start : ℤ} {q : Quarters} {b : Id}
+    (h : AreQuarters knows content cells k start q b) where
   abbrev InAll : Sixteen → Type 0
   InAll s = InSixteen (IsAt knows content k) s
 
@@ -263,18 +279,23 @@ module _ {knows : Id → Type 0} {content : Id → Tree} {cells : ℤ → ℤ �
   east-end a c = record { far_west = h.known_other; west = h.known_other; east = a; far_east = c }
 
   pub known-south_east : {s : Sixteen} → s ≡ at_south_east q b → InAll s
-  known-south_east e = subst InAll (sym e) (record { far_north = none; north = none; south = east-end h.known_nw h.known_ne; far_south = east-end h.known_sw h.known_se })
+  known-south_east e = subst InAll (sym e)
+      (record { far_north = none; north = none; south = east-end h.known_nw h.known_ne; far_south = east-end h.known_sw h.known_se })
 
   pub known-south_west : {s : Sixteen} → s ≡ at_south_west q b → InAll s
-  known-south_west e = subst InAll (sym e) (record { far_north = none; north = none; south = west-end h.known_nw h.known_ne; far_south = west-end h.known_sw h.known_se })
+  known-south_west e = subst InAll (sym e)
+      (record { far_north = none; north = none; south = west-end h.known_nw h.known_ne; far_south = west-end h.known_sw h.known_se })
 
   pub known-north_east : {s : Sixteen} → s ≡ at_north_east q b → InAll s
-  known-north_east e = subst InAll (sym e) (record { far_north = east-end h.known_nw h.known_ne; north = east-end h.known_sw h.known_se; south = none; far_south = none })
+  known-north_east e = subst InAll (sym e)
+      (record { far_north = east-end h.known_nw h.known_ne; north = east-end h.known_sw h.known_se; south = none; far_south = none })
 
   pub known-north_west : {s : Sixteen} → s ≡ at_north_west q b → InAll s
-  known-north_west e = subst InAll (sym e) (record { far_north = west-end h.known_nw h.known_ne; north = west-end h.known_sw h.known_se; south = none; far_south = none })
+  known-north_west e = subst InAll (sym e)
+      (record { far_north = west-end h.known_nw h.known_ne; north = west-end h.known_sw h.known_se; south = none; far_south = none })
 
-module _ (knows : Id → Type 0) (content : Id → Tree) (cells : ℤ → ℤ → ℕ) (k : ℕ) (start : ℤ) (q : Quarters) (b : Id) (h : AreQuarters knows content cells k start q b) (alone : IsAlone cells start (2 ^ k)) where
+module _ (knows : Id → Type 0) (content : Id → Tree) (cells : ℤ → ℤ → ℕ) (k : ℕ) (start : ℤ) (q : Quarters) (b : Id)
+    (h : AreQuarters knows content cells k start q b) (alone : IsAlone cells start (2 ^ k)) where
   nothing : (x y : ℤ) → ((u v : ℤ) → x ≤ℤ u → u <ℤ ahead x (2 ^ k) → y ≤ℤ v → v <ℤ ahead y (2 ^ k) → cells u v ≡ 0) → IsPiece cells x y (content b)
   nothing x y zero_at = subst (IsPiece cells x y) (sym h.blank_other) (blank-of_zero cells k x y (record { zero_at = λ u v a b c d. zero_at u v a b c d }))
 
@@ -295,7 +316,8 @@ module _ (knows : Id → Type 0) (content : Id → Tree) (cells : ℤ → ℤ �
       record { far_west = at _; west = at _; east = at _; far_east = at _ }
 
   -- two squares side by side, with nothing west or east of them
-  east-row : (y : ℤ) (a c : Id) → IsPiece cells start y (content a) → IsPiece cells (ahead start (2 ^ k)) y (content c) → AreFour content cells (2 ^ k) (back start (2 ^ k)) y (four_of b b a c)
+  east-row : (y : ℤ) (a c : Id) → IsPiece cells start y (content a) → IsPiece cells (ahead start (2 ^ k)) y (content c)
+      → AreFour content cells (2 ^ k) (back start (2 ^ k)) y (four_of b b a c)
   east-row y a c pa pc =
       let e : start ≡ ahead (back start (2 ^ k)) (2 ^ k) = omega (arith, ints) in
       record {
@@ -305,7 +327,8 @@ module _ (knows : Id → Type 0) (content : Id → Tree) (cells : ℤ → ℤ �
         far_east = IsPiece-moved cells _ _ y y _ (ap (λ z. ahead z (2 ^ k)) e) refl pc;
       }
 
-  west-row : (y : ℤ) (a c : Id) → IsPiece cells start y (content a) → IsPiece cells (ahead start (2 ^ k)) y (content c) → AreFour content cells (2 ^ k) (ahead start (2 ^ k)) y (four_of a c b b)
+  west-row : (y : ℤ) (a c : Id) → IsPiece cells start y (content a) → IsPiece cells (ahead start (2 ^ k)) y (content c)
+      → AreFour content cells (2 ^ k) (ahead start (2 ^ k)) y (four_of a c b b)
   west-row y a c pa pc =
       let e : start ≡ back (ahead start (2 ^ k)) (2 ^ k) = omega (arith, ints) in
       record {
@@ -363,7 +386,8 @@ pub record IsDivided (knows : Id → Type 0) (content : Id → Tree) (t : Tree) 
   pub level : depth t ≡ k + 1
   pub quarters : AreQuarters knows content (tree_cell t) k (corner t) q b
 
-pub IsDivided-kept : {S : Type 0} {knows : S → Id → Type 0} {content : S → Id → Tree} {stored : S → List Tree} {most : S → ℕ} {old new : S} {t : Tree} {k : ℕ} {q : Quarters} {b : Id}
+pub IsDivided-kept : {S : Type 0} {knows : S → Id → Type 0} {content : S → Id → Tree} {stored : S → List Tree} {most : S → ℕ} {old new : S} {t : Tree} {k : ℕ}
+    {q : Quarters} {b : Id}
     → KeepsSquares knows content stored most old new → IsDivided (knows old) (content old) t k q b → IsDivided (knows new) (content new) t k q b
 IsDivided-kept keeps d = record { level = d.level; quarters = AreQuarters-kept keeps d.quarters }
 
@@ -385,7 +409,8 @@ module _ {knows : Id → Type 0} {content : Id → Tree} {t : Tree} {k : ℕ} {q
 
   at : {s r : Sixteen} {x y z w : ℤ} → r ≡ s → x ≡ z → y ≡ w → AreSixteen content (tree_cell t) (2 ^ k) x y s → AreSixteen content (tree_cell t) (2 ^ k) z w r
   at {s = s} {x = x} {z = z} {w = w} e ex ey p =
-      subst (AreSixteen content (tree_cell t) (2 ^ k) z w) (sym e) (subst (λ u. AreSixteen content (tree_cell t) (2 ^ k) u w s) ex (subst (λ u. AreSixteen content (tree_cell t) (2 ^ k) x u s) ey p))
+      subst (AreSixteen content (tree_cell t) (2 ^ k) z w) (sym e)
+      (subst (λ u. AreSixteen content (tree_cell t) (2 ^ k) u w s) ex (subst (λ u. AreSixteen content (tree_cell t) (2 ^ k) x u s) ey p))
 
   -- the quarters amid blank squares, about each corner of the square
   pub around-north_west : {s : Sixteen} → s ≡ at_south_east q b → AreSixteen content (tree_cell t) (2 ^ k) (outer t) (outer t) s
@@ -397,7 +422,8 @@ module _ {knows : Id → Type 0} {content : Id → Tree} {t : Tree} {k : ℕ} {q
   pub around-south_west : {s : Sixteen} → s ≡ at_north_east q b → AreSixteen content (tree_cell t) (2 ^ k) (outer t) (ahead (outer t) (2 ^ depth t)) s
   around-south_west e = at e near middle (pieces-north_east knows content (tree_cell t) k (corner t) q b d.quarters alone)
 
-  pub around-south_east : {s : Sixteen} → s ≡ at_north_west q b → AreSixteen content (tree_cell t) (2 ^ k) (ahead (outer t) (2 ^ depth t)) (ahead (outer t) (2 ^ depth t)) s
+  pub around-south_east : {s : Sixteen} → s ≡ at_north_west q b → AreSixteen content (tree_cell t) (2 ^ k) (ahead (outer t) (2 ^ depth t))
+      (ahead (outer t) (2 ^ depth t)) s
   around-south_east e = at e middle middle (pieces-north_west knows content (tree_cell t) k (corner t) q b d.quarters alone)
 
   -- a part of a square of half its side is one of the square's
@@ -408,11 +434,14 @@ module _ {knows : Id → Type 0} {content : Id → Tree} {t : Tree} {k : ℕ} {q
     pub in-north_west : SomePart P (square_from f (suc k) (outer t) (outer t)) → SomePart P (square_from f (suc (depth t)) (outer t) (outer t))
     in-north_west s = north_west-part P f (depth t) (outer t) (outer t) (of-level P f (outer t) (outer t) s)
 
-    pub in-north_east : SomePart P (square_from f (suc k) (ahead (outer t) (2 ^ depth t)) (outer t)) → SomePart P (square_from f (suc (depth t)) (outer t) (outer t))
+    pub in-north_east : SomePart P (square_from f (suc k) (ahead (outer t) (2 ^ depth t)) (outer t))
+        → SomePart P (square_from f (suc (depth t)) (outer t) (outer t))
     in-north_east s = north_east-part P f (depth t) (outer t) (outer t) (of-level P f (ahead (outer t) (2 ^ depth t)) (outer t) s)
 
-    pub in-south_west : SomePart P (square_from f (suc k) (outer t) (ahead (outer t) (2 ^ depth t))) → SomePart P (square_from f (suc (depth t)) (outer t) (outer t))
+    pub in-south_west : SomePart P (square_from f (suc k) (outer t) (ahead (outer t) (2 ^ depth t)))
+        → SomePart P (square_from f (suc (depth t)) (outer t) (outer t))
     in-south_west s = south_west-part P f (depth t) (outer t) (outer t) (of-level P f (outer t) (ahead (outer t) (2 ^ depth t)) s)
 
-    pub in-south_east : SomePart P (square_from f (suc k) (ahead (outer t) (2 ^ depth t)) (ahead (outer t) (2 ^ depth t))) → SomePart P (square_from f (suc (depth t)) (outer t) (outer t))
+    pub in-south_east : SomePart P (square_from f (suc k) (ahead (outer t) (2 ^ depth t)) (ahead (outer t) (2 ^ depth t)))
+        → SomePart P (square_from f (suc (depth t)) (outer t) (outer t))
     in-south_east s = south_east-part P f (depth t) (outer t) (outer t) (of-level P f (ahead (outer t) (2 ^ depth t)) (ahead (outer t) (2 ^ depth t)) s)

@@ -17,7 +17,9 @@ square = (refl, refl, refl, refl)
 further_east : IsPiece diagonal (pos 3) (pos 2) (quad (point 0) (point 0) (point 1) (point 0))
 further_east = (refl, refl, refl, refl)
 
-larger : IsPiece diagonal (negsuc 1) (pos 0) (quad (quad (point 0) (point 0) (point 0) (point 0)) (quad (point 1) (point 0) (point 0) (point 1)) (quad (point 0) (point 0) (point 0) (point 0)) (quad (point 0) (point 0) (point 0) (point 0)))
+larger : IsPiece diagonal (negsuc 1) (pos 0)
+    (quad (quad (point 0) (point 0) (point 0) (point 0)) (quad (point 1) (point 0) (point 0) (point 1)) (quad (point 0) (point 0) (point 0) (point 0))
+    (quad (point 0) (point 0) (point 0) (point 0)))
 larger = ((refl, refl, refl, refl), (refl, refl, refl, refl), (refl, refl, refl, refl), (refl, refl, refl, refl))
 
 two_west : back (pos 1) 2 ≡ negsuc 0

@@ -22,11 +22,14 @@ digits (suc (suc a)) b c la lb lc = absurd (omega (arith, la))
 digits a (suc (suc b)) c la lb lc = absurd (omega (arith, lb))
 digits a b (suc (suc c)) la lb lc = absurd (omega (arith, lc))
 
-pub sum-digits : (a b c i : ℕ) → bit_at (bit_xor (bit_xor a b) c) i + 2 * bit_at (bit_or (bit_and a b) (bit_and (bit_xor a b) c)) i ≡ bit_at a i + bit_at b i + bit_at c i
+pub sum-digits : (a b c i : ℕ) → bit_at (bit_xor (bit_xor a b) c) i + 2 * bit_at (bit_or (bit_and a b) (bit_and (bit_xor a b) c)) i ≡ bit_at a i + bit_at b i
+    + bit_at c i
 sum-digits a b c i =
     let x = bit_at_xor a b i in
-    let one : bit_at (bit_xor (bit_xor a b) c) i ≡ ((bit_at a i + bit_at b i) % 2 + bit_at c i) % 2 = bit_at_xor (bit_xor a b) c i ∙ ap (λ z. (z + bit_at c i) % 2) x in
-    let two : bit_at (bit_or (bit_and a b) (bit_and (bit_xor a b) c)) i ≡ max (min (bit_at a i) (bit_at b i)) (min ((bit_at a i + bit_at b i) % 2) (bit_at c i)) =
+    let one : bit_at (bit_xor (bit_xor a b) c) i ≡ ((bit_at a i + bit_at b i) % 2 + bit_at c i) % 2 = bit_at_xor (bit_xor a b) c i
+    ∙ ap (λ z. (z + bit_at c i) % 2) x in
+    let two : bit_at (bit_or (bit_and a b) (bit_and (bit_xor a b) c)) i ≡ max (min (bit_at a i) (bit_at b i)) (min ((bit_at a i + bit_at b i) % 2) (bit_at c i))
+    =
     bit_at_or (bit_and a b) (bit_and (bit_xor a b) c) i
     ∙ ap (λ z. max z (bit_at (bit_and (bit_xor a b) c) i)) (bit_at_and a b i)
     ∙ ap (λ z. max (min (bit_at a i) (bit_at b i)) z) (bit_at_and (bit_xor a b) c i ∙ ap (λ z. min z (bit_at c i)) x) in
@@ -84,7 +87,8 @@ pick-none p q r s n lp lq lr ls ln ne = elim (pick p (n % 2) lp (omega arith)) [
   ]
 ]
 
-pub bits-picked : (a b c d i p q r s n : ℕ) → bit_at a i ≡ picked p (n % 2) → bit_at b i ≡ picked q (n / 2 % 2) → bit_at c i ≡ picked r (n / 4 % 2) → bit_at d i ≡ picked s (n / 8)
+pub bits-picked : (a b c d i p q r s n : ℕ) → bit_at a i ≡ picked p (n % 2) → bit_at b i ≡ picked q (n / 2 % 2) → bit_at c i ≡ picked r (n / 4 % 2)
+    → bit_at d i ≡ picked s (n / 8)
     → bit_at (bit_and (bit_and (bit_and a b) c) d) i ≡ all_picked p q r s n
 bits-picked a b c d i p q r s n ea eb ec ed =
     bit_at_and (bit_and (bit_and a b) c) d i

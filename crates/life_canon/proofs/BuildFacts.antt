@@ -67,7 +67,8 @@ given-more before so_far next runs i d h e f =
     let one : take (suc i) runs ≡ take i runs ++ get_or runs i d ∷ [] = take-suc runs i d h in
     let same : i + 1 ≡ suc i = omega arith in
     f ∙ ap (λ (l : List GivenRun). l ++ given (get_or runs i d) ∷ []) e ∙ append_assoc before (map given (take i runs)) (given (get_or runs i d) ∷ [])
-    ∙ ap (λ (l : List GivenRun). before ++ l) (sym (map-append given (take i runs) (get_or runs i d ∷ [])) ∙ ap (map given) (sym one) ∙ ap (λ (n : ℕ). map given (take n runs)) (sym same))
+    ∙ ap (λ (l : List GivenRun). before ++ l)
+    (sym (map-append given (take i runs) (get_or runs i d ∷ [])) ∙ ap (map given) (sym one) ∙ ap (λ (n : ℕ). map given (take n runs)) (sym same))
 
 pub next-more : (so_far next : List GivenRun) (runs : List Run) (i : ℕ) (d : Run) → i < length runs → AreNext so_far (drop i runs)
     → next ≡ so_far ++ given (get_or runs i d) ∷ [] → AreNext next (drop (i + 1) runs)
@@ -93,7 +94,12 @@ read-good run some on =
 
 -- a run that may be given is given as it is read
 pub read-run : (so_far : List GivenRun) (runs : List Run) (i : ℕ) (d : Run) → i < length runs → AreNext so_far (drop i runs)
-    → record { x = to_z w64 (of_z w64 (get_or runs i d).x); y = to_z w64 (of_z w64 (get_or runs i d).y); len = (get_or runs i d).len; state = (get_or runs i d).state } ≡ given (get_or runs i d)
+    → record {
+      x = to_z w64 (of_z w64 (get_or runs i d).x);
+      y = to_z w64 (of_z w64 (get_or runs i d).y);
+      len = (get_or runs i d).len;
+      state = (get_or runs i d).state;
+    } ≡ given (get_or runs i d)
 read-run so_far runs i d h a =
     let b : AreNext so_far (get_or runs i d ∷ drop (suc i) runs) = subst (AreNext so_far) (drop-cons runs i d h) a in
     read-good (get_or runs i d) b.0 b.1

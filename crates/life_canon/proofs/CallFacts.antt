@@ -41,7 +41,8 @@ read-stays top bytes old new pattern k r =
     record { universe = r.universe; reads = r.reads; is = record { rule = r.is.rule; generation = r.is.generation; known = p.0; root = p.1 ∙ r.is.root } }
 
 -- what refuses a first piece refuses its bytes
-pub feed-fault : (store : Nodes) (before piece : List ℕ) (fault : Fault) → before ≡ [] → IsWant store fault ⊎ RefusesFront MAX_LEVEL (before ++ piece) fault → RefusesIn MAX_LEVEL piece store fault
+pub feed-fault : (store : Nodes) (before piece : List ℕ) (fault : Fault) → before ≡ [] → IsWant store fault ⊎ RefusesFront MAX_LEVEL (before ++ piece) fault
+    → RefusesIn MAX_LEVEL piece store fault
 feed-fault store before piece fault e (inl want) = inr want
 feed-fault store before piece fault e (inr front) = inl (subst (λ bytes. Refuses MAX_LEVEL (bytes ++ piece) fault) e front.refuses)
 
@@ -50,16 +51,19 @@ feed-fault store before piece fault e (inr front) = inl (subst (λ bytes. Refuse
 on-plane : (bytes : List ℕ) (u : Universe) → Reads MAX_LEVEL bytes u → IsOnPlane MAX_LEVEL u
 on-plane bytes u r = reads-plane below_top bytes u (omega arith) r
 
-text-is : (bytes : List ℕ) (store : Nodes) (pattern : Pattern) (r : IsRead MAX_LEVEL bytes store pattern) (text : List ℕ) → text ≡ canon_text MAX_LEVEL (universe_in store pattern)
+text-is : (bytes : List ℕ) (store : Nodes) (pattern : Pattern) (r : IsRead MAX_LEVEL bytes store pattern) (text : List ℕ)
+    → text ≡ canon_text MAX_LEVEL (universe_in store pattern)
     → text ≡ canon_text MAX_LEVEL r.universe
 unfolding canon_text
 text-is bytes store pattern r text e = e ∙ ap mc_text (sym (same-canonical MAX_LEVEL r.universe (universe_in store pattern) (read-same bytes store pattern r)))
 
-pub canonical-text : (bytes : List ℕ) (store : Nodes) (pattern : Pattern) → IsRead MAX_LEVEL bytes store pattern → (text : List ℕ) → text ≡ canon_text MAX_LEVEL (universe_in store pattern)
+pub canonical-text : (bytes : List ℕ) (store : Nodes) (pattern : Pattern) → IsRead MAX_LEVEL bytes store pattern → (text : List ℕ)
+    → text ≡ canon_text MAX_LEVEL (universe_in store pattern)
     → IsCanonical MAX_LEVEL bytes text
 canonical-text bytes store pattern r text e = record { universe = r.universe; reads = r.reads; is = text-is bytes store pattern r text e }
 
-pub least-text : (bytes : List ℕ) (store : Nodes) (pattern : Pattern) → IsRead MAX_LEVEL bytes store pattern → (text : List ℕ) → text ≡ canon_text MAX_LEVEL (universe_in store pattern)
+pub least-text : (bytes : List ℕ) (store : Nodes) (pattern : Pattern) → IsRead MAX_LEVEL bytes store pattern → (text : List ℕ)
+    → text ≡ canon_text MAX_LEVEL (universe_in store pattern)
     → IsLeastText MAX_LEVEL bytes text
 least-text bytes store pattern r text e =
     let u = r.universe in
@@ -79,11 +83,13 @@ least-text bytes store pattern r text e =
 pub root-deep : (bytes : List ℕ) (store : Nodes) (pattern : Pattern) → IsRead MAX_LEVEL bytes store pattern → 1 ≤ depth (content store pattern.root)
 root-deep bytes store pattern r = let l = (read-fits bytes store pattern r).level in let o = least-one pattern.rule in omega arith
 
-pub cells-read : (bytes : List ℕ) (store : Nodes) (pattern : Pattern) (r : IsRead MAX_LEVEL bytes store pattern) (cells : List Cell) → IsCellList (content store pattern.root) cells
+pub cells-read : (bytes : List ℕ) (store : Nodes) (pattern : Pattern) (r : IsRead MAX_LEVEL bytes store pattern) (cells : List Cell)
+    → IsCellList (content store pattern.root) cells
     → AreCellsOf r.universe.cell cells
 cells-read bytes store pattern r cells h = cells-of r.universe.cell (content store pattern.root) cells (read-same bytes store pattern r).cells h
 
-pub cells-sorted : (bytes : List ℕ) (store : Nodes) (pattern : Pattern) → IsRead MAX_LEVEL bytes store pattern → (cells : List Cell) → IsCellList (content store pattern.root) cells
+pub cells-sorted : (bytes : List ℕ) (store : Nodes) (pattern : Pattern) → IsRead MAX_LEVEL bytes store pattern → (cells : List Cell)
+    → IsCellList (content store pattern.root) cells
     → are_sorted_cells MAX_LEVEL pattern.rule cells ≡ true
 cells-sorted bytes store pattern r cells h =
     subst (λ q. are_sorted_cells MAX_LEVEL q cells ≡ true) (sym r.is.rule)
@@ -91,9 +97,11 @@ cells-sorted bytes store pattern r cells h =
 
 rle-is : (bytes : List ℕ) (store : Nodes) (pattern : Pattern) (r : IsRead MAX_LEVEL bytes store pattern) (cells : List Cell) (text : List ℕ)
     → text ≡ rle_text pattern.rule pattern.generation cells → text ≡ rle_text r.universe.rule r.universe.generation cells
-rle-is bytes store pattern r cells text e = e ∙ ap (λ q. rle_text q pattern.generation cells) r.is.rule ∙ ap (λ g. rle_text r.universe.rule g cells) r.is.generation
+rle-is bytes store pattern r cells text e = e ∙ ap (λ q. rle_text q pattern.generation cells) r.is.rule
+    ∙ ap (λ g. rle_text r.universe.rule g cells) r.is.generation
 
-pub is-rle : (bytes : List ℕ) (store : Nodes) (pattern : Pattern) → IsRead MAX_LEVEL bytes store pattern → (cells : List Cell) → IsCellList (content store pattern.root) cells → (most : ℕ) → length cells ≤ most
+pub is-rle : (bytes : List ℕ) (store : Nodes) (pattern : Pattern) → IsRead MAX_LEVEL bytes store pattern → (cells : List Cell)
+    → IsCellList (content store pattern.root) cells → (most : ℕ) → length cells ≤ most
     → (text : List ℕ) → text ≡ rle_text pattern.rule pattern.generation cells → IsRleOf MAX_LEVEL most bytes text
 is-rle bytes store pattern r cells h most few text e = record {
   universe = r.universe;
@@ -104,7 +112,8 @@ is-rle bytes store pattern r cells h most few text e = record {
   is = rle-is bytes store pattern r cells text e;
 }
 
-pub rle-same : RleTextReadsBack → (bytes : List ℕ) (store : Nodes) (pattern : Pattern) → IsRead MAX_LEVEL bytes store pattern → (cells : List Cell) → IsCellList (content store pattern.root) cells
+pub rle-same : RleTextReadsBack → (bytes : List ℕ) (store : Nodes) (pattern : Pattern) → IsRead MAX_LEVEL bytes store pattern → (cells : List Cell)
+    → IsCellList (content store pattern.root) cells
     → (text : List ℕ) → text ≡ rle_text pattern.rule pattern.generation cells → Same MAX_LEVEL bytes text
 rle-same law bytes store pattern r cells h text e =
     let u = r.universe in
@@ -129,14 +138,16 @@ root-cells bytes store pattern r =
     let list = cells_are_listed t full high in
     (list.0, list.1, list_is_population t list.0 full high list.1)
 
-pub more-cells : (bytes : List ℕ) (store : Nodes) (pattern : Pattern) → IsRead MAX_LEVEL bytes store pattern → (most : ℕ) → most < population (content store pattern.root) → HasMoreCells MAX_LEVEL bytes most
+pub more-cells : (bytes : List ℕ) (store : Nodes) (pattern : Pattern) → IsRead MAX_LEVEL bytes store pattern → (most : ℕ)
+    → most < population (content store pattern.root) → HasMoreCells MAX_LEVEL bytes most
 more-cells bytes store pattern r most more =
     let list = root-cells bytes store pattern r in
     (list.0, record { universe = r.universe; reads = r.reads; are = cells-read bytes store pattern r list.0 list.1 }, subst (λ n. most < n) (sym list.2) more)
 
 -- what refuses the text of a pattern in RLE refuses its file
 pub rle-fault : {X : Type 0} (bytes : List ℕ) (store : Nodes) (pattern : Pattern) → IsRead MAX_LEVEL bytes store pattern → (r : Result X Fault)
-    → IfErr r (λ fault. (fault ≡ fault_of Memory) ⊎ ((fault ≡ fault_of TooManyCells) × ((b : List ℕ) → IsRead MAX_LEVEL b store pattern → HasMoreCells MAX_LEVEL b (2 ^ 20))))
+    → IfErr r (λ fault. (fault ≡ fault_of Memory)
+    ⊎ ((fault ≡ fault_of TooManyCells) × ((b : List ℕ) → IsRead MAX_LEVEL b store pattern → HasMoreCells MAX_LEVEL b (2 ^ 20))))
     → IfErr r (λ fault. RefusesIn MAX_LEVEL bytes store fault ⊎ ((fault ≡ fault_of TooManyCells) × HasMoreCells MAX_LEVEL bytes (2 ^ 20)))
 rle-fault bytes store pattern read (Ok x) h = tt
 rle-fault bytes store pattern read (Err fault) (inl memory) = inl (inr (inl memory))
@@ -161,7 +172,8 @@ same-read first second store a b p q rule generation root =
       };
     }
 
-pub read-equal : (first second : List ℕ) (store : Nodes) (a b : Pattern) → IsRead MAX_LEVEL first store a → IsRead MAX_LEVEL second store b → Same MAX_LEVEL first second
+pub read-equal : (first second : List ℕ) (store : Nodes) (a b : Pattern) → IsRead MAX_LEVEL first store a → IsRead MAX_LEVEL second store b
+    → Same MAX_LEVEL first second
     → (a.rule ≡ b.rule) × (a.generation ≡ b.generation) × (a.root ≡ b.root)
 read-equal first second store a b p q s =
     let e : p.universe ≡ s.first = files_say_one MAX_LEVEL (lines_of first) _ _ p.reads s.reads_first in

@@ -103,7 +103,8 @@ level-most top rule lines i (Quad level a b c d) h v = v.1
 one_less : (n : ℕ) → 1 ≤ n → n ≡ suc (n - 1)
 one_less n h = omega arith
 
-last-valid : (top : ℕ) (file : Macrocell) → IsValid top file → 0 < length file.lines → IsValidLine top file.rule file.lines (length file.lines - 1) (line_at file.lines (length file.lines - 1))
+last-valid : (top : ℕ) (file : Macrocell) → IsValid top file → 0 < length file.lines → IsValidLine top file.rule file.lines (length file.lines - 1)
+    (line_at file.lines (length file.lines - 1))
 last-valid top file v h = squares-valid top file.rule file.lines v.squares (length file.lines - 1) (omega arith)
 
 pub root-positive : (top : ℕ) (file : Macrocell) → IsValid top file → 0 < length file.lines → 1 ≤ root_level file.lines
@@ -141,7 +142,12 @@ no-lines file h x y = by file.lines h
 pub square-states : (f : ℤ → ℤ → ℕ) (bound : ℕ) → ((x y : ℤ) → f x y < bound) → (k : ℕ) (x y : ℤ) → StatesBelow bound (square f k x y)
 unfolding square
 square-states f bound h zero x y = h x y
-square-states f bound h (suc k) x y = (square-states f bound h k _ _, square-states f bound h k _ _, square-states f bound h k _ _, square-states f bound h k _ _)
+square-states f bound h (suc k) x y = (
+  square-states f bound h k _ _,
+  square-states f bound h k _ _,
+  square-states f bound h k _ _,
+  square-states f bound h k _ _,
+)
 
 pub centred-states : (f : ℤ → ℤ → ℕ) (bound : ℕ) → ((x y : ℤ) → f x y < bound) → (k : ℕ) → StatesBelow bound (centred f k)
 unfolding centred
@@ -172,10 +178,12 @@ whole-is top u le h =
       is = e;
       outside = t.outside;
       depth_of = subst (HasDepth (suc t.level)) (sym e) (centred-depth u.cell (suc t.level));
-      states = subst (StatesBelow (state_bound u.rule)) (sym e) (centred-states u.cell (state_bound u.rule) (λ x y. below-upto (u.cell x y) (largest_state u.rule) (h.states x y)) (suc t.level));
+      states = subst (StatesBelow (state_bound u.rule)) (sym e)
+          (centred-states u.cell (state_bound u.rule) (λ x y. below-upto (u.cell x y) (largest_state u.rule) (h.states x y)) (suc t.level));
     }
 
-pub square_file-valid : (top : ℕ) (rule : Rule) (generation : ℕ) {k : ℕ} (t : Tree) → IsRule rule → generation < 2 ^ 64 → k ≤ top → HasDepth k t → StatesBelow (state_bound rule) t
+pub square_file-valid : (top : ℕ) (rule : Rule) (generation : ℕ) {k : ℕ} (t : Tree) → IsRule rule → generation < 2 ^ 64 → k ≤ top → HasDepth k t
+    → StatesBelow (state_bound rule) t
     → IsValid top (square_file rule generation t)
 square_file-valid top rule generation t r g le h s =
     record { rule = r; generation = g; squares = valid-squares top rule _ (lines_for-valid top rule t le h s) }
@@ -189,7 +197,8 @@ canonical-valid top u le h =
 -- two planes with one square in the middle, and blank outside
 pub same-cells : (f g : ℤ → ℤ → ℕ) (k : ℕ) → centred f k ≡ centred g k → IsBlankOutside k f → IsBlankOutside k g → (x y : ℤ) → f x y ≡ g x y
 same-cells f g k e p q x y = elim (bool_cases (is_within k x && is_within k y)) [
-  | inl i ↦ centred_same-cells f g k e x y (is_within-true k x (and_left (is_within k x) (is_within k y) i)) (is_within-true k y (and_right (is_within k x) (is_within k y) i))
+  | inl i ↦ centred_same-cells f g k e x y (is_within-true k x (and_left (is_within k x) (is_within k y) i))
+      (is_within-true k y (and_right (is_within k x) (is_within k y) i))
   | inr i ↦
       let n : ¬ (IsWithin k x × IsWithin k y) = λ w. true_false _ (and_both _ _ (is_within-is k x w.0) (is_within-is k y w.1)) i in
       p x y n ∙ sym (q x y n)
@@ -244,7 +253,8 @@ pub record IsRootOf (rule : Rule) (generation : ℕ) (k : ℕ) (t : Tree) : Type
   pub level : root_level (lines_for rule (listed t (least_level rule))) ≡ suc k
   pub root : root_tree (lines_for rule (listed t (least_level rule))) ≡ t
 
-pub square_file-root : (rule : Rule) (generation : ℕ) {k : ℕ} {t : Tree} → least_level rule ≤ suc k → HasDepth (suc k) t → StatesBelow (state_bound rule) t → is_blank t ≡ false
+pub square_file-root : (rule : Rule) (generation : ℕ) {k : ℕ} {t : Tree} → least_level rule ≤ suc k → HasDepth (suc k) t → StatesBelow (state_bound rule) t
+    → is_blank t ≡ false
     → IsRootOf rule generation k t
 square_file-root rule generation {k = k} {t = t} le h g b =
     let all : List Tree = listed t (least_level rule) in
@@ -253,14 +263,18 @@ square_file-root rule generation {k = k} {t = t} le h g b =
     let last : IsLast all t = listed-last (least_level rule) (least-one rule) h small in
     let n : number_of all t ≡ length lines = number-last all h b last ∙ sym (length-lines_for rule all) in
     let r : root_level lines ≡ suc k = root_level-of rule all t last ∙ depth_is h in
-    let e : tree_of lines (suc k) (length lines) ≡ t = ap (tree_of lines (suc k)) (sym n) ∙ tree_of-number rule all (λ s i. listed-quarters t (least_level rule) s (least-one rule) i) h g (λ z. le) (listed-itself t (least_level rule) (least-one rule)) in
+    let e : tree_of lines (suc k) (length lines) ≡ t = ap (tree_of lines (suc k)) (sym n)
+    ∙ tree_of-number rule all (λ s i. listed-quarters t (least_level rule) s (least-one rule) i) h g (λ z. le)
+    (listed-itself t (least_level rule) (least-one rule)) in
     record {
-      some = subst (λ z. 0 < z) (sym (length-lines_for rule all ∙ ap length last.is ∙ length-append last.front (t ∷ []) ∙ add-one (length last.front))) (omega arith);
+      some = subst (λ z. 0 < z) (sym (length-lines_for rule all ∙ ap length last.is ∙ length-append last.front (t ∷ []) ∙ add-one (length last.front)))
+          (omega arith);
       level = r;
       root = ap (λ z. tree_of lines z (length lines)) r ∙ e;
     }
 
-pub canonical-cells : (top : ℕ) (u : Universe) → least_level u.rule ≤ suc top → IsOnPlane (suc top) u → (x y : ℤ) → u.cell x y ≡ macrocell_cell (canonical_file (suc top) u) x y
+pub canonical-cells : (top : ℕ) (u : Universe) → least_level u.rule ≤ suc top → IsOnPlane (suc top) u → (x y : ℤ)
+    → u.cell x y ≡ macrocell_cell (canonical_file (suc top) u) x y
 unfolding canonical_file
 canonical-cells top u le h x y =
     let w = whole-is top u le h in
@@ -276,7 +290,8 @@ canonical-cells top u le h x y =
           let v : IsValid (suc top) file = square_file-valid (suc top) u.rule u.generation t h.rule h.generation w.most w.depth_of w.states in
           let s = rooted (suc top) file v r.some in
           let l : s.level ≡ w.level = suc_same s.level w.level (sym s.is ∙ r.level) in
-          let c : centred (macrocell_cell file) (suc w.level) ≡ t = subst (λ z. centred (macrocell_cell file) (suc z) ≡ root_tree file.lines) l s.cells ∙ r.root in
+          let c : centred (macrocell_cell file) (suc w.level) ≡ t = subst (λ z. centred (macrocell_cell file) (suc z) ≡ root_tree file.lines) l s.cells
+          ∙ r.root in
           let o : IsBlankOutside (suc w.level) (macrocell_cell file) = subst (λ z. IsBlankOutside (suc z) (macrocell_cell file)) l s.outside in
           same-cells u.cell (macrocell_cell file) (suc w.level) (sym w.is ∙ sym c) w.outside o x y
     ]
@@ -285,7 +300,8 @@ canonical-cells top u le h x y =
     suc_same m n e = omega arith
 
 -- a pattern and its canonical file are the same
-pub canonical-same : (top : ℕ) (u : Universe) → least_level u.rule ≤ suc top → IsOnPlane (suc top) u → IsSame u (macrocell_universe (canonical_file (suc top) u))
+pub canonical-same : (top : ℕ) (u : Universe) → least_level u.rule ≤ suc top → IsOnPlane (suc top) u
+    → IsSame u (macrocell_universe (canonical_file (suc top) u))
 unfolding canonical_file
 canonical-same top u le h = record { rule = refl; generation = refl; cells = canonical-cells top u le h }
 
@@ -294,7 +310,8 @@ canonical-same top u le h = record { rule = refl; generation = refl; cells = can
 pub same-whole : (top : ℕ) (u v : Universe) → IsSame u v → whole top u ≡ whole top v
 unfolding whole centred
 same-whole top u v s =
-    ap (λ r. trimmed (square u.cell top (corner top) (corner top)) (least_level r)) s.rule ∙ ap (λ t. trimmed t (least_level v.rule)) (square-same u.cell v.cell s.cells top (corner top) (corner top))
+    ap (λ r. trimmed (square u.cell top (corner top) (corner top)) (least_level r)) s.rule
+    ∙ ap (λ t. trimmed t (least_level v.rule)) (square-same u.cell v.cell s.cells top (corner top) (corner top))
 
 pub same-canonical : (top : ℕ) (u v : Universe) → IsSame u v → canonical_file top u ≡ canonical_file top v
 unfolding canonical_file
@@ -309,7 +326,8 @@ pub same-trans : (u v w : Universe) → IsSame u v → IsSame v w → IsSame u w
 same-trans u v w s t = record { rule = s.rule ∙ t.rule; generation = s.generation ∙ t.generation; cells = λ x y. s.cells x y ∙ t.cells x y }
 
 -- a wider plane gives the same canonical file
-pub canonical-wider : (n top : ℕ) (u : Universe) → least_level u.rule ≤ suc top → IsOnPlane (suc top) u → canonical_file (suc (n + top)) u ≡ canonical_file (suc top) u
+pub canonical-wider : (n top : ℕ) (u : Universe) → least_level u.rule ≤ suc top → IsOnPlane (suc top) u
+    → canonical_file (suc (n + top)) u ≡ canonical_file (suc top) u
 unfolding canonical_file
 canonical-wider n top u le h =
     ap (square_file u.rule u.generation)

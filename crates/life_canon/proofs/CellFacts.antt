@@ -33,7 +33,8 @@ rises-is : (a b : Cell) → IsBefore a b → rises a b ≡ true
 rises-is a b (inl h) = grind (arith, ints)
 rises-is a b (inr h) = let e = h.0 in let l = h.1 in grind (arith, ints)
 
-pub sorted : (top : ℕ) (rule : Rule) (cells : List Cell) → AllPairs IsBefore cells → ((c : Cell) → Contains cells c → is_live_cell top rule c ≡ true) → are_sorted_cells top rule cells ≡ true
+pub sorted : (top : ℕ) (rule : Rule) (cells : List Cell) → AllPairs IsBefore cells → ((c : Cell) → Contains cells c → is_live_cell top rule c ≡ true)
+    → are_sorted_cells top rule cells ≡ true
 sorted top rule [] order live = refl
 sorted top rule (c ∷ []) order live = live c (0, omega arith, refl)
 sorted top rule (c ∷ d ∷ cells) order live =
@@ -71,14 +72,16 @@ state-of : (rule : Rule) (state : ℕ) → state ≢ 0 → state ≤ largest_sta
 state-of (Life sets) state some h = grind (arith, nat_tests)
 state-of (Named name) state some h = grind (arith, nat_tests)
 
-pub sorted-cells : (top : ℕ) (u : Universe) (cells : List Cell) → IsOnPlane (suc top) u → AreCellsOf u.cell cells → are_sorted_cells (suc top) u.rule cells ≡ true
+pub sorted-cells : (top : ℕ) (u : Universe) (cells : List Cell) → IsOnPlane (suc top) u → AreCellsOf u.cell cells → are_sorted_cells (suc top) u.rule cells
+    ≡ true
 sorted-cells top u cells h are = sorted (suc top) u.rule cells are.in_order live
   where
     live : (c : Cell) → Contains cells c → is_live_cell (suc top) u.rule c ≡ true
     live c k =
         let r = are.true_cells c k in
         let i = inside u.cell (suc top) c.x c.y h.outside (λ e. r.1 (sym r.0 ∙ e)) in
-        and_both _ _ (and_both _ _ (coordinate top c.x i.0) (coordinate top c.y i.1)) (state-of u.rule c.state r.1 (subst (λ n. n ≤ largest_state u.rule) r.0 (h.states c.x c.y)))
+        and_both _ _ (and_both _ _ (coordinate top c.x i.0) (coordinate top c.y i.1))
+        (state-of u.rule c.state r.1 (subst (λ n. n ≤ largest_state u.rule) r.0 (h.states c.x c.y)))
 
 -- ---- the list says the pattern
 

@@ -23,16 +23,19 @@ take-all : (lines : List Line) → take (length lines) lines ≡ lines
 take-all [] = refl
 take-all (line ∷ lines) = ap (λ l. line ∷ l) (take-all lines)
 
-quarter-of : (rule : Rule) (lines : List Line) (level number : ℕ) → is_quarter rule (map level_of lines) (level + 1) number ≡ true → IsQuarter rule lines (length lines) level number
+quarter-of : (rule : Rule) (lines : List Line) (level number : ℕ) → is_quarter rule (map level_of lines) (level + 1) number ≡ true
+    → IsQuarter rule lines (length lines) level number
 quarter-of rule lines level number h =
     quarter-test rule lines (length lines) level number (same (length lines))
-    (subst (λ ls. is_quarter rule (map level_of ls) (suc level) number ≡ true) (sym (take-all lines)) (subst (λ n. is_quarter rule (map level_of lines) n number ≡ true) (add-one level) h))
+    (subst (λ ls. is_quarter rule (map level_of ls) (suc level) number ≡ true) (sym (take-all lines))
+    (subst (λ n. is_quarter rule (map level_of lines) n number ≡ true) (add-one level) h))
   where
     same : (n : ℕ) → n ≤ n
     same n = omega arith
 
 -- at level 0 the number is a state
-pub state-small : (rule : Rule) (lines : List Line) (level number : ℕ) → level ≡ 0 → is_quarter rule (map level_of lines) (level + 1) number ≡ true → number < 256
+pub state-small : (rule : Rule) (lines : List Line) (level number : ℕ) → level ≡ 0 → is_quarter rule (map level_of lines) (level + 1) number ≡ true
+    → number < 256
 state-small rule lines zero number e h = let q = quarter-of rule lines 0 number h in omega (arith, q, few-states rule)
 state-small rule lines (suc level) number e h = absurd (omega arith)
 
@@ -69,12 +72,14 @@ halves (suc k) h = let e : suc k - 1 ≡ k = omega arith in rw e (omega arith)
 -- a square of a leaf is made of its four quarters
 pub part-quarters : (f : ℕ → ℕ → ℕ) (level column row half : ℕ) → 1 ≤ level → half ≡ 2 ^ (level - 1)
     → tree_at f level column row
-    ≡ quad (tree_at f (level - 1) column row) (tree_at f (level - 1) (column + half) row) (tree_at f (level - 1) column (row + half)) (tree_at f (level - 1) (column + half) (row + half))
+    ≡ quad (tree_at f (level - 1) column row) (tree_at f (level - 1) (column + half) row) (tree_at f (level - 1) column (row + half))
+    (tree_at f (level - 1) (column + half) (row + half))
 part-quarters f zero column row half h e = absurd (omega arith)
 part-quarters f (suc k) column row half h e =
     let p : k ≡ suc k - 1 = omega arith in
     let q : 2 ^ k ≡ half = ap (λ n. 2 ^ n) p ∙ sym e in
-    λ i. quad (tree_at f (p i) column row) (tree_at f (p i) (column + q i) row) (tree_at f (p i) column (row + q i)) (tree_at f (p i) (column + q i) (row + q i))
+    λ i. quad (tree_at f (p i) column row) (tree_at f (p i) (column + q i) row) (tree_at f (p i) column (row + q i))
+    (tree_at f (p i) (column + q i) (row + q i))
 
 -- half of a side as the code shifts it
 pub half-is : (level : ℕ) → 1 ≤ level → level ≤ 3 → (1 * 2 ^ (level - 1)) % 256 ≡ 2 ^ (level - 1)
@@ -92,7 +97,8 @@ pub record Numbers (rule : Rule) (levels : List ℕ) (level a b c d : ℕ) : Typ
   pub sw : is_quarter rule levels ((level - 1) + 1) c ≡ true
   pub se : is_quarter rule levels ((level - 1) + 1) d ≡ true
 
-pub numbers-of : (rule : Rule) (levels : List ℕ) (line : Line) (level nw ne sw se : ℕ) → line ≡ Quad level nw ne sw se → IsSquare MAX_LEVEL rule levels line → Numbers rule levels level nw ne sw se
+pub numbers-of : (rule : Rule) (levels : List ℕ) (line : Line) (level nw ne sw se : ℕ) → line ≡ Quad level nw ne sw se → IsSquare MAX_LEVEL rule levels line
+    → Numbers rule levels level nw ne sw se
 numbers-of rule levels line level nw ne sw se e h = by (subst (IsSquare MAX_LEVEL rule levels) e h)
   where
     back : (n : ℕ) → 1 ≤ n → n ≡ (n - 1) + 1

@@ -35,7 +35,8 @@ whole-cells top u high h =
     let w = whole-is top u (least-high u.rule (suc top) high) h in
     same-cells (tree_cell (whole (suc top) u)) u.cell (suc w.level) (centred-tree_cell w.depth_of ∙ w.is) (tree_cell-outside w.depth_of) w.outside
 
-pub read-same : (bytes : List ℕ) (store : Nodes) (pattern : Pattern) → (r : IsRead MAX_LEVEL bytes store pattern) → IsSame r.universe (universe_in store pattern)
+pub read-same : (bytes : List ℕ) (store : Nodes) (pattern : Pattern) → (r : IsRead MAX_LEVEL bytes store pattern)
+    → IsSame r.universe (universe_in store pattern)
 read-same bytes store pattern r =
     let plane = reads-plane below_top bytes r.universe (omega arith) r.reads in
     record {
@@ -51,6 +52,8 @@ read-fits bytes store pattern r =
     let w = whole-is below_top u (least-high u.rule MAX_LEVEL (omega arith)) plane in
     let P : Tree → Rule → Type 0 = λ t q. (least_level q ≤ depth t) × (trimmed t (least_level q) ≡ t) × HasStatesUpTo (largest_state q) t in
     let deep : least_level u.rule ≤ depth (whole MAX_LEVEL u) = subst (λ n. least_level u.rule ≤ n) (sym (depth_is w.depth_of)) w.least in
-    let all : P (whole MAX_LEVEL u) u.rule = (deep, whole-fixed below_top u (omega arith) plane, states-upto (largest_state u.rule) (whole MAX_LEVEL u) w.states) in
-    let there : P (content store pattern.root) pattern.rule = subst (λ t. P t pattern.rule) (sym r.is.root) (subst (P (whole MAX_LEVEL u)) (sym r.is.rule) all) in
+    let all : P (whole MAX_LEVEL u) u.rule
+    = (deep, whole-fixed below_top u (omega arith) plane, states-upto (largest_state u.rule) (whole MAX_LEVEL u) w.states) in
+    let there : P (content store pattern.root) pattern.rule = subst (λ t. P t pattern.rule) (sym r.is.root) (subst (P (whole MAX_LEVEL u)) (sym r.is.rule) all)
+    in
     record { known = r.is.known; level = there.0; trimmed = there.1; states = there.2 }

@@ -68,7 +68,8 @@ macrocell-opens level [] found b h = true_false false b refl
 macrocell-opens level (c ∷ rest) found b h =
     bracket-opens level rest found (subst (λ n. opening_of level (n ∷ rest) ≡ Ok found) (first_of c rest b) h)
 
-preamble-first : (level : ℕ) (given position : Position) (line : List ℕ) (lines : List (List ℕ)) → IsPreamble level given (line ∷ lines) position → (found : Opening) × (opening_of level line ≡ Ok found)
+preamble-first : (level : ℕ) (given position : Position) (line : List ℕ) (lines : List (List ℕ)) → IsPreamble level given (line ∷ lines) position
+    → (found : Opening) × (opening_of level line ≡ Ok found)
 preamble-first level given position line lines (inl p) = (Comment, p.0)
 preamble-first level given position line lines (inr p) = (PositionLine p.0, p.1)
 
@@ -96,7 +97,8 @@ pub rle-first : (level : ℕ) (lines : List (List ℕ)) (file : Rle) → IsRle l
 rle-first level lines file (inl u) m = unmarked-first level lines file u m
 rle-first level lines file (inr r) m =
     unmarked-first level r.front _ r.begun
-    (sym (front-first r.front r.last r.free (λ e. unmarked-some level _ (subst (λ l. IsUnmarked level l (record file { items = r.earlier })) e r.begun))) ∙ sym (ap is_macrocell r.whole) ∙ m)
+    (sym (front-first r.front r.last r.free (λ e. unmarked-some level _ (subst (λ l. IsUnmarked level l (record file { items = r.earlier })) e r.begun)))
+    ∙ sym (ap is_macrocell r.whole) ∙ m)
 
 pub formats_differ : (top : ℕ) → FormatsDiffer top
 formats_differ top = λ lines file other a r. rle-first top lines other r (macrocell-first top lines file a)
@@ -128,7 +130,8 @@ runs-below level rule (run ∷ runs) g x y = by (has_cell run x y) (runs-below l
     by true h = state-below rule run.state g.0.state
     by false h = h
 
-outside-of : (n : ℕ) (x y : ℤ) → ¬ (((neg_ℤ (pos n) ≤ℤ x) × (x <ℤ (neg_ℤ (pos n) +ℤ pos (n + n)))) × ((neg_ℤ (pos n) ≤ℤ y) × (y <ℤ (neg_ℤ (pos n) +ℤ pos (n + n)))))
+outside-of : (n : ℕ) (x y : ℤ)
+    → ¬ (((neg_ℤ (pos n) ≤ℤ x) × (x <ℤ (neg_ℤ (pos n) +ℤ pos (n + n)))) × ((neg_ℤ (pos n) ≤ℤ y) × (y <ℤ (neg_ℤ (pos n) +ℤ pos (n + n)))))
     → (x <ℤ neg_ℤ (pos n)) ⊎ (pos n ≤ℤ x) ⊎ (y <ℤ neg_ℤ (pos n)) ⊎ (pos n ≤ℤ y)
 outside-of n x y h = grind (arith, ints)
 
@@ -141,10 +144,13 @@ one_less k = omega arith
 rle-outside : (top : ℕ) (lines : List (List ℕ)) (file : Rle) → IsRle (suc top) lines file → IsBlankOutside (suc top) (rle_cell file)
 unfolding corner
 rle-outside top lines file r x y n =
-    let h : ¬ (((neg_ℤ (pos (2 ^ top)) ≤ℤ x) × (x <ℤ (neg_ℤ (pos (2 ^ top)) +ℤ pos (2 ^ top + 2 ^ top)))) × ((neg_ℤ (pos (2 ^ top)) ≤ℤ y) × (y <ℤ (neg_ℤ (pos (2 ^ top)) +ℤ pos (2 ^ top + 2 ^ top))))) =
-    subst (λ v. ¬ (((neg_ℤ (pos (2 ^ top)) ≤ℤ x) × (x <ℤ (neg_ℤ (pos (2 ^ top)) +ℤ pos v))) × ((neg_ℤ (pos (2 ^ top)) ≤ℤ y) × (y <ℤ (neg_ℤ (pos (2 ^ top)) +ℤ pos v))))) (pow_suc top) n in
+    let h : ¬ (((neg_ℤ (pos (2 ^ top)) ≤ℤ x) × (x <ℤ (neg_ℤ (pos (2 ^ top)) +ℤ pos (2 ^ top + 2 ^ top))))
+    × ((neg_ℤ (pos (2 ^ top)) ≤ℤ y) × (y <ℤ (neg_ℤ (pos (2 ^ top)) +ℤ pos (2 ^ top + 2 ^ top))))) =
+    subst (λ v. ¬ (((neg_ℤ (pos (2 ^ top)) ≤ℤ x) × (x <ℤ (neg_ℤ (pos (2 ^ top)) +ℤ pos v)))
+    × ((neg_ℤ (pos (2 ^ top)) ≤ℤ y) × (y <ℤ (neg_ℤ (pos (2 ^ top)) +ℤ pos v))))) (pow_suc top) n in
     let o = outside-of (2 ^ top) x y h in
-    blank_outside (suc top) lines file x y r (subst (λ k. (x <ℤ neg_ℤ (pos (2 ^ k))) ⊎ (pos (2 ^ k) ≤ℤ x) ⊎ (y <ℤ neg_ℤ (pos (2 ^ k))) ⊎ (pos (2 ^ k) ≤ℤ y)) (sym (one_less top)) o)
+    blank_outside (suc top) lines file x y r
+    (subst (λ k. (x <ℤ neg_ℤ (pos (2 ^ k))) ⊎ (pos (2 ^ k) ≤ℤ x) ⊎ (y <ℤ neg_ℤ (pos (2 ^ k))) ⊎ (pos (2 ^ k) ≤ℤ y)) (sym (one_less top)) o)
 
 rle-on_plane : (top : ℕ) (lines : List (List ℕ)) (file : Rle) → IsRle (suc top) lines file → IsOnPlane (suc top) (rle_universe file)
 rle-on_plane top lines file r =
@@ -153,7 +159,8 @@ rle-on_plane top lines file r =
     record {
       rule = s.rule;
       generation = s.generation;
-      states = λ x y. upto-below _ (largest_state file.rule) (subst (λ n. n < state_bound file.rule) (sym (c.2 x y)) (runs-below (suc top) file.rule (runs_of (placed file)) c.0 x y));
+      states = λ x y. upto-below _ (largest_state file.rule)
+          (subst (λ n. n < state_bound file.rule) (sym (c.2 x y)) (runs-below (suc top) file.rule (runs_of (placed file)) c.0 x y));
       outside = rle-outside top lines file r;
     }
 
@@ -167,7 +174,8 @@ macrocell-on_plane top file high v = elim (reach 1 (length file.lines)) [
         rule = v.rule;
         generation = v.generation;
         states = λ x y. upto-below _ (largest_state file.rule) (cells-below (suc top) file v x y);
-        outside = subst (λ n. IsBlankOutside n (macrocell_cell file)) (sum_back _ r.level top r.is most) (outside-by (macrocell_cell file) (top - r.level) r.level r.outside);
+        outside = subst (λ n. IsBlankOutside n (macrocell_cell file)) (sum_back _ r.level top r.is most)
+            (outside-by (macrocell_cell file) (top - r.level) r.level r.outside);
       }
   | inr l ↦
       let none : length file.lines ≡ 0 = omega arith in

@@ -56,7 +56,8 @@ pub long-macrocell : (lines : List (List ℕ)) (line : List ℕ) → is_too_long
 unfolding broken
 long-macrocell lines line h = rw h refl
 
-long-rle : (lines : List (List ℕ)) (line : List ℕ) → is_too_long line ≡ true → Prefix (IsSomeRle MAX_LEVEL) lines → ((file : Rle) → IsMarked MAX_LEVEL lines file → ⊥)
+long-rle : (lines : List (List ℕ)) (line : List ℕ) → is_too_long line ≡ true → Prefix (IsSomeRle MAX_LEVEL) lines
+    → ((file : Rle) → IsMarked MAX_LEVEL lines file → ⊥)
     → BreaksRle MAX_LEVEL lines line LineTooLong
 long-rle lines line h p n = ((long_lines_break MAX_LEVEL lines line).1 h p n LineTooLong).1 refl
 
@@ -67,7 +68,8 @@ no-mark file h = by h.front h.whole
     by [] e = cc
     by (line ∷ front) e = cc
 
-long-first : (line : List ℕ) (m : Bool) → is_too_long line ≡ true → MatchBool m (broken MAX_LEVEL [] line ≡ Some LineTooLong) (BreaksRle MAX_LEVEL [] line LineTooLong)
+long-first : (line : List ℕ) (m : Bool) → is_too_long line ≡ true
+    → MatchBool m (broken MAX_LEVEL [] line ≡ Some LineTooLong) (BreaksRle MAX_LEVEL [] line LineTooLong)
 long-first line true h = long-macrocell [] line h
 long-first line false h = long-rle [] line h ((fronts_are_files MAX_LEVEL []).1 (inr (_, refl))) no-mark
 
@@ -75,7 +77,8 @@ long-first line false h = long-rle [] line h ((fronts_are_files MAX_LEVEL []).1 
 pub long-breaks : (p : Progress) (line : List ℕ) → IsOpen p → (IsOver p → ⊥) → is_too_long line ≡ true → Breaks MAX_LEVEL (taken p) line LineTooLong
 long-breaks progress.Undecided line o n h = by-format [] line LineTooLong (is_macrocell (line ∷ [])) refl (long-first line (is_macrocell (line ∷ [])) h)
 long-breaks (progress.Rle reader builder runs) line o n h =
-    by-format reader.lines line LineTooLong false (goes-on reader.lines (line ∷ []) o.some ∙ o.format) (long-rle reader.lines line h o.front (λ file m. n (file, m)))
+    by-format reader.lines line LineTooLong false (goes-on reader.lines (line ∷ []) o.some ∙ o.format)
+    (long-rle reader.lines line h o.front (λ file m. n (file, m)))
 long-breaks (progress.Macrocell reader ids) line o n h =
     by-format reader.lines line LineTooLong true (goes-on reader.lines (line ∷ []) o.some ∙ o.format) (long-macrocell reader.lines line h)
 
@@ -141,7 +144,8 @@ front-over bytes kept more ended p f o =
       going = λ n. absurd (n o);
       over = λ _. record {
         free = r.free ++ whole_lines (rest_line bytes ++ more);
-        whole = e.whole ∙ ap (λ (ls : List (List ℕ)). ls ++ whole_lines (rest_line bytes ++ more)) r.whole ∙ append_assoc (taken p) r.free (whole_lines (rest_line bytes ++ more));
+        whole = e.whole ∙ ap (λ (ls : List (List ℕ)). ls ++ whole_lines (rest_line bytes ++ more)) r.whole
+            ∙ append_assoc (taken p) r.free (whole_lines (rest_line bytes ++ more));
         none = r.none;
       };
     }
@@ -169,7 +173,8 @@ pub is-long : (line : List ℕ) → 2 ^ 20 < length line → is_too_long line �
 is-long line h = grind (arith, nat_tests)
 
 -- a rest is refused that is too long
-pub rest-refuses : (bytes kept more : List ℕ) (ended : ℕ) (p : Progress) (fault : Fault) → IsOpen p → (IsOver p → ⊥) → IsGoing bytes kept ended (taken p) → has_no_feed more ≡ true
+pub rest-refuses : (bytes kept more : List ℕ) (ended : ℕ) (p : Progress) (fault : Fault) → IsOpen p → (IsOver p → ⊥) → IsGoing bytes kept ended (taken p)
+    → has_no_feed more ≡ true
     → 2 ^ 20 < length kept + length more → fault ≡ fault_at (min (ended + 1) (2 ^ 64 - 1)) LineTooLong → RefusesFront MAX_LEVEL (bytes ++ more) fault
 rest-refuses bytes kept more ended p fault o n g h l f =
     let e = lines_longer bytes more h in
@@ -237,7 +242,8 @@ long-place bytes fault r k = elim (within-or-behind r.n (length (lines_of bytes)
         ap (λ (ls : List (List ℕ)). slice_index_or ls (length (whole_lines bytes)) []) lines ∙ get_or-append_seam (whole_lines bytes) (rest_line bytes) [] [] in
         let b0 : Breaks MAX_LEVEL (take (r.n - 1) (lines_of bytes)) (slice_index_or (lines_of bytes) (r.n - 1) []) LineTooLong =
         subst (Breaks MAX_LEVEL (take (r.n - 1) (lines_of bytes)) (slice_index_or (lines_of bytes) (r.n - 1) [])) k (r.at_line within) in
-        let b1 : Breaks MAX_LEVEL (take (length (whole_lines bytes)) (lines_of bytes)) (slice_index_or (lines_of bytes) (length (whole_lines bytes)) []) LineTooLong =
+        let b1 : Breaks MAX_LEVEL (take (length (whole_lines bytes)) (lines_of bytes)) (slice_index_or (lines_of bytes) (length (whole_lines bytes)) [])
+        LineTooLong =
         subst (λ (n : ℕ). Breaks MAX_LEVEL (take n (lines_of bytes)) (slice_index_or (lines_of bytes) n []) LineTooLong) less b0 in
         let b2 : Breaks MAX_LEVEL (whole_lines bytes) (slice_index_or (lines_of bytes) (length (whole_lines bytes)) []) LineTooLong =
         subst (λ (f : List (List ℕ)). Breaks MAX_LEVEL f (slice_index_or (lines_of bytes) (length (whole_lines bytes)) []) LineTooLong) fore b1 in
@@ -267,7 +273,8 @@ not-long : (line : List ℕ) → length line ≤ 2 ^ 20 → is_too_long line ≡
 not-long line h e = grind (arith, nat_tests, e)
 
 -- behind `!` the lines are a file of RLE, and none breaks a rule
-over-marked : (p : Progress) → IsOpen p → IsOver p → (more : List (List ℕ)) → (is_macrocell (taken p ++ more) ≡ false) × ((file : Rle) × IsMarked MAX_LEVEL (taken p ++ more) file)
+over-marked : (p : Progress) → IsOpen p → IsOver p → (more : List (List ℕ)) → (is_macrocell (taken p ++ more) ≡ false)
+    × ((file : Rle) × IsMarked MAX_LEVEL (taken p ++ more) file)
 over-marked progress.Undecided o v more = absurd v
 over-marked (progress.Rle reader builder runs) o v more =
     (goes-on reader.lines more o.some ∙ o.format, (v.0, (lines_behind_mark_are_free MAX_LEVEL reader.lines more v.0 v.1).0))
@@ -276,7 +283,8 @@ over-marked (progress.Macrocell reader ids) o v more = absurd v
 over-unbroken : (p : Progress) → IsOpen p → IsOver p → (more : List (List ℕ)) (line : List ℕ) (kind : Kind) → Breaks MAX_LEVEL (taken p ++ more) line kind → ⊥
 over-unbroken progress.Undecided o v more line kind b = absurd v
 over-unbroken (progress.Rle reader builder runs) o v more line kind b =
-    let m : is_macrocell (reader.lines ++ more ++ line ∷ []) ≡ false = ap is_macrocell (append_assoc reader.lines more (line ∷ [])) ∙ goes-on reader.lines (more ++ line ∷ []) o.some ∙ o.format in
+    let m : is_macrocell (reader.lines ++ more ++ line ∷ []) ≡ false = ap is_macrocell (append_assoc reader.lines more (line ∷ []))
+    ∙ goes-on reader.lines (more ++ line ∷ []) o.some ∙ o.format in
     (lines_behind_mark_are_free MAX_LEVEL reader.lines more v.0 v.1).1 line kind
     (subst (λ (b : Bool). MatchBool b (broken MAX_LEVEL (reader.lines ++ more) line ≡ Some kind) (BreaksRle MAX_LEVEL (reader.lines ++ more) line kind)) m b)
 over-unbroken (progress.Macrocell reader ids) o v more line kind b = absurd v
@@ -297,7 +305,8 @@ front-unrefused bytes kept ended p f fault r =
         let v = f.over o in
         let m = over-marked p f.begun o v.free in
         unrefused bytes (subst (Prefix (Accepts MAX_LEVEL)) (sym v.whole) (marked-front (taken p ++ v.free) m.1.0 m.1.1))
-        (λ b. over-unbroken p f.begun o v.free (rest_line bytes) LineTooLong (subst (λ (ls : List (List ℕ)). Breaks MAX_LEVEL ls (rest_line bytes) LineTooLong) v.whole b)) fault r
+        (λ b. over-unbroken p f.begun o v.free (rest_line bytes) LineTooLong
+        (subst (λ (ls : List (List ℕ)). Breaks MAX_LEVEL ls (rest_line bytes) LineTooLong) v.whole b)) fault r
 
 -- ---- nothing is kept behind `!`
 
@@ -322,7 +331,8 @@ pub kept-going : (bytes kept : List ℕ) (ended : ℕ) (p : Progress) → IsFron
 kept-going bytes kept ended p f h o = let e : length kept ≡ 0 = ap length (f.over o).none in absurd (omega arith)
 
 -- a rest is a line
-pub rest-lines : (bytes kept : List ℕ) (ended : ℕ) (lines : List (List ℕ)) → IsGoing bytes kept ended lines → 0 < length kept → lines_of bytes ≡ lines ++ kept ∷ []
+pub rest-lines : (bytes kept : List ℕ) (ended : ℕ) (lines : List (List ℕ)) → IsGoing bytes kept ended lines → 0 < length kept → lines_of bytes ≡ lines
+    ++ kept ∷ []
 rest-lines bytes kept ended lines g h =
     lines_are_whole bytes ∙ ap (λ (ls : List (List ℕ)). ls ++ one_line (rest_line bytes)) (sym g.whole)
     ∙ ap (λ (r : List ℕ). lines ++ one_line r) (sym g.rest) ∙ ap (λ (ls : List (List ℕ)). lines ++ ls) (one-some kept h)
@@ -331,7 +341,8 @@ pub kept-refuses : (bytes kept : List ℕ) (ended : ℕ) (p : Progress) (fault :
     → IsLineFault MAX_LEVEL (taken p) kept ended fault → Refuses MAX_LEVEL bytes fault
 kept-refuses bytes kept ended p fault f h b =
     let g = f.going (kept-going bytes kept ended p f h) in
-    line-refused MAX_LEVEL (lines_of bytes) (taken p) kept [] fault (rest-lines bytes kept ended (taken p) g h) (open-front p f.begun) b.breaks (omega (arith, b.place, g.count))
+    line-refused MAX_LEVEL (lines_of bytes) (taken p) kept [] fault (rest-lines bytes kept ended (taken p) g h) (open-front p f.begun) b.breaks
+    (omega (arith, b.place, g.count))
 
 pub kept-end : (bytes kept : List ℕ) (ended next : ℕ) (p q : Progress) → IsFront bytes kept ended p → 0 < length kept → IsOpen q
     → taken q ≡ taken p ++ kept ∷ [] → next ≡ min (ended + 1) (2 ^ 64 - 1) → IsEnd bytes next q
@@ -357,7 +368,8 @@ whole-end bytes kept ended p f h = record {
   over = λ o.
       let v = f.over o in (
         v.free ++ one_line (rest_line bytes),
-        lines_are_whole bytes ∙ ap (λ (ls : List (List ℕ)). ls ++ one_line (rest_line bytes)) v.whole ∙ append_assoc (taken p) v.free (one_line (rest_line bytes)),
+        lines_are_whole bytes ∙ ap (λ (ls : List (List ℕ)). ls ++ one_line (rest_line bytes)) v.whole
+            ∙ append_assoc (taken p) v.free (one_line (rest_line bytes)),
       );
 }
 
@@ -456,7 +468,10 @@ pub keep-fault : (store : Nodes) (p : Progress) (kept more : List ℕ) (ended : 
 keep-fault store p kept more ended fault o n (inl m) = inl (inl m)
 keep-fault store p kept more ended fault o n (inr (e, long)) =
     let b = long-breaks p (kept ++ more) o n (is-long (kept ++ more) (omega (arith, long, length-append kept more))) in
-    inr (record { breaks = subst (Breaks MAX_LEVEL (taken p) (kept ++ more)) (sym (ap (λ (f : Fault). f.kind) e)) b; place = ap (λ (f : Fault). f.place.line) e })
+    inr (record {
+      breaks = subst (Breaks MAX_LEVEL (taken p) (kept ++ more)) (sym (ap (λ (f : Fault). f.kind) e)) b;
+      place = ap (λ (f : Fault). f.place.line) e;
+    })
 
 -- ---- the end of a piece
 
@@ -464,7 +479,8 @@ pub last-feed : (p : Progress) (rest : List ℕ) → (IsOver p → ⊥) → IsOv
 last-feed p rest n (inl o) = absurd (n o)
 last-feed p rest n (inr h) = h
 
-pub kept-or-refused : (bytes kept more : List ℕ) (ended : ℕ) (p : Progress) (fault : Fault) → IsFront bytes kept ended p → (IsOver p → ⊥) → has_no_feed more ≡ true
+pub kept-or-refused : (bytes kept more : List ℕ) (ended : ℕ) (p : Progress) (fault : Fault) → IsFront bytes kept ended p → (IsOver p → ⊥)
+    → has_no_feed more ≡ true
     → (fault ≡ fault_of Memory) ⊎ ((fault ≡ fault_at (min (ended + 1) (2 ^ 64 - 1)) LineTooLong) × (2 ^ 20 < length kept + length more))
     → (fault ≡ fault_of Memory) ⊎ RefusesFront MAX_LEVEL (bytes ++ more) fault
 kept-or-refused bytes kept more ended p fault f n h (inl m) = inl m
@@ -476,7 +492,8 @@ bytes-more [] piece = append-nil piece
 bytes-more (first ∷ pieces) piece = ap (λ (b : List ℕ). first ++ b) (bytes-more pieces piece) ∙ sym (append_assoc first (bytes_of pieces) piece)
 
 -- the fault of a line that ends
-pub line-told : (store : Nodes) (bytes kept end : List ℕ) (ended : ℕ) (p : Progress) (fault : Fault) → IsFront bytes kept ended p → (IsOver p → ⊥) → has_no_feed end ≡ true
+pub line-told : (store : Nodes) (bytes kept end : List ℕ) (ended : ℕ) (p : Progress) (fault : Fault) → IsFront bytes kept ended p → (IsOver p → ⊥)
+    → has_no_feed end ≡ true
     → IsWant store fault ⊎ IsLineFault MAX_LEVEL (taken p) (kept ++ end) ended fault
     → IsWant store fault ⊎ ((rest : List ℕ) → RefusesFront MAX_LEVEL (bytes ++ end ++ 10 ∷ [] ++ rest) fault)
 line-told store bytes kept end ended p fault f n h (inl w) = inl w
@@ -512,7 +529,8 @@ no-length [] h = refl
 no-length (b ∷ bytes) h = absurd (omega arith)
 
 pub rest-fault : (r : Result (Unit {0}) Fault) (store : Nodes) (bytes kept : List ℕ) (ended : ℕ) (p : Progress) → IsFront bytes kept ended p → 0 < length kept
-    → IfErr r (λ fault. IsWant store fault ⊎ IsLineFault MAX_LEVEL (taken p) kept ended fault) → IfErr r (λ fault. Refuses MAX_LEVEL bytes fault ⊎ IsWant store fault)
+    → IfErr r (λ fault. IsWant store fault ⊎ IsLineFault MAX_LEVEL (taken p) kept ended fault)
+    → IfErr r (λ fault. Refuses MAX_LEVEL bytes fault ⊎ IsWant store fault)
 rest-fault (Ok x) store bytes kept ended p f h e = tt
 rest-fault (Err fault) store bytes kept ended p f h (inl w) = inr w
 rest-fault (Err fault) store bytes kept ended p f h (inr b) = inl (kept-refuses bytes kept ended p fault f h b)

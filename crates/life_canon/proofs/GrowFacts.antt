@@ -53,13 +53,15 @@ module _ (rule : Rule) (generation : ℕ) (lines : List Line) (square : Line)
       at (l ∷ ls) = at ls
 
   -- the squares of the first lines stay
-  tree-stays : (i level : ℕ) (line : Line) → slice_get lines i ≡ Some line → level_of line ≡ level → tree_of (lines ++ square ∷ []) level (suc i) ≡ tree_of lines level (suc i)
+  tree-stays : (i level : ℕ) (line : Line) → slice_get lines i ≡ Some line → level_of line ≡ level → tree_of (lines ++ square ∷ []) level (suc i)
+      ≡ tree_of lines level (suc i)
   tree-stays i level line e l =
       let h : i < length lines = (line_at-get lines i line e).0 in
       let new = (lines_stand_for_squares MAX_LEVEL _ good).each (suc i) line (get-first lines (square ∷ []) i line e) in
       let old = (lines_stand_for_squares MAX_LEVEL _ first-valid).each (suc i) line e in
       let same : tree_of (lines ++ square ∷ []) (level_of line) (suc i) ≡ tree_of lines (level_of line) (suc i) =
-      sym new.by_front ∙ ap (λ (ls : List Line). tree_of ls (level_of line) (suc i)) (take-append-le (suc i) lines (square ∷ []) (omega (arith, h))) ∙ old.by_front in
+      sym new.by_front ∙ ap (λ (ls : List Line). tree_of ls (level_of line) (suc i)) (take-append-le (suc i) lines (square ∷ []) (omega (arith, h)))
+      ∙ old.by_front in
       subst (λ (n : ℕ). tree_of (lines ++ square ∷ []) n (suc i) ≡ tree_of lines n (suc i)) l same
 
   quarter-stays : (k number : ℕ) → IsQuarter rule lines (length lines) k number → tree_of (lines ++ square ∷ []) k number ≡ tree_of lines k number
@@ -138,7 +140,8 @@ squares-grow knows content rule generation lines square ids id good h known is =
     tree : content id ≡ tree_of (lines ++ square ∷ []) (level_of square) (suc (length lines))
     tree = is ∙ sym (last-tree rule generation lines square good)
 
-    by : (index : ℕ) (i : Id) (line : Line) → (slice_get ids index ≡ Some i) ⊎ ((index ≡ length ids) × (id ≡ i)) → (slice_get lines index ≡ Some line) ⊎ ((index ≡ length lines) × (square ≡ line))
+    by : (index : ℕ) (i : Id) (line : Line) → (slice_get ids index ≡ Some i) ⊎ ((index ≡ length ids) × (id ≡ i)) → (slice_get lines index ≡ Some line)
+        ⊎ ((index ≡ length lines) × (square ≡ line))
         → knows i × (content i ≡ tree_of (lines ++ square ∷ []) (level_of line) (suc index)) × (depth (content i) ≡ level_of line)
     by index i line (inl at) (inl there) =
         let e = h.each index i line at there in
@@ -146,14 +149,17 @@ squares-grow knows content rule generation lines square ids id good h known is =
     by index i line (inl at) (inr last) = absurd (omega (arith, get-within ids index i at, last.0, h.count))
     by index i line (inr last) (inl there) = absurd (omega (arith, get-within lines index line there, last.0, h.count))
     by index i line (inr here) (inr last) =
-        let P : ℕ → Id → Line → Type 0 = λ n i l. knows i × (content i ≡ tree_of (lines ++ square ∷ []) (level_of l) (suc n)) × (depth (content i) ≡ level_of l) in
+        let P : ℕ → Id → Line → Type 0 = λ n i l. knows i × (content i ≡ tree_of (lines ++ square ∷ []) (level_of l) (suc n))
+        × (depth (content i) ≡ level_of l) in
         let base : P (length lines) id square = (known, tree, ap depth tree ∙ (last-stands rule generation lines square good).depth_is) in
-        subst (λ (n : ℕ). P n i line) (sym last.0) (subst (λ (j : Id). P (length lines) j line) here.1 (subst (λ (l : Line). P (length lines) id l) last.1 base))
+        subst (λ (n : ℕ). P n i line) (sym last.0)
+        (subst (λ (j : Id). P (length lines) j line) here.1 (subst (λ (l : Line). P (length lines) id l) last.1 base))
 
 -- ---- the root
 
 -- the square of the last line has the cells of the file
-pub root-cells : (knows : Id → Type 0) (content : Id → Tree) (file : Macrocell) (ids : List Id) (id : Id) → IsValid MAX_LEVEL file → AreSquaresOf knows content file.lines ids
+pub root-cells : (knows : Id → Type 0) (content : Id → Tree) (file : Macrocell) (ids : List Id) (id : Id) → IsValid MAX_LEVEL file
+    → AreSquaresOf knows content file.lines ids
     → slice_get ids (length ids - 1) ≡ Some id → knows id × (1 ≤ depth (content id)) × ((x y : ℤ) → tree_cell (content id) x y ≡ cell file x y)
 root-cells knows content file ids id good h at =
     let lines = file.lines in
@@ -166,8 +172,11 @@ root-cells knows content file ids id good h at =
     let e = h.each k id last (subst (λ (n : ℕ). slice_get ids n ≡ Some id) index at) (get-line_at lines k small) in
     let s = lines_stand_for_squares MAX_LEVEL file good in
     let tree : content id ≡ root_tree lines =
-    e.1 ∙ ap (λ (n : ℕ). tree_of lines n (suc k)) (sym (root_level-last lines some)) ∙ ap (λ (n : ℕ). tree_of lines (root_level lines) n) one in
-    (e.0, omega (arith, e.2, high (map level_of (take k lines)) last (good.squares k last (get-line_at lines k small))), λ x y. ap (λ (t : Tree). tree_cell t x y) tree ∙ sym (s.plane x y))
+    e.1 ∙ ap (λ (n : ℕ). tree_of lines n (suc k)) (sym (root_level-last lines some)) ∙ ap (λ (n : ℕ). tree_of lines (root_level lines) n) one in (
+      e.0,
+      omega (arith, e.2, high (map level_of (take k lines)) last (good.squares k last (get-line_at lines k small))),
+      λ x y. ap (λ (t : Tree). tree_cell t x y) tree ∙ sym (s.plane x y),
+    )
   where
     high : (levels : List ℕ) (line : Line) → IsSquare MAX_LEVEL file.rule levels line → 1 ≤ level_of line
     high levels (Leaf rows) q = omega arith

@@ -89,9 +89,11 @@ less_one n = omega arith
 
 -- the walk over a line's square meets squares of lines alone
 walk-line : (m : ℕ) (f : Macrocell) (k j : ℕ) (line : Line) → ((rows : List ℕ) → line ≡ Leaf rows → 3 ≤ m)
-    → level_of line ≡ suc k → HasDepth (suc k) (line_tree (tree_of f.lines k) line) → is_in (line_squares f.lines (suc j)) (line_tree (tree_of f.lines k) line) ≡ true
+    → level_of line ≡ suc k → HasDepth (suc k) (line_tree (tree_of f.lines k) line) → is_in (line_squares f.lines (suc j)) (line_tree (tree_of f.lines k) line)
+    ≡ true
     → (top : ℕ) → IsValidLine top f.rule f.lines j line
-    → ((number : ℕ) → IsQuarter f.rule f.lines j k number → (t : Tree) → is_in (walk (tree_of f.lines k number) m) t ≡ true → is_in (line_squares f.lines j) t ≡ true)
+    → ((number : ℕ) → IsQuarter f.rule f.lines j k number → (t : Tree) → is_in (walk (tree_of f.lines k number) m) t ≡ true
+    → is_in (line_squares f.lines j) t ≡ true)
     → (t : Tree) → is_in (walk (line_tree (tree_of f.lines k) line) m) t ≡ true → is_in (line_squares f.lines (suc j)) t ≡ true
 walk-line m f k j (Leaf rows) leaves e h itself top v below t i =
     let le : 3 ≤ m = leaves rows refl in
@@ -114,7 +116,8 @@ unfolding line_square
 line_squares-at lines n i h = line_squares-has lines n i h
 
 -- the square of a number has its level
-number-depth : (top : ℕ) (f : Macrocell) → IsValid top f → (k i number : ℕ) → i ≤ length f.lines → IsQuarter f.rule f.lines i k number → HasDepth k (tree_of f.lines k number)
+number-depth : (top : ℕ) (f : Macrocell) → IsValid top f → (k i number : ℕ) → i ≤ length f.lines → IsQuarter f.rule f.lines i k number
+    → HasDepth k (tree_of f.lines k number)
 number-depth top f v zero i number l q = point_depth
 number-depth top f v (suc k) i zero l q = blank-depth (suc k)
 number-depth top f v (suc k) i (suc j) l (inl e) = absurd (omega arith)
@@ -122,20 +125,24 @@ number-depth top f v (suc k) i (suc j) l (inr c) =
     let b : j < length f.lines = omega arith in
     let e : level_of (line_at f.lines j) ≡ suc k = subst (λ n. level_of (line_at f.lines n) ≡ suc k) (less_one j) c.2 in
     let s = (lines_stand_for_squares top f v).each (suc j) (line_at f.lines j) (get-line_at f.lines j b) in
-    subst (λ n. HasDepth n (tree_of f.lines n (suc j))) e (subst (λ n. HasDepth n (tree_of f.lines (level_of (line_at f.lines j)) (suc j))) s.depth_is (full-depth _ s.full))
+    subst (λ n. HasDepth n (tree_of f.lines n (suc j))) e
+    (subst (λ n. HasDepth n (tree_of f.lines (level_of (line_at f.lines j)) (suc j))) s.depth_is (full-depth _ s.full))
 
 -- the walk over a child's square meets squares of lines alone
-walk-lines : (top m : ℕ) (f : Macrocell) → IsValid top f → (3 ≤ m) ⊎ NoLeaves f.lines → (k i number : ℕ) → i ≤ length f.lines → IsQuarter f.rule f.lines i k number
+walk-lines : (top m : ℕ) (f : Macrocell) → IsValid top f → (3 ≤ m) ⊎ NoLeaves f.lines → (k i number : ℕ) → i ≤ length f.lines
+    → IsQuarter f.rule f.lines i k number
     → (t : Tree) → is_in (walk (tree_of f.lines k number) m) t ≡ true → is_in (line_squares f.lines i) t ≡ true
 walk-lines top m f v leaves zero i number l q t h = absurd (true_false false h refl)
-walk-lines top m f v leaves (suc k) i zero l q t h = absurd (true_false false (rw (walk-small (blank (suc k)) m (first_or _ _ (blank-blank (suc k)))) at h) refl)
+walk-lines top m f v leaves (suc k) i zero l q t h = absurd
+    (true_false false (rw (walk-small (blank (suc k)) m (first_or _ _ (blank-blank (suc k)))) at h) refl)
 walk-lines top m f v leaves (suc k) i (suc j) l q t h = elim q [
   | inl e ↦ absurd (omega arith)
   | inr c ↦
       let b : j < length f.lines = omega arith in
       let e : level_of (line_at f.lines j) ≡ suc k = subst (λ n. level_of (line_at f.lines n) ≡ suc k) (less_one j) c.2 in
       let form : tree_of f.lines (suc k) (suc j) ≡ line_tree (tree_of f.lines k) (line_at f.lines j) = tree_of-line f.lines k j b in
-      let deep : HasDepth (suc k) (line_tree (tree_of f.lines k) (line_at f.lines j)) = subst (HasDepth (suc k)) form (number-depth top f v (suc k) i (suc j) l (inr c)) in
+      let deep : HasDepth (suc k) (line_tree (tree_of f.lines k) (line_at f.lines j)) = subst (HasDepth (suc k)) form
+      (number-depth top f v (suc k) i (suc j) l (inr c)) in
       let itself : is_in (line_squares f.lines (suc j)) (tree_of f.lines (suc k) (suc j)) ≡ true =
       subst (λ n. is_in (line_squares f.lines (suc j)) (tree_of f.lines n (suc j)) ≡ true) e (line_squares-at f.lines (suc j) j (omega arith)) in
       line_squares-more f.lines i (suc j) t (omega arith)
@@ -227,7 +234,8 @@ depth-trim (suc n) (quad_depth {nw = a} {ne = b} {sw = c} {se = d} point_depth q
 depth-trim (suc n) {root = root} (quad_depth (quad_depth {k = k} a b c d) (quad_depth e f g h) (quad_depth i j o p) (quad_depth q r s t)) l =
     elim (bool_cases (has_blank_border root)) [
       | inl u ↦ subst (λ v. depth v ≤ suc (suc k)) (sym (trim_times-once n root u)) (le_suc _ _ (depth-trim n (quad_depth d g j q) (omega arith)))
-      | inr u ↦ subst (λ v. depth v ≤ suc (suc k)) (sym (trim_times-stop (suc n) root u)) (le_from _ _ (depth_is (quad_depth (quad_depth a b c d) (quad_depth e f g h) (quad_depth i j o p) (quad_depth q r s t))))
+      | inr u ↦ subst (λ v. depth v ≤ suc (suc k)) (sym (trim_times-stop (suc n) root u))
+          (le_from _ _ (depth_is (quad_depth (quad_depth a b c d) (quad_depth e f g h) (quad_depth i j o p) (quad_depth q r s t))))
     ]
 
 trim-none : (m : ℕ) {k : ℕ} {root : Tree} → HasDepth k root → (t : Tree) → is_in (walk root m) t ≡ true → (t ≡ root) ⊎ IsInner m root root t
@@ -242,11 +250,13 @@ trim-none m (quad_depth {k = k} {nw = a} {ne = b} {sw = c} {se = d} p q r s) t i
       | se_case u ↦ inr (record { in_root = i; less = lt_from _ _ _ (walk-level m t s u) e })
     ]
 
-walk-cases_of : {k : ℕ} {a b c d : Tree} → HasDepth k a → HasDepth k b → HasDepth k c → HasDepth k d → (m : ℕ) (t : Tree) → is_in (walk (quad a b c d) m) t ≡ true → WalkCase a b c d m t
+walk-cases_of : {k : ℕ} {a b c d : Tree} → HasDepth k a → HasDepth k b → HasDepth k c → HasDepth k d → (m : ℕ) (t : Tree)
+    → is_in (walk (quad a b c d) m) t ≡ true → WalkCase a b c d m t
 walk-cases_of {a = a} {b = b} {c = c} {d = d} p q r s m t h = walk-cases a b c d m t h
 
 -- the walk of the middle, without the middle itself, is part of the walk
-middle-walk : (m : ℕ) {k : ℕ} {root : Tree} → HasDepth (suc (suc k)) root → (t : Tree) → is_in (walk (middle root) m) t ≡ true → depth t < suc k → is_in (walk root m) t ≡ true
+middle-walk : (m : ℕ) {k : ℕ} {root : Tree} → HasDepth (suc (suc k)) root → (t : Tree) → is_in (walk (middle root) m) t ≡ true → depth t < suc k
+    → is_in (walk root m) t ≡ true
 middle-walk m {k = k} (quad_depth (quad_depth a b c d) (quad_depth e f g h) (quad_depth i j o p) (quad_depth q r s u)) t w l =
     let nw = quad_depth a b c d in let ne = quad_depth e f g h in let sw = quad_depth i j o p in let se = quad_depth q r s u in
     elim (walk-cases_of d g j q m t w) [
@@ -257,7 +267,8 @@ middle-walk m {k = k} (quad_depth (quad_depth a b c d) (quad_depth e f g h) (qua
       | se_case x ↦ from-se nw ne sw se m t (from-nw q r s u m t x)
     ]
 
-trim-walk : (m n : ℕ) {k : ℕ} {root : Tree} → HasDepth k root → n < k → (t : Tree) → is_in (walk (trim_times n root) m) t ≡ true → (t ≡ trim_times n root) ⊎ IsInner m root (trim_times n root) t
+trim-walk : (m n : ℕ) {k : ℕ} {root : Tree} → HasDepth k root → n < k → (t : Tree) → is_in (walk (trim_times n root) m) t ≡ true → (t ≡ trim_times n root)
+    ⊎ IsInner m root (trim_times n root) t
 trim-walk m zero h l t i = trim-none m h t i
 trim-walk m (suc n) point_depth l t i = absurd (omega arith)
 trim-walk m (suc n) (quad_depth {nw = a} {ne = b} {sw = c} {se = d} point_depth q r s) l t i = absurd (omega arith)
@@ -300,7 +311,8 @@ listed-small : (t : Tree) (m : ℕ) → is_small m t ≡ true → listed t m ≡
 unfolding listed
 listed-small t m h = ap (with_all []) (walk-small t m h)
 
-pub quarter-last : (top : ℕ) (f : Macrocell) → IsValid top f → 0 < length f.lines → IsQuarter f.rule f.lines (length f.lines) (root_level f.lines) (length f.lines)
+pub quarter-last : (top : ℕ) (f : Macrocell) → IsValid top f → 0 < length f.lines → IsQuarter f.rule f.lines (length f.lines) (root_level f.lines)
+    (length f.lines)
 quarter-last top f v h =
     let r = rooted top f v h in
     subst (λ n. IsQuarter f.rule f.lines (length f.lines) n (length f.lines)) (sym r.is)
@@ -371,7 +383,8 @@ deep-list top m f v leaves le h deep {w = w} hw e s =
     let q : IsQuarter f.rule f.lines n k n = quarter-last top f v h in
     let inner : (t : Tree) → is_in last.front t ≡ true → IsInner m r (trim_times (depth r - m) r) t = λ t z.
     let z' : is_in (walk w m) t ≡ true = listed-walk w m t (subst (λ l. is_in l t ≡ true) (sym last.is) (is_in-left last.front (w ∷ []) t z)) in
-    let c : (t ≡ trim_times (depth r - m) r) ⊎ IsInner m r (trim_times (depth r - m) r) t = trim-walk m (depth r - m) hr few t (subst (λ x. is_in (walk x m) t ≡ true) e z') in
+    let c : (t ≡ trim_times (depth r - m) r) ⊎ IsInner m r (trim_times (depth r - m) r) t = trim-walk m (depth r - m) hr few t
+    (subst (λ x. is_in (walk x m) t ≡ true) e z') in
     (elim c [
       | inl x ↦ absurd (true_false _ (subst (λ y. is_in last.front y ≡ true) (x ∙ sym e) z) last.fresh)
       | inr x ↦ x
@@ -450,13 +463,15 @@ record IsLine (f : Macrocell) (w t : Tree) (number : ℕ) : Type 0 where
   some : 1 ≤ number
   most : number ≤ length f.lines
 
-no_lines-blank : (top : ℕ) (u : Universe) (f : Macrocell) → least_level u.rule ≤ suc top → IsOnPlane (suc top) u → IsSame u (macrocell_universe f) → length f.lines ≡ 0
+no_lines-blank : (top : ℕ) (u : Universe) (f : Macrocell) → least_level u.rule ≤ suc top → IsOnPlane (suc top) u → IsSame u (macrocell_universe f)
+    → length f.lines ≡ 0
     → listed (whole (suc top) u) (least_level u.rule) ≡ []
 unfolding centred
 no_lines-blank top u f le h same z =
     let w = whole-is top u le h in
     let b : whole (suc top) u ≡ blank (suc w.level) =
-    w.is ∙ square-same u.cell nowhere (λ x y. same.cells x y ∙ no-lines f z x y ∙ sym (nowhere-zero x y)) (suc w.level) (corner (suc w.level)) (corner (suc w.level)) ∙ centred-nowhere (suc w.level) in
+    w.is ∙ square-same u.cell nowhere (λ x y. same.cells x y ∙ no-lines f z x y ∙ sym (nowhere-zero x y)) (suc w.level) (corner (suc w.level))
+    (corner (suc w.level)) ∙ centred-nowhere (suc w.level) in
     listed-blank (whole (suc top) u) (least_level u.rule) (ap is_blank b ∙ blank-blank (suc w.level))
 
 place_for : Macrocell → Tree → Tree → ℕ
@@ -477,7 +492,8 @@ record AreApart (f : Macrocell) (w : Tree) (m : ℕ) : Type 0 where
   few : length (listed w m) ≤ length f.lines
 
 line_squares-root : (f : Macrocell) → 0 < length f.lines → is_in (line_squares f.lines (length f.lines)) (root_tree f.lines) ≡ true
-line_squares-root f h = subst (λ t. is_in (line_squares f.lines (length f.lines)) t ≡ true) (root-square f h) (line_squares-has f.lines (length f.lines) (length f.lines - 1) (omega arith))
+line_squares-root f h = subst (λ t. is_in (line_squares f.lines (length f.lines)) t ≡ true) (root-square f h)
+    (line_squares-has f.lines (length f.lines) (length f.lines - 1) (omega arith))
 
 apart-deep : (f : Macrocell) (w : Tree) (m : ℕ) → 0 < length f.lines → IsTrimmedList f w m → AreApart f w m
 apart-deep f w m some l = record {
@@ -489,7 +505,8 @@ apart-deep f w m some l = record {
         | inl x ↦ subst (λ y. is_in (line_squares f.lines (length f.lines)) y ≡ true) (same_tree-true _ t x) (line_squares-root f some)
         | inr x ↦ l.of_lines t x
       ] in
-      let long : length (root_tree f.lines ∷ l.front) ≤ length (line_squares f.lines (length f.lines)) = no_longer (root_tree f.lines ∷ l.front) (line_squares f.lines (length f.lines)) (l.no_root, l.once) all in
+      let long : length (root_tree f.lines ∷ l.front) ≤ length (line_squares f.lines (length f.lines)) = no_longer (root_tree f.lines ∷ l.front)
+      (line_squares f.lines (length f.lines)) (l.no_root, l.once) all in
       let a : length (listed w m) ≡ length l.front + 1 = ap length l.is ∙ length-append l.front (w ∷ []) in
       let b : length (line_squares f.lines (length f.lines)) ≡ length f.lines = line_squares-length f.lines (length f.lines) in
       omega arith;
@@ -505,7 +522,8 @@ apart-low : (f : Macrocell) (w : Tree) (m : ℕ) → 0 < length f.lines → 1 �
 apart-low f w m some le h = record {
   others = λ t z n. absurd (never t z n);
   no_root = λ t z n e. absurd (never t z n);
-  few = at_most (no_longer (listed w m) (w ∷ []) (listed-once w m) (λ t z. subst (λ y. is_in (w ∷ []) y ≡ true) (sym (low-list m le h t z)) (first_or _ _ (same_tree-refl w))));
+  few = at_most (no_longer (listed w m) (w ∷ []) (listed-once w m)
+      (λ t z. subst (λ y. is_in (w ∷ []) y ≡ true) (sym (low-list m le h t z)) (first_or _ _ (same_tree-refl w))));
 }
   where
     never : (t : Tree) → is_in (listed w m) t ≡ true → same_tree t w ≡ false → ⊥
@@ -520,7 +538,8 @@ apart-small f w m s = record { others = λ t z n. absurd (never t z); no_root = 
     never : (t : Tree) → is_in (listed w m) t ≡ true → ⊥
     never t z = true_false false (subst (λ l. is_in l t ≡ true) (listed-small w m s) z) refl
 
-apart : (top : ℕ) (u : Universe) (f : Macrocell) → 3 ≤ suc top → IsOnPlane (suc top) u → IsValid (suc top) f → IsSame u (macrocell_universe f) → IsRival f → 0 < length f.lines
+apart : (top : ℕ) (u : Universe) (f : Macrocell) → 3 ≤ suc top → IsOnPlane (suc top) u → IsValid (suc top) f → IsSame u (macrocell_universe f) → IsRival f
+    → 0 < length f.lines
     → AreApart f (whole (suc top) u) (least_level u.rule)
 unfolding centred
 apart top u f high h v same rival l =
@@ -533,13 +552,15 @@ apart top u f high h v same rival l =
     elim (bool_cases (is_small m w)) [
       | inl s ↦ apart-small f w m s
       | inr s ↦ elim ((from_root top m f high (least-one u.rule) le v l).shape) [
-        | inl a ↦ apart-deep f w m l (deep-list (suc top) m f v (life_leaves u.rule f.lines (rival-leaves u f same.rule rival)) (least-one u.rule) l a.0 wi.depth_of (e ∙ a.1) s)
+        | inl a ↦ apart-deep f w m l (deep-list (suc top) m f v (life_leaves u.rule f.lines (rival-leaves u f same.rule rival)) (least-one u.rule) l a.0
+            wi.depth_of (e ∙ a.1) s)
         | inr a ↦ apart-low f w m l (least-one u.rule) (subst (HasDepth m) (sym (e ∙ a)) (centred-depth (macrocell_cell f) m))
       ]
     ]
 
 -- the squares of the list have lines, no two of them one line
-pub has-places : (top : ℕ) (u : Universe) (f : Macrocell) → 3 ≤ suc top → IsOnPlane (suc top) u → IsValid (suc top) f → IsSame u (macrocell_universe f) → IsRival f → HasPlaces (suc top) u f
+pub has-places : (top : ℕ) (u : Universe) (f : Macrocell) → 3 ≤ suc top → IsOnPlane (suc top) u → IsValid (suc top) f → IsSame u (macrocell_universe f)
+    → IsRival f → HasPlaces (suc top) u f
 has-places top u f high h v same rival = elim (reach 1 (length f.lines)) [
   | inl l ↦
       let w = whole (suc top) u in
@@ -555,15 +576,18 @@ has-places top u f high h v same rival = elim (reach 1 (length f.lines)) [
         root = λ z. place_for-root f w w (same_tree-refl w);
         own = λ t z other. elim (bool_cases (same_tree t w)) [
           | inl e ↦ absurd (other (same_tree-true t w e))
-          | inr e ↦ let r = numbered f.lines n t (ap_.others t z e) in rw (place_for-own f w t e, r.is) (line_square-own (suc top) f v r.index t r.below r.square)
+          | inr e ↦ let r = numbered f.lines n t (ap_.others t z e) in
+              rw (place_for-own f w t e, r.is) (line_square-own (suc top) f v r.index t r.below r.square)
         ];
         apart = λ s t y z e. elim (bool_cases (same_tree s w)) [
           | inl p ↦ elim (bool_cases (same_tree t w)) [
             | inl q ↦ same_tree-true s w p ∙ sym (same_tree-true t w q)
-            | inr q ↦ absurd (ap_.no_root t z q (root-line f t l (numbered f.lines n t (ap_.others t z q)) (sym (place_for-own f w t q) ∙ sym e ∙ place_for-root f w s p)))
+            | inr q ↦ absurd (ap_.no_root t z q
+                (root-line f t l (numbered f.lines n t (ap_.others t z q)) (sym (place_for-own f w t q) ∙ sym e ∙ place_for-root f w s p)))
           ]
           | inr p ↦ elim (bool_cases (same_tree t w)) [
-            | inl q ↦ absurd (ap_.no_root s y p (root-line f s l (numbered f.lines n s (ap_.others s y p)) (sym (place_for-own f w s p) ∙ e ∙ place_for-root f w t q)))
+            | inl q ↦ absurd (ap_.no_root s y p
+                (root-line f s l (numbered f.lines n s (ap_.others s y p)) (sym (place_for-own f w s p) ∙ e ∙ place_for-root f w t q)))
             | inr q ↦
                 let a = numbered f.lines n s (ap_.others s y p) in
                 let b = numbered f.lines n t (ap_.others t z q) in
@@ -574,14 +598,22 @@ has-places top u f high h v same rival = elim (reach 1 (length f.lines)) [
       }
   | inr l ↦
       let none : listed (whole (suc top) u) (least_level u.rule) ≡ [] = no_lines-blank top u f (least-high u.rule (suc top) high) h same (omega arith) in
-      let never : (t : Tree) → is_in (listed (whole (suc top) u) (least_level u.rule)) t ≡ true → ⊥ = λ t z. true_false false (subst (λ y. is_in y t ≡ true) none z) refl in
-      record { line_for = λ t. 0; within = λ t z. absurd (never t z); root = λ z. absurd (never _ z); own = λ t z o. absurd (never t z); apart = λ s t y z e. absurd (never s y) }
+      let never : (t : Tree) → is_in (listed (whole (suc top) u) (least_level u.rule)) t ≡ true
+      → ⊥ = λ t z. true_false false (subst (λ y. is_in y t ≡ true) none z) refl in
+      record {
+        line_for = λ t. 0;
+        within = λ t z. absurd (never t z);
+        root = λ z. absurd (never _ z);
+        own = λ t z o. absurd (never t z);
+        apart = λ s t y z e. absurd (never s y);
+      }
 ]
   where
     suc_same : (m n : ℕ) → suc m ≡ suc n → m ≡ n
     suc_same m n e = omega arith
 
-    root-line : (f : Macrocell) (t : Tree) → 1 ≤ length f.lines → IsNumbered f.lines (length f.lines) t → line_number f.lines (length f.lines) t ≡ length f.lines → root_tree f.lines ≡ t
+    root-line : (f : Macrocell) (t : Tree) → 1 ≤ length f.lines → IsNumbered f.lines (length f.lines) t → line_number f.lines (length f.lines) t
+        ≡ length f.lines → root_tree f.lines ≡ t
     root-line f t l r e =
         let i : length f.lines - 1 ≡ r.index = omega (arith, r.is, e) in
         sym (root-square f l) ∙ ap (line_square f.lines) i ∙ r.square

@@ -60,16 +60,19 @@ child-suc levels level j = rw (no_zero j) refl
 quarter-high : (rule : Rule) (levels : List ℕ) (k number : ℕ) → is_quarter rule levels (suc (suc k)) number ≡ is_child levels (suc k) number
 quarter-high rule levels k number = rw (no_one k, less_one (suc k)) refl
 
-child-test : (lines : List Line) (i level number : ℕ) → i ≤ length lines → is_child (map level_of (take i lines)) level number ≡ true → IsChild lines i level number
+child-test : (lines : List Line) (i level number : ℕ) → i ≤ length lines → is_child (map level_of (take i lines)) level number ≡ true
+    → IsChild lines i level number
 child-test lines i level zero h e = inl refl
 child-test lines i level (suc j) h e =
     let r = level-take lines i j level h (sym (child-suc (map level_of (take i lines)) level j) ∙ e) in
     inr (omega arith, omega (arith, r.0), subst (λ n. level_of (line_at lines n) ≡ level) (sym (less_one j)) r.1)
 
-test-child : (lines : List Line) (i level number : ℕ) → i ≤ length lines → IsChild lines i level number → is_child (map level_of (take i lines)) level number ≡ true
+test-child : (lines : List Line) (i level number : ℕ) → i ≤ length lines → IsChild lines i level number → is_child (map level_of (take i lines)) level number
+    ≡ true
 test-child lines i level zero h c = refl
 test-child lines i level (suc j) h (inl e) = absurd (omega arith)
-test-child lines i level (suc j) h (inr c) = child-suc (map level_of (take i lines)) level j ∙ take-level lines i j level h (omega arith) (subst (λ n. level_of (line_at lines n) ≡ level) (less_one j) c.2)
+test-child lines i level (suc j) h (inr c) = child-suc (map level_of (take i lines)) level j
+    ∙ take-level lines i j level h (omega arith) (subst (λ n. level_of (line_at lines n) ≡ level) (less_one j) c.2)
 
 le-test : (a b : ℕ) → nat_le a b ≡ true → a < suc b
 le-test a b h = grind (arith, nat_tests)
@@ -77,11 +80,13 @@ le-test a b h = grind (arith, nat_tests)
 test-le : (a b : ℕ) → a < suc b → nat_le a b ≡ true
 test-le a b h = grind (arith, nat_tests)
 
-pub quarter-test : (rule : Rule) (lines : List Line) (i k number : ℕ) → i ≤ length lines → is_quarter rule (map level_of (take i lines)) (suc k) number ≡ true → IsQuarter rule lines i k number
+pub quarter-test : (rule : Rule) (lines : List Line) (i k number : ℕ) → i ≤ length lines → is_quarter rule (map level_of (take i lines)) (suc k) number ≡ true
+    → IsQuarter rule lines i k number
 quarter-test rule lines i zero number h e = le-test number (largest_state rule) e
 quarter-test rule lines i (suc k) number h e = child-test lines i (suc k) number h (sym (quarter-high rule (map level_of (take i lines)) k number) ∙ e)
 
-pub test-quarter : (rule : Rule) (lines : List Line) (i k number : ℕ) → i ≤ length lines → IsQuarter rule lines i k number → is_quarter rule (map level_of (take i lines)) (suc k) number ≡ true
+pub test-quarter : (rule : Rule) (lines : List Line) (i k number : ℕ) → i ≤ length lines → IsQuarter rule lines i k number
+    → is_quarter rule (map level_of (take i lines)) (suc k) number ≡ true
 test-quarter rule lines i zero number h q = test-le number (largest_state rule) q
 test-quarter rule lines i (suc k) number h q = quarter-high rule (map level_of (take i lines)) k number ∙ test-child lines i (suc k) number h q
 
@@ -99,7 +104,8 @@ all-four f a b c d p q r s = grind arith
 
 -- ---- lines that are squares, by their index
 
-pub square-valid : (top : ℕ) (rule : Rule) (lines : List Line) (i : ℕ) (line : Line) → i ≤ length lines → IsSquare top rule (map level_of (take i lines)) line → IsValidLine top rule lines i line
+pub square-valid : (top : ℕ) (rule : Rule) (lines : List Line) (i : ℕ) (line : Line) → i ≤ length lines → IsSquare top rule (map level_of (take i lines)) line
+    → IsValidLine top rule lines i line
 square-valid top rule lines i (Leaf rows) h s = s
 square-valid top rule lines i (Quad level a b c d) h s = by level s
   where
@@ -111,7 +117,8 @@ square-valid top rule lines i (Quad level a b c d) h s = by level s
         subst (λ n. IsQuarter rule lines i n number) (sym (less_one k)) (quarter-test rule lines i k number h e) in
         (s.0, s.1, into a v.first, into b v.second, into c v.third, into d v.fourth)
 
-valid-square : (top : ℕ) (rule : Rule) (lines : List Line) (i : ℕ) (line : Line) → i ≤ length lines → IsValidLine top rule lines i line → IsSquare top rule (map level_of (take i lines)) line
+valid-square : (top : ℕ) (rule : Rule) (lines : List Line) (i : ℕ) (line : Line) → i ≤ length lines → IsValidLine top rule lines i line
+    → IsSquare top rule (map level_of (take i lines)) line
 valid-square top rule lines i (Leaf rows) h s = s
 valid-square top rule lines i (Quad level a b c d) h s = by level s
   where
@@ -137,4 +144,5 @@ root_level-last (line ∷ []) h = refl
 root_level-last (line ∷ next ∷ lines) h =
     let e : suc (length lines) - 1 ≡ length lines = less_one (length lines) in
     let f : suc (suc (length lines)) - 1 ≡ suc (length lines) = less_one (suc (length lines)) in
-    root_level-last (next ∷ lines) (omega arith) ∙ ap (λ n. level_of (line_at (next ∷ lines) n)) e ∙ sym (ap (λ n. level_of (line_at (line ∷ next ∷ lines) n)) f)
+    root_level-last (next ∷ lines) (omega arith) ∙ ap (λ n. level_of (line_at (next ∷ lines) n)) e
+    ∙ sym (ap (λ n. level_of (line_at (line ∷ next ∷ lines) n)) f)

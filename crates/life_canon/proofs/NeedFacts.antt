@@ -43,11 +43,15 @@ SomeGrown-next P t level h s = let d = depth-grown t h in record { more = suc s.
 -- ---- squares about (0, 0) with the cells of a pattern
 
 -- a square with these cells is the one of its level
-pub is-centred : (f : ℤ → ℤ → ℕ) (t : Tree) (k : ℕ) → IsFull t → depth t ≡ suc k → ((x y : ℤ) → tree_cell t x y ≡ f x y) → (t ≡ centred f (suc k)) × IsBlankOutside (suc k) f
+pub is-centred : (f : ℤ → ℤ → ℕ) (t : Tree) (k : ℕ) → IsFull t → depth t ≡ suc k → ((x y : ℤ) → tree_cell t x y ≡ f x y) → (t ≡ centred f (suc k))
+    × IsBlankOutside (suc k) f
 unfolding centred
 is-centred f t k full d cells =
-    let h : HasDepth (suc k) t = subst (λ (n : ℕ). HasDepth n t) d (full-depth t full) in
-    (sym (centred-tree_cell h) ∙ square-same (tree_cell t) f cells (suc k) (corner (suc k)) (corner (suc k)), λ x y n. sym (cells x y) ∙ tree_cell-outside h x y n)
+    let h : HasDepth (suc k) t = subst (λ (n : ℕ). HasDepth n t) d (full-depth t full) in (
+      sym (centred-tree_cell h) ∙ square-same (tree_cell t) f cells (suc k) (corner (suc k)) (corner (suc k)),
+      λ x y n. sym (cells x y)
+          ∙ tree_cell-outside h x y n,
+    )
 
 -- grown, it is one of a higher level
 grown-centred : (f : ℤ → ℤ → ℕ) (n k : ℕ) (t : Tree) → t ≡ centred f (suc k) → IsBlankOutside (suc k) f → grown_times n t ≡ centred f (suc (n + k))
@@ -113,7 +117,8 @@ one-more : (n : ℕ) → 1 ≤ n → n ≡ suc (n - 1)
 one-more n h = omega arith
 
 -- it is grown
-pub root-grown : (P : Tree → Type 0) (u : Universe) (t : Tree) → IsFull t → 1 ≤ depth t → ((x y : ℤ) → tree_cell t x y ≡ u.cell x y) → SomeGrown P t (least_level u.rule)
+pub root-grown : (P : Tree → Type 0) (u : Universe) (t : Tree) → IsFull t → 1 ≤ depth t → ((x y : ℤ) → tree_cell t x y ≡ u.cell x y)
+    → SomeGrown P t (least_level u.rule)
     → SomeRoot P u (depth t)
 root-grown P u t full h cells s =
     let k : ℕ = depth t - 1 in
@@ -123,7 +128,8 @@ root-grown P u t full h cells s =
     grown_root (suc (suc s.more + k)) (omega (arith, d)) (omega (arith, d, s.low)) (subst (SomePart P) e s.part)
 
 -- it is trimmed, from the level of the root or from the least one
-pub root-trimmed : (P : Tree → Type 0) (u : Universe) (t : Tree) (n : ℕ) → IsFull t → depth t ≡ max (least_level u.rule) n → ((x y : ℤ) → tree_cell t x y ≡ u.cell x y)
+pub root-trimmed : (P : Tree → Type 0) (u : Universe) (t : Tree) (n : ℕ) → IsFull t → depth t ≡ max (least_level u.rule) n
+    → ((x y : ℤ) → tree_cell t x y ≡ u.cell x y)
     → SomeTrimmed P t (least_level u.rule) → SomeRoot P u n
 root-trimmed P u t n full high cells s =
     let m = least_level u.rule in
@@ -138,7 +144,8 @@ root-trimmed P u t n full high cells s =
 -- ---- runs
 
 -- the square of the runs before the next one
-pub runs-above : (P : Tree → Type 0) (before so_far : List GivenRun) (runs : List Run) (i : ℕ) (d : Run) → i < length runs → so_far ≡ before ++ map given (take i runs)
+pub runs-above : (P : Tree → Type 0) (before so_far : List GivenRun) (runs : List Run) (i : ℕ) (d : Run) → i < length runs
+    → so_far ≡ before ++ map given (take i runs)
     → SomeSquare P (nat_abs ((get_or runs i d).y +ℤ pos half_plane)) (by_columns (state_by so_far)) → SomeOfRuns P (before ++ map given runs)
 runs-above P before so_far runs i d h e s =
     let split : runs ≡ take i runs ++ get_or runs i d ∷ drop (suc i) runs =
@@ -155,14 +162,17 @@ runs-above P before so_far runs i d h e s =
     }
 
 -- the runs of a line, behind those of the lines before it
-pub line-runs : (P : Tree → Type 0) (lines : List (List ℕ)) (before runs : List Run) (so_far : List GivenRun) (given_now : List Run) → HasRuns MAX_LEVEL lines (before ++ runs)
+pub line-runs : (P : Tree → Type 0) (lines : List (List ℕ)) (before runs : List Run) (so_far : List GivenRun) (given_now : List Run)
+    → HasRuns MAX_LEVEL lines (before ++ runs)
     → so_far ≡ map given before → given_now ≡ runs → SomeOfRuns P (so_far ++ map given given_now) → SomeOfLines MAX_LEVEL P lines
 line-runs P lines before runs so_far given_now h e f s =
     of_runs lines [] (before ++ runs) (sym (append-nil lines)) h
-    (subst (SomeOfRuns P) (ap (λ (l : List GivenRun). l ++ map given given_now) e ∙ ap (λ (l : List Run). map given before ++ map given l) f ∙ sym (map-append given before runs)) s)
+    (subst (SomeOfRuns P) (ap (λ (l : List GivenRun). l ++ map given given_now) e ∙ ap (λ (l : List Run). map given before ++ map given l) f
+    ∙ sym (map-append given before runs)) s)
 
 -- the same square of other runs with the same cells
-pub same-square : {P : Tree → Type 0} (rows : ℕ) (f g : ℤ → ℤ → ℕ) → ((x y : ℤ) → f x y ≡ g x y) → SomeSquare P rows (by_columns f) → SomeSquare P rows (by_columns g)
+pub same-square : {P : Tree → Type 0} (rows : ℕ) (f g : ℤ → ℤ → ℕ) → ((x y : ℤ) → f x y ≡ g x y) → SomeSquare P rows (by_columns f)
+    → SomeSquare P rows (by_columns g)
 same-square {P = P} rows f g e s = subst (λ (cells : ℤ → ℤ → ℕ). SomeSquare P rows (by_columns cells)) (λ i x y. e x y i) s
 
 -- ---- lines
@@ -176,7 +186,8 @@ more-lines P front more all e (of_runs begun behind runs whole are some) =
     of_runs begun (behind ++ more) runs (e ∙ ap (λ (ls : List (List ℕ)). ls ++ more) whole ∙ append_assoc begun behind more) are some
 
 -- the line that ends, and lines behind it
-pub ended-needs : (P : Tree → Type 0) (bytes kept end rest : List ℕ) (ended : ℕ) (lines : List (List ℕ)) → IsGoing bytes kept ended lines → has_no_feed end ≡ true
+pub ended-needs : (P : Tree → Type 0) (bytes kept end rest : List ℕ) (ended : ℕ) (lines : List (List ℕ)) → IsGoing bytes kept ended lines
+    → has_no_feed end ≡ true
     → SomeOfLines MAX_LEVEL P (lines ++ (kept ++ end) ∷ []) → SomeOfLines MAX_LEVEL P (whole_lines (bytes ++ end ++ 10 ∷ [] ++ rest))
 ended-needs P bytes kept end rest ended lines g h =
     more-lines P (lines ++ (kept ++ end) ∷ []) (whole_lines rest) (whole_lines (bytes ++ end ++ 10 ∷ [] ++ rest))
@@ -187,7 +198,8 @@ pub whole-needs : (P : Tree → Type 0) (bytes : List ℕ) → SomeOfLines MAX_L
 whole-needs P bytes s = of_lines (more-lines P (whole_lines bytes) (one_line (rest_line bytes)) (lines_of bytes) (lines_are_whole bytes) s)
 
 -- what the end of the lines that were taken needs, the end of the file needs
-pub end-needs : (P : Tree → Type 0) (bytes : List ℕ) (ended : ℕ) (p : Progress) → IsEnd bytes ended p → SomeAtEnd MAX_LEVEL P (taken p) → SomeAtEnd MAX_LEVEL P (lines_of bytes)
+pub end-needs : (P : Tree → Type 0) (bytes : List ℕ) (ended : ℕ) (p : Progress) → IsEnd bytes ended p → SomeAtEnd MAX_LEVEL P (taken p)
+    → SomeAtEnd MAX_LEVEL P (lines_of bytes)
 end-needs P bytes ended p e (of_plane u says rle some) =
     let more = end-lines bytes ended p u e says in
     of_plane u (end-says bytes ended p u e says) (ap is_macrocell more.1 ∙ more.2 ∙ rle) some

@@ -46,7 +46,8 @@ pub there : (rule : Rule) (all : List Tree) (t a b c d : Tree) → IsListed rule
     → Quarters (IsThere (depth t) all) (quad a b c d)
 there rule all t a b c d l e h =
     let q = subst (Quarters (λ q. is_small (least_level rule) q ≡ false → is_in all q ≡ true)) e l.quarters in
-    let go = λ (s : Tree) (f : is_small (least_level rule) s ≡ false → is_in all s ≡ true) (deep : depth s + 1 ≡ depth t) (some : 1 ≤ depth s) (shown : is_blank s ≡ false).
+    let go = λ (s : Tree) (f : is_small (least_level rule) s ≡ false → is_in all s ≡ true) (deep : depth s + 1 ≡ depth t) (some : 1 ≤ depth s)
+    (shown : is_blank s ≡ false).
     f (not_small (least_level rule) s (depth s) refl (quarter-high rule (depth t) (depth s) h l.level deep some) shown) in
     record { nw = go a q.nw; ne = go b q.ne; sw = go c q.sw; se = go d q.se }
 
@@ -69,14 +70,17 @@ listed-each rule root full states all e t c =
     }
 
 -- the lines of the list are squares
-pub valid-lines : (top : ℕ) (rule : Rule) (root : Tree) → IsFull root → HasStatesUpTo (largest_state rule) root → depth root ≤ top → (all : List Tree) → all ≡ listed root (least_level rule)
+pub valid-lines : (top : ℕ) (rule : Rule) (root : Tree) → IsFull root → HasStatesUpTo (largest_state rule) root → depth root ≤ top → (all : List Tree)
+    → all ≡ listed root (least_level rule)
     → (lines : List Line) → lines ≡ lines_for rule all → AreSquares top rule lines
 valid-lines top rule root full states low all e lines f =
     let P : List Line → Type 0 = λ ls. AreSquares top rule ls in
-    subst P (sym (f ∙ ap (lines_for rule) e)) (valid-squares top rule _ (lines_for-valid top rule root low (full-depth root full) (states-below (largest_state rule) root states)))
+    subst P (sym (f ∙ ap (lines_for rule) e))
+    (valid-squares top rule _ (lines_for-valid top rule root low (full-depth root full) (states-below (largest_state rule) root states)))
 
 -- a root that is its own trimmed form is the whole of what it says
-pub whole-of : (top : ℕ) (rule : Rule) (generation : ℕ) {k : ℕ} {root : Tree} → HasDepth (suc k) root → suc k ≤ suc top → least_level rule ≤ suc k → trimmed root (least_level rule) ≡ root
+pub whole-of : (top : ℕ) (rule : Rule) (generation : ℕ) {k : ℕ} {root : Tree} → HasDepth (suc k) root → suc k ≤ suc top → least_level rule ≤ suc k
+    → trimmed root (least_level rule) ≡ root
     → whole (suc top) (square_universe rule generation root) ≡ root
 whole-of top rule generation {k = k} {root = root} h low le fixed =
     let m = least_level rule in
@@ -91,7 +95,8 @@ one-more : (n : ℕ) → 1 ≤ n → n ≡ suc (n - 1)
 one-more n h = omega arith
 
 -- the canonical file of what the root says
-pub file-of : (top : ℕ) (rule : Rule) (generation : ℕ) (root : Tree) → IsFull root → depth root ≤ suc top → least_level rule ≤ depth root → trimmed root (least_level rule) ≡ root
+pub file-of : (top : ℕ) (rule : Rule) (generation : ℕ) (root : Tree) → IsFull root → depth root ≤ suc top → least_level rule ≤ depth root
+    → trimmed root (least_level rule) ≡ root
     → canonical_file (suc top) (square_universe rule generation root) ≡ square_file rule generation root
 unfolding canonical_file
 file-of top rule generation root full low le fixed =
@@ -103,7 +108,8 @@ outside-up : (f : ℤ → ℤ → ℕ) (k top : ℕ) → suc k ≤ suc top → I
 outside-up f k top l h = let n : suc ((top - k) + k) ≡ suc top = omega arith in subst (λ j. IsBlankOutside j f) n (outside-by f (top - k) k h)
 
 -- no macrocell file of what the root says has fewer lines
-pub root-least : (top : ℕ) (rule : Rule) (generation : ℕ) (root : Tree) → 3 ≤ suc top → IsFull root → HasStatesUpTo (largest_state rule) root → depth root ≤ suc top → least_level rule ≤ depth root
+pub root-least : (top : ℕ) (rule : Rule) (generation : ℕ) (root : Tree) → 3 ≤ suc top → IsFull root → HasStatesUpTo (largest_state rule) root
+    → depth root ≤ suc top → least_level rule ≤ depth root
     → trimmed root (least_level rule) ≡ root → IsLeast (suc top) (square_universe rule generation root) (node_lines (square_file rule generation root))
 unfolding canonical_file
 root-least top rule generation root high full states low le fixed = λ bytes file says same rival.
@@ -114,7 +120,8 @@ root-least top rule generation root high full states low le fixed = λ bytes fil
     let plane : IsOnPlane (suc top) (square_universe rule generation root) = record {
       rule = subst R (sym same.rule) v.rule;
       generation = subst (λ n. n < 2 ^ 64) (sym same.generation) v.generation;
-      states = λ x y. upto-below _ (largest_state rule) (tree_cell-below (state_bound rule) root (states-below (largest_state rule) root states) (omega arith) x y);
+      states = λ x y. upto-below _ (largest_state rule)
+          (tree_cell-below (state_bound rule) root (states-below (largest_state rule) root states) (omega arith) x y);
       outside = outside-up (tree_cell root) (depth root - 1) top (subst (λ n. n ≤ suc top) d low) (tree_cell-outside h);
     } in
     subst (λ w. length (square_file rule generation w).lines ≤ length file.lines)
@@ -122,7 +129,8 @@ root-least top rule generation root high full states low le fixed = λ bytes fil
     (least top (square_universe rule generation root) file high plane v same rival)
 
 -- the square of each key of the list is listed
-pub listed-at : {K : Type 0} (content : K → Tree) (keys items : List K) (rule : Rule) (i : ℕ) (d : K) → ((t : Tree) → Contains (map content keys) t → IsListed rule (map content keys) t)
+pub listed-at : {K : Type 0} (content : K → Tree) (keys items : List K) (rule : Rule) (i : ℕ) (d : K)
+    → ((t : Tree) → Contains (map content keys) t → IsListed rule (map content keys) t)
     → items ≡ keys → i < length items → IsListed rule (map content keys) (content (get_or items i d))
 listed-at {K} content keys items rule i d each e l =
     let P : List K → Type 0 = λ ks. i < length ks → IsListed rule (map content keys) (content (get_or ks i d)) in

@@ -46,7 +46,8 @@ one-more : (n : ℕ) → 1 ≤ n → n ≡ suc (n - 1)
 one-more n h = omega arith
 
 -- a square with the cells of a pattern, trimmed, is the whole of the pattern
-pub trimmed-whole : (top : ℕ) (u : Universe) (t : Tree) → IsFull t → depth t ≤ suc top → least_level u.rule ≤ depth t → ((x y : ℤ) → tree_cell t x y ≡ u.cell x y)
+pub trimmed-whole : (top : ℕ) (u : Universe) (t : Tree) → IsFull t → depth t ≤ suc top → least_level u.rule ≤ depth t
+    → ((x y : ℤ) → tree_cell t x y ≡ u.cell x y)
     → trimmed t (least_level u.rule) ≡ whole (suc top) u
 trimmed-whole top u t full low le cells =
     let m = least_level u.rule in
@@ -105,12 +106,14 @@ kind-differs kind other h k e = cc
 kind-differs-rle : (kind other : Kind) → is_rle_kind kind ≡ true → is_rle_kind other ≡ false → kind ≡ other → ⊥
 kind-differs-rle kind other h k e = cc
 
-pub not-full : (lines : List (List ℕ)) (line : List ℕ) (kind : Kind) → (kind ≡ Memory) ⊎ (kind ≡ Spent) ⊎ (broken MAX_LEVEL lines line ≡ Some kind) → kind ≡ Full → ⊥
+pub not-full : (lines : List (List ℕ)) (line : List ℕ) (kind : Kind) → (kind ≡ Memory) ⊎ (kind ≡ Spent) ⊎ (broken MAX_LEVEL lines line ≡ Some kind)
+    → kind ≡ Full → ⊥
 not-full lines line kind (inl m) e = cc
 not-full lines line kind (inr (inl s)) e = cc
 not-full lines line kind (inr (inr b)) e = kind-differs kind Full (broken_kind MAX_LEVEL lines line kind b) refl e
 
-pub not-full-rle : (lines : List (List ℕ)) (line : List ℕ) (kind : Kind) → (kind ≡ Memory) ⊎ (kind ≡ Spent) ⊎ BreaksRle MAX_LEVEL lines line kind → kind ≡ Full → ⊥
+pub not-full-rle : (lines : List (List ℕ)) (line : List ℕ) (kind : Kind) → (kind ≡ Memory) ⊎ (kind ≡ Spent) ⊎ BreaksRle MAX_LEVEL lines line kind → kind ≡ Full
+    → ⊥
 not-full-rle lines line kind (inl m) e = cc
 not-full-rle lines line kind (inr (inl s)) e = cc
 not-full-rle lines line kind (inr (inr b)) e = kind-differs-rle kind Full (Breaks-kind MAX_LEVEL lines line kind b) refl e

@@ -50,7 +50,8 @@ module _ (a b : Option (List ℕ)) (text rest : List ℕ) (w : WritesFront a b t
   front-as other left e f = subst (WritesFront a b other) (sym f) (subst (λ t. WritesFront a b t rest) e w)
 
 -- the macrocell text of a pattern in its least square is its canonical text
-pub text-of-trimmed : (store : Nodes) (p : Pattern) → IsTrimmed store p → (text : List ℕ) → text ≡ mc_text (square_file p.rule p.generation (content store p.root))
+pub text-of-trimmed : (store : Nodes) (p : Pattern) → IsTrimmed store p → (text : List ℕ)
+    → text ≡ mc_text (square_file p.rule p.generation (content store p.root))
     → text ≡ canon_text MAX_LEVEL (universe_in store p)
 unfolding canon_text
 text-of-trimmed store p t text e =

@@ -131,7 +131,8 @@ trimmed-is {k = k} {t = t} m h le =
 
 -- ---- the cells of a square on the plane
 
-low_place : (n i : ℕ) → i < n + n → (int_le (neg_ℤ (pos n)) (neg_ℤ (pos n) +ℤ pos i) ≡ true) × (int_lt (neg_ℤ (pos n) +ℤ pos i) (pos n) ≡ true) × (unsigned_abs ((neg_ℤ (pos n) +ℤ pos i) +ℤ pos n) ≡ i)
+low_place : (n i : ℕ) → i < n + n → (int_le (neg_ℤ (pos n)) (neg_ℤ (pos n) +ℤ pos i) ≡ true) × (int_lt (neg_ℤ (pos n) +ℤ pos i) (pos n) ≡ true)
+    × (unsigned_abs ((neg_ℤ (pos n) +ℤ pos i) +ℤ pos n) ≡ i)
 low_place n i h =
     (grind (arith, ints), grind (arith, ints), let e : (neg_ℤ (pos n) +ℤ pos i) +ℤ pos n ≡ pos i = omega (arith, ints) in ap unsigned_abs e)
 
@@ -192,8 +193,12 @@ tree_cell-outside {k = k} {t = t} h x y n =
           let b3 = and_left (int_le (neg_ℤ (pos m)) x && int_lt x (pos m) && int_le (neg_ℤ (pos m)) y) (int_lt y (pos m)) b in
           let b2 = and_left (int_le (neg_ℤ (pos m)) x && int_lt x (pos m)) (int_le (neg_ℤ (pos m)) y) b3 in
           let xs = within_of m x (and_left (int_le (neg_ℤ (pos m)) x) (int_lt x (pos m)) b2) (and_right (int_le (neg_ℤ (pos m)) x) (int_lt x (pos m)) b2) in
-          let ys = within_of m y (and_right (int_le (neg_ℤ (pos m)) x && int_lt x (pos m)) (int_le (neg_ℤ (pos m)) y) b3) (and_right (int_le (neg_ℤ (pos m)) x && int_lt x (pos m) && int_le (neg_ℤ (pos m)) y) (int_lt y (pos m)) b) in
-          absurd (n (subst (λ v. (neg_ℤ (pos m) ≤ℤ x) × (x <ℤ (neg_ℤ (pos m) +ℤ pos v))) (sym (pow_suc k)) xs, subst (λ v. (neg_ℤ (pos m) ≤ℤ y) × (y <ℤ (neg_ℤ (pos m) +ℤ pos v))) (sym (pow_suc k)) ys))
+          let ys = within_of m y (and_right (int_le (neg_ℤ (pos m)) x && int_lt x (pos m)) (int_le (neg_ℤ (pos m)) y) b3)
+          (and_right (int_le (neg_ℤ (pos m)) x && int_lt x (pos m) && int_le (neg_ℤ (pos m)) y) (int_lt y (pos m)) b) in
+          absurd (n (
+            subst (λ v. (neg_ℤ (pos m) ≤ℤ x) × (x <ℤ (neg_ℤ (pos m) +ℤ pos v))) (sym (pow_suc k)) xs,
+            subst (λ v. (neg_ℤ (pos m) ≤ℤ y) × (y <ℤ (neg_ℤ (pos m) +ℤ pos v))) (sym (pow_suc k)) ys,
+          ))
       | inr b ↦ cond_false test _ _ b
     ])
 

@@ -19,7 +19,8 @@ right : (a b : Bool) → b ≡ true → (a || b) ≡ true
 right true b h = refl
 right false b h = h
 
-by_line : (top : ℕ) → MacrocellKinds top → RleKinds → (front : List (List ℕ)) (line : List ℕ) (kind : Kind) → Breaks top front line kind → is_file_kind kind ≡ true
+by_line : (top : ℕ) → MacrocellKinds top → RleKinds → (front : List (List ℕ)) (line : List ℕ) (kind : Kind) → Breaks top front line kind
+    → is_file_kind kind ≡ true
 by_line top m r front line kind = by (is_macrocell (front ++ line ∷ []))
   where
     by : (b : Bool) → MatchBool b (broken top front line ≡ Some kind) (BreaksRle top front line kind) → is_file_kind kind ≡ true
@@ -37,7 +38,8 @@ ends lines kind h = by (is_macrocell lines) refl
     by true e = let z : missing lines ≡ None = grind (arith, e) in by_end true kind (sym z ∙ h)
     by false e = let z : missing lines ≡ Some NoHeader = grind (arith, e) in by_end false kind (sym z ∙ h)
 
-pub refusal-kinds : (top : ℕ) → MacrocellKinds top → RleKinds → (lines : List (List ℕ)) (fault : Fault) → RefusesLines top lines fault → is_file_kind fault.kind ≡ true
+pub refusal-kinds : (top : ℕ) → MacrocellKinds top → RleKinds → (lines : List (List ℕ)) (fault : Fault) → RefusesLines top lines fault
+    → is_file_kind fault.kind ≡ true
 refusal-kinds top m r lines fault h = by (nat_le h.n (length lines)) refl
   where
     by : (b : Bool) → nat_le h.n (length lines) ≡ b → is_file_kind fault.kind ≡ true

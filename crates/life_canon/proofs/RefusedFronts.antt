@@ -50,7 +50,8 @@ breaks-longer front line more b =
     by true h = long-macrocell front (line ++ more) longer
     by false h =
         ((long_lines_break MAX_LEVEL front (line ++ more)).1 longer (broken_for_good MAX_LEVEL front line LineTooLong h).0
-        (λ file m. (lines_behind_mark_are_free MAX_LEVEL front [] file m).1 line LineTooLong (subst (λ (f : List (List ℕ)). BreaksRle MAX_LEVEL f line LineTooLong) (sym (append-nil front)) h))
+        (λ file m. (lines_behind_mark_are_free MAX_LEVEL front [] file m).1 line LineTooLong
+        (subst (λ (f : List (List ℕ)). BreaksRle MAX_LEVEL f line LineTooLong) (sym (append-nil front)) h))
         LineTooLong).1 refl
 
 -- ---- the first line of bytes that go on
@@ -84,7 +85,8 @@ begins (b ∷ (c ∷ front)) more h some =
 split-at : (lines : List (List ℕ)) (k : ℕ) → k < length lines → lines ≡ take k lines ++ get_or lines k [] ∷ drop (suc k) lines
 split-at lines k h = sym (take-append-drop k lines) ∙ ap (λ (d : List (List ℕ)). take k lines ++ d) (drop-cons lines k [] h)
 
-early-stays : (bytes more : List ℕ) (fault : Fault) (r : Refuses MAX_LEVEL bytes fault) → r.n ≤ length (whole_lines bytes) → RefusesFront MAX_LEVEL (bytes ++ more) fault
+early-stays : (bytes more : List ℕ) (fault : Fault) (r : Refuses MAX_LEVEL bytes fault) → r.n ≤ length (whole_lines bytes)
+    → RefusesFront MAX_LEVEL (bytes ++ more) fault
 early-stays bytes more fault r early =
     let whole = whole_lines bytes in
     let k : ℕ = r.n - 1 in
@@ -92,7 +94,8 @@ early-stays bytes more fault r early =
     let small : k < length whole = omega (arith, early, back) in
     let behind = lines_of (rest_line bytes ++ more) in
     let lines : lines_of bytes ≡ whole ++ one_line (rest_line bytes) = lines_are_whole bytes in
-    let len : length (lines_of bytes) ≡ length whole + length (one_line (rest_line bytes)) = ap length lines ∙ length-append whole (one_line (rest_line bytes)) in
+    let len : length (lines_of bytes) ≡ length whole + length (one_line (rest_line bytes)) = ap length lines
+    ∙ length-append whole (one_line (rest_line bytes)) in
     let fore : take k (lines_of bytes) ≡ take k whole = ap (take k) lines ∙ take-append-le k whole (one_line (rest_line bytes)) (omega (arith, small)) in
     let item : slice_index_or (lines_of bytes) k [] ≡ get_or whole k [] =
     ap (λ (ls : List (List ℕ)). slice_index_or ls k []) lines ∙ get_or-append whole (one_line (rest_line bytes)) [] k small in
@@ -111,13 +114,15 @@ early-stays bytes more fault r early =
       told = inl (omega (arith, n, ap length (lines_continue bytes more).whole, length-append whole (whole_lines (rest_line bytes ++ more)), count, small));
     }
 
-last-stays : (bytes more : List ℕ) (fault : Fault) (r : Refuses MAX_LEVEL bytes fault) → fault.kind ≡ LineTooLong → r.n ≡ length (whole_lines bytes) + 1 → 0 < length (rest_line bytes)
+last-stays : (bytes more : List ℕ) (fault : Fault) (r : Refuses MAX_LEVEL bytes fault) → fault.kind ≡ LineTooLong → r.n ≡ length (whole_lines bytes) + 1
+    → 0 < length (rest_line bytes)
     → Breaks MAX_LEVEL (whole_lines bytes) (rest_line bytes) LineTooLong → RefusesFront MAX_LEVEL (bytes ++ more) fault
 last-stays bytes more fault r kind n some b =
     let whole = whole_lines bytes in
     let first = begins (rest_line bytes) more (rest_has_no_feed bytes) some in
     let lines : lines_of bytes ≡ whole ++ one_line (rest_line bytes) = lines_are_whole bytes in
-    let fore : take (length whole) (lines_of bytes) ≡ whole = ap (take (length whole)) lines ∙ take-append-le (length whole) whole (one_line (rest_line bytes)) (omega arith) ∙ all whole in
+    let fore : take (length whole) (lines_of bytes) ≡ whole = ap (take (length whole)) lines ∙ take-append-le (length whole) whole (one_line (rest_line bytes))
+    (omega arith) ∙ all whole in
     let split : lines_of (bytes ++ more) ≡ whole ++ (rest_line bytes ++ first.rest) ∷ first.more =
     (lines_continue bytes more).lines ∙ ap (λ (ls : List (List ℕ)). whole ++ ls) first.is in
     record {

@@ -82,7 +82,8 @@ four t = row_of_four t 0 ∷ row_of_four t 1 ∷ row_of_four t 2 ∷ row_of_four
 -- the rows of a leaf, by those of its quarters
 pub leaf_rows : (t a b c d : Tree) (p q r s : List ℕ) → t ≡ quad a b c d → depth a ≡ 2 → p ≡ four a → q ≡ four b → r ≡ four c → s ≡ four d
     → (16 * get_or p 0 0 + get_or q 0 0) ∷ (16 * get_or p 1 0 + get_or q 1 0) ∷ (16 * get_or p 2 0 + get_or q 2 0) ∷ (16 * get_or p 3 0 + get_or q 3 0)
-    ∷ (16 * get_or r 0 0 + get_or s 0 0) ∷ (16 * get_or r 1 0 + get_or s 1 0) ∷ (16 * get_or r 2 0 + get_or s 2 0) ∷ (16 * get_or r 3 0 + get_or s 3 0) ∷ [] ≡ rows_of t
+    ∷ (16 * get_or r 0 0 + get_or s 0 0) ∷ (16 * get_or r 1 0 + get_or s 1 0) ∷ (16 * get_or r 2 0 + get_or s 2 0) ∷ (16 * get_or r 3 0 + get_or s 3 0) ∷ []
+    ≡ rows_of t
 unfolding rows_of
 leaf_rows t a b c d p q r s e deep ep eq er es =
     let w = eight_rows a b c d deep in

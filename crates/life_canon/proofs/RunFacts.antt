@@ -47,11 +47,13 @@ module _ (old new : Nodes) (before mid after : Option (List ℕ)) (total count :
       open-bytes : refused ≡ None → fed.bytes ≡ r.bytes
       open-bytes e =
           let s : MatchOption None ((fed.spent ≡ false) × (fed.bytes ≡ r.bytes) × Stands old fed) (RefusesFront MAX_LEVEL r.bytes) =
-          subst (λ (o : Option Fault). MatchOption o ((fed.spent ≡ false) × (fed.bytes ≡ r.bytes) × Stands old fed) (RefusesFront MAX_LEVEL r.bytes)) e r.state in
+          subst (λ (o : Option Fault). MatchOption o ((fed.spent ≡ false) × (fed.bytes ≡ r.bytes) × Stands old fed) (RefusesFront MAX_LEVEL r.bytes)) e
+          r.state in
           s.1
 
       was : (fault : Fault) → refused ≡ Some fault → RefusesFront MAX_LEVEL r.bytes fault
-      was fault e = subst (λ (o : Option Fault). MatchOption o ((fed.spent ≡ false) × (fed.bytes ≡ r.bytes) × Stands old fed) (RefusesFront MAX_LEVEL r.bytes)) e r.state
+      was fault e = subst (λ (o : Option Fault). MatchOption o ((fed.spent ≡ false) × (fed.bytes ≡ r.bytes) × Stands old fed) (RefusesFront MAX_LEVEL r.bytes))
+          e r.state
 
       by : (o : Option Fault) → next ≡ o → (o ≡ None → (refused ≡ None) × (more.spent ≡ false) × (more.bytes ≡ fed.bytes ++ piece) × Stands new more)
           → IfSome o (λ fault. (refused ≡ Some fault) ⊎ ((refused ≡ None) × RefusesFront MAX_LEVEL (fed.bytes ++ piece) fault))
@@ -61,7 +63,8 @@ module _ (old new : Nodes) (before mid after : Option (List ℕ)) (total count :
       by (Some fault) e g (inr s) = subst (λ (b : List ℕ). RefusesFront MAX_LEVEL (b ++ piece) fault) (open-bytes s.0) s.1
 
 -- all came
-pub read-all : (most : ℕ) (before mid after : Option (List ℕ)) (bytes : List ℕ) → Consumes before mid bytes → Consumes mid after [] → IsAtEnd after → length bytes ≤ most
+pub read-all : (most : ℕ) (before mid after : Option (List ℕ)) (bytes : List ℕ) → Consumes before mid bytes → Consumes mid after [] → IsAtEnd after
+    → length bytes ≤ most
     → ReadAll most before after bytes
 read-all most before mid after bytes a b e l = record {
   taken = subst (Consumes before after) (append-nil bytes) (Consumes-trans before mid after bytes [] a b);
@@ -80,12 +83,14 @@ full-not kind h e = let k : is_file_kind Full ≡ true = subst (λ (k : Kind). i
 memory-not : (kind : Kind) → is_file_kind kind ≡ true → kind ≡ Memory → ⊥
 memory-not kind h e = let k : is_file_kind Memory ≡ true = subst (λ (k : Kind). is_file_kind k ≡ true) e h in cc
 
-pub want-of : (store : Nodes) (bytes : List ℕ) (fault : Fault) → IsWant store fault ⊎ RefusesFront MAX_LEVEL bytes fault → (fault.kind ≡ Full) ⊎ (fault.kind ≡ Memory) → IsWant store fault
+pub want-of : (store : Nodes) (bytes : List ℕ) (fault : Fault) → IsWant store fault ⊎ RefusesFront MAX_LEVEL bytes fault → (fault.kind ≡ Full)
+    ⊎ (fault.kind ≡ Memory) → IsWant store fault
 want-of store bytes fault (inl w) k = w
 want-of store bytes fault (inr r) (inl k) = absurd (full-not fault.kind (front-kind bytes fault r) k)
 want-of store bytes fault (inr r) (inr k) = absurd (memory-not fault.kind (front-kind bytes fault r) k)
 
-pub refused-by : (store : Nodes) (bytes : List ℕ) (fault : Fault) → IsWant store fault ⊎ RefusesFront MAX_LEVEL bytes fault → (fault.kind ≡ Full → ⊥) → (fault.kind ≡ Memory → ⊥)
+pub refused-by : (store : Nodes) (bytes : List ℕ) (fault : Fault) → IsWant store fault ⊎ RefusesFront MAX_LEVEL bytes fault → (fault.kind ≡ Full → ⊥)
+    → (fault.kind ≡ Memory → ⊥)
     → RefusesFront MAX_LEVEL bytes fault
 refused-by store bytes fault (inr r) n m = r
 refused-by store bytes fault (inl (inl e)) n m = absurd (m (ap (λ (f : Fault). f.kind) e))
@@ -96,12 +101,14 @@ module _ (store : Nodes) (before after : Option (List ℕ)) (total : ℕ) (refus
   pub refused-not-full : IsReading store before after total refused fed → (fault : Fault) → refused ≡ Some fault → fault ≡ fault_of Full → ⊥
   refused-not-full r fault is e =
       let told : RefusesFront MAX_LEVEL r.bytes fault =
-      subst (λ (o : Option Fault). MatchOption o ((fed.spent ≡ false) × (fed.bytes ≡ r.bytes) × Stands store fed) (RefusesFront MAX_LEVEL r.bytes)) is r.state in
+      subst (λ (o : Option Fault). MatchOption o ((fed.spent ≡ false) × (fed.bytes ≡ r.bytes) × Stands store fed) (RefusesFront MAX_LEVEL r.bytes)) is
+      r.state in
       full-not fault.kind (front-kind r.bytes fault told) (ap (λ (f : Fault). f.kind) e)
 
 -- more came than allowed
 module _ (store : Nodes) (before mid after : Option (List ℕ)) (total count most : ℕ) (refused : Option Fault) (fed : Fed) (piece : List ℕ) where
-  pub beyond-most : IsReading store before mid total refused fed → Consumes mid after piece → length piece ≡ count → most < total + count → CameBeyond most before after
+  pub beyond-most : IsReading store before mid total refused fed → Consumes mid after piece → length piece ≡ count → most < total + count
+      → CameBeyond most before after
   beyond-most r came len more = record {
     bytes = r.bytes ++ piece;
     taken = Consumes-trans before mid after r.bytes piece r.came came;
@@ -111,54 +118,67 @@ module _ (store : Nodes) (before mid after : Option (List ℕ)) (total count mos
 -- a piece more was fed, and the store has no room for its lines
 module _ (store new : Nodes) (before mid after : Option (List ℕ)) (total count most failures : ℕ) (refused : Option Fault) (fed : Fed) (piece : List ℕ) where
   pub lacks-front : IsReading store before mid total refused fed → Consumes mid after piece → length piece ≡ count → total + count ≤ most
-      → (refused ≡ None) × LacksForFront MAX_LEVEL (fed.bytes ++ piece) new → LacksForRead MAX_LEVEL most new (record { before = before; after = after; failures = failures })
+      → (refused ≡ None) × LacksForFront MAX_LEVEL (fed.bytes ++ piece) new
+      → LacksForRead MAX_LEVEL most new (record { before = before; after = after; failures = failures })
   lacks-front r came len short lacks =
       let state : (fed.spent ≡ false) × (fed.bytes ≡ r.bytes) × Stands store fed =
-      subst (λ (o : Option Fault). MatchOption o ((fed.spent ≡ false) × (fed.bytes ≡ r.bytes) × Stands store fed) (RefusesFront MAX_LEVEL r.bytes)) lacks.0 r.state in
+      subst (λ (o : Option Fault). MatchOption o ((fed.spent ≡ false) × (fed.bytes ≡ r.bytes) × Stands store fed) (RefusesFront MAX_LEVEL r.bytes)) lacks.0
+      r.state in
       for_front (r.bytes ++ piece) (Consumes-trans before mid after r.bytes piece r.came came) (omega (arith, r.count, len, short, length-append r.bytes piece))
       (subst (λ (b : List ℕ). LacksForFront MAX_LEVEL (b ++ piece) new) state.1 lacks.1)
 
 -- a read of no bytes is the end
-at-end : (mid after : Option (List ℕ)) (count : ℕ) (buf : List ℕ) → count ≡ 0 → 0 < length buf → Consumes mid after (take count buf) × (count ≡ 0 → 0 < length buf → IsAtEnd after)
+at-end : (mid after : Option (List ℕ)) (count : ℕ) (buf : List ℕ) → count ≡ 0 → 0 < length buf → Consumes mid after (take count buf)
+    × (count ≡ 0 → 0 < length buf → IsAtEnd after)
     → Consumes mid after [] × IsAtEnd after
 at-end mid after count buf e l h = let none : take count buf ≡ [] = grind (arith, e) in (subst (Consumes mid after) none h.0, h.1 e l)
 
 module _ (store new : Nodes) (before mid after : Option (List ℕ)) (total most failures count : ℕ) (buf : List ℕ) (refused : Option Fault) (fed : Fed) where
   -- the end came, and a line was refused
-  pub ended-refused : IsReading store before mid total refused fed → count ≡ 0 → 0 < length buf → Consumes mid after (take count buf) × (count ≡ 0 → 0 < length buf → IsAtEnd after)
-      → total ≤ most → (fault : Fault) → refused ≡ Some fault → ReadRefuses MAX_LEVEL most new (record { before = before; after = after; failures = failures }) fault
+  pub ended-refused : IsReading store before mid total refused fed → count ≡ 0 → 0 < length buf → Consumes mid after (take count buf)
+      × (count ≡ 0 → 0 < length buf → IsAtEnd after)
+      → total ≤ most → (fault : Fault) → refused ≡ Some fault → ReadRefuses MAX_LEVEL most new (record { before = before; after = after; failures = failures })
+      fault
   ended-refused r e l h short fault is =
       let told : RefusesFront MAX_LEVEL r.bytes fault =
-      subst (λ (o : Option Fault). MatchOption o ((fed.spent ≡ false) × (fed.bytes ≡ r.bytes) × Stands store fed) (RefusesFront MAX_LEVEL r.bytes)) is r.state in
+      subst (λ (o : Option Fault). MatchOption o ((fed.spent ≡ false) × (fed.bytes ≡ r.bytes) × Stands store fed) (RefusesFront MAX_LEVEL r.bytes)) is
+      r.state in
       let came = at-end mid after count buf e l h in
       by_file r.bytes (read-all most before mid after r.bytes r.came came.0 came.1 (omega (arith, r.count, short))) told.refuses
 
   -- the end came, and the reader has all
-  ended-read : IsReading store before mid total refused fed → count ≡ 0 → 0 < length buf → Consumes mid after (take count buf) × (count ≡ 0 → 0 < length buf → IsAtEnd after)
+  ended-read : IsReading store before mid total refused fed → count ≡ 0 → 0 < length buf → Consumes mid after (take count buf)
+      × (count ≡ 0 → 0 < length buf → IsAtEnd after)
       → total ≤ most → refused ≡ None → ReadAll most before after fed.bytes
   ended-read r e l h short is =
       let state : (fed.spent ≡ false) × (fed.bytes ≡ r.bytes) × Stands store fed =
-      subst (λ (o : Option Fault). MatchOption o ((fed.spent ≡ false) × (fed.bytes ≡ r.bytes) × Stands store fed) (RefusesFront MAX_LEVEL r.bytes)) is r.state in
+      subst (λ (o : Option Fault). MatchOption o ((fed.spent ≡ false) × (fed.bytes ≡ r.bytes) × Stands store fed) (RefusesFront MAX_LEVEL r.bytes)) is
+      r.state in
       let came = at-end mid after count buf e l h in
       subst (ReadAll most before after) (sym state.1) (read-all most before mid after r.bytes r.came came.0 came.1 (omega (arith, r.count, short)))
 
   -- the end came, and the store has no room for what it has
-  pub ended-lacks : IsReading store before mid total refused fed → count ≡ 0 → 0 < length buf → Consumes mid after (take count buf) × (count ≡ 0 → 0 < length buf → IsAtEnd after)
-      → total ≤ most → refused ≡ None → LacksFor MAX_LEVEL fed.bytes new → LacksForRead MAX_LEVEL most new (record { before = before; after = after; failures = failures })
+  pub ended-lacks : IsReading store before mid total refused fed → count ≡ 0 → 0 < length buf → Consumes mid after (take count buf)
+      × (count ≡ 0 → 0 < length buf → IsAtEnd after)
+      → total ≤ most → refused ≡ None → LacksFor MAX_LEVEL fed.bytes new
+      → LacksForRead MAX_LEVEL most new (record { before = before; after = after; failures = failures })
   ended-lacks r e l h short is = for_file fed.bytes (ended-read r e l h short is)
 
   -- the end came, and the reader refuses what it has
-  pub ended-open : IsReading store before mid total refused fed → count ≡ 0 → 0 < length buf → Consumes mid after (take count buf) × (count ≡ 0 → 0 < length buf → IsAtEnd after)
+  pub ended-open : IsReading store before mid total refused fed → count ≡ 0 → 0 < length buf → Consumes mid after (take count buf)
+      × (count ≡ 0 → 0 < length buf → IsAtEnd after)
       → total ≤ most → refused ≡ None → (result : Result Pattern Fault) → (fed.spent ≡ false → IfErr result (λ fault. RefusesIn MAX_LEVEL fed.bytes new fault))
       → IfErr result (λ fault. ReadRefuses MAX_LEVEL most new (record { before = before; after = after; failures = failures }) fault)
   ended-open r e l h short is result told = IfErr-weaker result _ _ each (told state.0)
     where
       state : (fed.spent ≡ false) × (fed.bytes ≡ r.bytes) × Stands store fed
-      state = subst (λ (o : Option Fault). MatchOption o ((fed.spent ≡ false) × (fed.bytes ≡ r.bytes) × Stands store fed) (RefusesFront MAX_LEVEL r.bytes)) is r.state
+      state = subst (λ (o : Option Fault). MatchOption o ((fed.spent ≡ false) × (fed.bytes ≡ r.bytes) × Stands store fed) (RefusesFront MAX_LEVEL r.bytes)) is
+          r.state
 
       read : ReadAll most before after fed.bytes
       read = ended-read r e l h short is
 
-      each : (fault : Fault) → RefusesIn MAX_LEVEL fed.bytes new fault → ReadRefuses MAX_LEVEL most new (record { before = before; after = after; failures = failures }) fault
+      each : (fault : Fault) → RefusesIn MAX_LEVEL fed.bytes new fault
+          → ReadRefuses MAX_LEVEL most new (record { before = before; after = after; failures = failures }) fault
       each fault (inl refuses) = by_file fed.bytes read refuses
       each fault (inr want) = by_want want

@@ -56,7 +56,8 @@ box-ordered k t h le box b =
 one-more : (n : ℕ) → 1 ≤ n → n ≡ suc (n - 1)
 one-more n h = omega arith
 
-pub found-ordered : (t : Tree) → IsFull t → 1 ≤ depth t → depth t ≤ MAX_LEVEL → (found : Option Bounds) → MatchOption found (is_blank t ≡ true) (IsLeastBoxOf t) → IfSome found AreOrdered
+pub found-ordered : (t : Tree) → IsFull t → 1 ≤ depth t → depth t ≤ MAX_LEVEL → (found : Option Bounds) → MatchOption found (is_blank t ≡ true) (IsLeastBoxOf t)
+    → IfSome found AreOrdered
 found-ordered t full high low None h = tt
 found-ordered t full high low (Some box) h =
     box-ordered (depth t - 1) t (subst (λ n. HasDepth n t) (one-more (depth t) high) (full-depth t full)) (omega arith) box h
@@ -73,7 +74,8 @@ blank-cells k t h b x y = subst (λ s. tree_cell s x y ≡ 0) (sym (is_blank-bla
     none : (s : Tree) → ((i j : ℕ) → state_at s i j ≡ 0) → tree_cell s x y ≡ 0
     none s e = choose _ _ (e _ _)
 
-box-of : (f : ℤ → ℤ → ℕ) (t : Tree) → IsFull t → ((x y : ℤ) → f x y ≡ tree_cell t x y) → (found : Option Bounds) → MatchOption found (is_blank t ≡ true) (IsLeastBoxOf t) → IsBoxOf f found
+box-of : (f : ℤ → ℤ → ℕ) (t : Tree) → IsFull t → ((x y : ℤ) → f x y ≡ tree_cell t x y) → (found : Option Bounds)
+    → MatchOption found (is_blank t ≡ true) (IsLeastBoxOf t) → IsBoxOf f found
 box-of f t full same None h = λ x y. same x y ∙ blank-cells (depth t) t (full-depth t full) h x y
 box-of f t full same (Some box) h = record {
   inside = λ x y some. h.inside x y (λ e. some (same x y ∙ e));
@@ -128,7 +130,8 @@ box-text o0 o1 o2 o3 o4 o5 o6 o7 found box columns rows is e1 e2 e3 w e4 e5 h e6
     let f3 : o3 ≡ o0 ++ codes "box " ++ sl ++ codes " " ++ st ++ codes " " = e3 ∙ ap (λ o. o ++ st ++ codes " ") f2 in
     let f4 : o4 ≡ o0 ++ codes "box " ++ sl ++ codes " " ++ st ++ codes " " ++ decimal columns = e4 ∙ ap (λ o. o ++ decimal columns) f3 in
     let f5 : o5 ≡ o0 ++ codes "box " ++ sl ++ codes " " ++ st ++ codes " " ++ decimal columns ++ codes " " = e5 ∙ ap (λ o. o ++ codes " ") f4 in
-    let f6 : o6 ≡ o0 ++ codes "box " ++ sl ++ codes " " ++ st ++ codes " " ++ decimal columns ++ codes " " ++ decimal rows = e6 ∙ ap (λ o. o ++ decimal rows) f5 in
+    let f6 : o6 ≡ o0 ++ codes "box " ++ sl ++ codes " " ++ st ++ codes " " ++ decimal columns ++ codes " " ++ decimal rows = e6
+    ∙ ap (λ o. o ++ decimal rows) f5 in
     e7 ∙ ap (λ o. o ++ codes "\n") f6
     ∙ nine o0 (codes "box ") sl (codes " ") st (codes " ") (decimal columns) (codes " ") (decimal rows) (codes "\n")
     ∙ ap (λ n. o0 ++ (codes "box " ++ sl ++ codes " " ++ st ++ codes " " ++ decimal n ++ codes " " ++ decimal rows ++ codes "\n")) w
@@ -136,11 +139,13 @@ box-text o0 o1 o2 o3 o4 o5 o6 o7 found box columns rows is e1 e2 e3 w e4 e5 h e6
     ∙ ap (λ f. o0 ++ box_text f) (sym is)
 
 five : (r g p b n : List ℕ)
-    → [] ++ codes "rule " ++ r ++ codes "\n" ++ codes "generation " ++ g ++ codes "\n" ++ codes "population " ++ p ++ codes "\n" ++ b ++ codes "nodes " ++ n ++ codes "\n"
+    → [] ++ codes "rule " ++ r ++ codes "\n" ++ codes "generation " ++ g ++ codes "\n" ++ codes "population " ++ p ++ codes "\n" ++ b ++ codes "nodes " ++ n
+    ++ codes "\n"
     ≡ codes "rule " ++ r ++ codes "\ngeneration " ++ g ++ codes "\npopulation " ++ p ++ codes "\n" ++ b ++ codes "nodes " ++ n ++ codes "\n"
 five r g p b n = simp append_assoc
 
-pub five-text : (o0 o1 o2 o3 o4 o5 r g p b n : List ℕ) → o0 ≡ [] → o1 ≡ o0 ++ codes "rule " ++ r ++ codes "\n" → o2 ≡ o1 ++ codes "generation " ++ g ++ codes "\n"
+pub five-text : (o0 o1 o2 o3 o4 o5 r g p b n : List ℕ) → o0 ≡ [] → o1 ≡ o0 ++ codes "rule " ++ r ++ codes "\n" → o2 ≡ o1 ++ codes "generation " ++ g
+    ++ codes "\n"
     → o3 ≡ o2 ++ codes "population " ++ p ++ codes "\n" → o4 ≡ o3 ++ b → o5 ≡ o4 ++ codes "nodes " ++ n ++ codes "\n"
     → o5 ≡ codes "rule " ++ r ++ codes "\ngeneration " ++ g ++ codes "\npopulation " ++ p ++ codes "\n" ++ b ++ codes "nodes " ++ n ++ codes "\n"
 five-text o0 o1 o2 o3 o4 o5 r g p b n e0 e1 e2 e3 e4 e5 =

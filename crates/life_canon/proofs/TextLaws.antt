@@ -68,7 +68,8 @@ length-listed : (m n : ℕ) {k : ℕ} {t : Tree} → HasDepth k t → k ≤ n �
 unfolding listed
 length-listed m n {t = t} h l = omega (arith, length-all [] (walk t m), length-walk m n h l)
 
-pub canonical-short : (top : ℕ) (u : Universe) → least_level u.rule ≤ suc top → IsOnPlane (suc top) u → length (canonical_file (suc top) u).lines < four_to (suc top)
+pub canonical-short : (top : ℕ) (u : Universe) → least_level u.rule ≤ suc top → IsOnPlane (suc top) u → length (canonical_file (suc top) u).lines
+    < four_to (suc top)
 unfolding canonical_file
 canonical-short top u le h =
     let w = whole-is top u le h in
@@ -117,7 +118,8 @@ module _ (top : ℕ) (high : 3 ≤ suc top) (digits : suc top < 10 ^ 64) (room :
   same-text : (u v : Universe) → IsOnPlane (suc top) u → IsOnPlane (suc top) v → canon_text (suc top) u ≡ canon_text (suc top) v → IsSame u v
   same-text u v p q e =
       let w : macrocell_universe (canonical_file (suc top) u) ≡ macrocell_universe (canonical_file (suc top) v) =
-      files_say_one (suc top) (lines_of (canon_text (suc top) v)) _ _ (subst (λ t. Reads (suc top) t (macrocell_universe (canonical_file (suc top) u))) e (text-reads u p)) (text-reads v q) in
+      files_say_one (suc top) (lines_of (canon_text (suc top) v)) _ _
+      (subst (λ t. Reads (suc top) t (macrocell_universe (canonical_file (suc top) u))) e (text-reads u p)) (text-reads v q) in
       same-trans u _ v (text-same u p) (same-trans _ _ v (same-of w) (same-sym v _ (text-same v q)))
 
   pub texts_tell_universes : TextsTellUniverses (suc top)
@@ -125,7 +127,13 @@ module _ (top : ℕ) (high : 3 ≤ suc top) (digits : suc top < 10 ^ 64) (room :
 
   pub texts_tell_patterns : TextsTellPatterns (suc top)
   texts_tell_patterns = λ a b u v r s. (
-    (λ e. record { first = u; second = v; reads_first = r; reads_second = s; same = same-text u v (reads-plane top a u high r) (reads-plane top b v high s) e }),
+    (λ e. record {
+      first = u;
+      second = v;
+      reads_first = r;
+      reads_second = s;
+      same = same-text u v (reads-plane top a u high r) (reads-plane top b v high s) e;
+    }),
     (λ h.
         let p : IsSame u h.first = same-of (files_say_one (suc top) (lines_of a) u h.first r h.reads_first) in
         let q : IsSame h.second v = same-of (files_say_one (suc top) (lines_of b) h.second v h.reads_second s) in
@@ -134,7 +142,8 @@ module _ (top : ℕ) (high : 3 ≤ suc top) (digits : suc top < 10 ^ 64) (room :
 
   pub texts_are_fixed : TextsAreFixed (suc top)
   texts_are_fixed = λ u v h s.
-      let p : IsSame v (macrocell_universe (canonical_file (suc top) u)) = same-of (files_say_one (suc top) (lines_of (canon_text (suc top) u)) v _ s (text-reads u h)) in
+      let p : IsSame v (macrocell_universe (canonical_file (suc top) u)) = same-of
+      (files_say_one (suc top) (lines_of (canon_text (suc top) u)) v _ s (text-reads u h)) in
       equal-text v u (same-trans v _ u p (same-sym u _ (text-same u h)))
 
   pub canonical_is_least : CanonicalIsLeast (suc top)
@@ -153,7 +162,8 @@ wider-says : (more top : ℕ) (u : Universe) → 3 ≤ suc top → suc (more + t
     → IsMacrocell (suc (more + top)) (canon_text (suc top) u) (canonical_file (suc top) u)
 wider-says more top u high digits room h =
     let le = least-high u.rule (suc top) high in
-    let p : IsOnPlane (suc (more + top)) u = record { rule = h.rule; generation = h.generation; states = h.states; outside = outside-by u.cell more top h.outside } in
+    let p : IsOnPlane (suc (more + top)) u = record
+    { rule = h.rule; generation = h.generation; states = h.states; outside = outside-by u.cell more top h.outside } in
     let e : canonical_file (suc (more + top)) u ≡ canonical_file (suc top) u = canonical-wider more top u le h in
     subst (λ t. IsMacrocell (suc (more + top)) t (canonical_file (suc top) u)) (wider-text more top u high h)
     (subst (IsMacrocell (suc (more + top)) (canon_text (suc (more + top)) u)) e (text-says (more + top) (higher more top high) digits room u p))
@@ -182,7 +192,8 @@ wider_plane_keeps_texts = λ top wider u high le most h.
     let l : 3 ≤ suc (top - 1) = subst (λ n. 3 ≤ n) (sym a) high in
     let m : suc ((wider - top) + (top - 1)) ≤ 62 = subst (λ n. n ≤ 62) (sym b) most in
     let P : ℕ → ℕ → Type 0 = λ t w. (canon_text w u ≡ canon_text t u) × IsMacrocell w (canon_text t u) (canonical_file t u) in
-    let all : P (suc (top - 1)) (suc ((wider - top) + (top - 1))) = (wider-text (wider - top) (top - 1) u l p, wider-says (wider - top) (top - 1) u l (digits_of _ m) (room_of _ m) p) in
+    let all : P (suc (top - 1)) (suc ((wider - top) + (top - 1)))
+    = (wider-text (wider - top) (top - 1) u l p, wider-says (wider - top) (top - 1) u l (digits_of _ m) (room_of _ m) p) in
     subst (λ t. P t wider) a (subst (P (suc (top - 1))) b all)
   where
     digits_of : (n : ℕ) → n ≤ 62 → n < 10 ^ 64

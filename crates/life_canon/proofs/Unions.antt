@@ -46,7 +46,8 @@ shorter-front top lines more p = by p.1.0 p.1.1
   where
     by : (u : Universe) → Says top ((lines ++ more) ++ kept p.0 continuations) u → Prefix (Accepts top) lines
     by _ (as_macrocell file are) =
-        macrocell-front top lines ((fronts_are_unbroken top lines).1 (unbroken-shorter top lines more ((fronts_are_unbroken top (lines ++ more)).0 (p.0, (file, are)))))
+        macrocell-front top lines ((fronts_are_unbroken top lines).1
+        (unbroken-shorter top lines more ((fronts_are_unbroken top (lines ++ more)).0 (p.0, (file, are)))))
     by _ (as_rle file is) = rle-front top lines (fronts_of_fronts top lines more (p.0, (file, is)))
 
 pub taken-front : (top k : ℕ) (lines : List (List ℕ)) → Prefix (Accepts top) lines → Prefix (Accepts top) (take k lines)
@@ -55,7 +56,8 @@ taken-front top k lines p = shorter-front top (take k lines) (drop k lines) (sub
 -- ---- a line that breaks a rule
 
 -- lines behind the first don't change the format
-pub same-format : (front : List (List ℕ)) (line : List ℕ) (more : List (List ℕ)) → is_macrocell ((front ++ line ∷ []) ++ more) ≡ is_macrocell (front ++ line ∷ [])
+pub same-format : (front : List (List ℕ)) (line : List ℕ) (more : List (List ℕ)) → is_macrocell ((front ++ line ∷ []) ++ more)
+    ≡ is_macrocell (front ++ line ∷ [])
 same-format [] line more = refl
 same-format (first ∷ front) line more = refl
 
@@ -66,7 +68,8 @@ pub not-both : (b : Bool) → b ≡ true → b ≡ false → ⊥
 not-both b e f = cc
 
 -- behind it there is no file
-pub for_good : (top : ℕ) (front : List (List ℕ)) (line : List ℕ) (kind : Kind) (more : List (List ℕ)) → Breaks top front line kind → Accepts top ((front ++ line ∷ []) ++ more) → ⊥
+pub for_good : (top : ℕ) (front : List (List ℕ)) (line : List ℕ) (kind : Kind) (more : List (List ℕ)) → Breaks top front line kind
+    → Accepts top ((front ++ line ∷ []) ++ more) → ⊥
 for_good top front line kind more b a = by (is_macrocell (front ++ line ∷ [])) refl b a.0 a.1
   where
     at_once : (file : Macrocell) → AreMacrocell top ((front ++ line ∷ []) ++ more) file → broken top front line ≡ Some kind → ⊥
@@ -85,14 +88,16 @@ for_good top front line kind more b a = by (is_macrocell (front ++ line ∷ []))
     by false e h _ (as_rle file is) = (broken_for_good top front line kind h).2 more file is
 
 -- so it is the place of the refusal
-pub line-refused : (top : ℕ) (lines front : List (List ℕ)) (line : List ℕ) (more : List (List ℕ)) (fault : Fault) → lines ≡ front ++ line ∷ more → Prefix (Accepts top) front
+pub line-refused : (top : ℕ) (lines front : List (List ℕ)) (line : List ℕ) (more : List (List ℕ)) (fault : Fault) → lines ≡ front ++ line ∷ more
+    → Prefix (Accepts top) front
     → Breaks top front line fault.kind → fault.place.line ≡ min (length front + 1) (2 ^ 64 - 1) → RefusesLines top lines fault
 line-refused top lines front line more fault e p b at =
     let len : length lines ≡ length front + 1 + length more = ap length e ∙ omega (arith, length-append front (line ∷ more)) in
     let split : lines ≡ (front ++ line ∷ []) ++ more = e ∙ sym (append_assoc front (line ∷ []) more) in
     let less : length front + 1 - 1 ≡ length front = omega arith in
     let fore : take (length front) lines ≡ front = ap (take (length front)) e ∙ take-append_seam front (line ∷ more) in
-    let item : slice_index_or lines (length front) [] ≡ line = ap (λ (ls : List (List ℕ)). slice_index_or ls (length front) []) e ∙ get_or-append_seam front line more [] in
+    let item : slice_index_or lines (length front) [] ≡ line = ap (λ (ls : List (List ℕ)). slice_index_or ls (length front) []) e
+    ∙ get_or-append_seam front line more [] in
     let whole : take (length front + 1) lines ≡ front ++ line ∷ [] =
     (let long : length front + 1 ≡ length (front ++ line ∷ []) = omega (arith, length-append front (line ∷ [])) in
     rw (split, long) (take-append_seam (front ++ line ∷ []) more)) in
@@ -116,8 +121,10 @@ line-refused top lines front line more fault e p b at =
     }
 
 -- the number of that line
-pub line-refused-n : (top : ℕ) (lines front : List (List ℕ)) (line : List ℕ) (more : List (List ℕ)) (fault : Fault) (e : lines ≡ front ++ line ∷ more) (p : Prefix (Accepts top) front)
-    (b : Breaks top front line fault.kind) (at : fault.place.line ≡ min (length front + 1) (2 ^ 64 - 1)) → (line-refused top lines front line more fault e p b at).n ≡ length front + 1
+pub line-refused-n : (top : ℕ) (lines front : List (List ℕ)) (line : List ℕ) (more : List (List ℕ)) (fault : Fault) (e : lines ≡ front ++ line ∷ more)
+    (p : Prefix (Accepts top) front)
+    (b : Breaks top front line fault.kind) (at : fault.place.line ≡ min (length front + 1) (2 ^ 64 - 1))
+    → (line-refused top lines front line more fault e p b at).n ≡ length front + 1
 unfolding line-refused
 line-refused-n top lines front line more fault e p b at = refl
 

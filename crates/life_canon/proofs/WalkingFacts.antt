@@ -63,7 +63,8 @@ number-stays rule old new (quad a b c d) high known p = elim (bool_cases (is_bla
   | inl e ↦ number-blank old a b c d e ∙ sym (number-blank new a b c d e)
   | inr e ↦
       number-place old a b c d e
-      ∙ ap suc (sym (place-append old p.0 (quad a b c d) (known (not_small (least_level rule) (quad a b c d) (depth (quad a b c d)) refl (large rule _ high (omega arith)) e))))
+      ∙ ap suc (sym (place-append old p.0 (quad a b c d)
+      (known (not_small (least_level rule) (quad a b c d) (depth (quad a b c d)) refl (large rule _ high (omega arith)) e))))
       ∙ ap (λ l. suc (place l (quad a b c d))) (sym p.1)
       ∙ sym (number-place new a b c d e)
 ]
@@ -79,7 +80,8 @@ number-last all (quad a b c d) some shown absent = number-place (all ++ quad a b
 
 -- ---- a square is not in the walks of its quarters
 
-pub fresh : (m : ℕ) (all new : List Tree) (q t : Tree) → new ≡ with_all all (walk q m) → IsFull q → depth q < depth t → is_in all t ≡ false → is_in new t ≡ false
+pub fresh : (m : ℕ) (all new : List Tree) (q t : Tree) → new ≡ with_all all (walk q m) → IsFull q → depth q < depth t → is_in all t ≡ false
+    → is_in new t ≡ false
 fresh m all new q t e full less h = elim (bool_cases (is_in new t)) [
   | inl f ↦ elim (with_all-from all (walk q m) t (subst (λ l. is_in l t ≡ true) e f)) [
     | inl g ↦ absurd (true_false _ g h)
@@ -91,7 +93,8 @@ fresh m all new q t e full less h = elim (bool_cases (is_in new t)) [
 -- ---- what is written
 
 lines-more : (rule : Rule) (all xs ys : List Tree) → lines_text rule all (xs ++ ys) ≡ lines_text rule all xs ++ lines_text rule all ys
-lines-more rule all xs ys = ap (flat_map node_text) (map-append (line_of rule all) xs ys) ∙ flat_map-append node_text (map (line_of rule all) xs) (map (line_of rule all) ys)
+lines-more rule all xs ys = ap (flat_map node_text) (map-append (line_of rule all) xs ys)
+    ∙ flat_map-append node_text (map (line_of rule all) xs) (map (line_of rule all) ys)
 
 front-more : (old new rest all : List Tree) (p : Behind old new) → all ≡ new ++ rest → all ≡ old ++ (p.0 ++ rest)
 front-more old new rest all p e = e ∙ ap (λ l. l ++ rest) p.1 ∙ append_assoc old p.0 rest
@@ -126,7 +129,8 @@ module _ (rule : Rule) {a b : Option (List ℕ)} {h l : List ℕ} (old mid : Lis
       let more = front-more mid far rest all p e in
       let before = front-prefix start b _ l (u start begun all (p.0 ++ rest) more w) c v in
       subst (WritesPrefix start c)
-      (append_assoc begun (lines_text rule all mid) (lines_text rule all (p.0 ++ rest)) ∙ ap (λ r. begun ++ r) (sym (lines-more rule all mid (p.0 ++ rest)) ∙ ap (lines_text rule all) (sym more)))
+      (append_assoc begun (lines_text rule all mid) (lines_text rule all (p.0 ++ rest))
+      ∙ ap (λ r. begun ++ r) (sym (lines-more rule all mid (p.0 ++ rest)) ∙ ap (lines_text rule all) (sym more)))
       (prefix-grows start c _ (lines_text rule all (p.0 ++ rest)) before)
 
 -- nothing is written
@@ -136,7 +140,8 @@ writes-none rule old = λ start begun all rest e w. w
 -- ---- the number of an Id is that of its square
 
 module _ (content : Id → Tree) (id : Id) (keys : List Id) (inj : All (λ a. content a ≡ content id → a ≡ id) keys) where
-  pub number-keys : (r : Option ℕ) → AllPairs ◌≢◌ keys → 1 ≤ depth (content id) → is_blank (content id) ≡ false → MatchOption r (¬ Contains keys id) (λ n. slice_get keys (n - 1) ≡ Some id)
+  pub number-keys : (r : Option ℕ) → AllPairs ◌≢◌ keys → 1 ≤ depth (content id) → is_blank (content id) ≡ false
+      → MatchOption r (¬ Contains keys id) (λ n. slice_get keys (n - 1) ≡ Some id)
       → IfSome r (λ n. 1 ≤ n) → MatchOption r ((1 ≤ depth (content id)) × (is_blank (content id) ≡ false)) (λ n. n ≡ number_of (map content keys) (content id))
   number-keys None once some shown at counted = (some, shown)
   number-keys (Some n) once some shown at counted =
@@ -156,7 +161,8 @@ module _ (content : Id → Tree) (id : Id) (keys : List Id) (inj : All (λ a. co
 -- ---- the walk of a square
 
 -- nothing is left to write for a square that is small or has a number
-pub known-skip : (rule : Rule) (all : List Tree) (t : Tree) → IsClosed (least_level rule) all → (is_small 1 t ≡ true) ⊎ (is_in all t ≡ true) → all ≡ with_all all (walk t (least_level rule))
+pub known-skip : (rule : Rule) (all : List Tree) (t : Tree) → IsClosed (least_level rule) all → (is_small 1 t ≡ true) ⊎ (is_in all t ≡ true)
+    → all ≡ with_all all (walk t (least_level rule))
 known-skip rule all t h (inl e) = skip all t (least_level rule) (least-one rule) h (inl (smaller (least_level rule) t (least-one rule) e))
   where
     smaller : (m : ℕ) (t : Tree) → 1 ≤ m → is_small 1 t ≡ true → is_small m t ≡ true
@@ -179,7 +185,8 @@ fronts m t a b c d all all1 all2 all3 s e p1 p2 p3 =
     let s' : is_small m (quad a b c d) ≡ false = subst (λ v. is_small m v ≡ false) e s in
     let end = quad a b c d ∷ [] in
     let q : with_all all (walk t m) ≡ with_all all1 (walk b m ++ (walk c m ++ (walk d m ++ end))) =
-    ap (λ v. with_all all (walk v m)) e ∙ ap (with_all all) (walk-big a b c d m s') ∙ with_all-append all (walk a m) (walk b m ++ (walk c m ++ (walk d m ++ end)))
+    ap (λ v. with_all all (walk v m)) e ∙ ap (with_all all) (walk-big a b c d m s')
+    ∙ with_all-append all (walk a m) (walk b m ++ (walk c m ++ (walk d m ++ end)))
     ∙ ap (λ l. with_all l (walk b m ++ (walk c m ++ (walk d m ++ end)))) (sym p1) in
     let q2 : with_all all (walk t m) ≡ with_all all2 (walk c m ++ (walk d m ++ end)) =
     q ∙ with_all-append all1 (walk b m) (walk c m ++ (walk d m ++ end)) ∙ ap (λ l. with_all l (walk c m ++ (walk d m ++ end))) (sym p2) in
@@ -200,7 +207,8 @@ quarter-life (Named name) d q h other e r = absurd (true_false false r refl)
 -- the line of a square whose quarters have numbers
 pub quad-line : (rule : Rule) (t a b c d : Tree) (level na nb nc nd : ℕ) (all all1 all2 all3 all4 whole rest : List Tree) → t ≡ quad a b c d → IsFull t
     → (is_life rule ≡ true → 3 ≤ depth t) → (is_life rule && depth t == 3) ≡ false → level ≡ depth t → IsClosed (least_level rule) all
-    → all1 ≡ with_all all (walk a (least_level rule)) → all2 ≡ with_all all1 (walk b (least_level rule)) → all3 ≡ with_all all2 (walk c (least_level rule)) → all4 ≡ with_all all3 (walk d (least_level rule))
+    → all1 ≡ with_all all (walk a (least_level rule)) → all2 ≡ with_all all1 (walk b (least_level rule)) → all3 ≡ with_all all2 (walk c (least_level rule))
+    → all4 ≡ with_all all3 (walk d (least_level rule))
     → na ≡ number_of all1 a → nb ≡ number_of all2 b → nc ≡ number_of all3 c → nd ≡ number_of all4 d → whole ≡ (all4 ++ t ∷ []) ++ rest
     → Quad level na nb nc nd ≡ line_of rule whole t
 quad-line rule t a b c d level na nb nc nd all all1 all2 all3 all4 whole rest e full high other l h p1 p2 p3 p4 ea eb ec ed w =
@@ -227,14 +235,16 @@ quad-line rule t a b c d level na nb nc nd all all1 all2 all3 all4 whole rest e 
 
 -- ---- the two ways to end
 
-pub big : (rule : Rule) (t : Tree) (level : ℕ) → level ≡ depth t → (is_life rule ≡ true → 3 ≤ level) → (1 ≤ depth t) × (is_blank t ≡ false) → is_small (least_level rule) t ≡ false
+pub big : (rule : Rule) (t : Tree) (level : ℕ) → level ≡ depth t → (is_life rule ≡ true → 3 ≤ level) → (1 ≤ depth t) × (is_blank t ≡ false)
+    → is_small (least_level rule) t ≡ false
 big rule t level l high p = not_small (least_level rule) t (depth t) refl (large rule (depth t) (λ r. subst (λ n. 3 ≤ n) l (high r)) p.0) p.1
 
 pub leaf-level : (rule : Rule) (t : Tree) (level : ℕ) → level ≡ depth t → (is_life rule && level == 3) ≡ true → depth t ≡ least_level rule
 leaf-level (Life sets) t level l h = grind (arith, nat_tests)
 leaf-level (Named name) t level l h = absurd (true_false false h refl)
 
-pub leaf-line : (rule : Rule) (t : Tree) (level : ℕ) (line : Line) (all : List Tree) → level ≡ depth t → (is_life rule && level == 3) ≡ true → line ≡ Leaf (rows_of t) → line ≡ line_of rule all t
+pub leaf-line : (rule : Rule) (t : Tree) (level : ℕ) (line : Line) (all : List Tree) → level ≡ depth t → (is_life rule && level == 3) ≡ true
+    → line ≡ Leaf (rows_of t) → line ≡ line_of rule all t
 leaf-line rule t level line all l h e =
     let q : (is_life rule && depth t == 3) ≡ true = ap (λ n. is_life rule && n == 3) (sym l) ∙ h in
     rw q e
@@ -249,17 +259,20 @@ pub leaf-walk : (rule : Rule) (t : Tree) (all new : List Tree) → is_small (lea
 leaf-walk rule t all new small full l absent e = least-step t (least_level rule) all new (least-one rule) small full l (e ∙ sym (with_new-fresh all t absent))
 
 -- a square isn't there behind its quarters
-pub absent-still : (m : ℕ) (t a b c d : Tree) (all all1 all2 all3 all4 : List Tree) → IsFull t → t ≡ quad a b c d → all1 ≡ with_all all (walk a m) → all2 ≡ with_all all1 (walk b m)
+pub absent-still : (m : ℕ) (t a b c d : Tree) (all all1 all2 all3 all4 : List Tree) → IsFull t → t ≡ quad a b c d → all1 ≡ with_all all (walk a m)
+    → all2 ≡ with_all all1 (walk b m)
     → all3 ≡ with_all all2 (walk c m) → all4 ≡ with_all all3 (walk d m) → is_in all t ≡ false → is_in all4 t ≡ false
 absent-still m t a b c d all all1 all2 all3 all4 full e p1 p2 p3 p4 absent =
     let f = subst IsFull e full in
     let deep : depth t ≡ depth a + 1 = ap depth e ∙ omega arith in
     fresh m all3 all4 d t p4 f.3 (omega (arith, deep, f.6))
-    (fresh m all2 all3 c t p3 f.2 (omega (arith, deep, f.5)) (fresh m all1 all2 b t p2 f.1 (omega (arith, deep, f.4)) (fresh m all all1 a t p1 f.0 (omega (arith, deep)) absent)))
+    (fresh m all2 all3 c t p3 f.2 (omega (arith, deep, f.5))
+    (fresh m all1 all2 b t p2 f.1 (omega (arith, deep, f.4)) (fresh m all all1 a t p1 f.0 (omega (arith, deep)) absent)))
 
 -- it is added behind them
 pub quad-walk : (rule : Rule) (t a b c d : Tree) (all all1 all2 all3 all4 new : List Tree) → is_small (least_level rule) t ≡ false → t ≡ quad a b c d
-    → all1 ≡ with_all all (walk a (least_level rule)) → all2 ≡ with_all all1 (walk b (least_level rule)) → all3 ≡ with_all all2 (walk c (least_level rule)) → all4 ≡ with_all all3 (walk d (least_level rule))
+    → all1 ≡ with_all all (walk a (least_level rule)) → all2 ≡ with_all all1 (walk b (least_level rule)) → all3 ≡ with_all all2 (walk c (least_level rule))
+    → all4 ≡ with_all all3 (walk d (least_level rule))
     → is_in all4 t ≡ false → new ≡ all4 ++ t ∷ [] → new ≡ with_all all (walk t (least_level rule))
 quad-walk rule t a b c d all all1 all2 all3 all4 new small e p1 p2 p3 p4 absent n =
     step t a b c d (least_level rule) all all1 all2 all3 all4 new small e p1 p2 p3 p4 (n ∙ sym (with_new-fresh all4 t absent))
@@ -268,9 +281,11 @@ module _ {K : Type 0} (content : K → Tree) (ids new : List K) (id : K) (added 
   pub trees-more : map content new ≡ map content ids ++ content id ∷ []
   trees-more = ap (map content) added ∙ map-append content ids (id ∷ [])
 
-  pub number-pushed : (n : ℕ) → n ≡ length new → (1 ≤ depth (content id)) × (is_blank (content id) ≡ false) → is_in (map content ids) (content id) ≡ false → n ≡ number_of (map content new) (content id)
+  pub number-pushed : (n : ℕ) → n ≡ length new → (1 ≤ depth (content id)) × (is_blank (content id) ≡ false) → is_in (map content ids) (content id) ≡ false
+      → n ≡ number_of (map content new) (content id)
   number-pushed n e p absent =
-      let long : length new ≡ length (map content ids) + 1 = sym (length-map new content) ∙ ap length trees-more ∙ length-append (map content ids) (content id ∷ []) in
+      let long : length new ≡ length (map content ids) + 1 = sym (length-map new content) ∙ ap length trees-more
+      ∙ length-append (map content ids) (content id ∷ []) in
       e ∙ long ∙ sym (number-last (map content ids) (content id) p.0 p.1 absent) ∙ ap (λ l. number_of l (content id)) (sym trees-more)
 
 -- ---- a square above the leaves: its quarters are walked one behind the other, and then it is added
@@ -384,7 +399,8 @@ pub root-high : (rule : Rule) (level : ℕ) → least_level rule ≤ level → i
 root-high (Life sets) level h e = h
 root-high (Named name) level h e = absurd (true_false false e refl)
 
-pub whole-written : (rule : Rule) (root : Tree) (old new : List Tree) (a b : Option (List ℕ)) (front held : List ℕ) → old ≡ [] → new ≡ with_all old (walk root (least_level rule))
+pub whole-written : (rule : Rule) (root : Tree) (old new : List Tree) (a b : Option (List ℕ)) (front held : List ℕ) → old ≡ []
+    → new ≡ with_all old (walk root (least_level rule))
     → WritesOn rule a b front held old new → WritesFront a b (front ++ flat_map node_text (lines_for rule (listed root (least_level rule)))) held
 unfolding listed
 whole-written rule root old new a b front held e p w =
@@ -392,9 +408,11 @@ whole-written rule root old new a b front held e p w =
     let n : new ≡ all = p ∙ ap (λ l. with_all l (walk root (least_level rule))) e in
     subst (λ l. WritesFront a b (front ++ lines_text rule all l) held) n (w a front all [] (sym n ∙ sym (append-nil new)) (begins rule a front all old e))
 
-pub whole-broken : (rule : Rule) (root : Tree) (old : List Tree) (a b : Option (List ℕ)) (front : List ℕ) → old ≡ [] → BreaksIn rule a b front old (with_all old (walk root (least_level rule)))
+pub whole-broken : (rule : Rule) (root : Tree) (old : List Tree) (a b : Option (List ℕ)) (front : List ℕ) → old ≡ []
+    → BreaksIn rule a b front old (with_all old (walk root (least_level rule)))
     → WritesPrefix a b (front ++ flat_map node_text (lines_for rule (listed root (least_level rule))))
 unfolding listed
 whole-broken rule root old a b front e w =
     let m = least_level rule in
-    w a front (with_all [] (walk root m)) [] (ap (λ l. with_all l (walk root m)) (sym e) ∙ sym (append-nil (with_all old (walk root m)))) (begins rule a front (with_all [] (walk root m)) old e)
+    w a front (with_all [] (walk root m)) [] (ap (λ l. with_all l (walk root m)) (sym e) ∙ sym (append-nil (with_all old (walk root m))))
+    (begins rule a front (with_all [] (walk root m)) old e)

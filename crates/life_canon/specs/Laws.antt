@@ -69,7 +69,8 @@ CanonicalIsLeast top = (u : Universe) → IsOnPlane top u → IsLeast top u (nod
 -- two of them have one line
 abbrev pub SquaresHavePlaces : ℕ → Type 0
 SquaresHavePlaces top =
-    (u : Universe) (b : List ℕ) (file : Macrocell) → IsOnPlane top u → IsMacrocell top b file → IsSame u (macrocell_universe file) → IsRival file → HasPlaces top u file
+    (u : Universe) (b : List ℕ) (file : Macrocell) → IsOnPlane top u → IsMacrocell top b file → IsSame u (macrocell_universe file) → IsRival file
+    → HasPlaces top u file
 
 -- on every wider plane, up to level 62, a pattern has the same canonical text, and that text is accepted and says the same there
 abbrev pub WiderPlaneKeepsTexts : Type 0
@@ -86,7 +87,8 @@ WiderPlanesKeepFiles =
 -- a pattern that was read may be numbered, and has the cells of the file
 abbrev pub PatternsFit : ℕ → Type 0
 PatternsFit top =
-    (bytes : List ℕ) (store : Nodes) (pattern : Pattern) (read : IsRead top bytes store pattern) → IsTrimmed store pattern × IsSame read.universe (universe_in store pattern)
+    (bytes : List ℕ) (store : Nodes) (pattern : Pattern) (read : IsRead top bytes store pattern) → IsTrimmed store pattern
+    × IsSame read.universe (universe_in store pattern)
 
 -- what was read into a store stays read while the store keeps its squares
 abbrev pub PatternsStay : ℕ → Type 0

@@ -34,7 +34,8 @@ last_rule : (lines : List (List ℕ)) (rule : Rule) → IsRule rule → IsRule (
 last_rule [] rule h = h
 last_rule (line ∷ lines) rule h = by (rule_on line) refl (λ r k. last_rule lines r k)
   where
-    by : (o : Option Rule) → rule_on line ≡ o → ((r : Rule) → IsRule r → IsRule (last_or r (filter_map rule_on lines))) → IsRule (last_or rule (cons_option o (filter_map rule_on lines)))
+    by : (o : Option Rule) → rule_on line ≡ o → ((r : Rule) → IsRule r → IsRule (last_or r (filter_map rule_on lines)))
+        → IsRule (last_or rule (cons_option o (filter_map rule_on lines)))
     by None e more = more rule h
     by (Some said) e more = more said (rule_said line said e)
 
@@ -79,7 +80,8 @@ module _ (top : ℕ) (before : List (List ℕ)) (line : List ℕ) where
   judged = cond (begins_with line (codes "#")) None (broken_by_node top (rule_in_force before) (map level_of (squares_of before)) (trim line))
 
   checked : (b f r g l : Bool) → b ≡ false → r ≡ false → g ≡ true
-      → cond b None (cond f (Some Timeline) (cond ((r || g) && l) (Some LateHeader) (cond r (fault_in (rule_of (drop 2 line))) (cond g (fault_in (u64_of (trim (drop 2 line)))) judged)))) ≡ None
+      → cond b None (cond f (Some Timeline)
+      (cond ((r || g) && l) (Some LateHeader) (cond r (fault_in (rule_of (drop 2 line))) (cond g (fault_in (u64_of (trim (drop 2 line)))) judged)))) ≡ None
       → fault_in (u64_of (trim (drop 2 line))) ≡ None
   checked true f r g l p q s h = cc
   checked false true r g l p q s h = cc
@@ -91,10 +93,12 @@ module _ (top : ℕ) (before : List (List ℕ)) (line : List ℕ) where
   generation_fits : broken_behind top before line ≡ None → is_command 71 line ≡ true → value_of (trim (drop 2 line)) < 2 ^ 64
   generation_fits h g =
       let n = no_other line g in
-      let c : fault_in (u64_of (trim (drop 2 line))) ≡ None = checked (is_blank line) (begins_with line (codes "#FRAME")) (is_command 82 line) (is_command 71 line) late n.0 n.1 g h in
+      let c : fault_in (u64_of (trim (drop 2 line))) ≡ None = checked (is_blank line) (begins_with line (codes "#FRAME")) (is_command 82 line)
+      (is_command 71 line) late n.0 n.1 g h in
       number_fits (is_digit_text (trim (drop 2 line))) (nat_le (value_of (trim (drop 2 line))) (2 ^ 64 - 1)) (value_of (trim (drop 2 line))) refl c
 
-behind : (top : ℕ) (header : List ℕ) (front : List (List ℕ)) (line : List ℕ) → broken top (header ∷ front) line ≡ None → broken_behind top (header ∷ front) line ≡ None
+behind : (top : ℕ) (header : List ℕ) (front : List (List ℕ)) (line : List ℕ) → broken top (header ∷ front) line ≡ None → broken_behind top (header ∷ front) line
+    ≡ None
 unfolding broken
 behind top header front line h = passed (is_too_long line) LineTooLong _ h
 
@@ -111,14 +115,18 @@ last_generation : (lines : List (List ℕ)) (generation : ℕ) → generation < 
 last_generation [] generation h fits = h
 last_generation (line ∷ lines) generation h fits = by (generation_on line) refl (λ g k. last_generation lines g k (λ j l. fits (suc j) (omega arith)))
   where
-    by : (o : Option ℕ) → generation_on line ≡ o → ((g : ℕ) → g < 2 ^ 64 → last_or g (filter_map generation_on lines) < 2 ^ 64) → last_or generation (cons_option o (filter_map generation_on lines)) < 2 ^ 64
+    by : (o : Option ℕ) → generation_on line ≡ o → ((g : ℕ) → g < 2 ^ 64 → last_or g (filter_map generation_on lines) < 2 ^ 64)
+        → last_or generation (cons_option o (filter_map generation_on lines)) < 2 ^ 64
     by None e more = more generation h
     by (Some said) e more = more said (generation_said line said e (fits 0 (omega arith)))
 
-generation_valid : (top : ℕ) (lines : List (List ℕ)) → ((k : ℕ) → k < length lines → broken top (take k lines) (get_or lines k []) ≡ None) → generation_in_force lines < 2 ^ 64
+generation_valid : (top : ℕ) (lines : List (List ℕ)) → ((k : ℕ) → k < length lines → broken top (take k lines) (get_or lines k []) ≡ None)
+    → generation_in_force lines < 2 ^ 64
 generation_valid top [] u = omega arith
 generation_valid top (header ∷ lines) u =
-    last_generation lines 0 (omega arith) (λ k l. generation_fits top (header ∷ take k lines) (get_or lines k []) (behind top header (take k lines) (get_or lines k []) (u (suc k) (omega arith))))
+    last_generation lines 0 (omega arith)
+    (λ k l. generation_fits top (header ∷ take k lines) (get_or lines k [])
+    (behind top header (take k lines) (get_or lines k []) (u (suc k) (omega arith))))
 
 -- ---- the file
 

@@ -24,15 +24,19 @@ no e = cc
 -- ---- at the front
 
 pub begins : (front line : List ℕ) → begins_with line front ≡ true → Begins front line
-begins front line h =
-    (drop (length front) line, sym (take-append-drop (length front) line) ∙ ap (λ (t : List ℕ). t ++ drop (length front) line) ((bytes_eq-Decides (take (length front) line) front).0 h))
+begins front line h = (
+  drop (length front) line,
+  sym (take-append-drop (length front) line)
+      ∙ ap (λ (t : List ℕ). t ++ drop (length front) line) ((bytes_eq-Decides (take (length front) line) front).0 h),
+)
 
 pub begun : (front line : List ℕ) → Begins front line → begins_with line front ≡ true
 begun front line b = (bytes_eq-Decides (take (length front) line) front).1 (ap (take (length front)) b.1 ∙ take-append_seam front b.0)
 
 pub commands : (letter : ℕ) (line : List ℕ) → is_command letter line ≡ true → IsCommand (35 ∷ letter ∷ []) (drop 2 line) line
 commands letter line h = (
-  sym (take-append-drop 2 line) ∙ ap (λ (t : List ℕ). t ++ drop 2 line) ((bytes_eq-Decides (take 2 line) (35 ∷ letter ∷ [])).0 (first (begins_with line (35 ∷ letter ∷ [])) _ h)),
+  sym (take-append-drop 2 line) ∙ ap (λ (t : List ℕ). t ++ drop 2 line)
+      ((bytes_eq-Decides (take 2 line) (35 ∷ letter ∷ [])).0 (first (begins_with line (35 ∷ letter ∷ [])) _ h)),
   second (begins_with line (35 ∷ letter ∷ [])) _ h,
 )
 
@@ -57,7 +61,8 @@ blank_ends (b ∷ text) h = ap (λ v. cond v [] (b ∷ trim_end text)) h
 blank_back : (text behind : List ℕ) → is_blank behind ≡ true → trim_end (text ++ behind) ≡ trim_end text
 blank_back [] behind h = blank_ends behind h
 blank_back (b ∷ text) behind h =
-    let all : is_blank (text ++ behind) ≡ is_blank text = list_all-append is_whitespace text behind ∙ ap (λ v. is_blank text && v) h ∙ and-true (is_blank text) in
+    let all : is_blank (text ++ behind) ≡ is_blank text = list_all-append is_whitespace text behind ∙ ap (λ v. is_blank text && v) h
+    ∙ and-true (is_blank text) in
     ap (λ v. cond (is_whitespace b && v) [] (b ∷ trim_end (text ++ behind))) all
     ∙ ap (λ (t : List ℕ). cond (is_blank (b ∷ text)) [] (b ∷ t)) (blank_back text behind h)
 
@@ -105,7 +110,8 @@ step_to b text v w = cond v (words_of text) (cond w ((b ∷ []) ∷ words_of tex
 blank_words : (before text : List ℕ) → is_blank before ≡ true → words_of (before ++ text) ≡ words_of text
 blank_words [] text h = refl
 blank_words (b ∷ before) text h =
-    ap (λ v. step_to b (before ++ text) v (is_blank (take 1 (before ++ text)))) (first (is_whitespace b) _ h) ∙ blank_words before text (second (is_whitespace b) _ h)
+    ap (λ v. step_to b (before ++ text) v (is_blank (take 1 (before ++ text)))) (first (is_whitespace b) _ h)
+    ∙ blank_words before text (second (is_whitespace b) _ h)
 
 no_words : (text : List ℕ) → is_blank text ≡ true → words_of text ≡ []
 no_words text h = ap words_of (sym (append-nil text)) ∙ blank_words text [] h
@@ -130,7 +136,8 @@ words_trimmed line =
     let e = end_split (trim_start line) in
     sym (words_back (trim line) e.0 e.2) ∙ ap words_of (sym e.1) ∙ trimmed_words line
 
-first_word : (b : ℕ) (word rest : List ℕ) → list_all solid (b ∷ word) ≡ true → is_blank (take 1 rest) ≡ true → words_of ((b ∷ word) ++ rest) ≡ (b ∷ word) ∷ words_of rest
+first_word : (b : ℕ) (word rest : List ℕ) → list_all solid (b ∷ word) ≡ true → is_blank (take 1 rest) ≡ true
+    → words_of ((b ∷ word) ++ rest) ≡ (b ∷ word) ∷ words_of rest
 first_word b [] rest h k =
     ap (λ v. step_to b rest v (is_blank (take 1 rest))) (not-true (is_whitespace b) (first (solid b) _ h)) ∙ ap (λ w. step_to b rest false w) k
 first_word b (c ∷ word) rest h k =
@@ -144,7 +151,8 @@ digit_solid b h = grind (arith, nat_tests)
 
 pub digits_solid : (text : List ℕ) → list_all is_ascii_digit text ≡ true → list_all solid text ≡ true
 digits_solid [] h = refl
-digits_solid (b ∷ text) h = ap (λ v. v && list_all solid text) (digit_solid b (first (is_ascii_digit b) _ h)) ∙ digits_solid text (second (is_ascii_digit b) _ h)
+digits_solid (b ∷ text) h = ap (λ v. v && list_all solid text) (digit_solid b (first (is_ascii_digit b) _ h))
+    ∙ digits_solid text (second (is_ascii_digit b) _ h)
 
 digit_word : (text rest : List ℕ) → is_digit_text text ≡ true → is_blank (take 1 rest) ≡ true → words_of (text ++ rest) ≡ text ∷ words_of rest
 digit_word [] rest h k = cc
@@ -169,7 +177,8 @@ one_byte b (t ∷ texts) text h s = by s.0 s.2 s.3
     by [] e w = ([], s.1, ap (λ (u : List ℕ). b ∷ u) e, refl, s.4, s.5)
     by (c ∷ before) e w = absurd (no (sym (ap (λ v. v && true) (first (is_whitespace c) _ w)) ∙ sym (ap (λ (u : List ℕ). is_blank (take 1 u)) e) ∙ h))
 
-step_word : (b : ℕ) (text : List ℕ) (v w : Bool) → is_whitespace b ≡ v → is_blank (take 1 text) ≡ w → Separates (words_of text) text → Separates (step_to b text v w) (b ∷ text)
+step_word : (b : ℕ) (text : List ℕ) (v w : Bool) → is_whitespace b ≡ v → is_blank (take 1 text) ≡ w → Separates (words_of text) text
+    → Separates (step_to b text v w) (b ∷ text)
 step_word b text true w h k s = one_blank b (words_of text) text h s
 step_word b text false true h k s = ([], text, refl, refl, k, s)
 step_word b text false false h k s = one_byte b (words_of text) text k s

@@ -45,11 +45,23 @@ record Tests (line : List ℕ) (blank frame rule generation hash : Bool) : Type 
 blank_tests : (line : List ℕ) → is_blank line ≡ true → Tests line true false false false false
 blank_tests line h =
     let hash = blank_no_hash line h in
-    record { is_blank = h; is_frame = no_hash_no_frame line hash; is_rule = no_command 0 82 line hash; is_generation = no_command 0 71 line hash; is_hash = hash }
+    record {
+      is_blank = h;
+      is_frame = no_hash_no_frame line hash;
+      is_rule = no_command 0 82 line hash;
+      is_generation = no_command 0 71 line hash;
+      is_hash = hash;
+    }
 
 node_tests : (line : List ℕ) → is_blank line ≡ false → begins_with line (codes "#") ≡ false → Tests line false false false false false
 node_tests line b hash =
-    record { is_blank = b; is_frame = no_hash_no_frame line hash; is_rule = no_command 0 82 line hash; is_generation = no_command 0 71 line hash; is_hash = hash }
+    record {
+      is_blank = b;
+      is_frame = no_hash_no_frame line hash;
+      is_rule = no_command 0 82 line hash;
+      is_generation = no_command 0 71 line hash;
+      is_hash = hash;
+    }
 
 comment_tests : (line : List ℕ) → IsComment line → Tests line false false false false true
 comment_tests line h =
@@ -66,13 +78,25 @@ rule_tests : (line rest : List ℕ) → IsCommand (codes "#R") rest line → Tes
 rule_tests line rest h =
     let is = commanded 82 rest line h in
     let hash = command_is_hash 0 82 line is in
-    record { is_blank = hash_not_blank 0 line hash; is_frame = ap (λ l. begins_with l (codes "#FRAME")) h.0; is_rule = is; is_generation = ap (is_command 71) h.0; is_hash = hash }
+    record {
+      is_blank = hash_not_blank 0 line hash;
+      is_frame = ap (λ l. begins_with l (codes "#FRAME")) h.0;
+      is_rule = is;
+      is_generation = ap (is_command 71) h.0;
+      is_hash = hash;
+    }
 
 generation_tests : (line rest : List ℕ) → IsCommand (codes "#G") rest line → Tests line false false false true true
 generation_tests line rest h =
     let is = commanded 71 rest line h in
     let hash = command_is_hash 0 71 line is in
-    record { is_blank = hash_not_blank 0 line hash; is_frame = ap (λ l. begins_with l (codes "#FRAME")) h.0; is_rule = ap (is_command 82) h.0; is_generation = is; is_hash = hash }
+    record {
+      is_blank = hash_not_blank 0 line hash;
+      is_frame = ap (λ l. begins_with l (codes "#FRAME")) h.0;
+      is_rule = ap (is_command 82) h.0;
+      is_generation = is;
+      is_hash = hash;
+    }
 
 -- ---- a node line
 
@@ -133,7 +157,8 @@ no_generation_on : (line : List ℕ) → is_command 71 line ≡ false → genera
 no_generation_on line h = ap (λ v. cond v (Some (value_of (trim (drop 2 line)))) None) h
 
 hash_no_square : (line : List ℕ) → begins_with line (codes "#") ≡ true → square_on line ≡ None
-hash_no_square line h = ap (λ v. cond (not (is_blank line) && not v) (square_of (trim line)) None) h ∙ ap (λ v. cond v (square_of (trim line)) None) (and-false (not (is_blank line)))
+hash_no_square line h = ap (λ v. cond (not (is_blank line) && not v) (square_of (trim line)) None) h
+    ∙ ap (λ v. cond v (square_of (trim line)) None) (and-false (not (is_blank line)))
 
 number_read : (line : List ℕ) (generation : ℕ) → (h : IsGenerationLine line generation) → trim (drop 2 line) ≡ h.digits
 number_read line generation h = ap trim (behind_command 71 h.rest line h.is) ∙ by h.digits h.number h.around
@@ -145,14 +170,19 @@ number_read line generation h = ap trim (behind_command 71 h.rest line h.is) ∙
 pub gives : (line : List ℕ) (form : Form) → HasForm line form → Gives line form
 gives line blank_line h =
     let t = blank_tests line h in
-    record { rule = no_rule_on line t.is_rule; generation = no_generation_on line t.is_generation; square = ap (λ v. cond (not v && not (begins_with line (codes "#"))) (square_of (trim line)) None) h }
+    record {
+      rule = no_rule_on line t.is_rule;
+      generation = no_generation_on line t.is_generation;
+      square = ap (λ v. cond (not v && not (begins_with line (codes "#"))) (square_of (trim line)) None) h;
+    }
 gives line comment_line h =
     let t = comment_tests line h in
     record { rule = no_rule_on line t.is_rule; generation = no_generation_on line t.is_generation; square = hash_no_square line t.is_hash }
 gives line (rule_line rule) h =
     let t = rule_tests line h.text h.is in
     record {
-      rule = ap (λ v. cond v (result_ok (rule_of (drop 2 line))) None) t.is_rule ∙ ap (λ s. result_ok (rule_of s)) (behind_command 82 h.text line h.is) ∙ ap result_ok h.says;
+      rule = ap (λ v. cond v (result_ok (rule_of (drop 2 line))) None) t.is_rule ∙ ap (λ s. result_ok (rule_of s)) (behind_command 82 h.text line h.is)
+          ∙ ap result_ok h.says;
       generation = no_generation_on line t.is_generation;
       square = hash_no_square line t.is_hash;
     }
@@ -160,7 +190,8 @@ gives line (generation_line generation) h =
     let t = generation_tests line h.rest h.is in
     record {
       rule = no_rule_on line t.is_rule;
-      generation = ap (λ v. cond v (Some (value_of (trim (drop 2 line)))) None) t.is_generation ∙ ap (λ s. Some (value_of s)) (number_read line generation h) ∙ ap Some h.value;
+      generation = ap (λ v. cond v (Some (value_of (trim (drop 2 line)))) None) t.is_generation ∙ ap (λ s. Some (value_of s)) (number_read line generation h)
+          ∙ ap Some h.value;
       square = hash_no_square line t.is_hash;
     }
 gives line (node_line square) h =
@@ -169,17 +200,20 @@ gives line (node_line square) h =
     record {
       rule = no_rule_on line t.is_rule;
       generation = no_generation_on line t.is_generation;
-      square = ap (λ v. cond (not v && not (begins_with line (codes "#"))) (square_of (trim line)) None) n.blank ∙ ap (λ v. cond (not v) (square_of (trim line)) None) n.hash ∙ n.square_is;
+      square = ap (λ v. cond (not v && not (begins_with line (codes "#"))) (square_of (trim line)) None) n.blank
+          ∙ ap (λ v. cond (not v) (square_of (trim line)) None) n.hash ∙ n.square_is;
     }
 
 -- ---- a line of a form breaks no rule
 
 abbrev chain : Bool → Bool → Bool → Bool → Bool → Bool → Option Kind → Option Kind → Option Kind → Option Kind
 chain blank frame rule generation late hash by_rule by_generation by_node =
-    cond blank None (cond frame (Some Timeline) (cond ((rule || generation) && late) (Some LateHeader) (cond rule by_rule (cond generation by_generation (cond hash None by_node)))))
+    cond blank None (cond frame (Some Timeline)
+    (cond ((rule || generation) && late) (Some LateHeader) (cond rule by_rule (cond generation by_generation (cond hash None by_node)))))
 
 by_tests : (line : List ℕ) (b f r g h : Bool) (l : Bool) (x y z : Option Kind) → Tests line b f r g h
-    → chain (is_blank line) (begins_with line (codes "#FRAME")) (is_command 82 line) (is_command 71 line) l (begins_with line (codes "#")) x y z ≡ chain b f r g l h x y z
+    → chain (is_blank line) (begins_with line (codes "#FRAME")) (is_command 82 line) (is_command 71 line) l (begins_with line (codes "#")) x y z
+    ≡ chain b f r g l h x y z
 by_tests line b f r g h l x y z t =
     ap (λ v. chain v (begins_with line (codes "#FRAME")) (is_command 82 line) (is_command 71 line) l (begins_with line (codes "#")) x y z) t.is_blank
     ∙ ap (λ v. chain b v (is_command 82 line) (is_command 71 line) l (begins_with line (codes "#")) x y z) t.is_frame
@@ -206,7 +240,8 @@ module _ (top : ℕ) (before : List (List ℕ)) (line : List ℕ) where
   by_node = broken_by_node top (rule_in_force before) (map level_of (squares_of before)) (trim line)
 
   -- a line that gives no square
-  pub parsed_stands : (form : Form) → HasForm line form → form_square form ≡ None → (is_no_command form ≡ false → squares_of before ≡ []) → broken_behind top before line ≡ None
+  pub parsed_stands : (form : Form) → HasForm line form → form_square form ≡ None → (is_no_command form ≡ false → squares_of before ≡ [])
+      → broken_behind top before line ≡ None
   parsed_stands blank_line h n k = by_tests line true false false false false late by_rule by_generation by_node (blank_tests line h)
   parsed_stands comment_line h n k = by_tests line false false false false true late by_rule by_generation by_node (comment_tests line h)
   parsed_stands (rule_line rule) h n k =
@@ -221,7 +256,8 @@ module _ (top : ℕ) (before : List (List ℕ)) (line : List ℕ) where
   parsed_stands (node_line square) h n k = cc
 
   -- a node line
-  pub node_stands : (square : Line) → IsNodeLine line square → broken_by_square top (rule_in_force before) (map level_of (squares_of before)) (Some square) ≡ None → broken_behind top before line ≡ None
+  pub node_stands : (square : Line) → IsNodeLine line square → broken_by_square top (rule_in_force before) (map level_of (squares_of before)) (Some square)
+      ≡ None → broken_behind top before line ≡ None
   node_stands square h b =
       let n = is_node line square h in
       by_tests line false false false false false late by_rule by_generation by_node (node_tests line n.blank n.hash)
@@ -241,7 +277,8 @@ ok_of : {X : Type 0} (r : Result X Kind) → fault_in r ≡ None → (x : X) × 
 ok_of (Ok x) h = (x, refl)
 ok_of (Err kind) h = cc
 
-both_pass : (v w : Bool) (n : ℕ) → fault_in (let r : Result ℕ Kind = cond (not v) (Err BadNumber) (cond w (Ok n) (Err TooLarge)) in r) ≡ None → (v ≡ true) × (w ≡ true)
+both_pass : (v w : Bool) (n : ℕ) → fault_in (let r : Result ℕ Kind = cond (not v) (Err BadNumber) (cond w (Ok n) (Err TooLarge)) in r) ≡ None → (v ≡ true)
+    × (w ≡ true)
 both_pass true true n h = (refl, refl)
 both_pass true false n h = cc
 both_pass false w n h = cc
@@ -255,7 +292,8 @@ record Five (numbers : List ℕ) : Type 0 where
   pub is : numbers ≡ level ∷ nw ∷ ne ∷ sw ∷ se ∷ []
 
 -- five numbers are a quarter line
-quarter_line : (line : List ℕ) (words : List (List ℕ)) → words ≡ words_of line → list_all is_digit_text words ≡ true → Five (map value_of words) → (square : Line) × IsNodeLine line square
+quarter_line : (line : List ℕ) (words : List (List ℕ)) → words ≡ words_of line → list_all is_digit_text words ≡ true → Five (map value_of words)
+    → (square : Line) × IsNodeLine line square
 quarter_line line words e d five = (
   Quad five.level five.nw five.ne five.sw five.se,
   record {
@@ -302,20 +340,23 @@ module _ (top : ℕ) (rule : Rule) (levels : List ℕ) where
       ]
 
 -- a line that tells a rule or a generation and breaks no rule stands in front of all squares
-pub command_first : (top : ℕ) (before : List (List ℕ)) (line : List ℕ) (form : Form) → HasForm line form → is_no_command form ≡ false → broken_behind top before line ≡ None
+pub command_first : (top : ℕ) (before : List (List ℕ)) (line : List ℕ) (form : Form) → HasForm line form → is_no_command form ≡ false
+    → broken_behind top before line ≡ None
     → nat_lt 0 (length (squares_of before)) ≡ false
 command_first top before line blank_line h n e = cc
 command_first top before line comment_line h n e = cc
 command_first top before line (node_line square) h n e = cc
 command_first top before line (rule_line rule) h n e =
     elim (split (late top before line) (Some LateHeader) (by_rule top before line)
-    (sym (by_tests line false false true false true (late top before line) (by_rule top before line) (by_generation top before line) (by_node top before line) (rule_tests line h.text h.is)) ∙ e)) [
+    (sym (by_tests line false false true false true (late top before line) (by_rule top before line) (by_generation top before line) (by_node top before line)
+    (rule_tests line h.text h.is)) ∙ e)) [
       | inl p ↦ absurd (some_none LateHeader p.1)
       | inr p ↦ p.0
     ]
 command_first top before line (generation_line generation) h n e =
     elim (split (late top before line) (Some LateHeader) (by_generation top before line)
-    (sym (by_tests line false false false true true (late top before line) (by_rule top before line) (by_generation top before line) (by_node top before line) (generation_tests line h.rest h.is)) ∙ e)) [
+    (sym (by_tests line false false false true true (late top before line) (by_rule top before line) (by_generation top before line) (by_node top before line)
+    (generation_tests line h.rest h.is)) ∙ e)) [
       | inl p ↦ absurd (some_none LateHeader p.1)
       | inr p ↦ p.0
     ]
@@ -334,7 +375,15 @@ form_on top before line h = elim (split (is_blank line) None _ h) [
               let ok = both_pass (is_digit_text text) (nat_le (value_of text) (2 ^ 64 - 1)) (value_of text) t.1 in
               let low = leb-true (value_of text) (2 ^ 64 - 1) ok.1 in (
                 generation_line (value_of text),
-                record { rest = drop 2 line; digits = text; is = commands 71 line t.0; around = trimmed_around (drop 2 line); number = ok.0; value = refl; fits = omega arith },
+                record {
+                  rest = drop 2 line;
+                  digits = text;
+                  is = commands 71 line t.0;
+                  around = trimmed_around (drop 2 line);
+                  number = ok.0;
+                  value = refl;
+                  fits = omega arith;
+                },
               ))
           | inr t ↦ elim (split (begins_with line (codes "#")) None _ t.1) [
             | inl u ↦ (

@@ -56,12 +56,14 @@ module _ (top : ℕ) where
   header_begins true h = refl
   header_begins false h = cc
 
-all_short : (lines : List (List ℕ)) → ((k : ℕ) → k < length lines → is_too_long (get_or lines k []) ≡ false) → list_all (λ line. nat_le (length line) (2 ^ 20)) lines ≡ true
+all_short : (lines : List (List ℕ)) → ((k : ℕ) → k < length lines → is_too_long (get_or lines k []) ≡ false)
+    → list_all (λ line. nat_le (length line) (2 ^ 20)) lines ≡ true
 all_short [] h = refl
 all_short (line ∷ lines) h =
     ap (λ v. v && list_all (λ l. nat_le (length l) (2 ^ 20)) lines) (is_short line (h 0 (omega arith))) ∙ all_short lines (λ k l. h (suc k) (omega arith))
 
-short_at : (lines : List (List ℕ)) → list_all (λ line. nat_le (length line) (2 ^ 20)) lines ≡ true → (k : ℕ) → k < length lines → is_too_long (get_or lines k []) ≡ false
+short_at : (lines : List (List ℕ)) → list_all (λ line. nat_le (length line) (2 ^ 20)) lines ≡ true → (k : ℕ) → k < length lines
+    → is_too_long (get_or lines k []) ≡ false
 short_at [] h k l = absurd (omega arith)
 short_at (line ∷ lines) h zero l = no_long line (and_first (nat_le (length line) (2 ^ 20)) _ h)
   where
@@ -86,13 +88,18 @@ same_map f g same [] [] z = refl
 same_map f g same [] (form ∷ forms) z = absurd z
 same_map f g same (line ∷ lines) [] z = absurd z
 same_map {X = X} f g same (line ∷ lines) (form ∷ forms) z =
-    filter_step f line lines (g form) (same line form z.0) ∙ ap (λ (t : List X). option_list (g form) ++ t) (same_map f g same lines forms z.1) ∙ sym (filter_step g form forms (g form) refl)
+    filter_step f line lines (g form) (same line form z.0) ∙ ap (λ (t : List X). option_list (g form) ++ t) (same_map f g same lines forms z.1)
+    ∙ sym (filter_step g form forms (g form) refl)
 
 square_ok : (top : ℕ) (rule : Rule) (levels : List ℕ) (square : Line) → IsSquare top rule levels square → broken_by_square top rule levels (Some square) ≡ None
 square_ok top rule levels (Leaf rows) h = refl
 square_ok top rule levels (Quad level nw ne sw se) h =
-    ap (λ v. cond (not (v && nat_le level top)) (Some BadLevel) (cond (list_all (is_quarter rule levels level) (nw ∷ ne ∷ sw ∷ se ∷ [])) None (cond (level == 1) (Some StateRange) (Some BadChild)))) (le-leb 1 level h.0)
-    ∙ ap (λ v. cond (not v) (Some BadLevel) (cond (list_all (is_quarter rule levels level) (nw ∷ ne ∷ sw ∷ se ∷ [])) None (cond (level == 1) (Some StateRange) (Some BadChild)))) (le-leb level top h.1)
+    ap (λ v. cond (not (v && nat_le level top)) (Some BadLevel)
+    (cond (list_all (is_quarter rule levels level) (nw ∷ ne ∷ sw ∷ se ∷ [])) None (cond (level == 1) (Some StateRange) (Some BadChild))))
+    (le-leb 1 level h.0)
+    ∙ ap (λ v. cond (not v) (Some BadLevel)
+    (cond (list_all (is_quarter rule levels level) (nw ∷ ne ∷ sw ∷ se ∷ [])) None (cond (level == 1) (Some StateRange) (Some BadChild))))
+    (le-leb level top h.1)
     ∙ ap (λ v. cond v None (cond (level == 1) (Some StateRange) (Some BadChild))) h.2
 
 -- ---- the lines behind the header, one after another
@@ -103,18 +110,22 @@ module _ (top : ℕ) (header : List ℕ) where
   Stand [] before = Unit {0}
   Stand (line ∷ lines) before = (broken_behind top (header ∷ before) line ≡ None) × Stand lines (before ++ line ∷ [])
 
-  stand_from : (lines before : List (List ℕ)) → ((k : ℕ) → k < length lines → broken_behind top (header ∷ (before ++ take k lines)) (get_or lines k []) ≡ None) → Stand lines before
+  stand_from : (lines before : List (List ℕ)) → ((k : ℕ) → k < length lines → broken_behind top (header ∷ (before ++ take k lines)) (get_or lines k []) ≡ None)
+      → Stand lines before
   stand_from [] before h = tt
   stand_from (line ∷ lines) before h = (
     sym (ap (λ ls. broken_behind top (header ∷ ls) line) (append-nil before)) ∙ h 0 (omega arith),
-    stand_from lines (before ++ line ∷ []) (λ k l. ap (λ ls. broken_behind top (header ∷ ls) (get_or lines k [])) (append_assoc before (line ∷ []) (take k lines)) ∙ h (suc k) (omega arith)),
+    stand_from lines (before ++ line ∷ [])
+        (λ k l. ap (λ ls. broken_behind top (header ∷ ls) (get_or lines k [])) (append_assoc before (line ∷ []) (take k lines)) ∙ h (suc k) (omega arith)),
   )
 
-  stand_at : (lines before : List (List ℕ)) → Stand lines before → (k : ℕ) → k < length lines → broken_behind top (header ∷ (before ++ take k lines)) (get_or lines k []) ≡ None
+  stand_at : (lines before : List (List ℕ)) → Stand lines before → (k : ℕ) → k < length lines
+      → broken_behind top (header ∷ (before ++ take k lines)) (get_or lines k []) ≡ None
   stand_at [] before s k l = absurd (omega arith)
   stand_at (line ∷ lines) before s zero l = ap (λ ls. broken_behind top (header ∷ ls) line) (append-nil before) ∙ s.0
   stand_at (line ∷ lines) before s (suc k) l =
-      sym (ap (λ ls. broken_behind top (header ∷ ls) (get_or lines k [])) (append_assoc before (line ∷ []) (take k lines))) ∙ stand_at lines (before ++ line ∷ []) s.1 k (omega arith)
+      sym (ap (λ ls. broken_behind top (header ∷ ls) (get_or lines k [])) (append_assoc before (line ∷ []) (take k lines)))
+      ∙ stand_at lines (before ++ line ∷ []) s.1 k (omega arith)
 
   forms_of : (lines before : List (List ℕ)) → Stand lines before → (forms : List Form) × AllZip HasForm lines forms
   forms_of [] before s = ([], tt)
@@ -128,24 +139,28 @@ module _ (top : ℕ) (header : List ℕ) where
   abbrev squares : List (List ℕ) → List Line
   squares before = squares_of (header ∷ before)
 
-  squares_more : (before : List (List ℕ)) (line : List ℕ) (o : Option Line) → square_on line ≡ o → squares (before ++ line ∷ []) ≡ squares before ++ option_list o
+  squares_more : (before : List (List ℕ)) (line : List ℕ) (o : Option Line) → square_on line ≡ o → squares (before ++ line ∷ []) ≡ squares before
+      ++ option_list o
   squares_more before line None h = squares_none (header ∷ before) line h ∙ sym (append-nil (squares before))
   squares_more before line (Some square) h = squares_some (header ∷ before) line square h
 
-  longer : (before : List (List ℕ)) (line : List ℕ) (o : Option Line) → square_on line ≡ o → 0 < length (squares before) → 0 < length (squares (before ++ line ∷ []))
+  longer : (before : List (List ℕ)) (line : List ℕ) (o : Option Line) → square_on line ≡ o → 0 < length (squares before)
+      → 0 < length (squares (before ++ line ∷ []))
   longer before line o h l = omega (arith, ap length (squares_more before line o h), length-append (squares before) (option_list o))
 
   true_or_false : (v : Bool) → (v ≡ true) ⊎ (v ≡ false)
   true_or_false true = inl refl
   true_or_false false = inr refl
 
-  no_late : (before : List (List ℕ)) (line : List ℕ) (form : Form) → HasForm line form → broken_behind top (header ∷ before) line ≡ None → 0 < length (squares before) → is_no_command form ≡ true
+  no_late : (before : List (List ℕ)) (line : List ℕ) (form : Form) → HasForm line form → broken_behind top (header ∷ before) line ≡ None
+      → 0 < length (squares before) → is_no_command form ≡ true
   no_late before line form h e l = elim (true_or_false (is_no_command form)) [
     | inl t ↦ t
     | inr f ↦ (let k = ltb-false 0 (length (squares before)) (command_first top (header ∷ before) line form h f e) in absurd (omega arith))
   ]
 
-  no_more : (lines : List (List ℕ)) (forms : List Form) (before : List (List ℕ)) → AllZip HasForm lines forms → Stand lines before → 0 < length (squares before) → list_all is_no_command forms ≡ true
+  no_more : (lines : List (List ℕ)) (forms : List Form) (before : List (List ℕ)) → AllZip HasForm lines forms → Stand lines before → 0 < length (squares before)
+      → list_all is_no_command forms ≡ true
   no_more [] [] before z s l = refl
   no_more [] (form ∷ forms) before z s l = absurd z
   no_more (line ∷ lines) [] before z s l = absurd z
@@ -172,7 +187,12 @@ module _ (top : ℕ) (header : List ℕ) where
       by (rule_line rule) h ih = ih
       by (generation_line generation) h ih = ih
       by (node_line square) h ih =
-          no_more lines forms (before ++ line ∷ []) z.1 s.1 (omega (arith, ap length (squares_more before line (Some square) (gives line (node_line square) h).square), length-append (squares before) (square ∷ [])))
+          no_more lines forms (before ++ line ∷ []) z.1 s.1
+          (omega (
+            arith,
+            ap length (squares_more before line (Some square) (gives line (node_line square) h).square),
+            length-append (squares before) (square ∷ []),
+          ))
 
   -- ---- from the whole to each line
 
@@ -195,7 +215,8 @@ module _ (top : ℕ) (header : List ℕ) where
   next_order (rule_line rule) forms before line g (inl p) = inl (squares_none (header ∷ before) line g ∙ p.0, p.1)
   next_order (generation_line generation) forms before line g (inl p) = inl (squares_none (header ∷ before) line g ∙ p.0, p.1)
 
-  next_ahead : (file : Macrocell) (form : Form) (forms : List Form) (before : List (List ℕ)) (line : List ℕ) → HasForm line form → Ahead file (form ∷ forms) before → Ahead file forms (before ++ line ∷ [])
+  next_ahead : (file : Macrocell) (form : Form) (forms : List Form) (before : List (List ℕ)) (line : List ℕ) → HasForm line form
+      → Ahead file (form ∷ forms) before → Ahead file forms (before ++ line ∷ [])
   next_ahead file form forms before line h a =
       let g = gives line form h in
       record {
@@ -221,16 +242,19 @@ module _ (top : ℕ) (header : List ℕ) where
   get_seam (x ∷ xs) y ys = get_seam xs y ys
 
   no_commands_behind : (square : Line) (forms : List Form) (before : List (List ℕ))
-      → ((squares before ≡ []) × (are_in_order (node_line square ∷ forms) ≡ true)) ⊎ (list_all is_no_command (node_line square ∷ forms) ≡ true) → list_all is_no_command forms ≡ true
+      → ((squares before ≡ []) × (are_in_order (node_line square ∷ forms) ≡ true)) ⊎ (list_all is_no_command (node_line square ∷ forms) ≡ true)
+      → list_all is_no_command forms ≡ true
   no_commands_behind square forms before (inl p) = p.1
   no_commands_behind square forms before (inr q) = q
 
-  square_stands : (file : Macrocell) (square : Line) (forms : List Form) (before : List (List ℕ)) → AreSquares top file.rule file.lines → Ahead file (node_line square ∷ forms) before
+  square_stands : (file : Macrocell) (square : Line) (forms : List Form) (before : List (List ℕ)) → AreSquares top file.rule file.lines
+      → Ahead file (node_line square ∷ forms) before
       → broken_by_square top (rule_in_force (header ∷ before)) (map level_of (squares before)) (Some square) ≡ None
   square_stands file square forms before v a =
       let xs : List Line = squares before in
       let ys : List Line = filter_map form_square forms in
-      let rule : file.rule ≡ rule_in_force (header ∷ before) = a.rule_is ∙ ap (last_or (rule_in_force (header ∷ before))) (no_rules forms (no_commands_behind square forms before a.order)) in
+      let rule : file.rule ≡ rule_in_force (header ∷ before) = a.rule_is
+      ∙ ap (last_or (rule_in_force (header ∷ before))) (no_rules forms (no_commands_behind square forms before a.order)) in
       let at : slice_get file.lines (length xs) ≡ Some square = ap (λ ls. slice_get ls (length xs)) a.squares_are ∙ get_seam xs square ys in
       let front : take (length xs) file.lines ≡ xs = ap (take (length xs)) a.squares_are ∙ take-append_seam xs (square ∷ ys) in
       let P : List Line → Type 0 = λ ls. IsSquare top file.rule (map level_of ls) square in
@@ -245,16 +269,21 @@ module _ (top : ℕ) (header : List ℕ) where
       no : true ≡ false → ⊥
       no e = cc
 
-  line_stands : (file : Macrocell) (form : Form) (forms : List Form) (before : List (List ℕ)) (line : List ℕ) → HasForm line form → AreSquares top file.rule file.lines → Ahead file (form ∷ forms) before
+  line_stands : (file : Macrocell) (form : Form) (forms : List Form) (before : List (List ℕ)) (line : List ℕ) → HasForm line form
+      → AreSquares top file.rule file.lines → Ahead file (form ∷ forms) before
       → broken_behind top (header ∷ before) line ≡ None
-  line_stands file blank_line forms before line h v a = parsed_stands top (header ∷ before) line blank_line h refl (λ n. first_of_all blank_line forms before n a.order)
-  line_stands file comment_line forms before line h v a = parsed_stands top (header ∷ before) line comment_line h refl (λ n. first_of_all comment_line forms before n a.order)
-  line_stands file (rule_line rule) forms before line h v a = parsed_stands top (header ∷ before) line (rule_line rule) h refl (λ n. first_of_all (rule_line rule) forms before n a.order)
+  line_stands file blank_line forms before line h v a = parsed_stands top (header ∷ before) line blank_line h refl
+      (λ n. first_of_all blank_line forms before n a.order)
+  line_stands file comment_line forms before line h v a = parsed_stands top (header ∷ before) line comment_line h refl
+      (λ n. first_of_all comment_line forms before n a.order)
+  line_stands file (rule_line rule) forms before line h v a = parsed_stands top (header ∷ before) line (rule_line rule) h refl
+      (λ n. first_of_all (rule_line rule) forms before n a.order)
   line_stands file (generation_line generation) forms before line h v a =
       parsed_stands top (header ∷ before) line (generation_line generation) h refl (λ n. first_of_all (generation_line generation) forms before n a.order)
   line_stands file (node_line square) forms before line h v a = node_stands top (header ∷ before) line square h (square_stands file square forms before v a)
 
-  stand_all : (file : Macrocell) (lines : List (List ℕ)) (forms : List Form) (before : List (List ℕ)) → AllZip HasForm lines forms → AreSquares top file.rule file.lines → Ahead file forms before → Stand lines before
+  stand_all : (file : Macrocell) (lines : List (List ℕ)) (forms : List Form) (before : List (List ℕ)) → AllZip HasForm lines forms
+      → AreSquares top file.rule file.lines → Ahead file forms before → Stand lines before
   stand_all file [] forms before z v a = tt
   stand_all file (line ∷ lines) [] before z v a = absurd z
   stand_all file (line ∷ lines) (form ∷ forms) before z v a =
@@ -266,7 +295,8 @@ module _ (top : ℕ) where
   to_file : (lines : List (List ℕ)) (file : Macrocell) → AreMacrocell top lines file → IsFile top lines file
   to_file [] file m = let h = m.header in absurd (omega arith)
   to_file (header ∷ behind) file m =
-      let s : Stand top header behind [] = stand_from top header behind [] (λ k l. (unbroken_says top (header ∷ take k behind) (get_or behind k []) (m.unbroken (suc k) (omega arith))).1) in
+      let s : Stand top header behind [] = stand_from top header behind []
+      (λ k l. (unbroken_says top (header ∷ take k behind) (get_or behind k []) (m.unbroken (suc k) (omega arith))).1) in
       let f = forms_of top header behind [] s in
       let P : Rule → Type 0 = λ r. AreSquares top r (squares_of (header ∷ behind)) in
       let Q : List Line → Type 0 = λ ls. AreSquares top file.rule ls in
@@ -275,7 +305,8 @@ module _ (top : ℕ) where
         behind = behind;
         forms = f.0;
         is = refl;
-        format = begins (codes "[M2]") header (header_begins top (begins_with header (codes "[M2]")) (unbroken_says top [] header (m.unbroken 0 (omega arith))).1);
+        format = begins (codes "[M2]") header
+            (header_begins top (begins_with header (codes "[M2]")) (unbroken_says top [] header (m.unbroken 0 (omega arith))).1);
         short = all_short (header ∷ behind) (λ k l. (unbroken_says top (take k (header ∷ behind)) (get_or (header ∷ behind) k []) (m.unbroken k l)).0);
         each = f.1;
         order = in_order top header behind f.0 [] f.1 s;
@@ -285,23 +316,27 @@ module _ (top : ℕ) where
         valid = subst Q (sym m.squares) (subst P (sym m.rule) (squares_valid top (header ∷ behind) m.unbroken));
       }
 
-  each_unbroken : (header : List ℕ) (behind : List (List ℕ)) → begins_with header (codes "[M2]") ≡ true → list_all (λ line. nat_le (length line) (2 ^ 20)) (header ∷ behind) ≡ true → Stand top header behind []
+  each_unbroken : (header : List ℕ) (behind : List (List ℕ)) → begins_with header (codes "[M2]") ≡ true
+      → list_all (λ line. nat_le (length line) (2 ^ 20)) (header ∷ behind) ≡ true → Stand top header behind []
       → (k : ℕ) → k < length (header ∷ behind) → broken top (take k (header ∷ behind)) (get_or (header ∷ behind) k []) ≡ None
   each_unbroken header behind b h s zero l = is_unbroken top [] header (short_at (header ∷ behind) h 0 l) (ap (λ v. cond v None (Some NoHeader)) b)
   each_unbroken header behind b h s (suc k) l =
       is_unbroken top (header ∷ take k behind) (get_or behind k []) (short_at (header ∷ behind) h (suc k) l) (stand_at top header behind [] s k (omega arith))
 
-  of_parts : (header : List ℕ) (behind : List (List ℕ)) (file : Macrocell) → (f : IsFile top (header ∷ behind) file) → f.header ≡ header → f.behind ≡ behind → AreMacrocell top (header ∷ behind) file
+  of_parts : (header : List ℕ) (behind : List (List ℕ)) (file : Macrocell) → (f : IsFile top (header ∷ behind) file) → f.header ≡ header → f.behind ≡ behind
+      → AreMacrocell top (header ∷ behind) file
   of_parts header behind file f e g =
       let Z : List (List ℕ) → Type 0 = λ ls. AllZip HasForm ls f.forms in
       let z : AllZip HasForm behind f.forms = subst Z g f.each in
       let b : begins_with header (codes "[M2]") ≡ true = ap (λ l. begins_with l (codes "[M2]")) (sym e) ∙ begun (codes "[M2]") f.header f.format in
-      let s : Stand top header behind [] = stand_all top header file behind f.forms [] z f.valid (record { squares_are = f.squares; rule_is = f.rule; order = inl (refl, f.order) }) in
+      let s : Stand top header behind [] = stand_all top header file behind f.forms [] z f.valid
+      (record { squares_are = f.squares; rule_is = f.rule; order = inl (refl, f.order) }) in
       record {
         header = omega arith;
         unbroken = each_unbroken header behind b f.short s;
         rule = f.rule ∙ ap (last_or default_rule) (sym (same_map rule_on form_rule (λ line form h. (gives line form h).rule) behind f.forms z));
-        generation = f.generation ∙ ap (last_or 0) (sym (same_map generation_on form_generation (λ line form h. (gives line form h).generation) behind f.forms z));
+        generation = f.generation ∙ ap (last_or 0)
+            (sym (same_map generation_on form_generation (λ line form h. (gives line form h).generation) behind f.forms z));
         squares = f.squares ∙ sym (same_map square_on form_square (λ line form h. (gives line form h).square) behind f.forms z);
       }
 

@@ -57,7 +57,8 @@ moore_short sets =
     let e : rule_text (counting Moore sets) ≡ 66 ∷ (ds ++ 47 ∷ 83 ∷ es) = ap (λ (t : List ℕ). 66 ∷ t) (append_assoc ds (codes "/S") es) in
     subst IsShortText (sym e) (record {
       short = omega (arith, length-append ds (47 ∷ 83 ∷ es), set_short sets.births, set_short sets.survivals);
-      feed = list_all-append (λ b. not (b == 10)) ds (47 ∷ 83 ∷ es) ∙ both _ _ (digits_no_feed (filter (has_digit sets.births) counts)) (digits_no_feed (filter (has_digit sets.survivals) counts));
+      feed = list_all-append (λ b. not (b == 10)) ds (47 ∷ 83 ∷ es) ∙ both _ _ (digits_no_feed (filter (has_digit sets.births) counts))
+          (digits_no_feed (filter (has_digit sets.survivals) counts));
     })
 
 -- a text that is no bad one
@@ -121,7 +122,8 @@ module _ (top : ℕ) (now : Rule) (generation : ℕ) (h : generation < 2 ^ 64) w
   text_trimmed = digits_trimmed (decimal generation) digits
 
   pub generation_stands : broken_after top now [] (generation_line generation) ≡ None
-  generation_stands = ap (λ t. fault_in (u64_of t)) text_trimmed ∙ by (is_digit_text (decimal generation)) (nat_le (value_of (decimal generation)) (2 ^ 64 - 1)) digits
+  generation_stands = ap (λ t. fault_in (u64_of t)) text_trimmed ∙ by (is_digit_text (decimal generation)) (nat_le (value_of (decimal generation)) (2 ^ 64 - 1))
+      digits
       (le-leb (value_of (decimal generation)) (2 ^ 64 - 1) (omega (arith, value)))
     where
       by : (v w : Bool) → v ≡ true → w ≡ true → fault_in (cond (not v) (Err BadNumber) (cond w (Ok (value_of (decimal generation))) (Err TooLarge))) ≡ None

@@ -38,7 +38,8 @@ regroup : (row rest last : List ℕ) → (ended row ++ rest) ++ last ≡ row ++ 
 regroup row rest last = ap (λ (t : List ℕ). t ++ last) (append_assoc row (36 ∷ []) rest) ∙ append_assoc row (36 ∷ rest) last
 
 -- the rows of a text that rows make
-split_again : (rows : List (List ℕ)) (last : List ℕ) → list_all are_cells (rows ++ last ∷ []) ≡ true → leaf_rows (flat_map ended rows ++ last) ≡ rows ++ last ∷ []
+split_again : (rows : List (List ℕ)) (last : List ℕ) → list_all are_cells (rows ++ last ∷ []) ≡ true → leaf_rows (flat_map ended rows ++ last) ≡ rows
+    ++ last ∷ []
 split_again [] last h = one_row last (no_dollars last (first (are_cells last) _ h))
 split_again (row ∷ rows) last h =
     ap leaf_rows (regroup row (flat_map ended rows) last) ∙ row_ended row (flat_map ended rows ++ last) (no_dollars row (first (are_cells row) _ h))
@@ -79,7 +80,8 @@ eq-true : (a b : ℕ) → (a == b) ≡ true → a ≡ b
 eq-true a b h = grind (arith, nat_tests)
 
 -- a text is its rows, joined
-join_step : (v : Bool) (b : ℕ) (text : List ℕ) → (b == 36) ≡ v → joined (leaf_rows text) ≡ text → joined (cond v ([] ∷ leaf_rows text) (onto_first_byte b (leaf_rows text))) ≡ b ∷ text
+join_step : (v : Bool) (b : ℕ) (text : List ℕ) → (b == 36) ≡ v → joined (leaf_rows text) ≡ text
+    → joined (cond v ([] ∷ leaf_rows text) (onto_first_byte b (leaf_rows text))) ≡ b ∷ text
 join_step true b text e ih = joined_dollar (leaf_rows text) (some_rows text) ∙ ap (λ (t : List ℕ). 36 ∷ t) ih ∙ ap (λ c. c ∷ text) (sym (eq-true b 36 e))
 join_step false b text e ih = joined_byte b (leaf_rows text) (some_rows text) ∙ ap (λ (t : List ℕ). b ∷ t) ih
 
@@ -98,12 +100,14 @@ no_rows_left : (n : ℕ) → are_rows n [] ≡ true
 no_rows_left zero = refl
 no_rows_left (suc n) = refl
 
-rows_may : (n : ℕ) (rows : List (List ℕ)) (last : List ℕ) → list_all are_cells (rows ++ last ∷ []) ≡ true → length rows ≤ n → (length rows ≡ n → last ≡ []) → are_rows n (rows ++ last ∷ []) ≡ true
+rows_may : (n : ℕ) (rows : List (List ℕ)) (last : List ℕ) → list_all are_cells (rows ++ last ∷ []) ≡ true → length rows ≤ n → (length rows ≡ n → last ≡ [])
+    → are_rows n (rows ++ last ∷ []) ≡ true
 rows_may zero [] last h l e = ap (λ (t : List ℕ). is_at_end (t ∷ [])) (e refl)
 rows_may zero (row ∷ rows) last h l e = absurd (omega arith)
 rows_may (suc n) [] last h l e = ap (λ v. v && are_rows n []) (first (are_cells last) _ h) ∙ no_rows_left n
 rows_may (suc n) (row ∷ rows) last h l e =
-    ap (λ v. v && are_rows n (rows ++ last ∷ [])) (first (are_cells row) _ h) ∙ rows_may n rows last (second (are_cells row) _ h) (omega arith) (λ k. e (ap suc k))
+    ap (λ v. v && are_rows n (rows ++ last ∷ [])) (first (are_cells row) _ h) ∙ rows_may n rows last (second (are_cells row) _ h) (omega arith)
+    (λ k. e (ap suc k))
 
 record Rows (n : ℕ) (rows : List (List ℕ)) (last : List ℕ) : Type 0 where
   cells : list_all are_cells (rows ++ last ∷ []) ≡ true
@@ -140,7 +144,8 @@ live row c = slice_index row c == 42
 
 abbrev weighed : List ℕ → ℕ
 weighed row =
-    128 * state_in row 0 + 64 * state_in row 1 + 32 * state_in row 2 + 16 * state_in row 3 + 8 * state_in row 4 + 4 * state_in row 5 + 2 * state_in row 6 + state_in row 7
+    128 * state_in row 0 + 64 * state_in row 1 + 32 * state_in row 2 + 16 * state_in row 3 + 8 * state_in row 4 + 4 * state_in row 5 + 2 * state_in row 6
+    + state_in row 7
 
 row_weighed : (row : List ℕ) → row_byte row ≡ weighed row
 row_weighed row = omega (
@@ -158,22 +163,26 @@ row_weighed row = omega (
 abbrev IsStateAt : ℕ → List ℕ → ℕ → Type 0
 IsStateAt byte row x = byte / 2 ^ (7 - x) % 2 ≡ state_in row x
 
-bits_of_sum : (n a b c d e f g h : ℕ) → n ≡ 128 * a + 64 * b + 32 * c + 16 * d + 8 * e + 4 * f + 2 * g + h → a ≤ 1 → b ≤ 1 → c ≤ 1 → d ≤ 1 → e ≤ 1 → f ≤ 1 → g ≤ 1 → h ≤ 1
+bits_of_sum : (n a b c d e f g h : ℕ) → n ≡ 128 * a + 64 * b + 32 * c + 16 * d + 8 * e + 4 * f + 2 * g + h → a ≤ 1 → b ≤ 1 → c ≤ 1 → d ≤ 1 → e ≤ 1 → f ≤ 1
+    → g ≤ 1 → h ≤ 1
     → (n / 128 % 2 ≡ a) × (n / 64 % 2 ≡ b) × (n / 32 % 2 ≡ c) × (n / 16 % 2 ≡ d) × (n / 8 % 2 ≡ e) × (n / 4 % 2 ≡ f) × (n / 2 % 2 ≡ g) × (n / 1 % 2 ≡ h)
 bits_of_sum n a b c d e f g h s p q r t u v w x = (omega arith, omega arith, omega arith, omega arith, omega arith, omega arith, omega arith, omega arith)
 
-sum_of_bits : (n : ℕ) → n < 256 → n ≡ 128 * (n / 128 % 2) + 64 * (n / 64 % 2) + 32 * (n / 32 % 2) + 16 * (n / 16 % 2) + 8 * (n / 8 % 2) + 4 * (n / 4 % 2) + 2 * (n / 2 % 2) + n / 1 % 2
+sum_of_bits : (n : ℕ) → n < 256 → n ≡ 128 * (n / 128 % 2) + 64 * (n / 64 % 2) + 32 * (n / 32 % 2) + 16 * (n / 16 % 2) + 8 * (n / 8 % 2) + 4 * (n / 4 % 2)
+    + 2 * (n / 2 % 2) + n / 1 % 2
 sum_of_bits n h = omega arith
 
 state_at : (row : List ℕ) (x : ℕ) → x < 8 → IsStateAt (row_byte row) row x
 state_at row x h =
-    let b = bits_of_sum (row_byte row) (state_in row 0) (state_in row 1) (state_in row 2) (state_in row 3) (state_in row 4) (state_in row 5) (state_in row 6) (state_in row 7) (row_weighed row)
+    let b = bits_of_sum (row_byte row) (state_in row 0) (state_in row 1) (state_in row 2) (state_in row 3) (state_in row 4) (state_in row 5) (state_in row 6)
+    (state_in row 7) (row_weighed row)
     (at_most_one (live row 0)) (at_most_one (live row 1)) (at_most_one (live row 2)) (at_most_one (live row 3))
     (at_most_one (live row 4)) (at_most_one (live row 5)) (at_most_one (live row 6)) (at_most_one (live row 7)) in
     by x h b.0 b.1 b.2 b.3 b.4 b.5 b.6 b.7
   where
     by : (x : ℕ) → x < 8 → IsStateAt (row_byte row) row 0 → IsStateAt (row_byte row) row 1 → IsStateAt (row_byte row) row 2 → IsStateAt (row_byte row) row 3
-        → IsStateAt (row_byte row) row 4 → IsStateAt (row_byte row) row 5 → IsStateAt (row_byte row) row 6 → IsStateAt (row_byte row) row 7 → IsStateAt (row_byte row) row x
+        → IsStateAt (row_byte row) row 4 → IsStateAt (row_byte row) row 5 → IsStateAt (row_byte row) row 6 → IsStateAt (row_byte row) row 7
+        → IsStateAt (row_byte row) row x
     by zero h a b c d e f g i = a
     by (suc zero) h a b c d e f g i = b
     by (suc (suc zero)) h a b c d e f g i = c
@@ -186,7 +195,19 @@ state_at row x h =
 
 byte_is : (byte : ℕ) (row : List ℕ) → byte < 256 → ((x : ℕ) → x < 8 → IsStateAt byte row x) → byte ≡ row_byte row
 byte_is byte row h s =
-    omega (arith, sum_of_bits byte h, s 0 (omega arith), s 1 (omega arith), s 2 (omega arith), s 3 (omega arith), s 4 (omega arith), s 5 (omega arith), s 6 (omega arith), s 7 (omega arith), row_weighed row)
+    omega (
+      arith,
+      sum_of_bits byte h,
+      s 0 (omega arith),
+      s 1 (omega arith),
+      s 2 (omega arith),
+      s 3 (omega arith),
+      s 4 (omega arith),
+      s 5 (omega arith),
+      s 6 (omega arith),
+      s 7 (omega arith),
+      row_weighed row,
+    )
 
 -- ---- all bytes
 
@@ -196,9 +217,11 @@ bytes_are zero [] rows e f s = refl
 bytes_are zero (byte ∷ bytes) rows e f s = absurd (omega arith)
 bytes_are (suc n) [] rows e f s = absurd (omega arith)
 bytes_are (suc n) (byte ∷ bytes) [] e f s =
-    ap (λ b. b ∷ bytes) (byte_is byte [] f.0 (s 0 (omega arith))) ∙ ap (λ (t : List ℕ). 0 ∷ t) (bytes_are n bytes [] (omega arith) f.1 (λ y l. s (suc y) (omega arith)))
+    ap (λ b. b ∷ bytes) (byte_is byte [] f.0 (s 0 (omega arith)))
+    ∙ ap (λ (t : List ℕ). 0 ∷ t) (bytes_are n bytes [] (omega arith) f.1 (λ y l. s (suc y) (omega arith)))
 bytes_are (suc n) (byte ∷ bytes) (row ∷ rows) e f s =
-    ap (λ b. b ∷ bytes) (byte_is byte row f.0 (s 0 (omega arith))) ∙ ap (λ (t : List ℕ). row_byte row ∷ t) (bytes_are n bytes rows (omega arith) f.1 (λ y l. s (suc y) (omega arith)))
+    ap (λ b. b ∷ bytes) (byte_is byte row f.0 (s 0 (omega arith)))
+    ∙ ap (λ (t : List ℕ). row_byte row ∷ t) (bytes_are n bytes rows (omega arith) f.1 (λ y l. s (suc y) (omega arith)))
 
 bytes_at : (n : ℕ) (rows : List (List ℕ)) (y : ℕ) → y < n → slice_index (row_bytes n rows) y ≡ row_byte (slice_index_or rows y [])
 bytes_at zero rows y h = absurd (omega arith)
@@ -297,5 +320,6 @@ is_leaf_line line b h =
       eight = ap length bytes ∙ bytes_long 8 (rows ++ last ∷ []);
       fit = subst F (sym bytes) (bytes_fit 8 (rows ++ last ∷ []));
       states = λ x y h k.
-          ap (λ bs. leaf_cell bs x y) bytes ∙ ap (λ byte. byte / 2 ^ (7 - x) % 2) (bytes_at 8 (rows ++ last ∷ []) y k) ∙ state_at (slice_index_or (rows ++ last ∷ []) y []) x h;
+          ap (λ bs. leaf_cell bs x y) bytes ∙ ap (λ byte. byte / 2 ^ (7 - x) % 2) (bytes_at 8 (rows ++ last ∷ []) y k)
+          ∙ state_at (slice_index_or (rows ++ last ∷ []) y []) x h;
     }

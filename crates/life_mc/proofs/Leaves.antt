@@ -57,7 +57,8 @@ has_room bit (b ∷ row) = nat_lt 0 bit && has_room (bit / 2) row
 cells_with_room : (bit : ℕ) (row : List ℕ) → fits bit row ≡ (list_all is_cell row && has_room bit row)
 cells_with_room bit [] = refl
 cells_with_room bit (b ∷ row) =
-    ap (λ v. (is_cell b && nat_lt 0 bit) && v) (cells_with_room (bit / 2) row) ∙ and_mix (is_cell b) (nat_lt 0 bit) (list_all is_cell row) (has_room (bit / 2) row)
+    ap (λ v. (is_cell b && nat_lt 0 bit) && v) (cells_with_room (bit / 2) row)
+    ∙ and_mix (is_cell b) (nat_lt 0 bit) (list_all is_cell row) (has_room (bit / 2) row)
 
 eight_columns : (row : List ℕ) → has_room 128 row ≡ nat_le (length row) 8
 eight_columns [] = refl
@@ -83,13 +84,15 @@ is_dollar b = b == 36
 bytes_step : (v : Bool) (b : ℕ) (text : List ℕ) (r : List ℕ) (rs : List (List ℕ)) → is_dollar b ≡ v → leaf_rows text ≡ r ∷ rs
     → list_all is_leaf_byte text ≡ list_all (list_all is_cell) (r ∷ rs)
     → (is_leaf_byte b && list_all is_leaf_byte text) ≡ list_all (list_all is_cell) (cond v ([] ∷ r ∷ rs) ((b ∷ r) ∷ rs))
-bytes_step true b text r rs e f ih = ap (λ w. (is_cell b || w) && list_all is_leaf_byte text) e ∙ ap (λ w. w && list_all is_leaf_byte text) (or-true (is_cell b)) ∙ ih
+bytes_step true b text r rs e f ih = ap (λ w. (is_cell b || w) && list_all is_leaf_byte text) e
+    ∙ ap (λ w. w && list_all is_leaf_byte text) (or-true (is_cell b)) ∙ ih
   where
     or-true : (a : Bool) → (a || true) ≡ true
     or-true true = refl
     or-true false = refl
 bytes_step false b text r rs e f ih =
-    ap (λ w. (is_cell b || w) && list_all is_leaf_byte text) e ∙ ap (λ w. w && list_all is_leaf_byte text) (or-false (is_cell b)) ∙ ap (λ w. is_cell b && w) ih ∙ assoc (is_cell b) (list_all is_cell r) _
+    ap (λ w. (is_cell b || w) && list_all is_leaf_byte text) e ∙ ap (λ w. w && list_all is_leaf_byte text) (or-false (is_cell b)) ∙ ap (λ w. is_cell b && w) ih
+    ∙ assoc (is_cell b) (list_all is_cell r) _
   where
     or-false : (a : Bool) → (a || false) ≡ a
     or-false true = refl
@@ -136,7 +139,8 @@ is_short row = nat_le (length row) 8
 
 both_all : (rows : List (List ℕ)) → (list_all (list_all is_cell) rows && list_all is_short rows) ≡ list_all is_row rows
 both_all [] = refl
-both_all (row ∷ rows) = mix (list_all is_cell row) (list_all (list_all is_cell) rows) (is_short row) (list_all is_short rows) ∙ ap (λ v. is_row row && v) (both_all rows)
+both_all (row ∷ rows) = mix (list_all is_cell row) (list_all (list_all is_cell) rows) (is_short row) (list_all is_short rows)
+    ∙ ap (λ v. is_row row && v) (both_all rows)
   where
     mix : (a b c d : Bool) → ((a && b) && (c && d)) ≡ ((a && c) && (b && d))
     mix false b c d = refl
@@ -192,7 +196,8 @@ goes_on (b ∷ text) zero h = by (b == 36) h
 goes_on (b ∷ text) (suc i) h = goes_on text i h
 
 -- a row that has not ended goes on with a cell
-pub row_goes_on : (text : List ℕ) (i : ℕ) → is_empty (first_row (drop i text)) ≡ false → first_row (drop i text) ≡ get_or text i 0 ∷ first_row (drop (i + 1) text)
+pub row_goes_on : (text : List ℕ) (i : ℕ) → is_empty (first_row (drop i text)) ≡ false
+    → first_row (drop i text) ≡ get_or text i 0 ∷ first_row (drop (i + 1) text)
 row_goes_on text i h = rw add-one (goes_on text i h)
 
 pub no_more : (row : List ℕ) → is_empty row ≡ true → row ≡ []
@@ -236,7 +241,8 @@ rows_begin [] = refl
 rows_begin (b ∷ text) = by (b == 36) (rows_begin text)
   where
     by : (v : Bool) → leaf_rows text ≡ first_row text ∷ tail_of (leaf_rows text)
-        → cond v ([] ∷ leaf_rows text) (onto_first b (leaf_rows text)) ≡ cond v [] (b ∷ first_row text) ∷ tail_of (cond v ([] ∷ leaf_rows text) (onto_first b (leaf_rows text)))
+        → cond v ([] ∷ leaf_rows text) (onto_first b (leaf_rows text)) ≡ cond v [] (b ∷ first_row text)
+        ∷ tail_of (cond v ([] ∷ leaf_rows text) (onto_first b (leaf_rows text)))
     by true ih = refl
     by false ih = ap (onto_first b) ih ∙ ap (λ rows. (b ∷ first_row text) ∷ tail_of (onto_first b rows)) (sym ih)
 
@@ -259,7 +265,8 @@ one_row : (text : List ℕ) → length (first_row text) ≡ length text → leaf
 one_row [] h = refl
 one_row (b ∷ text) h = by (b == 36) h (one_row text)
   where
-    by : (v : Bool) → length (cond v [] (b ∷ first_row text)) ≡ suc (length text) → (length (first_row text) ≡ length text → leaf_rows text ≡ first_row text ∷ [])
+    by : (v : Bool) → length (cond v [] (b ∷ first_row text)) ≡ suc (length text)
+        → (length (first_row text) ≡ length text → leaf_rows text ≡ first_row text ∷ [])
         → cond v ([] ∷ leaf_rows text) (onto_first b (leaf_rows text)) ≡ cond v [] (b ∷ first_row text) ∷ []
     by true h ih = absurd (omega (arith, h))
     by false h ih = ap (onto_first b) (ih (omega (arith, h)))
@@ -273,9 +280,11 @@ bad_row k text h e =
     ap (are_rows (8 - k)) (rows_begin text) ∙ ap (λ n. are_rows n (first_row text ∷ tail_of (leaf_rows text))) (fewer k h)
     ∙ ap (λ v. v && are_rows (8 - (k + 1)) (tail_of (leaf_rows text))) e
 
-pub last_row : (k : ℕ) (text : List ℕ) → k < 8 → length (first_row text) ≡ length text → is_row (first_row text) ≡ true → are_rows (8 - k) (leaf_rows text) ≡ true
+pub last_row : (k : ℕ) (text : List ℕ) → k < 8 → length (first_row text) ≡ length text → is_row (first_row text) ≡ true
+    → are_rows (8 - k) (leaf_rows text) ≡ true
 last_row k text h l e =
-    ap (are_rows (8 - k)) (one_row text l) ∙ ap (λ n. are_rows n (first_row text ∷ [])) (fewer k h) ∙ ap (λ v. v && are_rows (8 - (k + 1)) []) e ∙ none_left (8 - (k + 1))
+    ap (are_rows (8 - k)) (one_row text l) ∙ ap (λ n. are_rows n (first_row text ∷ [])) (fewer k h) ∙ ap (λ v. v && are_rows (8 - (k + 1)) []) e
+    ∙ none_left (8 - (k + 1))
 
 pub good_row : (k : ℕ) (text : List ℕ) → k < 8 → length (first_row text) < length text → is_row (first_row text) ≡ true
     → are_rows (8 - k) (leaf_rows text) ≡ are_rows (8 - (k + 1)) (leaf_rows (drop (length (first_row text) + 1) text))
@@ -291,7 +300,8 @@ abbrev tail_bytes : List ℕ → List ℕ
 tail_bytes [] = []
 tail_bytes (b ∷ bytes) = bytes
 
-put_last : (k n row : ℕ) (bytes cells : List ℕ) → drop k bytes ≡ replicate (suc n) 0 → row ≡ row_byte cells → take k bytes ++ row_bytes (suc n) (cells ∷ []) ≡ set bytes k row
+put_last : (k n row : ℕ) (bytes cells : List ℕ) → drop k bytes ≡ replicate (suc n) 0 → row ≡ row_byte cells → take k bytes ++ row_bytes (suc n) (cells ∷ [])
+    ≡ set bytes k row
 put_last zero n row [] cells h e = cc
 put_last (suc k) n row [] cells h e = cc
 put_last zero n row (b ∷ bytes) cells h e = ap (λ r. r ∷ row_bytes n []) (sym e) ∙ ap (λ (t : List ℕ). row ∷ t) (blank_left n ∙ sym (ap tail_bytes h))
@@ -310,7 +320,8 @@ blank_behind zero n row (b ∷ bytes) h = ap tail_bytes h
 blank_behind (suc k) n row (b ∷ bytes) h = blank_behind k n row bytes h
 
 -- the byte of the last row is put in, and the rows behind it are empty
-pub put_last_row : (k row : ℕ) (bytes text : List ℕ) → k < 8 → drop k bytes ≡ replicate (8 - k) 0 → length (first_row text) ≡ length text → row ≡ row_byte (first_row text)
+pub put_last_row : (k row : ℕ) (bytes text : List ℕ) → k < 8 → drop k bytes ≡ replicate (8 - k) 0 → length (first_row text) ≡ length text
+    → row ≡ row_byte (first_row text)
     → with_rows k bytes (leaf_rows text) ≡ set bytes k row
 put_last_row k row bytes text h z l e =
     ap (with_rows k bytes) (one_row text l) ∙ ap (λ n. take k bytes ++ row_bytes n (first_row text ∷ [])) (fewer k h)

@@ -96,12 +96,14 @@ in_number (Err kind) h = h
 
 number_errs : (text : List ℕ) → errs_by is_short_kind (u64_of text) ≡ true
 number_errs text =
-    errs_by_cases is_short_kind (not (is_digit_text text)) (Err kinds.BadNumber) (cond (nat_le (value_of text) 18446744073709551615) (Ok (value_of text)) (Err kinds.TooLarge)) refl
+    errs_by_cases is_short_kind (not (is_digit_text text)) (Err kinds.BadNumber)
+    (cond (nat_le (value_of text) 18446744073709551615) (Ok (value_of text)) (Err kinds.TooLarge)) refl
     (errs_by_cases is_short_kind (nat_le (value_of text) 18446744073709551615) (Ok (value_of text)) (Err kinds.TooLarge) refl refl)
 
 in_square : (top : ℕ) (rule : Rule) (levels : List ℕ) (square : Option Line) → short_kind_in (broken_by_square top rule levels square) ≡ true
 in_square top rule levels (Some (Quad level nw ne sw se)) =
-    cases (not (nat_le 1 level && nat_le level top)) (Some kinds.BadLevel) (cond (list_all (is_quarter rule levels level) (nw ∷ ne ∷ sw ∷ se ∷ [])) None (cond (level == 1) (Some kinds.StateRange) (Some kinds.BadChild))) refl
+    cases (not (nat_le 1 level && nat_le level top)) (Some kinds.BadLevel)
+    (cond (list_all (is_quarter rule levels level) (nw ∷ ne ∷ sw ∷ se ∷ [])) None (cond (level == 1) (Some kinds.StateRange) (Some kinds.BadChild))) refl
     (cases (list_all (is_quarter rule levels level) (nw ∷ ne ∷ sw ∷ se ∷ [])) None (cond (level == 1) (Some kinds.StateRange) (Some kinds.BadChild)) refl
     (cases (level == 1) (Some kinds.StateRange) (Some kinds.BadChild) refl refl))
 in_square top rule levels (Some (Leaf rows)) = refl
@@ -109,7 +111,8 @@ in_square top rule levels None = refl
 
 in_node : (top : ℕ) (rule : Rule) (levels text : List ℕ) → short_kind_in (broken_by_node top rule levels text) ≡ true
 in_node top rule levels text =
-    cases (is_leaf_byte (slice_index text 0) && not (is_leaf text)) (Some kinds.BadLeaf) (broken_by_square top rule levels (square_of text)) refl (in_square top rule levels (square_of text))
+    cases (is_leaf_byte (slice_index text 0) && not (is_leaf text)) (Some kinds.BadLeaf) (broken_by_square top rule levels (square_of text)) refl
+    (in_square top rule levels (square_of text))
 
 behind : (top : ℕ) (front : List (List ℕ)) (line : List ℕ) → short_kind_in (broken_behind top front line) ≡ true
 behind top front line =

@@ -27,11 +27,13 @@ pub row-in-room : (room text : List ℕ) (at size w row : ℕ) → length room �
 row-in-room room text at size w row long low short nine e directive =
     let cells = length_cells row in
     let nine_long = ap length e ∙ length-append (row_cells row) (codes "$") in
-    let whole = ap length (take-put_mid at size room text (at + 9) (omega (arith, nine_long, cells)) (omega (arith, long, low))) ∙ length-append (take at room) text in
+    let whole = ap length (take-put_mid at size room text (at + 9) (omega (arith, nine_long, cells)) (omega (arith, long, low)))
+    ∙ length-append (take at room) text in
     let m = put_mid at size room text in
     let inside : at + w < length m = omega (arith, whole, nine_long, cells, short, length-take (at + 9) m, length-take-le at room (omega (arith, long, low))) in
     take_more_set m (at + w) 36 inside
-    ∙ ap (λ l. l ++ 36 ∷ []) (within-part room text at w (omega (arith, long, low)) (omega (arith, nine_long, cells, short)) size (omega (arith, nine, nine_long, cells)))
+    ∙ ap (λ l. l ++ 36 ∷ []) (within-part room text at w (omega (arith, long, low)) (omega (arith, nine_long, cells, short)) size
+    (omega (arith, nine, nine_long, cells)))
     ∙ ap (λ l. take at room ++ take w l ++ 36 ∷ []) e
     ∙ ap (λ l. take at room ++ l ++ 36 ∷ []) (take-append-le w (row_cells row) (codes "$") (omega (arith, cells, short)) ∙ sym directive)
     ∙ append_assoc (take at room) (without_last is_dot (row_cells row)) (36 ∷ [])
@@ -52,10 +54,12 @@ behind text n old rest e =
     ∙ ap (λ l. l ++ rest) (sym (append_assoc text (codes " ") (decimal n)))
 
 -- the five numbers of a line and its end, each in front of the one after it
-pub quad-in-room : (level nw ne sw se : ℕ) (room r q p o n : List ℕ) → room ≡ decimal level ++ r → r ≡ codes " " ++ decimal nw ++ q → q ≡ codes " " ++ decimal ne ++ p
+pub quad-in-room : (level nw ne sw se : ℕ) (room r q p o n : List ℕ) → room ≡ decimal level ++ r → r ≡ codes " " ++ decimal nw ++ q
+    → q ≡ codes " " ++ decimal ne ++ p
     → p ≡ codes " " ++ decimal sw ++ o → o ≡ codes " " ++ decimal se ++ n → n ≡ codes "\n" → room ≡ node_text (Quad level nw ne sw se)
 quad-in-room level nw ne sw se room r q p o n a b c d e f =
     let first = decimal level ++ codes " " ++ decimal nw in
     let second = first ++ codes " " ++ decimal ne in
     let third = second ++ codes " " ++ decimal sw in
-    a ∙ behind (decimal level) nw r q b ∙ behind first ne q p c ∙ behind second sw p o d ∙ behind third se o n e ∙ ap (λ l. third ++ codes " " ++ decimal se ++ l) f
+    a ∙ behind (decimal level) nw r q b ∙ behind first ne q p c ∙ behind second sw p o d ∙ behind third se o n e
+    ∙ ap (λ l. third ++ codes " " ++ decimal se ++ l) f

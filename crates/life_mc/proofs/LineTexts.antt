@@ -79,8 +79,10 @@ leaf_of (b ∷ text) rows some short is says =
       says = by_tests (is_leaf_byte b) (is_leaf (b ∷ text)) _ one is ∙ ap (λ (rs : List ℕ). Some (Leaf rs)) says;
     }
   where
-    by_tests : (v w : Bool) (o : Option Line) → v ≡ true → w ≡ true → cond v (cond w (Some (Leaf (leaf_bytes (b ∷ text)))) None) o ≡ Some (Leaf (leaf_bytes (b ∷ text)))
-    by_tests v w o h k = ap (λ u. cond u (cond w (Some (Leaf (leaf_bytes (b ∷ text)))) None) o) h ∙ ap (λ u. cond u (Some (Leaf (leaf_bytes (b ∷ text)))) None) k
+    by_tests : (v w : Bool) (o : Option Line) → v ≡ true → w ≡ true → cond v (cond w (Some (Leaf (leaf_bytes (b ∷ text)))) None) o
+        ≡ Some (Leaf (leaf_bytes (b ∷ text)))
+    by_tests v w o h k = ap (λ u. cond u (cond w (Some (Leaf (leaf_bytes (b ∷ text)))) None) o) h ∙ ap (λ u. cond u (Some (Leaf (leaf_bytes (b ∷ text)))) None)
+        k
 
 pub leaf_text : (rows : List ℕ) → length rows ≡ 8 → AllByRecursion (λ row. row < 256) rows → IsTextOf (Leaf rows) (line_text (Leaf rows))
 leaf_text rows e h =
@@ -165,7 +167,8 @@ start_stays : (b : ℕ) (text : List ℕ) → is_whitespace b ≡ false → trim
 start_stays b text h = ap (λ v. cond v (trim_start text) (b ∷ text)) h
 
 number_starts : (word rest : List ℕ) → is_digit_text word ≡ true
-    → (is_blank (word ++ rest) ≡ false) × (begins_with (word ++ rest) (codes "#") ≡ false) × (trim_start (word ++ rest) ≡ word ++ rest) × (is_leaf_byte (slice_index (word ++ rest) 0) ≡ false)
+    → (is_blank (word ++ rest) ≡ false) × (begins_with (word ++ rest) (codes "#") ≡ false) × (trim_start (word ++ rest) ≡ word ++ rest)
+    × (is_leaf_byte (slice_index (word ++ rest) 0) ≡ false)
 number_starts [] rest h = cc
 number_starts (b ∷ word) rest h =
     let one : is_ascii_digit b ≡ true = first _ _ (second (not (is_empty (b ∷ word))) _ h) in
@@ -224,7 +227,8 @@ module _ (a b c d e : List ℕ) (level nw ne sw se : ℕ) (p : Spells a level) (
         trimmed = ap (without_last is_whitespace) n.2 ∙ five_ends.whole;
         no_bad_leaf = ap (λ v. v && not (is_leaf text)) n.3;
         says =
-            ap (λ v. cond v (cond (is_leaf text) (Some (Leaf (leaf_bytes text))) None) (cond (list_all is_digit_text (words_of text)) (quad_of (map value_of (words_of text))) None)) n.3
+            ap (λ v. cond v (cond (is_leaf text) (Some (Leaf (leaf_bytes text))) None)
+            (cond (list_all is_digit_text (words_of text)) (quad_of (map value_of (words_of text))) None)) n.3
             ∙ ap (λ v. cond v (quad_of (map value_of (words_of text))) None) five_square ∙ five_values;
       }
 
@@ -235,4 +239,5 @@ pub quad_text : (level nw ne sw se : ℕ) → level < 10 ^ 64 → nw < 10 ^ 64 �
     → IsTextOf (Quad level nw ne sw se) (line_text (Quad level nw ne sw se))
 quad_text level nw ne sw se p q r s t =
     subst (IsTextOf (Quad level nw ne sw se)) (sym (regroup (decimal level) (decimal nw) (decimal ne) (decimal sw) (decimal se)))
-    (quad_of_five (decimal level) (decimal nw) (decimal ne) (decimal sw) (decimal se) level nw ne sw se (spelled level p) (spelled nw q) (spelled ne r) (spelled sw s) (spelled se t))
+    (quad_of_five (decimal level) (decimal nw) (decimal ne) (decimal sw) (decimal se) level nw ne sw se (spelled level p) (spelled nw q) (spelled ne r)
+    (spelled sw s) (spelled se t))

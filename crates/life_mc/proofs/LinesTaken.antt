@@ -18,7 +18,8 @@ use Rattle.life_mc.proofs.Grammars.{grammars_agree}
 use Rattle.life_mc.proofs.ReadLines.{squares_none, squares_some, refused_at}
 
 -- the squares of the lines so far, with that of one line more
-pub squares_taken : (before : List (List ℕ)) (line : List ℕ) → squares_of (before ++ line ∷ []) ≡ squares_of before ++ cons_option (square_behind before line) []
+pub squares_taken : (before : List (List ℕ)) (line : List ℕ) → squares_of (before ++ line ∷ []) ≡ squares_of before ++ cons_option (square_behind before line)
+    []
 squares_taken before line = by (square_behind before line) refl
   where
     by : (o : Option Line) → square_behind before line ≡ o → squares_of (before ++ line ∷ []) ≡ squares_of before ++ cons_option o []
@@ -50,15 +51,18 @@ pub none_squares : (lines : List (List ℕ)) (squares : List Line) → lines ≡
 none_squares lines squares e f = f ∙ sym (ap squares_of e)
 
 -- why an input is refused of which this line breaks a rule
-pub refused_here : (top : ℕ) (lines : List (List ℕ)) (before : List (ℕ × List ℕ)) (k : ℕ) (line : List ℕ) (rest : List (ℕ × List ℕ)) (front : List (List ℕ)) (fault : Fault)
-    → before ++ (k, line) ∷ rest ≡ numbered_from 1 lines → front ≡ texts before → AreUnbroken top front → broken top front line ≡ Some fault.kind → fault.place.line ≡ k
+pub refused_here : (top : ℕ) (lines : List (List ℕ)) (before : List (ℕ × List ℕ)) (k : ℕ) (line : List ℕ) (rest : List (ℕ × List ℕ)) (front : List (List ℕ))
+    (fault : Fault)
+    → before ++ (k, line) ∷ rest ≡ numbered_from 1 lines → front ≡ texts before → AreUnbroken top front → broken top front line ≡ Some fault.kind
+    → fault.place.line ≡ k
     → Refuses top lines fault
 refused_here top lines before k line rest front fault e f u b l =
     let P : List (List ℕ) → Type 0 = λ ls. broken top ls line ≡ Some fault.kind in
     refused_at top lines before k line rest fault e (subst (AreUnbroken top) f u) (subst P f b) l
 
 -- the file of the lines that has this rule, this generation and these squares
-pub file_of : (top : ℕ) (lines : List (List ℕ)) (said file : Macrocell) → IsFile top lines said → file.rule ≡ said.rule → file.generation ≡ said.generation → file.lines ≡ squares_of lines
+pub file_of : (top : ℕ) (lines : List (List ℕ)) (said file : Macrocell) → IsFile top lines said → file.rule ≡ said.rule → file.generation ≡ said.generation
+    → file.lines ≡ squares_of lines
     → IsFile top lines file
 file_of top lines said file f r g s =
     let m = (grammars_agree top lines said).0 f in

@@ -24,7 +24,8 @@ pub passed : (v : Bool) (kind : Kind) (rest : Option Kind) → cond v (Some kind
 passed true kind rest h = cc
 passed false kind rest h = h
 
-there_by : (top : ℕ) (rule : Rule) (levels : List ℕ) (v : Bool) (o : Option Line) → cond v (Some BadLeaf) (broken_by_square top rule levels o) ≡ None → IsThere o
+there_by : (top : ℕ) (rule : Rule) (levels : List ℕ) (v : Bool) (o : Option Line) → cond v (Some BadLeaf) (broken_by_square top rule levels o) ≡ None
+    → IsThere o
 there_by top rule levels true o h = cc
 there_by top rule levels false None h = cc
 there_by top rule levels false (Some square) h = (square, refl)
@@ -42,10 +43,12 @@ module _ (top : ℕ) (header : List ℕ) (front : List (List ℕ)) (line : List 
   judged : broken_behind top before line ≡ broken_by_node top (rule_in_force before) (map level_of (squares_of before)) (trim line)
   judged =
       let m = no_mark line hash blank in
-      cascade (is_blank line) (begins_with line (codes "#FRAME")) (is_command 82 line) (is_command 71 line) (nat_lt 0 (length (squares_of before))) (begins_with line (codes "#")) blank m.0 m.1 m.2 hash
+      cascade (is_blank line) (begins_with line (codes "#FRAME")) (is_command 82 line) (is_command 71 line) (nat_lt 0 (length (squares_of before)))
+      (begins_with line (codes "#")) blank m.0 m.1 m.2 hash
     where
       cascade : (b f r g l m : Bool) → b ≡ false → f ≡ false → r ≡ false → g ≡ false → m ≡ false
-          → cond b None (cond f (Some Timeline) (cond ((r || g) && l) (Some LateHeader) (cond r (fault_in (rule_of (drop 2 line))) (cond g (fault_in (u64_of (trim (drop 2 line))))
+          → cond b None (cond f (Some Timeline)
+          (cond ((r || g) && l) (Some LateHeader) (cond r (fault_in (rule_of (drop 2 line))) (cond g (fault_in (u64_of (trim (drop 2 line))))
           (cond m None (broken_by_node top (rule_in_force before) (map level_of (squares_of before)) (trim line)))))))
           ≡ broken_by_node top (rule_in_force before) (map level_of (squares_of before)) (trim line)
       cascade b f r g l m p q s u w = rw (p, q, s, u, w) refl
@@ -56,7 +59,8 @@ module _ (top : ℕ) (header : List ℕ) (front : List (List ℕ)) (line : List 
 
   square_there : broken top before line ≡ None → IsThere (square_on line)
   square_there h =
-      let t = there_by top (rule_in_force before) (map level_of (squares_of before)) (is_leaf_byte (slice_index (trim line) 0) && not (is_leaf (trim line))) (square_of (trim line)) (sym judged ∙ behind h) in
+      let t = there_by top (rule_in_force before) (map level_of (squares_of before)) (is_leaf_byte (slice_index (trim line) 0) && not (is_leaf (trim line)))
+      (square_of (trim line)) (sym judged ∙ behind h) in
       (t.0, ap (λ v. cond v (square_of (trim line)) None) n ∙ t.1)
 
 -- as many squares as node lines, where each of these has a square

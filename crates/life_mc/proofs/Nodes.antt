@@ -17,7 +17,8 @@ use Rattle.life_mc.specs.Standing.{quad_words}
 use Rattle.life_mc.specs.declared.line.Line.{Line}
 use Rattle.life_mc.specs.declared.line.Line.TheVariants.{Leaf, Quad}
 
-pub match_map : {X E : Type 0} {P P' : X → Type 0} {Q Q' : E → Type 0} (r : Result X E) → MatchResult r P Q → ((x : X) → P x → P' x) → ((e : E) → Q e → Q' e) → MatchResult r P' Q'
+pub match_map : {X E : Type 0} {P P' : X → Type 0} {Q Q' : E → Type 0} (r : Result X E) → MatchResult r P Q → ((x : X) → P x → P' x) → ((e : E) → Q e → Q' e)
+    → MatchResult r P' Q'
 match_map (Ok x) h f g = f x h
 match_map (Err e) h f g = g e h
 
@@ -67,7 +68,8 @@ module _ (top : ℕ) (rule : Rule) (levels : List ℕ) (low : top ≤ 255) (few 
   quarter_is : (level n : ℕ) → is_quarter rule levels level (capped n) ≡ true → capped n ≡ n
   quarter_is level n h = elim (small_or_large n) [
     | inl e ↦ e
-    | inr l ↦ (let f : is_quarter rule levels level (capped n) ≡ false = ap (is_quarter rule levels level) l.1 ∙ no_quarter rule levels level top_number few (omega arith) in
+    | inr l ↦ (let f : is_quarter rule levels level (capped n) ≡ false = ap (is_quarter rule levels level) l.1
+        ∙ no_quarter rule levels level top_number few (omega arith) in
         absurd (no (sym h ∙ f)))
   ]
     where
@@ -78,7 +80,8 @@ module _ (top : ℕ) (rule : Rule) (levels : List ℕ) (low : top ≤ 255) (few 
   judged v w one = cond (not v) (Some BadLevel) (cond w None (cond one (Some StateRange) (Some BadChild)))
 
   quarters_same : (level nw ne sw se : ℕ)
-      → list_all (is_quarter rule levels level) (capped nw ∷ capped ne ∷ capped sw ∷ capped se ∷ []) ≡ list_all (is_quarter rule levels level) (nw ∷ ne ∷ sw ∷ se ∷ [])
+      → list_all (is_quarter rule levels level) (capped nw ∷ capped ne ∷ capped sw ∷ capped se ∷ []) ≡ list_all (is_quarter rule levels level)
+      (nw ∷ ne ∷ sw ∷ se ∷ [])
   quarters_same level nw ne sw se = rw (quarter_same level nw, quarter_same level ne, quarter_same level sw, quarter_same level se) refl
 
   level_low : (n : ℕ) → top_number < n → (nat_le 1 n && nat_le n top) ≡ false
@@ -128,7 +131,8 @@ module _ (top : ℕ) (rule : Rule) (levels : List ℕ) (low : top ≤ 255) (few 
   numbers_are level nw ne sw se h =
       let k = capped level in
       let p = none_judged (nat_le 1 k && nat_le k top) (list_all (is_quarter rule levels k) (capped nw ∷ capped ne ∷ capped sw ∷ capped se ∷ [])) (k == 1) h in
-      let q = all_four (is_quarter rule levels k (capped nw)) (is_quarter rule levels k (capped ne)) (is_quarter rule levels k (capped sw)) (is_quarter rule levels k (capped se)) p.1 in
+      let q = all_four (is_quarter rule levels k (capped nw)) (is_quarter rule levels k (capped ne)) (is_quarter rule levels k (capped sw))
+      (is_quarter rule levels k (capped se)) p.1 in
       rw (level_is level p.0, quarter_is k nw q.0, quarter_is k ne q.1, quarter_is k sw q.2, quarter_is k se q.3) refl
 
   abbrev plain : Bool → List (List ℕ) → Option Line
@@ -150,7 +154,8 @@ module _ (top : ℕ) (rule : Rule) (levels : List ℕ) (low : top ≤ 255) (few 
   quad_by true (a ∷ b ∷ c ∷ d ∷ e ∷ []) q h =
       let is = some_is q (Quad (capped (value_of a)) (capped (value_of b)) (capped (value_of c)) (capped (value_of d)) (capped (value_of e))) h in (
         ap (λ s. broken_by_square top rule levels (Some s)) is ∙ numbers_same (value_of a) (value_of b) (value_of c) (value_of d) (value_of e),
-        λ n. ap Some (sym (is ∙ numbers_are (value_of a) (value_of b) (value_of c) (value_of d) (value_of e) (ap (λ s. broken_by_square top rule levels (Some s)) (sym is) ∙ n))),
+        λ n. ap Some (sym (is ∙ numbers_are (value_of a) (value_of b) (value_of c) (value_of d) (value_of e)
+            (ap (λ s. broken_by_square top rule levels (Some s)) (sym is) ∙ n))),
       )
   quad_by true [] q h = cc
   quad_by true (a ∷ []) q h = cc
@@ -177,11 +182,13 @@ module _ (top : ℕ) (rule : Rule) (levels : List ℕ) (low : top ≤ 255) (few 
     is_plain = ap (λ v. cond v (cond (is_leaf text) (Some (Leaf (leaf_bytes text))) None) (plain digits (words_of text))) no_leaf
 
     is_judged : broken_by_node top rule levels text ≡ broken_by_square top rule levels (plain digits (words_of text))
-    is_judged = ap (λ v. cond (v && not (is_leaf text)) (Some BadLeaf) (broken_by_square top rule levels (square_of text))) no_leaf ∙ ap (broken_by_square top rule levels) is_plain
+    is_judged = ap (λ v. cond (v && not (is_leaf text)) (Some BadLeaf) (broken_by_square top rule levels (square_of text))) no_leaf
+        ∙ ap (broken_by_square top rule levels) is_plain
 
     -- five numbers
     pub quad_read : (q : Line) → Some q ≡ quad_words (words_of text)
-        → (broken_by_square top rule levels (Some q) ≡ broken_by_node top rule levels text) × (broken_by_square top rule levels (Some q) ≡ None → square_of text ≡ Some q)
+        → (broken_by_square top rule levels (Some q) ≡ broken_by_node top rule levels text)
+        × (broken_by_square top rule levels (Some q) ≡ None → square_of text ≡ Some q)
     quad_read q h = let r = quad_by digits (words_of text) q h in (r.0 ∙ sym is_judged, λ n. is_plain ∙ r.1 n)
 
     -- no five numbers

@@ -18,7 +18,8 @@ at_most top h rule levels (Leaf rows) s = h
 at_most top h rule levels (Quad level nw ne sw se) s = s.1
 
 -- a coordinate beyond the edge is no column or row of a square around the middle
-beyond : (x : ℤ) (half edge wide c : ℕ) → half ≤ edge → wide ≡ half + half → x +ℤ pos half ≡ pos c → (x <ℤ neg_ℤ (pos edge)) ⊎ (pos edge ≤ℤ x) → nat_lt c wide ≡ false
+beyond : (x : ℤ) (half edge wide c : ℕ) → half ≤ edge → wide ≡ half + half → x +ℤ pos half ≡ pos c → (x <ℤ neg_ℤ (pos edge)) ⊎ (pos edge ≤ℤ x)
+    → nat_lt c wide ≡ false
 beyond x half edge wide c l w e (inl b) = absurd (omega (arith, ints, b))
 beyond x half edge wide c l w e (inr b) = let far : wide ≤ c = omega (arith, ints, b) in grind (arith, nat_tests)
 
@@ -59,7 +60,8 @@ blank top h rule (line ∷ lines) valid x y o =
     let some : 1 ≤ level = omega (arith, some_level top rule (map level_of (take (length lines) (line ∷ lines))) r.0 square, r.2) in
     let within : level ≤ top = omega (arith, at_most top h rule (map level_of (take (length lines) (line ∷ lines))) r.0 square, r.2) in
     let wide : 2 ^ level ≡ 2 ^ (level - 1) + 2 ^ (level - 1) = whole level some in
-    blank_at (line ∷ lines) level (2 ^ (level - 1)) (2 ^ (top - 1)) (pow_mono (omega arith)) wide x y (x +ℤ pos (2 ^ (level - 1))) (y +ℤ pos (2 ^ (level - 1))) refl refl (sides top x y o)
+    blank_at (line ∷ lines) level (2 ^ (level - 1)) (2 ^ (top - 1)) (pow_mono (omega arith)) wide x y (x +ℤ pos (2 ^ (level - 1))) (y +ℤ pos (2 ^ (level - 1)))
+    refl refl (sides top x y o)
   where
     whole : (n : ℕ) → 1 ≤ n → 2 ^ n ≡ 2 ^ (n - 1) + 2 ^ (n - 1)
     whole n s = let e : suc (n - 1) ≡ n = omega arith in ap (λ m. 2 ^ m) (sym e) ∙ twice (n - 1)

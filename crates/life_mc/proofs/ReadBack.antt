@@ -21,7 +21,8 @@ pub line_ended : (text rest : List ℕ) → has_no_feed text ≡ true → lines_
 line_ended [] rest h = refl
 line_ended (b ∷ text) rest h =
     let e : (b == 10) ≡ false = not-true (b == 10) (first _ _ h) in
-    ap (λ v. cond v ([] ∷ lines_of (text ++ 10 ∷ rest)) (onto_first b (lines_of (text ++ 10 ∷ rest)))) e ∙ ap (onto_first b) (line_ended text rest (second _ _ h))
+    ap (λ v. cond v ([] ∷ lines_of (text ++ 10 ∷ rest)) (onto_first b (lines_of (text ++ 10 ∷ rest)))) e
+    ∙ ap (onto_first b) (line_ended text rest (second _ _ h))
 
 -- the cells of a row that are written
 abbrev pub written : ℕ → List ℕ

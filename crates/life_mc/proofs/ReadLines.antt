@@ -23,9 +23,11 @@ one_on line square h = rw h refl
 pub squares_none : (before : List (List ℕ)) (line : List ℕ) → square_behind before line ≡ None → squares_of (before ++ line ∷ []) ≡ squares_of before
 squares_none [] line h = refl
 squares_none (header ∷ before) line h =
-    filter_map-append square_on before (line ∷ []) ∙ ap (λ (t : List Line). filter_map square_on before ++ t) (none_on line h) ∙ append-nil (filter_map square_on before)
+    filter_map-append square_on before (line ∷ []) ∙ ap (λ (t : List Line). filter_map square_on before ++ t) (none_on line h)
+    ∙ append-nil (filter_map square_on before)
 
-pub squares_some : (before : List (List ℕ)) (line : List ℕ) (square : Line) → square_behind before line ≡ Some square → squares_of (before ++ line ∷ []) ≡ squares_of before ++ square ∷ []
+pub squares_some : (before : List (List ℕ)) (line : List ℕ) (square : Line) → square_behind before line ≡ Some square
+    → squares_of (before ++ line ∷ []) ≡ squares_of before ++ square ∷ []
 squares_some [] line square h = cc
 squares_some (header ∷ before) line square h =
     filter_map-append square_on before (line ∷ []) ∙ ap (λ (t : List Line). filter_map square_on before ++ t) (one_on line square h)
@@ -38,4 +40,5 @@ refused_at top = numbered_lines.refused_at (Accepts top) (broken top) missing (b
 
 -- why a file without lines is refused
 pub no_lines : (top : ℕ) → Refuses top [] (fault_at 1 NoHeader)
-no_lines top = refusal_at_end (Accepts top) (broken top) missing (by_lines top) [] NoHeader (λ k h. absurd (omega arith)) (λ g. let h : 0 < length (let e : List (List ℕ) = [] in e) = g.1.header in absurd (omega arith)) refl
+no_lines top = refusal_at_end (Accepts top) (broken top) missing (by_lines top) [] NoHeader (λ k h. absurd (omega arith))
+    (λ g. let h : 0 < length (let e : List (List ℕ) = [] in e) = g.1.header in absurd (omega arith)) refl

@@ -54,21 +54,24 @@ state_in : (k : ℕ) (a b c d : Tree) → depth a ≡ k → (x y : ℕ)
     → state_at (quad a b c d) x y
     ≡ chosen (state_at a x y) (state_at b (x - 2 ^ k) y) (state_at c x (y - 2 ^ k)) (state_at d (x - 2 ^ k) (y - 2 ^ k)) (nat_lt y (2 ^ k)) (nat_lt x (2 ^ k))
 state_in k a b c d is x y =
-    ap (λ n. chosen (state_at a x y) (state_at b (x - 2 ^ n) y) (state_at c x (y - 2 ^ n)) (state_at d (x - 2 ^ n) (y - 2 ^ n)) (nat_lt y (2 ^ n)) (nat_lt x (2 ^ n))) is
+    ap (λ n. chosen (state_at a x y) (state_at b (x - 2 ^ n) y) (state_at c x (y - 2 ^ n)) (state_at d (x - 2 ^ n) (y - 2 ^ n)) (nat_lt y (2 ^ n))
+    (nat_lt x (2 ^ n))) is
 
 -- four numbers whose squares show their cells
 module _ (most k : ℕ) (tree_for : ℕ → Tree) (cells_for : ℕ → ℕ → ℕ → ℕ) (nw ne sw se : ℕ)
     (a : Shows most k (tree_for nw) (cells_for nw)) (b : Shows most k (tree_for ne) (cells_for ne))
     (c : Shows most k (tree_for sw) (cells_for sw)) (d : Shows most k (tree_for se) (cells_for se)) where
   same_at : (x y : ℕ) → x < 2 ^ suc k → y < 2 ^ suc k → (v w : Bool) → nat_lt y (2 ^ k) ≡ v → nat_lt x (2 ^ k) ≡ w
-      → chosen (state_at (tree_for nw) x y) (state_at (tree_for ne) (x - 2 ^ k) y) (state_at (tree_for sw) x (y - 2 ^ k)) (state_at (tree_for se) (x - 2 ^ k) (y - 2 ^ k)) v w
+      → chosen (state_at (tree_for nw) x y) (state_at (tree_for ne) (x - 2 ^ k) y) (state_at (tree_for sw) x (y - 2 ^ k))
+      (state_at (tree_for se) (x - 2 ^ k) (y - 2 ^ k)) v w
       ≡ cells_for (cond v (cond w nw ne) (cond w sw se)) (x % 2 ^ k) (y % 2 ^ k)
   same_at x y l m true true e f = rw (mod-below k x f, mod-below k y e) (a.same x y (below-of x (2 ^ k) f) (below-of y (2 ^ k) e))
   same_at x y l m true false e f = rw (mod-above k x l f, mod-below k y e) (b.same (x - 2 ^ k) y (rest-of k x l f) (below-of y (2 ^ k) e))
   same_at x y l m false true e f = rw (mod-below k x f, mod-above k y m e) (c.same x (y - 2 ^ k) (below-of x (2 ^ k) f) (rest-of k y m e))
   same_at x y l m false false e f = rw (mod-above k x l f, mod-above k y m e) (d.same (x - 2 ^ k) (y - 2 ^ k) (rest-of k x l f) (rest-of k y m e))
 
-  quad_shows : Shows most (suc k) (quad (tree_for nw) (tree_for ne) (tree_for sw) (tree_for se)) (λ x y. cells_for (quarter_at (2 ^ k) x y nw ne sw se) (x % 2 ^ k) (y % 2 ^ k))
+  quad_shows : Shows most (suc k) (quad (tree_for nw) (tree_for ne) (tree_for sw) (tree_for se))
+      (λ x y. cells_for (quarter_at (2 ^ k) x y nw ne sw se) (x % 2 ^ k) (y % 2 ^ k))
   quad_shows = record {
     depth_is = ap suc a.depth_is;
     full = (a.full, b.full, c.full, d.full, b.depth_is ∙ sym a.depth_is, c.depth_is ∙ sym a.depth_is, d.depth_is ∙ sym a.depth_is);
@@ -80,7 +83,8 @@ module _ (most k : ℕ) (tree_for : ℕ → Tree) (cells_for : ℕ → ℕ → �
 
 blank_state : (k x y : ℕ) → state_at (blank k) x y ≡ 0
 blank_state zero x y = refl
-blank_state (suc k) x y = all_zero (nat_lt y (2 ^ depth (blank k))) (nat_lt x (2 ^ depth (blank k))) (blank_state k x y) (blank_state k (x - 2 ^ depth (blank k)) y)
+blank_state (suc k) x y = all_zero (nat_lt y (2 ^ depth (blank k))) (nat_lt x (2 ^ depth (blank k))) (blank_state k x y)
+    (blank_state k (x - 2 ^ depth (blank k)) y)
     (blank_state k x (y - 2 ^ depth (blank k))) (blank_state k (x - 2 ^ depth (blank k)) (y - 2 ^ depth (blank k)))
   where
     all_zero : {a b c d : ℕ} (v w : Bool) → a ≡ 0 → b ≡ 0 → c ≡ 0 → d ≡ 0 → chosen a b c d v w ≡ 0
@@ -133,7 +137,8 @@ module _ (most : ℕ) (low : most ≤ 255) (states : ℕ → ℕ → ℕ) (few :
         full = (a.full, b.full, c.full, d.full, b.depth_is ∙ sym a.depth_is, c.depth_is ∙ sym a.depth_is, d.depth_is ∙ sym a.depth_is);
         states = (a.states, b.states, c.states, d.states);
         same = λ x y l m.
-            state_in k (tree_at states k column row) (tree_at states k (column + 2 ^ k) row) (tree_at states k column (row + 2 ^ k)) (tree_at states k (column + 2 ^ k) (row + 2 ^ k)) a.depth_is x y
+            state_in k (tree_at states k column row) (tree_at states k (column + 2 ^ k) row) (tree_at states k column (row + 2 ^ k))
+            (tree_at states k (column + 2 ^ k) (row + 2 ^ k)) a.depth_is x y
             ∙ by x y l m a b c d (nat_lt y (2 ^ k)) (nat_lt x (2 ^ k)) refl refl;
       }
     where
@@ -141,12 +146,14 @@ module _ (most : ℕ) (low : most ≤ 255) (states : ℕ → ℕ → ℕ) (few :
       back n x h = let l : 2 ^ k ≤ x = above-of x (2 ^ k) h in omega arith
 
       by : (x y : ℕ) → x < 2 ^ suc k → y < 2 ^ suc k
-          → Shows most k (tree_at states k column row) (shifted column row) → Shows most k (tree_at states k (column + 2 ^ k) row) (shifted (column + 2 ^ k) row)
+          → Shows most k (tree_at states k column row) (shifted column row)
+          → Shows most k (tree_at states k (column + 2 ^ k) row) (shifted (column + 2 ^ k) row)
           → Shows most k (tree_at states k column (row + 2 ^ k)) (shifted column (row + 2 ^ k))
           → Shows most k (tree_at states k (column + 2 ^ k) (row + 2 ^ k)) (shifted (column + 2 ^ k) (row + 2 ^ k))
           → (v w : Bool) → nat_lt y (2 ^ k) ≡ v → nat_lt x (2 ^ k) ≡ w
           → chosen (state_at (tree_at states k column row) x y) (state_at (tree_at states k (column + 2 ^ k) row) (x - 2 ^ k) y)
-          (state_at (tree_at states k column (row + 2 ^ k)) x (y - 2 ^ k)) (state_at (tree_at states k (column + 2 ^ k) (row + 2 ^ k)) (x - 2 ^ k) (y - 2 ^ k)) v w
+          (state_at (tree_at states k column (row + 2 ^ k)) x (y - 2 ^ k)) (state_at (tree_at states k (column + 2 ^ k) (row + 2 ^ k)) (x - 2 ^ k) (y - 2 ^ k))
+          v w
           ≡ shifted column row x y
       by x y l m a b c d true true e f = a.same x y (below-of x (2 ^ k) f) (below-of y (2 ^ k) e)
       by x y l m a b c d true false e f =
@@ -167,7 +174,8 @@ leaf_shows most some low rows =
       depth_is = t.depth_is;
       full = t.full;
       states = t.states;
-      same = λ x y l m. t.same x y l m ∙ shifted_same most low (leaf_cell rows) (λ x y. omega (arith, bit_small rows x y)) 0 0 x y x y 0 0 (omega arith) (omega arith)
+      same = λ x y l m. t.same x y l m ∙ shifted_same most low (leaf_cell rows) (λ x y. omega (arith, bit_small rows x y)) 0 0 x y x y 0 0 (omega arith)
+          (omega arith)
           ∙ ap (λ n. leaf_cell rows n (y + 0)) (plus_none x) ∙ ap (leaf_cell rows x) (plus_none y);
     }
   where
@@ -266,8 +274,10 @@ module _ (top : ℕ) (rule : Rule) (lines : List Line) (valid : AreSquares top r
       }
   sound_line k i (Quad level a b c d) e g is below =
       let levels = map level_of (take i lines) in
-      let four : list_all (is_quarter rule levels (suc k)) (a ∷ b ∷ c ∷ d ∷ []) ≡ true = ap (λ n. list_all (is_quarter rule levels n) (a ∷ b ∷ c ∷ d ∷ [])) (sym e) ∙ is.2 in
-      let q = all_four (is_quarter rule levels (suc k) a) (is_quarter rule levels (suc k) b) (is_quarter rule levels (suc k) c) (is_quarter rule levels (suc k) d) four in
+      let four : list_all (is_quarter rule levels (suc k)) (a ∷ b ∷ c ∷ d ∷ []) ≡ true = ap (λ n. list_all (is_quarter rule levels n) (a ∷ b ∷ c ∷ d ∷ []))
+      (sym e) ∙ is.2 in
+      let q = all_four (is_quarter rule levels (suc k) a) (is_quarter rule levels (suc k) b) (is_quarter rule levels (suc k) c)
+      (is_quarter rule levels (suc k) d) four in
       let nw = below a q.0 in
       let ne = below b q.1 in
       let sw = below c q.2 in
@@ -278,7 +288,8 @@ module _ (top : ℕ) (rule : Rule) (lines : List Line) (valid : AreSquares top r
         front = λ m some.
             let l : i < m = omega (arith, some (omega arith)) in
             ap (tree_by (take m lines) k) (get_take lines m i l ∙ g)
-            ∙ joined (nw.0.front m (λ h. omega (arith, nw.1 h))) (ne.0.front m (λ h. omega (arith, ne.1 h))) (sw.0.front m (λ h. omega (arith, sw.1 h))) (se.0.front m (λ h. omega (arith, se.1 h)))
+            ∙ joined (nw.0.front m (λ h. omega (arith, nw.1 h))) (ne.0.front m (λ h. omega (arith, ne.1 h))) (sw.0.front m (λ h. omega (arith, sw.1 h)))
+            (se.0.front m (λ h. omega (arith, se.1 h)))
             ∙ sym (ap (tree_by lines k) g);
       }
 
@@ -350,7 +361,8 @@ module _ (most level : ℕ) (some : 1 ≤ level) (tree : Tree) (lines : List Lin
   no_second true false n h = refl
   no_second false false n h = refl
 
-  from_corner : (x y a b : ℤ) → x +ℤ pos half ≡ a → y +ℤ pos half ≡ b → cell_from lines level a b ≡ when (within x) (within y) (state_at tree (unsigned_abs a) (unsigned_abs b))
+  from_corner : (x y a b : ℤ) → x +ℤ pos half ≡ a → y +ℤ pos half ≡ b
+      → cell_from lines level a b ≡ when (within x) (within y) (state_at tree (unsigned_abs a) (unsigned_abs b))
   from_corner x y (pos c) (pos r) e f =
       let v : within x ≡ nat_lt c (2 ^ level) = in_span x half c e ∙ ap (nat_lt c) (sym whole) in
       let w : within y ≡ nat_lt r (2 ^ level) = in_span y half r f ∙ ap (nat_lt r) (sym whole) in
@@ -381,7 +393,8 @@ plane top rule generation (line ∷ lines) valid x y =
     let r = root_at line lines in
     let level = root_level (line ∷ lines) in
     let some : 1 ≤ level = omega (arith, some_level top rule (map level_of (take (length lines) (line ∷ lines))) r.0 (valid (length lines) r.0 r.1), r.2) in
-    on_plane (largest_state rule) level some (root_tree (line ∷ lines)) (line ∷ lines) (sound_at top rule (line ∷ lines) valid (length lines) r.0 r.1 level r.2).shows x y
+    on_plane (largest_state rule) level some (root_tree (line ∷ lines)) (line ∷ lines)
+    (sound_at top rule (line ∷ lines) valid (length lines) r.0 r.1 level r.2).shows x y
 
 root_stands : (top : ℕ) (rule : Rule) (lines : List Line) → AreSquares top rule lines → StandsForSquare rule lines (root_level lines) (length lines)
 root_stands top rule [] valid = record { depth_is = refl; full = omega arith; states = omega arith; cells = λ x y l m. refl; by_front = refl }

@@ -29,7 +29,8 @@ use Rattle.life_mc.proofs.ReadLines.{squares_none, squares_some}
 abbrev by_tests : Bool → Bool → ℕ → Result ℕ Kind
 by_tests u v n = cond (not u) (Err BadNumber) (cond v (Ok n) (Err TooLarge))
 
-test_each : (u v : Bool) (n : ℕ) → MatchResult (by_tests u v n) (λ m. (m ≡ n) × (fault_in (by_tests u v n) ≡ None)) (λ kind. fault_in (by_tests u v n) ≡ Some kind)
+test_each : (u v : Bool) (n : ℕ) → MatchResult (by_tests u v n) (λ m. (m ≡ n) × (fault_in (by_tests u v n) ≡ None))
+    (λ kind. fault_in (by_tests u v n) ≡ Some kind)
 test_each false v n = refl
 test_each true true n = (refl, refl)
 test_each true false n = refl
@@ -37,7 +38,8 @@ test_each true false n = refl
 pub generation_read : (text : List ℕ) (r : Result ℕ Kind) → r ≡ u64_of text
     → MatchResult r (λ n. (n ≡ value_of text) × (fault_in (u64_of text) ≡ None)) (λ kind. fault_in (u64_of text) ≡ Some kind)
 generation_read text r e =
-    let P : Result ℕ Kind → Type 0 = λ s. MatchResult s (λ n. (n ≡ value_of text) × (fault_in (u64_of text) ≡ None)) (λ kind. fault_in (u64_of text) ≡ Some kind) in
+    let P : Result ℕ Kind → Type 0 = λ s. MatchResult s (λ n. (n ≡ value_of text) × (fault_in (u64_of text) ≡ None))
+    (λ kind. fault_in (u64_of text) ≡ Some kind) in
     subst P (sym e) (test_each (is_digit_text text) (nat_le (value_of text) (2 ^ 64 - 1)) (value_of text))
 
 -- ---- which rule a line breaks
@@ -84,7 +86,8 @@ cascade top rule levels line some =
     (cond (is_command 71 line) (fault_in (u64_of (trim (drop 2 line))))
     (cond (begins_with line (codes "#")) None (broken_by_node top rule levels (trim line)))))))
 
-behind_is : (top : ℕ) (before : List (List ℕ)) (line : List ℕ) → broken_behind top before line ≡ broken_after top (rule_in_force before) (map level_of (squares_of before)) line
+behind_is : (top : ℕ) (before : List (List ℕ)) (line : List ℕ) → broken_behind top before line ≡ broken_after top (rule_in_force before)
+    (map level_of (squares_of before)) line
 behind_is top before line = ap (cascade top (rule_in_force before) (map level_of (squares_of before)) line) (any_squares (squares_of before))
 
 module _ (top : ℕ) (lines : List (List ℕ)) (line : List ℕ) (old : Standing) (s : StandsAfter top lines old) (h : length line ≤ 2 ^ 20) where
@@ -93,23 +96,28 @@ module _ (top : ℕ) (lines : List (List ℕ)) (line : List ℕ) (old : Standing
 
   pub breaks_header : old.started ≡ false → begins_with line (codes "[M2]") ≡ false → broken top lines line ≡ Some NoHeader
   breaks_header f b =
-      short top lines line h ∙ ap (λ v. cond v (cond (begins_with line (codes "[M2]")) None (Some NoHeader)) (broken_behind top lines line)) (not-not old.started (is_empty lines) s.started f)
+      short top lines line h ∙ ap (λ v. cond v (cond (begins_with line (codes "[M2]")) None (Some NoHeader)) (broken_behind top lines line))
+      (not-not old.started (is_empty lines) s.started f)
       ∙ ap (λ v. cond v None (Some NoHeader)) b
 
   is_header : old.started ≡ false → begins_with line (codes "[M2]") ≡ true → broken top lines line ≡ None
   is_header f b =
-      short top lines line h ∙ ap (λ v. cond v (cond (begins_with line (codes "[M2]")) None (Some NoHeader)) (broken_behind top lines line)) (not-not old.started (is_empty lines) s.started f)
+      short top lines line h ∙ ap (λ v. cond v (cond (begins_with line (codes "[M2]")) None (Some NoHeader)) (broken_behind top lines line))
+      (not-not old.started (is_empty lines) s.started f)
       ∙ ap (λ v. cond v None (Some NoHeader)) b
 
   -- behind the header what is kept decides
   pub broken_is : old.started ≡ true → broken top lines line ≡ broken_after top old.rule old.levels line
   broken_is t =
-      short top lines line h ∙ ap (λ v. cond v (cond (begins_with line (codes "[M2]")) None (Some NoHeader)) (broken_behind top lines line)) (not-true old.started (is_empty lines) s.started t)
-      ∙ behind_is top lines line ∙ ap (λ r. broken_after top r (map level_of (squares_of lines)) line) (sym s.rule) ∙ ap (λ ls. broken_after top old.rule ls line) (sym s.levels)
+      short top lines line h ∙ ap (λ v. cond v (cond (begins_with line (codes "[M2]")) None (Some NoHeader)) (broken_behind top lines line))
+      (not-true old.started (is_empty lines) s.started t)
+      ∙ behind_is top lines line ∙ ap (λ r. broken_after top r (map level_of (squares_of lines)) line) (sym s.rule)
+      ∙ ap (λ ls. broken_after top old.rule ls line) (sym s.levels)
 
 -- ---- one line more
 
-unbroken_more : (top : ℕ) (lines : List (List ℕ)) (line : List ℕ) → ((k : ℕ) → k < length lines → broken top (take k lines) (slice_index_or lines k []) ≡ None) → broken top lines line ≡ None
+unbroken_more : (top : ℕ) (lines : List (List ℕ)) (line : List ℕ) → ((k : ℕ) → k < length lines → broken top (take k lines) (slice_index_or lines k []) ≡ None)
+    → broken top lines line ≡ None
     → (k : ℕ) → k < length (lines ++ line ∷ []) → broken top (take k (lines ++ line ∷ [])) (slice_index_or (lines ++ line ∷ []) k []) ≡ None
 unbroken_more top lines line u b k l = elim (below_or_at k (length lines) (omega (arith, length-append lines (line ∷ [])))) [
   | inl m ↦ (let e : take k (lines ++ line ∷ []) ≡ take k lines = take-append-le k lines (line ∷ []) (omega arith) in
@@ -141,11 +149,13 @@ one_more {X = X} f x ys y (Some z) h =
     one_on : f y ≡ Some z → filter_map f (y ∷ []) ≡ z ∷ []
     one_on e = rw e refl
 
-pub rule_more : (lines : List (List ℕ)) (line : List ℕ) (o : Option Rule) → is_empty lines ≡ false → rule_on line ≡ o → rule_in_force (lines ++ line ∷ []) ≡ or_value o (rule_in_force lines)
+pub rule_more : (lines : List (List ℕ)) (line : List ℕ) (o : Option Rule) → is_empty lines ≡ false → rule_on line ≡ o → rule_in_force (lines ++ line ∷ [])
+    ≡ or_value o (rule_in_force lines)
 rule_more [] line o h e = cc
 rule_more (header ∷ lines) line o h e = one_more rule_on default_rule lines line o e
 
-generation_more : (lines : List (List ℕ)) (line : List ℕ) (o : Option ℕ) → is_empty lines ≡ false → generation_on line ≡ o → generation_in_force (lines ++ line ∷ []) ≡ or_value o (generation_in_force lines)
+generation_more : (lines : List (List ℕ)) (line : List ℕ) (o : Option ℕ) → is_empty lines ≡ false → generation_on line ≡ o
+    → generation_in_force (lines ++ line ∷ []) ≡ or_value o (generation_in_force lines)
 generation_more [] line o h e = cc
 generation_more (header ∷ lines) line o h e = one_more generation_on 0 lines line o e
 
@@ -164,7 +174,8 @@ some_lines (header ∷ lines) line = refl
 
 module _ (top : ℕ) (lines : List (List ℕ)) (line : List ℕ) (old new : Standing) (s : StandsAfter top lines old) (h : length line ≤ 2 ^ 20) where
   -- the header
-  pub stands_first : old.started ≡ false → begins_with line (codes "[M2]") ≡ true → new.started ≡ true → new.rule ≡ old.rule → new.generation ≡ old.generation → new.levels ≡ old.levels
+  pub stands_first : old.started ≡ false → begins_with line (codes "[M2]") ≡ true → new.started ≡ true → new.rule ≡ old.rule → new.generation ≡ old.generation
+      → new.levels ≡ old.levels
       → (None ≡ square_behind lines line) × StandsAfter top (lines ++ line ∷ []) new
   stands_first f b st r g l =
       let none = before_header top lines line old s h f in (
@@ -179,7 +190,8 @@ module _ (top : ℕ) (lines : List (List ℕ)) (line : List ℕ) (old new : Stan
       )
 
   -- a line behind it
-  pub stands_next : (directive : Directive) → let form = form_of directive in old.started ≡ true → broken_after top old.rule old.levels line ≡ None → IsParsed line directive
+  pub stands_next : (directive : Directive) → let form = form_of directive in
+      old.started ≡ true → broken_after top old.rule old.levels line ≡ None → IsParsed line directive
       → new.started ≡ old.started → new.rule ≡ or_value (form_rule form) old.rule → new.generation ≡ or_value (form_generation form) old.generation
       → new.levels ≡ old.levels ++ level_in (form_square form) → (form_square form ≡ square_behind lines line) × StandsAfter top (lines ++ line ∷ []) new
   stands_next directive t b tells st r g l =
@@ -202,7 +214,8 @@ pub rule_breaks : (top : ℕ) (rule : Rule) (levels : List ℕ) (line : List ℕ
     → is_command 82 line ≡ true → nat_lt 0 (length levels) ≡ false → broken_after top rule levels line ≡ fault_in (rule_of (drop 2 line))
 rule_breaks top rule levels line b f r l = rw (b, f, r, l) refl
 
-pub generation_breaks : (top : ℕ) (rule : Rule) (levels : List ℕ) (line : List ℕ) → is_blank line ≡ false → begins_with line (codes "#FRAME") ≡ false → is_command 82 line ≡ false
+pub generation_breaks : (top : ℕ) (rule : Rule) (levels : List ℕ) (line : List ℕ) → is_blank line ≡ false → begins_with line (codes "#FRAME") ≡ false
+    → is_command 82 line ≡ false
     → is_command 71 line ≡ true → nat_lt 0 (length levels) ≡ false → broken_after top rule levels line ≡ fault_in (u64_of (trim (drop 2 line)))
 generation_breaks top rule levels line b f r g l = rw (b, f, r, g, l) refl
 
@@ -229,7 +242,8 @@ generation_parsed_so line n r g e = (
   no_square line (command_is_hash 0 71 line g),
 )
 
-pub combine : {X E : Type 0} {P Q : X → Type 0} {A B C : Type 0} (r : Result X E) → IfOk r P → OnOk r A → OnOk r B → OnOk r C → ((x : X) → P x → A → B → C → Q x) → IfOk r Q
+pub combine : {X E : Type 0} {P Q : X → Type 0} {A B C : Type 0} (r : Result X E) → IfOk r P → OnOk r A → OnOk r B → OnOk r C
+    → ((x : X) → P x → A → B → C → Q x) → IfOk r Q
 combine (Ok x) p a b c f = f x p a b c
 combine (Err e) p a b c f = tt
 

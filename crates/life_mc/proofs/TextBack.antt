@@ -54,16 +54,20 @@ module _ (rule : Rule) (levels : List ℕ) (few : length levels < 10 ^ 64) where
   square_text : (top : ℕ) (line : Line) → top < 10 ^ 64 → IsSquare top rule levels line → IsTextOf line (line_text line)
   square_text top (Leaf rows) low h = leaf_text rows h.0 h.1
   square_text top (Quad level nw ne sw se) low h =
-      let q = all_four (is_quarter rule levels level nw) (is_quarter rule levels level ne) (is_quarter rule levels level sw) (is_quarter rule levels level se) h.2 in
-      quad_text level nw ne sw se (omega (arith, h.1)) (quarter_small level nw q.0) (quarter_small level ne q.1) (quarter_small level sw q.2) (quarter_small level se q.3)
+      let q = all_four (is_quarter rule levels level nw) (is_quarter rule levels level ne) (is_quarter rule levels level sw) (is_quarter rule levels level se)
+      h.2 in
+      quad_text level nw ne sw se (omega (arith, h.1)) (quarter_small level nw q.0) (quarter_small level ne q.1) (quarter_small level sw q.2)
+      (quarter_small level se q.3)
 
 -- a square breaks no rule
 square_stands : (top : ℕ) (rule : Rule) (levels : List ℕ) (line : Line) → IsSquare top rule levels line → broken_by_square top rule levels (Some line) ≡ None
 square_stands top rule levels (Leaf rows) h = refl
 square_stands top rule levels (Quad level nw ne sw se) h =
-    by (nat_le 1 level) (nat_le level top) (list_all (is_quarter rule levels level) (nw ∷ ne ∷ sw ∷ se ∷ [])) (level == 1) (le-leb 1 level h.0) (le-leb level top h.1) h.2
+    by (nat_le 1 level) (nat_le level top) (list_all (is_quarter rule levels level) (nw ∷ ne ∷ sw ∷ se ∷ [])) (level == 1) (le-leb 1 level h.0)
+    (le-leb level top h.1) h.2
   where
-    by : (u v w one : Bool) → u ≡ true → v ≡ true → w ≡ true → cond (not (u && v)) (Some BadLevel) (cond w None (cond one (Some StateRange) (Some BadChild))) ≡ None
+    by : (u v w one : Bool) → u ≡ true → v ≡ true → w ≡ true → cond (not (u && v)) (Some BadLevel) (cond w None (cond one (Some StateRange) (Some BadChild)))
+        ≡ None
     by u v w one p q r = rw (p, q, r) refl
 
 -- ---- a node line
@@ -98,13 +102,17 @@ module _ (top : ℕ) (rule : Rule) (levels : List ℕ) (line : Line) (text : Lis
 
   node_stands : IsSquare top rule levels line → broken_after top rule levels text ≡ None
   node_stands h =
-      cascade (is_blank text) (begins_with text (codes "#FRAME")) (is_command 82 text) (is_command 71 text) (nat_lt 0 (length levels)) (begins_with text (codes "#")) t.blank mark.0 mark.1 mark.2 t.hash
+      cascade (is_blank text) (begins_with text (codes "#FRAME")) (is_command 82 text) (is_command 71 text) (nat_lt 0 (length levels))
+      (begins_with text (codes "#")) t.blank mark.0 mark.1 mark.2 t.hash
       ∙ ap (broken_by_node top rule levels) t.trimmed
       ∙ ap (λ v. cond v (Some BadLeaf) (broken_by_square top rule levels (square_of text))) t.no_bad_leaf
       ∙ ap (broken_by_square top rule levels) t.says ∙ square_stands top rule levels line h
     where
       cascade : (b f r g l m : Bool) → b ≡ false → f ≡ false → r ≡ false → g ≡ false → m ≡ false
-          → cond b None (cond f (Some Timeline) (cond ((r || g) && l) (Some LateHeader) (cond r (fault_in (rule_of (drop 2 text))) (cond g (fault_in (u64_of (trim (drop 2 text)))) (cond m None (broken_by_node top rule levels (trim text)))))))
+          → cond b None (cond f (Some Timeline)
+          (cond ((r || g) && l) (Some LateHeader)
+          (cond r (fault_in (rule_of (drop 2 text)))
+          (cond g (fault_in (u64_of (trim (drop 2 text)))) (cond m None (broken_by_node top rule levels (trim text)))))))
           ≡ broken_by_node top rule levels (trim text)
       cascade b f r g l m p q s u w = rw (p, q, s, u, w) refl
 
@@ -127,14 +135,16 @@ module _ (top : ℕ) where
 
   header_says : Says top (header_line ∷ []) default_rule 0 []
   header_says = record {
-    stands = (stands_first top [] header_line (record { started = false; rule = default_rule; generation = 0; levels = [] }) (state default_rule 0 []) nothing_yet (omega arith)
+    stands = (stands_first top [] header_line (record { started = false; rule = default_rule; generation = 0; levels = [] }) (state default_rule 0 [])
+        nothing_yet (omega arith)
         refl refl refl refl refl refl).1;
     squares_are = refl;
   }
 
   rule_says : (rule : Rule) → IsRule rule → Says top (header_line ∷ rule_line rule ∷ []) rule 0 []
   rule_says rule h = record {
-    stands = (stands_next top (header_line ∷ []) (rule_line rule) (state default_rule 0 []) (state rule 0 []) header_says.stands (omega (arith, (rule_short rule h).short))
+    stands = (stands_next top (header_line ∷ []) (rule_line rule) (state default_rule 0 []) (state rule 0 []) header_says.stands
+        (omega (arith, (rule_short rule h).short))
         (RuleLine rule) refl (rule_stands top rule default_rule h) (rule_parsed top rule default_rule h) refl refl refl refl).1;
     squares_are = refl;
   }
@@ -142,7 +152,8 @@ module _ (top : ℕ) where
   generation_says : (rule : Rule) (generation : ℕ) → IsRule rule → generation < 2 ^ 64
       → Says top (header_line ∷ rule_line rule ∷ generation_line generation ∷ []) rule generation []
   generation_says rule generation h g = record {
-    stands = (stands_next top (header_line ∷ rule_line rule ∷ []) (generation_line generation) (state rule 0 []) (state rule generation []) (rule_says rule h).stands
+    stands = (stands_next top (header_line ∷ rule_line rule ∷ []) (generation_line generation) (state rule 0 []) (state rule generation [])
+        (rule_says rule h).stands
         (omega (arith, (generation_short top rule generation g).short))
         (GenerationLine generation) refl (generation_stands top rule generation g) (generation_parsed top rule generation g) refl refl refl refl).1;
     squares_are = refl;
@@ -172,7 +183,8 @@ module _ (top : ℕ) (low : top < 10 ^ 64) (rule : Rule) (generation : ℕ) (all
       let f : take (length done) all ≡ done = subst Q e (take-append_seam done (line ∷ left)) in
       let is : IsSquare top rule (map level_of done) line = subst R f (valid (length done) line g) in
       let t : IsTextOf line (line_text line) = text_at (length done) line g in
-      let next = stands_next top lines (line_text line) (state rule generation done) (state rule generation (done ++ line ∷ [])) s.stands t.short (NodeLine line)
+      let next = stands_next top lines (line_text line) (state rule generation done) (state rule generation (done ++ line ∷ [])) s.stands t.short
+      (NodeLine line)
       refl (node_stands top rule (map level_of done) line (line_text line) t is) (node_parsed top rule (map level_of done) line (line_text line) t)
       refl refl refl (map-append level_of done (line ∷ [])) in
       record {
@@ -210,10 +222,12 @@ two_ended text rest h =
     ∙ ap (λ (t : List (List ℕ)). header_line ∷ t) (line_ended (codes "#R " ++ text) rest h)
 
 -- the text of a file in its parts
-in_parts : (text generation rest : List ℕ) → codes "[M2] (canonical 1)\n#R " ++ text ++ codes "\n" ++ generation ++ rest ≡ codes "[M2] (canonical 1)\n#R " ++ text ++ codes "\n" ++ (generation ++ rest)
+in_parts : (text generation rest : List ℕ) → codes "[M2] (canonical 1)\n#R " ++ text ++ codes "\n" ++ generation ++ rest ≡ codes "[M2] (canonical 1)\n#R "
+    ++ text ++ codes "\n" ++ (generation ++ rest)
 in_parts text generation rest = append_assoc (codes "[M2] (canonical 1)\n#R " ++ text ++ codes "\n") generation rest
 
-generation_ended : (text rest : List ℕ) → has_no_feed text ≡ true → lines_of ((codes "#G " ++ text ++ codes "\n") ++ rest) ≡ (codes "#G " ++ text) ∷ lines_of rest
+generation_ended : (text rest : List ℕ) → has_no_feed text ≡ true → lines_of ((codes "#G " ++ text ++ codes "\n") ++ rest) ≡ (codes "#G " ++ text)
+    ∷ lines_of rest
 generation_ended text rest h = ap lines_of (append_assoc (codes "#G " ++ text) (codes "\n") rest) ∙ line_ended (codes "#G " ++ text) rest h
 
 is_zero : (n : ℕ) → (n == 0) ≡ true → n ≡ 0
@@ -226,11 +240,14 @@ module _ (top : ℕ) (low : top < 10 ^ 64) (file : Macrocell) (v : IsValid top f
   nodes_ended : lines_of nodes ≡ map line_text file.lines
   nodes_ended = each_ended file.lines (text_at top low file.rule file.generation file.lines v.squares few)
 
-  says_file : (lines : List (List ℕ)) → Says top lines file.rule file.generation [] → Says top (lines ++ map line_text file.lines) file.rule file.generation file.lines
+  says_file : (lines : List (List ℕ)) → Says top lines file.rule file.generation [] → Says top (lines ++ map line_text file.lines) file.rule file.generation
+      file.lines
   says_file lines s = each_more top low file.rule file.generation file.lines v.squares few file.lines [] lines refl s
 
-  front_ended : (generation : List ℕ) → lines_of (codes "[M2] (canonical 1)\n#R " ++ rule_text file.rule ++ codes "\n" ++ generation ++ nodes) ≡ header_line ∷ rule_line file.rule ∷ lines_of (generation ++ nodes)
-  front_ended generation = ap lines_of (in_parts (rule_text file.rule) generation nodes) ∙ two_ended (rule_text file.rule) (generation ++ nodes) (rule_short file.rule v.rule).feed
+  front_ended : (generation : List ℕ) → lines_of (codes "[M2] (canonical 1)\n#R " ++ rule_text file.rule ++ codes "\n" ++ generation ++ nodes) ≡ header_line
+      ∷ rule_line file.rule ∷ lines_of (generation ++ nodes)
+  front_ended generation = ap lines_of (in_parts (rule_text file.rule) generation nodes)
+      ∙ two_ended (rule_text file.rule) (generation ++ nodes) (rule_short file.rule v.rule).feed
 
   all_lines : (b : Bool) → (file.generation == 0) ≡ b → Says top (lines_of (mc_text file)) file.rule file.generation file.lines
   all_lines true e =
@@ -238,18 +255,21 @@ module _ (top : ℕ) (low : top < 10 ^ 64) (file : Macrocell) (v : IsValid top f
       let P : List (List ℕ) → Type 0 = λ ls. Says top ls file.rule file.generation file.lines in
       let Q : ℕ → Type 0 = λ g. Says top (header_line ∷ rule_line file.rule ∷ []) file.rule g [] in
       let t : lines_of (mc_text file) ≡ header_line ∷ rule_line file.rule ∷ map line_text file.lines =
-      ap (λ w. lines_of (codes "[M2] (canonical 1)\n#R " ++ rule_text file.rule ++ codes "\n" ++ cond w [] (codes "#G " ++ decimal file.generation ++ codes "\n") ++ nodes)) e
+      ap (λ w. lines_of (codes "[M2] (canonical 1)\n#R " ++ rule_text file.rule ++ codes "\n"
+      ++ cond w [] (codes "#G " ++ decimal file.generation ++ codes "\n") ++ nodes)) e
       ∙ front_ended [] ∙ ap (λ (ls : List (List ℕ)). header_line ∷ rule_line file.rule ∷ ls) nodes_ended in
       subst P (sym t) (says_file (header_line ∷ rule_line file.rule ∷ []) (subst Q (sym z) (rule_says top file.rule v.rule)))
   all_lines false e =
       let P : List (List ℕ) → Type 0 = λ ls. Says top ls file.rule file.generation file.lines in
       let t : lines_of (mc_text file) ≡ header_line ∷ rule_line file.rule ∷ generation_line file.generation ∷ map line_text file.lines =
-      ap (λ w. lines_of (codes "[M2] (canonical 1)\n#R " ++ rule_text file.rule ++ codes "\n" ++ cond w [] (codes "#G " ++ decimal file.generation ++ codes "\n") ++ nodes)) e
+      ap (λ w. lines_of (codes "[M2] (canonical 1)\n#R " ++ rule_text file.rule ++ codes "\n"
+      ++ cond w [] (codes "#G " ++ decimal file.generation ++ codes "\n") ++ nodes)) e
       ∙ front_ended (codes "#G " ++ decimal file.generation ++ codes "\n")
       ∙ ap (λ (ls : List (List ℕ)). header_line ∷ rule_line file.rule ∷ ls)
       (generation_ended (decimal file.generation) nodes (generation_short top file.rule file.generation v.generation).feed
       ∙ ap (λ (ls : List (List ℕ)). generation_line file.generation ∷ ls) nodes_ended) in
-      subst P (sym t) (says_file (header_line ∷ rule_line file.rule ∷ generation_line file.generation ∷ []) (generation_says top file.rule file.generation v.rule v.generation))
+      subst P (sym t) (says_file (header_line ∷ rule_line file.rule ∷ generation_line file.generation ∷ [])
+      (generation_says top file.rule file.generation v.rule v.generation))
 
   some_lines : (lines : List (List ℕ)) → true ≡ not (is_empty lines) → 0 < length lines
   some_lines [] h = cc

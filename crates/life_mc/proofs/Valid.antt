@@ -105,8 +105,11 @@ module _ (top : ℕ) where
       → IsSquare top rule levels (Quad level nw ne sw se)
   quad_is_square rule levels level nw ne sw se h =
       let p = passed (not (nat_le 1 level && nat_le level top)) BadLevel _ h in
-      let r : (nat_le 1 level && nat_le level top) ≡ true = not_false _ p.0 in
-      (leb-true 1 level (first _ _ r), leb-true level top (second (nat_le 1 level) _ r), all_ok (list_all (is_quarter rule levels level) (nw ∷ ne ∷ sw ∷ se ∷ [])) (level == 1) StateRange BadChild p.1)
+      let r : (nat_le 1 level && nat_le level top) ≡ true = not_false _ p.0 in (
+        leb-true 1 level (first _ _ r),
+        leb-true level top (second (nat_le 1 level) _ r),
+        all_ok (list_all (is_quarter rule levels level) (nw ∷ ne ∷ sw ∷ se ∷ [])) (level == 1) StateRange BadChild p.1,
+      )
     where
       not_false : (v : Bool) → not v ≡ false → v ≡ true
       not_false true h = refl
@@ -147,15 +150,18 @@ module _ (top : ℕ) where
   no_leaf (a ∷ b ∷ c ∷ d ∷ e ∷ []) rows h = cc
   no_leaf (a ∷ b ∷ c ∷ d ∷ e ∷ f ∷ ns) rows h = cc
 
-  which_rows : (u v w : Bool) (text rows ns : List ℕ) → cond u (cond v (Some (Leaf (leaf_bytes text))) None) (cond w (quad_of ns) None) ≡ Some (Leaf rows) → rows ≡ leaf_bytes text
+  which_rows : (u v w : Bool) (text rows ns : List ℕ) → cond u (cond v (Some (Leaf (leaf_bytes text))) None) (cond w (quad_of ns) None) ≡ Some (Leaf rows)
+      → rows ≡ leaf_bytes text
   which_rows true true w text rows ns h = cc
   which_rows true false w text rows ns h = cc
   which_rows false v true text rows ns h = absurd (no_leaf ns rows h)
   which_rows false v false text rows ns h = cc
 
-  node_is_square : (rule : Rule) (levels : List ℕ) (text : List ℕ) (square : Line) → broken_by_node top rule levels text ≡ None → square_of text ≡ Some square → IsSquare top rule levels square
+  node_is_square : (rule : Rule) (levels : List ℕ) (text : List ℕ) (square : Line) → broken_by_node top rule levels text ≡ None → square_of text ≡ Some square
+      → IsSquare top rule levels square
   node_is_square rule levels text (Leaf rows) h e =
-      let r : rows ≡ leaf_bytes text = which_rows (is_leaf_byte (slice_index text 0)) (is_leaf text) (list_all is_digit_text (words_of text)) text rows (map value_of (words_of text)) e in
+      let r : rows ≡ leaf_bytes text = which_rows (is_leaf_byte (slice_index text 0)) (is_leaf text) (list_all is_digit_text (words_of text)) text rows
+      (map value_of (words_of text)) e in
       let P : List ℕ → Type 0 = λ rs. (length rs ≡ 8) × AllByRecursion (λ row. row < 256) rs in
       subst P (sym r) (eight (leaf_rows text), rows_fit 8 (leaf_rows text) 8)
   node_is_square rule levels text (Quad level nw ne sw se) h e =
@@ -171,7 +177,8 @@ module _ (top : ℕ) where
   got (x ∷ xs) square zero line h = inl (omega arith, h)
   got (x ∷ xs) square (suc k) line h = elim (got xs square k line h) [ inl p ↦ inl (omega (arith, p.0), p.1) | inr p ↦ inr (ap suc p.0, p.1) ]
 
-  add_square : (rule : Rule) (xs : List Line) (square : Line) → AreSquares top rule xs → IsSquare top rule (map level_of xs) square → AreSquares top rule (xs ++ square ∷ [])
+  add_square : (rule : Rule) (xs : List Line) (square : Line) → AreSquares top rule xs → IsSquare top rule (map level_of xs) square
+      → AreSquares top rule (xs ++ square ∷ [])
   add_square rule xs square v s = λ k line g. elim (got xs square k line g) [
     | inl p ↦ (let P : List Line → Type 0 = λ ys. IsSquare top rule (map level_of ys) line in
         subst P (sym (take-append-le k xs (square ∷ []) (omega (arith, p.0)))) (v k line p.1))
@@ -194,9 +201,11 @@ module _ (top : ℕ) where
   none_on : (line : List ℕ) → rule_on line ≡ None → filter_map rule_on (line ∷ []) ≡ []
   none_on line h = rw h refl
 
-  rule_same : (header : List ℕ) (lines : List (List ℕ)) (line : List ℕ) → rule_on line ≡ None → rule_in_force (header ∷ (lines ++ line ∷ [])) ≡ rule_in_force (header ∷ lines)
+  rule_same : (header : List ℕ) (lines : List (List ℕ)) (line : List ℕ) → rule_on line ≡ None → rule_in_force (header ∷ (lines ++ line ∷ []))
+      ≡ rule_in_force (header ∷ lines)
   rule_same header lines line h =
-      ap (last_or default_rule) (filter_map-append rule_on lines (line ∷ []) ∙ ap (λ (t : List Rule). filter_map rule_on lines ++ t) (none_on line h) ∙ append_no_rule (filter_map rule_on lines))
+      ap (last_or default_rule) (filter_map-append rule_on lines (line ∷ []) ∙ ap (λ (t : List Rule). filter_map rule_on lines ++ t) (none_on line h)
+      ∙ append_no_rule (filter_map rule_on lines))
 
   taken : {X : Type 0} (v : Bool) (o : Option X) (x : X) → cond v o None ≡ Some x → (v ≡ true) × (o ≡ Some x)
   taken true o x h = (refl, h)
@@ -243,5 +252,6 @@ module _ (top : ℕ) where
       subst Valid more (step (take n lines) (get_or lines n []) (u n (omega arith)) (up_to lines u n (omega arith)))
 
   -- Where no line breaks a rule, each square is one under the rule in force at the end: no `#R` comes behind a square.
-  pub squares_valid : (lines : List (List ℕ)) → UnbrokenBelow (Accepts top) (broken top) missing lines (length lines) → AreSquares top (rule_in_force lines) (squares_of lines)
+  pub squares_valid : (lines : List (List ℕ)) → UnbrokenBelow (Accepts top) (broken top) missing lines (length lines)
+      → AreSquares top (rule_in_force lines) (squares_of lines)
   squares_valid lines u = subst Valid (take-length lines) (up_to lines u (length lines) (omega arith))

@@ -82,7 +82,8 @@ abbrev weighed : Bool → Bool → Bool → Bool → Bool → Bool → Bool → 
 weighed a b c d e f g h = 0 + cond a 128 0 + cond b 64 0 + cond c 32 0 + cond d 16 0 + cond e 8 0 + cond f 4 0 + cond g 2 0 + cond h 1 0
 
 marks_weighed : (a b c d e f g h : Bool)
-    → (mark h + 2 * (mark g + 2 * (mark f + 2 * (mark e + 2 * (mark d + 2 * (mark c + 2 * (mark b + 2 * (mark a + 0)))))))) % 18446744073709551616 ≡ weighed a b c d e f g h
+    → (mark h + 2 * (mark g + 2 * (mark f + 2 * (mark e + 2 * (mark d + 2 * (mark c + 2 * (mark b + 2 * (mark a + 0)))))))) % 18446744073709551616
+    ≡ weighed a b c d e f g h
 marks_weighed a b c d e f g h = omega (
   arith,
   mark_is a,
@@ -114,7 +115,8 @@ abbrev mark_at : List ℕ → ℕ → ℕ
 mark_at text k = cond (top 7 (cond (get_or (take 8 text ++ take 8 text) k 0 == 42) 255 0)) 1 0
 
 pub eight_marked : (text : List ℕ) → 8 ≤ length text
-    → (mark_at text 7 + 2 * (mark_at text 6 + 2 * (mark_at text 5 + 2 * (mark_at text 4 + 2 * (mark_at text 3 + 2 * (mark_at text 2 + 2 * (mark_at text 1 + 2 * (mark_at text 0 + 0))))))))
+    → (mark_at text 7 + 2 * (mark_at text 6
+    + 2 * (mark_at text 5 + 2 * (mark_at text 4 + 2 * (mark_at text 3 + 2 * (mark_at text 2 + 2 * (mark_at text 1 + 2 * (mark_at text 0 + 0))))))))
     % 18446744073709551616 ≡ row_byte (take 8 text)
 eight_marked [] l = absurd (omega (arith, l))
 eight_marked (a ∷ []) l = absurd (omega (arith, l))
@@ -133,28 +135,38 @@ abbrev without : ℕ → ℕ → ℕ
 without row n = row - row % n
 
 columns_of : (k a b c d e f g h : ℕ) (text : List ℕ) → k ≤ 8
-    → without (weighed (a == 42) (b == 42) (c == 42) (d == 42) (e == 42) (f == 42) (g == 42) (h == 42)) (2 ^ (8 - k)) ≡ row_byte (take k (a ∷ b ∷ c ∷ d ∷ e ∷ f ∷ g ∷ h ∷ text))
-columns_of k a b c d e f g h text l = by k l (weigh (a == 42) 128) (weigh (b == 42) 64) (weigh (c == 42) 32) (weigh (d == 42) 16) (weigh (e == 42) 8) (weigh (f == 42) 4) (weigh (g == 42) 2)
-    (at_most_one (a == 42)) (at_most_one (b == 42)) (at_most_one (c == 42)) (at_most_one (d == 42)) (at_most_one (e == 42)) (at_most_one (f == 42)) (at_most_one (g == 42)) (at_most_one (h == 42))
+    → without (weighed (a == 42) (b == 42) (c == 42) (d == 42) (e == 42) (f == 42) (g == 42) (h == 42)) (2 ^ (8 - k))
+    ≡ row_byte (take k (a ∷ b ∷ c ∷ d ∷ e ∷ f ∷ g ∷ h ∷ text))
+columns_of k a b c d e f g h text l = by k l (weigh (a == 42) 128) (weigh (b == 42) 64) (weigh (c == 42) 32) (weigh (d == 42) 16) (weigh (e == 42) 8)
+    (weigh (f == 42) 4) (weigh (g == 42) 2)
+    (at_most_one (a == 42)) (at_most_one (b == 42)) (at_most_one (c == 42)) (at_most_one (d == 42)) (at_most_one (e == 42)) (at_most_one (f == 42))
+    (at_most_one (g == 42)) (at_most_one (h == 42))
   where
     by : (k : ℕ) → k ≤ 8
-        → cond (a == 42) 128 0 ≡ 128 * cond (a == 42) 1 0 → cond (b == 42) 64 0 ≡ 64 * cond (b == 42) 1 0 → cond (c == 42) 32 0 ≡ 32 * cond (c == 42) 1 0 → cond (d == 42) 16 0 ≡ 16 * cond (d == 42) 1 0
+        → cond (a == 42) 128 0 ≡ 128 * cond (a == 42) 1 0 → cond (b == 42) 64 0 ≡ 64 * cond (b == 42) 1 0 → cond (c == 42) 32 0 ≡ 32 * cond (c == 42) 1 0
+        → cond (d == 42) 16 0 ≡ 16 * cond (d == 42) 1 0
         → cond (e == 42) 8 0 ≡ 8 * cond (e == 42) 1 0 → cond (f == 42) 4 0 ≡ 4 * cond (f == 42) 1 0 → cond (g == 42) 2 0 ≡ 2 * cond (g == 42) 1 0
         → cond (a == 42) 1 0 ≤ 1 → cond (b == 42) 1 0 ≤ 1 → cond (c == 42) 1 0 ≤ 1 → cond (d == 42) 1 0 ≤ 1
         → cond (e == 42) 1 0 ≤ 1 → cond (f == 42) 1 0 ≤ 1 → cond (g == 42) 1 0 ≤ 1 → cond (h == 42) 1 0 ≤ 1
-        → without (weighed (a == 42) (b == 42) (c == 42) (d == 42) (e == 42) (f == 42) (g == 42) (h == 42)) (2 ^ (8 - k)) ≡ row_byte (take k (a ∷ b ∷ c ∷ d ∷ e ∷ f ∷ g ∷ h ∷ text))
+        → without (weighed (a == 42) (b == 42) (c == 42) (d == 42) (e == 42) (f == 42) (g == 42) (h == 42)) (2 ^ (8 - k))
+        ≡ row_byte (take k (a ∷ b ∷ c ∷ d ∷ e ∷ f ∷ g ∷ h ∷ text))
     by zero l wa wb wc wd we wf wg ma mb mc md me mf mg mh = omega (arith, wa, wb, wc, wd, we, wf, wg, ma, mb, mc, md, me, mf, mg, mh)
     by (suc zero) l wa wb wc wd we wf wg ma mb mc md me mf mg mh = omega (arith, wa, wb, wc, wd, we, wf, wg, ma, mb, mc, md, me, mf, mg, mh)
     by (suc (suc zero)) l wa wb wc wd we wf wg ma mb mc md me mf mg mh = omega (arith, wa, wb, wc, wd, we, wf, wg, ma, mb, mc, md, me, mf, mg, mh)
     by (suc (suc (suc zero))) l wa wb wc wd we wf wg ma mb mc md me mf mg mh = omega (arith, wa, wb, wc, wd, we, wf, wg, ma, mb, mc, md, me, mf, mg, mh)
     by (suc (suc (suc (suc zero)))) l wa wb wc wd we wf wg ma mb mc md me mf mg mh = omega (arith, wa, wb, wc, wd, we, wf, wg, ma, mb, mc, md, me, mf, mg, mh)
-    by (suc (suc (suc (suc (suc zero))))) l wa wb wc wd we wf wg ma mb mc md me mf mg mh = omega (arith, wa, wb, wc, wd, we, wf, wg, ma, mb, mc, md, me, mf, mg, mh)
-    by (suc (suc (suc (suc (suc (suc zero)))))) l wa wb wc wd we wf wg ma mb mc md me mf mg mh = omega (arith, wa, wb, wc, wd, we, wf, wg, ma, mb, mc, md, me, mf, mg, mh)
-    by (suc (suc (suc (suc (suc (suc (suc zero))))))) l wa wb wc wd we wf wg ma mb mc md me mf mg mh = omega (arith, wa, wb, wc, wd, we, wf, wg, ma, mb, mc, md, me, mf, mg, mh)
-    by (suc (suc (suc (suc (suc (suc (suc (suc zero)))))))) l wa wb wc wd we wf wg ma mb mc md me mf mg mh = omega (arith, wa, wb, wc, wd, we, wf, wg, ma, mb, mc, md, me, mf, mg, mh)
+    by (suc (suc (suc (suc (suc zero))))) l wa wb wc wd we wf wg ma mb mc md me mf mg mh = omega
+        (arith, wa, wb, wc, wd, we, wf, wg, ma, mb, mc, md, me, mf, mg, mh)
+    by (suc (suc (suc (suc (suc (suc zero)))))) l wa wb wc wd we wf wg ma mb mc md me mf mg mh = omega
+        (arith, wa, wb, wc, wd, we, wf, wg, ma, mb, mc, md, me, mf, mg, mh)
+    by (suc (suc (suc (suc (suc (suc (suc zero))))))) l wa wb wc wd we wf wg ma mb mc md me mf mg mh = omega
+        (arith, wa, wb, wc, wd, we, wf, wg, ma, mb, mc, md, me, mf, mg, mh)
+    by (suc (suc (suc (suc (suc (suc (suc (suc zero)))))))) l wa wb wc wd we wf wg ma mb mc md me mf mg mh = omega
+        (arith, wa, wb, wc, wd, we, wf, wg, ma, mb, mc, md, me, mf, mg, mh)
     by (suc (suc (suc (suc (suc (suc (suc (suc (suc k))))))))) l wa wb wc wd we wf wg ma mb mc md me mf mg mh = absurd (omega (arith, l))
 
-pub columns_in_front : (k : ℕ) (text : List ℕ) → k ≤ 8 → 8 ≤ length text → row_byte (take 8 text) - row_byte (take 8 text) % 2 ^ (8 - k) ≡ row_byte (take k text)
+pub columns_in_front : (k : ℕ) (text : List ℕ) → k ≤ 8 → 8 ≤ length text → row_byte (take 8 text) - row_byte (take 8 text) % 2 ^ (8 - k)
+    ≡ row_byte (take k text)
 columns_in_front k ([]) l m = absurd (omega (arith, m))
 columns_in_front k (a ∷ []) l m = absurd (omega (arith, m))
 columns_in_front k (a ∷ b ∷ []) l m = absurd (omega (arith, m))
@@ -190,7 +202,8 @@ front_is_cells zero text = refl
 front_is_cells (suc n) [] = refl
 front_is_cells (suc n) (b ∷ text) = by (is_cell b) refl (front_is_cells n text)
   where
-    by : (v : Bool) → is_cell b ≡ v → list_all is_cell (take (front_cells n text) text) ≡ true → list_all is_cell (take (cond v (suc (front_cells n text)) 0) (b ∷ text)) ≡ true
+    by : (v : Bool) → is_cell b ≡ v → list_all is_cell (take (front_cells n text) text) ≡ true
+        → list_all is_cell (take (cond v (suc (front_cells n text)) 0) (b ∷ text)) ≡ true
     by true e h = ap (λ w. w && list_all is_cell (take (front_cells n text) text)) e ∙ h
     by false e h = refl
 

@@ -49,13 +49,16 @@ whole_word : (text : List ℕ) → is_blank (take 1 (behind text)) ≡ true → 
 whole_word [] h = refl
 whole_word (b ∷ text) h = whole_step (is_ascii_digit b) b text refl (whole_word text) h
 
-other_step : (v : Bool) (b : ℕ) (text : List ℕ) → is_ascii_digit b ≡ v → (is_blank (take 1 (behind text)) ≡ false → list_all is_ascii_digit (take (ends text) text) ≡ false)
+other_step : (v : Bool) (b : ℕ) (text : List ℕ) → is_ascii_digit b ≡ v
+    → (is_blank (take 1 (behind text)) ≡ false → list_all is_ascii_digit (take (ends text) text) ≡ false)
     → is_blank (take 1 (drop (cond v (1 + digits text) 0) (b ∷ text))) ≡ false → list_all is_ascii_digit (take (ends (b ∷ text)) (b ∷ text)) ≡ false
 other_step true b text e ih h =
     let k : 1 + digits text ≡ suc (digits text) = omega arith in
-    ap (λ j. list_all is_ascii_digit (take j (b ∷ text))) (further b text (digit_no_space b e)) ∙ ap (λ v. is_ascii_digit b && v) (ih (rw k at h)) ∙ and-false (is_ascii_digit b)
+    ap (λ j. list_all is_ascii_digit (take j (b ∷ text))) (further b text (digit_no_space b e)) ∙ ap (λ v. is_ascii_digit b && v) (ih (rw k at h))
+    ∙ and-false (is_ascii_digit b)
 other_step false b text e ih h =
-    ap (λ j. list_all is_ascii_digit (take j (b ∷ text))) (further b text (sym (and-true (is_whitespace b)) ∙ h)) ∙ ap (λ v. v && list_all is_ascii_digit (take (ends text) text)) e
+    ap (λ j. list_all is_ascii_digit (take j (b ∷ text))) (further b text (sym (and-true (is_whitespace b)) ∙ h))
+    ∙ ap (λ v. v && list_all is_ascii_digit (take (ends text) text)) e
 
 -- where it goes on, it has another byte
 other_word : (text : List ℕ) → is_blank (take 1 (behind text)) ≡ false → list_all is_ascii_digit (take (ends text) text) ≡ false
@@ -67,7 +70,8 @@ pub goes_on : (text : List ℕ) → is_blank (take 1 (behind (trim_start text)))
 goes_on text h =
     let t = trim_start text in
     let word = take (ends t) t in
-    ap begins_with_number (words_in text (ends t) refl) ∙ no_number word _ (ap (λ v. not (is_empty word) && v) (other_word t h) ∙ and-false (not (is_empty word)))
+    ap begins_with_number (words_in text (ends t) refl)
+    ∙ no_number word _ (ap (λ v. not (is_empty word) && v) (other_word t h) ∙ and-false (not (is_empty word)))
 
 -- the first word begins with no digit
 pub no_digit : (text : List ℕ) → digits (trim_start text) ≡ 0 → begins_with_number (words_of text) ≡ false
@@ -95,7 +99,8 @@ no_five a b c d [] h = either (list_all is_digit_text (a ∷ b ∷ c ∷ d ∷ [
     either : (v : Bool) → fives v (a ∷ b ∷ c ∷ d ∷ []) ≡ None
     either true = refl
     either false = refl
-no_five a b c d (e ∷ rest) h = ap (λ v. fives v (a ∷ b ∷ c ∷ d ∷ e ∷ rest)) (all_false (is_digit_text a) (is_digit_text b) (is_digit_text c) (is_digit_text d) (is_digit_text e) (list_all is_digit_text rest) h)
+no_five a b c d (e ∷ rest) h = ap (λ v. fives v (a ∷ b ∷ c ∷ d ∷ e ∷ rest))
+    (all_false (is_digit_text a) (is_digit_text b) (is_digit_text c) (is_digit_text d) (is_digit_text e) (list_all is_digit_text rest) h)
   where
     all_false : (a b c d e f : Bool) → e ≡ false → (a && (b && (c && (d && (e && f))))) ≡ false
     all_false false b c d e f h = refl
@@ -140,7 +145,8 @@ quad_short t a b c d ws h n = ap quad_words h ∙ no_five a b c d (words_of t) n
 pub quad_long : (a b c d e : List ℕ) (ws rest : List (List ℕ)) → ws ≡ a ∷ b ∷ c ∷ d ∷ e ∷ rest → is_empty rest ≡ false → quad_words ws ≡ None
 quad_long a b c d e ws rest h n = ap quad_words h ∙ more_than_five a b c d e rest n
 
-pub quad_whole : (a b c d e : List ℕ) (ws rest : List (List ℕ)) → ws ≡ a ∷ b ∷ c ∷ d ∷ e ∷ rest → is_empty rest ≡ true → is_digit_text a ≡ true → is_digit_text b ≡ true → is_digit_text c ≡ true
+pub quad_whole : (a b c d e : List ℕ) (ws rest : List (List ℕ)) → ws ≡ a ∷ b ∷ c ∷ d ∷ e ∷ rest → is_empty rest ≡ true → is_digit_text a ≡ true
+    → is_digit_text b ≡ true → is_digit_text c ≡ true
     → is_digit_text d ≡ true → is_digit_text e ≡ true → quad_words ws ≡ all_five a b c d e
 quad_whole a b c d e ws rest h n p q r s t = ap quad_words h ∙ just_five a b c d e rest n p q r s t
 

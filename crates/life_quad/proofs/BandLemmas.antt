@@ -118,13 +118,35 @@ quarters_have k top (quad a b d g) column c f e h = by (quarter_of a b d g f h.i
 
     by : InQuarter a b d g (2 ^ depth a) h.i h.j
         → OnBand top (kept a column ++ kept b (column +ℤ pos (2 ^ k))) c ⊎ OnBand (top +ℤ pos (2 ^ k)) (kept d column ++ kept g (column +ℤ pos (2 ^ k))) c
-    by (in_nw n) = inl (OnBand-append_left top (kept a column) _ c (kept_has top a column c f.0 (record { i = h.i; j = h.j; nonzero = n; x = h.x; y = h.y; state = sym (state_nw a b d g f _ _ n.column n.row) ∙ h.state })))
-    by (in_ne m p n) = inl (OnBand-append_right top (kept a column) _ c (kept_has top b _ c f.1 (record { i = m; j = h.j; nonzero = n; x = omega (arith, ints, x, p, half); y = h.y; state = sym (state_ne a b d g f _ _ _ p n.row) ∙ h.state })))
-    by (in_sw m p n) = inr (OnBand-append_left _ (kept d column) _ c (kept_has _ d column c f.2 (record { i = h.i; j = m; nonzero = n; x = h.x; y = omega (arith, ints, y, p, half); state = sym (state_sw a b d g f _ _ _ p n.column) ∙ h.state })))
+    by (in_nw n) = inl (OnBand-append_left top (kept a column) _ c
+        (kept_has top a column c f.0 (record {
+          i = h.i;
+          j = h.j;
+          nonzero = n;
+          x = h.x;
+          y = h.y;
+          state = sym (state_nw a b d g f _ _ n.column n.row)
+              ∙ h.state;
+        })))
+    by (in_ne m p n) = inl (OnBand-append_right top (kept a column) _ c
+        (kept_has top b _ c f.1 (record
+        { i = m; j = h.j; nonzero = n; x = omega (arith, ints, x, p, half); y = h.y; state = sym (state_ne a b d g f _ _ _ p n.row) ∙ h.state })))
+    by (in_sw m p n) = inr (OnBand-append_left _ (kept d column) _ c
+        (kept_has _ d column c f.2 (record
+        { i = h.i; j = m; nonzero = n; x = h.x; y = omega (arith, ints, y, p, half); state = sym (state_sw a b d g f _ _ _ p n.column) ∙ h.state })))
     by (in_se m o p q n) =
-        inr (OnBand-append_right _ (kept d column) _ c (kept_has _ g _ c f.3 (record { i = m; j = o; nonzero = n; x = omega (arith, ints, x, p, half); y = omega (arith, ints, y, q, half); state = sym (state_se a b d g f _ _ _ _ p q) ∙ h.state })))
+        inr (OnBand-append_right _ (kept d column) _ c
+        (kept_has _ g _ c f.3 (record {
+          i = m;
+          j = o;
+          nonzero = n;
+          x = omega (arith, ints, x, p, half);
+          y = omega (arith, ints, y, q, half);
+          state = sym (state_se a b d g f _ _ _ _ p q) ∙ h.state;
+        })))
 
-pub northern_from : (k : ℕ) (top : ℤ) (t : Tree) (column : ℤ) (c : Cell) → IsFull t → depth t ≡ suc k → OnBand top (northern (2 ^ k) t column) c → IsCellOf top (piece t column) c
+pub northern_from : (k : ℕ) (top : ℤ) (t : Tree) (column : ℤ) (c : Cell) → IsFull t → depth t ≡ suc k → OnBand top (northern (2 ^ k) t column) c
+    → IsCellOf top (piece t column) c
 northern_from k top (point s) column c f e h = absurd h
 northern_from k top (quad a b d g) column c f e h = by (OnBand-cases top (kept a column) _ c h)
   where
@@ -154,14 +176,16 @@ northern_from k top (quad a b d g) column c f e h = by (OnBand-cases top (kept a
           state = state_ne a b d g f _ q.i _ refl q.nonzero.row ∙ q.state;
         }
 
-pub southern_from : (k : ℕ) (top : ℤ) (t : Tree) (column : ℤ) (c : Cell) → IsFull t → depth t ≡ suc k → OnBand (top +ℤ pos (2 ^ k)) (southern (2 ^ k) t column) c → IsCellOf top (piece t column) c
+pub southern_from : (k : ℕ) (top : ℤ) (t : Tree) (column : ℤ) (c : Cell) → IsFull t → depth t ≡ suc k
+    → OnBand (top +ℤ pos (2 ^ k)) (southern (2 ^ k) t column) c → IsCellOf top (piece t column) c
 southern_from k top (point s) column c f e h = absurd h
 southern_from k top (quad a b d g) column c f e h = by (OnBand-cases _ (kept d column) _ c h)
   where
     half : 2 ^ depth a ≡ 2 ^ k
     half = let same : depth a ≡ k = omega arith in ap (λ n. 2 ^ n) same
 
-    by : OnBand (top +ℤ pos (2 ^ k)) (kept d column) c ⊎ OnBand (top +ℤ pos (2 ^ k)) (kept g (column +ℤ pos (2 ^ k))) c → IsCellOf top (piece (quad a b d g) column) c
+    by : OnBand (top +ℤ pos (2 ^ k)) (kept d column) c ⊎ OnBand (top +ℤ pos (2 ^ k)) (kept g (column +ℤ pos (2 ^ k))) c
+        → IsCellOf top (piece (quad a b d g) column) c
     by (inl o) =
         let q = kept_from _ d column c o in
         let y = q.y in
@@ -205,15 +229,19 @@ halves_have k top west (p ∷ band) c w (inr h) = further (halves_have k top (p.
 
 upper_from : (k : ℕ) (top west : ℤ) (band : List Piece) (c : Cell) → IsBand (suc k) west band → OnBand top (upper (2 ^ k) band) c → OnBand top band c
 upper_from k top west [] c w h = absurd h
-upper_from k top west (p ∷ band) c w h = by (OnBand-cases top (northern (2 ^ k) p.square p.column) _ c h) (upper_from k top (p.column +ℤ pos (2 ^ suc k)) band c w.4)
+upper_from k top west (p ∷ band) c w h = by (OnBand-cases top (northern (2 ^ k) p.square p.column) _ c h)
+    (upper_from k top (p.column +ℤ pos (2 ^ suc k)) band c w.4)
   where
-    by : OnBand top (northern (2 ^ k) p.square p.column) c ⊎ OnBand top (upper (2 ^ k) band) c → (OnBand top (upper (2 ^ k) band) c → OnBand top band c) → OnBand top (p ∷ band) c
+    by : OnBand top (northern (2 ^ k) p.square p.column) c ⊎ OnBand top (upper (2 ^ k) band) c → (OnBand top (upper (2 ^ k) band) c → OnBand top band c)
+        → OnBand top (p ∷ band) c
     by (inl o) f = inl (northern_from k top p.square p.column c w.0 w.1 o)
     by (inr o) f = inr (f o)
 
-lower_from : (k : ℕ) (top west : ℤ) (band : List Piece) (c : Cell) → IsBand (suc k) west band → OnBand (top +ℤ pos (2 ^ k)) (lower (2 ^ k) band) c → OnBand top band c
+lower_from : (k : ℕ) (top west : ℤ) (band : List Piece) (c : Cell) → IsBand (suc k) west band → OnBand (top +ℤ pos (2 ^ k)) (lower (2 ^ k) band) c
+    → OnBand top band c
 lower_from k top west [] c w h = absurd h
-lower_from k top west (p ∷ band) c w h = by (OnBand-cases _ (southern (2 ^ k) p.square p.column) _ c h) (lower_from k top (p.column +ℤ pos (2 ^ suc k)) band c w.4)
+lower_from k top west (p ∷ band) c w h = by (OnBand-cases _ (southern (2 ^ k) p.square p.column) _ c h)
+    (lower_from k top (p.column +ℤ pos (2 ^ suc k)) band c w.4)
   where
     by : OnBand (top +ℤ pos (2 ^ k)) (southern (2 ^ k) p.square p.column) c ⊎ OnBand (top +ℤ pos (2 ^ k)) (lower (2 ^ k) band) c
         → (OnBand (top +ℤ pos (2 ^ k)) (lower (2 ^ k) band) c → OnBand top band c) → OnBand top (p ∷ band) c
@@ -259,7 +287,8 @@ only_cell top t column c d h =
     let state : state_at t 0 0 ≡ c.state = (λ z. state_at t (sym i z) (sym j z)) ∙ h.state in
     λ z. record { x = x z; y = y z; state = state z }
 
-cell_of_only : (top : ℤ) (t : Tree) (column : ℤ) (c : Cell) → IsFull t → depth t ≡ 0 → is_blank_tree t ≡ false → here top (piece t column) ≡ c → IsCellOf top (piece t column) c
+cell_of_only : (top : ℤ) (t : Tree) (column : ℤ) (c : Cell) → IsFull t → depth t ≡ 0 → is_blank_tree t ≡ false → here top (piece t column) ≡ c
+    → IsCellOf top (piece t column) c
 cell_of_only top (quad a b u v) column c f d n h = absurd (omega arith)
 cell_of_only top (point s) column c f d n h =
     record {
@@ -285,19 +314,24 @@ row_from top west (p ∷ band) c w (inr h) = inr (row_from top (p.column +ℤ po
 pub band_has : (k : ℕ) (top west : ℤ) (band : List Piece) (c : Cell) → IsBand k west band → OnBand top band c → Has (band_cells k top band) c
 band_has zero top west band c w h = row_has top west band c w h
 band_has (suc k) top west band c w h =
-    by (halves_have k top west band c w h) (band_has k top west (upper (2 ^ k) band) c (IsBand-upper k west band w)) (band_has k (top +ℤ pos (2 ^ k)) west (lower (2 ^ k) band) c (IsBand-lower k west band w))
+    by (halves_have k top west band c w h) (band_has k top west (upper (2 ^ k) band) c (IsBand-upper k west band w))
+    (band_has k (top +ℤ pos (2 ^ k)) west (lower (2 ^ k) band) c (IsBand-lower k west band w))
   where
-    by : OnBand top (upper (2 ^ k) band) c ⊎ OnBand (top +ℤ pos (2 ^ k)) (lower (2 ^ k) band) c → (OnBand top (upper (2 ^ k) band) c → Has (band_cells k top (upper (2 ^ k) band)) c)
-        → (OnBand (top +ℤ pos (2 ^ k)) (lower (2 ^ k) band) c → Has (band_cells k (top +ℤ pos (2 ^ k)) (lower (2 ^ k) band)) c) → Has (band_cells (suc k) top band) c
+    by : OnBand top (upper (2 ^ k) band) c ⊎ OnBand (top +ℤ pos (2 ^ k)) (lower (2 ^ k) band) c
+        → (OnBand top (upper (2 ^ k) band) c → Has (band_cells k top (upper (2 ^ k) band)) c)
+        → (OnBand (top +ℤ pos (2 ^ k)) (lower (2 ^ k) band) c → Has (band_cells k (top +ℤ pos (2 ^ k)) (lower (2 ^ k) band)) c)
+        → Has (band_cells (suc k) top band) c
     by (inl o) f g = Has-append_left _ _ c (f o)
     by (inr o) f g = Has-append_right (band_cells k top (upper (2 ^ k) band)) _ c (g o)
 
 pub band_from : (k : ℕ) (top west : ℤ) (band : List Piece) (c : Cell) → IsBand k west band → Has (band_cells k top band) c → OnBand top band c
 band_from zero top west band c w h = row_from top west band c w h
 band_from (suc k) top west band c w h =
-    by (Has-cases (band_cells k top (upper (2 ^ k) band)) _ c h) (band_from k top west (upper (2 ^ k) band) c (IsBand-upper k west band w)) (band_from k (top +ℤ pos (2 ^ k)) west (lower (2 ^ k) band) c (IsBand-lower k west band w))
+    by (Has-cases (band_cells k top (upper (2 ^ k) band)) _ c h) (band_from k top west (upper (2 ^ k) band) c (IsBand-upper k west band w))
+    (band_from k (top +ℤ pos (2 ^ k)) west (lower (2 ^ k) band) c (IsBand-lower k west band w))
   where
-    by : Has (band_cells k top (upper (2 ^ k) band)) c ⊎ Has (band_cells k (top +ℤ pos (2 ^ k)) (lower (2 ^ k) band)) c → (Has (band_cells k top (upper (2 ^ k) band)) c → OnBand top (upper (2 ^ k) band) c)
+    by : Has (band_cells k top (upper (2 ^ k) band)) c ⊎ Has (band_cells k (top +ℤ pos (2 ^ k)) (lower (2 ^ k) band)) c
+        → (Has (band_cells k top (upper (2 ^ k) band)) c → OnBand top (upper (2 ^ k) band) c)
         → (Has (band_cells k (top +ℤ pos (2 ^ k)) (lower (2 ^ k) band)) c → OnBand (top +ℤ pos (2 ^ k)) (lower (2 ^ k) band) c) → OnBand top band c
     by (inl o) f g = upper_from k top west band c w (f o)
     by (inr o) f g = lower_from k top west band c w (g o)
@@ -327,12 +361,16 @@ InBand-lower (suc k) band low (west, h) =
     let same : k ≡ suc k - 1 = omega arith in (west, subst (λ n. IsBand n west (lower (2 ^ n) band)) same (IsBand-lower k west band h))
 
 -- what a band has after the two northern, or the two southern, quarters of a square were kept
-pub northern_kept : (half : ℕ) (t a b c d : Tree) (column first second : ℤ) (old more all : List Piece) → t ≡ quad a b c d → first ≡ column → second ≡ column +ℤ pos half
+pub northern_kept : (half : ℕ) (t a b c d : Tree) (column first second : ℤ) (old more all : List Piece) → t ≡ quad a b c d → first ≡ column
+    → second ≡ column +ℤ pos half
     → more ≡ old ++ kept a first → all ≡ more ++ kept b second → all ≡ old ++ northern half t column
 northern_kept half t a b c d column first second old more all e f g one two =
-    two ∙ ap (λ l. l ++ kept b second) one ∙ append_assoc old _ _ ∙ (λ i. old ++ (kept a (f i) ++ kept b (g i))) ∙ ap (λ u. old ++ northern half u column) (sym e)
+    two ∙ ap (λ l. l ++ kept b second) one ∙ append_assoc old _ _ ∙ (λ i. old ++ (kept a (f i) ++ kept b (g i)))
+    ∙ ap (λ u. old ++ northern half u column) (sym e)
 
-pub southern_kept : (half : ℕ) (t a b c d : Tree) (column first second : ℤ) (old more all : List Piece) → t ≡ quad a b c d → first ≡ column → second ≡ column +ℤ pos half
+pub southern_kept : (half : ℕ) (t a b c d : Tree) (column first second : ℤ) (old more all : List Piece) → t ≡ quad a b c d → first ≡ column
+    → second ≡ column +ℤ pos half
     → more ≡ old ++ kept c first → all ≡ more ++ kept d second → all ≡ old ++ southern half t column
 southern_kept half t a b c d column first second old more all e f g one two =
-    two ∙ ap (λ l. l ++ kept d second) one ∙ append_assoc old _ _ ∙ (λ i. old ++ (kept c (f i) ++ kept d (g i))) ∙ ap (λ u. old ++ southern half u column) (sym e)
+    two ∙ ap (λ l. l ++ kept d second) one ∙ append_assoc old _ _ ∙ (λ i. old ++ (kept c (f i) ++ kept d (g i)))
+    ∙ ap (λ u. old ++ southern half u column) (sym e)

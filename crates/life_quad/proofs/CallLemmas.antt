@@ -92,7 +92,8 @@ pub node_content : (s : Nodes) (id : Id) (n : Node) → IsSound s → 66064 ≤ 
 node_content s id n h l at = square_of-node s (id.0 - 66064) n id h at (omega arith)
 
 -- the level of a node's square
-pub node_level : (s : Nodes) (id : Id) (level d : ℕ) → Knows s id → 66064 ≤ id.0 → level ≡ get_or (levels_of s.nodes) (id.0 - 66064) d → level ≡ depth (square_of (squares s.nodes) id)
+pub node_level : (s : Nodes) (id : Id) (level d : ℕ) → Knows s id → 66064 ≤ id.0 → level ≡ get_or (levels_of s.nodes) (id.0 - 66064) d
+    → level ≡ depth (square_of (squares s.nodes) id)
 node_level s id level d h l at = by (kind_of (squares s.nodes) id)
   where
     lt : id.0 - 66064 < length (squares s.nodes)
@@ -206,7 +207,8 @@ pub id_held : (s : Nodes) (n : Node) (id : Id) → IsSound s → IsShared s → 
 id_held s n id h u e = subst (Contains (held s)) (square_of-id s n id h e) (held_at s id.0 (id_logged s n id u e))
 
 -- a held square of four quarters has their Id
-pub held_id : (s : Nodes) (i : ℕ) (n : Node) → IsSound s → IsShared s → i ≤ length s.nodes → IsNode s.log (squares s.nodes) i n → Contains (held s) (node_square (squares s.nodes) n)
+pub held_id : (s : Nodes) (i : ℕ) (n : Node) → IsSound s → IsShared s → i ≤ length s.nodes → IsNode s.log (squares s.nodes) i n
+    → Contains (held s) (node_square (squares s.nodes) n)
     → (id : Id) × IsIdOf s n id
 held_id s i n h u le new there = by (held_from s (node_square S n) there)
   where
@@ -245,7 +247,8 @@ held-distinct s h u i j d before below e =
     u.distinct i j 0 before lt (ap (λ k. k.0) same)
 
 -- each known square of level 1 or more that is not blank is held
-pub held-complete : (s : Nodes) → IsShared s → (id : Id) → Knows s id → is_blank_tree (content s id) ≡ false → 0 < depth (content s id) → Contains (held s) (content s id)
+pub held-complete : (s : Nodes) → IsShared s → (id : Id) → Knows s id → is_blank_tree (content s id) ≡ false → 0 < depth (content s id)
+    → Contains (held s) (content s id)
 held-complete s u id h full deep = by (names s id h)
   where
     by : Names s id → Contains (held s) (content s id)
@@ -258,7 +261,8 @@ pub held-only : (s : Nodes) → IsSound s → IsShared s → (t : Tree) → Cont
     → (is_blank_tree t ≡ false) × (0 < depth t) × ((id : Id) × Knows s id × (content s id ≡ t))
 held-only s h u t there = by (held_from s t there)
   where
-    at : (k : ℕ) → 512 ≤ k → Knows s (id_of k) → content s (id_of k) ≡ t → Names s (id_of k) → (is_blank_tree t ≡ false) × (0 < depth t) × ((id : Id) × Knows s id × (content s id ≡ t))
+    at : (k : ℕ) → 512 ≤ k → Knows s (id_of k) → content s (id_of k) ≡ t → Names s (id_of k) → (is_blank_tree t ≡ false) × (0 < depth t)
+        × ((id : Id) × Knows s id × (content s id ≡ t))
     at k high known e (the_state l f) = absurd (omega arith)
     at k high known e (the_blank j l i f) = absurd (omega arith)
     at k high known e (the_node i n l le is node f) =
@@ -275,9 +279,12 @@ module _ (old new : Nodes) (more : List Tree) (grown : squares new.nodes ≡ squ
   content-grown : (id : Id) → id.0 < 66064 + length old.nodes → content new id ≡ content old id
   content-grown id lt = ap (λ S. square_of S id) grown ∙ square_of-append (squares old.nodes) more id (omega (arith, lt, length-squares old.nodes))
 
-  pub knows-grown : length old.nodes ≤ length new.nodes → ((k : ℕ) → Contains old.log k → Contains new.log k) → IsSound new → (id : Id) → Knows old id → Knows new id × (content new id ≡ content old id)
-  knows-grown le along h id k =
-      (record { sound = h; named = record { below = omega (arith, k.named.below, le); blank = k.named.blank }; joined = λ l u. along id.0 (k.joined l u) }, content-grown id k.named.below)
+  pub knows-grown : length old.nodes ≤ length new.nodes → ((k : ℕ) → Contains old.log k → Contains new.log k) → IsSound new → (id : Id) → Knows old id
+      → Knows new id × (content new id ≡ content old id)
+  knows-grown le along h id k = (
+    record { sound = h; named = record { below = omega (arith, k.named.below, le); blank = k.named.blank }; joined = λ l u. along id.0 (k.joined l u) },
+    content-grown id k.named.below,
+  )
 
   held-grown : (k : ℕ) → IsShared old → new.log ≡ old.log ++ k ∷ [] → held new ≡ held old ++ content new (id_of k) ∷ []
   held-grown k u e =
@@ -295,17 +302,20 @@ joined_there s n id h u e = was_there refl (id_held s n id h u e) (knows_id s n 
 
 -- a small square that was not joined is not held
 pub absent_small : (s : Nodes) (k : ℕ) → IsSound s → IsShared s → IsSmall s.log (squares s.nodes) k → ¬ Contains s.log k → ¬ Contains (held s) (small_square k)
-absent_small s k h u small absent there = by (held_id s 0 small.quarters h u (omega arith) small.is (subst (Contains (held s)) (small_node (squares s.nodes) small.quarters k small.number) there))
+absent_small s k h u small absent there = by
+    (held_id s 0 small.quarters h u (omega arith) small.is (subst (Contains (held s)) (small_node (squares s.nodes) small.quarters k small.number) there))
   where
     of : (id : Id) → IsIdOf s small.quarters id → ⊥
-    of id (as_small e logged) = let same : Some id.0 ≡ Some k = sym e ∙ small.number in let equal : id.0 ≡ k = cc in absent (subst (Contains s.log) equal logged)
+    of id (as_small e logged) = let same : Some id.0 ≡ Some k = sym e ∙ small.number in let equal : id.0 ≡ k = cc in
+        absent (subst (Contains s.log) equal logged)
     of id (as_node i e at) = let none : None ≡ Some k = sym (u.apart i small.quarters at) ∙ small.number in absurd (cc)
 
     by : (id : Id) × IsIdOf s small.quarters id → ⊥
     by (id, is) = of id is
 
 -- a small square that is joined
-pub joined_small : (s : Nodes) (k : ℕ) → IsSound s → IsShared s → IsSmall s.log (squares s.nodes) k → ¬ Contains s.log k → length s.log < s.limit → Joined s (with_id s k) (small_square k) (id_of k)
+pub joined_small : (s : Nodes) (k : ℕ) → IsSound s → IsShared s → IsSmall s.log (squares s.nodes) k → ¬ Contains s.log k → length s.log < s.limit
+    → Joined s (with_id s k) (small_square k) (id_of k)
 joined_small s k h u small absent room =
     let q = small.quarters in
     let r = small_range q.nw q.ne q.sw q.se k small.number in
@@ -314,12 +324,14 @@ joined_small s k h u small absent room =
     let grown : squares s.nodes ≡ squares s.nodes ++ [] = sym (append_nil (squares s.nodes)) in
     let is : content (with_id s k) (id_of k) ≡ small_square k = square_of-small (squares s.nodes) (id_of k) r.0 r.1 in
     is_new (absent_small s k h u small absent)
-    (λ id known. let p = knows-grown s (with_id s k) [] grown (omega arith) (λ j. Contains-append_left s.log (k ∷ []) j) sound id known.0 in ((p.0, shared), p.1))
+    (λ id known. let p = knows-grown s (with_id s k) [] grown (omega arith) (λ j. Contains-append_left s.log (k ∷ []) j) sound id known.0 in
+    ((p.0, shared), p.1))
     (held-grown s (with_id s k) [] grown k u refl ∙ ap (λ t. held s ++ t ∷ []) is)
     (knows_id (with_id s k) q (id_of k) sound (as_small small.number (Contains-push s.log k)), shared) is
 
 -- a node that is not stored is not held
-pub absent_node : (s : Nodes) (n : Node) → IsSound s → IsShared s → IsNode s.log (squares s.nodes) (length s.nodes) n → number_of n ≡ None → ¬ Contains s.nodes n
+pub absent_node : (s : Nodes) (n : Node) → IsSound s → IsShared s → IsNode s.log (squares s.nodes) (length s.nodes) n → number_of n ≡ None
+    → ¬ Contains s.nodes n
     → ¬ Contains (held s) (node_square (squares s.nodes) n)
 absent_node s n h u new large absent there = by (held_id s (length s.nodes) n h u (omega arith) new there)
   where
@@ -336,10 +348,12 @@ square_of-last : (s : Nodes) (n : Node) → IsNode s.log (squares s.nodes) (leng
 square_of-last s n node new e sound =
     square_of-node new (length s.nodes) n (id_of (66064 + length s.nodes)) sound (ap (λ ns. slice_get ns (length s.nodes)) e ∙ slice_get-last s.nodes n) refl
     ∙ ap (λ S. node_square S n) (ap squares e ∙ squares-push s.nodes n)
-    ∙ node_square-append (squares s.nodes) (node_square (squares s.nodes) n ∷ []) (length s.nodes) n (omega (arith, length-squares s.nodes)) node.nw.named node.ne.named node.sw.named node.se.named
+    ∙ node_square-append (squares s.nodes) (node_square (squares s.nodes) n ∷ []) (length s.nodes) n (omega (arith, length-squares s.nodes)) node.nw.named
+    node.ne.named node.sw.named node.se.named
 
 -- a node that is stored
-pub joined_node : (s : Nodes) (n : Node) → IsSound s → IsShared s → IsNode s.log (squares s.nodes) (length s.nodes) n → number_of n ≡ None → ¬ Contains s.nodes n → HasRoom s
+pub joined_node : (s : Nodes) (n : Node) → IsSound s → IsShared s → IsNode s.log (squares s.nodes) (length s.nodes) n → number_of n ≡ None
+    → ¬ Contains s.nodes n → HasRoom s
     → Joined s (with_both s n) (node_square (squares s.nodes) n) (id_of (66064 + length s.nodes))
 joined_node s n h u new large absent room =
     let k = 66064 + length s.nodes in
@@ -349,14 +363,23 @@ joined_node s n h u new large absent room =
     let longer = length-append s.nodes (n ∷ []) in
     let is : content (with_both s n) (id_of k) ≡ node_square (squares s.nodes) n = square_of-last s n new (with_both s n) refl sound in
     is_new (absent_node s n h u new large absent)
-    (λ id known. let p = knows-grown s (with_both s n) _ grown (omega (arith, longer)) (λ j. Contains-append_left s.log (k ∷ []) j) sound id known.0 in ((p.0, shared), p.1))
+    (λ id known. let p = knows-grown s (with_both s n) _ grown (omega (arith, longer)) (λ j. Contains-append_left s.log (k ∷ []) j) sound id known.0 in
+    ((p.0, shared), p.1))
     (held-grown s (with_both s n) _ grown k u refl ∙ ap (λ t. held s ++ t ∷ []) is)
     (knows_id (with_both s n) n (id_of k) sound (as_node (length s.nodes) refl (slice_get-last s.nodes n)), shared) is
 
 -- ---- answers
 
 pub answers_ok : (old new : Nodes) (t : Tree) (id : Id) → Joined old new t id → new.limit ≡ old.limit → Answers old new t (Ok id)
-answers_ok old new t id joined limit = record { joined = joined; limit = limit; full = (λ e. absurd (cc), λ needs. absurd (by needs joined)); room = λ e. absurd (cc); refusals = tt; needed = tt; unchanged = tt }
+answers_ok old new t id joined limit = record {
+  joined = joined;
+  limit = limit;
+  full = (λ e. absurd (cc), λ needs. absurd (by needs joined));
+  room = λ e. absurd (cc);
+  refusals = tt;
+  needed = tt;
+  unchanged = tt;
+}
   where
     by : ¬ Contains (held old) t × (length (held old) ≡ old.limit) → Joined old new t id → ⊥
     by needs (was_there same there known is) = needs.0 there
@@ -367,7 +390,8 @@ answers_ok old new t id joined limit = record { joined = joined; limit = limit; 
 abbrev refused : Kind → Result Id Kind
 refused k = Err k
 
-pub answers_err : (s : Nodes) (t : Tree) (k : Kind) → IsShared s → ¬ Contains (held s) t → (k ≡ Full) ⊎ (k ≡ Memory) → (k ≡ Full) ↔ (length s.log ≡ s.limit) → Answers s s t (Err k)
+pub answers_err : (s : Nodes) (t : Tree) (k : Kind) → IsShared s → ¬ Contains (held s) t → (k ≡ Full) ⊎ (k ≡ Memory) → (k ≡ Full) ↔ (length s.log ≡ s.limit)
+    → Answers s s t (Err k)
 answers_err s t k u absent kinds full = record {
   joined = tt;
   limit = refl;
@@ -386,9 +410,11 @@ answers_err s t k u absent kinds full = record {
         absurd (let kind : k ≡ Memory = cc in let same : Full ≡ Memory = sym f ∙ kind in cc)
 
 -- the same in the words of the calls
-pub answers_refused : (s new : Nodes) (t : Tree) (k : Kind) (len : ℕ) → new ≡ s → IsShared s → ¬ Contains (held s) t → (k ≡ Full) ⊎ (k ≡ Memory) → len ≡ length s.log → (k ≡ Full) ↔ (len ≡ s.limit)
+pub answers_refused : (s new : Nodes) (t : Tree) (k : Kind) (len : ℕ) → new ≡ s → IsShared s → ¬ Contains (held s) t → (k ≡ Full) ⊎ (k ≡ Memory)
+    → len ≡ length s.log → (k ≡ Full) ↔ (len ≡ s.limit)
     → Answers s new t (Err k)
-answers_refused s new t k len same u absent kinds e full = subst (λ v. Answers s v t (Err k)) (sym same) (answers_err s t k u absent kinds (λ f. sym e ∙ full.0 f, λ f. full.1 (e ∙ f)))
+answers_refused s new t k len same u absent kinds e full = subst (λ v. Answers s v t (Err k)) (sym same)
+    (answers_err s t k u absent kinds (λ f. sym e ∙ full.0 f, λ f. full.1 (e ∙ f)))
 
 -- a refusal of memory below the limit
 pub answers_memory : (s new : Nodes) (t : Tree) (r : Result Id Kind) → new ≡ s → IsShared s → ¬ Contains (held s) t → length s.log < s.limit
@@ -396,14 +422,16 @@ pub answers_memory : (s new : Nodes) (t : Tree) (r : Result Id Kind) → new ≡
 answers_memory s new t (Ok id) same u absent room P is err told = absurd (true≢false (sym err))
 answers_memory s new t (Err k) same u absent room P is err told =
     let memory = is k told in
-    answers_refused s new t k (length s.log) same u absent (inr memory) refl (λ f. absurd (let kinds : Full ≡ Memory = sym f ∙ memory in cc), λ f. absurd (omega (arith, f, room)))
+    answers_refused s new t k (length s.log) same u absent (inr memory) refl
+    (λ f. absurd (let kinds : Full ≡ Memory = sym f ∙ memory in cc), λ f. absurd (omega (arith, f, room)))
 
 -- a node that a test does not find
 pub not_there : (ns : List Node) (n : Node) → list_any (eq-value.it n) ns ≡ false → ¬ Contains ns n
 not_there ns n f c = true≢false (sym (list_any-Contains ns n c) ∙ f)
 
 -- what an insertion into the set of nodes does
-pub inserted : (old ns : List Node) (n : Node) (i : ℕ) → ns ≡ insert_key eq-value.it old n → length ns ≡ length old + 1 → (k : Node) × (slice_get ns i ≡ Some k) × (eq-value.it n k ≡ true)
+pub inserted : (old ns : List Node) (n : Node) (i : ℕ) → ns ≡ insert_key eq-value.it old n → length ns ≡ length old + 1 → (k : Node) × (slice_get ns i ≡ Some k)
+    × (eq-value.it n k ≡ true)
     → (¬ Contains old n) × (ns ≡ old ++ n ∷ []) × (i ≡ length old)
 inserted old ns n i e len (k, at, same) = by (list_any (eq-value.it n) old) refl
   where
@@ -421,7 +449,8 @@ inserted old ns n i e len (k, at, same) = by (list_any (eq-value.it n) old) refl
         last absent (inl there) = absurd (absent (i, slice_get_within old i n there, get_or_from_slice_get old i n n there))
         last absent (inr l) = l.0
 
-pub found : (old ns : List Node) (n : Node) (i : ℕ) → ns ≡ insert_key eq-value.it old n → length ns ≡ length old → (k : Node) × (slice_get ns i ≡ Some k) × (eq-value.it n k ≡ true)
+pub found : (old ns : List Node) (n : Node) (i : ℕ) → ns ≡ insert_key eq-value.it old n → length ns ≡ length old → (k : Node) × (slice_get ns i ≡ Some k)
+    × (eq-value.it n k ≡ true)
     → (ns ≡ old) × (slice_get old i ≡ Some n)
 found old ns n i e len (k, at, same) = by (list_any (eq-value.it n) old) refl
   where
@@ -435,14 +464,16 @@ found old ns n i e len (k, at, same) = by (list_any (eq-value.it n) old) refl
         absurd (omega (arith, longer, len))
 
 -- a store with a new node
-pub node_added : (s new : Nodes) (n : Node) (i : ℕ) → IsSound s → IsShared s → IsNode s.log (squares s.nodes) (length s.nodes) n → number_of n ≡ None → ¬ Contains s.nodes n → HasRoom s
+pub node_added : (s new : Nodes) (n : Node) (i : ℕ) → IsSound s → IsShared s → IsNode s.log (squares s.nodes) (length s.nodes) n → number_of n ≡ None
+    → ¬ Contains s.nodes n → HasRoom s
     → new ≡ with_both s n → i ≡ length s.nodes → Answers s new (node_square (squares s.nodes) n) (Ok (id_of (66064 + i)))
 node_added s new n i h u node large absent room grown last =
     subst (λ v. Answers s v (node_square (squares s.nodes) n) (Ok (id_of (66064 + i)))) (sym grown)
     (subst (λ j. Answers s (with_both s n) (node_square (squares s.nodes) n) (Ok (id_of (66064 + j)))) (sym last)
     (answers_ok s (with_both s n) (node_square (squares s.nodes) n) (id_of (66064 + length s.nodes)) (joined_node s n h u node large absent room) refl))
 
-pub sound_added : (s new : Nodes) (n : Node) → IsSound s → IsShared s → IsNode s.log (squares s.nodes) (length s.nodes) n → number_of n ≡ None → ¬ Contains s.nodes n → HasRoom s
+pub sound_added : (s new : Nodes) (n : Node) → IsSound s → IsShared s → IsNode s.log (squares s.nodes) (length s.nodes) n → number_of n ≡ None
+    → ¬ Contains s.nodes n → HasRoom s
     → new ≡ with_both s n → IsSound new × IsShared new
 sound_added s new n h u node large absent room grown =
     subst (λ v. IsSound v × IsShared v) (sym grown) (IsSound-both s n h node room.few, IsShared-both s n u absent large room.limit)
@@ -466,7 +497,11 @@ HasSeen-node seen log log' k h high e = subst (HasSeen seen) (sym e) (record {
     by i low (inr f) = absurd (omega arith)
 
 pub HasSeen-same : (seen seen' : Id → Bool) (log : List ℕ) → HasSeen seen log → ((q : Id) → seen' q ≡ seen q) → HasSeen seen' log
-HasSeen-same seen seen' log h same = record { joined = λ i mark. h.joined i (sym (same (id_of i)) ∙ mark); listed = λ i there low. same (id_of i) ∙ h.listed i there low }
+HasSeen-same seen seen' log h same = record {
+  joined = λ i mark. h.joined i (sym (same (id_of i)) ∙ mark);
+  listed = λ i there low. same (id_of i)
+      ∙ h.listed i there low;
+}
 
 same_or_other : (i k : ℕ) → (i ≡ k) ⊎ (i ≢ k)
 same_or_other i k = grind arith
@@ -495,24 +530,31 @@ pub unseen : (seen : Id → Bool) (log : List ℕ) (k : ℕ) → HasSeen seen lo
 unseen seen log k h low mark there = true≢false (sym (h.listed k there low) ∙ mark)
 
 -- a small square that is marked
-pub small_added : (s new : Nodes) (k : ℕ) → IsSound s → IsShared s → IsSmall s.log (squares s.nodes) k → ¬ Contains s.log k → length s.log < s.limit → new ≡ with_id s k
+pub small_added : (s new : Nodes) (k : ℕ) → IsSound s → IsShared s → IsSmall s.log (squares s.nodes) k → ¬ Contains s.log k → length s.log < s.limit
+    → new ≡ with_id s k
     → Answers s new (small_square k) (Ok (id_of k))
 small_added s new k h u small absent room grown =
-    subst (λ v. Answers s v (small_square k) (Ok (id_of k))) (sym grown) (answers_ok s (with_id s k) (small_square k) (id_of k) (joined_small s k h u small absent room) refl)
+    subst (λ v. Answers s v (small_square k) (Ok (id_of k))) (sym grown)
+    (answers_ok s (with_id s k) (small_square k) (id_of k) (joined_small s k h u small absent room) refl)
 
-pub sound_marked : (s new : Nodes) (k : ℕ) → IsSound s → IsShared s → IsSmall s.log (squares s.nodes) k → ¬ Contains s.log k → length s.log < s.limit → new ≡ with_id s k → IsSound new × IsShared new
+pub sound_marked : (s new : Nodes) (k : ℕ) → IsSound s → IsShared s → IsSmall s.log (squares s.nodes) k → ¬ Contains s.log k → length s.log < s.limit
+    → new ≡ with_id s k → IsSound new × IsShared new
 sound_marked s new k h u small absent room grown =
     let q = small.quarters in
     let r = small_range q.nw q.ne q.sw q.se k small.number in
     subst (λ v. IsSound v × IsShared v) (sym grown) (IsSound-id s k h (λ _. small), IsShared-id s k u absent r.1 room)
 
-pub small_there : (s : Nodes) (k : ℕ) → IsSound s → IsShared s → IsSmall s.log (squares s.nodes) k → Contains s.log k → Answers s s (small_square k) (Ok (id_of k))
+pub small_there : (s : Nodes) (k : ℕ) → IsSound s → IsShared s → IsSmall s.log (squares s.nodes) k → Contains s.log k
+    → Answers s s (small_square k) (Ok (id_of k))
 small_there s k h u small there =
     answers_ok s s (small_square k) (id_of k)
-    (subst (λ t. Joined s s t (id_of k)) (sym (small_node (squares s.nodes) small.quarters k small.number)) (joined_there s small.quarters (id_of k) h u (as_small small.number there))) refl
+    (subst (λ t. Joined s s t (id_of k)) (sym (small_node (squares s.nodes) small.quarters k small.number))
+    (joined_there s small.quarters (id_of k) h u (as_small small.number there))) refl
 
-pub node_there : (s : Nodes) (n : Node) (i : ℕ) → IsSound s → IsShared s → slice_get s.nodes i ≡ Some n → Answers s s (node_square (squares s.nodes) n) (Ok (id_of (66064 + i)))
-node_there s n i h u at = answers_ok s s (node_square (squares s.nodes) n) (id_of (66064 + i)) (joined_there s n (id_of (66064 + i)) h u (as_node i refl at)) refl
+pub node_there : (s : Nodes) (n : Node) (i : ℕ) → IsSound s → IsShared s → slice_get s.nodes i ≡ Some n
+    → Answers s s (node_square (squares s.nodes) n) (Ok (id_of (66064 + i)))
+node_there s n i h u at = answers_ok s s (node_square (squares s.nodes) n) (id_of (66064 + i)) (joined_there s n (id_of (66064 + i)) h u (as_node i refl at))
+    refl
 
 -- what a join of a square that isn't blank answers
 module _ (old new : Nodes) (t : Tree) (deep : 0 < depth t) (not_blank : is_blank_tree t ≡ false) where
@@ -580,7 +622,8 @@ module _ (old new : Nodes) (t : Tree) (deep : 0 < depth t) (not_blank : is_blank
       by needs known (was_there same there k is) = needs.1 there
       by needs known (is_new absent keeps added k is) =
           let same : content old id ≡ t = sym (keeps id known).1 ∙ is in
-          absent (subst (Contains (held old)) same (held-complete old known.1 id known.0 (ap is_blank_tree same ∙ not_blank) (subst (λ z. 0 < depth z) (sym same) deep)))
+          absent (subst (Contains (held old)) same
+          (held-complete old known.1 id known.0 (ap is_blank_tree same ∙ not_blank) (subst (λ z. 0 < depth z) (sym same) deep)))
   join_fresh (Err k) a = tt
 
   join_full : (r : Result Id Kind) → Answers old new t r → (r ≡ Err Full) ↔ (Needs × (length (held old) ≡ old.limit))
@@ -627,7 +670,8 @@ module _ (s : Nodes) (nw ne sw se : Id) (a : Knows s nw) (b : Knows s ne) (c : K
       let u = is_blank-content s se d in
       λ j. p j && q j && r j && u j
 
-  pub blank_joined : (is_blank_id nw && is_blank_id ne && is_blank_id sw && is_blank_id se) ≡ true → joined ≡ blank (suc (depth (square_of (squares s.nodes) nw)))
+  pub blank_joined : (is_blank_id nw && is_blank_id ne && is_blank_id sw && is_blank_id se) ≡ true
+      → joined ≡ blank (suc (depth (square_of (squares s.nodes) nw)))
   blank_joined h = blank_is joined full_joined (is_blank-joined ∙ h)
 
   -- the node of four quarters that are not all blank
@@ -657,7 +701,8 @@ position_contains ns n i e =
     (i, p.0, sym (same_node n (get_or ns i n) p.1))
 
 -- a small square of four quarters that are not all blank
-pub IsSmall-joined : (s : Nodes) (n : Node) (k : ℕ) → number_of n ≡ Some k → IsNode s.log (squares s.nodes) (length s.nodes) n → IsSmall s.log (squares s.nodes) k
+pub IsSmall-joined : (s : Nodes) (n : Node) (k : ℕ) → number_of n ≡ Some k → IsNode s.log (squares s.nodes) (length s.nodes) n
+    → IsSmall s.log (squares s.nodes) k
 IsSmall-joined s n k e node =
     let r = quarters_range n.nw n.ne n.sw n.se k e in
     record {
@@ -700,27 +745,35 @@ contents_added : {T E : Type 0} (r : Result T E) (old new : Nodes) (n : Node) �
     → (id : Id) → Knows old id → Knows new id × (square_of (squares new.nodes) id ≡ square_of (squares old.nodes) id)
 contents_added (Ok x) old new n i same sound id k =
     let len = ap (λ s. length s.nodes) i ∙ length-append old.nodes (n ∷ []) in
-    knows-grown old new _ (ap (λ s. squares s.nodes) i ∙ squares-push old.nodes n) (omega (arith, len)) (λ j there. subst (λ s. Contains s.log j) (sym i) there) sound id k
+    knows-grown old new _ (ap (λ s. squares s.nodes) i ∙ squares-push old.nodes n) (omega (arith, len)) (λ j there. subst (λ s. Contains s.log j) (sym i) there)
+    sound id k
 contents_added (Err x) old new n i same sound id k =
     (subst (λ s. Knows s id) (sym same) k, ap (λ s. square_of (squares s.nodes) id) same)
 
 stays_added : {T E : Type 0} (r : Result T E) (old new : Nodes) (n : Node) → OnOk r (new ≡ with_node old n) → OnErr r (new ≡ old)
     → (t : Tree) → Contains (squares old.nodes) t → Contains (squares new.nodes) t
 stays_added (Ok x) old new n i same t h =
-    subst (λ S. Contains S t) (sym (ap (λ s. squares s.nodes) i ∙ squares-push old.nodes n)) (Contains-append_left (squares old.nodes) (node_square (squares old.nodes) n ∷ []) t h)
+    subst (λ S. Contains S t) (sym (ap (λ s. squares s.nodes) i ∙ squares-push old.nodes n))
+    (Contains-append_left (squares old.nodes) (node_square (squares old.nodes) n ∷ []) t h)
 stays_added (Err x) old new n i same t h = subst (λ s. Contains (squares s.nodes) t) (sym same) h
 
 -- what a store keeps to which a node is added, or whose call is refused
 pub keeps_added : {T E : Type 0} (r : Result T E) (old new : Nodes) (n : Node) → OnOk r (new ≡ with_node old n) → OnErr r (new ≡ old) → IsSound new
     → new.limit ≡ old.limit → KeepsSquares Knows content (λ s. squares s.nodes) (λ s. s.limit) old new
-keeps_added r old new n i same sound limit = record { contents = contents_added r old new n i same sound; stored = stays_added r old new n i same; limit = limit }
+keeps_added r old new n i same sound limit = record {
+  contents = contents_added r old new n i same sound;
+  stored = stays_added r old new n i same;
+  limit = limit;
+}
 
 -- the Id that an added node gets
 pub knows_last : (old new : Nodes) (n : Node) → new ≡ with_node old n → IsSound new → (id : Id) → id.0 ≡ 66064 + length old.nodes → Knows new id
-knows_last old new n i sound id e = knows_id new n id sound (as_node (length old.nodes) e (ap (λ s. slice_get s.nodes (length old.nodes)) i ∙ slice_get-last old.nodes n))
+knows_last old new n i sound id e = knows_id new n id sound
+    (as_node (length old.nodes) e (ap (λ s. slice_get s.nodes (length old.nodes)) i ∙ slice_get-last old.nodes n))
 
 -- a store that was refused memory for a node has room for it
-pub room_left : {T : Type 0} (r : Result T Kind) (old new : Nodes) → length old.nodes ≤ old.limit → (r ≡ Err Full) ↔ (length old.nodes ≡ old.limit) → OnErr r (new ≡ old)
+pub room_left : {T : Type 0} (r : Result T Kind) (old new : Nodes) → length old.nodes ≤ old.limit → (r ≡ Err Full) ↔ (length old.nodes ≡ old.limit)
+    → OnErr r (new ≡ old)
     → r ≡ Err Memory → length (squares new.nodes) < new.limit
 room_left (Ok x) old new h full same e = absurd (cc)
 room_left (Err k) old new h full same e = subst (λ s. length (squares s.nodes) < s.limit) (sym same) (by (nat_lt (length old.nodes) old.limit) refl)

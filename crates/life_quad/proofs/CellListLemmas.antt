@@ -36,7 +36,8 @@ InOrder-append (c ∷ xs) ys hx hy between = (λ d h. by d (Has-cases xs ys d h)
     by d (inr h) = between c d (inl refl) h
 
 -- the rows and columns of the cells of a band
-row_of : (k : ℕ) (top west : ℤ) (band : List Piece) (c : Cell) → IsBand k west band → OnBand top band c → (top ≤ℤ c.y) × (c.y <ℤ (top +ℤ pos (2 ^ k))) × (west ≤ℤ c.x)
+row_of : (k : ℕ) (top west : ℤ) (band : List Piece) (c : Cell) → IsBand k west band → OnBand top band c → (top ≤ℤ c.y) × (c.y <ℤ (top +ℤ pos (2 ^ k)))
+    × (west ≤ℤ c.x)
 row_of k top west [] c w h = absurd h
 row_of k top west (p ∷ band) c w (inl h) =
     let l = h.nonzero.row in
@@ -53,9 +54,13 @@ row_of k top west (p ∷ band) c w (inr h) =
 
 row_in_order : (top west : ℤ) (band : List Piece) → IsBand 0 west band → InOrder (row_cells top band)
 row_in_order top west [] w = tt
-row_in_order top west (p ∷ band) w = (λ d h. later d h (row_of 0 top (p.column +ℤ pos 1) band d w.4 (band_from 0 top (p.column +ℤ pos 1) band d w.4 h)), row_in_order top (p.column +ℤ pos 1) band w.4)
+row_in_order top west (p ∷ band) w = (
+  λ d h. later d h (row_of 0 top (p.column +ℤ pos 1) band d w.4 (band_from 0 top (p.column +ℤ pos 1) band d w.4 h)),
+  row_in_order top (p.column +ℤ pos 1) band w.4,
+)
   where
-    later : (d : Cell) → Has (row_cells top band) d → (top ≤ℤ d.y) × (d.y <ℤ (top +ℤ pos 1)) × ((p.column +ℤ pos 1) ≤ℤ d.x) → IsBefore (record { x = p.column; y = top; state = state_at p.square 0 0 }) d
+    later : (d : Cell) → Has (row_cells top band) d → (top ≤ℤ d.y) × (d.y <ℤ (top +ℤ pos 1)) × ((p.column +ℤ pos 1) ≤ℤ d.x)
+        → IsBefore (record { x = p.column; y = top; state = state_at p.square 0 0 }) d
     later d h r =
         let a = r.0 in
         let b = r.1 in
@@ -65,7 +70,8 @@ row_in_order top west (p ∷ band) w = (λ d h. later d h (row_of 0 top (p.colum
 pub band_in_order : (k : ℕ) (top west : ℤ) (band : List Piece) → IsBand k west band → InOrder (band_cells k top band)
 band_in_order zero top west band w = row_in_order top west band w
 band_in_order (suc k) top west band w =
-    InOrder-append _ _ (band_in_order k top west (upper (2 ^ k) band) (IsBand-upper k west band w)) (band_in_order k (top +ℤ pos (2 ^ k)) west (lower (2 ^ k) band) (IsBand-lower k west band w))
+    InOrder-append _ _ (band_in_order k top west (upper (2 ^ k) band) (IsBand-upper k west band w))
+    (band_in_order k (top +ℤ pos (2 ^ k)) west (lower (2 ^ k) band) (IsBand-lower k west band w))
     (λ c d hc hd.
     let a = row_of k top west _ c (IsBand-upper k west band w) (band_from k top west _ c (IsBand-upper k west band w) hc) in
     let b = row_of k (top +ℤ pos (2 ^ k)) west _ d (IsBand-lower k west band w) (band_from k (top +ℤ pos (2 ^ k)) west _ d (IsBand-lower k west band w) hd) in
@@ -89,7 +95,8 @@ kept_population t column = by (is_blank_tree t) refl
     by true e = sym (population-blank t e)
     by false e = omega arith
 
-quarters_population : (k : ℕ) (t : Tree) (column : ℤ) → depth t ≡ suc k → band_population (northern (2 ^ k) t column) + band_population (southern (2 ^ k) t column) ≡ population t
+quarters_population : (k : ℕ) (t : Tree) (column : ℤ) → depth t ≡ suc k → band_population (northern (2 ^ k) t column) + band_population
+    (southern (2 ^ k) t column) ≡ population t
 quarters_population k (point s) column e = absurd (omega arith)
 quarters_population k (quad a b c d) column e =
     let n = band_population-append (kept a column) (kept b (column +ℤ pos (2 ^ k))) in
@@ -100,7 +107,8 @@ quarters_population k (quad a b c d) column e =
     let pd = kept_population d (column +ℤ pos (2 ^ k)) in
     omega arith
 
-halves_population : (k : ℕ) (west : ℤ) (band : List Piece) → IsBand (suc k) west band → band_population (upper (2 ^ k) band) + band_population (lower (2 ^ k) band) ≡ band_population band
+halves_population : (k : ℕ) (west : ℤ) (band : List Piece) → IsBand (suc k) west band
+    → band_population (upper (2 ^ k) band) + band_population (lower (2 ^ k) band) ≡ band_population band
 halves_population k west [] w = omega arith
 halves_population k west (p ∷ band) w =
     let h = halves_population k (p.column +ℤ pos (2 ^ suc k)) band w.4 in
@@ -133,10 +141,12 @@ band_length (suc k) top west band w =
 -- a square that isn't blank has one
 pub some_population : (t : Tree) → is_blank_tree t ≡ false → 1 ≤ population t
 some_population (point s) h = grind (arith, h)
-some_population (quad a b c d) h = by (is_blank_tree a) refl (is_blank_tree b) refl (is_blank_tree c) refl (some_population a) (some_population b) (some_population c) (some_population d)
+some_population (quad a b c d) h = by (is_blank_tree a) refl (is_blank_tree b) refl (is_blank_tree c) refl (some_population a) (some_population b)
+    (some_population c) (some_population d)
   where
     by : (p : Bool) → is_blank_tree a ≡ p → (q : Bool) → is_blank_tree b ≡ q → (r : Bool) → is_blank_tree c ≡ r
-        → (is_blank_tree a ≡ false → 1 ≤ population a) → (is_blank_tree b ≡ false → 1 ≤ population b) → (is_blank_tree c ≡ false → 1 ≤ population c) → (is_blank_tree d ≡ false → 1 ≤ population d)
+        → (is_blank_tree a ≡ false → 1 ≤ population a) → (is_blank_tree b ≡ false → 1 ≤ population b) → (is_blank_tree c ≡ false → 1 ≤ population c)
+        → (is_blank_tree d ≡ false → 1 ≤ population d)
         → 1 ≤ population a + population b + population c + population d
     by false e q f r g ha hb hc hd = let n = ha e in omega arith
     by true e false f r g ha hb hc hd = let n = hb f in omega arith
@@ -166,7 +176,8 @@ Has-Contains (d ∷ cells) c (suc k, lt, e) = inr (Has-Contains cells c (k, omeg
 
 AllPairs-InOrder : (cells : List Cell) → InOrder cells → AllPairs IsBefore cells
 AllPairs-InOrder [] h = λ i j d before below. absurd (omega arith)
-AllPairs-InOrder (c ∷ cells) h = AllPairs-cons IsBefore c cells (λ k d lt. h.0 (get_or cells k d) (Has-Contains cells _ (Contains-get_or cells k d lt))) (AllPairs-InOrder cells h.1)
+AllPairs-InOrder (c ∷ cells) h = AllPairs-cons IsBefore c cells (λ k d lt. h.0 (get_or cells k d) (Has-Contains cells _ (Contains-get_or cells k d lt)))
+    (AllPairs-InOrder cells h.1)
 
 -- the nonzero cells of the one square of a band are those of the plane
 abbrev pub whole : Tree → List Piece
@@ -175,7 +186,8 @@ whole t = kept t (neg_ℤ (pos (half_side t)))
 pub IsBand-whole : (t : Tree) → IsFull t → IsBand (depth t) (neg_ℤ (pos (half_side t))) (whole t)
 IsBand-whole t full = by (is_blank_tree t) refl
   where
-    by : (b : Bool) → is_blank_tree t ≡ b → IsBand (depth t) (neg_ℤ (pos (half_side t))) (if b then [] else record { square = t; column = neg_ℤ (pos (half_side t)) } ∷ [])
+    by : (b : Bool) → is_blank_tree t ≡ b
+        → IsBand (depth t) (neg_ℤ (pos (half_side t))) (if b then [] else record { square = t; column = neg_ℤ (pos (half_side t)) } ∷ [])
     by true e = tt
     by false e = (full, refl, e, omega (arith, ints), tt)
 
@@ -190,14 +202,16 @@ pub square_length : (t : Tree) → IsFull t → length (square_cells t) ≡ popu
 square_length t full = band_length _ _ _ _ (IsBand-whole t full) ∙ whole_population t
 
 module _ (t : Tree) (full : IsFull t) (high : 1 ≤ depth t) where
-  pub on_plane : (c : Cell) → IsCellOf (neg_ℤ (pos (half_side t))) (record { square = t; column = neg_ℤ (pos (half_side t)) }) c → (cell t c.x c.y ≡ c.state) × (c.state ≢ 0)
+  pub on_plane : (c : Cell) → IsCellOf (neg_ℤ (pos (half_side t))) (record { square = t; column = neg_ℤ (pos (half_side t)) }) c → (cell t c.x c.y ≡ c.state)
+      × (c.state ≢ 0)
   on_plane c h =
       let x = h.x in
       let y = h.y in
       let place : IsPlace (half_side t) c.x c.y h.i h.j = record { column = omega (arith, ints, x); row = omega (arith, ints, y) } in
       (cell_at t c.x c.y h.i h.j high place h.nonzero.column h.nonzero.row ∙ h.state, λ e. h.nonzero.state (h.state ∙ e))
 
-  pub from_plane : (c : Cell) → cell t c.x c.y ≡ c.state → c.state ≢ 0 → IsCellOf (neg_ℤ (pos (half_side t))) (record { square = t; column = neg_ℤ (pos (half_side t)) }) c
+  pub from_plane : (c : Cell) → cell t c.x c.y ≡ c.state → c.state ≢ 0
+      → IsCellOf (neg_ℤ (pos (half_side t))) (record { square = t; column = neg_ℤ (pos (half_side t)) }) c
   from_plane c e nonzero =
       let p = place_of t c.x c.y high (λ z. nonzero (sym e ∙ z)) in
       let column = p.2.column in
@@ -211,7 +225,8 @@ module _ (t : Tree) (full : IsFull t) (high : 1 ≤ depth t) where
         state = sym (cell_at t c.x c.y p.0 p.1 high p.2 p.3.column p.3.row) ∙ e;
       }
 
-  on_whole : (c : Cell) → IsCellOf (neg_ℤ (pos (half_side t))) (record { square = t; column = neg_ℤ (pos (half_side t)) }) c → OnBand (neg_ℤ (pos (half_side t))) (whole t) c
+  on_whole : (c : Cell) → IsCellOf (neg_ℤ (pos (half_side t))) (record { square = t; column = neg_ℤ (pos (half_side t)) }) c
+      → OnBand (neg_ℤ (pos (half_side t))) (whole t) c
   on_whole c h = kept_has _ t _ c full h
 
   pub IsCellList-square : IsCellList t (square_cells t)
@@ -275,7 +290,8 @@ pub band_least : (k : ℕ) (top : ℤ) (band : List Piece) → InBand k band →
 band_least k top band (west, w) = let l = band_length k top west band w in let m = band_length_least k west band w in omega (arith, l, m)
 
 -- a band without squares adds nothing to a list
-pub append_none : (cells : List Cell) (content : Id → Tree) (level : ℕ) (row : ℤ) (band : List Placed) → length band ≡ 0 → cells ≡ cells ++ band_cells level row (pieces content band)
+pub append_none : (cells : List Cell) (content : Id → Tree) (level : ℕ) (row : ℤ) (band : List Placed) → length band ≡ 0
+    → cells ≡ cells ++ band_cells level row (pieces content band)
 append_none cells content level row [] e = sym (append-nil cells) ∙ ap (λ more. cells ++ more) (sym (no_cells level row))
 append_none cells content level row (p ∷ band) e = absurd (omega arith)
 
@@ -299,13 +315,15 @@ module _ (level : ℕ) (row first middle : ℤ) (content : Id → Tree) (named s
   pub both_halves : (old list new : List Cell) → list ≡ old ++ band_cells (level - 1) first north → new ≡ list ++ band_cells (level - 1) middle south
       → new ≡ old ++ band_cells level row both
   both_halves old list new e f =
-      f ∙ ap (λ l. l ++ band_cells (level - 1) middle south) e ∙ append_assoc old (band_cells (level - 1) first north) (band_cells (level - 1) middle south) ∙ ap (λ l. old ++ l) (sym halves_are)
+      f ∙ ap (λ l. l ++ band_cells (level - 1) middle south) e ∙ append_assoc old (band_cells (level - 1) first north) (band_cells (level - 1) middle south)
+      ∙ ap (λ l. old ++ l) (sym halves_are)
 
   both_lengths : length (band_cells level row both) ≡ length (band_cells (level - 1) first north) + length (band_cells (level - 1) middle south)
   both_lengths = ap length halves_are ∙ length-append (band_cells (level - 1) first north) (band_cells (level - 1) middle south)
 
   -- more cells in a half than a limit leaves room for are more in the whole
-  pub more_in_first : {T : Type 0} (r : Result T Kind) (old limit : ℕ) → IfErr r (λ e. e ≡ TooManyCells → limit < old + length (band_cells (level - 1) first north))
+  pub more_in_first : {T : Type 0} (r : Result T Kind) (old limit : ℕ)
+      → IfErr r (λ e. e ≡ TooManyCells → limit < old + length (band_cells (level - 1) first north))
       → IfErr r (λ e. e ≡ TooManyCells → limit < old + length (band_cells level row both))
   more_in_first r old limit h = IfErr-weaker r _ _ (λ e f is. let n = f is in omega (arith, n, both_lengths)) h
 

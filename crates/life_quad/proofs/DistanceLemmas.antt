@@ -166,7 +166,8 @@ module _ (side : Side) (t a b c d : Tree) (full : IsFull t) (is : Faces side t a
       by (in_d m e k) = inr (m, e, inr k)
 
   -- the least distance is that of the quarters at the side, if these have cells
-  pub least_near : (x y : Option ℕ) (n : ℕ) → IsLeastOf (HasCellAt side a) x → IsLeastOf (HasCellAt side b) y → lesser_of x y ≡ Some n → IsLeast (HasCellAt side t) n
+  pub least_near : (x y : Option ℕ) (n : ℕ) → IsLeastOf (HasCellAt side a) x → IsLeastOf (HasCellAt side b) y → lesser_of x y ≡ Some n
+      → IsLeast (HasCellAt side t) n
   least_near x y n hx hy e =
       let k : IsLeastOf Near (Some n) = subst (IsLeastOf Near) e (least_of_both (HasCellAt side a) (HasCellAt side b) x y hx hy) in
       record { has = near_is n k.has; least = λ m h. least k m (either m h) }
@@ -227,7 +228,8 @@ least_of_cell side (point s) k h = record { has = by side; least = λ n e. omega
     by East = record { column = 0; row = 0; cell = here; far = refl }
 
 -- the least box, by the least distances from the four sides
-pub box_of_distances : (t : Tree) (west north east south : ℕ) → IsLeast (HasCellAt West t) west → IsLeast (HasCellAt North t) north → IsLeast (HasCellAt East t) east → IsLeast (HasCellAt South t) south
+pub box_of_distances : (t : Tree) (west north east south : ℕ) → IsLeast (HasCellAt West t) west → IsLeast (HasCellAt North t) north
+    → IsLeast (HasCellAt East t) east → IsLeast (HasCellAt South t) south
     → IsLeastWithin t west north (2 ^ depth t - suc east) (2 ^ depth t - suc south)
 box_of_distances t west north east south w n e s =
     record {
@@ -238,7 +240,15 @@ box_of_distances t west north east south w n e s =
         (let l = h.row in let k = s.least (2 ^ depth t - suc j) (record { column = i; row = j; cell = h; far = refl }) in omega (arith, l, k)),
       );
       at_left = (w.has.row, subst (λ i. IsNonzeroAt t i w.has.row) w.has.far w.has.cell);
-      at_right = (e.has.row, (let l = e.has.cell.column in let f = e.has.far in let same : e.has.column ≡ 2 ^ depth t - suc east = omega (arith, l, f) in subst (λ i. IsNonzeroAt t i e.has.row) same e.has.cell));
+      at_right = (
+        e.has.row,
+        (let l = e.has.cell.column in let f = e.has.far in let same : e.has.column ≡ 2 ^ depth t - suc east = omega (arith, l, f) in
+            subst (λ i. IsNonzeroAt t i e.has.row) same e.has.cell),
+      );
       at_top = (n.has.column, subst (λ j. IsNonzeroAt t n.has.column j) n.has.far n.has.cell);
-      at_bottom = (s.has.column, (let l = s.has.cell.row in let f = s.has.far in let same : s.has.row ≡ 2 ^ depth t - suc south = omega (arith, l, f) in subst (λ j. IsNonzeroAt t s.has.column j) same s.has.cell));
+      at_bottom = (
+        s.has.column,
+        (let l = s.has.cell.row in let f = s.has.far in let same : s.has.row ≡ 2 ^ depth t - suc south = omega (arith, l, f) in
+            subst (λ j. IsNonzeroAt t s.has.column j) same s.has.cell),
+      );
     }

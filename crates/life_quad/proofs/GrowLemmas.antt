@@ -42,13 +42,18 @@ IsSound-id s k h new = record {
     by j low (inr e) = subst (λ n. n < 66064 → IsSmall s.log (squares s.nodes) n) e new low
 
 -- and when a node is added
-pub IsSound-push : (s : Nodes) (n : Node) → IsSound s → IsNode s.log (squares s.nodes) (length s.nodes) n → 66064 + length s.nodes < 2 ^ 32 → IsSound (with_node s n)
+pub IsSound-push : (s : Nodes) (n : Node) → IsSound s → IsNode s.log (squares s.nodes) (length s.nodes) n → 66064 + length s.nodes < 2 ^ 32
+    → IsSound (with_node s n)
 IsSound-push s n h new room =
     record {
       entries = all_nodes;
       square = all_squares;
       small = λ k there low. let old = h.small k there low in
-          record { quarters = old.quarters; number = old.number; is = subst (λ z. IsNode s.log z 0 old.quarters) (sym more) (IsNode-append s.log S _ 0 old.quarters (omega arith) old.is) };
+          record {
+            quarters = old.quarters;
+            number = old.number;
+            is = subst (λ z. IsNode s.log z 0 old.quarters) (sym more) (IsNode-append s.log S _ 0 old.quarters (omega arith) old.is);
+          };
       limit = h.limit;
       few = omega (arith, length-append s.nodes (n ∷ []), room);
     }
@@ -71,25 +76,31 @@ IsSound-push s n h new room =
             subst (λ z. IsNode s.log z i m) (sym more) (IsNode-append s.log S _ i m (omega (arith, lt, len)) (h.entries i m old))
         by (inr last) =
             let added : IsNode s.log (S ++ node_square S n ∷ []) (length s.nodes) n = IsNode-append s.log S _ (length s.nodes) n (omega (arith, len)) new in
-            subst (λ z. IsNode s.log z i m) (sym more) (subst (λ k. IsNode s.log (S ++ node_square S n ∷ []) k m) (sym last.0) (subst (IsNode s.log (S ++ node_square S n ∷ []) (length s.nodes)) (sym last.1) added))
+            subst (λ z. IsNode s.log z i m) (sym more)
+            (subst (λ k. IsNode s.log (S ++ node_square S n ∷ []) k m) (sym last.0)
+            (subst (IsNode s.log (S ++ node_square S n ∷ []) (length s.nodes)) (sym last.1) added))
 
-    all_squares : (i : ℕ) (m : Node) → slice_get (s.nodes ++ n ∷ []) i ≡ Some m → slice_get (squares (s.nodes ++ n ∷ [])) i ≡ Some (node_square (squares (s.nodes ++ n ∷ [])) m)
+    all_squares : (i : ℕ) (m : Node) → slice_get (s.nodes ++ n ∷ []) i ≡ Some m → slice_get (squares (s.nodes ++ n ∷ [])) i
+        ≡ Some (node_square (squares (s.nodes ++ n ∷ [])) m)
     all_squares i m at = by (slice_get-push_cases s.nodes n m i at)
       where
-        by : (slice_get s.nodes i ≡ Some m) ⊎ ((i ≡ length s.nodes) × (m ≡ n)) → slice_get (squares (s.nodes ++ n ∷ [])) i ≡ Some (node_square (squares (s.nodes ++ n ∷ [])) m)
+        by : (slice_get s.nodes i ≡ Some m) ⊎ ((i ≡ length s.nodes) × (m ≡ n)) → slice_get (squares (s.nodes ++ n ∷ [])) i
+            ≡ Some (node_square (squares (s.nodes ++ n ∷ [])) m)
         by (inl old) =
             let lt = slice_get_within s.nodes i m old in
             let e = h.entries i m old in
             let same = node_square-append S (node_square S n ∷ []) i m (omega (arith, lt, len)) e.nw.named e.ne.named e.sw.named e.se.named in
             ap (λ z. slice_get z i) more ∙ slice_get-append S _ i _ (h.square i m old) ∙ ap Some (sym same ∙ ap (λ z. node_square z m) (sym more))
         by (inr last) =
-            let same = node_square-append S (node_square S n ∷ []) (length s.nodes) n (omega (arith, len)) new.nw.named new.ne.named new.sw.named new.se.named in
+            let same = node_square-append S (node_square S n ∷ []) (length s.nodes) n (omega (arith, len)) new.nw.named new.ne.named new.sw.named
+            new.se.named in
             let place : i ≡ length S = last.0 ∙ sym len in
             ap (λ z. slice_get z i) more ∙ ap (slice_get (S ++ node_square S n ∷ [])) place ∙ slice_get-last S (node_square S n)
             ∙ ap Some (sym same ∙ ap (node_square (S ++ node_square S n ∷ [])) (sym last.1) ∙ ap (λ z. node_square z m) (sym more))
 
 -- both
-pub IsSound-both : (s : Nodes) (n : Node) → IsSound s → IsNode s.log (squares s.nodes) (length s.nodes) n → 66064 + length s.nodes < 2 ^ 32 → IsSound (with_both s n)
+pub IsSound-both : (s : Nodes) (n : Node) → IsSound s → IsNode s.log (squares s.nodes) (length s.nodes) n → 66064 + length s.nodes < 2 ^ 32
+    → IsSound (with_both s n)
 IsSound-both s n h new room = IsSound-id (with_node s n) (66064 + length s.nodes) (IsSound-push s n h new room) (λ low. absurd (omega arith))
 
 -- an Id that is not there is unlike each that is
@@ -134,7 +145,8 @@ IsShared-both s n h absent large room = record {
     among : (i : ℕ) → slice_get s.nodes i ≡ Some n → Contains s.nodes n
     among i e = (i, slice_get_within s.nodes i n e, get_or_from_slice_get s.nodes i n n e)
 
-    once : (i j : ℕ) (m : Node) → (slice_get s.nodes i ≡ Some m) ⊎ ((i ≡ length s.nodes) × (m ≡ n)) → (slice_get s.nodes j ≡ Some m) ⊎ ((j ≡ length s.nodes) × (m ≡ n)) → i ≡ j
+    once : (i j : ℕ) (m : Node) → (slice_get s.nodes i ≡ Some m) ⊎ ((i ≡ length s.nodes) × (m ≡ n)) → (slice_get s.nodes j ≡ Some m)
+        ⊎ ((j ≡ length s.nodes) × (m ≡ n)) → i ≡ j
     once i j m (inl a) (inl b) = h.once i j m a b
     once i j m (inl a) (inr b) = absurd (absent (among i (a ∙ ap Some b.1)))
     once i j m (inr a) (inl b) = absurd (absent (among j (b ∙ ap Some a.1)))

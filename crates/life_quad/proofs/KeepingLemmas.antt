@@ -14,7 +14,8 @@ module _ {S : Type 0} {knows : S → Id → Type 0} {content : S → Id → Tree
   }
 
   -- what two calls keep, one behind the other
-  pub keeps-then : {old mid new : S} → KeepsSquares knows content stored most old mid → KeepsSquares knows content stored most mid new → KeepsSquares knows content stored most old new
+  pub keeps-then : {old mid new : S} → KeepsSquares knows content stored most old mid → KeepsSquares knows content stored most mid new
+      → KeepsSquares knows content stored most old new
   keeps-then first second = record {
     contents = λ id k. let a = first.contents id k in let b = second.contents id a.0 in (b.0, b.1 ∙ a.1);
     stored = λ t h. second.stored t (first.stored t h);

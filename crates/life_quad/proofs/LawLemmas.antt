@@ -53,10 +53,18 @@ equal_by_cells (quad a b c e) (quad p q r u) fs ft d same =
     let se = ap (λ n. 2 ^ n) fs.6 in
     let tq = ap (λ n. 2 ^ n) ft.4 in
     let tr = ap (λ n. 2 ^ n) ft.5 in
-    let nw = equal_by_cells a p fs.0 ft.0 k (λ i j li lj. sym (state_nw a b c e fs i j li lj) ∙ same i j (omega arith) (omega arith) ∙ state_nw p q r u ft i j (omega arith) (omega arith)) in
-    let ne = equal_by_cells b q fs.1 ft.1 (fs.4 ∙ k ∙ sym ft.4) (λ i j li lj. sym (state_ne a b c e fs (2 ^ depth a + i) i j refl lj) ∙ same (2 ^ depth a + i) j (omega arith) (omega arith) ∙ state_ne p q r u ft (2 ^ depth a + i) i j (omega arith) (omega arith)) in
-    let sw = equal_by_cells c r fs.2 ft.2 (fs.5 ∙ k ∙ sym ft.5) (λ i j li lj. sym (state_sw a b c e fs i (2 ^ depth a + j) j refl li) ∙ same i (2 ^ depth a + j) (omega arith) (omega arith) ∙ state_sw p q r u ft i (2 ^ depth a + j) j (omega arith) (omega arith)) in
-    let sx = equal_by_cells e u fs.3 ft.3 (fs.6 ∙ k ∙ sym ft.6) (λ i j li lj. sym (state_se a b c e fs (2 ^ depth a + i) i (2 ^ depth a + j) j refl refl) ∙ same (2 ^ depth a + i) (2 ^ depth a + j) (omega arith) (omega arith) ∙ state_se p q r u ft (2 ^ depth a + i) i (2 ^ depth a + j) j (omega arith) (omega arith)) in
+    let nw = equal_by_cells a p fs.0 ft.0 k
+    (λ i j li lj. sym (state_nw a b c e fs i j li lj) ∙ same i j (omega arith) (omega arith) ∙ state_nw p q r u ft i j (omega arith) (omega arith)) in
+    let ne = equal_by_cells b q fs.1 ft.1 (fs.4 ∙ k ∙ sym ft.4)
+    (λ i j li lj. sym (state_ne a b c e fs (2 ^ depth a + i) i j refl lj) ∙ same (2 ^ depth a + i) j (omega arith) (omega arith)
+    ∙ state_ne p q r u ft (2 ^ depth a + i) i j (omega arith) (omega arith)) in
+    let sw = equal_by_cells c r fs.2 ft.2 (fs.5 ∙ k ∙ sym ft.5)
+    (λ i j li lj. sym (state_sw a b c e fs i (2 ^ depth a + j) j refl li) ∙ same i (2 ^ depth a + j) (omega arith) (omega arith)
+    ∙ state_sw p q r u ft i (2 ^ depth a + j) j (omega arith) (omega arith)) in
+    let sx = equal_by_cells e u fs.3 ft.3 (fs.6 ∙ k ∙ sym ft.6)
+    (λ i j li lj. sym (state_se a b c e fs (2 ^ depth a + i) i (2 ^ depth a + j) j refl refl)
+    ∙ same (2 ^ depth a + i) (2 ^ depth a + j) (omega arith) (omega arith) ∙ state_se p q r u ft (2 ^ depth a + i) i (2 ^ depth a + j) j (omega arith)
+    (omega arith)) in
     λ i. quad (nw i) (ne i) (sw i) (sx i)
 
 -- a column or row of a square is a whole number of the plane
@@ -85,7 +93,8 @@ equal_by_plane (quad a b c e) t fs ft d same = high_equal (quad a b c e) t fs ft
 pub cells_lie_inside : CellsLieInside
 cells_lie_inside t x y nonzero = by (is_inside (half_side t) x y) refl
   where
-    by : (b : Bool) → is_inside (half_side t) x y ≡ b → (neg_ℤ (pos (half_side t)) ≤ℤ x) × (x <ℤ pos (half_side t)) × (neg_ℤ (pos (half_side t)) ≤ℤ y) × (y <ℤ pos (half_side t))
+    by : (b : Bool) → is_inside (half_side t) x y ≡ b → (neg_ℤ (pos (half_side t)) ≤ℤ x) × (x <ℤ pos (half_side t)) × (neg_ℤ (pos (half_side t)) ≤ℤ y)
+        × (y <ℤ pos (half_side t))
     by true e = let k = inside_facts (half_side t) x y e in (k.west, k.east, k.north, k.south)
     by false e = absurd (nonzero (cell_outside t x y e))
 
@@ -112,12 +121,14 @@ module _ (k : ℕ) (top column : ℤ) (a b d e : Tree) (c : Cell) (full : IsFull
       south (inl o) = on_sw (kept_from (top +ℤ pos (2 ^ k)) d column c o)
       south (inr o) = on_se (kept_from (top +ℤ pos (2 ^ k)) e (column +ℤ pos (2 ^ k)) c o)
 
-      by : OnBand top (kept a column ++ kept b (column +ℤ pos (2 ^ k))) c ⊎ OnBand (top +ℤ pos (2 ^ k)) (kept d column ++ kept e (column +ℤ pos (2 ^ k))) c → OnQuarter k top column a b d e c
+      by : OnBand top (kept a column ++ kept b (column +ℤ pos (2 ^ k))) c ⊎ OnBand (top +ℤ pos (2 ^ k)) (kept d column ++ kept e (column +ℤ pos (2 ^ k))) c
+          → OnQuarter k top column a b d e c
       by (inl o) = north (OnBand-cases top (kept a column) (kept b (column +ℤ pos (2 ^ k))) c o)
       by (inr o) = south (OnBand-cases (top +ℤ pos (2 ^ k)) (kept d column) (kept e (column +ℤ pos (2 ^ k))) c o)
 
   unite : OnQuarter k top column a b d e c → IsCellOf top (at_place (quad a b d e) column) c
-  unite (on_nw h) = northern_from k top (quad a b d e) column c full (ap suc level) (OnBand-append_left top (kept a column) _ c (kept_has top a column c full.0 h))
+  unite (on_nw h) = northern_from k top (quad a b d e) column c full (ap suc level)
+      (OnBand-append_left top (kept a column) _ c (kept_has top a column c full.0 h))
   unite (on_ne h) = northern_from k top (quad a b d e) column c full (ap suc level) (OnBand-append_right top (kept a column) _ c (kept_has top b _ c full.1 h))
   unite (on_sw h) = southern_from k top (quad a b d e) column c full (ap suc level) (OnBand-append_left _ (kept d column) _ c (kept_has _ d column c full.2 h))
   unite (on_se h) = southern_from k top (quad a b d e) column c full (ap suc level) (OnBand-append_right _ (kept d column) _ c (kept_has _ e _ c full.3 h))
@@ -164,21 +175,27 @@ module _ (a1 a2 a3 nw b1 b2 ne b4 c1 sw c3 c4 se d2 d3 d4 : Tree) where
       twice z = let e = double k in omega (arith, ints)
 
       up : IsCellOf (top +ℤ pos (2 ^ k)) (at_place (quad nw ne sw se) (column +ℤ pos (2 ^ k))) c → IsCellOf top (at_place whole column) c
-      up h = unite (suc k) top column (quad a1 a2 a3 nw) (quad b1 b2 ne b4) (quad c1 sw c3 c4) (quad se d2 d3 d4) c full (ap suc level) (by (split k (top +ℤ pos (2 ^ k)) (column +ℤ pos (2 ^ k)) nw ne sw se c full_inner level_nw h))
+      up h = unite (suc k) top column (quad a1 a2 a3 nw) (quad b1 b2 ne b4) (quad c1 sw c3 c4) (quad se d2 d3 d4) c full (ap suc level)
+          (by (split k (top +ℤ pos (2 ^ k)) (column +ℤ pos (2 ^ k)) nw ne sw se c full_inner level_nw h))
         where
-          by : OnQuarter k (top +ℤ pos (2 ^ k)) (column +ℤ pos (2 ^ k)) nw ne sw se c → OnQuarter (suc k) top column (quad a1 a2 a3 nw) (quad b1 b2 ne b4) (quad c1 sw c3 c4) (quad se d2 d3 d4) c
+          by : OnQuarter k (top +ℤ pos (2 ^ k)) (column +ℤ pos (2 ^ k)) nw ne sw se c → OnQuarter (suc k) top column (quad a1 a2 a3 nw) (quad b1 b2 ne b4)
+              (quad c1 sw c3 c4) (quad se d2 d3 d4) c
           by (on_nw q) = on_nw (unite k top column a1 a2 a3 nw c full.0 level (on_se q))
-          by (on_ne q) = on_ne (unite k top (column +ℤ pos (2 ^ suc k)) b1 b2 ne b4 c full.1 level_b (on_sw (subst (λ z. IsCellOf (top +ℤ pos (2 ^ k)) (at_place ne z) c) (sym (twice column)) q)))
-          by (on_sw q) = on_sw (unite k (top +ℤ pos (2 ^ suc k)) column c1 sw c3 c4 c full.2 level_c (on_ne (subst (λ z. IsCellOf z (at_place sw (column +ℤ pos (2 ^ k))) c) (sym (twice top)) q)))
+          by (on_ne q) = on_ne (unite k top (column +ℤ pos (2 ^ suc k)) b1 b2 ne b4 c full.1 level_b
+              (on_sw (subst (λ z. IsCellOf (top +ℤ pos (2 ^ k)) (at_place ne z) c) (sym (twice column)) q)))
+          by (on_sw q) = on_sw (unite k (top +ℤ pos (2 ^ suc k)) column c1 sw c3 c4 c full.2 level_c
+              (on_ne (subst (λ z. IsCellOf z (at_place sw (column +ℤ pos (2 ^ k))) c) (sym (twice top)) q)))
           by (on_se q) =
               on_se (unite k (top +ℤ pos (2 ^ suc k)) (column +ℤ pos (2 ^ suc k)) se d2 d3 d4 c full.3 level_d
-              (on_nw (subst (λ z. IsCellOf z (at_place se (column +ℤ pos (2 ^ suc k))) c) (sym (twice top)) (subst (λ z. IsCellOf ((top +ℤ pos (2 ^ k)) +ℤ pos (2 ^ k)) (at_place se z) c) (sym (twice column)) q))))
+              (on_nw (subst (λ z. IsCellOf z (at_place se (column +ℤ pos (2 ^ suc k))) c) (sym (twice top))
+              (subst (λ z. IsCellOf ((top +ℤ pos (2 ^ k)) +ℤ pos (2 ^ k)) (at_place se z) c) (sym (twice column)) q))))
 
       module _ (blank_outer : list_all is_blank_tree (outer whole) ≡ true) where
         abbrev IsBlank : Tree → Type 0
         IsBlank t = is_blank_tree t ≡ true
 
-        outer_blank : IsBlank a1 × IsBlank a2 × IsBlank a3 × IsBlank b1 × IsBlank b2 × IsBlank b4 × IsBlank c1 × IsBlank c3 × IsBlank c4 × IsBlank d2 × IsBlank d3 × IsBlank d4
+        outer_blank : IsBlank a1 × IsBlank a2 × IsBlank a3 × IsBlank b1 × IsBlank b2 × IsBlank b4 × IsBlank c1 × IsBlank c3 × IsBlank c4 × IsBlank d2
+            × IsBlank d3 × IsBlank d4
         outer_blank =
             let p1 = first_of_all a1 (a2 ∷ a3 ∷ b1 ∷ b2 ∷ b4 ∷ c1 ∷ c3 ∷ c4 ∷ d2 ∷ d3 ∷ d4 ∷ []) blank_outer in
             let p2 = first_of_all a2 (a3 ∷ b1 ∷ b2 ∷ b4 ∷ c1 ∷ c3 ∷ c4 ∷ d2 ∷ d3 ∷ d4 ∷ []) p1.1 in
@@ -195,7 +212,8 @@ module _ (a1 a2 a3 nw b1 b2 ne b4 c1 sw c3 c4 se d2 d3 d4 : Tree) where
             (p1.0, p2.0, p3.0, p4.0, p5.0, p6.0, p7.0, p8.0, p9.0, p10.0, p11.0, p12.0)
 
         down : IsCellOf top (at_place whole column) c → IsCellOf (top +ℤ pos (2 ^ k)) (at_place (quad nw ne sw se) (column +ℤ pos (2 ^ k))) c
-        down h = unite k (top +ℤ pos (2 ^ k)) (column +ℤ pos (2 ^ k)) nw ne sw se c full_inner level_nw (by (split (suc k) top column (quad a1 a2 a3 nw) (quad b1 b2 ne b4) (quad c1 sw c3 c4) (quad se d2 d3 d4) c full (ap suc level) h))
+        down h = unite k (top +ℤ pos (2 ^ k)) (column +ℤ pos (2 ^ k)) nw ne sw se c full_inner level_nw
+            (by (split (suc k) top column (quad a1 a2 a3 nw) (quad b1 b2 ne b4) (quad c1 sw c3 c4) (quad se d2 d3 d4) c full (ap suc level) h))
           where
             from_nw : OnQuarter k top column a1 a2 a3 nw c → OnQuarter k (top +ℤ pos (2 ^ k)) (column +ℤ pos (2 ^ k)) nw ne sw se c
             from_nw (on_nw q) = absurd (no_cell _ a1 _ c full.0.0 outer_blank.0 q)
@@ -215,13 +233,16 @@ module _ (a1 a2 a3 nw b1 b2 ne b4 c1 sw c3 c4 se d2 d3 d4 : Tree) where
             from_sw (on_sw q) = absurd (no_cell _ c3 _ c full.2.2 outer_blank.7 q)
             from_sw (on_se q) = absurd (no_cell _ c4 _ c full.2.3 outer_blank.8 q)
 
-            from_se : OnQuarter k (top +ℤ pos (2 ^ suc k)) (column +ℤ pos (2 ^ suc k)) se d2 d3 d4 c → OnQuarter k (top +ℤ pos (2 ^ k)) (column +ℤ pos (2 ^ k)) nw ne sw se c
-            from_se (on_nw q) = on_se (subst (λ z. IsCellOf z (at_place se ((column +ℤ pos (2 ^ k)) +ℤ pos (2 ^ k))) c) (twice top) (subst (λ z. IsCellOf (top +ℤ pos (2 ^ suc k)) (at_place se z) c) (twice column) q))
+            from_se : OnQuarter k (top +ℤ pos (2 ^ suc k)) (column +ℤ pos (2 ^ suc k)) se d2 d3 d4 c
+                → OnQuarter k (top +ℤ pos (2 ^ k)) (column +ℤ pos (2 ^ k)) nw ne sw se c
+            from_se (on_nw q) = on_se (subst (λ z. IsCellOf z (at_place se ((column +ℤ pos (2 ^ k)) +ℤ pos (2 ^ k))) c) (twice top)
+                (subst (λ z. IsCellOf (top +ℤ pos (2 ^ suc k)) (at_place se z) c) (twice column) q))
             from_se (on_ne q) = absurd (no_cell _ d2 _ c full.3.1 outer_blank.9 q)
             from_se (on_sw q) = absurd (no_cell _ d3 _ c full.3.2 outer_blank.10 q)
             from_se (on_se q) = absurd (no_cell _ d4 _ c full.3.3 outer_blank.11 q)
 
-            by : OnQuarter (suc k) top column (quad a1 a2 a3 nw) (quad b1 b2 ne b4) (quad c1 sw c3 c4) (quad se d2 d3 d4) c → OnQuarter k (top +ℤ pos (2 ^ k)) (column +ℤ pos (2 ^ k)) nw ne sw se c
+            by : OnQuarter (suc k) top column (quad a1 a2 a3 nw) (quad b1 b2 ne b4) (quad c1 sw c3 c4) (quad se d2 d3 d4) c
+                → OnQuarter k (top +ℤ pos (2 ^ k)) (column +ℤ pos (2 ^ k)) nw ne sw se c
             by (on_nw q) = from_nw (split k top column a1 a2 a3 nw c full.0 level q)
             by (on_ne q) = from_ne (split k top (column +ℤ pos (2 ^ suc k)) b1 b2 ne b4 c full.1 level_b q)
             by (on_sw q) = from_sw (split k (top +ℤ pos (2 ^ suc k)) column c1 sw c3 c4 c full.2 level_c q)
@@ -231,7 +252,8 @@ module _ (a1 a2 a3 nw b1 b2 ne b4 c1 sw c3 c4 se d2 d3 d4 : Tree) where
 abbrev CellsOf : Tree → Cell → Type 0
 CellsOf t c = IsCellOf (neg_ℤ (pos (half_side t))) (at_place t (neg_ℤ (pos (half_side t)))) c
 
-same_cells : (s t : Tree) → IsFull s → IsFull t → 1 ≤ depth s → 1 ≤ depth t → ((c : Cell) → CellsOf s c → CellsOf t c) → ((c : Cell) → CellsOf t c → CellsOf s c) → (x y : ℤ) → cell s x y ≡ cell t x y
+same_cells : (s t : Tree) → IsFull s → IsFull t → 1 ≤ depth s → 1 ≤ depth t → ((c : Cell) → CellsOf s c → CellsOf t c)
+    → ((c : Cell) → CellsOf t c → CellsOf s c) → (x y : ℤ) → cell s x y ≡ cell t x y
 same_cells s t fs ft hs ht f g x y = by (zero_or_not (cell s x y)) (zero_or_not (cell t x y))
   where
     there : (cell s x y ≢ 0) → cell t x y ≡ cell s x y
@@ -248,7 +270,8 @@ same_cells s t fs ft hs ht f g x y = by (zero_or_not (cell s x y)) (zero_or_not 
 middle_place : (k : ℕ) → neg_ℤ (pos (2 ^ suc k)) +ℤ pos (2 ^ k) ≡ neg_ℤ (pos (2 ^ k))
 middle_place k = let e = double k in omega (arith, ints)
 
-pub inner_cells : (t : Tree) → IsFull t → 2 ≤ depth t → list_all is_blank_tree (outer t) ≡ true → IsFull (inner t) × ((x y : ℤ) → cell t x y ≡ cell (inner t) x y)
+pub inner_cells : (t : Tree) → IsFull t → 2 ≤ depth t → list_all is_blank_tree (outer t) ≡ true → IsFull (inner t)
+    × ((x y : ℤ) → cell t x y ≡ cell (inner t) x y)
 inner_cells (point s) full deep h = absurd (omega arith)
 inner_cells (quad (point a) b c d) full deep h = absurd (omega arith)
 inner_cells (quad (quad a b c d) (point e) f g) full deep h = absurd (let x = full.4 in omega arith)
@@ -258,14 +281,18 @@ inner_cells (quad (quad a1 a2 a3 nw) (quad b1 b2 ne b4) (quad c1 sw c3 c4) (quad
     let k = depth a1 in
     let fi = full_inner a1 a2 a3 nw b1 b2 ne b4 c1 sw c3 c4 se d2 d3 d4 full (depth a1) refl in
     let same : depth nw ≡ depth a1 = full.0.6 in
-    let h1 : half_side (quad (quad a1 a2 a3 nw) (quad b1 b2 ne b4) (quad c1 sw c3 c4) (quad se d2 d3 d4)) ≡ 2 ^ suc (depth a1) = ap (λ n. 2 ^ n) (omega arith) in
+    let h1 : half_side (quad (quad a1 a2 a3 nw) (quad b1 b2 ne b4) (quad c1 sw c3 c4) (quad se d2 d3 d4)) ≡ 2 ^ suc (depth a1) = ap (λ n. 2 ^ n)
+    (omega arith) in
     let h2 : half_side (quad nw ne sw se) ≡ 2 ^ depth a1 = ap (λ n. 2 ^ n) (omega arith) in
-    let place : neg_ℤ (pos (half_side (quad (quad a1 a2 a3 nw) (quad b1 b2 ne b4) (quad c1 sw c3 c4) (quad se d2 d3 d4)))) +ℤ pos (2 ^ depth a1) ≡ neg_ℤ (pos (half_side (quad nw ne sw se))) =
+    let place : neg_ℤ (pos (half_side (quad (quad a1 a2 a3 nw) (quad b1 b2 ne b4) (quad c1 sw c3 c4) (quad se d2 d3 d4)))) +ℤ pos (2 ^ depth a1)
+    ≡ neg_ℤ (pos (half_side (quad nw ne sw se))) =
     ap (λ n. neg_ℤ (pos n) +ℤ pos (2 ^ depth a1)) h1 ∙ middle_place (depth a1) ∙ ap (λ n. neg_ℤ (pos n)) (sym h2) in (
       fi,
       same_cells (quad (quad a1 a2 a3 nw) (quad b1 b2 ne b4) (quad c1 sw c3 c4) (quad se d2 d3 d4)) (quad nw ne sw se) full fi (omega arith) (omega arith)
-          (λ c g. subst (λ z. IsCellOf z (at_place (quad nw ne sw se) z) c) place (down a1 a2 a3 nw b1 b2 ne b4 c1 sw c3 c4 se d2 d3 d4 full (depth a1) refl _ _ c h g))
-          (λ c g. up a1 a2 a3 nw b1 b2 ne b4 c1 sw c3 c4 se d2 d3 d4 full (depth a1) refl _ _ c (subst (λ z. IsCellOf z (at_place (quad nw ne sw se) z) c) (sym place) g)),
+          (λ c g. subst (λ z. IsCellOf z (at_place (quad nw ne sw se) z) c) place
+          (down a1 a2 a3 nw b1 b2 ne b4 c1 sw c3 c4 se d2 d3 d4 full (depth a1) refl _ _ c h g))
+          (λ c g. up a1 a2 a3 nw b1 b2 ne b4 c1 sw c3 c4 se d2 d3 d4 full (depth a1) refl _ _ c
+          (subst (λ z. IsCellOf z (at_place (quad nw ne sw se) z) c) (sym place) g)),
     )
 
 -- ---- the laws
@@ -314,7 +341,8 @@ trimming_steps : (n : ℕ) (t : Tree) (least : ℕ) → IsFull t → 1 ≤ least
 trimming_steps zero t least full positive x y = refl
 trimming_steps (suc n) t least full positive x y = by (can_trim t least) refl (λ f. trimming_steps n (inner t) least f positive x y)
   where
-    by : (b : Bool) → can_trim t least ≡ b → (IsFull (inner t) → cell (trim_up_to n (inner t) least) x y ≡ cell (inner t) x y) → cell (if b then trim_up_to n (inner t) least else t) x y ≡ cell t x y
+    by : (b : Bool) → can_trim t least ≡ b → (IsFull (inner t) → cell (trim_up_to n (inner t) least) x y ≡ cell (inner t) x y)
+        → cell (if b then trim_up_to n (inner t) least else t) x y ≡ cell t x y
     by false e rest = refl
     by true e rest =
         let above : nat_lt least (depth t) ≡ true = and_left _ _ e in

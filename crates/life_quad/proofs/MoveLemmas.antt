@@ -8,7 +8,8 @@ use Rattle.life_quad.specs.Moves.{outer, inner, can_trim, trimmed, trim_up_to}
 use Rattle.life_base.proofs.Squares.{is_blank-blank, blank_is, and_left}
 
 -- a test for the blank square of a level
-pub blank_test : (t : Tree) (l : ℕ) (same : Bool) → IsFull t → l ≡ depth t → (same ≡ true → t ≡ blank l) → (same ≡ false → t ≡ blank l → ⊥) → same ≡ is_blank_tree t
+pub blank_test : (t : Tree) (l : ℕ) (same : Bool) → IsFull t → l ≡ depth t → (same ≡ true → t ≡ blank l) → (same ≡ false → t ≡ blank l → ⊥)
+    → same ≡ is_blank_tree t
 blank_test t l true full e holds fails = sym (ap is_blank_tree (holds refl) ∙ is_blank-blank l)
 blank_test t l false full e holds fails = by (is_blank_tree t) refl
   where

@@ -110,7 +110,8 @@ blank_has_none (quad a b c d) full h =
     let l = and_left _ (is_blank_tree d) h in
     let m = and_left _ (is_blank_tree c) l in
     quarters_have_none a b c d full (blank_has_none a full.0 (and_left _ (is_blank_tree b) m)) (blank_has_none b full.1 (and_right (is_blank_tree a) _ m))
-    (blank_has_none c full.2 (and_right (is_blank_tree a && is_blank_tree b) _ l)) (blank_has_none d full.3 (and_right (is_blank_tree a && is_blank_tree b && is_blank_tree c) _ h))
+    (blank_has_none c full.2 (and_right (is_blank_tree a && is_blank_tree b) _ l))
+    (blank_has_none d full.3 (and_right (is_blank_tree a && is_blank_tree b && is_blank_tree c) _ h))
 
 abbrev HasOne : Tree → Type 0
 HasOne t = (i : ℕ) × (j : ℕ) × IsNonzeroAt t i j

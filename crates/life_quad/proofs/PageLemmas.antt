@@ -57,13 +57,15 @@ behind starts size m n h place none = by (less-or-not (index_in starts n) size)
 -- one page more
 pub one_page : (starts new : List ℕ) (size more place : ℕ) → ArePages starts size → more ≡ size + 256 → more ≤ 4294967295 → start_in new place ≡ size
     → ((p : ℕ) → p ≢ place → start_in new p ≡ start_in starts p) → ArePages new more
-one_page starts new size more place h sum room here others = record { few = room; whole = λ p l. whole p l (equal p place); apart = λ m n e l. apart m n e l (equal (place_of m) place) (equal (place_of n) place) }
+one_page starts new size more place h sum room here others = record
+    { few = room; whole = λ p l. whole p l (equal p place); apart = λ m n e l. apart m n e l (equal (place_of m) place) (equal (place_of n) place) }
   where
     whole : (p : ℕ) → start_in new p < 4294967295 → (p ≡ place) ⊎ (p ≢ place) → start_in new p + 256 ≤ more
     whole p l (inl same) = let start : start_in new p ≡ size = ap (start_in new) same ∙ here in omega (arith, start, sum)
     whole p l (inr other) = let start = others p other in let old = h.whole p (omega (arith, start, l)) in omega (arith, start, old, sum)
 
-    apart : (m n : ℕ) → index_in new m ≡ index_in new n → index_in new n < more → (place_of m ≡ place) ⊎ (place_of m ≢ place) → (place_of n ≡ place) ⊎ (place_of n ≢ place) → m ≡ n
+    apart : (m n : ℕ) → index_in new m ≡ index_in new n → index_in new n < more → (place_of m ≡ place) ⊎ (place_of m ≢ place) → (place_of n ≡ place)
+        ⊎ (place_of n ≢ place) → m ≡ n
     apart m n e l (inl a) (inl b) =
         let f : start_in new (place_of m) ≡ size = ap (start_in new) a ∙ here in
         let g : start_in new (place_of n) ≡ size = ap (start_in new) b ∙ here in
@@ -85,7 +87,8 @@ one_page starts new size more place h sum room here others = record { few = room
         h.apart m n (omega (arith, e, f, g)) (inside starts size n h (omega (arith, g, l, sum, room)))
 
 -- and no value is another by it
-pub same_values : {X : Type 0} (starts new : List ℕ) (values : List X) (absent : X) (place m n : ℕ) → ArePages starts (length values) → place_of m ≡ place → length values ≤ index_in starts m
+pub same_values : {X : Type 0} (starts new : List ℕ) (values : List X) (absent : X) (place m n : ℕ) → ArePages starts (length values) → place_of m ≡ place
+    → length values ≤ index_in starts m
     → start_in new place ≡ length values → ((p : ℕ) → p ≢ place → start_in new p ≡ start_in starts p)
     → get_or (values ++ replicate 256 absent) (index_in new n) absent ≡ get_or values (index_in starts n) absent
 same_values {X} starts new values absent place m n h number none here others = filled values 256 (index_in new n) absent ∙ by (equal (place_of n) place)
@@ -93,10 +96,13 @@ same_values {X} starts new values absent place m n h number none here others = f
     by : (place_of n ≡ place) ⊎ (place_of n ≢ place) → get_or values (index_in new n) absent ≡ get_or values (index_in starts n) absent
     by (inl e) =
         let f : start_in new (place_of n) ≡ length values = ap (start_in new) e ∙ here in
-        get_or_past values (index_in new n) absent (omega (arith, f)) ∙ sym (get_or_past values (index_in starts n) absent (behind starts (length values) m n h (e ∙ sym number) none))
+        get_or_past values (index_in new n) absent (omega (arith, f))
+        ∙ sym (get_or_past values (index_in starts n) absent (behind starts (length values) m n h (e ∙ sym number) none))
     by (inr o) = ap (λ s. get_or values (s + n % 256) absent) (others (place_of n) o)
 
 -- a value that is set is that of one number alone
-pub other_values : {X : Type 0} (starts : List ℕ) (values : List X) (absent value : X) (m n : ℕ) → ArePages starts (length values) → index_in starts m < length values → n ≢ m
+pub other_values : {X : Type 0} (starts : List ℕ) (values : List X) (absent value : X) (m n : ℕ) → ArePages starts (length values)
+    → index_in starts m < length values → n ≢ m
     → get_or (set values (index_in starts m) value) (index_in starts n) absent ≡ get_or values (index_in starts n) absent
-other_values starts values absent value m n h room other = get_or-set_other values (index_in starts m) (index_in starts n) value absent (λ e. other (h.apart n m e room))
+other_values starts values absent value m n h room other = get_or-set_other values (index_in starts m) (index_in starts n) value absent
+    (λ e. other (h.apart n m e room))

@@ -26,7 +26,11 @@ distinct ids place h = λ i j d l m e.
 pub number_tells : (ids : List Id) (id : Id) (n : ℕ) → (n ≡ 0 → ¬ Contains ids id) → (0 < n → slice_get ids (n - 1) ≡ Some id)
     → IsTrue (not (eqb n 0)) ↔ Contains ids id
 number_tells ids id zero absent there = (λ t. absurd (false≢true t), λ h. absurd (absent refl h))
-number_tells ids id (suc n) absent there = (λ t. let s = there (omega arith) in (suc n - 1, slice_get_within ids _ id s, get_or_from_slice_get ids _ id id s), λ h. grind (arith, common_steps))
+number_tells ids id (suc n) absent there = (
+  λ t. let s = there (omega arith) in
+      (suc n - 1, slice_get_within ids _ id s, get_or_from_slice_get ids _ id id s),
+  λ h. grind (arith, common_steps),
+)
 
 cases : (i n : ℕ) → i < suc n → (i < n) ⊎ (i ≡ n)
 cases i n h = grind arith
@@ -96,14 +100,16 @@ few ids numbers h =
     (λ i j l m e. let g : suc i ≡ suc j = sym (at i l) ∙ ap (number_at numbers) (same_number (get_or ids i d) (get_or ids j d) e) ∙ at j m in omega arith)
 
 -- one more Id, with the next number
-pub one_numbered : (ids : List Id) (numbers : List ℕ) (id : Id) (number : ℕ) → HasPlaces ids (number_at numbers) → ¬ Contains ids id → id.0 < length numbers → number ≡ length ids + 1
+pub one_numbered : (ids : List Id) (numbers : List ℕ) (id : Id) (number : ℕ) → HasPlaces ids (number_at numbers) → ¬ Contains ids id → id.0 < length numbers
+    → number ≡ length ids + 1
     → HasPlaces (ids ++ id ∷ []) (number_at (set numbers id.0 number))
 one_numbered ids numbers id number h absent room is =
     one_more ids (number_at numbers) (number_at (set numbers id.0 number)) id number h (get_or-set_same numbers id.0 number 0 room)
     (λ q o. get_or-set_other numbers id.0 q.0 number 0 (λ e. o (same_number q id e))) absent is
 
 -- there is a number for it
-pub number_left : (ids : List Id) (numbers : List ℕ) (id : Id) → HasPlaces ids (number_at numbers) → ¬ Contains ids id → id.0 < length numbers → length ids < length numbers
+pub number_left : (ids : List Id) (numbers : List ℕ) (id : Id) → HasPlaces ids (number_at numbers) → ¬ Contains ids id → id.0 < length numbers
+    → length ids < length numbers
 number_left ids numbers id h absent room =
     let p = few (ids ++ id ∷ []) (set numbers id.0 (length ids + 1)) (one_numbered ids numbers id (length ids + 1) h absent room refl) in
     omega (arith, p, length-append ids (id ∷ []), length-set numbers id.0 (length ids + 1))

@@ -17,7 +17,13 @@ pub record IsPlace (half : ℕ) (x y : ℤ) (n m : ℕ) : Type 0 where
 -- the state of a pair that is in the square
 pub cell_at : (t : Tree) (x y : ℤ) (n m : ℕ) → 1 ≤ depth t → IsPlace (half_side t) x y n m → n < 2 ^ depth t → m < 2 ^ depth t → cell t x y ≡ state_at t n m
 cell_at t x y n m high p ln lm =
-    cell_inside t x y n m (inside_test h x y (record { west = omega (arith, ints, p.column); east = omega (arith, ints, p.column, twice, ln); north = omega (arith, ints, p.row); south = omega (arith, ints, p.row, twice, lm) })) p.column p.row
+    cell_inside t x y n m (inside_test h x y
+    (record {
+      west = omega (arith, ints, p.column);
+      east = omega (arith, ints, p.column, twice, ln);
+      north = omega (arith, ints, p.row);
+      south = omega (arith, ints, p.row, twice, lm);
+    })) p.column p.row
   where
     h : ℕ
     h = half_side t
@@ -52,7 +58,8 @@ back n h = omega (arith, ints)
 
 -- the box on the plane of a box within the square
 pub least_box : (t : Tree) (west north east south : ℕ) (b : Bounds) → 1 ≤ depth t → IsLeastWithin t west north east south
-    → b.left +ℤ pos (half_side t) ≡ pos west → b.top +ℤ pos (half_side t) ≡ pos north → b.right +ℤ pos (half_side t) ≡ pos east → b.bottom +ℤ pos (half_side t) ≡ pos south
+    → b.left +ℤ pos (half_side t) ≡ pos west → b.top +ℤ pos (half_side t) ≡ pos north → b.right +ℤ pos (half_side t) ≡ pos east
+    → b.bottom +ℤ pos (half_side t) ≡ pos south
     → IsLeastBox t b
 least_box t west north east south b high k left top right bottom =
     record {

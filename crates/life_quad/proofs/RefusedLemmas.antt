@@ -46,10 +46,12 @@ of_right column row len half i j h l = grind (arith, h, l)
 in_right : (column row len half i j : ℕ) → half ≤ column → is_in_span (column - half) row len i j ≡ is_in_span column row len (half + i) j
 in_right column row len half i j h = grind (arith, h)
 
-left_of_both : (column row len half i j : ℕ) → column < half → half < column + len → i < half → is_in_span column row (half - column) i j ≡ is_in_span column row len i j
+left_of_both : (column row len half i j : ℕ) → column < half → half < column + len → i < half → is_in_span column row (half - column) i j
+    ≡ is_in_span column row len i j
 left_of_both column row len half i j h l m = grind (arith, h, l, m)
 
-right_of_both : (column row len half i j : ℕ) → column < half → half < column + len → is_in_span 0 row (column + len - half) i j ≡ is_in_span column row len (half + i) j
+right_of_both : (column row len half i j : ℕ) → column < half → half < column + len → is_in_span 0 row (column + len - half) i j ≡ is_in_span column row len
+    (half + i) j
 right_of_both column row len half i j h l = grind (arith, h, l)
 
 -- two squares side by side, of this side, with a span set in the left one, in the right one, or in both
@@ -60,7 +62,8 @@ module _ (left right : Tree) (half column row len state : ℕ) (side : half ≡ 
   moved_column : (i j : ℕ) → is_in_span column row len (half + i) j ≡ is_in_span column row len (2 ^ depth left + i) j
   moved_column i j = ap (λ h. is_in_span column row len (h + i) j) side
 
-  pub SetsHalves-left : (new : Tree) → IsFull right → column + len ≤ half → SetsSpan left new column row len state → SetsHalves left right new right column row len state
+  pub SetsHalves-left : (new : Tree) → IsFull right → column + len ≤ half → SetsSpan left new column row len state
+      → SetsHalves left right new right column row len state
   SetsHalves-left new full h s =
       record {
         left_full = s.full;
@@ -71,7 +74,8 @@ module _ (left right : Tree) (half column row len state : ℕ) (side : half ≡ 
         right_cells = λ i j li lj. ap (λ b. if b then state else state_at right i j) (in_left column row len half i j h ∙ moved_column i j);
       }
 
-  pub SetsHalves-right : (new : Tree) → IsFull left → half ≤ column → SetsSpan right new (column - half) row len state → SetsHalves left right left new column row len state
+  pub SetsHalves-right : (new : Tree) → IsFull left → half ≤ column → SetsSpan right new (column - half) row len state
+      → SetsHalves left right left new column row len state
   SetsHalves-right new full h s =
       record {
         left_full = full;
@@ -122,7 +126,8 @@ HasSpans state t =
 halves_with_span : (state : ℕ) (left right : Tree) → IsFull left → IsFull right → depth right ≡ depth left → HasSpans state left → HasSpans state right
     → (column row len : ℕ) → 1 ≤ len → column + len ≤ 2 ^ depth left + 2 ^ depth left → row < 2 ^ depth left
     → (a b : Tree) × SetsHalves left right a b column row len state
-halves_with_span state left right fl fr level hl hr column row len positive within low = by (nat_lt (2 ^ depth left) (column + len)) refl (nat_lt column (2 ^ depth left)) refl
+halves_with_span state left right fl fr level hl hr column row len positive within low = by (nat_lt (2 ^ depth left) (column + len)) refl
+    (nat_lt column (2 ^ depth left)) refl
   where
     side : 2 ^ depth right ≡ 2 ^ depth left
     side = ap (λ d. 2 ^ d) level
@@ -130,7 +135,8 @@ halves_with_span state left right fl fr level hl hr column row len positive with
     low_right : row < 2 ^ depth right
     low_right = subst (λ n. row < n) (sym side) low
 
-    by : (p : Bool) → nat_lt (2 ^ depth left) (column + len) ≡ p → (q : Bool) → nat_lt column (2 ^ depth left) ≡ q → (a b : Tree) × SetsHalves left right a b column row len state
+    by : (p : Bool) → nat_lt (2 ^ depth left) (column + len) ≡ p → (q : Bool) → nat_lt column (2 ^ depth left) ≡ q → (a b : Tree)
+        × SetsHalves left right a b column row len state
     by false g q h =
         let fits : column + len ≤ 2 ^ depth left = grind (arith, g) in
         let s = hl column row len positive fits low in
@@ -145,7 +151,8 @@ halves_with_span state left right fl fr level hl hr column row len positive with
         let beyond : 2 ^ depth left < column + len = grind (arith, g) in
         let s = hl column row (2 ^ depth left - column) (omega (arith, from)) (omega (arith, from)) low in
         let fits : 0 + (column + len - 2 ^ depth left) ≤ 2 ^ depth left = omega (arith, within, beyond) in
-        let t = hr 0 row (column + len - 2 ^ depth left) (omega (arith, beyond)) (subst (λ n. 0 + (column + len - 2 ^ depth left) ≤ n) (sym side) fits) low_right in
+        let t = hr 0 row (column + len - 2 ^ depth left) (omega (arith, beyond)) (subst (λ n. 0 + (column + len - 2 ^ depth left) ≤ n) (sym side) fits)
+        low_right in
         (s.0, t.0, SetsHalves-both left right (2 ^ depth left) column row len state refl level s.0 t.0 from beyond s.1 t.1)
 
 -- the same of a square of four quarters
@@ -184,4 +191,5 @@ pub with_span : (state : ℕ) → state < 256 → (t : Tree) → IsFull t → Ha
 with_span state small (point s) full = λ column row len positive within low.
     (point state, span_of_point (point s) (point state) column row len state refl refl small positive within low)
 with_span state small (quad a b c d) full =
-    quad_with_span state a b c d full (with_span state small a full.0) (with_span state small b full.1) (with_span state small c full.2) (with_span state small d full.3)
+    quad_with_span state a b c d full (with_span state small a full.0) (with_span state small b full.1) (with_span state small c full.2)
+    (with_span state small d full.3)

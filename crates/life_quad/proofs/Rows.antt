@@ -60,7 +60,8 @@ two_cells : small_square (512 + 9) ≡ quad (point 1) (point 0) (point 0) (point
 unfolding small_square
 two_cells = refl
 
-four_cells : small_square (528 + 4096 * 9 + 1) ≡ quad (quad (point 1) (point 0) (point 0) (point 1)) (blank 1) (blank 1) (quad (point 0) (point 0) (point 0) (point 1))
+four_cells : small_square (528 + 4096 * 9 + 1) ≡ quad (quad (point 1) (point 0) (point 0) (point 1)) (blank 1) (blank 1)
+    (quad (point 0) (point 0) (point 0) (point 1))
 unfolding small_square
 four_cells = refl
 

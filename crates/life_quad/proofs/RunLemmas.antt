@@ -85,4 +85,8 @@ SetsRun-span old new x y column row len state high inside e f s =
                 let row_is = k.0 in
                 let from = k.1 in
                 let to = k.2 in
-                absurd (r (record { same_row = omega (arith, ints, p, q, e, f, row_is); from = omega (arith, ints, p, q, e, f, from); to = omega (arith, ints, p, q, e, f, to) }))
+                absurd (r (record {
+                  same_row = omega (arith, ints, p, q, e, f, row_is);
+                  from = omega (arith, ints, p, q, e, f, from);
+                  to = omega (arith, ints, p, q, e, f, to);
+                }))

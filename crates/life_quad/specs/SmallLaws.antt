@@ -26,13 +26,19 @@ bit : (n : ℕ) → is_bit_id n ≡ true → n < 2
 bit n h = grind arith
 
 all_four : (p q r s : Bool) → (p && q && r && s) ≡ true → (p ≡ true) × (q ≡ true) × (r ≡ true) × (s ≡ true)
-all_four p q r s h = (and_left p q (and_left (p && q) r (and_left (p && q && r) s h)), and_right p q (and_left (p && q) r (and_left (p && q && r) s h)), and_right (p && q) r (and_left (p && q && r) s h), and_right (p && q && r) s h)
+all_four p q r s h = (
+  and_left p q (and_left (p && q) r (and_left (p && q && r) s h)),
+  and_right p q (and_left (p && q) r (and_left (p && q && r) s h)),
+  and_right (p && q) r (and_left (p && q && r) s h),
+  and_right (p && q && r) s h,
+)
 
 pub smalls : (a b c d k : ℕ) → small_of a b c d ≡ Some k → Smalls a b c d k
 unfolding small_of
 smalls a b c d k h = by (is_bit_id a && is_bit_id b && is_bit_id c && is_bit_id d) refl (is_digit_id a && is_digit_id b && is_digit_id c && is_digit_id d) refl
   where
-    by : (p : Bool) → (is_bit_id a && is_bit_id b && is_bit_id c && is_bit_id d) ≡ p → (q : Bool) → (is_digit_id a && is_digit_id b && is_digit_id c && is_digit_id d) ≡ q → Smalls a b c d k
+    by : (p : Bool) → (is_bit_id a && is_bit_id b && is_bit_id c && is_bit_id d) ≡ p → (q : Bool)
+        → (is_digit_id a && is_digit_id b && is_digit_id c && is_digit_id d) ≡ q → Smalls a b c d k
     by true e q f =
         let all : (is_bit_id a ≡ true) × (is_bit_id b ≡ true) × (is_bit_id c ≡ true) × (is_bit_id d ≡ true) = all_four _ _ _ _ e in
         let n : 512 + (a * 8 + b * 4 + c * 2 + d) ≡ k = grind arith in
@@ -72,7 +78,8 @@ square_of-digit S q (digit_of l u) =
     rw (a, b, c, d) refl
 
 -- its square is that of the quarters
-pub small_square-is : (S : List Tree) (a b c d k : ℕ) → Smalls a b c d k → small_square k ≡ quad (square_of S (id_of a)) (square_of S (id_of b)) (square_of S (id_of c)) (square_of S (id_of d))
+pub small_square-is : (S : List Tree) (a b c d k : ℕ) → Smalls a b c d k → small_square k ≡ quad (square_of S (id_of a)) (square_of S (id_of b))
+    (square_of S (id_of c)) (square_of S (id_of d))
 unfolding small_square
 small_square-is S a b c d k (of_bits la lb lc ld e) =
     let low : nat_lt k 528 ≡ true = grind arith in
@@ -90,7 +97,8 @@ small_square-is S a b c d k (of_digits ia ib ic id e) =
     ((ap two o.2 ∙ sym (square_of-digit S c ic)) i) ((ap two o.3 ∙ sym (square_of-digit S d id)) i)))
 
 -- the quarters by division
-pub bits_are : (a b c d k bits : ℕ) → small_of a b c d ≡ Some k → k < 528 → bits ≡ k - 512 → (bits / 8 ≡ a) × (bits / 4 % 2 ≡ b) × (bits / 2 % 2 ≡ c) × (bits % 2 ≡ d)
+pub bits_are : (a b c d k bits : ℕ) → small_of a b c d ≡ Some k → k < 528 → bits ≡ k - 512 → (bits / 8 ≡ a) × (bits / 4 % 2 ≡ b) × (bits / 2 % 2 ≡ c)
+    × (bits % 2 ≡ d)
 bits_are a b c d k bits h low e = by (smalls a b c d k h)
   where
     by : Smalls a b c d k → (bits / 8 ≡ a) × (bits / 4 % 2 ≡ b) × (bits / 2 % 2 ≡ c) × (bits % 2 ≡ d)
@@ -110,10 +118,12 @@ id_of-digit q n (digit_of l u) f =
     ap (λ b. id_of (if b then 256 else 512 + n)) z ∙ ap id_of m
 
 pub digits_are : (a b c d k digits : ℕ) → small_of a b c d ≡ Some k → 528 ≤ k → digits ≡ k - 528
-    → (digit_id (digits / 4096) ≡ id_of a) × (digit_id (digits / 256 % 16) ≡ id_of b) × (digit_id (digits / 16 % 16) ≡ id_of c) × (digit_id (digits % 16) ≡ id_of d)
+    → (digit_id (digits / 4096) ≡ id_of a) × (digit_id (digits / 256 % 16) ≡ id_of b) × (digit_id (digits / 16 % 16) ≡ id_of c)
+    × (digit_id (digits % 16) ≡ id_of d)
 digits_are a b c d k digits h high e = by (smalls a b c d k h)
   where
-    by : Smalls a b c d k → (digit_id (digits / 4096) ≡ id_of a) × (digit_id (digits / 256 % 16) ≡ id_of b) × (digit_id (digits / 16 % 16) ≡ id_of c) × (digit_id (digits % 16) ≡ id_of d)
+    by : Smalls a b c d k → (digit_id (digits / 4096) ≡ id_of a) × (digit_id (digits / 256 % 16) ≡ id_of b) × (digit_id (digits / 16 % 16) ≡ id_of c)
+        × (digit_id (digits % 16) ≡ id_of d)
     by (of_bits la lb lc ld f) = absurd (omega arith)
     by (of_digits ia ib ic id f) =
         let p = a - 512 in let q = b - 512 in let r = c - 512 in let t = d - 512 in
@@ -156,7 +166,8 @@ module _ (a b c d : ℕ) where
   are_digit_ids = is_digit_id a && is_digit_id b && is_digit_id c && is_digit_id d
 
   pub bits_below : are_bit_ids ≡ true → (a < 2) × (b < 2) × (c < 2) × (d < 2)
-  bits_below h = let all : (is_bit_id a ≡ true) × (is_bit_id b ≡ true) × (is_bit_id c ≡ true) × (is_bit_id d ≡ true) = all_four _ _ _ _ h in (bit a all.0, bit b all.1, bit c all.2, bit d all.3)
+  bits_below h = let all : (is_bit_id a ≡ true) × (is_bit_id b ≡ true) × (is_bit_id c ≡ true) × (is_bit_id d ≡ true) = all_four _ _ _ _ h in
+      (bit a all.0, bit b all.1, bit c all.2, bit d all.3)
 
   pub digits_apart : are_digit_ids ≡ true → (is_digit_id a ≡ true) × (is_digit_id b ≡ true) × (is_digit_id c ≡ true) × (is_digit_id d ≡ true)
   digits_apart h = all_four _ _ _ _ h

@@ -18,6 +18,7 @@ pub record SetsHalves (left right new_left new_right : Tree) (column row len sta
   pub left_level : depth new_left ≡ depth left
   pub right_full : IsFull new_right
   pub right_level : depth new_right ≡ depth right
-  pub left_cells : (i j : ℕ) → i < 2 ^ depth left → j < 2 ^ depth left → state_at new_left i j ≡ (if is_in_span column row len i j then state else state_at left i j)
+  pub left_cells : (i j : ℕ) → i < 2 ^ depth left → j < 2 ^ depth left
+      → state_at new_left i j ≡ (if is_in_span column row len i j then state else state_at left i j)
   pub right_cells : (i j : ℕ) → i < 2 ^ depth left → j < 2 ^ depth left
       → state_at new_right i j ≡ (if is_in_span column row len (2 ^ depth left + i) j then state else state_at right i j)

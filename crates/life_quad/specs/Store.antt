@@ -55,7 +55,8 @@ digit_id d = id_of (if d == 0 then 256 else 512 + d)
 unfoldable pub small_of : ℕ → ℕ → ℕ → ℕ → Option ℕ
 small_of nw ne sw se =
     if is_bit_id nw && is_bit_id ne && is_bit_id sw && is_bit_id se then Some (512 + (nw * 8 + ne * 4 + sw * 2 + se))
-    else if is_digit_id nw && is_digit_id ne && is_digit_id sw && is_digit_id se then Some (528 + ((nw - 512) * 4096 + (ne - 512) * 256 + (sw - 512) * 16 + (se - 512)))
+    else if is_digit_id nw && is_digit_id ne && is_digit_id sw
+    && is_digit_id se then Some (528 + ((nw - 512) * 4096 + (ne - 512) * 256 + (sw - 512) * 16 + (se - 512)))
     else None
 
 -- the number of a node's square, where it is small
@@ -157,7 +158,8 @@ KeepsContents old new = (id : Id) → Knows old id × IsShared old → (Knows ne
 -- the Id is that of the square, which was there, or which was added last
 pub data Joined (old new : Nodes) (t : Tree) (id : Id) : Type 0 where
   was_there : new ≡ old → Contains (held old) t → Knows old id × IsShared old → content old id ≡ t → Joined old new t id
-  is_new : ¬ Contains (held old) t → KeepsContents old new → held new ≡ held old ++ t ∷ [] → Knows new id × IsShared new → content new id ≡ t → Joined old new t id
+  is_new : ¬ Contains (held old) t → KeepsContents old new → held new ≡ held old ++ t ∷ [] → Knows new id × IsShared new → content new id ≡ t
+      → Joined old new t id
 
 -- what a shared store answers to the join of a square that isn't blank
 pub record Answers (old new : Nodes) (t : Tree) (r : Result Id Kind) : Type 0 where

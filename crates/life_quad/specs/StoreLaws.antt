@@ -67,7 +67,8 @@ square_of-append stored more id h = by (kind_of stored id)
     by (a_blank l u e) = grind arith
     by (a_small l u e) = grind arith
     by (a_node l e) =
-        let at : get_or (stored ++ more) (id.0 - 66064) (point 0) ≡ get_or stored (id.0 - 66064) (point 0) = get_or_append_left stored more (point 0) (id.0 - 66064) (omega arith) in
+        let at : get_or (stored ++ more) (id.0 - 66064) (point 0) ≡ get_or stored (id.0 - 66064) (point 0) = get_or_append_left stored more (point 0)
+        (id.0 - 66064) (omega arith) in
         grind arith
 
 -- the square of a small square's quarters
@@ -75,7 +76,8 @@ pub small_node : (S : List Tree) (n : Node) (k : ℕ) → number_of n ≡ Some k
 small_node S n k h = small_square-is S n.nw n.ne n.sw n.se k (smalls n.nw n.ne n.sw n.se k h)
 
 -- a node keeps its square when squares are added
-pub node_square-append : (stored more : List Tree) (i : ℕ) (n : Node) → i ≤ length stored → IsNamed i (id_of n.nw) → IsNamed i (id_of n.ne) → IsNamed i (id_of n.sw) → IsNamed i (id_of n.se)
+pub node_square-append : (stored more : List Tree) (i : ℕ) (n : Node) → i ≤ length stored → IsNamed i (id_of n.nw) → IsNamed i (id_of n.ne)
+    → IsNamed i (id_of n.sw) → IsNamed i (id_of n.se)
     → node_square (stored ++ more) n ≡ node_square stored n
 node_square-append stored more i n le a b c d =
     let ea = square_of-append stored more (id_of n.nw) (omega (arith, a.below)) in
@@ -136,7 +138,8 @@ IsNode-append log stored more i n le e =
     }
 
 -- and when Ids are added
-pub IsNode-more : (log log' : List ℕ) (stored : List Tree) (i : ℕ) (n : Node) → ((k : ℕ) → Contains log k → Contains log' k) → IsNode log stored i n → IsNode log' stored i n
+pub IsNode-more : (log log' : List ℕ) (stored : List Tree) (i : ℕ) (n : Node) → ((k : ℕ) → Contains log k → Contains log' k) → IsNode log stored i n
+    → IsNode log' stored i n
 IsNode-more log log' stored i n more e = record {
   nw = IsEarlier-more log log' i (id_of n.nw) more e.nw;
   ne = IsEarlier-more log log' i (id_of n.ne) more e.ne;
@@ -172,10 +175,12 @@ names s id h = by (kind_of (squares s.nodes) id)
         let lt : i < length s.nodes = omega (arith, h.named.below) in
         let n : Node = get_or s.nodes i (record { nw = 0; ne = 0; sw = 0; se = 0 }) in
         let at : slice_get s.nodes i ≡ Some n = slice_get-get_or s.nodes i _ lt in
-        the_node i n (omega arith) (omega arith) (as_node i (omega arith) at) (h.sound.entries i n at) (e ∙ get_or_from_slice_get (squares s.nodes) i _ (point 0) (h.sound.square i n at))
+        the_node i n (omega arith) (omega arith) (as_node i (omega arith) at) (h.sound.entries i n at)
+        (e ∙ get_or_from_slice_get (squares s.nodes) i _ (point 0) (h.sound.square i n at))
 
 -- the square of a node's Id
-pub square_of-node : (s : Nodes) (i : ℕ) (n : Node) (id : Id) → IsSound s → slice_get s.nodes i ≡ Some n → id.0 ≡ 66064 + i → square_of (squares s.nodes) id ≡ node_square (squares s.nodes) n
+pub square_of-node : (s : Nodes) (i : ℕ) (n : Node) (id : Id) → IsSound s → slice_get s.nodes i ≡ Some n → id.0 ≡ 66064 + i
+    → square_of (squares s.nodes) id ≡ node_square (squares s.nodes) n
 square_of-node s i n id h at e = by (kind_of (squares s.nodes) id)
   where
     by : Kinds (squares s.nodes) id → square_of (squares s.nodes) id ≡ node_square (squares s.nodes) n

@@ -45,7 +45,8 @@ plus_none z = omega (arith, ints)
 IsBehind-moved : (c : Cursor) (file : Rle) (item : Item) → IsBehind c file → IsBehind (moved c item) (with_items file (item ∷ []))
 IsBehind-moved c file (Cells n s) b = record {
   left = b.left;
-  x = ap (λ z. z +ℤ pos n) b.x ∙ sym (regroup file.position.x (columns_in file.items) n) ∙ ap (λ k. file.position.x +ℤ pos k) (sym (columns_in-Cells file.items n s));
+  x = ap (λ z. z +ℤ pos n) b.x ∙ sym (regroup file.position.x (columns_in file.items) n)
+      ∙ ap (λ k. file.position.x +ℤ pos k) (sym (columns_in-Cells file.items n s));
   y = b.y ∙ ap (λ k. file.position.y +ℤ pos k) (sym (rows_in-Cells file.items n s));
 }
 IsBehind-moved c file (RowEnds n) b = record {
@@ -58,31 +59,37 @@ abbrev placed_of : ℤ → ℤ → Item → Placed
 placed_of r k item = record { row = r; column = k; item = item }
 
 -- and items: they stand where the sums say
-pub behind-items : (c : Cursor) (file : Rle) (items : List Item) → IsBehind c file → (placed_at c items ≡ placed_behind file.position file.items items) × IsBehind (moved_behind c items) (with_items file items)
+pub behind-items : (c : Cursor) (file : Rle) (items : List Item) → IsBehind c file → (placed_at c items ≡ placed_behind file.position file.items items)
+    × IsBehind (moved_behind c items) (with_items file items)
 behind-items c file [] b = (refl, subst (IsBehind c) (sym (with_items-nil file)) b)
 behind-items c file (item ∷ items) b =
     let more = behind-items (moved c item) (with_items file (item ∷ [])) items (IsBehind-moved c file item b) in (
-      ap (λ z. placed_of z c.x item ∷ placed_at (moved c item) items) b.y ∙ ap (λ z. placed_of (file.position.y +ℤ pos (rows_in file.items)) z item ∷ placed_at (moved c item) items) b.x
+      ap (λ z. placed_of z c.x item ∷ placed_at (moved c item) items) b.y
+          ∙ ap (λ z. placed_of (file.position.y +ℤ pos (rows_in file.items)) z item ∷ placed_at (moved c item) items) b.x
           ∙ ap (λ ps. placed_item file.position file.items item ∷ ps) more.0,
       subst (IsBehind (moved_behind (moved c item) items)) (with_items-twice file (item ∷ []) items) more.1,
     )
 
 -- the runs so far are those of the lines
-known-none : (level : ℕ) (lines : List (List ℕ)) (o : Position) (before : List Run) → IsPreamble level default_position lines o → HasRuns level lines before → before ≡ []
+known-none : (level : ℕ) (lines : List (List ℕ)) (o : Position) (before : List Run) → IsPreamble level default_position lines o → HasRuns level lines before
+    → before ≡ []
 known-none level lines o before p (inl h) = h.2
 known-none level lines o before p (inr h) = absurd (IsPreamble-refused level lines o p (h.0, h.1))
 
-pub known-runs : (level : ℕ) (lines : List (List ℕ)) (file : Rle) (before : List Run) → IsRle level lines file → HasRuns level lines before → before ≡ runs_of (placed file)
+pub known-runs : (level : ℕ) (lines : List (List ℕ)) (file : Rle) (before : List Run) → IsRle level lines file → HasRuns level lines before
+    → before ≡ runs_of (placed file)
 known-runs level lines file before r (inl h) = absurd (IsPreamble-refused level lines h.0 h.1 (file, r))
 known-runs level lines file before r (inr h) = h.2 ∙ ap (λ f. runs_of (placed f)) (IsRle-unique level lines h.0 file h.1 r)
 
 no_more : (before : List Run) (xs : List Run) → before ≡ xs → before ++ [] ≡ xs
 no_more before xs e = append-nil before ∙ e
 
-pub adv-comment : (level : ℕ) (g : Position) (c : Cursor) (line : List ℕ) → opening_of level line ≡ Ok Comment → Advances level (phases.Before g) c line (phases.Before g) c []
+pub adv-comment : (level : ℕ) (g : Position) (c : Cursor) (line : List ℕ) → opening_of level line ≡ Ok Comment
+    → Advances level (phases.Before g) c line (phases.Before g) c []
 adv-comment level g c line e = record {
   stands = λ lines s. (s.0, IsPreamble-push level default_position g g lines line s.1 (inl (e, refl)), s.2);
-  found = λ lines before s h. inl (g, IsPreamble-push level default_position g g lines line s.1 (inl (e, refl)), no_more before [] (known-none level lines g before s.1 h));
+  found = λ lines before s h. inl
+      (g, IsPreamble-push level default_position g g lines line s.1 (inl (e, refl)), no_more before [] (known-none level lines g before s.1 h));
 }
 
 -- the position of a position line is in the plane
@@ -103,10 +110,12 @@ corner_of-plane : (level : ℕ) (a b : Option ℤ) → IsPlaneField level (corne
 corner_of-plane level None b = refl
 corner_of-plane level (Some x) None = refl
 corner_of-plane level (Some x) (Some y) =
-    elim (is_coordinate level x && is_coordinate level y) as (λ t. (is_coordinate level x && is_coordinate level y) ≡ t → IsPlaneField level (cond t (Ok (Corner x y)) (Err OutOfPlane)))
+    elim (is_coordinate level x && is_coordinate level y)
+    as (λ t. (is_coordinate level x && is_coordinate level y) ≡ t → IsPlaneField level (cond t (Ok (Corner x y)) (Err OutOfPlane)))
     [ true ↦ λ e. and_both (is_coordinate level x) (is_coordinate level y) e | false ↦ λ _. refl ] refl
 
-generation-plane : (level n : ℕ) (digits fits : Bool) → IsPlaneField level (and_then (cond (not digits) (Err BadNumber) (cond fits (Ok n) (Err TooLarge))) (λ n. Ok (Generation n)))
+generation-plane : (level n : ℕ) (digits fits : Bool)
+    → IsPlaneField level (and_then (cond (not digits) (Err BadNumber) (cond fits (Ok n) (Err TooLarge))) (λ n. Ok (Generation n)))
 generation-plane level n false fits = refl
 generation-plane level n true true = tt
 generation-plane level n true false = refl
@@ -114,7 +123,9 @@ generation-plane level n true false = refl
 field_of-plane : (level : ℕ) (text : List ℕ) → IsPlaneField level (field_of level text)
 field_of-plane level text =
     let gen = drop 4 text in
-    elim (begins_with text (codes "Pos=")) as (λ t. IsPlaneField level (cond t (corner_in level gen) (cond (begins_with text (codes "Gen=")) (and_then (u64_of gen) (λ n. Ok (Generation n))) (Ok Other)))) [
+    elim (begins_with text (codes "Pos="))
+    as (λ t. IsPlaneField level (cond t (corner_in level gen)
+    (cond (begins_with text (codes "Gen=")) (and_then (u64_of gen) (λ n. Ok (Generation n))) (Ok Other)))) [
       | true ↦ corner_of-plane level (signed_number (before_first (λ b. eqb b 44) gen)) (signed_number (after_first (λ b. eqb b 44) gen))
       | false ↦ elim (begins_with text (codes "Gen=")) as (λ t. IsPlaneField level (cond t (and_then (u64_of gen) (λ n. Ok (Generation n))) (Ok Other)))
           [ true ↦ generation-plane level (value_of gen) (is_digit_text gen) (leb (value_of gen) (2 ^ 64 - 1)) | false ↦ tt ]
@@ -124,7 +135,8 @@ abbrev pub IsPlanePosition : ℕ → Result Position Kind → Type 0
 IsPlanePosition level (Ok o) = IsInPlane level o
 IsPlanePosition level (Err kind) = is_short_kind kind ≡ true
 
-with_field-plane : (level : ℕ) (o : Position) (r : Result Field Kind) (next : Field → Result Position Kind) → IsInPlane level o → IsPlaneField level r → ((found : Field) → IsInPlane level (with_field o found) → IsPlanePosition level (next found)) → IsPlanePosition level (and_then r next)
+with_field-plane : (level : ℕ) (o : Position) (r : Result Field Kind) (next : Field → Result Position Kind) → IsInPlane level o → IsPlaneField level r
+    → ((found : Field) → IsInPlane level (with_field o found) → IsPlanePosition level (next found)) → IsPlanePosition level (and_then r next)
 with_field-plane level o (Ok (Corner x y)) next h k f = f (Corner x y) k
 with_field-plane level o (Ok (Generation n)) next h k f = f (Generation n) h
 with_field-plane level o (Ok Other) next h k f = f Other h
@@ -132,7 +144,8 @@ with_field-plane level o (Err kind) next h k f = k
 
 position_with-plane : (level : ℕ) (o : Position) (fields : List (List ℕ)) → IsInPlane level o → IsPlanePosition level (position_with level o fields)
 position_with-plane level o [] h = h
-position_with-plane level o (field ∷ fields) h = with_field-plane level o (field_of level field) (λ found. position_with level (with_field o found) fields) h (field_of-plane level field) (λ found k. position_with-plane level (with_field o found) fields k)
+position_with-plane level o (field ∷ fields) h = with_field-plane level o (field_of level field) (λ found. position_with level (with_field o found) fields) h
+    (field_of-plane level field) (λ found k. position_with-plane level (with_field o found) fields k)
 
 pub position_of-plane : (level : ℕ) (line : List ℕ) → IsPlanePosition level (position_of level line)
 position_of-plane level line = position_with-plane level default_position (words_of (drop 6 line)) (zero-coordinate level, zero-coordinate level)
@@ -143,50 +156,75 @@ near-of level z e = (grind (arith, ints), grind (arith, ints))
 at-edge : (level : ℕ) (z : ℤ) → is_coordinate level z ≡ true → (neg_ℤ (edge level) ≤ℤ z) × (z ≤ℤ edge level)
 at-edge level z e = (grind (arith, ints), grind (arith, ints))
 
-pub adv-position : (level : ℕ) (g : Position) (c : Cursor) (line : List ℕ) (o : Position) → opening_of level line ≡ Ok (PositionLine o) → IsInPlane level o → Advances level (phases.Before g) c line (phases.Before o) (start_of o) []
+pub adv-position : (level : ℕ) (g : Position) (c : Cursor) (line : List ℕ) (o : Position) → opening_of level line ≡ Ok (PositionLine o) → IsInPlane level o
+    → Advances level (phases.Before g) c line (phases.Before o) (start_of o) []
 adv-position level g c line o e p = record {
-  stands = λ lines s. (record { left = near-of level o.x p.0; x = at-edge level o.x p.0; y = at-edge level o.y p.1 }, IsPreamble-push level default_position g o lines line s.1 (inr e), refl);
-  found = λ lines before s h. inl (o, IsPreamble-push level default_position g o lines line s.1 (inr e), no_more before [] (known-none level lines g before s.1 h));
+  stands = λ lines s. (
+    record { left = near-of level o.x p.0; x = at-edge level o.x p.0; y = at-edge level o.y p.1 },
+    IsPreamble-push level default_position g o lines line s.1 (inr e),
+    refl,
+  );
+  found = λ lines before s h. inl
+      (o, IsPreamble-push level default_position g o lines line s.1 (inr e), no_more before [] (known-none level lines g before s.1 h));
 }
 
-pub adv-header : (level : ℕ) (g : Position) (c : Cursor) (line : List ℕ) (rule : Rule) → opening_of level line ≡ Ok (Header rule) → Advances level (phases.Before g) c line (phases.Items rule g) c []
+pub adv-header : (level : ℕ) (g : Position) (c : Cursor) (line : List ℕ) (rule : Rule) → opening_of level line ≡ Ok (Header rule)
+    → Advances level (phases.Before g) c line (phases.Items rule g) c []
 adv-header level g c line rule e = record {
   stands = λ lines s. (
     record { rule = rule; position = g; items = [] },
     header-IsUnmarked level lines g line rule s.1 e,
     s.0,
-    record { left = ap (λ (p : Cursor). p.left) s.2; x = ap (λ (p : Cursor). p.x) s.2 ∙ sym (plus_none g.x); y = ap (λ (p : Cursor). p.y) s.2 ∙ sym (plus_none g.y) },
+    record {
+      left = ap (λ (p : Cursor). p.left) s.2;
+      x = ap (λ (p : Cursor). p.x) s.2 ∙ sym (plus_none g.x);
+      y = ap (λ (p : Cursor). p.y) s.2
+          ∙ sym (plus_none g.y);
+    },
     refl,
     refl,
   );
-  found = λ lines before s h. inr (record { rule = rule; position = g; items = [] }, inl (header-IsUnmarked level lines g line rule s.1 e), no_more before [] (known-none level lines g before s.1 h));
+  found = λ lines before s h. inr (
+    record { rule = rule; position = g; items = [] },
+    inl (header-IsUnmarked level lines g line rule s.1 e),
+    no_more before [] (known-none level lines g before s.1 h),
+  );
 }
 
-passed-IsUnmarked : (level : ℕ) (lines : List (List ℕ)) (file : Rle) (line : List ℕ) → later_of line ≡ Ok Passed → IsUnmarked level lines file → IsUnmarked level (lines ++ line ∷ []) file
-passed-IsUnmarked level lines file line e b = subst (IsUnmarked level (lines ++ line ∷ [])) (with_items-nil file) (IsUnmarked-push level lines file line [] b (inl (e, refl, refl)) refl)
+passed-IsUnmarked : (level : ℕ) (lines : List (List ℕ)) (file : Rle) (line : List ℕ) → later_of line ≡ Ok Passed → IsUnmarked level lines file
+    → IsUnmarked level (lines ++ line ∷ []) file
+passed-IsUnmarked level lines file line e b = subst (IsUnmarked level (lines ++ line ∷ [])) (with_items-nil file)
+    (IsUnmarked-push level lines file line [] b (inl (e, refl, refl)) refl)
 
-pub adv-passed : (level : ℕ) (rule : Rule) (g : Position) (c : Cursor) (line : List ℕ) → later_of line ≡ Ok Passed → Advances level (phases.Items rule g) c line (phases.Items rule g) c []
+pub adv-passed : (level : ℕ) (rule : Rule) (g : Position) (c : Cursor) (line : List ℕ) → later_of line ≡ Ok Passed
+    → Advances level (phases.Items rule g) c line (phases.Items rule g) c []
 adv-passed level rule g c line e = record {
   stands = λ lines s. (s.0, passed-IsUnmarked level lines s.0 line e s.1, s.2, s.3, s.4, s.5);
-  found = λ lines before s h. inr (s.0, inl (passed-IsUnmarked level lines s.0 line e s.1), no_more before (runs_of (placed s.0)) (known-runs level lines s.0 before (inl s.1) h));
+  found = λ lines before s h. inr
+      (s.0, inl (passed-IsUnmarked level lines s.0 line e s.1), no_more before (runs_of (placed s.0)) (known-runs level lines s.0 before (inl s.1) h));
 }
 
 pub adv-over : (level : ℕ) (rule : Rule) (g : Position) (c : Cursor) (line : List ℕ) → Advances level (phases.Over rule g) c line (phases.Over rule g) c []
 adv-over level rule g c line = record {
   stands = λ lines s. (s.0, IsMarked-push level lines s.0 line s.1, s.2, s.3);
-  found = λ lines before s h. inr (s.0, inr (IsMarked-push level lines s.0 line s.1), no_more before (runs_of (placed s.0)) (known-runs level lines s.0 before (inr s.1) h));
+  found = λ lines before s h. inr
+      (s.0, inr (IsMarked-push level lines s.0 line s.1), no_more before (runs_of (placed s.0)) (known-runs level lines s.0 before (inr s.1) h));
 }
 
 -- the items are sound behind the file
-sound-behind : (level : ℕ) (rule : Rule) (c : Cursor) (file : Rle) (items : List Item) → IsBehind c file → rule ≡ file.rule → first_fault level rule (placed_at c items) ≡ None → first_fault level file.rule (placed_behind file.position file.items items) ≡ None
-sound-behind level rule c file items b r h = ap (λ ps. first_fault level file.rule ps) (sym (behind-items c file items b).0) ∙ ap (λ x. first_fault level x (placed_at c items)) (sym r) ∙ h
+sound-behind : (level : ℕ) (rule : Rule) (c : Cursor) (file : Rle) (items : List Item) → IsBehind c file → rule ≡ file.rule
+    → first_fault level rule (placed_at c items) ≡ None → first_fault level file.rule (placed_behind file.position file.items items) ≡ None
+sound-behind level rule c file items b r h = ap (λ ps. first_fault level file.rule ps) (sym (behind-items c file items b).0)
+    ∙ ap (λ x. first_fault level x (placed_at c items)) (sym r) ∙ h
 
-runs-behind : (level : ℕ) (lines : List (List ℕ)) (c : Cursor) (file : Rle) (items : List Item) (before runs : List Run) → IsBehind c file → IsRle level lines file → HasRuns level lines before → runs ≡ runs_of (placed_at c items) → before ++ runs ≡ runs_of (placed (with_items file items))
+runs-behind : (level : ℕ) (lines : List (List ℕ)) (c : Cursor) (file : Rle) (items : List Item) (before runs : List Run) → IsBehind c file
+    → IsRle level lines file → HasRuns level lines before → runs ≡ runs_of (placed_at c items) → before ++ runs ≡ runs_of (placed (with_items file items))
 runs-behind level lines c file items before runs b r h e =
     ap (λ rs. rs ++ runs) (known-runs level lines file before r h) ∙ ap (λ rs. runs_of (placed file) ++ rs) (e ∙ ap runs_of (behind-items c file items b).0)
     ∙ sym (ap runs_of (placed_behind-append file.position [] file.items items) ∙ runs_of-append (placed file) (placed_behind file.position file.items items))
 
-pub adv-items : (level : ℕ) (rule : Rule) (g : Position) (c now : Cursor) (line : List ℕ) (items : List Item) (runs : List Run) → later_of line ≡ Ok Data → IsRead level rule c line items End now runs → Advances level (phases.Items rule g) c line (phases.Items rule g) now runs
+pub adv-items : (level : ℕ) (rule : Rule) (g : Position) (c now : Cursor) (line : List ℕ) (items : List Item) (runs : List Run) → later_of line ≡ Ok Data
+    → IsRead level rule c line items End now runs → Advances level (phases.Items rule g) c line (phases.Items rule g) now runs
 adv-items level rule g c now line items runs form read = record {
   stands = λ lines s. (
     with_items s.0 items,
@@ -196,24 +234,44 @@ adv-items level rule g c now line items runs form read = record {
     s.4,
     s.5,
   );
-  found = λ lines before s h. inr (with_items s.0 items, inl (IsUnmarked-push level lines s.0 line items s.1 (inr (form, read.spelled)) (sound-behind level rule c s.0 items s.3 s.4 read.sound)), runs-behind level lines c s.0 items before runs s.3 (inl s.1) h read.runs);
+  found = λ lines before s h. inr (
+    with_items s.0 items,
+    inl (IsUnmarked-push level lines s.0 line items s.1 (inr (form, read.spelled))
+        (sound-behind level rule c s.0 items s.3 s.4 read.sound)),
+    runs-behind level lines c s.0 items before runs s.3 (inl s.1) h read.runs,
+  );
 }
 
-pub adv-mark : (level : ℕ) (rule : Rule) (g : Position) (c now : Cursor) (line : List ℕ) (items : List Item) (runs : List Run) → later_of line ≡ Ok Data → IsRead level rule c line items Mark now runs → Advances level (phases.Items rule g) c line (phases.Over rule g) now runs
+pub adv-mark : (level : ℕ) (rule : Rule) (g : Position) (c now : Cursor) (line : List ℕ) (items : List Item) (runs : List Run) → later_of line ≡ Ok Data
+    → IsRead level rule c line items Mark now runs → Advances level (phases.Items rule g) c line (phases.Over rule g) now runs
 adv-mark level rule g c now line items runs form read = record {
-  stands = λ lines s. (with_items s.0 items, IsMarked-begun level lines s.0 line items s.1 (inr (form, read.spelled)) (sound-behind level rule c s.0 items s.3 s.4 read.sound), s.4, s.5);
-  found = λ lines before s h. inr (with_items s.0 items, inr (IsMarked-begun level lines s.0 line items s.1 (inr (form, read.spelled)) (sound-behind level rule c s.0 items s.3 s.4 read.sound)), runs-behind level lines c s.0 items before runs s.3 (inl s.1) h read.runs);
+  stands = λ lines s. (
+    with_items s.0 items,
+    IsMarked-begun level lines s.0 line items s.1 (inr (form, read.spelled)) (sound-behind level rule c s.0 items s.3 s.4 read.sound),
+    s.4,
+    s.5,
+  );
+  found = λ lines before s h. inr (
+    with_items s.0 items,
+    inr (IsMarked-begun level lines s.0 line items s.1 (inr (form, read.spelled))
+        (sound-behind level rule c s.0 items s.3 s.4 read.sound)),
+    runs-behind level lines c s.0 items before runs s.3 (inl s.1) h read.runs,
+  );
 }
 
 -- a fault of a line
-pub breaks-before : (level : ℕ) (g : Position) (c : Cursor) (line : List ℕ) (kind : Kind) → opening_of level line ≡ Err kind → (lines : List (List ℕ)) → StandsAt level (phases.Before g) c lines → Breaks level lines line kind
+pub breaks-before : (level : ℕ) (g : Position) (c : Cursor) (line : List ℕ) (kind : Kind) → opening_of level line ≡ Err kind → (lines : List (List ℕ))
+    → StandsAt level (phases.Before g) c lines → Breaks level lines line kind
 breaks-before level g c line kind e lines s = before_header g s.1 e
 
-pub breaks-form : (level : ℕ) (rule : Rule) (g : Position) (c : Cursor) (line : List ℕ) (kind : Kind) → later_of line ≡ Err kind → (lines : List (List ℕ)) → StandsAt level (phases.Items rule g) c lines → Breaks level lines line kind
+pub breaks-form : (level : ℕ) (rule : Rule) (g : Position) (c : Cursor) (line : List ℕ) (kind : Kind) → later_of line ≡ Err kind → (lines : List (List ℕ))
+    → StandsAt level (phases.Items rule g) c lines → Breaks level lines line kind
 breaks-form level rule g c line kind e lines s = by_form s.0 s.1 e
 
-pub breaks-items : (level : ℕ) (rule : Rule) (g : Position) (c : Cursor) (line : List ℕ) (kind : Kind) → later_of line ≡ Ok Data → ItemsBreak level rule c line kind → (lines : List (List ℕ)) → StandsAt level (phases.Items rule g) c lines → Breaks level lines line kind
-breaks-items level rule g c line kind form (no_item items spelled sound) lines s = by_text s.0 items s.1 form spelled (sound-behind level rule c s.0 items s.3 s.4 sound)
+pub breaks-items : (level : ℕ) (rule : Rule) (g : Position) (c : Cursor) (line : List ℕ) (kind : Kind) → later_of line ≡ Ok Data
+    → ItemsBreak level rule c line kind → (lines : List (List ℕ)) → StandsAt level (phases.Items rule g) c lines → Breaks level lines line kind
+breaks-items level rule g c line kind form (no_item items spelled sound) lines s = by_text s.0 items s.1 form spelled
+    (sound-behind level rule c s.0 items s.3 s.4 sound)
 breaks-items level rule g c line kind form (bad_item items item rest spelled sound fault) lines s =
     let b = (behind-items c s.0 items s.3).1 in
     by_item s.0 items item rest s.1 form spelled (sound-behind level rule c s.0 items s.3 s.4 sound)

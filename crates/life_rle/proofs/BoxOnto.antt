@@ -15,10 +15,30 @@ max-assoc a b c = grind (arith, ints)
 
 joined-assoc : (a b c : Bounds) → joined (joined a b) c ≡ joined a (joined b c)
 joined-assoc a b c =
-    ap (λ z. record { left = z; top = int_min (int_min a.top b.top) c.top; right = int_max (int_max a.right b.right) c.right; bottom = int_max (int_max a.bottom b.bottom) c.bottom }) (min-assoc a.left b.left c.left)
-    ∙ ap (λ z. record { left = int_min a.left (int_min b.left c.left); top = z; right = int_max (int_max a.right b.right) c.right; bottom = int_max (int_max a.bottom b.bottom) c.bottom }) (min-assoc a.top b.top c.top)
-    ∙ ap (λ z. record { left = int_min a.left (int_min b.left c.left); top = int_min a.top (int_min b.top c.top); right = z; bottom = int_max (int_max a.bottom b.bottom) c.bottom }) (max-assoc a.right b.right c.right)
-    ∙ ap (λ z. record { left = int_min a.left (int_min b.left c.left); top = int_min a.top (int_min b.top c.top); right = int_max a.right (int_max b.right c.right); bottom = z }) (max-assoc a.bottom b.bottom c.bottom)
+    ap (λ z. record {
+      left = z;
+      top = int_min (int_min a.top b.top) c.top;
+      right = int_max (int_max a.right b.right) c.right;
+      bottom = int_max (int_max a.bottom b.bottom) c.bottom;
+    }) (min-assoc a.left b.left c.left)
+    ∙ ap (λ z. record {
+      left = int_min a.left (int_min b.left c.left);
+      top = z;
+      right = int_max (int_max a.right b.right) c.right;
+      bottom = int_max (int_max a.bottom b.bottom) c.bottom;
+    }) (min-assoc a.top b.top c.top)
+    ∙ ap (λ z. record {
+      left = int_min a.left (int_min b.left c.left);
+      top = int_min a.top (int_min b.top c.top);
+      right = z;
+      bottom = int_max (int_max a.bottom b.bottom) c.bottom;
+    }) (max-assoc a.right b.right c.right)
+    ∙ ap (λ z. record {
+      left = int_min a.left (int_min b.left c.left);
+      top = int_min a.top (int_min b.top c.top);
+      right = int_max a.right (int_max b.right c.right);
+      bottom = z;
+    }) (max-assoc a.bottom b.bottom c.bottom)
 
 -- one more cell
 pub bounds_onto-cell : (box : Bounds) (c : Cell) (cells : List Cell) → bounds_onto (joined box (box_of_cell c)) cells ≡ bounds_onto box (c ∷ cells)
@@ -31,7 +51,8 @@ bounds_onto-first c [] = refl
 bounds_onto-first c (d ∷ cells) = refl
 
 -- a box around a box and a cell, by its sides
-pub bounds_onto-sides : (box next : Bounds) (c : Cell) (cells : List Cell) → next.left ≡ int_min box.left c.x → next.top ≡ int_min box.top c.y → next.right ≡ int_max box.right c.x → next.bottom ≡ int_max box.bottom c.y
+pub bounds_onto-sides : (box next : Bounds) (c : Cell) (cells : List Cell) → next.left ≡ int_min box.left c.x → next.top ≡ int_min box.top c.y
+    → next.right ≡ int_max box.right c.x → next.bottom ≡ int_max box.bottom c.y
     → bounds_onto next cells ≡ bounds_onto box (c ∷ cells)
 bounds_onto-sides box next c cells l t r b =
     ap (λ z. bounds_onto (record { left = z; top = next.top; right = next.right; bottom = next.bottom }) cells) l

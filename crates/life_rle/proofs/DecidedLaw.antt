@@ -47,7 +47,8 @@ record FirstBad (level : ℕ) (rule : Rule) (position : Position) (before items 
   sound : first_fault level rule (placed_behind position before pre) ≡ None
   bad : placed_fault level rule (placed_item position (before ++ pre) item) ≡ Some kind
 
-bad-here : (level : ℕ) (rule : Rule) (position : Position) (before items : List Item) (item : Item) (kind : Kind) (o : Option Kind) → placed_fault level rule (placed_item position before item) ≡ o
+bad-here : (level : ℕ) (rule : Rule) (position : Position) (before items : List Item) (item : Item) (kind : Kind) (o : Option Kind)
+    → placed_fault level rule (placed_item position before item) ≡ o
     → first_kind o (first_fault level rule (placed_behind position (before ++ item ∷ []) items)) ≡ Some kind
     → (first_fault level rule (placed_behind position (before ++ item ∷ []) items) ≡ Some kind → FirstBad level rule position (before ++ item ∷ []) items kind)
     → FirstBad level rule position before (item ∷ items) kind
@@ -70,18 +71,22 @@ bad-here level rule position before items item kind None f g next =
       bad = ap (λ b. placed_fault level rule (placed_item position b more.item)) (sym (append_assoc before (item ∷ []) more.pre)) ∙ more.bad;
     }
 
-first-bad : (level : ℕ) (rule : Rule) (position : Position) (before items : List Item) (kind : Kind) → first_fault level rule (placed_behind position before items) ≡ Some kind → FirstBad level rule position before items kind
+first-bad : (level : ℕ) (rule : Rule) (position : Position) (before items : List Item) (kind : Kind)
+    → first_fault level rule (placed_behind position before items) ≡ Some kind → FirstBad level rule position before items kind
 first-bad level rule position before [] kind e = cc
 first-bad level rule position before (item ∷ items) kind e =
-    bad-here level rule position before items item kind (placed_fault level rule (placed_item position before item)) refl e (λ g. first-bad level rule position (before ++ item ∷ []) items kind g)
+    bad-here level rule position before items item kind (placed_fault level rule (placed_item position before item)) refl e
+    (λ g. first-bad level rule position (before ++ item ∷ []) items kind g)
 
-Spells-front : (level : ℕ) (pre : List Item) (item : Item) (post : List Item) (bytes : List ℕ) (last : Next) → Spells level bytes (pre ++ item ∷ post) last → (rest : List ℕ) × Spells level bytes pre (Spelled item rest)
+Spells-front : (level : ℕ) (pre : List Item) (item : Item) (post : List Item) (bytes : List ℕ) (last : Next) → Spells level bytes (pre ++ item ∷ post) last
+    → (rest : List ℕ) × Spells level bytes pre (Spelled item rest)
 Spells-front level [] item post bytes last h = (h.0, h.1)
 Spells-front level (i ∷ pre) item post bytes last h = let more = Spells-front level pre item post h.0 last h.2 in (more.0, (h.0, h.1, more.1))
 
 -- ---- a line at which reading stops breaks a rule
 
-data-Breaks : (level : ℕ) (front : List (List ℕ)) (file : Rle) (line : List ℕ) (items : List Item) (last : Next) (kind : Kind) → IsUnmarked level front file → later_of line ≡ Ok Data
+data-Breaks : (level : ℕ) (front : List (List ℕ)) (file : Rle) (line : List ℕ) (items : List Item) (last : Next) (kind : Kind) → IsUnmarked level front file
+    → later_of line ≡ Ok Data
     → Spells level line items last → items_fault level file items last ≡ Some kind → Breaks level front line kind
 data-Breaks level front file line items last kind b form s e = choose (first_fault level file.rule (placed_behind file.position file.items items)) refl e
   where
@@ -91,57 +96,72 @@ data-Breaks level front file line items last kind b form s e = choose (first_fau
     behind (Spelled item rest) f = cc
     behind (Broken k) f = let q : k ≡ kind = cc in ap Broken q
 
-    choose : (o : Option Kind) → first_fault level file.rule (placed_behind file.position file.items items) ≡ o → first_kind o (fault_of_next last) ≡ Some kind → Breaks level front line kind
+    choose : (o : Option Kind) → first_fault level file.rule (placed_behind file.position file.items items) ≡ o → first_kind o (fault_of_next last) ≡ Some kind
+        → Breaks level front line kind
     choose (Some k) f g =
         let bad = first-bad level file.rule file.position file.items items kind (f ∙ g) in
         let r = Spells-front level bad.pre bad.item bad.post line last (subst (λ is. Spells level line is last) bad.whole s) in
         by_item file bad.pre bad.item r.0 b form r.1 bad.sound bad.bad
     choose None f g = by_text file items b form (subst (Spells level line items) (behind last g) s) f
 
-after-Breaks : (level : ℕ) (front : List (List ℕ)) (file : Rle) (line : List ℕ) (items : List Item) (last : Next) (o : Option Kind) (kind : Kind) → IsUnmarked level front file → later_of line ≡ Ok Data
-    → Spells level line items last → IsStop last → items_fault level file items last ≡ o → after_items file items last o ≡ Refused kind → Breaks level front line kind
+after-Breaks : (level : ℕ) (front : List (List ℕ)) (file : Rle) (line : List ℕ) (items : List Item) (last : Next) (o : Option Kind) (kind : Kind)
+    → IsUnmarked level front file → later_of line ≡ Ok Data
+    → Spells level line items last → IsStop last → items_fault level file items last ≡ o → after_items file items last o ≡ Refused kind
+    → Breaks level front line kind
 after-Breaks level front file line items End None kind b form s stop e r = cc
 after-Breaks level front file line items Mark None kind b form s stop e r = cc
 after-Breaks level front file line items (Spelled item rest) None kind b form s stop e r = absurd stop
 after-Breaks level front file line items (Broken k) None kind b form s stop e r =
     let no = (first_kind-both (first_fault level file.rule (placed_behind file.position file.items items)) (Some k) e).1 in cc
-after-Breaks level front file line items End (Some k) kind b form s stop e r = let q : k ≡ kind = cc in data-Breaks level front file line items End kind b form s (e ∙ ap Some q)
-after-Breaks level front file line items Mark (Some k) kind b form s stop e r = let q : k ≡ kind = cc in data-Breaks level front file line items Mark kind b form s (e ∙ ap Some q)
+after-Breaks level front file line items End (Some k) kind b form s stop e r = let q : k ≡ kind = cc in
+    data-Breaks level front file line items End kind b form s (e ∙ ap Some q)
+after-Breaks level front file line items Mark (Some k) kind b form s stop e r = let q : k ≡ kind = cc in
+    data-Breaks level front file line items Mark kind b form s (e ∙ ap Some q)
 after-Breaks level front file line items (Spelled item rest) (Some k) kind b form s stop e r = absurd stop
-after-Breaks level front file line items (Broken k') (Some k) kind b form s stop e r = let q : k ≡ kind = cc in data-Breaks level front file line items (Broken k') kind b form s (e ∙ ap Some q)
+after-Breaks level front file line items (Broken k') (Some k) kind b form s stop e r = let q : k ≡ kind = cc in
+    data-Breaks level front file line items (Broken k') kind b form s (e ∙ ap Some q)
 
-later-Breaks : (level : ℕ) (front : List (List ℕ)) (file : Rle) (line : List ℕ) (r : Result Later Kind) (kind : Kind) → IsUnmarked level front file → later_of line ≡ r → later_step level file line r ≡ Refused kind → Breaks level front line kind
+later-Breaks : (level : ℕ) (front : List (List ℕ)) (file : Rle) (line : List ℕ) (r : Result Later Kind) (kind : Kind) → IsUnmarked level front file
+    → later_of line ≡ r → later_step level file line r ≡ Refused kind → Breaks level front line kind
 later-Breaks level front file line (Err k) kind b e s = let q : k ≡ kind = cc in by_form file b (e ∙ ap Err q)
 later-Breaks level front file line (Ok Passed) kind b e s = cc
 later-Breaks level front file line (Ok Data) kind b e s =
-    after-Breaks level front file line (line_items level line) (line_last level line) (items_fault level file (line_items level line) (line_last level line)) kind b e (line-Spells level (length line) line) (line-IsStop level line) refl s
+    after-Breaks level front file line (line_items level line) (line_last level line) (items_fault level file (line_items level line) (line_last level line))
+    kind b e (line-Spells level (length line) line) (line-IsStop level line) refl s
 
-open-Breaks : (level : ℕ) (front : List (List ℕ)) (position : Position) (line : List ℕ) (r : Result Opening Kind) (kind : Kind) → IsPreamble level default_position front position → opening_of level line ≡ r → open_step position r ≡ Refused kind → Breaks level front line kind
+open-Breaks : (level : ℕ) (front : List (List ℕ)) (position : Position) (line : List ℕ) (r : Result Opening Kind) (kind : Kind)
+    → IsPreamble level default_position front position → opening_of level line ≡ r → open_step position r ≡ Refused kind → Breaks level front line kind
 open-Breaks level front position line (Err k) kind h e s = let q : k ≡ kind = cc in before_header position h (e ∙ ap Err q)
 open-Breaks level front position line (Ok Comment) kind h e s = cc
 open-Breaks level front position line (Ok (PositionLine here)) kind h e s = cc
 open-Breaks level front position line (Ok (Header rule)) kind h e s = cc
 
-step-Breaks : (level : ℕ) (front : List (List ℕ)) (p : Progress) (line : List ℕ) (kind : Kind) → Stands level front p → Goes p → step level p line ≡ Refused kind → Breaks level front line kind
+step-Breaks : (level : ℕ) (front : List (List ℕ)) (p : Progress) (line : List ℕ) (kind : Kind) → Stands level front p → Goes p
+    → step level p line ≡ Refused kind → Breaks level front line kind
 step-Breaks level front (Before position) line kind h g e = open-Breaks level front position line (opening_of level line) kind h refl e
 step-Breaks level front (Begun file) line kind h g e = later-Breaks level front file line (later_of line) kind h refl e
 step-Breaks level front (Ended file) line kind h g e = cc
 step-Breaks level front (Refused k) line kind h g e = absurd g
 
 -- the first line that breaks a rule
-found-here : (level : ℕ) (front : List (List ℕ)) (p : Progress) (line : List ℕ) (lines : List (List ℕ)) (q : Progress) → Stands level front p → Goes p → step level p line ≡ q
+found-here : (level : ℕ) (front : List (List ℕ)) (p : Progress) (line : List ℕ) (lines : List (List ℕ)) (q : Progress) → Stands level front p → Goes p
+    → step level p line ≡ q
     → (Goes q → HasBroken level ((front ++ line ∷ []) ++ lines)) → HasBroken level (front ++ line ∷ lines)
 found-here level front p line lines (Before position) h g s next = subst (HasBroken level) (append_assoc front (line ∷ []) lines) (next tt)
 found-here level front p line lines (Begun file) h g s next = subst (HasBroken level) (append_assoc front (line ∷ []) lines) (next tt)
 found-here level front p line lines (Ended file) h g s next = subst (HasBroken level) (append_assoc front (line ∷ []) lines) (next tt)
-found-here level front p line lines (Refused k) h g s next = record { front = front; line = line; rest = lines; kind = k; whole = refl; breaks = step-Breaks level front p line k h g s }
+found-here level front p line lines (Refused k) h g s next = record
+    { front = front; line = line; rest = lines; kind = k; whole = refl; breaks = step-Breaks level front p line k h g s }
 
-find : (level : ℕ) (front : List (List ℕ)) (p : Progress) (lines : List (List ℕ)) (kind : Kind) → Stands level front p → Goes p → progress level p lines ≡ Refused kind → HasBroken level (front ++ lines)
+find : (level : ℕ) (front : List (List ℕ)) (p : Progress) (lines : List (List ℕ)) (kind : Kind) → Stands level front p → Goes p
+    → progress level p lines ≡ Refused kind → HasBroken level (front ++ lines)
 find level front p [] kind h g e = absurd (subst Goes e g)
 find level front p (line ∷ lines) kind h g e =
-    found-here level front p line lines (step level p line) h g refl (λ goes. find level (front ++ line ∷ []) (step level p line) lines kind (step-Stands level front p line h) goes e)
+    found-here level front p line lines (step level p line) h g refl
+    (λ goes. find level (front ++ line ∷ []) (step level p line) lines kind (step-Stands level front p line h) goes e)
 
-decide : (level : ℕ) (lines : List (List ℕ)) (p : Progress) → progress level start lines ≡ p → IsSomeRle level lines ⊎ LacksHeader level lines ⊎ HasBroken level lines
+decide : (level : ℕ) (lines : List (List ℕ)) (p : Progress) → progress level start lines ≡ p → IsSomeRle level lines ⊎ LacksHeader level lines
+    ⊎ HasBroken level lines
 decide level lines (Before position) e = inr (inl (position, subst (Stands level lines) e (lines-Stands level lines)))
 decide level lines (Begun file) e = inl (file, inl (subst (Stands level lines) e (lines-Stands level lines)))
 decide level lines (Ended file) e = inl (file, inr (subst (Stands level lines) e (lines-Stands level lines)))
@@ -162,6 +182,7 @@ pub decided : (level : ℕ) (lines : List (List ℕ))
 decided level lines = (
   decide level lines (progress level start lines) refl,
   λ f h. IsPreamble-refused level lines h.0 h.1 f,
-  λ f b. Breaks-no_more level b.front b.line b.kind b.rest f.0 b.breaks (subst (λ ls. IsRle level ls f.0) (b.whole ∙ sym (append_assoc b.front (b.line ∷ []) b.rest)) f.1),
+  λ f b. Breaks-no_more level b.front b.line b.kind b.rest f.0 b.breaks
+      (subst (λ ls. IsRle level ls f.0) (b.whole ∙ sym (append_assoc b.front (b.line ∷ []) b.rest)) f.1),
   λ h b. let x = IsPreamble-progress level default_position h.0 lines h.1 in let y = broken-progress level lines b in cc,
 )

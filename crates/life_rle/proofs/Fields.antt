@@ -16,12 +16,14 @@ and_no : (b : Bool) → (b && false) ≡ false
 and_no true = refl
 and_no false = refl
 
-pub corner-no_second : (level : ℕ) (z : ℤ) (sx sy : Option ℤ) (f : Field → Result Position Kind) → IsNumberRead level (Some z) sx → IsNumberRead level None sy → and_then (corner_of level sx sy) f ≡ Err BadNumber
+pub corner-no_second : (level : ℕ) (z : ℤ) (sx sy : Option ℤ) (f : Field → Result Position Kind) → IsNumberRead level (Some z) sx → IsNumberRead level None sy
+    → and_then (corner_of level sx sy) f ≡ Err BadNumber
 corner-no_second level z None sy f h k = absurd h
 corner-no_second level z (Some w) None f h k = refl
 corner-no_second level z (Some w) (Some v) f h k = absurd k
 
-pub corner-out : (level : ℕ) (x y : ℤ) (sx sy : Option ℤ) (f : Field → Result Position Kind) → IsNumberRead level (Some x) sx → IsNumberRead level (Some y) sy → (is_coordinate level x && is_coordinate level y) ≡ false → and_then (corner_of level sx sy) f ≡ Err OutOfPlane
+pub corner-out : (level : ℕ) (x y : ℤ) (sx sy : Option ℤ) (f : Field → Result Position Kind) → IsNumberRead level (Some x) sx → IsNumberRead level (Some y) sy
+    → (is_coordinate level x && is_coordinate level y) ≡ false → and_then (corner_of level sx sy) f ≡ Err OutOfPlane
 corner-out level x y None sy f h k e = absurd h
 corner-out level x y (Some w) None f h k e = absurd k
 corner-out level x y (Some w) (Some v) f h k e =
@@ -29,7 +31,8 @@ corner-out level x y (Some w) (Some v) f h k e =
     ∙ ap (λ t. and_then (cond (is_coordinate level x && t) (Ok (Corner w v)) (Err OutOfPlane)) f) k.0
     ∙ ap (λ t. and_then (cond t (Ok (Corner w v)) (Err OutOfPlane)) f) e
 
-pub corner-inside : (level : ℕ) (x y : ℤ) (sx sy : Option ℤ) (f : Field → Result Position Kind) → IsNumberRead level (Some x) sx → IsNumberRead level (Some y) sy → is_coordinate level x ≡ true → is_coordinate level y ≡ true → and_then (corner_of level sx sy) f ≡ f (Corner x y)
+pub corner-inside : (level : ℕ) (x y : ℤ) (sx sy : Option ℤ) (f : Field → Result Position Kind) → IsNumberRead level (Some x) sx
+    → IsNumberRead level (Some y) sy → is_coordinate level x ≡ true → is_coordinate level y ≡ true → and_then (corner_of level sx sy) f ≡ f (Corner x y)
 corner-inside level x y None sy f h k e g = absurd h
 corner-inside level x y (Some w) None f h k e g = absurd k
 corner-inside level x y (Some w) (Some v) f h k e g =
@@ -37,35 +40,44 @@ corner-inside level x y (Some w) (Some v) f h k e g =
     ∙ ap (λ t. and_then (cond t (Ok (Corner w v)) (Err OutOfPlane)) f) (k.0 ∙ g)
     ∙ ap (λ z. f (Corner z v)) (h.1 (h.0 ∙ e)) ∙ ap (λ z. f (Corner x z)) (k.1 (k.0 ∙ g))
 
-pub corner-left : (level : ℕ) (x y : ℤ) (sx sy : Option ℤ) (f : Field → Result Position Kind) → IsNumberRead level (Some x) sx → IsNumberRead level (Some y) sy → is_coordinate level x ≡ false → and_then (corner_of level sx sy) f ≡ Err OutOfPlane
+pub corner-left : (level : ℕ) (x y : ℤ) (sx sy : Option ℤ) (f : Field → Result Position Kind) → IsNumberRead level (Some x) sx → IsNumberRead level (Some y) sy
+    → is_coordinate level x ≡ false → and_then (corner_of level sx sy) f ≡ Err OutOfPlane
 corner-left level x y sx sy f h k e = corner-out level x y sx sy f h k (ap (λ t. t && is_coordinate level y) e)
 
-pub corner-right : (level : ℕ) (x y : ℤ) (sx sy : Option ℤ) (f : Field → Result Position Kind) → IsNumberRead level (Some x) sx → IsNumberRead level (Some y) sy → is_coordinate level y ≡ false → and_then (corner_of level sx sy) f ≡ Err OutOfPlane
+pub corner-right : (level : ℕ) (x y : ℤ) (sx sy : Option ℤ) (f : Field → Result Position Kind) → IsNumberRead level (Some x) sx → IsNumberRead level (Some y) sy
+    → is_coordinate level y ≡ false → and_then (corner_of level sx sy) f ≡ Err OutOfPlane
 corner-right level x y sx sy f h k e = corner-out level x y sx sy f h k (ap (λ t. is_coordinate level x && t) e ∙ and_no (is_coordinate level x))
 
 -- the choice between fields
 abbrev chosen : ℕ → List ℕ → (Field → Result Position Kind) → Bool → Bool → Result Position Kind
-chosen level text f corner generation = and_then (cond corner (corner_in level (drop 4 text)) (cond generation (and_then (u64_of (drop 4 text)) (λ n. Ok (Generation n))) (Ok Other))) f
+chosen level text f corner generation = and_then
+    (cond corner (corner_in level (drop 4 text)) (cond generation (and_then (u64_of (drop 4 text)) (λ n. Ok (Generation n))) (Ok Other))) f
 
-pub field-corner : (level : ℕ) (text : List ℕ) (f : Field → Result Position Kind) → begins_with text (codes "Pos=") ≡ true → and_then (field_of level text) f ≡ and_then (corner_in level (drop 4 text)) f
+pub field-corner : (level : ℕ) (text : List ℕ) (f : Field → Result Position Kind) → begins_with text (codes "Pos=") ≡ true
+    → and_then (field_of level text) f ≡ and_then (corner_in level (drop 4 text)) f
 field-corner level text f e = ap (λ t. chosen level text f t (begins_with text (codes "Gen="))) e
 
-pub field-generation : (level : ℕ) (text : List ℕ) (f : Field → Result Position Kind) → begins_with text (codes "Pos=") ≡ false → begins_with text (codes "Gen=") ≡ true
+pub field-generation : (level : ℕ) (text : List ℕ) (f : Field → Result Position Kind) → begins_with text (codes "Pos=") ≡ false
+    → begins_with text (codes "Gen=") ≡ true
     → and_then (field_of level text) f ≡ and_then (and_then (u64_of (drop 4 text)) (λ n. Ok (Generation n))) f
 field-generation level text f e g = ap (λ t. chosen level text f t (begins_with text (codes "Gen="))) e ∙ ap (chosen level text f false) g
 
 -- one more field
-pub position-step : (level : ℕ) (p p' : Position) (field : List ℕ) (fields : List (List ℕ)) → Ok p' ≡ and_then (field_of level field) (λ found. Ok (with_field p found)) → position_with level p (field ∷ fields) ≡ position_with level p' fields
+pub position-step : (level : ℕ) (p p' : Position) (field : List ℕ) (fields : List (List ℕ))
+    → Ok p' ≡ and_then (field_of level field) (λ found. Ok (with_field p found)) → position_with level p (field ∷ fields) ≡ position_with level p' fields
 position-step level p p' field fields e = step (field_of level field) e
   where
-    step : (f : Result Field Kind) → Ok p' ≡ and_then f (λ found. Ok (with_field p found)) → and_then f (λ found. position_with level (with_field p found) fields) ≡ position_with level p' fields
+    step : (f : Result Field Kind) → Ok p' ≡ and_then f (λ found. Ok (with_field p found))
+        → and_then f (λ found. position_with level (with_field p found) fields) ≡ position_with level p' fields
     step (Ok found) e = let q : with_field p found ≡ p' = cc in ap (λ p. position_with level p fields) q
     step (Err kind) e = cc
 
-pub position-stop : (level : ℕ) (p : Position) (kind : Kind) (field : List ℕ) (fields : List (List ℕ)) → Err kind ≡ and_then (field_of level field) (λ found. Ok (with_field p found)) → position_with level p (field ∷ fields) ≡ Err kind
+pub position-stop : (level : ℕ) (p : Position) (kind : Kind) (field : List ℕ) (fields : List (List ℕ))
+    → Err kind ≡ and_then (field_of level field) (λ found. Ok (with_field p found)) → position_with level p (field ∷ fields) ≡ Err kind
 position-stop level p kind field fields e = step (field_of level field) e
   where
-    step : (f : Result Field Kind) → Err kind ≡ and_then f (λ found. Ok (with_field p found)) → and_then f (λ found. position_with level (with_field p found) fields) ≡ Err kind
+    step : (f : Result Field Kind) → Err kind ≡ and_then f (λ found. Ok (with_field p found))
+        → and_then f (λ found. position_with level (with_field p found) fields) ≡ Err kind
     step (Ok found) e = cc
     step (Err other) e = let q : kind ≡ other = cc in ap Err (sym q)
 

@@ -32,15 +32,18 @@ use Rattle.life_rle.specs.Plane.{most_count}
 abbrev pub Fronts : List ℕ → List Item → Type 0
 Fronts bytes items = (rest : List ℕ) → Spells MAX_LEVEL (bytes ++ rest) items (next_of MAX_LEVEL rest)
 
-Spells-more : (items : List Item) (bytes : List ℕ) (item : Item) (rest : List ℕ) (next : Next) → Spells MAX_LEVEL bytes items next → next ≡ Spelled item rest → Spells MAX_LEVEL bytes (items ++ item ∷ []) (next_of MAX_LEVEL rest)
+Spells-more : (items : List Item) (bytes : List ℕ) (item : Item) (rest : List ℕ) (next : Next) → Spells MAX_LEVEL bytes items next → next ≡ Spelled item rest
+    → Spells MAX_LEVEL bytes (items ++ item ∷ []) (next_of MAX_LEVEL rest)
 Spells-more [] bytes item rest next h e = (rest, h ∙ e, refl)
 Spells-more (i ∷ items) bytes item rest next h e = (h.0, h.1, Spells-more items h.0 item rest next h.2 e)
 
 -- one more item's text
-Fronts-push : StatesReadBack → (rule : Rule) (bytes : List ℕ) (items : List Item) (item : Item) → Fronts bytes items → IsWritten rule item → Fronts (bytes ++ item_text rule item) (items ++ item ∷ [])
+Fronts-push : StatesReadBack → (rule : Rule) (bytes : List ℕ) (items : List Item) (item : Item) → Fronts bytes items → IsWritten rule item
+    → Fronts (bytes ++ item_text rule item) (items ++ item ∷ [])
 Fronts-push states rule bytes items item h w rest =
     subst (λ bs. Spells MAX_LEVEL bs (items ++ item ∷ []) (next_of MAX_LEVEL rest)) (sym (append_assoc bytes (item_text rule item) rest))
-    (Spells-more items (bytes ++ (item_text rule item ++ rest)) item rest (next_of MAX_LEVEL (item_text rule item ++ rest)) (h (item_text rule item ++ rest)) (item_text-Spelled states rule item rest w))
+    (Spells-more items (bytes ++ (item_text rule item ++ rest)) item rest (next_of MAX_LEVEL (item_text rule item ++ rest)) (h (item_text rule item ++ rest))
+    (item_text-Spelled states rule item rest w))
 
 -- a line whose front is no comment's and no header's
 abbrev pub BeginsAsItem : List ℕ → Type 0
@@ -57,9 +60,11 @@ BeginsAsItem-append (b ∷ c ∷ rest) more h = h
 
 -- the choice that a line behind the header makes, by its tests
 abbrev choice : (long blank position comment header : Bool) → Result Later Kind
-choice long blank position comment header = cond long (Err LineTooLong) (cond blank (Ok Passed) (cond position (Err LateHeader) (cond comment (Ok Passed) (cond header (Err SecondHeader) (Ok Data)))))
+choice long blank position comment header = cond long (Err LineTooLong)
+    (cond blank (Ok Passed) (cond position (Err LateHeader) (cond comment (Ok Passed) (cond header (Err SecondHeader) (Ok Data)))))
 
-choice-items : (long blank position comment header : Bool) → long ≡ false → blank ≡ false → position ≡ false → comment ≡ false → header ≡ false → choice long blank position comment header ≡ Ok Data
+choice-items : (long blank position comment header : Bool) → long ≡ false → blank ≡ false → position ≡ false → comment ≡ false → header ≡ false
+    → choice long blank position comment header ≡ Ok Data
 choice-items long blank position comment header a b c d e =
     ap (λ t. choice t blank position comment header) a ∙ ap (λ t. choice false t position comment header) b ∙ ap (λ t. choice false false t comment header) c
     ∙ ap (λ t. choice false false false t header) d ∙ ap (λ t. choice false false false false t) e
@@ -82,7 +87,8 @@ neither : (a b : Bool) → a ≡ false → b ≡ false → (a || b) ≡ false
 neither a b h k = ap (λ t. t || b) h ∙ k
 
 -- no second header
-no_second : (b c : ℕ) (rest : List ℕ) → ((eqb b 120 ≡ false) ⊎ ((eqb c 32 ≡ false) × (eqb c 61 ≡ false))) → (begins_with (b ∷ c ∷ rest) (codes "x ") || begins_with (b ∷ c ∷ rest) (codes "x=")) ≡ false
+no_second : (b c : ℕ) (rest : List ℕ) → ((eqb b 120 ≡ false) ⊎ ((eqb c 32 ≡ false) × (eqb c 61 ≡ false)))
+    → (begins_with (b ∷ c ∷ rest) (codes "x ") || begins_with (b ∷ c ∷ rest) (codes "x=")) ≡ false
 no_second b c rest (inl e) = neither _ _ (begins_other b 120 (c ∷ rest) (32 ∷ []) e) (begins_other b 120 (c ∷ rest) (61 ∷ []) e)
 no_second b c rest (inr e) = neither _ _ (begins_second b c 120 32 rest [] e.0) (begins_second b c 120 61 rest [] e.1)
 
@@ -93,12 +99,15 @@ no_position b line h = false_and (begins_with (b ∷ line) (codes "#CXRLE")) (is
 later_of-items : (line : List ℕ) → BeginsAsItem line → length line ≤ 70 → later_of line ≡ Ok Data
 later_of-items [] h s = absurd h
 later_of-items (b ∷ []) h s =
-    choice-items false (is_blank (b ∷ [])) (is_position_line (b ∷ [])) (begins_with (b ∷ []) (codes "#")) (begins_with (b ∷ []) (codes "x ") || begins_with (b ∷ []) (codes "x="))
-    refl (false_and (is_whitespace b) true h.0) (no_position b [] h.1) (begins_other b 35 [] [] h.1) (neither _ _ (begins_other b 120 [] (32 ∷ []) h.2) (begins_other b 120 [] (61 ∷ []) h.2))
+    choice-items false (is_blank (b ∷ [])) (is_position_line (b ∷ [])) (begins_with (b ∷ []) (codes "#"))
+    (begins_with (b ∷ []) (codes "x ") || begins_with (b ∷ []) (codes "x="))
+    refl (false_and (is_whitespace b) true h.0) (no_position b [] h.1) (begins_other b 35 [] [] h.1)
+    (neither _ _ (begins_other b 120 [] (32 ∷ []) h.2) (begins_other b 120 [] (61 ∷ []) h.2))
 later_of-items (b ∷ c ∷ rest) h s =
     let line = b ∷ c ∷ rest in
     let short : ltb (2 ^ 20) (length line) ≡ false = grind (arith, nat_tests) in
-    choice-items (ltb (2 ^ 20) (length line)) (is_blank line) (is_position_line line) (begins_with line (codes "#")) (begins_with line (codes "x ") || begins_with line (codes "x="))
+    choice-items (ltb (2 ^ 20) (length line)) (is_blank line) (is_position_line line) (begins_with line (codes "#"))
+    (begins_with line (codes "x ") || begins_with line (codes "x="))
     short (false_and (is_whitespace b) (is_blank (c ∷ rest)) h.0) (no_position b (c ∷ rest) h.1) (begins_other b 35 (c ∷ rest) [] h.1) (no_second b c rest h.2)
 
 -- items that can be written
@@ -116,20 +125,24 @@ BeginsAsItem-digits (d ∷ digits) tag h = BeginsAsItem-digit d (digits ++ tag) 
 
 BeginsAsItem-count : (n : ℕ) (tag : List ℕ) → n ≤ most_count MAX_LEVEL → BeginsAsItem tag → BeginsAsItem (count_text n ++ tag)
 BeginsAsItem-count n tag high h =
-    elim (eqb n 1) as (λ t. BeginsAsItem (cond t [] (decimal n) ++ tag)) [ true ↦ h | false ↦ BeginsAsItem-digits (decimal n) tag (decimal-is_digit_text n (omega arith)) ]
+    elim (eqb n 1) as (λ t. BeginsAsItem (cond t [] (decimal n) ++ tag))
+    [ true ↦ h | false ↦ BeginsAsItem-digits (decimal n) tag (decimal-is_digit_text n (omega arith)) ]
 
 lettered-BeginsAsItem : (state : ℕ) → is_state_of (Named []) state ≡ true → BeginsAsItem (lettered state)
 lettered-BeginsAsItem state h =
-    elim (eqb state 0) as (λ t. BeginsAsItem (cond t (46 ∷ []) (cond (leb state 24) ((64 + state) ∷ []) ((111 + (state - 1) / 24) ∷ (65 + (state - 1) % 24) ∷ [])))) [
+    elim (eqb state 0) as (λ t. BeginsAsItem
+    (cond t (46 ∷ []) (cond (leb state 24) ((64 + state) ∷ []) ((111 + (state - 1) / 24) ∷ (65 + (state - 1) % 24) ∷ [])))) [
       | true ↦ (refl, refl, refl)
-      | false ↦ elim (leb state 24) as (λ t. leb state 24 ≡ t → BeginsAsItem (cond t ((64 + state) ∷ []) ((111 + (state - 1) / 24) ∷ (65 + (state - 1) % 24) ∷ []))) [
-        | true ↦ λ e. (grind (arith, nat_tests), grind (arith, nat_tests), grind (arith, nat_tests))
-        | false ↦ λ e. (grind (arith, nat_tests), grind (arith, nat_tests), inr (grind (arith, nat_tests), grind (arith, nat_tests)))
-      ] refl
+      | false ↦ elim (leb state 24) as
+          (λ t. leb state 24 ≡ t → BeginsAsItem (cond t ((64 + state) ∷ []) ((111 + (state - 1) / 24) ∷ (65 + (state - 1) % 24) ∷ []))) [
+            | true ↦ λ e. (grind (arith, nat_tests), grind (arith, nat_tests), grind (arith, nat_tests))
+            | false ↦ λ e. (grind (arith, nat_tests), grind (arith, nat_tests), inr (grind (arith, nat_tests), grind (arith, nat_tests)))
+          ] refl
     ]
 
 state_text-BeginsAsItem : (rule : Rule) (state : ℕ) → is_state_of rule state ≡ true → BeginsAsItem (state_text rule state)
-state_text-BeginsAsItem (Life sets) state h = elim (eqb state 0) as (λ t. BeginsAsItem (cond t 98 111 ∷ [])) [ true ↦ (refl, refl, refl) | false ↦ (refl, refl, refl) ]
+state_text-BeginsAsItem (Life sets) state h = elim (eqb state 0) as (λ t. BeginsAsItem (cond t 98 111 ∷ []))
+    [ true ↦ (refl, refl, refl) | false ↦ (refl, refl, refl) ]
 state_text-BeginsAsItem (Named name) state h = lettered-BeginsAsItem state h
 
 -- an item's text begins as an item's, and is short
@@ -138,13 +151,16 @@ item_text-BeginsAsItem rule (Cells n s) h = BeginsAsItem-count n (state_text rul
 item_text-BeginsAsItem rule (RowEnds n) h = BeginsAsItem-count n (36 ∷ []) h.1 (refl, refl, refl)
 
 count_text-short : (n : ℕ) → n ≤ most_count MAX_LEVEL → length (count_text n) ≤ 20
-count_text-short n high = elim (eqb n 1) as (λ t. length (cond t [] (decimal n)) ≤ 20) [ true ↦ omega arith | false ↦ length-decimal-le 20 n (omega arith) (omega arith) (omega arith) ]
+count_text-short n high = elim (eqb n 1) as (λ t. length (cond t [] (decimal n)) ≤ 20)
+    [ true ↦ omega arith | false ↦ length-decimal-le 20 n (omega arith) (omega arith) (omega arith) ]
 
 lettered-short : (state : ℕ) → length (lettered state) ≤ 2
 lettered-short state =
-    elim (eqb state 0) as (λ t. length (cond t (46 ∷ []) (cond (leb state 24) ((64 + state) ∷ []) ((111 + (state - 1) / 24) ∷ (65 + (state - 1) % 24) ∷ []))) ≤ 2) [
+    elim (eqb state 0) as (λ t. length (cond t (46 ∷ []) (cond (leb state 24) ((64 + state) ∷ []) ((111 + (state - 1) / 24) ∷ (65 + (state - 1) % 24) ∷ [])))
+    ≤ 2) [
       | true ↦ omega arith
-      | false ↦ elim (leb state 24) as (λ t. length (cond t ((64 + state) ∷ []) ((111 + (state - 1) / 24) ∷ (65 + (state - 1) % 24) ∷ [])) ≤ 2) [ true ↦ omega arith | false ↦ omega arith ]
+      | false ↦ elim (leb state 24) as (λ t. length (cond t ((64 + state) ∷ []) ((111 + (state - 1) / 24) ∷ (65 + (state - 1) % 24) ∷ [])) ≤ 2)
+          [ true ↦ omega arith | false ↦ omega arith ]
     ]
 
 pub state_text-short : (rule : Rule) (state : ℕ) → length (state_text rule state) ≤ 2
@@ -172,24 +188,33 @@ Starts-full line now n (inr s) h e = s
 Starts-full line now n (inl z) h e = let none : length line ≡ 0 = ap length z.0 in absurd (grind (arith, nat_tests))
 
 -- a full line is read
-full-IsUnmarked : (front : List (List ℕ)) (file : Rle) (line : List ℕ) (now : List Item) → IsUnmarked MAX_LEVEL front file → Fronts line now → BeginsAsItem line → length line ≤ 70 → first_fault MAX_LEVEL file.rule (placed_behind file.position file.items now) ≡ None → IsUnmarked MAX_LEVEL (front ++ line ∷ []) (with_items file now)
+full-IsUnmarked : (front : List (List ℕ)) (file : Rle) (line : List ℕ) (now : List Item) → IsUnmarked MAX_LEVEL front file → Fronts line now → BeginsAsItem line
+    → length line ≤ 70 → first_fault MAX_LEVEL file.rule (placed_behind file.position file.items now) ≡ None
+    → IsUnmarked MAX_LEVEL (front ++ line ∷ []) (with_items file now)
 full-IsUnmarked front file line now begun h start short sound =
-    IsUnmarked-push MAX_LEVEL front file line now begun (inr (later_of-items line start short, subst (λ bs. Spells MAX_LEVEL bs now End) (append-nil line) (h []))) sound
+    IsUnmarked-push MAX_LEVEL front file line now begun
+    (inr (later_of-items line start short, subst (λ bs. Spells MAX_LEVEL bs now End) (append-nil line) (h []))) sound
 
-last-IsMarked : (front : List (List ℕ)) (file : Rle) (line : List ℕ) (now : List Item) → IsUnmarked MAX_LEVEL front file → Fronts line now → Starts line now → length line + 1 ≤ 70 → first_fault MAX_LEVEL file.rule (placed_behind file.position file.items now) ≡ None → IsMarked MAX_LEVEL (front ++ (line ++ 33 ∷ []) ∷ []) (with_items file now)
+last-IsMarked : (front : List (List ℕ)) (file : Rle) (line : List ℕ) (now : List Item) → IsUnmarked MAX_LEVEL front file → Fronts line now → Starts line now
+    → length line + 1 ≤ 70 → first_fault MAX_LEVEL file.rule (placed_behind file.position file.items now) ≡ None
+    → IsMarked MAX_LEVEL (front ++ (line ++ 33 ∷ []) ∷ []) (with_items file now)
 last-IsMarked front file line now begun h start short sound =
     let size = length-append line (33 ∷ []) in
-    IsMarked-begun MAX_LEVEL front file (line ++ 33 ∷ []) now begun (inr (later_of-items (line ++ 33 ∷ []) (Starts-append line (33 ∷ []) now start (refl, refl, refl)) (omega (arith, size)), h (33 ∷ []))) sound
+    IsMarked-begun MAX_LEVEL front file (line ++ 33 ∷ []) now begun
+    (inr (later_of-items (line ++ 33 ∷ []) (Starts-append line (33 ∷ []) now start (refl, refl, refl)) (omega (arith, size)), h (33 ∷ []))) sound
 
 -- each wrapped line is read, and the mark ends the last
-pub wrapped-IsMarked : StatesReadBack → (front : List (List ℕ)) (file : Rle) (line : List ℕ) (now items : List Item) → IsUnmarked MAX_LEVEL front file → Fronts line now → Starts line now → length line ≤ 70 → AreWritten file.rule items
+pub wrapped-IsMarked : StatesReadBack → (front : List (List ℕ)) (file : Rle) (line : List ℕ) (now items : List Item) → IsUnmarked MAX_LEVEL front file
+    → Fronts line now → Starts line now → length line ≤ 70 → AreWritten file.rule items
     → first_fault MAX_LEVEL file.rule (placed_behind file.position file.items (now ++ items)) ≡ None
     → IsMarked MAX_LEVEL (front ++ wrapped line (map (item_text file.rule) items ++ (33 ∷ []) ∷ [])) (with_items file (now ++ items))
 wrapped-IsMarked states front file line now [] begun h start short w sound =
     let only : now ++ [] ≡ now = append-nil now in
-    let sound' : first_fault MAX_LEVEL file.rule (placed_behind file.position file.items now) ≡ None = subst (λ xs. first_fault MAX_LEVEL file.rule (placed_behind file.position file.items xs) ≡ None) only sound in
+    let sound' : first_fault MAX_LEVEL file.rule (placed_behind file.position file.items now)
+    ≡ None = subst (λ xs. first_fault MAX_LEVEL file.rule (placed_behind file.position file.items xs) ≡ None) only sound in
     subst (λ xs. IsMarked MAX_LEVEL (front ++ wrapped line ((33 ∷ []) ∷ [])) (with_items file xs)) (sym only)
-    (elim (leb (length line + 1) 70) as (λ t. leb (length line + 1) 70 ≡ t → IsMarked MAX_LEVEL (front ++ cond t ((line ++ 33 ∷ []) ∷ []) (line ∷ (33 ∷ []) ∷ [])) (with_items file now)) [
+    (elim (leb (length line + 1) 70)
+    as (λ t. leb (length line + 1) 70 ≡ t → IsMarked MAX_LEVEL (front ++ cond t ((line ++ 33 ∷ []) ∷ []) (line ∷ (33 ∷ []) ∷ [])) (with_items file now)) [
       | true ↦ λ e. last-IsMarked front file line now begun h start (grind (arith, nat_tests)) sound'
       | false ↦ λ e.
           let full = full-IsUnmarked front file line now begun h (Starts-full line now 1 start (omega arith) e) short sound' in
@@ -204,7 +229,9 @@ wrapped-IsMarked states front file line now (item ∷ items) begun h start short
     let size = length-append line text in
     let group : (now ++ item ∷ []) ++ items ≡ now ++ item ∷ items = append_assoc now (item ∷ []) items in
     let parts = fault-parts MAX_LEVEL file now (item ∷ items) sound in
-    elim (leb (length line + length text) 70) as (λ t. leb (length line + length text) 70 ≡ t → IsMarked MAX_LEVEL (front ++ cond t (wrapped (line ++ text) texts) (line ∷ wrapped text texts)) (with_items file (now ++ item ∷ items))) [
+    elim (leb (length line + length text) 70)
+    as (λ t. leb (length line + length text) 70 ≡ t → IsMarked MAX_LEVEL (front ++ cond t (wrapped (line ++ text) texts) (line ∷ wrapped text texts))
+    (with_items file (now ++ item ∷ items))) [
       | true ↦ λ e.
           subst (λ xs. IsMarked MAX_LEVEL (front ++ wrapped (line ++ text) texts) (with_items file xs)) group
           (wrapped-IsMarked states front file (line ++ text) (now ++ item ∷ []) items begun (Fronts-push states rule line now item h w.0)
@@ -214,6 +241,7 @@ wrapped-IsMarked states front file line now (item ∷ items) begun h start short
           let full = full-IsUnmarked front file line now begun h (Starts-full line now (length text) start (item_text-short rule item w.0) e) short parts.0 in
           subst (λ ls. IsMarked MAX_LEVEL ls (with_items file (now ++ item ∷ items))) (append_assoc front (line ∷ []) (wrapped text texts))
           (subst (IsMarked MAX_LEVEL ((front ++ line ∷ []) ++ wrapped text texts)) (with_items-twice file now (item ∷ items))
-          (wrapped-IsMarked states (front ++ line ∷ []) (with_items file now) text (item ∷ []) items full (Fronts-push states rule [] [] item (λ rest. refl) w.0)
+          (wrapped-IsMarked states (front ++ line ∷ []) (with_items file now) text (item ∷ []) items full
+          (Fronts-push states rule [] [] item (λ rest. refl) w.0)
           (inr (item_text-BeginsAsItem rule item w.0)) (item_text-short rule item w.0) w.1 parts.1))
     ] refl

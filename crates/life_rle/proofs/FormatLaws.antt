@@ -38,7 +38,8 @@ broken-somewhere level lines b u =
     let fore : take n lines ≡ b.front = ap (take n) b.whole ∙ take-append_seam b.front (b.line ∷ b.rest) in
     let here : get_or lines n [] ≡ b.line = ap (λ (ls : List (List ℕ)). get_or ls n []) b.whole ∙ get_or-append_seam b.front b.line b.rest [] in
     u n b.kind (omega (arith, long))
-    (subst (λ (f : List (List ℕ)). Breaks level f (get_or lines n []) b.kind) (sym fore) (subst (λ (l : List ℕ). Breaks level b.front l b.kind) (sym here) b.breaks))
+    (subst (λ (f : List (List ℕ)). Breaks level f (get_or lines n []) b.kind) (sym fore)
+    (subst (λ (l : List ℕ). Breaks level b.front l b.kind) (sym here) b.breaks))
 
 unbroken-front : (level : ℕ) (lines : List (List ℕ)) → AreUnbroken level lines → Prefix (IsSomeRle level) lines
 unbroken-front level lines u = by (decided level lines).0

@@ -44,7 +44,8 @@ front-broken level lines p b =
     Breaks-no_prefix level b.front b.line b.kind b.breaks
     (fronts_of_fronts level (b.front ++ b.line ∷ []) b.rest (subst (Prefix (IsSomeRle level)) (b.whole ∙ sym (append_assoc b.front (b.line ∷ []) b.rest)) p))
 
-front-file : (level : ℕ) (lines : List (List ℕ)) → Prefix (IsSomeRle level) lines → IsSomeRle level lines ⊎ LacksHeader level lines ⊎ HasBroken level lines → IsSomeRle level lines ⊎ LacksHeader level lines
+front-file : (level : ℕ) (lines : List (List ℕ)) → Prefix (IsSomeRle level) lines → IsSomeRle level lines ⊎ LacksHeader level lines ⊎ HasBroken level lines
+    → IsSomeRle level lines ⊎ LacksHeader level lines
 front-file level lines p (inl f) = inl f
 front-file level lines p (inr (inl h)) = inr h
 front-file level lines p (inr (inr b)) = absurd (front-broken level lines p b)
@@ -71,7 +72,8 @@ refused-by false = refl
 bracket-refused : (level : ℕ) (rest : List ℕ) → opening_of level (91 ∷ rest) ≡ Err (if is_too_long (91 ∷ rest) then LineTooLong else NoHeader)
 bracket-refused level rest = refused-by (is_too_long (91 ∷ rest))
 
-macrocell-refused : (level : ℕ) (line : List ℕ) → begins_with line (codes "[M2]") ≡ true → opening_of level line ≡ Err (if is_too_long line then LineTooLong else NoHeader)
+macrocell-refused : (level : ℕ) (line : List ℕ) → begins_with line (codes "[M2]") ≡ true
+    → opening_of level line ≡ Err (if is_too_long line then LineTooLong else NoHeader)
 macrocell-refused level [] h = cc
 macrocell-refused level (b ∷ rest) h =
     let P : ℕ → Type 0 = λ c. opening_of level (c ∷ rest) ≡ Err (if is_too_long (c ∷ rest) then LineTooLong else NoHeader) in
@@ -80,7 +82,8 @@ macrocell-refused level (b ∷ rest) h =
 pub macrocell_line_breaks : MacrocellLineBreaks
 macrocell_line_breaks level line h = before_header default_position refl (macrocell-refused level line h)
 
-first-refused : (level : ℕ) (line : List ℕ) (lines : List (List ℕ)) (kind : Kind) → opening_of level line ≡ Err kind → Prefix (IsSomeRle level) (line ∷ lines) → ⊥
+first-refused : (level : ℕ) (line : List ℕ) (lines : List (List ℕ)) (kind : Kind) → opening_of level line ≡ Err kind → Prefix (IsSomeRle level) (line ∷ lines)
+    → ⊥
 first-refused level line lines kind e p =
     let refused = ap (λ r. progress level (open_step default_position r) lines) e ∙ progress-Refused level kind lines in
     subst Goes refused (Prefix-Goes level (line ∷ lines) p)

@@ -60,23 +60,29 @@ not_twice : (row column x y : ℤ) (n : ℕ) → among row column n x y ≡ true
 not_twice row column x y n h (inl k) = let a = among-place row column x y n h in omega (arith, ints, a.0, k)
 not_twice row column x y n h (inr k) = let a = among-place row column x y n h in omega (arith, ints, a.2, k.1)
 
-first-alone : (level : ℕ) (rule : Rule) (left column row : ℤ) (item : Item) (items : List Item) (j : ℕ) (p q : Placed) (x y : ℤ) → Good level rule left column row (item ∷ items)
+first-alone : (level : ℕ) (rule : Rule) (left column row : ℤ) (item : Item) (items : List Item) (j : ℕ) (p q : Placed) (x y : ℤ)
+    → Good level rule left column row (item ∷ items)
     → slice_get (placed_from left column row (item ∷ items)) zero ≡ Some p → slice_get (placed_from left column row (item ∷ items)) (suc j) ≡ Some q
     → covers p x y ≡ true → covers q x y ≡ true → ⊥
 first-alone level rule left column row (Cells n s) items j p q x y g e f h k =
     not_twice row column x y n (first-covers (record { row = row; column = column; item = Cells n s }) p x y e h)
     (covers-place level rule left (column +ℤ pos n) row items j q x y g.4 f k)
-first-alone level rule left column row (RowEnds n) items j p q x y g e f h k = no (first-covers (record { row = row; column = column; item = RowEnds n }) p x y e h)
+first-alone level rule left column row (RowEnds n) items j p q x y g e f h k = no
+    (first-covers (record { row = row; column = column; item = RowEnds n }) p x y e h)
 
 apart-from : (level : ℕ) (rule : Rule) (left column row : ℤ) (items : List Item) (i j : ℕ) (p q : Placed) (x y : ℤ) → Good level rule left column row items
     → slice_get (placed_from left column row items) i ≡ Some p → slice_get (placed_from left column row items) j ≡ Some q
     → covers p x y ≡ true → covers q x y ≡ true → i ≡ j
 apart-from level rule left column row [] i j p q x y g e f h k = cc
 apart-from level rule left column row (item ∷ items) zero zero p q x y g e f h k = refl
-apart-from level rule left column row (item ∷ items) zero (suc j) p q x y g e f h k = absurd (first-alone level rule left column row item items j p q x y g e f h k)
-apart-from level rule left column row (item ∷ items) (suc i) zero p q x y g e f h k = absurd (first-alone level rule left column row item items i q p x y g f e k h)
-apart-from level rule left column row (Cells n s ∷ items) (suc i) (suc j) p q x y g e f h k = ap suc (apart-from level rule left (column +ℤ pos n) row items i j p q x y g.4 e f h k)
-apart-from level rule left column row (RowEnds n ∷ items) (suc i) (suc j) p q x y g e f h k = ap suc (apart-from level rule left left (row +ℤ pos n) items i j p q x y g.1 e f h k)
+apart-from level rule left column row (item ∷ items) zero (suc j) p q x y g e f h k = absurd
+    (first-alone level rule left column row item items j p q x y g e f h k)
+apart-from level rule left column row (item ∷ items) (suc i) zero p q x y g e f h k = absurd
+    (first-alone level rule left column row item items i q p x y g f e k h)
+apart-from level rule left column row (Cells n s ∷ items) (suc i) (suc j) p q x y g e f h k = ap suc
+    (apart-from level rule left (column +ℤ pos n) row items i j p q x y g.4 e f h k)
+apart-from level rule left column row (RowEnds n ∷ items) (suc i) (suc j) p q x y g e f h k = ap suc
+    (apart-from level rule left left (row +ℤ pos n) items i j p q x y g.1 e f h k)
 
 coordinate : (e z : ℤ) → neg_ℤ e ≤ℤ z → z <ℤ e → (int_le (neg_ℤ e) z && int_lt z e) ≡ true
 coordinate e z h k = grind (arith, ints)
@@ -135,6 +141,7 @@ items_are_cells level lines file r =
     record {
       apart = λ i j p q x y e f. apart-from level file.rule o.x o.x o.y file.items i j p q x y good (at i p e) (at j q f);
       inside = λ i p x y e. inside-from level file.rule o.x o.x o.y file.items i p x y left left top good (at i p e);
-      covered = λ i p x y e h. ap (λ (ps : List Placed). cell_among ps x y) from ∙ covered-from level file.rule o.x o.x o.y file.items i p x y good (at i p e) h;
+      covered = λ i p x y e h. ap (λ (ps : List Placed). cell_among ps x y) from ∙ covered-from level file.rule o.x o.x o.y file.items i p x y good (at i p e)
+          h;
       bare = λ x y h. bare-among (placed file) x y h;
     }

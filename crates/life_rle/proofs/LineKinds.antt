@@ -62,7 +62,8 @@ IsTameOpening level long (Ok (Header rule)) = Unit {0}
 IsTameOpening level long (Err kind) = IsLineKind long kind
 
 opening-choice : (level : ℕ) (long blank position comment header : Bool) (p h : Result Opening Kind) → IsTameOpening level long p → IsTameOpening level long h
-    → IsTameOpening level long (cond long (Err LineTooLong) (cond blank (Ok Comment) (cond position p (cond comment (Ok Comment) (cond header h (Err NoHeader))))))
+    → IsTameOpening level long (cond long (Err LineTooLong)
+    (cond blank (Ok Comment) (cond position p (cond comment (Ok Comment) (cond header h (Err NoHeader))))))
 opening-choice level true b c d e p h tp th = refl
 opening-choice level false true c d e p h tp th = tt
 opening-choice level false false true d e p h tp th = tp
@@ -70,7 +71,8 @@ opening-choice level false false false true e p h tp th = tt
 opening-choice level false false false false true p h tp th = th
 opening-choice level false false false false false p h tp th = refl
 
-position-tame : (level : ℕ) (long : Bool) (r : Result Position Kind) → IsPlanePosition level r → IsTameOpening level long (and_then r (λ position. Ok (PositionLine position)))
+position-tame : (level : ℕ) (long : Bool) (r : Result Position Kind) → IsPlanePosition level r
+    → IsTameOpening level long (and_then r (λ position. Ok (PositionLine position)))
 position-tame level long (Ok o) h = h
 position-tame level long (Err kind) h = short-line long kind h
 
@@ -82,7 +84,8 @@ pub opening-tame : (level : ℕ) (line : List ℕ) → IsTameOpening level (is_t
 opening-tame level line =
     opening-choice level (is_too_long line) (is_blank line) (is_position_line line) (begins_with line (codes "#")) (begins_with line (codes "x"))
     (and_then (position_of level line) (λ position. Ok (PositionLine position))) (and_then (header_of line) (λ rule. Ok (Header rule)))
-    (position-tame level (is_too_long line) (position_of level line) (position_of-plane level line)) (header-tame level (is_too_long line) (header_of line) (header-kind (header_form line)))
+    (position-tame level (is_too_long line) (position_of level line) (position_of-plane level line))
+    (header-tame level (is_too_long line) (header_of line) (header-kind (header_form line)))
 
 -- what a line is behind the header, by whether it is too long
 abbrev IsTameLater : Bool → Result Later Kind → Type 0
@@ -90,7 +93,8 @@ IsTameLater long (Ok later) = Unit {0}
 IsTameLater long (Err kind) = IsLineKind long kind
 
 later-choice : (long blank position comment header : Bool)
-    → IsTameLater long (cond long (Err LineTooLong) (cond blank (Ok Passed) (cond position (Err LateHeader) (cond comment (Ok Passed) (cond header (Err SecondHeader) (Ok Data))))))
+    → IsTameLater long (cond long (Err LineTooLong)
+    (cond blank (Ok Passed) (cond position (Err LateHeader) (cond comment (Ok Passed) (cond header (Err SecondHeader) (Ok Data))))))
 later-choice true b c d e = refl
 later-choice false true c d e = tt
 later-choice false false true d e = refl
@@ -99,7 +103,8 @@ later-choice false false false false true = refl
 later-choice false false false false false = tt
 
 later-tame : (line : List ℕ) → IsTameLater (is_too_long line) (later_of line)
-later-tame line = later-choice (is_too_long line) (is_blank line) (is_position_line line) (begins_with line (codes "#")) (begins_with line (codes "x ") || begins_with line (codes "x="))
+later-tame line = later-choice (is_too_long line) (is_blank line) (is_position_line line) (begins_with line (codes "#"))
+    (begins_with line (codes "x ") || begins_with line (codes "x="))
 
 text-kind : (level : ℕ) (items : List Item) (bytes : List ℕ) (kind : Kind) → Spells level bytes items (Broken kind) → is_short_kind kind ≡ true
 text-kind level [] bytes kind h = Broken-kind level bytes kind h
@@ -116,7 +121,8 @@ cells-choice false false = refl
 
 item-kind : (level : ℕ) (rule : Rule) (row column : ℤ) (item : Item) → IsLive (item_fault level rule row column item)
 item-kind level rule row column (Cells n s) = cells-choice (not (is_state_of rule s)) (int_lt row (edge level) && int_le (column +ℤ pos n) (edge level))
-item-kind level rule row column (RowEnds n) = elim (int_le (row +ℤ pos n) (edge level)) as (λ t. IsLive (cond t None (Some OutOfPlane))) [ true ↦ tt | false ↦ refl ]
+item-kind level rule row column (RowEnds n) = elim (int_le (row +ℤ pos n) (edge level)) as (λ t. IsLive (cond t None (Some OutOfPlane)))
+    [ true ↦ tt | false ↦ refl ]
 
 Breaks-line_kind : (level : ℕ) (front : List (List ℕ)) (line : List ℕ) (kind : Kind) → Breaks level front line kind → IsLineKind (is_too_long line) kind
 Breaks-line_kind level front line kind (before_header o h e) = subst (IsTameOpening level (is_too_long line)) e (opening-tame level line)
@@ -124,7 +130,8 @@ Breaks-line_kind level front line kind (by_form file h e) = subst (IsTameLater (
 Breaks-line_kind level front line kind (by_text file items h form s sound) = short-line (is_too_long line) kind (text-kind level items line kind s)
 Breaks-line_kind level front line kind (by_item file items item rest h form s sound fault) =
     short-line (is_too_long line) kind
-    (subst IsLive fault (item-kind level file.rule (file.position.y +ℤ pos (rows_in (file.items ++ items))) (file.position.x +ℤ pos (columns_in (file.items ++ items))) item))
+    (subst IsLive fault (item-kind level file.rule (file.position.y +ℤ pos (rows_in (file.items ++ items)))
+    (file.position.x +ℤ pos (columns_in (file.items ++ items))) item))
 
 pub Breaks-kind : (level : ℕ) (front : List (List ℕ)) (line : List ℕ) (kind : Kind) → Breaks level front line kind → is_rle_kind kind ≡ true
 Breaks-kind level front line kind b = line-rle (is_too_long line) kind (Breaks-line_kind level front line kind b)

@@ -48,7 +48,8 @@ lettered-one_line n =
       | true ↦ refl
       | false ↦ elim (leb n 24) as (λ t. is_one_line (cond t ((64 + n) ∷ []) ((111 + (n - 1) / 24) ∷ (65 + (n - 1) % 24) ∷ [])) ≡ true) [
         | true ↦ ap (λ t. t && true) (above-inner 64 n (omega arith))
-        | false ↦ ap (λ t. t && (not (eqb (65 + (n - 1) % 24) 10) && true)) (above-inner 111 ((n - 1) / 24) (omega arith)) ∙ ap (λ t. t && true) (above-inner 65 ((n - 1) % 24) (omega arith))
+        | false ↦ ap (λ t. t && (not (eqb (65 + (n - 1) % 24) 10) && true)) (above-inner 111 ((n - 1) / 24) (omega arith))
+            ∙ ap (λ t. t && true) (above-inner 65 ((n - 1) % 24) (omega arith))
       ]
     ]
 

@@ -37,7 +37,8 @@ columns_in-cond false m k n = omega arith
 pub columns_in-Cells : (before : List Item) (n s : ℕ) → columns_in (before ++ Cells n s ∷ []) ≡ columns_in before + n
 columns_in-Cells [] n s = omega arith
 columns_in-Cells (Cells m t ∷ before) n s =
-    let test : list_any is_row_end (before ++ Cells n s ∷ []) ≡ list_any is_row_end before = list_any-append is_row_end before (Cells n s ∷ []) ∙ or_false (list_any is_row_end before) in
+    let test : list_any is_row_end (before ++ Cells n s ∷ []) ≡ list_any is_row_end before = list_any-append is_row_end before (Cells n s ∷ [])
+    ∙ or_false (list_any is_row_end before) in
     ap (λ b. cond b (columns_in (before ++ Cells n s ∷ [])) (m + columns_in (before ++ Cells n s ∷ []))) test
     ∙ ap (λ k. cond (list_any is_row_end before) k (m + k)) (columns_in-Cells before n s)
     ∙ columns_in-cond (list_any is_row_end before) m (columns_in before) n
@@ -46,7 +47,8 @@ columns_in-Cells (RowEnds m ∷ before) n s = columns_in-Cells before n s
 pub columns_in-RowEnds : (before : List Item) (n : ℕ) → columns_in (before ++ RowEnds n ∷ []) ≡ 0
 columns_in-RowEnds [] n = refl
 columns_in-RowEnds (Cells m t ∷ before) n =
-    let test : list_any is_row_end (before ++ RowEnds n ∷ []) ≡ true = list_any-append is_row_end before (RowEnds n ∷ []) ∙ or_true (list_any is_row_end before) in
+    let test : list_any is_row_end (before ++ RowEnds n ∷ []) ≡ true = list_any-append is_row_end before (RowEnds n ∷ [])
+    ∙ or_true (list_any is_row_end before) in
     ap (λ b. cond b (columns_in (before ++ RowEnds n ∷ [])) (m + columns_in (before ++ RowEnds n ∷ []))) test
     ∙ columns_in-RowEnds before n
 columns_in-RowEnds (RowEnds m ∷ before) n = columns_in-RowEnds before n
@@ -58,7 +60,8 @@ placed_from left column row (Cells n s ∷ items) = record { row = row; column =
 placed_from left column row (RowEnds n ∷ items) = record { row = row; column = column; item = RowEnds n } ∷ placed_from left left (row +ℤ pos n) items
 
 -- the running places are those of the sums
-pub placed_behind-from : (position : Position) (before items : List Item) → placed_behind position before items ≡ placed_from position.x (position.x +ℤ pos (columns_in before)) (position.y +ℤ pos (rows_in before)) items
+pub placed_behind-from : (position : Position) (before items : List Item) → placed_behind position before items ≡ placed_from position.x
+    (position.x +ℤ pos (columns_in before)) (position.y +ℤ pos (rows_in before)) items
 placed_behind-from position before [] = refl
 placed_behind-from position before (Cells n s ∷ items) =
     ap (λ ps. placed_item position before (Cells n s) ∷ ps) (placed_behind-from position (before ++ Cells n s ∷ []) items

@@ -33,10 +33,12 @@ next_of-place : (level : ℕ) (bytes : List ℕ) → HasItemPlace bytes → next
 next_of-place level [] h = absurd h
 next_of-place level (b ∷ bytes) h =
     let all = b ∷ bytes in
-    let other : eqb b 33 ≡ false = elim (eqb b 33) as (λ t. eqb b 33 ≡ t → t ≡ false) [ true ↦ λ e. absurd (h.1 (grind (arith, nat_tests, e))) | false ↦ λ _. refl ] refl in
+    let other : eqb b 33 ≡ false = elim (eqb b 33) as (λ t. eqb b 33 ≡ t → t ≡ false)
+    [ true ↦ λ e. absurd (h.1 (grind (arith, nat_tests, e))) | false ↦ λ _. refl ] refl in
     ap (item_in level) (ap (λ t. cond t (trim_start bytes) all) h.0) ∙ ap (λ t. cond t Mark (counted level (front_digits all) (behind_digits all))) other
 
-next_of-counted : (level : ℕ) (digits rest bytes : List ℕ) → HasItemPlace bytes → bytes ≡ digits ++ rest → list_all is_ascii_digit digits ≡ true → HasNoDigit rest → next_of level bytes ≡ counted level digits rest
+next_of-counted : (level : ℕ) (digits rest bytes : List ℕ) → HasItemPlace bytes → bytes ≡ digits ++ rest → list_all is_ascii_digit digits ≡ true
+    → HasNoDigit rest → next_of level bytes ≡ counted level digits rest
 next_of-counted level digits rest bytes place e h s =
     next_of-place level bytes place
     ∙ ap (λ (t : List ℕ). counted level (front_digits t) (behind_digits t)) e
@@ -50,13 +52,15 @@ counted-zero level (d ∷ digits) rest h v =
     let e : eqb n 0 ≡ true = grind (arith, nat_tests, v) in
     ap (λ t. cond t (Broken ZeroCount) (cond (ltb (most_count level) n) (Broken TooLarge) (item_behind n rest))) e
 
-counted-large : (level : ℕ) (digits rest : List ℕ) → is_digit_text digits ≡ true → most_count level < value_of digits → counted level digits rest ≡ Broken TooLarge
+counted-large : (level : ℕ) (digits rest : List ℕ) → is_digit_text digits ≡ true → most_count level < value_of digits
+    → counted level digits rest ≡ Broken TooLarge
 counted-large level [] rest h v = cc
 counted-large level (d ∷ digits) rest h v =
     let n = value_of (d ∷ digits) in
     let e : eqb n 0 ≡ false = grind (arith, nat_tests, v) in
     let f : ltb (most_count level) n ≡ true = grind (arith, nat_tests, v) in
-    ap (λ t. cond t (Broken ZeroCount) (cond (ltb (most_count level) n) (Broken TooLarge) (item_behind n rest))) e ∙ ap (λ t. cond t (Broken TooLarge) (item_behind n rest)) f
+    ap (λ t. cond t (Broken ZeroCount) (cond (ltb (most_count level) n) (Broken TooLarge) (item_behind n rest))) e
+    ∙ ap (λ t. cond t (Broken TooLarge) (item_behind n rest)) f
 
 counted-count : (level count : ℕ) (digits rest : List ℕ) → IsCountText level digits count → counted level digits rest ≡ item_behind count rest
 counted-count level count digits rest (inl h) = ap (λ (ds : List ℕ). counted level ds rest) h.0 ∙ ap (λ n. item_behind n rest) (sym h.1)
@@ -95,10 +99,13 @@ digits_of [] h = cc
 digits_of (d ∷ digits) h = h
 
 IsNoItem-Broken : (level : ℕ) (bytes : List ℕ) (kind : Kind) → HasItemPlace bytes → IsNoItem level bytes kind → next_of level bytes ≡ Broken kind
-IsNoItem-Broken level bytes kind place (zero_count digits rest e h s v k) = next_of-counted level digits rest bytes place e (digits_of digits h) s ∙ counted-zero level digits rest h v ∙ ap Broken (sym k)
-IsNoItem-Broken level bytes kind place (large_count digits rest e h s v k) = next_of-counted level digits rest bytes place e (digits_of digits h) s ∙ counted-large level digits rest h v ∙ ap Broken (sym k)
+IsNoItem-Broken level bytes kind place (zero_count digits rest e h s v k) = next_of-counted level digits rest bytes place e (digits_of digits h) s
+    ∙ counted-zero level digits rest h v ∙ ap Broken (sym k)
+IsNoItem-Broken level bytes kind place (large_count digits rest e h s v k) = next_of-counted level digits rest bytes place e (digits_of digits h) s
+    ∙ counted-large level digits rest h v ∙ ap Broken (sym k)
 IsNoItem-Broken level bytes kind place (no_state digits rest count e c s h k) =
-    next_of-counted level digits rest bytes place e (count-digits level count digits c) s ∙ counted-count level count digits rest c ∙ item_behind-none count rest h ∙ ap Broken (sym k)
+    next_of-counted level digits rest bytes place e (count-digits level count digits c) s ∙ counted-count level count digits rest c
+    ∙ item_behind-none count rest h ∙ ap Broken (sym k)
 
 -- where a fault is found no item stands
 
@@ -129,30 +136,39 @@ item_behind-HasNoState count bytes kind h = (
   (λ rest e. broken_or_spelled kind (RowEnds count) rest (sym h ∙ ap (item_behind count) e)),
 )
 
-behind-IsNoItem : (level count : ℕ) (digits rest bytes : List ℕ) (kind : Kind) → bytes ≡ digits ++ rest → IsCountText level digits count → HasNoDigit rest → item_behind count rest ≡ Broken kind → IsNoItem level bytes kind
-behind-IsNoItem level count digits rest bytes kind e c s h = no_state digits rest count e c s (item_behind-HasNoState count rest kind h) (item_behind-kind count rest kind h)
+behind-IsNoItem : (level count : ℕ) (digits rest bytes : List ℕ) (kind : Kind) → bytes ≡ digits ++ rest → IsCountText level digits count → HasNoDigit rest
+    → item_behind count rest ≡ Broken kind → IsNoItem level bytes kind
+behind-IsNoItem level count digits rest bytes kind e c s h = no_state digits rest count e c s (item_behind-HasNoState count rest kind h)
+    (item_behind-kind count rest kind h)
 
-counted-IsNoItem : (level : ℕ) (digits rest bytes : List ℕ) (kind : Kind) → bytes ≡ digits ++ rest → list_all is_ascii_digit digits ≡ true → HasNoDigit rest → counted level digits rest ≡ Broken kind → IsNoItem level bytes kind
+counted-IsNoItem : (level : ℕ) (digits rest bytes : List ℕ) (kind : Kind) → bytes ≡ digits ++ rest → list_all is_ascii_digit digits ≡ true → HasNoDigit rest
+    → counted level digits rest ≡ Broken kind → IsNoItem level bytes kind
 counted-IsNoItem level [] rest bytes kind e a s = behind-IsNoItem level 1 [] rest bytes kind e (inl (refl, refl)) s
 counted-IsNoItem level (d ∷ digits) rest bytes kind e a s =
     let n = value_of (d ∷ digits) in
-    elim (eqb n 0) as (λ t. eqb n 0 ≡ t → cond t (Broken ZeroCount) (cond (ltb (most_count level) n) (Broken TooLarge) (item_behind n rest)) ≡ Broken kind → IsNoItem level bytes kind) [
+    elim (eqb n 0) as (λ t. eqb n 0 ≡ t → cond t (Broken ZeroCount) (cond (ltb (most_count level) n) (Broken TooLarge) (item_behind n rest)) ≡ Broken kind
+    → IsNoItem level bytes kind) [
       | true ↦ λ z h. zero_count (d ∷ digits) rest e a s (grind (arith, nat_tests, z)) cc
-      | false ↦ λ z. elim (ltb (most_count level) n) as (λ t. ltb (most_count level) n ≡ t → cond t (Broken TooLarge) (item_behind n rest) ≡ Broken kind → IsNoItem level bytes kind) [
-        | true ↦ λ l h. large_count (d ∷ digits) rest e a s (grind (arith, nat_tests, l)) cc
-        | false ↦ λ l h. behind-IsNoItem level n (d ∷ digits) rest bytes kind e (inr (a, refl, grind (arith, nat_tests, z), grind (arith, nat_tests, l))) s h
-      ] refl
+      | false ↦ λ z. elim (ltb (most_count level) n)
+          as (λ t. ltb (most_count level) n ≡ t → cond t (Broken TooLarge) (item_behind n rest) ≡ Broken kind → IsNoItem level bytes kind) [
+            | true ↦ λ l h. large_count (d ∷ digits) rest e a s (grind (arith, nat_tests, l)) cc
+            | false ↦ λ l h. behind-IsNoItem level n (d ∷ digits) rest bytes kind e (inr (a, refl, grind (arith, nat_tests, z), grind (arith, nat_tests, l))) s
+                h
+          ] refl
     ] refl
 
-item_in-IsNoItem : (level : ℕ) (bytes : List ℕ) (kind : Kind) → HasNoIndent bytes → item_in level bytes ≡ Broken kind → HasItemPlace bytes × IsNoItem level bytes kind
+item_in-IsNoItem : (level : ℕ) (bytes : List ℕ) (kind : Kind) → HasNoIndent bytes → item_in level bytes ≡ Broken kind → HasItemPlace bytes
+    × IsNoItem level bytes kind
 item_in-IsNoItem level [] kind n h = cc
 item_in-IsNoItem level (b ∷ bytes) kind n read =
     let all = b ∷ bytes in
-    elim (eqb b 33) as (λ t. eqb b 33 ≡ t → cond t Mark (counted level (front_digits all) (behind_digits all)) ≡ Broken kind → HasItemPlace all × IsNoItem level all kind) [
+    elim (eqb b 33) as (λ t. eqb b 33 ≡ t → cond t Mark (counted level (front_digits all) (behind_digits all)) ≡ Broken kind → HasItemPlace all
+    × IsNoItem level all kind) [
       | true ↦ λ _ h. cc
       | false ↦ λ e h. (
         (n, λ v. let same : eqb b 33 ≡ true = grind (arith, nat_tests, v) in cc),
-        counted-IsNoItem level (front_digits all) (behind_digits all) all kind (sym (take-append-drop (prefix_len is_ascii_digit all) all)) (list_all-front is_ascii_digit all) (behind-HasNoDigit all) h,
+        counted-IsNoItem level (front_digits all) (behind_digits all) all kind (sym (take-append-drop (prefix_len is_ascii_digit all) all))
+            (list_all-front is_ascii_digit all) (behind-HasNoDigit all) h,
       )
     ] refl read
 

@@ -64,9 +64,11 @@ visible-position line h = let first = position-first line h in ap is_blank first
 
 abbrev opening-by : (long blank position comment header : Bool) → Result Position Kind → Result Rule Kind → Result Opening Kind
 opening-by long blank position comment header p h =
-    cond long (Err LineTooLong) (cond blank (Ok Comment) (cond position (and_then p (λ x. Ok (PositionLine x))) (cond comment (Ok Comment) (cond header (and_then h (λ r. Ok (Header r))) (Err NoHeader)))))
+    cond long (Err LineTooLong) (cond blank (Ok Comment)
+    (cond position (and_then p (λ x. Ok (PositionLine x))) (cond comment (Ok Comment) (cond header (and_then h (λ r. Ok (Header r))) (Err NoHeader)))))
 
-is-comment : (a b c d e : Bool) (p : Result Position Kind) (h : Result Rule Kind) → opening-by a b c d e p h ≡ Ok Comment → (a ≡ false) × ((b ≡ true) ⊎ ((d ≡ true) × (c ≡ false)))
+is-comment : (a b c d e : Bool) (p : Result Position Kind) (h : Result Rule Kind) → opening-by a b c d e p h ≡ Ok Comment → (a ≡ false)
+    × ((b ≡ true) ⊎ ((d ≡ true) × (c ≡ false)))
 is-comment true b c d e p h q = cc
 is-comment false true c d e p h q = (refl, inl refl)
 is-comment false false true d e (Ok x) h q = cc
@@ -76,7 +78,8 @@ is-comment false false false false true p (Ok r) q = cc
 is-comment false false false false true p (Err k) q = cc
 is-comment false false false false false p h q = cc
 
-comment-is : (a b c d e : Bool) (p : Result Position Kind) (h : Result Rule Kind) → a ≡ false → (b ≡ true) ⊎ ((d ≡ true) × (c ≡ false)) → opening-by a b c d e p h ≡ Ok Comment
+comment-is : (a b c d e : Bool) (p : Result Position Kind) (h : Result Rule Kind) → a ≡ false → (b ≡ true) ⊎ ((d ≡ true) × (c ≡ false))
+    → opening-by a b c d e p h ≡ Ok Comment
 comment-is true b c d e p h short q = cc
 comment-is false true c d e p h short q = refl
 comment-is false false c d e p h short (inl q) = cc
@@ -84,7 +87,8 @@ comment-is false false true d e p h short (inr q) = let no : true ≡ false = q.
 comment-is false false false true e p h short (inr q) = refl
 comment-is false false false false e p h short (inr q) = let no : false ≡ true = q.0 in cc
 
-is-position : (a b c d e : Bool) (p : Result Position Kind) (h : Result Rule Kind) (here : Position) → opening-by a b c d e p h ≡ Ok (PositionLine here) → (a ≡ false) × (c ≡ true) × (p ≡ Ok here)
+is-position : (a b c d e : Bool) (p : Result Position Kind) (h : Result Rule Kind) (here : Position) → opening-by a b c d e p h ≡ Ok (PositionLine here)
+    → (a ≡ false) × (c ≡ true) × (p ≡ Ok here)
 is-position true b c d e p h here q = cc
 is-position false true c d e p h here q = cc
 is-position false false true d e (Ok x) h here q = let same : x ≡ here = cc in (refl, refl, ap Ok same)
@@ -94,13 +98,15 @@ is-position false false false false true p (Ok r) here q = cc
 is-position false false false false true p (Err k) here q = cc
 is-position false false false false false p h here q = cc
 
-position-is : (a b c d e : Bool) (p : Result Position Kind) (h : Result Rule Kind) (here : Position) → a ≡ false → b ≡ false → c ≡ true → p ≡ Ok here → opening-by a b c d e p h ≡ Ok (PositionLine here)
+position-is : (a b c d e : Bool) (p : Result Position Kind) (h : Result Rule Kind) (here : Position) → a ≡ false → b ≡ false → c ≡ true → p ≡ Ok here
+    → opening-by a b c d e p h ≡ Ok (PositionLine here)
 position-is true b c d e p h here short visible is read = cc
 position-is false true c d e p h here short visible is read = cc
 position-is false false false d e p h here short visible is read = cc
 position-is false false true d e p h here short visible is read = ap (λ (r : Result Position Kind). and_then r (λ x. Ok (PositionLine x))) read
 
-is-header : (a b c d e : Bool) (p : Result Position Kind) (h : Result Rule Kind) (rule : Rule) → opening-by a b c d e p h ≡ Ok (Header rule) → (a ≡ false) × (h ≡ Ok rule)
+is-header : (a b c d e : Bool) (p : Result Position Kind) (h : Result Rule Kind) (rule : Rule) → opening-by a b c d e p h ≡ Ok (Header rule) → (a ≡ false)
+    × (h ≡ Ok rule)
 is-header true b c d e p h rule q = cc
 is-header false true c d e p h rule q = cc
 is-header false false true d e (Ok x) h rule q = cc
@@ -112,22 +118,28 @@ is-header false false false false false p h rule q = cc
 
 opening-comment : (level : ℕ) (line : List ℕ) → opening_of level line ≡ Ok Comment → IsShort line × IsComment line
 opening-comment level line q =
-    let c = is-comment (is_too_long line) (is_blank line) (is_position_line line) (begins_with line (codes "#")) (begins_with line (codes "x")) (position_of level line) (header_of line) q in
+    let c = is-comment (is_too_long line) (is_blank line) (is_position_line line) (begins_with line (codes "#")) (begins_with line (codes "x"))
+    (position_of level line) (header_of line) q in
     (short-of line c.0, c.1)
 
 comment-opening : (level : ℕ) (line : List ℕ) → IsShort line → IsComment line → opening_of level line ≡ Ok Comment
 comment-opening level line short c =
-    comment-is (is_too_long line) (is_blank line) (is_position_line line) (begins_with line (codes "#")) (begins_with line (codes "x")) (position_of level line) (header_of line) (not-long line short) c
+    comment-is (is_too_long line) (is_blank line) (is_position_line line) (begins_with line (codes "#")) (begins_with line (codes "x")) (position_of level line)
+    (header_of line) (not-long line short) c
 
-opening-position : (level : ℕ) (line : List ℕ) (here : Position) → opening_of level line ≡ Ok (PositionLine here) → IsShort line × IsPositionText level line here
+opening-position : (level : ℕ) (line : List ℕ) (here : Position) → opening_of level line ≡ Ok (PositionLine here) → IsShort line
+    × IsPositionText level line here
 opening-position level line here q =
-    let p = is-position (is_too_long line) (is_blank line) (is_position_line line) (begins_with line (codes "#")) (begins_with line (codes "x")) (position_of level line) (header_of line) here q in
+    let p = is-position (is_too_long line) (is_blank line) (is_position_line line) (begins_with line (codes "#")) (begins_with line (codes "x"))
+    (position_of level line) (header_of line) here q in
     (short-of line p.0, ((positions_are_plain level line).0 here).0 (p.1, p.2))
 
-position-opening : (level : ℕ) (line : List ℕ) (here : Position) → IsShort line → IsPositionText level line here → opening_of level line ≡ Ok (PositionLine here)
+position-opening : (level : ℕ) (line : List ℕ) (here : Position) → IsShort line → IsPositionText level line here
+    → opening_of level line ≡ Ok (PositionLine here)
 position-opening level line here short t =
     let p = ((positions_are_plain level line).0 here).1 t in
-    position-is (is_too_long line) (is_blank line) (is_position_line line) (begins_with line (codes "#")) (begins_with line (codes "x")) (position_of level line) (header_of line) here
+    position-is (is_too_long line) (is_blank line) (is_position_line line) (begins_with line (codes "#")) (begins_with line (codes "x"))
+    (position_of level line) (header_of line) here
     (not-long line short) (visible-position line p.0) p.0 p.1
 
 -- ---- the header
@@ -149,7 +161,8 @@ header-first line rule (inr h) = let t = h.1.4 in (t.0 ++ t.1, t.3)
 abbrev header-after : Bool → Result Rule Kind → Result Opening Kind
 header-after long r = cond long (Err LineTooLong) (and_then r (λ rule. Ok (Header rule)))
 
-x-opening : (level : ℕ) (rest : List ℕ) (rule : Rule) → is_too_long (120 ∷ rest) ≡ false → header_of (120 ∷ rest) ≡ Ok rule → opening_of level (120 ∷ rest) ≡ Ok (Header rule)
+x-opening : (level : ℕ) (rest : List ℕ) (rule : Rule) → is_too_long (120 ∷ rest) ≡ false → header_of (120 ∷ rest) ≡ Ok rule
+    → opening_of level (120 ∷ rest) ≡ Ok (Header rule)
 x-opening level rest rule short read =
     let after : header-after (is_too_long (120 ∷ rest)) (header_of (120 ∷ rest)) ≡ Ok (Header rule) =
     ap (λ b. header-after b (header_of (120 ∷ rest))) short ∙ ap (header-after false) read in
@@ -163,26 +176,32 @@ header-opening level line rule short r =
 
 opening-header : (level : ℕ) (line : List ℕ) (rule : Rule) → opening_of level line ≡ Ok (Header rule) → IsShort line × IsRuleLine line rule
 opening-header level line rule q =
-    let h = is-header (is_too_long line) (is_blank line) (is_position_line line) (begins_with line (codes "#")) (begins_with line (codes "x")) (position_of level line) (header_of line) rule q in
+    let h = is-header (is_too_long line) (is_blank line) (is_position_line line) (begins_with line (codes "#")) (begins_with line (codes "x"))
+    (position_of level line) (header_of line) rule q in
     (short-of line h.0, rule-line line rule (header_form line) refl h.1)
 
 -- ---- lines in front of it
 
-preamble-plain : (level : ℕ) (given position : Position) (lines : List (List ℕ)) → IsPreamble level given lines position → ArePreamble level given lines position
+preamble-plain : (level : ℕ) (given position : Position) (lines : List (List ℕ)) → IsPreamble level given lines position
+    → ArePreamble level given lines position
 preamble-plain level given position [] h = h
-preamble-plain level given position (line ∷ lines) (inl h) = let c = opening-comment level line h.0 in (c.0, inl (c.1, preamble-plain level given position lines h.1))
+preamble-plain level given position (line ∷ lines) (inl h) = let c = opening-comment level line h.0 in
+    (c.0, inl (c.1, preamble-plain level given position lines h.1))
 preamble-plain level given position (line ∷ lines) (inr h) =
     let p = opening-position level line h.0 h.1 in (p.0, inr (h.0, p.1, preamble-plain level h.0 position lines h.2))
 
-plain-preamble : (level : ℕ) (given position : Position) (lines : List (List ℕ)) → ArePreamble level given lines position → IsPreamble level given lines position
+plain-preamble : (level : ℕ) (given position : Position) (lines : List (List ℕ)) → ArePreamble level given lines position
+    → IsPreamble level given lines position
 plain-preamble level given position [] h = h
 plain-preamble level given position (line ∷ lines) (short, inl h) = inl (comment-opening level line short h.0, plain-preamble level given position lines h.1)
-plain-preamble level given position (line ∷ lines) (short, inr h) = inr (h.0, position-opening level line h.0 short h.1, plain-preamble level h.0 position lines h.2)
+plain-preamble level given position (line ∷ lines) (short, inr h) = inr
+    (h.0, position-opening level line h.0 short h.1, plain-preamble level h.0 position lines h.2)
 
 -- ---- a line behind the header
 
 abbrev later-by : (long blank position comment header : Bool) → Result Later Kind
-later-by long blank position comment header = cond long (Err LineTooLong) (cond blank (Ok Passed) (cond position (Err LateHeader) (cond comment (Ok Passed) (cond header (Err SecondHeader) (Ok Data)))))
+later-by long blank position comment header = cond long (Err LineTooLong)
+    (cond blank (Ok Passed) (cond position (Err LateHeader) (cond comment (Ok Passed) (cond header (Err SecondHeader) (Ok Data)))))
 
 is-passed : (a b c d e : Bool) → later-by a b c d e ≡ Ok Passed → (a ≡ false) × ((b ≡ true) ⊎ ((d ≡ true) × (c ≡ false)))
 is-passed true b c d e q = cc
@@ -220,21 +239,25 @@ data-is false false false false false false p q r s t u = refl
 
 later-passed : (line : List ℕ) → later_of line ≡ Ok Passed → IsShort line × IsComment line
 later-passed line q =
-    let c = is-passed (is_too_long line) (is_blank line) (is_position_line line) (begins_with line (codes "#")) (begins_with line (codes "x ") || begins_with line (codes "x=")) q in
+    let c = is-passed (is_too_long line) (is_blank line) (is_position_line line) (begins_with line (codes "#"))
+    (begins_with line (codes "x ") || begins_with line (codes "x=")) q in
     (short-of line c.0, c.1)
 
 passed-later : (line : List ℕ) → IsShort line → IsComment line → later_of line ≡ Ok Passed
 passed-later line short c =
-    passed-is (is_too_long line) (is_blank line) (is_position_line line) (begins_with line (codes "#")) (begins_with line (codes "x ") || begins_with line (codes "x=")) (not-long line short) c
+    passed-is (is_too_long line) (is_blank line) (is_position_line line) (begins_with line (codes "#"))
+    (begins_with line (codes "x ") || begins_with line (codes "x=")) (not-long line short) c
 
 later-data : (line : List ℕ) → later_of line ≡ Ok Data → IsShort line × IsData line
 later-data line q =
-    let d = is-data (is_too_long line) (is_blank line) (is_position_line line) (begins_with line (codes "#")) (begins_with line (codes "x ")) (begins_with line (codes "x=")) q in
+    let d = is-data (is_too_long line) (is_blank line) (is_position_line line) (begins_with line (codes "#")) (begins_with line (codes "x "))
+    (begins_with line (codes "x=")) q in
     (short-of line d.0, record { visible = d.1; no_comment = d.2; no_header = d.3; no_other_header = d.4 })
 
 data-later : (line : List ℕ) → IsShort line → IsData line → later_of line ≡ Ok Data
 data-later line short d =
-    data-is (is_too_long line) (is_blank line) (is_position_line line) (begins_with line (codes "#")) (begins_with line (codes "x ")) (begins_with line (codes "x="))
+    data-is (is_too_long line) (is_blank line) (is_position_line line) (begins_with line (codes "#")) (begins_with line (codes "x "))
+    (begins_with line (codes "x="))
     (not-long line short) d.visible (no-position line d.no_comment) d.no_comment d.no_header d.no_other_header
 
 line-plain : (level : ℕ) (line : List ℕ) (items : List Item) → LineSpells level line items End → IsBodyLine level line items
@@ -298,21 +321,25 @@ item-place level rule row column (RowEnds n) e = le-true (row +ℤ pos n) (edge 
 
 place-item : (level : ℕ) (rule : Rule) (row column : ℤ) (item : Item) → MayStand level rule row column item → item_fault level rule row column item ≡ None
 place-item level rule row column (Cells n s) h =
-    inside-is (is_state_of rule s) (int_lt row (edge level)) (int_le (column +ℤ pos n) (edge level)) h.0 (true-lt row (edge level) h.1) (true-le (column +ℤ pos n) (edge level) h.2)
+    inside-is (is_state_of rule s) (int_lt row (edge level)) (int_le (column +ℤ pos n) (edge level)) h.0 (true-lt row (edge level) h.1)
+    (true-le (column +ℤ pos n) (edge level) h.2)
 place-item level rule row column (RowEnds n) h = ap (λ b. cond b None (Some OutOfPlane)) (true-le (row +ℤ pos n) (edge level) h)
 
 same : (p q : Placed) → Some p ≡ Some q → p ≡ q
 same p q e = cc
 
-fault-places : (level : ℕ) (rule : Rule) (ps : List Placed) → first_fault level rule ps ≡ None → (i : ℕ) (p : Placed) → slice_get ps i ≡ Some p → MayStand level rule p.row p.column p.item
+fault-places : (level : ℕ) (rule : Rule) (ps : List Placed) → first_fault level rule ps ≡ None → (i : ℕ) (p : Placed) → slice_get ps i ≡ Some p
+    → MayStand level rule p.row p.column p.item
 fault-places level rule [] e i p at = cc
 fault-places level rule (q ∷ ps) e zero p at =
     let none = first_kind-both (placed_fault level rule q) (first_fault level rule ps) e in
     let P : Placed → Type 0 = λ r. MayStand level rule r.row r.column r.item in
     subst P (same q p at) (item-place level rule q.row q.column q.item none.0)
-fault-places level rule (q ∷ ps) e (suc i) p at = fault-places level rule ps (first_kind-both (placed_fault level rule q) (first_fault level rule ps) e).1 i p at
+fault-places level rule (q ∷ ps) e (suc i) p at = fault-places level rule ps (first_kind-both (placed_fault level rule q) (first_fault level rule ps) e).1 i p
+    at
 
-places-fault : (level : ℕ) (rule : Rule) (ps : List Placed) → ((i : ℕ) (p : Placed) → slice_get ps i ≡ Some p → MayStand level rule p.row p.column p.item) → first_fault level rule ps ≡ None
+places-fault : (level : ℕ) (rule : Rule) (ps : List Placed) → ((i : ℕ) (p : Placed) → slice_get ps i ≡ Some p → MayStand level rule p.row p.column p.item)
+    → first_fault level rule ps ≡ None
 places-fault level rule [] h = refl
 places-fault level rule (q ∷ ps) h =
     ap (λ k. first_kind k (first_fault level rule ps)) (place-item level rule q.row q.column q.item (h zero q refl))

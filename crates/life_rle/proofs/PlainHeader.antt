@@ -36,8 +36,12 @@ after_word-token word bytes rest =
           let i = indented behind in
           let r : trim_start behind ≡ rest = cc in
           let w = (bytes_eq-Decides (take (length word) bytes) word).0 e in
-          subst (IsToken bytes word) r
-          (i.0, i.1, sym (take-append-drop (length word) bytes) ∙ ap (λ (t : List ℕ). t ++ behind) w ∙ ap (λ (t : List ℕ). word ++ t) i.2, trim_start-HasNoIndent behind)
+          subst (IsToken bytes word) r (
+            i.0,
+            i.1,
+            sym (take-append-drop (length word) bytes) ∙ ap (λ (t : List ℕ). t ++ behind) w ∙ ap (λ (t : List ℕ). word ++ t) i.2,
+            trim_start-HasNoIndent behind,
+          )
       | false ↦ λ _ h. cc
     ] refl
 
@@ -46,24 +50,31 @@ after_number-token : (bytes rest : List ℕ) → after_number bytes ≡ Some res
 after_number-token bytes rest =
     let digits = front_digits bytes in
     let behind = behind_digits bytes in
-    elim (is_digit_text digits) as (λ t. is_digit_text digits ≡ t → cond t (Some (trim_start behind)) None ≡ Some rest → (digits : List ℕ) × (is_digit_text digits ≡ true) × IsToken bytes digits rest) [
+    elim (is_digit_text digits) as (λ t. is_digit_text digits ≡ t → cond t (Some (trim_start behind)) None ≡ Some rest → (digits : List ℕ)
+    × (is_digit_text digits ≡ true) × IsToken bytes digits rest) [
       | true ↦ λ e h.
           let i = indented behind in
           let r : trim_start behind ≡ rest = cc in (
             digits,
             e,
-            subst (IsToken bytes digits) r
-                (i.0, i.1, sym (take-append-drop (prefix_len is_ascii_digit bytes) bytes) ∙ ap (λ (t : List ℕ). digits ++ t) i.2, trim_start-HasNoIndent behind),
+            subst (IsToken bytes digits) r (
+              i.0,
+              i.1,
+              sym (take-append-drop (prefix_len is_ascii_digit bytes) bytes) ∙ ap (λ (t : List ℕ). digits ++ t) i.2,
+              trim_start-HasNoIndent behind,
+            ),
           )
       | false ↦ λ _ h. cc
     ] refl
 
 -- a word is read as that word
-token-after_word : (word space more bytes : List ℕ) → is_blank space ≡ true → bytes ≡ word ++ (space ++ more) → HasNoIndent more → after_word word bytes ≡ Some more
+token-after_word : (word space more bytes : List ℕ) → is_blank space ≡ true → bytes ≡ word ++ (space ++ more) → HasNoIndent more
+    → after_word word bytes ≡ Some more
 token-after_word word space more bytes h e n =
     let all = word ++ (space ++ more) in
     ap (after_word word) e
-    ∙ ap (λ t. cond t (Some (trim_start (drop (length word) all))) None) ((bytes_eq-Decides (take (length word) all) word).1 (take-append_seam word (space ++ more)))
+    ∙ ap (λ t. cond t (Some (trim_start (drop (length word) all))) None)
+    ((bytes_eq-Decides (take (length word) all) word).1 (take-append_seam word (space ++ more)))
     ∙ ap (λ (t : List ℕ). Some (trim_start t)) (drop-append_seam word (space ++ more))
     ∙ ap Some (trim_start-space space more h ∙ no_indent more n)
 
@@ -72,7 +83,8 @@ space-Stops [] more h s = s
 space-Stops (b ∷ space) more h s = let parts = both_true (is_whitespace b) (is_blank space) h in grind (arith, nat_tests, parts.0)
 
 -- a digit text is read as a number
-token-after_number : (digits space more bytes : List ℕ) → is_digit_text digits ≡ true → is_blank space ≡ true → bytes ≡ digits ++ (space ++ more) → HasNoIndent more → Stops is_ascii_digit more → after_number bytes ≡ Some more
+token-after_number : (digits space more bytes : List ℕ) → is_digit_text digits ≡ true → is_blank space ≡ true → bytes ≡ digits ++ (space ++ more)
+    → HasNoIndent more → Stops is_ascii_digit more → after_number bytes ≡ Some more
 token-after_number digits space more bytes d h e n s =
     let all = digits ++ (space ++ more) in
     let stops = space-Stops space more h s in
@@ -108,13 +120,16 @@ then-some (Some a) f b h = (a, refl, h)
 some-then : {A B : Type 0} (o : Option A) (f : A → Option B) (a : A) (b : B) → o ≡ Some a → f a ≡ Some b → (o >>= f) ≡ Some b
 some-then o f a b e h = ap (λ (o : Option _). o >>= f) e ∙ h
 
-word-step : {B : Type 0} (word bytes : List ℕ) (f : List ℕ → Option B) (b : B) → (after_word word bytes >>= f) ≡ Some b → (more : List ℕ) × IsToken bytes word more × (f more ≡ Some b)
+word-step : {B : Type 0} (word bytes : List ℕ) (f : List ℕ → Option B) (b : B) → (after_word word bytes >>= f) ≡ Some b → (more : List ℕ)
+    × IsToken bytes word more × (f more ≡ Some b)
 word-step word bytes f b h = let t = then-some (after_word word bytes) f b h in (t.0, after_word-token word bytes t.0 t.1, t.2)
 
-number-step : {B : Type 0} (bytes : List ℕ) (f : List ℕ → Option B) (b : B) → (after_number bytes >>= f) ≡ Some b → (digits more : List ℕ) × (is_digit_text digits ≡ true) × IsToken bytes digits more × (f more ≡ Some b)
+number-step : {B : Type 0} (bytes : List ℕ) (f : List ℕ → Option B) (b : B) → (after_number bytes >>= f) ≡ Some b → (digits more : List ℕ)
+    × (is_digit_text digits ≡ true) × IsToken bytes digits more × (f more ≡ Some b)
 number-step bytes f b h = let t = then-some (after_number bytes) f b h in let n = after_number-token bytes t.0 t.1 in (n.0, t.0, n.1, n.2, t.2)
 
-token-then : (bytes token more : List ℕ) (tokens : List (List ℕ)) (rest : List ℕ) → IsToken bytes token more → AreTokens more tokens rest → AreTokens bytes (token ∷ tokens) rest
+token-then : (bytes token more : List ℕ) (tokens : List (List ℕ)) (rest : List ℕ) → IsToken bytes token more → AreTokens more tokens rest
+    → AreTokens bytes (token ∷ tokens) rest
 token-then bytes token more tokens rest t h = (t.0, more, t.1, t.2, h)
 
 -- the part of the rule
@@ -140,7 +155,8 @@ rule_part-tokens (b ∷ bytes) rule h =
       e.1.3,
     )
 
-tokens-rule_part : (bytes : List ℕ) (rule : Option (List ℕ)) → IsRulePart bytes rule → HasNoIndent bytes × Stops is_ascii_digit bytes × (rule_part bytes ≡ Some rule)
+tokens-rule_part : (bytes : List ℕ) (rule : Option (List ℕ)) → IsRulePart bytes rule → HasNoIndent bytes × Stops is_ascii_digit bytes
+    × (rule_part bytes ≡ Some rule)
 tokens-rule_part bytes None h = (subst HasNoIndent (sym h) tt, subst (Stops is_ascii_digit) (sym h) tt, ap rule_part h)
 tokens-rule_part bytes (Some text) h =
     let c = h.0 in
@@ -198,8 +214,10 @@ sized-IsHeaderLine line behind None s r = (s.0, s.1, s.2, s.3, s.4 [] [] r)
 sized-IsHeaderLine line behind (Some text) s r = (s.0, s.1, s.2, s.3, s.4 rule_tokens text r.0, r.1)
 
 -- the tokens up to the height are read, and then the part of the rule
-sized-header_form : (line width height : List ℕ) (tokens : List (List ℕ)) (rest : List ℕ) (rule : Option (List ℕ)) → is_digit_text width ≡ true → is_digit_text height ≡ true
-    → AreTokens line (size_tokens width height ++ tokens) rest → ((behind : List ℕ) → AreTokens behind tokens rest → IsRulePart behind rule) → header_form line ≡ Some rule
+sized-header_form : (line width height : List ℕ) (tokens : List (List ℕ)) (rest : List ℕ) (rule : Option (List ℕ)) → is_digit_text width ≡ true
+    → is_digit_text height ≡ true
+    → AreTokens line (size_tokens width height ++ tokens) rest → ((behind : List ℕ) → AreTokens behind tokens rest → IsRulePart behind rule)
+    → header_form line ≡ Some rule
 sized-header_form line width height tokens rest rule dw dh x part =
     let e = x.4 in
     let w = e.4 in

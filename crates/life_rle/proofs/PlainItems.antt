@@ -34,7 +34,8 @@ single-letter place h = grind (arith, nat_tests)
 single-prefix : (prefix : ℕ) → prefix < 10 → single_state (112 + prefix) ≡ None
 single-prefix prefix h = grind (arith, nat_tests)
 
-prefixed_state-places : (prefix place state : ℕ) → prefix < 10 → place < 24 → state ≡ 24 * (prefix + 1) + (place + 1) → state ≤ 255 → prefixed_state (112 + prefix) (65 + place) ≡ Some state
+prefixed_state-places : (prefix place state : ℕ) → prefix < 10 → place < 24 → state ≡ 24 * (prefix + 1) + (place + 1) → state ≤ 255
+    → prefixed_state (112 + prefix) (65 + place) ≡ Some state
 prefixed_state-places prefix place state h k e low = grind (arith, nat_tests)
 
 state_at-single : (b state : ℕ) (rest : List ℕ) → single_state b ≡ Some state → state_at (b ∷ rest) ≡ Some (state, rest)
@@ -44,26 +45,32 @@ state_at-single b state (c ∷ rest) h = ap (λ o. first_state (with_rest o (c �
 state_at-prefixed : (b c state : ℕ) (rest : List ℕ) → single_state b ≡ None → prefixed_state b c ≡ Some state → state_at (b ∷ c ∷ rest) ≡ Some (state, rest)
 state_at-prefixed b c state rest h k = ap (λ o. first_state (with_rest o (c ∷ rest)) (with_rest (prefixed_state b c) rest)) h ∙ ap (λ o. with_rest o rest) k
 
-item_behind-state : (n b state : ℕ) (bytes rest : List ℕ) → eqb b 36 ≡ false → state_at (b ∷ bytes) ≡ Some (state, rest) → item_behind n (b ∷ bytes) ≡ Spelled (Cells n state) rest
+item_behind-state : (n b state : ℕ) (bytes rest : List ℕ) → eqb b 36 ≡ false → state_at (b ∷ bytes) ≡ Some (state, rest)
+    → item_behind n (b ∷ bytes) ≡ Spelled (Cells n state) rest
 item_behind-state n b state bytes rest h k = ap (λ t. cond t (Spelled (RowEnds n) bytes) (cells_of n (state_at (b ∷ bytes)))) h ∙ ap (cells_of n) k
 
 -- bytes that begin with the text of an item without its count
 abbrev pub IsRead : ℕ → List ℕ → Item → List ℕ → Type 0
 IsRead count bytes item rest = IsTag bytes × (item_behind count bytes ≡ Spelled item rest)
 
-IsRead-single : (count b state : ℕ) (rest : List ℕ) → IsTag (b ∷ rest) → eqb b 36 ≡ false → single_state b ≡ Some state → IsRead count (b ∷ rest) (Cells count state) rest
+IsRead-single : (count b state : ℕ) (rest : List ℕ) → IsTag (b ∷ rest) → eqb b 36 ≡ false → single_state b ≡ Some state
+    → IsRead count (b ∷ rest) (Cells count state) rest
 IsRead-single count b state rest t h k = (t, item_behind-state count b state rest rest h (state_at-single b state rest k))
 
 pub IsRead-text : (count state : ℕ) (text rest : List ℕ) → IsStateText text state → IsRead count (text ++ rest) (Cells count state) rest
 IsRead-text count state text rest (letter_b e v) =
-    subst (λ (t : List ℕ). IsRead count (t ++ rest) (Cells count state) rest) (sym e) (IsRead-single count 98 state rest (refl, refl, refl) refl (ap Some (sym v)))
+    subst (λ (t : List ℕ). IsRead count (t ++ rest) (Cells count state) rest) (sym e)
+    (IsRead-single count 98 state rest (refl, refl, refl) refl (ap Some (sym v)))
 IsRead-text count state text rest (dot e v) =
-    subst (λ (t : List ℕ). IsRead count (t ++ rest) (Cells count state) rest) (sym e) (IsRead-single count 46 state rest (refl, refl, refl) refl (ap Some (sym v)))
+    subst (λ (t : List ℕ). IsRead count (t ++ rest) (Cells count state) rest) (sym e)
+    (IsRead-single count 46 state rest (refl, refl, refl) refl (ap Some (sym v)))
 IsRead-text count state text rest (letter_o e v) =
-    subst (λ (t : List ℕ). IsRead count (t ++ rest) (Cells count state) rest) (sym e) (IsRead-single count 111 state rest (refl, refl, refl) refl (ap Some (sym v)))
+    subst (λ (t : List ℕ). IsRead count (t ++ rest) (Cells count state) rest) (sym e)
+    (IsRead-single count 111 state rest (refl, refl, refl) refl (ap Some (sym v)))
 IsRead-text count state text rest (letter place h e v) =
     subst (λ (t : List ℕ). IsRead count (t ++ rest) (Cells count state) rest) (sym e)
-    (IsRead-single count (65 + place) state rest (IsTag-letter (65 + place) rest (omega arith)) (grind (arith, nat_tests)) (single-letter place h ∙ ap Some (sym v)))
+    (IsRead-single count (65 + place) state rest (IsTag-letter (65 + place) rest (omega arith)) (grind (arith, nat_tests))
+    (single-letter place h ∙ ap Some (sym v)))
 IsRead-text count state text rest (prefixed prefix place h k e v low) =
     subst (λ (t : List ℕ). IsRead count (t ++ rest) (Cells count state) rest) (sym e) (
       IsTag-letter (112 + prefix) ((65 + place) ∷ rest) (omega arith),
@@ -72,7 +79,8 @@ IsRead-text count state text rest (prefixed prefix place h k e v low) =
     )
 
 -- the text of an item, with whitespace before it, is read as that item
-next_of-item : (level : ℕ) (space text more : List ℕ) (item : Item) → is_blank space ≡ true → IsItemText level text item → next_of level (space ++ (text ++ more)) ≡ Spelled item more
+next_of-item : (level : ℕ) (space text more : List ℕ) (item : Item) → is_blank space ≡ true → IsItemText level text item
+    → next_of level (space ++ (text ++ more)) ≡ Spelled item more
 next_of-item level space text more (Cells count state) h i =
     let r = IsRead-text count state i.1 more i.4 in
     ap (item_in level) (trim_start-space space (text ++ more) h)
@@ -88,7 +96,8 @@ next_of-item level space text more (RowEnds count) h i =
     ∙ next_of-count level count i.0 (36 ∷ more) i.3 (refl, refl, refl)
 
 -- so the texts of items spell them
-pub IsTextOf-Spells : (level : ℕ) (items : List Item) (line rest : List ℕ) (last : Next) → next_of level rest ≡ last → IsTextOf level line items rest → Spells level line items last
+pub IsTextOf-Spells : (level : ℕ) (items : List Item) (line rest : List ℕ) (last : Next) → next_of level rest ≡ last → IsTextOf level line items rest
+    → Spells level line items last
 IsTextOf-Spells level [] line rest last h i = ap (next_of level) i.2 ∙ ap (item_in level) (trim_start-space i.0 rest i.1) ∙ h
 IsTextOf-Spells level (item ∷ items) line rest last h i =
     (i.2, ap (next_of level) i.5 ∙ next_of-item level i.0 i.1 i.2 item i.3 i.4, IsTextOf-Spells level items i.2 rest last h i.6)
@@ -97,7 +106,8 @@ IsTextOf-Spells level (item ∷ items) line rest last h i =
 pub indented : (text : List ℕ) → (space : List ℕ) × (is_blank space ≡ true) × (text ≡ space ++ trim_start text)
 indented [] = ([], refl, refl)
 indented (b ∷ text) =
-    elim (is_whitespace b) as (λ t. is_whitespace b ≡ t → (space : List ℕ) × (is_blank space ≡ true) × (b ∷ text ≡ space ++ cond t (trim_start text) (b ∷ text))) [
+    elim (is_whitespace b) as (λ t. is_whitespace b ≡ t → (space : List ℕ) × (is_blank space ≡ true)
+    × (b ∷ text ≡ space ++ cond t (trim_start text) (b ∷ text))) [
       | true ↦ λ e. let h = indented text in (b ∷ h.0, ap (λ t. t && is_blank h.0) e ∙ h.1, ap (λ (t : List ℕ). b ∷ t) h.2)
       | false ↦ λ e. ([], refl, refl)
     ] refl
@@ -108,15 +118,19 @@ StateAt bytes state rest = (text : List ℕ) × IsStateText text state × (bytes
 
 text_of-single : (b state : ℕ) → single_state b ≡ Some state → IsStateText (b ∷ []) state
 text_of-single b state =
-    elim (eqb b 98 || eqb b 46) as (λ t. (eqb b 98 || eqb b 46) ≡ t → cond t (Some 0) (cond (eqb b 111) (Some 1) (cond (leb 65 b && leb b 88) (Some (b - 64)) None)) ≡ Some state → IsStateText (b ∷ []) state) [
+    elim (eqb b 98 || eqb b 46) as
+    (λ t. (eqb b 98 || eqb b 46) ≡ t → cond t (Some 0) (cond (eqb b 111) (Some 1) (cond (leb 65 b && leb b 88) (Some (b - 64)) None)) ≡ Some state
+    → IsStateText (b ∷ []) state) [
       | true ↦ λ e h. text_of-zero b state e (some-same h)
-      | false ↦ λ _. elim (eqb b 111) as (λ t. eqb b 111 ≡ t → cond t (Some 1) (cond (leb 65 b && leb b 88) (Some (b - 64)) None) ≡ Some state → IsStateText (b ∷ []) state) [
-        | true ↦ λ e h. letter_o (ap (λ (n : ℕ). n ∷ []) (grind (arith, nat_tests, e))) (sym (some-same h))
-        | false ↦ λ _. elim (leb 65 b && leb b 88) as (λ t. (leb 65 b && leb b 88) ≡ t → cond t (Some (b - 64)) None ≡ Some state → IsStateText (b ∷ []) state) [
-          | true ↦ λ e h. text_of-letter b state e (some-same h)
-          | false ↦ λ _ h. cc
-        ] refl
-      ] refl
+      | false ↦ λ _. elim (eqb b 111) as (λ t. eqb b 111 ≡ t → cond t (Some 1) (cond (leb 65 b && leb b 88) (Some (b - 64)) None) ≡ Some state
+          → IsStateText (b ∷ []) state) [
+            | true ↦ λ e h. letter_o (ap (λ (n : ℕ). n ∷ []) (grind (arith, nat_tests, e))) (sym (some-same h))
+            | false ↦ λ _. elim (leb 65 b && leb b 88)
+                as (λ t. (leb 65 b && leb b 88) ≡ t → cond t (Some (b - 64)) None ≡ Some state → IsStateText (b ∷ []) state) [
+                  | true ↦ λ e h. text_of-letter b state e (some-same h)
+                  | false ↦ λ _ h. cc
+                ] refl
+          ] refl
     ] refl
   where
     some-same : {m n : ℕ} → Some m ≡ Some n → m ≡ n
@@ -139,7 +153,8 @@ text_of-single b state =
 text_of-prefixed : (b c state : ℕ) → prefixed_state b c ≡ Some state → IsStateText (b ∷ c ∷ []) state
 text_of-prefixed b c state =
     elim ((leb 112 b && leb b 121) && (leb 65 c && leb c 88) && leb (prefixed_number b c) 255)
-    as (λ t. ((leb 112 b && leb b 121) && (leb 65 c && leb c 88) && leb (prefixed_number b c) 255) ≡ t → cond t (Some (prefixed_number b c)) None ≡ Some state → IsStateText (b ∷ c ∷ []) state) [
+    as (λ t. ((leb 112 b && leb b 121) && (leb 65 c && leb c 88) && leb (prefixed_number b c) 255) ≡ t → cond t (Some (prefixed_number b c)) None ≡ Some state
+    → IsStateText (b ∷ c ∷ []) state) [
       | true ↦ λ e h.
           let low : 112 ≤ b = grind (arith, nat_tests, e) in
           let high : b ≤ 121 = grind (arith, nat_tests, e) in
@@ -149,7 +164,8 @@ text_of-prefixed b c state =
           let same : prefixed_number b c ≡ state = cc in
           let one : b ≡ 112 + (b - 112) = omega (arith, low) in
           let two : c ≡ 65 + (c - 65) = omega (arith, from) in
-          prefixed (b - 112) (c - 65) (omega (arith, low, high)) (omega (arith, from, to)) (ap (λ (n : ℕ). n ∷ c ∷ []) one ∙ ap (λ (n : ℕ). (112 + (b - 112)) ∷ n ∷ []) two)
+          prefixed (b - 112) (c - 65) (omega (arith, low, high)) (omega (arith, from, to))
+          (ap (λ (n : ℕ). n ∷ c ∷ []) one ∙ ap (λ (n : ℕ). (112 + (b - 112)) ∷ n ∷ []) two)
           (omega (arith, same, low, from)) (omega (arith, same, small))
       | false ↦ λ _ h. cc
     ] refl
@@ -185,7 +201,8 @@ state_at-text [] rest state h = cc
 state_at-text (b ∷ []) rest state h = found-single b state rest [] h
 state_at-text (b ∷ c ∷ bytes) rest state h = pick (first-either (with_rest (single_state b) (c ∷ bytes)) (with_rest (prefixed_state b c) bytes) (state, rest) h)
   where
-    pick : (with_rest (single_state b) (c ∷ bytes) ≡ Some (state, rest)) ⊎ (with_rest (prefixed_state b c) bytes ≡ Some (state, rest)) → StateAt (b ∷ c ∷ bytes) state rest
+    pick : (with_rest (single_state b) (c ∷ bytes) ≡ Some (state, rest)) ⊎ (with_rest (prefixed_state b c) bytes ≡ Some (state, rest))
+        → StateAt (b ∷ c ∷ bytes) state rest
     pick (inl e) = found-single b state rest (c ∷ bytes) e
     pick (inr e) = found-prefixed b c state rest bytes e
 
@@ -196,7 +213,8 @@ IsFound level digits bytes Mark = ⊥
 IsFound level digits bytes (Broken kind) = Unit {0}
 IsFound level digits bytes (Spelled item rest) = (last : List ℕ) × IsItemText level (digits ++ last) item × (bytes ≡ last ++ rest)
 
-cells_of-found : (level count : ℕ) (digits bytes : List ℕ) → IsCountText level digits count → (o : Option (ℕ × List ℕ)) → state_at bytes ≡ o → IsFound level digits bytes (cells_of count o)
+cells_of-found : (level count : ℕ) (digits bytes : List ℕ) → IsCountText level digits count → (o : Option (ℕ × List ℕ)) → state_at bytes ≡ o
+    → IsFound level digits bytes (cells_of count o)
 cells_of-found level count digits bytes c None e = tt
 cells_of-found level count digits bytes c (Some (state, rest)) e =
     let s = state_at-text bytes rest state e in
@@ -214,12 +232,14 @@ counted-found : (level : ℕ) (digits bytes : List ℕ) → list_all is_ascii_di
 counted-found level [] bytes h = item_behind-found level 1 [] bytes (inl (refl, refl))
 counted-found level (d ∷ digits) bytes h =
     let n = value_of (d ∷ digits) in
-    elim (eqb n 0) as (λ t. eqb n 0 ≡ t → IsFound level (d ∷ digits) bytes (cond t (Broken ZeroCount) (cond (ltb (most_count level) n) (Broken TooLarge) (item_behind n bytes)))) [
+    elim (eqb n 0) as (λ t. eqb n 0 ≡ t
+    → IsFound level (d ∷ digits) bytes (cond t (Broken ZeroCount) (cond (ltb (most_count level) n) (Broken TooLarge) (item_behind n bytes)))) [
       | true ↦ λ _. tt
-      | false ↦ λ e. elim (ltb (most_count level) n) as (λ t. ltb (most_count level) n ≡ t → IsFound level (d ∷ digits) bytes (cond t (Broken TooLarge) (item_behind n bytes))) [
-        | true ↦ λ _. tt
-        | false ↦ λ f. item_behind-found level n (d ∷ digits) bytes (inr (h, refl, grind (arith, nat_tests, e), grind (arith, nat_tests, f)))
-      ] refl
+      | false ↦ λ e. elim (ltb (most_count level) n)
+          as (λ t. ltb (most_count level) n ≡ t → IsFound level (d ∷ digits) bytes (cond t (Broken TooLarge) (item_behind n bytes))) [
+            | true ↦ λ _. tt
+            | false ↦ λ f. item_behind-found level n (d ∷ digits) bytes (inr (h, refl, grind (arith, nat_tests, e), grind (arith, nat_tests, f)))
+          ] refl
     ] refl
 
 -- what an item's place holds: the whole of it
@@ -241,7 +261,8 @@ item_in-held level (b ∷ bytes) =
     let all = b ∷ bytes in
     elim (eqb b 33) as (λ t. eqb b 33 ≡ t → IsHeld level all (cond t Mark (counted level (front_digits all) (behind_digits all)))) [
       | true ↦ λ e. let v : b ≡ 33 = grind (arith, nat_tests, e) in (bytes, ap (λ (n : ℕ). n ∷ bytes) v)
-      | false ↦ λ e. held level (front_digits all) (behind_digits all) all (counted level (front_digits all) (behind_digits all)) (sym (take-append-drop (prefix_len is_ascii_digit all) all))
+      | false ↦ λ e. held level (front_digits all) (behind_digits all) all (counted level (front_digits all) (behind_digits all))
+          (sym (take-append-drop (prefix_len is_ascii_digit all) all))
           (counted-found level (front_digits all) (behind_digits all) (list_all-front is_ascii_digit all))
     ] refl
 
@@ -250,7 +271,8 @@ next_of-held level bytes next e = subst (IsHeld level (trim_start bytes)) e (ite
 
 -- so a line that spells items is their texts
 pub Spells-IsTextOf : (level : ℕ) (items : List Item) (line : List ℕ) (last : Next) (Rest : List ℕ → Type 0)
-    → ((bytes : List ℕ) → next_of level bytes ≡ last → Rest (trim_start bytes)) → Spells level line items last → (rest : List ℕ) × Rest rest × IsTextOf level line items rest
+    → ((bytes : List ℕ) → next_of level bytes ≡ last → Rest (trim_start bytes)) → Spells level line items last → (rest : List ℕ) × Rest rest
+    × IsTextOf level line items rest
 Spells-IsTextOf level [] line last Rest f h = (trim_start line, f line h, indented line)
 Spells-IsTextOf level (item ∷ items) line last Rest f h =
     let i = indented line in
@@ -259,9 +281,11 @@ Spells-IsTextOf level (item ∷ items) line last Rest f h =
     (more.0, more.1, (i.0, k.0, h.0, i.1, k.1, i.2 ∙ ap (λ (t : List ℕ). i.0 ++ t) k.2, more.2))
 
 -- the same behind items, of one item more
-Spells-item : (level : ℕ) (line : List ℕ) (items : List Item) (item : Item) (rest : List ℕ) → Spells level line items (Spelled item rest) ↔ ((text : List ℕ) × IsItemText level text item × IsTextOf level line items (text ++ rest))
+Spells-item : (level : ℕ) (line : List ℕ) (items : List Item) (item : Item) (rest : List ℕ) → Spells level line items (Spelled item rest)
+    ↔ ((text : List ℕ) × IsItemText level text item × IsTextOf level line items (text ++ rest))
 Spells-item level line items item rest = (
-  (λ h. let k = Spells-IsTextOf level items line (Spelled item rest) (λ bytes. (text : List ℕ) × IsItemText level text item × (bytes ≡ text ++ rest)) (λ bytes e. next_of-held level bytes (Spelled item rest) e) h in
+  (λ h. let k = Spells-IsTextOf level items line (Spelled item rest) (λ bytes. (text : List ℕ) × IsItemText level text item × (bytes ≡ text ++ rest))
+      (λ bytes e. next_of-held level bytes (Spelled item rest) e) h in
       (k.1.0, k.1.1, subst (IsTextOf level line items) k.1.2 k.2)),
   (λ h. IsTextOf-Spells level items line (h.0 ++ rest) (Spelled item rest) (next_of-item level [] h.0 rest item refl h.1) h.2),
 )

@@ -25,7 +25,8 @@ no e = cc
 
 -- a text begins with a word exactly if it is that word and a rest
 begins-split : (text word : List ℕ) → begins_with text word ≡ true → text ≡ word ++ drop (length word) text
-begins-split text word h = sym (take-append-drop (length word) text) ∙ ap (λ (t : List ℕ). t ++ drop (length word) text) ((bytes_eq-Decides (take (length word) text) word).0 h)
+begins-split text word h = sym (take-append-drop (length word) text)
+    ∙ ap (λ (t : List ℕ). t ++ drop (length word) text) ((bytes_eq-Decides (take (length word) text) word).0 h)
 
 split-begins : (word rest : List ℕ) → begins_with (word ++ rest) word ≡ true
 split-begins word rest = (bytes_eq-Decides (take (length word) (word ++ rest)) word).1 (take-append_seam word rest)
@@ -35,26 +36,32 @@ begins-not text word h rest e = no (sym (ap (λ (t : List ℕ). begins_with t wo
 
 not-begins : (text word : List ℕ) → ((rest : List ℕ) → text ≡ word ++ rest → ⊥) → begins_with text word ≡ false
 not-begins text word h =
-    elim (begins_with text word) as (λ t. begins_with text word ≡ t → t ≡ false) [ true ↦ λ e. absurd (h (drop (length word) text) (begins-split text word e)) | false ↦ λ _. refl ] refl
+    elim (begins_with text word) as (λ t. begins_with text word ≡ t → t ≡ false)
+    [ true ↦ λ e. absurd (h (drop (length word) text) (begins-split text word e)) | false ↦ λ _. refl ] refl
 
 -- ---- numbers
 
 some-same : {X : Type 0} {a b : X} → Some a ≡ Some b → a ≡ b
 some-same e = cc
 
-digits-number : (text : List ℕ) (z : ℤ) → cond (is_digit_text text) (Some (pos (value_of text))) None ≡ Some z → (is_digit_text text ≡ true) × (z ≡ pos (value_of text))
+digits-number : (text : List ℕ) (z : ℤ) → cond (is_digit_text text) (Some (pos (value_of text))) None ≡ Some z → (is_digit_text text ≡ true)
+    × (z ≡ pos (value_of text))
 digits-number text z =
-    elim (is_digit_text text) as (λ t. cond t (Some (pos (value_of text))) None ≡ Some z → (t ≡ true) × (z ≡ pos (value_of text))) [ true ↦ λ h. (refl, sym (some-same h)) | false ↦ λ h. cc ]
+    elim (is_digit_text text) as (λ t. cond t (Some (pos (value_of text))) None ≡ Some z → (t ≡ true) × (z ≡ pos (value_of text)))
+    [ true ↦ λ h. (refl, sym (some-same h)) | false ↦ λ h. cc ]
 
-minus-number : (digits : List ℕ) (z : ℤ) → cond (is_digit_text digits) (Some (neg_ℤ (pos (value_of digits)))) None ≡ Some z → (is_digit_text digits ≡ true) × (z ≡ neg_ℤ (pos (value_of digits)))
+minus-number : (digits : List ℕ) (z : ℤ) → cond (is_digit_text digits) (Some (neg_ℤ (pos (value_of digits)))) None ≡ Some z → (is_digit_text digits ≡ true)
+    × (z ≡ neg_ℤ (pos (value_of digits)))
 minus-number digits z =
-    elim (is_digit_text digits) as (λ t. cond t (Some (neg_ℤ (pos (value_of digits)))) None ≡ Some z → (t ≡ true) × (z ≡ neg_ℤ (pos (value_of digits)))) [ true ↦ λ h. (refl, sym (some-same h)) | false ↦ λ h. cc ]
+    elim (is_digit_text digits) as (λ t. cond t (Some (neg_ℤ (pos (value_of digits)))) None ≡ Some z → (t ≡ true) × (z ≡ neg_ℤ (pos (value_of digits))))
+    [ true ↦ λ h. (refl, sym (some-same h)) | false ↦ λ h. cc ]
 
 number-text : (text : List ℕ) (z : ℤ) → signed_number text ≡ Some z → IsNumberText text z
 number-text text z =
     let rest = drop 1 text in
     elim (begins_with text (codes "-"))
-    as (λ t. begins_with text (codes "-") ≡ t → cond t (cond (is_digit_text rest) (Some (neg_ℤ (pos (value_of rest)))) None) (cond (is_digit_text text) (Some (pos (value_of text))) None) ≡ Some z → IsNumberText text z) [
+    as (λ t. begins_with text (codes "-") ≡ t → cond t (cond (is_digit_text rest) (Some (neg_ℤ (pos (value_of rest)))) None)
+    (cond (is_digit_text text) (Some (pos (value_of text))) None) ≡ Some z → IsNumberText text z) [
       | true ↦ λ e h. let m = minus-number rest z h in inr (rest, begins-split text (codes "-") e, m.0, m.1)
       | false ↦ λ _ h. inl (digits-number text z h)
     ] refl
@@ -95,7 +102,9 @@ at-comma (b ∷ text) = by (eqb b 44) refl (at-comma text)
     by false e more =
         let next : 1 + position_or_len (λ b. eqb b 44) text ≡ suc (position_or_len (λ b. eqb b 44) text) = omega arith in
         let behind : suc (position_or_len (λ b. eqb b 44) text + 1) ≡ suc (position_or_len (λ b. eqb b 44) text) + 1 = omega arith in
-        subst (λ n. IsCutAt n (b ∷ text)) (sym (ap (λ t. cond (not t) (1 + position_or_len (λ b. eqb b 44) text) 0) e ∙ next)) (subst (λ m. IsCutBy (suc (position_or_len (λ b. eqb b 44) text)) m (b ∷ text)) behind (onto (position_or_len (λ b. eqb b 44) text) (position_or_len (λ b. eqb b 44) text + 1) more))
+        subst (λ n. IsCutAt n (b ∷ text)) (sym (ap (λ t. cond (not t) (1 + position_or_len (λ b. eqb b 44) text) 0) e ∙ next))
+        (subst (λ m. IsCutBy (suc (position_or_len (λ b. eqb b 44) text)) m (b ∷ text)) behind
+        (onto (position_or_len (λ b. eqb b 44) text) (position_or_len (λ b. eqb b 44) text + 1) more))
 
 abbrev before : List ℕ → List ℕ
 before text = before_first (λ b. eqb b 44) text
@@ -114,13 +123,15 @@ two-numbers text y k = by (at-comma text)
 number-before : (text left right : List ℕ) (x : ℤ) → text ≡ left ++ (codes "," ++ right) → IsNumberText left x → signed_number (before text) ≡ Some x
 number-before text left right x e h = ap signed_number (ap before e ∙ before-comma left right (number-plain left x h)) ∙ text-number left x h
 
-number-behind : (text left right : List ℕ) (x y : ℤ) → text ≡ left ++ (codes "," ++ right) → IsNumberText left x → IsNumberText right y → signed_number (behind text) ≡ Some y
+number-behind : (text left right : List ℕ) (x y : ℤ) → text ≡ left ++ (codes "," ++ right) → IsNumberText left x → IsNumberText right y
+    → signed_number (behind text) ≡ Some y
 number-behind text left right x y e h k = ap signed_number (ap behind e ∙ after-comma left right (number-plain left x h)) ∙ text-number right y k
 
 corner-read : (level : ℕ) (text left right : List ℕ) (x y : ℤ) → text ≡ left ++ (codes "," ++ right) → IsNumberText left x → IsNumberText right y
     → corner_in level text ≡ corner_of level (Some x) (Some y)
 corner-read level text left right x y e h k =
-    ap (λ a. corner_of level a (signed_number (behind text))) (number-before text left right x e h) ∙ ap (corner_of level (Some x)) (number-behind text left right x y e h k)
+    ap (λ a. corner_of level a (signed_number (behind text))) (number-before text left right x e h)
+    ∙ ap (corner_of level (Some x)) (number-behind text left right x y e h k)
 
 abbrev pos_text : List ℕ → List ℕ
 pos_text rest = codes "Pos=" ++ rest
@@ -148,10 +159,12 @@ corner-IsReadAs level text rest (Some x) (Some y) t e f = by (is_coordinate leve
     by false v = outside (before rest) (behind rest) x y whole (number-text (before rest) x e) (number-text (behind rest) y f) v refl
 
 no-numbers : (level : ℕ) (rest : List ℕ) (a b : Option ℤ) → signed_number (before rest) ≡ a → signed_number (behind rest) ≡ b
-    → ((left right : List ℕ) (x y : ℤ) → rest ≡ left ++ (codes "," ++ right) → IsNumberText left x → IsNumberText right y → ⊥) → corner_of level a b ≡ Err BadNumber
+    → ((left right : List ℕ) (x y : ℤ) → rest ≡ left ++ (codes "," ++ right) → IsNumberText left x → IsNumberText right y → ⊥)
+    → corner_of level a b ≡ Err BadNumber
 no-numbers level rest None b e f h = refl
 no-numbers level rest (Some x) None e f h = refl
-no-numbers level rest (Some x) (Some y) e f h = absurd (h (before rest) (behind rest) x y (two-numbers rest y f) (number-text (before rest) x e) (number-text (behind rest) y f))
+no-numbers level rest (Some x) (Some y) e f h = absurd
+    (h (before rest) (behind rest) x y (two-numbers rest y f) (number-text (before rest) x e) (number-text (behind rest) y f))
 
 -- ---- the generation
 
@@ -207,7 +220,8 @@ field-fault level text kind h = subst (IsReadAs level text) h (field-IsReadAs le
 at-pos : (level : ℕ) (text rest : List ℕ) → text ≡ pos_text rest → field_of level text ≡ corner_in level rest
 at-pos level text rest e = ap (field_of level) e
 
-at-gen : (level : ℕ) (text rest : List ℕ) → text ≡ gen_text rest → field_of level text ≡ generation_by (is_digit_text rest) (leb (value_of rest) (2 ^ 64 - 1)) (value_of rest)
+at-gen : (level : ℕ) (text rest : List ℕ) → text ≡ gen_text rest → field_of level text ≡ generation_by (is_digit_text rest) (leb (value_of rest) (2 ^ 64 - 1))
+    (value_of rest)
 at-gen level text rest e = ap (field_of level) e
 
 text-field : (level : ℕ) (text : List ℕ) (field : Field) → IsFieldText level text field → field_of level text ≡ Ok field
@@ -218,7 +232,8 @@ text-field level text field (generation digits t d below e) =
     at-gen level text digits t ∙ ap (λ v. generation_by v (leb (value_of digits) (2 ^ 64 - 1)) (value_of digits)) d
     ∙ ap (λ v. generation_by true v (value_of digits)) (below-fits (value_of digits) below) ∙ ap Ok (sym e)
 text-field level text field (other p g e) =
-    ap (λ v. field_by level text v (begins_with text (codes "Gen="))) (not-begins text (codes "Pos=") p) ∙ ap (λ v. field_by level text false v) (not-begins text (codes "Gen=") g) ∙ ap Ok (sym e)
+    ap (λ v. field_by level text v (begins_with text (codes "Gen="))) (not-begins text (codes "Pos=") p)
+    ∙ ap (λ v. field_by level text false v) (not-begins text (codes "Gen=") g) ∙ ap Ok (sym e)
 
 fault-field : (level : ℕ) (text : List ℕ) (kind : Kind) → IsNoField level text kind → field_of level text ≡ Err kind
 fault-field level text kind (no_corner rest t h e) =
@@ -246,16 +261,19 @@ read-fields level o p [] h = let same : p ≡ o = cc in ([], tt, same)
 read-fields level o p (word ∷ words) h = by (field_of level word) refl h (λ field k. read-fields level (with_field o field) p words k)
   where
     by : (r : Result Field Kind) → field_of level word ≡ r → and_then r (λ found. position_with level (with_field o found) words) ≡ Ok p
-        → ((field : Field) → position_with level (with_field o field) words ≡ Ok p → ReadsFields level (with_field o field) words p) → ReadsFields level o (word ∷ words) p
+        → ((field : Field) → position_with level (with_field o field) words ≡ Ok p → ReadsFields level (with_field o field) words p)
+        → ReadsFields level o (word ∷ words) p
     by (Ok field) e k next = let more = next field k in (field ∷ more.0, (field-text level word field e, more.1), more.2)
     by (Err kind) e k next = cc
 
-fields-read : (level : ℕ) (o : Position) (words : List (List ℕ)) (fields : List Field) → AreFields level words fields → position_with level o words ≡ Ok (with_fields o fields)
+fields-read : (level : ℕ) (o : Position) (words : List (List ℕ)) (fields : List Field) → AreFields level words fields
+    → position_with level o words ≡ Ok (with_fields o fields)
 fields-read level o [] [] h = refl
 fields-read level o [] (field ∷ fields) h = absurd h
 fields-read level o (word ∷ words) [] h = absurd h
 fields-read level o (word ∷ words) (field ∷ fields) h =
-    ap (λ r. and_then r (λ found. position_with level (with_field o found) words)) (text-field level word field h.0) ∙ fields-read level (with_field o field) words fields h.1
+    ap (λ r. and_then r (λ found. position_with level (with_field o found) words)) (text-field level word field h.0)
+    ∙ fields-read level (with_field o field) words fields h.1
 
 -- words of which the first that is no field breaks this rule
 record ReadsFault (level : ℕ) (words : List (List ℕ)) (kind : Kind) : Type 0 where
@@ -307,7 +325,8 @@ abbrev LastGeneration : Position → List Field → ℕ → Type 0
 LastGeneration o fields n =
     (HasNoGeneration fields × (n ≡ o.generation)) ⊎ ((front rest : List Field) × (fields ≡ front ++ Generation n ∷ rest) × HasNoGeneration rest)
 
-corner-behind : (o p : Position) (field : Field) (fields : List Field) (x y : ℤ) → (HasNoCorner fields → (x ≡ p.x) × (y ≡ p.y) → LastCorner o (field ∷ fields) x y)
+corner-behind : (o p : Position) (field : Field) (fields : List Field) (x y : ℤ)
+    → (HasNoCorner fields → (x ≡ p.x) × (y ≡ p.y) → LastCorner o (field ∷ fields) x y)
     → LastCorner p fields x y → LastCorner o (field ∷ fields) x y
 corner-behind o p field fields x y f (inl h) = f h.0 (h.1, h.2)
 corner-behind o p field fields x y f (inr h) = inr (field ∷ h.0, h.1, ap (λ (fs : List Field). field ∷ fs) h.2, h.3)
@@ -322,9 +341,11 @@ last-corner o (Corner a b ∷ fields) =
 last-corner o (Generation n ∷ fields) =
     let p : Position = with_field o (Generation n) in
     corner-behind o p (Generation n) fields (with_fields p fields).x (with_fields p fields).y (λ h e. inl (h, e.0, e.1)) (last-corner p fields)
-last-corner o (Other ∷ fields) = corner-behind o o Other fields (with_fields o fields).x (with_fields o fields).y (λ h e. inl (h, e.0, e.1)) (last-corner o fields)
+last-corner o (Other ∷ fields) = corner-behind o o Other fields (with_fields o fields).x (with_fields o fields).y (λ h e. inl (h, e.0, e.1))
+    (last-corner o fields)
 
-generation-behind : (o p : Position) (field : Field) (fields : List Field) (n : ℕ) → (HasNoGeneration fields → n ≡ p.generation → LastGeneration o (field ∷ fields) n)
+generation-behind : (o p : Position) (field : Field) (fields : List Field) (n : ℕ)
+    → (HasNoGeneration fields → n ≡ p.generation → LastGeneration o (field ∷ fields) n)
     → LastGeneration p fields n → LastGeneration o (field ∷ fields) n
 generation-behind o p field fields n f (inl h) = f h.0 h.1
 generation-behind o p field fields n f (inr h) = inr (field ∷ h.0, h.1, ap (λ (fs : List Field). field ∷ fs) h.2, h.3)
@@ -337,7 +358,8 @@ last-generation o (Corner a b ∷ fields) =
 last-generation o (Generation n ∷ fields) =
     let p : Position = with_field o (Generation n) in
     let last : Position = with_fields p fields in
-    generation-behind o p (Generation n) fields last.generation (λ h e. inr ([], fields, ap (λ (k : ℕ). Generation k ∷ fields) (sym e), h)) (last-generation p fields)
+    generation-behind o p (Generation n) fields last.generation (λ h e. inr ([], fields, ap (λ (k : ℕ). Generation k ∷ fields) (sym e), h))
+    (last-generation p fields)
 last-generation o (Other ∷ fields) = generation-behind o o Other fields (with_fields o fields).generation (λ h e. inl (h, e)) (last-generation o fields)
 
 kept-corner : (o : Position) (fields : List Field) → HasNoCorner fields → ((with_fields o fields).x ≡ o.x) × ((with_fields o fields).y ≡ o.y)
@@ -359,14 +381,16 @@ with-append o (field ∷ front) rest = with-append (with_field o field) front re
 corner-last : (o : Position) (fields : List Field) (x y : ℤ) → LastCorner o fields x y → ((with_fields o fields).x ≡ x) × ((with_fields o fields).y ≡ y)
 corner-last o fields x y (inl h) = let k = kept-corner o fields h.0 in (k.0 ∙ sym h.1, k.1 ∙ sym h.2)
 corner-last o fields x y (inr h) =
-    let e : with_fields o fields ≡ with_fields (with_field (with_fields o h.0) (Corner x y)) h.1 = ap (with_fields o) h.2 ∙ with-append o h.0 (Corner x y ∷ h.1) in
+    let e : with_fields o fields ≡ with_fields (with_field (with_fields o h.0) (Corner x y)) h.1 = ap (with_fields o) h.2
+    ∙ with-append o h.0 (Corner x y ∷ h.1) in
     let k = kept-corner (with_field (with_fields o h.0) (Corner x y)) h.1 h.3 in
     (ap (λ (p : Position). p.x) e ∙ k.0, ap (λ (p : Position). p.y) e ∙ k.1)
 
 generation-last : (o : Position) (fields : List Field) (n : ℕ) → LastGeneration o fields n → (with_fields o fields).generation ≡ n
 generation-last o fields n (inl h) = kept-generation o fields h.0 ∙ sym h.1
 generation-last o fields n (inr h) =
-    let e : with_fields o fields ≡ with_fields (with_field (with_fields o h.0) (Generation n)) h.1 = ap (with_fields o) h.2 ∙ with-append o h.0 (Generation n ∷ h.1) in
+    let e : with_fields o fields ≡ with_fields (with_field (with_fields o h.0) (Generation n)) h.1 = ap (with_fields o) h.2
+    ∙ with-append o h.0 (Generation n ∷ h.1) in
     ap (λ (p : Position). p.generation) e ∙ kept-generation (with_field (with_fields o h.0) (Generation n)) h.1 h.3
 
 same-position : (p q : Position) → p.x ≡ q.x → p.y ≡ q.y → p.generation ≡ q.generation → p ≡ q
@@ -380,16 +404,19 @@ same-position p q x y n =
 abbrev line_text : List ℕ → List ℕ
 line_text text = codes "#CXRLE" ++ text
 
-text-position : (level : ℕ) (line : List ℕ) (position : Position) → IsPositionText level line position → (is_position_line line ≡ true) × (position_of level line ≡ Ok position)
+text-position : (level : ℕ) (line : List ℕ) (position : Position) → IsPositionText level line position → (is_position_line line ≡ true)
+    × (position_of level line ≡ Ok position)
 text-position level line position h =
     let w = AreWords-words_of h.words h.text h.apart in
     let c = corner-last default_position h.fields position.x position.y h.corner in
-    let p : with_fields default_position h.fields ≡ position = same-position (with_fields default_position h.fields) position c.0 c.1 (generation-last default_position h.fields position.generation h.generation) in (
+    let p : with_fields default_position h.fields ≡ position = same-position (with_fields default_position h.fields) position c.0 c.1
+    (generation-last default_position h.fields position.generation h.generation) in (
       ap is_position_line h.whole ∙ w.0,
       ap (position_of level) h.whole ∙ ap (position_with level default_position) w.1 ∙ fields-read level default_position h.words h.fields h.each ∙ ap Ok p,
     )
 
-position-text : (level : ℕ) (line : List ℕ) (position : Position) → (is_position_line line ≡ true) × (position_of level line ≡ Ok position) → IsPositionText level line position
+position-text : (level : ℕ) (line : List ℕ) (position : Position) → (is_position_line line ≡ true) × (position_of level line ≡ Ok position)
+    → IsPositionText level line position
 position-text level line position h =
     let text : List ℕ = drop 6 line in
     let parts = both_true (begins_with line (codes "#CXRLE")) (is_blank (take 1 text)) h.0 in
@@ -409,7 +436,8 @@ fault-position : (level : ℕ) (line : List ℕ) (kind : Kind) → IsNoPosition 
 fault-position level line kind h =
     let w = AreWords-words_of (h.words ++ h.word ∷ h.behind) h.text h.apart in (
       ap is_position_line h.whole ∙ w.0,
-      ap (position_of level) h.whole ∙ ap (position_with level default_position) w.1 ∙ fault-read level default_position h.words h.word h.behind h.fields kind h.each h.fault,
+      ap (position_of level) h.whole ∙ ap (position_with level default_position) w.1 ∙ fault-read level default_position h.words h.word h.behind h.fields kind
+          h.each h.fault,
     )
 
 position-fault : (level : ℕ) (line : List ℕ) (kind : Kind) → (is_position_line line ≡ true) × (position_of level line ≡ Err kind) → IsNoPosition level line kind
@@ -430,5 +458,7 @@ position-fault level line kind h =
     }
 
 pub positions_are_plain : PositionsArePlain
-positions_are_plain level line =
-    (λ position. (position-text level line position, text-position level line position), λ kind. (position-fault level line kind, fault-position level line kind))
+positions_are_plain level line = (
+  λ position. (position-text level line position, text-position level line position),
+  λ kind. (position-fault level line kind, fault-position level line kind),
+)

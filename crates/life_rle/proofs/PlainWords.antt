@@ -64,7 +64,8 @@ no e = cc
 solid : (b : ℕ) → is_whitespace b ≡ false → not (is_whitespace b) ≡ true
 solid b h = ap not h
 
-one_byte : (b : ℕ) (words : List (List ℕ)) (text : List ℕ) → is_whitespace b ≡ false → is_blank (take 1 text) ≡ false → Separated text words → Separated (b ∷ text) (onto_first b words)
+one_byte : (b : ℕ) (words : List (List ℕ)) (text : List ℕ) → is_whitespace b ≡ false → is_blank (take 1 text) ≡ false → Separated text words
+    → Separated (b ∷ text) (onto_first b words)
 one_byte b [] text w h s = no (sym (blank-take text s) ∙ h)
 one_byte b (word ∷ words) text w h s = by s.0 s.2 s.4
   where
@@ -72,7 +73,8 @@ one_byte b (word ∷ words) text w h s = by s.0 s.2 s.4
     by [] k e = ([], s.1, refl, (refl, ap (λ v. v && list_all (λ b. not (is_whitespace b)) word) (solid b w) ∙ s.3.1), ap (λ (u : List ℕ). b ∷ u) e, s.5, s.6)
     by (c ∷ space) k e = no (sym (space-take (c ∷ space) (word ++ s.1) refl k) ∙ sym (ap (λ (u : List ℕ). is_blank (take 1 u)) e) ∙ h)
 
-step : (b : ℕ) (text : List ℕ) (space last : Bool) → is_whitespace b ≡ space → is_blank (take 1 text) ≡ last → Separated text (words_of text) → Separated (b ∷ text) (step_to b text space last)
+step : (b : ℕ) (text : List ℕ) (space last : Bool) → is_whitespace b ≡ space → is_blank (take 1 text) ≡ last → Separated text (words_of text)
+    → Separated (b ∷ text) (step_to b text space last)
 step b text true last h k s = one_blank b (words_of text) text h s
 step b text false true h k s = ([], text, refl, (refl, ap (λ v. v && true) (solid b h)), refl, k, s)
 step b text false false h k s = one_byte b (words_of text) text h k s

@@ -59,7 +59,8 @@ open_step position (Err kind) = Refused kind
 abbrev pub later_step : ℕ → Rle → List ℕ → Result Later Kind → Progress
 later_step level file line (Err kind) = Refused kind
 later_step level file line (Ok Passed) = Begun file
-later_step level file line (Ok Data) = after_items file (line_items level line) (line_last level line) (items_fault level file (line_items level line) (line_last level line))
+later_step level file line (Ok Data) = after_items file (line_items level line) (line_last level line)
+    (items_fault level file (line_items level line) (line_last level line))
 
 abbrev pub step : ℕ → Progress → List ℕ → Progress
 step level (Before position) line = open_step position (opening_of level line)
@@ -94,7 +95,8 @@ progress-Ended level file [] = refl
 progress-Ended level file (line ∷ lines) = progress-Ended level file lines
 
 -- items behind items
-pub placed_behind-append : (o : Position) (before xs ys : List Item) → placed_behind o before (xs ++ ys) ≡ placed_behind o before xs ++ placed_behind o (before ++ xs) ys
+pub placed_behind-append : (o : Position) (before xs ys : List Item) → placed_behind o before (xs ++ ys) ≡ placed_behind o before xs
+    ++ placed_behind o (before ++ xs) ys
 placed_behind-append o before [] ys = ap (λ b. placed_behind o b ys) (sym (append-nil before))
 placed_behind-append o before (x ∷ xs) ys =
     ap (λ ps. placed_item o before x ∷ ps) (placed_behind-append o (before ++ x ∷ []) xs ys
@@ -104,13 +106,15 @@ first_kind-assoc : (a b c : Option Kind) → first_kind a (first_kind b c) ≡ f
 first_kind-assoc None b c = refl
 first_kind-assoc (Some k) b c = refl
 
-pub first_fault-append : (level : ℕ) (rule : Rule) (ps qs : List Placed) → first_fault level rule (ps ++ qs) ≡ first_kind (first_fault level rule ps) (first_fault level rule qs)
+pub first_fault-append : (level : ℕ) (rule : Rule) (ps qs : List Placed) → first_fault level rule (ps ++ qs) ≡ first_kind (first_fault level rule ps)
+    (first_fault level rule qs)
 first_fault-append level rule [] qs = refl
 first_fault-append level rule (p ∷ ps) qs =
     ap (first_kind (placed_fault level rule p)) (first_fault-append level rule ps qs)
     ∙ first_kind-assoc (placed_fault level rule p) (first_fault level rule ps) (first_fault level rule qs)
 
-pub first_fault-with_items : (level : ℕ) (file : Rle) (items : List Item) → first_fault level file.rule (placed (with_items file items)) ≡ first_kind (first_fault level file.rule (placed file)) (first_fault level file.rule (placed_behind file.position file.items items))
+pub first_fault-with_items : (level : ℕ) (file : Rle) (items : List Item) → first_fault level file.rule (placed (with_items file items))
+    ≡ first_kind (first_fault level file.rule (placed file)) (first_fault level file.rule (placed_behind file.position file.items items))
 first_fault-with_items level file items =
     ap (first_fault level file.rule) (placed_behind-append file.position [] file.items items)
     ∙ first_fault-append level file.rule (placed file) (placed_behind file.position file.items items)
@@ -120,18 +124,22 @@ first_kind-both None b e = (refl, e)
 first_kind-both (Some k) b e = cc
 
 -- one more line
-pub IsPreamble-push : (level : ℕ) (given o here : Position) (lines : List (List ℕ)) (line : List ℕ) → IsPreamble level given lines o → ((opening_of level line ≡ Ok Comment) × (here ≡ o)) ⊎ (opening_of level line ≡ Ok (PositionLine here)) → IsPreamble level given (lines ++ line ∷ []) here
+pub IsPreamble-push : (level : ℕ) (given o here : Position) (lines : List (List ℕ)) (line : List ℕ) → IsPreamble level given lines o
+    → ((opening_of level line ≡ Ok Comment) × (here ≡ o)) ⊎ (opening_of level line ≡ Ok (PositionLine here)) → IsPreamble level given (lines ++ line ∷ []) here
 IsPreamble-push level given o here [] line h (inl e) = inl (e.0, e.1 ∙ h)
 IsPreamble-push level given o here [] line h (inr e) = inr (here, e, refl)
 IsPreamble-push level given o here (l ∷ ls) line (inl h) e = inl (h.0, IsPreamble-push level given o here ls line h.1 e)
 IsPreamble-push level given o here (l ∷ ls) line (inr h) e = inr (h.0, h.1, IsPreamble-push level h.0 o here ls line h.2 e)
 
-BodySpells-push : (level : ℕ) (lines : List (List ℕ)) (items : List Item) (line : List ℕ) (more : List Item) → BodySpells level lines items → LineSpells level line more End → BodySpells level (lines ++ line ∷ []) (items ++ more)
+BodySpells-push : (level : ℕ) (lines : List (List ℕ)) (items : List Item) (line : List ℕ) (more : List Item) → BodySpells level lines items
+    → LineSpells level line more End → BodySpells level (lines ++ line ∷ []) (items ++ more)
 BodySpells-push level [] items line more h s = (more, [], ap (λ xs. xs ++ more) h ∙ sym (append-nil more), s, refl)
 BodySpells-push level (l ∷ ls) items line more h s =
     (h.0, h.1 ++ more, ap (λ xs. xs ++ more) h.2 ∙ append_assoc h.0 h.1 more, h.3, BodySpells-push level ls h.1 line more h.4 s)
 
-pub IsUnmarked-push : (level : ℕ) (lines : List (List ℕ)) (file : Rle) (line : List ℕ) (more : List Item) → IsUnmarked level lines file → LineSpells level line more End → first_fault level file.rule (placed_behind file.position file.items more) ≡ None → IsUnmarked level (lines ++ line ∷ []) (with_items file more)
+pub IsUnmarked-push : (level : ℕ) (lines : List (List ℕ)) (file : Rle) (line : List ℕ) (more : List Item) → IsUnmarked level lines file
+    → LineSpells level line more End → first_fault level file.rule (placed_behind file.position file.items more) ≡ None
+    → IsUnmarked level (lines ++ line ∷ []) (with_items file more)
 IsUnmarked-push level lines file line more b s sound = record {
   before = b.before;
   header = b.header;
@@ -140,10 +148,13 @@ IsUnmarked-push level lines file line more b s sound = record {
   preamble = b.preamble;
   rule = b.rule;
   items = BodySpells-push level b.body file.items line more b.items s;
-  sound = first_fault-with_items level file more ∙ ap (λ k. first_kind k (first_fault level file.rule (placed_behind file.position file.items more))) b.sound ∙ sound;
+  sound = first_fault-with_items level file more ∙ ap (λ k. first_kind k (first_fault level file.rule (placed_behind file.position file.items more))) b.sound
+      ∙ sound;
 }
 
-pub IsMarked-begun : (level : ℕ) (lines : List (List ℕ)) (file : Rle) (line : List ℕ) (more : List Item) → IsUnmarked level lines file → LineSpells level line more Mark → first_fault level file.rule (placed_behind file.position file.items more) ≡ None → IsMarked level (lines ++ line ∷ []) (with_items file more)
+pub IsMarked-begun : (level : ℕ) (lines : List (List ℕ)) (file : Rle) (line : List ℕ) (more : List Item) → IsUnmarked level lines file
+    → LineSpells level line more Mark → first_fault level file.rule (placed_behind file.position file.items more) ≡ None
+    → IsMarked level (lines ++ line ∷ []) (with_items file more)
 IsMarked-begun level lines file line more b s sound = record {
   front = lines;
   last = line;
@@ -154,7 +165,8 @@ IsMarked-begun level lines file line more b s sound = record {
   items = refl;
   begun = b;
   marked = s;
-  sound = first_fault-with_items level file more ∙ ap (λ k. first_kind k (first_fault level file.rule (placed_behind file.position file.items more))) b.sound ∙ sound;
+  sound = first_fault-with_items level file more ∙ ap (λ k. first_kind k (first_fault level file.rule (placed_behind file.position file.items more))) b.sound
+      ∙ sound;
 }
 
 pub IsMarked-append : (level : ℕ) (lines more : List (List ℕ)) (file : Rle) → IsMarked level lines file → IsMarked level (lines ++ more) file
@@ -209,19 +221,34 @@ IsEndedBy-map begun marked sound lines file b = record {
   sound = sound file b.sound;
 }
 
-pub header-IsUnmarked : (level : ℕ) (lines : List (List ℕ)) (o : Position) (line : List ℕ) (rule : Rule) → IsPreamble level default_position lines o → opening_of level line ≡ Ok (Header rule) → IsUnmarked level (lines ++ line ∷ []) (record { rule = rule; position = o; items = [] })
-header-IsUnmarked level lines o line rule h e = record { before = lines; header = line; body = []; whole = refl; preamble = h; rule = e; items = refl; sound = refl }
+pub header-IsUnmarked : (level : ℕ) (lines : List (List ℕ)) (o : Position) (line : List ℕ) (rule : Rule) → IsPreamble level default_position lines o
+    → opening_of level line ≡ Ok (Header rule) → IsUnmarked level (lines ++ line ∷ []) (record { rule = rule; position = o; items = [] })
+header-IsUnmarked level lines o line rule h e = record {
+  before = lines;
+  header = line;
+  body = [];
+  whole = refl;
+  preamble = h;
+  rule = e;
+  items = refl;
+  sound = refl;
+}
 
 -- the steps keep what the lines are
-open_step-Stands : (level : ℕ) (lines : List (List ℕ)) (o : Position) (line : List ℕ) (r : Result Opening Kind) → IsPreamble level default_position lines o → opening_of level line ≡ r → Stands level (lines ++ line ∷ []) (open_step o r)
+open_step-Stands : (level : ℕ) (lines : List (List ℕ)) (o : Position) (line : List ℕ) (r : Result Opening Kind) → IsPreamble level default_position lines o
+    → opening_of level line ≡ r → Stands level (lines ++ line ∷ []) (open_step o r)
 open_step-Stands level lines o line (Ok Comment) h e = IsPreamble-push level default_position o o lines line h (inl (e, refl))
 open_step-Stands level lines o line (Ok (PositionLine here)) h e = IsPreamble-push level default_position o here lines line h (inr e)
 open_step-Stands level lines o line (Ok (Header rule)) h e = header-IsUnmarked level lines o line rule h e
 open_step-Stands level lines o line (Err kind) h e = tt
 
-after_items-Stands : (level : ℕ) (lines : List (List ℕ)) (file : Rle) (line : List ℕ) (items : List Item) (next : Next) (k : Option Kind) → IsUnmarked level lines file → later_of line ≡ Ok Data → Spells level line items next → items_fault level file items next ≡ k → Stands level (lines ++ line ∷ []) (after_items file items next k)
-after_items-Stands level lines file line items End None b f s e = IsUnmarked-push level lines file line items b (inr (f, s)) (first_kind-both (first_fault level file.rule (placed_behind file.position file.items items)) None e).0
-after_items-Stands level lines file line items Mark None b f s e = IsMarked-begun level lines file line items b (inr (f, s)) (first_kind-both (first_fault level file.rule (placed_behind file.position file.items items)) None e).0
+after_items-Stands : (level : ℕ) (lines : List (List ℕ)) (file : Rle) (line : List ℕ) (items : List Item) (next : Next) (k : Option Kind)
+    → IsUnmarked level lines file → later_of line ≡ Ok Data → Spells level line items next → items_fault level file items next ≡ k
+    → Stands level (lines ++ line ∷ []) (after_items file items next k)
+after_items-Stands level lines file line items End None b f s e = IsUnmarked-push level lines file line items b (inr (f, s))
+    (first_kind-both (first_fault level file.rule (placed_behind file.position file.items items)) None e).0
+after_items-Stands level lines file line items Mark None b f s e = IsMarked-begun level lines file line items b (inr (f, s))
+    (first_kind-both (first_fault level file.rule (placed_behind file.position file.items items)) None e).0
 after_items-Stands level lines file line items (Spelled i r) None b f s e = tt
 after_items-Stands level lines file line items (Broken kind) None b f s e = tt
 after_items-Stands level lines file line items End (Some kind) b f s e = tt
@@ -233,18 +260,23 @@ after_items-Stands level lines file line items (Broken k) (Some kind) b f s e = 
 pub with_items-nil : (file : Rle) → with_items file [] ≡ file
 with_items-nil file = ap (λ items. record { rule = file.rule; position = file.position; items = items }) (append-nil file.items)
 
-later_step-Stands : (level : ℕ) (lines : List (List ℕ)) (file : Rle) (line : List ℕ) (r : Result Later Kind) → IsUnmarked level lines file → later_of line ≡ r → Stands level (lines ++ line ∷ []) (later_step level file line r)
+later_step-Stands : (level : ℕ) (lines : List (List ℕ)) (file : Rle) (line : List ℕ) (r : Result Later Kind) → IsUnmarked level lines file → later_of line ≡ r
+    → Stands level (lines ++ line ∷ []) (later_step level file line r)
 later_step-Stands level lines file line (Err kind) b e = tt
-later_step-Stands level lines file line (Ok Passed) b e = subst (IsUnmarked level (lines ++ line ∷ [])) (with_items-nil file) (IsUnmarked-push level lines file line [] b (inl (e, refl, refl)) refl)
-later_step-Stands level lines file line (Ok Data) b e = after_items-Stands level lines file line (line_items level line) (line_last level line) (items_fault level file (line_items level line) (line_last level line)) b e (line-Spells level (length line) line) refl
+later_step-Stands level lines file line (Ok Passed) b e = subst (IsUnmarked level (lines ++ line ∷ [])) (with_items-nil file)
+    (IsUnmarked-push level lines file line [] b (inl (e, refl, refl)) refl)
+later_step-Stands level lines file line (Ok Data) b e = after_items-Stands level lines file line (line_items level line) (line_last level line)
+    (items_fault level file (line_items level line) (line_last level line)) b e (line-Spells level (length line) line) refl
 
-pub step-Stands : (level : ℕ) (lines : List (List ℕ)) (p : Progress) (line : List ℕ) → Stands level lines p → Stands level (lines ++ line ∷ []) (step level p line)
+pub step-Stands : (level : ℕ) (lines : List (List ℕ)) (p : Progress) (line : List ℕ) → Stands level lines p
+    → Stands level (lines ++ line ∷ []) (step level p line)
 step-Stands level lines (Before o) line h = open_step-Stands level lines o line (opening_of level line) h refl
 step-Stands level lines (Begun file) line h = later_step-Stands level lines file line (later_of line) h refl
 step-Stands level lines (Ended file) line h = IsMarked-push level lines file line h
 step-Stands level lines (Refused kind) line h = tt
 
-progress-Stands : (level : ℕ) (front : List (List ℕ)) (p : Progress) (lines : List (List ℕ)) → Stands level front p → Stands level (front ++ lines) (progress level p lines)
+progress-Stands : (level : ℕ) (front : List (List ℕ)) (p : Progress) (lines : List (List ℕ)) → Stands level front p
+    → Stands level (front ++ lines) (progress level p lines)
 progress-Stands level front p [] h = subst (λ ls. Stands level ls p) (sym (append-nil front)) h
 progress-Stands level front p (line ∷ lines) h =
     subst (λ ls. Stands level ls (progress level (step level p line) lines)) (append_assoc front (line ∷ []) lines)

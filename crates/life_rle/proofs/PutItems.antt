@@ -30,7 +30,8 @@ item_text-counted rule item h =
     item_text-parts rule item ∙ ap (λ (t : Bool). cond t [] (decimal (item_count item)) ++ tag_text rule item) e
 
 -- an item whose text fits on the line
-pub put-here : (rule : Rule) (used : ℕ) (item : Item) (start : ℕ) (room old new : List ℕ) → start + length (item_text rule item) ≡ 23 → drop start room ≡ item_text rule item
+pub put-here : (rule : Rule) (used : ℕ) (item : Item) (start : ℕ) (room old new : List ℕ) → start + length (item_text rule item) ≡ 23
+    → drop start room ≡ item_text rule item
     → (used + (23 - start)) ≤ 70 → new ≡ old ++ drop start room → Puts rule used (item ∷ []) old (used + (23 - start)) new
 put-here rule used item start room old new s t fits e =
     let len : 23 - start ≡ length (item_text rule item) = omega (arith, s) in
@@ -42,11 +43,13 @@ put-here rule used item start room old new s t fits e =
           ap (λ n. new ++ rest (used + n)) len
           ∙ ap (λ t. t ++ rest (used + length (item_text rule item))) (e ∙ ap (λ t. old ++ t) t)
           ∙ append_assoc old (item_text rule item) (rest (used + length (item_text rule item)))
-          ∙ ap (λ (c : Bool). old ++ (cond c [] (10 ∷ []) ++ (item_text rule item ++ rest (cond c (used + length (item_text rule item)) (length (item_text rule item)))))) (sym test);
+          ∙ ap (λ (c : Bool). old ++ (cond c [] (10 ∷ [])
+          ++ (item_text rule item ++ rest (cond c (used + length (item_text rule item)) (length (item_text rule item)))))) (sym test);
     }
 
 -- an item whose text begins the next line
-pub put-below : (rule : Rule) (used : ℕ) (item : Item) (start : ℕ) (room old new : List ℕ) → start + length (item_text rule item) ≡ 23 → drop start room ≡ item_text rule item
+pub put-below : (rule : Rule) (used : ℕ) (item : Item) (start : ℕ) (room old new : List ℕ) → start + length (item_text rule item) ≡ 23
+    → drop start room ≡ item_text rule item
     → 70 < (used + (23 - start)) → new ≡ old ++ (10 ∷ drop start room) → Puts rule used (item ∷ []) old (23 - start) new
 put-below rule used item start room old new s t full e =
     let len : 23 - start ≡ length (item_text rule item) = omega (arith, s) in
@@ -58,7 +61,8 @@ put-below rule used item start room old new s t full e =
           ap (λ n. new ++ rest n) len
           ∙ ap (λ t. t ++ rest (length (item_text rule item))) (e ∙ ap (λ t. old ++ (10 ∷ t)) t)
           ∙ append_assoc old (10 ∷ item_text rule item) (rest (length (item_text rule item)))
-          ∙ ap (λ (c : Bool). old ++ (cond c [] (10 ∷ []) ++ (item_text rule item ++ rest (cond c (used + length (item_text rule item)) (length (item_text rule item)))))) (sym test);
+          ∙ ap (λ (c : Bool). old ++ (cond c [] (10 ∷ [])
+          ++ (item_text rule item ++ rest (cond c (used + length (item_text rule item)) (length (item_text rule item)))))) (sym test);
     }
 
 -- nothing
@@ -80,12 +84,14 @@ wrapped-text line (text ∷ texts) =
     elim (leb (length line + length text) 70)
     as (λ t. flat_map (λ line. line ++ 10 ∷ []) (cond t (wrapped (line ++ text) texts) (line ∷ wrapped text texts))
     ≡ line ++ (cond t [] (10 ∷ []) ++ (text ++ text_from (cond t (length line + length text) (length text)) texts))) [
-      | true ↦ wrapped-text (line ++ text) texts ∙ append_assoc line text (text_from (length (line ++ text)) texts) ∙ ap (λ n. line ++ (text ++ text_from n texts)) (length-append line text)
+      | true ↦ wrapped-text (line ++ text) texts ∙ append_assoc line text (text_from (length (line ++ text)) texts)
+          ∙ ap (λ n. line ++ (text ++ text_from n texts)) (length-append line text)
       | false ↦ append_assoc line (10 ∷ []) (flat_map (λ line. line ++ 10 ∷ []) (wrapped text texts)) ∙ ap (λ t. line ++ (10 ∷ t)) (wrapped-text text texts)
     ]
 
 -- two lines in front, and items
-pub lines-text : (position header : List ℕ) (rule : Rule) (items : List Item) (old first second new : List ℕ) → first ≡ old ++ (position ++ 10 ∷ []) → second ≡ first ++ (header ++ 10 ∷ [])
+pub lines-text : (position header : List ℕ) (rule : Rule) (items : List Item) (old first second new : List ℕ) → first ≡ old ++ (position ++ 10 ∷ [])
+    → second ≡ first ++ (header ++ 10 ∷ [])
     → new ≡ second ++ items_text rule 0 items → new ≡ old ++ flat_map (λ line. line ++ 10 ∷ []) (position ∷ header ∷ item_lines rule items)
 lines-text position header rule items old first second new a b e =
     let rest = items_text rule 0 items in
@@ -95,9 +101,11 @@ lines-text position header rule items old first second new a b e =
     ∙ ap (λ t. old ++ ((position ++ 10 ∷ []) ++ ((header ++ 10 ∷ []) ++ t))) (sym (wrapped-text [] (map (item_text rule) items ++ (33 ∷ []) ∷ [])))
 
 -- four texts, one behind the other
-pub four-texts : (a b c d old first second third new : List ℕ) → first ≡ old ++ a → second ≡ first ++ b → third ≡ second ++ c → new ≡ third ++ d → new ≡ old ++ (((a ++ b) ++ c) ++ d)
+pub four-texts : (a b c d old first second third new : List ℕ) → first ≡ old ++ a → second ≡ first ++ b → third ≡ second ++ c → new ≡ third ++ d
+    → new ≡ old ++ (((a ++ b) ++ c) ++ d)
 four-texts a b c d old first second third new e f g h =
-    h ∙ ap (λ t. t ++ d) (g ∙ ap (λ t. t ++ c) (f ∙ ap (λ t. t ++ b) e ∙ append_assoc old a b) ∙ append_assoc old (a ++ b) c) ∙ append_assoc old ((a ++ b) ++ c) d
+    h ∙ ap (λ t. t ++ d) (g ∙ ap (λ t. t ++ c) (f ∙ ap (λ t. t ++ b) e ∙ append_assoc old a b) ∙ append_assoc old (a ++ b) c)
+    ∙ append_assoc old ((a ++ b) ++ c) d
 
 -- three texts, one behind the other
 pub three-texts : (a b c old first second new : List ℕ) → first ≡ old ++ a → second ≡ first ++ b → new ≡ second ++ c → new ≡ old ++ (a ++ (b ++ c))

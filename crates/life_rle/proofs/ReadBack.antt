@@ -38,14 +38,16 @@ lines-ended (l ∷ ls) h =
 
 digits-trimmed : (digits rest : List ℕ) → is_digit_text digits ≡ true → trim_start (digits ++ rest) ≡ digits ++ rest
 digits-trimmed [] rest h = cc
-digits-trimmed (d ∷ digits) rest h = ap (λ t. cond t (trim_start (digits ++ rest)) (d ∷ (digits ++ rest))) (digit-plain d (both_true (is_ascii_digit d) (list_all is_ascii_digit digits) h).0).0
+digits-trimmed (d ∷ digits) rest h = ap (λ t. cond t (trim_start (digits ++ rest)) (d ∷ (digits ++ rest)))
+    (digit-plain d (both_true (is_ascii_digit d) (list_all is_ascii_digit digits) h).0).0
 
 pub digits-all : (digits : List ℕ) → is_digit_text digits ≡ true → list_all is_ascii_digit digits ≡ true
 digits-all [] h = refl
 digits-all (d ∷ digits) h = h
 
 -- a number and what stands behind it
-after_number-digits : (digits rest : List ℕ) → is_digit_text digits ≡ true → Stops is_ascii_digit rest → after_number (trim_start (digits ++ rest)) ≡ Some (trim_start rest)
+after_number-digits : (digits rest : List ℕ) → is_digit_text digits ≡ true → Stops is_ascii_digit rest → after_number (trim_start (digits ++ rest))
+    ≡ Some (trim_start rest)
 after_number-digits digits rest h s =
     let all = digits-all digits h in
     ap after_number (digits-trimmed digits rest h)
@@ -68,18 +70,22 @@ behind_width found = do
   rule_part rest
 
 -- the header's text in one row
-header-regrouped : (w h r : List ℕ) → ((codes "x = " ++ w) ++ (codes ", y = " ++ h)) ++ (codes ", rule = " ++ r) ≡ codes "x = " ++ (w ++ (codes ", y = " ++ (h ++ (codes ", rule = " ++ r))))
-header-regrouped w h r = ap (λ t. codes "x = " ++ t) (append_assoc w (codes ", y = " ++ h) (codes ", rule = " ++ r) ∙ ap (λ t. w ++ t) (append_assoc (codes ", y = ") h (codes ", rule = " ++ r)))
+header-regrouped : (w h r : List ℕ) → ((codes "x = " ++ w) ++ (codes ", y = " ++ h)) ++ (codes ", rule = " ++ r) ≡ codes "x = "
+    ++ (w ++ (codes ", y = " ++ (h ++ (codes ", rule = " ++ r))))
+header-regrouped w h r = ap (λ t. codes "x = " ++ t)
+    (append_assoc w (codes ", y = " ++ h) (codes ", rule = " ++ r) ∙ ap (λ t. w ++ t) (append_assoc (codes ", y = ") h (codes ", rule = " ++ r)))
 
 -- the written header has the form of a header
-pub header_form-written : (w h : List ℕ) (r : List ℕ) → is_digit_text w ≡ true → is_digit_text h ≡ true → header_form (((codes "x = " ++ w) ++ (codes ", y = " ++ h)) ++ (codes ", rule = " ++ r)) ≡ Some (Some (trim_start r))
+pub header_form-written : (w h : List ℕ) (r : List ℕ) → is_digit_text w ≡ true → is_digit_text h ≡ true
+    → header_form (((codes "x = " ++ w) ++ (codes ", y = " ++ h)) ++ (codes ", rule = " ++ r)) ≡ Some (Some (trim_start r))
 header_form-written w h r dw dh =
     ap header_form (header-regrouped w h r)
     ∙ ap behind_width (after_number-digits w (codes ", y = " ++ (h ++ (codes ", rule = " ++ r))) dw refl)
     ∙ ap behind_height (after_number-digits h (codes ", rule = " ++ r) dh refl)
 
 -- and its rule is read, where the rule's text is read and has no whitespace in front
-pub header_of-written : (w h : ℕ) (rule : Rule) → w < 2 ^ 64 → h < 2 ^ 64 → trim_start (rule_text rule) ≡ rule_text rule → rule_of (rule_text rule) ≡ Ok rule → header_of (header_text w h rule) ≡ Ok rule
+pub header_of-written : (w h : ℕ) (rule : Rule) → w < 2 ^ 64 → h < 2 ^ 64 → trim_start (rule_text rule) ≡ rule_text rule → rule_of (rule_text rule) ≡ Ok rule
+    → header_of (header_text w h rule) ≡ Ok rule
 header_of-written w h rule sw sh bare law =
     ap rule_in (header_form-written (decimal w) (decimal h) (rule_text rule) (decimal-is_digit_text w sw) (decimal-is_digit_text h sh))
     ∙ ap rule_of bare ∙ law

@@ -43,9 +43,12 @@ not_more most n e = grind (arith, nat_tests)
 counted-tame : (level : ℕ) (digits bytes : List ℕ) → IsTame level (counted level digits bytes)
 counted-tame level [] bytes = item_behind-tame level 1 bytes (power-positive level)
 counted-tame level (d ∷ digits) bytes =
-    elim (eqb (value_of (d ∷ digits)) 0) as (λ t. IsTame level (cond t (Broken ZeroCount) (cond (ltb (2 ^ level) (value_of (d ∷ digits))) (Broken TooLarge) (item_behind (value_of (d ∷ digits)) bytes)))) [
+    elim (eqb (value_of (d ∷ digits)) 0)
+    as (λ t. IsTame level (cond t (Broken ZeroCount)
+    (cond (ltb (2 ^ level) (value_of (d ∷ digits))) (Broken TooLarge) (item_behind (value_of (d ∷ digits)) bytes)))) [
       | true ↦ refl
-      | false ↦ elim (ltb (2 ^ level) (value_of (d ∷ digits))) as (λ t. ltb (2 ^ level) (value_of (d ∷ digits)) ≡ t → IsTame level (cond t (Broken TooLarge) (item_behind (value_of (d ∷ digits)) bytes)))
+      | false ↦ elim (ltb (2 ^ level) (value_of (d ∷ digits)))
+          as (λ t. ltb (2 ^ level) (value_of (d ∷ digits)) ≡ t → IsTame level (cond t (Broken TooLarge) (item_behind (value_of (d ∷ digits)) bytes)))
           [ true ↦ λ _. refl | false ↦ λ h. item_behind-tame level (value_of (d ∷ digits)) bytes (not_more (2 ^ level) (value_of (d ∷ digits)) h) ] refl
     ]
 
@@ -109,10 +112,12 @@ read_more level rule from now line rest items found more item next h sound moves
     }
 
 -- the same next under another name
-pub spelled-as : (level : ℕ) (line : List ℕ) (items : List Item) (next other : Next) → Spells level line items next → next ≡ other → Spells level line items other
+pub spelled-as : (level : ℕ) (line : List ℕ) (items : List Item) (next other : Next) → Spells level line items next → next ≡ other
+    → Spells level line items other
 spelled-as level line items next other h e = subst (Spells level line items) e h
 
-pub read-as : (level : ℕ) (rule : Rule) (from : Cursor) (line : List ℕ) (items : List Item) (next other : Next) (now : Cursor) (found : List Run) → IsRead level rule from line items next now found → next ≡ other → IsRead level rule from line items other now found
+pub read-as : (level : ℕ) (rule : Rule) (from : Cursor) (line : List ℕ) (items : List Item) (next other : Next) (now : Cursor) (found : List Run)
+    → IsRead level rule from line items next now found → next ≡ other → IsRead level rule from line items other now found
 read-as level rule from line items next other now found h e = subst (λ n. IsRead level rule from line items n now found) e h
 
 -- one more item, its run behind those that were there

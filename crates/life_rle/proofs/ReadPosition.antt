@@ -29,7 +29,9 @@ not_minus d h = grind (arith, nat_tests)
 pub signed_number-digits : (digits : List ℕ) → is_digit_text digits ≡ true → signed_number digits ≡ Some (pos (value_of digits))
 signed_number-digits [] h = cc
 signed_number-digits (d ∷ digits) h =
-    ap (λ t. cond (t && true) (cond (is_digit_text digits) (Some (neg_ℤ (pos (value_of digits)))) None) (cond (is_digit_text (d ∷ digits)) (Some (pos (value_of (d ∷ digits)))) None)) (not_minus d (both_true (is_ascii_digit d) (list_all is_ascii_digit digits) h).0)
+    ap (λ t. cond (t && true) (cond (is_digit_text digits) (Some (neg_ℤ (pos (value_of digits)))) None)
+    (cond (is_digit_text (d ∷ digits)) (Some (pos (value_of (d ∷ digits)))) None))
+    (not_minus d (both_true (is_ascii_digit d) (list_all is_ascii_digit digits) h).0)
     ∙ ap (λ t. cond t (Some (pos (value_of (d ∷ digits)))) None) h
 
 -- a written number is read
@@ -42,7 +44,8 @@ signed_number-decimal (negsuc n) h =
 u64_of-decimal : (n : ℕ) → n < 2 ^ 64 → u64_of (decimal n) ≡ Ok n
 u64_of-decimal n h =
     let fits : leb n (2 ^ 64 - 1) ≡ true = grind (arith, nat_tests) in
-    ap (λ t. cond (not t) (Err BadNumber) (cond (leb (value_of (decimal n)) (2 ^ 64 - 1)) (Ok (value_of (decimal n))) (Err TooLarge))) (decimal-is_digit_text n h)
+    ap (λ t. cond (not t) (Err BadNumber) (cond (leb (value_of (decimal n)) (2 ^ 64 - 1)) (Ok (value_of (decimal n))) (Err TooLarge)))
+    (decimal-is_digit_text n h)
     ∙ ap (λ v. cond (leb v (2 ^ 64 - 1)) (Ok v) (Err TooLarge)) (value_of-decimal n h) ∙ ap (λ t. cond t (Ok n) (Err TooLarge)) fits
 
 -- bytes of numbers: digits and minus
@@ -79,7 +82,8 @@ from_not false e = refl
 abbrev cut : ℕ → List ℕ → Bool → Bool → List (List ℕ)
 cut b text space last = cond space (words_of text) (cond last ((b ∷ []) ∷ words_of text) (onto_first b (words_of text)))
 
-pub words_of-plain : (b : ℕ) (xs ys : List ℕ) → is_whitespace b ≡ false → list_all (λ b. not (is_whitespace b)) xs ≡ true → EndsWord ys → words_of (b ∷ (xs ++ ys)) ≡ (b ∷ xs) ∷ words_of ys
+pub words_of-plain : (b : ℕ) (xs ys : List ℕ) → is_whitespace b ≡ false → list_all (λ b. not (is_whitespace b)) xs ≡ true → EndsWord ys
+    → words_of (b ∷ (xs ++ ys)) ≡ (b ∷ xs) ∷ words_of ys
 words_of-plain b [] ys e h s = ap (λ t. cut b ys t (is_blank (take 1 ys))) e ∙ ap (cut b ys false) (ends_blank ys s)
 words_of-plain b (x ∷ xs) ys e h s =
     let parts = both_true (not (is_whitespace x)) (list_all (λ b. not (is_whitespace b)) xs) h in
@@ -93,7 +97,8 @@ position-seam (x ∷ xs) ys h =
     let parts = both_true (is_plain x) (list_all is_plain xs) h in
     let more = position-seam xs ys parts.1 in
     let other : eqb x 44 ≡ false = grind (arith, nat_tests) in
-    ap (λ t. cond (not t) (1 + position_or_len (λ b. eqb b 44) (xs ++ 44 ∷ ys)) 0) other ∙ one_more (position_or_len (λ b. eqb b 44) (xs ++ 44 ∷ ys)) (length xs) more
+    ap (λ t. cond (not t) (1 + position_or_len (λ b. eqb b 44) (xs ++ 44 ∷ ys)) 0) other ∙ one_more (position_or_len (λ b. eqb b 44) (xs ++ 44 ∷ ys))
+    (length xs) more
   where
     one_more : (m n : ℕ) → m ≡ n → 1 + m ≡ suc n
     one_more m n e = omega arith
@@ -108,9 +113,11 @@ after-comma xs ys h = ap (λ n. drop (n + 1) (xs ++ 44 ∷ ys)) (position-seam x
 abbrev corner_text : ℤ → ℤ → List ℕ
 corner_text x y = codes "Pos=" ++ (signed_decimal x ++ 44 ∷ signed_decimal y)
 
-corner_text-field : (x y : ℤ) → IsShort x → IsShort y → is_coordinate MAX_LEVEL x ≡ true → is_coordinate MAX_LEVEL y ≡ true → field_of MAX_LEVEL (corner_text x y) ≡ Ok (Corner x y)
+corner_text-field : (x y : ℤ) → IsShort x → IsShort y → is_coordinate MAX_LEVEL x ≡ true → is_coordinate MAX_LEVEL y ≡ true
+    → field_of MAX_LEVEL (corner_text x y) ≡ Ok (Corner x y)
 corner_text-field x y sx sy cx cy =
-    ap (λ t. corner_of MAX_LEVEL (signed_number t) (signed_number (after_first (λ b. eqb b 44) (signed_decimal x ++ 44 ∷ signed_decimal y)))) (before-comma (signed_decimal x) (signed_decimal y) (signed-plain x sx))
+    ap (λ t. corner_of MAX_LEVEL (signed_number t) (signed_number (after_first (λ b. eqb b 44) (signed_decimal x ++ 44 ∷ signed_decimal y))))
+    (before-comma (signed_decimal x) (signed_decimal y) (signed-plain x sx))
     ∙ ap (λ t. corner_of MAX_LEVEL (signed_number (signed_decimal x)) (signed_number t)) (after-comma (signed_decimal x) (signed_decimal y) (signed-plain x sx))
     ∙ ap (λ a. corner_of MAX_LEVEL a (signed_number (signed_decimal y))) (signed_number-decimal x sx)
     ∙ ap (corner_of MAX_LEVEL (Some x)) (signed_number-decimal y sy)
@@ -137,7 +144,8 @@ position-regrouped : (x y : ℤ) (g : ℕ) → position_text x y g ≡ codes "#C
 position-regrouped x y g = ap (λ t. codes "#CXRLE Pos=" ++ (t ++ generation_text g)) refl
 
 -- the position of a written position line
-pub position_of-written : (x y : ℤ) (g : ℕ) → IsShort x → IsShort y → is_coordinate MAX_LEVEL x ≡ true → is_coordinate MAX_LEVEL y ≡ true → g < 2 ^ 64 → position_of MAX_LEVEL (position_text x y g) ≡ Ok (record { x = x; y = y; generation = g })
+pub position_of-written : (x y : ℤ) (g : ℕ) → IsShort x → IsShort y → is_coordinate MAX_LEVEL x ≡ true → is_coordinate MAX_LEVEL y ≡ true → g < 2 ^ 64
+    → position_of MAX_LEVEL (position_text x y g) ≡ Ok (record { x = x; y = y; generation = g })
 position_of-written x y zero sx sy cx cy h =
     let word : words_of (corner_text x y ++ []) ≡ corner_text x y ∷ [] = words_of-plain 80 (drop 1 (corner_text x y)) [] refl (Pos-plain x y sx sy) tt in
     ap (position_of MAX_LEVEL) (position-regrouped x y zero)
@@ -145,9 +153,11 @@ position_of-written x y zero sx sy cx cy h =
     ∙ ap (λ f. and_then f (λ found. Ok (with_field default_position found))) (corner_text-field x y sx sy cx cy)
 position_of-written x y (suc n) sx sy cx cy h =
     let gen = codes "Gen=" ++ decimal (suc n) in
-    let plain : list_all (λ b. not (is_whitespace b)) (drop 1 gen) ≡ true = no_space (decimal (suc n)) (digits-plain (decimal (suc n)) (digits-all (decimal (suc n)) (decimal-is_digit_text (suc n) h))) in
+    let plain : list_all (λ b. not (is_whitespace b)) (drop 1 gen) ≡ true = no_space (decimal (suc n))
+    (digits-plain (decimal (suc n)) (digits-all (decimal (suc n)) (decimal-is_digit_text (suc n) h))) in
     let last : words_of gen ≡ gen ∷ [] = ap words_of (sym (append-nil gen)) ∙ words_of-plain 71 (drop 1 gen) [] refl plain tt in
-    let word : words_of (corner_text x y ++ 32 ∷ gen) ≡ corner_text x y ∷ words_of gen = words_of-plain 80 (drop 1 (corner_text x y)) (32 ∷ gen) refl (Pos-plain x y sx sy) refl in
+    let word : words_of (corner_text x y ++ 32 ∷ gen) ≡ corner_text x y ∷ words_of gen = words_of-plain 80 (drop 1 (corner_text x y)) (32 ∷ gen) refl
+    (Pos-plain x y sx sy) refl in
     ap (position_of MAX_LEVEL) (position-regrouped x y (suc n))
     ∙ ap (position_with MAX_LEVEL default_position) (word ∙ ap (λ ws. corner_text x y ∷ ws) last)
     ∙ ap (λ f. and_then f (λ found. position_with MAX_LEVEL (with_field default_position found) (gen ∷ []))) (corner_text-field x y sx sy cx cy)

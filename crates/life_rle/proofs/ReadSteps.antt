@@ -19,7 +19,8 @@ last_read level (suc n) (Broken kind) = Broken kind
 last_read level (suc n) (Spelled item rest) = last_read level n (next_of level rest)
 
 -- what is read is spelled
-pub read-Spells : (level : ℕ) (n : ℕ) (bytes : List ℕ) (next : Next) → next_of level bytes ≡ next → Spells level bytes (items_read level n next) (last_read level n next)
+pub read-Spells : (level : ℕ) (n : ℕ) (bytes : List ℕ) (next : Next) → next_of level bytes ≡ next
+    → Spells level bytes (items_read level n next) (last_read level n next)
 read-Spells level zero bytes next e = e
 read-Spells level (suc n) bytes End e = e
 read-Spells level (suc n) bytes Mark e = e

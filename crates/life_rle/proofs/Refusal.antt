@@ -24,7 +24,8 @@ Goes (Ended file) = Unit {0}
 Goes (Refused kind) = ⊥
 
 Stands-Prefix : (level : ℕ) (lines : List (List ℕ)) (p : Progress) → Stands level lines p → Goes p → Prefix (IsSomeRle level) lines
-Stands-Prefix level lines (Before position) h g = (false ∷ true ∷ [], (_, inl (header-IsUnmarked level lines position (codes "x = 1, y = 1") default_rule h refl)))
+Stands-Prefix level lines (Before position) h g
+    = (false ∷ true ∷ [], (_, inl (header-IsUnmarked level lines position (codes "x = 1, y = 1") default_rule h refl)))
 Stands-Prefix level lines (Begun file) h g = ([], (file, inl (subst (λ ls. IsUnmarked level ls file) (sym (append-nil lines)) h)))
 Stands-Prefix level lines (Ended file) h g = ([], (file, inr (subst (λ ls. IsMarked level ls file) (sym (append-nil lines)) h)))
 Stands-Prefix level lines (Refused kind) h g = absurd g
@@ -64,14 +65,16 @@ take-Goes level k front g = Goes-front level (take k front) (drop k front) (subs
 behind-length : (front : List (List ℕ)) (line : List ℕ) (rest : List (List ℕ)) → length (front ++ line ∷ rest) ≡ length front + 1 + length rest
 behind-length front line rest = omega (arith, length-append front (line ∷ rest))
 
-behind-whole : (lines front : List (List ℕ)) (line : List ℕ) (rest : List (List ℕ)) → lines ≡ front ++ line ∷ rest → take (length front + 1) lines ≡ front ++ line ∷ []
+behind-whole : (lines front : List (List ℕ)) (line : List ℕ) (rest : List (List ℕ)) → lines ≡ front ++ line ∷ rest → take (length front + 1) lines ≡ front
+    ++ line ∷ []
 behind-whole lines front line rest e =
     let whole : lines ≡ (front ++ line ∷ []) ++ rest = e ∙ sym (append_assoc front (line ∷ []) rest) in
     let long : length front + 1 ≡ length (front ++ line ∷ []) = omega (arith, length-append front (line ∷ [])) in
     rw (whole, long) (take-append_seam (front ++ line ∷ []) rest)
 
 -- the line that breaks a rule is the place
-pub Breaks-IsPlace : (level : ℕ) (lines front : List (List ℕ)) (line : List ℕ) (rest : List (List ℕ)) (kind : Kind) → lines ≡ front ++ line ∷ rest → Breaks level front line kind → IsPlace (IsSomeRle level) lines (length front + 1)
+pub Breaks-IsPlace : (level : ℕ) (lines front : List (List ℕ)) (line : List ℕ) (rest : List (List ℕ)) (kind : Kind) → lines ≡ front ++ line ∷ rest
+    → Breaks level front line kind → IsPlace (IsSomeRle level) lines (length front + 1)
 Breaks-IsPlace level lines front line rest kind e b =
     let len : length lines ≡ length front + 1 + length rest = ap length e ∙ behind-length front line rest in
     record {
@@ -84,34 +87,49 @@ Breaks-IsPlace level lines front line rest kind e b =
     }
 
 -- so the fault of such a line is the input's fault
-pub Breaks-IsRefusal : (level : ℕ) (lines front : List (List ℕ)) (line : List ℕ) (rest : List (List ℕ)) (fault : Fault) → lines ≡ front ++ line ∷ rest → Breaks level front line fault.kind → fault.place.line ≡ min (length front + 1) (2 ^ 64 - 1) → Refuses level lines fault
+pub Breaks-IsRefusal : (level : ℕ) (lines front : List (List ℕ)) (line : List ℕ) (rest : List (List ℕ)) (fault : Fault) → lines ≡ front ++ line ∷ rest
+    → Breaks level front line fault.kind → fault.place.line ≡ min (length front + 1) (2 ^ 64 - 1) → Refuses level lines fault
 Breaks-IsRefusal level lines front line rest fault e b at =
     let len : length lines ≡ length front + 1 + length rest = ap length e ∙ behind-length front line rest in
     let less : length front + 1 - 1 ≡ length front = omega arith in
     let fore : take (length front) lines ≡ front = ap (take (length front)) e ∙ take-append_seam front (line ∷ rest) in
     let item : slice_index_or lines (length front) [] ≡ line = ap (λ ls. slice_index_or ls (length front) []) e ∙ get_or-append_seam front line rest [] in
     record {
-      refused = λ (file, h). Breaks-no_more level front line fault.kind rest file b (subst (λ ls. IsRle level ls file) (e ∙ sym (append_assoc front (line ∷ []) rest)) h);
+      refused = λ (file, h). Breaks-no_more level front line fault.kind rest file b
+          (subst (λ ls. IsRle level ls file) (e ∙ sym (append_assoc front (line ∷ []) rest)) h);
       n = length front + 1;
       place = Breaks-IsPlace level lines front line rest fault.kind e b;
       line = at;
-      at_line = λ _. subst (λ k. Breaks level (take k lines) (slice_index_or lines k []) fault.kind) (sym less) (subst (λ f. Breaks level f (slice_index_or lines (length front) []) fault.kind) (sym fore) (subst (λ l. Breaks level front l fault.kind) (sym item) b));
+      at_line = λ _. subst (λ k. Breaks level (take k lines) (slice_index_or lines k []) fault.kind) (sym less)
+          (subst (λ f. Breaks level f (slice_index_or lines (length front) []) fault.kind) (sym fore)
+          (subst (λ l. Breaks level front l fault.kind) (sym item) b));
       at_end = λ h. absurd (omega arith);
     }
 
 -- without a header the end of the input is the place
-pub IsPreamble-Prefix : (level : ℕ) (lines : List (List ℕ)) (position : Position) → IsPreamble level default_position lines position → Prefix (IsSomeRle level) lines
+pub IsPreamble-Prefix : (level : ℕ) (lines : List (List ℕ)) (position : Position) → IsPreamble level default_position lines position
+    → Prefix (IsSomeRle level) lines
 IsPreamble-Prefix level lines position h = Stands-Prefix level lines (Before position) h tt
 
-pub IsPreamble-refused : (level : ℕ) (lines : List (List ℕ)) (position : Position) → IsPreamble level default_position lines position → IsSomeRle level lines → ⊥
-IsPreamble-refused level lines position h (file, inl b) = let x = IsPreamble-progress level default_position position lines h in let y = IsUnmarked-progress level lines file b in cc
-IsPreamble-refused level lines position h (file, inr b) = let x = IsPreamble-progress level default_position position lines h in let y = IsMarked-progress level lines file b in cc
+pub IsPreamble-refused : (level : ℕ) (lines : List (List ℕ)) (position : Position) → IsPreamble level default_position lines position → IsSomeRle level lines
+    → ⊥
+IsPreamble-refused level lines position h (file, inl b) = let x = IsPreamble-progress level default_position position lines h in
+    let y = IsUnmarked-progress level lines file b in cc
+IsPreamble-refused level lines position h (file, inr b) = let x = IsPreamble-progress level default_position position lines h in
+    let y = IsMarked-progress level lines file b in cc
 
-pub IsPreamble-IsRefusal : (level : ℕ) (lines : List (List ℕ)) (position : Position) (fault : Fault) → IsPreamble level default_position lines position → fault.kind ≡ NoHeader → fault.place.line ≡ min (length lines + 1) (2 ^ 64 - 1) → Refuses level lines fault
+pub IsPreamble-IsRefusal : (level : ℕ) (lines : List (List ℕ)) (position : Position) (fault : Fault) → IsPreamble level default_position lines position
+    → fault.kind ≡ NoHeader → fault.place.line ≡ min (length lines + 1) (2 ^ 64 - 1) → Refuses level lines fault
 IsPreamble-IsRefusal level lines position fault h kind at = record {
   refused = IsPreamble-refused level lines position h;
   n = length lines + 1;
-  place = record { counted = omega arith; within = omega arith; before = λ k h'. Goes-Prefix level (take k lines) (take-Goes level k lines (subst Goes (sym (IsPreamble-progress level default_position position lines h)) tt)); here = λ long. absurd (omega arith) };
+  place = record {
+    counted = omega arith;
+    within = omega arith;
+    before = λ k h'. Goes-Prefix level (take k lines)
+        (take-Goes level k lines (subst Goes (sym (IsPreamble-progress level default_position position lines h)) tt));
+    here = λ long. absurd (omega arith);
+  };
   line = at;
   at_line = λ long. absurd (omega arith);
   at_end = λ _. ap Some (sym kind);

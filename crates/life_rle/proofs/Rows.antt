@@ -47,12 +47,22 @@ glider-IsRle = inr (record {
   earlier = [];
   final = glider.items;
   items = refl;
-  begun = record { before = []; header = codes "x = 3, y = 3, rule = B3/S23"; body = []; whole = refl; preamble = refl; rule = refl; items = refl; sound = refl };
+  begun = record {
+    before = [];
+    header = codes "x = 3, y = 3, rule = B3/S23";
+    body = [];
+    whole = refl;
+    preamble = refl;
+    rule = refl;
+    items = refl;
+    sound = refl;
+  };
   marked = inr (refl, glider-Spells);
   sound = refl;
 })
 
-glider-runs : runs_of (placed glider) ≡ record { x = pos 1; y = pos 0; len = 1; state = 1 } ∷ record { x = pos 2; y = pos 1; len = 1; state = 1 } ∷ record { x = pos 0; y = pos 2; len = 3; state = 1 } ∷ []
+glider-runs : runs_of (placed glider) ≡ record { x = pos 1; y = pos 0; len = 1; state = 1 } ∷ record { x = pos 2; y = pos 1; len = 1; state = 1 }
+    ∷ record { x = pos 0; y = pos 2; len = 3; state = 1 } ∷ []
 glider-runs = refl
 
 glider-cell : cell glider (pos 2) (pos 1) ≡ 1
@@ -71,7 +81,8 @@ late = refl
 outside : opening_of MAX_LEVEL (codes "#CXRLE Pos=2305843009213693952,0") ≡ Err kinds.OutOfPlane
 outside = refl
 
-far_right : opening_of MAX_LEVEL (codes "#CXRLE Pos=576460752303423488,0") ≡ Ok (PositionLine (record { x = pos 576460752303423488; y = pos 0; generation = 0 }))
+far_right : opening_of MAX_LEVEL (codes "#CXRLE Pos=576460752303423488,0")
+    ≡ Ok (PositionLine (record { x = pos 576460752303423488; y = pos 0; generation = 0 }))
 far_right = refl
 
 too_old : opening_of MAX_LEVEL (codes "#CXRLE Gen=18446744073709551616") ≡ Err kinds.TooLarge
@@ -87,7 +98,8 @@ corner_and_generation x y n = record { x = x; y = y; generation = n }
 last_fields : position_of MAX_LEVEL (codes "#CXRLE\tPos=1,2 Gen=5 Pos=-3,4\r") ≡ Ok (corner_and_generation (neg_ℤ (pos 3)) (pos 4) 5)
 last_fields = refl
 
-last_line : IsPreamble MAX_LEVEL default_position (codes "#CXRLE Pos=1,2" ∷ codes "#CXRLEfoo Pos=z" ∷ codes "#CXRLE Gen=3" ∷ []) (corner_and_generation (pos 0) (pos 0) 3)
+last_line : IsPreamble MAX_LEVEL default_position (codes "#CXRLE Pos=1,2" ∷ codes "#CXRLEfoo Pos=z" ∷ codes "#CXRLE Gen=3" ∷ [])
+    (corner_and_generation (pos 0) (pos 0) 3)
 last_line = inr (corner_and_generation (pos 1) (pos 2) 0, refl, inl (refl, inr (corner_and_generation (pos 0) (pos 0) 3, refl, refl)))
 
 no_fields : position_of MAX_LEVEL (codes "#CXRLE") ≡ Ok default_position
@@ -188,7 +200,11 @@ broken_prefix = refl
 
 -- three dead cells and two live ones, two rows down three live ones and a dead one
 abbrev two_rows : Rle
-two_rows = record { rule = b3s23; position = corner_and_generation (neg_ℤ (pos 4)) (pos 7) 0; items = Cells 3 0 ∷ Cells 2 1 ∷ RowEnds 2 ∷ Cells 3 1 ∷ Cells 1 0 ∷ [] }
+two_rows = record {
+  rule = b3s23;
+  position = corner_and_generation (neg_ℤ (pos 4)) (pos 7) 0;
+  items = Cells 3 0 ∷ Cells 2 1 ∷ RowEnds 2 ∷ Cells 3 1 ∷ Cells 1 0 ∷ [];
+}
 
 dead_run : slice_get (placed two_rows) 0 ≡ Some (record { row = pos 7; column = neg_ℤ (pos 4); item = Cells 3 0 })
 dead_run = refl
@@ -214,11 +230,23 @@ blank rule = record { rule = rule; position = default_position; items = [] }
 
 header-IsUnmarked : IsUnmarked MAX_LEVEL (codes "x = 1, y = 1, rule = B3/S23" ∷ []) (blank b3s23)
 unfolding rule_of life_sets four_sets
-header-IsUnmarked = record { before = []; header = codes "x = 1, y = 1, rule = B3/S23"; body = []; whole = refl; preamble = refl; rule = refl; items = refl; sound = refl }
+header-IsUnmarked = record {
+  before = [];
+  header = codes "x = 1, y = 1, rule = B3/S23";
+  body = [];
+  whole = refl;
+  preamble = refl;
+  rule = refl;
+  items = refl;
+  sound = refl;
+}
 
 -- what breaks a line of items behind this header, where an item should stand
-broken_text : (n : ℕ) (line : List ℕ) (kind : Kind) → later_of line ≡ Ok Data → last_read MAX_LEVEL n (next_of MAX_LEVEL line) ≡ Broken kind → first_fault MAX_LEVEL b3s23 (placed_behind default_position [] (items_read MAX_LEVEL n (next_of MAX_LEVEL line))) ≡ None → Breaks MAX_LEVEL (codes "x = 1, y = 1, rule = B3/S23" ∷ []) line kind
-broken_text n line kind form last sound = by_text (blank b3s23) (items_read MAX_LEVEL n (next_of MAX_LEVEL line)) header-IsUnmarked form (subst (Spells MAX_LEVEL line (items_read MAX_LEVEL n (next_of MAX_LEVEL line))) last (line-Spells MAX_LEVEL n line)) sound
+broken_text : (n : ℕ) (line : List ℕ) (kind : Kind) → later_of line ≡ Ok Data → last_read MAX_LEVEL n (next_of MAX_LEVEL line) ≡ Broken kind
+    → first_fault MAX_LEVEL b3s23 (placed_behind default_position [] (items_read MAX_LEVEL n (next_of MAX_LEVEL line))) ≡ None
+    → Breaks MAX_LEVEL (codes "x = 1, y = 1, rule = B3/S23" ∷ []) line kind
+broken_text n line kind form last sound = by_text (blank b3s23) (items_read MAX_LEVEL n (next_of MAX_LEVEL line)) header-IsUnmarked form
+    (subst (Spells MAX_LEVEL line (items_read MAX_LEVEL n (next_of MAX_LEVEL line))) last (line-Spells MAX_LEVEL n line)) sound
 
 state_range : Breaks MAX_LEVEL (codes "x = 1, y = 1, rule = B3/S23" ∷ []) (codes "B!") kinds.StateRange
 state_range = by_item (blank b3s23) [] (Cells 1 2) (codes "!") header-IsUnmarked refl refl refl refl

@@ -50,7 +50,9 @@ some_count n e = grind (arith, nat_tests)
 counted-count : (level : ℕ) (digits bytes : List ℕ) → HasCount (counted level digits bytes)
 counted-count level [] bytes = item_behind-count 1 bytes (omega arith)
 counted-count level (d ∷ digits) bytes =
-    elim (eqb (value_of (d ∷ digits)) 0) as (λ t. eqb (value_of (d ∷ digits)) 0 ≡ t → HasCount (cond t (Broken ZeroCount) (cond (ltb (2 ^ level) (value_of (d ∷ digits))) (Broken TooLarge) (item_behind (value_of (d ∷ digits)) bytes)))) [
+    elim (eqb (value_of (d ∷ digits)) 0)
+    as (λ t. eqb (value_of (d ∷ digits)) 0 ≡ t
+    → HasCount (cond t (Broken ZeroCount) (cond (ltb (2 ^ level) (value_of (d ∷ digits))) (Broken TooLarge) (item_behind (value_of (d ∷ digits)) bytes)))) [
       | true ↦ λ e. tt
       | false ↦ λ e. elim (ltb (2 ^ level) (value_of (d ∷ digits))) as (λ t. HasCount (cond t (Broken TooLarge) (item_behind (value_of (d ∷ digits)) bytes)))
           [ true ↦ tt | false ↦ item_behind-count (value_of (d ∷ digits)) bytes (some_count (value_of (d ∷ digits)) e) ]
@@ -92,18 +94,22 @@ BodySpells-count level (line ∷ lines) items h =
 IsRle-count : (level : ℕ) (lines : List (List ℕ)) (file : Rle) → IsRle level lines file → AllCount file.items
 IsRle-count level lines file (inl b) = BodySpells-count level b.body file.items b.items
 IsRle-count level lines file (inr b) =
-    subst AllCount (sym b.items) (AllCount-append b.earlier b.final (BodySpells-count level b.begun.body b.earlier b.begun.items) (LineSpells-count level b.last b.final Mark b.marked))
+    subst AllCount (sym b.items) (AllCount-append b.earlier b.final (BodySpells-count level b.begun.body b.earlier b.begun.items)
+    (LineSpells-count level b.last b.final Mark b.marked))
 
 -- ---- the corner is in the plane
 
-preamble-plane : (level : ℕ) (given position : Position) (lines : List (List ℕ)) → IsInPlane level given → IsPreamble level given lines position → IsInPlane level position
+preamble-plane : (level : ℕ) (given position : Position) (lines : List (List ℕ)) → IsInPlane level given → IsPreamble level given lines position
+    → IsInPlane level position
 preamble-plane level given position [] h e = subst (IsInPlane level) (sym e) h
 preamble-plane level given position (line ∷ lines) h (inl e) = preamble-plane level given position lines h e.1
-preamble-plane level given position (line ∷ lines) h (inr e) = preamble-plane level e.0 position lines (subst (IsTameOpening level (is_too_long line)) e.1 (opening-tame level line)) e.2
+preamble-plane level given position (line ∷ lines) h (inr e) = preamble-plane level e.0 position lines
+    (subst (IsTameOpening level (is_too_long line)) e.1 (opening-tame level line)) e.2
 
 pub IsRle-plane : (level : ℕ) (lines : List (List ℕ)) (file : Rle) → IsRle level lines file → IsInPlane level file.position
 IsRle-plane level lines file (inl b) = preamble-plane level default_position file.position b.before (zero-coordinate level, zero-coordinate level) b.preamble
-IsRle-plane level lines file (inr b) = preamble-plane level default_position file.position b.begun.before (zero-coordinate level, zero-coordinate level) b.begun.preamble
+IsRle-plane level lines file (inr b) = preamble-plane level default_position file.position b.begun.before (zero-coordinate level, zero-coordinate level)
+    b.begun.preamble
 
 -- ---- items that stand in the plane, from a place on
 
@@ -125,7 +131,8 @@ cells-none false inside e = cc
 inside-plane : (row far e : ℤ) → (int_lt row e && int_le far e) ≡ true → (row <ℤ e) × (far ≤ℤ e)
 inside-plane row far e h = (grind (arith, ints), grind (arith, ints))
 
-sound-Good : (level : ℕ) (rule : Rule) (left column row : ℤ) (items : List Item) → AllCount items → first_fault level rule (placed_from left column row items) ≡ None → Good level rule left column row items
+sound-Good : (level : ℕ) (rule : Rule) (left column row : ℤ) (items : List Item) → AllCount items → first_fault level rule (placed_from left column row items)
+    ≡ None → Good level rule left column row items
 unfolding AllCount
 sound-Good level rule left column row [] c e = tt
 sound-Good level rule left column row (Cells n s ∷ items) c e =
@@ -142,15 +149,18 @@ further low z n h = omega (arith, ints)
 
 -- ---- their runs
 
-runs-good : (level : ℕ) (rule : Rule) (left column row : ℤ) (items : List Item) → neg_ℤ (edge level) ≤ℤ left → neg_ℤ (edge level) ≤ℤ column → neg_ℤ (edge level) ≤ℤ row
+runs-good : (level : ℕ) (rule : Rule) (left column row : ℤ) (items : List Item) → neg_ℤ (edge level) ≤ℤ left → neg_ℤ (edge level) ≤ℤ column
+    → neg_ℤ (edge level) ≤ℤ row
     → Good level rule left column row items → AreGoodRuns level rule (runs_of (placed_from left column row items))
 runs-good level rule left column row [] l x y g = tt
-runs-good level rule left column row (Cells n zero ∷ items) l x y g = runs-good level rule left (column +ℤ pos n) row items l (further (neg_ℤ (edge level)) column n x) y g.4
+runs-good level rule left column row (Cells n zero ∷ items) l x y g = runs-good level rule left (column +ℤ pos n) row items l
+    (further (neg_ℤ (edge level)) column n x) y g.4
 runs-good level rule left column row (Cells n (suc s) ∷ items) l x y g = (
   record { some = g.0; left = x; right = g.3; top = y; bottom = g.2; state = g.1; live = omega arith },
   runs-good level rule left (column +ℤ pos n) row items l (further (neg_ℤ (edge level)) column n x) y g.4,
 )
-runs-good level rule left column row (RowEnds n ∷ items) l x y g = runs-good level rule left left (row +ℤ pos n) items l l (further (neg_ℤ (edge level)) row n y) g.1
+runs-good level rule left column row (RowEnds n ∷ items) l x y g = runs-good level rule left left (row +ℤ pos n) items l l
+    (further (neg_ℤ (edge level)) row n y) g.1
 
 -- runs stand behind a place
 abbrev Behind : ℤ → ℤ → List Run → Type 0
@@ -180,24 +190,32 @@ onward z n = omega (arith, ints)
 down : (row : ℤ) (n : ℕ) → 1 ≤ n → row <ℤ (row +ℤ pos n)
 down row n h = omega (arith, ints)
 
-runs-Behind : (level : ℕ) (rule : Rule) (left column row : ℤ) (items : List Item) → Good level rule left column row items → Behind column row (runs_of (placed_from left column row items))
+runs-Behind : (level : ℕ) (rule : Rule) (left column row : ℤ) (items : List Item) → Good level rule left column row items
+    → Behind column row (runs_of (placed_from left column row items))
 runs-Behind level rule left column row [] g = tt
 runs-Behind level rule left column row (Cells n zero ∷ items) g =
-    Behind-later column row (column +ℤ pos n) row (runs_of (placed_from left (column +ℤ pos n) row items)) (inr (refl, onward column n)) (runs-Behind level rule left (column +ℤ pos n) row items g.4)
-runs-Behind level rule left column row (Cells n (suc s) ∷ items) g =
-    (inr (refl, same-place column), Behind-later column row (column +ℤ pos n) row (runs_of (placed_from left (column +ℤ pos n) row items)) (inr (refl, onward column n)) (runs-Behind level rule left (column +ℤ pos n) row items g.4))
+    Behind-later column row (column +ℤ pos n) row (runs_of (placed_from left (column +ℤ pos n) row items)) (inr (refl, onward column n))
+    (runs-Behind level rule left (column +ℤ pos n) row items g.4)
+runs-Behind level rule left column row (Cells n (suc s) ∷ items) g = (
+  inr (refl, same-place column),
+  Behind-later column row (column +ℤ pos n) row (runs_of (placed_from left (column +ℤ pos n) row items))
+      (inr (refl, onward column n)) (runs-Behind level rule left (column +ℤ pos n) row items g.4),
+)
 runs-Behind level rule left column row (RowEnds n ∷ items) g =
-    Behind-later column row left (row +ℤ pos n) (runs_of (placed_from left left (row +ℤ pos n) items)) (inl (down row n g.0)) (runs-Behind level rule left left (row +ℤ pos n) items g.1)
+    Behind-later column row left (row +ℤ pos n) (runs_of (placed_from left left (row +ℤ pos n) items)) (inl (down row n g.0))
+    (runs-Behind level rule left left (row +ℤ pos n) items g.1)
 
 before-all : (run : Run) (runs : List Run) → Behind (run.x +ℤ pos run.len) run.y runs → StandsBeforeAll run runs
 before-all run [] b = tt
 before-all run (next ∷ runs) b = (b.0, before-all run runs b.1)
 
-runs-order : (level : ℕ) (rule : Rule) (left column row : ℤ) (items : List Item) → Good level rule left column row items → AreInOrder (runs_of (placed_from left column row items))
+runs-order : (level : ℕ) (rule : Rule) (left column row : ℤ) (items : List Item) → Good level rule left column row items
+    → AreInOrder (runs_of (placed_from left column row items))
 runs-order level rule left column row [] g = tt
 runs-order level rule left column row (Cells n zero ∷ items) g = runs-order level rule left (column +ℤ pos n) row items g.4
 runs-order level rule left column row (Cells n (suc s) ∷ items) g = (
-  before-all (record { x = column; y = row; len = n; state = suc s }) (runs_of (placed_from left (column +ℤ pos n) row items)) (runs-Behind level rule left (column +ℤ pos n) row items g.4),
+  before-all (record { x = column; y = row; len = n; state = suc s }) (runs_of (placed_from left (column +ℤ pos n) row items))
+      (runs-Behind level rule left (column +ℤ pos n) row items g.4),
   runs-order level rule left (column +ℤ pos n) row items g.4,
 )
 runs-order level rule left column row (RowEnds n ∷ items) g = runs-order level rule left left (row +ℤ pos n) items g.1
@@ -228,7 +246,8 @@ cells-runs level rule left column row (Cells n zero ∷ items) x y g =
     let rest = runs_of (placed_from left (column +ℤ pos n) row items) in
     let covers = int_eq y row && (int_le column x && int_lt x (column +ℤ pos n)) in
     ap (cond covers 0) (cells-runs level rule left (column +ℤ pos n) row items x y g.4)
-    ∙ dead covers (state_by rest x y) (λ e. before-zero (column +ℤ pos n) row rest x y (runs-Behind level rule left (column +ℤ pos n) row items g.4) (inr (covered column row x y n e)))
+    ∙ dead covers (state_by rest x y)
+    (λ e. before-zero (column +ℤ pos n) row rest x y (runs-Behind level rule left (column +ℤ pos n) row items g.4) (inr (covered column row x y n e)))
 cells-runs level rule left column row (Cells n (suc s) ∷ items) x y g =
     ap (cond (int_eq y row && (int_le column x && int_lt x (column +ℤ pos n))) (suc s)) (cells-runs level rule left (column +ℤ pos n) row items x y g.4)
 cells-runs level rule left column row (RowEnds n ∷ items) x y g = cells-runs level rule left left (row +ℤ pos n) items x y g.1
@@ -248,7 +267,8 @@ sound-of : (level : ℕ) (lines : List (List ℕ)) (file : Rle) → IsRle level 
 sound-of level lines file (inl b) = b.sound
 sound-of level lines file (inr b) = b.sound
 
-pub file-Good : (level : ℕ) (lines : List (List ℕ)) (file : Rle) → IsRle level lines file → Good level file.rule file.position.x file.position.x file.position.y file.items
+pub file-Good : (level : ℕ) (lines : List (List ℕ)) (file : Rle) → IsRle level lines file → Good level file.rule file.position.x file.position.x file.position.y
+    file.items
 file-Good level lines file r =
     sound-Good level file.rule file.position.x file.position.x file.position.y file.items (IsRle-count level lines file r)
     (ap (first_fault level file.rule) (sym (placed-from file)) ∙ sound-of level lines file r)
@@ -257,22 +277,26 @@ pub low-side : (e z : ℤ) → (int_le (neg_ℤ e) z && int_lt z e) ≡ true →
 low-side e z h = grind (arith, ints)
 
 pub runs_are_cells : (level : ℕ) (lines : List (List ℕ)) (file : Rle) → IsRle level lines file
-    → AreGoodRuns level file.rule (runs_of (placed file)) × AreInOrder (runs_of (placed file)) × ((x y : ℤ) → cell file x y ≡ state_by (runs_of (placed file)) x y)
+    → AreGoodRuns level file.rule (runs_of (placed file)) × AreInOrder (runs_of (placed file))
+    × ((x y : ℤ) → cell file x y ≡ state_by (runs_of (placed file)) x y)
 runs_are_cells level lines file r =
     let good = file-Good level lines file r in
     let plane = IsRle-plane level lines file r in
     let x = low-side (edge level) file.position.x plane.0 in
     let y = low-side (edge level) file.position.y plane.1 in
     let e = sym (placed-from file) in (
-      subst (λ (ps : List Placed). AreGoodRuns level file.rule (runs_of ps)) e (runs-good level file.rule file.position.x file.position.x file.position.y file.items x x y good),
+      subst (λ (ps : List Placed). AreGoodRuns level file.rule (runs_of ps)) e
+          (runs-good level file.rule file.position.x file.position.x file.position.y file.items x x y good),
       subst (λ (ps : List Placed). AreInOrder (runs_of ps)) e (runs-order level file.rule file.position.x file.position.x file.position.y file.items good),
-      λ x y. subst (λ (ps : List Placed). cell_among ps x y ≡ state_by (runs_of ps) x y) e (cells-runs level file.rule file.position.x file.position.x file.position.y file.items x y good),
+      λ x y. subst (λ (ps : List Placed). cell_among ps x y ≡ state_by (runs_of ps) x y) e
+          (cells-runs level file.rule file.position.x file.position.x file.position.y file.items x y good),
     )
 
 outside-zero : (level : ℕ) (rule : Rule) (runs : List Run) (x y : ℤ) → AreGoodRuns level rule runs → IsOutside level x y → state_by runs x y ≡ 0
 outside-zero level rule [] x y g h = refl
 outside-zero level rule (run ∷ runs) x y g h =
-    ap (λ t. cond t run.state (state_by runs x y)) (misses (edge level) run.x run.y x y run.len g.0.left g.0.right g.0.top g.0.bottom h) ∙ outside-zero level rule runs x y g.1 h
+    ap (λ t. cond t run.state (state_by runs x y)) (misses (edge level) run.x run.y x y run.len g.0.left g.0.right g.0.top g.0.bottom h)
+    ∙ outside-zero level rule runs x y g.1 h
   where
     misses : (e a b x y : ℤ) (n : ℕ) → neg_ℤ e ≤ℤ a → (a +ℤ pos n) ≤ℤ e → neg_ℤ e ≤ℤ b → b <ℤ e
         → (x <ℤ neg_ℤ e) ⊎ (e ≤ℤ x) ⊎ (y <ℤ neg_ℤ e) ⊎ (e ≤ℤ y) → (int_eq y b && (int_le a x && int_lt x (a +ℤ pos n))) ≡ false

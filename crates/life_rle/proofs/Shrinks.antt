@@ -62,8 +62,14 @@ Leaves-longer (Spelled item rest) short long h k = omega arith
 counted-leaves : (level : ℕ) (digits bytes : List ℕ) → Leaves bytes (counted level digits bytes)
 counted-leaves level [] bytes = item_behind-leaves 1 bytes
 counted-leaves level (d ∷ digits) bytes =
-    elim (eqb (value_of (d ∷ digits)) 0) as (λ t. Leaves bytes (cond t (Broken ZeroCount) (cond (ltb (2 ^ level) (value_of (d ∷ digits))) (Broken TooLarge) (item_behind (value_of (d ∷ digits)) bytes))))
-    [ true ↦ tt | false ↦ elim (ltb (2 ^ level) (value_of (d ∷ digits))) as (λ t. Leaves bytes (cond t (Broken TooLarge) (item_behind (value_of (d ∷ digits)) bytes))) [ true ↦ tt | false ↦ item_behind-leaves (value_of (d ∷ digits)) bytes ] ]
+    elim (eqb (value_of (d ∷ digits)) 0)
+    as (λ t. Leaves bytes (cond t (Broken ZeroCount)
+    (cond (ltb (2 ^ level) (value_of (d ∷ digits))) (Broken TooLarge) (item_behind (value_of (d ∷ digits)) bytes)))) [
+      | true ↦ tt
+      | false ↦ elim (ltb (2 ^ level) (value_of (d ∷ digits)))
+          as (λ t. Leaves bytes (cond t (Broken TooLarge) (item_behind (value_of (d ∷ digits)) bytes)))
+          [ true ↦ tt | false ↦ item_behind-leaves (value_of (d ∷ digits)) bytes ]
+    ]
 
 item_in-leaves : (level : ℕ) (bytes : List ℕ) → Leaves bytes (item_in level bytes)
 item_in-leaves level [] = tt
@@ -95,13 +101,15 @@ IsStop Mark = Unit {0}
 IsStop (Broken kind) = Unit {0}
 IsStop (Spelled item rest) = ⊥
 
-items_read-front : (level : ℕ) (items : List Item) (bytes : List ℕ) (last : Next) (m n : ℕ) → Spells level bytes items last → n ≡ length items + m → items_read level n (next_of level bytes) ≡ items ++ items_read level m last
+items_read-front : (level : ℕ) (items : List Item) (bytes : List ℕ) (last : Next) (m n : ℕ) → Spells level bytes items last → n ≡ length items + m
+    → items_read level n (next_of level bytes) ≡ items ++ items_read level m last
 items_read-front level [] bytes last m n h e = let k : n ≡ m = omega arith in rw k (ap (items_read level m) h)
 items_read-front level (item ∷ items) bytes last m zero h e = absurd (omega arith)
 items_read-front level (item ∷ items) bytes last m (suc n) h e =
     ap (items_read level (suc n)) h.1 ∙ ap (λ xs. item ∷ xs) (items_read-front level items h.0 last m n h.2 (omega arith))
 
-last_read-front : (level : ℕ) (items : List Item) (bytes : List ℕ) (last : Next) (m n : ℕ) → Spells level bytes items last → n ≡ length items + m → last_read level n (next_of level bytes) ≡ last_read level m last
+last_read-front : (level : ℕ) (items : List Item) (bytes : List ℕ) (last : Next) (m n : ℕ) → Spells level bytes items last → n ≡ length items + m
+    → last_read level n (next_of level bytes) ≡ last_read level m last
 last_read-front level [] bytes last m n h e = let k : n ≡ m = omega arith in rw k (ap (last_read level m) h)
 last_read-front level (item ∷ items) bytes last m zero h e = absurd (omega arith)
 last_read-front level (item ∷ items) bytes last m (suc n) h e =
@@ -122,26 +130,30 @@ last_read-stop level (suc m) (Broken kind) h = refl
 last_read-stop level (suc m) (Spelled item rest) h = absurd h
 
 -- reading finds the items that the line spells
-pub items_read-line : (level : ℕ) (line : List ℕ) (items : List Item) (last : Next) → Spells level line items last → IsStop last → items_read level (length line) (next_of level line) ≡ items
+pub items_read-line : (level : ℕ) (line : List ℕ) (items : List Item) (last : Next) → Spells level line items last → IsStop last
+    → items_read level (length line) (next_of level line) ≡ items
 items_read-line level line items last h s =
     let short = Spells-shorter level items line last h in
     let m : ℕ = length line - length items in
     let e : length line ≡ length items + m = omega (arith, short) in
     items_read-front level items line last m (length line) h e ∙ ap (λ xs. items ++ xs) (items_read-stop level m last s) ∙ append-nil items
 
-pub last_read-line : (level : ℕ) (line : List ℕ) (items : List Item) (last : Next) → Spells level line items last → IsStop last → last_read level (length line) (next_of level line) ≡ last
+pub last_read-line : (level : ℕ) (line : List ℕ) (items : List Item) (last : Next) → Spells level line items last → IsStop last
+    → last_read level (length line) (next_of level line) ≡ last
 last_read-line level line items last h s =
     let short = Spells-shorter level items line last h in
     let m : ℕ = length line - length items in
     let e : length line ≡ length items + m = omega (arith, short) in
     last_read-front level items line last m (length line) h e ∙ last_read-stop level m last s
 
-pub Spells-push : (level : ℕ) (items : List Item) (bytes : List ℕ) (item : Item) (rest : List ℕ) → Spells level bytes items (Spelled item rest) → Spells level bytes (items ++ item ∷ []) (next_of level rest)
+pub Spells-push : (level : ℕ) (items : List Item) (bytes : List ℕ) (item : Item) (rest : List ℕ) → Spells level bytes items (Spelled item rest)
+    → Spells level bytes (items ++ item ∷ []) (next_of level rest)
 Spells-push level [] bytes item rest h = (rest, h, refl)
 Spells-push level (i ∷ items) bytes item rest h = (h.0, h.1, Spells-push level items h.0 item rest h.2)
 
 -- items in front of another are in front of what reading finds
-pub items_read-before : (level : ℕ) (line : List ℕ) (items : List Item) (item : Item) (rest : List ℕ) → Spells level line items (Spelled item rest) → (more : List Item) × (items_read level (length line) (next_of level line) ≡ (items ++ item ∷ []) ++ more)
+pub items_read-before : (level : ℕ) (line : List ℕ) (items : List Item) (item : Item) (rest : List ℕ) → Spells level line items (Spelled item rest)
+    → (more : List Item) × (items_read level (length line) (next_of level line) ≡ (items ++ item ∷ []) ++ more)
 items_read-before level line items item rest h =
     let k = Spells-push level items line item rest h in
     let short = Spells-shorter level (items ++ item ∷ []) line (next_of level rest) k in

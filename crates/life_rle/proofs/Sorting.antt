@@ -29,7 +29,8 @@ AreGood-AreWritten rule left column row [] g = tt
 AreGood-AreWritten rule left column row (Cells n s ∷ items) g = ((g.0, g.1, g.2), AreGood-AreWritten rule left (column +ℤ pos n) row items g.5)
 AreGood-AreWritten rule left column row (RowEnds n ∷ items) g = ((g.0, g.1), AreGood-AreWritten rule left left (row +ℤ pos n) items g.3)
 
-cells-sound : (rule : Rule) (row column : ℤ) (n s : ℕ) → is_state_of rule s ≡ true → row <ℤ edge MAX_LEVEL → (column +ℤ pos n) ≤ℤ edge MAX_LEVEL → item_fault MAX_LEVEL rule row column (Cells n s) ≡ None
+cells-sound : (rule : Rule) (row column : ℤ) (n s : ℕ) → is_state_of rule s ≡ true → row <ℤ edge MAX_LEVEL → (column +ℤ pos n) ≤ℤ edge MAX_LEVEL
+    → item_fault MAX_LEVEL rule row column (Cells n s) ≡ None
 cells-sound rule row column n s state inside high =
     let test : (int_lt row (edge MAX_LEVEL) && int_le (column +ℤ pos n) (edge MAX_LEVEL)) ≡ true = grind (arith, ints) in
     ap (λ t. cond (not t) (Some StateRange) (cond (int_lt row (edge MAX_LEVEL) && int_le (column +ℤ pos n) (edge MAX_LEVEL)) None (Some OutOfPlane))) state
@@ -41,12 +42,15 @@ row_ends-sound rule row column n high =
     ap (λ t. cond t None (Some OutOfPlane)) test
 
 -- good items break no rule
-pub AreGood-sound : (rule : Rule) (left column row : ℤ) (items : List Item) → AreGood rule left column row items → first_fault MAX_LEVEL rule (placed_from left column row items) ≡ None
+pub AreGood-sound : (rule : Rule) (left column row : ℤ) (items : List Item) → AreGood rule left column row items
+    → first_fault MAX_LEVEL rule (placed_from left column row items) ≡ None
 AreGood-sound rule left column row [] g = refl
 AreGood-sound rule left column row (Cells n s ∷ items) g =
-    ap (λ k. first_kind k (first_fault MAX_LEVEL rule (placed_from left (column +ℤ pos n) row items))) (cells-sound rule row column n s g.2 g.3 g.4) ∙ AreGood-sound rule left (column +ℤ pos n) row items g.5
+    ap (λ k. first_kind k (first_fault MAX_LEVEL rule (placed_from left (column +ℤ pos n) row items))) (cells-sound rule row column n s g.2 g.3 g.4)
+    ∙ AreGood-sound rule left (column +ℤ pos n) row items g.5
 AreGood-sound rule left column row (RowEnds n ∷ items) g =
-    ap (λ k. first_kind k (first_fault MAX_LEVEL rule (placed_from left left (row +ℤ pos n) items))) (row_ends-sound rule row column n g.2) ∙ AreGood-sound rule left left (row +ℤ pos n) items g.3
+    ap (λ k. first_kind k (first_fault MAX_LEVEL rule (placed_from left left (row +ℤ pos n) items))) (row_ends-sound rule row column n g.2)
+    ∙ AreGood-sound rule left left (row +ℤ pos n) items g.3
 
 coordinate-range : (z : ℤ) → is_coordinate MAX_LEVEL z ≡ true → (neg_ℤ (edge MAX_LEVEL) ≤ℤ z) × (z <ℤ edge MAX_LEVEL)
 coordinate-range z h =
@@ -91,7 +95,8 @@ rises-cases : (a b : Cell) → rises a b ≡ true → (a.y <ℤ b.y) ⊎ ((a.y �
 rises-cases a b h =
     elim (int_lt a.y b.y) as (λ t. int_lt a.y b.y ≡ t → (t || (int_eq a.y b.y && int_lt a.x b.x)) ≡ true → (a.y <ℤ b.y) ⊎ ((a.y ≡ b.y) × (a.x <ℤ b.x))) [
       | true ↦ λ e k. inl (grind (arith, ints))
-      | false ↦ λ e k. let parts = both_true (int_eq a.y b.y) (int_lt a.x b.x) k in let same = parts.0 in let less = parts.1 in inr (grind (arith, ints), grind (arith, ints))
+      | false ↦ λ e k. let parts = both_true (int_eq a.y b.y) (int_lt a.x b.x) k in let same = parts.0 in let less = parts.1 in
+          inr (grind (arith, ints), grind (arith, ints))
     ] refl h
 
 min-first : (a b : ℤ) → a ≤ℤ b → int_min a b ≡ a
@@ -108,21 +113,26 @@ box-top rule c (d ∷ cells) h =
 
 first-live : (rule : Rule) (c : Cell) (cells : List Cell) → are_sorted_cells MAX_LEVEL rule (c ∷ cells) ≡ true → is_live_cell MAX_LEVEL rule c ≡ true
 first-live rule c [] h = h
-first-live rule c (d ∷ cells) h = (both_true (is_live_cell MAX_LEVEL rule c) (rises c d) (both_true (is_live_cell MAX_LEVEL rule c && rises c d) (are_sorted_cells MAX_LEVEL rule (d ∷ cells)) h).0).0
+first-live rule c (d ∷ cells) h
+    = (both_true (is_live_cell MAX_LEVEL rule c) (rises c d)
+    (both_true (is_live_cell MAX_LEVEL rule c && rises c d) (are_sorted_cells MAX_LEVEL rule (d ∷ cells)) h).0).0
 
 -- sorted cells follow their first
-Follow-rest : (rule : Rule) (left : ℤ) (c : Cell) (cells : List Cell) → are_sorted_cells MAX_LEVEL rule (c ∷ cells) ≡ true → AllRight left (c ∷ cells) → Follow rule left (c.x +ℤ pos 1) c.y cells
+Follow-rest : (rule : Rule) (left : ℤ) (c : Cell) (cells : List Cell) → are_sorted_cells MAX_LEVEL rule (c ∷ cells) ≡ true → AllRight left (c ∷ cells)
+    → Follow rule left (c.x +ℤ pos 1) c.y cells
 Follow-rest rule left c [] h a = tt
 Follow-rest rule left c (d ∷ cells) h a =
     let parts = both_true (is_live_cell MAX_LEVEL rule c && rises c d) (are_sorted_cells MAX_LEVEL rule (d ∷ cells)) h in
     let up = rises-cases c d (both_true (is_live_cell MAX_LEVEL rule c) (rises c d) parts.0).1 in (
       live-good rule d (first-live rule d cells parts.1),
-      elim up as (λ _. ((d.y ≡ c.y) × ((c.x +ℤ pos 1) ≤ℤ d.x)) ⊎ ((c.y <ℤ d.y) × (left ≤ℤ d.x))) [ inl u ↦ inr (u, a.1.0) | inr u ↦ inl (sym u.0, omega (arith, ints, u.1)) ],
+      elim up as (λ _. ((d.y ≡ c.y) × ((c.x +ℤ pos 1) ≤ℤ d.x)) ⊎ ((c.y <ℤ d.y) × (left ≤ℤ d.x)))
+          [ inl u ↦ inr (u, a.1.0) | inr u ↦ inl (sym u.0, omega (arith, ints, u.1)) ],
       Follow-rest rule left d cells parts.1 a.1,
     )
 
 -- sorted cells follow the corner of their box
-pub sorted-Follow : (rule : Rule) (c : Cell) (cells : List Cell) → are_sorted_cells MAX_LEVEL rule (c ∷ cells) ≡ true → Follow rule (box_of c cells).left (box_of c cells).left (box_of c cells).top (c ∷ cells)
+pub sorted-Follow : (rule : Rule) (c : Cell) (cells : List Cell) → are_sorted_cells MAX_LEVEL rule (c ∷ cells) ≡ true
+    → Follow rule (box_of c cells).left (box_of c cells).left (box_of c cells).top (c ∷ cells)
 sorted-Follow rule c cells h =
     let right = box-left c cells in
     (live-good rule c (first-live rule c cells h), inl (sym (box-top rule c cells h), right.0), Follow-rest rule (box_of c cells).left c cells h right)
@@ -132,7 +142,14 @@ IsInPlane-joined : (rule : Rule) (c : Cell) (box : Bounds) → IsGoodCell rule c
 IsInPlane-joined rule c box g b =
     let gl = g.left in let gr = g.right in let gt = g.top in let gb = g.bottom in
     let bl = b.left in let br = b.right in let bt = b.top in let bb = b.bottom in
-    record { left = grind (arith, ints); wide = least-most c.x box.left box.right b.wide; right = grind (arith, ints); top = grind (arith, ints); high = least-most c.y box.top box.bottom b.high; bottom = grind (arith, ints) }
+    record {
+      left = grind (arith, ints);
+      wide = least-most c.x box.left box.right b.wide;
+      right = grind (arith, ints);
+      top = grind (arith, ints);
+      high = least-most c.y box.top box.bottom b.high;
+      bottom = grind (arith, ints);
+    }
   where
     least-most : (z low high : ℤ) → low ≤ℤ high → int_min z low ≤ℤ int_max z high
     least-most z low high h = grind (arith, ints)

@@ -53,12 +53,14 @@ two-lettered n rest low high =
 
 lettered-read : (n : ℕ) (rest : List ℕ) → n ≤ 255 → state_at (lettered n ++ rest) ≡ Some (n, rest)
 lettered-read n rest high =
-    elim (eqb n 0) as (λ t. eqb n 0 ≡ t → state_at (cond t (46 ∷ []) (cond (leb n 24) ((64 + n) ∷ []) ((111 + (n - 1) / 24) ∷ (65 + (n - 1) % 24) ∷ [])) ++ rest) ≡ Some (n, rest)) [
+    elim (eqb n 0) as (λ t. eqb n 0 ≡ t
+    → state_at (cond t (46 ∷ []) (cond (leb n 24) ((64 + n) ∷ []) ((111 + (n - 1) / 24) ∷ (65 + (n - 1) % 24) ∷ [])) ++ rest) ≡ Some (n, rest)) [
       | true ↦ λ e. let zero : 0 ≡ n = grind (arith, nat_tests) in one-byte 46 n rest (ap Some zero)
-      | false ↦ λ e. elim (leb n 24) as (λ t. leb n 24 ≡ t → state_at (cond t ((64 + n) ∷ []) ((111 + (n - 1) / 24) ∷ (65 + (n - 1) % 24) ∷ []) ++ rest) ≡ Some (n, rest)) [
-        | true ↦ λ f. one-byte (64 + n) n rest (a-letter n (grind (arith, nat_tests)) (grind (arith, nat_tests)))
-        | false ↦ λ f. two-lettered n rest (grind (arith, nat_tests)) high
-      ] refl
+      | false ↦ λ e. elim (leb n 24)
+          as (λ t. leb n 24 ≡ t → state_at (cond t ((64 + n) ∷ []) ((111 + (n - 1) / 24) ∷ (65 + (n - 1) % 24) ∷ []) ++ rest) ≡ Some (n, rest)) [
+            | true ↦ λ f. one-byte (64 + n) n rest (a-letter n (grind (arith, nat_tests)) (grind (arith, nat_tests)))
+            | false ↦ λ f. two-lettered n rest (grind (arith, nat_tests)) high
+          ] refl
     ] refl
 
 pub states-read : StatesReadBack

@@ -79,7 +79,9 @@ position-short x y g sx sy h =
 position-one_line : (x y : ℤ) (g : ℕ) → IsShort x → IsShort y → g < 2 ^ 64 → is_one_line (position_text x y g) ≡ true
 position-one_line x y g sx sy h =
     one_line-append ((codes "#CXRLE Pos=" ++ signed_decimal x) ++ (codes "," ++ signed_decimal y)) (generation_text g)
-    (one_line-append (codes "#CXRLE Pos=" ++ signed_decimal x) (codes "," ++ signed_decimal y) (one_line-append (codes "#CXRLE Pos=") (signed_decimal x) refl (signed-one_line x sx)) (one_line-append (codes ",") (signed_decimal y) refl (signed-one_line y sy)))
+    (one_line-append (codes "#CXRLE Pos=" ++ signed_decimal x) (codes "," ++ signed_decimal y)
+    (one_line-append (codes "#CXRLE Pos=") (signed_decimal x) refl (signed-one_line x sx))
+    (one_line-append (codes ",") (signed_decimal y) refl (signed-one_line y sy)))
     (generation-one_line g h)
 
 not_long : (n : ℕ) → n ≤ 1000 → ltb (2 ^ 20) n ≡ false
@@ -89,12 +91,14 @@ pub position-read : (x y : ℤ) (g : ℕ) → IsShort x → IsShort y → is_coo
     → opening_of MAX_LEVEL (position_text x y g) ≡ Ok (PositionLine (record { x = x; y = y; generation = g }))
 position-read x y g sx sy cx cy h =
     let small = position-short x y g sx sy h in
-    ap (λ t. cond t (Err LineTooLong) (and_then (position_of MAX_LEVEL (position_text x y g)) (λ position. Ok (PositionLine position)))) (not_long (length (position_text x y g)) (omega (arith, small)))
+    ap (λ t. cond t (Err LineTooLong) (and_then (position_of MAX_LEVEL (position_text x y g)) (λ position. Ok (PositionLine position))))
+    (not_long (length (position_text x y g)) (omega (arith, small)))
     ∙ ap (λ p. and_then p (λ position. Ok (PositionLine position))) (position_of-written x y g sx sy cx cy h)
 
 -- ---- the header line
 
-header-read : (w h : ℕ) (rule : Rule) → w < 2 ^ 64 → h < 2 ^ 64 → trim_start (rule_text rule) ≡ rule_text rule → length (rule_text rule) ≤ 255 → rule_of (rule_text rule) ≡ Ok rule
+header-read : (w h : ℕ) (rule : Rule) → w < 2 ^ 64 → h < 2 ^ 64 → trim_start (rule_text rule) ≡ rule_text rule → length (rule_text rule) ≤ 255
+    → rule_of (rule_text rule) ≡ Ok rule
     → opening_of MAX_LEVEL (header_text w h rule) ≡ Ok (Header rule)
 header-read w h rule sw sh bare short law =
     let a = decimal-short w sw in let b = decimal-short h sh in
@@ -116,7 +120,8 @@ header-read w h rule sw sh bare short law =
 header-one_line : (w h : ℕ) (rule : Rule) → w < 2 ^ 64 → h < 2 ^ 64 → is_one_line (rule_text rule) ≡ true → is_one_line (header_text w h rule) ≡ true
 header-one_line w h rule sw sh r =
     one_line-append ((codes "x = " ++ decimal w) ++ (codes ", y = " ++ decimal h)) (codes ", rule = " ++ rule_text rule)
-    (one_line-append (codes "x = " ++ decimal w) (codes ", y = " ++ decimal h) (one_line-append (codes "x = ") (decimal w) refl (decimal-one_line w sw)) (one_line-append (codes ", y = ") (decimal h) refl (decimal-one_line h sh)))
+    (one_line-append (codes "x = " ++ decimal w) (codes ", y = " ++ decimal h) (one_line-append (codes "x = ") (decimal w) refl (decimal-one_line w sw))
+    (one_line-append (codes ", y = ") (decimal h) refl (decimal-one_line h sh)))
     (one_line-append (codes ", rule = ") (rule_text rule) refl r)
 
 -- ---- the lines together
@@ -136,7 +141,8 @@ pub record AreSmall (x y : ℤ) (w h g : ℕ) : Type 0 where
   pub height : h < 2 ^ 64
   pub generation : g < 2 ^ 64
 
-module _ (states : StatesReadBack) (rules : RulesReadBack) (rule : Rule) (r : IsRule rule) (x y : ℤ) (w h g : ℕ) (n : AreSmall x y w h g) (items : List Item) (written : AreWritten rule items) where
+module _ (states : StatesReadBack) (rules : RulesReadBack) (rule : Rule) (r : IsRule rule) (x y : ℤ) (w h g : ℕ) (n : AreSmall x y w h g) (items : List Item)
+    (written : AreWritten rule items) where
   abbrev file : Rle
   file = record { rule = rule; position = record { x = x; y = y; generation = g }; items = items }
 
@@ -152,14 +158,20 @@ module _ (states : StatesReadBack) (rules : RulesReadBack) (rule : Rule) (r : Is
     header = header_text w h rule;
     body = [];
     whole = refl;
-    preamble = inr (head.position, position-read x y g (short-coordinate x n.left n.right) (short-coordinate y n.top n.bottom) (is_coordinate-between x n.left n.right) (is_coordinate-between y n.top n.bottom) n.generation, refl);
+    preamble = inr (
+      head.position,
+      position-read x y g (short-coordinate x n.left n.right) (short-coordinate y n.top n.bottom)
+          (is_coordinate-between x n.left n.right) (is_coordinate-between y n.top n.bottom) n.generation,
+      refl,
+    );
     rule = header-read w h rule n.width n.height (visible-bare (rule_text rule) (rule_text-is rule r).visible) (rule_text-is rule r).short (rules rule r);
     items = refl;
     sound = refl;
   }
 
   pub lines-IsMarked : first_fault MAX_LEVEL rule (placed_behind head.position [] items) ≡ None → IsMarked MAX_LEVEL lines file
-  lines-IsMarked sound = wrapped-IsMarked states (position_text x y g ∷ header_text w h rule ∷ []) head [] [] items begun (λ rest. refl) (inl (refl, refl)) (omega arith) written sound
+  lines-IsMarked sound = wrapped-IsMarked states (position_text x y g ∷ header_text w h rule ∷ []) head [] [] items begun (λ rest. refl) (inl (refl, refl))
+      (omega arith) written sound
 
   pub lines-AreLines : AreLines lines
   lines-AreLines = (
@@ -182,10 +194,23 @@ placed-corner position items =
 
 pub text-back : StatesReadBack → RulesReadBack → RleTextReadsBack
 text-back states rules rule g [] r gs sorted =
-    let small : AreSmall (pos 0) (pos 0) 0 0 g = record { left = omega (arith, ints); right = omega (arith, ints); top = omega (arith, ints); bottom = omega (arith, ints); width = omega arith; height = omega arith; generation = gs } in
+    let small : AreSmall (pos 0) (pos 0) 0 0 g = record {
+      left = omega (arith, ints);
+      right = omega (arith, ints);
+      top = omega (arith, ints);
+      bottom = omega (arith, ints);
+      width = omega arith;
+      height = omega arith;
+      generation = gs;
+    } in
     let marked = lines-IsMarked states rules rule r (pos 0) (pos 0) 0 0 g small [] tt refl in
-    let ended = lines-ended (rle_lines rule g []) (lines-AreLines states rules rule r (pos 0) (pos 0) 0 0 g small [] tt) in
-    (file states rules rule r (pos 0) (pos 0) 0 0 g small [] tt, inr (subst (λ ls. IsMarked MAX_LEVEL ls (file states rules rule r (pos 0) (pos 0) 0 0 g small [] tt)) (sym ended) marked), refl, refl, λ x y. refl)
+    let ended = lines-ended (rle_lines rule g []) (lines-AreLines states rules rule r (pos 0) (pos 0) 0 0 g small [] tt) in (
+      file states rules rule r (pos 0) (pos 0) 0 0 g small [] tt,
+      inr (subst (λ ls. IsMarked MAX_LEVEL ls (file states rules rule r (pos 0) (pos 0) 0 0 g small [] tt)) (sym ended) marked),
+      refl,
+      refl,
+      λ x y. refl,
+    )
 text-back states rules rule g (c ∷ cells) r gs sorted =
     let box = box_of c cells in
     let inside = sorted-IsInPlane rule c cells sorted in
@@ -208,7 +233,8 @@ text-back states rules rule g (c ∷ cells) r gs sorted =
     let sound = ap (first_fault MAX_LEVEL rule) where-placed ∙ AreGood-sound rule box.left box.left box.top items good in
     let f = file states rules rule r box.left box.top (span box.left box.right) (span box.top box.bottom) g small items written in
     let marked = lines-IsMarked states rules rule r box.left box.top (span box.left box.right) (span box.top box.bottom) g small items written sound in
-    let ended = lines-ended (rle_lines rule g (c ∷ cells)) (lines-AreLines states rules rule r box.left box.top (span box.left box.right) (span box.top box.bottom) g small items written) in (
+    let ended = lines-ended (rle_lines rule g (c ∷ cells))
+    (lines-AreLines states rules rule r box.left box.top (span box.left box.right) (span box.top box.bottom) g small items written) in (
       f,
       inr (subst (λ ls. IsMarked MAX_LEVEL ls f) (sym ended) marked),
       refl,

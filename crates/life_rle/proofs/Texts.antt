@@ -33,7 +33,8 @@ is_digit_text-push (x ∷ ds) d h e =
 -- a number's text is a digit text of its value
 pub decimal-is_digit_text : (n : ℕ) → n < 2 ^ 64 → is_digit_text (decimal n) ≡ true
 decimal-is_digit_text n h =
-    decimal_by_steps (λ n ds. is_digit_text ds ≡ true) (λ n h. ap (λ t. t && true) (digit-is_ascii_digit n h)) (λ n ds h e. is_digit_text-push ds (n % 10) (omega arith) e) n h
+    decimal_by_steps (λ n ds. is_digit_text ds ≡ true) (λ n h. ap (λ t. t && true) (digit-is_ascii_digit n h))
+    (λ n ds h e. is_digit_text-push ds (n % 10) (omega arith) e) n h
 
 pub value_of-decimal : (n : ℕ) → n < 2 ^ 64 → value_of (decimal n) ≡ n
 value_of-decimal n h = (decimal_is_IsNumeral n h).1
@@ -83,7 +84,8 @@ pub digit-plain : (b : ℕ) → is_ascii_digit b ≡ true → (is_whitespace b �
 digit-plain b h = (grind (arith, nat_tests), grind (arith, nat_tests))
 
 -- a state or `$` behind digits
-pub next_of-digits : (level n : ℕ) (digits tag : List ℕ) → is_digit_text digits ≡ true → n ≡ value_of digits → 0 < n → n ≤ most_count level → IsTag tag → next_of level (digits ++ tag) ≡ item_behind n tag
+pub next_of-digits : (level n : ℕ) (digits tag : List ℕ) → is_digit_text digits ≡ true → n ≡ value_of digits → 0 < n → n ≤ most_count level → IsTag tag
+    → next_of level (digits ++ tag) ≡ item_behind n tag
 next_of-digits level n [] tag h v low high t = cc
 next_of-digits level n (d ∷ digits) tag h v low high t =
     let parts = both_true (is_ascii_digit d) (list_all is_ascii_digit digits) h in
@@ -112,7 +114,8 @@ IsTag-letter b rest h = (grind (arith, nat_tests), grind (arith, nat_tests), gri
 
 pub lettered-IsTag : (state : ℕ) (rest : List ℕ) → IsTag (lettered state ++ rest)
 lettered-IsTag state rest =
-    elim (eqb state 0) as (λ t. IsTag (cond t (46 ∷ []) (cond (leb state 24) ((64 + state) ∷ []) ((111 + (state - 1) / 24) ∷ (65 + (state - 1) % 24) ∷ [])) ++ rest)) [
+    elim (eqb state 0) as (λ t. IsTag
+    (cond t (46 ∷ []) (cond (leb state 24) ((64 + state) ∷ []) ((111 + (state - 1) / 24) ∷ (65 + (state - 1) % 24) ∷ [])) ++ rest)) [
       | true ↦ (refl, refl, refl)
       | false ↦ elim (leb state 24) as (λ t. IsTag (cond t ((64 + state) ∷ []) ((111 + (state - 1) / 24) ∷ (65 + (state - 1) % 24) ∷ []) ++ rest))
           [ true ↦ IsTag-letter (64 + state) rest (omega arith) | false ↦ IsTag-letter (111 + (state - 1) / 24) ((65 + (state - 1) % 24) ∷ rest) (omega arith) ]
@@ -134,7 +137,8 @@ IsNoRowEnd (b ∷ bytes) = eqb b 36 ≡ false
 
 lettered-IsNoRowEnd : (state : ℕ) (rest : List ℕ) → IsNoRowEnd (lettered state ++ rest)
 lettered-IsNoRowEnd state rest =
-    elim (eqb state 0) as (λ t. IsNoRowEnd (cond t (46 ∷ []) (cond (leb state 24) ((64 + state) ∷ []) ((111 + (state - 1) / 24) ∷ (65 + (state - 1) % 24) ∷ [])) ++ rest)) [
+    elim (eqb state 0) as (λ t. IsNoRowEnd
+    (cond t (46 ∷ []) (cond (leb state 24) ((64 + state) ∷ []) ((111 + (state - 1) / 24) ∷ (65 + (state - 1) % 24) ∷ [])) ++ rest)) [
       | true ↦ refl
       | false ↦ elim (leb state 24) as (λ t. IsNoRowEnd (cond t ((64 + state) ∷ []) ((111 + (state - 1) / 24) ∷ (65 + (state - 1) % 24) ∷ []) ++ rest))
           [ true ↦ grind (arith, nat_tests) | false ↦ grind (arith, nat_tests) ]
@@ -149,7 +153,8 @@ not_row_end n [] t h = absurd t
 not_row_end n (b ∷ tag) t h = ap (λ c. cond c (Spelled (RowEnds n) tag) (cells_of n (state_at (b ∷ tag)))) h
 
 -- the item's text is read as the item, whatever follows
-pub item_text-Spelled : StatesReadBack → (rule : Rule) (item : Item) (rest : List ℕ) → IsWritten rule item → next_of MAX_LEVEL (item_text rule item ++ rest) ≡ Spelled item rest
+pub item_text-Spelled : StatesReadBack → (rule : Rule) (item : Item) (rest : List ℕ) → IsWritten rule item → next_of MAX_LEVEL (item_text rule item ++ rest)
+    ≡ Spelled item rest
 item_text-Spelled states rule (Cells count state) rest h =
     ap (next_of MAX_LEVEL) (append_assoc (count_text count) (state_text rule state) rest)
     ∙ next_of-count count (state_text rule state ++ rest) h.0 h.1 (state_text-IsTag rule state rest h.2)

@@ -85,7 +85,8 @@ corner-none level (Some x) (Some y) n h = by (is_coordinate level x && is_coordi
     by true h = cc
     by false h = cc
 
-pick : (a b : Bool) (c : Result Field Kind) (u : Result ℕ Kind) (n : ℕ) → (c ≡ Ok (Generation n) → ⊥) → cond a c (cond b (and_then u (λ m. Ok (Generation m))) (Ok Other)) ≡ Ok (Generation n) → u ≡ Ok n
+pick : (a b : Bool) (c : Result Field Kind) (u : Result ℕ Kind) (n : ℕ) → (c ≡ Ok (Generation n) → ⊥)
+    → cond a c (cond b (and_then u (λ m. Ok (Generation m))) (Ok Other)) ≡ Ok (Generation n) → u ≡ Ok n
 pick true b c u n never h = absurd (never h)
 pick false true c (Ok m) n never h = cc
 pick false true c (Err k) n never h = cc
@@ -94,14 +95,17 @@ pick false false c u n never h = cc
 field-small : (level : ℕ) (text : List ℕ) (n : ℕ) → field_of level text ≡ Ok (Generation n) → n < 2 ^ 64
 field-small level text n h =
     number-small (is_digit_text (drop 4 text)) (value_of (drop 4 text)) n
-    (pick (begins_with text (codes "Pos=")) (begins_with text (codes "Gen=")) (corner_in level (drop 4 text)) (u64_of (drop 4 text)) n (corner-none level _ _ n) h)
+    (pick (begins_with text (codes "Pos=")) (begins_with text (codes "Gen=")) (corner_in level (drop 4 text)) (u64_of (drop 4 text)) n (corner-none level _ _ n)
+    h)
 
-with-small : (level : ℕ) (text : List ℕ) (position : Position) (found : Field) → field_of level text ≡ Ok found → position.generation < 2 ^ 64 → (with_field position found).generation < 2 ^ 64
+with-small : (level : ℕ) (text : List ℕ) (position : Position) (found : Field) → field_of level text ≡ Ok found → position.generation < 2 ^ 64
+    → (with_field position found).generation < 2 ^ 64
 with-small level text position (Corner x y) h l = l
 with-small level text position (Generation n) h l = field-small level text n h
 with-small level text position Other h l = l
 
-fields-small : (level : ℕ) (position : Position) (fields : List (List ℕ)) (found : Position) → position_with level position fields ≡ Ok found → position.generation < 2 ^ 64 → found.generation < 2 ^ 64
+fields-small : (level : ℕ) (position : Position) (fields : List (List ℕ)) (found : Position) → position_with level position fields ≡ Ok found
+    → position.generation < 2 ^ 64 → found.generation < 2 ^ 64
 fields-small level position [] found h l = let P : Position → Type 0 = λ p. p.generation < 2 ^ 64 in subst P (one-value position found (Ok position) refl h) l
 fields-small level position (field ∷ fields) found h l = by (field_of level field) refl h (λ p q k. fields-small level p fields found q k)
   where
@@ -110,7 +114,8 @@ fields-small level position (field ∷ fields) found h l = by (field_of level fi
     by (Ok f) e h more = more (with_field position f) h (with-small level field position f e l)
     by (Err k) e h more = cc
 
-preamble-small : (level : ℕ) (given : Position) (lines : List (List ℕ)) (position : Position) → IsPreamble level given lines position → given.generation < 2 ^ 64 → position.generation < 2 ^ 64
+preamble-small : (level : ℕ) (given : Position) (lines : List (List ℕ)) (position : Position) → IsPreamble level given lines position
+    → given.generation < 2 ^ 64 → position.generation < 2 ^ 64
 preamble-small level given [] position e l = let P : Position → Type 0 = λ p. p.generation < 2 ^ 64 in subst P (sym e) l
 preamble-small level given (line ∷ lines) position (inl p) l = preamble-small level given lines position p.1 l
 preamble-small level given (line ∷ lines) position (inr p) l =
@@ -119,7 +124,8 @@ preamble-small level given (line ∷ lines) position (inr p) l =
     (line-reads level line (PositionLine p.0) p.1) (lit< tt))
 
 unmarked-valid : (level : ℕ) (lines : List (List ℕ)) (file : Rle) → IsUnmarked level lines file → IsRule file.rule × (file.position.generation < 2 ^ 64)
-unmarked-valid level lines file u = (rule-valid level u.header file.rule u.rule, preamble-small level default_position u.before file.position u.preamble (lit< tt))
+unmarked-valid level lines file u
+    = (rule-valid level u.header file.rule u.rule, preamble-small level default_position u.before file.position u.preamble (lit< tt))
 
 both-valid : (level : ℕ) (lines : List (List ℕ)) (file : Rle) → IsRle level lines file → IsRule file.rule × (file.position.generation < 2 ^ 64)
 both-valid level lines file (inl u) = unmarked-valid level lines file u

@@ -117,8 +117,10 @@ pub data Breaks (level : ℕ) (front : List (List ℕ)) (line : List ℕ) (kind 
   by_text : (file : Rle) (items : List Item) → IsUnmarked level front file → later_of line ≡ Ok Data → Spells level line items (Broken kind)
       → first_fault level file.rule (placed_behind file.position file.items items) ≡ None → Breaks level front line kind
   -- behind items that break none, by an item
-  by_item : (file : Rle) (items : List Item) (item : Item) (rest : List ℕ) → IsUnmarked level front file → later_of line ≡ Ok Data → Spells level line items (Spelled item rest)
-      → first_fault level file.rule (placed_behind file.position file.items items) ≡ None → fault_behind level file items item ≡ Some kind → Breaks level front line kind
+  by_item : (file : Rle) (items : List Item) (item : Item) (rest : List ℕ) → IsUnmarked level front file → later_of line ≡ Ok Data
+      → Spells level line items (Spelled item rest)
+      → first_fault level file.rule (placed_behind file.position file.items items) ≡ None → fault_behind level file items item ≡ Some kind
+      → Breaks level front line kind
 
 -- the kinds of rule that a line of RLE can break
 abbrev pub is_rle_kind : Kind → Bool

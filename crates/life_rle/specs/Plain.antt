@@ -45,7 +45,8 @@ ItemsArePlain =
     (level : ℕ) (line : List ℕ) (items : List Item)
     → (Spells level line items End ↔ IsTextOf level line items [])
     × (Spells level line items Mark ↔ ((free : List ℕ) × IsTextOf level line items (byte "!" ∷ free)))
-    × ((item : Item) (rest : List ℕ) → Spells level line items (Spelled item rest) ↔ ((text : List ℕ) × IsItemText level text item × IsTextOf level line items (text ++ rest)))
+    × ((item : Item) (rest : List ℕ) → Spells level line items (Spelled item rest)
+    ↔ ((text : List ℕ) × IsItemText level text item × IsTextOf level line items (text ++ rest)))
 
 -- tokens one after another, each with any whitespace behind it, and then these bytes
 abbrev pub AreTokens : List ℕ → List (List ℕ) → List ℕ → Type 0
@@ -90,8 +91,10 @@ HasItemPlace (b ∷ bytes) = (is_whitespace b ≡ false) × ((b ≡ byte "!") �
 -- Which rule the bytes in an item's place break: a count of 0, a count above the width of the plane, or, behind a count or without one,
 -- neither a state nor `$`.
 pub data IsNoItem (level : ℕ) (bytes : List ℕ) (kind : Kind) : Type 0 where
-  zero_count : (digits rest : List ℕ) → bytes ≡ digits ++ rest → is_digit_text digits ≡ true → HasNoDigit rest → value_of digits ≡ 0 → kind ≡ ZeroCount → IsNoItem level bytes kind
-  large_count : (digits rest : List ℕ) → bytes ≡ digits ++ rest → is_digit_text digits ≡ true → HasNoDigit rest → most_count level < value_of digits → kind ≡ TooLarge
+  zero_count : (digits rest : List ℕ) → bytes ≡ digits ++ rest → is_digit_text digits ≡ true → HasNoDigit rest → value_of digits ≡ 0 → kind ≡ ZeroCount
+      → IsNoItem level bytes kind
+  large_count : (digits rest : List ℕ) → bytes ≡ digits ++ rest → is_digit_text digits ≡ true → HasNoDigit rest → most_count level < value_of digits
+      → kind ≡ TooLarge
       → IsNoItem level bytes kind
   no_state : (digits rest : List ℕ) (count : ℕ) → bytes ≡ digits ++ rest → IsCountText level digits count → HasNoDigit rest → HasNoState rest → kind ≡ BadItem
       → IsNoItem level bytes kind

@@ -29,7 +29,8 @@ IsComment line = (is_blank line ≡ true) ⊎ ((begins_with line (codes "#") ≡
 abbrev pub ArePreamble : ℕ → Position → List (List ℕ) → Position → Type 0
 ArePreamble level given [] position = position ≡ given
 ArePreamble level given (line ∷ lines) position =
-    IsShort line × ((IsComment line × ArePreamble level given lines position) ⊎ ((here : Position) × IsPositionText level line here × ArePreamble level here lines position))
+    IsShort line × ((IsComment line × ArePreamble level given lines position)
+    ⊎ ((here : Position) × IsPositionText level line here × ArePreamble level here lines position))
 
 -- a header line of this rule; B3/S23 where it names none
 abbrev pub IsRuleLine : List ℕ → Rule → Type 0

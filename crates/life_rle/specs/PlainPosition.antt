@@ -32,17 +32,20 @@ pub data IsFieldText (level : ℕ) (text : List ℕ) (field : Field) : Type 0 wh
       → is_coordinate level x ≡ true → is_coordinate level y ≡ true → field ≡ Corner x y → IsFieldText level text field
   generation : (digits : List ℕ) → text ≡ codes "Gen=" ++ digits → is_digit_text digits ≡ true → value_of digits < 2 ^ 64 → field ≡ Generation (value_of digits)
       → IsFieldText level text field
-  other : ((rest : List ℕ) → text ≡ codes "Pos=" ++ rest → ⊥) → ((rest : List ℕ) → text ≡ codes "Gen=" ++ rest → ⊥) → field ≡ Other → IsFieldText level text field
+  other : ((rest : List ℕ) → text ≡ codes "Pos=" ++ rest → ⊥) → ((rest : List ℕ) → text ≡ codes "Gen=" ++ rest → ⊥) → field ≡ Other
+      → IsFieldText level text field
 
 -- Which rule a field breaks: `Pos=` without two numbers and a comma between them, or with a number outside the plane; `Gen=` without a digit
 -- text, or with a number of 2 ^ 64 or more.
 pub data IsNoField (level : ℕ) (text : List ℕ) (kind : Kind) : Type 0 where
   no_corner : (rest : List ℕ) → text ≡ codes "Pos=" ++ rest
-      → ((left right : List ℕ) (x y : ℤ) → rest ≡ left ++ (codes "," ++ right) → IsNumberText left x → IsNumberText right y → ⊥) → kind ≡ BadNumber → IsNoField level text kind
+      → ((left right : List ℕ) (x y : ℤ) → rest ≡ left ++ (codes "," ++ right) → IsNumberText left x → IsNumberText right y → ⊥) → kind ≡ BadNumber
+      → IsNoField level text kind
   outside : (left right : List ℕ) (x y : ℤ) → text ≡ codes "Pos=" ++ (left ++ (codes "," ++ right)) → IsNumberText left x → IsNumberText right y
       → (is_coordinate level x && is_coordinate level y) ≡ false → kind ≡ OutOfPlane → IsNoField level text kind
   no_generation : (rest : List ℕ) → text ≡ codes "Gen=" ++ rest → is_digit_text rest ≡ false → kind ≡ BadNumber → IsNoField level text kind
-  large : (digits : List ℕ) → text ≡ codes "Gen=" ++ digits → is_digit_text digits ≡ true → 2 ^ 64 ≤ value_of digits → kind ≡ TooLarge → IsNoField level text kind
+  large : (digits : List ℕ) → text ≡ codes "Gen=" ++ digits → is_digit_text digits ≡ true → 2 ^ 64 ≤ value_of digits → kind ≡ TooLarge
+      → IsNoField level text kind
 
 -- words that are fields, in their order
 abbrev pub AreFields : ℕ → List (List ℕ) → List Field → Type 0

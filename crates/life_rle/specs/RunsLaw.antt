@@ -49,7 +49,8 @@ state_by (run ∷ runs) x y = if has_cell run x y then run.state else state_by r
 abbrev pub RunsAreCells : Type 0
 RunsAreCells =
     (level : ℕ) (lines : List (List ℕ)) (file : Rle) → IsRle level lines file
-    → AreGoodRuns level file.rule (runs_of (placed file)) × AreInOrder (runs_of (placed file)) × ((x y : ℤ) → cell file x y ≡ state_by (runs_of (placed file)) x y)
+    → AreGoodRuns level file.rule (runs_of (placed file)) × AreInOrder (runs_of (placed file))
+    × ((x y : ℤ) → cell file x y ≡ state_by (runs_of (placed file)) x y)
 
 -- a pair lies outside the plane
 abbrev pub IsOutside : ℕ → ℤ → ℤ → Type 0

@@ -19,7 +19,8 @@ prefixed_number prefix letter = 24 * (prefix - byte "o") + (letter - byte "@")
 -- the state that a prefix `p` to `y` and a letter `A` to `X` name, if it is no more than 255
 abbrev pub prefixed_state : ℕ → ℕ → Option ℕ
 prefixed_state prefix letter =
-    if (nat_le (byte "p") prefix && nat_le prefix (byte "y")) && (nat_le (byte "A") letter && nat_le letter (byte "X")) && nat_le (prefixed_number prefix letter) 255
+    if (nat_le (byte "p") prefix && nat_le prefix (byte "y")) && (nat_le (byte "A") letter && nat_le letter (byte "X"))
+    && nat_le (prefixed_number prefix letter) 255
     then Some (prefixed_number prefix letter) else None
 
 -- a state and the bytes behind it

@@ -26,7 +26,8 @@ handed-on (Ok x) f bad needed full = absurd bad
 handed-on (Err g) f is needed full = needed (ap (λ (d : Fault). Err d) (sym is ∙ err-is g (fault_of Full) full))
 
 -- what the step of a pattern lacks is what the step of its file lacks
-pub step-lacks : (Lacks : Rule → Tree → Type 0) (bytes : List ℕ) (store : Nodes) (pattern : Pattern) → IsRead MAX_LEVEL bytes store pattern → Lacks pattern.rule (content store pattern.root)
+pub step-lacks : (Lacks : Rule → Tree → Type 0) (bytes : List ℕ) (store : Nodes) (pattern : Pattern) → IsRead MAX_LEVEL bytes store pattern
+    → Lacks pattern.rule (content store pattern.root)
     → (u : Universe) × Reads MAX_LEVEL bytes u × Lacks u.rule (whole MAX_LEVEL u)
 step-lacks Lacks bytes store pattern r l =
     (r.universe, r.reads, subst (λ q. Lacks q (whole MAX_LEVEL r.universe)) r.is.rule (subst (λ t. Lacks pattern.rule t) r.is.root l))

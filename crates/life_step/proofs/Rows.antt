@@ -37,7 +37,12 @@ needs = refl
 
 -- three live cells in a row at the southern edge of the plane: a cell south of them, outside it, would be born
 abbrev edge : Universe
-edge = record { rule = Life life; generation = 0; cell = λ x y. if int_le (pos (2 ^ 61 - 1)) y && int_le y (pos (2 ^ 61 - 1)) && int_le (pos 0) x && int_le x (pos 2) then 1 else 0 }
+edge = record {
+  rule = Life life;
+  generation = 0;
+  cell = λ x y. if int_le (pos (2 ^ 61 - 1)) y && int_le y (pos (2 ^ 61 - 1)) && int_le (pos 0) x
+      && int_le x (pos 2) then 1 else 0;
+}
 
 outside : ¬ (IsOfPlane MAX_LEVEL (pos 1) (pos (2 ^ 61)))
 unfolding corner

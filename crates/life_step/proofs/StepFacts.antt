@@ -48,7 +48,8 @@ refused-by store fault P Q f full (inr (inl e)) = inl (inl e)
 refused-by store fault P Q f full (inr (inr p)) = inr (f p)
 
 -- what refuses the step of a pattern refuses that of its file
-pub step-refused : {X : Type 0} (bytes : List ℕ) (old new : Nodes) (pattern : Pattern) (Q : Fault → Universe → Type 0) → IsRead MAX_LEVEL bytes old pattern → (r : Result X Fault)
+pub step-refused : {X : Type 0} (bytes : List ℕ) (old new : Nodes) (pattern : Pattern) (Q : Fault → Universe → Type 0) → IsRead MAX_LEVEL bytes old pattern
+    → (r : Result X Fault)
     → IfErr r (λ fault. IsWant new fault ⊎ ((b : List ℕ) → IsRead MAX_LEVEL b old pattern → (u : Universe) × Reads MAX_LEVEL b u × Q fault u))
     → IfErr r (λ fault. Refuses MAX_LEVEL bytes fault ⊎ (IsWant new fault ⊎ ((u : Universe) × Reads MAX_LEVEL bytes u × Q fault u)))
 step-refused bytes old new pattern Q read (Ok x) h = tt
@@ -56,7 +57,8 @@ step-refused bytes old new pattern Q read (Err fault) (inl want) = inr (inl want
 step-refused bytes old new pattern Q read (Err fault) (inr step) = inr (inr (step bytes read))
 
 -- a rule that is no B/S rule is refused without a table
-pub needs-table : (u : Universe) (rule : Rule) (refusal : Option Fault) → rule ≡ u.rule → ((life : OuterTotalistic) → rule ≡ Life life → ⊥) → refusal ≡ Some (fault_of kinds.NeedsTable)
+pub needs-table : (u : Universe) (rule : Rule) (refusal : Option Fault) → rule ≡ u.rule → ((life : OuterTotalistic) → rule ≡ Life life → ⊥)
+    → refusal ≡ Some (fault_of kinds.NeedsTable)
     → LifeRefusal MAX_LEVEL u refusal
 needs-table u rule refusal is other e = subst (λ (r : Rule). RuleRefusal MAX_LEVEL r u refusal) is (by rule other)
   where
@@ -75,7 +77,8 @@ root-high rule d h = let o = one-least rule in omega (arith, o, h)
 -- ---- the text of a square
 
 -- a trimmed square may be numbered
-pub trimmed-fits : (store : Nodes) (rule : Rule) (generation : ℕ) (root : Id) (t : Tree) → IsKnown store root → content store root ≡ trimmed t (least_level rule)
+pub trimmed-fits : (store : Nodes) (rule : Rule) (generation : ℕ) (root : Id) (t : Tree) → IsKnown store root
+    → content store root ≡ trimmed t (least_level rule)
     → IsFull t → least_level rule ≤ depth t → ((x y : ℤ) → tree_cell t x y ≤ largest_state rule)
     → IsTrimmed store (record { rule = rule; generation = generation; root = root })
 trimmed-fits store rule generation root t known is full least states =
@@ -83,7 +86,8 @@ trimmed-fits store rule generation root t known is full least states =
     let one = one-least rule in
     let fixed = trimmed_is_fixed t m full one in
     let high = (trimming_stops t m full one).0 least in
-    let upto = states-up-to (largest_state rule) (trimmed t m) fixed.0 (λ x y. subst (λ n. n ≤ largest_state rule) (sym (trimming_keeps_cells t m full one x y)) (states x y)) in
+    let upto = states-up-to (largest_state rule) (trimmed t m) fixed.0
+    (λ x y. subst (λ n. n ≤ largest_state rule) (sym (trimming_keeps_cells t m full one x y)) (states x y)) in
     record {
       known = known;
       level = subst (λ s. m ≤ depth s) (sym is) high;
@@ -91,7 +95,8 @@ trimmed-fits store rule generation root t known is full least states =
       states = subst (HasStatesUpTo (largest_state rule)) (sym is) upto;
     }
 
-pub plane-of : (rule : Rule) (generation : ℕ) (s t : Tree) → IsRule rule → generation < 2 ^ 64 → ((x y : ℤ) → tree_cell s x y ≡ tree_cell t x y) → depth t ≤ MAX_LEVEL
+pub plane-of : (rule : Rule) (generation : ℕ) (s t : Tree) → IsRule rule → generation < 2 ^ 64 → ((x y : ℤ) → tree_cell s x y ≡ tree_cell t x y)
+    → depth t ≤ MAX_LEVEL
     → ((x y : ℤ) → tree_cell t x y ≤ largest_state rule) → IsOnPlane MAX_LEVEL (square_universe rule generation s)
 plane-of rule generation s t is small same level states = record {
   rule = is;
@@ -115,7 +120,8 @@ text-of on_plane files tell u v same plane text e =
     }
 
 pub text-of-square : FilesAreOnPlane MAX_LEVEL → TextsAreFiles MAX_LEVEL → TextsTellUniverses MAX_LEVEL
-    → (store : Nodes) (rule : Rule) (generation : ℕ) (root : Id) (t : Tree) → IsRule rule → generation < 2 ^ 64 → content store root ≡ trimmed t (least_level rule)
+    → (store : Nodes) (rule : Rule) (generation : ℕ) (root : Id) (t : Tree) → IsRule rule → generation < 2 ^ 64
+    → content store root ≡ trimmed t (least_level rule)
     → IsFull t → depth t ≤ MAX_LEVEL → ((x y : ℤ) → tree_cell t x y ≤ largest_state rule)
     → (text : List ℕ) → text ≡ canon_text MAX_LEVEL (universe_in store (record { rule = rule; generation = generation; root = root }))
     → IsTextOf MAX_LEVEL (square_universe rule generation t) text
@@ -123,7 +129,8 @@ text-of-square on_plane files tell store rule generation root t is small e full 
     let same : (x y : ℤ) → tree_cell (content store root) x y ≡ tree_cell t x y =
     λ x y. ap (λ s. tree_cell s x y) e ∙ trimming_keeps_cells t (least_level rule) full (one-least rule) x y in
     text-of on_plane files tell (square_universe rule generation t) (square_universe rule generation (content store root))
-    (record { rule = refl; generation = refl; cells = λ x y. sym (same x y) }) (plane-of rule generation (content store root) t is small same level states) text written
+    (record { rule = refl; generation = refl; cells = λ x y. sym (same x y) }) (plane-of rule generation (content store root) t is small same level states) text
+    written
 
 -- ---- answers
 
@@ -176,7 +183,8 @@ module _ (law : LifeAnswersAt) (life : OuterTotalistic) (u : Universe) (t : Tree
       (inr (
         generation,
         life-refusal u life (2 ^ 20) refusal small
-            (refusal-at t u same full high (LifeAnswers life) (λ x y a. a ≡ Becomes (next_life life u.cell x y)) life-to life-from (λ states a b p q. p ∙ sym q) 2 (2 ^ 20) refusal h),
+            (refusal-at t u same full high (LifeAnswers life) (λ x y a. a ≡ Becomes (next_life life u.cell x y)) life-to life-from (λ states a b p q. p ∙ sym q)
+            2 (2 ^ 20) refusal h),
       ))
 
 -- the text is that of the next generation
@@ -196,7 +204,8 @@ life-stepped life u rule generation r text is same later next h = record {
   canonical = h.canonical;
 }
 
-pub life-last : (life : OuterTotalistic) (u : Universe) → u.rule ≡ Life life → u.generation ≡ 2 ^ 64 - 1 → LifeRefusal MAX_LEVEL u (Some (fault_of kinds.GenerationTooLarge))
+pub life-last : (life : OuterTotalistic) (u : Universe) → u.rule ≡ Life life → u.generation ≡ 2 ^ 64 - 1
+    → LifeRefusal MAX_LEVEL u (Some (fault_of kinds.GenerationTooLarge))
 life-last life u e last = subst (λ rule. RuleRefusal MAX_LEVEL rule u (Some (fault_of kinds.GenerationTooLarge))) (sym e) (inl (last, refl))
 
 pub life-named : (name : List ℕ) (u : Universe) → u.rule ≡ Named name → LifeRefusal MAX_LEVEL u (Some (fault_of kinds.NeedsTable))
@@ -218,7 +227,8 @@ module _ (law : TableAnswersAt) (table : Table) (u : Universe) (t : Tree) (same 
         λ n. n e,
         inr (
           generation,
-          refusal-at t u same full high (TableAnswers table) (AnswersAt table u.cell) table-to table-from (λ states a b p q. one _ _ _ _ _ a b p q) table.n_states (2 ^ 20) refusal h,
+          refusal-at t u same full high (TableAnswers table) (AnswersAt table u.cell) table-to table-from (λ states a b p q. one _ _ _ _ _ a b p q)
+              table.n_states (2 ^ 20) refusal h,
         ),
       )
 
@@ -241,7 +251,8 @@ module _ (law : TableAnswersAt) (table : Table) (u : Universe) (t : Tree) (same 
 pub table-mismatch : (table : Table) (u : Universe) → ¬ (u.rule ≡ Named table.name) → TableRefusal MAX_LEVEL table u (Some (fault_of kinds.RuleMismatch))
 table-mismatch table u n = inl (n, refl)
 
-pub table-last : (table : Table) (u : Universe) → u.rule ≡ Named table.name → u.generation ≡ 2 ^ 64 - 1 → TableRefusal MAX_LEVEL table u (Some (fault_of kinds.GenerationTooLarge))
+pub table-last : (table : Table) (u : Universe) → u.rule ≡ Named table.name → u.generation ≡ 2 ^ 64 - 1
+    → TableRefusal MAX_LEVEL table u (Some (fault_of kinds.GenerationTooLarge))
 table-last table u e last = inr (λ n. n e, inl (last, refl))
 
 -- ---- a pattern that was read
@@ -249,7 +260,8 @@ table-last table u e last = inr (λ n. n e, inl (last, refl))
 module _ (fit : PatternsFit MAX_LEVEL) (store : Nodes) (pattern : Pattern) (bytes : List ℕ) (r : IsRead MAX_LEVEL bytes store pattern) where
   -- what refuses the step of its square refuses that of its file
   pub life-refused-read : FilesAreOnPlane MAX_LEVEL → LifeAnswersAt → (life : OuterTotalistic) → pattern.rule ≡ Life life → pattern.generation ≢ 2 ^ 64 - 1
-      → (refusal : Option Fault) → GenerationRefusal (LifeAnswers life) 2 (2 ^ 20) (content store pattern.root) refusal → LifeRefusal MAX_LEVEL r.universe refusal
+      → (refusal : Option Fault) → GenerationRefusal (LifeAnswers life) 2 (2 ^ 20) (content store pattern.root) refusal
+      → LifeRefusal MAX_LEVEL r.universe refusal
   life-refused-read plane law life is some refusal h =
       let u = r.universe in
       let fits = fit bytes store pattern r in
@@ -262,7 +274,8 @@ module _ (fit : PatternsFit MAX_LEVEL) (store : Nodes) (pattern : Pattern) (byte
   pub life-stepped-read : FilesAreOnPlane MAX_LEVEL → LifeAnswersAt → (life : OuterTotalistic) → pattern.rule ≡ Life life → pattern.generation ≢ 2 ^ 64 - 1
       → (generation : ℕ) (next : Tree) (text : List ℕ) → generation ≡ pattern.generation + 1
       → ((x y : ℤ) → tree_cell next x y ≡ next_life life (tree_cell (content store pattern.root)) x y)
-      → GenerationRefusal (LifeAnswers life) 2 (2 ^ 20) (content store pattern.root) None → IsTextOf MAX_LEVEL (square_universe pattern.rule generation next) text
+      → GenerationRefusal (LifeAnswers life) 2 (2 ^ 20) (content store pattern.root) None → IsTextOf MAX_LEVEL (square_universe pattern.rule generation next)
+      text
       → (u : Universe) × Reads MAX_LEVEL bytes u × LifeRefusal MAX_LEVEL u None × Stepped MAX_LEVEL IsLifeStep text u
   life-stepped-read plane law life is some generation next text later cells accepted h =
       let u = r.universe in

@@ -50,7 +50,8 @@ module _ (knows : Id → Type 0) (now : Id → Tree) (want : ℕ → Tree) where
     pub filled-within : column ≤ 2 ^ (MAX_LEVEL - 2) → AreWithin 2 spans
     filled-within le k d h = let end = p.ends k d h in omega (arith, le, end)
 
-pub filled-more : {knows knows' : Id → Type 0} {now now' : Id → Tree} → Keeps knows knows' now now' → (want : ℕ → Tree) (before after : List Span) (column end : ℕ) (id : Id)
+pub filled-more : {knows knows' : Id → Type 0} {now now' : Id → Tree} → Keeps knows knows' now now'
+    → (want : ℕ → Tree) (before after : List Span) (column end : ℕ) (id : Id)
     → FilledTo knows now want before column → IsExtended before after column end id → knows' id → ((c : ℕ) → column ≤ c → c < end → want c ≡ now' id)
     → FilledTo knows' now' want after end
 filled-more {knows} {knows'} {now} {now'} keeps want before after column end id p more known same = record { ends = more.ends; done = done }
@@ -82,7 +83,8 @@ module _ (column end : ℕ) (square : Id) (later : column < end) where
   extended-push spans p = record {
     ends = All-push (λ t. t.end ≤ end) spans (record { end = end; square = square }) (λ k d h. let e = p.ends k d h in omega (arith, e, later)) (omega arith);
     earlier = λ c h. let d = p.each c h in found-append spans (record { end = end; square = square } ∷ []) c d.0 d.1 ∙ sym d.1;
-    more = λ c le h. none-append spans (record { end = end; square = square } ∷ []) c (none_beyond spans column c p.ends le) ∙ id_at-before (record { end = end; square = square }) [] c h;
+    more = λ c le h. none-append spans (record { end = end; square = square } ∷ []) c (none_beyond spans column c p.ends le)
+        ∙ id_at-before (record { end = end; square = square }) [] c h;
   }
 
 -- a first span that doesn't end after the column
@@ -99,7 +101,8 @@ met t rest more c f = ap (λ b. if b then Some t.square else id_at more c) f ∙
 met-none : (t : Span) (rest : List Span) (c : ℕ) → nat_lt c t.end ≡ true → id_at (t ∷ rest) c ≡ None → ⊥
 met-none t rest c f at = let g : Some t.square ≡ None = sym (ap (λ b. if b then Some t.square else id_at rest c) f) ∙ at in absurd cc
 
-last-earlier : (s : Span) (spans : List Span) (n : ℕ) (d : Span) → n + 1 ≡ length spans → (get_or spans n d).square ≡ s.square → (c : ℕ) (id : Id) → c < s.end → id_at spans c ≡ Some id → id_at (set spans n s) c ≡ Some id
+last-earlier : (s : Span) (spans : List Span) (n : ℕ) (d : Span) → n + 1 ≡ length spans → (get_or spans n d).square ≡ s.square → (c : ℕ) (id : Id) → c < s.end
+    → id_at spans c ≡ Some id → id_at (set spans n s) c ≡ Some id
 last-earlier s [] n d e q c id lt at = absurd (omega (arith, e))
 last-earlier s (t ∷ []) zero d e q c id lt at = by (nat_lt c t.end) refl
   where
@@ -121,11 +124,13 @@ last-more s (t ∷ []) (suc n) e c lt at = absurd (omega (arith, e))
 last-more s (t ∷ u ∷ rest) zero e c lt at = absurd (omega (arith, e))
 last-more s (t ∷ u ∷ rest) (suc n) e c lt at = by (λ h. last-more s (u ∷ rest) n (omega (arith, e)) c lt h) (nat_lt c t.end) refl
   where
-    by : (id_at (u ∷ rest) c ≡ None → id_at (set (u ∷ rest) n s) c ≡ Some s.square) → (b : Bool) → nat_lt c t.end ≡ b → id_at (t ∷ set (u ∷ rest) n s) c ≡ Some s.square
+    by : (id_at (u ∷ rest) c ≡ None → id_at (set (u ∷ rest) n s) c ≡ Some s.square) → (b : Bool) → nat_lt c t.end ≡ b
+        → id_at (t ∷ set (u ∷ rest) n s) c ≡ Some s.square
     by again true f = absurd (met-none t (u ∷ rest) c f at)
     by again false f = pass t (set (u ∷ rest) n s) c (Some s.square) f (again (passed t (u ∷ rest) c None f at))
 
-pub extended-last : (column end : ℕ) (square : Id) → column < end → (spans : List Span) (n : ℕ) (d : Span) → n + 1 ≡ length spans → (get_or spans n d).square ≡ square
+pub extended-last : (column end : ℕ) (square : Id) → column < end → (spans : List Span) (n : ℕ) (d : Span) → n + 1 ≡ length spans
+    → (get_or spans n d).square ≡ square
     → Covers spans column → IsExtended spans (set spans n (record { end = end; square = square })) column end square
 extended-last column end square later spans n d e q p = record {
   ends = All-set (λ t. t.end ≤ end) spans n (record { end = end; square = square }) (omega arith) (λ k d h. let e = p.ends k d h in omega (arith, e, later));
@@ -144,10 +149,12 @@ four-digits a b c d la lb lc ld =
     λ i. quad (two (nw i)) (two (ne i)) (two (sw i)) (two (se i))
 
 -- the square of four rows has level 2
-pub depth-four_at : (knows : Id → Type 0) (content : Id → Tree) (a b c d : List Span) → IsStrip knows content 0 a → (column : ℕ) → depth (four_at content a b c d column) ≡ 2
+pub depth-four_at : (knows : Id → Type 0) (content : Id → Tree) (a b c d : List Span) → IsStrip knows content 0 a → (column : ℕ)
+    → depth (four_at content a b c d column) ≡ 2
 depth-four_at knows content a b c d strip column = ap (λ n. suc (suc n)) (depth-square_at knows content 0 a strip (2 * (2 * column)))
 
-pub four-keeps : {knows knows' : Id → Type 0} {old now : Id → Tree} → Keeps knows knows' old now → (a b c d : List Span) → IsStrip knows old 0 a → IsStrip knows old 0 b → IsStrip knows old 0 c → IsStrip knows old 0 d
+pub four-keeps : {knows knows' : Id → Type 0} {old now : Id → Tree} → Keeps knows knows' old now → (a b c d : List Span) → IsStrip knows old 0 a
+    → IsStrip knows old 0 b → IsStrip knows old 0 c → IsStrip knows old 0 d
     → (column : ℕ) → four_at now a b c d column ≡ four_at old a b c d column
 four-keeps {knows} {knows'} {old} {now} keeps a b c d ka kb kc kd column =
     let nw = quad-keeps {knows = knows} {knows' = knows'} {old = old} {now = now} keeps 0 a b ka kb (2 * column) in
@@ -159,18 +166,25 @@ four-keeps {knows} {knows'} {old} {now} keeps a b c d ka kb kc kd column =
 -- two squares of two rows go on
 module _ (knows : Id → Type 0) (content : Id → Tree) (blank_id : Id) (known : knows blank_id) (is_blank : content blank_id ≡ blank 0) where
   two-same : (upper lower : List Span) → IsStrip knows content 0 upper → IsStrip knows content 0 lower
-      → (column c : ℕ) (n s : Stretch) → IsFound upper (4 * column) blank_id n → IsFound lower (4 * column) blank_id s → column < c → IsBefore (4 * c + 3) n.end → IsBefore (4 * c + 3) s.end
-      → (quad_at content 0 upper lower (2 * c) ≡ quad_at content 0 upper lower (2 * column)) × (quad_at content 0 upper lower (2 * c + 1) ≡ quad_at content 0 upper lower (2 * column + 1))
+      → (column c : ℕ) (n s : Stretch) → IsFound upper (4 * column) blank_id n → IsFound lower (4 * column) blank_id s → column < c → IsBefore (4 * c + 3) n.end
+      → IsBefore (4 * c + 3) s.end
+      → (quad_at content 0 upper lower (2 * c) ≡ quad_at content 0 upper lower (2 * column))
+      × (quad_at content 0 upper lower (2 * c + 1) ≡ quad_at content 0 upper lower (2 * column + 1))
   two-same upper lower u l column c n s hn hs lt le me =
       let twice : 4 * column ≡ 2 * (2 * column) = omega arith in
       let fn = subst (λ k. IsFound upper k blank_id n) twice hn in
       let fs = subst (λ k. IsFound lower k blank_id s) twice hs in
       let at = λ (k : ℕ) (after : 2 * column < k) (most : 2 * k + 1 ≤ 4 * c + 3).
-      quad-same knows content 0 upper lower u l blank_id known is_blank (2 * column) k n s fn fs after (before_earlier (2 * k + 1) (4 * c + 3) n.end most le) (before_earlier (2 * k + 1) (4 * c + 3) s.end most me) in
-      (at (2 * c) (omega (arith, lt)) (omega arith), at (2 * c + 1) (omega (arith, lt)) (omega arith) ∙ sym (at (2 * column + 1) (omega arith) (omega (arith, lt))))
+      quad-same knows content 0 upper lower u l blank_id known is_blank (2 * column) k n s fn fs after (before_earlier (2 * k + 1) (4 * c + 3) n.end most le)
+      (before_earlier (2 * k + 1) (4 * c + 3) s.end most me) in (
+        at (2 * c) (omega (arith, lt)) (omega arith),
+        at (2 * c + 1) (omega (arith, lt)) (omega arith)
+            ∙ sym (at (2 * column + 1) (omega arith) (omega (arith, lt))),
+      )
 
   pub four-same : (a b c d : List Span) → IsStrip knows content 0 a → IsStrip knows content 0 b → IsStrip knows content 0 c → IsStrip knows content 0 d
-      → (column x : ℕ) (fa fb fc fd : Stretch) → IsFound a (4 * column) blank_id fa → IsFound b (4 * column) blank_id fb → IsFound c (4 * column) blank_id fc → IsFound d (4 * column) blank_id fd
+      → (column x : ℕ) (fa fb fc fd : Stretch) → IsFound a (4 * column) blank_id fa → IsFound b (4 * column) blank_id fb → IsFound c (4 * column) blank_id fc
+      → IsFound d (4 * column) blank_id fd
       → column < x → IsBefore (4 * x + 3) fa.end → IsBefore (4 * x + 3) fb.end → IsBefore (4 * x + 3) fc.end → IsBefore (4 * x + 3) fd.end
       → four_at content a b c d x ≡ four_at content a b c d column
   four-same a b c d ka kb kc kd column x fa fb fc fd ha hb hc hd lt la lb lc ld =
@@ -191,11 +205,13 @@ nearer-one : (o a b : Option ℕ) (end : ℕ) → MatchOption o ((a ≡ None) ×
 nearer-one None a b end h e = absurd cc
 nearer-one (Some x) a b end h e = subst (λ n. (a ≡ Some n) ⊎ (b ≡ Some n)) (Some-is e) h.one
 
-nearer-upper : (o a b : Option ℕ) (column : ℕ) → MatchOption o ((a ≡ None) × (b ≡ None)) (λ e. IsNearer e a b) → IsBefore column o → IsBefore column a × IsBefore column b
+nearer-upper : (o a b : Option ℕ) (column : ℕ) → MatchOption o ((a ≡ None) × (b ≡ None)) (λ e. IsNearer e a b) → IsBefore column o → IsBefore column a
+    × IsBefore column b
 nearer-upper None a b column h e = (subst (IsBefore column) (sym h.0) tt, subst (IsBefore column) (sym h.1) tt)
 nearer-upper (Some x) a b column h e = (h.upper column e, h.lower column e)
 
-pub nearest : (end : ℕ) (n s a b c d : Option ℕ) → MatchOption n ((a ≡ None) × (b ≡ None)) (λ e. IsNearer e a b) → MatchOption s ((c ≡ None) × (d ≡ None)) (λ e. IsNearer e c d) → IsNearer end n s → IsNearest end a b c d
+pub nearest : (end : ℕ) (n s a b c d : Option ℕ) → MatchOption n ((a ≡ None) × (b ≡ None)) (λ e. IsNearer e a b)
+    → MatchOption s ((c ≡ None) × (d ≡ None)) (λ e. IsNearer e c d) → IsNearer end n s → IsNearest end a b c d
 nearest end n s a b c d hn hs near =
     record {
       one = by near.one;
@@ -222,7 +238,8 @@ pub nearer-none : (o a b : Option ℕ) → MatchOption o ((a ≡ None) × (b ≡
 nearer-none None a b h e = h
 nearer-none (Some x) a b h e = absurd cc
 
-pub nearest-beyond : (column end : ℕ) (a b c d : Option ℕ) → IsNearest end a b c d → IsBefore column a → IsBefore column b → IsBefore column c → IsBefore column d → column < end
+pub nearest-beyond : (column end : ℕ) (a b c d : Option ℕ) → IsNearest end a b c d → IsBefore column a → IsBefore column b → IsBefore column c
+    → IsBefore column d → column < end
 nearest-beyond column end a b c d near ha hb hc hd = by near.one
   where
     by : (a ≡ Some end) ⊎ (b ≡ Some end) ⊎ (c ≡ Some end) ⊎ (d ≡ Some end) → column < end
@@ -251,14 +268,16 @@ module _ (content : Id → Tree) (column : ℕ) (i : Id) where
   none-blank : (r : List Span) (f : Stretch) → IsFound r (4 * column) i f → f.end ≡ None → (c : ℕ) → 4 * column ≤ c → square_at content 0 r c ≡ blank 0
   none-blank r f h e c le = ap (square_or_blank content 0) (none-left r (4 * column) i f h e c le)
 
-  pub four-blank : (a b c d : List Span) (fa fb fc fd : Stretch) → IsFound a (4 * column) i fa → IsFound b (4 * column) i fb → IsFound c (4 * column) i fc → IsFound d (4 * column) i fd
+  pub four-blank : (a b c d : List Span) (fa fb fc fd : Stretch) → IsFound a (4 * column) i fa → IsFound b (4 * column) i fb → IsFound c (4 * column) i fc
+      → IsFound d (4 * column) i fd
       → fa.end ≡ None → fb.end ≡ None → fc.end ≡ None → fd.end ≡ None → (x : ℕ) → column ≤ x → four_at content a b c d x ≡ blank 2
   four-blank a b c d fa fb fc fd ha hb hc hd ea eb ec ed x le =
       let p = two a b fa fb ha hb ea eb in
       let q = two c d fc fd hc hd ec ed in
       λ j. quad (p (2 * x) (omega arith) j) (p (2 * x + 1) (omega arith) j) (q (2 * x) (omega arith) j) (q (2 * x + 1) (omega arith) j)
     where
-      two : (u l : List Span) (fu fl : Stretch) → IsFound u (4 * column) i fu → IsFound l (4 * column) i fl → fu.end ≡ None → fl.end ≡ None → (k : ℕ) → 2 * x ≤ k → quad_at content 0 u l k ≡ blank 1
+      two : (u l : List Span) (fu fl : Stretch) → IsFound u (4 * column) i fu → IsFound l (4 * column) i fl → fu.end ≡ None → fl.end ≡ None → (k : ℕ)
+          → 2 * x ≤ k → quad_at content 0 u l k ≡ blank 1
       two u l fu fl hu hl eu el k more =
           let nw = none-blank u fu hu eu (2 * k) (omega (arith, le, more)) in
           let ne = none-blank u fu hu eu (2 * k + 1) (omega (arith, le, more)) in
@@ -291,7 +310,8 @@ words-square {knows} {knows'} {old} {now} keeps a b c d ka kb kc kd ma mb mc md 
     let ne = east-square knows' now a b ma mb start square upper ha hb lt column e in
     let sw = west-square knows' now c d mc md start square lower hc hd lt column e in
     let se = east-square knows' now c d mc md start square lower hc hd lt column e in
-    four-digits (west_at upper square) (east_at upper square) (west_at lower square) (east_at lower square) (west-small square upper) (east-small square upper) (west-small square lower) (east-small square lower)
+    four-digits (west_at upper square) (east_at upper square) (west_at lower square) (east_at lower square) (west-small square upper) (east-small square upper)
+    (west-small square lower) (east-small square lower)
     ∙ (λ i. quad (nw i) (ne i) (sw i) (se i))
     ∙ four-keeps {knows = knows} {knows' = knows'} {old = old} {now = now} keeps a b c d ka kb kc kd column
 

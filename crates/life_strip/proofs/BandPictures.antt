@@ -37,7 +37,8 @@ height-rows (x ∷ xs) h =
 -- strips of falling levels are of level 2 or more where four divides their height
 pub lowest-by-height : (xs : List Strip) (k : ℕ) → AreFalling xs → height xs ≡ k * 4 → IsLowest 2 xs
 lowest-by-height [] k fall e = λ j d lt. absurd (omega (arith, lt))
-lowest-by-height (x ∷ xs) k fall e = by (λ n. lowest-by-height xs n (λ i j d ij jl. fall (suc i) (suc j) d (omega (arith, ij)) (omega (arith, jl)))) (nat_lt x.level 2) refl
+lowest-by-height (x ∷ xs) k fall e = by (λ n. lowest-by-height xs n (λ i j d ij jl. fall (suc i) (suc j) d (omega (arith, ij)) (omega (arith, jl))))
+    (nat_lt x.level 2) refl
   where
     by : ((n : ℕ) → height xs ≡ n * 4 → IsLowest 2 xs) → (b : Bool) → nat_lt x.level 2 ≡ b → IsLowest 2 (x ∷ xs)
     by more true low =
@@ -65,7 +66,8 @@ pub picture-beyond : (content : Id → Tree) (xs : List Strip) (i j : ℕ) → h
 picture-beyond content [] i j le = refl
 picture-beyond content (x ∷ xs) i j le =
     let out : nat_lt j (2 ^ x.level) ≡ false = grind (arith, le) in
-    ap (λ b. if b then state_in content x i j else picture content xs i (j - 2 ^ x.level)) out ∙ picture-beyond content xs i (j - 2 ^ x.level) (omega (arith, le))
+    ap (λ b. if b then state_in content x i j else picture content xs i (j - 2 ^ x.level)) out
+    ∙ picture-beyond content xs i (j - 2 ^ x.level) (omega (arith, le))
 
 -- other strips with the same cells, below strips that are kept
 pub picture-over : {knows knows' : Id → Type 0} {old new : Id → Tree} → Keeps knows knows' old new → (xs ys zs : List Strip) → All (IsSound knows old) xs
@@ -73,11 +75,13 @@ pub picture-over : {knows knows' : Id → Type 0} {old new : Id → Tree} → Ke
 picture-over keeps [] ys zs h e i j = e i j
 picture-over {knows} {knows'} {old} {new} keeps (x ∷ xs) ys zs h e i j =
     let here = state_in-keeps {knows = knows} {knows' = knows'} {old = old} {new = new} keeps x (h 0 x (omega arith)) i j in
-    let more = picture-over {knows = knows} {knows' = knows'} {old = old} {new = new} keeps xs ys zs (all_rest (IsSound knows old) x xs h) e i (j - 2 ^ x.level) in
+    let more = picture-over {knows = knows} {knows' = knows'} {old = old} {new = new} keeps xs ys zs (all_rest (IsSound knows old) x xs h) e i
+    (j - 2 ^ x.level) in
     λ y. if nat_lt j (2 ^ x.level) then here y else more y
 
 -- a square of a band is one below strips of level 2 or more
-pub SomeSquare-below : {P : Tree → Type 0} (content : Id → Tree) (xs ys : List Strip) → IsLowest 2 xs → SomeSquare P 4 (picture content ys) → SomeSquare P (height xs + 4) (picture content (xs ++ ys))
+pub SomeSquare-below : {P : Tree → Type 0} (content : Id → Tree) (xs ys : List Strip) → IsLowest 2 xs → SomeSquare P 4 (picture content ys)
+    → SomeSquare P (height xs + 4) (picture content (xs ++ ys))
 SomeSquare-below {P} content xs ys low s =
     record {
       square = s.square;
@@ -86,7 +90,8 @@ SomeSquare-below {P} content xs ys low s =
       column = s.column;
       row = above + s.row;
       east = s.east;
-      south = let e = add-mul above (s.row + 1) side in let f : above + s.row + 1 ≡ above + (s.row + 1) = omega arith in let g = ap (λ n. n * side) f in let h = s.south in omega (arith, rows, e, g, h);
+      south = let e = add-mul above (s.row + 1) side in let f : above + s.row + 1 ≡ above + (s.row + 1) = omega arith in let g = ap (λ n. n * side) f in
+          let h = s.south in omega (arith, rows, e, g, h);
       cells = λ i j li lj. s.cells i j li lj ∙ sym (picture-below content xs ys (s.column * side + i) (s.row * side + j))
           ∙ ap (picture content (xs ++ ys) (s.column * side + i)) (let e = add-mul above s.row side in omega (arith, rows, e));
       property = s.property;
@@ -117,7 +122,8 @@ SomeSquare-below {P} content xs ys low s =
     rows : height xs ≡ above * side
     rows =
         let sum : 2 ≡ 2 - depth s.square + depth s.square = (let l = level in omega (arith, l)) in
-        divided.1 ∙ ap (λ n. divided.0 * 2 ^ n) sum ∙ ap (λ n. divided.0 * n) (pow-add 2 (2 - depth s.square) (depth s.square)) ∙ sym (mul_assoc divided.0 (2 ^ (2 - depth s.square)) (2 ^ depth s.square))
+        divided.1 ∙ ap (λ n. divided.0 * 2 ^ n) sum ∙ ap (λ n. divided.0 * n) (pow-add 2 (2 - depth s.square) (depth s.square))
+        ∙ sym (mul_assoc divided.0 (2 ^ (2 - depth s.square)) (2 ^ depth s.square))
 
 -- a strip as one of cells
 abbrev pub of_cells : Strip → Strip
@@ -127,7 +133,8 @@ pub is_of_cells : (s : Strip) → s.level ≡ 0 → s ≡ of_cells s
 is_of_cells s e = λ i. record s { level = e i }
 
 -- a square of level 1 with a part that has a property has it
-part-two : (P : Tree → Type 0) (nw ne sw se : Tree) → depth nw ≡ 0 → depth ne ≡ 0 → depth sw ≡ 0 → depth se ≡ 0 → SomePart P (quad nw ne sw se) → P (quad nw ne sw se)
+part-two : (P : Tree → Type 0) (nw ne sw se : Tree) → depth nw ≡ 0 → depth ne ≡ 0 → depth sw ≡ 0 → depth se ≡ 0 → SomePart P (quad nw ne sw se)
+    → P (quad nw ne sw se)
 part-two P nw ne sw se a b c d (inl p) = p
 part-two P nw ne sw se a b c d (inr q) = absurd (by q)
   where
@@ -143,7 +150,8 @@ part-two P nw ne sw se a b c d (inr q) = absurd (by q)
 
 -- four rows of cells
 module _ (knows : Id → Type 0) (content : Id → Tree) (ra rb rc rd : Strip)
-    (ka : IsStrip knows content 0 ra.spans.items) (kb : IsStrip knows content 0 rb.spans.items) (kc : IsStrip knows content 0 rc.spans.items) (kd : IsStrip knows content 0 rd.spans.items) where
+    (ka : IsStrip knows content 0 ra.spans.items) (kb : IsStrip knows content 0 rb.spans.items) (kc : IsStrip knows content 0 rc.spans.items)
+    (kd : IsStrip knows content 0 rd.spans.items) where
   abbrev upper : ℕ → Tree
   upper = quad_at content 0 ra.spans.items rb.spans.items
 
@@ -310,9 +318,11 @@ picture-append content (x ∷ xs) ys i j = by (picture-append content xs ys i (j
     m : ℕ
     m = 2 ^ x.level
 
-    by : picture content (xs ++ ys) i (j - 2 ^ x.level) ≡ (if nat_lt (j - 2 ^ x.level) (height xs) then picture content xs i (j - 2 ^ x.level) else picture content ys i (j - 2 ^ x.level - height xs))
+    by : picture content (xs ++ ys) i (j - 2 ^ x.level)
+        ≡ (if nat_lt (j - 2 ^ x.level) (height xs) then picture content xs i (j - 2 ^ x.level) else picture content ys i (j - 2 ^ x.level - height xs))
         → (b : Bool) → nat_lt j (2 ^ x.level) ≡ b
-        → picture content (x ∷ xs ++ ys) i j ≡ (if nat_lt j (2 ^ x.level + height xs) then picture content (x ∷ xs) i j else picture content ys i (j - (2 ^ x.level + height xs)))
+        → picture content (x ∷ xs ++ ys) i j
+        ≡ (if nat_lt j (2 ^ x.level + height xs) then picture content (x ∷ xs) i j else picture content ys i (j - (2 ^ x.level + height xs)))
     by more true e =
         let in_all : nat_lt j (2 ^ x.level + height xs) ≡ true = grind (arith, e) in
         ap (λ b. if b then state_in content x i j else picture content (xs ++ ys) i (j - 2 ^ x.level)) e
@@ -326,7 +336,8 @@ picture-append content (x ∷ xs) ys i j = by (picture-append content xs ys i (j
         ∙ sym ((λ k. if in_all k then (if e k then state_in content x i j else picture content xs i (j - 2 ^ x.level)) else picture content ys i (sym rest k)))
 
 -- strips that are kept, below others with the same cells
-pub picture-under : {knows knows' : Id → Type 0} {old new : Id → Tree} → Keeps knows knows' old new → (xs zs ys : List Strip) → All (IsSound knows old) ys → height xs ≡ height zs
+pub picture-under : {knows knows' : Id → Type 0} {old new : Id → Tree} → Keeps knows knows' old new → (xs zs ys : List Strip) → All (IsSound knows old) ys
+    → height xs ≡ height zs
     → ((i j : ℕ) → picture new xs i j ≡ picture old zs i j) → (i j : ℕ) → picture new (xs ++ ys) i j ≡ picture old (zs ++ ys) i j
 picture-under {knows} {knows'} {old} {new} keeps xs zs ys h same e i j =
     let below = picture-keeps {knows = knows} {knows' = knows'} {old = old} {new = new} keeps ys h i (j - height zs) in
@@ -345,7 +356,8 @@ picture-above content xs ys i j lt =
     picture-append content xs ys i j ∙ ap (λ b. if b then picture content xs i j else picture content ys i (j - height xs)) within
 
 -- a square of strips is one of the strips and those below them
-pub SomeSquare-above : {P : Tree → Type 0} (content : Id → Tree) (xs ys : List Strip) (rows : ℕ) → height xs ≤ rows → SomeSquare P (height xs) (picture content xs) → SomeSquare P rows (picture content (xs ++ ys))
+pub SomeSquare-above : {P : Tree → Type 0} (content : Id → Tree) (xs ys : List Strip) (rows : ℕ) → height xs ≤ rows
+    → SomeSquare P (height xs) (picture content xs) → SomeSquare P rows (picture content (xs ++ ys))
 SomeSquare-above content xs ys rows le s = SomeSquare-within le (λ i j li lj. sym (picture-above content xs ys i j lj)) s
 
 -- strips of falling levels below which four, eight or more rows were put are of level 2 or more
@@ -368,7 +380,8 @@ band-over xs (y ∷ ys) low rows few full =
     absurd (let g = d.1 in omega (arith, g, e, f, few, full))
 
 -- a list of four by its items
-pub four-are : (xs : List Strip) (a b c d : Strip) → length xs ≡ 4 → a ≡ get_or xs 0 a → b ≡ get_or xs 1 b → c ≡ get_or xs 2 c → d ≡ get_or xs 3 d → xs ≡ a ∷ b ∷ c ∷ d ∷ []
+pub four-are : (xs : List Strip) (a b c d : Strip) → length xs ≡ 4 → a ≡ get_or xs 0 a → b ≡ get_or xs 1 b → c ≡ get_or xs 2 c → d ≡ get_or xs 3 d
+    → xs ≡ a ∷ b ∷ c ∷ d ∷ []
 four-are xs a b c d e ea eb ec ed =
     let f = four_of xs e in
     let at = λ (k : ℕ) (x : Strip). ap (λ z. get_or z k x) f.4 in
@@ -386,7 +399,8 @@ pub record AreRows (knows : Id → Type 0) (content : Id → Tree) (xs : List St
   pub third : IsSound knows content (of_cells c)
   pub fourth : IsSound knows content (of_cells d)
 
-pub are-rows : (knows : Id → Type 0) (content : Id → Tree) (xs : List Strip) (a b c d : Strip) → length xs ≡ 4 → a ≡ get_or xs 0 a → b ≡ get_or xs 1 b → c ≡ get_or xs 2 c → d ≡ get_or xs 3 d
+pub are-rows : (knows : Id → Type 0) (content : Id → Tree) (xs : List Strip) (a b c d : Strip) → length xs ≡ 4 → a ≡ get_or xs 0 a → b ≡ get_or xs 1 b
+    → c ≡ get_or xs 2 c → d ≡ get_or xs 3 d
     → All (IsSound knows content) xs → All (λ s. s.level ≡ 0) xs → AreRows knows content xs a b c d
 are-rows knows content xs a b c d e ea eb ec ed sound rows =
     let four = four-are xs a b c d e ea eb ec ed in
@@ -457,7 +471,8 @@ none_of [] e = refl
 none_of (x ∷ xs) e = absurd (omega (arith, e))
 
 -- strips of whole bands alone
-pub pile-alone : (knows : Id → Type 0) (content : Id → Tree) (xs ys : List Strip) → ys ≡ [] → All (IsSound knows content) xs → AreFalling xs → IsLowest 2 xs → IsPile knows content xs ys
+pub pile-alone : (knows : Id → Type 0) (content : Id → Tree) (xs ys : List Strip) → ys ≡ [] → All (IsSound knows content) xs → AreFalling xs → IsLowest 2 xs
+    → IsPile knows content xs ys
 pile-alone knows content xs ys e sound falling lowest =
     let none : length ys ≡ 0 = ap length e in
     record {
@@ -470,7 +485,8 @@ pile-alone knows content xs ys e sound falling lowest =
     }
 
 -- one row more of a band
-pub pile-push : (knows : Id → Type 0) (content : Id → Tree) (xs ys : List Strip) (row : Strip) → IsPile knows content xs ys → IsSound knows content row → row.level ≡ 0 → length ys ≤ 2 → IsPile knows content xs (ys ++ row ∷ [])
+pub pile-push : (knows : Id → Type 0) (content : Id → Tree) (xs ys : List Strip) (row : Strip) → IsPile knows content xs ys → IsSound knows content row
+    → row.level ≡ 0 → length ys ≤ 2 → IsPile knows content xs (ys ++ row ∷ [])
 pile-push knows content xs ys row pile sound level few =
     let n = length-append ys (row ∷ []) in
     record {

@@ -20,7 +20,8 @@ use Rattle.life_strip.proofs.PlaneLemmas.{plane_inside, filled-keeps, cells-keep
 use Rattle.life_strip.proofs.GivenLemmas.{order-push, next-last, state_by-push}
 
 -- one run more
-pub filling-push : (knows : Id → Type 0) (content : Id → Tree) (new : Plane) (before : ℤ → ℤ → ℕ) (runs : List GivenRun) (run : GivenRun) → AreInOrder runs → IsNext runs run.x run.y
+pub filling-push : (knows : Id → Type 0) (content : Id → Tree) (new : Plane) (before : ℤ → ℤ → ℕ) (runs : List GivenRun) (run : GivenRun) → AreInOrder runs
+    → IsNext runs run.x run.y
     → ((x y : ℤ) → before x y ≡ state_by runs x y) → IsFilled knows content new → AddsRun before (cell_so_far content new) run.x run.y run.len run.state
     → ((x y : ℤ) → run.y <ℤ y → IsFree new x y) → ((x : ℤ) → (run.x +ℤ pos run.len) ≤ℤ x → IsFree new x run.y)
     → IsFilling knows content (record { runs = runs ++ run ∷ []; kept = new })
@@ -38,7 +39,8 @@ filling-push knows content new before runs run order next cells filled adds belo
 
 -- the square that a refused call had to store is one of the runs'
 pub needed-runs : {P : Tree → Type 0} (content : Id → Tree) (b : Building) (rows : ℕ) → rows ≤ 2 ^ MAX_LEVEL
-    → ((x y : ℤ) → cell_so_far content b.kept x y ≡ state_by b.runs x y) → SomeSquare P rows (state_so_far content b.kept) → SomeSquare P rows (by_columns (state_by b.runs))
+    → ((x y : ℤ) → cell_so_far content b.kept x y ≡ state_by b.runs x y) → SomeSquare P rows (state_so_far content b.kept)
+    → SomeSquare P rows (by_columns (state_by b.runs))
 needed-runs content b rows most cells s = SomeSquare-within (omega arith) (λ i j li lj. at i j li (omega (arith, lj, most))) s
   where
     at : (i j : ℕ) → i < 2 ^ MAX_LEVEL → j < 2 ^ MAX_LEVEL → state_so_far content b.kept i j ≡ by_columns (state_by b.runs) i j
@@ -77,7 +79,8 @@ unfilled-filled knows content p h =
 unfilled-cells : (content : Id → Tree) (p : Plane) (x y : ℤ) → IsUnfilled p → cell_so_far content p x y ≡ 0
 unfilled-cells content p x y h =
     (λ k. on_plane (picture content ((h.strips k ++ h.band k) ++ p.row ∷ [])) x y)
-    ∙ (λ k. if is_inside half_plane x y then picture-blank content [] p.row h.row (unsigned_abs (x +ℤ pos half_plane)) (unsigned_abs (y +ℤ pos half_plane)) k else 0) ∙ by (is_inside half_plane x y) 0
+    ∙ (λ k. if is_inside half_plane x y then picture-blank content [] p.row h.row (unsigned_abs (x +ℤ pos half_plane)) (unsigned_abs (y +ℤ pos half_plane)) k
+    else 0) ∙ by (is_inside half_plane x y) 0
   where
     by : (b : Bool) (n : ℕ) → (if b then n else n) ≡ n
     by true n = refl
@@ -103,7 +106,8 @@ pub filling-stays : (X : Type 0) (knows : X → Id → Type 0) (content : X → 
 filling-stays X knows content before after b keeps h =
     record {
       filled = filled-keeps {knows = knows before} {knows' = knows after} {old = content before} {new = content after} keeps b.kept h.filled;
-      cells = λ x y. cells-keep {knows = knows before} {knows' = knows after} {old = content before} {new = content after} keeps b.kept h.filled x y ∙ h.cells x y;
+      cells = λ x y. cells-keep {knows = knows before} {knows' = knows after} {old = content before} {new = content after} keeps b.kept h.filled x y
+          ∙ h.cells x y;
       order = h.order;
       next = h.next;
     }

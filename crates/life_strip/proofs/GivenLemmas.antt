@@ -44,7 +44,8 @@ behind-later a b x y (inr (e, h)) (inl k) = inl (omega (arith, ints, e, k))
 behind-later a b x y (inr (e, h)) (inr (f, k)) = inr (e ∙ f, omega (arith, ints, h, k))
 
 -- behind the last run is behind all
-pub behind-all : (runs : List GivenRun) (x y : ℤ) → AreInOrder runs → IsNext runs x y → (k : ℕ) (d : GivenRun) → k < length runs → IsBehind (get_or runs k d) x y
+pub behind-all : (runs : List GivenRun) (x y : ℤ) → AreInOrder runs → IsNext runs x y → (k : ℕ) (d : GivenRun) → k < length runs
+    → IsBehind (get_or runs k d) x y
 behind-all runs x y order next k d lt = by (nat_lt k (length runs - 1)) refl
   where
     last : GivenRun
@@ -74,24 +75,28 @@ pub next-push : (runs : List GivenRun) (run : GivenRun) (x y : ℤ) → IsBehind
 next-push runs run x y h last e =
     let all = runs ++ run ∷ [] in
     let same : run ≡ last =
-    sym (get_or-append_seam runs run [] run) ∙ ap (λ k. get_or all k run) (sym (before_last runs run)) ∙ get_or_from_slice_get all (length all - 1) last run e in
+    sym (get_or-append_seam runs run [] run) ∙ ap (λ k. get_or all k run) (sym (before_last runs run))
+    ∙ get_or_from_slice_get all (length all - 1) last run e in
     subst (λ r. IsBehind r x y) same h
 
 pub next-last : (runs : List GivenRun) (run : GivenRun) (x y : ℤ) → IsNext (runs ++ run ∷ []) x y → IsBehind run x y
 next-last runs run x y h =
     let all = runs ++ run ∷ [] in
     let n = length-append runs (run ∷ []) in
-    h run (slice_get-get_or all (length all - 1) run (omega (arith, n)) ∙ ap (λ k. Some (get_or all k run)) (before_last runs run) ∙ ap Some (get_or-append_seam runs run [] run))
+    h run (slice_get-get_or all (length all - 1) run (omega (arith, n)) ∙ ap (λ k. Some (get_or all k run)) (before_last runs run)
+    ∙ ap Some (get_or-append_seam runs run [] run))
 
 -- the states with one run more
 state_by-outside : (runs : List GivenRun) (run : GivenRun) (x y : ℤ) → covers run x y ≡ false → state_by (runs ++ run ∷ []) x y ≡ state_by runs x y
 state_by-outside [] run x y e = ap (λ b. if b then run.state else 0) e
 state_by-outside (a ∷ runs) run x y e = ap (λ n. if covers a x y then a.state else n) (state_by-outside runs run x y e)
 
-state_by-inside : (runs : List GivenRun) (run : GivenRun) (x y : ℤ) → All (λ a. covers a x y ≡ false) runs → covers run x y ≡ true → state_by (runs ++ run ∷ []) x y ≡ run.state
+state_by-inside : (runs : List GivenRun) (run : GivenRun) (x y : ℤ) → All (λ a. covers a x y ≡ false) runs → covers run x y ≡ true
+    → state_by (runs ++ run ∷ []) x y ≡ run.state
 state_by-inside [] run x y h e = ap (λ b. if b then run.state else 0) e
 state_by-inside (a ∷ runs) run x y h e =
-    ap (λ b. if b then a.state else state_by (runs ++ run ∷ []) x y) (h 0 a (omega arith)) ∙ state_by-inside runs run x y (all_rest (λ r. covers r x y ≡ false) a runs h) e
+    ap (λ b. if b then a.state else state_by (runs ++ run ∷ []) x y) (h 0 a (omega arith))
+    ∙ state_by-inside runs run x y (all_rest (λ r. covers r x y ≡ false) a runs h) e
 
 -- a pair that another run has is not in this one
 not_covered : (a b : GivenRun) (x y : ℤ) → IsBehind a b.x b.y → IsInRun b.x b.y b.len x y → covers a x y ≡ false
@@ -102,7 +107,8 @@ not_covered a b x y behind h = by (covers a x y) refl
     by false e = e
 
 -- what is filled with one run more has the states of the runs and that one
-pub state_by-push : (runs : List GivenRun) (run : GivenRun) (x y : ℤ) (before after : ℕ) → AreInOrder runs → IsNext runs run.x run.y → before ≡ state_by runs x y
+pub state_by-push : (runs : List GivenRun) (run : GivenRun) (x y : ℤ) (before after : ℕ) → AreInOrder runs → IsNext runs run.x run.y
+    → before ≡ state_by runs x y
     → (IsInRun run.x run.y run.len x y → after ≡ run.state) → (¬ IsInRun run.x run.y run.len x y → after ≡ before) → after ≡ state_by (runs ++ run ∷ []) x y
 state_by-push runs run x y before after order next e inside outside = by (covers run x y) refl
   where
@@ -115,7 +121,8 @@ state_by-push runs run x y before after order next e inside outside = by (covers
         outside out ∙ e ∙ sym (state_by-outside runs run x y f)
 
 -- the state of a pair that a run has
-state_by-run : (runs : List GivenRun) (i : ℕ) (a : GivenRun) (x y : ℤ) → AreInOrder runs → slice_get runs i ≡ Some a → IsInRun a.x a.y a.len x y → state_by runs x y ≡ a.state
+state_by-run : (runs : List GivenRun) (i : ℕ) (a : GivenRun) (x y : ℤ) → AreInOrder runs → slice_get runs i ≡ Some a → IsInRun a.x a.y a.len x y
+    → state_by runs x y ≡ a.state
 state_by-run [] i a x y order e h = absurd cc
 state_by-run (r ∷ runs) zero a x y order e h =
     let same : r ≡ a = cc in
@@ -131,7 +138,8 @@ state_by-run (r ∷ runs) (suc i) a x y order e h =
 pub runs-apart : RunsAreApart
 runs-apart runs i j a b x y order ea eb ha hb = (by (nat_lt i j) refl (nat_lt j i) refl, state_by-run runs i a x y order ea ha)
   where
-    apart : (k l : ℕ) (c d : GivenRun) → k < l → slice_get runs k ≡ Some c → slice_get runs l ≡ Some d → IsInRun c.x c.y c.len x y → IsInRun d.x d.y d.len x y → ⊥
+    apart : (k l : ℕ) (c d : GivenRun) → k < l → slice_get runs k ≡ Some c → slice_get runs l ≡ Some d → IsInRun c.x c.y c.len x y → IsInRun d.x d.y d.len x y
+        → ⊥
     apart k l c d kl ec ed hc hd =
         let lt = slice_get_within runs l d ed in
         let first = get_or_from_slice_get runs k c c ec in

@@ -45,7 +45,8 @@ SomeSquare-within le e s =
     }
 
 -- of another picture with the same states everywhere
-pub SomeSquare-same : {P : Tree → Type 0} {f g : ℕ → ℕ → ℕ} {rows more : ℕ} → rows ≤ more → ((i j : ℕ) → f i j ≡ g i j) → SomeSquare P rows f → SomeSquare P more g
+pub SomeSquare-same : {P : Tree → Type 0} {f g : ℕ → ℕ → ℕ} {rows more : ℕ} → rows ≤ more → ((i j : ℕ) → f i j ≡ g i j) → SomeSquare P rows f
+    → SomeSquare P more g
 SomeSquare-same le e s = SomeSquare-within le (λ i j li lj. e i j) s
 
 -- each square of a strip is full, and so are four of two strips
@@ -57,7 +58,8 @@ module _ (knows : Id → Type 0) (content : Id → Tree) (full : (id : Id) → k
       by None e = subst (λ o. IsFull (square_or_blank content level o)) (sym e) (full-blank level)
       by (Some id) e = subst (λ o. IsFull (square_or_blank content level o)) (sym e) (full id (s c id e).0)
 
-  pub full-quad_at : (upper lower : List Span) → IsStrip knows content level upper → IsStrip knows content level lower → (c : ℕ) → IsFull (quad_at content level upper lower c)
+  pub full-quad_at : (upper lower : List Span) → IsStrip knows content level upper → IsStrip knows content level lower → (c : ℕ)
+      → IsFull (quad_at content level upper lower c)
   full-quad_at upper lower u l c =
       let du = depth-square_at knows content level upper u in
       let dl = depth-square_at knows content level lower l in
@@ -133,101 +135,102 @@ SomeSquare-at {rows = rows} {f = f} level column row t full same deep low east s
       property = p;
     }
 
-module _ (knows : Id → Type 0) (content : Id → Tree) (a b : Strip) (sound : IsStrip knows content a.level a.spans.items) (same : b.level ≡ a.level) (c : ℕ) where
-  abbrev m : ℕ
-  m = 2 ^ a.level
+module _ (knows : Id → Type 0) (content : Id → Tree) (a b : Strip) (sound : IsStrip knows content a.level a.spans.items) (same : b.level ≡ a.level) (c : ℕ)
+  where
+    abbrev m : ℕ
+    m = 2 ^ a.level
 
-  abbrev u : ℕ → Tree
-  u = square_at content a.level a.spans.items
+    abbrev u : ℕ → Tree
+    u = square_at content a.level a.spans.items
 
-  abbrev l : ℕ → Tree
-  l = square_at content a.level b.spans.items
+    abbrev l : ℕ → Tree
+    l = square_at content a.level b.spans.items
 
-  deep : 2 ^ depth (u (2 * c)) ≡ m
-  deep = ap (λ z. 2 ^ z) (depth-square_at knows content a.level a.spans.items sound (2 * c))
+    deep : 2 ^ depth (u (2 * c)) ≡ m
+    deep = ap (λ z. 2 ^ z) (depth-square_at knows content a.level a.spans.items sound (2 * c))
 
-  -- the cells of four squares of two strips
-  pub quad-cells : (i j : ℕ) → i < 2 * m → j < 2 * m
-      → state_at (quad_at content a.level a.spans.items b.spans.items c) i j ≡ picture content (a ∷ b ∷ []) (c * (2 * m) + i) j
-  quad-cells i j li lj = by (nat_lt j m) refl (nat_lt i m) refl
-    where
-      col : ℕ
-      col = c * (2 * m) + i
+    -- the cells of four squares of two strips
+    pub quad-cells : (i j : ℕ) → i < 2 * m → j < 2 * m
+        → state_at (quad_at content a.level a.spans.items b.spans.items c) i j ≡ picture content (a ∷ b ∷ []) (c * (2 * m) + i) j
+    quad-cells i j li lj = by (nat_lt j m) refl (nat_lt i m) refl
+      where
+        col : ℕ
+        col = c * (2 * m) + i
 
-      upper_row : nat_lt j m ≡ true → picture content (a ∷ b ∷ []) col j ≡ state_at (u (col / m)) (col % m) j
-      upper_row e = ap (λ t. if t then state_in content a col j else (if nat_lt (j - m) (2 ^ b.level) then state_in content b col (j - m) else 0)) e
+        upper_row : nat_lt j m ≡ true → picture content (a ∷ b ∷ []) col j ≡ state_at (u (col / m)) (col % m) j
+        upper_row e = ap (λ t. if t then state_in content a col j else (if nat_lt (j - m) (2 ^ b.level) then state_in content b col (j - m) else 0)) e
 
-      lower_row : nat_lt j m ≡ false → picture content (a ∷ b ∷ []) col j ≡ state_at (l (col / m)) (col % m) (j - m)
-      lower_row e =
-          let v : 2 ^ b.level ≡ m = ap (λ n. 2 ^ n) same in
-          let beyond : m ≤ j = grind (arith, e) in
-          let small : j - m < 2 ^ b.level = omega (arith, lj, beyond, v) in
-          let t : nat_lt (j - m) (2 ^ b.level) ≡ true = grind (arith, small) in
-          ap (λ t. if t then state_in content a col j else (if nat_lt (j - m) (2 ^ b.level) then state_in content b col (j - m) else 0)) e
-          ∙ ap (λ t. if t then state_in content b col (j - m) else 0) t
-          ∙ (λ x. state_at (square_at content (same x) b.spans.items (col / 2 ^ same x)) (col % 2 ^ same x) (j - m))
+        lower_row : nat_lt j m ≡ false → picture content (a ∷ b ∷ []) col j ≡ state_at (l (col / m)) (col % m) (j - m)
+        lower_row e =
+            let v : 2 ^ b.level ≡ m = ap (λ n. 2 ^ n) same in
+            let beyond : m ≤ j = grind (arith, e) in
+            let small : j - m < 2 ^ b.level = omega (arith, lj, beyond, v) in
+            let t : nat_lt (j - m) (2 ^ b.level) ≡ true = grind (arith, small) in
+            ap (λ t. if t then state_in content a col j else (if nat_lt (j - m) (2 ^ b.level) then state_in content b col (j - m) else 0)) e
+            ∙ ap (λ t. if t then state_in content b col (j - m) else 0) t
+            ∙ (λ x. state_at (square_at content (same x) b.spans.items (col / 2 ^ same x)) (col % 2 ^ same x) (j - m))
 
-      by : (p : Bool) → nat_lt j m ≡ p → (q : Bool) → nat_lt i m ≡ q
-          → state_at (quad_at content a.level a.spans.items b.spans.items c) i j ≡ picture content (a ∷ b ∷ []) col j
-      by true e true f =
-          let w = column_west c i m (grind (arith, f)) in
-          at_nw (u (2 * c)) (u (2 * c + 1)) (l (2 * c)) (l (2 * c + 1)) i j (ap (nat_lt j) deep ∙ e) (ap (nat_lt i) deep ∙ f)
-          ∙ sym (upper_row e ∙ (λ x. state_at (u (w.0 x)) (w.1 x) j))
-      by true e false f =
-          let w = column_east c i m (grind (arith, f)) li in
-          at_ne (u (2 * c)) (u (2 * c + 1)) (l (2 * c)) (l (2 * c + 1)) i j (ap (nat_lt j) deep ∙ e) (ap (nat_lt i) deep ∙ f)
-          ∙ ap (λ n. state_at (u (2 * c + 1)) (i - n) j) deep ∙ sym (upper_row e ∙ (λ x. state_at (u (w.0 x)) (w.1 x) j))
-      by false e true f =
-          let w = column_west c i m (grind (arith, f)) in
-          at_sw (u (2 * c)) (u (2 * c + 1)) (l (2 * c)) (l (2 * c + 1)) i j (ap (nat_lt j) deep ∙ e) (ap (nat_lt i) deep ∙ f)
-          ∙ ap (λ n. state_at (l (2 * c)) i (j - n)) deep ∙ sym (lower_row e ∙ (λ x. state_at (l (w.0 x)) (w.1 x) (j - m)))
-      by false e false f =
-          let w = column_east c i m (grind (arith, f)) li in
-          at_se (u (2 * c)) (u (2 * c + 1)) (l (2 * c)) (l (2 * c + 1)) i j (ap (nat_lt j) deep ∙ e) (ap (nat_lt i) deep ∙ f)
-          ∙ ap (λ n. state_at (l (2 * c + 1)) (i - n) (j - n)) deep ∙ sym (lower_row e ∙ (λ x. state_at (l (w.0 x)) (w.1 x) (j - m)))
+        by : (p : Bool) → nat_lt j m ≡ p → (q : Bool) → nat_lt i m ≡ q
+            → state_at (quad_at content a.level a.spans.items b.spans.items c) i j ≡ picture content (a ∷ b ∷ []) col j
+        by true e true f =
+            let w = column_west c i m (grind (arith, f)) in
+            at_nw (u (2 * c)) (u (2 * c + 1)) (l (2 * c)) (l (2 * c + 1)) i j (ap (nat_lt j) deep ∙ e) (ap (nat_lt i) deep ∙ f)
+            ∙ sym (upper_row e ∙ (λ x. state_at (u (w.0 x)) (w.1 x) j))
+        by true e false f =
+            let w = column_east c i m (grind (arith, f)) li in
+            at_ne (u (2 * c)) (u (2 * c + 1)) (l (2 * c)) (l (2 * c + 1)) i j (ap (nat_lt j) deep ∙ e) (ap (nat_lt i) deep ∙ f)
+            ∙ ap (λ n. state_at (u (2 * c + 1)) (i - n) j) deep ∙ sym (upper_row e ∙ (λ x. state_at (u (w.0 x)) (w.1 x) j))
+        by false e true f =
+            let w = column_west c i m (grind (arith, f)) in
+            at_sw (u (2 * c)) (u (2 * c + 1)) (l (2 * c)) (l (2 * c + 1)) i j (ap (nat_lt j) deep ∙ e) (ap (nat_lt i) deep ∙ f)
+            ∙ ap (λ n. state_at (l (2 * c)) i (j - n)) deep ∙ sym (lower_row e ∙ (λ x. state_at (l (w.0 x)) (w.1 x) (j - m)))
+        by false e false f =
+            let w = column_east c i m (grind (arith, f)) li in
+            at_se (u (2 * c)) (u (2 * c + 1)) (l (2 * c)) (l (2 * c + 1)) i j (ap (nat_lt j) deep ∙ e) (ap (nat_lt i) deep ∙ f)
+            ∙ ap (λ n. state_at (l (2 * c + 1)) (i - n) (j - n)) deep ∙ sym (lower_row e ∙ (λ x. state_at (l (w.0 x)) (w.1 x) (j - m)))
 
-  -- they are a square of the picture, below strips of higher levels
-  pub SomeSquare-pair : (P : Tree → Type 0) (xs : List Strip) → ((id : Id) → knows id → IsFull (content id)) → IsStrip knows content a.level b.spans.items
-      → AreFalling (xs ++ a ∷ []) → a.level < MAX_LEVEL → c < 2 ^ (MAX_LEVEL - (a.level + 1)) → P (quad_at content a.level a.spans.items b.spans.items c)
-      → SomeSquare P (height (xs ++ a ∷ []) + 2 ^ b.level) (picture content ((xs ++ a ∷ []) ++ b ∷ []))
-  SomeSquare-pair P xs full lower falling low within p =
-      record {
-        square = square;
-        full = full-quad_at knows content full a.level a.spans.items b.spans.items sound lower c;
-        deep = omega (arith, level);
-        column = c;
-        row = rows.0;
-        east = subst (λ n. (c + 1) * 2 ^ n ≤ 2 ^ MAX_LEVEL) (sym level) (in_plane (suc a.level) c low (subst (λ n. c < 2 ^ (MAX_LEVEL - n)) deeper within));
-        south = let h = height-push xs a in omega (arith, next, above, side, h, below);
-        cells = λ i j li lj. quad-cells i j (subst (λ n. i < n) side li) (subst (λ n. j < n) side lj)
-            ∙ sym (picture-below content xs (a ∷ b ∷ []) (c * (2 * m) + i) j)
-            ∙ (λ x. picture content (in_order x) (c * sym side x + i) (above x + j));
-        property = p;
-      }
-    where
-      square : Tree
-      square = quad_at content a.level a.spans.items b.spans.items c
+    -- they are a square of the picture, below strips of higher levels
+    pub SomeSquare-pair : (P : Tree → Type 0) (xs : List Strip) → ((id : Id) → knows id → IsFull (content id)) → IsStrip knows content a.level b.spans.items
+        → AreFalling (xs ++ a ∷ []) → a.level < MAX_LEVEL → c < 2 ^ (MAX_LEVEL - (a.level + 1)) → P (quad_at content a.level a.spans.items b.spans.items c)
+        → SomeSquare P (height (xs ++ a ∷ []) + 2 ^ b.level) (picture content ((xs ++ a ∷ []) ++ b ∷ []))
+    SomeSquare-pair P xs full lower falling low within p =
+        record {
+          square = square;
+          full = full-quad_at knows content full a.level a.spans.items b.spans.items sound lower c;
+          deep = omega (arith, level);
+          column = c;
+          row = rows.0;
+          east = subst (λ n. (c + 1) * 2 ^ n ≤ 2 ^ MAX_LEVEL) (sym level) (in_plane (suc a.level) c low (subst (λ n. c < 2 ^ (MAX_LEVEL - n)) deeper within));
+          south = let h = height-push xs a in omega (arith, next, above, side, h, below);
+          cells = λ i j li lj. quad-cells i j (subst (λ n. i < n) side li) (subst (λ n. j < n) side lj)
+              ∙ sym (picture-below content xs (a ∷ b ∷ []) (c * (2 * m) + i) j)
+              ∙ (λ x. picture content (in_order x) (c * sym side x + i) (above x + j));
+          property = p;
+        }
+      where
+        square : Tree
+        square = quad_at content a.level a.spans.items b.spans.items c
 
-      level : depth square ≡ suc a.level
-      level = ap suc (depth-square_at knows content a.level a.spans.items sound (2 * c))
+        level : depth square ≡ suc a.level
+        level = ap suc (depth-square_at knows content a.level a.spans.items sound (2 * c))
 
-      side : 2 ^ depth square ≡ 2 * m
-      side = ap (λ n. 2 ^ n) level ∙ double a.level
+        side : 2 ^ depth square ≡ 2 * m
+        side = ap (λ n. 2 ^ n) level ∙ double a.level
 
-      rows : (r : ℕ) × (height xs ≡ r * 2 ^ suc a.level)
-      rows = height-divided xs (suc a.level) (lowest-init xs a falling (suc a.level) refl)
+        rows : (r : ℕ) × (height xs ≡ r * 2 ^ suc a.level)
+        rows = height-divided xs (suc a.level) (lowest-init xs a falling (suc a.level) refl)
 
-      above : height xs ≡ rows.0 * 2 ^ depth square
-      above = rows.1 ∙ ap (λ n. rows.0 * 2 ^ n) (sym level)
+        above : height xs ≡ rows.0 * 2 ^ depth square
+        above = rows.1 ∙ ap (λ n. rows.0 * 2 ^ n) (sym level)
 
-      deeper : a.level + 1 ≡ suc a.level
-      deeper = omega arith
+        deeper : a.level + 1 ≡ suc a.level
+        deeper = omega arith
 
-      below : 2 ^ b.level ≡ m
-      below = ap (λ n. 2 ^ n) same
+        below : 2 ^ b.level ≡ m
+        below = ap (λ n. 2 ^ n) same
 
-      next : (rows.0 + 1) * 2 ^ depth square ≡ rows.0 * 2 ^ depth square + 2 ^ depth square
-      next = add-mul rows.0 1 (2 ^ depth square) ∙ (omega arith)
+        next : (rows.0 + 1) * 2 ^ depth square ≡ rows.0 * 2 ^ depth square + 2 ^ depth square
+        next = add-mul rows.0 1 (2 ^ depth square) ∙ (omega arith)
 
-      in_order : xs ++ a ∷ b ∷ [] ≡ (xs ++ a ∷ []) ++ b ∷ []
-      in_order = sym (append_assoc xs (a ∷ []) (b ∷ []))
+        in_order : xs ++ a ∷ b ∷ [] ≡ (xs ++ a ∷ []) ++ b ∷ []
+        in_order = sym (append_assoc xs (a ∷ []) (b ∷ []))

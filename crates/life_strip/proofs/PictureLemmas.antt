@@ -44,9 +44,12 @@ positive_power (suc k) = let h = positive_power k in let e : 2 ^ suc k ≡ 2 ^ k
 
 -- the rows of a square of four are those of the two above and then those of the two below
 quad-row : (a b c d : Tree) (i j m : ℕ) → m ≡ 2 ^ depth a
-    → state_at (quad a b c d) i j ≡ (if nat_lt j m then (if nat_lt i m then state_at a i j else state_at b (i - m) j) else (if nat_lt i m then state_at c i (j - m) else state_at d (i - m) (j - m)))
+    → state_at (quad a b c d) i j ≡
+    (if nat_lt j m then (if nat_lt i m then state_at a i j else state_at b (i - m) j) else
+    (if nat_lt i m then state_at c i (j - m) else state_at d (i - m) (j - m)))
 quad-row a b c d i j m e =
-    sym (ap (λ z. if nat_lt j z then (if nat_lt i z then state_at a i j else state_at b (i - z) j) else (if nat_lt i z then state_at c i (j - z) else state_at d (i - z) (j - z))) e)
+    sym (ap (λ z. if nat_lt j z then (if nat_lt i z then state_at a i j else state_at b (i - z) j) else
+    (if nat_lt i z then state_at c i (j - z) else state_at d (i - z) (j - z))) e)
 
 -- a strip of pairs has the rows of the two strips
 pub stack : (knows : Id → Type 0) (old new : Id → Tree) (upper lower both : Strip) → IsStrip knows old upper.level upper.spans.items
@@ -83,8 +86,10 @@ stack knows old new upper lower both sound same level paired column row =
     below = λ x. state_at (square_at old (same x) lower.spans.items (column / 2 ^ same x)) (column % 2 ^ same x) (row - m)
 
     by : (b : Bool) → nat_lt (column % (2 * m)) m ≡ b
-        → (if nat_lt row m then (if nat_lt (column % (2 * m)) m then state_at (u (2 * c)) (column % (2 * m)) row else state_at (u (2 * c + 1)) (column % (2 * m) - m) row)
-        else (if nat_lt (column % (2 * m)) m then state_at (l (2 * c)) (column % (2 * m)) (row - m) else state_at (l (2 * c + 1)) (column % (2 * m) - m) (row - m)))
+        → (if nat_lt row m then (if nat_lt (column % (2 * m)) m then state_at (u (2 * c)) (column % (2 * m)) row else state_at (u (2 * c + 1))
+        (column % (2 * m) - m) row)
+        else (if nat_lt (column % (2 * m)) m then state_at (l (2 * c)) (column % (2 * m)) (row - m) else state_at (l (2 * c + 1)) (column % (2 * m) - m)
+        (row - m)))
         ≡ (if nat_lt row m then state_in old upper column row else state_in old lower column (row - m))
     by true e =
         let w = west column m (grind arith) in
@@ -134,7 +139,9 @@ module _ {knows knows' : Id → Type 0} {old new : Id → Tree} (keeps : Keeps k
       v = ap (λ n. 2 ^ n) same
 
       by : (p : Bool) → nat_lt j (2 ^ a.level) ≡ p → (q : Bool) → nat_lt j (2 ^ ab.level) ≡ q → picture new (ab ∷ []) i j ≡ picture old (a ∷ b ∷ []) i j
-      by true e true f = ap (λ t. if t then state_in new ab i j else 0) f ∙ st i j ∙ ap (λ t. if t then state_in old a i j else state_in old b i (j - 2 ^ a.level)) e ∙ sym (ap (λ t. if t then state_in old a i j else picture old (b ∷ []) i (j - 2 ^ a.level)) e)
+      by true e true f = ap (λ t. if t then state_in new ab i j else 0) f ∙ st i j
+          ∙ ap (λ t. if t then state_in old a i j else state_in old b i (j - 2 ^ a.level)) e
+          ∙ sym (ap (λ t. if t then state_in old a i j else picture old (b ∷ []) i (j - 2 ^ a.level)) e)
       by true e false f = absurd (let x : j < 2 ^ a.level = grind arith in let y : 2 ^ ab.level ≤ j = grind arith in omega (arith, w, x, y))
       by false e true f =
           let x : 2 ^ a.level ≤ j = grind arith in
@@ -142,14 +149,16 @@ module _ {knows knows' : Id → Type 0} {old new : Id → Tree} (keeps : Keeps k
           let z : j - 2 ^ a.level < 2 ^ b.level = omega (arith, v, w, x, y) in
           let t : nat_lt (j - 2 ^ a.level) (2 ^ b.level) ≡ true = grind arith in
           ap (λ t. if t then state_in new ab i j else 0) f ∙ st i j ∙ ap (λ t. if t then state_in old a i j else state_in old b i (j - 2 ^ a.level)) e
-          ∙ sym (ap (λ t. if t then state_in old a i j else picture old (b ∷ []) i (j - 2 ^ a.level)) e ∙ ap (λ t. if t then state_in old b i (j - 2 ^ a.level) else 0) t)
+          ∙ sym (ap (λ t. if t then state_in old a i j else picture old (b ∷ []) i (j - 2 ^ a.level)) e
+          ∙ ap (λ t. if t then state_in old b i (j - 2 ^ a.level) else 0) t)
       by false e false f =
           let x : 2 ^ a.level ≤ j = grind arith in
           let y : 2 ^ ab.level ≤ j = grind arith in
           let z : 2 ^ b.level ≤ j - 2 ^ a.level = omega (arith, v, w, x, y) in
           let t : nat_lt (j - 2 ^ a.level) (2 ^ b.level) ≡ false = grind arith in
           ap (λ t. if t then state_in new ab i j else 0) f
-          ∙ sym (ap (λ t. if t then state_in old a i j else picture old (b ∷ []) i (j - 2 ^ a.level)) e ∙ ap (λ t. if t then state_in old b i (j - 2 ^ a.level) else 0) t)
+          ∙ sym (ap (λ t. if t then state_in old a i j else picture old (b ∷ []) i (j - 2 ^ a.level)) e
+          ∙ ap (λ t. if t then state_in old b i (j - 2 ^ a.level) else 0) t)
   picture-merge (x ∷ xs) a b ab h same level st i j =
       let here = state_in-keeps x (h 0 x (omega arith)) i j in
       let more = picture-merge xs a b ab (λ k d lt. h (suc k) d (omega (arith, lt))) same level st i (j - 2 ^ x.level) in
@@ -200,14 +209,16 @@ state_at-blank (suc k) i j = by (λ n m. state_at-blank k n m) (nat_lt j (2 ^ de
     h = 2 ^ depth (blank k)
 
     by : ((n m : ℕ) → state_at (blank k) n m ≡ 0) → (p q : Bool)
-        → (if p then (if q then state_at (blank k) i j else state_at (blank k) (i - h) j) else (if q then state_at (blank k) i (j - h) else state_at (blank k) (i - h) (j - h))) ≡ 0
+        → (if p then (if q then state_at (blank k) i j else state_at (blank k) (i - h) j) else
+        (if q then state_at (blank k) i (j - h) else state_at (blank k) (i - h) (j - h))) ≡ 0
     by f true true = f i j
     by f true false = f (i - h) j
     by f false true = f i (j - h)
     by f false false = f (i - h) (j - h)
 
 -- a blank strip below the others changes no cell
-pub picture-blank : (content : Id → Tree) (xs : List Strip) (s : Strip) → s.spans.items ≡ [] → (i j : ℕ) → picture content (xs ++ s ∷ []) i j ≡ picture content xs i j
+pub picture-blank : (content : Id → Tree) (xs : List Strip) (s : Strip) → s.spans.items ≡ [] → (i j : ℕ) → picture content (xs ++ s ∷ []) i j
+    ≡ picture content xs i j
 picture-blank content [] s e i j = by (nat_lt j (2 ^ s.level))
   where
     none : state_in content s i j ≡ 0
@@ -275,7 +286,8 @@ pub falling-one : (x : Strip) → AreFalling (x ∷ [])
 falling-one x i j d ij jl = absurd (omega (arith, ij, jl))
 
 -- a strip of a lower level than the last
-pub falling-push : (xs : List Strip) (x y : Strip) → AreFalling (xs ++ x ∷ []) → IsLowest y.level (xs ++ x ∷ []) → (x.level ≡ y.level → ⊥) → AreFalling ((xs ++ x ∷ []) ++ y ∷ [])
+pub falling-push : (xs : List Strip) (x y : Strip) → AreFalling (xs ++ x ∷ []) → IsLowest y.level (xs ++ x ∷ []) → (x.level ≡ y.level → ⊥)
+    → AreFalling ((xs ++ x ∷ []) ++ y ∷ [])
 falling-push xs x y fall low other = all_pairs_push (λ s t. t.level < s.level) (xs ++ x ∷ []) y fall (λ k d lt. by k d lt (nat_lt k (length xs)) refl)
   where
     n : length (xs ++ x ∷ []) ≡ length xs + 1
@@ -310,7 +322,8 @@ pub height-falling : (xs : List Strip) (n : ℕ) → AreFalling xs → ((k : ℕ
 height-falling [] n fall low = positive_power n
 height-falling (x ∷ xs) n fall low =
     let first : x.level < n = low 0 x (omega arith) in
-    let rest = height-falling xs x.level (λ i j d ij jl. fall (suc i) (suc j) d (omega (arith, ij)) (omega (arith, jl))) (λ k d lt. fall 0 (suc k) d (omega arith) (omega (arith, lt))) in
+    let rest = height-falling xs x.level (λ i j d ij jl. fall (suc i) (suc j) d (omega (arith, ij)) (omega (arith, jl)))
+    (λ k d lt. fall 0 (suc k) d (omega arith) (omega (arith, lt))) in
     let two = double x.level in
     let more = pow_mono {i = suc x.level} {j = n} (omega (arith, first)) in
     omega (arith, rest, two, more)
@@ -321,17 +334,21 @@ one_strip [] fall full = absurd (omega (arith, full))
 one_strip (x ∷ []) fall full = (x, refl, by (nat_lt x.level MAX_LEVEL) refl (nat_lt MAX_LEVEL x.level) refl)
   where
     by : (p : Bool) → nat_lt x.level MAX_LEVEL ≡ p → (q : Bool) → nat_lt MAX_LEVEL x.level ≡ q → x.level ≡ MAX_LEVEL
-    by true e q f = absurd (let a : suc x.level ≤ MAX_LEVEL = grind arith in let m = pow_mono {i = suc x.level} {j = MAX_LEVEL} a in let t = double x.level in let z = positive_power x.level in omega (arith, m, t, z, full))
+    by true e q f = absurd (let a : suc x.level ≤ MAX_LEVEL = grind arith in let m = pow_mono {i = suc x.level} {j = MAX_LEVEL} a in let t = double x.level in
+        let z = positive_power x.level in omega (arith, m, t, z, full))
     by false e true f = absurd (let a : suc MAX_LEVEL ≤ x.level = grind arith in let m = pow_mono {i = suc MAX_LEVEL} {j = x.level} a in omega (arith, m, full))
     by false e false f = grind arith
 one_strip (x ∷ y ∷ xs) fall full = absurd (by (nat_lt x.level MAX_LEVEL) refl)
   where
     rest : height (y ∷ xs) < 2 ^ x.level
-    rest = height-falling (y ∷ xs) x.level (λ i j d ij jl. fall (suc i) (suc j) d (omega (arith, ij)) (omega (arith, jl))) (λ k d lt. fall 0 (suc k) d (omega arith) (omega (arith, lt)))
+    rest = height-falling (y ∷ xs) x.level (λ i j d ij jl. fall (suc i) (suc j) d (omega (arith, ij)) (omega (arith, jl)))
+        (λ k d lt. fall 0 (suc k) d (omega arith) (omega (arith, lt)))
 
     by : (p : Bool) → nat_lt x.level MAX_LEVEL ≡ p → ⊥
-    by true e = let a : suc x.level ≤ MAX_LEVEL = grind arith in let m = pow_mono {i = suc x.level} {j = MAX_LEVEL} a in let t = double x.level in let r = rest in omega (arith, m, t, r, full)
-    by false e = let a : MAX_LEVEL ≤ x.level = grind arith in let m = pow_mono {i = MAX_LEVEL} {j = x.level} a in let z = positive_power y.level in omega (arith, m, z, full)
+    by true e = let a : suc x.level ≤ MAX_LEVEL = grind arith in let m = pow_mono {i = suc x.level} {j = MAX_LEVEL} a in let t = double x.level in
+        let r = rest in omega (arith, m, t, r, full)
+    by false e = let a : MAX_LEVEL ≤ x.level = grind arith in let m = pow_mono {i = MAX_LEVEL} {j = x.level} a in let z = positive_power y.level in
+        omega (arith, m, z, full)
 
 -- the first square of one strip of the greatest level has the cells of the plane
 pub record IsWhole (knows : Id → Type 0) (content : Id → Tree) (strips : List Strip) (id : Id) : Type 0 where
@@ -339,7 +356,8 @@ pub record IsWhole (knows : Id → Type 0) (content : Id → Tree) (strips : Lis
   pub level : depth (content id) ≡ MAX_LEVEL
   pub cells : (i j : ℕ) → i < 2 ^ MAX_LEVEL → j < 2 ^ MAX_LEVEL → state_at (content id) i j ≡ picture content strips i j
 
-pub whole-strip : (knows : Id → Type 0) (content : Id → Tree) (s : Strip) (b : Id) (f : Stretch) → IsSound knows content s → s.level ≡ MAX_LEVEL → knows b → content b ≡ blank MAX_LEVEL
+pub whole-strip : (knows : Id → Type 0) (content : Id → Tree) (s : Strip) (b : Id) (f : Stretch) → IsSound knows content s → s.level ≡ MAX_LEVEL → knows b
+    → content b ≡ blank MAX_LEVEL
     → IsFound s.spans.items 0 b f → IsWhole knows content (s ∷ []) f.square
 whole-strip knows content s b f sound e known is_blank h =
     record {

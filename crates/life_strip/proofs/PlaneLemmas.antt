@@ -64,7 +64,8 @@ none_beyond (x ∷ xs) n c h le =
 -- one span after the others
 pub span_pushed : (old filled : List Span) (column len : ℕ) (b id : Id) → All (λ s. s.end ≤ column) old → All (λ s. s.end ≤ column) filled
     → ((c : ℕ) → c < column → id_at filled c ≡ Some (id_or b (id_at old c)))
-    → (c : ℕ) → id_or b (id_at (filled ++ record { end = column + len; square = id } ∷ []) c) ≡ (if nat_le column c && nat_lt c (column + len) then id else id_or b (id_at old c))
+    → (c : ℕ) → id_or b (id_at (filled ++ record { end = column + len; square = id } ∷ []) c)
+    ≡ (if nat_le column c && nat_lt c (column + len) then id else id_or b (id_at old c))
 span_pushed old filled column len b id ends ends' filling c = by (nat_le column c) refl (nat_lt c (column + len)) refl
   where
     s : Span
@@ -83,7 +84,8 @@ span_pushed old filled column len b id ends ends' filling c = by (nat_le column 
         ∙ sym (ap (λ z. if z && nat_lt c (column + len) then id else id_or b (id_at old c)) e)
 
 -- the spans of the row that is gone on with end before the run
-pub next_ends : (b : Plane) (x y : ℤ) (column row : ℕ) → pos column ≡ x +ℤ pos half_plane → pos row ≡ y +ℤ pos half_plane → IsFree b x y → b.rows ≡ row → All (λ s. s.end ≤ column) b.row.spans.items
+pub next_ends : (b : Plane) (x y : ℤ) (column row : ℕ) → pos column ≡ x +ℤ pos half_plane → pos row ≡ y +ℤ pos half_plane → IsFree b x y → b.rows ≡ row
+    → All (λ s. s.end ≤ column) b.row.spans.items
 next_ends b x y column row e f next same k d lt = let h = next.column (sym f ∙ ap pos (sym same)) k d lt in omega (arith, ints, e, h)
 
 -- a cell below the run may come next
@@ -92,25 +94,29 @@ below_run b y i j row f same below =
     record { row = omega (arith, ints, f, same, below); column = λ h. absurd (omega (arith, ints, f, same, below, h)) }
 
 -- and so may one east of it
-pub beside_run : (b : Plane) (x y i : ℤ) (column row len : ℕ) → pos column ≡ x +ℤ pos half_plane → pos row ≡ y +ℤ pos half_plane → b.rows ≡ row → All (λ s. s.end ≤ column + len) b.row.spans.items
+pub beside_run : (b : Plane) (x y i : ℤ) (column row len : ℕ) → pos column ≡ x +ℤ pos half_plane → pos row ≡ y +ℤ pos half_plane → b.rows ≡ row
+    → All (λ s. s.end ≤ column + len) b.row.spans.items
     → (x +ℤ pos len) ≤ℤ i → IsFree b i y
 beside_run b x y i column row len e f same ends beside =
     record { row = omega (arith, ints, f, same); column = λ h k d lt. let end = ends k d lt in omega (arith, ints, e, end, beside) }
 
 -- a row with one span more has its state in the span's columns
-pub row_pushed : (knows : Id → Type 0) (content : Id → Tree) (old new : Strip) (column len state : ℕ) (b id : Id) → IsSound knows content old → old.level ≡ 0 → new.level ≡ 0
+pub row_pushed : (knows : Id → Type 0) (content : Id → Tree) (old new : Strip) (column len state : ℕ) (b id : Id) → IsSound knows content old → old.level ≡ 0
+    → new.level ≡ 0
     → IsStrip knows content 0 new.spans.items
     → knows b → content b ≡ point 0 → content id ≡ point state
     → ((c : ℕ) → id_or b (id_at new.spans.items c) ≡ (if nat_le column c && nat_lt c (column + len) then id else id_or b (id_at old.spans.items c)))
     → (i j : ℕ) → state_in content new i j ≡ (if nat_le column i && nat_lt i (column + len) then state else state_in content old i j)
 row_pushed knows content old new column len state b id sound e f strip known is_blank is_state columns i j =
-    at new f ∙ ap (λ t. state_at t 0 j) square ∙ by (nat_le column i && nat_lt i (column + len)) ∙ ap (λ z. if nat_le column i && nat_lt i (column + len) then state else z) (sym (at old e))
+    at new f ∙ ap (λ t. state_at t 0 j) square ∙ by (nat_le column i && nat_lt i (column + len))
+    ∙ ap (λ z. if nat_le column i && nat_lt i (column + len) then state else z) (sym (at old e))
   where
     one : (s : Strip) → s.level ≡ 0 → 2 ^ s.level ≡ 1
     one s g = ap (λ n. 2 ^ n) g
 
     at : (s : Strip) → s.level ≡ 0 → state_in content s i j ≡ state_at (square_at content 0 s.spans.items i) 0 j
-    at s g = (λ x. state_at (square_at content (g x) s.spans.items (i / 2 ^ g x)) (i % 2 ^ g x) j) ∙ (λ x. state_at (square_at content 0 s.spans.items (whole x)) (rest x) j)
+    at s g = (λ x. state_at (square_at content (g x) s.spans.items (i / 2 ^ g x)) (i % 2 ^ g x) j)
+        ∙ (λ x. state_at (square_at content 0 s.spans.items (whole x)) (rest x) j)
       where
         p : i ≡ i * 1 + 0
         p = omega arith
@@ -125,13 +131,15 @@ row_pushed knows content old new column len state b id sound e f strip known is_
     before = subst (λ n. IsStrip knows content n old.spans.items) e sound.squares
 
     square : square_at content 0 new.spans.items i ≡ (if nat_le column i && nat_lt i (column + len) then point state else square_at content 0 old.spans.items i)
-    square = sym (content_or knows content 0 new.spans.items strip b known is_blank i) ∙ ap content (columns i) ∙ cases (nat_le column i && nat_lt i (column + len))
+    square = sym (content_or knows content 0 new.spans.items strip b known is_blank i) ∙ ap content (columns i)
+        ∙ cases (nat_le column i && nat_lt i (column + len))
       where
         cases : (t : Bool) → content (if t then id else id_or b (id_at old.spans.items i)) ≡ (if t then point state else square_at content 0 old.spans.items i)
         cases true = is_state
         cases false = content_or knows content 0 old.spans.items before b known is_blank i
 
-    by : (t : Bool) → state_at (if t then point state else square_at content 0 old.spans.items i) 0 j ≡ (if t then state else state_at (square_at content 0 old.spans.items i) 0 j)
+    by : (t : Bool) → state_at (if t then point state else square_at content 0 old.spans.items i) 0 j
+        ≡ (if t then state else state_at (square_at content 0 old.spans.items i) 0 j)
     by true = refl
     by false = refl
 
@@ -156,28 +164,34 @@ pub picture_pushed : (content : Id → Tree) (xs : List Strip) (old new : Strip)
     → ((i j : ℕ) → state_in content new i j ≡ (if nat_le column i && nat_lt i (column + len) then state else state_in content old i j))
     → (i j : ℕ) → picture content (xs ++ new ∷ []) i j ≡ (if is_in_span column (height xs) len i j then state else picture content (xs ++ old ∷ []) i j)
 picture_pushed content [] old new column len state e f row i j =
-    ap (λ n. if nat_lt j (2 ^ n) then state_in content new i j else 0) f ∙ by j ∙ ap (λ n. if is_in_span column 0 len i j then state else (if nat_lt j (2 ^ n) then state_in content old i j else 0)) (sym e)
+    ap (λ n. if nat_lt j (2 ^ n) then state_in content new i j else 0) f ∙ by j
+    ∙ ap (λ n. if is_in_span column 0 len i j then state else (if nat_lt j (2 ^ n) then state_in content old i j else 0)) (sym e)
   where
-    by : (j : ℕ) → (if nat_lt j 1 then state_in content new i j else 0) ≡ (if is_in_span column 0 len i j then state else (if nat_lt j 1 then state_in content old i j else 0))
+    by : (j : ℕ) → (if nat_lt j 1 then state_in content new i j else 0)
+        ≡ (if is_in_span column 0 len i j then state else (if nat_lt j 1 then state_in content old i j else 0))
     by zero = row i 0
     by (suc j) =
         let e : nat_lt (suc j) 1 ≡ false = grind arith in
         let out : is_in_span column 0 len i (suc j) ≡ false = grind arith in
         ap (λ b. if b then state_in content new i (suc j) else 0) e
         ∙ sym (λ k. if out k then state else (if e k then state_in content old i (suc j) else 0))
-picture_pushed content (x ∷ xs) old new column len state e f row i j = by (picture_pushed content xs old new column len state e f row i (j - 2 ^ x.level)) (nat_lt j (2 ^ x.level)) refl
+picture_pushed content (x ∷ xs) old new column len state e f row i j = by (picture_pushed content xs old new column len state e f row i (j - 2 ^ x.level))
+    (nat_lt j (2 ^ x.level)) refl
   where
     w : 0 < 2 ^ x.level
     w = positive_power x.level
 
-    by : picture content (xs ++ new ∷ []) i (j - 2 ^ x.level) ≡ (if is_in_span column (height xs) len i (j - 2 ^ x.level) then state else picture content (xs ++ old ∷ []) i (j - 2 ^ x.level))
+    by : picture content (xs ++ new ∷ []) i (j - 2 ^ x.level)
+        ≡ (if is_in_span column (height xs) len i (j - 2 ^ x.level) then state else picture content (xs ++ old ∷ []) i (j - 2 ^ x.level))
         → (b : Bool) → nat_lt j (2 ^ x.level) ≡ b
-        → picture content (x ∷ xs ++ new ∷ []) i j ≡ (if is_in_span column (2 ^ x.level + height xs) len i j then state else picture content (x ∷ xs ++ old ∷ []) i j)
+        → picture content (x ∷ xs ++ new ∷ []) i j
+        ≡ (if is_in_span column (2 ^ x.level + height xs) len i j then state else picture content (x ∷ xs ++ old ∷ []) i j)
     by more true g =
         let lt : j < 2 ^ x.level = grind arith in
         let out : is_in_span column (2 ^ x.level + height xs) len i j ≡ false = grind arith in
         ap (λ b. if b then state_in content x i j else picture content (xs ++ new ∷ []) i (j - 2 ^ x.level)) g
-        ∙ sym (ap (λ b. if b then state else picture content (x ∷ xs ++ old ∷ []) i j) out ∙ ap (λ b. if b then state_in content x i j else picture content (xs ++ old ∷ []) i (j - 2 ^ x.level)) g)
+        ∙ sym (ap (λ b. if b then state else picture content (x ∷ xs ++ old ∷ []) i j) out
+        ∙ ap (λ b. if b then state_in content x i j else picture content (xs ++ old ∷ []) i (j - 2 ^ x.level)) g)
     by more false g =
         let le : 2 ^ x.level ≤ j = grind arith in
         let same : is_in_span column (2 ^ x.level + height xs) len i j ≡ is_in_span column (height xs) len i (j - 2 ^ x.level) = grind arith in
@@ -186,7 +200,8 @@ picture_pushed content (x ∷ xs) old new column len state e f row i j = by (pic
         ∙ sym ((λ k. if same k then state else (if g k then state_in content x i j else picture content (xs ++ old ∷ []) i (j - 2 ^ x.level))))
 
 -- the state of a pair on the plane
-pub plane_inside : (P : ℕ → ℕ → ℕ) (x y : ℤ) (n m : ℕ) → is_inside half_plane x y ≡ true → x +ℤ pos half_plane ≡ pos n → y +ℤ pos half_plane ≡ pos m → on_plane P x y ≡ P n m
+pub plane_inside : (P : ℕ → ℕ → ℕ) (x y : ℤ) (n m : ℕ) → is_inside half_plane x y ≡ true → x +ℤ pos half_plane ≡ pos n → y +ℤ pos half_plane ≡ pos m
+    → on_plane P x y ≡ P n m
 plane_inside P x y n m i e f =
     ap (λ b. if b then P (unsigned_abs (x +ℤ pos half_plane)) (unsigned_abs (y +ℤ pos half_plane)) else 0) i
     ∙ (λ j. P (unsigned_abs (e j)) (unsigned_abs (f j)))
@@ -233,16 +248,22 @@ AddsRun-span P Q x y column row len state inside e f cells = record { run = in_r
             let k = inside_facts h i j t in
             let a = inside_offset h i k.west k.east in
             let b = inside_offset h j k.north k.south in
-            plane_inside Q i j a.0 b.0 t a.1 b.1 ∙ cells a.0 b.0 ∙ out a.0 b.0 a.1 b.1 (is_in_span column row len a.0 b.0) refl ∙ sym (plane_inside P i j a.0 b.0 t a.1 b.1)
+            plane_inside Q i j a.0 b.0 t a.1 b.1 ∙ cells a.0 b.0 ∙ out a.0 b.0 a.1 b.1 (is_in_span column row len a.0 b.0) refl
+            ∙ sym (plane_inside P i j a.0 b.0 t a.1 b.1)
           where
-            out : (n m : ℕ) → i +ℤ pos h ≡ pos n → j +ℤ pos h ≡ pos m → (d : Bool) → is_in_span column row len n m ≡ d → (if is_in_span column row len n m then state else P n m) ≡ P n m
+            out : (n m : ℕ) → i +ℤ pos h ≡ pos n → j +ℤ pos h ≡ pos m → (d : Bool) → is_in_span column row len n m ≡ d
+                → (if is_in_span column row len n m then state else P n m) ≡ P n m
             out n m p q false g = ap (λ c. if c then state else P n m) g
             out n m p q true g =
                 let k = span_facts column row len n m g in
                 let row_is = k.0 in
                 let from = k.1 in
                 let to = k.2 in
-                absurd (r (record { same_row = omega (arith, ints, p, q, e, f, row_is); from = omega (arith, ints, p, q, e, f, from); to = omega (arith, ints, p, q, e, f, to) }))
+                absurd (r (record {
+                  same_row = omega (arith, ints, p, q, e, f, row_is);
+                  from = omega (arith, ints, p, q, e, f, from);
+                  to = omega (arith, ints, p, q, e, f, to);
+                }))
 
 -- strips keep their cells
 pub picture-keeps : {knows knows' : Id → Type 0} {old new : Id → Tree} (keeps : Keeps knows knows' old new) (xs : List Strip) → All (IsSound knows old) xs
@@ -254,7 +275,8 @@ picture-keeps {knows} {knows'} {old} {new} keeps (x ∷ xs) h i j =
     λ y. if nat_lt j (2 ^ x.level) then here y else more y
 
 -- the blank square in the columns without a span
-pub gap_filled : (xs : List Span) (column : ℕ) (b : Id) (c : ℕ) → c < column → id_at (xs ++ record { end = column; square = b } ∷ []) c ≡ Some (id_or b (id_at xs c))
+pub gap_filled : (xs : List Span) (column : ℕ) (b : Id) (c : ℕ) → c < column → id_at (xs ++ record { end = column; square = b } ∷ []) c
+    ≡ Some (id_or b (id_at xs c))
 gap_filled xs column b c lt = by (id_at xs c) refl
   where
     s : Span
@@ -296,5 +318,6 @@ module _ {knows knows' : Id → Type 0} {old new : Id → Tree} (keeps : Keeps k
   cells-keep b h x y =
       let P = IsSound knows old in
       let over = All-append P b.strips.items b.band.items h.pile.sound h.pile.rows_sound in
-      let same = picture-keeps {knows = knows} {knows' = knows'} {old = old} {new = new} keeps ((b.strips.items ++ b.band.items) ++ b.row ∷ []) (All-push P (b.strips.items ++ b.band.items) b.row over h.row) in
+      let same = picture-keeps {knows = knows} {knows' = knows'} {old = old} {new = new} keeps ((b.strips.items ++ b.band.items) ++ b.row ∷ [])
+      (All-push P (b.strips.items ++ b.band.items) b.row over h.row) in
       λ k. if is_inside half_plane x y then same (unsigned_abs (x +ℤ pos half_plane)) (unsigned_abs (y +ℤ pos half_plane)) k else 0

@@ -72,7 +72,8 @@ module _ {knows knows' : Id → Type 0} {old now : Id → Tree} (keeps : Keeps k
       by None e = ap (square_or_blank now level) e ∙ sym (ap (square_or_blank old level) e)
       by (Some id) e = ap (square_or_blank now level) e ∙ (keeps id (s c id e).0).1 ∙ sym (ap (square_or_blank old level) e)
 
-  pub quad-keeps : (upper lower : List Span) → IsStrip knows old level upper → IsStrip knows old level lower → (c : ℕ) → quad_at now level upper lower c ≡ quad_at old level upper lower c
+  pub quad-keeps : (upper lower : List Span) → IsStrip knows old level upper → IsStrip knows old level lower → (c : ℕ)
+      → quad_at now level upper lower c ≡ quad_at old level upper lower c
   quad-keeps upper lower u l c =
       let a = square-keeps upper u (2 * c) in
       let b = square-keeps upper u (2 * c + 1) in
@@ -122,7 +123,8 @@ module _ (knows : Id → Type 0) (content : Id → Tree) (level : ℕ) (spans : 
     found-depth c f h = ap depth (found-content c f h) ∙ depth-square_at c
 
     -- one square goes on
-    pub found-same : (c x y : ℕ) (f : Stretch) → IsFound spans c b f → c ≤ x → IsBefore x f.end → c ≤ y → IsBefore y f.end → square_at content level spans x ≡ square_at content level spans y
+    pub found-same : (c x y : ℕ) (f : Stretch) → IsFound spans c b f → c ≤ x → IsBefore x f.end → c ≤ y → IsBefore y f.end
+        → square_at content level spans x ≡ square_at content level spans y
     found-same c x y f h xl xu yl yu = sym (content_or x) ∙ ap content (h.square x xl xu ∙ sym (h.square y yl yu)) ∙ content_or y
 
 -- no column yet
@@ -134,7 +136,8 @@ PairedTo-start knows old level upper lower =
 pub PairedTo-push : {knows knows' : Id → Type 0} {old now now' : Id → Tree} (level : ℕ) (upper lower spans : List Span) (column next : ℕ) (r : Id)
     → PairedTo knows old now level upper lower spans column → Keeps knows knows' now now'
     → knows' r → now' r ≡ quad_at old level upper lower column
-    → column < next → next ≤ 2 ^ (MAX_LEVEL - suc level) → ((c : ℕ) → column < c → c < next → quad_at old level upper lower c ≡ quad_at old level upper lower column)
+    → column < next → next ≤ 2 ^ (MAX_LEVEL - suc level)
+    → ((c : ℕ) → column < c → c < next → quad_at old level upper lower c ≡ quad_at old level upper lower column)
     → PairedTo knows' old now' level upper lower (spans ++ record { end = next; square = r } ∷ []) next
 PairedTo-push {knows} {knows'} {old} {now} {now'} level upper lower spans column next r p keeps kr er lt within same =
     record { done = done; rest = rest; within = within_one (suc level) spans s p.within within }
@@ -142,10 +145,12 @@ PairedTo-push {knows} {knows'} {old} {now} {now'} level upper lower spans column
     s : Span
     s = record { end = next; square = r }
 
-    done : (c : ℕ) → c < next → (id : Id) × ((more : List Span) → id_at ((spans ++ s ∷ []) ++ more) c ≡ Some id) × knows' id × (now' id ≡ quad_at old level upper lower c)
+    done : (c : ℕ) → c < next → (id : Id) × ((more : List Span) → id_at ((spans ++ s ∷ []) ++ more) c ≡ Some id) × knows' id
+        × (now' id ≡ quad_at old level upper lower c)
     done c h = by (nat_lt c column) refl
       where
-        by : (b : Bool) → nat_lt c column ≡ b → (id : Id) × ((more : List Span) → id_at ((spans ++ s ∷ []) ++ more) c ≡ Some id) × knows' id × (now' id ≡ quad_at old level upper lower c)
+        by : (b : Bool) → nat_lt c column ≡ b → (id : Id) × ((more : List Span) → id_at ((spans ++ s ∷ []) ++ more) c ≡ Some id) × knows' id
+            × (now' id ≡ quad_at old level upper lower c)
         by true e =
             let d = p.done c (grind arith) in
             (d.0, (λ more. append_one spans more s c ∙ d.1 (s ∷ more)), (keeps d.0 d.2).0, (keeps d.0 d.2).1 ∙ d.3)
@@ -160,9 +165,11 @@ PairedTo-push {knows} {knows'} {old} {now} {now'} level upper lower spans column
     rest : (c : ℕ) → next ≤ c → (more : List Span) → id_at ((spans ++ s ∷ []) ++ more) c ≡ id_at more c
     rest c h more = append_one spans more s c ∙ p.rest c (omega arith) (s ∷ more) ∙ id_at-after s more c h
 
-module _ (knows : Id → Type 0) (old now : Id → Tree) (level : ℕ) (upper lower spans : List Span) (column : ℕ) (p : PairedTo knows old now level upper lower spans column) where
+module _ (knows : Id → Type 0) (old now : Id → Tree) (level : ℕ) (upper lower spans : List Span) (column : ℕ)
+    (p : PairedTo knows old now level upper lower spans column) where
   -- nothing is left of the two strips
-  pub PairedTo-paired : ((c : ℕ) → 2 * column ≤ c → id_at upper c ≡ None) → ((c : ℕ) → 2 * column ≤ c → id_at lower c ≡ None) → IsPaired old now level upper lower spans
+  pub PairedTo-paired : ((c : ℕ) → 2 * column ≤ c → id_at upper c ≡ None) → ((c : ℕ) → 2 * column ≤ c → id_at lower c ≡ None)
+      → IsPaired old now level upper lower spans
   PairedTo-paired u l c = by (nat_lt c column) refl
     where
       by : (b : Bool) → nat_lt c column ≡ b → square_at now (suc level) spans c ≡ quad_at old level upper lower c
@@ -176,7 +183,8 @@ module _ (knows : Id → Type 0) (old now : Id → Tree) (level : ℕ) (upper lo
           let d = l (2 * c) (omega (arith, above)) in
           let f = l (2 * c + 1) (omega (arith, above)) in
           ap (λ z. square_or_blank now (suc level) (id_at z c)) (sym (append-nil spans)) ∙ ap (square_or_blank now (suc level)) (p.rest c above [])
-          ∙ (λ i. quad (square_or_blank old level (sym a i)) (square_or_blank old level (sym b i)) (square_or_blank old level (sym d i)) (square_or_blank old level (sym f i)))
+          ∙ (λ i. quad (square_or_blank old level (sym a i)) (square_or_blank old level (sym b i)) (square_or_blank old level (sym d i))
+          (square_or_blank old level (sym f i)))
 
   pub PairedTo-strip : (k : Id → Type 0) → IsStrip k old level upper → IsStrip knows now (level + 1) spans
   PairedTo-strip k u c id at = by (nat_lt c column) refl
@@ -197,7 +205,8 @@ before_earlier a b None le h = tt
 before_earlier a b (Some end) le h = omega (arith, le, h)
 
 -- the four squares go on
-pub quad-same : (knows : Id → Type 0) (content : Id → Tree) (level : ℕ) (upper lower : List Span) → IsStrip knows content level upper → IsStrip knows content level lower
+pub quad-same : (knows : Id → Type 0) (content : Id → Tree) (level : ℕ) (upper lower : List Span) → IsStrip knows content level upper
+    → IsStrip knows content level lower
     → (b : Id) → knows b → content b ≡ blank level → (column c : ℕ) (n s : Stretch) → IsFound upper (2 * column) b n → IsFound lower (2 * column) b s
     → column < c → IsBefore (2 * c + 1) n.end → IsBefore (2 * c + 1) s.end → quad_at content level upper lower c ≡ quad_at content level upper lower column
 quad-same knows content level upper lower u l b known is_blank column c n s hn hs lt le me =
@@ -206,10 +215,14 @@ quad-same knows content level upper lower u l b known is_blank column c n s hn h
     let east : k + 1 ≤ 2 * c + 1 = omega (arith, lt) in
     let west : k ≤ 2 * c = omega (arith, lt) in
     let from : k ≤ 2 * c + 1 = omega (arith, lt) in
-    let p = found-same knows content level upper u b known is_blank k (2 * c) k n hn west (before_earlier (2 * c) (2 * c + 1) n.end first le) (omega arith) hn.beyond in
-    let q = found-same knows content level upper u b known is_blank k (2 * c + 1) (k + 1) n hn from le (omega arith) (before_earlier (k + 1) (2 * c + 1) n.end east le) in
-    let r = found-same knows content level lower l b known is_blank k (2 * c) k s hs west (before_earlier (2 * c) (2 * c + 1) s.end first me) (omega arith) hs.beyond in
-    let t = found-same knows content level lower l b known is_blank k (2 * c + 1) (k + 1) s hs from me (omega arith) (before_earlier (k + 1) (2 * c + 1) s.end east me) in
+    let p = found-same knows content level upper u b known is_blank k (2 * c) k n hn west (before_earlier (2 * c) (2 * c + 1) n.end first le) (omega arith)
+    hn.beyond in
+    let q = found-same knows content level upper u b known is_blank k (2 * c + 1) (k + 1) n hn from le (omega arith)
+    (before_earlier (k + 1) (2 * c + 1) n.end east le) in
+    let r = found-same knows content level lower l b known is_blank k (2 * c) k s hs west (before_earlier (2 * c) (2 * c + 1) s.end first me) (omega arith)
+    hs.beyond in
+    let t = found-same knows content level lower l b known is_blank k (2 * c + 1) (k + 1) s hs from me (omega arith)
+    (before_earlier (k + 1) (2 * c + 1) s.end east me) in
     λ i. quad (p i) (q i) (r i) (t i)
 
 -- the plane has at most as many columns of squares as of cells
@@ -225,10 +238,12 @@ half-side level low =
 -- no span goes on
 pub none-left : (spans : List Span) (column : ℕ) (b : Id) (f : Stretch) → IsFound spans column b f → f.end ≡ None → (c : ℕ) → column ≤ c → id_at spans c ≡ None
 none-left spans column b f h e =
-    subst (λ o. MatchOption o ((c : ℕ) → column ≤ c → id_at spans c ≡ None) (λ end. (level : ℕ) → AreWithin level spans → end ≤ 2 ^ (MAX_LEVEL - level))) e h.last
+    subst (λ o. MatchOption o ((c : ℕ) → column ≤ c → id_at spans c ≡ None) (λ end. (level : ℕ) → AreWithin level spans → end ≤ 2 ^ (MAX_LEVEL - level))) e
+    h.last
 
 -- the span found ends within the plane, if there is one
-pub found-within : (level : ℕ) (spans : List Span) → AreWithin level spans → (column : ℕ) (b : Id) (f : Stretch) (end : ℕ) → IsFound spans column b f → f.end ≡ Some end → end ≤ 2 ^ (MAX_LEVEL - level)
+pub found-within : (level : ℕ) (spans : List Span) → AreWithin level spans → (column : ℕ) (b : Id) (f : Stretch) (end : ℕ) → IsFound spans column b f
+    → f.end ≡ Some end → end ≤ 2 ^ (MAX_LEVEL - level)
 found-within level spans within column b f end h e =
     subst (λ o. MatchOption o ((c : ℕ) → column ≤ c → id_at spans c ≡ None) (λ n. (l : ℕ) → AreWithin l spans → n ≤ 2 ^ (MAX_LEVEL - l))) e h.last level within
 

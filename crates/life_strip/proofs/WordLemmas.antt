@@ -59,12 +59,19 @@ pub record IsBegun (f : ℕ → ℕ) (start column cells rest : ℕ) : Type 0 wh
 pub begun-start : (f : ℕ → ℕ) (start : ℕ) → IsBegun f start start 0 18446744073709551615
 begun-start f start =
     let none : start - start ≡ 0 = omega arith in
-    record { from = omega arith; within = omega arith; digits = sym (ap (λ n. binary f start n * (18446744073709551615 + 1)) none); others = sym (ap (λ n. 2 ^ (64 - n)) none); states = λ i lt. absurd (omega (arith, lt)) }
+    record {
+      from = omega arith;
+      within = omega arith;
+      digits = sym (ap (λ n. binary f start n * (18446744073709551615 + 1)) none);
+      others = sym (ap (λ n. 2 ^ (64 - n)) none);
+      states = λ i lt. absurd (omega (arith, lt));
+    }
 
 module _ (f : ℕ → ℕ) (start column cells rest : ℕ) (p : IsBegun f start column cells rest) where
   -- the columns from this one on to another one have one state
   module _ (end b : ℕ) (later : column ≤ end) (last : end ≤ start + 64) (small : b ≤ 1) (same : (c : ℕ) → column ≤ c → c < end → f c ≡ b) where
-    begun-digits : (after d : ℕ) → after + 1 ≡ 2 ^ (64 - (end - start)) → d + (after + 1) ≡ rest + 1 → cells + b * d ≡ binary f start (end - start) * (after + 1)
+    begun-digits : (after d : ℕ) → after + 1 ≡ 2 ^ (64 - (end - start)) → d + (after + 1) ≡ rest + 1
+        → cells + b * d ≡ binary f start (end - start) * (after + 1)
     begun-digits after d others less =
         let n = column - start in
         let m = end - column in
@@ -72,7 +79,8 @@ module _ (f : ℕ → ℕ) (start column cells rest : ℕ) (p : IsBegun f start 
         let sum : end - start ≡ n + m = omega (arith, from, later) in
         let places : 64 - n ≡ m + (64 - (end - start)) = omega (arith, from, later, last) in
         let wide : rest + 1 ≡ 2 ^ m * (after + 1) = p.others ∙ ap (λ k. 2 ^ k) places ∙ pow-add 2 m (64 - (end - start)) ∙ ap (λ k. 2 ^ m * k) (sym others) in
-        let equal : binary f (start + n) m + b ≡ b * 2 ^ m = binary-same f (start + n) m b (λ i lt. same (start + n + i) (omega (arith, from)) (omega (arith, from, lt))) in
+        let equal : binary f (start + n) m + b ≡ b * 2 ^ m = binary-same f (start + n) m b
+        (λ i lt. same (start + n + i) (omega (arith, from)) (omega (arith, from, lt))) in
         ap (λ z. z + b * d) p.digits
         ∙ stretch (binary f start n) (binary f (start + n) m) b (2 ^ m) (after + 1) (rest + 1) d wide equal less
         ∙ ap (λ z. z * (after + 1)) (sym (binary-add f start n m) ∙ ap (binary f start) (sym sum))
@@ -87,15 +95,23 @@ module _ (f : ℕ → ℕ) (start column cells rest : ℕ) (p : IsBegun f start 
             let k : column - start ≤ i = grind arith in
             omega (arith, small, same (start + i) (omega (arith, from, k)) (omega (arith, lt)))
 
-    pub begun-step : (after : ℕ) → end < start + 64 → after + 1 ≡ 2 ^ (64 - (end - start)) → after ≤ rest → IsBegun f start end (cells + b * (rest - after)) after
+    pub begun-step : (after : ℕ) → end < start + 64 → after + 1 ≡ 2 ^ (64 - (end - start)) → after ≤ rest
+        → IsBegun f start end (cells + b * (rest - after)) after
     begun-step after within others less =
         let from = p.from in
-        record { from = omega (arith, from, later); within = within; digits = begun-digits after (rest - after) others (omega (arith, less)); others = others; states = begun-states }
+        record {
+          from = omega (arith, from, later);
+          within = within;
+          digits = begun-digits after (rest - after) others (omega (arith, less));
+          others = others;
+          states = begun-states;
+        }
 
   -- fewer columns are left
   pub begun-less : (end after : ℕ) → column ≤ end → after + 1 ≡ 2 ^ (64 - (end - start)) → after ≤ rest
   begun-less end after later others =
-      let fewer : 2 ^ (64 - (end - start)) ≤ 2 ^ (64 - (column - start)) = pow_mono {i = 64 - (end - start)} {j = 64 - (column - start)} (omega (arith, later)) in
+      let fewer : 2 ^ (64 - (end - start)) ≤ 2 ^ (64 - (column - start)) = pow_mono {i = 64 - (end - start)} {j = 64 - (column - start)}
+      (omega (arith, later)) in
       omega (arith, others, p.others, fewer)
 
   -- the bits of a stretch have room
@@ -136,7 +152,8 @@ ones-shifted k lt =
     let more = pow_pos (64 - k) in
     let high : (2 ^ (64 - k) - 1) * 2 ^ k + 2 ^ k ≡ 2 ^ (64 - k) * 2 ^ k = ones-product (2 ^ (64 - k)) (2 ^ k) more in
     let parts : 18446744073709551615 ≡ (2 ^ (64 - k) - 1) * 2 ^ k + (2 ^ k - 1) = omega (arith, all, high, some) in
-    let quotient : 18446744073709551615 / 2 ^ k ≡ 2 ^ (64 - k) - 1 = ap (λ z. z / 2 ^ k) parts ∙ shr_high (2 ^ (64 - k) - 1) k (2 ^ k - 1) (omega (arith, some)) in
+    let quotient : 18446744073709551615 / 2 ^ k ≡ 2 ^ (64 - k) - 1 = ap (λ z. z / 2 ^ k) parts
+    ∙ shr_high (2 ^ (64 - k) - 1) k (2 ^ k - 1) (omega (arith, some)) in
     omega (arith, quotient, more)
   where
     ones-product : (a b : ℕ) → 0 < a → (a - 1) * b + b ≡ a * b
@@ -176,9 +193,11 @@ nibble-cells f start word square p lt =
     let n = 4 * square in
     let at = start + n in
     let places : 64 ≡ (n + 4) + k = omega (arith, lt) in
-    let low : binary f (start + (n + 4)) k < 2 ^ k = binary-small f (start + (n + 4)) k (λ i h. subst (λ z. f z ≤ 1) (moved i) (p.states (n + 4 + i) (omega (arith, lt, h)))) in
+    let low : binary f (start + (n + 4)) k < 2 ^ k = binary-small f (start + (n + 4)) k
+    (λ i h. subst (λ z. f z ≤ 1) (moved i) (p.states (n + 4 + i) (omega (arith, lt, h)))) in
     let parts : word ≡ binary f start (n + 4) * 2 ^ k + binary f (start + (n + 4)) k = p.digits ∙ ap (binary f start) places ∙ binary-add f start (n + 4) k in
-    let high : word / 2 ^ k ≡ binary f start n * 2 ^ 4 + binary f at 4 = ap (λ z. z / 2 ^ k) parts ∙ shr_high (binary f start (n + 4)) k (binary f (start + (n + 4)) k) low ∙ binary-add f start n 4 in
+    let high : word / 2 ^ k ≡ binary f start n * 2 ^ 4 + binary f at 4 = ap (λ z. z / 2 ^ k) parts
+    ∙ shr_high (binary f start (n + 4)) k (binary f (start + (n + 4)) k) low ∙ binary-add f start n 4 in
     let small : binary f at 4 < 2 ^ 4 = binary-small f at 4 (λ i h. subst (λ z. f z ≤ 1) (inner i) (p.states (n + i) (omega (arith, lt, h)))) in
     let first : at + 0 ≡ at = omega arith in
     let same = ap f first in
@@ -211,7 +230,8 @@ module _ (knows : Id → Type 0) (content : Id → Tree) where
   -- the squares of level 1 of two rows, by their words
   module _ (upper lower : List Span) (u : IsStrip knows content 0 upper) (l : IsStrip knows content 0 lower) (start square : ℕ) (rows : Words)
       (north : IsWord (cell_in content upper) start rows.north.cells) (south : IsWord (cell_in content lower) start rows.south.cells) (lt : square < 16) where
-    quad-cells : (c n : ℕ) → (i : ℕ) → i + 1 < 64 → 2 * c ≡ start + i → n ≡ 8 * cell_in content upper (start + i) + 4 * cell_in content upper (start + (i + 1)) + 2 * cell_in content lower (start + i) + cell_in content lower (start + (i + 1))
+    quad-cells : (c n : ℕ) → (i : ℕ) → i + 1 < 64 → 2 * c ≡ start + i → n ≡ 8 * cell_in content upper (start + i) + 4 * cell_in content upper (start + (i + 1))
+        + 2 * cell_in content lower (start + i) + cell_in content lower (start + (i + 1))
         → two n ≡ quad_at content 0 upper lower c
     quad-cells c n i within west e =
         let east : 2 * c + 1 ≡ start + (i + 1) = omega (arith, west) in
@@ -219,12 +239,15 @@ module _ (knows : Id → Type 0) (content : Id → Tree) where
         let ne = cell-point upper u (start + (i + 1)) ∙ ap (square_at content 0 upper) (sym east) in
         let sw = cell-point lower l (start + i) ∙ ap (square_at content 0 lower) (sym west) in
         let se = cell-point lower l (start + (i + 1)) ∙ ap (square_at content 0 lower) (sym east) in
-        two-cells (cell_in content upper (start + i)) (cell_in content upper (start + (i + 1))) (cell_in content lower (start + i)) (cell_in content lower (start + (i + 1))) n
+        two-cells (cell_in content upper (start + i)) (cell_in content upper (start + (i + 1))) (cell_in content lower (start + i))
+        (cell_in content lower (start + (i + 1))) n
         (north.states i (omega (arith, within))) (north.states (i + 1) within) (south.states i (omega (arith, within))) (south.states (i + 1) within) e
         ∙ (λ j. quad (nw j) (ne j) (sw j) (se j))
 
     cells-of : (row : List Span) (word : ℕ) → IsWord (cell_in content row) start word
-        → let f = cell_in content row in let i = 4 * square in (nibble_of word square / 4 ≡ 2 * f (start + i) + f (start + (i + 1))) × (nibble_of word square % 4 ≡ 2 * f (start + (i + 2)) + f (start + (i + 2 + 1)))
+        → let f = cell_in content row in let i = 4 * square in
+        (nibble_of word square / 4 ≡ 2 * f (start + i) + f (start + (i + 1)))
+        × (nibble_of word square % 4 ≡ 2 * f (start + (i + 2)) + f (start + (i + 2 + 1)))
     cells-of row word p =
         let f = cell_in content row in
         let i = 4 * square in

@@ -28,7 +28,8 @@ pub record IsSound (knows : Id → Type 0) (content : Id → Tree) (s : Strip) :
 
 -- the upper strip's rows come first, and then the lower one's
 abbrev pub IsStack : (Id → Tree) → (Id → Tree) → Strip → Strip → Strip → Type 0
-IsStack old new upper lower both = (column row : ℕ) → state_in new both column row ≡ (if nat_lt row (2 ^ upper.level) then state_in old upper column row else state_in old lower column (row - 2 ^ upper.level))
+IsStack old new upper lower both = (column row : ℕ)
+    → state_in new both column row ≡ (if nat_lt row (2 ^ upper.level) then state_in old upper column row else state_in old lower column (row - 2 ^ upper.level))
 
 -- each strip has a lower level than the one above it
 abbrev pub AreFalling : List Strip → Type 0

@@ -16,8 +16,10 @@ pub split-row : (cells : ℤ → ℤ → ℕ) (x y : ℤ) (row rest : List Cell)
     → IsRestOf cells x y (row ++ rest) → IsRest (λ c. cells c y) x row × IsRestOf cells first_coordinate (after y) rest
 split-row cells x y [] [] all none inside h =
     ((λ c l. h c y (inr (refl, l))), (λ c r f. h c r (inl (elim f [ inl a ↦ omega (arith, ints, a) | inr a ↦ omega (arith, ints, a.0) ]))))
-split-row cells x y [] (d ∷ rest) all none inside h =
-    ((λ c l. h.1 c y (inr (refl, l)) (inl south)), (from, (λ c r f p. h.1 c r (inl (elim f [ inl a ↦ omega (arith, ints, a) | inr a ↦ omega (arith, ints, a.0) ])) p), h.2, h.3))
+split-row cells x y [] (d ∷ rest) all none inside h = (
+  (λ c l. h.1 c y (inr (refl, l)) (inl south)),
+  (from, (λ c r f p. h.1 c r (inl (elim f [ inl a ↦ omega (arith, ints, a) | inr a ↦ omega (arith, ints, a.0) ])) p), h.2, h.3),
+)
   where
     south : y <ℤ d.y
     south = elim h.0 [ inl l ↦ l | inr e ↦ absurd (none (sym e.0)) ]
@@ -26,12 +28,14 @@ split-row cells x y [] (d ∷ rest) all none inside h =
     from = elim (less-or-not (after y) d.y) [ inl l ↦ inl l | inr l ↦ inr (omega (arith, ints, south, l), (All-head IsInside d rest inside).west) ]
 split-row cells x y (cell ∷ row) rest all none inside h =
     let e : cell.y ≡ y = All-head (λ (cell : Cell). cell.y ≡ y) cell row all in
-    let more = split-row cells (after cell.x) y row rest (All-tail (λ (cell : Cell). cell.y ≡ y) cell row all) none inside (subst (λ z. IsRestOf cells (after cell.x) z (row ++ rest)) e h.3) in
+    let more = split-row cells (after cell.x) y row rest (All-tail (λ (cell : Cell). cell.y ≡ y) cell row all) none inside
+    (subst (λ z. IsRestOf cells (after cell.x) z (row ++ rest)) e h.3) in
     let le : x ≤ℤ cell.x = elim h.0 [ inl l ↦ absurd (omega (arith, ints, l, e)) | inr p ↦ p.1 ] in
     ((le, (λ c l u. h.1 c y (inr (refl, l)) (inr (sym e, u))), subst (λ z. cells cell.x z ≡ cell.state) e h.2, more.0), more.1)
 
 -- what is left from a row on is what is left from a later one that the first cell is in
-pub later-row : (cells : ℤ → ℤ → ℕ) (y m : ℤ) (rest : List Cell) → BeginsAt m rest → All IsInside rest → IsRestOf cells first_coordinate y rest → IsRestOf cells first_coordinate m rest
+pub later-row : (cells : ℤ → ℤ → ℕ) (y m : ℤ) (rest : List Cell) → BeginsAt m rest → All IsInside rest → IsRestOf cells first_coordinate y rest
+    → IsRestOf cells first_coordinate m rest
 later-row cells y m [] b inside h = absurd b
 later-row cells y m (cell ∷ rest) b inside h =
     let le : y ≤ℤ m = elim h.0 [ inl l ↦ omega (arith, ints, l, b) | inr p ↦ omega (arith, ints, p.0, b) ] in
@@ -46,11 +50,14 @@ first-row cells y m [] b h = absurd b
 first-row cells y m (cell ∷ rest) b h = elim h.0 [ inl l ↦ omega (arith, ints, l, b) | inr p ↦ omega (arith, ints, p.0, b) ]
 
 -- between there is no cell
-row-gap : (cells : ℤ → ℤ → ℕ) (y m : ℤ) (rest : List Cell) → BeginsAt m rest → IsRestOf cells first_coordinate y rest → (c r : ℤ) → first_coordinate ≤ℤ c → y ≤ℤ r → r <ℤ m → cells c r ≡ 0
+row-gap : (cells : ℤ → ℤ → ℕ) (y m : ℤ) (rest : List Cell) → BeginsAt m rest → IsRestOf cells first_coordinate y rest → (c r : ℤ) → first_coordinate ≤ℤ c
+    → y ≤ℤ r → r <ℤ m → cells c r ≡ 0
 row-gap cells y m [] b h c r w l u = absurd b
-row-gap cells y m (cell ∷ rest) b h c r w l u = h.1 c r (elim (less-or-not y r) [ inl s ↦ inl s | inr s ↦ inr (omega (arith, ints, l, s), w) ]) (inl (omega (arith, ints, u, b)))
+row-gap cells y m (cell ∷ rest) b h c r w l u = h.1 c r (elim (less-or-not y r) [ inl s ↦ inl s | inr s ↦ inr (omega (arith, ints, l, s), w) ])
+    (inl (omega (arith, ints, u, b)))
 
-row-none : (cells : ℤ → ℤ → ℕ) (y : ℤ) (rest : List Cell) → length rest ≡ 0 → IsRestOf cells first_coordinate y rest → (c r : ℤ) → first_coordinate ≤ℤ c → y ≤ℤ r → cells c r ≡ 0
+row-none : (cells : ℤ → ℤ → ℕ) (y : ℤ) (rest : List Cell) → length rest ≡ 0 → IsRestOf cells first_coordinate y rest → (c r : ℤ) → first_coordinate ≤ℤ c
+    → y ≤ℤ r → cells c r ≡ 0
 row-none cells y [] e h c r w l = h c r (elim (less-or-not y r) [ inl s ↦ inl s | inr s ↦ inr (omega (arith, ints, l, s), w) ])
 row-none cells y (cell ∷ rest) e h c r w l = absurd (omega (arith, e))
 
@@ -65,15 +72,18 @@ on-all cells r blank h c = elim (less-or-not c first_coordinate) [ inl l ↦ bla
 
 -- three rows without cells
 far-row : (cells : ℤ → ℤ → ℕ) (r : ℤ) → ((s c : ℤ) → before r ≤ℤ s → s ≤ℤ after r → cells c s ≡ 0) → IsFarRow cells r
-far-row cells r h x = column-is _ _ _ 0 0 0 (h (before r) x (omega (arith, ints)) (omega (arith, ints))) (h r x (omega (arith, ints)) (omega (arith, ints))) (h (after r) x (omega (arith, ints)) (omega (arith, ints)))
+far-row cells r h x = column-is _ _ _ 0 0 0 (h (before r) x (omega (arith, ints)) (omega (arith, ints))) (h r x (omega (arith, ints)) (omega (arith, ints)))
+    (h (after r) x (omega (arith, ints)) (omega (arith, ints)))
 
 -- from the middle row on there is no cell before a row behind which the others are blank
 blank-rows : (cells : ℤ → ℤ → ℕ) (b : Band) → IsBlankBefore cells → IsBand cells b → length b.rows.here.now ≡ 0 → length b.rows.south.now ≡ 0
     → (m : ℤ) → ((c r : ℤ) → first_coordinate ≤ℤ c → (b.y +ℤ pos 2) ≤ℤ r → r <ℤ m → cells c r ≡ 0) → (r c : ℤ) → b.y ≤ℤ r → r <ℤ m → cells c r ≡ 0
 blank-rows cells b blank h here south m beyond r c l u = elim (less-or-not r (after b.y)) [
-  | inl s ↦ subst (λ z. cells c z ≡ 0) (omega (arith, ints, l, s)) (on-all cells b.y blank (IsRest-none (λ c. cells c b.y) first_coordinate b.rows.here.now here h.rows.here) c)
+  | inl s ↦ subst (λ z. cells c z ≡ 0) (omega (arith, ints, l, s))
+      (on-all cells b.y blank (IsRest-none (λ c. cells c b.y) first_coordinate b.rows.here.now here h.rows.here) c)
   | inr s ↦ elim (less-or-not r (b.y +ℤ pos 2)) [
-    | inl t ↦ subst (λ z. cells c z ≡ 0) (omega (arith, ints, s, t)) (on-all cells (after b.y) blank (IsRest-none (λ c. cells c (after b.y)) first_coordinate b.rows.south.now south h.rows.south) c)
+    | inl t ↦ subst (λ z. cells c z ≡ 0) (omega (arith, ints, s, t))
+        (on-all cells (after b.y) blank (IsRest-none (λ c. cells c (after b.y)) first_coordinate b.rows.south.now south h.rows.south) c)
     | inr t ↦ on-all cells r blank (λ c w. beyond c r w t u) c
   ]
 ]
@@ -93,7 +103,8 @@ some-taken y cells (cell ∷ front) back s b = omega arith
 
 -- the next row's three rows: the two that were there, and the new southern one
 next-rows : (cells : ℤ → ℤ → ℕ) (y : ℤ) (b : Band) (rows : Rows) → rows.north.now ≡ b.rows.here.now → rows.here.now ≡ b.rows.south.now
-    → IsRest (λ c. cells c (before y)) first_coordinate b.rows.here.now → IsRest (λ c. cells c y) first_coordinate b.rows.south.now → IsRest (λ c. cells c (after y)) first_coordinate rows.south.now
+    → IsRest (λ c. cells c (before y)) first_coordinate b.rows.here.now → IsRest (λ c. cells c y) first_coordinate b.rows.south.now
+    → IsRest (λ c. cells c (after y)) first_coordinate rows.south.now
     → AreRows cells y first_coordinate rows
 next-rows cells y b rows en eh north here south = record {
   north = subst (λ z. IsRest (λ c. cells c (before y)) first_coordinate z) (sym en) north;
@@ -102,12 +113,14 @@ next-rows cells y b rows en eh north here south = record {
 }
 
 pub goes-south : (cells : ℤ → ℤ → ℕ) (b new : Band) → IsBlankBefore cells → IsBand cells b → All IsInside b.rest.now → IsNextRow b new.y
-    → new.rows.north.now ≡ b.rows.here.now → new.rows.here.now ≡ b.rows.south.now → IsSplitAtRow (after new.y) b.rest.now new.rows.south.now new.rest.now → All IsInside new.rest.now
+    → new.rows.north.now ≡ b.rows.here.now → new.rows.here.now ≡ b.rows.south.now → IsSplitAtRow (after new.y) b.rest.now new.rows.south.now new.rest.now
+    → All IsInside new.rest.now
     → GoesSouth cells b new
 goes-south cells b new blank h inside (inl p) en eh s inside' =
     let y = new.y in
     let split = split-row cells first_coordinate (after y) new.rows.south.now new.rest.now s.row s.rest inside'
-    (subst (λ z. IsRestOf cells first_coordinate (after y) z) s.both (subst (λ z. IsRestOf cells first_coordinate z b.rest.now) (omega (arith, ints, p.0)) h.rest)) in
+    (subst (λ z. IsRestOf cells first_coordinate (after y) z) s.both
+    (subst (λ z. IsRestOf cells first_coordinate z b.rest.now) (omega (arith, ints, p.0)) h.rest)) in
     record {
       south = omega (arith, ints, p.0);
       here = record {
@@ -126,7 +139,8 @@ goes-south cells b new blank h inside (inr p) en eh s inside' =
       south = omega (arith, ints, first);
       here = record {
         rows = next-rows cells new.y b new.rows en eh
-            (IsRest-empty (λ c. cells c (before new.y)) first_coordinate b.rows.here.now p.0 (λ c l. none (before new.y) c (omega (arith, ints, first)) (omega (arith, ints))))
+            (IsRest-empty (λ c. cells c (before new.y)) first_coordinate b.rows.here.now p.0
+            (λ c l. none (before new.y) c (omega (arith, ints, first)) (omega (arith, ints))))
             (IsRest-empty (λ c. cells c new.y) first_coordinate b.rows.south.now p.1 (λ c l. none new.y c (omega (arith, ints, first)) (omega (arith, ints))))
             split.0;
         rest = subst (λ z. IsRestOf cells first_coordinate z new.rest.now) (omega (arith, ints)) split.1;
@@ -143,7 +157,8 @@ goes-south cells b new blank h inside (inr p) en eh s inside' =
 -- south of the last band there is no cell
 pub last-band : (cells : ℤ → ℤ → ℕ) (b : Band) → IsBlankBefore cells → IsBand cells b → IsLastBand b → (r : ℤ) → b.y <ℤ r → IsFarRow cells r
 last-band cells b blank h o r l = far-row cells r (λ t c w v.
-    blank-rows cells b blank h o.here o.south (after t) (λ c' r' west low high. row-none cells (b.y +ℤ pos 2) b.rest.now o.rest h.rest c' r' west low) t c (omega (arith, ints, l, w)) (omega (arith, ints)))
+    blank-rows cells b blank h o.here o.south (after t) (λ c' r' west low high. row-none cells (b.y +ℤ pos 2) b.rest.now o.rest h.rest c' r' west low) t c
+    (omega (arith, ints, l, w)) (omega (arith, ints)))
 
 -- what an if on a number gives
 abbrev Case : ℕ → ℕ → Type 0
@@ -160,8 +175,10 @@ band-count : (h s n : ℕ) (rest new : ℕ) → rest ≡ n + new → (0 < n) ⊎
     → 3 * new + (if n == 0 then 0 else 2) + (if s == 0 then 0 else 1) < 3 * rest + (if s == 0 then 0 else 2) + (if h == 0 then 0 else 1)
 band-count h s n rest new e g = sum (zero-or-more n 2) (zero-or-more s 2) (zero-or-more s 1) (zero-or-more h 1)
   where
-    sum : Case n 2 → Case s 2 → Case s 1 → Case h 1 → 3 * new + (if n == 0 then 0 else 2) + (if s == 0 then 0 else 1) < 3 * rest + (if s == 0 then 0 else 2) + (if h == 0 then 0 else 1)
-    sum (inl a) (inl b) (inl c) (inl d) = elim g [ inl u ↦ absurd (omega (arith, u, a.0)) | inr v ↦ elim v [ inl u ↦ absurd (omega (arith, u, d.0)) | inr u ↦ absurd (omega (arith, u, b.0)) ] ]
+    sum : Case n 2 → Case s 2 → Case s 1 → Case h 1 → 3 * new + (if n == 0 then 0 else 2) + (if s == 0 then 0 else 1) < 3 * rest + (if s == 0 then 0 else 2)
+        + (if h == 0 then 0 else 1)
+    sum (inl a) (inl b) (inl c) (inl d) = elim g
+        [ inl u ↦ absurd (omega (arith, u, a.0)) | inr v ↦ elim v [ inl u ↦ absurd (omega (arith, u, d.0)) | inr u ↦ absurd (omega (arith, u, b.0)) ] ]
     sum (inl a) (inl b) (inl c) (inr d) = omega (arith, e, a.1, b.1, c.1, d.1, a.0)
     sum (inl a) (inr b) (inr c) (inl d) = omega (arith, e, a.1, b.1, c.1, d.1, a.0)
     sum (inl a) (inr b) (inr c) (inr d) = omega (arith, e, a.1, b.1, c.1, d.1, a.0)
@@ -172,10 +189,12 @@ band-count h s n rest new e g = sum (zero-or-more n 2) (zero-or-more s 2) (zero-
     sum a (inl b) (inr c) d = absurd (omega (arith, b.0, c.0))
     sum a (inr b) (inl c) d = absurd (omega (arith, b.0, c.0))
 
-pub fewer-rows : (b new : Band) → IsNextRow b new.y → new.rows.here.now ≡ b.rows.south.now → IsSplitAtRow (after new.y) b.rest.now new.rows.south.now new.rest.now → rows_left new < rows_left b
+pub fewer-rows : (b new : Band) → IsNextRow b new.y → new.rows.here.now ≡ b.rows.south.now
+    → IsSplitAtRow (after new.y) b.rest.now new.rows.south.now new.rest.now → rows_left new < rows_left b
 fewer-rows b new p eh s =
     subst (λ z. 3 * length new.rest.now + (if length new.rows.south.now == 0 then 0 else 2) + (if length z == 0 then 0 else 1) < rows_left b) (sym eh)
-    (band-count (length b.rows.here.now) (length b.rows.south.now) (length new.rows.south.now) (length b.rest.now) (length new.rest.now) (lengths (after new.y) b.rest.now new.rows.south.now new.rest.now s) (goes p))
+    (band-count (length b.rows.here.now) (length b.rows.south.now) (length new.rows.south.now) (length b.rest.now) (length new.rest.now)
+    (lengths (after new.y) b.rest.now new.rows.south.now new.rest.now s) (goes p))
   where
     goes : IsNextRow b new.y → (0 < length new.rows.south.now) ⊎ ((0 < length b.rows.here.now) ⊎ (0 < length b.rows.south.now))
     goes (inl q) = inr q.1

@@ -32,8 +32,13 @@ pub sorted-from : (f : ℤ → ℤ → ℕ) (x y : ℤ) (list : List Cell) → A
     → ((c r : ℤ) → IsFrom x y c r → f c r ≢ 0 → Contains list (record { x = c; y = r; state = f c r }))
     → IsRestOf f x y list
 sorted-from f x y [] pairs here all = λ c r p. elim (eqb_tells (f c r) 0) [ inl t ↦ t.1 | inr t ↦ (let h = all c r p t.1 in absurd (omega (arith, h.1))) ]
-sorted-from f x y (cell ∷ rest) pairs here all =
-    (first.1, gap, first.0, sorted-from f (after cell.x) cell.y rest (later-pairs cell rest pairs) (λ d h. ((here d (later cell d rest h)).0, behind d (first-before cell d rest pairs h))) more)
+sorted-from f x y (cell ∷ rest) pairs here all = (
+  first.1,
+  gap,
+  first.0,
+  sorted-from f (after cell.x) cell.y rest (later-pairs cell rest pairs)
+      (λ d h. ((here d (later cell d rest h)).0, behind d (first-before cell d rest pairs h))) more,
+)
   where
     first : (f cell.x cell.y ≡ cell.state) × IsFrom x y cell.x cell.y
     first = here cell (0, omega arith, refl)
@@ -57,7 +62,8 @@ sorted-from f x y (cell ∷ rest) pairs here all =
       | inl t ↦ t.1
       | inr t ↦ elim (cases cell (record { x = c; y = r; state = f c r }) rest (all c r p t.1)) [
         | inl e ↦ absurd (itself c r q (ap (λ (z : Cell). z.x) e) (ap (λ (z : Cell). z.y) e))
-        | inr h ↦ absurd (clash c r q (record { x = c; y = r; state = f c r }) refl refl (first-before cell (record { x = c; y = r; state = f c r }) rest pairs h))
+        | inr h ↦ absurd (clash c r q (record { x = c; y = r; state = f c r }) refl refl
+            (first-before cell (record { x = c; y = r; state = f c r }) rest pairs h))
       ]
     ]
 
@@ -90,8 +96,10 @@ half-small k l = pow_mono {i = k - 1} {j = 61} (omega (arith, l))
 
 pub blank-before : (t : Tree) → depth t ≤ MAX_LEVEL → IsBlankBefore (tree_cell t)
 blank-before t l = record {
-  west = λ x y u. elim (eqb_tells (tree_cell t x y) 0) [ inl e ↦ e.1 | inr n ↦ (let i = nonzero-inside t x y n.1 in let s = half-small (depth t) l in absurd (omega (arith, ints, u, i.west, s))) ];
-  north = λ x y u. elim (eqb_tells (tree_cell t x y) 0) [ inl e ↦ e.1 | inr n ↦ (let i = nonzero-inside t x y n.1 in let s = half-small (depth t) l in absurd (omega (arith, ints, u, i.north, s))) ];
+  west = λ x y u. elim (eqb_tells (tree_cell t x y) 0)
+      [ inl e ↦ e.1 | inr n ↦ (let i = nonzero-inside t x y n.1 in let s = half-small (depth t) l in absurd (omega (arith, ints, u, i.west, s))) ];
+  north = λ x y u. elim (eqb_tells (tree_cell t x y) 0)
+      [ inl e ↦ e.1 | inr n ↦ (let i = nonzero-inside t x y n.1 in let s = half-small (depth t) l in absurd (omega (arith, ints, u, i.north, s))) ];
 }
 
 pub cells-sorted : (t : Tree) (list : List Cell) → depth t ≤ MAX_LEVEL → IsCellList t list → IsRestOf (tree_cell t) first_coordinate first_coordinate list
@@ -103,7 +111,8 @@ cells-sorted t list l h = sorted-from (tree_cell t) first_coordinate first_coord
     inside d e = nonzero-inside t d.x d.y (λ z. e.1 (sym e.0 ∙ z))
 
     from : (d : Cell) → Inside (half_side t) d.x d.y → IsFrom first_coordinate first_coordinate d.x d.y
-    from d i = let s = half-small (depth t) l in elim (less-or-not first_coordinate d.y) [ inl u ↦ inl u | inr u ↦ inr (omega (arith, ints, u, i.north, s), omega (arith, ints, i.west, s)) ]
+    from d i = let s = half-small (depth t) l in
+        elim (less-or-not first_coordinate d.y) [ inl u ↦ inl u | inr u ↦ inr (omega (arith, ints, u, i.north, s), omega (arith, ints, i.west, s)) ]
 
 pub cells-inside : (t : Tree) (list : List Cell) → depth t ≤ MAX_LEVEL → IsCellList t list → All IsInside list
 cells-inside t list l h k d m =
@@ -111,4 +120,9 @@ cells-inside t list l h k d m =
     let e = h.true_cells c (k, m, get_or_default list k c d m) in
     let i = nonzero-inside t c.x c.y (λ z. e.1 (sym e.0 ∙ z)) in
     let s = half-small (depth t) l in
-    record { west = omega (arith, ints, i.west, s); east = omega (arith, ints, i.east, s); north = omega (arith, ints, i.north, s); south = omega (arith, ints, i.south, s) }
+    record {
+      west = omega (arith, ints, i.west, s);
+      east = omega (arith, ints, i.east, s);
+      north = omega (arith, ints, i.north, s);
+      south = omega (arith, ints, i.south, s);
+    }

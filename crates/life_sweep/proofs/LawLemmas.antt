@@ -33,7 +33,8 @@ eight a b c d e f g h la lb lc ld le lf lg lh =
 pub count-eight : (v : List ℕ) → length v ≡ 9 → All (λ s. s < 2) v
     → get_or v 1 0 + get_or v 2 0 + get_or v 3 0 + get_or v 4 0 + get_or v 5 0 + get_or v 6 0 + get_or v 7 0 + get_or v 8 0 ≡ count_of 1 (drop 1 v)
 count-eight (s ∷ a ∷ b ∷ c ∷ d ∷ e ∷ f ∷ g ∷ h ∷ []) len all =
-    eight a b c d e f g h (all 1 0 (omega arith)) (all 2 0 (omega arith)) (all 3 0 (omega arith)) (all 4 0 (omega arith)) (all 5 0 (omega arith)) (all 6 0 (omega arith)) (all 7 0 (omega arith)) (all 8 0 (omega arith))
+    eight a b c d e f g h (all 1 0 (omega arith)) (all 2 0 (omega arith)) (all 3 0 (omega arith)) (all 4 0 (omega arith)) (all 5 0 (omega arith))
+    (all 6 0 (omega arith)) (all 7 0 (omega arith)) (all 8 0 (omega arith))
 count-eight v len all = absurd (omega (arith, len))
 
 -- the answer at the neighbours that the table looks at is its answer

@@ -46,7 +46,8 @@ same-above P f g y on same s =
           let side = 2 ^ depth s.square in
           let row = s.row * side + j in
           s.cells i j li lj
-          ∙ same (pos (s.column * side + i) -ℤ pos half_plane) (pos row -ℤ pos half_plane) (north row y on (below s.row side j (nat_abs (y +ℤ pos half_plane)) lj s.south));
+          ∙ same (pos (s.column * side + i) -ℤ pos half_plane) (pos row -ℤ pos half_plane)
+          (north row y on (below s.row side j (nat_abs (y +ℤ pos half_plane)) lj s.south));
       property = s.property;
     }
 
@@ -63,7 +64,8 @@ open-needs P runs run order opened s =
       inside = record { west = opened.inside.west; east = omega (arith, ints, some, east); north = opened.inside.north; south = opened.inside.south };
       nonzero = λ e. opened.nonzero (sym (inside-last runs (given run) run.x run.y order opened.next here) ∙ e);
       square = same-above P (state_by runs) (state_by (runs ++ given run ∷ [])) run.y opened.inside.north
-          (λ c r l. sym (outside-last runs (given run) c r order opened.next (λ (i : IsInRun run.x run.y run.len c r). let e = i.same_row in omega (arith, ints, l, e)))) s;
+          (λ c r l. sym (outside-last runs (given run) c r order opened.next (λ (i : IsInRun run.x run.y run.len c r). let e = i.same_row in
+          omega (arith, ints, l, e)))) s;
     }
 
 -- what was drawn is on the plane
@@ -71,10 +73,12 @@ outside-plane : (state : ℕ → ℕ → ℕ) (x y : ℤ) → ¬ (IsOnPlane x y 
 outside-plane state x y out = by (is_inside half_plane x y) refl
   where
     by : (b : Bool) → is_inside half_plane x y ≡ b → on_plane state x y ≡ 0
-    by true e = let i = inside_facts half_plane x y e in let east = i.east in absurd (out (record { west = i.west; east = omega (arith, ints, east); north = i.north; south = i.south }))
+    by true e = let i = inside_facts half_plane x y e in let east = i.east in
+        absurd (out (record { west = i.west; east = omega (arith, ints, east); north = i.north; south = i.south }))
     by false e = ap (λ (c : Bool). if c then state (unsigned_abs (x +ℤ pos half_plane)) (unsigned_abs (y +ℤ pos half_plane)) else 0) e
 
-open-outside : (runs : List GivenRun) (o : Option Run) (x y : ℤ) → AreInOrder runs → IfSome o (IsOpen runs) → ¬ (IsOnPlane x y 1) → state_by runs x y ≡ 0 → state_by (runs ++ open_runs o) x y ≡ 0
+open-outside : (runs : List GivenRun) (o : Option Run) (x y : ℤ) → AreInOrder runs → IfSome o (IsOpen runs) → ¬ (IsOnPlane x y 1) → state_by runs x y ≡ 0
+    → state_by (runs ++ open_runs o) x y ≡ 0
 open-outside runs None x y order opened out e = ap (λ (l : List GivenRun). state_by l x y) (append-nil runs) ∙ e
 open-outside runs (Some run) x y order opened out e =
     outside-last runs (given run) x y order opened.next (λ (i : IsInRun run.x run.y run.len x y). out (here i)) ∙ e
@@ -89,9 +93,15 @@ open-outside runs (Some run) x y order opened out e =
         let to = i.to in
         let north = on.north in
         let south = on.south in
-        record { west = omega (arith, ints, west, from); east = omega (arith, ints, east, to); north = omega (arith, ints, north, row); south = omega (arith, ints, south, row) }
+        record {
+          west = omega (arith, ints, west, from);
+          east = omega (arith, ints, east, to);
+          north = omega (arith, ints, north, row);
+          south = omega (arith, ints, south, row);
+        }
 
-pub drawn-outside : (knows : Id → Type 0) (content : Id → Tree) (pen : Pen) → IsHolding knows content pen → (x y : ℤ) → ¬ (IsOnPlane x y 1) → state_by (drawn_runs pen) x y ≡ 0
+pub drawn-outside : (knows : Id → Type 0) (content : Id → Tree) (pen : Pen) → IsHolding knows content pen → (x y : ℤ) → ¬ (IsOnPlane x y 1)
+    → state_by (drawn_runs pen) x y ≡ 0
 drawn-outside knows content pen h x y out =
     open-outside pen.builder.runs pen.unclosed x y h.filling.order h.unclosed out
     (sym (h.filling.cells x y) ∙ outside-plane (state_so_far content pen.builder.kept) x y out)

@@ -28,7 +28,8 @@ some-from : (list : List Cell) (n : ℕ) → ¬ (All (λ c. c.state < n) list) �
 some-from [] n h = absurd (h (λ k d l. absurd (omega (arith, l))))
 some-from (cell ∷ rest) n h = by (some-from rest n) (nat_lt cell.state n) refl
   where
-    by : (¬ (All (λ c. c.state < n) rest) → (c : Cell) × Contains rest c × (n ≤ c.state)) → (b : Bool) → nat_lt cell.state n ≡ b → (c : Cell) × Contains (cell ∷ rest) c × (n ≤ c.state)
+    by : (¬ (All (λ c. c.state < n) rest) → (c : Cell) × Contains rest c × (n ≤ c.state)) → (b : Bool) → nat_lt cell.state n ≡ b → (c : Cell)
+        × Contains (cell ∷ rest) c × (n ≤ c.state)
     by more true e = let r = more (λ all. h (all-more n cell rest (grind (arith, e)) all)) in (r.0, later cell r.0 rest r.1, r.2)
     by more false e = (cell, (0, omega arith, refl), grind (arith, e))
 
@@ -54,9 +55,19 @@ module _ (A : List ℕ → Answer → Type 0) (one : (v : List ℕ) (a b : Answe
   pub beyond : ¬ (most < population t) → HasStateFrom n (tree_cell t) → GenerationRefusal A n most t (Some (fault_of kinds.StateBeyondTable))
   beyond few from = inr (few, inl (from, refl))
 
-  pub step-refused : ¬ (most < population t) → ¬ (HasStateFrom n (tree_cell t)) → (f : Fault) → RefusesStep A (tree_cell t) f → GenerationRefusal A n most t (Some f)
+  pub step-refused : ¬ (most < population t) → ¬ (HasStateFrom n (tree_cell t)) → (f : Fault) → RefusesStep A (tree_cell t) f
+      → GenerationRefusal A n most t (Some f)
   step-refused few none f (inl (kind, first)) =
-      inr (few, inr (none, inl ((first.x, first.y, f.place.line, first.here), (f.place.line, first, ap (λ k. Some (record { place = f.place; kind = k })) kind))))
+      inr (
+        few,
+        inr (
+          none,
+          inl (
+            (first.x, first.y, f.place.line, first.here),
+            (f.place.line, first, ap (λ k. Some (record { place = f.place; kind = k })) kind),
+          ),
+        ),
+      )
   step-refused few none f (inr (e, left, each)) = inr (few, inr (none, inr (none-ambiguous each, inl (left, ap Some e))))
 
   -- a pair outside the plane has state 0 in every square of the plane
@@ -65,12 +76,18 @@ module _ (A : List ℕ → Answer → Type 0) (one : (v : List ℕ) (a b : Answe
     | inl z ↦ l.nonzero (same ∙ z.1)
     | inr z ↦ (let i = nonzero-inside r l.x l.y z.1 in
         let half : half_side r ≡ 2 ^ 61 = ap (λ k. 2 ^ (k - 1)) level in
-        l.outside (record { west = omega (arith, ints, i.west, half); east = omega (arith, ints, i.east, half); north = omega (arith, ints, i.north, half); south = omega (arith, ints, i.south, half) }))
+        l.outside (record {
+          west = omega (arith, ints, i.west, half);
+          east = omega (arith, ints, i.east, half);
+          north = omega (arith, ints, i.north, half);
+          south = omega (arith, ints, i.south, half);
+        }))
   ]
     where
       same : l.next ≡ tree_cell r l.x l.y
       same = let e = one (states_at (tree_cell t) l.x l.y) (Becomes l.next) (Becomes (tree_cell r l.x l.y)) l.answer (next l.x l.y) in cc
 
-  pub accepted : ¬ (most < population t) → ¬ (HasStateFrom n (tree_cell t)) → (r : Tree) → depth r ≡ MAX_LEVEL → ((x y : ℤ) → A (states_at (tree_cell t) x y) (Becomes (tree_cell r x y)))
+  pub accepted : ¬ (most < population t) → ¬ (HasStateFrom n (tree_cell t)) → (r : Tree) → depth r ≡ MAX_LEVEL
+      → ((x y : ℤ) → A (states_at (tree_cell t) x y) (Becomes (tree_cell r x y)))
       → GenerationRefusal A n most t None
   accepted few none r level next = inr (few, inr (none, inr (none-ambiguous (λ x y. (tree_cell r x y, next x y)), inr (none-left r level next, refl))))

@@ -18,7 +18,8 @@ use Rattle.life_sweep.specs.Sweep.{SameImages, TableAnswers, named}
 pub images_back : (symmetry : Symmetry) (v w : List ℕ) → SameImages symmetry v w → SameImages symmetry w v
 images_back symmetry v w h image = let k = h image in (k.1, k.0)
 
-gives : (symmetry : Symmetry) (vars : List Var) (centre : ℕ) (v w : List ℕ) → SameImages symmetry v w → (line : Transition) (s : ℕ) → Gives symmetry vars line centre v s → Gives symmetry vars line centre w s
+gives : (symmetry : Symmetry) (vars : List Var) (centre : ℕ) (v w : List ℕ) → SameImages symmetry v w → (line : Transition) (s : ℕ)
+    → Gives symmetry vars line centre v s → Gives symmetry vars line centre w s
 gives symmetry vars centre v w same line s g = record {
   image = g.image;
   is_image = (same g.image).0 g.is_image;
@@ -66,24 +67,32 @@ moved_images v w moved image = (
 )
 
 -- a table that answers by the same centre and images answers the same
-pub same_answers : (table : Table) (v w : List ℕ) → slice_index w 0 ≡ slice_index v 0 → SameImages table.symmetry (named table.neighborhood v) (named table.neighborhood w) → (answer : Answer) → TableAnswers table w answer ↔ TableAnswers table v answer
+pub same_answers : (table : Table) (v w : List ℕ) → slice_index w 0 ≡ slice_index v 0
+    → SameImages table.symmetry (named table.neighborhood v) (named table.neighborhood w) → (answer : Answer) → TableAnswers table w answer
+    ↔ TableAnswers table v answer
 same_answers table v w centre same answer = (
   λ h. subst (λ c. Decides table.symmetry table.vars c (named table.neighborhood v) table.lines answer) centre
-      (decides table.symmetry table.vars (slice_index w 0) (named table.neighborhood w) (named table.neighborhood v) (images_back table.symmetry (named table.neighborhood v) (named table.neighborhood w) same) table.lines answer h),
+      (decides table.symmetry table.vars (slice_index w 0) (named table.neighborhood w) (named table.neighborhood v)
+      (images_back table.symmetry (named table.neighborhood v) (named table.neighborhood w) same) table.lines answer h),
   λ h. subst (λ c. Decides table.symmetry table.vars c (named table.neighborhood w) table.lines answer) (sym centre)
       (decides table.symmetry table.vars (slice_index v 0) (named table.neighborhood v) (named table.neighborhood w) same table.lines answer h),
 )
 
-same_fixed : (table : Table) (v w : List ℕ) (n : Neighborhood) → table.neighborhood ≡ n → SameImages table.symmetry (named n v) (named n w) → SameImages table.symmetry (named table.neighborhood v) (named table.neighborhood w)
+same_fixed : (table : Table) (v w : List ℕ) (n : Neighborhood) → table.neighborhood ≡ n → SameImages table.symmetry (named n v) (named n w)
+    → SameImages table.symmetry (named table.neighborhood v) (named table.neighborhood w)
 same_fixed table v w n is h = subst (λ m. SameImages table.symmetry (named m v) (named m w)) (sym is) h
 
-pub same_named : (table : Table) (v w : List ℕ) (n : Neighborhood) → table.neighborhood ≡ n → slice_index w 0 ≡ slice_index v 0 → named n w ≡ named n v → (answer : Answer) → TableAnswers table w answer ↔ TableAnswers table v answer
+pub same_named : (table : Table) (v w : List ℕ) (n : Neighborhood) → table.neighborhood ≡ n → slice_index w 0 ≡ slice_index v 0 → named n w ≡ named n v
+    → (answer : Answer) → TableAnswers table w answer ↔ TableAnswers table v answer
 same_named table v w n is centre same answer =
-    same_answers table v w centre (same_fixed table v w n is (subst (λ ns. SameImages table.symmetry (named n v) ns) (sym same) (λ image. (λ h. h, λ h. h)))) answer
+    same_answers table v w centre (same_fixed table v w n is (subst (λ ns. SameImages table.symmetry (named n v) ns) (sym same) (λ image. (λ h. h, λ h. h))))
+    answer
 
-pub same_moved : (table : Table) (v w : List ℕ) → table.neighborhood ≡ Moore → table.symmetry ≡ Permute → slice_index w 0 ≡ slice_index v 0 → IsPermutation (drop 1 v) (drop 1 w) → (answer : Answer) → TableAnswers table w answer ↔ TableAnswers table v answer
+pub same_moved : (table : Table) (v w : List ℕ) → table.neighborhood ≡ Moore → table.symmetry ≡ Permute → slice_index w 0 ≡ slice_index v 0
+    → IsPermutation (drop 1 v) (drop 1 w) → (answer : Answer) → TableAnswers table w answer ↔ TableAnswers table v answer
 same_moved table v w is order centre moved answer =
-    same_answers table v w centre (same_fixed table v w Moore is (subst (λ y. SameImages y (drop 1 v) (drop 1 w)) (sym order) (moved_images (drop 1 v) (drop 1 w) moved))) answer
+    same_answers table v w centre (same_fixed table v w Moore is
+    (subst (λ y. SameImages y (drop 1 v) (drop 1 w)) (sym order) (moved_images (drop 1 v) (drop 1 w) moved))) answer
 
 -- eight neighbours in another order, one by one
 pub moved_eight : (v w : List ℕ) → length v ≡ 9 → length w ≡ 8
@@ -94,7 +103,8 @@ moved_eight v (s ∷ t ∷ u ∷ x ∷ y ∷ k ∷ m ∷ n ∷ []) lv lw moved =
 moved_eight v w lv lw moved = absurd (omega (arith, lw))
 
 -- what holds of a cell and its neighbours holds of them in another order
-pub moved_all : (n : ℕ) (v w : List ℕ) → length v ≡ 9 → length w ≡ 9 → slice_index w 0 ≡ slice_index v 0 → IsPermutation (drop 1 v) (drop 1 w) → All (λ s. s < n) v → All (λ s. s < n) w
+pub moved_all : (n : ℕ) (v w : List ℕ) → length v ≡ 9 → length w ≡ 9 → slice_index w 0 ≡ slice_index v 0 → IsPermutation (drop 1 v) (drop 1 w)
+    → All (λ s. s < n) v → All (λ s. s < n) w
 moved_all n (c ∷ v) (d ∷ w) lv lw centre moved all =
     All-cons (λ s. s < n) d w (let first = all 0 0 (omega (arith, lv)) in omega (arith, centre, first))
     (All-permutation (λ s. s < n) v w moved (All-tail (λ s. s < n) c v all))
@@ -134,9 +144,11 @@ first_last x xs image = (
 pub quarter : (v : List ℕ) → length v ≡ 9
     → SameImages Rotate4 (drop 1 v) (get_or v 3 0 ∷ get_or v 4 0 ∷ get_or v 5 0 ∷ get_or v 6 0 ∷ get_or v 7 0 ∷ get_or v 8 0 ∷ get_or v 1 0 ∷ get_or v 2 0 ∷ [])
 quarter (z ∷ a ∷ b ∷ c ∷ d ∷ e ∷ f ∷ g ∷ h ∷ []) len image =
-    first_last (a ∷ b ∷ c ∷ d ∷ e ∷ f ∷ g ∷ h ∷ []) ((c ∷ d ∷ e ∷ f ∷ g ∷ h ∷ a ∷ b ∷ []) ∷ (e ∷ f ∷ g ∷ h ∷ a ∷ b ∷ c ∷ d ∷ []) ∷ (g ∷ h ∷ a ∷ b ∷ c ∷ d ∷ e ∷ f ∷ []) ∷ []) image
+    first_last (a ∷ b ∷ c ∷ d ∷ e ∷ f ∷ g ∷ h ∷ [])
+    ((c ∷ d ∷ e ∷ f ∷ g ∷ h ∷ a ∷ b ∷ []) ∷ (e ∷ f ∷ g ∷ h ∷ a ∷ b ∷ c ∷ d ∷ []) ∷ (g ∷ h ∷ a ∷ b ∷ c ∷ d ∷ e ∷ f ∷ []) ∷ []) image
 quarter v len image = absurd (omega (arith, len))
 
-pub same_turned : (table : Table) (v w : List ℕ) → table.neighborhood ≡ Moore → table.symmetry ≡ Rotate4 → slice_index w 0 ≡ slice_index v 0 → SameImages Rotate4 (drop 1 v) (drop 1 w) → (answer : Answer) → TableAnswers table w answer ↔ TableAnswers table v answer
+pub same_turned : (table : Table) (v w : List ℕ) → table.neighborhood ≡ Moore → table.symmetry ≡ Rotate4 → slice_index w 0 ≡ slice_index v 0
+    → SameImages Rotate4 (drop 1 v) (drop 1 w) → (answer : Answer) → TableAnswers table w answer ↔ TableAnswers table v answer
 same_turned table v w is turns centre same answer =
     same_answers table v w centre (same_fixed table v w Moore is (subst (λ y. SameImages y (drop 1 v) (drop 1 w)) (sym turns) same)) answer

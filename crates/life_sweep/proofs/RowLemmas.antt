@@ -56,7 +56,8 @@ AreRows-later cells y x m rows le s h = record {
 pub column-is : (n h s n' h' s' : ℕ) → n ≡ n' → h ≡ h' → s ≡ s' → column n h s ≡ column n' h' s'
 column-is n h s n' h' s' en eh es = cc
 
-pub AreRows-gap : (cells : ℤ → ℤ → ℕ) (y x m : ℤ) (rows : Rows) → InRows (StartsFrom m) rows → AreRows cells y x rows → (c : ℤ) → x ≤ℤ c → c <ℤ m → column_at cells y c ≡ no_column
+pub AreRows-gap : (cells : ℤ → ℤ → ℕ) (y x m : ℤ) (rows : Rows) → InRows (StartsFrom m) rows → AreRows cells y x rows → (c : ℤ) → x ≤ℤ c → c <ℤ m
+    → column_at cells y c ≡ no_column
 AreRows-gap cells y x m rows s h c l u =
     let n = IsRest-gap _ x m _ s.north h.north c l u in
     let e = IsRest-gap _ x m _ s.here h.here c l u in

@@ -19,7 +19,8 @@ far-states cells x y far =
     let north = λ (c : Column). c.north in
     let here = λ (c : Column). c.here in
     let south = λ (c : Column). c.south in
-    list-nine _ _ _ _ _ _ _ _ _ (ap here far.1) (ap north far.1) (ap north far.2) (ap here far.2) (ap south far.2) (ap south far.1) (ap south far.0) (ap here far.0) (ap north far.0)
+    list-nine _ _ _ _ _ _ _ _ _ (ap here far.1) (ap north far.1) (ap north far.2) (ap here far.2) (ap south far.2) (ap south far.1) (ap south far.0)
+    (ap here far.0) (ap north far.0)
 
 far-in-row : (cells : ℤ → ℤ → ℕ) (y : ℤ) → IsFarRow cells y → (x : ℤ) → IsFar cells y x
 far-in-row cells y h x = (h (before x), h x, h (after x))
@@ -44,7 +45,8 @@ module _ (A : List ℕ → Answer → Type 0) (cells : ℤ → ℤ → ℕ) wher
   far-done drawn leaves x y quiet far e = record { next = 0; answer = subst (λ v. A v (Becomes 0)) (sym (far-states cells x y far)) quiet; kept = λ k. e }
 
   -- from the rows before y to the first place of the row
-  pub into-row : (drawn : ℤ → ℤ → ℕ) (leaves : Bool) (x y : ℤ) → A zeros (Becomes 0) → IsBlankBefore cells → after x <ℤ first_coordinate → IsSweptRows A cells drawn leaves y → IsSwept A cells drawn leaves (after x) y
+  pub into-row : (drawn : ℤ → ℤ → ℕ) (leaves : Bool) (x y : ℤ) → A zeros (Becomes 0) → IsBlankBefore cells → after x <ℤ first_coordinate
+      → IsSweptRows A cells drawn leaves y → IsSwept A cells drawn leaves (after x) y
   into-row drawn leaves x y quiet blank l s = record {
     done = λ c r p. elim p [
       | inl m ↦ s.done c r m
@@ -61,7 +63,8 @@ module _ (A : List ℕ → Answer → Type 0) (cells : ℤ → ℤ → ℕ) wher
     done = λ c r p. elim p [
       | inl m ↦ s.done c r (inl m)
       | inr m ↦ elim (less-or-not x c) [
-        | inl b ↦ subst (λ k. IsDrawnAt A cells drawn leaves c k) (sym m.0) (far-done drawn leaves c y quiet (far c b m.1) (s.clear c y (inr (refl, omega (arith, ints, b)))))
+        | inl b ↦ subst (λ k. IsDrawnAt A cells drawn leaves c k) (sym m.0)
+            (far-done drawn leaves c y quiet (far c b m.1) (s.clear c y (inr (refl, omega (arith, ints, b)))))
         | inr b ↦ s.done c r (inr (m.0, omega (arith, ints, b)))
       ]
     ];
@@ -76,7 +79,8 @@ module _ (A : List ℕ → Answer → Type 0) (cells : ℤ → ℤ → ℕ) wher
     done = λ c r p. elim (less-or-not r y) [
       | inl m ↦ s.done c r (inl m)
       | inr m ↦ elim (less-or-not x c) [
-        | inl b ↦ subst (λ k. IsDrawnAt A cells drawn leaves c k) (omega (arith, ints, p, m)) (far-done drawn leaves c y quiet (far c b) (s.clear c y (inr (refl, omega (arith, ints, b)))))
+        | inl b ↦ subst (λ k. IsDrawnAt A cells drawn leaves c k) (omega (arith, ints, p, m))
+            (far-done drawn leaves c y quiet (far c b) (s.clear c y (inr (refl, omega (arith, ints, b)))))
         | inr b ↦ s.done c r (inr (omega (arith, ints, p, m), omega (arith, ints, b)))
       ]
     ];
@@ -155,11 +159,14 @@ nothing-drawn runs none x y = ap (λ (l : List GivenRun). state_by l x y) none
 pub window-states : (cells : ℤ → ℤ → ℕ) (y : ℤ) (z : Window) → IsWindow cells y z → states_of z ≡ states_at cells z.x y
 window-states cells y z h = cc-states h.west h.middle h.east
   where
-    cc-states : z.west ≡ column_at cells y (before z.x) → z.middle ≡ column_at cells y z.x → z.east ≡ column_at cells y (after z.x) → states_of z ≡ states_at cells z.x y
+    cc-states : z.west ≡ column_at cells y (before z.x) → z.middle ≡ column_at cells y z.x → z.east ≡ column_at cells y (after z.x)
+        → states_of z ≡ states_at cells z.x y
     cc-states ew em ee =
         ap (λ (c : Column). c.here ∷ c.north ∷ z.east.north ∷ z.east.here ∷ z.east.south ∷ c.south ∷ z.west.south ∷ z.west.here ∷ z.west.north ∷ []) em
-        ∙ ap (λ (c : Column). cells z.x y ∷ cells z.x (before y) ∷ c.north ∷ c.here ∷ c.south ∷ cells z.x (after y) ∷ z.west.south ∷ z.west.here ∷ z.west.north ∷ []) ee
-        ∙ ap (λ (c : Column). cells z.x y ∷ cells z.x (before y) ∷ cells (after z.x) (before y) ∷ cells (after z.x) y ∷ cells (after z.x) (after y) ∷ cells z.x (after y) ∷ c.south ∷ c.here ∷ c.north ∷ []) ew
+        ∙ ap (λ (c : Column). cells z.x y ∷ cells z.x (before y) ∷ c.north ∷ c.here ∷ c.south ∷ cells z.x (after y) ∷ z.west.south ∷ z.west.here ∷ z.west.north
+        ∷ []) ee
+        ∙ ap (λ (c : Column). cells z.x y ∷ cells z.x (before y) ∷ cells (after z.x) (before y) ∷ cells (after z.x) y ∷ cells (after z.x) (after y)
+        ∷ cells z.x (after y) ∷ c.south ∷ c.here ∷ c.north ∷ []) ew
 
 -- from a step of a window to the next place, and then at that place
 pub step-in-row : (A : List ℕ → Answer → Type 0) (cells old new : ℤ → ℤ → ℕ) (leaves all : Bool) (y : ℤ) (w z : Window) → A zeros (Becomes 0)
@@ -168,7 +175,8 @@ pub step-in-row : (A : List ℕ → Answer → Type 0) (cells old new : ℤ → 
 step-in-row A cells old new leaves all y w z quiet on s put others =
     let passed = pass-places A cells old leaves w.x z.x y quiet on.east on.passed s in
     let same = window-states cells y z on.here in
-    put-place A cells old new leaves all z.x y passed (subst (λ v. IsPut A v new leaves all z.x y) same (put (passed.clear z.x y (inr (refl, omega (arith, ints)))))) others
+    put-place A cells old new leaves all z.x y passed
+    (subst (λ v. IsPut A v new leaves all z.x y) same (put (passed.clear z.x y (inr (refl, omega (arith, ints)))))) others
 
 -- a window stopped at an ambiguous place
 pub ambiguous-here : (A : List ℕ → Answer → Type 0) (cells drawn : ℤ → ℤ → ℕ) (leaves : Bool) (y : ℤ) (w z : Window) (line : ℕ) → A zeros (Becomes 0)
@@ -183,7 +191,8 @@ ambiguous-here A cells drawn leaves y w z line quiet on s h =
     }
 
 -- before the first row nothing is drawn
-pub start-rows : (A : List ℕ → Answer → Type 0) (cells drawn : ℤ → ℤ → ℕ) (y : ℤ) → A zeros (Becomes 0) → IsBlankBefore cells → after y <ℤ first_coordinate → ((x r : ℤ) → drawn x r ≡ 0) → IsSweptRows A cells drawn false (after y)
+pub start-rows : (A : List ℕ → Answer → Type 0) (cells drawn : ℤ → ℤ → ℕ) (y : ℤ) → A zeros (Becomes 0) → IsBlankBefore cells → after y <ℤ first_coordinate
+    → ((x r : ℤ) → drawn x r ≡ 0) → IsSweptRows A cells drawn false (after y)
 start-rows A cells drawn y quiet blank l none = record {
   done = λ c r p. far-done A cells drawn false c r quiet (far-in-row cells r (north r (omega (arith, ints, p, l))) c) (none c r);
   clear = λ c r p. none c r;
@@ -191,7 +200,8 @@ start-rows A cells drawn y quiet blank l none = record {
 }
   where
     north : (r : ℤ) → after r <ℤ first_coordinate → IsFarRow cells r
-    north r l x = column-is _ _ _ 0 0 0 (blank.north x (before r) (omega (arith, ints, l))) (blank.north x r (omega (arith, ints, l))) (blank.north x (after r) l)
+    north r l x = column-is _ _ _ 0 0 0 (blank.north x (before r) (omega (arith, ints, l))) (blank.north x r (omega (arith, ints, l)))
+        (blank.north x (after r) l)
 
 -- behind the last row all is drawn
 pub all-rows : (A : List ℕ → Answer → Type 0) (cells drawn : ℤ → ℤ → ℕ) (leaves : Bool) (y : ℤ) → A zeros (Becomes 0) → ((r : ℤ) → y <ℤ r → IsFarRow cells r)

@@ -10,7 +10,8 @@ use Rattle.life_sweep.specs.declared.window.Window.{Window}
 use Rattle.life_sweep.proofs.RowLemmas.{AreRows-later, AreRows-gap, AreRows-none, AreRows-first, blank-is, less-or-not}
 
 -- between the middle column and the first cell that is left there is none
-blank-between : (cells : ℤ → ℤ → ℕ) (y m : ℤ) (w : Window) → IsWindow cells y w → is_blank_column w.middle ≡ true → is_blank_column w.east ≡ true → InRows (StartsFrom m) w.rows → (c : ℤ) → w.x ≤ℤ c → c <ℤ m → column_at cells y c ≡ no_column
+blank-between : (cells : ℤ → ℤ → ℕ) (y m : ℤ) (w : Window) → IsWindow cells y w → is_blank_column w.middle ≡ true → is_blank_column w.east ≡ true
+    → InRows (StartsFrom m) w.rows → (c : ℤ) → w.x ≤ℤ c → c <ℤ m → column_at cells y c ≡ no_column
 blank-between cells y m w h bm be s c l u = by split
   where
     split : (c ≡ w.x) ⊎ ((c ≡ after w.x) ⊎ ((w.x +ℤ pos 2) ≤ℤ c))
@@ -61,7 +62,11 @@ goes-on cells y x w east rows h (inr p) e r = record {
     east = e;
     rows = subst (λ z. AreRows cells y z rows) (omega (arith, ints)) r;
   };
-  passed = λ c l u. (blank (before c) (omega (arith, ints, l)) (omega (arith, ints, u)), blank c (omega (arith, ints, l)) (omega (arith, ints, u)), blank (after c) (omega (arith, ints, l)) (omega (arith, ints, u)));
+  passed = λ c l u. (
+    blank (before c) (omega (arith, ints, l)) (omega (arith, ints, u)),
+    blank c (omega (arith, ints, l)) (omega (arith, ints, u)),
+    blank (after c) (omega (arith, ints, l)) (omega (arith, ints, u)),
+  );
 }
   where
     first : (w.x +ℤ pos 2) ≤ℤ after x
@@ -106,8 +111,10 @@ count false false false old new b (inl e) = absurd (true≢false (sym e.1))
 pub fewer-steps : (x : ℤ) (w : Window) (east : Column) (rows : Rows) → IsNextPlace w x
     → ((left_in rows ≡ left_in w.rows) × (is_blank_column east ≡ true)) ⊎ (left_in rows < left_in w.rows)
     → (SomeStartsAt (after x) w.rows → left_in rows < left_in w.rows) → steps_left (at x east rows w) < steps_left w
-fewer-steps x w east rows (inl p) f taken = count (is_blank_column w.middle) (is_blank_column w.east) (is_blank_column east) (left_in w.rows) (left_in rows) p.1 f
-fewer-steps x w east rows (inr p) f taken = count-taken (is_blank_column w.middle) (is_blank_column w.east) (is_blank_column east) (left_in w.rows) (left_in rows) (taken p.3)
+fewer-steps x w east rows (inl p) f taken = count (is_blank_column w.middle) (is_blank_column w.east) (is_blank_column east) (left_in w.rows) (left_in rows) p.1
+    f
+fewer-steps x w east rows (inr p) f taken = count-taken (is_blank_column w.middle) (is_blank_column w.east) (is_blank_column east) (left_in w.rows)
+    (left_in rows) (taken p.3)
 
 pub middle-end : (x : ℤ) (w : Window) → IsNextPlace w x → (is_blank_column w.east ≡ true) ⊎ (after w.x <ℤ far) → (is_blank_column w.east ≡ true) ⊎ (x <ℤ far)
 middle-end x w p (inl b) = inl b

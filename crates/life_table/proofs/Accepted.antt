@@ -35,7 +35,8 @@ record Whole (name : Option (List ℕ)) (on : Option ℕ) (oh : Option Neighborh
   is_y : oy ≡ Some y
 
 whole_of : (name : Option (List ℕ)) (a : Bool) (on : Option ℕ) (oh : Option Neighborhood) (oy : Option Symmetry)
-    → (if is_none name then Some NoRuleLine else (if a then Some NoTable else (if is_some on && is_some oh && is_some oy then None else Some BadDescriptor))) ≡ None → Whole name on oh oy
+    → (if is_none name then Some NoRuleLine else (if a then Some NoTable else (if is_some on && is_some oh && is_some oy then None else Some BadDescriptor)))
+    ≡ None → Whole name on oh oy
 whole_of None a on oh oy e = absurd (let z : ⊥ = cc in z)
 whole_of (Some title) true on oh oy e = absurd (let z : ⊥ = cc in z)
 whole_of (Some title) false None oh oy e = absurd (let z : ⊥ = cc in z)
@@ -46,7 +47,15 @@ whole_of (Some title) false (Some n) (Some h) (Some y) e = record { title = titl
 described_by : (parsed : Parsed) → IsGood parsed → lacking parsed ≡ None → (table : Table) × Describes parsed table
 described_by parsed g e =
     let w = whole_of parsed.name (is_ahead parsed.section) parsed.n_states parsed.neighborhood parsed.symmetry e in (
-      record { name = w.title; n_states = w.n; neighborhood = w.h; symmetry = w.y; vars = parsed.vars; lines = parsed.lines; sound = sound_of parsed g w.n w.h w.y w.is_n w.is_h w.is_y },
+      record {
+        name = w.title;
+        n_states = w.n;
+        neighborhood = w.h;
+        symmetry = w.y;
+        vars = parsed.vars;
+        lines = parsed.lines;
+        sound = sound_of parsed g w.n w.h w.y w.is_n w.is_h w.is_y;
+      },
       record { name = w.is_title; n_states = w.is_n; neighborhood = w.is_h; symmetry = w.is_y; vars = refl; lines = refl },
     )
 
@@ -62,7 +71,8 @@ accepted lines = (
 -- a transition has the number of its line
 parts_number : (k number : ℕ) (es : List Entry) (t : Transition) → transition_from k number es ≡ Some t → t.line ≡ number
 parts_number k number es t h =
-    let q = tested (length es == k + 2) (option_map (λ (output : Entry). record { line = number; inputs = take (k + 1) es; output = output }) (slice_get es (k + 1))) t h in
+    let q = tested (length es == k + 2)
+    (option_map (λ (output : Entry). record { line = number; inputs = take (k + 1) es; output = output }) (slice_get es (k + 1))) t h in
     let m = mapped (λ (output : Entry). record { line = number; inputs = take (k + 1) es; output = output }) (slice_get es (k + 1)) t q.1 in
     ap (λ (u : Transition). u.line) m.2
 
@@ -80,14 +90,16 @@ numbers_step : (n k : ℕ) (vars : List Var) (b : Bool) (x : Numbered) (ts : Lis
     → numbers_of (transitions_written n k vars ts) ≡ directive_numbers ts → numbers_of (transitions_written n k vars (x ∷ ts)) ≡ directive_numbers (x ∷ ts)
 numbers_step n k vars false x ts e r ih =
     ap (λ (b : Bool). numbers_of (cons_option (if b then transition_of n k vars x.0 x.1 else None) (transitions_written n k vars ts))) e ∙ ih
-    ∙ sym (ap (λ (b : Bool). map (λ (text : Numbered). text.0) (if b then x ∷ filter (λ (text : Numbered). is_transition_line text.1) ts else filter (λ (text : Numbered). is_transition_line text.1) ts)) e)
+    ∙ sym (ap (λ (b : Bool). map (λ (text : Numbered). text.0)
+    (if b then x ∷ filter (λ (text : Numbered). is_transition_line text.1) ts else filter (λ (text : Numbered). is_transition_line text.1) ts)) e)
 numbers_step n k vars true x ts e r ih =
     let t = r e in
     ap (λ (b : Bool). numbers_of (cons_option (if b then transition_of n k vars x.0 x.1 else None) (transitions_written n k vars ts))) e
     ∙ ap (λ (o : Option Transition). numbers_of (cons_option o (transitions_written n k vars ts))) t.1
     ∙ ap (λ (m : ℕ). m ∷ numbers_of (transitions_written n k vars ts)) (line_number n k vars x.0 x.1 t.0 t.1)
     ∙ ap (λ (ms : List ℕ). x.0 ∷ ms) ih
-    ∙ sym (ap (λ (b : Bool). map (λ (text : Numbered). text.0) (if b then x ∷ filter (λ (text : Numbered). is_transition_line text.1) ts else filter (λ (text : Numbered). is_transition_line text.1) ts)) e)
+    ∙ sym (ap (λ (b : Bool). map (λ (text : Numbered). text.0)
+    (if b then x ∷ filter (λ (text : Numbered). is_transition_line text.1) ts else filter (λ (text : Numbered). is_transition_line text.1) ts)) e)
 
 numbers_are : (n k : ℕ) (vars : List Var) (ts : List Numbered) → All (IsRead n k vars) ts → numbers_of (transitions_written n k vars ts) ≡ directive_numbers ts
 numbers_are n k vars [] h = refl
@@ -96,21 +108,26 @@ numbers_are n k vars (x ∷ ts) h =
 
 -- the lines of transitions, read one by one
 lines_step : (n k : ℕ) (vars : List Var) (b : Bool) (x : Numbered) (ts : List Numbered) → is_transition_line x.1 ≡ b → IsRead n k vars x
-    → map Some (transitions_written n k vars ts) ≡ map (λ (text : Numbered). transition_of n k vars text.0 text.1) (filter (λ (text : Numbered). is_transition_line text.1) ts)
-    → map Some (transitions_written n k vars (x ∷ ts)) ≡ map (λ (text : Numbered). transition_of n k vars text.0 text.1) (filter (λ (text : Numbered). is_transition_line text.1) (x ∷ ts))
+    → map Some (transitions_written n k vars ts) ≡ map (λ (text : Numbered). transition_of n k vars text.0 text.1)
+    (filter (λ (text : Numbered). is_transition_line text.1) ts)
+    → map Some (transitions_written n k vars (x ∷ ts)) ≡ map (λ (text : Numbered). transition_of n k vars text.0 text.1)
+    (filter (λ (text : Numbered). is_transition_line text.1) (x ∷ ts))
 lines_step n k vars false x ts e r ih =
     ap (λ (b : Bool). map Some (cons_option (if b then transition_of n k vars x.0 x.1 else None) (transitions_written n k vars ts))) e ∙ ih
-    ∙ sym (ap (λ (b : Bool). map (λ (text : Numbered). transition_of n k vars text.0 text.1) (if b then x ∷ filter (λ (text : Numbered). is_transition_line text.1) ts else filter (λ (text : Numbered). is_transition_line text.1) ts)) e)
+    ∙ sym (ap (λ (b : Bool). map (λ (text : Numbered). transition_of n k vars text.0 text.1)
+    (if b then x ∷ filter (λ (text : Numbered). is_transition_line text.1) ts else filter (λ (text : Numbered). is_transition_line text.1) ts)) e)
 lines_step n k vars true x ts e r ih =
     let t = r e in
     ap (λ (b : Bool). map Some (cons_option (if b then transition_of n k vars x.0 x.1 else None) (transitions_written n k vars ts))) e
     ∙ ap (λ (o : Option Transition). map Some (cons_option o (transitions_written n k vars ts))) t.1
     ∙ ap (λ (o : Option Transition). o ∷ map Some (transitions_written n k vars ts)) (sym t.1)
     ∙ ap (λ (os : List (Option Transition)). transition_of n k vars x.0 x.1 ∷ os) ih
-    ∙ sym (ap (λ (b : Bool). map (λ (text : Numbered). transition_of n k vars text.0 text.1) (if b then x ∷ filter (λ (text : Numbered). is_transition_line text.1) ts else filter (λ (text : Numbered). is_transition_line text.1) ts)) e)
+    ∙ sym (ap (λ (b : Bool). map (λ (text : Numbered). transition_of n k vars text.0 text.1)
+    (if b then x ∷ filter (λ (text : Numbered). is_transition_line text.1) ts else filter (λ (text : Numbered). is_transition_line text.1) ts)) e)
 
 lines_read : (n k : ℕ) (vars : List Var) (ts : List Numbered) → All (IsRead n k vars) ts
-    → map Some (transitions_written n k vars ts) ≡ map (λ (text : Numbered). transition_of n k vars text.0 text.1) (filter (λ (text : Numbered). is_transition_line text.1) ts)
+    → map Some (transitions_written n k vars ts) ≡ map (λ (text : Numbered). transition_of n k vars text.0 text.1)
+    (filter (λ (text : Numbered). is_transition_line text.1) ts)
 lines_read n k vars [] h = refl
 lines_read n k vars (x ∷ ts) h =
     lines_step n k vars (is_transition_line x.1) x ts refl (All-head (IsRead n k vars) x ts h) (lines_read n k vars ts (All-tail (IsRead n k vars) x ts h))
@@ -125,7 +142,8 @@ has_setting table on oh oy text n h y (inl s) = inl (s.0, s.2 ∙ same_some on s
 has_setting table on oh oy text n h y (inr (inl s)) = inr (inl (s.0, s.2 ∙ same_some oh s.1 table.neighborhood s.3 h))
 has_setting table on oh oy text n h y (inr (inr s)) = inr (inr (s.0, s.2 ∙ same_some oy s.1 table.symmetry s.3 y))
 
-have_settings : (table : Table) (on : Option ℕ) (oh : Option Neighborhood) (oy : Option Symmetry) → on ≡ Some table.n_states → oh ≡ Some table.neighborhood → oy ≡ Some table.symmetry
+have_settings : (table : Table) (on : Option ℕ) (oh : Option Neighborhood) (oy : Option Symmetry) → on ≡ Some table.n_states → oh ≡ Some table.neighborhood
+    → oy ≡ Some table.symmetry
     → (ts : List Numbered) → AreSettled on oh oy ts → All (λ (text : Numbered). is_descriptor text.1 ≡ true → HasSetting table text.1) ts
 have_settings table on oh oy n h y [] a = All-nil (λ (text : Numbered). is_descriptor text.1 ≡ true → HasSetting table text.1)
 have_settings table on oh oy n h y (t ∷ ts) a =
@@ -133,7 +151,8 @@ have_settings table on oh oy n h y (t ∷ ts) a =
     (λ d. has_setting table on oh oy t.1 n h y (All-head (λ (u : Numbered). is_descriptor u.1 ≡ true → Settled on oh oy u.1) t ts a d))
     (have_settings table on oh oy n h y ts (All-tail (λ (u : Numbered). is_descriptor u.1 ≡ true → Settled on oh oy u.1) t ts a))
 
-module _ (table : Table) (ts : List Numbered) (en : states_of (texts_of ts) ≡ Some table.n_states) (eh : neighborhood_of (texts_of ts) ≡ Some table.neighborhood)
+module _ (table : Table) (ts : List Numbered) (en : states_of (texts_of ts) ≡ Some table.n_states)
+    (eh : neighborhood_of (texts_of ts) ≡ Some table.neighborhood)
     (ey : symmetry_of (texts_of ts) ≡ Some table.symmetry) where
   abbrev V : List Var
   V = variables_written table.n_states (texts_of ts)
@@ -149,7 +168,8 @@ module _ (table : Table) (ts : List Numbered) (en : states_of (texts_of ts) ≡ 
       ∙ ap (λ (vs : List Var). transitions_written table.n_states (neighbour_count table.neighborhood) vs ts) vars_are
 
   has_all : TextsStand ts → variables_in (states_of (texts_of ts)) (texts_of ts) ≡ table.vars
-      → transitions_in (states_of (texts_of ts)) (neighborhood_of (texts_of ts)) (variables_in (states_of (texts_of ts)) (texts_of ts)) ts ≡ table.lines → HasAll ts table
+      → transitions_in (states_of (texts_of ts)) (neighborhood_of (texts_of ts)) (variables_in (states_of (texts_of ts)) (texts_of ts)) ts ≡ table.lines
+      → HasAll ts table
   has_all stand vs ls =
       let k : ℕ = neighbour_count table.neighborhood in
       let read = stand.read table.n_states table.neighborhood en eh in
@@ -159,10 +179,12 @@ module _ (table : Table) (ts : List Numbered) (en : states_of (texts_of ts) ≡ 
         settings = have_settings table (states_of (texts_of ts)) (neighborhood_of (texts_of ts)) (symmetry_of (texts_of ts)) en eh ey ts stand.settled;
         variables = subst (λ (vars : List Var). AreVariables table.n_states vars ts) same (stand.variables table.n_states en);
         transitions = ap (map Some) (sym written) ∙ lines_read table.n_states (neighbour_count table.neighborhood) V ts read
-            ∙ ap (λ (vars : List Var). map (λ (text : Numbered). transition_of table.n_states (neighbour_count table.neighborhood) vars text.0 text.1) (filter (λ (text : Numbered). is_transition_line text.1) ts)) same;
+            ∙ ap (λ (vars : List Var). map (λ (text : Numbered). transition_of table.n_states (neighbour_count table.neighborhood) vars text.0 text.1)
+            (filter (λ (text : Numbered). is_transition_line text.1) ts)) same;
         numbers = ap numbers_of (sym written) ∙ numbers_are table.n_states (neighbour_count table.neighborhood) V ts read;
       }
 
 pub nothing_dropped : NothingDropped
 nothing_dropped lines table are =
-    has_all table (table_texts (numbered_from 1 lines)) are.says.n_states are.says.neighborhood are.says.symmetry (reach lines are.file.unbroken).stands.texts are.says.vars are.says.lines
+    has_all table (table_texts (numbered_from 1 lines)) are.says.n_states are.says.neighborhood are.says.symmetry (reach lines are.file.unbroken).stands.texts
+    are.says.vars are.says.lines

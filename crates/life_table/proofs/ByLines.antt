@@ -36,7 +36,8 @@ pub record IsStaged (parsed : Parsed) : Type 0 where
   pub described : parsed.section ≡ Behind → is_described parsed ≡ true
   pub unnamed : parsed.name ≡ None → parsed.section ≡ Ahead
 
-staged_open : (parsed : Parsed) (next : Parsed) → IsStaged parsed → parsed.section ≡ Open → next.section ≡ parsed.section → next.name ≡ parsed.name → IsStaged next
+staged_open : (parsed : Parsed) (next : Parsed) → IsStaged parsed → parsed.section ≡ Open → next.section ≡ parsed.section → next.name ≡ parsed.name
+    → IsStaged next
 staged_open parsed next g s e n = record {
   states_ahead = λ is. absurd (let z : Open ≡ Ahead = sym (e ∙ s) ∙ is in let w : ⊥ = cc in w);
   neighbors_ahead = λ is. absurd (let z : Open ≡ Ahead = sym (e ∙ s) ∙ is in let w : ⊥ = cc in w);
@@ -45,14 +46,21 @@ staged_open parsed next g s e n = record {
   unnamed = λ is. e ∙ g.unnamed (sym n ∙ is);
 }
 
-staged_says : (parsed : Parsed) (number : ℕ) (text : List ℕ) (directive : Directive) → IsStaged parsed → parsed.section ≡ Open → Says parsed number text directive → IsStaged (after parsed directive)
-staged_says parsed number text directive g s (states d k none n e is) = subst (λ (t : Directive). IsStaged (after parsed t)) (sym is) (staged_open parsed (after parsed (States n)) g s refl refl)
-staged_says parsed number text directive g s (neighbors d l k none h e a is) = subst (λ (t : Directive). IsStaged (after parsed t)) (sym is) (staged_open parsed (after parsed (Neighbors h)) g s refl refl)
-staged_says parsed number text directive g s (orders d l m k none y e a is) = subst (λ (t : Directive). IsStaged (after parsed t)) (sym is) (staged_open parsed (after parsed (Orders y)) g s refl refl)
-staged_says parsed number text directive g s (variable d n h y en eh ey v var e is) = subst (λ (t : Directive). IsStaged (after parsed t)) (sym is) (staged_open parsed (after parsed (Variable var)) g s refl refl)
-staged_says parsed number text directive g s (transition d n h y en eh ey v t e b q is) = subst (λ (t : Directive). IsStaged (after parsed t)) (sym is) (staged_open parsed (after parsed (Line t)) g s refl refl)
+staged_says : (parsed : Parsed) (number : ℕ) (text : List ℕ) (directive : Directive) → IsStaged parsed → parsed.section ≡ Open
+    → Says parsed number text directive → IsStaged (after parsed directive)
+staged_says parsed number text directive g s (states d k none n e is) = subst (λ (t : Directive). IsStaged (after parsed t)) (sym is)
+    (staged_open parsed (after parsed (States n)) g s refl refl)
+staged_says parsed number text directive g s (neighbors d l k none h e a is) = subst (λ (t : Directive). IsStaged (after parsed t)) (sym is)
+    (staged_open parsed (after parsed (Neighbors h)) g s refl refl)
+staged_says parsed number text directive g s (orders d l m k none y e a is) = subst (λ (t : Directive). IsStaged (after parsed t)) (sym is)
+    (staged_open parsed (after parsed (Orders y)) g s refl refl)
+staged_says parsed number text directive g s (variable d n h y en eh ey v var e is) = subst (λ (t : Directive). IsStaged (after parsed t)) (sym is)
+    (staged_open parsed (after parsed (Variable var)) g s refl refl)
+staged_says parsed number text directive g s (transition d n h y en eh ey v t e b q is) = subst (λ (t : Directive). IsStaged (after parsed t)) (sym is)
+    (staged_open parsed (after parsed (Line t)) g s refl refl)
 
-staged_more : (parsed : Parsed) (number : ℕ) (line : List ℕ) (directive : Directive) → IsStaged parsed → Case parsed number line directive → IsStaged (after parsed directive)
+staged_more : (parsed : Parsed) (number : ℕ) (line : List ℕ) (directive : Directive) → IsStaged parsed → Case parsed number line directive
+    → IsStaged (after parsed directive)
 staged_more parsed number line directive g (passed s n p is) = subst (λ (t : Directive). IsStaged (after parsed t)) (sym is) g
 staged_more parsed number line directive g (named s n p name e is) = subst (λ (t : Directive). IsStaged (after parsed t)) (sym is) (record {
   states_ahead = g.states_ahead;
@@ -82,7 +90,8 @@ staged_more parsed number line directive g (behind s is) = subst (λ (t : Direct
 
 -- 2. One more line
 
-pub number_next : (n : ℕ) (lines : List (List ℕ)) (line : List ℕ) → n ≤ 2 ^ 64 - 1 → numbered_from n (lines ++ line ∷ []) ≡ numbered_from n lines ++ (min (n + length lines) (2 ^ 64 - 1), line) ∷ []
+pub number_next : (n : ℕ) (lines : List (List ℕ)) (line : List ℕ) → n ≤ 2 ^ 64 - 1 → numbered_from n (lines ++ line ∷ []) ≡ numbered_from n lines
+    ++ (min (n + length lines) (2 ^ 64 - 1), line) ∷ []
 number_next n [] line h = ap (λ (k : ℕ). (k, line) ∷ []) (let e : n ≡ min (n + 0) (2 ^ 64 - 1) = omega arith in e)
 number_next n (l ∷ lines) line h =
     ap (λ (t : List Numbered). (n, l) ∷ t) (number_next (min (n + 1) (2 ^ 64 - 1)) lines line (omega arith)
@@ -91,7 +100,8 @@ number_next n (l ∷ lines) line h =
 
 pub numbered_more : (lines : List (List ℕ)) (line : List ℕ) → numbered_from 1 (lines ++ line ∷ []) ≡ numbered_from 1 lines ++ (number_behind lines, line) ∷ []
 numbered_more lines line = number_next 1 lines line (omega arith)
-    ∙ ap (λ (k : ℕ). numbered_from 1 lines ++ (k, line) ∷ []) (let e : min (1 + length lines) (2 ^ 64 - 1) ≡ min (length lines + 1) (2 ^ 64 - 1) = omega arith in e)
+    ∙ ap (λ (k : ℕ). numbered_from 1 lines ++ (k, line) ∷ [])
+    (let e : min (1 + length lines) (2 ^ 64 - 1) ≡ min (length lines + 1) (2 ^ 64 - 1) = omega arith in e)
 
 -- lines that break no rule
 pub record Reach (lines : List (List ℕ)) : Type 0 where
@@ -105,7 +115,14 @@ reach_none = record {
   unbroken = λ k h. absurd (omega arith);
   stands = stands_start;
   good = subst IsGood (sym parsed_start) good_start;
-  staged = subst IsStaged (sym parsed_start) (record { states_ahead = λ _. refl; neighbors_ahead = λ _. refl; orders_ahead = λ _. refl; described = λ b. absurd (let w : ⊥ = cc in w); unnamed = λ _. refl });
+  staged = subst IsStaged (sym parsed_start)
+      (record {
+        states_ahead = λ _. refl;
+        neighbors_ahead = λ _. refl;
+        orders_ahead = λ _. refl;
+        described = λ b. absurd (let w : ⊥ = cc in w);
+        unnamed = λ _. refl;
+      });
 }
 
 unbroken_more : (lines : List (List ℕ)) (line : List ℕ) → UnbrokenBelow IsTableFile broken missing lines (length lines) → broken lines line ≡ None
@@ -125,11 +142,13 @@ unbroken_more lines line u b k h = elim (cases_lt k (length lines) (omega (arith
     cases_lt : (k n : ℕ) → k < n + 1 → (k < n) ⊎ (k ≡ n)
     cases_lt k n h = elim (eqb_tells k n) [ inl same ↦ inr same.1 | inr other ↦ inl (omega (arith, h, other.1)) ]
 
-pub directive_unbroken : (lines : List (List ℕ)) (line : List ℕ) (directive : Directive) → parse_line (parsed_by (numbered_from 1 lines)) (number_behind lines) line ≡ Ok directive → broken lines line ≡ None
+pub directive_unbroken : (lines : List (List ℕ)) (line : List ℕ) (directive : Directive) → parse_line (parsed_by (numbered_from 1 lines)) (number_behind lines)
+    line ≡ Ok directive → broken lines line ≡ None
 unfolding broken
 directive_unbroken lines line directive h = ap fault_in h
 
-pub directive_broken : (lines : List (List ℕ)) (line : List ℕ) (kind : Kind) → parse_line (parsed_by (numbered_from 1 lines)) (number_behind lines) line ≡ Err kind → broken lines line ≡ Some kind
+pub directive_broken : (lines : List (List ℕ)) (line : List ℕ) (kind : Kind) → parse_line (parsed_by (numbered_from 1 lines)) (number_behind lines) line
+    ≡ Err kind → broken lines line ≡ Some kind
 unfolding broken
 directive_broken lines line kind h = ap fault_in h
 
@@ -137,15 +156,18 @@ no_fault : (r : Result Directive Kind) → fault_in r ≡ None → (directive : 
 no_fault (Ok directive) h = (directive, refl)
 no_fault (Err kind) h = absurd (let z : ⊥ = cc in z)
 
-pub unbroken_directive : (lines : List (List ℕ)) (line : List ℕ) → broken lines line ≡ None → (directive : Directive) × (parse_line (parsed_by (numbered_from 1 lines)) (number_behind lines) line ≡ Ok directive)
+pub unbroken_directive : (lines : List (List ℕ)) (line : List ℕ) → broken lines line ≡ None → (directive : Directive)
+    × (parse_line (parsed_by (numbered_from 1 lines)) (number_behind lines) line ≡ Ok directive)
 unfolding broken
 unbroken_directive lines line h = no_fault (parse_line (parsed_by (numbered_from 1 lines)) (number_behind lines) line) h
 
-pub reach_more : (lines : List (List ℕ)) (line : List ℕ) (directive : Directive) → Reach lines → parse_line (parsed_by (numbered_from 1 lines)) (number_behind lines) line ≡ Ok directive
+pub reach_more : (lines : List (List ℕ)) (line : List ℕ) (directive : Directive) → Reach lines
+    → parse_line (parsed_by (numbered_from 1 lines)) (number_behind lines) line ≡ Ok directive
     → (parsed_by (numbered_from 1 (lines ++ line ∷ [])) ≡ after (parsed_by (numbered_from 1 lines)) directive) × Reach (lines ++ line ∷ [])
 reach_more lines line directive r h =
     let ps = numbered_from 1 lines in
-    let case : Case (parsed_by (numbered_from 1 lines)) (number_behind lines) line directive = line_case (parsed_by (numbered_from 1 lines)) (number_behind lines) line directive h in
+    let case : Case (parsed_by (numbered_from 1 lines)) (number_behind lines) line directive = line_case (parsed_by (numbered_from 1 lines))
+    (number_behind lines) line directive h in
     let m = line_more (numbered_from 1 lines) (number_behind lines, line) r.stands directive case in
     let e : numbered_from 1 (lines ++ line ∷ []) ≡ numbered_from 1 lines ++ (number_behind lines, line) ∷ [] = numbered_more lines line in
     let is : parsed_by (numbered_from 1 (lines ++ line ∷ [])) ≡ after (parsed_by (numbered_from 1 lines)) directive = ap parsed_by e ∙ m.0 in (
@@ -189,7 +211,15 @@ run (line ∷ more) lines r runs =
     subst IsTableFile (append_assoc lines (line ∷ []) more) (run more (lines ++ line ∷ []) m.1 rest)
 
 abbrev parsed_parts : Option (List ℕ) → Section → Option ℕ → Option Neighborhood → Option Symmetry → List Var → List Transition → Parsed
-parsed_parts name section on oh oy vars lines = record { name = name; section = section; n_states = on; neighborhood = oh; symmetry = oy; vars = vars; lines = lines }
+parsed_parts name section on oh oy vars lines = record {
+  name = name;
+  section = section;
+  n_states = on;
+  neighborhood = oh;
+  symmetry = oy;
+  vars = vars;
+  lines = lines;
+}
 
 abbrev Ends : Parsed → Type 0
 Ends parsed = (keeps : List Bool) × Runs parsed (kept keeps continuations)
@@ -197,8 +227,10 @@ Ends parsed = (keeps : List Bool) × Runs parsed (kept keeps continuations)
 module _ (vars : List Var) (lines : List Transition) where
   open_ends : (name : List ℕ) (on : Option ℕ) (oh : Option Neighborhood) (oy : Option Symmetry) → Ends (parsed_parts (Some name) Open on oh oy vars lines)
   unfolding parse_line parse_descriptor
-  open_ends name None None None =
-      (false ∷ false ∷ false ∷ false ∷ true ∷ false ∷ true ∷ true ∷ [], (States 2, (λ _. refl), (Neighbors Moore, (λ _. refl), (Orders symmetries.Identity, (λ _. refl), refl))))
+  open_ends name None None None = (
+    false ∷ false ∷ false ∷ false ∷ true ∷ false ∷ true ∷ true ∷ [],
+    (States 2, (λ _. refl), (Neighbors Moore, (λ _. refl), (Orders symmetries.Identity, (λ _. refl), refl))),
+  )
   open_ends name None None (Some y) =
       (false ∷ false ∷ false ∷ false ∷ true ∷ false ∷ true ∷ false ∷ [], (States 2, (λ _. refl), (Neighbors Moore, (λ _. refl), refl)))
   open_ends name None (Some VonNeumann) None =
@@ -228,7 +260,11 @@ module _ (vars : List Var) (lines : List Transition) where
   unfolding parse_line parse_descriptor rule_of life_sets four_sets
   start_ends = (
     false ∷ false ∷ true ∷ true ∷ true ∷ false ∷ true ∷ true ∷ [],
-    (RuleName (codes "a"), (λ _. refl), (TableOpens, (λ _. refl), (States 2, (λ _. refl), (Neighbors Moore, (λ _. refl), (Orders symmetries.Identity, (λ _. refl), refl))))),
+    (
+      RuleName (codes "a"),
+      (λ _. refl),
+      (TableOpens, (λ _. refl), (States 2, (λ _. refl), (Neighbors Moore, (λ _. refl), (Orders symmetries.Identity, (λ _. refl), refl)))),
+    ),
   )
 
   -- whatever is said at a stage, some of the continuations make it whole

@@ -21,24 +21,32 @@ pub data Says (parsed : Parsed) (number : ℕ) (text : List ℕ) (directive : Di
   states : is_descriptor text ≡ true → is_states_key (key_of text) ≡ true → parsed.n_states ≡ None
       → (n : ℕ) → states_named (setting_of text) ≡ Some n → directive ≡ States n → Says parsed number text directive
   neighbors : is_descriptor text ≡ true → is_states_key (key_of text) ≡ false → is_neighborhood_key (key_of text) ≡ true → parsed.neighborhood ≡ None
-      → (h : Neighborhood) → neighborhood_named (setting_of text) ≡ Some h → agree (Some h) parsed.symmetry ≡ true → directive ≡ Neighbors h → Says parsed number text directive
+      → (h : Neighborhood) → neighborhood_named (setting_of text) ≡ Some h → agree (Some h) parsed.symmetry ≡ true → directive ≡ Neighbors h
+      → Says parsed number text directive
   orders : is_descriptor text ≡ true → is_states_key (key_of text) ≡ false → is_neighborhood_key (key_of text) ≡ false → is_symmetry_key (key_of text) ≡ true
-      → parsed.symmetry ≡ None → (y : Symmetry) → symmetry_named (setting_of text) ≡ Some y → agree parsed.neighborhood (Some y) ≡ true → directive ≡ Orders y → Says parsed number text directive
-  variable : is_descriptor text ≡ false → (n : ℕ) → (h : Neighborhood) → (y : Symmetry) → parsed.n_states ≡ Some n → parsed.neighborhood ≡ Some h → parsed.symmetry ≡ Some y
+      → parsed.symmetry ≡ None → (y : Symmetry) → symmetry_named (setting_of text) ≡ Some y → agree parsed.neighborhood (Some y) ≡ true → directive ≡ Orders y
+      → Says parsed number text directive
+  variable : is_descriptor text ≡ false → (n : ℕ) → (h : Neighborhood) → (y : Symmetry) → parsed.n_states ≡ Some n → parsed.neighborhood ≡ Some h
+      → parsed.symmetry ≡ Some y
       → is_variable_line text ≡ true → (var : Var) → variable_of n parsed.vars text ≡ Some var → directive ≡ Variable var → Says parsed number text directive
-  transition : is_descriptor text ≡ false → (n : ℕ) → (h : Neighborhood) → (y : Symmetry) → parsed.n_states ≡ Some n → parsed.neighborhood ≡ Some h → parsed.symmetry ≡ Some y
+  transition : is_descriptor text ≡ false → (n : ℕ) → (h : Neighborhood) → (y : Symmetry) → parsed.n_states ≡ Some n → parsed.neighborhood ≡ Some h
+      → parsed.symmetry ≡ Some y
       → is_variable_line text ≡ false → (t : Transition) → transition_of n (neighbour_count h) parsed.vars number text ≡ Some t
       → is_bound t.inputs t.output ≡ true → is_quiet parsed.vars (parsed.lines ++ t ∷ []) ≡ true → directive ≡ Line t → Says parsed number text directive
 
 -- what a line says
 pub data Case (parsed : Parsed) (number : ℕ) (line : List ℕ) (directive : Directive) : Type 0 where
   passed : parsed.section ≡ Ahead → parsed.name ≡ None → is_passed_over line ≡ true → directive ≡ Nothing → Case parsed number line directive
-  named : parsed.section ≡ Ahead → parsed.name ≡ None → is_passed_over line ≡ false → (name : List ℕ) → name_on line ≡ Some name → directive ≡ RuleName name → Case parsed number line directive
-  ahead : parsed.section ≡ Ahead → (name : List ℕ) → parsed.name ≡ Some name → is_table_line line ≡ false → directive ≡ Nothing → Case parsed number line directive
-  opens : parsed.section ≡ Ahead → (name : List ℕ) → parsed.name ≡ Some name → is_table_line line ≡ true → directive ≡ TableOpens → Case parsed number line directive
+  named : parsed.section ≡ Ahead → parsed.name ≡ None → is_passed_over line ≡ false → (name : List ℕ) → name_on line ≡ Some name → directive ≡ RuleName name
+      → Case parsed number line directive
+  ahead : parsed.section ≡ Ahead → (name : List ℕ) → parsed.name ≡ Some name → is_table_line line ≡ false → directive ≡ Nothing
+      → Case parsed number line directive
+  opens : parsed.section ≡ Ahead → (name : List ℕ) → parsed.name ≡ Some name → is_table_line line ≡ true → directive ≡ TableOpens
+      → Case parsed number line directive
   ends : parsed.section ≡ Open → is_section_line line ≡ true → is_described parsed ≡ true → directive ≡ TableEnds → Case parsed number line directive
   silent : parsed.section ≡ Open → is_section_line line ≡ false → is_empty (content line) ≡ true → directive ≡ Nothing → Case parsed number line directive
-  says : parsed.section ≡ Open → is_section_line line ≡ false → is_empty (content line) ≡ false → Says parsed number (content line) directive → Case parsed number line directive
+  says : parsed.section ≡ Open → is_section_line line ≡ false → is_empty (content line) ≡ false → Says parsed number (content line) directive
+      → Case parsed number line directive
   behind : parsed.section ≡ Behind → directive ≡ Nothing → Case parsed number line directive
 
 pub known : (b : Bool) → (b ≡ true) ⊎ (b ≡ false)
@@ -59,11 +67,13 @@ else_part true x y r e h = cc
 else_part false x y r e h = h
 
 -- an answer that is no fault
-not_fault : (b : Bool) (kind : Kind) (x : Result Directive Kind) (directive : Directive) → (if b then x else Err kind) ≡ Ok directive → (b ≡ true) × (x ≡ Ok directive)
+not_fault : (b : Bool) (kind : Kind) (x : Result Directive Kind) (directive : Directive) → (if b then x else Err kind) ≡ Ok directive → (b ≡ true)
+    × (x ≡ Ok directive)
 not_fault true kind x directive h = (refl, h)
 not_fault false kind x directive h = cc
 
-no_fault : (b : Bool) (kind : Kind) (x : Result Directive Kind) (directive : Directive) → (if b then Err kind else x) ≡ Ok directive → (b ≡ false) × (x ≡ Ok directive)
+no_fault : (b : Bool) (kind : Kind) (x : Result Directive Kind) (directive : Directive) → (if b then Err kind else x) ≡ Ok directive → (b ≡ false)
+    × (x ≡ Ok directive)
 no_fault true kind x directive h = cc
 no_fault false kind x directive h = (refl, h)
 
@@ -72,7 +82,8 @@ not_some None h = refl
 not_some (Some x) h = cc
 
 module _ (parsed : Parsed) (number : ℕ) (text : List ℕ) (directive : Directive) where
-  states_case : is_descriptor text ≡ true → is_states_key (key_of text) ≡ true → (if is_some parsed.n_states then Err BadDescriptor else if_states (states_named (setting_of text))) ≡ Ok directive → Says parsed number text directive
+  states_case : is_descriptor text ≡ true → is_states_key (key_of text) ≡ true
+      → (if is_some parsed.n_states then Err BadDescriptor else if_states (states_named (setting_of text))) ≡ Ok directive → Says parsed number text directive
   states_case d k h =
       let a = no_fault (is_some parsed.n_states) BadDescriptor (if_states (states_named (setting_of text))) directive h in
       elim (some_or_none (states_named (setting_of text))) [
@@ -81,7 +92,8 @@ module _ (parsed : Parsed) (number : ℕ) (text : List ℕ) (directive : Directi
       ]
 
   neighbors_case : is_descriptor text ≡ true → is_states_key (key_of text) ≡ false → is_neighborhood_key (key_of text) ≡ true
-      → (if is_some parsed.neighborhood then Err BadDescriptor else if_neighborhood parsed.symmetry (neighborhood_named (setting_of text))) ≡ Ok directive → Says parsed number text directive
+      → (if is_some parsed.neighborhood then Err BadDescriptor else if_neighborhood parsed.symmetry (neighborhood_named (setting_of text))) ≡ Ok directive
+      → Says parsed number text directive
   neighbors_case d s k h =
       let a = no_fault (is_some parsed.neighborhood) BadDescriptor (if_neighborhood parsed.symmetry (neighborhood_named (setting_of text))) directive h in
       elim (some_or_none (neighborhood_named (setting_of text))) [
@@ -92,8 +104,10 @@ module _ (parsed : Parsed) (number : ℕ) (text : List ℕ) (directive : Directi
         | inr none ↦ absurd (let e : Ok directive ≡ Err UnsupportedNeighborhood = sym a.1 ∙ ap (if_neighborhood parsed.symmetry) none in let z : ⊥ = cc in z)
       ]
 
-  orders_case : is_descriptor text ≡ true → is_states_key (key_of text) ≡ false → is_neighborhood_key (key_of text) ≡ false → is_symmetry_key (key_of text) ≡ true
-      → (if is_some parsed.symmetry then Err BadDescriptor else if_symmetry parsed.neighborhood (symmetry_named (setting_of text))) ≡ Ok directive → Says parsed number text directive
+  orders_case : is_descriptor text ≡ true → is_states_key (key_of text) ≡ false → is_neighborhood_key (key_of text) ≡ false
+      → is_symmetry_key (key_of text) ≡ true
+      → (if is_some parsed.symmetry then Err BadDescriptor else if_symmetry parsed.neighborhood (symmetry_named (setting_of text))) ≡ Ok directive
+      → Says parsed number text directive
   orders_case d s n k h =
       let a = no_fault (is_some parsed.symmetry) BadDescriptor (if_symmetry parsed.neighborhood (symmetry_named (setting_of text))) directive h in
       elim (some_or_none (symmetry_named (setting_of text))) [
@@ -105,13 +119,17 @@ module _ (parsed : Parsed) (number : ℕ) (text : List ℕ) (directive : Directi
       ]
 
   third_case : is_descriptor text ≡ true → is_states_key (key_of text) ≡ false → is_neighborhood_key (key_of text) ≡ false
-      → (if is_symmetry_key (key_of text) then (if is_some parsed.symmetry then Err BadDescriptor else if_symmetry parsed.neighborhood (symmetry_named (setting_of text))) else Err BadDescriptor) ≡ Ok directive
+      → (if is_symmetry_key (key_of text) then
+      (if is_some parsed.symmetry then Err BadDescriptor else if_symmetry parsed.neighborhood (symmetry_named (setting_of text))) else Err BadDescriptor)
+      ≡ Ok directive
       → Says parsed number text directive
   third_case d s n h =
-      let a = not_fault (is_symmetry_key (key_of text)) BadDescriptor (if is_some parsed.symmetry then Err BadDescriptor else if_symmetry parsed.neighborhood (symmetry_named (setting_of text))) directive h in
+      let a = not_fault (is_symmetry_key (key_of text)) BadDescriptor
+      (if is_some parsed.symmetry then Err BadDescriptor else if_symmetry parsed.neighborhood (symmetry_named (setting_of text))) directive h in
       orders_case d s n a.0 a.1
 
-  descriptor_case : is_descriptor text ≡ true → parse_descriptor parsed.n_states parsed.neighborhood parsed.symmetry text ≡ Ok directive → Says parsed number text directive
+  descriptor_case : is_descriptor text ≡ true → parse_descriptor parsed.n_states parsed.neighborhood parsed.symmetry text ≡ Ok directive
+      → Says parsed number text directive
   unfolding parse_descriptor
   descriptor_case d h = elim (known (is_states_key (key_of text))) [
     | inl yes_states ↦ states_case d yes_states (then_part (is_states_key (key_of text)) _ _ (Ok directive) yes_states h)
@@ -123,15 +141,18 @@ module _ (parsed : Parsed) (number : ℕ) (text : List ℕ) (directive : Directi
         ]
   ]
 
-  variable_case : is_descriptor text ≡ false → (n : ℕ) (h : Neighborhood) (y : Symmetry) → parsed.n_states ≡ Some n → parsed.neighborhood ≡ Some h → parsed.symmetry ≡ Some y
+  variable_case : is_descriptor text ≡ false → (n : ℕ) (h : Neighborhood) (y : Symmetry) → parsed.n_states ≡ Some n → parsed.neighborhood ≡ Some h
+      → parsed.symmetry ≡ Some y
       → is_variable_line text ≡ true → if_variable (variable_of n parsed.vars text) ≡ Ok directive → Says parsed number text directive
   variable_case d n h y en eh ey v a = elim (some_or_none (variable_of n parsed.vars text)) [
     | inl var ↦ variable d n h y en eh ey v var.0 var.1 (let e : Ok directive ≡ Ok (Variable var.0) = sym a ∙ ap if_variable var.1 in cc)
     | inr none ↦ absurd (let e : Ok directive ≡ Err BadVariable = sym a ∙ ap if_variable none in let z : ⊥ = cc in z)
   ]
 
-  transition_case : is_descriptor text ≡ false → (n : ℕ) (h : Neighborhood) (y : Symmetry) → parsed.n_states ≡ Some n → parsed.neighborhood ≡ Some h → parsed.symmetry ≡ Some y
-      → is_variable_line text ≡ false → if_transition parsed.vars parsed.lines (transition_of n (neighbour_count h) parsed.vars number text) ≡ Ok directive → Says parsed number text directive
+  transition_case : is_descriptor text ≡ false → (n : ℕ) (h : Neighborhood) (y : Symmetry) → parsed.n_states ≡ Some n → parsed.neighborhood ≡ Some h
+      → parsed.symmetry ≡ Some y
+      → is_variable_line text ≡ false → if_transition parsed.vars parsed.lines (transition_of n (neighbour_count h) parsed.vars number text) ≡ Ok directive
+      → Says parsed number text directive
   transition_case d n h y en eh ey v a = elim (some_or_none (transition_of n (neighbour_count h) parsed.vars number text)) [
     | inl t ↦
         let e : if_transition parsed.vars parsed.lines (Some t.0) ≡ Ok directive = ap (if_transition parsed.vars parsed.lines) (sym t.1) ∙ a in
@@ -140,20 +161,23 @@ module _ (parsed : Parsed) (number : ℕ) (text : List ℕ) (directive : Directi
     | inr none ↦ absurd (let e : Ok directive ≡ Err BadTransition = sym a ∙ ap (if_transition parsed.vars parsed.lines) none in let z : ⊥ = cc in z)
   ]
     where
-      bound_and_quiet : (bound quiet : Bool) (t : Transition) → (if not bound then Err UnboundOutput else (if quiet then Ok (Line t) else Err NotQuiet)) ≡ Ok directive
+      bound_and_quiet : (bound quiet : Bool) (t : Transition) → (if not bound then Err UnboundOutput else (if quiet then Ok (Line t) else Err NotQuiet))
+          ≡ Ok directive
           → (bound ≡ true) × (quiet ≡ true) × (directive ≡ Line t)
       bound_and_quiet true true t e = (refl, refl, (let g : Ok (Line t) ≡ Ok directive = e in cc))
       bound_and_quiet true false t e = absurd (let z : ⊥ = cc in z)
       bound_and_quiet false quiet t e = absurd (let z : ⊥ = cc in z)
 
-  settled_case : is_descriptor text ≡ false → (n : ℕ) (h : Neighborhood) (y : Symmetry) → parsed.n_states ≡ Some n → parsed.neighborhood ≡ Some h → parsed.symmetry ≡ Some y
+  settled_case : is_descriptor text ≡ false → (n : ℕ) (h : Neighborhood) (y : Symmetry) → parsed.n_states ≡ Some n → parsed.neighborhood ≡ Some h
+      → parsed.symmetry ≡ Some y
       → parse_settled n h parsed.vars parsed.lines number text ≡ Ok directive → Says parsed number text directive
   settled_case d n h y en eh ey a = elim (known (is_variable_line text)) [
     | inl does ↦ variable_case d n h y en eh ey does (then_part (is_variable_line text) _ _ (Ok directive) does a)
     | inr does_not ↦ transition_case d n h y en eh ey does_not (else_part (is_variable_line text) _ _ (Ok directive) does_not a)
   ]
 
-  rest_case : is_descriptor text ≡ false → (on : Option ℕ) (oh : Option Neighborhood) (oy : Option Symmetry) → parsed.n_states ≡ on → parsed.neighborhood ≡ oh → parsed.symmetry ≡ oy
+  rest_case : is_descriptor text ≡ false → (on : Option ℕ) (oh : Option Neighborhood) (oy : Option Symmetry) → parsed.n_states ≡ on → parsed.neighborhood ≡ oh
+      → parsed.symmetry ≡ oy
       → parse_rest on oh oy parsed.vars parsed.lines number text ≡ Ok directive → Says parsed number text directive
   rest_case d None oh oy en eh ey a = absurd (let z : ⊥ = cc in z)
   rest_case d (Some n) None oy en eh ey a = absurd (let z : ⊥ = cc in z)
@@ -161,14 +185,17 @@ module _ (parsed : Parsed) (number : ℕ) (text : List ℕ) (directive : Directi
   rest_case d (Some n) (Some h) (Some y) en eh ey a = settled_case d n h y en eh ey a
 
   pub text_case : (if is_descriptor text then parse_descriptor parsed.n_states parsed.neighborhood parsed.symmetry text
-      else parse_rest parsed.n_states parsed.neighborhood parsed.symmetry parsed.vars parsed.lines number text) ≡ Ok directive → Says parsed number text directive
+      else parse_rest parsed.n_states parsed.neighborhood parsed.symmetry parsed.vars parsed.lines number text) ≡ Ok directive
+      → Says parsed number text directive
   text_case a = elim (known (is_descriptor text)) [
     | inl does ↦ descriptor_case does (then_part (is_descriptor text) _ _ (Ok directive) does a)
-    | inr does_not ↦ rest_case does_not parsed.n_states parsed.neighborhood parsed.symmetry refl refl refl (else_part (is_descriptor text) _ _ (Ok directive) does_not a)
+    | inr does_not ↦ rest_case does_not parsed.n_states parsed.neighborhood parsed.symmetry refl refl refl
+        (else_part (is_descriptor text) _ _ (Ok directive) does_not a)
   ]
 
 module _ (parsed : Parsed) (number : ℕ) (line : List ℕ) (directive : Directive) where
-  start_case : parsed.section ≡ Ahead → parsed.name ≡ None → (if is_passed_over line then Ok Nothing else if_named (name_on line)) ≡ Ok directive → Case parsed number line directive
+  start_case : parsed.section ≡ Ahead → parsed.name ≡ None → (if is_passed_over line then Ok Nothing else if_named (name_on line)) ≡ Ok directive
+      → Case parsed number line directive
   start_case s e a = elim (known (is_passed_over line)) [
     | inl does ↦ passed s e does (let g : Ok Nothing ≡ Ok directive = then_part (is_passed_over line) _ _ (Ok directive) does a in cc)
     | inr does_not ↦
@@ -193,8 +220,10 @@ module _ (parsed : Parsed) (number : ℕ) (line : List ℕ) (directive : Directi
   ahead_case (Some name) s e a = behind_rule_case s name e a
 
   content_case : parsed.section ≡ Open → is_section_line line ≡ false
-      → (if is_empty (content line) then Ok Nothing else (if is_descriptor (content line) then parse_descriptor parsed.n_states parsed.neighborhood parsed.symmetry (content line)
-      else parse_rest parsed.n_states parsed.neighborhood parsed.symmetry parsed.vars parsed.lines number (content line))) ≡ Ok directive → Case parsed number line directive
+      → (if is_empty (content line) then Ok Nothing else
+      (if is_descriptor (content line) then parse_descriptor parsed.n_states parsed.neighborhood parsed.symmetry (content line)
+      else parse_rest parsed.n_states parsed.neighborhood parsed.symmetry parsed.vars parsed.lines number (content line))) ≡ Ok directive
+      → Case parsed number line directive
   content_case s l a = elim (known (is_empty (content line))) [
     | inl does ↦ silent s l does (let g : Ok Nothing ≡ Ok directive = then_part (is_empty (content line)) _ _ (Ok directive) does a in cc)
     | inr does_not ↦ says s l does_not (text_case parsed number (content line) directive (else_part (is_empty (content line)) _ _ (Ok directive) does_not a))

@@ -46,9 +46,11 @@ changed choice i x j = cond (nat_eq i j) x (choice j)
 pub changed_same : (choice : ℕ → ℕ) (i x : ℕ) → changed choice i x i ≡ x
 changed_same choice i x = ap (λ b. cond b x (choice i)) (eq-eqb i i refl)
 
-pub changed_choice : (vars : List Var) (choice : ℕ → ℕ) (i x : ℕ) → IsChoice vars choice → IfSome (slice_get vars i) (λ var. HasState var x) → IsChoice vars (changed choice i x)
+pub changed_choice : (vars : List Var) (choice : ℕ → ℕ) (i x : ℕ) → IsChoice vars choice → IfSome (slice_get vars i) (λ var. HasState var x)
+    → IsChoice vars (changed choice i x)
 changed_choice vars choice i x h k j below = elim (eqb_tells i j) [
-  | inl same ↦ subst (λ n. IfSome (slice_get vars n) (λ var. HasState var (changed choice i x n))) same.1 (subst (λ s. IfSome (slice_get vars i) (λ var. HasState var s)) (sym (changed_same choice i x)) k)
+  | inl same ↦ subst (λ n. IfSome (slice_get vars n) (λ var. HasState var (changed choice i x n))) same.1
+      (subst (λ s. IfSome (slice_get vars i) (λ var. HasState var s)) (sym (changed_same choice i x)) k)
   | inr other ↦ subst (λ b. IfSome (slice_get vars j) (λ var. HasState var (cond b x (choice j)))) (sym other.0) (h j below)
 ]
 
@@ -59,7 +61,8 @@ changed_other choice i x (entries.Var j) h = elim (eqb_tells i j) [
   | inr other ↦ ap (λ b. cond b x (choice j)) other.0
 ]
 
-changed_others : (choice : ℕ → ℕ) (i x : ℕ) (es : List Entry) → ((k : ℕ) (d : Entry) → k < length es → get_or es k d ≢ entries.Var i) → map (state_of (changed choice i x)) es ≡ map (state_of choice) es
+changed_others : (choice : ℕ → ℕ) (i x : ℕ) (es : List Entry) → ((k : ℕ) (d : Entry) → k < length es → get_or es k d ≢ entries.Var i)
+    → map (state_of (changed choice i x)) es ≡ map (state_of choice) es
 changed_others choice i x [] h = refl
 changed_others choice i x (e ∷ es) h =
     let head = changed_other choice i x e (h 0 e (omega arith)) in
@@ -68,9 +71,11 @@ changed_others choice i x (e ∷ es) h =
 
 module _ (vars : List Var) (es : List Entry) (ws : List ℕ) (same : length es ≡ length ws) where
   pub ends : (e : Entry) (x : ℕ) (c : Consistent vars (es ++ e ∷ []) (ws ++ x ∷ [])) → (map (state_of c.choice) es ≡ ws) × (state_of c.choice e ≡ x)
-  ends e x c = snoc_both (map (state_of c.choice) es) ws (state_of c.choice e) x (length_map (state_of c.choice) es ∙ same) (sym (map_snoc (state_of c.choice) es e) ∙ c.values)
+  ends e x c = snoc_both (map (state_of c.choice) es) ws (state_of c.choice e) x (length_map (state_of c.choice) es ∙ same)
+      (sym (map_snoc (state_of c.choice) es e) ∙ c.values)
 
-  join : (choice : ℕ → ℕ) → IsChoice vars choice → map (state_of choice) es ≡ ws → (e : Entry) (x : ℕ) → state_of choice e ≡ x → Consistent vars (es ++ e ∷ []) (ws ++ x ∷ [])
+  join : (choice : ℕ → ℕ) → IsChoice vars choice → map (state_of choice) es ≡ ws → (e : Entry) (x : ℕ) → state_of choice e ≡ x
+      → Consistent vars (es ++ e ∷ []) (ws ++ x ∷ [])
   join choice is values e x h = record { choice = choice; is_choice = is; values = map_snoc (state_of choice) es e ∙ cc }
 
   -- the front of consistent states
@@ -81,7 +86,8 @@ module _ (vars : List Var) (es : List Entry) (ws : List ℕ) (same : length es �
   fixed_next s x c = (λ h. join c.choice c.is_choice c.values (entries.Fixed s) x h, λ d. (ends (entries.Fixed s) x d).1)
 
   -- a variable that stands among the entries already
-  pub old_next : (i x k : ℕ) (d : Entry) → k < length es → get_or es k d ≡ entries.Var i → Consistent vars es ws → (get_or ws k 0 ≡ x) ↔ Consistent vars (es ++ entries.Var i ∷ []) (ws ++ x ∷ [])
+  pub old_next : (i x k : ℕ) (d : Entry) → k < length es → get_or es k d ≡ entries.Var i → Consistent vars es ws → (get_or ws k 0 ≡ x)
+      ↔ Consistent vars (es ++ entries.Var i ∷ []) (ws ++ x ∷ [])
   old_next i x k d below at c =
       let known : (choice : ℕ → ℕ) → map (state_of choice) es ≡ ws → get_or ws k 0 ≡ choice i = λ (choice : ℕ → ℕ) (values : map (state_of choice) es ≡ ws).
       ap (λ zs. get_or zs k 0) (sym values) ∙ value_at (state_of choice) es k d 0 below ∙ ap (state_of choice) at in (
@@ -90,14 +96,17 @@ module _ (vars : List Var) (es : List Entry) (ws : List ℕ) (same : length es �
       )
 
   -- a variable that doesn't
-  pub new_next : (i x : ℕ) → i < length vars → ((k : ℕ) (d : Entry) → k < length es → get_or es k d ≢ entries.Var i) → Consistent vars es ws → IfSome (slice_get vars i) (λ var. HasState var x) ↔ Consistent vars (es ++ entries.Var i ∷ []) (ws ++ x ∷ [])
+  pub new_next : (i x : ℕ) → i < length vars → ((k : ℕ) (d : Entry) → k < length es → get_or es k d ≢ entries.Var i) → Consistent vars es ws
+      → IfSome (slice_get vars i) (λ var. HasState var x) ↔ Consistent vars (es ++ entries.Var i ∷ []) (ws ++ x ∷ [])
   new_next i x there none c = (
-    λ h. join (changed c.choice i x) (changed_choice vars c.choice i x c.is_choice h) (changed_others c.choice i x es none ∙ c.values) (entries.Var i) x (changed_same c.choice i x),
+    λ h. join (changed c.choice i x) (changed_choice vars c.choice i x c.is_choice h) (changed_others c.choice i x es none ∙ c.values) (entries.Var i) x
+        (changed_same c.choice i x),
     λ e. subst (λ s. IfSome (slice_get vars i) (λ var. HasState var s)) (ends (entries.Var i) x e).1 (e.is_choice i there),
   )
 
 -- The next of several inputs, at the place where the states so far end.
-module _ (vars : List Var) (inputs : List Entry) (given : List ℕ) (short : length given < length inputs) (c : Consistent vars (take (length given) inputs) given) where
+module _ (vars : List Var) (inputs : List Entry) (given : List ℕ) (short : length given < length inputs)
+    (c : Consistent vars (take (length given) inputs) given) where
   same_length : length (take (length given) inputs) ≡ length given
   same_length = simp length-take (omega arith)
 
@@ -111,16 +120,19 @@ module _ (vars : List Var) (inputs : List Entry) (given : List ℕ) (short : len
       P ↔ Consistent vars (take (length given) inputs ++ e ∷ []) (given ++ x ∷ []) → P ↔ Consistent vars (take (length given + 1) inputs) (given ++ x ∷ [])
   moved e d x P at h = subst (λ es. P ↔ Consistent vars es (given ++ x ∷ [])) (sym (next_input e d at)) h
 
-  pub fixed_input : (s x : ℕ) (d : Entry) → get_or inputs (length given) d ≡ entries.Fixed s → (s ≡ x) ↔ Consistent vars (take (length given + 1) inputs) (given ++ x ∷ [])
+  pub fixed_input : (s x : ℕ) (d : Entry) → get_or inputs (length given) d ≡ entries.Fixed s → (s ≡ x) ↔ Consistent vars (take (length given + 1) inputs)
+      (given ++ x ∷ [])
   fixed_input s x d at = moved (entries.Fixed s) d x (s ≡ x) at (fixed_next vars (take (length given) inputs) given same_length s x c)
 
-  pub old_input : (i x k : ℕ) (d f : Entry) → get_or inputs (length given) d ≡ entries.Var i → k < length given → get_or inputs k f ≡ entries.Var i → (get_or given k 0 ≡ x) ↔ Consistent vars (take (length given + 1) inputs) (given ++ x ∷ [])
+  pub old_input : (i x k : ℕ) (d f : Entry) → get_or inputs (length given) d ≡ entries.Var i → k < length given → get_or inputs k f ≡ entries.Var i
+      → (get_or given k 0 ≡ x) ↔ Consistent vars (take (length given + 1) inputs) (given ++ x ∷ [])
   old_input i x k d f at below found =
       let inside : k < length (take (length given) inputs) = omega (arith, below, same_length) in
       moved (entries.Var i) d x (get_or given k 0 ≡ x) at
       (old_next vars (take (length given) inputs) given same_length i x k f inside (get_or-take (length given) inputs k f below ∙ found) c)
 
-  pub new_input : (i x : ℕ) (d : Entry) → get_or inputs (length given) d ≡ entries.Var i → i < length vars → ((k : ℕ) (d : Entry) → k < length given → get_or inputs k d ≢ entries.Var i) →
+  pub new_input : (i x : ℕ) (d : Entry) → get_or inputs (length given) d ≡ entries.Var i → i < length vars
+      → ((k : ℕ) (d : Entry) → k < length given → get_or inputs k d ≢ entries.Var i) →
       IfSome (slice_get vars i) (λ var. HasState var x) ↔ Consistent vars (take (length given + 1) inputs) (given ++ x ∷ [])
   new_input i x d at there none =
       moved (entries.Var i) d x (IfSome (slice_get vars i) (λ var. HasState var x)) at
@@ -136,8 +148,11 @@ is_other i (entries.Var j) h = elim (eqb_tells i j) [
 
 -- a variable that is no input isn't found among them
 pub not_found : (i : ℕ) (es : List Entry) → ((k : ℕ) (d : Entry) → k < length es → get_or es k d ≢ entries.Var i) → IsTrue (list_any (is_variable i) es) → ⊥
-not_found i es none found = let none_is : list_any (is_variable i) es ≡ false = list_any_none (is_variable i) es (λ k d below. is_other i (get_or es k d) (none k d below)) in absurd (let e : false ≡ true = sym none_is ∙ found in cc)
+not_found i es none found = let none_is : list_any (is_variable i) es ≡ false = list_any_none (is_variable i) es
+    (λ k d below. is_other i (get_or es k d) (none k d below)) in absurd (let e : false ≡ true = sym none_is ∙ found in cc)
 
 -- the state of an input that is the output's variable
-pub output_at : (choice : ℕ → ℕ) (es : List Entry) (states : List ℕ) (k i : ℕ) (d : Entry) → map (state_of choice) es ≡ states → k < length es → get_or es k d ≡ entries.Var i → choice i ≡ get_or states k 0
-output_at choice es states k i d values below at = sym (ap (state_of choice) at) ∙ sym (value_at (state_of choice) es k d 0 below) ∙ ap (λ zs. get_or zs k 0) values
+pub output_at : (choice : ℕ → ℕ) (es : List Entry) (states : List ℕ) (k i : ℕ) (d : Entry) → map (state_of choice) es ≡ states → k < length es
+    → get_or es k d ≡ entries.Var i → choice i ≡ get_or states k 0
+output_at choice es states k i d values below at = sym (ap (state_of choice) at) ∙ sym (value_at (state_of choice) es k d 0 below)
+    ∙ ap (λ zs. get_or zs k 0) values

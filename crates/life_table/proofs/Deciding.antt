@@ -75,7 +75,8 @@ pub record IsCentred (first : Entry) (centre : ℕ) (choice new : ℕ → ℕ) :
   pub first_is : state_of new first ≡ centre
   pub others : (i : ℕ) → is_variable i first ≡ false → new i ≡ choice i
 
-centred : (vars : List Var) (first : Entry) (centre : ℕ) → can_be_state vars first centre ≡ true → (choice : ℕ → ℕ) → IsChoice vars choice → (new : ℕ → ℕ) × IsChoice vars new × IsCentred first centre choice new
+centred : (vars : List Var) (first : Entry) (centre : ℕ) → can_be_state vars first centre ≡ true → (choice : ℕ → ℕ) → IsChoice vars choice → (new : ℕ → ℕ)
+    × IsChoice vars new × IsCentred first centre choice new
 centred vars (entries.Fixed s) centre h choice is = elim (eqb_tells s centre) [
   | inl same ↦ (choice, is, record { first_is = same.1; others = λ i open_i. refl })
   | inr other ↦ absurd (is_clash (nat_eq s centre) h other.0)
@@ -92,7 +93,8 @@ centred vars (entries.Var j) centre h choice is = (
   },
 )
 
-wanted_same : (first : Entry) (centre : ℕ) (choice new : ℕ → ℕ) → IsCentred first centre choice new → (t : ℕ) (groups : List Group) → All (λ (g : Group). is_variable g.variable first ≡ false) groups →
+wanted_same : (first : Entry) (centre : ℕ) (choice new : ℕ → ℕ) → IsCentred first centre choice new → (t : ℕ) (groups : List Group)
+    → All (λ (g : Group). is_variable g.variable first ≡ false) groups →
     wanted new groups t ≡ wanted choice groups t
 wanted_same first centre choice new c t [] h = refl
 wanted_same first centre choice new c t (g ∷ groups) h =
@@ -134,7 +136,8 @@ module _ (vars : List Var) (line : Transition) (first : Entry) (rest : List Entr
           omega (arith, a, b, c, d);
     }
 
-    pub to_gives : can_be_state vars first centre ≡ true → (c : Completes vars output_groups others free) → (new : ℕ → ℕ) × IsCentred first centre c.choice new × GivesByCounts vars line centre others (state_of new line.output)
+    pub to_gives : can_be_state vars first centre ≡ true → (c : Completes vars output_groups others free) → (new : ℕ → ℕ) × IsCentred first centre c.choice new
+        × GivesByCounts vars line centre others (state_of new line.output)
     to_gives may c =
         let r = centred vars first centre may c.choice c.is_choice in (
           r.0,
@@ -172,7 +175,8 @@ module _ (vars : List Var) (line : Transition) (first : Entry) (rest : List Entr
         )
 
     -- where the output is open
-    open_is : (choice new : ℕ → ℕ) → IsCentred first centre choice new → (e : Entry) → settled first centre e ≡ None → ((i : ℕ) → e ≡ entries.Var i → is_variable i first ≡ false → first_variable output_groups ≡ i) →
+    open_is : (choice new : ℕ → ℕ) → IsCentred first centre choice new → (e : Entry) → settled first centre e ≡ None
+        → ((i : ℕ) → e ≡ entries.Var i → is_variable i first ≡ false → first_variable output_groups ≡ i) →
         (state_of new e ≡ choice (first_variable output_groups)) × (state_of choice e ≡ choice (first_variable output_groups))
     open_is choice new c (entries.Fixed s) is h = absurd (some_none is)
     open_is choice new c (entries.Var i) is h = elim (known (is_variable i first)) [
@@ -180,13 +184,18 @@ module _ (vars : List Var) (line : Transition) (first : Entry) (rest : List Entr
       | inr is_none ↦ let v = h i refl is_none in (c.others i is_none ∙ ap choice (sym v), ap choice (sym v))
     ]
 
-    pub gives_open : can_be_state vars first centre ≡ true → settled first centre line.output ≡ None → (found : Found) → Tells (CompletesWith vars output_groups others free) found →
+    pub gives_open : can_be_state vars first centre ≡ true → settled first centre line.output ≡ None → (found : Found)
+        → Tells (CompletesWith vars output_groups others free) found →
         Tells (GivesByCounts vars line centre others) found
     unfolding from_gives
     gives_open may is found h =
         directives_same (CompletesWith vars output_groups others free) (GivesByCounts vars line centre others)
-        (λ s c. let r = to_gives may c.completes in subst (GivesByCounts vars line centre others) ((open_is c.completes.choice r.0 r.1 line.output is first_one).0 ∙ c.is) r.2)
-        (λ s g. record { completes = from_gives s g; is = sym (open_is g.choice g.choice (record { first_is = centre_of s g; others = λ i open_i. refl }) line.output is first_one).1 ∙ g.output })
+        (λ s c. let r = to_gives may c.completes in
+        subst (GivesByCounts vars line centre others) ((open_is c.completes.choice r.0 r.1 line.output is first_one).0 ∙ c.is) r.2)
+        (λ s g. record {
+          completes = from_gives s g;
+          is = sym (open_is g.choice g.choice (record { first_is = centre_of s g; others = λ i open_i. refl }) line.output is first_one).1 ∙ g.output;
+        })
         found h
       where
         first_one : (i : ℕ) → line.output ≡ entries.Var i → is_variable i first ≡ false → first_variable output_groups ≡ i

@@ -24,7 +24,8 @@ module _ (ps : List Numbered) (x : Numbered) (stands : Stands ps) where
   abbrev More : Directive → Type 0
   More directive = (parsed_by (ps ++ x ∷ []) ≡ after (parsed_by ps) directive) × Stands (ps ++ x ∷ [])
 
-  parsed_grown : (name : Option (List ℕ)) (section : Section) (more : List Numbered) → Grown ps x name section more → parsed_by (ps ++ x ∷ []) ≡ parsed_in name section (table_texts ps ++ more)
+  parsed_grown : (name : Option (List ℕ)) (section : Section) (more : List Numbered) → Grown ps x name section more
+      → parsed_by (ps ++ x ∷ []) ≡ parsed_in name section (table_texts ps ++ more)
   parsed_grown name section more g =
       ap (λ (o : Option (List ℕ)). parsed_in o (section_of (ps ++ x ∷ [])) (table_texts (ps ++ x ∷ []))) g.name
       ∙ ap (λ (s : Section). parsed_in name s (table_texts (ps ++ x ∷ []))) g.section ∙ ap (parsed_in name section) g.texts
@@ -36,7 +37,8 @@ module _ (ps : List Numbered) (x : Numbered) (stands : Stands ps) where
   texts_still name section g = subst TextsStand (sym (g.texts ∙ append-nil (table_texts ps))) stands.texts
 
   -- where a name was given it stays
-  still_named : (name : List ℕ) (section : Section) (more : List Numbered) → Grown ps x (Some name) section more → name_of (ps ++ x ∷ []) ≡ None → from_rule (ps ++ x ∷ []) ≡ []
+  still_named : (name : List ℕ) (section : Section) (more : List Numbered) → Grown ps x (Some name) section more → name_of (ps ++ x ∷ []) ≡ None
+      → from_rule (ps ++ x ∷ []) ≡ []
   still_named name section more g none = absurd (let z : Some name ≡ None = sym g.name ∙ none in let w : ⊥ = cc in w)
 
   named_by : {R : Type 0} → (r : Numbered) (rs : List Numbered) → from_rule ps ≡ r ∷ rs → ((name : List ℕ) → name_of ps ≡ Some name → R) → R
@@ -47,7 +49,8 @@ module _ (ps : List Numbered) (x : Numbered) (stands : Stands ps) where
       go (Some name) h f = f name h
 
   -- a line that says nothing, or ends or begins a part
-  still : (directive : Directive) (name : List ℕ) (section : Section) → Grown ps x (name_of ps) section [] → name_of ps ≡ Some name → parsed_in (name_of ps) section (table_texts ps) ≡ after (parsed_by ps) directive → More directive
+  still : (directive : Directive) (name : List ℕ) (section : Section) → Grown ps x (name_of ps) section [] → name_of ps ≡ Some name
+      → parsed_in (name_of ps) section (table_texts ps) ≡ after (parsed_by ps) directive → More directive
   still directive name section g n e =
       let g' : Grown ps x (Some name) section [] = subst (λ (o : Option (List ℕ)). Grown ps x o section []) n g in
       (parsed_still (name_of ps) section g ∙ e, record { named = still_named name section [] g'; texts = texts_still (name_of ps) section g })
@@ -56,7 +59,8 @@ module _ (ps : List Numbered) (x : Numbered) (stands : Stands ps) where
   passed_more s n p =
       let none = stands.named n in
       let g = grown_passed ps x none p in (
-        parsed_still None Ahead g ∙ ap (λ (o : Option (List ℕ)). parsed_in o Ahead (table_texts ps)) (sym n) ∙ ap (λ (t : Section). parsed_in (name_of ps) t (table_texts ps)) (sym s),
+        parsed_still None Ahead g ∙ ap (λ (o : Option (List ℕ)). parsed_in o Ahead (table_texts ps)) (sym n)
+            ∙ ap (λ (t : Section). parsed_in (name_of ps) t (table_texts ps)) (sym s),
         record { named = λ _. rule_passed ps x none p; texts = texts_still None Ahead g },
       )
 
@@ -82,7 +86,8 @@ module _ (ps : List Numbered) (x : Numbered) (stands : Stands ps) where
           no_part false h = cc
 
   if_within : {R : Type 0} (v : Bool) → section_of ps ≡ (if v then Behind else Open)
-      → ((r : Numbered) (rs : List Numbered) → from_rule ps ≡ r ∷ rs → (t : Numbered) (bs : List Numbered) → from_first is_table rs ≡ t ∷ bs → list_any is_section bs ≡ v → R) → R
+      → ((r : Numbered) (rs : List Numbered) → from_rule ps ≡ r ∷ rs → (t : Numbered) (bs : List Numbered) → from_first is_table rs ≡ t ∷ bs
+      → list_any is_section bs ≡ v → R) → R
   if_within v s f = go (stage ps) f
     where
       not_ahead : (v : Bool) → Ahead ≡ (if v then Behind else Open) → ⊥
@@ -95,19 +100,23 @@ module _ (ps : List Numbered) (x : Numbered) (stands : Stands ps) where
       same true false h = absurd (let z : ⊥ = cc in z)
       same false true h = absurd (let z : ⊥ = cc in z)
 
-      go : {R : Type 0} → Stage ps → ((r : Numbered) (rs : List Numbered) → from_rule ps ≡ r ∷ rs → (t : Numbered) (bs : List Numbered) → from_first is_table rs ≡ t ∷ bs → list_any is_section bs ≡ v → R) → R
+      go : {R : Type 0} → Stage ps → ((r : Numbered) (rs : List Numbered) → from_rule ps ≡ r ∷ rs → (t : Numbered) (bs : List Numbered)
+          → from_first is_table rs ≡ t ∷ bs → list_any is_section bs ≡ v → R) → R
       go (start e) f = absurd (not_ahead v (sym (section_at_start ps x e) ∙ s))
       go (ruled r rs e t) f = absurd (not_ahead v (sym (section_ahead ps x r rs e t) ∙ s))
       go (tabled r rs e t bs b) f = f r rs e t bs b (same (list_any is_section bs) v (sym (section_within ps x r rs e t bs b) ∙ s))
 
-  says_line : section_of ps ≡ Open → is_section_line x.1 ≡ false → is_empty (content x.1) ≡ false → (directive : Directive) → Says (parsed_by ps) x.0 (content x.1) directive → More directive
+  says_line : section_of ps ≡ Open → is_section_line x.1 ≡ false → is_empty (content x.1) ≡ false → (directive : Directive)
+      → Says (parsed_by ps) x.0 (content x.1) directive → More directive
   says_line s l e directive more = if_within false s (λ r rs er t bs et any. named_by r rs er (λ name n.
       let g = grown_text ps x r rs er t bs et any l in
       let one : contents (x ∷ []) ≡ (x.0, content x.1) ∷ [] = ap (λ (b : Bool). filter_one b) e in
       let g' : Grown ps x (name_of ps) Open ((x.0, content x.1) ∷ []) = subst (λ (ms : List Numbered). Grown ps x (name_of ps) Open ms) one g in
-      let here : Says (parsed_in (name_of ps) Open (table_texts ps)) x.0 (content x.1) directive = subst (λ (z : Section). Says (parsed_in (name_of ps) z (table_texts ps)) x.0 (content x.1) directive) s more in
+      let here : Says (parsed_in (name_of ps) Open (table_texts ps)) x.0 (content x.1) directive = subst
+      (λ (z : Section). Says (parsed_in (name_of ps) z (table_texts ps)) x.0 (content x.1) directive) s more in
       let m = says_more (name_of ps) (table_texts ps) x.0 (content x.1) stands.texts directive here in
-      let back : after (parsed_in (name_of ps) Open (table_texts ps)) directive ≡ after (parsed_by ps) directive = ap (λ (z : Section). after (parsed_in (name_of ps) z (table_texts ps)) directive) (sym s) in (
+      let back : after (parsed_in (name_of ps) Open (table_texts ps)) directive ≡ after (parsed_by ps) directive = ap
+      (λ (z : Section). after (parsed_in (name_of ps) z (table_texts ps)) directive) (sym s) in (
         parsed_grown (name_of ps) Open ((x.0, content x.1) ∷ []) g' ∙ m.0 ∙ back,
         record {
           named = still_named name Open ((x.0, content x.1) ∷ []) (subst (λ (o : Option (List ℕ)). Grown ps x o Open ((x.0, content x.1) ∷ [])) n g');
@@ -123,7 +132,8 @@ module _ (ps : List Numbered) (x : Numbered) (stands : Stands ps) where
   line_more directive (named s n p name e is) = subst More (sym is) (named_more s n p name e)
   line_more directive (ahead s name n p is) = subst More (sym is) (if_ahead name s n (λ r rs e t.
       still Nothing name Ahead (grown_ahead ps x r rs e t p) n (ap (λ (z : Section). parsed_in (name_of ps) z (table_texts ps)) (sym s))))
-  line_more directive (opens s name n p is) = subst More (sym is) (if_ahead name s n (λ r rs e t. still TableOpens name Open (grown_opens ps x r rs e t p) n refl))
+  line_more directive (opens s name n p is) = subst More (sym is)
+      (if_ahead name s n (λ r rs e t. still TableOpens name Open (grown_opens ps x r rs e t p) n refl))
   line_more directive (ends s l d is) = subst More (sym is) (if_within false s (λ r rs e t bs b any. named_by r rs e (λ name n.
       still TableEnds name Behind (grown_ends ps x r rs e t bs b any l) n refl)))
   line_more directive (silent s l e is) = subst More (sym is) (if_within false s (λ r rs er t bs b any. named_by r rs er (λ name n.

@@ -13,7 +13,8 @@ use Rattle.life_table.specs.declared.table.Entry.{Entry}
 use Rattle.life_table.specs.declared.table.Transition.{Transition}
 
 -- the state of one input, where all inputs are these states
-pub input_is : (choice : ℕ → ℕ) (inputs : List Entry) (states : List ℕ) (k : ℕ) (d : Entry) → map (state_of choice) inputs ≡ states → k < length inputs → state_of choice (get_or inputs k d) ≡ get_or states k 0
+pub input_is : (choice : ℕ → ℕ) (inputs : List Entry) (states : List ℕ) (k : ℕ) (d : Entry) → map (state_of choice) inputs ≡ states → k < length inputs
+    → state_of choice (get_or inputs k d) ≡ get_or states k 0
 input_is choice inputs states k d values below = sym (get_or-map (state_of choice) inputs k d 0 below) ∙ ap (λ zs. get_or zs k 0) values
 
 pub none_gives : (vars : List Var) (line : Transition) (s : ℕ) → SomeGives vars line [] s → ⊥
@@ -43,7 +44,8 @@ module _ (vars : List Var) (line : Transition) where
   no_turns_yet old = adds_none (SomeGives vars line []) (none_gives vars line) old
 
   -- one more image adds what it gives
-  pub image_more : (list : List (List ℕ)) (states : List ℕ) (old mid new : Found) → Adds (SomeGives vars line list) old mid → Adds (GivesAs vars line states) mid new → Adds (SomeGives vars line (list ++ states ∷ [])) old new
+  pub image_more : (list : List (List ℕ)) (states : List ℕ) (old mid new : Found) → Adds (SomeGives vars line list) old mid
+      → Adds (GivesAs vars line states) mid new → Adds (SomeGives vars line (list ++ states ∷ [])) old new
   image_more list states old mid new h k =
       adds_same (λ s. SomeGives vars line list s ⊎ SomeGives vars line (states ∷ []) s) (SomeGives vars line (list ++ states ∷ []))
       (from_either list (states ∷ [])) (to_either list (states ∷ [])) old new
@@ -51,7 +53,8 @@ module _ (vars : List Var) (line : Transition) where
       (adds_same (GivesAs vars line states) (SomeGives vars line (states ∷ [])) (one_alone states) (alone_one states) mid new k))
 
   -- more images tell what they give too
-  pub images_more : (list more : List (List ℕ)) (old new : Found) → Tells (SomeGives vars line list) old → Adds (SomeGives vars line more) old new → Tells (SomeGives vars line (list ++ more)) new
+  pub images_more : (list more : List (List ℕ)) (old new : Found) → Tells (SomeGives vars line list) old → Adds (SomeGives vars line more) old new
+      → Tells (SomeGives vars line (list ++ more)) new
   images_more list more old new h k =
       directives_same (λ s. SomeGives vars line list s ⊎ SomeGives vars line more s) (SomeGives vars line (list ++ more))
       (from_either list more) (to_either list more) new

@@ -99,7 +99,8 @@ each_free t (s ∷ states) =
     omega (arith, first, rest, r, c)
 
 -- a state that is at no free place isn't counted
-pub not_at_place : (t free : ℕ) (states : List ℕ) → ((k : ℕ) → k < length states → slice_index states k ≡ t → bit_at free k ≡ 1 → ⊥) → free_count t free states ≡ 0
+pub not_at_place : (t free : ℕ) (states : List ℕ) → ((k : ℕ) → k < length states → slice_index states k ≡ t → bit_at free k ≡ 1 → ⊥)
+    → free_count t free states ≡ 0
 not_at_place t free states h = elim (eqb_tells (free_count t free states) 0) [
   | inl none ↦ none.1
   | inr some ↦ let p = at_place t free states (omega (arith, some.1)) in absurd (h p.0 p.1 p.3 p.2)

@@ -158,7 +158,8 @@ module _ (ps : List Numbered) (x : Numbered) where
   table_of_rule qs rule table e f = ap (λ (t : List Numbered). from_first is_table (drop 1 t)) e ∙ f
 
   -- from the parts before and after to what they say
-  grown : (name : Option (List ℕ)) (section : Section) (before after more : List Numbered) → name_by (from_rule (ps ++ x ∷ [])) ≡ name → from_table ps ≡ before → from_table (ps ++ x ∷ []) ≡ after
+  grown : (name : Option (List ℕ)) (section : Section) (before after more : List Numbered) → name_by (from_rule (ps ++ x ∷ [])) ≡ name → from_table ps ≡ before
+      → from_table (ps ++ x ∷ []) ≡ after
       → section_by after ≡ section → texts_by after ≡ texts_by before ++ more → Grown ps x name section more
   grown name section before after more n b a s t = record {
     name = name_is (ps ++ x ∷ []) ∙ n;
@@ -186,12 +187,14 @@ module _ (ps : List Numbered) (x : Numbered) where
     pub grown_ahead : from_first is_table rs ≡ [] → is_table_line x.1 ≡ false → Grown ps x (name_of ps) Ahead []
     grown_ahead f p =
         let g : from_first is_table (rs ++ x ∷ []) ≡ [] = first_new is_table rs x f ∙ ap (λ (b : Bool). if b then x ∷ [] else []) p in
-        grown (name_of ps) Ahead [] [] [] name_kept (table_of_rule ps (r ∷ rs) [] e f) (table_of_rule (ps ++ x ∷ []) (r ∷ (rs ++ x ∷ [])) [] (rule_kept r rs e) g) refl refl
+        grown (name_of ps) Ahead [] [] [] name_kept (table_of_rule ps (r ∷ rs) [] e f)
+        (table_of_rule (ps ++ x ∷ []) (r ∷ (rs ++ x ∷ [])) [] (rule_kept r rs e) g) refl refl
 
     pub grown_opens : from_first is_table rs ≡ [] → is_table_line x.1 ≡ true → Grown ps x (name_of ps) Open []
     grown_opens f p =
         let g : from_first is_table (rs ++ x ∷ []) ≡ x ∷ [] = first_new is_table rs x f ∙ ap (λ (b : Bool). if b then x ∷ [] else []) p in
-        grown (name_of ps) Open [] (x ∷ []) [] name_kept (table_of_rule ps (r ∷ rs) [] e f) (table_of_rule (ps ++ x ∷ []) (r ∷ (rs ++ x ∷ [])) (x ∷ []) (rule_kept r rs e) g) refl refl
+        grown (name_of ps) Open [] (x ∷ []) [] name_kept (table_of_rule ps (r ∷ rs) [] e f)
+        (table_of_rule (ps ++ x ∷ []) (r ∷ (rs ++ x ∷ [])) (x ∷ []) (rule_kept r rs e) g) refl refl
 
     module _ (t : Numbered) (bs : List Numbered) (f : from_first is_table rs ≡ t ∷ bs) where
       in_table : (name : Option (List ℕ)) (section : Section) (more : List Numbered) → (if list_any is_section (bs ++ x ∷ []) then Behind else Open) ≡ section
@@ -214,7 +217,8 @@ module _ (ps : List Numbered) (x : Numbered) where
       grown_text a p =
           let none : list_any is_section (bs ++ x ∷ []) ≡ false = any_more is_section bs x ∙ ap (λ (b : Bool). b || is_section x) a ∙ p in
           in_table None Open (contents (x ∷ [])) (ap (λ (b : Bool). if b then Behind else Open) none)
-          (ap contents (up_to_all is_section (bs ++ x ∷ []) none) ∙ contents_more bs (x ∷ []) ∙ ap (λ (u : List Numbered). contents u ++ contents (x ∷ [])) (sym (up_to_all is_section bs a)))
+          (ap contents (up_to_all is_section (bs ++ x ∷ []) none) ∙ contents_more bs (x ∷ []) ∙ ap (λ (u : List Numbered). contents u ++ contents (x ∷ []))
+          (sym (up_to_all is_section bs a)))
 
   -- what the section tells of the stage
   pub section_at_start : from_rule ps ≡ [] → section_of ps ≡ Ahead

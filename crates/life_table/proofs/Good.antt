@@ -57,10 +57,12 @@ zero_more n vars v (entries.Var i) is = ap (λ (o : Option Var). option_map_or (
 
 all_same : (p q : Entry → Bool) (es : List Entry) → All (λ e. p e ≡ q e) es → list_all p es ≡ list_all q es
 all_same p q [] h = refl
-all_same p q (e ∷ es) h = ap (λ (b : Bool). b && list_all p es) (All-head (λ e. p e ≡ q e) e es h) ∙ ap (λ (b : Bool). q e && b) (all_same p q es (All-tail (λ e. p e ≡ q e) e es h))
+all_same p q (e ∷ es) h = ap (λ (b : Bool). b && list_all p es) (All-head (λ e. p e ≡ q e) e es h)
+    ∙ ap (λ (b : Bool). q e && b) (all_same p q es (All-tail (λ e. p e ≡ q e) e es h))
 
 fits_more : (n k : ℕ) (vars : List Var) (v : Var) (t : Transition) → IsTransition n k vars t → fits_zero (vars ++ v ∷ []) t ≡ fits_zero vars t
-fits_more n k vars v t is = all_same (allows_zero (vars ++ v ∷ [])) (allows_zero vars) t.inputs (λ j d below. zero_more n vars v (get_or t.inputs j d) (is.inputs j d below))
+fits_more n k vars v t is = all_same (allows_zero (vars ++ v ∷ [])) (allows_zero vars) t.inputs
+    (λ j d below. zero_more n vars v (get_or t.inputs j d) (is.inputs j d below))
 
 quiet_same : (n k : ℕ) (vars : List Var) (v : Var) (ts : List Transition) → All (IsTransition n k vars) ts → is_quiet (vars ++ v ∷ []) ts ≡ is_quiet vars ts
 quiet_same n k vars v [] h = refl
@@ -68,7 +70,8 @@ quiet_same n k vars v (t ∷ ts) h =
     ap (λ (b : Bool). if b then is_quiet_output t.output else is_quiet (vars ++ v ∷ []) ts) (fits_more n k vars v t (All-head (IsTransition n k vars) t ts h))
     ∙ ap (λ (b : Bool). if fits_zero vars t then is_quiet_output t.output else b) (quiet_same n k vars v ts (All-tail (IsTransition n k vars) t ts h))
 
-any_same : (n k : ℕ) (vars : List Var) (v : Var) (ts : List Transition) → All (IsTransition n k vars) ts → list_any (fits_zero (vars ++ v ∷ [])) ts ≡ list_any (fits_zero vars) ts
+any_same : (n k : ℕ) (vars : List Var) (v : Var) (ts : List Transition) → All (IsTransition n k vars) ts → list_any (fits_zero (vars ++ v ∷ [])) ts
+    ≡ list_any (fits_zero vars) ts
 any_same n k vars v [] h = refl
 any_same n k vars v (t ∷ ts) h =
     ap (λ (b : Bool). b || list_any (fits_zero (vars ++ v ∷ [])) ts) (fits_more n k vars v t (All-head (IsTransition n k vars) t ts h))
@@ -77,7 +80,8 @@ any_same n k vars v (t ∷ ts) h =
 -- a name that no variable has
 none_named : (vars : List Var) (name : List ℕ) → variable_named vars name ≡ None → (i : ℕ) (x : Var) → slice_get vars i ≡ Some x → x.name ≢ name
 none_named vars name none i x there same =
-    let past : length vars ≤ position_or_len (λ (w : Var). bytes_eq w.name name) vars = ltb-false _ _ (is_false (nat_lt (position_or_len (λ (w : Var). bytes_eq w.name name) vars) (length vars)) _ none) in
+    let past : length vars ≤ position_or_len (λ (w : Var). bytes_eq w.name name) vars = ltb-false _ _
+    (is_false (nat_lt (position_or_len (λ (w : Var). bytes_eq w.name name) vars) (length vars)) _ none) in
     let within : i < length vars = slice_get_within vars i x there in
     let fails : bytes_eq (get_or vars i x).name name ≡ false = fails_before_first (λ (w : Var). bytes_eq w.name name) vars i x (omega (arith, past, within)) in
     let at : get_or vars i x ≡ x = get_or_from_slice_get vars i x x there in
@@ -149,11 +153,13 @@ good_states parsed n word g none e =
       no_variables = λ is. absurd (let z : ⊥ = cc in z);
       no_transitions = λ is. absurd (let z : ⊥ = cc in z);
       none_without = g.none_without;
-      transitions = λ m h is ih. subst (All (IsTransition m (neighbour_count h) parsed.vars)) (sym (g.no_transitions none)) (All-nil (IsTransition m (neighbour_count h) parsed.vars));
+      transitions = λ m h is ih. subst (All (IsTransition m (neighbour_count h) parsed.vars)) (sym (g.no_transitions none))
+          (All-nil (IsTransition m (neighbour_count h) parsed.vars));
       quiet = g.quiet;
     }
 
-good_neighbors : (parsed : Parsed) (h : Neighborhood) → IsGood parsed → parsed.neighborhood ≡ None → agree (Some h) parsed.symmetry ≡ true → IsGood (after parsed (Neighbors h))
+good_neighbors : (parsed : Parsed) (h : Neighborhood) → IsGood parsed → parsed.neighborhood ≡ None → agree (Some h) parsed.symmetry ≡ true
+    → IsGood (after parsed (Neighbors h))
 good_neighbors parsed h g none e = record {
   states = g.states;
   listed = λ k y ik iy. (let same : h ≡ k = (let z : Some h ≡ Some k = ik in cc) in
@@ -163,7 +169,8 @@ good_neighbors parsed h g none e = record {
   no_variables = g.no_variables;
   no_transitions = g.no_transitions;
   none_without = λ is. absurd (let z : ⊥ = cc in z);
-  transitions = λ m k is ik. subst (All (IsTransition m (neighbour_count k) parsed.vars)) (sym (g.none_without none)) (All-nil (IsTransition m (neighbour_count k) parsed.vars));
+  transitions = λ m k is ik. subst (All (IsTransition m (neighbour_count k) parsed.vars)) (sym (g.none_without none))
+      (All-nil (IsTransition m (neighbour_count k) parsed.vars));
   quiet = g.quiet;
 }
 
@@ -187,7 +194,8 @@ module _ (parsed : Parsed) (n : ℕ) (h : Neighborhood) (g : IsGood parsed) (en 
     quiet = quiet_same n (neighbour_count h) parsed.vars var parsed.lines (g.transitions n h en eh) ∙ g.quiet;
   }
 
-  good_line : (t : Transition) → IsTransition n (neighbour_count h) parsed.vars t → is_quiet parsed.vars (parsed.lines ++ t ∷ []) ≡ true → IsGood (after parsed (Line t))
+  good_line : (t : Transition) → IsTransition n (neighbour_count h) parsed.vars t → is_quiet parsed.vars (parsed.lines ++ t ∷ []) ≡ true
+      → IsGood (after parsed (Line t))
   good_line t is quiet = record {
     states = g.states;
     listed = g.listed;
@@ -205,22 +213,31 @@ module _ (parsed : Parsed) (n : ℕ) (h : Neighborhood) (g : IsGood parsed) (en 
     quiet = quiet;
   }
 
-good_says : (parsed : Parsed) (number : ℕ) (text : List ℕ) (directive : Directive) → IsGood parsed → Says parsed number text directive → IsGood (after parsed directive)
-good_says parsed number text directive g (states d k none n e is) = subst (λ (t : Directive). IsGood (after parsed t)) (sym is) (good_states parsed n (setting_of text) g none e)
-good_says parsed number text directive g (neighbors d s k none h e agrees is) = subst (λ (t : Directive). IsGood (after parsed t)) (sym is) (good_neighbors parsed h g none agrees)
-good_says parsed number text directive g (orders d s m k none y e agrees is) = subst (λ (t : Directive). IsGood (after parsed t)) (sym is) (good_orders parsed y g agrees)
+good_says : (parsed : Parsed) (number : ℕ) (text : List ℕ) (directive : Directive) → IsGood parsed → Says parsed number text directive
+    → IsGood (after parsed directive)
+good_says parsed number text directive g (states d k none n e is) = subst (λ (t : Directive). IsGood (after parsed t)) (sym is)
+    (good_states parsed n (setting_of text) g none e)
+good_says parsed number text directive g (neighbors d s k none h e agrees is) = subst (λ (t : Directive). IsGood (after parsed t)) (sym is)
+    (good_neighbors parsed h g none agrees)
+good_says parsed number text directive g (orders d s m k none y e agrees is) = subst (λ (t : Directive). IsGood (after parsed t)) (sym is)
+    (good_orders parsed y g agrees)
 good_says parsed number text directive g (variable d n h y en eh ey v var e is) =
     let w = is_variable_written n (g.states n en).1 parsed.vars (g.variables n en) text var e in
     subst (λ (t : Directive). IsGood (after parsed t)) (sym is) (good_variable parsed n h g en eh text var w.0 w.1)
 good_says parsed number text directive g (transition d n h y en eh ey v t e bound quiet is) =
-    subst (λ (t : Directive). IsGood (after parsed t)) (sym is) (good_line parsed n h g en eh t (is_transition n (neighbour_count h) parsed.vars number text t e bound) quiet)
+    subst (λ (t : Directive). IsGood (after parsed t)) (sym is)
+    (good_line parsed n h g en eh t (is_transition n (neighbour_count h) parsed.vars number text t e bound) quiet)
 
-pub good_more : (parsed : Parsed) (number : ℕ) (line : List ℕ) (directive : Directive) → IsGood parsed → Case parsed number line directive → IsGood (after parsed directive)
+pub good_more : (parsed : Parsed) (number : ℕ) (line : List ℕ) (directive : Directive) → IsGood parsed → Case parsed number line directive
+    → IsGood (after parsed directive)
 good_more parsed number line directive g (passed s n p is) = subst (λ (t : Directive). IsGood (after parsed t)) (sym is) g
-good_more parsed number line directive g (named s n p name e is) = subst (λ (t : Directive). IsGood (after parsed t)) (sym is) (good_elsewhere parsed (Some name) parsed.section g)
+good_more parsed number line directive g (named s n p name e is) = subst (λ (t : Directive). IsGood (after parsed t)) (sym is)
+    (good_elsewhere parsed (Some name) parsed.section g)
 good_more parsed number line directive g (ahead s name n p is) = subst (λ (t : Directive). IsGood (after parsed t)) (sym is) g
-good_more parsed number line directive g (opens s name n p is) = subst (λ (t : Directive). IsGood (after parsed t)) (sym is) (good_elsewhere parsed parsed.name Open g)
-good_more parsed number line directive g (ends s l d is) = subst (λ (t : Directive). IsGood (after parsed t)) (sym is) (good_elsewhere parsed parsed.name Behind g)
+good_more parsed number line directive g (opens s name n p is) = subst (λ (t : Directive). IsGood (after parsed t)) (sym is)
+    (good_elsewhere parsed parsed.name Open g)
+good_more parsed number line directive g (ends s l d is) = subst (λ (t : Directive). IsGood (after parsed t)) (sym is)
+    (good_elsewhere parsed parsed.name Behind g)
 good_more parsed number line directive g (silent s l e is) = subst (λ (t : Directive). IsGood (after parsed t)) (sym is) g
 good_more parsed number line directive g (says s l e more) = good_says parsed number (content line) directive g more
 good_more parsed number line directive g (behind s is) = subst (λ (t : Directive). IsGood (after parsed t)) (sym is) g
@@ -239,7 +256,8 @@ good_start = record {
 }
 
 -- what is said makes a table
-pub sound_of : (parsed : Parsed) → IsGood parsed → (n : ℕ) (h : Neighborhood) (y : Symmetry) → parsed.n_states ≡ Some n → parsed.neighborhood ≡ Some h → parsed.symmetry ≡ Some y
+pub sound_of : (parsed : Parsed) → IsGood parsed → (n : ℕ) (h : Neighborhood) (y : Symmetry) → parsed.n_states ≡ Some n → parsed.neighborhood ≡ Some h
+    → parsed.symmetry ≡ Some y
     → IsSound n h y parsed.vars parsed.lines
 sound_of parsed g n h y en eh ey = record {
   least = (g.states n en).0;
@@ -269,11 +287,15 @@ any_more p (u ∷ ts) t = ap (λ (b : Bool). p u || b) (any_more p ts t) ∙ or_
     or_assoc true b c = refl
     or_assoc false b c = refl
 
-fits_says : (parsed : Parsed) (number : ℕ) (text : List ℕ) (directive : Directive) (fit : Bool) → IsGood parsed → fit ≡ list_any (fits_zero parsed.vars) parsed.lines → Says parsed number text directive
+fits_says : (parsed : Parsed) (number : ℕ) (text : List ℕ) (directive : Directive) (fit : Bool) → IsGood parsed
+    → fit ≡ list_any (fits_zero parsed.vars) parsed.lines → Says parsed number text directive
     → fits_after fit parsed.vars directive ≡ list_any (fits_zero (after parsed directive).vars) (after parsed directive).lines
-fits_says parsed number text directive fit g f (states d k none n e is) = subst (λ (t : Directive). fits_after fit parsed.vars t ≡ list_any (fits_zero (after parsed t).vars) (after parsed t).lines) (sym is) f
-fits_says parsed number text directive fit g f (neighbors d s k none h e agrees is) = subst (λ (t : Directive). fits_after fit parsed.vars t ≡ list_any (fits_zero (after parsed t).vars) (after parsed t).lines) (sym is) f
-fits_says parsed number text directive fit g f (orders d s m k none y e agrees is) = subst (λ (t : Directive). fits_after fit parsed.vars t ≡ list_any (fits_zero (after parsed t).vars) (after parsed t).lines) (sym is) f
+fits_says parsed number text directive fit g f (states d k none n e is) = subst
+    (λ (t : Directive). fits_after fit parsed.vars t ≡ list_any (fits_zero (after parsed t).vars) (after parsed t).lines) (sym is) f
+fits_says parsed number text directive fit g f (neighbors d s k none h e agrees is) = subst
+    (λ (t : Directive). fits_after fit parsed.vars t ≡ list_any (fits_zero (after parsed t).vars) (after parsed t).lines) (sym is) f
+fits_says parsed number text directive fit g f (orders d s m k none y e agrees is) = subst
+    (λ (t : Directive). fits_after fit parsed.vars t ≡ list_any (fits_zero (after parsed t).vars) (after parsed t).lines) (sym is) f
 fits_says parsed number text directive fit g f (variable d n h y en eh ey v var e is) =
     subst (λ (t : Directive). fits_after fit parsed.vars t ≡ list_any (fits_zero (after parsed t).vars) (after parsed t).lines) (sym is)
     (f ∙ sym (any_same n (neighbour_count h) parsed.vars var parsed.lines (g.transitions n h en eh)))
@@ -281,22 +303,35 @@ fits_says parsed number text directive fit g f (transition d n h y en eh ey v t 
     subst (λ (t : Directive). fits_after fit parsed.vars t ≡ list_any (fits_zero (after parsed t).vars) (after parsed t).lines) (sym is)
     (ap (λ (b : Bool). b || fits_zero parsed.vars t) f ∙ sym (any_more (fits_zero parsed.vars) parsed.lines t))
 
-fits_case : (parsed : Parsed) (number : ℕ) (line : List ℕ) (directive : Directive) (fit : Bool) → IsGood parsed → fit ≡ list_any (fits_zero parsed.vars) parsed.lines → Case parsed number line directive
+fits_case : (parsed : Parsed) (number : ℕ) (line : List ℕ) (directive : Directive) (fit : Bool) → IsGood parsed
+    → fit ≡ list_any (fits_zero parsed.vars) parsed.lines → Case parsed number line directive
     → fits_after fit parsed.vars directive ≡ list_any (fits_zero (after parsed directive).vars) (after parsed directive).lines
-fits_case parsed number line directive fit g f (passed s n p is) = subst (λ (t : Directive). fits_after fit parsed.vars t ≡ list_any (fits_zero (after parsed t).vars) (after parsed t).lines) (sym is) f
-fits_case parsed number line directive fit g f (named s n p name e is) = subst (λ (t : Directive). fits_after fit parsed.vars t ≡ list_any (fits_zero (after parsed t).vars) (after parsed t).lines) (sym is) f
-fits_case parsed number line directive fit g f (ahead s name n p is) = subst (λ (t : Directive). fits_after fit parsed.vars t ≡ list_any (fits_zero (after parsed t).vars) (after parsed t).lines) (sym is) f
-fits_case parsed number line directive fit g f (opens s name n p is) = subst (λ (t : Directive). fits_after fit parsed.vars t ≡ list_any (fits_zero (after parsed t).vars) (after parsed t).lines) (sym is) f
-fits_case parsed number line directive fit g f (ends s l d is) = subst (λ (t : Directive). fits_after fit parsed.vars t ≡ list_any (fits_zero (after parsed t).vars) (after parsed t).lines) (sym is) f
-fits_case parsed number line directive fit g f (silent s l e is) = subst (λ (t : Directive). fits_after fit parsed.vars t ≡ list_any (fits_zero (after parsed t).vars) (after parsed t).lines) (sym is) f
+fits_case parsed number line directive fit g f (passed s n p is) = subst
+    (λ (t : Directive). fits_after fit parsed.vars t ≡ list_any (fits_zero (after parsed t).vars) (after parsed t).lines) (sym is) f
+fits_case parsed number line directive fit g f (named s n p name e is) = subst
+    (λ (t : Directive). fits_after fit parsed.vars t ≡ list_any (fits_zero (after parsed t).vars) (after parsed t).lines) (sym is) f
+fits_case parsed number line directive fit g f (ahead s name n p is) = subst
+    (λ (t : Directive). fits_after fit parsed.vars t ≡ list_any (fits_zero (after parsed t).vars) (after parsed t).lines) (sym is) f
+fits_case parsed number line directive fit g f (opens s name n p is) = subst
+    (λ (t : Directive). fits_after fit parsed.vars t ≡ list_any (fits_zero (after parsed t).vars) (after parsed t).lines) (sym is) f
+fits_case parsed number line directive fit g f (ends s l d is) = subst
+    (λ (t : Directive). fits_after fit parsed.vars t ≡ list_any (fits_zero (after parsed t).vars) (after parsed t).lines) (sym is) f
+fits_case parsed number line directive fit g f (silent s l e is) = subst
+    (λ (t : Directive). fits_after fit parsed.vars t ≡ list_any (fits_zero (after parsed t).vars) (after parsed t).lines) (sym is) f
 fits_case parsed number line directive fit g f (says s l e more) = fits_says parsed number (content line) directive fit g f more
-fits_case parsed number line directive fit g f (behind s is) = subst (λ (t : Directive). fits_after fit parsed.vars t ≡ list_any (fits_zero (after parsed t).vars) (after parsed t).lines) (sym is) f
+fits_case parsed number line directive fit g f (behind s is) = subst
+    (λ (t : Directive). fits_after fit parsed.vars t ≡ list_any (fits_zero (after parsed t).vars) (after parsed t).lines) (sym is) f
 
 pub kept_start : IsKept nothing_parsed false
 kept_start = record { most = tt; fits = refl; quiet = refl }
 
-pub kept_more : (parsed : Parsed) (number : ℕ) (line : List ℕ) (directive : Directive) (fit : Bool) → IsGood parsed → IsKept parsed fit → Case parsed number line directive
+pub kept_more : (parsed : Parsed) (number : ℕ) (line : List ℕ) (directive : Directive) (fit : Bool) → IsGood parsed → IsKept parsed fit
+    → Case parsed number line directive
     → IsKept (after parsed directive) (fits_after fit parsed.vars directive)
 kept_more parsed number line directive fit g k case =
     let next = good_more parsed number line directive g case in
-    record { most = kept_most (after parsed directive).n_states next.states; fits = fits_case parsed number line directive fit g k.fits case; quiet = next.quiet }
+    record {
+      most = kept_most (after parsed directive).n_states next.states;
+      fits = fits_case parsed number line directive fit g k.fits case;
+      quiet = next.quiet;
+    }

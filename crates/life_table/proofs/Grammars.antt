@@ -43,7 +43,8 @@ either_of : (a b : Bool) → (a || b) ≡ true → (a ≡ true) ⊎ (b ≡ true)
 either_of true b e = inl refl
 either_of false b e = inr e
 
-all_given : (parsed : Parsed) (on : Option ℕ) (oh : Option Neighborhood) (oy : Option Symmetry) → parsed.n_states ≡ on → parsed.neighborhood ≡ oh → parsed.symmetry ≡ oy
+all_given : (parsed : Parsed) (on : Option ℕ) (oh : Option Neighborhood) (oy : Option Symmetry) → parsed.n_states ≡ on → parsed.neighborhood ≡ oh
+    → parsed.symmetry ≡ oy
     → (is_some on && is_some oh && is_some oy) ≡ true → (n : ℕ) × (h : Neighborhood) × (y : Symmetry) × AreGiven parsed n h y
 all_given parsed (Some n) (Some h) (Some y) p q r e = (n, h, y, record { states = p; neighbours = q; orders = r })
 all_given parsed (Some n) (Some h) None p q r e = absurd (let z : ⊥ = cc in z)
@@ -53,7 +54,8 @@ all_given parsed None oh oy p q r e = absurd (let z : ⊥ = cc in z)
 is_given : (parsed : Parsed) (n : ℕ) (h : Neighborhood) (y : Symmetry) → AreGiven parsed n h y → is_described parsed ≡ true
 is_given parsed n h y g =
     ap (λ (o : Option ℕ). is_some o && is_some parsed.neighborhood && is_some parsed.symmetry) g.states
-    ∙ ap (λ (o : Option Neighborhood). true && is_some o && is_some parsed.symmetry) g.neighbours ∙ ap (λ (o : Option Symmetry). true && true && is_some o) g.orders
+    ∙ ap (λ (o : Option Neighborhood). true && is_some o && is_some parsed.symmetry) g.neighbours
+    ∙ ap (λ (o : Option Symmetry). true && true && is_some o) g.orders
 
 -- ---- what a line is, from what its tests tell
 
@@ -75,12 +77,19 @@ module _ (parsed : Parsed) (number : ℕ) (text : List ℕ) (directive : Directi
         | inl f ↦ inl ((bytes_eq-Decides (key_of text) (codes "neighborhood")).0 f)
         | inr f ↦ inr ((bytes_eq-Decides (key_of text) (codes "neighbourhood")).0 f)
       ] in
-      neighborhood h (record { key = key_of text; spelled = spelled; is = record { colon = d; before = refl; behind = neighborhood_parsed (setting_of text) h e } }) o a t
+      neighborhood h (record {
+        key = key_of text;
+        spelled = spelled;
+        is = record { colon = d; before = refl; behind = neighborhood_parsed (setting_of text) h e };
+      }) o a t
   text_is (cases.orders d s n k o y e a t) =
-      symmetry y (record { colon = d; before = (bytes_eq-Decides (key_of text) (codes "symmetries")).0 k; behind = symmetry_parsed (setting_of text) y e }) o a t
-  text_is (cases.variable d n h y p q r v var e t) = variable n h y var (record { states = p; neighbours = q; orders = r }) (variable_parsed n parsed.vars text var d v e) t
+      symmetry y (record { colon = d; before = (bytes_eq-Decides (key_of text) (codes "symmetries")).0 k; behind = symmetry_parsed (setting_of text) y e }) o a
+      t
+  text_is (cases.variable d n h y p q r v var e t) = variable n h y var (record { states = p; neighbours = q; orders = r })
+      (variable_parsed n parsed.vars text var d v e) t
   text_is (cases.transition d n h y p q r v line e b quiet t) =
-      transition n h y line (record { states = p; neighbours = q; orders = r }) (transition_parsed n (neighbour_count h) parsed.vars number text line d v e b) quiet t
+      transition n h y line (record { states = p; neighbours = q; orders = r }) (transition_parsed n (neighbour_count h) parsed.vars number text line d v e b)
+      quiet t
 
 module _ (parsed : Parsed) (number : ℕ) (line : List ℕ) (directive : Directive) where
   line_is : cases.Case parsed number line directive → LineSays parsed number line directive
@@ -88,7 +97,8 @@ module _ (parsed : Parsed) (number : ℕ) (line : List ℕ) (directive : Directi
   line_is (cases.named s o p name e t) = rule_line name s o p e t
   line_is (cases.ahead s name o e t) = other name s o e t
   line_is (cases.opens s name o e t) = table_line name s o e t
-  line_is (cases.ends s e d t) = let g = all_given parsed parsed.n_states parsed.neighborhood parsed.symmetry refl refl refl d in section_line g.0 g.1 g.2 s e g.3 t
+  line_is (cases.ends s e d t) = let g = all_given parsed parsed.n_states parsed.neighborhood parsed.symmetry refl refl refl d in
+      section_line g.0 g.1 g.2 s e g.3 t
   line_is (cases.silent s e c t) = blank s e (is_nothing (content line) c) t
   line_is (cases.says s e c f) = says s e (is_something (content line) c) (text_is parsed number (content line) directive f)
   line_is (cases.behind s t) = behind s t
@@ -96,7 +106,8 @@ module _ (parsed : Parsed) (number : ℕ) (line : List ℕ) (directive : Directi
 -- ---- what a line's tests tell, from what it is
 
 -- either spelling of the key is no other key
-spelled_key : (key own : List ℕ) → (key ≡ codes "neighborhood") ⊎ (key ≡ codes "neighbourhood") → own ≡ key → (is_states_key own ≡ false) × (is_neighborhood_key own ≡ true)
+spelled_key : (key own : List ℕ) → (key ≡ codes "neighborhood") ⊎ (key ≡ codes "neighbourhood") → own ≡ key → (is_states_key own ≡ false)
+    × (is_neighborhood_key own ≡ true)
 spelled_key key own (inl e) f = (ap is_states_key (f ∙ e), ap is_neighborhood_key (f ∙ e))
 spelled_key key own (inr e) f = (ap is_states_key (f ∙ e), ap is_neighborhood_key (f ∙ e))
 
@@ -155,12 +166,14 @@ module _ (parsed : Parsed) (number : ℕ) (text : List ℕ) where
       ∙ take_then (agree parsed.neighborhood (Some y)) (Ok (Orders y)) (Err UnsupportedSymmetry) a ∙ ap Ok (sym t)
   text_tells directive (variable n h y var g v t) =
       take_else (is_descriptor text) (parse_descriptor parsed.n_states parsed.neighborhood parsed.symmetry text) rest v.colon ∙ rest_given n h y g
-      ∙ take_then (is_variable_line text) (if_variable (variable_of n parsed.vars text)) (if_transition parsed.vars parsed.lines (transition_of n (neighbour_count h) parsed.vars number text)) v.begins
+      ∙ take_then (is_variable_line text) (if_variable (variable_of n parsed.vars text))
+      (if_transition parsed.vars parsed.lines (transition_of n (neighbour_count h) parsed.vars number text)) v.begins
       ∙ ap if_variable (variable_is n parsed.vars text var v) ∙ ap Ok (sym t)
   text_tells directive (transition n h y line g v quiet t) =
       let kept : Result Directive Kind = if is_quiet parsed.vars (parsed.lines ++ line ∷ []) then Ok (Line line) else Err NotQuiet in
       take_else (is_descriptor text) (parse_descriptor parsed.n_states parsed.neighborhood parsed.symmetry text) rest v.colon ∙ rest_given n h y g
-      ∙ take_else (is_variable_line text) (if_variable (variable_of n parsed.vars text)) (if_transition parsed.vars parsed.lines (transition_of n (neighbour_count h) parsed.vars number text)) v.begins
+      ∙ take_else (is_variable_line text) (if_variable (variable_of n parsed.vars text))
+      (if_transition parsed.vars parsed.lines (transition_of n (neighbour_count h) parsed.vars number text)) v.begins
       ∙ ap (if_transition parsed.vars parsed.lines) (transition_is n (neighbour_count h) parsed.vars number text line v)
       ∙ take_else (not (is_bound line.inputs line.output)) (Err UnboundOutput) kept (ap not v.bound)
       ∙ take_then (is_quiet parsed.vars (parsed.lines ++ line ∷ [])) (Ok (Line line)) (Err NotQuiet) quiet ∙ ap Ok (sym t)
@@ -182,18 +195,24 @@ module _ (parsed : Parsed) (number : ℕ) (line : List ℕ) where
   at_name name e = ap (λ (o : Option (List ℕ)). parse_ahead o line) e
 
   in_section : (directive : Directive) → LineSays parsed number line directive → parse_in_section parsed.section parsed number line ≡ Ok directive
-  in_section directive (passed s o p t) = at_section Ahead s ∙ at_name None o ∙ take_then (is_passed_over line) (Ok Nothing) (if_named (name_on line)) p ∙ ap Ok (sym t)
+  in_section directive (passed s o p t) = at_section Ahead s ∙ at_name None o ∙ take_then (is_passed_over line) (Ok Nothing) (if_named (name_on line)) p
+      ∙ ap Ok (sym t)
   in_section directive (rule_line name s o p e t) =
       at_section Ahead s ∙ at_name None o ∙ take_else (is_passed_over line) (Ok Nothing) (if_named (name_on line)) p ∙ ap if_named e ∙ ap Ok (sym t)
-  in_section directive (other name s o e t) = at_section Ahead s ∙ at_name (Some name) o ∙ take_else (is_table_line line) (Ok TableOpens) (Ok Nothing) e ∙ ap Ok (sym t)
-  in_section directive (table_line name s o e t) = at_section Ahead s ∙ at_name (Some name) o ∙ take_then (is_table_line line) (Ok TableOpens) (Ok Nothing) e ∙ ap Ok (sym t)
+  in_section directive (other name s o e t) = at_section Ahead s ∙ at_name (Some name) o ∙ take_else (is_table_line line) (Ok TableOpens) (Ok Nothing) e
+      ∙ ap Ok (sym t)
+  in_section directive (table_line name s o e t) = at_section Ahead s ∙ at_name (Some name) o ∙ take_then (is_table_line line) (Ok TableOpens) (Ok Nothing) e
+      ∙ ap Ok (sym t)
   in_section directive (blank s e c t) =
-      at_section Open s ∙ take_else (is_section_line line) of_end of_content e ∙ take_then (is_empty (content line)) (Ok Nothing) of_text (ap is_empty c) ∙ ap Ok (sym t)
+      at_section Open s ∙ take_else (is_section_line line) of_end of_content e ∙ take_then (is_empty (content line)) (Ok Nothing) of_text (ap is_empty c)
+      ∙ ap Ok (sym t)
   in_section directive (says s e c f) =
-      at_section Open s ∙ take_else (is_section_line line) of_end of_content e ∙ take_else (is_empty (content line)) (Ok Nothing) of_text (not_nothing (content line) c)
+      at_section Open s ∙ take_else (is_section_line line) of_end of_content e
+      ∙ take_else (is_empty (content line)) (Ok Nothing) of_text (not_nothing (content line) c)
       ∙ text_tells parsed number (content line) directive f
   in_section directive (section_line n h y s e g t) =
-      at_section Open s ∙ take_then (is_section_line line) of_end of_content e ∙ take_then (is_described parsed) (Ok TableEnds) (Err BadDescriptor) (is_given parsed n h y g) ∙ ap Ok (sym t)
+      at_section Open s ∙ take_then (is_section_line line) of_end of_content e ∙ take_then (is_described parsed) (Ok TableEnds) (Err BadDescriptor)
+      (is_given parsed n h y g) ∙ ap Ok (sym t)
   in_section directive (behind s t) = at_section Behind s ∙ ap Ok (sym t)
 
   fits : length line ≤ 2 ^ 20 → is_too_long line ≡ false
@@ -201,13 +220,15 @@ module _ (parsed : Parsed) (number : ℕ) (line : List ℕ) where
 
   line_tells : (directive : Directive) → length line ≤ 2 ^ 20 → LineSays parsed number line directive → parse_line parsed number line ≡ Ok directive
   unfolding parse_line
-  line_tells directive h f = take_else (is_too_long line) (Err LineTooLong) (parse_in_section parsed.section parsed number line) (fits h) ∙ in_section directive f
+  line_tells directive h f = take_else (is_too_long line) (Err LineTooLong) (parse_in_section parsed.section parsed number line) (fits h)
+      ∙ in_section directive f
 
   short_line : (directive : Directive) → parse_line parsed number line ≡ Ok directive → length line ≤ 2 ^ 20
   unfolding parse_line
   short_line directive e = by (is_too_long line) refl e
     where
-      by : (v : Bool) → is_too_long line ≡ v → cond v (Err LineTooLong) (parse_in_section parsed.section parsed number line) ≡ Ok directive → length line ≤ 2 ^ 20
+      by : (v : Bool) → is_too_long line ≡ v → cond v (Err LineTooLong) (parse_in_section parsed.section parsed number line) ≡ Ok directive
+          → length line ≤ 2 ^ 20
       by true p q = absurd (let z : ⊥ = cc in z)
       by false p q = omega (arith, ltb-false (2 ^ 20) (length line) p)
 
@@ -220,7 +241,8 @@ abbrev parsed_of : List (List ℕ) → Parsed
 parsed_of lines = parsed_by (numbered_from 1 lines)
 
 -- lines that lead on break no rule
-led : (more lines : List (List ℕ)) (end : Parsed) → Reach lines → Lead (parsed_of lines) (number_behind lines) more end → Reach (lines ++ more) × (parsed_of (lines ++ more) ≡ end)
+led : (more lines : List (List ℕ)) (end : Parsed) → Reach lines → Lead (parsed_of lines) (number_behind lines) more end → Reach (lines ++ more)
+    × (parsed_of (lines ++ more) ≡ end)
 led [] lines end r l = (subst Reach (sym (append-nil lines)) r, ap parsed_of (append-nil lines) ∙ l)
 led (line ∷ more) lines end r l =
     let m = reach_more lines line l.0 r (line_tells (parsed_of lines) (number_behind lines) line l.0 l.1 l.2) in
@@ -240,7 +262,8 @@ leads [] lines r u = ap parsed_of (sym (append-nil lines))
 leads (line ∷ more) lines r u =
     let f : take (length lines) (lines ++ line ∷ more) ≡ lines = take-append_seam lines (line ∷ more) in
     let g : get_or (lines ++ line ∷ more) (length lines) [] ≡ line = get_or-append_seam lines line more [] in
-    let here : broken (take (length lines) (lines ++ line ∷ more)) (get_or (lines ++ line ∷ more) (length lines) []) ≡ None = u (length lines) (omega (arith, length-append lines (line ∷ more))) in
+    let here : broken (take (length lines) (lines ++ line ∷ more)) (get_or (lines ++ line ∷ more) (length lines) []) ≡ None = u (length lines)
+    (omega (arith, length-append lines (line ∷ more))) in
     let b : broken lines line ≡ None = rw (f, g) at here in
     let t = unbroken_directive lines line b in
     let m = reach_more lines line t.0 r t.1 in
@@ -265,7 +288,8 @@ no_ahead Behind h = refl
 nothing_lacks : (parsed : Parsed) (table : Table) → Describes parsed table → parsed.section ≢ Ahead → lacking parsed ≡ None
 nothing_lacks parsed table d h =
     let described : Option Kind = if is_described parsed then None else Some BadDescriptor in
-    let g : AreGiven parsed table.n_states table.neighborhood table.symmetry = record { states = d.n_states; neighbours = d.neighborhood; orders = d.symmetry } in
+    let g : AreGiven parsed table.n_states table.neighborhood table.symmetry = record { states = d.n_states; neighbours = d.neighborhood; orders = d.symmetry }
+    in
     take_else (is_none parsed.name) (Some NoRuleLine) (if is_ahead parsed.section then Some NoTable else described) (ap is_none d.name)
     ∙ take_else (is_ahead parsed.section) (Some NoTable) described (no_ahead parsed.section h)
     ∙ take_then (is_described parsed) None (Some BadDescriptor) (is_given parsed table.n_states table.neighborhood table.symmetry g)

@@ -20,7 +20,8 @@ use Rattle.life_table.specs.declared.groups.Group.{Group}
 abbrev pub of_group : (ℕ → ℕ) → ℕ → Group → ℕ
 of_group choice t g = of_state t (choice g.variable) g.times
 
-wanted_add : (choice : ℕ → ℕ) (t number : ℕ) (groups : List Group) → wanted choice (add_to number groups) t ≡ wanted choice groups t + of_state t (choice number) 1
+wanted_add : (choice : ℕ → ℕ) (t number : ℕ) (groups : List Group) → wanted choice (add_to number groups) t ≡ wanted choice groups t + of_state t
+    (choice number) 1
 wanted_add choice t number [] = let e = sum_by-cons (of_group choice t) (record { variable = number; times = 1 }) [] in omega (arith, e)
 wanted_add choice t number (g ∷ groups) = elim (eqb_tells number g.variable) [
   | inl same ↦
@@ -65,7 +66,8 @@ has_add v number (g ∷ groups) h other =
 distinct_add : (number : ℕ) (groups : List Group) → IsDistinct groups → IsDistinct (add_to number groups)
 distinct_add number [] h = (refl, tt)
 distinct_add number (g ∷ groups) h = elim (eqb_tells number g.variable) [
-  | inl same ↦ subst (λ b. IsDistinct (cond b (record { variable = g.variable; times = g.times + 1 } ∷ groups) (g ∷ add_to number groups))) (sym same.0) (h.0, h.1)
+  | inl same ↦ subst (λ b. IsDistinct (cond b (record { variable = g.variable; times = g.times + 1 } ∷ groups) (g ∷ add_to number groups))) (sym same.0)
+      (h.0, h.1)
   | inr diff ↦ subst (λ b. IsDistinct (cond b (record { variable = g.variable; times = g.times + 1 } ∷ groups) (g ∷ add_to number groups))) (sym diff.0)
       (has_add g.variable number groups h.0 (not_same g.variable number (λ e. diff.1 (sym e))), distinct_add number groups h.1)
 ]
@@ -77,8 +79,10 @@ all_other v (g ∷ groups) h =
     let parts = neither (nat_eq v g.variable) (has_group v groups) h in
     All-cons (λ (g : Group). nat_eq v g.variable ≡ false) g groups parts.0 (all_other v groups parts.1)
 
-all_add : (P Q : Group → Type 0) (number : ℕ) (groups : List Group) → IsDistinct groups → All P groups → ((g : Group) → P g → nat_eq number g.variable ≡ false → Q g) →
-    ((g : Group) → P g → number ≡ g.variable → Q (record { variable = g.variable; times = g.times + 1 })) → Q (record { variable = number; times = 1 }) → All Q (add_to number groups)
+all_add : (P Q : Group → Type 0) (number : ℕ) (groups : List Group) → IsDistinct groups → All P groups
+    → ((g : Group) → P g → nat_eq number g.variable ≡ false → Q g) →
+    ((g : Group) → P g → number ≡ g.variable → Q (record { variable = g.variable; times = g.times + 1 })) → Q (record { variable = number; times = 1 })
+    → All Q (add_to number groups)
 all_add P Q number [] d h keep more new = All-cons Q (record { variable = number; times = 1 }) [] new (λ k d below. absurd (omega (arith, below)))
 all_add P Q number (g ∷ groups) d h keep more new =
     let head = All-head P g groups h in
@@ -87,17 +91,21 @@ all_add P Q number (g ∷ groups) d h keep more new =
       | inl same ↦
           let others = all_other number groups (ap (λ v. has_group v groups) same.1 ∙ d.0) in
           subst (λ b. All Q (cond b (record { variable = g.variable; times = g.times + 1 } ∷ groups) (g ∷ add_to number groups))) (sym same.0)
-          (All-cons Q (record { variable = g.variable; times = g.times + 1 }) groups (more g head same.1) (λ k e below. keep (get_or groups k e) (tail k e below) (others k e below)))
+          (All-cons Q (record { variable = g.variable; times = g.times + 1 }) groups (more g head same.1)
+          (λ k e below. keep (get_or groups k e) (tail k e below) (others k e below)))
       | inr diff ↦
           subst (λ b. All Q (cond b (record { variable = g.variable; times = g.times + 1 } ∷ groups) (g ∷ add_to number groups))) (sym diff.0)
           (All-cons Q g (add_to number groups) (keep g head diff.0) (all_add P Q number groups d.1 tail keep more new))
     ]
 
-first_add : (number : ℕ) (groups : List Group) → 0 < length groups → (0 < length (add_to number groups)) × (first_variable (add_to number groups) ≡ first_variable groups)
+first_add : (number : ℕ) (groups : List Group) → 0 < length groups → (0 < length (add_to number groups))
+    × (first_variable (add_to number groups) ≡ first_variable groups)
 first_add number [] h = absurd (omega (arith, h))
 first_add number (g ∷ groups) h = elim (eqb_tells number g.variable) [
-  | inl same ↦ subst (λ b. let new : List Group = cond b (record { variable = g.variable; times = g.times + 1 } ∷ groups) (g ∷ add_to number groups) in (0 < length new) × (first_variable new ≡ g.variable)) (sym same.0) (omega arith, refl)
-  | inr diff ↦ subst (λ b. let new : List Group = cond b (record { variable = g.variable; times = g.times + 1 } ∷ groups) (g ∷ add_to number groups) in (0 < length new) × (first_variable new ≡ g.variable)) (sym diff.0) (omega arith, refl)
+  | inl same ↦ subst (λ b. let new : List Group = cond b (record { variable = g.variable; times = g.times + 1 } ∷ groups) (g ∷ add_to number groups) in
+      (0 < length new) × (first_variable new ≡ g.variable)) (sym same.0) (omega arith, refl)
+  | inr diff ↦ subst (λ b. let new : List Group = cond b (record { variable = g.variable; times = g.times + 1 } ∷ groups) (g ∷ add_to number groups) in
+      (0 < length new) × (first_variable new ≡ g.variable)) (sym diff.0) (omega arith, refl)
 ]
 
 either : (a b : Bool) → (a || b) ≡ true → (a ≡ true) ⊎ (b ≡ true)
@@ -128,15 +136,23 @@ module _ (first output : Entry) (es : List Entry) (groups : List Group) (h : IsG
         let c = h.counts choice t in
         omega (arith, w, p, o, c);
     distinct = distinct_add i groups h.distinct;
-    unsettled = all_add (λ g. is_variable g.variable first ≡ false) (λ g. is_variable g.variable first ≡ false) i groups h.distinct h.unsettled (λ g p o. p) (λ g p o. p) open_i;
-    stands = all_add (λ g. IsTrue (list_any (is_variable g.variable) es) ⊎ (output ≡ entries.Var g.variable)) (λ g. IsTrue (list_any (is_variable g.variable) (es ++ entries.Var i ∷ [])) ⊎ (output ≡ entries.Var g.variable)) i groups h.distinct h.stands
-        (λ g p o. elim p [ inl s ↦ inl (push_any g.variable es (entries.Var i) ∙ left_true (list_any (is_variable g.variable) es) (nat_eq g.variable i || false) s) | inr s ↦ inr s ])
+    unsettled = all_add (λ g. is_variable g.variable first ≡ false) (λ g. is_variable g.variable first ≡ false) i groups h.distinct h.unsettled (λ g p o. p)
+        (λ g p o. p) open_i;
+    stands = all_add (λ g. IsTrue (list_any (is_variable g.variable) es) ⊎ (output ≡ entries.Var g.variable))
+        (λ g. IsTrue (list_any (is_variable g.variable) (es ++ entries.Var i ∷ [])) ⊎ (output ≡ entries.Var g.variable)) i groups h.distinct h.stands
+        (λ g p o. elim p [
+          | inl s ↦ inl
+              (push_any g.variable es (entries.Var i) ∙ left_true (list_any (is_variable g.variable) es) (nat_eq g.variable i || false) s)
+          | inr s ↦ inr s
+        ])
         (λ g p o. inl (here g.variable (sym o)))
         (inl (here i refl));
-    some = all_add (λ g. IsTrue (list_any (is_variable g.variable) es) → 0 < g.times) (λ g. IsTrue (list_any (is_variable g.variable) (es ++ entries.Var i ∷ [])) → 0 < g.times) i groups h.distinct h.some
+    some = all_add (λ g. IsTrue (list_any (is_variable g.variable) es) → 0 < g.times)
+        (λ g. IsTrue (list_any (is_variable g.variable) (es ++ entries.Var i ∷ [])) → 0 < g.times) i groups h.distinct h.some
         (λ g p o s. elim (either (list_any (is_variable g.variable) es) (nat_eq g.variable i || false) (sym (push_any g.variable es (entries.Var i)) ∙ s)) [
           | inl old ↦ p old
-          | inr new ↦ absurd (is_clash (nat_eq g.variable i || false) new (both_false (nat_eq g.variable i) false (not_same g.variable i (λ e. are_other i g.variable o (sym e))) refl))
+          | inr new ↦ absurd (is_clash (nat_eq g.variable i || false) new
+              (both_false (nat_eq g.variable i) false (not_same g.variable i (λ e. are_other i g.variable o (sym e))) refl))
         ])
         (λ g p o s. omega arith)
         (λ s. omega arith);
@@ -146,19 +162,23 @@ module _ (first output : Entry) (es : List Entry) (groups : List Group) (h : IsG
     here v e = push_any v es (entries.Var i) ∙ right_true (list_any (is_variable v) es) (nat_eq v i || false) (left_true (nat_eq v i) false (eq-eqb v i e))
 
   -- one more input that the centre settles
-  pub grouped_skip : (e : Entry) → ((choice : ℕ → ℕ) (t : ℕ) → open_state first choice t e ≡ 0) → ((v : ℕ) → is_variable v first ≡ false → is_variable v e ≡ false) → IsGrouped first output (es ++ e ∷ []) groups
+  pub grouped_skip : (e : Entry) → ((choice : ℕ → ℕ) (t : ℕ) → open_state first choice t e ≡ 0)
+      → ((v : ℕ) → is_variable v first ≡ false → is_variable v e ≡ false) → IsGrouped first output (es ++ e ∷ []) groups
   grouped_skip e none other = record {
     counts = λ choice t. let p = sum_by_push (open_state first choice t) es e in let z = none choice t in let c = h.counts choice t in omega (arith, p, z, c);
     distinct = h.distinct;
     unsettled = h.unsettled;
     stands = λ k d below. elim (h.stands k d below) [
-      | inl s ↦ inl (push_any (get_or groups k d).variable es e ∙ left_true (list_any (is_variable (get_or groups k d).variable) es) (is_variable (get_or groups k d).variable e || false) s)
+      | inl s ↦ inl (push_any (get_or groups k d).variable es e ∙ left_true (list_any (is_variable (get_or groups k d).variable) es)
+          (is_variable (get_or groups k d).variable e || false) s)
       | inr s ↦ inr s
     ];
-    some = λ k d below s. elim (either (list_any (is_variable (get_or groups k d).variable) es) (is_variable (get_or groups k d).variable e || false) (sym (push_any (get_or groups k d).variable es e) ∙ s)) [
-      | inl old ↦ h.some k d below old
-      | inr new ↦ absurd (is_clash (is_variable (get_or groups k d).variable e || false) new (both_false (is_variable (get_or groups k d).variable e) false (other (get_or groups k d).variable (h.unsettled k d below)) refl))
-    ];
+    some = λ k d below s. elim (either (list_any (is_variable (get_or groups k d).variable) es) (is_variable (get_or groups k d).variable e || false)
+        (sym (push_any (get_or groups k d).variable es e) ∙ s)) [
+          | inl old ↦ h.some k d below old
+          | inr new ↦ absurd (is_clash (is_variable (get_or groups k d).variable e || false) new
+              (both_false (is_variable (get_or groups k d).variable e) false (other (get_or groups k d).variable (h.unsettled k d below)) refl))
+        ];
     output_first = h.output_first;
   }
 
@@ -195,13 +215,17 @@ unfolding number_of
 same_number i j e = ap number_of e
 
 -- no input yet, and an open output
-pub grouped_output : (first output : Entry) (i : ℕ) → output ≡ entries.Var i → is_variable i first ≡ false → IsGrouped first output [] (record { variable = i; times = 0 } ∷ [])
+pub grouped_output : (first output : Entry) (i : ℕ) → output ≡ entries.Var i → is_variable i first ≡ false
+    → IsGrouped first output [] (record { variable = i; times = 0 } ∷ [])
 grouped_output first output i is open_i = record {
   counts = λ choice t. let e = sum_by-cons (of_group choice t) (record { variable = i; times = 0 }) [] in let z = zero_of t (choice i) in omega (arith, e, z);
   distinct = (refl, tt);
-  unsettled = All-cons (λ (g : Group). is_variable g.variable first ≡ false) (record { variable = i; times = 0 }) [] open_i (λ k d below. absurd (omega (arith, below)));
-  stands = All-cons (λ (g : Group). IsTrue (list_any (is_variable g.variable) []) ⊎ (output ≡ entries.Var g.variable)) (record { variable = i; times = 0 }) [] (inr is) (λ k d below. absurd (omega (arith, below)));
-  some = All-cons (λ (g : Group). IsTrue (list_any (is_variable g.variable) []) → 0 < g.times) (record { variable = i; times = 0 }) [] (λ s. absurd (let z : ⊥ = cc in z)) (λ k d below. absurd (omega (arith, below)));
+  unsettled = All-cons (λ (g : Group). is_variable g.variable first ≡ false) (record { variable = i; times = 0 }) [] open_i
+      (λ k d below. absurd (omega (arith, below)));
+  stands = All-cons (λ (g : Group). IsTrue (list_any (is_variable g.variable) []) ⊎ (output ≡ entries.Var g.variable)) (record { variable = i; times = 0 }) []
+      (inr is) (λ k d below. absurd (omega (arith, below)));
+  some = All-cons (λ (g : Group). IsTrue (list_any (is_variable g.variable) []) → 0 < g.times) (record { variable = i; times = 0 }) []
+      (λ s. absurd (let z : ⊥ = cc in z)) (λ k d below. absurd (omega (arith, below)));
   output_first = λ j is_j open_j. (omega arith, same_number i j (sym is ∙ is_j));
 }
 
@@ -215,7 +239,8 @@ there_below vars v (entries.Var i ∷ es) h k = elim (eqb_tells v i) [
 ]
 
 -- the groups of a line's inputs can be searched
-pub are_groups : (vars : List Var) (first output : Entry) (es : List Entry) (groups : List Group) → All (IsEntry 256 vars) es → ((i : ℕ) → output ≡ entries.Var i → IsTrue (list_any (is_variable i) (first ∷ es))) →
+pub are_groups : (vars : List Var) (first output : Entry) (es : List Entry) (groups : List Group) → All (IsEntry 256 vars) es
+    → ((i : ℕ) → output ≡ entries.Var i → IsTrue (list_any (is_variable i) (first ∷ es))) →
     IsGrouped first output es groups → AreGroups vars groups
 are_groups vars first output es groups entries_are bound h = record {
   there = λ k d below. there_below vars (get_or groups k d).variable es entries_are (stands k d below);
@@ -225,17 +250,19 @@ are_groups vars first output es groups entries_are bound h = record {
   stands : (k : ℕ) (d : Group) → k < length groups → list_any (is_variable (get_or groups k d).variable) es ≡ true
   stands k d below = elim (h.stands k d below) [
     | inl s ↦ s
-    | inr s ↦ elim (either (is_variable (get_or groups k d).variable first) (list_any (is_variable (get_or groups k d).variable) es) (bound (get_or groups k d).variable s)) [
-      | inl at_first ↦ absurd (is_clash (is_variable (get_or groups k d).variable first) at_first (h.unsettled k d below))
-      | inr later ↦ later
-    ]
+    | inr s ↦ elim (either (is_variable (get_or groups k d).variable first) (list_any (is_variable (get_or groups k d).variable) es)
+        (bound (get_or groups k d).variable s)) [
+          | inl at_first ↦ absurd (is_clash (is_variable (get_or groups k d).variable first) at_first (h.unsettled k d below))
+          | inr later ↦ later
+        ]
   ]
 
 -- what stands in the array where there is no group
 abbrev pub no_group : Group
 no_group = record { variable = 0; times = 0 }
 
-add_set : (number : ℕ) (groups : List Group) (k : ℕ) → k < length groups → ((j : ℕ) → j < k → (get_or groups j no_group).variable ≢ number) → (get_or groups k no_group).variable ≡ number →
+add_set : (number : ℕ) (groups : List Group) (k : ℕ) → k < length groups → ((j : ℕ) → j < k → (get_or groups j no_group).variable ≢ number)
+    → (get_or groups k no_group).variable ≡ number →
     set groups k (record { variable = (get_or groups k no_group).variable; times = (get_or groups k no_group).times + 1 }) ≡ add_to number groups
 add_set number [] k below others here = absurd (omega (arith, below))
 add_set number (g ∷ groups) zero below others here =
@@ -245,7 +272,8 @@ add_set number (g ∷ groups) (suc k) below others here =
     let other = not_same number g.variable (λ e. others 0 (omega arith) (sym e)) in
     ap (λ zs. g ∷ zs) r ∙ sym (ap (λ b. cond b (record { variable = g.variable; times = g.times + 1 } ∷ groups) (g ∷ add_to number groups)) other)
 
-add_push : (number : ℕ) (groups : List Group) → ((j : ℕ) → j < length groups → (get_or groups j no_group).variable ≢ number) → groups ++ record { variable = number; times = 1 } ∷ [] ≡ add_to number groups
+add_push : (number : ℕ) (groups : List Group) → ((j : ℕ) → j < length groups → (get_or groups j no_group).variable ≢ number)
+    → groups ++ record { variable = number; times = 1 } ∷ [] ≡ add_to number groups
 add_push number [] others = refl
 add_push number (g ∷ groups) others =
     let r = add_push number groups (λ j small. others (suc j) (omega (arith, small))) in
@@ -254,26 +282,33 @@ add_push number (g ∷ groups) others =
 
 -- the groups are the first ones of an array
 module _ (number : ℕ) (array : List Group) (count : ℕ) where
-  pub added_at : (k : ℕ) → k < count → count ≤ length array → ((j : ℕ) → j < k → (get_or array j no_group).variable ≢ number) → (get_or array k no_group).variable ≡ number →
-      take count (set array k (record { variable = (get_or array k no_group).variable; times = (get_or array k no_group).times + 1 })) ≡ add_to number (take count array)
+  pub added_at : (k : ℕ) → k < count → count ≤ length array → ((j : ℕ) → j < k → (get_or array j no_group).variable ≢ number)
+      → (get_or array k no_group).variable ≡ number →
+      take count (set array k (record { variable = (get_or array k no_group).variable; times = (get_or array k no_group).times + 1 }))
+      ≡ add_to number (take count array)
   added_at k below room others here =
       let at : (j : ℕ) → j < count → get_or (take count array) j no_group ≡ get_or array j no_group = λ j small. get_or-take count array j no_group small in
       let size : length (take count array) ≡ count = length-take-le count array room in
       take-set-lt count array k (record { variable = (get_or array k no_group).variable; times = (get_or array k no_group).times + 1 }) below
       ∙ ap (λ (g : Group). set (take count array) k (record { variable = g.variable; times = g.times + 1 })) (sym (at k below))
       ∙ add_set number (take count array) k (omega (arith, size, below))
-      (λ j small e. others j small (ap (λ (g : Group). g.variable) (sym (at j (omega (arith, small, below)))) ∙ e)) (ap (λ (g : Group). g.variable) (at k below) ∙ here)
+      (λ j small e. others j small (ap (λ (g : Group). g.variable) (sym (at j (omega (arith, small, below)))) ∙ e))
+      (ap (λ (g : Group). g.variable) (at k below) ∙ here)
 
   pub added_end : count < length array → ((j : ℕ) → j < count → (get_or array j no_group).variable ≢ number) →
       take (count + 1) (set array count (record { variable = number; times = 1 })) ≡ add_to number (take count array)
   added_end room others =
       let size : length (take count array) ≡ count = length-take-le count array (omega (arith, room)) in
       take_more_set array count (record { variable = number; times = 1 }) room
-      ∙ add_push number (take count array) (λ j small e. others j (omega (arith, small, size)) (ap (λ (g : Group). g.variable) (sym (get_or-take count array j no_group (omega (arith, small, size)))) ∙ e))
+      ∙ add_push number (take count array)
+      (λ j small e. others j (omega (arith, small, size))
+      (ap (λ (g : Group). g.variable) (sym (get_or-take count array j no_group (omega (arith, small, size)))) ∙ e))
 
 -- no group has more inputs than there are
-pub small_add : (number n : ℕ) (groups : List Group) → IsDistinct groups → All (λ (g : Group). g.times ≤ n) groups → All (λ (g : Group). g.times ≤ n + 1) (add_to number groups)
-small_add number n groups d h = all_add (λ g. g.times ≤ n) (λ g. g.times ≤ n + 1) number groups d h (λ g p o. omega (arith, p)) (λ g p o. omega (arith, p)) (omega arith)
+pub small_add : (number n : ℕ) (groups : List Group) → IsDistinct groups → All (λ (g : Group). g.times ≤ n) groups
+    → All (λ (g : Group). g.times ≤ n + 1) (add_to number groups)
+small_add number n groups d h = all_add (λ g. g.times ≤ n) (λ g. g.times ≤ n + 1) number groups d h (λ g p o. omega (arith, p)) (λ g p o. omega (arith, p))
+    (omega arith)
 
 pub small_more : (n : ℕ) (groups : List Group) → All (λ (g : Group). g.times ≤ n) groups → All (λ (g : Group). g.times ≤ n + 1) groups
 small_more n groups h = λ k d below. let p = h k d below in omega (arith, p)

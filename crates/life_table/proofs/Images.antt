@@ -22,7 +22,8 @@ pub four_or_eight : (n : Neighborhood) → (4 ≤ neighbour_count n) × (neighbo
 four_or_eight VonNeumann = (omega arith, omega arith)
 four_or_eight Moore = (omega arith, omega arith)
 
-pub tells_permute : (vars : List Var) (line : Transition) (centre : ℕ) (others : List ℕ) (found : Found) → Tells (GivesByCounts vars line centre others) found → Tells (Gives Permute vars line centre others) found
+pub tells_permute : (vars : List Var) (line : Transition) (centre : ℕ) (others : List ℕ) (found : Found) → Tells (GivesByCounts vars line centre others) found
+    → Tells (Gives Permute vars line centre others) found
 tells_permute vars line centre others found h =
     directives_same (GivesByCounts vars line centre others) (Gives Permute vars line centre others)
     (λ s g. (permute_law vars line centre others s).1 g) (λ s g. (permute_law vars line centre others s).0 g) found h
@@ -31,13 +32,15 @@ once : (v : List ℕ) → 0 < length v → turns v (length v) ≡ turn v 0 ∷ [
 once v h = ap (λ m. map (λ k. turn v (k * length v)) (range_with_len 0 m)) (div_self h) ∙ ap (λ z. turn v z ∷ []) (zero-mul (length v))
 
 once_reflected : (v : List ℕ) → 0 < length v → reflected_turns v (length v) ≡ reflected_turn v 0 ∷ []
-once_reflected v h = ap (λ m. map (λ k. reflected_turn v (k * length v)) (range_with_len 0 m)) (div_self h) ∙ ap (λ z. reflected_turn v z ∷ []) (zero-mul (length v))
+once_reflected v h = ap (λ m. map (λ k. reflected_turn v (k * length v)) (range_with_len 0 m)) (div_self h)
+    ∙ ap (λ z. reflected_turn v z ∷ []) (zero-mul (length v))
 
 pub identity_family : (v : List ℕ) → 0 < length v → images Identity v ≡ family false (length v) v
 identity_family v h = sym (once v h)
 
 pub horizontal_family : (v : List ℕ) → 0 < length v → images ReflectHorizontal v ≡ family true (length v) v
-horizontal_family v h = let a = once v h in let b = once_reflected v h in ap (λ ws. ws ++ reflected_turn v 0 ∷ []) (sym a) ∙ ap (λ ws. turns v (length v) ++ ws) (sym b)
+horizontal_family v h = let a = once v h in let b = once_reflected v h in
+    ap (λ ws. ws ++ reflected_turn v 0 ∷ []) (sym a) ∙ ap (λ ws. turns v (length v) ++ ws) (sym b)
 
 -- the images of one sort, by the step and the reflection that were chosen for it
 pub family_is : (symmetry sort : Symmetry) → symmetry ≡ sort → (v : List ℕ) (chosen : ℕ × Bool) (step : ℕ) (reflect : Bool) → chosen ≡ (step, reflect) →

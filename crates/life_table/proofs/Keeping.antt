@@ -50,7 +50,8 @@ module _ (on on' : Option ℕ) (oh oh' : Option Neighborhood) (oy oy' : Option S
       (λ d. settled_kept t.1 (All-head (λ (u : Numbered). is_descriptor u.1 ≡ true → Settled on oh oy u.1) t ts a d))
       (all_kept ts (All-tail (λ (u : Numbered). is_descriptor u.1 ≡ true → Settled on oh oy u.1) t ts a))
 
-  pub settled_more : (ts : List Numbered) (x : Numbered) → AreSettled on oh oy ts → (is_descriptor x.1 ≡ true → Settled on' oh' oy' x.1) → AreSettled on' oh' oy' (ts ++ x ∷ [])
+  pub settled_more : (ts : List Numbered) (x : Numbered) → AreSettled on oh oy ts → (is_descriptor x.1 ≡ true → Settled on' oh' oy' x.1)
+      → AreSettled on' oh' oy' (ts ++ x ∷ [])
   settled_more ts x a s = all_more (λ (t : Numbered). is_descriptor t.1 ≡ true → Settled on' oh' oy' t.1) ts x (all_kept ts a) s
 
 -- 2. One more variable changes no list of states that was read
@@ -78,7 +79,8 @@ module _ (n : ℕ) (vars : List Var) (v : Var) where
   pub list_kept : (text states : List ℕ) → states_listed n vars text ≡ Some states → states_listed n (vars ++ v ∷ []) text ≡ Some states
   unfolding states_listed
   list_kept text states h =
-      let m = mapped union_of (all_some (map (λ (word : List ℕ). option_and_then (states_of_entry vars) (entry_of n vars word)) (between_commas text))) states h in
+      let m = mapped union_of (all_some (map (λ (word : List ℕ). option_and_then (states_of_entry vars) (entry_of n vars word)) (between_commas text))) states
+      h in
       ap (option_map union_of) (some_kept (λ (word : List ℕ). option_and_then (states_of_entry vars) (entry_of n vars word))
       (λ (word : List ℕ). option_and_then (states_of_entry (vars ++ v ∷ [])) (entry_of n (vars ++ v ∷ []) word)) word_states (between_commas text) m.0 m.1)
       ∙ ap Some (sym m.2)
@@ -101,7 +103,8 @@ AreVariables n vars ts = map directive vars ≡ on_lines n vars (variable_texts 
 same_pair : (a b : List ℕ) (o p : Option (List ℕ)) → a ≡ b → o ≡ p → (let q : List ℕ × Option (List ℕ) = (a, o) in q) ≡ (b, p)
 same_pair a b o p e f = cc
 
-on_lines_kept : (n : ℕ) (vars : List Var) (v : Var) (some : List Var) (ts : List Numbered) → map directive some ≡ on_lines n vars ts → map directive some ≡ on_lines n (vars ++ v ∷ []) ts
+on_lines_kept : (n : ℕ) (vars : List Var) (v : Var) (some : List Var) (ts : List Numbered) → map directive some ≡ on_lines n vars ts
+    → map directive some ≡ on_lines n (vars ++ v ∷ []) ts
 on_lines_kept n vars v [] [] h = refl
 on_lines_kept n vars v [] (t ∷ ts) h = absurd (let z : ⊥ = cc in z)
 on_lines_kept n vars v (w ∷ some) [] h = absurd (let z : ⊥ = cc in z)
@@ -110,8 +113,10 @@ on_lines_kept n vars v (w ∷ some) (t ∷ ts) h =
     let rest : map directive some ≡ on_lines n vars ts = cc in
     let name : w.name ≡ name_text t.1 = ap (λ (p : List ℕ × Option (List ℕ)). p.0) first in
     let states : Some w.states ≡ states_listed n vars (within_braces (list_text t.1)) = ap (λ (p : List ℕ × Option (List ℕ)). p.1) first in
-    let kept : states_listed n (vars ++ v ∷ []) (within_braces (list_text t.1)) ≡ Some w.states = list_kept n vars v (within_braces (list_text t.1)) w.states (sym states) in
-    let head : directive w ≡ variable_on n (vars ++ v ∷ []) t.1 = same_pair w.name (name_text t.1) (Some w.states) (states_listed n (vars ++ v ∷ []) (within_braces (list_text t.1))) name (sym kept) in
+    let kept : states_listed n (vars ++ v ∷ []) (within_braces (list_text t.1)) ≡ Some w.states = list_kept n vars v (within_braces (list_text t.1)) w.states
+    (sym states) in
+    let head : directive w ≡ variable_on n (vars ++ v ∷ []) t.1 = same_pair w.name (name_text t.1) (Some w.states)
+    (states_listed n (vars ++ v ∷ []) (within_braces (list_text t.1))) name (sym kept) in
     ap (λ (p : List ℕ × Option (List ℕ)). p ∷ map directive some) head
     ∙ ap (λ (ps : List (List ℕ × Option (List ℕ))). variable_on n (vars ++ v ∷ []) t.1 ∷ ps) (on_lines_kept n vars v some ts rest)
 
@@ -126,18 +131,24 @@ written_parts n vars text var h =
 one_text : (x : Numbered) (b : Bool) → is_variable_text x.1 ≡ b → variable_texts (x ∷ []) ≡ (if b then x ∷ [] else [])
 one_text x b e = ap (λ (c : Bool). if c then x ∷ [] else []) e
 
-texts_more : (ts : List Numbered) (x : Numbered) (b : Bool) → is_variable_text x.1 ≡ b → variable_texts (ts ++ x ∷ []) ≡ variable_texts ts ++ (if b then x ∷ [] else [])
-texts_more ts x b e = filter-append (λ (text : Numbered). is_variable_text text.1) ts (x ∷ []) ∙ ap (λ (us : List Numbered). variable_texts ts ++ us) (one_text x b e)
+texts_more : (ts : List Numbered) (x : Numbered) (b : Bool) → is_variable_text x.1 ≡ b → variable_texts (ts ++ x ∷ []) ≡ variable_texts ts
+    ++ (if b then x ∷ [] else [])
+texts_more ts x b e = filter-append (λ (text : Numbered). is_variable_text text.1) ts (x ∷ [])
+    ∙ ap (λ (us : List Numbered). variable_texts ts ++ us) (one_text x b e)
 
-pub variables_same : (n : ℕ) (vars : List Var) (ts : List Numbered) (x : Numbered) → AreVariables n vars ts → is_variable_text x.1 ≡ false → AreVariables n vars (ts ++ x ∷ [])
+pub variables_same : (n : ℕ) (vars : List Var) (ts : List Numbered) (x : Numbered) → AreVariables n vars ts → is_variable_text x.1 ≡ false
+    → AreVariables n vars (ts ++ x ∷ [])
 variables_same n vars ts x a e = a ∙ ap (on_lines n vars) (sym (texts_more ts x false e ∙ append-nil (variable_texts ts)))
 
-pub variables_new : (n : ℕ) (vars : List Var) (v : Var) (ts : List Numbered) (x : Numbered) → AreVariables n vars ts → is_variable_text x.1 ≡ true → variable_of n vars x.1 ≡ Some v
+pub variables_new : (n : ℕ) (vars : List Var) (v : Var) (ts : List Numbered) (x : Numbered) → AreVariables n vars ts → is_variable_text x.1 ≡ true
+    → variable_of n vars x.1 ≡ Some v
     → AreVariables n (vars ++ v ∷ []) (ts ++ x ∷ [])
 variables_new n vars v ts x a e w =
     let p = written_parts n vars x.1 v w in
-    let states : states_listed n (vars ++ v ∷ []) (within_braces (list_text x.1)) ≡ Some v.states = list_kept n vars v (within_braces (list_text x.1)) v.states p.1 in
-    let new : directive v ≡ variable_on n (vars ++ v ∷ []) x.1 = same_pair v.name (name_text x.1) (Some v.states) (states_listed n (vars ++ v ∷ []) (within_braces (list_text x.1))) p.0 (sym states) in
+    let states : states_listed n (vars ++ v ∷ []) (within_braces (list_text x.1)) ≡ Some v.states = list_kept n vars v (within_braces (list_text x.1)) v.states
+    p.1 in
+    let new : directive v ≡ variable_on n (vars ++ v ∷ []) x.1 = same_pair v.name (name_text x.1) (Some v.states)
+    (states_listed n (vars ++ v ∷ []) (within_braces (list_text x.1))) p.0 (sym states) in
     map-append directive vars (v ∷ [])
     ∙ ap (λ (us : List (List ℕ × Option (List ℕ))). us ++ directive v ∷ []) (on_lines_kept n vars v vars (variable_texts ts) a)
     ∙ ap (λ (u : List ℕ × Option (List ℕ)). on_lines n (vars ++ v ∷ []) (variable_texts ts) ++ u ∷ []) new

@@ -65,7 +65,8 @@ module _ (symmetry : Symmetry) (vars : List Var) (centre : ℕ) (others : List �
   one_line line (Ambiguous n) (Ambiguous m) h k = ap Ambiguous (h.0 ∙ sym k.0)
 
   -- the first line that speaks is one
-  same_first : (before : List Transition) (line : Transition) (after : List Transition) (front : List Transition) (other : Transition) (back : List Transition) →
+  same_first : (before : List Transition) (line : Transition) (after : List Transition) (front : List Transition) (other : Transition) (back : List Transition)
+      →
       before ++ line ∷ after ≡ front ++ other ∷ back → All Silent before → All Silent front → Speaks line → Speaks other → line ≡ other
   same_first [] line after [] other back e p q h k = cc
   same_first [] line after (x ∷ front) other back e p q h k =
@@ -82,7 +83,8 @@ module _ (symmetry : Symmetry) (vars : List Var) (centre : ℕ) (others : List �
 
   one : (lines : List Transition) (a b : Answer) → Decides symmetry vars centre others lines a → Decides symmetry vars centre others lines b → a ≡ b
   one lines a b (inl f) (inl g) =
-      let same = same_first f.before f.line f.after g.before g.line g.after (sym f.split ∙ g.split) f.silent g.silent (speaks f.line a f.answers) (speaks g.line b g.answers) in
+      let same = same_first f.before f.line f.after g.before g.line g.after (sym f.split ∙ g.split) f.silent g.silent (speaks f.line a f.answers)
+      (speaks g.line b g.answers) in
       one_line g.line a b (subst (λ line. LineAnswers symmetry vars centre others line a) same f.answers) g.answers
   one lines a b (inl f) (inr n) = absurd (silent_all f.before f.line f.after (subst (All Silent) f.split n.0) (speaks f.line a f.answers))
   one lines a b (inr n) (inl g) = absurd (silent_all g.before g.line g.after (subst (All Silent) g.split n.0) (speaks g.line b g.answers))

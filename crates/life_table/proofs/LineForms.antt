@@ -51,7 +51,8 @@ states_are word n d v l m =
     let low : nat_le 2 (value_of word) ≡ true = le-leb 2 (value_of word) (omega (arith, v, l)) in
     let high : nat_lt (value_of word) 257 ≡ true = below (value_of word) 257 (omega (arith, v, m)) in
     take_then (nat_le 2 (value_of word)) (number_below 257 word) None low
-    ∙ take_then (is_digit_text word && nat_lt (value_of word) 257) (Some (value_of word)) None (both_true (is_digit_text word) (nat_lt (value_of word) 257) d high)
+    ∙ take_then (is_digit_text word && nat_lt (value_of word) 257) (Some (value_of word)) None
+    (both_true (is_digit_text word) (nat_lt (value_of word) 257) d high)
     ∙ ap Some v
 
 pub states_parsed : (word : List ℕ) (n : ℕ) → states_named word ≡ Some n → (is_digit_text word ≡ true) × (value_of word ≡ n) × (2 ≤ n) × (n ≤ 256)
@@ -152,11 +153,13 @@ module _ (n : ℕ) (vars : List Var) (text : List ℕ) (var : Var) where
 abbrev Writes : ℕ → List Var → List ℕ → Entry → Type 0
 Writes n vars word entry = entry_of n vars word ≡ Some entry
 
-first_some : (o : Option Entry) (os : List (Option Entry)) (e : Entry) (es : List Entry) → o ≡ Some e → all_some os ≡ Some es → all_some (o ∷ os) ≡ Some (e ∷ es)
+first_some : (o : Option Entry) (os : List (Option Entry)) (e : Entry) (es : List Entry) → o ≡ Some e → all_some os ≡ Some es
+    → all_some (o ∷ os) ≡ Some (e ∷ es)
 first_some None os e es p q = cc
 first_some (Some x) os e es p q = let same : x ≡ e = cc in ap (option_map (λ (xs : List Entry). x ∷ xs)) q ∙ ap (λ (z : Entry). Some (z ∷ es)) same
 
-words_are : (n : ℕ) (vars : List Var) (words : List (List ℕ)) (es : List Entry) → AllZip (Writes n vars) words es → all_some (map (entry_of n vars) words) ≡ Some es
+words_are : (n : ℕ) (vars : List Var) (words : List (List ℕ)) (es : List Entry) → AllZip (Writes n vars) words es → all_some (map (entry_of n vars) words)
+    ≡ Some es
 words_are n vars [] [] z = refl
 words_are n vars [] (e ∷ es) z = absurd z
 words_are n vars (word ∷ words) [] z = absurd z
@@ -166,7 +169,8 @@ none_some : (es : List Entry) (R : List ℕ → Entry → Type 0) → all_some (
 none_some [] R h = tt
 none_some (e ∷ es) R h = absurd (let z : ⊥ = cc in z)
 
-words_parsed : (n : ℕ) (vars : List Var) (words : List (List ℕ)) (es : List Entry) → all_some (map (entry_of n vars) words) ≡ Some es → AllZip (Writes n vars) words es
+words_parsed : (n : ℕ) (vars : List Var) (words : List (List ℕ)) (es : List Entry) → all_some (map (entry_of n vars) words) ≡ Some es
+    → AllZip (Writes n vars) words es
 words_parsed n vars [] es h = none_some es (Writes n vars) h
 words_parsed n vars (word ∷ words) es h =
     let s = split_some (entry_of n vars word) (map (entry_of n vars) words) es h in
@@ -201,7 +205,8 @@ module _ (n k : ℕ) (vars : List Var) (number : ℕ) (text : List ℕ) (line : 
       ∙ ap (option_map made) last ∙ ap (λ (inputs : List Entry). Some (new_line number inputs line.output)) front
       ∙ ap (λ (m : ℕ). Some (new_line m line.inputs line.output)) (sym t.number_is)
 
-  pub transition_parsed : is_descriptor text ≡ false → is_variable_line text ≡ false → transition_of n k vars number text ≡ Some line → is_bound line.inputs line.output ≡ true
+  pub transition_parsed : is_descriptor text ≡ false → is_variable_line text ≡ false → transition_of n k vars number text ≡ Some line
+      → is_bound line.inputs line.output ≡ true
       → IsTransitionLine n k vars number text line
   unfolding transition_of entries_of
   transition_parsed d b h o =

@@ -62,8 +62,10 @@ in_descriptor n h y text =
     let third : Result Directive Kind = cond (is_symmetry_key (key_of text)) (cond (is_some y) bad symmetry) bad in
     let second : Result Directive Kind = cond (is_neighborhood_key (key_of text)) (cond (is_some h) bad neighborhood) third in
     either (is_states_key (key_of text)) (cond (is_some n) bad states) second (either (is_some n) bad states refl (in_states (states_named (setting_of text))))
-    (either (is_neighborhood_key (key_of text)) (cond (is_some h) bad neighborhood) third (either (is_some h) bad neighborhood refl (in_neighborhood y (neighborhood_named (setting_of text))))
-    (either (is_symmetry_key (key_of text)) (cond (is_some y) bad symmetry) bad (either (is_some y) bad symmetry refl (in_symmetry h (symmetry_named (setting_of text)))) refl))
+    (either (is_neighborhood_key (key_of text)) (cond (is_some h) bad neighborhood) third
+    (either (is_some h) bad neighborhood refl (in_neighborhood y (neighborhood_named (setting_of text))))
+    (either (is_symmetry_key (key_of text)) (cond (is_some y) bad symmetry) bad
+    (either (is_some y) bad symmetry refl (in_symmetry h (symmetry_named (setting_of text)))) refl))
 
 -- ---- variables and transitions
 
@@ -75,14 +77,17 @@ in_transition : (vars : List Var) (earlier : List Transition) (o : Option Transi
 in_transition vars earlier None = refl
 in_transition vars earlier (Some line) =
     let quiet : Result Directive Kind = cond (is_quiet vars (earlier ++ line ∷ [])) (Ok (Line line)) (Err kinds.NotQuiet) in
-    either (not (is_bound line.inputs line.output)) (Err kinds.UnboundOutput) quiet refl (either (is_quiet vars (earlier ++ line ∷ [])) (Ok (Line line)) (Err kinds.NotQuiet) refl refl)
+    either (not (is_bound line.inputs line.output)) (Err kinds.UnboundOutput) quiet refl
+    (either (is_quiet vars (earlier ++ line ∷ [])) (Ok (Line line)) (Err kinds.NotQuiet) refl refl)
 
-in_settled : (n : ℕ) (h : Neighborhood) (vars : List Var) (lines : List Transition) (number : ℕ) (text : List ℕ) → InKinds (parse_settled n h vars lines number text)
+in_settled : (n : ℕ) (h : Neighborhood) (vars : List Var) (lines : List Transition) (number : ℕ) (text : List ℕ)
+    → InKinds (parse_settled n h vars lines number text)
 in_settled n h vars lines number text =
     either (is_variable_line text) (if_variable (variable_of n vars text)) (if_transition vars lines (transition_of n (neighbour_count h) vars number text))
     (in_variable (variable_of n vars text)) (in_transition vars lines (transition_of n (neighbour_count h) vars number text))
 
-in_rest : (n : Option ℕ) (h : Option Neighborhood) (y : Option Symmetry) (vars : List Var) (lines : List Transition) (number : ℕ) (text : List ℕ) → InKinds (parse_rest n h y vars lines number text)
+in_rest : (n : Option ℕ) (h : Option Neighborhood) (y : Option Symmetry) (vars : List Var) (lines : List Transition) (number : ℕ) (text : List ℕ)
+    → InKinds (parse_rest n h y vars lines number text)
 in_rest (Some n) (Some h) (Some y) vars lines number text = in_settled n h vars lines number text
 in_rest (Some n) (Some h) None vars lines number text = refl
 in_rest (Some n) None y vars lines number text = refl
@@ -109,7 +114,8 @@ in_section Behind parsed number line = refl
 
 pub directive_kinds : (parsed : Parsed) (number : ℕ) (line : List ℕ) → errs_by is_table_kind (parse_line parsed number line) ≡ true
 unfolding parse_line
-directive_kinds parsed number line = either (is_too_long line) (Err kinds.LineTooLong) (parse_in_section parsed.section parsed number line) refl (in_section parsed.section parsed number line)
+directive_kinds parsed number line = either (is_too_long line) (Err kinds.LineTooLong) (parse_in_section parsed.section parsed number line) refl
+    (in_section parsed.section parsed number line)
 
 pub directive_kind : (parsed : Parsed) (number : ℕ) (line : List ℕ) (kind : Kind) → parse_line parsed number line ≡ Err kind → is_table_kind kind ≡ true
 directive_kind parsed number line kind e = sym (ap (errs_by is_table_kind) e) ∙ directive_kinds parsed number line
@@ -126,7 +132,8 @@ lines_break_by_kinds front line kind e =
 
 -- ---- the end of a file
 
-by_lack : (a b d : Bool) (kind : Kind) → cond a (Some kinds.NoRuleLine) (cond b (Some kinds.NoTable) (cond d None (Some kinds.BadDescriptor))) ≡ Some kind → is_table_kind kind ≡ true
+by_lack : (a b d : Bool) (kind : Kind) → cond a (Some kinds.NoRuleLine) (cond b (Some kinds.NoTable) (cond d None (Some kinds.BadDescriptor))) ≡ Some kind
+    → is_table_kind kind ≡ true
 by_lack true b d kind e = let same : kinds.NoRuleLine ≡ kind = cc in ap is_table_kind (sym same)
 by_lack false true d kind e = let same : kinds.NoTable ≡ kind = cc in ap is_table_kind (sym same)
 by_lack false false true kind e = cc

@@ -62,7 +62,8 @@ module _ (f : List ℕ → Option (List ℕ)) where
 abbrev pub solid : List ℕ → List (List ℕ)
 solid text = map (λ b. b ∷ []) (filter (λ b. not (is_whitespace b)) text)
 
-pub solid_next : (text : List ℕ) (i : ℕ) → i < length text → is_whitespace (get_or text i 0) ≡ false → solid (drop i text) ≡ (get_or text i 0 ∷ []) ∷ solid (drop (i + 1) text)
+pub solid_next : (text : List ℕ) (i : ℕ) → i < length text → is_whitespace (get_or text i 0) ≡ false
+    → solid (drop i text) ≡ (get_or text i 0 ∷ []) ∷ solid (drop (i + 1) text)
 solid_next text i h e = rw (drop-cons text i 0 h, add-one i, e) refl
 
 pub solid_skips : (text : List ℕ) (i : ℕ) → i < length text → is_whitespace (get_or text i 0) ≡ true → solid (drop i text) ≡ solid (drop (i + 1) text)

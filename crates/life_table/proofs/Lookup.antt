@@ -38,7 +38,8 @@ first_named word (e ∷ es) =
 pub number_named : (word : List ℕ) (es : List (Vec ℕ × List ℕ)) → position (λ k. bytes_eq word k.items) (keys_of es) ≡ variable_named (map var_of es) word
 number_named word es =
     let keys : length (keys_of es) ≡ length (map var_of es) = length-map es (λ e. e.0) ∙ sym (length-map es var_of) in
-    ap (λ (n : ℕ). cond (nat_lt (position_or_len (λ k. bytes_eq word k.items) (keys_of es)) n) (Some (position_or_len (λ k. bytes_eq word k.items) (keys_of es))) None) keys
+    ap (λ (n : ℕ). cond (nat_lt (position_or_len (λ k. bytes_eq word k.items) (keys_of es)) n)
+    (Some (position_or_len (λ k. bytes_eq word k.items) (keys_of es))) None) keys
     ∙ ap (λ (p : ℕ). cond (nat_lt p (length (map var_of es))) (Some p) None) (first_named word es)
 
 module _ {S : Type 0} (m : IndexMap (Vec ℕ) (List ℕ) S) (key : Vec ℕ) (var : Var) where

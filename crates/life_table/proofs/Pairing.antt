@@ -59,7 +59,8 @@ module _ (vars : List Var) (choice : ℕ → ℕ) (is_choice : IsChoice vars cho
     state_there i below = get_or-map (state_of choice) rest i (entries.Fixed 0) 0 below
 
     -- the place is told of an entry with its state
-    directive : (i k : ℕ) → i < length rest → k < 16 → state_of choice (get_or rest i (entries.Fixed 0)) ≡ slice_index others (k % length others) → bit_at (places seen (get_or rest i (entries.Fixed 0))) k ≡ 1
+    directive : (i k : ℕ) → i < length rest → k < 16 → state_of choice (get_or rest i (entries.Fixed 0)) ≡ slice_index others (k % length others)
+        → bit_at (places seen (get_or rest i (entries.Fixed 0))) k ≡ 1
     directive i k below room is =
         let e = get_or rest i (entries.Fixed 0) in
         is_seen e k room (subst (λ s. can_be_state vars e s ≡ true) is (may_be e (are i (entries.Fixed 0) below)))
@@ -86,7 +87,8 @@ place_below true n i r few below inside = omega (arith, few, below, inside)
 place_below false n i r few below inside = omega (arith, few, below, inside)
 
 -- where the inputs have the states of a turn, each may be the neighbour that comes to it
-pub turn_directive : (vars : List Var) (choice : ℕ → ℕ) (is_choice : IsChoice vars choice) (first : Entry) (rest : List Entry) (centre : ℕ) (others : List ℕ) (seen : Seen) (reflect : Bool) (r : ℕ) →
+pub turn_directive : (vars : List Var) (choice : ℕ → ℕ) (is_choice : IsChoice vars choice) (first : Entry) (rest : List Entry) (centre : ℕ) (others : List ℕ)
+    (seen : Seen) (reflect : Bool) (r : ℕ) →
     All (IsEntry 256 vars) rest → length rest ≡ length others → length others ≤ 8 → r < length others → IsSeen vars others seen →
     map (state_of choice) (first ∷ rest) ≡ centre ∷ turned_by reflect others r →
     (i : ℕ) → i < length rest → bit_at (places seen (get_or rest i (entries.Fixed 0))) (cond reflect (length rest - i) i + r) ≡ 1
@@ -96,4 +98,5 @@ turn_directive vars choice is_choice first rest centre others seen reflect r are
     let state : state_of choice e ≡ slice_index others (k % length others) =
     sym (get_or-map (state_of choice) rest i (entries.Fixed 0) 0 below) ∙ ap (λ w. slice_index (drop 1 w) i) values
     ∙ turned_at others reflect r i (omega (arith, below, same)) ∙ ap (λ n. slice_index others ((cond reflect (n - i) i + r) % length others)) (sym same) in
-    is_seen e k (place_below reflect (length rest) i r (omega (arith, same, few)) below (omega (arith, same, inside))) (subst (λ s. can_be_state vars e s ≡ true) state (may_be vars choice is_choice e (are i (entries.Fixed 0) below)))
+    is_seen e k (place_below reflect (length rest) i r (omega (arith, same, few)) below (omega (arith, same, inside)))
+    (subst (λ s. can_be_state vars e s ≡ true) state (may_be vars choice is_choice e (are i (entries.Fixed 0) below)))

@@ -104,7 +104,8 @@ bound_zero choice i [] there h = absurd (let z : ⊥ = cc in z)
 bound_zero choice i (entries.Fixed s ∷ es) there h = bound_zero choice i es there (All-tail (λ e. state_of choice e ≡ 0) (entries.Fixed s) es h)
 bound_zero choice i (entries.Var j ∷ es) there h = elim (eqb_tells i j) [
   | inl same ↦ ap choice same.1 ∙ All-head (λ e. state_of choice e ≡ 0) (entries.Var j) es h
-  | inr other ↦ bound_zero choice i es (subst (λ b. IsTrue (b || list_any (is_variable i) es)) other.0 there) (All-tail (λ e. state_of choice e ≡ 0) (entries.Var j) es h)
+  | inr other ↦ bound_zero choice i es (subst (λ b. IsTrue (b || list_any (is_variable i) es)) other.0 there)
+      (All-tail (λ e. state_of choice e ≡ 0) (entries.Var j) es h)
 ]
 
 -- a choice that takes 0 wherever it may
@@ -146,7 +147,8 @@ quiet_choice n (v ∷ vars) h =
 
 -- an entry that is 0 under a choice may be 0, and under the quiet choice an entry that may be 0 is
 
-zero_value : (n : ℕ) (vars : List Var) (choice : ℕ → ℕ) → IsChoice vars choice → (e : Entry) → IsEntry n vars e → state_of choice e ≡ 0 → allows_zero vars e ≡ true
+zero_value : (n : ℕ) (vars : List Var) (choice : ℕ → ℕ) → IsChoice vars choice → (e : Entry) → IsEntry n vars e → state_of choice e ≡ 0
+    → allows_zero vars e ≡ true
 zero_value n vars choice is (entries.Fixed s) entry h = subst (λ (t : ℕ). (t == 0) ≡ true) (sym h) refl
 zero_value n vars choice is (entries.Var j) entry h = elim (slice_get_cases vars j).1 [
   | inl some ↦
@@ -164,7 +166,8 @@ allowed_value vars choice quiet (entries.Fixed s) h = elim (eqb_tells s 0) [
 ]
 allowed_value vars choice quiet (entries.Var i) h = elim (slice_get_cases vars i).1 [
   | inl some ↦ quiet i some.0 some.2 (subst (λ (o : Option Var). option_map_or (λ (w : Var). has_state w 0) o false ≡ true) some.2 h)
-  | inr none ↦ absurd (let e : false ≡ true = subst (λ (o : Option Var). option_map_or (λ (w : Var). has_state w 0) o false ≡ true) none.1 h in let z : ⊥ = cc in z)
+  | inr none ↦ absurd (let e : false ≡ true = subst (λ (o : Option Var). option_map_or (λ (w : Var). has_state w 0) o false ≡ true) none.1 h in
+      let z : ⊥ = cc in z)
 ]
 
 -- which line fits first
@@ -191,7 +194,15 @@ first_fit vars (x ∷ xs) q = elim (known (fits_zero vars x)) [
     quiet = subst (λ (b : Bool). (if b then is_quiet_output x.output else is_quiet vars xs) ≡ true) fits q;
   })
   | inr not_so ↦ elim (first_fit vars xs (subst (λ (b : Bool). (if b then is_quiet_output x.output else is_quiet vars xs) ≡ true) not_so q)) [
-    | inl f ↦ inl (record { before = x ∷ f.before; line = f.line; after = f.after; split = ap (λ z. x ∷ z) f.split; none = All-cons (λ line. fits_zero vars line ≡ false) x f.before not_so f.none; fits = f.fits; quiet = f.quiet })
+    | inl f ↦ inl (record {
+      before = x ∷ f.before;
+      line = f.line;
+      after = f.after;
+      split = ap (λ z. x ∷ z) f.split;
+      none = All-cons (λ line. fits_zero vars line ≡ false) x f.before not_so f.none;
+      fits = f.fits;
+      quiet = f.quiet;
+    })
     | inr all ↦ inr (All-cons (λ line. fits_zero vars line ≡ false) x xs not_so all)
   ]
 ]
@@ -213,7 +224,8 @@ all_passed p (e ∷ es) h =
 
 before_split : {X : Type 0} (P : X → Type 0) (before : List X) (x : X) (after : List X) → All P (before ++ x ∷ after) → All P before
 before_split P [] x after h = All-nil P
-before_split P (y ∷ before) x after h = All-cons P y before (All-head P y (before ++ x ∷ after) h) (before_split P before x after (All-tail P y (before ++ x ∷ after) h))
+before_split P (y ∷ before) x after h = All-cons P y before (All-head P y (before ++ x ∷ after) h)
+    (before_split P before x after (All-tail P y (before ++ x ∷ after) h))
 
 at_split : {X : Type 0} (P : X → Type 0) (before : List X) (x : X) (after : List X) → All P (before ++ x ∷ after) → P x
 at_split P [] x after h = All-head P x after h
@@ -223,15 +235,19 @@ at_split P (y ∷ before) x after h = at_split P before x after (All-tail P y (b
 
 module _ (n : Neighborhood) (symmetry : Symmetry) (vars : List Var) where
   fits_if_gives : (line : Transition) (s : ℕ) → (g : Gives symmetry vars line 0 (zeros n) s) → All (λ e. state_of g.choice e ≡ 0) line.inputs
-  fits_if_gives line s g = map_zero (state_of g.choice) line.inputs (suc (neighbour_count n)) (g.inputs ∙ ap (λ w. 0 ∷ w) (sym (zero_images n symmetry g.image g.is_image)))
+  fits_if_gives line s g = map_zero (state_of g.choice) line.inputs (suc (neighbour_count n))
+      (g.inputs ∙ ap (λ w. 0 ∷ w) (sym (zero_images n symmetry g.image g.is_image)))
 
-  silent : (n_states : ℕ) (line : Transition) → IsTransition n_states (neighbour_count n) vars line → fits_zero vars line ≡ false → GivesNothing symmetry vars 0 (zeros n) line
+  silent : (n_states : ℕ) (line : Transition) → IsTransition n_states (neighbour_count n) vars line → fits_zero vars line ≡ false
+      → GivesNothing symmetry vars 0 (zeros n) line
   silent n_states line t not_so s g =
       let values = fits_if_gives line s g in
-      let allowed : All (λ e. allows_zero vars e ≡ true) line.inputs = λ k d below. zero_value n_states vars g.choice g.is_choice (get_or line.inputs k d) (t.inputs k d below) (values k d below) in
+      let allowed : All (λ e. allows_zero vars e ≡ true) line.inputs = λ k d below. zero_value n_states vars g.choice g.is_choice (get_or line.inputs k d)
+      (t.inputs k d below) (values k d below) in
       absurd (let e : true ≡ false = sym (all_passed (allows_zero vars) line.inputs allowed) ∙ not_so in let z : ⊥ = cc in z)
 
-  all_silent : (n_states : ℕ) (lines : List Transition) → All (IsTransition n_states (neighbour_count n) vars) lines → All (λ line. fits_zero vars line ≡ false) lines → All (GivesNothing symmetry vars 0 (zeros n)) lines
+  all_silent : (n_states : ℕ) (lines : List Transition) → All (IsTransition n_states (neighbour_count n) vars) lines
+      → All (λ line. fits_zero vars line ≡ false) lines → All (GivesNothing symmetry vars 0 (zeros n)) lines
   all_silent n_states lines t f = λ k d below. silent n_states (get_or lines k d) (t k d below) (f k d below)
 
   quiet_fixed : (s : ℕ) (e : Entry) → e ≡ entries.Fixed s → is_quiet_output e ≡ true → s ≡ 0
@@ -249,7 +265,8 @@ pub zero_law : ZeroStaysZero
 zero_law n_states n symmetry vars lines sound = elim (first_fit vars lines sound.quiet) [
   | inr none ↦ inr (all_silent n symmetry vars n_states lines sound.transitions none, refl)
   | inl f ↦
-      let all : All (IsTransition n_states (neighbour_count n) vars) (f.before ++ f.line ∷ f.after) = subst (All (IsTransition n_states (neighbour_count n) vars)) f.split sound.transitions in
+      let all : All (IsTransition n_states (neighbour_count n) vars) (f.before ++ f.line ∷ f.after) = subst
+      (All (IsTransition n_states (neighbour_count n) vars)) f.split sound.transitions in
       let t : IsTransition n_states (neighbour_count n) vars f.line = at_split (IsTransition n_states (neighbour_count n) vars) f.before f.line f.after all in
       let quiet = λ (s : ℕ) (is : f.line.output ≡ entries.Fixed s). quiet_fixed n symmetry vars s f.line.output is f.quiet in
       let c = quiet_choice n_states vars sound.variables in
@@ -260,7 +277,8 @@ zero_law n_states n symmetry vars lines sound = elim (first_fit vars lines sound
         line = f.line;
         after = f.after;
         split = f.split;
-        silent = all_silent n symmetry vars n_states f.before (before_split (IsTransition n_states (neighbour_count n) vars) f.before f.line f.after all) f.none;
+        silent = all_silent n symmetry vars n_states f.before (before_split (IsTransition n_states (neighbour_count n) vars) f.before f.line f.after all)
+            f.none;
         answers = (
           record {
             image = zeros n;

@@ -16,7 +16,8 @@ alone true true = refl
 alone true false = refl
 alone false quiet = refl
 
-step : (fits output rest all any last : Bool) → (if fits then output else rest) ≡ true → (rest ≡ true → all ≡ (any || last)) → (if fits then output else all) ≡ ((fits || any) || last)
+step : (fits output rest all any last : Bool) → (if fits then output else rest) ≡ true → (rest ≡ true → all ≡ (any || last))
+    → (if fits then output else all) ≡ ((fits || any) || last)
 step true true rest all any last q ih = refl
 step true false rest all any last q ih = cc
 step false output rest all any last q ih = ih q
@@ -34,14 +35,16 @@ more vars (x ∷ xs) line q =
 
 quiet_more : (vars : List Var) (earlier : List Transition) (line : Transition) → is_quiet vars earlier ≡ true
     → is_quiet vars (earlier ++ line ∷ []) ≡ (list_any (fits_zero vars) earlier || not (fits_zero vars line) || is_quiet_output line.output)
-quiet_more vars earlier line q = more vars earlier line q ∙ sym (or_assoc (list_any (fits_zero vars) earlier) (not (fits_zero vars line)) (is_quiet_output line.output))
+quiet_more vars earlier line q = more vars earlier line q
+    ∙ sym (or_assoc (list_any (fits_zero vars) earlier) (not (fits_zero vars line)) (is_quiet_output line.output))
 
 abbrev answer : Bool → Bool → Transition → Result Directive Kind
 answer bound quiet line = if not bound then Err UnboundOutput else (if quiet then Ok (Line line) else Err NotQuiet)
 
 directive_so : (vars : List Var) (earlier : List Transition) (line : Transition) (bound quiet : Bool) → bound ≡ is_bound line.inputs line.output
     → quiet ≡ is_quiet vars (earlier ++ line ∷ []) → answer bound quiet line ≡ if_transition vars earlier (Some line)
-directive_so vars earlier line bound quiet b q = ap (λ (x : Bool). answer x quiet line) b ∙ ap (λ (x : Bool). answer (is_bound line.inputs line.output) x line) q
+directive_so vars earlier line bound quiet b q = ap (λ (x : Bool). answer x quiet line) b ∙ ap (λ (x : Bool). answer (is_bound line.inputs line.output) x line)
+    q
 
 -- what a transition says, by whether its output is bound and whether it keeps the table quiet
 pub directive_more : (vars : List Var) (earlier : List Transition) (line : Transition) (fits bound stays : Bool) → fits ≡ list_any (fits_zero vars) earlier

@@ -31,25 +31,30 @@ reads_none = record { numbers = refl; reached = reach_none; is = sym parsed_star
 pub good_reads : (pairs : List Numbered) (parsed : Parsed) (fit : Bool) → Reads pairs parsed fit → IsGood parsed
 good_reads pairs parsed fit reads = subst (λ (s : Parsed). IsGood s) (sym (reads.is ∙ ap parsed_by reads.numbers)) reads.reached.good
 
-module _ (lines : List (List ℕ)) (pairs : List Numbered) (number : ℕ) (line : List ℕ) (rest : List Numbered) (all : pairs ++ (number, line) ∷ rest ≡ numbered_from 1 lines)
+module _ (lines : List (List ℕ)) (pairs : List Numbered) (number : ℕ) (line : List ℕ) (rest : List Numbered)
+    (all : pairs ++ (number, line) ∷ rest ≡ numbered_from 1 lines)
     (parsed : Parsed) (fit : Bool) (reads : Reads pairs parsed fit) where
   pub number_is : number ≡ number_behind (texts_of pairs)
   number_is = let e = number_at lines pairs 1 number line rest (omega arith) all in omega (arith, e, length_texts pairs)
 
   -- what the line tells, as the definitions have it
-  directive_there : (r : Result Directive Kind) → parse_line parsed number line ≡ r → parse_line (parsed_by (numbered_from 1 (texts_of pairs))) (number_behind (texts_of pairs)) line ≡ r
+  directive_there : (r : Result Directive Kind) → parse_line parsed number line ≡ r
+      → parse_line (parsed_by (numbered_from 1 (texts_of pairs))) (number_behind (texts_of pairs)) line ≡ r
   directive_there r h =
       ap (λ (s : Parsed). parse_line s (number_behind (texts_of pairs)) line) (sym (reads.is ∙ ap parsed_by reads.numbers))
       ∙ ap (λ (k : ℕ). parse_line parsed k line) (sym number_is) ∙ h
 
-  pub reads_more : (directive : Directive) (next : Parsed) (next_fit : Bool) → parse_line parsed number line ≡ Ok directive → next ≡ after parsed directive → next_fit ≡ fits_after fit parsed.vars directive
+  pub reads_more : (directive : Directive) (next : Parsed) (next_fit : Bool) → parse_line parsed number line ≡ Ok directive → next ≡ after parsed directive
+      → next_fit ≡ fits_after fit parsed.vars directive
       → Reads (pairs ++ (number, line) ∷ []) next next_fit
   reads_more directive next next_fit h n f =
       let m = reach_more (texts_of pairs) line directive reads.reached (directive_there (Ok directive) h) in
       let t : texts_of (pairs ++ (number, line) ∷ []) ≡ texts_of pairs ++ line ∷ [] = map-append (λ (p : Numbered). p.1) pairs ((number, line) ∷ []) in
       let numbers : pairs ++ (number, line) ∷ [] ≡ numbered_from 1 (texts_of pairs ++ line ∷ []) =
-      ap (λ (ps : List Numbered). ps ++ (number, line) ∷ []) reads.numbers ∙ ap (λ (k : ℕ). numbered_from 1 (texts_of pairs) ++ (k, line) ∷ []) number_is ∙ sym (numbered_more (texts_of pairs) line) in
-      let k : IsKept (after parsed directive) (fits_after fit parsed.vars directive) = kept_more parsed number line directive fit (good_reads pairs parsed fit reads) reads.keeps (line_case parsed number line directive h) in
+      ap (λ (ps : List Numbered). ps ++ (number, line) ∷ []) reads.numbers ∙ ap (λ (k : ℕ). numbered_from 1 (texts_of pairs) ++ (k, line) ∷ []) number_is
+      ∙ sym (numbered_more (texts_of pairs) line) in
+      let k : IsKept (after parsed directive) (fits_after fit parsed.vars directive) = kept_more parsed number line directive fit
+      (good_reads pairs parsed fit reads) reads.keeps (line_case parsed number line directive h) in
       record {
         numbers = numbers ∙ ap (numbered_from 1) (sym t);
         reached = subst Reach (sym t) m.1;
@@ -62,7 +67,8 @@ module _ (lines : List (List ℕ)) (pairs : List Numbered) (number : ℕ) (line 
 
   pub refused_at : (fault : Fault) → parse_line parsed number line ≡ Err fault.kind → fault.place.line ≡ number → Refuses lines fault
   refused_at fault h l =
-      numbered.refused_at IsTableFile broken missing by_lines lines pairs number line rest fault all reads.reached.unbroken (directive_broken (texts_of pairs) line fault.kind (directive_there (Err fault.kind) h)) l
+      numbered.refused_at IsTableFile broken missing by_lines lines pairs number line rest fault all reads.reached.unbroken
+      (directive_broken (texts_of pairs) line fault.kind (directive_there (Err fault.kind) h)) l
 
 module _ (lines : List (List ℕ)) (pairs rest : List Numbered) (all : pairs ++ rest ≡ numbered_from 1 lines) (none : rest ≡ [])
     (parsed : Parsed) (fit : Bool) (reads : Reads pairs parsed fit) where
@@ -82,6 +88,7 @@ module _ (lines : List (List ℕ)) (pairs rest : List Numbered) (all : pairs ++ 
       → Refuses lines fault
   refused_at_end fault next l at n =
       let lacks : missing lines ≡ Some fault.kind = missing_is lines ∙ ap lacking (sym parsed_is) ∙ l in
-      let r = refusal_at_end IsTableFile broken missing by_lines lines fault.kind reached.unbroken (λ g. let z : None ≡ Some fault.kind = sym g.whole ∙ lacks in cc) lacks in
+      let r = refusal_at_end IsTableFile broken missing by_lines lines fault.kind reached.unbroken (λ g. let z : None ≡ Some fault.kind = sym g.whole ∙ lacks in
+      cc) lacks in
       let size : length lines ≡ length pairs = sym (ap length (all_read lines pairs rest all none)) ∙ length_texts pairs in
       subst (λ (k : ℕ). Refuses lines (record { place = record { line = k }; kind = fault.kind })) (omega (arith, at, n, size)) r

@@ -30,10 +30,12 @@ pub record TextsStand (ts : List Numbered) : Type 0 where
 
 -- no key is another
 states_alone : (key : List ℕ) → is_states_key key ≡ true → is_neighborhood_key key ≡ false
-states_alone key e = let k : key ≡ codes "n_states" = (bytes_eq-Decides key (codes "n_states")).0 e in subst (λ (w : List ℕ). is_neighborhood_key w ≡ false) (sym k) refl
+states_alone key e = let k : key ≡ codes "n_states" = (bytes_eq-Decides key (codes "n_states")).0 e in
+    subst (λ (w : List ℕ). is_neighborhood_key w ≡ false) (sym k) refl
 
 states_alone_too : (key : List ℕ) → is_states_key key ≡ true → is_symmetry_key key ≡ false
-states_alone_too key e = let k : key ≡ codes "n_states" = (bytes_eq-Decides key (codes "n_states")).0 e in subst (λ (w : List ℕ). is_symmetry_key w ≡ false) (sym k) refl
+states_alone_too key e = let k : key ≡ codes "n_states" = (bytes_eq-Decides key (codes "n_states")).0 e in
+    subst (λ (w : List ℕ). is_symmetry_key w ≡ false) (sym k) refl
 
 or_cases : (a b : Bool) → (a || b) ≡ true → (a ≡ true) ⊎ (b ≡ true)
 or_cases true b e = inl refl
@@ -41,12 +43,15 @@ or_cases false b e = inr e
 
 neighbors_alone : (key : List ℕ) → is_neighborhood_key key ≡ true → is_symmetry_key key ≡ false
 neighbors_alone key e = elim (or_cases (bytes_eq key (codes "neighborhood")) (bytes_eq key (codes "neighbourhood")) e) [
-  | inl a ↦ (let k : key ≡ codes "neighborhood" = (bytes_eq-Decides key (codes "neighborhood")).0 a in subst (λ (w : List ℕ). is_symmetry_key w ≡ false) (sym k) refl)
-  | inr b ↦ (let k : key ≡ codes "neighbourhood" = (bytes_eq-Decides key (codes "neighbourhood")).0 b in subst (λ (w : List ℕ). is_symmetry_key w ≡ false) (sym k) refl)
+  | inl a ↦ (let k : key ≡ codes "neighborhood" = (bytes_eq-Decides key (codes "neighborhood")).0 a in
+      subst (λ (w : List ℕ). is_symmetry_key w ≡ false) (sym k) refl)
+  | inr b ↦ (let k : key ≡ codes "neighbourhood" = (bytes_eq-Decides key (codes "neighbourhood")).0 b in
+      subst (λ (w : List ℕ). is_symmetry_key w ≡ false) (sym k) refl)
 ]
 
 -- one said of five equal parts
-parsed_same : (name : Option (List ℕ)) (section : Section) (a a' : Option ℕ) (b b' : Option Neighborhood) (c c' : Option Symmetry) (d d' : List Var) (e e' : List Transition)
+parsed_same : (name : Option (List ℕ)) (section : Section) (a a' : Option ℕ) (b b' : Option Neighborhood) (c c' : Option Symmetry) (d d' : List Var)
+    (e e' : List Transition)
     → a ≡ a' → b ≡ b' → c ≡ c' → d ≡ d' → e ≡ e'
     → (let s : Parsed = record { name = name; section = section; n_states = a; neighborhood = b; symmetry = c; vars = d; lines = e } in s)
     ≡ record { name = name; section = section; n_states = a'; neighborhood = b'; symmetry = c'; vars = d'; lines = e' }
@@ -89,15 +94,18 @@ module _ (name : Option (List ℕ)) (ts : List Numbered) (number : ℕ) (text : 
     described_vars : variables_in on' (texts_of (ts ++ x ∷ [])) ≡ variables_in on (texts_of ts)
     described_vars = no_variables on' (ts ++ x ∷ []) more_described ∙ sym (no_variables on ts all)
 
-    described_lines : transitions_in on' oh' (variables_in on' (texts_of (ts ++ x ∷ []))) (ts ++ x ∷ []) ≡ transitions_in on oh (variables_in on (texts_of ts)) ts
-    described_lines = no_transitions on' oh' (variables_in on' (texts_of (ts ++ x ∷ []))) (ts ++ x ∷ []) more_described ∙ sym (no_transitions on oh (variables_in on (texts_of ts)) ts all)
+    described_lines : transitions_in on' oh' (variables_in on' (texts_of (ts ++ x ∷ []))) (ts ++ x ∷ []) ≡ transitions_in on oh (variables_in on (texts_of ts))
+        ts
+    described_lines = no_transitions on' oh' (variables_in on' (texts_of (ts ++ x ∷ []))) (ts ++ x ∷ []) more_described
+        ∙ sym (no_transitions on oh (variables_in on (texts_of ts)) ts all)
 
     described_stand : Stays on on' → Stays oh oh' → Stays oy oy' → Settled on' oh' oy' text → TextsStand (ts ++ x ∷ [])
     described_stand n h y s = record {
       early = λ _. more_described;
       read = λ n h en eh. none_to_read n (neighbour_count h) (variables_written n (texts_of (ts ++ x ∷ []))) (ts ++ x ∷ []) more_described;
       settled = settled_more on on' oh oh' oy oy' n h y ts x stand.settled (λ _. s);
-      variables = λ n en. variables_none n (variables_written n (texts_of (ts ++ x ∷ []))) (ts ++ x ∷ []) more_described (no_variables (Some n) (ts ++ x ∷ []) more_described);
+      variables = λ n en. variables_none n (variables_written n (texts_of (ts ++ x ∷ []))) (ts ++ x ∷ []) more_described
+          (no_variables (Some n) (ts ++ x ∷ []) more_described);
     }
 
   -- one more variable or transition
@@ -118,14 +126,17 @@ module _ (name : Option (List ℕ)) (ts : List Numbered) (number : ℕ) (text : 
     symmetry_same = setting_same is_symmetry_key symmetry_named ts x (no_descriptor is_symmetry_key text d)
 
     vars_then : (new : List Var) → written n V text ≡ new → variables_in on' (texts_of (ts ++ x ∷ [])) ≡ V ++ new
-    vars_then new w = ap (λ (o : Option ℕ). variables_in o (texts_of (ts ++ x ∷ []))) (states_same ∙ en) ∙ variables_more n ts x ∙ ap (λ (vs : List Var). V ++ vs) w
+    vars_then new w = ap (λ (o : Option ℕ). variables_in o (texts_of (ts ++ x ∷ []))) (states_same ∙ en) ∙ variables_more n ts x
+        ∙ ap (λ (vs : List Var). V ++ vs) w
 
     lines_are : transitions_in on oh (variables_in on (texts_of ts)) ts ≡ transitions_written n (neighbour_count h) V ts
-    lines_are = ap (λ (o : Option ℕ). transitions_in o oh (variables_in on (texts_of ts)) ts) en ∙ ap (λ (o : Option Neighborhood). transitions_in (Some n) o (variables_in on (texts_of ts)) ts) eh
+    lines_are = ap (λ (o : Option ℕ). transitions_in o oh (variables_in on (texts_of ts)) ts) en
+        ∙ ap (λ (o : Option Neighborhood). transitions_in (Some n) o (variables_in on (texts_of ts)) ts) eh
         ∙ ap (λ (vs : List Var). transitions_written n (neighbour_count h) vs ts) vars_are
 
     lines_then : (vars : List Var) → variables_in on' (texts_of (ts ++ x ∷ [])) ≡ vars
-        → transitions_in on' oh' (variables_in on' (texts_of (ts ++ x ∷ []))) (ts ++ x ∷ []) ≡ transitions_written n (neighbour_count h) vars ts ++ cons_option (on_line n (neighbour_count h) vars x) []
+        → transitions_in on' oh' (variables_in on' (texts_of (ts ++ x ∷ []))) (ts ++ x ∷ []) ≡ transitions_written n (neighbour_count h) vars ts
+        ++ cons_option (on_line n (neighbour_count h) vars x) []
     lines_then vars e = ap (λ (o : Option ℕ). transitions_in o oh' (variables_in on' (texts_of (ts ++ x ∷ []))) (ts ++ x ∷ [])) (states_same ∙ en)
         ∙ ap (λ (o : Option Neighborhood). transitions_in (Some n) o (variables_in on' (texts_of (ts ++ x ∷ []))) (ts ++ x ∷ [])) (neighbors_same ∙ eh)
         ∙ ap (λ (vs : List Var). transitions_written n (neighbour_count h) vs (ts ++ x ∷ [])) e ∙ transitions_more n (neighbour_count h) vars ts x
@@ -133,7 +144,8 @@ module _ (name : Option (List ℕ)) (ts : List Numbered) (number : ℕ) (text : 
     all_read : All (IsRead n (neighbour_count h) V) ts
     all_read = stand.read n h en eh
 
-    stand_then : All (IsRead n (neighbour_count h) (variables_written n (texts_of (ts ++ x ∷ [])))) (ts ++ x ∷ []) → AreVariables n (variables_written n (texts_of (ts ++ x ∷ []))) (ts ++ x ∷ []) → TextsStand (ts ++ x ∷ [])
+    stand_then : All (IsRead n (neighbour_count h) (variables_written n (texts_of (ts ++ x ∷ [])))) (ts ++ x ∷ [])
+        → AreVariables n (variables_written n (texts_of (ts ++ x ∷ []))) (ts ++ x ∷ []) → TextsStand (ts ++ x ∷ [])
     stand_then all vars = record {
       early = λ e. absurd (
           let t : (is_some on' && is_some oh' && is_some oy') ≡ true =
@@ -145,7 +157,8 @@ module _ (name : Option (List ℕ)) (ts : List Numbered) (number : ℕ) (text : 
           let same_h : h ≡ g = (let z : Some h ≡ Some g = sym (neighbors_same ∙ eh) ∙ eg in cc) in
           subst (λ (m : ℕ). All (IsRead m (neighbour_count g) (variables_written m (texts_of (ts ++ x ∷ [])))) (ts ++ x ∷ [])) same_n
           (subst (λ (g : Neighborhood). All (IsRead n (neighbour_count g) (variables_written n (texts_of (ts ++ x ∷ [])))) (ts ++ x ∷ [])) same_h all);
-      settled = settled_more on on' oh oh' oy oy' (stays_same on on' states_same) (stays_same oh oh' neighbors_same) (stays_same oy oy' symmetry_same) ts x stand.settled
+      settled = settled_more on on' oh oh' oy oy' (stays_same on on' states_same) (stays_same oh oh' neighbors_same) (stays_same oy oy' symmetry_same) ts x
+          stand.settled
           (λ e. absurd (let z : false ≡ true = sym d ∙ e in let w : ⊥ = cc in w));
       variables = λ m em.
           let same_n : n ≡ m = (let z : Some n ≡ Some m = sym (states_same ∙ en) ∙ em in cc) in
@@ -165,7 +178,8 @@ module _ (name : Option (List ℕ)) (ts : List Numbered) (number : ℕ) (text : 
     no_transition vars v = ap (λ (b : Bool). if not b && not (is_variable_line text) then transition_of n (neighbour_count h) vars number text else None) d
         ∙ ap (λ (b : Bool). if not b then transition_of n (neighbour_count h) vars number text else None) v
 
-    transition_there : (vars : List Var) → is_variable_line text ≡ false → on_line n (neighbour_count h) vars x ≡ transition_of n (neighbour_count h) vars number text
+    transition_there : (vars : List Var) → is_variable_line text ≡ false → on_line n (neighbour_count h) vars x ≡ transition_of n (neighbour_count h) vars
+        number text
     transition_there vars v = ap (λ (b : Bool). if not b && not (is_variable_line text) then transition_of n (neighbour_count h) vars number text else None) d
         ∙ ap (λ (b : Bool). if not b then transition_of n (neighbour_count h) vars number text else None) v
 
@@ -173,7 +187,8 @@ module _ (name : Option (List ℕ)) (ts : List Numbered) (number : ℕ) (text : 
   abbrev SaysMore : Directive → Type 0
   SaysMore directive = (parsed_in name Open (ts ++ x ∷ []) ≡ after (parsed_in name Open ts) directive) × TextsStand (ts ++ x ∷ [])
 
-  says_states : is_descriptor text ≡ true → is_states_key (key_of text) ≡ true → on ≡ None → (n : ℕ) → states_named (setting_of text) ≡ Some n → SaysMore (States n)
+  says_states : is_descriptor text ≡ true → is_states_key (key_of text) ≡ true → on ≡ None → (n : ℕ) → states_named (setting_of text) ≡ Some n
+      → SaysMore (States n)
   says_states d k none n e =
       let all : AreDescriptors ts = stand.early (not_described (is_some on) (is_some oh) (is_some oy) (inl (ap (λ (o : Option ℕ). is_some o) none))) in
       let states : on' ≡ Some n = setting_new is_states_key states_named ts x (this_key is_states_key text d k) none ∙ e in
@@ -187,7 +202,8 @@ module _ (name : Option (List ℕ)) (ts : List Numbered) (number : ℕ) (text : 
   says_neighbors : is_descriptor text ≡ true → is_states_key (key_of text) ≡ false → is_neighborhood_key (key_of text) ≡ true → oh ≡ None → (h : Neighborhood)
       → neighborhood_named (setting_of text) ≡ Some h → SaysMore (Neighbors h)
   says_neighbors d s k none h e =
-      let all : AreDescriptors ts = stand.early (not_described (is_some on) (is_some oh) (is_some oy) (inr (inl (ap (λ (o : Option Neighborhood). is_some o) none)))) in
+      let all : AreDescriptors ts = stand.early
+      (not_described (is_some on) (is_some oh) (is_some oy) (inr (inl (ap (λ (o : Option Neighborhood). is_some o) none)))) in
       let states : on' ≡ on = setting_same is_states_key states_named ts x (other_key is_states_key text s) in
       let neighbors : oh' ≡ Some h = setting_new is_neighborhood_key neighborhood_named ts x (this_key is_neighborhood_key text d k) none ∙ e in
       let symmetry : oy' ≡ oy = setting_same is_symmetry_key symmetry_named ts x (other_key is_symmetry_key text (neighbors_alone (key_of text) k)) in (
@@ -196,10 +212,12 @@ module _ (name : Option (List ℕ)) (ts : List Numbered) (number : ℕ) (text : 
         described_stand d all (stays_same on on' states) (stays_none oh oh' none) (stays_same oy oy' symmetry) (inr (inl (k, h, e, neighbors))),
       )
 
-  says_orders : is_descriptor text ≡ true → is_states_key (key_of text) ≡ false → is_neighborhood_key (key_of text) ≡ false → is_symmetry_key (key_of text) ≡ true → oy ≡ None → (y : Symmetry)
+  says_orders : is_descriptor text ≡ true → is_states_key (key_of text) ≡ false → is_neighborhood_key (key_of text) ≡ false
+      → is_symmetry_key (key_of text) ≡ true → oy ≡ None → (y : Symmetry)
       → symmetry_named (setting_of text) ≡ Some y → SaysMore (Orders y)
   says_orders d s m k none y e =
-      let all : AreDescriptors ts = stand.early (not_described (is_some on) (is_some oh) (is_some oy) (inr (inr (ap (λ (o : Option Symmetry). is_some o) none)))) in
+      let all : AreDescriptors ts = stand.early
+      (not_described (is_some on) (is_some oh) (is_some oy) (inr (inr (ap (λ (o : Option Symmetry). is_some o) none)))) in
       let states : on' ≡ on = setting_same is_states_key states_named ts x (other_key is_states_key text s) in
       let neighbors : oh' ≡ oh = setting_same is_neighborhood_key neighborhood_named ts x (other_key is_neighborhood_key text m) in
       let symmetry : oy' ≡ Some y = setting_new is_symmetry_key symmetry_named ts x (this_key is_symmetry_key text d k) none ∙ e in (
@@ -208,7 +226,8 @@ module _ (name : Option (List ℕ)) (ts : List Numbered) (number : ℕ) (text : 
         described_stand d all (stays_same on on' states) (stays_same oh oh' neighbors) (stays_none oy oy' none) (inr (inr (k, y, e, symmetry))),
       )
 
-  says_variable : is_descriptor text ≡ false → (n : ℕ) (h : Neighborhood) (y : Symmetry) → on ≡ Some n → oh ≡ Some h → oy ≡ Some y → is_variable_line text ≡ true → (var : Var)
+  says_variable : is_descriptor text ≡ false → (n : ℕ) (h : Neighborhood) (y : Symmetry) → on ≡ Some n → oh ≡ Some h → oy ≡ Some y
+      → is_variable_line text ≡ true → (var : Var)
       → variable_of n (variables_in on (texts_of ts)) text ≡ Some var → SaysMore (Variable var)
   says_variable d n h y en eh ey v var e =
       let k : ℕ = neighbour_count h in
@@ -216,9 +235,11 @@ module _ (name : Option (List ℕ)) (ts : List Numbered) (number : ℕ) (text : 
       let vars : variables_in on' (texts_of (ts ++ x ∷ [])) ≡ V d n h y en eh ey ++ var ∷ [] = vars_then d n h y en eh ey (var ∷ []) w in
       let kept = transitions_kept n (neighbour_count h) (V d n h y en eh ey) var ts (all_read d n h y en eh ey) in
       let lines = lines_then d n h y en eh ey (V d n h y en eh ey ++ var ∷ []) vars
-      ∙ ap (λ (o : Option Transition). transitions_written n (neighbour_count h) (V d n h y en eh ey ++ var ∷ []) ts ++ cons_option o []) (no_transition d n h y en eh ey (V d n h y en eh ey ++ var ∷ []) v)
+      ∙ ap (λ (o : Option Transition). transitions_written n (neighbour_count h) (V d n h y en eh ey ++ var ∷ []) ts ++ cons_option o [])
+      (no_transition d n h y en eh ey (V d n h y en eh ey ++ var ∷ []) v)
       ∙ append-nil (transitions_written n (neighbour_count h) (V d n h y en eh ey ++ var ∷ []) ts) ∙ kept.0 ∙ sym (lines_are d n h y en eh ey) in
-      let there : variables_written n (texts_of (ts ++ x ∷ [])) ≡ V d n h y en eh ey ++ var ∷ [] = variables_more n ts x ∙ ap (λ (vs : List Var). V d n h y en eh ey ++ vs) w in
+      let there : variables_written n (texts_of (ts ++ x ∷ [])) ≡ V d n h y en eh ey ++ var ∷ [] = variables_more n ts x
+      ∙ ap (λ (vs : List Var). V d n h y en eh ey ++ vs) w in
       let last : IsRead n (neighbour_count h) (V d n h y en eh ey ++ var ∷ []) x = λ is. absurd (
       let no : is_transition_line text ≡ false = ap (λ (b : Bool). not (is_descriptor text) && not b) v ∙ and_false (not (is_descriptor text)) in
       let z : true ≡ false = sym is ∙ no in let q : ⊥ = cc in q) in (
@@ -235,7 +256,8 @@ module _ (name : Option (List ℕ)) (ts : List Numbered) (number : ℕ) (text : 
       and_false true = refl
       and_false false = refl
 
-  says_transition : is_descriptor text ≡ false → (n : ℕ) (h : Neighborhood) (y : Symmetry) → on ≡ Some n → oh ≡ Some h → oy ≡ Some y → is_variable_line text ≡ false → (t : Transition)
+  says_transition : is_descriptor text ≡ false → (n : ℕ) (h : Neighborhood) (y : Symmetry) → on ≡ Some n → oh ≡ Some h → oy ≡ Some y
+      → is_variable_line text ≡ false → (t : Transition)
       → transition_of n (neighbour_count h) (variables_in on (texts_of ts)) number text ≡ Some t → SaysMore (Line t)
   says_transition d n h y en eh ey v t e =
       let w = nothing_written d n h y en eh ey v in
@@ -243,9 +265,11 @@ module _ (name : Option (List ℕ)) (ts : List Numbered) (number : ℕ) (text : 
       let read : transition_of n (neighbour_count h) (V d n h y en eh ey) number text ≡ Some t =
       ap (λ (vs : List Var). transition_of n (neighbour_count h) vs number text) (sym (vars_are d n h y en eh ey)) ∙ e in
       let lines = lines_then d n h y en eh ey (V d n h y en eh ey) vars
-      ∙ ap (λ (o : Option Transition). transitions_written n (neighbour_count h) (V d n h y en eh ey) ts ++ cons_option o []) (transition_there d n h y en eh ey (V d n h y en eh ey) v ∙ read)
+      ∙ ap (λ (o : Option Transition). transitions_written n (neighbour_count h) (V d n h y en eh ey) ts ++ cons_option o [])
+      (transition_there d n h y en eh ey (V d n h y en eh ey) v ∙ read)
       ∙ ap (λ (ls : List Transition). ls ++ t ∷ []) (sym (lines_are d n h y en eh ey)) in
-      let there : variables_written n (texts_of (ts ++ x ∷ [])) ≡ V d n h y en eh ey = variables_more n ts x ∙ ap (λ (vs : List Var). V d n h y en eh ey ++ vs) w ∙ append-nil (V d n h y en eh ey) in (
+      let there : variables_written n (texts_of (ts ++ x ∷ [])) ≡ V d n h y en eh ey = variables_more n ts x
+      ∙ ap (λ (vs : List Var). V d n h y en eh ey ++ vs) w ∙ append-nil (V d n h y en eh ey) in (
         parsed_same name Open on' on oh' oh oy' oy _ _ _ _ (states_same d n h y en eh ey) (neighbors_same d n h y en eh ey) (symmetry_same d n h y en eh ey)
             (vars ∙ sym (vars_are d n h y en eh ey)) lines,
         stand_then d n h y en eh ey (subst (λ (vs : List Var). All (IsRead n (neighbour_count h) vs) (ts ++ x ∷ [])) (sym there)

@@ -19,15 +19,18 @@ use Rattle.life_table.specs.declared.table.Entry.TheVariants as entries
 use Rattle.life_table.specs.declared.table.Var.{Var}
 
 -- one more place is written
-pub put_more : (f : ℕ → ℕ) (xs : List ℕ) (i y : ℕ) → i < length xs → y ≡ f i → ((j : ℕ) → j < i → slice_index xs j ≡ f j) → (j : ℕ) → j < i + 1 → slice_index (set xs i y) j ≡ f j
+pub put_more : (f : ℕ → ℕ) (xs : List ℕ) (i y : ℕ) → i < length xs → y ≡ f i → ((j : ℕ) → j < i → slice_index xs j ≡ f j) → (j : ℕ) → j < i + 1
+    → slice_index (set xs i y) j ≡ f j
 put_more f xs i y inside is before j below = elim (eqb_tells j i) [
   | inl same ↦ ap (slice_index (set xs i y)) same.1 ∙ get_or-set_same xs i y 0 inside ∙ is ∙ ap f (sym same.1)
   | inr other ↦ get_or-set_other xs i j y 0 other.1 ∙ before j (omega (arith, below, other.1))
 ]
 
 -- one more place is told of its state
-pub tell_state : (around places : List ℕ) (k : ℕ) → k < 16 → slice_index around k < length places → ((j : ℕ) → j < k → bit_at (slice_index places (slice_index around j)) j ≡ 1) →
-    (j : ℕ) → j < k + 1 → bit_at (slice_index (set places (slice_index around k) (bit_or (slice_index places (slice_index around k)) (1 * 2 ^ k % 2 ^ 16))) (slice_index around j)) j ≡ 1
+pub tell_state : (around places : List ℕ) (k : ℕ) → k < 16 → slice_index around k < length places
+    → ((j : ℕ) → j < k → bit_at (slice_index places (slice_index around j)) j ≡ 1) →
+    (j : ℕ) → j < k + 1 → bit_at (slice_index (set places (slice_index around k) (bit_or (slice_index places (slice_index around k)) (1 * 2 ^ k % 2 ^ 16)))
+    (slice_index around j)) j ≡ 1
 tell_state around places k room inside before j below =
     let s = slice_index around k in
     let t = slice_index around j in
@@ -78,7 +81,8 @@ set_not_zero n k h = λ z. let e = sym h ∙ ap (λ m. bit_at m k) z ∙ bit_at-
 and_shifted : (fits p first r : ℕ) → bit_at fits r ≡ 1 → bit_at p (first + r) ≡ 1 → bit_at (bit_and fits (p / 2 ^ first)) r ≡ 1
 and_shifted fits p first r one other =
     let e = bit_at_and fits (p / 2 ^ first) r in
-    let moved : bit_at (p / 2 ^ first) r ≡ bit_at p (first + r) = ap (λ n. n % 2) (div-div-eq-div-mul p (2 ^ first) (2 ^ r)) ∙ ap (λ n. p / n % 2) (sym (pow-add 2 first r)) in
+    let moved : bit_at (p / 2 ^ first) r ≡ bit_at p (first + r) = ap (λ n. n % 2) (div-div-eq-div-mul p (2 ^ first) (2 ^ r))
+    ∙ ap (λ n. p / n % 2) (sym (pow-add 2 first r)) in
     omega (arith, e, moved, one, other)
 
 -- a turn stays where an entry may be the neighbour that comes to it
@@ -104,7 +108,8 @@ some_holds p None h = absurd (let z : ⊥ = cc in z)
 some_holds p (Some x) h = (x, refl, h)
 
 -- a variable that may be a state stands among the variables
-some_there : (vars : List Var) (i s : ℕ) → can_be_state vars (entries.Var i) s ≡ true → (var : Var) × (i < length vars) × (var ≡ get_or vars i var) × IsTrue (has_state var s)
+some_there : (vars : List Var) (i s : ℕ) → can_be_state vars (entries.Var i) s ≡ true → (var : Var) × (i < length vars) × (var ≡ get_or vars i var)
+    × IsTrue (has_state var s)
 some_there vars i s h =
     let r = some_holds (λ (var : Var). has_state var s) (slice_get vars i) h in
     (r.0, slice_get_within vars i r.0 r.1, sym (get_or_from_slice_get vars i r.0 r.0 r.1), r.2)
@@ -112,7 +117,8 @@ some_there vars i s h =
 -- what is told of the states and of the variables is told of the entries
 pub seen_is : (vars : List Var) (others around fixed listed : List ℕ) → ((k : ℕ) → k < 16 → slice_index around k ≡ slice_index others (k % length others)) →
     ((k : ℕ) → k < 16 → bit_at (slice_index fixed (slice_index around k)) k ≡ 1) →
-    ((i k : ℕ) → i < length vars → i < 64 → k < 16 → (var : Var) → var ≡ get_or vars i var → IsTrue (has_state var (slice_index around k)) → bit_at (slice_index listed i) k ≡ 1) →
+    ((i k : ℕ) → i < length vars → i < 64 → k < 16 → (var : Var) → var ≡ get_or vars i var → IsTrue (has_state var (slice_index around k))
+    → bit_at (slice_index listed i) k ≡ 1) →
     IsSeen vars others (record { fixed = fixed; listed = listed })
 seen_is vars others around fixed listed same states variables (entries.Fixed s) k room h = elim (eqb_tells s (slice_index others (k % length others))) [
   | inl is ↦ ap (λ n. bit_at (slice_index fixed n) k) (is.1 ∙ sym (same k room)) ∙ states k room

@@ -10,7 +10,8 @@ use Rattle.life_table.specs.declared.table.Var.{Var}
 use Rattle.life_table.specs.declared.table.Transition.{Transition}
 
 -- inputs that can't be these states give nothing
-pub no_image : (vars : List Var) (line : Transition) (states : List ℕ) (k : ℕ) → k < length states → (Consistent vars (take (k + 1) line.inputs) (take k states ++ slice_index states k ∷ []) → ⊥) →
+pub no_image : (vars : List Var) (line : Transition) (states : List ℕ) (k : ℕ) → k < length states
+    → (Consistent vars (take (k + 1) line.inputs) (take k states ++ slice_index states k ∷ []) → ⊥) →
     (s : ℕ) → GivesAs vars line states s → ⊥
 no_image vars line states k below none s g =
     none (record {
@@ -23,7 +24,8 @@ no_image vars line states k below none s g =
 pub one_image : (vars : List Var) (line : Transition) (states : List ℕ) (o : ℕ) (old new : Found) → Consistent vars line.inputs states →
     ((s : ℕ) → GivesAs vars line states s → s ≡ o) → Adds (λ s. s ≡ o) old new → Adds (GivesAs vars line states) old new
 one_image vars line states o old new c only h =
-    let out : state_of c.choice line.output ≡ o = only (state_of c.choice line.output) (record { choice = c.choice; is_choice = c.is_choice; inputs = c.values; output = refl }) in
+    let out : state_of c.choice line.output ≡ o = only (state_of c.choice line.output)
+    (record { choice = c.choice; is_choice = c.is_choice; inputs = c.values; output = refl }) in
     adds_same (λ s. s ≡ o) (GivesAs vars line states)
     (λ s e. record { choice = c.choice; is_choice = c.is_choice; inputs = c.values; output = out ∙ sym e })
     only old new h

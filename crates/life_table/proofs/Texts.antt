@@ -26,7 +26,8 @@ or_new None o = o
 or_new (Some x) o = Some x
 
 module _ {X : Type 0} (f : List ℕ → Option X) where
-  first_step : (o : Option X) (os : List (Option X)) (new : Option X) → first_some (os ++ new ∷ []) ≡ or_new (first_some os) new → first_some (o ∷ (os ++ new ∷ [])) ≡ or_new (first_some (o ∷ os)) new
+  first_step : (o : Option X) (os : List (Option X)) (new : Option X) → first_some (os ++ new ∷ []) ≡ or_new (first_some os) new
+      → first_some (o ∷ (os ++ new ∷ [])) ≡ or_new (first_some (o ∷ os)) new
   first_step None os new ih = ih
   first_step (Some x) os new ih = refl
 
@@ -36,9 +37,11 @@ module _ {X : Type 0} (f : List ℕ → Option X) where
 
   pub first_more : (ts : List Numbered) (x : Numbered) → first_some (map f (texts_of (ts ++ x ∷ []))) ≡ or_new (first_some (map f (texts_of ts))) (f x.1)
   first_more [] x = first_end (f x.1)
-  first_more (t ∷ ts) x = first_again (f t.1) (first_some (map f (texts_of (ts ++ x ∷ [])))) (first_some (map f (texts_of ts))) (f x.1) (map f (texts_of (ts ++ x ∷ []))) (map f (texts_of ts)) refl refl (first_more ts x)
+  first_more (t ∷ ts) x = first_again (f t.1) (first_some (map f (texts_of (ts ++ x ∷ [])))) (first_some (map f (texts_of ts))) (f x.1)
+      (map f (texts_of (ts ++ x ∷ []))) (map f (texts_of ts)) refl refl (first_more ts x)
     where
-      first_again : (o l r new : Option X) (ls rs : List (Option X)) → first_some ls ≡ l → first_some rs ≡ r → l ≡ or_new r new → first_some (o ∷ ls) ≡ or_new (first_some (o ∷ rs)) new
+      first_again : (o l r new : Option X) (ls rs : List (Option X)) → first_some ls ≡ l → first_some rs ≡ r → l ≡ or_new r new
+          → first_some (o ∷ ls) ≡ or_new (first_some (o ∷ rs)) new
       first_again None l r new ls rs el er e = el ∙ e ∙ ap (λ (q : Option X). or_new q new) (sym er)
       first_again (Some y) l r new ls rs el er e = refl
 
@@ -47,10 +50,12 @@ or_nothing None = refl
 or_nothing (Some x) = refl
 
 -- the value of a text that is no such descriptor
-pub value_none : {X : Type 0} (is_key : List ℕ → Bool) (named : List ℕ → Option X) (text : List ℕ) → describes_by is_key text ≡ false → value_by is_key named text ≡ None
+pub value_none : {X : Type 0} (is_key : List ℕ → Bool) (named : List ℕ → Option X) (text : List ℕ) → describes_by is_key text ≡ false
+    → value_by is_key named text ≡ None
 value_none is_key named text e = ap (λ (b : Bool). if b then named (setting_of text) else None) e
 
-pub value_some : {X : Type 0} (is_key : List ℕ → Bool) (named : List ℕ → Option X) (text : List ℕ) → describes_by is_key text ≡ true → value_by is_key named text ≡ named (setting_of text)
+pub value_some : {X : Type 0} (is_key : List ℕ → Bool) (named : List ℕ → Option X) (text : List ℕ) → describes_by is_key text ≡ true
+    → value_by is_key named text ≡ named (setting_of text)
 value_some is_key named text e = ap (λ (b : Bool). if b then named (setting_of text) else None) e
 
 pub other_key : (is_key : List ℕ → Bool) (text : List ℕ) → is_key (key_of text) ≡ false → describes_by is_key text ≡ false
@@ -120,22 +125,26 @@ map_kept : (o p : Option ℕ) (e : Entry) → ((i : ℕ) → o ≡ Some i → p 
 map_kept None p e f h = absurd (let z : ⊥ = cc in z)
 map_kept (Some i) p e f h = ap (option_map entries.Var) (f i refl) ∙ h
 
-entry_by : (digits : Bool) (a o p : Option Entry) (e : Entry) → (o ≡ Some e → p ≡ Some e) → (if digits then a else o) ≡ Some e → (if digits then a else p) ≡ Some e
+entry_by : (digits : Bool) (a o p : Option Entry) (e : Entry) → (o ≡ Some e → p ≡ Some e) → (if digits then a else o) ≡ Some e
+    → (if digits then a else p) ≡ Some e
 entry_by true a o p e f h = h
 entry_by false a o p e f h = f h
 
 pub entry_kept : (n : ℕ) (vars : List Var) (v : Var) (word : List ℕ) (e : Entry) → entry_of n vars word ≡ Some e → entry_of n (vars ++ v ∷ []) word ≡ Some e
 unfolding entry_of
 entry_kept n vars v word e h =
-    entry_by (is_digit_text word) (option_map entries.Fixed (number_below n word)) (option_map entries.Var (variable_named vars word)) (option_map entries.Var (variable_named (vars ++ v ∷ []) word)) e
+    entry_by (is_digit_text word) (option_map entries.Fixed (number_below n word)) (option_map entries.Var (variable_named vars word))
+    (option_map entries.Var (variable_named (vars ++ v ∷ []) word)) e
     (map_kept (variable_named vars word) (variable_named (vars ++ v ∷ []) word) e (position_kept (λ (w : Var). bytes_eq w.name word) vars v)) h
 
 -- the first of the options is there, and the others are
-pub split_some : {X : Type 0} (o : Option X) (os : List (Option X)) (xs : List X) → all_some (o ∷ os) ≡ Some xs → (x : X) × (rest : List X) × (o ≡ Some x) × (all_some os ≡ Some rest) × (xs ≡ x ∷ rest)
+pub split_some : {X : Type 0} (o : Option X) (os : List (Option X)) (xs : List X) → all_some (o ∷ os) ≡ Some xs → (x : X) × (rest : List X) × (o ≡ Some x)
+    × (all_some os ≡ Some rest) × (xs ≡ x ∷ rest)
 split_some None os xs h = absurd (let z : ⊥ = cc in z)
 split_some (Some x) os xs h = split_again x (all_some os) xs h
   where
-    split_again : {X : Type 0} (x : X) (r : Option (List X)) (xs : List X) → option_map (λ (ys : List X). x ∷ ys) r ≡ Some xs → (y : X) × (rest : List X) × (Some x ≡ Some y) × (r ≡ Some rest) × (xs ≡ y ∷ rest)
+    split_again : {X : Type 0} (x : X) (r : Option (List X)) (xs : List X) → option_map (λ (ys : List X). x ∷ ys) r ≡ Some xs → (y : X) × (rest : List X)
+        × (Some x ≡ Some y) × (r ≡ Some rest) × (xs ≡ y ∷ rest)
     split_again x None xs h = absurd (let z : ⊥ = cc in z)
     split_again {X} x (Some rest) xs h = (x, rest, refl, refl, (let g : Some (x ∷ rest) ≡ Some xs = h in cc))
 
@@ -146,20 +155,24 @@ words_kept n vars v (word ∷ words) es h =
     let s = split_some (entry_of n vars word) (map (entry_of n vars) words) es h in
     let first = entry_kept n vars v word s.0 s.2 in
     let rest = words_kept n vars v words s.1 s.3 in
-    ap (λ (o : Option Entry). all_some (o ∷ map (entry_of n (vars ++ v ∷ [])) words)) first ∙ ap (option_map (λ (xs : List Entry). s.0 ∷ xs)) rest ∙ ap Some (sym s.4)
+    ap (λ (o : Option Entry). all_some (o ∷ map (entry_of n (vars ++ v ∷ [])) words)) first ∙ ap (option_map (λ (xs : List Entry). s.0 ∷ xs)) rest
+    ∙ ap Some (sym s.4)
 
-pub entries_kept : (n : ℕ) (vars : List Var) (v : Var) (text : List ℕ) (es : List Entry) → entries_of n vars text ≡ Some es → entries_of n (vars ++ v ∷ []) text ≡ Some es
+pub entries_kept : (n : ℕ) (vars : List Var) (v : Var) (text : List ℕ) (es : List Entry) → entries_of n vars text ≡ Some es → entries_of n (vars ++ v ∷ []) text
+    ≡ Some es
 unfolding entries_of
 entries_kept n vars v text es h = words_kept n vars v (transition_words text) es h
 
-then_kept : (o p : Option (List Entry)) (f : List Entry → Option Transition) (t : Transition) → ((es : List Entry) → o ≡ Some es → p ≡ Some es) → option_and_then f o ≡ Some t → option_and_then f p ≡ Some t
+then_kept : (o p : Option (List Entry)) (f : List Entry → Option Transition) (t : Transition) → ((es : List Entry) → o ≡ Some es → p ≡ Some es)
+    → option_and_then f o ≡ Some t → option_and_then f p ≡ Some t
 then_kept None p f t k h = absurd (let z : ⊥ = cc in z)
 then_kept (Some es) p f t k h = ap (option_and_then f) (k es refl) ∙ h
 
 pub transition_kept : (n k : ℕ) (vars : List Var) (v : Var) (number : ℕ) (text : List ℕ) (t : Transition)
     → transition_of n k vars number text ≡ Some t → transition_of n k (vars ++ v ∷ []) number text ≡ Some t
 unfolding transition_of
-transition_kept n k vars v number text t h = then_kept (entries_of n vars text) (entries_of n (vars ++ v ∷ []) text) (transition_from k number) t (entries_kept n vars v text) h
+transition_kept n k vars v number text t h = then_kept (entries_of n vars text) (entries_of n (vars ++ v ∷ []) text) (transition_from k number) t
+    (entries_kept n vars v text) h
 
 -- each transition's line is read
 abbrev pub IsRead : ℕ → ℕ → List Var → Numbered → Type 0
@@ -168,7 +181,8 @@ IsRead n k vars text = is_transition_line text.1 ≡ true → (t : Transition) �
 read_kept : (n k : ℕ) (vars : List Var) (v : Var) (text : Numbered) → IsRead n k vars text → IsRead n k (vars ++ v ∷ []) text
 read_kept n k vars v text r = λ is. let s = r is in (s.0, transition_kept n k vars v text.0 text.1 s.0 s.1)
 
-on_line_kept : (n k : ℕ) (vars : List Var) (v : Var) (b : Bool) (text : Numbered) → is_transition_line text.1 ≡ b → IsRead n k vars text → on_line n k (vars ++ v ∷ []) text ≡ on_line n k vars text
+on_line_kept : (n k : ℕ) (vars : List Var) (v : Var) (b : Bool) (text : Numbered) → is_transition_line text.1 ≡ b → IsRead n k vars text
+    → on_line n k (vars ++ v ∷ []) text ≡ on_line n k vars text
 on_line_kept n k vars v false text e r = rw e refl
 on_line_kept n k vars v true text e r =
     let s = r e in
@@ -193,13 +207,15 @@ abbrev pub AreDescriptors : List Numbered → Type 0
 AreDescriptors ts = All (λ (t : Numbered). is_descriptor t.1 ≡ true) ts
 
 written_none : (n : ℕ) (vars : List Var) (text : List ℕ) → is_descriptor text ≡ true → written n vars text ≡ []
-written_none n vars text e = ap (λ (b : Bool). if b then option_to_list (variable_of n vars text) else []) (and_not (is_variable_line text) (is_descriptor text) e)
+written_none n vars text e = ap (λ (b : Bool). if b then option_to_list (variable_of n vars text) else [])
+    (and_not (is_variable_line text) (is_descriptor text) e)
   where
     and_not : (a b : Bool) → b ≡ true → (a && not b) ≡ false
     and_not true b e = ap not e
     and_not false b e = refl
 
-no_variables_from : (n : ℕ) (ts : List Numbered) → AreDescriptors ts → fold (λ (vars : List Var) (text : List ℕ). vars ++ written n vars text) [] (texts_of ts) ≡ []
+no_variables_from : (n : ℕ) (ts : List Numbered) → AreDescriptors ts → fold (λ (vars : List Var) (text : List ℕ). vars ++ written n vars text) [] (texts_of ts)
+    ≡ []
 no_variables_from n [] h = refl
 no_variables_from n (t ∷ ts) h =
     let first : [] ++ written n [] t.1 ≡ [] = written_none n [] t.1 (All-head (λ (u : Numbered). is_descriptor u.1 ≡ true) t ts h) in
@@ -226,7 +242,8 @@ pub none_to_read : (n k : ℕ) (vars : List Var) (ts : List Numbered) → AreDes
 none_to_read n k vars [] h = All-nil (IsRead n k vars)
 none_to_read n k vars (t ∷ ts) h =
     let d = All-head (λ (u : Numbered). is_descriptor u.1 ≡ true) t ts h in
-    All-cons (IsRead n k vars) t ts (λ is. absurd (let e : false ≡ true = sym (ap (λ (b : Bool). not b && not (is_variable_line t.1)) d) ∙ is in let z : ⊥ = cc in z))
+    All-cons (IsRead n k vars) t ts
+    (λ is. absurd (let e : false ≡ true = sym (ap (λ (b : Bool). not b && not (is_variable_line t.1)) d) ∙ is in let z : ⊥ = cc in z))
     (none_to_read n k vars ts (All-tail (λ (u : Numbered). is_descriptor u.1 ≡ true) t ts h))
 
 pub descriptors_more : (ts : List Numbered) (x : Numbered) → AreDescriptors ts → is_descriptor x.1 ≡ true → AreDescriptors (ts ++ x ∷ [])

@@ -17,12 +17,14 @@ IsUnnamed parsed directive = (var : Var) → directive ≡ Variable var → vari
 
 unnamed_text : (parsed : Parsed) (number : ℕ) (text : List ℕ) (directive : Directive) → Says parsed number text directive → IsUnnamed parsed directive
 unnamed_text parsed number text directive (states d k none n e is) var v = absurd (let z : States n ≡ Variable var = sym is ∙ v in let w : ⊥ = cc in w)
-unnamed_text parsed number text directive (neighbors d j k none h e g is) var v = absurd (let z : Neighbors h ≡ Variable var = sym is ∙ v in let w : ⊥ = cc in w)
+unnamed_text parsed number text directive (neighbors d j k none h e g is) var v = absurd (let z : Neighbors h ≡ Variable var = sym is ∙ v in let w : ⊥ = cc in
+    w)
 unnamed_text parsed number text directive (orders d i j k none y e g is) var v = absurd (let z : Orders y ≡ Variable var = sym is ∙ v in let w : ⊥ = cc in w)
 unnamed_text parsed number text directive (variable d n h y en eh ey l written of is) var v =
     let same : written ≡ var = (let z : Variable written ≡ Variable var = sym is ∙ v in cc) in
     subst (λ (w : Var). variable_named parsed.vars w.name ≡ None) same (is_new_name n parsed.vars text written of)
-unnamed_text parsed number text directive (transition d n h y en eh ey l t of b q is) var v = absurd (let z : Line t ≡ Variable var = sym is ∙ v in let w : ⊥ = cc in w)
+unnamed_text parsed number text directive (transition d n h y en eh ey l t of b q is) var v = absurd (let z : Line t ≡ Variable var = sym is ∙ v in
+    let w : ⊥ = cc in w)
 
 unnamed_case : (parsed : Parsed) (number : ℕ) (line : List ℕ) (directive : Directive) → Case parsed number line directive → IsUnnamed parsed directive
 unnamed_case parsed number line directive (passed s n p is) var v = absurd (let z : Nothing ≡ Variable var = sym is ∙ v in let w : ⊥ = cc in w)

@@ -87,10 +87,11 @@ entry_cases false a b e h = inr h
 
 pub is_entry : (n : ℕ) (vars : List Var) (word : List ℕ) (e : Entry) → entry_of n vars word ≡ Some e → IsEntry n vars e
 unfolding entry_of
-is_entry n vars word e h = elim (entry_cases (is_digit_text word) (option_map entries.Fixed (number_below n word)) (option_map entries.Var (variable_named vars word)) e h) [
-  | inl a ↦ fixed_entry n vars word e a
-  | inr b ↦ named_entry n vars word e b
-]
+is_entry n vars word e h = elim
+    (entry_cases (is_digit_text word) (option_map entries.Fixed (number_below n word)) (option_map entries.Var (variable_named vars word)) e h) [
+      | inl a ↦ fixed_entry n vars word e a
+      | inr b ↦ named_entry n vars word e b
+    ]
 
 words_are : (n : ℕ) (vars : List Var) (words : List (List ℕ)) (es : List Entry) → all_some (map (entry_of n vars) words) ≡ Some es → All (IsEntry n vars) es
 words_are n vars [] es h = subst (All (IsEntry n vars)) (let z : Some [] ≡ Some es = h in let e : [] ≡ es = cc in e) (All-nil (IsEntry n vars))
@@ -104,15 +105,18 @@ entries_are n vars text es h = words_are n vars (transition_words text) es h
 
 -- 3. Transitions
 
-bound_variable : (inputs : List Entry) (output : Entry) → is_bound inputs output ≡ true → (i : ℕ) → output ≡ entries.Var i → IsTrue (list_any (is_variable i) inputs)
+bound_variable : (inputs : List Entry) (output : Entry) → is_bound inputs output ≡ true → (i : ℕ) → output ≡ entries.Var i
+    → IsTrue (list_any (is_variable i) inputs)
 bound_variable inputs output h i e = sym (ap (is_bound inputs) e) ∙ h
 
 from_parts : (n k : ℕ) (vars : List Var) (number : ℕ) (es : List Entry) (t : Transition) → All (IsEntry n vars) es → transition_from k number es ≡ Some t
     → is_bound t.inputs t.output ≡ true → IsTransition n k vars t
 from_parts n k vars number es t all h bound =
-    let q = tested (length es == k + 2) (option_map (λ (output : Entry). record { line = number; inputs = take (k + 1) es; output = output }) (slice_get es (k + 1))) t h in
+    let q = tested (length es == k + 2)
+    (option_map (λ (output : Entry). record { line = number; inputs = take (k + 1) es; output = output }) (slice_get es (k + 1))) t h in
     let m = mapped (λ (output : Entry). record { line = number; inputs = take (k + 1) es; output = output }) (slice_get es (k + 1)) t q.1 in
-    let long : length es ≡ k + 2 = elim (eqb_tells (length es) (k + 2)) [ inl same ↦ same.1 | inr other ↦ absurd (let z : true ≡ false = sym q.0 ∙ other.0 in let w : ⊥ = cc in w) ] in
+    let long : length es ≡ k + 2 = elim (eqb_tells (length es) (k + 2))
+    [ inl same ↦ same.1 | inr other ↦ absurd (let z : true ≡ false = sym q.0 ∙ other.0 in let w : ⊥ = cc in w) ] in
     let last : get_or es (k + 1) m.0 ≡ m.0 = get_or_from_slice_get es (k + 1) m.0 m.0 m.1 in
     let output : IsEntry n vars m.0 = subst (IsEntry n vars) last (all (k + 1) m.0 (omega (arith, long))) in
     let P : Transition → Type 0 = λ (u : Transition). is_bound u.inputs u.output ≡ true → IsTransition n k vars u in
@@ -190,12 +194,15 @@ single_alone s t h = elim (known (nat_lt (t / 64) 4)) [
       omega (arith, none, h))
   | inl within ↦ elim (eqb_tells (t / 64) (s / 64)) [
     | inr other ↦ absurd (
-        let none : bit_of (single s) t ≡ 0 = ap (λ (w : ℕ). bit_at w (t % 64)) (single_at s (t / 64) (ltb-true (t / 64) 4 within) ∙ ap (λ (b : Bool). if b then 2 ^ (s % 64) else 0) other.0) ∙ bit_at-zero (t % 64) in
+        let none : bit_of (single s) t ≡ 0 = ap (λ (w : ℕ). bit_at w (t % 64))
+        (single_at s (t / 64) (ltb-true (t / 64) 4 within) ∙ ap (λ (b : Bool). if b then 2 ^ (s % 64) else 0) other.0) ∙ bit_at-zero (t % 64) in
         omega (arith, none, h))
     | inl same ↦ elim (eqb_tells (t % 64) (s % 64)) [
       | inl rest ↦ (let a : t / 64 ≡ s / 64 = same.1 in let b : t % 64 ≡ s % 64 = rest.1 in omega (arith, a, b))
       | inr apart ↦ absurd (
-          let none : bit_of (single s) t ≡ 0 = ap (λ (w : ℕ). bit_at w (t % 64)) (single_at s (t / 64) (ltb-true (t / 64) 4 within) ∙ ap (λ (b : Bool). if b then 2 ^ (s % 64) else 0) same.0) ∙ bit_at-pow_other (s % 64) (t % 64) apart.1 in
+          let none : bit_of (single s) t ≡ 0 = ap (λ (w : ℕ). bit_at w (t % 64))
+          (single_at s (t / 64) (ltb-true (t / 64) 4 within) ∙ ap (λ (b : Bool). if b then 2 ^ (s % 64) else 0) same.0)
+          ∙ bit_at-pow_other (s % 64) (t % 64) apart.1 in
           omega (arith, none, h))
     ]
   ]
@@ -205,7 +212,8 @@ single_there : (s : ℕ) → s < 256 → bit_of (single s) s ≡ 1
 single_there s h =
     let within : s / 64 < 4 = omega (arith, h) in
     elim (eqb_tells (s / 64) (s / 64)) [
-      | inl same ↦ ap (λ (w : ℕ). bit_at w (s % 64)) (single_at s (s / 64) within ∙ ap (λ (b : Bool). if b then 2 ^ (s % 64) else 0) same.0) ∙ bit_at-pow_same (s % 64)
+      | inl same ↦ ap (λ (w : ℕ). bit_at w (s % 64)) (single_at s (s / 64) within ∙ ap (λ (b : Bool). if b then 2 ^ (s % 64) else 0) same.0)
+          ∙ bit_at-pow_same (s % 64)
       | inr other ↦ absurd (other.1 refl)
     ]
 
@@ -245,8 +253,10 @@ fold_keeps acc (set ∷ sets) s h e = fold_keeps (union acc set) sets s h (union
 
 zeros_below : (n : ℕ) → IsBelow n (0 ∷ 0 ∷ 0 ∷ 0 ∷ [])
 zeros_below n s h = elim (known (nat_lt (s / 64) 4)) [
-  | inl within ↦ absurd (let none : bit_of (0 ∷ 0 ∷ 0 ∷ 0 ∷ []) s ≡ 0 = ap (λ (w : ℕ). bit_at w (s % 64)) (word_zero (s / 64)) ∙ bit_at-zero (s % 64) in omega (arith, none, h))
-  | inr beyond ↦ absurd (let none : bit_of (0 ∷ 0 ∷ 0 ∷ 0 ∷ []) s ≡ 0 = ap (λ (w : ℕ). bit_at w (s % 64)) (word_zero (s / 64)) ∙ bit_at-zero (s % 64) in omega (arith, none, h))
+  | inl within ↦ absurd (let none : bit_of (0 ∷ 0 ∷ 0 ∷ 0 ∷ []) s ≡ 0 = ap (λ (w : ℕ). bit_at w (s % 64)) (word_zero (s / 64)) ∙ bit_at-zero (s % 64) in
+      omega (arith, none, h))
+  | inr beyond ↦ absurd (let none : bit_of (0 ∷ 0 ∷ 0 ∷ 0 ∷ []) s ≡ 0 = ap (λ (w : ℕ). bit_at w (s % 64)) (word_zero (s / 64)) ∙ bit_at-zero (s % 64) in
+      omega (arith, none, h))
 ]
   where
     word_zero : (k : ℕ) → slice_index (0 ∷ 0 ∷ 0 ∷ 0 ∷ []) k ≡ 0
@@ -262,7 +272,8 @@ union_set n most set sets all =
     record {
       some = λ none. first.some (λ s there.
           (let small : s < n = first.below s there in
-          none s (fold_keeps (union (0 ∷ 0 ∷ 0 ∷ 0 ∷ []) set) sets s (omega (arith, small, most)) (union_adds (0 ∷ 0 ∷ 0 ∷ 0 ∷ []) set s (omega (arith, small, most)) there))));
+          none s (fold_keeps (union (0 ∷ 0 ∷ 0 ∷ 0 ∷ []) set) sets s (omega (arith, small, most))
+          (union_adds (0 ∷ 0 ∷ 0 ∷ 0 ∷ []) set s (omega (arith, small, most)) there))));
       below = fold_below n (0 ∷ 0 ∷ 0 ∷ 0 ∷ []) (set ∷ sets) (zeros_below n) all;
     }
 
@@ -286,7 +297,8 @@ set_variable n name states v = record {
     one_is : (b : ℕ) → IsTrue (b == 1) → b ≡ 1
     one_is b h = elim (eqb_tells b 1) [ inl same ↦ same.1 | inr other ↦ absurd (let z : true ≡ false = sym h ∙ other.0 in let w : ⊥ = cc in w) ]
 
-entry_set : (n : ℕ) → n ≤ 256 → (vars : List Var) → All (IsVariable n) vars → (e : Entry) → IsEntry n vars e → (set : List ℕ) → states_of_entry vars e ≡ Some set → IsSet n set
+entry_set : (n : ℕ) → n ≤ 256 → (vars : List Var) → All (IsVariable n) vars → (e : Entry) → IsEntry n vars e → (set : List ℕ)
+    → states_of_entry vars e ≡ Some set → IsSet n set
 entry_set n most vars all (entries.Fixed s) is set h =
     subst (IsSet n) (let z : Some (single s) ≡ Some set = h in let e : single s ≡ set = cc in e) (single_set n s (is.fixed s refl) most)
 entry_set n most vars all (entries.Var i) is set h =
@@ -295,7 +307,8 @@ entry_set n most vars all (entries.Var i) is set h =
     let good : IsVariable n m.0 = subst (IsVariable n) at (all i m.0 (is.variable i refl)) in
     subst (IsSet n) (sym m.2) (variable_set n m.0 good)
 
-word_set : (n : ℕ) → n ≤ 256 → (vars : List Var) → All (IsVariable n) vars → (word : List ℕ) (set : List ℕ) → option_and_then (states_of_entry vars) (entry_of n vars word) ≡ Some set → IsSet n set
+word_set : (n : ℕ) → n ≤ 256 → (vars : List Var) → All (IsVariable n) vars → (word : List ℕ) (set : List ℕ)
+    → option_and_then (states_of_entry vars) (entry_of n vars word) ≡ Some set → IsSet n set
 word_set n most vars all word set h =
     let f = followed (states_of_entry vars) (entry_of n vars word) set h in
     entry_set n most vars all f.0 (is_entry n vars word f.0 f.1) set f.2
@@ -304,7 +317,8 @@ words_sets : (n : ℕ) → n ≤ 256 → (vars : List Var) → All (IsVariable n
     → all_some (map (λ (word : List ℕ). option_and_then (states_of_entry vars) (entry_of n vars word)) words) ≡ Some sets → All (IsSet n) sets
 words_sets n most vars all [] sets h = subst (All (IsSet n)) (let z : Some [] ≡ Some sets = h in let e : [] ≡ sets = cc in e) (All-nil (IsSet n))
 words_sets n most vars all (word ∷ words) sets h =
-    let s = split_some (option_and_then (states_of_entry vars) (entry_of n vars word)) (map (λ (w : List ℕ). option_and_then (states_of_entry vars) (entry_of n vars w)) words) sets h in
+    let s = split_some (option_and_then (states_of_entry vars) (entry_of n vars word))
+    (map (λ (w : List ℕ). option_and_then (states_of_entry vars) (entry_of n vars w)) words) sets h in
     subst (All (IsSet n)) (sym s.4) (All-cons (IsSet n) s.0 s.1 (word_set n most vars all word s.0 s.2) (words_sets n most vars all words s.1 s.3))
 
 -- a text between commas has one word at least
@@ -320,14 +334,18 @@ some_word text = let s = some_part text in (trim s.0, map trim s.1, ap (map trim
         next true b parts s = ([], parts, refl)
         next false b parts s = (b ∷ s.0, s.1, ap (onto_first b) s.2)
 
-list_set : (n : ℕ) → n ≤ 256 → (vars : List Var) → All (IsVariable n) vars → (words : List (List ℕ)) (w : List ℕ) (ws : List (List ℕ)) → words ≡ w ∷ ws → (states : List ℕ)
-    → option_map union_of (all_some (map (λ (word : List ℕ). option_and_then (states_of_entry vars) (entry_of n vars word)) words)) ≡ Some states → IsSet n states
+list_set : (n : ℕ) → n ≤ 256 → (vars : List Var) → All (IsVariable n) vars → (words : List (List ℕ)) (w : List ℕ) (ws : List (List ℕ)) → words ≡ w ∷ ws
+    → (states : List ℕ)
+    → option_map union_of (all_some (map (λ (word : List ℕ). option_and_then (states_of_entry vars) (entry_of n vars word)) words)) ≡ Some states
+    → IsSet n states
 list_set n most vars all words w ws e states h =
     let f = λ (word : List ℕ). option_and_then (states_of_entry vars) (entry_of n vars word) in
     let g : option_map union_of (all_some (map (λ (word : List ℕ). option_and_then (states_of_entry vars) (entry_of n vars word)) (w ∷ ws))) ≡ Some states =
-    ap (λ (us : List (List ℕ)). option_map union_of (all_some (map (λ (word : List ℕ). option_and_then (states_of_entry vars) (entry_of n vars word)) us))) (sym e) ∙ h in
+    ap (λ (us : List (List ℕ)). option_map union_of (all_some (map (λ (word : List ℕ). option_and_then (states_of_entry vars) (entry_of n vars word)) us)))
+    (sym e) ∙ h in
     let m = mapped union_of (all_some (map (λ (word : List ℕ). option_and_then (states_of_entry vars) (entry_of n vars word)) (w ∷ ws))) states g in
-    let s = split_some (option_and_then (states_of_entry vars) (entry_of n vars w)) (map (λ (word : List ℕ). option_and_then (states_of_entry vars) (entry_of n vars word)) ws) m.0 m.1 in
+    let s = split_some (option_and_then (states_of_entry vars) (entry_of n vars w))
+    (map (λ (word : List ℕ). option_and_then (states_of_entry vars) (entry_of n vars word)) ws) m.0 m.1 in
     let sets : All (IsSet n) m.0 = words_sets n most vars all (w ∷ ws) m.0 m.1 in
     subst (IsSet n) (sym (m.2 ∙ ap union_of s.4)) (union_set n most s.0 s.1 (subst (All (IsSet n)) s.4 sets))
 
@@ -339,10 +357,12 @@ not_some : {X : Type 0} (o : Option X) → is_some o ≡ false → o ≡ None
 not_some None h = refl
 not_some (Some x) h = absurd (let z : ⊥ = cc in z)
 
-pub states_case : (n : ℕ) (vars : List Var) (name list states : List ℕ) → variable_states n vars name list ≡ Some states → (variable_named vars name ≡ None) × (states_listed n vars (within_braces list) ≡ Some states)
+pub states_case : (n : ℕ) (vars : List Var) (name list states : List ℕ) → variable_states n vars name list ≡ Some states → (variable_named vars name ≡ None)
+    × (states_listed n vars (within_braces list) ≡ Some states)
 unfolding variable_states
 states_case n vars name list states h =
-    let a = tested (is_variable_name name) (if is_some (variable_named vars name) then None else (if is_list list then states_listed n vars (within_braces list) else None)) states h in
+    let a = tested (is_variable_name name)
+    (if is_some (variable_named vars name) then None else (if is_list list then states_listed n vars (within_braces list) else None)) states h in
     let b = tested_not (is_some (variable_named vars name)) (if is_list list then states_listed n vars (within_braces list) else None) states a.1 in
     let c = tested (is_list list) (states_listed n vars (within_braces list)) states b.1 in
     (not_some (variable_named vars name) b.0, c.1)

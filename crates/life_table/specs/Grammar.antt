@@ -86,11 +86,15 @@ pub record AreGiven (parsed : Parsed) (n_states : ℕ) (neighborhood : Neighborh
 -- symmetry is listed for the neighbourhood; and no transition lets a cell of state 0 leave it among cells of state 0.
 pub data TextSays (parsed : Parsed) (number : ℕ) (text : List ℕ) (directive : Directive) : Type 0 where
   states : (n : ℕ) → IsStates text n → parsed.n_states ≡ None → directive ≡ States n → TextSays parsed number text directive
-  neighborhood : (h : Neighborhood) → IsNeighborhood text h → parsed.neighborhood ≡ None → agree (Some h) parsed.symmetry ≡ true → directive ≡ Neighbors h → TextSays parsed number text directive
-  symmetry : (y : Symmetry) → IsDescriptor text (codes "symmetries") (symmetry_word y) → parsed.symmetry ≡ None → agree parsed.neighborhood (Some y) ≡ true → directive ≡ Orders y
+  neighborhood : (h : Neighborhood) → IsNeighborhood text h → parsed.neighborhood ≡ None → agree (Some h) parsed.symmetry ≡ true → directive ≡ Neighbors h
       → TextSays parsed number text directive
-  variable : (n : ℕ) (h : Neighborhood) (y : Symmetry) (var : Var) → AreGiven parsed n h y → IsVariableLine n parsed.vars text var → directive ≡ Variable var → TextSays parsed number text directive
-  transition : (n : ℕ) (h : Neighborhood) (y : Symmetry) (line : Transition) → AreGiven parsed n h y → IsTransitionLine n (neighbour_count h) parsed.vars number text line
+  symmetry : (y : Symmetry) → IsDescriptor text (codes "symmetries") (symmetry_word y) → parsed.symmetry ≡ None → agree parsed.neighborhood (Some y) ≡ true
+      → directive ≡ Orders y
+      → TextSays parsed number text directive
+  variable : (n : ℕ) (h : Neighborhood) (y : Symmetry) (var : Var) → AreGiven parsed n h y → IsVariableLine n parsed.vars text var → directive ≡ Variable var
+      → TextSays parsed number text directive
+  transition : (n : ℕ) (h : Neighborhood) (y : Symmetry) (line : Transition) → AreGiven parsed n h y
+      → IsTransitionLine n (neighbour_count h) parsed.vars number text line
       → is_quiet parsed.vars (parsed.lines ++ line ∷ []) ≡ true → directive ≡ Line line → TextSays parsed number text directive
 
 -- ---- what a line of the file says behind lines that said this
@@ -98,15 +102,20 @@ pub data TextSays (parsed : Parsed) (number : ℕ) (text : List ℕ) (directive 
 pub data LineSays (parsed : Parsed) (number : ℕ) (line : List ℕ) (directive : Directive) : Type 0 where
   -- before the rule line: a blank line or a comment
   passed : parsed.section ≡ Ahead → parsed.name ≡ None → is_passed_over line ≡ true → directive ≡ Nothing → LineSays parsed number line directive
-  rule_line : (name : List ℕ) → parsed.section ≡ Ahead → parsed.name ≡ None → is_passed_over line ≡ false → name_on line ≡ Some name → directive ≡ RuleName name → LineSays parsed number line directive
+  rule_line : (name : List ℕ) → parsed.section ≡ Ahead → parsed.name ≡ None → is_passed_over line ≡ false → name_on line ≡ Some name → directive ≡ RuleName name
+      → LineSays parsed number line directive
   -- before the table: a line of another section
-  other : (name : List ℕ) → parsed.section ≡ Ahead → parsed.name ≡ Some name → is_table_line line ≡ false → directive ≡ Nothing → LineSays parsed number line directive
-  table_line : (name : List ℕ) → parsed.section ≡ Ahead → parsed.name ≡ Some name → is_table_line line ≡ true → directive ≡ TableOpens → LineSays parsed number line directive
+  other : (name : List ℕ) → parsed.section ≡ Ahead → parsed.name ≡ Some name → is_table_line line ≡ false → directive ≡ Nothing
+      → LineSays parsed number line directive
+  table_line : (name : List ℕ) → parsed.section ≡ Ahead → parsed.name ≡ Some name → is_table_line line ≡ true → directive ≡ TableOpens
+      → LineSays parsed number line directive
   -- in the table: a blank line or a comment, or one that says something
   blank : parsed.section ≡ Open → is_section_line line ≡ false → content line ≡ [] → directive ≡ Nothing → LineSays parsed number line directive
-  says : parsed.section ≡ Open → is_section_line line ≡ false → content line ≢ [] → TextSays parsed number (content line) directive → LineSays parsed number line directive
+  says : parsed.section ≡ Open → is_section_line line ≡ false → content line ≢ [] → TextSays parsed number (content line) directive
+      → LineSays parsed number line directive
   -- the next section, and whatever comes behind its first line
-  section_line : (n : ℕ) (h : Neighborhood) (y : Symmetry) → parsed.section ≡ Open → is_section_line line ≡ true → AreGiven parsed n h y → directive ≡ TableEnds → LineSays parsed number line directive
+  section_line : (n : ℕ) (h : Neighborhood) (y : Symmetry) → parsed.section ≡ Open → is_section_line line ≡ true → AreGiven parsed n h y → directive ≡ TableEnds
+      → LineSays parsed number line directive
   behind : parsed.section ≡ Behind → directive ≡ Nothing → LineSays parsed number line directive
 
 -- ---- a file
@@ -115,7 +124,8 @@ pub data LineSays (parsed : Parsed) (number : ℕ) (line : List ℕ) (directive 
 abbrev pub Lead : Parsed → ℕ → List (List ℕ) → Parsed → Type 0
 Lead parsed number [] end = parsed ≡ end
 Lead parsed number (line ∷ lines) end =
-    (directive : Directive) × (length line ≤ 2 ^ 20) × LineSays parsed number line directive × Lead (after parsed directive) (min (number + 1) (2 ^ 64 - 1)) lines end
+    (directive : Directive) × (length line ≤ 2 ^ 20) × LineSays parsed number line directive × Lead (after parsed directive) (min (number + 1) (2 ^ 64 - 1))
+    lines end
 
 -- The lines are a file that writes this table: from nothing they lead to its parts, and a table line was among them.
 pub record IsFile (lines : List (List ℕ)) (table : Table) : Type 0 where

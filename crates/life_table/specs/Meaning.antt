@@ -60,7 +60,8 @@ module _ (symmetry : Symmetry) (vars : List Var) (centre : ℕ) (others : List �
   -- a line that gives something answers so: its one state, or that it gives two
   abbrev pub LineAnswers : Transition → Answer → Type 0
   LineAnswers line (Becomes s) = Gives symmetry vars line centre others s × ((t : ℕ) → Gives symmetry vars line centre others t → t ≡ s)
-  LineAnswers line (Ambiguous number) = (number ≡ line.line) × (s : ℕ) × (t : ℕ) × (s ≢ t) × Gives symmetry vars line centre others s × Gives symmetry vars line centre others t
+  LineAnswers line (Ambiguous number) = (number ≡ line.line) × (s : ℕ) × (t : ℕ) × (s ≢ t) × Gives symmetry vars line centre others s
+      × Gives symmetry vars line centre others t
 
   -- the first line that gives anything decides
   pub record FirstToGive (lines : List Transition) (answer : Answer) : Type 0 where

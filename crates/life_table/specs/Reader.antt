@@ -58,5 +58,6 @@ pub record IsGood (parsed : Parsed) : Type 0 where
   pub no_variables : parsed.n_states ≡ None → parsed.vars ≡ []
   pub no_transitions : parsed.n_states ≡ None → parsed.lines ≡ []
   pub none_without : parsed.neighborhood ≡ None → parsed.lines ≡ []
-  pub transitions : (n : ℕ) (h : Neighborhood) → parsed.n_states ≡ Some n → parsed.neighborhood ≡ Some h → All (IsTransition n (neighbour_count h) parsed.vars) parsed.lines
+  pub transitions : (n : ℕ) (h : Neighborhood) → parsed.n_states ≡ Some n → parsed.neighborhood ≡ Some h
+      → All (IsTransition n (neighbour_count h) parsed.vars) parsed.lines
   pub quiet : is_quiet parsed.vars parsed.lines ≡ true

@@ -374,7 +374,8 @@ if_symmetry neighborhood (Some symmetry) = if agree neighborhood (Some symmetry)
 unfoldable pub parse_descriptor : Option ℕ → Option Neighborhood → Option Symmetry → List ℕ → Result Directive Kind
 parse_descriptor n_states neighborhood symmetry text =
     if is_states_key (key_of text) then (if is_some n_states then Err BadDescriptor else if_states (states_named (setting_of text)))
-    else (if is_neighborhood_key (key_of text) then (if is_some neighborhood then Err BadDescriptor else if_neighborhood symmetry (neighborhood_named (setting_of text)))
+    else (if is_neighborhood_key (key_of text) then
+    (if is_some neighborhood then Err BadDescriptor else if_neighborhood symmetry (neighborhood_named (setting_of text)))
     else (if is_symmetry_key (key_of text) then (if is_some symmetry then Err BadDescriptor else if_symmetry neighborhood (symmetry_named (setting_of text)))
     else Err BadDescriptor))
 

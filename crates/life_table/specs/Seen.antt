@@ -14,4 +14,5 @@ places seen (entries.Var i) = if nat_lt i 64 then slice_index seen.listed i else
 
 -- where an entry may be the neighbour at a place, going round, the place is told of it
 abbrev pub IsSeen : List Var → List ℕ → Seen → Type 0
-IsSeen vars others seen = (entry : Entry) (k : ℕ) → k < 16 → can_be_state vars entry (slice_index others (k % length others)) ≡ true → bit_at (places seen entry) k ≡ 1
+IsSeen vars others seen = (entry : Entry) (k : ℕ) → k < 16 → can_be_state vars entry (slice_index others (k % length others)) ≡ true
+    → bit_at (places seen entry) k ≡ 1

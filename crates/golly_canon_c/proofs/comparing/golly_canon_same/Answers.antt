@@ -6,4 +6,5 @@ use Rattle.golly_canon_c.proofs.comparing.golly_canon_same.Goals as goal
 pub returns : goal.returns
 returns c =
     by_fault c.in-Err.fault c.refuse.ensures.status c.refuse.ensures.line refl
-    (either c.args.limit c.args.first.now c.args.second.now c.same.new.store c.in-Err.fault (c.same.ensures.keeps.limit ∙ c.store_of-store.ensures) c.in-Err.ensures.fault)
+    (either c.args.limit c.args.first.now c.args.second.now c.same.new.store c.in-Err.fault (c.same.ensures.keeps.limit ∙ c.store_of-store.ensures)
+    c.in-Err.ensures.fault)

@@ -20,5 +20,6 @@ loop-i-preserved c = record {
   count = grind (arith, common_steps);
   number =
       c.with_digit-number.ensures
-      ∙ capped_more c.args.text.now c.loop-i.i c.loop-i.number c.loop-i-test.true (sym c.is_ascii_digit.ensures.value ∙ c.if-not-is_ascii_digit.false) c.loop-i.invariant.number;
+      ∙ capped_more c.args.text.now c.loop-i.i c.loop-i.number c.loop-i-test.true (sym c.is_ascii_digit.ensures.value ∙ c.if-not-is_ascii_digit.false)
+      c.loop-i.invariant.number;
 }

@@ -15,7 +15,8 @@ pub loop-at-preserved : goal.loop-at-preserved
 loop-at-preserved g c = record {
   within = grind (arith, common_steps, c.in_ok-count.ensures.count);
   works = c.in_ok-count.ensures.failure ∙ c.loop-at.invariant.works;
-  stalled = c.in_ok-count.ensures.stalled ∙ unstalled (g.W.Sink.stalled c.loop-at.writer) c.in_ok-count.count _ c.if-count-eq0.false ∙ c.loop-at.invariant.stalled;
+  stalled = c.in_ok-count.ensures.stalled ∙ unstalled (g.W.Sink.stalled c.loop-at.writer) c.in_ok-count.count _ c.if-count-eq0.false
+      ∙ c.loop-at.invariant.stalled;
   written = subst (Appends _ _) (seam c.loop-at.at c.in_ok-count.count c.args.text.now)
       (Appends-trans _ _ _ _ _ c.loop-at.invariant.written c.in_ok-count.ensures.bytes);
 }

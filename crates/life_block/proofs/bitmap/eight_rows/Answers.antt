@@ -10,6 +10,8 @@ returns g c cells x y binary h =
     let north : y ≡ ahead start 2 = omega (arith, ints) in
     let south : ahead y 2 ≡ ahead start 4 = omega (arith, ints) in
     let far : ahead (ahead y 2) 2 ≡ ahead start 6 = omega (arith, ints) in
-    HasRows-eight cells (back x 2) start c.two_rows-a.result c.two_rows-b.result c.two_rows-c.result c.two_rows-d.result c.two_rows-a.ensures.small c.two_rows-b.ensures.small c.two_rows-c.ensures.small
+    HasRows-eight cells (back x 2) start c.two_rows-a.result c.two_rows-b.result c.two_rows-c.result c.two_rows-d.result c.two_rows-a.ensures.small
+    c.two_rows-b.ensures.small c.two_rows-c.ensures.small
     (c.two_rows-a.ensures.rows cells x _ binary h.far_north) (HasRows-moved cells _ _ _ 2 _ north (c.two_rows-b.ensures.rows cells x _ binary h.north))
-    (HasRows-moved cells _ _ _ 2 _ south (c.two_rows-c.ensures.rows cells x _ binary h.south)) (HasRows-moved cells _ _ _ 2 _ far (c.two_rows-d.ensures.rows cells x _ binary h.far_south))
+    (HasRows-moved cells _ _ _ 2 _ south (c.two_rows-c.ensures.rows cells x _ binary h.south))
+    (HasRows-moved cells _ _ _ 2 _ far (c.two_rows-d.ensures.rows cells x _ binary h.far_south))

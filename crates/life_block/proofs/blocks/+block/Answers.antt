@@ -11,7 +11,8 @@ use Rattle.life_block.proofs.blocks.+block.Goals as goal
 
 pub next_amid-returns-then-are_all-clause-next : goal.next_amid-returns-then-are_all-clause-next
 next_amid-returns-then-are_all-clause-next g t c cells x y binary h =
-    next-of_blank c.args.rule.now (g.S.Squares.content c.args.squares.now) cells c.args.level x y c.empty-blank.result c.args.nine.now c.requires.quiet c.empty-blank.ensures.square (c.are_all.ensures c.if-are_all.true) h
+    next-of_blank c.args.rule.now (g.S.Squares.content c.args.squares.now) cells c.args.level x y c.empty-blank.result c.args.nine.now c.requires.quiet
+    c.empty-blank.ensures.square (c.are_all.ensures c.if-are_all.true) h
 
 pub next_of_middle-returns-in_err-sw-clause-keeps : goal.next_of_middle-returns-in_err-sw-clause-keeps
 next_of_middle-returns-in_err-sw-clause-keeps g m c = keeps-then (keeps-then c.in_ok-nw.ensures.keeps c.in_ok-ne.ensures.keeps) c.in_err-sw.ensures.keeps
@@ -22,7 +23,8 @@ next_of_middle-returns-in_err-se-clause-keeps g m c =
 
 pub next_of_middle-returns-clause-keeps : goal.next_of_middle-returns-clause-keeps
 next_of_middle-returns-clause-keeps g m c =
-    keeps-then (keeps-then (keeps-then (keeps-then c.in_ok-nw.ensures.keeps c.in_ok-ne.ensures.keeps) c.in_ok-sw.ensures.keeps) c.in_ok-se.ensures.keeps) c.join.ensures.keeps
+    keeps-then (keeps-then (keeps-then (keeps-then c.in_ok-nw.ensures.keeps c.in_ok-ne.ensures.keeps) c.in_ok-sw.ensures.keeps) c.in_ok-se.ensures.keeps)
+    c.join.ensures.keeps
 
 -- the four answers are the quarters of the next square
 parts : (g : Over) (m : ℕ) (c : goal.next_of_middle-After-join g m) (cells : ℤ → ℤ → ℕ) (x y : ℤ) → IsBinary cells
@@ -44,9 +46,12 @@ parts g m c cells x y binary h =
     let south = keeps-then sw.keeps se.keeps in
     record {
       nw = still-is f k x y (keeps-then ne.keeps south) (full _ _ nw.at.known) nw.at refl (nw.next cells x y binary (nine-north_west c.north_west.ensures h));
-      ne = still-is f k e y south (full _ _ ne.at.known) ne.at refl (ne.next cells e y binary (nine-north_east c.north_east.ensures (AreSixteen-kept nw.keeps known h)));
-      sw = still-is f k x s se.keeps (full _ _ sw.at.known) sw.at refl (sw.next cells x s binary (nine-south_west c.south_west.ensures (AreSixteen-kept north known h)));
-      se = piece-is f k e s _ (full _ _ se.at.known) se.at.level (se.next cells e s binary (nine-south_east c.south_east.ensures (AreSixteen-kept (keeps-then north sw.keeps) known h)));
+      ne = still-is f k e y south (full _ _ ne.at.known) ne.at refl
+          (ne.next cells e y binary (nine-north_east c.north_east.ensures (AreSixteen-kept nw.keeps known h)));
+      sw = still-is f k x s se.keeps (full _ _ sw.at.known) sw.at refl
+          (sw.next cells x s binary (nine-south_west c.south_west.ensures (AreSixteen-kept north known h)));
+      se = piece-is f k e s _ (full _ _ se.at.known) se.at.level
+          (se.next cells e s binary (nine-south_east c.south_east.ensures (AreSixteen-kept (keeps-then north sw.keeps) known h)));
     }
 
 pub next_of_middle-returns-clause-next : goal.next_of_middle-returns-clause-next
@@ -56,28 +61,32 @@ next_of_middle-returns-clause-next g m c =
 pub next_of_middle-returns-in_err-nw-clause-needed : goal.next_of_middle-returns-in_err-nw-clause-needed
 next_of_middle-returns-in_err-nw-clause-needed g m c =
     on_err_any c.from_residual.result
-    (λ cells x y binary h. north_west-part (g.S.Squares.needs_node c.next_amid.new.squares) _ _ x y (c.in_err-nw.ensures.needed cells _ _ binary (nine-north_west c.north_west.ensures h)))
+    (λ cells x y binary h. north_west-part (g.S.Squares.needs_node c.next_amid.new.squares) _ _ x y
+    (c.in_err-nw.ensures.needed cells _ _ binary (nine-north_west c.north_west.ensures h)))
 
 pub next_of_middle-returns-in_err-ne-clause-needed : goal.next_of_middle-returns-in_err-ne-clause-needed
 next_of_middle-returns-in_err-ne-clause-needed g m c =
     on_err_any c.from_residual-in_err-ne.result
     (λ cells x y binary h.
     let now = AreSixteen-kept c.in_ok-nw.ensures.keeps c.requires.known h in
-    north_east-part (g.S.Squares.needs_node c.next_amid-2.new.squares) _ _ x y (c.in_err-ne.ensures.needed cells _ _ binary (nine-north_east c.north_east.ensures now)))
+    north_east-part (g.S.Squares.needs_node c.next_amid-2.new.squares) _ _ x y
+    (c.in_err-ne.ensures.needed cells _ _ binary (nine-north_east c.north_east.ensures now)))
 
 pub next_of_middle-returns-in_err-sw-clause-needed : goal.next_of_middle-returns-in_err-sw-clause-needed
 next_of_middle-returns-in_err-sw-clause-needed g m c =
     on_err_any c.from_residual-in_err-sw.result
     (λ cells x y binary h.
     let now = AreSixteen-kept (keeps-then c.in_ok-nw.ensures.keeps c.in_ok-ne.ensures.keeps) c.requires.known h in
-    south_west-part (g.S.Squares.needs_node c.next_amid-3.new.squares) _ _ x y (c.in_err-sw.ensures.needed cells _ _ binary (nine-south_west c.south_west.ensures now)))
+    south_west-part (g.S.Squares.needs_node c.next_amid-3.new.squares) _ _ x y
+    (c.in_err-sw.ensures.needed cells _ _ binary (nine-south_west c.south_west.ensures now)))
 
 pub next_of_middle-returns-in_err-se-clause-needed : goal.next_of_middle-returns-in_err-se-clause-needed
 next_of_middle-returns-in_err-se-clause-needed g m c =
     on_err_any c.from_residual-in_err-se.result
     (λ cells x y binary h.
     let now = AreSixteen-kept (keeps-then (keeps-then c.in_ok-nw.ensures.keeps c.in_ok-ne.ensures.keeps) c.in_ok-sw.ensures.keeps) c.requires.known h in
-    south_east-part (g.S.Squares.needs_node c.next_amid-4.new.squares) _ _ x y (c.in_err-se.ensures.needed cells _ _ binary (nine-south_east c.south_east.ensures now)))
+    south_east-part (g.S.Squares.needs_node c.next_amid-4.new.squares) _ _ x y
+    (c.in_err-se.ensures.needed cells _ _ binary (nine-south_east c.south_east.ensures now)))
 
 pub next_of_middle-returns-clause-needed : goal.next_of_middle-returns-clause-needed
 next_of_middle-returns-clause-needed g m c =

@@ -19,7 +19,8 @@ both (Err e) f p q = tt
 
 -- the square's quarters, and a blank one of their level
 divided : (g : Over) (c : After-empty-blank g)
-    → IsDivided (g.S.Squares.knows c.args.squares.now) (g.S.Squares.content c.args.squares.now) (g.S.Squares.content c.args.squares.now c.args.id) (c.level-level.result - 1) c.divide-root.result
+    → IsDivided (g.S.Squares.knows c.args.squares.now) (g.S.Squares.content c.args.squares.now) (g.S.Squares.content c.args.squares.now c.args.id)
+    (c.level-level.result - 1) c.divide-root.result
     c.empty-blank.result
 divided g c =
     let s = c.args.squares.now in
@@ -30,7 +31,8 @@ divided g c =
     let level : depth t ≡ k + 1 = omega (arith, c.level-level.ensures.level, c.requires.high) in
     record {
       level = level;
-      quarters = quarters-at (g.S.Squares.knows s) (g.S.Squares.content s) t c.divide-root.result c.empty-blank.result k (g.met.S.Squares.full _ _ c.requires.known) level
+      quarters = quarters-at (g.S.Squares.knows s) (g.S.Squares.content s) t c.divide-root.result c.empty-blank.result k
+          (g.met.S.Squares.full _ _ c.requires.known) level
           d.square d.nw d.ne d.sw d.se e.known e.square e.level;
     }
 
@@ -52,7 +54,9 @@ next_of_middle-requires-3-clause-known g c =
 pub next_of_middle-requires-4-clause-known : goal.next_of_middle-requires-4-clause-known
 next_of_middle-requires-4-clause-known g c =
     let d = divided g (goal.at.next_of_middle-requires-4-clause-known g c).After-empty-blank in
-    known-north_west (IsDivided-kept (keeps-then (keeps-then c.in_ok-north_west.ensures.keeps c.in_ok-north_east.ensures.keeps) c.in_ok-south_west.ensures.keeps) d).quarters c.in_north_west.ensures
+    known-north_west (IsDivided-kept
+    (keeps-then (keeps-then c.in_ok-north_west.ensures.keeps c.in_ok-north_east.ensures.keeps) c.in_ok-south_west.ensures.keeps) d).quarters
+    c.in_north_west.ensures
 
 pub returns-in_err-south_west-clause-keeps : goal.returns-in_err-south_west-clause-keeps
 returns-in_err-south_west-clause-keeps g c =
@@ -60,16 +64,21 @@ returns-in_err-south_west-clause-keeps g c =
 
 pub returns-in_err-south_east-clause-keeps : goal.returns-in_err-south_east-clause-keeps
 returns-in_err-south_east-clause-keeps g c =
-    keeps-then (keeps-then (keeps-then c.in_ok-north_west.ensures.keeps c.in_ok-north_east.ensures.keeps) c.in_ok-south_west.ensures.keeps) c.in_err-south_east.ensures.keeps
+    keeps-then (keeps-then (keeps-then c.in_ok-north_west.ensures.keeps c.in_ok-north_east.ensures.keeps) c.in_ok-south_west.ensures.keeps)
+    c.in_err-south_east.ensures.keeps
 
 pub returns-clause-keeps : goal.returns-clause-keeps
 returns-clause-keeps g c =
-    keeps-then (keeps-then (keeps-then (keeps-then c.in_ok-north_west.ensures.keeps c.in_ok-north_east.ensures.keeps) c.in_ok-south_west.ensures.keeps) c.in_ok-south_east.ensures.keeps) c.join.ensures.keeps
+    keeps-then (keeps-then (keeps-then (keeps-then c.in_ok-north_west.ensures.keeps c.in_ok-north_east.ensures.keeps) c.in_ok-south_west.ensures.keeps)
+    c.in_ok-south_east.ensures.keeps) c.join.ensures.keeps
 
 -- the four answers are the quarters of the next square
-parts : (g : Over) (c : goal.After-join g) → let t = g.S.Squares.content c.args.squares.now c.args.id in let now = g.S.Squares.content c.next_of_middle-4.new.squares in
-    IsDivided (g.S.Squares.knows c.args.squares.now) (g.S.Squares.content c.args.squares.now) t (c.level-level.result - 1) c.divide-root.result c.empty-blank.result
-    → AreParts (next_life c.args.rule.now (tree_cell t)) (depth t) (outer t) (outer t) (now c.in_ok-north_west.north_west) (now c.in_ok-north_east.north_east) (now c.in_ok-south_west.south_west)
+parts : (g : Over) (c : goal.After-join g) → let t = g.S.Squares.content c.args.squares.now c.args.id in
+    let now = g.S.Squares.content c.next_of_middle-4.new.squares in
+    IsDivided (g.S.Squares.knows c.args.squares.now) (g.S.Squares.content c.args.squares.now) t (c.level-level.result - 1) c.divide-root.result
+    c.empty-blank.result
+    → AreParts (next_life c.args.rule.now (tree_cell t)) (depth t) (outer t) (outer t) (now c.in_ok-north_west.north_west) (now c.in_ok-north_east.north_east)
+    (now c.in_ok-south_west.south_west)
     (now c.in_ok-south_east.south_east)
 parts g c d =
     let t = g.S.Squares.content c.args.squares.now c.args.id in
@@ -87,9 +96,12 @@ parts g c d =
     let south = keeps-then sw.keeps se.keeps in
     record {
       nw = still-is f _ x x (keeps-then ne.keeps south) (full _ _ nw.at.known) nw.at level (nw.next _ x x states (around-north_west d c.in_south_east.ensures));
-      ne = still-is f _ e x south (full _ _ ne.at.known) ne.at level (ne.next _ e x states (around-north_east (IsDivided-kept nw.keeps d) c.in_south_west.ensures));
-      sw = still-is f _ x e se.keeps (full _ _ sw.at.known) sw.at level (sw.next _ x e states (around-south_west (IsDivided-kept north d) c.in_north_east.ensures));
-      se = piece-is f _ e e _ (full _ _ se.at.known) (se.at.level ∙ level) (se.next _ e e states (around-south_east (IsDivided-kept (keeps-then north sw.keeps) d) c.in_north_west.ensures));
+      ne = still-is f _ e x south (full _ _ ne.at.known) ne.at level
+          (ne.next _ e x states (around-north_east (IsDivided-kept nw.keeps d) c.in_south_west.ensures));
+      sw = still-is f _ x e se.keeps (full _ _ sw.at.known) sw.at level
+          (sw.next _ x e states (around-south_west (IsDivided-kept north d) c.in_north_east.ensures));
+      se = piece-is f _ e e _ (full _ _ se.at.known) (se.at.level ∙ level)
+          (se.next _ e e states (around-south_east (IsDivided-kept (keeps-then north sw.keeps) d) c.in_north_west.ensures));
     }
 
 pub returns-clause-next : goal.returns-clause-next
@@ -103,7 +115,8 @@ returns-clause-next g c =
     (λ r known e.
     let u = g.S.Squares.content c.join.new.self r in
     let is : u ≡ square_from f (suc k) (outer t) (outer t) = e ∙ joined in
-    root-next c.args.rule.now t u quiet (omega (arith, c.requires.high)) (g.met.S.Squares.full _ _ known) (ap depth is ∙ depth-square f (suc k) (outer t) (outer t) ∙ sym (add-one k))
+    root-next c.args.rule.now t u quiet (omega (arith, c.requires.high)) (g.met.S.Squares.full _ _ known)
+    (ap depth is ∙ depth-square f (suc k) (outer t) (outer t) ∙ sym (add-one k))
     (is-piece f (suc k) (outer t) (outer t) u is))
     c.join.ensures.known c.join.ensures.square
 
@@ -111,28 +124,34 @@ pub returns-in_err-north_west-clause-needed : goal.returns-in_err-north_west-cla
 returns-in_err-north_west-clause-needed g c =
     let d = divided g (goal.at.returns-in_err-north_west-clause-needed g c).After-empty-blank in
     on_err_any c.from_residual.result
-    (in-north_west d (g.S.Squares.needs_node c.next_of_middle.new.squares) (next_life c.args.rule.now (tree_cell (g.S.Squares.content c.args.squares.now c.args.id)))
+    (in-north_west d (g.S.Squares.needs_node c.next_of_middle.new.squares)
+    (next_life c.args.rule.now (tree_cell (g.S.Squares.content c.args.squares.now c.args.id)))
     (c.in_err-north_west.ensures.needed _ _ _ c.requires.states (around-north_west d c.in_south_east.ensures)))
 
 pub returns-in_err-north_east-clause-needed : goal.returns-in_err-north_east-clause-needed
 returns-in_err-north_east-clause-needed g c =
     let d = IsDivided-kept c.in_ok-north_west.ensures.keeps (divided g (goal.at.returns-in_err-north_east-clause-needed g c).After-empty-blank) in
     on_err_any c.from_residual-in_err-north_east.result
-    (in-north_east d (g.S.Squares.needs_node c.next_of_middle-2.new.squares) (next_life c.args.rule.now (tree_cell (g.S.Squares.content c.args.squares.now c.args.id)))
+    (in-north_east d (g.S.Squares.needs_node c.next_of_middle-2.new.squares)
+    (next_life c.args.rule.now (tree_cell (g.S.Squares.content c.args.squares.now c.args.id)))
     (c.in_err-north_east.ensures.needed _ _ _ c.requires.states (around-north_east d c.in_south_west.ensures)))
 
 pub returns-in_err-south_west-clause-needed : goal.returns-in_err-south_west-clause-needed
 returns-in_err-south_west-clause-needed g c =
-    let d = IsDivided-kept (keeps-then c.in_ok-north_west.ensures.keeps c.in_ok-north_east.ensures.keeps) (divided g (goal.at.returns-in_err-south_west-clause-needed g c).After-empty-blank) in
+    let d = IsDivided-kept (keeps-then c.in_ok-north_west.ensures.keeps c.in_ok-north_east.ensures.keeps)
+    (divided g (goal.at.returns-in_err-south_west-clause-needed g c).After-empty-blank) in
     on_err_any c.from_residual-in_err-south_west.result
-    (in-south_west d (g.S.Squares.needs_node c.next_of_middle-3.new.squares) (next_life c.args.rule.now (tree_cell (g.S.Squares.content c.args.squares.now c.args.id)))
+    (in-south_west d (g.S.Squares.needs_node c.next_of_middle-3.new.squares)
+    (next_life c.args.rule.now (tree_cell (g.S.Squares.content c.args.squares.now c.args.id)))
     (c.in_err-south_west.ensures.needed _ _ _ c.requires.states (around-south_west d c.in_north_east.ensures)))
 
 pub returns-in_err-south_east-clause-needed : goal.returns-in_err-south_east-clause-needed
 returns-in_err-south_east-clause-needed g c =
-    let d = IsDivided-kept (keeps-then (keeps-then c.in_ok-north_west.ensures.keeps c.in_ok-north_east.ensures.keeps) c.in_ok-south_west.ensures.keeps) (divided g (goal.at.returns-in_err-south_east-clause-needed g c).After-empty-blank) in
+    let d = IsDivided-kept (keeps-then (keeps-then c.in_ok-north_west.ensures.keeps c.in_ok-north_east.ensures.keeps) c.in_ok-south_west.ensures.keeps)
+    (divided g (goal.at.returns-in_err-south_east-clause-needed g c).After-empty-blank) in
     on_err_any c.from_residual-in_err-south_east.result
-    (in-south_east d (g.S.Squares.needs_node c.next_of_middle-4.new.squares) (next_life c.args.rule.now (tree_cell (g.S.Squares.content c.args.squares.now c.args.id)))
+    (in-south_east d (g.S.Squares.needs_node c.next_of_middle-4.new.squares)
+    (next_life c.args.rule.now (tree_cell (g.S.Squares.content c.args.squares.now c.args.id)))
     (c.in_err-south_east.ensures.needed _ _ _ c.requires.states (around-south_east d c.in_north_west.ensures)))
 
 pub returns-clause-needed : goal.returns-clause-needed

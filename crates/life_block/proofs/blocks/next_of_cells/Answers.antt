@@ -19,23 +19,27 @@ returns-in_err-se-clause-keeps g c =
 
 pub returns-clause-keeps : goal.returns-clause-keeps
 returns-clause-keeps g c =
-    keeps-then (keeps-then (keeps-then (keeps-then c.in_ok-nw.ensures.keeps c.in_ok-ne.ensures.keeps) c.in_ok-sw.ensures.keeps) c.in_ok-se.ensures.keeps) c.join.ensures.keeps
+    keeps-then (keeps-then (keeps-then (keeps-then c.in_ok-nw.ensures.keeps c.in_ok-ne.ensures.keeps) c.in_ok-sw.ensures.keeps) c.in_ok-se.ensures.keeps)
+    c.join.ensures.keeps
 
 -- the word has the next states
-inner : (g : Over) (c : After-next_word-next g) (cells : ℤ → ℤ → ℕ) (x y : ℤ) → IsBinary cells → AreSixteen (g.S.Squares.content c.args.squares.now) cells 2 x y c.args.sixteen.now
+inner : (g : Over) (c : After-next_word-next g) (cells : ℤ → ℤ → ℕ) (x y : ℤ) → IsBinary cells → AreSixteen (g.S.Squares.content c.args.squares.now) cells 2 x y
+    c.args.sixteen.now
     → HasInner (next_life c.args.rule.now cells) (back x 2) (back y 2) c.next_word-next.result
 inner g c cells x y binary h r i lr li =
     c.next_word-next.ensures (8 * r + i) (omega (arith, lr, li))
     ∙ next-place c.args.rule.now cells (back x 2) (back y 2) c.eight_rows-rows.result (c.eight_rows-rows.ensures cells x y binary h) r i lr li
 
-words : (g : Over) (c : After-next_word-next g) (cells : ℤ → ℤ → ℕ) (x y : ℤ) → IsBinary cells → AreSixteen (g.S.Squares.content c.args.squares.now) cells 2 x y c.args.sixteen.now
+words : (g : Over) (c : After-next_word-next g) (cells : ℤ → ℤ → ℕ) (x y : ℤ) → IsBinary cells → AreSixteen (g.S.Squares.content c.args.squares.now) cells 2 x y
+    c.args.sixteen.now
     → let word = c.next_word-next.result in AreParts (next_life c.args.rule.now cells) 1 x y (bits word 9) (bits word 11) (bits word 25) (bits word 27)
 words g c cells x y binary h = parts-of_word (next_life c.args.rule.now cells) x y c.next_word-next.result (inner g c cells x y binary h)
 
 -- the four answers are the quarters of the next square
 parts : (g : Over) (c : goal.After-join g) (f : ℤ → ℤ → ℕ) (x y : ℤ)
     → (let word = c.next_word-next.result in AreParts f 1 x y (bits word 9) (bits word 11) (bits word 25) (bits word 27))
-    → let now = g.S.Squares.content c.join_cells-4.new.squares in AreParts f 1 x y (now c.in_ok-nw.nw) (now c.in_ok-ne.ne) (now c.in_ok-sw.sw) (now c.in_ok-se.se)
+    → let now = g.S.Squares.content c.join_cells-4.new.squares in
+    AreParts f 1 x y (now c.in_ok-nw.nw) (now c.in_ok-ne.ne) (now c.in_ok-sw.sw) (now c.in_ok-se.se)
 parts g c f x y p =
     let nw = c.in_ok-nw.ensures in
     let ne = c.in_ok-ne.ensures in
@@ -61,25 +65,29 @@ pub returns-in_err-nw-clause-needed : goal.returns-in_err-nw-clause-needed
 returns-in_err-nw-clause-needed g c =
     on_err_any c.from_residual.result
     (λ cells x y binary h. north_west-part (g.S.Squares.needs_node c.join_cells.new.squares) _ 1 x y
-    (own-part (g.S.Squares.needs_node c.join_cells.new.squares) _ 0 _ _ _ (words g (goal.at.returns-in_err-nw-clause-needed g c).After-next_word-next cells x y binary h).nw c.in_err-nw.ensures.needed))
+    (own-part (g.S.Squares.needs_node c.join_cells.new.squares) _ 0 _ _ _
+    (words g (goal.at.returns-in_err-nw-clause-needed g c).After-next_word-next cells x y binary h).nw c.in_err-nw.ensures.needed))
 
 pub returns-in_err-ne-clause-needed : goal.returns-in_err-ne-clause-needed
 returns-in_err-ne-clause-needed g c =
     on_err_any c.from_residual-in_err-ne.result
     (λ cells x y binary h. north_east-part (g.S.Squares.needs_node c.join_cells-2.new.squares) _ 1 x y
-    (own-part (g.S.Squares.needs_node c.join_cells-2.new.squares) _ 0 _ _ _ (words g (goal.at.returns-in_err-ne-clause-needed g c).After-next_word-next cells x y binary h).ne c.in_err-ne.ensures.needed))
+    (own-part (g.S.Squares.needs_node c.join_cells-2.new.squares) _ 0 _ _ _
+    (words g (goal.at.returns-in_err-ne-clause-needed g c).After-next_word-next cells x y binary h).ne c.in_err-ne.ensures.needed))
 
 pub returns-in_err-sw-clause-needed : goal.returns-in_err-sw-clause-needed
 returns-in_err-sw-clause-needed g c =
     on_err_any c.from_residual-in_err-sw.result
     (λ cells x y binary h. south_west-part (g.S.Squares.needs_node c.join_cells-3.new.squares) _ 1 x y
-    (own-part (g.S.Squares.needs_node c.join_cells-3.new.squares) _ 0 _ _ _ (words g (goal.at.returns-in_err-sw-clause-needed g c).After-next_word-next cells x y binary h).sw c.in_err-sw.ensures.needed))
+    (own-part (g.S.Squares.needs_node c.join_cells-3.new.squares) _ 0 _ _ _
+    (words g (goal.at.returns-in_err-sw-clause-needed g c).After-next_word-next cells x y binary h).sw c.in_err-sw.ensures.needed))
 
 pub returns-in_err-se-clause-needed : goal.returns-in_err-se-clause-needed
 returns-in_err-se-clause-needed g c =
     on_err_any c.from_residual-in_err-se.result
     (λ cells x y binary h. south_east-part (g.S.Squares.needs_node c.join_cells-4.new.squares) _ 1 x y
-    (own-part (g.S.Squares.needs_node c.join_cells-4.new.squares) _ 0 _ _ _ (words g (goal.at.returns-in_err-se-clause-needed g c).After-next_word-next cells x y binary h).se c.in_err-se.ensures.needed))
+    (own-part (g.S.Squares.needs_node c.join_cells-4.new.squares) _ 0 _ _ _
+    (words g (goal.at.returns-in_err-se-clause-needed g c).After-next_word-next cells x y binary h).se c.in_err-se.ensures.needed))
 
 pub returns-clause-needed : goal.returns-clause-needed
 returns-clause-needed g c =

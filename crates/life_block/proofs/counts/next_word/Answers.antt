@@ -20,10 +20,13 @@ returns c i l =
     let few : count ≤ 8 = few-counted c.args.rule.now.near c.args.words.now i count counted in
     let here = bit-shr h 1 i in
     let small : h / 2 < 2 ^ 64 = omega arith in
-    let births : bit_at c.columns_in.result i ≡ bit_at sets.births count = c.columns_in.ensures i (omega (arith, l)) few ∙ ap (λ (z : OuterTotalistic). bit_at z.sets.births count) c.rule.view_is in
-    let survivals : bit_at c.columns_in-2.result i ≡ bit_at sets.survivals count = c.columns_in-2.ensures i (omega (arith, l)) few ∙ ap (λ (z : OuterTotalistic). bit_at z.sets.survivals count) c.rule.view_is in
+    let births : bit_at c.columns_in.result i ≡ bit_at sets.births count = c.columns_in.ensures i (omega (arith, l)) few
+    ∙ ap (λ (z : OuterTotalistic). bit_at z.sets.births count) c.rule.view_is in
+    let survivals : bit_at c.columns_in-2.result i ≡ bit_at sets.survivals count = c.columns_in-2.ensures i (omega (arith, l)) few
+    ∙ ap (λ (z : OuterTotalistic). bit_at z.sets.survivals count) c.rule.view_is in
     bit-chosen c.columns_in.result c.columns_in-2.result (h / 2) i (bit_at h (i + 1)) small (omega (arith, l)) here
     ∙ ap (λ z. max (min z (1 - bit_at h (i + 1))) (min (bit_at c.columns_in-2.result i) (bit_at h (i + 1)))) births
     ∙ ap (λ z. max (min (bit_at sets.births count) (1 - bit_at h (i + 1))) (min z (bit_at h (i + 1)))) survivals
-    ∙ next-of (bit_at sets.births count) (bit_at sets.survivals count) (bit_at h (i + 1)) (bit_at-lt sets.births count) (bit_at-lt sets.survivals count) (bit_at-lt h (i + 1))
+    ∙ next-of (bit_at sets.births count) (bit_at sets.survivals count) (bit_at h (i + 1)) (bit_at-lt sets.births count) (bit_at-lt sets.survivals count)
+    (bit_at-lt h (i + 1))
     ∙ ap (next_by_count sets (bit_at h (i + 1))) counted

@@ -16,7 +16,8 @@ use Rattle.life_block.proofs.generation.next_life_generation.Goals as goal
 pub returns-then-level-eq-MAX_LEVEL-clause-next : goal.returns-then-level-eq-MAX_LEVEL-clause-next
 returns-then-level-eq-MAX_LEVEL-clause-next g c =
     let cells = tree_cell (g.S.Squares.content c.args.squares.now c.args.id) in
-    subst (λ (rule : OuterTotalistic). IfOk c.next_generation.result (λ r. (x y : ℤ) → tree_cell (g.S.Squares.content c.next_generation.new.squares r) x y ≡ next_life rule cells x y))
+    subst (λ (rule : OuterTotalistic). IfOk c.next_generation.result
+    (λ r. (x y : ℤ) → tree_cell (g.S.Squares.content c.next_generation.new.squares r) x y ≡ next_life rule cells x y))
     c.new-law.ensures
     (IfOk-weaker c.next_generation.result _ _
     (λ r h x y. same-state _ _ ((c.life_answers_at.ensures c.new-law.result.rule cells x y _).0 (h x y)))
@@ -24,12 +25,15 @@ returns-then-level-eq-MAX_LEVEL-clause-next g c =
 
 pub returns-then-level-eq-MAX_LEVEL-clause-accepted : goal.returns-then-level-eq-MAX_LEVEL-clause-accepted
 returns-then-level-eq-MAX_LEVEL-clause-accepted g c =
-    subst (λ (rule : OuterTotalistic). IfOk c.next_generation.result (λ r. GenerationRefusal (LifeAnswers rule) 2 c.args.most (g.S.Squares.content c.args.squares.now c.args.id) None))
+    subst (λ (rule : OuterTotalistic). IfOk c.next_generation.result
+    (λ r. GenerationRefusal (LifeAnswers rule) 2 c.args.most (g.S.Squares.content c.args.squares.now c.args.id) None))
     c.new-law.ensures c.next_generation.ensures.accepted
 
 pub returns-then-level-eq-MAX_LEVEL-clause-refusals : goal.returns-then-level-eq-MAX_LEVEL-clause-refusals
 returns-then-level-eq-MAX_LEVEL-clause-refusals g c =
-    subst (λ (rule : OuterTotalistic). IfErr c.next_generation.result (λ f. (f ≡ fault_of Full) ⊎ ((f ≡ fault_of Memory) ⊎ GenerationRefusal (LifeAnswers rule) 2 c.args.most (g.S.Squares.content c.args.squares.now c.args.id) (Some f))))
+    subst (λ (rule : OuterTotalistic). IfErr c.next_generation.result
+    (λ f. (f ≡ fault_of Full) ⊎ ((f ≡ fault_of Memory) ⊎ GenerationRefusal (LifeAnswers rule) 2 c.args.most
+    (g.S.Squares.content c.args.squares.now c.args.id) (Some f))))
     c.new-law.ensures c.next_generation.ensures.refusals
 
 pub returns-clause-accepted : goal.returns-clause-accepted

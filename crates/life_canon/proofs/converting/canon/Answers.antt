@@ -8,10 +8,12 @@ pub text_of-requires : goal.text_of-requires
 text_of-requires c = read-fits c.args.bytes.now _ _ c.in_ok-pattern.ensures.pattern
 
 pub returns-clause-text : goal.returns-clause-text
-returns-clause-text c = IfOk-weaker c.text_of.result _ _ (λ text e. canonical-text c.args.bytes.now _ _ c.in_ok-pattern.ensures.pattern text.items e) c.text_of.ensures.text
+returns-clause-text c = IfOk-weaker c.text_of.result _ _ (λ text e. canonical-text c.args.bytes.now _ _ c.in_ok-pattern.ensures.pattern text.items e)
+    c.text_of.ensures.text
 
 pub returns-clause-least : goal.returns-clause-least
-returns-clause-least c = IfOk-weaker c.text_of.result _ _ (λ text e. least-text c.args.bytes.now _ _ c.in_ok-pattern.ensures.pattern text.items e) c.text_of.ensures.text
+returns-clause-least c = IfOk-weaker c.text_of.result _ _ (λ text e. least-text c.args.bytes.now _ _ c.in_ok-pattern.ensures.pattern text.items e)
+    c.text_of.ensures.text
 
 pub returns-clause-fault : goal.returns-clause-fault
 returns-clause-fault c = IfErr-weaker c.text_of.result _ _ (λ fault e. inr (inl e)) c.text_of.ensures.memory

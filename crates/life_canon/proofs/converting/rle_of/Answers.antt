@@ -15,7 +15,8 @@ cells-requires-clause-high c = root-deep c.requires.0 _ _ c.requires.1
 
 pub write_rle-requires : goal.write_rle-requires
 write_rle-requires c =
-    let e : are_sorted_cells MAX_LEVEL c.args.pattern.now.rule c.in_ok-list.list.items ≡ true = cells-sorted c.requires.0 _ _ c.requires.1 c.in_ok-list.list.items c.in_ok-list.ensures.cells in
+    let e : are_sorted_cells MAX_LEVEL c.args.pattern.now.rule c.in_ok-list.list.items ≡ true = cells-sorted c.requires.0 _ _ c.requires.1
+    c.in_ok-list.list.items c.in_ok-list.ensures.cells in
     cc
 
 pub returns-clause-text : goal.returns-clause-text

@@ -35,7 +35,8 @@ loop-run-preserved g c =
     e.runs ∙ ap (λ (r : GivenRun). c.loop-run.builder.runs ++ r ∷ []) (read-run c.loop-run.builder.runs c.args.runs.now c.loop-run.run-index none h i.next) in
     record {
       filling = e.filling;
-      given_so_far = given-more c.args.builder.now.runs c.loop-run.builder.runs c.add_run.new.self.runs c.args.runs.now c.loop-run.run-index none h i.given_so_far runs;
+      given_so_far = given-more c.args.builder.now.runs c.loop-run.builder.runs c.add_run.new.self.runs c.args.runs.now c.loop-run.run-index none h
+          i.given_so_far runs;
       next = next-more c.loop-run.builder.runs c.add_run.new.self.runs c.args.runs.now c.loop-run.run-index none h i.next runs;
       keeps = keeps-then i.keeps e.keeps;
     }

@@ -28,12 +28,14 @@ line_square-requires g c =
     let square : Line = c.in-Some.square in
     let squares : squares_of c.line.new.self.lines ≡ squares_of old ++ square ∷ [] =
     c.in_ok-square.ensures.squares ∙ ap (λ (o : Option Line). squares_of old ++ cons_option o []) c.in-Some.is in
-    let next : NextSquare old square = next-square old c.line.new.self.lines c.args.line.now square (ap (λ (v : LinesRead). v.lines) c.in_ok-square.ensures.lines) c.in_ok-square.ensures.front squares in
+    let next : NextSquare old square = next-square old c.line.new.self.lines c.args.line.now square
+    (ap (λ (v : LinesRead). v.lines) c.in_ok-square.ensures.lines) c.in_ok-square.ensures.front squares in
     record {
       line = (
         squares_of old,
         (next.rule, last-square next.rule next.generation (squares_of old) square next.valid),
-        subst (λ (ids : List Id). AreSquaresOf (g.S.Squares.knows c.args.squares.now) (g.S.Squares.content c.args.squares.now) (squares_of old) ids) (sym c.deref.ensures.value) c.requires.squares,
+        subst (λ (ids : List Id). AreSquaresOf (g.S.Squares.knows c.args.squares.now) (g.S.Squares.content c.args.squares.now) (squares_of old) ids)
+            (sym c.deref.ensures.value) c.requires.squares,
       );
     }
 
@@ -44,16 +46,22 @@ returns-clause-squares g c =
     let ids : List Id = c.args.ids.now.items in
     let squares : squares_of c.line.new.self.lines ≡ squares_of old ++ square ∷ [] =
     c.in_ok-square.ensures.squares ∙ ap (λ (o : Option Line). squares_of old ++ cons_option o []) c.in-Some.is in
-    let next : NextSquare old square = next-square old c.line.new.self.lines c.args.line.now square (ap (λ (v : LinesRead). v.lines) c.in_ok-square.ensures.lines) c.in_ok-square.ensures.front squares in
+    let next : NextSquare old square = next-square old c.line.new.self.lines c.args.line.now square
+    (ap (λ (v : LinesRead). v.lines) c.in_ok-square.ensures.lines) c.in_ok-square.ensures.front squares in
     let one = last-square next.rule next.generation (squares_of old) square next.valid in
     let were : AreSquaresOf (g.S.Squares.knows c.args.squares.now) (g.S.Squares.content c.args.squares.now) (squares_of old) c.deref.result.now =
-    subst (λ (is : List Id). AreSquaresOf (g.S.Squares.knows c.args.squares.now) (g.S.Squares.content c.args.squares.now) (squares_of old) is) (sym c.deref.ensures.value) c.requires.squares in
+    subst (λ (is : List Id). AreSquaresOf (g.S.Squares.knows c.args.squares.now) (g.S.Squares.content c.args.squares.now) (squares_of old) is)
+    (sym c.deref.ensures.value) c.requires.squares in
     let is = c.in_ok-id.ensures.square (squares_of old) next.rule one were in
-    let grown : AreSquaresOf (g.S.Squares.knows c.line_square.new.squares) (g.S.Squares.content c.line_square.new.squares) (squares_of old ++ square ∷ []) (ids ++ c.in_ok-id.id ∷ []) =
-    squares-grow (g.S.Squares.knows c.line_square.new.squares) (g.S.Squares.content c.line_square.new.squares) next.rule next.generation (squares_of old) square ids c.in_ok-id.id next.valid
+    let grown : AreSquaresOf (g.S.Squares.knows c.line_square.new.squares) (g.S.Squares.content c.line_square.new.squares) (squares_of old ++ square ∷ [])
+    (ids ++ c.in_ok-id.id ∷ []) =
+    squares-grow (g.S.Squares.knows c.line_square.new.squares) (g.S.Squares.content c.line_square.new.squares) next.rule next.generation (squares_of old) square
+    ids c.in_ok-id.id next.valid
     (squares-stay (squares_of old) ids c.in_ok-id.ensures.keeps.contents c.requires.squares) c.in_ok-id.ensures.known is in
-    subst (λ (ls : List Line). AreSquaresOf (g.S.Squares.knows c.line_square.new.squares) (g.S.Squares.content c.line_square.new.squares) ls c.push.new.self.items) (sym squares)
-    (subst (λ (is : List Id). AreSquaresOf (g.S.Squares.knows c.line_square.new.squares) (g.S.Squares.content c.line_square.new.squares) (squares_of old ++ square ∷ []) is) (sym c.in_ok-push.ensures.items) grown)
+    subst (λ (ls : List Line). AreSquaresOf (g.S.Squares.knows c.line_square.new.squares) (g.S.Squares.content c.line_square.new.squares) ls
+    c.push.new.self.items) (sym squares)
+    (subst (λ (is : List Id). AreSquaresOf (g.S.Squares.knows c.line_square.new.squares) (g.S.Squares.content c.line_square.new.squares)
+    (squares_of old ++ square ∷ []) is) (sym c.in_ok-push.ensures.items) grown)
 
 pub returns-in_err-square-clause-needed : goal.returns-in_err-square-clause-needed
 returns-in_err-square-clause-needed g c =
@@ -71,7 +79,8 @@ returns-in_err-id-clause-needed g c =
     let next : NextSquare old square = next-square old c.line.new.self.lines c.args.line.now square more c.in_ok-square.ensures.front squares in
     let one = last-square next.rule next.generation (squares_of old) square next.valid in
     let were : AreSquaresOf (g.S.Squares.knows c.args.squares.now) (g.S.Squares.content c.args.squares.now) (squares_of old) c.deref.result.now =
-    subst (λ (is : List Id). AreSquaresOf (g.S.Squares.knows c.args.squares.now) (g.S.Squares.content c.args.squares.now) (squares_of old) is) (sym c.deref.ensures.value) c.requires.squares in
+    subst (λ (is : List Id). AreSquaresOf (g.S.Squares.knows c.args.squares.now) (g.S.Squares.content c.args.squares.now) (squares_of old) is)
+    (sym c.deref.ensures.value) c.requires.squares in
     λ e. of_node_line old c.args.line.now [] square refl (subst (Prefix (IsSomeMacrocell MAX_LEVEL)) more c.in_ok-square.ensures.front)
     (subst (λ (ls : List (List ℕ)). squares_of ls ≡ squares_of old ++ square ∷ []) more squares)
     (c.in_err-id.ensures.needed (squares_of old) next.rule one were)

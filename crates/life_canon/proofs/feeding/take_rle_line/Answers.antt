@@ -18,7 +18,8 @@ pub returns-in_err-line_into-clause-fault : goal.returns-in_err-line_into-clause
 returns-in_err-line_into-clause-fault g c =
     let p = err_from_is_err_and c.from_residual.result c.from_residual.ensures.1 in
     let kind : Kind = c.in_err-line_into.field-0.0 in
-    rw (p.1, p.2) (told-fault (BreaksRle MAX_LEVEL c.args.lines.now.lines c.args.line.now kind) c.args.lines.now.refused kind c.requires.begun c.in_err-line_into.ensures.fault
+    rw (p.1, p.2) (told-fault (BreaksRle MAX_LEVEL c.args.lines.now.lines c.args.line.now kind) c.args.lines.now.refused kind c.requires.begun
+    c.in_err-line_into.ensures.fault
     (λ e. c.in_err-line_into.ensures.spent.0 (cc)))
 
 pub returns-in_err-line_into-clause-full : goal.returns-in_err-line_into-clause-full
@@ -62,4 +63,5 @@ returns-clause-needed g c =
     let all : c.deref.result.now ≡ added.runs = c.deref.ensures.value ∙ added.added ∙ ap (λ (l : List Run). l ++ added.runs) c.clear.ensures.items in
     let more : c.line_into.new.self.lines ≡ c.args.lines.now.lines ++ c.args.line.now ∷ [] = ap (λ (v : LinesRead). v.lines) c.in_ok-line_into.ensures.lines in
     λ e. subst (SomeOfLines MAX_LEVEL P) more
-    (line-runs P c.line_into.new.self.lines built.runs added.runs c.args.builder.now.runs c.deref.result.now (added.found built.runs built.are) built.same all (c.add_runs.ensures.needed e))
+    (line-runs P c.line_into.new.self.lines built.runs added.runs c.args.builder.now.runs c.deref.result.now (added.found built.runs built.are) built.same all
+    (c.add_runs.ensures.needed e))

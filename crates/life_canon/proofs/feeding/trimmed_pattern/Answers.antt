@@ -16,7 +16,8 @@ returns-clause-pattern g c = λ u rule generation cells.
     let least : least_level u.rule ≡ c.least_level-least.result = ap least_level rule ∙ sym c.least_level-least.ensures in
     let high : least_level u.rule ≤ depth t = omega (arith, least, c.in_ok-root.ensures.level) in
     let known = c.in_ok-root.ensures.known in
-    let whole-is = trimmed-whole below_top u t (g.met.S.Squares.full _ _ known) (g.met.S.Squares.low _ _ known) high (λ x y. c.in_ok-root.ensures.cells x y ∙ cells x y) in
+    let whole-is = trimmed-whole below_top u t (g.met.S.Squares.full _ _ known) (g.met.S.Squares.low _ _ known) high
+    (λ x y. c.in_ok-root.ensures.cells x y ∙ cells x y) in
     record {
       rule = sym rule;
       generation = sym generation;

@@ -10,7 +10,8 @@ use Rattle.life_canon.proofs.filling.+grow_to.Goals as goal
 pub returns-clause-cells : goal.returns-clause-cells
 returns-clause-cells g t c =
     IfOk-weaker c.grow_to.result _ _
-    (λ r h x y. h x y ∙ ap (λ s. tree_cell s x y) c.in_ok-larger.ensures.square ∙ growing_keeps_cells _ (g.met.S.Squares.full _ _ c.requires.known) c.requires.low x y)
+    (λ r h x y. h x y ∙ ap (λ s. tree_cell s x y) c.in_ok-larger.ensures.square ∙ growing_keeps_cells _ (g.met.S.Squares.full _ _ c.requires.known)
+    c.requires.low x y)
     c.grow_to.ensures.cells
 
 pub returns-then-level-clause-level : goal.returns-then-level-clause-level

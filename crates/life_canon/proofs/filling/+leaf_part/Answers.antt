@@ -18,7 +18,8 @@ returns-in_err-se-clause-keeps g t c =
 
 pub returns-clause-keeps : goal.returns-clause-keeps
 returns-clause-keeps g t c =
-    keeps-then (keeps-then (keeps-then (keeps-then c.in_ok-nw.ensures.keeps c.in_ok-ne.ensures.keeps) c.in_ok-sw.ensures.keeps) c.in_ok-se.ensures.keeps) c.join.ensures.keeps
+    keeps-then (keeps-then (keeps-then (keeps-then c.in_ok-nw.ensures.keeps c.in_ok-ne.ensures.keeps) c.in_ok-sw.ensures.keeps) c.in_ok-se.ensures.keeps)
+    c.join.ensures.keeps
 
 pub returns-clause-square : goal.returns-clause-square
 returns-clause-square g t c =
@@ -27,5 +28,6 @@ returns-clause-square g t c =
     let ne = (south.contents c.in_ok-ne.ne c.in_ok-ne.ensures.known).1 ∙ c.in_ok-ne.ensures.square in
     let sw = (c.in_ok-se.ensures.keeps.contents c.in_ok-sw.sw c.in_ok-sw.ensures.known).1 ∙ c.in_ok-sw.ensures.square in
     let se = c.in_ok-se.ensures.square in
-    let quarters = part-quarters (leaf_cell c.args.rows.now) c.args.level c.args.column c.args.row ((1 * 2 ^ (c.args.level - 1)) % 256) (omega arith) (half-is c.args.level (omega arith) c.requires.level) in
+    let quarters = part-quarters (leaf_cell c.args.rows.now) c.args.level c.args.column c.args.row ((1 * 2 ^ (c.args.level - 1)) % 256) (omega arith)
+    (half-is c.args.level (omega arith) c.requires.level) in
     IfOk-weaker c.join.result _ _ (λ id e. e ∙ (λ i. quad (nw i) (ne i) (sw i) (se i)) ∙ sym quarters) c.join.ensures.square

@@ -57,13 +57,16 @@ returns-in_err-pattern-clause-err g c =
     rw (p.1, p.2) answer
 
 pub deliver_squares-requires-clause-known : goal.deliver_squares-requires-clause-known
-deliver_squares-requires-clause-known g c = (read-fits c.in_ok-pattern.ensures.pattern.bytes c.read_source.new.store c.in_ok-pattern.pattern c.in_ok-pattern.ensures.pattern.is).known
+deliver_squares-requires-clause-known g c
+    = (read-fits c.in_ok-pattern.ensures.pattern.bytes c.read_source.new.store c.in_ok-pattern.pattern c.in_ok-pattern.ensures.pattern.is).known
 
 pub deliver_squares-requires-clause-states : goal.deliver_squares-requires-clause-states
-deliver_squares-requires-clause-states g c = (read-fits c.in_ok-pattern.ensures.pattern.bytes c.read_source.new.store c.in_ok-pattern.pattern c.in_ok-pattern.ensures.pattern.is).states
+deliver_squares-requires-clause-states g c
+    = (read-fits c.in_ok-pattern.ensures.pattern.bytes c.read_source.new.store c.in_ok-pattern.pattern c.in_ok-pattern.ensures.pattern.is).states
 
 pub deliver_squares-requires-clause-level : goal.deliver_squares-requires-clause-level
-deliver_squares-requires-clause-level g c = (read-fits c.in_ok-pattern.ensures.pattern.bytes c.read_source.new.store c.in_ok-pattern.pattern c.in_ok-pattern.ensures.pattern.is).level
+deliver_squares-requires-clause-level g c
+    = (read-fits c.in_ok-pattern.ensures.pattern.bytes c.read_source.new.store c.in_ok-pattern.pattern c.in_ok-pattern.ensures.pattern.is).level
 
 pub deliver_squares-requires-clause-bound : goal.deliver_squares-requires-clause-bound
 deliver_squares-requires-clause-bound g c = λ q k. c.in_ok-numbers.ensures.room q k.0

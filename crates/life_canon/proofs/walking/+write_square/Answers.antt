@@ -146,7 +146,8 @@ returns-clause-number g t c =
 
 pub returns-clause-numbers : goal.returns-clause-numbers
 returns-clause-numbers g t c =
-    rw c.push-2.ensures.added (All-push (g.S.Squares.knows c.args.squares.now) c.write_square-4.new.numbers.ids c.args.id c.in_ok-se.ensures.numbers c.requires.id)
+    rw c.push-2.ensures.added (All-push (g.S.Squares.knows c.args.squares.now) c.write_square-4.new.numbers.ids c.args.id c.in_ok-se.ensures.numbers
+    c.requires.id)
 
 pub returns-clause-text : goal.returns-clause-text
 returns-clause-text g t c =

@@ -9,7 +9,8 @@ use Rattle.life_canon.proofs.writing.append_lines.Goals as goal
 
 pub line_of-requires-clause-listed : goal.line_of-requires-clause-listed
 line_of-requires-clause-listed g c =
-    listed-at (g.S.Squares.content c.args.squares.now) c.args.known.now c.as_slice-id-items.result.now c.args.rule.now c.loop-id.id-index _ c.requires.listed c.as_slice-id-items.ensures.ids c.loop-id-test.true
+    listed-at (g.S.Squares.content c.args.squares.now) c.args.known.now c.as_slice-id-items.result.now c.args.rule.now c.loop-id.id-index _ c.requires.listed
+    c.as_slice-id-items.ensures.ids c.loop-id-test.true
 
 pub loop-id-preserved : goal.loop-id-preserved
 loop-id-preserved g c =
@@ -27,4 +28,5 @@ returns-clause-lines g c =
     let end : length c.args.known.now ≤ c.loop-id.id-index = omega (arith, ap length c.as_slice-id-items.ensures.ids) in
     c.loop-id.invariant
     ∙ ap (λ ids. c.args.out.now.items ++ flat_map (λ id. node_text (line (content id))) ids) (take_all c.loop-id.id-index c.args.known.now end)
-    ∙ ap (λ text. c.args.out.now.items ++ text) (sym (flat_map-map node_text line (map content c.args.known.now) ∙ flat_map-map (λ t. node_text (line t)) content c.args.known.now))
+    ∙ ap (λ text. c.args.out.now.items ++ text)
+    (sym (flat_map-map node_text line (map content c.args.known.now) ∙ flat_map-map (λ t. node_text (line t)) content c.args.known.now))

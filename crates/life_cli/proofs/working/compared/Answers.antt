@@ -13,7 +13,8 @@ pub returns-in_err-b-clause-err : goal.returns-in_err-b-clause-err
 returns-in_err-b-clause-err g c =
     let p = err_from_is_err_and c.from_residual-in_err-b.result c.from_residual-in_err-b.ensures.1 in
     let a = c.in_ok-a.ensures.held in
-    rw (p.1, p.2) (no_second_input _ _ a.bytes c.held-2.new.store _ a.read (c.held-2.ensures.keeps.limit ∙ c.held.ensures.keeps.limit ∙ c.new-store.ensures.most) c.in_err-b.ensures.err)
+    rw (p.1, p.2) (no_second_input _ _ a.bytes c.held-2.new.store _ a.read
+    (c.held-2.ensures.keeps.limit ∙ c.held.ensures.keeps.limit ∙ c.new-store.ensures.most) c.in_err-b.ensures.err)
 
 pub returns-in_err-a-2-clause-err : goal.returns-in_err-a-2-clause-err
 returns-in_err-a-2-clause-err g c =

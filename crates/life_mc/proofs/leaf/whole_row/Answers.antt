@@ -16,10 +16,12 @@ pub returns : goal.returns
 returns c =
     let text = c.args.text.now in
     let front : c.cells_in_front-end.result ≡ front_cells 8 text = c.cells_in_front-end.ensures in
-    let row : first_row text ≡ take (front_cells 8 text) text = row_in_front 8 text c.requires (ap (λ k. get_or text k 0) (sym front) ∙ c.if-text-end-ne36.false) in
+    let row : first_row text ≡ take (front_cells 8 text) text = row_in_front 8 text c.requires
+    (ap (λ k. get_or text k 0) (sym front) ∙ c.if-text-end-ne36.false) in
     let byte : c.first_columns.result ≡ row_byte (take (front_cells 8 text) text) =
     c.first_columns.ensures ∙ ap (λ k. c.eight_columns.result - c.eight_columns.result % 2 ^ (8 - k)) front
-    ∙ ap (λ b. b - b % 2 ^ (8 - front_cells 8 text)) c.eight_columns.ensures ∙ columns_in_front (front_cells 8 text) text (front_within 8 text) (omega (arith, c.requires)) in (
+    ∙ ap (λ b. b - b % 2 ^ (8 - front_cells 8 text)) c.eight_columns.ensures ∙ columns_in_front (front_cells 8 text) text (front_within 8 text)
+    (omega (arith, c.requires)) in (
       ap is_row row ∙ front_is_row text,
       byte ∙ ap row_byte (sym row),
       front ∙ sym (ap (λ (t : List ℕ). length t) row ∙ as_long (front_cells 8 text) text (omega (arith, c.requires, front_within 8 text))),

@@ -11,6 +11,8 @@ write_digits-requires c =
 
 pub returns-clause-written : goal.returns-clause-written
 returns-clause-written c =
-    quad-in-room c.args.level c.args.nw c.args.ne c.args.sw c.args.se _ _ _ _ _ _ (c.write_digits.ensures.written ∙ ap (λ n. decimal n ++ drop c.write_quarter-end-4.result c.write_quarter-end-4.new.room) c.from.ensures) c.write_quarter-end-4.ensures.written c.write_quarter-end-3.ensures.written
+    quad-in-room c.args.level c.args.nw c.args.ne c.args.sw c.args.se _ _ _ _ _ _
+    (c.write_digits.ensures.written ∙ ap (λ n. decimal n ++ drop c.write_quarter-end-4.result c.write_quarter-end-4.new.room) c.from.ensures)
+    c.write_quarter-end-4.ensures.written c.write_quarter-end-3.ensures.written
     c.write_quarter-end-2.ensures.written c.write_quarter-end.ensures.written
     (c.write_byte-end.ensures.written ∙ ap (λ l. 10 ∷ l) (drop_of_length-le c.args.room.now {i = 105} (omega (arith, c.told-room))))

@@ -14,5 +14,7 @@ write_byte-requires c =
 
 pub returns-clause-start : goal.returns-clause-start
 returns-clause-start c =
-    let few = digits-fit c.args.number c.ranges.number.fits in
-    (omega (arith, c.write_digits-start.ensures.start, c.write_byte.ensures.start), omega (arith, few, c.write_digits-start.ensures.start, c.write_byte.ensures.start))
+    let few = digits-fit c.args.number c.ranges.number.fits in (
+      omega (arith, c.write_digits-start.ensures.start, c.write_byte.ensures.start),
+      omega (arith, few, c.write_digits-start.ensures.start, c.write_byte.ensures.start),
+    )

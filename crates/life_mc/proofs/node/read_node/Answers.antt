@@ -15,7 +15,8 @@ returns-in-Some-read_numbers c =
     let low : MAX_LEVEL ≤ 255 = omega arith in
     let r = quad_read MAX_LEVEL c.args.rule.now c.args.levels.now low c.requires c.args.text.now no q c.in-Some-read_numbers.ensures in
     match_map c.square_of_numbers.result c.square_of_numbers.ensures
-    (λ square p. let e = ap (λ s. broken_by_square MAX_LEVEL c.args.rule.now c.args.levels.now (Some s)) (sym p.0) ∙ p.1 in (r.1 e ∙ ap Some (sym p.0), sym r.0 ∙ e))
+    (λ square p. let e = ap (λ s. broken_by_square MAX_LEVEL c.args.rule.now c.args.levels.now (Some s)) (sym p.0) ∙ p.1 in
+    (r.1 e ∙ ap Some (sym p.0), sym r.0 ∙ e))
     (λ kind p. sym r.0 ∙ p)
 
 pub returns-in-None-read_numbers : goal.returns-in-None-read_numbers

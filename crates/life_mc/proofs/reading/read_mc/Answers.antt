@@ -16,7 +16,8 @@ use Rattle.life_mc.proofs.ReadLines.{no_lines}
 use Rattle.life_mc.proofs.reading.read_mc.Goals as goal
 
 -- the fault of a line that breaks a rule behind these
-at_line : (front : List (List ℕ)) (line : List ℕ) (number : ℕ) (kind : Kind) (fault : Fault) → fault ≡ fault_at number kind → (kind ≡ Memory) ⊎ (broken MAX_LEVEL front line ≡ Some kind)
+at_line : (front : List (List ℕ)) (line : List ℕ) (number : ℕ) (kind : Kind) (fault : Fault) → fault ≡ fault_at number kind → (kind ≡ Memory)
+    ⊎ (broken MAX_LEVEL front line ≡ Some kind)
     → OrMemory fault ((broken MAX_LEVEL front line ≡ Some fault.kind) × (fault.place.line ≡ number))
 at_line front line number kind fault e (inl m) = inl (e ∙ ap (fault_at number) m)
 at_line front line number kind fault e (inr b) = inr (
@@ -33,9 +34,11 @@ returns-in-Err-clause-err c =
     let fault : Fault = c.at.result in
     let all : pairs ++ (c.in-Some.number, line) ∷ numbered_from c.next.new.self.number (lines_of c.next.new.self.rest.now) ≡ numbered_from 1 lines =
     ap (λ (t : List (ℕ × List ℕ)). pairs ++ t) (sym c.in-Some.ensures.steps) ∙ c.loop-number.invariant.all in
-    let answer : OrMemory fault (Refuses MAX_LEVEL lines fault) = elim (at_line front line c.in-Some.number c.in-Err.kind fault c.at.ensures c.in-Err.ensures.fault) [
+    let answer : OrMemory fault (Refuses MAX_LEVEL lines fault) = elim
+    (at_line front line c.in-Some.number c.in-Err.kind fault c.at.ensures c.in-Err.ensures.fault) [
       | inl m ↦ inl m
-      | inr w ↦ inr (refused_here MAX_LEVEL lines pairs c.in-Some.number line _ front fault all c.loop-number.invariant.taken c.loop-number.invariant.unbroken w.0 w.1)
+      | inr w ↦ inr (refused_here MAX_LEVEL lines pairs c.in-Some.number line _ front fault all c.loop-number.invariant.taken c.loop-number.invariant.unbroken
+          w.0 w.1)
     ] in
     answer
 
@@ -44,7 +47,8 @@ returns-in-Err-clause-kinds c =
     let front : List (List ℕ) = c.loop-number.reader.lines in
     let line : List ℕ = c.in-Some.line.now in
     let fault : Fault = c.at.result in
-    let answer : OrMemory fault (is_macrocell_kind fault.kind ≡ true) = elim (at_line front line c.in-Some.number c.in-Err.kind fault c.at.ensures c.in-Err.ensures.fault) [
+    let answer : OrMemory fault (is_macrocell_kind fault.kind ≡ true) = elim
+    (at_line front line c.in-Some.number c.in-Err.kind fault c.at.ensures c.in-Err.ensures.fault) [
       | inl m ↦ inl m
       | inr w ↦ inr (broken_kind MAX_LEVEL front line fault.kind w.0)
     ] in
@@ -80,6 +84,7 @@ returns-in-Err-end-clause-err c =
     let answer : OrMemory c.at-in-Err-end.result (Refuses MAX_LEVEL lines c.at-in-Err-end.result) = elim only [
       | inl m ↦ (let none : c.loop-number.reader.lines ≡ [] = (c.in-Err-end.ensures.missing c.loop-number.invariant.fresh).0 (ap Err m) in
           inr (subst (Refuses MAX_LEVEL lines) (sym (e ∙ ap (fault_at 1) m)) (subst Q (sym none ∙ whole) (no_lines MAX_LEVEL))))
-      | inr s ↦ (let refused : c.loop-number.reader.refused ≡ true = c.in-Err-end.ensures.spent.0 (ap Err s) in let fresh : c.loop-number.reader.refused ≡ false = c.loop-number.invariant.fresh in cc)
+      | inr s ↦ (let refused : c.loop-number.reader.refused ≡ true = c.in-Err-end.ensures.spent.0 (ap Err s) in
+          let fresh : c.loop-number.reader.refused ≡ false = c.loop-number.invariant.fresh in cc)
     ] in
     answer

@@ -11,7 +11,8 @@ returns-then-are_digits c =
     let b = c.digit-then-are_digits.ensures.digit in
     let d = c.digit-then-are_digits-2.ensures.digit in
     let e = c.digit-then-are_digits-3.ensures.digit in
-    (λ i. Some (528 + (a i * 4096 + b i * 256 + d i * 16 + e i))) ∙ of_four _ _ _ _ (sym c.are_bits.ensures ∙ c.if-are_bits.false) (sym c.are_digits.ensures ∙ c.if-are_digits.true)
+    (λ i. Some (528 + (a i * 4096 + b i * 256 + d i * 16 + e i))) ∙ of_four _ _ _ _ (sym c.are_bits.ensures ∙ c.if-are_bits.false)
+    (sym c.are_digits.ensures ∙ c.if-are_digits.true)
 
 pub returns : goal.returns
 returns c = of_none _ _ _ _ (sym c.are_bits.ensures ∙ c.if-are_bits.false) (sym c.are_digits.ensures ∙ c.if-are_digits.false)

@@ -11,4 +11,5 @@ returns-then-number-lt-LEVEL_TWO c = λ a b p q h.
 pub returns-else-number-lt-LEVEL_TWO : goal.returns-else-number-lt-LEVEL_TWO
 returns-else-number-lt-LEVEL_TWO c = λ a b p q h.
     let e = digits_are a b p q _ _ h c.if-number-lt-LEVEL_TWO.false refl in
-    λ i. (c.of_digit.ensures ∙ e.0) i ∷ (c.of_digit-else-number-lt-LEVEL_TWO.ensures ∙ e.1) i ∷ (c.of_digit-else-number-lt-LEVEL_TWO-2.ensures ∙ e.2) i ∷ (c.of_digit-else-number-lt-LEVEL_TWO-3.ensures ∙ e.3) i ∷ []
+    λ i. (c.of_digit.ensures ∙ e.0) i ∷ (c.of_digit-else-number-lt-LEVEL_TWO.ensures ∙ e.1) i ∷ (c.of_digit-else-number-lt-LEVEL_TWO-2.ensures ∙ e.2) i
+    ∷ (c.of_digit-else-number-lt-LEVEL_TWO-3.ensures ∙ e.3) i ∷ []

@@ -46,8 +46,16 @@ append_band-requires-2 g t c κs within =
     let twice = halves_side c.args.level low in
     let half = c.further-middle.ensures in
     let north = c.requires.north in
-    let south = c.requires.south in
-    (search rules, (search rules, (search rules, (o.south, (band, (omega (arith, ints, north, half), (omega (arith, ints, south, half, twice), search rules)))))))
+    let south = c.requires.south in (
+      search rules,
+      (
+        search rules,
+        (
+          search rules,
+          (o.south, (band, (omega (arith, ints, north, half), (omega (arith, ints, south, half, twice), search rules)))),
+        ),
+      ),
+    )
 
 pub returns-in_err-north : goal.returns-in_err-north
 returns-in_err-north g t c =

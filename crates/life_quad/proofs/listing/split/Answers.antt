@@ -96,8 +96,10 @@ returns g c =
     let twice = halves_side c.args.level c.requires.low in
     let half = c.further-east.ensures in
     let first : to_z w64 (of_z w64 c.args.placed.column) ≡ c.args.placed.column = omega (arith, ints, west, east) in
-    let second : to_z w64 (of_z w64 c.further-east.result) ≡ c.args.placed.column +ℤ pos (2 ^ (c.args.level - 1)) = omega (arith, ints, half, west, east, twice) in
-    let northern = northern_kept (2 ^ (c.args.level - 1)) _ _ _ _ _ _ _ _ _ _ _ d.square first second c.in_ok-keep.ensures.pieces c.in_ok-keep-2.ensures.pieces in
+    let second : to_z w64 (of_z w64 c.further-east.result) ≡ c.args.placed.column +ℤ pos (2 ^ (c.args.level - 1)) = omega
+    (arith, ints, half, west, east, twice) in
+    let northern = northern_kept (2 ^ (c.args.level - 1)) _ _ _ _ _ _ _ _ _ _ _ d.square first second c.in_ok-keep.ensures.pieces
+    c.in_ok-keep-2.ensures.pieces in
     record {
       north = on_ok_weaker c.keep-4.result (λ _. c.in_ok-keep-2.ensures.each) c.keep-4.ensures.each;
       south = c.keep-4.ensures.each;

@@ -188,8 +188,10 @@ returns g c =
     let s = c.join-4.new.self in
     let o = c.args.squares.now in
     let e = C o c.empty-e.result in
-    let whole : quad (C s c.in_ok-north_west.north_west) (C s c.in_ok-north_east.north_east) (C s c.in_ok-south_west.south_west) (C s c.in_ok-south_east.south_east)
-    ≡ quad (quad e e e (C o c.divide.result.nw)) (quad e e (C o c.divide.result.ne) e) (quad e (C o c.divide.result.sw) e e) (quad (C o c.divide.result.se) e e e) =
+    let whole : quad (C s c.in_ok-north_west.north_west) (C s c.in_ok-north_east.north_east) (C s c.in_ok-south_west.south_west)
+    (C s c.in_ok-south_east.south_east)
+    ≡ quad (quad e e e (C o c.divide.result.nw)) (quad e e (C o c.divide.result.ne) e) (quad e (C o c.divide.result.sw) e e)
+    (quad (C o c.divide.result.se) e e e) =
     (λ i. quad (nw i) (ne i) (sw i) (se i)) in
     let N = g.S.Squares.needs_node in
     let keeps = keeps-then (keeps-then (keeps-then first.keeps second.keeps) third.keeps) fourth.keeps in

@@ -111,7 +111,8 @@ set_halves-returns-in_err-new_left g t c =
     let beyond : c.args.half < c.args.column + c.args.len = grind (arith, c.if-end-half.false) in
     let f = c.ranges.state in
     let sides : 2 ^ depth (g.S.Squares.content o c.args.right) ≡ c.args.half = ap (λ d. 2 ^ d) r.one_level ∙ sym r.side in
-    let other = with_span c.args.state (omega arith) (g.S.Squares.content o c.args.right) (g.met.S.Squares.full o c.args.right r.right) 0 c.args.row (c.args.column + c.args.len - c.args.half)
+    let other = with_span c.args.state (omega arith) (g.S.Squares.content o c.args.right) (g.met.S.Squares.full o c.args.right r.right) 0 c.args.row
+    (c.args.column + c.args.len - c.args.half)
     (omega (arith, beyond)) (omega (arith, r.columns, sides)) (omega (arith, r.rows, sides)) in
     refused _ _ told.result told.ensures.1 call.keeps call.refusals (λ f. call.full (ap Err f)) (λ f. call.room (ap Err f))
     (n.0, other.0, SetsHalves-both _ _ c.args.half _ _ _ _ r.side r.one_level n.0 other.0 inside beyond n.1 other.1, inl n.2)

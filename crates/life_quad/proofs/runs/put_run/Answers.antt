@@ -20,7 +20,8 @@ offset-requires-2-clause-small g c =
 
 pub returns : goal.returns
 returns g c =
-    let half : c.half_side-half.result ≡ half_side (g.S.Squares.content c.args.squares.now c.args.root) = c.half_side-half.ensures.half ∙ ap (λ l. 2 ^ (l - 1)) c.level.ensures.level in
+    let half : c.half_side-half.result ≡ half_side (g.S.Squares.content c.args.squares.now c.args.root) = c.half_side-half.ensures.half
+    ∙ ap (λ l. 2 ^ (l - 1)) c.level.ensures.level in
     let ex : pos c.offset.result ≡ c.args.x +ℤ pos c.half_side-half.result = omega (arith, ints, c.offset.ensures, c.ranges.x) in
     let ey : pos c.offset-2.result ≡ c.args.y +ℤ pos c.half_side-half.result = omega (arith, ints, c.offset-2.ensures, c.ranges.y) in
     let x = ex ∙ ap (λ h. c.args.x +ℤ pos h) half in

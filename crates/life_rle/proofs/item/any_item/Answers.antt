@@ -13,7 +13,8 @@ no_mark : (b : ℕ) → (b ≡ 33 → ⊥) → (b == 33) ≡ false
 no_mark b h = grind (arith, nat_tests)
 
 -- an item has its digits in front
-item_is : (level : ℕ) (text : List ℕ) → 0 < length text → (get_or text 0 0 ≡ 33 → ⊥) → item_in level text ≡ counted level (front_digits text) (behind_digits text)
+item_is : (level : ℕ) (text : List ℕ) → 0 < length text → (get_or text 0 0 ≡ 33 → ⊥)
+    → item_in level text ≡ counted level (front_digits text) (behind_digits text)
 item_is level [] h n = absurd (omega arith)
 item_is level (b ∷ text) h n = ap (λ v. cond v Mark (counted level (front_digits (b ∷ text)) (behind_digits (b ∷ text)))) (no_mark b n)
 

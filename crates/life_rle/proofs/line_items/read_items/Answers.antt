@@ -29,7 +29,8 @@ returns-in_err-cursor-in-Spelled-clause-fault c =
     let told : (kind ≡ Memory) ⊎ (item_fault MAX_LEVEL rule now.y now.x item ≡ Some kind) = c.in_err-cursor-in-Spelled.ensures.fault in
     let answer : (kind ≡ Memory) ⊎ ItemsBreak MAX_LEVEL rule c.args.from line kind = elim told [
       | inl m ↦ inl m
-      | inr f ↦ inr (bad_item h.items item c.in-Spelled.behind.now (spelled-as MAX_LEVEL line h.items _ _ h.read.spelled (sym c.in-Spelled.ensures)) h.read.sound
+      | inr f ↦ inr (bad_item h.items item c.in-Spelled.behind.now (spelled-as MAX_LEVEL line h.items _ _ h.read.spelled (sym c.in-Spelled.ensures))
+          h.read.sound
           (subst (λ (c : Cursor). item_fault MAX_LEVEL rule c.y c.x item ≡ Some kind) h.read.cursor f))
     ] in
     let p = err_from_is_err_and c.from_residual-in_err-cursor-in-Spelled.result c.from_residual-in_err-cursor-in-Spelled.ensures.1 in
@@ -45,5 +46,7 @@ loop-kind-preserved c =
     let line = c.args.line.now in
     let rule = c.args.rule.now in
     let said = c.in_ok-cursor-in-Spelled.ensures in
-    reads_more MAX_LEVEL rule c.args.from c.loop-kind.cursor line c.in-Spelled.behind.now c.reserve_runs.new.runs.items c.loop-kind.runs.items c.take_item.new.runs.items c.in-Spelled.item c.in_ok-cursor-in-Spelled.cursor
-    (reads-as MAX_LEVEL rule c.args.from line _ _ c.loop-kind.cursor c.reserve_runs.new.runs.items c.loop-kind.runs.items c.loop-kind.invariant (sym c.in-Spelled.ensures)) said.sound said.cursor said.near said.runs
+    reads_more MAX_LEVEL rule c.args.from c.loop-kind.cursor line c.in-Spelled.behind.now c.reserve_runs.new.runs.items c.loop-kind.runs.items
+    c.take_item.new.runs.items c.in-Spelled.item c.in_ok-cursor-in-Spelled.cursor
+    (reads-as MAX_LEVEL rule c.args.from line _ _ c.loop-kind.cursor c.reserve_runs.new.runs.items c.loop-kind.runs.items c.loop-kind.invariant
+    (sym c.in-Spelled.ensures)) said.sound said.cursor said.near said.runs

@@ -14,4 +14,10 @@ pub returns-else-capacity-len-clause-room : goal.returns-else-capacity-len-claus
 returns-else-capacity-len-clause-room c =
     let line = c.args.line.now in
     let ended : ℕ → Bool = λ b. not (b == 33) in
-    omega (arith, few is_run_end line _ (take_while ended line) (split_length line (prefix_len ended line)), c.capacity.ensures, c.len.ensures, c.if-capacity-len.false)
+    omega (
+      arith,
+      few is_run_end line _ (take_while ended line) (split_length line (prefix_len ended line)),
+      c.capacity.ensures,
+      c.len.ensures,
+      c.if-capacity-len.false,
+    )

@@ -19,7 +19,8 @@ use Rattle.life_rle.proofs.lines.after_line.Goals as goal
 -- what a fault of the line tells
 abbrev Tells : Phase → Cursor → List ℕ → Kind → Type 0
 Tells phase cursor line kind =
-    (kind ≡ Memory) ⊎ ((kind ≡ Spent) × (is_refused phase ≡ true)) ⊎ ((lines : List (List ℕ)) → StandsAt MAX_LEVEL phase cursor lines → Breaks MAX_LEVEL lines line kind)
+    (kind ≡ Memory) ⊎ ((kind ≡ Spent) × (is_refused phase ≡ true))
+    ⊎ ((lines : List (List ℕ)) → StandsAt MAX_LEVEL phase cursor lines → Breaks MAX_LEVEL lines line kind)
 
 pub returns-in-Before-clause-fault : goal.returns-in-Before-clause-fault
 returns-in-Before-clause-fault c =
@@ -40,10 +41,18 @@ returns-in-Items-clause-fault c =
     (IfErr-weaker c.behind_header.result
     (λ kind. (kind ≡ Memory) ⊎ (later_of line ≡ Err kind) ⊎ ((later_of line ≡ Ok Data) × ItemsBreak MAX_LEVEL rule cursor line kind))
     (Tells (phases.Items rule position) cursor line)
-    (λ kind h. elim h [ inl m ↦ inl m | inr e ↦ elim e [ inl f ↦ inr (inr (breaks-form MAX_LEVEL rule position cursor line kind f)) | inr b ↦ inr (inr (breaks-items MAX_LEVEL rule position cursor line kind b.0 b.1)) ] ]) c.behind_header.ensures.fault)
+    (λ kind h. elim h [
+      | inl m ↦ inl m
+      | inr e ↦ elim e [
+        | inl f ↦ inr (inr (breaks-form MAX_LEVEL rule position cursor line kind f))
+        | inr b ↦ inr
+            (inr (breaks-items MAX_LEVEL rule position cursor line kind b.0 b.1))
+      ]
+    ]) c.behind_header.ensures.fault)
 
 pub returns-in-Over-clause-advance : goal.returns-in-Over-clause-advance
 returns-in-Over-clause-advance c =
     let runs : List Run = c.args.runs.now.items in
-    subst (λ (p : Phase). TakesLine MAX_LEVEL p c.args.cursor c.args.line.now (phases.Over c.in-Over.rule c.in-Over.position) c.args.cursor runs runs) (sym c.in-Over.is)
+    subst (λ (p : Phase). TakesLine MAX_LEVEL p c.args.cursor c.args.line.now (phases.Over c.in-Over.rule c.in-Over.position) c.args.cursor runs runs)
+    (sym c.in-Over.is)
     (record { runs = []; advances = adv-over MAX_LEVEL c.in-Over.rule c.in-Over.position c.args.cursor c.args.line.now; added = sym (append-nil runs) })

@@ -21,11 +21,13 @@ returns-clause-advance c =
     let after : List Run = c.read_items.new.runs.items in
     elim c.if-read.branch [
       | then-read w ↦
-          let read : IsRead MAX_LEVEL rule c.args.cursor line h.items Mark now h.found = subst (λ b. IsRead MAX_LEVEL rule c.args.cursor line h.items (last_of b) now h.found) w.if-read.true h.read in
+          let read : IsRead MAX_LEVEL rule c.args.cursor line h.items Mark now h.found = subst
+          (λ b. IsRead MAX_LEVEL rule c.args.cursor line h.items (last_of b) now h.found) w.if-read.true h.read in
           subst (λ (p : Phase). TakesLine MAX_LEVEL (phases.Items rule position) c.args.cursor line p now before after) (sym w.phase-is)
           (record { runs = h.found; advances = adv-mark MAX_LEVEL rule position c.args.cursor now line h.items h.found c.requires.data read; added = h.added })
       | else-read w ↦
-          let read : IsRead MAX_LEVEL rule c.args.cursor line h.items End now h.found = subst (λ b. IsRead MAX_LEVEL rule c.args.cursor line h.items (last_of b) now h.found) w.if-read.false h.read in
+          let read : IsRead MAX_LEVEL rule c.args.cursor line h.items End now h.found = subst
+          (λ b. IsRead MAX_LEVEL rule c.args.cursor line h.items (last_of b) now h.found) w.if-read.false h.read in
           subst (λ (p : Phase). TakesLine MAX_LEVEL (phases.Items rule position) c.args.cursor line p now before after) (sym w.phase-is)
           (record { runs = h.found; advances = adv-items MAX_LEVEL rule position c.args.cursor now line h.items h.found c.requires.data read; added = h.added })
     ]

@@ -13,6 +13,8 @@ pub returns-clause-cell : goal.returns-clause-cell
 returns-clause-cell c =
     let r = c.requires in
     let out = c.args.out.now.items in
-    let run = subst (λ item. Puts c.args.rule.now c.args.pen.used (item ∷ []) out c.in_ok-used.used c.put_item.new.out.items) c.run_of.ensures c.in_ok-used.ensures.item in
+    let run = subst (λ item. Puts c.args.rule.now c.args.pen.used (item ∷ []) out c.in_ok-used.used c.put_item.new.out.items) c.run_of.ensures
+    c.in_ok-used.ensures.item in
     subst (λ next. WritesCell c.args.rule.now c.args.pen c.args.cell.now out next c.put_way.new.out.items) (sym c.next_pen.ensures)
-    (take-ended c.args.rule.now c.args.pen c.args.cell.now out c.in_ok-used.used c.put_item.new.out.items c.in_ok-used-2.used c.put_way.new.out.items r.pen r.cell r.ahead (sym c.joins.ensures ∙ c.if-joins.false) run c.in_ok-used-2.ensures.way)
+    (take-ended c.args.rule.now c.args.pen c.args.cell.now out c.in_ok-used.used c.put_item.new.out.items c.in_ok-used-2.used c.put_way.new.out.items r.pen
+    r.cell r.ahead (sym c.joins.ensures ∙ c.if-joins.false) run c.in_ok-used-2.ensures.way)

@@ -11,7 +11,8 @@ returns-in_err-position c =
     let word : List ℕ = c.split_word.result.0.now in
     let others : List (List ℕ) = words_of c.split_word.result.1.now in
     let kind : Kind = c.in_err-position.field-0.0 in
-    let all : words_of c.loop-field.rest.now ≡ word ∷ others = word-first word others (words_of c.loop-field.rest.now) c.split_word.ensures.words (sym c.is_empty.ensures ∙ c.if-is_empty.false) in
+    let all : words_of c.loop-field.rest.now ≡ word ∷ others = word-first word others (words_of c.loop-field.rest.now) c.split_word.ensures.words
+    (sym c.is_empty.ensures ∙ c.if-is_empty.false) in
     let refused : c.with_field.result ≡ Err kind = search rules in
     let told : c.from_residual.result ≡ Err kind = search rules in
     told ∙ sym (position-stop MAX_LEVEL c.loop-field.position kind word others (sym refused ∙ c.with_field.ensures))

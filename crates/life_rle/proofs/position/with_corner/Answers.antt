@@ -19,15 +19,18 @@ abbrev then : Position → Field → Result Position Kind
 then position found = Ok (with_field position found)
 
 -- the two parts of the text are the parts of the definition
-parts : (a b a' b' : List ℕ) (f : Field → Result Position Kind) → a ≡ a' → b ≡ b' → and_then (corner_of MAX_LEVEL (signed_number a) (signed_number b)) f ≡ and_then (corner_of MAX_LEVEL (signed_number a') (signed_number b')) f
-parts a b a' b' f e g = ap (λ t. and_then (corner_of MAX_LEVEL (signed_number t) (signed_number b)) f) e ∙ ap (λ t. and_then (corner_of MAX_LEVEL (signed_number a') (signed_number t)) f) g
+parts : (a b a' b' : List ℕ) (f : Field → Result Position Kind) → a ≡ a' → b ≡ b' → and_then (corner_of MAX_LEVEL (signed_number a) (signed_number b)) f
+    ≡ and_then (corner_of MAX_LEVEL (signed_number a') (signed_number b')) f
+parts a b a' b' f e g = ap (λ t. and_then (corner_of MAX_LEVEL (signed_number t) (signed_number b)) f) e
+    ∙ ap (λ t. and_then (corner_of MAX_LEVEL (signed_number a') (signed_number t)) f) g
 
 pub returns-in_default-signed_number : goal.returns-in_default-signed_number
 returns-in_default-signed_number c =
     let F : Field → Result Position Kind = then c.args.position in
     let p = c.split_at_comma.result in
     let e = c.split_at_comma.ensures in
-    sym (corner-no_second MAX_LEVEL c.in-Some.x (signed_number p.0.now) (signed_number p.1.now) F c.in-Some.ensures.value c.in_default-signed_number.ensures.value)
+    sym (corner-no_second MAX_LEVEL c.in-Some.x (signed_number p.0.now) (signed_number p.1.now) F c.in-Some.ensures.value
+    c.in_default-signed_number.ensures.value)
     ∙ parts p.0.now p.1.now _ _ F e.before e.after
 
 pub returns-then-not-is_coordinate : goal.returns-then-not-is_coordinate
@@ -35,8 +38,10 @@ returns-then-not-is_coordinate c =
     let F : Field → Result Position Kind = then c.args.position in
     let p = c.split_at_comma.result in
     let e = c.split_at_comma.ensures in
-    let out : is_coordinate MAX_LEVEL c.in-Some.x ≡ false = ap (is_coordinate MAX_LEVEL) (sym (same_z c.in-Some.x c.in-Some.ensures.small)) ∙ sym c.if-not-is_coordinate.ensures in
-    sym (corner-left MAX_LEVEL c.in-Some.x c.in-Some-signed_number.y (signed_number p.0.now) (signed_number p.1.now) F c.in-Some.ensures.value c.in-Some-signed_number.ensures.value out)
+    let out : is_coordinate MAX_LEVEL c.in-Some.x ≡ false = ap (is_coordinate MAX_LEVEL) (sym (same_z c.in-Some.x c.in-Some.ensures.small))
+    ∙ sym c.if-not-is_coordinate.ensures in
+    sym (corner-left MAX_LEVEL c.in-Some.x c.in-Some-signed_number.y (signed_number p.0.now) (signed_number p.1.now) F c.in-Some.ensures.value
+    c.in-Some-signed_number.ensures.value out)
     ∙ parts p.0.now p.1.now _ _ F e.before e.after
 
 pub returns-then-not-is_coordinate-2 : goal.returns-then-not-is_coordinate-2
@@ -44,8 +49,10 @@ returns-then-not-is_coordinate-2 c =
     let F : Field → Result Position Kind = then c.args.position in
     let p = c.split_at_comma.result in
     let e = c.split_at_comma.ensures in
-    let out : is_coordinate MAX_LEVEL c.in-Some-signed_number.y ≡ false = ap (is_coordinate MAX_LEVEL) (sym (same_z c.in-Some-signed_number.y c.in-Some-signed_number.ensures.small)) ∙ sym c.if-not-is_coordinate-2.ensures in
-    sym (corner-right MAX_LEVEL c.in-Some.x c.in-Some-signed_number.y (signed_number p.0.now) (signed_number p.1.now) F c.in-Some.ensures.value c.in-Some-signed_number.ensures.value out)
+    let out : is_coordinate MAX_LEVEL c.in-Some-signed_number.y ≡ false = ap (is_coordinate MAX_LEVEL)
+    (sym (same_z c.in-Some-signed_number.y c.in-Some-signed_number.ensures.small)) ∙ sym c.if-not-is_coordinate-2.ensures in
+    sym (corner-right MAX_LEVEL c.in-Some.x c.in-Some-signed_number.y (signed_number p.0.now) (signed_number p.1.now) F c.in-Some.ensures.value
+    c.in-Some-signed_number.ensures.value out)
     ∙ parts p.0.now p.1.now _ _ F e.before e.after
 
 pub returns : goal.returns

@@ -22,4 +22,5 @@ returns-then-begins_with-2 c =
     let e2 : begins_with c.args.field.now (codes "Gen=") ≡ true = search rules in
     let field : List ℕ = c.args.field.now in
     let F : Field → Result Position Kind = λ found. Ok (with_field c.args.position found) in
-    c.with_generation.ensures ∙ ap (λ t. and_then (and_then (u64_of t) (λ n. Ok (Generation n))) F) (all_behind field 4) ∙ sym (field-generation MAX_LEVEL field F e e2)
+    c.with_generation.ensures ∙ ap (λ t. and_then (and_then (u64_of t) (λ n. Ok (Generation n))) F) (all_behind field 4)
+    ∙ sym (field-generation MAX_LEVEL field F e e2)

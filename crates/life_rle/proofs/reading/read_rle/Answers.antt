@@ -28,8 +28,10 @@ returns-in_err-take_numbered-clause-fault c =
     let lines : List (List ℕ) = lines_of c.args.bytes.now in
     let front : List (List ℕ) = c.loop-number.reader.lines in
     let fault : Fault = c.in_err-take_numbered.field-0.0 in
-    let told : OrMemory fault (Breaks MAX_LEVEL front c.in-Some.line.now fault.kind × (fault.place.line ≡ c.in-Some.number)) = c.in_err-take_numbered.ensures.fault in
-    let all : pairs ++ (c.in-Some.number, c.in-Some.line.now) ∷ numbered_from c.next.new.self.number (lines_of c.next.new.self.rest.now) ≡ numbered_from 1 lines =
+    let told : OrMemory fault (Breaks MAX_LEVEL front c.in-Some.line.now fault.kind × (fault.place.line ≡ c.in-Some.number))
+    = c.in_err-take_numbered.ensures.fault in
+    let all : pairs ++ (c.in-Some.number, c.in-Some.line.now) ∷ numbered_from c.next.new.self.number (lines_of c.next.new.self.rest.now)
+    ≡ numbered_from 1 lines =
     ap (λ (t : List (ℕ × List ℕ)). pairs ++ t) (sym c.in-Some.ensures.steps) ∙ c.loop-number.invariant.all in
     let answer : OrMemory fault (Refuses MAX_LEVEL lines fault) = elim told [
       | inl m ↦ inl m
@@ -42,8 +44,10 @@ returns-in_err-take_numbered-clause-kinds c =
     let p = err_from_is_err_and c.from_residual.result c.from_residual.ensures.1 in
     let front : List (List ℕ) = c.loop-number.reader.lines in
     let fault : Fault = c.in_err-take_numbered.field-0.0 in
-    let told : OrMemory fault (Breaks MAX_LEVEL front c.in-Some.line.now fault.kind × (fault.place.line ≡ c.in-Some.number)) = c.in_err-take_numbered.ensures.fault in
-    let answer : OrMemory fault (is_rle_kind fault.kind ≡ true) = elim told [ inl m ↦ inl m | inr w ↦ inr (Breaks-kind MAX_LEVEL front c.in-Some.line.now fault.kind w.0) ] in
+    let told : OrMemory fault (Breaks MAX_LEVEL front c.in-Some.line.now fault.kind × (fault.place.line ≡ c.in-Some.number))
+    = c.in_err-take_numbered.ensures.fault in
+    let answer : OrMemory fault (is_rle_kind fault.kind ≡ true) = elim told
+    [ inl m ↦ inl m | inr w ↦ inr (Breaks-kind MAX_LEVEL front c.in-Some.line.now fault.kind w.0) ] in
     rw (p.1, p.2) answer
 
 pub returns-in-Err-clause-kinds : goal.returns-in-Err-clause-kinds
@@ -54,7 +58,8 @@ returns-in-Err-clause-kinds c =
     let only : (kind ≡ NoHeader) ⊎ (kind ≡ Spent) = c.in-Err.ensures.only in
     let answer : OrMemory c.at.result (is_rle_kind c.at.result.kind ≡ true) = elim only [
       | inl m ↦ inr (ap is_rle_kind (same ∙ m))
-      | inr s ↦ (let refused : c.loop-number.reader.refused ≡ true = c.in-Err.ensures.spent.0 (ap Err s) in let fresh : c.loop-number.reader.refused ≡ false = c.loop-number.invariant.fresh in cc)
+      | inr s ↦ (let refused : c.loop-number.reader.refused ≡ true = c.in-Err.ensures.spent.0 (ap Err s) in
+          let fresh : c.loop-number.reader.refused ≡ false = c.loop-number.invariant.fresh in cc)
     ] in
     answer
 
@@ -66,7 +71,8 @@ returns-in-Ok-clause-file c =
     let told = c.in-Ok.ensures.file in
     let file : Rle = told.0 in
     let is : IsRle MAX_LEVEL lines file = subst (λ ls. IsRle MAX_LEVEL ls file) whole told.1 in
-    let runs : HasRuns MAX_LEVEL lines c.loop-number.runs.items = subst (λ ls. HasRuns MAX_LEVEL ls c.loop-number.runs.items) whole c.loop-number.invariant.found in (
+    let runs : HasRuns MAX_LEVEL lines c.loop-number.runs.items = subst (λ ls. HasRuns MAX_LEVEL ls c.loop-number.runs.items) whole
+    c.loop-number.invariant.found in (
       file,
       (files_are_plain MAX_LEVEL lines file).0 is,
       subst (λ (v : RleFile). Shows v file) (sym c.file_of.ensures) (record {
@@ -92,7 +98,8 @@ returns-in-Err-clause-fault c =
           inr (subst (Refuses MAX_LEVEL lines) (sym e)
           (refused_at_end MAX_LEVEL lines c.loop-number.reader.lines pre.0 number c.loop-number.last kind
           whole pre.1 m c.loop-number.invariant.counted c.saturating_add.ensures)))
-      | inr s ↦ (let refused : c.loop-number.reader.refused ≡ true = c.in-Err.ensures.spent.0 (ap Err s) in let fresh : c.loop-number.reader.refused ≡ false = c.loop-number.invariant.fresh in cc)
+      | inr s ↦ (let refused : c.loop-number.reader.refused ≡ true = c.in-Err.ensures.spent.0 (ap Err s) in
+          let fresh : c.loop-number.reader.refused ≡ false = c.loop-number.invariant.fresh in cc)
     ] in
     answer
 
@@ -119,7 +126,8 @@ loop-number-preserved c =
     let lines : List (List ℕ) = lines_of c.args.bytes.now in
     let old : List (List ℕ) = c.loop-number.reader.lines in
     let e = c.in_ok-take_numbered.ensures.lines in
-    let all : pairs ++ (c.in-Some.number, line) ∷ rest ≡ numbered_from 1 lines = ap (λ (t : List (ℕ × List ℕ)). pairs ++ t) (sym c.in-Some.ensures.steps) ∙ c.loop-number.invariant.all in
+    let all : pairs ++ (c.in-Some.number, line) ∷ rest ≡ numbered_from 1 lines = ap (λ (t : List (ℕ × List ℕ)). pairs ++ t) (sym c.in-Some.ensures.steps)
+    ∙ c.loop-number.invariant.all in
     let more : map numbered (c.loop-number.yielded ++ one) ≡ pairs ++ here = map-append numbered c.loop-number.yielded one in
     let new : c.take_numbered.new.reader.lines ≡ old ++ line ∷ [] = ap (λ (v : LinesRead). v.lines) e in
     let long : length c.take_numbered.new.reader.lines ≡ length old + 1 = ap length new ∙ length-append old (line ∷ []) in

@@ -26,7 +26,8 @@ returns-in-Err-clause-fault c =
     let answer : OrMemory c.at.result (Breaks MAX_LEVEL lines line c.at.result.kind × (c.at.result.place.line ≡ number)) = elim told [
       | inl m ↦ inl (e ∙ ap (fault_at number) m)
       | inr t ↦ elim t [
-        | inl s ↦ (let r : c.args.reader.now.refused ≡ true = c.in-Err.ensures.spent.0 (ap Err s) in let q : c.args.reader.now.refused ≡ false = c.requires in cc)
+        | inl s ↦ (let r : c.args.reader.now.refused ≡ true = c.in-Err.ensures.spent.0 (ap Err s) in let q : c.args.reader.now.refused ≡ false = c.requires in
+            cc)
         | inr b ↦ inr (
           subst (Breaks MAX_LEVEL lines line) (sym (ap (λ (f : Fault). f.kind) e)) b,
           ap (λ (f : Fault). f.place.line) e ∙ ap (λ v. cond v 0 number) (Breaks-placed MAX_LEVEL lines line kind b),

@@ -16,14 +16,16 @@ pub height_of-requires : goal.height_of-requires
 height_of-requires c = subst IsInPlane (sym c.bounds_of-bounds.ensures) (sorted-IsInPlane c.args.rule.now c.args.first.now c.args.cells.now c.requires)
 
 pub write_cells-requires-clause-left : goal.write_cells-requires-clause-left
-write_cells-requires-clause-left c = (subst IsInPlane (sym c.bounds_of-bounds.ensures) (sorted-IsInPlane c.args.rule.now c.args.first.now c.args.cells.now c.requires)).left
+write_cells-requires-clause-left c
+    = (subst IsInPlane (sym c.bounds_of-bounds.ensures) (sorted-IsInPlane c.args.rule.now c.args.first.now c.args.cells.now c.requires)).left
 
 pub write_cells-requires-clause-top : goal.write_cells-requires-clause-top
 write_cells-requires-clause-top c = ap (λ (b : Bounds). b.top) c.bounds_of-bounds.ensures ∙ box-top c.args.rule.now c.args.first.now c.args.cells.now c.requires
 
 pub write_cells-requires-clause-cells : goal.write_cells-requires-clause-cells
 write_cells-requires-clause-cells c =
-    subst (λ (b : Bounds). Follow c.args.rule.now b.left b.left b.top (c.args.first.now ∷ c.args.cells.now)) (sym c.bounds_of-bounds.ensures) (sorted-Follow c.args.rule.now c.args.first.now c.args.cells.now c.requires)
+    subst (λ (b : Bounds). Follow c.args.rule.now b.left b.left b.top (c.args.first.now ∷ c.args.cells.now)) (sym c.bounds_of-bounds.ensures)
+    (sorted-Follow c.args.rule.now c.args.first.now c.args.cells.now c.requires)
 
 pub returns-clause-ok : goal.returns-clause-ok
 returns-clause-ok c =
@@ -37,9 +39,11 @@ returns-clause-ok c =
     let text = λ (lines : List (List ℕ)). old ++ flat_map (λ line. line ++ 10 ∷ []) lines in
     on_ok_weaker c.write_cells.result
     (λ e.
-    lines-text (position_text corner.x corner.y corner.generation) (header_text c.width_of.result c.height_of.result rule) rule items old c.append_position.new.out.items c.append_header.new.out.items c.write_cells.new.out.items
+    lines-text (position_text corner.x corner.y corner.generation) (header_text c.width_of.result c.height_of.result rule) rule items old
+    c.append_position.new.out.items c.append_header.new.out.items c.write_cells.new.out.items
     c.in_ok-append_position.ensures.ok c.in_ok-append_header.ensures.ok e
-    ∙ ap (λ (p : Position). text (position_text p.x p.y p.generation ∷ header_text c.width_of.result c.height_of.result rule ∷ item_lines rule items)) c.corner_of.ensures
+    ∙ ap (λ (p : Position). text (position_text p.x p.y p.generation ∷ header_text c.width_of.result c.height_of.result rule ∷ item_lines rule items))
+    c.corner_of.ensures
     ∙ ap (λ w. text (position_text box.left box.top g ∷ header_text w c.height_of.result rule ∷ item_lines rule items)) c.width_of.ensures
     ∙ ap (λ h. text (position_text box.left box.top g ∷ header_text (span box.left box.right) h rule ∷ item_lines rule items)) c.height_of.ensures
     ∙ ap (λ (b : Bounds). text (lines_in_box rule g b (items_from b.left b.left b.top all))) c.bounds_of-bounds.ensures)

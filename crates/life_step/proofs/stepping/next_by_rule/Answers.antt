@@ -72,7 +72,8 @@ text_of_square-requires-clause-states c =
     let t = content c.args.store.now c.args.pattern.root in
     let next = content c.next_life_generation.new.squares c.in_ok-square.square in
     let life = c.in-Life.rule in
-    λ x y. subst (λ q. tree_cell next x y ≤ largest_state q) (sym c.in-Life.is) (subst (λ n. n ≤ 1) (sym (c.in_ok-square.ensures.next x y)) (next-small life (tree_cell t) x y))
+    λ x y. subst (λ q. tree_cell next x y ≤ largest_state q) (sym c.in-Life.is)
+    (subst (λ n. n ≤ 1) (sym (c.in_ok-square.ensures.next x y)) (next-small life (tree_cell t) x y))
 
 pub text_of_square-requires-clause-high : goal.text_of_square-requires-clause-high
 text_of_square-requires-clause-high c =

@@ -81,7 +81,8 @@ returns-clause-stepped c =
     let same : law ≡ c.args.table.now = c.in_ok-by_table.ensures.table in
     let next = content c.next_generation.new.squares c.in_ok-square.square in
     let none = subst (λ (T : Table). GenerationRefusal (TableAnswers T) T.n_states (2 ^ 20) t None) same c.in_ok-square.ensures.accepted in
-    let cells = subst (λ (T : Table). (x y : ℤ) → TableAnswers T (states_at (tree_cell t) x y) (Becomes (tree_cell next x y))) same c.in_ok-square.ensures.next in
+    let cells = subst (λ (T : Table). (x y : ℤ) → TableAnswers T (states_at (tree_cell t) x y) (Becomes (tree_cell next x y))) same
+    c.in_ok-square.ensures.next in
     IfOk-weaker c.text_of_square.result _ _
     (λ text h bytes r. table-stepped-read c.patterns_fit.ensures c.args.store.now c.args.pattern bytes r c.table_answers_at.ensures c.one_answer.ensures
     c.args.table.now (c.is_rule_of.ensures.0 c.if-not-is_rule_of.false) c.in_ok-generation.ensures.some c.in_ok-generation.generation next text.items
@@ -99,7 +100,8 @@ returns-in_err-square-clause-needed c =
     rw (p.1, p.2)
     (λ full. (
       c.is_rule_of.ensures.0 c.if-not-is_rule_of.false,
-      subst (λ (T : Table). SomeOfTable P T root) c.in_ok-by_table.ensures.table (of_next (c.in_err-square.ensures.needed (full-again c.in_err-square.field-0.0 full))),
+      subst (λ (T : Table). SomeOfTable P T root) c.in_ok-by_table.ensures.table
+          (of_next (c.in_err-square.ensures.needed (full-again c.in_err-square.field-0.0 full))),
     ))
 
 pub returns-clause-needed : goal.returns-clause-needed
@@ -111,7 +113,8 @@ returns-clause-needed c full =
     let next = content mid id in
     let store = c.text_of_square.new.store in
     let is = c.is_rule_of.ensures.0 c.if-not-is_rule_of.false in
-    let cells = subst (λ (T : Table). (x y : ℤ) → TableAnswers T (states_at (tree_cell t) x y) (Becomes (tree_cell next x y))) c.in_ok-by_table.ensures.table c.in_ok-square.ensures.next in (
+    let cells = subst (λ (T : Table). (x y : ℤ) → TableAnswers T (states_at (tree_cell t) x y) (Becomes (tree_cell next x y))) c.in_ok-by_table.ensures.table
+    c.in_ok-square.ensures.next in (
       is,
       of_next_root (tree_cell next) (λ x y. (c.table_answers_at.ensures table (tree_cell t) x y _).0 (cells x y)) (record {
         square = next;

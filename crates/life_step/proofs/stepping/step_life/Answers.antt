@@ -17,7 +17,8 @@ returns-clause-stepped c = IfOk-weaker c.next_by_rule.result _ _ (λ text h. h c
 
 pub returns-clause-refused : goal.returns-clause-refused
 returns-clause-refused c =
-    step-refused c.args.bytes.now _ _ _ (λ fault u. LifeRefusal MAX_LEVEL u (Some fault)) c.in_ok-pattern.ensures.pattern c.next_by_rule.result c.next_by_rule.ensures.refused
+    step-refused c.args.bytes.now _ _ _ (λ fault u. LifeRefusal MAX_LEVEL u (Some fault)) c.in_ok-pattern.ensures.pattern c.next_by_rule.result
+    c.next_by_rule.ensures.refused
 
 pub returns-clause-keeps : goal.returns-clause-keeps
 returns-clause-keeps c = keeps-then c.in_ok-pattern.ensures.keeps c.next_by_rule.ensures.keeps
@@ -28,4 +29,5 @@ returns-in_err-pattern-clause-needed c full =
 
 pub returns-clause-needed : goal.returns-clause-needed
 returns-clause-needed c full =
-    inr (step-lacks (λ q t. LacksForLife q t c.next_by_rule.new.store) c.args.bytes.now _ _ c.in_ok-pattern.ensures.pattern (c.next_by_rule.ensures.needed full))
+    inr (step-lacks (λ q t. LacksForLife q t c.next_by_rule.new.store) c.args.bytes.now _ _ c.in_ok-pattern.ensures.pattern
+    (c.next_by_rule.ensures.needed full))

@@ -20,7 +20,8 @@ returns-clause-keeps c = keeps-then c.in_ok-pattern.ensures.keeps c.next_by_tabl
 
 pub returns-clause-refused : goal.returns-clause-refused
 returns-clause-refused c =
-    step-refused c.args.bytes.now _ _ _ (λ fault u. TableRefusal MAX_LEVEL c.args.table.now u (Some fault)) c.in_ok-pattern.ensures.pattern c.next_by_table.result c.next_by_table.ensures.refused
+    step-refused c.args.bytes.now _ _ _ (λ fault u. TableRefusal MAX_LEVEL c.args.table.now u (Some fault)) c.in_ok-pattern.ensures.pattern
+    c.next_by_table.result c.next_by_table.ensures.refused
 
 pub returns-in_err-pattern-clause-needed : goal.returns-in_err-pattern-clause-needed
 returns-in_err-pattern-clause-needed c full =
@@ -28,4 +29,5 @@ returns-in_err-pattern-clause-needed c full =
 
 pub returns-clause-needed : goal.returns-clause-needed
 returns-clause-needed c full =
-    inr (step-lacks (λ q t. LacksForTable c.args.table.now q t c.next_by_table.new.store) c.args.bytes.now _ _ c.in_ok-pattern.ensures.pattern (c.next_by_table.ensures.needed full))
+    inr (step-lacks (λ q t. LacksForTable c.args.table.now q t c.next_by_table.new.store) c.args.bytes.now _ _ c.in_ok-pattern.ensures.pattern
+    (c.next_by_table.ensures.needed full))

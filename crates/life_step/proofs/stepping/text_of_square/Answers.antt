@@ -12,7 +12,8 @@ pub text_of-requires : goal.text_of-requires
 text_of-requires c =
     let t = content c.args.store.now c.args.square in
     let full = (known_squares_are_full c.args.store.now c.args.square c.requires.known.0).0 in
-    trimmed-fits c.trim.new.squares c.args.rule c.args.generation c.in_ok-root.root t c.in_ok-root.ensures.known (c.in_ok-root.ensures.square ∙ ap (trimmed t) c.least_level.ensures)
+    trimmed-fits c.trim.new.squares c.args.rule c.args.generation c.in_ok-root.root t c.in_ok-root.ensures.known
+    (c.in_ok-root.ensures.square ∙ ap (trimmed t) c.least_level.ensures)
     full c.requires.high c.requires.states
 
 pub returns-clause-text : goal.returns-clause-text
@@ -21,7 +22,8 @@ returns-clause-text c =
     let known = known_squares_are_full c.args.store.now c.args.square c.requires.known.0 in
     IfOk-weaker c.text_of.result _ _
     (λ text.
-    text-of-square c.files_are_on_plane.ensures c.texts_are_files.ensures c.texts_tell_universes.ensures c.trim.new.squares c.args.rule c.args.generation c.in_ok-root.root t c.requires.rule
+    text-of-square c.files_are_on_plane.ensures c.texts_are_files.ensures c.texts_tell_universes.ensures c.trim.new.squares c.args.rule c.args.generation
+    c.in_ok-root.root t c.requires.rule
     c.ranges.generation.fits (c.in_ok-root.ensures.square ∙ ap (trimmed t) c.least_level.ensures) known.0 known.1 c.requires.states text.items)
     c.text_of.ensures.text
 

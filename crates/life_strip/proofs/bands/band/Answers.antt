@@ -81,8 +81,12 @@ returns-in_err-block-clause-needed g c =
     c.loop-end.block c.in-Some-two_words.upper c.in-Some-two_words-2.lower u.north u.south l.north l.south in
     let p = err_from_is_err_and c.from_residual-in_err-block.result c.from_residual-in_err-block.ensures.1 in
     rw (p.1, p.2)
-    (λ e. let some = c.in_err-block.ensures.needed (err_again e) in
-    (16 * c.loop-end.block + some.0, omega (arith, inside, some.1), subst (SomePart (g.S.Squares.needs_node c.push_rows.new.squares)) (wanted some.0 some.1) some.2))
+    (λ e. let some = c.in_err-block.ensures.needed (err_again e) in (
+      16 * c.loop-end.block + some.0,
+      omega (arith, inside, some.1),
+      subst (SomePart (g.S.Squares.needs_node c.push_rows.new.squares)) (wanted some.0 some.1)
+          some.2,
+    ))
 
 pub find-a-requires-in-Some : goal.find-a-requires-in-Some
 find-a-requires-in-Some g c =
@@ -103,12 +107,18 @@ find-b-requires-in-Some g c =
 pub find-c-requires-in-Some : goal.find-c-requires-in-Some
 find-c-requires-in-Some g c =
     let next = c.in_ok-block.ensures.beyond in
-    record { past = past_later c.args.third.now c.in-Some-two_words-2.lower.north.index (64 * c.loop-end.block + 64) (64 * c.in_ok-block.block) c.in-Some-two_words-2.ensures.north_past (omega (arith, next)) }
+    record {
+      past = past_later c.args.third.now c.in-Some-two_words-2.lower.north.index (64 * c.loop-end.block + 64) (64 * c.in_ok-block.block)
+          c.in-Some-two_words-2.ensures.north_past (omega (arith, next));
+    }
 
 pub find-d-requires-in-Some : goal.find-d-requires-in-Some
 find-d-requires-in-Some g c =
     let next = c.in_ok-block.ensures.beyond in
-    record { past = past_later c.args.fourth.now c.in-Some-two_words-2.lower.south.index (64 * c.loop-end.block + 64) (64 * c.in_ok-block.block) c.in-Some-two_words-2.ensures.south_past (omega (arith, next)) }
+    record {
+      past = past_later c.args.fourth.now c.in-Some-two_words-2.lower.south.index (64 * c.loop-end.block + 64) (64 * c.in_ok-block.block)
+          c.in-Some-two_words-2.ensures.south_past (omega (arith, next));
+    }
 
 pub loop-end-preserved : goal.loop-end-preserved
 loop-end-preserved g c =
@@ -133,7 +143,8 @@ loop-end-preserved g c =
     λ x lo before.
     four-same K C c.empty-blank.result c.empty-blank.ensures.known c.empty-blank.ensures.square c.args.first.now c.args.second.now c.args.third.now
     c.args.fourth.now r.first r.second r.third r.fourth
-    (16 * c.loop-end.block) x c.loop-end.a c.loop-end.b c.loop-end.c c.loop-end.d fa fb fc fd lo (n.first (4 * x + 3) before) (n.second (4 * x + 3) before) (n.third (4 * x + 3) before) (n.fourth (4 * x + 3) before) in (
+    (16 * c.loop-end.block) x c.loop-end.a c.loop-end.b c.loop-end.c c.loop-end.d fa fb fc fd lo (n.first (4 * x + 3) before) (n.second (4 * x + 3) before)
+    (n.third (4 * x + 3) before) (n.fourth (4 * x + 3) before) in (
       h.filled want inv.0 (λ i lt. sym (wanted i lt)) on,
       c.find-a-in-Some.ensures,
       c.find-b-in-Some.ensures,
@@ -156,9 +167,11 @@ returns-clause-within g c =
 pub returns-clause-strip : goal.returns-clause-strip
 returns-clause-strip g c =
     let C = g.S.Squares.content in
-    filled-strip (g.S.Squares.knows c.loop-end.squares) (C c.loop-end.squares) (four_at (C c.args.squares.now) c.args.first.now c.args.second.now c.args.third.now c.args.fourth.now)
+    filled-strip (g.S.Squares.knows c.loop-end.squares) (C c.loop-end.squares)
+    (four_at (C c.args.squares.now) c.args.first.now c.args.second.now c.args.third.now c.args.fourth.now)
     c.loop-end.spans.items (16 * c.loop-end.block) c.loop-end.invariant.0
-    (depth-four_at (g.S.Squares.knows c.args.squares.now) (C c.args.squares.now) c.args.first.now c.args.second.now c.args.third.now c.args.fourth.now c.requires.first)
+    (depth-four_at (g.S.Squares.knows c.args.squares.now) (C c.args.squares.now) c.args.first.now c.args.second.now c.args.third.now c.args.fourth.now
+    c.requires.first)
 
 pub returns-clause-squares : goal.returns-clause-squares
 returns-clause-squares g c =
@@ -172,7 +185,8 @@ returns-clause-squares g c =
     let fb = subst (λ k. IsFound c.args.second.now k c.empty-blank.result c.loop-end.b) at inv.2 in
     let fc = subst (λ k. IsFound c.args.third.now k c.empty-blank.result c.loop-end.c) at inv.3 in
     let fd = subst (λ k. IsFound c.args.fourth.now k c.empty-blank.result c.loop-end.d) at inv.4 in
-    filled-all (g.S.Squares.knows c.loop-end.squares) (C c.loop-end.squares) (four_at (C c.args.squares.now) c.args.first.now c.args.second.now c.args.third.now c.args.fourth.now)
+    filled-all (g.S.Squares.knows c.loop-end.squares) (C c.loop-end.squares)
+    (four_at (C c.args.squares.now) c.args.first.now c.args.second.now c.args.third.now c.args.fourth.now)
     c.loop-end.spans.items (16 * c.loop-end.block) inv.0
     (four-blank (C c.args.squares.now) (16 * c.loop-end.block) c.empty-blank.result c.args.first.now c.args.second.now c.args.third.now c.args.fourth.now
     c.loop-end.a c.loop-end.b c.loop-end.c c.loop-end.d fa fb fc fd north.0 north.1 south.0 south.1)

@@ -7,7 +7,8 @@ use Rattle.life_strip.proofs.bands.band.Given as goal
 
 abbrev pub invariant-loop-end : goal.invariant-loop-end
 invariant-loop-end g l =
-    FilledTo (g.S.Squares.knows l.squares) (g.S.Squares.content l.squares) (four_at (g.S.Squares.content l.fn.squares) l.first l.second l.third l.fourth) l.spans.items (16 * l.block)
+    FilledTo (g.S.Squares.knows l.squares) (g.S.Squares.content l.squares) (four_at (g.S.Squares.content l.fn.squares) l.first l.second l.third l.fourth)
+    l.spans.items (16 * l.block)
     × IsFound l.first (64 * l.block) l.blank l.a
     × IsFound l.second (64 * l.block) l.blank l.b
     × IsFound l.third (64 * l.block) l.blank l.c

@@ -15,15 +15,18 @@ returns-then-eq-clause-columns c column covers later =
     let some = c.in-Some.ensures.variant.0 refl in
     let place : c.args.spans.now.len - 1 + 1 ≡ length spans = omega (arith, c.args.spans.now.ok, some) in
     subst (λ q. IsExtended spans (set spans (c.args.spans.now.len - 1) record { end = c.args.end; square = q }) column c.args.end c.args.square) (sym same)
-    (extended-last column c.args.end c.args.square later spans (c.args.spans.now.len - 1) last place (ap (λ s. s.square) (sym (c.in-Some.ensures.value)) ∙ same) covers)
+    (extended-last column c.args.end c.args.square later spans (c.args.spans.now.len - 1) last place (ap (λ s. s.square) (sym (c.in-Some.ensures.value)) ∙ same)
+    covers)
 
 pub returns-clause-columns : goal.returns-clause-columns
 returns-clause-columns c column covers later =
     let kept : c.match-last_mut.spans.items ≡ c.args.spans.now.items =
     elim c.match-last_mut.branch [
       | in-Some+else-eq w ↦
-          ap (λ s. s.items) w.spans-is ∙ ap (set c.args.spans.now.items (c.args.spans.now.len - 1)) w.in-Some.ensures.value ∙ set-get_or c.args.spans.now.items (c.args.spans.now.len - 1) w.in-Some.last.now
+          ap (λ s. s.items) w.spans-is ∙ ap (set c.args.spans.now.items (c.args.spans.now.len - 1)) w.in-Some.ensures.value
+          ∙ set-get_or c.args.spans.now.items (c.args.spans.now.len - 1) w.in-Some.last.now
       | in_default w ↦ ap (λ s. s.items) w.spans-is
     ] in
-    subst (λ z. IsExtended c.args.spans.now.items z column c.args.end c.args.square) (sym (c.in_ok-push.ensures.items ∙ ap (λ z. z ++ record { end = c.args.end; square = c.args.square } ∷ []) kept))
+    subst (λ z. IsExtended c.args.spans.now.items z column c.args.end c.args.square)
+    (sym (c.in_ok-push.ensures.items ∙ ap (λ z. z ++ record { end = c.args.end; square = c.args.square } ∷ []) kept))
     (extended-push column c.args.end c.args.square later c.args.spans.now.items covers)

@@ -55,4 +55,5 @@ returns-clause-filled g c want p squares on =
     let inv = c.loop-square.invariant in
     let last : c.loop-square.square ≡ 16 = omega (arith, c.loop-square-test.false, inv.2) in
     let next : 16 * c.args.block + c.loop-square.square ≡ 16 * (c.args.block + 1) = omega (arith, last) in
-    subst (λ k. FilledTo (g.S.Squares.knows c.loop-square.squares) (g.S.Squares.content c.loop-square.squares) want c.loop-square.spans.items k) next (inv.0 want p squares)
+    subst (λ k. FilledTo (g.S.Squares.knows c.loop-square.squares) (g.S.Squares.content c.loop-square.squares) want c.loop-square.spans.items k) next
+    (inv.0 want p squares)

@@ -29,7 +29,8 @@ returns-in_err-push_row-clause-needed g t c =
     let p = err_from_is_err_and c.from_residual.result c.from_residual.ensures.1 in
     rw (p.1, p.2)
     (λ e. SomeSquare-same (omega (arith, c.if-count-eq0.false))
-    (λ i j. picture-blank (g.S.Squares.content c.args.squares.now) (c.args.strips.now.items ++ c.args.band.now.items) (record { level = 0; spans = c.new.result }) c.new.ensures.items i j)
+    (λ i j. picture-blank (g.S.Squares.content c.args.squares.now) (c.args.strips.now.items ++ c.args.band.now.items)
+    (record { level = 0; spans = c.new.result }) c.new.ensures.items i j)
     (c.in_err-push_row.ensures.needed e))
 
 pub returns-then-count-lt4-clause-keeps : goal.returns-then-count-lt4-clause-keeps
@@ -39,14 +40,16 @@ pub returns-then-count-lt4-clause-picture : goal.returns-then-count-lt4-clause-p
 returns-then-count-lt4-clause-picture g t c =
     on_ok_map c.skip_rows.result
     (λ e i j. e i j ∙ c.in_ok-push_row.ensures.picture i j
-    ∙ picture-blank (g.S.Squares.content c.args.squares.now) (c.args.strips.now.items ++ c.args.band.now.items) (record { level = 0; spans = c.new.result }) c.new.ensures.items i j)
+    ∙ picture-blank (g.S.Squares.content c.args.squares.now) (c.args.strips.now.items ++ c.args.band.now.items) (record { level = 0; spans = c.new.result })
+    c.new.ensures.items i j)
     c.skip_rows.ensures.picture
 
 pub returns-then-count-lt4-clause-needed : goal.returns-then-count-lt4-clause-needed
 returns-then-count-lt4-clause-needed g t c = λ e.
     SomeSquare-same (omega (arith, c.in_ok-push_row.ensures.height, c.if-count-eq0.false))
     (λ i j. c.in_ok-push_row.ensures.picture i j
-    ∙ picture-blank (g.S.Squares.content c.args.squares.now) (c.args.strips.now.items ++ c.args.band.now.items) (record { level = 0; spans = c.new.result }) c.new.ensures.items i j)
+    ∙ picture-blank (g.S.Squares.content c.args.squares.now) (c.args.strips.now.items ++ c.args.band.now.items) (record { level = 0; spans = c.new.result })
+    c.new.ensures.items i j)
     (c.skip_rows.ensures.needed e)
 
 pub skip_rows-requires-2 : goal.skip_rows-requires-2
@@ -56,10 +59,12 @@ skip_rows-requires-2 g t c κs within =
     let strips = c.push_strip.new.strips.items in
     let none = none_of ys (grind (arith, c.is_empty.ensures, c.if-not-is_empty.false)) in
     let level = c.blank_level-level.result in
-    let deep = c.blank_level-level.ensures.largest 2 (subst (IsLowest 2) (sym c.as_slice.ensures.value) c.requires.pile.lowest) (omega arith) (omega (arith, c.if-count-lt4.false)) in
+    let deep = c.blank_level-level.ensures.largest 2 (subst (IsLowest 2) (sym c.as_slice.ensures.value) c.requires.pile.lowest) (omega arith)
+    (omega (arith, c.if-count-lt4.false)) in
     let four = four-divides level deep in
     let r = c.in_ok-push_strip.ensures in
-    let pile = pile-alone (g.S.Squares.knows c.push_strip.new.squares) (g.S.Squares.content c.push_strip.new.squares) strips ys none r.sound r.falling (lowest-more xs strips (2 ^ level) (2 ^ (level - 2)) c.requires.pile.lowest r.falling r.height four) in
+    let pile = pile-alone (g.S.Squares.knows c.push_strip.new.squares) (g.S.Squares.content c.push_strip.new.squares) strips ys none r.sound r.falling
+    (lowest-more xs strips (2 ^ level) (2 ^ (level - 2)) c.requires.pile.lowest r.falling r.height four) in
     let h = skipped-height xs ys strips (2 ^ level) none r.height in
     (search rules, (search rules, (pile, omega (arith, h, c.requires.room, c.blank_level-level.ensures.fits))))
 
@@ -73,7 +78,8 @@ returns-in_err-push_strip-clause-needed g t c =
     let p = err_from_is_err_and c.from_residual-in_err-push_strip.result c.from_residual-in_err-push_strip.ensures.1 in
     rw (p.1, p.2)
     (λ e. SomeSquare-same (omega (arith, h, c.blank_level-level.ensures.fits))
-    (λ i j. picture-blank C xs (record { level = c.blank_level-level.result; spans = c.new-2.result }) c.new-2.ensures.items i j ∙ sym (ap (λ z. picture C z i j) none))
+    (λ i j. picture-blank C xs (record { level = c.blank_level-level.result; spans = c.new-2.result }) c.new-2.ensures.items i j
+    ∙ sym (ap (λ z. picture C z i j) none))
     (c.in_err-push_strip.ensures.needed e))
 
 pub returns-clause-keeps : goal.returns-clause-keeps

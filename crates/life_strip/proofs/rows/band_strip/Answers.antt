@@ -42,7 +42,9 @@ pub returns-in-Some-clause-picture : goal.returns-in-Some-clause-picture
 returns-in-Some-clause-picture g c =
     let C = g.S.Squares.content c.args.squares.now in
     let C' = g.S.Squares.content c.band.new.squares in
-    let squares = subst (λ o. IfSome o (λ spans. (k : ℕ) → square_at C' 2 spans.items k ≡ four_at C c.as_slice-first.result.now c.as_slice-second.result.now c.as_slice-third.result.now c.as_slice-fourth.result.now k)) c.in-Some.is
+    let squares = subst (λ o. IfSome o
+    (λ spans. (k : ℕ) → square_at C' 2 spans.items k ≡ four_at C c.as_slice-first.result.now c.as_slice-second.result.now c.as_slice-third.result.now
+    c.as_slice-fourth.result.now k)) c.in-Some.is
     c.in_ok-spans.ensures.squares in
     picture-read (g.S.Squares.knows c.args.squares.now) C c.args.rows.now c.requires.count c.requires.sound c.requires.rows _ _ _ _ _ _ _ _
     c.index-rows-0.is c.index-rows-1.is c.index-rows-2.is c.index-rows-3.is c.as_slice-first.ensures.value c.as_slice-second.ensures.value

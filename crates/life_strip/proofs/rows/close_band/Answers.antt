@@ -55,7 +55,8 @@ returns-in_err-strip-clause-needed g c =
     rw (p.1, p.2)
     (λ e. SomeSquare-same (omega (arith, h, four, c.requires.whole)) (λ i j. refl)
     (SomeSquare-below C xs ys c.requires.lowest
-    (subst (λ z. SomeSquare (g.S.Squares.needs_node c.band_strip.new.squares) 4 (picture C z)) c.as_slice.ensures.value (c.in_err-strip.ensures.needed (err_again e)))))
+    (subst (λ z. SomeSquare (g.S.Squares.needs_node c.band_strip.new.squares) 4 (picture C z)) c.as_slice.ensures.value
+    (c.in_err-strip.ensures.needed (err_again e)))))
 
 pub push_rows-requires-clause-sound : goal.push_rows-requires-clause-sound
 push_rows-requires-clause-sound g c = strips-kept c.in_ok-strip.ensures.keeps c.args.strips.now.items c.requires.sound

@@ -20,7 +20,8 @@ returns-then-len-lt4-clause-pile g c =
     let items = c.in_ok-push.ensures.items in
     let n = ap length items ∙ length-append c.args.band.now.items (c.args.row ∷ []) in
     subst (IsPile K C c.args.strips.now.items) (sym items)
-    (pile-push K C c.args.strips.now.items c.args.band.now.items c.args.row c.requires.pile c.requires.row c.requires.level (omega (arith, n, c.len.ensures, c.if-len-lt4.true)))
+    (pile-push K C c.args.strips.now.items c.args.band.now.items c.args.row c.requires.pile c.requires.row c.requires.level
+    (omega (arith, n, c.len.ensures, c.if-len-lt4.true)))
 
 pub returns-then-len-lt4-clause-height : goal.returns-then-len-lt4-clause-height
 returns-then-len-lt4-clause-height g c =
@@ -76,8 +77,10 @@ returns-clause-pile g c =
     let rows = height-rows ys c.requires.pile.rows in
     let r = c.close_band.ensures in
     on_ok_map4 c.close_band.result
-    (λ sound falling empty e. pile-alone (g.S.Squares.knows c.close_band.new.squares) (g.S.Squares.content c.close_band.new.squares) c.close_band.new.strips.items c.close_band.new.band.items empty sound falling
-    (lowest-more xs c.close_band.new.strips.items 4 1 c.requires.pile.lowest falling (omega (arith, e, h, over, rows, n, c.len.ensures, c.if-len-lt4.false, c.requires.pile.few)) refl))
+    (λ sound falling empty e. pile-alone (g.S.Squares.knows c.close_band.new.squares) (g.S.Squares.content c.close_band.new.squares)
+    c.close_band.new.strips.items c.close_band.new.band.items empty sound falling
+    (lowest-more xs c.close_band.new.strips.items 4 1 c.requires.pile.lowest falling
+    (omega (arith, e, h, over, rows, n, c.len.ensures, c.if-len-lt4.false, c.requires.pile.few)) refl))
     r.sound r.falling r.empty r.height
 
 pub returns-clause-picture : goal.returns-clause-picture
@@ -95,7 +98,8 @@ returns-clause-keeps g c = c.close_band.ensures.keeps
 pub returns-clause-height : goal.returns-clause-height
 returns-clause-height g c =
     let h = one-row c.args.strips.now.items c.args.band.now.items c.push.new.self.items c.args.row c.in_ok-push.ensures.items c.requires.level in
-    on_ok_map2 c.close_band.result (λ empty e. ap height (no-rows c.close_band.new.strips.items c.close_band.new.band.items empty) ∙ e ∙ h) c.close_band.ensures.empty c.close_band.ensures.height
+    on_ok_map2 c.close_band.result (λ empty e. ap height (no-rows c.close_band.new.strips.items c.close_band.new.band.items empty) ∙ e ∙ h)
+    c.close_band.ensures.empty c.close_band.ensures.height
 
 pub returns-clause-needed : goal.returns-clause-needed
 returns-clause-needed g c =

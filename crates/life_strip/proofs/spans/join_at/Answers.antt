@@ -13,50 +13,65 @@ find-se-requires g c = record { past = past_later c.args.lower.now _ _ _ c.requi
 
 pub join-requires-clause-nw : goal.join-requires-clause-nw
 join-requires-clause-nw g c =
-    let r = c.requires in found-known (g.S.Squares.knows c.args.squares.now) (g.S.Squares.content c.args.squares.now) c.args.level c.args.upper.now r.upper c.args.blank r.known r.blank _ c.args.north r.north
+    let r = c.requires in found-known (g.S.Squares.knows c.args.squares.now) (g.S.Squares.content c.args.squares.now) c.args.level c.args.upper.now r.upper
+    c.args.blank r.known r.blank _ c.args.north r.north
 
 pub join-requires-clause-ne : goal.join-requires-clause-ne
 join-requires-clause-ne g c =
-    let r = c.requires in found-known (g.S.Squares.knows c.args.squares.now) (g.S.Squares.content c.args.squares.now) c.args.level c.args.upper.now r.upper c.args.blank r.known r.blank _ c.find-ne.result c.find-ne.ensures
+    let r = c.requires in found-known (g.S.Squares.knows c.args.squares.now) (g.S.Squares.content c.args.squares.now) c.args.level c.args.upper.now r.upper
+    c.args.blank r.known r.blank _ c.find-ne.result c.find-ne.ensures
 
 pub join-requires-clause-sw : goal.join-requires-clause-sw
 join-requires-clause-sw g c =
-    let r = c.requires in found-known (g.S.Squares.knows c.args.squares.now) (g.S.Squares.content c.args.squares.now) c.args.level c.args.lower.now r.lower c.args.blank r.known r.blank _ c.args.south r.south
+    let r = c.requires in found-known (g.S.Squares.knows c.args.squares.now) (g.S.Squares.content c.args.squares.now) c.args.level c.args.lower.now r.lower
+    c.args.blank r.known r.blank _ c.args.south r.south
 
 pub join-requires-clause-se : goal.join-requires-clause-se
 join-requires-clause-se g c =
-    let r = c.requires in found-known (g.S.Squares.knows c.args.squares.now) (g.S.Squares.content c.args.squares.now) c.args.level c.args.lower.now r.lower c.args.blank r.known r.blank _ c.find-se.result c.find-se.ensures
+    let r = c.requires in found-known (g.S.Squares.knows c.args.squares.now) (g.S.Squares.content c.args.squares.now) c.args.level c.args.lower.now r.lower
+    c.args.blank r.known r.blank _ c.find-se.result c.find-se.ensures
 
 pub join-requires-clause-ne_level : goal.join-requires-clause-ne_level
 join-requires-clause-ne_level g c =
     let r = c.requires in
-    found-depth (g.S.Squares.knows c.args.squares.now) (g.S.Squares.content c.args.squares.now) c.args.level c.args.upper.now r.upper c.args.blank r.known r.blank _ c.find-ne.result c.find-ne.ensures
-    ∙ sym (found-depth (g.S.Squares.knows c.args.squares.now) (g.S.Squares.content c.args.squares.now) c.args.level c.args.upper.now r.upper c.args.blank r.known r.blank _ c.args.north r.north)
+    found-depth (g.S.Squares.knows c.args.squares.now) (g.S.Squares.content c.args.squares.now) c.args.level c.args.upper.now r.upper c.args.blank r.known
+    r.blank _ c.find-ne.result c.find-ne.ensures
+    ∙ sym (found-depth (g.S.Squares.knows c.args.squares.now) (g.S.Squares.content c.args.squares.now) c.args.level c.args.upper.now r.upper c.args.blank
+    r.known r.blank _ c.args.north r.north)
 
 pub join-requires-clause-sw_level : goal.join-requires-clause-sw_level
 join-requires-clause-sw_level g c =
     let r = c.requires in
-    found-depth (g.S.Squares.knows c.args.squares.now) (g.S.Squares.content c.args.squares.now) c.args.level c.args.lower.now r.lower c.args.blank r.known r.blank _ c.args.south r.south
-    ∙ sym (found-depth (g.S.Squares.knows c.args.squares.now) (g.S.Squares.content c.args.squares.now) c.args.level c.args.upper.now r.upper c.args.blank r.known r.blank _ c.args.north r.north)
+    found-depth (g.S.Squares.knows c.args.squares.now) (g.S.Squares.content c.args.squares.now) c.args.level c.args.lower.now r.lower c.args.blank r.known
+    r.blank _ c.args.south r.south
+    ∙ sym (found-depth (g.S.Squares.knows c.args.squares.now) (g.S.Squares.content c.args.squares.now) c.args.level c.args.upper.now r.upper c.args.blank
+    r.known r.blank _ c.args.north r.north)
 
 pub join-requires-clause-se_level : goal.join-requires-clause-se_level
 join-requires-clause-se_level g c =
     let r = c.requires in
-    found-depth (g.S.Squares.knows c.args.squares.now) (g.S.Squares.content c.args.squares.now) c.args.level c.args.lower.now r.lower c.args.blank r.known r.blank _ c.find-se.result c.find-se.ensures
-    ∙ sym (found-depth (g.S.Squares.knows c.args.squares.now) (g.S.Squares.content c.args.squares.now) c.args.level c.args.upper.now r.upper c.args.blank r.known r.blank _ c.args.north r.north)
+    found-depth (g.S.Squares.knows c.args.squares.now) (g.S.Squares.content c.args.squares.now) c.args.level c.args.lower.now r.lower c.args.blank r.known
+    r.blank _ c.find-se.result c.find-se.ensures
+    ∙ sym (found-depth (g.S.Squares.knows c.args.squares.now) (g.S.Squares.content c.args.squares.now) c.args.level c.args.upper.now r.upper c.args.blank
+    r.known r.blank _ c.args.north r.north)
 
 pub join-requires-clause-room : goal.join-requires-clause-room
 join-requires-clause-room g c =
     let r = c.requires in
-    let e = found-depth (g.S.Squares.knows c.args.squares.now) (g.S.Squares.content c.args.squares.now) c.args.level c.args.upper.now r.upper c.args.blank r.known r.blank _ c.args.north r.north in omega (arith, e, r.low)
+    let e = found-depth (g.S.Squares.knows c.args.squares.now) (g.S.Squares.content c.args.squares.now) c.args.level c.args.upper.now r.upper c.args.blank
+    r.known r.blank _ c.args.north r.north in omega (arith, e, r.low)
 
 pub returns-clause-square : goal.returns-clause-square
 returns-clause-square g c =
     let r = c.requires in
-    let nw = found-content (g.S.Squares.knows c.args.squares.now) (g.S.Squares.content c.args.squares.now) c.args.level c.args.upper.now r.upper c.args.blank r.known r.blank _ c.args.north r.north in
-    let ne = found-content (g.S.Squares.knows c.args.squares.now) (g.S.Squares.content c.args.squares.now) c.args.level c.args.upper.now r.upper c.args.blank r.known r.blank _ c.find-ne.result c.find-ne.ensures in
-    let sw = found-content (g.S.Squares.knows c.args.squares.now) (g.S.Squares.content c.args.squares.now) c.args.level c.args.lower.now r.lower c.args.blank r.known r.blank _ c.args.south r.south in
-    let se = found-content (g.S.Squares.knows c.args.squares.now) (g.S.Squares.content c.args.squares.now) c.args.level c.args.lower.now r.lower c.args.blank r.known r.blank _ c.find-se.result c.find-se.ensures in
+    let nw = found-content (g.S.Squares.knows c.args.squares.now) (g.S.Squares.content c.args.squares.now) c.args.level c.args.upper.now r.upper c.args.blank
+    r.known r.blank _ c.args.north r.north in
+    let ne = found-content (g.S.Squares.knows c.args.squares.now) (g.S.Squares.content c.args.squares.now) c.args.level c.args.upper.now r.upper c.args.blank
+    r.known r.blank _ c.find-ne.result c.find-ne.ensures in
+    let sw = found-content (g.S.Squares.knows c.args.squares.now) (g.S.Squares.content c.args.squares.now) c.args.level c.args.lower.now r.lower c.args.blank
+    r.known r.blank _ c.args.south r.south in
+    let se = found-content (g.S.Squares.knows c.args.squares.now) (g.S.Squares.content c.args.squares.now) c.args.level c.args.lower.now r.lower c.args.blank
+    r.known r.blank _ c.find-se.result c.find-se.ensures in
     c.in_ok-square.ensures.square ∙ (λ i. quad (nw i) (ne i) (sw i) (se i))
 
 pub returns-in_err-square-clause-needed : goal.returns-in_err-square-clause-needed

@@ -18,7 +18,8 @@ loop-i-preserved c =
     let e : suc c.loop-i.i ≡ c.loop-i.i + 1 = omega arith in
     let lt : c.loop-i.i < length cells = omega (arith, c.loop-i-test.true) in
     let yes = subst (λ b. IsTrue b) (sym c.if-not-is_in_row.false) refl in
-    subst (λ n. All P (take n cells)) e (next-take P cells c.loop-i.i (record { x = pos 0; y = pos 0; state = 0 }) lt c.loop-i.invariant (c.is_in_row.ensures.0 yes))
+    subst (λ n. All P (take n cells)) e
+    (next-take P cells c.loop-i.i (record { x = pos 0; y = pos 0; state = 0 }) lt c.loop-i.invariant (c.is_in_row.ensures.0 yes))
 
 pub returns-clause-split : goal.returns-clause-split
 returns-clause-split c =

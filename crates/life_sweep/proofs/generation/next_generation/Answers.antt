@@ -30,7 +30,8 @@ sorted g c =
     let t = g.S.Squares.content c.args.squares.now c.args.id in
     let low = g.met.S.Squares.low _ _ c.requires.known in
     record {
-      cells_are = subst (λ z. IsRestOf (tree_cell t) first_coordinate first_coordinate z) (sym c.deref-2.ensures.value) (cells-sorted t c.in_ok-list.list.items low c.in_ok-list.ensures.cells);
+      cells_are = subst (λ z. IsRestOf (tree_cell t) first_coordinate first_coordinate z) (sym c.deref-2.ensures.value)
+          (cells-sorted t c.in_ok-list.list.items low c.in_ok-list.ensures.cells);
       blank = blank-before t low;
     }
 
@@ -51,7 +52,8 @@ next_square-requires-clause-inside g c =
     subst (λ z. All IsInside z) (sym c.deref-2.ensures.value) (cells-inside t c.in_ok-list.list.items low c.in_ok-list.ensures.cells)
 
 pub next_square-requires-clause-sorted : goal.next_square-requires-clause-sorted
-next_square-requires-clause-sorted g c = let s = sorted g (goal.at.next_square-requires-clause-sorted g c).After-deref-2 in (tree_cell (g.S.Squares.content c.args.squares.now c.args.id), s.blank, s.cells_are)
+next_square-requires-clause-sorted g c = let s = sorted g (goal.at.next_square-requires-clause-sorted g c).After-deref-2 in
+    (tree_cell (g.S.Squares.content c.args.squares.now c.args.id), s.blank, s.cells_are)
 
 pub returns-then-not-are_below-clause-refusals : goal.returns-then-not-are_below-clause-refusals
 returns-then-not-are_below-clause-refusals g c =
@@ -67,13 +69,16 @@ returns-then-not-are_below-clause-refusals g c =
     (beyond (g.L.Law.answers law) (g.met.L.Law.one_answer law) bound c.args.most t few (has-from t c.in_ok-list.list.items bound h.cells not))))
 
 pub returns-clause-next : goal.returns-clause-next
-returns-clause-next g c = IfOk-weaker c.next_square.result _ _ (λ r h. h _ (sorted g (goal.at.returns-clause-next g c).After-deref-2)) c.next_square.ensures.next
+returns-clause-next g c = IfOk-weaker c.next_square.result _ _ (λ r h. h _ (sorted g (goal.at.returns-clause-next g c).After-deref-2))
+    c.next_square.ensures.next
 
 pub returns-clause-accepted : goal.returns-clause-accepted
 returns-clause-accepted g c =
     let law = c.args.law.now in
     both-ok c.next_square.result _ _ _
-    (λ r level next. accepted (g.L.Law.answers law) (g.met.L.Law.one_answer law) (g.L.Law.bound law) c.args.most (g.S.Squares.content c.args.squares.now c.args.id) (few g (goal.at.returns-clause-accepted g c).After-deref-2) (none g (goal.at.returns-clause-accepted g c).After-deref-2)
+    (λ r level next. accepted (g.L.Law.answers law) (g.met.L.Law.one_answer law) (g.L.Law.bound law) c.args.most
+    (g.S.Squares.content c.args.squares.now c.args.id) (few g (goal.at.returns-clause-accepted g c).After-deref-2)
+    (none g (goal.at.returns-clause-accepted g c).After-deref-2)
     (g.S.Squares.content c.next_square.new.squares r) level (next _ (sorted g (goal.at.returns-clause-accepted g c).After-deref-2)))
     c.next_square.ensures.level c.next_square.ensures.next
 
@@ -84,7 +89,9 @@ returns-clause-refusals g c =
       | inl k ↦ inl k
       | inr m ↦ elim m [
         | inl k ↦ inr (inl k)
-        | inr r ↦ inr (inr (step-refused (g.L.Law.answers law) (g.met.L.Law.one_answer law) (g.L.Law.bound law) c.args.most (g.S.Squares.content c.args.squares.now c.args.id) (few g (goal.at.returns-clause-refusals g c).After-deref-2) (none g (goal.at.returns-clause-refusals g c).After-deref-2) f
+        | inr r ↦ inr (inr (step-refused (g.L.Law.answers law) (g.met.L.Law.one_answer law) (g.L.Law.bound law) c.args.most
+            (g.S.Squares.content c.args.squares.now c.args.id) (few g (goal.at.returns-clause-refusals g c).After-deref-2)
+            (none g (goal.at.returns-clause-refusals g c).After-deref-2) f
             (r _ (sorted g (goal.at.returns-clause-refusals g c).After-deref-2))))
       ]
     ]) c.next_square.ensures.refusals

@@ -10,6 +10,8 @@ returns-clause-next c =
     let t = c.args.table.now in
     let v = c.args.around.now in
     elim c.match-table.branch [
-      | in-VonNeumann w ↦ decided t v (cells_of c.match-table.neighbours) VonNeumann c.next.result w.in-VonNeumann.is (ap cells_of w.neighbours-is) c.next.ensures
-      | in-Moore w ↦ decided t v (cells_of c.match-table.neighbours) Moore c.next.result w.in-Moore.is (ap cells_of w.neighbours-is ∙ whole-list v c.told-around) c.next.ensures
+      | in-VonNeumann w ↦ decided t v (cells_of c.match-table.neighbours) VonNeumann c.next.result w.in-VonNeumann.is (ap cells_of w.neighbours-is)
+          c.next.ensures
+      | in-Moore w ↦ decided t v (cells_of c.match-table.neighbours) Moore c.next.result w.in-Moore.is
+          (ap cells_of w.neighbours-is ∙ whole-list v c.told-around) c.next.ensures
     ]

@@ -61,7 +61,8 @@ returns-then-not-is_on_plane-clause-put g c zero =
     let ex : c.args.window.now.x ≡ kept c.args.window.now.x = omega (arith, ints, c.requires.place.least, c.requires.place.most) in
     let ey : c.args.y ≡ kept c.args.y = omega (arith, ints, c.ranges.y) in
     let outside : ¬ (IsOnPlane c.args.window.now.x c.args.y 1) =
-    λ on. true≢false (sym (c.is_on_plane.ensures.1 (subst (λ z. IsOnPlane (kept c.args.window.now.x) z 1) ey (subst (λ z. IsOnPlane z c.args.y 1) ex on))) ∙ c.if-not-is_on_plane.true) in
+    λ on. true≢false (sym (c.is_on_plane.ensures.1 (subst (λ z. IsOnPlane (kept c.args.window.now.x) z 1) ey (subst (λ z. IsOnPlane z c.args.y 1) ex on)))
+    ∙ c.if-not-is_on_plane.true) in
     record {
       next = c.in_ok-state.state;
       answer = subst (λ v. g.L.Law.answers c.args.law.now v (Becomes c.in_ok-state.state)) c.around.ensures c.in_ok-state.ensures.next;
@@ -74,7 +75,11 @@ pub returns-in_err-state-clause-refusals : goal.returns-in_err-state-clause-refu
 returns-in_err-state-clause-refusals g c =
     let p = err_from_is_err_and c.from_residual.result c.from_residual.ensures.1 in
     let e = c.in_err-state.ensures in
-    rw (p.1, p.2) (inr (inr (e.kind, subst (λ v. g.L.Law.answers c.args.law.now v (Ambiguous c.in_err-state.field-0.0.place.line)) c.around.ensures e.ambiguous)))
+    rw (p.1, p.2) (inr (inr (
+      e.kind,
+      subst (λ v. g.L.Law.answers c.args.law.now v (Ambiguous c.in_err-state.field-0.0.place.line)) c.around.ensures
+          e.ambiguous,
+    )))
 
 pub returns-in_err-state-clause-full : goal.returns-in_err-state-clause-full
 returns-in_err-state-clause-full g c =

@@ -29,14 +29,16 @@ loop-window-init g c =
       ready = row-ready (drawn_runs c.args.pen.now) (after w.x) y (subst (λ z. IsReadyRow (drawn_runs c.args.pen.now) z) e c.requires.ready);
       swept = λ cells scene rows. (
         c.new-window.ensures.window cells y scene.rows_are (λ column l. west-column cells y column scene.blank l),
-        into-row (g.L.Law.answers c.args.law.now) cells (state_by (drawn_runs c.args.pen.now)) c.args.leaves w.x y (g.met.L.Law.quiet c.args.law.now) scene.blank west rows,
+        into-row (g.L.Law.answers c.args.law.now) cells (state_by (drawn_runs c.args.pen.now)) c.args.leaves w.x y (g.met.L.Law.quiet c.args.law.now)
+            scene.blank west rows,
       );
       keeps = keeps-same c.args.squares.now;
     }
 
 pub draw_place-requires-clause-states : goal.draw_place-requires-clause-states
 draw_place-requires-clause-states g c =
-    subst (λ law. IsWindowBelow (g.L.Law.bound law) c.advance.new.self) (sym c.loop-window.invariant.same) (c.advance.ensures.below _ (g.met.L.Law.positive c.args.law.now) c.loop-window.invariant.below)
+    subst (λ law. IsWindowBelow (g.L.Law.bound law) c.advance.new.self) (sym c.loop-window.invariant.same)
+    (c.advance.ensures.below _ (g.met.L.Law.positive c.args.law.now) c.loop-window.invariant.below)
 
 pub draw_place-requires-clause-ready : goal.draw_place-requires-clause-ready
 draw_place-requires-clause-ready g c =
@@ -61,8 +63,12 @@ loop-window-preserved g c =
       swept = λ cells scene rows.
           let s = inv.swept cells scene rows in
           let on = c.advance.ensures.window c.loop-window-test.true cells y s.0 in
-          let put : old z.x y ≡ 0 → IsPut (g.L.Law.answers c.args.law.now) (states_of z) new c.loop-window.left c.in_ok-left.left z.x y = (λ e. subst (λ law. IsPut (g.L.Law.answers law) (states_of z) new c.loop-window.left c.in_ok-left.left z.x y) inv.same (h.put e)) in
-          (on.here, step-in-row (g.L.Law.answers c.args.law.now) cells old new c.loop-window.left c.in_ok-left.left y c.loop-window.window z (g.met.L.Law.quiet c.args.law.now) on s.1 put h.others);
+          let put : old z.x y ≡ 0 → IsPut (g.L.Law.answers c.args.law.now) (states_of z) new c.loop-window.left c.in_ok-left.left z.x y
+          = (λ e. subst (λ law. IsPut (g.L.Law.answers law) (states_of z) new c.loop-window.left c.in_ok-left.left z.x y) inv.same (h.put e)) in (
+            on.here,
+            step-in-row (g.L.Law.answers c.args.law.now) cells old new c.loop-window.left c.in_ok-left.left y c.loop-window.window z
+                (g.met.L.Law.quiet c.args.law.now) on s.1 put h.others,
+          );
       keeps = keeps-then inv.keeps h.keeps;
     }
 
@@ -90,7 +96,8 @@ returns-in_err-left-clause-refusals g c =
               let s = swept g (goal.at.returns-in_err-left-clause-refusals g c).After-draw_place cells scene rows in
               let on = c.advance.ensures.window c.loop-window-test.true cells (kept c.args.y) s.0 in
               let here = subst (λ law. g.L.Law.answers law (states_of z) (Ambiguous c.in_err-left.field-0.0.place.line)) c.loop-window.invariant.same d.1 in
-              ambiguous-here (g.L.Law.answers c.args.law.now) cells _ c.loop-window.left _ c.loop-window.window z _ (g.met.L.Law.quiet c.args.law.now) on s.1 here),
+              ambiguous-here (g.L.Law.answers c.args.law.now) cells _ c.loop-window.left _ c.loop-window.window z _ (g.met.L.Law.quiet c.args.law.now) on s.1
+              here),
         ))
       ]
     ])
@@ -108,9 +115,11 @@ returns-clause-swept g c cells scene rows =
     let A = g.L.Law.answers c.args.law.now in
     let start = state_by (drawn_runs c.args.pen.now) in
     let drawn = state_by (drawn_runs c.loop-window.pen) in
-    let s = c.loop-window.invariant.swept cells (subst (λ z. IsScene cells z c.args.rows) e scene) (subst (λ z. IsSweptRows A cells start c.args.leaves z) e rows) in
+    let s = c.loop-window.invariant.swept cells (subst (λ z. IsScene cells z c.args.rows) e scene)
+    (subst (λ z. IsSweptRows A cells start c.args.leaves z) e rows) in
     subst (λ z. IsSweptRows A cells drawn c.loop-window.left (after z)) (sym e)
-    (out-of-row A cells drawn c.loop-window.left c.loop-window.window.x y (g.met.L.Law.quiet c.args.law.now) (c.advance.ensures.over c.loop-window-test.false cells y s.0) s.1)
+    (out-of-row A cells drawn c.loop-window.left c.loop-window.window.x y (g.met.L.Law.quiet c.args.law.now)
+    (c.advance.ensures.over c.loop-window-test.false cells y s.0) s.1)
 
 pub returns-in_err-left-clause-needed : goal.returns-in_err-left-clause-needed
 returns-in_err-left-clause-needed g c =
@@ -118,7 +127,8 @@ returns-in_err-left-clause-needed g c =
     rw (p.1, p.2)
     (λ full cells scene rows.
     let s = swept g (goal.at.returns-in_err-left-clause-needed g c).After-draw_place cells scene rows in
-    swept-needs (g.S.Squares.needs_node c.draw_place.new.squares) (g.L.Law.answers c.args.law.now) cells (drawn_runs c.loop-window.pen) c.loop-window.left _ _ s.1 (c.in_err-left.ensures.needed full))
+    swept-needs (g.S.Squares.needs_node c.draw_place.new.squares) (g.L.Law.answers c.args.law.now) cells (drawn_runs c.loop-window.pen) c.loop-window.left _ _
+    s.1 (c.in_err-left.ensures.needed full))
 
 pub returns-in_err-left-clause-keeps : goal.returns-in_err-left-clause-keeps
 returns-in_err-left-clause-keeps g c = keeps-then c.loop-window.invariant.keeps c.in_err-left.ensures.keeps

@@ -33,14 +33,16 @@ loop-band-init g c =
       ready = λ column row l. nothing-given (drawn_runs c.new-pen.result) c.new-pen.ensures.drawn column row;
       swept = λ plane sorted. (
         c.new-band.ensures.band plane sorted.blank sorted.cells_are,
-        start-rows A plane drawn c.new-band.result.y (g.met.L.Law.quiet c.args.law.now) sorted.blank (omega (arith, ints, c.new-band.ensures.start)) (nothing-drawn (drawn_runs c.new-pen.result) c.new-pen.ensures.drawn),
+        start-rows A plane drawn c.new-band.result.y (g.met.L.Law.quiet c.args.law.now) sorted.blank (omega (arith, ints, c.new-band.ensures.start))
+            (nothing-drawn (drawn_runs c.new-pen.result) c.new-pen.ensures.drawn),
       );
       keeps = keeps-same c.args.squares.now;
     }
 
 pub draw_row-requires-clause-states : goal.draw_row-requires-clause-states
 draw_row-requires-clause-states g c =
-    subst (λ law. AreBelow (g.L.Law.bound law) c.advance.new.self.rows) (sym c.loop-band.invariant.same) ((c.advance.ensures.below _ c.loop-band.invariant.below).rows)
+    subst (λ law. AreBelow (g.L.Law.bound law) c.advance.new.self.rows) (sym c.loop-band.invariant.same)
+    ((c.advance.ensures.below _ c.loop-band.invariant.below).rows)
 
 pub draw_row-requires-clause-ready : goal.draw_row-requires-clause-ready
 draw_row-requires-clause-ready g c column row l =
@@ -56,7 +58,8 @@ on : (g : Over) (c : After-draw_row g) (plane : ℤ → ℤ → ℕ) → IsSorte
 on g c plane sorted = c.advance.ensures.band c.loop-band-test.true plane sorted.blank (c.loop-band.invariant.swept plane sorted).0
 
 -- its rows are those of the plane, and the rows before them are drawn
-scene : (g : Over) (c : After-draw_row g) (plane : ℤ → ℤ → ℕ) → IsSorted plane c.args.cells.now → IsScene plane (kept c.advance.new.self.y) c.advance.new.self.rows
+scene : (g : Over) (c : After-draw_row g) (plane : ℤ → ℤ → ℕ) → IsSorted plane c.args.cells.now
+    → IsScene plane (kept c.advance.new.self.y) c.advance.new.self.rows
 scene g c plane sorted = record {
   rows_are = subst (λ z. AreRows plane z first_coordinate c.advance.new.self.rows) (row g c) (on g c plane sorted).here.rows;
   blank = sorted.blank;
@@ -71,7 +74,8 @@ before g c plane sorted =
     let drawn = state_by (drawn_runs c.loop-band.pen) in
     subst (λ z. IsSweptRows (g.L.Law.answers c.loop-band.law) plane drawn c.loop-band.leaves z) (row g c)
     (subst (λ law. IsSweptRows (g.L.Law.answers law) plane drawn c.loop-band.leaves c.advance.new.self.y) (sym inv.same)
-    (pass-rows (g.L.Law.answers c.args.law.now) plane drawn c.loop-band.leaves (after c.loop-band.band.y) c.advance.new.self.y (g.met.L.Law.quiet c.args.law.now) (omega (arith, ints, south)) (λ r l u. on.passed r (omega (arith, ints, l)) u)
+    (pass-rows (g.L.Law.answers c.args.law.now) plane drawn c.loop-band.leaves (after c.loop-band.band.y) c.advance.new.self.y
+    (g.met.L.Law.quiet c.args.law.now) (omega (arith, ints, south)) (λ r l u. on.passed r (omega (arith, ints, l)) u)
     (inv.swept plane sorted).1))
 
 pub loop-band-preserved : goal.loop-band-preserved
@@ -105,7 +109,8 @@ returns-in_err-leaves-clause-refusals g c =
         | inl memory ↦ inr (inl memory)
         | inr d ↦ inr (inr (λ plane sorted. inl (
           d.0,
-          subst (λ law. IsFirstAmbiguous (g.L.Law.answers law) plane c.in_err-leaves.field-0.0.place.line) c.loop-band.invariant.same (d.1 plane (scene g a plane sorted) (before g a plane sorted)),
+          subst (λ law. IsFirstAmbiguous (g.L.Law.answers law) plane c.in_err-leaves.field-0.0.place.line) c.loop-band.invariant.same
+              (d.1 plane (scene g a plane sorted) (before g a plane sorted)),
         )))
       ]
     ])
@@ -123,7 +128,8 @@ returns-clause-next g c plane sorted x y =
     let s = c.loop-band.invariant.swept plane sorted in
     let over = c.advance.ensures.over c.loop-band-test.false plane sorted.blank s.0 in
     let d = all-rows _ plane _ _ _ (g.met.L.Law.quiet c.args.law.now) over s.1 x y in
-    subst (λ n. g.L.Law.answers c.args.law.now (states_at plane x y) (Becomes n)) (sym (c.in_ok-finish.ensures.cells x y ∙ d.kept (inl c.if-leaves.false))) d.answer
+    subst (λ n. g.L.Law.answers c.args.law.now (states_at plane x y) (Becomes n)) (sym (c.in_ok-finish.ensures.cells x y ∙ d.kept (inl c.if-leaves.false)))
+    d.answer
 
 pub returns-in_err-leaves-clause-needed : goal.returns-in_err-leaves-clause-needed
 returns-in_err-leaves-clause-needed g c =
@@ -141,7 +147,8 @@ returns-in_err-finish-clause-needed g c =
     (λ full plane sorted.
     let s = c.loop-band.invariant.swept plane sorted in
     let over = c.advance.ensures.over c.loop-band-test.false plane sorted.blank s.0 in
-    all-needs (g.S.Squares.needs_node c.finish.new.squares) (g.L.Law.answers c.args.law.now) plane (drawn_runs c.loop-band.pen) c.loop-band.leaves c.if-leaves.false
+    all-needs (g.S.Squares.needs_node c.finish.new.squares) (g.L.Law.answers c.args.law.now) plane (drawn_runs c.loop-band.pen) c.loop-band.leaves
+    c.if-leaves.false
     (all-rows _ plane _ _ _ (g.met.L.Law.quiet c.args.law.now) over s.1)
     (c.in_err-finish.ensures.needed (full-kind c.in_err-finish.field-0.0 full)))
 

@@ -14,8 +14,10 @@ returns-then-not-allows c =
     (no_image c.args.vars.now c.args.line.now c.args.states.now k c.loop-k-test.true
     (λ con.
     let yes : c.allows.result ≡ true = c.allows.ensures.1
-    (subst (λ n. Consistent c.args.vars.now (take (n + 1) c.as_slice-inputs.result.now) (take k c.args.states.now ++ slice_index c.args.states.now k ∷ [])) (sym size)
-    (subst (λ es. Consistent c.args.vars.now (take (k + 1) es) (take k c.args.states.now ++ slice_index c.args.states.now k ∷ [])) (sym c.as_slice-inputs.ensures) con)) in
+    (subst (λ n. Consistent c.args.vars.now (take (n + 1) c.as_slice-inputs.result.now) (take k c.args.states.now ++ slice_index c.args.states.now k ∷ []))
+    (sym size)
+    (subst (λ es. Consistent c.args.vars.now (take (k + 1) es) (take k c.args.states.now ++ slice_index c.args.states.now k ∷ []))
+    (sym c.as_slice-inputs.ensures) con)) in
     absurd (let e : true ≡ false = sym yes ∙ no in cc)))
     c.args.found
 
@@ -23,6 +25,10 @@ pub returns : goal.returns
 returns c =
     let whole : c.loop-k.k ≡ length c.args.states.now = omega arith in
     let con : Consistent c.args.vars.now c.args.line.now.inputs c.args.states.now =
-    subst (λ es. Consistent c.args.vars.now es c.args.states.now) (take_all c.loop-k.k c.as_slice-inputs.result.now (omega (arith, whole, c.requires.count, ap length c.as_slice-inputs.ensures)) ∙ c.as_slice-inputs.ensures)
-    (subst (λ ws. Consistent c.args.vars.now (take c.loop-k.k c.as_slice-inputs.result.now) ws) (take_all c.loop-k.k c.args.states.now (omega (arith, whole))) c.loop-k.invariant) in
-    one_image c.args.vars.now c.args.line.now c.args.states.now c.output_of.result c.args.found c.with_state.result con (c.output_of.ensures c.args.vars.now) c.with_state.ensures
+    subst (λ es. Consistent c.args.vars.now es c.args.states.now)
+    (take_all c.loop-k.k c.as_slice-inputs.result.now (omega (arith, whole, c.requires.count, ap length c.as_slice-inputs.ensures))
+    ∙ c.as_slice-inputs.ensures)
+    (subst (λ ws. Consistent c.args.vars.now (take c.loop-k.k c.as_slice-inputs.result.now) ws) (take_all c.loop-k.k c.args.states.now (omega (arith, whole)))
+    c.loop-k.invariant) in
+    one_image c.args.vars.now c.args.line.now c.args.states.now c.output_of.result c.args.found c.with_state.result con (c.output_of.ensures c.args.vars.now)
+    c.with_state.ensures

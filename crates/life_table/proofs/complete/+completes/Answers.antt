@@ -10,7 +10,8 @@ returns-then-k-groups-clause-completes t c = at_end c.args.vars.now c.args.group
     (omega (arith, c.if-k-groups.true)) c.requires.free c.requires.search.choosable
 
 pub returns-then-failed-free-clause-completes : goal.returns-then-failed-free-clause-completes
-returns-then-failed-free-clause-completes t c = (λ f. absurd (let z : ⊥ = cc in z), λ h. absurd (c.requires.failed c.args.free c.args.k c.if-failed-free.true h))
+returns-then-failed-free-clause-completes t c
+    = (λ f. absurd (let z : ⊥ = cc in z), λ h. absurd (c.requires.failed c.args.free c.args.k c.if-failed-free.true h))
 
 pub returns-then-completes-clause-completes : goal.returns-then-completes-clause-completes
 returns-then-completes-clause-completes t c =

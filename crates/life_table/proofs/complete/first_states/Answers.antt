@@ -15,7 +15,8 @@ loop-place-init c = record {
 pub returns-in-Two : goal.returns-in-Two
 returns-in-Two c =
     tell_two c.args.vars.now c.args.groups.now c.args.states.now c.args.free (c.loop-place.place + 1) c.with_state-found.result c.in-Two.is
-    (tell_more c.args.vars.now c.args.groups.now c.args.states.now c.args.free c.loop-place.place c.loop-place.found c.with_state-found.result c.loop-place.invariant.tells c.in-Some.ensures.some.is_free
+    (tell_more c.args.vars.now c.args.groups.now c.args.states.now c.args.free c.loop-place.place c.loop-place.found c.with_state-found.result
+    c.loop-place.invariant.tells c.in-Some.ensures.some.is_free
     (taken_with c.args.vars.now c.args.groups.now c.args.states.now c.args.free 0 no_group c.requires.some c.requires.search.are_groups c.loop-place.place
     c.in-Some.rest c.in-Some.ensures.some
     (c.completes.ensures.completes.0 c.if-completes.true))
@@ -26,7 +27,8 @@ loop-place-preserved c =
     elim c.match-with_place.branch [
       | in-Some+then-completes+in_default-found w ↦ record {
         tells = subst (Tells (IsFoundBy c.args.vars.now c.args.groups.now c.args.states.now c.args.free (c.loop-place.place + 1))) (sym w.found-is)
-            (tell_more c.args.vars.now c.args.groups.now c.args.states.now c.args.free c.loop-place.place c.loop-place.found w.with_state-found.result c.loop-place.invariant.tells w.in-Some.ensures.some.is_free
+            (tell_more c.args.vars.now c.args.groups.now c.args.states.now c.args.free c.loop-place.place c.loop-place.found w.with_state-found.result
+            c.loop-place.invariant.tells w.in-Some.ensures.some.is_free
             (taken_with c.args.vars.now c.args.groups.now c.args.states.now c.args.free 0 no_group c.requires.some c.requires.search.are_groups
             c.loop-place.place w.in-Some.rest w.in-Some.ensures.some
             (w.completes.ensures.completes.0 w.if-completes.true))

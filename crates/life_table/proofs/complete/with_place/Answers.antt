@@ -11,8 +11,10 @@ use Rattle.life_table.proofs.complete.with_place.Goals.{else-free-place-eq1-via-
 pub returns-else-free-place-eq1-clause-none : goal.returns-else-free-place-eq1-clause-none
 returns-else-free-place-eq1-clause-none c = λ e set can. elim c.else-free-place-eq1.branch [
   | else-free-place-eq1-via-then-free-place-eq1+else-has_state w ↦
-      let found : slice_get c.args.vars.now c.args.group.variable ≡ Some w.index-vars-group.result = slice_get-get_or c.args.vars.now c.args.group.variable w.index-vars-group.result c.requires.variable ∙ ap Some (sym w.index-vars-group.is) in
-      let yes : has_state w.index-vars-group.result (slice_index c.args.states.now c.args.place) ≡ true = subst (λ o. IfSome o (λ (var : Var). HasState var (slice_index c.args.states.now c.args.place))) found can in
+      let found : slice_get c.args.vars.now c.args.group.variable ≡ Some w.index-vars-group.result = slice_get-get_or c.args.vars.now c.args.group.variable
+      w.index-vars-group.result c.requires.variable ∙ ap Some (sym w.index-vars-group.is) in
+      let yes : has_state w.index-vars-group.result (slice_index c.args.states.now c.args.place)
+      ≡ true = subst (λ o. IfSome o (λ (var : Var). HasState var (slice_index c.args.states.now c.args.place))) found can in
       let clash : true ≡ false = sym yes ∙ sym w.has_state.ensures ∙ w.if-has_state.false in
       absurd (let z : ⊥ = cc in z)
   | else-free-place-eq1-via-else-free-place-eq1 w ↦ absurd (w.if-free-place-eq1.false (shr_and_one c.args.free c.args.place ∙ set))
@@ -20,7 +22,9 @@ returns-else-free-place-eq1-clause-none c = λ e set can. elim c.else-free-place
 
 pub returns-then-has_state-clause-some : goal.returns-then-has_state-clause-some
 returns-then-has_state-clause-some c =
-    let found : slice_get c.args.vars.now c.args.group.variable ≡ Some c.index-vars-group.result = slice_get-get_or c.args.vars.now c.args.group.variable c.index-vars-group.result c.requires.variable ∙ ap Some (sym c.index-vars-group.is) in
+    let found : slice_get c.args.vars.now c.args.group.variable ≡ Some c.index-vars-group.result = slice_get-get_or c.args.vars.now c.args.group.variable
+    c.index-vars-group.result c.requires.variable ∙ ap Some (sym c.index-vars-group.is) in
     takes_of c.args.vars.now c.args.group c.args.states.now c.args.place c.args.free (sym (shr_and_one c.args.free c.args.place) ∙ c.if-free-place-eq1.true)
-    (subst (λ o. IfSome o (λ (var : Var). HasState var (slice_index c.args.states.now c.args.place))) (sym found) (sym c.has_state.ensures ∙ c.if-has_state.true))
+    (subst (λ o. IfSome o (λ (var : Var). HasState var (slice_index c.args.states.now c.args.place))) (sym found)
+    (sym c.has_state.ensures ∙ c.if-has_state.true))
     c.without.result c.without.ensures.less c.without.ensures.counts

@@ -14,7 +14,8 @@ returns-then-site c =
     let step = c.args.site.now.ways.step in
     subst (λ list. Tells (SomeGives vars line list) c.with_turns.result)
     (sym (map-append behind (turns others step) (reflected_turns others step)) ∙ ap (λ b. map behind (family b step others)) (sym c.if-site.true))
-    (images_more vars line (map behind (turns others step)) (map behind (reflected_turns others step)) c.with_turns-found.result c.with_turns.result c.with_turns-found.ensures c.with_turns.ensures)
+    (images_more vars line (map behind (turns others step)) (map behind (reflected_turns others step)) c.with_turns-found.result c.with_turns.result
+    c.with_turns-found.ensures c.with_turns.ensures)
 
 pub returns-else-site : goal.returns-else-site
 returns-else-site c =

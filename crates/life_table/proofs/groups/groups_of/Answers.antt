@@ -16,25 +16,32 @@ loop-entry-init c =
     elim c.match-output.branch [
       | in-Var+then-not-is_variable w ↦
           let open_output : is_variable w.in-Var.number c.args.first ≡ false = sym w.is_variable.ensures ∙ w.if-not-is_variable.true in
-          let first_one : take c.match-output.count c.match-output.groups ≡ record { variable = w.in-Var.number; times = 0 } ∷ [] = ap (λ n. take n c.match-output.groups) w.count-is ∙ ap (take 1) w.groups-is in
+          let first_one : take c.match-output.count c.match-output.groups ≡ record { variable = w.in-Var.number; times = 0 }
+          ∷ [] = ap (λ n. take n c.match-output.groups) w.count-is ∙ ap (take 1) w.groups-is in
           record {
-            grouped = subst (IsGrouped c.args.first c.args.output []) (sym first_one) (grouped_output c.args.first c.args.output w.in-Var.number w.in-Var.is open_output);
+            grouped = subst (IsGrouped c.args.first c.args.output []) (sym first_one)
+                (grouped_output c.args.first c.args.output w.in-Var.number w.in-Var.is open_output);
             few = omega (arith, w.count-is);
-            small = subst (All (λ (g : Group). g.times ≤ 0)) (sym first_one) (All-cons (λ (g : Group). g.times ≤ 0) (record { variable = w.in-Var.number; times = 0 }) [] (omega arith) (λ k d below. absurd (omega (arith, below))));
+            small = subst (All (λ (g : Group). g.times ≤ 0)) (sym first_one)
+                (All-cons (λ (g : Group). g.times ≤ 0) (record { variable = w.in-Var.number; times = 0 }) [] (omega arith)
+                (λ k d below. absurd (omega (arith, below))));
           }
       | in-Var+else-not-is_variable w ↦
           let settled_output : is_variable w.in-Var.number c.args.first ≡ true = sym w.is_variable.ensures ∙ w.if-not-is_variable.false in
           let none : take c.match-output.count c.match-output.groups ≡ [] = ap (λ n. take n c.match-output.groups) w.count-is in
           record {
             grouped = subst (IsGrouped c.args.first c.args.output []) (sym none)
-                (grouped_none c.args.first c.args.output (λ i is open_i. is_clash (is_variable i c.args.first) (ap (λ j. is_variable j c.args.first) (same_number i w.in-Var.number (sym is ∙ w.in-Var.is)) ∙ settled_output) open_i));
+                (grouped_none c.args.first c.args.output
+                (λ i is open_i. is_clash (is_variable i c.args.first)
+                (ap (λ j. is_variable j c.args.first) (same_number i w.in-Var.number (sym is ∙ w.in-Var.is)) ∙ settled_output) open_i));
             few = omega (arith, w.count-is);
             small = subst (All (λ (g : Group). g.times ≤ 0)) (sym none) (λ k d below. absurd (omega (arith, below)));
           }
       | in_default w ↦
           let none : take c.match-output.count c.match-output.groups ≡ [] = ap (λ n. take n c.match-output.groups) w.count-is in
           record {
-            grouped = subst (IsGrouped c.args.first c.args.output []) (sym none) (grouped_none c.args.first c.args.output (λ i is open_i. absurd (w.in_default.not-Var i is)));
+            grouped = subst (IsGrouped c.args.first c.args.output []) (sym none)
+                (grouped_none c.args.first c.args.output (λ i is open_i. absurd (w.in_default.not-Var i is)));
             few = omega (arith, w.count-is);
             small = subst (All (λ (g : Group). g.times ≤ 0)) (sym none) (λ k d below. absurd (omega (arith, below)));
           }
@@ -52,29 +59,37 @@ loop-entry-preserved c =
           let added : take c.match-entry.count c.match-entry.groups ≡ add_to w.in-Var-entry.number groups =
           ap (λ n. take n c.match-entry.groups) w.count-is ∙ ap (take w.add_variable-count.result) w.groups-is ∙ w.add_variable-count.ensures.added in
           record {
-            grouped = subst (λ es. IsGrouped c.args.first c.args.output es (take c.match-entry.count c.match-entry.groups)) (sym (more ∙ ap (λ e. so_far ++ e ∷ []) w.in-Var-entry.is))
+            grouped = subst (λ es. IsGrouped c.args.first c.args.output es (take c.match-entry.count c.match-entry.groups))
+                (sym (more ∙ ap (λ e. so_far ++ e ∷ []) w.in-Var-entry.is))
                 (subst (IsGrouped c.args.first c.args.output (so_far ++ entries.Var w.in-Var-entry.number ∷ [])) (sym added)
                 (grouped_add c.args.first c.args.output so_far groups c.loop-entry.invariant.grouped w.in-Var-entry.number open_entry));
             few = omega (arith, w.count-is, w.add_variable-count.ensures.count, c.loop-entry.invariant.few);
-            small = subst (All (λ (g : Group). g.times ≤ i + 1)) (sym added) (small_add w.in-Var-entry.number i groups c.loop-entry.invariant.grouped.distinct c.loop-entry.invariant.small);
+            small = subst (All (λ (g : Group). g.times ≤ i + 1)) (sym added)
+                (small_add w.in-Var-entry.number i groups c.loop-entry.invariant.grouped.distinct c.loop-entry.invariant.small);
           }
       | in-Var-entry+else-not-is_variable-2 w ↦
           let settled_entry : is_variable w.in-Var-entry.number c.args.first ≡ true = sym w.is_variable-in-Var-entry.ensures ∙ w.if-not-is_variable-2.false in
-          let same : take c.match-entry.count c.match-entry.groups ≡ groups = ap (λ n. take n c.match-entry.groups) w.count-is ∙ ap (take c.loop-entry.count) w.groups-is in
+          let same : take c.match-entry.count c.match-entry.groups ≡ groups = ap (λ n. take n c.match-entry.groups) w.count-is
+          ∙ ap (take c.loop-entry.count) w.groups-is in
           record {
-            grouped = subst (λ es. IsGrouped c.args.first c.args.output es (take c.match-entry.count c.match-entry.groups)) (sym (more ∙ ap (λ e. so_far ++ e ∷ []) w.in-Var-entry.is))
+            grouped = subst (λ es. IsGrouped c.args.first c.args.output es (take c.match-entry.count c.match-entry.groups))
+                (sym (more ∙ ap (λ e. so_far ++ e ∷ []) w.in-Var-entry.is))
                 (subst (IsGrouped c.args.first c.args.output (so_far ++ entries.Var w.in-Var-entry.number ∷ [])) (sym same)
-                (grouped_skip c.args.first c.args.output so_far groups c.loop-entry.invariant.grouped (entries.Var w.in-Var-entry.number) (centre_open c.args.first w.in-Var-entry.number settled_entry)
+                (grouped_skip c.args.first c.args.output so_far groups c.loop-entry.invariant.grouped (entries.Var w.in-Var-entry.number)
+                (centre_open c.args.first w.in-Var-entry.number settled_entry)
                 (centre_skip c.args.first w.in-Var-entry.number settled_entry)));
             few = omega (arith, w.count-is, c.loop-entry.invariant.few);
             small = subst (All (λ (g : Group). g.times ≤ i + 1)) (sym same) (small_more i groups c.loop-entry.invariant.small);
           }
       | in_default-entry w ↦
-          let same : take c.match-entry.count c.match-entry.groups ≡ groups = ap (λ n. take n c.match-entry.groups) w.count-is ∙ ap (take c.loop-entry.count) w.groups-is in
+          let same : take c.match-entry.count c.match-entry.groups ≡ groups = ap (λ n. take n c.match-entry.groups) w.count-is
+          ∙ ap (take c.loop-entry.count) w.groups-is in
           record {
-            grouped = subst (λ es. IsGrouped c.args.first c.args.output es (take c.match-entry.count c.match-entry.groups)) (sym (more ∙ ap (λ e. so_far ++ e ∷ []) w.in_default-entry.is))
+            grouped = subst (λ es. IsGrouped c.args.first c.args.output es (take c.match-entry.count c.match-entry.groups))
+                (sym (more ∙ ap (λ e. so_far ++ e ∷ []) w.in_default-entry.is))
                 (subst (IsGrouped c.args.first c.args.output (so_far ++ entries.Fixed w.in_default-entry.field-0 ∷ [])) (sym same)
-                (grouped_skip c.args.first c.args.output so_far groups c.loop-entry.invariant.grouped (entries.Fixed w.in_default-entry.field-0) (λ choice t. refl)
+                (grouped_skip c.args.first c.args.output so_far groups c.loop-entry.invariant.grouped (entries.Fixed w.in_default-entry.field-0)
+                (λ choice t. refl)
                 (fixed_skip c.args.first w.in_default-entry.field-0)));
             few = omega (arith, w.count-is, c.loop-entry.invariant.few);
             small = subst (All (λ (g : Group). g.times ≤ i + 1)) (sym same) (small_more i groups c.loop-entry.invariant.small);

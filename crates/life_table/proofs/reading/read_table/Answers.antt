@@ -28,12 +28,16 @@ returns-in_err-line-clause-err c =
     let p = err_from_is_err_and c.from_residual.result c.from_residual.ensures.1 in
     let pairs : List Numbered = map numbered c.loop-number.yielded in
     let fault : Fault = c.in_err-line.field-0.0 in
-    let directive : OrMemory fault ((parse_line c.loop-number.reader.parsed c.in-Some.number c.in-Some.line.now ≡ Err fault.kind) × (fault.place.line ≡ c.in-Some.number)) = c.in_err-line.ensures.err in
-    let all : pairs ++ (c.in-Some.number, c.in-Some.line.now) ∷ numbered_from c.next.new.self.number (lines_of c.next.new.self.rest.now) ≡ numbered_from 1 (lines_of c.args.bytes.now) =
+    let directive : OrMemory fault
+    ((parse_line c.loop-number.reader.parsed c.in-Some.number c.in-Some.line.now ≡ Err fault.kind) × (fault.place.line ≡ c.in-Some.number))
+    = c.in_err-line.ensures.err in
+    let all : pairs ++ (c.in-Some.number, c.in-Some.line.now) ∷ numbered_from c.next.new.self.number (lines_of c.next.new.self.rest.now)
+    ≡ numbered_from 1 (lines_of c.args.bytes.now) =
     ap (λ (t : List Numbered). pairs ++ t) (sym c.in-Some.ensures.steps) ∙ c.loop-number.invariant.all in
     let answer : OrMemory fault (Refuses (lines_of c.args.bytes.now) fault) = elim directive [
       | inl m ↦ inl m
-      | inr w ↦ inr (refused_at (lines_of c.args.bytes.now) pairs c.in-Some.number c.in-Some.line.now _ all c.loop-number.reader.parsed c.loop-number.reader.fits c.loop-number.invariant.reads fault w.0 w.1)
+      | inr w ↦ inr (refused_at (lines_of c.args.bytes.now) pairs c.in-Some.number c.in-Some.line.now _ all c.loop-number.reader.parsed
+          c.loop-number.reader.fits c.loop-number.invariant.reads fault w.0 w.1)
     ] in
     rw (p.1, p.2) answer
 
@@ -42,8 +46,10 @@ returns-in_err-line-clause-kinds c =
     let p = err_from_is_err_and c.from_residual.result c.from_residual.ensures.1 in
     let fault : Fault = c.in_err-line.field-0.0 in
     let parsed : Parsed = c.loop-number.reader.parsed in
-    let directive : OrMemory fault ((parse_line parsed c.in-Some.number c.in-Some.line.now ≡ Err fault.kind) × (fault.place.line ≡ c.in-Some.number)) = c.in_err-line.ensures.err in
-    let answer : OrMemory fault (is_table_kind fault.kind ≡ true) = elim directive [ inl m ↦ inl m | inr w ↦ inr (directive_kind parsed c.in-Some.number c.in-Some.line.now fault.kind w.0) ] in
+    let directive : OrMemory fault ((parse_line parsed c.in-Some.number c.in-Some.line.now ≡ Err fault.kind) × (fault.place.line ≡ c.in-Some.number))
+    = c.in_err-line.ensures.err in
+    let answer : OrMemory fault (is_table_kind fault.kind ≡ true) = elim directive
+    [ inl m ↦ inl m | inr w ↦ inr (directive_kind parsed c.in-Some.number c.in-Some.line.now fault.kind w.0) ] in
     rw (p.1, p.2) answer
 
 pub loop-number-preserved : goal.loop-number-preserved
@@ -53,15 +59,18 @@ loop-number-preserved c =
     let number : ℕ = c.in-Some.number in
     let line : List ℕ = c.in-Some.line.now in
     let rest : List Numbered = numbered_from c.next.new.self.number (lines_of c.next.new.self.rest.now) in
-    let all : pairs ++ (number, line) ∷ rest ≡ numbered_from 1 lines = ap (λ (t : List Numbered). pairs ++ t) (sym c.in-Some.ensures.steps) ∙ c.loop-number.invariant.all in
+    let all : pairs ++ (number, line) ∷ rest ≡ numbered_from 1 lines = ap (λ (t : List Numbered). pairs ++ t) (sym c.in-Some.ensures.steps)
+    ∙ c.loop-number.invariant.all in
     let more : map numbered (c.loop-number.yielded ++ (c.in-Some.number, c.in-Some.line) ∷ []) ≡ pairs ++ (number, line) ∷ [] =
     map-append numbered c.loop-number.yielded ((c.in-Some.number, c.in-Some.line) ∷ []) in
     let ok = c.in_ok-line.ensures.ok in
     record {
       all = ap (λ (t : List Numbered). t ++ rest) more ∙ append_assoc pairs ((number, line) ∷ []) rest ∙ all;
       reads = subst (λ (ps : List Numbered). Reads ps c.line.new.self.parsed c.line.new.self.fits) (sym more)
-          (reads_more lines pairs number line rest all c.loop-number.reader.parsed c.loop-number.reader.fits c.loop-number.invariant.reads ok.0 c.line.new.self.parsed c.line.new.self.fits ok.1 ok.2 ok.3);
-      next = next_number lines pairs number line rest all c.loop-number.reader.parsed c.loop-number.reader.fits c.loop-number.invariant.reads c.saturating_add-next.result c.saturating_add-next.ensures
+          (reads_more lines pairs number line rest all c.loop-number.reader.parsed c.loop-number.reader.fits c.loop-number.invariant.reads ok.0
+          c.line.new.self.parsed c.line.new.self.fits ok.1 ok.2 ok.3);
+      next = next_number lines pairs number line rest all c.loop-number.reader.parsed c.loop-number.reader.fits c.loop-number.invariant.reads
+          c.saturating_add-next.result c.saturating_add-next.ensures
           ∙ ap (λ (ps : List Numbered). min (length ps + 1) (2 ^ 64 - 1)) (sym more);
     }
 
@@ -75,7 +84,9 @@ returns-clause-ok c =
 
 pub returns-clause-err : goal.returns-clause-err
 returns-clause-err c =
-    MatchResult-weaker c.table_of.result {Q = λ fault. OrMemory fault ((lacking c.loop-number.reader.parsed ≡ Some fault.kind) × (fault.place.line ≡ c.loop-number.next))} c.table_of.ensures.err (λ table h. h) (λ fault h. elim h [
+    MatchResult-weaker c.table_of.result
+    {Q = λ fault. OrMemory fault ((lacking c.loop-number.reader.parsed ≡ Some fault.kind) × (fault.place.line ≡ c.loop-number.next))} c.table_of.ensures.err
+    (λ table h. h) (λ fault h. elim h [
       | inl m ↦ inl m
       | inr w ↦ inr (refused_at_end (lines_of c.args.bytes.now) (map numbered c.loop-number.yielded) _ c.loop-number.invariant.all c.in-None.ensures.steps.0
           c.loop-number.reader.parsed c.loop-number.reader.fits c.loop-number.invariant.reads fault c.loop-number.next w.0 w.1 c.loop-number.invariant.next)
@@ -83,8 +94,13 @@ returns-clause-err c =
 
 pub returns-clause-kinds : goal.returns-clause-kinds
 returns-clause-kinds c =
-    MatchResult-weaker c.table_of.result {Q = λ fault. OrMemory fault ((lacking c.loop-number.reader.parsed ≡ Some fault.kind) × (fault.place.line ≡ c.loop-number.next))} c.table_of.ensures.err (λ table h. h)
+    MatchResult-weaker c.table_of.result
+    {Q = λ fault. OrMemory fault ((lacking c.loop-number.reader.parsed ≡ Some fault.kind) × (fault.place.line ≡ c.loop-number.next))} c.table_of.ensures.err
+    (λ table h. h)
     (λ fault h. elim h [ inl m ↦ inl m | inr w ↦ inr (lacking_kind c.loop-number.reader.parsed fault.kind w.0) ])
 
 pub table_of-requires : goal.table_of-requires
-table_of-requires c = record { good = good_reads (map numbered c.loop-number.yielded) c.loop-number.reader.parsed c.loop-number.reader.fits c.loop-number.invariant.reads }
+table_of-requires c = record {
+  good = good_reads (map numbered c.loop-number.yielded) c.loop-number.reader.parsed c.loop-number.reader.fits
+      c.loop-number.invariant.reads;
+}

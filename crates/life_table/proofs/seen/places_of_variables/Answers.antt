@@ -16,8 +16,11 @@ loop-i-preserved c =
         | inl here ↦
             ap (λ n. bit_at (slice_index (set c.loop-i.places i y) n) k) here.1
             ∙ ap (λ n. bit_at n k) (get_or-set_same c.loop-i.places i y 0 (omega (arith, room, c.min-i-end.ensures, c.loop-i.invariant.size)))
-            ∙ c.places_of_variable.ensures k few (subst (λ v. IsTrue (has_state v (slice_index c.args.around.now k))) (same_there c.args.vars.now i j var c.index-vars-i.result here.1 (omega (arith, room, c.min-i-end.ensures)) is c.index-vars-i.is) has)
-        | inr other ↦ ap (λ n. bit_at n k) (get_or-set_other c.loop-i.places i j y 0 other.1) ∙ c.loop-i.invariant.each j k (omega (arith, below, other.1)) few var is has
+            ∙ c.places_of_variable.ensures k few
+            (subst (λ v. IsTrue (has_state v (slice_index c.args.around.now k)))
+            (same_there c.args.vars.now i j var c.index-vars-i.result here.1 (omega (arith, room, c.min-i-end.ensures)) is c.index-vars-i.is) has)
+        | inr other ↦ ap (λ n. bit_at n k) (get_or-set_other c.loop-i.places i j y 0 other.1) ∙ c.loop-i.invariant.each j k (omega (arith, below, other.1)) few
+            var is has
       ];
       size = length-set c.loop-i.places i y ∙ c.loop-i.invariant.size;
     }

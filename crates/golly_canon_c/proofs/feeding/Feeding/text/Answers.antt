@@ -24,7 +24,8 @@ pub returns-in-Rle-clause-text : goal.returns-in-Rle-clause-text
 returns-in-Rle-clause-text c =
     let bytes = c.self.inside.reader.bytes in
     IfOk-weaker c.rle_of.result _ _ (λ text h. subst (λ (v : Piecewise). IsTextOf v.form v.bytes text.items) c.self.view_is
-    (subst (λ (form : Form). IsTextOf form bytes text.items) (sym c.in-Rle.is) (h.0 bytes c.in_ok-pattern.ensures.pattern.1, h.1 bytes c.in_ok-pattern.ensures.pattern.1)))
+    (subst (λ (form : Form). IsTextOf form bytes text.items) (sym c.in-Rle.is)
+    (h.0 bytes c.in_ok-pattern.ensures.pattern.1, h.1 bytes c.in_ok-pattern.ensures.pattern.1)))
     (both _ _ c.rle_of.result c.rle_of.ensures.text c.rle_of.ensures.same)
 
 pub returns-in-Rle-clause-fault : goal.returns-in-Rle-clause-fault

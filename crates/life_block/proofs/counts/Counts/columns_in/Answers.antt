@@ -25,10 +25,13 @@ loop-count-preserved c =
           let one : bit_at set n ≡ 1 = sym (shr_and_one set n) ∙ w.if-set-count-eq1.true in
           record {
             found = λ i l b. elim (below-next (at i) n b) [
-              | inl less ↦ (let o = or i in let a = inv.found i l less in let z = w.columns_with-columns.ensures.others i l (λ e. omega (arith, e, less)) in omega (arith, o, a, z))
-              | inr same ↦ (let o = or i in let z = w.columns_with-columns.ensures.here i l same in let a = inv.clear i l (omega (arith, same)) in let s : bit_at set (at i) ≡ 1 = ap (bit_at set) same ∙ one in omega (arith, o, a, z, s))
+              | inl less ↦ (let o = or i in let a = inv.found i l less in let z = w.columns_with-columns.ensures.others i l (λ e. omega (arith, e, less)) in
+                  omega (arith, o, a, z))
+              | inr same ↦ (let o = or i in let z = w.columns_with-columns.ensures.here i l same in let a = inv.clear i l (omega (arith, same)) in
+                  let s : bit_at set (at i) ≡ 1 = ap (bit_at set) same ∙ one in omega (arith, o, a, z, s))
             ];
-            clear = λ i l b. (let o = or i in let a = inv.clear i l (omega (arith, b)) in let z = w.columns_with-columns.ensures.others i l (λ e. omega (arith, e, b)) in omega (arith, o, a, z));
+            clear = λ i l b. (let o = or i in let a = inv.clear i l (omega (arith, b)) in
+                let z = w.columns_with-columns.ensures.others i l (λ e. omega (arith, e, b)) in omega (arith, o, a, z));
           }
       | else-set-count-eq1 w ↦
           let same-bit : (i : ℕ) → bit_at new i ≡ bit_at old i = λ i. ap (λ z. bit_at z i) w.columns-is in
@@ -36,7 +39,8 @@ loop-count-preserved c =
           record {
             found = λ i l b. elim (below-next (at i) n b) [
               | inl less ↦ same-bit i ∙ inv.found i l less
-              | inr same ↦ (let o = same-bit i in let a = inv.clear i l (omega (arith, same)) in let lt = bit_at-lt set (at i) in let ne : bit_at set (at i) ≡ 1 → ⊥ = (λ e. not (sym (ap (bit_at set) same) ∙ e)) in omega (arith, o, a, lt, ne))
+              | inr same ↦ (let o = same-bit i in let a = inv.clear i l (omega (arith, same)) in let lt = bit_at-lt set (at i) in
+                  let ne : bit_at set (at i) ≡ 1 → ⊥ = (λ e. not (sym (ap (bit_at set) same) ∙ e)) in omega (arith, o, a, lt, ne))
             ];
             clear = λ i l b. same-bit i ∙ inv.clear i l (omega (arith, b));
           }

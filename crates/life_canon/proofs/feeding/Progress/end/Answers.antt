@@ -42,7 +42,8 @@ returns-in-Rle-clause-pattern c =
     IfOk-weaker c.trimmed_pattern.result _ _
     (λ pattern h. (u, subst (λ (ls : List (List ℕ)). Says MAX_LEVEL ls u) (sym (ap taken c.in-Rle.is)) (as_rle found.0 found.1), h))
     (c.trimmed_pattern.ensures.pattern u (sym found.2) (sym found.3)
-    (λ x y. c.in_ok-root-in-Rle.ensures.cells x y ∙ ap (λ (rs : List GivenRun). state_by rs x y) built.same ∙ file-cells c.in-Rle.lines.lines built.runs found.0 built.are found.1 x y))
+    (λ x y. c.in_ok-root-in-Rle.ensures.cells x y ∙ ap (λ (rs : List GivenRun). state_by rs x y) built.same
+    ∙ file-cells c.in-Rle.lines.lines built.runs found.0 built.are found.1 x y))
 
 pub returns-in-Rle-clause-keeps : goal.returns-in-Rle-clause-keeps
 returns-in-Rle-clause-keeps c = keeps-then c.in_ok-root-in-Rle.ensures.keeps c.trimmed_pattern.ensures.keeps
@@ -55,7 +56,8 @@ last_square-root-requires c =
       found.0,
       lines_are_valid MAX_LEVEL c.in-Macrocell.lines.lines found.0 are,
       subst (λ (ls : List Line). AreSquaresOf (IsKnown c.args.store.now) (content c.args.store.now) ls c.deref.result.now) (sym are.squares)
-          (subst (λ (ids : List Id). AreSquaresOf (IsKnown c.args.store.now) (content c.args.store.now) (squares_of c.in-Macrocell.lines.lines) ids) (sym c.deref.ensures.value) squares),
+          (subst (λ (ids : List Id). AreSquaresOf (IsKnown c.args.store.now) (content c.args.store.now) (squares_of c.in-Macrocell.lines.lines) ids)
+          (sym c.deref.ensures.value) squares),
     )
 
 pub returns-clause-pattern : goal.returns-clause-pattern
@@ -65,7 +67,8 @@ returns-clause-pattern c =
     let squares = subst (StandsFor (IsKnown c.args.store.now) (content c.args.store.now)) c.in-Macrocell.is c.requires.stands in
     let there : AreSquaresOf (IsKnown c.args.store.now) (content c.args.store.now) found.0.lines c.deref.result.now =
     subst (λ (ls : List Line). AreSquaresOf (IsKnown c.args.store.now) (content c.args.store.now) ls c.deref.result.now) (sym are.squares)
-    (subst (λ (ids : List Id). AreSquaresOf (IsKnown c.args.store.now) (content c.args.store.now) (squares_of c.in-Macrocell.lines.lines) ids) (sym c.deref.ensures.value) squares) in
+    (subst (λ (ids : List Id). AreSquaresOf (IsKnown c.args.store.now) (content c.args.store.now) (squares_of c.in-Macrocell.lines.lines) ids)
+    (sym c.deref.ensures.value) squares) in
     let u = macrocell_universe found.0 in
     IfOk-weaker c.trimmed_pattern-in-Macrocell.result _ _
     (λ pattern h. (u, subst (λ (ls : List (List ℕ)). Says MAX_LEVEL ls u) (sym (ap taken c.in-Macrocell.is)) (as_macrocell found.0 are), h))
@@ -97,7 +100,8 @@ returns-in-Rle-clause-needed c = λ e.
     of_root u (subst (λ (ls : List (List ℕ)). Says MAX_LEVEL ls u) (sym lines) (as_rle found.0 found.1))
     (subst (SomeRoot (IsNew c.trimmed_pattern.new.squares) u) level
     (c.trimmed_pattern.ensures.needed e u (sym found.2)
-    (λ x y. c.in_ok-root-in-Rle.ensures.cells x y ∙ ap (λ (rs : List GivenRun). state_by rs x y) built.same ∙ file-cells c.in-Rle.lines.lines built.runs found.0 built.are found.1 x y)))
+    (λ x y. c.in_ok-root-in-Rle.ensures.cells x y ∙ ap (λ (rs : List GivenRun). state_by rs x y) built.same
+    ∙ file-cells c.in-Rle.lines.lines built.runs found.0 built.are found.1 x y)))
 
 pub returns-clause-needed : goal.returns-clause-needed
 returns-clause-needed c = λ e.
@@ -107,7 +111,8 @@ returns-clause-needed c = λ e.
     let begun = subst IsOpen c.in-Macrocell.is c.requires.begun in
     let there : AreSquaresOf (IsKnown c.args.store.now) (content c.args.store.now) found.0.lines c.deref.result.now =
     subst (λ (ls : List Line). AreSquaresOf (IsKnown c.args.store.now) (content c.args.store.now) ls c.deref.result.now) (sym are.squares)
-    (subst (λ (ids : List Id). AreSquaresOf (IsKnown c.args.store.now) (content c.args.store.now) (squares_of c.in-Macrocell.lines.lines) ids) (sym c.deref.ensures.value) squares) in
+    (subst (λ (ids : List Id). AreSquaresOf (IsKnown c.args.store.now) (content c.args.store.now) (squares_of c.in-Macrocell.lines.lines) ids)
+    (sym c.deref.ensures.value) squares) in
     let valid = lines_are_valid MAX_LEVEL c.in-Macrocell.lines.lines found.0 are in
     let lines : taken c.args.self ≡ c.in-Macrocell.lines.lines = ap taken c.in-Macrocell.is in
     let u = macrocell_universe found.0 in

@@ -20,15 +20,19 @@ pub returns-in-Rle-clause-fault : goal.returns-in-Rle-clause-fault
 returns-in-Rle-clause-fault c =
     let ready = subst (IsReady c.args.line.now) c.in-Rle.is c.begin.ensures.ready in
     let lines : taken c.args.self.now ≡ c.in-Rle.lines.lines = sym c.begin.ensures.lines ∙ ap taken c.in-Rle.is in
-    subst (λ (ls : List (List ℕ)). IfErr c.take_rle_line.result (λ kind. IsWantKind c.take_rle_line.new.squares kind ⊎ Breaks MAX_LEVEL ls c.args.line.now kind)) (sym lines)
-    (rle-fault c.take_rle_line.result c.take_rle_line.new.squares c.in-Rle.lines.lines c.args.line.now ready.0 c.take_rle_line.ensures.fault c.take_rle_line.ensures.full)
+    subst (λ (ls : List (List ℕ)). IfErr c.take_rle_line.result
+    (λ kind. IsWantKind c.take_rle_line.new.squares kind ⊎ Breaks MAX_LEVEL ls c.args.line.now kind)) (sym lines)
+    (rle-fault c.take_rle_line.result c.take_rle_line.new.squares c.in-Rle.lines.lines c.args.line.now ready.0 c.take_rle_line.ensures.fault
+    c.take_rle_line.ensures.full)
 
 pub returns-in-Rle-clause-needed : goal.returns-in-Rle-clause-needed
 returns-in-Rle-clause-needed c = λ e.
     let lines : taken c.args.self.now ≡ c.in-Rle.lines.lines = sym c.begin.ensures.lines ∙ ap taken c.in-Rle.is in
-    subst (λ (ls : List (List ℕ)). SomeOfLines MAX_LEVEL (IsNew c.take_rle_line.new.squares) (ls ++ c.args.line.now ∷ [])) (sym lines) (c.take_rle_line.ensures.needed e)
+    subst (λ (ls : List (List ℕ)). SomeOfLines MAX_LEVEL (IsNew c.take_rle_line.new.squares) (ls ++ c.args.line.now ∷ [])) (sym lines)
+    (c.take_rle_line.ensures.needed e)
 
 pub returns-in-Macrocell-clause-needed : goal.returns-in-Macrocell-clause-needed
 returns-in-Macrocell-clause-needed c = λ e.
     let lines : taken c.args.self.now ≡ c.in-Macrocell.lines.lines = sym c.begin.ensures.lines ∙ ap taken c.in-Macrocell.is in
-    subst (λ (ls : List (List ℕ)). SomeOfLines MAX_LEVEL (IsNew c.take_macrocell_line.new.squares) (ls ++ c.args.line.now ∷ [])) (sym lines) (c.take_macrocell_line.ensures.needed e)
+    subst (λ (ls : List (List ℕ)). SomeOfLines MAX_LEVEL (IsNew c.take_macrocell_line.new.squares) (ls ++ c.args.line.now ∷ [])) (sym lines)
+    (c.take_macrocell_line.ensures.needed e)

@@ -11,7 +11,8 @@ pub returns-in_err-keep-clause-fault : goal.returns-in_err-keep-clause-fault
 returns-in_err-keep-clause-fault c =
     let p = err_from_is_err_and c.from_residual.result c.from_residual.ensures.1 in
     let n : IsOver c.args.self.now.progress → ⊥ = λ o. not-true c.is_over.result c.if-not-is_over.true (c.is_over.ensures.1 o) in
-    rw (p.1, p.2) (kept-or-refused (bytes_of c.args.self.now.pieces.lines) c.args.self.now.kept.items c.args.rest.now c.args.self.now.ended c.args.self.now.progress c.in_err-keep.field-0.0 c.requires.front n
+    rw (p.1, p.2) (kept-or-refused (bytes_of c.args.self.now.pieces.lines) c.args.self.now.kept.items c.args.rest.now c.args.self.now.ended
+    c.args.self.now.progress c.in_err-keep.field-0.0 c.requires.front n
     (last-feed c.args.self.now.progress c.args.rest.now n c.requires.last) c.in_err-keep.ensures.fault)
 
 pub returns-clause-front : goal.returns-clause-front
@@ -22,14 +23,19 @@ returns-clause-front c = elim c.if-not-is_over.branch [
       let pieces : c.if-not-is_over.self.pieces.lines ≡ c.args.self.now.pieces.lines =
       ap (λ (s : Front). s.pieces.lines) w.self-is ∙ ap (λ (l : LineLog). l.lines) w.keep.ensures.pieces in
       let bytes : bytes_of c.then-self.result.lines ≡ bytes_of c.args.self.now.pieces.lines ++ c.args.rest.now =
-      ap bytes_of (c.then-self.ensures ∙ ap (λ (l : List (List ℕ)). l ++ c.args.rest.now ∷ []) pieces) ∙ bytes-more c.args.self.now.pieces.lines c.args.rest.now in
+      ap bytes_of (c.then-self.ensures ∙ ap (λ (l : List (List ℕ)). l ++ c.args.rest.now ∷ []) pieces)
+      ∙ bytes-more c.args.self.now.pieces.lines c.args.rest.now in
       front-along (sym bytes) (sym (ap (λ (s : Front). s.kept.items) w.self-is ∙ kept.0)) (sym (ap (λ (s : Front). s.ended) w.self-is ∙ w.keep.ensures.count))
       (sym (ap (λ (s : Front). s.progress) w.self-is ∙ w.keep.ensures.progress))
-      (front-kept (bytes_of c.args.self.now.pieces.lines) c.args.self.now.kept.items c.args.rest.now c.args.self.now.ended c.args.self.now.progress c.requires.front n
+      (front-kept (bytes_of c.args.self.now.pieces.lines) c.args.self.now.kept.items c.args.rest.now c.args.self.now.ended c.args.self.now.progress
+      c.requires.front n
       (last-feed c.args.self.now.progress c.args.rest.now n c.requires.last) kept.1)
   | else-not-is_over w ↦
       let bytes : bytes_of c.then-self.result.lines ≡ bytes_of c.args.self.now.pieces.lines ++ c.args.rest.now =
-      ap bytes_of (c.then-self.ensures ∙ ap (λ (l : List (List ℕ)). l ++ c.args.rest.now ∷ []) (ap (λ (s : Front). s.pieces.lines) w.self-is)) ∙ bytes-more c.args.self.now.pieces.lines c.args.rest.now in
-      front-along (sym bytes) (sym (ap (λ (s : Front). s.kept.items) w.self-is)) (sym (ap (λ (s : Front). s.ended) w.self-is)) (sym (ap (λ (s : Front). s.progress) w.self-is))
-      (front-over (bytes_of c.args.self.now.pieces.lines) c.args.self.now.kept.items c.args.rest.now c.args.self.now.ended c.args.self.now.progress c.requires.front (w.if-not-is_over.ensures.0 refl))
+      ap bytes_of (c.then-self.ensures ∙ ap (λ (l : List (List ℕ)). l ++ c.args.rest.now ∷ []) (ap (λ (s : Front). s.pieces.lines) w.self-is))
+      ∙ bytes-more c.args.self.now.pieces.lines c.args.rest.now in
+      front-along (sym bytes) (sym (ap (λ (s : Front). s.kept.items) w.self-is)) (sym (ap (λ (s : Front). s.ended) w.self-is))
+      (sym (ap (λ (s : Front). s.progress) w.self-is))
+      (front-over (bytes_of c.args.self.now.pieces.lines) c.args.self.now.kept.items c.args.rest.now c.args.self.now.ended c.args.self.now.progress
+      c.requires.front (w.if-not-is_over.ensures.0 refl))
 ]

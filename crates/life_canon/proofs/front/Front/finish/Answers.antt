@@ -28,7 +28,8 @@ pub returns-clause-fault : goal.returns-clause-fault
 returns-clause-fault c =
     let told = c.at.ensures ∙ ap (λ (n : ℕ). fault_at n c.in-Err.kind) c.saturating_add.ensures in
     subst (RefusesIn MAX_LEVEL (bytes_of c.args.self.pieces.lines) c.end.new.store) (sym told)
-    (end-fault c.end.new.store (bytes_of c.args.self.pieces.lines) c.take_rest.new.self.ended c.take_rest.new.self.progress c.in-Err.kind c.in_ok-take_rest.ensures.end c.in-Err.ensures.fault)
+    (end-fault c.end.new.store (bytes_of c.args.self.pieces.lines) c.take_rest.new.self.ended c.take_rest.new.self.progress c.in-Err.kind
+    c.in_ok-take_rest.ensures.end c.in-Err.ensures.fault)
 
 pub returns-clause-keeps : goal.returns-clause-keeps
 returns-clause-keeps c = keeps-then c.take_rest.ensures.keeps c.end.ensures.keeps

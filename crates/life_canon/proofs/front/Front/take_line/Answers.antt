@@ -12,7 +12,8 @@ use Rattle.life_canon.proofs.front.Front.take_line.Goals as goal
 
 pub returns-in-Err-clause-fault : goal.returns-in-Err-clause-fault
 returns-in-Err-clause-fault c =
-    subst (λ (f : Fault). IsWant c.take_line.new.store f ⊎ IsLineFault MAX_LEVEL (taken c.args.self.now.progress) c.args.line.now c.args.self.now.ended f) (sym c.fault_here.ensures)
+    subst (λ (f : Fault). IsWant c.take_line.new.store f ⊎ IsLineFault MAX_LEVEL (taken c.args.self.now.progress) c.args.line.now c.args.self.now.ended f)
+    (sym c.fault_here.ensures)
     (fault-of-kind c.take_line.new.store (taken c.args.self.now.progress) c.args.line.now c.args.self.now.ended c.in-Err.kind c.in-Err.ensures.fault)
 
 pub returns-in-Err-clause-needed : goal.returns-in-Err-clause-needed

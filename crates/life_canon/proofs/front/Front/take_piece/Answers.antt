@@ -33,14 +33,16 @@ overflow_add-rest c =
 pub loop-end-preserved : goal.loop-end-preserved
 loop-end-preserved c =
     let rest : List ℕ = c.loop-end.rest.now in
-    let behind : take (length rest - (c.in-Some.end + 1)) (drop (c.in-Some.end + 1) rest) ≡ drop (c.in-Some.end + 1) rest = all_behind rest (c.in-Some.end + 1) in
+    let behind : take (length rest - (c.in-Some.end + 1)) (drop (c.in-Some.end + 1) rest) ≡ drop (c.in-Some.end + 1) rest = all_behind rest
+    (c.in-Some.end + 1) in
     record {
       front = c.in_ok-end_line.ensures.front;
       stands = c.in_ok-end_line.ensures.stands;
       bytes = ap (λ (r : List ℕ). bytes_of c.end_line.new.self.pieces.lines ++ r) behind
           ∙ ap (λ (b : List ℕ). b ++ drop (c.in-Some.end + 1) rest) c.in_ok-end_line.ensures.bytes
           ∙ piece-split (bytes_of c.loop-end.self.pieces.lines) rest c.in-Some.end c.in-Some.ensures.end c.loop-end.invariant.bytes;
-      shorter = subst (λ (r : List ℕ). length r ≤ length c.args.piece.now) (sym behind) (omega (arith, length-drop (c.in-Some.end + 1) rest, c.loop-end.invariant.shorter));
+      shorter = subst (λ (r : List ℕ). length r ≤ length c.args.piece.now) (sym behind)
+          (omega (arith, length-drop (c.in-Some.end + 1) rest, c.loop-end.invariant.shorter));
       keeps = keeps-then c.loop-end.invariant.keeps c.end_line.ensures.keeps;
     }
 
@@ -53,4 +55,5 @@ returns-in_err-end_line-clause-needed c =
     let p = err_from_is_err_and c.from_residual.result c.from_residual.ensures.1 in
     let rest : List ℕ = c.loop-end.rest.now in
     let all = piece-split (bytes_of c.loop-end.self.pieces.lines) rest c.in-Some.end c.in-Some.ensures.end c.loop-end.invariant.bytes in
-    rw (p.1, p.2) (λ e. subst (λ (b : List ℕ). LacksForFront MAX_LEVEL b c.end_line.new.store) all (c.in_err-end_line.ensures.needed e (drop (c.in-Some.end + 1) rest)))
+    rw (p.1, p.2) (λ e. subst (λ (b : List ℕ). LacksForFront MAX_LEVEL b c.end_line.new.store) all
+    (c.in_err-end_line.ensures.needed e (drop (c.in-Some.end + 1) rest)))

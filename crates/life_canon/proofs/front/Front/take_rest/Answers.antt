@@ -18,17 +18,21 @@ pub returns-clause-end : goal.returns-clause-end
 returns-clause-end c =
     let kept : List ℕ = c.args.self.now.kept.items in
     let some : 0 < length kept = grind (arith, nat_tests, c.if-is_empty.ensures) in
-    let taken_one : OnOk c.take_kept.result ((taken c.take_kept.new.self.progress ≡ taken c.args.self.now.progress ++ kept ∷ []) × (c.take_kept.new.self.ended ≡ min (c.args.self.now.ended + 1) (2 ^ 64 - 1))) =
+    let taken_one : OnOk c.take_kept.result
+    ((taken c.take_kept.new.self.progress ≡ taken c.args.self.now.progress ++ kept ∷ [])
+    × (c.take_kept.new.self.ended ≡ min (c.args.self.now.ended + 1) (2 ^ 64 - 1))) =
     both-ok c.take_kept.result c.take_kept.ensures.lines c.take_kept.ensures.count (λ lines count. (lines, count)) in
     both-ok c.take_kept.result c.take_kept.ensures.begun taken_one
-    (λ begun one. kept-end (bytes_of c.args.self.now.pieces.lines) kept c.args.self.now.ended c.take_kept.new.self.ended c.args.self.now.progress c.take_kept.new.self.progress
+    (λ begun one. kept-end (bytes_of c.args.self.now.pieces.lines) kept c.args.self.now.ended c.take_kept.new.self.ended c.args.self.now.progress
+    c.take_kept.new.self.progress
     c.requires.front some begun one.0 one.1)
 
 pub returns-clause-fault : goal.returns-clause-fault
 returns-clause-fault c =
     let kept : List ℕ = c.args.self.now.kept.items in
     let some : 0 < length kept = grind (arith, nat_tests, c.if-is_empty.ensures) in
-    rest-fault c.take_kept.result c.take_kept.new.store (bytes_of c.args.self.now.pieces.lines) kept c.args.self.now.ended c.args.self.now.progress c.requires.front some c.take_kept.ensures.fault
+    rest-fault c.take_kept.result c.take_kept.new.store (bytes_of c.args.self.now.pieces.lines) kept c.args.self.now.ended c.args.self.now.progress
+    c.requires.front some c.take_kept.ensures.fault
 
 pub returns-clause-needed : goal.returns-clause-needed
 returns-clause-needed c =
@@ -37,4 +41,5 @@ returns-clause-needed c =
     let kept : List ℕ = old.kept.items in
     let some : 0 < length kept = grind (arith, nat_tests, c.if-is_empty.ensures) in
     let going = c.requires.front.going (kept-going bytes kept old.ended old.progress c.requires.front some) in
-    λ e. subst (SomeOfFile MAX_LEVEL (IsNew c.take_kept.new.store)) (sym (rest-lines bytes kept old.ended (taken old.progress) going some)) (of_lines (c.take_kept.ensures.needed e))
+    λ e. subst (SomeOfFile MAX_LEVEL (IsNew c.take_kept.new.store)) (sym (rest-lines bytes kept old.ended (taken old.progress) going some))
+    (of_lines (c.take_kept.ensures.needed e))

@@ -23,4 +23,5 @@ returns-clause-over c =
 pub returns-in_err-take_piece-clause-needed : goal.returns-in_err-take_piece-clause-needed
 returns-in_err-take_piece-clause-needed c =
     let p = err_from_is_err_and c.from_residual.result c.from_residual.ensures.1 in
-    rw (p.1, p.2) (λ e. subst (λ (v : Fed). LacksForFront MAX_LEVEL (v.bytes ++ c.args.piece.now) c.take_piece.new.store) c.self.view_is (c.in_err-take_piece.ensures.needed e))
+    rw (p.1, p.2) (λ e. subst (λ (v : Fed). LacksForFront MAX_LEVEL (v.bytes ++ c.args.piece.now) c.take_piece.new.store) c.self.view_is
+    (c.in_err-take_piece.ensures.needed e))

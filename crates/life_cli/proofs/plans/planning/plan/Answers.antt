@@ -22,4 +22,5 @@ returns-clause-once c = let entered = (c.in_ok-matches.ensures.ok simple).1 in r
 
 pub returns-clause-refused : goal.returns-clause-refused
 returns-clause-refused c =
-    refusal_explained (fault_of program (map (λ word. word.now) c.args.words.now)) _ _ c.from_matches.result ((c.in_ok-matches.ensures.ok simple).1) c.from_matches.ensures.refused
+    refusal_explained (fault_of program (map (λ word. word.now) c.args.words.now)) _ _ c.from_matches.result ((c.in_ok-matches.ensures.ok simple).1)
+    c.from_matches.ensures.refused

@@ -18,17 +18,21 @@ short : (line : List ℕ) (v : Bool) → v ≡ is_too_long line → v ≡ false 
 short line v e h = omega (arith, ltb-false (2 ^ 20) (length line) (sym e ∙ h))
 
 pub returns-then-is_too_long-clause-err : goal.returns-then-is_too_long-clause-err
-returns-then-is_too_long-clause-err c = λ lines s. inr (breaks_length MAX_LEVEL lines c.args.line.now (long c.args.line.now c.is_too_long.result c.is_too_long.ensures c.if-is_too_long.true))
+returns-then-is_too_long-clause-err c = λ lines s.
+    inr (breaks_length MAX_LEVEL lines c.args.line.now (long c.args.line.now c.is_too_long.result c.is_too_long.ensures c.if-is_too_long.true))
 
 pub returns-then-not-begins_with-clause-err : goal.returns-then-not-begins_with-clause-err
 returns-then-not-begins_with-clause-err c = λ lines s.
     let started : c.args.self.now.started ≡ false = ap (λ (v : Standing). v.started) (sym c.self.view_is) ∙ c.if-not-self.true in
-    inr (breaks_header MAX_LEVEL lines c.args.line.now c.args.self.now s (short c.args.line.now c.is_too_long.result c.is_too_long.ensures c.if-is_too_long.false) started (sym c.begins_with.ensures ∙ c.if-not-begins_with.true))
+    inr (breaks_header MAX_LEVEL lines c.args.line.now c.args.self.now s
+    (short c.args.line.now c.is_too_long.result c.is_too_long.ensures c.if-is_too_long.false) started
+    (sym c.begins_with.ensures ∙ c.if-not-begins_with.true))
 
 pub returns-then-not-self-clause-ok : goal.returns-then-not-self-clause-ok
 returns-then-not-self-clause-ok c = λ lines s.
     let started : c.args.self.now.started ≡ false = ap (λ (v : Standing). v.started) (sym c.self.view_is) ∙ c.if-not-self.true in
-    stands_first MAX_LEVEL lines c.args.line.now c.args.self.now _ s (short c.args.line.now c.is_too_long.result c.is_too_long.ensures c.if-is_too_long.false) started (sym c.begins_with.ensures ∙ c.if-not-begins_with.false) refl
+    stands_first MAX_LEVEL lines c.args.line.now c.args.self.now _ s (short c.args.line.now c.is_too_long.result c.is_too_long.ensures c.if-is_too_long.false)
+    started (sym c.begins_with.ensures ∙ c.if-not-begins_with.false) refl
     (ap (λ (v : Standing). v.rule) c.self.view_is) (ap (λ (v : Standing). v.generation) c.self.view_is) (ap (λ (v : Standing). v.levels) c.self.view_is)
 
 pub returns-in_err-directive-clause-err : goal.returns-in_err-directive-clause-err
@@ -38,12 +42,14 @@ returns-in_err-directive-clause-err c = λ lines s.
     let kind : Kind = c.in_err-directive.field-0.0 in
     let started : now.started ≡ true = ap (λ (v : Standing). v.started) (sym c.self.view_is) ∙ c.if-not-self.false in
     let same : broken_after MAX_LEVEL now.rule now.levels line ≡ broken_after MAX_LEVEL c.self.inside.rule c.deref.result.now line =
-    ap (λ (v : Standing). broken_after MAX_LEVEL v.rule v.levels line) (sym c.self.view_is) ∙ ap (λ (ls : List ℕ). broken_after MAX_LEVEL c.self.inside.rule ls line) (sym c.deref.ensures.value) in
+    ap (λ (v : Standing). broken_after MAX_LEVEL v.rule v.levels line) (sym c.self.view_is)
+    ∙ ap (λ (ls : List ℕ). broken_after MAX_LEVEL c.self.inside.rule ls line) (sym c.deref.ensures.value) in
     let directive : (kind ≡ Memory) ⊎ (broken_after MAX_LEVEL c.self.inside.rule c.deref.result.now line ≡ Some kind) = c.in_err-directive.ensures in
     let p = err_from_is_err_and c.from_residual.result c.from_residual.ensures.1 in
     let answer : (kind ≡ Memory) ⊎ (broken MAX_LEVEL lines line ≡ Some kind) = elim directive [
       | inl m ↦ inl m
-      | inr b ↦ inr (broken_is MAX_LEVEL lines line now s (short c.args.line.now c.is_too_long.result c.is_too_long.ensures c.if-is_too_long.false) started ∙ same ∙ b)
+      | inr b ↦ inr (broken_is MAX_LEVEL lines line now s (short c.args.line.now c.is_too_long.result c.is_too_long.ensures c.if-is_too_long.false) started
+          ∙ same ∙ b)
     ] in
     rw (p.1, p.2) answer
 
@@ -54,9 +60,11 @@ returns-clause-ok c = λ lines s.
     let directive = c.in_ok-directive.directive in
     let started : now.started ≡ true = ap (λ (v : Standing). v.started) (sym c.self.view_is) ∙ c.if-not-self.false in
     let same : broken_after MAX_LEVEL now.rule now.levels line ≡ broken_after MAX_LEVEL c.self.inside.rule c.deref.result.now line =
-    ap (λ (v : Standing). broken_after MAX_LEVEL v.rule v.levels line) (sym c.self.view_is) ∙ ap (λ (ls : List ℕ). broken_after MAX_LEVEL c.self.inside.rule ls line) (sym c.deref.ensures.value) in
+    ap (λ (v : Standing). broken_after MAX_LEVEL v.rule v.levels line) (sym c.self.view_is)
+    ∙ ap (λ (ls : List ℕ). broken_after MAX_LEVEL c.self.inside.rule ls line) (sym c.deref.ensures.value) in
     combine c.keep.result c.keep.ensures.square c.keep.ensures.rule c.keep.ensures.generation c.keep.ensures.levels
     (λ square p r g l.
-    let n = stands_next MAX_LEVEL lines line now c.keep.new.self s (short c.args.line.now c.is_too_long.result c.is_too_long.ensures c.if-is_too_long.false) directive started (same ∙ c.in_ok-directive.ensures.1) c.in_ok-directive.ensures.0
+    let n = stands_next MAX_LEVEL lines line now c.keep.new.self s (short c.args.line.now c.is_too_long.result c.is_too_long.ensures c.if-is_too_long.false)
+    directive started (same ∙ c.in_ok-directive.ensures.1) c.in_ok-directive.ensures.0
     c.keep.ensures.started r g l in
     (p ∙ n.0, n.1))

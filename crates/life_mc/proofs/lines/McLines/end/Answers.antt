@@ -24,4 +24,5 @@ pub returns-clause-file : goal.returns-clause-file
 returns-clause-file c =
     let inside = c.self.inside in
     rw c.ok_or.ensures.value
-    (subst (λ (v : LinesRead). IfOk (ok_or c.rule_and_generation.result NoHeader) (IsEnd v.lines)) c.self.view_is (ended c.rule_and_generation.result inside.log.lines inside.kept (c.self.invariant c.if-self.false) c.rule_and_generation.ensures))
+    (subst (λ (v : LinesRead). IfOk (ok_or c.rule_and_generation.result NoHeader) (IsEnd v.lines)) c.self.view_is
+    (ended c.rule_and_generation.result inside.log.lines inside.kept (c.self.invariant c.if-self.false) c.rule_and_generation.ensures))

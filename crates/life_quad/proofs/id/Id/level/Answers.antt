@@ -28,4 +28,5 @@ returns-then-self-lt-FIRST_NODE c = λ s e k.
 
 pub returns-in-Some : goal.returns-in-Some
 returns-in-Some c = λ s e k.
-    node_level s c.args.self c.in-Some.level.now _ k c.if-self-lt-FIRST_NODE.false (c.in-Some.ensures.lookup.1 ∙ ap (λ v. get_or v (c.args.self.0 - 66064) c.in-Some.level.now) e)
+    node_level s c.args.self c.in-Some.level.now _ k c.if-self-lt-FIRST_NODE.false
+    (c.in-Some.ensures.lookup.1 ∙ ap (λ v. get_or v (c.args.self.0 - 66064) c.in-Some.level.now) e)

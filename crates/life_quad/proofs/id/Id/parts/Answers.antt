@@ -34,7 +34,8 @@ of_small c l s k =
     let there = c.small_parts.ensures q.nw q.ne q.sw q.se (small.number ∙ ap Some (sym same)) in
     subst (λ ids. All (Knows s) ids × (map (square_of (squares s.nodes)) ids ≡ quarters (square_of (squares s.nodes) c.args.self))) (sym there)
     (parts_are s (Knows s) _ (id_of q.nw) (id_of q.ne) (id_of q.sw) (id_of q.se)
-    (knows_quarter s 0 _ k.sound (omega arith) small.is.nw) (knows_quarter s 0 _ k.sound (omega arith) small.is.ne) (knows_quarter s 0 _ k.sound (omega arith) small.is.sw) (knows_quarter s 0 _ k.sound (omega arith) small.is.se)
+    (knows_quarter s 0 _ k.sound (omega arith) small.is.nw) (knows_quarter s 0 _ k.sound (omega arith) small.is.ne)
+    (knows_quarter s 0 _ k.sound (omega arith) small.is.sw) (knows_quarter s 0 _ k.sound (omega arith) small.is.se)
     (square_of-small (squares s.nodes) c.args.self l u ∙ small_node (squares s.nodes) q c.args.self.0 small.number))
 
 of_blank-one : (c : goal.After-small_parts) → c.args.self.0 ≡ 256 → (s : Nodes) → Knows s c.args.self → AreParts s c.args.self c.small_parts.result
@@ -42,7 +43,11 @@ unfolding small_of
 of_blank-one c e s k =
     let same : c.max.result ≡ 512 = let m = c.max.ensures in omega (arith, m) in
     let there = c.small_parts.ensures 0 0 0 0 (ap Some (sym same)) in
-    let known : Knows s (id_of 0) = record { sound = k.sound; named = record { below = omega arith; blank = λ l. omega arith }; joined = λ l u. absurd (omega arith) } in
+    let known : Knows s (id_of 0) = record {
+      sound = k.sound;
+      named = record { below = omega arith; blank = λ l. omega arith };
+      joined = λ l u. absurd (omega arith);
+    } in
     let square = state_content s (id_of 0) known (omega arith) in
     let level : suc (c.args.self.0 - 256) ≡ 1 = omega arith in
     subst (λ ids. All (Knows s) ids × (map (square_of (squares s.nodes)) ids ≡ quarters (square_of (squares s.nodes) c.args.self))) (sym there)
@@ -53,7 +58,8 @@ pub returns-then-self-lt-FIRST_NODE : goal.returns-then-self-lt-FIRST_NODE
 returns-then-self-lt-FIRST_NODE c = λ s e k.
     elim c.else-self-gt-CELLS.branch [
       | else-self-gt-CELLS-via-then-self-gt-CELLS+else-self-lt-FIRST_SMALL w ↦ of_small c w.if-self-lt-FIRST_SMALL.false s k
-      | else-self-gt-CELLS-via-else-self-gt-CELLS w ↦ of_blank-one c (let a = w.if-self-gt-CELLS.false in let b = c.if-self-lt-CELLS.false in omega (arith, a, b)) s k
+      | else-self-gt-CELLS-via-else-self-gt-CELLS w ↦ of_blank-one c (let a = w.if-self-gt-CELLS.false in let b = c.if-self-lt-CELLS.false in
+          omega (arith, a, b)) s k
     ]
 
 pub returns : goal.returns
@@ -63,5 +69,6 @@ returns c = λ s e k.
     let node = sound.entries _ _ at in
     let lt : c.args.self.0 - 66064 < length s.nodes = slice_get_within s.nodes _ _ at in
     parts_are s (Knows s) _ _ _ _ _
-    (knows_quarter s _ _ sound (omega arith) node.nw) (knows_quarter s _ _ sound (omega arith) node.ne) (knows_quarter s _ _ sound (omega arith) node.sw) (knows_quarter s _ _ sound (omega arith) node.se)
+    (knows_quarter s _ _ sound (omega arith) node.nw) (knows_quarter s _ _ sound (omega arith) node.ne) (knows_quarter s _ _ sound (omega arith) node.sw)
+    (knows_quarter s _ _ sound (omega arith) node.se)
     (node_content _ _ _ sound c.if-self-lt-FIRST_NODE.false at)

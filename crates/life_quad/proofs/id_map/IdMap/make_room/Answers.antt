@@ -13,16 +13,20 @@ returns-clause-same g c = λ q.
     let place : ℕ = c.place_of-place.result in
     let new : List ℕ = set c.make_place.new.starts.items place c.len-start.result in
     let start : c.len-start.result ≡ length values = let l = c.len-start.ensures in let k = c.self.inside.values.ok in omega (arith, l, k) in
-    let room : place < length c.make_place.new.starts.items = let l = c.in_ok-make_place.ensures.room in let k = c.make_place.new.starts.ok in omega (arith, l, k) in
+    let room : place < length c.make_place.new.starts.items = let l = c.in_ok-make_place.ensures.room in let k = c.make_place.new.starts.ok in
+    omega (arith, l, k) in
     let index : c.index_of.result ≡ index_in starts c.args.id.0 = c.index_of.ensures ∙ ap (λ s. index_in s c.args.id.0) c.deref.ensures.value in
     let none : length values ≤ index_in starts c.args.id.0 = omega (arith, start, index, c.if-index_of-start.false) in
     let here : start_in new place ≡ length values = get_or-set_same c.make_place.new.starts.items place c.len-start.result 4294967295 room ∙ start in
-    let others : (p : ℕ) → p ≢ place → start_in new p ≡ start_in starts p = λ p o. get_or-set_other c.make_place.new.starts.items place p c.len-start.result 4294967295 o ∙ c.make_place.ensures.same p in
+    let others : (p : ℕ) → p ≢ place → start_in new p ≡ start_in starts p = λ p o. get_or-set_other c.make_place.new.starts.items place p c.len-start.result
+    4294967295 o ∙ c.make_place.ensures.same p in
     let count : c.len-start.result + 256 - vec_len c.self.inside.values ≡ 256 = let l = c.len-start.ensures in omega (arith, l) in
     let short : length values ≤ c.len-start.result + 256 = omega (arith, start) in
     let items : c.resize.new.self.items ≡ values ++ replicate 256 absent =
-    c.in_ok-resize.ensures.items ∙ ap (λ l. l ++ replicate (c.len-start.result + 256 - vec_len c.self.inside.values) absent) (take_all (c.len-start.result + 256) values short) ∙ ap (λ n. values ++ replicate n absent) count in
-    ap (λ l. get_or l (index_in new q.0) absent) items ∙ same_values starts new values absent place c.args.id.0 q.0 c.self.invariant (sym c.place_of-place.ensures) none here others ∙ ap (λ v. value_of v q) c.self.view_is
+    c.in_ok-resize.ensures.items ∙ ap (λ l. l ++ replicate (c.len-start.result + 256 - vec_len c.self.inside.values) absent)
+    (take_all (c.len-start.result + 256) values short) ∙ ap (λ n. values ++ replicate n absent) count in
+    ap (λ l. get_or l (index_in new q.0) absent) items ∙ same_values starts new values absent place c.args.id.0 q.0 c.self.invariant
+    (sym c.place_of-place.ensures) none here others ∙ ap (λ v. value_of v q) c.self.view_is
 
 pub invariant_of-self-2 : goal.invariant_of-self-2
 invariant_of-self-2 g c =
@@ -31,8 +35,11 @@ invariant_of-self-2 g c =
     let place : ℕ = c.place_of-place.result in
     let new : List ℕ = set c.make_place.new.starts.items place c.len-start.result in
     let start : c.len-start.result ≡ length values = let l = c.len-start.ensures in let k = c.self.inside.values.ok in omega (arith, l, k) in
-    let room : place < length c.make_place.new.starts.items = let l = c.in_ok-make_place.ensures.room in let k = c.make_place.new.starts.ok in omega (arith, l, k) in
+    let room : place < length c.make_place.new.starts.items = let l = c.in_ok-make_place.ensures.room in let k = c.make_place.new.starts.ok in
+    omega (arith, l, k) in
     let here : start_in new place ≡ length values = get_or-set_same c.make_place.new.starts.items place c.len-start.result 4294967295 room ∙ start in
-    let others : (p : ℕ) → p ≢ place → start_in new p ≡ start_in starts p = λ p o. get_or-set_other c.make_place.new.starts.items place p c.len-start.result 4294967295 o ∙ c.make_place.ensures.same p in
-    let sum : length c.resize.new.self.items ≡ length values + 256 = let l = c.in_ok-resize.ensures.len in let k = c.resize.new.self.ok in omega (arith, l, k, start) in
+    let others : (p : ℕ) → p ≢ place → start_in new p ≡ start_in starts p = λ p o. get_or-set_other c.make_place.new.starts.items place p c.len-start.result
+    4294967295 o ∙ c.make_place.ensures.same p in
+    let sum : length c.resize.new.self.items ≡ length values + 256 = let l = c.in_ok-resize.ensures.len in let k = c.resize.new.self.ok in
+    omega (arith, l, k, start) in
     one_page starts new (length values) (length c.resize.new.self.items) place c.self.invariant sum (omega (arith, sum, start, c.if-start.false)) here others

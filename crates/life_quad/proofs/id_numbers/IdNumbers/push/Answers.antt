@@ -7,7 +7,8 @@ use Rattle.life_quad.proofs.id_numbers.IdNumbers.push.Goals as goal
 
 pub overflow_add-self : goal.overflow_add-self
 overflow_add-self c =
-    let absent : ¬ Contains (map id_of c.self.inside.log.ids) c.args.id = subst (λ (v : Numbered). ¬ Contains v.ids c.args.id) (sym c.self.view_is) c.requires.new in
+    let absent : ¬ Contains (map id_of c.self.inside.log.ids) c.args.id = subst (λ (v : Numbered). ¬ Contains v.ids c.args.id) (sym c.self.view_is)
+    c.requires.new in
     let room : c.args.id.0 < length c.self.inside.numbers.items = subst (λ (v : Numbered). c.args.id.0 < v.bound) (sym c.self.view_is) c.requires.room in
     let left = number_left (map id_of c.self.inside.log.ids) c.self.inside.numbers.items c.args.id c.self.invariant.0 absent room in
     omega (arith, left, c.self.invariant.1, c.self.invariant.2)
@@ -19,6 +20,10 @@ invariant_of-self c =
     let absent : ¬ Contains ids c.args.id = subst (λ (v : Numbered). ¬ Contains v.ids c.args.id) (sym c.self.view_is) c.requires.new in
     let room : c.args.id.0 < length numbers = subst (λ (v : Numbered). c.args.id.0 < v.bound) (sym c.self.view_is) c.requires.room in
     let number : c.self.inside.count + 1 ≡ length ids + 1 = ap (λ n. n + 1) c.self.invariant.1 in
-    let more : map id_of c.then-self-inside.result.ids ≡ ids ++ c.args.id ∷ [] = ids_more c.self.inside.log.ids c.then-self-inside.result.ids c.args.id c.then-self-inside.ensures in
-    let placed = one_numbered ids numbers c.args.id (c.self.inside.count + 1) c.self.invariant.0 absent room number in
-    (rw more placed, number ∙ sym (ap length more ∙ length-append ids (c.args.id ∷ [])), subst (λ n. n < 4294967296) (sym (length-set numbers c.args.id.0 (c.self.inside.count + 1))) c.self.invariant.2)
+    let more : map id_of c.then-self-inside.result.ids ≡ ids ++ c.args.id ∷ [] = ids_more c.self.inside.log.ids c.then-self-inside.result.ids c.args.id
+    c.then-self-inside.ensures in
+    let placed = one_numbered ids numbers c.args.id (c.self.inside.count + 1) c.self.invariant.0 absent room number in (
+      rw more placed,
+      number ∙ sym (ap length more ∙ length-append ids (c.args.id ∷ [])),
+      subst (λ n. n < 4294967296) (sym (length-set numbers c.args.id.0 (c.self.inside.count + 1))) c.self.invariant.2,
+    )

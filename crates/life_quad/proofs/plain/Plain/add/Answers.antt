@@ -15,10 +15,16 @@ invariant_of-self-2 c =
     let limit = c.in_default.ensures.room.0 in
     let few = c.in_default.ensures.room.1 in
     let longer = ap length e ∙ length-append s.nodes (c.args.node ∷ []) in
-    let level : c.args.level ≡ depth (node_square (squares s.nodes) c.args.node) = subst (λ v. c.args.level ≡ depth (node_square (squares v.nodes) c.args.node)) (sym c.self.view_is) c.requires.level in
-    let levels = c.in_ok-push-2.ensures.items ∙ ap (λ l. l ++ c.args.level ∷ []) (c.in_ok-reserve.ensures.items ∙ c.self.invariant.2) ∙ ap (λ v. levels_of s.nodes ++ v ∷ []) level
-    ∙ sym (ap levels_of e ∙ levels-push s.nodes c.args.node) in
-    (subst (λ z. IsSound (record { nodes = z; log = []; limit = s.limit })) (sym e) (IsSound-push s c.args.node c.self.invariant.0 node (omega (arith, l, few))), omega (arith, l, limit, longer), levels)
+    let level : c.args.level ≡ depth (node_square (squares s.nodes) c.args.node) = subst (λ v. c.args.level ≡ depth (node_square (squares v.nodes) c.args.node))
+    (sym c.self.view_is) c.requires.level in
+    let levels = c.in_ok-push-2.ensures.items ∙ ap (λ l. l ++ c.args.level ∷ []) (c.in_ok-reserve.ensures.items ∙ c.self.invariant.2)
+    ∙ ap (λ v. levels_of s.nodes ++ v ∷ []) level
+    ∙ sym (ap levels_of e ∙ levels-push s.nodes c.args.node) in (
+      subst (λ z. IsSound (record { nodes = z; log = []; limit = s.limit })) (sym e)
+          (IsSound-push s c.args.node c.self.invariant.0 node (omega (arith, l, few))),
+      omega (arith, l, limit, longer),
+      levels,
+    )
 
 pub returns-clause-sound : goal.returns-clause-sound
 returns-clause-sound c =

@@ -17,23 +17,30 @@ returns-then-are_blank-clause-square c =
 pub returns-then-are_blank-clause-added : goal.returns-then-are_blank-clause-added
 returns-then-are_blank-clause-added c = λ needs.
     let r = c.requires in
-    absurd (true≢false (sym (is_blank-joined _ _ _ _ _ r.nw r.ne r.sw r.se r.ne_level r.sw_level r.se_level ∙ sym c.are_blank.ensures ∙ c.if-are_blank.true) ∙ needs))
+    absurd (true≢false (sym (is_blank-joined _ _ _ _ _ r.nw r.ne r.sw r.se r.ne_level r.sw_level r.se_level ∙ sym c.are_blank.ensures ∙ c.if-are_blank.true)
+    ∙ needs))
 
 pub returns-then-are_blank-clause-full : goal.returns-then-are_blank-clause-full
 returns-then-are_blank-clause-full c =
     let r = c.requires in (
       λ e. absurd (cc),
       λ needs.
-          absurd (true≢false (sym (is_blank-joined _ _ _ _ _ r.nw r.ne r.sw r.se r.ne_level r.sw_level r.se_level ∙ sym c.are_blank.ensures ∙ c.if-are_blank.true) ∙ needs.0)),
+          absurd (true≢false (sym (is_blank-joined _ _ _ _ _ r.nw r.ne r.sw r.se r.ne_level r.sw_level r.se_level ∙ sym c.are_blank.ensures
+          ∙ c.if-are_blank.true) ∙ needs.0)),
     )
 
-IsNode-there : (c : goal.After-add) → IsNode c.args.self.now.log (squares c.args.self.now.nodes) (length c.args.self.now.nodes) (record { nw = c.args.nw.0; ne = c.args.ne.0; sw = c.args.sw.0; se = c.args.se.0 })
+IsNode-there : (c : goal.After-add) → IsNode c.args.self.now.log (squares c.args.self.now.nodes) (length c.args.self.now.nodes)
+    (record { nw = c.args.nw.0; ne = c.args.ne.0; sw = c.args.sw.0; se = c.args.se.0 })
 IsNode-there c =
     let r = c.requires in
     IsNode-joined _ _ _ _ _ r.nw r.ne r.sw r.se r.ne_level r.sw_level r.se_level r.room (sym c.are_blank.ensures ∙ c.if-are_blank.false)
 
 pub add-requires : goal.add-requires
-add-requires c = record { node = let r = c.requires in IsNode-joined _ _ _ _ _ r.nw r.ne r.sw r.se r.ne_level r.sw_level r.se_level r.room (sym c.are_blank.ensures ∙ c.if-are_blank.false); level = let e = c.level-level.ensures.level in omega arith }
+add-requires c = record {
+  node = let r = c.requires in
+      IsNode-joined _ _ _ _ _ r.nw r.ne r.sw r.se r.ne_level r.sw_level r.se_level r.room (sym c.are_blank.ensures ∙ c.if-are_blank.false);
+  level = let e = c.level-level.ensures.level in omega arith;
+}
 
 pub returns-clause-known : goal.returns-clause-known
 returns-clause-known c = if_ok_both c.add.result (λ id i at. knows_last _ _ _ i c.add.ensures.sound id at) c.add.ensures.stored c.add.ensures.id
@@ -65,9 +72,11 @@ pub returns-clause-needed : goal.returns-clause-needed
 returns-clause-needed c = on_err_weaker c.add.result (λ same. (IsNode-there c).not_blank) c.add.ensures.unchanged
 
 pub returns-clause-fresh : goal.returns-clause-fresh
-returns-clause-fresh c = if_ok_both c.add.result (λ id i last needs known. let b = known.named.below in let e : id.0 ≡ 66064 + length c.args.self.now.nodes = last in absurd (omega arith)) c.add.ensures.stored c.add.ensures.id
+returns-clause-fresh c = if_ok_both c.add.result (λ id i last needs known. let b = known.named.below in
+    let e : id.0 ≡ 66064 + length c.args.self.now.nodes = last in absurd (omega arith)) c.add.ensures.stored c.add.ensures.id
 
 pub returns-then-are_blank-clause-fresh : goal.returns-then-are_blank-clause-fresh
 returns-then-are_blank-clause-fresh c = λ needs known.
     let r = c.requires in
-    absurd (true≢false (sym (is_blank-joined _ _ _ _ _ r.nw r.ne r.sw r.se r.ne_level r.sw_level r.se_level ∙ sym c.are_blank.ensures ∙ c.if-are_blank.true) ∙ needs))
+    absurd (true≢false (sym (is_blank-joined _ _ _ _ _ r.nw r.ne r.sw r.se r.ne_level r.sw_level r.se_level ∙ sym c.are_blank.ensures ∙ c.if-are_blank.true)
+    ∙ needs))

@@ -12,7 +12,8 @@ level-requires c =
     named_level s c.args.id _ (c.as_slice.ensures.value ∙ c.self.invariant.2) (subst (λ v. Knows v c.args.id) (sym c.self.view_is) c.requires)
 
 pub returns-clause-level : goal.returns-clause-level
-returns-clause-level c = subst (λ v. c.level.result ≡ depth (content v c.args.id)) c.self.view_is (c.level.ensures (the_view c.self.inside) (c.as_slice.ensures.value ∙ c.self.invariant.2) (subst (λ v. Knows v c.args.id) (sym c.self.view_is) c.requires))
+returns-clause-level c = subst (λ v. c.level.result ≡ depth (content v c.args.id)) c.self.view_is
+    (c.level.ensures (the_view c.self.inside) (c.as_slice.ensures.value ∙ c.self.invariant.2) (subst (λ v. Knows v c.args.id) (sym c.self.view_is) c.requires))
 
 pub returns-clause-low : goal.returns-clause-low
 returns-clause-low c = let e = returns-clause-level c in let l = low_content c.args.self.now c.args.id c.requires in omega (arith, e, l)

@@ -17,7 +17,8 @@ returns-in_default-get_index_of c =
     let missing : ¬ Contains s.nodes c.args.node = not_there s.nodes c.args.node (sym c.get_index_of.ensures.found ∙ ap is_some c.in_default-get_index_of.is) in
     let same : c.len-nodes.result + c.self.inside.small ≡ length s.log = ap (λ n. n + c.self.inside.small) c.len-nodes.ensures.len ∙ sym inv.3 in
     subst (λ v. Answers v s (node_square (squares v.nodes) c.args.node) (Err c.in-Some.kind)) c.self.view_is
-    (answers_refused s s (node_square (squares s.nodes) c.args.node) c.in-Some.kind _ refl inv.1 (absent_node s c.args.node inv.0 inv.1 node c.requires.large missing) c.in-Some.ensures.room same c.in-Some.ensures.full)
+    (answers_refused s s (node_square (squares s.nodes) c.args.node) c.in-Some.kind _ refl inv.1
+    (absent_node s c.args.node inv.0 inv.1 node c.requires.large missing) c.in-Some.ensures.room same c.in-Some.ensures.full)
 
 pub returns-in-Some : goal.returns-in-Some
 returns-in-Some c =
@@ -40,7 +41,8 @@ returns-in_err-i c =
     let more = inv.3 in
     let room = c.in_default.ensures.room.0 in
     subst (λ v. Answers v new (node_square (squares v.nodes) c.args.node) c.from_residual.result) c.self.view_is
-    (answers_memory s new (node_square (squares s.nodes) c.args.node) c.from_residual.result (λ i. record { nodes = kept i; log = s.log; limit = s.limit }) inv.1
+    (answers_memory s new (node_square (squares s.nodes) c.args.node) c.from_residual.result (λ i. record { nodes = kept i; log = s.log; limit = s.limit })
+    inv.1
     (absent_node s c.args.node inv.0 inv.1 node c.requires.large missing) (omega (arith, len, more, room)) _ (λ k e. e) told.0 told.1)
 
 abbrev old : goal.After-self-1 → Nodes
@@ -79,8 +81,10 @@ invariant_of-self-then-is_new c =
     let nodes : (new c).nodes ≡ s.nodes ++ c.args.node ∷ [] = ap (λ v. v.nodes) a.3 in
     let one = ap length nodes ∙ length-append s.nodes (c.args.node ∷ []) in
     let more = inv.3 in
-    let level : c.args.level ≡ depth (node_square (squares s.nodes) c.args.node) = subst (λ v. c.args.level ≡ depth (node_square (squares v.nodes) c.args.node)) (sym c.self.view_is) c.requires.level in
-    let levels = c.in_ok-push.ensures.items ∙ ap (λ l. l ++ c.args.level ∷ []) (c.make_room.ensures.levels ∙ inv.4) ∙ ap (λ v. levels_of s.nodes ++ v ∷ []) level
+    let level : c.args.level ≡ depth (node_square (squares s.nodes) c.args.node) = subst (λ v. c.args.level ≡ depth (node_square (squares v.nodes) c.args.node))
+    (sym c.self.view_is) c.requires.level in
+    let levels = c.in_ok-push.ensures.items ∙ ap (λ l. l ++ c.args.level ∷ []) (c.make_room.ensures.levels ∙ inv.4)
+    ∙ ap (λ v. levels_of s.nodes ++ v ∷ []) level
     ∙ sym (ap levels_of nodes ∙ levels-push s.nodes c.args.node) in (
       sound.0,
       sound.1,

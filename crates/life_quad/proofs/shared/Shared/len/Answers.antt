@@ -5,7 +5,9 @@ use Rattle.life_quad.proofs.shared.Shared.len.Goals as goal
 
 pub returns-clause-len : goal.returns-clause-len
 returns-clause-len c =
-    ap (λ n. n + c.self.inside.small) c.len.ensures.len ∙ sym c.self.invariant.3 ∙ sym (length-held (record { nodes = c.self.inside.nodes.keys; log = c.self.inside.log.ids; limit = c.self.inside.limit })) ∙ ap (λ v. length (held v)) c.self.view_is
+    ap (λ n. n + c.self.inside.small) c.len.ensures.len ∙ sym c.self.invariant.3
+    ∙ sym (length-held (record { nodes = c.self.inside.nodes.keys; log = c.self.inside.log.ids; limit = c.self.inside.limit }))
+    ∙ ap (λ v. length (held v)) c.self.view_is
 
 pub returns-clause-distinct : goal.returns-clause-distinct
 returns-clause-distinct c = rw (← c.self.view_is) (held-distinct _ c.self.invariant.0 c.self.invariant.1)

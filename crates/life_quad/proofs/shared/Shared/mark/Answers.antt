@@ -25,7 +25,8 @@ returns-then-len-self c =
     let same : c.len.result + c.self.inside.small ≡ length s.log = ap (λ n. n + c.self.inside.small) c.len.ensures.len ∙ sym inv.3 in
     let full = c.if-len-self.true in
     subst (λ v. Answers v v (small_square c.args.number) (Err Full)) v
-    (answers_refused s s (small_square c.args.number) Full _ refl inv.1 (absent_small s c.args.number inv.0 inv.1 small absent) (inl refl) same (λ e. full, λ e. refl))
+    (answers_refused s s (small_square c.args.number) Full _ refl inv.1 (absent_small s c.args.number inv.0 inv.1 small absent) (inl refl) same
+    (λ e. full, λ e. refl))
 
 pub returns-in_err-see : goal.returns-in_err-see
 returns-in_err-see c =
@@ -41,7 +42,8 @@ returns-in_err-see c =
     let below = c.if-len-self.false in
     let len = c.len.ensures.len in
     subst (λ v. Answers v s (small_square c.args.number) c.from_residual.result) v
-    (answers_memory s s (small_square c.args.number) c.from_residual.result refl inv.1 (absent_small s c.args.number inv.0 inv.1 small absent) (omega (arith, len, more, most, below)) _ (λ k e. e ∙ kind) told.0 told.1)
+    (answers_memory s s (small_square c.args.number) c.from_residual.result refl inv.1 (absent_small s c.args.number inv.0 inv.1 small absent)
+    (omega (arith, len, more, most, below)) _ (λ k e. e ∙ kind) told.0 told.1)
 
 pub invariant_of-self : goal.invariant_of-self
 invariant_of-self c =

@@ -21,20 +21,23 @@ returns-then-are_blank-clause-square c =
 pub returns-then-are_blank-clause-added : goal.returns-then-are_blank-clause-added
 returns-then-are_blank-clause-added c = λ needs.
     let r = c.requires in
-    absurd (true≢false (sym (is_blank-joined _ _ _ _ _ r.nw.0 r.ne.0 r.sw.0 r.se.0 r.ne_level r.sw_level r.se_level ∙ sym c.are_blank.ensures ∙ c.if-are_blank.true) ∙ needs.0))
+    absurd (true≢false (sym (is_blank-joined _ _ _ _ _ r.nw.0 r.ne.0 r.sw.0 r.se.0 r.ne_level r.sw_level r.se_level ∙ sym c.are_blank.ensures
+    ∙ c.if-are_blank.true) ∙ needs.0))
 
 pub returns-then-are_blank-clause-full : goal.returns-then-are_blank-clause-full
 returns-then-are_blank-clause-full c =
     let r = c.requires in (
       λ e. absurd (cc),
       λ needs.
-          absurd (true≢false (sym (is_blank-joined _ _ _ _ _ r.nw.0 r.ne.0 r.sw.0 r.se.0 r.ne_level r.sw_level r.se_level ∙ sym c.are_blank.ensures ∙ c.if-are_blank.true) ∙ needs.0.0)),
+          absurd (true≢false (sym (is_blank-joined _ _ _ _ _ r.nw.0 r.ne.0 r.sw.0 r.se.0 r.ne_level r.sw_level r.se_level ∙ sym c.are_blank.ensures
+          ∙ c.if-are_blank.true) ∙ needs.0.0)),
     )
 
 pub returns-then-are_blank-clause-fresh : goal.returns-then-are_blank-clause-fresh
 returns-then-are_blank-clause-fresh c = λ needs known.
     let r = c.requires in
-    absurd (true≢false (sym (is_blank-joined _ _ _ _ _ r.nw.0 r.ne.0 r.sw.0 r.se.0 r.ne_level r.sw_level r.se_level ∙ sym c.are_blank.ensures ∙ c.if-are_blank.true) ∙ needs.0))
+    absurd (true≢false (sym (is_blank-joined _ _ _ _ _ r.nw.0 r.ne.0 r.sw.0 r.se.0 r.ne_level r.sw_level r.se_level ∙ sym c.are_blank.ensures
+    ∙ c.if-are_blank.true) ∙ needs.0))
 
 -- ---- a small square
 

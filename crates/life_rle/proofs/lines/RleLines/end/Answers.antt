@@ -6,7 +6,8 @@ use Rattle.life_rle.proofs.Refusal.{IsPreamble-refused}
 use Rattle.life_rle.proofs.lines.RleLines.end.Goals as goal
 
 pub returns-clause-missing : goal.returns-clause-missing
-returns-clause-missing c = λ r. (λ e. cc, λ h. absurd (IsPreamble-refused MAX_LEVEL c.args.self.lines h.0 h.1 (c.in_ok-rule.ensures.file.0, c.in_ok-rule.ensures.file.1)))
+returns-clause-missing c = λ r.
+    (λ e. cc, λ h. absurd (IsPreamble-refused MAX_LEVEL c.args.self.lines h.0 h.1 (c.in_ok-rule.ensures.file.0, c.in_ok-rule.ensures.file.1)))
 
 pub returns-in_err-rule-clause-whole : goal.returns-in_err-rule-clause-whole
 returns-in_err-rule-clause-whole c = λ r g.

@@ -39,7 +39,8 @@ returns-clause-front c =
     let next = c.in_ok-next.next in
     let stands = taken-StandsAt c.replace-phase.result inside.phase inside.cursor inside.log.lines c.replace-phase.ensures.value c.self.invariant in
     subst (Prefix (IsSomeRle MAX_LEVEL)) (sym c.then-self-inside.ensures)
-    (StandsAt-Prefix MAX_LEVEL next.phase next.cursor (inside.log.lines ++ c.args.line.now ∷ []) (c.in_ok-next.ensures.advance.advances.stands inside.log.lines stands) c.in_ok-next.ensures.going)
+    (StandsAt-Prefix MAX_LEVEL next.phase next.cursor (inside.log.lines ++ c.args.line.now ∷ [])
+    (c.in_ok-next.ensures.advance.advances.stands inside.log.lines stands) c.in_ok-next.ensures.going)
 
 pub returns-clause-runs : goal.returns-clause-runs
 returns-clause-runs c =

@@ -66,6 +66,8 @@ returns-clause-next g c i j h =
     let ex : c.args.x ≡ x = omega (arith, ints, c.ranges.x) in
     let ey : c.args.y ≡ y = omega (arith, ints, c.ranges.y) in
     let run : GivenRun = record { x = c.args.x; y = c.args.y; len = c.args.len; state = c.args.state } in
-    let same : run ≡ record { x = x; y = y; len = c.args.len; state = c.args.state } = λ k. record { x = ex k; y = ey k; len = c.args.len; state = c.args.state } in
-    let is : c.then-self-inside.result.runs ≡ c.self.inside.log.runs ++ run ∷ [] = c.then-self-inside.ensures ∙ ap (λ (r : GivenRun). c.self.inside.log.runs ++ r ∷ []) (sym same) in
+    let same : run ≡ record { x = x; y = y; len = c.args.len; state = c.args.state } = λ k.
+    record { x = ex k; y = ey k; len = c.args.len; state = c.args.state } in
+    let is : c.then-self-inside.result.runs ≡ c.self.inside.log.runs ++ run ∷ [] = c.then-self-inside.ensures
+    ∙ ap (λ (r : GivenRun). c.self.inside.log.runs ++ r ∷ []) (sym same) in
     subst (λ (runs : List GivenRun). IsNext runs i j) (sym is) (next-push c.self.inside.log.runs run i j h)

@@ -33,9 +33,11 @@ returns-clause-cells g c =
     (λ columns.
     let strip = row_strip K C self.row.spans.items row.spans.items c.offset-column.result c.args.len c.cell-blank.result c.cell-square.result begun
     c.cell-blank.ensures.known c.cell-blank.ensures.square c.cell-square.ensures.known (ap depth c.cell-square.ensures.square) columns in
-    let states = row_pushed K C self.row row c.offset-column.result c.args.len c.args.state c.cell-blank.result c.cell-square.result fill.row fill.level fill.level strip
+    let states = row_pushed K C self.row row c.offset-column.result c.args.len c.args.state c.cell-blank.result c.cell-square.result fill.row fill.level
+    fill.level strip
     c.cell-blank.ensures.known c.cell-blank.ensures.square c.cell-square.ensures.square columns in
-    AddsRun-span (picture (g.S.Squares.content c.args.squares.now) ((c.args.self.now.strips.items ++ c.args.self.now.band.items) ++ c.args.self.now.row ∷ [])) (picture C ((self.strips.items ++ self.band.items) ++ row ∷ []))
+    AddsRun-span (picture (g.S.Squares.content c.args.squares.now) ((c.args.self.now.strips.items ++ c.args.self.now.band.items) ++ c.args.self.now.row ∷ []))
+    (picture C ((self.strips.items ++ self.band.items) ++ row ∷ []))
     c.args.x c.args.y c.offset-column.result c.offset-row.result c.args.len c.args.state c.requires.inside ex ey
     (λ i j. picture_pushed C (self.strips.items ++ self.band.items) self.row row c.offset-column.result c.args.len c.args.state fill.level fill.level states i j
     ∙ (λ k. if is_in_span c.offset-column.result (height_is k) c.args.len i j then c.args.state else c.in_ok-go_to_row.ensures.picture i j k)))
@@ -77,7 +79,8 @@ pub returns-clause-below : goal.returns-clause-below
 returns-clause-below g c =
     let ey : pos c.offset-row.result ≡ c.args.y +ℤ pos half_plane = omega (arith, ints, c.offset-row.ensures, c.ranges.y) in
     on_ok_map c.push_span.result
-    (λ ends i j below. below_run (record c.go_to_row.new.self { row = record c.go_to_row.new.self.row { spans = c.push_span.new.spans } }) c.args.y i j c.offset-row.result ey c.in_ok-go_to_row.ensures.rows below)
+    (λ ends i j below. below_run (record c.go_to_row.new.self { row = record c.go_to_row.new.self.row { spans = c.push_span.new.spans } }) c.args.y i j
+    c.offset-row.result ey c.in_ok-go_to_row.ensures.rows below)
     c.push_span.ensures.ends
 
 pub returns-clause-beside : goal.returns-clause-beside
@@ -85,6 +88,7 @@ returns-clause-beside g c =
     let ex : pos c.offset-column.result ≡ c.args.x +ℤ pos half_plane = omega (arith, ints, c.offset-column.ensures, c.ranges.x) in
     let ey : pos c.offset-row.result ≡ c.args.y +ℤ pos half_plane = omega (arith, ints, c.offset-row.ensures, c.ranges.y) in
     on_ok_map c.push_span.result
-    (λ ends i beside. beside_run (record c.go_to_row.new.self { row = record c.go_to_row.new.self.row { spans = c.push_span.new.spans } }) c.args.x c.args.y i c.offset-column.result c.offset-row.result c.args.len
+    (λ ends i beside. beside_run (record c.go_to_row.new.self { row = record c.go_to_row.new.self.row { spans = c.push_span.new.spans } }) c.args.x c.args.y i
+    c.offset-column.result c.offset-row.result c.args.len
     ex ey c.in_ok-go_to_row.ensures.rows ends beside)
     c.push_span.ensures.ends

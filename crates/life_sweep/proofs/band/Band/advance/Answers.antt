@@ -13,17 +13,23 @@ pub returns-in_default-clause-over : goal.returns-in_default-clause-over
 returns-in_default-clause-over c e cells blank h = last-band cells c.args.self.now blank h (c.in_default.ensures.none refl)
 
 -- the rows that are left are divided at the next row
-divided : (c : goal.After-rest-2-1) → IsSplitAtRow (after (to_z w64 (of_z w64 c.in-Some.next))) c.args.self.now.rest.now c.split_at.result.0.now c.split_at.result.1.now
+divided : (c : goal.After-rest-2-1) → IsSplitAtRow (after (to_z w64 (of_z w64 c.in-Some.next))) c.args.self.now.rest.now c.split_at.result.0.now
+    c.split_at.result.1.now
 divided c =
     let rest = c.args.self.now.rest.now in
     let x = to_z w64 (of_z w64 c.in-Some.next) in
     let arg : to_z w64 (of_z w64 (x +ℤ pos 1)) ≡ after x = omega (arith, ints, c.in-Some.ensures.least, c.in-Some.ensures.most) in
-    let front = subst (λ z. IsSplitAtRow (to_z w64 (of_z w64 (x +ℤ pos 1))) rest z (drop c.row_length.result rest)) (sym c.split_at.ensures.front) c.row_length.ensures.split in
+    let front = subst (λ z. IsSplitAtRow (to_z w64 (of_z w64 (x +ℤ pos 1))) rest z (drop c.row_length.result rest)) (sym c.split_at.ensures.front)
+    c.row_length.ensures.split in
     let both = subst (λ z. IsSplitAtRow (to_z w64 (of_z w64 (x +ℤ pos 1))) rest c.split_at.result.0.now z) (sym c.split_at.ensures.back) front in
     subst (λ z. IsSplitAtRow z rest c.split_at.result.0.now c.split_at.result.1.now) arg both
 
 abbrev new : goal.After-rest-2-1 → Band
-new c = record { y = to_z w64 (of_z w64 c.in-Some.next); rows = record { north = c.args.self.now.rows.here; here = c.args.self.now.rows.south; south = c.split_at.result.0 }; rest = c.split_at.result.1 }
+new c = record {
+  y = to_z w64 (of_z w64 c.in-Some.next);
+  rows = record { north = c.args.self.now.rows.here; here = c.args.self.now.rows.south; south = c.split_at.result.0 };
+  rest = c.split_at.result.1;
+}
 
 next-row : (c : goal.After-rest-2-1) → IsNextRow c.args.self.now (to_z w64 (of_z w64 c.in-Some.next))
 next-row c =
@@ -34,7 +40,8 @@ behind : (c : goal.After-rest-2-1) → All IsInside c.split_at.result.1.now
 behind c = subst (λ z. All IsInside z) (sym c.split_at.ensures.back) (All-drop IsInside c.row_length.result c.args.self.now.rest.now c.requires.sound.rest)
 
 moved : (c : goal.After-rest-2-1) → GoesSouth c.requires.sound.placed.0 c.args.self.now (new c)
-moved c = goes-south c.requires.sound.placed.0 c.args.self.now (new c) c.requires.sound.placed.1 c.requires.sound.placed.2 c.requires.sound.rest (next-row c) refl refl (divided c) (behind c)
+moved c = goes-south c.requires.sound.placed.0 c.args.self.now (new c) c.requires.sound.placed.1 c.requires.sound.placed.2 c.requires.sound.rest (next-row c)
+    refl refl (divided c) (behind c)
 
 pub returns-clause-south : goal.returns-clause-south
 returns-clause-south c e = (moved c).south
@@ -60,7 +67,11 @@ returns-clause-below c bound h =
     let P = λ (cell : Cell). cell.state < bound in
     let rest = c.args.self.now.rest.now in
     record {
-      rows = record { north = h.rows.here; here = h.rows.south; south = subst (λ z. All P z) (sym c.split_at.ensures.front) (All-take P c.row_length.result rest h.rest) };
+      rows = record {
+        north = h.rows.here;
+        here = h.rows.south;
+        south = subst (λ z. All P z) (sym c.split_at.ensures.front) (All-take P c.row_length.result rest h.rest);
+      };
       rest = subst (λ z. All P z) (sym c.split_at.ensures.back) (All-drop P c.row_length.result rest h.rest);
     }
 

@@ -18,7 +18,9 @@ returns-then-first-lt-FAR-clause-from c =
 pub returns-else-first-lt-FAR-clause-none : goal.returns-else-first-lt-FAR-clause-none
 returns-else-first-lt-FAR-clause-none c e =
     let m = c.if-first-lt-FAR.false in
-    let n = empty-row _ c.args.self.now.north.now c.requires.inside.north c.first_in.ensures.at (omega (arith, ints, m, c.lesser-first.ensures.first, c.lesser-first-2.ensures.first)) in
-    let h = empty-row _ c.args.self.now.here.now c.requires.inside.here c.first_in-2.ensures.at (omega (arith, ints, m, c.lesser-first.ensures.second, c.lesser-first-2.ensures.first)) in
+    let n = empty-row _ c.args.self.now.north.now c.requires.inside.north c.first_in.ensures.at
+    (omega (arith, ints, m, c.lesser-first.ensures.first, c.lesser-first-2.ensures.first)) in
+    let h = empty-row _ c.args.self.now.here.now c.requires.inside.here c.first_in-2.ensures.at
+    (omega (arith, ints, m, c.lesser-first.ensures.second, c.lesser-first-2.ensures.first)) in
     let s = empty-row _ c.args.self.now.south.now c.requires.inside.south c.first_in-3.ensures.at (omega (arith, ints, m, c.lesser-first-2.ensures.second)) in
     omega (arith, n, h, s)

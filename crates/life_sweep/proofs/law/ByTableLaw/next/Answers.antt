@@ -17,7 +17,8 @@ returns-then-eq-clause-next c =
     let known = subst (λ (z : Known). IsKnown t z) (sym c.index.ensures) (c.self.invariant.each place c.index.result.now there) in
     let same = (bytes_eq-Decides c.index.result.now.around seen).0 (sym c.eq.ensures ∙ c.if-eq.true) in
     let found = subst (λ v. TableAnswers t v (Becomes c.index.result.now.next)) same known in
-    subst (λ (z : Table). TableAnswers z c.args.around.now (Becomes c.index.result.now.next)) c.self.view_is ((c.representative-seen.ensures.same (Becomes c.index.result.now.next)).0 found)
+    subst (λ (z : Table). TableAnswers z c.args.around.now (Becomes c.index.result.now.next)) c.self.view_is
+    ((c.representative-seen.ensures.same (Becomes c.index.result.now.next)).0 found)
 
 pub returns-clause-next : goal.returns-clause-next
 returns-clause-next c =

@@ -12,7 +12,8 @@ use Rattle.life_sweep.proofs.pen.Pen.draw.Goals as goal
 -- the open run goes on with the cell
 on : (g : Over) (c : goal.After-self-1 g) → GoesOn c.args.self.now.builder.runs c.in-Some.run' c.args.x c.args.y c.args.state
 on g c =
-    goes-on c.args.self.now.builder.runs c.args.self.now.unclosed c.in-Some.run' c.args.x c.args.y c.args.state c.in-Some.is c.requires.holding.unclosed (omega (arith, ints, c.ranges.x))
+    goes-on c.args.self.now.builder.runs c.args.self.now.unclosed c.in-Some.run' c.args.x c.args.y c.args.state c.in-Some.is c.requires.holding.unclosed
+    (omega (arith, ints, c.ranges.x))
     (omega (arith, ints, c.ranges.y)) (c.is_continued_by.ensures.0 c.if-is_continued_by.true)
 
 pub returns-then-is_continued_by-clause-holding : goal.returns-then-is_continued_by-clause-holding

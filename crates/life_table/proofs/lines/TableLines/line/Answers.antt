@@ -10,7 +10,8 @@ use Rattle.life_table.proofs.LineKinds.{directive_kind, names_line}
 use Rattle.life_table.proofs.lines.TableLines.line.Goals as goal
 
 -- the fault of a line that breaks a rule
-at_line : (parsed : Parsed) (number : ℕ) (line : List ℕ) (kind : Kind) (fault : Fault) → fault ≡ fault_at number kind → Answers {X = Directive} (Err kind) (parse_line parsed number line)
+at_line : (parsed : Parsed) (number : ℕ) (line : List ℕ) (kind : Kind) (fault : Fault) → fault ≡ fault_at number kind
+    → Answers {X = Directive} (Err kind) (parse_line parsed number line)
     → OrMemory fault ((parse_line parsed number line ≡ Err fault.kind) × (fault.place.line ≡ number))
 at_line parsed number line kind fault e (inl m) = let same : kind ≡ Memory = cc in inl (e ∙ ap (fault_at number) same)
 at_line parsed number line kind fault e (inr b) = inr (

@@ -10,7 +10,8 @@ pub loop-entry-preserved : goal.loop-entry-preserved
 loop-entry-preserved c = λ j k below h.
     let i = c.loop-entry.entry-index in
     elim (eqb_tells j i) [
-      | inl here ↦ or_right c.loop-entry.taken c.places-places.result k (ap (λ n. bit_at n k) (c.places-places.ensures ∙ ap (λ n. places c.args.self.now (get_or c.args.inputs.now n (entries.Fixed 0))) (sym here.1)) ∙ h)
+      | inl here ↦ or_right c.loop-entry.taken c.places-places.result k
+          (ap (λ n. bit_at n k) (c.places-places.ensures ∙ ap (λ n. places c.args.self.now (get_or c.args.inputs.now n (entries.Fixed 0))) (sym here.1)) ∙ h)
       | inr other ↦ or_left c.loop-entry.taken c.places-places.result k (c.loop-entry.invariant j k (omega (arith, below, other.1)) h)
     ]
 
