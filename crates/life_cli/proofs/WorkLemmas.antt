@@ -27,12 +27,12 @@ use Rattle.life_cli.specs.declared.telling.Refusal.{Refusal}
 use Rattle.life_cli.specs.declared.working.Made.{Made}
 use Rattle.life_cli.specs.declared.working.Made.TheVariants.{Comparison}
 use Rattle.life_cli.specs.Plans.{HasSecond, WritesCanonical}
-use Rattle.life_step.specs.Stepped.{}
+use Rattle.life_step.specs.Stepped.{IsStepped, IsSteppedBy}
 use Rattle.life_cli.specs.Jobs.{InputRefuses, by_length, by_source, HasNoText, by_input, by_file, by_want, IsHeld, AreCompared, IsComparedAs, AreUncompared}
 use Rattle.life_cli.specs.Jobs.{by_first, by_second, by_first_shortage, by_second_shortage}
 use Rattle.life_cli.specs.Jobs.{IsWantFor, WantsToStep, RefusesRle, Compares, made_text, made_status, Makes, Writes, Worked, Breaks, HasText, FileRefuses}
 use Rattle.life_cli.specs.Jobs.{by_reading, by_writing, by_telling}
-use Rattle.life_cli.specs.Jobs.{IsStepped, RefusesStep, IsSteppedBy, RefusesStepBy, HasTable, HasNoTable, HasNoTextByTable, table_by_input, table_by_lines}
+use Rattle.life_cli.specs.Jobs.{RefusesStep, RefusesStepBy, HasTable, HasNoTable, HasNoTextByTable, table_by_input, table_by_lines}
 use Rattle.life_cli.specs.Jobs.{table_by_memory, OfFile, JobRefuses}
 
 -- nothing comes of an input of which a store makes no pattern
