@@ -67,8 +67,8 @@ life_sets text = life_form (digit_groups text) (marks text)
 abbrev pub names_other_neighbours : List ℕ → Bool
 names_other_neighbours text =
     is_some (life_sets (take (length text - 1) text))
-    && (bytes_eq (map to_ascii_uppercase (drop (length text - 1) text)) (codes "V") || bytes_eq (map to_ascii_uppercase (drop (length text - 1) text))
-    (codes "H"))
+    && (bytes_eq (map to_ascii_uppercase (drop (length text - 1) text)) (codes "V")
+    || bytes_eq (map to_ascii_uppercase (drop (length text - 1) text)) (codes "H"))
 
 -- the sets, if no digit is above 4: the four neighbours of a cell are no more
 abbrev pub up_to_four : Option DigitSets → Option DigitSets
@@ -79,8 +79,8 @@ up_to_four None = None
 -- letters in either case (Golly Help, QuickLife; without the `/`, the project's own)
 unfoldable pub four_sets : List ℕ → Option DigitSets
 four_sets text =
-    if bytes_eq (map to_ascii_uppercase (take 1 (take (length text - 1) text))) (codes "B") && bytes_eq (map to_ascii_uppercase (drop (length text - 1) text))
-    (codes "V")
+    if bytes_eq (map to_ascii_uppercase (take 1 (take (length text - 1) text))) (codes "B")
+    && bytes_eq (map to_ascii_uppercase (drop (length text - 1) text)) (codes "V")
     then up_to_four (life_sets (take (length text - 1) text))
     else None
 

@@ -19,9 +19,8 @@ HasNoLeaves file = (index : ℕ) (rows : List ℕ) → ¬ (slice_get file.lines 
 abbrev pub IsRival : Macrocell → Type 0
 IsRival file = (is_life file.rule ≡ true) ⊎ HasNoLeaves file
 
--- no macrocell file of this pattern, of those to which a canonical one is compared, has fewer than n node lines: a higher root, mixed levels, repeats and lines
--- that the root
--- doesn't reach are allowed
+-- no macrocell file of this pattern, of those to which a canonical one is compared, has fewer than n node lines: a higher root, mixed levels,
+-- repeats and lines that the root doesn't reach are allowed
 abbrev pub IsLeast : ℕ → Universe → ℕ → Type 0
 IsLeast top u n =
     (bytes : List ℕ) (file : Macrocell) → IsMacrocell top bytes file → IsSame u (macrocell_universe file) → IsRival file → n ≤ node_lines file

@@ -55,8 +55,8 @@ digit_id d = id_of (if d == 0 then 256 else 512 + d)
 unfoldable pub small_of : ℕ → ℕ → ℕ → ℕ → Option ℕ
 small_of nw ne sw se =
     if is_bit_id nw && is_bit_id ne && is_bit_id sw && is_bit_id se then Some (512 + (nw * 8 + ne * 4 + sw * 2 + se))
-    else if is_digit_id nw && is_digit_id ne && is_digit_id sw
-    && is_digit_id se then Some (528 + ((nw - 512) * 4096 + (ne - 512) * 256 + (sw - 512) * 16 + (se - 512)))
+    else if is_digit_id nw && is_digit_id ne && is_digit_id sw && is_digit_id se
+    then Some (528 + ((nw - 512) * 4096 + (ne - 512) * 256 + (sw - 512) * 16 + (se - 512)))
     else None
 
 -- the number of a node's square, where it is small

@@ -58,6 +58,6 @@ pub data ItemsBreak (level : ℕ) (rule : Rule) (from : Cursor) (line : List ℕ
   no_item : (items : List Item) → Spells level line items (Broken kind) → first_fault level rule (placed_at from items) ≡ None
       → ItemsBreak level rule from line kind
   -- by an item
-  bad_item : (items : List Item) (item : Item) (rest : List ℕ) → Spells level line items (Spelled item rest) → first_fault level rule (placed_at from items)
-      ≡ None
+  bad_item : (items : List Item) (item : Item) (rest : List ℕ) → Spells level line items (Spelled item rest)
+      → first_fault level rule (placed_at from items) ≡ None
       → item_fault level rule (moved_behind from items).y (moved_behind from items).x item ≡ Some kind → ItemsBreak level rule from line kind
