@@ -1,7 +1,7 @@
 #!/bin/sh
 # Runs the recipes of README.md as they stand there, in sh and in bash, with the program, $1, on the PATH, in a folder of their own, and compares
-# what they come to with what is known of the patterns in examples/; and the examples of README.md, which say themselves what is written.
-# It needs git, GNU parallel and rsync.
+# what they come to with what is known of the patterns in examples/; and the examples and programs of README.md and docs/QUESTIONS.md, of which the
+# examples say themselves what is written. It needs git, GNU parallel, rsync and Python 3.
 
 program=${1:?usage: tests/recipes.sh PROGRAM}
 [ -x "$program" ] || { echo "there is no program $program"; exit 1; }
@@ -218,18 +218,47 @@ for shell in sh bash; do
 done
 verdict "each recipe is run" "$(ls "$folder/recipes" | while read -r name; do grep -qx "$name" "$folder/made" || echo " $name isn't"; done)"
 
-# ---- the examples: an indented command behind `$ `, and the lines that it writes
+# ---- the examples of README.md and docs/QUESTIONS.md: an indented command behind `$ `, and the lines that it writes
 
 mkdir "$folder/top" && cd "$folder/top" || exit 1
 cp -r "$top/examples" "$folder/bin/golly_canon" .
-awk '
-    /^    \$ / { number = NR; on = 1; print substr($0, 7) > (number ".command"); printf "" > (number ".wanted"); next }
-    !/^    / { on = 0 }
-    on { print substr($0, 5) > (number ".wanted") }' "$top/README.md"
-for example in *.command; do
-    sh "$example" > out 2>&1
-    verdict "the example in line ${example%.command}" "$(diff out "${example%.command}.wanted")"
+cp examples/glider.mc .
+printf 'x = 3, y = 3\nbob$2bo$3o!\n' > glider.rle
+for document in README.md docs/QUESTIONS.md; do
+    mkdir examples_of && awk '
+        /^    \$ / { number = NR; on = 1; print substr($0, 7) > ("examples_of/" number); printf "" > ("examples_of/" number ".wanted"); next }
+        !/^    / { on = 0 }
+        on { print substr($0, 5) > ("examples_of/" number ".wanted") }' "$top/$document"
+    for wanted in examples_of/*.wanted; do
+        example=${wanted%.wanted}
+        sh "$example" > out 2>&1
+        verdict "the example in line ${example#*/} of $document" "$(diff out "$wanted")"
+    done
+    rm -r examples_of
 done
+
+# A program of docs/QUESTIONS.md: the indented lines from one that has this text to the next paragraph.
+program_with() { # TEXT
+    awk -v text="$1" '
+        index($0, "    " text) == 1 { on = 1 }
+        on && /^[^ ]/ { exit }
+        on { print substr($0, 5) }' "$top/docs/QUESTIONS.md"
+}
+
+# Keys that pass over the place and the direction: of a glider in two places, turned by a quarter, and reflected; and of another pattern.
+program_with '"""The key of what' > turned.py
+printf 'x = 3, y = 3\n3o$o$bo!\n' > turned.rle
+printf 'x = 3, y = 3\n3o$o$2o!\n' > other.rle
+for file in glider.rle glider.mc turned.rle other.rle; do
+    golly_canon convert --to rle $file | python3 -B turned.py || echo "$file has no key"
+done > out 2>&1
+problems=
+equal "how many keys" "$(sort out | uniq -c | sort -n | awk '{ print $1, length($2) }' | tr '\n' ' ')" "1 64 3 64 "
+verdict "keys of what is turned" "$problems"
+
+# Without the toolchain, at the top of the repository.
+cp -r "$top/tests" . && program_with "cat > canon.py" > without && sh without > out 2>&1
+verdict "the canonical text without the toolchain" "$(./golly_canon canon examples/glider.mc | diff out -)"
 
 echo "$passed passed, $failed failed"
 [ $failed = 0 ]
