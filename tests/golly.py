@@ -1,0 +1,278 @@
+#!/usr/bin/env python3
+"""Holds the built program against Golly: `bgolly`, which reads, steps and writes patterns without a window, and the patterns and rule tables that
+come with it.
+
+usage: tests/golly.py PROGRAM BGOLLY FOLDER [--cases N] [--seed SEED]
+
+FOLDER has Golly's Patterns and Rules. Of each pattern there that the program accepts, and of N random ones, it compares
+
+- the population that `show` tells, and Golly's;
+- the RLE that `convert` writes, and what Golly makes of it: one pattern, but for its place, which bgolly doesn't write;
+- the canonical text, and the macrocell that Golly makes of it: one canonical text, but where a leaf is the root, which Golly reads as blank;
+- the macrocell that Golly makes of an RLE: the same cells one row further north;
+- the next generation by the rule or by the rule table, and Golly's: one pattern, but for its place.
+
+What it refuses of them is of another format, or its rule is of a kind that docs/FORMATS.md leaves out. The last line counts the checks.
+"""
+
+import argparse
+import collections
+import gzip
+import os
+import random
+import re
+import subprocess
+import sys
+import tempfile
+from concurrent.futures import ThreadPoolExecutor
+
+# The most cells of a pattern that is written as RLE or stepped.
+MOST_CELLS = 2**20
+LIFE = re.compile(r"B[0-8]*/S[0-8]*V?")
+# What a file of each ending may be refused by.
+REFUSALS = {"rle": {"BoundedGrid", "UnsupportedRule", "BirthOnZero"}, "mc": set(), "mcl": {"NoHeader"}, "lif": {"NoHeader"}}
+ENDINGS = tuple(f".{it}{packed}" for it in REFUSALS for packed in ("", ".gz"))
+
+
+class Difference(Exception):
+    """What the two say otherwise."""
+
+
+class Golly:
+    """Golly without a window."""
+
+    def __init__(self, path, rules):
+        self.path = path
+        self.rules = rules
+
+    def knows(self, rule):
+        """Whether it has the rule: a B/S rule, or one of its rule files."""
+        return bool(LIFE.fullmatch(rule)) or os.path.exists(os.path.join(self.rules, f"{rule}.rule"))
+
+    def words_for(self, rule, is_macrocell):
+        """Its words for an algorithm: for a B/S rule the one that reads the format, and else that of rule files."""
+        if not LIFE.fullmatch(rule):
+            return ["-a", "RuleLoader", "-s", os.path.join(self.rules, "")]
+        return ["-h"] if is_macrocell else []
+
+    def made(self, text, rule, ending, generations=0):
+        """The population that Golly tells of a pattern after so many generations, and the file with this ending that it writes of it."""
+        with tempfile.TemporaryDirectory() as folder:
+            is_macrocell = text.startswith(b"[M2]")
+            given, wanted = os.path.join(folder, "given.mc" if is_macrocell else "given.rle"), os.path.join(folder, f"made.{ending}")
+            with open(given, "wb") as it:
+                it.write(text)
+            algorithm = self.words_for(rule, is_macrocell or ending == "mc")
+            run = subprocess.run([self.path, *algorithm, "-m", str(generations), "-o", wanted, given], stdin=subprocess.DEVNULL,
+                                 stdout=subprocess.PIPE, stderr=subprocess.STDOUT, timeout=300)
+            told = re.findall(rb"^(\d+): ([\d,]+)$", run.stdout, re.MULTILINE)
+            if run.returncode or not told or not os.path.exists(wanted):
+                raise Difference(f"Golly answers {run.returncode}: {run.stdout[-200:]!r}")
+            with open(wanted, "rb") as it:
+                return int(told[-1][1].replace(b",", b"")), it.read()
+
+
+class Program:
+    """The program."""
+
+    def __init__(self, path):
+        self.path = path
+
+    def run(self, *words, text):
+        return subprocess.run([self.path, words[0], "-", *words[1:]], input=text, stdout=subprocess.PIPE, stderr=subprocess.PIPE, timeout=300)
+
+    def answer(self, *words, text):
+        """What it writes for a pattern that it has to take."""
+        run = self.run(*words, text=text)
+        if run.returncode:
+            raise Difference(f"{' '.join(words)} refuses: {run.stderr.decode()!r}")
+        return run.stdout
+
+
+def placeless(rle):
+    """What the program writes as RLE, without the line that says place and generation."""
+    return rle.split(b"\n", 1)[1]
+
+
+def one_row_north(rle):
+    """What the program writes as RLE, with a place one row further north."""
+    return re.sub(rb"Pos=(-?\d+),(-?\d+)", lambda at: b"Pos=%s,%d" % (at[1], int(at[2]) - 1), rle, count=1)
+
+
+def equal(what, ours, golly):
+    if ours != golly:
+        raise Difference(f"{what}: {ours[:200]!r}, and of Golly's {golly[:200]!r}")
+
+
+class Comparison:
+    """The checks of one pattern, given by its text in either format."""
+
+    def __init__(self, program, golly, text, rule, tables):
+        self.program, self.golly, self.text, self.rule = program, golly, text, rule
+        self.table = tables.get(rule)
+
+    def checks(self):
+        """The names of what was compared."""
+        shown = dict(line.split(" ", 1) for line in self.program.answer("show", text=self.text).decode().splitlines())
+        self.canonical = self.program.answer("canon", text=self.text)
+        self.population = int(shown["population"])
+        # Where the root is a leaf, or there is no line for it.
+        self.is_small = int(shown["nodes"]) <= 1
+        yield from self.texts()
+        if 0 < self.population <= MOST_CELLS:
+            self.rle = self.program.answer("convert", "--to", "rle", text=self.text)
+            yield from self.conversions()
+            yield from self.steps()
+
+    def texts(self):
+        if self.is_small:
+            return
+        population, made = self.golly.made(self.canonical, self.rule, "mc")
+        equal("the population", str(self.population), str(population))
+        yield "population"
+        equal("the canonical text", self.canonical, self.program.answer("canon", text=made))
+        yield "canonical text"
+
+    def conversions(self):
+        population, made = self.golly.made(self.rle, self.rule, "rle")
+        equal("the population in RLE", str(self.population), str(population))
+        equal("the RLE", placeless(self.rle), placeless(self.program.answer("convert", "--to", "rle", text=made)))
+        yield "RLE"
+        _, made = self.golly.made(self.rle, self.rule, "mc")
+        equal("the macrocell of the RLE", self.program.answer("canon", text=one_row_north(self.rle)), self.program.answer("canon", text=made))
+        yield "macrocell one row north"
+
+    def steps(self):
+        words = ["step"]
+        if not LIFE.fullmatch(self.rule):
+            if not self.table:
+                return
+            words += ["--table", self.table]
+        run = self.program.run(*words, text=self.rle)
+        if run.returncode:
+            raise Difference(f"the step is refused: {run.stderr.decode()!r}")
+        ours = self.program.answer("convert", "--to", "rle", text=run.stdout)
+        _, made = self.golly.made(self.rle, self.rule, "rle", generations=1)
+        equal("the next generation", placeless(ours), placeless(self.program.answer("convert", "--to", "rle", text=made)))
+        yield "step by a table" if self.table else "step"
+
+
+def rule_of(text):
+    return text.split(b"\n")[1][3:].decode()
+
+
+def collection(folder):
+    """The pattern files, unpacked, each with its name and ending."""
+    for at, _, names in sorted(os.walk(os.path.join(folder, "Patterns"))):
+        for name in sorted(it for it in names if it.endswith(ENDINGS)):
+            with open(os.path.join(at, name), "rb") as it:
+                data = it.read()
+            if data.startswith(b"\x1f\x8b"):
+                data = gzip.decompress(data)
+            yield name, name.removesuffix(".gz").rpartition(".")[2], data
+
+
+def rule_tables(folder):
+    """The rule files that have a table, by the names of their rules, each with the number of its states."""
+    found = {}
+    for name in sorted(os.listdir(folder)):
+        path = os.path.join(folder, name)
+        if name.endswith(".rule"):
+            with open(path, "rb") as it:
+                data = it.read()
+            states = re.search(rb"^@TABLE\b.*?^n_states *: *(\d+)", data, re.MULTILINE | re.DOTALL)
+            if states:
+                found[re.search(rb"^@RULE +(\S+)", data, re.MULTILINE)[1].decode()] = path, int(states[1])
+    return found
+
+
+def soup(rng, rule, states):
+    """A random pattern of a rule as RLE, somewhere on the plane."""
+    width, height, share = rng.randrange(1, 40), rng.randrange(1, 40), rng.choice([0.1, 0.3, 0.5])
+    one, dead = ("o", "b") if LIFE.fullmatch(rule) else (None, ".")
+    letters = [dead, *[one or letters_of(state) for state in range(1, states)]]
+    rows = ["".join(rng.choice(letters[1:]) if rng.random() < share else dead for _ in range(width)) for _ in range(height)]
+    corner = rng.choice([0, rng.randrange(-50, 50), rng.randrange(-10**6, 10**6)])
+    place = f"#CXRLE Pos={corner},{rng.randrange(-50, 50)}\n"
+    return f"{place}x = {width}, y = {height}, rule = {rule}\n{f'${chr(10)}'.join(rows)}!\n".encode()
+
+
+def letters_of(state):
+    """A state from 1 to 255 in RLE."""
+    high, low = divmod(state - 1, 24)
+    return ("" if high == 0 else chr(ord("p") + high - 1)) + chr(ord("A") + low)
+
+
+def random_rule(rng):
+    """A B/S rule of eight neighbours, or of four, without a birth on none."""
+    most, letter = rng.choice([(8, ""), (8, ""), (4, "V")])
+    births, survivals = [[digit for digit in range(first, most + 1) if rng.random() < 0.4] for first in (1, 0)]
+    return f"B{''.join(map(str, births))}/S{''.join(map(str, survivals))}{letter}"
+
+
+def random_patterns(tables, count, seed):
+    """Random patterns: half of them under B/S rules, and half by the tables in turn."""
+    rng = random.Random(seed)
+    named = sorted(tables)
+    for case in range(count):
+        if case % 2 or not named:
+            rule, states = random_rule(rng), 2
+        else:
+            rule = named[case // 2 % len(named)]
+            states = tables[rule][1]
+        yield f"random pattern {case} of {rule}", "rle", soup(rng, rule, states)
+
+
+class Judge:
+    def __init__(self, program, golly, tables):
+        self.program, self.golly = program, golly
+        self.tables = {rule: path for rule, (path, _) in tables.items()}
+
+    def judged(self, given):
+        """The checks that a pattern passed, what was refused, and what is wrong, if anything."""
+        name, ending, text = given
+        done = []
+        try:
+            run = self.program.run("canon", text=text)
+            if run.returncode:
+                kind = run.stderr.decode().split()[-1]
+                if run.returncode != 2 or kind not in REFUSALS[ending]:
+                    raise Difference(f"refused: {run.stderr.decode()!r}")
+                return [kind], None
+            rule = rule_of(run.stdout)
+            if not self.golly.knows(rule):
+                return ["accepted, under a name without a rule file"], None
+            for check in Comparison(self.program, self.golly, text, rule, self.tables).checks():
+                done.append(check)
+            return done, None
+        except (Difference, subprocess.TimeoutExpired) as error:
+            return done, f"{name}: {error}"
+
+
+def main():
+    words = argparse.ArgumentParser(description=__doc__.split("\n")[0])
+    words.add_argument("program")
+    words.add_argument("bgolly")
+    words.add_argument("folder")
+    words.add_argument("--cases", type=int, default=400)
+    words.add_argument("--seed", type=int, default=1)
+    given = words.parse_args()
+    tables = rule_tables(os.path.join(given.folder, "Rules"))
+    judge = Judge(Program(os.path.abspath(given.program)), Golly(given.bgolly, os.path.join(given.folder, "Rules")), tables)
+    passed, failed, counts = 0, 0, collections.Counter()
+    patterns = [*collection(given.folder), *random_patterns(tables, given.cases, given.seed)]
+    with ThreadPoolExecutor(len(os.sched_getaffinity(0))) as pool:
+        for done, problem in pool.map(judge.judged, patterns):
+            counts.update(done)
+            passed += len(done)
+            if problem:
+                failed += 1
+                print(f"FAILED  {problem}")
+    for what, count in sorted(counts.items()):
+        print(f"ok      {what}: {count}")
+    print(f"{passed} passed, {failed} failed")
+    return int(failed > 0)
+
+
+if __name__ == "__main__":
+    sys.exit(main())
