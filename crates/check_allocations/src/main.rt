@@ -196,21 +196,39 @@ fn example_calls<'x>(
 }
 
 // Files in turn: where one call is refused, the next on the same store reads another file.
-fn pattern_calls<'x>(rt: &'x HostRuntime, stores: &mut Stores, time: &'x str) {
-    example_calls(rt, stores, "glider", &GLIDER, time);
-    example_calls(rt, stores, "two cells", &PAIR, time);
-    example_calls(rt, stores, "one cell under seven squares", &LONE, time);
-    example_calls(rt, stores, "two states of a name", &WIRES, time);
+fn pattern_calls(rt: &HostRuntime) {
+    let mut stores = Stores::new(rt.alloc());
+    for time in ["", ", again"] {
+        example_calls(rt, &mut stores, "glider", &GLIDER, time);
+        example_calls(rt, &mut stores, "two cells", &PAIR, time);
+        example_calls(rt, &mut stores, "one cell under seven squares", &LONE, time);
+        example_calls(rt, &mut stores, "two states of a name", &WIRES, time);
+    }
 }
 
 // Files in turn are stepped in one store.
-fn step_calls<'x>(rt: &'x HostRuntime, store: &mut Shared, time: &'x str) {
+fn step_calls(rt: &HostRuntime) {
     let alloc = rt.alloc();
-    let calls = Calls::at(rt, "life_step", time);
-    calls.tell("step_life, glider", steps::GLIDER.by_rule(alloc, store));
-    calls.tell("step_life, blinker", steps::BLINKER.by_rule(alloc, store));
-    calls.tell("step_table, one cell", steps::ONE.by_table(alloc, store));
-    calls.tell("step_table, two cells", steps::TWO.by_table(alloc, store));
+    let mut store = Shared::new(alloc, LIMIT);
+    for time in ["", ", again"] {
+        let calls = Calls::at(rt, "life_step", time);
+        calls.tell(
+            "step_life, glider",
+            steps::GLIDER.by_rule(alloc, &mut store),
+        );
+        calls.tell(
+            "step_life, blinker",
+            steps::BLINKER.by_rule(alloc, &mut store),
+        );
+        calls.tell(
+            "step_table, one cell",
+            steps::ONE.by_table(alloc, &mut store),
+        );
+        calls.tell(
+            "step_table, two cells",
+            steps::TWO.by_table(alloc, &mut store),
+        );
+    }
 }
 
 fn main(rt: HostRuntime) {
@@ -221,10 +239,6 @@ fn main(rt: HostRuntime) {
     measuring_calls(&rt);
     shared_calls(&rt);
     plain_calls(&rt);
-    let mut stores = Stores::new(rt.alloc());
-    pattern_calls(&rt, &mut stores, "");
-    pattern_calls(&rt, &mut stores, ", again");
-    let mut stepping = Shared::new(rt.alloc(), LIMIT);
-    step_calls(&rt, &mut stepping, "");
-    step_calls(&rt, &mut stepping, ", again");
+    pattern_calls(&rt);
+    step_calls(&rt);
 }
