@@ -1,5 +1,5 @@
 -- A cell of state 0 among neighbours of state 0 keeps it.
-use Rattle.std.proofs.Common.{◌≡◌, ℕ, zero, suc, ◌+◌, ◌∷◌, ◌++◌, List, [], map, length, Bool, true, false, refl, ap, sym, ◌∙◌, subst, ◌⊎◌, inl, inr, arith, lit<, ◌||◌, get_or}
+use Rattle.std.proofs.Common.{◌≡◌, ℕ, zero, suc, ◌+◌, ◌∷◌, ◌++◌, List, [], map, length, Bool, true, false, refl, ap, sym, ◌∙◌, subst, ◌⊎◌, inl, inr, arith, ◌||◌, get_or}
 use Rattle.std.specs.Prelude.{Contains, All, IsTrue, IfSome, slice_get, replicate, Option, Some, ◌==◌, if◌then◌else◌, ◌&&◌}
 use Rattle.std.specs.List.{list_any, list_all}
 use Rattle.std.specs.Option.{option_map_or}
