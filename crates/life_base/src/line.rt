@@ -2,7 +2,7 @@
 
 ghost use Rattle.std.specs.Str.{byte};
 ghost use Rattle.std.specs.Prelude.{◌≡◌, ◌==◌, ◌+◌, ◌^◌, nat_le, position};
-ghost use Rattle.life_base.specs.Text.{is_too_long as breaks_limit};
+ghost use Rattle.life_base.specs.Text.{is_too_long};
 
 use bstr::ByteSlice;
 
@@ -11,7 +11,7 @@ pub const LONGEST_LINE: usize = 1 << 20;
 
 /// Whether the line is longer than a line may be. A carriage return counts, the line feed does not.
 pub fn is_too_long(line: &[u8]) -> bool
-    ensures { result ≡ breaks_limit line.now }
+    ensures { result ≡ is_too_long line.now }
 {
     line.len() > LONGEST_LINE
 }

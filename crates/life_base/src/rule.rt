@@ -103,11 +103,11 @@ impl Name {
 
 impl Rule {
     ghost use Rattle.std.specs.Prelude.{◌≡◌};
-    ghost use Rattle.life_base.specs.Rules.{default_rule as rule_by_default};
+    ghost use Rattle.life_base.specs.Rules.{default_rule};
 
     /// The rule of a file that names none, B3/S23.
     pub fn default_rule() -> Rule
-        ensures { result ≡ rule_by_default }
+        ensures { result ≡ default_rule }
     {
         Rule::Life(LifeRule {
             births: 8,

@@ -6,7 +6,7 @@ ghost use Rattle.std.specs.Char.{is_ascii_graphic, to_ascii_uppercase};
 ghost use Rattle.std.specs.Option.{option_map};
 ghost use Rattle.std.specs.Str.{byte};
 ghost use Rattle.life_base.specs.Sets.{DigitSets};
-ghost use Rattle.life_base.specs.Rules.{is_count_digit as is_counted, digit_set as digits_named, digit_groups as groups_of, marks as marks_of, life_form as form_of, life_sets as sets_of, up_to_four as within_four, four_sets as four_sets_of, most_neighbours, names_other_neighbours as has_other_neighbours, is_bad_text as breaks_rules, life_rule as rule_of_sets, other_rule as rule_of_others, four_or_other as rule_of_four_or_others, rule_of_trimmed, rule_of};
+ghost use Rattle.life_base.specs.Rules.{is_count_digit, digit_set, digit_groups, marks, life_form, life_sets, up_to_four, four_sets, most_neighbours, names_other_neighbours, is_bad_text, life_rule, other_rule, four_or_other, rule_of_trimmed, rule_of};
 ghost use Rattle.life_base.specs.Refusal.{Answers};
 ghost use Rattle.life_base.specs.declared.kind.Kind.TheVariants.{Memory};
 
@@ -17,7 +17,7 @@ use std::alloc::{AllocError, Global};
 
 /// Whether a byte is one of `0` to `8`.
 fn is_count_digit(byte: u8) -> bool
-    ensures { result ≡ is_counted byte }
+    ensures { result ≡ is_count_digit byte }
 {
     b'0' <= byte && byte <= b'8'
 }
@@ -36,7 +36,7 @@ fn digit_bit(text: &[u8], digit: u8) -> u16
 
 /// The set of the digits that a text names.
 fn digit_set(text: &[u8]) -> u16
-    ensures set { result ≡ digits_named text.now }
+    ensures set { result ≡ digit_set text.now }
     ensures bound { result < 512 }
 {
     let mut set = 0;
@@ -48,14 +48,14 @@ fn digit_set(text: &[u8]) -> u16
 
 /// The digits before, between and behind the bytes that are no digits.
 fn digit_groups(alloc: Global, text: &[u8]) -> Result<Vec<&[u8]>, AllocError>
-    ensures { IfOk result (λ groups. map (λ group. group.now) groups.items ≡ groups_of text.now) }
+    ensures { IfOk result (λ groups. map (λ group. group.now) groups.items ≡ digit_groups text.now) }
 {
     text.split(|b| !is_count_digit(*b)).collect(alloc)
 }
 
 /// The bytes that are no digits, letters in upper case.
 fn marks(alloc: Global, text: &[u8]) -> Result<Vec<u8>, AllocError>
-    ensures { IfOk result (λ marks. marks.items ≡ marks_of text.now) }
+    ensures { IfOk result (λ found. found.items ≡ marks text.now) }
 {
     text.iter()
         .filter(|b| !is_count_digit(**b))
@@ -66,7 +66,7 @@ fn marks(alloc: Global, text: &[u8]) -> Result<Vec<u8>, AllocError>
 /// The births and the survivals of two texts of digits, by the two letters around a slash.
 fn form_with_slash(marks: &[u8], first: &[u8], second: &[u8]) -> Option<(u16, u16)>
     ensures bounds { IfSome result (λ p. (p.0 < 512) × (p.1 < 512)) }
-    ensures form { option_map (λ p. record { births = p.0; survivals = p.1 }) result ≡ form_of ([] ∷ first.now ∷ [] ∷ second.now ∷ []) marks.now }
+    ensures form { option_map (λ p. record { births = p.0; survivals = p.1 }) result ≡ life_form ([] ∷ first.now ∷ [] ∷ second.now ∷ []) marks.now }
 {
     match marks {
         b"B/S" => Some((digit_set(first), digit_set(second))),
@@ -78,7 +78,7 @@ fn form_with_slash(marks: &[u8], first: &[u8], second: &[u8]) -> Option<(u16, u1
 /// The same, by the two letters alone.
 fn form_without_slash(marks: &[u8], first: &[u8], second: &[u8]) -> Option<(u16, u16)>
     ensures bounds { IfSome result (λ p. (p.0 < 512) × (p.1 < 512)) }
-    ensures form { option_map (λ p. record { births = p.0; survivals = p.1 }) result ≡ form_of ([] ∷ first.now ∷ second.now ∷ []) marks.now }
+    ensures form { option_map (λ p. record { births = p.0; survivals = p.1 }) result ≡ life_form ([] ∷ first.now ∷ second.now ∷ []) marks.now }
 {
     match marks {
         b"BS" => Some((digit_set(first), digit_set(second))),
@@ -90,7 +90,7 @@ fn form_without_slash(marks: &[u8], first: &[u8], second: &[u8]) -> Option<(u16,
 /// The births and the survivals of a text of one of the five forms, by its digits and its marks.
 fn life_form(groups: &[&[u8]], marks: &[u8]) -> Option<(u16, u16)>
     ensures bounds { IfSome result (λ p. (p.0 < 512) × (p.1 < 512)) }
-    ensures form { option_map (λ p. record { births = p.0; survivals = p.1 }) result ≡ form_of (map (λ group. group.now) groups.now) marks.now }
+    ensures form { option_map (λ p. record { births = p.0; survivals = p.1 }) result ≡ life_form (map (λ group. group.now) groups.now) marks.now }
 {
     match groups {
         [[], first, [], second] => form_with_slash(marks, first, second),
@@ -105,7 +105,7 @@ fn life_form(groups: &[&[u8]], marks: &[u8]) -> Option<(u16, u16)>
 
 /// The births and the survivals of a text of one of the five forms.
 fn life_sets(alloc: Global, text: &[u8]) -> Result<Option<(u16, u16)>, Kind>
-    ensures ok { IfOk result (λ found. option_map (λ p. record { births = p.0; survivals = p.1 }) found ≡ sets_of text.now) }
+    ensures ok { IfOk result (λ found. option_map (λ p. record { births = p.0; survivals = p.1 }) found ≡ life_sets text.now) }
     ensures bounds { IfOk result (λ found. IfSome found (λ p. (p.0 < 512) × (p.1 < 512))) }
     ensures err { IfErr result (λ kind. kind ≡ Memory) }
 {
@@ -117,7 +117,7 @@ fn life_sets(alloc: Global, text: &[u8]) -> Result<Option<(u16, u16)>, Kind>
 /// The births and the survivals, if no digit is above 4.
 fn up_to_four(found: Option<(u16, u16)>) -> Option<(u16, u16)>
     ensures bounds { IfSome result (λ p. (p.0 < 32) × (p.1 < 32)) }
-    ensures within { option_map (λ p. record { births = p.0; survivals = p.1 }) result ≡ within_four (option_map (λ p. record { births = p.0; survivals = p.1 }) found) }
+    ensures within { option_map (λ p. record { births = p.0; survivals = p.1 }) result ≡ up_to_four (option_map (λ p. record { births = p.0; survivals = p.1 }) found) }
 {
     match found {
         Some((births, survivals)) if births < 32 && survivals < 32 => Some((births, survivals)),
@@ -137,7 +137,7 @@ fn begins_with_b(text: &[u8]) -> bool
 
 /// The births and the survivals of a text of a von Neumann rule.
 fn four_sets(alloc: Global, text: &[u8]) -> Result<Option<(u16, u16)>, Kind>
-    ensures ok { IfOk result (λ found. option_map (λ p. record { births = p.0; survivals = p.1 }) found ≡ four_sets_of text.now) }
+    ensures ok { IfOk result (λ found. option_map (λ p. record { births = p.0; survivals = p.1 }) found ≡ four_sets text.now) }
     ensures bounds { IfOk result (λ found. IfSome found (λ p. (p.0 < 32) × (p.1 < 32))) }
     ensures err { IfErr result (λ kind. kind ≡ Memory) }
 {
@@ -151,7 +151,7 @@ fn four_sets(alloc: Global, text: &[u8]) -> Result<Option<(u16, u16)>, Kind>
 
 /// Whether a text is a B/S text followed by `V`, `v`, `H` or `h`.
 fn names_other_neighbours(alloc: Global, text: &[u8]) -> Result<bool, Kind>
-    ensures ok { IfOk result (λ yes. yes ≡ has_other_neighbours text.now) }
+    ensures ok { IfOk result (λ yes. yes ≡ names_other_neighbours text.now) }
     ensures err { IfErr result (λ kind. kind ≡ Memory) }
 {
     match text {
@@ -162,7 +162,7 @@ fn names_other_neighbours(alloc: Global, text: &[u8]) -> Result<bool, Kind>
 
 /// Whether no rule has this text.
 fn is_bad_text(text: &[u8]) -> bool
-    ensures { result ≡ breaks_rules text.now }
+    ensures { result ≡ is_bad_text text.now }
 {
     text.is_empty() || 255 < text.len() || !is_visible(text)
 }
@@ -178,7 +178,7 @@ fn is_visible(text: &[u8]) -> bool
 fn life_rule(near: Near, births: u16, survivals: u16) -> Result<Rule, Kind>
     requires births { births < 2 ^ (most_neighbours near + 1) }
     requires survivals { survivals < 2 ^ (most_neighbours near + 1) }
-    ensures { result ≡ rule_of_sets near (record { births = births; survivals = survivals }) }
+    ensures { result ≡ life_rule near (record { births = births; survivals = survivals }) }
 {
     if births & 1 == 1 {
         return Err(Kind::BirthOnZero);
@@ -192,11 +192,11 @@ fn life_rule(near: Near, births: u16, survivals: u16) -> Result<Rule, Kind>
 
 /// The rule of a text that is no B/S text: a name, unless it names other neighbours or has a slash.
 fn other_rule(alloc: Global, text: &[u8]) -> Result<Rule, Kind>
-    requires shape { breaks_rules text.now ≡ false }
+    requires shape { is_bad_text text.now ≡ false }
     requires unbounded { list_any (λ b. b == 58) text.now ≡ false }
-    requires counted { sets_of text.now ≡ None }
-    requires named { four_sets_of text.now ≡ None }
-    ensures { Answers result (rule_of_others text.now) }
+    requires counted { life_sets text.now ≡ None }
+    requires named { four_sets text.now ≡ None }
+    ensures { Answers result (other_rule text.now) }
 {
     if names_other_neighbours(alloc, text)? {
         return Err(Kind::UnsupportedRule);
@@ -210,10 +210,10 @@ fn other_rule(alloc: Global, text: &[u8]) -> Result<Rule, Kind>
 
 /// The rule of a text of none of the five forms: by the four neighbours, or another.
 fn four_or_other(alloc: Global, text: &[u8]) -> Result<Rule, Kind>
-    requires shape { breaks_rules text.now ≡ false }
+    requires shape { is_bad_text text.now ≡ false }
     requires unbounded { list_any (λ b. b == 58) text.now ≡ false }
-    requires counted { sets_of text.now ≡ None }
-    ensures { Answers result (rule_of_four_or_others text.now (four_sets_of text.now)) }
+    requires counted { life_sets text.now ≡ None }
+    ensures { Answers result (four_or_other text.now (four_sets text.now)) }
 {
     match four_sets(alloc, text)? {
         Some((births, survivals)) => life_rule(Near::VonNeumann, births, survivals),

@@ -4,28 +4,28 @@ ghost use Rattle.std.specs.Prelude.{◌≡◌, ◌<◌, ◌^◌, ◌-◌, ◌≤
 ghost use Rattle.std.specs.Char.{is_ascii_digit};
 ghost use Rattle.std.specs.List.{list_all};
 ghost use Rattle.life_base.specs.Numbers.{number_up_to, u64_of, i64_of};
-ghost use Rattle.life_base.specs.Text.{trim, trim_start, trim_end, begins_with as has_front, is_blank as has_whitespace_alone, is_digit_text as has_digits_alone, is_whitespace as is_blank_byte};
+ghost use Rattle.life_base.specs.Text.{trim, trim_start, trim_end, begins_with, is_blank, is_digit_text, is_whitespace};
 
 use crate::kind::Kind;
 use crate::line_iterator::Lines;
 
 /// Whether a byte is whitespace: a space, a tab or a carriage return.
 pub fn is_whitespace(byte: u8) -> bool
-    ensures { result ≡ is_blank_byte byte }
+    ensures { result ≡ is_whitespace byte }
 {
     byte == b' ' || byte == b'\t' || byte == b'\r'
 }
 
 /// Whether the text has whitespace alone, or nothing.
 pub fn is_blank(text: &[u8]) -> bool
-    ensures { result ≡ has_whitespace_alone text.now }
+    ensures { result ≡ is_blank text.now }
 {
     text.iter().all(|byte| is_whitespace(*byte))
 }
 
 /// Whether the text begins with these bytes.
 pub fn begins_with(text: &[u8], front: &[u8]) -> bool
-    ensures { result ≡ has_front text.now front.now }
+    ensures { result ≡ begins_with text.now front.now }
 {
     text.starts_with(front)
 }
@@ -74,7 +74,7 @@ fn are_digits(text: &[u8]) -> bool
 
 /// Whether the text is a digit text: one or more of `0` to `9`.
 pub fn is_digit_text(text: &[u8]) -> bool
-    ensures { result ≡ has_digits_alone text.now }
+    ensures { result ≡ is_digit_text text.now }
 {
     !text.is_empty() && are_digits(text)
 }

@@ -1,14 +1,14 @@
 //! The words of a text, which whitespace separates.
 
 ghost use Rattle.std.specs.Prelude.{◌≡◌, ◌+◌, ◌≤◌, length, position};
-ghost use Rattle.life_base.specs.Text.{is_whitespace as is_blank_byte, words_of};
+ghost use Rattle.life_base.specs.Text.{is_whitespace, words_of};
 ghost use Rattle.life_base.specs.Words.{with_word};
 
 use crate::text::{is_whitespace, trimmed_start};
 
 /// Where the first whitespace stands.
 fn word_end(text: &[u8]) -> Option<usize>
-    ensures { result ≡ position is_blank_byte text.now }
+    ensures { result ≡ position is_whitespace text.now }
 {
     text.iter().position(|byte| is_whitespace(*byte))
 }

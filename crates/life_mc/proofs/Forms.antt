@@ -42,26 +42,18 @@ record Tests (line : List ℕ) (blank frame rule generation hash : Bool) : Type 
   pub is_generation : is_command 71 line ≡ generation
   pub is_hash : begins_with line (codes "#") ≡ hash
 
-blank_tests : (line : List ℕ) → is_blank line ≡ true → Tests line true false false false false
-blank_tests line h =
-    let hash = blank_no_hash line h in
-    record {
-      is_blank = h;
-      is_frame = no_hash_no_frame line hash;
-      is_rule = no_command 0 82 line hash;
-      is_generation = no_command 0 71 line hash;
-      is_hash = hash;
-    }
+-- a line without `#` in front, blank or not
+no_hash_tests : (line : List ℕ) (blank : Bool) → is_blank line ≡ blank → begins_with line (codes "#") ≡ false → Tests line blank false false false false
+no_hash_tests line blank b hash = record {
+  is_blank = b;
+  is_frame = no_hash_no_frame line hash;
+  is_rule = no_command 0 82 line hash;
+  is_generation = no_command 0 71 line hash;
+  is_hash = hash;
+}
 
-node_tests : (line : List ℕ) → is_blank line ≡ false → begins_with line (codes "#") ≡ false → Tests line false false false false false
-node_tests line b hash =
-    record {
-      is_blank = b;
-      is_frame = no_hash_no_frame line hash;
-      is_rule = no_command 0 82 line hash;
-      is_generation = no_command 0 71 line hash;
-      is_hash = hash;
-    }
+blank_tests : (line : List ℕ) → is_blank line ≡ true → Tests line true false false false false
+blank_tests line h = no_hash_tests line true h (blank_no_hash line h)
 
 comment_tests : (line : List ℕ) → IsComment line → Tests line false false false false true
 comment_tests line h =
@@ -74,29 +66,25 @@ comment_tests line h =
       is_hash = hash;
     }
 
-rule_tests : (line rest : List ℕ) → IsCommand (codes "#R") rest line → Tests line false false true false true
-rule_tests line rest h =
-    let is = commanded 82 rest line h in
-    let hash = command_is_hash 0 82 line is in
+-- a line with a command, whose letter the tests tell apart
+command_tests : (letter : ℕ) (rule generation : Bool) (line rest : List ℕ) → IsCommand (35 ∷ letter ∷ []) rest line
+    → begins_with (35 ∷ letter ∷ rest) (codes "#FRAME") ≡ false → is_command 82 line ≡ rule → is_command 71 line ≡ generation
+    → Tests line false false rule generation true
+command_tests letter rule generation line rest h frame r g =
+    let hash = command_is_hash 0 letter line (commanded letter rest line h) in
     record {
       is_blank = hash_not_blank 0 line hash;
-      is_frame = ap (λ l. begins_with l (codes "#FRAME")) h.0;
-      is_rule = is;
-      is_generation = ap (is_command 71) h.0;
+      is_frame = ap (λ l. begins_with l (codes "#FRAME")) h.0 ∙ frame;
+      is_rule = r;
+      is_generation = g;
       is_hash = hash;
     }
 
+rule_tests : (line rest : List ℕ) → IsCommand (codes "#R") rest line → Tests line false false true false true
+rule_tests line rest h = command_tests 82 true false line rest h refl (commanded 82 rest line h) (ap (is_command 71) h.0)
+
 generation_tests : (line rest : List ℕ) → IsCommand (codes "#G") rest line → Tests line false false false true true
-generation_tests line rest h =
-    let is = commanded 71 rest line h in
-    let hash = command_is_hash 0 71 line is in
-    record {
-      is_blank = hash_not_blank 0 line hash;
-      is_frame = ap (λ l. begins_with l (codes "#FRAME")) h.0;
-      is_rule = ap (is_command 82) h.0;
-      is_generation = is;
-      is_hash = hash;
-    }
+generation_tests line rest h = command_tests 71 false true line rest h refl (ap (is_command 82) h.0) (commanded 71 rest line h)
 
 -- ---- a node line
 
@@ -196,7 +184,7 @@ gives line (generation_line generation) h =
     }
 gives line (node_line square) h =
     let n = is_node line square h in
-    let t = node_tests line n.blank n.hash in
+    let t = no_hash_tests line false n.blank n.hash in
     record {
       rule = no_rule_on line t.is_rule;
       generation = no_generation_on line t.is_generation;
@@ -260,7 +248,7 @@ module _ (top : ℕ) (before : List (List ℕ)) (line : List ℕ) where
       ≡ None → broken_behind top before line ≡ None
   node_stands square h b =
       let n = is_node line square h in
-      by_tests line false false false false false late by_rule by_generation by_node (node_tests line n.blank n.hash)
+      by_tests line false false false false false late by_rule by_generation by_node (no_hash_tests line false n.blank n.hash)
       ∙ ap (λ v. cond v (Some BadLeaf) (broken_by_square top (rule_in_force before) (map level_of (squares_of before)) (square_of (trim line)))) n.no_bad_leaf
       ∙ ap (broken_by_square top (rule_in_force before) (map level_of (squares_of before))) n.square_is ∙ b
 
@@ -339,6 +327,10 @@ module _ (top : ℕ) (rule : Rule) (levels : List ℕ) where
             quarter_line line (words_of text) (words_trimmed line) d.0 d.1)
       ]
 
+not_late : (late : Bool) (fault : Option Kind) → cond late (Some LateHeader) fault ≡ None → late ≡ false
+not_late true fault h = cc
+not_late false fault h = refl
+
 -- a line that tells a rule or a generation and breaks no rule stands in front of all squares
 pub command_first : (top : ℕ) (before : List (List ℕ)) (line : List ℕ) (form : Form) → HasForm line form → is_no_command form ≡ false
     → broken_behind top before line ≡ None
@@ -346,20 +338,12 @@ pub command_first : (top : ℕ) (before : List (List ℕ)) (line : List ℕ) (fo
 command_first top before line blank_line h n e = cc
 command_first top before line comment_line h n e = cc
 command_first top before line (node_line square) h n e = cc
-command_first top before line (rule_line rule) h n e =
-    elim (split (late top before line) (Some LateHeader) (by_rule top before line)
+command_first top before line (rule_line rule) h n e = not_late (late top before line) (by_rule top before line)
     (sym (by_tests line false false true false true (late top before line) (by_rule top before line) (by_generation top before line) (by_node top before line)
-    (rule_tests line h.text h.is)) ∙ e)) [
-      | inl p ↦ absurd (some_none LateHeader p.1)
-      | inr p ↦ p.0
-    ]
-command_first top before line (generation_line generation) h n e =
-    elim (split (late top before line) (Some LateHeader) (by_generation top before line)
+    (rule_tests line h.text h.is)) ∙ e)
+command_first top before line (generation_line generation) h n e = not_late (late top before line) (by_generation top before line)
     (sym (by_tests line false false false true true (late top before line) (by_rule top before line) (by_generation top before line) (by_node top before line)
-    (generation_tests line h.rest h.is)) ∙ e)) [
-      | inl p ↦ absurd (some_none LateHeader p.1)
-      | inr p ↦ p.0
-    ]
+    (generation_tests line h.rest h.is)) ∙ e)
 
 pub form_on : (top : ℕ) (before : List (List ℕ)) (line : List ℕ) → broken_behind top before line ≡ None → (form : Form) × HasForm line form
 form_on top before line h = elim (split (is_blank line) None _ h) [

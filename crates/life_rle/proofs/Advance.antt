@@ -21,13 +21,13 @@ use Rattle.life_rle.specs.Plane.{edge, is_coordinate}
 use Rattle.life_rle.specs.Pattern.{Rle, Placed, placed, placed_item, placed_behind, first_fault, item_fault, rows_in, columns_in}
 use Rattle.life_rle.specs.Runs.{runs_of}
 use Rattle.life_rle.specs.declared.line.Opening.TheVariants.{Comment, PositionLine, Header}
-use Rattle.life_rle.specs.Grammar.{opening_of, later_of, IsPreamble, IsUnmarked, IsRle, Breaks, before_header, by_form, by_text, by_item}
+use Rattle.life_rle.specs.Grammar.{opening_of, later_of, IsPreamble, IsUnmarked, IsMarked, IsRle, Breaks, before_header, by_form, by_text, by_item}
 use Rattle.life_rle.specs.declared.line.Later.TheVariants.{Passed, Data}
 use Rattle.life_rle.specs.File.{HasRuns}
 use Rattle.life_rle.specs.Cursor.{IsBehind, start_of, moved, moved_behind, placed_at}
 use Rattle.life_rle.specs.Standing.{StandsAt, Advances}
 use Rattle.life_rle.specs.Reading.{IsRead, ItemsBreak, no_item, bad_item}
-use Rattle.life_rle.proofs.Progress.{with_items, with_items-nil, placed_behind-append, IsPreamble-push, IsUnmarked-push, IsMarked-begun, IsMarked-push, header-IsUnmarked}
+use Rattle.life_rle.proofs.Progress.{with_items, with_items-nil, placed_behind-append, IsPreamble-push, IsUnmarked-push, IsMarked-begun, IsMarked-push, header-IsUnmarked, passed-IsUnmarked}
 use Rattle.life_rle.proofs.Unique.{IsRle-unique, with_items-twice}
 use Rattle.life_rle.proofs.Refusal.{IsPreamble-refused}
 use Rattle.life_rle.proofs.Places.{rows_in-Cells, rows_in-RowEnds, columns_in-Cells, columns_in-RowEnds}
@@ -191,11 +191,6 @@ adv-header level g c line rule e = record {
   );
 }
 
-passed-IsUnmarked : (level : ℕ) (lines : List (List ℕ)) (file : Rle) (line : List ℕ) → later_of line ≡ Ok Passed → IsUnmarked level lines file
-    → IsUnmarked level (lines ++ line ∷ []) file
-passed-IsUnmarked level lines file line e b = subst (IsUnmarked level (lines ++ line ∷ [])) (with_items-nil file)
-    (IsUnmarked-push level lines file line [] b (inl (e, refl, refl)) refl)
-
 pub adv-passed : (level : ℕ) (rule : Rule) (g : Position) (c : Cursor) (line : List ℕ) → later_of line ≡ Ok Passed
     → Advances level (phases.Items rule g) c line (phases.Items rule g) c []
 adv-passed level rule g c line e = record {
@@ -217,47 +212,48 @@ sound-behind : (level : ℕ) (rule : Rule) (c : Cursor) (file : Rle) (items : Li
 sound-behind level rule c file items b r h = ap (λ ps. first_fault level file.rule ps) (sym (behind-items c file items b).0)
     ∙ ap (λ x. first_fault level x (placed_at c items)) (sym r) ∙ h
 
-runs-behind : (level : ℕ) (lines : List (List ℕ)) (c : Cursor) (file : Rle) (items : List Item) (before runs : List Run) → IsBehind c file
-    → IsRle level lines file → HasRuns level lines before → runs ≡ runs_of (placed_at c items) → before ++ runs ≡ runs_of (placed (with_items file items))
-runs-behind level lines c file items before runs b r h e =
-    ap (λ rs. rs ++ runs) (known-runs level lines file before r h) ∙ ap (λ rs. runs_of (placed file) ++ rs) (e ∙ ap runs_of (behind-items c file items b).0)
-    ∙ sym (ap runs_of (placed_behind-append file.position [] file.items items) ∙ runs_of-append (placed file) (placed_behind file.position file.items items))
+-- a line of items behind the file
+module _ (level : ℕ) (rule : Rule) (g : Position) (c now : Cursor) (line : List ℕ) (items : List Item) (runs : List Run) (form : later_of line ≡ Ok Data) where
+  unmarked : (lines : List (List ℕ)) → IsRead level rule c line items End now runs → (s : StandsAt level (phases.Items rule g) c lines)
+      → IsUnmarked level (lines ++ line ∷ []) (with_items s.0 items)
+  unmarked lines read s = IsUnmarked-push level lines s.0 line items s.1 (inr (form, read.spelled)) (sound-behind level rule c s.0 items s.3 s.4 read.sound)
 
-pub adv-items : (level : ℕ) (rule : Rule) (g : Position) (c now : Cursor) (line : List ℕ) (items : List Item) (runs : List Run) → later_of line ≡ Ok Data
-    → IsRead level rule c line items End now runs → Advances level (phases.Items rule g) c line (phases.Items rule g) now runs
-adv-items level rule g c now line items runs form read = record {
-  stands = λ lines s. (
-    with_items s.0 items,
-    IsUnmarked-push level lines s.0 line items s.1 (inr (form, read.spelled)) (sound-behind level rule c s.0 items s.3 s.4 read.sound),
-    read.near,
-    subst (λ (p : Cursor). IsBehind p (with_items s.0 items)) (sym read.cursor) (behind-items c s.0 items s.3).1,
-    s.4,
-    s.5,
-  );
-  found = λ lines before s h. inr (
-    with_items s.0 items,
-    inl (IsUnmarked-push level lines s.0 line items s.1 (inr (form, read.spelled))
-        (sound-behind level rule c s.0 items s.3 s.4 read.sound)),
-    runs-behind level lines c s.0 items before runs s.3 (inl s.1) h read.runs,
-  );
-}
+  marked : (lines : List (List ℕ)) → IsRead level rule c line items Mark now runs → (s : StandsAt level (phases.Items rule g) c lines)
+      → IsMarked level (lines ++ line ∷ []) (with_items s.0 items)
+  marked lines read s = IsMarked-begun level lines s.0 line items s.1 (inr (form, read.spelled)) (sound-behind level rule c s.0 items s.3 s.4 read.sound)
 
-pub adv-mark : (level : ℕ) (rule : Rule) (g : Position) (c now : Cursor) (line : List ℕ) (items : List Item) (runs : List Run) → later_of line ≡ Ok Data
-    → IsRead level rule c line items Mark now runs → Advances level (phases.Items rule g) c line (phases.Over rule g) now runs
-adv-mark level rule g c now line items runs form read = record {
-  stands = λ lines s. (
-    with_items s.0 items,
-    IsMarked-begun level lines s.0 line items s.1 (inr (form, read.spelled)) (sound-behind level rule c s.0 items s.3 s.4 read.sound),
-    s.4,
-    s.5,
-  );
-  found = λ lines before s h. inr (
-    with_items s.0 items,
-    inr (IsMarked-begun level lines s.0 line items s.1 (inr (form, read.spelled))
-        (sound-behind level rule c s.0 items s.3 s.4 read.sound)),
-    runs-behind level lines c s.0 items before runs s.3 (inl s.1) h read.runs,
-  );
-}
+  runs-behind : (lines : List (List ℕ)) (before : List Run) (s : StandsAt level (phases.Items rule g) c lines)
+      → IsRle level (lines ++ line ∷ []) (with_items s.0 items) → HasRuns level lines before → runs ≡ runs_of (placed_at c items)
+      → HasRuns level (lines ++ line ∷ []) (before ++ runs)
+  runs-behind lines before s r h e =
+      let file : Rle = s.0 in
+      let more : List Placed = placed_behind file.position file.items items in
+      inr (
+        with_items file items,
+        r,
+        ap (λ rs. rs ++ runs) (known-runs level lines file before (inl s.1) h)
+            ∙ ap (λ rs. runs_of (placed file) ++ rs) (e ∙ ap runs_of (behind-items c file items s.3).0)
+            ∙ sym (ap runs_of (placed_behind-append file.position [] file.items items) ∙ runs_of-append (placed file) more),
+      )
+
+  pub adv-items : IsRead level rule c line items End now runs → Advances level (phases.Items rule g) c line (phases.Items rule g) now runs
+  adv-items read = record {
+    stands = λ lines s. (
+      with_items s.0 items,
+      unmarked lines read s,
+      read.near,
+      subst (λ (p : Cursor). IsBehind p (with_items s.0 items)) (sym read.cursor) (behind-items c s.0 items s.3).1,
+      s.4,
+      s.5,
+    );
+    found = λ lines before s h. runs-behind lines before s (inl (unmarked lines read s)) h read.runs;
+  }
+
+  pub adv-mark : IsRead level rule c line items Mark now runs → Advances level (phases.Items rule g) c line (phases.Over rule g) now runs
+  adv-mark read = record {
+    stands = λ lines s. (with_items s.0 items, marked lines read s, s.4, s.5);
+    found = λ lines before s h. runs-behind lines before s (inr (marked lines read s)) h read.runs;
+  }
 
 -- a fault of a line
 pub breaks-before : (level : ℕ) (g : Position) (c : Cursor) (line : List ℕ) (kind : Kind) → opening_of level line ≡ Err kind → (lines : List (List ℕ))

@@ -41,7 +41,7 @@ line_last level line = last_read level (length line) (next_of level line)
 
 -- a file with more items
 abbrev pub with_items : Rle → List Item → Rle
-with_items file items = record { rule = file.rule; position = file.position; items = file.items ++ items }
+with_items file items = record file { items = file.items ++ items }
 
 abbrev pub after_items : Rle → List Item → Next → Option Kind → Progress
 after_items file items End None = Begun (with_items file items)
@@ -258,13 +258,18 @@ after_items-Stands level lines file line items (Broken k) (Some kind) b f s e = 
 
 -- nothing more
 pub with_items-nil : (file : Rle) → with_items file [] ≡ file
-with_items-nil file = ap (λ items. record { rule = file.rule; position = file.position; items = items }) (append-nil file.items)
+with_items-nil file = ap (λ items. record file { items = items }) (append-nil file.items)
+
+-- a line without items
+pub passed-IsUnmarked : (level : ℕ) (lines : List (List ℕ)) (file : Rle) (line : List ℕ) → later_of line ≡ Ok Passed → IsUnmarked level lines file
+    → IsUnmarked level (lines ++ line ∷ []) file
+passed-IsUnmarked level lines file line e b = subst (IsUnmarked level (lines ++ line ∷ [])) (with_items-nil file)
+    (IsUnmarked-push level lines file line [] b (inl (e, refl, refl)) refl)
 
 later_step-Stands : (level : ℕ) (lines : List (List ℕ)) (file : Rle) (line : List ℕ) (r : Result Later Kind) → IsUnmarked level lines file → later_of line ≡ r
     → Stands level (lines ++ line ∷ []) (later_step level file line r)
 later_step-Stands level lines file line (Err kind) b e = tt
-later_step-Stands level lines file line (Ok Passed) b e = subst (IsUnmarked level (lines ++ line ∷ [])) (with_items-nil file)
-    (IsUnmarked-push level lines file line [] b (inl (e, refl, refl)) refl)
+later_step-Stands level lines file line (Ok Passed) b e = passed-IsUnmarked level lines file line e b
 later_step-Stands level lines file line (Ok Data) b e = after_items-Stands level lines file line (line_items level line) (line_last level line)
     (items_fault level file (line_items level line) (line_last level line)) b e (line-Spells level (length line) line) refl
 

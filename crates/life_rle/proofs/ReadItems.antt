@@ -1,72 +1,26 @@
 -- Reading the items of a line: one more item.
-use Rattle.std.proofs.Common.{◌≡◌, ℕ, zero, suc, ◌^◌, ◌≤◌, true, false, cond, List, [], ◌∷◌, ◌++◌, refl, sym, ap, ◌∙◌, append_assoc, subst, Some, None, Option, arith, eqb, ltb, ℤ}
-use Rattle.std.proofs.lemmas.Bool.Decides.{nat_tests}
+use Rattle.std.proofs.Common.{◌≡◌, ℕ, zero, suc, ◌^◌, ◌≤◌, true, List, [], ◌∷◌, ◌++◌, refl, sym, ap, ◌∙◌, append_assoc, subst, None, ℤ}
 use Rattle.life_base.specs.declared.kind.Kind.{Kind}
-use Rattle.life_base.specs.declared.kind.Kind.TheVariants.{ZeroCount, TooLarge}
-use Rattle.life_base.specs.Text.{trim_start, value_of}
 use Rattle.life_base.specs.declared.rule.Rule.{Rule}
 use Rattle.life_rle.specs.declared.cursor.Cursor.{Cursor}
 use Rattle.life_rle.specs.declared.item.Item.{Item}
 use Rattle.life_rle.specs.declared.file.Run.{Run}
-use Rattle.life_rle.specs.States.{state_at}
 use Rattle.life_rle.specs.declared.item.Item.TheVariants.{Cells, RowEnds}
-use Rattle.life_rle.specs.Items.{front_digits, behind_digits, Next, End, Mark, Spelled, Broken, cells_of, item_behind, counted, item_in, next_of, Spells}
+use Rattle.life_rle.specs.Items.{Next, Spelled, Broken, next_of, Spells}
 use Rattle.life_rle.specs.Pattern.{Placed, item_fault, first_fault, first_kind}
 use Rattle.life_rle.specs.Runs.{with_run, runs_of}
 use Rattle.life_rle.specs.Cursor.{IsNear, item_count, moved, moved_behind, placed_at}
 use Rattle.life_rle.specs.Reading.{IsRead, ReadsItems}
 use Rattle.life_rle.proofs.ShortKinds.{is_short_kind}
-use Rattle.life_rle.proofs.Shrinks.{Spells-push}
+use Rattle.life_rle.proofs.Shrinks.{IsTame, next_of-tame, Spells-push}
 use Rattle.life_rle.proofs.Progress.{first_fault-append}
-use Rattle.life_rle.proofs.PlaneLemmas.{power-positive}
-
--- counts are within the limit, and a fault is of a kind of the format, but not that of a line that is too long
-abbrev pub IsTame : ℕ → Next → Type 0
-IsTame level End = Unit {0}
-IsTame level Mark = Unit {0}
-IsTame level (Spelled item rest) = item_count item ≤ 2 ^ level
-IsTame level (Broken kind) = is_short_kind kind ≡ true
-
-cells_of-tame : (level n : ℕ) (o : Option (ℕ × List ℕ)) → n ≤ 2 ^ level → IsTame level (cells_of n o)
-cells_of-tame level n None h = refl
-cells_of-tame level n (Some found) h = h
-
-item_behind-tame : (level n : ℕ) (bytes : List ℕ) → n ≤ 2 ^ level → IsTame level (item_behind n bytes)
-item_behind-tame level n [] h = refl
-item_behind-tame level n (b ∷ bytes) h =
-    elim (eqb b 36) as (λ t. IsTame level (cond t (Spelled (RowEnds n) bytes) (cells_of n (state_at (b ∷ bytes)))))
-    [ true ↦ h | false ↦ cells_of-tame level n (state_at (b ∷ bytes)) h ]
-
-not_more : (most n : ℕ) → ltb most n ≡ false → n ≤ most
-not_more most n e = grind (arith, nat_tests)
-
-counted-tame : (level : ℕ) (digits bytes : List ℕ) → IsTame level (counted level digits bytes)
-counted-tame level [] bytes = item_behind-tame level 1 bytes (power-positive level)
-counted-tame level (d ∷ digits) bytes =
-    elim (eqb (value_of (d ∷ digits)) 0)
-    as (λ t. IsTame level (cond t (Broken ZeroCount)
-    (cond (ltb (2 ^ level) (value_of (d ∷ digits))) (Broken TooLarge) (item_behind (value_of (d ∷ digits)) bytes)))) [
-      | true ↦ refl
-      | false ↦ elim (ltb (2 ^ level) (value_of (d ∷ digits)))
-          as (λ t. ltb (2 ^ level) (value_of (d ∷ digits)) ≡ t → IsTame level (cond t (Broken TooLarge) (item_behind (value_of (d ∷ digits)) bytes)))
-          [ true ↦ λ _. refl | false ↦ λ h. item_behind-tame level (value_of (d ∷ digits)) bytes (not_more (2 ^ level) (value_of (d ∷ digits)) h) ] refl
-    ]
-
-item_in-tame : (level : ℕ) (bytes : List ℕ) → IsTame level (item_in level bytes)
-item_in-tame level [] = tt
-item_in-tame level (b ∷ bytes) =
-    elim (eqb b 33) as (λ t. IsTame level (cond t Mark (counted level (front_digits (b ∷ bytes)) (behind_digits (b ∷ bytes)))))
-    [ true ↦ tt | false ↦ counted-tame level (front_digits (b ∷ bytes)) (behind_digits (b ∷ bytes)) ]
-
-next_of-tame : (level : ℕ) (bytes : List ℕ) → IsTame level (next_of level bytes)
-next_of-tame level bytes = item_in-tame level (trim_start bytes)
 
 -- the item that was found counts at most the width of the plane
 pub found-small : (level : ℕ) (bytes rest : List ℕ) (item : Item) → Spelled item rest ≡ next_of level bytes → item_count item ≤ 2 ^ level
-found-small level bytes rest item e = subst (IsTame level) (sym e) (next_of-tame level bytes)
+found-small level bytes rest item e = (subst (IsTame level bytes) (sym e) (next_of-tame level bytes)).0
 
 pub Broken-kind : (level : ℕ) (bytes : List ℕ) (kind : Kind) → next_of level bytes ≡ Broken kind → is_short_kind kind ≡ true
-Broken-kind level bytes kind e = subst (IsTame level) e (next_of-tame level bytes)
+Broken-kind level bytes kind e = subst (IsTame level bytes) e (next_of-tame level bytes)
 
 pub placed_at-append : (c : Cursor) (xs ys : List Item) → placed_at c (xs ++ ys) ≡ placed_at c xs ++ placed_at (moved_behind c xs) ys
 placed_at-append c [] ys = refl

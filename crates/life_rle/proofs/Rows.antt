@@ -16,6 +16,7 @@ use Rattle.life_rle.specs.Runs.{runs_of}
 use Rattle.life_rle.specs.Grammar.{IsPreamble, IsUnmarked, IsRle, Breaks, fault_behind, by_text, by_item, opening_of, later_of}
 use Rattle.life_rle.specs.declared.line.Opening.TheVariants.{PositionLine, Header}
 use Rattle.life_rle.specs.declared.line.Later.TheVariants.{Data}
+use Rattle.life_rle.proofs.Progress.{header-IsUnmarked}
 use Rattle.life_rle.proofs.ReadSteps.{items_read, last_read, line-Spells}
 use Rattle.life_base.specs.declared.cell.TheConstants.{MAX_LEVEL}
 
@@ -47,16 +48,7 @@ glider-IsRle = inr (record {
   earlier = [];
   final = glider.items;
   items = refl;
-  begun = record {
-    before = [];
-    header = codes "x = 3, y = 3, rule = B3/S23";
-    body = [];
-    whole = refl;
-    preamble = refl;
-    rule = refl;
-    items = refl;
-    sound = refl;
-  };
+  begun = header-IsUnmarked MAX_LEVEL [] default_position (codes "x = 3, y = 3, rule = B3/S23") b3s23 refl refl;
   marked = inr (refl, glider-Spells);
   sound = refl;
 })
@@ -225,31 +217,22 @@ between_rows : cell two_rows (neg_ℤ (pos 4)) (pos 8) ≡ 0
 between_rows = refl
 
 -- faults of a line behind a header
-abbrev blank : Rule → Rle
-blank rule = record { rule = rule; position = default_position; items = [] }
+abbrev blank : Rle
+blank = record { rule = b3s23; position = default_position; items = [] }
 
-header-IsUnmarked : IsUnmarked MAX_LEVEL (codes "x = 1, y = 1, rule = B3/S23" ∷ []) (blank b3s23)
+blank-IsUnmarked : IsUnmarked MAX_LEVEL (codes "x = 1, y = 1, rule = B3/S23" ∷ []) blank
 unfolding rule_of life_sets four_sets
-header-IsUnmarked = record {
-  before = [];
-  header = codes "x = 1, y = 1, rule = B3/S23";
-  body = [];
-  whole = refl;
-  preamble = refl;
-  rule = refl;
-  items = refl;
-  sound = refl;
-}
+blank-IsUnmarked = header-IsUnmarked MAX_LEVEL [] default_position (codes "x = 1, y = 1, rule = B3/S23") b3s23 refl refl
 
 -- what breaks a line of items behind this header, where an item should stand
 broken_text : (n : ℕ) (line : List ℕ) (kind : Kind) → later_of line ≡ Ok Data → last_read MAX_LEVEL n (next_of MAX_LEVEL line) ≡ Broken kind
     → first_fault MAX_LEVEL b3s23 (placed_behind default_position [] (items_read MAX_LEVEL n (next_of MAX_LEVEL line))) ≡ None
     → Breaks MAX_LEVEL (codes "x = 1, y = 1, rule = B3/S23" ∷ []) line kind
-broken_text n line kind form last sound = by_text (blank b3s23) (items_read MAX_LEVEL n (next_of MAX_LEVEL line)) header-IsUnmarked form
+broken_text n line kind form last sound = by_text blank (items_read MAX_LEVEL n (next_of MAX_LEVEL line)) blank-IsUnmarked form
     (subst (Spells MAX_LEVEL line (items_read MAX_LEVEL n (next_of MAX_LEVEL line))) last (line-Spells MAX_LEVEL n line)) sound
 
 state_range : Breaks MAX_LEVEL (codes "x = 1, y = 1, rule = B3/S23" ∷ []) (codes "B!") kinds.StateRange
-state_range = by_item (blank b3s23) [] (Cells 1 2) (codes "!") header-IsUnmarked refl refl refl refl
+state_range = by_item blank [] (Cells 1 2) (codes "!") blank-IsUnmarked refl refl refl refl
 
 zero_count : Breaks MAX_LEVEL (codes "x = 1, y = 1, rule = B3/S23" ∷ []) (codes "0o!") kinds.ZeroCount
 zero_count = broken_text 3 (codes "0o!") _ refl refl refl

@@ -1,6 +1,7 @@
--- Each item takes at least one byte, so a line is read in as many steps as it has bytes.
+-- What an item may be, and that each takes at least one byte, so a line is read in as many steps as it has bytes.
 use Rattle.std.proofs.Common.{◌≡◌, ℕ, zero, suc, ◌+◌, ◌-◌, ◌^◌, ◌≤◌, true, false, cond, List, [], ◌∷◌, ◌++◌, length, refl, ap, ◌∙◌, subst, Some, None, Option, arith, eqb, ltb}
 use Rattle.std.proofs.lemmas.List.{append-nil}
+use Rattle.std.proofs.lemmas.Bool.Decides.{nat_tests}
 use Rattle.life_base.specs.declared.kind.Kind.TheVariants.{ZeroCount, TooLarge}
 use Rattle.life_base.specs.Text.{trim_start, value_of}
 use Rattle.life_base.proofs.WordEnds.{length-trim_start}
@@ -11,17 +12,21 @@ use Rattle.life_rle.specs.States.{state_at, with_rest, first_state, single_state
 use Rattle.life_rle.specs.declared.item.Item.{Item}
 use Rattle.life_rle.specs.declared.item.Item.TheVariants.{RowEnds}
 use Rattle.life_rle.specs.Items.{front_digits, behind_digits, Next, End, Mark, Spelled, Broken, cells_of, item_behind, counted, item_in, next_of, Spells}
+use Rattle.life_rle.specs.Cursor.{item_count}
+use Rattle.life_rle.proofs.PlaneLemmas.{power-positive}
+use Rattle.life_rle.proofs.ShortKinds.{is_short_kind}
 use Rattle.life_rle.proofs.ReadSteps.{items_read, last_read}
 
 length-behind_digits : (bytes : List ℕ) → length (behind_digits bytes) ≤ length bytes
 length-behind_digits bytes = omega (arith, length-drop (prefix_len is_ascii_digit bytes) bytes)
 
--- what is left is shorter
-abbrev Leaves : List ℕ → Next → Type 0
-Leaves bytes End = Unit {0}
-Leaves bytes Mark = Unit {0}
-Leaves bytes (Broken kind) = Unit {0}
-Leaves bytes (Spelled item rest) = length rest + 1 ≤ length bytes
+-- what stands in an item's place: an item counts at most the width of the plane and leaves less behind it, and a fault is of a kind of the format,
+-- but not that of a line that is too long
+abbrev pub IsTame : ℕ → List ℕ → Next → Type 0
+IsTame level bytes End = Unit {0}
+IsTame level bytes Mark = Unit {0}
+IsTame level bytes (Broken kind) = is_short_kind kind ≡ true
+IsTame level bytes (Spelled item rest) = (item_count item ≤ 2 ^ level) × (length rest + 1 ≤ length bytes)
 
 abbrev LeavesState : List ℕ → Option (ℕ × List ℕ) → Type 0
 LeavesState bytes None = Unit {0}
@@ -43,56 +48,63 @@ state_at-leaves (b ∷ c ∷ rest) =
     (with_rest-leaves (single_state b) (b ∷ c ∷ rest) (c ∷ rest) (omega arith))
     (with_rest-leaves (prefixed_state b c) (b ∷ c ∷ rest) rest (omega arith))
 
-cells_of-leaves : (n : ℕ) (o : Option (ℕ × List ℕ)) (bytes : List ℕ) → LeavesState bytes o → Leaves bytes (cells_of n o)
-cells_of-leaves n None bytes h = tt
-cells_of-leaves n (Some found) bytes h = h
+cells_of-tame : (level n : ℕ) (o : Option (ℕ × List ℕ)) (bytes : List ℕ) → n ≤ 2 ^ level → LeavesState bytes o → IsTame level bytes (cells_of n o)
+cells_of-tame level n None bytes low h = refl
+cells_of-tame level n (Some found) bytes low h = (low, h)
 
-item_behind-leaves : (n : ℕ) (bytes : List ℕ) → Leaves bytes (item_behind n bytes)
-item_behind-leaves n [] = tt
-item_behind-leaves n (b ∷ bytes) =
-    elim (eqb b 36) as (λ t. Leaves (b ∷ bytes) (cond t (Spelled (RowEnds n) bytes) (cells_of n (state_at (b ∷ bytes)))))
-    [ true ↦ omega arith | false ↦ cells_of-leaves n (state_at (b ∷ bytes)) (b ∷ bytes) (state_at-leaves (b ∷ bytes)) ]
+item_behind-tame : (level n : ℕ) (bytes : List ℕ) → n ≤ 2 ^ level → IsTame level bytes (item_behind n bytes)
+item_behind-tame level n [] low = refl
+item_behind-tame level n (b ∷ bytes) low =
+    elim (eqb b 36) as (λ t. IsTame level (b ∷ bytes) (cond t (Spelled (RowEnds n) bytes) (cells_of n (state_at (b ∷ bytes)))))
+    [ true ↦ (low, omega arith) | false ↦ cells_of-tame level n (state_at (b ∷ bytes)) (b ∷ bytes) low (state_at-leaves (b ∷ bytes)) ]
 
-Leaves-longer : (next : Next) (short long : List ℕ) → length short ≤ length long → Leaves short next → Leaves long next
-Leaves-longer End short long h k = tt
-Leaves-longer Mark short long h k = tt
-Leaves-longer (Broken kind) short long h k = tt
-Leaves-longer (Spelled item rest) short long h k = omega arith
+IsTame-longer : (level : ℕ) (next : Next) (short long : List ℕ) → length short ≤ length long → IsTame level short next → IsTame level long next
+IsTame-longer level End short long h k = tt
+IsTame-longer level Mark short long h k = tt
+IsTame-longer level (Broken kind) short long h k = k
+IsTame-longer level (Spelled item rest) short long h k = (k.0, omega arith)
 
-counted-leaves : (level : ℕ) (digits bytes : List ℕ) → Leaves bytes (counted level digits bytes)
-counted-leaves level [] bytes = item_behind-leaves 1 bytes
-counted-leaves level (d ∷ digits) bytes =
+not_more : (most n : ℕ) → ltb most n ≡ false → n ≤ most
+not_more most n e = grind (arith, nat_tests)
+
+counted-tame : (level : ℕ) (digits bytes : List ℕ) → IsTame level bytes (counted level digits bytes)
+counted-tame level [] bytes = item_behind-tame level 1 bytes (power-positive level)
+counted-tame level (d ∷ digits) bytes =
     elim (eqb (value_of (d ∷ digits)) 0)
-    as (λ t. Leaves bytes (cond t (Broken ZeroCount)
+    as (λ t. IsTame level bytes (cond t (Broken ZeroCount)
     (cond (ltb (2 ^ level) (value_of (d ∷ digits))) (Broken TooLarge) (item_behind (value_of (d ∷ digits)) bytes)))) [
-      | true ↦ tt
+      | true ↦ refl
       | false ↦ elim (ltb (2 ^ level) (value_of (d ∷ digits)))
-          as (λ t. Leaves bytes (cond t (Broken TooLarge) (item_behind (value_of (d ∷ digits)) bytes)))
-          [ true ↦ tt | false ↦ item_behind-leaves (value_of (d ∷ digits)) bytes ]
+          as (λ t. ltb (2 ^ level) (value_of (d ∷ digits)) ≡ t → IsTame level bytes (cond t (Broken TooLarge) (item_behind (value_of (d ∷ digits)) bytes)))
+          [ true ↦ λ _. refl | false ↦ λ h. item_behind-tame level (value_of (d ∷ digits)) bytes (not_more (2 ^ level) (value_of (d ∷ digits)) h) ] refl
     ]
 
-item_in-leaves : (level : ℕ) (bytes : List ℕ) → Leaves bytes (item_in level bytes)
-item_in-leaves level [] = tt
-item_in-leaves level (b ∷ bytes) =
+item_in-tame : (level : ℕ) (bytes : List ℕ) → IsTame level bytes (item_in level bytes)
+item_in-tame level [] = tt
+item_in-tame level (b ∷ bytes) =
     let front = front_digits (b ∷ bytes) in
     let rest = behind_digits (b ∷ bytes) in
-    elim (eqb b 33) as (λ t. Leaves (b ∷ bytes) (cond t Mark (counted level front rest)))
-    [ true ↦ tt | false ↦ Leaves-longer (counted level front rest) rest (b ∷ bytes) (length-behind_digits (b ∷ bytes)) (counted-leaves level front rest) ]
+    elim (eqb b 33) as (λ t. IsTame level (b ∷ bytes) (cond t Mark (counted level front rest))) [
+      | true ↦ tt
+      | false ↦ IsTame-longer level (counted level front rest) rest (b ∷ bytes) (length-behind_digits (b ∷ bytes)) (counted-tame level front rest)
+    ]
 
-next_of-leaves : (level : ℕ) (bytes : List ℕ) → Leaves bytes (next_of level bytes)
-next_of-leaves level bytes = Leaves-longer (next_of level bytes) (trim_start bytes) bytes (length-trim_start bytes) (item_in-leaves level (trim_start bytes))
+pub next_of-tame : (level : ℕ) (bytes : List ℕ) → IsTame level bytes (next_of level bytes)
+next_of-tame level bytes =
+    IsTame-longer level (next_of level bytes) (trim_start bytes) bytes (length-trim_start bytes) (item_in-tame level (trim_start bytes))
 
 -- what an item leaves is shorter
 pub next_of-shorter : (level : ℕ) (bytes : List ℕ) (item : Item) (rest : List ℕ) → next_of level bytes ≡ Spelled item rest → length rest + 1 ≤ length bytes
-next_of-shorter level bytes item rest e = subst (Leaves bytes) e (next_of-leaves level bytes)
+next_of-shorter level bytes item rest e = (subst (IsTame level bytes) e (next_of-tame level bytes)).1
 
--- a line has at least as many bytes as items
-pub Spells-shorter : (level : ℕ) (items : List Item) (bytes : List ℕ) (last : Next) → Spells level bytes items last → length items ≤ length bytes
-Spells-shorter level [] bytes last h = omega arith
+-- a line has as many bytes as items, and maybe more
+Spells-shorter : (level : ℕ) (items : List Item) (bytes : List ℕ) (last : Next) → Spells level bytes items last
+    → (more : ℕ) × (length bytes ≡ length items + more)
+Spells-shorter level [] bytes last h = (length bytes, omega arith)
 Spells-shorter level (item ∷ items) bytes last h =
-    let more = Spells-shorter level items h.0 last h.2 in
+    let rest = Spells-shorter level items h.0 last h.2 in
     let one = next_of-shorter level bytes item h.0 h.1 in
-    omega (arith, more, one)
+    (length bytes - suc (length items), omega (arith, rest.1, one))
 
 -- neither an item
 abbrev pub IsStop : Next → Type 0
@@ -101,50 +113,30 @@ IsStop Mark = Unit {0}
 IsStop (Broken kind) = Unit {0}
 IsStop (Spelled item rest) = ⊥
 
-items_read-front : (level : ℕ) (items : List Item) (bytes : List ℕ) (last : Next) (m n : ℕ) → Spells level bytes items last → n ≡ length items + m
-    → items_read level n (next_of level bytes) ≡ items ++ items_read level m last
-items_read-front level [] bytes last m n h e = let k : n ≡ m = omega arith in rw k (ap (items_read level m) h)
-items_read-front level (item ∷ items) bytes last m zero h e = absurd (omega arith)
-items_read-front level (item ∷ items) bytes last m (suc n) h e =
-    ap (items_read level (suc n)) h.1 ∙ ap (λ xs. item ∷ xs) (items_read-front level items h.0 last m n h.2 (omega arith))
+-- what reading finds behind a front that the bytes spell
+read-front : (level : ℕ) (items : List Item) (bytes : List ℕ) (last : Next) (m n : ℕ) → Spells level bytes items last → n ≡ length items + m
+    → (items_read level n (next_of level bytes) ≡ items ++ items_read level m last) × (last_read level n (next_of level bytes) ≡ last_read level m last)
+read-front level [] bytes last m n h e = let k : n ≡ m = omega arith in rw k (ap (items_read level m) h, ap (last_read level m) h)
+read-front level (item ∷ items) bytes last m zero h e = absurd (omega arith)
+read-front level (item ∷ items) bytes last m (suc n) h e =
+    let rest = read-front level items h.0 last m n h.2 (omega arith) in
+    (ap (items_read level (suc n)) h.1 ∙ ap (λ xs. item ∷ xs) rest.0, ap (last_read level (suc n)) h.1 ∙ rest.1)
 
-last_read-front : (level : ℕ) (items : List Item) (bytes : List ℕ) (last : Next) (m n : ℕ) → Spells level bytes items last → n ≡ length items + m
-    → last_read level n (next_of level bytes) ≡ last_read level m last
-last_read-front level [] bytes last m n h e = let k : n ≡ m = omega arith in rw k (ap (last_read level m) h)
-last_read-front level (item ∷ items) bytes last m zero h e = absurd (omega arith)
-last_read-front level (item ∷ items) bytes last m (suc n) h e =
-    ap (last_read level (suc n)) h.1 ∙ last_read-front level items h.0 last m n h.2 (omega arith)
+read-stop : (level : ℕ) (m : ℕ) (last : Next) → IsStop last → (items_read level m last ≡ []) × (last_read level m last ≡ last)
+read-stop level zero last h = (refl, refl)
+read-stop level (suc m) End h = (refl, refl)
+read-stop level (suc m) Mark h = (refl, refl)
+read-stop level (suc m) (Broken kind) h = (refl, refl)
+read-stop level (suc m) (Spelled item rest) h = absurd h
 
-items_read-stop : (level : ℕ) (m : ℕ) (last : Next) → IsStop last → items_read level m last ≡ []
-items_read-stop level zero last h = refl
-items_read-stop level (suc m) End h = refl
-items_read-stop level (suc m) Mark h = refl
-items_read-stop level (suc m) (Broken kind) h = refl
-items_read-stop level (suc m) (Spelled item rest) h = absurd h
-
-last_read-stop : (level : ℕ) (m : ℕ) (last : Next) → IsStop last → last_read level m last ≡ last
-last_read-stop level zero last h = refl
-last_read-stop level (suc m) End h = refl
-last_read-stop level (suc m) Mark h = refl
-last_read-stop level (suc m) (Broken kind) h = refl
-last_read-stop level (suc m) (Spelled item rest) h = absurd h
-
--- reading finds the items that the line spells
-pub items_read-line : (level : ℕ) (line : List ℕ) (items : List Item) (last : Next) → Spells level line items last → IsStop last
-    → items_read level (length line) (next_of level line) ≡ items
-items_read-line level line items last h s =
-    let short = Spells-shorter level items line last h in
-    let m : ℕ = length line - length items in
-    let e : length line ≡ length items + m = omega (arith, short) in
-    items_read-front level items line last m (length line) h e ∙ ap (λ xs. items ++ xs) (items_read-stop level m last s) ∙ append-nil items
-
-pub last_read-line : (level : ℕ) (line : List ℕ) (items : List Item) (last : Next) → Spells level line items last → IsStop last
-    → last_read level (length line) (next_of level line) ≡ last
-last_read-line level line items last h s =
-    let short = Spells-shorter level items line last h in
-    let m : ℕ = length line - length items in
-    let e : length line ≡ length items + m = omega (arith, short) in
-    last_read-front level items line last m (length line) h e ∙ last_read-stop level m last s
+-- reading finds the items that the line spells, and what stands behind them
+pub read-line : (level : ℕ) (line : List ℕ) (items : List Item) (last : Next) → Spells level line items last → IsStop last
+    → (items_read level (length line) (next_of level line) ≡ items) × (last_read level (length line) (next_of level line) ≡ last)
+read-line level line items last h s =
+    let more = Spells-shorter level items line last h in
+    let front = read-front level items line last more.0 (length line) h more.1 in
+    let stop = read-stop level more.0 last s in
+    (front.0 ∙ ap (λ xs. items ++ xs) stop.0 ∙ append-nil items, front.1 ∙ stop.1)
 
 pub Spells-push : (level : ℕ) (items : List Item) (bytes : List ℕ) (item : Item) (rest : List ℕ) → Spells level bytes items (Spelled item rest)
     → Spells level bytes (items ++ item ∷ []) (next_of level rest)
@@ -156,7 +148,5 @@ pub items_read-before : (level : ℕ) (line : List ℕ) (items : List Item) (ite
     → (more : List Item) × (items_read level (length line) (next_of level line) ≡ (items ++ item ∷ []) ++ more)
 items_read-before level line items item rest h =
     let k = Spells-push level items line item rest h in
-    let short = Spells-shorter level (items ++ item ∷ []) line (next_of level rest) k in
-    let m : ℕ = length line - length (items ++ item ∷ []) in
-    let e : length line ≡ length (items ++ item ∷ []) + m = omega (arith, short) in
-    (items_read level m (next_of level rest), items_read-front level (items ++ item ∷ []) line (next_of level rest) m (length line) k e)
+    let more = Spells-shorter level (items ++ item ∷ []) line (next_of level rest) k in
+    (items_read level more.0 (next_of level rest), (read-front level (items ++ item ∷ []) line (next_of level rest) more.0 (length line) k more.1).0)

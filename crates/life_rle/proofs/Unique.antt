@@ -9,7 +9,7 @@ use Rattle.life_rle.specs.Position.{default_position}
 use Rattle.life_rle.specs.Pattern.{Rle, placed_behind, first_fault, first_kind}
 use Rattle.life_rle.specs.Grammar.{later_of, IsPreamble, LineSpells, BodySpells, IsUnmarked, IsMarked, IsRle, IsSomeRle, fault_behind, Breaks, before_header, by_form, by_text, by_item}
 use Rattle.life_rle.specs.declared.line.Later.TheVariants.{Data}
-use Rattle.life_rle.proofs.Shrinks.{IsStop, items_read-line, last_read-line, items_read-before}
+use Rattle.life_rle.proofs.Shrinks.{IsStop, read-line, items_read-before}
 use Rattle.life_rle.proofs.Progress.{Before, Begun, Ended, Refused, fault_of_next, items_fault, line_items, line_last, with_items, after_items, open_step, later_step, step, progress, start, progress-append, progress-Refused, progress-Ended, placed_behind-append, first_fault-append, first_kind-both, with_items-nil}
 
 pub IsPreamble-progress : (level : ℕ) (given o : Position) (lines : List (List ℕ)) → IsPreamble level given lines o → progress level (Before given) lines
@@ -22,11 +22,10 @@ IsPreamble-progress level given o (line ∷ lines) (inr h) = ap (λ r. progress 
 later_step-items : (level : ℕ) (file : Rle) (line : List ℕ) (items : List Item) (last : Next) (k : Option Kind) → later_of line ≡ Ok Data
     → Spells level line items last → IsStop last → items_fault level file items last ≡ k → step level (Begun file) line ≡ after_items file items last k
 later_step-items level file line items last k form h s fault =
-    let e = items_read-line level line items last h s in
-    let l = last_read-line level line items last h s in
+    let read = read-line level line items last h s in
     ap (later_step level file line) form
-    ∙ ap (λ xs. after_items file xs (line_last level line) (items_fault level file xs (line_last level line))) e
-    ∙ ap (λ n. after_items file items n (items_fault level file items n)) l
+    ∙ ap (λ xs. after_items file xs (line_last level line) (items_fault level file xs (line_last level line))) read.0
+    ∙ ap (λ n. after_items file items n (items_fault level file items n)) read.1
     ∙ ap (after_items file items last) fault
 
 step-LineSpells : (level : ℕ) (file : Rle) (line : List ℕ) (items : List Item) → LineSpells level line items End

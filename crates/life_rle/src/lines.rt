@@ -70,34 +70,7 @@ fn before_header(
     }
 }
 
-/// A line of data: its items, and whether `!` ends them.
-fn behind_items(
-    rule: Rule,
-    position: Position,
-    cursor: Cursor,
-    line: &[u8],
-    runs: &mut Vec<Run>,
-) -> Result<Advance, Kind>
-    requires near { IsNear MAX_LEVEL cursor }
-    requires data { later_of line.now ≡ Ok Data }
-    ensures advance { IfOk result (λ next. TakesLine MAX_LEVEL (Phase.Items rule position) cursor line.now next.phase next.cursor runs.old.items runs.new.items) }
-    ensures going { IfOk result (λ next. is_refused next.phase ≡ false) }
-    ensures fault { IfErr result (λ kind. (kind ≡ Kind.Memory) ⊎ ItemsBreak MAX_LEVEL rule cursor line.now kind) }
-    ensures kept { OnErr result (IsFrontOf runs.old.items runs.new.items) }
-{
-    let read = read_items(&rule, cursor, line, runs)?;
-    let phase = if read.marked {
-        Phase::Over(rule, position)
-    } else {
-        Phase::Items(rule, position)
-    };
-    Ok(Advance {
-        phase,
-        cursor: read.cursor,
-    })
-}
-
-/// A line behind the header.
+/// A line behind the header: one that is passed over, or items and whether `!` ends them.
 fn behind_header(
     rule: Rule,
     position: Position,
@@ -116,7 +89,18 @@ fn behind_header(
             phase: Phase::Items(rule, position),
             cursor,
         }),
-        Later::Data => behind_items(rule, position, cursor, line, runs),
+        Later::Data => {
+            let read = read_items(&rule, cursor, line, runs)?;
+            let phase = if read.marked {
+                Phase::Over(rule, position)
+            } else {
+                Phase::Items(rule, position)
+            };
+            Ok(Advance {
+                phase,
+                cursor: read.cursor,
+            })
+        }
     }
 }
 

@@ -1,5 +1,5 @@
 -- A cell of state 0 among neighbours of state 0 keeps it.
-use Rattle.std.proofs.Common.{◌≡◌, ℕ, zero, suc, ◌+◌, ◌∷◌, ◌++◌, List, [], map, length, Bool, true, false, refl, ap, sym, ◌∙◌, subst, ◌⊎◌, inl, inr, arith, lit<, ◌||◌, get_or}
+use Rattle.std.proofs.Common.{◌≡◌, ℕ, zero, suc, ◌+◌, ◌∷◌, ◌++◌, List, [], map, length, Bool, true, false, refl, ap, sym, ◌∙◌, subst, ◌⊎◌, inl, inr, arith, ◌||◌, get_or}
 use Rattle.std.specs.Prelude.{Contains, All, IsTrue, IfSome, slice_get, replicate, Option, Some, ◌==◌, if◌then◌else◌, ◌&&◌}
 use Rattle.std.specs.List.{list_any, list_all}
 use Rattle.std.specs.Option.{option_map_or}
@@ -45,37 +45,33 @@ zero_orders (suc n) w h =
     let r = from_flat_map (insertions 0) (orders (replicate n 0)) w h in
     zero_inserted n w (subst (λ v. Contains (insertions 0 v) w) (sym (zero_orders n r.0 r.1)) r.2)
 
+-- but for every order, the images of zeros are the same list once or more
+same_images : (n : Neighborhood) (symmetry : Symmetry) → (symmetry ≡ Permute) ⊎ ((k : ℕ) × (images symmetry (zeros n) ≡ replicate (suc k) (zeros n)))
+same_images n Permute = inl refl
+same_images VonNeumann Identity = inr (0, refl)
+same_images VonNeumann Rotate4 = inr (3, refl)
+same_images VonNeumann Rotate4Reflect = inr (7, refl)
+same_images VonNeumann ReflectHorizontal = inr (1, refl)
+same_images VonNeumann Rotate8 = inr (3, refl)
+same_images VonNeumann Rotate8Reflect = inr (7, refl)
+same_images Moore Identity = inr (0, refl)
+same_images Moore Rotate4 = inr (3, refl)
+same_images Moore Rotate4Reflect = inr (7, refl)
+same_images Moore ReflectHorizontal = inr (1, refl)
+same_images Moore Rotate8 = inr (7, refl)
+same_images Moore Rotate8Reflect = inr (15, refl)
+
 zero_images : (n : Neighborhood) (symmetry : Symmetry) (w : List ℕ) → Contains (images symmetry (zeros n)) w → zeros n ≡ w
-zero_images VonNeumann Identity w h = one_of_same (zeros VonNeumann) 1 w h
-zero_images VonNeumann Rotate4 w h = one_of_same (zeros VonNeumann) 4 w h
-zero_images VonNeumann Rotate4Reflect w h = one_of_same (zeros VonNeumann) 8 w h
-zero_images VonNeumann ReflectHorizontal w h = one_of_same (zeros VonNeumann) 2 w h
-zero_images VonNeumann Permute w h = zero_orders 4 w h
-zero_images VonNeumann Rotate8 w h = one_of_same (zeros VonNeumann) 4 w h
-zero_images VonNeumann Rotate8Reflect w h = one_of_same (zeros VonNeumann) 8 w h
-zero_images Moore Identity w h = one_of_same (zeros Moore) 1 w h
-zero_images Moore Rotate4 w h = one_of_same (zeros Moore) 4 w h
-zero_images Moore Rotate4Reflect w h = one_of_same (zeros Moore) 8 w h
-zero_images Moore ReflectHorizontal w h = one_of_same (zeros Moore) 2 w h
-zero_images Moore Permute w h = zero_orders 8 w h
-zero_images Moore Rotate8 w h = one_of_same (zeros Moore) 8 w h
-zero_images Moore Rotate8Reflect w h = one_of_same (zeros Moore) 16 w h
+zero_images n symmetry w h = elim (same_images n symmetry) [
+  | inl every ↦ zero_orders (neighbour_count n) w (subst (λ s. Contains (images s (zeros n)) w) every h)
+  | inr same ↦ one_of_same (zeros n) (suc same.0) w (subst (λ ws. Contains ws w) same.1 h)
+]
 
 zero_image : (n : Neighborhood) (symmetry : Symmetry) → Contains (images symmetry (zeros n)) (zeros n)
-zero_image VonNeumann Permute = order_by_counts (zeros VonNeumann) (zeros VonNeumann) (λ t. refl)
-zero_image Moore Permute = order_by_counts (zeros Moore) (zeros Moore) (λ t. refl)
-zero_image VonNeumann Identity = (0, lit< tt, refl)
-zero_image VonNeumann Rotate4 = (0, lit< tt, refl)
-zero_image VonNeumann Rotate4Reflect = (0, lit< tt, refl)
-zero_image VonNeumann ReflectHorizontal = (0, lit< tt, refl)
-zero_image VonNeumann Rotate8 = (0, lit< tt, refl)
-zero_image VonNeumann Rotate8Reflect = (0, lit< tt, refl)
-zero_image Moore Identity = (0, lit< tt, refl)
-zero_image Moore Rotate4 = (0, lit< tt, refl)
-zero_image Moore Rotate4Reflect = (0, lit< tt, refl)
-zero_image Moore ReflectHorizontal = (0, lit< tt, refl)
-zero_image Moore Rotate8 = (0, lit< tt, refl)
-zero_image Moore Rotate8Reflect = (0, lit< tt, refl)
+zero_image n symmetry = elim (same_images n symmetry) [
+  | inl every ↦ subst (λ s. Contains (images s (zeros n)) (zeros n)) (sym every) (order_by_counts (zeros n) (zeros n) (λ t. refl))
+  | inr same ↦ subst (λ ws. Contains ws (zeros n)) (sym same.1) (0, omega arith, refl)
+]
 
 all_zeros : (n : Neighborhood) → replicate (neighbour_count n + 1) 0 ≡ 0 ∷ zeros n
 all_zeros VonNeumann = refl

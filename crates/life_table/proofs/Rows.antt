@@ -35,17 +35,9 @@ spread = head ++ codes "var a={1,2}" ∷ codes "0,a,0,0,0,a" ∷ []
 abbrev a_line : Transition
 a_line = record { line = 7; inputs = Fixed 0 ∷ entries.Var 0 ∷ Fixed 0 ∷ Fixed 0 ∷ Fixed 0 ∷ []; output = entries.Var 0 }
 
-spread_ok : faults spread ≡ replicate 7 None
-unfolding broken missing parse_line parse_descriptor name_of section_of table_texts entry_of states_listed entries_of variable_states variable_of transition_of
-    rule_of life_sets four_sets
-spread_ok = refl
-
-spread_whole : missing spread ≡ None
-unfolding broken missing parse_line parse_descriptor name_of section_of table_texts entry_of states_listed entries_of variable_states variable_of transition_of
-    rule_of life_sets four_sets
-spread_whole = refl
-
-spread_says : says spread ≡ record {
+-- what a text says, and what whitespace, comments and sections behind the table change in it
+abbrev spread_table : Parsed
+spread_table = record {
   name = Some (codes "Spread");
   section = Open;
   n_states = Some 3;
@@ -54,145 +46,77 @@ spread_says : says spread ≡ record {
   vars = record { name = codes "a"; states = 6 ∷ 0 ∷ 0 ∷ 0 ∷ [] } ∷ [];
   lines = a_line ∷ [];
 }
-unfolding broken missing parse_line parse_descriptor name_of section_of table_texts entry_of states_listed entries_of variable_states variable_of transition_of
-    rule_of life_sets four_sets
-spread_says = refl
 
-spread_without_commas : says (head ++ codes "var a={1,2}" ∷ codes "0a000a" ∷ []) ≡ says spread
-unfolding broken missing parse_line parse_descriptor name_of section_of table_texts entry_of states_listed entries_of variable_states variable_of transition_of
-    rule_of life_sets four_sets
-spread_without_commas = refl
+abbrev said_rows : List (List (List ℕ) × Parsed)
+said_rows =
+    (spread, spread_table) ∷
+    (head ++ codes "var a={1,2}" ∷ codes "0a000a" ∷ [], spread_table) ∷
+    (head ++ codes " var  a = { 1 , 2 } # two states" ∷ codes "  0 , a , 0,0 ,0, a# a:b" ∷ [], spread_table) ∷
+    (spread ++ codes "@COLORS" ∷ codes "0 0 0" ∷ codes "@TABLE" ∷ codes "junk" ∷ codes "n_states:9" ∷ [], record spread_table { section = Behind }) ∷
+    []
 
--- whitespace and comments change nothing, a colon in a comment too
-spread_with_spaces : says (head ++ codes " var  a = { 1 , 2 } # two states" ∷ codes "  0 , a , 0,0 ,0, a# a:b" ∷ []) ≡ says spread
-unfolding broken missing parse_line parse_descriptor name_of section_of table_texts entry_of states_listed entries_of variable_states variable_of transition_of
-    rule_of life_sets four_sets
-spread_with_spaces = refl
-
-colon_in_comment : faults (head ++ codes "var a={1,2}" ∷ codes "0,a,0,0,0,a # a:b" ∷ []) ≡ replicate 7 None
-unfolding broken missing parse_line parse_descriptor name_of section_of table_texts entry_of states_listed entries_of variable_states variable_of transition_of
-    rule_of life_sets four_sets
-colon_in_comment = refl
-
-state_beyond : faults (head ++ codes "var a={1,3}" ∷ []) ≡ after 5 BadVariable
-unfolding broken missing parse_line parse_descriptor name_of section_of table_texts entry_of states_listed entries_of variable_states variable_of transition_of
-    rule_of life_sets four_sets
-state_beyond = refl
-
-not_quiet : faults (head ++ codes "var a={1,2}" ∷ codes "0,0,0,0,0,1" ∷ []) ≡ after 6 NotQuiet
-unfolding broken missing parse_line parse_descriptor name_of section_of table_texts entry_of states_listed entries_of variable_states variable_of transition_of
-    rule_of life_sets four_sets
-not_quiet = refl
-
-quiet_before : faults (head ++ codes "0,0,0,0,0,0" ∷ codes "0,0,0,0,0,1" ∷ []) ≡ replicate 7 None
-unfolding broken missing parse_line parse_descriptor name_of section_of table_texts entry_of states_listed entries_of variable_states variable_of transition_of
-    rule_of life_sets four_sets
-quiet_before = refl
-
-unbound : faults (head ++ codes "var a={1,2}" ∷ codes "var b={a}" ∷ codes "0,a,0,0,0,b" ∷ []) ≡ after 7 UnboundOutput
-unfolding broken missing parse_line parse_descriptor name_of section_of table_texts entry_of states_listed entries_of variable_states variable_of transition_of
-    rule_of life_sets four_sets
-unbound = refl
-
-too_few : faults (head ++ codes "var a={1,2}" ∷ codes "0,a,0,0,a" ∷ []) ≡ after 6 BadTransition
-unfolding broken missing parse_line parse_descriptor name_of section_of table_texts entry_of states_listed entries_of variable_states variable_of transition_of
-    rule_of life_sets four_sets
-too_few = refl
-
-eighths : faults (codes "@RULE A" ∷ codes "@TABLE" ∷ codes "symmetries:rotate8" ∷ codes "neighborhood:vonNeumann" ∷ []) ≡ after 3 UnsupportedSymmetry
-unfolding broken missing parse_line parse_descriptor name_of section_of table_texts entry_of states_listed entries_of variable_states variable_of transition_of
-    rule_of life_sets four_sets
-eighths = refl
-
-no_such_symmetry : faults (codes "@RULE A" ∷ codes "@TABLE" ∷ codes "symmetries:rotate3" ∷ []) ≡ after 2 UnsupportedSymmetry
-unfolding broken missing parse_line parse_descriptor name_of section_of table_texts entry_of states_listed entries_of variable_states variable_of transition_of
-    rule_of life_sets four_sets
-no_such_symmetry = refl
-
-no_symmetries : faults (codes "@RULE A" ∷ codes "@TABLE" ∷ codes "n_states:2" ∷ codes "neighborhood:Moore" ∷ codes "@COLORS" ∷ []) ≡ after 4 BadDescriptor
-unfolding broken missing parse_line parse_descriptor name_of section_of table_texts entry_of states_listed entries_of variable_states variable_of transition_of
-    rule_of life_sets four_sets
-no_symmetries = refl
-
--- a missing descriptor comes before the faults of the transition
-missing_at_transition : faults (codes "@RULE A" ∷ codes "@TABLE" ∷ codes "n_states:2" ∷ codes "0,0,9" ∷ []) ≡ after 3 BadDescriptor
-unfolding broken missing parse_line parse_descriptor name_of section_of table_texts entry_of states_listed entries_of variable_states variable_of transition_of
-    rule_of life_sets four_sets
-missing_at_transition = refl
-
-given_twice : faults (codes "@RULE A" ∷ codes "@TABLE" ∷ codes "n_states:2" ∷ codes "n_states:x" ∷ []) ≡ after 3 BadDescriptor
-unfolding broken missing parse_line parse_descriptor name_of section_of table_texts entry_of states_listed entries_of variable_states variable_of transition_of
-    rule_of life_sets four_sets
-given_twice = refl
-
-late : faults (head ++ codes "0,0,0,0,0,0" ∷ codes "n_states:3" ∷ []) ≡ after 6 BadDescriptor
-unfolding broken missing parse_line parse_descriptor name_of section_of table_texts entry_of states_listed entries_of variable_states variable_of transition_of
-    rule_of life_sets four_sets
-late = refl
-
-rule_alone : missing (codes "@RULE A" ∷ []) ≡ Some NoTable
-unfolding broken missing parse_line parse_descriptor name_of section_of table_texts entry_of states_listed entries_of variable_states variable_of transition_of
-    rule_of life_sets four_sets
-rule_alone = refl
-
-nothing_at_all : missing [] ≡ Some NoRuleLine
-unfolding broken missing parse_line parse_descriptor name_of section_of table_texts entry_of states_listed entries_of variable_states variable_of transition_of
-    rule_of life_sets four_sets
-nothing_at_all = refl
-
-table_alone : missing (codes "@RULE A" ∷ codes "@TABLE" ∷ []) ≡ Some BadDescriptor
-unfolding broken missing parse_line parse_descriptor name_of section_of table_texts entry_of states_listed entries_of variable_states variable_of transition_of
-    rule_of life_sets four_sets
-table_alone = refl
-
-no_name : faults (codes "@RULE B3/S23" ∷ []) ≡ after 0 NoRuleLine
-unfolding broken missing parse_line parse_descriptor name_of section_of table_texts entry_of states_listed entries_of variable_states variable_of transition_of
-    rule_of life_sets four_sets
-no_name = refl
-
-no_name_without_slash : faults (codes "@RULE B3S23" ∷ []) ≡ after 0 NoRuleLine
-unfolding broken missing parse_line parse_descriptor name_of section_of table_texts entry_of states_listed entries_of variable_states variable_of transition_of
-    rule_of life_sets four_sets
-no_name_without_slash = refl
-
-no_names_of_other_forms : map (λ line. faults (line ∷ [])) (codes "@RULE BS" ∷ codes "@RULE s23b3" ∷ codes "@RULE B0S1" ∷ codes "@RULE B3S23V" ∷ [])
-    ≡ replicate 4 (after 0 NoRuleLine)
-unfolding broken missing parse_line parse_descriptor name_of section_of table_texts entry_of states_listed entries_of variable_states variable_of transition_of
-    rule_of life_sets four_sets
-no_names_of_other_forms = refl
-
-hexagonal : faults (codes "@RULE A" ∷ codes "@TABLE" ∷ codes "neighborhood:hexagonal" ∷ []) ≡ after 2 UnsupportedNeighborhood
-unfolding broken missing parse_line parse_descriptor name_of section_of table_texts entry_of states_listed entries_of variable_states variable_of transition_of
-    rule_of life_sets four_sets
-hexagonal = refl
-
--- what stands behind the table is passed over, a second table too
-further_sections : says (spread ++ codes "@COLORS" ∷ codes "0 0 0" ∷ codes "@TABLE" ∷ codes "junk" ∷ codes "n_states:9" ∷ [])
-    ≡ record (says spread) { section = Behind }
-unfolding broken missing parse_line parse_descriptor name_of section_of table_texts entry_of states_listed entries_of variable_states variable_of transition_of
-    rule_of life_sets four_sets
-further_sections = refl
-
-further_sections_ok : faults (spread ++ codes "@COLORS" ∷ codes "0 0 0" ∷ codes "@TABLE" ∷ codes "junk" ∷ codes "n_states:9" ∷ []) ≡ replicate 12 None
-unfolding broken missing parse_line parse_descriptor name_of section_of table_texts entry_of states_listed entries_of variable_states variable_of transition_of
-    rule_of life_sets four_sets
-further_sections_ok = refl
-
--- a variable is used behind its own line alone
-used_before : faults (head ++ codes "0,a,0,0,0,a" ∷ codes "var a={1,2}" ∷ []) ≡ after 5 BadTransition ++ None ∷ []
-unfolding broken missing parse_line parse_descriptor name_of section_of table_texts entry_of states_listed entries_of variable_states variable_of transition_of
-    rule_of life_sets four_sets
-used_before = refl
-
--- a carriage return is whitespace, around an entry and not in it
-carriage_return : faults (head ++ (codes "0,0,0" ++ 13 ∷ codes ",0,0,0") ∷ (codes "0,0 0" ++ 13 ∷ codes "0,0,0,0") ∷ []) ≡ after 6 BadTransition
-unfolding broken missing parse_line parse_descriptor name_of section_of table_texts entry_of states_listed entries_of variable_states variable_of transition_of
-    rule_of life_sets four_sets
-carriage_return = refl
+said_as_written : map (λ row. says row.0) said_rows ≡ map (λ row. row.1) said_rows
+unfolding parse_line parse_descriptor name_of section_of table_texts entry_of states_listed entries_of variable_states variable_of transition_of rule_of life_sets
+    four_sets
+said_as_written = refl
 
 -- states 64 and 255
 high_states : (says (codes "@RULE A" ∷ codes "@TABLE" ∷ codes "n_states:256" ∷ codes "neighborhood:Moore" ∷ codes "symmetries:permute" ∷ codes "var h={64,255}"
     ∷ [])).vars ≡ record { name = codes "h"; states = 0 ∷ 1 ∷ 0 ∷ 2 ^ 63 ∷ [] } ∷ []
-unfolding broken missing parse_line parse_descriptor name_of section_of table_texts entry_of states_listed entries_of variable_states variable_of transition_of
-    rule_of life_sets four_sets
+unfolding parse_line parse_descriptor name_of section_of table_texts entry_of states_listed entries_of variable_states variable_of transition_of rule_of life_sets
+    four_sets
 high_states = refl
+
+-- texts, and which rule each of their lines breaks
+abbrev fault_rows : List (List (List ℕ) × List (Option Kind))
+fault_rows =
+    (spread, replicate 7 None) ∷
+    -- a colon in a comment
+    (head ++ codes "var a={1,2}" ∷ codes "0,a,0,0,0,a # a:b" ∷ [], replicate 7 None) ∷
+    (head ++ codes "var a={1,3}" ∷ [], after 5 BadVariable) ∷
+    (head ++ codes "var a={1,2}" ∷ codes "0,0,0,0,0,1" ∷ [], after 6 NotQuiet) ∷
+    -- an earlier line keeps the dead cell
+    (head ++ codes "0,0,0,0,0,0" ∷ codes "0,0,0,0,0,1" ∷ [], replicate 7 None) ∷
+    (head ++ codes "var a={1,2}" ∷ codes "var b={a}" ∷ codes "0,a,0,0,0,b" ∷ [], after 7 UnboundOutput) ∷
+    (head ++ codes "var a={1,2}" ∷ codes "0,a,0,0,a" ∷ [], after 6 BadTransition) ∷
+    -- a variable is used behind its own line alone
+    (head ++ codes "0,a,0,0,0,a" ∷ codes "var a={1,2}" ∷ [], after 5 BadTransition ++ None ∷ []) ∷
+    -- a carriage return is whitespace, around an entry and not in it
+    (head ++ (codes "0,0,0" ++ 13 ∷ codes ",0,0,0") ∷ (codes "0,0 0" ++ 13 ∷ codes "0,0,0,0") ∷ [], after 6 BadTransition) ∷
+    (codes "@RULE A" ∷ codes "@TABLE" ∷ codes "neighborhood:hexagonal" ∷ [], after 2 UnsupportedNeighborhood) ∷
+    (codes "@RULE A" ∷ codes "@TABLE" ∷ codes "symmetries:rotate8" ∷ codes "neighborhood:vonNeumann" ∷ [], after 3 UnsupportedSymmetry) ∷
+    (codes "@RULE A" ∷ codes "@TABLE" ∷ codes "symmetries:rotate3" ∷ [], after 2 UnsupportedSymmetry) ∷
+    (codes "@RULE A" ∷ codes "@TABLE" ∷ codes "n_states:2" ∷ codes "neighborhood:Moore" ∷ codes "@COLORS" ∷ [], after 4 BadDescriptor) ∷
+    -- a missing descriptor comes before the faults of the transition
+    (codes "@RULE A" ∷ codes "@TABLE" ∷ codes "n_states:2" ∷ codes "0,0,9" ∷ [], after 3 BadDescriptor) ∷
+    (codes "@RULE A" ∷ codes "@TABLE" ∷ codes "n_states:2" ∷ codes "n_states:x" ∷ [], after 3 BadDescriptor) ∷
+    (head ++ codes "0,0,0,0,0,0" ∷ codes "n_states:3" ∷ [], after 6 BadDescriptor) ∷
+    -- a second table is passed over
+    (spread ++ codes "@COLORS" ∷ codes "0 0 0" ∷ codes "@TABLE" ∷ codes "junk" ∷ codes "n_states:9" ∷ [], replicate 12 None) ∷
+    -- rules of the B/S forms are no names
+    (codes "@RULE B3/S23" ∷ [], after 0 NoRuleLine) ∷
+    (codes "@RULE B3S23" ∷ [], after 0 NoRuleLine) ∷
+    (codes "@RULE BS" ∷ [], after 0 NoRuleLine) ∷
+    (codes "@RULE s23b3" ∷ [], after 0 NoRuleLine) ∷
+    (codes "@RULE B0S1" ∷ [], after 0 NoRuleLine) ∷
+    (codes "@RULE B3S23V" ∷ [], after 0 NoRuleLine) ∷
+    []
+
+faults_are_found : map (λ row. faults row.0) fault_rows ≡ map (λ row. row.1) fault_rows
+unfolding broken parse_line parse_descriptor name_of section_of table_texts entry_of states_listed entries_of variable_states variable_of transition_of rule_of
+    life_sets four_sets
+faults_are_found = refl
+
+-- texts, and what is missing at their end
+abbrev missing_rows : List (List (List ℕ) × Option Kind)
+missing_rows =
+    (spread, None) ∷
+    ([], Some NoRuleLine) ∷
+    (codes "@RULE A" ∷ [], Some NoTable) ∷
+    (codes "@RULE A" ∷ codes "@TABLE" ∷ [], Some BadDescriptor) ∷
+    []
+
+missing_is_found : map (λ row. missing row.0) missing_rows ≡ map (λ row. row.1) missing_rows
+unfolding missing parse_line parse_descriptor name_of section_of table_texts entry_of states_listed entries_of variable_states variable_of transition_of rule_of
+    life_sets four_sets
+missing_is_found = refl

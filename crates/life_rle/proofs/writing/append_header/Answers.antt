@@ -1,7 +1,6 @@
 use Rattle.std.proofs.Common.{◌≡◌, ℕ, ◌∷◌, [], ◌++◌, List, append_assoc, codes, decimal}
 use Rattle.std.proofs.lemmas.Result.{on_ok_weaker}
 use Rattle.life_base.specs.Rules.{rule_text}
-use Rattle.life_rle.proofs.PutItems.{three-texts}
 use Rattle.life_rle.proofs.writing.append_header.Goals as goal
 
 -- seven texts, one behind the other

@@ -2,7 +2,7 @@ use Rattle.std.proofs.Common.{◌≡◌, ℕ, ◌+◌, ◌<◌, List, [], ◌∷
 use Rattle.std.specs.Prelude.{Option}
 use Rattle.std.proofs.Math.ListN.{drop_of_length-le}
 use Rattle.life_base.specs.Text.{is_whitespace}
-use Rattle.life_table.specs.Reading.{entry_of, all_some, bytes_alone}
+use Rattle.life_table.specs.Reading.{entry_of, all_some}
 use Rattle.life_table.specs.declared.table.Entry.{Entry}
 use Rattle.life_table.proofs.Listed.{joined, solid, at_start, all_read, word_read, word_unread, solid_next, solid_skips}
 use Rattle.life_table.proofs.entries.Scope.of_bytes.Goals as goal
