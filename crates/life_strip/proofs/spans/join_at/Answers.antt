@@ -57,14 +57,14 @@ find-se-requires g c = record { past = past_later c.args.lower.now _ _ _ c.requi
 pub join-requires : goal.join-requires
 join-requires g c =
     let r = c.requires in
-    may_join (g.S.Squares.knows c.args.squares.now) (g.S.Squares.content c.args.squares.now) c.args.level c.args.upper.now c.args.lower.now c.args.blank
+    may_join (g.S.Squares.knows c.args.squares.now) (g.S.Squares.content c.args.squares.now) c.args.level c.args.upper.now c.args.lower.now c.args.empty
     c.args.column r.upper r.lower r.known r.blank r.north c.find-ne.ensures r.south c.find-se.ensures r.low
 
 pub returns-clause-square : goal.returns-clause-square
 returns-clause-square g c =
     let r = c.requires in
     c.in_ok-square.ensures.square
-    ∙ are_quarters (g.S.Squares.knows c.args.squares.now) (g.S.Squares.content c.args.squares.now) c.args.level c.args.upper.now c.args.lower.now c.args.blank
+    ∙ are_quarters (g.S.Squares.knows c.args.squares.now) (g.S.Squares.content c.args.squares.now) c.args.level c.args.upper.now c.args.lower.now c.args.empty
     c.args.column r.upper r.lower r.known r.blank r.north c.find-ne.ensures r.south c.find-se.ensures
 
 pub returns-in_err-square-clause-needed : goal.returns-in_err-square-clause-needed
@@ -72,7 +72,7 @@ returns-in_err-square-clause-needed g c =
     let r = c.requires in
     let s = c.args.squares.now in
     let C = g.S.Squares.content s in
-    let same = are_quarters (g.S.Squares.knows s) C c.args.level c.args.upper.now c.args.lower.now c.args.blank c.args.column r.upper r.lower r.known r.blank
+    let same = are_quarters (g.S.Squares.knows s) C c.args.level c.args.upper.now c.args.lower.now c.args.empty c.args.column r.upper r.lower r.known r.blank
     r.north c.find-ne.ensures r.south c.find-se.ensures in
     let p = err_from_is_err_and c.from_residual.result c.from_residual.ensures.1 in
     rw p.1
