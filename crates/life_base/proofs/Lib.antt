@@ -21,5 +21,6 @@ pub mod WordEnds
 pub mod EmptyValues
 pub mod WholeLines
 pub mod Squares
+pub mod Spans
 pub mod Results
 pub mod FrontDigits

@@ -361,16 +361,8 @@ InBand-lower (suc k) band low (west, h) =
     let same : k ≡ suc k - 1 = omega arith in (west, subst (λ n. IsBand n west (lower (2 ^ n) band)) same (IsBand-lower k west band h))
 
 -- what a band has after the two northern, or the two southern, quarters of a square were kept
-pub northern_kept : (half : ℕ) (t a b c d : Tree) (column first second : ℤ) (old more all : List Piece) → t ≡ quad a b c d → first ≡ column
-    → second ≡ column +ℤ pos half
-    → more ≡ old ++ kept a first → all ≡ more ++ kept b second → all ≡ old ++ northern half t column
-northern_kept half t a b c d column first second old more all e f g one two =
-    two ∙ ap (λ l. l ++ kept b second) one ∙ append_assoc old _ _ ∙ (λ i. old ++ (kept a (f i) ++ kept b (g i)))
-    ∙ ap (λ u. old ++ northern half u column) (sym e)
-
-pub southern_kept : (half : ℕ) (t a b c d : Tree) (column first second : ℤ) (old more all : List Piece) → t ≡ quad a b c d → first ≡ column
-    → second ≡ column +ℤ pos half
-    → more ≡ old ++ kept c first → all ≡ more ++ kept d second → all ≡ old ++ southern half t column
-southern_kept half t a b c d column first second old more all e f g one two =
-    two ∙ ap (λ l. l ++ kept d second) one ∙ append_assoc old _ _ ∙ (λ i. old ++ (kept c (f i) ++ kept d (g i)))
-    ∙ ap (λ u. old ++ southern half u column) (sym e)
+pub quarters_kept : (half : ℕ) (a b : Tree) (column first second : ℤ) (old more all quarters : List Piece)
+    → quarters ≡ kept a column ++ kept b (column +ℤ pos half) → first ≡ column → second ≡ column +ℤ pos half
+    → more ≡ old ++ kept a first → all ≡ more ++ kept b second → all ≡ old ++ quarters
+quarters_kept half a b column first second old more all quarters e f g one two =
+    two ∙ ap (λ l. l ++ kept b second) one ∙ append_assoc old _ _ ∙ (λ i. old ++ (kept a (f i) ++ kept b (g i))) ∙ ap (λ l. old ++ l) (sym e)

@@ -4,16 +4,10 @@ use Rattle.std.specs.Prelude.{if◌then◌else◌}
 use Rattle.std.proofs.lemmas.Int.{ints}
 use Rattle.life_base.specs.Tree.{Tree, depth, state_at}
 use Rattle.life_base.proofs.Squares.{is_inside, inside_offset, inside_facts, inside_test, cell_inside, cell_outside}
+use Rattle.life_base.proofs.Spans.{span_from_run, run_from_span}
 use Rattle.life_quad.specs.Cells.{IsInRun, IsRunInside, SetsRun}
 use Rattle.life_base.specs.Tree.{half_side, tree_cell as cell}
 use Rattle.life_quad.specs.Span.{is_in_span, SetsSpan}
-
-span_facts : (column row len i j : ℕ) → is_in_span column row len i j ≡ true → (j ≡ row) × (column ≤ i) × (i < column + len)
-span_facts column row len i j e = (grind arith, grind arith, grind arith)
-
--- a cell in the columns and the row of a span
-in_span : (column row len i j : ℕ) → j ≡ row → column ≤ i → i < column + len → is_in_span column row len i j ≡ true
-in_span column row len i j a b c = grind arith
 
 pub side : (k : ℕ) → 1 ≤ k → 2 ^ (k - 1) + 2 ^ (k - 1) ≡ 2 ^ k
 side zero h = absurd (omega arith)
@@ -48,10 +42,7 @@ SetsRun-span old new x y column row len state high inside e f s =
         let z : j <ℤ pos h = subst (λ k. k <ℤ pos h) (sym r.same_row) inside.south in
         let a = inside_offset h i w u in
         let b = inside_offset h j v z in
-        let row_is : b.0 ≡ row = let k = b.1 in let l = r.same_row in omega (arith, ints) in
-        let from : column ≤ a.0 = let k = a.1 in let l = r.from in omega (arith, ints) in
-        let to : a.0 < column + len = let k = a.1 in let l = r.to in omega (arith, ints) in
-        let t = in_span column row len a.0 b.0 row_is from to in
+        let t = span_from_run h x y i j column row len a.0 b.0 e f a.1 b.1 r.same_row r.from r.to in
         at i j a.0 b.0 (inside_test h i j (record { west = w; east = u; north = v; south = z })) a.1 b.1 a.2 b.2
         ∙ ap (λ c. if c then state else state_at old a.0 b.0) t
 
@@ -81,12 +72,4 @@ SetsRun-span old new x y column row len state high inside e f s =
             out : (d : Bool) → is_in_span column row len n m ≡ d → (if is_in_span column row len n m then state else state_at old n m) ≡ state_at old n m
             out false g = ap (λ c. if c then state else state_at old n m) g
             out true g =
-                let k = span_facts column row len n m g in
-                let row_is = k.0 in
-                let from = k.1 in
-                let to = k.2 in
-                absurd (r (record {
-                  same_row = omega (arith, ints, p, q, e, f, row_is);
-                  from = omega (arith, ints, p, q, e, f, from);
-                  to = omega (arith, ints, p, q, e, f, to);
-                }))
+                let k = run_from_span h x y i j column row len n m e f p q g in absurd (r (record { same_row = k.0; from = k.1; to = k.2 }))

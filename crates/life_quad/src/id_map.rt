@@ -3,7 +3,7 @@ ghost use Rattle.std.specs.Prelude.{◌≡◌, ◌≢◌, ◌⊎◌, ◌<◌, �
 ghost use Rattle.life_base.specs.declared.kind.Kind.TheVariants.{Memory};
 ghost use Rattle.life_quad.specs.declared.id.Id.{Id as IdValue};
 ghost use Rattle.life_quad.specs.IdMap.{value_of, HasRoom};
-ghost use Rattle.life_quad.specs.Pages.{index_in, place_of as place_of_page};
+ghost use Rattle.life_quad.specs.Pages.{index_in, place_of};
 
 use crate::Id;
 use crate::id::FIRST_NODE;
@@ -47,7 +47,7 @@ impl<T: Copy> Model for IdMap<T> {
 /// before them.
 #[tactic(auto, unfolding(crate::specs::Pages::place_of))]
 fn place_of(number: u64) -> u64
-    ensures { result ≡ place_of_page number }
+    ensures { result ≡ place_of number }
 {
     let page = number / PAGE;
     if page == NODES {

@@ -6,7 +6,7 @@
 ghost use Rattle.std.specs.Prelude.{◌≡◌, ◌⊎◌, ◌≢◌, ◌+◌, ◌-◌, ◌^◌, ◌<◌, ◌≤◌, ◌+ℤ◌, ◌≤ℤ◌, pos, neg_ℤ, [], ◌∷◌, ◌++◌, false, length, All, Err, OnOk, IfOk, IfErr};
 ghost use Rattle.life_base.specs.declared.kind.Kind.TheVariants.{Memory, TooManyCells};
 ghost use Rattle.life_base.specs.Tree.{depth, is_blank_tree};
-ghost use Rattle.life_quad.specs.Cells.{IsCellList, population as population_of};
+ghost use Rattle.life_quad.specs.Cells.{IsCellList, population};
 ghost use Rattle.life_quad.specs.Bands.{InBand, IsPlaced, pieces, kept, northern, southern, upper, lower, row_cells, band_cells};
 
 use crate::moves::{Quarters, divide, is_blank};
@@ -31,9 +31,9 @@ pub fn cells<S: Squares>(alloc: Global, squares: &S, id: Id, limit: u64) -> Resu
     requires known { S.knows squares.now id }
     requires high { 1 ≤ depth (S.content squares.now id) }
     ensures cells { IfOk result (λ v. IsCellList (S.content squares.now id) v.items) }
-    ensures number { IfOk result (λ v. length v.items ≡ population_of (S.content squares.now id)) }
+    ensures number { IfOk result (λ v. length v.items ≡ population (S.content squares.now id)) }
     ensures few { IfOk result (λ v. length v.items ≤ limit) }
-    ensures many { IfErr result (λ e. e ≡ TooManyCells → limit < population_of (S.content squares.now id)) }
+    ensures many { IfErr result (λ e. e ≡ TooManyCells → limit < population (S.content squares.now id)) }
     ensures refusals { IfErr result (λ e. (e ≡ TooManyCells) ⊎ (e ≡ Memory)) }
 {
     let level = squares.level(id);

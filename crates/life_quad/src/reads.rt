@@ -3,7 +3,7 @@ ghost use Rattle.std.specs.Prelude.{◌≡◌, ◌+◌, ◌^◌, ◌+ℤ◌, pos
 ghost use Rattle.life_base.specs.declared.kind.Kind.TheVariants.{Memory};
 ghost use Rattle.life_quad.specs.declared.id.Id.{Id as IdValue};
 ghost use Rattle.life_base.specs.Tree.{depth, is_blank_tree};
-ghost use Rattle.life_quad.specs.Cells.{population as population_of, IsLeastBox};
+ghost use Rattle.life_quad.specs.Cells.{population, IsLeastBox};
 ghost use Rattle.life_quad.specs.IdMap.{value_of};
 
 use crate::distances::{Side, least_distance};
@@ -22,7 +22,7 @@ use std::alloc::Global;
 pub fn population<S: SharedSquares>(alloc: Global, squares: &S, id: Id) -> Result<u128, Kind>
     requires known { S.knows squares.now id }
     requires high { 1 ≤ depth (S.content squares.now id) }
-    ensures number { IfOk result (λ n. n ≡ population_of (S.content squares.now id)) }
+    ensures number { IfOk result (λ n. n ≡ population (S.content squares.now id)) }
     ensures refusals { IfErr result (λ e. e ≡ Memory) }
 {
     let mut known = IdMap::new(alloc, 0);
@@ -34,9 +34,9 @@ pub fn population<S: SharedSquares>(alloc: Global, squares: &S, id: Id) -> Resul
 fn count<S: Squares>(squares: &S, level: u8, id: Id, known: &mut IdMap<u128>) -> Result<u128, Kind>
     requires known { S.knows squares.now id }
     requires level { level ≡ depth (S.content squares.now id) }
-    requires right { (q : IdValue) → 0 < value_of known.old q → value_of known.old q ≡ population_of (S.content squares.now q) }
-    ensures number { IfOk result (λ n. n ≡ population_of (S.content squares.now id)) }
-    ensures right { (q : IdValue) → 0 < value_of known.new q → value_of known.new q ≡ population_of (S.content squares.now q) }
+    requires right { (q : IdValue) → 0 < value_of known.old q → value_of known.old q ≡ population (S.content squares.now q) }
+    ensures number { IfOk result (λ n. n ≡ population (S.content squares.now id)) }
+    ensures right { (q : IdValue) → 0 < value_of known.new q → value_of known.new q ≡ population (S.content squares.now q) }
     ensures refusals { IfErr result (λ e. e ≡ Memory) }
 {
     if let Some(state) = squares.state(id) {

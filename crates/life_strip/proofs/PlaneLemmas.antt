@@ -9,6 +9,7 @@ use Rattle.life_base.specs.Tree.{Tree, point, depth, state_at}
 use Rattle.life_quad.specs.declared.id.Id.{Id}
 use Rattle.life_quad.specs.Cells.{IsInRun}
 use Rattle.life_quad.specs.Span.{is_in_span}
+use Rattle.life_base.proofs.Spans.{span_from_run, run_from_span}
 use Rattle.life_base.proofs.Squares.{Inside, is_inside, inside_offset, inside_facts, inside_test}
 use Rattle.life_strip.specs.declared.spans.Span.{Span}
 use Rattle.life_strip.specs.declared.spans.Strip.{Strip}
@@ -209,13 +210,6 @@ plane_inside P x y n m i e f =
 pub plane_outside : (P : ℕ → ℕ → ℕ) (x y : ℤ) → is_inside half_plane x y ≡ false → on_plane P x y ≡ 0
 plane_outside P x y i = ap (λ b. if b then P (unsigned_abs (x +ℤ pos half_plane)) (unsigned_abs (y +ℤ pos half_plane)) else 0) i
 
--- a cell in the columns and the row of a span
-in_span : (column row len i j : ℕ) → j ≡ row → column ≤ i → i < column + len → is_in_span column row len i j ≡ true
-in_span column row len i j a b c = grind arith
-
-span_facts : (column row len i j : ℕ) → is_in_span column row len i j ≡ true → (j ≡ row) × (column ≤ i) × (i < column + len)
-span_facts column row len i j e = (grind arith, grind arith, grind arith)
-
 -- a span of columns of the plane is a run of cells
 pub AddsRun-span : (P Q : ℕ → ℕ → ℕ) (x y : ℤ) (column row len state : ℕ) → IsOnPlane x y len
     → pos column ≡ x +ℤ pos half_plane → pos row ≡ y +ℤ pos half_plane
@@ -236,7 +230,7 @@ AddsRun-span P Q x y column row len state inside e f cells = record { run = in_r
         } in
         let a = inside_offset h i on.west on.east in
         let b = inside_offset h j on.north on.south in
-        let t = in_span column row len a.0 b.0 (omega (arith, ints, same, b.1, f)) (omega (arith, ints, r.from, a.1, e)) (omega (arith, ints, r.to, a.1, e)) in
+        let t = span_from_run h x y i j column row len a.0 b.0 e f a.1 b.1 same r.from r.to in
         plane_inside Q i j a.0 b.0 (inside_test h i j on) a.1 b.1 ∙ cells a.0 b.0 ∙ ap (λ c. if c then state else P a.0 b.0) t
 
     out_of_run : (i j : ℤ) → ¬ IsInRun x y len i j → on_plane Q i j ≡ on_plane P i j
@@ -255,15 +249,7 @@ AddsRun-span P Q x y column row len state inside e f cells = record { run = in_r
                 → (if is_in_span column row len n m then state else P n m) ≡ P n m
             out n m p q false g = ap (λ c. if c then state else P n m) g
             out n m p q true g =
-                let k = span_facts column row len n m g in
-                let row_is = k.0 in
-                let from = k.1 in
-                let to = k.2 in
-                absurd (r (record {
-                  same_row = omega (arith, ints, p, q, e, f, row_is);
-                  from = omega (arith, ints, p, q, e, f, from);
-                  to = omega (arith, ints, p, q, e, f, to);
-                }))
+                let k = run_from_span h x y i j column row len n m e f p q g in absurd (r (record { same_row = k.0; from = k.1; to = k.2 }))
 
 -- strips keep their cells
 pub picture-keeps : {knows knows' : Id → Type 0} {old new : Id → Tree} (keeps : Keeps knows knows' old new) (xs : List Strip) → All (IsSound knows old) xs

@@ -1,8 +1,7 @@
 //! The plane as far as it is filled, row by row.
 ghost use Rattle.std.specs.Prelude.{◌≡◌, ℕ, ℤ, pos, neg_ℤ, nat_abs, ◌+ℤ◌, ◌<ℤ◌, ◌≤ℤ◌, suc, ◌+◌, ◌^◌, ◌<◌, ◌≤◌, ◌⊎◌, ◌++◌, ◌∷◌, [], List, All, length, Err, IfOk, IfErr, OnOk};
 ghost use Rattle.life_base.specs.declared.kind.Kind.TheVariants.{Full, Memory};
-ghost use Rattle.life_base.specs.Tree.{depth};
-ghost use Rattle.life_base.specs.Tree.{tree_cell as cell_of};
+ghost use Rattle.life_base.specs.Tree.{depth, tree_cell};
 ghost use Rattle.life_quad.specs.Keeping.{KeepsSquares};
 ghost use Rattle.life_strip.specs.Given.{IsOnPlane, half_plane};
 ghost use Rattle.life_strip.specs.Needed.{SomeSquare};
@@ -132,7 +131,7 @@ impl Plane {
         requires filled { IsFilled (S.knows squares.old) (S.content squares.old) self }
         ensures known { IfOk result (S.knows squares.new) }
         ensures level { IfOk result (λ r. depth (S.content squares.new r) ≡ MAX_LEVEL) }
-        ensures cells { IfOk result (λ r. (x y : ℤ) → cell_of (S.content squares.new r) x y ≡ cell_so_far (S.content squares.old) self x y) }
+        ensures cells { IfOk result (λ r. (x y : ℤ) → tree_cell (S.content squares.new r) x y ≡ cell_so_far (S.content squares.old) self x y) }
         ensures keeps { KeepsSquares S.knows S.content S.stored S.most squares.old squares.new }
         ensures refusals { IfErr result (λ e. (e ≡ Full) ⊎ (e ≡ Memory)) }
         ensures full { result ≡ Err Full → length (S.stored squares.new) ≡ S.most squares.new }

@@ -3,7 +3,7 @@ ghost use Rattle.std.specs.Prelude.{◌≡◌, ℕ, ◌+◌, ◌-◌, ◌*◌, �
 ghost use Rattle.life_base.specs.declared.kind.Kind.TheVariants.{Full, Memory};
 ghost use Rattle.life_quad.specs.declared.id.Id.{Id as IdValue};
 ghost use Rattle.life_strip.specs.declared.spans.Span.{Span as SpanValue};
-ghost use Rattle.life_base.specs.Tree.{depth, blank as blank_square};
+ghost use Rattle.life_base.specs.Tree.{depth, blank};
 ghost use Rattle.life_quad.specs.Keeping.{KeepsSquares};
 ghost use Rattle.life_strip.specs.Strip.{IsStrip, AreWithin, IsPaired, IsPast, IsFound, IsNearer, id_at, id_or, quad_at};
 
@@ -77,7 +77,7 @@ fn join_at<S: Squares>(
     upper: &[Span],
     lower: &[Span],
     level: u8,
-    blank: Id,
+    empty: Id,
     column: u64,
     north: Stretch,
     south: Stretch,
@@ -86,10 +86,10 @@ fn join_at<S: Squares>(
     requires column { column ≤ 2 ^ MAX_LEVEL }
     requires upper { IsStrip (S.knows squares.old) (S.content squares.old) level upper.now }
     requires lower { IsStrip (S.knows squares.old) (S.content squares.old) level lower.now }
-    requires known { S.knows squares.old blank }
-    requires blank { S.content squares.old blank ≡ blank_square level }
-    requires north { IsFound upper.now (2 * column) blank north }
-    requires south { IsFound lower.now (2 * column) blank south }
+    requires known { S.knows squares.old empty }
+    requires blank { S.content squares.old empty ≡ blank level }
+    requires north { IsFound upper.now (2 * column) empty north }
+    requires south { IsFound lower.now (2 * column) empty south }
     ensures known { IfOk result (λ r. S.knows squares.new r.square) }
     ensures square { IfOk result (λ r. S.content squares.new r.square ≡ quad_at (S.content squares.old) level upper.now lower.now column) }
     ensures north { IfOk result (λ r. IsPast upper.now r.north (2 * column + 1)) }
@@ -100,8 +100,8 @@ fn join_at<S: Squares>(
     ensures needed { OnErr result (S.needs_node squares.new (quad_at (S.content squares.old) level upper.now lower.now column)) }
 {
     let east = 2 * column + 1;
-    let ne = find(upper, north.index, east, blank);
-    let se = find(lower, south.index, east, blank);
+    let ne = find(upper, north.index, east, empty);
+    let se = find(lower, south.index, east, empty);
     let square = squares.join(north.square, ne.square, south.square, se.square)?;
     Ok(Joined {
         square,

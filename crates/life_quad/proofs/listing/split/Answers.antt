@@ -1,4 +1,4 @@
-use Rattle.std.proofs.Common.{◌≡◌, ℕ, ◌+◌, ℤ, neg_ℤ, ◌≤ℤ◌, Result, OnOk, ◌-◌, ◌^◌, ◌≤◌, ◌+ℤ◌, pos, arith, to_z, of_z, w64}
+use Rattle.std.proofs.Common.{◌≡◌, ℕ, ◌+◌, ℤ, neg_ℤ, ◌≤ℤ◌, Result, OnOk, ◌-◌, ◌^◌, ◌≤◌, ◌+ℤ◌, pos, ap, arith, to_z, of_z, w64}
 use Rattle.std.proofs.lemmas.Result.{on_ok_weaker}
 use Rattle.std.proofs.lemmas.Int.{ints}
 use Rattle.std.proofs.Math.Pow.{pow_mono}
@@ -6,10 +6,10 @@ use Rattle.std.specs.Prelude.{IfErr, IsErrAnd}
 use Rattle.life_base.specs.declared.kind.Kind.{Kind}
 use Rattle.life_base.specs.declared.kind.Kind.TheVariants.{Memory}
 use Rattle.life_base.specs.Tree.{Tree, depth}
-use Rattle.life_quad.specs.Bands.{IsPlaced}
+use Rattle.life_quad.specs.Bands.{IsPlaced, northern, southern}
 use Rattle.life_quad.specs.declared.id.Id.{Id}
 use Rattle.life_quad.specs.declared.listing.Placed.{Placed}
-use Rattle.life_quad.proofs.BandLemmas.{northern_kept, southern_kept}
+use Rattle.life_quad.proofs.BandLemmas.{quarters_kept}
 use Rattle.life_quad.proofs.CellListLemmas.{halves_side}
 use Rattle.life_quad.proofs.RefusedLemmas.{error_is}
 use Rattle.life_quad.proofs.listing.split.Goals as goal
@@ -98,14 +98,18 @@ returns g c =
     let first : to_z w64 (of_z w64 c.args.placed.column) ≡ c.args.placed.column = omega (arith, ints, west, east) in
     let second : to_z w64 (of_z w64 c.further-east.result) ≡ c.args.placed.column +ℤ pos (2 ^ (c.args.level - 1)) = omega
     (arith, ints, half, west, east, twice) in
-    let northern = northern_kept (2 ^ (c.args.level - 1)) _ _ _ _ _ _ _ _ _ _ _ d.square first second c.in_ok-keep.ensures.pieces
-    c.in_ok-keep-2.ensures.pieces in
+    let C = g.S.Squares.content c.args.squares.now in
+    let half_side = 2 ^ (c.args.level - 1) in
+    let column = c.args.placed.column in
+    let q = c.divide.result in
+    let north = quarters_kept half_side (C q.nw) (C q.ne) column _ _ _ _ _ _ (ap (λ t. northern half_side t column) d.square) first second
+    c.in_ok-keep.ensures.pieces c.in_ok-keep-2.ensures.pieces in
+    let south = quarters_kept half_side (C q.sw) (C q.se) column _ _ _ _ _ _ (ap (λ t. southern half_side t column) d.square) first second
+    c.in_ok-keep-3.ensures.pieces in
     record {
       north = on_ok_weaker c.keep-4.result (λ _. c.in_ok-keep-2.ensures.each) c.keep-4.ensures.each;
       south = c.keep-4.ensures.each;
-      northern = on_ok_weaker c.keep-4.result (λ _. northern) c.keep-4.ensures.each;
-      southern = on_ok_weaker c.keep-4.result
-          (λ last. southern_kept (2 ^ (c.args.level - 1)) _ _ _ _ _ _ _ _ _ _ _ d.square first second c.in_ok-keep-3.ensures.pieces last)
-          c.keep-4.ensures.pieces;
+      northern = on_ok_weaker c.keep-4.result (λ _. north) c.keep-4.ensures.each;
+      southern = on_ok_weaker c.keep-4.result south c.keep-4.ensures.pieces;
       refusals = c.keep-4.ensures.refusals;
     }

@@ -1,8 +1,9 @@
-use Rattle.std.proofs.Common.{◌≡◌, ℕ, ◌+◌, ◌*◌, ◌<◌, arith, sym, subst}
+use Rattle.std.proofs.Common.{◌≡◌, ℕ, ◌+◌, ◌*◌, ◌<◌, List, arith, sym, subst}
 use Rattle.std.proofs.lemmas.Result.{err_from_is_err_and}
 use Rattle.life_quad.specs.Refused.{SomePart}
 use Rattle.life_quad.proofs.KeepingLemmas.{keeps-same, keeps-then}
-use Rattle.life_strip.specs.Strip.{IsFound}
+use Rattle.life_strip.specs.declared.spans.Span.{Span}
+use Rattle.life_strip.specs.Strip.{IsFound, IsPast}
 use Rattle.life_strip.specs.Band.{four_at}
 use Rattle.life_strip.proofs.SpanLemmas.{strip-kept, past_later}
 use Rattle.life_strip.proofs.NeededLemmas.{err_again}
@@ -88,37 +89,21 @@ returns-in_err-block-clause-needed g c =
           some.2,
     ))
 
+-- the row goes on from a later block
+from_block : (spans : List Span) (index block next : ℕ) → IsPast spans index (64 * block + 64) → block < next → record { past : IsPast spans index (64 * next) }
+from_block spans index block next h beyond = record { past = past_later spans index (64 * block + 64) (64 * next) h (omega (arith, beyond)) }
+
 pub find-a-requires-in-Some : goal.find-a-requires-in-Some
-find-a-requires-in-Some g c =
-    let next = c.in_ok-block.ensures.beyond in
-    record {
-      past = past_later c.args.first.now c.in-Some-two_words.upper.north.index (64 * c.loop-end.block + 64) (64 * c.in_ok-block.block)
-          c.in-Some-two_words.ensures.north_past (omega (arith, next));
-    }
+find-a-requires-in-Some g c = from_block c.args.first.now _ _ _ c.in-Some-two_words.ensures.north_past c.in_ok-block.ensures.beyond
 
 pub find-b-requires-in-Some : goal.find-b-requires-in-Some
-find-b-requires-in-Some g c =
-    let next = c.in_ok-block.ensures.beyond in
-    record {
-      past = past_later c.args.second.now c.in-Some-two_words.upper.south.index (64 * c.loop-end.block + 64) (64 * c.in_ok-block.block)
-          c.in-Some-two_words.ensures.south_past (omega (arith, next));
-    }
+find-b-requires-in-Some g c = from_block c.args.second.now _ _ _ c.in-Some-two_words.ensures.south_past c.in_ok-block.ensures.beyond
 
 pub find-c-requires-in-Some : goal.find-c-requires-in-Some
-find-c-requires-in-Some g c =
-    let next = c.in_ok-block.ensures.beyond in
-    record {
-      past = past_later c.args.third.now c.in-Some-two_words-2.lower.north.index (64 * c.loop-end.block + 64) (64 * c.in_ok-block.block)
-          c.in-Some-two_words-2.ensures.north_past (omega (arith, next));
-    }
+find-c-requires-in-Some g c = from_block c.args.third.now _ _ _ c.in-Some-two_words-2.ensures.north_past c.in_ok-block.ensures.beyond
 
 pub find-d-requires-in-Some : goal.find-d-requires-in-Some
-find-d-requires-in-Some g c =
-    let next = c.in_ok-block.ensures.beyond in
-    record {
-      past = past_later c.args.fourth.now c.in-Some-two_words-2.lower.south.index (64 * c.loop-end.block + 64) (64 * c.in_ok-block.block)
-          c.in-Some-two_words-2.ensures.south_past (omega (arith, next));
-    }
+find-d-requires-in-Some g c = from_block c.args.fourth.now _ _ _ c.in-Some-two_words-2.ensures.south_past c.in_ok-block.ensures.beyond
 
 pub loop-end-preserved : goal.loop-end-preserved
 loop-end-preserved g c =
