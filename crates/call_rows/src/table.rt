@@ -1,5 +1,7 @@
 //! Calls of `life_table`.
 
+ghost use Rattle.std.specs.Prelude.{◌<◌, All, IsTrue};
+
 use crate::answer::Unanswered;
 use crate::row::{halves, number_of};
 use crate::shown::{Show, show_bytes, show_each, show_fault};
@@ -102,15 +104,16 @@ fn around_of(alloc: Global, text: &[u8]) -> Result<Neighbours, Unanswered> {
     }
 }
 
+/// Whether each of these states is one of the table's.
+fn has_states(table: &Table, cells: &[State]) -> bool
+    ensures { IsTrue result → All (λ s. s < table.now.n_states) cells.now }
+{
+    cells.iter().all(|state| u16::from(*state) < table.n_states)
+}
+
 /// What a table makes of a cell and its four neighbours; nothing, if they are none of the table.
 fn decided_by_four(table: &Table, cells: [State; 5]) -> Option<Result<State, Fault>> {
-    if table.neighborhood != Neighborhood::VonNeumann {
-        return None;
-    }
-    if cells
-        .iter()
-        .any(|state| u16::from(*state) >= table.n_states)
-    {
+    if table.neighborhood != Neighborhood::VonNeumann || !has_states(table, &cells) {
         return None;
     }
     Some(table.next(&Neighbours::Four(cells)))
@@ -118,13 +121,7 @@ fn decided_by_four(table: &Table, cells: [State; 5]) -> Option<Result<State, Fau
 
 /// What a table makes of a cell and its eight neighbours; nothing, if they are none of the table.
 fn decided_by_eight(table: &Table, cells: [State; 9]) -> Option<Result<State, Fault>> {
-    if table.neighborhood != Neighborhood::Moore {
-        return None;
-    }
-    if cells
-        .iter()
-        .any(|state| u16::from(*state) >= table.n_states)
-    {
+    if table.neighborhood != Neighborhood::Moore || !has_states(table, &cells) {
         return None;
     }
     Some(table.next(&Neighbours::Eight(cells)))
