@@ -1,5 +1,5 @@
 -- The squares that a refused call lacked are parts of the square with the states of the plane.
-use Rattle.std.proofs.Common.{◌≡◌, ℕ, zero, suc, ◌+◌, ◌*◌, ◌/◌, ◌^◌, ◌<◌, inl, inr, ℤ, pos, ◌+ℤ◌, List, refl, sym, ◌∙◌, ap, subst, arith}
+use Rattle.std.proofs.Common.{◌≡◌, ◌⊎◌, ℕ, zero, suc, ◌+◌, ◌*◌, ◌/◌, ◌^◌, ◌<◌, inl, inr, ℤ, pos, ◌+ℤ◌, List, refl, sym, ◌∙◌, ap, subst, arith}
 use Rattle.std.specs.Int.{bit_at}
 use Rattle.std.proofs.lemmas.Int.{ints}
 use Rattle.life_base.specs.Sets.{OuterTotalistic}
@@ -66,27 +66,21 @@ pub joined-is : {f : ℤ → ℤ → ℕ} {k : ℕ} {x y : ℤ} {a b c d : Tree}
 unfolding square_from
 joined-is p = quads _ _ _ _ _ _ _ _ p.nw p.ne p.sw p.se
 
--- the square itself, and the parts of each quarter
+-- one of four squares of a level has such a part
+abbrev pub SomeOfFour : (Tree → Type 0) → (ℤ → ℤ → ℕ) → ℕ → ℕ → ℤ → ℤ → Type 0
+SomeOfFour P f k side x y =
+    SomePart P (square_from f k x y) ⊎ SomePart P (square_from f k (ahead x side) y) ⊎ SomePart P (square_from f k x (ahead y side))
+    ⊎ SomePart P (square_from f k (ahead x side) (ahead y side))
+
+-- the square itself, and a part of a quarter
 module _ (P : Tree → Type 0) (f : ℤ → ℤ → ℕ) (k : ℕ) (x y : ℤ) where
   pub own-part : (t : Tree) → t ≡ square_from f (suc k) x y → P t → SomePart P (square_from f (suc k) x y)
   unfolding square_from
   own-part t e p = inl (subst P e p)
 
-  pub north_west-part : SomePart P (square_from f k x y) → SomePart P (square_from f (suc k) x y)
+  pub quarter-part : SomeOfFour P f k (2 ^ k) x y → SomePart P (square_from f (suc k) x y)
   unfolding square_from
-  north_west-part s = inr (inl s)
-
-  pub north_east-part : SomePart P (square_from f k (ahead x (2 ^ k)) y) → SomePart P (square_from f (suc k) x y)
-  unfolding square_from
-  north_east-part s = inr (inr (inl s))
-
-  pub south_west-part : SomePart P (square_from f k x (ahead y (2 ^ k))) → SomePart P (square_from f (suc k) x y)
-  unfolding square_from
-  south_west-part s = inr (inr (inr (inl s)))
-
-  pub south_east-part : SomePart P (square_from f k (ahead x (2 ^ k)) (ahead y (2 ^ k))) → SomePart P (square_from f (suc k) x y)
-  unfolding square_from
-  south_east-part s = inr (inr (inr (inr s)))
+  quarter-part s = inr s
 
 -- ---- squares of a word's cells
 

@@ -1,10 +1,10 @@
-use Rattle.std.proofs.Common.{ℤ, ℕ, ◌^◌, refl, ◌∙◌}
+use Rattle.std.proofs.Common.{inl, inr, ℤ, ℕ, ◌^◌, refl, ◌∙◌}
 use Rattle.std.proofs.lemmas.Result.{IfOk-weaker}
 use Rattle.life_base.proofs.Results.{on_err_any, on_err_both}
 use Rattle.life_quad.proofs.KeepingLemmas.{keeps-then}
 use Rattle.life_sweep.specs.Generation.{next_life}
 use Rattle.life_block.specs.Pieces.{IsBinary, AreSixteen}
-use Rattle.life_block.proofs.NeedLemmas.{AreParts, is-piece, joined-is, parts-of_pieces, own-part, north_west-part, north_east-part, south_west-part, south_east-part, still-needs}
+use Rattle.life_block.proofs.NeedLemmas.{AreParts, is-piece, joined-is, parts-of_pieces, own-part, quarter-part, still-needs}
 use Rattle.life_block.proofs.PieceLemmas.{AreSixteen-kept, nine-north_west, nine-north_east, nine-south_west, nine-south_east, next-of_blank}
 use Rattle.life_block.proofs.blocks.+block.Given.{Over}
 use Rattle.life_block.proofs.blocks.+block.Goals as goal
@@ -51,28 +51,28 @@ next_of_middle-returns-clause-next g m c =
 pub next_of_middle-returns-in_err-nw-clause-needed : goal.next_of_middle-returns-in_err-nw-clause-needed
 next_of_middle-returns-in_err-nw-clause-needed g m c =
     on_err_any c.from_residual.result
-    (λ cells x y binary h. north_west-part (g.S.Squares.needs_node c.next_amid.new.squares) _ _ x y
-    (c.in_err-nw.ensures.needed cells _ _ binary (nine-north_west c.north_west.ensures h)))
+    (λ cells x y binary h. quarter-part (g.S.Squares.needs_node c.next_amid.new.squares) _ _ x y (inl
+    (c.in_err-nw.ensures.needed cells _ _ binary (nine-north_west c.north_west.ensures h))))
 
 pub next_of_middle-returns-in_err-ne-clause-needed : goal.next_of_middle-returns-in_err-ne-clause-needed
 next_of_middle-returns-in_err-ne-clause-needed g m c =
     on_err_any c.from_residual-in_err-ne.result
-    (λ cells x y binary h. north_east-part (g.S.Squares.needs_node c.next_amid-2.new.squares) _ _ x y
-    (c.in_err-ne.ensures.needed cells _ _ binary (nine-north_east c.north_east.ensures (AreSixteen-kept c.in_ok-nw.ensures.keeps c.requires.known h))))
+    (λ cells x y binary h. quarter-part (g.S.Squares.needs_node c.next_amid-2.new.squares) _ _ x y (inr (inl
+    (c.in_err-ne.ensures.needed cells _ _ binary (nine-north_east c.north_east.ensures (AreSixteen-kept c.in_ok-nw.ensures.keeps c.requires.known h))))))
 
 pub next_of_middle-returns-in_err-sw-clause-needed : goal.next_of_middle-returns-in_err-sw-clause-needed
 next_of_middle-returns-in_err-sw-clause-needed g m c =
     on_err_any c.from_residual-in_err-sw.result
-    (λ cells x y binary h. south_west-part (g.S.Squares.needs_node c.next_amid-3.new.squares) _ _ x y
+    (λ cells x y binary h. quarter-part (g.S.Squares.needs_node c.next_amid-3.new.squares) _ _ x y (inr (inr (inl
     (c.in_err-sw.ensures.needed cells _ _ binary (nine-south_west c.south_west.ensures
-    (AreSixteen-kept (keeps-then c.in_ok-nw.ensures.keeps c.in_ok-ne.ensures.keeps) c.requires.known h))))
+    (AreSixteen-kept (keeps-then c.in_ok-nw.ensures.keeps c.in_ok-ne.ensures.keeps) c.requires.known h)))))))
 
 pub next_of_middle-returns-in_err-se-clause-needed : goal.next_of_middle-returns-in_err-se-clause-needed
 next_of_middle-returns-in_err-se-clause-needed g m c =
     on_err_any c.from_residual-in_err-se.result
-    (λ cells x y binary h. south_east-part (g.S.Squares.needs_node c.next_amid-4.new.squares) _ _ x y
+    (λ cells x y binary h. quarter-part (g.S.Squares.needs_node c.next_amid-4.new.squares) _ _ x y (inr (inr (inr
     (c.in_err-se.ensures.needed cells _ _ binary (nine-south_east c.south_east.ensures
-    (AreSixteen-kept (keeps-then (keeps-then c.in_ok-nw.ensures.keeps c.in_ok-ne.ensures.keeps) c.in_ok-sw.ensures.keeps) c.requires.known h))))
+    (AreSixteen-kept (keeps-then (keeps-then c.in_ok-nw.ensures.keeps c.in_ok-ne.ensures.keeps) c.in_ok-sw.ensures.keeps) c.requires.known h)))))))
 
 pub next_of_middle-returns-clause-needed : goal.next_of_middle-returns-clause-needed
 next_of_middle-returns-clause-needed g m c =

@@ -1,4 +1,4 @@
-use Rattle.std.proofs.Common.{◌≡◌, suc, ◌+◌, ◌-◌, Result, Ok, Err, IfOk, sym, ◌∙◌, ap, arith, add-one}
+use Rattle.std.proofs.Common.{◌≡◌, inl, inr, suc, ◌+◌, ◌-◌, Result, Ok, Err, IfOk, sym, ◌∙◌, ap, arith, add-one}
 use Rattle.life_base.proofs.Results.{on_err_any, on_err_both}
 use Rattle.life_base.specs.Rules.{has_digit}
 use Rattle.life_base.specs.Sets.{OuterTotalistic}
@@ -7,7 +7,7 @@ use Rattle.life_quad.proofs.KeepingLemmas.{keeps-then}
 use Rattle.life_sweep.specs.Generation.{next_life}
 use Rattle.life_block.specs.Needed.{square_from}
 use Rattle.life_block.proofs.NeedLemmas.{AreParts, depth-square, is-piece, joined-is, parts-of_pieces, own-part, still-needs}
-use Rattle.life_block.proofs.RootLemmas.{IsDivided, IsDivided-kept, quarters-at, outer, root-next, known-north_west, known-north_east, known-south_west, known-south_east, around-north_west, around-north_east, around-south_west, around-south_east, in-north_west, in-north_east, in-south_west, in-south_east}
+use Rattle.life_block.proofs.RootLemmas.{IsDivided, IsDivided-kept, quarters-at, outer, root-next, known-north_west, known-north_east, known-south_west, known-south_east, around-north_west, around-north_east, around-south_west, around-south_east, corner-part}
 use Rattle.life_block.proofs.blocks.next_life_square.Given.{Over}
 use Rattle.life_block.proofs.blocks.next_life_square.Goals as goal
 use Rattle.life_block.proofs.blocks.next_life_square.Goals.{After-empty-blank}
@@ -112,31 +112,31 @@ pub returns-in_err-north_west-clause-needed : goal.returns-in_err-north_west-cla
 returns-in_err-north_west-clause-needed g c =
     let d = divided g (goal.at.returns-in_err-north_west-clause-needed g c).After-empty-blank in
     on_err_any c.from_residual.result
-    (in-north_west d (g.S.Squares.needs_node c.next_of_middle.new.squares) _
-    (c.in_err-north_west.ensures.needed _ _ _ c.requires.states (around-north_west d c.in_south_east.ensures)))
+    (corner-part d (g.S.Squares.needs_node c.next_of_middle.new.squares) _ (inl
+    (c.in_err-north_west.ensures.needed _ _ _ c.requires.states (around-north_west d c.in_south_east.ensures))))
 
 pub returns-in_err-north_east-clause-needed : goal.returns-in_err-north_east-clause-needed
 returns-in_err-north_east-clause-needed g c =
     let d = IsDivided-kept c.in_ok-north_west.ensures.keeps (divided g (goal.at.returns-in_err-north_east-clause-needed g c).After-empty-blank) in
     on_err_any c.from_residual-in_err-north_east.result
-    (in-north_east d (g.S.Squares.needs_node c.next_of_middle-2.new.squares) _
-    (c.in_err-north_east.ensures.needed _ _ _ c.requires.states (around-north_east d c.in_south_west.ensures)))
+    (corner-part d (g.S.Squares.needs_node c.next_of_middle-2.new.squares) _ (inr (inl
+    (c.in_err-north_east.ensures.needed _ _ _ c.requires.states (around-north_east d c.in_south_west.ensures)))))
 
 pub returns-in_err-south_west-clause-needed : goal.returns-in_err-south_west-clause-needed
 returns-in_err-south_west-clause-needed g c =
     let d = IsDivided-kept (keeps-then c.in_ok-north_west.ensures.keeps c.in_ok-north_east.ensures.keeps)
     (divided g (goal.at.returns-in_err-south_west-clause-needed g c).After-empty-blank) in
     on_err_any c.from_residual-in_err-south_west.result
-    (in-south_west d (g.S.Squares.needs_node c.next_of_middle-3.new.squares) _
-    (c.in_err-south_west.ensures.needed _ _ _ c.requires.states (around-south_west d c.in_north_east.ensures)))
+    (corner-part d (g.S.Squares.needs_node c.next_of_middle-3.new.squares) _ (inr (inr (inl
+    (c.in_err-south_west.ensures.needed _ _ _ c.requires.states (around-south_west d c.in_north_east.ensures))))))
 
 pub returns-in_err-south_east-clause-needed : goal.returns-in_err-south_east-clause-needed
 returns-in_err-south_east-clause-needed g c =
     let d = IsDivided-kept (keeps-then (keeps-then c.in_ok-north_west.ensures.keeps c.in_ok-north_east.ensures.keeps) c.in_ok-south_west.ensures.keeps)
     (divided g (goal.at.returns-in_err-south_east-clause-needed g c).After-empty-blank) in
     on_err_any c.from_residual-in_err-south_east.result
-    (in-south_east d (g.S.Squares.needs_node c.next_of_middle-4.new.squares) _
-    (c.in_err-south_east.ensures.needed _ _ _ c.requires.states (around-south_east d c.in_north_west.ensures)))
+    (corner-part d (g.S.Squares.needs_node c.next_of_middle-4.new.squares) _ (inr (inr (inr
+    (c.in_err-south_east.ensures.needed _ _ _ c.requires.states (around-south_east d c.in_north_west.ensures))))))
 
 pub returns-clause-needed : goal.returns-clause-needed
 returns-clause-needed g c =
