@@ -28,15 +28,11 @@ below-two n a b = omega (arith, a, b)
 on-plane : (t : Tree) (x y : ℤ) → depth t ≤ MAX_LEVEL → Inside (half_side t) x y → IsOnPlane x y 1
 on-plane t x y low i =
     let small : 2 ^ (depth t - 1) ≤ 2 ^ 61 = pow_mono {i = depth t - 1} {j = 61} (omega (arith, low)) in
-    let w = i.west in
-    let e = i.east in
-    let n = i.north in
-    let s = i.south in
     record {
-      west = omega (arith, ints, small, w);
-      east = omega (arith, ints, small, e);
-      north = omega (arith, ints, small, n);
-      south = omega (arith, ints, small, s);
+      west = omega (arith, ints, small, i.west);
+      east = omega (arith, ints, small, i.east);
+      north = omega (arith, ints, small, i.north);
+      south = omega (arith, ints, small, i.south);
     }
 
 -- where the next states are those of a square of the plane

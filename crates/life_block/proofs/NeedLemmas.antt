@@ -1,14 +1,19 @@
 -- The squares that a refused call lacked are parts of the square with the states of the plane.
-use Rattle.std.proofs.Common.{◌≡◌, ℕ, zero, suc, ◌+◌, ◌*◌, ◌/◌, ◌^◌, ◌<◌, inl, inr, ℤ, pos, ◌+ℤ◌, List, refl, sym, ◌∙◌, ap, subst, arith}
+use Rattle.std.proofs.Common.{◌≡◌, ◌⊎◌, ℕ, zero, suc, ◌+◌, ◌*◌, ◌/◌, ◌^◌, ◌<◌, inl, inr, ℤ, pos, ◌+ℤ◌, List, refl, sym, ◌∙◌, ap, subst, arith}
 use Rattle.std.specs.Int.{bit_at}
 use Rattle.std.proofs.lemmas.Int.{ints}
+use Rattle.life_base.specs.Sets.{OuterTotalistic}
 use Rattle.life_base.specs.Tree.{Tree, point, quad, depth, IsFull}
 use Rattle.life_quad.specs.Keeping.{KeepsSquares}
 use Rattle.life_quad.specs.Refused.{SomePart}
 use Rattle.life_quad.specs.declared.id.Id.{Id}
+use Rattle.life_quad.proofs.KeepingLemmas.{keeps-then}
+use Rattle.life_sweep.specs.Generation.{next_by_count, next_life}
+use Rattle.life_table.specs.Meaning.{count_of}
+use Rattle.life_block.specs.Bits.{HasRows, counted_in}
 use Rattle.life_block.specs.Needed.{square_from}
 use Rattle.life_block.specs.Pieces.{IsPiece, IsAt, back, ahead}
-use Rattle.life_block.proofs.BitmapLemmas.{HasInner}
+use Rattle.life_block.proofs.BitmapLemmas.{HasInner, next-place}
 use Rattle.life_block.proofs.PieceLemmas.{IsPiece-moved, IsPiece-joined}
 use Rattle.life_block.proofs.WordLemmas.{bit-shr}
 
@@ -61,27 +66,21 @@ pub joined-is : {f : ℤ → ℤ → ℕ} {k : ℕ} {x y : ℤ} {a b c d : Tree}
 unfolding square_from
 joined-is p = quads _ _ _ _ _ _ _ _ p.nw p.ne p.sw p.se
 
--- the square itself, and the parts of each quarter
+-- one of four squares of a level has such a part
+abbrev pub SomeOfFour : (Tree → Type 0) → (ℤ → ℤ → ℕ) → ℕ → ℕ → ℤ → ℤ → Type 0
+SomeOfFour P f k side x y =
+    SomePart P (square_from f k x y) ⊎ SomePart P (square_from f k (ahead x side) y) ⊎ SomePart P (square_from f k x (ahead y side))
+    ⊎ SomePart P (square_from f k (ahead x side) (ahead y side))
+
+-- the square itself, and a part of a quarter
 module _ (P : Tree → Type 0) (f : ℤ → ℤ → ℕ) (k : ℕ) (x y : ℤ) where
   pub own-part : (t : Tree) → t ≡ square_from f (suc k) x y → P t → SomePart P (square_from f (suc k) x y)
   unfolding square_from
   own-part t e p = inl (subst P e p)
 
-  pub north_west-part : SomePart P (square_from f k x y) → SomePart P (square_from f (suc k) x y)
+  pub quarter-part : SomeOfFour P f k (2 ^ k) x y → SomePart P (square_from f (suc k) x y)
   unfolding square_from
-  north_west-part s = inr (inl s)
-
-  pub north_east-part : SomePart P (square_from f k (ahead x (2 ^ k)) y) → SomePart P (square_from f (suc k) x y)
-  unfolding square_from
-  north_east-part s = inr (inr (inl s))
-
-  pub south_west-part : SomePart P (square_from f k x (ahead y (2 ^ k))) → SomePart P (square_from f (suc k) x y)
-  unfolding square_from
-  south_west-part s = inr (inr (inr (inl s)))
-
-  pub south_east-part : SomePart P (square_from f k (ahead x (2 ^ k)) (ahead y (2 ^ k))) → SomePart P (square_from f (suc k) x y)
-  unfolding square_from
-  south_east-part s = inr (inr (inr (inr s)))
+  quarter-part s = inr s
 
 -- ---- squares of a word's cells
 
@@ -105,29 +104,58 @@ bits-are f x y word k r i u v h lr li at eu ev =
     (ap point (bit-shr word k 8 ∙ ap (bit_at word) p8 ∙ h (r + 1) i (omega (arith, lr)) (omega (arith, li)) ∙ (λ j. f (eu j) (fv j))))
     (ap point (bit-shr word k 9 ∙ ap (bit_at word) p9 ∙ h (r + 1) (i + 1) (omega (arith, lr)) (omega (arith, li)) ∙ (λ j. f (fu j) (fv j))))
 
-module _ (f : ℤ → ℤ → ℕ) (x y : ℤ) (word : ℕ) (inner : HasInner f (back x 2) (back y 2) word) where
+-- the next states under a rule of the places amid eight rows
+abbrev pub IsNextWord : OuterTotalistic → ℕ → ℕ → Type 0
+IsNextWord rule rows word =
+    (i : ℕ) → i < 62 → bit_at word i ≡ next_by_count rule.sets (bit_at (rows / 2 ^ 8) (i + 1))
+    (count_of 1 (counted_in rule.near (record { north = rows; here = rows / 2 ^ 8; south = rows / 2 ^ 16 }) i))
+
+module _ (rule : OuterTotalistic) (cells : ℤ → ℤ → ℕ) (x y : ℤ) (rows word : ℕ) (next : IsNextWord rule rows word)
+    (h : HasRows cells (back x 2) (back y 2) 8 rows) where
+  inner : HasInner (next_life rule cells) (back x 2) (back y 2) word
+  inner r i lr li = next (8 * r + i) (omega (arith, lr, li)) ∙ next-place rule cells (back x 2) (back y 2) rows h r i lr li
+
   near : (z : ℤ) → back z 2 +ℤ pos (1 + 1) ≡ z
   near z = omega (arith, ints)
 
   far : (z : ℤ) → back z 2 +ℤ pos (3 + 1) ≡ ahead z 2
   far z = omega (arith, ints)
 
-  pub parts-of_word : AreParts f 1 x y (bits word 9) (bits word 11) (bits word 25) (bits word 27)
+  pub parts-of_word : AreParts (next_life rule cells) 1 x y (bits word 9) (bits word 11) (bits word 25) (bits word 27)
   parts-of_word = record {
-    nw = bits-are f (back x 2) (back y 2) word 9 1 1 x y inner (omega arith) (omega arith) refl (near x) (near y);
-    ne = bits-are f (back x 2) (back y 2) word 11 1 3 (ahead x 2) y inner (omega arith) (omega arith) refl (far x) (near y);
-    sw = bits-are f (back x 2) (back y 2) word 25 3 1 x (ahead y 2) inner (omega arith) (omega arith) refl (near x) (far y);
-    se = bits-are f (back x 2) (back y 2) word 27 3 3 (ahead x 2) (ahead y 2) inner (omega arith) (omega arith) refl (far x) (far y);
+    nw = bits-are _ (back x 2) (back y 2) word 9 1 1 x y inner (omega arith) (omega arith) refl (near x) (near y);
+    ne = bits-are _ (back x 2) (back y 2) word 11 1 3 (ahead x 2) y inner (omega arith) (omega arith) refl (far x) (near y);
+    sw = bits-are _ (back x 2) (back y 2) word 25 3 1 x (ahead y 2) inner (omega arith) (omega arith) refl (near x) (far y);
+    se = bits-are _ (back x 2) (back y 2) word 27 3 3 (ahead x 2) (ahead y 2) inner (omega arith) (omega arith) refl (far x) (far y);
   }
+
+  pub part-of_word : (P : Tree → Type 0) → SomePart P (quad (bits word 9) (bits word 11) (bits word 25) (bits word 27))
+      → SomePart P (square_from (next_life rule cells) 2 x y)
+  part-of_word P = subst (SomePart P) (joined-is parts-of_word)
 
 -- ---- answers of calls on a store
 
--- a square that was answered as a piece is the square of its level still, behind further calls
-pub still-is : {S : Type 0} {knows : S → Id → Type 0} {content : S → Id → Tree} {stored : S → List Tree} {most : S → ℕ} {old new : S} {n : ℕ} {id : Id}
-    (f : ℤ → ℤ → ℕ) (k : ℕ) (x y : ℤ)
-    → KeepsSquares knows content stored most old new → IsFull (content old id) → IsAt (knows old) (content old) n id → n ≡ k → IsPiece f x y (content old id)
-    → content new id ≡ square_from f k x y
-still-is f k x y keeps full at level h = (keeps.contents _ at.known).1 ∙ piece-is f k x y _ full (at.level ∙ level) h
+module _ {S : Type 0} {knows : S → Id → Type 0} {content : S → Id → Tree} {stored : S → List Tree} {most : S → ℕ} {n : ℕ} (f : ℤ → ℤ → ℕ) (k : ℕ)
+    (full : (s : S) (id : Id) → knows s id → IsFull (content s id)) (level : n ≡ k) where
+  -- a square that was answered as a piece is the square of its level still, behind further calls
+  still-is : {s t : S} {id : Id} (x y : ℤ) → KeepsSquares knows content stored most s t → IsAt (knows s) (content s) n id → IsPiece f x y (content s id)
+      → content t id ≡ square_from f k x y
+  still-is x y keeps at h = (keeps.contents _ at.known).1 ∙ piece-is f k x y _ (full _ _ at.known) (at.level ∙ level) h
+
+  -- four answers of calls behind one another
+  pub parts-of_pieces : {s t u v : S} {a b c d : Id} (x y : ℤ)
+      → KeepsSquares knows content stored most s t → KeepsSquares knows content stored most t u → KeepsSquares knows content stored most u v
+      → IsAt (knows s) (content s) n a → IsAt (knows t) (content t) n b → IsAt (knows u) (content u) n c → IsAt (knows v) (content v) n d
+      → IsPiece f x y (content s a) → IsPiece f (ahead x (2 ^ k)) y (content t b) → IsPiece f x (ahead y (2 ^ k)) (content u c)
+      → IsPiece f (ahead x (2 ^ k)) (ahead y (2 ^ k)) (content v d)
+      → AreParts f k x y (content v a) (content v b) (content v c) (content v d)
+  parts-of_pieces x y st tu uv aa ab ac ad pa pb pc pd =
+      record {
+        nw = still-is x y (keeps-then st (keeps-then tu uv)) aa pa;
+        ne = still-is _ y (keeps-then tu uv) ab pb;
+        sw = still-is x _ uv ac pc;
+        se = piece-is f k _ _ _ (full _ _ ad.known) (ad.level ∙ level) pd;
+      }
 
 -- in a store that stayed as it was
 pub still-needs : {X : Type 0} (N : X → Tree → Type 0) (old new : X) (t : Tree) → new ≡ old → N old t → N new t

@@ -16,7 +16,7 @@ use Rattle.life_block.specs.declared.grid.Sixteen.{Sixteen}
 use Rattle.life_sweep.specs.Generation.{next_life}
 use Rattle.life_block.specs.Needed.{square_from}
 use Rattle.life_block.specs.Pieces.{IsPiece, IsAt, InFour, InSixteen, AreFour, AreSixteen, back, ahead, four_of, at_north_west, at_north_east, at_south_west, at_south_east}
-use Rattle.life_block.proofs.NeedLemmas.{north_west-part, north_east-part, south_west-part, south_east-part}
+use Rattle.life_block.proofs.NeedLemmas.{SomeOfFour, quarter-part}
 use Rattle.life_block.proofs.PieceLemmas.{twice, IsPiece-moved, AreFour-moved, IsAt-kept, IsPiece-kept, blank-of_zero, next-zero}
 
 double : (n : ℕ) → 2 ^ suc n ≡ 2 ^ n + 2 ^ n
@@ -426,22 +426,8 @@ module _ {knows : Id → Type 0} {content : Id → Tree} {t : Tree} {k : ℕ} {q
       (ahead (outer t) (2 ^ depth t)) s
   around-south_east e = at e middle middle (pieces-north_west knows content (tree_cell t) k (corner t) q b d.quarters alone)
 
-  -- a part of a square of half its side is one of the square's
-  of-level : (P : Tree → Type 0) (f : ℤ → ℤ → ℕ) (x y : ℤ) → SomePart P (square_from f (suc k) x y) → SomePart P (square_from f (depth t) x y)
-  of-level P f x y = subst (λ n. SomePart P (square_from f n x y)) (sym (add-one k) ∙ sym d.level)
-
-  module _ (P : Tree → Type 0) (f : ℤ → ℤ → ℕ) where
-    pub in-north_west : SomePart P (square_from f (suc k) (outer t) (outer t)) → SomePart P (square_from f (suc (depth t)) (outer t) (outer t))
-    in-north_west s = north_west-part P f (depth t) (outer t) (outer t) (of-level P f (outer t) (outer t) s)
-
-    pub in-north_east : SomePart P (square_from f (suc k) (ahead (outer t) (2 ^ depth t)) (outer t))
-        → SomePart P (square_from f (suc (depth t)) (outer t) (outer t))
-    in-north_east s = north_east-part P f (depth t) (outer t) (outer t) (of-level P f (ahead (outer t) (2 ^ depth t)) (outer t) s)
-
-    pub in-south_west : SomePart P (square_from f (suc k) (outer t) (ahead (outer t) (2 ^ depth t)))
-        → SomePart P (square_from f (suc (depth t)) (outer t) (outer t))
-    in-south_west s = south_west-part P f (depth t) (outer t) (outer t) (of-level P f (outer t) (ahead (outer t) (2 ^ depth t)) s)
-
-    pub in-south_east : SomePart P (square_from f (suc k) (ahead (outer t) (2 ^ depth t)) (ahead (outer t) (2 ^ depth t)))
-        → SomePart P (square_from f (suc (depth t)) (outer t) (outer t))
-    in-south_east s = south_east-part P f (depth t) (outer t) (outer t) (of-level P f (ahead (outer t) (2 ^ depth t)) (ahead (outer t) (2 ^ depth t)) s)
+  -- a part of a square about each corner is one of the square one level higher
+  pub corner-part : (P : Tree → Type 0) (f : ℤ → ℤ → ℕ) → SomeOfFour P f (suc k) (2 ^ depth t) (outer t) (outer t)
+      → SomePart P (square_from f (suc (depth t)) (outer t) (outer t))
+  corner-part P f s = quarter-part P f (depth t) (outer t) (outer t)
+      (subst (λ n. SomeOfFour P f n (2 ^ depth t) (outer t) (outer t)) (sym (add-one k) ∙ sym d.level) s)

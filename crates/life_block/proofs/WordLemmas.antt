@@ -42,14 +42,14 @@ pub bit-shr : (n k i : ℕ) → bit_at (n / 2 ^ k) i ≡ bit_at n (i + k)
 bit-shr n k i = ap (λ z. z % 2) (shr-shr n k i) ∙ ap (λ z. bit_at n z) (add_comm k i)
 
 -- the digits of a number below 16, each by its place
-pub binary : (p q r s n : ℕ) → p < 2 → q < 2 → r < 2 → s < 2 → p + 2 * q + 4 * r + 8 * s ≡ n → (p ≡ n % 2) × (q ≡ n / 2 % 2) × (r ≡ n / 4 % 2) × (s ≡ n / 8)
+binary : (p q r s n : ℕ) → p < 2 → q < 2 → r < 2 → s < 2 → p + 2 * q + 4 * r + 8 * s ≡ n → (p ≡ n % 2) × (q ≡ n / 2 % 2) × (r ≡ n / 4 % 2) × (s ≡ n / 8)
 binary p q r s n lp lq lr ls e = (omega (arith, lp, e), omega (arith, lp, lq, e), omega (arith, lp, lq, lr, e), omega (arith, lp, lq, lr, e))
 
 -- a digit is the one wanted, or not
 abbrev pub picked : ℕ → ℕ → ℕ
 picked p d = if d == 1 then p else 1 - p
 
-abbrev pub all_picked : ℕ → ℕ → ℕ → ℕ → ℕ → ℕ
+abbrev all_picked : ℕ → ℕ → ℕ → ℕ → ℕ → ℕ
 all_picked p q r s n = min (min (min (picked p (n % 2)) (picked q (n / 2 % 2))) (picked r (n / 4 % 2))) (picked s (n / 8))
 
 pick : (p d : ℕ) → p < 2 → d < 2 → ((p ≡ d) × (picked p d ≡ 1)) ⊎ ((p ≡ d → ⊥) × (picked p d ≡ 0))
@@ -60,40 +60,47 @@ pick (suc zero) (suc zero) lp ld = inl (refl, refl)
 pick (suc (suc p)) d lp ld = absurd (omega (arith, lp))
 pick p (suc (suc d)) lp ld = absurd (omega (arith, ld))
 
-pub pick-all : (p q r s n : ℕ) → p < 2 → q < 2 → r < 2 → s < 2 → n < 16 → p + 2 * q + 4 * r + 8 * s ≡ n
-    → all_picked p q r s n ≡ 1
-pick-all p q r s n lp lq lr ls ln e =
-    let b = binary p q r s n lp lq lr ls e in
-    let one : (x y : ℕ) → x < 2 → y < 2 → x ≡ y → picked x y ≡ 1 = λ x y lx ly h. elim (pick x y lx ly) [ inl t ↦ t.1 | inr t ↦ absurd (t.0 h) ] in
-    let ep = one p (n % 2) lp (omega arith) b.0 in
-    let eq = one q (n / 2 % 2) lq (omega arith) b.1 in
-    let er = one r (n / 4 % 2) lr (omega arith) b.2 in
-    let es = one s (n / 8) ls (omega (arith, ln)) b.3 in
-    omega (arith, ep, eq, er, es)
+module _ (p q r s n : ℕ) (lp : p < 2) (lq : q < 2) (lr : r < 2) (ls : s < 2) (ln : n < 16) where
+  pick-all : p + 2 * q + 4 * r + 8 * s ≡ n → all_picked p q r s n ≡ 1
+  pick-all e =
+      let b = binary p q r s n lp lq lr ls e in
+      let one : (x y : ℕ) → x < 2 → y < 2 → x ≡ y → picked x y ≡ 1 = λ x y lx ly h. elim (pick x y lx ly) [ inl t ↦ t.1 | inr t ↦ absurd (t.0 h) ] in
+      let ep = one p (n % 2) lp (omega arith) b.0 in
+      let eq = one q (n / 2 % 2) lq (omega arith) b.1 in
+      let er = one r (n / 4 % 2) lr (omega arith) b.2 in
+      let es = one s (n / 8) ls (omega (arith, ln)) b.3 in
+      omega (arith, ep, eq, er, es)
 
-pub pick-none : (p q r s n : ℕ) → p < 2 → q < 2 → r < 2 → s < 2 → n < 16 → (p + 2 * q + 4 * r + 8 * s ≡ n → ⊥)
-    → all_picked p q r s n ≡ 0
-pick-none p q r s n lp lq lr ls ln ne = elim (pick p (n % 2) lp (omega arith)) [
-  | inr t ↦ (let e = t.1 in omega (arith, e))
-  | inl tp ↦ elim (pick q (n / 2 % 2) lq (omega arith)) [
+  pick-none : (p + 2 * q + 4 * r + 8 * s ≡ n → ⊥) → all_picked p q r s n ≡ 0
+  pick-none ne = elim (pick p (n % 2) lp (omega arith)) [
     | inr t ↦ (let e = t.1 in omega (arith, e))
-    | inl tq ↦ elim (pick r (n / 4 % 2) lr (omega arith)) [
+    | inl tp ↦ elim (pick q (n / 2 % 2) lq (omega arith)) [
       | inr t ↦ (let e = t.1 in omega (arith, e))
-      | inl tr ↦ elim (pick s (n / 8) ls (omega (arith, ln))) [
+      | inl tq ↦ elim (pick r (n / 4 % 2) lr (omega arith)) [
         | inr t ↦ (let e = t.1 in omega (arith, e))
-        | inl ts ↦ absurd (ne (omega (arith, tp.0, tq.0, tr.0, ts.0)))
+        | inl tr ↦ elim (pick s (n / 8) ls (omega (arith, ln))) [
+          | inr t ↦ (let e = t.1 in omega (arith, e))
+          | inl ts ↦ absurd (ne (omega (arith, tp.0, tq.0, tr.0, ts.0)))
+        ]
       ]
     ]
   ]
-]
 
-pub bits-picked : (a b c d i p q r s n : ℕ) → bit_at a i ≡ picked p (n % 2) → bit_at b i ≡ picked q (n / 2 % 2) → bit_at c i ≡ picked r (n / 4 % 2)
-    → bit_at d i ≡ picked s (n / 8)
-    → bit_at (bit_and (bit_and (bit_and a b) c) d) i ≡ all_picked p q r s n
-bits-picked a b c d i p q r s n ea eb ec ed =
+-- the columns that have a number
+pub bits-picked : (ones twos fours eights a b c d i n : ℕ) → n < 16
+    → bit_at a i ≡ picked (bit_at ones i) (n % 2) → bit_at b i ≡ picked (bit_at twos i) (n / 2 % 2)
+    → bit_at c i ≡ picked (bit_at fours i) (n / 4 % 2) → bit_at d i ≡ picked (bit_at eights i) (n / 8)
+    → let has = bit_at ones i + 2 * bit_at twos i + 4 * bit_at fours i + 8 * bit_at eights i ≡ n in
+    let bit = bit_at (bit_and (bit_and (bit_and a b) c) d) i in (has → bit ≡ 1) × ((has → ⊥) → bit ≡ 0)
+bits-picked ones twos fours eights a b c d i n ln ea eb ec ed =
+    let all : bit_at (bit_and (bit_and (bit_and a b) c) d) i ≡ all_picked (bit_at ones i) (bit_at twos i) (bit_at fours i) (bit_at eights i) n =
     bit_at_and (bit_and (bit_and a b) c) d i
     ∙ ap (λ z. min z (bit_at d i)) (bit_at_and (bit_and a b) c i ∙ ap (λ z. min z (bit_at c i)) (bit_at_and a b i))
-    ∙ (λ j. min (min (min (ea j) (eb j)) (ec j)) (ed j))
+    ∙ (λ j. min (min (min (ea j) (eb j)) (ec j)) (ed j)) in
+    let l = bit_at-lt in (
+      λ e. all ∙ pick-all _ _ _ _ n (l ones i) (l twos i) (l fours i) (l eights i) ln e,
+      λ ne. all ∙ pick-none _ _ _ _ n (l ones i) (l twos i) (l fours i) (l eights i) ln ne,
+    )
 
 -- the next state by the digits of both sets at a count
 pub next-of : (b s h : ℕ) → b < 2 → s < 2 → h < 2 → max (min b (1 - h)) (min s h) ≡ if (h == 0 && b == 1) || (h == 1 && s == 1) then 1 else 0

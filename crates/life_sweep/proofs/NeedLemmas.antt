@@ -55,13 +55,13 @@ same-above P f g y on same s =
 pub open-needs : (P : Tree → Type 0) (runs : List GivenRun) (run : Run) → AreInOrder runs → IsOpen runs run
     → SomeSquare P (nat_abs (run.y +ℤ pos half_plane)) (by_columns (state_by runs)) → SomeAbove P (runs ++ given run ∷ [])
 open-needs P runs run order opened s =
+    let on = opened.inside in
     let some = opened.some_cell in
     let here : IsInRun run.x run.y run.len run.x run.y = record { same_row = refl; from = omega (arith, ints); to = omega (arith, ints, some) } in
-    let east = opened.inside.east in
     record {
       x = run.x;
       y = run.y;
-      inside = record { west = opened.inside.west; east = omega (arith, ints, some, east); north = opened.inside.north; south = opened.inside.south };
+      inside = record { west = on.west; east = omega (arith, ints, some, on.east); north = on.north; south = on.south };
       nonzero = λ e. opened.nonzero (sym (inside-last runs (given run) run.x run.y order opened.next here) ∙ e);
       square = same-above P (state_by runs) (state_by (runs ++ given run ∷ [])) run.y opened.inside.north
           (λ c r l. sym (outside-last runs (given run) c r order opened.next (λ (i : IsInRun run.x run.y run.len c r). let e = i.same_row in
@@ -73,8 +73,8 @@ outside-plane : (state : ℕ → ℕ → ℕ) (x y : ℤ) → ¬ (IsOnPlane x y 
 outside-plane state x y out = by (is_inside half_plane x y) refl
   where
     by : (b : Bool) → is_inside half_plane x y ≡ b → on_plane state x y ≡ 0
-    by true e = let i = inside_facts half_plane x y e in let east = i.east in
-        absurd (out (record { west = i.west; east = omega (arith, ints, east); north = i.north; south = i.south }))
+    by true e = let i = inside_facts half_plane x y e in
+        absurd (out (record { west = i.west; east = omega (arith, ints, i.east); north = i.north; south = i.south }))
     by false e = ap (λ (c : Bool). if c then state (unsigned_abs (x +ℤ pos half_plane)) (unsigned_abs (y +ℤ pos half_plane)) else 0) e
 
 open-outside : (runs : List GivenRun) (o : Option Run) (x y : ℤ) → AreInOrder runs → IfSome o (IsOpen runs) → ¬ (IsOnPlane x y 1) → state_by runs x y ≡ 0
@@ -86,18 +86,11 @@ open-outside runs (Some run) x y order opened out e =
     here : IsInRun run.x run.y run.len x y → IsOnPlane x y 1
     here i =
         let on = opened.inside in
-        let row : run.y ≡ y = sym i.same_row in
-        let west = on.west in
-        let east = on.east in
-        let from = i.from in
-        let to = i.to in
-        let north = on.north in
-        let south = on.south in
         record {
-          west = omega (arith, ints, west, from);
-          east = omega (arith, ints, east, to);
-          north = omega (arith, ints, north, row);
-          south = omega (arith, ints, south, row);
+          west = omega (arith, ints, on.west, i.from);
+          east = omega (arith, ints, on.east, i.to);
+          north = omega (arith, ints, on.north, i.same_row);
+          south = omega (arith, ints, on.south, i.same_row);
         }
 
 pub drawn-outside : (knows : Id → Type 0) (content : Id → Tree) (pen : Pen) → IsHolding knows content pen → (x y : ℤ) → ¬ (IsOnPlane x y 1)

@@ -1,10 +1,10 @@
-use Rattle.std.proofs.Common.{ℤ, ℕ, ◌^◌, refl, ◌∙◌}
+use Rattle.std.proofs.Common.{inl, inr, ℤ, ℕ, ◌^◌, refl, ◌∙◌}
 use Rattle.std.proofs.lemmas.Result.{IfOk-weaker}
 use Rattle.life_base.proofs.Results.{on_err_any, on_err_both}
 use Rattle.life_quad.proofs.KeepingLemmas.{keeps-then}
 use Rattle.life_sweep.specs.Generation.{next_life}
-use Rattle.life_block.specs.Pieces.{IsBinary, AreSixteen, ahead}
-use Rattle.life_block.proofs.NeedLemmas.{AreParts, is-piece, piece-is, joined-is, still-is, own-part, north_west-part, north_east-part, south_west-part, south_east-part, still-needs}
+use Rattle.life_block.specs.Pieces.{IsBinary, AreSixteen}
+use Rattle.life_block.proofs.NeedLemmas.{AreParts, is-piece, joined-is, parts-of_pieces, own-part, quarter-part, still-needs}
 use Rattle.life_block.proofs.PieceLemmas.{AreSixteen-kept, nine-north_west, nine-north_east, nine-south_west, nine-south_east, next-of_blank}
 use Rattle.life_block.proofs.blocks.+block.Given.{Over}
 use Rattle.life_block.proofs.blocks.+block.Goals as goal
@@ -32,27 +32,17 @@ parts : (g : Over) (m : ℕ) (c : goal.next_of_middle-After-join g m) (cells : �
     → let now = g.S.Squares.content c.next_amid-4.new.squares in
     AreParts (next_life c.args.rule.now cells) c.args.level x y (now c.in_ok-nw.nw) (now c.in_ok-ne.ne) (now c.in_ok-sw.sw) (now c.in_ok-se.se)
 parts g m c cells x y binary h =
-    let f = next_life c.args.rule.now cells in
-    let k = c.args.level in
-    let full = g.met.S.Squares.full in
-    let e = ahead x (2 ^ k) in
-    let s = ahead y (2 ^ k) in
     let known = c.requires.known in
     let nw = c.in_ok-nw.ensures in
     let ne = c.in_ok-ne.ensures in
     let sw = c.in_ok-sw.ensures in
     let se = c.in_ok-se.ensures in
     let north = keeps-then nw.keeps ne.keeps in
-    let south = keeps-then sw.keeps se.keeps in
-    record {
-      nw = still-is f k x y (keeps-then ne.keeps south) (full _ _ nw.at.known) nw.at refl (nw.next cells x y binary (nine-north_west c.north_west.ensures h));
-      ne = still-is f k e y south (full _ _ ne.at.known) ne.at refl
-          (ne.next cells e y binary (nine-north_east c.north_east.ensures (AreSixteen-kept nw.keeps known h)));
-      sw = still-is f k x s se.keeps (full _ _ sw.at.known) sw.at refl
-          (sw.next cells x s binary (nine-south_west c.south_west.ensures (AreSixteen-kept north known h)));
-      se = piece-is f k e s _ (full _ _ se.at.known) se.at.level
-          (se.next cells e s binary (nine-south_east c.south_east.ensures (AreSixteen-kept (keeps-then north sw.keeps) known h)));
-    }
+    parts-of_pieces _ _ g.met.S.Squares.full refl x y ne.keeps sw.keeps se.keeps nw.at ne.at sw.at se.at
+    (nw.next cells _ _ binary (nine-north_west c.north_west.ensures h))
+    (ne.next cells _ _ binary (nine-north_east c.north_east.ensures (AreSixteen-kept nw.keeps known h)))
+    (sw.next cells _ _ binary (nine-south_west c.south_west.ensures (AreSixteen-kept north known h)))
+    (se.next cells _ _ binary (nine-south_east c.south_east.ensures (AreSixteen-kept (keeps-then north sw.keeps) known h)))
 
 pub next_of_middle-returns-clause-next : goal.next_of_middle-returns-clause-next
 next_of_middle-returns-clause-next g m c =
@@ -61,32 +51,28 @@ next_of_middle-returns-clause-next g m c =
 pub next_of_middle-returns-in_err-nw-clause-needed : goal.next_of_middle-returns-in_err-nw-clause-needed
 next_of_middle-returns-in_err-nw-clause-needed g m c =
     on_err_any c.from_residual.result
-    (λ cells x y binary h. north_west-part (g.S.Squares.needs_node c.next_amid.new.squares) _ _ x y
-    (c.in_err-nw.ensures.needed cells _ _ binary (nine-north_west c.north_west.ensures h)))
+    (λ cells x y binary h. quarter-part (g.S.Squares.needs_node c.next_amid.new.squares) _ _ x y (inl
+    (c.in_err-nw.ensures.needed cells _ _ binary (nine-north_west c.north_west.ensures h))))
 
 pub next_of_middle-returns-in_err-ne-clause-needed : goal.next_of_middle-returns-in_err-ne-clause-needed
 next_of_middle-returns-in_err-ne-clause-needed g m c =
     on_err_any c.from_residual-in_err-ne.result
-    (λ cells x y binary h.
-    let now = AreSixteen-kept c.in_ok-nw.ensures.keeps c.requires.known h in
-    north_east-part (g.S.Squares.needs_node c.next_amid-2.new.squares) _ _ x y
-    (c.in_err-ne.ensures.needed cells _ _ binary (nine-north_east c.north_east.ensures now)))
+    (λ cells x y binary h. quarter-part (g.S.Squares.needs_node c.next_amid-2.new.squares) _ _ x y (inr (inl
+    (c.in_err-ne.ensures.needed cells _ _ binary (nine-north_east c.north_east.ensures (AreSixteen-kept c.in_ok-nw.ensures.keeps c.requires.known h))))))
 
 pub next_of_middle-returns-in_err-sw-clause-needed : goal.next_of_middle-returns-in_err-sw-clause-needed
 next_of_middle-returns-in_err-sw-clause-needed g m c =
     on_err_any c.from_residual-in_err-sw.result
-    (λ cells x y binary h.
-    let now = AreSixteen-kept (keeps-then c.in_ok-nw.ensures.keeps c.in_ok-ne.ensures.keeps) c.requires.known h in
-    south_west-part (g.S.Squares.needs_node c.next_amid-3.new.squares) _ _ x y
-    (c.in_err-sw.ensures.needed cells _ _ binary (nine-south_west c.south_west.ensures now)))
+    (λ cells x y binary h. quarter-part (g.S.Squares.needs_node c.next_amid-3.new.squares) _ _ x y (inr (inr (inl
+    (c.in_err-sw.ensures.needed cells _ _ binary (nine-south_west c.south_west.ensures
+    (AreSixteen-kept (keeps-then c.in_ok-nw.ensures.keeps c.in_ok-ne.ensures.keeps) c.requires.known h)))))))
 
 pub next_of_middle-returns-in_err-se-clause-needed : goal.next_of_middle-returns-in_err-se-clause-needed
 next_of_middle-returns-in_err-se-clause-needed g m c =
     on_err_any c.from_residual-in_err-se.result
-    (λ cells x y binary h.
-    let now = AreSixteen-kept (keeps-then (keeps-then c.in_ok-nw.ensures.keeps c.in_ok-ne.ensures.keeps) c.in_ok-sw.ensures.keeps) c.requires.known h in
-    south_east-part (g.S.Squares.needs_node c.next_amid-4.new.squares) _ _ x y
-    (c.in_err-se.ensures.needed cells _ _ binary (nine-south_east c.south_east.ensures now)))
+    (λ cells x y binary h. quarter-part (g.S.Squares.needs_node c.next_amid-4.new.squares) _ _ x y (inr (inr (inr
+    (c.in_err-se.ensures.needed cells _ _ binary (nine-south_east c.south_east.ensures
+    (AreSixteen-kept (keeps-then (keeps-then c.in_ok-nw.ensures.keeps c.in_ok-ne.ensures.keeps) c.in_ok-sw.ensures.keeps) c.requires.known h)))))))
 
 pub next_of_middle-returns-clause-needed : goal.next_of_middle-returns-clause-needed
 next_of_middle-returns-clause-needed g m c =

@@ -1,4 +1,4 @@
-use Rattle.std.proofs.Common.{◌≡◌, suc, ◌+◌, ◌-◌, ◌^◌, Result, Ok, Err, IfOk, sym, ◌∙◌, ap, arith, add-one}
+use Rattle.std.proofs.Common.{◌≡◌, inl, inr, suc, ◌+◌, ◌-◌, Result, Ok, Err, IfOk, sym, ◌∙◌, ap, arith, add-one}
 use Rattle.life_base.proofs.Results.{on_err_any, on_err_both}
 use Rattle.life_base.specs.Rules.{has_digit}
 use Rattle.life_base.specs.Sets.{OuterTotalistic}
@@ -6,9 +6,8 @@ use Rattle.life_base.specs.Tree.{depth, tree_cell}
 use Rattle.life_quad.proofs.KeepingLemmas.{keeps-then}
 use Rattle.life_sweep.specs.Generation.{next_life}
 use Rattle.life_block.specs.Needed.{square_from}
-use Rattle.life_block.specs.Pieces.{ahead}
-use Rattle.life_block.proofs.NeedLemmas.{AreParts, depth-square, is-piece, piece-is, joined-is, still-is, own-part, still-needs}
-use Rattle.life_block.proofs.RootLemmas.{IsDivided, IsDivided-kept, quarters-at, outer, root-next, known-north_west, known-north_east, known-south_west, known-south_east, around-north_west, around-north_east, around-south_west, around-south_east, in-north_west, in-north_east, in-south_west, in-south_east}
+use Rattle.life_block.proofs.NeedLemmas.{AreParts, depth-square, is-piece, joined-is, parts-of_pieces, own-part, still-needs}
+use Rattle.life_block.proofs.RootLemmas.{IsDivided, IsDivided-kept, quarters-at, outer, root-next, known-north_west, known-north_east, known-south_west, known-south_east, around-north_west, around-north_east, around-south_west, around-south_east, corner-part}
 use Rattle.life_block.proofs.blocks.next_life_square.Given.{Over}
 use Rattle.life_block.proofs.blocks.next_life_square.Goals as goal
 use Rattle.life_block.proofs.blocks.next_life_square.Goals.{After-empty-blank}
@@ -81,28 +80,17 @@ parts : (g : Over) (c : goal.After-join g) → let t = g.S.Squares.content c.arg
     (now c.in_ok-south_west.south_west)
     (now c.in_ok-south_east.south_east)
 parts g c d =
-    let t = g.S.Squares.content c.args.squares.now c.args.id in
-    let f = next_life c.args.rule.now (tree_cell t) in
-    let full = g.met.S.Squares.full in
     let states = c.requires.states in
-    let x = outer t in
-    let e = ahead x (2 ^ depth t) in
-    let level = sym d.level in
     let nw = c.in_ok-north_west.ensures in
     let ne = c.in_ok-north_east.ensures in
     let sw = c.in_ok-south_west.ensures in
     let se = c.in_ok-south_east.ensures in
     let north = keeps-then nw.keeps ne.keeps in
-    let south = keeps-then sw.keeps se.keeps in
-    record {
-      nw = still-is f _ x x (keeps-then ne.keeps south) (full _ _ nw.at.known) nw.at level (nw.next _ x x states (around-north_west d c.in_south_east.ensures));
-      ne = still-is f _ e x south (full _ _ ne.at.known) ne.at level
-          (ne.next _ e x states (around-north_east (IsDivided-kept nw.keeps d) c.in_south_west.ensures));
-      sw = still-is f _ x e se.keeps (full _ _ sw.at.known) sw.at level
-          (sw.next _ x e states (around-south_west (IsDivided-kept north d) c.in_north_east.ensures));
-      se = piece-is f _ e e _ (full _ _ se.at.known) (se.at.level ∙ level)
-          (se.next _ e e states (around-south_east (IsDivided-kept (keeps-then north sw.keeps) d) c.in_north_west.ensures));
-    }
+    parts-of_pieces _ _ g.met.S.Squares.full (sym d.level) _ _ ne.keeps sw.keeps se.keeps nw.at ne.at sw.at se.at
+    (nw.next _ _ _ states (around-north_west d c.in_south_east.ensures))
+    (ne.next _ _ _ states (around-north_east (IsDivided-kept nw.keeps d) c.in_south_west.ensures))
+    (sw.next _ _ _ states (around-south_west (IsDivided-kept north d) c.in_north_east.ensures))
+    (se.next _ _ _ states (around-south_east (IsDivided-kept (keeps-then north sw.keeps) d) c.in_north_west.ensures))
 
 pub returns-clause-next : goal.returns-clause-next
 returns-clause-next g c =
@@ -124,35 +112,31 @@ pub returns-in_err-north_west-clause-needed : goal.returns-in_err-north_west-cla
 returns-in_err-north_west-clause-needed g c =
     let d = divided g (goal.at.returns-in_err-north_west-clause-needed g c).After-empty-blank in
     on_err_any c.from_residual.result
-    (in-north_west d (g.S.Squares.needs_node c.next_of_middle.new.squares)
-    (next_life c.args.rule.now (tree_cell (g.S.Squares.content c.args.squares.now c.args.id)))
-    (c.in_err-north_west.ensures.needed _ _ _ c.requires.states (around-north_west d c.in_south_east.ensures)))
+    (corner-part d (g.S.Squares.needs_node c.next_of_middle.new.squares) _ (inl
+    (c.in_err-north_west.ensures.needed _ _ _ c.requires.states (around-north_west d c.in_south_east.ensures))))
 
 pub returns-in_err-north_east-clause-needed : goal.returns-in_err-north_east-clause-needed
 returns-in_err-north_east-clause-needed g c =
     let d = IsDivided-kept c.in_ok-north_west.ensures.keeps (divided g (goal.at.returns-in_err-north_east-clause-needed g c).After-empty-blank) in
     on_err_any c.from_residual-in_err-north_east.result
-    (in-north_east d (g.S.Squares.needs_node c.next_of_middle-2.new.squares)
-    (next_life c.args.rule.now (tree_cell (g.S.Squares.content c.args.squares.now c.args.id)))
-    (c.in_err-north_east.ensures.needed _ _ _ c.requires.states (around-north_east d c.in_south_west.ensures)))
+    (corner-part d (g.S.Squares.needs_node c.next_of_middle-2.new.squares) _ (inr (inl
+    (c.in_err-north_east.ensures.needed _ _ _ c.requires.states (around-north_east d c.in_south_west.ensures)))))
 
 pub returns-in_err-south_west-clause-needed : goal.returns-in_err-south_west-clause-needed
 returns-in_err-south_west-clause-needed g c =
     let d = IsDivided-kept (keeps-then c.in_ok-north_west.ensures.keeps c.in_ok-north_east.ensures.keeps)
     (divided g (goal.at.returns-in_err-south_west-clause-needed g c).After-empty-blank) in
     on_err_any c.from_residual-in_err-south_west.result
-    (in-south_west d (g.S.Squares.needs_node c.next_of_middle-3.new.squares)
-    (next_life c.args.rule.now (tree_cell (g.S.Squares.content c.args.squares.now c.args.id)))
-    (c.in_err-south_west.ensures.needed _ _ _ c.requires.states (around-south_west d c.in_north_east.ensures)))
+    (corner-part d (g.S.Squares.needs_node c.next_of_middle-3.new.squares) _ (inr (inr (inl
+    (c.in_err-south_west.ensures.needed _ _ _ c.requires.states (around-south_west d c.in_north_east.ensures))))))
 
 pub returns-in_err-south_east-clause-needed : goal.returns-in_err-south_east-clause-needed
 returns-in_err-south_east-clause-needed g c =
     let d = IsDivided-kept (keeps-then (keeps-then c.in_ok-north_west.ensures.keeps c.in_ok-north_east.ensures.keeps) c.in_ok-south_west.ensures.keeps)
     (divided g (goal.at.returns-in_err-south_east-clause-needed g c).After-empty-blank) in
     on_err_any c.from_residual-in_err-south_east.result
-    (in-south_east d (g.S.Squares.needs_node c.next_of_middle-4.new.squares)
-    (next_life c.args.rule.now (tree_cell (g.S.Squares.content c.args.squares.now c.args.id)))
-    (c.in_err-south_east.ensures.needed _ _ _ c.requires.states (around-south_east d c.in_north_west.ensures)))
+    (corner-part d (g.S.Squares.needs_node c.next_of_middle-4.new.squares) _ (inr (inr (inr
+    (c.in_err-south_east.ensures.needed _ _ _ c.requires.states (around-south_east d c.in_north_west.ensures))))))
 
 pub returns-clause-needed : goal.returns-clause-needed
 returns-clause-needed g c =

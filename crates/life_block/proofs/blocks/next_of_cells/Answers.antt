@@ -1,14 +1,10 @@
-use Rattle.std.proofs.Common.{ℤ, ℕ, ◌+◌, ◌*◌, ◌∙◌, arith}
+use Rattle.std.proofs.Common.{inl, inr, ℤ, ℕ, ◌∙◌}
 use Rattle.std.proofs.lemmas.Result.{IfOk-weaker}
 use Rattle.life_base.proofs.Results.{on_err_any, on_err_both}
 use Rattle.life_quad.proofs.KeepingLemmas.{keeps-then}
-use Rattle.life_sweep.specs.Generation.{next_life}
-use Rattle.life_block.specs.Pieces.{IsBinary, AreSixteen, back}
-use Rattle.life_block.proofs.BitmapLemmas.{HasInner, next-place}
-use Rattle.life_block.proofs.NeedLemmas.{AreParts, bits, parts-of_word, is-piece, joined-is, own-part, north_west-part, north_east-part, south_west-part, south_east-part, still-needs}
+use Rattle.life_block.proofs.NeedLemmas.{AreParts, bits, parts-of_word, part-of_word, is-piece, joined-is, own-part, still-needs}
 use Rattle.life_block.proofs.blocks.next_of_cells.Given.{Over}
 use Rattle.life_block.proofs.blocks.next_of_cells.Goals as goal
-use Rattle.life_block.proofs.blocks.next_of_cells.Goals.{After-next_word-next}
 
 pub returns-in_err-sw-clause-keeps : goal.returns-in_err-sw-clause-keeps
 returns-in_err-sw-clause-keeps g c = keeps-then (keeps-then c.in_ok-nw.ensures.keeps c.in_ok-ne.ensures.keeps) c.in_err-sw.ensures.keeps
@@ -21,19 +17,6 @@ pub returns-clause-keeps : goal.returns-clause-keeps
 returns-clause-keeps g c =
     keeps-then (keeps-then (keeps-then (keeps-then c.in_ok-nw.ensures.keeps c.in_ok-ne.ensures.keeps) c.in_ok-sw.ensures.keeps) c.in_ok-se.ensures.keeps)
     c.join.ensures.keeps
-
--- the word has the next states
-inner : (g : Over) (c : After-next_word-next g) (cells : ℤ → ℤ → ℕ) (x y : ℤ) → IsBinary cells → AreSixteen (g.S.Squares.content c.args.squares.now) cells 2 x y
-    c.args.sixteen.now
-    → HasInner (next_life c.args.rule.now cells) (back x 2) (back y 2) c.next_word-next.result
-inner g c cells x y binary h r i lr li =
-    c.next_word-next.ensures (8 * r + i) (omega (arith, lr, li))
-    ∙ next-place c.args.rule.now cells (back x 2) (back y 2) c.eight_rows-rows.result (c.eight_rows-rows.ensures cells x y binary h) r i lr li
-
-words : (g : Over) (c : After-next_word-next g) (cells : ℤ → ℤ → ℕ) (x y : ℤ) → IsBinary cells → AreSixteen (g.S.Squares.content c.args.squares.now) cells 2 x y
-    c.args.sixteen.now
-    → let word = c.next_word-next.result in AreParts (next_life c.args.rule.now cells) 1 x y (bits word 9) (bits word 11) (bits word 25) (bits word 27)
-words g c cells x y binary h = parts-of_word (next_life c.args.rule.now cells) x y c.next_word-next.result (inner g c cells x y binary h)
 
 -- the four answers are the quarters of the next square
 parts : (g : Over) (c : goal.After-join g) (f : ℤ → ℤ → ℕ) (x y : ℤ)
@@ -57,43 +40,39 @@ pub returns-clause-next : goal.returns-clause-next
 returns-clause-next g c =
     IfOk-weaker c.join.result _ _
     (λ t e cells x y binary h.
-    let p = words g (goal.at.returns-clause-next g c).After-next_word-next cells x y binary h in
-    is-piece _ _ x y _ (e ∙ joined-is (parts g c (next_life c.args.rule.now cells) x y p)))
+    let p = parts-of_word c.args.rule.now cells x y _ _ c.next_word-next.ensures (c.eight_rows-rows.ensures cells x y binary h) in
+    is-piece _ _ x y _ (e ∙ joined-is (parts g c _ x y p)))
     c.join.ensures.square
 
 pub returns-in_err-nw-clause-needed : goal.returns-in_err-nw-clause-needed
 returns-in_err-nw-clause-needed g c =
     on_err_any c.from_residual.result
-    (λ cells x y binary h. north_west-part (g.S.Squares.needs_node c.join_cells.new.squares) _ 1 x y
-    (own-part (g.S.Squares.needs_node c.join_cells.new.squares) _ 0 _ _ _
-    (words g (goal.at.returns-in_err-nw-clause-needed g c).After-next_word-next cells x y binary h).nw c.in_err-nw.ensures.needed))
+    (λ cells x y binary h. part-of_word c.args.rule.now cells x y _ _ c.next_word-next.ensures (c.eight_rows-rows.ensures cells x y binary h)
+    (g.S.Squares.needs_node c.join_cells.new.squares) (inr (inl (inl c.in_err-nw.ensures.needed))))
 
 pub returns-in_err-ne-clause-needed : goal.returns-in_err-ne-clause-needed
 returns-in_err-ne-clause-needed g c =
     on_err_any c.from_residual-in_err-ne.result
-    (λ cells x y binary h. north_east-part (g.S.Squares.needs_node c.join_cells-2.new.squares) _ 1 x y
-    (own-part (g.S.Squares.needs_node c.join_cells-2.new.squares) _ 0 _ _ _
-    (words g (goal.at.returns-in_err-ne-clause-needed g c).After-next_word-next cells x y binary h).ne c.in_err-ne.ensures.needed))
+    (λ cells x y binary h. part-of_word c.args.rule.now cells x y _ _ c.next_word-next.ensures (c.eight_rows-rows.ensures cells x y binary h)
+    (g.S.Squares.needs_node c.join_cells-2.new.squares) (inr (inr (inl (inl c.in_err-ne.ensures.needed)))))
 
 pub returns-in_err-sw-clause-needed : goal.returns-in_err-sw-clause-needed
 returns-in_err-sw-clause-needed g c =
     on_err_any c.from_residual-in_err-sw.result
-    (λ cells x y binary h. south_west-part (g.S.Squares.needs_node c.join_cells-3.new.squares) _ 1 x y
-    (own-part (g.S.Squares.needs_node c.join_cells-3.new.squares) _ 0 _ _ _
-    (words g (goal.at.returns-in_err-sw-clause-needed g c).After-next_word-next cells x y binary h).sw c.in_err-sw.ensures.needed))
+    (λ cells x y binary h. part-of_word c.args.rule.now cells x y _ _ c.next_word-next.ensures (c.eight_rows-rows.ensures cells x y binary h)
+    (g.S.Squares.needs_node c.join_cells-3.new.squares) (inr (inr (inr (inl (inl c.in_err-sw.ensures.needed))))))
 
 pub returns-in_err-se-clause-needed : goal.returns-in_err-se-clause-needed
 returns-in_err-se-clause-needed g c =
     on_err_any c.from_residual-in_err-se.result
-    (λ cells x y binary h. south_east-part (g.S.Squares.needs_node c.join_cells-4.new.squares) _ 1 x y
-    (own-part (g.S.Squares.needs_node c.join_cells-4.new.squares) _ 0 _ _ _
-    (words g (goal.at.returns-in_err-se-clause-needed g c).After-next_word-next cells x y binary h).se c.in_err-se.ensures.needed))
+    (λ cells x y binary h. part-of_word c.args.rule.now cells x y _ _ c.next_word-next.ensures (c.eight_rows-rows.ensures cells x y binary h)
+    (g.S.Squares.needs_node c.join_cells-4.new.squares) (inr (inr (inr (inr (inl c.in_err-se.ensures.needed))))))
 
 pub returns-clause-needed : goal.returns-clause-needed
 returns-clause-needed g c =
     let N = g.S.Squares.needs_node in
     on_err_both c.join.result
     (λ needs same cells x y binary h.
-    let p = words g (goal.at.returns-clause-needed g c).After-next_word-next cells x y binary h in
-    own-part (N c.join.new.self) _ 1 x y _ (joined-is (parts g c (next_life c.args.rule.now cells) x y p)) (still-needs N _ _ _ same needs))
+    let p = parts-of_word c.args.rule.now cells x y _ _ c.next_word-next.ensures (c.eight_rows-rows.ensures cells x y binary h) in
+    own-part (N c.join.new.self) _ 1 x y _ (joined-is (parts g c _ x y p)) (still-needs N _ _ _ same needs))
     c.join.ensures.needed c.join.ensures.unchanged

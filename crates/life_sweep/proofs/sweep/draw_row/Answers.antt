@@ -13,7 +13,7 @@ use Rattle.life_sweep.proofs.PenLemmas.{kept}
 use Rattle.life_sweep.proofs.SweepLemmas.{row-ready, ready-later, ready-row, into-row, west-column, step-in-row, out-of-row, ambiguous-here}
 use Rattle.life_sweep.proofs.sweep.draw_row.Given.{Over}
 use Rattle.life_sweep.proofs.sweep.draw_row.Goals as goal
-use Rattle.life_sweep.proofs.sweep.draw_row.Goals.{After-draw_place}
+use Rattle.life_sweep.proofs.sweep.draw_row.Goals.{After-advance}
 
 pub loop-window-init : goal.loop-window-init
 loop-window-init g c =
@@ -73,7 +73,7 @@ loop-window-preserved g c =
     }
 
 -- the places of the row so far are drawn
-swept : (g : Over) (c : After-draw_place g) (cells : ℤ → ℤ → ℕ) → IsScene cells c.args.y c.args.rows
+swept : (g : Over) (c : After-advance g) (cells : ℤ → ℤ → ℕ) → IsScene cells c.args.y c.args.rows
     → IsSweptRows (g.L.Law.answers c.args.law.now) cells (state_by (drawn_runs c.args.pen.now)) c.args.leaves c.args.y
     → IsWindow cells (kept c.args.y) c.loop-window.window
     × IsSwept (g.L.Law.answers c.args.law.now) cells (state_by (drawn_runs c.loop-window.pen)) c.loop-window.left (after c.loop-window.window.x) (kept c.args.y)
@@ -93,7 +93,7 @@ returns-in_err-left-clause-refusals g c =
         | inr d ↦ inr (inr (
           d.0,
           (λ cells scene rows.
-              let s = swept g (goal.at.returns-in_err-left-clause-refusals g c).After-draw_place cells scene rows in
+              let s = swept g (goal.at.returns-in_err-left-clause-refusals g c).After-advance cells scene rows in
               let on = c.advance.ensures.window c.loop-window-test.true cells (kept c.args.y) s.0 in
               let here = subst (λ law. g.L.Law.answers law (states_of z) (Ambiguous c.in_err-left.field-0.0.place.line)) c.loop-window.invariant.same d.1 in
               ambiguous-here (g.L.Law.answers c.args.law.now) cells _ c.loop-window.left _ c.loop-window.window z _ (g.met.L.Law.quiet c.args.law.now) on s.1
@@ -110,23 +110,20 @@ returns-clause-ready g c column row l =
 
 pub returns-clause-swept : goal.returns-clause-swept
 returns-clause-swept g c cells scene rows =
-    let y = kept c.args.y in
-    let e : c.args.y ≡ y = omega (arith, ints, c.ranges.y) in
     let A = g.L.Law.answers c.args.law.now in
-    let start = state_by (drawn_runs c.args.pen.now) in
     let drawn = state_by (drawn_runs c.loop-window.pen) in
-    let s = c.loop-window.invariant.swept cells (subst (λ z. IsScene cells z c.args.rows) e scene)
-    (subst (λ z. IsSweptRows A cells start c.args.leaves z) e rows) in
+    let e : c.args.y ≡ kept c.args.y = omega (arith, ints, c.ranges.y) in
+    let s = swept g (goal.at.returns-clause-swept g c).After-advance cells scene rows in
     subst (λ z. IsSweptRows A cells drawn c.loop-window.left (after z)) (sym e)
-    (out-of-row A cells drawn c.loop-window.left c.loop-window.window.x y (g.met.L.Law.quiet c.args.law.now)
-    (c.advance.ensures.over c.loop-window-test.false cells y s.0) s.1)
+    (out-of-row A cells drawn c.loop-window.left c.loop-window.window.x (kept c.args.y) (g.met.L.Law.quiet c.args.law.now)
+    (c.advance.ensures.over c.loop-window-test.false cells (kept c.args.y) s.0) s.1)
 
 pub returns-in_err-left-clause-needed : goal.returns-in_err-left-clause-needed
 returns-in_err-left-clause-needed g c =
     let p = err_from_is_err_and c.from_residual.result c.from_residual.ensures.1 in
     rw (p.1, p.2)
     (λ full cells scene rows.
-    let s = swept g (goal.at.returns-in_err-left-clause-needed g c).After-draw_place cells scene rows in
+    let s = swept g (goal.at.returns-in_err-left-clause-needed g c).After-advance cells scene rows in
     swept-needs (g.S.Squares.needs_node c.draw_place.new.squares) (g.L.Law.answers c.args.law.now) cells (drawn_runs c.loop-window.pen) c.loop-window.left _ _
     s.1 (c.in_err-left.ensures.needed full))
 

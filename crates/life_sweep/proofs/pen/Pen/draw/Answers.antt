@@ -1,7 +1,7 @@
 use Rattle.std.proofs.Common.{◌≡◌, ◌+◌, pos, ◌+ℤ◌, List, [], ◌∷◌, ◌++◌, sym, ◌∙◌, ap, subst, arith}
 use Rattle.std.specs.Prelude.{Option}
 use Rattle.std.proofs.lemmas.Int.{ints}
-use Rattle.life_strip.specs.Given.{GivenRun, IsBehind, IsOnPlane, state_by}
+use Rattle.life_strip.specs.Given.{GivenRun, IsBehind, IsNext, IsOnPlane, state_by}
 use Rattle.life_strip.proofs.GivenLemmas.{runs_grow}
 use Rattle.life_sweep.specs.declared.pen.Run.{Run}
 use Rattle.life_sweep.specs.Pen.{drawn_runs, open_runs, one_cell}
@@ -55,9 +55,7 @@ returns-then-is_continued_by-clause-others g c column row ne =
     let x = kept run.x in
     let y = kept run.y in
     let before : drawn_runs c.args.self.now ≡ runs ++ run_of x y run.len run.state ∷ [] =
-    ap (λ (o : Option Run). runs ++ open_runs o) c.in-Some.is
-    ∙ ap (λ z. runs ++ run_of z run.y run.len run.state ∷ []) on.column
-    ∙ ap (λ z. runs ++ run_of x z run.len run.state ∷ []) on.row in
+    ap (λ (o : Option Run). runs ++ open_runs o) c.in-Some.is ∙ (λ j. runs ++ run_of (on.column j) (on.row j) run.len run.state ∷ []) in
     longer-others runs x y run.len run.state c.args.x c.requires.holding.filling.order on.next (sym (ap (λ z. z +ℤ pos run.len) on.column) ∙ on.more.east)
     column row (λ e1 e2. ne e1 (e2 ∙ sym on.row ∙ on.more.same_row))
     ∙ sym (ap (λ (l : List GivenRun). state_by l column row) before)
@@ -70,54 +68,46 @@ returns-then-is_continued_by-clause-next g c column row h =
     longer-next runs (kept run.x) (kept run.y) run.len run.state c.args.x (sym (ap (λ z. z +ℤ pos run.len) on.column) ∙ on.more.east) column row
     (subst (λ z. IsBehind (one_cell c.args.x z run.state) column row) (sym on.more.same_row ∙ on.row) h)
 
--- the cell's place is one of numbers of 64 bits
+-- the cell's place is one of numbers of 64 bits, and behind the runs that were given
 x-kept : (g : Over) (c : goal.After-self-2-1 g) → c.args.x ≡ kept c.args.x
 x-kept g c = omega (arith, ints, c.ranges.x)
 
 y-kept : (g : Over) (c : goal.After-self-2-1 g) → c.args.y ≡ kept c.args.y
 y-kept g c = omega (arith, ints, c.ranges.y)
 
+next : (g : Over) (c : goal.After-self-2-1 g) → IsNext c.close.new.self.builder.runs (kept c.args.x) (kept c.args.y)
+next g c = next-kept _ (drawn_runs c.args.self.now) c.args.x c.args.y (x-kept g c) (y-kept g c) c.in_ok-close.ensures.drawn c.requires.next
+
 pub returns-clause-holding : goal.returns-clause-holding
 returns-clause-holding g c =
-    let x = kept c.args.x in
-    let y = kept c.args.y in
     let ex = x-kept g c in
     let ey = y-kept g c in
     record {
       filling = c.in_ok-close.ensures.filling;
       unclosed = record {
         some_cell = omega arith;
-        inside = subst (λ z. IsOnPlane z y 1) ex (subst (λ z. IsOnPlane c.args.x z 1) ey c.requires.inside);
-        next = next-kept _ (drawn_runs c.args.self.now) c.args.x c.args.y ex ey c.in_ok-close.ensures.drawn c.requires.next;
+        inside = subst (λ z. IsOnPlane z (kept c.args.y) 1) ex (subst (λ z. IsOnPlane c.args.x z 1) ey c.requires.inside);
+        next = next g c;
         nonzero = c.requires.nonzero;
       };
     }
 
 pub returns-clause-here : goal.returns-clause-here
 returns-clause-here g c =
-    let x = kept c.args.x in
-    let y = kept c.args.y in
+    let runs = c.close.new.self.builder.runs in
+    let all = runs ++ one_cell (kept c.args.x) (kept c.args.y) c.args.state ∷ [] in
     let ex = x-kept g c in
     let ey = y-kept g c in
-    let runs = c.close.new.self.builder.runs in
-    let all = runs ++ one_cell x y c.args.state ∷ [] in
-    let next = next-kept runs (drawn_runs c.args.self.now) c.args.x c.args.y ex ey c.in_ok-close.ensures.drawn c.requires.next in
-    ap (λ z. state_by all z c.args.y) ex ∙ ap (λ z. state_by all x z) ey ∙ cell-here runs x y c.args.state c.in_ok-close.ensures.filling.order next
+    (λ j. state_by all (ex j) (ey j)) ∙ cell-here runs _ _ c.args.state c.in_ok-close.ensures.filling.order (next g c)
 
 pub returns-clause-others : goal.returns-clause-others
 returns-clause-others g c column row ne =
-    let ex = x-kept g c in
-    let ey = y-kept g c in
-    let runs = c.close.new.self.builder.runs in
-    let next = next-kept runs (drawn_runs c.args.self.now) c.args.x c.args.y ex ey c.in_ok-close.ensures.drawn c.requires.next in
-    cell-others runs _ _ c.args.state c.in_ok-close.ensures.filling.order next column row (λ e1 e2. ne (e1 ∙ sym ex) (e2 ∙ sym ey))
+    cell-others _ _ _ c.args.state c.in_ok-close.ensures.filling.order (next g c) column row (λ e1 e2. ne (e1 ∙ sym (x-kept g c)) (e2 ∙ sym (y-kept g c)))
     ∙ ap (λ (l : List GivenRun). state_by l column row) c.in_ok-close.ensures.drawn
 
 pub returns-clause-next : goal.returns-clause-next
 returns-clause-next g c column row h =
-    let x = kept c.args.x in
-    let y = kept c.args.y in
     let ex = x-kept g c in
     let ey = y-kept g c in
-    (runs_grow c.close.new.self.builder.runs (one_cell x y c.args.state) column row).0.1
-    (subst (λ z. IsBehind (one_cell z y c.args.state) column row) ex (subst (λ z. IsBehind (one_cell c.args.x z c.args.state) column row) ey h))
+    (runs_grow c.close.new.self.builder.runs (one_cell (kept c.args.x) (kept c.args.y) c.args.state) column row).0.1
+    (subst (λ (run : GivenRun). IsBehind run column row) (λ j. one_cell (ex j) (ey j) c.args.state) h)
