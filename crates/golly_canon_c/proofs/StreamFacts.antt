@@ -153,7 +153,12 @@ ends-fault form limit bytes session result feeding fault is has why fed =
     streams.by_fault fault has
     (subst (λ b. RefusesTextOf form limit b fault) f.2 (subst (λ k. RefusesTextOf k limit feeding.bytes fault) f.0 (why limit f.1)))
 
--- what a call makes of the session of an open stream
+-- what a call makes of the session of an open stream, which it takes out and puts another one into the place of
 pub through : (P Q : Session → Type 0) (old new : Option Session) (before after : Session) → old ≡ Some before → Some after ≡ new
     → (P before → Q after) → IsOpen P old → IsOpen Q new
 through P Q old new before after is becomes turn holds = subst (IsOpen Q) becomes (turn (subst (IsOpen P) is holds))
+
+-- what the session had, as its text or its fault, the other one has
+pub stays : {X : Type 0} (Has : X → Session → Type 0) (old new : Option Session) (before after : Session) → old ≡ Some before → Some after ≡ new
+    → ((x : X) → Has x before → Has x after) → (x : X) → IsOpen (Has x) old → IsOpen (Has x) new
+stays Has old new before after is becomes turn x = through (Has x) (Has x) old new before after is becomes (turn x)

@@ -8,7 +8,7 @@ use Rattle.life_base.specs.declared.kind.Kind.{Kind}
 use Rattle.life_base.specs.declared.kind.Kind.TheVariants.{Full, Memory, Spent, NoHeader}
 use Rattle.life_base.specs.declared.rule.Rule.{Rule}
 use Rattle.life_mc.specs.Macrocell.{IsValid, AreSquares}
-use Rattle.life_mc.specs.Reading.{broken, is_macrocell_kind, squares_of, Accepts as IsSomeMacrocell}
+use Rattle.life_mc.specs.Reading.{broken, is_macrocell_kind, squares_of, Accepts}
 use Rattle.life_mc.specs.declared.line.Line.{Line}
 use Rattle.life_mc.proofs.Accepted.{lines_are_valid}
 use Rattle.life_mc.proofs.FormatLaws.{fronts_are_files}
@@ -85,7 +85,7 @@ pub record NextSquare (lines : List (List ℕ)) (square : Line) : Type 0 where
   pub valid : IsValid MAX_LEVEL (record { rule = rule; generation = generation; lines = squares_of lines ++ square ∷ [] })
 
 -- a node line that goes on a front is a square behind those before it
-pub next-square : (lines more : List (List ℕ)) (line : List ℕ) (square : Line) → more ≡ lines ++ line ∷ [] → Prefix (IsSomeMacrocell MAX_LEVEL) more
+pub next-square : (lines more : List (List ℕ)) (line : List ℕ) (square : Line) → more ≡ lines ++ line ∷ [] → Prefix (Accepts MAX_LEVEL) more
     → squares_of more ≡ squares_of lines ++ square ∷ [] → NextSquare lines square
 next-square lines more line square e p s =
     let some : 0 < length more = omega (arith, ap length e, length-append lines (line ∷ [])) in

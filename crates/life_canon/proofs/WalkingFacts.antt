@@ -1,5 +1,5 @@
 -- What the walk that writes needs.
-use Rattle.std.proofs.Common.{◌≡◌, ℕ, suc, ◌+◌, ◌-◌, ◌<◌, ◌≤◌, true, false, ◌&&◌, List, [], ◌∷◌, ◌++◌, Option, length, map, refl, ap, sym, ◌∙◌, subst, arith, ◌⊎◌, inl, inr, length-append}
+use Rattle.std.proofs.Common.{◌≡◌, ℕ, suc, ◌+◌, ◌-◌, ◌<◌, ◌≤◌, true, false, ◌&&◌, List, [], ◌∷◌, ◌++◌, Option, Result, Ok, Err, OnErr, length, map, refl, ap, sym, ◌∙◌, subst, arith, ◌⊎◌, inl, inr, length-append}
 use Rattle.std.specs.Prelude.{◌==◌, Contains, flat_map, All, AllPairs, Some, None, ◌≢◌, slice_get, MatchOption, IfSome}
 use Rattle.std.proofs.lemmas.Bool.Decides.{nat_tests}
 use Rattle.std.proofs.lemmas.List.{append_assoc, append-nil, map-append, length-map}
@@ -16,7 +16,7 @@ use Rattle.life_mc.specs.declared.line.Line.TheVariants.{Leaf, Quad}
 use Rattle.life_canon.specs.Universe.{is_life, least_level}
 use Rattle.life_canon.specs.Listing.{is_small, is_in, with_new, with_all, walk, place, number_of, line_of, lines_for, quad_line, rows_of, listed}
 use Rattle.life_canon.specs.Closed.{IsClosed}
-use Rattle.life_canon.specs.Pieces.{WritesFront, WritesOn, BreaksIn, lines_text}
+use Rattle.life_canon.specs.Pieces.{WritesFront, WritesOn, WritesWalk, BreaksIn, lines_text}
 use Rattle.life_canon.proofs.Trees.{bool_cases, true_false, same_tree-refl}
 use Rattle.life_canon.proofs.ListFacts.{with_all-from, with_all-append, with_new-known, with_new-fresh, place-append}
 use Rattle.life_canon.proofs.Walk.{walk-level, walk-big, walked, none-closed, IsKnown, IsWalked}
@@ -132,6 +132,11 @@ module _ (rule : Rule) {a b : Option (List ℕ)} {h l : List ℕ} (old mid : Lis
       (append_assoc begun (lines_text rule all mid) (lines_text rule all (p.0 ++ rest))
       ∙ ap (λ r. begun ++ r) (sym (lines-more rule all mid (p.0 ++ rest)) ∙ ap (lines_text rule all) (sym more)))
       (prefix-grows start c _ (lines_text rule all (p.0 ++ rest)) before)
+
+-- what holds once a call broke holds of its error
+pub broken : {T E P : Type 0} (r : Result T E) → P → OnErr r P
+broken (Ok x) p = tt
+broken (Err e) p = p
 
 -- nothing is written
 pub writes-none : (rule : Rule) {a : Option (List ℕ)} {h : List ℕ} (old : List Tree) → WritesOn rule a a h h old old
@@ -290,102 +295,86 @@ module _ {K : Type 0} (content : K → Tree) (ids new : List K) (id : K) (added 
 
 -- ---- a square above the leaves: its quarters are walked one behind the other, and then it is added
 
--- the squares of the second list are those of the first, and what the walk over the square of an Id adds
-abbrev HasWalked : (Id → Tree) → Rule → Id → List Id → List Id → Type 0
-HasWalked content rule q old new = map content new ≡ with_all (map content old) (walk (content q) (least_level rule))
-
--- a call wrote the lines of the squares that it added
-abbrev Wrote : (Id → Tree) → Rule → Option (List ℕ) → Option (List ℕ) → List ℕ → List ℕ → List Id → List Id → Type 0
-Wrote content rule a b h l old new = WritesOn rule a b h l (map content old) (map content new)
-
 -- a call broke that walked over the square of an Id
-abbrev Broke : (Id → Tree) → Rule → Id → Option (List ℕ) → Option (List ℕ) → List ℕ → List Id → List Id → Type 0
-Broke content rule q a b h begun old = BreaksIn rule a b h (map content begun) (with_all (map content old) (walk (content q) (least_level rule)))
+abbrev Broke : (Id → Tree) → Rule → Id → Option (List ℕ) → Option (List ℕ) → List ℕ → List Id → Type 0
+Broke content rule q a b h old = BreaksIn rule a b h (map content old) (with_all (map content old) (walk (content q) (least_level rule)))
 
-module _ (content : Id → Tree) (rule : Rule) (id nw ne sw se : Id) (old : List Id)
-    (square : content id ≡ quad (content nw) (content ne) (content sw) (content se)) where
-  behind-one : (q : Id) (mid new : List Id) → HasWalked content rule q mid new → Behind (map content mid) (map content new)
-  behind-one q mid new p = subst (Behind (map content mid)) (sym p) (behind-all (map content mid) (walk (content q) (least_level rule)))
+module _ (content : Id → Tree) (rule : Rule) (id : Id) {nw ne sw se : Id} (square : content id ≡ quad (content nw) (content ne) (content sw) (content se)) where
+  -- a walk is written behind what was written
+  both : {a b c : Option (List ℕ)} {h l k : List ℕ} {q : Id} {mid new : List Id} (old : List Id) → WritesWalk content rule q b c l k mid new
+      → WritesOn rule a b h l (map content old) (map content mid) → WritesOn rule a c h k (map content old) (map content new)
+  both {q = q} {mid = mid} {new = new} old v u = λ start begun all rest e w.
+      let b = subst (Behind (map content mid)) (sym v.walked) (behind-all (map content mid) (walk (content q) (least_level rule))) in
+      v.text start begun all rest e (u start begun all (b.0 ++ rest) (front-more (map content mid) (map content new) rest all b e) w)
 
-  both : {a b c : Option (List ℕ)} {h l k : List ℕ} (q : Id) (mid new : List Id) → Wrote content rule a b h l old mid → Wrote content rule b c l k mid new
-      → HasWalked content rule q mid new
-      → Wrote content rule a c h k old new
-  both q mid new u v p = λ start begun all rest e w.
-      let b = behind-one q mid new p in
-      v start begun all rest e (u start begun all (b.0 ++ rest) (front-more (map content mid) (map content new) rest all b e) w)
-
-  module _ (small : is_small (least_level rule) (content id) ≡ false) where
+  module _ {level : ℕ} (is : level ≡ depth (content id)) (high : is_life rule ≡ true → 3 ≤ level)
+      (shown : (1 ≤ depth (content id)) × (is_blank (content id) ≡ false)) (old : List Id) where
     begun : (all1 all2 all3 : List Tree) → all1 ≡ with_all (map content old) (walk (content nw) (least_level rule))
         → all2 ≡ with_all all1 (walk (content ne) (least_level rule))
         → all3 ≡ with_all all2 (walk (content sw) (least_level rule))
         → Fronts (least_level rule) (content ne) (content sw) (content se) all1 all2 all3 (with_all (map content old) (walk (content id) (least_level rule)))
     begun all1 all2 all3 =
-        fronts (least_level rule) (content id) (content nw) (content ne) (content sw) (content se) (map content old) all1 all2 all3 small square
+        fronts (least_level rule) (content id) (content nw) (content ne) (content sw) (content se) (map content old) all1 all2 all3
+        (big rule (content id) level is high shown) square
 
-    breaks : {a b c : Option (List ℕ)} {h l : List ℕ} (q : Id) (mid : List Id) → Wrote content rule a b h l old mid
-        → BreaksIn rule b c l (map content mid) (with_all (map content mid) (walk (content q) (least_level rule)))
+    breaks : {a b c : Option (List ℕ)} {h l : List ℕ} (q : Id) (mid : List Id) → WritesOn rule a b h l (map content old) (map content mid)
+        → Broke content rule q b c l mid
         → Behind (with_all (map content mid) (walk (content q) (least_level rule))) (with_all (map content old) (walk (content id) (least_level rule)))
-        → Broke content rule id a c h old old
+        → Broke content rule id a c h old
     breaks q mid u v b =
         breaks-then rule (map content old) (map content mid) (walk (content q) (least_level rule))
         (with_all (map content old) (walk (content id) (least_level rule))) u v b
 
-    pub breaks-nw : {a b : Option (List ℕ)} {h : List ℕ} → Broke content rule nw a b h old old → Broke content rule id a b h old old
+    pub breaks-nw : {a b : Option (List ℕ)} {h : List ℕ} → Broke content rule nw a b h old → Broke content rule id a b h old
     breaks-nw v = breaks nw old (writes-none rule (map content old)) v (begun _ _ _ refl refl refl).one
 
-    pub breaks-ne : {a b c : Option (List ℕ)} {h l : List ℕ} (one : List Id) → HasWalked content rule nw old one → Wrote content rule a b h l old one
-        → Broke content rule ne b c l one one → Broke content rule id a c h old old
-    breaks-ne one p u v = breaks ne one u v (begun _ _ _ p refl refl).two
+    pub breaks-ne : {a b c : Option (List ℕ)} {h l : List ℕ} {one : List Id} → WritesWalk content rule nw a b h l old one
+        → Broke content rule ne b c l one → Broke content rule id a c h old
+    breaks-ne {one = one} u v = breaks ne one u.text v (begun _ _ _ u.walked refl refl).two
 
-    pub breaks-sw : {a b c d : Option (List ℕ)} {h l k : List ℕ} (one two : List Id) → HasWalked content rule nw old one → HasWalked content rule ne one two
-        → Wrote content rule a b h l old one → Wrote content rule b c l k one two → Broke content rule sw c d k two two → Broke content rule id a d h old old
-    breaks-sw one two p q u v x = breaks sw two (both ne one two u v q) x (begun _ _ _ p q refl).three
+    pub breaks-sw : {a b c d : Option (List ℕ)} {h l k : List ℕ} {one two : List Id} → WritesWalk content rule nw a b h l old one
+        → WritesWalk content rule ne b c l k one two → Broke content rule sw c d k two → Broke content rule id a d h old
+    breaks-sw {two = two} u v w = breaks sw two (both old v u.text) w (begun _ _ _ u.walked v.walked refl).three
 
-    pub breaks-se : {a b c d e : Option (List ℕ)} {h l k j : List ℕ} (one two three : List Id) → HasWalked content rule nw old one
-        → HasWalked content rule ne one two
-        → HasWalked content rule sw two three → Wrote content rule a b h l old one → Wrote content rule b c l k one two → Wrote content rule c d k j two three
-        → Broke content rule se d e j three three → Broke content rule id a e h old old
-    breaks-se one two three p q r u v x y = breaks se three (both sw two three (both ne one two u v q) x r) y (begun _ _ _ p q r).four
+    pub breaks-se : {a b c d e : Option (List ℕ)} {h l k j : List ℕ} {one two three : List Id} → WritesWalk content rule nw a b h l old one
+        → WritesWalk content rule ne b c l k one two → WritesWalk content rule sw c d k j two three → Broke content rule se d e j three
+        → Broke content rule id a e h old
+    breaks-se {three = three} u v w x = breaks se three (both old w (both old v u.text)) x (begun _ _ _ u.walked v.walked w.walked).four
 
-  module _ (one two three four : List Id) (p : HasWalked content rule nw old one) (q : HasWalked content rule ne one two)
-      (r : HasWalked content rule sw two three)
-      (s : HasWalked content rule se three four) where
-    wrote-four : {a b c d e : Option (List ℕ)} {h l k j i : List ℕ} → Wrote content rule a b h l old one → Wrote content rule b c l k one two
-        → Wrote content rule c d k j two three
-        → Wrote content rule d e j i three four → Wrote content rule a e h i old four
-    wrote-four u v x y = both se three four (both sw two three (both ne one two u v q) x r) y s
-
-    pub breaks-own : {a b c d e f : Option (List ℕ)} {h l k j i : List ℕ} → is_small (least_level rule) (content id) ≡ false
-        → Wrote content rule a b h l old one → Wrote content rule b c l k one two → Wrote content rule c d k j two three → Wrote content rule d e j i three four
-        → WritesPrefix e f i → Broke content rule id a f h old old
-    breaks-own small u v x y z =
-        let whole = with_all (map content old) (walk (content id) (least_level rule)) in
-        breaks-line rule (map content old) (map content four) whole (wrote-four u v x y) z
-        (subst (λ l. Behind l whole) (sym s) (begun small (map content one) (map content two) (map content three) p q r).four)
+  module _ {a b c d e : Option (List ℕ)} {h l k j i : List ℕ} {old one two three four : List Id} (u : WritesWalk content rule nw a b h l old one)
+      (v : WritesWalk content rule ne b c l k one two) (w : WritesWalk content rule sw c d k j two three)
+      (x : WritesWalk content rule se d e j i three four) where
+    wrote-four : WritesOn rule a e h i (map content old) (map content four)
+    wrote-four = both old x (both old w (both old v u.text))
 
     pub absent-own : IsFull (content id) → is_in (map content old) (content id) ≡ false → is_in (map content four) (content id) ≡ false
     absent-own full absent =
-        absent-still (least_level rule) (content id) (content nw) (content ne) (content sw) (content se) _ _ _ _ _ full square p q r s absent
+        absent-still (least_level rule) (content id) (content nw) (content ne) (content sw) (content se) _ _ _ _ _ full square u.walked v.walked w.walked
+        x.walked absent
 
-    pub walked-own : (new : List Id) → is_small (least_level rule) (content id) ≡ false → IsFull (content id) → is_in (map content old) (content id) ≡ false
-        → new ≡ four ++ id ∷ []
-        → HasWalked content rule id old new
-    walked-own new small full absent added =
-        quad-walk rule (content id) (content nw) (content ne) (content sw) (content se) _ _ _ _ _ _ small square p q r s (absent-own full absent)
-        (trees-more content four new id added)
+    module _ {level : ℕ} (is : level ≡ depth (content id)) (high : is_life rule ≡ true → 3 ≤ level)
+        (shown : (1 ≤ depth (content id)) × (is_blank (content id) ≡ false)) where
+      pub breaks-own : {f : Option (List ℕ)} → WritesPrefix e f i → Broke content rule id a f h old
+      breaks-own z =
+          let whole = with_all (map content old) (walk (content id) (least_level rule)) in
+          breaks-line rule (map content old) (map content four) whole wrote-four z
+          (subst (λ l. Behind l whole) (sym x.walked) (begun is high shown old _ _ _ u.walked v.walked w.walked).four)
 
-    pub writes-own : {a b c d e f : Option (List ℕ)} {h l k j i o : List ℕ} (level na nb nc nd : ℕ) (new : List Id) → new ≡ four ++ id ∷ []
-        → IsFull (content id)
-        → IsClosed (least_level rule) (map content old) → level ≡ depth (content id) → (is_life rule ≡ true → 3 ≤ level) → (is_life rule && level == 3) ≡ false
-        → na ≡ number_of (map content one) (content nw) → nb ≡ number_of (map content two) (content ne) → nc ≡ number_of (map content three) (content sw)
-        → nd ≡ number_of (map content four) (content se)
-        → Wrote content rule a b h l old one → Wrote content rule b c l k one two → Wrote content rule c d k j two three → Wrote content rule d e j i three four
-        → WritesFront e f (i ++ node_text (Quad level na nb nc nd)) o → Wrote content rule a f h o old new
-    writes-own level na nb nc nd new added full closed is high other ea eb ec ed u v x y z =
-        writes-line rule (map content old) (map content four) (map content new) (content id) (Quad level na nb nc nd) (trees-more content four new id added)
-        (wrote-four u v x y) z
-        (λ all rest e. quad-line rule (content id) (content nw) (content ne) (content sw) (content se) level na nb nc nd _ _ _ _ _ all rest square full
-        (λ l. subst (λ n. 3 ≤ n) is (high l)) (no-leaf rule (content id) level is other) is closed p q r s ea eb ec ed e)
+      pub wrote-own : {f : Option (List ℕ)} {o : List ℕ} {na nb nc nd : ℕ} (new : List Id) → new ≡ four ++ id ∷ [] → IsFull (content id)
+          → is_in (map content old) (content id) ≡ false → IsClosed (least_level rule) (map content old) → (is_life rule && level == 3) ≡ false
+          → na ≡ number_of (map content one) (content nw) → nb ≡ number_of (map content two) (content ne) → nc ≡ number_of (map content three) (content sw)
+          → nd ≡ number_of (map content four) (content se)
+          → WritesFront e f (i ++ node_text (Quad level na nb nc nd)) o → WritesWalk content rule id a f h o old new
+      wrote-own {na = na} {nb = nb} {nc = nc} {nd = nd} new added full absent closed other ea eb ec ed z = record {
+        walked =
+            quad-walk rule (content id) (content nw) (content ne) (content sw) (content se) _ _ _ _ _ _ (big rule (content id) level is high shown) square
+            u.walked v.walked w.walked x.walked (absent-own full absent) (trees-more content four new id added);
+        text =
+            writes-line rule (map content old) (map content four) (map content new) (content id) (Quad level na nb nc nd)
+            (trees-more content four new id added) wrote-four z
+            (λ all rest q. quad-line rule (content id) (content nw) (content ne) (content sw) (content se) level na nb nc nd _ _ _ _ _ all rest square full
+            (λ r. subst (λ n. 3 ≤ n) is (high r)) (no-leaf rule (content id) level is other) is closed u.walked v.walked w.walked x.walked ea eb ec ed q);
+      }
 
 -- ---- a whole pattern, from no squares on
 

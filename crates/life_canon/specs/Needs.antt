@@ -6,7 +6,7 @@ use Rattle.life_base.specs.Refusal.{Prefix}
 use Rattle.life_base.specs.Text.{lines_of}
 use Rattle.life_base.specs.Tree.{Tree, quad, depth, is_blank_tree}
 use Rattle.life_mc.specs.Cells.{root_level}
-use Rattle.life_mc.specs.Reading.{squares_of, Accepts as IsSomeMacrocell}
+use Rattle.life_mc.specs.Reading.{Accepts, squares_of}
 use Rattle.life_mc.specs.Squares.{tree_of, leaf_tree}
 use Rattle.life_mc.specs.declared.line.Line.{Line}
 use Rattle.life_mc.specs.declared.line.Line.TheVariants.{Leaf, Quad}
@@ -42,7 +42,7 @@ pub record SomeOfRuns (P : Tree → Type 0) (runs : List GivenRun) : Type 0 wher
 -- a square of the front of a file has a property: of a node line, or of the runs so far
 pub data SomeOfLines (top : ℕ) (P : Tree → Type 0) (lines : List (List ℕ)) : Type 0 where
   of_node_line : (before : List (List ℕ)) (line : List ℕ) (behind : List (List ℕ)) (square : Line) → lines ≡ before ++ line ∷ behind
-      → Prefix (IsSomeMacrocell top) (before ++ line ∷ []) → squares_of (before ++ line ∷ []) ≡ squares_of before ++ square ∷ []
+      → Prefix (Accepts top) (before ++ line ∷ []) → squares_of (before ++ line ∷ []) ≡ squares_of before ++ square ∷ []
       → SomeOfLine P (squares_of before) square → SomeOfLines top P lines
   of_runs : (front behind : List (List ℕ)) (runs : List Run) → lines ≡ front ++ behind → HasRuns top front runs → SomeOfRuns P (map given runs)
       → SomeOfLines top P lines

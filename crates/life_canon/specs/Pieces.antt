@@ -5,7 +5,9 @@ use Rattle.life_base.specs.Tree.{Tree}
 use Rattle.life_base.specs.Writing.{WritesPrefix}
 use Rattle.life_base.specs.declared.rule.Rule.{Rule}
 use Rattle.life_mc.specs.Writing.{node_text}
-use Rattle.life_canon.specs.Listing.{line_of}
+use Rattle.life_quad.specs.declared.id.Id.{Id}
+use Rattle.life_canon.specs.Listing.{line_of, with_all, walk}
+use Rattle.life_canon.specs.Universe.{least_level}
 
 -- a front of the text was written, and this rest of it was not yet
 pub record WritesFront (old new : Option (List ℕ)) (text rest : List ℕ) : Type 0 where
@@ -23,6 +25,11 @@ abbrev pub WritesOn : Rule → Option (List ℕ) → Option (List ℕ) → List 
 WritesOn rule before after held left old new =
     (start : Option (List ℕ)) (begun : List ℕ) (all rest : List Tree) → all ≡ new ++ rest
     → WritesFront start before (begun ++ lines_text rule all old) held → WritesFront start after (begun ++ lines_text rule all new) left
+
+-- the squares of the new Ids are those of the old ones and then what the walk over the square of `q` adds, and these are written as above
+pub record WritesWalk (content : Id → Tree) (rule : Rule) (q : Id) (before after : Option (List ℕ)) (held left : List ℕ) (old new : List Id) : Type 0 where
+  pub walked : map content new ≡ with_all (map content old) (walk (content q) (least_level rule))
+  pub text : WritesOn rule before after held left (map content old) (map content new)
 
 -- where a front was written as above, a prefix of the whole text is, whatever squares come behind `new`
 abbrev pub BreaksIn : Rule → Option (List ℕ) → Option (List ℕ) → List ℕ → List Tree → List Tree → Type 0

@@ -6,7 +6,7 @@ use Rattle.life_base.specs.Text.{lines_of}
 use Rattle.life_base.specs.Tree.{Tree}
 use Rattle.life_base.specs.declared.cell.TheConstants.{MAX_LEVEL}
 use Rattle.life_base.specs.declared.fault.Fault.{Fault}
-use Rattle.life_mc.specs.Reading.{squares_of, Accepts as IsSomeMacrocell}
+use Rattle.life_mc.specs.Reading.{Accepts, squares_of}
 use Rattle.life_quad.specs.declared.id.Id.{Id}
 use Rattle.life_rle.specs.File.{HasRuns}
 use Rattle.life_rle.specs.Grammar.{IsSomeRle, IsMarked}
@@ -37,7 +37,7 @@ pub record IsBegun (macrocell : Bool) (Grammar : List (List ℕ) → Type 0) (li
 abbrev pub IsOpen : Progress → Type 0
 IsOpen progress.Undecided = Unit {0}
 IsOpen (progress.Rle reader builder runs) = IsBegun false (IsSomeRle MAX_LEVEL) reader.lines reader.refused
-IsOpen (progress.Macrocell reader ids) = IsBegun true (IsSomeMacrocell MAX_LEVEL) reader.lines reader.refused
+IsOpen (progress.Macrocell reader ids) = IsBegun true (Accepts MAX_LEVEL) reader.lines reader.refused
 
 -- `!` has ended the pattern
 abbrev pub IsOver : Progress → Type 0

@@ -6,7 +6,7 @@ ghost use Rattle.life_base.specs.Refusal.{Prefix};
 ghost use Rattle.life_base.specs.Tree.{depth, tree_cell};
 ghost use Rattle.life_mc.specs.Cells.{cell, root_level};
 ghost use Rattle.life_mc.specs.Macrocell.{Macrocell, IsValid};
-ghost use Rattle.life_mc.specs.Reading.{Accepts as IsSomeMacrocell, squares_of, broken};
+ghost use Rattle.life_mc.specs.Reading.{Accepts, squares_of, broken};
 ghost use Rattle.life_quad.specs.Store.{Nodes};
 ghost use Rattle.life_quad.specs.Keeping.{KeepsSquares};
 ghost use Rattle.life_rle.specs.Decided.{LacksHeader};
@@ -91,7 +91,7 @@ fn take_macrocell_line<S: Squares>(
     requires begun { lines.old.refused ≡ false }
     requires squares { AreSquaresOf (S.knows squares.old) (S.content squares.old) (squares_of lines.old.lines) ids.old.items }
     ensures lines { OnOk result (lines.new ≡ record { lines = lines.old.lines ++ line.now ∷ []; refused = false }) }
-    ensures front { OnOk result (Prefix (IsSomeMacrocell MAX_LEVEL) lines.new.lines) }
+    ensures front { OnOk result (Prefix (Accepts MAX_LEVEL) lines.new.lines) }
     ensures squares { OnOk result (AreSquaresOf (S.knows squares.new) (S.content squares.new) (squares_of lines.new.lines) ids.new.items) }
     ensures fault { IfErr result (λ kind. (kind ≡ Full) ⊎ (kind ≡ Memory) ⊎ (broken MAX_LEVEL lines.old.lines line.now ≡ Some kind)) }
     ensures keeps { KeepsSquares S.knows S.content S.stored S.most squares.old squares.new }

@@ -11,9 +11,9 @@ ghost use Rattle.life_canon.specs.Store.{Keeps, IsWant};
 use crate::pattern::Pattern;
 use crate::reader::Reader;
 use crate::room::Room;
-use crate::writing::{PIECE, deliver_squares, front_of};
+use crate::writing::{PIECE, begin_text, deliver_squares};
 use life_base::{Fault, Kind, MAX_LEVEL, Sink, Source};
-use life_quad::{IdNumbers, Shared};
+use life_quad::Shared;
 use std::alloc::Global;
 
 /// The most bytes of an input.
@@ -145,8 +145,7 @@ pub fn run_canon_within<R: Source, W: Sink>(
     ensures keeps { Keeps store.old store.new }
 {
     let pattern = read_source(alloc, store, reader, most)?;
-    let numbers = IdNumbers::new(alloc, store)?;
-    let front = front_of(alloc, &pattern)?;
+    let (numbers, front) = begin_text(alloc, store, &pattern)?;
     deliver_squares(store, &pattern, numbers, front, writer)?;
     Ok(())
 }

@@ -11,7 +11,7 @@ ghost use Rattle.life_quad.specs.IdNumbers.{HasNumberRoom};
 ghost use Rattle.life_canon.specs.Universe.{is_life, least_level};
 ghost use Rattle.life_canon.specs.Listing.{is_small, is_in, with_all, walk, number_of};
 ghost use Rattle.life_canon.specs.Closed.{IsClosed};
-ghost use Rattle.life_canon.specs.Pieces.{WritesFront, WritesOn, BreaksIn};
+ghost use Rattle.life_canon.specs.Pieces.{WritesFront, WritesWalk, BreaksIn};
 
 use crate::numbering::{is_leaf, leaf};
 use crate::writing::make_way;
@@ -80,9 +80,8 @@ pub(crate) fn write_square<S: SharedSquares, W: Sink>(
     requires bound { (q : IdValue) → S.knows squares.now q → HasNumberRoom numbers.old q }
     requires room { 65536 ≤ vec_capacity piece.old }
     requires works { W.failures writer.old ≡ 0 }
-    ensures walked { OnOk result (map (S.content squares.now) numbers.new.ids ≡ with_all (map (S.content squares.now) numbers.old.ids) (walk (S.content squares.now id) (least_level rule.now))) }
+    ensures wrote { OnOk result (WritesWalk (S.content squares.now) rule.now id (W.contents writer.old) (W.contents writer.new) piece.old.items piece.new.items numbers.old.ids numbers.new.ids) }
     ensures number { IfOk result (λ number. number ≡ number_of (map (S.content squares.now) numbers.new.ids) (S.content squares.now id)) }
-    ensures text { OnOk result (WritesOn rule.now (W.contents writer.old) (W.contents writer.new) piece.old.items piece.new.items (map (S.content squares.now) numbers.old.ids) (map (S.content squares.now) numbers.new.ids)) }
     ensures prefix { OnErr result (BreaksIn rule.now (W.contents writer.old) (W.contents writer.new) piece.old.items (map (S.content squares.now) numbers.old.ids) (with_all (map (S.content squares.now) numbers.old.ids) (walk (S.content squares.now id) (least_level rule.now)))) }
     ensures numbers { OnOk result (All (S.knows squares.now) numbers.new.ids) }
     ensures closed { OnOk result (IsClosed (least_level rule.now) (map (S.content squares.now) numbers.new.ids)) }

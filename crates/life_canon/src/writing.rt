@@ -7,6 +7,7 @@ ghost use Rattle.life_base.specs.Writing.{WritesText, WritesPrefix};
 ghost use Rattle.life_base.specs.Tree.{Tree, depth};
 ghost use Rattle.life_quad.specs.declared.id.Id.{Id as IdValue};
 ghost use Rattle.life_quad.specs.IdNumbers.{HasNumberRoom};
+ghost use Rattle.life_quad.specs.Store.{Knows};
 ghost use Rattle.life_mc.specs.Macrocell.{largest_state};
 ghost use Rattle.life_mc.specs.Squares.{HasStatesUpTo};
 ghost use Rattle.life_mc.specs.Writing.{front_text, node_text, mc_text};
@@ -93,16 +94,23 @@ pub fn text_of(alloc: Global, store: &Shared, pattern: &Pattern) -> Result<Vec<u
     Ok(written(alloc, store, pattern)?)
 }
 
-/// The front of a pattern's text, with room for a piece behind it.
-pub(crate) fn front_of(alloc: Global, pattern: &Pattern) -> Result<Vec<u8>, Kind>
-    ensures front { IfOk result (λ front. front.items ≡ front_text pattern.now.rule pattern.now.generation) }
-    ensures room { IfOk result (λ front. 65536 ≤ vec_capacity front) }
+/// What a pattern's text is written with: the numbers, of which no square has one yet, and the front, with room for a piece behind it.
+pub(crate) fn begin_text(
+    alloc: Global,
+    store: &Shared,
+    pattern: &Pattern,
+) -> Result<(IdNumbers, Vec<u8>), Kind>
+    ensures none { IfOk result (λ p. p.0.ids ≡ []) }
+    ensures bound { IfOk result (λ p. (id : IdValue) → Knows store.now id → HasNumberRoom p.0 id) }
+    ensures front { IfOk result (λ p. p.1.items ≡ front_text pattern.now.rule pattern.now.generation) }
+    ensures room { IfOk result (λ p. 65536 ≤ vec_capacity p.1) }
     ensures kind { IfErr result (λ kind. kind ≡ Memory) }
 {
+    let numbers = IdNumbers::new(alloc, store)?;
     let mut front = Vec::new(alloc);
     append_front(&mut front, &pattern.rule, pattern.generation)?;
     front.reserve(PIECE)?;
-    Ok(front)
+    Ok((numbers, front))
 }
 
 /// Writes what the piece holds, and empties it, unless a line fits behind it. Its room stays.

@@ -43,7 +43,8 @@ their formats and spellings.",
 Exit status:
   0  done; `same` found no difference
   1  `same` found a difference
-  2  a file was refused
+  2  a file or a rule table was refused, or the pattern can't be written as RLE
+     or has no next generation
   3  a file can't be opened or read, or the output can't be written
   4  there isn't enough memory, or room in the store of squares
   5  the command line isn't understood

@@ -5,7 +5,7 @@ use Rattle.std.proofs.lemmas.Result.{err_from_is_err_and}
 use Rattle.life_base.specs.declared.kind.Kind.{Kind}
 use Rattle.life_base.specs.Refusal.{Prefix}
 use Rattle.life_base.specs.declared.cell.TheConstants.{MAX_LEVEL}
-use Rattle.life_mc.specs.Reading.{squares_of, Accepts as IsSomeMacrocell}
+use Rattle.life_mc.specs.Reading.{Accepts, squares_of}
 use Rattle.life_base.specs.Lines.{LinesRead}
 use Rattle.life_mc.specs.declared.line.Line.{Line}
 use Rattle.life_quad.specs.declared.id.Id.{Id}
@@ -81,6 +81,6 @@ returns-in_err-id-clause-needed g c =
     let were : AreSquaresOf (g.S.Squares.knows c.args.squares.now) (g.S.Squares.content c.args.squares.now) (squares_of old) c.deref.result.now =
     subst (λ (is : List Id). AreSquaresOf (g.S.Squares.knows c.args.squares.now) (g.S.Squares.content c.args.squares.now) (squares_of old) is)
     (sym c.deref.ensures.value) c.requires.squares in
-    λ e. of_node_line old c.args.line.now [] square refl (subst (Prefix (IsSomeMacrocell MAX_LEVEL)) more c.in_ok-square.ensures.front)
+    λ e. of_node_line old c.args.line.now [] square refl (subst (Prefix (Accepts MAX_LEVEL)) more c.in_ok-square.ensures.front)
     (subst (λ (ls : List (List ℕ)). squares_of ls ≡ squares_of old ++ square ∷ []) more squares)
     (c.in_err-id.ensures.needed (squares_of old) next.rule one were)

@@ -1,18 +1,17 @@
 use Rattle.std.proofs.Common.{ap, arith, inl, inr, refl, rules, subst, sym, true, false, true≢false, Bool, List, ℕ, ◌++◌, ◌≡◌, ◌⊎◌, ◌∙◌}
 use Rattle.std.specs.Io.KnownBytes.{Appends}
-use Rattle.std.specs.Prelude.{flat_map, ◌≢◌, Result, Ok, Err, IfErr, IsErrAnd}
+use Rattle.std.specs.Prelude.{flat_map, ◌≢◌, Result, Ok, Err, IfErr}
 use Rattle.std.proofs.lemmas.Result.{err_from_is_err_and}
-use Rattle.life_base.specs.DeviceRuns.{SourceRun, SinkRun}
+use Rattle.life_base.specs.DeviceRuns.{SourceRun}
 use Rattle.life_base.specs.Refusal.{fault_of}
 use Rattle.life_base.specs.Writing.{WritesPrefix}
 use Rattle.life_base.specs.declared.cell.TheConstants.{MAX_LEVEL}
 use Rattle.life_base.specs.declared.fault.Fault.{Fault}
-use Rattle.life_base.specs.declared.kind.Kind.{Kind}
-use Rattle.life_base.specs.declared.kind.Kind.TheVariants.{Memory, WriteFault}
+use Rattle.life_base.specs.declared.kind.Kind.TheVariants.{WriteFault}
 use Rattle.life_mc.specs.Writing.{node_text, front_text}
 use Rattle.life_quad.specs.Store.{Nodes}
 use Rattle.life_canon.specs.Listing.{canon_text, lines_for, listed}
-use Rattle.life_canon.specs.Running.{HasRead, RunRefuses, Wrote, by_reading, by_writing, by_want}
+use Rattle.life_canon.specs.Running.{HasRead, Wrote, by_reading, by_writing, by_want}
 use Rattle.life_canon.specs.Store.{content, universe_in}
 use Rattle.life_canon.specs.Universe.{least_level}
 use Rattle.life_canon.specs.declared.pattern.Pattern.{Pattern}
@@ -44,12 +43,6 @@ as_it_was : {X W : Type 0} (r : Result X Fault) (writer : W) → IfErr r (λ fau
 as_it_was (Ok x) writer = tt
 as_it_was (Err fault) writer = λ other. refl
 
--- one for want of memory
-memory_wanted : {X : Type 0} (most : ℕ) (store : Nodes) (source : SourceRun) (sink : SinkRun) (r : Result X Fault) (kind : Kind) → kind ≡ Memory
-    → IsErrAnd r (λ fault. fault ≡ fault_of kind) → IfErr r (RunRefuses MAX_LEVEL most store source sink)
-memory_wanted most store source sink (Ok x) kind is told = tt
-memory_wanted most store source sink (Err fault) kind is told = by_reading (by_want (inl (told ∙ ap fault_of is)))
-
 pub returns-in_err-pattern-clause-err : goal.returns-in_err-pattern-clause-err
 returns-in_err-pattern-clause-err g c =
     let p = err_from_is_err_and c.from_residual.result c.from_residual.ensures.1 in
@@ -69,19 +62,19 @@ deliver_squares-requires-clause-level g c
     = (read-fits c.in_ok-pattern.ensures.pattern.bytes c.read_source.new.store c.in_ok-pattern.pattern c.in_ok-pattern.ensures.pattern.is).level
 
 pub deliver_squares-requires-clause-bound : goal.deliver_squares-requires-clause-bound
-deliver_squares-requires-clause-bound g c = λ q k. c.in_ok-numbers.ensures.room q k.0
+deliver_squares-requires-clause-bound g c = λ q k. c.in_ok-numbers.ensures.bound q k.0
 
 pub returns-in_err-deliver_squares-clause-err : goal.returns-in_err-deliver_squares-clause-err
 returns-in_err-deliver_squares-clause-err g c =
     let p = err_from_is_err_and c.from_residual-in_err-deliver_squares.result c.from_residual-in_err-deliver_squares.ensures.1 in
     let answer = by_writing (ap fault_of c.in_err-deliver_squares.ensures.kind) (record {
-      wrote = wrote _ _ _ _ (WritesPrefix _ _) _ c.in_ok-pattern.ensures.pattern c.in_ok-front.ensures.front c.in_err-deliver_squares.ensures.text;
+      wrote = wrote _ _ _ _ (WritesPrefix _ _) _ c.in_ok-pattern.ensures.pattern c.in_ok-numbers.ensures.front c.in_err-deliver_squares.ensures.text;
       cause = c.in_err-deliver_squares.ensures.cause;
     }) in
     rw (p.1, p.2) answer
 
 pub returns-clause-ok : goal.returns-clause-ok
-returns-clause-ok g c = wrote _ _ _ _ (Appends _ _) _ c.in_ok-pattern.ensures.pattern c.in_ok-front.ensures.front c.in_ok-deliver_squares.ensures.text
+returns-clause-ok g c = wrote _ _ _ _ (Appends _ _) _ c.in_ok-pattern.ensures.pattern c.in_ok-numbers.ensures.front c.in_ok-deliver_squares.ensures.text
 
 pub returns-clause-flushed : goal.returns-clause-flushed
 returns-clause-flushed g c = search rules
@@ -100,23 +93,14 @@ returns-in_err-pattern-clause-write_told g c = no_failure _ _ c.requires.writes 
 
 pub returns-in_err-numbers-clause-err : goal.returns-in_err-numbers-clause-err
 returns-in_err-numbers-clause-err g c =
-    memory_wanted _ _ _ _ c.from_residual-in_err-numbers.result _ c.in_err-numbers.ensures.kind c.from_residual-in_err-numbers.ensures.1
+    let p = err_from_is_err_and c.from_residual-in_err-numbers.result c.from_residual-in_err-numbers.ensures.1 in
+    rw (p.1, p.2) (by_reading (by_want (inl (ap fault_of c.in_err-numbers.ensures.kind))))
 
 pub returns-in_err-numbers-clause-unwritten : goal.returns-in_err-numbers-clause-unwritten
 returns-in_err-numbers-clause-unwritten g c = as_it_was c.from_residual-in_err-numbers.result _
 
 pub returns-in_err-numbers-clause-write_told : goal.returns-in_err-numbers-clause-write_told
 returns-in_err-numbers-clause-write_told g c = no_failure _ _ c.requires.writes c.requires.takes
-
-pub returns-in_err-front-clause-err : goal.returns-in_err-front-clause-err
-returns-in_err-front-clause-err g c =
-    memory_wanted _ _ _ _ c.from_residual-in_err-front.result _ c.in_err-front.ensures.kind c.from_residual-in_err-front.ensures.1
-
-pub returns-in_err-front-clause-unwritten : goal.returns-in_err-front-clause-unwritten
-returns-in_err-front-clause-unwritten g c = as_it_was c.from_residual-in_err-front.result _
-
-pub returns-in_err-front-clause-write_told : goal.returns-in_err-front-clause-write_told
-returns-in_err-front-clause-write_told g c = no_failure _ _ c.requires.writes c.requires.takes
 
 pub returns-in_err-pattern-clause-needed : goal.returns-in_err-pattern-clause-needed
 returns-in_err-pattern-clause-needed g c =

@@ -23,5 +23,5 @@ returns-in_err-write_square-clause-text g c =
 pub returns-clause-text : goal.returns-clause-text
 returns-clause-text g c =
     let wrote = whole-written c.args.pattern.now.rule (g.S.Squares.content c.args.squares.now c.args.pattern.now.root) _ _ _ _ c.args.front.items _
-    (ap (map (g.S.Squares.content c.args.squares.now)) c.requires.none) c.in_ok-write_square.ensures.walked c.in_ok-write_square.ensures.text in
+    (ap (map (g.S.Squares.content c.args.squares.now)) c.requires.none) c.in_ok-write_square.ensures.wrote.walked c.in_ok-write_square.ensures.wrote.text in
     front-told _ _ _ _ wrote (g.W.Sink.contents c.deliver.new.writer) _ c.deliver.result refl (rw c.deref.ensures.value at c.deliver.ensures.text)
