@@ -16,7 +16,8 @@ span_facts column row len n m e = (grind arith, grind arith, grind arith)
 module _ (h : ℕ) (x y i j : ℤ) (column row len n m : ℕ) (e : pos column ≡ x +ℤ pos h) (f : pos row ≡ y +ℤ pos h) (p : i +ℤ pos h ≡ pos n)
     (q : j +ℤ pos h ≡ pos m) where
   pub span_from_run : j ≡ y → x ≤ℤ i → i <ℤ (x +ℤ pos len) → spans column row len n m ≡ true
-  span_from_run same from to = span_test column row len n m (omega (arith, ints, e, f, p, q, same)) (omega (arith, ints, e, p, from)) (omega (arith, ints, e, p, to))
+  span_from_run same from to =
+      span_test column row len n m (omega (arith, ints, e, f, p, q, same)) (omega (arith, ints, e, p, from)) (omega (arith, ints, e, p, to))
 
   pub run_from_span : spans column row len n m ≡ true → (j ≡ y) × (x ≤ℤ i) × (i <ℤ (x +ℤ pos len))
   run_from_span g =

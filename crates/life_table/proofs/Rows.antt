@@ -56,15 +56,15 @@ said_rows =
     []
 
 said_as_written : map (λ row. says row.0) said_rows ≡ map (λ row. row.1) said_rows
-unfolding parse_line parse_descriptor name_of section_of table_texts entry_of states_listed entries_of variable_states variable_of transition_of rule_of life_sets
-    four_sets
+unfolding parse_line parse_descriptor name_of section_of table_texts entry_of states_listed entries_of variable_states variable_of transition_of
+    rule_of life_sets four_sets
 said_as_written = refl
 
 -- states 64 and 255
 high_states : (says (codes "@RULE A" ∷ codes "@TABLE" ∷ codes "n_states:256" ∷ codes "neighborhood:Moore" ∷ codes "symmetries:permute" ∷ codes "var h={64,255}"
     ∷ [])).vars ≡ record { name = codes "h"; states = 0 ∷ 1 ∷ 0 ∷ 2 ^ 63 ∷ [] } ∷ []
-unfolding parse_line parse_descriptor name_of section_of table_texts entry_of states_listed entries_of variable_states variable_of transition_of rule_of life_sets
-    four_sets
+unfolding parse_line parse_descriptor name_of section_of table_texts entry_of states_listed entries_of variable_states variable_of transition_of
+    rule_of life_sets four_sets
 high_states = refl
 
 -- texts, and which rule each of their lines breaks

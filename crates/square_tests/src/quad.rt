@@ -154,23 +154,6 @@ fn orders_do_not_matter(rt: HostRuntime) {
     assert!(rt; orders(Shared::new(rt.alloc(), 1000)) == Ok((true, true)));
 }
 
-// The levels of squares of level 9 with one cell after trimming: (4, 0) with the least levels 1 and 3, then (0, 0).
-fn trims<S: Squares>(squares: &mut S) -> Result<[u8; 4], Kind> {
-    let blank = squares.empty(9);
-    let a = put(squares, blank, 4, 0, 1, 1)?;
-    let a1 = trim(squares, a, 1)?;
-    let a3 = trim(squares, a, 3)?;
-    let b = put(squares, blank, 0, 0, 1, 1)?;
-    let b1 = trim(squares, b, 1)?;
-    let b3 = trim(squares, b, 3)?;
-    Ok([
-        squares.level(a1),
-        squares.level(a3),
-        squares.level(b1),
-        squares.level(b3),
-    ])
-}
-
 // A square that was trimmed from level 9 to level 4, grown and trimmed again: the grown one, the three levels, and whether each
 // trimmed one has the Id of the square that is made at level 4.
 fn grown_and_back<S: Squares>(squares: &mut S) -> Result<(Id, [u8; 3], [bool; 2]), Kind>
@@ -201,27 +184,17 @@ fn counted_and_back<S: SharedSquares>(alloc: Global, squares: &mut S) -> Result<
     Ok((population(alloc, squares, grown)?, levels, same))
 }
 
-// What both of these find in one store that shares.
-fn shared_trims(alloc: Global) -> (Result<[u8; 4], Kind>, Result<Counted, Kind>) {
-    let mut squares = Shared::new(alloc, 1000);
-    let levels = trims(&mut squares);
-    (levels, counted_and_back(alloc, &mut squares))
-}
-
-// The levels of both in one store that doesn't share.
-fn plain_trims(alloc: Global) -> (Result<[u8; 4], Kind>, Result<[u8; 3], Kind>) {
-    let mut plain = Plain::new(alloc, 1000);
-    let levels = trims(&mut plain);
-    let grown = grown_and_back(&mut plain).map(|(_grown, levels, _same)| levels);
-    (levels, grown)
+// The levels in a store that doesn't share.
+fn plain_levels(alloc: Global) -> Result<[u8; 3], Kind> {
+    let (_grown, levels, _same) = grown_and_back(&mut Plain::new(alloc, 1000))?;
+    Ok(levels)
 }
 
 #[test]
 fn squares_are_trimmed(rt: HostRuntime) {
-    let (levels, grown) = shared_trims(rt.alloc());
-    assert!(rt; levels == Ok([4, 4, 1, 3]) && grown == Ok((1, [4, 5, 4], [true, true])));
-    let (levels, grown) = plain_trims(rt.alloc());
-    assert!(rt; levels == Ok([4, 4, 1, 3]) && grown == Ok([4, 5, 4]));
+    let grown = counted_and_back(rt.alloc(), &mut Shared::new(rt.alloc(), 1000));
+    assert!(rt; grown == Ok((1, [4, 5, 4], [true, true])));
+    assert!(rt; plain_levels(rt.alloc()) == Ok([4, 5, 4]));
 }
 
 // A cell in a square of level 9, which takes 9 nodes, and then that square grown, trimmed, and with another cell.
