@@ -1,10 +1,12 @@
 """The doubles of a folder: prints `FILE = FILE` for each file that is the same pattern as an earlier one, and `FILE: line N: KIND` for each
-that is no pattern, or why it can't be read, on standard error. It keeps the SHA-256 hash of each different text. The status is 0, or 1 where a file
-has no text. usage: doubles.py FOLDER"""
+that is no pattern, or why it can't be read, on standard error. Files that gzip packed are unpacked. It keeps the SHA-256 hash of each different text.
+The status is 0, or 1 where a file has no text. usage: doubles.py FOLDER"""
 import ctypes
+import gzip
 import hashlib
 import pathlib
 import sys
+import zlib
 
 library = ctypes.CDLL("libgolly_canon.so.0")
 SQUARES = ctypes.c_uint64(1 << 31)
@@ -47,11 +49,16 @@ def text_of(stream, file):
     return text.raw
 
 
+def is_packed(path):
+    with open(path, "rb") as file:
+        return file.read(2) == b"\x1f\x8b"
+
+
 def canonical(path):
     """The canonical text of a file."""
     stream = Stream()
     try:
-        with open(path, "rb") as file:
+        with (gzip.open if is_packed(path) else open)(path, "rb") as file:
             return text_of(ctypes.byref(stream), file)
     finally:
         library.golly_canon_close(ctypes.byref(stream))
@@ -65,7 +72,7 @@ def main(words):
     for path in sorted(it for it in pathlib.Path(words[1]).rglob("*") if it.is_file()):
         try:
             key = hashlib.sha256(canonical(path)).digest()
-        except (OSError, Refused) as why:
+        except (OSError, EOFError, zlib.error, Refused) as why:
             print(f"{path}: {why}", file=sys.stderr)
             status = 1
             continue

@@ -236,7 +236,10 @@ verdict "examples/pieces.c refuses an empty file" "$([ "$(./pieces < files/empty
 mkdir -p 'some files/deeper'
 cp files/glider.rle files/wire.rle files/child.mc 'some files'
 printf '[M2]\n#R b3s23\n.*$..*$***$\n4 0 0 0 1\n' > 'some files/deeper/a glider.mc'
-printf '%s\n' 'some files/child.mc: line 4: BadChild' 'some files/deeper/a glider.mc = some files/glider.rle' > wanted
+gzip -c files/glider.rle > 'some files/packed.rle.gz'
+head -c 30 'some files/packed.rle.gz' > 'some files/cut.gz'
+printf '%s\n' 'some files/child.mc: line 4: BadChild' 'some files/cut.gz: Compressed file ended before the end-of-stream marker was reached' \
+    'some files/deeper/a glider.mc = some files/glider.rle' 'some files/deeper/a glider.mc = some files/packed.rle.gz' > wanted
 python3 -B "$top/examples/doubles.py" 'some files' > out 2>&1
 verdict "examples/doubles.py" "$([ $? = 1 ] || echo ' another status')$(sort out | diff - wanted)"
 verdict "examples/doubles.py wants a folder" "$(python3 -B "$top/examples/doubles.py" 'no folder' 2> /dev/null && echo ' status 0')"

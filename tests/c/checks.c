@@ -440,6 +440,47 @@ static void threads(void)
     check(wrong_one == 0 && wrong_two == 0, "two threads at once");
 }
 
+/* Cells at corners of the plane, and rows over its width: calls on these go down all levels. */
+#define CORNERS "#CXRLE Pos=-2305843009213693952,-2305843009213693952\nx = 2, y = 2\no4611686018427387902bo4611686018427387903$o!\n"
+#define ROWS "#CXRLE Pos=-2305843009213693952,-1\nx = 1, y = 2\n4611686018427387904o$4611686018427387904o!\n"
+
+static void *deep_calls(void *given_count)
+{
+    static unsigned char own[8192];
+    golly_canon_stream stream = {0};
+    size_t length;
+    uint64_t at;
+    uint32_t same, status;
+    long *wrong = given_count;
+    *wrong += golly_canon_canon(BYTES(CORNERS), LIMIT, own, sizeof own, &length, &at) != GOLLY_CANON_OK;
+    *wrong += golly_canon_show(BYTES(CORNERS), LIMIT, own, sizeof own, &length, &at) != GOLLY_CANON_OK;
+    *wrong += golly_canon_to_rle(BYTES(CORNERS), LIMIT, own, sizeof own, &length, &at) != GOLLY_CANON_OK;
+    *wrong += golly_canon_step(BYTES(CORNERS), LIMIT, own, sizeof own, &length, &at) != GOLLY_CANON_OK;
+    *wrong += golly_canon_same(BYTES(CORNERS), BYTES(ROWS), LIMIT, &same, &at) != GOLLY_CANON_OK || same;
+    *wrong += golly_canon_canon(BYTES(ROWS), LIMIT, own, sizeof own, &length, &at) != GOLLY_CANON_OK;
+    *wrong += golly_canon_show(BYTES(ROWS), LIMIT, own, sizeof own, &length, &at) != GOLLY_CANON_OK;
+    status = golly_canon_open_step(&stream, LIMIT);
+    if (status == GOLLY_CANON_OK)
+        status = golly_canon_feed(&stream, BYTES(CORNERS), &at);
+    *wrong += status != GOLLY_CANON_OK || golly_canon_finish(&stream, own, sizeof own, &length, &at) != GOLLY_CANON_OK;
+    golly_canon_close(&stream);
+    return NULL;
+}
+
+/* The stack that the header names suffices. */
+static void small_stack(void)
+{
+    pthread_attr_t attributes;
+    pthread_t small;
+    long wrong = 0;
+    int begun = pthread_attr_init(&attributes) == 0 && pthread_attr_setstacksize(&attributes, 64 << 10) == 0
+                && pthread_create(&small, &attributes, deep_calls, &wrong) == 0;
+    check(begun, "a thread with a small stack begins");
+    if (begun)
+        pthread_join(small, NULL);
+    check(wrong == 0, "calls that go down all levels take a small stack");
+}
+
 int main(void)
 {
     texts();
@@ -448,6 +489,7 @@ int main(void)
     streams();
     names();
     threads();
+    small_stack();
     printf("%d passed, %d failed\n", passed, failed);
     return failed != 0;
 }
