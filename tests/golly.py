@@ -189,12 +189,10 @@ def rule_tables(folder):
 def soup(rng, rule, states):
     """A random pattern of a rule as RLE, somewhere on the plane."""
     width, height, share = rng.randrange(1, 40), rng.randrange(1, 40), rng.choice([0.1, 0.3, 0.5])
-    one, dead = ("o", "b") if LIFE.fullmatch(rule) else (None, ".")
-    letters = [dead, *[one or letters_of(state) for state in range(1, states)]]
-    rows = ["".join(rng.choice(letters[1:]) if rng.random() < share else dead for _ in range(width)) for _ in range(height)]
-    corner = rng.choice([0, rng.randrange(-50, 50), rng.randrange(-10**6, 10**6)])
-    place = f"#CXRLE Pos={corner},{rng.randrange(-50, 50)}\n"
-    return f"{place}x = {width}, y = {height}, rule = {rule}\n{f'${chr(10)}'.join(rows)}!\n".encode()
+    dead, *live = ["b", "o"] if LIFE.fullmatch(rule) else [".", *map(letters_of, range(1, states))]
+    rows = "$\n".join("".join(rng.choice(live) if rng.random() < share else dead for _ in range(width)) for _ in range(height))
+    x = rng.choice([0, rng.randrange(-50, 50), rng.randrange(-10**6, 10**6)])
+    return f"#CXRLE Pos={x},{rng.randrange(-50, 50)}\nx = {width}, y = {height}, rule = {rule}\n{rows}!\n".encode()
 
 
 def letters_of(state):
@@ -224,12 +222,14 @@ def random_patterns(tables, count, seed):
 
 
 class Judge:
+    """Runs the checks of each pattern."""
+
     def __init__(self, program, golly, tables):
         self.program, self.golly = program, golly
         self.tables = {rule: path for rule, (path, _) in tables.items()}
 
     def judged(self, given):
-        """The checks that a pattern passed, what was refused, and what is wrong, if anything."""
+        """What was checked of a pattern, or why it was refused; and what is wrong, if anything."""
         name, ending, text = given
         done = []
         try:
