@@ -2,7 +2,7 @@
  *
  * A file is bytes in extended RLE or in macrocell. A call reads the bytes that it is handed, answers a status, and keeps nothing, but for the calls
  * on a stream, which keep in it what came of its file so far. There is no other state behind the calls, so threads may call at the same time, each on
- * memory and streams of its own. What the calls answer is proved for any bytes (docs/PROOFS.md of the project says what). The proof takes for granted
+ * memory and streams of its own. No call prints, opens a file or ends the process. What the calls answer is proved for any bytes (docs/PROOFS.md of the project says what). The proof takes for granted
  * what stands here under "The caller guarantees".
  *
  *     static unsigned char text[4096];
@@ -30,6 +30,7 @@
  *  - Until the call returns, no other thread writes what it reads, or touches what it writes.
  *  - malloc, realloc and free are those of one allocator, which aligns a block to each power of two up to 16 that divides its size.
  *  - No call is made from a signal handler, or from the child that a process with threads has forked.
+ *  - There is stack: calls go down the levels of the plane by recursion, 62 at most. 64 KB are enough in the tests; no proof speaks of it.
  */
 #ifndef GOLLY_CANON_H
 #define GOLLY_CANON_H

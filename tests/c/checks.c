@@ -442,6 +442,7 @@ static void threads(void)
 
 /* Cells at corners of the plane, and rows over its width: calls on these go down all levels. */
 #define CORNERS "#CXRLE Pos=-2305843009213693952,-2305843009213693952\nx = 2, y = 2\no4611686018427387902bo4611686018427387903$o!\n"
+#define NAMED_CORNERS "#CXRLE Pos=-2305843009213693952,0\nx = 1, y = 1, rule = Spread\nA4611686018427387902.B!\n"
 #define ROWS "#CXRLE Pos=-2305843009213693952,-1\nx = 1, y = 2\n4611686018427387904o$4611686018427387904o!\n"
 
 static void *deep_calls(void *given_count)
@@ -450,12 +451,14 @@ static void *deep_calls(void *given_count)
     golly_canon_stream stream = {0};
     size_t length;
     uint64_t at;
-    uint32_t same, status;
+    uint32_t same, in_table, status;
     long *wrong = given_count;
     *wrong += golly_canon_canon(BYTES(CORNERS), LIMIT, own, sizeof own, &length, &at) != GOLLY_CANON_OK;
     *wrong += golly_canon_show(BYTES(CORNERS), LIMIT, own, sizeof own, &length, &at) != GOLLY_CANON_OK;
     *wrong += golly_canon_to_rle(BYTES(CORNERS), LIMIT, own, sizeof own, &length, &at) != GOLLY_CANON_OK;
     *wrong += golly_canon_step(BYTES(CORNERS), LIMIT, own, sizeof own, &length, &at) != GOLLY_CANON_OK;
+    *wrong += golly_canon_step_by_table(BYTES(NAMED_CORNERS), BYTES(SPREAD), LIMIT, own, sizeof own, &length, &at, &in_table)
+              != GOLLY_CANON_OUT_OF_PLANE;
     *wrong += golly_canon_same(BYTES(CORNERS), BYTES(ROWS), LIMIT, &same, &at) != GOLLY_CANON_OK || same;
     *wrong += golly_canon_canon(BYTES(ROWS), LIMIT, own, sizeof own, &length, &at) != GOLLY_CANON_OK;
     *wrong += golly_canon_show(BYTES(ROWS), LIMIT, own, sizeof own, &length, &at) != GOLLY_CANON_OK;
