@@ -17,3 +17,16 @@ pub struct Cell {
     /// The state; 0 where the cell is dead.
     pub state: State,
 }
+
+/// Cells of one state, side by side in a row: from the cell `x`, `y` on, eastwards.
+#[derive(Clone, Copy, Debug, PartialEq, Eq)]
+pub struct Run {
+    /// The column of the first cell.
+    pub x: i64,
+    /// The row.
+    pub y: i64,
+    /// How many cells.
+    pub len: u64,
+    /// Their state.
+    pub state: State,
+}

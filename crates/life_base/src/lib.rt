@@ -24,7 +24,7 @@ mod writing;
 
 pub use appending::{append, append_number, append_signed, append_u128};
 pub use bounds::Bounds;
-pub use cell::{Cell, MAX_LEVEL, State};
+pub use cell::{Cell, MAX_LEVEL, Run, State};
 pub use devices::{Device, Sink, Source};
 pub use fault::{Fault, Place, StepFault};
 pub use items::Items;
