@@ -3,8 +3,8 @@
 use crate::answer::Unanswered;
 use crate::row::{halves, number_of};
 use crate::shown::{Show, show_bool, show_bytes, show_each, show_end, show_fault, show_rule};
-use life_base::{Cell, Rule, lines};
-use life_rle::{RleFile, RleLines, Run, read_rle, sorted_cells, write_rle};
+use life_base::{Cell, Rule, Run, lines};
+use life_rle::{RleFile, RleLines, read_rle, sorted_cells, write_rle};
 use std::alloc::Global;
 
 impl Show for Run {

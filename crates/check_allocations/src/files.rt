@@ -1,8 +1,8 @@
 //! RLE and macrocell files.
 
-use life_base::{Cell, Fault, Kind, Rule};
+use life_base::{Cell, Fault, Kind, Rule, Run};
 use life_mc::{Line, read_mc, write_mc};
-use life_rle::{RleLines, Run, read_rle, sorted_cells, write_rle};
+use life_rle::{RleLines, read_rle, sorted_cells, write_rle};
 use std::alloc::Global;
 
 // A glider.

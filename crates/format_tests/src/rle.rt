@@ -1,7 +1,7 @@
 //! Tests of `life_rle`: a file of many lines. What is read and written otherwise are rows of the crate `call_rows`.
 
-use life_base::{Fault, Kind, append};
-use life_rle::{Run, read_rle};
+use life_base::{Fault, Kind, Run, append};
+use life_rle::read_rle;
 use std::alloc::Global;
 
 /// A file of 3,000 rows with a cell each, and an end.

@@ -11,7 +11,7 @@ use Rattle.life_base.specs.Text.{begins_with, words_of}
 use Rattle.life_rle.specs.Position.{signed_number, Field, Corner, Generation, Other, default_position, corner_of, corner_in, field_of, with_field, and_then, position_with, position_of}
 use Rattle.life_base.specs.Numbers.{u64_of}
 use Rattle.life_base.specs.Text.{is_digit_text, value_of}
-use Rattle.life_rle.specs.declared.file.Run.{Run}
+use Rattle.life_base.specs.declared.cell.Run.{Run}
 use Rattle.life_rle.specs.declared.cursor.Cursor.{Cursor}
 use Rattle.life_rle.specs.declared.item.Item.{Item}
 use Rattle.life_rle.specs.declared.item.Item.TheVariants.{Cells, RowEnds}

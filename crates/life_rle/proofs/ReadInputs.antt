@@ -6,7 +6,7 @@ use Rattle.life_base.specs.declared.kind.Kind.{Kind}
 use Rattle.life_base.specs.declared.kind.Kind.TheVariants.{NoHeader}
 use Rattle.life_base.specs.declared.fault.Fault.{Fault}
 use Rattle.life_base.proofs.NumberedLines.{texts, number_at, length_texts, lines_around}
-use Rattle.life_rle.specs.declared.file.Run.{Run}
+use Rattle.life_base.specs.declared.cell.Run.{Run}
 use Rattle.life_rle.specs.declared.position.Position.{Position}
 use Rattle.life_rle.specs.Position.{default_position}
 use Rattle.life_rle.specs.Grammar.{IsPreamble, Breaks}

@@ -4,7 +4,7 @@ use Rattle.life_base.specs.declared.kind.Kind.{Kind}
 use Rattle.life_base.specs.declared.rule.Rule.{Rule}
 use Rattle.life_rle.specs.declared.cursor.Cursor.{Cursor}
 use Rattle.life_rle.specs.declared.item.Item.{Item}
-use Rattle.life_rle.specs.declared.file.Run.{Run}
+use Rattle.life_base.specs.declared.cell.Run.{Run}
 use Rattle.life_rle.specs.declared.item.Item.TheVariants.{Cells, RowEnds}
 use Rattle.life_rle.specs.Items.{Next, Spelled, Broken, next_of, Spells}
 use Rattle.life_rle.specs.Pattern.{Placed, item_fault, first_fault, first_kind}

@@ -7,7 +7,7 @@ use Rattle.life_rle.specs.declared.item.Item.{Item}
 use Rattle.life_rle.specs.declared.item.Token.{Token}
 use Rattle.life_rle.specs.declared.item.Token.TheVariants as found
 use Rattle.life_rle.specs.declared.cursor.Cursor.{Cursor}
-use Rattle.life_rle.specs.declared.file.Run.{Run}
+use Rattle.life_base.specs.declared.cell.Run.{Run}
 use Rattle.life_rle.specs.Items.{Next, End, Mark, Spelled, Broken, Spells}
 use Rattle.life_rle.specs.Plane.{is_coordinate}
 use Rattle.life_rle.specs.Pattern.{item_fault, first_fault}

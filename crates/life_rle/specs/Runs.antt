@@ -2,7 +2,7 @@
 -- format).
 use Rattle.std.specs.Prelude.{ℕ, Bool, ◌==◌, ◌||◌, ◌&&◌, nat_le, zero, suc, List, [], ◌∷◌, ℤ}
 use Rattle.std.specs.Str.{byte}
-use Rattle.life_rle.specs.declared.file.Run.{Run}
+use Rattle.life_base.specs.declared.cell.Run.{Run}
 use Rattle.life_rle.specs.declared.item.Item.{Item}
 use Rattle.life_rle.specs.declared.item.Item.TheVariants.{Cells, RowEnds}
 use Rattle.life_rle.specs.Pattern.{Placed}

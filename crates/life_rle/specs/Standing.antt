@@ -1,7 +1,7 @@
 -- What a reader of lines keeps of the lines so far.
 use Rattle.std.specs.Prelude.{◌≡◌, ℕ, Bool, true, false, List, [], ◌∷◌, ◌++◌}
 use Rattle.life_rle.specs.declared.cursor.Cursor.{Cursor}
-use Rattle.life_rle.specs.declared.file.Run.{Run}
+use Rattle.life_base.specs.declared.cell.Run.{Run}
 use Rattle.life_rle.specs.declared.lines.Phase.{Phase}
 use Rattle.life_rle.specs.declared.lines.Phase.TheVariants as phases
 use Rattle.life_rle.specs.Pattern.{Rle}

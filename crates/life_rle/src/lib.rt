@@ -18,7 +18,7 @@ mod sorted;
 mod wrapping;
 mod writing;
 
-pub use file::{RleFile, Run};
+pub use file::RleFile;
 pub use lines::RleLines;
 pub use reading::read_rle;
 pub use sorted::sorted_cells;

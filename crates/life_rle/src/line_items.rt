@@ -11,10 +11,9 @@ ghost use Rattle.life_rle.specs.File.{IsFrontOf};
 ghost use Rattle.life_rle.specs.Reading.{ReadsItems, last_of, ItemsBreak};
 
 use crate::cursor::{Cursor, item_fault, moved};
-use crate::file::Run;
 use crate::item::{Item, Token, next_item};
 use bstr::ByteSlice;
-use life_base::{Kind, MAX_LEVEL, Rule};
+use life_base::{Kind, MAX_LEVEL, Rule, Run};
 
 /// Where the items of a line end: the place behind them, and whether `!` stands there.
 #[derive(Clone, Copy)]

@@ -10,11 +10,10 @@ ghost use Rattle.life_rle.specs.declared.line.Later.TheVariants.{Data};
 ghost use Rattle.life_rle.specs.declared.position.Position.{Position};
 
 use crate::cursor::Cursor;
-use crate::file::Run;
 use crate::line::{Later, Opening, later_of, opening_of};
 use crate::line_items::read_items;
 use crate::position::Position;
-use life_base::{Kind, LineLog, MAX_LEVEL, Rule};
+use life_base::{Kind, LineLog, MAX_LEVEL, Rule, Run};
 use std::alloc::Global;
 use std::marker::Model;
 use std::mem;

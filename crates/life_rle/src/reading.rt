@@ -8,10 +8,10 @@ ghost use Rattle.life_rle.specs.Grammar.{Breaks, is_rle_kind};
 ghost use Rattle.life_rle.specs.Pattern.{Rle};
 ghost use Rattle.life_rle.specs.PlainFile.{IsPlainRle};
 
-use crate::file::{RleFile, Run};
+use crate::file::RleFile;
 use crate::lines::RleLines;
 use crate::position::Position;
-use life_base::{Fault, Items, MAX_LEVEL, Rule, lines};
+use life_base::{Fault, Items, MAX_LEVEL, Rule, Run, lines};
 use std::alloc::Global;
 
 /// Takes the line of this number, and puts its runs behind the runs.
