@@ -7,10 +7,11 @@ use Rattle.life_base.specs.declared.cell.TheConstants.{MAX_LEVEL}
 use Rattle.life_base.specs.Tree.{Tree}
 use Rattle.life_quad.specs.declared.id.Id.{Id}
 use Rattle.life_base.proofs.Squares.{is_inside, inside_test}
+use Rattle.life_base.specs.declared.cell.Run.{Run}
 use Rattle.life_strip.specs.declared.plane.Plane.{Plane}
 use Rattle.life_strip.specs.Strip.{id_at}
 use Rattle.life_strip.specs.Picture.{picture, height}
-use Rattle.life_strip.specs.Given.{GivenRun, IsBehind, IsNext, AreInOrder, state_by, by_columns, half_plane}
+use Rattle.life_strip.specs.Given.{IsBehind, IsNext, AreInOrder, state_by, by_columns, half_plane}
 use Rattle.life_strip.specs.Needed.{SomeSquare}
 use Rattle.life_strip.specs.Plane.{IsFilled, IsUnfilled, IsFree, AddsRun, state_so_far, cell_so_far, on_plane}
 use Rattle.life_strip.specs.Filling.{Building, IsFilling, EmptyFills, FillingStays}
@@ -20,15 +21,15 @@ use Rattle.life_strip.proofs.PlaneLemmas.{plane_inside, filled-keeps, cells-keep
 use Rattle.life_strip.proofs.GivenLemmas.{order-push, next-last, state_by-push}
 
 -- one run more
-pub filling-push : (knows : Id → Type 0) (content : Id → Tree) (new : Plane) (before : ℤ → ℤ → ℕ) (runs : List GivenRun) (run : GivenRun) → AreInOrder runs
+pub filling-push : (knows : Id → Type 0) (content : Id → Tree) (new : Plane) (before : ℤ → ℤ → ℕ) (runs : List Run) (run : Run) → AreInOrder runs
     → IsNext runs run.x run.y
-    → ((x y : ℤ) → before x y ≡ state_by runs x y) → IsFilled knows content new → AddsRun before (cell_so_far content new) run.x run.y run.len run.state
+    → ((x y : ℤ) → before x y ≡ state_by runs x y) → IsFilled knows content new → AddsRun before (cell_so_far content new) run
     → ((x y : ℤ) → run.y <ℤ y → IsFree new x y) → ((x : ℤ) → (run.x +ℤ pos run.len) ≤ℤ x → IsFree new x run.y)
     → IsFilling knows content (record { runs = runs ++ run ∷ []; kept = new })
 filling-push knows content new before runs run order next cells filled adds below beside =
     record {
       filled = filled;
-      cells = λ x y. state_by-push runs run x y (before x y) (cell_so_far content new x y) order next (cells x y) (adds.run x y) (adds.others x y);
+      cells = λ x y. state_by-push runs run x y (before x y) (cell_so_far content new x y) order next (cells x y) (adds.inside x y) (adds.others x y);
       order = order-push runs run order next;
       next = λ x y north h. free x y (next-last runs run x y h);
     }

@@ -8,21 +8,22 @@ use Rattle.std.proofs.lemmas.Int.{ints}
 use Rattle.std.proofs.lemmas.List.Quantifiers.{all_pairs_push}
 use Rattle.std.proofs.lemmas.Option.{get_or_from_slice_get, slice_get-get_or, slice_get_within}
 use Rattle.life_quad.specs.Cells.{IsInRun}
-use Rattle.life_strip.specs.Given.{GivenRun, covers, state_by, IsBehind, IsNext, AreInOrder, RunsAreApart, RunsGrow}
+use Rattle.life_base.specs.declared.cell.Run.{Run}
+use Rattle.life_strip.specs.Given.{covers, state_by, IsBehind, IsNext, AreInOrder, RunsAreApart, RunsGrow}
 
 -- what holds of all but the first
 pub all_rest : {X : Type 0} (P : X → Type 0) (x : X) (xs : List X) → All P (x ∷ xs) → All P xs
 all_rest P x xs h k d lt = h (suc k) d (omega (arith, lt))
 
 -- the test of a pair and a run
-pub covers-true : (run : GivenRun) (x y : ℤ) → IsInRun run.x run.y run.len x y → covers run x y ≡ true
+pub covers-true : (run : Run) (x y : ℤ) → IsInRun run.x run.y run.len x y → covers run x y ≡ true
 covers-true run x y h =
     let row : int_eq y run.y ≡ true = let e = h.same_row in grind (arith, ints) in
     let from : int_le run.x x ≡ true = let e = h.from in grind (arith, ints) in
     let to : int_lt x (run.x +ℤ pos run.len) ≡ true = let e = h.to in grind (arith, ints) in
     λ i. row i && (from i && to i)
 
-pub covers-run : (run : GivenRun) (x y : ℤ) → covers run x y ≡ true → IsInRun run.x run.y run.len x y
+pub covers-run : (run : Run) (x y : ℤ) → covers run x y ≡ true → IsInRun run.x run.y run.len x y
 covers-run run x y e = by (int_eq y run.y) refl (int_le run.x x) refl (int_lt x (run.x +ℤ pos run.len)) refl
   where
     by : (a : Bool) → int_eq y run.y ≡ a → (b : Bool) → int_le run.x x ≡ b → (c : Bool) → int_lt x (run.x +ℤ pos run.len) ≡ c → IsInRun run.x run.y run.len x y
@@ -32,23 +33,23 @@ covers-run run x y e = by (int_eq y run.y) refl (int_le run.x x) refl (int_lt x 
     by false p b q c r = absurd (let f : false ≡ true = sym (λ i. p i && (int_le run.x x && int_lt x (run.x +ℤ pos run.len))) ∙ e in cc)
 
 -- a run and one behind it have no pair in common
-pub behind-apart : (a b : GivenRun) (x y : ℤ) → IsBehind a b.x b.y → IsInRun a.x a.y a.len x y → IsInRun b.x b.y b.len x y → ⊥
+pub behind-apart : (a b : Run) (x y : ℤ) → IsBehind a b.x b.y → IsInRun a.x a.y a.len x y → IsInRun b.x b.y b.len x y → ⊥
 behind-apart a b x y (inl h) p q = let e = p.same_row in let f = q.same_row in omega (arith, ints, h, e, f)
 behind-apart a b x y (inr (e, h)) p q = let f = p.to in let g = q.from in omega (arith, ints, h, f, g)
 
 -- behind a run that is behind another one
-behind-later : (a b : GivenRun) (x y : ℤ) → IsBehind a b.x b.y → IsBehind b x y → IsBehind a x y
+behind-later : (a b : Run) (x y : ℤ) → IsBehind a b.x b.y → IsBehind b x y → IsBehind a x y
 behind-later a b x y (inl h) (inl k) = inl (omega (arith, ints, h, k))
 behind-later a b x y (inl h) (inr (e, k)) = inl (omega (arith, ints, h, e))
 behind-later a b x y (inr (e, h)) (inl k) = inl (omega (arith, ints, e, k))
 behind-later a b x y (inr (e, h)) (inr (f, k)) = inr (e ∙ f, omega (arith, ints, h, k))
 
 -- behind the last run is behind all
-pub behind-all : (runs : List GivenRun) (x y : ℤ) → AreInOrder runs → IsNext runs x y → (k : ℕ) (d : GivenRun) → k < length runs
+pub behind-all : (runs : List Run) (x y : ℤ) → AreInOrder runs → IsNext runs x y → (k : ℕ) (d : Run) → k < length runs
     → IsBehind (get_or runs k d) x y
 behind-all runs x y order next k d lt = by (nat_lt k (length runs - 1)) refl
   where
-    last : GivenRun
+    last : Run
     last = get_or runs (length runs - 1) d
 
     behind : IsBehind last x y
@@ -64,14 +65,14 @@ behind-all runs x y order next k d lt = by (nat_lt k (length runs - 1)) refl
         subst (λ n. IsBehind (get_or runs n d) x y) same behind
 
 -- one run more, in order
-pub order-push : (runs : List GivenRun) (run : GivenRun) → AreInOrder runs → IsNext runs run.x run.y → AreInOrder (runs ++ run ∷ [])
+pub order-push : (runs : List Run) (run : Run) → AreInOrder runs → IsNext runs run.x run.y → AreInOrder (runs ++ run ∷ [])
 order-push runs run order next = all_pairs_push (λ a b. IsBehind a b.x b.y) runs run order (behind-all runs run.x run.y order next)
 
-before_last : (runs : List GivenRun) (run : GivenRun) → length (runs ++ run ∷ []) - 1 ≡ length runs
+before_last : (runs : List Run) (run : Run) → length (runs ++ run ∷ []) - 1 ≡ length runs
 before_last runs run = let n = length-append runs (run ∷ []) in omega (arith, n)
 
 -- the next run is judged by the last one
-pub next-push : (runs : List GivenRun) (run : GivenRun) (x y : ℤ) → IsBehind run x y → IsNext (runs ++ run ∷ []) x y
+pub next-push : (runs : List Run) (run : Run) (x y : ℤ) → IsBehind run x y → IsNext (runs ++ run ∷ []) x y
 next-push runs run x y h last e =
     let all = runs ++ run ∷ [] in
     let same : run ≡ last =
@@ -79,7 +80,7 @@ next-push runs run x y h last e =
     ∙ get_or_from_slice_get all (length all - 1) last run e in
     subst (λ r. IsBehind r x y) same h
 
-pub next-last : (runs : List GivenRun) (run : GivenRun) (x y : ℤ) → IsNext (runs ++ run ∷ []) x y → IsBehind run x y
+pub next-last : (runs : List Run) (run : Run) (x y : ℤ) → IsNext (runs ++ run ∷ []) x y → IsBehind run x y
 next-last runs run x y h =
     let all = runs ++ run ∷ [] in
     let n = length-append runs (run ∷ []) in
@@ -87,11 +88,11 @@ next-last runs run x y h =
     ∙ ap Some (get_or-append_seam runs run [] run))
 
 -- the states with one run more
-state_by-outside : (runs : List GivenRun) (run : GivenRun) (x y : ℤ) → covers run x y ≡ false → state_by (runs ++ run ∷ []) x y ≡ state_by runs x y
+state_by-outside : (runs : List Run) (run : Run) (x y : ℤ) → covers run x y ≡ false → state_by (runs ++ run ∷ []) x y ≡ state_by runs x y
 state_by-outside [] run x y e = ap (λ b. if b then run.state else 0) e
 state_by-outside (a ∷ runs) run x y e = ap (λ n. if covers a x y then a.state else n) (state_by-outside runs run x y e)
 
-state_by-inside : (runs : List GivenRun) (run : GivenRun) (x y : ℤ) → All (λ a. covers a x y ≡ false) runs → covers run x y ≡ true
+state_by-inside : (runs : List Run) (run : Run) (x y : ℤ) → All (λ a. covers a x y ≡ false) runs → covers run x y ≡ true
     → state_by (runs ++ run ∷ []) x y ≡ run.state
 state_by-inside [] run x y h e = ap (λ b. if b then run.state else 0) e
 state_by-inside (a ∷ runs) run x y h e =
@@ -99,7 +100,7 @@ state_by-inside (a ∷ runs) run x y h e =
     ∙ state_by-inside runs run x y (all_rest (λ r. covers r x y ≡ false) a runs h) e
 
 -- a pair that another run has is not in this one
-not_covered : (a b : GivenRun) (x y : ℤ) → IsBehind a b.x b.y → IsInRun b.x b.y b.len x y → covers a x y ≡ false
+not_covered : (a b : Run) (x y : ℤ) → IsBehind a b.x b.y → IsInRun b.x b.y b.len x y → covers a x y ≡ false
 not_covered a b x y behind h = by (covers a x y) refl
   where
     by : (t : Bool) → covers a x y ≡ t → covers a x y ≡ false
@@ -107,7 +108,7 @@ not_covered a b x y behind h = by (covers a x y) refl
     by false e = e
 
 -- what is filled with one run more has the states of the runs and that one
-pub state_by-push : (runs : List GivenRun) (run : GivenRun) (x y : ℤ) (before after : ℕ) → AreInOrder runs → IsNext runs run.x run.y
+pub state_by-push : (runs : List Run) (run : Run) (x y : ℤ) (before after : ℕ) → AreInOrder runs → IsNext runs run.x run.y
     → before ≡ state_by runs x y
     → (IsInRun run.x run.y run.len x y → after ≡ run.state) → (¬ IsInRun run.x run.y run.len x y → after ≡ before) → after ≡ state_by (runs ++ run ∷ []) x y
 state_by-push runs run x y before after order next e inside outside = by (covers run x y) refl
@@ -121,7 +122,7 @@ state_by-push runs run x y before after order next e inside outside = by (covers
         outside out ∙ e ∙ sym (state_by-outside runs run x y f)
 
 -- the state of a pair that a run has
-state_by-run : (runs : List GivenRun) (i : ℕ) (a : GivenRun) (x y : ℤ) → AreInOrder runs → slice_get runs i ≡ Some a → IsInRun a.x a.y a.len x y
+state_by-run : (runs : List Run) (i : ℕ) (a : Run) (x y : ℤ) → AreInOrder runs → slice_get runs i ≡ Some a → IsInRun a.x a.y a.len x y
     → state_by runs x y ≡ a.state
 state_by-run [] i a x y order e h = absurd cc
 state_by-run (r ∷ runs) zero a x y order e h =
@@ -138,7 +139,7 @@ state_by-run (r ∷ runs) (suc i) a x y order e h =
 pub runs-apart : RunsAreApart
 runs-apart runs i j a b x y order ea eb ha hb = (by (nat_lt i j) refl (nat_lt j i) refl, state_by-run runs i a x y order ea ha)
   where
-    apart : (k l : ℕ) (c d : GivenRun) → k < l → slice_get runs k ≡ Some c → slice_get runs l ≡ Some d → IsInRun c.x c.y c.len x y → IsInRun d.x d.y d.len x y
+    apart : (k l : ℕ) (c d : Run) → k < l → slice_get runs k ≡ Some c → slice_get runs l ≡ Some d → IsInRun c.x c.y c.len x y → IsInRun d.x d.y d.len x y
         → ⊥
     apart k l c d kl ec ed hc hd =
         let lt = slice_get_within runs l d ed in

@@ -1,6 +1,6 @@
 -- Facts about the cells of the plane as far as it is filled.
 use Rattle.std.proofs.Common.{◌≡◌, ℕ, zero, suc, ◌+◌, ◌-◌, ◌*◌, ◌/◌, ◌%◌, ◌^◌, ◌≤◌, ◌<◌, Bool, true, false, ◌&&◌, nat_lt, nat_le, List, [], ◌∷◌, ◌++◌, length, get_or, All, Option, Some, None, refl, sym, ◌∙◌, ap, subst, arith}
-use Rattle.std.proofs.Common.{ℤ, pos, ◌+ℤ◌, ◌≤ℤ◌, ◌<ℤ◌}
+use Rattle.std.proofs.Common.{ℤ, pos, ◌+ℤ◌, ◌≤ℤ◌, ◌<ℤ◌, w64, to_z, of_z}
 use Rattle.std.specs.Prelude.{if◌then◌else◌, unsigned_abs}
 use Rattle.std.proofs.lemmas.List.Elements.{All-push, All-append}
 use Rattle.std.proofs.lemmas.Int.{ints}
@@ -11,6 +11,7 @@ use Rattle.life_quad.specs.Cells.{IsInRun}
 use Rattle.life_quad.specs.Span.{is_in_span}
 use Rattle.life_base.proofs.Spans.{span_from_run, run_from_span}
 use Rattle.life_base.proofs.Squares.{Inside, is_inside, inside_offset, inside_facts, inside_test}
+use Rattle.life_base.specs.declared.cell.Run.{Run}
 use Rattle.life_strip.specs.declared.spans.Span.{Span}
 use Rattle.life_strip.specs.declared.spans.Strip.{Strip}
 use Rattle.life_strip.specs.declared.plane.Plane.{Plane}
@@ -83,6 +84,15 @@ span_pushed old filled column len b id ends ends' filling c = by (nat_le column 
     by false e q f =
         ap (id_or b) (found-append filled (s ∷ []) c (id_or b (id_at old c)) (filling c (grind arith)))
         ∙ sym (ap (λ z. if z && nat_lt c (column + len) then id else id_or b (id_at old c)) e)
+
+-- the column and the row of a run, which fit their types, by the numbers that the code adds
+pub column_of_run : (run : Run) (column : ℕ) → IsOnPlane run.x run.y run.len → 1 ≤ run.len → pos column ≡ to_z w64 (of_z w64 run.x) +ℤ pos half_plane
+    → pos column ≡ run.x +ℤ pos half_plane
+column_of_run run column inside some e = omega (arith, ints, e, inside.west, inside.east, some)
+
+pub row_of_run : (run : Run) (row : ℕ) → IsOnPlane run.x run.y run.len → pos row ≡ to_z w64 (of_z w64 run.y) +ℤ pos half_plane
+    → pos row ≡ run.y +ℤ pos half_plane
+row_of_run run row inside e = omega (arith, ints, e, inside.north, inside.south)
 
 -- the spans of the row that is gone on with end before the run
 pub next_ends : (b : Plane) (x y : ℤ) (column row : ℕ) → pos column ≡ x +ℤ pos half_plane → pos row ≡ y +ℤ pos half_plane → IsFree b x y → b.rows ≡ row
@@ -211,15 +221,15 @@ pub plane_outside : (P : ℕ → ℕ → ℕ) (x y : ℤ) → is_inside half_pla
 plane_outside P x y i = ap (λ b. if b then P (unsigned_abs (x +ℤ pos half_plane)) (unsigned_abs (y +ℤ pos half_plane)) else 0) i
 
 -- a span of columns of the plane is a run of cells
-pub AddsRun-span : (P Q : ℕ → ℕ → ℕ) (x y : ℤ) (column row len state : ℕ) → IsOnPlane x y len
-    → pos column ≡ x +ℤ pos half_plane → pos row ≡ y +ℤ pos half_plane
-    → ((n m : ℕ) → Q n m ≡ (if is_in_span column row len n m then state else P n m)) → AddsRun (on_plane P) (on_plane Q) x y len state
-AddsRun-span P Q x y column row len state inside e f cells = record { run = in_run; others = out_of_run }
+pub AddsRun-span : (P Q : ℕ → ℕ → ℕ) (run : Run) (column row : ℕ) → IsOnPlane run.x run.y run.len
+    → pos column ≡ run.x +ℤ pos half_plane → pos row ≡ run.y +ℤ pos half_plane
+    → ((n m : ℕ) → Q n m ≡ (if is_in_span column row run.len n m then run.state else P n m)) → AddsRun (on_plane P) (on_plane Q) run
+AddsRun-span P Q run column row inside e f cells = record { inside = in_run; others = out_of_run }
   where
     h : ℕ
     h = half_plane
 
-    in_run : (i j : ℤ) → IsInRun x y len i j → on_plane Q i j ≡ state
+    in_run : (i j : ℤ) → IsInRun run.x run.y run.len i j → on_plane Q i j ≡ run.state
     in_run i j r =
         let same = r.same_row in
         let on : Inside h i j = record {
@@ -230,10 +240,10 @@ AddsRun-span P Q x y column row len state inside e f cells = record { run = in_r
         } in
         let a = inside_offset h i on.west on.east in
         let b = inside_offset h j on.north on.south in
-        let t = span_from_run h x y i j column row len a.0 b.0 e f a.1 b.1 same r.from r.to in
-        plane_inside Q i j a.0 b.0 (inside_test h i j on) a.1 b.1 ∙ cells a.0 b.0 ∙ ap (λ c. if c then state else P a.0 b.0) t
+        let t = span_from_run h run.x run.y i j column row run.len a.0 b.0 e f a.1 b.1 same r.from r.to in
+        plane_inside Q i j a.0 b.0 (inside_test h i j on) a.1 b.1 ∙ cells a.0 b.0 ∙ ap (λ c. if c then run.state else P a.0 b.0) t
 
-    out_of_run : (i j : ℤ) → ¬ IsInRun x y len i j → on_plane Q i j ≡ on_plane P i j
+    out_of_run : (i j : ℤ) → ¬ IsInRun run.x run.y run.len i j → on_plane Q i j ≡ on_plane P i j
     out_of_run i j r = by (is_inside h i j) refl
       where
         by : (c : Bool) → is_inside h i j ≡ c → on_plane Q i j ≡ on_plane P i j
@@ -242,14 +252,14 @@ AddsRun-span P Q x y column row len state inside e f cells = record { run = in_r
             let k = inside_facts h i j t in
             let a = inside_offset h i k.west k.east in
             let b = inside_offset h j k.north k.south in
-            plane_inside Q i j a.0 b.0 t a.1 b.1 ∙ cells a.0 b.0 ∙ out a.0 b.0 a.1 b.1 (is_in_span column row len a.0 b.0) refl
+            plane_inside Q i j a.0 b.0 t a.1 b.1 ∙ cells a.0 b.0 ∙ out a.0 b.0 a.1 b.1 (is_in_span column row run.len a.0 b.0) refl
             ∙ sym (plane_inside P i j a.0 b.0 t a.1 b.1)
           where
-            out : (n m : ℕ) → i +ℤ pos h ≡ pos n → j +ℤ pos h ≡ pos m → (d : Bool) → is_in_span column row len n m ≡ d
-                → (if is_in_span column row len n m then state else P n m) ≡ P n m
-            out n m p q false g = ap (λ c. if c then state else P n m) g
+            out : (n m : ℕ) → i +ℤ pos h ≡ pos n → j +ℤ pos h ≡ pos m → (d : Bool) → is_in_span column row run.len n m ≡ d
+                → (if is_in_span column row run.len n m then run.state else P n m) ≡ P n m
+            out n m p q false g = ap (λ c. if c then run.state else P n m) g
             out n m p q true g =
-                let k = run_from_span h x y i j column row len n m e f p q g in absurd (r (record { same_row = k.0; from = k.1; to = k.2 }))
+                let k = run_from_span h run.x run.y i j column row run.len n m e f p q g in absurd (r (record { same_row = k.0; from = k.1; to = k.2 }))
 
 -- strips keep their cells
 pub picture-keeps : {knows knows' : Id → Type 0} {old new : Id → Tree} (keeps : Keeps knows knows' old new) (xs : List Strip) → All (IsSound knows old) xs

@@ -1,14 +1,15 @@
 -- What a builder stands for: the runs that it was given, in a store.
 use Rattle.std.specs.Prelude.{◌≡◌, ◌≤ℤ◌, ℤ, pos, neg_ℤ, List, []}
 use Rattle.life_base.specs.Tree.{Tree}
+use Rattle.life_base.specs.declared.cell.Run.{Run}
 use Rattle.life_quad.specs.declared.id.Id.{Id}
 use Rattle.life_strip.specs.declared.plane.Plane.{Plane}
-use Rattle.life_strip.specs.Given.{GivenRun, IsNext, AreInOrder, state_by, half_plane}
+use Rattle.life_strip.specs.Given.{IsNext, AreInOrder, state_by, half_plane}
 use Rattle.life_strip.specs.Plane.{IsFilled, IsUnfilled, IsFree, cell_so_far}
 
 -- what contracts see of a builder: the runs that it was given, and what it keeps of them, of which no contract says more
 pub record Building : Type 0 where
-  pub runs : List GivenRun
+  pub runs : List Run
   pub kept : Plane
 
 -- The store knows each Id that the builder keeps, and what is kept has the cells of the runs, which were given in their order. This holds

@@ -1,42 +1,29 @@
 -- The runs that a builder was given, and the cells that they say.
-use Rattle.std.specs.Prelude.{◌≡◌, ◌↔◌, ℕ, ◌-◌, ◌^◌, ◌⊎◌, Bool, ◌&&◌, if◌then◌else◌, ℤ, pos, neg_ℤ, ◌+ℤ◌, ◌-ℤ◌, ◌<ℤ◌, ◌≤ℤ◌, int_lt, int_le, List, [], ◌∷◌, ◌++◌, length, Some, slice_get, AllPairs, refl}
+use Rattle.std.specs.Prelude.{◌≡◌, ◌↔◌, ℕ, ◌-◌, ◌^◌, ◌⊎◌, Bool, ◌&&◌, if◌then◌else◌, ℤ, pos, neg_ℤ, ◌+ℤ◌, ◌-ℤ◌, ◌<ℤ◌, ◌≤ℤ◌, int_lt, int_le, List, [], ◌∷◌, ◌++◌, length, Some, slice_get, AllPairs}
 use Rattle.std.specs.Ordering.{int_eq}
-use Rattle.std.specs.Coded.{Coded, code_by, coded×, coded_ℕ, coded_ℤ}
 use Rattle.life_base.specs.declared.cell.TheConstants.{MAX_LEVEL}
+use Rattle.life_base.specs.declared.cell.Run.{Run}
 use Rattle.life_quad.specs.Cells.{IsInRun}
 
--- a run as it was given: the cells (x, y) to (x + len - 1, y) have the state
-pub record GivenRun : Type 0 where
-  pub x : ℤ
-  pub y : ℤ
-  pub len : ℕ
-  pub state : ℕ
-
--- a run is stored as the pairs of its fields
-abbrev pub given_run_code : Coded GivenRun
-given_run_code =
-    code_by ((ℤ × ℤ) × (ℕ × ℕ)) (coded× (coded× coded_ℤ coded_ℤ) (coded× coded_ℕ coded_ℕ)) (λ r. ((r.x, r.y), (r.len, r.state)))
-    (λ p. record { x = p.0.0; y = p.0.1; len = p.1.0; state = p.1.1 }) (λ _. refl)
-
 -- whether a run has the pair among its cells
-abbrev pub covers : GivenRun → ℤ → ℤ → Bool
+abbrev pub covers : Run → ℤ → ℤ → Bool
 covers run x y = int_eq y run.y && (int_le run.x x && int_lt x (run.x +ℤ pos run.len))
 
 -- the state that runs give a pair: that of the run that covers it, else 0
-abbrev pub state_by : List GivenRun → ℤ → ℤ → ℕ
+abbrev pub state_by : List Run → ℤ → ℤ → ℕ
 state_by [] x y = 0
 state_by (run ∷ runs) x y = if covers run x y then run.state else state_by runs x y
 
 -- (x, y) is in a later row than the run, or in its row at or east of its end
-abbrev pub IsBehind : GivenRun → ℤ → ℤ → Type 0
+abbrev pub IsBehind : Run → ℤ → ℤ → Type 0
 IsBehind run x y = (run.y <ℤ y) ⊎ ((run.y ≡ y) × ((run.x +ℤ pos run.len) ≤ℤ x))
 
 -- The next run may begin at (x, y): behind the last one given, and anywhere if none was. This is the project's own rule.
-abbrev pub IsNext : List GivenRun → ℤ → ℤ → Type 0
-IsNext runs x y = (last : GivenRun) → slice_get runs (length runs - 1) ≡ Some last → IsBehind last x y
+abbrev pub IsNext : List Run → ℤ → ℤ → Type 0
+IsNext runs x y = (last : Run) → slice_get runs (length runs - 1) ≡ Some last → IsBehind last x y
 
 -- each run begins behind all before it
-abbrev pub AreInOrder : List GivenRun → Type 0
+abbrev pub AreInOrder : List Run → Type 0
 AreInOrder runs = AllPairs (λ a b. IsBehind a b.x b.y) runs
 
 -- the plane goes from the negative of this to one less than this
@@ -57,13 +44,13 @@ by_columns state column row = state (pos column -ℤ pos half_plane) (pos row -�
 -- Runs in order are apart: at most one of them has a pair among its cells, and the state of the pair is that run's.
 abbrev pub RunsAreApart : Type 0
 RunsAreApart =
-    (runs : List GivenRun) (i j : ℕ) (a b : GivenRun) (x y : ℤ) → AreInOrder runs → slice_get runs i ≡ Some a → slice_get runs j ≡ Some b
+    (runs : List Run) (i j : ℕ) (a b : Run) (x y : ℤ) → AreInOrder runs → slice_get runs i ≡ Some a → slice_get runs j ≡ Some b
     → IsInRun a.x a.y a.len x y → IsInRun b.x b.y b.len x y → (i ≡ j) × (state_by runs x y ≡ a.state)
 
 -- With one run more the next one is judged by it, and a pair has that run's state where it is one of its cells, else the state it had.
 abbrev pub RunsGrow : Type 0
 RunsGrow =
-    (runs : List GivenRun) (run : GivenRun) (x y : ℤ)
+    (runs : List Run) (run : Run) (x y : ℤ)
     → (IsNext (runs ++ run ∷ []) x y ↔ IsBehind run x y)
     × (AreInOrder runs → IsNext runs run.x run.y → (state : ℕ) → (IsInRun run.x run.y run.len x y → state ≡ run.state)
     → (¬ IsInRun run.x run.y run.len x y → state ≡ state_by runs x y) → state ≡ state_by (runs ++ run ∷ []) x y)

@@ -1,6 +1,7 @@
 -- The plane as far as it is filled. Only private contracts speak of it, and `IsFilling` below the public ones.
 use Rattle.std.specs.Prelude.{◌≡◌, ℕ, ◌^◌, ◌<◌, ◌&&◌, if◌then◌else◌, ℤ, pos, neg_ℤ, ◌+ℤ◌, ◌≤ℤ◌, unsigned_abs, int_lt, int_le, [], ◌∷◌, ◌++◌, All}
 use Rattle.life_base.specs.declared.cell.TheConstants.{MAX_LEVEL}
+use Rattle.life_base.specs.declared.cell.Run.{Run}
 use Rattle.life_base.specs.Tree.{Tree}
 use Rattle.life_quad.specs.declared.id.Id.{Id}
 use Rattle.life_quad.specs.Cells.{IsInRun}
@@ -46,7 +47,7 @@ pub record IsFree (p : Plane) (left top : ℤ) : Type 0 where
   pub row : pos p.rows ≤ℤ (top +ℤ pos half_plane)
   pub column : top +ℤ pos half_plane ≡ pos p.rows → All (λ s. pos s.end ≤ℤ (left +ℤ pos half_plane)) p.row.spans.items
 
--- the cells of the run have the state, and every other cell what it had
-pub record AddsRun (before after : ℤ → ℤ → ℕ) (left top : ℤ) (len state : ℕ) : Type 0 where
-  pub run : (x y : ℤ) → IsInRun left top len x y → after x y ≡ state
-  pub others : (x y : ℤ) → ¬ IsInRun left top len x y → after x y ≡ before x y
+-- the cells of the run have its state, and every other cell what it had
+pub record AddsRun (before after : ℤ → ℤ → ℕ) (run : Run) : Type 0 where
+  pub inside : (x y : ℤ) → IsInRun run.x run.y run.len x y → after x y ≡ run.state
+  pub others : (x y : ℤ) → ¬ IsInRun run.x run.y run.len x y → after x y ≡ before x y

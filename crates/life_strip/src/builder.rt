@@ -9,7 +9,7 @@ ghost use Rattle.life_strip.specs.Filling.{IsEmpty, IsFilling};
 
 use crate::plane::Plane;
 use crate::run_log::RunLog;
-use life_base::{Kind, MAX_LEVEL, State};
+use life_base::{Kind, MAX_LEVEL, Run};
 use life_quad::{Id, Squares};
 use std::alloc::Global;
 use std::marker::Model;
@@ -43,34 +43,27 @@ impl Builder {
         }
     }
 
-    /// Gives the cells (x, y) to (x + len - 1, y) a state.
+    /// Gives the cells of a run its state.
     ///
     /// # Errors
     ///
     /// `Full` if the store holds its limit and a square of the runs before is new, or `Memory`. After an error the builder is only to
     /// be dropped.
-    pub fn add_run<S: Squares>(
-        &mut self,
-        squares: &mut S,
-        x: i64,
-        y: i64,
-        len: u64,
-        state: State,
-    ) -> Result<(), Kind>
+    pub fn add_run<S: Squares>(&mut self, squares: &mut S, run: Run) -> Result<(), Kind>
         requires filling { IsFilling (S.knows squares.old) (S.content squares.old) self.old }
-        requires positive { 1 ≤ len }
-        requires inside { IsOnPlane x y len }
-        requires next { IsNext self.old.runs x y }
+        requires positive { 1 ≤ run.len }
+        requires inside { IsOnPlane run.x run.y run.len }
+        requires next { IsNext self.old.runs run.x run.y }
         ensures filling { OnOk result (IsFilling (S.knows squares.new) (S.content squares.new) self.new) }
-        ensures runs { OnOk result (self.new.runs ≡ self.old.runs ++ record { x = x; y = y; len = len; state = state } ∷ []) }
-        ensures next { OnOk result ((i j : ℤ) → IsBehind (record { x = x; y = y; len = len; state = state }) i j → IsNext self.new.runs i j) }
+        ensures runs { OnOk result (self.new.runs ≡ self.old.runs ++ run ∷ []) }
+        ensures next { OnOk result ((i j : ℤ) → IsBehind run i j → IsNext self.new.runs i j) }
         ensures keeps { KeepsSquares S.knows S.content S.stored S.most squares.old squares.new }
         ensures refusals { IfErr result (λ e. (e ≡ Full) ⊎ (e ≡ Memory)) }
         ensures full { result ≡ Err Full → length (S.stored squares.new) ≡ S.most squares.new }
-        ensures needed { result ≡ Err Full → SomeSquare (S.needs_node squares.new) (nat_abs (y +ℤ pos half_plane)) (by_columns (state_by self.old.runs)) }
+        ensures needed { result ≡ Err Full → SomeSquare (S.needs_node squares.new) (nat_abs (run.y +ℤ pos half_plane)) (by_columns (state_by self.old.runs)) }
     {
-        self.plane.add_run(squares, x, y, len, state)?;
-        self.log = self.log.then(x, y, len, state);
+        self.plane.add_run(squares, run)?;
+        self.log = self.log.then(&run);
         Ok(())
     }
 

@@ -10,7 +10,7 @@ ghost use Rattle.life_strip.specs.Plane.{IsFilled, IsUnfilled, IsFree, AddsRun, 
 
 use crate::rows::{end_row, whole_plane};
 use crate::spans::{Strip, push_span};
-use life_base::{Kind, MAX_LEVEL, State};
+use life_base::{Kind, MAX_LEVEL, Run};
 use life_quad::{Id, Squares};
 use std::alloc::Global;
 use std::mem;
@@ -96,34 +96,27 @@ impl Plane {
         Ok(())
     }
 
-    // Gives the cells (x, y) to (x + len - 1, y) a state.
-    pub(crate) fn add_run<S: Squares>(
-        &mut self,
-        squares: &mut S,
-        x: i64,
-        y: i64,
-        len: u64,
-        state: State,
-    ) -> Result<(), Kind>
+    // Gives the cells of a run its state.
+    pub(crate) fn add_run<S: Squares>(&mut self, squares: &mut S, run: Run) -> Result<(), Kind>
         requires filled { IsFilled (S.knows squares.old) (S.content squares.old) self.old }
-        requires positive { 1 ≤ len }
-        requires inside { IsOnPlane x y len }
-        requires free { IsFree self.old x y }
+        requires positive { 1 ≤ run.len }
+        requires inside { IsOnPlane run.x run.y run.len }
+        requires free { IsFree self.old run.x run.y }
         ensures filled { OnOk result (IsFilled (S.knows squares.new) (S.content squares.new) self.new) }
-        ensures cells { OnOk result (AddsRun (cell_so_far (S.content squares.old) self.old) (cell_so_far (S.content squares.new) self.new) x y len state) }
-        ensures below { OnOk result ((column row : ℤ) → y <ℤ row → IsFree self.new column row) }
-        ensures beside { OnOk result ((column : ℤ) → (x +ℤ pos len) ≤ℤ column → IsFree self.new column y) }
+        ensures cells { OnOk result (AddsRun (cell_so_far (S.content squares.old) self.old) (cell_so_far (S.content squares.new) self.new) run) }
+        ensures below { OnOk result ((column row : ℤ) → run.y <ℤ row → IsFree self.new column row) }
+        ensures beside { OnOk result ((column : ℤ) → (run.x +ℤ pos run.len) ≤ℤ column → IsFree self.new column run.y) }
         ensures keeps { KeepsSquares S.knows S.content S.stored S.most squares.old squares.new }
         ensures refusals { IfErr result (λ e. (e ≡ Full) ⊎ (e ≡ Memory)) }
         ensures full { result ≡ Err Full → length (S.stored squares.new) ≡ S.most squares.new }
-        ensures needed { result ≡ Err Full → SomeSquare (S.needs_node squares.new) (nat_abs (y +ℤ pos half_plane)) (state_so_far (S.content squares.old) self.old) }
+        ensures needed { result ≡ Err Full → SomeSquare (S.needs_node squares.new) (nat_abs (run.y +ℤ pos half_plane)) (state_so_far (S.content squares.old) self.old) }
     {
-        let column = offset(x);
-        let row = offset(y);
+        let column = offset(run.x);
+        let row = offset(run.y);
         self.go_to_row(squares, row)?;
         let blank = squares.cell(0);
-        let square = squares.cell(state);
-        push_span(&mut self.row.spans, column, len, blank, square)
+        let square = squares.cell(run.state);
+        push_span(&mut self.row.spans, column, run.len, blank, square)
     }
 
     // The square of the whole plane.

@@ -2,16 +2,15 @@
 
 ghost use Rattle.std.specs.Prelude.{◌≡◌, List, [], ◌∷◌, ◌++◌};
 ghost use Rattle.std.specs.Borrow.{ftrue};
-ghost use Rattle.std.specs.Coded.{coded_list};
-ghost use Rattle.life_strip.specs.Given.{GivenRun, given_run_code};
+ghost use Rattle.life_base.specs.declared.cell.Run.{Run as RunValue};
 
-use life_base::State;
+use life_base::Run;
 use std::marker::Model;
 
 // The runs so far. Code can neither read nor compare them; they exist in contracts and proofs alone.
 #[derive(Drop)]
 pub(crate) struct RunLog {
-    pub(crate) ghost runs: { List GivenRun } by { coded_list given_run_code },
+    pub(crate) ghost runs: { List RunValue },
 }
 
 impl Model for RunLog {
@@ -27,8 +26,8 @@ impl RunLog {
     }
 
     // The runs so far, and one more.
-    pub(crate) fn then(&self, x: i64, y: i64, len: u64, state: State) -> RunLog
-        ensures { result.runs ≡ self.now.runs ++ record { x = x; y = y; len = len; state = state } ∷ [] }
+    pub(crate) fn then(&self, run: &Run) -> RunLog
+        ensures { result.runs ≡ self.now.runs ++ run.now ∷ [] }
     {
         RunLog {}
     }

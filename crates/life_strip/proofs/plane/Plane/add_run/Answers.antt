@@ -1,4 +1,4 @@
-use Rattle.std.proofs.Common.{◌≡◌, ◌++◌, ◌∷◌, [], sym, ◌∙◌, ap, subst, arith, pos, ◌+ℤ◌}
+use Rattle.std.proofs.Common.{◌≡◌, ◌++◌, ◌∷◌, [], sym, ◌∙◌, ap, subst, arith}
 use Rattle.std.specs.Prelude.{if◌then◌else◌}
 use Rattle.std.proofs.lemmas.Int.{ints}
 use Rattle.life_base.specs.Tree.{depth}
@@ -6,22 +6,21 @@ use Rattle.life_quad.specs.Span.{is_in_span}
 use Rattle.life_strip.specs.declared.spans.Strip.{Strip}
 use Rattle.life_strip.specs.Strip.{IsStrip, AreWithin}
 use Rattle.life_strip.specs.Picture.{picture, height}
-use Rattle.life_strip.specs.Given.{half_plane}
 use Rattle.life_strip.proofs.PictureLemmas.{on_ok_map, on_ok_map2}
-use Rattle.life_strip.proofs.PlaneLemmas.{next_ends, below_run, beside_run, row_pushed, row_strip, picture_pushed, AddsRun-span}
+use Rattle.life_strip.proofs.PlaneLemmas.{column_of_run, row_of_run, next_ends, below_run, beside_run, row_pushed, row_strip, picture_pushed, AddsRun-span}
 use Rattle.life_strip.proofs.plane.Plane.add_run.Goals as goal
 
 pub push_span-requires-clause-ends : goal.push_span-requires-clause-ends
 push_span-requires-clause-ends g c =
-    let ex : pos c.offset-column.result ≡ c.args.x +ℤ pos half_plane = omega (arith, ints, c.offset-column.ensures, c.ranges.x) in
-    let ey : pos c.offset-row.result ≡ c.args.y +ℤ pos half_plane = omega (arith, ints, c.offset-row.ensures, c.ranges.y) in
+    let ex = column_of_run c.args.run c.offset-column.result c.requires.inside c.requires.positive c.offset-column.ensures in
+    let ey = row_of_run c.args.run c.offset-row.result c.requires.inside c.offset-row.ensures in
     c.in_ok-go_to_row.ensures.ends c.offset-column.result
-    (next_ends c.args.self.now c.args.x c.args.y c.offset-column.result c.offset-row.result ex ey c.requires.free)
+    (next_ends c.args.self.now c.args.run.x c.args.run.y c.offset-column.result c.offset-row.result ex ey c.requires.free)
 
 pub returns-clause-cells : goal.returns-clause-cells
 returns-clause-cells g c =
-    let ex : pos c.offset-column.result ≡ c.args.x +ℤ pos half_plane = omega (arith, ints, c.offset-column.ensures, c.ranges.x) in
-    let ey : pos c.offset-row.result ≡ c.args.y +ℤ pos half_plane = omega (arith, ints, c.offset-row.ensures, c.ranges.y) in
+    let ex = column_of_run c.args.run c.offset-column.result c.requires.inside c.requires.positive c.offset-column.ensures in
+    let ey = row_of_run c.args.run c.offset-row.result c.requires.inside c.offset-row.ensures in
     let K = g.S.Squares.knows c.go_to_row.new.squares in
     let C = g.S.Squares.content c.go_to_row.new.squares in
     let self = c.go_to_row.new.self in
@@ -31,16 +30,17 @@ returns-clause-cells g c =
     let height_is : height (self.strips.items ++ self.band.items) ≡ c.offset-row.result = fill.rows ∙ c.in_ok-go_to_row.ensures.rows in
     on_ok_map c.push_span.result
     (λ columns.
-    let strip = row_strip K C self.row.spans.items row.spans.items c.offset-column.result c.args.len c.cell-blank.result c.cell-square.result begun
+    let strip = row_strip K C self.row.spans.items row.spans.items c.offset-column.result c.args.run.len c.cell-blank.result c.cell-square.result begun
     c.cell-blank.ensures.known c.cell-blank.ensures.square c.cell-square.ensures.known (ap depth c.cell-square.ensures.square) columns in
-    let states = row_pushed K C self.row row c.offset-column.result c.args.len c.args.state c.cell-blank.result c.cell-square.result fill.row fill.level
+    let states = row_pushed K C self.row row c.offset-column.result c.args.run.len c.args.run.state c.cell-blank.result c.cell-square.result fill.row fill.level
     fill.level strip
     c.cell-blank.ensures.known c.cell-blank.ensures.square c.cell-square.ensures.square columns in
     AddsRun-span (picture (g.S.Squares.content c.args.squares.now) ((c.args.self.now.strips.items ++ c.args.self.now.band.items) ++ c.args.self.now.row ∷ []))
     (picture C ((self.strips.items ++ self.band.items) ++ row ∷ []))
-    c.args.x c.args.y c.offset-column.result c.offset-row.result c.args.len c.args.state c.requires.inside ex ey
-    (λ i j. picture_pushed C (self.strips.items ++ self.band.items) self.row row c.offset-column.result c.args.len c.args.state fill.level fill.level states i j
-    ∙ (λ k. if is_in_span c.offset-column.result (height_is k) c.args.len i j then c.args.state else c.in_ok-go_to_row.ensures.picture i j k)))
+    c.args.run c.offset-column.result c.offset-row.result c.requires.inside ex ey
+    (λ i j. picture_pushed C (self.strips.items ++ self.band.items) self.row row c.offset-column.result c.args.run.len c.args.run.state fill.level fill.level
+    states i j
+    ∙ (λ k. if is_in_span c.offset-column.result (height_is k) c.args.run.len i j then c.args.run.state else c.in_ok-go_to_row.ensures.picture i j k)))
     c.push_span.ensures.columns
 
 pub go_to_row-requires-clause-filled : goal.go_to_row-requires-clause-filled
@@ -54,7 +54,7 @@ returns-clause-keeps g c = c.in_ok-go_to_row.ensures.keeps
 
 pub returns-clause-filled : goal.returns-clause-filled
 returns-clause-filled g c =
-    let ex : pos c.offset-column.result ≡ c.args.x +ℤ pos half_plane = omega (arith, ints, c.offset-column.ensures, c.ranges.x) in
+    let ex = column_of_run c.args.run c.offset-column.result c.requires.inside c.requires.positive c.offset-column.ensures in
     let K = g.S.Squares.knows c.go_to_row.new.squares in
     let C = g.S.Squares.content c.go_to_row.new.squares in
     let old = c.go_to_row.new.self.row.spans.items in
@@ -63,7 +63,7 @@ returns-clause-filled g c =
     let begun : IsStrip K C 0 old = subst (λ n. IsStrip K C n old) fill.level fill.row.squares in
     on_ok_map2 c.push_span.result
     (λ columns ends.
-    let strip = row_strip K C old new c.offset-column.result c.args.len c.cell-blank.result c.cell-square.result begun
+    let strip = row_strip K C old new c.offset-column.result c.args.run.len c.cell-blank.result c.cell-square.result begun
     c.cell-blank.ensures.known c.cell-blank.ensures.square c.cell-square.ensures.known (ap depth c.cell-square.ensures.square) columns in
     let within : AreWithin 0 new = λ k d lt. let e = ends k d lt in omega (arith, ints, e, ex, c.requires.inside.east) in
     record {
@@ -77,18 +77,18 @@ returns-clause-filled g c =
 
 pub returns-clause-below : goal.returns-clause-below
 returns-clause-below g c =
-    let ey : pos c.offset-row.result ≡ c.args.y +ℤ pos half_plane = omega (arith, ints, c.offset-row.ensures, c.ranges.y) in
+    let ey = row_of_run c.args.run c.offset-row.result c.requires.inside c.offset-row.ensures in
     on_ok_map c.push_span.result
-    (λ ends i j below. below_run (record c.go_to_row.new.self { row = record c.go_to_row.new.self.row { spans = c.push_span.new.spans } }) c.args.y i j
+    (λ ends i j below. below_run (record c.go_to_row.new.self { row = record c.go_to_row.new.self.row { spans = c.push_span.new.spans } }) c.args.run.y i j
     c.offset-row.result ey c.in_ok-go_to_row.ensures.rows below)
     c.push_span.ensures.ends
 
 pub returns-clause-beside : goal.returns-clause-beside
 returns-clause-beside g c =
-    let ex : pos c.offset-column.result ≡ c.args.x +ℤ pos half_plane = omega (arith, ints, c.offset-column.ensures, c.ranges.x) in
-    let ey : pos c.offset-row.result ≡ c.args.y +ℤ pos half_plane = omega (arith, ints, c.offset-row.ensures, c.ranges.y) in
+    let ex = column_of_run c.args.run c.offset-column.result c.requires.inside c.requires.positive c.offset-column.ensures in
+    let ey = row_of_run c.args.run c.offset-row.result c.requires.inside c.offset-row.ensures in
     on_ok_map c.push_span.result
-    (λ ends i beside. beside_run (record c.go_to_row.new.self { row = record c.go_to_row.new.self.row { spans = c.push_span.new.spans } }) c.args.x c.args.y i
-    c.offset-column.result c.offset-row.result c.args.len
+    (λ ends i beside. beside_run (record c.go_to_row.new.self { row = record c.go_to_row.new.self.row { spans = c.push_span.new.spans } })
+    c.args.run.x c.args.run.y i c.offset-column.result c.offset-row.result c.args.run.len
     ex ey c.in_ok-go_to_row.ensures.rows ends beside)
     c.push_span.ensures.ends
