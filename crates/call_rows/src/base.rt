@@ -4,9 +4,9 @@ use crate::answer::Unanswered;
 use crate::row::{halves, number_of};
 use crate::shown::{Show, show_bool, show_bytes, show_each, show_rule};
 use life_base::{
-    Device, Items, Kind, LifeRule, Near, Rule, Source, append_number, append_signed, append_u128,
-    begins_with, is_too_long, leading_number, line_end, line_fits, lines, read_i64, read_u64,
-    read_within, split_word, trimmed,
+    Device, Items, Kind, LifeRule, Near, Rule, Source, append_number, begins_with, is_too_long,
+    leading_number, line_end, line_fits, lines, read_i64, read_u64, read_within, split_word,
+    trimmed,
 };
 use std::alloc::Global;
 
@@ -158,9 +158,9 @@ pub(crate) fn rules(alloc: Global, out: &mut String, texts: &[u8]) -> Result<(),
 /// Adds a number of the type of this name.
 fn append_of(text: &mut Vec<u8>, name: &[u8], number: &[u8]) -> Result<(), Unanswered> {
     match name {
-        b"u64" => append_number(text, number_of(number)?)?,
-        b"i64" => append_signed(text, number_of(number)?)?,
-        b"u128" => append_u128(text, number_of(number)?)?,
+        b"u64" => append_number::<u64>(text, number_of(number)?)?,
+        b"i64" => append_number::<i64>(text, number_of(number)?)?,
+        b"u128" => append_number::<u128>(text, number_of(number)?)?,
         _ => return Err(Unanswered::BadInput),
     }
     Ok(())

@@ -22,7 +22,7 @@ mod text;
 mod words;
 mod writing;
 
-pub use appending::{append, append_number, append_signed, append_u128};
+pub use appending::{append, append_number};
 pub use bounds::Bounds;
 pub use cell::{Cell, MAX_LEVEL, Run, State};
 pub use devices::{Device, Sink, Source};

@@ -19,9 +19,7 @@ ghost use Rattle.life_canon.specs.Texts.{IsShown, IsOrdered, AreOrdered, box_tex
 use crate::listing::listed;
 use crate::pattern::{Pattern, least_level};
 use crate::reading::read;
-use life_base::{
-    Bounds, Fault, Kind, MAX_LEVEL, append, append_number, append_signed, append_u128,
-};
+use life_base::{Bounds, Fault, Kind, MAX_LEVEL, append, append_number};
 use life_quad::{Shared, bounds, population};
 use std::alloc::Global;
 
@@ -41,7 +39,7 @@ fn append_population(out: &mut Vec<u8>, number: u128) -> Result<(), Kind>
     ensures kind { IfErr result (λ kind. kind ≡ Memory) }
 {
     append(out, b"population ")?;
-    append_u128(out, number)?;
+    append_number(out, number)?;
     append(out, b"\n")
 }
 
@@ -50,7 +48,7 @@ fn append_coordinate(out: &mut Vec<u8>, number: i64) -> Result<(), Kind>
     ensures ok { OnOk result (out.new.items ≡ out.old.items ++ signed_decimal number ++ codes " ") }
     ensures kind { IfErr result (λ kind. kind ≡ Memory) }
 {
-    append_signed(out, number)?;
+    append_number(out, number)?;
     append(out, b" ")
 }
 

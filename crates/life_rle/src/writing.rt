@@ -11,7 +11,7 @@ use crate::bounds::bounds_of;
 use crate::pen::write_cells;
 use crate::position::Position;
 use crate::wrapping::put_mark;
-use life_base::{Bounds, Cell, Fault, Kind, MAX_LEVEL, Rule, append, append_number, append_signed};
+use life_base::{Bounds, Cell, Fault, Kind, MAX_LEVEL, Rule, append, append_number};
 use std::alloc::Global;
 
 /// Adds a generation at the end, if it isn't 0.
@@ -31,9 +31,9 @@ fn append_corner(out: &mut Vec<u8>, position: Position) -> Result<(), Kind>
     ensures ok { OnOk result (out.new.items ≡ out.old.items ++ (signed_decimal position.x ++ (codes "," ++ signed_decimal position.y))) }
     ensures memory { IfErr result (λ kind. kind ≡ Kind.Memory) }
 {
-    append_signed(out, position.x)?;
+    append_number(out, position.x)?;
     append(out, b",")?;
-    append_signed(out, position.y)
+    append_number(out, position.y)
 }
 
 /// Adds the position line at the end, with its line feed.

@@ -11,8 +11,8 @@ written n old new f e = simp to_z-of_z at e
 pub returns-clause-ok : goal.returns-clause-ok
 returns-clause-ok c =
     let at = c.args.position in
-    on_ok_weaker c.append_signed-2.result
+    on_ok_weaker c.append_number-2.result
     (λ e. three-texts (signed_decimal at.x) (44 ∷ []) (signed_decimal at.y)
-    c.args.out.now.items c.append_signed.new.out.items c.append.new.out.items c.append_signed-2.new.out.items
-    (written at.x _ _ (search rules) c.in_ok-append_signed.ensures.ok) c.in_ok-append.ensures.ok (written at.y _ _ (search rules) e))
-    c.append_signed-2.ensures.ok
+    c.args.out.now.items c.append_number.new.out.items c.append.new.out.items c.append_number-2.new.out.items
+    (written at.x _ _ (search rules) c.in_ok-append_number.ensures.ok) c.in_ok-append.ensures.ok (written at.y _ _ (search rules) e))
+    c.append_number-2.ensures.ok
