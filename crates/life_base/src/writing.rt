@@ -1,7 +1,7 @@
 //! Texts written to a sink.
-ghost use Rattle.std.specs.Prelude.{◌≡◌, ◌⊎◌, true, OnOk, OnErr, IfErr};
+ghost use Rattle.std.specs.Prelude.{◌≡◌, true, OnOk};
 ghost use Rattle.std.specs.List.{flat_map};
-ghost use Rattle.life_base.specs.Writing.{WritesText};
+ghost use Rattle.life_base.specs.Writing.{WritesText, LeavesSink};
 
 use crate::devices::Sink;
 use crate::kind::Kind;
@@ -11,11 +11,7 @@ use crate::kind::Kind;
 pub fn write_text<W: Sink>(writer: &mut W, text: &[u8]) -> Result<(), Kind>
     requires { W.failures writer.old ≡ 0 }
     ensures text { WritesText (W.contents writer.old) (W.contents writer.new) text.now result }
-    ensures works { OnOk result (W.failures writer.new ≡ 0) }
-    ensures kind { IfErr result (λ k. k ≡ Kind.WriteFault) }
-    ensures cause { OnErr result ((W.failures writer.new ≡ 1) ⊎ (W.stalled writer.new ≡ true)) }
-    ensures stalled { OnOk result (W.stalled writer.new ≡ W.stalled writer.old) }
-    ensures failed { W.failures writer.new ≡ 1 → W.stalled writer.new ≡ W.stalled writer.old }
+    ensures sink { LeavesSink W.failures W.stalled writer.old writer.new result }
 {
     let mut at = 0;
     while at < text.len() {
@@ -32,11 +28,7 @@ pub fn write_text<W: Sink>(writer: &mut W, text: &[u8]) -> Result<(), Kind>
 pub fn write_texts<W: Sink>(writer: &mut W, texts: &[&[u8]]) -> Result<(), Kind>
     requires { W.failures writer.old ≡ 0 }
     ensures text { WritesText (W.contents writer.old) (W.contents writer.new) (flat_map (λ text. text.now) texts.now) result }
-    ensures works { OnOk result (W.failures writer.new ≡ 0) }
-    ensures kind { IfErr result (λ k. k ≡ Kind.WriteFault) }
-    ensures cause { OnErr result ((W.failures writer.new ≡ 1) ⊎ (W.stalled writer.new ≡ true)) }
-    ensures stalled { OnOk result (W.stalled writer.new ≡ W.stalled writer.old) }
-    ensures failed { W.failures writer.new ≡ 1 → W.stalled writer.new ≡ W.stalled writer.old }
+    ensures sink { LeavesSink W.failures W.stalled writer.old writer.new result }
 {
     for text in texts {
         write_text(writer, text)?;
@@ -48,12 +40,8 @@ pub fn write_texts<W: Sink>(writer: &mut W, texts: &[&[u8]]) -> Result<(), Kind>
 pub fn deliver<W: Sink>(writer: &mut W, text: &[u8]) -> Result<(), Kind>
     requires { W.failures writer.old ≡ 0 }
     ensures text { WritesText (W.contents writer.old) (W.contents writer.new) text.now result }
-    ensures works { OnOk result (W.failures writer.new ≡ 0) }
+    ensures sink { LeavesSink W.failures W.stalled writer.old writer.new result }
     ensures flushed { OnOk result (W.flushed writer.new ≡ true) }
-    ensures kind { IfErr result (λ k. k ≡ Kind.WriteFault) }
-    ensures cause { OnErr result ((W.failures writer.new ≡ 1) ⊎ (W.stalled writer.new ≡ true)) }
-    ensures stalled { OnOk result (W.stalled writer.new ≡ W.stalled writer.old) }
-    ensures failed { W.failures writer.new ≡ 1 → W.stalled writer.new ≡ W.stalled writer.old }
 {
     write_text(writer, text)?;
     writer.flush()

@@ -1,7 +1,7 @@
 //! The walk that numbers the squares of a square and writes their lines.
 
-ghost use Rattle.std.specs.Prelude.{◌≡◌, ◌⊎◌, ◌++◌, ◌≤◌, true, false, map, vec_capacity, All, OnOk, OnErr, IfOk, IfErr, MatchOption};
-ghost use Rattle.life_base.specs.Writing.{WritesPrefix};
+ghost use Rattle.std.specs.Prelude.{◌≡◌, ◌⊎◌, ◌++◌, ◌≤◌, true, false, map, vec_capacity, All, OnOk, OnErr, IfOk, MatchOption};
+ghost use Rattle.life_base.specs.Writing.{WritesPrefix, LeavesSink};
 ghost use Rattle.life_base.specs.Tree.{depth, is_blank_tree};
 ghost use Rattle.life_mc.specs.Macrocell.{largest_state};
 ghost use Rattle.life_mc.specs.Squares.{HasStatesUpTo};
@@ -49,11 +49,7 @@ fn write_line<W: Sink>(line: &Line, piece: &mut Vec<u8>, writer: &mut W) -> Resu
     ensures front { OnOk result (WritesFront (W.contents writer.old) (W.contents writer.new) (piece.old.items ++ node_text line.now) piece.new.items) }
     ensures prefix { OnErr result (WritesPrefix (W.contents writer.old) (W.contents writer.new) piece.old.items) }
     ensures room { 65536 ≤ vec_capacity piece.new }
-    ensures works { OnOk result (W.failures writer.new ≡ 0) }
-    ensures kind { IfErr result (λ k. k ≡ Kind.WriteFault) }
-    ensures cause { OnErr result ((W.failures writer.new ≡ 1) ⊎ (W.stalled writer.new ≡ true)) }
-    ensures stalled { OnOk result (W.stalled writer.new ≡ W.stalled writer.old) }
-    ensures failed { W.failures writer.new ≡ 1 → W.stalled writer.new ≡ W.stalled writer.old }
+    ensures sink { LeavesSink W.failures W.stalled writer.old writer.new result }
 {
     make_way(piece, writer)?;
     append_line(piece, line)?;
@@ -87,11 +83,7 @@ pub(crate) fn write_square<S: SharedSquares, W: Sink>(
     ensures closed { OnOk result (IsClosed (least_level rule.now) (map (S.content squares.now) numbers.new.ids)) }
     ensures bound { OnOk result (numbers.new.bound ≡ numbers.old.bound) }
     ensures room { 65536 ≤ vec_capacity piece.new }
-    ensures works { OnOk result (W.failures writer.new ≡ 0) }
-    ensures kind { IfErr result (λ k. k ≡ Kind.WriteFault) }
-    ensures cause { OnErr result ((W.failures writer.new ≡ 1) ⊎ (W.stalled writer.new ≡ true)) }
-    ensures stalled { OnOk result (W.stalled writer.new ≡ W.stalled writer.old) }
-    ensures failed { W.failures writer.new ≡ 1 → W.stalled writer.new ≡ W.stalled writer.old }
+    ensures sink { LeavesSink W.failures W.stalled writer.old writer.new result }
 {
     if let Some(number) = known_number(squares, level, numbers, id) {
         return Ok(number);

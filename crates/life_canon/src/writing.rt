@@ -1,9 +1,9 @@
 //! The canonical text of a pattern, without a file value between, whole or in pieces.
 
-ghost use Rattle.std.specs.Prelude.{◌≡◌, ◌⊎◌, ◌+◌, ◌++◌, ◌≤◌, [], true, map, flat_map, vec_len, vec_capacity, All, Contains, OnOk, OnErr, IfOk, IfErr};
+ghost use Rattle.std.specs.Prelude.{◌≡◌, ◌+◌, ◌++◌, ◌≤◌, [], true, map, flat_map, vec_len, vec_capacity, All, Contains, OnOk, OnErr, IfOk, IfErr};
 ghost use Rattle.life_base.specs.declared.kind.Kind.TheVariants.{Memory};
 ghost use Rattle.life_base.specs.Refusal.{fault_of};
-ghost use Rattle.life_base.specs.Writing.{WritesText, WritesPrefix};
+ghost use Rattle.life_base.specs.Writing.{WritesText, WritesPrefix, LeavesSink};
 ghost use Rattle.life_base.specs.Tree.{Tree, depth};
 ghost use Rattle.life_quad.specs.declared.id.Id.{Id as IdValue};
 ghost use Rattle.life_quad.specs.IdNumbers.{HasNumberRoom};
@@ -120,11 +120,7 @@ pub(crate) fn make_way<W: Sink>(piece: &mut Vec<u8>, writer: &mut W) -> Result<(
     ensures prefix { OnErr result (WritesPrefix (W.contents writer.old) (W.contents writer.new) piece.old.items) }
     ensures way { OnOk result (vec_len piece.new + 105 ≤ 65536) }
     ensures room { vec_capacity piece.new ≡ vec_capacity piece.old }
-    ensures works { OnOk result (W.failures writer.new ≡ 0) }
-    ensures kind { IfErr result (λ k. k ≡ Kind.WriteFault) }
-    ensures cause { OnErr result ((W.failures writer.new ≡ 1) ⊎ (W.stalled writer.new ≡ true)) }
-    ensures stalled { OnOk result (W.stalled writer.new ≡ W.stalled writer.old) }
-    ensures failed { W.failures writer.new ≡ 1 → W.stalled writer.new ≡ W.stalled writer.old }
+    ensures sink { LeavesSink W.failures W.stalled writer.old writer.new result }
 {
     if piece.len() <= PIECE - LONGEST_NODE_LINE {
         return Ok(());
@@ -151,12 +147,8 @@ pub(crate) fn deliver_squares<S: SharedSquares, W: Sink>(
     requires room { 65536 ≤ vec_capacity front }
     requires works { W.failures writer.old ≡ 0 }
     ensures text { WritesText (W.contents writer.old) (W.contents writer.new) (front.items ++ flat_map node_text (lines_for pattern.now.rule (listed (S.content squares.now pattern.now.root) (least_level pattern.now.rule)))) result }
-    ensures works { OnOk result (W.failures writer.new ≡ 0) }
+    ensures sink { LeavesSink W.failures W.stalled writer.old writer.new result }
     ensures flushed { OnOk result (W.flushed writer.new ≡ true) }
-    ensures kind { IfErr result (λ k. k ≡ Kind.WriteFault) }
-    ensures cause { OnErr result ((W.failures writer.new ≡ 1) ⊎ (W.stalled writer.new ≡ true)) }
-    ensures stalled { OnOk result (W.stalled writer.new ≡ W.stalled writer.old) }
-    ensures failed { W.failures writer.new ≡ 1 → W.stalled writer.new ≡ W.stalled writer.old }
 {
     let mut piece = front;
     let level = squares.level(pattern.root);

@@ -67,9 +67,9 @@ deliver_squares-requires-clause-bound g c = λ q k. c.in_ok-numbers.ensures.boun
 pub returns-in_err-deliver_squares-clause-err : goal.returns-in_err-deliver_squares-clause-err
 returns-in_err-deliver_squares-clause-err g c =
     let p = err_from_is_err_and c.from_residual-in_err-deliver_squares.result c.from_residual-in_err-deliver_squares.ensures.1 in
-    let answer = by_writing (ap fault_of c.in_err-deliver_squares.ensures.kind) (record {
+    let answer = by_writing (ap fault_of c.in_err-deliver_squares.ensures.sink.kind) (record {
       wrote = wrote _ _ _ _ (WritesPrefix _ _) _ c.in_ok-pattern.ensures.pattern c.in_ok-numbers.ensures.front c.in_err-deliver_squares.ensures.text;
-      cause = c.in_err-deliver_squares.ensures.cause;
+      cause = c.in_err-deliver_squares.ensures.sink.cause;
     }) in
     rw (p.1, p.2) answer
 
@@ -83,7 +83,7 @@ pub deliver_squares-requires-clause-works : goal.deliver_squares-requires-clause
 deliver_squares-requires-clause-works g c = c.requires.writes
 
 pub returns-clause-write_told : goal.returns-clause-write_told
-returns-clause-write_told g c = no_failure _ _ c.in_ok-deliver_squares.ensures.works (c.in_ok-deliver_squares.ensures.stalled ∙ c.requires.takes)
+returns-clause-write_told g c = no_failure _ _ c.in_ok-deliver_squares.ensures.sink.works (c.in_ok-deliver_squares.ensures.sink.stalled ∙ c.requires.takes)
 
 pub returns-in_err-pattern-clause-unwritten : goal.returns-in_err-pattern-clause-unwritten
 returns-in_err-pattern-clause-unwritten g c = as_it_was c.from_residual.result _
