@@ -3,10 +3,24 @@
 ghost use Rattle.std.specs.Prelude.{◌≡◌, IfOk};
 ghost use Rattle.life_base.specs.Tree.{depth};
 
-use life_base::{Cell, Fault, Kind, MAX_LEVEL};
+use life_base::{Cell, Fault, Kind, MAX_LEVEL, Run};
 use life_quad::{Id, Squares, cells};
 use life_strip::Builder;
 use std::alloc::Global;
+
+// Live cells side by side in a row.
+fn run(x: i64, y: i64, len: u64) -> Run
+    ensures column { result.x ≡ x }
+    ensures row { result.y ≡ y }
+    ensures len { result.len ≡ len }
+{
+    Run {
+        x,
+        y,
+        len,
+        state: 1,
+    }
+}
 
 // The plane with a glider, by its runs.
 fn glider<S: Squares>(alloc: Global, squares: &mut S) -> Result<Id, Kind>
@@ -14,9 +28,9 @@ fn glider<S: Squares>(alloc: Global, squares: &mut S) -> Result<Id, Kind>
     ensures level { IfOk result (λ r. depth (S.content squares.new r) ≡ MAX_LEVEL) }
 {
     let mut builder = Builder::new(alloc);
-    builder.add_run(squares, 1, 0, 1, 1)?;
-    builder.add_run(squares, 2, 1, 1, 1)?;
-    builder.add_run(squares, 0, 2, 3, 1)?;
+    builder.add_run(squares, run(1, 0, 1))?;
+    builder.add_run(squares, run(2, 1, 1))?;
+    builder.add_run(squares, run(0, 2, 3))?;
     builder.finish(squares)
 }
 

@@ -1,9 +1,9 @@
 //! Tests of `life_strip`: runs by rows against runs put one by one, and against squares joined by hand.
-ghost use Rattle.std.specs.Prelude.{◌≤◌, IfOk, OnOk, ℤ};
+ghost use Rattle.std.specs.Prelude.{◌≡◌, ◌≤◌, IfOk, OnOk, ℤ};
 ghost use Rattle.life_strip.specs.Filling.{IsFilling};
 ghost use Rattle.life_strip.specs.Given.{IsNext};
 
-use life_base::{Kind, MAX_LEVEL};
+use life_base::{Kind, MAX_LEVEL, Run, State};
 use life_quad::{Id, Plain, Shared, Squares, put_run, trim};
 use life_strip::{Builder, laws};
 use std::alloc::Global;
@@ -18,22 +18,31 @@ fn begun<S: Squares>(alloc: Global, squares: &S) -> Builder
     Builder::new(alloc)
 }
 
+// Cells of one state, side by side in a row.
+fn run(x: i64, y: i64, len: u64, state: State) -> Run
+    ensures column { result.x ≡ x }
+    ensures row { result.y ≡ y }
+    ensures len { result.len ≡ len }
+{
+    Run { x, y, len, state }
+}
+
 // Adjacent runs, gaps in rows and columns, odd starts and lengths, several states, the corners of the plane and a whole row.
 fn add_runs<S: Squares>(builder: &mut Builder, store: &mut S) -> Result<(), Kind>
     requires filling { IsFilling (S.knows store.old) (S.content store.old) builder.old }
     requires next { (x y : ℤ) → IsNext builder.old.runs x y }
     ensures filling { OnOk result (IsFilling (S.knows store.new) (S.content store.new) builder.new) }
 {
-    builder.add_run(store, -(1 << 61), -(1 << 61), 1, 1)?;
-    builder.add_run(store, (1 << 61) - 1, -(1 << 61), 1, 2)?;
-    builder.add_run(store, -3, -7, 5, 1)?;
-    builder.add_run(store, 2, -7, 2, 3)?;
-    builder.add_run(store, 5, -7, 1, 1)?;
-    builder.add_run(store, -3, -6, 5, 1)?;
-    builder.add_run(store, -(1 << 61), 4, 1 << 62, 255)?;
-    builder.add_run(store, 1, 9, 3, 1)?;
-    builder.add_run(store, -(1 << 61), (1 << 61) - 1, 3, 4)?;
-    builder.add_run(store, (1 << 61) - 2, (1 << 61) - 1, 2, 5)
+    builder.add_run(store, run(-(1 << 61), -(1 << 61), 1, 1))?;
+    builder.add_run(store, run((1 << 61) - 1, -(1 << 61), 1, 2))?;
+    builder.add_run(store, run(-3, -7, 5, 1))?;
+    builder.add_run(store, run(2, -7, 2, 3))?;
+    builder.add_run(store, run(5, -7, 1, 1))?;
+    builder.add_run(store, run(-3, -6, 5, 1))?;
+    builder.add_run(store, run(-(1 << 61), 4, 1 << 62, 255))?;
+    builder.add_run(store, run(1, 9, 3, 1))?;
+    builder.add_run(store, run(-(1 << 61), (1 << 61) - 1, 3, 4))?;
+    builder.add_run(store, run((1 << 61) - 2, (1 << 61) - 1, 2, 5))
 }
 
 fn by_rows<S: Squares>(alloc: Global, store: &mut S) -> Result<Id, Kind> {
@@ -62,8 +71,8 @@ fn diagonal<S: Squares>(alloc: Global, store: &mut S) -> Result<Id, Kind>
     ensures known { IfOk result (S.knows store.new) }
 {
     let mut builder = begun(alloc, store);
-    builder.add_run(store, -1, -1, 1, 1)?;
-    builder.add_run(store, 0, 0, 1, 2)?;
+    builder.add_run(store, run(-1, -1, 1, 1))?;
+    builder.add_run(store, run(0, 0, 1, 2))?;
     let root = builder.finish(store)?;
     trim(store, root, 1)
 }
@@ -71,16 +80,16 @@ fn diagonal<S: Squares>(alloc: Global, store: &mut S) -> Result<Id, Kind>
 // A cell in each of five rows: the fifth row asks for the squares of the first four, one of level 1 and one of level 2.
 fn five_rows<S: Squares>(alloc: Global, store: &mut S) -> Result<(), Kind> {
     let mut builder = begun(alloc, store);
-    builder.add_run(store, 0, 0, 1, 1)?;
-    builder.add_run(store, 0, 1, 1, 1)?;
-    builder.add_run(store, 0, 2, 1, 1)?;
-    builder.add_run(store, 0, 3, 1, 1)?;
-    builder.add_run(store, 0, 4, 1, 1)
+    builder.add_run(store, run(0, 0, 1, 1))?;
+    builder.add_run(store, run(0, 1, 1, 1))?;
+    builder.add_run(store, run(0, 2, 1, 1))?;
+    builder.add_run(store, run(0, 3, 1, 1))?;
+    builder.add_run(store, run(0, 4, 1, 1))
 }
 
 fn one_cell(alloc: Global, store: &mut Shared) -> Result<Id, Kind> {
     let mut builder = begun(alloc, store);
-    builder.add_run(store, 0, 0, 1, 1)?;
+    builder.add_run(store, run(0, 0, 1, 1))?;
     builder.finish(store)
 }
 

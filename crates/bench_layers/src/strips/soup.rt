@@ -7,7 +7,7 @@ ghost use Rattle.life_strip.specs.Filling.{IsFilling};
 ghost use Rattle.life_strip.specs.Given.{IsNext};
 ghost use Rattle.bench_layers.specs.Soup.{HasCome};
 
-use life_base::Kind;
+use life_base::{Kind, Run};
 use life_quad::{Id, Squares};
 use life_strip::{Builder, laws};
 use std::alloc::Global;
@@ -94,13 +94,13 @@ fn add<S: Squares>(
     requires later { ((stretch.row ≡ last.row) × (last.end ≤ stretch.start)) ⊎ (last.row < stretch.row) }
     ensures come { OnOk result (HasCome (S.knows squares.new) (S.content squares.new) builder.new (pos stretch.end) (pos stretch.row)) }
 {
-    builder.add_run(
-        squares,
-        i64::from(stretch.start),
-        i64::from(stretch.row),
-        u64::from(stretch.end - stretch.start),
-        1,
-    )?;
+    let run = Run {
+        x: i64::from(stretch.start),
+        y: i64::from(stretch.row),
+        len: u64::from(stretch.end - stretch.start),
+        state: 1,
+    };
+    builder.add_run(squares, run)?;
     Ok(())
 }
 
@@ -137,7 +137,13 @@ pub(crate) fn stripes<S: Squares>(alloc: Global, squares: &mut S, rows: u32) -> 
 {
     let mut builder = begun(alloc, squares);
     for row in 0..rows {
-        builder.add_run(squares, -(1 << 61), i64::from(row) * 2, 1 << 62, 1)?;
+        let run = Run {
+            x: -(1 << 61),
+            y: i64::from(row) * 2,
+            len: 1 << 62,
+            state: 1,
+        };
+        builder.add_run(squares, run)?;
     }
     builder.finish(squares)
 }
@@ -153,7 +159,13 @@ pub(crate) fn scattered<S: Squares>(alloc: Global, squares: &mut S, count: u32) 
         seed = seed
             .wrapping_mul(6364136223846793005)
             .wrapping_add(1442695040888963407);
-        builder.add_run(squares, (seed >> 6) as i64, i64::from(row) * 67108864, 1, 1)?;
+        let run = Run {
+            x: (seed >> 6) as i64,
+            y: i64::from(row) * 67108864,
+            len: 1,
+            state: 1,
+        };
+        builder.add_run(squares, run)?;
     }
     builder.finish(squares)
 }

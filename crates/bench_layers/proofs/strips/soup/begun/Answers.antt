@@ -1,5 +1,5 @@
 use Rattle.std.proofs.Common.{◌≡◌, ◌-◌, List, length, Some, None, slice_get, sym, ◌∙◌, ap}
-use Rattle.life_strip.specs.Given.{GivenRun}
+use Rattle.life_base.specs.declared.cell.Run.{Run}
 use Rattle.bench_layers.proofs.strips.soup.begun.Goals as goal
 
 pub returns-clause-filling : goal.returns-clause-filling
@@ -7,4 +7,4 @@ returns-clause-filling g c = c.empty_builder_fills.ensures c.args.squares.now c.
 
 pub returns-clause-next : goal.returns-clause-next
 returns-clause-next g c x y last e =
-    absurd (let f : None ≡ Some last = sym (ap (λ (runs : List GivenRun). slice_get runs (length runs - 1)) c.new.ensures.runs) ∙ e in cc)
+    absurd (let f : None ≡ Some last = sym (ap (λ (runs : List Run). slice_get runs (length runs - 1)) c.new.ensures.runs) ∙ e in cc)
