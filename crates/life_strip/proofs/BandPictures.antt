@@ -2,7 +2,6 @@
 use Rattle.life_base.specs.declared.cell.TheConstants.{MAX_LEVEL}
 use Rattle.std.proofs.Common.{append-nil, length-append, ◌≡◌, ℕ, zero, suc, ◌+◌, ◌-◌, ◌*◌, ◌/◌, ◌%◌, ◌^◌, ◌≤◌, ◌<◌, ◌⊎◌, inl, inr, Bool, true, false, nat_lt, List, [], ◌∷◌, ◌++◌, length, get_or, All, refl, sym, ◌∙◌, ap, subst, arith}
 use Rattle.std.specs.Prelude.{if◌then◌else◌}
-use Rattle.std.proofs.lemmas.List.Elements.{All-push}
 use Rattle.std.proofs.lemmas.Nat.{mod_below, div-add-mod', pow-add}
 use Rattle.std.proofs.Math.Nat.{add-mul, mul_assoc}
 use Rattle.life_quad.specs.declared.id.Id.{Id}
@@ -11,10 +10,12 @@ use Rattle.life_base.specs.Tree.{Tree, point, quad, depth, state_at, IsFull}
 use Rattle.life_base.proofs.Squares.{at_nw, at_ne, at_sw, at_se}
 use Rattle.life_strip.specs.declared.spans.Span.{Span}
 use Rattle.life_strip.specs.declared.spans.Strip.{Strip}
+use Rattle.life_strip.specs.declared.pile.Pile.{Pile}
 use Rattle.life_strip.specs.Strip.{square_at, quad_at, IsStrip, AreWithin}
 use Rattle.life_strip.specs.Picture.{state_in, picture, height, AreFalling, IsLowest, IsSound}
 use Rattle.life_strip.specs.Needed.{SomeSquare}
-use Rattle.life_strip.specs.Band.{IsPile, four_at}
+use Rattle.life_strip.specs.Band.{four_at}
+use Rattle.life_strip.specs.Pile.{IsPile}
 use Rattle.life_strip.proofs.SpanLemmas.{Keeps, depth-square_at}
 use Rattle.life_strip.proofs.GivenLemmas.{all_rest}
 use Rattle.life_strip.proofs.PlaneLemmas.{picture-keeps}
@@ -471,10 +472,10 @@ none_of [] e = refl
 none_of (x ∷ xs) e = absurd (omega (arith, e))
 
 -- strips of whole bands alone
-pub pile-alone : (knows : Id → Type 0) (content : Id → Tree) (xs ys : List Strip) → ys ≡ [] → All (IsSound knows content) xs → AreFalling xs → IsLowest 2 xs
-    → IsPile knows content xs ys
-pile-alone knows content xs ys e sound falling lowest =
-    let none : length ys ≡ 0 = ap length e in
+pub pile-alone : (knows : Id → Type 0) (content : Id → Tree) (pile : Pile) → pile.band.items ≡ [] → All (IsSound knows content) pile.strips.items
+    → AreFalling pile.strips.items → IsLowest 2 pile.strips.items → IsPile knows content pile
+pile-alone knows content pile e sound falling lowest =
+    let none : length pile.band.items ≡ 0 = ap length e in
     record {
       sound = sound;
       falling = falling;
@@ -482,18 +483,4 @@ pile-alone knows content xs ys e sound falling lowest =
       rows_sound = λ k d lt. absurd (omega (arith, lt, none));
       rows = λ k d lt. absurd (omega (arith, lt, none));
       few = omega (arith, none);
-    }
-
--- one row more of a band
-pub pile-push : (knows : Id → Type 0) (content : Id → Tree) (xs ys : List Strip) (row : Strip) → IsPile knows content xs ys → IsSound knows content row
-    → row.level ≡ 0 → length ys ≤ 2 → IsPile knows content xs (ys ++ row ∷ [])
-pile-push knows content xs ys row pile sound level few =
-    let n = length-append ys (row ∷ []) in
-    record {
-      sound = pile.sound;
-      falling = pile.falling;
-      lowest = pile.lowest;
-      rows_sound = All-push (IsSound knows content) ys row pile.rows_sound sound;
-      rows = All-push (λ s. s.level ≡ 0) ys row pile.rows level;
-      few = omega (arith, n, few);
     }

@@ -56,8 +56,8 @@ needed-runs content b rows most cells s = SomeSquare-within (omega arith) (λ i 
 
 unfilled-filled : (knows : Id → Type 0) (content : Id → Tree) (p : Plane) → IsUnfilled p → IsFilled knows content p
 unfilled-filled knows content p h =
-    let none : length p.strips.items ≡ 0 = ap length h.strips in
-    let no_rows : length p.band.items ≡ 0 = ap length h.band in
+    let none : length p.pile.strips.items ≡ 0 = ap length h.strips in
+    let no_rows : length p.pile.band.items ≡ 0 = ap length h.band in
     let few : length p.row.spans.items ≡ 0 = ap length h.row in
     record {
       pile = record {

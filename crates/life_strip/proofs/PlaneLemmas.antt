@@ -14,10 +14,11 @@ use Rattle.life_base.proofs.Squares.{Inside, is_inside, inside_offset, inside_fa
 use Rattle.life_base.specs.declared.cell.Run.{Run}
 use Rattle.life_strip.specs.declared.spans.Span.{Span}
 use Rattle.life_strip.specs.declared.spans.Strip.{Strip}
+use Rattle.life_strip.specs.declared.pile.Pile.{Pile}
 use Rattle.life_strip.specs.declared.plane.Plane.{Plane}
 use Rattle.life_strip.specs.Strip.{id_at, id_or, square_at, IsStrip}
 use Rattle.life_strip.specs.Picture.{state_in, picture, height, IsSound}
-use Rattle.life_strip.specs.Band.{IsPile}
+use Rattle.life_strip.specs.Pile.{IsPile, strips_of}
 use Rattle.life_strip.specs.Given.{half_plane, IsOnPlane}
 use Rattle.life_strip.specs.Plane.{on_plane, cell_so_far, IsFilled, IsFree, AddsRun}
 use Rattle.life_strip.proofs.SpanLemmas.{Keeps, content_or, known_or, id_at-before, id_at-after}
@@ -288,13 +289,13 @@ no_gap xs b c h = h.1 ∙ ap (λ o. Some (id_or b o)) (sym h.1)
 
 module _ {knows knows' : Id → Type 0} {old new : Id → Tree} (keeps : Keeps knows knows' old new) where
   -- the squares are there in a store that keeps its Ids
-  pub pile-keeps : (strips band : List Strip) → IsPile knows old strips band → IsPile knows' new strips band
-  pile-keeps strips band h =
+  pub pile-keeps : (pile : Pile) → IsPile knows old pile → IsPile knows' new pile
+  pile-keeps pile h =
       record {
-        sound = all-keeps {knows = knows} {knows' = knows'} {old = old} {new = new} keeps strips h.sound;
+        sound = all-keeps {knows = knows} {knows' = knows'} {old = old} {new = new} keeps pile.strips.items h.sound;
         falling = h.falling;
         lowest = h.lowest;
-        rows_sound = all-keeps {knows = knows} {knows' = knows'} {old = old} {new = new} keeps band h.rows_sound;
+        rows_sound = all-keeps {knows = knows} {knows' = knows'} {old = old} {new = new} keeps pile.band.items h.rows_sound;
         rows = h.rows;
         few = h.few;
       }
@@ -302,7 +303,7 @@ module _ {knows knows' : Id → Type 0} {old new : Id → Tree} (keeps : Keeps k
   pub filled-keeps : (b : Plane) → IsFilled knows old b → IsFilled knows' new b
   filled-keeps b h =
       record {
-        pile = pile-keeps b.strips.items b.band.items h.pile;
+        pile = pile-keeps b.pile h.pile;
         row = sound-keeps {knows = knows} {knows' = knows'} {old = old} {new = new} keeps b.row h.row;
         level = h.level;
         rows = h.rows;
@@ -313,7 +314,7 @@ module _ {knows knows' : Id → Type 0} {old new : Id → Tree} (keeps : Keeps k
   pub cells-keep : (b : Plane) → IsFilled knows old b → (x y : ℤ) → cell_so_far new b x y ≡ cell_so_far old b x y
   cells-keep b h x y =
       let P = IsSound knows old in
-      let over = All-append P b.strips.items b.band.items h.pile.sound h.pile.rows_sound in
-      let same = picture-keeps {knows = knows} {knows' = knows'} {old = old} {new = new} keeps ((b.strips.items ++ b.band.items) ++ b.row ∷ [])
-      (All-push P (b.strips.items ++ b.band.items) b.row over h.row) in
+      let over = All-append P b.pile.strips.items b.pile.band.items h.pile.sound h.pile.rows_sound in
+      let same = picture-keeps {knows = knows} {knows' = knows'} {old = old} {new = new} keeps (strips_of b.pile ++ b.row ∷ [])
+      (All-push P (strips_of b.pile) b.row over h.row) in
       λ k. if is_inside half_plane x y then same (unsigned_abs (x +ℤ pos half_plane)) (unsigned_abs (y +ℤ pos half_plane)) k else 0

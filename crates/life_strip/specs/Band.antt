@@ -3,10 +3,8 @@ use Rattle.std.specs.Prelude.{◌≡◌, ℕ, ◌+◌, ◌*◌, ◌≤◌, ◌<�
 use Rattle.life_quad.specs.declared.id.Id.{Id}
 use Rattle.life_base.specs.Tree.{Tree, quad, state_at}
 use Rattle.life_strip.specs.declared.spans.Span.{Span}
-use Rattle.life_strip.specs.declared.spans.Strip.{Strip}
 use Rattle.life_strip.specs.declared.words.Words.{Words}
 use Rattle.life_strip.specs.Strip.{quad_at, id_at, square_at}
-use Rattle.life_strip.specs.Picture.{AreFalling, IsLowest, IsSound}
 
 -- the square of level 2 in a column of four rows of cells
 abbrev pub four_at : (Id → Tree) → List Span → List Span → List Span → List Span → ℕ → Tree
@@ -58,12 +56,3 @@ pub record IsExtended (before after : List Span) (column end : ℕ) (square : Id
 pub record FilledTo (knows : Id → Type 0) (content : Id → Tree) (want : ℕ → Tree) (spans : List Span) (column : ℕ) : Type 0 where
   pub ends : All (λ s. s.end ≤ column) spans
   pub done : (c : ℕ) → c < column → (id : Id) × (id_at spans c ≡ Some id) × knows id × (content id ≡ want c)
-
--- the strips of whole bands of four rows have falling levels, and below them are at most three rows
-pub record IsPile (knows : Id → Type 0) (content : Id → Tree) (strips band : List Strip) : Type 0 where
-  pub sound : All (IsSound knows content) strips
-  pub falling : AreFalling strips
-  pub lowest : IsLowest 2 strips
-  pub rows_sound : All (IsSound knows content) band
-  pub rows : All (λ s. s.level ≡ 0) band
-  pub few : length band ≤ 3

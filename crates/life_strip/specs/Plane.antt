@@ -8,20 +8,20 @@ use Rattle.life_quad.specs.Cells.{IsInRun}
 use Rattle.life_strip.specs.declared.plane.Plane.{Plane}
 use Rattle.life_strip.specs.Given.{half_plane}
 use Rattle.life_strip.specs.Picture.{picture, height, IsSound}
-use Rattle.life_strip.specs.Band.{IsPile}
+use Rattle.life_strip.specs.Pile.{IsPile, strips_of}
 
 -- the store knows every Id that is kept, and the strips of the whole bands have falling levels; the row that was begun is on the plane
 pub record IsFilled (knows : Id → Type 0) (content : Id → Tree) (p : Plane) : Type 0 where
-  pub pile : IsPile knows content p.strips.items p.band.items
+  pub pile : IsPile knows content p.pile
   pub row : IsSound knows content p.row
   pub level : p.row.level ≡ 0
-  pub rows : height (p.strips.items ++ p.band.items) ≡ p.rows
+  pub rows : height (strips_of p.pile) ≡ p.rows
   pub most : p.rows < 2 ^ MAX_LEVEL
 
 -- no cell was filled yet
 pub record IsUnfilled (p : Plane) : Type 0 where
-  pub strips : p.strips.items ≡ []
-  pub band : p.band.items ≡ []
+  pub strips : p.pile.strips.items ≡ []
+  pub band : p.pile.band.items ≡ []
   pub rows : p.rows ≡ 0
   pub level : p.row.level ≡ 0
   pub row : p.row.spans.items ≡ []
@@ -36,7 +36,7 @@ on_plane state x y =
 
 -- the state in a column and a row, counted from the edges of the plane: the strips, below them the rows of a band, and below those the row that was begun
 abbrev pub state_so_far : (Id → Tree) → Plane → ℕ → ℕ → ℕ
-state_so_far content p = picture content ((p.strips.items ++ p.band.items) ++ p.row ∷ [])
+state_so_far content p = picture content (strips_of p.pile ++ p.row ∷ [])
 
 -- the same by the coordinates of the plane
 abbrev pub cell_so_far : (Id → Tree) → Plane → ℤ → ℤ → ℕ

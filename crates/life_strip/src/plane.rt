@@ -5,10 +5,9 @@ ghost use Rattle.life_base.specs.Tree.{depth, tree_cell};
 ghost use Rattle.life_quad.specs.Keeping.{KeepsSquares};
 ghost use Rattle.life_strip.specs.Given.{IsOnPlane, half_plane};
 ghost use Rattle.life_strip.specs.Needed.{SomeSquare};
-ghost use Rattle.life_strip.specs.Picture.{picture};
 ghost use Rattle.life_strip.specs.Plane.{IsFilled, IsUnfilled, IsFree, AddsRun, state_so_far, cell_so_far};
 
-use crate::rows::{end_row, whole_plane};
+use crate::pile::Pile;
 use crate::spans::{Strip, push_span};
 use life_base::{Kind, MAX_LEVEL, Run};
 use life_quad::{Id, Squares};
@@ -24,11 +23,8 @@ const SIDE: u64 = 1 << MAX_LEVEL;
 // The squares of the cells that were filled: row by row from the north, and in a row from west to east. It keeps Ids of the store alone.
 #[derive(Drop)]
 pub(crate) struct Plane {
-    alloc: Global,
-    // The rows that are over, from the north: whole bands of four in strips of falling levels, and the rows of the next band.
-    strips: Vec<Strip>,
-    band: Vec<Strip>,
-    // How many rows are over.
+    // The rows that are over, and how many.
+    pile: Pile,
     rows: u64,
     // The row that follows, as far as it was given.
     row: Strip,
@@ -49,9 +45,7 @@ impl Plane {
         ensures { IsUnfilled result }
     {
         Plane {
-            alloc,
-            strips: Vec::new(alloc),
-            band: Vec::new(alloc),
+            pile: Pile::new(alloc),
             rows: 0,
             row: Strip {
                 level: 0,
@@ -68,7 +62,7 @@ impl Plane {
         ensures filled { OnOk result (IsFilled (S.knows squares.new) (S.content squares.new) self.new) }
         ensures rows { OnOk result (self.new.rows ≡ row) }
         ensures ends { OnOk result ((n : ℕ) → (self.old.rows ≡ row → All (λ s. s.end ≤ n) self.old.row.spans.items) → All (λ s. s.end ≤ n) self.new.row.spans.items) }
-        ensures picture { OnOk result ((i j : ℕ) → picture (S.content squares.new) ((self.new.strips.items ++ self.new.band.items) ++ self.new.row ∷ []) i j ≡ picture (S.content squares.old) ((self.old.strips.items ++ self.old.band.items) ++ self.old.row ∷ []) i j) }
+        ensures picture { OnOk result ((i j : ℕ) → state_so_far (S.content squares.new) self.new i j ≡ state_so_far (S.content squares.old) self.old i j) }
         ensures keeps { KeepsSquares S.knows S.content S.stored S.most squares.old squares.new }
         ensures refusals { IfErr result (λ e. (e ≡ Full) ⊎ (e ≡ Memory)) }
         ensures full { result ≡ Err Full → length (S.stored squares.new) ≡ S.most squares.new }
@@ -81,17 +75,10 @@ impl Plane {
         let room = self.row.spans.len() / 8 * 9 + 2;
         let next = Strip {
             level: 0,
-            spans: Vec::with_capacity(self.alloc, room)?,
+            spans: Vec::with_capacity(self.pile.alloc, room)?,
         };
         let begun = mem::replace(&mut self.row, next);
-        end_row(
-            squares,
-            self.alloc,
-            &mut self.strips,
-            &mut self.band,
-            begun,
-            row - self.rows - 1,
-        )?;
+        self.pile.end_row(squares, begun, row - self.rows - 1)?;
         self.rows = row;
         Ok(())
     }
@@ -130,13 +117,7 @@ impl Plane {
         ensures full { result ≡ Err Full → length (S.stored squares.new) ≡ S.most squares.new }
         ensures needed { result ≡ Err Full → SomeSquare (S.needs_node squares.new) (2 ^ MAX_LEVEL) (state_so_far (S.content squares.old) self) }
     {
-        let Plane {
-            alloc,
-            mut strips,
-            mut band,
-            rows,
-            row,
-        } = self;
-        whole_plane(squares, alloc, &mut strips, &mut band, row, SIDE - rows - 1)
+        let Plane { pile, rows, row } = self;
+        pile.whole_plane(squares, row, SIDE - rows - 1)
     }
 }

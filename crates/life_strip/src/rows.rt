@@ -6,7 +6,6 @@ ghost use Rattle.life_quad.specs.Keeping.{KeepsSquares};
 ghost use Rattle.life_strip.specs.Strip.{quad_at};
 ghost use Rattle.life_strip.specs.Picture.{picture, height, AreFalling, IsLowest, IsSound, IsStack};
 ghost use Rattle.life_strip.specs.Needed.{SomeSquare};
-ghost use Rattle.life_strip.specs.Band.{IsPile};
 
 use crate::bands::band;
 use crate::spans::{Strip, find, pair};
@@ -47,7 +46,7 @@ fn merge<S: Squares>(
 }
 
 // One strip more, below the others. While the last two have one level, they become one of the next.
-fn push_strip<S: Squares>(
+pub(crate) fn push_strip<S: Squares>(
     squares: &mut S,
     alloc: Global,
     strips: &mut Vec<Strip>,
@@ -81,7 +80,7 @@ fn push_strip<S: Squares>(
 }
 
 // The largest level of a blank strip that fits below the others and into this many rows.
-fn blank_level(strips: &[Strip], rows: u64) -> u8
+pub(crate) fn blank_level(strips: &[Strip], rows: u64) -> u8
     requires positive { 1 ≤ rows }
     requires within { rows ≤ 2 ^ MAX_LEVEL }
     requires falling { AreFalling strips.now }
@@ -97,37 +96,8 @@ fn blank_level(strips: &[Strip], rows: u64) -> u8
     }
 }
 
-// Rows one by one below the strips. The order of the rows stays.
-fn push_rows<S: Squares>(
-    squares: &mut S,
-    alloc: Global,
-    strips: &mut Vec<Strip>,
-    band: &mut Vec<Strip>,
-) -> Result<(), Kind>
-    requires sound { All (IsSound (S.knows squares.old) (S.content squares.old)) strips.old.items }
-    requires band { All (IsSound (S.knows squares.old) (S.content squares.old)) band.old.items }
-    requires rows { All (λ s. s.level ≡ 0) band.old.items }
-    requires room { height (strips.old.items ++ band.old.items) ≤ 2 ^ MAX_LEVEL }
-    requires falling { AreFalling strips.old.items }
-    ensures empty { OnOk result (band.new.items ≡ []) }
-    ensures falling { OnOk result (AreFalling strips.new.items) }
-    ensures sound { OnOk result (All (IsSound (S.knows squares.new) (S.content squares.new)) strips.new.items) }
-    ensures height { OnOk result (height strips.new.items ≡ height (strips.old.items ++ band.old.items)) }
-    ensures picture { OnOk result ((column row : ℕ) → picture (S.content squares.new) strips.new.items column row ≡ picture (S.content squares.old) (strips.old.items ++ band.old.items) column row) }
-    ensures keeps { KeepsSquares S.knows S.content S.stored S.most squares.old squares.new }
-    ensures refusals { IfErr result (λ e. (e ≡ Full) ⊎ (e ≡ Memory)) }
-    ensures full { result ≡ Err Full → length (S.stored squares.new) ≡ S.most squares.new }
-    ensures needed { result ≡ Err Full → SomeSquare (S.needs_node squares.new) (height (strips.old.items ++ band.old.items)) (picture (S.content squares.old) (strips.old.items ++ band.old.items)) }
-{
-    let Some(last) = band.pop() else {
-        return Ok(());
-    };
-    push_rows(squares, alloc, strips, band)?;
-    push_strip(squares, alloc, strips, last)
-}
-
 // The strip of level 2 of four rows, if none of their cells has a state above 1.
-fn band_strip<S: Squares>(
+pub(crate) fn band_strip<S: Squares>(
     squares: &mut S,
     alloc: Global,
     rows: &[Strip],
@@ -153,129 +123,8 @@ fn band_strip<S: Squares>(
     }
 }
 
-// A whole band below the strips.
-fn close_band<S: Squares>(
-    squares: &mut S,
-    alloc: Global,
-    strips: &mut Vec<Strip>,
-    band: &mut Vec<Strip>,
-) -> Result<(), Kind>
-    requires sound { All (IsSound (S.knows squares.old) (S.content squares.old)) strips.old.items }
-    requires falling { AreFalling strips.old.items }
-    requires lowest { IsLowest 2 strips.old.items }
-    requires band { All (IsSound (S.knows squares.old) (S.content squares.old)) band.old.items }
-    requires rows { All (λ s. s.level ≡ 0) band.old.items }
-    requires whole { length band.old.items ≡ 4 }
-    requires room { height (strips.old.items ++ band.old.items) ≤ 2 ^ MAX_LEVEL }
-    ensures empty { OnOk result (band.new.items ≡ []) }
-    ensures falling { OnOk result (AreFalling strips.new.items) }
-    ensures sound { OnOk result (All (IsSound (S.knows squares.new) (S.content squares.new)) strips.new.items) }
-    ensures height { OnOk result (height strips.new.items ≡ height (strips.old.items ++ band.old.items)) }
-    ensures picture { OnOk result ((column row : ℕ) → picture (S.content squares.new) strips.new.items column row ≡ picture (S.content squares.old) (strips.old.items ++ band.old.items) column row) }
-    ensures keeps { KeepsSquares S.knows S.content S.stored S.most squares.old squares.new }
-    ensures refusals { IfErr result (λ e. (e ≡ Full) ⊎ (e ≡ Memory)) }
-    ensures full { result ≡ Err Full → length (S.stored squares.new) ≡ S.most squares.new }
-    ensures needed { result ≡ Err Full → SomeSquare (S.needs_node squares.new) (height (strips.old.items ++ band.old.items)) (picture (S.content squares.old) (strips.old.items ++ band.old.items)) }
-{
-    let Some(strip) = band_strip(squares, alloc, band.as_slice())? else {
-        return push_rows(squares, alloc, strips, band);
-    };
-    band.clear();
-    push_strip(squares, alloc, strips, strip)
-}
-
-// One row more, below the others. Four rows become a strip of level 2.
-fn push_row<S: Squares>(
-    squares: &mut S,
-    alloc: Global,
-    strips: &mut Vec<Strip>,
-    band: &mut Vec<Strip>,
-    row: Strip,
-) -> Result<(), Kind>
-    requires pile { IsPile (S.knows squares.old) (S.content squares.old) strips.old.items band.old.items }
-    requires row { IsSound (S.knows squares.old) (S.content squares.old) row }
-    requires level { row.level ≡ 0 }
-    requires room { height (strips.old.items ++ band.old.items) + 1 ≤ 2 ^ MAX_LEVEL }
-    ensures pile { OnOk result (IsPile (S.knows squares.new) (S.content squares.new) strips.new.items band.new.items) }
-    ensures height { OnOk result (height (strips.new.items ++ band.new.items) ≡ height (strips.old.items ++ band.old.items) + 1) }
-    ensures picture { OnOk result ((column j : ℕ) → picture (S.content squares.new) (strips.new.items ++ band.new.items) column j ≡ picture (S.content squares.old) ((strips.old.items ++ band.old.items) ++ row ∷ []) column j) }
-    ensures keeps { KeepsSquares S.knows S.content S.stored S.most squares.old squares.new }
-    ensures refusals { IfErr result (λ e. (e ≡ Full) ⊎ (e ≡ Memory)) }
-    ensures full { result ≡ Err Full → length (S.stored squares.new) ≡ S.most squares.new }
-    ensures needed { result ≡ Err Full → SomeSquare (S.needs_node squares.new) (height (strips.old.items ++ band.old.items) + 1) (picture (S.content squares.old) ((strips.old.items ++ band.old.items) ++ row ∷ [])) }
-{
-    band.push(row)?;
-    if band.len() < 4 {
-        return Ok(());
-    }
-    close_band(squares, alloc, strips, band)
-}
-
-// Rows without cells, in the fewest strips.
-fn skip_rows<S: Squares>(
-    squares: &mut S,
-    alloc: Global,
-    strips: &mut Vec<Strip>,
-    band: &mut Vec<Strip>,
-    count: u64,
-) -> Result<(), Kind>
-    requires pile { IsPile (S.knows squares.old) (S.content squares.old) strips.old.items band.old.items }
-    requires room { height (strips.old.items ++ band.old.items) + count ≤ 2 ^ MAX_LEVEL }
-    ensures pile { OnOk result (IsPile (S.knows squares.new) (S.content squares.new) strips.new.items band.new.items) }
-    ensures height { OnOk result (height (strips.new.items ++ band.new.items) ≡ height (strips.old.items ++ band.old.items) + count) }
-    ensures picture { OnOk result ((column row : ℕ) → picture (S.content squares.new) (strips.new.items ++ band.new.items) column row ≡ picture (S.content squares.old) (strips.old.items ++ band.old.items) column row) }
-    ensures keeps { KeepsSquares S.knows S.content S.stored S.most squares.old squares.new }
-    ensures refusals { IfErr result (λ e. (e ≡ Full) ⊎ (e ≡ Memory)) }
-    ensures full { result ≡ Err Full → length (S.stored squares.new) ≡ S.most squares.new }
-    ensures needed { result ≡ Err Full → SomeSquare (S.needs_node squares.new) (height (strips.old.items ++ band.old.items) + count) (picture (S.content squares.old) (strips.old.items ++ band.old.items)) }
-{
-    if count == 0 {
-        return Ok(());
-    }
-    if count < 4 || !band.is_empty() {
-        let row = Strip {
-            level: 0,
-            spans: Vec::new(alloc),
-        };
-        push_row(squares, alloc, strips, band, row)?;
-        return skip_rows(squares, alloc, strips, band, count - 1);
-    }
-    let level = blank_level(strips.as_slice(), count);
-    let strip = Strip {
-        level,
-        spans: Vec::new(alloc),
-    };
-    push_strip(squares, alloc, strips, strip)?;
-    skip_rows(squares, alloc, strips, band, count - (1 << level))
-}
-
-// One row more, below the others, and below it rows without cells.
-pub(crate) fn end_row<S: Squares>(
-    squares: &mut S,
-    alloc: Global,
-    strips: &mut Vec<Strip>,
-    band: &mut Vec<Strip>,
-    row: Strip,
-    blank_rows: u64,
-) -> Result<(), Kind>
-    requires pile { IsPile (S.knows squares.old) (S.content squares.old) strips.old.items band.old.items }
-    requires row { IsSound (S.knows squares.old) (S.content squares.old) row }
-    requires level { row.level ≡ 0 }
-    requires room { height (strips.old.items ++ band.old.items) + 1 + blank_rows ≤ 2 ^ MAX_LEVEL }
-    ensures pile { OnOk result (IsPile (S.knows squares.new) (S.content squares.new) strips.new.items band.new.items) }
-    ensures height { OnOk result (height (strips.new.items ++ band.new.items) ≡ height (strips.old.items ++ band.old.items) + 1 + blank_rows) }
-    ensures picture { OnOk result ((column j : ℕ) → picture (S.content squares.new) (strips.new.items ++ band.new.items) column j ≡ picture (S.content squares.old) ((strips.old.items ++ band.old.items) ++ row ∷ []) column j) }
-    ensures keeps { KeepsSquares S.knows S.content S.stored S.most squares.old squares.new }
-    ensures refusals { IfErr result (λ e. (e ≡ Full) ⊎ (e ≡ Memory)) }
-    ensures full { result ≡ Err Full → length (S.stored squares.new) ≡ S.most squares.new }
-    ensures needed { result ≡ Err Full → SomeSquare (S.needs_node squares.new) (height (strips.old.items ++ band.old.items) + 1 + blank_rows) (picture (S.content squares.old) ((strips.old.items ++ band.old.items) ++ row ∷ [])) }
-{
-    push_row(squares, alloc, strips, band, row)?;
-    skip_rows(squares, alloc, strips, band, blank_rows)
-}
-
 // The square of strips that fill the plane.
-fn whole<S: Squares>(squares: &S, strips: &[Strip]) -> Id
+pub(crate) fn whole<S: Squares>(squares: &S, strips: &[Strip]) -> Id
     requires sound { All (IsSound (S.knows squares.now) (S.content squares.now)) strips.now }
     requires falling { AreFalling strips.now }
     requires full { height strips.now ≡ 2 ^ MAX_LEVEL }
@@ -288,29 +137,4 @@ fn whole<S: Squares>(squares: &S, strips: &[Strip]) -> Id
         Some(strip) => find(strip.spans.as_slice(), 0, 0, blank).square,
         None => blank,
     }
-}
-
-// The square of the plane whose last row with cells this is.
-pub(crate) fn whole_plane<S: Squares>(
-    squares: &mut S,
-    alloc: Global,
-    strips: &mut Vec<Strip>,
-    band: &mut Vec<Strip>,
-    row: Strip,
-    blank_rows: u64,
-) -> Result<Id, Kind>
-    requires pile { IsPile (S.knows squares.old) (S.content squares.old) strips.old.items band.old.items }
-    requires row { IsSound (S.knows squares.old) (S.content squares.old) row }
-    requires level { row.level ≡ 0 }
-    requires whole { height (strips.old.items ++ band.old.items) + 1 + blank_rows ≡ 2 ^ MAX_LEVEL }
-    ensures known { IfOk result (S.knows squares.new) }
-    ensures level { IfOk result (λ r. depth (S.content squares.new r) ≡ MAX_LEVEL) }
-    ensures cells { IfOk result (λ r. (column j : ℕ) → column < 2 ^ MAX_LEVEL → j < 2 ^ MAX_LEVEL → state_at (S.content squares.new r) column j ≡ picture (S.content squares.old) ((strips.old.items ++ band.old.items) ++ row ∷ []) column j) }
-    ensures keeps { KeepsSquares S.knows S.content S.stored S.most squares.old squares.new }
-    ensures refusals { IfErr result (λ e. (e ≡ Full) ⊎ (e ≡ Memory)) }
-    ensures full { result ≡ Err Full → length (S.stored squares.new) ≡ S.most squares.new }
-    ensures needed { result ≡ Err Full → SomeSquare (S.needs_node squares.new) (2 ^ MAX_LEVEL) (picture (S.content squares.old) ((strips.old.items ++ band.old.items) ++ row ∷ [])) }
-{
-    end_row(squares, alloc, strips, band, row, blank_rows)?;
-    Ok(whole(squares, strips.as_slice()))
 }

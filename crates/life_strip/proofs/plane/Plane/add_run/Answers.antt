@@ -6,6 +6,8 @@ use Rattle.life_quad.specs.Span.{is_in_span}
 use Rattle.life_strip.specs.declared.spans.Strip.{Strip}
 use Rattle.life_strip.specs.Strip.{IsStrip, AreWithin}
 use Rattle.life_strip.specs.Picture.{picture, height}
+use Rattle.life_strip.specs.Pile.{strips_of}
+use Rattle.life_strip.specs.Plane.{state_so_far}
 use Rattle.life_strip.proofs.PictureLemmas.{on_ok_map, on_ok_map2}
 use Rattle.life_strip.proofs.PlaneLemmas.{column_of_run, row_of_run, next_ends, below_run, beside_run, row_pushed, row_strip, picture_pushed, AddsRun-span}
 use Rattle.life_strip.proofs.plane.Plane.add_run.Goals as goal
@@ -27,7 +29,7 @@ returns-clause-cells g c =
     let fill = c.in_ok-go_to_row.ensures.filled in
     let begun : IsStrip K C 0 self.row.spans.items = subst (λ n. IsStrip K C n self.row.spans.items) fill.level fill.row.squares in
     let row : Strip = record { level = self.row.level; spans = c.push_span.new.spans } in
-    let height_is : height (self.strips.items ++ self.band.items) ≡ c.offset-row.result = fill.rows ∙ c.in_ok-go_to_row.ensures.rows in
+    let height_is : height (strips_of self.pile) ≡ c.offset-row.result = fill.rows ∙ c.in_ok-go_to_row.ensures.rows in
     on_ok_map c.push_span.result
     (λ columns.
     let strip = row_strip K C self.row.spans.items row.spans.items c.offset-column.result c.args.run.len c.cell-blank.result c.cell-square.result begun
@@ -35,10 +37,10 @@ returns-clause-cells g c =
     let states = row_pushed K C self.row row c.offset-column.result c.args.run.len c.args.run.state c.cell-blank.result c.cell-square.result fill.row fill.level
     fill.level strip
     c.cell-blank.ensures.known c.cell-blank.ensures.square c.cell-square.ensures.square columns in
-    AddsRun-span (picture (g.S.Squares.content c.args.squares.now) ((c.args.self.now.strips.items ++ c.args.self.now.band.items) ++ c.args.self.now.row ∷ []))
-    (picture C ((self.strips.items ++ self.band.items) ++ row ∷ []))
+    AddsRun-span (state_so_far (g.S.Squares.content c.args.squares.now) c.args.self.now)
+    (picture C (strips_of self.pile ++ row ∷ []))
     c.args.run c.offset-column.result c.offset-row.result c.requires.inside ex ey
-    (λ i j. picture_pushed C (self.strips.items ++ self.band.items) self.row row c.offset-column.result c.args.run.len c.args.run.state fill.level fill.level
+    (λ i j. picture_pushed C (strips_of self.pile) self.row row c.offset-column.result c.args.run.len c.args.run.state fill.level fill.level
     states i j
     ∙ (λ k. if is_in_span c.offset-column.result (height_is k) c.args.run.len i j then c.args.run.state else c.in_ok-go_to_row.ensures.picture i j k)))
     c.push_span.ensures.columns

@@ -13,7 +13,7 @@ use Rattle.life_strip.proofs.NeededLemmas.{SomeSquare-same, err_again}
 use Rattle.life_strip.proofs.PictureLemmas.{on_ok_map, strips-kept}
 use Rattle.life_strip.proofs.PlaneLemmas.{picture-keeps}
 use Rattle.life_strip.proofs.BandPictures.{height-append, height-rows, picture-over, SomeSquare-below}
-use Rattle.life_strip.proofs.rows.close_band.Goals as goal
+use Rattle.life_strip.proofs.pile.Pile.close_band.Goals as goal
 
 -- strips and rows that a call kept have the cells that they had
 kept : {S : Type 0} {knows : S → Id → Type 0} {content : S → Id → Tree} {stored : S → List Tree} {most : S → ℕ} {old new : S}
@@ -47,8 +47,8 @@ band-cells {knows = knows} {content = content} {old = old} {new = new} keeps xs 
 pub returns-in_err-strip-clause-needed : goal.returns-in_err-strip-clause-needed
 returns-in_err-strip-clause-needed g c =
     let C = g.S.Squares.content c.args.squares.now in
-    let xs = c.args.strips.now.items in
-    let ys = c.args.band.now.items in
+    let xs = c.args.self.now.strips.items in
+    let ys = c.args.self.now.band.items in
     let h = height-append xs ys in
     let four = height-rows ys c.requires.rows in
     let p = err_from_is_err_and c.from_residual.result c.from_residual.ensures.1 in
@@ -59,7 +59,7 @@ returns-in_err-strip-clause-needed g c =
     (c.in_err-strip.ensures.needed (err_again e)))))
 
 pub push_rows-requires-clause-sound : goal.push_rows-requires-clause-sound
-push_rows-requires-clause-sound g c = strips-kept c.in_ok-strip.ensures.keeps c.args.strips.now.items c.requires.sound
+push_rows-requires-clause-sound g c = strips-kept c.in_ok-strip.ensures.keeps c.args.self.now.strips.items c.requires.sound
 
 pub returns-in_default-clause-keeps : goal.returns-in_default-clause-keeps
 returns-in_default-clause-keeps g c = keeps-then c.in_ok-strip.ensures.keeps c.push_rows.ensures.keeps
@@ -67,26 +67,26 @@ returns-in_default-clause-keeps g c = keeps-then c.in_ok-strip.ensures.keeps c.p
 pub returns-in_default-clause-picture : goal.returns-in_default-clause-picture
 returns-in_default-clause-picture g c =
     on_ok_map c.push_rows.result
-    (λ e i j. e i j ∙ kept c.in_ok-strip.ensures.keeps c.args.strips.now.items c.args.band.now.items c.requires.sound c.requires.band i j)
+    (λ e i j. e i j ∙ kept c.in_ok-strip.ensures.keeps c.args.self.now.strips.items c.args.self.now.band.items c.requires.sound c.requires.band i j)
     c.push_rows.ensures.picture
 
 pub returns-in_default-clause-needed : goal.returns-in_default-clause-needed
 returns-in_default-clause-needed g c =
-    λ e. SomeSquare-same (omega arith) (kept c.in_ok-strip.ensures.keeps c.args.strips.now.items c.args.band.now.items c.requires.sound c.requires.band)
+    λ e. SomeSquare-same (omega arith) (kept c.in_ok-strip.ensures.keeps c.args.self.now.strips.items c.args.self.now.band.items c.requires.sound c.requires.band)
     (c.push_rows.ensures.needed e)
 
 pub push_strip-requires-clause-sound : goal.push_strip-requires-clause-sound
-push_strip-requires-clause-sound g c = strips-kept c.in_ok-strip.ensures.keeps c.args.strips.now.items c.requires.sound
+push_strip-requires-clause-sound g c = strips-kept c.in_ok-strip.ensures.keeps c.args.self.now.strips.items c.requires.sound
 
 pub push_strip-requires-clause-room : goal.push_strip-requires-clause-room
 push_strip-requires-clause-room g c =
-    let h = band-height c.args.strips.now.items c.args.band.now.items _ c.in-Some.strip c.requires.rows c.requires.whole c.in-Some.is
+    let h = band-height c.args.self.now.strips.items c.args.self.now.band.items _ c.in-Some.strip c.requires.rows c.requires.whole c.in-Some.is
     c.in_ok-strip.ensures.level in
     omega (arith, h, c.requires.room)
 
 pub returns-clause-height : goal.returns-clause-height
 returns-clause-height g c =
-    let h = band-height c.args.strips.now.items c.args.band.now.items _ c.in-Some.strip c.requires.rows c.requires.whole c.in-Some.is
+    let h = band-height c.args.self.now.strips.items c.args.self.now.band.items _ c.in-Some.strip c.requires.rows c.requires.whole c.in-Some.is
     c.in_ok-strip.ensures.level in
     on_ok_map c.push_strip.result (λ e. e ∙ h) c.push_strip.ensures.height
 
@@ -97,14 +97,14 @@ pub returns-clause-picture : goal.returns-clause-picture
 returns-clause-picture g c =
     let r = c.in_ok-strip.ensures in
     on_ok_map c.push_strip.result
-    (λ e i j. e i j ∙ band-cells r.keeps c.args.strips.now.items c.args.band.now.items _ _ c.in-Some.strip c.requires.sound c.in-Some.is
+    (λ e i j. e i j ∙ band-cells r.keeps c.args.self.now.strips.items c.args.self.now.band.items _ _ c.in-Some.strip c.requires.sound c.in-Some.is
     c.as_slice.ensures.value r.picture i j)
     c.push_strip.ensures.picture
 
 pub returns-clause-needed : goal.returns-clause-needed
 returns-clause-needed g c =
     let r = c.in_ok-strip.ensures in
-    let h = band-height c.args.strips.now.items c.args.band.now.items _ c.in-Some.strip c.requires.rows c.requires.whole c.in-Some.is r.level in
+    let h = band-height c.args.self.now.strips.items c.args.self.now.band.items _ c.in-Some.strip c.requires.rows c.requires.whole c.in-Some.is r.level in
     λ e. SomeSquare-same (omega (arith, h))
-    (band-cells r.keeps c.args.strips.now.items c.args.band.now.items _ _ c.in-Some.strip c.requires.sound c.in-Some.is c.as_slice.ensures.value r.picture)
+    (band-cells r.keeps c.args.self.now.strips.items c.args.self.now.band.items _ _ c.in-Some.strip c.requires.sound c.in-Some.is c.as_slice.ensures.value r.picture)
     (c.push_strip.ensures.needed e)

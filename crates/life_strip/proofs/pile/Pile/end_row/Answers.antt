@@ -2,7 +2,7 @@ use Rattle.std.proofs.Common.{◌∙◌, arith}
 use Rattle.life_quad.proofs.KeepingLemmas.{keeps-then}
 use Rattle.life_strip.proofs.NeededLemmas.{SomeSquare-same}
 use Rattle.life_strip.proofs.PictureLemmas.{on_ok_map}
-use Rattle.life_strip.proofs.rows.end_row.Goals as goal
+use Rattle.life_strip.proofs.pile.Pile.end_row.Goals as goal
 
 pub returns-clause-height : goal.returns-clause-height
 returns-clause-height g c = on_ok_map c.skip_rows.result (λ e. e ∙ (omega (arith, c.in_ok-push_row.ensures.height))) c.skip_rows.ensures.height

@@ -10,7 +10,7 @@ use Rattle.life_strip.specs.Needed.{SomeSquare}
 use Rattle.life_strip.proofs.NeededLemmas.{SomeSquare-same}
 use Rattle.life_strip.proofs.PictureLemmas.{on_ok_map, all_init, all_last, append-last, height-last}
 use Rattle.life_strip.proofs.BandPictures.{all-one, picture-under, SomeSquare-above}
-use Rattle.life_strip.proofs.rows.+push_rows.Goals as goal
+use Rattle.life_strip.proofs.pile.Pile.+push_rows.Goals as goal
 
 -- the last row, below strips that have the cells of the rows above it, is the last of all
 last-below : {S : Type 0} {knows : S → Id → Type 0} {content : S → Id → Tree} {stored : S → List Tree} {most : S → ℕ} {old new : S}
@@ -29,19 +29,19 @@ push_rows-requires g t c κs within =
     let P = IsSound (g.S.Squares.knows c.args.squares.now) (g.S.Squares.content c.args.squares.now) in
     let items = c.in-Some.ensures.items in
     let init = c.pop.new.self.items in
-    let h = height-last c.args.strips.now.items init c.args.band.now.items c.in-Some.last items in
+    let h = height-last c.args.self.now.strips.items init c.args.self.now.band.items c.in-Some.last items in
     let band = all_init P init c.in-Some.last (subst (All P) items c.requires.band) in
     let rows = all_init (λ s. s.level ≡ 0) init c.in-Some.last (subst (All (λ s. s.level ≡ 0)) items c.requires.rows) in
     (search rules, (search rules, (c.requires.sound, (band, (rows, (omega (arith, h, c.requires.room), c.requires.falling))))))
 
 pub push_strip-requires-clause-room : goal.push_strip-requires-clause-room
 push_strip-requires-clause-room g t c =
-    let h = height-last c.args.strips.now.items c.pop.new.self.items c.args.band.now.items c.in-Some.last c.in-Some.ensures.items in
+    let h = height-last c.args.self.now.strips.items c.pop.new.self.items c.args.self.now.band.items c.in-Some.last c.in-Some.ensures.items in
     omega (arith, h, c.requires.room, c.in_ok-push_rows.ensures.height)
 
 pub returns-clause-height : goal.returns-clause-height
 returns-clause-height g t c =
-    let h = height-last c.args.strips.now.items c.pop.new.self.items c.args.band.now.items c.in-Some.last c.in-Some.ensures.items in
+    let h = height-last c.args.self.now.strips.items c.pop.new.self.items c.args.self.now.band.items c.in-Some.last c.in-Some.ensures.items in
     on_ok_map c.push_strip.result (λ e. omega (arith, e, h, c.in_ok-push_rows.ensures.height)) c.push_strip.ensures.height
 
 pub returns-clause-keeps : goal.returns-clause-keeps
@@ -52,16 +52,16 @@ returns-clause-picture g t c =
     let r = c.in_ok-push_rows.ensures in
     on_ok_map c.push_strip.result
     (λ e i j. e i j
-    ∙ last-below r.keeps c.args.strips.now.items c.pop.new.self.items c.args.band.now.items c.push_rows.new.strips.items c.in-Some.last c.in-Some.ensures.items
+    ∙ last-below r.keeps c.args.self.now.strips.items c.pop.new.self.items c.args.self.now.band.items c.push_rows.new.self.strips.items c.in-Some.last c.in-Some.ensures.items
     c.requires.band r.height r.picture i j)
     c.push_strip.ensures.picture
 
 pub returns-in_err-push_rows-clause-needed : goal.returns-in_err-push_rows-clause-needed
 returns-in_err-push_rows-clause-needed g t c =
     let C = g.S.Squares.content c.args.squares.now in
-    let xs = c.args.strips.now.items in
+    let xs = c.args.self.now.strips.items in
     let ys = c.pop.new.self.items in
-    let zs = c.args.band.now.items in
+    let zs = c.args.self.now.band.items in
     let last = c.in-Some.last in
     let h = height-last xs ys zs last c.in-Some.ensures.items in
     let p = err_from_is_err_and c.from_residual.result c.from_residual.ensures.1 in
@@ -73,8 +73,8 @@ returns-in_err-push_rows-clause-needed g t c =
 pub returns-clause-needed : goal.returns-clause-needed
 returns-clause-needed g t c =
     let r = c.in_ok-push_rows.ensures in
-    let h = height-last c.args.strips.now.items c.pop.new.self.items c.args.band.now.items c.in-Some.last c.in-Some.ensures.items in
+    let h = height-last c.args.self.now.strips.items c.pop.new.self.items c.args.self.now.band.items c.in-Some.last c.in-Some.ensures.items in
     λ e. SomeSquare-same (omega (arith, h, r.height))
-    (last-below r.keeps c.args.strips.now.items c.pop.new.self.items c.args.band.now.items c.push_rows.new.strips.items c.in-Some.last c.in-Some.ensures.items
+    (last-below r.keeps c.args.self.now.strips.items c.pop.new.self.items c.args.self.now.band.items c.push_rows.new.self.strips.items c.in-Some.last c.in-Some.ensures.items
     c.requires.band r.height r.picture)
     (c.push_strip.ensures.needed e)

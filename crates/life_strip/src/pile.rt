@@ -1,0 +1,186 @@
+//! The rows of the plane that are over.
+ghost use Rattle.std.specs.Prelude.{◌≡◌, ℕ, ◌+◌, ◌^◌, ◌<◌, ◌≤◌, ◌⊎◌, ◌++◌, ◌∷◌, [], All, length, Err, IfOk, IfErr, OnOk};
+ghost use Rattle.life_base.specs.declared.kind.Kind.TheVariants.{Full, Memory};
+ghost use Rattle.life_base.specs.Tree.{depth, state_at};
+ghost use Rattle.life_quad.specs.Keeping.{KeepsSquares};
+ghost use Rattle.life_strip.specs.Picture.{picture, height, AreFalling, IsLowest, IsSound};
+ghost use Rattle.life_strip.specs.Needed.{SomeSquare};
+ghost use Rattle.life_strip.specs.Pile.{IsPile, strips_of};
+
+use crate::rows::{band_strip, blank_level, push_strip, whole};
+use crate::spans::Strip;
+use life_base::{Kind, MAX_LEVEL};
+use life_quad::{Id, Squares};
+use std::alloc::Global;
+
+// The rows that are over, from the north: whole bands of four in strips of falling levels, and the rows of the next band.
+#[derive(Drop)]
+pub(crate) struct Pile {
+    pub(crate) alloc: Global,
+    strips: Vec<Strip>,
+    band: Vec<Strip>,
+}
+
+impl Pile {
+    // No row yet.
+    pub(crate) fn new(alloc: Global) -> Pile
+        ensures strips { result.strips.items ≡ [] }
+        ensures band { result.band.items ≡ [] }
+    {
+        Pile {
+            alloc,
+            strips: Vec::new(alloc),
+            band: Vec::new(alloc),
+        }
+    }
+
+    // Rows one by one below the strips. The order of the rows stays.
+    fn push_rows<S: Squares>(&mut self, squares: &mut S) -> Result<(), Kind>
+        requires sound { All (IsSound (S.knows squares.old) (S.content squares.old)) self.old.strips.items }
+        requires band { All (IsSound (S.knows squares.old) (S.content squares.old)) self.old.band.items }
+        requires rows { All (λ s. s.level ≡ 0) self.old.band.items }
+        requires room { height (strips_of self.old) ≤ 2 ^ MAX_LEVEL }
+        requires falling { AreFalling self.old.strips.items }
+        ensures empty { OnOk result (self.new.band.items ≡ []) }
+        ensures falling { OnOk result (AreFalling self.new.strips.items) }
+        ensures sound { OnOk result (All (IsSound (S.knows squares.new) (S.content squares.new)) self.new.strips.items) }
+        ensures height { OnOk result (height self.new.strips.items ≡ height (strips_of self.old)) }
+        ensures picture { OnOk result ((column row : ℕ) → picture (S.content squares.new) self.new.strips.items column row ≡ picture (S.content squares.old) (strips_of self.old) column row) }
+        ensures keeps { KeepsSquares S.knows S.content S.stored S.most squares.old squares.new }
+        ensures refusals { IfErr result (λ e. (e ≡ Full) ⊎ (e ≡ Memory)) }
+        ensures full { result ≡ Err Full → length (S.stored squares.new) ≡ S.most squares.new }
+        ensures needed { result ≡ Err Full → SomeSquare (S.needs_node squares.new) (height (strips_of self.old)) (picture (S.content squares.old) (strips_of self.old)) }
+    {
+        let Some(last) = self.band.pop() else {
+            return Ok(());
+        };
+        self.push_rows(squares)?;
+        push_strip(squares, self.alloc, &mut self.strips, last)
+    }
+
+    // A whole band below the strips.
+    fn close_band<S: Squares>(&mut self, squares: &mut S) -> Result<(), Kind>
+        requires sound { All (IsSound (S.knows squares.old) (S.content squares.old)) self.old.strips.items }
+        requires falling { AreFalling self.old.strips.items }
+        requires lowest { IsLowest 2 self.old.strips.items }
+        requires band { All (IsSound (S.knows squares.old) (S.content squares.old)) self.old.band.items }
+        requires rows { All (λ s. s.level ≡ 0) self.old.band.items }
+        requires whole { length self.old.band.items ≡ 4 }
+        requires room { height (strips_of self.old) ≤ 2 ^ MAX_LEVEL }
+        ensures empty { OnOk result (self.new.band.items ≡ []) }
+        ensures falling { OnOk result (AreFalling self.new.strips.items) }
+        ensures sound { OnOk result (All (IsSound (S.knows squares.new) (S.content squares.new)) self.new.strips.items) }
+        ensures height { OnOk result (height self.new.strips.items ≡ height (strips_of self.old)) }
+        ensures picture { OnOk result ((column row : ℕ) → picture (S.content squares.new) self.new.strips.items column row ≡ picture (S.content squares.old) (strips_of self.old) column row) }
+        ensures keeps { KeepsSquares S.knows S.content S.stored S.most squares.old squares.new }
+        ensures refusals { IfErr result (λ e. (e ≡ Full) ⊎ (e ≡ Memory)) }
+        ensures full { result ≡ Err Full → length (S.stored squares.new) ≡ S.most squares.new }
+        ensures needed { result ≡ Err Full → SomeSquare (S.needs_node squares.new) (height (strips_of self.old)) (picture (S.content squares.old) (strips_of self.old)) }
+    {
+        let Some(strip) = band_strip(squares, self.alloc, self.band.as_slice())? else {
+            return self.push_rows(squares);
+        };
+        self.band.clear();
+        push_strip(squares, self.alloc, &mut self.strips, strip)
+    }
+
+    // One row more, below the others. Four rows become a strip of level 2.
+    fn push_row<S: Squares>(&mut self, squares: &mut S, row: Strip) -> Result<(), Kind>
+        requires pile { IsPile (S.knows squares.old) (S.content squares.old) self.old }
+        requires row { IsSound (S.knows squares.old) (S.content squares.old) row }
+        requires level { row.level ≡ 0 }
+        requires room { height (strips_of self.old) + 1 ≤ 2 ^ MAX_LEVEL }
+        ensures pile { OnOk result (IsPile (S.knows squares.new) (S.content squares.new) self.new) }
+        ensures height { OnOk result (height (strips_of self.new) ≡ height (strips_of self.old) + 1) }
+        ensures picture { OnOk result ((column j : ℕ) → picture (S.content squares.new) (strips_of self.new) column j ≡ picture (S.content squares.old) (strips_of self.old ++ row ∷ []) column j) }
+        ensures keeps { KeepsSquares S.knows S.content S.stored S.most squares.old squares.new }
+        ensures refusals { IfErr result (λ e. (e ≡ Full) ⊎ (e ≡ Memory)) }
+        ensures full { result ≡ Err Full → length (S.stored squares.new) ≡ S.most squares.new }
+        ensures needed { result ≡ Err Full → SomeSquare (S.needs_node squares.new) (height (strips_of self.old) + 1) (picture (S.content squares.old) (strips_of self.old ++ row ∷ [])) }
+    {
+        self.band.push(row)?;
+        if self.band.len() < 4 {
+            return Ok(());
+        }
+        self.close_band(squares)
+    }
+
+    // Rows without cells, in the fewest strips.
+    fn skip_rows<S: Squares>(&mut self, squares: &mut S, count: u64) -> Result<(), Kind>
+        requires pile { IsPile (S.knows squares.old) (S.content squares.old) self.old }
+        requires room { height (strips_of self.old) + count ≤ 2 ^ MAX_LEVEL }
+        ensures pile { OnOk result (IsPile (S.knows squares.new) (S.content squares.new) self.new) }
+        ensures height { OnOk result (height (strips_of self.new) ≡ height (strips_of self.old) + count) }
+        ensures picture { OnOk result ((column row : ℕ) → picture (S.content squares.new) (strips_of self.new) column row ≡ picture (S.content squares.old) (strips_of self.old) column row) }
+        ensures keeps { KeepsSquares S.knows S.content S.stored S.most squares.old squares.new }
+        ensures refusals { IfErr result (λ e. (e ≡ Full) ⊎ (e ≡ Memory)) }
+        ensures full { result ≡ Err Full → length (S.stored squares.new) ≡ S.most squares.new }
+        ensures needed { result ≡ Err Full → SomeSquare (S.needs_node squares.new) (height (strips_of self.old) + count) (picture (S.content squares.old) (strips_of self.old)) }
+    {
+        if count == 0 {
+            return Ok(());
+        }
+        if count < 4 || !self.band.is_empty() {
+            let row = Strip {
+                level: 0,
+                spans: Vec::new(self.alloc),
+            };
+            self.push_row(squares, row)?;
+            return self.skip_rows(squares, count - 1);
+        }
+        let level = blank_level(self.strips.as_slice(), count);
+        let strip = Strip {
+            level,
+            spans: Vec::new(self.alloc),
+        };
+        push_strip(squares, self.alloc, &mut self.strips, strip)?;
+        self.skip_rows(squares, count - (1 << level))
+    }
+
+    // One row more, below the others, and below it rows without cells.
+    pub(crate) fn end_row<S: Squares>(
+        &mut self,
+        squares: &mut S,
+        row: Strip,
+        blank_rows: u64,
+    ) -> Result<(), Kind>
+        requires pile { IsPile (S.knows squares.old) (S.content squares.old) self.old }
+        requires row { IsSound (S.knows squares.old) (S.content squares.old) row }
+        requires level { row.level ≡ 0 }
+        requires room { height (strips_of self.old) + 1 + blank_rows ≤ 2 ^ MAX_LEVEL }
+        ensures pile { OnOk result (IsPile (S.knows squares.new) (S.content squares.new) self.new) }
+        ensures height { OnOk result (height (strips_of self.new) ≡ height (strips_of self.old) + 1 + blank_rows) }
+        ensures picture { OnOk result ((column j : ℕ) → picture (S.content squares.new) (strips_of self.new) column j ≡ picture (S.content squares.old) (strips_of self.old ++ row ∷ []) column j) }
+        ensures keeps { KeepsSquares S.knows S.content S.stored S.most squares.old squares.new }
+        ensures refusals { IfErr result (λ e. (e ≡ Full) ⊎ (e ≡ Memory)) }
+        ensures full { result ≡ Err Full → length (S.stored squares.new) ≡ S.most squares.new }
+        ensures needed { result ≡ Err Full → SomeSquare (S.needs_node squares.new) (height (strips_of self.old) + 1 + blank_rows) (picture (S.content squares.old) (strips_of self.old ++ row ∷ [])) }
+    {
+        self.push_row(squares, row)?;
+        self.skip_rows(squares, blank_rows)
+    }
+
+    // The square of the plane whose last row with cells this is.
+    pub(crate) fn whole_plane<S: Squares>(
+        self,
+        squares: &mut S,
+        row: Strip,
+        blank_rows: u64,
+    ) -> Result<Id, Kind>
+        requires pile { IsPile (S.knows squares.old) (S.content squares.old) self }
+        requires row { IsSound (S.knows squares.old) (S.content squares.old) row }
+        requires level { row.level ≡ 0 }
+        requires whole { height (strips_of self) + 1 + blank_rows ≡ 2 ^ MAX_LEVEL }
+        ensures known { IfOk result (S.knows squares.new) }
+        ensures level { IfOk result (λ r. depth (S.content squares.new r) ≡ MAX_LEVEL) }
+        ensures cells { IfOk result (λ r. (column j : ℕ) → column < 2 ^ MAX_LEVEL → j < 2 ^ MAX_LEVEL → state_at (S.content squares.new r) column j ≡ picture (S.content squares.old) (strips_of self ++ row ∷ []) column j) }
+        ensures keeps { KeepsSquares S.knows S.content S.stored S.most squares.old squares.new }
+        ensures refusals { IfErr result (λ e. (e ≡ Full) ⊎ (e ≡ Memory)) }
+        ensures full { result ≡ Err Full → length (S.stored squares.new) ≡ S.most squares.new }
+        ensures needed { result ≡ Err Full → SomeSquare (S.needs_node squares.new) (2 ^ MAX_LEVEL) (picture (S.content squares.old) (strips_of self ++ row ∷ [])) }
+    {
+        let mut pile = self;
+        pile.end_row(squares, row, blank_rows)?;
+        Ok(whole(squares, pile.strips.as_slice()))
+    }
+}
