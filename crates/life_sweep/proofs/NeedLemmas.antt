@@ -16,7 +16,7 @@ use Rattle.life_strip.specs.Needed.{SomeSquare}
 use Rattle.life_strip.specs.Plane.{on_plane, state_so_far}
 use Rattle.life_table.specs.Meaning.{Answer, Becomes}
 use Rattle.life_sweep.specs.declared.pen.Pen.{Pen}
-use Rattle.life_sweep.specs.declared.pen.Run.{Run}
+use Rattle.life_base.specs.declared.cell.Run.{Run}
 use Rattle.life_sweep.specs.Needed.{SomeAbove, SomeOfAll, SomeNext, above_cell, of_plane}
 use Rattle.life_sweep.specs.Pen.{given, open_runs, drawn_runs, IsOpen, IsHolding}
 use Rattle.life_sweep.specs.Rows.{Precedes}

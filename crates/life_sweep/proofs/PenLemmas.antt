@@ -5,7 +5,7 @@ use Rattle.std.proofs.lemmas.Int.{ints}
 use Rattle.life_quad.specs.Cells.{IsInRun}
 use Rattle.life_strip.specs.Given.{GivenRun, IsNext, IsBehind, AreInOrder, state_by}
 use Rattle.life_strip.proofs.GivenLemmas.{runs_grow}
-use Rattle.life_sweep.specs.declared.pen.Run.{Run}
+use Rattle.life_base.specs.declared.cell.Run.{Run}
 use Rattle.life_sweep.specs.Pen.{IsOpen, IsContinuedBy, one_cell}
 
 -- the state of a run of a list's end, and of other cells

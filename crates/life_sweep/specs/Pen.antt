@@ -5,7 +5,7 @@ use Rattle.life_quad.specs.declared.id.Id.{Id}
 use Rattle.life_strip.specs.Filling.{IsFilling}
 use Rattle.life_strip.specs.Given.{GivenRun, IsNext, IsOnPlane}
 use Rattle.life_sweep.specs.declared.pen.Pen.{Pen}
-use Rattle.life_sweep.specs.declared.pen.Run.{Run}
+use Rattle.life_base.specs.declared.cell.Run.{Run}
 
 -- a run as it will be given
 abbrev pub given : Run → GivenRun

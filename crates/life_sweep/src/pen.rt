@@ -8,19 +8,10 @@ ghost use Rattle.life_strip.specs.Given.{IsBehind, IsNext, IsOnPlane, state_by};
 ghost use Rattle.life_sweep.specs.Needed.{SomeAbove, SomeOfAll};
 ghost use Rattle.life_sweep.specs.Pen.{IsHolding, IsContinuedBy, drawn_runs, one_cell};
 
-use life_base::{Kind, MAX_LEVEL, State};
+use life_base::{Kind, MAX_LEVEL, Run, State};
 use life_quad::{Id, Squares};
 use life_strip::Builder;
 use std::alloc::Global;
-
-/// So many cells of one state side by side.
-#[derive(Clone, Copy)]
-pub(crate) struct Run {
-    pub(crate) x: i64,
-    pub(crate) y: i64,
-    pub(crate) len: u64,
-    pub(crate) state: State,
-}
 
 /// A builder, and the run that was drawn last, which the next cell may continue.
 #[derive(Drop)]

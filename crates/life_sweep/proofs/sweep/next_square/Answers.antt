@@ -7,7 +7,7 @@ use Rattle.life_table.specs.Meaning.{Becomes}
 use Rattle.life_sweep.specs.Around.{after}
 use Rattle.life_sweep.specs.Rows.{AreBelow, AreRows, GoesSouth, first_coordinate}
 use Rattle.std.specs.Prelude.{IfSome, Option}
-use Rattle.life_sweep.specs.declared.pen.Run.{Run}
+use Rattle.life_base.specs.declared.cell.Run.{Run}
 use Rattle.life_sweep.specs.Needed.{SomeNext}
 use Rattle.life_sweep.specs.Pen.{IsOpen, drawn_runs}
 use Rattle.life_sweep.specs.Sweep.{IsFirstAmbiguous, IsReadyRow, IsScene, IsSorted, IsSweptRows, states_at}

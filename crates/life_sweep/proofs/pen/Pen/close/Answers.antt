@@ -4,7 +4,7 @@ use Rattle.std.proofs.lemmas.Int.{ints}
 use Rattle.std.proofs.lemmas.Result.{err_from_is_err_and}
 use Rattle.life_strip.specs.Given.{half_plane, state_by, by_columns}
 use Rattle.life_strip.specs.Needed.{SomeSquare}
-use Rattle.life_sweep.specs.declared.pen.Run.{Run}
+use Rattle.life_base.specs.declared.cell.Run.{Run}
 use Rattle.life_sweep.specs.Needed.{SomeAbove}
 use Rattle.life_sweep.specs.Pen.{IsOpen, open_runs}
 use Rattle.life_sweep.proofs.NeedLemmas.{open-needs}

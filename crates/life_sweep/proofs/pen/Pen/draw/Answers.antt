@@ -3,7 +3,7 @@ use Rattle.std.specs.Prelude.{Option}
 use Rattle.std.proofs.lemmas.Int.{ints}
 use Rattle.life_strip.specs.Given.{GivenRun, IsBehind, IsNext, IsOnPlane, state_by}
 use Rattle.life_strip.proofs.GivenLemmas.{runs_grow}
-use Rattle.life_sweep.specs.declared.pen.Run.{Run}
+use Rattle.life_base.specs.declared.cell.Run.{Run}
 use Rattle.life_sweep.specs.Pen.{drawn_runs, open_runs, one_cell}
 use Rattle.life_sweep.proofs.PenLemmas.{run_of, cell-here, cell-others, longer-here, longer-others, longer-next, kept, GoesOn, goes-on, next-kept}
 use Rattle.life_sweep.proofs.pen.Pen.draw.Given.{Over}
