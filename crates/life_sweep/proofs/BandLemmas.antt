@@ -6,8 +6,7 @@ use Rattle.std.proofs.lemmas.Bool.Decides.{eqb_tells}
 use Rattle.std.proofs.lemmas.List.Elements.{All-head, All-tail}
 use Rattle.life_base.specs.declared.cell.Cell.{Cell}
 use Rattle.life_sweep.specs.Around.{before, after}
-use Rattle.life_sweep.specs.Rows.{IsRest, IsRestOf, IsFrom, BeginsAt, HasNoFirstIn, IsSplitAtRow, IsInside, IsBlankBefore, AreRows, IsBand, IsNextRow, IsLastBand, IsFarRow, GoesSouth, rows_left, first_coordinate, far}
-use Rattle.life_sweep.specs.declared.column.Rows.{Rows}
+use Rattle.life_sweep.specs.Rows.{Rows, IsRest, IsRestOf, IsFrom, BeginsAt, HasNoFirstIn, IsSplitAtRow, IsInside, IsBlankBefore, AreRows, IsBand, IsNextRow, IsLastBand, IsFarRow, GoesSouth, rows_left, first_coordinate, far}
 use Rattle.life_sweep.specs.declared.band.Band.{Band}
 use Rattle.life_sweep.proofs.RowLemmas.{less-or-not, column-is, IsRest-none}
 

@@ -5,9 +5,8 @@ use Rattle.std.proofs.lemmas.Int.{ints}
 use Rattle.std.proofs.lemmas.Bool.{cases_lt, eqb-true}
 use Rattle.std.proofs.lemmas.List.Elements.{All-head}
 use Rattle.life_base.specs.declared.cell.Cell.{Cell}
-use Rattle.life_sweep.specs.Rows.{IsRest, StartsFrom, StartsAt, SomeStartsAt, InRows, AreRows, IsInside, far, column_at, no_column, is_blank_column, left_in}
+use Rattle.life_sweep.specs.Rows.{Rows, IsRest, StartsFrom, StartsAt, SomeStartsAt, InRows, AreRows, IsInside, far, column_at, no_column, is_blank_column, left_in}
 use Rattle.life_sweep.specs.declared.column.Column.{Column}
-use Rattle.life_sweep.specs.declared.column.Rows.{Rows}
 
 -- what is left from a column on is what is left from a later one that isn't behind the first cell
 pub IsRest-later : (states : ℤ → ℕ) (x m : ℤ) (row : List Cell) → x ≤ℤ m → StartsFrom m row → IsRest states x row → IsRest states m row
@@ -42,7 +41,7 @@ less-or-not (pos m) (negsuc n) = inr (omega (arith, ints))
 less-or-not (negsuc m) (pos n) = inl (omega (arith, ints))
 less-or-not (negsuc m) (negsuc n) = elim (cases_lt n m) [ inl l ↦ inl (omega (arith, ints, l)) | inr l ↦ inr (omega (arith, ints, l)) ]
 
-abbrev column : ℕ → ℕ → ℕ → Column
+abbrev column : ℕ → ℕ → ℕ → Column ℕ
 column n h s = record { north = n; here = h; south = s }
 
 -- the same of three rows
@@ -83,7 +82,7 @@ three-true true true false e = absurd (true≢false (sym e))
 three-true true false c e = absurd (true≢false (sym e))
 three-true false b c e = absurd (true≢false (sym e))
 
-pub blank-is : (c : Column) → is_blank_column c ≡ true → c ≡ no_column
+pub blank-is : (c : Column ℕ) → is_blank_column c ≡ true → c ≡ no_column
 blank-is c e =
     let t = three-true (c.north == 0) (c.here == 0) (c.south == 0) e in
     column-is c.north c.here c.south 0 0 0 (eqb-true c.north 0 t.0) (eqb-true c.here 0 t.1) (eqb-true c.south 0 t.2)

@@ -16,9 +16,9 @@ list-nine a b c d e f g h i ea eb ec ed ee ef eg eh ei = cc
 -- far from every cell all states are 0
 far-states : (cells : ℤ → ℤ → ℕ) (x y : ℤ) → IsFar cells y x → states_at cells x y ≡ zeros
 far-states cells x y far =
-    let north = λ (c : Column). c.north in
-    let here = λ (c : Column). c.here in
-    let south = λ (c : Column). c.south in
+    let north = λ (c : Column ℕ). c.north in
+    let here = λ (c : Column ℕ). c.here in
+    let south = λ (c : Column ℕ). c.south in
     list-nine _ _ _ _ _ _ _ _ _ (ap here far.1) (ap north far.1) (ap north far.2) (ap here far.2) (ap south far.2) (ap south far.1) (ap south far.0)
     (ap here far.0) (ap north far.0)
 
@@ -162,10 +162,10 @@ window-states cells y z h = cc-states h.west h.middle h.east
     cc-states : z.west ≡ column_at cells y (before z.x) → z.middle ≡ column_at cells y z.x → z.east ≡ column_at cells y (after z.x)
         → states_of z ≡ states_at cells z.x y
     cc-states ew em ee =
-        ap (λ (c : Column). c.here ∷ c.north ∷ z.east.north ∷ z.east.here ∷ z.east.south ∷ c.south ∷ z.west.south ∷ z.west.here ∷ z.west.north ∷ []) em
-        ∙ ap (λ (c : Column). cells z.x y ∷ cells z.x (before y) ∷ c.north ∷ c.here ∷ c.south ∷ cells z.x (after y) ∷ z.west.south ∷ z.west.here ∷ z.west.north
+        ap (λ (c : Column ℕ). c.here ∷ c.north ∷ z.east.north ∷ z.east.here ∷ z.east.south ∷ c.south ∷ z.west.south ∷ z.west.here ∷ z.west.north ∷ []) em
+        ∙ ap (λ (c : Column ℕ). cells z.x y ∷ cells z.x (before y) ∷ c.north ∷ c.here ∷ c.south ∷ cells z.x (after y) ∷ z.west.south ∷ z.west.here ∷ z.west.north
         ∷ []) ee
-        ∙ ap (λ (c : Column). cells z.x y ∷ cells z.x (before y) ∷ cells (after z.x) (before y) ∷ cells (after z.x) y ∷ cells (after z.x) (after y)
+        ∙ ap (λ (c : Column ℕ). cells z.x y ∷ cells z.x (before y) ∷ cells (after z.x) (before y) ∷ cells (after z.x) y ∷ cells (after z.x) (after y)
         ∷ cells z.x (after y) ∷ c.south ∷ c.here ∷ c.north ∷ []) ew
 
 -- from a step of a window to the next place, and then at that place

@@ -3,9 +3,8 @@ use Rattle.std.proofs.Common.{◌≡◌, ℕ, ◌+◌, ◌*◌, ◌<◌, Bool, t
 use Rattle.std.specs.Prelude.{if◌then◌else◌}
 use Rattle.std.proofs.lemmas.Int.{ints}
 use Rattle.life_sweep.specs.Around.{before, after}
-use Rattle.life_sweep.specs.Rows.{StartsFrom, SomeStartsAt, InRows, AreRows, AreSortedFrom, column_at, no_column, is_blank_column, left_in, IsWindow, IsNextPlace, IsOver, GoesOn, IsFar, steps_left, far}
+use Rattle.life_sweep.specs.Rows.{Rows, StartsFrom, SomeStartsAt, InRows, AreRows, AreSortedFrom, column_at, no_column, is_blank_column, left_in, IsWindow, IsNextPlace, IsOver, GoesOn, IsFar, steps_left, far}
 use Rattle.life_sweep.specs.declared.column.Column.{Column}
-use Rattle.life_sweep.specs.declared.column.Rows.{Rows}
 use Rattle.life_sweep.specs.declared.window.Window.{Window}
 use Rattle.life_sweep.proofs.RowLemmas.{AreRows-later, AreRows-gap, AreRows-none, AreRows-first, blank-is, less-or-not}
 
@@ -26,7 +25,7 @@ blank-between cells y m w h bm be s c l u = by split
     by (inr (inr le)) = AreRows-gap cells y (w.x +ℤ pos 2) m w.rows s h.rows c le u
 
 -- the window at the next place
-abbrev pub at : ℤ → Column → Rows → Window → Window
+abbrev pub at : ℤ → Column ℕ → Rows → Window → Window
 at x east rows w = record { x = x; west = w.middle; middle = w.east; east = east; rows = rows }
 
 -- the rows from the column behind the next place on
@@ -42,7 +41,7 @@ pub goes-east : (x : ℤ) (w : Window) → AreSortedFrom (w.x +ℤ pos 2) w.rows
 goes-east x w h (inl p) = omega (arith, ints, p.0)
 goes-east x w h (inr p) = omega (arith, ints, AreRows-first h.0 h.1 (w.x +ℤ pos 2) (after x) w.rows p.3 h.2)
 
-pub goes-on : (cells : ℤ → ℤ → ℕ) (y x : ℤ) (w : Window) (east : Column) (rows : Rows) → IsWindow cells y w → IsNextPlace w x
+pub goes-on : (cells : ℤ → ℤ → ℕ) (y x : ℤ) (w : Window) (east : Column ℕ) (rows : Rows) → IsWindow cells y w → IsNextPlace w x
     → east ≡ column_at cells y (after x) → AreRows cells y (after (after x)) rows → GoesOn cells y w (at x east rows w)
 goes-on cells y x w east rows h (inl p) e r = record {
   east = omega (arith, ints, p.0);
@@ -108,7 +107,7 @@ count true false false old new b (inl e) = absurd (true≢false (sym e.1))
 count false false false old new b (inl e) = absurd (true≢false (sym e.1))
 
 -- a step leaves fewer before it
-pub fewer-steps : (x : ℤ) (w : Window) (east : Column) (rows : Rows) → IsNextPlace w x
+pub fewer-steps : (x : ℤ) (w : Window) (east : Column ℕ) (rows : Rows) → IsNextPlace w x
     → ((left_in rows ≡ left_in w.rows) × (is_blank_column east ≡ true)) ⊎ (left_in rows < left_in w.rows)
     → (SomeStartsAt (after x) w.rows → left_in rows < left_in w.rows) → steps_left (at x east rows w) < steps_left w
 fewer-steps x w east rows (inl p) f taken = count (is_blank_column w.middle) (is_blank_column w.east) (is_blank_column east) (left_in w.rows) (left_in rows) p.1

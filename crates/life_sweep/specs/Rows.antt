@@ -1,9 +1,9 @@
 -- Rows of cells, and what is left of them as a sweep goes on.
 use Rattle.std.specs.Prelude.{◌≡◌, ◌⊎◌, ℕ, ◌+◌, ◌*◌, ◌<◌, ◌==◌, ◌^◌, Bool, true, false, ◌&&◌, if◌then◌else◌, ℤ, pos, neg_ℤ, ◌+ℤ◌, ◌<ℤ◌, ◌≤ℤ◌, List, [], ◌∷◌, ◌++◌, length, All}
+use Rattle.std.specs.Borrow.{Bor}
 use Rattle.life_base.specs.declared.cell.Cell.{Cell}
 use Rattle.life_sweep.specs.Around.{before, after}
 use Rattle.life_sweep.specs.declared.column.Column.{Column}
-use Rattle.life_sweep.specs.declared.column.Rows.{Rows}
 use Rattle.life_sweep.specs.declared.window.Window.{Window}
 use Rattle.life_sweep.specs.declared.band.Band.{Band}
 
@@ -41,27 +41,33 @@ abbrev pub StartsAt : ℤ → List Cell → Type 0
 StartsAt x [] = ⊥
 StartsAt x (cell ∷ rest) = cell.x ≡ x
 
+-- each value of a column has a property
+pub record InColumn {T : Type 0} (P : T → Type 0) (c : Column T) : Type 0 where
+  pub north : P c.north
+  pub here : P c.here
+  pub south : P c.south
+
 -- the states of three rows in a column
-abbrev pub column_at : (ℤ → ℤ → ℕ) → ℤ → ℤ → Column
+abbrev pub column_at : (ℤ → ℤ → ℕ) → ℤ → ℤ → Column ℕ
 column_at cells y x = record { north = cells x (before y); here = cells x y; south = cells x (after y) }
 
-abbrev pub no_column : Column
+abbrev pub no_column : Column ℕ
 no_column = record { north = 0; here = 0; south = 0 }
 
-abbrev pub is_blank_column : Column → Bool
+abbrev pub is_blank_column : Column ℕ → Bool
 is_blank_column c = c.north == 0 && c.here == 0 && c.south == 0
 
 -- the states of a column are below the bound
-pub record IsColumn (bound : ℕ) (c : Column) : Type 0 where
-  pub north : c.north < bound
-  pub here : c.here < bound
-  pub south : c.south < bound
+abbrev pub IsColumn : ℕ → Column ℕ → Type 0
+IsColumn bound = InColumn (λ state. state < bound)
 
--- a list of cells has a property in each of three rows
-pub record InRows (P : List Cell → Type 0) (rows : Rows) : Type 0 where
-  pub north : P rows.north.now
-  pub here : P rows.here.now
-  pub south : P rows.south.now
+-- what is left of three rows
+abbrev pub Rows : Type 0
+Rows = Column (Bor (List Cell))
+
+-- the cells of each row have a property
+abbrev pub InRows : (List Cell → Type 0) → Rows → Type 0
+InRows P = InColumn (λ (row : Bor (List Cell)). P row.now)
 
 abbrev pub AreInside : Rows → Type 0
 AreInside rows = InRows (All IsInside) rows

@@ -14,8 +14,7 @@ use Rattle.life_base.specs.declared.cell.Cell.{Cell}
 use Rattle.life_base.specs.declared.kind.Kind.TheVariants as kinds
 use Rattle.life_base.specs.declared.fault.Fault.{Fault}
 use Rattle.life_base.specs.Refusal.{fault_of}
-use Rattle.life_sweep.specs.declared.column.Rows.{Rows}
-use Rattle.life_sweep.specs.Rows.{IsFrom, Precedes, AreRows, IsBlankBefore, IsRestOf, first_coordinate}
+use Rattle.life_sweep.specs.Rows.{Rows, IsFrom, Precedes, AreRows, IsBlankBefore, IsRestOf, first_coordinate}
 use Rattle.life_sweep.specs.declared.law.Known.{Known}
 
 -- the state of a cell and of its eight neighbours

@@ -6,24 +6,19 @@ ghost use Rattle.life_sweep.specs.Rows.{IsRest, IsInside, StartsFrom, StartsAt, 
 use crate::plane::HALF;
 use life_base::{Cell, State};
 
-/// The states of the cells of a column in three rows, one below the other.
+/// Three values, one below the other.
 #[derive(Clone, Copy)]
-pub(crate) struct Column {
-    pub(crate) north: State,
-    pub(crate) here: State,
-    pub(crate) south: State,
+pub struct Column<T> {
+    pub north: T,
+    pub here: T,
+    pub south: T,
 }
 
-/// What is left of three rows, one below the other.
-#[derive(Clone, Copy)]
-pub(crate) struct Rows<'a> {
-    pub(crate) north: &'a [Cell],
-    pub(crate) here: &'a [Cell],
-    pub(crate) south: &'a [Cell],
-}
+/// What is left of three rows.
+pub(crate) type Rows<'a> = Column<&'a [Cell]>;
 
 /// A column without a cell.
-pub(crate) const BLANK: Column = Column {
+pub(crate) const BLANK: Column<State> = Column {
     north: 0,
     here: 0,
     south: 0,
@@ -32,7 +27,7 @@ pub(crate) const BLANK: Column = Column {
 // East of every cell.
 const FAR: i64 = HALF;
 
-impl Column {
+impl Column<State> {
     /// Whether no cell stands in the column.
     pub(crate) fn is_blank(self) -> bool
         ensures { result ≡ is_blank_column self }
@@ -96,7 +91,7 @@ impl<'a> Rows<'a> {
     }
 
     /// The column `x`, before which there is no cell left. What is left is east of it.
-    pub(crate) fn take_column(&mut self, x: i64) -> Column
+    pub(crate) fn take_column(&mut self, x: i64) -> Column<State>
         ensures column { (cells : ℤ → ℤ → ℕ) (y : ℤ) → AreRows cells y x self.old → result ≡ column_at cells y x }
         ensures rest { (cells : ℤ → ℤ → ℕ) (y : ℤ) → AreRows cells y x self.old → AreRows cells y (after x) self.new }
         ensures inside { AreInside self.old → AreInside self.new }

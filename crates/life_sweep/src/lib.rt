@@ -15,5 +15,6 @@ mod plane;
 mod sweep;
 mod window;
 
+pub use column::Column;
 pub use generation::next_generation;
 pub use law::{ByCounts, ByTable, Law};

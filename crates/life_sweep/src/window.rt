@@ -10,9 +10,9 @@ use life_base::State;
 #[derive(Clone, Copy)]
 pub(crate) struct Window<'a> {
     pub(crate) x: i64,
-    pub(crate) west: Column,
-    pub(crate) middle: Column,
-    pub(crate) east: Column,
+    pub(crate) west: Column<State>,
+    pub(crate) middle: Column<State>,
+    pub(crate) east: Column<State>,
     pub(crate) rows: Rows<'a>,
 }
 
