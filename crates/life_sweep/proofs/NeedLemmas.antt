@@ -11,14 +11,14 @@ use Rattle.life_base.specs.declared.kind.Kind.{Kind}
 use Rattle.life_base.specs.declared.kind.Kind.TheVariants.{Full, Ambiguous}
 use Rattle.life_quad.specs.Cells.{IsInRun}
 use Rattle.life_quad.specs.declared.id.Id.{Id}
-use Rattle.life_strip.specs.Given.{GivenRun, AreInOrder, IsOnPlane, state_by, by_columns, half_plane}
+use Rattle.life_strip.specs.Given.{AreInOrder, IsOnPlane, state_by, by_columns, half_plane}
 use Rattle.life_strip.specs.Needed.{SomeSquare}
 use Rattle.life_strip.specs.Plane.{on_plane, state_so_far}
 use Rattle.life_table.specs.Meaning.{Answer, Becomes}
 use Rattle.life_sweep.specs.declared.pen.Pen.{Pen}
 use Rattle.life_base.specs.declared.cell.Run.{Run}
 use Rattle.life_sweep.specs.Needed.{SomeAbove, SomeOfAll, SomeNext, above_cell, of_plane}
-use Rattle.life_sweep.specs.Pen.{given, open_runs, drawn_runs, IsOpen, IsHolding}
+use Rattle.life_sweep.specs.Pen.{open_runs, drawn_runs, IsOpen, IsHolding}
 use Rattle.life_sweep.specs.Rows.{Precedes}
 use Rattle.life_sweep.specs.Sweep.{states_at, IsDrawnAt, IsSwept}
 use Rattle.life_sweep.proofs.PenLemmas.{inside-last, outside-last}
@@ -52,8 +52,8 @@ same-above P f g y on same s =
     }
 
 -- a run that can't be given is above none of the cells before it
-pub open-needs : (P : Tree → Type 0) (runs : List GivenRun) (run : Run) → AreInOrder runs → IsOpen runs run
-    → SomeSquare P (nat_abs (run.y +ℤ pos half_plane)) (by_columns (state_by runs)) → SomeAbove P (runs ++ given run ∷ [])
+pub open-needs : (P : Tree → Type 0) (runs : List Run) (run : Run) → AreInOrder runs → IsOpen runs run
+    → SomeSquare P (nat_abs (run.y +ℤ pos half_plane)) (by_columns (state_by runs)) → SomeAbove P (runs ++ run ∷ [])
 open-needs P runs run order opened s =
     let on = opened.inside in
     let some = opened.some_cell in
@@ -62,9 +62,9 @@ open-needs P runs run order opened s =
       x = run.x;
       y = run.y;
       inside = record { west = on.west; east = omega (arith, ints, some, on.east); north = on.north; south = on.south };
-      nonzero = λ e. opened.nonzero (sym (inside-last runs (given run) run.x run.y order opened.next here) ∙ e);
-      square = same-above P (state_by runs) (state_by (runs ++ given run ∷ [])) run.y opened.inside.north
-          (λ c r l. sym (outside-last runs (given run) c r order opened.next (λ (i : IsInRun run.x run.y run.len c r). let e = i.same_row in
+      nonzero = λ e. opened.nonzero (sym (inside-last runs run run.x run.y order opened.next here) ∙ e);
+      square = same-above P (state_by runs) (state_by (runs ++ run ∷ [])) run.y opened.inside.north
+          (λ c r l. sym (outside-last runs run c r order opened.next (λ (i : IsInRun run.x run.y run.len c r). let e = i.same_row in
           omega (arith, ints, l, e)))) s;
     }
 
@@ -77,11 +77,11 @@ outside-plane state x y out = by (is_inside half_plane x y) refl
         absurd (out (record { west = i.west; east = omega (arith, ints, i.east); north = i.north; south = i.south }))
     by false e = ap (λ (c : Bool). if c then state (unsigned_abs (x +ℤ pos half_plane)) (unsigned_abs (y +ℤ pos half_plane)) else 0) e
 
-open-outside : (runs : List GivenRun) (o : Option Run) (x y : ℤ) → AreInOrder runs → IfSome o (IsOpen runs) → ¬ (IsOnPlane x y 1) → state_by runs x y ≡ 0
+open-outside : (runs : List Run) (o : Option Run) (x y : ℤ) → AreInOrder runs → IfSome o (IsOpen runs) → ¬ (IsOnPlane x y 1) → state_by runs x y ≡ 0
     → state_by (runs ++ open_runs o) x y ≡ 0
-open-outside runs None x y order opened out e = ap (λ (l : List GivenRun). state_by l x y) (append-nil runs) ∙ e
+open-outside runs None x y order opened out e = ap (λ (l : List Run). state_by l x y) (append-nil runs) ∙ e
 open-outside runs (Some run) x y order opened out e =
-    outside-last runs (given run) x y order opened.next (λ (i : IsInRun run.x run.y run.len x y). out (here i)) ∙ e
+    outside-last runs run x y order opened.next (λ (i : IsInRun run.x run.y run.len x y). out (here i)) ∙ e
   where
     here : IsInRun run.x run.y run.len x y → IsOnPlane x y 1
     here i =
@@ -100,7 +100,7 @@ drawn-outside knows content pen h x y out =
     (sym (h.filling.cells x y) ∙ outside-plane (state_so_far content pen.builder.kept) x y out)
 
 -- what was drawn is the next generation
-pub drawn-needs : (P : Tree → Type 0) (A : List ℕ → Answer → Type 0) (cells : ℤ → ℤ → ℕ) (runs : List GivenRun) (leaves : Bool) (s : SomeAbove P runs)
+pub drawn-needs : (P : Tree → Type 0) (A : List ℕ → Answer → Type 0) (cells : ℤ → ℤ → ℕ) (runs : List Run) (leaves : Bool) (s : SomeAbove P runs)
     → ((c r : ℤ) → (r <ℤ s.y) ⊎ ((c ≡ s.x) × (r ≡ s.y)) → IsDrawnAt A cells (state_by runs) leaves c r) → SomeNext P A cells
 drawn-needs P A cells runs leaves s done =
     let here = done s.x s.y (inr (refl, refl)) in
@@ -108,7 +108,7 @@ drawn-needs P A cells runs leaves s done =
     (λ x y on l. let d = done x y (inl l) in subst (λ n. A (states_at cells x y) (Becomes n)) (sym (d.kept (inr on))) d.answer) s.square
 
 -- as far as it was drawn
-pub swept-needs : (P : Tree → Type 0) (A : List ℕ → Answer → Type 0) (cells : ℤ → ℤ → ℕ) (runs : List GivenRun) (leaves : Bool) (x y : ℤ)
+pub swept-needs : (P : Tree → Type 0) (A : List ℕ → Answer → Type 0) (cells : ℤ → ℤ → ℕ) (runs : List Run) (leaves : Bool) (x y : ℤ)
     → IsSwept A cells (state_by runs) leaves x y → SomeAbove P runs → SomeNext P A cells
 swept-needs P A cells runs leaves x y swept s = drawn-needs P A cells runs leaves s (λ c r h. swept.done c r (earlier c r h))
   where
@@ -132,7 +132,7 @@ swept-needs P A cells runs leaves x y swept s = drawn-needs P A cells runs leave
     ]
 
 -- the whole of it
-pub all-needs : (P : Tree → Type 0) (A : List ℕ → Answer → Type 0) (cells : ℤ → ℤ → ℕ) (runs : List GivenRun) (leaves : Bool) → leaves ≡ false
+pub all-needs : (P : Tree → Type 0) (A : List ℕ → Answer → Type 0) (cells : ℤ → ℤ → ℕ) (runs : List Run) (leaves : Bool) → leaves ≡ false
     → ((c r : ℤ) → IsDrawnAt A cells (state_by runs) leaves c r) → SomeAbove P runs ⊎ SomeOfAll P runs → SomeNext P A cells
 all-needs P A cells runs leaves stay done (inl s) = drawn-needs P A cells runs leaves s (λ c r h. done c r)
 all-needs P A cells runs leaves stay done (inr s) =

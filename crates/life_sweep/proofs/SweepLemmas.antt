@@ -2,7 +2,8 @@
 use Rattle.std.proofs.Common.{◌≡◌, ℕ, ◌-◌, Bool, false, ◌⊎◌, inl, inr, ℤ, ◌≤ℤ◌, ◌<ℤ◌, List, [], ◌∷◌, length, slice_get, refl, sym, ◌∙◌, ap, subst, arith, true≢false}
 use Rattle.std.proofs.lemmas.Int.{ints}
 use Rattle.life_table.specs.Meaning.{Answer, Becomes, Ambiguous}
-use Rattle.life_strip.specs.Given.{GivenRun, IsNext, state_by}
+use Rattle.life_base.specs.declared.cell.Run.{Run}
+use Rattle.life_strip.specs.Given.{IsNext, state_by}
 use Rattle.life_sweep.specs.Around.{before, after}
 use Rattle.life_sweep.specs.Rows.{IsFrom, Precedes, IsFar, IsFarRow, IsBlankBefore, column_at, no_column, first_coordinate, IsWindow, GoesOn, states_of}
 use Rattle.life_sweep.specs.Sweep.{states_at, zeros, IsDrawnAt, IsFirstAmbiguous, IsSwept, IsSweptRows, IsPut, IsReady, IsReadyRow}
@@ -134,26 +135,26 @@ module _ (A : List ℕ → Answer → Type 0) (cells : ℤ → ℤ → ℕ) wher
       }
 
 -- where runs may be given from a place on, they may be given from the next one on
-pub ready-next : (runs : List GivenRun) (x y : ℤ) → IsReady runs x y → IsReady runs (after x) y
+pub ready-next : (runs : List Run) (x y : ℤ) → IsReady runs x y → IsReady runs (after x) y
 ready-next runs x y h c r f = h c r (elim f [ inl l ↦ inl l | inr p ↦ inr (p.0, omega (arith, ints, p.1)) ])
 
-pub ready-later : (runs : List GivenRun) (x z y : ℤ) → x ≤ℤ z → IsReady runs x y → IsReady runs z y
+pub ready-later : (runs : List Run) (x z y : ℤ) → x ≤ℤ z → IsReady runs x y → IsReady runs z y
 ready-later runs x z y le h c r f = h c r (elim f [ inl l ↦ inl l | inr p ↦ inr (p.0, omega (arith, ints, p.1, le)) ])
 
-pub ready-row : (runs : List GivenRun) (x y : ℤ) → IsReady runs x y → IsReadyRow runs (after y)
+pub ready-row : (runs : List Run) (x y : ℤ) → IsReady runs x y → IsReadyRow runs (after y)
 ready-row runs x y h c r l = h c r (inl (omega (arith, ints, l)))
 
-pub row-ready : (runs : List GivenRun) (x y : ℤ) → IsReadyRow runs y → IsReady runs x y
+pub row-ready : (runs : List Run) (x y : ℤ) → IsReadyRow runs y → IsReady runs x y
 row-ready runs x y h c r f = h c r (elim f [ inl l ↦ omega (arith, ints, l) | inr p ↦ omega (arith, ints, p.0) ])
 
-pub row-later : (runs : List GivenRun) (y z : ℤ) → y ≤ℤ z → IsReadyRow runs y → IsReadyRow runs z
+pub row-later : (runs : List Run) (y z : ℤ) → y ≤ℤ z → IsReadyRow runs y → IsReadyRow runs z
 row-later runs y z le h c r l = h c r (omega (arith, ints, l, le))
 
-pub nothing-given : (runs : List GivenRun) → runs ≡ [] → (x y : ℤ) → IsNext runs x y
-nothing-given runs none x y last e = absurd (let h = ap (λ (l : List GivenRun). slice_get l (length l - 1)) (sym none) ∙ e in cc)
+pub nothing-given : (runs : List Run) → runs ≡ [] → (x y : ℤ) → IsNext runs x y
+nothing-given runs none x y last e = absurd (let h = ap (λ (l : List Run). slice_get l (length l - 1)) (sym none) ∙ e in cc)
 
-pub nothing-drawn : (runs : List GivenRun) → runs ≡ [] → (x y : ℤ) → state_by runs x y ≡ 0
-nothing-drawn runs none x y = ap (λ (l : List GivenRun). state_by l x y) none
+pub nothing-drawn : (runs : List Run) → runs ≡ [] → (x y : ℤ) → state_by runs x y ≡ 0
+nothing-drawn runs none x y = ap (λ (l : List Run). state_by l x y) none
 
 -- the states of a window are those around its place
 pub window-states : (cells : ℤ → ℤ → ℕ) (y : ℤ) (z : Window) → IsWindow cells y z → states_of z ≡ states_at cells z.x y

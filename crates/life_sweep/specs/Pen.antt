@@ -3,28 +3,24 @@ use Rattle.std.specs.Prelude.{◌≡◌, ◌≢◌, ◌≤◌, ℤ, ◌+ℤ◌, 
 use Rattle.life_base.specs.Tree.{Tree}
 use Rattle.life_quad.specs.declared.id.Id.{Id}
 use Rattle.life_strip.specs.Filling.{IsFilling}
-use Rattle.life_strip.specs.Given.{GivenRun, IsNext, IsOnPlane}
+use Rattle.life_strip.specs.Given.{IsNext, IsOnPlane}
 use Rattle.life_sweep.specs.declared.pen.Pen.{Pen}
 use Rattle.life_base.specs.declared.cell.Run.{Run}
 
--- a run as it will be given
-abbrev pub given : Run → GivenRun
-given run = record { x = run.x; y = run.y; len = run.len; state = run.state }
-
-abbrev pub open_runs : Option Run → List GivenRun
+abbrev pub open_runs : Option Run → List Run
 open_runs None = []
-open_runs (Some run) = given run ∷ []
+open_runs (Some run) = run ∷ []
 
 -- all runs that were drawn
-abbrev pub drawn_runs : Pen → List GivenRun
+abbrev pub drawn_runs : Pen → List Run
 drawn_runs pen = pen.builder.runs ++ open_runs pen.unclosed
 
 -- a run of one cell
-abbrev pub one_cell : ℤ → ℤ → ℕ → GivenRun
+abbrev pub one_cell : ℤ → ℤ → ℕ → Run
 one_cell x y state = record { x = x; y = y; len = 1; state = state }
 
 -- the run may be given behind these, and isn't blank
-pub record IsOpen (runs : List GivenRun) (run : Run) : Type 0 where
+pub record IsOpen (runs : List Run) (run : Run) : Type 0 where
   pub some_cell : 1 ≤ run.len
   pub inside : IsOnPlane run.x run.y run.len
   pub next : IsNext runs run.x run.y

@@ -1,7 +1,8 @@
 -- What a sweep has done: the next states of the places before one are drawn.
 use Rattle.std.specs.Prelude.{◌≡◌, ◌≢◌, ◌⊎◌, ℕ, Bool, true, false, List, [], ◌∷◌, ℤ, ◌<ℤ◌, ◌≤ℤ◌, drop, slice_index, length, All, Contains, ◌↔◌, ◌^◌}
 use Rattle.life_base.specs.Sets.{OuterTotalistic}
-use Rattle.life_strip.specs.Given.{GivenRun, IsNext, IsOnPlane}
+use Rattle.life_base.specs.declared.cell.Run.{Run}
+use Rattle.life_strip.specs.Given.{IsNext, IsOnPlane}
 use Rattle.life_table.specs.Orders.{images}
 use Rattle.life_table.specs.declared.table.Symmetry.{Symmetry}
 use Rattle.life_table.specs.Meaning.{Answer, Becomes, Ambiguous, Decides, count_of}
@@ -113,8 +114,8 @@ pub record IsPut (answers : List ℕ → Answer → Type 0) (states : List ℕ) 
   pub told : new ≡ true → (old ≡ true) ⊎ ((¬ (IsOnPlane x y 1)) × (next ≢ 0))
 
 -- behind these runs others may be given from the place (x, y) on
-abbrev pub IsReady : List GivenRun → ℤ → ℤ → Type 0
+abbrev pub IsReady : List Run → ℤ → ℤ → Type 0
 IsReady runs x y = (c r : ℤ) → IsFrom x y c r → IsNext runs c r
 
-abbrev pub IsReadyRow : List GivenRun → ℤ → Type 0
+abbrev pub IsReadyRow : List Run → ℤ → Type 0
 IsReadyRow runs y = (c r : ℤ) → y ≤ℤ r → IsNext runs c r

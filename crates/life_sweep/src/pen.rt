@@ -55,8 +55,7 @@ impl Pen {
         let Some(run) = self.unclosed else {
             return Ok(());
         };
-        self.builder
-            .add_run(squares, run.x, run.y, run.len, run.state)?;
+        self.builder.add_run(squares, run)?;
         self.unclosed = None;
         Ok(())
     }

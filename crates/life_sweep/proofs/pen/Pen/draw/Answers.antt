@@ -1,7 +1,7 @@
 use Rattle.std.proofs.Common.{◌≡◌, ◌+◌, pos, ◌+ℤ◌, List, [], ◌∷◌, ◌++◌, sym, ◌∙◌, ap, subst, arith}
 use Rattle.std.specs.Prelude.{Option}
 use Rattle.std.proofs.lemmas.Int.{ints}
-use Rattle.life_strip.specs.Given.{GivenRun, IsBehind, IsNext, IsOnPlane, state_by}
+use Rattle.life_strip.specs.Given.{IsBehind, IsNext, IsOnPlane, state_by}
 use Rattle.life_strip.proofs.GivenLemmas.{runs_grow}
 use Rattle.life_base.specs.declared.cell.Run.{Run}
 use Rattle.life_sweep.specs.Pen.{drawn_runs, open_runs, one_cell}
@@ -58,7 +58,7 @@ returns-then-is_continued_by-clause-others g c column row ne =
     ap (λ (o : Option Run). runs ++ open_runs o) c.in-Some.is ∙ (λ j. runs ++ run_of (on.column j) (on.row j) run.len run.state ∷ []) in
     longer-others runs x y run.len run.state c.args.x c.requires.holding.filling.order on.next (sym (ap (λ z. z +ℤ pos run.len) on.column) ∙ on.more.east)
     column row (λ e1 e2. ne e1 (e2 ∙ sym on.row ∙ on.more.same_row))
-    ∙ sym (ap (λ (l : List GivenRun). state_by l column row) before)
+    ∙ sym (ap (λ (l : List Run). state_by l column row) before)
 
 pub returns-then-is_continued_by-clause-next : goal.returns-then-is_continued_by-clause-next
 returns-then-is_continued_by-clause-next g c column row h =
@@ -103,11 +103,11 @@ returns-clause-here g c =
 pub returns-clause-others : goal.returns-clause-others
 returns-clause-others g c column row ne =
     cell-others _ _ _ c.args.state c.in_ok-close.ensures.filling.order (next g c) column row (λ e1 e2. ne (e1 ∙ sym (x-kept g c)) (e2 ∙ sym (y-kept g c)))
-    ∙ ap (λ (l : List GivenRun). state_by l column row) c.in_ok-close.ensures.drawn
+    ∙ ap (λ (l : List Run). state_by l column row) c.in_ok-close.ensures.drawn
 
 pub returns-clause-next : goal.returns-clause-next
 returns-clause-next g c column row h =
     let ex = x-kept g c in
     let ey = y-kept g c in
     (runs_grow c.close.new.self.builder.runs (one_cell (kept c.args.x) (kept c.args.y) c.args.state) column row).0.1
-    (subst (λ (run : GivenRun). IsBehind run column row) (λ j. one_cell (ex j) (ey j) c.args.state) h)
+    (subst (λ (run : Run). IsBehind run column row) (λ j. one_cell (ex j) (ey j) c.args.state) h)
