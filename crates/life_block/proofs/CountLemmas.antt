@@ -6,8 +6,7 @@ use Rattle.std.proofs.lemmas.Nat.Bits.{bit_at-lt}
 use Rattle.life_base.specs.declared.rule.Near.{Near}
 use Rattle.life_base.specs.declared.rule.Near.TheVariants.{Moore, VonNeumann}
 use Rattle.life_table.specs.Meaning.{count_of}
-use Rattle.life_block.specs.Bits.{counted_in}
-use Rattle.life_block.specs.declared.counts.Words.{Words}
+use Rattle.life_block.specs.Bits.{Words, counted_in}
 
 -- a state of 0 or 1 counts as itself
 one : (a : ℕ) → a < 2 → cond (nat_eq 1 a) 1 0 ≡ a

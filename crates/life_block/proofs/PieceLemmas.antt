@@ -15,10 +15,8 @@ use Rattle.life_sweep.specs.Around.{before, after}
 use Rattle.life_sweep.specs.Generation.{next_by_count, next_life}
 use Rattle.life_table.specs.Meaning.{count_of}
 use Rattle.life_block.specs.declared.grid.Three.{Three}
-use Rattle.life_block.specs.declared.grid.Nine.{Nine}
 use Rattle.life_block.specs.declared.grid.Four.{Four}
-use Rattle.life_block.specs.declared.grid.Sixteen.{Sixteen}
-use Rattle.life_block.specs.Pieces.{IsPiece, IsAt, InThree, InNine, InFour, InSixteen, AreThree, AreNine, AreFour, AreSixteen, back, ahead, western, eastern, north_west_of, north_east_of, south_west_of, south_east_of}
+use Rattle.life_block.specs.Pieces.{Nine, Sixteen, IsPiece, IsAt, InThree, InNine, InFour, InSixteen, AreThreeAt, AreFourAt, AreThree, AreNine, AreFour, AreSixteen, back, ahead, first_three, last_three, western, eastern}
 
 pub twice : (n : ℕ) → 2 ^ (n + 1) ≡ 2 ^ n + 2 ^ n
 twice n = ap (λ m. 2 ^ m) (add-one n) ∙ double n
@@ -49,42 +47,43 @@ IsPiece-joined cells x y a b c d t k level is pa pb pc pd =
 back-ahead : (side : ℕ) (y : ℤ) → y ≡ back (ahead y side) side
 back-ahead side y = omega (arith, ints)
 
-module _ {content : Id → Tree} {cells : ℤ → ℤ → ℕ} {side : ℕ} where
-  western-three : {x y : ℤ} {four : Four} → AreFour content cells side x y four → AreThree content cells side x y (western four)
-  western-three h = record { west = h.far_west; middle = h.west; east = h.east }
+-- three of four
+module _ {T : Type 0} {P : ℤ → T → Type 0} {side : ℕ} {place : ℤ} {four : Four T} where
+  pub first-of_four : {three : Three T} → three ≡ first_three four → AreFourAt P side place four → AreThreeAt P side place three
+  first-of_four e h = subst (AreThreeAt P side place) (sym e) (record { before = h.first; here = h.second; after = h.third })
 
-  eastern-three : {x y : ℤ} {four : Four} → AreFour content cells side x y four → AreThree content cells side (ahead x side) y (eastern four)
-  eastern-three {x = x} {y = y} h =
-      record { west = IsPiece-moved cells x _ y y _ (back-ahead side x) refl h.west; middle = h.east; east = h.far_east }
+  pub last-of_four : {three : Three T} → three ≡ last_three four → AreFourAt P side place four → AreThreeAt P side (ahead place side) three
+  last-of_four e h =
+      subst (AreThreeAt P side (ahead place side)) (sym e)
+      (record { before = subst (λ u. P u four.second) (back-ahead side place) h.second; here = h.third; after = h.fourth })
 
-  AreThree-moved : {x y w : ℤ} {three : Three} → y ≡ w → AreThree content cells side x y three → AreThree content cells side x w three
-  AreThree-moved {x = x} {three = three} e = subst (λ u. AreThree content cells side x u three) e
-
-  pub AreFour-moved : {x y w : ℤ} {four : Four} → y ≡ w → AreFour content cells side x y four → AreFour content cells side x w four
+module _ (content : Id → Tree) (cells : ℤ → ℤ → ℕ) {side : ℕ} where
+  pub AreFour-moved : {x y w : ℤ} {four : Four Id} → y ≡ w → AreFour content cells side x y four → AreFour content cells side x w four
   AreFour-moved {x = x} {four = four} e = subst (λ u. AreFour content cells side x u four) e
 
-  pub nine-north_west : {x y : ℤ} {s : Sixteen} {n : Nine} → n ≡ north_west_of s → AreSixteen content cells side x y s → AreNine content cells side x y n
-  nine-north_west {x = x} {y = y} e h =
+  -- the three western squares of each of three rows, and the three eastern ones
+  pub western-nine : {x y : ℤ} {rows : Three (Four Id)} {n : Nine} → n ≡ western rows → AreThreeAt (AreFour content cells side x) side y rows
+      → AreNine content cells side x y n
+  western-nine {x = x} {y = y} e h =
       subst (AreNine content cells side x y) (sym e)
-      (record { north = western-three h.far_north; middle = western-three h.north; south = western-three h.south })
+      (record { before = first-of_four refl h.before; here = first-of_four refl h.here; after = first-of_four refl h.after })
 
-  pub nine-north_east : {x y : ℤ} {s : Sixteen} {n : Nine} → n ≡ north_east_of s → AreSixteen content cells side x y s
+  pub eastern-nine : {x y : ℤ} {rows : Three (Four Id)} {n : Nine} → n ≡ eastern rows → AreThreeAt (AreFour content cells side x) side y rows
       → AreNine content cells side (ahead x side) y n
-  nine-north_east {x = x} {y = y} e h =
+  eastern-nine {x = x} {y = y} e h =
       subst (AreNine content cells side (ahead x side) y) (sym e)
-      (record { north = eastern-three h.far_north; middle = eastern-three h.north; south = eastern-three h.south })
+      (record { before = last-of_four refl h.before; here = last-of_four refl h.here; after = last-of_four refl h.after })
 
-  pub nine-south_west : {x y : ℤ} {s : Sixteen} {n : Nine} → n ≡ south_west_of s → AreSixteen content cells side x y s
-      → AreNine content cells side x (ahead y side) n
-  nine-south_west {x = x} {y = y} e h =
-      subst (AreNine content cells side x (ahead y side)) (sym e)
-      (record { north = AreThree-moved (back-ahead side y) (western-three h.north); middle = western-three h.south; south = western-three h.far_south })
-
-  pub nine-south_east : {x y : ℤ} {s : Sixteen} {n : Nine} → n ≡ south_east_of s → AreSixteen content cells side x y s
-      → AreNine content cells side (ahead x side) (ahead y side) n
-  nine-south_east {x = x} {y = y} e h =
-      subst (AreNine content cells side (ahead x side) (ahead y side)) (sym e)
-      (record { north = AreThree-moved (back-ahead side y) (eastern-three h.north); middle = eastern-three h.south; south = eastern-three h.far_south })
+-- what follows for each of four values follows for the four
+four-kept : {T : Type 0} {K : T → Type 0} {P Q : ℤ → T → Type 0} {side : ℕ} {place : ℤ} {four : Four T}
+    → ((at : ℤ) (value : T) → K value → P at value → Q at value) → InFour K four → AreFourAt P side place four → AreFourAt Q side place four
+four-kept keep known h =
+    record {
+      first = keep _ _ known.first h.first;
+      second = keep _ _ known.second h.second;
+      third = keep _ _ known.third h.third;
+      fourth = keep _ _ known.fourth h.fourth;
+    }
 
 -- what is known stays
 module _ {S : Type 0} {knows : S → Id → Type 0} {content : S → Id → Tree} {stored : S → List Tree} {most : S → ℕ} {old new : S}
@@ -96,26 +95,9 @@ module _ {S : Type 0} {knows : S → Id → Type 0} {content : S → Id → Tree
       → IsPiece cells x y (content new q)
   IsPiece-kept cells x y at h = subst (IsPiece cells x y) (sym (keeps.contents _ at.known).1) h
 
-  module _ {k : ℕ} {cells : ℤ → ℤ → ℕ} where
-    AreFour-kept : {side : ℕ} {x y : ℤ} {four : Four} → InFour (IsAt (knows old) (content old) k) four → AreFour (content old) cells side x y four
-        → AreFour (content new) cells side x y four
-    AreFour-kept known h =
-        record {
-          far_west = IsPiece-kept cells _ _ known.far_west h.far_west;
-          west = IsPiece-kept cells _ _ known.west h.west;
-          east = IsPiece-kept cells _ _ known.east h.east;
-          far_east = IsPiece-kept cells _ _ known.far_east h.far_east;
-        }
-
-    pub AreSixteen-kept : {side : ℕ} {x y : ℤ} {s : Sixteen} → InSixteen (IsAt (knows old) (content old) k) s → AreSixteen (content old) cells side x y s
-        → AreSixteen (content new) cells side x y s
-    AreSixteen-kept known h =
-        record {
-          far_north = AreFour-kept known.far_north h.far_north;
-          north = AreFour-kept known.north h.north;
-          south = AreFour-kept known.south h.south;
-          far_south = AreFour-kept known.far_south h.far_south;
-        }
+  pub AreSixteen-kept : (cells : ℤ → ℤ → ℕ) {k side : ℕ} {x y : ℤ} {s : Sixteen} → InSixteen (IsAt (knows old) (content old) k) s
+      → AreSixteen (content old) cells side x y s → AreSixteen (content new) cells side x y s
+  AreSixteen-kept cells = four-kept (λ row four. four-kept (λ column id. IsPiece-kept cells column row))
 
 -- ---- blank squares
 
@@ -228,20 +210,20 @@ next-of_blank rule content cells k x y id nine quiet is all h =
     at : (u v : ℤ) (other : Id) → other ≡ id → IsPiece cells u v (content other) → IsZero cells u v (ahead u (2 ^ k)) (ahead v (2 ^ k))
     at u v other e p = zero-of_blank cells k u v (subst (IsPiece cells u v) (ap content e ∙ is) p)
 
-    row : (v : ℤ) (three : Three) → InThree (λ other. other ≡ id) three → AreThree content cells (2 ^ k) x v three
+    row : (v : ℤ) (three : Three Id) → InThree (λ other. other ≡ id) three → AreThree content cells (2 ^ k) x v three
         → IsZero cells (back x (2 ^ k)) v (ahead (ahead x (2 ^ k)) (2 ^ k)) (ahead v (2 ^ k))
     row v three e p =
         let a : ahead (back x (2 ^ k)) (2 ^ k) ≡ x = omega (arith, ints) in
         IsZero-beside cells _ (ahead x (2 ^ k)) v _ _
-        (IsZero-beside cells _ x v _ _ (subst (λ u. IsZero cells (back x (2 ^ k)) v u (ahead v (2 ^ k))) a (at _ v _ e.west p.west))
-        (at x v _ e.middle p.middle)) (at _ v _ e.east p.east)
+        (IsZero-beside cells _ x v _ _ (subst (λ u. IsZero cells (back x (2 ^ k)) v u (ahead v (2 ^ k))) a (at _ v _ e.before p.before))
+        (at x v _ e.here p.here)) (at _ v _ e.after p.after)
 
     around : IsZero cells (back x (2 ^ k)) (back y (2 ^ k)) (ahead (ahead x (2 ^ k)) (2 ^ k)) (ahead (ahead y (2 ^ k)) (2 ^ k))
     around =
         let a : ahead (back y (2 ^ k)) (2 ^ k) ≡ y = omega (arith, ints) in
         IsZero-below cells _ _ (ahead y (2 ^ k)) _ _
         (IsZero-below cells _ _ y _ _ (subst (λ u. IsZero cells (back x (2 ^ k)) (back y (2 ^ k)) (ahead (ahead x (2 ^ k)) (2 ^ k)) u) a
-        (row _ _ all.north h.north)) (row y _ all.middle h.middle)) (row _ _ all.south h.south)
+        (row _ _ all.before h.before)) (row y _ all.here h.here)) (row _ _ all.after h.after)
 
     whole : IsZero (next_life rule cells) x y (ahead x (2 ^ k)) (ahead y (2 ^ k))
     whole =

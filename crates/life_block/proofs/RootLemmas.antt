@@ -12,10 +12,9 @@ use Rattle.life_quad.specs.Refused.{SomePart}
 use Rattle.life_quad.specs.declared.id.Id.{Id}
 use Rattle.life_quad.specs.declared.moves.Quarters.{Quarters}
 use Rattle.life_block.specs.declared.grid.Four.{Four}
-use Rattle.life_block.specs.declared.grid.Sixteen.{Sixteen}
 use Rattle.life_sweep.specs.Generation.{next_life}
 use Rattle.life_block.specs.Needed.{square_from}
-use Rattle.life_block.specs.Pieces.{IsPiece, IsAt, InFour, InSixteen, AreFour, AreSixteen, back, ahead, four_of, at_north_west, at_north_east, at_south_west, at_south_east}
+use Rattle.life_block.specs.Pieces.{Sixteen, IsPiece, IsAt, InFour, InSixteen, AreFour, AreSixteen, back, ahead, four_of, at_north_west, at_north_east, at_south_west, at_south_east}
 use Rattle.life_block.proofs.NeedLemmas.{SomeOfFour, quarter-part}
 use Rattle.life_block.proofs.PieceLemmas.{twice, IsPiece-moved, AreFour-moved, IsAt-kept, IsPiece-kept, blank-of_zero, next-zero}
 
@@ -263,36 +262,35 @@ alone-root t =
       south = λ x y l. cell-outside t x y (λ i. omega (arith, ints, i.south, l));
     }
 
+in-four : {T : Type 0} {P : T → Type 0} {a b c d : T} → P a → P b → P c → P d → InFour P (four_of a b c d)
+in-four a b c d = record { first = a; second = b; third = c; fourth = d }
+
 module _ {knows : Id → Type 0} {content : Id → Tree} {cells : ℤ → ℤ → ℕ} {k : ℕ} {start : ℤ} {q : Quarters} {b : Id}
     (h : AreQuarters knows content cells k start q b) where
   abbrev InAll : Sixteen → Type 0
   InAll s = InSixteen (IsAt knows content k) s
 
   none : InFour (IsAt knows content k) (four_of b b b b)
-  none = record { far_west = h.known_other; west = h.known_other; east = h.known_other; far_east = h.known_other }
+  none = in-four h.known_other h.known_other h.known_other h.known_other
 
   -- two squares at the western end of a row, and at the eastern end
   west-end : {a c : Id} → IsAt knows content k a → IsAt knows content k c → InFour (IsAt knows content k) (four_of a c b b)
-  west-end a c = record { far_west = a; west = c; east = h.known_other; far_east = h.known_other }
+  west-end a c = in-four a c h.known_other h.known_other
 
   east-end : {a c : Id} → IsAt knows content k a → IsAt knows content k c → InFour (IsAt knows content k) (four_of b b a c)
-  east-end a c = record { far_west = h.known_other; west = h.known_other; east = a; far_east = c }
+  east-end a c = in-four h.known_other h.known_other a c
 
   pub known-south_east : {s : Sixteen} → s ≡ at_south_east q b → InAll s
-  known-south_east e = subst InAll (sym e)
-      (record { far_north = none; north = none; south = east-end h.known_nw h.known_ne; far_south = east-end h.known_sw h.known_se })
+  known-south_east e = subst InAll (sym e) (in-four none none (east-end h.known_nw h.known_ne) (east-end h.known_sw h.known_se))
 
   pub known-south_west : {s : Sixteen} → s ≡ at_south_west q b → InAll s
-  known-south_west e = subst InAll (sym e)
-      (record { far_north = none; north = none; south = west-end h.known_nw h.known_ne; far_south = west-end h.known_sw h.known_se })
+  known-south_west e = subst InAll (sym e) (in-four none none (west-end h.known_nw h.known_ne) (west-end h.known_sw h.known_se))
 
   pub known-north_east : {s : Sixteen} → s ≡ at_north_east q b → InAll s
-  known-north_east e = subst InAll (sym e)
-      (record { far_north = east-end h.known_nw h.known_ne; north = east-end h.known_sw h.known_se; south = none; far_south = none })
+  known-north_east e = subst InAll (sym e) (in-four (east-end h.known_nw h.known_ne) (east-end h.known_sw h.known_se) none none)
 
   pub known-north_west : {s : Sixteen} → s ≡ at_north_west q b → InAll s
-  known-north_west e = subst InAll (sym e)
-      (record { far_north = west-end h.known_nw h.known_ne; north = west-end h.known_sw h.known_se; south = none; far_south = none })
+  known-north_west e = subst InAll (sym e) (in-four (west-end h.known_nw h.known_ne) (west-end h.known_sw h.known_se) none none)
 
 module _ (knows : Id → Type 0) (content : Id → Tree) (cells : ℤ → ℤ → ℕ) (k : ℕ) (start : ℤ) (q : Quarters) (b : Id)
     (h : AreQuarters knows content cells k start q b) (alone : IsAlone cells start (2 ^ k)) where
@@ -308,12 +306,12 @@ module _ (knows : Id → Type 0) (content : Id → Tree) (cells : ℤ → ℤ �
   no-north : (x y : ℤ) → ahead y (2 ^ k) ≤ℤ start → AreFour content cells (2 ^ k) x y (four_of b b b b)
   no-north x y l =
       let at : (z : ℤ) → IsPiece cells z y (content b) = (λ z. nothing z y (λ u v a e n s. alone.north u v (omega (arith, ints, l, s)))) in
-      record { far_west = at _; west = at _; east = at _; far_east = at _ }
+      record { first = at _; second = at _; third = at _; fourth = at _ }
 
   no-south : (x y : ℤ) → ahead (ahead start (2 ^ k)) (2 ^ k) ≤ℤ y → AreFour content cells (2 ^ k) x y (four_of b b b b)
   no-south x y l =
       let at : (z : ℤ) → IsPiece cells z y (content b) = (λ z. nothing z y (λ u v a e n s. alone.south u v (omega (arith, ints, l, n)))) in
-      record { far_west = at _; west = at _; east = at _; far_east = at _ }
+      record { first = at _; second = at _; third = at _; fourth = at _ }
 
   -- two squares side by side, with nothing west or east of them
   east-row : (y : ℤ) (a c : Id) → IsPiece cells start y (content a) → IsPiece cells (ahead start (2 ^ k)) y (content c)
@@ -321,10 +319,10 @@ module _ (knows : Id → Type 0) (content : Id → Tree) (cells : ℤ → ℤ �
   east-row y a c pa pc =
       let e : start ≡ ahead (back start (2 ^ k)) (2 ^ k) = omega (arith, ints) in
       record {
-        far_west = to-west _ y (omega (arith, ints));
-        west = to-west _ y (omega (arith, ints));
-        east = IsPiece-moved cells start _ y y _ e refl pa;
-        far_east = IsPiece-moved cells _ _ y y _ (ap (λ z. ahead z (2 ^ k)) e) refl pc;
+        first = to-west _ y (omega (arith, ints));
+        second = to-west _ y (omega (arith, ints));
+        third = IsPiece-moved cells start _ y y _ e refl pa;
+        fourth = IsPiece-moved cells _ _ y y _ (ap (λ z. ahead z (2 ^ k)) e) refl pc;
       }
 
   west-row : (y : ℤ) (a c : Id) → IsPiece cells start y (content a) → IsPiece cells (ahead start (2 ^ k)) y (content c)
@@ -332,10 +330,10 @@ module _ (knows : Id → Type 0) (content : Id → Tree) (cells : ℤ → ℤ �
   west-row y a c pa pc =
       let e : start ≡ back (ahead start (2 ^ k)) (2 ^ k) = omega (arith, ints) in
       record {
-        far_west = IsPiece-moved cells start _ y y _ e refl pa;
-        west = pc;
-        east = to-east _ y (omega (arith, ints));
-        far_east = to-east _ y (omega (arith, ints));
+        first = IsPiece-moved cells start _ y y _ e refl pa;
+        second = pc;
+        third = to-east _ y (omega (arith, ints));
+        fourth = to-east _ y (omega (arith, ints));
       }
 
   southern : start ≡ ahead (back start (2 ^ k)) (2 ^ k)
@@ -345,26 +343,26 @@ module _ (knows : Id → Type 0) (content : Id → Tree) (cells : ℤ → ℤ �
   northern = omega (arith, ints)
 
   -- two rows with the quarters, and nothing north of them, or south
-  in_south : (x : ℤ) (upper lower : Four) → AreFour content cells (2 ^ k) x start upper → AreFour content cells (2 ^ k) x (ahead start (2 ^ k)) lower
+  in_south : (x : ℤ) (upper lower : Four Id) → AreFour content cells (2 ^ k) x start upper → AreFour content cells (2 ^ k) x (ahead start (2 ^ k)) lower
       → AreSixteen content cells (2 ^ k) x (back start (2 ^ k))
-      (record { far_north = four_of b b b b; north = four_of b b b b; south = upper; far_south = lower })
-  in_south x upper lower first second =
+      (four_of (four_of b b b b) (four_of b b b b) upper lower)
+  in_south x upper lower north south =
       record {
-        far_north = no-north _ _ (omega (arith, ints));
-        north = no-north _ _ (omega (arith, ints));
-        south = AreFour-moved southern first;
-        far_south = AreFour-moved (ap (λ z. ahead z (2 ^ k)) southern) second;
+        first = no-north _ _ (omega (arith, ints));
+        second = no-north _ _ (omega (arith, ints));
+        third = AreFour-moved content cells southern north;
+        fourth = AreFour-moved content cells (ap (λ z. ahead z (2 ^ k)) southern) south;
       }
 
-  in_north : (x : ℤ) (upper lower : Four) → AreFour content cells (2 ^ k) x start upper → AreFour content cells (2 ^ k) x (ahead start (2 ^ k)) lower
+  in_north : (x : ℤ) (upper lower : Four Id) → AreFour content cells (2 ^ k) x start upper → AreFour content cells (2 ^ k) x (ahead start (2 ^ k)) lower
       → AreSixteen content cells (2 ^ k) x (ahead start (2 ^ k))
-      (record { far_north = upper; north = lower; south = four_of b b b b; far_south = four_of b b b b })
-  in_north x upper lower first second =
+      (four_of upper lower (four_of b b b b) (four_of b b b b))
+  in_north x upper lower north south =
       record {
-        far_north = AreFour-moved northern first;
-        north = second;
-        south = no-south _ _ (omega (arith, ints));
-        far_south = no-south _ _ (omega (arith, ints));
+        first = AreFour-moved content cells northern north;
+        second = south;
+        third = no-south _ _ (omega (arith, ints));
+        fourth = no-south _ _ (omega (arith, ints));
       }
 
   pieces-south_east : AreSixteen content cells (2 ^ k) (back start (2 ^ k)) (back start (2 ^ k)) (at_south_east q b)

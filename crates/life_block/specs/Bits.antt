@@ -4,7 +4,11 @@ use Rattle.std.specs.Int.{bit_at}
 use Rattle.life_base.specs.declared.rule.Near.{Near}
 use Rattle.life_base.specs.declared.rule.Near.TheVariants.{Moore, VonNeumann}
 use Rattle.life_block.specs.declared.counts.Counts.{Counts}
-use Rattle.life_block.specs.declared.counts.Words.{Words}
+use Rattle.life_sweep.specs.declared.column.Column.{Column}
+
+-- the cells of 64 columns in three rows
+abbrev pub Words : Type 0
+Words = Column ℕ
 
 -- the states of the neighbours of place i of the 62 places between the first column and the last, from north clockwise
 abbrev pub neighbours_in : Words → ℕ → List ℕ

@@ -51,15 +51,15 @@ fn eight_cells(a: u64, b: u64, c: u64, d: u64) -> u64
 }
 
 // The two rows of eight cells of four squares of level 1.
-fn two_rows<S: Squares>(squares: &S, four: &Four) -> u64
+fn two_rows<S: Squares>(squares: &S, four: &Four<Id>) -> u64
     requires { InFour (IsAt (S.knows squares.now) (S.content squares.now) 1) four.now }
     ensures small { result < 2 ^ 16 }
     ensures rows { (cells : ℤ → ℤ → ℕ) (x y : ℤ) → IsBinary cells → AreFour (S.content squares.now) cells 2 x y four.now → HasRows cells (back x 2) y 2 result }
 {
-    let (a, e) = pairs(squares, four.far_west);
-    let (b, f) = pairs(squares, four.west);
-    let (c, g) = pairs(squares, four.east);
-    let (d, h) = pairs(squares, four.far_east);
+    let (a, e) = pairs(squares, four.first);
+    let (b, f) = pairs(squares, four.second);
+    let (c, g) = pairs(squares, four.third);
+    let (d, h) = pairs(squares, four.fourth);
     eight_cells(e, f, g, h) * 256 + eight_cells(a, b, c, d)
 }
 
@@ -68,10 +68,10 @@ pub(crate) fn eight_rows<S: Squares>(squares: &S, sixteen: &Sixteen) -> u64
     requires { InSixteen (IsAt (S.knows squares.now) (S.content squares.now) 1) sixteen.now }
     ensures { (cells : ℤ → ℤ → ℕ) (x y : ℤ) → IsBinary cells → AreSixteen (S.content squares.now) cells 2 x y sixteen.now → HasRows cells (back x 2) (back y 2) 8 result }
 {
-    let a = two_rows(squares, &sixteen.far_north);
-    let b = two_rows(squares, &sixteen.north);
-    let c = two_rows(squares, &sixteen.south);
-    let d = two_rows(squares, &sixteen.far_south);
+    let a = two_rows(squares, &sixteen.first);
+    let b = two_rows(squares, &sixteen.second);
+    let c = two_rows(squares, &sixteen.third);
+    let d = two_rows(squares, &sixteen.fourth);
     ((d * 65_536 + c) * 65_536 + b) * 65_536 + a
 }
 

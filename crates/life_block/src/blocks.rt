@@ -10,10 +10,11 @@ ghost use Rattle.life_block.specs.Needed.{square_from, next_square};
 ghost use Rattle.life_block.specs.Pieces.{IsPiece, IsBinary, IsAt, InNine, InSixteen, AreNine, AreSixteen};
 
 use crate::bitmap::{eight_rows, join_cells};
-use crate::counts::{Words, next_word};
+use crate::counts::next_word;
 use crate::grid::{Nine, Sixteen};
 use life_base::{Kind, LifeRule, MAX_LEVEL};
 use life_quad::{Id, Squares, divide};
+use life_sweep::Column;
 
 // The next states of the four squares of level 1 amid twelve others, as one square.
 fn next_of_cells<S: Squares>(
@@ -30,7 +31,7 @@ fn next_of_cells<S: Squares>(
     ensures needed { OnErr result ((cells : ℤ → ℤ → ℕ) (x y : ℤ) → IsBinary cells → AreSixteen (S.content squares.old) cells 2 x y sixteen.now → SomePart (S.needs_node squares.new) (square_from (next_life rule.now cells) 2 x y)) }
 {
     let rows = eight_rows(squares, sixteen);
-    let words = Words {
+    let words = Column {
         north: rows,
         here: rows >> 8,
         south: rows >> 16,
@@ -92,10 +93,10 @@ fn next_of_middle<S: Squares>(
     if level == 1 {
         return next_of_cells(squares, rule, sixteen);
     }
-    let nw = next_amid(squares, rule, level, &sixteen.north_west())?;
-    let ne = next_amid(squares, rule, level, &sixteen.north_east())?;
-    let sw = next_amid(squares, rule, level, &sixteen.south_west())?;
-    let se = next_amid(squares, rule, level, &sixteen.south_east())?;
+    let nw = next_amid(squares, rule, level, &sixteen.first_three().western())?;
+    let ne = next_amid(squares, rule, level, &sixteen.first_three().eastern())?;
+    let sw = next_amid(squares, rule, level, &sixteen.last_three().western())?;
+    let se = next_amid(squares, rule, level, &sixteen.last_three().eastern())?;
     squares.join(nw, ne, sw, se)
 }
 

@@ -6,14 +6,10 @@ ghost use Rattle.life_sweep.specs.Generation.{next_by_count};
 ghost use Rattle.life_block.specs.Bits.{count_at, neighbours_in, sides_in, counted_in};
 
 use life_base::{LifeRule, Near};
+use life_sweep::Column;
 
-/// The cells of 64 columns in three rows, one below the other: bit i is the cell i columns east of the first.
-#[derive(Clone, Copy)]
-pub(crate) struct Words {
-    pub(crate) north: u64,
-    pub(crate) here: u64,
-    pub(crate) south: u64,
-}
+/// The cells of 64 columns in three rows: bit i is the cell i columns east of the first.
+pub(crate) type Words = Column<u64>;
 
 /// A number of 0 to 3 for each column.
 #[derive(Clone, Copy)]

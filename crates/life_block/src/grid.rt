@@ -1,75 +1,64 @@
 //! Squares of one level side by side.
 ghost use Rattle.std.specs.Prelude.{◌≡◌, ℕ, ℤ, ◌+◌, ◌^◌, ◌≤◌, true};
-ghost use Rattle.life_block.specs.Pieces.{IsAt, InThree, InNine, InFour, InSixteen, AreThree, AreNine, AreFour, AreSixteen, ahead, four_of, western, eastern, north_west_of, north_east_of, south_west_of, south_east_of, at_north_west, at_north_east, at_south_west, at_south_east};
+ghost use Rattle.life_block.specs.Pieces.{IsAt, InThree, InNine, InFour, InSixteen, AreThree, AreNine, AreFour, AreSixteen, ahead, four_of, first_three, last_three, western, eastern, at_north_west, at_north_east, at_south_west, at_south_east};
 
 use life_quad::{Id, Quarters, Squares, divide};
 
-/// Three squares in a row.
+/// Three values side by side, from west to east or from north to south.
 #[derive(Clone, Copy)]
-pub(crate) struct Three {
-    pub(crate) west: Id,
-    pub(crate) middle: Id,
-    pub(crate) east: Id,
+pub(crate) struct Three<T> {
+    pub(crate) before: T,
+    pub(crate) here: T,
+    pub(crate) after: T,
+}
+
+/// Four values side by side, from west to east or from north to south.
+#[derive(Clone, Copy)]
+pub(crate) struct Four<T> {
+    pub(crate) first: T,
+    pub(crate) second: T,
+    pub(crate) third: T,
+    pub(crate) fourth: T,
 }
 
 /// A square amid its eight neighbours.
-#[derive(Clone, Copy)]
-pub(crate) struct Nine {
-    pub(crate) north: Three,
-    pub(crate) middle: Three,
-    pub(crate) south: Three,
-}
-
-/// Four squares in a row.
-#[derive(Clone, Copy)]
-pub(crate) struct Four {
-    pub(crate) far_west: Id,
-    pub(crate) west: Id,
-    pub(crate) east: Id,
-    pub(crate) far_east: Id,
-}
+pub(crate) type Nine = Three<Three<Id>>;
 
 /// Four rows of four squares: four in the middle, and the twelve around them.
-#[derive(Clone, Copy)]
-pub(crate) struct Sixteen {
-    pub(crate) far_north: Four,
-    pub(crate) north: Four,
-    pub(crate) south: Four,
-    pub(crate) far_south: Four,
-}
+pub(crate) type Sixteen = Four<Four<Id>>;
 
-impl Three {
+impl Three<Id> {
     // Whether each is this square.
     fn are_all(&self, id: Id) -> bool
         ensures { result ≡ true → InThree (λ other. other ≡ id) self.now }
     {
-        self.middle == id && self.west == id && self.east == id
+        self.here == id && self.before == id && self.after == id
     }
 
     // Their northern halves, and their southern halves. Inlined, the generation of a soup takes a third less time.
     #[inline(always)]
-    fn halves<S: Squares>(&self, squares: &S, level: u8) -> (Four, Four)
+    fn halves<S: Squares>(&self, squares: &S, level: u8) -> (Four<Id>, Four<Id>)
         requires { InThree (IsAt (S.knows squares.now) (S.content squares.now) (level + 1)) self.now }
         ensures northern { InFour (IsAt (S.knows squares.now) (S.content squares.now) level) result.0 }
         ensures southern { InFour (IsAt (S.knows squares.now) (S.content squares.now) level) result.1 }
         ensures north { (cells : ℤ → ℤ → ℕ) (x y : ℤ) → AreThree (S.content squares.now) cells (2 ^ (level + 1)) x y self.now → AreFour (S.content squares.now) cells (2 ^ level) x y result.0 }
         ensures south { (cells : ℤ → ℤ → ℕ) (x y : ℤ) → AreThree (S.content squares.now) cells (2 ^ (level + 1)) x y self.now → AreFour (S.content squares.now) cells (2 ^ level) x (ahead y (2 ^ level)) result.1 }
     {
-        let west = divide(squares, self.west);
-        let middle = divide(squares, self.middle);
-        let east = divide(squares, self.east);
+        let west = divide(squares, self.before);
+        let middle = divide(squares, self.here);
+        let east = divide(squares, self.after);
         (
             Four {
-                far_west: west.ne,
-                west: middle.nw,
-                east: middle.ne,
-                far_east: east.nw,
+                first: west.ne,
+                second: middle.nw,
+                third: middle.ne,
+                fourth: east.nw,
             },
             Four {
-                far_west: west.se,
-                west: middle.sw,
-                east: middle.se,
-                far_east: east.sw,
+                first: west.se,
+                second: middle.sw,
+                third: middle.se,
+                fourth: east.sw,
             },
         )
     }
@@ -80,7 +69,7 @@ impl Nine {
     pub(crate) fn are_all(&self, id: Id) -> bool
         ensures { result ≡ true → InNine (λ other. other ≡ id) self.now }
     {
-        self.middle.are_all(id) && self.north.are_all(id) && self.south.are_all(id)
+        self.here.are_all(id) && self.before.are_all(id) && self.after.are_all(id)
     }
 
     /// The four quarters of the square in the middle, and the twelve around them.
@@ -89,74 +78,98 @@ impl Nine {
         ensures known { InSixteen (IsAt (S.knows squares.now) (S.content squares.now) level) result }
         ensures pieces { (cells : ℤ → ℤ → ℕ) (x y : ℤ) → AreNine (S.content squares.now) cells (2 ^ (level + 1)) x y self.now → AreSixteen (S.content squares.now) cells (2 ^ level) x y result }
     {
-        let (_, far_north) = self.north.halves(squares, level);
-        let (north, south) = self.middle.halves(squares, level);
-        let (far_south, _) = self.south.halves(squares, level);
-        Sixteen {
-            far_north,
-            north,
-            south,
-            far_south,
+        let (_, far_north) = self.before.halves(squares, level);
+        let (north, south) = self.here.halves(squares, level);
+        let (far_south, _) = self.after.halves(squares, level);
+        Four {
+            first: far_north,
+            second: north,
+            third: south,
+            fourth: far_south,
         }
     }
 }
 
-impl Four {
-    // This square four times.
-    fn of(id: Id) -> Four
-        ensures { result ≡ four_of id id id id }
+impl<T: Copy> Four<T> {
+    // This value four times.
+    fn of(value: T) -> Four<T>
+        ensures { result ≡ four_of value value value value }
     {
         Four {
-            far_west: id,
-            west: id,
-            east: id,
-            far_east: id,
+            first: value,
+            second: value,
+            third: value,
+            fourth: value,
         }
     }
 
-    // These two behind another one, twice.
-    fn at_east_end(other: Id, a: Id, b: Id) -> Four
+    // These two behind another value, twice.
+    fn at_end(other: T, a: T, b: T) -> Four<T>
         ensures { result ≡ four_of other other a b }
     {
         Four {
-            far_west: other,
-            west: other,
-            east: a,
-            far_east: b,
+            first: other,
+            second: other,
+            third: a,
+            fourth: b,
         }
     }
 
-    // These two before another one, twice.
-    fn at_west_end(other: Id, a: Id, b: Id) -> Four
+    // These two before another value, twice.
+    fn at_front(other: T, a: T, b: T) -> Four<T>
         ensures { result ≡ four_of a b other other }
     {
         Four {
-            far_west: a,
-            west: b,
-            east: other,
-            far_east: other,
+            first: a,
+            second: b,
+            third: other,
+            fourth: other,
         }
     }
 
-    /// The three western ones.
-    fn western(&self) -> Three
+    /// The first three.
+    pub(crate) fn first_three(&self) -> Three<T>
+        ensures { result ≡ first_three self.now }
+    {
+        Three {
+            before: self.first,
+            here: self.second,
+            after: self.third,
+        }
+    }
+
+    /// The last three.
+    pub(crate) fn last_three(&self) -> Three<T>
+        ensures { result ≡ last_three self.now }
+    {
+        Three {
+            before: self.second,
+            here: self.third,
+            after: self.fourth,
+        }
+    }
+}
+
+impl Three<Four<Id>> {
+    /// The three western squares of each row.
+    pub(crate) fn western(&self) -> Nine
         ensures { result ≡ western self.now }
     {
         Three {
-            west: self.far_west,
-            middle: self.west,
-            east: self.east,
+            before: self.before.first_three(),
+            here: self.here.first_three(),
+            after: self.after.first_three(),
         }
     }
 
     /// The three eastern ones.
-    fn eastern(&self) -> Three
+    pub(crate) fn eastern(&self) -> Nine
         ensures { result ≡ eastern self.now }
     {
         Three {
-            west: self.west,
-            middle: self.east,
-            east: self.far_east,
+            before: self.before.last_three(),
+            here: self.here.last_three(),
+            after: self.after.last_three(),
         }
     }
 }
@@ -166,91 +179,35 @@ impl Sixteen {
     pub(crate) fn in_north_west(quarters: Quarters, other: Id) -> Sixteen
         ensures { result ≡ at_north_west quarters other }
     {
-        Sixteen {
-            far_north: Four::at_west_end(other, quarters.nw, quarters.ne),
-            north: Four::at_west_end(other, quarters.sw, quarters.se),
-            south: Four::of(other),
-            far_south: Four::of(other),
-        }
+        let north = Four::at_front(other, quarters.nw, quarters.ne);
+        let south = Four::at_front(other, quarters.sw, quarters.se);
+        Four::at_front(Four::of(other), north, south)
     }
 
     /// Four quarters in the north-eastern corner.
     pub(crate) fn in_north_east(quarters: Quarters, other: Id) -> Sixteen
         ensures { result ≡ at_north_east quarters other }
     {
-        Sixteen {
-            far_north: Four::at_east_end(other, quarters.nw, quarters.ne),
-            north: Four::at_east_end(other, quarters.sw, quarters.se),
-            south: Four::of(other),
-            far_south: Four::of(other),
-        }
+        let north = Four::at_end(other, quarters.nw, quarters.ne);
+        let south = Four::at_end(other, quarters.sw, quarters.se);
+        Four::at_front(Four::of(other), north, south)
     }
 
     /// Four quarters in the south-western corner.
     pub(crate) fn in_south_west(quarters: Quarters, other: Id) -> Sixteen
         ensures { result ≡ at_south_west quarters other }
     {
-        Sixteen {
-            far_north: Four::of(other),
-            north: Four::of(other),
-            south: Four::at_west_end(other, quarters.nw, quarters.ne),
-            far_south: Four::at_west_end(other, quarters.sw, quarters.se),
-        }
+        let north = Four::at_front(other, quarters.nw, quarters.ne);
+        let south = Four::at_front(other, quarters.sw, quarters.se);
+        Four::at_end(Four::of(other), north, south)
     }
 
     /// Four quarters in the south-eastern corner.
     pub(crate) fn in_south_east(quarters: Quarters, other: Id) -> Sixteen
         ensures { result ≡ at_south_east quarters other }
     {
-        Sixteen {
-            far_north: Four::of(other),
-            north: Four::of(other),
-            south: Four::at_east_end(other, quarters.nw, quarters.ne),
-            far_south: Four::at_east_end(other, quarters.sw, quarters.se),
-        }
-    }
-
-    /// The north-western square of the four in the middle amid its neighbours.
-    pub(crate) fn north_west(&self) -> Nine
-        ensures { result ≡ north_west_of self.now }
-    {
-        Nine {
-            north: self.far_north.western(),
-            middle: self.north.western(),
-            south: self.south.western(),
-        }
-    }
-
-    /// The north-eastern one.
-    pub(crate) fn north_east(&self) -> Nine
-        ensures { result ≡ north_east_of self.now }
-    {
-        Nine {
-            north: self.far_north.eastern(),
-            middle: self.north.eastern(),
-            south: self.south.eastern(),
-        }
-    }
-
-    /// The south-western one.
-    pub(crate) fn south_west(&self) -> Nine
-        ensures { result ≡ south_west_of self.now }
-    {
-        Nine {
-            north: self.north.western(),
-            middle: self.south.western(),
-            south: self.far_south.western(),
-        }
-    }
-
-    /// The south-eastern one.
-    pub(crate) fn south_east(&self) -> Nine
-        ensures { result ≡ south_east_of self.now }
-    {
-        Nine {
-            north: self.north.eastern(),
-            middle: self.south.eastern(),
-            south: self.far_south.eastern(),
-        }
+        let north = Four::at_end(other, quarters.nw, quarters.ne);
+        let south = Four::at_end(other, quarters.sw, quarters.se);
+        Four::at_end(Four::of(other), north, south)
     }
 }

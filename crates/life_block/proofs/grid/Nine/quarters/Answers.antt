@@ -12,8 +12,8 @@ returns-clause-pieces g c cells x y h =
     let north : ahead (back y (2 ^ (c.args.level + 1))) side ≡ back y side = omega (arith, ints, double) in
     let south : ahead y (2 ^ (c.args.level + 1)) ≡ ahead (ahead y side) side = omega (arith, ints, double) in
     record {
-      far_north = AreFour-moved north (c.halves.ensures.south cells x _ h.north);
-      north = c.halves-2.ensures.north cells x y h.middle;
-      south = c.halves-2.ensures.south cells x y h.middle;
-      far_south = AreFour-moved south (c.halves-3.ensures.north cells x _ h.south);
+      first = AreFour-moved content cells north (c.halves.ensures.south cells x _ h.before);
+      second = c.halves-2.ensures.north cells x y h.here;
+      third = c.halves-2.ensures.south cells x y h.here;
+      fourth = AreFour-moved content cells south (c.halves-3.ensures.north cells x _ h.after);
     }
