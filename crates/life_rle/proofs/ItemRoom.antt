@@ -1,5 +1,5 @@
 -- Texts at the end of an item's room.
-use Rattle.std.proofs.Common.{◌≡◌, ℕ, ◌+◌, ◌-◌, ◌≤◌, ◌<◌, ◌^◌, List, [], ◌∷◌, drop, length, decimal, refl, ap, ◌∙◌, arith}
+use Rattle.std.proofs.Common.{◌≡◌, ℕ, ◌≤◌, ◌<◌, ◌^◌, List, [], ◌∷◌, drop, length, decimal, refl, ap, ◌∙◌, arith}
 use Rattle.std.specs.Prelude.{slice_set}
 use Rattle.std.proofs.lemmas.List.{drop-set, drop-set-add, length-drop}
 use Rattle.std.proofs.lemmas.Fmt.{length-decimal-le}
@@ -26,12 +26,6 @@ room-pair room a b h =
     drop-set-add 21 (slice_set room 21 a) 1 b
     ∙ ap (λ ys. slice_set ys 1 b) (drop-set room 21 a (omega (arith, h)))
     ∙ last-one (drop 22 room) a b (omega (arith, h, size))
-
--- a line feed in front of a text
-pub room-feed : (room : List ℕ) (start : ℕ) → 1 ≤ start → start ≤ length room → drop (start - 1) (slice_set room (start - 1) 10) ≡ 10 ∷ drop start room
-room-feed room start some inside =
-    let behind : (start - 1) + 1 ≡ start = omega (arith, some) in
-    drop-set room (start - 1) 10 (omega (arith, some, inside)) ∙ ap (λ n. 10 ∷ drop n room) behind
 
 -- a number's digits
 pub digits-fit : (n : ℕ) → n < 2 ^ 64 → length (decimal n) ≤ 20

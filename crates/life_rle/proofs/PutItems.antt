@@ -1,14 +1,15 @@
 -- What is put on lines one after another is the text of the lines.
-use Rattle.std.proofs.Common.{◌≡◌, ℕ, ◌+◌, ◌-◌, ◌≤◌, ◌<◌, Bool, true, false, cond, drop, decimal, List, [], ◌∷◌, ◌++◌, length, map, refl, sym, ap, ◌∙◌, arith, append_assoc, leb, eqb}
+use Rattle.std.proofs.Common.{◌≡◌, ℕ, ◌+◌, ◌≤◌, Bool, true, false, cond, decimal, List, [], ◌∷◌, ◌++◌, length, map, refl, sym, ap, ◌∙◌, arith, append_assoc, leb, eqb}
 use Rattle.std.specs.Prelude.{flat_map}
 use Rattle.std.proofs.lemmas.Bool.Decides.{nat_tests}
 use Rattle.std.proofs.lemmas.List.{append-nil, length-append}
 use Rattle.life_base.specs.declared.rule.Rule.{Rule}
 use Rattle.life_rle.specs.declared.item.Item.{Item}
 use Rattle.life_rle.specs.declared.item.Item.TheVariants.{Cells, RowEnds}
+use Rattle.life_rle.specs.declared.wrapping.ItemLines.{ItemLines}
 use Rattle.life_rle.specs.Cursor.{item_count}
 use Rattle.life_rle.specs.Written.{count_text, item_text, item_lines, wrapped}
-use Rattle.life_rle.specs.Writing.{tag_text, text_from, items_text, Puts}
+use Rattle.life_rle.specs.Writing.{tag_text, text_from, items_text, text_with, Puts}
 use Rattle.life_rle.proofs.FileLines.{state_text-short}
 
 pub tag-short : (rule : Rule) (item : Item) → length (tag_text rule item) ≤ 2
@@ -29,52 +30,12 @@ item_text-counted rule item h =
     let e : eqb (item_count item) 1 ≡ false = grind (arith, nat_tests) in
     item_text-parts rule item ∙ ap (λ (t : Bool). cond t [] (decimal (item_count item)) ++ tag_text rule item) e
 
--- an item whose text fits on the line
-pub put-here : (rule : Rule) (used : ℕ) (item : Item) (start : ℕ) (room old new : List ℕ) → start + length (item_text rule item) ≡ 23
-    → drop start room ≡ item_text rule item
-    → (used + (23 - start)) ≤ 70 → new ≡ old ++ drop start room → Puts rule used (item ∷ []) old (used + (23 - start)) new
-put-here rule used item start room old new s t fits e =
-    let len : 23 - start ≡ length (item_text rule item) = omega (arith, s) in
-    let test : leb (used + length (item_text rule item)) 70 ≡ true = grind (arith, nat_tests) in
-    record {
-      short = fits;
-      text = λ more.
-          let rest = λ (n : ℕ). items_text rule n more in
-          ap (λ n. new ++ rest (used + n)) len
-          ∙ ap (λ t. t ++ rest (used + length (item_text rule item))) (e ∙ ap (λ t. old ++ t) t)
-          ∙ append_assoc old (item_text rule item) (rest (used + length (item_text rule item)))
-          ∙ ap (λ (c : Bool). old ++ (cond c [] (10 ∷ [])
-          ++ (item_text rule item ++ rest (cond c (used + length (item_text rule item)) (length (item_text rule item)))))) (sym test);
-    }
-
--- an item whose text begins the next line
-pub put-below : (rule : Rule) (used : ℕ) (item : Item) (start : ℕ) (room old new : List ℕ) → start + length (item_text rule item) ≡ 23
-    → drop start room ≡ item_text rule item
-    → 70 < (used + (23 - start)) → new ≡ old ++ (10 ∷ drop start room) → Puts rule used (item ∷ []) old (23 - start) new
-put-below rule used item start room old new s t full e =
-    let len : 23 - start ≡ length (item_text rule item) = omega (arith, s) in
-    let test : leb (used + length (item_text rule item)) 70 ≡ false = grind (arith, nat_tests) in
-    record {
-      short = omega arith;
-      text = λ more.
-          let rest = λ (n : ℕ). items_text rule n more in
-          ap (λ n. new ++ rest n) len
-          ∙ ap (λ t. t ++ rest (length (item_text rule item))) (e ∙ ap (λ t. old ++ (10 ∷ t)) t)
-          ∙ append_assoc old (10 ∷ item_text rule item) (rest (length (item_text rule item)))
-          ∙ ap (λ (c : Bool). old ++ (cond c [] (10 ∷ [])
-          ++ (item_text rule item ++ rest (cond c (used + length (item_text rule item)) (length (item_text rule item)))))) (sym test);
-    }
-
--- nothing
-pub Puts-nil : (rule : Rule) (used : ℕ) (old : List ℕ) → used ≤ 70 → Puts rule used [] old used old
-Puts-nil rule used old h = record { short = h; text = λ more. refl }
-
 -- one after the other
-pub Puts-then : (rule : Rule) (used : ℕ) (xs : List Item) (old : List ℕ) (between : ℕ) (middle : List ℕ) (ys : List Item) (next : ℕ) (new : List ℕ)
-    → Puts rule used xs old between middle → Puts rule between ys middle next new → Puts rule used (xs ++ ys) old next new
-Puts-then rule used xs old between middle ys next new p q = record {
+pub Puts-then : (rule : Rule) (xs ys : List Item) (old middle new : ItemLines) → Puts rule old xs middle → Puts rule middle ys new
+    → Puts rule old (xs ++ ys) new
+Puts-then rule xs ys old middle new p q = record {
   short = q.short;
-  text = λ more. q.text more ∙ p.text (ys ++ more) ∙ ap (λ items. old ++ items_text rule used items) (sym (append_assoc xs ys more));
+  text = λ more. q.text more ∙ p.text (ys ++ more) ∙ ap (λ items. text_with rule old items) (sym (append_assoc xs ys more));
 }
 
 -- lines, each with its line feed, are the text from the first line's bytes on
@@ -89,16 +50,15 @@ wrapped-text line (text ∷ texts) =
       | false ↦ append_assoc line (10 ∷ []) (flat_map (λ line. line ++ 10 ∷ []) (wrapped text texts)) ∙ ap (λ t. line ++ (10 ∷ t)) (wrapped-text text texts)
     ]
 
--- two lines in front, and items
-pub lines-text : (position header : List ℕ) (rule : Rule) (items : List Item) (old first second new : List ℕ) → first ≡ old ++ (position ++ 10 ∷ [])
-    → second ≡ first ++ (header ++ 10 ∷ [])
-    → new ≡ second ++ items_text rule 0 items → new ≡ old ++ flat_map (λ line. line ++ 10 ∷ []) (position ∷ header ∷ item_lines rule items)
-lines-text position header rule items old first second new a b e =
+-- two lines, and items
+pub lines-text : (position header : List ℕ) (rule : Rule) (items : List Item) (first second new : List ℕ) → first ≡ position ++ 10 ∷ []
+    → second ≡ first ++ (header ++ 10 ∷ []) → new ≡ second ++ items_text rule 0 items
+    → new ≡ flat_map (λ line. line ++ 10 ∷ []) (position ∷ header ∷ item_lines rule items)
+lines-text position header rule items first second new a b e =
     let rest = items_text rule 0 items in
     e ∙ ap (λ t. t ++ rest) (b ∙ ap (λ t. t ++ (header ++ 10 ∷ [])) a)
-    ∙ append_assoc (old ++ (position ++ 10 ∷ [])) (header ++ 10 ∷ []) rest
-    ∙ append_assoc old (position ++ 10 ∷ []) ((header ++ 10 ∷ []) ++ rest)
-    ∙ ap (λ t. old ++ ((position ++ 10 ∷ []) ++ ((header ++ 10 ∷ []) ++ t))) (sym (wrapped-text [] (map (item_text rule) items ++ (33 ∷ []) ∷ [])))
+    ∙ append_assoc (position ++ 10 ∷ []) (header ++ 10 ∷ []) rest
+    ∙ ap (λ t. (position ++ 10 ∷ []) ++ ((header ++ 10 ∷ []) ++ t)) (sym (wrapped-text [] (map (item_text rule) items ++ (33 ∷ []) ∷ [])))
 
 -- four texts, one behind the other
 pub four-texts : (a b c d old first second third new : List ℕ) → first ≡ old ++ a → second ≡ first ++ b → third ≡ second ++ c → new ≡ third ++ d

@@ -12,7 +12,8 @@ use Rattle.life_rle.specs.Written.{with_gap, with_cell, items_from}
 use Rattle.life_base.specs.declared.rule.Rule.{Rule}
 use Rattle.life_base.specs.declared.bounds.Bounds.{Bounds}
 use Rattle.life_rle.specs.declared.pen.Pen.{Pen}
-use Rattle.life_rle.specs.Writing.{with_open, way_to, joins, items_text, pen_text, Puts, IsPen, IsGoodCell, IsAhead, Follow, WritesCell, WritesUpTo}
+use Rattle.life_rle.specs.declared.wrapping.ItemLines.{ItemLines}
+use Rattle.life_rle.specs.Writing.{with_open, run_of, longer, column_behind, item_of, way_to, joins, items_text, text_with, pen_text, Puts, IsLiveRun, IsPen, IsGoodCell, IsAhead, Follow, WritesCell, WritesUpTo}
 use Rattle.life_rle.proofs.PutItems.{Puts-then}
 
 -- how far apart two coordinates are that were passed as words of the machine
@@ -81,7 +82,7 @@ three true false c h = cc
 three false b c h = cc
 
 -- the next cell goes on with the run
-pub cell-joins : (n s : ℕ) (left x y : ℤ) (c : Cell) (cells : List Cell) → joins s x y c ≡ true
+pub cell-joins : (n s : ℕ) (left x y : ℤ) (c : Cell) (cells : List Cell) → ((int_eq c.y y && int_eq c.x x) && eqb c.state s) ≡ true
     → with_open n s (items_from left x y (c ∷ cells)) ≡ with_open (n + 1) s (items_from left (x +ℤ pos 1) y cells)
 cell-joins n s left x y c cells h =
     let parts = three (int_eq c.y y) (int_eq c.x x) (eqb c.state s) h in
@@ -115,7 +116,7 @@ in_row n s left x y c items live row near apart =
 
 -- the next cell ends the run
 pub cell-ends : (n s : ℕ) (left x y : ℤ) (c : Cell) (cells : List Cell) → 0 < s → ((c.y ≡ y) × (x ≤ℤ c.x)) ⊎ ((y <ℤ c.y) × (left ≤ℤ c.x))
-    → joins s x y c ≡ false
+    → ((int_eq c.y y && int_eq c.x x) && eqb c.state s) ≡ false
     → with_open n s (items_from left x y (c ∷ cells)) ≡ Cells n s ∷ (way_to left x y c ++ with_open 1 c.state (items_from left (c.x +ℤ pos 1) c.y cells))
 cell-ends n s left x y c cells live ahead apart =
     let items = items_from left (c.x +ℤ pos 1) c.y cells in
@@ -139,102 +140,96 @@ cell-ends n s left x y c cells live ahead apart =
 
 -- ---- the steps of the writer
 
-pub take-longer : (rule : Rule) (pen : Pen) (cell : Cell) (old : List ℕ) → IsPen pen → IsGoodCell rule cell → joins pen.state pen.x pen.y cell ≡ true
-    → WritesCell rule pen cell old (record { left = pen.left; used = pen.used; x = pen.x +ℤ pos 1; y = pen.y; count = pen.count + 1; state = pen.state }) old
-take-longer rule pen cell old p good h =
-    let parts = three (int_eq cell.y pen.y) (int_eq cell.x pen.x) (eqb cell.state pen.state) h in
+-- the column behind a longer run
+column-longer : (x : ℤ) (n : ℕ) → (x +ℤ pos (n + 1)) ≡ ((x +ℤ pos n) +ℤ pos 1)
+column-longer x n = omega (arith, ints)
+
+pub take-longer : (rule : Rule) (pen : Pen) (cell : Cell) → IsPen pen → IsGoodCell rule cell → joins pen.run cell ≡ true
+    → WritesCell rule pen cell (record { lines = pen.lines; left = pen.left; run = longer pen.run })
+take-longer rule pen cell p good h =
+    let run = pen.run in
+    let parts = three (int_eq cell.y run.y) (int_eq cell.x (column_behind run)) (eqb cell.state run.state) h in
     let h0 = parts.0 in let h1 = parts.1 in
-    let column : cell.x ≡ pen.x = grind (arith, ints) in
-    let row : pen.y ≡ cell.y = grind (arith, ints) in
+    let column : cell.x ≡ column_behind run = grind (arith, ints) in
+    let row : run.y ≡ cell.y = grind (arith, ints) in
+    let behind : column_behind (longer run) ≡ (column_behind run +ℤ pos 1) = column-longer run.x run.len in
     let inside = good.right in
-    let left = p.left in
     record {
       sound = record {
         short = p.short;
-        corner = p.corner;
-        left = omega (arith, ints, left);
-        right = omega (arith, ints, column, inside);
-        top = p.top;
-        bottom = p.bottom;
-        live = p.live;
+        left = p.left;
+        run = record { left = p.run.left; right = omega (arith, ints, column, inside); top = p.run.top; bottom = p.run.bottom; live = p.run.live };
       };
-      place = (refl, ap (λ z. z +ℤ pos 1) (sym column), row);
-      text = λ cells. ap (λ items. old ++ items_text rule pen.used items) (sym (cell-joins pen.count pen.state pen.left pen.x pen.y cell cells h));
+      place = (refl, behind ∙ ap (λ z. z +ℤ pos 1) (sym column), row);
+      text = λ cells.
+          ap (λ x. text_with rule pen.lines (with_open (run.len + 1) run.state (items_from pen.left x run.y cells))) behind
+          ∙ ap (λ items. text_with rule pen.lines items) (sym (cell-joins run.len run.state pen.left (column_behind run) run.y cell cells h));
     }
 
-pub take-ended : (rule : Rule) (pen : Pen) (cell : Cell) (old : List ℕ) (between : ℕ) (middle : List ℕ) (used : ℕ) (new : List ℕ) → IsPen pen
-    → IsGoodCell rule cell → IsAhead pen.left pen.x pen.y cell
-    → joins pen.state pen.x pen.y cell ≡ false → Puts rule pen.used (Cells pen.count pen.state ∷ []) old between middle
-    → Puts rule between (way_to pen.left pen.x pen.y cell) middle used new
-    → WritesCell rule pen cell old (record { left = pen.left; used = used; x = cell.x +ℤ pos 1; y = cell.y; count = 1; state = cell.state }) new
-take-ended rule pen cell old between middle used new p good ahead h run way =
-    let both = Puts-then rule pen.used (Cells pen.count pen.state ∷ []) old between middle (way_to pen.left pen.x pen.y cell) used new run way in
-    let left = good.left in let right = good.right in
+-- one cell
+live-cell : (rule : Rule) (cell : Cell) → IsGoodCell rule cell → IsLiveRun (run_of cell)
+live-cell rule cell good =
+    let right = good.right in
+    record { left = good.left; right = omega (arith, ints, right); top = good.top; bottom = good.bottom; live = good.live }
+
+pub take-ended : (rule : Rule) (pen : Pen) (cell : Cell) (middle new : ItemLines) → IsPen pen → IsGoodCell rule cell
+    → IsAhead pen.left (column_behind pen.run) pen.run.y cell → joins pen.run cell ≡ false → Puts rule pen.lines (item_of pen.run ∷ []) middle
+    → Puts rule middle (way_to pen.left (column_behind pen.run) pen.run.y cell) new
+    → WritesCell rule pen cell (record { lines = new; left = pen.left; run = run_of cell })
+take-ended rule pen cell middle new p good ahead h item way =
+    let run = pen.run in
+    let x = column_behind run in
+    let both = Puts-then rule (item_of run ∷ []) (way_to pen.left x run.y cell) pen.lines middle new item way in
     record {
-      sound = record {
-        short = both.short;
-        corner = p.corner;
-        left = omega (arith, ints, left);
-        right = omega (arith, ints, right);
-        top = good.top;
-        bottom = good.bottom;
-        live = good.live;
-      };
+      sound = record { short = both.short; left = p.left; run = live-cell rule cell good };
       place = (refl, refl, refl);
       text = λ cells.
           both.text (with_open 1 cell.state (items_from pen.left (cell.x +ℤ pos 1) cell.y cells))
-          ∙ ap (λ items. old ++ items_text rule pen.used items) (sym (cell-ends pen.count pen.state pen.left pen.x pen.y cell cells p.live ahead h));
+          ∙ ap (λ items. text_with rule pen.lines items) (sym (cell-ends run.len run.state pen.left x run.y cell cells p.run.live ahead h));
     }
 
 -- the way in the pen's row
-pub way-along : (rule : Rule) (left x y : ℤ) (cell : Cell) (used : ℕ) (old : List ℕ) (rows gap next : ℕ) (new : List ℕ) → rows ≡ nat_abs (cell.y -ℤ y)
-    → rows ≡ 0 → gap ≡ nat_abs (cell.x -ℤ x)
-    → Puts rule used (with_gap gap []) old next new → Puts rule used (way_to left x y cell) old next new
-way-along rule left x y cell used old rows gap next new e z g p =
+pub way-along : (rule : Rule) (left x y : ℤ) (cell : Cell) (rows gap : ℕ) (old new : ItemLines) → rows ≡ nat_abs (cell.y -ℤ y) → rows ≡ 0
+    → gap ≡ nat_abs (cell.x -ℤ x) → Puts rule old (with_gap gap []) new → Puts rule old (way_to left x y cell) new
+way-along rule left x y cell rows gap old new e z g p =
     let on : int_eq cell.y y ≡ true = grind (arith, ints) in
     let items : with_gap gap [] ≡ way_to left x y cell = ap (λ n. with_gap n []) g ∙ sym (ap (λ t. stepped t left x y cell []) on) in
-    subst (λ is. Puts rule used is old next new) items p
+    subst (λ is. Puts rule old is new) items p
 
 -- the way to a later row
-pub way-down : (rule : Rule) (left x y : ℤ) (cell : Cell) (used : ℕ) (old : List ℕ) (rows between : ℕ) (middle : List ℕ) (gap next : ℕ) (new : List ℕ)
-    → rows ≡ nat_abs (cell.y -ℤ y) → (rows ≡ 0 → ⊥) → gap ≡ nat_abs (cell.x -ℤ left)
-    → Puts rule used (RowEnds rows ∷ []) old between middle → Puts rule between (with_gap gap []) middle next new
-    → Puts rule used (way_to left x y cell) old next new
-way-down rule left x y cell used old rows between middle gap next new e some g p q =
+pub way-down : (rule : Rule) (left x y : ℤ) (cell : Cell) (rows gap : ℕ) (old middle new : ItemLines) → rows ≡ nat_abs (cell.y -ℤ y) → (rows ≡ 0 → ⊥)
+    → gap ≡ nat_abs (cell.x -ℤ left) → Puts rule old (RowEnds rows ∷ []) middle → Puts rule middle (with_gap gap []) new
+    → Puts rule old (way_to left x y cell) new
+way-down rule left x y cell rows gap old middle new e some g p q =
     let off : int_eq cell.y y ≡ false = grind (arith, ints) in
     let items : RowEnds rows ∷ with_gap gap [] ≡ way_to left x y cell =
     ap (λ n. RowEnds n ∷ with_gap gap []) e ∙ ap (λ n. RowEnds (nat_abs (cell.y -ℤ y)) ∷ with_gap n []) g ∙ sym (ap (λ t. stepped t left x y cell []) off) in
-    subst (λ is. Puts rule used is old next new) items (Puts-then rule used (RowEnds rows ∷ []) old between middle (with_gap gap []) next new p q)
+    subst (λ is. Puts rule old is new) items (Puts-then rule (RowEnds rows ∷ []) (with_gap gap []) old middle new p q)
 
 -- one step of the loop over the cells
-pub up-to-more : (rule : Rule) (whole : List ℕ) (pen : Pen) (cell : Cell) (cells : List Cell) (old : List ℕ) (next : Pen) (new : List ℕ)
-    → WritesUpTo rule whole pen (cell ∷ cells) old → WritesCell rule pen cell old next new → WritesUpTo rule whole next cells new
-up-to-more rule whole pen cell cells old next new w s = record {
+pub up-to-more : (rule : Rule) (whole : List ℕ) (pen : Pen) (cell : Cell) (cells : List Cell) (next : Pen) → WritesUpTo rule whole pen (cell ∷ cells)
+    → WritesCell rule pen cell next → WritesUpTo rule whole next cells
+up-to-more rule whole pen cell cells next w s = record {
   sound = s.sound;
-  follow = subst (λ left. Follow rule left next.x next.y cells) (sym s.place.0)
-      (subst (λ x. Follow rule pen.left x next.y cells) (sym s.place.1)
+  follow = subst (λ left. Follow rule left (column_behind next.run) next.run.y cells) (sym s.place.0)
+      (subst (λ x. Follow rule pen.left x next.run.y cells) (sym s.place.1)
       (subst (λ y. Follow rule pen.left (cell.x +ℤ pos 1) y cells) (sym s.place.2) w.follow.2));
   text = s.text cells ∙ w.text;
 }
 
--- the last run and the mark
-pub up-to-end : (rule : Rule) (whole : List ℕ) (pen : Pen) (old : List ℕ) (next : ℕ) (new last : List ℕ) → WritesUpTo rule whole pen [] old
-    → Puts rule pen.used (Cells pen.count pen.state ∷ []) old next new
-    → last ≡ new ++ items_text rule next [] → last ≡ whole
-up-to-end rule whole pen old next new last w p e = e ∙ p.text [] ∙ w.text
-
 -- the first cell, and all behind it
-pub from-first : (rule : Rule) (bounds : Bounds) (first : Cell) (cells : List Cell) (old : List ℕ) (gap used : ℕ) (middle last : List ℕ) → bounds.top ≡ first.y
-    → gap ≡ nat_abs (first.x -ℤ bounds.left)
-    → Puts rule 0 (with_gap gap []) old used middle
-    → last ≡ middle ++ pen_text rule (record { left = bounds.left; used = used; x = first.x +ℤ pos 1; y = first.y; count = 1; state = first.state }) cells
-    → last ≡ old ++ items_text rule 0 (items_from bounds.left bounds.left bounds.top (first ∷ cells))
-from-first rule bounds first cells old gap used middle last top g p e =
+pub from-first : (rule : Rule) (bounds : Bounds) (first : Cell) (cells : List Cell) (text : List ℕ) (gap : ℕ) (old new : ItemLines) → bounds.top ≡ first.y
+    → gap ≡ nat_abs (first.x -ℤ bounds.left) → old.text.items ≡ text → old.used ≡ 0 → Puts rule old (with_gap gap []) new
+    → pen_text rule (record { lines = new; left = bounds.left; run = run_of first }) cells
+    ≡ text ++ items_text rule 0 (items_from bounds.left bounds.left bounds.top (first ∷ cells))
+from-first rule bounds first cells text gap old new top g t u p =
     let left = bounds.left in
     let items = items_from left (first.x +ℤ pos 1) first.y cells in
     let on : int_eq first.y bounds.top ≡ true = same_true first.y bounds.top (sym top) in
-    e ∙ p.text (with_open 1 first.state items)
-    ∙ ap (λ is. old ++ items_text rule 0 is)
+    p.text (with_open 1 first.state items)
+    ∙ ap (λ bytes. bytes ++ items_text rule old.used (with_gap gap [] ++ with_open 1 first.state items)) t
+    ∙ ap (λ used. text ++ items_text rule used (with_gap gap [] ++ with_open 1 first.state items)) u
+    ∙ ap (λ is. text ++ items_text rule 0 is)
     (sym (ap (λ t. stepped t left left bounds.top first (with_cell first.state items)) on
     ∙ ap (λ n. with_gap n (with_cell first.state items)) (sym g)
     ∙ with_gap-append gap (with_cell first.state items)

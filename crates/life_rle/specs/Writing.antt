@@ -2,12 +2,14 @@
 use Rattle.std.specs.Prelude.{◌≡◌, ℕ, ◌+◌, ◌≤◌, ◌<◌, ◌⊎◌, List, [], ◌∷◌, ◌++◌, length, map, Bool, ◌&&◌, true, ℤ, pos, neg_ℤ, ◌+ℤ◌, ◌-ℤ◌, ◌≤ℤ◌, ◌<ℤ◌, nat_abs, if◌then◌else◌, ◌==◌, nat_le, codes}
 use Rattle.std.specs.Ordering.{int_eq}
 use Rattle.life_base.specs.declared.cell.Cell.{Cell}
+use Rattle.life_base.specs.declared.cell.Run.{Run}
 use Rattle.life_base.specs.declared.cell.TheConstants.{MAX_LEVEL}
 use Rattle.life_base.specs.declared.rule.Rule.{Rule}
 use Rattle.life_rle.specs.declared.item.Item.{Item}
 use Rattle.life_rle.specs.declared.item.Item.TheVariants.{Cells, RowEnds}
 use Rattle.life_base.specs.declared.bounds.Bounds.{Bounds}
 use Rattle.life_rle.specs.declared.pen.Pen.{Pen}
+use Rattle.life_rle.specs.declared.wrapping.ItemLines.{ItemLines}
 use Rattle.life_rle.specs.Plane.{edge}
 use Rattle.life_rle.specs.States.{is_state_of, state_text}
 use Rattle.life_rle.specs.Written.{with_gap, item_text, items_from, joined, box_of}
@@ -34,10 +36,14 @@ text_from used (text ∷ texts) = feed used (length text) ++ (text ++ text_from 
 abbrev pub items_text : Rule → ℕ → List Item → List ℕ
 items_text rule used items = text_from used (map (item_text rule) items ++ codes "!" ∷ [])
 
+-- the whole text of lines behind which these items and `!` follow
+abbrev pub text_with : Rule → ItemLines → List Item → List ℕ
+text_with rule lines items = lines.text.items ++ items_text rule lines.used items
+
 -- these items were written, whatever items follow
-pub record Puts (rule : Rule) (used : ℕ) (items : List Item) (old : List ℕ) (next : ℕ) (new : List ℕ) : Type 0 where
-  pub short : next ≤ 70
-  pub text : (more : List Item) → new ++ items_text rule next more ≡ old ++ items_text rule used (items ++ more)
+pub record Puts (rule : Rule) (old : ItemLines) (items : List Item) (new : ItemLines) : Type 0 where
+  pub short : new.used ≤ 70
+  pub text : (more : List Item) → text_with rule new more ≡ text_with rule old (items ++ more)
 
 -- a run that goes on in front of items
 abbrev pub with_open : ℕ → ℕ → List Item → List Item
@@ -49,23 +55,43 @@ with_open count state (RowEnds rows ∷ items) = Cells count state ∷ RowEnds r
 abbrev pub way_to : ℤ → ℤ → ℤ → Cell → List Item
 way_to left x y c = if int_eq c.y y then with_gap (nat_abs (c.x -ℤ x)) [] else RowEnds (nat_abs (c.y -ℤ y)) ∷ with_gap (nat_abs (c.x -ℤ left)) []
 
--- whether a cell goes on with a run of a state that ends before a place
-abbrev pub joins : ℕ → ℤ → ℤ → Cell → Bool
-joins state x y c = (int_eq c.y y && int_eq c.x x) && c.state == state
+-- the run of one cell
+abbrev pub run_of : Cell → Run
+run_of c = record { x = c.x; y = c.y; len = 1; state = c.state }
 
--- what is to be written behind a pen
+-- a run with one cell more
+abbrev pub longer : Run → Run
+longer run = record { x = run.x; y = run.y; len = run.len + 1; state = run.state }
+
+-- the column behind a run
+abbrev pub column_behind : Run → ℤ
+column_behind run = run.x +ℤ pos run.len
+
+-- whether a cell goes on with a run
+abbrev pub joins : Run → Cell → Bool
+joins run c = (int_eq c.y run.y && int_eq c.x (column_behind run)) && c.state == run.state
+
+-- the item of a run
+abbrev pub item_of : Run → Item
+item_of run = Cells run.len run.state
+
+-- the whole text of a pen behind which these cells follow
 abbrev pub pen_text : Rule → Pen → List Cell → List ℕ
-pen_text rule pen cells = items_text rule pen.used (with_open pen.count pen.state (items_from pen.left pen.x pen.y cells))
+pen_text rule pen cells = text_with rule pen.lines (with_open pen.run.len pen.run.state (items_from pen.left (column_behind pen.run) pen.run.y cells))
 
--- the pen's run lies in the plane, and its line has room
+-- live cells in the plane
+pub record IsLiveRun (run : Run) : Type 0 where
+  pub left : neg_ℤ (edge MAX_LEVEL) ≤ℤ run.x
+  pub right : column_behind run ≤ℤ edge MAX_LEVEL
+  pub top : neg_ℤ (edge MAX_LEVEL) ≤ℤ run.y
+  pub bottom : run.y <ℤ edge MAX_LEVEL
+  pub live : 0 < run.state
+
+-- the pen's line has room, rows begin in the plane, and its run lies there
 pub record IsPen (pen : Pen) : Type 0 where
-  pub short : pen.used ≤ 70
-  pub corner : neg_ℤ (edge MAX_LEVEL) ≤ℤ pen.left
-  pub left : (neg_ℤ (edge MAX_LEVEL) +ℤ pos pen.count) ≤ℤ pen.x
-  pub right : pen.x ≤ℤ edge MAX_LEVEL
-  pub top : neg_ℤ (edge MAX_LEVEL) ≤ℤ pen.y
-  pub bottom : pen.y <ℤ edge MAX_LEVEL
-  pub live : 0 < pen.state
+  pub short : pen.lines.used ≤ 70
+  pub left : neg_ℤ (edge MAX_LEVEL) ≤ℤ pen.left
+  pub run : IsLiveRun pen.run
 
 -- a live cell in the plane
 pub record IsGoodCell (rule : Rule) (c : Cell) : Type 0 where
@@ -100,13 +126,13 @@ bounds_onto box [] = box
 bounds_onto box (c ∷ cells) = joined box (box_of c cells)
 
 -- the next cell was taken, whatever cells follow
-pub record WritesCell (rule : Rule) (pen : Pen) (cell : Cell) (old : List ℕ) (next : Pen) (new : List ℕ) : Type 0 where
+pub record WritesCell (rule : Rule) (pen : Pen) (cell : Cell) (next : Pen) : Type 0 where
   pub sound : IsPen next
-  pub place : (next.left ≡ pen.left) × (next.x ≡ cell.x +ℤ pos 1) × (next.y ≡ cell.y)
-  pub text : (cells : List Cell) → new ++ pen_text rule next cells ≡ old ++ pen_text rule pen (cell ∷ cells)
+  pub place : (next.left ≡ pen.left) × (column_behind next.run ≡ cell.x +ℤ pos 1) × (next.run.y ≡ cell.y)
+  pub text : (cells : List Cell) → pen_text rule next cells ≡ pen_text rule pen (cell ∷ cells)
 
 -- what was written is the text of the cells but for these
-pub record WritesUpTo (rule : Rule) (whole : List ℕ) (pen : Pen) (cells : List Cell) (new : List ℕ) : Type 0 where
+pub record WritesUpTo (rule : Rule) (whole : List ℕ) (pen : Pen) (cells : List Cell) : Type 0 where
   pub sound : IsPen pen
-  pub follow : Follow rule pen.left pen.x pen.y cells
-  pub text : new ++ pen_text rule pen cells ≡ whole
+  pub follow : Follow rule pen.left (column_behind pen.run) pen.run.y cells
+  pub text : pen_text rule pen cells ≡ whole

@@ -1,84 +1,60 @@
 //! Cells as items.
 
-ghost use Rattle.std.specs.Prelude.{◌≡◌, ◌+◌, ◌≤◌, ◌++◌, ◌∷◌, [], pos, neg_ℤ, ◌+ℤ◌, ◌-ℤ◌, ◌≤ℤ◌, ◌<ℤ◌, nat_abs, OnOk, IfOk, IfErr};
-ghost use Rattle.life_rle.specs.declared.item.Item.TheVariants.{Cells};
+ghost use Rattle.std.specs.Prelude.{◌≡◌, ◌++◌, ◌∷◌, [], pos, neg_ℤ, ◌+ℤ◌, ◌-ℤ◌, ◌≤ℤ◌, nat_abs, OnOk, IfOk, IfErr};
 ghost use Rattle.life_rle.specs.Plane.{edge};
 ghost use Rattle.life_rle.specs.Written.{items_from};
-ghost use Rattle.life_rle.specs.Writing.{Puts, IsPen, IsGoodCell, IsAhead, Follow, joins, way_to, pen_text, items_text, WritesCell};
+ghost use Rattle.life_rle.specs.Writing.{Puts, IsLiveRun, IsPen, IsGoodCell, IsAhead, Follow, run_of, longer, column_behind, joins, item_of, way_to, pen_text, items_text, WritesCell};
 
 use crate::item::Item;
-use crate::wrapping::{put_gap, put_item, put_mark};
-use life_base::{Bounds, Cell, Kind, MAX_LEVEL, Rule, State};
+use crate::wrapping::ItemLines;
+use life_base::{Bounds, Cell, Kind, MAX_LEVEL, Rule, Run};
 
-/// Where the writer is: the column at which rows begin, the bytes on the last line, and the run that isn't written yet, with the
-/// place behind it.
-#[derive(Clone, Copy)]
-pub(crate) struct Pen {
-    pub(crate) left: i64,
-    pub(crate) used: usize,
-    pub(crate) x: i64,
-    pub(crate) y: i64,
-    pub(crate) count: u64,
-    pub(crate) state: State,
-}
-
-/// The pen behind the first cell, which isn't written yet.
-fn first_pen(bounds: Bounds, used: usize, cell: &Cell) -> Pen
-    requires { cell.now.x <ℤ edge MAX_LEVEL }
-    ensures { result ≡ record { left = bounds.left; used = used; x = cell.now.x +ℤ pos 1; y = cell.now.y; count = 1; state = cell.now.state } }
+/// The run of one cell.
+fn run_of(cell: &Cell) -> Run
+    ensures { result ≡ run_of cell.now }
 {
-    Pen {
-        left: bounds.left,
-        used,
-        x: cell.x + 1,
+    Run {
+        x: cell.x,
         y: cell.y,
-        count: 1,
+        len: 1,
         state: cell.state,
     }
 }
 
-/// The pen behind a further cell that begins a run.
-fn next_pen(pen: Pen, used: usize, cell: &Cell) -> Pen
-    requires { cell.now.x <ℤ edge MAX_LEVEL }
-    ensures { result ≡ record { left = pen.left; used = used; x = cell.now.x +ℤ pos 1; y = cell.now.y; count = 1; state = cell.now.state } }
+/// A run with one cell more.
+fn longer(run: Run) -> Run
+    requires { IsLiveRun run }
+    ensures { result ≡ longer run }
 {
-    Pen {
-        used,
-        x: cell.x + 1,
-        y: cell.y,
-        count: 1,
-        state: cell.state,
-        ..pen
+    Run {
+        len: run.len + 1,
+        ..run
     }
 }
 
-/// The pen with one cell more in its run.
-fn longer_pen(pen: Pen) -> Pen
-    requires pen { IsPen pen }
-    requires right { pen.x <ℤ edge MAX_LEVEL }
-    ensures { result ≡ record { left = pen.left; used = pen.used; x = pen.x +ℤ pos 1; y = pen.y; count = pen.count + 1; state = pen.state } }
+/// The column behind a run.
+fn column_behind(run: Run) -> i64
+    requires { IsLiveRun run }
+    ensures { result ≡ column_behind run }
 {
-    Pen {
-        x: pen.x + 1,
-        count: pen.count + 1,
-        ..pen
-    }
+    run.x + run.len as i64
 }
 
-/// Whether a cell goes on with the pen's run.
-fn joins(pen: Pen, cell: &Cell) -> bool
-    ensures { result ≡ joins pen.state pen.x pen.y cell.now }
+/// Whether a cell goes on with a run.
+fn joins(run: Run, cell: &Cell) -> bool
+    requires { IsLiveRun run }
+    ensures { result ≡ joins run cell.now }
 {
-    cell.y == pen.y && cell.x == pen.x && cell.state == pen.state
+    cell.y == run.y && cell.x == column_behind(run) && cell.state == run.state
 }
 
-/// The run that isn't written yet.
-fn run_of(pen: Pen) -> Item
-    ensures { result ≡ Cells pen.count pen.state }
+/// The item of a run.
+fn item_of(run: Run) -> Item
+    ensures { result ≡ item_of run }
 {
     Item::Cells {
-        count: pen.count,
-        state: pen.state,
+        count: run.len,
+        state: run.state,
     }
 }
 
@@ -92,74 +68,93 @@ fn distance(from: i64, to: i64) -> u64
     (to - from) as u64
 }
 
-/// Writes what stands between the pen's run and a cell ahead of it.
-fn put_way(
-    out: &mut Vec<u8>,
-    rule: &Rule,
-    used: usize,
-    pen: Pen,
-    cell: &Cell,
-) -> Result<usize, Kind>
-    requires used { used ≤ 70 }
-    requires pen { IsPen pen }
-    requires cell { IsGoodCell rule.now cell.now }
-    requires ahead { IsAhead pen.left pen.x pen.y cell.now }
-    ensures way { IfOk result (λ next. Puts rule.now used (way_to pen.left pen.x pen.y cell.now) out.old.items next out.new.items) }
-    ensures memory { IfErr result (λ kind. kind ≡ Kind.Memory) }
-{
-    let count = distance(pen.y, cell.y);
-    if count == 0 {
-        return put_gap(out, rule, used, distance(pen.x, cell.x));
-    }
-    let next = put_item(out, rule, used, Item::RowEnds { count })?;
-    put_gap(out, rule, next, distance(pen.left, cell.x))
+/// Where the writer is: its lines, the column at which rows begin, and the run that isn't written yet.
+#[derive(Drop)]
+pub(crate) struct Pen {
+    pub(crate) lines: ItemLines,
+    pub(crate) left: i64,
+    pub(crate) run: Run,
 }
 
-/// Takes the next cell: it joins the pen's run, or the run is written with what stands before the cell.
-fn take_cell(out: &mut Vec<u8>, rule: &Rule, pen: Pen, cell: &Cell) -> Result<Pen, Kind>
-    requires pen { IsPen pen }
-    requires cell { IsGoodCell rule.now cell.now }
-    requires ahead { IsAhead pen.left pen.x pen.y cell.now }
-    ensures cell { IfOk result (λ next. WritesCell rule.now pen cell.now out.old.items next out.new.items) }
-    ensures memory { IfErr result (λ kind. kind ≡ Kind.Memory) }
-{
-    if joins(pen, cell) {
-        return Ok(longer_pen(pen));
+impl Pen {
+    /// The pen behind the first cell, which isn't written yet.
+    fn new(lines: ItemLines, bounds: Bounds, first: &Cell) -> Pen
+        ensures { result ≡ record { lines = lines; left = bounds.left; run = run_of first.now } }
+    {
+        Pen {
+            lines,
+            left: bounds.left,
+            run: run_of(first),
+        }
     }
-    let used = put_item(out, rule, pen.used, run_of(pen))?;
-    let used = put_way(out, rule, used, pen, cell)?;
-    Ok(next_pen(pen, used, cell))
+
+    /// Writes what stands between the run and a cell ahead of it.
+    fn put_way(&mut self, rule: &Rule, cell: &Cell) -> Result<(), Kind>
+        requires pen { IsPen self.old }
+        requires cell { IsGoodCell rule.now cell.now }
+        requires ahead { IsAhead self.old.left (column_behind self.old.run) self.old.run.y cell.now }
+        ensures way { OnOk result (Puts rule.now self.old.lines (way_to self.old.left (column_behind self.old.run) self.old.run.y cell.now) self.new.lines) }
+        ensures kept { (self.new.left ≡ self.old.left) × (self.new.run ≡ self.old.run) }
+        ensures memory { IfErr result (λ kind. kind ≡ Kind.Memory) }
+    {
+        let count = distance(self.run.y, cell.y);
+        if count == 0 {
+            let gap = distance(column_behind(self.run), cell.x);
+            return self.lines.put_gap(rule, gap);
+        }
+        self.lines.put_item(rule, Item::RowEnds { count })?;
+        self.lines.put_gap(rule, distance(self.left, cell.x))
+    }
+
+    /// Takes the next cell: it joins the run, or the run is written with what stands before the cell.
+    fn take(&mut self, rule: &Rule, cell: &Cell) -> Result<(), Kind>
+        requires pen { IsPen self.old }
+        requires cell { IsGoodCell rule.now cell.now }
+        requires ahead { IsAhead self.old.left (column_behind self.old.run) self.old.run.y cell.now }
+        ensures cell { OnOk result (WritesCell rule.now self.old cell.now self.new) }
+        ensures memory { IfErr result (λ kind. kind ≡ Kind.Memory) }
+    {
+        if joins(self.run, cell) {
+            self.run = longer(self.run);
+            return Ok(());
+        }
+        self.lines.put_item(rule, item_of(self.run))?;
+        self.put_way(rule, cell)?;
+        self.run = run_of(cell);
+        Ok(())
+    }
+
+    /// Writes the run and the cells behind it, with `!` at the end, and answers the text.
+    fn finish(self, rule: &Rule, cells: &[Cell]) -> Result<Vec<u8>, Kind>
+        requires pen { IsPen self }
+        requires cells { Follow rule.now self.left (column_behind self.run) self.run.y cells.now }
+        ensures text { IfOk result (λ text. text.items ≡ pen_text rule.now self cells.now) }
+        ensures memory { IfErr result (λ kind. kind ≡ Kind.Memory) }
+    {
+        let mut pen = self;
+        for cell in cells {
+            pen.take(rule, cell)?;
+        }
+        pen.lines.put_item(rule, item_of(pen.run))?;
+        pen.lines.finish()
+    }
 }
 
-/// Writes the pen's run and the cells behind it, with `!` at the end.
-fn write_behind(out: &mut Vec<u8>, rule: &Rule, from: Pen, cells: &[Cell]) -> Result<(), Kind>
-    requires pen { IsPen from }
-    requires cells { Follow rule.now from.left from.x from.y cells.now }
-    ensures text { OnOk result (out.new.items ≡ out.old.items ++ pen_text rule.now from cells.now) }
-    ensures memory { IfErr result (λ kind. kind ≡ Kind.Memory) }
-{
-    let mut pen = from;
-    for cell in cells {
-        pen = take_cell(out, rule, pen, cell)?;
-    }
-    let used = put_item(out, rule, pen.used, run_of(pen))?;
-    put_mark(out, rule, used)
-}
-
-/// Writes a cell and more cells from the corner of their box on, with `!` at the end.
+/// Writes a cell and more cells behind a text, from the corner of their box on, with `!` at the end, and answers the text.
 pub(crate) fn write_cells(
-    out: &mut Vec<u8>,
+    text: Vec<u8>,
     rule: &Rule,
     bounds: Bounds,
     first: &Cell,
     cells: &[Cell],
-) -> Result<(), Kind>
+) -> Result<Vec<u8>, Kind>
     requires left { neg_ℤ (edge MAX_LEVEL) ≤ℤ bounds.left }
     requires top { bounds.top ≡ first.now.y }
     requires cells { Follow rule.now bounds.left bounds.left bounds.top (first.now ∷ cells.now) }
-    ensures text { OnOk result (out.new.items ≡ out.old.items ++ items_text rule.now 0 (items_from bounds.left bounds.left bounds.top (first.now ∷ cells.now))) }
+    ensures text { IfOk result (λ whole. whole.items ≡ text.items ++ items_text rule.now 0 (items_from bounds.left bounds.left bounds.top (first.now ∷ cells.now))) }
     ensures memory { IfErr result (λ kind. kind ≡ Kind.Memory) }
 {
-    let used = put_gap(out, rule, 0, distance(bounds.left, first.x))?;
-    write_behind(out, rule, first_pen(bounds, used, first), cells)
+    let mut lines = ItemLines::behind(text);
+    lines.put_gap(rule, distance(bounds.left, first.x))?;
+    Pen::new(lines, bounds, first).finish(rule, cells)
 }

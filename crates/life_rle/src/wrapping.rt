@@ -1,10 +1,11 @@
 //! Texts of items, on lines of at most 70 bytes.
 
-ghost use Rattle.std.specs.Prelude.{◌≡◌, ◌+◌, ◌≤◌, ◌++◌, ◌∷◌, [], length, take, drop, OnOk, IfOk, IfErr};
+ghost use Rattle.std.specs.Prelude.{◌≡◌, ◌+◌, ◌≤◌, ◌∷◌, [], length, drop, OnOk, IfOk, IfErr};
+ghost use Rattle.life_base.specs.declared.rule.Rule.{Rule};
 ghost use Rattle.life_rle.specs.States.{state_text, lettered};
 ghost use Rattle.life_rle.specs.Cursor.{item_count};
 ghost use Rattle.life_rle.specs.Written.{count_text, item_text, with_gap};
-ghost use Rattle.life_rle.specs.Writing.{tag_text, Puts, items_text};
+ghost use Rattle.life_rle.specs.Writing.{tag_text, Puts, text_with};
 
 use crate::item::Item;
 use itoa::write_digits;
@@ -95,54 +96,63 @@ fn write_item(room: &mut [u8; ITEM_ROOM], rule: &Rule, item: Item) -> usize
     write_digits(count, room, tag)
 }
 
-/// Writes an item, and answers how many bytes its line has then.
-pub(crate) fn put_item(
-    out: &mut Vec<u8>,
-    rule: &Rule,
-    used: usize,
-    item: Item,
-) -> Result<usize, Kind>
-    requires { used ≤ 70 }
-    ensures item { IfOk result (λ next. Puts rule.now used (item ∷ []) out.old.items next out.new.items) }
-    ensures memory { IfErr result (λ kind. kind ≡ Kind.Memory) }
-{
-    let mut room = [0; ITEM_ROOM];
-    let start = write_item(&mut room, rule, item);
-    let len = ITEM_ROOM - start;
-    if used + len <= LINE_WIDTH {
-        append(out, &room[start..])?;
-        return Ok(used + len);
-    }
-    room[start - 1] = b'\n';
-    append(out, &room[start - 1..])?;
-    Ok(len)
+/// Lines of items: the text so far, and how many bytes its last line has.
+#[derive(Drop)]
+pub(crate) struct ItemLines {
+    pub(crate) text: Vec<u8>,
+    pub(crate) used: usize,
 }
 
-/// Writes dead cells, if any, and answers how many bytes their line has then.
-pub(crate) fn put_gap(
-    out: &mut Vec<u8>,
-    rule: &Rule,
-    used: usize,
-    count: u64,
-) -> Result<usize, Kind>
-    requires { used ≤ 70 }
-    ensures gap { IfOk result (λ next. Puts rule.now used (with_gap count []) out.old.items next out.new.items) }
-    ensures memory { IfErr result (λ kind. kind ≡ Kind.Memory) }
-{
-    if count == 0 {
-        return Ok(used);
+impl ItemLines {
+    /// Lines that begin behind a text.
+    pub(crate) fn behind(text: Vec<u8>) -> ItemLines
+        ensures { result ≡ record { text = text; used = 0 } }
+    {
+        ItemLines { text, used: 0 }
     }
-    put_item(out, rule, used, Item::Cells { count, state: 0 })
-}
 
-/// Writes the `!` behind the last item, and ends its line.
-pub(crate) fn put_mark(out: &mut Vec<u8>, rule: &Rule, used: usize) -> Result<(), Kind>
-    requires { used ≤ 70 }
-    ensures mark { OnOk result (out.new.items ≡ out.old.items ++ items_text rule.now used []) }
-    ensures memory { IfErr result (λ kind. kind ≡ Kind.Memory) }
-{
-    if used >= LINE_WIDTH {
-        append(out, b"\n")?;
+    /// Writes an item.
+    pub(crate) fn put_item(&mut self, rule: &Rule, item: Item) -> Result<(), Kind>
+        requires { self.old.used ≤ 70 }
+        ensures item { OnOk result (Puts rule.now self.old (item ∷ []) self.new) }
+        ensures memory { IfErr result (λ kind. kind ≡ Kind.Memory) }
+    {
+        let mut room = [0; ITEM_ROOM];
+        let start = write_item(&mut room, rule, item);
+        let len = ITEM_ROOM - start;
+        if self.used + len <= LINE_WIDTH {
+            append(&mut self.text, &room[start..])?;
+            self.used += len;
+            return Ok(());
+        }
+        room[start - 1] = b'\n';
+        append(&mut self.text, &room[start - 1..])?;
+        self.used = len;
+        Ok(())
     }
-    append(out, b"!\n")
+
+    /// Writes dead cells, if any.
+    pub(crate) fn put_gap(&mut self, rule: &Rule, count: u64) -> Result<(), Kind>
+        requires { self.old.used ≤ 70 }
+        ensures gap { OnOk result (Puts rule.now self.old (with_gap count []) self.new) }
+        ensures memory { IfErr result (λ kind. kind ≡ Kind.Memory) }
+    {
+        if count == 0 {
+            return Ok(());
+        }
+        self.put_item(rule, Item::Cells { count, state: 0 })
+    }
+
+    /// Writes the `!` behind the last item, ends its line, and answers the text.
+    pub(crate) fn finish(mut self) -> Result<Vec<u8>, Kind>
+        requires { self.used ≤ 70 }
+        ensures text { (rule : Rule) → IfOk result (λ text. text.items ≡ text_with rule self []) }
+        ensures memory { IfErr result (λ kind. kind ≡ Kind.Memory) }
+    {
+        if self.used >= LINE_WIDTH {
+            append(&mut self.text, b"\n")?;
+        }
+        append(&mut self.text, b"!\n")?;
+        Ok(self.text)
+    }
 }

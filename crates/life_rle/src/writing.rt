@@ -10,7 +10,7 @@ ghost use Rattle.life_rle.specs.Writing.{IsInPlane};
 use crate::bounds::bounds_of;
 use crate::pen::write_cells;
 use crate::position::Position;
-use crate::wrapping::put_mark;
+use crate::wrapping::ItemLines;
 use life_base::{Bounds, Cell, Fault, Kind, MAX_LEVEL, Rule, append, append_number};
 use std::alloc::Global;
 
@@ -88,9 +88,9 @@ fn corner_of(bounds: Bounds, generation: u64) -> Position
     }
 }
 
-/// Adds the text of no cells at the end.
-fn append_blank(out: &mut Vec<u8>, rule: &Rule, generation: u64) -> Result<(), Kind>
-    ensures ok { OnOk result (out.new.items ≡ out.old.items ++ rle_text rule.now generation []) }
+/// The text of no cells.
+fn blank_text(alloc: Global, rule: &Rule, generation: u64) -> Result<Vec<u8>, Kind>
+    ensures text { IfOk result (λ text. text.items ≡ rle_text rule.now generation []) }
     ensures memory { IfErr result (λ kind. kind ≡ Kind.Memory) }
 {
     let corner = Position {
@@ -98,27 +98,29 @@ fn append_blank(out: &mut Vec<u8>, rule: &Rule, generation: u64) -> Result<(), K
         y: 0,
         generation,
     };
-    append_position(out, corner)?;
-    append_header(out, 0, 0, rule)?;
-    put_mark(out, rule, 0)
+    let mut text = Vec::new(alloc);
+    append_position(&mut text, corner)?;
+    append_header(&mut text, 0, 0, rule)?;
+    ItemLines::behind(text).finish()
 }
 
-/// Adds the text of a cell and more cells at the end.
-fn append_cells(
-    out: &mut Vec<u8>,
+/// The text of a cell and more cells.
+fn cells_text(
+    alloc: Global,
     rule: &Rule,
     generation: u64,
     first: &Cell,
     cells: &[Cell],
-) -> Result<(), Kind>
+) -> Result<Vec<u8>, Kind>
     requires { are_sorted_cells MAX_LEVEL rule.now (first.now ∷ cells.now) ≡ true }
-    ensures ok { OnOk result (out.new.items ≡ out.old.items ++ rle_text rule.now generation (first.now ∷ cells.now)) }
+    ensures text { IfOk result (λ text. text.items ≡ rle_text rule.now generation (first.now ∷ cells.now)) }
     ensures memory { IfErr result (λ kind. kind ≡ Kind.Memory) }
 {
     let bounds = bounds_of(first, cells);
-    append_position(out, corner_of(bounds, generation))?;
-    append_header(out, width_of(bounds), height_of(bounds), rule)?;
-    write_cells(out, rule, bounds, first, cells)
+    let mut text = Vec::new(alloc);
+    append_position(&mut text, corner_of(bounds, generation))?;
+    append_header(&mut text, width_of(bounds), height_of(bounds), rule)?;
+    write_cells(text, rule, bounds, first, cells)
 }
 
 /// The text of a rule, a generation and cells that `sorted_cells` accepts: in extended RLE, with the upper left corner of the cells'
@@ -137,10 +139,9 @@ pub fn write_rle(
     ensures text { IfOk result (λ text. text.items ≡ rle_text rule.now generation cells.now) }
     ensures memory { IfErr result (λ fault. fault ≡ fault_of Kind.Memory) }
 {
-    let mut out = Vec::new(alloc);
-    match cells {
-        [] => append_blank(&mut out, rule, generation)?,
-        [first, rest @ ..] => append_cells(&mut out, rule, generation, first, rest)?,
-    }
-    Ok(out)
+    let text = match cells {
+        [] => blank_text(alloc, rule, generation)?,
+        [first, rest @ ..] => cells_text(alloc, rule, generation, first, rest)?,
+    };
+    Ok(text)
 }

@@ -1,7 +1,8 @@
-use Rattle.std.proofs.Common.{◌++◌, ap, sym, ◌∙◌, subst, arith, rules}
-use Rattle.std.proofs.lemmas.Int.{ints}
-use Rattle.std.proofs.lemmas.Result.{on_ok_weaker}
-use Rattle.life_rle.specs.Writing.{IsPen, pen_text}
+use Rattle.std.proofs.Common.{ap, ◌∙◌, rules}
+use Rattle.std.proofs.lemmas.Result.{IfOk-weaker}
+use Rattle.life_rle.specs.declared.pen.Pen.{Pen}
+use Rattle.life_rle.specs.declared.wrapping.ItemLines.{ItemLines}
+use Rattle.life_rle.specs.Writing.{pen_text}
 use Rattle.life_rle.proofs.TakeCells.{distance_is, from-first}
 use Rattle.life_rle.proofs.pen.write_cells.Goals as goal
 
@@ -10,23 +11,11 @@ returns-clause-text c =
     let rule = c.args.rule.now in
     let bounds = c.args.bounds in
     let first = c.args.first.now in
-    let middle = c.put_gap.new.out.items in
-    let columns = distance_is c.distance.result bounds.left first.x (search rules) (search rules) c.distance.ensures in
-    on_ok_weaker c.write_behind.result
-    (λ e. from-first rule bounds first c.args.cells.now c.args.out.now.items c.distance.result c.in_ok-used.used middle
-    c.write_behind.new.out.items c.requires.top columns c.in_ok-used.ensures.gap
-    (e ∙ ap (λ pen. middle ++ pen_text rule pen c.args.cells.now) c.first_pen.ensures))
-    c.write_behind.ensures.text
-
-pub write_behind-requires-clause-pen : goal.write_behind-requires-clause-pen
-write_behind-requires-clause-pen c =
-    let cell = c.requires.cells.0 in
-    subst IsPen (sym c.first_pen.ensures) (record {
-      short = c.in_ok-used.ensures.gap.short;
-      corner = c.requires.left;
-      left = omega (arith, ints, cell.left);
-      right = omega (arith, ints, cell.right);
-      top = cell.top;
-      bottom = cell.bottom;
-      live = cell.live;
-    })
+    let cells = c.args.cells.now in
+    let gap = distance_is c.distance.result bounds.left first.x (search rules) (search rules) c.distance.ensures in
+    let begun = c.behind-lines.ensures in
+    IfOk-weaker c.finish.result _ _
+    (λ text e. e ∙ ap (λ (pen : Pen). pen_text rule pen cells) c.new.ensures
+    ∙ from-first rule bounds first cells c.args.text.items _ c.behind-lines.result c.put_gap.new.self c.requires.top gap
+    (ap (λ (lines : ItemLines). lines.text.items) begun) (ap (λ (lines : ItemLines). lines.used) begun) c.in_ok-put_gap.ensures.gap)
+    c.finish.ensures.text
