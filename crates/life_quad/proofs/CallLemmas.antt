@@ -650,6 +650,10 @@ module _ (old new : Nodes) (t : Tree) (deep : 0 < depth t) (not_blank : is_blank
         unchanged = a.unchanged;
       }
 
+-- the node of four quarters
+abbrev pub node_of : Id → Id → Id → Id → Node
+node_of nw ne sw se = record { nw = nw.0; ne = ne.0; sw = sw.0; se = se.0 }
+
 module _ (s : Nodes) (nw ne sw se : Id) (a : Knows s nw) (b : Knows s ne) (c : Knows s sw) (d : Knows s se)
     (e : depth (square_of (squares s.nodes) ne) ≡ depth (square_of (squares s.nodes) nw))
     (f : depth (square_of (squares s.nodes) sw) ≡ depth (square_of (squares s.nodes) nw))
@@ -677,7 +681,7 @@ module _ (s : Nodes) (nw ne sw se : Id) (a : Knows s nw) (b : Knows s ne) (c : K
   -- the node of four quarters that are not all blank
   pub IsNode-joined : depth (square_of (squares s.nodes) nw) < MAX_LEVEL
       → (is_blank_id nw && is_blank_id ne && is_blank_id sw && is_blank_id se) ≡ false
-      → IsNode s.log (squares s.nodes) (length s.nodes) (record { nw = nw.0; ne = ne.0; sw = sw.0; se = se.0 })
+      → IsNode s.log (squares s.nodes) (length s.nodes) (node_of nw ne sw se)
   IsNode-joined room h =
       record {
         nw = record { named = a.named; joined = a.joined };

@@ -98,13 +98,7 @@ impl Squares for Plain {
         if are_blank(nw, ne, sw, se) {
             return Ok(self.empty(level));
         }
-        let node = Node {
-            nw: nw.0 as u32,
-            ne: ne.0 as u32,
-            sw: sw.0 as u32,
-            se: se.0 as u32,
-        };
-        self.add(node, level)
+        self.add(Node::of(nw, ne, sw, se), level)
     }
 
     fn parts(&self, id: Id) -> Option<[Id; 4]> {

@@ -202,13 +202,7 @@ impl Squares for Shared {
             return self.mark(number);
         }
         let level = self.level(nw) + 1;
-        let node = Node {
-            nw: nw.0 as u32,
-            ne: ne.0 as u32,
-            sw: sw.0 as u32,
-            se: se.0 as u32,
-        };
-        self.intern(node, level)
+        self.intern(Node::of(nw, ne, sw, se), level)
     }
 
     fn parts(&self, id: Id) -> Option<[Id; 4]> {

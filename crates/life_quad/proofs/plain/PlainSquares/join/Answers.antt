@@ -1,10 +1,11 @@
-use Rattle.std.proofs.Common.{◌≡◌, arith, sym, ◌∙◌, ap, true≢false, ◌+◌, suc, length}
+use Rattle.std.proofs.Common.{◌≡◌, arith, sym, ◌∙◌, ap, subst, OnOk, true≢false, ◌+◌, suc, length}
 use Rattle.std.proofs.lemmas.Result.{on_err_weaker, on_ok_weaker}
 use Rattle.life_base.proofs.Results.{if_ok_both}
-use Rattle.life_quad.specs.Store.{squares, square_of, IsNode}
+use Rattle.life_quad.specs.Store.{squares, square_of, node_square, IsNode}
 use Rattle.life_quad.specs.StoreLaws.{length-squares, squares-push}
 use Rattle.life_base.specs.Tree.{depth, blank}
-use Rattle.life_quad.proofs.CallLemmas.{is_blank-joined, blank_joined, IsNode-joined, keeps_added, knows_last, square_of-added, room_left}
+use Rattle.life_quad.proofs.GrowLemmas.{with_node}
+use Rattle.life_quad.proofs.CallLemmas.{node_of, is_blank-joined, blank_joined, IsNode-joined, keeps_added, knows_last, square_of-added, room_left}
 use Rattle.life_quad.proofs.plain.PlainSquares.join.Goals as goal
 
 pub returns-then-are_blank-clause-square : goal.returns-then-are_blank-clause-square
@@ -30,16 +31,20 @@ returns-then-are_blank-clause-full c =
     )
 
 IsNode-there : (c : goal.After-add) → IsNode c.args.self.now.log (squares c.args.self.now.nodes) (length c.args.self.now.nodes)
-    (record { nw = c.args.nw.0; ne = c.args.ne.0; sw = c.args.sw.0; se = c.args.se.0 })
+    (node_of c.args.nw c.args.ne c.args.sw c.args.se)
 IsNode-there c =
     let r = c.requires in
     IsNode-joined _ _ _ _ _ r.nw r.ne r.sw r.se r.ne_level r.sw_level r.se_level r.room (sym c.are_blank.ensures ∙ c.if-are_blank.false)
 
+stored : (c : goal.After-add) → OnOk c.add.result (c.add.new.self ≡ with_node c.args.self.now (node_of c.args.nw c.args.ne c.args.sw c.args.se))
+stored c = subst (λ n. OnOk c.add.result (c.add.new.self ≡ with_node c.args.self.now n)) c.of.ensures c.add.ensures.stored
+
 pub add-requires : goal.add-requires
 add-requires c = record {
   node = let r = c.requires in
-      IsNode-joined _ _ _ _ _ r.nw r.ne r.sw r.se r.ne_level r.sw_level r.se_level r.room (sym c.are_blank.ensures ∙ c.if-are_blank.false);
-  level = let e = c.level-level.ensures.level in omega arith;
+      subst (IsNode _ _ _) (sym c.of.ensures)
+      (IsNode-joined _ _ _ _ _ r.nw r.ne r.sw r.se r.ne_level r.sw_level r.se_level r.room (sym c.are_blank.ensures ∙ c.if-are_blank.false));
+  level = let e = c.level-level.ensures.level in let d = ap (λ n. depth (node_square (squares c.args.self.now.nodes) n)) c.of.ensures in omega arith;
 }
 
 pub returns-clause-known : goal.returns-clause-known
@@ -47,13 +52,13 @@ returns-clause-known c = if_ok_both c.add.result (λ id i at. knows_last _ _ _ i
 
 pub returns-clause-square : goal.returns-clause-square
 returns-clause-square c =
-    if_ok_both c.add.result (λ id i at. square_of-added _ _ _ (IsNode-there c) i c.add.ensures.sound id at) c.add.ensures.stored c.add.ensures.id
+    if_ok_both c.add.result (λ id i at. square_of-added _ _ _ (IsNode-there c) i c.add.ensures.sound id at) (stored c) c.add.ensures.id
 
 pub returns-clause-keeps : goal.returns-clause-keeps
 returns-clause-keeps c = keeps_added c.add.result _ _ _ c.add.ensures.stored c.add.ensures.unchanged c.add.ensures.sound c.add.ensures.limit
 
 pub returns-clause-added : goal.returns-clause-added
-returns-clause-added c = on_ok_weaker c.add.result (λ i needs. ap (λ s. squares s.nodes) i ∙ squares-push _ _) c.add.ensures.stored
+returns-clause-added c = on_ok_weaker c.add.result (λ i needs. ap (λ s. squares s.nodes) i ∙ squares-push _ _) (stored c)
 
 pub returns-clause-there : goal.returns-clause-there
 returns-clause-there c = on_ok_weaker c.add.result (λ i unneeded. absurd (unneeded (IsNode-there c).not_blank)) c.add.ensures.stored

@@ -1,12 +1,9 @@
 use Rattle.std.proofs.Common.{◌≡◌, arith, sym, ◌∙◌, ap, subst, true≢false, ◌+◌, suc}
-use Rattle.life_quad.specs.Store.{squares, content, node_square, Answers}
+use Rattle.life_quad.specs.Store.{squares, content, node_square, number_of, IsNode, Answers}
 use Rattle.life_quad.specs.StoreLaws.{small_node}
 use Rattle.life_quad.specs.SmallLaws.{small_range}
 use Rattle.life_base.specs.Tree.{depth, blank}
-use Rattle.life_quad.specs.declared.id.Id.{Id}
-use Rattle.life_quad.specs.declared.id.Node.{Node}
-use Rattle.life_quad.specs.declared.shared.Shared.{Shared}
-use Rattle.life_quad.proofs.CallLemmas.{is_blank-joined, blank_joined, IsNode-joined, IsSmall-joined, join_answers}
+use Rattle.life_quad.proofs.CallLemmas.{node_of, is_blank-joined, blank_joined, IsNode-joined, IsSmall-joined, join_answers}
 use Rattle.life_quad.proofs.shared.SharedSquaresImpl.join.Goals as goal
 
 -- ---- four blank squares
@@ -41,9 +38,6 @@ returns-then-are_blank-clause-fresh c = λ needs known.
 
 -- ---- a small square
 
-abbrev quarters_of : Shared → Id → Id → Id → Id → Node
-quarters_of s nw ne sw se = record { nw = nw.0; ne = ne.0; sw = sw.0; se = se.0 }
-
 pub mark-requires : goal.mark-requires
 mark-requires c =
     let r = c.requires in
@@ -51,13 +45,13 @@ mark-requires c =
     let node = IsNode-joined _ _ _ _ _ r.nw.0 r.ne.0 r.sw.0 r.se.0 r.ne_level r.sw_level r.se_level r.room (sym c.are_blank.ensures ∙ c.if-are_blank.false) in
     let number = sym c.small_number.ensures ∙ c.in-Some.is in
     let range = small_range c.args.nw.0 c.args.ne.0 c.args.sw.0 c.args.se.0 c.in-Some.number number in
-    record { small = IsSmall-joined s (quarters_of s c.args.nw c.args.ne c.args.sw c.args.se) c.in-Some.number number node; first = range.0; last = range.1 }
+    record { small = IsSmall-joined s _ c.in-Some.number number node; first = range.0; last = range.1 }
 
 pub returns-in-Some : goal.returns-in-Some
 returns-in-Some c =
     let r = c.requires in
     let s = c.args.self.now in
-    let node = quarters_of s c.args.nw c.args.ne c.args.sw c.args.se in
+    let node = node_of c.args.nw c.args.ne c.args.sw c.args.se in
     let not_blank = is_blank-joined _ _ _ _ _ r.nw.0 r.ne.0 r.sw.0 r.se.0 r.ne_level r.sw_level r.se_level ∙ sym c.are_blank.ensures ∙ c.if-are_blank.false in
     let answers = subst (λ t. Answers s c.mark.new.self t c.mark.result)
     (small_node (squares s.nodes) node c.in-Some.number (sym c.small_number.ensures ∙ c.in-Some.is)) c.mark.ensures in
@@ -69,9 +63,10 @@ pub intern-requires : goal.intern-requires
 intern-requires c =
     let r = c.requires in
     record {
-      sound = IsNode-joined _ _ _ _ _ r.nw.0 r.ne.0 r.sw.0 r.se.0 r.ne_level r.sw_level r.se_level r.room (sym c.are_blank.ensures ∙ c.if-are_blank.false);
-      large = sym c.small_number.ensures ∙ c.in_default.is;
-      level = let e = c.level-level.ensures.level in omega arith;
+      sound = subst (IsNode _ _ _) (sym c.of.ensures)
+          (IsNode-joined _ _ _ _ _ r.nw.0 r.ne.0 r.sw.0 r.se.0 r.ne_level r.sw_level r.se_level r.room (sym c.are_blank.ensures ∙ c.if-are_blank.false));
+      large = ap number_of c.of.ensures ∙ sym c.small_number.ensures ∙ c.in_default.is;
+      level = let e = c.level-level.ensures.level in let d = ap (λ n. depth (node_square (squares c.args.self.now.nodes) n)) c.of.ensures in omega arith;
     }
 
 pub returns : goal.returns
@@ -79,5 +74,5 @@ returns c =
     let r = c.requires in
     let s = c.args.self.now in
     let not_blank = is_blank-joined _ _ _ _ _ r.nw.0 r.ne.0 r.sw.0 r.se.0 r.ne_level r.sw_level r.se_level ∙ sym c.are_blank.ensures ∙ c.if-are_blank.false in
-    join_answers s c.intern.new.self (node_square (squares s.nodes) (quarters_of s c.args.nw c.args.ne c.args.sw c.args.se)) (omega arith) not_blank
-    c.intern.result c.intern.ensures
+    join_answers s c.intern.new.self (node_square (squares s.nodes) (node_of c.args.nw c.args.ne c.args.sw c.args.se)) (omega arith) not_blank
+    c.intern.result (subst (λ n. Answers s c.intern.new.self (node_square (squares s.nodes) n) c.intern.result) c.of.ensures c.intern.ensures)
