@@ -164,8 +164,8 @@ window-states cells y z h = cc-states h.west h.middle h.east
         → states_of z ≡ states_at cells z.x y
     cc-states ew em ee =
         ap (λ (c : Column ℕ). c.here ∷ c.north ∷ z.east.north ∷ z.east.here ∷ z.east.south ∷ c.south ∷ z.west.south ∷ z.west.here ∷ z.west.north ∷ []) em
-        ∙ ap (λ (c : Column ℕ). cells z.x y ∷ cells z.x (before y) ∷ c.north ∷ c.here ∷ c.south ∷ cells z.x (after y) ∷ z.west.south ∷ z.west.here ∷ z.west.north
-        ∷ []) ee
+        ∙ ap (λ (c : Column ℕ). cells z.x y ∷ cells z.x (before y) ∷ c.north ∷ c.here ∷ c.south ∷ cells z.x (after y) ∷ z.west.south ∷ z.west.here
+        ∷ z.west.north ∷ []) ee
         ∙ ap (λ (c : Column ℕ). cells z.x y ∷ cells z.x (before y) ∷ cells (after z.x) (before y) ∷ cells (after z.x) y ∷ cells (after z.x) (after y)
         ∷ cells z.x (after y) ∷ c.south ∷ c.here ∷ c.north ∷ []) ew
 
