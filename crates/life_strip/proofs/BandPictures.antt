@@ -1,6 +1,6 @@
 -- Facts about the cells of four rows, below strips and alone.
 use Rattle.life_base.specs.declared.cell.TheConstants.{MAX_LEVEL}
-use Rattle.std.proofs.Common.{append-nil, length-append, ◌≡◌, ℕ, zero, suc, ◌+◌, ◌-◌, ◌*◌, ◌/◌, ◌%◌, ◌^◌, ◌≤◌, ◌<◌, ◌⊎◌, inl, inr, Bool, true, false, nat_lt, List, [], ◌∷◌, ◌++◌, length, get_or, All, refl, sym, ◌∙◌, ap, subst, arith}
+use Rattle.std.proofs.Common.{append-nil, ◌≡◌, ℕ, zero, suc, ◌+◌, ◌-◌, ◌*◌, ◌/◌, ◌%◌, ◌^◌, ◌≤◌, ◌<◌, ◌⊎◌, inl, inr, Bool, true, false, nat_lt, List, [], ◌∷◌, ◌++◌, length, get_or, All, refl, sym, ◌∙◌, ap, subst, arith}
 use Rattle.std.specs.Prelude.{if◌then◌else◌}
 use Rattle.std.proofs.lemmas.Nat.{mod_below, div-add-mod', pow-add}
 use Rattle.std.proofs.Math.Nat.{add-mul, mul_assoc}
@@ -12,10 +12,10 @@ use Rattle.life_strip.specs.declared.spans.Span.{Span}
 use Rattle.life_strip.specs.declared.spans.Strip.{Strip}
 use Rattle.life_strip.specs.declared.pile.Pile.{Pile}
 use Rattle.life_strip.specs.Strip.{square_at, quad_at, IsStrip, AreWithin}
-use Rattle.life_strip.specs.Picture.{state_in, picture, height, AreFalling, IsLowest, IsSound}
+use Rattle.life_strip.specs.Picture.{state_in, picture, height, AreFalling, AreStacked, IsLowest, IsRow, IsSound}
 use Rattle.life_strip.specs.Needed.{SomeSquare}
 use Rattle.life_strip.specs.Band.{four_at}
-use Rattle.life_strip.specs.Pile.{IsPile}
+use Rattle.life_strip.specs.Pile.{IsPile, strips_of}
 use Rattle.life_strip.proofs.SpanLemmas.{Keeps, depth-square_at}
 use Rattle.life_strip.proofs.GivenLemmas.{all_rest}
 use Rattle.life_strip.proofs.PlaneLemmas.{picture-keeps}
@@ -28,11 +28,11 @@ height-append [] ys = omega arith
 height-append (x ∷ xs) ys = let e = height-append xs ys in omega (arith, e)
 
 -- rows of cells have as many rows as they are
-pub height-rows : (xs : List Strip) → All (λ s. s.level ≡ 0) xs → height xs ≡ length xs
-height-rows [] h = refl
-height-rows (x ∷ xs) h =
-    let one : 2 ^ x.level ≡ 1 = ap (λ n. 2 ^ n) (h 0 x (omega arith)) in
-    let more = height-rows xs (all_rest (λ s. s.level ≡ 0) x xs h) in
+pub height-rows : (knows : Id → Type 0) (content : Id → Tree) (xs : List Strip) → All (IsRow knows content) xs → height xs ≡ length xs
+height-rows knows content [] h = refl
+height-rows knows content (x ∷ xs) h =
+    let one : 2 ^ x.level ≡ 1 = ap (λ n. 2 ^ n) (h 0 x (omega arith)).level in
+    let more = height-rows knows content xs (all_rest (IsRow knows content) x xs h) in
     omega (arith, one, more)
 
 -- strips of falling levels are of level 2 or more where four divides their height
@@ -371,15 +371,6 @@ lowest-more xs ys n k low fall e f =
 pub four-divides : (level : ℕ) → 2 ≤ level → 2 ^ level ≡ 2 ^ (level - 2) * 4
 four-divides level deep = let e : level ≡ level - 2 + 2 = omega (arith, deep) in ap (λ n. 2 ^ n) e ∙ pow-add 2 (level - 2) 2
 
--- rows that fill the plane leave none for another band
-pub band-over : (xs ys : List Strip) → IsLowest 2 xs → All (λ s. s.level ≡ 0) ys → length ys ≤ 3 → height (xs ++ ys) ≡ 2 ^ MAX_LEVEL → ys ≡ []
-band-over xs [] low rows few full = refl
-band-over xs (y ∷ ys) low rows few full =
-    let d = height-divided xs 2 low in
-    let e = height-append xs (y ∷ ys) in
-    let f = height-rows (y ∷ ys) rows in
-    absurd (let g = d.1 in omega (arith, g, e, f, few, full))
-
 -- a list of four by its items
 pub four-are : (xs : List Strip) (a b c d : Strip) → length xs ≡ 4 → a ≡ get_or xs 0 a → b ≡ get_or xs 1 b → c ≡ get_or xs 2 c → d ≡ get_or xs 3 d
     → xs ≡ a ∷ b ∷ c ∷ d ∷ []
@@ -402,31 +393,29 @@ pub record AreRows (knows : Id → Type 0) (content : Id → Tree) (xs : List St
 
 pub are-rows : (knows : Id → Type 0) (content : Id → Tree) (xs : List Strip) (a b c d : Strip) → length xs ≡ 4 → a ≡ get_or xs 0 a → b ≡ get_or xs 1 b
     → c ≡ get_or xs 2 c → d ≡ get_or xs 3 d
-    → All (IsSound knows content) xs → All (λ s. s.level ≡ 0) xs → AreRows knows content xs a b c d
-are-rows knows content xs a b c d e ea eb ec ed sound rows =
+    → All (IsRow knows content) xs → AreRows knows content xs a b c d
+are-rows knows content xs a b c d e ea eb ec ed cells =
     let four = four-are xs a b c d e ea eb ec ed in
-    let levels = subst (All (λ s. s.level ≡ 0)) four rows in
-    let strips = subst (All (IsSound knows content)) four sound in
-    let la = is_of_cells a (levels 0 a (omega arith)) in
-    let lb = is_of_cells b (levels 1 a (omega arith)) in
-    let lc = is_of_cells c (levels 2 a (omega arith)) in
-    let ld = is_of_cells d (levels 3 a (omega arith)) in
+    let strips = subst (All (IsRow knows content)) four cells in
+    let la = is_of_cells a (strips 0 a (omega arith)).level in
+    let lb = is_of_cells b (strips 1 a (omega arith)).level in
+    let lc = is_of_cells c (strips 2 a (omega arith)).level in
+    let ld = is_of_cells d (strips 3 a (omega arith)).level in
     record {
       are = four ∙ (λ i. la i ∷ lb i ∷ lc i ∷ ld i ∷ []);
-      first = subst (IsSound knows content) la (strips 0 a (omega arith));
-      second = subst (IsSound knows content) lb (strips 1 a (omega arith));
-      third = subst (IsSound knows content) lc (strips 2 a (omega arith));
-      fourth = subst (IsSound knows content) ld (strips 3 a (omega arith));
+      first = subst (IsSound knows content) la (strips 0 a (omega arith)).sound;
+      second = subst (IsSound knows content) lb (strips 1 a (omega arith)).sound;
+      third = subst (IsSound knows content) lc (strips 2 a (omega arith)).sound;
+      fourth = subst (IsSound knows content) ld (strips 3 a (omega arith)).sound;
     }
 
 -- four rows and their spans, read one by one
-module _ (knows : Id → Type 0) (content : Id → Tree) (xs : List Strip) (count : length xs ≡ 4) (sound : All (IsSound knows content) xs)
-    (cells : All (λ s. s.level ≡ 0) xs)
+module _ (knows : Id → Type 0) (content : Id → Tree) (xs : List Strip) (count : length xs ≡ 4) (cells : All (IsRow knows content) xs)
     (ra rb rc rd : Strip) (a b c d : List Span) (ea : ra ≡ get_or xs 0 ra) (eb : rb ≡ get_or xs 1 rb) (ec : rc ≡ get_or xs 2 rc) (ed : rd ≡ get_or xs 3 rd)
     (fa : a ≡ (get_or xs 0 ra).spans.items) (fb : b ≡ (get_or xs 1 rb).spans.items) (fc : c ≡ (get_or xs 2 rc).spans.items)
     (fd : d ≡ (get_or xs 3 rd).spans.items) where
   rows-read : AreRows knows content xs ra rb rc rd
-  rows-read = are-rows knows content xs ra rb rc rd count ea eb ec ed sound cells
+  rows-read = are-rows knows content xs ra rb rc rd count ea eb ec ed cells
 
   squares-read : (k : ℕ) → four_at content a b c d k ≡ four_at content ra.spans.items rb.spans.items rc.spans.items rd.spans.items k
   squares-read k =
@@ -455,32 +444,44 @@ module _ (knows : Id → Type 0) (content : Id → Tree) (xs : List Strip) (coun
 
 -- the spans of one of them
 pub spans-at : (knows : Id → Type 0) (content : Id → Tree) (xs : List Strip) (k : ℕ) (d : Strip) (spans : List Span) → k < length xs
-    → spans ≡ (get_or xs k d).spans.items → All (IsSound knows content) xs → All (λ s. s.level ≡ 0) xs → IsStrip knows content 0 spans × AreWithin 0 spans
-spans-at knows content xs k d spans lt e sound rows =
+    → spans ≡ (get_or xs k d).spans.items → All (IsRow knows content) xs → IsStrip knows content 0 spans × AreWithin 0 spans
+spans-at knows content xs k d spans lt e cells =
     let s = get_or xs k d in
-    let h = sound k d lt in
-    let squares = subst (λ n. IsStrip knows content n s.spans.items) (rows k d lt) h.squares in
-    let within = subst (λ n. AreWithin n s.spans.items) (rows k d lt) h.within in
+    let h = cells k d lt in
+    let squares = subst (λ n. IsStrip knows content n s.spans.items) h.level h.sound.squares in
+    let within = subst (λ n. AreWithin n s.spans.items) h.level h.sound.within in
     (subst (IsStrip knows content 0) (sym e) squares, subst (AreWithin 0) (sym e) within)
 
 -- no rows below strips
 pub no-rows : (xs ys : List Strip) → ys ≡ [] → xs ++ ys ≡ xs
 no-rows xs ys e = ap (λ z. xs ++ z) e ∙ append-nil xs
 
+-- strips that fill the plane are those of whole bands alone
+pub band-over : (knows : Id → Type 0) (content : Id → Tree) (pile : Pile) → IsPile knows content pile → height (strips_of pile) ≡ 2 ^ MAX_LEVEL
+    → strips_of pile ≡ pile.strips.items
+band-over knows content pile h full =
+    no-rows pile.strips.items pile.band.items (none pile.strips.items pile.band.items h.lowest h.rows h.few full)
+  where
+    none : (xs ys : List Strip) → IsLowest 2 xs → All (IsRow knows content) ys → length ys ≤ 3 → height (xs ++ ys) ≡ 2 ^ MAX_LEVEL → ys ≡ []
+    none xs [] low rows few all = refl
+    none xs (y ∷ ys) low rows few all =
+        let d = height-divided xs 2 low in
+        let e = height-append xs (y ∷ ys) in
+        let f = height-rows knows content (y ∷ ys) rows in
+        absurd (let g = d.1 in omega (arith, g, e, f, few, all))
+
 pub none_of : (xs : List Strip) → length xs ≡ 0 → xs ≡ []
 none_of [] e = refl
 none_of (x ∷ xs) e = absurd (omega (arith, e))
 
 -- strips of whole bands alone
-pub pile-alone : (knows : Id → Type 0) (content : Id → Tree) (pile : Pile) → pile.band.items ≡ [] → All (IsSound knows content) pile.strips.items
-    → AreFalling pile.strips.items → IsLowest 2 pile.strips.items → IsPile knows content pile
-pile-alone knows content pile e sound falling lowest =
+pub pile-alone : (knows : Id → Type 0) (content : Id → Tree) (pile : Pile) → pile.band.items ≡ [] → AreStacked knows content pile.strips.items
+    → IsLowest 2 pile.strips.items → IsPile knows content pile
+pile-alone knows content pile e strips lowest =
     let none : length pile.band.items ≡ 0 = ap length e in
     record {
-      sound = sound;
-      falling = falling;
+      strips = strips;
       lowest = lowest;
-      rows_sound = λ k d lt. absurd (omega (arith, lt, none));
       rows = λ k d lt. absurd (omega (arith, lt, none));
       few = omega (arith, none);
     }

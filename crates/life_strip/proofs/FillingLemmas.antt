@@ -61,18 +61,21 @@ unfilled-filled knows content p h =
     let few : length p.row.spans.items ≡ 0 = ap length h.row in
     record {
       pile = record {
-        sound = λ k d lt. absurd (omega (arith, lt, none));
-        falling = λ i j d ij jl. absurd (omega (arith, jl, none));
+        strips = record {
+          sound = λ k d lt. absurd (omega (arith, lt, none));
+          falling = λ i j d ij jl. absurd (omega (arith, jl, none));
+        };
         lowest = λ k d lt. absurd (omega (arith, lt, none));
-        rows_sound = λ k d lt. absurd (omega (arith, lt, no_rows));
         rows = λ k d lt. absurd (omega (arith, lt, no_rows));
         few = omega (arith, no_rows);
       };
       row = record {
-        squares = λ column id e. absurd (let f : None ≡ Some id = sym (ap (λ z. id_at z column) h.row) ∙ e in cc);
-        within = λ k d lt. absurd (omega (arith, lt, few));
+        sound = record {
+          squares = λ column id e. absurd (let f : None ≡ Some id = sym (ap (λ z. id_at z column) h.row) ∙ e in cc);
+          within = λ k d lt. absurd (omega (arith, lt, few));
+        };
+        level = h.level;
       };
-      level = h.level;
       rows = (λ k. height (h.strips k ++ h.band k)) ∙ sym h.rows;
       most = let e = h.rows in omega (arith, e);
     }

@@ -15,7 +15,7 @@ use Rattle.life_base.specs.Tree.{Tree, quad, depth, blank, state_at}
 use Rattle.life_strip.specs.declared.spans.Strip.{Strip}
 use Rattle.life_strip.specs.declared.spans.Stretch.{Stretch}
 use Rattle.life_strip.specs.Strip.{square_at, IsStrip, IsPaired, IsFound}
-use Rattle.life_strip.specs.Picture.{state_in, picture, height, AreFalling, IsLowest, IsSound, IsStack}
+use Rattle.life_strip.specs.Picture.{state_in, picture, height, AreFalling, AreStacked, IsLowest, IsRow, IsSound, IsStack}
 use Rattle.life_strip.proofs.SpanLemmas.{Keeps, double, depth-square_at, square-keeps, strip-keeps, found-known, found-depth, found-content}
 
 -- the western half of two columns of squares
@@ -171,6 +171,16 @@ pub strips-kept : {S : Type 0} {knows : S → Id → Type 0} {content : S → Id
 strips-kept {knows = knows} {content = content} {old = old} {new = new} keeps =
     all-keeps {knows = knows old} {knows' = knows new} {old = content old} {new = content new} keeps.contents
 
+pub stack-kept : {S : Type 0} {knows : S → Id → Type 0} {content : S → Id → Tree} {stored : S → List Tree} {most : S → ℕ} {old new : S}
+    → KeepsSquares knows content stored most old new
+    → (xs : List Strip) → AreStacked (knows old) (content old) xs → AreStacked (knows new) (content new) xs
+stack-kept keeps xs h = record { sound = strips-kept keeps xs h.sound; falling = h.falling }
+
+pub rows-kept : {S : Type 0} {knows : S → Id → Type 0} {content : S → Id → Tree} {stored : S → List Tree} {most : S → ℕ} {old new : S}
+    → KeepsSquares knows content stored most old new
+    → (xs : List Strip) → All (IsRow (knows old) (content old)) xs → All (IsRow (knows new) (content new)) xs
+rows-kept keeps xs h k d lt = record { sound = strips-kept keeps xs (λ j e l. (h j e l).sound) k d lt; level = (h k d lt).level }
+
 -- what follows of an accepted call
 pub on_ok_map : {T E : Type 0} {P Q : Type 0} (r : Result T E) → (P → Q) → OnOk r P → OnOk r Q
 on_ok_map (Ok x) f p = f p
@@ -180,9 +190,9 @@ pub on_ok_map2 : {T E : Type 0} {P Q R : Type 0} (r : Result T E) → (P → Q �
 on_ok_map2 (Ok x) f p q = f p q
 on_ok_map2 (Err e) f p q = tt
 
-pub on_ok_map4 : {T E : Type 0} {P Q R S U : Type 0} (r : Result T E) → (P → Q → R → S → U) → OnOk r P → OnOk r Q → OnOk r R → OnOk r S → OnOk r U
-on_ok_map4 (Ok x) f p q s u = f p q s u
-on_ok_map4 (Err e) f p q s u = tt
+pub on_ok_map3 : {T E : Type 0} {P Q R S : Type 0} (r : Result T E) → (P → Q → R → S) → OnOk r P → OnOk r Q → OnOk r R → OnOk r S
+on_ok_map3 (Ok x) f p q s = f p q s
+on_ok_map3 (Err e) f p q s = tt
 
 -- two strips of a level within the plane are of a level below the greatest
 pub fits_below : (h k : ℕ) → h + 2 ^ k + 2 ^ k ≤ 2 ^ MAX_LEVEL → k < MAX_LEVEL

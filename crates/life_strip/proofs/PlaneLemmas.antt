@@ -17,7 +17,7 @@ use Rattle.life_strip.specs.declared.spans.Strip.{Strip}
 use Rattle.life_strip.specs.declared.pile.Pile.{Pile}
 use Rattle.life_strip.specs.declared.plane.Plane.{Plane}
 use Rattle.life_strip.specs.Strip.{id_at, id_or, square_at, IsStrip}
-use Rattle.life_strip.specs.Picture.{state_in, picture, height, IsSound}
+use Rattle.life_strip.specs.Picture.{state_in, picture, height, IsRow, IsSound}
 use Rattle.life_strip.specs.Pile.{IsPile, strips_of}
 use Rattle.life_strip.specs.Given.{half_plane, IsOnPlane}
 use Rattle.life_strip.specs.Plane.{on_plane, cell_so_far, IsFilled, IsFree, AddsRun}
@@ -289,14 +289,18 @@ no_gap xs b c h = h.1 ∙ ap (λ o. Some (id_or b o)) (sym h.1)
 
 module _ {knows knows' : Id → Type 0} {old new : Id → Tree} (keeps : Keeps knows knows' old new) where
   -- the squares are there in a store that keeps its Ids
+  row-keeps : (s : Strip) → IsRow knows old s → IsRow knows' new s
+  row-keeps s h = record { sound = sound-keeps {knows = knows} {knows' = knows'} {old = old} {new = new} keeps s h.sound; level = h.level }
+
   pub pile-keeps : (pile : Pile) → IsPile knows old pile → IsPile knows' new pile
   pile-keeps pile h =
       record {
-        sound = all-keeps {knows = knows} {knows' = knows'} {old = old} {new = new} keeps pile.strips.items h.sound;
-        falling = h.falling;
+        strips = record {
+          sound = all-keeps {knows = knows} {knows' = knows'} {old = old} {new = new} keeps pile.strips.items h.strips.sound;
+          falling = h.strips.falling;
+        };
         lowest = h.lowest;
-        rows_sound = all-keeps {knows = knows} {knows' = knows'} {old = old} {new = new} keeps pile.band.items h.rows_sound;
-        rows = h.rows;
+        rows = λ k d lt. row-keeps (get_or pile.band.items k d) (h.rows k d lt);
         few = h.few;
       }
 
@@ -304,8 +308,7 @@ module _ {knows knows' : Id → Type 0} {old new : Id → Tree} (keeps : Keeps k
   filled-keeps b h =
       record {
         pile = pile-keeps b.pile h.pile;
-        row = sound-keeps {knows = knows} {knows' = knows'} {old = old} {new = new} keeps b.row h.row;
-        level = h.level;
+        row = row-keeps b.row h.row;
         rows = h.rows;
         most = h.most;
       }
@@ -314,7 +317,7 @@ module _ {knows knows' : Id → Type 0} {old new : Id → Tree} (keeps : Keeps k
   pub cells-keep : (b : Plane) → IsFilled knows old b → (x y : ℤ) → cell_so_far new b x y ≡ cell_so_far old b x y
   cells-keep b h x y =
       let P = IsSound knows old in
-      let over = All-append P b.pile.strips.items b.pile.band.items h.pile.sound h.pile.rows_sound in
+      let over = All-append P b.pile.strips.items b.pile.band.items h.pile.strips.sound (λ k d lt. (h.pile.rows k d lt).sound) in
       let same = picture-keeps {knows = knows} {knows' = knows'} {old = old} {new = new} keeps (strips_of b.pile ++ b.row ∷ [])
-      (All-push P (strips_of b.pile) b.row over h.row) in
+      (All-push P (strips_of b.pile) b.row over h.row.sound) in
       λ k. if is_inside half_plane x y then same (unsigned_abs (x +ℤ pos half_plane)) (unsigned_abs (y +ℤ pos half_plane)) k else 0

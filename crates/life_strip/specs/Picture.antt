@@ -38,3 +38,13 @@ AreFalling strips = AllPairs (λ s t. t.level < s.level) strips
 -- the level is at most those of the strips
 abbrev pub IsLowest : ℕ → List Strip → Type 0
 IsLowest level strips = All (λ s. level ≤ s.level) strips
+
+-- the store knows the squares of the strips, and each has a lower level than the one above it
+pub record AreStacked (knows : Id → Type 0) (content : Id → Tree) (strips : List Strip) : Type 0 where
+  pub sound : All (IsSound knows content) strips
+  pub falling : AreFalling strips
+
+-- a row of cells that the store knows
+pub record IsRow (knows : Id → Type 0) (content : Id → Tree) (s : Strip) : Type 0 where
+  pub sound : IsSound knows content s
+  pub level : s.level ≡ 0

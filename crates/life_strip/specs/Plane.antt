@@ -7,14 +7,13 @@ use Rattle.life_quad.specs.declared.id.Id.{Id}
 use Rattle.life_quad.specs.Cells.{IsInRun}
 use Rattle.life_strip.specs.declared.plane.Plane.{Plane}
 use Rattle.life_strip.specs.Given.{half_plane}
-use Rattle.life_strip.specs.Picture.{picture, height, IsSound}
+use Rattle.life_strip.specs.Picture.{picture, height, IsRow}
 use Rattle.life_strip.specs.Pile.{IsPile, strips_of}
 
 -- the store knows every Id that is kept, and the strips of the whole bands have falling levels; the row that was begun is on the plane
 pub record IsFilled (knows : Id → Type 0) (content : Id → Tree) (p : Plane) : Type 0 where
   pub pile : IsPile knows content p.pile
-  pub row : IsSound knows content p.row
-  pub level : p.row.level ≡ 0
+  pub row : IsRow knows content p.row
   pub rows : height (strips_of p.pile) ≡ p.rows
   pub most : p.rows < 2 ^ MAX_LEVEL
 

@@ -3,7 +3,7 @@ ghost use Rattle.std.specs.Prelude.{◌≡◌, ℕ, ◌+◌, ◌^◌, ◌<◌, �
 ghost use Rattle.life_base.specs.declared.kind.Kind.TheVariants.{Full, Memory};
 ghost use Rattle.life_base.specs.Tree.{depth, state_at};
 ghost use Rattle.life_quad.specs.Keeping.{KeepsSquares};
-ghost use Rattle.life_strip.specs.Picture.{picture, height, AreFalling, IsLowest, IsSound};
+ghost use Rattle.life_strip.specs.Picture.{picture, height, AreStacked, IsLowest, IsRow};
 ghost use Rattle.life_strip.specs.Needed.{SomeSquare};
 ghost use Rattle.life_strip.specs.Pile.{IsPile, strips_of};
 
@@ -36,14 +36,11 @@ impl Pile {
 
     // Rows one by one below the strips. The order of the rows stays.
     fn push_rows<S: Squares>(&mut self, squares: &mut S) -> Result<(), Kind>
-        requires sound { All (IsSound (S.knows squares.old) (S.content squares.old)) self.old.strips.items }
-        requires band { All (IsSound (S.knows squares.old) (S.content squares.old)) self.old.band.items }
-        requires rows { All (λ s. s.level ≡ 0) self.old.band.items }
+        requires strips { AreStacked (S.knows squares.old) (S.content squares.old) self.old.strips.items }
+        requires rows { All (IsRow (S.knows squares.old) (S.content squares.old)) self.old.band.items }
         requires room { height (strips_of self.old) ≤ 2 ^ MAX_LEVEL }
-        requires falling { AreFalling self.old.strips.items }
         ensures empty { OnOk result (self.new.band.items ≡ []) }
-        ensures falling { OnOk result (AreFalling self.new.strips.items) }
-        ensures sound { OnOk result (All (IsSound (S.knows squares.new) (S.content squares.new)) self.new.strips.items) }
+        ensures strips { OnOk result (AreStacked (S.knows squares.new) (S.content squares.new) self.new.strips.items) }
         ensures height { OnOk result (height self.new.strips.items ≡ height (strips_of self.old)) }
         ensures picture { OnOk result ((column row : ℕ) → picture (S.content squares.new) self.new.strips.items column row ≡ picture (S.content squares.old) (strips_of self.old) column row) }
         ensures keeps { KeepsSquares S.knows S.content S.stored S.most squares.old squares.new }
@@ -60,16 +57,13 @@ impl Pile {
 
     // A whole band below the strips.
     fn close_band<S: Squares>(&mut self, squares: &mut S) -> Result<(), Kind>
-        requires sound { All (IsSound (S.knows squares.old) (S.content squares.old)) self.old.strips.items }
-        requires falling { AreFalling self.old.strips.items }
+        requires strips { AreStacked (S.knows squares.old) (S.content squares.old) self.old.strips.items }
         requires lowest { IsLowest 2 self.old.strips.items }
-        requires band { All (IsSound (S.knows squares.old) (S.content squares.old)) self.old.band.items }
-        requires rows { All (λ s. s.level ≡ 0) self.old.band.items }
+        requires rows { All (IsRow (S.knows squares.old) (S.content squares.old)) self.old.band.items }
         requires whole { length self.old.band.items ≡ 4 }
         requires room { height (strips_of self.old) ≤ 2 ^ MAX_LEVEL }
         ensures empty { OnOk result (self.new.band.items ≡ []) }
-        ensures falling { OnOk result (AreFalling self.new.strips.items) }
-        ensures sound { OnOk result (All (IsSound (S.knows squares.new) (S.content squares.new)) self.new.strips.items) }
+        ensures strips { OnOk result (AreStacked (S.knows squares.new) (S.content squares.new) self.new.strips.items) }
         ensures height { OnOk result (height self.new.strips.items ≡ height (strips_of self.old)) }
         ensures picture { OnOk result ((column row : ℕ) → picture (S.content squares.new) self.new.strips.items column row ≡ picture (S.content squares.old) (strips_of self.old) column row) }
         ensures keeps { KeepsSquares S.knows S.content S.stored S.most squares.old squares.new }
@@ -87,8 +81,7 @@ impl Pile {
     // One row more, below the others. Four rows become a strip of level 2.
     fn push_row<S: Squares>(&mut self, squares: &mut S, row: Strip) -> Result<(), Kind>
         requires pile { IsPile (S.knows squares.old) (S.content squares.old) self.old }
-        requires row { IsSound (S.knows squares.old) (S.content squares.old) row }
-        requires level { row.level ≡ 0 }
+        requires row { IsRow (S.knows squares.old) (S.content squares.old) row }
         requires room { height (strips_of self.old) + 1 ≤ 2 ^ MAX_LEVEL }
         ensures pile { OnOk result (IsPile (S.knows squares.new) (S.content squares.new) self.new) }
         ensures height { OnOk result (height (strips_of self.new) ≡ height (strips_of self.old) + 1) }
@@ -145,8 +138,7 @@ impl Pile {
         blank_rows: u64,
     ) -> Result<(), Kind>
         requires pile { IsPile (S.knows squares.old) (S.content squares.old) self.old }
-        requires row { IsSound (S.knows squares.old) (S.content squares.old) row }
-        requires level { row.level ≡ 0 }
+        requires row { IsRow (S.knows squares.old) (S.content squares.old) row }
         requires room { height (strips_of self.old) + 1 + blank_rows ≤ 2 ^ MAX_LEVEL }
         ensures pile { OnOk result (IsPile (S.knows squares.new) (S.content squares.new) self.new) }
         ensures height { OnOk result (height (strips_of self.new) ≡ height (strips_of self.old) + 1 + blank_rows) }
@@ -168,8 +160,7 @@ impl Pile {
         blank_rows: u64,
     ) -> Result<Id, Kind>
         requires pile { IsPile (S.knows squares.old) (S.content squares.old) self }
-        requires row { IsSound (S.knows squares.old) (S.content squares.old) row }
-        requires level { row.level ≡ 0 }
+        requires row { IsRow (S.knows squares.old) (S.content squares.old) row }
         requires whole { height (strips_of self) + 1 + blank_rows ≡ 2 ^ MAX_LEVEL }
         ensures known { IfOk result (S.knows squares.new) }
         ensures level { IfOk result (λ r. depth (S.content squares.new r) ≡ MAX_LEVEL) }

@@ -4,7 +4,7 @@ ghost use Rattle.life_base.specs.declared.kind.Kind.TheVariants.{Full, Memory};
 ghost use Rattle.life_base.specs.Tree.{depth, state_at};
 ghost use Rattle.life_quad.specs.Keeping.{KeepsSquares};
 ghost use Rattle.life_strip.specs.Strip.{quad_at};
-ghost use Rattle.life_strip.specs.Picture.{picture, height, AreFalling, IsLowest, IsSound, IsStack};
+ghost use Rattle.life_strip.specs.Picture.{picture, height, AreFalling, AreStacked, IsLowest, IsRow, IsSound, IsStack};
 ghost use Rattle.life_strip.specs.Needed.{SomeSquare};
 
 use crate::bands::band;
@@ -52,13 +52,11 @@ pub(crate) fn push_strip<S: Squares>(
     strips: &mut Vec<Strip>,
     strip: Strip,
 ) -> Result<(), Kind>
-    requires sound { All (IsSound (S.knows squares.old) (S.content squares.old)) strips.old.items }
+    requires strips { AreStacked (S.knows squares.old) (S.content squares.old) strips.old.items }
     requires strip { IsSound (S.knows squares.old) (S.content squares.old) strip }
     requires room { height strips.old.items + 2 ^ strip.level ≤ 2 ^ MAX_LEVEL }
-    requires falling { AreFalling strips.old.items }
     requires lowest { IsLowest strip.level strips.old.items }
-    ensures falling { OnOk result (AreFalling strips.new.items) }
-    ensures sound { OnOk result (All (IsSound (S.knows squares.new) (S.content squares.new)) strips.new.items) }
+    ensures strips { OnOk result (AreStacked (S.knows squares.new) (S.content squares.new) strips.new.items) }
     ensures height { OnOk result (height strips.new.items ≡ height strips.old.items + 2 ^ strip.level) }
     ensures picture { OnOk result ((column row : ℕ) → picture (S.content squares.new) strips.new.items column row ≡ picture (S.content squares.old) (strips.old.items ++ strip ∷ []) column row) }
     ensures keeps { KeepsSquares S.knows S.content S.stored S.most squares.old squares.new }
@@ -103,8 +101,7 @@ pub(crate) fn band_strip<S: Squares>(
     rows: &[Strip],
 ) -> Result<Option<Strip>, Kind>
     requires count { length rows.now ≡ 4 }
-    requires sound { All (IsSound (S.knows squares.old) (S.content squares.old)) rows.now }
-    requires rows { All (λ s. s.level ≡ 0) rows.now }
+    requires rows { All (IsRow (S.knows squares.old) (S.content squares.old)) rows.now }
     ensures sound { IfOk result (λ r. IfSome r (λ s. IsSound (S.knows squares.new) (S.content squares.new) s)) }
     ensures level { IfOk result (λ r. IfSome r (λ s. s.level ≡ 2)) }
     ensures picture { IfOk result (λ r. IfSome r (λ s. (column row : ℕ) → picture (S.content squares.new) (s ∷ []) column row ≡ picture (S.content squares.old) rows.now column row)) }
@@ -125,8 +122,7 @@ pub(crate) fn band_strip<S: Squares>(
 
 // The square of strips that fill the plane.
 pub(crate) fn whole<S: Squares>(squares: &S, strips: &[Strip]) -> Id
-    requires sound { All (IsSound (S.knows squares.now) (S.content squares.now)) strips.now }
-    requires falling { AreFalling strips.now }
+    requires strips { AreStacked (S.knows squares.now) (S.content squares.now) strips.now }
     requires full { height strips.now ≡ 2 ^ MAX_LEVEL }
     ensures known { S.knows squares.now result }
     ensures level { depth (S.content squares.now result) ≡ MAX_LEVEL }

@@ -13,10 +13,10 @@ band-requires g c =
     let C = g.S.Squares.content c.args.squares.now in
     let rows = c.args.rows.now in
     let r = c.requires in
-    let first = spans-at K C rows 0 _ _ (omega (arith, r.count)) c.as_slice-first.ensures.value r.sound r.rows in
-    let second = spans-at K C rows 1 _ _ (omega (arith, r.count)) c.as_slice-second.ensures.value r.sound r.rows in
-    let third = spans-at K C rows 2 _ _ (omega (arith, r.count)) c.as_slice-third.ensures.value r.sound r.rows in
-    let fourth = spans-at K C rows 3 _ _ (omega (arith, r.count)) c.as_slice-fourth.ensures.value r.sound r.rows in record {
+    let first = spans-at K C rows 0 _ _ (omega (arith, r.count)) c.as_slice-first.ensures.value r.rows in
+    let second = spans-at K C rows 1 _ _ (omega (arith, r.count)) c.as_slice-second.ensures.value r.rows in
+    let third = spans-at K C rows 2 _ _ (omega (arith, r.count)) c.as_slice-third.ensures.value r.rows in
+    let fourth = spans-at K C rows 3 _ _ (omega (arith, r.count)) c.as_slice-fourth.ensures.value r.rows in record {
       first = first.0;
       second = second.0;
       third = third.0;
@@ -33,7 +33,7 @@ returns-in_err-spans-clause-needed g c =
     rw (p.1, p.2)
     (λ e. let n = c.in_err-spans.ensures.needed (err_again e) in
     SomeSquare-read (g.S.Squares.knows c.args.squares.now) (g.S.Squares.content c.args.squares.now) c.args.rows.now c.requires.count
-    c.requires.sound c.requires.rows _ _ _ _ _ _ _ _
+    c.requires.rows _ _ _ _ _ _ _ _
     c.index-rows-0.is c.index-rows-1.is c.index-rows-2.is c.index-rows-3.is c.as_slice-first.ensures.value c.as_slice-second.ensures.value
     c.as_slice-third.ensures.value c.as_slice-fourth.ensures.value
     (g.S.Squares.needs_node c.band.new.squares) (g.met.S.Squares.full c.args.squares.now) n.0 n.1 n.2)
@@ -46,7 +46,7 @@ returns-in-Some-clause-picture g c =
     (λ spans. (k : ℕ) → square_at C' 2 spans.items k ≡ four_at C c.as_slice-first.result.now c.as_slice-second.result.now c.as_slice-third.result.now
     c.as_slice-fourth.result.now k)) c.in-Some.is
     c.in_ok-spans.ensures.squares in
-    picture-read (g.S.Squares.knows c.args.squares.now) C c.args.rows.now c.requires.count c.requires.sound c.requires.rows _ _ _ _ _ _ _ _
+    picture-read (g.S.Squares.knows c.args.squares.now) C c.args.rows.now c.requires.count c.requires.rows _ _ _ _ _ _ _ _
     c.index-rows-0.is c.index-rows-1.is c.index-rows-2.is c.index-rows-3.is c.as_slice-first.ensures.value c.as_slice-second.ensures.value
     c.as_slice-third.ensures.value c.as_slice-fourth.ensures.value
     C' (record { level = 2; spans = c.in-Some.spans }) refl squares

@@ -5,7 +5,7 @@ use Rattle.life_quad.specs.declared.id.Id.{Id}
 use Rattle.life_quad.specs.Keeping.{KeepsSquares}
 use Rattle.life_quad.proofs.KeepingLemmas.{keeps-then}
 use Rattle.life_strip.specs.declared.spans.Strip.{Strip}
-use Rattle.life_strip.specs.Picture.{picture, height, IsSound}
+use Rattle.life_strip.specs.Picture.{picture, height, IsRow, IsSound}
 use Rattle.life_strip.specs.Needed.{SomeSquare}
 use Rattle.life_strip.proofs.NeededLemmas.{SomeSquare-same}
 use Rattle.life_strip.proofs.PictureLemmas.{on_ok_map, all_init, all_last, append-last, height-last}
@@ -15,24 +15,23 @@ use Rattle.life_strip.proofs.pile.Pile.+push_rows.Goals as goal
 -- the last row, below strips that have the cells of the rows above it, is the last of all
 last-below : {S : Type 0} {knows : S → Id → Type 0} {content : S → Id → Tree} {stored : S → List Tree} {most : S → ℕ} {old new : S}
     → KeepsSquares knows content stored most old new
-    → (xs ys zs over : List Strip) (last : Strip) → zs ≡ ys ++ last ∷ [] → All (IsSound (knows old) (content old)) zs → height over ≡ height (xs ++ ys)
+    → (xs ys zs over : List Strip) (last : Strip) → zs ≡ ys ++ last ∷ [] → All (IsRow (knows old) (content old)) zs → height over ≡ height (xs ++ ys)
     → ((i j : ℕ) → picture (content new) over i j ≡ picture (content old) (xs ++ ys) i j)
     → (i j : ℕ) → picture (content new) (over ++ last ∷ []) i j ≡ picture (content old) (xs ++ zs) i j
-last-below {knows = knows} {content = content} {old = old} {new = new} keeps xs ys zs over last items sound same cells i j =
-    let P = IsSound (knows old) (content old) in
+last-below {knows = knows} {content = content} {old = old} {new = new} keeps xs ys zs over last items rows same cells i j =
+    let P = IsRow (knows old) (content old) in
     picture-under {knows = knows old} {knows' = knows new} {old = content old} {new = content new} keeps.contents over (xs ++ ys) (last ∷ [])
-    (all-one P last (all_last P ys last (subst (All P) items sound))) same cells i j
+    (all-one (IsSound (knows old) (content old)) last (all_last P ys last (subst (All P) items rows)).sound) same cells i j
     ∙ ap (λ z. picture (content old) z i j) (sym (append-last xs ys zs last items))
 
 pub push_rows-requires : goal.push_rows-requires
 push_rows-requires g t c κs within =
-    let P = IsSound (g.S.Squares.knows c.args.squares.now) (g.S.Squares.content c.args.squares.now) in
+    let P = IsRow (g.S.Squares.knows c.args.squares.now) (g.S.Squares.content c.args.squares.now) in
     let items = c.in-Some.ensures.items in
     let init = c.pop.new.self.items in
     let h = height-last c.args.self.now.strips.items init c.args.self.now.band.items c.in-Some.last items in
-    let band = all_init P init c.in-Some.last (subst (All P) items c.requires.band) in
-    let rows = all_init (λ s. s.level ≡ 0) init c.in-Some.last (subst (All (λ s. s.level ≡ 0)) items c.requires.rows) in
-    (search rules, (search rules, (c.requires.sound, (band, (rows, (omega (arith, h, c.requires.room), c.requires.falling))))))
+    let rows = all_init P init c.in-Some.last (subst (All P) items c.requires.rows) in
+    (search rules, (search rules, (c.requires.strips, (rows, omega (arith, h, c.requires.room)))))
 
 pub push_strip-requires-clause-room : goal.push_strip-requires-clause-room
 push_strip-requires-clause-room g t c =
@@ -52,8 +51,8 @@ returns-clause-picture g t c =
     let r = c.in_ok-push_rows.ensures in
     on_ok_map c.push_strip.result
     (λ e i j. e i j
-    ∙ last-below r.keeps c.args.self.now.strips.items c.pop.new.self.items c.args.self.now.band.items c.push_rows.new.self.strips.items c.in-Some.last c.in-Some.ensures.items
-    c.requires.band r.height r.picture i j)
+    ∙ last-below r.keeps c.args.self.now.strips.items c.pop.new.self.items c.args.self.now.band.items c.push_rows.new.self.strips.items c.in-Some.last
+    c.in-Some.ensures.items c.requires.rows r.height r.picture i j)
     c.push_strip.ensures.picture
 
 pub returns-in_err-push_rows-clause-needed : goal.returns-in_err-push_rows-clause-needed
@@ -75,6 +74,6 @@ returns-clause-needed g t c =
     let r = c.in_ok-push_rows.ensures in
     let h = height-last c.args.self.now.strips.items c.pop.new.self.items c.args.self.now.band.items c.in-Some.last c.in-Some.ensures.items in
     λ e. SomeSquare-same (omega (arith, h, r.height))
-    (last-below r.keeps c.args.self.now.strips.items c.pop.new.self.items c.args.self.now.band.items c.push_rows.new.self.strips.items c.in-Some.last c.in-Some.ensures.items
-    c.requires.band r.height r.picture)
+    (last-below r.keeps c.args.self.now.strips.items c.pop.new.self.items c.args.self.now.band.items c.push_rows.new.self.strips.items c.in-Some.last
+    c.in-Some.ensures.items c.requires.rows r.height r.picture)
     (c.push_strip.ensures.needed e)

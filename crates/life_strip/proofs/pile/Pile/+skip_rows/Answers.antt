@@ -4,6 +4,7 @@ use Rattle.life_base.specs.Tree.{Tree}
 use Rattle.life_quad.specs.declared.id.Id.{Id}
 use Rattle.life_quad.proofs.KeepingLemmas.{keeps-then}
 use Rattle.life_strip.specs.declared.spans.Strip.{Strip}
+use Rattle.life_strip.specs.Pile.{strips_of}
 use Rattle.life_strip.specs.Picture.{picture, height, IsLowest}
 use Rattle.life_strip.proofs.NeededLemmas.{SomeSquare-same}
 use Rattle.life_strip.proofs.PictureLemmas.{on_ok_map, picture-blank}
@@ -29,7 +30,7 @@ returns-in_err-push_row-clause-needed g t c =
     let p = err_from_is_err_and c.from_residual.result c.from_residual.ensures.1 in
     rw (p.1, p.2)
     (λ e. SomeSquare-same (omega (arith, c.if-count-eq0.false))
-    (λ i j. picture-blank (g.S.Squares.content c.args.squares.now) (c.args.self.now.strips.items ++ c.args.self.now.band.items)
+    (λ i j. picture-blank (g.S.Squares.content c.args.squares.now) (strips_of c.args.self.now)
     (record { level = 0; spans = c.new.result }) c.new.ensures.items i j)
     (c.in_err-push_row.ensures.needed e))
 
@@ -40,7 +41,7 @@ pub returns-then-count-lt4-clause-picture : goal.returns-then-count-lt4-clause-p
 returns-then-count-lt4-clause-picture g t c =
     on_ok_map c.skip_rows.result
     (λ e i j. e i j ∙ c.in_ok-push_row.ensures.picture i j
-    ∙ picture-blank (g.S.Squares.content c.args.squares.now) (c.args.self.now.strips.items ++ c.args.self.now.band.items) (record { level = 0; spans = c.new.result })
+    ∙ picture-blank (g.S.Squares.content c.args.squares.now) (strips_of c.args.self.now) (record { level = 0; spans = c.new.result })
     c.new.ensures.items i j)
     c.skip_rows.ensures.picture
 
@@ -48,7 +49,7 @@ pub returns-then-count-lt4-clause-needed : goal.returns-then-count-lt4-clause-ne
 returns-then-count-lt4-clause-needed g t c = λ e.
     SomeSquare-same (omega (arith, c.in_ok-push_row.ensures.height, c.if-count-eq0.false))
     (λ i j. c.in_ok-push_row.ensures.picture i j
-    ∙ picture-blank (g.S.Squares.content c.args.squares.now) (c.args.self.now.strips.items ++ c.args.self.now.band.items) (record { level = 0; spans = c.new.result })
+    ∙ picture-blank (g.S.Squares.content c.args.squares.now) (strips_of c.args.self.now) (record { level = 0; spans = c.new.result })
     c.new.ensures.items i j)
     (c.skip_rows.ensures.needed e)
 
@@ -64,8 +65,8 @@ skip_rows-requires-2 g t c κs within =
     let four = four-divides level deep in
     let r = c.in_ok-push_strip.ensures in
     let pile = pile-alone (g.S.Squares.knows c.push_strip.new.squares) (g.S.Squares.content c.push_strip.new.squares)
-    (record c.args.self.now { strips = c.push_strip.new.strips }) none r.sound r.falling
-    (lowest-more xs strips (2 ^ level) (2 ^ (level - 2)) c.requires.pile.lowest r.falling r.height four) in
+    (record c.args.self.now { strips = c.push_strip.new.strips }) none r.strips
+    (lowest-more xs strips (2 ^ level) (2 ^ (level - 2)) c.requires.pile.lowest r.strips.falling r.height four) in
     let h = skipped-height xs ys strips (2 ^ level) none r.height in
     (search rules, (search rules, (pile, omega (arith, h, c.requires.room, c.blank_level-level.ensures.fits))))
 

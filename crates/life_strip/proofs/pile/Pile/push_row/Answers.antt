@@ -1,10 +1,10 @@
 use Rattle.std.proofs.Common.{List, length-append, ◌≡◌, ◌+◌, ◌^◌, ◌++◌, ◌∷◌, [], length, All, arith, refl, sym, ◌∙◌, ap, subst}
 use Rattle.std.proofs.lemmas.List.Elements.{All-push}
 use Rattle.life_quad.proofs.KeepingLemmas.{keeps-same}
-use Rattle.life_strip.specs.Picture.{picture, height, IsSound}
+use Rattle.life_strip.specs.Picture.{picture, height, IsRow}
 use Rattle.life_strip.specs.declared.spans.Strip.{Strip}
 use Rattle.life_strip.proofs.NeededLemmas.{SomeSquare-same}
-use Rattle.life_strip.proofs.PictureLemmas.{on_ok_map2, on_ok_map4, append-last, height-last}
+use Rattle.life_strip.proofs.PictureLemmas.{on_ok_map2, on_ok_map3, append-last, height-last}
 use Rattle.life_strip.proofs.BandPictures.{height-append, height-rows, lowest-more, no-rows, pile-alone}
 use Rattle.life_strip.proofs.pile.Pile.push_row.Goals as goal
 
@@ -23,18 +23,15 @@ returns-then-len-lt4-clause-pile g c =
     let zs = c.push.new.self.items in
     let items = c.in_ok-push.ensures.items in
     record {
-      sound = pile.sound;
-      falling = pile.falling;
+      strips = pile.strips;
       lowest = pile.lowest;
-      rows_sound = all-push (IsSound (g.S.Squares.knows c.args.squares.now) (g.S.Squares.content c.args.squares.now)) ys zs c.args.row items
-          pile.rows_sound c.requires.row;
-      rows = all-push (λ s. s.level ≡ 0) ys zs c.args.row items pile.rows c.requires.level;
+      rows = all-push (IsRow (g.S.Squares.knows c.args.squares.now) (g.S.Squares.content c.args.squares.now)) ys zs c.args.row items pile.rows c.requires.row;
       few = omega (arith, c.len.ensures, c.if-len-lt4.true);
     }
 
 pub returns-then-len-lt4-clause-height : goal.returns-then-len-lt4-clause-height
 returns-then-len-lt4-clause-height g c =
-    one-row c.args.self.now.strips.items c.args.self.now.band.items c.push.new.self.items c.args.row c.in_ok-push.ensures.items c.requires.level
+    one-row c.args.self.now.strips.items c.args.self.now.band.items c.push.new.self.items c.args.row c.in_ok-push.ensures.items c.requires.row.level
 
 pub returns-then-len-lt4-clause-picture : goal.returns-then-len-lt4-clause-picture
 returns-then-len-lt4-clause-picture g c i j =
@@ -47,32 +44,25 @@ returns-then-len-lt4-clause-keeps g c = keeps-same c.args.squares.now
 pub returns-in_err-push-clause-keeps : goal.returns-in_err-push-clause-keeps
 returns-in_err-push-clause-keeps g c = keeps-same c.args.squares.now
 
-pub close_band-requires-clause-sound : goal.close_band-requires-clause-sound
-close_band-requires-clause-sound g c = c.requires.pile.sound
-
-pub close_band-requires-clause-falling : goal.close_band-requires-clause-falling
-close_band-requires-clause-falling g c = c.requires.pile.falling
+pub close_band-requires-clause-strips : goal.close_band-requires-clause-strips
+close_band-requires-clause-strips g c = c.requires.pile.strips
 
 pub close_band-requires-clause-lowest : goal.close_band-requires-clause-lowest
 close_band-requires-clause-lowest g c = c.requires.pile.lowest
 
 pub close_band-requires-clause-rows : goal.close_band-requires-clause-rows
 close_band-requires-clause-rows g c =
-    all-push (λ s. s.level ≡ 0) c.args.self.now.band.items c.push.new.self.items c.args.row c.in_ok-push.ensures.items c.requires.pile.rows c.requires.level
+    all-push (IsRow (g.S.Squares.knows c.args.squares.now) (g.S.Squares.content c.args.squares.now)) c.args.self.now.band.items c.push.new.self.items
+    c.args.row c.in_ok-push.ensures.items c.requires.pile.rows c.requires.row
 
 pub close_band-requires-clause-whole : goal.close_band-requires-clause-whole
 close_band-requires-clause-whole g c =
     let n = ap length c.in_ok-push.ensures.items ∙ length-append c.args.self.now.band.items (c.args.row ∷ []) in
     omega (arith, n, c.len.ensures, c.if-len-lt4.false, c.requires.pile.few)
 
-pub close_band-requires-clause-band : goal.close_band-requires-clause-band
-close_band-requires-clause-band g c =
-    all-push (IsSound (g.S.Squares.knows c.args.squares.now) (g.S.Squares.content c.args.squares.now)) c.args.self.now.band.items c.push.new.self.items
-    c.args.row c.in_ok-push.ensures.items c.requires.pile.rows_sound c.requires.row
-
 pub close_band-requires-clause-room : goal.close_band-requires-clause-room
 close_band-requires-clause-room g c =
-    let h = one-row c.args.self.now.strips.items c.args.self.now.band.items c.push.new.self.items c.args.row c.in_ok-push.ensures.items c.requires.level in
+    let h = one-row c.args.self.now.strips.items c.args.self.now.band.items c.push.new.self.items c.args.row c.in_ok-push.ensures.items c.requires.row.level in
     omega (arith, h, c.requires.room)
 
 pub returns-clause-pile : goal.returns-clause-pile
@@ -80,24 +70,24 @@ returns-clause-pile g c =
     let xs = c.args.self.now.strips.items in
     let ys = c.args.self.now.band.items in
     let n = ap length c.in_ok-push.ensures.items ∙ length-append ys (c.args.row ∷ []) in
-    let h = one-row xs ys c.push.new.self.items c.args.row c.in_ok-push.ensures.items c.requires.level in
+    let h = one-row xs ys c.push.new.self.items c.args.row c.in_ok-push.ensures.items c.requires.row.level in
     let over = height-append xs ys in
-    let rows = height-rows ys c.requires.pile.rows in
+    let rows = height-rows (g.S.Squares.knows c.args.squares.now) (g.S.Squares.content c.args.squares.now) ys c.requires.pile.rows in
     let r = c.close_band.ensures in
-    on_ok_map4 c.close_band.result
-    (λ sound falling empty e. pile-alone (g.S.Squares.knows c.close_band.new.squares) (g.S.Squares.content c.close_band.new.squares)
-    c.close_band.new.self empty sound falling
-    (lowest-more xs c.close_band.new.self.strips.items 4 1 c.requires.pile.lowest falling
+    on_ok_map3 c.close_band.result
+    (λ strips empty e. pile-alone (g.S.Squares.knows c.close_band.new.squares) (g.S.Squares.content c.close_band.new.squares)
+    c.close_band.new.self empty strips
+    (lowest-more xs c.close_band.new.self.strips.items 4 1 c.requires.pile.lowest strips.falling
     (omega (arith, e, h, over, rows, n, c.len.ensures, c.if-len-lt4.false, c.requires.pile.few)) refl))
-    r.sound r.falling r.empty r.height
+    r.strips r.empty r.height
 
 pub returns-clause-picture : goal.returns-clause-picture
 returns-clause-picture g c =
     let C = g.S.Squares.content in
     let in_order = append-last c.args.self.now.strips.items c.args.self.now.band.items c.push.new.self.items c.args.row c.in_ok-push.ensures.items in
     on_ok_map2 c.close_band.result
-    (λ empty e i j. ap (λ z. picture (C c.close_band.new.squares) z i j) (no-rows c.close_band.new.self.strips.items c.close_band.new.self.band.items empty) ∙ e i j
-    ∙ ap (λ z. picture (C c.args.squares.now) z i j) in_order)
+    (λ empty e i j. ap (λ z. picture (C c.close_band.new.squares) z i j)
+    (no-rows c.close_band.new.self.strips.items c.close_band.new.self.band.items empty) ∙ e i j ∙ ap (λ z. picture (C c.args.squares.now) z i j) in_order)
     c.close_band.ensures.empty c.close_band.ensures.picture
 
 pub returns-clause-keeps : goal.returns-clause-keeps
@@ -105,7 +95,7 @@ returns-clause-keeps g c = c.close_band.ensures.keeps
 
 pub returns-clause-height : goal.returns-clause-height
 returns-clause-height g c =
-    let h = one-row c.args.self.now.strips.items c.args.self.now.band.items c.push.new.self.items c.args.row c.in_ok-push.ensures.items c.requires.level in
+    let h = one-row c.args.self.now.strips.items c.args.self.now.band.items c.push.new.self.items c.args.row c.in_ok-push.ensures.items c.requires.row.level in
     on_ok_map2 c.close_band.result (λ empty e. ap height (no-rows c.close_band.new.self.strips.items c.close_band.new.self.band.items empty) ∙ e ∙ h)
     c.close_band.ensures.empty c.close_band.ensures.height
 
@@ -113,6 +103,6 @@ pub returns-clause-needed : goal.returns-clause-needed
 returns-clause-needed g c =
     let xs = c.args.self.now.strips.items in
     let ys = c.args.self.now.band.items in
-    let h = one-row xs ys c.push.new.self.items c.args.row c.in_ok-push.ensures.items c.requires.level in
+    let h = one-row xs ys c.push.new.self.items c.args.row c.in_ok-push.ensures.items c.requires.row.level in
     let in_order = append-last xs ys c.push.new.self.items c.args.row c.in_ok-push.ensures.items in
     λ e. SomeSquare-same (omega (arith, h)) (λ i j. ap (λ z. picture (g.S.Squares.content c.args.squares.now) z i j) in_order) (c.close_band.ensures.needed e)

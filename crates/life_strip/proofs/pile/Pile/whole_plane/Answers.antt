@@ -1,9 +1,8 @@
-use Rattle.std.proofs.Common.{◌≡◌, ◌^◌, ◌++◌, All, arith, refl, sym, ◌∙◌, ap, subst}
+use Rattle.std.proofs.Common.{arith, refl, sym, ◌∙◌, ap, subst}
 use Rattle.std.proofs.lemmas.Result.{err_from_is_err_and}
-use Rattle.life_base.specs.declared.cell.TheConstants.{MAX_LEVEL}
-use Rattle.life_strip.specs.Picture.{picture, height, AreFalling, IsSound}
+use Rattle.life_strip.specs.Picture.{picture, height, AreStacked}
 use Rattle.life_strip.proofs.NeededLemmas.{err_again, SomeSquare-same}
-use Rattle.life_strip.proofs.BandPictures.{band-over, no-rows}
+use Rattle.life_strip.proofs.BandPictures.{band-over}
 use Rattle.life_strip.proofs.pile.Pile.whole_plane.Goals as goal
 
 pub end_row-requires-clause-pile : goal.end_row-requires-clause-pile
@@ -15,13 +14,10 @@ end_row-requires-clause-row g c = c.requires.row
 pub end_row-requires-clause-room : goal.end_row-requires-clause-room
 end_row-requires-clause-room g c = omega (arith, c.requires.whole)
 
-pub whole-requires-clause-sound : goal.whole-requires-clause-sound
-whole-requires-clause-sound g c =
-    subst (All (IsSound (g.S.Squares.knows c.end_row.new.squares) (g.S.Squares.content c.end_row.new.squares))) (sym c.as_slice.ensures.value)
-    c.in_ok-end_row.ensures.pile.sound
-
-pub whole-requires-clause-falling : goal.whole-requires-clause-falling
-whole-requires-clause-falling g c = subst AreFalling (sym c.as_slice.ensures.value) c.in_ok-end_row.ensures.pile.falling
+pub whole-requires-clause-strips : goal.whole-requires-clause-strips
+whole-requires-clause-strips g c =
+    subst (AreStacked (g.S.Squares.knows c.end_row.new.squares) (g.S.Squares.content c.end_row.new.squares)) (sym c.as_slice.ensures.value)
+    c.in_ok-end_row.ensures.pile.strips
 
 pub returns-in_err-end_row-clause-keeps : goal.returns-in_err-end_row-clause-keeps
 returns-in_err-end_row-clause-keeps g c = c.in_err-end_row.ensures.keeps
@@ -37,16 +33,13 @@ returns-clause-keeps g c = c.in_ok-end_row.ensures.keeps
 pub whole-requires-clause-full : goal.whole-requires-clause-full
 whole-requires-clause-full g c =
     let r = c.in_ok-end_row.ensures in
-    let xs = c.end_row.new.self.strips.items in
-    let ys = c.end_row.new.self.band.items in
-    let all : height (xs ++ ys) ≡ 2 ^ MAX_LEVEL = r.height ∙ c.requires.whole in
-    ap height c.as_slice.ensures.value ∙ sym (ap height (no-rows xs ys (band-over xs ys r.pile.lowest r.pile.rows r.pile.few all))) ∙ all
+    let all = r.height ∙ c.requires.whole in
+    let alone = band-over (g.S.Squares.knows c.end_row.new.squares) (g.S.Squares.content c.end_row.new.squares) c.end_row.new.self r.pile all in
+    ap height (c.as_slice.ensures.value ∙ sym alone) ∙ all
 
 pub returns-clause-cells : goal.returns-clause-cells
 returns-clause-cells g c i j li lj =
+    let C = g.S.Squares.content c.end_row.new.squares in
     let r = c.in_ok-end_row.ensures in
-    let xs = c.end_row.new.self.strips.items in
-    let ys = c.end_row.new.self.band.items in
-    let all : height (xs ++ ys) ≡ 2 ^ MAX_LEVEL = r.height ∙ c.requires.whole in
-    let none = no-rows xs ys (band-over xs ys r.pile.lowest r.pile.rows r.pile.few all) in
-    c.whole.ensures.cells i j li lj ∙ ap (λ z. picture (g.S.Squares.content c.end_row.new.squares) z i j) (c.as_slice.ensures.value ∙ sym none) ∙ r.picture i j
+    let alone = band-over (g.S.Squares.knows c.end_row.new.squares) C c.end_row.new.self r.pile (r.height ∙ c.requires.whole) in
+    c.whole.ensures.cells i j li lj ∙ ap (λ z. picture C z i j) (c.as_slice.ensures.value ∙ sym alone) ∙ r.picture i j

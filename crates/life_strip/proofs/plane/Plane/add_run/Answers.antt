@@ -27,20 +27,20 @@ returns-clause-cells g c =
     let C = g.S.Squares.content c.go_to_row.new.squares in
     let self = c.go_to_row.new.self in
     let fill = c.in_ok-go_to_row.ensures.filled in
-    let begun : IsStrip K C 0 self.row.spans.items = subst (λ n. IsStrip K C n self.row.spans.items) fill.level fill.row.squares in
+    let begun : IsStrip K C 0 self.row.spans.items = subst (λ n. IsStrip K C n self.row.spans.items) fill.row.level fill.row.sound.squares in
     let row : Strip = record { level = self.row.level; spans = c.push_span.new.spans } in
     let height_is : height (strips_of self.pile) ≡ c.offset-row.result = fill.rows ∙ c.in_ok-go_to_row.ensures.rows in
     on_ok_map c.push_span.result
     (λ columns.
     let strip = row_strip K C self.row.spans.items row.spans.items c.offset-column.result c.args.run.len c.cell-blank.result c.cell-square.result begun
     c.cell-blank.ensures.known c.cell-blank.ensures.square c.cell-square.ensures.known (ap depth c.cell-square.ensures.square) columns in
-    let states = row_pushed K C self.row row c.offset-column.result c.args.run.len c.args.run.state c.cell-blank.result c.cell-square.result fill.row fill.level
-    fill.level strip
+    let states = row_pushed K C self.row row c.offset-column.result c.args.run.len c.args.run.state c.cell-blank.result c.cell-square.result
+    fill.row.sound fill.row.level fill.row.level strip
     c.cell-blank.ensures.known c.cell-blank.ensures.square c.cell-square.ensures.square columns in
     AddsRun-span (state_so_far (g.S.Squares.content c.args.squares.now) c.args.self.now)
     (picture C (strips_of self.pile ++ row ∷ []))
     c.args.run c.offset-column.result c.offset-row.result c.requires.inside ex ey
-    (λ i j. picture_pushed C (strips_of self.pile) self.row row c.offset-column.result c.args.run.len c.args.run.state fill.level fill.level
+    (λ i j. picture_pushed C (strips_of self.pile) self.row row c.offset-column.result c.args.run.len c.args.run.state fill.row.level fill.row.level
     states i j
     ∙ (λ k. if is_in_span c.offset-column.result (height_is k) c.args.run.len i j then c.args.run.state else c.in_ok-go_to_row.ensures.picture i j k)))
     c.push_span.ensures.columns
@@ -62,7 +62,7 @@ returns-clause-filled g c =
     let old = c.go_to_row.new.self.row.spans.items in
     let new = c.push_span.new.spans.items in
     let fill = c.in_ok-go_to_row.ensures.filled in
-    let begun : IsStrip K C 0 old = subst (λ n. IsStrip K C n old) fill.level fill.row.squares in
+    let begun : IsStrip K C 0 old = subst (λ n. IsStrip K C n old) fill.row.level fill.row.sound.squares in
     on_ok_map2 c.push_span.result
     (λ columns ends.
     let strip = row_strip K C old new c.offset-column.result c.args.run.len c.cell-blank.result c.cell-square.result begun
@@ -70,8 +70,13 @@ returns-clause-filled g c =
     let within : AreWithin 0 new = λ k d lt. let e = ends k d lt in omega (arith, ints, e, ex, c.requires.inside.east) in
     record {
       pile = fill.pile;
-      row = record { squares = subst (λ n. IsStrip K C n new) (sym fill.level) strip; within = subst (λ n. AreWithin n new) (sym fill.level) within };
-      level = fill.level;
+      row = record {
+        sound = record {
+          squares = subst (λ n. IsStrip K C n new) (sym fill.row.level) strip;
+          within = subst (λ n. AreWithin n new) (sym fill.row.level) within;
+        };
+        level = fill.row.level;
+      };
       rows = fill.rows;
       most = fill.most;
     })

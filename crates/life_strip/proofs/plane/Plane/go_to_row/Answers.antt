@@ -1,8 +1,7 @@
-use Rattle.std.proofs.Common.{◌≡◌, ◌++◌, ◌∷◌, [], ◌∙◌, ap, refl, sym, subst, arith}
+use Rattle.std.proofs.Common.{◌++◌, ◌∷◌, [], ◌∙◌, ap, refl, sym, subst, arith}
 use Rattle.std.proofs.lemmas.Result.{err_from_is_err_and}
 use Rattle.life_quad.proofs.KeepingLemmas.{keeps-same}
-use Rattle.life_strip.specs.declared.spans.Strip.{Strip}
-use Rattle.life_strip.specs.Picture.{picture, IsSound}
+use Rattle.life_strip.specs.Picture.{picture, IsRow}
 use Rattle.life_strip.specs.Needed.{SomeSquare}
 use Rattle.life_strip.specs.Pile.{strips_of}
 use Rattle.life_strip.proofs.PictureLemmas.{picture-blank}
@@ -14,10 +13,7 @@ end_row-requires-clause-pile g c = c.requires.filled.pile
 
 pub end_row-requires-clause-row : goal.end_row-requires-clause-row
 end_row-requires-clause-row g c =
-    subst (IsSound (g.S.Squares.knows c.args.squares.now) (g.S.Squares.content c.args.squares.now)) (sym c.replace-begun.ensures.value) c.requires.filled.row
-
-pub end_row-requires-clause-level : goal.end_row-requires-clause-level
-end_row-requires-clause-level g c = subst (λ (s : Strip). s.level ≡ 0) (sym c.replace-begun.ensures.value) c.requires.filled.level
+    subst (IsRow (g.S.Squares.knows c.args.squares.now) (g.S.Squares.content c.args.squares.now)) (sym c.replace-begun.ensures.value) c.requires.filled.row
 
 pub end_row-requires-clause-room : goal.end_row-requires-clause-room
 end_row-requires-clause-room g c = omega (arith, c.requires.filled.rows, c.requires.later, c.requires.inside, c.if-self-row.false)
