@@ -3,7 +3,7 @@ ghost use Rattle.std.specs.Prelude.{◌≡◌, ◌≤◌, ◌<◌, IfOk};
 ghost use Rattle.life_base.specs.Tree.{depth};
 ghost use Rattle.life_quad.specs.declared.id.Id.{Id as IdValue};
 
-use life_base::{Kind, MAX_LEVEL};
+use life_base::{Kind, MAX_LEVEL, Run};
 use life_quad::{Id, Shared, SharedSquares, Squares, bounds, population, put_run};
 use std::alloc::Global;
 use std::io;
@@ -23,11 +23,17 @@ fn fill<S: Squares>(squares: &mut S, count: u32) -> Result<(), Kind> {
     Ok(())
 }
 
-/// Puts a run of one cell into each row of a square of the greatest level.
+/// Puts a run of 1,000 cells into each row of a square of the greatest level.
 fn put_runs<S: Squares>(squares: &mut S, rows: u16) -> Result<(), Kind> {
     let mut root = squares.empty(MAX_LEVEL);
     for y in 0..rows {
-        root = put_run(squares, root, 0, y as i64, 1000, 1)?;
+        let run = Run {
+            x: 0,
+            y: y as i64,
+            len: 1000,
+            state: 1,
+        };
+        root = put_run(squares, root, run)?;
     }
     Ok(())
 }

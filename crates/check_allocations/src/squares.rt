@@ -1,9 +1,9 @@
 //! Squares in a store.
 
-ghost use Rattle.std.specs.Prelude.{◌≡◌, IfOk};
+ghost use Rattle.std.specs.Prelude.{◌≡◌, ◌^◌, pos, neg_ℤ, IfOk};
 ghost use Rattle.life_base.specs.Tree.{depth};
 
-use life_base::{Bounds, Cell, Fault, Kind, MAX_LEVEL};
+use life_base::{Bounds, Cell, Fault, Kind, MAX_LEVEL, Run, State};
 use life_quad::{
     Id, Shared, SharedSquares, Squares, bounds, cells, grow, population, put_run, trim,
 };
@@ -21,6 +21,18 @@ const EAST: Cell = Cell {
     state: 1,
 };
 
+// One cell.
+fn one_cell(x: i64, y: i64, state: State) -> Run
+    ensures { result ≡ record { x = x; y = y; len = 1; state = state } }
+{
+    Run {
+        x,
+        y,
+        len: 1,
+        state,
+    }
+}
+
 /// A square of level 1, joined of its cells.
 pub(crate) fn joined<S: Squares>(squares: &mut S) -> Result<bool, Fault> {
     let dead = squares.cell(0);
@@ -36,8 +48,8 @@ fn ends<S: Squares>(squares: &mut S) -> Result<Id, Kind>
     ensures level { IfOk result (λ r. depth (S.content squares.new r) ≡ MAX_LEVEL) }
 {
     let blank = squares.empty(MAX_LEVEL);
-    let one = put_run(squares, blank, -4, 0, 1, 1)?;
-    put_run(squares, one, 4, 0, 1, 1)
+    let one = put_run(squares, blank, one_cell(-4, 0, 1))?;
+    put_run(squares, one, one_cell(4, 0, 1))
 }
 
 // Whether the square has this level and the two cells.
@@ -83,8 +95,8 @@ fn grown_whole<S: Squares>(squares: &mut S, id: Id) -> Result<Id, Kind>
 /// The plane, grown from a small square.
 pub(crate) fn grown<S: Squares>(alloc: Global, squares: &mut S) -> Result<bool, Fault> {
     let blank = squares.empty(4);
-    let one = put_run(squares, blank, -4, 0, 1, 1)?;
-    let square = put_run(squares, one, 4, 0, 1, 1)?;
+    let one = put_run(squares, blank, one_cell(-4, 0, 1))?;
+    let square = put_run(squares, one, one_cell(4, 0, 1))?;
     let plane = grown_whole(squares, square)?;
     Ok(are_ends(alloc, squares, plane, MAX_LEVEL)?)
 }
@@ -107,10 +119,17 @@ pub(crate) fn bounded<S: SharedSquares>(alloc: Global, squares: &mut S) -> Resul
     Ok(bounds(alloc, squares, plane)? == Some(least))
 }
 
-// The column of the plane's west side, and its width.
-const WEST_SIDE: i64 = -2305843009213693952;
-
-const WIDTH: u64 = 4611686018427387904;
+// A row of the plane, from its west side on.
+fn whole_row(y: i64) -> Run
+    ensures { result ≡ record { x = neg_ℤ (pos (2 ^ 61)); y = y; len = 2 ^ 62; state = 1 } }
+{
+    Run {
+        x: -(1 << 61),
+        y,
+        len: 1 << 62,
+        state: 1,
+    }
+}
 
 /// Two rows of the plane, each put as one run: the number and the box of the cells of the first, and the number of those of both.
 pub(crate) fn rows_measured<S: SharedSquares>(
@@ -118,10 +137,10 @@ pub(crate) fn rows_measured<S: SharedSquares>(
     squares: &mut S,
 ) -> Result<bool, Fault> {
     let blank = squares.empty(MAX_LEVEL);
-    let one = put_run(squares, blank, WEST_SIDE, 0, WIDTH, 1)?;
+    let one = put_run(squares, blank, whole_row(0))?;
     let number = population(alloc, squares, one)?;
     let least = bounds(alloc, squares, one)?;
-    let two = put_run(squares, one, WEST_SIDE, 1, WIDTH, 1)?;
+    let two = put_run(squares, one, whole_row(1))?;
     let both = population(alloc, squares, two)?;
     let row = Bounds {
         left: -2305843009213693952,
@@ -144,29 +163,29 @@ fn is_refused<T: Drop>(answer: Result<T, Kind>, reason: Kind) -> Result<bool, Fa
 /// A row of the plane in a store for 61 nodes, which is one too few.
 pub(crate) fn row_refused(squares: &mut Shared) -> Result<bool, Fault> {
     let blank = squares.empty(MAX_LEVEL);
-    let row = put_run(squares, blank, WEST_SIDE, 0, WIDTH, 1);
+    let row = put_run(squares, blank, whole_row(0));
     Ok(is_refused(row, Kind::Full)? && squares.len() == 61)
 }
 
 /// Two cells, put in either order, and cleared again.
 pub(crate) fn set_and_cleared<S: SharedSquares>(squares: &mut S) -> Result<bool, Fault> {
     let blank = squares.empty(5);
-    let first = put_run(squares, blank, 0, 0, 1, 1)?;
-    let both = put_run(squares, first, 5, 3, 1, 1)?;
-    let second = put_run(squares, blank, 5, 3, 1, 1)?;
-    let other = put_run(squares, second, 0, 0, 1, 1)?;
-    let cleared = put_run(squares, both, 0, 0, 1, 0)?;
-    let none = put_run(squares, cleared, 5, 3, 1, 0)?;
+    let first = put_run(squares, blank, one_cell(0, 0, 1))?;
+    let both = put_run(squares, first, one_cell(5, 3, 1))?;
+    let second = put_run(squares, blank, one_cell(5, 3, 1))?;
+    let other = put_run(squares, second, one_cell(0, 0, 1))?;
+    let cleared = put_run(squares, both, one_cell(0, 0, 0))?;
+    let none = put_run(squares, cleared, one_cell(5, 3, 0))?;
     Ok(both == other && none == blank)
 }
 
 /// Squares of level 9 with one cell, at (4, 0) and at (0, 0), trimmed to the least levels 1 and 3.
 pub(crate) fn levels_trimmed<S: Squares>(squares: &mut S) -> Result<bool, Fault> {
     let blank = squares.empty(9);
-    let east = put_run(squares, blank, 4, 0, 1, 1)?;
+    let east = put_run(squares, blank, one_cell(4, 0, 1))?;
     let east_1 = trim(squares, east, 1)?;
     let east_3 = trim(squares, east, 3)?;
-    let middle = put_run(squares, blank, 0, 0, 1, 1)?;
+    let middle = put_run(squares, blank, one_cell(0, 0, 1))?;
     let middle_1 = trim(squares, middle, 1)?;
     let middle_3 = trim(squares, middle, 3)?;
     Ok(
@@ -183,7 +202,7 @@ pub(crate) fn grown_and_trimmed<S: SharedSquares>(
     squares: &mut S,
 ) -> Result<bool, Fault> {
     let blank = squares.empty(9);
-    let east = put_run(squares, blank, 4, 0, 1, 1)?;
+    let east = put_run(squares, blank, one_cell(4, 0, 1))?;
     let four = trim(squares, east, 1)?;
     if squares.level(four) != 4 {
         return Ok(false);
@@ -197,15 +216,15 @@ pub(crate) fn grown_and_trimmed<S: SharedSquares>(
 /// Two cells, of which one may be listed.
 pub(crate) fn list_refused<S: Squares>(alloc: Global, squares: &mut S) -> Result<bool, Fault> {
     let blank = squares.empty(5);
-    let one = put_run(squares, blank, -4, 0, 1, 1)?;
-    let two = put_run(squares, one, 4, 0, 1, 1)?;
+    let one = put_run(squares, blank, one_cell(-4, 0, 1))?;
+    let two = put_run(squares, one, one_cell(4, 0, 1))?;
     is_refused(cells(alloc, squares, two, 1), Kind::TooManyCells)
 }
 
 /// One cell, and the list of it.
 pub(crate) fn one_listed<S: Squares>(alloc: Global, squares: &mut S) -> Result<bool, Fault> {
     let blank = squares.empty(5);
-    let one = put_run(squares, blank, 0, 0, 1, 1)?;
+    let one = put_run(squares, blank, one_cell(0, 0, 1))?;
     let list = cells(alloc, squares, one, 1)?;
     let middle = Cell {
         x: 0,
@@ -218,5 +237,5 @@ pub(crate) fn one_listed<S: Squares>(alloc: Global, squares: &mut S) -> Result<b
 /// One cell in a store for four nodes, where a square of level 5 needs five.
 pub(crate) fn one_refused<S: Squares>(squares: &mut S) -> Result<bool, Fault> {
     let blank = squares.empty(5);
-    is_refused(put_run(squares, blank, 0, 0, 1, 1), Kind::Full)
+    is_refused(put_run(squares, blank, one_cell(0, 0, 1)), Kind::Full)
 }

@@ -1,6 +1,7 @@
 -- The cells of a square on the plane: a square of level k covers the columns and rows from -2^(k-1) to 2^(k-1) - 1.
 use Rattle.std.specs.Prelude.{◌≡◌, ◌≢◌, ◌==◌, ℕ, ◌+◌, ◌⊎◌, if◌then◌else◌, ℤ, pos, neg_ℤ, ◌+ℤ◌, ◌<ℤ◌, ◌≤ℤ◌, List, Contains, AllPairs}
 use Rattle.life_base.specs.declared.cell.Cell.{Cell}
+use Rattle.life_base.specs.declared.cell.Run.{Run}
 use Rattle.life_base.specs.declared.bounds.Bounds.{Bounds}
 use Rattle.life_base.specs.Tree.{Tree, point, quad, depth, half_side, tree_cell as cell, IsFull}
 
@@ -11,18 +12,18 @@ pub record IsInRun (left row : ℤ) (len : ℕ) (x y : ℤ) : Type 0 where
   pub to : x <ℤ (left +ℤ pos len)
 
 -- the cells of a run lie in the square
-pub record IsRunInside (t : Tree) (left row : ℤ) (len : ℕ) : Type 0 where
-  pub west : neg_ℤ (pos (half_side t)) ≤ℤ left
-  pub east : (left +ℤ pos len) ≤ℤ pos (half_side t)
-  pub north : neg_ℤ (pos (half_side t)) ≤ℤ row
-  pub south : row <ℤ pos (half_side t)
+pub record IsRunInside (t : Tree) (run : Run) : Type 0 where
+  pub west : neg_ℤ (pos (half_side t)) ≤ℤ run.x
+  pub east : (run.x +ℤ pos run.len) ≤ℤ pos (half_side t)
+  pub north : neg_ℤ (pos (half_side t)) ≤ℤ run.y
+  pub south : run.y <ℤ pos (half_side t)
 
 -- a full square of the same level has the state in the cells of the run, and every other cell as before
-pub record SetsRun (old new : Tree) (left row : ℤ) (len state : ℕ) : Type 0 where
+pub record SetsRun (old new : Tree) (run : Run) : Type 0 where
   pub full : IsFull new
   pub level : depth new ≡ depth old
-  pub run : (x y : ℤ) → IsInRun left row len x y → cell new x y ≡ state
-  pub others : (x y : ℤ) → ¬ IsInRun left row len x y → cell new x y ≡ cell old x y
+  pub cells : (x y : ℤ) → IsInRun run.x run.y run.len x y → cell new x y ≡ run.state
+  pub others : (x y : ℤ) → ¬ IsInRun run.x run.y run.len x y → cell new x y ≡ cell old x y
 
 -- every cell with a state is in the box, and each side of the box has one
 pub record IsLeastBox (t : Tree) (box : Bounds) : Type 0 where

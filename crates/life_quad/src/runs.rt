@@ -9,7 +9,16 @@ ghost use Rattle.life_quad.specs.Keeping.{KeepsSquares};
 
 use crate::moves::{Quarters, divide};
 use crate::{Id, Squares};
-use life_base::{Kind, MAX_LEVEL, State};
+use life_base::{Kind, MAX_LEVEL, Run, State};
+
+/// Cells of one state, side by side in a row of a square: columns and rows are counted from its north-west corner.
+#[derive(Clone, Copy)]
+struct Span {
+    column: u64,
+    row: u64,
+    len: u64,
+    state: State,
+}
 
 /// Half of the side of a square of a level.
 pub(crate) fn half_side(level: u8) -> u64
@@ -34,37 +43,31 @@ fn offset(x: i64, half: u64) -> u64
 /// The square with a span of one row set. The span goes down both halves, and one half serves for
 /// both where it covers both and they are one square.
 #[cycle(span)]
-fn set_span<S: Squares>(
-    squares: &mut S,
-    id: Id,
-    column: u64,
-    row: u64,
-    len: u64,
-    state: State,
-) -> Result<Id, Kind>
+fn set_span<S: Squares>(squares: &mut S, id: Id, span: Span) -> Result<Id, Kind>
     requires known { S.knows squares.old id }
-    requires positive { 1 ≤ len }
-    requires columns { column + len ≤ 2 ^ depth (S.content squares.old id) }
-    requires rows { row < 2 ^ depth (S.content squares.old id) }
+    requires positive { 1 ≤ span.len }
+    requires columns { span.column + span.len ≤ 2 ^ depth (S.content squares.old id) }
+    requires rows { span.row < 2 ^ depth (S.content squares.old id) }
     ensures known { IfOk result (S.knows squares.new) }
-    ensures square { IfOk result (λ r. SetsSpan (S.content squares.old id) (S.content squares.new r) column row len state) }
+    ensures square { IfOk result (λ r. SetsSpan (S.content squares.old id) (S.content squares.new r) span) }
     ensures keeps { KeepsSquares S.knows S.content S.stored S.most squares.old squares.new }
     ensures refusals { IfErr result (λ e. (e ≡ Full) ⊎ (e ≡ Memory)) }
     ensures full { result ≡ Err Full → length (S.stored squares.new) ≡ S.most squares.new }
     ensures room { result ≡ Err Memory → length (S.stored squares.new) < S.most squares.new }
-    ensures needed { OnErr result ((t : Tree) × SetsSpan (S.content squares.old id) t column row len state × SomePart (S.needs_node squares.new) t) }
+    ensures needed { OnErr result ((t : Tree) × SetsSpan (S.content squares.old id) t span × SomePart (S.needs_node squares.new) t) }
 {
     let level = squares.level(id);
     if level == 0 {
-        return Ok(squares.cell(state));
+        return Ok(squares.cell(span.state));
     }
     let half = half_side(level);
     let Quarters { nw, ne, sw, se } = divide(squares, id);
-    if row < half {
-        let (left, right) = set_halves(squares, nw, ne, half, column, row, len, state)?;
+    if span.row < half {
+        let (left, right) = set_halves(squares, nw, ne, half, span)?;
         squares.join(left, right, sw, se)
     } else {
-        let (left, right) = set_halves(squares, sw, se, half, column, row - half, len, state)?;
+        let row = span.row - half;
+        let (left, right) = set_halves(squares, sw, se, half, Span { row, ..span })?;
         squares.join(nw, ne, left, right)
     }
 }
@@ -76,71 +79,73 @@ fn set_halves<S: Squares>(
     left: Id,
     right: Id,
     half: u64,
-    column: u64,
-    row: u64,
-    len: u64,
-    state: State,
+    span: Span,
 ) -> Result<(Id, Id), Kind>
     requires left { S.knows squares.old left }
     requires right { S.knows squares.old right }
     requires one_level { depth (S.content squares.old right) ≡ depth (S.content squares.old left) }
     requires side { half ≡ 2 ^ depth (S.content squares.old left) }
     requires low { depth (S.content squares.old left) < MAX_LEVEL }
-    requires positive { 1 ≤ len }
-    requires columns { column + len ≤ half + half }
-    requires rows { row < half }
+    requires positive { 1 ≤ span.len }
+    requires columns { span.column + span.len ≤ half + half }
+    requires rows { span.row < half }
     ensures known { IfOk result (λ r. S.knows squares.new r.0 × S.knows squares.new r.1) }
-    ensures square { IfOk result (λ r. SetsHalves (S.content squares.old left) (S.content squares.old right) (S.content squares.new r.0) (S.content squares.new r.1) column row len state) }
+    ensures square { IfOk result (λ r. SetsHalves (S.content squares.old left) (S.content squares.old right) (S.content squares.new r.0) (S.content squares.new r.1) span) }
     ensures keeps { KeepsSquares S.knows S.content S.stored S.most squares.old squares.new }
     ensures refusals { IfErr result (λ e. (e ≡ Full) ⊎ (e ≡ Memory)) }
     ensures full { result ≡ Err Full → length (S.stored squares.new) ≡ S.most squares.new }
     ensures room { result ≡ Err Memory → length (S.stored squares.new) < S.most squares.new }
-    ensures needed { OnErr result ((a b : Tree) × SetsHalves (S.content squares.old left) (S.content squares.old right) a b column row len state × (SomePart (S.needs_node squares.new) a ⊎ SomePart (S.needs_node squares.new) b)) }
+    ensures needed { OnErr result ((a b : Tree) × SetsHalves (S.content squares.old left) (S.content squares.old right) a b span × (SomePart (S.needs_node squares.new) a ⊎ SomePart (S.needs_node squares.new) b)) }
 {
-    let end = column + len;
+    let end = span.column + span.len;
     if end <= half {
-        return Ok((set_span(squares, left, column, row, len, state)?, right));
+        return Ok((set_span(squares, left, span)?, right));
     }
-    if half <= column {
-        return Ok((
-            left,
-            set_span(squares, right, column - half, row, len, state)?,
-        ));
+    if half <= span.column {
+        let column = span.column - half;
+        return Ok((left, set_span(squares, right, Span { column, ..span })?));
     }
-    if left == right && len == half + half {
-        let both = set_span(squares, left, 0, row, half, state)?;
-        return Ok((both, both));
+    let first = Span {
+        len: half - span.column,
+        ..span
+    };
+    let new_left = set_span(squares, left, first)?;
+    if left == right && span.len == half + half {
+        return Ok((new_left, new_left));
     }
-    let new_left = set_span(squares, left, column, row, half - column, state)?;
-    let new_right = set_span(squares, right, 0, row, end - half, state)?;
+    let rest = Span {
+        column: 0,
+        len: end - half,
+        ..span
+    };
+    let new_right = set_span(squares, right, rest)?;
     Ok((new_left, new_right))
 }
 
-/// The root's square with the cells (x, y) to (x + len - 1, y) set.
+/// The root's square with the cells of a run set.
 ///
 /// # Errors
 ///
 /// `Full` where a square is new and the store holds its limit, and `Memory`. After either each Id has its square.
-pub fn put_run<S: Squares>(
-    squares: &mut S,
-    root: Id,
-    x: i64,
-    y: i64,
-    len: u64,
-    state: State,
-) -> Result<Id, Kind>
+pub fn put_run<S: Squares>(squares: &mut S, root: Id, run: Run) -> Result<Id, Kind>
     requires known { S.knows squares.old root }
     requires high { 1 ≤ depth (S.content squares.old root) }
-    requires positive { 1 ≤ len }
-    requires inside { IsRunInside (S.content squares.old root) x y len }
+    requires positive { 1 ≤ run.len }
+    requires inside { IsRunInside (S.content squares.old root) run }
     ensures known { IfOk result (S.knows squares.new) }
-    ensures square { IfOk result (λ r. SetsRun (S.content squares.old root) (S.content squares.new r) x y len state) }
+    ensures square { IfOk result (λ r. SetsRun (S.content squares.old root) (S.content squares.new r) run) }
     ensures keeps { KeepsSquares S.knows S.content S.stored S.most squares.old squares.new }
     ensures refusals { IfErr result (λ e. (e ≡ Full) ⊎ (e ≡ Memory)) }
     ensures full { result ≡ Err Full → length (S.stored squares.new) ≡ S.most squares.new }
     ensures room { result ≡ Err Memory → length (S.stored squares.new) < S.most squares.new }
-    ensures needed { OnErr result ((t : Tree) × SetsRun (S.content squares.old root) t x y len state × SomePart (S.needs_node squares.new) t) }
+    ensures needed { OnErr result ((t : Tree) × SetsRun (S.content squares.old root) t run × SomePart (S.needs_node squares.new) t) }
 {
     let half = half_side(squares.level(root));
-    set_span(squares, root, offset(x, half), offset(y, half), len, state)
+    let span = Span {
+        column: offset(run.x, half),
+        row: offset(run.y, half),
+        len: run.len,
+        state: run.state,
+    };
+    set_span(squares, root, span)
 }

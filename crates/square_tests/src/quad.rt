@@ -4,7 +4,7 @@ ghost use Rattle.std.specs.Prelude.{◌≡◌, ◌≤◌, ◌-◌, ◌^◌, IfOk
 ghost use Rattle.life_base.specs.Tree.{depth};
 ghost use Rattle.life_quad.specs.Keeping.{KeepsSquares};
 
-use life_base::{Bounds, Cell, Kind, MAX_LEVEL};
+use life_base::{Bounds, Cell, Kind, MAX_LEVEL, Run};
 use life_quad::{
     Id, IdList, Plain, Quarters, Shared, SharedSquares, Squares, bounds, cells, divide, grow,
     is_blank, is_blank_at, population, put_run, trim,
@@ -45,7 +45,7 @@ fn put<S: Squares>(
     if x < -half || half <= x || y < -half || half <= y || len > (half - x) as u64 {
         return Err(Kind::OutOfPlane);
     }
-    put_run(squares, root, x, y, len, state)
+    put_run(squares, root, Run { x, y, len, state })
 }
 
 // A row of the greatest square, all its cells in state 1.

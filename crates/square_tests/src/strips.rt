@@ -54,16 +54,16 @@ fn by_rows<S: Squares>(alloc: Global, store: &mut S) -> Result<Id, Kind> {
 // The same runs, put into the plane one by one.
 fn one_by_one<S: Squares>(store: &mut S) -> Result<Id, Kind> {
     let root = store.empty(MAX_LEVEL);
-    let root = put_run(store, root, -(1 << 61), -(1 << 61), 1, 1)?;
-    let root = put_run(store, root, (1 << 61) - 1, -(1 << 61), 1, 2)?;
-    let root = put_run(store, root, -3, -7, 5, 1)?;
-    let root = put_run(store, root, 2, -7, 2, 3)?;
-    let root = put_run(store, root, 5, -7, 1, 1)?;
-    let root = put_run(store, root, -3, -6, 5, 1)?;
-    let root = put_run(store, root, -(1 << 61), 4, 1 << 62, 255)?;
-    let root = put_run(store, root, 1, 9, 3, 1)?;
-    let root = put_run(store, root, -(1 << 61), (1 << 61) - 1, 3, 4)?;
-    put_run(store, root, (1 << 61) - 2, (1 << 61) - 1, 2, 5)
+    let root = put_run(store, root, run(-(1 << 61), -(1 << 61), 1, 1))?;
+    let root = put_run(store, root, run((1 << 61) - 1, -(1 << 61), 1, 2))?;
+    let root = put_run(store, root, run(-3, -7, 5, 1))?;
+    let root = put_run(store, root, run(2, -7, 2, 3))?;
+    let root = put_run(store, root, run(5, -7, 1, 1))?;
+    let root = put_run(store, root, run(-3, -6, 5, 1))?;
+    let root = put_run(store, root, run(-(1 << 61), 4, 1 << 62, 255))?;
+    let root = put_run(store, root, run(1, 9, 3, 1))?;
+    let root = put_run(store, root, run(-(1 << 61), (1 << 61) - 1, 3, 4))?;
+    put_run(store, root, run((1 << 61) - 2, (1 << 61) - 1, 2, 5))
 }
 
 // Two cells that touch at the middle of the plane, in the least square with them.

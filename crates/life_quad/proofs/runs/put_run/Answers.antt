@@ -22,17 +22,18 @@ pub returns : goal.returns
 returns g c =
     let half : c.half_side-half.result ≡ half_side (g.S.Squares.content c.args.squares.now c.args.root) = c.half_side-half.ensures.half
     ∙ ap (λ l. 2 ^ (l - 1)) c.level.ensures.level in
-    let ex : pos c.offset.result ≡ c.args.x +ℤ pos c.half_side-half.result = omega (arith, ints, c.offset.ensures, c.ranges.x) in
-    let ey : pos c.offset-2.result ≡ c.args.y +ℤ pos c.half_side-half.result = omega (arith, ints, c.offset-2.ensures, c.ranges.y) in
-    let x = ex ∙ ap (λ h. c.args.x +ℤ pos h) half in
-    let y = ey ∙ ap (λ h. c.args.y +ℤ pos h) half in
+    let i = c.requires.inside in
+    let ex : pos c.offset.result ≡ c.args.run.x +ℤ pos c.half_side-half.result = omega (arith, ints, c.offset.ensures, i.west, i.east) in
+    let ey : pos c.offset-2.result ≡ c.args.run.y +ℤ pos c.half_side-half.result = omega (arith, ints, c.offset-2.ensures, i.north, i.south) in
+    let x = ex ∙ ap (λ h. c.args.run.x +ℤ pos h) half in
+    let y = ey ∙ ap (λ h. c.args.run.y +ℤ pos h) half in
     let call = c.set_span.ensures in
     record {
       known = call.known;
-      square = IfOk-weaker c.set_span.result _ _ (λ r s. SetsRun-span _ _ _ _ _ _ _ _ c.requires.high c.requires.inside x y s) call.square;
+      square = IfOk-weaker c.set_span.result _ _ (λ r s. SetsRun-span _ _ _ _ _ c.requires.high i x y s) call.square;
       keeps = call.keeps;
       refusals = call.refusals;
       full = call.full;
       room = call.room;
-      needed = on_err_weaker c.set_span.result (λ s. (s.0, SetsRun-span _ _ _ _ _ _ _ _ c.requires.high c.requires.inside x y s.1, s.2)) call.needed;
+      needed = on_err_weaker c.set_span.result (λ s. (s.0, SetsRun-span _ _ _ _ _ c.requires.high i x y s.1, s.2)) call.needed;
     }
