@@ -28,6 +28,7 @@ pub mod PutItems
 pub mod TakeCells
 pub mod LineKinds
 pub mod Stands
+pub mod RunEnds
 pub mod RunsLaws
 pub mod ItemsLaws
 pub mod DecidedLaw

@@ -15,6 +15,9 @@ use crate::item::{Item, Token, next_item};
 use bstr::ByteSlice;
 use life_base::{Kind, MAX_LEVEL, Rule, Run};
 
+/// A line of more bytes is long: its runs are counted before there is room for them.
+const LONG_LINE: usize = 256;
+
 /// Where the items of a line end: the place behind them, and whether `!` stands there.
 #[derive(Clone, Copy)]
 pub(crate) struct ItemsRead {
@@ -57,6 +60,17 @@ fn run_ends(text: &[u8]) -> usize
     count
 }
 
+/// How many runs a line brings at most. Those of a line that is long are counted; else it may have one at each byte.
+fn most_runs(line: &[u8]) -> usize
+    ensures { length (filter is_run_end (take_while (λ b. not (b == byte "!")) line.now)) ≤ result }
+{
+    if line.len() <= LONG_LINE {
+        line.len()
+    } else {
+        run_ends(before_mark(line))
+    }
+}
+
 /// Makes room for the runs of a line, so that it takes memory once at most. Where there is room for a run at each byte they aren't counted.
 fn reserve_runs(line: &[u8], runs: &mut Vec<Run>) -> Result<(), Kind>
     ensures runs { runs.new.items ≡ runs.old.items }
@@ -64,7 +78,7 @@ fn reserve_runs(line: &[u8], runs: &mut Vec<Run>) -> Result<(), Kind>
     ensures memory { IfErr result (λ kind. kind ≡ Kind.Memory) }
 {
     if runs.capacity() - runs.len() < line.len() {
-        runs.reserve(run_ends(before_mark(line)))?;
+        runs.reserve(most_runs(line))?;
     }
     Ok(())
 }
