@@ -22,7 +22,7 @@ use Rattle.life_rle.specs.Position.{default_position}
 use Rattle.life_rle.specs.Runs.{runs_of}
 use Rattle.life_rle.specs.RunsLaw.{AreGoodRuns, state_by, has_cell}
 use Rattle.life_rle.specs.States.{is_state_of}
-use Rattle.life_rle.specs.declared.file.Run.{Run}
+use Rattle.life_base.specs.declared.cell.Run.{Run}
 use Rattle.life_rle.proofs.RunsLaws.{runs_are_cells, blank_outside}
 use Rattle.life_rle.proofs.Unique.{IsRle-unique}
 use Rattle.life_rle.proofs.ValidFiles.{files_are_valid as rles_are_valid}

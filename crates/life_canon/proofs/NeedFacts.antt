@@ -1,12 +1,13 @@
 -- The squares that a refused call lacked: of the root that is grown or trimmed, of runs, and of lines with more lines behind them.
-use Rattle.std.proofs.Common.{◌≡◌, ℕ, zero, suc, ◌+◌, ◌-◌, ◌<◌, ◌≤◌, true, List, [], ◌∷◌, ◌++◌, length, take, drop, get_or, map, max, refl, ap, sym, ◌∙◌, subst, arith, ◌⊎◌, inl, inr, append_assoc, drop-cons, ℤ, ◌+ℤ◌, pos}
+use Rattle.std.proofs.Common.{◌≡◌, ℕ, zero, suc, ◌+◌, ◌-◌, ◌<◌, ◌≤◌, true, List, [], ◌∷◌, ◌++◌, length, take, drop, get_or, max, refl, ap, sym, ◌∙◌, subst, arith, ◌⊎◌, inl, inr, append_assoc, drop-cons, ℤ, ◌+ℤ◌, pos}
 use Rattle.std.specs.Prelude.{nat_abs}
-use Rattle.std.proofs.lemmas.List.{append-nil, map-append, take-append-drop}
+use Rattle.std.proofs.lemmas.List.{append-nil, take-append-drop}
 use Rattle.life_base.proofs.Squares.{depth-blank}
 use Rattle.life_base.specs.Lines.{has_no_feed, whole_lines}
 use Rattle.life_base.specs.Refusal.{fault_at, fault_of}
 use Rattle.life_base.specs.Text.{lines_of}
 use Rattle.life_base.specs.declared.cell.TheConstants.{MAX_LEVEL}
+use Rattle.life_base.specs.declared.cell.Run.{Run}
 use Rattle.life_base.specs.declared.fault.Fault.{Fault}
 use Rattle.life_base.specs.declared.kind.Kind.{Kind}
 use Rattle.life_base.specs.declared.kind.Kind.TheVariants.{Full}
@@ -14,10 +15,8 @@ use Rattle.life_base.specs.Tree.{Tree, point, quad, depth, tree_cell, IsFull}
 use Rattle.life_base.proofs.WholeLines.{lines_are_whole}
 use Rattle.life_base.specs.Lines.{rest_line, one_line}
 use Rattle.life_rle.specs.File.{HasRuns}
-use Rattle.life_rle.specs.declared.file.Run.{Run}
-use Rattle.life_strip.specs.Given.{GivenRun, half_plane, state_by, by_columns}
+use Rattle.life_strip.specs.Given.{half_plane, state_by, by_columns}
 use Rattle.life_strip.specs.Needed.{SomeSquare}
-use Rattle.life_canon.specs.Building.{given}
 use Rattle.life_canon.specs.Files.{is_macrocell}
 use Rattle.life_canon.specs.Taking.{IsGoing, IsEnd, taken}
 use Rattle.life_canon.specs.declared.feeding.Progress.{Progress}
@@ -144,31 +143,25 @@ root-trimmed P u t n full high cells s =
 -- ---- runs
 
 -- the square of the runs before the next one
-pub runs-above : (P : Tree → Type 0) (before so_far : List GivenRun) (runs : List Run) (i : ℕ) (d : Run) → i < length runs
-    → so_far ≡ before ++ map given (take i runs)
-    → SomeSquare P (nat_abs ((get_or runs i d).y +ℤ pos half_plane)) (by_columns (state_by so_far)) → SomeOfRuns P (before ++ map given runs)
+pub runs-above : (P : Tree → Type 0) (before so_far : List Run) (runs : List Run) (i : ℕ) (d : Run) → i < length runs
+    → so_far ≡ before ++ take i runs
+    → SomeSquare P (nat_abs ((get_or runs i d).y +ℤ pos half_plane)) (by_columns (state_by so_far)) → SomeOfRuns P (before ++ runs)
 runs-above P before so_far runs i d h e s =
     let split : runs ≡ take i runs ++ get_or runs i d ∷ drop (suc i) runs =
     sym (take-append-drop i runs) ∙ ap (λ (l : List Run). take i runs ++ l) (drop-cons runs i d h) in
     record {
       before = so_far;
-      run = given (get_or runs i d);
-      behind = map given (drop (suc i) runs);
-      are = ap (λ (l : List Run). before ++ map given l) split
-          ∙ ap (λ (l : List GivenRun). before ++ l) (map-append given (take i runs) (get_or runs i d ∷ drop (suc i) runs))
-          ∙ sym (append_assoc before (map given (take i runs)) (given (get_or runs i d) ∷ map given (drop (suc i) runs)))
-          ∙ ap (λ (l : List GivenRun). l ++ given (get_or runs i d) ∷ map given (drop (suc i) runs)) (sym e);
+      run = get_or runs i d;
+      behind = drop (suc i) runs;
+      are = ap (λ (l : List Run). before ++ l) split ∙ sym (append_assoc before (take i runs) (get_or runs i d ∷ drop (suc i) runs))
+          ∙ ap (λ (l : List Run). l ++ get_or runs i d ∷ drop (suc i) runs) (sym e);
       above = s;
     }
 
--- the runs of a line, behind those of the lines before it
-pub line-runs : (P : Tree → Type 0) (lines : List (List ℕ)) (before runs : List Run) (so_far : List GivenRun) (given_now : List Run)
-    → HasRuns MAX_LEVEL lines (before ++ runs)
-    → so_far ≡ map given before → given_now ≡ runs → SomeOfRuns P (so_far ++ map given given_now) → SomeOfLines MAX_LEVEL P lines
-line-runs P lines before runs so_far given_now h e f s =
-    of_runs lines [] (before ++ runs) (sym (append-nil lines)) h
-    (subst (SomeOfRuns P) (ap (λ (l : List GivenRun). l ++ map given given_now) e ∙ ap (λ (l : List Run). map given before ++ map given l) f
-    ∙ sym (map-append given before runs)) s)
+-- the runs of the lines so far
+pub line-runs : (P : Tree → Type 0) (lines : List (List ℕ)) (runs : List Run) → HasRuns MAX_LEVEL lines runs → SomeOfRuns P runs
+    → SomeOfLines MAX_LEVEL P lines
+line-runs P lines runs h s = of_runs lines [] runs (sym (append-nil lines)) h s
 
 -- the same square of other runs with the same cells
 pub same-square : {P : Tree → Type 0} (rows : ℕ) (f g : ℤ → ℤ → ℕ) → ((x y : ℤ) → f x y ≡ g x y) → SomeSquare P rows (by_columns f)

@@ -1,9 +1,10 @@
 -- The patterns that are made of the lines of a file, and the faults of lines.
-use Rattle.std.proofs.Common.{◌≡◌, ℕ, suc, ◌+◌, ◌-◌, ◌<◌, ◌≤◌, Bool, true, false, cond, List, [], ◌∷◌, ◌++◌, length, map, refl, ap, sym, ◌∙◌, subst, arith, ◌⊎◌, inl, inr, Some, ℤ, length-append}
+use Rattle.std.proofs.Common.{◌≡◌, ℕ, suc, ◌+◌, ◌-◌, ◌<◌, ◌≤◌, Bool, true, false, cond, List, [], ◌∷◌, ◌++◌, length, refl, ap, sym, ◌∙◌, subst, arith, ◌⊎◌, inl, inr, Some, ℤ, length-append}
 use Rattle.std.specs.Prelude.{MatchBool, Result, Ok, Err, OnOk, IfErr}
 use Rattle.life_base.specs.Refusal.{Prefix}
 use Rattle.life_base.specs.Tree.{Tree, depth, tree_cell, IsFull}
 use Rattle.life_base.specs.declared.cell.TheConstants.{MAX_LEVEL}
+use Rattle.life_base.specs.declared.cell.Run.{Run}
 use Rattle.life_base.specs.declared.kind.Kind.{Kind}
 use Rattle.life_base.specs.declared.kind.Kind.TheVariants.{Full, Memory, Spent, NoHeader}
 use Rattle.life_base.specs.declared.rule.Rule.{Rule}
@@ -21,13 +22,11 @@ use Rattle.life_rle.specs.Grammar.{IsRle, Breaks as BreaksRle, is_rle_kind}
 use Rattle.life_rle.specs.Pattern.{Rle, cell as rle_cell}
 use Rattle.life_rle.specs.Position.{default_position}
 use Rattle.life_rle.specs.RunsLaw.{state_by as rle_state_by, has_cell}
-use Rattle.life_rle.specs.declared.file.Run.{Run}
 use Rattle.life_rle.proofs.LineKinds.{Breaks-kind}
 use Rattle.life_rle.proofs.DecidedLaw.{decided}
 use Rattle.life_rle.proofs.RunsLaws.{runs_are_cells}
 use Rattle.life_rle.proofs.Unique.{IsRle-unique}
 use Rattle.life_strip.specs.Given.{state_by}
-use Rattle.life_canon.specs.Building.{given}
 use Rattle.life_canon.specs.Files.{Breaks, is_macrocell}
 use Rattle.life_canon.specs.Store.{IsWantKind}
 use Rattle.life_canon.specs.Taking.{taken}
@@ -64,17 +63,17 @@ trimmed-whole top u t full low le cells =
 
 -- ---- the cells of runs
 
-given-cells : (runs : List Run) (x y : ℤ) → state_by (map given runs) x y ≡ rle_state_by runs x y
-given-cells [] x y = refl
-given-cells (run ∷ runs) x y = ap (λ (n : ℕ). cond (has_cell run x y) run.state n) (given-cells runs x y)
+same-cells : (runs : List Run) (x y : ℤ) → state_by runs x y ≡ rle_state_by runs x y
+same-cells [] x y = refl
+same-cells (run ∷ runs) x y = ap (λ (n : ℕ). cond (has_cell run x y) run.state n) (same-cells runs x y)
 
 -- the runs of lines that are a file have its cells
 pub file-cells : (lines : List (List ℕ)) (runs : List Run) (file : Rle) → HasRuns MAX_LEVEL lines runs → IsRle MAX_LEVEL lines file → (x y : ℤ)
-    → state_by (map given runs) x y ≡ rle_cell file x y
+    → state_by runs x y ≡ rle_cell file x y
 file-cells lines runs file (inl h) r x y = absurd ((decided MAX_LEVEL lines).1 (file, r) (h.0, h.1))
 file-cells lines runs file (inr h) r x y =
     let same : h.0 ≡ file = IsRle-unique MAX_LEVEL lines h.0 file h.1 r in
-    given-cells runs x y ∙ ap (λ (rs : List Run). rle_state_by rs x y) h.2
+    same-cells runs x y ∙ ap (λ (rs : List Run). rle_state_by rs x y) h.2
     ∙ sym ((runs_are_cells MAX_LEVEL lines h.0 h.1).2 x y) ∙ ap (λ (f : Rle). rle_cell f x y) same
 
 -- ---- node lines

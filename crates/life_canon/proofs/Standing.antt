@@ -25,7 +25,7 @@ squares-stay lines ids k h = record {
 stays : (old new : Nodes) → KeepsContents old new → (p : Progress) → StandsFor (IsKnown old) (content old) p → StandsFor (IsKnown new) (content new) p
 stays old new k progress.Undecided h = tt
 stays old new k (progress.Rle reader builder runs) h =
-    record { runs = h.runs; are = h.are; same = h.same; filling = filling-stays Nodes IsKnown content old new builder k h.filling }
+    record { are = h.are; filling = filling-stays Nodes IsKnown content old new builder k h.filling }
 stays old new k (progress.Macrocell reader ids) h = squares-stay _ ids.items k h
 
 pub readers_stand : ReadersStand

@@ -1,10 +1,11 @@
 -- The squares that are stored while a file is read: those of its node lines, or of the plane that its runs fill, and those through which its
 -- root is grown or trimmed. After `Full` the store lacks one of them. The project's own.
-use Rattle.std.specs.Prelude.{◌≡◌, ℕ, zero, suc, ◌+◌, ◌-◌, ◌^◌, ◌<◌, ◌≤◌, false, max, if◌then◌else◌, List, [], ◌∷◌, ◌++◌, map, Contains, nat_abs, ◌+ℤ◌, pos}
+use Rattle.std.specs.Prelude.{◌≡◌, ℕ, zero, suc, ◌+◌, ◌-◌, ◌^◌, ◌<◌, ◌≤◌, false, max, if◌then◌else◌, List, [], ◌∷◌, ◌++◌, Contains, nat_abs, ◌+ℤ◌, pos}
 use Rattle.life_base.specs.Lines.{whole_lines}
 use Rattle.life_base.specs.Refusal.{Prefix}
 use Rattle.life_base.specs.Text.{lines_of}
 use Rattle.life_base.specs.Tree.{Tree, quad, depth, is_blank_tree}
+use Rattle.life_base.specs.declared.cell.Run.{Run}
 use Rattle.life_mc.specs.Cells.{root_level}
 use Rattle.life_mc.specs.Reading.{Accepts, squares_of}
 use Rattle.life_mc.specs.Squares.{tree_of, leaf_tree}
@@ -14,10 +15,8 @@ use Rattle.life_quad.specs.Moves.{grown}
 use Rattle.life_quad.specs.Refused.{SomePart}
 use Rattle.life_quad.specs.Store.{Nodes, held}
 use Rattle.life_rle.specs.File.{HasRuns}
-use Rattle.life_rle.specs.declared.file.Run.{Run}
-use Rattle.life_strip.specs.Given.{GivenRun, half_plane, state_by, by_columns}
+use Rattle.life_strip.specs.Given.{half_plane, state_by, by_columns}
 use Rattle.life_strip.specs.Needed.{SomeSquare}
-use Rattle.life_canon.specs.Building.{given}
 use Rattle.life_canon.specs.Files.{Says, is_macrocell}
 use Rattle.life_canon.specs.Universe.{Universe, IsBlankOutside, least_level, centred}
 
@@ -32,10 +31,10 @@ SomeOfLine P lines (Quad level nw ne sw se) =
     P (quad (tree_of lines (level - 1) nw) (tree_of lines (level - 1) ne) (tree_of lines (level - 1) sw) (tree_of lines (level - 1) se))
 
 -- a square of runs has a property: a square of the plane above the row in which one of them begins, with the cells of the runs before it
-pub record SomeOfRuns (P : Tree → Type 0) (runs : List GivenRun) : Type 0 where
-  pub before : List GivenRun
-  pub run : GivenRun
-  pub behind : List GivenRun
+pub record SomeOfRuns (P : Tree → Type 0) (runs : List Run) : Type 0 where
+  pub before : List Run
+  pub run : Run
+  pub behind : List Run
   pub are : runs ≡ before ++ run ∷ behind
   pub above : SomeSquare P (nat_abs (run.y +ℤ pos half_plane)) (by_columns (state_by before))
 
@@ -44,7 +43,7 @@ pub data SomeOfLines (top : ℕ) (P : Tree → Type 0) (lines : List (List ℕ))
   of_node_line : (before : List (List ℕ)) (line : List ℕ) (behind : List (List ℕ)) (square : Line) → lines ≡ before ++ line ∷ behind
       → Prefix (Accepts top) (before ++ line ∷ []) → squares_of (before ++ line ∷ []) ≡ squares_of before ++ square ∷ []
       → SomeOfLine P (squares_of before) square → SomeOfLines top P lines
-  of_runs : (front behind : List (List ℕ)) (runs : List Run) → lines ≡ front ++ behind → HasRuns top front runs → SomeOfRuns P (map given runs)
+  of_runs : (front behind : List (List ℕ)) (runs : List Run) → lines ≡ front ++ behind → HasRuns top front runs → SomeOfRuns P runs
       → SomeOfLines top P lines
 
 -- the square, grown as often as this

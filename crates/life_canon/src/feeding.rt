@@ -1,6 +1,6 @@
 //! The lines of a file of either format, put into a store as they come.
 
-ghost use Rattle.std.specs.Prelude.{◌≡◌, ◌↔◌, ◌⊎◌, ◌++◌, ◌∷◌, [], ℕ, ◌<◌, ◌≤◌, List, length, ℤ, Some, IsTrue, true, false, Err, IfOk, IfErr, OnOk, map, max};
+ghost use Rattle.std.specs.Prelude.{◌≡◌, ◌↔◌, ◌⊎◌, ◌++◌, ◌∷◌, [], ℕ, ◌<◌, ◌≤◌, List, length, ℤ, Some, IsTrue, true, false, Err, IfOk, IfErr, OnOk, max};
 ghost use Rattle.life_base.specs.declared.kind.Kind.TheVariants.{Full, Memory, NoHeader};
 ghost use Rattle.life_base.specs.Refusal.{Prefix};
 ghost use Rattle.life_base.specs.Tree.{depth, tree_cell};
@@ -13,7 +13,7 @@ ghost use Rattle.life_rle.specs.Decided.{LacksHeader};
 ghost use Rattle.life_rle.specs.File.{HasRuns};
 ghost use Rattle.life_rle.specs.Grammar.{Breaks as BreaksRle, IsSomeRle};
 ghost use Rattle.life_strip.specs.Filling.{IsFilling};
-ghost use Rattle.life_canon.specs.Building.{IsBuilt, AreNext, given};
+ghost use Rattle.life_canon.specs.Building.{IsBuilt, AreNext};
 ghost use Rattle.life_canon.specs.Files.{Breaks, Says, is_macrocell};
 ghost use Rattle.life_canon.specs.Store.{IsKnown, content, Keeps, IsWantKind, IsPatternOf};
 ghost use Rattle.life_canon.specs.Filling.{AreSquaresOf};
@@ -23,10 +23,10 @@ ghost use Rattle.life_canon.specs.Universe.{Universe};
 
 use crate::filling::{grow_to, line_square};
 use crate::pattern::{Pattern, least_level};
-use life_base::{Kind, MAX_LEVEL, Rule, begins_with};
+use life_base::{Kind, MAX_LEVEL, Rule, Run, begins_with};
 use life_mc::McLines;
 use life_quad::{Id, Shared, Squares, trim};
-use life_rle::{RleLines, Run};
+use life_rle::RleLines;
 use life_strip::Builder;
 use std::alloc::Global;
 
@@ -46,14 +46,14 @@ fn add_runs<S: Squares>(squares: &mut S, builder: &mut Builder, runs: &[Run]) ->
     requires filling { IsFilling (S.knows squares.old) (S.content squares.old) builder.old }
     requires next { AreNext builder.old.runs runs.now }
     ensures filling { OnOk result (IsFilling (S.knows squares.new) (S.content squares.new) builder.new) }
-    ensures runs { OnOk result (builder.new.runs ≡ builder.old.runs ++ map given runs.now) }
+    ensures runs { OnOk result (builder.new.runs ≡ builder.old.runs ++ runs.now) }
     ensures refusals { IfErr result (λ e. (e ≡ Full) ⊎ (e ≡ Memory)) }
     ensures keeps { KeepsSquares S.knows S.content S.stored S.most squares.old squares.new }
     ensures full { result ≡ Err Full → length (S.stored squares.new) ≡ S.most squares.new }
-    ensures needed { result ≡ Err Full → SomeOfRuns (S.needs_node squares.new) (builder.old.runs ++ map given runs.now) }
+    ensures needed { result ≡ Err Full → SomeOfRuns (S.needs_node squares.new) (builder.old.runs ++ runs.now) }
 {
     for run in runs {
-        builder.add_run(squares, run.x, run.y, run.len, run.state)?;
+        builder.add_run(squares, *run)?;
     }
     Ok(())
 }

@@ -1,16 +1,15 @@
-use Rattle.std.proofs.Common.{◌≡◌, List, [], ◌∷◌, ◌++◌, map, sym, ap, ◌∙◌, subst}
-use Rattle.std.proofs.lemmas.List.{map-append}
+use Rattle.std.proofs.Common.{◌≡◌, List, [], ◌∷◌, ◌++◌, sym, ap, ◌∙◌, subst}
 use Rattle.std.proofs.lemmas.Result.{err_from_is_err_and}
 use Rattle.life_base.specs.Lines.{LinesRead}
 use Rattle.life_base.specs.declared.cell.TheConstants.{MAX_LEVEL}
 use Rattle.life_base.specs.declared.kind.Kind.{Kind}
+use Rattle.life_rle.specs.File.{HasRuns}
 use Rattle.life_rle.specs.Grammar.{Breaks as BreaksRle}
-use Rattle.life_rle.specs.declared.file.Run.{Run}
-use Rattle.life_strip.specs.Given.{GivenRun}
-use Rattle.life_canon.specs.Building.{AreNext, given}
+use Rattle.life_base.specs.declared.cell.Run.{Run}
+use Rattle.life_canon.specs.Building.{AreNext}
 use Rattle.life_canon.proofs.BuildFacts.{lines-next}
 use Rattle.life_canon.proofs.PatternFacts.{both-ok, not-full-rle, told-fault}
-use Rattle.life_canon.specs.Needs.{SomeOfLines}
+use Rattle.life_canon.specs.Needs.{SomeOfLines, SomeOfRuns}
 use Rattle.life_canon.proofs.NeedFacts.{line-runs}
 use Rattle.life_canon.proofs.feeding.take_rle_line.Goals as goal
 
@@ -33,8 +32,8 @@ add_runs-requires-clause-next g c =
     let built = c.requires.built in
     let added = c.in_ok-line_into.ensures.runs in
     let all : c.deref.result.now ≡ added.runs = c.deref.ensures.value ∙ added.added ∙ ap (λ (l : List Run). l ++ added.runs) c.clear.ensures.items in
-    subst (λ (l : List GivenRun). AreNext l c.deref.result.now) (sym built.same)
-    (subst (AreNext (map given built.runs)) (sym all) (lines-next c.line_into.new.self.lines built.runs added.runs (added.found built.runs built.are)))
+    subst (AreNext c.args.builder.now.runs) (sym all)
+    (lines-next c.line_into.new.self.lines c.args.builder.now.runs added.runs (added.found c.args.builder.now.runs built.are))
 
 pub returns-clause-built : goal.returns-clause-built
 returns-clause-built g c =
@@ -42,10 +41,8 @@ returns-clause-built g c =
     let added = c.in_ok-line_into.ensures.runs in
     let all : c.deref.result.now ≡ added.runs = c.deref.ensures.value ∙ added.added ∙ ap (λ (l : List Run). l ++ added.runs) c.clear.ensures.items in
     both-ok c.add_runs.result c.add_runs.ensures.filling c.add_runs.ensures.runs (λ filling runs. record {
-      runs = built.runs ++ added.runs;
-      are = added.found built.runs built.are;
-      same = runs ∙ ap (λ (l : List GivenRun). l ++ map given c.deref.result.now) built.same ∙ ap (λ (l : List Run). map given built.runs ++ map given l) all
-          ∙ sym (map-append given built.runs added.runs);
+      are = subst (HasRuns MAX_LEVEL c.line_into.new.self.lines) (sym (runs ∙ ap (λ (l : List Run). c.args.builder.now.runs ++ l) all))
+          (added.found c.args.builder.now.runs built.are);
       filling = filling;
     })
 
@@ -63,5 +60,5 @@ returns-clause-needed g c =
     let all : c.deref.result.now ≡ added.runs = c.deref.ensures.value ∙ added.added ∙ ap (λ (l : List Run). l ++ added.runs) c.clear.ensures.items in
     let more : c.line_into.new.self.lines ≡ c.args.lines.now.lines ++ c.args.line.now ∷ [] = ap (λ (v : LinesRead). v.lines) c.in_ok-line_into.ensures.lines in
     λ e. subst (SomeOfLines MAX_LEVEL P) more
-    (line-runs P c.line_into.new.self.lines built.runs added.runs c.args.builder.now.runs c.deref.result.now (added.found built.runs built.are) built.same all
-    (c.add_runs.ensures.needed e))
+    (line-runs P c.line_into.new.self.lines (c.args.builder.now.runs ++ added.runs) (added.found c.args.builder.now.runs built.are)
+    (subst (λ (l : List Run). SomeOfRuns P (c.args.builder.now.runs ++ l)) all (c.add_runs.ensures.needed e)))

@@ -10,9 +10,8 @@ use Rattle.life_canon.proofs.feeding.Progress.begun.Goals as goal
 
 pub returns-else-begins_with-clause-stands : goal.returns-else-begins_with-clause-stands
 returns-else-begins_with-clause-stands c = λ store. record {
-  runs = [];
-  are = subst (λ (ls : List (List ℕ)). HasRuns MAX_LEVEL ls []) (sym (ap (λ (v : LinesRead). v.lines) c.new-else-begins_with.ensures))
-      (inl (default_position, refl, refl));
-  same = c.new-else-begins_with-2.ensures.runs;
+  are = subst (HasRuns MAX_LEVEL c.new-else-begins_with.result.lines) (sym c.new-else-begins_with-2.ensures.runs)
+      (subst (λ (ls : List (List ℕ)). HasRuns MAX_LEVEL ls []) (sym (ap (λ (v : LinesRead). v.lines) c.new-else-begins_with.ensures))
+      (inl (default_position, refl, refl)));
   filling = empty-fills Nodes IsKnown content store c.new-else-begins_with-2.result c.new-else-begins_with-2.ensures.empty;
 }

@@ -9,7 +9,7 @@ use Rattle.life_mc.proofs.Accepted.{lines_are_valid}
 use Rattle.life_mc.proofs.Grammars.{grammars_agree}
 use Rattle.life_quad.specs.declared.id.Id.{Id}
 use Rattle.std.proofs.lemmas.Result.{IfOk-weaker}
-use Rattle.life_strip.specs.Given.{GivenRun, state_by}
+use Rattle.life_strip.specs.Given.{state_by}
 use Rattle.life_quad.proofs.KeepingLemmas.{keeps-then}
 use Rattle.life_canon.specs.Files.{Says, as_rle, as_macrocell, is_macrocell}
 use Rattle.life_canon.specs.Needs.{IsNew, SomeRoot, of_plane, of_root, level_of_root}
@@ -42,8 +42,8 @@ returns-in-Rle-clause-pattern c =
     IfOk-weaker c.trimmed_pattern.result _ _
     (λ pattern h. (u, subst (λ (ls : List (List ℕ)). Says MAX_LEVEL ls u) (sym (ap taken c.in-Rle.is)) (as_rle found.0 found.1), h))
     (c.trimmed_pattern.ensures.pattern u (sym found.2) (sym found.3)
-    (λ x y. c.in_ok-root-in-Rle.ensures.cells x y ∙ ap (λ (rs : List GivenRun). state_by rs x y) built.same
-    ∙ file-cells c.in-Rle.lines.lines built.runs found.0 built.are found.1 x y))
+    (λ x y. c.in_ok-root-in-Rle.ensures.cells x y
+    ∙ file-cells c.in-Rle.lines.lines c.in-Rle.builder.runs found.0 built.are found.1 x y))
 
 pub returns-in-Rle-clause-keeps : goal.returns-in-Rle-clause-keeps
 returns-in-Rle-clause-keeps c = keeps-then c.in_ok-root-in-Rle.ensures.keeps c.trimmed_pattern.ensures.keeps
@@ -86,7 +86,7 @@ returns-in_err-root-in-Rle-clause-needed c =
     rw (p.1, p.2)
     (λ e. of_plane u (subst (λ (ls : List (List ℕ)). Says MAX_LEVEL ls u) (sym lines) (as_rle found.0 found.1)) (ap is_macrocell lines ∙ begun.format)
     (same-square (2 ^ MAX_LEVEL) (state_by c.in-Rle.builder.runs) u.cell
-    (λ x y. ap (λ (rs : List GivenRun). state_by rs x y) built.same ∙ file-cells c.in-Rle.lines.lines built.runs found.0 built.are found.1 x y)
+    (λ x y. file-cells c.in-Rle.lines.lines c.in-Rle.builder.runs found.0 built.are found.1 x y)
     (c.in_err-root-in-Rle.ensures.needed (cc))))
 
 pub returns-in-Rle-clause-needed : goal.returns-in-Rle-clause-needed
@@ -100,8 +100,8 @@ returns-in-Rle-clause-needed c = λ e.
     of_root u (subst (λ (ls : List (List ℕ)). Says MAX_LEVEL ls u) (sym lines) (as_rle found.0 found.1))
     (subst (SomeRoot (IsNew c.trimmed_pattern.new.squares) u) level
     (c.trimmed_pattern.ensures.needed e u (sym found.2)
-    (λ x y. c.in_ok-root-in-Rle.ensures.cells x y ∙ ap (λ (rs : List GivenRun). state_by rs x y) built.same
-    ∙ file-cells c.in-Rle.lines.lines built.runs found.0 built.are found.1 x y)))
+    (λ x y. c.in_ok-root-in-Rle.ensures.cells x y
+    ∙ file-cells c.in-Rle.lines.lines c.in-Rle.builder.runs found.0 built.are found.1 x y)))
 
 pub returns-clause-needed : goal.returns-clause-needed
 returns-clause-needed c = λ e.
