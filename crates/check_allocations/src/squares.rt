@@ -1,6 +1,6 @@
 //! Squares in a store.
 
-ghost use Rattle.std.specs.Prelude.{◌≡◌, ◌^◌, pos, neg_ℤ, IfOk};
+ghost use Rattle.std.specs.Prelude.{◌≡◌, IfOk};
 ghost use Rattle.life_base.specs.Tree.{depth};
 
 use life_base::{Bounds, Cell, Fault, Kind, MAX_LEVEL, Run, State};
@@ -120,16 +120,12 @@ pub(crate) fn bounded<S: SharedSquares>(alloc: Global, squares: &mut S) -> Resul
 }
 
 // A row of the plane, from its west side on.
-fn whole_row(y: i64) -> Run
-    ensures { result ≡ record { x = neg_ℤ (pos (2 ^ 61)); y = y; len = 2 ^ 62; state = 1 } }
-{
-    Run {
-        x: -(1 << 61),
-        y,
-        len: 1 << 62,
-        state: 1,
-    }
-}
+const WHOLE_ROW: Run = Run {
+    x: -2305843009213693952,
+    y: 0,
+    len: 4611686018427387904,
+    state: 1,
+};
 
 /// Two rows of the plane, each put as one run: the number and the box of the cells of the first, and the number of those of both.
 pub(crate) fn rows_measured<S: SharedSquares>(
@@ -137,10 +133,10 @@ pub(crate) fn rows_measured<S: SharedSquares>(
     squares: &mut S,
 ) -> Result<bool, Fault> {
     let blank = squares.empty(MAX_LEVEL);
-    let one = put_run(squares, blank, whole_row(0))?;
+    let one = put_run(squares, blank, WHOLE_ROW)?;
     let number = population(alloc, squares, one)?;
     let least = bounds(alloc, squares, one)?;
-    let two = put_run(squares, one, whole_row(1))?;
+    let two = put_run(squares, one, Run { y: 1, ..WHOLE_ROW })?;
     let both = population(alloc, squares, two)?;
     let row = Bounds {
         left: -2305843009213693952,
@@ -163,7 +159,7 @@ fn is_refused<T: Drop>(answer: Result<T, Kind>, reason: Kind) -> Result<bool, Fa
 /// A row of the plane in a store for 61 nodes, which is one too few.
 pub(crate) fn row_refused(squares: &mut Shared) -> Result<bool, Fault> {
     let blank = squares.empty(MAX_LEVEL);
-    let row = put_run(squares, blank, whole_row(0));
+    let row = put_run(squares, blank, WHOLE_ROW);
     Ok(is_refused(row, Kind::Full)? && squares.len() == 61)
 }
 
