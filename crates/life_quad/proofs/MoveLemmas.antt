@@ -1,5 +1,5 @@
 -- Facts about squares made of other squares.
-use Rattle.std.proofs.Common.{◌≡◌, ℕ, zero, suc, ◌+◌, ◌≤◌, Bool, true, false, nat_lt, refl, sym, ◌∙◌, ap, arith, List, map, get_or}
+use Rattle.std.proofs.Common.{◌≡◌, ℕ, zero, suc, ◌+◌, ◌≤◌, Bool, true, false, nat_lt, refl, sym, ◌∙◌, ap, subst, arith, List, map, get_or}
 use Rattle.std.specs.List.{list_all}
 use Rattle.std.proofs.lemmas.Grind.{common_steps}
 use Rattle.life_quad.specs.declared.id.Id.{Id}
@@ -22,6 +22,14 @@ pub quad_of_parts : (C : Id → Tree) (t : Tree) (ids : List Id) (z : Id) → 1 
     → t ≡ quad (C (get_or ids 0 z)) (C (get_or ids 1 z)) (C (get_or ids 2 z)) (C (get_or ids 3 z))
 quad_of_parts C (point s) ids z deep e = absurd (omega arith)
 quad_of_parts C (quad p q r s) ids z deep e = grind (arith, common_steps)
+
+-- each quarter of a square is one level lower
+pub levels_of_parts : (t a b c d : Tree) → IsFull t → t ≡ quad a b c d
+    → (depth a + 1 ≡ depth t) × (depth b + 1 ≡ depth t) × (depth c + 1 ≡ depth t) × (depth d + 1 ≡ depth t)
+levels_of_parts t a b c d full is =
+    let f = subst IsFull is full in
+    let e : depth t ≡ suc (depth a) = ap depth is in
+    (omega (arith, e), omega (arith, e, f.4), omega (arith, e, f.5), omega (arith, e, f.6))
 
 -- the square of the inner grandchildren is one level lower
 pub depth-inner : (t : Tree) → IsFull t → 2 ≤ depth t → depth (inner t) + 1 ≡ depth t

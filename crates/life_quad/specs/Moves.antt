@@ -1,7 +1,20 @@
 -- Squares made of other squares: one level higher, and without blank outer grandchildren.
-use Rattle.std.specs.Prelude.{ℕ, zero, suc, Bool, ◌&&◌, nat_lt, if◌then◌else◌, List, [], ◌∷◌}
+use Rattle.std.specs.Prelude.{◌≡◌, ◌+◌, ℕ, zero, suc, Bool, ◌&&◌, nat_lt, if◌then◌else◌, List, [], ◌∷◌}
 use Rattle.std.specs.List.{list_all}
 use Rattle.life_base.specs.Tree.{Tree, point, quad, depth, blank, is_blank_tree}
+use Rattle.life_quad.specs.declared.id.Id.{Id}
+use Rattle.life_quad.specs.declared.moves.Quarters.{Quarters}
+
+-- of the quarters of a square: each is known, and one level lower
+pub record AreQuarters (knows : Id → Type 0) (content : Id → Tree) (t : Tree) (quarters : Quarters) : Type 0 where
+  pub nw : knows quarters.nw
+  pub ne : knows quarters.ne
+  pub sw : knows quarters.sw
+  pub se : knows quarters.se
+  pub nw_level : depth (content quarters.nw) + 1 ≡ depth t
+  pub ne_level : depth (content quarters.ne) + 1 ≡ depth t
+  pub sw_level : depth (content quarters.sw) + 1 ≡ depth t
+  pub se_level : depth (content quarters.se) + 1 ≡ depth t
 
 -- the twelve outer grandchildren
 abbrev pub outer : Tree → List Tree

@@ -4,6 +4,7 @@ ghost use Rattle.life_base.specs.declared.kind.Kind.TheVariants.{Memory};
 ghost use Rattle.life_quad.specs.declared.id.Id.{Id as IdValue};
 ghost use Rattle.life_base.specs.Tree.{depth};
 ghost use Rattle.life_quad.specs.Distances.{HasCellAt, IsLeast, IsLeastOf, Faces, lesser_of};
+ghost use Rattle.life_quad.specs.Moves.{AreQuarters};
 ghost use Rattle.life_quad.specs.IdMap.{value_of};
 
 use crate::id_map::IdMap;
@@ -46,14 +47,7 @@ fn facing<S: Squares>(squares: &S, side: Side, id: Id) -> Quarters
     requires known { S.knows squares.now id }
     requires deep { 1 ≤ depth (S.content squares.now id) }
     ensures faces { Faces side (S.content squares.now id) (S.content squares.now result.nw) (S.content squares.now result.ne) (S.content squares.now result.sw) (S.content squares.now result.se) }
-    ensures nw { S.knows squares.now result.nw }
-    ensures ne { S.knows squares.now result.ne }
-    ensures sw { S.knows squares.now result.sw }
-    ensures se { S.knows squares.now result.se }
-    ensures nw_level { depth (S.content squares.now result.nw) + 1 ≡ depth (S.content squares.now id) }
-    ensures ne_level { depth (S.content squares.now result.ne) + 1 ≡ depth (S.content squares.now id) }
-    ensures sw_level { depth (S.content squares.now result.sw) + 1 ≡ depth (S.content squares.now id) }
-    ensures se_level { depth (S.content squares.now result.se) + 1 ≡ depth (S.content squares.now id) }
+    ensures quarters { AreQuarters (S.knows squares.now) (S.content squares.now) (S.content squares.now id) result }
 {
     let Quarters { nw, ne, sw, se } = divide(squares, id);
     match side {

@@ -1,8 +1,8 @@
 //! Squares made of other squares.
-ghost use Rattle.std.specs.Prelude.{◌≡◌, ◌+◌, ◌&&◌, ◌⊎◌, ◌<◌, ◌≤◌, length, Err, IfOk, IfErr, OnErr};
+ghost use Rattle.std.specs.Prelude.{◌≡◌, ◌&&◌, ◌⊎◌, ◌<◌, ◌≤◌, length, is_some, Err, IfOk, IfErr, OnErr, IfSome};
 ghost use Rattle.life_base.specs.declared.kind.Kind.TheVariants.{Full, Memory};
 ghost use Rattle.life_base.specs.Tree.{quad, depth, is_blank_tree};
-ghost use Rattle.life_quad.specs.Moves.{grown, trimmed, inner, can_trim};
+ghost use Rattle.life_quad.specs.Moves.{AreQuarters, grown, trimmed, inner, can_trim};
 ghost use Rattle.life_quad.specs.Refused.{SomePart, SomeTrimmed};
 ghost use Rattle.life_quad.specs.Keeping.{KeepsSquares};
 
@@ -23,14 +23,7 @@ pub fn divide<S: Squares>(squares: &S, id: Id) -> Quarters
     requires known { S.knows squares.now id }
     requires deep { 1 ≤ depth (S.content squares.now id) }
     ensures square { S.content squares.now id ≡ quad (S.content squares.now result.nw) (S.content squares.now result.ne) (S.content squares.now result.sw) (S.content squares.now result.se) }
-    ensures nw { S.knows squares.now result.nw }
-    ensures ne { S.knows squares.now result.ne }
-    ensures sw { S.knows squares.now result.sw }
-    ensures se { S.knows squares.now result.se }
-    ensures nw_level { depth (S.content squares.now result.nw) + 1 ≡ depth (S.content squares.now id) }
-    ensures ne_level { depth (S.content squares.now result.ne) + 1 ≡ depth (S.content squares.now id) }
-    ensures sw_level { depth (S.content squares.now result.sw) + 1 ≡ depth (S.content squares.now id) }
-    ensures se_level { depth (S.content squares.now result.se) + 1 ≡ depth (S.content squares.now id) }
+    ensures quarters { AreQuarters (S.knows squares.now) (S.content squares.now) (S.content squares.now id) result }
 {
     match squares.parts(id) {
         Some(parts) => Quarters {
@@ -69,26 +62,6 @@ pub fn grow<S: Squares>(squares: &mut S, id: Id) -> Result<Id, Kind>
     squares.join(north_west, north_east, south_west, south_east)
 }
 
-/// The square of the four inner grandchildren.
-fn middle<S: Squares>(squares: &mut S, id: Id) -> Result<Id, Kind>
-    requires known { S.knows squares.old id }
-    requires deep { 2 ≤ depth (S.content squares.old id) }
-    ensures known { IfOk result (S.knows squares.new) }
-    ensures square { IfOk result (λ r. S.content squares.new r ≡ inner (S.content squares.old id)) }
-    ensures keeps { KeepsSquares S.knows S.content S.stored S.most squares.old squares.new }
-    ensures refusals { IfErr result (λ e. (e ≡ Full) ⊎ (e ≡ Memory)) }
-    ensures full { result ≡ Err Full → length (S.stored squares.new) ≡ S.most squares.new }
-    ensures room { result ≡ Err Memory → length (S.stored squares.new) < S.most squares.new }
-    ensures needed { OnErr result (S.needs_node squares.new (inner (S.content squares.old id))) }
-{
-    let whole = divide(squares, id);
-    let nw = divide(squares, whole.nw);
-    let ne = divide(squares, whole.ne);
-    let sw = divide(squares, whole.sw);
-    let se = divide(squares, whole.se);
-    squares.join(nw.se, ne.sw, sw.ne, se.nw)
-}
-
 /// Whether every cell of a square has state 0. No cell is visited.
 pub fn is_blank<S: Squares>(squares: &S, id: Id) -> bool
     requires { S.knows squares.now id }
@@ -106,24 +79,35 @@ pub fn is_blank_at<S: Squares>(squares: &S, level: u8, id: Id) -> bool
     id == squares.empty(level)
 }
 
-/// Whether a square is above the least level, and its twelve outer grandchildren are blank.
-fn can_be_trimmed<S: Squares>(squares: &S, id: Id, least: u8) -> bool
+/// The four inner grandchildren, where the square is above the least level and its twelve outer grandchildren are blank.
+fn middle<S: Squares>(squares: &S, id: Id, least: u8) -> Option<Quarters>
     requires known { S.knows squares.now id }
     requires positive { 1 ≤ least }
-    ensures { result ≡ can_trim (S.content squares.now id) least }
+    ensures trims { is_some result ≡ can_trim (S.content squares.now id) least }
+    ensures square { IfSome result (λ q. inner (S.content squares.now id) ≡ quad (S.content squares.now q.nw) (S.content squares.now q.ne) (S.content squares.now q.sw) (S.content squares.now q.se)) }
+    ensures quarters { IfSome result (λ q. AreQuarters (S.knows squares.now) (S.content squares.now) (inner (S.content squares.now id)) q) }
 {
     if squares.level(id) <= least {
-        return false;
+        return None;
     }
     let whole = divide(squares, id);
     let nw = divide(squares, whole.nw);
     let ne = divide(squares, whole.ne);
     let sw = divide(squares, whole.sw);
     let se = divide(squares, whole.se);
-    are_three_blank(squares, nw.nw, nw.ne, nw.sw)
+    let can_trim = are_three_blank(squares, nw.nw, nw.ne, nw.sw)
         && are_three_blank(squares, ne.nw, ne.ne, ne.se)
         && are_three_blank(squares, sw.nw, sw.sw, sw.se)
-        && are_three_blank(squares, se.ne, se.sw, se.se)
+        && are_three_blank(squares, se.ne, se.sw, se.se);
+    if !can_trim {
+        return None;
+    }
+    Some(Quarters {
+        nw: nw.se,
+        ne: ne.sw,
+        sw: sw.ne,
+        se: se.nw,
+    })
 }
 
 /// Whether three squares are blank.
@@ -152,9 +136,9 @@ pub fn trim<S: Squares>(squares: &mut S, id: Id, least: u8) -> Result<Id, Kind>
     ensures room { result ≡ Err Memory → length (S.stored squares.new) < S.most squares.new }
     ensures needed { OnErr result (SomeTrimmed (S.needs_node squares.new) (S.content squares.old id) least) }
 {
-    if !can_be_trimmed(squares, id, least) {
+    let Some(Quarters { nw, ne, sw, se }) = middle(squares, id, least) else {
         return Ok(id);
-    }
-    let smaller = middle(squares, id)?;
+    };
+    let smaller = squares.join(nw, ne, sw, se)?;
     trim(squares, smaller, least)
 }

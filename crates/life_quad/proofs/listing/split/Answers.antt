@@ -62,20 +62,20 @@ module _ {K : Id → Type 0} {C : Id → Tree} {each : Type 0} (level : ℕ) (p 
 
 pub keep-requires : goal.keep-requires
 keep-requires g c =
-    west_half c.args.level c.args.placed _ c.requires.low c.requires.placed c.divide.ensures.nw c.divide.ensures.nw_level c.requires.north
+    west_half c.args.level c.args.placed _ c.requires.low c.requires.placed c.divide.ensures.quarters.nw c.divide.ensures.quarters.nw_level c.requires.north
 
 pub keep-requires-2 : goal.keep-requires-2
 keep-requires-2 g c =
-    east_half c.args.level c.args.placed _ c.requires.low c.requires.placed c.divide.ensures.ne c.divide.ensures.ne_level
+    east_half c.args.level c.args.placed _ c.requires.low c.requires.placed c.divide.ensures.quarters.ne c.divide.ensures.quarters.ne_level
     c.in_ok-keep.ensures.each _ c.further-east.ensures
 
 pub keep-requires-3 : goal.keep-requires-3
 keep-requires-3 g c =
-    west_half c.args.level c.args.placed _ c.requires.low c.requires.placed c.divide.ensures.sw c.divide.ensures.sw_level c.requires.south
+    west_half c.args.level c.args.placed _ c.requires.low c.requires.placed c.divide.ensures.quarters.sw c.divide.ensures.quarters.sw_level c.requires.south
 
 pub keep-requires-4 : goal.keep-requires-4
 keep-requires-4 g c =
-    east_half c.args.level c.args.placed _ c.requires.low c.requires.placed c.divide.ensures.se c.divide.ensures.se_level
+    east_half c.args.level c.args.placed _ c.requires.low c.requires.placed c.divide.ensures.quarters.se c.divide.ensures.quarters.se_level
     c.in_ok-keep-3.ensures.each _ c.further-east.ensures
 
 pub returns-in_err-keep : goal.returns-in_err-keep

@@ -35,11 +35,11 @@ join-requires g c =
       nw = blank.known;
       ne = blank.known;
       sw = blank.known;
-      se = d.nw;
+      se = d.quarters.nw;
       ne_level = refl;
       sw_level = refl;
       se_level = sym side;
-      room = omega (arith, side, d.nw_level, c.requires.high);
+      room = omega (arith, side, d.quarters.nw_level, c.requires.high);
     }
 
 -- in whichever of the four places the quarter stands
@@ -49,7 +49,7 @@ join-requires-2 g c =
     let blank = c.empty-e.ensures in
     let side = blank.level ∙ c.level.ensures.level in
     let e = c.join.ensures.keeps.contents _ blank.known in
-    let ne = c.join.ensures.keeps.contents _ d.ne in
+    let ne = c.join.ensures.keeps.contents _ d.quarters.ne in
     let level = ap depth ne.1 in
     let blank_level = ap depth e.1 in
     record {
@@ -57,24 +57,24 @@ join-requires-2 g c =
       ne = assumption (e, ne);
       sw = assumption (e, ne);
       se = assumption (e, ne);
-      ne_level = omega (arith, level, blank_level, side, d.nw_level, d.ne_level);
-      sw_level = omega (arith, level, blank_level, side, d.nw_level, d.ne_level);
-      se_level = omega (arith, level, blank_level, side, d.nw_level, d.ne_level);
-      room = omega (arith, level, blank_level, side, d.nw_level, d.ne_level, c.requires.high);
+      ne_level = omega (arith, level, blank_level, side, d.quarters.nw_level, d.quarters.ne_level);
+      sw_level = omega (arith, level, blank_level, side, d.quarters.nw_level, d.quarters.ne_level);
+      se_level = omega (arith, level, blank_level, side, d.quarters.nw_level, d.quarters.ne_level);
+      room = omega (arith, level, blank_level, side, d.quarters.nw_level, d.quarters.ne_level, c.requires.high);
     }
 
 pub join-requires-3 : goal.join-requires-3
 join-requires-3 g c =
     let d = c.divide.ensures in
-    let k = kept (keeps-then c.join.ensures.keeps c.join-2.ensures.keeps) c.empty-e.ensures.known d.sw (c.empty-e.ensures.level ∙ c.level.ensures.level)
-    d.nw_level d.sw_level c.requires.high in
+    let k = kept (keeps-then c.join.ensures.keeps c.join-2.ensures.keeps) c.empty-e.ensures.known d.quarters.sw
+    (c.empty-e.ensures.level ∙ c.level.ensures.level) d.quarters.nw_level d.quarters.sw_level c.requires.high in
     record { nw = k.blank; ne = k.quarter; sw = k.blank; se = k.blank; ne_level = k.same; sw_level = refl; se_level = refl; room = k.room }
 
 pub join-requires-4 : goal.join-requires-4
 join-requires-4 g c =
     let d = c.divide.ensures in
-    let k = kept (keeps-then (keeps-then c.join.ensures.keeps c.join-2.ensures.keeps) c.join-3.ensures.keeps) c.empty-e.ensures.known d.se
-    (c.empty-e.ensures.level ∙ c.level.ensures.level) d.nw_level d.se_level c.requires.high in
+    let k = kept (keeps-then (keeps-then c.join.ensures.keeps c.join-2.ensures.keeps) c.join-3.ensures.keeps) c.empty-e.ensures.known d.quarters.se
+    (c.empty-e.ensures.level ∙ c.level.ensures.level) d.quarters.nw_level d.quarters.se_level c.requires.high in
     let same = sym k.same in
     record { nw = k.quarter; ne = k.blank; sw = k.blank; se = k.blank; ne_level = same; sw_level = same; se_level = same; room = omega (arith, same, k.room) }
 
@@ -93,7 +93,7 @@ join-requires-5 g c =
     let south_east = c.in_ok-south_east.ensures in
     let e_1 = first _ blank.known in
     let e_2 = second _ e_1.0 in
-    let se_1 = first _ d.se in
+    let se_1 = first _ d.quarters.se in
     let se_2 = second _ se_1.0 in
     let se_3 = third _ se_2.0 in
     let nw_2 = second _ north_west.known in
@@ -113,8 +113,8 @@ join-requires-5 g c =
       se = south_east.known;
       ne_level = omega (arith, nw, ne, ap depth e_1.1);
       sw_level = omega (arith, nw, sw, ap depth (e_2.1 ∙ e_1.1));
-      se_level = omega (arith, nw, se, ap depth (se_3.1 ∙ se_2.1 ∙ se_1.1), side, d.nw_level, d.se_level);
-      room = omega (arith, nw, side, d.nw_level, c.requires.high);
+      se_level = omega (arith, nw, se, ap depth (se_3.1 ∙ se_2.1 ∙ se_1.1), side, d.quarters.nw_level, d.quarters.se_level);
+      room = omega (arith, nw, side, d.quarters.nw_level, c.requires.high);
     }
 
 pub returns-in_err-north_west : goal.returns-in_err-north_west
@@ -130,7 +130,7 @@ returns-in_err-north_east g c =
     let N = g.S.Squares.needs_node in
     join-refused N _ _ c.from_residual-in_err-north_east.result c.from_residual-in_err-north_east.ensures.1 keeps c.in_err-north_east.ensures
     (λ n. SomePart-grown _ _ _ _ _ _ c.divide.ensures.square side (N c.join-2.new.self)
-    (inr (inr (inl (inl (needs_before (N c.join-2.new.self) (λ e q. quad e e q e) keeps c.empty-e.ensures.known c.divide.ensures.ne n))))))
+    (inr (inr (inl (inl (needs_before (N c.join-2.new.self) (λ e q. quad e e q e) keeps c.empty-e.ensures.known c.divide.ensures.quarters.ne n))))))
 
 pub returns-in_err-south_west : goal.returns-in_err-south_west
 returns-in_err-south_west g c =
@@ -139,7 +139,7 @@ returns-in_err-south_west g c =
     let N = g.S.Squares.needs_node in
     join-refused N _ _ c.from_residual-in_err-south_west.result c.from_residual-in_err-south_west.ensures.1 keeps c.in_err-south_west.ensures
     (λ n. SomePart-grown _ _ _ _ _ _ c.divide.ensures.square side (N c.join-3.new.self)
-    (inr (inr (inr (inl (inl (needs_before (N c.join-3.new.self) (λ e q. quad e q e e) keeps c.empty-e.ensures.known c.divide.ensures.sw n)))))))
+    (inr (inr (inr (inl (inl (needs_before (N c.join-3.new.self) (λ e q. quad e q e e) keeps c.empty-e.ensures.known c.divide.ensures.quarters.sw n)))))))
 
 pub returns-in_err-south_east : goal.returns-in_err-south_east
 returns-in_err-south_east g c =
@@ -148,7 +148,7 @@ returns-in_err-south_east g c =
     let N = g.S.Squares.needs_node in
     join-refused N _ _ c.from_residual-in_err-south_east.result c.from_residual-in_err-south_east.ensures.1 keeps c.in_err-south_east.ensures
     (λ n. SomePart-grown _ _ _ _ _ _ c.divide.ensures.square side (N c.join-4.new.self)
-    (inr (inr (inr (inr (inl (needs_before (N c.join-4.new.self) (λ e q. quad q e e e) keeps c.empty-e.ensures.known c.divide.ensures.se n)))))))
+    (inr (inr (inr (inr (inl (needs_before (N c.join-4.new.self) (λ e q. quad q e e e) keeps c.empty-e.ensures.known c.divide.ensures.quarters.se n)))))))
 
 pub returns : goal.returns
 returns g c =
@@ -169,10 +169,10 @@ returns g c =
     let blank_1 = e_1.1 in
     let blank_2 = e_2.1 ∙ e_1.1 in
     let blank_3 = e_3.1 ∙ e_2.1 ∙ e_1.1 in
-    let ne_1 = (first.keeps.contents _ d.ne).1 in
-    let sw_1 = first.keeps.contents _ d.sw in
+    let ne_1 = (first.keeps.contents _ d.quarters.ne).1 in
+    let sw_1 = first.keeps.contents _ d.quarters.sw in
     let sw_2 = (second.keeps.contents _ sw_1.0).1 ∙ sw_1.1 in
-    let se_1 = first.keeps.contents _ d.se in
+    let se_1 = first.keeps.contents _ d.quarters.se in
     let se_2 = second.keeps.contents _ se_1.0 in
     let se_3 = (third.keeps.contents _ se_2.0).1 ∙ se_2.1 ∙ se_1.1 in
     let nw_2 = second.keeps.contents _ north_west.known in

@@ -136,35 +136,35 @@ set_span-join-requires g t c =
     let d = c.divide.ensures in
     let h = c.in_ok-left.ensures in
     let a = h.square.left_level in
-    let sw = h.keeps.contents _ d.sw in
-    let se = h.keeps.contents _ d.se in
+    let sw = h.keeps.contents _ d.quarters.sw in
+    let se = h.keeps.contents _ d.quarters.se in
     record {
       nw = h.known.0;
       ne = h.known.1;
       sw = sw.0;
       se = se.0;
-      ne_level = omega (arith, a, h.square.right_level, d.nw_level, d.ne_level);
-      sw_level = omega (arith, a, ap depth sw.1, d.nw_level, d.sw_level);
-      se_level = omega (arith, a, ap depth se.1, d.nw_level, d.se_level);
-      room = omega (arith, a, d.nw_level, c.level-level.ensures.level, c.level-level.ensures.low);
+      ne_level = omega (arith, a, h.square.right_level, d.quarters.nw_level, d.quarters.ne_level);
+      sw_level = omega (arith, a, ap depth sw.1, d.quarters.nw_level, d.quarters.sw_level);
+      se_level = omega (arith, a, ap depth se.1, d.quarters.nw_level, d.quarters.se_level);
+      room = omega (arith, a, d.quarters.nw_level, c.level-level.ensures.level, c.level-level.ensures.low);
     }
 
 pub set_span-join-requires-else-span-half : goal.set_span-join-requires-else-span-half
 set_span-join-requires-else-span-half g t c =
     let d = c.divide.ensures in
     let h = c.in_ok-left-2.ensures in
-    let nw = h.keeps.contents _ d.nw in
-    let ne = h.keeps.contents _ d.ne in
+    let nw = h.keeps.contents _ d.quarters.nw in
+    let ne = h.keeps.contents _ d.quarters.ne in
     let a = ap depth nw.1 in
     record {
       nw = nw.0;
       ne = ne.0;
       sw = h.known.0;
       se = h.known.1;
-      ne_level = omega (arith, a, ap depth ne.1, d.nw_level, d.ne_level);
-      sw_level = omega (arith, a, h.square.left_level, d.nw_level, d.sw_level);
-      se_level = omega (arith, a, h.square.right_level, d.nw_level, d.se_level);
-      room = omega (arith, a, d.nw_level, c.level-level.ensures.level, c.level-level.ensures.low);
+      ne_level = omega (arith, a, ap depth ne.1, d.quarters.nw_level, d.quarters.ne_level);
+      sw_level = omega (arith, a, h.square.left_level, d.quarters.nw_level, d.quarters.sw_level);
+      se_level = omega (arith, a, h.square.right_level, d.quarters.nw_level, d.quarters.se_level);
+      room = omega (arith, a, d.quarters.nw_level, c.level-level.ensures.level, c.level-level.ensures.low);
     }
 
 pub set_span-returns-in_err-left : goal.set_span-returns-in_err-left
@@ -173,8 +173,8 @@ set_span-returns-in_err-left g t c =
     let call = c.in_err-left.ensures in
     let n = call.needed in
     let full = g.met.S.Squares.full c.args.squares.now c.args.id c.requires.known in
-    let set = in_north _ _ _ _ _ _ _ _ full d.square c.level-level.ensures.level d.nw_level c.half_side-half.ensures.half n.0 n.1 _ _ c.if-span-half.true
-    n.2 refl refl in
+    let set = in_north _ _ _ _ _ _ _ _ full d.square c.level-level.ensures.level d.quarters.nw_level c.half_side-half.ensures.half n.0 n.1 _ _
+    c.if-span-half.true n.2 refl refl in
     refused _ _ c.from_residual.result c.from_residual.ensures.1 call.keeps call.refusals (λ f. call.full (ap Err f)) (λ f. call.room (ap Err f))
     (_, set, SomePart-north (g.S.Squares.needs_node c.set_halves.new.squares) _ _ _ _ n.3)
 
@@ -185,8 +185,8 @@ set_span-returns-in_err-left-2 g t c =
     let told = c.from_residual-in_err-left-2 in
     let n = call.needed in
     let full = g.met.S.Squares.full c.args.squares.now c.args.id c.requires.known in
-    let set = in_south _ _ _ _ _ _ _ _ full d.square c.level-level.ensures.level d.nw_level c.half_side-half.ensures.half _ _ n.0 n.1 c.if-span-half.false
-    n.2 refl refl in
+    let set = in_south _ _ _ _ _ _ _ _ full d.square c.level-level.ensures.level d.quarters.nw_level c.half_side-half.ensures.half _ _ n.0 n.1
+    c.if-span-half.false n.2 refl refl in
     refused _ _ told.result told.ensures.1 call.keeps call.refusals (λ f. call.full (ap Err f)) (λ f. call.room (ap Err f))
     (_, set, SomePart-south (g.S.Squares.needs_node c.set_halves-else-span-half.new.squares) _ _ _ _ n.3)
 
@@ -196,9 +196,9 @@ set_span-returns-in_ok-left g t c =
     let h = c.in_ok-left.ensures in
     let t = g.S.Squares.content c.args.squares.now c.args.id in
     let full = g.met.S.Squares.full c.args.squares.now c.args.id c.requires.known in
-    let set = in_north _ _ _ _ _ _ _ _ full d.square c.level-level.ensures.level d.nw_level c.half_side-half.ensures.half _ _ _ _ c.if-span-half.true
+    let set = in_north _ _ _ _ _ _ _ _ full d.square c.level-level.ensures.level d.quarters.nw_level c.half_side-half.ensures.half _ _ _ _ c.if-span-half.true
     h.square
-    (h.keeps.contents _ d.sw).1 (h.keeps.contents _ d.se).1 in
+    (h.keeps.contents _ d.quarters.sw).1 (h.keeps.contents _ d.quarters.se).1 in
     joined-last g.S.Squares.needs_node (λ u. SetsSpan t u c.args.span) c.join.result h.keeps c.join.ensures set
     (λ n. (_, set, inl n))
 
@@ -208,8 +208,8 @@ set_span-returns-in_ok-left-2 g t c =
     let h = c.in_ok-left-2.ensures in
     let t = g.S.Squares.content c.args.squares.now c.args.id in
     let full = g.met.S.Squares.full c.args.squares.now c.args.id c.requires.known in
-    let set = in_south _ _ _ _ _ _ _ _ full d.square c.level-level.ensures.level d.nw_level c.half_side-half.ensures.half _ _ _ _ c.if-span-half.false
+    let set = in_south _ _ _ _ _ _ _ _ full d.square c.level-level.ensures.level d.quarters.nw_level c.half_side-half.ensures.half _ _ _ _ c.if-span-half.false
     h.square
-    (h.keeps.contents _ d.nw).1 (h.keeps.contents _ d.ne).1 in
+    (h.keeps.contents _ d.quarters.nw).1 (h.keeps.contents _ d.quarters.ne).1 in
     joined-last g.S.Squares.needs_node (λ u. SetsSpan t u c.args.span) c.join-else-span-half.result h.keeps
     c.join-else-span-half.ensures set (λ n. (_, set, inl n))
