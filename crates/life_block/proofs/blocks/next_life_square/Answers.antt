@@ -32,7 +32,7 @@ divided g c =
       level = level;
       quarters = quarters-at (g.S.Squares.knows s) (g.S.Squares.content s) t c.divide-root.result c.empty-blank.result k
           (g.met.S.Squares.full _ _ c.requires.known) level
-          d.square d.nw d.ne d.sw d.se e.known e.square e.level;
+          d.square d.quarters.nw d.quarters.ne d.quarters.sw d.quarters.se e.known e.square e.level;
     }
 
 pub next_of_middle-requires-clause-known : goal.next_of_middle-requires-clause-known
