@@ -17,6 +17,7 @@ mod rle;
 mod step;
 mod strips;
 mod table;
+mod words;
 
 use life_base::{Device, Kind, read_within};
 use std::{env, io};

@@ -3,6 +3,7 @@
 //! Its words are `[read] [text]`: how long the writing alone took goes to standard error. With the word `read` nothing is written; with
 //! the word `text` what was written goes to standard output in place of the counts. bench/run.py compares the text with that of a
 //! plain program.
+use crate::words::has;
 use life_base::{Cell, Kind};
 use life_rle::{RleFile, read_rle, sorted_cells, write_rle};
 use std::alloc::Global;
@@ -28,28 +29,6 @@ fn cells_of(alloc: Global, file: &RleFile) -> Result<Vec<Cell>, Kind> {
     Ok(cells)
 }
 
-/// What the words ask for.
-#[derive(Clone, Copy)]
-struct Options {
-    reads_only: bool,
-    as_text: bool,
-}
-
-fn asked(words: &[String]) -> Options {
-    let mut options = Options {
-        reads_only: false,
-        as_text: false,
-    };
-    for word in words {
-        match word.as_str() {
-            "read" => options.reads_only = true,
-            "text" => options.as_text = true,
-            _ => {}
-        }
-    }
-    options
-}
-
 /// Writes the cells of a file, and tells how long that took.
 fn time_writing(rt: HostRuntime, file: &RleFile, cells: &[Cell], as_text: bool) -> io::Result<()> {
     if !sorted_cells(&file.rule, cells) {
@@ -69,22 +48,23 @@ fn time_writing(rt: HostRuntime, file: &RleFile, cells: &[Cell], as_text: bool) 
 }
 
 /// Tells what a file holds, and writes it again.
-fn report(rt: HostRuntime, file: &RleFile, options: Options) -> io::Result<()> {
-    if !options.as_text {
+fn report(rt: HostRuntime, file: &RleFile, words: &[String]) -> io::Result<()> {
+    let as_text = has(words, "text");
+    if !as_text {
         println!(rt; "{} runs", file.runs.as_slice().len())?;
     }
-    if options.reads_only {
+    if has(words, "read") {
         return Ok(());
     }
     match cells_of(rt.alloc(), file) {
-        Ok(cells) => time_writing(rt, file, &cells, options.as_text),
+        Ok(cells) => time_writing(rt, file, &cells, as_text),
         Err(_) => println!(rt; "no memory for the cells"),
     }
 }
 
 pub(crate) fn time(rt: HostRuntime, words: &[String], bytes: &[u8]) -> io::Result<()> {
     match read_rle(rt.alloc(), bytes) {
-        Ok(file) => report(rt, &file, asked(words)),
+        Ok(file) => report(rt, &file, words),
         Err(fault) => println!(rt; "{fault}"),
     }
 }

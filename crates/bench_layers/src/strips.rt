@@ -10,6 +10,7 @@ mod patterns;
 mod reach;
 mod soup;
 
+use crate::words::{has, number_of};
 use life_quad::Shared;
 use patterns::{Pattern, listed};
 use reach::reached;
@@ -23,18 +24,15 @@ enum Task {
     Cells,
 }
 
-/// How many runs are asked for, and what is to be told of them.
-fn asked(words: &[String]) -> (u32, Task) {
-    let mut runs = 1_000_000;
-    let mut task = Task::Count;
-    for word in words {
-        match word.as_str() {
-            "time" => task = Task::Time,
-            "cells" => task = Task::Cells,
-            other => runs = other.parse::<u32>().unwrap_or(runs),
-        }
+/// What the words ask for.
+fn asked(words: &[String]) -> Task {
+    if has(words, "cells") {
+        Task::Cells
+    } else if has(words, "time") {
+        Task::Time
+    } else {
+        Task::Count
     }
-    (runs, task)
 }
 
 /// Fills a store with a pattern, and tells what is asked.
@@ -61,7 +59,8 @@ fn tell(rt: HostRuntime, store: &mut Shared, pattern: Pattern, task: Task) -> io
 }
 
 pub(crate) fn time(rt: HostRuntime, words: &[String]) -> io::Result<()> {
-    let (runs, task) = asked(words);
+    let runs = number_of(words, 1_000_000);
+    let task = asked(words);
     let second = if task == Task::Cells {
         Pattern::Scattered(runs / 100)
     } else {

@@ -4,6 +4,7 @@
 //! where the word `time` asks for it how long they took.
 ghost use Rattle.std.specs.Prelude.{◌≡◌, ◌<◌, ◌≤◌, All};
 
+use crate::words::{has, number_of};
 use life_base::State;
 use life_table::{Neighborhood, Neighbours, Table, read_table};
 use std::io;
@@ -63,42 +64,20 @@ fn decide(table: &Table, decisions: u32) -> Answers
     answers
 }
 
-/// What the words ask for.
-#[derive(Clone, Copy)]
-struct Options {
-    decisions: u32,
-    timed: bool,
-}
-
-/// The words read: a number is how many decisions are made, and `time` asks how long they took.
-fn asked(words: &[String]) -> Options {
-    let mut options = Options {
-        decisions: 1000,
-        timed: false,
-    };
-    for word in words {
-        if word.as_str() == "time" {
-            options.timed = true;
-        } else if let Ok(number) = word.as_str().parse::<u32>() {
-            options.decisions = number;
-        }
-    }
-    options
-}
-
 /// Makes the decisions and prints what they came to.
-fn report(rt: HostRuntime, table: &Table, options: Options) -> io::Result<()> {
+fn report(rt: HostRuntime, table: &Table, words: &[String]) -> io::Result<()> {
     if table.neighborhood != Neighborhood::Moore || table.n_states != 8 {
         return println!(rt; "no table of eight neighbours and eight states");
     }
+    let decisions = number_of(words, 1000);
     let start = Instant::now(&rt)?;
-    let answers = decide(table, options.decisions);
+    let answers = decide(table, decisions);
     let spent = start.elapsed(&rt)?;
     println!(rt;
-        "{} decisions: sum {}, ambiguous {}",
-        options.decisions, answers.sum, answers.ambiguous
+        "{decisions} decisions: sum {}, ambiguous {}",
+        answers.sum, answers.ambiguous
     )?;
-    if options.timed {
+    if has(words, "time") {
         println!(rt; "{} ms", spent.as_millis())?;
     }
     Ok(())
@@ -106,7 +85,7 @@ fn report(rt: HostRuntime, table: &Table, options: Options) -> io::Result<()> {
 
 pub(crate) fn time(rt: HostRuntime, words: &[String], bytes: &[u8]) -> io::Result<()> {
     match read_table(rt.alloc(), bytes) {
-        Ok(table) => report(rt, &table, asked(words)),
+        Ok(table) => report(rt, &table, words),
         Err(_) => println!(rt; "no rule table"),
     }
 }
