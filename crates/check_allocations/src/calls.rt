@@ -1,9 +1,29 @@
 //! The lines that are printed.
 
-ghost use Rattle.std.specs.Prelude.{◌≡◌};
+ghost use Rattle.std.specs.Prelude.{◌≡◌, ◌≤◌, ◌^◌};
 
 use crate::answer::told;
 use life_base::{Device, Fault, Kind, Sink, write_texts};
+use life_quad::{Plain, Shared, Squares};
+use std::alloc::Global;
+
+/// A store without nodes.
+pub(crate) trait New: Squares {
+    fn new_store(alloc: Global, limit: u64) -> Self
+        requires { limit ≤ 2 ^ 62 };
+}
+
+impl New for Shared {
+    fn new_store(alloc: Global, limit: u64) -> Shared {
+        Shared::new(alloc, limit)
+    }
+}
+
+impl New for Plain {
+    fn new_store(alloc: Global, limit: u64) -> Plain {
+        Plain::new(alloc, limit)
+    }
+}
 
 /// Calls of one crate or store, whose lines begin with its name.
 #[derive(Drop)]
@@ -32,6 +52,22 @@ impl<'a> Calls<'a> {
     pub(crate) fn tell(&self, call: &str, answer: Result<bool, Fault>) {
         let mut out = Device::new(self.rt.stdout());
         let _ = write_line(&mut out, self.place, call, self.time, told(answer));
+    }
+
+    /// Makes a call on a store of its own, so that the store grows in it, and then on the same store again: that meets what a refusal left.
+    pub(crate) fn tell_twice<S: New + Drop, F: Fn(&mut S) -> Result<bool, Fault>>(
+        &self,
+        call: &str,
+        limit: u64,
+        made: F,
+    )
+        requires limit { limit ≤ 2 ^ 62 }
+        requires made { F.IsAlwaysCallable made }
+    {
+        let mut store = S::new_store(self.rt.alloc(), limit);
+        for time in ["", ", again"] {
+            Calls::at(self.rt, self.place, time).tell(call, made(&mut store));
+        }
     }
 }
 

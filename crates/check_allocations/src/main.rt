@@ -12,10 +12,16 @@ mod steps;
 mod strips;
 mod tables;
 
-use calls::Calls;
-use life_quad::{Plain, Shared, Squares};
-use patterns::{Example, GLIDER, LONE, PAIR, WIRES};
+use calls::{Calls, New};
+use life_quad::{Plain, Shared};
+use patterns::{EXAMPLES, Example};
+use squares::{
+    bounded, counted, grown, grown_and_trimmed, joined, levels_trimmed, list_refused, one_listed,
+    one_refused, put, row_refused, rows_measured, set_and_cleared, trimmed,
+};
 use std::alloc::Global;
+use steps::{BY_RULE, BY_TABLE};
+use strips::built;
 
 fn base_calls(rt: &HostRuntime) {
     let alloc = rt.alloc();
@@ -44,105 +50,39 @@ fn file_calls(rt: &HostRuntime) {
     calls.tell("read_table for Table::next", tables::ambiguous(alloc));
 }
 
-/// A store without nodes.
-trait New: Squares {
-    fn new_store(alloc: Global) -> Self;
-}
-
 // Most nodes of a store.
 const LIMIT: u64 = 1 << 31;
 
-impl New for Shared {
-    fn new_store(alloc: Global) -> Shared {
-        Shared::new(alloc, LIMIT)
-    }
-}
-
-impl New for Plain {
-    fn new_store(alloc: Global) -> Plain {
-        Plain::new(alloc, LIMIT)
-    }
-}
-
-// Each call fills a store of its own, so that the store grows in it, and then the same store again: that meets what a refusal left.
-fn filling_calls<'x, S: New + Drop>(rt: &'x HostRuntime, place: &'x str) {
+fn filling_calls<S: New + Drop>(rt: &HostRuntime, place: &str) {
     let alloc = rt.alloc();
-    let mut joining = S::new_store(alloc);
-    let mut putting = S::new_store(alloc);
-    let mut trimming = S::new_store(alloc);
-    let mut growing = S::new_store(alloc);
-    let mut building = S::new_store(alloc);
-    for time in ["", ", again"] {
-        let calls = Calls::at(rt, place, time);
-        calls.tell("join", squares::joined(&mut joining));
-        calls.tell("put_run, cells", squares::put(alloc, &mut putting));
-        calls.tell("trim", squares::trimmed(alloc, &mut trimming));
-        calls.tell("grow", squares::grown(alloc, &mut growing));
-        calls.tell("Builder", strips::built(alloc, &mut building));
-    }
+    let calls = Calls::of(rt, place);
+    calls.tell_twice::<S, _>("join", LIMIT, |it| joined(it));
+    calls.tell_twice::<S, _>("put_run, cells", LIMIT, |it| put(alloc, it));
+    calls.tell_twice::<S, _>("trim", LIMIT, |it| trimmed(alloc, it));
+    calls.tell_twice::<S, _>("grow", LIMIT, |it| grown(alloc, it));
+    calls.tell_twice::<S, _>("Builder", LIMIT, |it| built(alloc, it));
 }
 
-fn measuring_calls(rt: &HostRuntime) {
-    let alloc = rt.alloc();
-    let mut store = Shared::new_store(alloc);
-    for time in ["", ", again"] {
-        let calls = Calls::at(rt, "Shared", time);
-        calls.tell("population", squares::counted(alloc, &mut store));
-        calls.tell("bounds", squares::bounded(alloc, &mut store));
-    }
-}
-
-// Worked examples in stores for few nodes.
 fn shared_calls(rt: &HostRuntime) {
     let alloc = rt.alloc();
-    let mut rows = Shared::new(alloc, 1000);
-    let mut row = Shared::new(alloc, 61);
-    let mut setting = Shared::new(alloc, 1000);
-    let mut trimming = Shared::new(alloc, 1000);
-    let mut growing = Shared::new(alloc, 1000);
-    let mut listing = Shared::new(alloc, 1000);
-    for time in ["", ", again"] {
-        let calls = Calls::at(rt, "Shared", time);
-        calls.tell(
-            "rows of 2^62 cells",
-            squares::rows_measured(alloc, &mut rows),
-        );
-        calls.tell(
-            "a row of 2^62 cells at limit 61",
-            squares::row_refused(&mut row),
-        );
-        calls.tell(
-            "cells in either order",
-            squares::set_and_cleared(&mut setting),
-        );
-        calls.tell("trim of level 9", squares::levels_trimmed(&mut trimming));
-        calls.tell(
-            "grow, trim",
-            squares::grown_and_trimmed(alloc, &mut growing),
-        );
-        calls.tell(
-            "two cells at limit 1",
-            squares::list_refused(alloc, &mut listing),
-        );
-    }
+    let calls = Calls::of(rt, "Shared");
+    calls.tell_twice::<Shared, _>("population", LIMIT, |it| counted(alloc, it));
+    calls.tell_twice::<Shared, _>("bounds", LIMIT, |it| bounded(alloc, it));
+    calls.tell_twice::<Shared, _>("rows of 2^62 cells", 1000, |it| rows_measured(alloc, it));
+    calls.tell_twice::<Shared, _>("a row of 2^62 cells at limit 61", 61, |it| row_refused(it));
+    calls.tell_twice::<Shared, _>("cells in either order", 1000, |it| set_and_cleared(it));
+    calls.tell_twice::<Shared, _>("trim of level 9", 1000, |it| levels_trimmed(it));
+    calls.tell_twice::<Shared, _>("grow, trim", 1000, |it| grown_and_trimmed(alloc, it));
+    calls.tell_twice::<Shared, _>("two cells at limit 1", 1000, |it| list_refused(alloc, it));
 }
 
 fn plain_calls(rt: &HostRuntime) {
     let alloc = rt.alloc();
-    let mut trimming = Plain::new(alloc, 1000);
-    let mut listing = Plain::new(alloc, 1000);
-    let mut one = Plain::new(alloc, 1000);
-    let mut full = Plain::new(alloc, 4);
-    for time in ["", ", again"] {
-        let calls = Calls::at(rt, "Plain", time);
-        calls.tell("trim of level 9", squares::levels_trimmed(&mut trimming));
-        calls.tell(
-            "two cells at limit 1",
-            squares::list_refused(alloc, &mut listing),
-        );
-        calls.tell("one cell", squares::one_listed(alloc, &mut one));
-        calls.tell("one cell at store limit 4", squares::one_refused(&mut full));
-    }
+    let calls = Calls::of(rt, "Plain");
+    calls.tell_twice::<Plain, _>("trim of level 9", 1000, |it| levels_trimmed(it));
+    calls.tell_twice::<Plain, _>("two cells at limit 1", 1000, |it| list_refused(alloc, it));
+    calls.tell_twice::<Plain, _>("one cell", 1000, |it| one_listed(alloc, it));
+    calls.tell_twice::<Plain, _>("one cell at store limit 4", 4, |it| one_refused(it));
 }
 
 /// A store for each call on files, so that the squares of one call don't serve another.
@@ -170,15 +110,9 @@ impl Stores {
 }
 
 // Each call on a file.
-fn example_calls<'x>(
-    rt: &'x HostRuntime,
-    stores: &mut Stores,
-    name: &'x str,
-    example: &Example,
-    time: &'x str,
-) {
+fn example_calls<'x>(rt: &'x HostRuntime, stores: &mut Stores, example: &Example, time: &'x str) {
     let alloc = rt.alloc();
-    let calls = Calls::at(rt, name, time);
+    let calls = Calls::at(rt, example.name, time);
     let Stores {
         numbered,
         canonical,
@@ -199,10 +133,9 @@ fn example_calls<'x>(
 fn pattern_calls(rt: &HostRuntime) {
     let mut stores = Stores::new(rt.alloc());
     for time in ["", ", again"] {
-        example_calls(rt, &mut stores, "glider", &GLIDER, time);
-        example_calls(rt, &mut stores, "two cells", &PAIR, time);
-        example_calls(rt, &mut stores, "one cell under seven squares", &LONE, time);
-        example_calls(rt, &mut stores, "two states of a name", &WIRES, time);
+        for example in &EXAMPLES {
+            example_calls(rt, &mut stores, example, time);
+        }
     }
 }
 
@@ -212,22 +145,12 @@ fn step_calls(rt: &HostRuntime) {
     let mut store = Shared::new(alloc, LIMIT);
     for time in ["", ", again"] {
         let calls = Calls::at(rt, "life_step", time);
-        calls.tell(
-            "step_life, glider",
-            steps::GLIDER.by_rule(alloc, &mut store),
-        );
-        calls.tell(
-            "step_life, blinker",
-            steps::BLINKER.by_rule(alloc, &mut store),
-        );
-        calls.tell(
-            "step_table, one cell",
-            steps::ONE.by_table(alloc, &mut store),
-        );
-        calls.tell(
-            "step_table, two cells",
-            steps::TWO.by_table(alloc, &mut store),
-        );
+        for step in &BY_RULE {
+            calls.tell(step.name, step.by_rule(alloc, &mut store));
+        }
+        for step in &BY_TABLE {
+            calls.tell(step.name, step.by_table(alloc, &mut store));
+        }
     }
 }
 
@@ -236,7 +159,6 @@ fn main(rt: HostRuntime) {
     file_calls(&rt);
     filling_calls::<Shared>(&rt, "Shared");
     filling_calls::<Plain>(&rt, "Plain");
-    measuring_calls(&rt);
     shared_calls(&rt);
     plain_calls(&rt);
     pattern_calls(&rt);

@@ -8,45 +8,48 @@ use life_mc::write_mc;
 use life_quad::Shared;
 use std::alloc::Global;
 
-/// A file, and what the calls answer for it.
+/// A file with its name, and what the calls answer for it.
 pub(crate) struct Example {
+    pub(crate) name: &'static str,
     input: &'static [u8],
     canonical: &'static [u8],
     runs: &'static [u8],
     shown: &'static [u8],
 }
 
-/// A glider.
-pub(crate) const GLIDER: Example = Example {
-    input: b"x = 3, y = 3, rule = B3/S23\nbo$2bo$3o!\n",
-    canonical: b"[M2] (canonical 1)\n#R B3/S23\n$$$$.....*$......*$....***$$\n",
-    runs: b"#CXRLE Pos=0,0\nx = 3, y = 3, rule = B3/S23\nbo$2bo$3o!\n",
-    shown: b"rule B3/S23\ngeneration 0\npopulation 5\nbox 0 0 3 3\nnodes 1\n",
-};
-
-/// Two cells in equal squares.
-pub(crate) const PAIR: Example = Example {
-    input: b"#CXRLE Pos=-4,0\nx = 9, y = 1, rule = B3/S23\no7bo!\n",
-    canonical: b"[M2] (canonical 1)\n#R B3/S23\n....*$$$$$$$$\n4 0 0 1 1\n",
-    runs: b"#CXRLE Pos=-4,0\nx = 9, y = 1, rule = B3/S23\no7bo!\n",
-    shown: b"rule B3/S23\ngeneration 0\npopulation 2\nbox -4 0 9 1\nnodes 2\n",
-};
-
-/// One cell under seven levels of squares.
-pub(crate) const LONE: Example = Example {
-    input: b"[M2] (golly 4.2)\n#R B3/S23\n....*$$$$$$$$\n4 1 0 0 0\n5 2 0 0 0\n6 3 0 0 0\n7 4 0 0 0\n8 5 0 0 0\n9 0 0 0 6\n",
-    canonical: b"[M2] (canonical 1)\n#R B3/S23\n....*$$$$$$$$\n4 0 0 0 1\n",
-    runs: b"#CXRLE Pos=4,0\nx = 1, y = 1, rule = B3/S23\no!\n",
-    shown: b"rule B3/S23\ngeneration 0\npopulation 1\nbox 4 0 1 1\nnodes 2\n",
-};
-
-/// Two cells of a rule that is known by its name.
-pub(crate) const WIRES: Example = Example {
-    input: b"#CXRLE Pos=-1,-1 Gen=7\nx = 2, y = 1, rule = WireWorld\nApA!\n",
-    canonical: b"[M2] (canonical 1)\n#R WireWorld\n#G 7\n1 1 25 0 0\n",
-    runs: b"#CXRLE Pos=-1,-1 Gen=7\nx = 2, y = 1, rule = WireWorld\nApA!\n",
-    shown: b"rule WireWorld\ngeneration 7\npopulation 2\nbox -1 -1 2 1\nnodes 1\n",
-};
+/// Files of both formats.
+pub(crate) const EXAMPLES: [Example; 4] = [
+    Example {
+        name: "glider",
+        input: b"x = 3, y = 3, rule = B3/S23\nbo$2bo$3o!\n",
+        canonical: b"[M2] (canonical 1)\n#R B3/S23\n$$$$.....*$......*$....***$$\n",
+        runs: b"#CXRLE Pos=0,0\nx = 3, y = 3, rule = B3/S23\nbo$2bo$3o!\n",
+        shown: b"rule B3/S23\ngeneration 0\npopulation 5\nbox 0 0 3 3\nnodes 1\n",
+    },
+    // in equal squares
+    Example {
+        name: "two cells",
+        input: b"#CXRLE Pos=-4,0\nx = 9, y = 1, rule = B3/S23\no7bo!\n",
+        canonical: b"[M2] (canonical 1)\n#R B3/S23\n....*$$$$$$$$\n4 0 0 1 1\n",
+        runs: b"#CXRLE Pos=-4,0\nx = 9, y = 1, rule = B3/S23\no7bo!\n",
+        shown: b"rule B3/S23\ngeneration 0\npopulation 2\nbox -4 0 9 1\nnodes 2\n",
+    },
+    Example {
+        name: "one cell under seven squares",
+        input: b"[M2] (golly 4.2)\n#R B3/S23\n....*$$$$$$$$\n4 1 0 0 0\n5 2 0 0 0\n6 3 0 0 0\n7 4 0 0 0\n8 5 0 0 0\n9 0 0 0 6\n",
+        canonical: b"[M2] (canonical 1)\n#R B3/S23\n....*$$$$$$$$\n4 0 0 0 1\n",
+        runs: b"#CXRLE Pos=4,0\nx = 1, y = 1, rule = B3/S23\no!\n",
+        shown: b"rule B3/S23\ngeneration 0\npopulation 1\nbox 4 0 1 1\nnodes 2\n",
+    },
+    // of a rule that is known by its name
+    Example {
+        name: "two states of a name",
+        input: b"#CXRLE Pos=-1,-1 Gen=7\nx = 2, y = 1, rule = WireWorld\nApA!\n",
+        canonical: b"[M2] (canonical 1)\n#R WireWorld\n#G 7\n1 1 25 0 0\n",
+        runs: b"#CXRLE Pos=-1,-1 Gen=7\nx = 2, y = 1, rule = WireWorld\nApA!\n",
+        shown: b"rule WireWorld\ngeneration 7\npopulation 2\nbox -1 -1 2 1\nnodes 1\n",
+    },
+];
 
 // Whether the text of the pattern's node lines, and the pattern's own, is the one that is wanted.
 fn is_canonical(
