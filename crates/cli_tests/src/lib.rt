@@ -1,4 +1,5 @@
-//! Tests of the calls of `life_cli`: worked files, devices that fail, and what the words of a command line ask for.
+//! Tests of the calls of `life_cli`, and of the devices of `life_base`: worked files, readers and writers that fail, and what the words of a
+//! command line ask for.
 #![tactic(auto)]
 
 #[cfg(test)]

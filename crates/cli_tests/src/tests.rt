@@ -7,12 +7,20 @@ mod pieces;
 mod plans;
 mod refusals;
 mod steps;
+mod streams;
 mod texts;
+
+use life_cli::plans::{Job, Target};
 
 /// A glider, and its text: the rows about the middle of a leaf.
 const GLIDER: &[u8] = b"[M2]\n#R B3/S23\n#C a glider\n$$..*$...*$.***$$$$\n";
 
 const GLIDER_TEXT: &[u8] = b"[M2] (canonical 1)\n#R B3/S23\n$$..*$...*$.***$$$$\n";
+
+/// A glider to the south and east of the origin, and the five lines on it.
+const EAST_GLIDER: &[u8] = b"x = 3, y = 3, rule = B3/S23\nbo$2bo$3o!\n";
+
+const EAST_GLIDER_SHOWN: &[u8] = b"rule B3/S23\ngeneration 0\npopulation 5\nbox 0 0 3 3\nnodes 1\n";
 
 /// Two cells, in both formats. Equal squares share a line.
 const TWINS: &[u8] = b"[M2]\n....*$\n....*$\n4 0 0 1 2\n";
@@ -21,8 +29,44 @@ const TWINS_IN_RLE: &[u8] = b"#CXRLE Pos=-4,0\nx = 9, y = 1, rule = 23/3\no7bo!\
 
 const TWINS_TEXT: &[u8] = b"[M2] (canonical 1)\n#R B3/S23\n....*$$$$$$$$\n4 0 0 1 1\n";
 
+const TWINS_SHOWN: &[u8] = b"rule B3/S23\ngeneration 0\npopulation 2\nbox -4 0 9 1\nnodes 2\n";
+
+const TWINS_RUNS: &[u8] = b"#CXRLE Pos=-4,0\nx = 9, y = 1, rule = B3/S23\no7bo!\n";
+
+/// Three cells in a row, and the text of their next generation.
+const LINE: &[u8] = b"x = 3, y = 1, rule = B3/S23\n3o!\n";
+
+const NEXT_LINE: &[u8] = b"[M2] (canonical 1)\n#R B3/S23\n#G 1\n$$$.....*$.....*$.....*$$$\n";
+
 const BLANK: &[u8] = b"x = 0, y = 0, rule = 23/3\n!\n";
 
 const WIRES: &[u8] = b"#CXRLE Pos=-1,-1 Gen=7\nx = 2, y = 1, rule = WireWorld\nApA!\n";
 
 const WIRES_TEXT: &[u8] = b"[M2] (canonical 1)\n#R WireWorld\n#G 7\n1 1 25 0 0\n";
+
+/// A state spreads to cells that have one cell of it beside them.
+const SPREAD: &[u8] =
+    b"@RULE Spread\n@TABLE\nn_states:3\nneighborhood:vonNeumann\nsymmetries:rotate4\nvar a={1,2}\n0,a,0,0,0,a\n";
+
+/// A cell of state 2, and the text of the next generation by the table `SPREAD`.
+const SEED: &[u8] = b"x = 1, y = 1, rule = Spread\nB!\n";
+
+const SPREAD_TEXT: &[u8] =
+    b"[M2] (canonical 1)\n#R Spread\n#G 1\n1 0 0 2 0\n1 0 2 0 0\n1 2 2 2 0\n2 0 1 2 3\n";
+
+/// Jobs with their files, the status that they end with, and what they write.
+const JOBS: [(Job, &[u8], Option<&[u8]>, u8, &[u8]); 13] = [
+    (Job::Canon, GLIDER, None, 0, GLIDER_TEXT),
+    (Job::Canon, TWINS_IN_RLE, None, 0, TWINS_TEXT),
+    (Job::Show, EAST_GLIDER, None, 0, EAST_GLIDER_SHOWN),
+    (Job::Show, TWINS, None, 0, TWINS_SHOWN),
+    (Job::Convert(Target::Rle), TWINS, None, 0, TWINS_RUNS),
+    (Job::Convert(Target::Mc), TWINS_IN_RLE, None, 0, TWINS_TEXT),
+    (Job::Step, LINE, None, 0, NEXT_LINE),
+    (Job::Same, TWINS, Some(TWINS), 0, b"same\n"),
+    (Job::Same, TWINS, Some(TWINS_IN_RLE), 0, b"same\n"),
+    (Job::Same, TWINS, Some(GLIDER), 1, b"different\n"),
+    (Job::Same, TWINS, Some(WIRES), 1, b"different\n"),
+    (Job::Same, LINE, Some(TWINS), 1, b"different\n"),
+    (Job::StepTable, SEED, Some(SPREAD), 0, SPREAD_TEXT),
+];

@@ -1,7 +1,8 @@
-//! Devices that fail, and what a job leaves in them.
+//! Readers, writers and devices that fail, and what a job leaves in them.
 
-ghost use Rattle.std.specs.Prelude.{◌≡◌, ◌≤◌, Some, true, false};
+ghost use Rattle.std.specs.Prelude.{◌≡◌, ◌≤◌, ◌↔◌, Some, IsSome, IfSome, true, false};
 ghost use Rattle.std.proofs.Common.{rules};
+ghost use Rattle.life_base.specs.DeviceState.{has_failed};
 ghost use Rattle.life_base.specs.Devices.{count_of};
 ghost use Rattle.life_cli.specs.Plans.{HasSecond};
 
@@ -9,55 +10,72 @@ use life_base::{Device, Kind, Sink, Source};
 use life_cli::plans::Job;
 use life_cli::work;
 use std::alloc::Global;
+use std::io::{self, Read, Write};
 use std::process::Abort;
 
-/// A source that gives a byte at a time, and fails after some reads.
+/// A reader of std that gives a byte at a time, and is interrupted behind some calls.
 #[derive(Drop)]
 pub struct Dripping<'a> {
-    pub left: &'a [u8],
-    pub good: u64,
-    pub failed: bool,
+    left: &'a [u8],
+    good: usize,
 }
 
-impl<'a> Source for Dripping<'a> {
-    ghost failures = { λ s. count_of s.failed };
-
-    ghost remaining = { λ s. Some s.left.now };
-
-    ghost at_most_one = { λ s. elim s.failed as (λ f. count_of f ≤ 1) [ true ↦ Prim.search rules | false ↦ Prim.search rules ] };
-
-    fn failed(&self) -> bool {
-        self.failed
-    }
-
-    fn read(&mut self, buf: &mut [u8]) -> Result<usize, Kind> {
+impl<'a> Read for Dripping<'a> {
+    fn read(&mut self, buf: &mut [u8]) -> io::Result<usize> {
         if self.good == 0 {
-            self.failed = true;
-            return Err(Kind::ReadFault);
+            return Err(io::ErrorKind::Interrupted.into());
         }
         self.good -= 1;
-        if buf.is_empty() {
+        if self.left.is_empty() || buf.is_empty() {
             return Ok(0);
         }
-        match self.left.split_first() {
-            Some((byte, rest)) => {
-                buf[0] = *byte;
-                self.left = rest;
-                Ok(1)
-            }
-            None => Ok(0),
-        }
+        buf[0] = self.left[0];
+        self.left = &self.left[1..];
+        Ok(1)
     }
 }
 
-/// A source of these bytes that fails after so many reads.
-pub(super) fn source_of(left: &[u8], good: u64) -> Dripping<'_>
-    ensures { result.failed ≡ false }
+/// A source of these bytes, one at a time, that fails behind so many reads.
+pub(super) fn source_of(left: &[u8], good: usize) -> Device<Dripping<'_>>
+    ensures { has_failed result ≡ false }
 {
-    Dripping {
-        left,
-        good,
-        failed: false,
+    Device::new(Dripping { left, good })
+}
+
+/// What becomes of a writer behind its room: it takes no more, fails with such an error, or can't flush and fails with such an error.
+#[derive(Clone, Copy)]
+pub(super) enum End {
+    Stops,
+    Fails(io::ErrorKind),
+    Unflushed(io::ErrorKind),
+}
+
+/// A writer of std that takes `piece` bytes at a time, `room` bytes at most.
+#[derive(Drop)]
+pub(super) struct Narrow<'a> {
+    pub(super) taken: &'a mut Vec<u8>,
+    pub(super) room: usize,
+    pub(super) piece: usize,
+    pub(super) end: End,
+}
+
+impl<'a> Write for Narrow<'a> {
+    fn write(&mut self, buf: &[u8]) -> io::Result<usize> {
+        match self.end {
+            End::Fails(kind) if self.room == 0 => return Err(kind.into()),
+            _ => {}
+        }
+        let count = buf.len().min(self.room).min(self.piece);
+        self.taken.extend_from_slice(&buf[..count])?;
+        self.room -= count;
+        Ok(count)
+    }
+
+    fn flush(&mut self) -> io::Result<()> {
+        match self.end {
+            End::Unflushed(kind) => Err(kind.into()),
+            End::Stops | End::Fails(_) => Ok(()),
+        }
     }
 }
 
@@ -137,8 +155,29 @@ pub(super) fn assert_left(
     assert!(rt; !out.failed || status == 3);
 }
 
-/// A job of one file, where standard output has room for `sink.0` bytes and takes `sink.1` at a time, leaves this: its status, what standard output took, and
+/// A job, where standard output has room for `sink.0` bytes and takes `sink.1` at a time, leaves this: its status, what standard output took, and
 /// what standard error took.
+pub(super) fn assert_job<A: Source, B: Source + Drop>(
+    rt: &impl Abort,
+    alloc: Global,
+    job: &Job,
+    first: &mut A,
+    second: Option<B>,
+    sink: (usize, usize),
+    wanted: (u8, &[u8], &[u8]),
+)
+    requires first_reads { A.failures first.old ≡ 0 }
+    requires second_reads { IfSome second (λ b. B.failures b ≡ 0) }
+    requires second_given { IsSome second ↔ HasSecond job.now }
+{
+    let mut second = second;
+    let mut out = sink_with(alloc, sink.0, sink.1);
+    let mut err = sink_with(alloc, 99, 3);
+    let status = work(alloc, job, first, &mut second, &mut out, &mut err);
+    assert_left(rt, (status, out, err), wanted);
+}
+
+/// A job of one file leaves this.
 pub(super) fn assert_one<A: Source>(
     rt: &impl Abort,
     alloc: Global,
@@ -150,14 +189,11 @@ pub(super) fn assert_one<A: Source>(
     requires alone { ¬ HasSecond job.now }
     requires reads { A.failures first.old ≡ 0 }
 {
-    let mut second = None::<Device<&[u8]>>;
-    let mut out = sink_with(alloc, sink.0, sink.1);
-    let mut err = sink_with(alloc, 99, 3);
-    let status = work(alloc, job, first, &mut second, &mut out, &mut err);
-    assert_left(rt, (status, out, err), wanted);
+    let second = None::<Device<&[u8]>>;
+    assert_job(rt, alloc, job, first, second, sink, wanted);
 }
 
-/// A job of two files leaves this, in the same way.
+/// A job of two files leaves this.
 pub(super) fn assert_two<A: Source, B: Source + Drop>(
     rt: &impl Abort,
     alloc: Global,
@@ -171,11 +207,7 @@ pub(super) fn assert_two<A: Source, B: Source + Drop>(
     requires first_reads { A.failures first.old ≡ 0 }
     requires second_reads { B.failures second ≡ 0 }
 {
-    let mut second = Some(second);
-    let mut out = sink_with(alloc, sink.0, sink.1);
-    let mut err = sink_with(alloc, 99, 3);
-    let status = work(alloc, job, first, &mut second, &mut out, &mut err);
-    assert_left(rt, (status, out, err), wanted);
+    assert_job(rt, alloc, job, first, Some(second), sink, wanted);
 }
 
 /// A job of two files that are given whole leaves this.

@@ -3,137 +3,38 @@
 ghost use Rattle.std.specs.Prelude.{◌≡◌, ◌↔◌, IsSome, IfSome};
 ghost use Rattle.life_cli.specs.Plans.{HasSecond};
 
-use super::devices::{Limited, WIDE, assert_left, assert_one, assert_two, sink_with};
-use super::steps::{SEED, SPREAD, SPREAD_TEXT};
-use super::{GLIDER, GLIDER_TEXT, TWINS, TWINS_IN_RLE, TWINS_TEXT};
+use super::JOBS;
+use super::devices::{End, Limited, Narrow, WIDE, assert_job, assert_left, sink_with, source_of};
 use life_base::{Device, Source};
-use life_cli::plans::{Job, Target};
+use life_cli::plans::Job;
 use life_cli::work;
 use std::alloc::Global;
-use std::io::{self, Read, Write};
+use std::io::{self, Write};
 use std::process::Abort;
 
-const LINE: &[u8] = b"x = 3, y = 1, rule = B3/S23\n3o!\n";
-
-const NEXT_LINE: &[u8] = b"[M2] (canonical 1)\n#R B3/S23\n#G 1\n$$$.....*$.....*$.....*$$$\n";
-
-const SHOWN: &[u8] = b"rule B3/S23\ngeneration 0\npopulation 2\nbox -4 0 9 1\nnodes 2\n";
-
-const CONVERTED: &[u8] = b"#CXRLE Pos=-4,0\nx = 9, y = 1, rule = B3/S23\no7bo!\n";
-
-/// A reader of std that gives a byte at a time, and is interrupted behind some calls.
-#[derive(Drop)]
-struct Interrupted<'a> {
-    left: &'a [u8],
-    good: usize,
-}
-
-impl<'a> Read for Interrupted<'a> {
-    fn read(&mut self, buf: &mut [u8]) -> io::Result<usize> {
-        if self.good == 0 {
-            return Err(io::ErrorKind::Interrupted.into());
-        }
-        self.good -= 1;
-        if self.left.is_empty() || buf.is_empty() {
-            return Ok(0);
-        }
-        buf[0] = self.left[0];
-        self.left = &self.left[1..];
-        Ok(1)
-    }
-}
-
-/// What becomes of a writer behind its room: it takes no more, is interrupted, or can't flush.
-#[derive(Clone, Copy, PartialEq, Eq)]
-enum End {
-    Stops,
-    Interrupted,
-    Unflushed,
-}
-
-/// A writer of std that takes `piece` bytes at a time, `room` bytes at most.
-#[derive(Drop)]
-struct Narrow<'a> {
-    taken: &'a mut Vec<u8>,
-    room: usize,
-    piece: usize,
-    end: End,
-}
-
-impl<'a> Write for Narrow<'a> {
-    fn write(&mut self, buf: &[u8]) -> io::Result<usize> {
-        if self.room == 0 && self.end == End::Interrupted {
-            return Err(io::ErrorKind::Interrupted.into());
-        }
-        let count = buf.len().min(self.room).min(self.piece);
-        self.taken.extend_from_slice(&buf[..count])?;
-        self.room -= count;
-        Ok(count)
-    }
-
-    fn flush(&mut self) -> io::Result<()> {
-        if self.end == End::Unflushed {
-            return Err(io::Error::other("unflushed"));
-        }
-        Ok(())
-    }
-}
-
-/// A reader of these bytes that is interrupted behind so many calls.
-fn reader_of(left: &[u8], good: usize) -> Interrupted<'_> {
-    Interrupted { left, good }
-}
-
-/// A job of one file is told of a read that fails, whichever it is, and writes nothing.
-fn assert_each_read(rt: &impl Abort, alloc: Global, job: &Job, input: &[u8])
-    requires { ¬ HasSecond job.now }
-{
-    let fault = (3, b"".as_slice(), b"ReadFault\n".as_slice());
-    for good in 0..=input.len() {
-        let mut first = Device::new(reader_of(input, good));
-        assert_one(rt, alloc, job, &mut first, WIDE, fault);
-    }
-}
+/// What a job leaves whose source fails: it is told so, and writes nothing.
+const READ_FAULT: (u8, &[u8], &[u8]) = (3, b"", b"ReadFault\n");
 
 #[test]
 fn each_read_fails(rt: HostRuntime) {
-    let rows: [(Job, &[u8]); 6] = [
-        (Job::Canon, GLIDER),
-        (Job::Canon, TWINS_IN_RLE),
-        (Job::Show, TWINS),
-        (Job::Convert(Target::Rle), TWINS),
-        (Job::Convert(Target::Mc), TWINS_IN_RLE),
-        (Job::Step, LINE),
-    ];
-    for (job, input) in rows {
-        assert_each_read(&rt, rt.alloc(), &job, input);
-    }
-}
-
-/// A job of two files is told of a read that fails, of either, whichever it is.
-fn assert_each_read_of_two(rt: &impl Abort, alloc: Global, job: &Job, a: &[u8], b: &[u8])
-    requires { HasSecond job.now }
-{
-    let fault = (3, b"".as_slice(), b"ReadFault\n".as_slice());
-    for good in 0..=a.len() {
-        let mut first = Device::new(reader_of(a, good));
-        assert_two(rt, alloc, job, &mut first, Device::new(b), WIDE, fault);
-    }
-    for good in 0..=b.len() {
-        let second = Device::new(reader_of(b, good));
-        assert_two(rt, alloc, job, &mut Device::new(a), second, WIDE, fault);
+    for (job, first, second, _, _) in JOBS {
+        for good in 0..=first.len() {
+            let second = second.map(|bytes| Device::new(bytes));
+            let mut first = source_of(first, good);
+            assert_job(&rt, rt.alloc(), &job, &mut first, second, WIDE, READ_FAULT);
+        }
     }
 }
 
 #[test]
-fn each_read_of_two_files_fails(rt: HostRuntime) {
-    let rows: [(Job, &[u8], &[u8]); 3] = [
-        (Job::Same, TWINS, TWINS),
-        (Job::Same, LINE, TWINS),
-        (Job::StepTable, SEED, SPREAD),
-    ];
-    for (job, a, b) in rows {
-        assert_each_read_of_two(&rt, rt.alloc(), &job, a, b);
+fn each_read_of_the_second_file_fails(rt: HostRuntime) {
+    for (job, first, second, _, _) in JOBS {
+        let Some(bytes) = second else { continue };
+        for good in 0..=bytes.len() {
+            let second = Some(source_of(bytes, good));
+            let mut first = Device::new(first);
+            assert_job(&rt, rt.alloc(), &job, &mut first, second, WIDE, READ_FAULT);
+        }
     }
 }
 
@@ -193,27 +94,14 @@ const ROOMS: [usize; 4] = [0, 1, 7, 999];
 /// A byte or all at a time, and then an interrupted write or one that takes nothing.
 const ENDS: [(usize, End); 4] = [
     (1, End::Stops),
-    (1, End::Interrupted),
+    (1, End::Fails(io::ErrorKind::Interrupted)),
     (999, End::Stops),
-    (999, End::Interrupted),
-];
-
-/// Jobs with their files and what they write.
-const JOBS: [(Job, &[u8], Option<&[u8]>, &[u8]); 9] = [
-    (Job::Canon, GLIDER, None, GLIDER_TEXT),
-    (Job::Show, TWINS, None, SHOWN),
-    (Job::Convert(Target::Rle), TWINS, None, CONVERTED),
-    (Job::Convert(Target::Mc), TWINS_IN_RLE, None, TWINS_TEXT),
-    (Job::Step, LINE, None, NEXT_LINE),
-    (Job::Same, TWINS, Some(TWINS), b"same\n"),
-    (Job::Same, TWINS, Some(TWINS_IN_RLE), b"same\n"),
-    (Job::Same, TWINS, Some(GLIDER), b"different\n"),
-    (Job::StepTable, SEED, Some(SPREAD), SPREAD_TEXT),
+    (999, End::Fails(io::ErrorKind::Interrupted)),
 ];
 
 #[test]
 fn each_write_fails(rt: HostRuntime) {
-    for (job, first, second, text) in JOBS {
+    for (job, first, second, _, text) in JOBS {
         for most in ROOMS {
             let room = text.len().saturating_sub(1).min(most);
             for (piece, end) in ENDS {
@@ -228,9 +116,9 @@ fn each_write_fails(rt: HostRuntime) {
 /// A text that is written whole and can't be flushed is told so.
 #[test]
 fn each_flush_fails(rt: HostRuntime) {
-    for (job, first, second, text) in JOBS {
+    for (job, first, second, _, text) in JOBS {
         let mut second = second.map(|bytes| Device::new(bytes));
-        let end = (text.len(), 999, End::Unflushed);
+        let end = (text.len(), 999, End::Unflushed(io::ErrorKind::Other));
         assert_front(&rt, rt.alloc(), &job, first, &mut second, text, end);
     }
 }

@@ -1,20 +1,29 @@
 //! What the jobs write.
 
-use super::devices::{assert_files, assert_texts};
-use super::{BLANK, TWINS, TWINS_IN_RLE, TWINS_TEXT, WIRES, WIRES_TEXT};
+use super::devices::{WIDE, assert_files, assert_job, assert_texts};
+use super::{
+    BLANK, EAST_GLIDER, EAST_GLIDER_SHOWN, JOBS, LINE, TWINS, TWINS_IN_RLE, TWINS_RUNS, TWINS_TEXT,
+    WIRES, WIRES_TEXT,
+};
+use life_base::Device;
 use life_cli::plans::{Job, Target};
+
+#[test]
+fn jobs_write_their_texts(rt: HostRuntime) {
+    for (job, first, second, status, text) in JOBS {
+        let second = second.map(|bytes| Device::new(bytes));
+        let wanted = (status, text, b"".as_slice());
+        let mut first = Device::new(first);
+        assert_job(&rt, rt.alloc(), &job, &mut first, second, WIDE, wanted);
+    }
+}
 
 #[test]
 fn same_and_different(rt: HostRuntime) {
     let rows: [(&[u8], &[u8], u8, &[u8]); 7] = [
+        (LINE, b"x = 3, y = 1, rule = B3/S23\no2o!\n", 0, b"same\n"),
         (
-            b"x = 3, y = 1, rule = B3/S23\n3o!\n",
-            b"x = 3, y = 1, rule = B3/S23\no2o!\n",
-            0,
-            b"same\n",
-        ),
-        (
-            b"x = 3, y = 1, rule = B3/S23\n3o!\n",
+            LINE,
             b"x = 3, y = 1, rule = Life\no2o!\n",
             1,
             b"different\n",
@@ -45,10 +54,7 @@ fn same_and_different(rt: HostRuntime) {
 fn converted_to_rle(rt: HostRuntime) {
     let rows: [(&[u8], &[u8]); 6] = [
         (WIRES_TEXT, WIRES),
-        (
-            TWINS,
-            b"#CXRLE Pos=-4,0\nx = 9, y = 1, rule = B3/S23\no7bo!\n",
-        ),
+        (TWINS, TWINS_RUNS),
         (BLANK, b"#CXRLE Pos=0,0\nx = 0, y = 0, rule = B3/S23\n!\n"),
         (
             b"x = 1, y = 1, rule = Foo\npA2$.C!",
@@ -75,10 +81,7 @@ fn converted_to_macrocell(rt: HostRuntime) {
 #[test]
 fn shown(rt: HostRuntime) {
     let rows: [(&[u8], &[u8]); 4] = [
-        (
-            b"x = 3, y = 3, rule = B3/S23\nbo$2bo$3o!\n",
-            b"rule B3/S23\ngeneration 0\npopulation 5\nbox 0 0 3 3\nnodes 1\n",
-        ),
+        (EAST_GLIDER, EAST_GLIDER_SHOWN),
         (
             BLANK,
             b"rule B3/S23\ngeneration 0\npopulation 0\nbox none\nnodes 0\n",

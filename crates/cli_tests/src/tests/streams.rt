@@ -3,6 +3,7 @@
 ghost use Rattle.std.specs.Prelude.{◌≡◌, ◌≤◌, ◌^◌, false};
 ghost use Rattle.life_base.specs.DeviceState.{has_failed};
 
+use super::devices::{End, Narrow, source_of};
 use life_base::{Device, Kind, Sink, Source, deliver, read_within, write_text, write_texts};
 use std::alloc::Global;
 use std::io::{self, Read, Write};
@@ -44,56 +45,6 @@ impl<'a> Write for Counting<'a> {
 
     fn flush(&mut self) -> io::Result<()> {
         self.call()
-    }
-}
-
-/// Gives a byte a call, and fails once `good` calls are made.
-#[derive(Drop)]
-struct Dripping {
-    left: &'static [u8],
-    good: u64,
-}
-
-impl Read for Dripping {
-    fn read(&mut self, buf: &mut [u8]) -> io::Result<usize> {
-        if self.good == 0 {
-            return Err(io::ErrorKind::Interrupted.into());
-        }
-        self.good -= 1;
-        if self.left.is_empty() || buf.is_empty() {
-            return Ok(0);
-        }
-        buf[0] = self.left[0];
-        self.left = &self.left[1..];
-        Ok(1)
-    }
-}
-
-/// Takes up to three bytes a call while there is room, then takes none or fails.
-#[derive(Drop)]
-struct Narrow<'a> {
-    taken: &'a mut Vec<u8>,
-    room: usize,
-    fails: bool,
-    flush_fails: bool,
-}
-
-impl<'a> Write for Narrow<'a> {
-    fn write(&mut self, buf: &[u8]) -> io::Result<usize> {
-        if self.room == 0 && self.fails {
-            return Err(io::ErrorKind::BrokenPipe.into());
-        }
-        let count = buf.len().min(self.room).min(3);
-        self.taken.extend_from_slice(&buf[..count])?;
-        self.room -= count;
-        Ok(count)
-    }
-
-    fn flush(&mut self) -> io::Result<()> {
-        if self.flush_fails {
-            return Err(io::ErrorKind::BrokenPipe.into());
-        }
-        Ok(())
     }
 }
 
@@ -156,13 +107,16 @@ fn expected_bytes_are_told(rt: HostRuntime) {
 }
 
 /// A reader of four bytes that fails after some good calls is read so, within a bound.
-fn assert_dripped(rt: &impl Abort, alloc: Global, good: u64, most: u64, wanted: Result<&[u8], Kind>)
+fn assert_dripped(
+    rt: &impl Abort,
+    alloc: Global,
+    good: usize,
+    most: u64,
+    wanted: Result<&[u8], Kind>,
+)
     requires { most ≤ 2 ^ 30 }
 {
-    let mut reader = Device::new(Dripping {
-        left: b"abcd",
-        good,
-    });
+    let mut reader = source_of(b"abcd", good);
     let got = read_within(alloc, &mut reader, most);
     match got {
         Ok(bytes) => assert!(rt; wanted == Ok(bytes.as_slice())),
@@ -174,7 +128,7 @@ fn assert_dripped(rt: &impl Abort, alloc: Global, good: u64, most: u64, wanted: 
 
 #[test]
 fn a_failed_read_is_no_end(rt: HostRuntime) {
-    for good in 0..5u64 {
+    for good in 0..5 {
         assert_dripped(&rt, rt.alloc(), good, 4, Err(Kind::ReadFault));
     }
     assert_dripped(&rt, rt.alloc(), 5, 4, Ok(b"abcd"));
@@ -201,22 +155,16 @@ fn texts_are_written_one_after_another(rt: HostRuntime) {
 }
 
 /// Of `abcdefgh`, in two texts, a writer has the bytes that it had room for: it takes no more, or fails.
-fn assert_front(
-    rt: &impl Abort,
-    alloc: Global,
-    room: usize,
-    fails: bool,
-    wanted: Result<(), Kind>,
-) {
+fn assert_front(rt: &impl Abort, alloc: Global, room: usize, end: End, wanted: Result<(), Kind>) {
     let mut taken = Vec::new(alloc);
     let mut writer = Device::new(Narrow {
         taken: &mut taken,
         room,
-        fails,
-        flush_fails: false,
+        piece: 3,
+        end,
     });
     let got = write_texts(&mut writer, &[b"abcde", b"fgh"]);
-    let failed = fails && wanted.is_err();
+    let failed = matches!(end, End::Fails(_)) && wanted.is_err();
     assert!(rt;
         got == wanted && Sink::failed(&writer) == failed,
         "with room for {room}"
@@ -228,11 +176,11 @@ fn assert_front(
 
 #[test]
 fn a_writer_that_stops_has_the_front_of_the_text(rt: HostRuntime) {
-    for fails in [false, true] {
+    for end in [End::Stops, End::Fails(io::ErrorKind::BrokenPipe)] {
         for room in 0..=7usize {
-            assert_front(&rt, rt.alloc(), room, fails, Err(Kind::WriteFault));
+            assert_front(&rt, rt.alloc(), room, end, Err(Kind::WriteFault));
         }
-        assert_front(&rt, rt.alloc(), 8, fails, Ok(()));
+        assert_front(&rt, rt.alloc(), 8, end, Ok(()));
     }
 }
 
@@ -242,8 +190,8 @@ fn a_flush_that_fails_is_told(rt: HostRuntime) {
     let mut writer = Device::new(Narrow {
         taken: &mut taken,
         room: 9,
-        fails: false,
-        flush_fails: true,
+        piece: 3,
+        end: End::Unflushed(io::ErrorKind::BrokenPipe),
     });
     let told = deliver(&mut writer, b"abc");
     assert!(rt; told == Err(Kind::WriteFault) && Sink::failed(&writer));
