@@ -42,29 +42,55 @@ const TOWER: &[u8] =
 /// A line twice, and a line that the root doesn't reach.
 const REPEATS: &[u8] = b"[M2]\n#R B3/S23\n....*$$$$$$$$\n....*$$$$$$$$\n*$$$$$$$$\n4 0 0 1 2\n";
 
-/// The same cell, with squares of levels 1 and 2 on lines of their own.
-const LEVELS: &[u8] = b"[M2]\n1 1 0 0 0\n2 1 0 0 0\n3 0 2 0 0\n4 0 0 0 3\n";
-
-/// Two leaves, the second of which the root has first.
-const TURNED: &[u8] = b"[M2]\n*$\n.*$\n4 2 1 0 0\n";
-
-const TURNED_TEXT: &[u8] = b"[M2] (canonical 1)\n#R B3/S23\n.*$$$$$$$$\n*$$$$$$$$\n4 1 2 0 0\n";
-
-const ONE: &[u8] = b"x = 1, y = 1\no!\n";
-
 /// One cell, and another a million columns to the east.
 const FAR: &[u8] = b"x = 1, y = 1\no999999bo!\n";
 
-const THREE: &[u8] = b"x = 3, y = 1, rule = B3/S23\n3o!\n";
+/// Three cells in a row.
+const THREE_TEXT: &[u8] = b"[M2] (canonical 1)\n#R B3/S23\n$$$$....***$$$$\n";
 
-/// The same three cells.
-const TWO_RUNS: &[u8] = b"x = 3, y = 1, rule = B3/S23\no2o!\n";
-
-/// The same three cells, under a name.
-const THREE_OF_LIFE: &[u8] = b"x = 3, y = 1, rule = Life\n3o!\n";
-
-/// The glider with line ends of two bytes.
-const GLIDER_CRLF: &[u8] = b"x = 3, y = 3, rule = B3/S23\r\nbo$2bo$3o!\r\n";
-
-/// The glider without `!`.
-const GLIDER_OPEN: &[u8] = b"x = 3, y = 3, rule = B3/S23\nbo$2bo$3o";
+/// Files, and the canonical text of each.
+const FILES: [(&[u8], &[u8]); 16] = [
+    (GLIDER, GLIDER_TEXT),
+    // with line ends of two bytes
+    (
+        b"x = 3, y = 3, rule = B3/S23\r\nbo$2bo$3o!\r\n",
+        GLIDER_TEXT,
+    ),
+    // without `!`
+    (b"x = 3, y = 3, rule = B3/S23\nbo$2bo$3o", GLIDER_TEXT),
+    (CELL, CELL_TEXT),
+    (TOWER, CELL_TEXT),
+    // the same cell, with squares of levels 1 and 2 on lines of their own
+    (
+        b"[M2]\n1 1 0 0 0\n2 1 0 0 0\n3 0 2 0 0\n4 0 0 0 3\n",
+        CELL_TEXT,
+    ),
+    (PAIR, PAIR_TEXT),
+    (REPEATS, PAIR_TEXT),
+    // two leaves, the second of which the root has first
+    (
+        b"[M2]\n*$\n.*$\n4 2 1 0 0\n",
+        b"[M2] (canonical 1)\n#R B3/S23\n.*$$$$$$$$\n*$$$$$$$$\n4 1 2 0 0\n",
+    ),
+    (WIRES, WIRES_TEXT),
+    (
+        b"x = 1, y = 1\no!\n",
+        b"[M2] (canonical 1)\n#R B3/S23\n$$$$....*$$$$\n",
+    ),
+    (b"x = 3, y = 1, rule = B3/S23\n3o!\n", THREE_TEXT),
+    // the same three cells, by two runs
+    (b"x = 3, y = 1, rule = B3/S23\no2o!\n", THREE_TEXT),
+    // and under a name
+    (
+        b"x = 3, y = 1, rule = Life\n3o!\n",
+        b"[M2] (canonical 1)\n#R Life\n1 1 1 0 0\n1 1 0 0 0\n2 1 2 0 0\n3 0 0 0 3\n",
+    ),
+    (
+        b"x = 1, y = 1, rule = Spread\nB!\n",
+        b"[M2] (canonical 1)\n#R Spread\n1 0 0 0 2\n",
+    ),
+    (
+        b"#CXRLE Gen=18446744073709551615\nx = 3, y = 1, rule = B3/S23\n3o!\n",
+        b"[M2] (canonical 1)\n#R B3/S23\n#G 18446744073709551615\n$$$$....***$$$$\n",
+    ),
+];

@@ -1,21 +1,13 @@
 //! Each limit of a store in turn: up to some limit a file is refused for want of room, and from there on it has its text.
 
 use super::chains::{chain, text_of_the_corner};
-use super::{
-    BLANK, BLANK_TEXT, CELL, CELL_TEXT, CORNER, FAR, GLIDER, GLIDER_TEXT, LEVELS, ONE, PAIR,
-    PAIR_TEXT, REPEATS, THREE, THREE_OF_LIFE, TOWER, TURNED, TURNED_TEXT, TWO_RUNS, WIRES,
-    WIRES_TEXT,
-};
+use super::{BLANK, BLANK_TEXT, CORNER, FAR, FILES, PAIR_TEXT};
 use crate::worked::{Call, first_limit};
 use life_base::Fault;
 use life_canon::canon;
 use life_quad::Shared;
 use std::alloc::Global;
 use std::process::Abort;
-
-const ONE_TEXT: &[u8] = b"[M2] (canonical 1)\n#R B3/S23\n$$$$....*$$$$\n";
-
-const THREE_TEXT: &[u8] = b"[M2] (canonical 1)\n#R B3/S23\n$$$$....***$$$$\n";
 
 /// The canonical text of a file.
 #[derive(Clone, Copy)]
@@ -50,32 +42,7 @@ fn four_squares_take_room_for_four(rt: HostRuntime) {
 
 #[test]
 fn files_take_room(rt: HostRuntime) {
-    let rows: [(&[u8], &[u8]); 14] = [
-        (TOWER, CELL_TEXT),
-        (LEVELS, CELL_TEXT),
-        (REPEATS, PAIR_TEXT),
-        (TURNED, TURNED_TEXT),
-        (GLIDER, GLIDER_TEXT),
-        (CELL, CELL_TEXT),
-        (PAIR, PAIR_TEXT),
-        (WIRES, WIRES_TEXT),
-        (THREE, THREE_TEXT),
-        (TWO_RUNS, THREE_TEXT),
-        (ONE, ONE_TEXT),
-        (
-            THREE_OF_LIFE,
-            b"[M2] (canonical 1)\n#R Life\n1 1 1 0 0\n1 1 0 0 0\n2 1 2 0 0\n3 0 0 0 3\n",
-        ),
-        (
-            b"x = 1, y = 1, rule = Spread\nB!\n",
-            b"[M2] (canonical 1)\n#R Spread\n1 0 0 0 2\n",
-        ),
-        (
-            b"#CXRLE Gen=18446744073709551615\nx = 3, y = 1, rule = B3/S23\n3o!\n",
-            b"[M2] (canonical 1)\n#R B3/S23\n#G 18446744073709551615\n$$$$....***$$$$\n",
-        ),
-    ];
-    for (input, text) in rows {
+    for (input, text) in FILES {
         takes_room(&rt, rt.alloc(), input, text);
     }
 }

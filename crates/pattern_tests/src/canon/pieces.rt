@@ -3,12 +3,10 @@ ghost use Rattle.std.specs.Prelude.{◌≡◌, false};
 ghost use Rattle.life_canon.specs.Feeding.{Stands};
 
 use super::chains::text_of_the_row;
-use super::{
-    GLIDER, GLIDER_CRLF, GLIDER_OPEN, GLIDER_TEXT, PAIR, PAIR_TEXT, REPEATS, ROOM, ROW, WIRES,
-    WIRES_TEXT, fault, is_text,
-};
-use life_base::{Device, Fault, Kind};
-use life_canon::{Reader, number, run_canon};
+use super::runs::text_through;
+use super::{FILES, GLIDER, GLIDER_TEXT, ROOM, ROW, fault, is_text};
+use life_base::{Fault, Kind};
+use life_canon::{Reader, number};
 use life_mc::write_mc;
 use life_quad::Shared;
 use std::alloc::Global;
@@ -55,15 +53,7 @@ fn is_text_in_pieces(alloc: Global, input: &[u8], text: &[u8]) -> bool {
 
 #[test]
 fn files_are_read_in_pieces(rt: HostRuntime) {
-    let rows: [(&[u8], &[u8]); 6] = [
-        (GLIDER, GLIDER_TEXT),
-        (GLIDER_CRLF, GLIDER_TEXT),
-        (GLIDER_OPEN, GLIDER_TEXT),
-        (WIRES, WIRES_TEXT),
-        (PAIR, PAIR_TEXT),
-        (REPEATS, PAIR_TEXT),
-    ];
-    for (input, text) in rows {
+    for (input, text) in FILES {
         assert!(rt; is_text_in_pieces(rt.alloc(), input, text));
     }
 }
@@ -90,27 +80,11 @@ impl<'a> Read for Dripping<'a> {
     }
 }
 
-/// The canonical text of a file whose source gives a byte at a time.
-fn text_run(alloc: Global, input: &[u8]) -> Result<Vec<u8>, Fault> {
-    let mut store = Shared::new(alloc, ROOM);
-    let mut text = Vec::new(alloc);
-    let mut reader = Device::new(Dripping { left: input });
-    let mut writer = Device::new(&mut text);
-    run_canon(alloc, &mut store, &mut reader, &mut writer)?;
-    drop(writer);
-    Ok(text)
-}
-
 #[test]
 fn a_source_gives_a_byte_at_a_time(rt: HostRuntime) {
-    let rows = [
-        (GLIDER_CRLF, GLIDER_TEXT),
-        (GLIDER_OPEN, GLIDER_TEXT),
-        (WIRES, WIRES_TEXT),
-        (REPEATS, PAIR_TEXT),
-    ];
-    for (input, text) in rows {
-        assert!(rt; is_text(text_run(rt.alloc(), input), text));
+    for (input, text) in FILES {
+        let source = Dripping { left: input };
+        assert!(rt; is_text(text_through(rt.alloc(), source), text));
     }
 }
 

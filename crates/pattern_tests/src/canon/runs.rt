@@ -8,12 +8,13 @@ use life_base::{Device, Fault, Kind};
 use life_canon::{five_lines_of, read_from, rle_of, run_canon_within};
 use life_quad::Shared;
 use std::alloc::Global;
+use std::io::Read;
 
 /// The five lines of two cells and themselves in RLE.
 const PAIR_LINES: &[u8] = b"rule B3/S23\ngeneration 0\npopulation 2\nbox -4 0 9 1\nnodes 2\n";
 
 /// The canonical text of a file that goes from a source to a sink, in a store of its own.
-fn text_through(alloc: Global, input: &[u8]) -> Result<Vec<u8>, Fault> {
+pub(super) fn text_through<R: Read + Drop>(alloc: Global, input: R) -> Result<Vec<u8>, Fault> {
     let mut store = Shared::new(alloc, ROOM);
     text_run(alloc, &mut store, input)
 }

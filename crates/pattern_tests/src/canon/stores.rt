@@ -10,6 +10,7 @@ use life_base::{Device, Fault, Kind};
 use life_canon::{Reader, canon, run_canon, same, show, to_rle};
 use life_quad::Shared;
 use std::alloc::Global;
+use std::io::Read;
 
 /// The canonical text of a file in a store of no room.
 fn text_without_room(alloc: Global, input: &[u8]) -> Result<Vec<u8>, Fault> {
@@ -40,7 +41,11 @@ fn text_fed(alloc: Global, store: &mut Shared, input: &[u8]) -> Result<Vec<u8>, 
 }
 
 /// The canonical text of a file that goes from a source to a sink.
-pub(super) fn text_run(alloc: Global, store: &mut Shared, input: &[u8]) -> Result<Vec<u8>, Fault> {
+pub(super) fn text_run<R: Read + Drop>(
+    alloc: Global,
+    store: &mut Shared,
+    input: R,
+) -> Result<Vec<u8>, Fault> {
     let mut text = Vec::new(alloc);
     let mut reader = Device::new(input);
     let mut writer = Device::new(&mut text);
