@@ -15,14 +15,21 @@ use std::process::Abort;
 /// What a job leaves whose source fails: it is told so, and writes nothing.
 const READ_FAULT: (u8, &[u8], &[u8]) = (3, b"", b"ReadFault\n");
 
+/// A job whose first file fails at any of its reads is told so.
+fn assert_reads_fail(rt: &impl Abort, alloc: Global, job: &Job, first: &[u8], second: Option<&[u8]>)
+    requires { IsSome second ↔ HasSecond job.now }
+{
+    for good in 0..=first.len() {
+        let mut first = source_of(first, good);
+        let second = second.map(|bytes| Device::new(bytes));
+        assert_job(rt, alloc, job, &mut first, second, WIDE, READ_FAULT);
+    }
+}
+
 #[test]
 fn each_read_fails(rt: HostRuntime) {
     for (job, first, second, _, _) in JOBS {
-        for good in 0..=first.len() {
-            let second = second.map(|bytes| Device::new(bytes));
-            let mut first = source_of(first, good);
-            assert_job(&rt, rt.alloc(), &job, &mut first, second, WIDE, READ_FAULT);
-        }
+        assert_reads_fail(&rt, rt.alloc(), &job, first, second);
     }
 }
 
