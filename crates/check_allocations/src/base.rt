@@ -72,7 +72,7 @@ pub(crate) fn appended(alloc: Global) -> Result<bool, Fault> {
 /// A number added to a text.
 pub(crate) fn number_appended(alloc: Global) -> Result<bool, Fault> {
     let mut out = Vec::new(alloc);
-    append_number(&mut out, 4611686018427387904)?;
+    append_number(&mut out, 4611686018427387904_u64)?;
     Ok(out.as_slice() == b"4611686018427387904".as_slice())
 }
 
