@@ -1,9 +1,8 @@
 //! The cells of small squares as the bits of a word.
-ghost use Rattle.std.specs.Prelude.{◌≡◌, ◌⊎◌, ℕ, ℤ, pos, ◌+ℤ◌, ◌^◌, ◌<◌, ◌≤◌, length, Err, IfOk, IfErr, OnErr};
+ghost use Rattle.std.specs.Prelude.{◌≡◌, ℕ, ℤ, ◌^◌, ◌<◌, IfOk, IfErr, OnErr};
 ghost use Rattle.std.specs.Int.{bit_at};
-ghost use Rattle.life_base.specs.declared.kind.Kind.TheVariants.{Full, Memory};
-ghost use Rattle.life_base.specs.Tree.{point, quad, depth};
-ghost use Rattle.life_quad.specs.Keeping.{KeepsSquares};
+ghost use Rattle.life_base.specs.Tree.{point, quad};
+ghost use Rattle.life_quad.specs.Keeping.{KeepsSquares, IsWantKind};
 ghost use Rattle.life_block.specs.Bits.{HasCells, HasRows};
 ghost use Rattle.life_block.specs.Pieces.{IsPiece, IsBinary, IsAt, InFour, InSixteen, AreFour, AreSixteen, back, ahead};
 
@@ -80,8 +79,7 @@ pub(crate) fn join_cells<S: Squares>(squares: &mut S, word: u64) -> Result<Id, K
     ensures known { IfOk result (S.knows squares.new) }
     ensures square { IfOk result (λ r. S.content squares.new r ≡ quad (point (bit_at word 0)) (point (bit_at word 1)) (point (bit_at word 8)) (point (bit_at word 9))) }
     ensures keeps { KeepsSquares S.knows S.content S.stored S.most squares.old squares.new }
-    ensures refusals { IfErr result (λ e. (e ≡ Full) ⊎ (e ≡ Memory)) }
-    ensures full { result ≡ Err Full → length (S.stored squares.new) ≡ S.most squares.new }
+    ensures refusals { IfErr result (IsWantKind (S.stored squares.new) (S.most squares.new)) }
     ensures needed { OnErr result (S.needs_node squares.new (quad (point (bit_at word 0)) (point (bit_at word 1)) (point (bit_at word 8)) (point (bit_at word 9)))) }
 {
     let nw = squares.cell((word & 1) as u8);

@@ -1,10 +1,10 @@
 //! The next states of squares.
-ghost use Rattle.std.specs.Prelude.{◌≡◌, ◌⊎◌, ℕ, ℤ, suc, ◌+◌, ◌*◌, ◌^◌, ◌<◌, ◌≤◌, false, length, Err, IfOk, IfErr, OnErr};
+ghost use Rattle.std.specs.Prelude.{◌≡◌, ℕ, ℤ, suc, ◌+◌, ◌^◌, ◌<◌, ◌≤◌, false, IfOk, IfErr, OnErr};
 ghost use Rattle.life_base.specs.declared.kind.Kind.TheVariants.{Full, Memory};
 ghost use Rattle.life_base.specs.Rules.{has_digit};
 ghost use Rattle.life_base.specs.Tree.{depth, tree_cell};
 ghost use Rattle.life_quad.specs.Refused.{SomePart};
-ghost use Rattle.life_quad.specs.Keeping.{KeepsSquares};
+ghost use Rattle.life_quad.specs.Keeping.{KeepsSquares, IsWantKind};
 ghost use Rattle.life_sweep.specs.Generation.{next_life};
 ghost use Rattle.life_block.specs.Needed.{square_from, next_square};
 ghost use Rattle.life_block.specs.Pieces.{IsPiece, IsBinary, IsAt, InNine, InSixteen, AreNine, AreSixteen};
@@ -26,8 +26,7 @@ fn next_of_cells<S: Squares>(
     ensures at { IfOk result (IsAt (S.knows squares.new) (S.content squares.new) 2) }
     ensures next { IfOk result (λ r. (cells : ℤ → ℤ → ℕ) (x y : ℤ) → IsBinary cells → AreSixteen (S.content squares.old) cells 2 x y sixteen.now → IsPiece (next_life rule.now cells) x y (S.content squares.new r)) }
     ensures keeps { KeepsSquares S.knows S.content S.stored S.most squares.old squares.new }
-    ensures refusals { IfErr result (λ e. (e ≡ Full) ⊎ (e ≡ Memory)) }
-    ensures full { result ≡ Err Full → length (S.stored squares.new) ≡ S.most squares.new }
+    ensures refusals { IfErr result (IsWantKind (S.stored squares.new) (S.most squares.new)) }
     ensures needed { OnErr result ((cells : ℤ → ℤ → ℕ) (x y : ℤ) → IsBinary cells → AreSixteen (S.content squares.old) cells 2 x y sixteen.now → SomePart (S.needs_node squares.new) (square_from (next_life rule.now cells) 2 x y)) }
 {
     let rows = eight_rows(squares, sixteen);
@@ -59,8 +58,7 @@ fn next_amid<S: Squares>(
     ensures at { IfOk result (IsAt (S.knows squares.new) (S.content squares.new) level) }
     ensures next { IfOk result (λ r. (cells : ℤ → ℤ → ℕ) (x y : ℤ) → IsBinary cells → AreNine (S.content squares.old) cells (2 ^ level) x y nine.now → IsPiece (next_life rule.now cells) x y (S.content squares.new r)) }
     ensures keeps { KeepsSquares S.knows S.content S.stored S.most squares.old squares.new }
-    ensures refusals { IfErr result (λ e. (e ≡ Full) ⊎ (e ≡ Memory)) }
-    ensures full { result ≡ Err Full → length (S.stored squares.new) ≡ S.most squares.new }
+    ensures refusals { IfErr result (IsWantKind (S.stored squares.new) (S.most squares.new)) }
     ensures needed { OnErr result ((cells : ℤ → ℤ → ℕ) (x y : ℤ) → IsBinary cells → AreNine (S.content squares.old) cells (2 ^ level) x y nine.now → SomePart (S.needs_node squares.new) (square_from (next_life rule.now cells) level x y)) }
 {
     let blank = squares.empty(level);
@@ -86,8 +84,7 @@ fn next_of_middle<S: Squares>(
     ensures at { IfOk result (IsAt (S.knows squares.new) (S.content squares.new) (level + 1)) }
     ensures next { IfOk result (λ r. (cells : ℤ → ℤ → ℕ) (x y : ℤ) → IsBinary cells → AreSixteen (S.content squares.old) cells (2 ^ level) x y sixteen.now → IsPiece (next_life rule.now cells) x y (S.content squares.new r)) }
     ensures keeps { KeepsSquares S.knows S.content S.stored S.most squares.old squares.new }
-    ensures refusals { IfErr result (λ e. (e ≡ Full) ⊎ (e ≡ Memory)) }
-    ensures full { result ≡ Err Full → length (S.stored squares.new) ≡ S.most squares.new }
+    ensures refusals { IfErr result (IsWantKind (S.stored squares.new) (S.most squares.new)) }
     ensures needed { OnErr result ((cells : ℤ → ℤ → ℕ) (x y : ℤ) → IsBinary cells → AreSixteen (S.content squares.old) cells (2 ^ level) x y sixteen.now → SomePart (S.needs_node squares.new) (square_from (next_life rule.now cells) (suc level) x y)) }
 {
     if level == 1 {
@@ -115,8 +112,7 @@ pub fn next_life_square<S: Squares>(squares: &mut S, rule: &LifeRule, id: Id) ->
     ensures level { IfOk result (λ r. depth (S.content squares.new r) ≡ depth (S.content squares.old id) + 1) }
     ensures next { IfOk result (λ r. (x y : ℤ) → tree_cell (S.content squares.new r) x y ≡ next_life rule.now (tree_cell (S.content squares.old id)) x y) }
     ensures keeps { KeepsSquares S.knows S.content S.stored S.most squares.old squares.new }
-    ensures refusals { IfErr result (λ e. (e ≡ Full) ⊎ (e ≡ Memory)) }
-    ensures full { result ≡ Err Full → length (S.stored squares.new) ≡ S.most squares.new }
+    ensures refusals { IfErr result (IsWantKind (S.stored squares.new) (S.most squares.new)) }
     ensures needed { OnErr result (SomePart (S.needs_node squares.new) (next_square rule.now (S.content squares.old id))) }
 {
     // To read a field opens the invariant to the proof: no cell is born without live neighbours.

@@ -1,9 +1,9 @@
 //! The next generation of a pattern.
-ghost use Rattle.std.specs.Prelude.{◌≡◌, ◌⊎◌, ℤ, ◌<◌, ◌≤◌, length, Err, Some, None, IfOk, IfErr};
+ghost use Rattle.std.specs.Prelude.{◌≡◌, ◌⊎◌, ℤ, ◌<◌, ◌≤◌, Err, Some, None, IfOk, IfErr};
 ghost use Rattle.life_base.specs.declared.kind.Kind.TheVariants.{Full, Memory};
 ghost use Rattle.life_base.specs.Refusal.{fault_of};
 ghost use Rattle.life_base.specs.Tree.{depth, tree_cell};
-ghost use Rattle.life_quad.specs.Keeping.{KeepsSquares};
+ghost use Rattle.life_quad.specs.Keeping.{KeepsSquares, IsWantFault};
 ghost use Rattle.life_sweep.specs.Generation.{next_life};
 ghost use Rattle.life_sweep.specs.Refused.{GenerationRefusal};
 ghost use Rattle.life_sweep.specs.Sweep.{LifeAnswers};
@@ -39,8 +39,7 @@ pub fn next_life_generation<S: SharedSquares>(
     ensures level { IfOk result (λ r. depth (S.content squares.new r) ≡ level_behind (depth (S.content squares.old id))) }
     ensures next { IfOk result (λ r. (x y : ℤ) → tree_cell (S.content squares.new r) x y ≡ next_life rule.now (tree_cell (S.content squares.old id)) x y) }
     ensures accepted { IfOk result (λ _. GenerationRefusal (LifeAnswers rule.now) 2 most (S.content squares.old id) None) }
-    ensures refusals { IfErr result (λ f. (f ≡ fault_of Full) ⊎ (f ≡ fault_of Memory) ⊎ GenerationRefusal (LifeAnswers rule.now) 2 most (S.content squares.old id) (Some f)) }
-    ensures full { result ≡ Err (fault_of Full) → length (S.stored squares.new) ≡ S.most squares.new }
+    ensures refusals { IfErr result (λ f. IsWantFault (S.stored squares.new) (S.most squares.new) f ⊎ GenerationRefusal (LifeAnswers rule.now) 2 most (S.content squares.old id) (Some f)) }
     ensures needed { result ≡ Err (fault_of Full) → SomeOfNext (S.needs_node squares.new) rule.now (S.content squares.old id) }
     ensures keeps { KeepsSquares S.knows S.content S.stored S.most squares.old squares.new }
 {

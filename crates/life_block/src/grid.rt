@@ -1,5 +1,5 @@
 //! Squares of one level side by side.
-ghost use Rattle.std.specs.Prelude.{◌≡◌, ℕ, ℤ, ◌+◌, ◌^◌, ◌≤◌, true};
+ghost use Rattle.std.specs.Prelude.{◌≡◌, ℕ, ℤ, ◌+◌, ◌^◌, true};
 ghost use Rattle.life_block.specs.Pieces.{IsAt, InThree, InNine, InFour, InSixteen, AreThree, AreNine, AreFour, AreSixteen, ahead, four_of, first_three, last_three, western, eastern, at_north_west, at_north_east, at_south_west, at_south_east};
 
 use life_quad::{Id, Quarters, Squares, divide};

@@ -1,14 +1,11 @@
 -- What calls do to a store that they are lent, and what patterns in it stand for.
-use Rattle.std.specs.Prelude.{◌≡◌, ℕ, ◌≤◌, ◌⊎◌, true, false, List, length}
+use Rattle.std.specs.Prelude.{◌≡◌, ℕ, ◌≤◌, ◌⊎◌, true, false, List}
 use Rattle.life_base.specs.Tree.{Tree, depth}
-use Rattle.life_base.specs.Refusal.{fault_of}
 use Rattle.life_base.specs.declared.rule.Rule.{Rule}
 use Rattle.life_base.specs.declared.fault.Fault.{Fault}
-use Rattle.life_base.specs.declared.kind.Kind.{Kind}
-use Rattle.life_base.specs.declared.kind.Kind.TheVariants.{Full, Memory}
 use Rattle.life_mc.specs.Macrocell.{largest_state}
 use Rattle.life_mc.specs.Squares.{HasStatesUpTo}
-use Rattle.life_quad.specs.Keeping.{KeepsSquares}
+use Rattle.life_quad.specs.Keeping.{KeepsSquares, IsWantFault}
 use Rattle.life_quad.specs.Moves.{trimmed}
 use Rattle.life_quad.specs.Store.{Nodes, Knows, IsShared, held, squares, square_of}
 use Rattle.life_quad.specs.declared.id.Id.{Id}
@@ -36,11 +33,7 @@ Keeps = KeepsSquares IsKnown content held (λ store. store.limit)
 
 -- the store holds its limit, or a growth of memory was refused
 abbrev pub IsWant : Nodes → Fault → Type 0
-IsWant store fault = (fault ≡ fault_of Memory) ⊎ ((fault ≡ fault_of Full) × (length (held store) ≡ store.limit))
-
--- the kinds of such a fault
-abbrev pub IsWantKind : Nodes → Kind → Type 0
-IsWantKind store kind = (kind ≡ Memory) ⊎ ((kind ≡ Full) × (length (held store) ≡ store.limit))
+IsWant store = IsWantFault (held store) store.limit
 
 -- what a pattern in a store says
 abbrev pub universe_in : Nodes → Pattern → Universe

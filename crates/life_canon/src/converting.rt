@@ -6,7 +6,7 @@ ghost use Rattle.life_base.specs.Refusal.{fault_of};
 ghost use Rattle.life_canon.specs.Files.{Same};
 ghost use Rattle.life_canon.specs.Least.{IsLeastText};
 ghost use Rattle.life_canon.specs.Needs.{LacksFor};
-ghost use Rattle.life_canon.specs.Store.{Keeps, RefusesIn, IsOfFile, IsRead, IsTrimmed, universe_in};
+ghost use Rattle.life_canon.specs.Store.{Keeps, RefusesIn, IsOfFile, IsRead};
 ghost use Rattle.life_canon.specs.Texts.{IsCanonical, IsRleOf, HasMoreCells};
 
 use crate::pattern::Pattern;

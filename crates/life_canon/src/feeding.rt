@@ -1,14 +1,14 @@
 //! The lines of a file of either format, put into a store as they come.
 
-ghost use Rattle.std.specs.Prelude.{◌≡◌, ◌↔◌, ◌⊎◌, ◌++◌, ◌∷◌, [], ℕ, ◌<◌, ◌≤◌, List, length, ℤ, Some, IsTrue, true, false, Err, IfOk, IfErr, OnOk, max};
-ghost use Rattle.life_base.specs.declared.kind.Kind.TheVariants.{Full, Memory, NoHeader};
+ghost use Rattle.std.specs.Prelude.{◌≡◌, ◌↔◌, ◌⊎◌, ◌++◌, ◌∷◌, [], ◌<◌, ◌≤◌, ℤ, Some, IsTrue, false, Err, IfOk, IfErr, OnOk, max};
+ghost use Rattle.life_base.specs.declared.kind.Kind.TheVariants.{Full, NoHeader};
 ghost use Rattle.life_base.specs.Refusal.{Prefix};
 ghost use Rattle.life_base.specs.Tree.{depth, tree_cell};
 ghost use Rattle.life_mc.specs.Cells.{cell, root_level};
 ghost use Rattle.life_mc.specs.Macrocell.{Macrocell, IsValid};
 ghost use Rattle.life_mc.specs.Reading.{Accepts, squares_of, broken};
 ghost use Rattle.life_quad.specs.Store.{Nodes};
-ghost use Rattle.life_quad.specs.Keeping.{KeepsSquares};
+ghost use Rattle.life_quad.specs.Keeping.{KeepsSquares, IsWantKind};
 ghost use Rattle.life_rle.specs.Decided.{LacksHeader};
 ghost use Rattle.life_rle.specs.File.{HasRuns};
 ghost use Rattle.life_rle.specs.Grammar.{Breaks as BreaksRle, IsSomeRle};
@@ -47,9 +47,8 @@ fn add_runs<S: Squares>(squares: &mut S, builder: &mut Builder, runs: &[Run]) ->
     requires next { AreNext builder.old.runs runs.now }
     ensures filling { OnOk result (IsFilling (S.knows squares.new) (S.content squares.new) builder.new) }
     ensures runs { OnOk result (builder.new.runs ≡ builder.old.runs ++ runs.now) }
-    ensures refusals { IfErr result (λ e. (e ≡ Full) ⊎ (e ≡ Memory)) }
+    ensures refusals { IfErr result (IsWantKind (S.stored squares.new) (S.most squares.new)) }
     ensures keeps { KeepsSquares S.knows S.content S.stored S.most squares.old squares.new }
-    ensures full { result ≡ Err Full → length (S.stored squares.new) ≡ S.most squares.new }
     ensures needed { result ≡ Err Full → SomeOfRuns (S.needs_node squares.new) (builder.old.runs ++ runs.now) }
 {
     for run in runs {
@@ -71,9 +70,8 @@ fn take_rle_line<S: Squares>(
     ensures lines { OnOk result (lines.new ≡ record { lines = lines.old.lines ++ line.now ∷ []; refused = false }) }
     ensures front { OnOk result (Prefix (IsSomeRle MAX_LEVEL) lines.new.lines) }
     ensures built { OnOk result (IsBuilt (S.knows squares.new) (S.content squares.new) (HasRuns MAX_LEVEL lines.new.lines) builder.new) }
-    ensures fault { IfErr result (λ kind. (kind ≡ Full) ⊎ (kind ≡ Memory) ⊎ BreaksRle MAX_LEVEL lines.old.lines line.now kind) }
+    ensures fault { IfErr result (λ kind. IsWantKind (S.stored squares.new) (S.most squares.new) kind ⊎ BreaksRle MAX_LEVEL lines.old.lines line.now kind) }
     ensures keeps { KeepsSquares S.knows S.content S.stored S.most squares.old squares.new }
-    ensures full { result ≡ Err Full → length (S.stored squares.new) ≡ S.most squares.new }
     ensures needed { result ≡ Err Full → SomeOfLines MAX_LEVEL (S.needs_node squares.new) (lines.old.lines ++ line.now ∷ []) }
 {
     runs.clear();
@@ -93,9 +91,8 @@ fn take_macrocell_line<S: Squares>(
     ensures lines { OnOk result (lines.new ≡ record { lines = lines.old.lines ++ line.now ∷ []; refused = false }) }
     ensures front { OnOk result (Prefix (Accepts MAX_LEVEL) lines.new.lines) }
     ensures squares { OnOk result (AreSquaresOf (S.knows squares.new) (S.content squares.new) (squares_of lines.new.lines) ids.new.items) }
-    ensures fault { IfErr result (λ kind. (kind ≡ Full) ⊎ (kind ≡ Memory) ⊎ (broken MAX_LEVEL lines.old.lines line.now ≡ Some kind)) }
+    ensures fault { IfErr result (λ kind. IsWantKind (S.stored squares.new) (S.most squares.new) kind ⊎ (broken MAX_LEVEL lines.old.lines line.now ≡ Some kind)) }
     ensures keeps { KeepsSquares S.knows S.content S.stored S.most squares.old squares.new }
-    ensures full { result ≡ Err Full → length (S.stored squares.new) ≡ S.most squares.new }
     ensures needed { result ≡ Err Full → SomeOfLines MAX_LEVEL (S.needs_node squares.new) (lines.old.lines ++ line.now ∷ []) }
 {
     let Some(square) = lines.line(line)? else {
@@ -117,9 +114,8 @@ fn trimmed_pattern<S: Squares>(
     requires high { 1 ≤ depth (S.content squares.old root) }
     ensures pattern { (universe : Universe) → universe.rule ≡ rule → universe.generation ≡ generation → ((x y : ℤ) → tree_cell (S.content squares.old root) x y ≡ universe.cell x y)
         → IfOk result (IsPatternOf MAX_LEVEL (S.knows squares.new) (S.content squares.new) universe) }
-    ensures refusals { IfErr result (λ e. (e ≡ Full) ⊎ (e ≡ Memory)) }
+    ensures refusals { IfErr result (IsWantKind (S.stored squares.new) (S.most squares.new)) }
     ensures keeps { KeepsSquares S.knows S.content S.stored S.most squares.old squares.new }
-    ensures full { result ≡ Err Full → length (S.stored squares.new) ≡ S.most squares.new }
     ensures needed { result ≡ Err Full → (universe : Universe) → universe.rule ≡ rule → ((x y : ℤ) → tree_cell (S.content squares.old root) x y ≡ universe.cell x y)
         → SomeRoot (S.needs_node squares.new) universe (depth (S.content squares.old root)) }
 {
@@ -197,7 +193,7 @@ impl Progress {
         ensures lines { OnOk result (taken self.new ≡ taken self.old ++ line.now ∷ []) }
         ensures begun { OnOk result (IsOpen self.new) }
         ensures stands { OnOk result (StandsFor (IsKnown store.new) (content store.new) self.new) }
-        ensures fault { IfErr result (λ kind. IsWantKind store.new kind ⊎ Breaks MAX_LEVEL (taken self.old) line.now kind) }
+        ensures fault { IfErr result (λ kind. IsWantKind (held store.new) store.new.limit kind ⊎ Breaks MAX_LEVEL (taken self.old) line.now kind) }
         ensures needed { result ≡ Err Full → SomeOfLines MAX_LEVEL (IsNew store.new) (taken self.old ++ line.now ∷ []) }
         ensures keeps { Keeps store.old store.new }
     {
@@ -216,7 +212,7 @@ impl Progress {
         requires begun { IsOpen self }
         requires stands { StandsFor (IsKnown store.old) (content store.old) self }
         ensures pattern { IfOk result (λ pattern. (universe : Universe) × Says MAX_LEVEL (taken self) universe × IsPatternOf MAX_LEVEL (IsKnown store.new) (content store.new) universe pattern) }
-        ensures fault { IfErr result (λ kind. IsWantKind store.new kind ⊎ ((kind ≡ NoHeader) × LacksHeader MAX_LEVEL (taken self) × (is_macrocell (taken self) ≡ false))) }
+        ensures fault { IfErr result (λ kind. IsWantKind (held store.new) store.new.limit kind ⊎ ((kind ≡ NoHeader) × LacksHeader MAX_LEVEL (taken self) × (is_macrocell (taken self) ≡ false))) }
         ensures needed { result ≡ Err Full → SomeAtEnd MAX_LEVEL (IsNew store.new) (taken self) }
         ensures keeps { Keeps store.old store.new }
     {

@@ -1,7 +1,6 @@
 //! Squares of a store, made from node lines.
 
-ghost use Rattle.std.specs.Prelude.{◌≡◌, ◌⊎◌, ℕ, ◌+◌, ◌-◌, ◌^◌, ◌<◌, ◌≤◌, length, Err, IfSome, IfOk, IfErr, OnErr, max};
-ghost use Rattle.life_base.specs.declared.kind.Kind.TheVariants.{Full, Memory};
+ghost use Rattle.std.specs.Prelude.{◌≡◌, ◌+◌, ◌-◌, ◌^◌, ◌<◌, ◌≤◌, IfSome, IfOk, IfErr, OnErr, max};
 ghost use Rattle.life_base.specs.declared.rule.Rule.{Rule as RuleValue};
 ghost use Rattle.life_base.specs.Tree.{depth, tree_cell};
 ghost use Rattle.life_mc.specs.Cells.{leaf_cell};
@@ -13,7 +12,7 @@ ghost use Rattle.life_quad.specs.Refused.{SomePart};
 ghost use Rattle.life_canon.specs.Filling.{AreSquaresOf};
 ghost use Rattle.life_canon.specs.Needs.{SomeGrown, SomeOfLine};
 ghost use Rattle.std.specs.Prelude.{List, map, true, ℤ};
-ghost use Rattle.life_quad.specs.Keeping.{KeepsSquares};
+ghost use Rattle.life_quad.specs.Keeping.{KeepsSquares, IsWantKind};
 
 use life_base::{Kind, MAX_LEVEL};
 use life_mc::Line;
@@ -36,8 +35,7 @@ fn four_cells<S: Squares>(squares: &mut S, rows: &[u8; 8], column: u8, row: u8) 
     ensures square { IfOk result (λ id. S.content squares.new id ≡ tree_at (leaf_cell rows.now) 1 column row) }
     ensures level { IfOk result (λ id. depth (S.content squares.new id) ≡ 1) }
     ensures keeps { KeepsSquares S.knows S.content S.stored S.most squares.old squares.new }
-    ensures refusals { IfErr result (λ e. (e ≡ Full) ⊎ (e ≡ Memory)) }
-    ensures full { result ≡ Err Full → length (S.stored squares.new) ≡ S.most squares.new }
+    ensures refusals { IfErr result (IsWantKind (S.stored squares.new) (S.most squares.new)) }
     ensures needed { OnErr result (S.needs_node squares.new (tree_at (leaf_cell rows.now) 1 column row)) }
 {
     let nw = squares.cell(leaf_state(rows, column, row));
@@ -105,8 +103,7 @@ fn leaf_part<S: Squares>(
     ensures square { IfOk result (λ id. S.content squares.new id ≡ tree_at (leaf_cell rows.now) level column row) }
     ensures level { IfOk result (λ id. depth (S.content squares.new id) ≡ level) }
     ensures keeps { KeepsSquares S.knows S.content S.stored S.most squares.old squares.new }
-    ensures refusals { IfErr result (λ e. (e ≡ Full) ⊎ (e ≡ Memory)) }
-    ensures full { result ≡ Err Full → length (S.stored squares.new) ≡ S.most squares.new }
+    ensures refusals { IfErr result (IsWantKind (S.stored squares.new) (S.most squares.new)) }
     ensures needed { OnErr result (SomePart (S.needs_node squares.new) (tree_at (leaf_cell rows.now) level column row)) }
 {
     if level == 0 {
@@ -152,8 +149,7 @@ pub(crate) fn line_square<S: Squares>(squares: &mut S, ids: &[Id], line: Line) -
     ensures square { (lines : List LineValue) (rule : RuleValue) → IsSquare MAX_LEVEL rule (map level_of lines) line → AreSquaresOf (S.knows squares.old) (S.content squares.old) lines ids.now
         → IfOk result (λ id. S.content squares.new id ≡ line_tree (tree_of lines (level_of line - 1)) line) }
     ensures keeps { KeepsSquares S.knows S.content S.stored S.most squares.old squares.new }
-    ensures refusals { IfErr result (λ e. (e ≡ Full) ⊎ (e ≡ Memory)) }
-    ensures full { result ≡ Err Full → length (S.stored squares.new) ≡ S.most squares.new }
+    ensures refusals { IfErr result (IsWantKind (S.stored squares.new) (S.most squares.new)) }
     ensures needed { (lines : List LineValue) (rule : RuleValue) → IsSquare MAX_LEVEL rule (map level_of lines) line → AreSquaresOf (S.knows squares.old) (S.content squares.old) lines ids.now
         → OnErr result (SomeOfLine (S.needs_node squares.new) lines line) }
 {
@@ -184,8 +180,7 @@ pub(crate) fn grow_to<S: Squares>(squares: &mut S, id: Id, level: u8) -> Result<
     ensures level { IfOk result (λ r. depth (S.content squares.new r) ≡ max level (depth (S.content squares.old id))) }
     ensures cells { IfOk result (λ r. (x y : ℤ) → tree_cell (S.content squares.new r) x y ≡ tree_cell (S.content squares.old id) x y) }
     ensures keeps { KeepsSquares S.knows S.content S.stored S.most squares.old squares.new }
-    ensures refusals { IfErr result (λ e. (e ≡ Full) ⊎ (e ≡ Memory)) }
-    ensures full { result ≡ Err Full → length (S.stored squares.new) ≡ S.most squares.new }
+    ensures refusals { IfErr result (IsWantKind (S.stored squares.new) (S.most squares.new)) }
     ensures needed { OnErr result (SomeGrown (S.needs_node squares.new) (S.content squares.old id) level) }
 {
     if level <= squares.level(id) {

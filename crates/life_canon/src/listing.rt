@@ -1,6 +1,6 @@
 //! The squares of a square, each once, and their numbers.
 
-ghost use Rattle.std.specs.Prelude.{◌≡◌, ℕ, ◌^◌, ◌<◌, ◌≤◌, Bool, true, false, map, All, IsTrue, IfOk, IfErr, OnOk, IfSome, Some};
+ghost use Rattle.std.specs.Prelude.{◌≡◌, ◌^◌, ◌<◌, ◌≤◌, true, false, map, All, IfOk, IfErr, OnOk, IfSome, Some};
 ghost use Rattle.life_base.specs.declared.kind.Kind.TheVariants.{Memory};
 ghost use Rattle.life_base.specs.Tree.{depth, is_blank_tree};
 ghost use Rattle.life_canon.specs.Listing.{is_small, is_in, with_new, with_all, walk, listed, number_of, place};

@@ -1,6 +1,6 @@
 //! The node lines of a pattern.
 
-ghost use Rattle.std.specs.Prelude.{◌≡◌, ◌==◌, ◌&&◌, ℕ, ◌+◌, ◌-◌, ◌^◌, ◌<◌, ◌≤◌, true, false, length, map, All, Contains, IfOk, IfErr};
+ghost use Rattle.std.specs.Prelude.{◌≡◌, ◌==◌, ◌&&◌, ◌-◌, ◌<◌, ◌≤◌, false, map, All, Contains, IfOk, IfErr};
 ghost use Rattle.life_base.specs.declared.kind.Kind.TheVariants.{Memory};
 ghost use Rattle.life_base.specs.Refusal.{fault_of};
 ghost use Rattle.life_base.specs.Tree.{Tree, depth};
@@ -9,7 +9,7 @@ ghost use Rattle.life_mc.specs.Squares.{HasStatesUpTo};
 ghost use Rattle.life_mc.specs.Macrocell.{largest_state};
 ghost use Rattle.life_mc.specs.Cells.{node_lines};
 ghost use Rattle.life_canon.specs.Universe.{is_life, least_level};
-ghost use Rattle.life_canon.specs.Listing.{rows_of, is_in, line_of, lines_for, square_file, canonical_file};
+ghost use Rattle.life_canon.specs.Listing.{rows_of, line_of, lines_for, square_file, canonical_file};
 ghost use Rattle.life_canon.specs.Least.{IsLeast};
 ghost use Rattle.life_canon.specs.Store.{IsTrimmed, universe_in, IsListed};
 

@@ -1,6 +1,6 @@
 //! A file of either format that comes in pieces.
 
-ghost use Rattle.std.specs.Prelude.{◌≡◌, ◌⊎◌, ◌++◌, ℕ, List, [], true, false, Err, IfOk, IfErr, OnOk, OnErr};
+ghost use Rattle.std.specs.Prelude.{◌≡◌, ◌⊎◌, ◌++◌, [], true, false, Err, IfOk, IfErr, OnOk, OnErr};
 ghost use Rattle.life_base.specs.declared.kind.Kind.TheVariants.{Full, Spent};
 ghost use Rattle.life_base.specs.declared.fault.Fault.{Fault as FaultValue};
 ghost use Rattle.life_base.specs.Refusal.{fault_of};

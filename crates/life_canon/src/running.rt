@@ -1,6 +1,6 @@
 //! From a source to a sink.
 
-ghost use Rattle.std.specs.Prelude.{◌≡◌, ◌≢◌, ◌⊎◌, ◌≤◌, ◌^◌, List, ℕ, true, false, IsTrue, ◌↔◌, IfOk, IfErr, OnOk, IfSome, IsErrAnd, Some, None, Err, ◌++◌};
+ghost use Rattle.std.specs.Prelude.{◌≡◌, ◌≢◌, ◌⊎◌, ◌≤◌, ◌^◌, true, false, IsTrue, ◌↔◌, IfOk, IfErr, OnOk, IfSome, IsErrAnd, Some, None, Err, ◌++◌};
 ghost use Rattle.life_base.specs.DeviceRuns.{source_run, sink_run};
 ghost use Rattle.life_base.specs.Refusal.{fault_of};
 ghost use Rattle.life_canon.specs.Running.{Ran, RunRefuses, ReadRefuses, HasRead, LacksForRead};

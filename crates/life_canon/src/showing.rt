@@ -1,6 +1,6 @@
 //! What a pattern is, in five lines.
 
-ghost use Rattle.std.specs.Prelude.{◌≡◌, ◌++◌, ◌≤◌, ◌<◌, ◌+◌, ◌^◌, ◌≤ℤ◌, ◌-ℤ◌, ◌+ℤ◌, ◌<ℤ◌, pos, neg_ℤ, codes, decimal, Err, IfOk, IfErr, IfSome, OnOk, MatchOption, length};
+ghost use Rattle.std.specs.Prelude.{◌≡◌, ◌++◌, ◌≤◌, ◌<◌, ◌+◌, codes, decimal, Err, IfOk, IfErr, IfSome, OnOk, MatchOption};
 ghost use Rattle.std.specs.Fmt.{signed_decimal};
 ghost use Rattle.life_base.specs.Refusal.{fault_of};
 ghost use Rattle.life_base.specs.Rules.{rule_text};

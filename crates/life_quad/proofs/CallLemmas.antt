@@ -4,7 +4,7 @@ use Rattle.std.proofs.lemmas.List.Elements.{All-cons, All-nil, Contains-append_l
 use Rattle.std.proofs.lemmas.List.{length-map, get_or-map, map_push}
 use Rattle.std.specs.List.{list_any, position, All, AllPairs}
 use Rattle.std.proofs.lemmas.List.Quantifiers.{position-Some}
-use Rattle.std.specs.Prelude.{if◌then◌else◌, IfOk, IsErr, IsErrAnd}
+use Rattle.std.specs.Prelude.{if◌then◌else◌, IfOk, IfErr, IsErr, IsErrAnd}
 use Rattle.indexmap.specs.IndexSet.{insert_key}
 use Rattle.std.proofs.lemmas.Option.{slice_get-get_or, slice_get_within, get_or_from_slice_get}
 use Rattle.std.proofs.lemmas.List.Folds.{list_any_at}
@@ -17,7 +17,7 @@ use Rattle.life_quad.specs.contracts.id.NodePartialEq.TheImpl.{eq-value}
 use Rattle.life_base.specs.Tree.{Tree, point, quad, depth, quarters, blank, is_blank_tree, IsFull}
 use Rattle.life_base.proofs.Squares.{depth-blank, is_blank-blank, blank_is, quad_nw, quad_ne, quad_sw, quad_se, point_state, point≢quad}
 use Rattle.life_quad.specs.Store.{Nodes, two, four, small_square, number_of, id_of, square_of, node_square, squares, levels_of, content, held, is_blank_id, IsNamed, IsEarlier, IsNode, IsSmall, IsSound, IsShared, Knows, IsIdOf, as_small, as_node, HasRoom, KeepsContents, Joined, was_there, is_new, Answers, HasSeen}
-use Rattle.life_quad.specs.Keeping.{KeepsSquares}
+use Rattle.life_quad.specs.Keeping.{KeepsSquares, IsWantKind}
 use Rattle.life_quad.specs.SmallLaws.{small_range, quarters_range}
 use Rattle.life_quad.specs.StoreLaws.{Kinds, a_state, a_blank, a_small, a_node, kind_of, Names, the_state, the_blank, the_node, names, same_id, same_ids, length-squares, squares-push, small_node, square_of-append, square_of-node, square_of-small, square_of-id, is_blank-content, full_content, slice_get-last, slice_get-push_cases, node_square-append}
 use Rattle.life_quad.proofs.MakingLemmas.{Joins}
@@ -397,7 +397,7 @@ answers_err s t k u absent kinds full = record {
   limit = refl;
   full = (λ e. let f : k ≡ Full = cc in (absent, length-held s ∙ full.0 f), λ needs. ap Err (full.1 (sym (length-held s) ∙ needs.1)));
   room = λ e. room e (nat_lt (length s.log) s.limit) refl;
-  refusals = kinds;
+  refusals = elim kinds [ inl f ↦ inr (f, length-held s ∙ full.0 f) | inr m ↦ inl m ];
   needed = absent;
   unchanged = refl;
 }
@@ -774,6 +774,16 @@ keeps_added r old new n i same sound limit = record {
 pub knows_last : (old new : Nodes) (n : Node) → new ≡ with_node old n → IsSound new → (id : Id) → id.0 ≡ 66064 + length old.nodes → Knows new id
 knows_last old new n i sound id e = knows_id new n id sound
     (as_node (length old.nodes) e (ap (λ s. slice_get s.nodes (length old.nodes)) i ∙ slice_get-last old.nodes n))
+
+-- why a node was refused, in the words of the store's squares
+pub IsWantKind-left : {T : Type 0} (r : Result T Kind) (old new : Nodes) → IfErr r (λ e. (e ≡ Full) ⊎ (e ≡ Memory))
+    → (r ≡ Err Full) ↔ (length old.nodes ≡ old.limit) → OnErr r (new ≡ old)
+    → IfErr r (IsWantKind (squares new.nodes) new.limit)
+IsWantKind-left (Ok x) old new kinds full same = tt
+IsWantKind-left (Err k) old new kinds full same = elim kinds [
+  | inl f ↦ inr (f, subst (λ s. length (squares s.nodes) ≡ s.limit) (sym same) (length-squares old.nodes ∙ full.0 (ap Err f)))
+  | inr m ↦ inl m
+]
 
 -- a store that was refused memory for a node has room for it
 pub room_left : {T : Type 0} (r : Result T Kind) (old new : Nodes) → length old.nodes ≤ old.limit → (r ≡ Err Full) ↔ (length old.nodes ≡ old.limit)

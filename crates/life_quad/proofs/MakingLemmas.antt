@@ -1,11 +1,11 @@
 -- Calls that make squares in a store, by their clauses.
-use Rattle.std.proofs.Common.{◌≡◌, ◌∙◌, ◌⊎◌, ◌↔◌, ◌<◌, ℕ, List, [], ◌∷◌, ◌++◌, length, Result, Ok, Err, IfOk, OnOk, OnErr, sym, ap, subst}
+use Rattle.std.proofs.Common.{◌≡◌, ◌∙◌, ◌↔◌, ◌<◌, ℕ, List, [], ◌∷◌, ◌++◌, length, Result, Ok, Err, IfOk, OnOk, OnErr, sym, ap, subst}
 use Rattle.std.specs.Prelude.{IfErr, IsErrAnd}
 use Rattle.life_base.specs.declared.kind.Kind.{Kind}
 use Rattle.life_base.specs.declared.kind.Kind.TheVariants.{Full, Memory}
 use Rattle.life_base.specs.Tree.{Tree}
 use Rattle.life_quad.specs.declared.id.Id.{Id}
-use Rattle.life_quad.specs.Keeping.{KeepsSquares}
+use Rattle.life_quad.specs.Keeping.{KeepsSquares, IsWantKind}
 use Rattle.life_quad.proofs.KeepingLemmas.{keeps-then}
 use Rattle.life_quad.proofs.RefusedLemmas.{error_is}
 
@@ -17,8 +17,7 @@ module _ {S : Type 0} (knows : S → Id → Type 0) (content : S → Id → Tree
         known : IfOk r known;
         square : IfOk r square;
         keeps : KeepsSquares knows content stored most old new;
-        refusals : IfErr r (λ e. (e ≡ Full) ⊎ (e ≡ Memory));
-        full : r ≡ Err Full → length (stored new) ≡ most new;
+        refusals : IfErr r (IsWantKind (stored new) (most new));
         room : r ≡ Err Memory → length (stored new) < most new;
         needed : OnErr r needed;
       }
@@ -35,7 +34,7 @@ module _ {S : Type 0} (knows : S → Id → Type 0) (content : S → Id → Tree
         fresh : IfOk r (λ id. needs old t → ¬ knows old id);
         full : (r ≡ Err Full) ↔ (needs old t × (length (stored old) ≡ most old));
         room : r ≡ Err Memory → length (stored new) < most new;
-        refusals : IfErr r (λ e. (e ≡ Full) ⊎ (e ≡ Memory));
+        refusals : IfErr r (IsWantKind (stored new) (most new));
         needed : OnErr r (needs old t);
         unchanged : OnErr r (new ≡ old);
       }
@@ -45,21 +44,19 @@ module _ {S : Type 0} {knows : S → Id → Type 0} {content : S → Id → Tree
   pub made : {T K Q : Type 0} {old new : S} (x : T) → K → Q → KeepsSquares knows content stored most old new
       → Makes knows content stored most old new (λ _. K) (λ _. Q) ⊥ (Ok x)
   made x known square keeps =
-      record { known = known; square = square; keeps = keeps; refusals = tt; full = λ f. absurd (cc); room = λ f. absurd (cc); needed = tt }
+      record { known = known; square = square; keeps = keeps; refusals = tt; room = λ f. absurd (cc); needed = tt }
 
   -- a refusal that is passed on
   pub refused : {T : Type 0} {old new : S} {needed : Type 0} {e : Kind} (known square : T → Type 0) (r : Result T Kind) → IsErrAnd r (λ f. f ≡ e)
-      → KeepsSquares knows content stored most old new → (e ≡ Full) ⊎ (e ≡ Memory) → (e ≡ Full → length (stored new) ≡ most new)
-      → (e ≡ Memory → length (stored new) < most new)
+      → KeepsSquares knows content stored most old new → IsWantKind (stored new) (most new) e → (e ≡ Memory → length (stored new) < most new)
       → needed → Makes knows content stored most old new known square needed r
-  refused known square r told keeps kinds full room needed =
+  refused known square r told keeps kinds room needed =
       let p = error_is r told in
       record {
         known = rw p tt;
         square = rw p tt;
         keeps = keeps;
         refusals = rw p kinds;
-        full = λ f. full (let same = sym p ∙ f in cc);
         room = λ f. room (let same = sym p ∙ f in cc);
         needed = rw p needed;
       }
@@ -75,7 +72,6 @@ module _ {S : Type 0} {knows : S → Id → Type 0} {content : S → Id → Tree
         square = subst square (sym join.square) is;
         keeps = keeps-then first join.keeps;
         refusals = tt;
-        full = λ f. absurd (cc);
         room = λ f. absurd (cc);
         needed = tt;
       }
@@ -85,7 +81,6 @@ module _ {S : Type 0} {knows : S → Id → Type 0} {content : S → Id → Tree
         square = tt;
         keeps = keeps-then first join.keeps;
         refusals = join.refusals;
-        full = λ f. rw join.unchanged (join.full.0 f).1;
         room = join.room;
         needed = why (subst (λ s. needs s t) (sym join.unchanged) join.needed);
       }
@@ -96,5 +91,5 @@ module _ {S : Type 0} {knows : S → Id → Type 0} {content : S → Id → Tree
       → KeepsSquares knows content stored most old mid → Joins knows content stored most needs mid new t (Err e) → (needs new t → needed)
       → Makes knows content stored most old new known square needed r
   join-refused {t = t} needs known square r told first join why =
-      refused known square r told (keeps-then first join.keeps) join.refusals (λ f. rw join.unchanged (join.full.0 (ap Err f)).1) (λ f. join.room (ap Err f))
+      refused known square r told (keeps-then first join.keeps) join.refusals (λ f. join.room (ap Err f))
       (why (subst (λ s. needs s t) (sym join.unchanged) join.needed))

@@ -1,8 +1,9 @@
 -- How a store of nodes stands for squares.
-use Rattle.std.specs.Prelude.{◌≡◌, ◌≢◌, ℕ, ◌+◌, ◌*◌, ◌-◌, ◌/◌, ◌%◌, ◌<◌, ◌^◌, ◌≤◌, Bool, true, false, nat_lt, if◌then◌else◌, List, [], ◌∷◌, ◌++◌, length, fold, map, Option, None, Some, Result, Err, slice_get, slice_index_or, Contains, AllPairs, ◌==◌, ◌||◌, ◌&&◌, nat_le, ◌⊎◌, ◌↔◌, IfOk, IfErr, OnErr}
+use Rattle.std.specs.Prelude.{◌≡◌, ◌≢◌, ℕ, ◌+◌, ◌*◌, ◌-◌, ◌/◌, ◌%◌, ◌<◌, ◌^◌, ◌≤◌, Bool, true, false, nat_lt, if◌then◌else◌, List, [], ◌∷◌, ◌++◌, length, fold, map, Option, None, Some, Result, Err, slice_get, slice_index_or, Contains, AllPairs, ◌==◌, ◌||◌, ◌&&◌, nat_le, ◌↔◌, IfOk, IfErr, OnErr}
 use Rattle.life_base.specs.declared.cell.TheConstants.{MAX_LEVEL}
 use Rattle.life_base.specs.declared.kind.Kind.{Kind}
 use Rattle.life_base.specs.declared.kind.Kind.TheVariants.{Full, Memory}
+use Rattle.life_quad.specs.Keeping.{IsWantKind}
 use Rattle.life_quad.specs.declared.id.Id.{Id}
 use Rattle.life_quad.specs.declared.id.Node.{Node}
 use Rattle.life_base.specs.Tree.{Tree, point, quad, depth, blank, is_blank_tree, IsFull}
@@ -167,7 +168,7 @@ pub record Answers (old new : Nodes) (t : Tree) (r : Result Id Kind) : Type 0 wh
   pub limit : new.limit ≡ old.limit
   pub full : (r ≡ Err Full) ↔ (¬ Contains (held old) t × (length (held old) ≡ old.limit))
   pub room : r ≡ Err Memory → length (held new) < new.limit
-  pub refusals : IfErr r (λ e. (e ≡ Full) ⊎ (e ≡ Memory))
+  pub refusals : IfErr r (IsWantKind (held new) new.limit)
   pub needed : OnErr r (¬ Contains (held old) t)
   pub unchanged : OnErr r (new ≡ old)
 

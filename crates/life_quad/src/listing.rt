@@ -3,9 +3,9 @@
 //! A band is a row of squares of one level, from the west to the east, without blank ones. Its upper half, and then its lower
 //! half, are bands of the level below; a band of level 0 is a row of cells. So no cell is sorted and no blank square is
 //! entered, and each band has at most as many squares as there are cells.
-ghost use Rattle.std.specs.Prelude.{◌≡◌, ◌⊎◌, ◌≢◌, ◌+◌, ◌-◌, ◌^◌, ◌<◌, ◌≤◌, ◌+ℤ◌, ◌≤ℤ◌, pos, neg_ℤ, [], ◌∷◌, ◌++◌, false, length, All, Err, OnOk, IfOk, IfErr};
+ghost use Rattle.std.specs.Prelude.{◌≡◌, ◌⊎◌, ◌+◌, ◌-◌, ◌^◌, ◌<◌, ◌≤◌, ◌+ℤ◌, ◌≤ℤ◌, pos, neg_ℤ, [], ◌∷◌, ◌++◌, length, All, Err, OnOk, IfOk, IfErr};
 ghost use Rattle.life_base.specs.declared.kind.Kind.TheVariants.{Memory, TooManyCells};
-ghost use Rattle.life_base.specs.Tree.{depth, is_blank_tree};
+ghost use Rattle.life_base.specs.Tree.{depth};
 ghost use Rattle.life_quad.specs.Cells.{IsCellList, population};
 ghost use Rattle.life_quad.specs.Bands.{InBand, IsPlaced, pieces, kept, northern, southern, upper, lower, row_cells, band_cells};
 

@@ -1,10 +1,10 @@
 //! What a store of squares offers.
-ghost use Rattle.std.specs.Prelude.{◌≡◌, ◌↔◌, ◌⊎◌, ℕ, ◌<◌, ◌≤◌, List, [], ◌∷◌, ◌++◌, length, map, All, Ok, Err, MatchOption, IfSome, IfOk, IfErr, OnOk, OnErr};
+ghost use Rattle.std.specs.Prelude.{◌≡◌, ◌↔◌, ℕ, ◌<◌, ◌≤◌, List, [], ◌∷◌, ◌++◌, length, map, All, Err, MatchOption, IfSome, IfOk, IfErr, OnOk, OnErr};
 ghost use Rattle.life_base.specs.declared.kind.Kind.TheVariants.{Full, Memory};
 ghost use Rattle.life_quad.specs.declared.id.Id.{Id as IdValue};
 ghost use Rattle.life_base.specs.Tree.{Tree, point, quad, depth, blank, quarters, IsFull};
 ghost use Rattle.life_quad.specs.Store.{four};
-ghost use Rattle.life_quad.specs.Keeping.{KeepsSquares};
+ghost use Rattle.life_quad.specs.Keeping.{KeepsSquares, IsWantKind};
 
 use crate::Id;
 use life_base::{Kind, MAX_LEVEL, State};
@@ -65,7 +65,7 @@ pub trait Squares {
         // A refusal is want of room or of memory, for a new square alone.
         ensures full { let t = quad (content self.old nw) (content self.old ne) (content self.old sw) (content self.old se) in (result ≡ Err Full) ↔ (needs_node self.old t × (length (stored self.old) ≡ most self.old)) }
         ensures room { result ≡ Err Memory → length (stored self.new) < most self.new }
-        ensures refusals { IfErr result (λ e. (e ≡ Full) ⊎ (e ≡ Memory)) }
+        ensures refusals { IfErr result (IsWantKind (stored self.new) (most self.new)) }
         ensures needed { let t = quad (content self.old nw) (content self.old ne) (content self.old sw) (content self.old se) in OnErr result (needs_node self.old t) }
         ensures unchanged { OnErr result (self.new ≡ self.old) };
 

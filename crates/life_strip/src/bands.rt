@@ -1,10 +1,10 @@
 //! Four rows of cells of the states 0 and 1, made into squares of level 2 at once, 64 columns at a time.
-ghost use Rattle.std.specs.Prelude.{◌≡◌, ℕ, ◌+◌, ◌-◌, ◌*◌, ◌^◌, ◌<◌, ◌≤◌, ◌⊎◌, length, Err, IfSome, IfOk, IfErr, OnOk, OnErr};
+ghost use Rattle.std.specs.Prelude.{◌≡◌, ℕ, ◌+◌, ◌-◌, ◌*◌, ◌^◌, ◌<◌, ◌≤◌, Err, IfSome, IfOk, IfErr, OnOk, OnErr};
 ghost use Rattle.life_base.specs.declared.kind.Kind.TheVariants.{Full, Memory};
-ghost use Rattle.life_base.specs.Tree.{Tree, quad};
+ghost use Rattle.life_base.specs.Tree.{Tree};
 ghost use Rattle.life_quad.specs.Refused.{SomePart};
 ghost use Rattle.life_quad.specs.Store.{two, four};
-ghost use Rattle.life_quad.specs.Keeping.{KeepsSquares};
+ghost use Rattle.life_quad.specs.Keeping.{KeepsSquares, IsWantKind};
 ghost use Rattle.life_strip.specs.Strip.{IsStrip, AreWithin, square_at};
 ghost use Rattle.life_strip.specs.Band.{four_at, Covers, IsExtended, FilledTo, cells_at};
 
@@ -20,8 +20,7 @@ fn join_two<S: Squares>(squares: &mut S, cells: u16) -> Result<Id, Kind>
     ensures known { IfOk result (S.knows squares.new) }
     ensures square { IfOk result (λ r. S.content squares.new r ≡ two cells) }
     ensures keeps { KeepsSquares S.knows S.content S.stored S.most squares.old squares.new }
-    ensures refusals { IfErr result (λ e. (e ≡ Full) ⊎ (e ≡ Memory)) }
-    ensures full { result ≡ Err Full → length (S.stored squares.new) ≡ S.most squares.new }
+    ensures refusals { IfErr result (IsWantKind (S.stored squares.new) (S.most squares.new)) }
     ensures needed { OnErr result (S.needs_node squares.new (two cells)) }
 {
     let nw = squares.cell((cells / 8) as u8);
@@ -36,8 +35,7 @@ fn join_four<S: Squares>(squares: &mut S, cells: u16) -> Result<Id, Kind>
     ensures known { IfOk result (S.knows squares.new) }
     ensures square { IfOk result (λ r. S.content squares.new r ≡ four cells) }
     ensures keeps { KeepsSquares S.knows S.content S.stored S.most squares.old squares.new }
-    ensures refusals { IfErr result (λ e. (e ≡ Full) ⊎ (e ≡ Memory)) }
-    ensures full { result ≡ Err Full → length (S.stored squares.new) ≡ S.most squares.new }
+    ensures refusals { IfErr result (IsWantKind (S.stored squares.new) (S.most squares.new)) }
     ensures needed { OnErr result (SomePart (S.needs_node squares.new) (four cells)) }
 {
     if let Some(id) = squares.find_small(cells) {
@@ -74,8 +72,7 @@ fn push_square<S: Squares>(
 ) -> Result<(), Kind>
     ensures filled { OnOk result ((want : ℕ → Tree) (column : ℕ) → FilledTo (S.knows squares.old) (S.content squares.old) want spans.old.items column → column < end → ((c : ℕ) → column ≤ c → c < end → want c ≡ four cells) → FilledTo (S.knows squares.new) (S.content squares.new) want spans.new.items end) }
     ensures keeps { KeepsSquares S.knows S.content S.stored S.most squares.old squares.new }
-    ensures refusals { IfErr result (λ e. (e ≡ Full) ⊎ (e ≡ Memory)) }
-    ensures full { result ≡ Err Full → length (S.stored squares.new) ≡ S.most squares.new }
+    ensures refusals { IfErr result (IsWantKind (S.stored squares.new) (S.most squares.new)) }
     ensures needed { result ≡ Err Full → SomePart (S.needs_node squares.new) (four cells) }
 {
     let id = join_four(squares, cells)?;
@@ -97,8 +94,7 @@ fn push_rows<S: Squares>(
     ensures within { IfOk result (λ next. 64 * next ≤ 2 ^ MAX_LEVEL) }
     ensures filled { IfOk result (λ next. (want : ℕ → Tree) → FilledTo (S.knows squares.old) (S.content squares.old) want spans.old.items (16 * block) → ((i : ℕ) → i < 16 → want (16 * block + i) ≡ four (cells_at upper lower i)) → ((c : ℕ) → 16 * block < c → 4 * c + 3 < end → want c ≡ want (16 * block)) → FilledTo (S.knows squares.new) (S.content squares.new) want spans.new.items (16 * next)) }
     ensures keeps { KeepsSquares S.knows S.content S.stored S.most squares.old squares.new }
-    ensures refusals { IfErr result (λ e. (e ≡ Full) ⊎ (e ≡ Memory)) }
-    ensures full { result ≡ Err Full → length (S.stored squares.new) ≡ S.most squares.new }
+    ensures refusals { IfErr result (IsWantKind (S.stored squares.new) (S.most squares.new)) }
     ensures needed { result ≡ Err Full → (i : ℕ) × (i < 16) × SomePart (S.needs_node squares.new) (four (cells_at upper lower i)) }
 {
     let next = end / 64;
@@ -137,8 +133,7 @@ pub(crate) fn band<S: Squares>(
     ensures within { IfOk result (λ r. IfSome r (λ spans. AreWithin 2 spans.items)) }
     ensures squares { IfOk result (λ r. IfSome r (λ spans. (column : ℕ) → square_at (S.content squares.new) 2 spans.items column ≡ four_at (S.content squares.old) first.now second.now third.now fourth.now column)) }
     ensures keeps { KeepsSquares S.knows S.content S.stored S.most squares.old squares.new }
-    ensures refusals { IfErr result (λ e. (e ≡ Full) ⊎ (e ≡ Memory)) }
-    ensures full { result ≡ Err Full → length (S.stored squares.new) ≡ S.most squares.new }
+    ensures refusals { IfErr result (IsWantKind (S.stored squares.new) (S.most squares.new)) }
     ensures needed { result ≡ Err Full → (column : ℕ) × (column < 2 ^ (MAX_LEVEL - 2)) × SomePart (S.needs_node squares.new) (four_at (S.content squares.old) first.now second.now third.now fourth.now column) }
 {
     let blank = squares.empty(0);

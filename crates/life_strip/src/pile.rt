@@ -1,8 +1,8 @@
 //! The rows of the plane that are over.
-ghost use Rattle.std.specs.Prelude.{◌≡◌, ℕ, ◌+◌, ◌^◌, ◌<◌, ◌≤◌, ◌⊎◌, ◌++◌, ◌∷◌, [], All, length, Err, IfOk, IfErr, OnOk};
-ghost use Rattle.life_base.specs.declared.kind.Kind.TheVariants.{Full, Memory};
+ghost use Rattle.std.specs.Prelude.{◌≡◌, ℕ, ◌+◌, ◌^◌, ◌<◌, ◌≤◌, ◌++◌, ◌∷◌, [], All, length, Err, IfOk, IfErr, OnOk};
+ghost use Rattle.life_base.specs.declared.kind.Kind.TheVariants.{Full};
 ghost use Rattle.life_base.specs.Tree.{depth, state_at};
-ghost use Rattle.life_quad.specs.Keeping.{KeepsSquares};
+ghost use Rattle.life_quad.specs.Keeping.{KeepsSquares, IsWantKind};
 ghost use Rattle.life_strip.specs.Picture.{picture, height, AreStacked, IsLowest, IsRow};
 ghost use Rattle.life_strip.specs.Needed.{SomeSquare};
 ghost use Rattle.life_strip.specs.Pile.{IsPile, strips_of};
@@ -44,8 +44,7 @@ impl Pile {
         ensures height { OnOk result (height self.new.strips.items ≡ height (strips_of self.old)) }
         ensures picture { OnOk result ((column row : ℕ) → picture (S.content squares.new) self.new.strips.items column row ≡ picture (S.content squares.old) (strips_of self.old) column row) }
         ensures keeps { KeepsSquares S.knows S.content S.stored S.most squares.old squares.new }
-        ensures refusals { IfErr result (λ e. (e ≡ Full) ⊎ (e ≡ Memory)) }
-        ensures full { result ≡ Err Full → length (S.stored squares.new) ≡ S.most squares.new }
+        ensures refusals { IfErr result (IsWantKind (S.stored squares.new) (S.most squares.new)) }
         ensures needed { result ≡ Err Full → SomeSquare (S.needs_node squares.new) (height (strips_of self.old)) (picture (S.content squares.old) (strips_of self.old)) }
     {
         let Some(last) = self.band.pop() else {
@@ -67,8 +66,7 @@ impl Pile {
         ensures height { OnOk result (height self.new.strips.items ≡ height (strips_of self.old)) }
         ensures picture { OnOk result ((column row : ℕ) → picture (S.content squares.new) self.new.strips.items column row ≡ picture (S.content squares.old) (strips_of self.old) column row) }
         ensures keeps { KeepsSquares S.knows S.content S.stored S.most squares.old squares.new }
-        ensures refusals { IfErr result (λ e. (e ≡ Full) ⊎ (e ≡ Memory)) }
-        ensures full { result ≡ Err Full → length (S.stored squares.new) ≡ S.most squares.new }
+        ensures refusals { IfErr result (IsWantKind (S.stored squares.new) (S.most squares.new)) }
         ensures needed { result ≡ Err Full → SomeSquare (S.needs_node squares.new) (height (strips_of self.old)) (picture (S.content squares.old) (strips_of self.old)) }
     {
         let Some(strip) = band_strip(squares, self.alloc, self.band.as_slice())? else {
@@ -87,8 +85,7 @@ impl Pile {
         ensures height { OnOk result (height (strips_of self.new) ≡ height (strips_of self.old) + 1) }
         ensures picture { OnOk result ((column j : ℕ) → picture (S.content squares.new) (strips_of self.new) column j ≡ picture (S.content squares.old) (strips_of self.old ++ row ∷ []) column j) }
         ensures keeps { KeepsSquares S.knows S.content S.stored S.most squares.old squares.new }
-        ensures refusals { IfErr result (λ e. (e ≡ Full) ⊎ (e ≡ Memory)) }
-        ensures full { result ≡ Err Full → length (S.stored squares.new) ≡ S.most squares.new }
+        ensures refusals { IfErr result (IsWantKind (S.stored squares.new) (S.most squares.new)) }
         ensures needed { result ≡ Err Full → SomeSquare (S.needs_node squares.new) (height (strips_of self.old) + 1) (picture (S.content squares.old) (strips_of self.old ++ row ∷ [])) }
     {
         self.band.push(row)?;
@@ -106,8 +103,7 @@ impl Pile {
         ensures height { OnOk result (height (strips_of self.new) ≡ height (strips_of self.old) + count) }
         ensures picture { OnOk result ((column row : ℕ) → picture (S.content squares.new) (strips_of self.new) column row ≡ picture (S.content squares.old) (strips_of self.old) column row) }
         ensures keeps { KeepsSquares S.knows S.content S.stored S.most squares.old squares.new }
-        ensures refusals { IfErr result (λ e. (e ≡ Full) ⊎ (e ≡ Memory)) }
-        ensures full { result ≡ Err Full → length (S.stored squares.new) ≡ S.most squares.new }
+        ensures refusals { IfErr result (IsWantKind (S.stored squares.new) (S.most squares.new)) }
         ensures needed { result ≡ Err Full → SomeSquare (S.needs_node squares.new) (height (strips_of self.old) + count) (picture (S.content squares.old) (strips_of self.old)) }
     {
         if count == 0 {
@@ -144,8 +140,7 @@ impl Pile {
         ensures height { OnOk result (height (strips_of self.new) ≡ height (strips_of self.old) + 1 + blank_rows) }
         ensures picture { OnOk result ((column j : ℕ) → picture (S.content squares.new) (strips_of self.new) column j ≡ picture (S.content squares.old) (strips_of self.old ++ row ∷ []) column j) }
         ensures keeps { KeepsSquares S.knows S.content S.stored S.most squares.old squares.new }
-        ensures refusals { IfErr result (λ e. (e ≡ Full) ⊎ (e ≡ Memory)) }
-        ensures full { result ≡ Err Full → length (S.stored squares.new) ≡ S.most squares.new }
+        ensures refusals { IfErr result (IsWantKind (S.stored squares.new) (S.most squares.new)) }
         ensures needed { result ≡ Err Full → SomeSquare (S.needs_node squares.new) (height (strips_of self.old) + 1 + blank_rows) (picture (S.content squares.old) (strips_of self.old ++ row ∷ [])) }
     {
         self.push_row(squares, row)?;
@@ -166,8 +161,7 @@ impl Pile {
         ensures level { IfOk result (λ r. depth (S.content squares.new r) ≡ MAX_LEVEL) }
         ensures cells { IfOk result (λ r. (column j : ℕ) → column < 2 ^ MAX_LEVEL → j < 2 ^ MAX_LEVEL → state_at (S.content squares.new r) column j ≡ picture (S.content squares.old) (strips_of self ++ row ∷ []) column j) }
         ensures keeps { KeepsSquares S.knows S.content S.stored S.most squares.old squares.new }
-        ensures refusals { IfErr result (λ e. (e ≡ Full) ⊎ (e ≡ Memory)) }
-        ensures full { result ≡ Err Full → length (S.stored squares.new) ≡ S.most squares.new }
+        ensures refusals { IfErr result (IsWantKind (S.stored squares.new) (S.most squares.new)) }
         ensures needed { result ≡ Err Full → SomeSquare (S.needs_node squares.new) (2 ^ MAX_LEVEL) (picture (S.content squares.old) (strips_of self ++ row ∷ [])) }
     {
         let mut pile = self;

@@ -1,8 +1,8 @@
 //! The plane as far as it is filled, row by row.
-ghost use Rattle.std.specs.Prelude.{◌≡◌, ℕ, ℤ, pos, neg_ℤ, nat_abs, ◌+ℤ◌, ◌<ℤ◌, ◌≤ℤ◌, suc, ◌+◌, ◌^◌, ◌<◌, ◌≤◌, ◌⊎◌, ◌++◌, ◌∷◌, [], List, All, length, Err, IfOk, IfErr, OnOk};
-ghost use Rattle.life_base.specs.declared.kind.Kind.TheVariants.{Full, Memory};
+ghost use Rattle.std.specs.Prelude.{◌≡◌, ℕ, ℤ, pos, neg_ℤ, nat_abs, ◌+ℤ◌, ◌<ℤ◌, ◌≤ℤ◌, ◌+◌, ◌^◌, ◌<◌, ◌≤◌, All, Err, IfOk, IfErr, OnOk};
+ghost use Rattle.life_base.specs.declared.kind.Kind.TheVariants.{Full};
 ghost use Rattle.life_base.specs.Tree.{depth, tree_cell};
-ghost use Rattle.life_quad.specs.Keeping.{KeepsSquares};
+ghost use Rattle.life_quad.specs.Keeping.{KeepsSquares, IsWantKind};
 ghost use Rattle.life_strip.specs.Given.{IsOnPlane, half_plane};
 ghost use Rattle.life_strip.specs.Needed.{SomeSquare};
 ghost use Rattle.life_strip.specs.Plane.{IsFilled, IsUnfilled, IsFree, AddsRun, state_so_far, cell_so_far};
@@ -64,8 +64,7 @@ impl Plane {
         ensures ends { OnOk result ((n : ℕ) → (self.old.rows ≡ row → All (λ s. s.end ≤ n) self.old.row.spans.items) → All (λ s. s.end ≤ n) self.new.row.spans.items) }
         ensures picture { OnOk result ((i j : ℕ) → state_so_far (S.content squares.new) self.new i j ≡ state_so_far (S.content squares.old) self.old i j) }
         ensures keeps { KeepsSquares S.knows S.content S.stored S.most squares.old squares.new }
-        ensures refusals { IfErr result (λ e. (e ≡ Full) ⊎ (e ≡ Memory)) }
-        ensures full { result ≡ Err Full → length (S.stored squares.new) ≡ S.most squares.new }
+        ensures refusals { IfErr result (IsWantKind (S.stored squares.new) (S.most squares.new)) }
         ensures needed { result ≡ Err Full → SomeSquare (S.needs_node squares.new) row (state_so_far (S.content squares.old) self.old) }
     {
         if self.rows == row {
@@ -94,8 +93,7 @@ impl Plane {
         ensures below { OnOk result ((column row : ℤ) → run.y <ℤ row → IsFree self.new column row) }
         ensures beside { OnOk result ((column : ℤ) → (run.x +ℤ pos run.len) ≤ℤ column → IsFree self.new column run.y) }
         ensures keeps { KeepsSquares S.knows S.content S.stored S.most squares.old squares.new }
-        ensures refusals { IfErr result (λ e. (e ≡ Full) ⊎ (e ≡ Memory)) }
-        ensures full { result ≡ Err Full → length (S.stored squares.new) ≡ S.most squares.new }
+        ensures refusals { IfErr result (IsWantKind (S.stored squares.new) (S.most squares.new)) }
         ensures needed { result ≡ Err Full → SomeSquare (S.needs_node squares.new) (nat_abs (run.y +ℤ pos half_plane)) (state_so_far (S.content squares.old) self.old) }
     {
         let column = offset(run.x);
@@ -113,8 +111,7 @@ impl Plane {
         ensures level { IfOk result (λ r. depth (S.content squares.new r) ≡ MAX_LEVEL) }
         ensures cells { IfOk result (λ r. (x y : ℤ) → tree_cell (S.content squares.new r) x y ≡ cell_so_far (S.content squares.old) self x y) }
         ensures keeps { KeepsSquares S.knows S.content S.stored S.most squares.old squares.new }
-        ensures refusals { IfErr result (λ e. (e ≡ Full) ⊎ (e ≡ Memory)) }
-        ensures full { result ≡ Err Full → length (S.stored squares.new) ≡ S.most squares.new }
+        ensures refusals { IfErr result (IsWantKind (S.stored squares.new) (S.most squares.new)) }
         ensures needed { result ≡ Err Full → SomeSquare (S.needs_node squares.new) (2 ^ MAX_LEVEL) (state_so_far (S.content squares.old) self) }
     {
         let Plane { pile, rows, row } = self;

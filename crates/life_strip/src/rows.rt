@@ -1,8 +1,8 @@
 //! Strips one below the other.
-ghost use Rattle.std.specs.Prelude.{◌≡◌, ℕ, suc, ◌+◌, ◌-◌, ◌^◌, ◌<◌, ◌≤◌, ◌⊎◌, ◌++◌, ◌∷◌, [], All, length, Err, IfSome, IfOk, IfErr, OnOk};
-ghost use Rattle.life_base.specs.declared.kind.Kind.TheVariants.{Full, Memory};
+ghost use Rattle.std.specs.Prelude.{◌≡◌, ℕ, suc, ◌+◌, ◌-◌, ◌^◌, ◌<◌, ◌≤◌, ◌++◌, ◌∷◌, [], All, length, Err, IfSome, IfOk, IfErr, OnOk};
+ghost use Rattle.life_base.specs.declared.kind.Kind.TheVariants.{Full};
 ghost use Rattle.life_base.specs.Tree.{depth, state_at};
-ghost use Rattle.life_quad.specs.Keeping.{KeepsSquares};
+ghost use Rattle.life_quad.specs.Keeping.{KeepsSquares, IsWantKind};
 ghost use Rattle.life_strip.specs.Strip.{quad_at};
 ghost use Rattle.life_strip.specs.Picture.{picture, height, AreFalling, AreStacked, IsLowest, IsRow, IsSound, IsStack};
 ghost use Rattle.life_strip.specs.Needed.{SomeSquare};
@@ -28,8 +28,7 @@ fn merge<S: Squares>(
     ensures level { IfOk result (λ r. r.level ≡ suc upper.now.level) }
     ensures stack { IfOk result (λ r. IsStack (S.content squares.old) (S.content squares.new) upper.now lower.now r) }
     ensures keeps { KeepsSquares S.knows S.content S.stored S.most squares.old squares.new }
-    ensures refusals { IfErr result (λ e. (e ≡ Full) ⊎ (e ≡ Memory)) }
-    ensures full { result ≡ Err Full → length (S.stored squares.new) ≡ S.most squares.new }
+    ensures refusals { IfErr result (IsWantKind (S.stored squares.new) (S.most squares.new)) }
     ensures needed { result ≡ Err Full → (column : ℕ) × (column < 2 ^ (MAX_LEVEL - (upper.now.level + 1))) × S.needs_node squares.new (quad_at (S.content squares.old) upper.now.level upper.now.spans.items lower.now.spans.items column) }
 {
     let spans = pair(
@@ -60,8 +59,7 @@ pub(crate) fn push_strip<S: Squares>(
     ensures height { OnOk result (height strips.new.items ≡ height strips.old.items + 2 ^ strip.level) }
     ensures picture { OnOk result ((column row : ℕ) → picture (S.content squares.new) strips.new.items column row ≡ picture (S.content squares.old) (strips.old.items ++ strip ∷ []) column row) }
     ensures keeps { KeepsSquares S.knows S.content S.stored S.most squares.old squares.new }
-    ensures refusals { IfErr result (λ e. (e ≡ Full) ⊎ (e ≡ Memory)) }
-    ensures full { result ≡ Err Full → length (S.stored squares.new) ≡ S.most squares.new }
+    ensures refusals { IfErr result (IsWantKind (S.stored squares.new) (S.most squares.new)) }
     ensures needed { result ≡ Err Full → SomeSquare (S.needs_node squares.new) (height strips.old.items + 2 ^ strip.level) (picture (S.content squares.old) (strips.old.items ++ strip ∷ [])) }
 {
     let Some(last) = strips.pop() else {
@@ -106,8 +104,7 @@ pub(crate) fn band_strip<S: Squares>(
     ensures level { IfOk result (λ r. IfSome r (λ s. s.level ≡ 2)) }
     ensures picture { IfOk result (λ r. IfSome r (λ s. (column row : ℕ) → picture (S.content squares.new) (s ∷ []) column row ≡ picture (S.content squares.old) rows.now column row)) }
     ensures keeps { KeepsSquares S.knows S.content S.stored S.most squares.old squares.new }
-    ensures refusals { IfErr result (λ e. (e ≡ Full) ⊎ (e ≡ Memory)) }
-    ensures full { result ≡ Err Full → length (S.stored squares.new) ≡ S.most squares.new }
+    ensures refusals { IfErr result (IsWantKind (S.stored squares.new) (S.most squares.new)) }
     ensures needed { result ≡ Err Full → SomeSquare (S.needs_node squares.new) 4 (picture (S.content squares.old) rows.now) }
 {
     let first = rows[0].spans.as_slice();

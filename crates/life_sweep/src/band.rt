@@ -1,6 +1,6 @@
 //! The rows of the plane beside which cells stand, from north to south.
-ghost use Rattle.std.specs.Prelude.{◌≡◌, ℕ, ℤ, ◌+◌, ◌<◌, ◌≤◌, ◌+ℤ◌, ◌≤ℤ◌, ◌<ℤ◌, pos, true, false, All, IfSome, None, IsTrue, ◌↔◌, length, take, drop};
-ghost use Rattle.life_sweep.specs.Rows.{IsBand, IsSoundBand, IsBandBelow, GoesSouth, IsFarRow, IsRestOf, IsBlankBefore, IsInside, IsSortedList, IsSplitAtRow, IsNextRow, IsLastBand, AreInside, AreBelow, rows_left, start_of_sweep, first_coordinate, far};
+ghost use Rattle.std.specs.Prelude.{◌≡◌, ℕ, ℤ, ◌+◌, ◌<◌, ◌≤◌, ◌≤ℤ◌, ◌<ℤ◌, true, false, All, IfSome, None, IsTrue, ◌↔◌, length, take, drop};
+ghost use Rattle.life_sweep.specs.Rows.{IsBand, IsSoundBand, IsBandBelow, GoesSouth, IsFarRow, IsRestOf, IsBlankBefore, IsInside, IsSortedList, IsSplitAtRow, IsNextRow, IsLastBand, rows_left, start_of_sweep, first_coordinate, far};
 
 use crate::column::Rows;
 use crate::plane::START;

@@ -1,9 +1,9 @@
 //! The next generation of a square.
-ghost use Rattle.std.specs.Prelude.{◌≡◌, ◌⊎◌, ◌↔◌, ℤ, ◌<◌, ◌≤◌, All, IsTrue, Err, Some, None, IfOk, IfErr, length};
+ghost use Rattle.std.specs.Prelude.{◌≡◌, ◌⊎◌, ◌↔◌, ℤ, ◌<◌, ◌≤◌, All, IsTrue, Err, Some, None, IfOk, IfErr};
 ghost use Rattle.life_base.specs.declared.kind.Kind.TheVariants.{Full, Memory};
 ghost use Rattle.life_base.specs.Refusal.{fault_of};
 ghost use Rattle.life_base.specs.Tree.{depth, tree_cell};
-ghost use Rattle.life_quad.specs.Keeping.{KeepsSquares};
+ghost use Rattle.life_quad.specs.Keeping.{KeepsSquares, IsWantFault};
 ghost use Rattle.life_table.specs.Meaning.{Becomes};
 ghost use Rattle.life_sweep.specs.Needed.{SomeNext};
 ghost use Rattle.life_sweep.specs.Refused.{GenerationRefusal};
@@ -43,8 +43,7 @@ pub fn next_generation<S: Squares, L: Law>(
     ensures level { IfOk result (λ r. depth (S.content squares.new r) ≡ MAX_LEVEL) }
     ensures next { IfOk result (λ r. (x y : ℤ) → L.answers law.old (states_at (tree_cell (S.content squares.old id)) x y) (Becomes (tree_cell (S.content squares.new r) x y))) }
     ensures accepted { IfOk result (λ _. GenerationRefusal (L.answers law.old) (L.bound law.old) most (S.content squares.old id) None) }
-    ensures refusals { IfErr result (λ f. (f ≡ fault_of Full) ⊎ (f ≡ fault_of Memory) ⊎ GenerationRefusal (L.answers law.old) (L.bound law.old) most (S.content squares.old id) (Some f)) }
-    ensures full { result ≡ Err (fault_of Full) → length (S.stored squares.new) ≡ S.most squares.new }
+    ensures refusals { IfErr result (λ f. IsWantFault (S.stored squares.new) (S.most squares.new) f ⊎ GenerationRefusal (L.answers law.old) (L.bound law.old) most (S.content squares.old id) (Some f)) }
     ensures needed { result ≡ Err (fault_of Full) → SomeNext (S.needs_node squares.new) (L.answers law.old) (tree_cell (S.content squares.old id)) }
     ensures same { law.new ≡ law.old }
     ensures keeps { KeepsSquares S.knows S.content S.stored S.most squares.old squares.new }

@@ -1,8 +1,8 @@
 //! A builder that is given whole runs, though the sweep draws place by place.
-ghost use Rattle.std.specs.Prelude.{◌≡◌, ◌≢◌, ◌≤◌, ◌⊎◌, ℤ, IsTrue, ◌↔◌, [], length, Err, None, OnOk, IfOk, IfErr};
-ghost use Rattle.life_base.specs.declared.kind.Kind.TheVariants.{Full, Memory};
+ghost use Rattle.std.specs.Prelude.{◌≡◌, ◌≢◌, ◌⊎◌, ℤ, IsTrue, ◌↔◌, [], Err, None, OnOk, IfOk, IfErr};
+ghost use Rattle.life_base.specs.declared.kind.Kind.TheVariants.{Full};
 ghost use Rattle.life_base.specs.Tree.{depth, tree_cell};
-ghost use Rattle.life_quad.specs.Keeping.{KeepsSquares};
+ghost use Rattle.life_quad.specs.Keeping.{KeepsSquares, IsWantKind};
 ghost use Rattle.life_strip.specs.Filling.{IsEmpty, IsFilling};
 ghost use Rattle.life_strip.specs.Given.{IsBehind, IsNext, IsOnPlane, state_by};
 ghost use Rattle.life_sweep.specs.Needed.{SomeAbove, SomeOfAll};
@@ -48,8 +48,7 @@ impl Pen {
         ensures drawn { OnOk result (self.new.builder.runs ≡ drawn_runs self.old) }
         ensures none { OnOk result (self.new.unclosed ≡ None) }
         ensures keeps { KeepsSquares S.knows S.content S.stored S.most squares.old squares.new }
-        ensures refusals { IfErr result (λ e. (e ≡ Full) ⊎ (e ≡ Memory)) }
-        ensures full { result ≡ Err Full → length (S.stored squares.new) ≡ S.most squares.new }
+        ensures refusals { IfErr result (IsWantKind (S.stored squares.new) (S.most squares.new)) }
         ensures needed { result ≡ Err Full → SomeAbove (S.needs_node squares.new) (drawn_runs self.old) }
     {
         let Some(run) = self.unclosed else {
@@ -77,8 +76,7 @@ impl Pen {
         ensures others { OnOk result ((c r : ℤ) → (c ≡ x → r ≡ y → ⊥) → state_by (drawn_runs self.new) c r ≡ state_by (drawn_runs self.old) c r) }
         ensures next { OnOk result ((c r : ℤ) → IsBehind (one_cell x y state) c r → IsNext (drawn_runs self.new) c r) }
         ensures keeps { KeepsSquares S.knows S.content S.stored S.most squares.old squares.new }
-        ensures refusals { IfErr result (λ e. (e ≡ Full) ⊎ (e ≡ Memory)) }
-        ensures full { result ≡ Err Full → length (S.stored squares.new) ≡ S.most squares.new }
+        ensures refusals { IfErr result (IsWantKind (S.stored squares.new) (S.most squares.new)) }
         ensures needed { result ≡ Err Full → SomeAbove (S.needs_node squares.new) (drawn_runs self.old) }
     {
         if let Some(run) = self.unclosed {
@@ -105,8 +103,7 @@ impl Pen {
         ensures level { IfOk result (λ r. depth (S.content squares.new r) ≡ MAX_LEVEL) }
         ensures cells { IfOk result (λ r. (x y : ℤ) → tree_cell (S.content squares.new r) x y ≡ state_by (drawn_runs self) x y) }
         ensures keeps { KeepsSquares S.knows S.content S.stored S.most squares.old squares.new }
-        ensures refusals { IfErr result (λ e. (e ≡ Full) ⊎ (e ≡ Memory)) }
-        ensures full { result ≡ Err Full → length (S.stored squares.new) ≡ S.most squares.new }
+        ensures refusals { IfErr result (IsWantKind (S.stored squares.new) (S.most squares.new)) }
         ensures needed { result ≡ Err Full → SomeAbove (S.needs_node squares.new) (drawn_runs self) ⊎ SomeOfAll (S.needs_node squares.new) (drawn_runs self) }
     {
         self.close(squares)?;

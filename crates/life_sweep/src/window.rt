@@ -1,5 +1,5 @@
 //! The places of a row beside which cells stand, from west to east.
-ghost use Rattle.std.specs.Prelude.{◌≡◌, ℕ, ℤ, ◌<◌, ◌<ℤ◌, ◌+ℤ◌, pos, true, false, All, IfSome, None, ◌≤ℤ◌};
+ghost use Rattle.std.specs.Prelude.{◌≡◌, ℕ, ℤ, ◌<◌, ◌<ℤ◌, ◌+ℤ◌, pos, true, false, IfSome, None, ◌≤ℤ◌};
 ghost use Rattle.life_sweep.specs.Rows.{IsNextPlace, IsOver, far, IsWindow, IsSoundWindow, IsWindowBelow, GoesOn, IsFar, AreRows, AreInside, AreSorted, AreBelow, column_at, no_column, steps_left, states_of, start_of_sweep};
 
 use crate::column::{BLANK, Column, Rows};

@@ -20,7 +20,6 @@ returns g t c =
           call.square;
       keeps = keeps-then c.in_ok-smaller.ensures.keeps call.keeps;
       refusals = call.refusals;
-      full = call.full;
       room = call.room;
       needed = on_err_weaker c.trim.result (λ s. SomeTrimmed-inner P _ _ can (subst (λ u. SomeTrimmed P u c.args.least) smaller s)) call.needed;
     }

@@ -5,7 +5,7 @@ use Rattle.life_quad.specs.Store.{squares, square_of, node_square, IsNode}
 use Rattle.life_quad.specs.StoreLaws.{length-squares, squares-push}
 use Rattle.life_base.specs.Tree.{depth, blank}
 use Rattle.life_quad.proofs.GrowLemmas.{with_node}
-use Rattle.life_quad.proofs.CallLemmas.{node_of, is_blank-joined, blank_joined, IsNode-joined, keeps_added, knows_last, square_of-added, room_left}
+use Rattle.life_quad.proofs.CallLemmas.{node_of, is_blank-joined, blank_joined, IsNode-joined, keeps_added, knows_last, square_of-added, IsWantKind-left, room_left}
 use Rattle.life_quad.proofs.plain.PlainSquares.join.Goals as goal
 
 pub returns-then-are_blank-clause-square : goal.returns-then-are_blank-clause-square
@@ -67,6 +67,9 @@ pub returns-clause-full : goal.returns-clause-full
 returns-clause-full c =
     let full = c.add.ensures.full in
     (λ e. ((IsNode-there c).not_blank, length-squares _ ∙ full.0 e), λ needs. full.1 (sym (length-squares _) ∙ needs.1))
+
+pub returns-clause-refusals : goal.returns-clause-refusals
+returns-clause-refusals c = IsWantKind-left c.add.result _ _ c.add.ensures.refusals c.add.ensures.full c.add.ensures.unchanged
 
 pub returns-clause-room : goal.returns-clause-room
 returns-clause-room c =
