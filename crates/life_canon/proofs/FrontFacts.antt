@@ -16,7 +16,7 @@ use Rattle.life_base.specs.declared.kind.Kind.TheVariants.{LineTooLong, NoHeader
 use Rattle.life_mc.specs.Cells.{root_level}
 use Rattle.life_mc.specs.Reading.{broken, squares_of}
 use Rattle.life_mc.proofs.LineKinds.{long_lines_break as long_lines_break_macrocell, broken_kind, names_line}
-use Rattle.life_quad.specs.Store.{Nodes}
+use Rattle.life_quad.specs.Store.{Nodes, held}
 use Rattle.life_rle.specs.Decided.{LacksHeader}
 use Rattle.life_rle.specs.Grammar.{IsRle, IsSomeRle, IsMarked, IsUnmarked, Breaks as BreaksRle}
 use Rattle.life_rle.specs.Pattern.{Rle}
@@ -26,7 +26,8 @@ use Rattle.life_rle.proofs.LineKinds.{Breaks-kind, names_line as names_line_rle}
 use Rattle.life_canon.specs.Feeding.{RefusesFront, IsOverAt}
 use Rattle.life_canon.specs.Files.{Says, as_macrocell, as_rle, Reads, Accepts, Breaks, Refuses, missing, is_macrocell}
 use Rattle.life_canon.specs.Needs.{level_of_root}
-use Rattle.life_canon.specs.Store.{IsWant, IsWantKind}
+use Rattle.life_canon.specs.Store.{IsWant}
+use Rattle.life_quad.specs.Keeping.{IsWantKind}
 use Rattle.life_canon.specs.Taking.{IsEnd, bytes_of, taken, IsOpen, IsOver, IsLineFault, IsGoing, IsFront}
 use Rattle.life_canon.specs.Universe.{Universe, rle_universe}
 use Rattle.life_canon.specs.declared.feeding.Progress.{Progress}
@@ -452,7 +453,8 @@ breaks-placed lines line kind = by (is_macrocell (lines ++ line ∷ []))
     by false h = names_line_rle kind (Breaks-kind MAX_LEVEL lines line kind h)
 
 -- the kind of a refused line, at the number of that line
-pub fault-of-kind : (store : Nodes) (lines : List (List ℕ)) (line : List ℕ) (ended : ℕ) (kind : Kind) → IsWantKind store kind ⊎ Breaks MAX_LEVEL lines line kind
+pub fault-of-kind : (store : Nodes) (lines : List (List ℕ)) (line : List ℕ) (ended : ℕ) (kind : Kind)
+    → IsWantKind (held store) store.limit kind ⊎ Breaks MAX_LEVEL lines line kind
     → IsWant store (fault_at (min (ended + 1) (2 ^ 64 - 1)) kind) ⊎ IsLineFault MAX_LEVEL lines line ended (fault_at (min (ended + 1) (2 ^ 64 - 1)) kind)
 fault-of-kind store lines line ended kind (inl (inl m)) = inl (inl (ap (λ (k : Kind). fault_at (min (ended + 1) (2 ^ 64 - 1)) k) m))
 fault-of-kind store lines line ended kind (inl (inr f)) = inl (inr (ap (λ (k : Kind). fault_at (min (ended + 1) (2 ^ 64 - 1)) k) f.0, f.1))
@@ -536,7 +538,7 @@ rest-fault (Err fault) store bytes kept ended p f h (inl w) = inr w
 rest-fault (Err fault) store bytes kept ended p f h (inr b) = inl (kept-refuses bytes kept ended p fault f h b)
 
 pub end-fault : (store : Nodes) (bytes : List ℕ) (ended : ℕ) (p : Progress) (kind : Kind) → IsEnd bytes ended p
-    → IsWantKind store kind ⊎ ((kind ≡ NoHeader) × LacksHeader MAX_LEVEL (taken p) × (is_macrocell (taken p) ≡ false))
+    → IsWantKind (held store) store.limit kind ⊎ ((kind ≡ NoHeader) × LacksHeader MAX_LEVEL (taken p) × (is_macrocell (taken p) ≡ false))
     → Refuses MAX_LEVEL bytes (fault_at (min (ended + 1) (2 ^ 64 - 1)) kind) ⊎ IsWant store (fault_at (min (ended + 1) (2 ^ 64 - 1)) kind)
 end-fault store bytes ended p kind e (inl (inl m)) = inr (inl (ap (λ (k : Kind). fault_at (min (ended + 1) (2 ^ 64 - 1)) k) m))
 end-fault store bytes ended p kind e (inl (inr f)) = inr (inr (ap (λ (k : Kind). fault_at (min (ended + 1) (2 ^ 64 - 1)) k) f.0, f.1))

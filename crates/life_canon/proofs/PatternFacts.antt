@@ -28,7 +28,7 @@ use Rattle.life_rle.proofs.RunsLaws.{runs_are_cells}
 use Rattle.life_rle.proofs.Unique.{IsRle-unique}
 use Rattle.life_strip.specs.Given.{state_by}
 use Rattle.life_canon.specs.Files.{Breaks, is_macrocell}
-use Rattle.life_canon.specs.Store.{IsWantKind}
+use Rattle.life_quad.specs.Keeping.{IsWantKind}
 use Rattle.life_canon.specs.Taking.{taken}
 use Rattle.life_canon.specs.Universe.{Universe, IsSame, least_level, centred, whole, square_universe}
 use Rattle.life_canon.specs.declared.feeding.Progress.{Progress}
@@ -127,20 +127,19 @@ both-ok (Ok x) p q f = f p q
 both-ok (Err e) p q f = tt
 
 -- a reader that has refused nothing isn't spent
-pub told-fault : (B : Type 0) (refused : Bool) (kind : Kind) → refused ≡ false → (kind ≡ Memory) ⊎ (kind ≡ Spent) ⊎ B → (kind ≡ Spent → refused ≡ true)
-    → (kind ≡ Full) ⊎ (kind ≡ Memory) ⊎ B
-told-fault B refused kind r (inl m) s = inr (inl m)
-told-fault B refused kind r (inr (inl p)) s = let t = s p in cc
-told-fault B refused kind r (inr (inr b)) s = inr (inr b)
+pub told-fault : (stored : List Tree) (most : ℕ) (B : Type 0) (refused : Bool) (kind : Kind) → refused ≡ false
+    → (kind ≡ Memory) ⊎ (kind ≡ Spent) ⊎ B → (kind ≡ Spent → refused ≡ true) → IsWantKind stored most kind ⊎ B
+told-fault stored most B refused kind r (inl m) s = inl (inl m)
+told-fault stored most B refused kind r (inr (inl p)) s = let t = s p in cc
+told-fault stored most B refused kind r (inr (inr b)) s = inr b
 
 -- the kind of a refused line of RLE
 pub rle-fault : (r : Result (Unit {0}) Kind) (store : Nodes) (lines : List (List ℕ)) (line : List ℕ) → is_macrocell (lines ++ line ∷ []) ≡ false
-    → IfErr r (λ kind. (kind ≡ Full) ⊎ (kind ≡ Memory) ⊎ BreaksRle MAX_LEVEL lines line kind) → (r ≡ Err Full → length (held store) ≡ store.limit)
-    → IfErr r (λ kind. IsWantKind store kind ⊎ Breaks MAX_LEVEL lines line kind)
-rle-fault (Ok x) store lines line m f l = tt
-rle-fault (Err kind) store lines line m (inl e) l = inl (inr (e, l (ap (λ (k : Kind). Err k) e)))
-rle-fault (Err kind) store lines line m (inr (inl e)) l = inl (inl e)
-rle-fault (Err kind) store lines line m (inr (inr b)) l =
+    → IfErr r (λ kind. IsWantKind (held store) store.limit kind ⊎ BreaksRle MAX_LEVEL lines line kind)
+    → IfErr r (λ kind. IsWantKind (held store) store.limit kind ⊎ Breaks MAX_LEVEL lines line kind)
+rle-fault (Ok x) store lines line m f = tt
+rle-fault (Err kind) store lines line m (inl want) = inl want
+rle-fault (Err kind) store lines line m (inr b) =
     inr (subst (λ (v : Bool). MatchBool v (broken MAX_LEVEL lines line ≡ Some kind) (BreaksRle MAX_LEVEL lines line kind)) (sym m) b)
 
 -- the end of a reader of RLE is refused for want of a header

@@ -16,12 +16,6 @@ use Rattle.life_canon.proofs.Standing.{squares-stay}
 use Rattle.life_canon.specs.Needs.{of_node_line}
 use Rattle.life_canon.proofs.feeding.take_macrocell_line.Goals as goal
 
-pub returns-in_err-square-clause-full : goal.returns-in_err-square-clause-full
-returns-in_err-square-clause-full g c =
-    let p = err_from_is_err_and c.from_residual.result c.from_residual.ensures.1 in
-    let kind : Kind = c.in_err-square.field-0.0 in
-    rw (p.1, p.2) (λ e. absurd (not-full c.args.lines.now.lines c.args.line.now kind c.in_err-square.ensures.fault (cc)))
-
 pub line_square-requires : goal.line_square-requires
 line_square-requires g c =
     let old : List (List ℕ) = c.args.lines.now.lines in

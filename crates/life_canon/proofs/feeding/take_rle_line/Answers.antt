@@ -17,15 +17,9 @@ pub returns-in_err-line_into-clause-fault : goal.returns-in_err-line_into-clause
 returns-in_err-line_into-clause-fault g c =
     let p = err_from_is_err_and c.from_residual.result c.from_residual.ensures.1 in
     let kind : Kind = c.in_err-line_into.field-0.0 in
-    rw (p.1, p.2) (told-fault (BreaksRle MAX_LEVEL c.args.lines.now.lines c.args.line.now kind) c.args.lines.now.refused kind c.requires.begun
+    rw (p.1, p.2) (told-fault _ _ (BreaksRle MAX_LEVEL c.args.lines.now.lines c.args.line.now kind) c.args.lines.now.refused kind c.requires.begun
     c.in_err-line_into.ensures.fault
     (λ e. c.in_err-line_into.ensures.spent.0 (cc)))
-
-pub returns-in_err-line_into-clause-full : goal.returns-in_err-line_into-clause-full
-returns-in_err-line_into-clause-full g c =
-    let p = err_from_is_err_and c.from_residual.result c.from_residual.ensures.1 in
-    let kind : Kind = c.in_err-line_into.field-0.0 in
-    rw (p.1, p.2) (λ e. absurd (not-full-rle c.args.lines.now.lines c.args.line.now kind c.in_err-line_into.ensures.fault (cc)))
 
 pub add_runs-requires-clause-next : goal.add_runs-requires-clause-next
 add_runs-requires-clause-next g c =

@@ -2,7 +2,9 @@ use Rattle.std.proofs.Common.{◌≡◌, ◌⊎◌, ℕ, List, [], ◌∷◌, �
 use Rattle.std.specs.Prelude.{IfErr}
 use Rattle.life_base.specs.declared.cell.TheConstants.{MAX_LEVEL}
 use Rattle.life_canon.specs.Files.{Breaks}
-use Rattle.life_canon.specs.Store.{IsKnown, content, IsWantKind}
+use Rattle.life_canon.specs.Store.{IsKnown, content}
+use Rattle.life_quad.specs.Keeping.{IsWantKind}
+use Rattle.life_quad.specs.Store.{held}
 use Rattle.life_canon.specs.Taking.{StandsFor, IsReady, taken}
 use Rattle.life_canon.proofs.PatternFacts.{rle-fault}
 use Rattle.life_canon.specs.Needs.{IsNew, SomeOfLines}
@@ -21,9 +23,8 @@ returns-in-Rle-clause-fault c =
     let ready = subst (IsReady c.args.line.now) c.in-Rle.is c.begin.ensures.ready in
     let lines : taken c.args.self.now ≡ c.in-Rle.lines.lines = sym c.begin.ensures.lines ∙ ap taken c.in-Rle.is in
     subst (λ (ls : List (List ℕ)). IfErr c.take_rle_line.result
-    (λ kind. IsWantKind c.take_rle_line.new.squares kind ⊎ Breaks MAX_LEVEL ls c.args.line.now kind)) (sym lines)
-    (rle-fault c.take_rle_line.result c.take_rle_line.new.squares c.in-Rle.lines.lines c.args.line.now ready.0 c.take_rle_line.ensures.fault
-    c.take_rle_line.ensures.full)
+    (λ kind. IsWantKind (held c.take_rle_line.new.squares) c.take_rle_line.new.squares.limit kind ⊎ Breaks MAX_LEVEL ls c.args.line.now kind)) (sym lines)
+    (rle-fault c.take_rle_line.result c.take_rle_line.new.squares c.in-Rle.lines.lines c.args.line.now ready.0 c.take_rle_line.ensures.fault)
 
 pub returns-in-Rle-clause-needed : goal.returns-in-Rle-clause-needed
 returns-in-Rle-clause-needed c = λ e.
