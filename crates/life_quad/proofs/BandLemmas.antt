@@ -5,7 +5,7 @@ use Rattle.std.proofs.lemmas.Int.{ints}
 use Rattle.std.proofs.lemmas.List.{append_assoc}
 use Rattle.life_base.specs.declared.cell.Cell.{Cell}
 use Rattle.life_base.specs.Tree.{Tree, point, quad, depth, state_at, is_blank_tree, IsFull}
-use Rattle.life_quad.specs.Boxes.{IsNonzeroAt}
+use Rattle.life_quad.specs.Distances.{IsNonzeroAt}
 use Rattle.life_quad.specs.Bands.{Piece, kept, northern, southern, upper, lower, row_cells, band_cells, IsBand, InBand}
 use Rattle.life_quad.proofs.NonzeroLemmas.{InQuarter, in_nw, in_ne, in_sw, in_se, quarter_of, from_quarter, blank_has_none, double, state_nw, state_ne, state_sw, state_se}
 

@@ -4,7 +4,7 @@ use Rattle.std.proofs.lemmas.List.Elements.{All-cons, All-nil, Contains-append_l
 use Rattle.std.proofs.lemmas.List.{length-map, get_or-map, map_push}
 use Rattle.std.specs.List.{list_any, position, All, AllPairs}
 use Rattle.std.proofs.lemmas.List.Quantifiers.{position-Some}
-use Rattle.std.specs.Prelude.{if◌then◌else◌, IfOk, IfErr, IsErr, IsErrAnd}
+use Rattle.std.specs.Prelude.{◌^◌, if◌then◌else◌, IfOk, IfErr, IsErr, IsErrAnd}
 use Rattle.indexmap.specs.IndexSet.{insert_key}
 use Rattle.std.proofs.lemmas.Option.{slice_get-get_or, slice_get_within, get_or_from_slice_get}
 use Rattle.std.proofs.lemmas.List.Folds.{list_any_at}
@@ -16,12 +16,18 @@ use Rattle.life_quad.specs.declared.id.Node.{Node}
 use Rattle.life_quad.specs.contracts.id.NodePartialEq.TheImpl.{eq-value}
 use Rattle.life_base.specs.Tree.{Tree, point, quad, depth, quarters, blank, is_blank_tree, IsFull}
 use Rattle.life_base.proofs.Squares.{depth-blank, is_blank-blank, blank_is, quad_nw, quad_ne, quad_sw, quad_se, point_state, point≢quad}
-use Rattle.life_quad.specs.Store.{Nodes, two, four, small_square, number_of, id_of, square_of, node_square, squares, levels_of, content, held, is_blank_id, IsNamed, IsEarlier, IsNode, IsSmall, IsSound, IsShared, Knows, IsIdOf, as_small, as_node, HasRoom, KeepsContents, Joined, was_there, is_new, Answers, HasSeen}
+use Rattle.life_quad.specs.Store.{Nodes, two, four, small_square, number_of, id_of, square_of, node_square, squares, levels_of, content, held, is_blank_id, IsNamed, IsEarlier, IsNode, IsSmall, IsSound, IsShared, Knows, IsIdOf, as_small, as_node, KeepsContents, Joined, was_there, is_new, Answers, HasSeen}
 use Rattle.life_quad.specs.Keeping.{KeepsSquares, IsWantKind}
-use Rattle.life_quad.specs.SmallLaws.{small_range, quarters_range}
-use Rattle.life_quad.specs.StoreLaws.{Kinds, a_state, a_blank, a_small, a_node, kind_of, Names, the_state, the_blank, the_node, names, same_id, same_ids, length-squares, squares-push, small_node, square_of-append, square_of-node, square_of-small, square_of-id, is_blank-content, full_content, slice_get-last, slice_get-push_cases, node_square-append}
+use Rattle.life_quad.proofs.SmallLemmas.{small_range, quarters_range}
+use Rattle.life_quad.specs.StoreLaws.{Kinds, a_state, a_blank, a_small, a_node, kind_of, Names, the_state, the_blank, the_node, names, same_id, same_ids, small_node, full_content}
+use Rattle.life_quad.proofs.StoreLemmas.{length-squares, squares-push, square_of-append, square_of-node, square_of-small, square_of-id, is_blank-content, slice_get-last, slice_get-push_cases, node_square-append}
 use Rattle.life_quad.proofs.MakingLemmas.{Joins}
 use Rattle.life_quad.proofs.GrowLemmas.{with_id, with_node, with_both, IsSound-id, IsSound-both, IsShared-id, IsShared-both}
+
+-- one more node is within the limit and gets an Id of 32 bits
+pub record HasRoom (s : Nodes) : Type 0 where
+  pub limit : length s.log < s.limit
+  pub few : 66064 + length s.nodes < 2 ^ 32
 
 -- the Id of a state
 pub knows_state : (s : Nodes) (v : ℕ) → IsSound s → v < 256 → Knows s (id_of v)

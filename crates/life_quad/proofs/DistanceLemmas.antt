@@ -2,8 +2,7 @@
 use Rattle.std.proofs.Common.{◌≡◌, ◌==◌, ℕ, suc, ◌+◌, ◌-◌, ◌^◌, ◌<◌, ◌≤◌, min, Bool, true, false, ◌⊎◌, inl, inr, Option, Some, None, refl, sym, ◌∙◌, ap, subst, arith, true≢false}
 use Rattle.std.specs.Prelude.{nat_le}
 use Rattle.life_base.specs.Tree.{Tree, point, quad, depth, is_blank_tree, IsFull}
-use Rattle.life_quad.specs.Boxes.{IsNonzeroAt, IsLeastWithin}
-use Rattle.life_quad.specs.Distances.{distance, HasCellAt, IsLeast, IsLeastOf, Faces, lesser_of}
+use Rattle.life_quad.specs.Distances.{IsNonzeroAt, distance, HasCellAt, IsLeast, IsLeastOf, Faces, lesser_of}
 use Rattle.life_quad.specs.declared.distances.Side.{Side}
 use Rattle.life_quad.specs.declared.distances.Side.TheVariants.{North, South, West, East}
 use Rattle.life_quad.proofs.NonzeroLemmas.{InQuarter, in_nw, in_ne, in_sw, in_se, Sides, sides, quarter_of, from_quarter, others_have_one, blank_has_none}
@@ -226,6 +225,14 @@ least_of_cell side (point s) k h = record { has = by side; least = λ n e. omega
     by South = record { column = 0; row = 0; cell = here; far = refl }
     by West = record { column = 0; row = 0; cell = here; far = refl }
     by East = record { column = 0; row = 0; cell = here; far = refl }
+
+-- every nonzero cell of the square is in the box, and each side of the box has one
+pub record IsLeastWithin (t : Tree) (left top right bottom : ℕ) : Type 0 where
+  pub inside : (i j : ℕ) → IsNonzeroAt t i j → (left ≤ i) × (i ≤ right) × (top ≤ j) × (j ≤ bottom)
+  pub at_left : (j : ℕ) × IsNonzeroAt t left j
+  pub at_right : (j : ℕ) × IsNonzeroAt t right j
+  pub at_top : (i : ℕ) × IsNonzeroAt t i top
+  pub at_bottom : (i : ℕ) × IsNonzeroAt t i bottom
 
 -- the least box, by the least distances from the four sides
 pub box_of_distances : (t : Tree) (west north east south : ℕ) → IsLeast (HasCellAt West t) west → IsLeast (HasCellAt North t) north

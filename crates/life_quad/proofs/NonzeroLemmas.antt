@@ -2,7 +2,7 @@
 use Rattle.std.proofs.Common.{◌≡◌, ℕ, suc, ◌+◌, ◌-◌, ◌^◌, ◌<◌, Bool, true, false, ◌&&◌, ◌==◌, nat_lt, refl, sym, ◌∙◌, ap, arith, true≢false}
 use Rattle.life_base.specs.Tree.{Tree, point, quad, depth, state_at, is_blank_tree, IsFull}
 use Rattle.life_base.proofs.Squares.{and_left, and_right}
-use Rattle.life_quad.specs.Boxes.{IsNonzeroAt}
+use Rattle.life_quad.specs.Distances.{IsNonzeroAt}
 use Rattle.life_base.proofs.Squares.{at_nw, at_ne, at_sw, at_se}
 
 pub double : (n : ℕ) → 2 ^ suc n ≡ 2 ^ n + 2 ^ n

@@ -5,7 +5,8 @@ use Rattle.life_base.specs.Tree.{Tree, depth, state_at}
 use Rattle.life_base.specs.declared.bounds.Bounds.{Bounds}
 use Rattle.life_quad.specs.Cells.{IsLeastBox}
 use Rattle.life_base.specs.Tree.{half_side, tree_cell as cell}
-use Rattle.life_quad.specs.Boxes.{IsNonzeroAt, IsLeastWithin}
+use Rattle.life_quad.specs.Distances.{IsNonzeroAt}
+use Rattle.life_quad.proofs.DistanceLemmas.{IsLeastWithin}
 use Rattle.life_base.proofs.Squares.{is_inside, inside_facts, inside_test, inside_offset, cell_inside, cell_outside}
 use Rattle.life_quad.proofs.RunLemmas.{side}
 

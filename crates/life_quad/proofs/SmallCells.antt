@@ -4,7 +4,7 @@ use Rattle.std.proofs.lemmas.Bool.Decides.{nat_tests}
 use Rattle.life_base.specs.Tree.{Tree}
 use Rattle.life_quad.specs.declared.id.Id.{Id}
 use Rattle.life_quad.specs.Store.{four, small_square, id_of, square_of}
-use Rattle.life_quad.specs.StoreLaws.{square_of-small}
+use Rattle.life_quad.proofs.StoreLemmas.{square_of-small}
 use Rattle.life_quad.proofs.CallLemmas.{square_of-blank}
 
 small_is : (k : ℕ) → 528 ≤ k → small_square k ≡ four (k - 528)

@@ -1,9 +1,14 @@
 -- How far from the sides of a square its nonzero cells lie.
-use Rattle.std.specs.Prelude.{◌≡◌, ℕ, suc, ◌-◌, ◌^◌, ◌≤◌, min, Option, Some, None, MatchOption}
-use Rattle.life_base.specs.Tree.{Tree, quad, depth}
-use Rattle.life_quad.specs.Boxes.{IsNonzeroAt}
+use Rattle.std.specs.Prelude.{◌≡◌, ◌≢◌, ℕ, suc, ◌-◌, ◌^◌, ◌<◌, ◌≤◌, min, Option, Some, None, MatchOption}
+use Rattle.life_base.specs.Tree.{Tree, quad, depth, state_at}
 use Rattle.life_quad.specs.declared.distances.Side.{Side}
 use Rattle.life_quad.specs.declared.distances.Side.TheVariants.{North, South, West, East}
+
+-- a column and a row of the square whose cell has a state other than 0
+pub record IsNonzeroAt (t : Tree) (i j : ℕ) : Type 0 where
+  pub column : i < 2 ^ depth t
+  pub row : j < 2 ^ depth t
+  pub state : state_at t i j ≢ 0
 
 -- how many rows or columns lie between a cell of a square, whose side has so many, and the side
 abbrev pub distance : Side → ℕ → ℕ → ℕ → ℕ

@@ -6,7 +6,6 @@ pub mod SmallLaws
 pub mod StoreLaws
 pub mod Cells
 pub mod Span
-pub mod Boxes
 pub mod Distances
 pub mod Bands
 pub mod Laws

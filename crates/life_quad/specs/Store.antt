@@ -142,11 +142,6 @@ content s id = square_of (squares s.nodes) id
 abbrev pub held : Nodes → List Tree
 held s = map (λ k. content s (id_of k)) s.log
 
--- one more node is within the limit and gets an Id of 32 bits
-pub record HasRoom (s : Nodes) : Type 0 where
-  pub limit : length s.log < s.limit
-  pub few : 66064 + length s.nodes < 2 ^ 32
-
 -- the Id of a node, or of a small square by its quarters
 pub data IsIdOf (s : Nodes) (n : Node) (id : Id) : Type 0 where
   as_small : number_of n ≡ Some id.0 → Contains s.log id.0 → IsIdOf s n id

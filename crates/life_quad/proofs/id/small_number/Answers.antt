@@ -1,5 +1,5 @@
 use Rattle.std.proofs.Common.{◌+◌, ◌*◌, Some, sym, ◌∙◌}
-use Rattle.life_quad.specs.SmallLaws.{of_two, of_four, of_none}
+use Rattle.life_quad.proofs.SmallLemmas.{of_two, of_four, of_none}
 use Rattle.life_quad.proofs.id.small_number.Goals as goal
 
 pub returns-then-are_bits : goal.returns-then-are_bits

@@ -1,6 +1,6 @@
 use Rattle.std.proofs.Common.{[], ◌∷◌, refl, ◌∙◌}
 use Rattle.life_quad.specs.Store.{id_of}
-use Rattle.life_quad.specs.SmallLaws.{bits_are, digits_are}
+use Rattle.life_quad.proofs.SmallLemmas.{bits_are, digits_are}
 use Rattle.life_quad.proofs.id.small_parts.Goals as goal
 
 pub returns-then-number-lt-LEVEL_TWO : goal.returns-then-number-lt-LEVEL_TWO

@@ -3,7 +3,8 @@ use Rattle.std.proofs.lemmas.Option.{slice_get_within}
 use Rattle.std.specs.Prelude.{All}
 use Rattle.life_quad.specs.Store.{Nodes, Knows, squares, square_of, small_of, id_of}
 use Rattle.life_quad.specs.declared.id.Id.{Id}
-use Rattle.life_quad.specs.StoreLaws.{square_of-small, small_node}
+use Rattle.life_quad.specs.StoreLaws.{small_node}
+use Rattle.life_quad.proofs.StoreLemmas.{square_of-small}
 use Rattle.life_base.specs.Tree.{quarters, quad, blank}
 use Rattle.life_quad.proofs.CallLemmas.{state_content, blank_content, node_content, small_content, parts_are, knows_quarter}
 use Rattle.life_quad.proofs.id.Id.parts.Goals.{else-self-gt-CELLS-via-then-self-gt-CELLS+else-self-lt-FIRST_SMALL, else-self-gt-CELLS-via-else-self-gt-CELLS}

@@ -1,6 +1,6 @@
 use Rattle.std.proofs.Common.{◌≡◌, ◌++◌, [], ◌∷◌, arith, sym, ◌∙◌, ap, subst, length, length-append}
 use Rattle.life_base.specs.Tree.{depth}
-use Rattle.life_quad.specs.StoreLaws.{levels-push}
+use Rattle.life_quad.proofs.StoreLemmas.{levels-push}
 use Rattle.life_quad.specs.Store.{squares, levels_of, node_square, IsNode, IsSound}
 use Rattle.life_quad.specs.contracts.plain.Plain.{the_view}
 use Rattle.life_quad.proofs.GrowLemmas.{IsSound-push}

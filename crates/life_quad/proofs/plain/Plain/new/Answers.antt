@@ -1,4 +1,4 @@
-use Rattle.life_quad.specs.StoreLaws.{squares-nil}
+use Rattle.life_quad.proofs.StoreLemmas.{squares-nil}
 use Rattle.std.proofs.Common.{ap, ◌∙◌, rules}
 use Rattle.life_quad.specs.Store.{squares}
 use Rattle.life_quad.proofs.plain.Plain.new.Goals as goal

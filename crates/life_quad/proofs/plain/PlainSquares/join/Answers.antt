@@ -2,7 +2,7 @@ use Rattle.std.proofs.Common.{◌≡◌, arith, sym, ◌∙◌, ap, subst, OnOk,
 use Rattle.std.proofs.lemmas.Result.{on_err_weaker, on_ok_weaker}
 use Rattle.life_base.proofs.Results.{if_ok_both}
 use Rattle.life_quad.specs.Store.{squares, square_of, node_square, IsNode}
-use Rattle.life_quad.specs.StoreLaws.{length-squares, squares-push}
+use Rattle.life_quad.proofs.StoreLemmas.{length-squares, squares-push}
 use Rattle.life_base.specs.Tree.{depth, blank}
 use Rattle.life_quad.proofs.GrowLemmas.{with_node}
 use Rattle.life_quad.proofs.CallLemmas.{node_of, is_blank-joined, blank_joined, IsNode-joined, keeps_added, knows_last, square_of-added, IsWantKind-left, room_left}

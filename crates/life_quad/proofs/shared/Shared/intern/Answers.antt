@@ -1,12 +1,12 @@
 use Rattle.std.proofs.Common.{◌≡◌, ◌+◌, ◌∷◌, [], ◌++◌, length, Contains, arith, refl, sym, ◌∙◌, ap, subst, Ok, Err, length-append}
 use Rattle.std.specs.Prelude.{if◌then◌else◌, is_some}
 use Rattle.life_quad.specs.IdMap.{value_of}
-use Rattle.life_quad.specs.StoreLaws.{levels-push}
+use Rattle.life_quad.proofs.StoreLemmas.{levels-push}
 use Rattle.life_base.specs.Tree.{depth}
-use Rattle.life_quad.specs.Store.{Nodes, squares, levels_of, node_square, id_of, IsNode, HasRoom, Answers}
+use Rattle.life_quad.specs.Store.{Nodes, squares, levels_of, node_square, id_of, IsNode, Answers}
 use Rattle.life_quad.specs.contracts.shared.Shared.{the_view}
 use Rattle.life_quad.proofs.GrowLemmas.{with_both}
-use Rattle.life_quad.proofs.CallLemmas.{absent_node, node_there, node_added, sound_added, answers_refused, answers_memory, HasSeen-node, position_node, not_there, inserted, found}
+use Rattle.life_quad.proofs.CallLemmas.{HasRoom, absent_node, node_there, node_added, sound_added, answers_refused, answers_memory, HasSeen-node, position_node, not_there, inserted, found}
 use Rattle.life_quad.proofs.shared.Shared.intern.Goals as goal
 
 pub returns-in_default-get_index_of : goal.returns-in_default-get_index_of

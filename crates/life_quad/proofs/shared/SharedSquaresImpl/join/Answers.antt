@@ -1,7 +1,7 @@
 use Rattle.std.proofs.Common.{◌≡◌, arith, sym, ◌∙◌, ap, subst, true≢false, ◌+◌, suc}
 use Rattle.life_quad.specs.Store.{squares, content, node_square, number_of, IsNode, Answers}
 use Rattle.life_quad.specs.StoreLaws.{small_node}
-use Rattle.life_quad.specs.SmallLaws.{small_range}
+use Rattle.life_quad.proofs.SmallLemmas.{small_range}
 use Rattle.life_base.specs.Tree.{depth, blank}
 use Rattle.life_quad.proofs.CallLemmas.{node_of, is_blank-joined, blank_joined, IsNode-joined, IsSmall-joined, join_answers}
 use Rattle.life_quad.proofs.shared.SharedSquaresImpl.join.Goals as goal
