@@ -76,6 +76,20 @@ fn four_rows<S: Squares>(squares: &S, id: Id) -> [u8; 4]
     ]
 }
 
+/// The rows of eight cells, by the four in the west and the four in the east of each.
+fn beside(west: [u8; 4], east: [u8; 4]) -> [u8; 4]
+    requires west { (y : ℕ) → slice_index west y < 16 }
+    requires east { (y : ℕ) → slice_index east y < 16 }
+    ensures { result ≡ (16 * slice_index west 0 + slice_index east 0) ∷ (16 * slice_index west 1 + slice_index east 1) ∷ (16 * slice_index west 2 + slice_index east 2) ∷ (16 * slice_index west 3 + slice_index east 3) ∷ [] }
+{
+    [
+        16 * west[0] + east[0],
+        16 * west[1] + east[1],
+        16 * west[2] + east[2],
+        16 * west[3] + east[3],
+    ]
+}
+
 /// The eight rows of a square of level 3 as bytes, the western cell the highest bit.
 pub(crate) fn eight_rows<S: Squares>(squares: &S, id: Id) -> [u8; 8]
     requires known { S.knows squares.now id }
@@ -84,18 +98,9 @@ pub(crate) fn eight_rows<S: Squares>(squares: &S, id: Id) -> [u8; 8]
     ensures { result ≡ rows_of (S.content squares.now id) }
 {
     let Quarters { nw, ne, sw, se } = divide(squares, id);
-    let nw = four_rows(squares, nw);
-    let ne = four_rows(squares, ne);
-    let sw = four_rows(squares, sw);
-    let se = four_rows(squares, se);
+    let north = beside(four_rows(squares, nw), four_rows(squares, ne));
+    let south = beside(four_rows(squares, sw), four_rows(squares, se));
     [
-        16 * nw[0] + ne[0],
-        16 * nw[1] + ne[1],
-        16 * nw[2] + ne[2],
-        16 * nw[3] + ne[3],
-        16 * sw[0] + se[0],
-        16 * sw[1] + se[1],
-        16 * sw[2] + se[2],
-        16 * sw[3] + se[3],
+        north[0], north[1], north[2], north[3], south[0], south[1], south[2], south[3],
     ]
 }
