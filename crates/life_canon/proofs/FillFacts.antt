@@ -5,8 +5,7 @@ use Rattle.std.proofs.lemmas.Option.{slice_get-get_or}
 use Rattle.life_base.specs.Tree.{Tree, quad, depth}
 use Rattle.life_base.specs.declared.cell.TheConstants.{MAX_LEVEL}
 use Rattle.life_base.specs.declared.rule.Rule.{Rule}
-use Rattle.life_base.specs.declared.rule.Rule.TheVariants.{Life, Named}
-use Rattle.life_mc.specs.Macrocell.{level_of, is_quarter, largest_state, IsSquare}
+use Rattle.life_mc.specs.Macrocell.{level_of, is_quarter, IsSquare}
 use Rattle.life_mc.specs.Squares.{tree_at, tree_of}
 use Rattle.life_mc.specs.declared.line.Line.{Line}
 use Rattle.life_mc.specs.declared.line.Line.TheVariants.{Quad}
@@ -14,10 +13,6 @@ use Rattle.life_quad.specs.declared.id.Id.{Id}
 use Rattle.life_canon.specs.Filling.{AreSquaresOf}
 use Rattle.life_canon.proofs.LineWords.{line_at, IsQuarter}
 use Rattle.life_canon.proofs.LineFacts.{get-line_at, quarter-test, four-of}
-
-few-states : (rule : Rule) → largest_state rule ≤ 255
-few-states (Life sets) = omega arith
-few-states (Named name) = omega arith
 
 take-all : (lines : List Line) → take (length lines) lines ≡ lines
 take-all [] = refl
@@ -32,12 +27,6 @@ quarter-of rule lines level number h =
   where
     same : (n : ℕ) → n ≤ n
     same n = omega arith
-
--- at level 0 the number is a state
-pub state-small : (rule : Rule) (lines : List Line) (level number : ℕ) → level ≡ 0 → is_quarter rule (map level_of lines) (level + 1) number ≡ true
-    → number < 256
-state-small rule lines zero number e h = let q = quarter-of rule lines 0 number h in omega (arith, q, few-states rule)
-state-small rule lines (suc level) number e h = absurd (omega arith)
 
 -- above, a number that isn't 0 has an Id, which names its square
 pub record HasId (knows : Id → Type 0) (content : Id → Tree) (lines : List Line) (ids : List Id) (level number : ℕ) (d : Id) : Type 0 where

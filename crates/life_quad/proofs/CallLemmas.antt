@@ -29,17 +29,9 @@ pub record HasRoom (s : Nodes) : Type 0 where
   pub limit : length s.log < s.limit
   pub few : 66064 + length s.nodes < 2 ^ 32
 
--- the Id of a state
-pub knows_state : (s : Nodes) (v : ℕ) → IsSound s → v < 256 → Knows s (id_of v)
-knows_state s v h l = record { sound = h; named = record { below = omega arith; blank = λ _. omega arith }; joined = λ m u. absurd (omega arith) }
-
 pub square_of-state : (S : List Tree) (v : ℕ) → v < 256 → square_of S (id_of v) ≡ point v
 unfolding square_of
 square_of-state S v l = grind arith
-
--- the Id of a blank square
-pub knows_blank : (s : Nodes) (l : ℕ) → IsSound s → l ≤ MAX_LEVEL → Knows s (id_of (255 + l))
-knows_blank s l h low = record { sound = h; named = record { below = omega arith; blank = λ _. omega arith }; joined = λ m u. absurd (omega arith) }
 
 pub square_of-blank : (S : List Tree) (l : ℕ) → 0 < l → l ≤ MAX_LEVEL → square_of S (id_of (255 + l)) ≡ blank l
 unfolding square_of
@@ -704,11 +696,6 @@ pub position_node : (ns : List Node) (n : Node) (i : ℕ) → position (eq-value
 position_node ns n i e =
     let p = position-Some (eq-value.it n) ns i n e in
     slice_get-get_or ns i n p.0 ∙ ap Some (sym (same_node n (get_or ns i n) p.1))
-
-pub position_contains : (ns : List Node) (n : Node) (i : ℕ) → position (eq-value.it n) ns ≡ Some i → Contains ns n
-position_contains ns n i e =
-    let p = position-Some (eq-value.it n) ns i n e in
-    (i, p.0, sym (same_node n (get_or ns i n) p.1))
 
 -- a small square of four quarters that are not all blank
 pub IsSmall-joined : (s : Nodes) (n : Node) (k : ℕ) → number_of n ≡ Some k → IsNode s.log (squares s.nodes) (length s.nodes) n

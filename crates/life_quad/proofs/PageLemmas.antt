@@ -1,5 +1,5 @@
 -- Values in pages.
-use Rattle.std.proofs.Common.{◌≡◌, ◌≢◌, ◌⊎◌, inl, inr, ℕ, ◌+◌, ◌/◌, ◌%◌, ◌<◌, ◌≤◌, Bool, true, false, ◌==◌, if◌then◌else◌, nat_lt, List, [], ◌++◌, length, get_or, set, replicate, refl, sym, ◌∙◌, ap, arith, get_or-set_other}
+use Rattle.std.proofs.Common.{◌≡◌, ◌≢◌, ◌⊎◌, inl, inr, ℕ, ◌+◌, ◌/◌, ◌%◌, ◌<◌, ◌≤◌, Bool, true, false, ◌==◌, if◌then◌else◌, nat_lt, List, ◌++◌, length, get_or, set, replicate, refl, sym, ◌∙◌, ap, arith, get_or-set_other}
 use Rattle.std.proofs.lemmas.Grind.{common_steps}
 use Rattle.std.proofs.lemmas.List.{get_or_past}
 use Rattle.life_quad.specs.Pages.{ArePages, place_of, start_in, index_in}
@@ -34,9 +34,6 @@ filled {X} values n i absent = by (nat_lt i (length values)) refl
     by : (b : Bool) → nat_lt i (length values) ≡ b → get_or (values ++ replicate n absent) i absent ≡ get_or values i absent
     by true e = grind (arith, common_steps)
     by false e = grind (arith, common_steps)
-
-pub no_pages : ArePages [] 0
-no_pages = record { few = omega arith; whole = λ page l. omega (arith, l); apart = λ m n e l. omega (arith, l) }
 
 -- an index of a value is below the number of values
 inside : (starts : List ℕ) (size n : ℕ) → ArePages starts size → index_in starts n < 4294967295 → index_in starts n < size

@@ -2,7 +2,7 @@
 use Rattle.std.specs.Prelude.{if◌then◌else◌}
 use Rattle.std.proofs.Common.{◌≡◌, ℕ, ◌+◌, ◌*◌, ◌-◌, ◌/◌, ◌%◌, ◌≤◌, ◌<◌, Bool, true, false, ◌&&◌, ◌==◌, None, Some, refl, sym, ◌∙◌, ap, arith}
 use Rattle.life_quad.specs.Store.{id_of, is_bit_id, is_digit_id, digit_id, small_of}
-use Rattle.life_quad.specs.SmallLaws.{IsDigit, digit_0, digit_of, Smalls, of_bits, of_digits, bit, all_four, smalls, bits_of, digits_of, below_16}
+use Rattle.life_quad.specs.SmallLaws.{IsDigit, digit_0, digit_of, Smalls, of_bits, of_digits, smalls, bits_of, digits_of, below_16}
 
 -- the quarters by division
 pub bits_are : (a b c d k bits : ℕ) → small_of a b c d ≡ Some k → k < 528 → bits ≡ k - 512 → (bits / 8 ≡ a) × (bits / 4 % 2 ≡ b) × (bits / 2 % 2 ≡ c)
@@ -72,13 +72,6 @@ module _ (a b c d : ℕ) where
 
   abbrev pub are_digit_ids : Bool
   are_digit_ids = is_digit_id a && is_digit_id b && is_digit_id c && is_digit_id d
-
-  pub bits_below : are_bit_ids ≡ true → (a < 2) × (b < 2) × (c < 2) × (d < 2)
-  bits_below h = let all : (is_bit_id a ≡ true) × (is_bit_id b ≡ true) × (is_bit_id c ≡ true) × (is_bit_id d ≡ true) = all_four _ _ _ _ h in
-      (bit a all.0, bit b all.1, bit c all.2, bit d all.3)
-
-  pub digits_apart : are_digit_ids ≡ true → (is_digit_id a ≡ true) × (is_digit_id b ≡ true) × (is_digit_id c ≡ true) × (is_digit_id d ≡ true)
-  digits_apart h = all_four _ _ _ _ h
 
   pub of_two : are_bit_ids ≡ true → Some (512 + (a * 8 + b * 4 + c * 2 + d)) ≡ small_of a b c d
   unfolding small_of

@@ -18,9 +18,6 @@ use Rattle.life_strip.proofs.WordLemmas.{west-square, east-square, west-small, e
 use Rattle.life_strip.proofs.SpanLemmas.{Keeps, Some-is, id_at-before, strip-kept, depth-square_at, quad-keeps, quad-same, found-within, before_earlier, none-left}
 
 module _ (knows : Id → Type 0) (now : Id → Tree) (want : ℕ → Tree) where
-  pub filled-start : FilledTo knows now want [] 0
-  filled-start = record { ends = λ k d h. absurd (omega (arith, h)); done = λ c h. absurd (omega (arith, h)) }
-
   pub filled-covers : (spans : List Span) (column : ℕ) → FilledTo knows now want spans column → Covers spans column
   filled-covers spans column p = record { ends = p.ends; each = λ c h. let d = p.done c h in (d.0, d.1) }
 
@@ -249,9 +246,6 @@ nearest-beyond column end a b c d near ha hb hc hd = by near.one
     by (inr (inr (inr e))) = subst (IsBefore column) e hd
 
 -- a column of squares of level 2 that begins before the nearest end is one of the plane
-pub fourth-side : 2 ^ (MAX_LEVEL - 0) ≡ 4 * 2 ^ (MAX_LEVEL - 2)
-fourth-side = omega arith
-
 pub nearest-within : (a b c d : List Span) → AreWithin 0 a → AreWithin 0 b → AreWithin 0 c → AreWithin 0 d
     → (column : ℕ) (i : Id) (fa fb fc fd : Stretch) (end : ℕ) → IsFound a column i fa → IsFound b column i fb → IsFound c column i fc → IsFound d column i fd
     → IsNearest end fa.end fb.end fc.end fd.end → end ≤ 4 * 2 ^ (MAX_LEVEL - 2)

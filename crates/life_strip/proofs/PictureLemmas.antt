@@ -291,10 +291,6 @@ lowest-init xs x h n e k d lt =
     let q = level_last xs x d in
     omega (arith, a, p, q, e)
 
--- one strip
-pub falling-one : (x : Strip) → AreFalling (x ∷ [])
-falling-one x i j d ij jl = absurd (omega (arith, ij, jl))
-
 -- a strip of a lower level than the last
 pub falling-push : (xs : List Strip) (x y : Strip) → AreFalling (xs ++ x ∷ []) → IsLowest y.level (xs ++ x ∷ []) → (x.level ≡ y.level → ⊥)
     → AreFalling ((xs ++ x ∷ []) ++ y ∷ [])

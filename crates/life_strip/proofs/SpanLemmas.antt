@@ -37,10 +37,6 @@ id_at-after s rest c h = grind arith
 pub past_later : (spans : List Span) (index a b : ℕ) → IsPast spans index a → a ≤ b → IsPast spans index b
 past_later spans index a b h le c from = h c (omega arith)
 
--- the first column
-pub past_first : (spans : List Span) (a : ℕ) → IsPast spans 0 a
-past_first spans a c from = refl
-
 pub Some-is : {X : Type 0} {a b : X} → Some a ≡ Some b → a ≡ b
 Some-is {X} {a} e = ap (λ o. only a o) e
   where
@@ -126,11 +122,6 @@ module _ (knows : Id → Type 0) (content : Id → Tree) (level : ℕ) (spans : 
     pub found-same : (c x y : ℕ) (f : Stretch) → IsFound spans c b f → c ≤ x → IsBefore x f.end → c ≤ y → IsBefore y f.end
         → square_at content level spans x ≡ square_at content level spans y
     found-same c x y f h xl xu yl yu = sym (content_or x) ∙ ap content (h.square x xl xu ∙ sym (h.square y yl yu)) ∙ content_or y
-
--- no column yet
-pub PairedTo-start : (knows : Id → Type 0) (old : Id → Tree) (level : ℕ) (upper lower : List Span) → PairedTo knows old old level upper lower [] 0
-PairedTo-start knows old level upper lower =
-    record { done = λ c h. absurd (omega arith); rest = λ c h more. refl; within = λ k d h. absurd (omega arith) }
 
 -- the columns up to the next are done
 pub PairedTo-push : {knows knows' : Id → Type 0} {old now now' : Id → Tree} (level : ℕ) (upper lower spans : List Span) (column next : ℕ) (r : Id)

@@ -56,17 +56,6 @@ pub record IsBegun (f : ℕ → ℕ) (start column cells rest : ℕ) : Type 0 wh
   pub others : rest + 1 ≡ 2 ^ (64 - (column - start))
   pub states : (i : ℕ) → i < column - start → f (start + i) ≤ 1
 
-pub begun-start : (f : ℕ → ℕ) (start : ℕ) → IsBegun f start start 0 18446744073709551615
-begun-start f start =
-    let none : start - start ≡ 0 = omega arith in
-    record {
-      from = omega arith;
-      within = omega arith;
-      digits = sym (ap (λ n. binary f start n * (18446744073709551615 + 1)) none);
-      others = sym (ap (λ n. 2 ^ (64 - n)) none);
-      states = λ i lt. absurd (omega (arith, lt));
-    }
-
 module _ (f : ℕ → ℕ) (start column cells rest : ℕ) (p : IsBegun f start column cells rest) where
   -- the columns from this one on to another one have one state
   module _ (end b : ℕ) (later : column ≤ end) (last : end ≤ start + 64) (small : b ≤ 1) (same : (c : ℕ) → column ≤ c → c < end → f c ≡ b) where

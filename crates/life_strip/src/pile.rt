@@ -5,7 +5,7 @@ ghost use Rattle.life_base.specs.Tree.{depth, state_at};
 ghost use Rattle.life_quad.specs.Keeping.{KeepsSquares, IsWantKind};
 ghost use Rattle.life_strip.specs.Picture.{picture, height, AreStacked, IsLowest, IsRow};
 ghost use Rattle.life_strip.specs.Needed.{SomeSquare};
-ghost use Rattle.life_strip.specs.Pile.{IsPile, strips_of};
+ghost use Rattle.life_strip.specs.Pile.{IsPile, IsClosed, strips_of};
 
 use crate::rows::{band_strip, blank_level, push_strip, whole};
 use crate::spans::Strip;
@@ -39,10 +39,7 @@ impl Pile {
         requires strips { AreStacked (S.knows squares.old) (S.content squares.old) self.old.strips.items }
         requires rows { All (IsRow (S.knows squares.old) (S.content squares.old)) self.old.band.items }
         requires room { height (strips_of self.old) ≤ 2 ^ MAX_LEVEL }
-        ensures empty { OnOk result (self.new.band.items ≡ []) }
-        ensures strips { OnOk result (AreStacked (S.knows squares.new) (S.content squares.new) self.new.strips.items) }
-        ensures height { OnOk result (height self.new.strips.items ≡ height (strips_of self.old)) }
-        ensures picture { OnOk result ((column row : ℕ) → picture (S.content squares.new) self.new.strips.items column row ≡ picture (S.content squares.old) (strips_of self.old) column row) }
+        ensures closed { OnOk result (IsClosed (S.knows squares.new) (S.content squares.old) (S.content squares.new) self.old self.new) }
         ensures keeps { KeepsSquares S.knows S.content S.stored S.most squares.old squares.new }
         ensures refusals { IfErr result (IsWantKind (S.stored squares.new) (S.most squares.new)) }
         ensures needed { result ≡ Err Full → SomeSquare (S.needs_node squares.new) (height (strips_of self.old)) (picture (S.content squares.old) (strips_of self.old)) }
@@ -61,10 +58,7 @@ impl Pile {
         requires rows { All (IsRow (S.knows squares.old) (S.content squares.old)) self.old.band.items }
         requires whole { length self.old.band.items ≡ 4 }
         requires room { height (strips_of self.old) ≤ 2 ^ MAX_LEVEL }
-        ensures empty { OnOk result (self.new.band.items ≡ []) }
-        ensures strips { OnOk result (AreStacked (S.knows squares.new) (S.content squares.new) self.new.strips.items) }
-        ensures height { OnOk result (height self.new.strips.items ≡ height (strips_of self.old)) }
-        ensures picture { OnOk result ((column row : ℕ) → picture (S.content squares.new) self.new.strips.items column row ≡ picture (S.content squares.old) (strips_of self.old) column row) }
+        ensures closed { OnOk result (IsClosed (S.knows squares.new) (S.content squares.old) (S.content squares.new) self.old self.new) }
         ensures keeps { KeepsSquares S.knows S.content S.stored S.most squares.old squares.new }
         ensures refusals { IfErr result (IsWantKind (S.stored squares.new) (S.most squares.new)) }
         ensures needed { result ≡ Err Full → SomeSquare (S.needs_node squares.new) (height (strips_of self.old)) (picture (S.content squares.old) (strips_of self.old)) }

@@ -8,7 +8,7 @@ use Rattle.life_strip.specs.declared.spans.Strip.{Strip}
 use Rattle.life_strip.specs.Picture.{picture, height, IsRow, IsSound}
 use Rattle.life_strip.specs.Needed.{SomeSquare}
 use Rattle.life_strip.proofs.NeededLemmas.{SomeSquare-same}
-use Rattle.life_strip.proofs.PictureLemmas.{on_ok_map, all_init, all_last, append-last, height-last}
+use Rattle.life_strip.proofs.PictureLemmas.{on_ok_map3, all_init, all_last, append-last, height-last}
 use Rattle.life_strip.proofs.BandPictures.{all-one, picture-under, SomeSquare-above}
 use Rattle.life_strip.proofs.pile.Pile.+push_rows.Goals as goal
 
@@ -36,24 +36,24 @@ push_rows-requires g t c κs within =
 pub push_strip-requires-clause-room : goal.push_strip-requires-clause-room
 push_strip-requires-clause-room g t c =
     let h = height-last c.args.self.now.strips.items c.pop.new.self.items c.args.self.now.band.items c.in-Some.last c.in-Some.ensures.items in
-    omega (arith, h, c.requires.room, c.in_ok-push_rows.ensures.height)
-
-pub returns-clause-height : goal.returns-clause-height
-returns-clause-height g t c =
-    let h = height-last c.args.self.now.strips.items c.pop.new.self.items c.args.self.now.band.items c.in-Some.last c.in-Some.ensures.items in
-    on_ok_map c.push_strip.result (λ e. omega (arith, e, h, c.in_ok-push_rows.ensures.height)) c.push_strip.ensures.height
+    omega (arith, h, c.requires.room, c.in_ok-push_rows.ensures.closed.height)
 
 pub returns-clause-keeps : goal.returns-clause-keeps
 returns-clause-keeps g t c = keeps-then c.in_ok-push_rows.ensures.keeps c.push_strip.ensures.keeps
 
-pub returns-clause-picture : goal.returns-clause-picture
-returns-clause-picture g t c =
-    let r = c.in_ok-push_rows.ensures in
-    on_ok_map c.push_strip.result
-    (λ e i j. e i j
-    ∙ last-below r.keeps c.args.self.now.strips.items c.pop.new.self.items c.args.self.now.band.items c.push_rows.new.self.strips.items c.in-Some.last
-    c.in-Some.ensures.items c.requires.rows r.height r.picture i j)
-    c.push_strip.ensures.picture
+pub returns-clause-closed : goal.returns-clause-closed
+returns-clause-closed g t c =
+    let r = c.in_ok-push_rows.ensures.closed in
+    let h = height-last c.args.self.now.strips.items c.pop.new.self.items c.args.self.now.band.items c.in-Some.last c.in-Some.ensures.items in
+    let e = c.push_strip.ensures in
+    on_ok_map3 c.push_strip.result (λ strips more cells. record {
+      empty = r.empty;
+      strips = strips;
+      height = omega (arith, more, h, r.height);
+      picture = λ i j. cells i j
+          ∙ last-below c.in_ok-push_rows.ensures.keeps c.args.self.now.strips.items c.pop.new.self.items c.args.self.now.band.items
+          c.push_rows.new.self.strips.items c.in-Some.last c.in-Some.ensures.items c.requires.rows r.height r.picture i j;
+    }) e.strips e.height e.picture
 
 pub returns-in_err-push_rows-clause-needed : goal.returns-in_err-push_rows-clause-needed
 returns-in_err-push_rows-clause-needed g t c =
@@ -71,9 +71,9 @@ returns-in_err-push_rows-clause-needed g t c =
 
 pub returns-clause-needed : goal.returns-clause-needed
 returns-clause-needed g t c =
-    let r = c.in_ok-push_rows.ensures in
+    let r = c.in_ok-push_rows.ensures.closed in
     let h = height-last c.args.self.now.strips.items c.pop.new.self.items c.args.self.now.band.items c.in-Some.last c.in-Some.ensures.items in
     λ e. SomeSquare-same (omega (arith, h, r.height))
-    (last-below r.keeps c.args.self.now.strips.items c.pop.new.self.items c.args.self.now.band.items c.push_rows.new.self.strips.items c.in-Some.last
+    (last-below c.in_ok-push_rows.ensures.keeps c.args.self.now.strips.items c.pop.new.self.items c.args.self.now.band.items c.push_rows.new.self.strips.items c.in-Some.last
     c.in-Some.ensures.items c.requires.rows r.height r.picture)
     (c.push_strip.ensures.needed e)

@@ -10,7 +10,7 @@ use Rattle.life_strip.specs.declared.spans.Strip.{Strip}
 use Rattle.life_strip.specs.Picture.{picture, height, IsRow, IsSound}
 use Rattle.life_strip.specs.Needed.{SomeSquare}
 use Rattle.life_strip.proofs.NeededLemmas.{SomeSquare-same, err_again}
-use Rattle.life_strip.proofs.PictureLemmas.{on_ok_map, stack-kept, rows-kept}
+use Rattle.life_strip.proofs.PictureLemmas.{on_ok_map, on_ok_map3, stack-kept, rows-kept}
 use Rattle.life_strip.proofs.PlaneLemmas.{picture-keeps}
 use Rattle.life_strip.proofs.BandPictures.{height-append, height-rows, picture-over, SomeSquare-below}
 use Rattle.life_strip.proofs.pile.Pile.close_band.Goals as goal
@@ -67,12 +67,15 @@ push_rows-requires-clause-rows g c = rows-kept c.in_ok-strip.ensures.keeps c.arg
 pub returns-in_default-clause-keeps : goal.returns-in_default-clause-keeps
 returns-in_default-clause-keeps g c = keeps-then c.in_ok-strip.ensures.keeps c.push_rows.ensures.keeps
 
-pub returns-in_default-clause-picture : goal.returns-in_default-clause-picture
-returns-in_default-clause-picture g c =
-    on_ok_map c.push_rows.result
-    (λ e i j. e i j ∙ kept c.in_ok-strip.ensures.keeps c.args.self.now.strips.items c.args.self.now.band.items c.requires.strips.sound
-    c.requires.rows i j)
-    c.push_rows.ensures.picture
+pub returns-in_default-clause-closed : goal.returns-in_default-clause-closed
+returns-in_default-clause-closed g c =
+    on_ok_map c.push_rows.result (λ r. record {
+      empty = r.empty;
+      strips = r.strips;
+      height = r.height;
+      picture = λ i j. r.picture i j
+          ∙ kept c.in_ok-strip.ensures.keeps c.args.self.now.strips.items c.args.self.now.band.items c.requires.strips.sound c.requires.rows i j;
+    }) c.push_rows.ensures.closed
 
 pub returns-in_default-clause-needed : goal.returns-in_default-clause-needed
 returns-in_default-clause-needed g c =
@@ -90,23 +93,23 @@ push_strip-requires-clause-room g c =
     c.requires.rows c.requires.whole c.in-Some.is c.in_ok-strip.ensures.level in
     omega (arith, h, c.requires.room)
 
-pub returns-clause-height : goal.returns-clause-height
-returns-clause-height g c =
-    let pile = c.args.self.now in
-    let h = band-height (g.S.Squares.knows c.args.squares.now) (g.S.Squares.content c.args.squares.now) pile.strips.items pile.band.items _ c.in-Some.strip
-    c.requires.rows c.requires.whole c.in-Some.is c.in_ok-strip.ensures.level in
-    on_ok_map c.push_strip.result (λ e. e ∙ h) c.push_strip.ensures.height
-
 pub returns-clause-keeps : goal.returns-clause-keeps
 returns-clause-keeps g c = keeps-then c.in_ok-strip.ensures.keeps c.push_strip.ensures.keeps
 
-pub returns-clause-picture : goal.returns-clause-picture
-returns-clause-picture g c =
+pub returns-clause-closed : goal.returns-clause-closed
+returns-clause-closed g c =
     let r = c.in_ok-strip.ensures in
-    on_ok_map c.push_strip.result
-    (λ e i j. e i j ∙ band-cells r.keeps c.args.self.now.strips.items c.args.self.now.band.items _ _ c.in-Some.strip c.requires.strips.sound c.in-Some.is
-    c.as_slice.ensures.value r.picture i j)
-    c.push_strip.ensures.picture
+    let pile = c.args.self.now in
+    let h = band-height (g.S.Squares.knows c.args.squares.now) (g.S.Squares.content c.args.squares.now) pile.strips.items pile.band.items _ c.in-Some.strip
+    c.requires.rows c.requires.whole c.in-Some.is r.level in
+    let e = c.push_strip.ensures in
+    on_ok_map3 c.push_strip.result (λ strips more cells. record {
+      empty = c.clear.ensures.items;
+      strips = strips;
+      height = more ∙ h;
+      picture = λ i j. cells i j ∙ band-cells r.keeps pile.strips.items pile.band.items _ _ c.in-Some.strip c.requires.strips.sound c.in-Some.is
+          c.as_slice.ensures.value r.picture i j;
+    }) e.strips e.height e.picture
 
 pub returns-clause-needed : goal.returns-clause-needed
 returns-clause-needed g c =

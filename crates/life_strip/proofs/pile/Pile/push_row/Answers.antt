@@ -4,7 +4,7 @@ use Rattle.life_quad.proofs.KeepingLemmas.{keeps-same}
 use Rattle.life_strip.specs.Picture.{picture, height, IsRow}
 use Rattle.life_strip.specs.declared.spans.Strip.{Strip}
 use Rattle.life_strip.proofs.NeededLemmas.{SomeSquare-same}
-use Rattle.life_strip.proofs.PictureLemmas.{on_ok_map2, on_ok_map3, append-last, height-last}
+use Rattle.life_strip.proofs.PictureLemmas.{on_ok_map, append-last, height-last}
 use Rattle.life_strip.proofs.BandPictures.{height-append, height-rows, lowest-more, no-rows, pile-alone}
 use Rattle.life_strip.proofs.pile.Pile.push_row.Goals as goal
 
@@ -73,22 +73,21 @@ returns-clause-pile g c =
     let h = one-row xs ys c.push.new.self.items c.args.row c.in_ok-push.ensures.items c.requires.row.level in
     let over = height-append xs ys in
     let rows = height-rows (g.S.Squares.knows c.args.squares.now) (g.S.Squares.content c.args.squares.now) ys c.requires.pile.rows in
-    let r = c.close_band.ensures in
-    on_ok_map3 c.close_band.result
-    (λ strips empty e. pile-alone (g.S.Squares.knows c.close_band.new.squares) (g.S.Squares.content c.close_band.new.squares)
-    c.close_band.new.self empty strips
-    (lowest-more xs c.close_band.new.self.strips.items 4 1 c.requires.pile.lowest strips.falling
-    (omega (arith, e, h, over, rows, n, c.len.ensures, c.if-len-lt4.false, c.requires.pile.few)) refl))
-    r.strips r.empty r.height
+    on_ok_map c.close_band.result
+    (λ r. pile-alone (g.S.Squares.knows c.close_band.new.squares) (g.S.Squares.content c.close_band.new.squares) c.close_band.new.self r.empty r.strips
+    (lowest-more xs c.close_band.new.self.strips.items 4 1 c.requires.pile.lowest r.strips.falling
+    (omega (arith, r.height, h, over, rows, n, c.len.ensures, c.if-len-lt4.false, c.requires.pile.few)) refl))
+    c.close_band.ensures.closed
 
 pub returns-clause-picture : goal.returns-clause-picture
 returns-clause-picture g c =
     let C = g.S.Squares.content in
     let in_order = append-last c.args.self.now.strips.items c.args.self.now.band.items c.push.new.self.items c.args.row c.in_ok-push.ensures.items in
-    on_ok_map2 c.close_band.result
-    (λ empty e i j. ap (λ z. picture (C c.close_band.new.squares) z i j)
-    (no-rows c.close_band.new.self.strips.items c.close_band.new.self.band.items empty) ∙ e i j ∙ ap (λ z. picture (C c.args.squares.now) z i j) in_order)
-    c.close_band.ensures.empty c.close_band.ensures.picture
+    on_ok_map c.close_band.result
+    (λ r i j. ap (λ z. picture (C c.close_band.new.squares) z i j)
+    (no-rows c.close_band.new.self.strips.items c.close_band.new.self.band.items r.empty) ∙ r.picture i j
+    ∙ ap (λ z. picture (C c.args.squares.now) z i j) in_order)
+    c.close_band.ensures.closed
 
 pub returns-clause-keeps : goal.returns-clause-keeps
 returns-clause-keeps g c = c.close_band.ensures.keeps
@@ -96,8 +95,8 @@ returns-clause-keeps g c = c.close_band.ensures.keeps
 pub returns-clause-height : goal.returns-clause-height
 returns-clause-height g c =
     let h = one-row c.args.self.now.strips.items c.args.self.now.band.items c.push.new.self.items c.args.row c.in_ok-push.ensures.items c.requires.row.level in
-    on_ok_map2 c.close_band.result (λ empty e. ap height (no-rows c.close_band.new.self.strips.items c.close_band.new.self.band.items empty) ∙ e ∙ h)
-    c.close_band.ensures.empty c.close_band.ensures.height
+    on_ok_map c.close_band.result
+    (λ r. ap height (no-rows c.close_band.new.self.strips.items c.close_band.new.self.band.items r.empty) ∙ r.height ∙ h) c.close_band.ensures.closed
 
 pub returns-clause-needed : goal.returns-clause-needed
 returns-clause-needed g c =
