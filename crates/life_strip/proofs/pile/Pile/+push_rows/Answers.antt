@@ -74,6 +74,6 @@ returns-clause-needed g t c =
     let r = c.in_ok-push_rows.ensures.closed in
     let h = height-last c.args.self.now.strips.items c.pop.new.self.items c.args.self.now.band.items c.in-Some.last c.in-Some.ensures.items in
     λ e. SomeSquare-same (omega (arith, h, r.height))
-    (last-below c.in_ok-push_rows.ensures.keeps c.args.self.now.strips.items c.pop.new.self.items c.args.self.now.band.items c.push_rows.new.self.strips.items c.in-Some.last
-    c.in-Some.ensures.items c.requires.rows r.height r.picture)
+    (last-below c.in_ok-push_rows.ensures.keeps c.args.self.now.strips.items c.pop.new.self.items c.args.self.now.band.items
+    c.push_rows.new.self.strips.items c.in-Some.last c.in-Some.ensures.items c.requires.rows r.height r.picture)
     (c.push_strip.ensures.needed e)
