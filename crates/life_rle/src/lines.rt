@@ -31,41 +31,28 @@ pub enum Phase {
     Refused,
 }
 
-/// Where a line has brought the reader.
-#[derive(Drop)]
-struct Advance {
-    phase: Phase,
-    cursor: Cursor,
-}
-
-/// A line before the header.
+/// A line before the header: where it brings the reader.
 fn before_header(
     alloc: Global,
     position: Position,
     cursor: Cursor,
     line: &[u8],
-) -> Result<Advance, Kind>
-    ensures advance { IfOk result (λ next. Advances MAX_LEVEL (Phase.Before position) cursor line.now next.phase next.cursor []) }
-    ensures going { IfOk result (λ next. is_refused next.phase ≡ false) }
+) -> Result<(Phase, Cursor), Kind>
+    ensures advance { IfOk result (λ next. Advances MAX_LEVEL (Phase.Before position) cursor line.now next.0 next.1 []) }
+    ensures going { IfOk result (λ next. is_refused next.0 ≡ false) }
     ensures fault { IfErr result (λ kind. (kind ≡ Kind.Memory) ⊎ (opening_of MAX_LEVEL line.now ≡ Err kind)) }
 {
     match opening_of(alloc, line)? {
-        Opening::Comment => Ok(Advance {
-            phase: Phase::Before(position),
-            cursor,
-        }),
-        Opening::PositionLine(found) => Ok(Advance {
-            phase: Phase::Before(found),
-            cursor: Cursor {
+        Opening::Comment => Ok((Phase::Before(position), cursor)),
+        Opening::PositionLine(found) => {
+            let cursor = Cursor {
                 left: found.x,
                 x: found.x,
                 y: found.y,
-            },
-        }),
-        Opening::Header(rule) => Ok(Advance {
-            phase: Phase::Items(rule, position),
-            cursor,
-        }),
+            };
+            Ok((Phase::Before(found), cursor))
+        }
+        Opening::Header(rule) => Ok((Phase::Items(rule, position), cursor)),
     }
 }
 
@@ -76,18 +63,15 @@ fn behind_header(
     cursor: Cursor,
     line: &[u8],
     runs: &mut Vec<Run>,
-) -> Result<Advance, Kind>
+) -> Result<(Phase, Cursor), Kind>
     requires { IsNear MAX_LEVEL cursor }
-    ensures advance { IfOk result (λ next. TakesLine MAX_LEVEL (Phase.Items rule position) cursor line.now next.phase next.cursor runs.old.items runs.new.items) }
-    ensures going { IfOk result (λ next. is_refused next.phase ≡ false) }
+    ensures advance { IfOk result (λ next. TakesLine MAX_LEVEL (Phase.Items rule position) cursor line.now next.0 next.1 runs.old.items runs.new.items) }
+    ensures going { IfOk result (λ next. is_refused next.0 ≡ false) }
     ensures fault { IfErr result (λ kind. (kind ≡ Kind.Memory) ⊎ (later_of line.now ≡ Err kind) ⊎ ((later_of line.now ≡ Ok Data) × ItemsBreak MAX_LEVEL rule cursor line.now kind)) }
     ensures kept { OnErr result (IsFrontOf runs.old.items runs.new.items) }
 {
     match later_of(line)? {
-        Later::Passed => Ok(Advance {
-            phase: Phase::Items(rule, position),
-            cursor,
-        }),
+        Later::Passed => Ok((Phase::Items(rule, position), cursor)),
         Later::Data => {
             let read = read_items(&rule, cursor, line, runs)?;
             let phase = if read.marked {
@@ -95,10 +79,7 @@ fn behind_header(
             } else {
                 Phase::Items(rule, position)
             };
-            Ok(Advance {
-                phase,
-                cursor: read.cursor,
-            })
+            Ok((phase, read.cursor))
         }
     }
 }
@@ -110,10 +91,10 @@ fn after_line(
     cursor: Cursor,
     line: &[u8],
     runs: &mut Vec<Run>,
-) -> Result<Advance, Kind>
+) -> Result<(Phase, Cursor), Kind>
     requires { IsPlaced MAX_LEVEL phase cursor }
-    ensures advance { IfOk result (λ next. TakesLine MAX_LEVEL phase cursor line.now next.phase next.cursor runs.old.items runs.new.items) }
-    ensures going { IfOk result (λ next. is_refused next.phase ≡ false) }
+    ensures advance { IfOk result (λ next. TakesLine MAX_LEVEL phase cursor line.now next.0 next.1 runs.old.items runs.new.items) }
+    ensures going { IfOk result (λ next. is_refused next.0 ≡ false) }
     ensures fault { IfErr result (λ kind. (kind ≡ Kind.Memory) ⊎ ((kind ≡ Kind.Spent) × (is_refused phase ≡ true))
         ⊎ ((lines : List (List ℕ)) → StandsAt MAX_LEVEL phase cursor lines → Breaks MAX_LEVEL lines line.now kind)) }
     ensures kept { OnErr result (IsFrontOf runs.old.items runs.new.items) }
@@ -124,10 +105,7 @@ fn after_line(
     match phase {
         Phase::Before(position) => before_header(alloc, position, cursor, line),
         Phase::Items(rule, position) => behind_header(rule, position, cursor, line, runs),
-        Phase::Over(rule, position) => Ok(Advance {
-            phase: Phase::Over(rule, position),
-            cursor,
-        }),
+        Phase::Over(rule, position) => Ok((Phase::Over(rule, position), cursor)),
         Phase::Refused => Err(Kind::Spent),
     }
 }
@@ -234,10 +212,10 @@ impl RleLines {
             → IsOkAnd result (λ _. runs.new.items ≡ runs.old.items) }
     {
         let phase = mem::replace(&mut self.phase, Phase::Refused);
-        let next = after_line(self.alloc, phase, self.cursor, line, runs)?;
+        let (phase, cursor) = after_line(self.alloc, phase, self.cursor, line, runs)?;
         self.log = self.log.then(line);
-        self.phase = next.phase;
-        self.cursor = next.cursor;
+        self.phase = phase;
+        self.cursor = cursor;
         Ok(())
     }
 

@@ -1,5 +1,3 @@
-use Rattle.std.proofs.Common.{◌≡◌, ◌≤◌, ◌+◌, ℕ, List, Bool, not, length, refl, arith}
-use Rattle.std.specs.Prelude.{◌==◌, filter, take_while}
 use Rattle.life_rle.proofs.RunEnds.{few_ends}
 use Rattle.life_rle.proofs.line_items.most_runs.Goals as goal
 

@@ -36,16 +36,16 @@ refused-for phase was cursor lines line kind e h (inr (inr f)) = inr (inr (f lin
 pub returns-clause-front : goal.returns-clause-front
 returns-clause-front c =
     let inside = c.self.inside in
-    let next = c.in_ok-next.next in
+    let next = c.in_ok-phase in
     let stands = taken-StandsAt c.replace-phase.result inside.phase inside.cursor inside.log.lines c.replace-phase.ensures.value c.self.invariant in
     subst (Prefix (IsSomeRle MAX_LEVEL)) (sym c.then-self-inside.ensures)
     (StandsAt-Prefix MAX_LEVEL next.phase next.cursor (inside.log.lines ++ c.args.line.now ∷ [])
-    (c.in_ok-next.ensures.advance.advances.stands inside.log.lines stands) c.in_ok-next.ensures.going)
+    (c.in_ok-phase.ensures.advance.advances.stands inside.log.lines stands) c.in_ok-phase.ensures.going)
 
 pub returns-clause-runs : goal.returns-clause-runs
 returns-clause-runs c =
     let inside = c.self.inside in
-    let took = c.in_ok-next.ensures.advance in
+    let took = c.in_ok-phase.ensures.advance in
     let stands = taken-StandsAt c.replace-phase.result inside.phase inside.cursor inside.log.lines c.replace-phase.ensures.value c.self.invariant in
     record {
       runs = took.runs;
@@ -55,14 +55,14 @@ returns-clause-runs c =
           subst (λ ls. HasRuns MAX_LEVEL ls (before ++ took.runs)) (sym c.then-self-inside.ensures) (took.advances.found inside.log.lines before stands known);
     }
 
-pub returns-in_err-next-clause-fault : goal.returns-in_err-next-clause-fault
-returns-in_err-next-clause-fault c =
+pub returns-in_err-phase-clause-fault : goal.returns-in_err-phase-clause-fault
+returns-in_err-phase-clause-fault c =
     let inside = c.self.inside in
     let line = c.args.line.now in
-    let kind : Kind = c.in_err-next.field-0.0 in
+    let kind : Kind = c.in_err-phase.field-0.0 in
     let told =
     refused-for c.replace-phase.result inside.phase inside.cursor inside.log.lines line kind c.replace-phase.ensures.value c.self.invariant
-    c.in_err-next.ensures.fault in
+    c.in_err-phase.ensures.fault in
     let answer : (kind ≡ Memory) ⊎ (kind ≡ Spent) ⊎ Breaks MAX_LEVEL c.args.self.now.lines line kind =
     elim told [
       | inl m ↦ inl m
@@ -71,14 +71,14 @@ returns-in_err-next-clause-fault c =
     let p = err_from_is_err_and c.from_residual.result c.from_residual.ensures.1 in
     rw (p.1, p.2) answer
 
-pub returns-in_err-next-clause-spent : goal.returns-in_err-next-clause-spent
-returns-in_err-next-clause-spent c =
+pub returns-in_err-phase-clause-spent : goal.returns-in_err-phase-clause-spent
+returns-in_err-phase-clause-spent c =
     let inside = c.self.inside in
-    let kind : Kind = c.in_err-next.field-0.0 in
+    let kind : Kind = c.in_err-phase.field-0.0 in
     let phase : Phase = c.replace-phase.result in
     let told =
     refused-for phase inside.phase inside.cursor inside.log.lines c.args.line.now kind c.replace-phase.ensures.value c.self.invariant
-    c.in_err-next.ensures.fault in
+    c.in_err-phase.ensures.fault in
     let refused : is_refused phase ≡ c.args.self.now.refused = ap is_refused c.replace-phase.ensures.value ∙ ap (λ (v : LinesRead). v.refused) c.self.view_is in
     let spent : kind ≡ Spent → c.args.self.now.refused ≡ true = λ e.
     elim told [
@@ -86,7 +86,7 @@ returns-in_err-next-clause-spent c =
       | inr t ↦ elim t [ inl s ↦ sym refused ∙ s.1 | inr b ↦ absurd (placed kind e (Breaks-placed MAX_LEVEL inside.log.lines c.args.line.now kind b)) ]
     ] in
     let p = err_from_is_err_and c.from_residual.result c.from_residual.ensures.1 in
-    rw (p.1, p.2) (λ h. let e : kind ≡ Spent = cc in spent e, λ r. let s = c.in_err-next.ensures.spent (refused ∙ r) in let e : kind ≡ Spent = cc in ap Err e)
+    rw (p.1, p.2) (λ h. let e : kind ≡ Spent = cc in spent e, λ r. let s = c.in_err-phase.ensures.spent (refused ∙ r) in let e : kind ≡ Spent = cc in ap Err e)
   where
     other : (kind : Kind) → kind ≡ Memory → kind ≡ Spent → ⊥
     other kind m e = cc
@@ -106,10 +106,10 @@ pub returns-clause-free : goal.returns-clause-free
 returns-clause-free c =
     let inside = c.self.inside in
     free c.replace-phase.result inside.phase inside.cursor inside.log.lines c.args.self.now _ c.replace-phase.ensures.value c.self.invariant
-    (sym c.self.view_is) c.in_ok-next.ensures.free
+    (sym c.self.view_is) c.in_ok-phase.ensures.free
 
-pub returns-in_err-next-clause-free : goal.returns-in_err-next-clause-free
-returns-in_err-next-clause-free c =
+pub returns-in_err-phase-clause-free : goal.returns-in_err-phase-clause-free
+returns-in_err-phase-clause-free c =
     let inside = c.self.inside in
     λ r m. absurd (free c.replace-phase.result inside.phase inside.cursor inside.log.lines c.args.self.now ⊥ c.replace-phase.ensures.value c.self.invariant
-    (sym c.self.view_is) c.in_err-next.ensures.free r m)
+    (sym c.self.view_is) c.in_err-phase.ensures.free r m)
