@@ -105,14 +105,8 @@ pub(crate) fn mc_read(alloc: Global) -> Result<bool, Fault> {
         alloc,
         b"[M2] (canonical 1)\n#R WireWorld\n#G 7\n1 1 25 0 0\n",
     )?;
-    let square = Line::Quad {
-        level: 1,
-        nw: 1,
-        ne: 25,
-        sw: 0,
-        se: 0,
-    };
-    Ok(file.generation == 7 && file.lines.as_slice() == [square].as_slice())
+    let squares = [Line::Quad(1, 1, 25, 0, 0)];
+    Ok(file.generation == 7 && file.lines.as_slice() == squares.as_slice())
 }
 
 // Whether the file is written so.

@@ -53,13 +53,13 @@ pub(crate) fn line_of<S: SharedSquares>(squares: &S, rule: &Rule, known: &IdList
         return leaf(squares, id);
     }
     let Quarters { nw, ne, sw, se } = divide(squares, id);
-    Line::Quad {
+    Line::Quad(
         level,
-        nw: number_of(squares, known, level - 1, nw),
-        ne: number_of(squares, known, level - 1, ne),
-        sw: number_of(squares, known, level - 1, sw),
-        se: number_of(squares, known, level - 1, se),
-    }
+        number_of(squares, known, level - 1, nw),
+        number_of(squares, known, level - 1, ne),
+        number_of(squares, known, level - 1, sw),
+        number_of(squares, known, level - 1, se),
+    )
 }
 
 /// The node lines of the squares of the list, in its order.

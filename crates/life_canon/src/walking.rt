@@ -97,13 +97,6 @@ pub(crate) fn write_square<S: SharedSquares, W: Sink>(
     let ne = write_square(squares, rule, level - 1, ne, numbers, piece, writer)?;
     let sw = write_square(squares, rule, level - 1, sw, numbers, piece, writer)?;
     let se = write_square(squares, rule, level - 1, se, numbers, piece, writer)?;
-    let line = Line::Quad {
-        level,
-        nw,
-        ne,
-        sw,
-        se,
-    };
-    write_line(&line, piece, writer)?;
+    write_line(&Line::Quad(level, nw, ne, sw, se), piece, writer)?;
     Ok(numbers.push(id))
 }

@@ -8,7 +8,7 @@ ghost use Rattle.std.specs.List.{list_all};
 
 use crate::leaf::read_leaf;
 use crate::line::Line;
-use crate::numbers::{Numbers, read_numbers};
+use crate::numbers::read_numbers;
 use life_base::{Kind, MAX_LEVEL, Rule};
 
 /// The greatest state under a rule.
@@ -47,34 +47,34 @@ fn is_quarter(rule: &Rule, levels: &[u8], level: u8, number: u64) -> bool
 }
 
 /// Whether four numbers may stand for the quarters of a square of this level.
-fn are_quarters(rule: &Rule, levels: &[u8], level: u8, numbers: Numbers) -> bool
+fn are_quarters(rule: &Rule, levels: &[u8], level: u8, quarters: [u64; 4]) -> bool
     requires { 1 ≤ level }
-    ensures { result ≡ list_all (is_quarter rule.now levels.now level) (numbers.nw ∷ numbers.ne ∷ numbers.sw ∷ numbers.se ∷ []) }
+    ensures { result ≡ list_all (is_quarter rule.now levels.now level) quarters }
 {
-    is_quarter(rule, levels, level, numbers.nw)
-        && is_quarter(rule, levels, level, numbers.ne)
-        && is_quarter(rule, levels, level, numbers.sw)
-        && is_quarter(rule, levels, level, numbers.se)
+    let [nw, ne, sw, se] = quarters;
+    is_quarter(rule, levels, level, nw)
+        && is_quarter(rule, levels, level, ne)
+        && is_quarter(rule, levels, level, sw)
+        && is_quarter(rule, levels, level, se)
 }
 
 /// The square of a level and four quarters, where the squares before it have these levels.
-fn square_of_numbers(rule: &Rule, levels: &[u8], numbers: Numbers) -> Result<Line, Kind>
+fn square_of_numbers(
+    rule: &Rule,
+    levels: &[u8],
+    numbers: (u64, u64, u64, u64, u64),
+) -> Result<Line, Kind>
     ensures { MatchResult result
-        (λ square. (square ≡ Quad numbers.level numbers.nw numbers.ne numbers.sw numbers.se) × (broken_by_square MAX_LEVEL rule.now levels.now (Some square) ≡ None))
-        (λ kind. broken_by_square MAX_LEVEL rule.now levels.now (Some (Quad numbers.level numbers.nw numbers.ne numbers.sw numbers.se)) ≡ Some kind) }
+        (λ square. (square ≡ Quad numbers.0 numbers.1 numbers.2 numbers.3 numbers.4) × (broken_by_square MAX_LEVEL rule.now levels.now (Some square) ≡ None))
+        (λ kind. broken_by_square MAX_LEVEL rule.now levels.now (Some (Quad numbers.0 numbers.1 numbers.2 numbers.3 numbers.4)) ≡ Some kind) }
 {
-    if numbers.level < 1 || u64::from(MAX_LEVEL) < numbers.level {
+    let (level, nw, ne, sw, se) = numbers;
+    if level < 1 || u64::from(MAX_LEVEL) < level {
         return Err(Kind::BadLevel);
     }
-    let level = numbers.level as u8;
-    if are_quarters(rule, levels, level, numbers) {
-        return Ok(Line::Quad {
-            level,
-            nw: numbers.nw,
-            ne: numbers.ne,
-            sw: numbers.sw,
-            se: numbers.se,
-        });
+    let level = level as u8;
+    if are_quarters(rule, levels, level, [nw, ne, sw, se]) {
+        return Ok(Line::Quad(level, nw, ne, sw, se));
     }
     if level == 1 {
         Err(Kind::StateRange)

@@ -9,16 +9,6 @@ ghost use Rattle.life_mc.specs.declared.line.Line.TheVariants.{Quad};
 
 use life_base::{is_whitespace, leading_number, trimmed_start};
 
-/// Five numbers as they are written; one above the greatest of the type stands as that.
-#[derive(Clone, Copy)]
-pub(crate) struct Numbers {
-    pub(crate) level: u64,
-    pub(crate) nw: u64,
-    pub(crate) ne: u64,
-    pub(crate) sw: u64,
-    pub(crate) se: u64,
-}
-
 /// Whether no word goes on in a text: it begins with whitespace, or is empty.
 fn is_word_end(text: &[u8]) -> bool
     ensures { result ≡ is_blank (take 1 text.now) }
@@ -53,9 +43,10 @@ fn has_no_word(text: &[u8]) -> bool
     trimmed_start(text).is_empty()
 }
 
-/// The five numbers of a quarter line, if it has exactly five and nothing else.
-pub(crate) fn read_numbers(text: &[u8]) -> Option<Numbers>
-    ensures { option_map (λ n. Quad n.level n.nw n.ne n.sw n.se) result ≡ quad_words (words_of text.now) }
+/// The five numbers of a quarter line as they are written, if it has exactly five and nothing else: the level, and the quarters in the
+/// northwest, northeast, southwest and southeast. One above the greatest of the type stands as that.
+pub(crate) fn read_numbers(text: &[u8]) -> Option<(u64, u64, u64, u64, u64)>
+    ensures { option_map (λ n. Quad n.0 n.1 n.2 n.3 n.4) result ≡ quad_words (words_of text.now) }
 {
     let (level, rest) = next_number(text)?;
     let (nw, rest) = next_number(rest)?;
@@ -65,11 +56,5 @@ pub(crate) fn read_numbers(text: &[u8]) -> Option<Numbers>
     if !has_no_word(rest) {
         return None;
     }
-    Some(Numbers {
-        level,
-        nw,
-        ne,
-        sw,
-        se,
-    })
+    Some((level, nw, ne, sw, se))
 }

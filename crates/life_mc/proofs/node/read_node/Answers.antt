@@ -10,7 +10,7 @@ use Rattle.life_mc.proofs.node.read_node.Goals as goal
 pub returns-in-Some-read_numbers : goal.returns-in-Some-read_numbers
 returns-in-Some-read_numbers c =
     let n = c.in-Some-read_numbers.numbers in
-    let q : Line = Quad n.level n.nw n.ne n.sw n.se in
+    let q : Line = Quad n.0 n.1 n.2 n.3 n.4 in
     let no : is_leaf_byte (slice_index c.args.text.now 0) ≡ false = sym c.is_leaf_line.ensures ∙ c.if-is_leaf_line.false in
     let low : MAX_LEVEL ≤ 255 = omega arith in
     let r = quad_read MAX_LEVEL c.args.rule.now c.args.levels.now low c.requires c.args.text.now no q c.in-Some-read_numbers.ensures in
