@@ -5,7 +5,11 @@ use Rattle.std.proofs.lemmas.Int.{ints}
 use Rattle.life_base.specs.declared.cell.Cell.{Cell}
 use Rattle.life_base.specs.declared.bounds.Bounds.{Bounds}
 use Rattle.life_rle.specs.Written.{joined, box_of, box_of_cell}
-use Rattle.life_rle.specs.Writing.{bounds_onto}
+
+-- the least box around a box and cells
+abbrev pub bounds_onto : Bounds → List Cell → Bounds
+bounds_onto box [] = box
+bounds_onto box (c ∷ cells) = joined box (box_of c cells)
 
 min-assoc : (a b c : ℤ) → int_min (int_min a b) c ≡ int_min a (int_min b c)
 min-assoc a b c = grind (arith, ints)

@@ -12,7 +12,7 @@ use Rattle.life_rle.specs.declared.item.Item.TheVariants.{Cells, RowEnds}
 use Rattle.life_rle.specs.Plane.{edge, most_count}
 use Rattle.life_rle.specs.Pattern.{cell_among}
 use Rattle.life_rle.specs.States.{is_state_of}
-use Rattle.life_rle.specs.Written.{with_gap, with_cell, items_from}
+use Rattle.life_rle.specs.Written.{with_gap, with_cells, items_from}
 use Rattle.life_rle.specs.Sorted.{state_in}
 use Rattle.life_rle.specs.Writing.{IsGoodCell, Follow}
 use Rattle.life_rle.proofs.Places.{placed_from}
@@ -43,7 +43,7 @@ merged true false near far s n = refl
 merged false here near far s n = refl
 
 -- a cell in front of items
-with_cell-state : (left column row : ℤ) (s : ℕ) (items : List Item) (x y : ℤ) → state_from left column row (with_cell s items) x y
+with_cell-state : (left column row : ℤ) (s : ℕ) (items : List Item) (x y : ℤ) → state_from left column row (with_cells 1 s items) x y
     ≡ cond (int_eq y row && int_eq x column) s (state_from left (column +ℤ pos 1) row items x y)
 with_cell-state left column row s [] x y = ap (λ t. cond (int_eq y row && t) s 0) (one_column column x)
 with_cell-state left column row s (RowEnds n ∷ items) x y = ap (λ t. cond (int_eq y row && t) s (state_from left left (row +ℤ pos n) items x y))
@@ -103,7 +103,7 @@ with_gap-state rule left column row (suc n) items x y g =
     (λ e. AreGood-behind rule left (column +ℤ pos (suc n)) row items x y g (inr (grind (arith, ints), grind (arith, ints))))
 
 AreGood-with_cell : (rule : Rule) (left column row : ℤ) (s : ℕ) (items : List Item) → neg_ℤ (edge MAX_LEVEL) ≤ℤ column → (column +ℤ pos 1) ≤ℤ edge MAX_LEVEL
-    → row <ℤ edge MAX_LEVEL → is_state_of rule s ≡ true → AreGood rule left (column +ℤ pos 1) row items → AreGood rule left column row (with_cell s items)
+    → row <ℤ edge MAX_LEVEL → is_state_of rule s ≡ true → AreGood rule left (column +ℤ pos 1) row items → AreGood rule left column row (with_cells 1 s items)
 AreGood-with_cell rule left column row s [] low high inside state g = (omega arith, omega arith, state, inside, high, tt)
 AreGood-with_cell rule left column row s (RowEnds n ∷ items) low high inside state g = (omega arith, omega arith, state, inside, high, g)
 AreGood-with_cell rule left column row s (Cells m t ∷ items) low high inside state g =
@@ -129,7 +129,7 @@ distance low high h = grind (arith, ints)
 
 -- the items of a cell and of those behind it, from the cell on
 abbrev behind : ℤ → Cell → List Cell → List Item
-behind left c cells = with_cell c.state (items_from left (c.x +ℤ pos 1) c.y cells)
+behind left c cells = with_cells 1 c.state (items_from left (c.x +ℤ pos 1) c.y cells)
 
 -- the items from a place on, in one row and over more rows
 abbrev stepped : Bool → ℤ → ℤ → ℤ → Cell → List Cell → List Item

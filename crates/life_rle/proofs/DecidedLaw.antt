@@ -11,12 +11,13 @@ use Rattle.life_rle.specs.declared.line.Later.{Later}
 use Rattle.life_rle.specs.declared.line.Later.TheVariants.{Passed, Data}
 use Rattle.life_rle.specs.Items.{Next, End, Mark, Spelled, Broken, next_of, Spells}
 use Rattle.life_rle.specs.Position.{default_position}
-use Rattle.life_rle.specs.Pattern.{Rle, placed_item, placed_behind, placed_fault, first_fault, first_kind}
+use Rattle.std.specs.Option.{option_or}
+use Rattle.life_rle.specs.Pattern.{Rle, placed_item, placed_behind, placed_fault, first_fault}
 use Rattle.life_rle.specs.Grammar.{opening_of, later_of, IsPreamble, IsUnmarked, IsRle, IsSomeRle, Breaks, before_header, by_form, by_text, by_item}
 use Rattle.life_rle.specs.Decided.{LacksHeader, HasBroken}
 use Rattle.life_rle.proofs.ReadSteps.{last_read, line-Spells}
 use Rattle.life_rle.proofs.Shrinks.{IsStop, next_of-shorter}
-use Rattle.life_rle.proofs.Progress.{Progress, Before, Begun, Ended, Refused, fault_of_next, items_fault, line_items, line_last, after_items, open_step, later_step, step, progress, start, Stands, step-Stands, lines-Stands, progress-append, progress-Refused, first_kind-both}
+use Rattle.life_rle.proofs.Progress.{Progress, Before, Begun, Ended, Refused, fault_of_next, items_fault, line_items, line_last, after_items, open_step, later_step, step, progress, start, Stands, step-Stands, lines-Stands, progress-append, progress-Refused, option_or-both}
 use Rattle.life_rle.proofs.Unique.{IsPreamble-progress, Breaks-progress, Breaks-no_more}
 use Rattle.life_rle.proofs.Refusal.{Goes, IsPreamble-refused}
 
@@ -49,7 +50,7 @@ record FirstBad (level : ℕ) (rule : Rule) (position : Position) (before items 
 
 bad-here : (level : ℕ) (rule : Rule) (position : Position) (before items : List Item) (item : Item) (kind : Kind) (o : Option Kind)
     → placed_fault level rule (placed_item position before item) ≡ o
-    → first_kind o (first_fault level rule (placed_behind position (before ++ item ∷ []) items)) ≡ Some kind
+    → option_or o (first_fault level rule (placed_behind position (before ++ item ∷ []) items)) ≡ Some kind
     → (first_fault level rule (placed_behind position (before ++ item ∷ []) items) ≡ Some kind → FirstBad level rule position (before ++ item ∷ []) items kind)
     → FirstBad level rule position before (item ∷ items) kind
 bad-here level rule position before items item kind (Some k) f g next = record {
@@ -67,7 +68,7 @@ bad-here level rule position before items item kind None f g next =
       item = more.item;
       post = more.post;
       whole = ap (λ is. item ∷ is) more.whole;
-      sound = ap (λ o. first_kind o (first_fault level rule (placed_behind position (before ++ item ∷ []) more.pre))) f ∙ more.sound;
+      sound = ap (λ o. option_or o (first_fault level rule (placed_behind position (before ++ item ∷ []) more.pre))) f ∙ more.sound;
       bad = ap (λ b. placed_fault level rule (placed_item position b more.item)) (sym (append_assoc before (item ∷ []) more.pre)) ∙ more.bad;
     }
 
@@ -96,7 +97,7 @@ data-Breaks level front file line items last kind b form s e = choose (first_fau
     behind (Spelled item rest) f = cc
     behind (Broken k) f = let q : k ≡ kind = cc in ap Broken q
 
-    choose : (o : Option Kind) → first_fault level file.rule (placed_behind file.position file.items items) ≡ o → first_kind o (fault_of_next last) ≡ Some kind
+    choose : (o : Option Kind) → first_fault level file.rule (placed_behind file.position file.items items) ≡ o → option_or o (fault_of_next last) ≡ Some kind
         → Breaks level front line kind
     choose (Some k) f g =
         let bad = first-bad level file.rule file.position file.items items kind (f ∙ g) in
@@ -112,7 +113,7 @@ after-Breaks level front file line items End None kind b form s stop e r = cc
 after-Breaks level front file line items Mark None kind b form s stop e r = cc
 after-Breaks level front file line items (Spelled item rest) None kind b form s stop e r = absurd stop
 after-Breaks level front file line items (Broken k) None kind b form s stop e r =
-    let no = (first_kind-both (first_fault level file.rule (placed_behind file.position file.items items)) (Some k) e).1 in cc
+    let no = (option_or-both (first_fault level file.rule (placed_behind file.position file.items items)) (Some k) e).1 in cc
 after-Breaks level front file line items End (Some k) kind b form s stop e r = let q : k ≡ kind = cc in
     data-Breaks level front file line items End kind b form s (e ∙ ap Some q)
 after-Breaks level front file line items Mark (Some k) kind b form s stop e r = let q : k ≡ kind = cc in

@@ -11,7 +11,7 @@ use Rattle.life_rle.specs.declared.item.Item.TheVariants.{Cells, RowEnds}
 use Rattle.life_rle.specs.Cursor.{item_count}
 use Rattle.life_rle.specs.Plane.{is_coordinate}
 use Rattle.life_rle.specs.States.{is_state_of}
-use Rattle.life_rle.specs.Written.{with_gap, with_cell, items_from, items_of, box_of}
+use Rattle.life_rle.specs.Written.{with_gap, with_cells, items_from, items_of, box_of}
 use Rattle.life_rle.specs.Sorted.{is_live_cell, rises, are_sorted_cells}
 use Rattle.life_rle.specs.LongestRuns.{IsLive, MayFollow, AreLongest, RunsAreLongest}
 use Rattle.life_rle.proofs.Texts.{both_true}
@@ -69,7 +69,7 @@ same-state a b e = grind (arith, nat_tests)
 other-state : (a b : ℕ) → eqb a b ≡ false → a ≡ b → ⊥
 other-state a b e = grind (arith, nat_tests)
 
-with_cell-begins : (state : ℕ) (items : List Item) → 1 ≤ state → Chain items → BeginsAs state (with_cell state items)
+with_cell-begins : (state : ℕ) (items : List Item) → 1 ≤ state → Chain items → BeginsAs state (with_cells 1 state items)
 with_cell-begins state [] live c = ((omega arith, live), refl)
 with_cell-begins state (RowEnds n ∷ items) live c = ((omega arith, live, c), refl)
 with_cell-begins state (Cells n other ∷ items) live c = by (eqb state other) refl
@@ -111,7 +111,7 @@ items-chain : (left x y : ℤ) (cells : List Cell) → AreLive cells → Chain (
 items-chain left x y [] l = tt
 items-chain left x y (c ∷ cells) l =
     let items : List Item = items_from left (c.x +ℤ pos 1) c.y cells in
-    items-step left x y c (with_cell c.state items) l.0 (with_cell-begins c.state items l.0 (items-chain left (c.x +ℤ pos 1) c.y cells l.1)) (int_eq c.y y) refl
+    items-step left x y c (with_cells 1 c.state items) l.0 (with_cell-begins c.state items l.0 (items-chain left (c.x +ℤ pos 1) c.y cells l.1)) (int_eq c.y y) refl
 
 -- ---- sorted cells are live
 

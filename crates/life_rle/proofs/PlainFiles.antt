@@ -21,12 +21,13 @@ use Rattle.life_rle.specs.States.{is_state_of}
 use Rattle.life_rle.specs.Items.{End, Mark}
 use Rattle.life_rle.specs.Position.{default_position, is_position_line, position_of, and_then}
 use Rattle.life_rle.specs.Header.{header_form, rule_in, header_of}
-use Rattle.life_rle.specs.Pattern.{Rle, Placed, placed, item_fault, placed_fault, first_fault, first_kind}
+use Rattle.std.specs.Option.{option_or}
+use Rattle.life_rle.specs.Pattern.{Rle, Placed, placed, item_fault, placed_fault, first_fault}
 use Rattle.life_rle.specs.Grammar.{opening_of, later_of, IsPreamble, LineSpells, BodySpells, IsUnmarked, IsMarked, IsRle}
 use Rattle.life_rle.specs.PlainPosition.{IsPositionText}
 use Rattle.life_rle.specs.PlainFile.{IsShort, IsComment, ArePreamble, IsRuleLine, IsData, IsBodyLine, IsLastLine, AreBody, MayStand, IsOpenFile, IsEndedFile, FilesArePlain}
 use Rattle.life_rle.proofs.Texts.{both_true}
-use Rattle.life_rle.proofs.Progress.{first_kind-both, IsOpenBy-map, IsEndedBy-map}
+use Rattle.life_rle.proofs.Progress.{option_or-both, IsOpenBy-map, IsEndedBy-map}
 use Rattle.life_rle.proofs.PlainItems.{items_are_plain}
 use Rattle.life_rle.proofs.PlainHeader.{headers_are_plain}
 use Rattle.life_rle.proofs.PlainPosition.{positions_are_plain}
@@ -332,17 +333,17 @@ fault-places : (level : ℕ) (rule : Rule) (ps : List Placed) → first_fault le
     → MayStand level rule p.row p.column p.item
 fault-places level rule [] e i p at = cc
 fault-places level rule (q ∷ ps) e zero p at =
-    let none = first_kind-both (placed_fault level rule q) (first_fault level rule ps) e in
+    let none = option_or-both (placed_fault level rule q) (first_fault level rule ps) e in
     let P : Placed → Type 0 = λ r. MayStand level rule r.row r.column r.item in
     subst P (same q p at) (item-place level rule q.row q.column q.item none.0)
-fault-places level rule (q ∷ ps) e (suc i) p at = fault-places level rule ps (first_kind-both (placed_fault level rule q) (first_fault level rule ps) e).1 i p
+fault-places level rule (q ∷ ps) e (suc i) p at = fault-places level rule ps (option_or-both (placed_fault level rule q) (first_fault level rule ps) e).1 i p
     at
 
 places-fault : (level : ℕ) (rule : Rule) (ps : List Placed) → ((i : ℕ) (p : Placed) → slice_get ps i ≡ Some p → MayStand level rule p.row p.column p.item)
     → first_fault level rule ps ≡ None
 places-fault level rule [] h = refl
 places-fault level rule (q ∷ ps) h =
-    ap (λ k. first_kind k (first_fault level rule ps)) (place-item level rule q.row q.column q.item (h zero q refl))
+    ap (λ k. option_or k (first_fault level rule ps)) (place-item level rule q.row q.column q.item (h zero q refl))
     ∙ places-fault level rule ps (λ i p at. h (suc i) p at)
 
 -- ---- files

@@ -6,7 +6,8 @@ use Rattle.std.specs.Char.{is_ascii_digit}
 use Rattle.std.specs.List.{list_all, prefix_len}
 use Rattle.life_base.specs.declared.kind.Kind.TheVariants.{ZeroCount, TooLarge}
 use Rattle.life_base.specs.Text.{is_whitespace, is_blank, trim_start, value_of}
-use Rattle.life_rle.specs.States.{state_at, with_rest, first_state, single_state, prefixed_state, prefixed_number}
+use Rattle.std.specs.Option.{option_or}
+use Rattle.life_rle.specs.States.{state_at, with_rest, single_state, prefixed_state, prefixed_number}
 use Rattle.life_rle.specs.declared.item.Item.{Item}
 use Rattle.life_rle.specs.declared.item.Item.TheVariants.{Cells, RowEnds}
 use Rattle.life_rle.specs.Plane.{most_count}
@@ -40,10 +41,10 @@ prefixed_state-places prefix place state h k e low = grind (arith, nat_tests)
 
 state_at-single : (b state : ℕ) (rest : List ℕ) → single_state b ≡ Some state → state_at (b ∷ rest) ≡ Some (state, rest)
 state_at-single b state [] h = ap (λ o. with_rest o []) h
-state_at-single b state (c ∷ rest) h = ap (λ o. first_state (with_rest o (c ∷ rest)) (with_rest (prefixed_state b c) rest)) h
+state_at-single b state (c ∷ rest) h = ap (λ o. option_or (with_rest o (c ∷ rest)) (with_rest (prefixed_state b c) rest)) h
 
 state_at-prefixed : (b c state : ℕ) (rest : List ℕ) → single_state b ≡ None → prefixed_state b c ≡ Some state → state_at (b ∷ c ∷ rest) ≡ Some (state, rest)
-state_at-prefixed b c state rest h k = ap (λ o. first_state (with_rest o (c ∷ rest)) (with_rest (prefixed_state b c) rest)) h ∙ ap (λ o. with_rest o rest) k
+state_at-prefixed b c state rest h k = ap (λ o. option_or (with_rest o (c ∷ rest)) (with_rest (prefixed_state b c) rest)) h ∙ ap (λ o. with_rest o rest) k
 
 item_behind-state : (n b state : ℕ) (bytes rest : List ℕ) → eqb b 36 ≡ false → state_at (b ∷ bytes) ≡ Some (state, rest)
     → item_behind n (b ∷ bytes) ≡ Spelled (Cells n state) rest
@@ -192,7 +193,7 @@ found-prefixed b c state rest behind h = step (prefixed_state b c) refl h
         let r : behind ≡ rest = ap (λ (q : ℕ × List ℕ). q.1) p in
         (b ∷ c ∷ [], text_of-prefixed b c state (e ∙ ap Some v), ap (λ (t : List ℕ). b ∷ c ∷ t) r)
 
-first-either : (f g : Option (ℕ × List ℕ)) (v : ℕ × List ℕ) → first_state f g ≡ Some v → (f ≡ Some v) ⊎ (g ≡ Some v)
+first-either : (f g : Option (ℕ × List ℕ)) (v : ℕ × List ℕ) → option_or f g ≡ Some v → (f ≡ Some v) ⊎ (g ≡ Some v)
 first-either None g v h = inr h
 first-either (Some w) g v h = inl h
 

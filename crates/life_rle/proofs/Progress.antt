@@ -8,7 +8,8 @@ use Rattle.life_rle.specs.declared.item.Item.{Item}
 use Rattle.life_rle.specs.Items.{Next, End, Mark, Spelled, Broken, next_of, Spells}
 use Rattle.life_rle.specs.declared.position.Position.{Position}
 use Rattle.life_rle.specs.Position.{default_position}
-use Rattle.life_rle.specs.Pattern.{Rle, Placed, placed, placed_item, placed_behind, first_fault, first_kind, placed_fault}
+use Rattle.std.specs.Option.{option_or}
+use Rattle.life_rle.specs.Pattern.{Rle, Placed, placed, placed_item, placed_behind, first_fault, placed_fault}
 use Rattle.life_rle.specs.declared.line.Opening.{Opening}
 use Rattle.life_rle.specs.declared.line.Opening.TheVariants.{Comment, PositionLine, Header}
 use Rattle.life_rle.specs.Grammar.{opening_of, later_of, IsPreamble, LineSpells, BodySpells, IsUnmarked, IsOpenBy, IsEndedBy, IsMarked}
@@ -24,7 +25,7 @@ fault_of_next (Broken kind) = Some kind
 
 -- which rule further items break first behind a file, or what stands behind them
 abbrev pub items_fault : ℕ → Rle → List Item → Next → Option Kind
-items_fault level file items last = first_kind (first_fault level file.rule (placed_behind file.position file.items items)) (fault_of_next last)
+items_fault level file items last = option_or (first_fault level file.rule (placed_behind file.position file.items items)) (fault_of_next last)
 
 -- how far the lines so far have come
 pub data Progress : Type 0 where
@@ -102,26 +103,26 @@ placed_behind-append o before (x ∷ xs) ys =
     ap (λ ps. placed_item o before x ∷ ps) (placed_behind-append o (before ++ x ∷ []) xs ys
     ∙ ap (λ b. placed_behind o (before ++ x ∷ []) xs ++ placed_behind o b ys) (append_assoc before (x ∷ []) xs))
 
-first_kind-assoc : (a b c : Option Kind) → first_kind a (first_kind b c) ≡ first_kind (first_kind a b) c
-first_kind-assoc None b c = refl
-first_kind-assoc (Some k) b c = refl
+option_or-assoc : (a b c : Option Kind) → option_or a (option_or b c) ≡ option_or (option_or a b) c
+option_or-assoc None b c = refl
+option_or-assoc (Some k) b c = refl
 
-pub first_fault-append : (level : ℕ) (rule : Rule) (ps qs : List Placed) → first_fault level rule (ps ++ qs) ≡ first_kind (first_fault level rule ps)
+pub first_fault-append : (level : ℕ) (rule : Rule) (ps qs : List Placed) → first_fault level rule (ps ++ qs) ≡ option_or (first_fault level rule ps)
     (first_fault level rule qs)
 first_fault-append level rule [] qs = refl
 first_fault-append level rule (p ∷ ps) qs =
-    ap (first_kind (placed_fault level rule p)) (first_fault-append level rule ps qs)
-    ∙ first_kind-assoc (placed_fault level rule p) (first_fault level rule ps) (first_fault level rule qs)
+    ap (option_or (placed_fault level rule p)) (first_fault-append level rule ps qs)
+    ∙ option_or-assoc (placed_fault level rule p) (first_fault level rule ps) (first_fault level rule qs)
 
 pub first_fault-with_items : (level : ℕ) (file : Rle) (items : List Item) → first_fault level file.rule (placed (with_items file items))
-    ≡ first_kind (first_fault level file.rule (placed file)) (first_fault level file.rule (placed_behind file.position file.items items))
+    ≡ option_or (first_fault level file.rule (placed file)) (first_fault level file.rule (placed_behind file.position file.items items))
 first_fault-with_items level file items =
     ap (first_fault level file.rule) (placed_behind-append file.position [] file.items items)
     ∙ first_fault-append level file.rule (placed file) (placed_behind file.position file.items items)
 
-pub first_kind-both : (a b : Option Kind) → first_kind a b ≡ None → (a ≡ None) × (b ≡ None)
-first_kind-both None b e = (refl, e)
-first_kind-both (Some k) b e = cc
+pub option_or-both : (a b : Option Kind) → option_or a b ≡ None → (a ≡ None) × (b ≡ None)
+option_or-both None b e = (refl, e)
+option_or-both (Some k) b e = cc
 
 -- one more line
 pub IsPreamble-push : (level : ℕ) (given o here : Position) (lines : List (List ℕ)) (line : List ℕ) → IsPreamble level given lines o
@@ -148,7 +149,7 @@ IsUnmarked-push level lines file line more b s sound = record {
   preamble = b.preamble;
   rule = b.rule;
   items = BodySpells-push level b.body file.items line more b.items s;
-  sound = first_fault-with_items level file more ∙ ap (λ k. first_kind k (first_fault level file.rule (placed_behind file.position file.items more))) b.sound
+  sound = first_fault-with_items level file more ∙ ap (λ k. option_or k (first_fault level file.rule (placed_behind file.position file.items more))) b.sound
       ∙ sound;
 }
 
@@ -165,7 +166,7 @@ IsMarked-begun level lines file line more b s sound = record {
   items = refl;
   begun = b;
   marked = s;
-  sound = first_fault-with_items level file more ∙ ap (λ k. first_kind k (first_fault level file.rule (placed_behind file.position file.items more))) b.sound
+  sound = first_fault-with_items level file more ∙ ap (λ k. option_or k (first_fault level file.rule (placed_behind file.position file.items more))) b.sound
       ∙ sound;
 }
 
@@ -246,9 +247,9 @@ after_items-Stands : (level : ℕ) (lines : List (List ℕ)) (file : Rle) (line 
     → IsUnmarked level lines file → later_of line ≡ Ok Data → Spells level line items next → items_fault level file items next ≡ k
     → Stands level (lines ++ line ∷ []) (after_items file items next k)
 after_items-Stands level lines file line items End None b f s e = IsUnmarked-push level lines file line items b (inr (f, s))
-    (first_kind-both (first_fault level file.rule (placed_behind file.position file.items items)) None e).0
+    (option_or-both (first_fault level file.rule (placed_behind file.position file.items items)) None e).0
 after_items-Stands level lines file line items Mark None b f s e = IsMarked-begun level lines file line items b (inr (f, s))
-    (first_kind-both (first_fault level file.rule (placed_behind file.position file.items items)) None e).0
+    (option_or-both (first_fault level file.rule (placed_behind file.position file.items items)) None e).0
 after_items-Stands level lines file line items (Spelled i r) None b f s e = tt
 after_items-Stands level lines file line items (Broken kind) None b f s e = tt
 after_items-Stands level lines file line items End (Some kind) b f s e = tt

@@ -7,7 +7,8 @@ use Rattle.life_rle.specs.declared.item.Item.{Item}
 use Rattle.life_base.specs.declared.cell.Run.{Run}
 use Rattle.life_rle.specs.declared.item.Item.TheVariants.{Cells, RowEnds}
 use Rattle.life_rle.specs.Items.{Next, Spelled, Broken, next_of, Spells}
-use Rattle.life_rle.specs.Pattern.{Placed, item_fault, first_fault, first_kind}
+use Rattle.std.specs.Option.{option_or}
+use Rattle.life_rle.specs.Pattern.{Placed, item_fault, first_fault}
 use Rattle.life_rle.specs.Runs.{with_run, runs_of}
 use Rattle.life_rle.specs.Cursor.{IsNear, item_count, moved, moved_behind, placed_at}
 use Rattle.life_rle.specs.Reading.{IsRead, ReadsItems}
@@ -57,7 +58,7 @@ read_more level rule from now line rest items found more item next h sound moves
     record {
       spelled = Spells-push level items line i rest h.spelled;
       sound = ap (first_fault level rule) all ∙ first_fault-append level rule (placed_at from items) one
-          ∙ ap (λ k. first_kind k (first_kind (item_fault level rule here.y here.x i) None)) h.sound ∙ ap (λ k. first_kind k None) fault;
+          ∙ ap (λ k. option_or k (option_or (item_fault level rule here.y here.x i) None)) h.sound ∙ ap (λ k. option_or k None) fault;
       cursor = moves ∙ ap (λ c. moved c i) h.cursor ∙ sym (moved_behind-append from items (i ∷ []));
       near = near;
       runs = adds ∙ ap (λ (rs : List Run). rs ++ with_run now.y now.x i []) h.runs

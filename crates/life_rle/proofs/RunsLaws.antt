@@ -16,7 +16,8 @@ use Rattle.life_rle.specs.Plane.{edge}
 use Rattle.life_rle.specs.States.{is_state_of, state_at}
 use Rattle.life_rle.specs.Items.{front_digits, behind_digits, Next, End, Mark, Spelled, Broken, cells_of, item_behind, counted, item_in, Spells}
 use Rattle.life_rle.specs.Position.{default_position}
-use Rattle.life_rle.specs.Pattern.{Rle, Placed, placed, item_fault, first_kind, first_fault, cell_among, cell}
+use Rattle.std.specs.Option.{option_or}
+use Rattle.life_rle.specs.Pattern.{Rle, Placed, placed, item_fault, first_fault, cell_among, cell}
 use Rattle.life_rle.specs.Runs.{runs_of}
 use Rattle.life_rle.specs.Cursor.{item_count}
 use Rattle.life_rle.specs.Grammar.{IsPreamble, LineSpells, BodySpells, IsRle}
@@ -119,7 +120,7 @@ Good level rule left column row (Cells n s ∷ items) =
     (1 ≤ n) × (is_state_of rule s ≡ true) × (row <ℤ edge level) × ((column +ℤ pos n) ≤ℤ edge level) × Good level rule left (column +ℤ pos n) row items
 Good level rule left column row (RowEnds n ∷ items) = (1 ≤ n) × Good level rule left left (row +ℤ pos n) items
 
-both_none : (a b : Option Kind) → first_kind a b ≡ None → (a ≡ None) × (b ≡ None)
+both_none : (a b : Option Kind) → option_or a b ≡ None → (a ≡ None) × (b ≡ None)
 both_none None b e = (refl, e)
 both_none (Some k) b e = cc
 

@@ -8,7 +8,8 @@ use Rattle.life_base.proofs.WordEnds.{length-trim_start}
 use Rattle.std.specs.Char.{is_ascii_digit}
 use Rattle.std.specs.List.{prefix_len}
 use Rattle.std.proofs.lemmas.List.{length-drop}
-use Rattle.life_rle.specs.States.{state_at, with_rest, first_state, single_state, prefixed_state}
+use Rattle.std.specs.Option.{option_or}
+use Rattle.life_rle.specs.States.{state_at, with_rest, single_state, prefixed_state}
 use Rattle.life_rle.specs.declared.item.Item.{Item}
 use Rattle.life_rle.specs.declared.item.Item.TheVariants.{RowEnds}
 use Rattle.life_rle.specs.Items.{front_digits, behind_digits, Next, End, Mark, Spelled, Broken, cells_of, item_behind, counted, item_in, next_of, Spells}
@@ -36,7 +37,7 @@ with_rest-leaves : (o : Option ℕ) (bytes rest : List ℕ) → length rest + 1 
 with_rest-leaves None bytes rest h = tt
 with_rest-leaves (Some s) bytes rest h = h
 
-either-leaves : (a b : Option (ℕ × List ℕ)) (bytes : List ℕ) → LeavesState bytes a → LeavesState bytes b → LeavesState bytes (first_state a b)
+either-leaves : (a b : Option (ℕ × List ℕ)) (bytes : List ℕ) → LeavesState bytes a → LeavesState bytes b → LeavesState bytes (option_or a b)
 either-leaves None b bytes h k = k
 either-leaves (Some f) b bytes h k = h
 

@@ -12,7 +12,8 @@ use Rattle.life_rle.specs.declared.item.Item.{Item}
 use Rattle.life_base.specs.declared.bounds.Bounds.{Bounds}
 use Rattle.life_rle.specs.declared.item.Item.TheVariants.{Cells, RowEnds}
 use Rattle.life_rle.specs.Plane.{edge, is_coordinate}
-use Rattle.life_rle.specs.Pattern.{item_fault, first_kind, first_fault}
+use Rattle.std.specs.Option.{option_or}
+use Rattle.life_rle.specs.Pattern.{item_fault, first_fault}
 use Rattle.life_rle.specs.States.{is_state_of}
 use Rattle.life_rle.specs.Written.{box_of, joined, box_of_cell}
 use Rattle.life_rle.specs.Sorted.{is_live_cell, rises, are_sorted_cells}
@@ -46,10 +47,10 @@ pub AreGood-sound : (rule : Rule) (left column row : ℤ) (items : List Item) �
     → first_fault MAX_LEVEL rule (placed_from left column row items) ≡ None
 AreGood-sound rule left column row [] g = refl
 AreGood-sound rule left column row (Cells n s ∷ items) g =
-    ap (λ k. first_kind k (first_fault MAX_LEVEL rule (placed_from left (column +ℤ pos n) row items))) (cells-sound rule row column n s g.2 g.3 g.4)
+    ap (λ k. option_or k (first_fault MAX_LEVEL rule (placed_from left (column +ℤ pos n) row items))) (cells-sound rule row column n s g.2 g.3 g.4)
     ∙ AreGood-sound rule left (column +ℤ pos n) row items g.5
 AreGood-sound rule left column row (RowEnds n ∷ items) g =
-    ap (λ k. first_kind k (first_fault MAX_LEVEL rule (placed_from left left (row +ℤ pos n) items))) (row_ends-sound rule row column n g.2)
+    ap (λ k. option_or k (first_fault MAX_LEVEL rule (placed_from left left (row +ℤ pos n) items))) (row_ends-sound rule row column n g.2)
     ∙ AreGood-sound rule left left (row +ℤ pos n) items g.3
 
 coordinate-range : (z : ℤ) → is_coordinate MAX_LEVEL z ≡ true → (neg_ℤ (edge MAX_LEVEL) ≤ℤ z) × (z <ℤ edge MAX_LEVEL)

@@ -2,17 +2,18 @@
 use Rattle.std.proofs.Common.{◌≡◌, ℕ, ◌+◌, ◌-◌, ◌*◌, ◌/◌, ◌%◌, ◌≤◌, ◌<◌, Bool, true, false, cond, ◌&&◌, ◌||◌, List, [], ◌∷◌, ◌++◌, refl, ap, ◌∙◌, Some, None, Option, arith, eqb, leb}
 use Rattle.std.proofs.lemmas.Bool.Decides.{nat_tests}
 use Rattle.life_base.specs.declared.rule.Rule.TheVariants.{Life, Named}
-use Rattle.life_rle.specs.States.{single_state, prefixed_state, prefixed_number, with_rest, first_state, state_at, lettered}
+use Rattle.std.specs.Option.{option_or}
+use Rattle.life_rle.specs.States.{single_state, prefixed_state, prefixed_number, with_rest, state_at, lettered}
 use Rattle.life_rle.specs.Laws.{StatesReadBack}
 
 -- a state of one byte
 one-byte : (b state : ℕ) (rest : List ℕ) → single_state b ≡ Some state → state_at (b ∷ rest) ≡ Some (state, rest)
 one-byte b state [] e = ap (λ s. with_rest s []) e
-one-byte b state (c ∷ rest) e = ap (λ s. first_state (with_rest s (c ∷ rest)) (with_rest (prefixed_state b c) rest)) e
+one-byte b state (c ∷ rest) e = ap (λ s. option_or (with_rest s (c ∷ rest)) (with_rest (prefixed_state b c) rest)) e
 
 -- a state of two bytes
 two-bytes : (b c state : ℕ) (rest : List ℕ) → single_state b ≡ None → prefixed_state b c ≡ Some state → state_at (b ∷ c ∷ rest) ≡ Some (state, rest)
-two-bytes b c state rest e f = ap (λ s. first_state (with_rest s (c ∷ rest)) (with_rest (prefixed_state b c) rest)) e ∙ ap (λ s. with_rest s rest) f
+two-bytes b c state rest e f = ap (λ s. option_or (with_rest s (c ∷ rest)) (with_rest (prefixed_state b c) rest)) e ∙ ap (λ s. with_rest s rest) f
 
 abbrev single-by : (dead live letter : Bool) → ℕ → Option ℕ
 single-by dead live letter n = cond dead (Some 0) (cond live (Some 1) (cond letter (Some n) None))

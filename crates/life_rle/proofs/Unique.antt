@@ -6,11 +6,12 @@ use Rattle.life_rle.specs.declared.item.Item.{Item}
 use Rattle.life_rle.specs.Items.{Next, End, Mark, Spelled, Broken, Spells}
 use Rattle.life_rle.specs.declared.position.Position.{Position}
 use Rattle.life_rle.specs.Position.{default_position}
-use Rattle.life_rle.specs.Pattern.{Rle, placed_behind, first_fault, first_kind}
+use Rattle.std.specs.Option.{option_or}
+use Rattle.life_rle.specs.Pattern.{Rle, placed_behind, first_fault}
 use Rattle.life_rle.specs.Grammar.{later_of, IsPreamble, LineSpells, BodySpells, IsUnmarked, IsMarked, IsRle, IsSomeRle, fault_behind, Breaks, before_header, by_form, by_text, by_item}
 use Rattle.life_rle.specs.declared.line.Later.TheVariants.{Data}
 use Rattle.life_rle.proofs.Shrinks.{IsStop, read-line, items_read-before}
-use Rattle.life_rle.proofs.Progress.{Before, Begun, Ended, Refused, fault_of_next, items_fault, line_items, line_last, with_items, after_items, open_step, later_step, step, progress, start, progress-append, progress-Refused, progress-Ended, placed_behind-append, first_fault-append, first_kind-both, with_items-nil}
+use Rattle.life_rle.proofs.Progress.{Before, Begun, Ended, Refused, fault_of_next, items_fault, line_items, line_last, with_items, after_items, open_step, later_step, step, progress, start, progress-append, progress-Refused, progress-Ended, placed_behind-append, first_fault-append, option_or-both, with_items-nil}
 
 pub IsPreamble-progress : (level : ℕ) (given o : Position) (lines : List (List ℕ)) → IsPreamble level given lines o → progress level (Before given) lines
     ≡ Before o
@@ -32,19 +33,19 @@ step-LineSpells : (level : ℕ) (file : Rle) (line : List ℕ) (items : List Ite
     → first_fault level file.rule (placed_behind file.position file.items items) ≡ None → step level (Begun file) line ≡ Begun (with_items file items)
 step-LineSpells level file line items (inl h) sound = ap (later_step level file line) h.0 ∙ ap Begun (sym (with_items-nil file))
     ∙ ap (λ xs. Begun (with_items file xs)) (sym h.1)
-step-LineSpells level file line items (inr h) sound = later_step-items level file line items End None h.0 h.1 tt (ap (λ k. first_kind k None) sound)
+step-LineSpells level file line items (inr h) sound = later_step-items level file line items End None h.0 h.1 tt (ap (λ k. option_or k None) sound)
 
 step-marked : (level : ℕ) (file : Rle) (line : List ℕ) (items : List Item) → LineSpells level line items Mark
     → first_fault level file.rule (placed_behind file.position file.items items) ≡ None → step level (Begun file) line ≡ Ended (with_items file items)
 step-marked level file line items (inl h) sound = cc
-step-marked level file line items (inr h) sound = later_step-items level file line items Mark None h.0 h.1 tt (ap (λ k. first_kind k None) sound)
+step-marked level file line items (inr h) sound = later_step-items level file line items Mark None h.0 h.1 tt (ap (λ k. option_or k None) sound)
 
 -- the fault of items in two parts
 pub fault-parts : (level : ℕ) (file : Rle) (xs ys : List Item) → first_fault level file.rule (placed_behind file.position file.items (xs ++ ys)) ≡ None
     → (first_fault level file.rule (placed_behind file.position file.items xs) ≡ None)
     × (first_fault level file.rule (placed_behind file.position (file.items ++ xs) ys) ≡ None)
 fault-parts level file xs ys h =
-    first_kind-both (first_fault level file.rule (placed_behind file.position file.items xs))
+    option_or-both (first_fault level file.rule (placed_behind file.position file.items xs))
     (first_fault level file.rule (placed_behind file.position (file.items ++ xs) ys))
     (sym (ap (first_fault level file.rule) (placed_behind-append file.position file.items xs ys)
     ∙ first_fault-append level file.rule (placed_behind file.position file.items xs) (placed_behind file.position (file.items ++ xs) ys)) ∙ h)
@@ -102,10 +103,10 @@ by_item-fault level file items item more next kind sound fault =
     let one = placed_behind file.position (file.items ++ items) (item ∷ []) in
     let total : first_fault level file.rule (placed_behind file.position file.items ((items ++ item ∷ []) ++ more)) ≡ Some kind =
     ap (first_fault level file.rule) e1 ∙ first_fault-append level file.rule (placed_behind file.position file.items (items ++ item ∷ [])) rest
-    ∙ ap (λ k. first_kind k (first_fault level file.rule rest))
-    (ap (first_fault level file.rule) e2 ∙ first_fault-append level file.rule b one ∙ ap (λ k. first_kind k (first_fault level file.rule one)) sound
-    ∙ ap (λ k. first_kind k None) fault) in
-    ap (λ k. first_kind k (fault_of_next next)) total
+    ∙ ap (λ k. option_or k (first_fault level file.rule rest))
+    (ap (first_fault level file.rule) e2 ∙ first_fault-append level file.rule b one ∙ ap (λ k. option_or k (first_fault level file.rule one)) sound
+    ∙ ap (λ k. option_or k None) fault) in
+    ap (λ k. option_or k (fault_of_next next)) total
 
 after_items-Some : (file : Rle) (items : List Item) (next : Next) (kind : Kind) → after_items file items next (Some kind) ≡ Refused kind
 after_items-Some file items End kind = refl
@@ -132,7 +133,7 @@ Breaks-progress level front line kind (by_form file h e) = progress-append level
     ∙ ap (λ p. step level p line) (IsUnmarked-progress level front file h) ∙ ap (later_step level file line) e
 Breaks-progress level front line kind (by_text file items h form s sound) =
     progress-append level start front (line ∷ []) ∙ ap (λ p. step level p line) (IsUnmarked-progress level front file h)
-    ∙ later_step-items level file line items (Broken kind) (Some kind) form s tt (ap (λ k. first_kind k (Some kind)) sound)
+    ∙ later_step-items level file line items (Broken kind) (Some kind) form s tt (ap (λ k. option_or k (Some kind)) sound)
 Breaks-progress level front line kind (by_item file items item rest h form s sound fault) =
     progress-append level start front (line ∷ []) ∙ ap (λ p. step level p line) (IsUnmarked-progress level front file h)
     ∙ step-by_item level file line items item rest kind form s sound fault

@@ -17,12 +17,13 @@ use Rattle.life_rle.specs.Grammar.{IsUnmarked, IsMarked, HasNoFault, IsPreamble,
 use Rattle.life_rle.specs.Header.{header_of}
 use Rattle.life_rle.specs.Items.{Next, End, Mark, Spelled, Broken, Spells, next_of, item_in, counted, item_behind, front_digits, behind_digits}
 use Rattle.life_rle.specs.Laws.{WiderPlanesKeepFiles}
-use Rattle.life_rle.specs.Pattern.{Rle, Placed, placed, item_fault, placed_fault, first_fault, first_kind}
+use Rattle.std.specs.Option.{option_or}
+use Rattle.life_rle.specs.Pattern.{Rle, Placed, placed, item_fault, placed_fault, first_fault}
 use Rattle.life_rle.specs.Plane.{edge, is_coordinate, most_count}
 use Rattle.life_rle.specs.Position.{default_position, Field, Corner, and_then, corner_of, corner_in, field_of, with_field}
 use Rattle.life_rle.specs.Position.{position_with, position_of, is_position_line}
 use Rattle.life_rle.specs.States.{is_state_of}
-use Rattle.life_rle.proofs.Progress.{first_kind-both, IsOpenBy-map, IsEndedBy-map}
+use Rattle.life_rle.proofs.Progress.{option_or-both, IsOpenBy-map, IsEndedBy-map}
 
 -- ---- the numbers of the plane
 
@@ -198,8 +199,8 @@ sound-wider : (level wider : ℕ) (rule : Rule) (items : List Placed) → level 
     → first_fault level rule items ≡ None → first_fault wider rule items ≡ None
 sound-wider level wider rule [] wide h = refl
 sound-wider level wider rule (p ∷ ps) wide h =
-    let parts = first_kind-both (placed_fault level rule p) (first_fault level rule ps) h in
-    ap (λ kind. first_kind kind (first_fault wider rule ps)) (item-wider level wider rule p.row p.column p.item wide parts.0)
+    let parts = option_or-both (placed_fault level rule p) (first_fault level rule ps) h in
+    ap (λ kind. option_or kind (first_fault wider rule ps)) (item-wider level wider rule p.row p.column p.item wide parts.0)
     ∙ sound-wider level wider rule ps wide parts.1
 
 -- ---- files

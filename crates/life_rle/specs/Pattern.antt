@@ -3,6 +3,7 @@
 use Rattle.std.specs.Prelude.{ℕ, ◌+◌, Bool, true, false, not, ◌&&◌, List, [], ◌∷◌, ◌++◌, ℤ, pos, ◌+ℤ◌, int_lt, int_le, Option, Some, None, if◌then◌else◌}
 use Rattle.std.specs.Ordering.{int_eq}
 use Rattle.std.specs.List.{list_any}
+use Rattle.std.specs.Option.{option_or}
 use Rattle.life_base.specs.declared.kind.Kind.{Kind}
 use Rattle.life_base.specs.declared.kind.Kind.TheVariants.{StateRange, OutOfPlane}
 use Rattle.life_base.specs.declared.rule.Rule.{Rule}
@@ -53,13 +54,12 @@ placed_behind position before (item ∷ items) = placed_item position before ite
 abbrev pub placed : Rle → List Placed
 placed file = placed_behind file.position [] file.items
 
--- whether cells of these columns of this row lie over the pair
-abbrev pub item_covers : ℤ → ℤ → Item → ℤ → ℤ → Bool
-item_covers row column (Cells count state) x y = int_eq y row && (int_le column x && int_lt x (column +ℤ pos count))
-item_covers row column (RowEnds count) x y = false
-
+-- whether an item's cells, which lie side by side in one row, lie over the pair
 abbrev pub covers : Placed → ℤ → ℤ → Bool
-covers p x y = item_covers p.row p.column p.item x y
+covers p x y = elim p.item [
+  | Cells count state ↦ int_eq y p.row && (int_le p.column x && int_lt x (p.column +ℤ pos count))
+  | RowEnds count ↦ false
+]
 
 abbrev pub item_state : Item → ℕ
 item_state (Cells count state) = state
@@ -86,12 +86,7 @@ item_fault level rule row column (RowEnds count) = if int_le (row +ℤ pos count
 abbrev pub placed_fault : ℕ → Rule → Placed → Option Kind
 placed_fault level rule p = item_fault level rule p.row p.column p.item
 
--- the first of two, if there is one
-abbrev pub first_kind : Option Kind → Option Kind → Option Kind
-first_kind (Some kind) other = Some kind
-first_kind None other = other
-
 -- the fault of the first item that has one
 abbrev pub first_fault : ℕ → Rule → List Placed → Option Kind
 first_fault level rule [] = None
-first_fault level rule (p ∷ ps) = first_kind (placed_fault level rule p) (first_fault level rule ps)
+first_fault level rule (p ∷ ps) = option_or (placed_fault level rule p) (first_fault level rule ps)

@@ -1,7 +1,7 @@
 -- The form of position lines, said of whole texts: what a position line is put together from. What Pos and Gen mean is of Golly Help (File
 -- Formats, Extended RLE); the form and the bounds are the project's own.
 use Rattle.std.specs.Prelude.{◌≡◌, ℕ, ◌^◌, ◌<◌, ◌≤◌, ◌⊎◌, ◌↔◌, ◌&&◌, true, false, not, List, [], ◌∷◌, ◌++◌, ℤ, pos, neg_ℤ, Ok, Err, codes}
-use Rattle.std.specs.List.{list_all}
+use Rattle.std.specs.List.{list_all, AllZip}
 use Rattle.life_base.specs.declared.kind.Kind.{Kind}
 use Rattle.life_base.specs.declared.kind.Kind.TheVariants.{BadNumber, TooLarge, OutOfPlane}
 use Rattle.life_base.specs.Text.{is_empty, is_whitespace, is_blank, is_digit_text, value_of}
@@ -49,24 +49,19 @@ pub data IsNoField (level : ℕ) (text : List ℕ) (kind : Kind) : Type 0 where
 
 -- words that are fields, in their order
 abbrev pub AreFields : ℕ → List (List ℕ) → List Field → Type 0
-AreFields level [] [] = Unit {0}
-AreFields level [] (field ∷ fields) = ⊥
-AreFields level (word ∷ words) [] = ⊥
-AreFields level (word ∷ words) (field ∷ fields) = IsFieldText level word field × AreFields level words fields
+AreFields level words fields = AllZip (IsFieldText level) words fields
 
 -- no field is a corner
 abbrev pub HasNoCorner : List Field → Type 0
 HasNoCorner [] = Unit {0}
 HasNoCorner (Corner x y ∷ fields) = ⊥
-HasNoCorner (Generation n ∷ fields) = HasNoCorner fields
-HasNoCorner (Other ∷ fields) = HasNoCorner fields
+HasNoCorner (field ∷ fields) = HasNoCorner fields
 
 -- no field is a generation
 abbrev pub HasNoGeneration : List Field → Type 0
 HasNoGeneration [] = Unit {0}
-HasNoGeneration (Corner x y ∷ fields) = HasNoGeneration fields
 HasNoGeneration (Generation n ∷ fields) = ⊥
-HasNoGeneration (Other ∷ fields) = HasNoGeneration fields
+HasNoGeneration (field ∷ fields) = HasNoGeneration fields
 
 -- the corner of the last field that is one, (0, 0) without one
 abbrev pub IsLastCorner : List Field → ℤ → ℤ → Type 0

@@ -28,9 +28,8 @@ next_value (found.Broken kind) = Broken kind
 -- a number that was read; one that isn't exact lies outside the plane, as the number itself does
 abbrev pub IsNumberRead : ℕ → Option ℤ → Option ℤ → Type 0
 IsNumberRead level None None = Unit {0}
-IsNumberRead level (Some z) None = ⊥
-IsNumberRead level None (Some w) = ⊥
 IsNumberRead level (Some z) (Some w) = (is_coordinate level w ≡ is_coordinate level z) × (is_coordinate level w ≡ true → w ≡ z)
+IsNumberRead level _ _ = ⊥
 
 -- a line was read up to `next`: its items break no rule, the cursor is behind them, and these are their runs
 pub record IsRead (level : ℕ) (rule : Rule) (from : Cursor) (line : List ℕ) (items : List Item) (next : Next) (now : Cursor) (found : List Run) : Type 0 where

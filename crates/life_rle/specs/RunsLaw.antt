@@ -1,5 +1,6 @@
 -- What the runs of a file are, and that its cells are what they say.
 use Rattle.std.specs.Prelude.{◌≡◌, ℕ, ◌≤◌, ◌⊎◌, Bool, true, ◌&&◌, List, [], ◌∷◌, ℤ, pos, neg_ℤ, ◌+ℤ◌, ◌≤ℤ◌, ◌<ℤ◌, int_lt, int_le, if◌then◌else◌}
+use Rattle.std.specs.List.{AllByRecursion}
 use Rattle.std.specs.Ordering.{int_eq}
 use Rattle.life_base.specs.declared.rule.Rule.{Rule}
 use Rattle.life_base.specs.declared.cell.Run.{Run}
@@ -20,16 +21,14 @@ pub record IsGoodRun (level : ℕ) (rule : Rule) (run : Run) : Type 0 where
   pub live : 1 ≤ run.state
 
 abbrev pub AreGoodRuns : ℕ → Rule → List Run → Type 0
-AreGoodRuns level rule [] = Unit {0}
-AreGoodRuns level rule (run ∷ runs) = IsGoodRun level rule run × AreGoodRuns level rule runs
+AreGoodRuns level rule runs = AllByRecursion (IsGoodRun level rule) runs
 
 -- the first stands in an earlier row than the second, or wholly to its left in one row
 abbrev pub StandsBefore : Run → Run → Type 0
 StandsBefore a b = (a.y <ℤ b.y) ⊎ ((a.y ≡ b.y) × ((a.x +ℤ pos a.len) ≤ℤ b.x))
 
 abbrev pub StandsBeforeAll : Run → List Run → Type 0
-StandsBeforeAll a [] = Unit {0}
-StandsBeforeAll a (b ∷ runs) = StandsBefore a b × StandsBeforeAll a runs
+StandsBeforeAll a runs = AllByRecursion (StandsBefore a) runs
 
 -- each run stands before each later one, so that no two have a cell in common
 abbrev pub AreInOrder : List Run → Type 0

@@ -12,15 +12,11 @@ use Rattle.life_rle.specs.Cursor.{IsNear, IsBehind, start_of}
 
 abbrev pub is_refused : Phase → Bool
 is_refused phases.Refused = true
-is_refused (phases.Before position) = false
-is_refused (phases.Items rule position) = false
-is_refused (phases.Over rule position) = false
+is_refused _ = false
 
 abbrev pub is_over : Phase → Bool
-is_over phases.Refused = false
-is_over (phases.Before position) = false
-is_over (phases.Items rule position) = false
 is_over (phases.Over rule position) = true
+is_over _ = false
 
 -- the lines so far, by the phase: comments and position lines, a file that goes on, a file that is over
 abbrev pub StandsAt : ℕ → Phase → Cursor → List (List ℕ) → Type 0
@@ -44,7 +40,5 @@ pub record TakesLine (level : ℕ) (phase : Phase) (cursor : Cursor) (line : Lis
 
 -- before the mark the cursor is in the plane or at its edge
 abbrev pub IsPlaced : ℕ → Phase → Cursor → Type 0
-IsPlaced level phases.Refused cursor = Unit {0}
-IsPlaced level (phases.Before position) cursor = Unit {0}
 IsPlaced level (phases.Items rule position) cursor = IsNear level cursor
-IsPlaced level (phases.Over rule position) cursor = Unit {0}
+IsPlaced level _ cursor = Unit {0}

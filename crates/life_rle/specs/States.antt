@@ -1,5 +1,6 @@
 -- The states of cells as texts (Golly Help, File Formats, Extended RLE).
 use Rattle.std.specs.Prelude.{ℕ, ◌+◌, ◌-◌, ◌*◌, ◌/◌, ◌%◌, Bool, ◌&&◌, ◌||◌, List, [], ◌∷◌, Option, Some, None, if◌then◌else◌, ◌==◌, nat_le, codes}
+use Rattle.std.specs.Option.{option_map, option_or}
 use Rattle.std.specs.Str.{byte}
 use Rattle.life_base.specs.declared.rule.Rule.{Rule}
 use Rattle.life_base.specs.declared.rule.Rule.TheVariants.{Life, Named}
@@ -25,19 +26,13 @@ prefixed_state prefix letter =
 
 -- a state and the bytes behind it
 abbrev pub with_rest : Option ℕ → List ℕ → Option (ℕ × List ℕ)
-with_rest None rest = None
-with_rest (Some state) rest = Some (state, rest)
-
--- the first of two, if there is one
-abbrev pub first_state : Option (ℕ × List ℕ) → Option (ℕ × List ℕ) → Option (ℕ × List ℕ)
-first_state (Some found) other = Some found
-first_state None other = other
+with_rest found rest = option_map (λ state. (state, rest)) found
 
 -- the state in front of the bytes, and what stands behind it
 abbrev pub state_at : List ℕ → Option (ℕ × List ℕ)
 state_at [] = None
 state_at (b ∷ []) = with_rest (single_state b) []
-state_at (b ∷ c ∷ rest) = first_state (with_rest (single_state b) (c ∷ rest)) (with_rest (prefixed_state b c) rest)
+state_at (b ∷ c ∷ rest) = option_or (with_rest (single_state b) (c ∷ rest)) (with_rest (prefixed_state b c) rest)
 
 -- the states under a rule: 0 and 1 under a B/S rule, 0 to 255 under a name
 abbrev pub is_state_of : Rule → ℕ → Bool

@@ -1,5 +1,5 @@
 -- What the writer has still to write.
-use Rattle.std.specs.Prelude.{◌≡◌, ℕ, ◌+◌, ◌≤◌, ◌<◌, ◌⊎◌, List, [], ◌∷◌, ◌++◌, length, map, Bool, ◌&&◌, true, ℤ, pos, neg_ℤ, ◌+ℤ◌, ◌-ℤ◌, ◌≤ℤ◌, ◌<ℤ◌, nat_abs, if◌then◌else◌, ◌==◌, nat_le, codes}
+use Rattle.std.specs.Prelude.{◌≡◌, ℕ, ◌+◌, ◌≤◌, ◌<◌, ◌⊎◌, List, [], ◌∷◌, ◌++◌, length, map, Bool, ◌&&◌, true, ℤ, pos, neg_ℤ, ◌+ℤ◌, ◌≤ℤ◌, ◌<ℤ◌, if◌then◌else◌, ◌==◌, nat_le, codes}
 use Rattle.std.specs.Ordering.{int_eq}
 use Rattle.life_base.specs.declared.cell.Cell.{Cell}
 use Rattle.life_base.specs.declared.cell.Run.{Run}
@@ -12,7 +12,7 @@ use Rattle.life_rle.specs.declared.pen.Pen.{Pen}
 use Rattle.life_rle.specs.declared.wrapping.ItemLines.{ItemLines}
 use Rattle.life_rle.specs.Plane.{edge}
 use Rattle.life_rle.specs.States.{is_state_of, state_text}
-use Rattle.life_rle.specs.Written.{with_gap, item_text, items_from, joined, box_of}
+use Rattle.life_rle.specs.Written.{with_cells, item_text, items_from}
 
 -- the text of an item without its count
 abbrev pub tag_text : Rule → Item → List ℕ
@@ -45,16 +45,6 @@ pub record Puts (rule : Rule) (old : ItemLines) (items : List Item) (new : ItemL
   pub short : new.used ≤ 70
   pub text : (more : List Item) → text_with rule new more ≡ text_with rule old (items ++ more)
 
--- a run that goes on in front of items
-abbrev pub with_open : ℕ → ℕ → List Item → List Item
-with_open count state [] = Cells count state ∷ []
-with_open count state (Cells more other ∷ items) = if state == other then Cells (count + more) state ∷ items else Cells count state ∷ Cells more other ∷ items
-with_open count state (RowEnds rows ∷ items) = Cells count state ∷ RowEnds rows ∷ items
-
--- the items between a place and a cell ahead of it
-abbrev pub way_to : ℤ → ℤ → ℤ → Cell → List Item
-way_to left x y c = if int_eq c.y y then with_gap (nat_abs (c.x -ℤ x)) [] else RowEnds (nat_abs (c.y -ℤ y)) ∷ with_gap (nat_abs (c.x -ℤ left)) []
-
 -- the run of one cell
 abbrev pub run_of : Cell → Run
 run_of c = record { x = c.x; y = c.y; len = 1; state = c.state }
@@ -77,7 +67,7 @@ item_of run = Cells run.len run.state
 
 -- the whole text of a pen behind which these cells follow
 abbrev pub pen_text : Rule → Pen → List Cell → List ℕ
-pen_text rule pen cells = text_with rule pen.lines (with_open pen.run.len pen.run.state (items_from pen.left (column_behind pen.run) pen.run.y cells))
+pen_text rule pen cells = text_with rule pen.lines (with_cells pen.run.len pen.run.state (items_from pen.left (column_behind pen.run) pen.run.y cells))
 
 -- live cells in the plane
 pub record IsLiveRun (run : Run) : Type 0 where
@@ -120,19 +110,8 @@ pub record IsInPlane (box : Bounds) : Type 0 where
   pub high : box.top ≤ℤ box.bottom
   pub bottom : box.bottom <ℤ edge MAX_LEVEL
 
--- the least box around a box and cells
-abbrev pub bounds_onto : Bounds → List Cell → Bounds
-bounds_onto box [] = box
-bounds_onto box (c ∷ cells) = joined box (box_of c cells)
-
 -- the next cell was taken, whatever cells follow
 pub record WritesCell (rule : Rule) (pen : Pen) (cell : Cell) (next : Pen) : Type 0 where
   pub sound : IsPen next
   pub place : (next.left ≡ pen.left) × (column_behind next.run ≡ cell.x +ℤ pos 1) × (next.run.y ≡ cell.y)
   pub text : (cells : List Cell) → pen_text rule next cells ≡ pen_text rule pen (cell ∷ cells)
-
--- what was written is the text of the cells but for these
-pub record WritesUpTo (rule : Rule) (whole : List ℕ) (pen : Pen) (cells : List Cell) : Type 0 where
-  pub sound : IsPen pen
-  pub follow : Follow rule pen.left (column_behind pen.run) pen.run.y cells
-  pub text : pen_text rule pen cells ≡ whole

@@ -30,20 +30,23 @@ abbrev pub with_gap : ℕ → List Item → List Item
 with_gap zero items = items
 with_gap (suc n) items = Cells (suc n) 0 ∷ items
 
--- one cell in front of items, in one run with cells of the same state
-abbrev pub with_cell : ℕ → List Item → List Item
-with_cell state [] = Cells 1 state ∷ []
-with_cell state (Cells count other ∷ items) = if state == other then Cells (1 + count) state ∷ items else Cells 1 state ∷ Cells count other ∷ items
-with_cell state (RowEnds count ∷ items) = Cells 1 state ∷ RowEnds count ∷ items
+-- cells in front of items, in one run with cells of the same state
+abbrev pub with_cells : ℕ → ℕ → List Item → List Item
+with_cells count state [] = Cells count state ∷ []
+with_cells count state (Cells more other ∷ items) = if state == other then Cells (count + more) state ∷ items else Cells count state ∷ Cells more other ∷ items
+with_cells count state (RowEnds rows ∷ items) = Cells count state ∷ RowEnds rows ∷ items
+
+-- the way from the place (x, y) to a cell ahead of it, in front of items; rows begin at the column `left`
+abbrev pub way_to : ℤ → ℤ → ℤ → Cell → List Item → List Item
+way_to left x y c items =
+    if int_eq c.y y then with_gap (nat_abs (c.x -ℤ x)) items
+    else RowEnds (nat_abs (c.y -ℤ y)) ∷ with_gap (nat_abs (c.x -ℤ left)) items
 
 -- The items of cells that rise by row and column, from the place (x, y) on; rows begin at the column `left`. Of cells
 -- that don't rise it says nothing: each difference is taken as a distance ahead.
 abbrev pub items_from : ℤ → ℤ → ℤ → List Cell → List Item
 items_from left x y [] = []
-items_from left x y (c ∷ cells) =
-    let rest = with_cell c.state (items_from left (c.x +ℤ pos 1) c.y cells) in
-    if int_eq c.y y then with_gap (nat_abs (c.x -ℤ x)) rest
-    else RowEnds (nat_abs (c.y -ℤ y)) ∷ with_gap (nat_abs (c.x -ℤ left)) rest
+items_from left x y (c ∷ cells) = way_to left x y c (with_cells 1 c.state (items_from left (c.x +ℤ pos 1) c.y cells))
 
 -- the items of cells that rise by row and column, from the corner of their box on
 abbrev pub items_of : List Cell → List Item

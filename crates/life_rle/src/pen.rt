@@ -2,8 +2,8 @@
 
 ghost use Rattle.std.specs.Prelude.{◌≡◌, ◌++◌, ◌∷◌, [], pos, neg_ℤ, ◌+ℤ◌, ◌-ℤ◌, ◌≤ℤ◌, nat_abs, OnOk, IfOk, IfErr};
 ghost use Rattle.life_rle.specs.Plane.{edge};
-ghost use Rattle.life_rle.specs.Written.{items_from};
-ghost use Rattle.life_rle.specs.Writing.{Puts, IsLiveRun, IsPen, IsGoodCell, IsAhead, Follow, run_of, longer, column_behind, joins, item_of, way_to, pen_text, items_text, WritesCell};
+ghost use Rattle.life_rle.specs.Written.{items_from, way_to};
+ghost use Rattle.life_rle.specs.Writing.{Puts, IsLiveRun, IsPen, IsGoodCell, IsAhead, Follow, run_of, longer, column_behind, joins, item_of, pen_text, items_text, WritesCell};
 
 use crate::item::Item;
 use crate::wrapping::ItemLines;
@@ -93,7 +93,7 @@ impl Pen {
         requires pen { IsPen self.old }
         requires cell { IsGoodCell rule.now cell.now }
         requires ahead { IsAhead self.old.left (column_behind self.old.run) self.old.run.y cell.now }
-        ensures way { OnOk result (Puts rule.now self.old.lines (way_to self.old.left (column_behind self.old.run) self.old.run.y cell.now) self.new.lines) }
+        ensures way { OnOk result (Puts rule.now self.old.lines (way_to self.old.left (column_behind self.old.run) self.old.run.y cell.now []) self.new.lines) }
         ensures kept { (self.new.left ≡ self.old.left) × (self.new.run ≡ self.old.run) }
         ensures memory { IfErr result (λ kind. kind ≡ Kind.Memory) }
     {

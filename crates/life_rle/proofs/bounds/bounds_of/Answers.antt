@@ -1,7 +1,6 @@
 use Rattle.std.proofs.Common.{◌+◌, drop, sym, ap, ◌∙◌}
 use Rattle.std.proofs.lemmas.List.{at_drop_more, at_drop_all}
-use Rattle.life_rle.specs.Writing.{bounds_onto}
-use Rattle.life_rle.proofs.BoxOnto.{bounds_onto-first, bounds_onto-sides}
+use Rattle.life_rle.proofs.BoxOnto.{bounds_onto, bounds_onto-first, bounds_onto-sides}
 use Rattle.life_rle.proofs.bounds.bounds_of.Goals as goal
 
 pub loop-cell-init : goal.loop-cell-init

@@ -1,6 +1,6 @@
 use Rattle.std.proofs.Common.{◌≡◌, drop}
 use Rattle.life_rle.specs.Written.{box_of}
-use Rattle.life_rle.specs.Writing.{bounds_onto}
+use Rattle.life_rle.proofs.BoxOnto.{bounds_onto}
 use Rattle.life_rle.proofs.bounds.bounds_of.Given as goal
 
 -- the box of all cells is the least around the box so far and what is left

@@ -2,7 +2,8 @@ use Rattle.std.proofs.Common.{◌∷◌, [], ◌∙◌, subst}
 use Rattle.std.proofs.lemmas.List.{at_drop_all}
 use Rattle.std.proofs.lemmas.Result.{IfOk-weaker}
 use Rattle.life_rle.specs.declared.item.Item.{Item}
-use Rattle.life_rle.specs.Writing.{pen_text, Puts, WritesUpTo}
+use Rattle.life_rle.specs.Writing.{pen_text, Puts}
+use Rattle.life_rle.proofs.TakeCells.{WritesUpTo}
 use Rattle.life_rle.proofs.pen.Pen.finish.Goals as goal
 
 pub returns-clause-text : goal.returns-clause-text

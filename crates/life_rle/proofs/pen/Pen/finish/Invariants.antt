@@ -1,5 +1,6 @@
 use Rattle.std.proofs.Common.{drop}
-use Rattle.life_rle.specs.Writing.{pen_text, WritesUpTo}
+use Rattle.life_rle.specs.Writing.{pen_text}
+use Rattle.life_rle.proofs.TakeCells.{WritesUpTo}
 use Rattle.life_rle.proofs.pen.Pen.finish.Given as goal
 
 -- what was written and what the pen has still to write are the whole text
