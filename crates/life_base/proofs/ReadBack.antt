@@ -81,7 +81,7 @@ module _ (v : DigitSets) (h : IsLifeRule (record { sets = v; near = VonNeumann }
   four_says : SaysRule word (counting VonNeumann v)
   four_says = record {
     word = word;
-    around = record { front = []; back = []; is = sym (append-nil word); front_blank = refl; back_blank = refl };
+    around = record { before = []; behind = []; is = sym (append-nil word); blank_before = refl; blank_behind = refl };
     is_word = is_word;
     says = (is_four, h.no_birth_on_zero);
   }

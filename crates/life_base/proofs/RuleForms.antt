@@ -12,9 +12,9 @@ use Rattle.std.proofs.lemmas.List.Folds.{list_all-append}
 use Rattle.life_base.proofs.NamesRead.{all_pass, solid, four_none}
 use Rattle.life_base.proofs.RoundTrip.{is_mark, split_at, split_end, no_marks, none_left, no_any}
 use Rattle.life_base.specs.Sets.{DigitSets}
-use Rattle.life_base.specs.Text.{is_whitespace, is_empty, trim, trim_start, without_last}
+use Rattle.life_base.specs.Text.{is_whitespace, is_empty, trim, trim_start, without_last, IsAround}
 use Rattle.life_base.specs.Rules.{is_count_digit, digit_set, has_digit, digit_groups, marks, sets, life_form, life_sets, four_sets, up_to_four, life_or_other, four_or_other, counting, names_other_neighbours, is_bad_text, rule_of, rule_of_trimmed}
-use Rattle.life_base.specs.RuleForms.{IsForm, IsLifeText, IsFourText, IsNearText, IsAround, IsRuleWord, names_neighbours, IsOtherWord, WordSays, SaysRule}
+use Rattle.life_base.specs.RuleForms.{IsForm, IsLifeText, IsFourText, IsNearText, IsRuleWord, names_neighbours, IsOtherWord, WordSays, SaysRule}
 use Rattle.life_base.specs.declared.kind.Kind.TheVariants.{BadRule, BoundedGrid, UnsupportedRule, BirthOnZero}
 use Rattle.life_base.specs.declared.rule.Near.{Near}
 use Rattle.life_base.specs.declared.rule.Near.TheVariants.{Moore, VonNeumann}
@@ -439,16 +439,11 @@ back_of : (text : List ℕ) → Back text (without_last is_whitespace text)
 back_of [] = record { back = []; is = refl; blank = refl }
 back_of (b ∷ text) = back_step (list_all is_whitespace (b ∷ text)) b text refl (back_of text)
 
-around : (text : List ℕ) → IsAround text (trim text)
-around text =
+pub trimmed_around : (text : List ℕ) → IsAround text (trim text)
+trimmed_around text =
     let f = front_of text in
-    let k = back_of (trim_start text) in record {
-      front = f.front;
-      back = k.back;
-      is = f.is ∙ ap (λ (t : List ℕ). f.front ++ t) k.is ∙ sym (append_assoc f.front (trim text) k.back);
-      front_blank = f.blank;
-      back_blank = k.blank;
-    }
+    let k = back_of (trim_start text) in
+    record { before = f.front; behind = k.back; is = f.is ∙ ap (λ (t : List ℕ). f.front ++ t) k.is; blank_before = f.blank; blank_behind = k.blank }
 
 skip_front : (front rest : List ℕ) → list_all is_whitespace front ≡ true → trim_start (front ++ rest) ≡ trim_start rest
 skip_front [] rest h = refl
@@ -469,11 +464,11 @@ word_starts : (word back : List ℕ) → 0 < length word → list_all solid word
 word_starts [] back n h = absurd (omega arith)
 word_starts (b ∷ word) back n h = ap (λ v. cond v (trim_start (word ++ back)) (b ∷ (word ++ back))) (not_true (is_whitespace b) (first _ _ h))
 
-trim_is : (text word : List ℕ) → IsAround text word → 0 < length word → list_all solid word ≡ true → trim text ≡ word
-trim_is text word a n h =
+pub around_trim : (text word : List ℕ) → IsAround text word → 0 < length word → list_all solid word ≡ true → trim text ≡ word
+around_trim text word a n h =
     ap (without_last is_whitespace)
-    (ap trim_start (a.is ∙ append_assoc a.front word a.back) ∙ skip_front a.front (word ++ a.back) a.front_blank ∙ word_starts word a.back n h)
-    ∙ word_kept word a.back h a.back_blank
+    (ap trim_start a.is ∙ skip_front a.before (word ++ a.behind) a.blank_before ∙ word_starts word a.behind n h)
+    ∙ word_kept word a.behind h a.blank_behind
 
 -- ---- a word
 
@@ -603,7 +598,7 @@ accepted : (text : List ℕ) (rule : Rule) → rule_of text ≡ Ok rule → Says
 unfolding rule_of
 accepted text rule h =
     let p = said (trim text) rule (is_bad_text (trim text)) (list_any (λ b. b == 58) (trim text)) (life_sets (trim text)) refl refl refl h in
-    record { word = trim text; around = around text; is_word = p.0; says = p.1 }
+    record { word = trim text; around = trimmed_around text; is_word = p.0; says = p.1 }
 
 -- ---- a text that says a rule is accepted
 
@@ -648,7 +643,7 @@ is_accepted text rule says =
     let is = says.is_word in
     let good : is_bad_text word ≡ false =
     made_false (is_empty word) (nat_lt 255 (length word)) (list_all visible word) (no_empty word is.some) (below_bound (length word) is.short) is.visible in
-    ap rule_of_trimmed (trim_is text word says.around is.some (all_pass visible solid visible_solid word is.visible))
+    ap rule_of_trimmed (around_trim text word says.around is.some (all_pass visible solid visible_solid word is.visible))
     ∙ ap (λ v. cond v (Err BadRule) (cond (list_any (λ b. b == 58) word) (Err BoundedGrid) (life_or_other word (life_sets word)))) good
     ∙ ap (λ v. cond v (Err BoundedGrid) (life_or_other word (life_sets word))) (no_any (λ b. b == 58) word is.unbounded)
     ∙ answers word rule says.says

@@ -6,8 +6,7 @@ use Rattle.std.proofs.lemmas.List.Quantifiers.{position-Some}
 use Rattle.std.proofs.lemmas.List.Sums.{position_or_len_is}
 use Rattle.std.proofs.lemmas.List.{take_all, drop_all, take-append-drop, length-append}
 use Rattle.std.proofs.lemmas.Bool.{ltb-false}
-use Rattle.life_base.specs.Text.{is_empty, is_whitespace, is_blank, trim_start, words_of, onto_first}
-use Rattle.life_base.specs.Words.{with_word}
+use Rattle.life_base.specs.Text.{is_empty, is_whitespace, is_blank, trim_start, words_of, onto_first, with_word}
 
 skip : (v : Bool) (b : ℕ) (text : List ℕ) → is_whitespace b ≡ v → words_of (trim_start text) ≡ words_of text
     → words_of (cond v (trim_start text) (b ∷ text)) ≡ words_of (b ∷ text)

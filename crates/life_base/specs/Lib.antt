@@ -10,7 +10,5 @@ pub mod Devices
 pub mod DeviceState
 pub mod Inputs
 pub mod Writing
-pub mod Words
 pub mod Lines
 pub mod DeviceRuns
-pub mod Digits

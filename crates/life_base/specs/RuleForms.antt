@@ -5,7 +5,7 @@ use Rattle.std.specs.Char.{is_ascii_graphic, to_ascii_uppercase}
 use Rattle.std.specs.List.{list_all}
 use Rattle.std.specs.Str.{byte}
 use Rattle.life_base.specs.Sets.{DigitSets}
-use Rattle.life_base.specs.Text.{is_whitespace}
+use Rattle.life_base.specs.Text.{IsAround}
 use Rattle.life_base.specs.Rules.{is_count_digit, digit_set, has_digit, life_sets, four_sets, rule_of}
 use Rattle.life_base.specs.declared.rule.Near.{Near}
 use Rattle.life_base.specs.declared.rule.Near.TheVariants.{Moore, VonNeumann}
@@ -48,14 +48,6 @@ pub record IsFourText (text : List ℕ) (sets : DigitSets) : Type 0 where
 abbrev pub IsNearText : Near → List ℕ → DigitSets → Type 0
 IsNearText Moore text sets = IsLifeText text sets
 IsNearText VonNeumann text sets = IsFourText text sets
-
--- the text is the word with whitespace in front of it and behind it, or without
-pub record IsAround (text word : List ℕ) : Type 0 where
-  pub front : List ℕ
-  pub back : List ℕ
-  pub is : text ≡ front ++ word ++ back
-  pub front_blank : list_all is_whitespace front ≡ true
-  pub back_blank : list_all is_whitespace back ≡ true
 
 -- the word has 1 to 255 visible characters of ASCII, and no colon
 pub record IsRuleWord (word : List ℕ) : Type 0 where

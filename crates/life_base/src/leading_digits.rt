@@ -3,7 +3,7 @@
 ghost use Rattle.std.specs.Prelude.{◌≡◌, ◌+◌, ◌*◌, ◌≤◌, length, take_while};
 ghost use Rattle.std.specs.Char.{is_ascii_digit};
 ghost use Rattle.std.specs.List.{prefix_len};
-ghost use Rattle.life_base.specs.Digits.{capped};
+ghost use Rattle.life_base.specs.Numbers.{capped};
 ghost use Rattle.life_base.specs.Text.{value_of};
 
 /// A number with one digit more behind it, or the greatest of the type.

@@ -2,7 +2,7 @@
 use Rattle.std.proofs.Common.{◌≡◌, ℕ, suc, ◌-◌, ◌^◌, ◌<◌, List, [], ◌∷◌, length, take, drop, get_or, map, Bool, true, false, cond, not, ◌&&◌, ◌||◌, refl, ap, sym, subst, ◌∙◌, arith}
 use Rattle.std.specs.Prelude.{codes, nat_le, nat_lt, ◌==◌, Option, Some, None, Result, Ok, Err, filter_map}
 use Rattle.std.specs.List.{cons_option}
-use Rattle.std.specs.Result.{result_ok}
+use Rattle.std.specs.Result.{result_ok, result_err}
 use Rattle.std.proofs.lemmas.Bool.{leb-true}
 use Rattle.std.proofs.lemmas.Bool.Decides.{nat_tests}
 use Rattle.life_base.proofs.Numbers.{first, second}
@@ -15,7 +15,7 @@ use Rattle.life_base.specs.declared.kind.Kind.TheVariants.{BadNumber, LateHeader
 use Rattle.life_base.specs.declared.rule.Rule.{Rule}
 use Rattle.life_mc.specs.Accepted.{FilesAreValid, LinesAreValid}
 use Rattle.life_mc.specs.Macrocell.{AreSquares, level_of}
-use Rattle.life_mc.specs.Reading.{broken, broken_behind, broken_by_node, fault_in, generation_in_force, generation_on, is_command, last_or, rule_in_force, rule_on, squares_of}
+use Rattle.life_mc.specs.Reading.{broken, broken_behind, broken_by_node, generation_in_force, generation_on, is_command, last_or, rule_in_force, rule_on, squares_of}
 use Rattle.life_mc.specs.declared.line.Line.{Line}
 use Rattle.life_mc.proofs.NodeLines.{passed}
 use Rattle.life_mc.proofs.Valid.{squares_valid}
@@ -67,22 +67,22 @@ no_other (a ∷ b ∷ rest) h =
       ap (λ n. ((n == 35) && ((b == 82) && true)) && is_blank (take 1 rest)) hash ∙ ap (λ n. ((n == 82) && true) && is_blank (take 1 rest)) letter,
     )
 
-number_fits : (u v : Bool) (n : ℕ) → nat_le n (2 ^ 64 - 1) ≡ v → fault_in (cond (not u) (Err BadNumber) (cond v (Ok n) (Err TooLarge))) ≡ None → n < 2 ^ 64
+number_fits : (u v : Bool) (n : ℕ) → nat_le n (2 ^ 64 - 1) ≡ v → result_err (cond (not u) (Err BadNumber) (cond v (Ok n) (Err TooLarge))) ≡ None → n < 2 ^ 64
 number_fits true true n e h = omega (arith, leb-true n (2 ^ 64 - 1) e)
 number_fits true false n e h = cc
 number_fits false v n e h = cc
 
 module _ (top : ℕ) (before : List (List ℕ)) (line : List ℕ) where
   abbrev late : Bool
-  late = nat_lt 0 (length (squares_of before))
+  late = nat_lt 0 (length (map level_of (squares_of before)))
 
   abbrev judged : Option Kind
   judged = cond (begins_with line (codes "#")) None (broken_by_node top (rule_in_force before) (map level_of (squares_of before)) (trim line))
 
   checked : (b f r g l : Bool) → b ≡ false → r ≡ false → g ≡ true
       → cond b None (cond f (Some Timeline)
-      (cond ((r || g) && l) (Some LateHeader) (cond r (fault_in (rule_of (drop 2 line))) (cond g (fault_in (u64_of (trim (drop 2 line)))) judged)))) ≡ None
-      → fault_in (u64_of (trim (drop 2 line))) ≡ None
+      (cond ((r || g) && l) (Some LateHeader) (cond r (result_err (rule_of (drop 2 line))) (cond g (result_err (u64_of (trim (drop 2 line)))) judged)))) ≡ None
+      → result_err (u64_of (trim (drop 2 line))) ≡ None
   checked true f r g l p q s h = cc
   checked false true r g l p q s h = cc
   checked false false true g l p q s h = cc
@@ -93,7 +93,7 @@ module _ (top : ℕ) (before : List (List ℕ)) (line : List ℕ) where
   generation_fits : broken_behind top before line ≡ None → is_command 71 line ≡ true → value_of (trim (drop 2 line)) < 2 ^ 64
   generation_fits h g =
       let n = no_other line g in
-      let c : fault_in (u64_of (trim (drop 2 line))) ≡ None = checked (is_blank line) (begins_with line (codes "#FRAME")) (is_command 82 line)
+      let c : result_err (u64_of (trim (drop 2 line))) ≡ None = checked (is_blank line) (begins_with line (codes "#FRAME")) (is_command 82 line)
       (is_command 71 line) late n.0 n.1 g h in
       number_fits (is_digit_text (trim (drop 2 line))) (nat_le (value_of (trim (drop 2 line))) (2 ^ 64 - 1)) (value_of (trim (drop 2 line))) refl c
 

@@ -5,16 +5,14 @@ use Rattle.std.specs.List.{list_all}
 use Rattle.std.specs.Char.{is_ascii_digit}
 use Rattle.std.proofs.Math.Seq.{take-append_seam}
 use Rattle.std.proofs.lemmas.List.{take-append-drop, append-nil}
-use Rattle.std.proofs.lemmas.List.Folds.{list_all-append}
 use Rattle.std.proofs.lemmas.Slice.Eq.{bytes_eq-Decides}
 use Rattle.std.proofs.lemmas.Bool.Decides.{nat_tests}
 use Rattle.std.proofs.Common.{arith}
 use Rattle.std.proofs.lemmas.Bool.{not-true}
-use mathlib.Core.Bool.{and-true}
 use Rattle.life_base.specs.Text.{is_whitespace, is_blank, begins_with, trim, trim_start, trim_end, words_of, onto_first, is_digit_text}
 use Rattle.life_base.proofs.Numbers.{first, second}
-use Rattle.life_base.proofs.NamesRead.{solid, solid_trimmed}
-use Rattle.life_mc.specs.Grammar.{Begins, IsCommand, IsAround, Separates}
+use Rattle.life_base.proofs.NamesRead.{solid}
+use Rattle.life_mc.specs.Grammar.{Begins, IsCommand, Separates}
 use Rattle.life_mc.specs.Reading.{is_command, is_leaf_byte}
 use Rattle.life_base.proofs.WordEnds.{trimmed_words}
 
@@ -54,36 +52,6 @@ blank_front [] text h = refl
 blank_front (b ∷ before) text h =
     ap (λ v. cond v (trim_start (before ++ text)) (b ∷ (before ++ text))) (first (is_whitespace b) _ h) ∙ blank_front before text (second (is_whitespace b) _ h)
 
-blank_ends : (text : List ℕ) → is_blank text ≡ true → trim_end text ≡ []
-blank_ends [] h = refl
-blank_ends (b ∷ text) h = ap (λ v. cond v [] (b ∷ trim_end text)) h
-
-blank_back : (text behind : List ℕ) → is_blank behind ≡ true → trim_end (text ++ behind) ≡ trim_end text
-blank_back [] behind h = blank_ends behind h
-blank_back (b ∷ text) behind h =
-    let all : is_blank (text ++ behind) ≡ is_blank text = list_all-append is_whitespace text behind ∙ ap (λ v. is_blank text && v) h
-    ∙ and-true (is_blank text) in
-    ap (λ v. cond (is_whitespace b && v) [] (b ∷ trim_end (text ++ behind))) all
-    ∙ ap (λ (t : List ℕ). cond (is_blank (b ∷ text)) [] (b ∷ t)) (blank_back text behind h)
-
--- a text without whitespace, taken out of the whitespace around it
-pub around_trim : (line : List ℕ) (b : ℕ) (text : List ℕ) → list_all solid (b ∷ text) ≡ true → IsAround line (b ∷ text) → trim line ≡ b ∷ text
-around_trim line b text s a =
-    ap trim a.is ∙ ap trim_end (blank_front a.before ((b ∷ text) ++ a.behind) a.blank_before)
-    ∙ ap (λ v. trim_end (cond v (trim_start (text ++ a.behind)) (b ∷ (text ++ a.behind)))) (not-true (is_whitespace b) (first (solid b) _ s))
-    ∙ blank_back (b ∷ text) a.behind a.blank_behind
-    ∙ ap (λ v. trim_end (cond v (trim_start text) (b ∷ text))) (sym (not-true (is_whitespace b) (first (solid b) _ s)))
-    ∙ solid_trimmed (b ∷ text) s
-
-start_split : (text : List ℕ) → (before : List ℕ) × (text ≡ before ++ trim_start text) × (is_blank before ≡ true)
-start_split [] = ([], refl, refl)
-start_split (b ∷ text) = by (is_whitespace b) refl (start_split text)
-  where
-    by : (v : Bool) → is_whitespace b ≡ v → (before : List ℕ) × (text ≡ before ++ trim_start text) × (is_blank before ≡ true)
-        → (before : List ℕ) × (b ∷ text ≡ before ++ cond v (trim_start text) (b ∷ text)) × (is_blank before ≡ true)
-    by true e s = (b ∷ s.0, ap (λ (t : List ℕ). b ∷ t) s.1, ap (λ v. v && is_blank s.0) e ∙ s.2)
-    by false e s = ([], refl, refl)
-
 end_split : (text : List ℕ) → (behind : List ℕ) × (text ≡ trim_end text ++ behind) × (is_blank behind ≡ true)
 end_split [] = ([], refl, refl)
 end_split (b ∷ text) = by (is_blank (b ∷ text)) refl (end_split text)
@@ -92,12 +60,6 @@ end_split (b ∷ text) = by (is_blank (b ∷ text)) refl (end_split text)
         → (behind : List ℕ) × (b ∷ text ≡ cond v [] (b ∷ trim_end text) ++ behind) × (is_blank behind ≡ true)
     by true e s = (b ∷ text, refl, e)
     by false e s = (s.0, ap (λ (t : List ℕ). b ∷ t) s.1, s.2)
-
-pub trimmed_around : (line : List ℕ) → IsAround line (trim line)
-trimmed_around line =
-    let s = start_split line in
-    let e = end_split (trim_start line) in
-    record { before = s.0; behind = e.0; is = s.1 ∙ ap (λ (t : List ℕ). s.0 ++ t) e.1; blank_before = s.2; blank_behind = e.2 }
 
 pub blank_trimmed : (line : List ℕ) → is_blank line ≡ true → trim line ≡ []
 blank_trimmed line h = ap trim (sym (append-nil line)) ∙ ap trim_end (blank_front line [] h)

@@ -2,21 +2,22 @@
 use Rattle.std.proofs.Common.{◌≡◌, ℕ, ◌-◌, ◌^◌, ◌<◌, List, [], ◌∷◌, ◌++◌, length, drop, map, Bool, true, false, cond, not, ◌&&◌, ◌||◌, refl, ap, sym, ◌∙◌, arith, ◌⊎◌, inl, inr}
 use Rattle.std.specs.Prelude.{codes, nat_le, nat_lt, slice_index, Option, Some, None, Result, Ok, Err}
 use Rattle.std.specs.List.{list_all}
-use Rattle.std.specs.Result.{result_ok}
+use Rattle.std.specs.Result.{result_ok, result_err}
 use Rattle.std.proofs.lemmas.Bool.{leb-true, le-leb}
 use mathlib.Core.Bool.{and-false}
-use Rattle.life_base.specs.Text.{is_blank, begins_with, trim, words_of, is_digit_text, value_of}
+use Rattle.life_base.proofs.RuleForms.{around_trim, trimmed_around}
+use Rattle.life_base.specs.Text.{is_blank, begins_with, trim, words_of, is_digit_text, value_of, IsAround}
 use Rattle.life_base.specs.Numbers.{u64_of}
 use Rattle.life_base.specs.Rules.{rule_of}
 use Rattle.life_base.specs.declared.kind.Kind.{Kind}
 use Rattle.life_base.specs.declared.kind.Kind.TheVariants.{BadNumber, TooLarge, Timeline, LateHeader, BadLeaf}
 use Rattle.life_base.specs.declared.rule.Rule.{Rule}
 use Rattle.life_mc.specs.Macrocell.{level_of}
-use Rattle.life_mc.specs.Grammar.{IsCommand, IsAround, IsComment, IsGenerationLine, IsLeafLine, IsQuarterLine, IsNodeLine, Form, blank_line, comment_line, rule_line, generation_line, node_line, HasForm, form_rule, form_generation, form_square, is_no_command}
-use Rattle.life_mc.specs.Reading.{broken_behind, broken_by_node, broken_by_square, fault_in, is_command, is_leaf_byte, is_leaf, leaf_bytes, quad_of, square_of, square_on, rule_on, generation_on, squares_of, rule_in_force}
+use Rattle.life_mc.specs.Grammar.{IsCommand, IsComment, IsGenerationLine, IsLeafLine, IsQuarterLine, IsNodeLine, Form, blank_line, comment_line, rule_line, generation_line, node_line, HasForm, form_rule, form_generation, form_square, is_no_command}
+use Rattle.life_mc.specs.Reading.{broken_behind, broken_by_node, broken_by_square, is_command, is_leaf_byte, is_leaf, leaf_bytes, quad_of, square_of, square_on, rule_on, generation_on, squares_of, rule_in_force}
 use Rattle.life_mc.specs.declared.line.Line.{Line}
 use Rattle.life_mc.specs.declared.line.Line.TheVariants.{Leaf, Quad}
-use Rattle.life_mc.proofs.Around.{begins, begun, commands, commanded, behind_command, around_trim, trimmed_around, blank_trimmed, words_trimmed, separated_words, words_separate, numbers_first, blank_no_words, hash_no_numbers, hash_trimmed, digits_solid}
+use Rattle.life_mc.proofs.Around.{begins, begun, commands, commanded, behind_command, blank_trimmed, words_trimmed, separated_words, words_separate, numbers_first, blank_no_words, hash_no_numbers, hash_trimmed, digits_solid}
 use Rattle.life_mc.proofs.LeafLines.{leaf_says, is_leaf_line}
 use Rattle.life_mc.proofs.Valid.{command_is_hash, hash_not_blank, no_command}
 
@@ -153,7 +154,7 @@ number_read line generation h = ap trim (behind_command 71 h.rest line h.is) ∙
   where
     by : (digits : List ℕ) → is_digit_text digits ≡ true → IsAround h.rest digits → trim h.rest ≡ digits
     by [] n a = cc
-    by (d ∷ digits) n a = around_trim h.rest d digits (digits_solid (d ∷ digits) n) a
+    by (d ∷ digits) n a = around_trim h.rest (d ∷ digits) a (omega arith) (digits_solid (d ∷ digits) n)
 
 pub gives : (line : List ℕ) (form : Form) → HasForm line form → Gives line form
 gives line blank_line h =
@@ -209,20 +210,20 @@ by_tests line b f r g h l x y z t =
     ∙ ap (λ v. chain b f r v l (begins_with line (codes "#")) x y z) t.is_generation
     ∙ ap (λ v. chain b f r g l v x y z) t.is_hash
 
-number_fits : (text : List ℕ) → is_digit_text text ≡ true → value_of text < 2 ^ 64 → fault_in (u64_of text) ≡ None
+number_fits : (text : List ℕ) → is_digit_text text ≡ true → value_of text < 2 ^ 64 → result_err (u64_of text) ≡ None
 number_fits text d l =
-    ap (λ v. fault_in (cond (not v) (Err BadNumber) (cond (nat_le (value_of text) (2 ^ 64 - 1)) (Ok (value_of text)) (Err TooLarge)))) d
-    ∙ ap (λ v. fault_in (cond v (Ok (value_of text)) (Err TooLarge))) (le-leb (value_of text) (2 ^ 64 - 1) (omega arith))
+    ap (λ v. result_err (cond (not v) (Err BadNumber) (cond (nat_le (value_of text) (2 ^ 64 - 1)) (Ok (value_of text)) (Err TooLarge)))) d
+    ∙ ap (λ v. result_err (cond v (Ok (value_of text)) (Err TooLarge))) (le-leb (value_of text) (2 ^ 64 - 1) (omega arith))
 
 module _ (top : ℕ) (before : List (List ℕ)) (line : List ℕ) where
   abbrev late : Bool
-  late = nat_lt 0 (length (squares_of before))
+  late = nat_lt 0 (length (map level_of (squares_of before)))
 
   abbrev by_rule : Option Kind
-  by_rule = fault_in (rule_of (drop 2 line))
+  by_rule = result_err (rule_of (drop 2 line))
 
   abbrev by_generation : Option Kind
-  by_generation = fault_in (u64_of (trim (drop 2 line)))
+  by_generation = result_err (u64_of (trim (drop 2 line)))
 
   abbrev by_node : Option Kind
   by_node = broken_by_node top (rule_in_force before) (map level_of (squares_of before)) (trim line)
@@ -234,12 +235,12 @@ module _ (top : ℕ) (before : List (List ℕ)) (line : List ℕ) where
   parsed_stands comment_line h n k = by_tests line false false false false true late by_rule by_generation by_node (comment_tests line h)
   parsed_stands (rule_line rule) h n k =
       by_tests line false false true false true late by_rule by_generation by_node (rule_tests line h.text h.is)
-      ∙ ap (λ (xs : List Line). cond (nat_lt 0 (length xs)) (Some LateHeader) by_rule) (k refl)
-      ∙ ap (λ s. fault_in (rule_of s)) (behind_command 82 h.text line h.is) ∙ ap fault_in h.says
+      ∙ ap (λ (xs : List Line). cond (nat_lt 0 (length (map level_of xs))) (Some LateHeader) by_rule) (k refl)
+      ∙ ap (λ s. result_err (rule_of s)) (behind_command 82 h.text line h.is) ∙ ap result_err h.says
   parsed_stands (generation_line generation) h n k =
       by_tests line false false false true true late by_rule by_generation by_node (generation_tests line h.rest h.is)
-      ∙ ap (λ (xs : List Line). cond (nat_lt 0 (length xs)) (Some LateHeader) by_generation) (k refl)
-      ∙ ap (λ s. fault_in (u64_of s)) (number_read line generation h)
+      ∙ ap (λ (xs : List Line). cond (nat_lt 0 (length (map level_of xs))) (Some LateHeader) by_generation) (k refl)
+      ∙ ap (λ s. result_err (u64_of s)) (number_read line generation h)
       ∙ number_fits h.digits h.number (let e = h.value in let f = h.fits in omega arith)
   parsed_stands (node_line square) h n k = cc
 
@@ -261,11 +262,11 @@ split false a b h = inr (refl, h)
 some_none : (kind : Kind) → Some kind ≡ None → ⊥
 some_none kind h = cc
 
-ok_of : {X : Type 0} (r : Result X Kind) → fault_in r ≡ None → (x : X) × (r ≡ Ok x)
+ok_of : {X : Type 0} (r : Result X Kind) → result_err r ≡ None → (x : X) × (r ≡ Ok x)
 ok_of (Ok x) h = (x, refl)
 ok_of (Err kind) h = cc
 
-both_pass : (v w : Bool) (n : ℕ) → fault_in (let r : Result ℕ Kind = cond (not v) (Err BadNumber) (cond w (Ok n) (Err TooLarge)) in r) ≡ None → (v ≡ true)
+both_pass : (v w : Bool) (n : ℕ) → result_err (let r : Result ℕ Kind = cond (not v) (Err BadNumber) (cond w (Ok n) (Err TooLarge)) in r) ≡ None → (v ≡ true)
     × (w ≡ true)
 both_pass true true n h = (refl, refl)
 both_pass true false n h = cc
@@ -334,7 +335,7 @@ not_late false fault h = refl
 -- a line that tells a rule or a generation and breaks no rule stands in front of all squares
 pub command_first : (top : ℕ) (before : List (List ℕ)) (line : List ℕ) (form : Form) → HasForm line form → is_no_command form ≡ false
     → broken_behind top before line ≡ None
-    → nat_lt 0 (length (squares_of before)) ≡ false
+    → nat_lt 0 (length (map level_of (squares_of before))) ≡ false
 command_first top before line blank_line h n e = cc
 command_first top before line comment_line h n e = cc
 command_first top before line (node_line square) h n e = cc
@@ -350,11 +351,11 @@ form_on top before line h = elim (split (is_blank line) None _ h) [
   | inl p ↦ (blank_line, p.0)
   | inr p ↦ elim (split (begins_with line (codes "#FRAME")) (Some Timeline) _ p.1) [
     | inl q ↦ absurd (some_none Timeline q.1)
-    | inr q ↦ elim (split ((is_command 82 line || is_command 71 line) && nat_lt 0 (length (squares_of before))) (Some LateHeader) _ q.1) [
+    | inr q ↦ elim (split ((is_command 82 line || is_command 71 line) && nat_lt 0 (length (map level_of (squares_of before)))) (Some LateHeader) _ q.1) [
       | inl r ↦ absurd (some_none LateHeader r.1)
-      | inr r ↦ elim (split (is_command 82 line) (fault_in (rule_of (drop 2 line))) _ r.1) [
+      | inr r ↦ elim (split (is_command 82 line) (result_err (rule_of (drop 2 line))) _ r.1) [
         | inl s ↦ (let ok = ok_of (rule_of (drop 2 line)) s.1 in (rule_line ok.0, record { text = drop 2 line; is = commands 82 line s.0; says = ok.1 }))
-        | inr s ↦ elim (split (is_command 71 line) (fault_in (u64_of (trim (drop 2 line)))) _ s.1) [
+        | inr s ↦ elim (split (is_command 71 line) (result_err (u64_of (trim (drop 2 line)))) _ s.1) [
           | inl t ↦ (let text : List ℕ = trim (drop 2 line) in
               let ok = both_pass (is_digit_text text) (nat_le (value_of text) (2 ^ 64 - 1)) (value_of text) t.1 in
               let low = leb-true (value_of text) (2 ^ 64 - 1) ok.1 in (

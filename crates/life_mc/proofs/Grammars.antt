@@ -5,7 +5,7 @@ use Rattle.std.specs.List.{list_all, AllZip, slice_get}
 use Rattle.std.proofs.Math.Seq.{take-append_seam}
 use Rattle.std.proofs.lemmas.Bool.{le-leb, ltb-false}
 use Rattle.std.proofs.lemmas.Bool.Decides.{nat_tests}
-use Rattle.std.proofs.lemmas.List.{append-nil}
+use Rattle.std.proofs.lemmas.List.{append-nil, length-map}
 use Rattle.life_base.specs.Text.{begins_with, is_too_long}
 use Rattle.life_base.specs.Rules.{default_rule}
 use Rattle.life_base.specs.declared.kind.Kind.{Kind}
@@ -15,7 +15,7 @@ use Rattle.life_base.proofs.Numbers.{second}
 use Rattle.life_mc.specs.Macrocell.{Macrocell, AreSquares, IsSquare, level_of, is_quarter}
 use Rattle.life_mc.specs.Grammar.{IsFile, Form, blank_line, comment_line, rule_line, generation_line, node_line, HasForm, form_rule, form_generation, form_square, is_no_command, are_in_order, GrammarsAgree}
 use Rattle.life_mc.specs.Reading.{AreMacrocell, broken, broken_behind, broken_by_square, last_or, rule_in_force, squares_of, rule_on, generation_on, square_on}
-use Rattle.life_mc.specs.Standing.{or_value}
+use Rattle.std.specs.Option.{unwrap_or}
 use Rattle.life_mc.specs.declared.line.Line.{Line}
 use Rattle.life_mc.specs.declared.line.Line.TheVariants.{Leaf, Quad}
 use Rattle.life_mc.proofs.Around.{begins, begun}
@@ -156,7 +156,8 @@ module _ (top : ℕ) (header : List ℕ) where
       → 0 < length (squares before) → is_no_command form ≡ true
   no_late before line form h e l = elim (true_or_false (is_no_command form)) [
     | inl t ↦ t
-    | inr f ↦ (let k = ltb-false 0 (length (squares before)) (command_first top (header ∷ before) line form h f e) in absurd (omega arith))
+    | inr f ↦ (let k = ltb-false 0 (length (map level_of (squares before))) (command_first top (header ∷ before) line form h f e) in
+        absurd (omega (arith, length-map (squares before) level_of)))
   ]
 
   no_more : (lines : List (List ℕ)) (forms : List Form) (before : List (List ℕ)) → AllZip HasForm lines forms → Stand lines before → 0 < length (squares before)
@@ -201,7 +202,7 @@ module _ (top : ℕ) (header : List ℕ) where
     pub rule_is : file.rule ≡ last_or (rule_in_force (header ∷ before)) (filter_map form_rule forms)
     pub order : ((squares before ≡ []) × (are_in_order forms ≡ true)) ⊎ (list_all is_no_command forms ≡ true)
 
-  last_step : (x : Rule) (o : Option Rule) (ys : List Rule) → last_or x (option_list o ++ ys) ≡ last_or (or_value o x) ys
+  last_step : (x : Rule) (o : Option Rule) (ys : List Rule) → last_or x (option_list o ++ ys) ≡ last_or (unwrap_or o x) ys
   last_step x None ys = refl
   last_step x (Some y) ys = refl
 

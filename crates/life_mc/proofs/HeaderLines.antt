@@ -2,7 +2,7 @@
 use Rattle.std.proofs.Common.{◌≡◌, ℕ, suc, ◌+◌, ◌-◌, ◌^◌, ◌<◌, ◌≤◌, List, [], ◌∷◌, ◌++◌, length, Bool, true, false, cond, not, ◌&&◌, ◌||◌, refl, ap, sym, subst, ◌∙◌, arith, append_assoc, length-append, decimal}
 use Rattle.std.specs.Prelude.{nat_le, nat_lt, ◌==◌, map, filter, codes, Some, None, Ok, Err}
 use Rattle.std.specs.List.{list_all}
-use Rattle.std.specs.Result.{result_ok}
+use Rattle.std.specs.Result.{result_ok, result_err}
 use Rattle.std.proofs.lemmas.Bool.Decides.{nat_tests}
 use Rattle.std.proofs.lemmas.Bool.{ltb-false, le-leb}
 use Rattle.std.proofs.lemmas.List.Folds.{list_all-append}
@@ -19,8 +19,8 @@ use Rattle.life_base.specs.declared.rule.Near.{Near}
 use Rattle.life_base.specs.declared.rule.Near.TheVariants.{Moore, VonNeumann}
 use Rattle.life_base.specs.declared.rule.Rule.{Rule}
 use Rattle.life_base.specs.declared.rule.Rule.TheVariants.{Life, Named}
-use Rattle.life_mc.specs.Reading.{fault_in}
-use Rattle.life_mc.specs.Standing.{broken_after, IsParsed}
+use Rattle.life_mc.specs.Reading.{broken_after}
+use Rattle.life_mc.specs.Standing.{IsParsed}
 use Rattle.life_mc.specs.declared.line.Directive.TheVariants.{RuleLine, GenerationLine}
 use Rattle.life_mc.proofs.ReadBack.{has_no_feed}
 use Rattle.life_mc.proofs.LineTexts.{decimal_digits, decimal_value, decimal_short, digits_trimmed, digits_have_no_feed}
@@ -101,7 +101,7 @@ module _ (top : ℕ) (rule now : Rule) (h : IsRule rule) where
   rule_read = space_first (rule_text rule) ∙ rules_read_back rule h
 
   pub rule_stands : broken_after top now [] (rule_line rule) ≡ None
-  rule_stands = ap fault_in rule_read
+  rule_stands = ap result_err rule_read
 
   pub rule_parsed : IsParsed (rule_line rule) (RuleLine rule)
   rule_parsed = (ap result_ok rule_read, refl, refl)
@@ -122,11 +122,11 @@ module _ (top : ℕ) (now : Rule) (generation : ℕ) (h : generation < 2 ^ 64) w
   text_trimmed = digits_trimmed (decimal generation) digits
 
   pub generation_stands : broken_after top now [] (generation_line generation) ≡ None
-  generation_stands = ap (λ t. fault_in (u64_of t)) text_trimmed ∙ by (is_digit_text (decimal generation)) (nat_le (value_of (decimal generation)) (2 ^ 64 - 1))
+  generation_stands = ap (λ t. result_err (u64_of t)) text_trimmed ∙ by (is_digit_text (decimal generation)) (nat_le (value_of (decimal generation)) (2 ^ 64 - 1))
       digits
       (le-leb (value_of (decimal generation)) (2 ^ 64 - 1) (omega (arith, value)))
     where
-      by : (v w : Bool) → v ≡ true → w ≡ true → fault_in (cond (not v) (Err BadNumber) (cond w (Ok (value_of (decimal generation))) (Err TooLarge))) ≡ None
+      by : (v w : Bool) → v ≡ true → w ≡ true → result_err (cond (not v) (Err BadNumber) (cond w (Ok (value_of (decimal generation))) (Err TooLarge))) ≡ None
       by true true p q = refl
       by false w p q = cc
       by true false p q = cc

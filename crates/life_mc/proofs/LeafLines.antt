@@ -6,15 +6,15 @@ use Rattle.std.proofs.lemmas.Bool.Decides.{nat_tests}
 use Rattle.std.proofs.lemmas.Bool.{not-true}
 use Rattle.life_base.proofs.Numbers.{first, second}
 use Rattle.life_base.proofs.NamesRead.{solid, all_pass}
-use Rattle.life_base.specs.Text.{trim}
+use Rattle.life_base.proofs.RuleForms.{around_trim, trimmed_around}
+use Rattle.life_base.specs.Text.{trim, IsAround}
 use Rattle.life_mc.specs.Cells.{leaf_cell}
-use Rattle.life_mc.specs.Grammar.{IsAround, IsLeafLine, are_cells, state_in}
+use Rattle.life_mc.specs.Grammar.{IsLeafLine, state_in, is_row, is_cell}
 use Rattle.life_mc.specs.Reading.{is_leaf, is_leaf_byte, leaf_bytes, leaf_rows, row_byte, is_at_end}
-use Rattle.life_mc.specs.Standing.{is_cell, is_row, are_rows, row_bytes}
+use Rattle.life_mc.specs.Standing.{are_rows, row_bytes}
 use Rattle.life_mc.proofs.Leaves.{leaf_is, leaf_bytes_are, some_rows}
 use Rattle.life_mc.proofs.ReadBack.{row_ended}
 use Rattle.life_mc.proofs.Valid.{row_fits}
-use Rattle.life_mc.proofs.Around.{around_trim, trimmed_around}
 use Rattle.life_mc.proofs.TestFacts.{weigh, at_most_one}
 
 -- ---- rows, and the text that they make
@@ -25,7 +25,7 @@ ended row = row ++ codes "$"
 cell_no_dollar : (b : ℕ) → is_cell b ≡ true → not (b == 36) ≡ true
 cell_no_dollar b h = grind (arith, nat_tests)
 
-no_dollars : (row : List ℕ) → are_cells row ≡ true → list_all (λ b. not (b == 36)) row ≡ true
+no_dollars : (row : List ℕ) → is_row row ≡ true → list_all (λ b. not (b == 36)) row ≡ true
 no_dollars row h = all_pass is_cell (λ b. not (b == 36)) cell_no_dollar row (first (list_all is_cell row) _ h)
 
 one_row : (row : List ℕ) → list_all (λ b. not (b == 36)) row ≡ true → leaf_rows row ≡ row ∷ []
@@ -38,12 +38,12 @@ regroup : (row rest last : List ℕ) → (ended row ++ rest) ++ last ≡ row ++ 
 regroup row rest last = ap (λ (t : List ℕ). t ++ last) (append_assoc row (36 ∷ []) rest) ∙ append_assoc row (36 ∷ rest) last
 
 -- the rows of a text that rows make
-split_again : (rows : List (List ℕ)) (last : List ℕ) → list_all are_cells (rows ++ last ∷ []) ≡ true → leaf_rows (flat_map ended rows ++ last) ≡ rows
+split_again : (rows : List (List ℕ)) (last : List ℕ) → list_all is_row (rows ++ last ∷ []) ≡ true → leaf_rows (flat_map ended rows ++ last) ≡ rows
     ++ last ∷ []
-split_again [] last h = one_row last (no_dollars last (first (are_cells last) _ h))
+split_again [] last h = one_row last (no_dollars last (first (is_row last) _ h))
 split_again (row ∷ rows) last h =
-    ap leaf_rows (regroup row (flat_map ended rows) last) ∙ row_ended row (flat_map ended rows ++ last) (no_dollars row (first (are_cells row) _ h))
-    ∙ ap (λ (t : List (List ℕ)). row ∷ t) (split_again rows last (second (are_cells row) _ h))
+    ap leaf_rows (regroup row (flat_map ended rows) last) ∙ row_ended row (flat_map ended rows ++ last) (no_dollars row (first (is_row row) _ h))
+    ∙ ap (λ (t : List (List ℕ)). row ∷ t) (split_again rows last (second (is_row row) _ h))
 
 -- all but the last of some rows, and the last
 front_rows : List (List ℕ) → List (List ℕ)
@@ -100,17 +100,17 @@ no_rows_left : (n : ℕ) → are_rows n [] ≡ true
 no_rows_left zero = refl
 no_rows_left (suc n) = refl
 
-rows_may : (n : ℕ) (rows : List (List ℕ)) (last : List ℕ) → list_all are_cells (rows ++ last ∷ []) ≡ true → length rows ≤ n → (length rows ≡ n → last ≡ [])
+rows_may : (n : ℕ) (rows : List (List ℕ)) (last : List ℕ) → list_all is_row (rows ++ last ∷ []) ≡ true → length rows ≤ n → (length rows ≡ n → last ≡ [])
     → are_rows n (rows ++ last ∷ []) ≡ true
 rows_may zero [] last h l e = ap (λ (t : List ℕ). is_at_end (t ∷ [])) (e refl)
 rows_may zero (row ∷ rows) last h l e = absurd (omega arith)
-rows_may (suc n) [] last h l e = ap (λ v. v && are_rows n []) (first (are_cells last) _ h) ∙ no_rows_left n
+rows_may (suc n) [] last h l e = ap (λ v. v && are_rows n []) (first (is_row last) _ h) ∙ no_rows_left n
 rows_may (suc n) (row ∷ rows) last h l e =
-    ap (λ v. v && are_rows n (rows ++ last ∷ [])) (first (are_cells row) _ h) ∙ rows_may n rows last (second (are_cells row) _ h) (omega arith)
+    ap (λ v. v && are_rows n (rows ++ last ∷ [])) (first (is_row row) _ h) ∙ rows_may n rows last (second (is_row row) _ h) (omega arith)
     (λ k. e (ap suc k))
 
 record Rows (n : ℕ) (rows : List (List ℕ)) (last : List ℕ) : Type 0 where
-  cells : list_all are_cells (rows ++ last ∷ []) ≡ true
+  cells : list_all is_row (rows ++ last ∷ []) ≡ true
   at_most : length rows ≤ n
   full : length rows ≡ n → last ≡ []
 
@@ -132,7 +132,7 @@ rows_are (suc n) [] last h = record {
 rows_are (suc n) (row ∷ rows) last h =
     let r = rows_are n rows last (second (is_row row) _ h) in
     record {
-      cells = ap (λ v. v && list_all are_cells (rows ++ last ∷ [])) (first (is_row row) _ h) ∙ r.cells;
+      cells = ap (λ v. v && list_all is_row (rows ++ last ∷ [])) (first (is_row row) _ h) ∙ r.cells;
       at_most = omega (arith, r.at_most);
       full = λ e. r.full (omega arith);
     }
@@ -264,10 +264,6 @@ first_leaf_byte : (text : List ℕ) → 0 < length text → is_leaf text ≡ tru
 first_leaf_byte [] l h = absurd (omega arith)
 first_leaf_byte (b ∷ text) l h = first (is_leaf_byte b) _ (leaf_alone (b ∷ text) h)
 
-around_text : (line text : List ℕ) → 0 < length text → list_all solid text ≡ true → IsAround line text → trim line ≡ text
-around_text line [] l s a = absurd (omega arith)
-around_text line (b ∷ text) l s a = around_trim line b text s a
-
 -- what a leaf line says
 pub record SaysLeaf (line bytes : List ℕ) : Type 0 where
   pub begins : is_leaf_byte (slice_index (trim line) 0) ≡ true
@@ -280,7 +276,7 @@ leaf_says line bytes h =
     let rows : leaf_rows text ≡ h.rows ++ h.last ∷ [] = split_again h.rows h.last h.cells in
     let leaf : is_leaf text ≡ true = leaf_is text ∙ ap (are_rows 8) rows ∙ rows_may 8 h.rows h.last h.cells h.at_most h.full in
     let long : 0 < length text = some_text h.rows h.last h.some in
-    let same : trim line ≡ text = around_text line text long (all_solid text leaf) h.is in
+    let same : trim line ≡ text = around_trim line text h.is long (all_solid text leaf) in
     let bytes_of : bytes ≡ leaf_bytes text =
     bytes_are 8 bytes (h.rows ++ h.last ∷ []) h.eight h.fit (λ y k x l. h.states x y l k) ∙ ap (row_bytes 8) (sym rows) ∙ sym (leaf_bytes_are text) in
     record {

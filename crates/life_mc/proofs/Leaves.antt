@@ -6,7 +6,8 @@ use Rattle.std.proofs.lemmas.Bool.{lt-leb}
 use mathlib.Core.Bool.{and-false}
 use Rattle.life_base.specs.Text.{is_empty, onto_first}
 use Rattle.life_mc.specs.Reading.{is_leaf, is_leaf_byte, leaf_rows, leaf_bytes, row_byte, is_at_end}
-use Rattle.life_mc.specs.Standing.{first_row, is_cell, is_row, are_rows, row_bytes}
+use Rattle.life_mc.specs.Grammar.{is_cell, is_row}
+use Rattle.life_mc.specs.Standing.{first_row, are_rows, row_bytes}
 
 and_assoc : (a b c : Bool) → ((a && b) && c) ≡ (a && (b && c))
 and_assoc true b c = refl

@@ -15,7 +15,8 @@ use Rattle.life_base.proofs.LineKinds.{names_line as kinds_name_lines}
 use Rattle.life_base.proofs.RuleKinds.{errs_by, errs_by_cases, rule_errs}
 use Rattle.life_mc.specs.Laws.{LongLinesBreak, RefusalsHaveKinds}
 use Rattle.life_mc.specs.Macrocell.{is_quarter, level_of}
-use Rattle.life_mc.specs.Reading.{broken, broken_behind, broken_by_node, broken_by_square, fault_in, is_command, is_leaf_byte, is_leaf, square_of, squares_of, rule_in_force, missing, is_macrocell_kind}
+use Rattle.std.specs.Result.{result_err}
+use Rattle.life_mc.specs.Reading.{broken, broken_behind, broken_by_node, broken_by_square, is_command, is_leaf_byte, is_leaf, square_of, squares_of, rule_in_force, missing, is_macrocell_kind}
 use Rattle.life_mc.specs.declared.line.Line.{Line}
 use Rattle.life_mc.specs.declared.line.Line.TheVariants.{Leaf, Quad}
 use Rattle.life_mc.proofs.Stands.{breaks_length}
@@ -86,11 +87,11 @@ wider kinds.ReadFault h = cc
 wider kinds.WriteFault h = cc
 wider kinds.InputTooLong h = cc
 
-in_rule : (r : Result Rule Kind) → errs_by is_rule_kind r ≡ true → short_kind_in (fault_in r) ≡ true
+in_rule : (r : Result Rule Kind) → errs_by is_rule_kind r ≡ true → short_kind_in (result_err r) ≡ true
 in_rule (Ok rule) h = refl
 in_rule (Err kind) h = wider kind h
 
-in_number : (r : Result ℕ Kind) → errs_by is_short_kind r ≡ true → short_kind_in (fault_in r) ≡ true
+in_number : (r : Result ℕ Kind) → errs_by is_short_kind r ≡ true → short_kind_in (result_err r) ≡ true
 in_number (Ok n) h = refl
 in_number (Err kind) h = h
 
@@ -118,15 +119,15 @@ behind : (top : ℕ) (front : List (List ℕ)) (line : List ℕ) → short_kind_
 behind top front line =
     let node : Option Kind = broken_by_node top (rule_in_force front) (map level_of (squares_of front)) (trim line) in
     let hash : Option Kind = cond (begins_with line (codes "#")) None node in
-    let number : Option Kind = cond (is_command 71 line) (fault_in (u64_of (trim (drop 2 line)))) hash in
-    let rule : Option Kind = cond (is_command 82 line) (fault_in (rule_of (drop 2 line))) number in
-    let late : Option Kind = cond ((is_command 82 line || is_command 71 line) && nat_lt 0 (length (squares_of front))) (Some kinds.LateHeader) rule in
+    let number : Option Kind = cond (is_command 71 line) (result_err (u64_of (trim (drop 2 line)))) hash in
+    let rule : Option Kind = cond (is_command 82 line) (result_err (rule_of (drop 2 line))) number in
+    let late : Option Kind = cond ((is_command 82 line || is_command 71 line) && nat_lt 0 (length (map level_of (squares_of front)))) (Some kinds.LateHeader) rule in
     let frame : Option Kind = cond (begins_with line (codes "#FRAME")) (Some kinds.Timeline) late in
     cases (is_blank line) None frame refl
     (cases (begins_with line (codes "#FRAME")) (Some kinds.Timeline) late refl
-    (cases ((is_command 82 line || is_command 71 line) && nat_lt 0 (length (squares_of front))) (Some kinds.LateHeader) rule refl
-    (cases (is_command 82 line) (fault_in (rule_of (drop 2 line))) number (in_rule (rule_of (drop 2 line)) (rule_errs (drop 2 line)))
-    (cases (is_command 71 line) (fault_in (u64_of (trim (drop 2 line)))) hash (in_number (u64_of (trim (drop 2 line))) (number_errs (trim (drop 2 line))))
+    (cases ((is_command 82 line || is_command 71 line) && nat_lt 0 (length (map level_of (squares_of front)))) (Some kinds.LateHeader) rule refl
+    (cases (is_command 82 line) (result_err (rule_of (drop 2 line))) number (in_rule (rule_of (drop 2 line)) (rule_errs (drop 2 line)))
+    (cases (is_command 71 line) (result_err (u64_of (trim (drop 2 line)))) hash (in_number (u64_of (trim (drop 2 line))) (number_errs (trim (drop 2 line))))
     (cases (begins_with line (codes "#")) None node refl (in_node top (rule_in_force front) (map level_of (squares_of front)) (trim line)))))))
 
 -- the rule that a line breaks which isn't too long

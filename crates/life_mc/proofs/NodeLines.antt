@@ -13,7 +13,8 @@ use Rattle.life_base.specs.declared.kind.Kind.TheVariants.{BadLeaf, LateHeader, 
 use Rattle.life_base.specs.declared.rule.Rule.{Rule}
 use Rattle.life_mc.specs.Macrocell.{level_of}
 use Rattle.life_mc.specs.Accepted.{NodeLinesCounted}
-use Rattle.life_mc.specs.Reading.{broken, broken_behind, broken_by_node, broken_by_square, fault_in, is_command, is_leaf, is_leaf_byte, is_node_line, rule_in_force, square_of, square_on, squares_of}
+use Rattle.std.specs.Result.{result_err}
+use Rattle.life_mc.specs.Reading.{broken, broken_behind, broken_by_node, broken_by_square, is_command, is_leaf, is_leaf_byte, is_node_line, rule_in_force, square_of, square_on, squares_of}
 use Rattle.life_mc.specs.declared.line.Line.{Line}
 use Rattle.life_mc.proofs.TextBack.{no_mark}
 
@@ -43,12 +44,12 @@ module _ (top : ℕ) (header : List ℕ) (front : List (List ℕ)) (line : List 
   judged : broken_behind top before line ≡ broken_by_node top (rule_in_force before) (map level_of (squares_of before)) (trim line)
   judged =
       let m = no_mark line hash blank in
-      cascade (is_blank line) (begins_with line (codes "#FRAME")) (is_command 82 line) (is_command 71 line) (nat_lt 0 (length (squares_of before)))
+      cascade (is_blank line) (begins_with line (codes "#FRAME")) (is_command 82 line) (is_command 71 line) (nat_lt 0 (length (map level_of (squares_of before))))
       (begins_with line (codes "#")) blank m.0 m.1 m.2 hash
     where
       cascade : (b f r g l m : Bool) → b ≡ false → f ≡ false → r ≡ false → g ≡ false → m ≡ false
           → cond b None (cond f (Some Timeline)
-          (cond ((r || g) && l) (Some LateHeader) (cond r (fault_in (rule_of (drop 2 line))) (cond g (fault_in (u64_of (trim (drop 2 line))))
+          (cond ((r || g) && l) (Some LateHeader) (cond r (result_err (rule_of (drop 2 line))) (cond g (result_err (u64_of (trim (drop 2 line))))
           (cond m None (broken_by_node top (rule_in_force before) (map level_of (squares_of before)) (trim line)))))))
           ≡ broken_by_node top (rule_in_force before) (map level_of (squares_of before)) (trim line)
       cascade b f r g l m p q s u w = rw (p, q, s, u, w) refl

@@ -12,7 +12,7 @@ use Rattle.life_base.specs.declared.rule.Rule.{Rule}
 use Rattle.life_base.specs.declared.rule.Rule.TheVariants.{Life, Named}
 use Rattle.life_mc.specs.Macrocell.{is_quarter, is_child, is_level, numbered, largest_state}
 use Rattle.life_mc.specs.Reading.{broken_by_square, broken_by_node, square_of, quad_of, is_leaf_byte, is_leaf, leaf_bytes}
-use Rattle.life_base.specs.Digits.{capped}
+use Rattle.life_base.specs.Numbers.{capped}
 use Rattle.life_mc.specs.Standing.{quad_words}
 use Rattle.life_mc.specs.declared.line.Line.{Line}
 use Rattle.life_mc.specs.declared.line.Line.TheVariants.{Leaf, Quad}

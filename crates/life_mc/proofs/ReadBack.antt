@@ -8,7 +8,8 @@ use Rattle.life_base.proofs.Numbers.{first, second}
 use Rattle.life_base.specs.Text.{lines_of, onto_first, without_last, words_of, is_whitespace}
 use Rattle.life_mc.specs.Reading.{row_byte, leaf_rows, is_leaf, leaf_bytes}
 use Rattle.life_mc.specs.Writing.{row_cells, row_text}
-use Rattle.life_mc.specs.Standing.{is_cell, is_row, are_rows, row_bytes}
+use Rattle.life_mc.specs.Grammar.{is_cell, is_row}
+use Rattle.life_mc.specs.Standing.{are_rows, row_bytes}
 use Rattle.life_mc.proofs.Leaves.{leaf_is, leaf_bytes_are}
 use Rattle.life_base.proofs.NamesRead.{all_pass, solid}
 use Rattle.life_base.proofs.RoundTrip.{all_below, all_below_at}

@@ -1,23 +1,24 @@
 -- What a reader keeps, line after line.
-use Rattle.std.proofs.Common.{◌≡◌, ℕ, ◌+◌, ◌-◌, ◌^◌, ◌<◌, ◌≤◌, List, [], ◌∷◌, ◌++◌, length, take, drop, get_or, map, Bool, true, false, cond, not, ◌&&◌, ◌||◌, refl, ap, sym, subst, ◌∙◌, arith, length-append, ◌⊎◌, inl, inr}
+use Rattle.std.proofs.Common.{◌≡◌, ℕ, ◌+◌, ◌-◌, ◌^◌, ◌<◌, ◌≤◌, List, [], ◌∷◌, ◌++◌, length, take, drop, get_or, map, Bool, true, false, cond, not, ◌&&◌, refl, ap, sym, subst, ◌∙◌, arith, length-append, ◌⊎◌, inl, inr}
 use Rattle.std.specs.Prelude.{Option, Some, None, codes, nat_lt, nat_le, Result, Ok, Err, MatchResult, filter_map, IfOk, OnOk, ◌==◌}
-use Rattle.std.specs.Result.{result_ok}
+use Rattle.std.specs.Result.{result_ok, result_err}
 use Rattle.std.specs.List.{slice_index_or}
 use Rattle.std.proofs.lemmas.Bool.Decides.{nat_tests}
 use Rattle.std.proofs.Math.Seq.{take-append_seam, get_or-append_seam}
 use Rattle.std.proofs.Math.ListN.{get_or-append}
-use Rattle.std.proofs.lemmas.List.{take-append-le, map-append, append-nil, length-map}
+use Rattle.std.proofs.lemmas.List.{take-append-le, map-append, append-nil}
 use Rattle.std.proofs.lemmas.List.Elements.{filter_map-append}
 use Rattle.life_base.specs.Text.{is_empty, begins_with, is_too_long, trim, is_blank, is_digit_text, value_of}
 use Rattle.life_base.specs.Numbers.{u64_of}
 use Rattle.life_base.specs.Rules.{default_rule, rule_of}
 use Rattle.life_base.specs.declared.kind.Kind.{Kind}
-use Rattle.life_base.specs.declared.kind.Kind.TheVariants.{LineTooLong, NoHeader, LateHeader, BadNumber, TooLarge, Timeline}
+use Rattle.life_base.specs.declared.kind.Kind.TheVariants.{LineTooLong, NoHeader, BadNumber, TooLarge}
 use Rattle.life_base.specs.declared.rule.Rule.{Rule}
 use Rattle.life_mc.specs.Macrocell.{level_of}
-use Rattle.life_mc.specs.Reading.{broken, broken_behind, broken_by_node, fault_in, is_command, rule_in_force, generation_in_force, squares_of, square_behind, square_on, rule_on, generation_on, last_or, square_of}
+use Rattle.life_mc.specs.Reading.{broken, broken_behind, is_command, rule_in_force, generation_in_force, squares_of, square_behind, square_on, rule_on, generation_on, last_or, square_of, broken_after}
 use Rattle.life_mc.specs.Grammar.{form_rule, form_generation, form_square}
-use Rattle.life_mc.specs.Standing.{Standing, StandsAfter, broken_after, IsParsed, form_of, or_value, level_in}
+use Rattle.std.specs.Option.{unwrap_or}
+use Rattle.life_mc.specs.Standing.{Standing, StandsAfter, IsParsed, form_of, level_in}
 use Rattle.life_mc.specs.declared.line.Directive.{Directive}
 use Rattle.life_mc.specs.declared.line.Line.{Line}
 use Rattle.life_mc.proofs.Around.{commands}
@@ -29,17 +30,17 @@ use Rattle.life_mc.proofs.ReadLines.{squares_none, squares_some}
 abbrev by_tests : Bool → Bool → ℕ → Result ℕ Kind
 by_tests u v n = cond (not u) (Err BadNumber) (cond v (Ok n) (Err TooLarge))
 
-test_each : (u v : Bool) (n : ℕ) → MatchResult (by_tests u v n) (λ m. (m ≡ n) × (fault_in (by_tests u v n) ≡ None))
-    (λ kind. fault_in (by_tests u v n) ≡ Some kind)
+test_each : (u v : Bool) (n : ℕ) → MatchResult (by_tests u v n) (λ m. (m ≡ n) × (result_err (by_tests u v n) ≡ None))
+    (λ kind. result_err (by_tests u v n) ≡ Some kind)
 test_each false v n = refl
 test_each true true n = (refl, refl)
 test_each true false n = refl
 
 pub generation_read : (text : List ℕ) (r : Result ℕ Kind) → r ≡ u64_of text
-    → MatchResult r (λ n. (n ≡ value_of text) × (fault_in (u64_of text) ≡ None)) (λ kind. fault_in (u64_of text) ≡ Some kind)
+    → MatchResult r (λ n. (n ≡ value_of text) × (result_err (u64_of text) ≡ None)) (λ kind. result_err (u64_of text) ≡ Some kind)
 generation_read text r e =
-    let P : Result ℕ Kind → Type 0 = λ s. MatchResult s (λ n. (n ≡ value_of text) × (fault_in (u64_of text) ≡ None))
-    (λ kind. fault_in (u64_of text) ≡ Some kind) in
+    let P : Result ℕ Kind → Type 0 = λ s. MatchResult s (λ n. (n ≡ value_of text) × (result_err (u64_of text) ≡ None))
+    (λ kind. result_err (u64_of text) ≡ Some kind) in
     subst P (sym e) (test_each (is_digit_text text) (nat_le (value_of text) (2 ^ 64 - 1)) (value_of text))
 
 -- ---- which rule a line breaks
@@ -74,22 +75,6 @@ nothing : (lines : List (List ℕ)) → is_empty lines ≡ true → lines ≡ []
 nothing [] h = refl
 nothing (line ∷ lines) h = cc
 
-any_squares : (xs : List Line) → nat_lt 0 (length xs) ≡ nat_lt 0 (length (map level_of xs))
-any_squares xs = ap (λ n. nat_lt 0 n) (sym (length-map xs level_of))
-
-abbrev cascade : ℕ → Rule → List ℕ → List ℕ → Bool → Option Kind
-cascade top rule levels line some =
-    cond (is_blank line) None
-    (cond (begins_with line (codes "#FRAME")) (Some Timeline)
-    (cond ((is_command 82 line || is_command 71 line) && some) (Some LateHeader)
-    (cond (is_command 82 line) (fault_in (rule_of (drop 2 line)))
-    (cond (is_command 71 line) (fault_in (u64_of (trim (drop 2 line))))
-    (cond (begins_with line (codes "#")) None (broken_by_node top rule levels (trim line)))))))
-
-behind_is : (top : ℕ) (before : List (List ℕ)) (line : List ℕ) → broken_behind top before line ≡ broken_after top (rule_in_force before)
-    (map level_of (squares_of before)) line
-behind_is top before line = ap (cascade top (rule_in_force before) (map level_of (squares_of before)) line) (any_squares (squares_of before))
-
 module _ (top : ℕ) (lines : List (List ℕ)) (line : List ℕ) (old : Standing) (s : StandsAfter top lines old) (h : length line ≤ 2 ^ 20) where
   before_header : old.started ≡ false → lines ≡ []
   before_header f = nothing lines (not-not old.started (is_empty lines) s.started f)
@@ -111,7 +96,7 @@ module _ (top : ℕ) (lines : List (List ℕ)) (line : List ℕ) (old : Standing
   broken_is t =
       short top lines line h ∙ ap (λ v. cond v (cond (begins_with line (codes "[M2]")) None (Some NoHeader)) (broken_behind top lines line))
       (not-true old.started (is_empty lines) s.started t)
-      ∙ behind_is top lines line ∙ ap (λ r. broken_after top r (map level_of (squares_of lines)) line) (sym s.rule)
+      ∙ ap (λ r. broken_after top r (map level_of (squares_of lines)) line) (sym s.rule)
       ∙ ap (λ ls. broken_after top old.rule ls line) (sym s.levels)
 
 -- ---- one line more
@@ -137,7 +122,7 @@ last_of x y (z ∷ xs) = last_of z y xs
 
 -- the last of some values, with one more or none
 one_more : {X Y : Type 0} (f : Y → Option X) (x : X) (ys : List Y) (y : Y) (o : Option X) → f y ≡ o
-    → last_or x (filter_map f (ys ++ y ∷ [])) ≡ or_value o (last_or x (filter_map f ys))
+    → last_or x (filter_map f (ys ++ y ∷ [])) ≡ unwrap_or o (last_or x (filter_map f ys))
 one_more {X = X} f x ys y None h =
     ap (last_or x) (filter_map-append f ys (y ∷ []) ∙ ap (λ (t : List X). filter_map f ys ++ t) (none_on h) ∙ append-nil (filter_map f ys))
   where
@@ -150,12 +135,12 @@ one_more {X = X} f x ys y (Some z) h =
     one_on e = rw e refl
 
 pub rule_more : (lines : List (List ℕ)) (line : List ℕ) (o : Option Rule) → is_empty lines ≡ false → rule_on line ≡ o → rule_in_force (lines ++ line ∷ [])
-    ≡ or_value o (rule_in_force lines)
+    ≡ unwrap_or o (rule_in_force lines)
 rule_more [] line o h e = cc
 rule_more (header ∷ lines) line o h e = one_more rule_on default_rule lines line o e
 
 generation_more : (lines : List (List ℕ)) (line : List ℕ) (o : Option ℕ) → is_empty lines ≡ false → generation_on line ≡ o
-    → generation_in_force (lines ++ line ∷ []) ≡ or_value o (generation_in_force lines)
+    → generation_in_force (lines ++ line ∷ []) ≡ unwrap_or o (generation_in_force lines)
 generation_more [] line o h e = cc
 generation_more (header ∷ lines) line o h e = one_more generation_on 0 lines line o e
 
@@ -192,7 +177,7 @@ module _ (top : ℕ) (lines : List (List ℕ)) (line : List ℕ) (old new : Stan
   -- a line behind it
   pub stands_next : (directive : Directive) → let form = form_of directive in
       old.started ≡ true → broken_after top old.rule old.levels line ≡ None → IsParsed line directive
-      → new.started ≡ old.started → new.rule ≡ or_value (form_rule form) old.rule → new.generation ≡ or_value (form_generation form) old.generation
+      → new.started ≡ old.started → new.rule ≡ unwrap_or (form_rule form) old.rule → new.generation ≡ unwrap_or (form_generation form) old.generation
       → new.levels ≡ old.levels ++ level_in (form_square form) → (form_square form ≡ square_behind lines line) × StandsAfter top (lines ++ line ∷ []) new
   stands_next directive t b tells st r g l =
       let form = form_of directive in
@@ -202,8 +187,8 @@ module _ (top : ℕ) (lines : List (List ℕ)) (line : List ℕ) (old new : Stan
         record {
           unbroken = unbroken_more top lines line s.unbroken (broken_is top lines line old s h t ∙ b);
           started = st ∙ t ∙ some_lines lines line;
-          rule = r ∙ ap (or_value (form_rule form)) s.rule ∙ sym (rule_more lines line (form_rule form) some tells.0);
-          generation = g ∙ ap (or_value (form_generation form)) s.generation ∙ sym (generation_more lines line (form_generation form) some tells.1);
+          rule = r ∙ ap (unwrap_or (form_rule form)) s.rule ∙ sym (rule_more lines line (form_rule form) some tells.0);
+          generation = g ∙ ap (unwrap_or (form_generation form)) s.generation ∙ sym (generation_more lines line (form_generation form) some tells.1);
           levels = l ∙ ap (λ (ls : List ℕ). ls ++ level_in (form_square form)) s.levels ∙ sym (levels_more lines line (form_square form) here);
         },
       )
@@ -211,12 +196,12 @@ module _ (top : ℕ) (lines : List (List ℕ)) (line : List ℕ) (old new : Stan
 -- ---- a rule line or a generation line
 
 pub rule_breaks : (top : ℕ) (rule : Rule) (levels : List ℕ) (line : List ℕ) → is_blank line ≡ false → begins_with line (codes "#FRAME") ≡ false
-    → is_command 82 line ≡ true → nat_lt 0 (length levels) ≡ false → broken_after top rule levels line ≡ fault_in (rule_of (drop 2 line))
+    → is_command 82 line ≡ true → nat_lt 0 (length levels) ≡ false → broken_after top rule levels line ≡ result_err (rule_of (drop 2 line))
 rule_breaks top rule levels line b f r l = rw (b, f, r, l) refl
 
 pub generation_breaks : (top : ℕ) (rule : Rule) (levels : List ℕ) (line : List ℕ) → is_blank line ≡ false → begins_with line (codes "#FRAME") ≡ false
     → is_command 82 line ≡ false
-    → is_command 71 line ≡ true → nat_lt 0 (length levels) ≡ false → broken_after top rule levels line ≡ fault_in (u64_of (trim (drop 2 line)))
+    → is_command 71 line ≡ true → nat_lt 0 (length levels) ≡ false → broken_after top rule levels line ≡ result_err (u64_of (trim (drop 2 line)))
 generation_breaks top rule levels line b f r g l = rw (b, f, r, g, l) refl
 
 no_square : (line : List ℕ) → begins_with line (codes "#") ≡ true → square_on line ≡ None

@@ -2,7 +2,7 @@
 use Rattle.std.proofs.Common.{◌≡◌, ℕ, zero, suc, ◌-◌, ◌^◌, ◌<◌, ◌≤◌, List, [], ◌∷◌, ◌++◌, length, take, drop, Bool, true, false, cond, not, ◌&&◌, ◌||◌, refl, ap, sym, subst, ◌∙◌, arith, append_assoc, decimal}
 use Rattle.std.specs.Prelude.{nat_le, nat_lt, ◌==◌, map, flat_map, codes, bytes_eq, Some, None}
 use Rattle.std.specs.List.{list_all, slice_get}
-use Rattle.std.specs.Result.{result_ok}
+use Rattle.std.specs.Result.{result_ok, result_err}
 use Rattle.std.proofs.lemmas.Bool.Decides.{nat_tests}
 use Rattle.std.proofs.lemmas.Bool.{leb-true, le-leb}
 use Rattle.std.proofs.lemmas.List.{map-append, append-nil}
@@ -14,8 +14,8 @@ use Rattle.life_base.specs.Rules.{rule_of, rule_text, default_rule, IsRule}
 use Rattle.life_base.specs.declared.kind.Kind.TheVariants.{Timeline, LateHeader, BadLevel, BadChild, BadLeaf, StateRange}
 use Rattle.life_base.specs.declared.rule.Rule.{Rule}
 use Rattle.life_mc.specs.Macrocell.{Macrocell, AreSquares, IsSquare, IsValid, level_of, is_quarter, is_child, is_level, largest_state}
-use Rattle.life_mc.specs.Reading.{IsMacrocell, broken_by_node, broken_by_square, fault_in, is_command, squares_of, square_of}
-use Rattle.life_mc.specs.Standing.{Standing, StandsAfter, IsParsed, broken_after}
+use Rattle.life_mc.specs.Reading.{IsMacrocell, broken_by_node, broken_by_square, is_command, squares_of, square_of, broken_after}
+use Rattle.life_mc.specs.Standing.{Standing, StandsAfter, IsParsed}
 use Rattle.life_mc.specs.Writing.{mc_text, line_text, TextsReadBack}
 use Rattle.life_mc.specs.declared.line.Line.{Line}
 use Rattle.life_mc.specs.declared.line.Line.TheVariants.{Leaf, Quad}
@@ -111,8 +111,8 @@ module _ (top : ℕ) (rule : Rule) (levels : List ℕ) (line : Line) (text : Lis
       cascade : (b f r g l m : Bool) → b ≡ false → f ≡ false → r ≡ false → g ≡ false → m ≡ false
           → cond b None (cond f (Some Timeline)
           (cond ((r || g) && l) (Some LateHeader)
-          (cond r (fault_in (rule_of (drop 2 text)))
-          (cond g (fault_in (u64_of (trim (drop 2 text)))) (cond m None (broken_by_node top rule levels (trim text)))))))
+          (cond r (result_err (rule_of (drop 2 text)))
+          (cond g (result_err (u64_of (trim (drop 2 text)))) (cond m None (broken_by_node top rule levels (trim text)))))))
           ≡ broken_by_node top rule levels (trim text)
       cascade b f r g l m p q s u w = rw (p, q, s, u, w) refl
 

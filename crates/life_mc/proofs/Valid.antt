@@ -3,7 +3,7 @@ use Rattle.std.proofs.Common.{◌≡◌, ℕ, zero, suc, ◌<◌, ◌≤◌, Lis
 use Rattle.std.specs.Prelude.{codes, nat_le, nat_lt, ◌==◌, Option, Some, None, filter_map, slice_index, replicate}
 use Rattle.std.specs.List.{list_all, AllByRecursion, slice_get}
 use Rattle.std.proofs.lemmas.Bool.Decides.{nat_tests}
-use Rattle.std.specs.Result.{result_ok}
+use Rattle.std.specs.Result.{result_ok, result_err}
 use Rattle.std.proofs.Math.Seq.{take-length, take-append_seam}
 use Rattle.std.proofs.lemmas.List.{take_more, length-take-le, take-append-le}
 use Rattle.std.proofs.lemmas.List.Elements.{filter_map-append}
@@ -17,7 +17,7 @@ use Rattle.life_base.specs.declared.rule.Rule.{Rule}
 use Rattle.life_base.proofs.Numbers.{first, second}
 use Rattle.life_base.proofs.Refusals.{UnbrokenBelow}
 use Rattle.life_mc.specs.Macrocell.{AreSquares, IsSquare, level_of, is_quarter}
-use Rattle.life_mc.specs.Reading.{Accepts, broken, broken_behind, broken_by_node, broken_by_square, missing, squares_of, square_on, square_of, rule_in_force, rule_on, last_or, is_command, is_node_line, is_leaf_byte, is_leaf, leaf_bytes, leaf_rows, row_byte, fault_in, quad_of}
+use Rattle.life_mc.specs.Reading.{Accepts, broken, broken_behind, broken_by_node, broken_by_square, missing, squares_of, square_on, square_of, rule_in_force, rule_on, last_or, is_command, is_node_line, is_leaf_byte, is_leaf, leaf_bytes, leaf_rows, row_byte, quad_of}
 use Rattle.life_mc.specs.declared.line.Line.{Line}
 use Rattle.life_mc.specs.declared.line.Line.TheVariants.{Leaf, Quad}
 use Rattle.life_mc.proofs.ReadLines.{squares_none, squares_some}
@@ -75,9 +75,9 @@ module _ (top : ℕ) where
         let hash : begins_with line (codes "#") ≡ false = not-true _ (second (not (is_blank line)) _ n) in
         let s1 = not_taken (is_blank line) None _ blank e in
         let s2 = (passed (begins_with line (codes "#FRAME")) Timeline _ s1).1 in
-        let s3 = (passed ((is_command 82 line || is_command 71 line) && nat_lt 0 (length (squares_of before))) LateHeader _ s2).1 in
-        let s4 = not_taken (is_command 82 line) (fault_in (rule_of (drop 2 line))) _ (no_command 82 line hash) s3 in
-        let s5 = not_taken (is_command 71 line) (fault_in (u64_of (trim (drop 2 line)))) _ (no_command 71 line hash) s4 in
+        let s3 = (passed ((is_command 82 line || is_command 71 line) && nat_lt 0 (length (map level_of (squares_of before)))) LateHeader _ s2).1 in
+        let s4 = not_taken (is_command 82 line) (result_err (rule_of (drop 2 line))) _ (no_command 82 line hash) s3 in
+        let s5 = not_taken (is_command 71 line) (result_err (u64_of (trim (drop 2 line)))) _ (no_command 71 line hash) s4 in
         not_taken (begins_with line (codes "#")) None _ hash s5
 
     rule_stands : (line : List ℕ) → broken_behind top before line ≡ None → is_command 82 line ≡ true → squares_of before ≡ []
@@ -85,14 +85,14 @@ module _ (top : ℕ) where
         let hash = command_is_hash 82 line r in
         let s1 = not_taken (is_blank line) None _ (hash_not_blank line hash) e in
         let s2 = (passed (begins_with line (codes "#FRAME")) Timeline _ s1).1 in
-        let p : ((is_command 82 line || is_command 71 line) && nat_lt 0 (length (squares_of before))) ≡ false =
-        (passed ((is_command 82 line || is_command 71 line) && nat_lt 0 (length (squares_of before))) LateHeader _ s2).0 in
-        let q : nat_lt 0 (length (squares_of before)) ≡ false = ap (λ v. (v || is_command 71 line) && nat_lt 0 (length (squares_of before))) (sym r) ∙ p in
+        let p : ((is_command 82 line || is_command 71 line) && nat_lt 0 (length (map level_of (squares_of before)))) ≡ false =
+        (passed ((is_command 82 line || is_command 71 line) && nat_lt 0 (length (map level_of (squares_of before)))) LateHeader _ s2).0 in
+        let q : nat_lt 0 (length (map level_of (squares_of before))) ≡ false = ap (λ v. (v || is_command 71 line) && nat_lt 0 (length (map level_of (squares_of before)))) (sym r) ∙ p in
         none_there (squares_of before) q
       where
-        none_there : (xs : List Line) → nat_lt 0 (length xs) ≡ false → xs ≡ []
+        none_there : (xs : List Line) → nat_lt 0 (length (map level_of xs)) ≡ false → xs ≡ []
         none_there [] h = refl
-        none_there (x ∷ xs) h = let l : suc (length xs) ≤ 0 = ltb-false 0 (suc (length xs)) h in absurd (omega arith)
+        none_there (x ∷ xs) h = let l : suc (length (map level_of xs)) ≤ 0 = ltb-false 0 (suc (length (map level_of xs))) h in absurd (omega arith)
 
   -- ---- a square that breaks no rule is one
 

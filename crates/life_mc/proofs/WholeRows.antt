@@ -7,7 +7,8 @@ use Rattle.std.proofs.lemmas.Bool.Decides.{nat_tests}
 use Rattle.std.proofs.lemmas.Bool.{le-leb}
 use mathlib.Core.Bool.{and-false}
 use Rattle.life_mc.specs.Reading.{row_byte}
-use Rattle.life_mc.specs.Standing.{first_row, front_cells, is_cell, is_row}
+use Rattle.life_mc.specs.Grammar.{is_cell, is_row}
+use Rattle.life_mc.specs.Standing.{first_row, front_cells}
 use Rattle.life_mc.proofs.Leaves.{fits}
 use Rattle.life_mc.proofs.TestFacts.{weigh, at_most_one}
 

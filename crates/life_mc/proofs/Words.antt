@@ -8,9 +8,8 @@ use mathlib.Core.Bool.{and-true, and-false}
 use Rattle.life_base.proofs.FrontDigits.{digit_text_in_front}
 use Rattle.life_base.proofs.Numbers.{first}
 use Rattle.life_base.proofs.WordEnds.{ends, further, words_in}
-use Rattle.life_base.specs.Digits.{capped}
-use Rattle.life_base.specs.Text.{is_empty, is_blank, is_whitespace, trim_start, words_of, is_digit_text, value_of}
-use Rattle.life_base.specs.Words.{with_word}
+use Rattle.life_base.specs.Numbers.{capped}
+use Rattle.life_base.specs.Text.{is_empty, is_blank, is_whitespace, trim_start, words_of, is_digit_text, value_of, with_word}
 use Rattle.life_mc.specs.Standing.{begins_with_number, quad_words}
 use Rattle.life_mc.specs.Reading.{quad_of}
 use Rattle.life_mc.specs.declared.line.Line.{Line}

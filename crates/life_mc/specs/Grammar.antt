@@ -4,7 +4,7 @@
 use Rattle.std.specs.Prelude.{◌≡◌, ◌↔◌, ℕ, ◌+◌, ◌^◌, ◌<◌, ◌≤◌, Bool, true, false, ◌&&◌, ◌||◌, List, [], ◌∷◌, ◌++◌, length, take, map, flat_map, filter_map, nat_le, ◌==◌, if◌then◌else◌, slice_index, codes, Option, Some, None, Ok}
 use Rattle.std.specs.List.{list_all, AllByRecursion, AllZip, slice_index_or}
 use Rattle.std.specs.Str.{byte}
-use Rattle.life_base.specs.Text.{is_blank, is_digit_text, value_of}
+use Rattle.life_base.specs.Text.{is_blank, IsAround, is_digit_text, value_of}
 use Rattle.life_base.specs.Rules.{rule_of, default_rule}
 use Rattle.life_base.specs.declared.rule.Rule.{Rule}
 use Rattle.life_mc.specs.Macrocell.{Macrocell, AreSquares}
@@ -22,14 +22,6 @@ Begins text line = (rest : List ℕ) × (line ≡ text ++ rest)
 -- the line is this word and this rest, which begins with whitespace or is nothing
 abbrev pub IsCommand : List ℕ → List ℕ → List ℕ → Type 0
 IsCommand word rest line = (line ≡ word ++ rest) × (is_blank (take 1 rest) ≡ true)
-
--- the line is this text, with whitespace or nothing before and behind it
-pub record IsAround (line text : List ℕ) : Type 0 where
-  pub before : List ℕ
-  pub behind : List ℕ
-  pub is : line ≡ before ++ (text ++ behind)
-  pub blank_before : is_blank before ≡ true
-  pub blank_behind : is_blank behind ≡ true
 
 -- The line is these texts, with whitespace between each two of them and perhaps at its ends.
 abbrev pub Separates : List (List ℕ) → List ℕ → Type 0
@@ -62,9 +54,13 @@ pub record IsGenerationLine (line : List ℕ) (generation : ℕ) : Type 0 where
   pub value : value_of digits ≡ generation
   pub fits : generation < 2 ^ 64
 
--- at most eight cells, each `.` or `*`
-abbrev pub are_cells : List ℕ → Bool
-are_cells row = list_all (λ b. b == byte "." || b == byte "*") row && nat_le (length row) 8
+-- a cell of a leaf, `.` or `*`
+abbrev pub is_cell : ℕ → Bool
+is_cell b = b == byte "." || b == byte "*"
+
+-- a row of a leaf has at most eight cells
+abbrev pub is_row : List ℕ → Bool
+is_row row = list_all is_cell row && nat_le (length row) 8
 
 -- the state of the cell in a column: 1 at `*`; a cell that isn't written is empty
 abbrev pub state_in : List ℕ → ℕ → ℕ
@@ -77,7 +73,7 @@ pub record IsLeafLine (line : List ℕ) (bytes : List ℕ) : Type 0 where
   pub last : List ℕ
   pub is : IsAround line (flat_map (λ row. row ++ codes "$") rows ++ last)
   pub some : 0 < length rows + length last
-  pub cells : list_all are_cells (rows ++ last ∷ []) ≡ true
+  pub cells : list_all is_row (rows ++ last ∷ []) ≡ true
   pub at_most : length rows ≤ 8
   pub full : length rows ≡ 8 → last ≡ []
   pub eight : length bytes ≡ 8

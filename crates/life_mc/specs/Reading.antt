@@ -1,12 +1,12 @@
 -- The macrocell format: which lines a file may have, and what it says.
-use Rattle.std.specs.Prelude.{◌≡◌, ℕ, ◌-◌, ◌^◌, ◌<◌, Bool, true, false, not, ◌&&◌, ◌||◌, List, [], ◌∷◌, ◌++◌, length, take, drop, map, replicate, sum_by, filter_map, nat_le, nat_lt, ◌==◌, if◌then◌else◌, slice_index, codes, Option, Some, None, Result, Ok, Err}
+use Rattle.std.specs.Prelude.{◌≡◌, ℕ, ◌-◌, ◌^◌, ◌<◌, Bool, true, false, not, ◌&&◌, ◌||◌, List, [], ◌∷◌, ◌++◌, length, take, drop, map, replicate, sum_by, filter_map, nat_le, nat_lt, ◌==◌, if◌then◌else◌, slice_index, codes, Option, Some, None}
 use Rattle.std.specs.List.{list_all, slice_split, slice_index_or}
-use Rattle.std.specs.Result.{result_ok}
+use Rattle.std.specs.Result.{result_ok, result_err}
 use Rattle.std.specs.Str.{byte}
 use Rattle.life_base.specs.Text.{is_empty, is_blank, trim, begins_with, is_digit_text, value_of, words_of, lines_of, is_too_long}
 use Rattle.life_base.specs.Numbers.{u64_of}
 use Rattle.life_base.specs.Rules.{rule_of, default_rule}
-use Rattle.life_base.specs.Refusal.{IsRefusal, BreaksBy}
+use Rattle.life_base.specs.Refusal.{IsRefusal, BreaksBy, is_pattern_kind}
 use Rattle.life_base.specs.declared.fault.Fault.{Fault}
 use Rattle.life_base.specs.declared.kind.Kind.{Kind}
 use Rattle.life_base.specs.declared.kind.Kind.TheVariants.{NoHeader, BadNumber, TooLarge, StateRange, LateHeader, BadNode, BadLevel, BadChild, BadLeaf, Timeline, LineTooLong}
@@ -114,21 +114,20 @@ broken_by_node top rule levels text =
     if is_leaf_byte (slice_index text 0) && not (is_leaf text) then Some BadLeaf
     else broken_by_square top rule levels (square_of text)
 
--- the kind of a refused answer
-abbrev pub fault_in : {X : Type 0} → Result X Kind → Option Kind
-fault_in (Ok x) = None
-fault_in (Err kind) = Some kind
-
--- the rule that a line behind the header breaks
-abbrev pub broken_behind : ℕ → List (List ℕ) → List ℕ → Option Kind
-broken_behind top before line =
+-- the rule that a line behind the header breaks, where this rule is in force and the squares before have these levels
+abbrev pub broken_after : ℕ → Rule → List ℕ → List ℕ → Option Kind
+broken_after top rule levels line =
     if is_blank line then None
     else (if begins_with line (codes "#FRAME") then Some Timeline
-    else (if (is_command 82 line || is_command 71 line) && nat_lt 0 (length (squares_of before)) then Some LateHeader
-    else (if is_command 82 line then fault_in (rule_of (drop 2 line))
-    else (if is_command 71 line then fault_in (u64_of (trim (drop 2 line)))
+    else (if (is_command 82 line || is_command 71 line) && nat_lt 0 (length levels) then Some LateHeader
+    else (if is_command 82 line then result_err (rule_of (drop 2 line))
+    else (if is_command 71 line then result_err (u64_of (trim (drop 2 line)))
     else (if begins_with line (codes "#") then None
-    else broken_by_node top (rule_in_force before) (map level_of (squares_of before)) (trim line))))))
+    else broken_by_node top rule levels (trim line))))))
+
+-- the rule that a line breaks behind the header and these lines
+abbrev pub broken_behind : ℕ → List (List ℕ) → List ℕ → Option Kind
+broken_behind top before line = broken_after top (rule_in_force before) (map level_of (squares_of before)) line
 
 -- The first rule of the format that a line breaks behind these lines, if it breaks one. Behind lines of which one breaks a rule
 -- it means nothing.
@@ -165,22 +164,12 @@ Refuses top lines fault = IsRefusal (Accepts top) (BreaksBy (broken top)) missin
 
 -- the kinds with which a macrocell file is refused
 abbrev pub is_macrocell_kind : Kind → Bool
-is_macrocell_kind kinds.NoHeader = true
-is_macrocell_kind kinds.BadRule = true
-is_macrocell_kind kinds.BoundedGrid = true
-is_macrocell_kind kinds.UnsupportedRule = true
-is_macrocell_kind kinds.BirthOnZero = true
-is_macrocell_kind kinds.BadNumber = true
-is_macrocell_kind kinds.TooLarge = true
-is_macrocell_kind kinds.StateRange = true
-is_macrocell_kind kinds.LateHeader = true
 is_macrocell_kind kinds.BadNode = true
 is_macrocell_kind kinds.BadLevel = true
 is_macrocell_kind kinds.BadChild = true
 is_macrocell_kind kinds.BadLeaf = true
 is_macrocell_kind kinds.Timeline = true
-is_macrocell_kind kinds.LineTooLong = true
-is_macrocell_kind _ = false
+is_macrocell_kind kind = is_pattern_kind kind
 
 -- a line breaks a rule with one of these
 abbrev pub LinesBreakByKinds : ℕ → Type 0

@@ -5,7 +5,8 @@ ghost use Rattle.std.specs.Simd.Lanes.{mask_l};
 ghost use Rattle.std.specs.Str.{byte};
 ghost use Rattle.life_base.specs.Text.{is_empty};
 ghost use Rattle.life_mc.specs.Reading.{is_leaf, leaf_bytes, row_byte};
-ghost use Rattle.life_mc.specs.Standing.{first_row, front_cells, is_cell, is_row};
+ghost use Rattle.life_mc.specs.Grammar.{is_cell, is_row};
+ghost use Rattle.life_mc.specs.Standing.{first_row, front_cells};
 
 use std::simd::prelude::*;
 

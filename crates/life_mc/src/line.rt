@@ -4,8 +4,9 @@ ghost use Rattle.std.specs.Prelude.{◌≡◌, ◌<◌, ◌-◌, ◌^◌, length
 ghost use Rattle.life_base.specs.Text.{trim, value_of};
 ghost use Rattle.life_base.specs.Numbers.{u64_of};
 ghost use Rattle.life_base.specs.declared.kind.Kind.TheVariants.{Memory};
-ghost use Rattle.life_mc.specs.Reading.{is_command, fault_in};
-ghost use Rattle.life_mc.specs.Standing.{broken_after, IsParsed};
+ghost use Rattle.std.specs.Result.{result_err};
+ghost use Rattle.life_mc.specs.Reading.{is_command, broken_after};
+ghost use Rattle.life_mc.specs.Standing.{IsParsed};
 
 use crate::node::read_node;
 use life_base::{Kind, MAX_LEVEL, Rule, begins_with, is_blank, is_whitespace, read_u64, trimmed};
@@ -44,8 +45,8 @@ fn is_command(letter: u8, line: &[u8]) -> bool
 
 /// The generation behind `#G`.
 fn read_generation(text: &[u8]) -> Result<u64, Kind>
-    ensures { MatchResult result (λ n. (n ≡ value_of (trim text.now)) × (fault_in (u64_of (trim text.now)) ≡ None))
-        (λ kind. fault_in (u64_of (trim text.now)) ≡ Some kind) }
+    ensures { MatchResult result (λ n. (n ≡ value_of (trim text.now)) × (result_err (u64_of (trim text.now)) ≡ None))
+        (λ kind. result_err (u64_of (trim text.now)) ≡ Some kind) }
 {
     read_u64(trimmed(text))
 }

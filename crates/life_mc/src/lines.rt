@@ -40,7 +40,8 @@ impl Kept {
     ghost use Rattle.std.specs.Prelude.{◌++◌, ◌∷◌, [], ℕ, List, ◌⊎◌, IfOk, IfErr, OnOk, MatchOption, Some, true, false};
     ghost use Rattle.life_base.specs.declared.kind.Kind.TheVariants.{Memory};
     ghost use Rattle.life_mc.specs.Grammar.{form_rule, form_generation, form_square};
-    ghost use Rattle.life_mc.specs.Standing.{StandsAfter, form_of, or_value, level_in};
+    ghost use Rattle.std.specs.Option.{unwrap_or};
+    ghost use Rattle.life_mc.specs.Standing.{StandsAfter, form_of, level_in};
     ghost use Rattle.life_mc.specs.Reading.{broken, square_behind};
 
     /// What is kept of no line.
@@ -80,8 +81,8 @@ impl Kept {
     /// Keeps what a line is, and answers its square.
     fn keep(&mut self, directive: Directive) -> Result<Option<Line>, Kind>
         ensures square { IfOk result (λ square. square ≡ form_square (form_of directive)) }
-        ensures rule { OnOk result (self.new.rule ≡ or_value (form_rule (form_of directive)) self.old.rule) }
-        ensures generation { OnOk result (self.new.generation ≡ or_value (form_generation (form_of directive)) self.old.generation) }
+        ensures rule { OnOk result (self.new.rule ≡ unwrap_or (form_rule (form_of directive)) self.old.rule) }
+        ensures generation { OnOk result (self.new.generation ≡ unwrap_or (form_generation (form_of directive)) self.old.generation) }
         ensures levels { OnOk result (self.new.levels ≡ self.old.levels ++ level_in (form_square (form_of directive))) }
         ensures started { self.new.started ≡ self.old.started }
         ensures err { IfErr result (λ kind. kind ≡ Memory) }

@@ -1,7 +1,7 @@
 //! The numbers of a quarter line, of any length.
 
 ghost use Rattle.std.specs.Prelude.{◌≡◌, ◌∷◌, List, ℕ, true, false, take, MatchOption};
-ghost use Rattle.life_base.specs.Digits.{capped};
+ghost use Rattle.life_base.specs.Numbers.{capped};
 ghost use Rattle.life_base.specs.Text.{is_blank, is_digit_text, value_of, words_of, is_empty};
 ghost use Rattle.life_mc.specs.Standing.{begins_with_number, quad_words};
 ghost use Rattle.std.specs.Option.{option_map};

@@ -4,9 +4,8 @@ use Rattle.std.specs.Prelude.{◌==◌}
 use Rattle.std.proofs.lemmas.Bool.Decides.{nat_tests}
 use Rattle.life_base.specs.declared.kind.Kind.{Kind}
 use Rattle.life_base.specs.declared.kind.Kind.TheVariants.{BadNumber, OutOfPlane}
-use Rattle.life_base.specs.Text.{begins_with}
+use Rattle.life_base.specs.Text.{begins_with, with_word}
 use Rattle.life_base.specs.Numbers.{u64_of}
-use Rattle.life_base.specs.Words.{with_word}
 use Rattle.life_rle.specs.declared.position.Position.{Position}
 use Rattle.life_rle.specs.Plane.{is_coordinate}
 use Rattle.life_rle.specs.Reading.{IsNumberRead}

@@ -3,7 +3,7 @@
 ghost use Rattle.std.specs.Prelude.{◌≡◌, ◌∷◌, ◌==◌, ◌||◌, nat_le, ℕ, List, true, IfSome, IsSome};
 ghost use Rattle.std.specs.Option.{option_map};
 ghost use Rattle.std.specs.Str.{byte};
-ghost use Rattle.life_base.specs.Digits.{capped};
+ghost use Rattle.life_base.specs.Numbers.{capped};
 ghost use Rattle.life_base.specs.Text.{is_digit_text, value_of};
 ghost use Rattle.life_rle.specs.States.{single_state, prefixed_state, state_at};
 ghost use Rattle.life_rle.specs.Items.{Spelled, item_behind, counted, next_of};

@@ -4,7 +4,7 @@ use Rattle.std.specs.Str.Parse.{digits_value}
 use Rattle.std.proofs.lemmas.Bool.Decides.{nat_tests}
 use Rattle.std.proofs.lemmas.Grind.{common_steps}
 use Rattle.std.proofs.lemmas.Int.Digits.{digits_value_more}
-use Rattle.life_base.specs.Digits.{capped}
+use Rattle.life_base.specs.Numbers.{capped}
 use Rattle.life_base.proofs.leading_digits.leading_number.Goals as goal
 
 digit_is : (b : ℕ) → is_ascii_digit b ≡ true → digit_value b ≡ b - 48

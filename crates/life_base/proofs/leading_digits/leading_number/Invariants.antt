@@ -2,7 +2,7 @@ use Rattle.std.proofs.Common.{◌≡◌, ◌+◌, take, drop}
 use Rattle.std.specs.Char.{is_ascii_digit}
 use Rattle.std.specs.List.{prefix_len}
 use Rattle.std.specs.Str.Parse.{digits_value}
-use Rattle.life_base.specs.Digits.{capped}
+use Rattle.life_base.specs.Numbers.{capped}
 use Rattle.life_base.proofs.leading_digits.leading_number.Given as goal
 
 abbrev pub invariant-loop-i : goal.invariant-loop-i

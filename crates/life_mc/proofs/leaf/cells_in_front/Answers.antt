@@ -3,7 +3,7 @@ use lib.Count.{count_trailing_zeros}
 use Rattle.std.specs.Prelude.{◌==◌}
 use Rattle.std.specs.Simd.Lanes.{mask_l}
 use Rattle.std.proofs.lemmas.Simd.{length-chunk, trailing_mask_l}
-use Rattle.life_mc.specs.Standing.{is_cell}
+use Rattle.life_mc.specs.Grammar.{is_cell}
 use Rattle.life_mc.proofs.WholeRows.{first_other, marks_left, others, some_other}
 use Rattle.life_mc.proofs.leaf.cells_in_front.Goals as goal
 

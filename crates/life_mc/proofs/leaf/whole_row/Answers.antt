@@ -1,7 +1,8 @@
 use Rattle.std.proofs.Common.{◌≡◌, ◌∙◌, ◌-◌, ◌%◌, ℕ, List, ap, sym, arith, get_or, length, take}
 use Rattle.std.specs.Prelude.{◌^◌}
 use Rattle.life_mc.specs.Reading.{row_byte}
-use Rattle.life_mc.specs.Standing.{first_row, front_cells, is_row}
+use Rattle.life_mc.specs.Grammar.{is_row}
+use Rattle.life_mc.specs.Standing.{first_row, front_cells}
 use Rattle.life_mc.proofs.Leaves.{row_fits_all}
 use Rattle.life_mc.proofs.WholeRows.{as_long, columns_in_front, front_is_row, front_within, no_row_in_front, row_in_front}
 use Rattle.life_mc.proofs.leaf.whole_row.Goals as goal

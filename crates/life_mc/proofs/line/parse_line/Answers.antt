@@ -10,7 +10,7 @@ use Rattle.life_base.specs.declared.kind.Kind.{Kind}
 use Rattle.life_base.specs.declared.kind.Kind.TheVariants.{Memory}
 use Rattle.life_base.specs.declared.rule.Rule.{Rule}
 use Rattle.life_base.proofs.LineEnds.{all_behind}
-use Rattle.life_mc.specs.Reading.{fault_in}
+use Rattle.std.specs.Result.{result_err}
 use Rattle.life_mc.proofs.Stands.{rule_breaks, rule_parsed_so, generation_breaks, generation_parsed_so, none_left}
 use Rattle.life_mc.proofs.line.parse_line.Goals as goal
 
@@ -18,10 +18,10 @@ rule_read : (line : List ℕ) (rule : Rule) → Answers (Ok rule) (rule_of (take
 rule_read line rule (inl m) = cc
 rule_read line rule (inr e) = ap rule_of (sym (all_behind line 2)) ∙ sym e
 
-rule_refused : (line : List ℕ) (kind : Kind) (breaks : Option Kind) → breaks ≡ fault_in (rule_of (drop 2 line))
+rule_refused : (line : List ℕ) (kind : Kind) (breaks : Option Kind) → breaks ≡ result_err (rule_of (drop 2 line))
     → Answers (Err kind) (rule_of (take (length line - 2) (drop 2 line))) → (kind ≡ Memory) ⊎ (breaks ≡ Some kind)
 rule_refused line kind breaks b (inl m) = inl cc
-rule_refused line kind breaks b (inr e) = inr (b ∙ ap (λ (t : List ℕ). fault_in (rule_of t)) (sym (all_behind line 2)) ∙ ap fault_in (sym e))
+rule_refused line kind breaks b (inr e) = inr (b ∙ ap (λ (t : List ℕ). result_err (rule_of t)) (sym (all_behind line 2)) ∙ ap result_err (sym e))
 
 pub returns-in_err-parse : goal.returns-in_err-parse
 returns-in_err-parse c =
@@ -41,7 +41,7 @@ returns-then-is_command c =
     let read = rule_read line c.in_ok-parse.field-0 c.in_ok-parse.ensures in (
       rule_parsed_so line c.in_ok-parse.field-0 rule read,
       rule_breaks MAX_LEVEL c.args.rule.now levels line (sym c.is_blank.ensures ∙ c.if-is_blank.false) (sym c.begins_with.ensures ∙ c.if-begins_with.false) rule
-          (none_left levels c.is_empty.result c.is_empty.ensures c.if-not-is_empty.false) ∙ ap fault_in read,
+          (none_left levels c.is_empty.result c.is_empty.ensures c.if-not-is_empty.false) ∙ ap result_err read,
     )
 
 pub returns-in_err-read_generation : goal.returns-in_err-read_generation
@@ -53,7 +53,7 @@ returns-in_err-read_generation c =
     (sym c.is_blank.ensures ∙ c.if-is_blank.false) (sym c.begins_with.ensures ∙ c.if-begins_with.false)
     (sym c.is_command.ensures ∙ c.if-is_command.false) (sym c.is_command-2.ensures ∙ c.if-is_command-2.true)
     (none_left levels c.is_empty-then-is_command-2.result c.is_empty-then-is_command-2.ensures c.if-not-is_empty-2.false) in
-    rw (p.1, p.2) (inr (breaks ∙ ap (λ (t : List ℕ). fault_in (u64_of (trim t))) (sym (all_behind line 2)) ∙ c.in_err-read_generation.ensures))
+    rw (p.1, p.2) (inr (breaks ∙ ap (λ (t : List ℕ). result_err (u64_of (trim t))) (sym (all_behind line 2)) ∙ c.in_err-read_generation.ensures))
 
 pub returns-then-is_command-2 : goal.returns-then-is_command-2
 returns-then-is_command-2 c =
@@ -66,5 +66,5 @@ returns-then-is_command-2 c =
       generation_breaks MAX_LEVEL c.args.rule.now levels line
           (sym c.is_blank.ensures ∙ c.if-is_blank.false) (sym c.begins_with.ensures ∙ c.if-begins_with.false) rule generation
           (none_left levels c.is_empty-then-is_command-2.result c.is_empty-then-is_command-2.ensures c.if-not-is_empty-2.false)
-          ∙ ap (λ (t : List ℕ). fault_in (u64_of (trim t))) (sym (all_behind line 2)) ∙ read.1,
+          ∙ ap (λ (t : List ℕ). result_err (u64_of (trim t))) (sym (all_behind line 2)) ∙ read.1,
     )

@@ -5,8 +5,8 @@ use Rattle.std.proofs.lemmas.Result.{err_from_is_err_and}
 use Rattle.life_base.specs.Text.{is_too_long}
 use Rattle.life_base.specs.declared.kind.Kind.{Kind}
 use Rattle.life_base.specs.declared.kind.Kind.TheVariants.{Memory}
-use Rattle.life_mc.specs.Reading.{broken}
-use Rattle.life_mc.specs.Standing.{Standing, broken_after}
+use Rattle.life_mc.specs.Reading.{broken, broken_after}
+use Rattle.life_mc.specs.Standing.{Standing}
 use Rattle.life_mc.proofs.Stands.{breaks_length, breaks_header, broken_is, stands_first, stands_next, combine}
 use Rattle.life_base.specs.declared.cell.TheConstants.{MAX_LEVEL}
 use Rattle.life_mc.proofs.lines.Kept.take.Goals as goal
