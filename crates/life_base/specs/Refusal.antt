@@ -2,7 +2,6 @@
 -- are the project's own.
 use Rattle.std.specs.Prelude.{◌≡◌, ℕ, ◌+◌, ◌-◌, ◌^◌, ◌<◌, ◌≤◌, min, ◌⊎◌, Bool, true, false, cond, List, [], ◌∷◌, ◌++◌, length, take, codes, Option, Some, Result, Err}
 use Rattle.std.specs.List.{slice_index_or}
-use Rattle.life_base.specs.Rules.{is_rule_kind}
 use Rattle.life_base.specs.declared.kind.Kind.{Kind}
 use Rattle.life_base.specs.declared.kind.Kind.TheVariants.{Memory}
 use Rattle.life_base.specs.declared.kind.Kind.TheVariants as kinds
@@ -65,16 +64,6 @@ is_placeless kinds.ReadFault = true
 is_placeless kinds.WriteFault = true
 is_placeless kinds.InputTooLong = true
 is_placeless _ = false
-
--- the kinds with which a file of either pattern format is refused
-abbrev pub is_pattern_kind : Kind → Bool
-is_pattern_kind kinds.NoHeader = true
-is_pattern_kind kinds.BadNumber = true
-is_pattern_kind kinds.TooLarge = true
-is_pattern_kind kinds.StateRange = true
-is_pattern_kind kinds.LateHeader = true
-is_pattern_kind kinds.LineTooLong = true
-is_pattern_kind kind = is_rule_kind kind
 
 -- the fault of a line, or of no line where the kind names none
 abbrev pub fault_at : ℕ → Kind → Fault

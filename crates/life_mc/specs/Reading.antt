@@ -4,9 +4,10 @@ use Rattle.std.specs.List.{list_all, slice_split, slice_index_or}
 use Rattle.std.specs.Result.{result_ok, result_err}
 use Rattle.std.specs.Str.{byte}
 use Rattle.life_base.specs.Text.{is_empty, is_blank, trim, begins_with, is_digit_text, value_of, words_of, lines_of, is_too_long}
+use Rattle.life_base.specs.Kinds.{is_one_of, pattern_kinds}
 use Rattle.life_base.specs.Numbers.{u64_of}
 use Rattle.life_base.specs.Rules.{rule_of, default_rule}
-use Rattle.life_base.specs.Refusal.{IsRefusal, BreaksBy, is_pattern_kind}
+use Rattle.life_base.specs.Refusal.{IsRefusal, BreaksBy}
 use Rattle.life_base.specs.declared.fault.Fault.{Fault}
 use Rattle.life_base.specs.declared.kind.Kind.{Kind}
 use Rattle.life_base.specs.declared.kind.Kind.TheVariants.{NoHeader, BadNumber, TooLarge, StateRange, LateHeader, BadNode, BadLevel, BadChild, BadLeaf, Timeline, LineTooLong}
@@ -164,12 +165,7 @@ Refuses top lines fault = IsRefusal (Accepts top) (BreaksBy (broken top)) missin
 
 -- the kinds with which a macrocell file is refused
 abbrev pub is_macrocell_kind : Kind → Bool
-is_macrocell_kind kinds.BadNode = true
-is_macrocell_kind kinds.BadLevel = true
-is_macrocell_kind kinds.BadChild = true
-is_macrocell_kind kinds.BadLeaf = true
-is_macrocell_kind kinds.Timeline = true
-is_macrocell_kind kind = is_pattern_kind kind
+is_macrocell_kind kind = is_one_of (kinds.BadNode ∷ kinds.BadLevel ∷ kinds.BadChild ∷ kinds.BadLeaf ∷ kinds.Timeline ∷ pattern_kinds) kind
 
 -- a line breaks a rule with one of these
 abbrev pub LinesBreakByKinds : ℕ → Type 0

@@ -1,7 +1,7 @@
 -- Which lines are an RLE file, of which pattern, and which rule a line breaks. What `!` ends is of Golly Help (File Formats, Extended RLE format);
 -- the limit of a line, which lines are data (those that begin with `x` and a letter too), the kinds and their order are the project's own.
-use Rattle.std.specs.Prelude.{◌≡◌, ℕ, ◌⊎◌, ◌||◌, Bool, true, List, [], ◌∷◌, ◌++◌, Option, Some, None, Result, Ok, Err, if◌then◌else◌, codes}
-use Rattle.life_base.specs.Refusal.{is_pattern_kind}
+use Rattle.std.specs.Prelude.{◌≡◌, ℕ, ◌⊎◌, ◌||◌, Bool, List, [], ◌∷◌, ◌++◌, Option, Some, None, Result, Ok, Err, if◌then◌else◌, codes}
+use Rattle.life_base.specs.Kinds.{is_one_of, pattern_kinds}
 use Rattle.life_base.specs.declared.kind.Kind.{Kind}
 use Rattle.life_base.specs.declared.kind.Kind.TheVariants.{LineTooLong, NoHeader, LateHeader, SecondHeader}
 use Rattle.life_base.specs.declared.kind.Kind.TheVariants as kinds
@@ -125,9 +125,4 @@ pub data Breaks (level : ℕ) (front : List (List ℕ)) (line : List ℕ) (kind 
 
 -- the kinds of rule that a line of RLE can break
 abbrev pub is_rle_kind : Kind → Bool
-is_rle_kind kinds.BadHeader = true
-is_rle_kind kinds.BadItem = true
-is_rle_kind kinds.ZeroCount = true
-is_rle_kind kinds.OutOfPlane = true
-is_rle_kind kinds.SecondHeader = true
-is_rle_kind kind = is_pattern_kind kind
+is_rle_kind kind = is_one_of (kinds.BadHeader ∷ kinds.BadItem ∷ kinds.ZeroCount ∷ kinds.OutOfPlane ∷ kinds.SecondHeader ∷ pattern_kinds) kind

@@ -3,11 +3,12 @@
 ghost use Rattle.std.specs.Prelude.{◌≡◌, ◌≤◌, Some, None};
 ghost use Rattle.life_rle.specs.Plane.{most_count};
 ghost use Rattle.life_rle.specs.Pattern.{item_fault};
-ghost use Rattle.life_rle.specs.Cursor.{IsNear, moved, item_count};
+ghost use Rattle.life_rle.specs.Cursor.{IsNear, start_of, moved, item_count};
 ghost use Rattle.life_rle.specs.declared.item.Item.TheVariants.{Cells};
 
 use crate::item::Item;
 use crate::plane::{EDGE, is_state_of};
+use crate::position::Position;
 use life_base::{Kind, MAX_LEVEL, Rule, State};
 
 /// The column at which rows begin, and the column and row of the next item.
@@ -16,6 +17,17 @@ pub struct Cursor {
     pub left: i64,
     pub x: i64,
     pub y: i64,
+}
+
+/// The place of the first item.
+pub(crate) fn start_of(position: Position) -> Cursor
+    ensures { result ≡ start_of position }
+{
+    Cursor {
+        left: position.x,
+        x: position.x,
+        y: position.y,
+    }
 }
 
 /// Which rule cells break that stand there.

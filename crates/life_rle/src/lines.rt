@@ -9,7 +9,7 @@ ghost use Rattle.life_rle.specs.Standing.{is_refused, is_over, Advances, TakesLi
 ghost use Rattle.life_rle.specs.declared.line.Later.TheVariants.{Data};
 ghost use Rattle.life_rle.specs.declared.position.Position.{Position};
 
-use crate::cursor::Cursor;
+use crate::cursor::{Cursor, start_of};
 use crate::line::{Later, Opening, later_of, opening_of};
 use crate::line_items::read_items;
 use crate::position::Position;
@@ -44,14 +44,7 @@ fn before_header(
 {
     match opening_of(alloc, line)? {
         Opening::Comment => Ok((Phase::Before(position), cursor)),
-        Opening::PositionLine(found) => {
-            let cursor = Cursor {
-                left: found.x,
-                x: found.x,
-                y: found.y,
-            };
-            Ok((Phase::Before(found), cursor))
-        }
+        Opening::PositionLine(found) => Ok((Phase::Before(found), start_of(found))),
         Opening::Header(rule) => Ok((Phase::Items(rule, position), cursor)),
     }
 }
@@ -144,18 +137,15 @@ impl RleLines {
     pub fn new(alloc: Global) -> RleLines
         ensures { result ≡ record { lines = []; refused = false } }
     {
+        let position = Position {
+            x: 0,
+            y: 0,
+            generation: 0,
+        };
         RleLines {
             alloc,
-            phase: Phase::Before(Position {
-                x: 0,
-                y: 0,
-                generation: 0,
-            }),
-            cursor: Cursor {
-                left: 0,
-                x: 0,
-                y: 0,
-            },
+            phase: Phase::Before(position),
+            cursor: start_of(position),
             log: LineLog::new(),
         }
     }
