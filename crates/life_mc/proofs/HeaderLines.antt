@@ -122,7 +122,8 @@ module _ (top : ℕ) (now : Rule) (generation : ℕ) (h : generation < 2 ^ 64) w
   text_trimmed = digits_trimmed (decimal generation) digits
 
   pub generation_stands : broken_after top now [] (generation_line generation) ≡ None
-  generation_stands = ap (λ t. result_err (u64_of t)) text_trimmed ∙ by (is_digit_text (decimal generation)) (nat_le (value_of (decimal generation)) (2 ^ 64 - 1))
+  generation_stands = ap (λ t. result_err (u64_of t)) text_trimmed
+      ∙ by (is_digit_text (decimal generation)) (nat_le (value_of (decimal generation)) (2 ^ 64 - 1))
       digits
       (le-leb (value_of (decimal generation)) (2 ^ 64 - 1) (omega (arith, value)))
     where

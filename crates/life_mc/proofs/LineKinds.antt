@@ -121,11 +121,12 @@ behind top front line =
     let hash : Option Kind = cond (begins_with line (codes "#")) None node in
     let number : Option Kind = cond (is_command 71 line) (result_err (u64_of (trim (drop 2 line)))) hash in
     let rule : Option Kind = cond (is_command 82 line) (result_err (rule_of (drop 2 line))) number in
-    let late : Option Kind = cond ((is_command 82 line || is_command 71 line) && nat_lt 0 (length (map level_of (squares_of front)))) (Some kinds.LateHeader) rule in
+    let some : Bool = nat_lt 0 (length (map level_of (squares_of front))) in
+    let late : Option Kind = cond ((is_command 82 line || is_command 71 line) && some) (Some kinds.LateHeader) rule in
     let frame : Option Kind = cond (begins_with line (codes "#FRAME")) (Some kinds.Timeline) late in
     cases (is_blank line) None frame refl
     (cases (begins_with line (codes "#FRAME")) (Some kinds.Timeline) late refl
-    (cases ((is_command 82 line || is_command 71 line) && nat_lt 0 (length (map level_of (squares_of front)))) (Some kinds.LateHeader) rule refl
+    (cases ((is_command 82 line || is_command 71 line) && some) (Some kinds.LateHeader) rule refl
     (cases (is_command 82 line) (result_err (rule_of (drop 2 line))) number (in_rule (rule_of (drop 2 line)) (rule_errs (drop 2 line)))
     (cases (is_command 71 line) (result_err (u64_of (trim (drop 2 line)))) hash (in_number (u64_of (trim (drop 2 line))) (number_errs (trim (drop 2 line))))
     (cases (begins_with line (codes "#")) None node refl (in_node top (rule_in_force front) (map level_of (squares_of front)) (trim line)))))))

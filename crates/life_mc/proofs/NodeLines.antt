@@ -44,8 +44,8 @@ module _ (top : ℕ) (header : List ℕ) (front : List (List ℕ)) (line : List 
   judged : broken_behind top before line ≡ broken_by_node top (rule_in_force before) (map level_of (squares_of before)) (trim line)
   judged =
       let m = no_mark line hash blank in
-      cascade (is_blank line) (begins_with line (codes "#FRAME")) (is_command 82 line) (is_command 71 line) (nat_lt 0 (length (map level_of (squares_of before))))
-      (begins_with line (codes "#")) blank m.0 m.1 m.2 hash
+      cascade (is_blank line) (begins_with line (codes "#FRAME")) (is_command 82 line) (is_command 71 line)
+      (nat_lt 0 (length (map level_of (squares_of before)))) (begins_with line (codes "#")) blank m.0 m.1 m.2 hash
     where
       cascade : (b f r g l m : Bool) → b ≡ false → f ≡ false → r ≡ false → g ≡ false → m ≡ false
           → cond b None (cond f (Some Timeline)

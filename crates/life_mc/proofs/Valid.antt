@@ -85,9 +85,10 @@ module _ (top : ℕ) where
         let hash = command_is_hash 82 line r in
         let s1 = not_taken (is_blank line) None _ (hash_not_blank line hash) e in
         let s2 = (passed (begins_with line (codes "#FRAME")) Timeline _ s1).1 in
-        let p : ((is_command 82 line || is_command 71 line) && nat_lt 0 (length (map level_of (squares_of before)))) ≡ false =
-        (passed ((is_command 82 line || is_command 71 line) && nat_lt 0 (length (map level_of (squares_of before)))) LateHeader _ s2).0 in
-        let q : nat_lt 0 (length (map level_of (squares_of before))) ≡ false = ap (λ v. (v || is_command 71 line) && nat_lt 0 (length (map level_of (squares_of before)))) (sym r) ∙ p in
+        let some : Bool = nat_lt 0 (length (map level_of (squares_of before))) in
+        let p : ((is_command 82 line || is_command 71 line) && some) ≡ false =
+        (passed ((is_command 82 line || is_command 71 line) && some) LateHeader _ s2).0 in
+        let q : some ≡ false = ap (λ v. (v || is_command 71 line) && some) (sym r) ∙ p in
         none_there (squares_of before) q
       where
         none_there : (xs : List Line) → nat_lt 0 (length (map level_of xs)) ≡ false → xs ≡ []

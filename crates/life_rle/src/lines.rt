@@ -77,24 +77,24 @@ fn behind_header(
     }
 }
 
-/// A line at any place; its runs go behind the runs.
+/// A line behind any lines, which have brought the reader to this phase and place; its runs go behind the runs.
 fn after_line(
     alloc: Global,
-    phase: Phase,
-    cursor: Cursor,
+    at: (Phase, Cursor),
     line: &[u8],
     runs: &mut Vec<Run>,
 ) -> Result<(Phase, Cursor), Kind>
-    requires { IsPlaced MAX_LEVEL phase cursor }
-    ensures advance { IfOk result (λ next. TakesLine MAX_LEVEL phase cursor line.now next.0 next.1 runs.old.items runs.new.items) }
+    requires { IsPlaced MAX_LEVEL at.0 at.1 }
+    ensures advance { IfOk result (λ next. TakesLine MAX_LEVEL at.0 at.1 line.now next.0 next.1 runs.old.items runs.new.items) }
     ensures going { IfOk result (λ next. is_refused next.0 ≡ false) }
-    ensures fault { IfErr result (λ kind. (kind ≡ Kind.Memory) ⊎ ((kind ≡ Kind.Spent) × (is_refused phase ≡ true))
-        ⊎ ((lines : List (List ℕ)) → StandsAt MAX_LEVEL phase cursor lines → Breaks MAX_LEVEL lines line.now kind)) }
+    ensures fault { IfErr result (λ kind. (kind ≡ Kind.Memory) ⊎ ((kind ≡ Kind.Spent) × (is_refused at.0 ≡ true))
+        ⊎ ((lines : List (List ℕ)) → StandsAt MAX_LEVEL at.0 at.1 lines → Breaks MAX_LEVEL lines line.now kind)) }
     ensures kept { OnErr result (IsFrontOf runs.old.items runs.new.items) }
-    ensures unspent { IfOk result (λ _. is_refused phase ≡ false) }
-    ensures spent { is_refused phase ≡ true → IsErrOf result Kind.Spent }
-    ensures free { is_over phase ≡ true → IsOkAnd result (λ _. runs.new.items ≡ runs.old.items) }
+    ensures unspent { IfOk result (λ _. is_refused at.0 ≡ false) }
+    ensures spent { is_refused at.0 ≡ true → IsErrOf result Kind.Spent }
+    ensures free { is_over at.0 ≡ true → IsOkAnd result (λ _. runs.new.items ≡ runs.old.items) }
 {
+    let (phase, cursor) = at;
     match phase {
         Phase::Before(position) => before_header(alloc, position, cursor, line),
         Phase::Items(rule, position) => behind_header(rule, position, cursor, line, runs),
@@ -202,7 +202,7 @@ impl RleLines {
             → IsOkAnd result (λ _. runs.new.items ≡ runs.old.items) }
     {
         let phase = mem::replace(&mut self.phase, Phase::Refused);
-        let (phase, cursor) = after_line(self.alloc, phase, self.cursor, line, runs)?;
+        let (phase, cursor) = after_line(self.alloc, (phase, self.cursor), line, runs)?;
         self.log = self.log.then(line);
         self.phase = phase;
         self.cursor = cursor;

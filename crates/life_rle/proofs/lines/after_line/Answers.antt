@@ -25,7 +25,7 @@ Tells phase cursor line kind =
 pub returns-in-Before-clause-fault : goal.returns-in-Before-clause-fault
 returns-in-Before-clause-fault c =
     let line = c.args.line.now in
-    let cursor = c.args.cursor in
+    let cursor = c.args.at.1 in
     subst (λ (p : Phase). IfErr c.before_header.result (Tells p cursor line)) (sym c.in-Before.is)
     (IfErr-weaker c.before_header.result (λ kind. (kind ≡ Memory) ⊎ (opening_of MAX_LEVEL line ≡ Err kind))
     (Tells (phases.Before c.in-Before.position) cursor line)
@@ -34,7 +34,7 @@ returns-in-Before-clause-fault c =
 pub returns-in-Items-clause-fault : goal.returns-in-Items-clause-fault
 returns-in-Items-clause-fault c =
     let line = c.args.line.now in
-    let cursor = c.args.cursor in
+    let cursor = c.args.at.1 in
     let rule = c.in-Items.rule in
     let position = c.in-Items.position in
     subst (λ (p : Phase). IfErr c.behind_header.result (Tells p cursor line)) (sym c.in-Items.is)
@@ -53,6 +53,6 @@ returns-in-Items-clause-fault c =
 pub returns-in-Over-clause-advance : goal.returns-in-Over-clause-advance
 returns-in-Over-clause-advance c =
     let runs : List Run = c.args.runs.now.items in
-    subst (λ (p : Phase). TakesLine MAX_LEVEL p c.args.cursor c.args.line.now (phases.Over c.in-Over.rule c.in-Over.position) c.args.cursor runs runs)
+    subst (λ (p : Phase). TakesLine MAX_LEVEL p c.args.at.1 c.args.line.now (phases.Over c.in-Over.rule c.in-Over.position) c.args.at.1 runs runs)
     (sym c.in-Over.is)
-    (record { runs = []; advances = adv-over MAX_LEVEL c.in-Over.rule c.in-Over.position c.args.cursor c.args.line.now; added = sym (append-nil runs) })
+    (record { runs = []; advances = adv-over MAX_LEVEL c.in-Over.rule c.in-Over.position c.args.at.1 c.args.line.now; added = sym (append-nil runs) })
