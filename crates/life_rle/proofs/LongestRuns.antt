@@ -111,7 +111,8 @@ items-chain : (left x y : ℤ) (cells : List Cell) → AreLive cells → Chain (
 items-chain left x y [] l = tt
 items-chain left x y (c ∷ cells) l =
     let items : List Item = items_from left (c.x +ℤ pos 1) c.y cells in
-    items-step left x y c (with_cells 1 c.state items) l.0 (with_cell-begins c.state items l.0 (items-chain left (c.x +ℤ pos 1) c.y cells l.1)) (int_eq c.y y) refl
+    let begins = with_cell-begins c.state items l.0 (items-chain left (c.x +ℤ pos 1) c.y cells l.1) in
+    items-step left x y c (with_cells 1 c.state items) l.0 begins (int_eq c.y y) refl
 
 -- ---- sorted cells are live
 
