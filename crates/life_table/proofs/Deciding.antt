@@ -1,6 +1,7 @@
 -- What a line gives by counts, from the groups of its open inputs and the places that its settled inputs leave free.
 use Rattle.std.proofs.Common.{◌≡◌, ℕ, ◌+◌, ◌-◌, ◌<◌, List, [], ◌∷◌, map, take, drop, length, get_or, cond, nat_eq, Bool, true, false, refl, ap, sym, ◌∙◌, subst, ◌⊎◌, inl, inr, arith, length-drop}
 use Rattle.std.specs.Prelude.{Option, Some, None, slice_get, IfSome, All}
+use Rattle.std.specs.List.{sum_by}
 use Rattle.std.specs.Option.{option_map_or}
 use Rattle.std.proofs.lemmas.Bool.Decides.{eqb_tells}
 use Rattle.std.proofs.lemmas.List.{take_all}
@@ -9,7 +10,7 @@ use Rattle.std.proofs.lemmas.List.Sums.{sum_by-cons}
 use Rattle.life_table.specs.Meaning.{IsChoice, has_state, state_of, count_of, GivesByCounts}
 use Rattle.life_table.specs.Found.{Tells}
 use Rattle.life_table.specs.Valid.{is_variable}
-use Rattle.life_table.specs.Taking.{of_state, free_count, can_be_state, settled, settled_count, open_state, open_count, wanted, first_variable, IsGrouped, Completes, CompletesWith}
+use Rattle.life_table.specs.Taking.{of_state, free_count, can_be_state, settled, settled_count, open_state, wanted, first_variable, IsGrouped, Completes, CompletesWith}
 use Rattle.life_table.proofs.Adding.{directives_same}
 use Rattle.life_table.proofs.Choices.{changed, changed_same, changed_choice}
 use Rattle.life_table.proofs.Counts.{count-cons}
@@ -50,7 +51,7 @@ one_entry choice first centre t h (entries.Var i) = elim (known (is_variable i f
 
 -- each input is settled or open
 split_count : (choice : ℕ → ℕ) (first : Entry) (centre t : ℕ) → state_of choice first ≡ centre → (es : List Entry) →
-    count_of t (map (state_of choice) es) ≡ settled_count first centre t es + open_count first choice t es
+    count_of t (map (state_of choice) es) ≡ settled_count first centre t es + sum_by (open_state first choice t) es
 split_count choice first centre t h [] = refl
 split_count choice first centre t h (e ∷ es) =
     let a = count-cons t (state_of choice e) (map (state_of choice) es) in

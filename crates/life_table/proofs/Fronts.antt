@@ -1,9 +1,9 @@
 -- One more line: the rule line, the table line, and the lines of the table.
 use Rattle.std.proofs.Common.{◌≡◌, ℕ, List, [], ◌∷◌, ◌++◌, drop, Bool, true, false, not, refl, ap, sym, ◌∙◌, ◌||◌, ◌⊎◌, inl, inr}
-use Rattle.std.specs.Prelude.{Option, None, if◌then◌else◌, option_and_then}
+use Rattle.std.specs.Prelude.{Option, None, if◌then◌else◌, option_and_then, slice_get}
 use Rattle.std.specs.List.{list_any}
 use Rattle.life_base.specs.Text.{is_empty}
-use Rattle.life_table.specs.Reading.{Numbered, from_first, up_to, first_of, from_rule, from_table, table_texts, contents, content, name_of, name_on, section_of, is_passed_over, is_table_line, is_section_line}
+use Rattle.life_table.specs.Reading.{Numbered, from_first, up_to, from_rule, from_table, table_texts, contents, content, name_of, name_on, section_of, is_passed_over, is_table_line, is_section_line}
 use Rattle.life_table.specs.declared.directive.Section.{Section}
 use Rattle.life_table.specs.declared.directive.Section.TheVariants.{Ahead, Open, Behind}
 
@@ -92,7 +92,7 @@ is_table line = is_table_line line.1
 
 -- what the lines from the rule line on say
 abbrev name_by : List Numbered → Option (List ℕ)
-name_by rule = option_and_then (λ (line : Numbered). name_on line.1) (first_of rule)
+name_by rule = option_and_then (λ (line : Numbered). name_on line.1) (slice_get rule 0)
 
 abbrev section_by : List Numbered → Section
 section_by table = if is_empty table then Ahead else (if list_any is_section (drop 1 table) then Behind else Open)

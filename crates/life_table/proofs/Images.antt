@@ -4,7 +4,7 @@ use Rattle.std.specs.Prelude.{[], Contains}
 use Rattle.std.proofs.Math.Nat.{div_self, zero-mul}
 use Rattle.std.specs.List.{range_with_len}
 use Rattle.life_table.specs.Orders.{turn, turns, reflected_turn, reflected_turns, family, images}
-use Rattle.life_table.specs.Meaning.{Gives, GivesByCounts}
+use Rattle.life_table.specs.Meaning.{Gives, GivesAs, GivesByCounts}
 use Rattle.life_table.specs.Found.{Tells, SomeGives}
 use Rattle.life_table.specs.Valid.{neighbour_count}
 use Rattle.life_table.proofs.Members.{in_map, from_map}
@@ -54,10 +54,10 @@ tells_images symmetry vars line centre others list found are h =
     directives_same (SomeGives vars line list) (Gives symmetry vars line centre others)
     (λ s g.
     let u = from_map (λ w. centre ∷ w) (images symmetry others) g.image (subst (λ ws. Contains ws g.image) are g.is_image) in
-    record { image = u.0; is_image = u.1; choice = g.gives.choice; is_choice = g.gives.is_choice; inputs = g.gives.inputs ∙ sym u.2; output = g.gives.output })
+    record { image = u.0; is_image = u.1; gives = subst (λ w. GivesAs vars line w s) (sym u.2) g.gives })
     (λ s g. record {
       image = centre ∷ g.image;
       is_image = subst (λ ws. Contains ws (centre ∷ g.image)) (sym are) (in_map (λ w. centre ∷ w) (images symmetry others) g.image g.is_image);
-      gives = record { choice = g.choice; is_choice = g.is_choice; inputs = g.inputs; output = g.output };
+      gives = g.gives;
     })
     found h

@@ -28,19 +28,21 @@ module _ {X : Type 0} (f : X → ℕ) where
 pub permute_law : PermuteByCounts
 permute_law vars line centre others s = (
   λ g. record {
-    choice = g.choice;
-    is_choice = g.is_choice;
-    first = first_value (state_of g.choice) line.inputs centre g.image g.inputs;
-    counts = λ t. ap (count_of t) (other_values (state_of g.choice) line.inputs centre g.image g.inputs) ∙ count-order t others g.image g.is_image;
-    output = g.output;
+    choice = g.gives.choice;
+    is_choice = g.gives.is_choice;
+    first = first_value (state_of g.gives.choice) line.inputs centre g.image g.gives.inputs;
+    counts = λ t. ap (count_of t) (other_values (state_of g.gives.choice) line.inputs centre g.image g.gives.inputs) ∙ count-order t others g.image g.is_image;
+    output = g.gives.output;
   },
   λ g. record {
     image = map (state_of g.choice) (drop 1 line.inputs);
     is_image = order_by_counts others (map (state_of g.choice) (drop 1 line.inputs)) g.counts;
-    choice = g.choice;
-    is_choice = g.is_choice;
-    inputs = all_values (state_of g.choice) line.inputs centre g.first;
-    output = g.output;
+    gives = record {
+      choice = g.choice;
+      is_choice = g.is_choice;
+      inputs = all_values (state_of g.choice) line.inputs centre g.first;
+      output = g.output;
+    };
   },
 )
 

@@ -230,15 +230,15 @@ at_split P (y ∷ before) x after h = at_split P before x after (All-tail P y (b
 -- the law
 
 module _ (n : Neighborhood) (symmetry : Symmetry) (vars : List Var) where
-  fits_if_gives : (line : Transition) (s : ℕ) → (g : Gives symmetry vars line 0 (zeros n) s) → All (λ e. state_of g.choice e ≡ 0) line.inputs
-  fits_if_gives line s g = map_zero (state_of g.choice) line.inputs (suc (neighbour_count n))
-      (g.inputs ∙ ap (λ w. 0 ∷ w) (sym (zero_images n symmetry g.image g.is_image)))
+  fits_if_gives : (line : Transition) (s : ℕ) → (g : Gives symmetry vars line 0 (zeros n) s) → All (λ e. state_of g.gives.choice e ≡ 0) line.inputs
+  fits_if_gives line s g = map_zero (state_of g.gives.choice) line.inputs (suc (neighbour_count n))
+      (g.gives.inputs ∙ ap (λ w. 0 ∷ w) (sym (zero_images n symmetry g.image g.is_image)))
 
   silent : (n_states : ℕ) (line : Transition) → IsTransition n_states (neighbour_count n) vars line → fits_zero vars line ≡ false
       → GivesNothing symmetry vars 0 (zeros n) line
   silent n_states line t not_so s g =
       let values = fits_if_gives line s g in
-      let allowed : All (λ e. allows_zero vars e ≡ true) line.inputs = λ k d below. zero_value n_states vars g.choice g.is_choice (get_or line.inputs k d)
+      let allowed : All (λ e. allows_zero vars e ≡ true) line.inputs = λ k d below. zero_value n_states vars g.gives.choice g.gives.is_choice (get_or line.inputs k d)
       (t.inputs k d below) (values k d below) in
       absurd (let e : true ≡ false = sym (all_passed (allows_zero vars) line.inputs allowed) ∙ not_so in let z : ⊥ = cc in z)
 
@@ -279,12 +279,14 @@ zero_law n_states n symmetry vars lines sound = elim (first_fit vars lines sound
           record {
             image = zeros n;
             is_image = zero_image n symmetry;
-            choice = c.0;
-            is_choice = c.1;
-            inputs = zero_map (state_of c.0) f.line.inputs values ∙ ap (λ k. replicate k 0) t.count ∙ all_zeros n;
-            output = output_zero n symmetry vars n_states f.line t quiet c.0 values f.line.output refl;
+            gives = record {
+              choice = c.0;
+              is_choice = c.1;
+              inputs = zero_map (state_of c.0) f.line.inputs values ∙ ap (λ k. replicate k 0) t.count ∙ all_zeros n;
+              output = output_zero n symmetry vars n_states f.line t quiet c.0 values f.line.output refl;
+            };
           },
-          λ s g. sym g.output ∙ output_zero n symmetry vars n_states f.line t quiet g.choice (fits_if_gives n symmetry vars f.line s g) f.line.output refl,
+          λ s g. sym g.gives.output ∙ output_zero n symmetry vars n_states f.line t quiet g.gives.choice (fits_if_gives n symmetry vars f.line s g) f.line.output refl,
         );
       })
 ]

@@ -2,8 +2,8 @@
 use Rattle.std.proofs.Common.{◌≡◌, ℕ, ◌+◌, ◌<◌, List, [], ◌∷◌, ◌++◌, take, length, refl, ap, sym, ◌∙◌}
 use Rattle.std.specs.Prelude.{slice_index}
 use Rattle.std.proofs.lemmas.List.{take_more, take-map}
-use Rattle.life_table.specs.Found.{Adds, GivesAs, Consistent}
-use Rattle.life_table.specs.Meaning.{state_of}
+use Rattle.life_table.specs.Found.{Adds, Consistent}
+use Rattle.life_table.specs.Meaning.{state_of, GivesAs}
 use Rattle.life_table.proofs.Adding.{adds_same}
 use Rattle.life_table.specs.declared.found.Found.{Found}
 use Rattle.life_table.specs.declared.table.Var.{Var}

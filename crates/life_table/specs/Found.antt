@@ -1,6 +1,6 @@
 -- What has been found of the states that a line gives.
 use Rattle.std.specs.Prelude.{◌≡◌, ◌≢◌, ℕ, List, map, ◌⊎◌, Contains}
-use Rattle.life_table.specs.Meaning.{IsChoice, state_of}
+use Rattle.life_table.specs.Meaning.{IsChoice, state_of, GivesAs}
 use Rattle.life_table.specs.declared.table.Var.{Var}
 use Rattle.life_table.specs.declared.table.Entry.{Entry}
 use Rattle.life_table.specs.declared.table.Transition.{Transition}
@@ -24,13 +24,6 @@ pub record Consistent (vars : List Var) (parts : List Entry) (states : List ℕ)
   pub choice : ℕ → ℕ
   pub is_choice : IsChoice vars choice
   pub values : map (state_of choice) parts ≡ states
-
--- some choice makes the inputs these states, and the output s
-pub record GivesAs (vars : List Var) (line : Transition) (states : List ℕ) (s : ℕ) : Type 0 where
-  pub choice : ℕ → ℕ
-  pub is_choice : IsChoice vars choice
-  pub inputs : map (state_of choice) line.inputs ≡ states
-  pub output : state_of choice line.output ≡ s
 
 -- one of these images, the centre first, gives s
 pub record SomeGives (vars : List Var) (line : Transition) (images : List (List ℕ)) (s : ℕ) : Type 0 where

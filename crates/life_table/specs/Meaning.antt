@@ -24,15 +24,18 @@ abbrev pub state_of : (ℕ → ℕ) → Entry → ℕ
 state_of choice (entries.Fixed s) = s
 state_of choice (entries.Var i) = choice i
 
--- the line gives the state s: some image of the neighbours and some choice make its inputs the centre
--- and the image, entry by entry, and its output s
+-- some choice makes the inputs these states, entry by entry, and the output s
+pub record GivesAs (vars : List Var) (line : Transition) (states : List ℕ) (s : ℕ) : Type 0 where
+  pub choice : ℕ → ℕ
+  pub is_choice : IsChoice vars choice
+  pub inputs : map (state_of choice) line.inputs ≡ states
+  pub output : state_of choice line.output ≡ s
+
+-- the line gives the state s: of some image of the neighbours, behind the centre
 pub record Gives (symmetry : Symmetry) (vars : List Var) (line : Transition) (centre : ℕ) (others : List ℕ) (s : ℕ) : Type 0 where
   pub image : List ℕ
   pub is_image : Contains (images symmetry others) image
-  pub choice : ℕ → ℕ
-  pub is_choice : IsChoice vars choice
-  pub inputs : map (state_of choice) line.inputs ≡ centre ∷ image
-  pub output : state_of choice line.output ≡ s
+  pub gives : GivesAs vars line (centre ∷ image) s
 
 -- how often a state stands in a list
 abbrev pub count_of : ℕ → List ℕ → ℕ

@@ -1,5 +1,5 @@
 -- What the reader of a rule table keeps from line to line, in words that its own functions use.
-use Rattle.std.specs.Prelude.{◌≡◌, ℕ, ◌+◌, ◌<◌, ◌≤◌, Bool, true, List, [], ◌∷◌, ◌++◌, length, Option, Some, None, IfSome, ◌==◌, ◌||◌, ◌≢◌, All, IsTrue, slice_get}
+use Rattle.std.specs.Prelude.{◌≡◌, ℕ, ◌<◌, ◌≤◌, Bool, true, List, [], ◌∷◌, ◌++◌, Option, Some, None, IfSome, ◌==◌, ◌||◌, ◌≢◌, All, IsTrue, slice_get}
 use Rattle.std.proofs.Common.{Bor}
 use Rattle.std.specs.List.{list_any, slice_split}
 use Rattle.std.specs.Str.{byte}
@@ -16,11 +16,6 @@ use Rattle.life_table.specs.declared.table.Var.{Var}
 abbrev pub parts_left : Option (Bor (List ℕ)) → List (List ℕ)
 parts_left None = []
 parts_left (Some text) = slice_split (λ b. b == byte ",") text.now
-
--- a bound of the bytes that are left
-abbrev pub bytes_left : Option (Bor (List ℕ)) → ℕ
-bytes_left None = 0
-bytes_left (Some text) = length text.now + 1
 
 -- what lines say together with one more
 abbrev pub after : Parsed → Directive → Parsed

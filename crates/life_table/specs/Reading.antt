@@ -3,11 +3,11 @@ use Rattle.std.specs.Prelude.{◌≡◌, ℕ, ◌+◌, ◌-◌, ◌/◌, ◌%◌
 use Rattle.std.specs.Char.{is_ascii_digit, is_ascii_graphic}
 use Rattle.std.specs.List.{list_all, list_any, slice_split, before_first, after_first}
 use Rattle.std.specs.Str.{byte}
-use Rattle.life_base.specs.Text.{is_empty, is_whitespace, is_blank, trim, begins_with, is_digit_text, value_of, lines_of, is_too_long, numbered_from}
+use Rattle.life_base.specs.Text.{is_empty, is_whitespace, is_blank, trim, begins_with, is_digit_text, value_of, is_too_long, numbered_from}
 use Rattle.life_base.specs.Rules.{rule_of}
 use Rattle.life_base.specs.Refusal.{IsRefusal, BreaksBy}
 use Rattle.life_base.specs.declared.rule.Rule.{Rule}
-use Rattle.life_base.specs.declared.rule.Rule.TheVariants.{Life, Named}
+use Rattle.life_base.specs.declared.rule.Rule.TheVariants.{Named}
 use Rattle.life_base.specs.declared.fault.Fault.{Fault}
 use Rattle.life_base.specs.declared.kind.Kind.{Kind}
 use Rattle.life_base.specs.declared.kind.Kind.TheVariants.{LineTooLong, NoRuleLine, NoTable, BadDescriptor, UnsupportedNeighborhood, UnsupportedSymmetry, BadVariable, BadTransition, UnboundOutput, NotQuiet}
@@ -35,8 +35,7 @@ is_passed_over line = is_blank line || begins_with line (codes "#")
 
 abbrev pub name_in : Result Rule Kind → Option (List ℕ)
 name_in (Ok (Named name)) = Some name
-name_in (Ok (Life sets)) = None
-name_in (Err kind) = None
+name_in _ = None
 
 -- `@RULE` and whitespace
 abbrev pub begins_rule_line : List ℕ → Bool
@@ -71,11 +70,6 @@ abbrev pub up_to : {X : Type 0} → (X → Bool) → List X → List X
 up_to p [] = []
 up_to p (x ∷ xs) = if p x then [] else x ∷ up_to p xs
 
--- the first element
-abbrev pub first_of : {X : Type 0} → List X → Option X
-first_of [] = None
-first_of (x ∷ xs) = Some x
-
 -- the first of the options that there is
 abbrev pub first_some : {X : Type 0} → List (Option X) → Option X
 first_some [] = None
@@ -108,7 +102,7 @@ table_texts lines = contents (table_lines lines)
 
 -- the name on the rule line
 unfoldable pub name_of : List Numbered → Option (List ℕ)
-name_of lines = option_and_then (λ line. name_on line.1) (first_of (from_rule lines))
+name_of lines = option_and_then (λ line. name_on line.1) (slice_get (from_rule lines) 0)
 
 -- no table line came, or one, or one and a further section behind it
 unfoldable pub section_of : List Numbered → Section
@@ -436,8 +430,7 @@ broken before line = fault_in (parse_line (parsed_by (numbered_from 1 before)) (
 
 abbrev pub is_ahead : Section → Bool
 is_ahead Ahead = true
-is_ahead Open = false
-is_ahead Behind = false
+is_ahead _ = false
 
 -- what a file that says this lacks, if it lacks something
 abbrev pub lacking : Parsed → Option Kind
@@ -482,10 +475,6 @@ pub record Describes (parsed : Parsed) (table : Table) : Type 0 where
 pub record AreTable (file_lines : List (List ℕ)) (table : Table) : Type 0 where
   pub file : IsTableFile file_lines
   pub says : Describes (parsed_by (numbered_from 1 file_lines)) table
-
--- the bytes are a file that writes this table
-abbrev pub IsTable : List ℕ → Table → Type 0
-IsTable bytes table = AreTable (lines_of bytes) table
 
 -- why the lines are no file of a table
 abbrev pub Refuses : List (List ℕ) → Fault → Type 0

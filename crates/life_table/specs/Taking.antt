@@ -34,13 +34,10 @@ settled first centre (entries.Var i) = if is_variable i first then Some centre e
 abbrev pub settled_count : Entry → ℕ → ℕ → List Entry → ℕ
 settled_count first centre t inputs = sum_by (λ entry. option_map_or (λ s. of_state t s 1) (settled first centre entry) 0) inputs
 
--- how many of the inputs that the centre doesn't settle a choice makes the state t
+-- 1 for an input that the centre doesn't settle and a choice makes the state t, else 0
 abbrev pub open_state : Entry → (ℕ → ℕ) → ℕ → Entry → ℕ
 open_state first choice t (entries.Fixed s) = 0
 open_state first choice t (entries.Var i) = if is_variable i first then 0 else of_state t (choice i) 1
-
-abbrev pub open_count : Entry → (ℕ → ℕ) → ℕ → List Entry → ℕ
-open_count first choice t inputs = sum_by (open_state first choice t) inputs
 
 -- how many inputs of these groups a choice makes the state t
 abbrev pub wanted : (ℕ → ℕ) → List Group → ℕ → ℕ
@@ -67,7 +64,7 @@ first_variable (g ∷ groups) = g.variable
 
 -- the groups of the inputs that the centre doesn't settle. An open output's is the first
 pub record IsGrouped (first output : Entry) (inputs : List Entry) (groups : List Group) : Type 0 where
-  pub counts : (choice : ℕ → ℕ) (t : ℕ) → wanted choice groups t ≡ open_count first choice t inputs
+  pub counts : (choice : ℕ → ℕ) (t : ℕ) → wanted choice groups t ≡ sum_by (open_state first choice t) inputs
   pub distinct : IsDistinct groups
   pub unsettled : All (λ g. is_variable g.variable first ≡ false) groups
   pub stands : All (λ g. IsTrue (list_any (is_variable g.variable) inputs) ⊎ (output ≡ entries.Var g.variable)) groups

@@ -6,7 +6,7 @@ use Rattle.life_table.specs.Meaning.{HasState, has_state}
 use Rattle.life_table.specs.declared.table.Neighborhood.{Neighborhood}
 use Rattle.life_table.specs.declared.table.Neighborhood.TheVariants.{VonNeumann, Moore}
 use Rattle.life_table.specs.declared.table.Symmetry.{Symmetry}
-use Rattle.life_table.specs.declared.table.Symmetry.TheVariants.{Identity, Rotate4, Rotate4Reflect, ReflectHorizontal, Permute, Rotate8, Rotate8Reflect}
+use Rattle.life_table.specs.declared.table.Symmetry.TheVariants.{Rotate8, Rotate8Reflect}
 use Rattle.life_table.specs.declared.table.Var.{Var}
 use Rattle.life_table.specs.declared.table.Entry.{Entry}
 use Rattle.life_table.specs.declared.table.Entry.TheVariants as entries
@@ -21,12 +21,7 @@ neighbour_count Moore = 8
 abbrev pub is_listed : Neighborhood → Symmetry → Bool
 is_listed VonNeumann Rotate8 = false
 is_listed VonNeumann Rotate8Reflect = false
-is_listed VonNeumann Identity = true
-is_listed VonNeumann Rotate4 = true
-is_listed VonNeumann Rotate4Reflect = true
-is_listed VonNeumann ReflectHorizontal = true
-is_listed VonNeumann Permute = true
-is_listed Moore symmetry = true
+is_listed _ _ = true
 
 -- a fixed state is below the number of states, and a variable is one that there is
 pub record IsEntry (n_states : ℕ) (vars : List Var) (entry : Entry) : Type 0 where

@@ -1,6 +1,7 @@
 use Rattle.std.proofs.Common.{◌≡◌, ℕ, ◌+◌, ◌++◌, ◌∷◌, [], true, false, length, take, ap, sym, ◌∙◌, subst, arith, slice_index}
 use Rattle.std.proofs.lemmas.List.{take_all, length-take-le}
-use Rattle.life_table.specs.Found.{Consistent, GivesAs}
+use Rattle.life_table.specs.Found.{Consistent}
+use Rattle.life_table.specs.Meaning.{GivesAs}
 use Rattle.life_table.proofs.Adding.{adds_none}
 use Rattle.life_table.proofs.Steps.{no_image, one_image}
 use Rattle.life_table.proofs.choose.with_image.Goals as goal

@@ -10,10 +10,10 @@ use Rattle.life_table.proofs.next.given_by.Goals as goal
 
 pub returns-then-not-can_be : goal.returns-then-not-can_be
 returns-then-not-can_be c = λ s g.
-    let here = input_is g.choice c.args.line.now.inputs (slice_index c.args.site.now.cells.now 0 ∷ g.image) 0 (entries.Fixed 0) g.inputs
+    let here = input_is g.gives.choice c.args.line.now.inputs (slice_index c.args.site.now.cells.now 0 ∷ g.image) 0 (entries.Fixed 0) g.gives.inputs
     (omega (arith, c.requires.line.count, c.requires.site.some)) in
-    let yes : c.can_be.result ≡ true = c.can_be.ensures.needed g.choice g.is_choice
-    (subst (λ es. state_of g.choice (get_or es 0 (entries.Fixed 0)) ≡ slice_index c.args.site.now.cells.now 0) (sym c.as_slice.ensures) here) in
+    let yes : c.can_be.result ≡ true = c.can_be.ensures.needed g.gives.choice g.gives.is_choice
+    (subst (λ es. state_of g.gives.choice (get_or es 0 (entries.Fixed 0)) ≡ slice_index c.args.site.now.cells.now 0) (sym c.as_slice.ensures) here) in
     let no : c.can_be.result ≡ false = c.if-not-can_be.true in
     absurd (let e : true ≡ false = sym yes ∙ no in cc)
 

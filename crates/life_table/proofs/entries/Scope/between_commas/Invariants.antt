@@ -1,7 +1,8 @@
-use Rattle.std.proofs.Common.{◌≡◌, map}
+use Rattle.std.proofs.Common.{◌≡◌, ◌+◌, length, map}
+use Rattle.std.specs.Option.{option_map_or}
 use Rattle.life_base.specs.Text.{trim}
 use Rattle.life_table.specs.Reading.{entry_of, all_some, between_commas}
-use Rattle.life_table.specs.Reader.{parts_left, bytes_left}
+use Rattle.life_table.specs.Reader.{parts_left}
 use Rattle.life_table.proofs.Listed.{joined}
 use Rattle.life_table.proofs.entries.Scope.between_commas.Given as goal
 
@@ -11,4 +12,4 @@ invariant-loop-rest l =
     ≡ joined l.entries.items (all_some (map (entry_of l.self.n_states l.self.vars.now) (map trim (parts_left l.rest))))
 
 abbrev pub decreases-loop-rest : goal.decreases-loop-rest
-decreases-loop-rest l = bytes_left l.rest
+decreases-loop-rest l = option_map_or (λ text. length text.now + 1) l.rest 0

@@ -1,8 +1,9 @@
-use Rattle.std.proofs.Common.{◌≡◌, List, [], ◌∷◌, map, ℕ}
+use Rattle.std.proofs.Common.{◌≡◌, ◌+◌, List, [], ◌∷◌, length, map, ℕ}
 use Rattle.std.specs.Prelude.{option_and_then, Option}
+use Rattle.std.specs.Option.{option_map_or}
 use Rattle.life_base.specs.Text.{trim}
 use Rattle.life_table.specs.Reading.{entry_of, all_some, between_commas, states_of_entry}
-use Rattle.life_table.specs.Reader.{parts_left, bytes_left}
+use Rattle.life_table.specs.Reader.{parts_left}
 use Rattle.life_table.proofs.Listed.{united}
 use Rattle.life_table.specs.declared.table.Var.{Var}
 use Rattle.life_table.proofs.entries.Scope.states_listed.Given as goal
@@ -16,4 +17,4 @@ invariant-loop-rest l =
     ≡ united l.states (all_some (map (set_named l.self.n_states l.self.vars.now) (map trim (parts_left l.rest))))
 
 abbrev pub decreases-loop-rest : goal.decreases-loop-rest
-decreases-loop-rest l = bytes_left l.rest
+decreases-loop-rest l = option_map_or (λ text. length text.now + 1) l.rest 0
