@@ -20,34 +20,31 @@ use squares::{
     one_refused, put, row_refused, rows_measured, set_and_cleared, trimmed,
 };
 use std::alloc::Global;
-use steps::{BY_RULE, BY_TABLE};
+use steps::{STEPS, is_next};
 use strips::built;
 
-fn base_calls(rt: &HostRuntime) {
+// Calls that are lent no store.
+fn calls_without_store(rt: &HostRuntime) {
     let alloc = rt.alloc();
-    let calls = Calls::of(rt, "life_base");
-    calls.tell("Rule::parse", base::parsed(alloc));
-    calls.tell("Rule::write", base::written(alloc));
-    calls.tell("Rule::copy", base::copied(alloc));
-    calls.tell("Name::copy", base::name_copied(alloc));
-    calls.tell("append", base::appended(alloc));
-    calls.tell("append_number", base::number_appended(alloc));
-    calls.tell("Items::push", base::pushed(alloc));
-    calls.tell("read_within", base::read(alloc));
-}
-
-fn file_calls(rt: &HostRuntime) {
-    let alloc = rt.alloc();
-    let calls = Calls::of(rt, "life_rle");
-    calls.tell("read_rle", files::rle_read(alloc));
-    calls.tell("RleLines::line", files::rle_lines_read(alloc));
-    calls.tell("write_rle", files::rle_written(alloc));
-    let calls = Calls::of(rt, "life_mc");
-    calls.tell("read_mc", files::mc_read(alloc));
-    calls.tell("write_mc", files::mc_written(alloc));
-    let calls = Calls::of(rt, "life_table");
-    calls.tell("read_table", tables::read(alloc));
-    calls.tell("read_table for Table::next", tables::ambiguous(alloc));
+    for (place, call, answer) in [
+        ("life_base", "Rule::parse", base::parsed(alloc)),
+        ("life_base", "Rule::write", base::written(alloc)),
+        ("life_base", "Rule::copy", base::copied(alloc)),
+        ("life_base", "Name::copy", base::name_copied(alloc)),
+        ("life_base", "append", base::appended(alloc)),
+        ("life_base", "append_number", base::number_appended(alloc)),
+        ("life_base", "Items::push", base::pushed(alloc)),
+        ("life_base", "read_within", base::read(alloc)),
+        ("life_rle", "read_rle", files::rle_read(alloc)),
+        ("life_rle", "RleLines::line", files::rle_lines_read(alloc)),
+        ("life_rle", "write_rle", files::rle_written(alloc)),
+        ("life_mc", "read_mc", files::mc_read(alloc)),
+        ("life_mc", "write_mc", files::mc_written(alloc)),
+        ("life_table", "read_table", tables::read(alloc)),
+        ("life_table", "read_table for Table::next", tables::ambiguous(alloc)),
+    ] {
+        Calls::of(rt, place).tell(call, answer);
+    }
 }
 
 // Most nodes of a store.
@@ -145,18 +142,14 @@ fn step_calls(rt: &HostRuntime) {
     let mut store = Shared::new(alloc, LIMIT);
     for time in ["", ", again"] {
         let calls = Calls::at(rt, "life_step", time);
-        for step in &BY_RULE {
-            calls.tell(step.name, step.by_rule(alloc, &mut store));
-        }
-        for step in &BY_TABLE {
-            calls.tell(step.name, step.by_table(alloc, &mut store));
+        for (name, file, table, next) in STEPS {
+            calls.tell(name, is_next(alloc, &mut store, file, table, next));
         }
     }
 }
 
 fn main(rt: HostRuntime) {
-    base_calls(&rt);
-    file_calls(&rt);
+    calls_without_store(&rt);
     filling_calls::<Shared>(&rt, "Shared");
     filling_calls::<Plain>(&rt, "Plain");
     shared_calls(&rt);
