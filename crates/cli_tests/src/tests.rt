@@ -11,6 +11,7 @@ mod streams;
 mod texts;
 
 use life_cli::plans::{Job, Target};
+use steps::{NEXT_LINE, SEED, SPREAD, SPREAD_TEXT};
 
 /// A glider, and its text: the rows about the middle of a leaf.
 const GLIDER: &[u8] = b"[M2]\n#R B3/S23\n#C a glider\n$$..*$...*$.***$$$$\n";
@@ -33,26 +34,14 @@ const TWINS_SHOWN: &[u8] = b"rule B3/S23\ngeneration 0\npopulation 2\nbox -4 0 9
 
 const TWINS_RUNS: &[u8] = b"#CXRLE Pos=-4,0\nx = 9, y = 1, rule = B3/S23\no7bo!\n";
 
-/// Three cells in a row, and the text of their next generation.
+/// Three cells in a row.
 const LINE: &[u8] = b"x = 3, y = 1, rule = B3/S23\n3o!\n";
-
-const NEXT_LINE: &[u8] = b"[M2] (canonical 1)\n#R B3/S23\n#G 1\n$$$.....*$.....*$.....*$$$\n";
 
 const BLANK: &[u8] = b"x = 0, y = 0, rule = 23/3\n!\n";
 
 const WIRES: &[u8] = b"#CXRLE Pos=-1,-1 Gen=7\nx = 2, y = 1, rule = WireWorld\nApA!\n";
 
 const WIRES_TEXT: &[u8] = b"[M2] (canonical 1)\n#R WireWorld\n#G 7\n1 1 25 0 0\n";
-
-/// A state spreads to cells that have one cell of it beside them.
-const SPREAD: &[u8] =
-    b"@RULE Spread\n@TABLE\nn_states:3\nneighborhood:vonNeumann\nsymmetries:rotate4\nvar a={1,2}\n0,a,0,0,0,a\n";
-
-/// A cell of state 2, and the text of the next generation by the table `SPREAD`.
-const SEED: &[u8] = b"x = 1, y = 1, rule = Spread\nB!\n";
-
-const SPREAD_TEXT: &[u8] =
-    b"[M2] (canonical 1)\n#R Spread\n#G 1\n1 0 0 2 0\n1 0 2 0 0\n1 2 2 2 0\n2 0 1 2 3\n";
 
 /// Jobs with their files, the status that they end with, and what they write.
 const JOBS: [(Job, &[u8], Option<&[u8]>, u8, &[u8]); 13] = [

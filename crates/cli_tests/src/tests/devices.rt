@@ -6,6 +6,7 @@ ghost use Rattle.life_base.specs.DeviceState.{has_failed};
 ghost use Rattle.life_base.specs.Devices.{count_of};
 ghost use Rattle.life_cli.specs.Plans.{HasSecond};
 
+use super::JOBS;
 use life_base::{Device, Kind, Sink, Source};
 use life_cli::plans::Job;
 use life_cli::work;
@@ -13,10 +14,11 @@ use std::alloc::Global;
 use std::io::{self, Read, Write};
 use std::process::Abort;
 
-/// A reader of std that gives a byte at a time, and is interrupted behind some calls.
+/// A reader of std that gives `piece` bytes at a time, and is interrupted behind some calls.
 #[derive(Drop)]
 pub struct Dripping<'a> {
     left: &'a [u8],
+    piece: usize,
     good: usize,
 }
 
@@ -26,20 +28,25 @@ impl<'a> Read for Dripping<'a> {
             return Err(io::ErrorKind::Interrupted.into());
         }
         self.good -= 1;
-        if self.left.is_empty() || buf.is_empty() {
-            return Ok(0);
-        }
-        buf[0] = self.left[0];
-        self.left = &self.left[1..];
-        Ok(1)
+        let count = self.left.len().min(self.piece).min(buf.len());
+        buf[..count].copy_from_slice(&self.left[..count]);
+        self.left = &self.left[count..];
+        Ok(count)
     }
+}
+
+/// A source of these bytes, `piece` at a time, that fails behind so many reads.
+fn source_in_pieces(left: &[u8], piece: usize, good: usize) -> Device<Dripping<'_>>
+    ensures { has_failed result ≡ false }
+{
+    Device::new(Dripping { left, piece, good })
 }
 
 /// A source of these bytes, one at a time, that fails behind so many reads.
 pub(super) fn source_of(left: &[u8], good: usize) -> Device<Dripping<'_>>
     ensures { has_failed result ≡ false }
 {
-    Device::new(Dripping { left, good })
+    source_in_pieces(left, 1, good)
 }
 
 /// What becomes of a writer behind its room: it takes no more, fails with such an error, or can't flush and fails with such an error.
@@ -175,6 +182,16 @@ pub(super) fn assert_job<A: Source, B: Source + Drop>(
     let mut err = sink_with(alloc, 99, 3);
     let status = work(alloc, job, first, &mut second, &mut out, &mut err);
     assert_left(rt, (status, out, err), wanted);
+}
+
+/// Each of the jobs writes its text, where sources give `piece` bytes at a time.
+pub(super) fn assert_jobs(rt: &impl Abort, alloc: Global, piece: usize, sink: (usize, usize)) {
+    for (job, first, second, status, text) in JOBS {
+        let mut first = source_in_pieces(first, piece, 999);
+        let second = second.map(|bytes| source_in_pieces(bytes, piece, 999));
+        let wanted = (status, text, b"".as_slice());
+        assert_job(rt, alloc, &job, &mut first, second, sink, wanted);
+    }
 }
 
 /// A job of one file leaves this.

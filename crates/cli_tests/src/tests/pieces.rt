@@ -1,28 +1,19 @@
 //! Sources that give and outputs that take a byte at a time, and sources that fail where their bytes end.
 
-use super::devices::{WIDE, assert_job, assert_one, assert_two, source_of};
-use super::{JOBS, SPREAD, TWINS};
+use super::TWINS;
+use super::devices::{WIDE, assert_jobs, assert_one, assert_two, source_of};
+use super::steps::SPREAD;
 use life_base::Device;
 use life_cli::plans::{Job, Target};
 
 #[test]
 fn byte_after_byte(rt: HostRuntime) {
-    for (job, first, second, status, text) in JOBS {
-        let second = second.map(|bytes| source_of(bytes, 999));
-        let wanted = (status, text, b"".as_slice());
-        let mut first = source_of(first, 999);
-        assert_job(&rt, rt.alloc(), &job, &mut first, second, WIDE, wanted);
-    }
+    assert_jobs(&rt, rt.alloc(), 1, WIDE);
 }
 
 #[test]
 fn taken_byte_after_byte(rt: HostRuntime) {
-    for (job, first, second, status, text) in JOBS {
-        let second = second.map(|bytes| Device::new(bytes));
-        let wanted = (status, text, b"".as_slice());
-        let mut first = Device::new(first);
-        assert_job(&rt, rt.alloc(), &job, &mut first, second, (9999, 1), wanted);
-    }
+    assert_jobs(&rt, rt.alloc(), 9999, (9999, 1));
 }
 
 /// A failure behind the last byte is told, also in place of a fault of the file.

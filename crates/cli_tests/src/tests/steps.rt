@@ -1,9 +1,23 @@
 //! The jobs that step a pattern.
 
 use super::devices::{WIDE, assert_files, assert_refused, assert_texts, assert_two, source_of};
-use super::{LINE, NEXT_LINE, SEED, SPREAD, WIRES};
+use super::{LINE, WIRES};
 use life_base::Source;
 use life_cli::plans::Job;
+
+/// The next generation of `LINE`.
+pub(super) const NEXT_LINE: &[u8] =
+    b"[M2] (canonical 1)\n#R B3/S23\n#G 1\n$$$.....*$.....*$.....*$$$\n";
+
+/// A state spreads to cells that have one cell of it beside them.
+pub(super) const SPREAD: &[u8] =
+    b"@RULE Spread\n@TABLE\nn_states:3\nneighborhood:vonNeumann\nsymmetries:rotate4\nvar a={1,2}\n0,a,0,0,0,a\n";
+
+/// A cell of state 2, and the text of the next generation by the table `SPREAD`.
+pub(super) const SEED: &[u8] = b"x = 1, y = 1, rule = Spread\nB!\n";
+
+pub(super) const SPREAD_TEXT: &[u8] =
+    b"[M2] (canonical 1)\n#R Spread\n#G 1\n1 0 0 2 0\n1 0 2 0 0\n1 2 2 2 0\n2 0 1 2 3\n";
 
 /// A cell between two others takes either's state.
 const TWO_ANSWERS: &[u8] =
