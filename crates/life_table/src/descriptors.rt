@@ -1,6 +1,6 @@
 //! Descriptors: the number of states, the neighbourhood and the symmetry.
 
-ghost use Rattle.std.specs.Prelude.{◌≡◌};
+ghost use Rattle.std.specs.Prelude.{◌≡◌, bytes_eq, find, option_map};
 ghost use Rattle.life_table.specs.Reading.{states_named, neighborhood_named, symmetry_named, agree, if_states, if_neighborhood, if_symmetry, parse_descriptor, is_neighborhood_key};
 
 use crate::directive::{Directive, Parsed};
@@ -18,40 +18,49 @@ fn states_named(word: &[u8]) -> Option<u16>
     }
 }
 
+/// The neighbourhoods by their words.
+const NEIGHBORHOODS: [(&[u8], Neighborhood); 2] = [
+    (b"vonNeumann", Neighborhood::VonNeumann),
+    (b"Moore", Neighborhood::Moore),
+];
+
+/// The symmetries by their words.
+const SYMMETRIES: [(&[u8], Symmetry); 7] = [
+    (b"none", Symmetry::Identity),
+    (b"rotate4", Symmetry::Rotate4),
+    (b"rotate4reflect", Symmetry::Rotate4Reflect),
+    (b"reflect_horizontal", Symmetry::ReflectHorizontal),
+    (b"permute", Symmetry::Permute),
+    (b"rotate8", Symmetry::Rotate8),
+    (b"rotate8reflect", Symmetry::Rotate8Reflect),
+];
+
+/// The row of a table with this word.
+fn row_of<'x, T: Copy>(table: &[(&'x [u8], T)], word: &[u8]) -> Option<(&'x [u8], T)>
+    ensures { result ≡ find (λ row. bytes_eq word.now row.0.now) table.now }
+{
+    table.iter().copied().find(|row| is_word(word, row.0))
+}
+
+/// What stands in a table by this word.
+fn named<T: Copy>(table: &[(&[u8], T)], word: &[u8]) -> Option<T>
+    ensures { result ≡ option_map (λ row. row.1) (find (λ row. bytes_eq word.now row.0.now) table.now) }
+{
+    row_of(table, word).map(|row| row.1)
+}
+
 /// The neighbourhood with this word.
 fn neighborhood_named(word: &[u8]) -> Option<Neighborhood>
     ensures { result ≡ neighborhood_named word.now }
 {
-    if is_word(word, b"vonNeumann") {
-        Some(Neighborhood::VonNeumann)
-    } else if is_word(word, b"Moore") {
-        Some(Neighborhood::Moore)
-    } else {
-        None
-    }
+    named(&NEIGHBORHOODS, word)
 }
 
 /// The symmetry with this word.
 fn symmetry_named(word: &[u8]) -> Option<Symmetry>
     ensures { result ≡ symmetry_named word.now }
 {
-    if is_word(word, b"none") {
-        Some(Symmetry::Identity)
-    } else if is_word(word, b"rotate4") {
-        Some(Symmetry::Rotate4)
-    } else if is_word(word, b"rotate4reflect") {
-        Some(Symmetry::Rotate4Reflect)
-    } else if is_word(word, b"reflect_horizontal") {
-        Some(Symmetry::ReflectHorizontal)
-    } else if is_word(word, b"permute") {
-        Some(Symmetry::Permute)
-    } else if is_word(word, b"rotate8") {
-        Some(Symmetry::Rotate8)
-    } else if is_word(word, b"rotate8reflect") {
-        Some(Symmetry::Rotate8Reflect)
-    } else {
-        None
-    }
+    named(&SYMMETRIES, word)
 }
 
 /// Whether the symmetry is listed for the neighbourhood, where both are known.
