@@ -20,14 +20,7 @@ images_back symmetry v w h image = let k = h image in (k.1, k.0)
 
 gives : (symmetry : Symmetry) (vars : List Var) (centre : ℕ) (v w : List ℕ) → SameImages symmetry v w → (line : Transition) (s : ℕ)
     → Gives symmetry vars line centre v s → Gives symmetry vars line centre w s
-gives symmetry vars centre v w same line s g = record {
-  image = g.image;
-  is_image = (same g.image).0 g.is_image;
-  choice = g.choice;
-  is_choice = g.is_choice;
-  inputs = g.inputs;
-  output = g.output;
-}
+gives symmetry vars centre v w same line s g = record { image = g.image; is_image = (same g.image).0 g.is_image; gives = g.gives }
 
 module _ (symmetry : Symmetry) (vars : List Var) (centre : ℕ) (v w : List ℕ) (same : SameImages symmetry v w) where
   gives_there : (line : Transition) (s : ℕ) → Gives symmetry vars line centre v s → Gives symmetry vars line centre w s
