@@ -238,8 +238,8 @@ module _ (n : Neighborhood) (symmetry : Symmetry) (vars : List Var) where
       → GivesNothing symmetry vars 0 (zeros n) line
   silent n_states line t not_so s g =
       let values = fits_if_gives line s g in
-      let allowed : All (λ e. allows_zero vars e ≡ true) line.inputs = λ k d below. zero_value n_states vars g.gives.choice g.gives.is_choice (get_or line.inputs k d)
-      (t.inputs k d below) (values k d below) in
+      let allowed : All (λ e. allows_zero vars e ≡ true) line.inputs = λ k d below.
+      zero_value n_states vars g.gives.choice g.gives.is_choice (get_or line.inputs k d) (t.inputs k d below) (values k d below) in
       absurd (let e : true ≡ false = sym (all_passed (allows_zero vars) line.inputs allowed) ∙ not_so in let z : ⊥ = cc in z)
 
   all_silent : (n_states : ℕ) (lines : List Transition) → All (IsTransition n_states (neighbour_count n) vars) lines
@@ -286,7 +286,8 @@ zero_law n_states n symmetry vars lines sound = elim (first_fit vars lines sound
               output = output_zero n symmetry vars n_states f.line t quiet c.0 values f.line.output refl;
             };
           },
-          λ s g. sym g.gives.output ∙ output_zero n symmetry vars n_states f.line t quiet g.gives.choice (fits_if_gives n symmetry vars f.line s g) f.line.output refl,
+          λ s g. sym g.gives.output
+              ∙ output_zero n symmetry vars n_states f.line t quiet g.gives.choice (fits_if_gives n symmetry vars f.line s g) f.line.output refl,
         );
       })
 ]

@@ -1,6 +1,6 @@
 //! Descriptors: the number of states, the neighbourhood and the symmetry.
 
-ghost use Rattle.std.specs.Prelude.{◌≡◌, bytes_eq, find, option_map};
+ghost use Rattle.std.specs.Prelude.{◌≡◌, bytes_eq, find};
 ghost use Rattle.life_table.specs.Reading.{states_named, neighborhood_named, symmetry_named, agree, if_states, if_neighborhood, if_symmetry, parse_descriptor, is_neighborhood_key};
 
 use crate::directive::{Directive, Parsed};
@@ -42,25 +42,18 @@ fn row_of<'x, T: Copy>(table: &[(&'x [u8], T)], word: &[u8]) -> Option<(&'x [u8]
     table.iter().copied().find(|row| is_word(word, row.0))
 }
 
-/// What stands in a table by this word.
-fn named<T: Copy>(table: &[(&[u8], T)], word: &[u8]) -> Option<T>
-    ensures { result ≡ option_map (λ row. row.1) (find (λ row. bytes_eq word.now row.0.now) table.now) }
-{
-    row_of(table, word).map(|row| row.1)
-}
-
 /// The neighbourhood with this word.
 fn neighborhood_named(word: &[u8]) -> Option<Neighborhood>
     ensures { result ≡ neighborhood_named word.now }
 {
-    named(&NEIGHBORHOODS, word)
+    row_of(&NEIGHBORHOODS, word).map(|row| row.1)
 }
 
 /// The symmetry with this word.
 fn symmetry_named(word: &[u8]) -> Option<Symmetry>
     ensures { result ≡ symmetry_named word.now }
 {
-    named(&SYMMETRIES, word)
+    row_of(&SYMMETRIES, word).map(|row| row.1)
 }
 
 /// Whether the symmetry is listed for the neighbourhood, where both are known.
