@@ -28,11 +28,11 @@ use Rattle.life_cli.specs.declared.working.Made.{Made}
 use Rattle.life_cli.specs.declared.working.Made.TheVariants.{Comparison}
 use Rattle.life_cli.specs.Plans.{HasSecond, WritesCanonical}
 use Rattle.life_step.specs.Stepped.{IsStepped, IsSteppedBy}
-use Rattle.life_cli.specs.Jobs.{InputRefuses, by_length, by_source, HasNoText, by_input, by_file, by_want, IsHeld, AreCompared, IsComparedAs, AreUncompared}
+use Rattle.life_cli.specs.Jobs.{InputRefuses, by_length, by_source, HasNoText, by_input, by_file, by_want, IsHeld, AreUncompared}
 use Rattle.life_cli.specs.Jobs.{by_first, by_second, by_first_shortage, by_second_shortage}
-use Rattle.life_cli.specs.Jobs.{IsWantFor, WantsToStep, RefusesRle, Compares, made_text, made_status, Makes, Writes, Worked, Breaks, HasText, FileRefuses}
-use Rattle.life_cli.specs.Jobs.{by_reading, by_writing, by_telling}
-use Rattle.life_cli.specs.Jobs.{RefusesStep, RefusesStepBy, HasTable, HasNoTable, HasNoTextByTable, table_by_input, table_by_lines}
+use Rattle.life_cli.specs.Jobs.{IsWantFor, WantsToStep, RefusesRle, Compares, made_text, made_status, HasAnswer, Makes, Writes, Worked, Breaks, HasText, FileRefuses}
+use Rattle.life_cli.specs.Jobs.{by_writing, by_telling}
+use Rattle.life_cli.specs.Jobs.{RefusesStep, HasTable, HasNoTable, table_by_input, table_by_lines}
 use Rattle.life_cli.specs.Jobs.{table_by_memory, OfFile, JobRefuses}
 
 -- nothing comes of an input of which a store makes no pattern
@@ -104,12 +104,12 @@ answers a b false is = inr (refl, (λ same. let bad : false ≡ true = is.1 same
 
 pub compared_files : (first second : SourceRun) (a b : List ℕ) (answer : Bool) → ReadAll (2 ^ 30) first.before first.after a
     → ReadAll (2 ^ 30) second.before second.after b → Accepted MAX_LEVEL a → Accepted MAX_LEVEL b → IsTrue answer ↔ AreSame MAX_LEVEL a b
-    → IsComparedAs first second answer
+    → Makes Same first second (Comparison answer)
 compared_files first second a b answer one two first_is second_is is = record {
   first_bytes = a;
   second_bytes = b;
   first_read = one;
-  second_read = two;
+  second_read = λ _. two;
   writes = (first_is, second_is, answers a b answer is);
 }
 
@@ -150,25 +150,15 @@ read_as_table source bytes (Ok table) read is = record { bytes = bytes; read = r
 read_as_table source bytes (Err fault) read is = tt
 
 -- a text that was made of the first file, and of what was read of the second one
-pub made_of_file : (gives : List ℕ → List ℕ → Type 0) (job : Job) (first second : SourceRun) (others : List ℕ) (made : Made)
-    → HasText gives first (made_text made) → (HasSecond job → ReadAll (2 ^ 30) second.before second.after others)
-    → ((bytes : List ℕ) → gives bytes (made_text made) → Writes job bytes others (made_status made) (made_text made)) → Makes job first second made
-made_of_file gives job first second others made has read is = record {
+pub made_of_file : (gives : List ℕ → List ℕ → Type 0) (job : Job) (first second : SourceRun) (others text : List ℕ)
+    → HasText gives first text → (HasSecond job → ReadAll (2 ^ 30) second.before second.after others)
+    → ((bytes : List ℕ) → gives bytes text → Writes job bytes others 0 text) → HasAnswer job first second 0 text
+made_of_file gives job first second others text has read is = record {
   first_bytes = has.bytes;
   second_bytes = others;
   first_read = has.read;
   second_read = read;
   writes = is has.bytes has.is;
-}
-
--- the answer of a comparison
-pub made_of_files : (first second : SourceRun) (answer : Bool) → IsComparedAs first second answer → Makes Same first second (Comparison answer)
-made_of_files first second answer are = record {
-  first_bytes = are.first_bytes;
-  second_bytes = are.second_bytes;
-  first_read = are.first_read;
-  second_read = λ _. are.second_read;
-  writes = are.writes;
 }
 
 -- a test that answers no
@@ -179,15 +169,7 @@ not_so false P is fails holds = let bad : false ≡ true = is.1 holds in absurd 
 -- what was made is written: the job is done
 pub worked : (job : Job) (first second : SourceRun) (output : SinkRun) (made : Made) → Makes job first second made
     → Appends output.before output.after (made_text made) → Worked job (made_status made) first second output
-worked job first second output made makes written = record {
-  first_bytes = makes.first_bytes;
-  second_bytes = makes.second_bytes;
-  text = made_text made;
-  first_read = makes.first_read;
-  second_read = makes.second_read;
-  writes = makes.writes;
-  written = written;
-}
+worked job first second output made makes written = record { text = made_text made; answer = makes; written = written }
 
 -- it could not be written
 broken_text : (gives : List ℕ → List ℕ → Type 0) (refuses : List ℕ → Fault → Type 0) (source : SourceRun) (output : SinkRun) (bytes text : List ℕ)
@@ -201,15 +183,7 @@ unwritten Canon first second output made refusal other makes broken = absurd (ot
 unwritten (Convert Rle) first second output made refusal other makes broken =
     (broken.0, broken_text (IsRleOf MAX_LEVEL (2 ^ 20)) RefusesRle first output _ _ refusal.fault makes.first_read makes.writes.1 broken.1)
 unwritten (Convert Mc) first second output made refusal other makes broken = absurd (other tt)
-unwritten Same first second output made refusal other makes broken =
-    let compared : AreCompared first second (made_status made) (made_text made) = record {
-      first_bytes = makes.first_bytes;
-      second_bytes = makes.second_bytes;
-      first_read = makes.first_read;
-      second_read = makes.second_read tt;
-      writes = makes.writes;
-    } in
-    (broken.0, by_telling _ _ compared broken.1)
+unwritten Same first second output made refusal other makes broken = (broken.0, by_telling _ _ makes broken.1)
 unwritten Show first second output made refusal other makes broken =
     (broken.0, broken_text (IsShown MAX_LEVEL) (Refuses MAX_LEVEL) first output _ _ refusal.fault makes.first_read makes.writes.1 broken.1)
 unwritten Step first second output made refusal other makes broken =
@@ -217,15 +191,9 @@ unwritten Step first second output made refusal other makes broken =
 unwritten StepTable first second output made refusal other makes broken =
     let table = makes.writes.1.0 in
     let has : HasTable second table = record { bytes = makes.second_bytes; read = makes.second_read tt; is = makes.writes.1.1 } in
-    let broken_by = broken_text (IsSteppedBy table) (RefusesStepBy table) first output _ _ refusal.fault makes.first_read makes.writes.1.2 broken.1 in
-    inr (broken.0, (table, has, broken_by))
-
--- no text comes by a table, whatever the output
-pub no_text_by_table : (first second : SourceRun) (output : SinkRun) (refusal : Refusal) → HasNoTextByTable first second refusal
-    → JobRefuses StepTable first second output refusal
-no_text_by_table first second output refusal (inl no_table) = inl no_table
-no_text_by_table first second output refusal (inr no_text) =
-    inr (no_text.0, (no_text.1.0, no_text.1.1, by_reading no_text.1.2))
+    let stepped : HasText (IsSteppedBy table) first (made_text made) =
+    record { bytes = makes.first_bytes; read = makes.first_read; is = makes.writes.1.2 } in
+    inr (broken.0, (made_text made, (table, has, stepped), broken.1))
 
 -- a job that writes the canonical text of its file
 canonical_as : (job : Job) (first second : SourceRun) (output : SinkRun) → WritesCanonical job → Worked Canon 0 first second output
@@ -233,12 +201,14 @@ canonical_as : (job : Job) (first second : SourceRun) (output : SinkRun) → Wri
 canonical_as Canon first second output is done = done
 canonical_as (Convert Rle) first second output is done = absurd is
 canonical_as (Convert Mc) first second output is done = record {
-  first_bytes = done.first_bytes;
-  second_bytes = done.second_bytes;
   text = done.text;
-  first_read = done.first_read;
-  second_read = done.second_read;
-  writes = done.writes;
+  answer = record {
+    first_bytes = done.answer.first_bytes;
+    second_bytes = done.answer.second_bytes;
+    first_read = done.answer.first_read;
+    second_read = done.answer.second_read;
+    writes = done.answer.writes;
+  };
   written = done.written;
 }
 canonical_as Same first second output is done = absurd is

@@ -6,24 +6,16 @@ use Rattle.life_base.specs.Kinds.{kind_name}
 use Rattle.life_base.specs.Writing.{WritesPrefix}
 use Rattle.life_base.specs.declared.fault.Fault.{Fault}
 use Rattle.life_base.specs.declared.kind.Kind.{Kind}
+use Rattle.life_table.specs.Reading.{is_table_kind}
 use Rattle.life_cli.specs.declared.telling.Refusal.{Refusal}
 use Rattle.life_base.specs.declared.kind.Kind.TheVariants as kinds
 
 -- A line of this kind of fault is one of a rule table: the kinds that only tables have, and a line that is too long where the table was
 -- being read.
 abbrev pub is_of_table : Bool → Kind → Bool
-is_of_table in_table kinds.NoRuleLine = true
-is_of_table in_table kinds.NoTable = true
-is_of_table in_table kinds.BadDescriptor = true
-is_of_table in_table kinds.UnsupportedNeighborhood = true
-is_of_table in_table kinds.UnsupportedSymmetry = true
-is_of_table in_table kinds.BadVariable = true
-is_of_table in_table kinds.BadTransition = true
-is_of_table in_table kinds.UnboundOutput = true
-is_of_table in_table kinds.NotQuiet = true
-is_of_table in_table kinds.Ambiguous = true
 is_of_table in_table kinds.LineTooLong = in_table
-is_of_table in_table _ = false
+is_of_table in_table kinds.Ambiguous = true
+is_of_table in_table kind = is_table_kind kind
 
 -- the word before a line's number
 abbrev pub line_word : Bool → List ℕ

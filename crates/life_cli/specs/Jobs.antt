@@ -1,5 +1,5 @@
 -- What a job writes, by the bytes of its files, and why it is refused.
-use Rattle.std.specs.Prelude.{◌≡◌, ◌⊎◌, ◌^◌, ℕ, Bool, true, false, List, Some, Result, IfOk, IfErr, codes, if◌then◌else◌}
+use Rattle.std.specs.Prelude.{◌≡◌, ◌⊎◌, ◌^◌, ℕ, true, false, List, Some, Result, IfOk, IfErr, codes, if◌then◌else◌}
 use Rattle.std.specs.Io.KnownBytes.{Appends}
 use Rattle.life_base.specs.DeviceRuns.{SourceRun, SinkRun}
 use Rattle.life_base.specs.Inputs.{ReadAll, CameBeyond}
@@ -45,14 +45,18 @@ Writes Show first second status text = (status ≡ 0) × IsShown MAX_LEVEL first
 Writes Step first second status text = (status ≡ 0) × IsStepped first text
 Writes StepTable first second status text = (status ≡ 0) × ((table : Table) × IsFile (lines_of second) table × IsSteppedBy table first text)
 
--- the files were read to their ends, and what was written is the text of the job and nothing else
-pub record Worked (job : Job) (status : ℕ) (first second : SourceRun) (output : SinkRun) : Type 0 where
+-- the files were read to their ends, and these are the status and the text of the job on their bytes
+pub record HasAnswer (job : Job) (first second : SourceRun) (status : ℕ) (text : List ℕ) : Type 0 where
   pub first_bytes : List ℕ
   pub second_bytes : List ℕ
-  pub text : List ℕ
   pub first_read : ReadAll (2 ^ 30) first.before first.after first_bytes
   pub second_read : HasSecond job → ReadAll (2 ^ 30) second.before second.after second_bytes
   pub writes : Writes job first_bytes second_bytes status text
+
+-- the files were read to their ends, and what was written is the text of the job and nothing else
+pub record Worked (job : Job) (status : ℕ) (first second : SourceRun) (output : SinkRun) : Type 0 where
+  pub text : List ℕ
+  pub answer : HasAnswer job first second status text
   pub written : Appends output.before output.after text
 
 -- what is written of what a job made, and its status
@@ -65,12 +69,8 @@ made_status (Text text) = 0
 made_status (Comparison is_same) = if is_same then 0 else 1
 
 -- the files were read to their ends, and this is what the job makes of them
-pub record Makes (job : Job) (first second : SourceRun) (made : Made) : Type 0 where
-  pub first_bytes : List ℕ
-  pub second_bytes : List ℕ
-  pub first_read : ReadAll (2 ^ 30) first.before first.after first_bytes
-  pub second_read : HasSecond job → ReadAll (2 ^ 30) second.before second.after second_bytes
-  pub writes : Writes job first_bytes second_bytes (made_status made) (made_text made)
+abbrev pub Makes : Job → (first second : SourceRun) → Made → Type 0
+Makes job first second made = HasAnswer job first second (made_status made) (made_text made)
 
 -- why an input isn't read to its end: too much came, or the source failed
 pub data InputRefuses (source : SourceRun) (fault : Fault) : Type 0 where
@@ -116,18 +116,6 @@ pub record IsHeld (store : Nodes) (source : SourceRun) (held : Result Pattern Fa
   pub pattern : IfOk held (IsRead MAX_LEVEL bytes store)
   pub fault : IfErr held (Refuses MAX_LEVEL bytes)
 
--- all of two files was read, and this is the status and the line of their comparison
-pub record AreCompared (first second : SourceRun) (status : ℕ) (text : List ℕ) : Type 0 where
-  pub first_bytes : List ℕ
-  pub second_bytes : List ℕ
-  pub first_read : ReadAll (2 ^ 30) first.before first.after first_bytes
-  pub second_read : ReadAll (2 ^ 30) second.before second.after second_bytes
-  pub writes : Writes Same first_bytes second_bytes status text
-
--- the same of the answer
-abbrev pub IsComparedAs : (first second : SourceRun) → Bool → Type 0
-IsComparedAs first second is_same = AreCompared first second (made_status (Comparison is_same)) (made_text (Comparison is_same))
-
 -- Why two files aren't compared: the first isn't read; all of it was read, and the second isn't; all of both was read, and the first is no
 -- file, or it is one and the second isn't; or room or memory is wanted for the first, or, once all of it was read, for the second.
 pub data AreUncompared (first second : SourceRun) (fault : Fault) : Type 0 where
@@ -141,7 +129,7 @@ pub data AreUncompared (first second : SourceRun) (fault : Fault) : Type 0 where
 -- why the comparison of two files is refused: there is none, or its line could not be written
 pub data SameRefuses (first second : SourceRun) (output : SinkRun) (fault : Fault) : Type 0 where
   by_comparing : AreUncompared first second fault → SameRefuses first second output fault
-  by_telling : (status : ℕ) (text : List ℕ) → AreCompared first second status text → Breaks output text fault
+  by_telling : (status : ℕ) (text : List ℕ) → HasAnswer Same first second status text → Breaks output text fault
       → SameRefuses first second output fault
 
 -- why bytes have no text in extended RLE: they are no file, or one with too many cells
@@ -180,11 +168,6 @@ pub data HasNoTable (source : SourceRun) (fault : Fault) : Type 0 where
   table_by_lines : (bytes : List ℕ) → ReadAll (2 ^ 30) source.before source.after bytes → RefusesTable (lines_of bytes) fault → HasNoTable source fault
   table_by_memory : fault ≡ fault_of Memory → HasNoTable source fault
 
--- why a step by a table is refused once the table was read: as a job of one file
-abbrev pub StepRefuses : (first second : SourceRun) → SinkRun → Fault → Type 0
-StepRefuses first second output fault =
-    (table : Table) × HasTable second table × FileRefuses (IsSteppedBy table) (RefusesStepBy table) first output fault
-
 -- no byte of the source was read, and no call of it has failed
 abbrev pub IsUnread : SourceRun → Type 0
 IsUnread source = (source.after ≡ source.before) × (source.failures ≡ 0)
@@ -214,5 +197,5 @@ JobRefuses (Convert Mc) first second output refusal = OfFile (CanonRefuses first
 JobRefuses Same first second output refusal = OfFile (SameRefuses first second output) refusal
 JobRefuses Show first second output refusal = OfFile (FileRefuses (IsShown MAX_LEVEL) (Refuses MAX_LEVEL) first output) refusal
 JobRefuses Step first second output refusal = OfFile (FileRefuses IsStepped RefusesStep first output) refusal
-JobRefuses StepTable first second output refusal =
-    (OfTable (HasNoTable second) refusal × IsUnread first) ⊎ OfFile (StepRefuses first second output) refusal
+JobRefuses StepTable first second output refusal = HasNoTextByTable first second refusal
+    ⊎ OfFile (λ fault. (text : List ℕ) × HasTextByTable first second text × Breaks output text fault) refusal

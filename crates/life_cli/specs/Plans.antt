@@ -27,31 +27,21 @@ command_of StepTable = codes "step"
 
 -- the job has a second file
 abbrev pub HasSecond : Job → Type 0
-HasSecond Canon = ⊥
-HasSecond (Convert target) = ⊥
 HasSecond Same = Unit {0}
-HasSecond Show = ⊥
-HasSecond Step = ⊥
 HasSecond StepTable = Unit {0}
+HasSecond _ = ⊥
 
 -- the job writes the canonical text of its file
 abbrev pub WritesCanonical : Job → Type 0
 WritesCanonical Canon = Unit {0}
-WritesCanonical (Convert Rle) = ⊥
 WritesCanonical (Convert Mc) = Unit {0}
-WritesCanonical Same = ⊥
-WritesCanonical Show = ⊥
-WritesCanonical Step = ⊥
-WritesCanonical StepTable = ⊥
+WritesCanonical _ = ⊥
 
 -- the command of the job takes a file and nothing more
 abbrev pub TakesFileAlone : Job → Type 0
 TakesFileAlone Canon = Unit {0}
-TakesFileAlone (Convert target) = ⊥
-TakesFileAlone Same = ⊥
 TakesFileAlone Show = Unit {0}
-TakesFileAlone Step = ⊥
-TakesFileAlone StepTable = ⊥
+TakesFileAlone _ = ⊥
 
 -- the only file is FILE
 abbrev pub HoldsFile : List Row → Plan → Type 0

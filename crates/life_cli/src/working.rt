@@ -8,7 +8,7 @@ ghost use Rattle.life_canon.specs.Files.{Refuses};
 ghost use Rattle.life_canon.specs.Store.{Keeps};
 ghost use Rattle.life_canon.specs.Texts.{IsRleOf, IsShown};
 ghost use Rattle.life_cli.specs.Faults.{fault_line, status_of, Tells};
-ghost use Rattle.life_cli.specs.Jobs.{made_status, made_text, Makes, Worked, OfFile, InputRefuses, Breaks, HasText, HasNoText, IsComparedAs, AreUncompared, CanonRefuses, IsHeld, IsWantFor, JobRefuses, RefusesRle};
+ghost use Rattle.life_cli.specs.Jobs.{made_status, made_text, Makes, Worked, OfFile, InputRefuses, Breaks, HasText, HasNoText, AreUncompared, CanonRefuses, IsHeld, IsWantFor, JobRefuses, RefusesRle};
 ghost use Rattle.life_cli.specs.Plans.{HasSecond, WritesCanonical};
 
 use crate::plans::{Job, Target};
@@ -124,23 +124,19 @@ fn held<A: Source>(
     }
 }
 
-/// Whether two sources have the same pattern. What keeps the second source from being read is told before the fault of the first one's file.
-fn compared<A: Source, B: Source>(
-    alloc: Global,
-    first: &mut A,
-    second: &mut B,
-) -> Result<bool, Fault>
-    requires first { A.failures first.old ≡ 0 }
-    requires second { B.failures second.old ≡ 0 }
-    ensures ok { IfOk result (IsComparedAs (source_run A.remaining A.failures first.old first.new) (source_run B.remaining B.failures second.old second.new)) }
-    ensures err { IfErr result (AreUncompared (source_run A.remaining A.failures first.old first.new) (source_run B.remaining B.failures second.old second.new)) }
-    ensures told { (A.failures first.new ≡ 1) ⊎ (B.failures second.new ≡ 1) → IsErrAnd result (λ fault. fault.kind ≡ Kind.ReadFault) }
+/// Whether two sources have the same pattern. What keeps `other` from being read is told before the fault of the file of `one`.
+fn compared<A: Source, B: Source>(alloc: Global, one: &mut A, other: &mut B) -> Result<bool, Fault>
+    requires one { A.failures one.old ≡ 0 }
+    requires other { B.failures other.old ≡ 0 }
+    ensures ok { IfOk result (λ is_same. Makes Job.Same (source_run A.remaining A.failures one.old one.new) (source_run B.remaining B.failures other.old other.new) (Made.Comparison is_same)) }
+    ensures err { IfErr result (AreUncompared (source_run A.remaining A.failures one.old one.new) (source_run B.remaining B.failures other.old other.new)) }
+    ensures told { (A.failures one.new ≡ 1) ⊎ (B.failures other.new ≡ 1) → IsErrAnd result (λ fault. fault.kind ≡ Kind.ReadFault) }
 {
     patterns_stay();
     patterns_tell_files();
     let mut store = Shared::new(alloc, MOST_SQUARES);
-    let a = held(alloc, &mut store, first)?;
-    let b = held(alloc, &mut store, second)?;
+    let a = held(alloc, &mut store, one)?;
+    let b = held(alloc, &mut store, other)?;
     Ok(are_same(&a?, &b?))
 }
 

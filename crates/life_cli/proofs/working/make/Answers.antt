@@ -1,4 +1,4 @@
-use Rattle.std.proofs.Common.{◌≡◌, ◌^◌, [], refl, rules}
+use Rattle.std.proofs.Common.{◌≡◌, ◌^◌, [], inl, refl, rules}
 use Rattle.std.proofs.lemmas.Result.{err_from_is_err_and}
 use Rattle.life_base.specs.declared.cell.TheConstants.{MAX_LEVEL}
 use Rattle.life_canon.specs.Texts.{IsRleOf, IsShown}
@@ -6,7 +6,7 @@ use Rattle.life_step.specs.Stepped.{IsStepped, IsSteppedBy}
 use Rattle.life_cli.specs.Jobs.{by_comparing, by_reading}
 use Rattle.life_cli.specs.declared.plans.Job.TheVariants.{Convert, Show, Step, StepTable}
 use Rattle.life_cli.specs.declared.plans.Target.TheVariants.{Rle}
-use Rattle.life_cli.proofs.WorkLemmas.{made_of_file, made_of_files, no_text_by_table}
+use Rattle.life_cli.proofs.WorkLemmas.{made_of_file}
 use Rattle.life_cli.proofs.working.make.Goals as goal
 use Rattle.life_cli.proofs.working.make.Goals.{in-Convert-Rle-default+in_ok-rle_of_source-in-Convert-Rle-default, in-Same-Some+in_ok-compared-in-Same-Some}
 use Rattle.life_cli.proofs.working.make.Goals.{in-Show-default+in_ok-five_lines_of_source-in-Show-default, in-Step-default+in_ok-next_of-in-Step-default}
@@ -42,7 +42,7 @@ returns-in_err-next_by_table_of-in-StepTable-Some-clause-err g c =
     let p = err_from_is_err_and c.from_residual-in_err-next_by_table_of-in-StepTable-Some.result
     c.from_residual-in_err-next_by_table_of-in-StepTable-Some.ensures.1 in
     rw (p.1, p.2, c.in-StepTable-Some.is-0, c.in-StepTable-Some.is-1)
-    (λ output. no_text_by_table _ _ output _ c.in_err-next_by_table_of-in-StepTable-Some.ensures.err)
+    (λ output. inl c.in_err-next_by_table_of-in-StepTable-Some.ensures.err)
 
 pub returns-clause-ok : goal.returns-clause-ok
 returns-clause-ok g c = elim c.match-job.branch [
@@ -52,7 +52,7 @@ returns-clause-ok g c = elim c.match-job.branch [
       w.in_ok-rle_of_source-in-Convert-Rle-default.ensures.ok (λ has. absurd has) (λ bytes is. (refl, is)))
   | in-Same-Some+in_ok-compared-in-Same-Some w ↦
       rw (w.in-Same-Some.is-0, w.result-is, w.first-is, w.second-is, w.in-Same-Some.is-1)
-      (made_of_files _ _ _ w.in_ok-compared-in-Same-Some.ensures.ok)
+      w.in_ok-compared-in-Same-Some.ensures.ok
   | in-Show-default+in_ok-five_lines_of_source-in-Show-default w ↦
       rw (w.in-Show-default.is-0, w.result-is, w.first-is) (made_of_file (IsShown MAX_LEVEL) Show _ _ [] _
       w.in_ok-five_lines_of_source-in-Show-default.ensures.ok (λ has. absurd has) (λ bytes is. (refl, is)))

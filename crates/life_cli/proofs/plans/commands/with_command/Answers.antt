@@ -1,4 +1,4 @@
-use Rattle.std.proofs.Common.{subst, Result}
+use Rattle.std.proofs.Common.{subst}
 use Rattle.std.proofs.lemmas.Result.{IfOk-weaker}
 use Rattle.std.specs.Prelude.{IfOk}
 use Rattle.life_cli.specs.CommandLine.{ReadsAs}
