@@ -20,8 +20,8 @@ pub returns-in_err-list-clause-refusals : goal.returns-in_err-list-clause-refusa
 returns-in_err-list-clause-refusals g c =
     let p = err_from_is_err_and c.from_residual.result c.from_residual.ensures.1 in
     rw (p.1, p.2) (elim c.in_err-list.ensures.refusals [
-      | inl e ↦ inr (inr (inl (c.in_err-list.ensures.many e, ap (λ (k : Kind). Some (fault_of k)) e)))
-      | inr e ↦ inr (inl (ap fault_of e))
+      | inl e ↦ inr (inl (c.in_err-list.ensures.many e, ap (λ (k : Kind). Some (fault_of k)) e))
+      | inr e ↦ inl (inl (ap fault_of e))
     ])
 
 -- the list has the square's cells, which the store's levels bound
@@ -65,8 +65,8 @@ returns-then-not-are_below-clause-refusals g c =
     λ all. true≢false (sym (c.are_below.ensures.1 (subst (λ (l : List Cell). All (λ (d : Cell). d.state < c.n_states.result) l) (sym c.deref.ensures.value)
     (subst (λ (n : ℕ). All (λ (d : Cell). d.state < n) c.in_ok-list.list.items) (sym c.n_states.ensures) all))) ∙ c.if-not-are_below.true) in
     let few : ¬ (c.args.most < population t) = λ m. omega (arith, m, h.number, h.few) in
-    inr (inr (subst (λ (f : Fault). GenerationRefusal (g.L.Law.answers law) bound c.args.most t (Some f)) (sym c.of.ensures)
-    (beyond (g.L.Law.answers law) (g.met.L.Law.one_answer law) bound c.args.most t few (has-from t c.in_ok-list.list.items bound h.cells not))))
+    inr (subst (λ (f : Fault). GenerationRefusal (g.L.Law.answers law) bound c.args.most t (Some f)) (sym c.of.ensures)
+    (beyond (g.L.Law.answers law) (g.met.L.Law.one_answer law) bound c.args.most t few (has-from t c.in_ok-list.list.items bound h.cells not)))
 
 pub returns-clause-next : goal.returns-clause-next
 returns-clause-next g c = IfOk-weaker c.next_square.result _ _ (λ r h. h _ (sorted g (goal.at.returns-clause-next g c).After-deref-2))
@@ -86,14 +86,11 @@ pub returns-clause-refusals : goal.returns-clause-refusals
 returns-clause-refusals g c =
     let law = c.args.law.now in
     IfErr-weaker c.next_square.result _ _ (λ f e. elim e [
-      | inl k ↦ inl k
-      | inr m ↦ elim m [
-        | inl k ↦ inr (inl k)
-        | inr r ↦ inr (inr (step-refused (g.L.Law.answers law) (g.met.L.Law.one_answer law) (g.L.Law.bound law) c.args.most
-            (g.S.Squares.content c.args.squares.now c.args.id) (few g (goal.at.returns-clause-refusals g c).After-deref-2)
-            (none g (goal.at.returns-clause-refusals g c).After-deref-2) f
-            (r _ (sorted g (goal.at.returns-clause-refusals g c).After-deref-2))))
-      ]
+      | inl want ↦ inl want
+      | inr r ↦ inr (step-refused (g.L.Law.answers law) (g.met.L.Law.one_answer law) (g.L.Law.bound law) c.args.most
+          (g.S.Squares.content c.args.squares.now c.args.id) (few g (goal.at.returns-clause-refusals g c).After-deref-2)
+          (none g (goal.at.returns-clause-refusals g c).After-deref-2) f
+          (r _ (sorted g (goal.at.returns-clause-refusals g c).After-deref-2)))
     ]) c.next_square.ensures.refusals
 
 pub returns-clause-needed : goal.returns-clause-needed

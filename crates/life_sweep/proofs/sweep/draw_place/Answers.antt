@@ -75,16 +75,11 @@ pub returns-in_err-state-clause-refusals : goal.returns-in_err-state-clause-refu
 returns-in_err-state-clause-refusals g c =
     let p = err_from_is_err_and c.from_residual.result c.from_residual.ensures.1 in
     let e = c.in_err-state.ensures in
-    rw (p.1, p.2) (inr (inr (
+    rw (p.1, p.2) (inr (
       e.kind,
       subst (λ v. g.L.Law.answers c.args.law.now v (Ambiguous c.in_err-state.field-0.0.place.line)) c.around.ensures
           e.ambiguous,
-    )))
-
-pub returns-in_err-state-clause-full : goal.returns-in_err-state-clause-full
-returns-in_err-state-clause-full g c =
-    let p = err_from_is_err_and c.from_residual.result c.from_residual.ensures.1 in
-    rw (p.1, p.2) (not-full c.in_err-state.field-0.0 c.in_err-state.ensures.kind)
+    ))
 
 pub returns-in_err-state-clause-needed : goal.returns-in_err-state-clause-needed
 returns-in_err-state-clause-needed g c =
@@ -94,12 +89,7 @@ returns-in_err-state-clause-needed g c =
 pub returns-in_err-draw-clause-refusals : goal.returns-in_err-draw-clause-refusals
 returns-in_err-draw-clause-refusals g c =
     let p = err_from_is_err_and c.from_residual-in_err-draw.result c.from_residual-in_err-draw.ensures.1 in
-    rw (p.1, p.2) (elim c.in_err-draw.ensures.refusals [ inl e ↦ inl (ap fault_of e) | inr e ↦ inr (inl (ap fault_of e)) ])
-
-pub returns-in_err-draw-clause-full : goal.returns-in_err-draw-clause-full
-returns-in_err-draw-clause-full g c =
-    let p = err_from_is_err_and c.from_residual-in_err-draw.result c.from_residual-in_err-draw.ensures.1 in
-    rw (p.1, p.2) (λ e. c.in_err-draw.ensures.full (full-kind c.in_err-draw.field-0.0 e))
+    rw (p.1, p.2) (inl (elim c.in_err-draw.ensures.refusals [ inl e ↦ inl (ap fault_of e) | inr full ↦ inr (ap fault_of full.0, full.1) ]))
 
 pub returns-in_err-draw-clause-needed : goal.returns-in_err-draw-clause-needed
 returns-in_err-draw-clause-needed g c =

@@ -87,19 +87,16 @@ returns-in_err-left-clause-refusals g c =
     let z = c.advance.new.self in
     let p = err_from_is_err_and c.from_residual.result c.from_residual.ensures.1 in
     rw (p.1, p.2) (elim c.in_err-left.ensures.refusals [
-      | inl full ↦ inl full
-      | inr rest ↦ elim rest [
-        | inl memory ↦ inr (inl memory)
-        | inr d ↦ inr (inr (
-          d.0,
-          (λ cells scene rows.
-              let s = swept g (goal.at.returns-in_err-left-clause-refusals g c).After-advance cells scene rows in
-              let on = c.advance.ensures.window c.loop-window-test.true cells (kept c.args.y) s.0 in
-              let here = subst (λ law. g.L.Law.answers law (states_of z) (Ambiguous c.in_err-left.field-0.0.place.line)) c.loop-window.invariant.same d.1 in
-              ambiguous-here (g.L.Law.answers c.args.law.now) cells _ c.loop-window.left _ c.loop-window.window z _ (g.met.L.Law.quiet c.args.law.now) on s.1
-              here),
-        ))
-      ]
+      | inl want ↦ inl want
+      | inr d ↦ inr (
+        d.0,
+        (λ cells scene rows.
+            let s = swept g (goal.at.returns-in_err-left-clause-refusals g c).After-advance cells scene rows in
+            let on = c.advance.ensures.window c.loop-window-test.true cells (kept c.args.y) s.0 in
+            let here = subst (λ law. g.L.Law.answers law (states_of z) (Ambiguous c.in_err-left.field-0.0.place.line)) c.loop-window.invariant.same d.1 in
+            ambiguous-here (g.L.Law.answers c.args.law.now) cells _ c.loop-window.left _ c.loop-window.window z _ (g.met.L.Law.quiet c.args.law.now) on s.1
+            here),
+      )
     ])
 
 pub returns-clause-ready : goal.returns-clause-ready

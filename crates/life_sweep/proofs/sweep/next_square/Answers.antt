@@ -104,24 +104,21 @@ returns-in_err-leaves-clause-refusals g c =
     let a = (goal.at.returns-in_err-leaves-clause-refusals g c).After-draw_row in
     let p = err_from_is_err_and c.from_residual.result c.from_residual.ensures.1 in
     rw (p.1, p.2) (elim c.in_err-leaves.ensures.refusals [
-      | inl full ↦ inl full
-      | inr rest ↦ elim rest [
-        | inl memory ↦ inr (inl memory)
-        | inr d ↦ inr (inr (λ plane sorted. inl (
-          d.0,
-          subst (λ law. IsFirstAmbiguous (g.L.Law.answers law) plane c.in_err-leaves.field-0.0.place.line) c.loop-band.invariant.same
-              (d.1 plane (scene g a plane sorted) (before g a plane sorted)),
-        )))
-      ]
+      | inl want ↦ inl want
+      | inr d ↦ inr (λ plane sorted. inl (
+        d.0,
+        subst (λ law. IsFirstAmbiguous (g.L.Law.answers law) plane c.in_err-leaves.field-0.0.place.line) c.loop-band.invariant.same
+            (d.1 plane (scene g a plane sorted) (before g a plane sorted)),
+      ))
     ])
 
 pub returns-then-leaves-clause-refusals : goal.returns-then-leaves-clause-refusals
 returns-then-leaves-clause-refusals g c =
-    inr (inr (λ plane sorted.
+    inr (λ plane sorted.
     let s = c.loop-band.invariant.swept plane sorted in
     let over = c.advance.ensures.over c.loop-band-test.false plane sorted.blank s.0 in
     let all = all-rows _ plane _ _ _ (g.met.L.Law.quiet c.args.law.now) over s.1 in
-    inr (c.of.ensures, s.1.left c.if-leaves.true, λ x y. let d = all x y in (d.next, d.answer))))
+    inr (c.of.ensures, s.1.left c.if-leaves.true, λ x y. let d = all x y in (d.next, d.answer)))
 
 pub returns-clause-next : goal.returns-clause-next
 returns-clause-next g c plane sorted x y =
