@@ -1,10 +1,9 @@
 use Rattle.std.proofs.Common.{◌≡◌, ◌≤◌, ◌⊎◌, ℤ, Some, None, IfOk, IfErr, sym, ◌∙◌, subst, arith}
 use Rattle.std.proofs.lemmas.Result.{IfOk-weaker}
-use Rattle.life_base.specs.Refusal.{fault_of}
 use Rattle.life_base.specs.Sets.{OuterTotalistic}
 use Rattle.life_base.specs.Tree.{tree_cell}
-use Rattle.life_base.specs.declared.kind.Kind.TheVariants.{Full, Memory}
 use Rattle.life_quad.specs.Cells.{population}
+use Rattle.life_quad.specs.Keeping.{IsWantFault}
 use Rattle.life_sweep.specs.Generation.{next_life}
 use Rattle.life_sweep.specs.Needed.{SomeNext}
 use Rattle.life_sweep.specs.Refused.{GenerationRefusal}
@@ -31,9 +30,9 @@ returns-then-level-eq-MAX_LEVEL-clause-accepted g c =
 
 pub returns-then-level-eq-MAX_LEVEL-clause-refusals : goal.returns-then-level-eq-MAX_LEVEL-clause-refusals
 returns-then-level-eq-MAX_LEVEL-clause-refusals g c =
-    subst (λ (rule : OuterTotalistic). IfErr c.next_generation.result
-    (λ f. (f ≡ fault_of Full) ⊎ ((f ≡ fault_of Memory) ⊎ GenerationRefusal (LifeAnswers rule) 2 c.args.most
-    (g.S.Squares.content c.args.squares.now c.args.id) (Some f))))
+    let now = c.next_generation.new.squares in
+    subst (λ (rule : OuterTotalistic). IfErr c.next_generation.result (λ f. IsWantFault (g.S.Squares.stored now) (g.S.Squares.most now) f
+    ⊎ GenerationRefusal (LifeAnswers rule) 2 c.args.most (g.S.Squares.content c.args.squares.now c.args.id) (Some f)))
     c.new-law.ensures c.next_generation.ensures.refusals
 
 pub returns-clause-accepted : goal.returns-clause-accepted
