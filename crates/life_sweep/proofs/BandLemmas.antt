@@ -6,12 +6,12 @@ use Rattle.std.proofs.lemmas.Bool.Decides.{eqb_tells}
 use Rattle.std.proofs.lemmas.List.Elements.{All-head, All-tail}
 use Rattle.life_base.specs.declared.cell.Cell.{Cell}
 use Rattle.life_sweep.specs.Around.{before, after}
-use Rattle.life_sweep.specs.Rows.{Rows, IsRest, IsRestOf, IsFrom, BeginsAt, HasNoFirstIn, IsSplitAtRow, IsInside, IsBlankBefore, AreRows, IsBand, IsNextRow, IsLastBand, IsFarRow, GoesSouth, rows_left, first_coordinate, far}
+use Rattle.life_sweep.specs.Rows.{Rows, IsRest, IsRestOf, IsFrom, BeginsAt, IsInside, IsBlankBefore, AreRows, IsBand, IsNextRow, IsFarRow, GoesSouth, rows_left, first_coordinate, far}
 use Rattle.life_sweep.specs.declared.band.Band.{Band}
 use Rattle.life_sweep.proofs.RowLemmas.{less-or-not, column-is, IsRest-none}
 
 -- a row of the plane, and what is left south of it
-pub split-row : (cells : ℤ → ℤ → ℕ) (x y : ℤ) (row rest : List Cell) → All (λ (cell : Cell). cell.y ≡ y) row → HasNoFirstIn y rest → All IsInside rest
+pub split-row : (cells : ℤ → ℤ → ℕ) (x y : ℤ) (row rest : List Cell) → All (λ (cell : Cell). cell.y ≡ y) row → ¬ BeginsAt y rest → All IsInside rest
     → IsRestOf cells x y (row ++ rest) → IsRest (λ c. cells c y) x row × IsRestOf cells first_coordinate (after y) rest
 split-row cells x y [] [] all none inside h =
     ((λ c l. h c y (inr (refl, l))), (λ c r f. h c r (inl (elim f [ inl a ↦ omega (arith, ints, a) | inr a ↦ omega (arith, ints, a.0) ]))))
@@ -87,17 +87,18 @@ blank-rows cells b blank h here south m beyond r c l u = elim (less-or-not r (af
   ]
 ]
 
--- a list divided at a row
+-- a list divided at a row: the cells in the row, and those behind them
+pub record IsSplitAtRow (y : ℤ) (cells front back : List Cell) : Type 0 where
+  pub both : cells ≡ front ++ back
+  pub row : All (λ cell. cell.y ≡ y) front
+  pub rest : ¬ BeginsAt y back
+
 pub lengths : (y : ℤ) (cells front back : List Cell) → IsSplitAtRow y cells front back → length cells ≡ length front + length back
 lengths y cells front back s = ap length s.both ∙ length-append front back
 
 -- where the first cell is in the row, some are
 some-taken : (y : ℤ) (cells front back : List Cell) → IsSplitAtRow y cells front back → BeginsAt y cells → 0 < length front
-some-taken y cells [] back s b = absurd (none back s.rest (subst (λ z. BeginsAt y z) s.both b))
-  where
-    none : (back : List Cell) → HasNoFirstIn y back → BeginsAt y back → ⊥
-    none [] n b = b
-    none (cell ∷ back) n b = n b
+some-taken y cells [] back s b = absurd (s.rest (subst (BeginsAt y) s.both b))
 some-taken y cells (cell ∷ front) back s b = omega arith
 
 -- the next row's three rows: the two that were there, and the new southern one
@@ -154,9 +155,10 @@ goes-south cells b new blank h inside (inr p) en eh s inside' =
     none = blank-rows cells b blank h p.0 p.1 (after new.y) (row-gap cells (b.y +ℤ pos 2) (after new.y) b.rest.now p.2 h.rest)
 
 -- south of the last band there is no cell
-pub last-band : (cells : ℤ → ℤ → ℕ) (b : Band) → IsBlankBefore cells → IsBand cells b → IsLastBand b → (r : ℤ) → b.y <ℤ r → IsFarRow cells r
+pub last-band : (cells : ℤ → ℤ → ℕ) (b : Band) → IsBlankBefore cells → IsBand cells b → (length b.rows.here.now ≡ 0) × (length b.rows.south.now ≡ 0) × (length b.rest.now ≡ 0)
+    → (r : ℤ) → b.y <ℤ r → IsFarRow cells r
 last-band cells b blank h o r l = far-row cells r (λ t c w v.
-    blank-rows cells b blank h o.here o.south (after t) (λ c' r' west low high. row-none cells (b.y +ℤ pos 2) b.rest.now o.rest h.rest c' r' west low) t c
+    blank-rows cells b blank h o.0 o.1 (after t) (λ c' r' west low high. row-none cells (b.y +ℤ pos 2) b.rest.now o.2 h.rest c' r' west low) t c
     (omega (arith, ints, l, w)) (omega (arith, ints)))
 
 -- what an if on a number gives

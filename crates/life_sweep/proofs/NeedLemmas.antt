@@ -136,9 +136,7 @@ pub all-needs : (P : Tree → Type 0) (A : List ℕ → Answer → Type 0) (cell
     → ((c r : ℤ) → IsDrawnAt A cells (state_by runs) leaves c r) → SomeAbove P runs ⊎ SomeOfAll P runs → SomeNext P A cells
 all-needs P A cells runs leaves stay done (inl s) = drawn-needs P A cells runs leaves s (λ c r h. done c r)
 all-needs P A cells runs leaves stay done (inr s) =
-    of_plane (state_by runs)
-    (record { states = λ x y. let d = done x y in subst (λ n. A (states_at cells x y) (Becomes n)) (sym (d.kept (inl stay))) d.answer; outside = s.outside })
-    s.square
+    of_plane (state_by runs) (λ x y. let d = done x y in subst (λ n. A (states_at cells x y) (Becomes n)) (sym (d.kept (inl stay))) d.answer) s.outside s.square
 
 -- want of room is that whatever else is answered
 err-is : {T : Type 0} (a b : Fault) → ◌≡◌ {A = Result T Fault} (Err a) (Err b) → a ≡ b

@@ -3,7 +3,7 @@ use Rattle.std.proofs.Common.{◌≡◌, ℕ, ◌+◌, ◌*◌, ◌<◌, Bool, t
 use Rattle.std.specs.Prelude.{if◌then◌else◌}
 use Rattle.std.proofs.lemmas.Int.{ints}
 use Rattle.life_sweep.specs.Around.{before, after}
-use Rattle.life_sweep.specs.Rows.{Rows, StartsFrom, SomeStartsAt, InRows, AreRows, AreSortedFrom, column_at, no_column, is_blank_column, left_in, IsWindow, IsNextPlace, IsOver, GoesOn, IsFar, steps_left, far}
+use Rattle.life_sweep.specs.Rows.{Rows, StartsFrom, SomeStartsAt, InRows, AreRows, AreSortedFrom, column_at, no_column, is_blank_column, left_in, IsWindow, IsNextPlace, GoesOn, IsFar, steps_left, far}
 use Rattle.life_sweep.specs.declared.column.Column.{Column}
 use Rattle.life_sweep.specs.declared.window.Window.{Window}
 use Rattle.life_sweep.proofs.RowLemmas.{AreRows-later, AreRows-gap, AreRows-none, AreRows-first, blank-is, less-or-not}
@@ -74,16 +74,17 @@ goes-on cells y x w east rows h (inr p) e r = record {
     blank : (c : ℤ) → w.x ≤ℤ c → c <ℤ after x → column_at cells y c ≡ no_column
     blank = blank-between cells y (after x) w h p.0 p.1 p.2
 
-pub is-over : (cells : ℤ → ℤ → ℕ) (y : ℤ) (w : Window) → IsOver w → IsWindow cells y w → (c : ℤ) → w.x <ℤ c → IsFar cells y c
+pub is-over : (cells : ℤ → ℤ → ℕ) (y : ℤ) (w : Window) → (is_blank_column w.middle ≡ true) × (is_blank_column w.east ≡ true) × (left_in w.rows ≡ 0)
+    → IsWindow cells y w → (c : ℤ) → w.x <ℤ c → IsFar cells y c
 is-over cells y w o h c l =
     (blank (before c) (omega (arith, ints, l)), blank c (omega (arith, ints, l)), blank (after c) (omega (arith, ints, l)))
   where
     blank : (c : ℤ) → w.x ≤ℤ c → column_at cells y c ≡ no_column
     blank c l = elim (less-or-not c (after w.x)) [
-      | inl b ↦ subst (λ z. column_at cells y z ≡ no_column) (omega (arith, ints, l, b)) (sym h.middle ∙ blank-is w.middle o.middle)
+      | inl b ↦ subst (λ z. column_at cells y z ≡ no_column) (omega (arith, ints, l, b)) (sym h.middle ∙ blank-is w.middle o.0)
       | inr b ↦ elim (less-or-not c (w.x +ℤ pos 2)) [
-        | inl d ↦ subst (λ z. column_at cells y z ≡ no_column) (omega (arith, ints, b, d)) (sym h.east ∙ blank-is w.east o.east)
-        | inr d ↦ AreRows-none cells y (w.x +ℤ pos 2) w.rows o.rows h.rows c d
+        | inl d ↦ subst (λ z. column_at cells y z ≡ no_column) (omega (arith, ints, b, d)) (sym h.east ∙ blank-is w.east o.1)
+        | inr d ↦ AreRows-none cells y (w.x +ℤ pos 2) w.rows o.2 h.rows c d
       ]
     ]
 

@@ -21,18 +21,11 @@ pub record SomeOfAll (P : Tree → Type 0) (runs : List Run) : Type 0 where
   pub outside : (x y : ℤ) → ¬ (IsOnPlane x y 1) → state_by runs x y ≡ 0
   pub square : SomeSquare P (2 ^ MAX_LEVEL) (by_columns (state_by runs))
 
--- each place of the plane above the row has its next state
-abbrev pub AreNextAbove : (List ℕ → Answer → Type 0) → (ℤ → ℤ → ℕ) → ℤ → (ℤ → ℤ → ℕ) → Type 0
-AreNextAbove answers cells row next = (x y : ℤ) → IsOnPlane x y 1 → y <ℤ row → answers (states_at cells x y) (Becomes (next x y))
-
--- every place has its next state, which is 0 outside the plane
-pub record AreNext (answers : List ℕ → Answer → Type 0) (cells next : ℤ → ℤ → ℕ) : Type 0 where
-  pub states : (x y : ℤ) → answers (states_at cells x y) (Becomes (next x y))
-  pub outside : (x y : ℤ) → ¬ (IsOnPlane x y 1) → next x y ≡ 0
-
 -- A square of the next generation has a property: one that is above the row of a cell which becomes another state than 0; or, where no cell is
 -- ambiguous and none leaves the plane, one of the whole plane.
 pub data SomeNext (P : Tree → Type 0) (answers : List ℕ → Answer → Type 0) (cells : ℤ → ℤ → ℕ) : Type 0 where
   above_cell : (x y : ℤ) (state : ℕ) (next : ℤ → ℤ → ℕ) → IsOnPlane x y 1 → answers (states_at cells x y) (Becomes state) → state ≢ 0
-      → AreNextAbove answers cells y next → SomeSquare P (nat_abs (y +ℤ pos half_plane)) (by_columns next) → SomeNext P answers cells
-  of_plane : (next : ℤ → ℤ → ℕ) → AreNext answers cells next → SomeSquare P (2 ^ MAX_LEVEL) (by_columns next) → SomeNext P answers cells
+      → ((c r : ℤ) → IsOnPlane c r 1 → r <ℤ y → answers (states_at cells c r) (Becomes (next c r)))
+      → SomeSquare P (nat_abs (y +ℤ pos half_plane)) (by_columns next) → SomeNext P answers cells
+  of_plane : (next : ℤ → ℤ → ℕ) → ((x y : ℤ) → answers (states_at cells x y) (Becomes (next x y))) → ((x y : ℤ) → ¬ (IsOnPlane x y 1) → next x y ≡ 0)
+      → SomeSquare P (2 ^ MAX_LEVEL) (by_columns next) → SomeNext P answers cells

@@ -1,5 +1,5 @@
 -- Rows of cells, and what is left of them as a sweep goes on.
-use Rattle.std.specs.Prelude.{◌≡◌, ◌⊎◌, ℕ, ◌+◌, ◌*◌, ◌<◌, ◌==◌, ◌^◌, Bool, true, false, ◌&&◌, if◌then◌else◌, ℤ, pos, neg_ℤ, ◌+ℤ◌, ◌<ℤ◌, ◌≤ℤ◌, List, [], ◌∷◌, ◌++◌, length, All}
+use Rattle.std.specs.Prelude.{◌≡◌, ◌⊎◌, ℕ, ◌+◌, ◌*◌, ◌<◌, ◌==◌, ◌^◌, Bool, true, false, ◌&&◌, if◌then◌else◌, ℤ, pos, neg_ℤ, ◌+ℤ◌, ◌<ℤ◌, ◌≤ℤ◌, List, [], ◌∷◌, length, All}
 use Rattle.std.specs.Borrow.{Bor}
 use Rattle.life_base.specs.declared.cell.Cell.{Cell}
 use Rattle.life_sweep.specs.Around.{before, after}
@@ -17,6 +17,10 @@ far = pos (2 ^ 61)
 -- where a sweep begins
 abbrev pub start_of_sweep : ℤ
 start_of_sweep = neg_ℤ (pos (2 ^ 61 + 2))
+
+-- a column or a row of a sweep
+abbrev pub IsOfSweep : ℤ → Type 0
+IsOfSweep x = (start_of_sweep ≤ℤ x) × (x ≤ℤ far)
 
 -- within a plane of level 62 at most
 pub record IsInside (cell : Cell) : Type 0 where
@@ -105,8 +109,7 @@ pub record IsWindow (cells : ℤ → ℤ → ℕ) (y : ℤ) (w : Window) : Type 
 
 -- the window's columns fit their type
 pub record IsSoundWindow (w : Window) : Type 0 where
-  pub least : start_of_sweep ≤ℤ w.x
-  pub most : w.x ≤ℤ far
+  pub place : IsOfSweep w.x
   pub rows : AreInside w.rows
   pub middle : (is_blank_column w.middle ≡ true) ⊎ (w.x <ℤ far)
   pub east : (is_blank_column w.east ≡ true) ⊎ (after w.x <ℤ far)
@@ -124,12 +127,6 @@ abbrev pub IsNextPlace : Window → ℤ → Type 0
 IsNextPlace w x =
     ((x ≡ after w.x) × ((is_blank_column w.middle ≡ false) ⊎ (is_blank_column w.east ≡ false)))
     ⊎ ((is_blank_column w.middle ≡ true) × (is_blank_column w.east ≡ true) × InRows (StartsFrom (after x)) w.rows × SomeStartsAt (after x) w.rows)
-
--- no cell stands beside a later place
-pub record IsOver (w : Window) : Type 0 where
-  pub middle : is_blank_column w.middle ≡ true
-  pub east : is_blank_column w.east ≡ true
-  pub rows : left_in w.rows ≡ 0
 
 -- how many places a window has before it, at most
 abbrev pub steps_left : Window → ℕ
@@ -169,17 +166,6 @@ abbrev pub BeginsAt : ℤ → List Cell → Type 0
 BeginsAt y [] = ⊥
 BeginsAt y (cell ∷ rest) = cell.y ≡ y
 
--- the first cell, if there is one, is in another row
-abbrev pub HasNoFirstIn : ℤ → List Cell → Type 0
-HasNoFirstIn y [] = Unit
-HasNoFirstIn y (cell ∷ rest) = cell.y ≡ y → ⊥
-
--- the cells of the list in the row, and those behind them
-pub record IsSplitAtRow (y : ℤ) (cells front back : List Cell) : Type 0 where
-  pub both : cells ≡ front ++ back
-  pub row : All (λ cell. cell.y ≡ y) front
-  pub rest : HasNoFirstIn y back
-
 -- every pair of the first columns and rows has state 0
 pub record IsBlankBefore (cells : ℤ → ℤ → ℕ) : Type 0 where
   pub west : (x y : ℤ) → x <ℤ first_coordinate → cells x y ≡ 0
@@ -192,8 +178,7 @@ pub record IsBand (cells : ℤ → ℤ → ℕ) (b : Band) : Type 0 where
 
 -- the band's rows fit their type
 pub record IsSoundBand (b : Band) : Type 0 where
-  pub least : start_of_sweep ≤ℤ b.y
-  pub most : b.y ≤ℤ far
+  pub row : IsOfSweep b.y
   pub rows : AreInside b.rows
   pub rest : All IsInside b.rest.now
   pub here : (length b.rows.here.now ≡ 0) ⊎ (b.y <ℤ far)
@@ -224,12 +209,6 @@ abbrev pub IsNextRow : Band → ℤ → Type 0
 IsNextRow b y =
     ((y ≡ after b.y) × ((0 < length b.rows.here.now) ⊎ (0 < length b.rows.south.now)))
     ⊎ ((length b.rows.here.now ≡ 0) × (length b.rows.south.now ≡ 0) × BeginsAt (after y) b.rest.now)
-
--- no cell stands beside a later row
-pub record IsLastBand (b : Band) : Type 0 where
-  pub here : length b.rows.here.now ≡ 0
-  pub south : length b.rows.south.now ≡ 0
-  pub rest : length b.rest.now ≡ 0
 
 -- the cells are sorted: they are those of some plane
 abbrev pub IsSortedList : List Cell → Type 0

@@ -43,14 +43,10 @@ TableAnswers table states answer = Decides table.symmetry table.vars (slice_inde
 abbrev pub SameImages : Symmetry → List ℕ → List ℕ → Type 0
 SameImages symmetry v w = (image : List ℕ) → Contains (images symmetry v) image ↔ Contains (images symmetry w) image
 
--- what is remembered is what the table answers
-abbrev pub IsKnown : Table → Known → Type 0
-IsKnown table known = TableAnswers table known.around (Becomes known.next)
-
--- 2^16 places, in each of which a neighbourhood is remembered
+-- 2^16 places, in each of which a neighbourhood is remembered, with what the table answers
 pub record IsMemory (table : Table) (known : List Known) : Type 0 where
   pub places : length known ≡ 2 ^ 16
-  pub each : All (IsKnown table) known
+  pub each : All (λ k. TableAnswers table k.around (Becomes k.next)) known
 
 -- the laws of a generation: what they answer for a cell and its neighbours
 module _ (answers : List ℕ → Answer → Type 0) (cells : ℤ → ℤ → ℕ) where

@@ -1,6 +1,6 @@
 //! The rows of the plane beside which cells stand, from north to south.
-ghost use Rattle.std.specs.Prelude.{◌≡◌, ℕ, ℤ, ◌+◌, ◌<◌, ◌≤◌, ◌≤ℤ◌, ◌<ℤ◌, true, false, All, IfSome, None, IsTrue, ◌↔◌, length, take, drop};
-ghost use Rattle.life_sweep.specs.Rows.{IsBand, IsSoundBand, IsBandBelow, GoesSouth, IsFarRow, IsRestOf, IsBlankBefore, IsInside, IsSortedList, IsSplitAtRow, IsNextRow, IsLastBand, rows_left, start_of_sweep, first_coordinate, far};
+ghost use Rattle.std.specs.Prelude.{◌≡◌, ℕ, ℤ, ◌+◌, ◌<◌, ◌≤◌, ◌<ℤ◌, true, false, All, IfSome, None, IsTrue, ◌↔◌, length, take, drop};
+ghost use Rattle.life_sweep.specs.Rows.{IsBand, IsSoundBand, IsBandBelow, GoesSouth, IsFarRow, IsRestOf, IsBlankBefore, IsInside, IsSortedList, BeginsAt, IsOfSweep, IsNextRow, rows_left, start_of_sweep, first_coordinate};
 
 use crate::column::Rows;
 use crate::plane::START;
@@ -24,7 +24,8 @@ fn is_in_row(cell: &Cell, y: i64) -> bool
 // How many cells from the first on are in the row.
 fn row_length(cells: &[Cell], y: i64) -> usize
     ensures within { result ≤ length cells.now }
-    ensures split { IsSplitAtRow y cells.now (take result cells.now) (drop result cells.now) }
+    ensures row { All (λ cell. cell.y ≡ y) (take result cells.now) }
+    ensures rest { ¬ BeginsAt y (drop result cells.now) }
 {
     for (i, cell) in cells.iter().enumerate() {
         if !is_in_row(cell, y) {
@@ -58,10 +59,9 @@ impl<'a> Band<'a> {
     // The next row beside which a cell stands.
     fn next_row(&self) -> Option<i64>
         requires sound { IsSoundBand self.now }
-        ensures least { IfSome result (λ y. start_of_sweep ≤ℤ y) }
-        ensures most { IfSome result (λ y. y ≤ℤ far) }
-        ensures row { IfSome result (λ y. IsNextRow self.now y) }
-        ensures none { result ≡ None → IsLastBand self.now }
+        ensures within { IfSome result IsOfSweep }
+        ensures row { IfSome result (IsNextRow self.now) }
+        ensures none { result ≡ None → (length self.now.rows.here.now ≡ 0) × (length self.now.rows.south.now ≡ 0) × (length self.now.rest.now ≡ 0) }
     {
         if !self.rows.here.is_empty() || !self.rows.south.is_empty() {
             return Some(self.y + 1);

@@ -1,6 +1,6 @@
 //! The places of a row beside which cells stand, from west to east.
-ghost use Rattle.std.specs.Prelude.{◌≡◌, ℕ, ℤ, ◌<◌, ◌<ℤ◌, ◌+ℤ◌, pos, true, false, IfSome, None, ◌≤ℤ◌};
-ghost use Rattle.life_sweep.specs.Rows.{IsNextPlace, IsOver, far, IsWindow, IsSoundWindow, IsWindowBelow, GoesOn, IsFar, AreRows, AreInside, AreSorted, AreBelow, column_at, no_column, steps_left, states_of, start_of_sweep};
+ghost use Rattle.std.specs.Prelude.{◌≡◌, ℕ, ℤ, ◌<◌, ◌<ℤ◌, ◌+ℤ◌, pos, true, false, IfSome, None};
+ghost use Rattle.life_sweep.specs.Rows.{IsOfSweep, IsNextPlace, IsWindow, IsSoundWindow, IsWindowBelow, GoesOn, IsFar, AreRows, AreInside, AreSorted, AreBelow, column_at, no_column, is_blank_column, left_in, steps_left, states_of, start_of_sweep};
 
 use crate::column::{BLANK, Column, Rows};
 use crate::plane::START;
@@ -38,10 +38,9 @@ impl<'a> Window<'a> {
     // The next place beside which a cell stands.
     fn next_place(&self) -> Option<i64>
         requires sound { IsSoundWindow self.now }
-        ensures least { IfSome result (λ x. start_of_sweep ≤ℤ x) }
-        ensures most { IfSome result (λ x. x ≤ℤ far) }
-        ensures place { IfSome result (λ x. IsNextPlace self.now x) }
-        ensures none { result ≡ None → IsOver self.now }
+        ensures within { IfSome result IsOfSweep }
+        ensures place { IfSome result (IsNextPlace self.now) }
+        ensures none { result ≡ None → (is_blank_column self.now.middle ≡ true) × (is_blank_column self.now.east ≡ true) × (left_in self.now.rows ≡ 0) }
     {
         if !self.middle.is_blank() || !self.east.is_blank() {
             return Some(self.x + 1);

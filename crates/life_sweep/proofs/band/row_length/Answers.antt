@@ -1,11 +1,11 @@
 use Rattle.std.proofs.Common.{◌≡◌, pos, ℕ, List, ◌<◌, ◌+◌, suc, length, take, get_or, sym, ◌∙◌, subst, refl, arith, w64, to_z, of_z}
 use Rattle.std.specs.Prelude.{All, IsTrue}
 use Rattle.std.proofs.lemmas.Int.{ints}
-use Rattle.std.proofs.lemmas.List.{take_all, drop_all, take-append-drop}
+use Rattle.std.proofs.lemmas.List.{take_all, drop_all}
 use Rattle.std.proofs.lemmas.List.Elements.{All-push}
 use Rattle.std.proofs.Math.Seq.{take-suc}
 use Rattle.life_base.specs.declared.cell.Cell.{Cell}
-use Rattle.life_sweep.specs.Rows.{HasNoFirstIn}
+use Rattle.life_sweep.specs.Rows.{BeginsAt}
 use Rattle.life_sweep.proofs.band.row_length.Goals as goal
 
 next-take : (P : Cell → Type 0) (xs : List Cell) (i : ℕ) (d : Cell) → i < length xs → All P (take i xs) → P (get_or xs i d) → All P (take (suc i) xs)
@@ -21,16 +21,17 @@ loop-i-preserved c =
     subst (λ n. All P (take n cells)) e
     (next-take P cells c.loop-i.i (record { x = pos 0; y = pos 0; state = 0 }) lt c.loop-i.invariant (c.is_in_row.ensures.0 yes))
 
-pub returns-clause-split : goal.returns-clause-split
-returns-clause-split c =
+pub returns-clause-row : goal.returns-clause-row
+returns-clause-row c =
     let cells = c.args.cells.now in
     let n = length cells in
     let y = to_z w64 (of_z w64 c.args.y) in
     let same : y ≡ c.args.y = omega (arith, ints, c.ranges.y) in
     let all : take c.loop-i.i cells ≡ take n cells = take_all c.loop-i.i cells c.loop-i-test.false ∙ sym (take_all n cells (omega arith)) in
     let here : All (λ (cell : Cell). cell.y ≡ y) (take n cells) = subst (λ z. All (λ (cell : Cell). cell.y ≡ y) z) all c.loop-i.invariant in
-    record {
-      both = sym (take-append-drop n cells);
-      row = subst (λ z. All (λ (cell : Cell). cell.y ≡ z) (take n cells)) same here;
-      rest = subst (HasNoFirstIn c.args.y) (sym (drop_all n cells (omega arith))) tt;
-    }
+    subst (λ z. All (λ (cell : Cell). cell.y ≡ z) (take n cells)) same here
+
+pub returns-clause-rest : goal.returns-clause-rest
+returns-clause-rest c =
+    let cells = c.args.cells.now in
+    subst (λ z. ¬ BeginsAt c.args.y z) (sym (drop_all (length cells) cells (omega arith))) (λ b. b)

@@ -27,25 +27,25 @@ returns-then-not-is_on_plane-clause-ready g c = ready-next (drawn_runs c.args.pe
 
 pub draw-requires-clause-next : goal.draw-requires-clause-next
 draw-requires-clause-next g c =
-    let ex : c.args.window.now.x ≡ kept c.args.window.now.x = omega (arith, ints, c.requires.place.least, c.requires.place.most) in
+    let ex : c.args.window.now.x ≡ kept c.args.window.now.x = omega (arith, ints, c.requires.place.place.0, c.requires.place.place.1) in
     let ey : c.args.y ≡ kept c.args.y = omega (arith, ints, c.ranges.y) in
     c.requires.ready _ _ (inr (ey, omega (arith, ints, ex)))
 
 pub returns-clause-ready : goal.returns-clause-ready
 returns-clause-ready g c column row f =
-    let ex : c.args.window.now.x ≡ kept c.args.window.now.x = omega (arith, ints, c.requires.place.least, c.requires.place.most) in
+    let ex : c.args.window.now.x ≡ kept c.args.window.now.x = omega (arith, ints, c.requires.place.place.0, c.requires.place.place.1) in
     let ey : c.args.y ≡ kept c.args.y = omega (arith, ints, c.ranges.y) in
     c.in_ok-draw.ensures.next column row (elim f [ inl l ↦ inl (omega (arith, ints, l, ey)) | inr p ↦ inr (sym ey ∙ p.0, omega (arith, ints, p.1, ex)) ])
 
 pub returns-clause-others : goal.returns-clause-others
 returns-clause-others g c column row ne =
-    let ex : c.args.window.now.x ≡ kept c.args.window.now.x = omega (arith, ints, c.requires.place.least, c.requires.place.most) in
+    let ex : c.args.window.now.x ≡ kept c.args.window.now.x = omega (arith, ints, c.requires.place.place.0, c.requires.place.place.1) in
     let ey : c.args.y ≡ kept c.args.y = omega (arith, ints, c.ranges.y) in
     c.in_ok-draw.ensures.others column row (λ e1 e2. ne (e1 ∙ sym ex) (e2 ∙ sym ey))
 
 pub returns-clause-put : goal.returns-clause-put
 returns-clause-put g c zero =
-    let ex : c.args.window.now.x ≡ kept c.args.window.now.x = omega (arith, ints, c.requires.place.least, c.requires.place.most) in
+    let ex : c.args.window.now.x ≡ kept c.args.window.now.x = omega (arith, ints, c.requires.place.place.0, c.requires.place.place.1) in
     let ey : c.args.y ≡ kept c.args.y = omega (arith, ints, c.ranges.y) in
     let all = drawn_runs c.draw.new.self in
     record {
@@ -58,7 +58,7 @@ returns-clause-put g c zero =
 
 pub returns-then-not-is_on_plane-clause-put : goal.returns-then-not-is_on_plane-clause-put
 returns-then-not-is_on_plane-clause-put g c zero =
-    let ex : c.args.window.now.x ≡ kept c.args.window.now.x = omega (arith, ints, c.requires.place.least, c.requires.place.most) in
+    let ex : c.args.window.now.x ≡ kept c.args.window.now.x = omega (arith, ints, c.requires.place.place.0, c.requires.place.place.1) in
     let ey : c.args.y ≡ kept c.args.y = omega (arith, ints, c.ranges.y) in
     let outside : ¬ (IsOnPlane c.args.window.now.x c.args.y 1) =
     λ on. true≢false (sym (c.is_on_plane.ensures.1 (subst (λ z. IsOnPlane (kept c.args.window.now.x) z 1) ey (subst (λ z. IsOnPlane z c.args.y 1) ex on)))

@@ -47,11 +47,11 @@ draw_row-requires-clause-states g c =
 pub draw_row-requires-clause-ready : goal.draw_row-requires-clause-ready
 draw_row-requires-clause-ready g c column row l =
     let south = c.advance.ensures.south c.loop-band-test.true in
-    c.loop-band.invariant.ready column row (omega (arith, ints, l, south, c.advance.ensures.sound.least, c.advance.ensures.sound.most))
+    c.loop-band.invariant.ready column row (omega (arith, ints, l, south, c.advance.ensures.sound.row.0, c.advance.ensures.sound.row.1))
 
 -- the band's row is a number of 64 bits
 row : (g : Over) (c : After-draw_row g) → c.advance.new.self.y ≡ kept c.advance.new.self.y
-row g c = omega (arith, ints, c.advance.ensures.sound.least, c.advance.ensures.sound.most)
+row g c = omega (arith, ints, c.advance.ensures.sound.row.0, c.advance.ensures.sound.row.1)
 
 -- the band went on
 on : (g : Over) (c : After-draw_row g) (plane : ℤ → ℤ → ℕ) → IsSorted plane c.args.cells.now → GoesSouth plane c.loop-band.band c.advance.new.self

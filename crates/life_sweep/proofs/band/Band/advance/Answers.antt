@@ -1,12 +1,13 @@
-use Rattle.std.proofs.Common.{◌≡◌, ◌<◌, refl, sym, subst, arith, w64, to_z, of_z, pos, ◌+ℤ◌, drop}
+use Rattle.std.proofs.Common.{◌≡◌, ◌<◌, refl, sym, subst, arith, w64, to_z, of_z, pos, ◌+ℤ◌, take, drop}
 use Rattle.std.specs.Prelude.{All}
 use Rattle.std.proofs.lemmas.Int.{ints}
+use Rattle.std.proofs.lemmas.List.{take-append-drop}
 use Rattle.std.proofs.lemmas.List.Elements.{All-take, All-drop}
 use Rattle.life_base.specs.declared.cell.Cell.{Cell}
 use Rattle.life_sweep.specs.Around.{after}
-use Rattle.life_sweep.specs.Rows.{IsNextRow, IsInside, IsSplitAtRow, GoesSouth}
+use Rattle.life_sweep.specs.Rows.{IsNextRow, IsInside, GoesSouth}
 use Rattle.life_sweep.specs.declared.band.Band.{Band}
-use Rattle.life_sweep.proofs.BandLemmas.{goes-south, last-band, fewer-rows, here-end, south-end}
+use Rattle.life_sweep.proofs.BandLemmas.{IsSplitAtRow, goes-south, last-band, fewer-rows, here-end, south-end}
 use Rattle.life_sweep.proofs.band.Band.advance.Goals as goal
 
 pub returns-in_default-clause-over : goal.returns-in_default-clause-over
@@ -18,9 +19,14 @@ divided : (c : goal.After-rest-2-1) → IsSplitAtRow (after (to_z w64 (of_z w64 
 divided c =
     let rest = c.args.self.now.rest.now in
     let x = to_z w64 (of_z w64 c.in-Some.next) in
-    let arg : to_z w64 (of_z w64 (x +ℤ pos 1)) ≡ after x = omega (arith, ints, c.in-Some.ensures.least, c.in-Some.ensures.most) in
-    let front = subst (λ z. IsSplitAtRow (to_z w64 (of_z w64 (x +ℤ pos 1))) rest z (drop c.row_length.result rest)) (sym c.split_at.ensures.front)
-    c.row_length.ensures.split in
+    let arg : to_z w64 (of_z w64 (x +ℤ pos 1)) ≡ after x = omega (arith, ints, c.in-Some.ensures.within.0, c.in-Some.ensures.within.1) in
+    let n = c.row_length.result in
+    let split : IsSplitAtRow (to_z w64 (of_z w64 (x +ℤ pos 1))) rest (take n rest) (drop n rest) = record {
+      both = sym (take-append-drop n rest);
+      row = c.row_length.ensures.row;
+      rest = c.row_length.ensures.rest;
+    } in
+    let front = subst (λ z. IsSplitAtRow (to_z w64 (of_z w64 (x +ℤ pos 1))) rest z (drop n rest)) (sym c.split_at.ensures.front) split in
     let both = subst (λ z. IsSplitAtRow (to_z w64 (of_z w64 (x +ℤ pos 1))) rest c.split_at.result.0.now z) (sym c.split_at.ensures.back) front in
     subst (λ z. IsSplitAtRow z rest c.split_at.result.0.now c.split_at.result.1.now) arg both
 
@@ -33,7 +39,7 @@ new c = record {
 
 next-row : (c : goal.After-rest-2-1) → IsNextRow c.args.self.now (to_z w64 (of_z w64 c.in-Some.next))
 next-row c =
-    let same : c.in-Some.next ≡ to_z w64 (of_z w64 c.in-Some.next) = omega (arith, ints, c.in-Some.ensures.least, c.in-Some.ensures.most) in
+    let same : c.in-Some.next ≡ to_z w64 (of_z w64 c.in-Some.next) = omega (arith, ints, c.in-Some.ensures.within.0, c.in-Some.ensures.within.1) in
     subst (λ z. IsNextRow c.args.self.now z) same c.in-Some.ensures.row
 
 behind : (c : goal.After-rest-2-1) → All IsInside c.split_at.result.1.now
@@ -50,11 +56,10 @@ pub returns-clause-sound : goal.returns-clause-sound
 returns-clause-sound c =
     let b = c.args.self.now in
     let x = to_z w64 (of_z w64 c.in-Some.next) in
-    let same : c.in-Some.next ≡ x = omega (arith, ints, c.in-Some.ensures.least, c.in-Some.ensures.most) in
+    let same : c.in-Some.next ≡ x = omega (arith, ints, c.in-Some.ensures.within.0, c.in-Some.ensures.within.1) in
     let south = subst (λ z. All IsInside z) (sym c.split_at.ensures.front) (All-take IsInside c.row_length.result b.rest.now c.requires.sound.rest) in
     record {
-      least = omega (arith, ints, c.in-Some.ensures.least, same);
-      most = omega (arith, ints, c.in-Some.ensures.most, same);
+      row = (omega (arith, ints, c.in-Some.ensures.within.0, same), omega (arith, ints, c.in-Some.ensures.within.1, same));
       rows = record { north = c.requires.sound.rows.here; here = c.requires.sound.rows.south; south = south };
       rest = behind c;
       here = here-end x b (next-row c) c.requires.sound.south;

@@ -17,26 +17,20 @@ some c = elim c.then-not-is_empty.branch [
   | then-not-is_empty-via-else-not-is_empty+then-not-is_empty-2 w ↦ inr (not_zero _ (sym w.is_empty-else-not-is_empty.ensures ∙ w.if-not-is_empty-2.true))
 ]
 
-pub returns-then-not-is_empty-clause-least : goal.returns-then-not-is_empty-clause-least
-returns-then-not-is_empty-clause-least c = omega (arith, ints, c.requires.sound.least, c.requires.sound.most)
-
-pub returns-then-not-is_empty-clause-most : goal.returns-then-not-is_empty-clause-most
-returns-then-not-is_empty-clause-most c =
+pub returns-then-not-is_empty-clause-within : goal.returns-then-not-is_empty-clause-within
+returns-then-not-is_empty-clause-within c =
     let s = c.requires.sound in
     let within = next-within _ _ c.args.self.now.y s.here s.south (some c) in
-    omega (arith, ints, s.least, within)
+    (omega (arith, ints, s.row.0, s.row.1), omega (arith, ints, s.row.0, within))
 
 pub returns-then-not-is_empty-clause-row : goal.returns-then-not-is_empty-clause-row
-returns-then-not-is_empty-clause-row c = inl (omega (arith, ints, c.requires.sound.least, c.requires.sound.most), some c)
+returns-then-not-is_empty-clause-row c = inl (omega (arith, ints, c.requires.sound.row.0, c.requires.sound.row.1), some c)
 
 inside : (c : goal.After-result-2-1) → IsInside c.in-Some.first.now
 inside c = first-is IsInside c.args.self.now.rest.now c.in-Some.first.now c.in-Some.ensures.value c.requires.sound.rest
 
-pub returns-clause-least : goal.returns-clause-least
-returns-clause-least c = let i = inside c in omega (arith, ints, i.north, i.south)
-
-pub returns-clause-most : goal.returns-clause-most
-returns-clause-most c = let i = inside c in omega (arith, ints, i.north, i.south)
+pub returns-clause-within : goal.returns-clause-within
+returns-clause-within c = let i = inside c in (omega (arith, ints, i.north, i.south), omega (arith, ints, i.north, i.south))
 
 pub returns-clause-row : goal.returns-clause-row
 returns-clause-row c =

@@ -4,7 +4,7 @@ use Rattle.std.proofs.lemmas.Slice.Eq.{bytes_eq-Decides}
 use Rattle.life_table.specs.Meaning.{Becomes}
 use Rattle.life_table.specs.declared.table.Table.{Table}
 use Rattle.life_sweep.specs.declared.law.Known.{Known}
-use Rattle.life_sweep.specs.Sweep.{IsKnown, TableAnswers}
+use Rattle.life_sweep.specs.Sweep.{TableAnswers}
 use Rattle.life_sweep.proofs.law.ByTableLaw.next.Goals as goal
 
 pub returns-then-eq-clause-next : goal.returns-then-eq-clause-next
@@ -14,7 +14,7 @@ returns-then-eq-clause-next c =
     let seen = c.representative-seen.result in
     let place = c.place_of-place.result in
     let there : place < length items = omega (arith, c.place_of-place.ensures, c.self.invariant.places) in
-    let known = subst (λ (z : Known). IsKnown t z) (sym c.index.ensures) (c.self.invariant.each place c.index.result.now there) in
+    let known = subst (λ (k : Known). TableAnswers t k.around (Becomes k.next)) (sym c.index.ensures) (c.self.invariant.each place c.index.result.now there) in
     let same = (bytes_eq-Decides c.index.result.now.around seen).0 (sym c.eq.ensures ∙ c.if-eq.true) in
     let found = subst (λ v. TableAnswers t v (Becomes c.index.result.now.next)) same known in
     subst (λ (z : Table). TableAnswers z c.args.around.now (Becomes c.index.result.now.next)) c.self.view_is
@@ -33,5 +33,5 @@ invariant_of-self c =
     let new : Known = record { around = c.representative-seen.result; next = c.in_ok-next.next } in
     record {
       places = length-set items place new ∙ c.self.invariant.places;
-      each = All-set (IsKnown t) items place new c.in_ok-next.ensures.next c.self.invariant.each;
+      each = All-set (λ (k : Known). TableAnswers t k.around (Becomes k.next)) items place new c.in_ok-next.ensures.next c.self.invariant.each;
     }

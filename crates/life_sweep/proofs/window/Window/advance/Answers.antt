@@ -9,16 +9,15 @@ pub returns-clause-sound : goal.returns-clause-sound
 returns-clause-sound c =
     let w = c.args.self.now in
     let x = to_z w64 (of_z w64 c.in-Some.next) in
-    let same : c.in-Some.next ≡ x = omega (arith, ints, c.in-Some.ensures.least, c.in-Some.ensures.most) in
+    let same : c.in-Some.next ≡ x = omega (arith, ints, c.in-Some.ensures.within.0, c.in-Some.ensures.within.1) in
     let place : IsNextPlace w x = subst (λ z. IsNextPlace w z) same c.in-Some.ensures.place in
-    let arg : to_z w64 (of_z w64 (x +ℤ pos 1)) ≡ after x = omega (arith, ints, c.in-Some.ensures.least, c.in-Some.ensures.most) in
+    let arg : to_z w64 (of_z w64 (x +ℤ pos 1)) ≡ after x = omega (arith, ints, c.in-Some.ensures.within.0, c.in-Some.ensures.within.1) in
     let cells = c.requires.sound.placed.0 in
     let y = c.requires.sound.placed.1 in
     let before = subst (λ z. AreRows cells y z w.rows) (sym arg) (ready-rows cells y x w c.requires.sound.placed.2 place) in
     let two : after (to_z w64 (of_z w64 (x +ℤ pos 1))) ≡ x +ℤ pos 2 = omega (arith, ints, arg) in
     record {
-      least = omega (arith, ints, c.in-Some.ensures.least, same);
-      most = omega (arith, ints, c.in-Some.ensures.most, same);
+      place = (omega (arith, ints, c.in-Some.ensures.within.0, same), omega (arith, ints, c.in-Some.ensures.within.1, same));
       rows = c.take_column-self.ensures.inside c.requires.sound.rows;
       middle = middle-end x w place c.requires.sound.east;
       east = subst (λ z. (is_blank_column c.take_column-self.result ≡ true) ⊎ (z <ℤ far)) arg (c.take_column-self.ensures.end c.requires.sound.rows);
@@ -29,7 +28,7 @@ pub returns-clause-east : goal.returns-clause-east
 returns-clause-east c e =
     let w = c.args.self.now in
     let x = to_z w64 (of_z w64 c.in-Some.next) in
-    let same : c.in-Some.next ≡ x = omega (arith, ints, c.in-Some.ensures.least, c.in-Some.ensures.most) in
+    let same : c.in-Some.next ≡ x = omega (arith, ints, c.in-Some.ensures.within.0, c.in-Some.ensures.within.1) in
     goes-east x w c.requires.sound.placed (subst (λ z. IsNextPlace w z) same c.in-Some.ensures.place)
 
 pub returns-clause-below : goal.returns-clause-below
@@ -41,9 +40,9 @@ pub returns-clause-window : goal.returns-clause-window
 returns-clause-window c e cells y h =
     let w = c.args.self.now in
     let x = to_z w64 (of_z w64 c.in-Some.next) in
-    let same : c.in-Some.next ≡ x = omega (arith, ints, c.in-Some.ensures.least, c.in-Some.ensures.most) in
+    let same : c.in-Some.next ≡ x = omega (arith, ints, c.in-Some.ensures.within.0, c.in-Some.ensures.within.1) in
     let place : IsNextPlace w x = subst (λ z. IsNextPlace w z) same c.in-Some.ensures.place in
-    let arg : to_z w64 (of_z w64 (x +ℤ pos 1)) ≡ after x = omega (arith, ints, c.in-Some.ensures.least, c.in-Some.ensures.most) in
+    let arg : to_z w64 (of_z w64 (x +ℤ pos 1)) ≡ after x = omega (arith, ints, c.in-Some.ensures.within.0, c.in-Some.ensures.within.1) in
     let before = subst (λ z. AreRows cells y z w.rows) (sym arg) (ready cells y x w h place) in
     goes-on cells y x w c.take_column-self.result c.take_column-self.new.self h place
     (c.take_column-self.ensures.column cells y before ∙ ap (column_at cells y) arg)
@@ -53,8 +52,8 @@ pub returns-clause-smaller : goal.returns-clause-smaller
 returns-clause-smaller c e =
     let w = c.args.self.now in
     let x = to_z w64 (of_z w64 c.in-Some.next) in
-    let same : c.in-Some.next ≡ x = omega (arith, ints, c.in-Some.ensures.least, c.in-Some.ensures.most) in
+    let same : c.in-Some.next ≡ x = omega (arith, ints, c.in-Some.ensures.within.0, c.in-Some.ensures.within.1) in
     let place : IsNextPlace w x = subst (λ z. IsNextPlace w z) same c.in-Some.ensures.place in
-    let arg : to_z w64 (of_z w64 (x +ℤ pos 1)) ≡ after x = omega (arith, ints, c.in-Some.ensures.least, c.in-Some.ensures.most) in
+    let arg : to_z w64 (of_z w64 (x +ℤ pos 1)) ≡ after x = omega (arith, ints, c.in-Some.ensures.within.0, c.in-Some.ensures.within.1) in
     fewer-steps x w c.take_column-self.result c.take_column-self.new.self place c.take_column-self.ensures.fewer
     (λ s. c.take_column-self.ensures.taken (subst (λ z. SomeStartsAt z w.rows) (sym arg) s))
