@@ -16,7 +16,7 @@ use Rattle.life_sweep.specs.Generation.{next_by_count, next_life}
 use Rattle.life_table.specs.Meaning.{count_of}
 use Rattle.life_block.specs.declared.grid.Three.{Three}
 use Rattle.life_block.specs.declared.grid.Four.{Four}
-use Rattle.life_block.specs.Pieces.{Nine, Sixteen, IsPiece, IsAt, InThree, InNine, InFour, InSixteen, AreThreeAt, AreFourAt, AreThree, AreNine, AreFour, AreSixteen, back, ahead, first_three, last_three, western, eastern}
+use Rattle.life_block.specs.Pieces.{Nine, Sixteen, IsPiece, IsAt, InThree, InNine, InFour, InSixteen, AreThreeAt, AreFourAt, AreThree, AreNine, AreFour, AreSixteen, back, ahead, front, rear, western, eastern}
 
 pub twice : (n : ℕ) → 2 ^ (n + 1) ≡ 2 ^ n + 2 ^ n
 twice n = ap (λ m. 2 ^ m) (add-one n) ∙ double n
@@ -49,10 +49,10 @@ back-ahead side y = omega (arith, ints)
 
 -- three of four
 module _ {T : Type 0} {P : ℤ → T → Type 0} {side : ℕ} {place : ℤ} {four : Four T} where
-  pub first-of_four : {three : Three T} → three ≡ first_three four → AreFourAt P side place four → AreThreeAt P side place three
+  pub first-of_four : {three : Three T} → three ≡ front four → AreFourAt P side place four → AreThreeAt P side place three
   first-of_four e h = subst (AreThreeAt P side place) (sym e) (record { before = h.first; here = h.second; after = h.third })
 
-  pub last-of_four : {three : Three T} → three ≡ last_three four → AreFourAt P side place four → AreThreeAt P side (ahead place side) three
+  pub last-of_four : {three : Three T} → three ≡ rear four → AreFourAt P side place four → AreThreeAt P side (ahead place side) three
   last-of_four e h =
       subst (AreThreeAt P side (ahead place side)) (sym e)
       (record { before = subst (λ u. P u four.second) (back-ahead side place) h.second; here = h.third; after = h.fourth })

@@ -11,10 +11,11 @@ use Rattle.life_quad.specs.Keeping.{KeepsSquares}
 use Rattle.life_quad.specs.Refused.{SomePart}
 use Rattle.life_quad.specs.declared.id.Id.{Id}
 use Rattle.life_quad.specs.declared.moves.Quarters.{Quarters}
+use Rattle.life_block.specs.declared.grid.Corner.TheVariants.{NorthWest, NorthEast, SouthWest, SouthEast}
 use Rattle.life_block.specs.declared.grid.Four.{Four}
 use Rattle.life_sweep.specs.Generation.{next_life}
 use Rattle.life_block.specs.Needed.{square_from}
-use Rattle.life_block.specs.Pieces.{Sixteen, IsPiece, IsAt, InFour, InSixteen, AreFour, AreSixteen, back, ahead, four_of, at_north_west, at_north_east, at_south_west, at_south_east}
+use Rattle.life_block.specs.Pieces.{Sixteen, IsPiece, IsAt, InFour, InSixteen, AreFour, AreSixteen, back, ahead, four_of, at_corner}
 use Rattle.life_block.proofs.NeedLemmas.{SomeOfFour, quarter-part}
 use Rattle.life_block.proofs.PieceLemmas.{twice, IsPiece-moved, AreFour-moved, IsAt-kept, IsPiece-kept, blank-of_zero, next-zero}
 
@@ -280,16 +281,16 @@ module _ {knows : Id → Type 0} {content : Id → Tree} {cells : ℤ → ℤ �
   east-end : {a c : Id} → IsAt knows content k a → IsAt knows content k c → InFour (IsAt knows content k) (four_of b b a c)
   east-end a c = in-four h.known_other h.known_other a c
 
-  pub known-south_east : {s : Sixteen} → s ≡ at_south_east q b → InAll s
+  pub known-south_east : {s : Sixteen} → s ≡ at_corner SouthEast q b → InAll s
   known-south_east e = subst InAll (sym e) (in-four none none (east-end h.known_nw h.known_ne) (east-end h.known_sw h.known_se))
 
-  pub known-south_west : {s : Sixteen} → s ≡ at_south_west q b → InAll s
+  pub known-south_west : {s : Sixteen} → s ≡ at_corner SouthWest q b → InAll s
   known-south_west e = subst InAll (sym e) (in-four none none (west-end h.known_nw h.known_ne) (west-end h.known_sw h.known_se))
 
-  pub known-north_east : {s : Sixteen} → s ≡ at_north_east q b → InAll s
+  pub known-north_east : {s : Sixteen} → s ≡ at_corner NorthEast q b → InAll s
   known-north_east e = subst InAll (sym e) (in-four (east-end h.known_nw h.known_ne) (east-end h.known_sw h.known_se) none none)
 
-  pub known-north_west : {s : Sixteen} → s ≡ at_north_west q b → InAll s
+  pub known-north_west : {s : Sixteen} → s ≡ at_corner NorthWest q b → InAll s
   known-north_west e = subst InAll (sym e) (in-four (west-end h.known_nw h.known_ne) (west-end h.known_sw h.known_se) none none)
 
 module _ (knows : Id → Type 0) (content : Id → Tree) (cells : ℤ → ℤ → ℕ) (k : ℕ) (start : ℤ) (q : Quarters) (b : Id)
@@ -365,16 +366,16 @@ module _ (knows : Id → Type 0) (content : Id → Tree) (cells : ℤ → ℤ �
         fourth = no-south _ _ (omega (arith, ints));
       }
 
-  pieces-south_east : AreSixteen content cells (2 ^ k) (back start (2 ^ k)) (back start (2 ^ k)) (at_south_east q b)
+  pieces-south_east : AreSixteen content cells (2 ^ k) (back start (2 ^ k)) (back start (2 ^ k)) (at_corner SouthEast q b)
   pieces-south_east = in_south _ _ _ (east-row _ _ _ h.nw h.ne) (east-row _ _ _ h.sw h.se)
 
-  pieces-south_west : AreSixteen content cells (2 ^ k) (ahead start (2 ^ k)) (back start (2 ^ k)) (at_south_west q b)
+  pieces-south_west : AreSixteen content cells (2 ^ k) (ahead start (2 ^ k)) (back start (2 ^ k)) (at_corner SouthWest q b)
   pieces-south_west = in_south _ _ _ (west-row _ _ _ h.nw h.ne) (west-row _ _ _ h.sw h.se)
 
-  pieces-north_east : AreSixteen content cells (2 ^ k) (back start (2 ^ k)) (ahead start (2 ^ k)) (at_north_east q b)
+  pieces-north_east : AreSixteen content cells (2 ^ k) (back start (2 ^ k)) (ahead start (2 ^ k)) (at_corner NorthEast q b)
   pieces-north_east = in_north _ _ _ (east-row _ _ _ h.nw h.ne) (east-row _ _ _ h.sw h.se)
 
-  pieces-north_west : AreSixteen content cells (2 ^ k) (ahead start (2 ^ k)) (ahead start (2 ^ k)) (at_north_west q b)
+  pieces-north_west : AreSixteen content cells (2 ^ k) (ahead start (2 ^ k)) (ahead start (2 ^ k)) (at_corner NorthWest q b)
   pieces-north_west = in_north _ _ _ (west-row _ _ _ h.nw h.ne) (west-row _ _ _ h.sw h.se)
 
 -- ---- the square one level higher
@@ -411,16 +412,16 @@ module _ {knows : Id → Type 0} {content : Id → Tree} {t : Tree} {k : ℕ} {q
       (subst (λ u. AreSixteen content (tree_cell t) (2 ^ k) u w s) ex (subst (λ u. AreSixteen content (tree_cell t) (2 ^ k) x u s) ey p))
 
   -- the quarters amid blank squares, about each corner of the square
-  pub around-north_west : {s : Sixteen} → s ≡ at_south_east q b → AreSixteen content (tree_cell t) (2 ^ k) (outer t) (outer t) s
+  pub around-north_west : {s : Sixteen} → s ≡ at_corner SouthEast q b → AreSixteen content (tree_cell t) (2 ^ k) (outer t) (outer t) s
   around-north_west e = at e near near (pieces-south_east knows content (tree_cell t) k (corner t) q b d.quarters alone)
 
-  pub around-north_east : {s : Sixteen} → s ≡ at_south_west q b → AreSixteen content (tree_cell t) (2 ^ k) (ahead (outer t) (2 ^ depth t)) (outer t) s
+  pub around-north_east : {s : Sixteen} → s ≡ at_corner SouthWest q b → AreSixteen content (tree_cell t) (2 ^ k) (ahead (outer t) (2 ^ depth t)) (outer t) s
   around-north_east e = at e middle near (pieces-south_west knows content (tree_cell t) k (corner t) q b d.quarters alone)
 
-  pub around-south_west : {s : Sixteen} → s ≡ at_north_east q b → AreSixteen content (tree_cell t) (2 ^ k) (outer t) (ahead (outer t) (2 ^ depth t)) s
+  pub around-south_west : {s : Sixteen} → s ≡ at_corner NorthEast q b → AreSixteen content (tree_cell t) (2 ^ k) (outer t) (ahead (outer t) (2 ^ depth t)) s
   around-south_west e = at e near middle (pieces-north_east knows content (tree_cell t) k (corner t) q b d.quarters alone)
 
-  pub around-south_east : {s : Sixteen} → s ≡ at_north_west q b → AreSixteen content (tree_cell t) (2 ^ k) (ahead (outer t) (2 ^ depth t))
+  pub around-south_east : {s : Sixteen} → s ≡ at_corner NorthWest q b → AreSixteen content (tree_cell t) (2 ^ k) (ahead (outer t) (2 ^ depth t))
       (ahead (outer t) (2 ^ depth t)) s
   around-south_east e = at e middle middle (pieces-north_west knows content (tree_cell t) k (corner t) q b d.quarters alone)
 

@@ -3,6 +3,8 @@ use Rattle.std.specs.Prelude.{◌≡◌, ℕ, ◌^◌, ◌<◌, ℤ, pos, neg_�
 use Rattle.life_base.specs.Tree.{Tree, point, quad, depth}
 use Rattle.life_quad.specs.declared.id.Id.{Id}
 use Rattle.life_quad.specs.declared.moves.Quarters.{Quarters}
+use Rattle.life_block.specs.declared.grid.Corner.{Corner}
+use Rattle.life_block.specs.declared.grid.Corner.TheVariants.{NorthWest, NorthEast, SouthWest, SouthEast}
 use Rattle.life_block.specs.declared.grid.Three.{Three}
 use Rattle.life_block.specs.declared.grid.Four.{Four}
 
@@ -37,31 +39,25 @@ abbrev pub four_of : {T : Type 0} → T → T → T → T → Four T
 four_of a b c d = record { first = a; second = b; third = c; fourth = d }
 
 -- the first three and the last three of them
-abbrev pub first_three : {T : Type 0} → Four T → Three T
-first_three four = record { before = four.first; here = four.second; after = four.third }
+abbrev pub front : {T : Type 0} → Four T → Three T
+front four = record { before = four.first; here = four.second; after = four.third }
 
-abbrev pub last_three : {T : Type 0} → Four T → Three T
-last_three four = record { before = four.second; here = four.third; after = four.fourth }
+abbrev pub rear : {T : Type 0} → Four T → Three T
+rear four = record { before = four.second; here = four.third; after = four.fourth }
 
 -- the three western and the three eastern squares of each of three rows
 abbrev pub western : Three (Four Id) → Nine
-western rows = record { before = first_three rows.before; here = first_three rows.here; after = first_three rows.after }
+western rows = record { before = front rows.before; here = front rows.here; after = front rows.after }
 
 abbrev pub eastern : Three (Four Id) → Nine
-eastern rows = record { before = last_three rows.before; here = last_three rows.here; after = last_three rows.after }
+eastern rows = record { before = rear rows.before; here = rear rows.here; after = rear rows.after }
 
 -- four quarters in one corner of sixteen squares that are another square everywhere else
-abbrev pub at_south_east : Quarters → Id → Sixteen
-at_south_east q b = four_of (four_of b b b b) (four_of b b b b) (four_of b b q.nw q.ne) (four_of b b q.sw q.se)
-
-abbrev pub at_south_west : Quarters → Id → Sixteen
-at_south_west q b = four_of (four_of b b b b) (four_of b b b b) (four_of q.nw q.ne b b) (four_of q.sw q.se b b)
-
-abbrev pub at_north_east : Quarters → Id → Sixteen
-at_north_east q b = four_of (four_of b b q.nw q.ne) (four_of b b q.sw q.se) (four_of b b b b) (four_of b b b b)
-
-abbrev pub at_north_west : Quarters → Id → Sixteen
-at_north_west q b = four_of (four_of q.nw q.ne b b) (four_of q.sw q.se b b) (four_of b b b b) (four_of b b b b)
+abbrev pub at_corner : Corner → Quarters → Id → Sixteen
+at_corner NorthWest q b = four_of (four_of q.nw q.ne b b) (four_of q.sw q.se b b) (four_of b b b b) (four_of b b b b)
+at_corner NorthEast q b = four_of (four_of b b q.nw q.ne) (four_of b b q.sw q.se) (four_of b b b b) (four_of b b b b)
+at_corner SouthWest q b = four_of (four_of b b b b) (four_of b b b b) (four_of q.nw q.ne b b) (four_of q.sw q.se b b)
+at_corner SouthEast q b = four_of (four_of b b b b) (four_of b b b b) (four_of b b q.nw q.ne) (four_of b b q.sw q.se)
 
 -- a known square of this level
 pub record IsAt (knows : Id → Type 0) (content : Id → Tree) (k : ℕ) (id : Id) : Type 0 where

@@ -11,7 +11,7 @@ ghost use Rattle.life_block.specs.Pieces.{IsPiece, IsBinary, IsAt, InNine, InSix
 
 use crate::bitmap::{eight_rows, join_cells};
 use crate::counts::next_word;
-use crate::grid::{Nine, Sixteen};
+use crate::grid::{Corner, Nine, Sixteen};
 use life_base::{Kind, LifeRule, MAX_LEVEL};
 use life_quad::{Id, Squares, divide};
 use life_sweep::Column;
@@ -90,10 +90,10 @@ fn next_of_middle<S: Squares>(
     if level == 1 {
         return next_of_cells(squares, rule, sixteen);
     }
-    let nw = next_amid(squares, rule, level, &sixteen.first_three().western())?;
-    let ne = next_amid(squares, rule, level, &sixteen.first_three().eastern())?;
-    let sw = next_amid(squares, rule, level, &sixteen.last_three().western())?;
-    let se = next_amid(squares, rule, level, &sixteen.last_three().eastern())?;
+    let nw = next_amid(squares, rule, level, &sixteen.front().western())?;
+    let ne = next_amid(squares, rule, level, &sixteen.front().eastern())?;
+    let sw = next_amid(squares, rule, level, &sixteen.rear().western())?;
+    let se = next_amid(squares, rule, level, &sixteen.rear().eastern())?;
     squares.join(nw, ne, sw, se)
 }
 
@@ -120,9 +120,9 @@ pub fn next_life_square<S: Squares>(squares: &mut S, rule: &LifeRule, id: Id) ->
     let level = squares.level(id) - 1;
     let root = divide(squares, id);
     let blank = squares.empty(level);
-    let north_west = next_of_middle(squares, rule, level, &Sixteen::in_south_east(root, blank))?;
-    let north_east = next_of_middle(squares, rule, level, &Sixteen::in_south_west(root, blank))?;
-    let south_west = next_of_middle(squares, rule, level, &Sixteen::in_north_east(root, blank))?;
-    let south_east = next_of_middle(squares, rule, level, &Sixteen::in_north_west(root, blank))?;
+    let north_west = next_of_middle(squares, rule, level, &Corner::SouthEast.with(root, blank))?;
+    let north_east = next_of_middle(squares, rule, level, &Corner::SouthWest.with(root, blank))?;
+    let south_west = next_of_middle(squares, rule, level, &Corner::NorthEast.with(root, blank))?;
+    let south_east = next_of_middle(squares, rule, level, &Corner::NorthWest.with(root, blank))?;
     squares.join(north_west, north_east, south_west, south_east)
 }

@@ -1,6 +1,6 @@
 //! Squares of one level side by side.
 ghost use Rattle.std.specs.Prelude.{◌≡◌, ℕ, ℤ, ◌+◌, ◌^◌, true};
-ghost use Rattle.life_block.specs.Pieces.{IsAt, InThree, InNine, InFour, InSixteen, AreThree, AreNine, AreFour, AreSixteen, ahead, four_of, first_three, last_three, western, eastern, at_north_west, at_north_east, at_south_west, at_south_east};
+ghost use Rattle.life_block.specs.Pieces.{IsAt, InThree, InNine, InFour, InSixteen, AreThree, AreNine, AreFour, AreSixteen, ahead, four_of, front, rear, western, eastern, at_corner};
 
 use life_quad::{Id, Quarters, Squares, divide};
 
@@ -27,6 +27,19 @@ pub(crate) type Nine = Three<Three<Id>>;
 /// Four rows of four squares: four in the middle, and the twelve around them.
 pub(crate) type Sixteen = Four<Four<Id>>;
 
+impl<T: Copy> Three<T> {
+    // These three, in order.
+    fn of(before: T, here: T, after: T) -> Three<T>
+        ensures { result ≡ record { before = before; here = here; after = after } }
+    {
+        Three {
+            before,
+            here,
+            after,
+        }
+    }
+}
+
 impl Three<Id> {
     // Whether each is this square.
     fn are_all(&self, id: Id) -> bool
@@ -48,18 +61,8 @@ impl Three<Id> {
         let middle = divide(squares, self.here);
         let east = divide(squares, self.after);
         (
-            Four {
-                first: west.ne,
-                second: middle.nw,
-                third: middle.ne,
-                fourth: east.nw,
-            },
-            Four {
-                first: west.se,
-                second: middle.sw,
-                third: middle.se,
-                fourth: east.sw,
-            },
+            Four::of(west.ne, middle.nw, middle.ne, east.nw),
+            Four::of(west.se, middle.sw, middle.se, east.sw),
         )
     }
 }
@@ -81,72 +84,35 @@ impl Nine {
         let (_, far_north) = self.before.halves(squares, level);
         let (north, south) = self.here.halves(squares, level);
         let (far_south, _) = self.after.halves(squares, level);
-        Four {
-            first: far_north,
-            second: north,
-            third: south,
-            fourth: far_south,
-        }
+        Four::of(far_north, north, south, far_south)
     }
 }
 
 impl<T: Copy> Four<T> {
-    // This value four times.
-    fn of(value: T) -> Four<T>
-        ensures { result ≡ four_of value value value value }
+    // These four, in order.
+    fn of(first: T, second: T, third: T, fourth: T) -> Four<T>
+        ensures { result ≡ four_of first second third fourth }
     {
         Four {
-            first: value,
-            second: value,
-            third: value,
-            fourth: value,
-        }
-    }
-
-    // These two behind another value, twice.
-    fn at_end(other: T, a: T, b: T) -> Four<T>
-        ensures { result ≡ four_of other other a b }
-    {
-        Four {
-            first: other,
-            second: other,
-            third: a,
-            fourth: b,
-        }
-    }
-
-    // These two before another value, twice.
-    fn at_front(other: T, a: T, b: T) -> Four<T>
-        ensures { result ≡ four_of a b other other }
-    {
-        Four {
-            first: a,
-            second: b,
-            third: other,
-            fourth: other,
+            first,
+            second,
+            third,
+            fourth,
         }
     }
 
     /// The first three.
-    pub(crate) fn first_three(&self) -> Three<T>
-        ensures { result ≡ first_three self.now }
+    pub(crate) fn front(&self) -> Three<T>
+        ensures { result ≡ front self.now }
     {
-        Three {
-            before: self.first,
-            here: self.second,
-            after: self.third,
-        }
+        Three::of(self.first, self.second, self.third)
     }
 
     /// The last three.
-    pub(crate) fn last_three(&self) -> Three<T>
-        ensures { result ≡ last_three self.now }
+    pub(crate) fn rear(&self) -> Three<T>
+        ensures { result ≡ rear self.now }
     {
-        Three {
-            before: self.second,
-            here: self.third,
-            after: self.fourth,
-        }
+        Three::of(self.second, self.third, self.fourth)
     }
 }
 
@@ -155,59 +121,42 @@ impl Three<Four<Id>> {
     pub(crate) fn western(&self) -> Nine
         ensures { result ≡ western self.now }
     {
-        Three {
-            before: self.before.first_three(),
-            here: self.here.first_three(),
-            after: self.after.first_three(),
-        }
+        Three::of(self.before.front(), self.here.front(), self.after.front())
     }
 
     /// The three eastern ones.
     pub(crate) fn eastern(&self) -> Nine
         ensures { result ≡ eastern self.now }
     {
-        Three {
-            before: self.before.last_three(),
-            here: self.here.last_three(),
-            after: self.after.last_three(),
-        }
+        Three::of(self.before.rear(), self.here.rear(), self.after.rear())
     }
 }
 
-impl Sixteen {
-    /// Four quarters in the north-western corner, and another square everywhere else.
-    pub(crate) fn in_north_west(quarters: Quarters, other: Id) -> Sixteen
-        ensures { result ≡ at_north_west quarters other }
-    {
-        let north = Four::at_front(other, quarters.nw, quarters.ne);
-        let south = Four::at_front(other, quarters.sw, quarters.se);
-        Four::at_front(Four::of(other), north, south)
-    }
+/// A corner of a square.
+#[derive(Clone, Copy)]
+pub(crate) enum Corner {
+    NorthWest,
+    NorthEast,
+    SouthWest,
+    SouthEast,
+}
 
-    /// Four quarters in the north-eastern corner.
-    pub(crate) fn in_north_east(quarters: Quarters, other: Id) -> Sixteen
-        ensures { result ≡ at_north_east quarters other }
+impl Corner {
+    /// Four quarters in this corner of sixteen squares, and another square everywhere else.
+    pub(crate) fn with(self, quarters: Quarters, other: Id) -> Sixteen
+        ensures { result ≡ at_corner self quarters other }
     {
-        let north = Four::at_end(other, quarters.nw, quarters.ne);
-        let south = Four::at_end(other, quarters.sw, quarters.se);
-        Four::at_front(Four::of(other), north, south)
-    }
-
-    /// Four quarters in the south-western corner.
-    pub(crate) fn in_south_west(quarters: Quarters, other: Id) -> Sixteen
-        ensures { result ≡ at_south_west quarters other }
-    {
-        let north = Four::at_front(other, quarters.nw, quarters.ne);
-        let south = Four::at_front(other, quarters.sw, quarters.se);
-        Four::at_end(Four::of(other), north, south)
-    }
-
-    /// Four quarters in the south-eastern corner.
-    pub(crate) fn in_south_east(quarters: Quarters, other: Id) -> Sixteen
-        ensures { result ≡ at_south_east quarters other }
-    {
-        let north = Four::at_end(other, quarters.nw, quarters.ne);
-        let south = Four::at_end(other, quarters.sw, quarters.se);
-        Four::at_end(Four::of(other), north, south)
+        let Quarters { nw, ne, sw, se } = quarters;
+        let none = Four::of(other, other, other, other);
+        let north_west = Four::of(nw, ne, other, other);
+        let south_west = Four::of(sw, se, other, other);
+        let north_east = Four::of(other, other, nw, ne);
+        let south_east = Four::of(other, other, sw, se);
+        match self {
+            Corner::NorthWest => Four::of(north_west, south_west, none, none),
+            Corner::NorthEast => Four::of(north_east, south_east, none, none),
+            Corner::SouthWest => Four::of(none, none, north_west, south_west),
+            Corner::SouthEast => Four::of(none, none, north_east, south_east),
+        }
     }
 }

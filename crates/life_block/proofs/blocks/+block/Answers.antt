@@ -39,10 +39,10 @@ parts g m c cells x y binary h =
     let se = c.in_ok-se.ensures in
     let north = keeps-then nw.keeps ne.keeps in
     parts-of_pieces _ _ g.met.S.Squares.full refl x y ne.keeps sw.keeps se.keeps nw.at ne.at sw.at se.at
-    (nw.next cells _ _ binary (western-nine _ cells c.western.ensures (first-of_four c.first_three.ensures h)))
-    (ne.next cells _ _ binary (eastern-nine _ cells c.eastern.ensures (first-of_four c.first_three-2.ensures (AreSixteen-kept nw.keeps cells known h))))
-    (sw.next cells _ _ binary (western-nine _ cells c.western-2.ensures (last-of_four c.last_three.ensures (AreSixteen-kept north cells known h))))
-    (se.next cells _ _ binary (eastern-nine _ cells c.eastern-2.ensures (last-of_four c.last_three-2.ensures
+    (nw.next cells _ _ binary (western-nine _ cells c.western.ensures (first-of_four c.front.ensures h)))
+    (ne.next cells _ _ binary (eastern-nine _ cells c.eastern.ensures (first-of_four c.front-2.ensures (AreSixteen-kept nw.keeps cells known h))))
+    (sw.next cells _ _ binary (western-nine _ cells c.western-2.ensures (last-of_four c.rear.ensures (AreSixteen-kept north cells known h))))
+    (se.next cells _ _ binary (eastern-nine _ cells c.eastern-2.ensures (last-of_four c.rear-2.ensures
     (AreSixteen-kept (keeps-then north sw.keeps) cells known h))))
 
 pub next_of_middle-returns-clause-next : goal.next_of_middle-returns-clause-next
@@ -53,27 +53,27 @@ pub next_of_middle-returns-in_err-nw-clause-needed : goal.next_of_middle-returns
 next_of_middle-returns-in_err-nw-clause-needed g m c =
     on_err_any c.from_residual.result
     (λ cells x y binary h. quarter-part (g.S.Squares.needs_node c.next_amid.new.squares) _ _ x y (inl
-    (c.in_err-nw.ensures.needed cells _ _ binary (western-nine _ cells c.western.ensures (first-of_four c.first_three.ensures h)))))
+    (c.in_err-nw.ensures.needed cells _ _ binary (western-nine _ cells c.western.ensures (first-of_four c.front.ensures h)))))
 
 pub next_of_middle-returns-in_err-ne-clause-needed : goal.next_of_middle-returns-in_err-ne-clause-needed
 next_of_middle-returns-in_err-ne-clause-needed g m c =
     on_err_any c.from_residual-in_err-ne.result
     (λ cells x y binary h. quarter-part (g.S.Squares.needs_node c.next_amid-2.new.squares) _ _ x y (inr (inl
-    (c.in_err-ne.ensures.needed cells _ _ binary (eastern-nine _ cells c.eastern.ensures (first-of_four c.first_three-2.ensures
+    (c.in_err-ne.ensures.needed cells _ _ binary (eastern-nine _ cells c.eastern.ensures (first-of_four c.front-2.ensures
     (AreSixteen-kept c.in_ok-nw.ensures.keeps cells c.requires.known h)))))))
 
 pub next_of_middle-returns-in_err-sw-clause-needed : goal.next_of_middle-returns-in_err-sw-clause-needed
 next_of_middle-returns-in_err-sw-clause-needed g m c =
     on_err_any c.from_residual-in_err-sw.result
     (λ cells x y binary h. quarter-part (g.S.Squares.needs_node c.next_amid-3.new.squares) _ _ x y (inr (inr (inl
-    (c.in_err-sw.ensures.needed cells _ _ binary (western-nine _ cells c.western-2.ensures (last-of_four c.last_three.ensures
+    (c.in_err-sw.ensures.needed cells _ _ binary (western-nine _ cells c.western-2.ensures (last-of_four c.rear.ensures
     (AreSixteen-kept (keeps-then c.in_ok-nw.ensures.keeps c.in_ok-ne.ensures.keeps) cells c.requires.known h))))))))
 
 pub next_of_middle-returns-in_err-se-clause-needed : goal.next_of_middle-returns-in_err-se-clause-needed
 next_of_middle-returns-in_err-se-clause-needed g m c =
     on_err_any c.from_residual-in_err-se.result
     (λ cells x y binary h. quarter-part (g.S.Squares.needs_node c.next_amid-4.new.squares) _ _ x y (inr (inr (inr
-    (c.in_err-se.ensures.needed cells _ _ binary (eastern-nine _ cells c.eastern-2.ensures (last-of_four c.last_three-2.ensures
+    (c.in_err-se.ensures.needed cells _ _ binary (eastern-nine _ cells c.eastern-2.ensures (last-of_four c.rear-2.ensures
     (AreSixteen-kept (keeps-then (keeps-then c.in_ok-nw.ensures.keeps c.in_ok-ne.ensures.keeps) c.in_ok-sw.ensures.keeps) cells c.requires.known h))))))))
 
 pub next_of_middle-returns-clause-needed : goal.next_of_middle-returns-clause-needed

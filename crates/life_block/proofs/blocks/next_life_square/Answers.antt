@@ -38,24 +38,24 @@ divided g c =
 pub next_of_middle-requires-clause-known : goal.next_of_middle-requires-clause-known
 next_of_middle-requires-clause-known g c =
     let d = divided g (goal.at.next_of_middle-requires-clause-known g c).After-empty-blank in
-    known-south_east d.quarters c.in_south_east.ensures
+    known-south_east d.quarters c.with.ensures
 
 pub next_of_middle-requires-2-clause-known : goal.next_of_middle-requires-2-clause-known
 next_of_middle-requires-2-clause-known g c =
     let d = divided g (goal.at.next_of_middle-requires-2-clause-known g c).After-empty-blank in
-    known-south_west (IsDivided-kept c.in_ok-north_west.ensures.keeps d).quarters c.in_south_west.ensures
+    known-south_west (IsDivided-kept c.in_ok-north_west.ensures.keeps d).quarters c.with-2.ensures
 
 pub next_of_middle-requires-3-clause-known : goal.next_of_middle-requires-3-clause-known
 next_of_middle-requires-3-clause-known g c =
     let d = divided g (goal.at.next_of_middle-requires-3-clause-known g c).After-empty-blank in
-    known-north_east (IsDivided-kept (keeps-then c.in_ok-north_west.ensures.keeps c.in_ok-north_east.ensures.keeps) d).quarters c.in_north_east.ensures
+    known-north_east (IsDivided-kept (keeps-then c.in_ok-north_west.ensures.keeps c.in_ok-north_east.ensures.keeps) d).quarters c.with-3.ensures
 
 pub next_of_middle-requires-4-clause-known : goal.next_of_middle-requires-4-clause-known
 next_of_middle-requires-4-clause-known g c =
     let d = divided g (goal.at.next_of_middle-requires-4-clause-known g c).After-empty-blank in
     known-north_west (IsDivided-kept
     (keeps-then (keeps-then c.in_ok-north_west.ensures.keeps c.in_ok-north_east.ensures.keeps) c.in_ok-south_west.ensures.keeps) d).quarters
-    c.in_north_west.ensures
+    c.with-4.ensures
 
 pub returns-in_err-south_west-clause-keeps : goal.returns-in_err-south_west-clause-keeps
 returns-in_err-south_west-clause-keeps g c =
@@ -87,10 +87,10 @@ parts g c d =
     let se = c.in_ok-south_east.ensures in
     let north = keeps-then nw.keeps ne.keeps in
     parts-of_pieces _ _ g.met.S.Squares.full (sym d.level) _ _ ne.keeps sw.keeps se.keeps nw.at ne.at sw.at se.at
-    (nw.next _ _ _ states (around-north_west d c.in_south_east.ensures))
-    (ne.next _ _ _ states (around-north_east (IsDivided-kept nw.keeps d) c.in_south_west.ensures))
-    (sw.next _ _ _ states (around-south_west (IsDivided-kept north d) c.in_north_east.ensures))
-    (se.next _ _ _ states (around-south_east (IsDivided-kept (keeps-then north sw.keeps) d) c.in_north_west.ensures))
+    (nw.next _ _ _ states (around-north_west d c.with.ensures))
+    (ne.next _ _ _ states (around-north_east (IsDivided-kept nw.keeps d) c.with-2.ensures))
+    (sw.next _ _ _ states (around-south_west (IsDivided-kept north d) c.with-3.ensures))
+    (se.next _ _ _ states (around-south_east (IsDivided-kept (keeps-then north sw.keeps) d) c.with-4.ensures))
 
 pub returns-clause-next : goal.returns-clause-next
 returns-clause-next g c =
@@ -113,14 +113,14 @@ returns-in_err-north_west-clause-needed g c =
     let d = divided g (goal.at.returns-in_err-north_west-clause-needed g c).After-empty-blank in
     on_err_any c.from_residual.result
     (corner-part d (g.S.Squares.needs_node c.next_of_middle.new.squares) _ (inl
-    (c.in_err-north_west.ensures.needed _ _ _ c.requires.states (around-north_west d c.in_south_east.ensures))))
+    (c.in_err-north_west.ensures.needed _ _ _ c.requires.states (around-north_west d c.with.ensures))))
 
 pub returns-in_err-north_east-clause-needed : goal.returns-in_err-north_east-clause-needed
 returns-in_err-north_east-clause-needed g c =
     let d = IsDivided-kept c.in_ok-north_west.ensures.keeps (divided g (goal.at.returns-in_err-north_east-clause-needed g c).After-empty-blank) in
     on_err_any c.from_residual-in_err-north_east.result
     (corner-part d (g.S.Squares.needs_node c.next_of_middle-2.new.squares) _ (inr (inl
-    (c.in_err-north_east.ensures.needed _ _ _ c.requires.states (around-north_east d c.in_south_west.ensures)))))
+    (c.in_err-north_east.ensures.needed _ _ _ c.requires.states (around-north_east d c.with-2.ensures)))))
 
 pub returns-in_err-south_west-clause-needed : goal.returns-in_err-south_west-clause-needed
 returns-in_err-south_west-clause-needed g c =
@@ -128,7 +128,7 @@ returns-in_err-south_west-clause-needed g c =
     (divided g (goal.at.returns-in_err-south_west-clause-needed g c).After-empty-blank) in
     on_err_any c.from_residual-in_err-south_west.result
     (corner-part d (g.S.Squares.needs_node c.next_of_middle-3.new.squares) _ (inr (inr (inl
-    (c.in_err-south_west.ensures.needed _ _ _ c.requires.states (around-south_west d c.in_north_east.ensures))))))
+    (c.in_err-south_west.ensures.needed _ _ _ c.requires.states (around-south_west d c.with-3.ensures))))))
 
 pub returns-in_err-south_east-clause-needed : goal.returns-in_err-south_east-clause-needed
 returns-in_err-south_east-clause-needed g c =
@@ -136,7 +136,7 @@ returns-in_err-south_east-clause-needed g c =
     (divided g (goal.at.returns-in_err-south_east-clause-needed g c).After-empty-blank) in
     on_err_any c.from_residual-in_err-south_east.result
     (corner-part d (g.S.Squares.needs_node c.next_of_middle-4.new.squares) _ (inr (inr (inr
-    (c.in_err-south_east.ensures.needed _ _ _ c.requires.states (around-south_east d c.in_north_west.ensures))))))
+    (c.in_err-south_east.ensures.needed _ _ _ c.requires.states (around-south_east d c.with-4.ensures))))))
 
 pub returns-clause-needed : goal.returns-clause-needed
 returns-clause-needed g c =
