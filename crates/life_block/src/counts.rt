@@ -11,13 +11,6 @@ use life_sweep::Column;
 /// The cells of 64 columns in three rows: bit i is the cell i columns east of the first.
 pub(crate) type Words = Column<u64>;
 
-/// A number of 0 to 3 for each column.
-#[derive(Clone, Copy)]
-pub(crate) struct Sum {
-    pub(crate) ones: u64,
-    pub(crate) twos: u64,
-}
-
 /// A number of 0 to 15 for each column.
 #[derive(Clone, Copy)]
 pub(crate) struct Counts {
@@ -27,33 +20,30 @@ pub(crate) struct Counts {
     pub(crate) eights: u64,
 }
 
-// The sum of three bits in each column.
-fn add(a: u64, b: u64, c: u64) -> Sum
-    ensures { (i : ℕ) → bit_at result.ones i + 2 * bit_at result.twos i ≡ bit_at a i + bit_at b i + bit_at c i }
+// The sum of three bits in each column: its ones, and its twos.
+fn add(a: u64, b: u64, c: u64) -> (u64, u64)
+    ensures { (i : ℕ) → bit_at result.0 i + 2 * bit_at result.1 i ≡ bit_at a i + bit_at b i + bit_at c i }
 {
     let odd = a ^ b;
-    Sum {
-        ones: odd ^ c,
-        twos: (a & b) | (odd & c),
-    }
+    (odd ^ c, (a & b) | (odd & c))
 }
 
 // How many of the eight neighbours of each place are alive.
 fn live_neighbours(words: &Words) -> Counts
     ensures { (i : ℕ) → count_at result i ≡ count_of 1 (neighbours_in words.now i) }
 {
-    let north = add(words.north, words.north >> 1, words.north >> 2);
-    let here = add(words.here, words.here >> 2, 0);
-    let south = add(words.south, words.south >> 1, words.south >> 2);
-    let ones = add(north.ones, here.ones, south.ones);
-    let twos = add(north.twos, here.twos, south.twos);
-    let more = add(ones.twos, twos.ones, 0);
-    let fours = add(twos.twos, more.twos, 0);
+    let (north, north_twos) = add(words.north, words.north >> 1, words.north >> 2);
+    let (here, here_twos) = add(words.here, words.here >> 2, 0);
+    let (south, south_twos) = add(words.south, words.south >> 1, words.south >> 2);
+    let (ones, carried_twos) = add(north, here, south);
+    let (all_twos, all_fours) = add(north_twos, here_twos, south_twos);
+    let (twos, carried_fours) = add(carried_twos, all_twos, 0);
+    let (fours, eights) = add(all_fours, carried_fours, 0);
     Counts {
-        ones: ones.ones,
-        twos: more.ones,
-        fours: fours.ones,
-        eights: fours.twos,
+        ones,
+        twos,
+        fours,
+        eights,
     }
 }
 
@@ -61,13 +51,13 @@ fn live_neighbours(words: &Words) -> Counts
 fn live_sides(words: &Words) -> Counts
     ensures { (i : ℕ) → count_at result i ≡ count_of 1 (sides_in words.now i) }
 {
-    let three = add(words.north >> 1, words.here, words.here >> 2);
-    let ones = add(three.ones, words.south >> 1, 0);
-    let twos = add(three.twos, ones.twos, 0);
+    let (three, three_twos) = add(words.north >> 1, words.here, words.here >> 2);
+    let (ones, carried_twos) = add(three, words.south >> 1, 0);
+    let (twos, fours) = add(three_twos, carried_twos, 0);
     Counts {
-        ones: ones.ones,
-        twos: twos.ones,
-        fours: twos.twos,
+        ones,
+        twos,
+        fours,
         eights: 0,
     }
 }

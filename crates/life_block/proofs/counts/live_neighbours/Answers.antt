@@ -20,11 +20,10 @@ returns c i =
     let here = c.add-here.ensures i in
     let south = c.add-south.ensures i in
     let ones = c.add-ones.ensures i in
-    let twos = c.add-twos.ensures i in
-    let more = c.add-more.ensures i in
+    let twos = c.add-all_twos.ensures i in
+    let more = c.add-twos.ensures i in
     let fours = c.add-fours.ensures i in
-    let sum : bit_at c.add-ones.result.ones i + 2 * bit_at c.add-more.result.ones i + 4 * bit_at c.add-fours.result.ones i + 8 * bit_at c.add-fours.result.twos
-    i
+    let sum : bit_at c.add-ones.result.0 i + 2 * bit_at c.add-twos.result.0 i + 4 * bit_at c.add-fours.result.0 i + 8 * bit_at c.add-fours.result.1 i
     ≡ bit_at n (i + 1) + bit_at n (i + 2) + bit_at h (i + 2) + bit_at s (i + 2) + bit_at s (i + 1) + bit_at s i + bit_at h i + bit_at n i =
     omega (arith, zero, n1, n2, h2, s1, s2, north, here, south, ones, twos, more, fours) in
     sum ∙ eight _ _ _ _ _ _ _ _ (bit_at-lt n (i + 1)) (bit_at-lt n (i + 2)) (bit_at-lt h (i + 2)) (bit_at-lt s (i + 2)) (bit_at-lt s (i + 1)) (bit_at-lt s i)
