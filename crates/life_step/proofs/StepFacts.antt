@@ -38,14 +38,7 @@ use Rattle.life_step.specs.Stepped.{IsLifeStep, IsTableStep, IsTextOf, Stepped}
 use Rattle.life_step.proofs.RefusalFacts.{refusal-at, life-refusal, blank-outside}
 use Rattle.life_step.proofs.StateFacts.{states-up-to}
 
--- ---- the store
-
--- want of room or of memory, or a fault of the step
-pub refused-by : (store : Nodes) (fault : Fault) (P Q : Type 0) → (P → Q) → (fault ≡ fault_of kinds.Full → length (held store) ≡ store.limit)
-    → (fault ≡ fault_of kinds.Full) ⊎ ((fault ≡ fault_of kinds.Memory) ⊎ P) → IsWant store fault ⊎ Q
-refused-by store fault P Q f full (inl e) = inl (inr (e, full e))
-refused-by store fault P Q f full (inr (inl e)) = inl (inl e)
-refused-by store fault P Q f full (inr (inr p)) = inr (f p)
+-- ---- refusals
 
 -- what refuses the step of a pattern refuses that of its file
 pub step-refused : {X : Type 0} (bytes : List ℕ) (old new : Nodes) (pattern : Pattern) (Q : Fault → Universe → Type 0) → IsRead MAX_LEVEL bytes old pattern

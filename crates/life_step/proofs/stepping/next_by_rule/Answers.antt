@@ -15,7 +15,7 @@ use Rattle.life_canon.specs.Universe.{Universe, least_level}
 use Rattle.life_step.specs.Needed.{LacksForLife, of_generation, of_root}
 use Rattle.life_step.specs.Refusals.{LifeRefusal}
 use Rattle.life_step.proofs.NeedFacts.{full-again}
-use Rattle.life_step.proofs.StepFacts.{refused-by, next-small, needs-table, life-last, life-refused-read, life-stepped-read}
+use Rattle.life_step.proofs.StepFacts.{next-small, needs-table, life-last, life-refused-read, life-stepped-read}
 use Rattle.life_step.proofs.stepping.next_by_rule.Goals as goal
 
 pub returns-in_default-clause-refused : goal.returns-in_default-clause-refused
@@ -61,8 +61,7 @@ returns-in_err-square-clause-refused c =
       life-refused-read c.patterns_fit.ensures store c.args.pattern bytes r c.files_are_on_plane.ensures c.life_answers_at.ensures
           life c.in-Life.is c.in_ok-generation.ensures.some (Some fault) h,
     ) in
-    rw (p.1, p.2)
-    (refused-by c.next_life_generation.new.squares fault _ _ each (λ e. c.in_err-square.ensures.full (ap Err e)) c.in_err-square.ensures.refusals)
+    rw (p.1, p.2) (elim c.in_err-square.ensures.refusals [ inl want ↦ inl want | inr h ↦ inr (each h) ])
 
 pub returns-in_err-square-clause-keeps : goal.returns-in_err-square-clause-keeps
 returns-in_err-square-clause-keeps c = c.in_err-square.ensures.keeps

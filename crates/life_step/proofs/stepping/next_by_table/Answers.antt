@@ -19,7 +19,7 @@ use Rattle.life_step.specs.Needed.{SomeOfTable, of_next, of_next_root}
 use Rattle.life_step.specs.Refusals.{TableRefusal}
 use Rattle.life_step.proofs.NeedFacts.{full-again}
 use Rattle.life_step.proofs.StateFacts.{cell-byte}
-use Rattle.life_step.proofs.StepFacts.{refused-by, root-high, table-last, table-refused-read, table-stepped-read}
+use Rattle.life_step.proofs.StepFacts.{root-high, table-last, table-refused-read, table-stepped-read}
 use Rattle.life_step.proofs.stepping.next_by_table.Goals as goal
 
 pub returns-then-not-is_rule_of-clause-refused : goal.returns-then-not-is_rule_of-clause-refused
@@ -61,8 +61,7 @@ returns-in_err-square-clause-refused c =
           (c.is_rule_of.ensures.0 c.if-not-is_rule_of.false) c.in_ok-generation.ensures.some (Some fault)
           (subst (λ (T : Table). GenerationRefusal (TableAnswers T) T.n_states (2 ^ 20) t (Some fault)) same h),
     ) in
-    rw (p.1, p.2)
-    (refused-by c.next_generation.new.squares fault _ _ each (λ e. c.in_err-square.ensures.full (ap Err e)) c.in_err-square.ensures.refusals)
+    rw (p.1, p.2) (elim c.in_err-square.ensures.refusals [ inl want ↦ inl want | inr h ↦ inr (each h) ])
 
 pub text_of_square-requires-clause-states : goal.text_of_square-requires-clause-states
 text_of_square-requires-clause-states c =
