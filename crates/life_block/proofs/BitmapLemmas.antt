@@ -7,8 +7,7 @@ use Rattle.std.proofs.lemmas.Nat.Bits.{bit_at_cat_low, bit_at_cat_high}
 use Rattle.life_base.specs.Sets.{OuterTotalistic}
 use Rattle.life_base.specs.declared.rule.Near.{Near}
 use Rattle.life_base.specs.declared.rule.Near.TheVariants.{Moore, VonNeumann}
-use Rattle.life_sweep.specs.Around.{before, after}
-use Rattle.life_sweep.specs.Generation.{next_by_count, next_life}
+use Rattle.life_sweep.specs.Generation.{before, after, next_by_count, next_life}
 use Rattle.life_table.specs.Meaning.{count_of}
 use Rattle.life_block.specs.Bits.{HasCells, HasRows, counted_in}
 use Rattle.life_block.specs.Pieces.{ahead}

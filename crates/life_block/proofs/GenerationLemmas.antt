@@ -9,10 +9,9 @@ use Rattle.life_base.proofs.Squares.{Inside}
 use Rattle.life_quad.specs.Cells.{population}
 use Rattle.life_strip.specs.Given.{IsOnPlane}
 use Rattle.life_table.specs.Meaning.{Becomes, Ambiguous}
-use Rattle.life_sweep.specs.Generation.{next_life}
-use Rattle.life_sweep.specs.Laws.{LifeAnswersAt}
+use Rattle.life_sweep.specs.Generation.{next_life, LifeAnswersAt, LifeAnswers}
 use Rattle.life_sweep.specs.Refused.{HasStateFrom, SomeAmbiguous, GenerationRefusal}
-use Rattle.life_sweep.specs.Sweep.{IsLeft, LifeAnswers}
+use Rattle.life_sweep.specs.Sweep.{IsLeft}
 use Rattle.life_block.proofs.RootLemmas.{cell-outside}
 
 pub same-state : (a b : ℕ) → Becomes a ≡ Becomes b → a ≡ b

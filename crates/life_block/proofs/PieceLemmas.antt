@@ -11,8 +11,7 @@ use Rattle.life_base.specs.Tree.{Tree, quad, depth, blank}
 use Rattle.life_base.proofs.Squares.{depth-blank}
 use Rattle.life_quad.specs.Keeping.{KeepsSquares}
 use Rattle.life_quad.specs.declared.id.Id.{Id}
-use Rattle.life_sweep.specs.Around.{before, after}
-use Rattle.life_sweep.specs.Generation.{next_by_count, next_life}
+use Rattle.life_sweep.specs.Generation.{before, after, next_by_count, next_life}
 use Rattle.life_table.specs.Meaning.{count_of}
 use Rattle.life_block.specs.declared.grid.Three.{Three}
 use Rattle.life_block.specs.declared.grid.Four.{Four}

@@ -4,9 +4,8 @@ use Rattle.life_base.specs.Sets.{OuterTotalistic}
 use Rattle.life_base.specs.Tree.{Tree, point, quad, depth, tree_cell}
 use Rattle.life_base.specs.declared.cell.TheConstants.{MAX_LEVEL}
 use Rattle.life_quad.specs.Refused.{SomePart}
-use Rattle.life_sweep.specs.Generation.{next_life}
-use Rattle.life_sweep.specs.Needed.{SomeNext}
-use Rattle.life_sweep.specs.Sweep.{LifeAnswers}
+use Rattle.life_sweep.specs.Generation.{next_life, LifeAnswers}
+use Rattle.life_sweep.specs.Refused.{SomeNext}
 use Rattle.life_block.specs.Pieces.{ahead}
 
 -- the square of level k with the states of the plane from the column x and the row y on

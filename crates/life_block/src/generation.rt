@@ -1,12 +1,10 @@
 //! The next generation of a pattern.
 ghost use Rattle.std.specs.Prelude.{◌≡◌, ◌⊎◌, ℤ, ◌<◌, ◌≤◌, Err, Some, None, IfOk, IfErr};
-ghost use Rattle.life_base.specs.declared.kind.Kind.TheVariants.{Full, Memory};
 ghost use Rattle.life_base.specs.Refusal.{fault_of};
 ghost use Rattle.life_base.specs.Tree.{depth, tree_cell};
 ghost use Rattle.life_quad.specs.Keeping.{KeepsSquares, IsWantFault};
-ghost use Rattle.life_sweep.specs.Generation.{next_life};
+ghost use Rattle.life_sweep.specs.Generation.{next_life, LifeAnswers};
 ghost use Rattle.life_sweep.specs.Refused.{GenerationRefusal};
-ghost use Rattle.life_sweep.specs.Sweep.{LifeAnswers};
 ghost use Rattle.life_block.specs.Needed.{SomeOfNext, level_behind};
 
 use crate::blocks::next_life_square;
@@ -40,7 +38,7 @@ pub fn next_life_generation<S: SharedSquares>(
     ensures next { IfOk result (λ r. (x y : ℤ) → tree_cell (S.content squares.new r) x y ≡ next_life rule.now (tree_cell (S.content squares.old id)) x y) }
     ensures accepted { IfOk result (λ _. GenerationRefusal (LifeAnswers rule.now) 2 most (S.content squares.old id) None) }
     ensures refusals { IfErr result (λ f. IsWantFault (S.stored squares.new) (S.most squares.new) f ⊎ GenerationRefusal (LifeAnswers rule.now) 2 most (S.content squares.old id) (Some f)) }
-    ensures needed { result ≡ Err (fault_of Full) → SomeOfNext (S.needs_node squares.new) rule.now (S.content squares.old id) }
+    ensures needed { result ≡ Err (fault_of Kind.Full) → SomeOfNext (S.needs_node squares.new) rule.now (S.content squares.old id) }
     ensures keeps { KeepsSquares S.knows S.content S.stored S.most squares.old squares.new }
 {
     life_answers_at();

@@ -1,5 +1,5 @@
 -- Steps: what the law of a rule answers for the square of a pattern is the next generation of what its file says.
-use Rattle.std.proofs.Common.{◌≡◌, ◌≢◌, ℕ, ◌+◌, ◌-◌, ◌^◌, ◌<◌, ◌≤◌, Bool, true, false, ◌⊎◌, inl, inr, ℤ, List, length, Option, None, Some, refl, sym, ◌∙◌, ap, subst, arith}
+use Rattle.std.proofs.Common.{◌≡◌, ◌≢◌, ℕ, ◌+◌, ◌-◌, ◌^◌, ◌<◌, ◌≤◌, Bool, true, false, ◌⊎◌, inl, inr, ℤ, List, Option, None, Some, refl, sym, ◌∙◌, ap, subst, arith}
 use Rattle.std.specs.Prelude.{drop, slice_index, if◌then◌else◌, Result, Ok, Err, IfErr}
 use Rattle.life_base.specs.Refusal.{fault_of}
 use Rattle.life_base.specs.Rules.{IsRule}
@@ -15,18 +15,15 @@ use Rattle.life_base.specs.declared.rule.Rule.TheVariants.{Life, Named}
 use Rattle.life_mc.specs.Macrocell.{largest_state}
 use Rattle.life_mc.specs.Squares.{HasStatesUpTo}
 use Rattle.life_quad.specs.Moves.{trimmed}
-use Rattle.life_quad.specs.Store.{Nodes, held}
+use Rattle.life_quad.specs.Store.{Nodes}
 use Rattle.life_quad.specs.declared.id.Id.{Id}
 use Rattle.life_quad.proofs.LawLemmas.{known_squares_are_full, trimming_keeps_cells, trimmed_is_fixed, trimming_stops}
 use Rattle.life_table.specs.Laws.{OneAnswer}
 use Rattle.life_table.specs.Meaning.{Answer, Becomes, count_of}
 use Rattle.life_table.specs.declared.table.Neighborhood.TheVariants as of_tables
 use Rattle.life_table.specs.declared.table.Table.{Table}
-use Rattle.life_sweep.specs.Around.{before, after}
-use Rattle.life_sweep.specs.Generation.{next_by_count, next_life, AnswersAt}
-use Rattle.life_sweep.specs.Laws.{LifeAnswersAt, TableAnswersAt}
+use Rattle.life_sweep.specs.Generation.{before, after, next_by_count, next_life, AnswersAt, LifeAnswersAt, TableAnswersAt, states_at, named, LifeAnswers, TableAnswers}
 use Rattle.life_sweep.specs.Refused.{GenerationRefusal}
-use Rattle.life_sweep.specs.Sweep.{states_at, named, LifeAnswers, TableAnswers}
 use Rattle.life_canon.specs.Files.{Reads, Refuses, as_macrocell}
 use Rattle.life_canon.specs.Laws.{FilesAreOnPlane, PatternsFit, TextsAreFiles, TextsTellUniverses}
 use Rattle.life_canon.specs.Listing.{canonical_file, canon_text}
@@ -34,7 +31,7 @@ use Rattle.life_canon.specs.Store.{IsKnown, content, IsRead, IsTrimmed, IsWant, 
 use Rattle.life_canon.specs.Universe.{Universe, IsSame, IsOnPlane, least_level, square_universe, macrocell_universe}
 use Rattle.life_canon.specs.declared.pattern.Pattern.{Pattern}
 use Rattle.life_step.specs.Refusals.{TableRefusal, LifeRefusal, RuleRefusal}
-use Rattle.life_step.specs.Stepped.{IsLifeStep, IsTableStep, IsTextOf, Stepped}
+use Rattle.life_step.specs.Stepped.{IsLifeStep, IsTableStep, IsTextOf}
 use Rattle.life_step.proofs.RefusalFacts.{refusal-at, life-refusal, blank-outside}
 use Rattle.life_step.proofs.StateFacts.{states-up-to}
 
@@ -100,14 +97,14 @@ plane-of rule generation s t is small same level states = record {
 
 -- a canonical text says its pattern
 text-of : FilesAreOnPlane MAX_LEVEL → TextsAreFiles MAX_LEVEL → TextsTellUniverses MAX_LEVEL → (u v : Universe) → IsSame u v → IsOnPlane MAX_LEVEL v
-    → (text : List ℕ) → text ≡ canon_text MAX_LEVEL v → IsTextOf MAX_LEVEL u text
+    → (text : List ℕ) → text ≡ canon_text MAX_LEVEL v → IsTextOf MAX_LEVEL (IsSame u) text
 text-of on_plane files tell u v same plane text e =
     let said = macrocell_universe (canonical_file MAX_LEVEL v) in
     let f = files v plane in
     let reads : Reads MAX_LEVEL (canon_text MAX_LEVEL v) said = as_macrocell (canonical_file MAX_LEVEL v) f.0 in
     record {
       universe = said;
-      same = record { rule = same.rule ∙ f.1.rule; generation = same.generation ∙ f.1.generation; cells = λ x y. same.cells x y ∙ f.1.cells x y };
+      is = record { rule = same.rule ∙ f.1.rule; generation = same.generation ∙ f.1.generation; cells = λ x y. same.cells x y ∙ f.1.cells x y };
       reads = subst (λ b. Reads MAX_LEVEL b said) (sym e) reads;
       canonical = e ∙ (tell v said plane (on_plane (canon_text MAX_LEVEL v) said reads)).1 f.1;
     }
@@ -117,7 +114,7 @@ pub text-of-square : FilesAreOnPlane MAX_LEVEL → TextsAreFiles MAX_LEVEL → T
     → content store root ≡ trimmed t (least_level rule)
     → IsFull t → depth t ≤ MAX_LEVEL → ((x y : ℤ) → tree_cell t x y ≤ largest_state rule)
     → (text : List ℕ) → text ≡ canon_text MAX_LEVEL (universe_in store (record { rule = rule; generation = generation; root = root }))
-    → IsTextOf MAX_LEVEL (square_universe rule generation t) text
+    → IsTextOf MAX_LEVEL (IsSame (square_universe rule generation t)) text
 text-of-square on_plane files tell store rule generation root t is small e full level states text written =
     let same : (x y : ℤ) → tree_cell (content store root) x y ≡ tree_cell t x y =
     λ x y. ap (λ s. tree_cell s x y) e ∙ trimming_keeps_cells t (least_level rule) full (one-least rule) x y in
@@ -183,15 +180,15 @@ module _ (law : LifeAnswersAt) (life : OuterTotalistic) (u : Universe) (t : Tree
 -- the text is that of the next generation
 pub life-stepped : (life : OuterTotalistic) (u : Universe) (rule : Rule) (generation : ℕ) (r : Tree) (text : List ℕ)
     → u.rule ≡ Life life → rule ≡ u.rule → generation ≡ u.generation + 1 → ((x y : ℤ) → tree_cell r x y ≡ next_life life u.cell x y)
-    → IsTextOf MAX_LEVEL (square_universe rule generation r) text → Stepped MAX_LEVEL IsLifeStep text u
+    → IsTextOf MAX_LEVEL (IsSame (square_universe rule generation r)) text → IsTextOf MAX_LEVEL (IsLifeStep u) text
 life-stepped life u rule generation r text is same later next h = record {
-  after = h.universe;
-  step = record {
+  universe = h.universe;
+  is = record {
     life = life;
     rule = is;
-    same_rule = sym h.same.rule ∙ same;
-    generation = sym h.same.generation ∙ later;
-    cells = λ x y. sym (h.same.cells x y) ∙ next x y;
+    same_rule = sym h.is.rule ∙ same;
+    generation = sym h.is.generation ∙ later;
+    cells = λ x y. sym (h.is.cells x y) ∙ next x y;
   };
   reads = h.reads;
   canonical = h.canonical;
@@ -228,14 +225,14 @@ module _ (law : TableAnswersAt) (table : Table) (u : Universe) (t : Tree) (same 
   pub table-stepped : (rule : Rule) (generation : ℕ) (r : Tree) (text : List ℕ)
       → u.rule ≡ Named table.name → rule ≡ u.rule → generation ≡ u.generation + 1
       → ((x y : ℤ) → TableAnswers table (states_at (tree_cell t) x y) (Becomes (tree_cell r x y)))
-      → IsTextOf MAX_LEVEL (square_universe rule generation r) text → Stepped MAX_LEVEL (IsTableStep table) text u
+      → IsTextOf MAX_LEVEL (IsSame (square_universe rule generation r)) text → IsTextOf MAX_LEVEL (IsTableStep table u) text
   table-stepped rule generation r text is same_rule later next h = record {
-    after = h.universe;
-    step = record {
+    universe = h.universe;
+    is = record {
       rule = is;
-      same_rule = sym h.same.rule ∙ same_rule;
-      generation = sym h.same.generation ∙ later;
-      cells = λ x y. subst (λ n. AnswersAt table u.cell x y (Becomes n)) (h.same.cells x y) (table-to x y _ (next x y));
+      same_rule = sym h.is.rule ∙ same_rule;
+      generation = sym h.is.generation ∙ later;
+      cells = λ x y. subst (λ n. AnswersAt table u.cell x y (Becomes n)) (h.is.cells x y) (table-to x y _ (next x y));
     };
     reads = h.reads;
     canonical = h.canonical;
@@ -267,9 +264,9 @@ module _ (fit : PatternsFit MAX_LEVEL) (store : Nodes) (pattern : Pattern) (byte
   pub life-stepped-read : FilesAreOnPlane MAX_LEVEL → LifeAnswersAt → (life : OuterTotalistic) → pattern.rule ≡ Life life → pattern.generation ≢ 2 ^ 64 - 1
       → (generation : ℕ) (next : Tree) (text : List ℕ) → generation ≡ pattern.generation + 1
       → ((x y : ℤ) → tree_cell next x y ≡ next_life life (tree_cell (content store pattern.root)) x y)
-      → GenerationRefusal (LifeAnswers life) 2 (2 ^ 20) (content store pattern.root) None → IsTextOf MAX_LEVEL (square_universe pattern.rule generation next)
-      text
-      → (u : Universe) × Reads MAX_LEVEL bytes u × LifeRefusal MAX_LEVEL u None × Stepped MAX_LEVEL IsLifeStep text u
+      → GenerationRefusal (LifeAnswers life) 2 (2 ^ 20) (content store pattern.root) None
+      → IsTextOf MAX_LEVEL (IsSame (square_universe pattern.rule generation next)) text
+      → (u : Universe) × Reads MAX_LEVEL bytes u × LifeRefusal MAX_LEVEL u None × IsTextOf MAX_LEVEL (IsLifeStep u) text
   life-stepped-read plane law life is some generation next text later cells accepted h =
       let u = r.universe in
       let same = (fit bytes store pattern r).1 in
@@ -294,8 +291,8 @@ module _ (fit : PatternsFit MAX_LEVEL) (store : Nodes) (pattern : Pattern) (byte
       → (generation : ℕ) (next : Tree) (text : List ℕ) → generation ≡ pattern.generation + 1
       → ((x y : ℤ) → TableAnswers table (states_at (tree_cell (content store pattern.root)) x y) (Becomes (tree_cell next x y)))
       → GenerationRefusal (TableAnswers table) table.n_states (2 ^ 20) (content store pattern.root) None
-      → IsTextOf MAX_LEVEL (square_universe pattern.rule generation next) text
-      → (u : Universe) × Reads MAX_LEVEL bytes u × TableRefusal MAX_LEVEL table u None × Stepped MAX_LEVEL (IsTableStep table) text u
+      → IsTextOf MAX_LEVEL (IsSame (square_universe pattern.rule generation next)) text
+      → (u : Universe) × Reads MAX_LEVEL bytes u × TableRefusal MAX_LEVEL table u None × IsTextOf MAX_LEVEL (IsTableStep table u) text
   table-stepped-read law one table is some generation next text later cells accepted h =
       let u = r.universe in
       let same = (fit bytes store pattern r).1 in (

@@ -9,7 +9,7 @@ use Rattle.life_table.specs.declared.table.Table.{Table}
 use Rattle.life_sweep.specs.Generation.{next_life, AnswersAt}
 use Rattle.life_canon.specs.Files.{Reads}
 use Rattle.life_canon.specs.Listing.{canon_text}
-use Rattle.life_canon.specs.Universe.{Universe, IsSame}
+use Rattle.life_canon.specs.Universe.{Universe}
 use Rattle.life_step.specs.Refusals.{LifeRefusal, TableRefusal}
 
 -- the next generation of a pattern under a B/S rule
@@ -27,25 +27,18 @@ pub record IsTableStep (table : Table) (before after : Universe) : Type 0 where
   pub generation : after.generation ≡ before.generation + 1
   pub cells : (x y : ℤ) → AnswersAt table before.cell x y (Becomes (after.cell x y))
 
--- the bytes are a file that says this pattern, and are their own canonical text
-pub record IsTextOf (top : ℕ) (pattern : Universe) (bytes : List ℕ) : Type 0 where
+-- the text is a file that says a pattern with this property, and is its own canonical text
+pub record IsTextOf (top : ℕ) (Is : Universe → Type 0) (text : List ℕ) : Type 0 where
   pub universe : Universe
-  pub same : IsSame pattern universe
-  pub reads : Reads top bytes universe
-  pub canonical : bytes ≡ canon_text top universe
-
--- the text is a file that says the next generation of the pattern, and is its own canonical text
-pub record Stepped (top : ℕ) (Step : Universe → Universe → Type 0) (text : List ℕ) (before : Universe) : Type 0 where
-  pub after : Universe
-  pub step : Step before after
-  pub reads : Reads top text after
-  pub canonical : text ≡ canon_text top after
+  pub is : Is universe
+  pub reads : Reads top text universe
+  pub canonical : text ≡ canon_text top universe
 
 -- the bytes are a file whose pattern has a next generation under its B/S rule, and the text is the canonical text of that
 abbrev pub IsStepped : List ℕ → List ℕ → Type 0
-IsStepped bytes text = (u : Universe) × Reads MAX_LEVEL bytes u × LifeRefusal MAX_LEVEL u None × Stepped MAX_LEVEL IsLifeStep text u
+IsStepped bytes text = (u : Universe) × Reads MAX_LEVEL bytes u × LifeRefusal MAX_LEVEL u None × IsTextOf MAX_LEVEL (IsLifeStep u) text
 
 -- the same by a table
 abbrev pub IsSteppedBy : Table → List ℕ → List ℕ → Type 0
 IsSteppedBy table bytes text =
-    (u : Universe) × Reads MAX_LEVEL bytes u × TableRefusal MAX_LEVEL table u None × Stepped MAX_LEVEL (IsTableStep table) text u
+    (u : Universe) × Reads MAX_LEVEL bytes u × TableRefusal MAX_LEVEL table u None × IsTextOf MAX_LEVEL (IsTableStep table u) text

@@ -8,11 +8,10 @@ ghost use Rattle.life_base.specs.declared.rule.Rule.TheVariants.{Named as NamedR
 ghost use Rattle.life_canon.specs.Files.{Reads, Refuses};
 ghost use Rattle.life_canon.specs.Needs.{IsNew, LacksFor};
 ghost use Rattle.life_canon.specs.Store.{Keeps, IsKnown, IsOfFile, IsRead, IsWant, content};
-ghost use Rattle.life_canon.specs.Universe.{Universe, least_level, square_universe, whole};
+ghost use Rattle.life_canon.specs.Universe.{Universe, IsSame, least_level, square_universe, whole};
 ghost use Rattle.life_mc.specs.Macrocell.{largest_state};
 ghost use Rattle.life_quad.specs.Refused.{SomeTrimmed};
-ghost use Rattle.life_step.specs.Needed.{LacksForLife, LacksForTable};
-ghost use Rattle.life_step.specs.Refusals.{LifeRefusal, TableRefusal};
+ghost use Rattle.life_step.specs.Refusals.{LacksForLife, LacksForTable, LifeRefusal, TableRefusal};
 ghost use Rattle.life_step.specs.Stepped.{IsStepped, IsSteppedBy, IsTextOf};
 
 use life_base::{Fault, Kind, MAX_LEVEL, Rule};
@@ -73,7 +72,7 @@ fn text_of_square(
     requires high { least_level rule ≤ depth (content store.old square) }
     requires rule { IsRule rule }
     requires states { (x y : ℤ) → tree_cell (content store.old square) x y ≤ largest_state rule }
-    ensures text { IfOk result (λ text. IsTextOf MAX_LEVEL (square_universe rule generation (content store.old square)) text.items) }
+    ensures text { IfOk result (λ text. IsTextOf MAX_LEVEL (IsSame (square_universe rule generation (content store.old square))) text.items) }
     ensures want { IfErr result (IsWant store.new) }
     ensures needed { result ≡ Err (fault_of Kind.Full) → SomeTrimmed (IsNew store.new) (content store.old square) (least_level rule) }
     ensures keeps { Keeps store.old store.new }

@@ -5,7 +5,7 @@ use Rattle.std.proofs.lemmas.Int.{ints}
 use Rattle.std.proofs.lemmas.Bool.Decides.{eqb_tells}
 use Rattle.std.proofs.lemmas.List.Elements.{All-head, All-tail}
 use Rattle.life_base.specs.declared.cell.Cell.{Cell}
-use Rattle.life_sweep.specs.Around.{before, after}
+use Rattle.life_sweep.specs.Generation.{before, after}
 use Rattle.life_sweep.specs.Rows.{Rows, IsRest, IsRestOf, IsFrom, BeginsAt, IsInside, IsBlankBefore, AreRows, IsBand, IsNextRow, IsFarRow, GoesSouth, rows_left, first_coordinate, far}
 use Rattle.life_sweep.specs.declared.band.Band.{Band}
 use Rattle.life_sweep.proofs.RowLemmas.{less-or-not, column-is, IsRest-none}
@@ -155,8 +155,8 @@ goes-south cells b new blank h inside (inr p) en eh s inside' =
     none = blank-rows cells b blank h p.0 p.1 (after new.y) (row-gap cells (b.y +ℤ pos 2) (after new.y) b.rest.now p.2 h.rest)
 
 -- south of the last band there is no cell
-pub last-band : (cells : ℤ → ℤ → ℕ) (b : Band) → IsBlankBefore cells → IsBand cells b → (length b.rows.here.now ≡ 0) × (length b.rows.south.now ≡ 0) × (length b.rest.now ≡ 0)
-    → (r : ℤ) → b.y <ℤ r → IsFarRow cells r
+pub last-band : (cells : ℤ → ℤ → ℕ) (b : Band) → IsBlankBefore cells → IsBand cells b
+    → (length b.rows.here.now ≡ 0) × (length b.rows.south.now ≡ 0) × (length b.rest.now ≡ 0) → (r : ℤ) → b.y <ℤ r → IsFarRow cells r
 last-band cells b blank h o r l = far-row cells r (λ t c w v.
     blank-rows cells b blank h o.0 o.1 (after t) (λ c' r' west low high. row-none cells (b.y +ℤ pos 2) b.rest.now o.2 h.rest c' r' west low) t c
     (omega (arith, ints, l, w)) (omega (arith, ints)))

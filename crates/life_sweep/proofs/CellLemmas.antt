@@ -11,7 +11,7 @@ use Rattle.life_base.specs.declared.cell.TheConstants.{MAX_LEVEL}
 use Rattle.life_base.specs.Tree.{Tree, depth, half_side, tree_cell}
 use Rattle.life_quad.specs.Cells.{IsBefore, IsCellList}
 use Rattle.life_quad.proofs.LawLemmas.{cells_lie_inside}
-use Rattle.life_sweep.specs.Around.{after}
+use Rattle.life_sweep.specs.Generation.{after}
 use Rattle.life_sweep.specs.Rows.{IsRestOf, IsFrom, Precedes, IsInside, IsBlankBefore, first_coordinate}
 
 cases : (cell d : Cell) (rest : List Cell) → Contains (cell ∷ rest) d → (cell ≡ d) ⊎ Contains rest d

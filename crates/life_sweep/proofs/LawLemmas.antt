@@ -7,7 +7,7 @@ use Rattle.life_base.specs.declared.kind.Kind.TheVariants as kinds
 use Rattle.life_table.specs.Meaning.{Becomes, Ambiguous, Decides, count_of}
 use Rattle.life_table.specs.declared.table.Table.{Table}
 use Rattle.life_table.specs.declared.table.Neighborhood.{Neighborhood}
-use Rattle.life_sweep.specs.Sweep.{TableAnswers, named}
+use Rattle.life_sweep.specs.Generation.{TableAnswers, named}
 
 -- a state of 0 or 1 counts as itself
 one : (a : ℕ) → a < 2 → cond (nat_eq 1 a) 1 0 ≡ a

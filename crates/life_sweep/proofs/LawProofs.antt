@@ -4,9 +4,7 @@ use Rattle.life_table.specs.Meaning.{Decides, Becomes, count_of}
 use Rattle.life_table.specs.declared.table.Neighborhood.{Neighborhood}
 use Rattle.life_table.specs.declared.table.Neighborhood.TheVariants.{VonNeumann, Moore}
 use Rattle.std.proofs.Common.{List, subst, sym, refl}
-use Rattle.life_sweep.specs.Generation.{neighbours_at, neighborhood_of, next_by_count}
-use Rattle.life_sweep.specs.Laws.{LifeAnswersAt, TableAnswersAt}
-use Rattle.life_sweep.specs.Sweep.{states_at, named}
+use Rattle.life_sweep.specs.Generation.{neighbours_at, neighborhood_of, next_by_count, LifeAnswersAt, TableAnswersAt, states_at, named}
 
 -- the neighbours that a neighbourhood names stand where it says
 named-at : (neighborhood : Neighborhood) (cells : ℤ → ℤ → ℕ) (x y : ℤ) → named neighborhood (states_at cells x y) ≡ neighbours_at neighborhood cells x y

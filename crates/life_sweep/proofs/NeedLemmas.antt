@@ -17,10 +17,11 @@ use Rattle.life_strip.specs.Plane.{on_plane, state_so_far}
 use Rattle.life_table.specs.Meaning.{Answer, Becomes}
 use Rattle.life_sweep.specs.declared.pen.Pen.{Pen}
 use Rattle.life_base.specs.declared.cell.Run.{Run}
-use Rattle.life_sweep.specs.Needed.{SomeAbove, SomeOfAll, SomeNext, above_cell, of_plane}
+use Rattle.life_sweep.specs.Refused.{SomeAbove, SomeOfAll, SomeNext, above_cell, of_plane}
 use Rattle.life_sweep.specs.Pen.{open_runs, drawn_runs, IsOpen, IsHolding}
 use Rattle.life_sweep.specs.Rows.{Precedes}
-use Rattle.life_sweep.specs.Sweep.{states_at, IsDrawnAt, IsSwept}
+use Rattle.life_sweep.specs.Generation.{states_at}
+use Rattle.life_sweep.specs.Sweep.{IsDrawnAt, IsSwept}
 use Rattle.life_sweep.proofs.PenLemmas.{inside-last, outside-last}
 use Rattle.life_sweep.proofs.RowLemmas.{less-or-not}
 

@@ -6,7 +6,7 @@ use Rattle.life_quad.specs.Cells.{IsInRun}
 use Rattle.life_strip.specs.Given.{IsNext, IsBehind, AreInOrder, state_by}
 use Rattle.life_strip.proofs.GivenLemmas.{runs_grow}
 use Rattle.life_base.specs.declared.cell.Run.{Run}
-use Rattle.life_sweep.specs.Pen.{IsOpen, IsContinuedBy, one_cell}
+use Rattle.life_sweep.specs.Pen.{IsOpen, one_cell}
 
 -- the state of a run of a list's end, and of other cells
 pub inside-last : (runs : List Run) (run : Run) (x y : ℤ) → AreInOrder runs → IsNext runs run.x run.y → IsInRun run.x run.y run.len x y
@@ -62,6 +62,10 @@ longer-next runs left y len state x e c r h =
 
 abbrev pub kept : ℤ → ℤ
 kept x = to_z w64 (of_z w64 x)
+
+-- the cell is the one east of the run, and has its state
+abbrev pub IsContinuedBy : Run → ℤ → ℤ → ℕ → Type 0
+IsContinuedBy run x y state = (run.y ≡ y) × ((run.x +ℤ pos run.len) ≡ x) × (run.state ≡ state)
 
 -- the open run is continued by a cell
 pub record GoesOn (runs : List Run) (run : Run) (x y : ℤ) (state : ℕ) : Type 0 where

@@ -12,7 +12,8 @@ use Rattle.life_base.specs.Tree.{Tree, depth, half_side, tree_cell}
 use Rattle.life_quad.specs.Cells.{IsCellList, population}
 use Rattle.life_table.specs.Meaning.{Answer, Becomes, Ambiguous}
 use Rattle.life_sweep.specs.Refused.{GenerationRefusal, HasStateFrom, SomeAmbiguous}
-use Rattle.life_sweep.specs.Sweep.{RefusesStep, states_at, IsLeft}
+use Rattle.life_sweep.specs.Generation.{states_at}
+use Rattle.life_sweep.specs.Sweep.{RefusesStep, IsLeft}
 use Rattle.life_sweep.proofs.CellLemmas.{later, nonzero-inside}
 
 pub both-ok : {X E : Type 0} (r : Result X E) (P Q R : X → Type 0) → ((x : X) → P x → Q x → R x) → IfOk r P → IfOk r Q → IfOk r R

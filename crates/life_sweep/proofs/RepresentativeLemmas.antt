@@ -13,7 +13,8 @@ use Rattle.life_table.specs.declared.table.Neighborhood.{Neighborhood}
 use Rattle.life_table.specs.declared.table.Neighborhood.TheVariants.{Moore}
 use Rattle.life_table.specs.declared.table.Var.{Var}
 use Rattle.life_table.specs.declared.table.Transition.{Transition}
-use Rattle.life_sweep.specs.Sweep.{SameImages, TableAnswers, named}
+use Rattle.life_sweep.specs.Generation.{TableAnswers, named}
+use Rattle.life_sweep.specs.LawFacts.{SameImages}
 
 pub images_back : (symmetry : Symmetry) (v w : List ℕ) → SameImages symmetry v w → SameImages symmetry w v
 images_back symmetry v w h image = let k = h image in (k.1, k.0)

@@ -4,9 +4,9 @@ use Rattle.std.proofs.lemmas.Int.{ints}
 use Rattle.life_table.specs.Meaning.{Answer, Becomes, Ambiguous}
 use Rattle.life_base.specs.declared.cell.Run.{Run}
 use Rattle.life_strip.specs.Given.{IsNext, state_by}
-use Rattle.life_sweep.specs.Around.{before, after}
+use Rattle.life_sweep.specs.Generation.{before, after, states_at, zeros}
 use Rattle.life_sweep.specs.Rows.{IsFrom, Precedes, IsFar, IsFarRow, IsBlankBefore, column_at, no_column, first_coordinate, IsWindow, GoesOn, states_of}
-use Rattle.life_sweep.specs.Sweep.{states_at, zeros, IsDrawnAt, IsFirstAmbiguous, IsSwept, IsSweptRows, IsPut, IsReady, IsReadyRow}
+use Rattle.life_sweep.specs.Sweep.{IsDrawnAt, IsFirstAmbiguous, IsSwept, IsSweptRows, IsPut, IsReady, IsReadyRow}
 use Rattle.life_sweep.specs.declared.column.Column.{Column}
 use Rattle.life_sweep.specs.declared.window.Window.{Window}
 use Rattle.life_sweep.proofs.RowLemmas.{less-or-not, column-is}

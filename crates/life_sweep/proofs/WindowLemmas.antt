@@ -2,7 +2,7 @@
 use Rattle.std.proofs.Common.{◌≡◌, ℕ, ◌+◌, ◌*◌, ◌<◌, Bool, true, false, ◌⊎◌, inl, inr, ℤ, pos, ◌+ℤ◌, ◌≤ℤ◌, ◌<ℤ◌, sym, ◌∙◌, ap, subst, arith, true≢false}
 use Rattle.std.specs.Prelude.{if◌then◌else◌}
 use Rattle.std.proofs.lemmas.Int.{ints}
-use Rattle.life_sweep.specs.Around.{before, after}
+use Rattle.life_sweep.specs.Generation.{before, after}
 use Rattle.life_sweep.specs.Rows.{Rows, StartsFrom, SomeStartsAt, InRows, AreRows, AreSortedFrom, column_at, no_column, is_blank_column, left_in, IsWindow, IsNextPlace, GoesOn, IsFar, steps_left, far}
 use Rattle.life_sweep.specs.declared.column.Column.{Column}
 use Rattle.life_sweep.specs.declared.window.Window.{Window}

@@ -1,15 +1,31 @@
 -- The next state of every pair of whole numbers: under a B/S rule (Golly Help, QuickLife) and by a rule table (Golly Help, File Formats,
--- rule table). North is y - 1, east is x + 1.
-use Rattle.std.specs.Prelude.{ℕ, ◌==◌, ◌&&◌, ◌||◌, if◌then◌else◌, ℤ, List}
-use Rattle.life_sweep.specs.Around.{four_around, eight_around}
+-- rule table). North is y - 1, east is x + 1. And the same by the states of a cell and its neighbours alone, which is what laws answer.
+use Rattle.std.specs.Prelude.{◌≡◌, ◌↔◌, ℕ, ◌==◌, ◌&&◌, ◌||◌, if◌then◌else◌, ℤ, pos, negsuc, ◌+ℤ◌, List, [], ◌∷◌, drop, slice_index}
 use Rattle.life_base.specs.Sets.{DigitSets, OuterTotalistic}
 use Rattle.life_base.specs.Rules.{has_digit}
 use Rattle.life_base.specs.declared.rule.Near.{Near}
 use Rattle.life_base.specs.declared.rule.Near.TheVariants as near
-use Rattle.life_table.specs.Meaning.{Answer, Decides, count_of}
+use Rattle.life_table.specs.Meaning.{Answer, Becomes, Decides, count_of}
 use Rattle.life_table.specs.declared.table.Table.{Table}
 use Rattle.life_table.specs.declared.table.Neighborhood.{Neighborhood}
 use Rattle.life_table.specs.declared.table.Neighborhood.TheVariants.{VonNeumann, Moore}
+
+-- one less, and one more
+abbrev pub before : ℤ → ℤ
+before x = x +ℤ negsuc 0
+
+abbrev pub after : ℤ → ℤ
+after x = x +ℤ pos 1
+
+-- the states of the eight neighbours of a cell, from north clockwise
+abbrev pub eight_around : (ℤ → ℤ → ℕ) → ℤ → ℤ → List ℕ
+eight_around cells x y =
+    cells x (before y) ∷ cells (after x) (before y) ∷ cells (after x) y ∷ cells (after x) (after y)
+    ∷ cells x (after y) ∷ cells (before x) (after y) ∷ cells (before x) y ∷ cells (before x) (before y) ∷ []
+
+-- of the four that share a side with it, from north clockwise
+abbrev pub four_around : (ℤ → ℤ → ℕ) → ℤ → ℤ → List ℕ
+four_around cells x y = cells x (before y) ∷ cells (after x) y ∷ cells x (after y) ∷ cells (before x) y ∷ []
 
 -- the states of the neighbours that a neighbourhood names
 abbrev pub neighbours_at : Neighborhood → (ℤ → ℤ → ℕ) → ℤ → ℤ → List ℕ
@@ -34,3 +50,35 @@ next_life rule cells x y = next_by_count rule.sets (cells x y) (count_of 1 (neig
 abbrev pub AnswersAt : Table → (ℤ → ℤ → ℕ) → ℤ → ℤ → Answer → Type 0
 AnswersAt table cells x y answer =
     Decides table.symmetry table.vars (cells x y) (neighbours_at table.neighborhood cells x y) table.lines answer
+
+-- the state of a cell and of its eight neighbours
+abbrev pub states_at : (ℤ → ℤ → ℕ) → ℤ → ℤ → List ℕ
+states_at cells x y = cells x y ∷ eight_around cells x y
+
+-- nine cells of state 0
+abbrev pub zeros : List ℕ
+zeros = 0 ∷ 0 ∷ 0 ∷ 0 ∷ 0 ∷ 0 ∷ 0 ∷ 0 ∷ 0 ∷ []
+
+-- those of eight neighbours, behind the centre, that a neighbourhood names
+abbrev pub named : Neighborhood → List ℕ → List ℕ
+named VonNeumann v = slice_index v 1 ∷ slice_index v 3 ∷ slice_index v 5 ∷ slice_index v 7 ∷ []
+named Moore v = drop 1 v
+
+-- the answer of a B/S rule, by a cell's state and the states of those neighbours that count
+abbrev pub LifeAnswers : OuterTotalistic → List ℕ → Answer → Type 0
+LifeAnswers rule states answer = answer ≡ Becomes (next_by_count rule.sets (slice_index states 0) (count_of 1 (named (neighborhood_of rule.near) states)))
+
+-- the answer of a table
+abbrev pub TableAnswers : Table → List ℕ → Answer → Type 0
+TableAnswers table states answer = Decides table.symmetry table.vars (slice_index states 0) (named table.neighborhood states) table.lines answer
+
+-- the law of a B/S rule answers with the next state under the rule
+abbrev pub LifeAnswersAt : Type 0
+LifeAnswersAt =
+    (rule : OuterTotalistic) (cells : ℤ → ℤ → ℕ) (x y : ℤ) (answer : Answer)
+    → LifeAnswers rule (states_at cells x y) answer ↔ (answer ≡ Becomes (next_life rule cells x y))
+
+-- the law of a table answers what the table answers for the cell
+abbrev pub TableAnswersAt : Type 0
+TableAnswersAt =
+    (table : Table) (cells : ℤ → ℤ → ℕ) (x y : ℤ) (answer : Answer) → TableAnswers table (states_at cells x y) answer ↔ AnswersAt table cells x y answer

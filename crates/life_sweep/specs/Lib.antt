@@ -1,8 +1,5 @@
-pub mod Around
 pub mod Generation
 pub mod LawFacts
-pub mod Laws
-pub mod Needed
 pub mod Pen
 pub mod Refused
 pub mod Rows

@@ -1,5 +1,5 @@
 -- What was drawn: the runs that a builder was given, and one that may be continued.
-use Rattle.std.specs.Prelude.{◌≡◌, ◌≢◌, ◌≤◌, ℤ, ◌+ℤ◌, pos, List, [], ◌∷◌, ◌++◌, ℕ, Option, Some, None, IfSome}
+use Rattle.std.specs.Prelude.{◌≢◌, ◌≤◌, ℤ, List, [], ◌∷◌, ◌++◌, ℕ, Option, Some, None, IfSome}
 use Rattle.life_base.specs.Tree.{Tree}
 use Rattle.life_quad.specs.declared.id.Id.{Id}
 use Rattle.life_strip.specs.Filling.{IsFilling}
@@ -30,9 +30,3 @@ pub record IsOpen (runs : List Run) (run : Run) : Type 0 where
 pub record IsHolding (knows : Id → Type 0) (content : Id → Tree) (pen : Pen) : Type 0 where
   pub filling : IsFilling knows content pen.builder
   pub unclosed : IfSome pen.unclosed (IsOpen pen.builder.runs)
-
--- the cell is the one east of the run, and has its state
-pub record IsContinuedBy (run : Run) (x y : ℤ) (state : ℕ) : Type 0 where
-  pub same_row : run.y ≡ y
-  pub east : (run.x +ℤ pos run.len) ≡ x
-  pub same_state : run.state ≡ state

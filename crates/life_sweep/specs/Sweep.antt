@@ -1,52 +1,14 @@
 -- What a sweep has done: the next states of the places before one are drawn.
-use Rattle.std.specs.Prelude.{◌≡◌, ◌≢◌, ◌⊎◌, ℕ, Bool, true, false, List, [], ◌∷◌, ℤ, ◌<ℤ◌, ◌≤ℤ◌, drop, slice_index, length, All, Contains, ◌↔◌, ◌^◌}
-use Rattle.life_base.specs.Sets.{OuterTotalistic}
+use Rattle.std.specs.Prelude.{◌≡◌, ◌≢◌, ◌⊎◌, ℕ, Bool, true, false, List, ℤ, ◌<ℤ◌, ◌≤ℤ◌}
 use Rattle.life_base.specs.declared.cell.Run.{Run}
 use Rattle.life_strip.specs.Given.{IsNext, IsOnPlane}
-use Rattle.life_table.specs.Orders.{images}
-use Rattle.life_table.specs.declared.table.Symmetry.{Symmetry}
-use Rattle.life_table.specs.Meaning.{Answer, Becomes, Ambiguous, Decides, count_of}
-use Rattle.life_table.specs.declared.table.Table.{Table}
-use Rattle.life_table.specs.declared.table.Neighborhood.{Neighborhood}
-use Rattle.life_table.specs.declared.table.Neighborhood.TheVariants.{VonNeumann, Moore}
-use Rattle.life_sweep.specs.Around.{eight_around}
-use Rattle.life_sweep.specs.Generation.{neighborhood_of, next_by_count}
+use Rattle.life_table.specs.Meaning.{Answer, Becomes, Ambiguous}
+use Rattle.life_sweep.specs.Generation.{states_at}
 use Rattle.life_base.specs.declared.cell.Cell.{Cell}
 use Rattle.life_base.specs.declared.kind.Kind.TheVariants as kinds
 use Rattle.life_base.specs.declared.fault.Fault.{Fault}
 use Rattle.life_base.specs.Refusal.{fault_of}
 use Rattle.life_sweep.specs.Rows.{Rows, IsFrom, Precedes, AreRows, IsBlankBefore, IsRestOf, first_coordinate}
-use Rattle.life_sweep.specs.declared.law.Known.{Known}
-
--- the state of a cell and of its eight neighbours
-abbrev pub states_at : (ℤ → ℤ → ℕ) → ℤ → ℤ → List ℕ
-states_at cells x y = cells x y ∷ eight_around cells x y
-
--- nine cells of state 0
-abbrev pub zeros : List ℕ
-zeros = 0 ∷ 0 ∷ 0 ∷ 0 ∷ 0 ∷ 0 ∷ 0 ∷ 0 ∷ 0 ∷ []
-
--- those of eight neighbours, behind the centre, that a neighbourhood names
-abbrev pub named : Neighborhood → List ℕ → List ℕ
-named VonNeumann v = slice_index v 1 ∷ slice_index v 3 ∷ slice_index v 5 ∷ slice_index v 7 ∷ []
-named Moore v = drop 1 v
-
--- the answer of a B/S rule, by a cell's state and the states of those neighbours that count
-abbrev pub LifeAnswers : OuterTotalistic → List ℕ → Answer → Type 0
-LifeAnswers rule states answer = answer ≡ Becomes (next_by_count rule.sets (slice_index states 0) (count_of 1 (named (neighborhood_of rule.near) states)))
-
--- the answer of a table
-abbrev pub TableAnswers : Table → List ℕ → Answer → Type 0
-TableAnswers table states answer = Decides table.symmetry table.vars (slice_index states 0) (named table.neighborhood states) table.lines answer
-
--- each order in which a symmetry lets the one list be read is one of the other's
-abbrev pub SameImages : Symmetry → List ℕ → List ℕ → Type 0
-SameImages symmetry v w = (image : List ℕ) → Contains (images symmetry v) image ↔ Contains (images symmetry w) image
-
--- 2^16 places, in each of which a neighbourhood is remembered, with what the table answers
-pub record IsMemory (table : Table) (known : List Known) : Type 0 where
-  pub places : length known ≡ 2 ^ 16
-  pub each : All (λ k. TableAnswers table k.around (Becomes k.next)) known
 
 -- the laws of a generation: what they answer for a cell and its neighbours
 module _ (answers : List ℕ → Answer → Type 0) (cells : ℤ → ℤ → ℕ) where

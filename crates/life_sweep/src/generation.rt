@@ -1,13 +1,11 @@
 //! The next generation of a square.
 ghost use Rattle.std.specs.Prelude.{◌≡◌, ◌⊎◌, ◌↔◌, ℤ, ◌<◌, ◌≤◌, All, IsTrue, Err, Some, None, IfOk, IfErr};
-ghost use Rattle.life_base.specs.declared.kind.Kind.TheVariants.{Full, Memory};
 ghost use Rattle.life_base.specs.Refusal.{fault_of};
 ghost use Rattle.life_base.specs.Tree.{depth, tree_cell};
 ghost use Rattle.life_quad.specs.Keeping.{KeepsSquares, IsWantFault};
 ghost use Rattle.life_table.specs.Meaning.{Becomes};
-ghost use Rattle.life_sweep.specs.Needed.{SomeNext};
-ghost use Rattle.life_sweep.specs.Refused.{GenerationRefusal};
-ghost use Rattle.life_sweep.specs.Sweep.{states_at};
+ghost use Rattle.life_sweep.specs.Refused.{SomeNext, GenerationRefusal};
+ghost use Rattle.life_sweep.specs.Generation.{states_at};
 
 use crate::law::Law;
 use crate::sweep::next_square;
@@ -44,7 +42,7 @@ pub fn next_generation<S: Squares, L: Law>(
     ensures next { IfOk result (λ r. (x y : ℤ) → L.answers law.old (states_at (tree_cell (S.content squares.old id)) x y) (Becomes (tree_cell (S.content squares.new r) x y))) }
     ensures accepted { IfOk result (λ _. GenerationRefusal (L.answers law.old) (L.bound law.old) most (S.content squares.old id) None) }
     ensures refusals { IfErr result (λ f. IsWantFault (S.stored squares.new) (S.most squares.new) f ⊎ GenerationRefusal (L.answers law.old) (L.bound law.old) most (S.content squares.old id) (Some f)) }
-    ensures needed { result ≡ Err (fault_of Full) → SomeNext (S.needs_node squares.new) (L.answers law.old) (tree_cell (S.content squares.old id)) }
+    ensures needed { result ≡ Err (fault_of Kind.Full) → SomeNext (S.needs_node squares.new) (L.answers law.old) (tree_cell (S.content squares.old id)) }
     ensures same { law.new ≡ law.old }
     ensures keeps { KeepsSquares S.knows S.content S.stored S.most squares.old squares.new }
 {

@@ -1,14 +1,15 @@
 //! What a cell becomes.
 ghost use Rattle.std.specs.Prelude.{◌≡◌, ℕ, ◌<◌, ◌≤◌, ◌↔◌, false, All, IfOk, IfErr, List, drop, length, slice_index};
 ghost use Rattle.std.specs.List.Sorted.{IsPermutation};
+ghost use Rattle.std.proofs.Common.{sym, ◌∙◌};
 ghost use Rattle.std.proofs.Props.{props};
 ghost use Rattle.life_table.specs.Meaning.{Answer, Becomes, Ambiguous, count_of};
 ghost use Rattle.life_base.specs.Rules.{has_digit, most_neighbours};
 ghost use Rattle.life_table.specs.declared.table.Neighborhood.TheVariants.{VonNeumann};
 ghost use Rattle.life_table.specs.declared.table.Symmetry.TheVariants.{Rotate4};
-ghost use Rattle.life_sweep.specs.Generation.{neighborhood_of};
-ghost use Rattle.life_sweep.specs.Sweep.{SameImages, LifeAnswers, TableAnswers, named};
-ghost use Rattle.life_sweep.specs.LawFacts.{two_positive, life_quiet, life_one, table_positive, table_quiet, table_one};
+ghost use Rattle.life_table.proofs.LawProofs.{one_law};
+ghost use Rattle.life_sweep.specs.Generation.{neighborhood_of, LifeAnswers, TableAnswers, named};
+ghost use Rattle.life_sweep.specs.LawFacts.{SameImages, two_positive, life_quiet, table_positive, table_quiet};
 
 use life_base::{Fault, Kind, LifeRule, Near, State};
 use life_table::{Neighborhood, Neighbours, Symmetry, Table};
@@ -18,7 +19,7 @@ use std::marker::Model;
 /// What a cell becomes, by its state and those of its eight neighbours. What a law remembers is no part of its value.
 pub trait Law {
     ghost use Rattle.life_table.specs.Meaning.{Answer, Becomes};
-    ghost use Rattle.life_sweep.specs.Sweep.{zeros};
+    ghost use Rattle.life_sweep.specs.Generation.{zeros};
 
     // States are below this.
     ghost bound: { Self → ℕ };
@@ -101,9 +102,9 @@ impl Law for ByCounts {
 
     ghost positive = { λ s. two_positive };
 
-    ghost quiet = { λ s. life_quiet s.rule s.quiet };
+    ghost quiet = { λ s. life_quiet s.rule.sets s.rule.near s.quiet };
 
-    ghost one_answer = { λ s v a b p q. life_one s.rule v a b p q };
+    ghost one_answer = { λ s v a b p q. p ∙ sym q };
 }
 
 /// A neighbourhood and what a table makes of it.
@@ -122,7 +123,7 @@ pub struct ByTable<'a> {
 
 impl<'a> Model for ByTable<'a> {
     ghost use Rattle.life_table.specs.declared.table.Table.{Table as TableValue};
-    ghost use Rattle.life_sweep.specs.Sweep.{IsMemory};
+    ghost use Rattle.life_sweep.specs.LawFacts.{IsMemory};
 
     ghost Value = { TableValue };
 
@@ -277,5 +278,5 @@ impl<'a> Law for ByTable<'a> {
 
     ghost quiet = { λ table. table_quiet table };
 
-    ghost one_answer = { λ table v a b p q. table_one table v a b p q };
+    ghost one_answer = { λ table v a b p q. one_law table.symmetry table.vars (slice_index v 0) (named table.neighborhood v) table.lines a b p q };
 }

@@ -1,12 +1,11 @@
 //! A builder that is given whole runs, though the sweep draws place by place.
-ghost use Rattle.std.specs.Prelude.{◌≡◌, ◌≢◌, ◌⊎◌, ℤ, IsTrue, ◌↔◌, [], Err, None, OnOk, IfOk, IfErr};
-ghost use Rattle.life_base.specs.declared.kind.Kind.TheVariants.{Full};
+ghost use Rattle.std.specs.Prelude.{◌≡◌, ◌≢◌, ◌⊎◌, ℤ, pos, ◌+ℤ◌, IsTrue, ◌↔◌, [], Err, None, OnOk, IfOk, IfErr};
 ghost use Rattle.life_base.specs.Tree.{depth, tree_cell};
 ghost use Rattle.life_quad.specs.Keeping.{KeepsSquares, IsWantKind};
 ghost use Rattle.life_strip.specs.Filling.{IsEmpty, IsFilling};
 ghost use Rattle.life_strip.specs.Given.{IsBehind, IsNext, IsOnPlane, state_by};
-ghost use Rattle.life_sweep.specs.Needed.{SomeAbove, SomeOfAll};
-ghost use Rattle.life_sweep.specs.Pen.{IsHolding, IsContinuedBy, drawn_runs, one_cell};
+ghost use Rattle.life_sweep.specs.Refused.{SomeAbove, SomeOfAll};
+ghost use Rattle.life_sweep.specs.Pen.{IsHolding, drawn_runs, one_cell};
 
 use life_base::{Kind, MAX_LEVEL, Run, State};
 use life_quad::{Id, Squares};
@@ -23,7 +22,7 @@ pub(crate) struct Pen {
 // Whether the cell is the one east of the run, and has its state.
 fn is_continued_by(run: &Run, x: i64, y: i64, state: State) -> bool
     requires { IsOnPlane run.now.x run.now.y run.now.len }
-    ensures { IsTrue result ↔ IsContinuedBy run.now x y state }
+    ensures { IsTrue result ↔ ((run.now.y ≡ y) × ((run.now.x +ℤ pos run.now.len) ≡ x) × (run.now.state ≡ state)) }
 {
     run.y == y && run.x + run.len as i64 == x && run.state == state
 }
@@ -49,7 +48,7 @@ impl Pen {
         ensures none { OnOk result (self.new.unclosed ≡ None) }
         ensures keeps { KeepsSquares S.knows S.content S.stored S.most squares.old squares.new }
         ensures refusals { IfErr result (IsWantKind (S.stored squares.new) (S.most squares.new)) }
-        ensures needed { result ≡ Err Full → SomeAbove (S.needs_node squares.new) (drawn_runs self.old) }
+        ensures needed { result ≡ Err Kind.Full → SomeAbove (S.needs_node squares.new) (drawn_runs self.old) }
     {
         let Some(run) = self.unclosed else {
             return Ok(());
@@ -77,7 +76,7 @@ impl Pen {
         ensures next { OnOk result ((c r : ℤ) → IsBehind (one_cell x y state) c r → IsNext (drawn_runs self.new) c r) }
         ensures keeps { KeepsSquares S.knows S.content S.stored S.most squares.old squares.new }
         ensures refusals { IfErr result (IsWantKind (S.stored squares.new) (S.most squares.new)) }
-        ensures needed { result ≡ Err Full → SomeAbove (S.needs_node squares.new) (drawn_runs self.old) }
+        ensures needed { result ≡ Err Kind.Full → SomeAbove (S.needs_node squares.new) (drawn_runs self.old) }
     {
         if let Some(run) = self.unclosed {
             if is_continued_by(&run, x, y, state) {
@@ -104,7 +103,7 @@ impl Pen {
         ensures cells { IfOk result (λ r. (x y : ℤ) → tree_cell (S.content squares.new r) x y ≡ state_by (drawn_runs self) x y) }
         ensures keeps { KeepsSquares S.knows S.content S.stored S.most squares.old squares.new }
         ensures refusals { IfErr result (IsWantKind (S.stored squares.new) (S.most squares.new)) }
-        ensures needed { result ≡ Err Full → SomeAbove (S.needs_node squares.new) (drawn_runs self) ⊎ SomeOfAll (S.needs_node squares.new) (drawn_runs self) }
+        ensures needed { result ≡ Err Kind.Full → SomeAbove (S.needs_node squares.new) (drawn_runs self) ⊎ SomeOfAll (S.needs_node squares.new) (drawn_runs self) }
     {
         self.close(squares)?;
         self.builder.finish(squares)

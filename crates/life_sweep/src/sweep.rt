@@ -1,16 +1,15 @@
 //! The next generation, place by place.
 ghost use Rattle.std.specs.Prelude.{◌≡◌, ◌⊎◌, ◌↔◌, ℕ, ℤ, ◌<◌, true, false, All, Err, IfOk, IfErr, OnOk, IsTrue};
-ghost use Rattle.life_base.specs.declared.kind.Kind.TheVariants.{Full};
 ghost use Rattle.life_base.specs.Refusal.{fault_of};
 ghost use Rattle.life_base.specs.Tree.{depth, tree_cell};
 ghost use Rattle.life_quad.specs.Keeping.{KeepsSquares, IsWantFault};
-ghost use Rattle.life_sweep.specs.Needed.{SomeAbove, SomeNext};
+ghost use Rattle.life_sweep.specs.Refused.{SomeAbove, SomeNext};
 ghost use Rattle.life_sweep.specs.Pen.{IsHolding, drawn_runs};
 ghost use Rattle.life_strip.specs.Given.{IsOnPlane, state_by};
 ghost use Rattle.life_table.specs.Meaning.{Becomes, Ambiguous};
-ghost use Rattle.life_sweep.specs.Around.{after};
+ghost use Rattle.life_sweep.specs.Generation.{after, states_at};
 ghost use Rattle.life_sweep.specs.Rows.{AreInside, AreSorted, IsSortedList, AreBelow, IsInside, IsSoundWindow, IsWindowBelow, states_of};
-ghost use Rattle.life_sweep.specs.Sweep.{IsScene, IsSorted, RefusesStep, states_at, IsPut, IsReady, IsReadyRow, IsSweptRows, IsFirstAmbiguous};
+ghost use Rattle.life_sweep.specs.Sweep.{IsScene, IsSorted, RefusesStep, IsPut, IsReady, IsReadyRow, IsSweptRows, IsFirstAmbiguous};
 
 use crate::band::Band;
 use crate::column::Rows;
@@ -51,7 +50,7 @@ fn draw_place<S: Squares, L: Law>(
     ensures others { OnOk result ((c r : ℤ) → (c ≡ window.now.x → r ≡ y → ⊥) → state_by (drawn_runs pen.new) c r ≡ state_by (drawn_runs pen.old) c r) }
     ensures keeps { KeepsSquares S.knows S.content S.stored S.most squares.old squares.new }
     ensures refusals { IfErr result (λ f. IsWantFault (S.stored squares.new) (S.most squares.new) f ⊎ ((f.kind ≡ Kind.Ambiguous) × L.answers law.old (states_of window.now) (Ambiguous f.place.line))) }
-    ensures needed { result ≡ Err (fault_of Full) → SomeAbove (S.needs_node squares.new) (drawn_runs pen.old) }
+    ensures needed { result ≡ Err (fault_of Kind.Full) → SomeAbove (S.needs_node squares.new) (drawn_runs pen.old) }
 {
     let state = law.next(&window.around())?;
     if state == 0 {
@@ -85,7 +84,7 @@ fn draw_row<S: Squares, L: Law>(
     ensures swept { IfOk result (λ left. (cells : ℤ → ℤ → ℕ) → IsScene cells y rows.entry → IsSweptRows (L.answers law.old) cells (state_by (drawn_runs pen.old)) leaves y → IsSweptRows (L.answers law.old) cells (state_by (drawn_runs pen.new)) left (after y)) }
     ensures keeps { KeepsSquares S.knows S.content S.stored S.most squares.old squares.new }
     ensures refusals { IfErr result (λ f. IsWantFault (S.stored squares.new) (S.most squares.new) f ⊎ ((f.kind ≡ Kind.Ambiguous) × ((cells : ℤ → ℤ → ℕ) → IsScene cells y rows.entry → IsSweptRows (L.answers law.old) cells (state_by (drawn_runs pen.old)) leaves y → IsFirstAmbiguous (L.answers law.old) cells f.place.line))) }
-    ensures needed { result ≡ Err (fault_of Full) → (cells : ℤ → ℤ → ℕ) → IsScene cells y rows.entry → IsSweptRows (L.answers law.old) cells (state_by (drawn_runs pen.old)) leaves y → SomeNext (S.needs_node squares.new) (L.answers law.old) cells }
+    ensures needed { result ≡ Err (fault_of Kind.Full) → (cells : ℤ → ℤ → ℕ) → IsScene cells y rows.entry → IsSweptRows (L.answers law.old) cells (state_by (drawn_runs pen.old)) leaves y → SomeNext (S.needs_node squares.new) (L.answers law.old) cells }
 {
     let mut left = leaves;
     let mut window = Window::new(rows);
@@ -111,7 +110,7 @@ pub(crate) fn next_square<S: Squares, L: Law>(
     ensures next { IfOk result (λ r. (plane : ℤ → ℤ → ℕ) → IsSorted plane cells.now → (x y : ℤ) → L.answers law.old (states_at plane x y) (Becomes (tree_cell (S.content squares.new r) x y))) }
     ensures keeps { KeepsSquares S.knows S.content S.stored S.most squares.old squares.new }
     ensures refusals { IfErr result (λ f. IsWantFault (S.stored squares.new) (S.most squares.new) f ⊎ ((plane : ℤ → ℤ → ℕ) → IsSorted plane cells.now → RefusesStep (L.answers law.old) plane f)) }
-    ensures needed { result ≡ Err (fault_of Full) → (plane : ℤ → ℤ → ℕ) → IsSorted plane cells.now → SomeNext (S.needs_node squares.new) (L.answers law.old) plane }
+    ensures needed { result ≡ Err (fault_of Kind.Full) → (plane : ℤ → ℤ → ℕ) → IsSorted plane cells.now → SomeNext (S.needs_node squares.new) (L.answers law.old) plane }
 {
     let mut pen = Pen::new(alloc);
     empty_builder_fills::<S>();

@@ -4,10 +4,8 @@ use Rattle.life_base.specs.Sets.{OuterTotalistic}
 use Rattle.life_base.specs.Tree.{tree_cell}
 use Rattle.life_quad.specs.Cells.{population}
 use Rattle.life_quad.specs.Keeping.{IsWantFault}
-use Rattle.life_sweep.specs.Generation.{next_life}
-use Rattle.life_sweep.specs.Needed.{SomeNext}
-use Rattle.life_sweep.specs.Refused.{GenerationRefusal}
-use Rattle.life_sweep.specs.Sweep.{LifeAnswers}
+use Rattle.life_sweep.specs.Generation.{next_life, LifeAnswers}
+use Rattle.life_sweep.specs.Refused.{SomeNext, GenerationRefusal}
 use Rattle.life_block.specs.Needed.{of_plane}
 use Rattle.life_block.proofs.GenerationLemmas.{accepted, same-state}
 use Rattle.life_block.proofs.generation.next_life_generation.Goals as goal

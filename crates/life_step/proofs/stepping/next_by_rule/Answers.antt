@@ -1,4 +1,4 @@
-use Rattle.std.proofs.Common.{arith, ap, sym, subst, ◌∙◌, ◌≤◌, ◌^◌, ℕ, List, Some, Err, inr}
+use Rattle.std.proofs.Common.{arith, ap, sym, subst, ◌∙◌, ◌≤◌, ◌^◌, ℕ, List, Some, inl, inr}
 use Rattle.std.proofs.lemmas.Result.{IfOk-weaker, err_from_is_err_and}
 use Rattle.life_base.specs.Tree.{depth, tree_cell}
 use Rattle.life_base.specs.declared.cell.TheConstants.{MAX_LEVEL}
@@ -6,14 +6,13 @@ use Rattle.life_mc.specs.Macrocell.{largest_state}
 use Rattle.life_quad.specs.Refused.{SomeTrimmed}
 use Rattle.life_quad.proofs.LawLemmas.{known_squares_are_full}
 use Rattle.life_sweep.specs.Refused.{GenerationRefusal}
-use Rattle.life_sweep.specs.Sweep.{LifeAnswers}
+use Rattle.life_sweep.specs.Generation.{LifeAnswers}
 use Rattle.life_quad.proofs.KeepingLemmas.{keeps-then}
 use Rattle.life_canon.specs.Files.{Reads}
 use Rattle.life_canon.specs.Needs.{IsNew}
 use Rattle.life_canon.specs.Store.{content, IsRead}
 use Rattle.life_canon.specs.Universe.{Universe, least_level}
-use Rattle.life_step.specs.Needed.{LacksForLife, of_generation, of_root}
-use Rattle.life_step.specs.Refusals.{LifeRefusal}
+use Rattle.life_step.specs.Refusals.{LacksForLife, of_generation, of_root, LifeRefusal}
 use Rattle.life_step.proofs.NeedFacts.{full-again}
 use Rattle.life_step.proofs.StepFacts.{next-small, needs-table, life-last, life-refused-read, life-stepped-read}
 use Rattle.life_step.proofs.stepping.next_by_rule.Goals as goal

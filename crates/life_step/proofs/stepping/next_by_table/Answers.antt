@@ -1,4 +1,4 @@
-use Rattle.std.proofs.Common.{◌≡◌, ap, sym, subst, ◌∙◌, ◌≤◌, ◌^◌, ℕ, ℤ, List, Some, None, Err, inl, inr, refl, true≢false}
+use Rattle.std.proofs.Common.{◌≡◌, ap, sym, subst, ◌∙◌, ◌≤◌, ◌^◌, ℕ, ℤ, List, Some, None, inl, inr, refl, true≢false}
 use Rattle.std.proofs.lemmas.Result.{IfOk-weaker, err_from_is_err_and}
 use Rattle.life_base.specs.declared.cell.TheConstants.{MAX_LEVEL}
 use Rattle.life_base.specs.declared.rule.Rule.TheVariants.{Named}
@@ -9,14 +9,13 @@ use Rattle.life_table.specs.Meaning.{Becomes}
 use Rattle.life_quad.specs.Refused.{SomeTrimmed}
 use Rattle.life_quad.proofs.LawLemmas.{known_squares_are_full}
 use Rattle.life_sweep.specs.Refused.{GenerationRefusal}
-use Rattle.life_sweep.specs.Sweep.{TableAnswers, states_at}
+use Rattle.life_sweep.specs.Generation.{TableAnswers, states_at}
 use Rattle.life_quad.proofs.KeepingLemmas.{keeps-then}
 use Rattle.life_canon.specs.Files.{Reads}
 use Rattle.life_canon.specs.Needs.{IsNew}
 use Rattle.life_canon.specs.Store.{content, IsRead}
 use Rattle.life_canon.specs.Universe.{Universe, least_level}
-use Rattle.life_step.specs.Needed.{SomeOfTable, of_next, of_next_root}
-use Rattle.life_step.specs.Refusals.{TableRefusal}
+use Rattle.life_step.specs.Refusals.{SomeOfTable, of_next, of_next_root, TableRefusal}
 use Rattle.life_step.proofs.NeedFacts.{full-again}
 use Rattle.life_step.proofs.StateFacts.{cell-byte}
 use Rattle.life_step.proofs.StepFacts.{root-high, table-last, table-refused-read, table-stepped-read}

@@ -2,8 +2,7 @@ use Rattle.std.proofs.Common.{inl, inr}
 use Rattle.std.proofs.lemmas.Result.{IfOk-weaker}
 use Rattle.life_base.specs.declared.cell.TheConstants.{MAX_LEVEL}
 use Rattle.life_quad.proofs.KeepingLemmas.{keeps-then}
-use Rattle.life_step.specs.Needed.{LacksForLife}
-use Rattle.life_step.specs.Refusals.{LifeRefusal}
+use Rattle.life_step.specs.Refusals.{LacksForLife, LifeRefusal}
 use Rattle.std.specs.Prelude.{Some}
 use Rattle.life_step.proofs.NeedFacts.{handed-on, step-lacks}
 use Rattle.life_step.proofs.StepFacts.{step-refused}

@@ -2,8 +2,7 @@ use Rattle.std.proofs.Common.{inl, inr}
 use Rattle.std.proofs.lemmas.Result.{IfOk-weaker}
 use Rattle.life_base.specs.declared.cell.TheConstants.{MAX_LEVEL}
 use Rattle.life_quad.proofs.KeepingLemmas.{keeps-then}
-use Rattle.life_step.specs.Needed.{LacksForTable}
-use Rattle.life_step.specs.Refusals.{TableRefusal}
+use Rattle.life_step.specs.Refusals.{LacksForTable, TableRefusal}
 use Rattle.std.specs.Prelude.{Some}
 use Rattle.life_step.proofs.NeedFacts.{handed-on, step-lacks}
 use Rattle.life_step.proofs.StepFacts.{step-refused}

@@ -1,7 +1,6 @@
 use Rattle.std.proofs.Common.{ap, sym, ◌∙◌}
 use Rattle.life_table.specs.Meaning.{count_of}
-use Rattle.life_sweep.specs.Generation.{neighborhood_of}
-use Rattle.life_sweep.specs.Sweep.{named}
+use Rattle.life_sweep.specs.Generation.{neighborhood_of, named}
 use Rattle.life_sweep.proofs.LawLemmas.{count-eight}
 use Rattle.life_sweep.proofs.law.live_neighbours.Goals as goal
 

@@ -3,7 +3,7 @@ use Rattle.std.proofs.lemmas.Int.{ints}
 use Rattle.std.proofs.lemmas.Result.{err_from_is_err_and}
 use Rattle.life_quad.proofs.KeepingLemmas.{keeps-same, keeps-then}
 use Rattle.life_strip.specs.Given.{state_by}
-use Rattle.life_sweep.specs.Around.{after}
+use Rattle.life_sweep.specs.Generation.{after}
 use Rattle.life_sweep.specs.Rows.{IsWindow, IsWindowBelow, first_coordinate, states_of}
 use Rattle.life_table.specs.Meaning.{Ambiguous}
 use Rattle.life_sweep.specs.Pen.{drawn_runs}

@@ -4,13 +4,13 @@ use Rattle.std.proofs.lemmas.Result.{err_from_is_err_and}
 use Rattle.life_quad.proofs.KeepingLemmas.{keeps-same, keeps-then}
 use Rattle.life_strip.specs.Given.{state_by}
 use Rattle.life_table.specs.Meaning.{Becomes}
-use Rattle.life_sweep.specs.Around.{after}
+use Rattle.life_sweep.specs.Generation.{after, states_at}
 use Rattle.life_sweep.specs.Rows.{AreBelow, AreRows, GoesSouth, first_coordinate}
 use Rattle.std.specs.Prelude.{IfSome, Option}
 use Rattle.life_base.specs.declared.cell.Run.{Run}
-use Rattle.life_sweep.specs.Needed.{SomeNext}
+use Rattle.life_sweep.specs.Refused.{SomeNext}
 use Rattle.life_sweep.specs.Pen.{IsOpen, drawn_runs}
-use Rattle.life_sweep.specs.Sweep.{IsFirstAmbiguous, IsReadyRow, IsScene, IsSorted, IsSweptRows, states_at}
+use Rattle.life_sweep.specs.Sweep.{IsFirstAmbiguous, IsReadyRow, IsScene, IsSorted, IsSweptRows}
 use Rattle.life_sweep.proofs.NeedLemmas.{all-needs, full-again, full-kind}
 use Rattle.life_sweep.proofs.PenLemmas.{kept}
 use Rattle.life_sweep.proofs.SweepLemmas.{nothing-given, nothing-drawn, start-rows, pass-rows, all-rows}

@@ -2,7 +2,7 @@ use Rattle.std.proofs.Common.{◌≡◌, ℕ, ℤ}
 use Rattle.life_quad.specs.Keeping.{KeepsSquares}
 use Rattle.life_sweep.specs.Pen.{IsHolding, drawn_runs}
 use Rattle.life_strip.specs.Given.{state_by}
-use Rattle.life_sweep.specs.Around.{after}
+use Rattle.life_sweep.specs.Generation.{after}
 use Rattle.life_sweep.specs.Rows.{IsSoundBand, IsBandBelow, IsBand, rows_left}
 use Rattle.life_sweep.specs.Sweep.{IsReadyRow, IsSorted, IsSweptRows}
 use Rattle.life_sweep.proofs.sweep.next_square.Given as goal

@@ -4,7 +4,7 @@ use Rattle.std.proofs.lemmas.Int.{ints}
 use Rattle.std.proofs.lemmas.List.{take-append-drop}
 use Rattle.std.proofs.lemmas.List.Elements.{All-take, All-drop}
 use Rattle.life_base.specs.declared.cell.Cell.{Cell}
-use Rattle.life_sweep.specs.Around.{after}
+use Rattle.life_sweep.specs.Generation.{after}
 use Rattle.life_sweep.specs.Rows.{IsNextRow, IsInside, GoesSouth}
 use Rattle.life_sweep.specs.declared.band.Band.{Band}
 use Rattle.life_sweep.proofs.BandLemmas.{IsSplitAtRow, goes-south, last-band, fewer-rows, here-end, south-end}

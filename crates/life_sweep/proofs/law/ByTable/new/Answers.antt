@@ -5,7 +5,7 @@ use Rattle.life_table.specs.Meaning.{Becomes}
 use Rattle.life_sweep.specs.LawFacts.{table_quiet}
 use Rattle.std.proofs.lemmas.List.{length-replicate}
 use Rattle.life_sweep.specs.declared.law.Known.{Known}
-use Rattle.life_sweep.specs.Sweep.{TableAnswers, zeros}
+use Rattle.life_sweep.specs.Generation.{TableAnswers, zeros}
 use Rattle.life_sweep.proofs.law.ByTable.new.Goals as goal
 
 pub invariant_of-result : goal.invariant_of-result

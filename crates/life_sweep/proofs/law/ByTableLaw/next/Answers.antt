@@ -4,7 +4,7 @@ use Rattle.std.proofs.lemmas.Slice.Eq.{bytes_eq-Decides}
 use Rattle.life_table.specs.Meaning.{Becomes}
 use Rattle.life_table.specs.declared.table.Table.{Table}
 use Rattle.life_sweep.specs.declared.law.Known.{Known}
-use Rattle.life_sweep.specs.Sweep.{TableAnswers}
+use Rattle.life_sweep.specs.Generation.{TableAnswers}
 use Rattle.life_sweep.proofs.law.ByTableLaw.next.Goals as goal
 
 pub returns-then-eq-clause-next : goal.returns-then-eq-clause-next

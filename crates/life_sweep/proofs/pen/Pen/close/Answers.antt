@@ -2,7 +2,7 @@ use Rattle.std.proofs.Common.{◌++◌, sym, subst}
 use Rattle.std.specs.Prelude.{Option, IfSome}
 use Rattle.std.proofs.lemmas.Result.{err_from_is_err_and}
 use Rattle.life_base.specs.declared.cell.Run.{Run}
-use Rattle.life_sweep.specs.Needed.{SomeAbove}
+use Rattle.life_sweep.specs.Refused.{SomeAbove}
 use Rattle.life_sweep.specs.Pen.{IsOpen, open_runs}
 use Rattle.life_sweep.proofs.NeedLemmas.{open-needs}
 use Rattle.life_sweep.proofs.pen.Pen.close.Goals as goal

@@ -25,7 +25,7 @@ returns-then-is_continued_by-clause-holding g c =
         some_cell = omega arith;
         inside = record {
           west = omega (arith, ints, on.column, on.opened.inside.west);
-          east = omega (arith, ints, on.column, on.more.east, c.requires.inside.east);
+          east = omega (arith, ints, on.column, on.more.1, c.requires.inside.east);
           north = omega (arith, ints, on.row, on.opened.inside.north);
           south = omega (arith, ints, on.row, on.opened.inside.south);
         };
@@ -41,11 +41,11 @@ returns-then-is_continued_by-clause-here g c =
     let on = on g c in
     let x = kept run.x in
     let y = kept run.y in
-    let row : c.args.y ≡ y = sym on.more.same_row ∙ on.row in
+    let row : c.args.y ≡ y = sym on.more.0 ∙ on.row in
     let all = runs ++ run_of x y (run.len + 1) run.state ∷ [] in
     ap (λ z. state_by all c.args.x z) row
-    ∙ longer-here runs x y run.len run.state c.args.x c.requires.holding.filling.order on.next (sym (ap (λ z. z +ℤ pos run.len) on.column) ∙ on.more.east)
-    ∙ on.more.same_state
+    ∙ longer-here runs x y run.len run.state c.args.x c.requires.holding.filling.order on.next (sym (ap (λ z. z +ℤ pos run.len) on.column) ∙ on.more.1)
+    ∙ on.more.2
 
 pub returns-then-is_continued_by-clause-others : goal.returns-then-is_continued_by-clause-others
 returns-then-is_continued_by-clause-others g c column row ne =
@@ -56,8 +56,8 @@ returns-then-is_continued_by-clause-others g c column row ne =
     let y = kept run.y in
     let before : drawn_runs c.args.self.now ≡ runs ++ run_of x y run.len run.state ∷ [] =
     ap (λ (o : Option Run). runs ++ open_runs o) c.in-Some.is ∙ (λ j. runs ++ run_of (on.column j) (on.row j) run.len run.state ∷ []) in
-    longer-others runs x y run.len run.state c.args.x c.requires.holding.filling.order on.next (sym (ap (λ z. z +ℤ pos run.len) on.column) ∙ on.more.east)
-    column row (λ e1 e2. ne e1 (e2 ∙ sym on.row ∙ on.more.same_row))
+    longer-others runs x y run.len run.state c.args.x c.requires.holding.filling.order on.next (sym (ap (λ z. z +ℤ pos run.len) on.column) ∙ on.more.1)
+    column row (λ e1 e2. ne e1 (e2 ∙ sym on.row ∙ on.more.0))
     ∙ sym (ap (λ (l : List Run). state_by l column row) before)
 
 pub returns-then-is_continued_by-clause-next : goal.returns-then-is_continued_by-clause-next
@@ -65,8 +65,8 @@ returns-then-is_continued_by-clause-next g c column row h =
     let runs = c.args.self.now.builder.runs in
     let run = c.in-Some.run' in
     let on = on g c in
-    longer-next runs (kept run.x) (kept run.y) run.len run.state c.args.x (sym (ap (λ z. z +ℤ pos run.len) on.column) ∙ on.more.east) column row
-    (subst (λ z. IsBehind (one_cell c.args.x z run.state) column row) (sym on.more.same_row ∙ on.row) h)
+    longer-next runs (kept run.x) (kept run.y) run.len run.state c.args.x (sym (ap (λ z. z +ℤ pos run.len) on.column) ∙ on.more.1) column row
+    (subst (λ z. IsBehind (one_cell c.args.x z run.state) column row) (sym on.more.0 ∙ on.row) h)
 
 -- the cell's place is one of numbers of 64 bits, and behind the runs that were given
 x-kept : (g : Over) (c : goal.After-self-2-1 g) → c.args.x ≡ kept c.args.x
