@@ -75,16 +75,6 @@ no_file source store fault law (reading.by_want want) lacks k = inr (want, lacks
 no_file source store fault law (reading.by_length is came) lacks k = inl (by_length is came)
 no_file source store fault law (reading.by_source is failed) lacks k = inl (by_source is failed)
 
--- a fault of another kind is that of the file
-pub held_fault : (source : SourceRun) (store : Nodes) (fault : Fault) → ReadRefuses MAX_LEVEL (2 ^ 30) store source fault
-    → ((fault.kind ≡ ReadFault) ⊎ ((fault.kind ≡ InputTooLong) ⊎ ((fault.kind ≡ Full) ⊎ (fault.kind ≡ Memory))) → ⊥)
-    → IsHeld store source (Err fault)
-held_fault source store fault (reading.by_file bytes read h) n = record { bytes = bytes; read = read; pattern = tt; fault = h }
-held_fault source store fault (reading.by_want (inl memory)) n = absurd (n (inr (inr (inr (ap (λ (f : Fault). f.kind) memory)))))
-held_fault source store fault (reading.by_want (inr full)) n = absurd (n (inr (inr (inl (ap (λ (f : Fault). f.kind) full.0)))))
-held_fault source store fault (reading.by_length is came) n = absurd (n (inr (inl (ap (λ (f : Fault). f.kind) is))))
-held_fault source store fault (reading.by_source is failed) n = absurd (n (inl (ap (λ (f : Fault). f.kind) is)))
-
 -- two files aren't compared
 pub no_first_input : (first second : SourceRun) (store : Nodes) (fault : Fault) → store.limit ≡ 2 ^ 31 → InputRefuses first fault ⊎ IsWantFor first store fault
     → AreUncompared first second fault

@@ -169,13 +169,6 @@ module _ (top : ℕ) (header : List ℕ) where
       ap (λ v. v && list_all is_no_command forms) (no_late before line form z.0 s.0 l)
       ∙ no_more lines forms (before ++ line ∷ []) z.1 s.1 (longer before line (form_square form) (gives line form z.0).square l)
 
-  order_behind : (form : Form) (forms : List Form) → form_square form ≡ None → are_in_order (form ∷ forms) ≡ are_in_order forms
-  order_behind blank_line forms h = refl
-  order_behind comment_line forms h = refl
-  order_behind (rule_line rule) forms h = refl
-  order_behind (generation_line generation) forms h = refl
-  order_behind (node_line square) forms h = cc
-
   in_order : (lines : List (List ℕ)) (forms : List Form) (before : List (List ℕ)) → AllZip HasForm lines forms → Stand lines before → are_in_order forms ≡ true
   in_order [] [] before z s = refl
   in_order [] (form ∷ forms) before z s = absurd z

@@ -242,9 +242,6 @@ bytes_fit (suc n) (row ∷ rows) = (row_fits 0 row, bytes_fit n rows)
 
 -- ---- a leaf line
 
-abbrev bytes_in : List ℕ → Bool
-bytes_in text = list_all is_leaf_byte text
-
 leaf_byte_solid : (b : ℕ) → is_leaf_byte b ≡ true → solid b ≡ true
 leaf_byte_solid b h = grind (arith, nat_tests)
 

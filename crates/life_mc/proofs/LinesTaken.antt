@@ -1,5 +1,5 @@
 -- What is told of the lines that a reader took.
-use Rattle.std.proofs.Common.{◌≡◌, ℕ, ◌<◌, List, [], ◌∷◌, ◌++◌, length, true, not, refl, ap, sym, subst, ◌∙◌, arith}
+use Rattle.std.proofs.Common.{◌≡◌, ℕ, ◌<◌, List, [], ◌∷◌, ◌++◌, length, true, not, refl, sym, subst, ◌∙◌, arith}
 use Rattle.std.specs.Prelude.{Option, Some, None}
 use Rattle.std.specs.List.{cons_option}
 use Rattle.std.proofs.lemmas.List.{append-nil}
@@ -26,9 +26,6 @@ squares_taken before line = by (square_behind before line) refl
     by None h = squares_none before line h ∙ sym (append-nil (squares_of before))
     by (Some square) h = squares_some before line square h
 
-pub none_accepted : (top : ℕ) → Accepts top [] → ⊥
-none_accepted top m = let h : 0 < length (let e : List (List ℕ) = [] in e) = m.1.header in absurd (omega arith)
-
 some_lines : (lines : List (List ℕ)) → not (is_empty lines) ≡ true → 0 < length lines
 some_lines [] h = cc
 some_lines (line ∷ lines) h = omega arith
@@ -42,13 +39,6 @@ module _ (top : ℕ) (lines : List (List ℕ)) (state : Standing) (s : StandsAft
   file_said e =
       let m = accepted top lines (some_lines lines (sym s.started ∙ e)) s.unbroken in
       (m.0, (grammars_agree top lines m.0).1 m.1, s.rule ∙ sym m.1.rule, s.generation ∙ sym m.1.generation)
-
--- before the first line nothing is broken, and there are no squares
-pub none_unbroken : (top : ℕ) (lines : List (List ℕ)) → lines ≡ [] → AreUnbroken top lines
-none_unbroken top lines e k h = absurd (omega (arith, ap length e))
-
-pub none_squares : (lines : List (List ℕ)) (squares : List Line) → lines ≡ [] → squares ≡ [] → squares ≡ squares_of lines
-none_squares lines squares e f = f ∙ sym (ap squares_of e)
 
 -- why an input is refused of which this line breaks a rule
 pub refused_here : (top : ℕ) (lines : List (List ℕ)) (before : List (ℕ × List ℕ)) (k : ℕ) (line : List ℕ) (rest : List (ℕ × List ℕ)) (front : List (List ℕ))

@@ -18,8 +18,8 @@ pub enum Line {
     /// A square of level 3, eight cells wide and high. Byte r is row r from the north, and bit 7 - c of it is column c from
     /// the west: 1 for a live cell.
     Leaf([u8; 8]),
-    /// A square of a level, 2^level cells wide and high: the level, and the quarters in the northwest, northeast, southwest and
-    /// southeast. At level 1 they are four states; above, each is 0, the empty square, or the number of an earlier line, counted from 1.
+    /// A square of a level, 2^level cells wide and high: the level, and the quarters in the north-west, north-east, south-west and
+    /// south-east. At level 1 they are four states; above, each is 0, the empty square, or the number of an earlier line, counted from 1.
     Quad(u8, u64, u64, u64, u64),
 }
 

@@ -44,7 +44,7 @@ fn has_no_word(text: &[u8]) -> bool
 }
 
 /// The five numbers of a quarter line as they are written, if it has exactly five and nothing else: the level, and the quarters in the
-/// northwest, northeast, southwest and southeast. One above the greatest of the type stands as that.
+/// north-west, north-east, south-west and south-east. One above the greatest of the type stands as that.
 pub(crate) fn read_numbers(text: &[u8]) -> Option<(u64, u64, u64, u64, u64)>
     ensures { option_map (λ n. Quad n.0 n.1 n.2 n.3 n.4) result ≡ quad_words (words_of text.now) }
 {

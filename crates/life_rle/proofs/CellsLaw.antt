@@ -32,10 +32,6 @@ more_columns : (column x : ℤ) (m : ℕ) → (int_le column x && int_lt x (colu
     ≡ (int_eq x column || (int_le (column +ℤ pos 1) x && int_lt x ((column +ℤ pos 1) +ℤ pos m)))
 more_columns column x m = grind (arith, ints)
 
-cond_and : (p q : Bool) (m n : ℕ) → cond (p && q) m n ≡ cond p (cond q m n) n
-cond_and true q m n = refl
-cond_and false q m n = refl
-
 -- two runs of one state are one
 merged : (row here near far : Bool) (s n : ℕ) → cond (row && (here || (near && far))) s n ≡ cond (row && here) s (cond (row && (near && far)) s n)
 merged true true near far s n = refl

@@ -1,7 +1,6 @@
 -- The fields of a position line.
-use Rattle.std.proofs.Common.{◌≡◌, ℕ, ◌&&◌, Bool, true, false, cond, List, [], ◌∷◌, length, drop, refl, sym, ap, ◌∙◌, Some, None, Ok, Err, Option, Result, arith, ℤ, codes}
+use Rattle.std.proofs.Common.{◌≡◌, ℕ, ◌&&◌, Bool, true, false, cond, List, [], ◌∷◌, length, drop, refl, sym, ap, ◌∙◌, Some, None, Ok, Err, Option, Result, ℤ, codes}
 use Rattle.std.specs.Prelude.{◌==◌}
-use Rattle.std.proofs.lemmas.Bool.Decides.{nat_tests}
 use Rattle.life_base.specs.declared.kind.Kind.{Kind}
 use Rattle.life_base.specs.declared.kind.Kind.TheVariants.{BadNumber, OutOfPlane}
 use Rattle.life_base.specs.Text.{begins_with, with_word}
@@ -61,16 +60,6 @@ pub field-generation : (level : ℕ) (text : List ℕ) (f : Field → Result Pos
     → and_then (field_of level text) f ≡ and_then (and_then (u64_of (drop 4 text)) (λ n. Ok (Generation n))) f
 field-generation level text f e g = ap (λ t. chosen level text f t (begins_with text (codes "Gen="))) e ∙ ap (chosen level text f false) g
 
--- one more field
-pub position-step : (level : ℕ) (p p' : Position) (field : List ℕ) (fields : List (List ℕ))
-    → Ok p' ≡ and_then (field_of level field) (λ found. Ok (with_field p found)) → position_with level p (field ∷ fields) ≡ position_with level p' fields
-position-step level p p' field fields e = step (field_of level field) e
-  where
-    step : (f : Result Field Kind) → Ok p' ≡ and_then f (λ found. Ok (with_field p found))
-        → and_then f (λ found. position_with level (with_field p found) fields) ≡ position_with level p' fields
-    step (Ok found) e = let q : with_field p found ≡ p' = cc in ap (λ p. position_with level p fields) q
-    step (Err kind) e = cc
-
 pub position-stop : (level : ℕ) (p : Position) (kind : Kind) (field : List ℕ) (fields : List (List ℕ))
     → Err kind ≡ and_then (field_of level field) (λ found. Ok (with_field p found)) → position_with level p (field ∷ fields) ≡ Err kind
 position-stop level p kind field fields e = step (field_of level field) e
@@ -84,7 +73,3 @@ position-stop level p kind field fields e = step (field_of level field) e
 pub word-first : (word : List ℕ) (words all : List (List ℕ)) → all ≡ with_word word words → (length word == 0) ≡ false → all ≡ word ∷ words
 word-first [] words all e h = cc
 word-first (b ∷ word) words all e h = e
-
-pub word-none : (word : List ℕ) (words all : List (List ℕ)) → all ≡ with_word word words → (length word == 0) ≡ true → all ≡ []
-word-none [] words all e h = e
-word-none (b ∷ word) words all e h = let z : length (b ∷ word) ≡ 0 = grind (arith, nat_tests) in absurd (omega arith)

@@ -1,7 +1,5 @@
 -- Each rule that a line breaks is of a kind of the format, and what a line is before the header stands in the plane.
-use Rattle.std.proofs.Common.{◌≡◌, ℕ, Bool, true, false, not, cond, ◌&&◌, ◌||◌, List, [], ◌∷◌, ◌++◌, refl, sym, ◌∙◌, subst, inl, inr, Some, None, Ok, Err, Option, Result, ℤ, pos, ◌+ℤ◌, arith, codes, w64}
-use mir.Val.{to_z, of_z}
-use Rattle.std.proofs.lemmas.Int.{ints, to_z-of_z}
+use Rattle.std.proofs.Common.{◌≡◌, ℕ, Bool, true, false, not, cond, ◌&&◌, ◌||◌, List, [], ◌∷◌, ◌++◌, refl, sym, ◌∙◌, subst, inl, inr, Some, None, Ok, Err, Option, Result, ℤ, pos, ◌+ℤ◌, codes}
 use Rattle.std.specs.Prelude.{int_lt, int_le}
 use Rattle.life_base.specs.declared.kind.Kind.{Kind}
 use Rattle.life_base.specs.declared.kind.Kind.TheVariants.{LineTooLong, NoHeader, LateHeader, SecondHeader, BadRule, BoundedGrid, UnsupportedRule, BirthOnZero, StateRange, OutOfPlane}
@@ -10,7 +8,6 @@ use Rattle.life_base.specs.Rules.{rule_of}
 use Rattle.life_base.specs.Rules.{is_rule_kind}
 use Rattle.life_base.proofs.RuleKinds.{rule_kind}
 use Rattle.life_base.specs.Refusal.{is_placeless, Answers}
-use Rattle.life_base.specs.declared.cell.TheConstants.{MAX_LEVEL}
 use Rattle.life_base.specs.Text.{is_too_long, is_blank, begins_with}
 use Rattle.life_base.proofs.LineKinds.{names_line as kinds_name_lines}
 use Rattle.life_rle.specs.declared.item.Item.{Item}
@@ -18,7 +15,7 @@ use Rattle.life_rle.specs.declared.item.Item.TheVariants.{Cells, RowEnds}
 use Rattle.life_rle.specs.Items.{Broken, Spells}
 use Rattle.life_rle.specs.declared.position.Position.{Position}
 use Rattle.life_rle.specs.Position.{and_then, is_position_line, position_of}
-use Rattle.life_rle.specs.Plane.{edge, is_coordinate}
+use Rattle.life_rle.specs.Plane.{edge}
 use Rattle.life_rle.specs.Header.{header_form, rule_in, header_of}
 use Rattle.life_rle.specs.Pattern.{item_fault, rows_in, columns_in}
 use Rattle.life_rle.specs.States.{is_state_of}
@@ -146,9 +143,6 @@ names_line = kinds_name_lines is_rle_kind refl
 
 pub Breaks-placed : (level : ℕ) (front : List (List ℕ)) (line : List ℕ) (kind : Kind) → Breaks level front line kind → is_placeless kind ≡ false
 Breaks-placed level front line kind b = names_line kind (Breaks-kind level front line kind b)
-
-pub same_place : (z : ℤ) → is_coordinate MAX_LEVEL z ≡ true → to_z w64 (of_z w64 z) ≡ z
-same_place z e = grind (arith, ints, to_z-of_z)
 
 -- an answer that isn't want of memory is the definition's
 pub answered : {X : Type 0} (r expected : Result X Kind) (x : X) → r ≡ Ok x → Answers r expected → expected ≡ Ok x

@@ -26,10 +26,6 @@ or_true : (b : Bool) → (b || true) ≡ true
 or_true true = refl
 or_true false = refl
 
-cond_same : (b : Bool) (m : ℕ) → cond b m m ≡ m
-cond_same true m = refl
-cond_same false m = refl
-
 columns_in-cond : (b : Bool) (m k n : ℕ) → cond b (k + n) (m + (k + n)) ≡ cond b k (m + k) + n
 columns_in-cond true m k n = refl
 columns_in-cond false m k n = omega arith

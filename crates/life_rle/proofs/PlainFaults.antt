@@ -24,10 +24,6 @@ plain-Stops : (rest : List ℕ) → HasNoDigit rest → Stops is_ascii_digit res
 plain-Stops [] h = tt
 plain-Stops (b ∷ rest) h = h
 
-no_digits : (bytes : List ℕ) → HasNoDigit bytes → prefix_len is_ascii_digit bytes ≡ 0
-no_digits [] h = refl
-no_digits (b ∷ bytes) h = ap (λ t. cond t (1 + prefix_len is_ascii_digit bytes) 0) h
-
 -- what is in front of an item's place
 next_of-place : (level : ℕ) (bytes : List ℕ) → HasItemPlace bytes → next_of level bytes ≡ counted level (front_digits bytes) (behind_digits bytes)
 next_of-place level [] h = absurd h

@@ -1,34 +1,18 @@
 -- What is put on lines one after another is the text of the lines.
-use Rattle.std.proofs.Common.{◌≡◌, ℕ, ◌+◌, ◌≤◌, Bool, true, false, cond, decimal, List, [], ◌∷◌, ◌++◌, length, map, refl, sym, ap, ◌∙◌, arith, append_assoc, leb, eqb}
+use Rattle.std.proofs.Common.{◌≡◌, ℕ, ◌+◌, ◌≤◌, true, false, cond, List, [], ◌∷◌, ◌++◌, length, map, sym, ap, ◌∙◌, arith, append_assoc, leb}
 use Rattle.std.specs.Prelude.{flat_map}
-use Rattle.std.proofs.lemmas.Bool.Decides.{nat_tests}
 use Rattle.std.proofs.lemmas.List.{append-nil, length-append}
 use Rattle.life_base.specs.declared.rule.Rule.{Rule}
 use Rattle.life_rle.specs.declared.item.Item.{Item}
 use Rattle.life_rle.specs.declared.item.Item.TheVariants.{Cells, RowEnds}
 use Rattle.life_rle.specs.declared.wrapping.ItemLines.{ItemLines}
-use Rattle.life_rle.specs.Cursor.{item_count}
-use Rattle.life_rle.specs.Written.{count_text, item_text, item_lines, wrapped}
+use Rattle.life_rle.specs.Written.{item_text, item_lines, wrapped}
 use Rattle.life_rle.specs.Writing.{tag_text, text_from, items_text, text_with, Puts}
 use Rattle.life_rle.proofs.FileLines.{state_text-short}
 
 pub tag-short : (rule : Rule) (item : Item) → length (tag_text rule item) ≤ 2
 tag-short rule (Cells n s) = state_text-short rule s
 tag-short rule (RowEnds n) = omega arith
-
-pub item_text-parts : (rule : Rule) (item : Item) → item_text rule item ≡ count_text (item_count item) ++ tag_text rule item
-item_text-parts rule (Cells n s) = refl
-item_text-parts rule (RowEnds n) = refl
-
--- without a count
-pub item_text-one : (rule : Rule) (item : Item) → item_count item ≡ 1 → item_text rule item ≡ tag_text rule item
-item_text-one rule item e = item_text-parts rule item ∙ ap (λ n. count_text n ++ tag_text rule item) e
-
--- with a count
-pub item_text-counted : (rule : Rule) (item : Item) → (item_count item ≡ 1 → ⊥) → item_text rule item ≡ decimal (item_count item) ++ tag_text rule item
-item_text-counted rule item h =
-    let e : eqb (item_count item) 1 ≡ false = grind (arith, nat_tests) in
-    item_text-parts rule item ∙ ap (λ (t : Bool). cond t [] (decimal (item_count item)) ++ tag_text rule item) e
 
 -- one after the other
 pub Puts-then : (rule : Rule) (xs ys : List Item) (old middle new : ItemLines) → Puts rule old xs middle → Puts rule middle ys new

@@ -40,10 +40,6 @@ pub runs_of-append : (ps qs : List Placed) → runs_of (ps ++ qs) ≡ runs_of ps
 runs_of-append [] qs = refl
 runs_of-append (p ∷ ps) qs = ap (with_run p.row p.column p.item) (runs_of-append ps qs) ∙ with_run-append p.row p.column p.item (runs_of ps) (runs_of qs)
 
--- nothing read yet
-pub read_none : (level : ℕ) (rule : Rule) (from : Cursor) (line : List ℕ) → IsNear level from → IsRead level rule from line [] (next_of level line) from []
-read_none level rule from line near = record { spelled = refl; sound = refl; cursor = refl; near = near; runs = refl }
-
 -- one more item
 pub read_more : (level : ℕ) (rule : Rule) (from now : Cursor) (line rest : List ℕ) (items : List Item) (found more : List Run) (item : Item) (next : Cursor)
     → IsRead level rule from line items (Spelled item rest) now found → item_fault level rule now.y now.x item ≡ None

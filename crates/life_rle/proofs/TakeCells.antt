@@ -180,14 +180,6 @@ take-ended rule pen cell middle new p good ahead h item way =
           ∙ ap (λ items. text_with rule pen.lines items) (sym (cell-ends run.len run.state pen.left x run.y cell cells p.run.live ahead h));
     }
 
--- the way in the pen's row
-pub way-along : (rule : Rule) (left x y : ℤ) (cell : Cell) (rows gap : ℕ) (old new : ItemLines) → rows ≡ nat_abs (cell.y -ℤ y) → rows ≡ 0
-    → gap ≡ nat_abs (cell.x -ℤ x) → Puts rule old (with_gap gap []) new → Puts rule old (way_to left x y cell []) new
-way-along rule left x y cell rows gap old new e z g p =
-    let on : int_eq cell.y y ≡ true = grind (arith, ints) in
-    let items : with_gap gap [] ≡ way_to left x y cell [] = ap (λ n. with_gap n []) g ∙ sym (ap (λ t. stepped t left x y cell []) on) in
-    subst (λ is. Puts rule old is new) items p
-
 -- the way to a later row
 pub way-down : (rule : Rule) (left x y : ℤ) (cell : Cell) (rows gap : ℕ) (old middle new : ItemLines) → rows ≡ nat_abs (cell.y -ℤ y) → (rows ≡ 0 → ⊥)
     → gap ≡ nat_abs (cell.x -ℤ left) → Puts rule old (RowEnds rows ∷ []) middle → Puts rule middle (with_gap gap []) new
@@ -203,17 +195,6 @@ pub record WritesUpTo (rule : Rule) (whole : List ℕ) (pen : Pen) (cells : List
   pub sound : IsPen pen
   pub follow : Follow rule pen.left (column_behind pen.run) pen.run.y cells
   pub text : pen_text rule pen cells ≡ whole
-
--- one step of the loop over the cells
-pub up-to-more : (rule : Rule) (whole : List ℕ) (pen : Pen) (cell : Cell) (cells : List Cell) (next : Pen) → WritesUpTo rule whole pen (cell ∷ cells)
-    → WritesCell rule pen cell next → WritesUpTo rule whole next cells
-up-to-more rule whole pen cell cells next w s = record {
-  sound = s.sound;
-  follow = subst (λ left. Follow rule left (column_behind next.run) next.run.y cells) (sym s.place.0)
-      (subst (λ x. Follow rule pen.left x next.run.y cells) (sym s.place.1)
-      (subst (λ y. Follow rule pen.left (cell.x +ℤ pos 1) y cells) (sym s.place.2) w.follow.2));
-  text = s.text cells ∙ w.text;
-}
 
 -- the first cell, and all behind it
 pub from-first : (rule : Rule) (bounds : Bounds) (first : Cell) (cells : List Cell) (text : List ℕ) (gap : ℕ) (old new : ItemLines) → bounds.top ≡ first.y

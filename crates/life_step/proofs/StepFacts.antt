@@ -198,9 +198,6 @@ pub life-last : (life : OuterTotalistic) (u : Universe) → u.rule ≡ Life life
     → LifeRefusal MAX_LEVEL u (Some (fault_of kinds.GenerationTooLarge))
 life-last life u e last = subst (λ rule. RuleRefusal MAX_LEVEL rule u (Some (fault_of kinds.GenerationTooLarge))) (sym e) (inl (last, refl))
 
-pub life-named : (name : List ℕ) (u : Universe) → u.rule ≡ Named name → LifeRefusal MAX_LEVEL u (Some (fault_of kinds.NeedsTable))
-life-named name u e = subst (λ rule. RuleRefusal MAX_LEVEL rule u (Some (fault_of kinds.NeedsTable))) (sym e) refl
-
 -- ---- by a table
 
 module _ (law : TableAnswersAt) (table : Table) (u : Universe) (t : Tree) (same : (x y : ℤ) → u.cell x y ≡ tree_cell t x y) where
@@ -237,9 +234,6 @@ module _ (law : TableAnswersAt) (table : Table) (u : Universe) (t : Tree) (same 
     reads = h.reads;
     canonical = h.canonical;
   }
-
-pub table-mismatch : (table : Table) (u : Universe) → ¬ (u.rule ≡ Named table.name) → TableRefusal MAX_LEVEL table u (Some (fault_of kinds.RuleMismatch))
-table-mismatch table u n = inl (n, refl)
 
 pub table-last : (table : Table) (u : Universe) → u.rule ≡ Named table.name → u.generation ≡ 2 ^ 64 - 1
     → TableRefusal MAX_LEVEL table u (Some (fault_of kinds.GenerationTooLarge))

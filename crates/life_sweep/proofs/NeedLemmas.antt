@@ -69,37 +69,6 @@ open-needs P runs run order opened s =
           omega (arith, ints, l, e)))) s;
     }
 
--- what was drawn is on the plane
-outside-plane : (state : ℕ → ℕ → ℕ) (x y : ℤ) → ¬ (IsOnPlane x y 1) → on_plane state x y ≡ 0
-outside-plane state x y out = by (is_inside half_plane x y) refl
-  where
-    by : (b : Bool) → is_inside half_plane x y ≡ b → on_plane state x y ≡ 0
-    by true e = let i = inside_facts half_plane x y e in
-        absurd (out (record { west = i.west; east = omega (arith, ints, i.east); north = i.north; south = i.south }))
-    by false e = ap (λ (c : Bool). if c then state (unsigned_abs (x +ℤ pos half_plane)) (unsigned_abs (y +ℤ pos half_plane)) else 0) e
-
-open-outside : (runs : List Run) (o : Option Run) (x y : ℤ) → AreInOrder runs → IfSome o (IsOpen runs) → ¬ (IsOnPlane x y 1) → state_by runs x y ≡ 0
-    → state_by (runs ++ open_runs o) x y ≡ 0
-open-outside runs None x y order opened out e = ap (λ (l : List Run). state_by l x y) (append-nil runs) ∙ e
-open-outside runs (Some run) x y order opened out e =
-    outside-last runs run x y order opened.next (λ (i : IsInRun run.x run.y run.len x y). out (here i)) ∙ e
-  where
-    here : IsInRun run.x run.y run.len x y → IsOnPlane x y 1
-    here i =
-        let on = opened.inside in
-        record {
-          west = omega (arith, ints, on.west, i.from);
-          east = omega (arith, ints, on.east, i.to);
-          north = omega (arith, ints, on.north, i.same_row);
-          south = omega (arith, ints, on.south, i.same_row);
-        }
-
-pub drawn-outside : (knows : Id → Type 0) (content : Id → Tree) (pen : Pen) → IsHolding knows content pen → (x y : ℤ) → ¬ (IsOnPlane x y 1)
-    → state_by (drawn_runs pen) x y ≡ 0
-drawn-outside knows content pen h x y out =
-    open-outside pen.builder.runs pen.unclosed x y h.filling.order h.unclosed out
-    (sym (h.filling.cells x y) ∙ outside-plane (state_so_far content pen.builder.kept) x y out)
-
 -- what was drawn is the next generation
 pub drawn-needs : (P : Tree → Type 0) (A : List ℕ → Answer → Type 0) (cells : ℤ → ℤ → ℕ) (runs : List Run) (leaves : Bool) (s : SomeAbove P runs)
     → ((c r : ℤ) → (r <ℤ s.y) ⊎ ((c ≡ s.x) × (r ≡ s.y)) → IsDrawnAt A cells (state_by runs) leaves c r) → SomeNext P A cells

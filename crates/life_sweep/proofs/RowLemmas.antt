@@ -31,9 +31,6 @@ pub StartsFrom-less : (x m : ℤ) (row : List Cell) → x ≤ℤ m → StartsFro
 StartsFrom-less x m [] le s = tt
 StartsFrom-less x m (cell ∷ rest) le s = omega (arith, ints, le, s)
 
-pub StartsAt-is : (x m : ℤ) (row : List Cell) → x ≡ m → StartsAt x row → StartsAt m row
-StartsAt-is x m row e s = subst (λ z. StartsAt z row) e s
-
 -- a whole number is below another or not
 pub less-or-not : (a b : ℤ) → (a <ℤ b) ⊎ (b ≤ℤ a)
 less-or-not (pos m) (pos n) = elim (cases_lt m n) [ inl l ↦ inl (omega (arith, ints, l)) | inr l ↦ inr (omega (arith, ints, l)) ]

@@ -147,9 +147,6 @@ ready-row runs x y h c r l = h c r (inl (omega (arith, ints, l)))
 pub row-ready : (runs : List Run) (x y : ℤ) → IsReadyRow runs y → IsReady runs x y
 row-ready runs x y h c r f = h c r (elim f [ inl l ↦ omega (arith, ints, l) | inr p ↦ omega (arith, ints, p.0) ])
 
-pub row-later : (runs : List Run) (y z : ℤ) → y ≤ℤ z → IsReadyRow runs y → IsReadyRow runs z
-row-later runs y z le h c r l = h c r (omega (arith, ints, l, le))
-
 pub nothing-given : (runs : List Run) → runs ≡ [] → (x y : ℤ) → IsNext runs x y
 nothing-given runs none x y last e = absurd (let h = ap (λ (l : List Run). slice_get l (length l - 1)) (sym none) ∙ e in cc)
 

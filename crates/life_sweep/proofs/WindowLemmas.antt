@@ -74,20 +74,6 @@ goes-on cells y x w east rows h (inr p) e r = record {
     blank : (c : ℤ) → w.x ≤ℤ c → c <ℤ after x → column_at cells y c ≡ no_column
     blank = blank-between cells y (after x) w h p.0 p.1 p.2
 
-pub is-over : (cells : ℤ → ℤ → ℕ) (y : ℤ) (w : Window) → (is_blank_column w.middle ≡ true) × (is_blank_column w.east ≡ true) × (left_in w.rows ≡ 0)
-    → IsWindow cells y w → (c : ℤ) → w.x <ℤ c → IsFar cells y c
-is-over cells y w o h c l =
-    (blank (before c) (omega (arith, ints, l)), blank c (omega (arith, ints, l)), blank (after c) (omega (arith, ints, l)))
-  where
-    blank : (c : ℤ) → w.x ≤ℤ c → column_at cells y c ≡ no_column
-    blank c l = elim (less-or-not c (after w.x)) [
-      | inl b ↦ subst (λ z. column_at cells y z ≡ no_column) (omega (arith, ints, l, b)) (sym h.middle ∙ blank-is w.middle o.0)
-      | inr b ↦ elim (less-or-not c (w.x +ℤ pos 2)) [
-        | inl d ↦ subst (λ z. column_at cells y z ≡ no_column) (omega (arith, ints, b, d)) (sym h.east ∙ blank-is w.east o.1)
-        | inr d ↦ AreRows-none cells y (w.x +ℤ pos 2) w.rows o.2 h.rows c d
-      ]
-    ]
-
 count-taken : (middle east next : Bool) (old new : ℕ) → new < old
     → 3 * new + (if next then 0 else 2) + (if east then 0 else 1) < 3 * old + (if east then 0 else 2) + (if middle then 0 else 1)
 count-taken middle true true old new l = omega (arith, l)

@@ -82,19 +82,6 @@ module _ (vars : List Var) (es : List Entry) (ws : List ℕ) (same : length es �
   pub front : (e : Entry) (x : ℕ) → Consistent vars (es ++ e ∷ []) (ws ++ x ∷ []) → Consistent vars es ws
   front e x c = record { choice = c.choice; is_choice = c.is_choice; values = (ends e x c).0 }
 
-  pub fixed_next : (s x : ℕ) → Consistent vars es ws → (s ≡ x) ↔ Consistent vars (es ++ entries.Fixed s ∷ []) (ws ++ x ∷ [])
-  fixed_next s x c = (λ h. join c.choice c.is_choice c.values (entries.Fixed s) x h, λ d. (ends (entries.Fixed s) x d).1)
-
-  -- a variable that stands among the entries already
-  pub old_next : (i x k : ℕ) (d : Entry) → k < length es → get_or es k d ≡ entries.Var i → Consistent vars es ws → (get_or ws k 0 ≡ x)
-      ↔ Consistent vars (es ++ entries.Var i ∷ []) (ws ++ x ∷ [])
-  old_next i x k d below at c =
-      let known : (choice : ℕ → ℕ) → map (state_of choice) es ≡ ws → get_or ws k 0 ≡ choice i = λ (choice : ℕ → ℕ) (values : map (state_of choice) es ≡ ws).
-      ap (λ zs. get_or zs k 0) (sym values) ∙ value_at (state_of choice) es k d 0 below ∙ ap (state_of choice) at in (
-        λ h. join c.choice c.is_choice c.values (entries.Var i) x (sym (known c.choice c.values) ∙ h),
-        λ e. known e.choice (ends (entries.Var i) x e).0 ∙ (ends (entries.Var i) x e).1,
-      )
-
   -- a variable that doesn't
   pub new_next : (i x : ℕ) → i < length vars → ((k : ℕ) (d : Entry) → k < length es → get_or es k d ≢ entries.Var i) → Consistent vars es ws
       → IfSome (slice_get vars i) (λ var. HasState var x) ↔ Consistent vars (es ++ entries.Var i ∷ []) (ws ++ x ∷ [])
@@ -120,17 +107,6 @@ module _ (vars : List Var) (inputs : List Entry) (given : List ℕ) (short : len
       P ↔ Consistent vars (take (length given) inputs ++ e ∷ []) (given ++ x ∷ []) → P ↔ Consistent vars (take (length given + 1) inputs) (given ++ x ∷ [])
   moved e d x P at h = subst (λ es. P ↔ Consistent vars es (given ++ x ∷ [])) (sym (next_input e d at)) h
 
-  pub fixed_input : (s x : ℕ) (d : Entry) → get_or inputs (length given) d ≡ entries.Fixed s → (s ≡ x) ↔ Consistent vars (take (length given + 1) inputs)
-      (given ++ x ∷ [])
-  fixed_input s x d at = moved (entries.Fixed s) d x (s ≡ x) at (fixed_next vars (take (length given) inputs) given same_length s x c)
-
-  pub old_input : (i x k : ℕ) (d f : Entry) → get_or inputs (length given) d ≡ entries.Var i → k < length given → get_or inputs k f ≡ entries.Var i
-      → (get_or given k 0 ≡ x) ↔ Consistent vars (take (length given + 1) inputs) (given ++ x ∷ [])
-  old_input i x k d f at below found =
-      let inside : k < length (take (length given) inputs) = omega (arith, below, same_length) in
-      moved (entries.Var i) d x (get_or given k 0 ≡ x) at
-      (old_next vars (take (length given) inputs) given same_length i x k f inside (get_or-take (length given) inputs k f below ∙ found) c)
-
   pub new_input : (i x : ℕ) (d : Entry) → get_or inputs (length given) d ≡ entries.Var i → i < length vars
       → ((k : ℕ) (d : Entry) → k < length given → get_or inputs k d ≢ entries.Var i) →
       IfSome (slice_get vars i) (λ var. HasState var x) ↔ Consistent vars (take (length given + 1) inputs) (given ++ x ∷ [])
@@ -150,9 +126,3 @@ is_other i (entries.Var j) h = elim (eqb_tells i j) [
 pub not_found : (i : ℕ) (es : List Entry) → ((k : ℕ) (d : Entry) → k < length es → get_or es k d ≢ entries.Var i) → IsTrue (list_any (is_variable i) es) → ⊥
 not_found i es none found = let none_is : list_any (is_variable i) es ≡ false = list_any_none (is_variable i) es
     (λ k d below. is_other i (get_or es k d) (none k d below)) in absurd (let e : false ≡ true = sym none_is ∙ found in cc)
-
--- the state of an input that is the output's variable
-pub output_at : (choice : ℕ → ℕ) (es : List Entry) (states : List ℕ) (k i : ℕ) (d : Entry) → map (state_of choice) es ≡ states → k < length es
-    → get_or es k d ≡ entries.Var i → choice i ≡ get_or states k 0
-output_at choice es states k i d values below at = sym (ap (state_of choice) at) ∙ sym (value_at (state_of choice) es k d 0 below)
-    ∙ ap (λ zs. get_or zs k 0) values

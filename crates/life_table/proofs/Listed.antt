@@ -43,20 +43,6 @@ module _ {X : Type 0} (f : List ℕ → Option X) where
 abbrev pub united : List ℕ → Option (List (List ℕ)) → Option (List ℕ)
 united done left = option_map (λ sets. fold union done sets) left
 
-more_united : (done set : List ℕ) (left : Option (List (List ℕ))) → united done (option_map (λ sets. set ∷ sets) left) ≡ united (union done set) left
-more_united done set None = refl
-more_united done set (Some sets) = refl
-
-module _ (f : List ℕ → Option (List ℕ)) where
-  pub set_read : (whole : Option (List ℕ)) (done : List ℕ) (word : List ℕ) (words : List (List ℕ)) (set : List ℕ)
-      → whole ≡ united done (all_some (map f (word ∷ words))) → f word ≡ Some set → whole ≡ united (union done set) (all_some (map f words))
-  set_read whole done word words set w e =
-      w ∙ ap (λ (o : Option (List ℕ)). united done (all_some (o ∷ map f words))) e ∙ more_united done set (all_some (map f words))
-
-  pub set_unread : (whole : Option (List ℕ)) (done : List ℕ) (word : List ℕ) (words : List (List ℕ))
-      → whole ≡ united done (all_some (map f (word ∷ words))) → f word ≡ None → None ≡ whole
-  set_unread whole done word words w e = sym (w ∙ ap (λ (o : Option (List ℕ)). united done (all_some (o ∷ map f words))) e)
-
 -- a text byte by byte
 
 abbrev pub solid : List ℕ → List (List ℕ)
