@@ -44,12 +44,7 @@ fn next_of_cells<S: Squares>(
 
 #[cycle(block)]
 // The next states of a square of this level amid its neighbours.
-fn next_amid<S: Squares>(
-    squares: &mut S,
-    rule: &LifeRule,
-    level: u8,
-    nine: &Nine,
-) -> Result<Id, Kind>
+fn next_of<S: Squares>(squares: &mut S, rule: &LifeRule, level: u8, nine: &Nine) -> Result<Id, Kind>
     requires known { InNine (IsAt (S.knows squares.old) (S.content squares.old) level) nine.now }
     requires low { 2 ≤ level }
     requires high { level ≤ MAX_LEVEL }
@@ -89,10 +84,10 @@ fn next_of_middle<S: Squares>(
     if level == 1 {
         return next_of_cells(squares, rule, sixteen);
     }
-    let nw = next_amid(squares, rule, level, &sixteen.front().western())?;
-    let ne = next_amid(squares, rule, level, &sixteen.front().eastern())?;
-    let sw = next_amid(squares, rule, level, &sixteen.rear().western())?;
-    let se = next_amid(squares, rule, level, &sixteen.rear().eastern())?;
+    let nw = next_of(squares, rule, level, &sixteen.front().western())?;
+    let ne = next_of(squares, rule, level, &sixteen.front().eastern())?;
+    let sw = next_of(squares, rule, level, &sixteen.rear().western())?;
+    let se = next_of(squares, rule, level, &sixteen.rear().eastern())?;
     squares.join(nw, ne, sw, se)
 }
 

@@ -9,8 +9,8 @@ use Rattle.life_block.proofs.PieceLemmas.{AreSixteen-kept, first-of_four, last-o
 use Rattle.life_block.proofs.blocks.+block.Given.{Over}
 use Rattle.life_block.proofs.blocks.+block.Goals as goal
 
-pub next_amid-returns-then-are_all-clause-next : goal.next_amid-returns-then-are_all-clause-next
-next_amid-returns-then-are_all-clause-next g t c cells x y binary h =
+pub next_of-returns-then-are_all-clause-next : goal.next_of-returns-then-are_all-clause-next
+next_of-returns-then-are_all-clause-next g t c cells x y binary h =
     next-of_blank c.args.rule.now (g.S.Squares.content c.args.squares.now) cells c.args.level x y c.empty-blank.result c.args.nine.now c.requires.quiet
     c.empty-blank.ensures.square (c.are_all.ensures c.if-are_all.true) h
 
@@ -29,7 +29,7 @@ next_of_middle-returns-clause-keeps g m c =
 -- the four answers are the quarters of the next square
 parts : (g : Over) (m : ℕ) (c : goal.next_of_middle-After-join g m) (cells : ℤ → ℤ → ℕ) (x y : ℤ) → IsBinary cells
     → AreSixteen (g.S.Squares.content c.args.squares.now) cells (2 ^ c.args.level) x y c.args.sixteen.now
-    → let now = g.S.Squares.content c.next_amid-4.new.squares in
+    → let now = g.S.Squares.content c.next_of-4.new.squares in
     AreParts (next_life c.args.rule.now cells) c.args.level x y (now c.in_ok-nw.nw) (now c.in_ok-ne.ne) (now c.in_ok-sw.sw) (now c.in_ok-se.se)
 parts g m c cells x y binary h =
     let known = c.requires.known in
@@ -52,27 +52,27 @@ next_of_middle-returns-clause-next g m c =
 pub next_of_middle-returns-in_err-nw-clause-needed : goal.next_of_middle-returns-in_err-nw-clause-needed
 next_of_middle-returns-in_err-nw-clause-needed g m c =
     on_err_any c.from_residual.result
-    (λ cells x y binary h. quarter-part (g.S.Squares.needs_node c.next_amid.new.squares) _ _ x y (inl
+    (λ cells x y binary h. quarter-part (g.S.Squares.needs_node c.next_of.new.squares) _ _ x y (inl
     (c.in_err-nw.ensures.needed cells _ _ binary (western-nine _ cells c.western.ensures (first-of_four c.front.ensures h)))))
 
 pub next_of_middle-returns-in_err-ne-clause-needed : goal.next_of_middle-returns-in_err-ne-clause-needed
 next_of_middle-returns-in_err-ne-clause-needed g m c =
     on_err_any c.from_residual-in_err-ne.result
-    (λ cells x y binary h. quarter-part (g.S.Squares.needs_node c.next_amid-2.new.squares) _ _ x y (inr (inl
+    (λ cells x y binary h. quarter-part (g.S.Squares.needs_node c.next_of-2.new.squares) _ _ x y (inr (inl
     (c.in_err-ne.ensures.needed cells _ _ binary (eastern-nine _ cells c.eastern.ensures (first-of_four c.front-2.ensures
     (AreSixteen-kept c.in_ok-nw.ensures.keeps cells c.requires.known h)))))))
 
 pub next_of_middle-returns-in_err-sw-clause-needed : goal.next_of_middle-returns-in_err-sw-clause-needed
 next_of_middle-returns-in_err-sw-clause-needed g m c =
     on_err_any c.from_residual-in_err-sw.result
-    (λ cells x y binary h. quarter-part (g.S.Squares.needs_node c.next_amid-3.new.squares) _ _ x y (inr (inr (inl
+    (λ cells x y binary h. quarter-part (g.S.Squares.needs_node c.next_of-3.new.squares) _ _ x y (inr (inr (inl
     (c.in_err-sw.ensures.needed cells _ _ binary (western-nine _ cells c.western-2.ensures (last-of_four c.rear.ensures
     (AreSixteen-kept (keeps-then c.in_ok-nw.ensures.keeps c.in_ok-ne.ensures.keeps) cells c.requires.known h))))))))
 
 pub next_of_middle-returns-in_err-se-clause-needed : goal.next_of_middle-returns-in_err-se-clause-needed
 next_of_middle-returns-in_err-se-clause-needed g m c =
     on_err_any c.from_residual-in_err-se.result
-    (λ cells x y binary h. quarter-part (g.S.Squares.needs_node c.next_amid-4.new.squares) _ _ x y (inr (inr (inr
+    (λ cells x y binary h. quarter-part (g.S.Squares.needs_node c.next_of-4.new.squares) _ _ x y (inr (inr (inr
     (c.in_err-se.ensures.needed cells _ _ binary (eastern-nine _ cells c.eastern-2.ensures (last-of_four c.rear-2.ensures
     (AreSixteen-kept (keeps-then (keeps-then c.in_ok-nw.ensures.keeps c.in_ok-ne.ensures.keeps) c.in_ok-sw.ensures.keeps) cells c.requires.known h))))))))
 
