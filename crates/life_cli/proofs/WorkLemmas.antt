@@ -1,5 +1,5 @@
 -- From the parts of a job to what it did, or why it is refused.
-use Rattle.std.proofs.Common.{◌≡◌, ℕ, ◌^◌, ◌⊎◌, inl, inr, List, Bool, true, false, Result, Ok, Err, IfErr, IfOk, OnOk, refl, ap, IsTrue, ◌↔◌, subst, sym}
+use Rattle.std.proofs.Common.{◌≡◌, ℕ, ◌^◌, ◌⊎◌, inl, inr, List, Bool, true, false, Result, Ok, Err, IfErr, IfOk, OnOk, refl, IsTrue, ◌↔◌, subst, sym}
 use Rattle.std.specs.Io.KnownBytes.{Appends}
 use Rattle.life_base.specs.DeviceRuns.{SourceRun, SinkRun}
 use Rattle.life_base.specs.Inputs.{ReadAll}
@@ -28,7 +28,7 @@ use Rattle.life_cli.specs.declared.working.Made.{Made}
 use Rattle.life_cli.specs.declared.working.Made.TheVariants.{Comparison}
 use Rattle.life_cli.specs.Plans.{HasSecond, WritesCanonical}
 use Rattle.life_step.specs.Stepped.{IsStepped, IsSteppedBy}
-use Rattle.life_cli.specs.Jobs.{InputRefuses, by_length, by_source, HasNoText, by_input, by_file, by_want, IsHeld, AreUncompared}
+use Rattle.life_cli.specs.Jobs.{InputRefuses, by_length, by_source, HasNoText, by_input, by_file, by_want, AreUncompared}
 use Rattle.life_cli.specs.Jobs.{by_first, by_second, by_first_shortage, by_second_shortage}
 use Rattle.life_cli.specs.Jobs.{IsWantFor, WantsToStep, RefusesRle, Compares, made_text, made_status, HasAnswer, Makes, Writes, Worked, Breaks, HasText, FileRefuses}
 use Rattle.life_cli.specs.Jobs.{by_writing, by_telling}

@@ -1,24 +1,19 @@
 -- The squares that a refused call lacked: of the runs that were drawn, and so of the next generation.
-use Rattle.std.proofs.Common.{◌≡◌, ℕ, ◌+◌, ◌*◌, ◌^◌, ◌<◌, ◌≤◌, Bool, true, false, inl, inr, ◌⊎◌, ℤ, pos, neg_ℤ, ◌+ℤ◌, ◌-ℤ◌, ◌<ℤ◌, ◌≤ℤ◌, List, [], ◌∷◌, ◌++◌, refl, sym, ◌∙◌, ap, subst, arith}
-use Rattle.std.specs.Prelude.{nat_abs, Result, Err, Option, Some, None, IfSome, if◌then◌else◌, unsigned_abs}
+use Rattle.std.proofs.Common.{◌≡◌, ℕ, ◌+◌, ◌*◌, ◌^◌, ◌<◌, ◌≤◌, Bool, false, inl, inr, ◌⊎◌, ℤ, pos, neg_ℤ, ◌+ℤ◌, ◌-ℤ◌, ◌<ℤ◌, ◌≤ℤ◌, List, [], ◌∷◌, ◌++◌, refl, sym, ◌∙◌, ap, subst, arith}
+use Rattle.std.specs.Prelude.{nat_abs, Result, Err}
 use Rattle.std.proofs.lemmas.Int.{ints}
-use Rattle.std.proofs.lemmas.List.{append-nil}
 use Rattle.life_base.specs.Tree.{Tree, depth}
-use Rattle.life_base.proofs.Squares.{is_inside, inside_facts}
 use Rattle.life_base.specs.Refusal.{fault_of}
 use Rattle.life_base.specs.declared.fault.Fault.{Fault}
 use Rattle.life_base.specs.declared.kind.Kind.{Kind}
 use Rattle.life_base.specs.declared.kind.Kind.TheVariants.{Full, Ambiguous}
 use Rattle.life_quad.specs.Cells.{IsInRun}
-use Rattle.life_quad.specs.declared.id.Id.{Id}
-use Rattle.life_strip.specs.Given.{AreInOrder, IsOnPlane, state_by, by_columns, half_plane}
+use Rattle.life_strip.specs.Given.{AreInOrder, state_by, by_columns, half_plane}
 use Rattle.life_strip.specs.Needed.{SomeSquare}
-use Rattle.life_strip.specs.Plane.{on_plane, state_so_far}
 use Rattle.life_table.specs.Meaning.{Answer, Becomes}
-use Rattle.life_sweep.specs.declared.pen.Pen.{Pen}
 use Rattle.life_base.specs.declared.cell.Run.{Run}
 use Rattle.life_sweep.specs.Refused.{SomeAbove, SomeOfAll, SomeNext, above_cell, of_plane}
-use Rattle.life_sweep.specs.Pen.{open_runs, drawn_runs, IsOpen, IsHolding}
+use Rattle.life_sweep.specs.Pen.{IsOpen}
 use Rattle.life_sweep.specs.Rows.{Precedes}
 use Rattle.life_sweep.specs.Generation.{states_at}
 use Rattle.life_sweep.specs.Sweep.{IsDrawnAt, IsSwept}

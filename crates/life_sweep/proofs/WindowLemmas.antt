@@ -3,10 +3,10 @@ use Rattle.std.proofs.Common.{◌≡◌, ℕ, ◌+◌, ◌*◌, ◌<◌, Bool, t
 use Rattle.std.specs.Prelude.{if◌then◌else◌}
 use Rattle.std.proofs.lemmas.Int.{ints}
 use Rattle.life_sweep.specs.Generation.{before, after}
-use Rattle.life_sweep.specs.Rows.{Rows, StartsFrom, SomeStartsAt, InRows, AreRows, AreSortedFrom, column_at, no_column, is_blank_column, left_in, IsWindow, IsNextPlace, GoesOn, IsFar, steps_left, far}
+use Rattle.life_sweep.specs.Rows.{Rows, StartsFrom, SomeStartsAt, InRows, AreRows, AreSortedFrom, column_at, no_column, is_blank_column, left_in, IsWindow, IsNextPlace, GoesOn, steps_left, far}
 use Rattle.life_sweep.specs.declared.column.Column.{Column}
 use Rattle.life_sweep.specs.declared.window.Window.{Window}
-use Rattle.life_sweep.proofs.RowLemmas.{AreRows-later, AreRows-gap, AreRows-none, AreRows-first, blank-is, less-or-not}
+use Rattle.life_sweep.proofs.RowLemmas.{AreRows-later, AreRows-gap, AreRows-first, blank-is, less-or-not}
 
 -- between the middle column and the first cell that is left there is none
 blank-between : (cells : ℤ → ℤ → ℕ) (y m : ℤ) (w : Window) → IsWindow cells y w → is_blank_column w.middle ≡ true → is_blank_column w.east ≡ true

@@ -1,6 +1,6 @@
 //! Entries of variables and transitions.
 
-ghost use Rattle.std.specs.Prelude.{◌≡◌, ◌≤◌, List, map, IfOk, IfErr, option_map, option_and_then};
+ghost use Rattle.std.specs.Prelude.{◌≡◌, ◌≤◌, map, IfOk, IfErr, option_map, option_and_then};
 ghost use Rattle.life_base.specs.declared.kind.Kind.TheVariants.{Memory};
 ghost use Rattle.life_table.specs.Reading.{entry_of, single, union, states_of_entry, states_listed, entries_of, all_some, between_commas, bytes_alone};
 

@@ -1,5 +1,4 @@
 //! The states that one line gives: none, one or two.
-ghost use Rattle.std.specs.Prelude.{◌≡◌, ℕ};
 
 use life_base::State;
 
