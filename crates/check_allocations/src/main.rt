@@ -41,7 +41,11 @@ fn calls_without_store(rt: &HostRuntime) {
         ("life_mc", "read_mc", files::mc_read(alloc)),
         ("life_mc", "write_mc", files::mc_written(alloc)),
         ("life_table", "read_table", tables::read(alloc)),
-        ("life_table", "read_table for Table::next", tables::ambiguous(alloc)),
+        (
+            "life_table",
+            "read_table for Table::next",
+            tables::ambiguous(alloc),
+        ),
     ] {
         Calls::of(rt, place).tell(call, answer);
     }
