@@ -156,7 +156,8 @@ fn tell_end(session: &Session, out: &mut [u8], needed: &mut usize, line: &mut u6
     }
 }
 
-/// Takes the next piece of the file.
+/// Takes the next piece of the file. The fault of a line that it tells is that of the whole file, whatever bytes follow (`faults_stay` of
+/// `life_canon`).
 #[unsafe(no_mangle)]
 pub extern "C" fn golly_canon_feed(
     alloc: Global,

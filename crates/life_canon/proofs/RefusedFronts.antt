@@ -1,4 +1,4 @@
--- A front that is refused stays refused, whatever bytes follow.
+-- A front that is refused stays refused, whatever bytes follow, and the fault of a longer input is that of its front.
 use Rattle.std.proofs.Common.{◌≡◌, ℕ, suc, ◌+◌, ◌-◌, ◌^◌, ◌<◌, ◌≤◌, min, Bool, true, false, cond, not, List, [], ◌∷◌, ◌++◌, length, take, drop, get_or, refl, ap, sym, ◌∙◌, subst, arith, inl, inr, Some, append_assoc, drop-cons, codes}
 use Rattle.std.specs.Prelude.{MatchBool, ◌==◌, bytes_eq}
 use Rattle.std.specs.List.{slice_index_or}
@@ -18,7 +18,8 @@ use Rattle.life_rle.specs.Grammar.{Breaks as BreaksRle}
 use Rattle.life_rle.proofs.FormatLaws.{broken_for_good}
 use Rattle.life_rle.proofs.FrontLaws.{lines_behind_mark_are_free, long_lines_break}
 use Rattle.life_canon.specs.Feeding.{RefusesFront}
-use Rattle.life_canon.specs.Files.{Accepts, Breaks, Refuses, is_macrocell}
+use Rattle.life_canon.specs.Files.{Accepts, Breaks, Refuses, RefusesLines, is_macrocell}
+use Rattle.life_canon.specs.Laws.{FaultsStay, LengthHidesNoFault}
 use Rattle.life_canon.proofs.FrontFacts.{long-place, breaks-long, long-macrocell, is-long}
 use Rattle.life_canon.proofs.Unions.{line-refused, line-refused-n}
 
@@ -85,34 +86,45 @@ begins (b ∷ (c ∷ front)) more h some =
 split-at : (lines : List (List ℕ)) (k : ℕ) → k < length lines → lines ≡ take k lines ++ get_or lines k [] ∷ drop (suc k) lines
 split-at lines k h = sym (take-append-drop k lines) ∙ ap (λ (d : List (List ℕ)). take k lines ++ d) (drop-cons lines k [] h)
 
-early-stays : (bytes more : List ℕ) (fault : Fault) (r : Refuses MAX_LEVEL bytes fault) → r.n ≤ length (whole_lines bytes)
-    → RefusesFront MAX_LEVEL (bytes ++ more) fault
-early-stays bytes more fault r early =
-    let whole = whole_lines bytes in
+-- a fault on a line of a common front is that of both
+common : (lines others whole from to : List (List ℕ)) (fault : Fault) → lines ≡ whole ++ from → others ≡ whole ++ to → (r : RefusesLines MAX_LEVEL lines fault)
+    → r.n ≤ length whole → (s : RefusesLines MAX_LEVEL others fault) × (s.n ≤ length whole)
+common lines others whole from to fault this other r early =
     let k : ℕ = r.n - 1 in
     let back : k + 1 ≡ r.n = omega (arith, r.place.counted) in
     let small : k < length whole = omega (arith, early, back) in
-    let behind = lines_of (rest_line bytes ++ more) in
-    let lines : lines_of bytes ≡ whole ++ one_line (rest_line bytes) = lines_are_whole bytes in
-    let len : length (lines_of bytes) ≡ length whole + length (one_line (rest_line bytes)) = ap length lines
-    ∙ length-append whole (one_line (rest_line bytes)) in
-    let fore : take k (lines_of bytes) ≡ take k whole = ap (take k) lines ∙ take-append-le k whole (one_line (rest_line bytes)) (omega (arith, small)) in
-    let item : slice_index_or (lines_of bytes) k [] ≡ get_or whole k [] =
-    ap (λ (ls : List (List ℕ)). slice_index_or ls k []) lines ∙ get_or-append whole (one_line (rest_line bytes)) [] k small in
-    let split : lines_of (bytes ++ more) ≡ take k whole ++ get_or whole k [] ∷ (drop (suc k) whole ++ behind) =
-    (lines_continue bytes more).lines ∙ ap (λ (ls : List (List ℕ)). ls ++ behind) (split-at whole k small)
-    ∙ append_assoc (take k whole) (get_or whole k [] ∷ drop (suc k) whole) behind in
+    let len : length lines ≡ length whole + length from = ap length this ∙ length-append whole from in
+    let fore : take k lines ≡ take k whole = ap (take k) this ∙ take-append-le k whole from (omega (arith, small)) in
+    let item : slice_index_or lines k [] ≡ get_or whole k [] =
+    ap (λ (ls : List (List ℕ)). slice_index_or ls k []) this ∙ get_or-append whole from [] k small in
+    let split : others ≡ take k whole ++ get_or whole k [] ∷ (drop (suc k) whole ++ to) =
+    other ∙ ap (λ (ls : List (List ℕ)). ls ++ to) (split-at whole k small) ∙ append_assoc (take k whole) (get_or whole k [] ∷ drop (suc k) whole) to in
     let count : length (take k whole) ≡ k = length-take-le k whole (omega (arith, small)) in
     let b : Breaks MAX_LEVEL (take k whole) (get_or whole k []) fault.kind =
     subst (λ (l : List ℕ). Breaks MAX_LEVEL (take k whole) l fault.kind) item
-    (subst (λ (f : List (List ℕ)). Breaks MAX_LEVEL f (slice_index_or (lines_of bytes) k []) fault.kind) fore (r.at_line (omega (arith, early, len)))) in
+    (subst (λ (f : List (List ℕ)). Breaks MAX_LEVEL f (slice_index_or lines k []) fault.kind) fore (r.at_line (omega (arith, early, len)))) in
     let at : fault.place.line ≡ min (length (take k whole) + 1) (2 ^ 64 - 1) = omega (arith, r.line, count, back) in
     let front : Prefix (Accepts MAX_LEVEL) (take k whole) = subst (Prefix (Accepts MAX_LEVEL)) fore (r.place.before k (omega (arith, back))) in
-    let n = line-refused-n MAX_LEVEL (lines_of (bytes ++ more)) (take k whole) (get_or whole k []) (drop (suc k) whole ++ behind) fault split front b at in
+    let n = line-refused-n MAX_LEVEL others (take k whole) (get_or whole k []) (drop (suc k) whole ++ to) fault split front b at in
+    (line-refused MAX_LEVEL others (take k whole) (get_or whole k []) (drop (suc k) whole ++ to) fault split front b at, omega (arith, n, count, small))
+
+early-stays : (bytes more : List ℕ) (fault : Fault) (r : Refuses MAX_LEVEL bytes fault) → r.n ≤ length (whole_lines bytes)
+    → RefusesFront MAX_LEVEL (bytes ++ more) fault
+early-stays bytes more fault r early =
+    let s = common (lines_of bytes) (lines_of (bytes ++ more)) (whole_lines bytes) (one_line (rest_line bytes)) (lines_of (rest_line bytes ++ more)) fault
+    (lines_are_whole bytes) (lines_continue bytes more).lines r early in
     record {
-      refuses = line-refused MAX_LEVEL (lines_of (bytes ++ more)) (take k whole) (get_or whole k []) (drop (suc k) whole ++ behind) fault split front b at;
-      told = inl (omega (arith, n, ap length (lines_continue bytes more).whole, length-append whole (whole_lines (rest_line bytes ++ more)), count, small));
+      refuses = s.0;
+      told = inl (omega (arith, s.1, ap length (lines_continue bytes more).whole, length-append (whole_lines bytes) (whole_lines (rest_line bytes ++ more))));
     }
+
+-- and that of a longer input, on a line that ends in the front, is the front's
+early-told : (bytes more input : List ℕ) (fault : Fault) → input ≡ bytes ++ more → (r : Refuses MAX_LEVEL input fault) → r.n ≤ length (whole_lines bytes)
+    → RefusesFront MAX_LEVEL bytes fault
+early-told bytes more input fault is r early =
+    let s = common (lines_of input) (lines_of bytes) (whole_lines bytes) (lines_of (rest_line bytes ++ more)) (one_line (rest_line bytes)) fault
+    (ap lines_of is ∙ (lines_continue bytes more).lines) (lines_are_whole bytes) r early in
+    record { refuses = s.0; told = inl s.1 }
 
 last-stays : (bytes more : List ℕ) (fault : Fault) (r : Refuses MAX_LEVEL bytes fault) → fault.kind ≡ LineTooLong → r.n ≡ length (whole_lines bytes) + 1
     → 0 < length (rest_line bytes)
@@ -137,11 +149,24 @@ last-stays bytes more fault r kind n some b =
     all [] = refl
     all (l ∷ ls) = ap (λ (t : List (List ℕ)). l ∷ t) (all ls)
 
-pub stays-refused : (bytes more : List ℕ) (fault : Fault) → RefusesFront MAX_LEVEL bytes fault → RefusesFront MAX_LEVEL (bytes ++ more) fault
-stays-refused bytes more fault r = elim r.told [
+pub faults_stay : FaultsStay MAX_LEVEL
+faults_stay bytes more fault r = elim r.told [
   | inl early ↦ early-stays bytes more fault r.refuses early
   | inr k ↦ elim (long-place bytes fault r.refuses k) [
     | inl early ↦ early-stays bytes more fault r.refuses early
     | inr last ↦ last-stays bytes more fault r.refuses k last.0 last.1 last.2
   ]
 ]
+
+-- ---- the first bytes of an input
+
+pub length_hides_no_fault : LengthHidesNoFault MAX_LEVEL
+length_hides_no_fault most input fault =
+    let whole : take most input ++ drop most input ≡ input = take-append-drop most input in
+    record {
+      stays = λ r.
+          let s : RefusesFront MAX_LEVEL input fault =
+          subst (λ (b : List ℕ). RefusesFront MAX_LEVEL b fault) whole (faults_stay (take most input) (drop most input) fault r) in
+          s.refuses;
+      told = early-told (take most input) (drop most input) input fault (sym whole);
+    }

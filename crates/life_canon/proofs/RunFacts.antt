@@ -15,6 +15,7 @@ use Rattle.life_base.specs.declared.kind.Kind.TheVariants.{Full, Memory}
 use Rattle.life_quad.specs.Store.{Nodes}
 use Rattle.life_canon.specs.Feeding.{Fed, RefusesFront, Stands}
 use Rattle.life_canon.specs.Files.{is_file_kind}
+use Rattle.life_canon.specs.Laws.{LengthsStay}
 use Rattle.life_canon.specs.Needs.{LacksFor, LacksForFront}
 use Rattle.life_canon.specs.Running.{ReadRefuses, by_file, by_want, LacksForRead, for_front, for_file}
 use Rattle.life_canon.specs.Store.{IsWant, RefusesIn}
@@ -22,7 +23,7 @@ use Rattle.life_canon.specs.declared.pattern.Pattern.{Pattern}
 use Rattle.life_mc.proofs.LineKinds.{broken_kind}
 use Rattle.life_rle.proofs.LineKinds.{Breaks-kind}
 use Rattle.life_canon.proofs.RefusalKinds.{refusal-kinds}
-use Rattle.life_canon.proofs.RefusedFronts.{stays-refused}
+use Rattle.life_canon.proofs.RefusedFronts.{faults_stay}
 
 -- What came so far, and what was made of it: a line of it was refused, or the reader has it.
 pub record IsReading (store : Nodes) (before after : Option (List ℕ)) (total : ℕ) (refused : Option Fault) (fed : Fed) : Type 0 where
@@ -59,7 +60,7 @@ module _ (old new : Nodes) (before mid after : Option (List ℕ)) (total count :
           → IfSome o (λ fault. (refused ≡ Some fault) ⊎ ((refused ≡ None) × RefusesFront MAX_LEVEL (fed.bytes ++ piece) fault))
           → MatchOption o ((more.spent ≡ false) × (more.bytes ≡ r.bytes ++ piece) × Stands new more) (RefusesFront MAX_LEVEL (r.bytes ++ piece))
       by None e g t = let h = g refl in (h.1, h.2 ∙ ap (λ (b : List ℕ). b ++ piece) (open-bytes h.0), h.3)
-      by (Some fault) e g (inl s) = stays-refused r.bytes piece fault (was fault s)
+      by (Some fault) e g (inl s) = faults_stay r.bytes piece fault (was fault s)
       by (Some fault) e g (inr s) = subst (λ (b : List ℕ). RefusesFront MAX_LEVEL (b ++ piece) fault) (open-bytes s.0) s.1
 
 -- all came
@@ -182,3 +183,19 @@ module _ (store new : Nodes) (before mid after : Option (List ℕ)) (total most 
           → ReadRefuses MAX_LEVEL most new (record { before = before; after = after; failures = failures }) fault
       each fault (inl refuses) = by_file fed.bytes read refuses
       each fault (inr want) = by_want want
+
+-- ---- how long an input is that tells its bytes
+
+beyond-length : (most : ℕ) (input : List ℕ) (after : Option (List ℕ)) → CameBeyond most (Some input) after → most < length input
+beyond-length most input None came = absurd came.taken
+beyond-length most input (Some left) came = omega (arith, came.long, ap length came.taken, length-append came.bytes left)
+
+within-length : (most : ℕ) (input : List ℕ) (after : Option (List ℕ)) (bytes : List ℕ) → ReadAll most (Some input) after bytes → length input ≤ most
+within-length most input None bytes read = absurd read.taken
+within-length most input (Some left) bytes read = omega (arith, read.within, ap length read.taken, length-append bytes left, ap length read.ended)
+
+pub lengths_stay : LengthsStay
+lengths_stay most input more after later bytes came read =
+    let over = beyond-length most input after came in
+    let under = within-length most (input ++ more) later bytes read in
+    absurd (omega (arith, over, under, length-append input more))

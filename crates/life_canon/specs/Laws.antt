@@ -1,5 +1,7 @@
 -- The laws of files, of canonical texts and of canonical files.
-use Rattle.std.specs.Prelude.{◌≡◌, ◌↔◌, ℕ, ◌≤◌, true, List}
+use Rattle.std.specs.Prelude.{◌≡◌, ◌↔◌, ℕ, ◌≤◌, true, List, ◌++◌, length, take, Option, Some}
+use Rattle.life_base.specs.Inputs.{ReadAll, CameBeyond}
+use Rattle.life_base.specs.Lines.{whole_lines}
 use Rattle.life_base.specs.declared.fault.Fault.{Fault}
 use Rattle.life_mc.specs.Macrocell.{Macrocell}
 use Rattle.life_mc.specs.Cells.{node_lines}
@@ -7,10 +9,10 @@ use Rattle.life_mc.specs.Reading.{AreMacrocell, IsMacrocell}
 use Rattle.life_rle.specs.Pattern.{Rle}
 use Rattle.life_rle.specs.Grammar.{IsRle}
 use Rattle.life_canon.specs.Universe.{Universe, IsSame, IsBlankOutside, IsOnPlane, macrocell_universe}
-use Rattle.life_canon.specs.Files.{Says, Reads, Same, RefusesLines, is_file_kind}
+use Rattle.life_canon.specs.Files.{Says, Reads, Same, Refuses, RefusesLines, is_file_kind}
 use Rattle.life_canon.specs.Listing.{canonical_file, canon_text}
 use Rattle.life_canon.specs.Least.{IsRival, IsLeast, HasPlaces}
-use Rattle.life_canon.specs.Feeding.{Fed, Stands}
+use Rattle.life_canon.specs.Feeding.{Fed, RefusesFront, Stands}
 use Rattle.life_canon.specs.Store.{Keeps, KeepsContents, IsRead, IsTrimmed, universe_in}
 use Rattle.life_canon.specs.declared.pattern.Pattern.{Pattern}
 use Rattle.life_quad.specs.Store.{Nodes}
@@ -103,3 +105,23 @@ PatternsTellFiles top =
 -- while each Id keeps its square, a reader stands in the store
 abbrev pub ReadersStand : Type 0
 ReadersStand = (old new : Nodes) (fed : Fed) → KeepsContents old new → Stands old fed → Stands new fed
+
+-- A fault that can be told of bytes is the fault of every longer input: it can be told of these bytes with any others behind them.
+abbrev pub FaultsStay : ℕ → Type 0
+FaultsStay top = (bytes more : List ℕ) (fault : Fault) → RefusesFront top bytes fault → RefusesFront top (bytes ++ more) fault
+
+-- An input of which more bytes came than may be read stays too long, whatever bytes follow: none that begins so is read to its end.
+abbrev pub LengthsStay : Type 0
+LengthsStay =
+    (most : ℕ) (input more : List ℕ) (after later : Option (List ℕ)) (bytes : List ℕ) → CameBeyond most (Some input) after
+    → ReadAll most (Some (input ++ more)) later bytes → ⊥
+
+-- What the first bytes of an input, as many as may be read, tell of its fault: a fault that can be told of them is the fault of the whole, and that
+-- of the whole, where its line ends in them, can be told of them.
+pub record IsToldWithin (top most : ℕ) (input : List ℕ) (fault : Fault) : Type 0 where
+  pub stays : RefusesFront top (take most input) fault → Refuses top input fault
+  pub told : (refuses : Refuses top input fault) → refuses.n ≤ length (whole_lines (take most input)) → RefusesFront top (take most input) fault
+
+-- the length of an input hides no fault of a line that ended before: its first bytes, as many as may be read, have that fault
+abbrev pub LengthHidesNoFault : ℕ → Type 0
+LengthHidesNoFault top = (most : ℕ) (input : List ℕ) (fault : Fault) → IsToldWithin top most input fault

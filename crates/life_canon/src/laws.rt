@@ -6,6 +6,7 @@ ghost use Rattle.life_canon.specs.Laws.{FormatsDiffer, FilesAreUnique, FilesAreO
 ghost use Rattle.life_canon.specs.Laws.{TextsTellUniverses, TextsTellPatterns, TextsAreFiles, TextsKeepPatterns, TextsAreFixed};
 ghost use Rattle.life_canon.specs.Laws.{CanonicalIsLeast, SquaresHavePlaces, WiderPlaneKeepsTexts, WiderPlanesKeepFiles};
 ghost use Rattle.life_canon.specs.Laws.{PatternsFit, PatternsStay, PatternsTellFiles, ReadersStand};
+ghost use Rattle.life_canon.specs.Laws.{FaultsStay, LengthsStay, LengthHidesNoFault};
 
 /// No lines are a file of both formats.
 pub fn formats_differ()
@@ -106,4 +107,20 @@ pub fn patterns_tell_files()
 /// While each Id keeps its square, a reader that was lent a store may be lent it again.
 pub fn readers_stand()
     ensures { ReadersStand }
+{}
+
+/// A fault that is told stays: what can be told of the front of an input is the fault of every longer input, whatever bytes follow.
+pub fn faults_stay()
+    ensures { FaultsStay MAX_LEVEL }
+{}
+
+/// What is too long stays too long: an input of which more bytes came than may be read is never read to its end with more bytes behind it.
+pub fn lengths_stay()
+    ensures { LengthsStay }
+{}
+
+/// The length of an input hides no fault: what can be told of its first bytes, as many as may be read, is the fault of the whole, and the fault
+/// of a line that ends in them can be told of them.
+pub fn length_hides_no_fault()
+    ensures { LengthHidesNoFault MAX_LEVEL }
 {}

@@ -55,8 +55,9 @@ impl Reader {
     ///
     /// # Errors
     ///
-    /// The fault of a line that ends in this piece, or `LineTooLong` where the line's byte 2^20 + 1 comes in it; `Full` or `Memory`.
-    /// After an error each later call answers `Spent`, and each Id of the store names the square that it named.
+    /// The fault of a line that ends in this piece, or `LineTooLong` where the line's byte 2^20 + 1 comes in it: either is the fault of
+    /// the whole file, whatever bytes follow (`laws::faults_stay`); `Full` or `Memory`. After an error each later call answers `Spent`, and
+    /// each Id of the store names the square that it named.
     pub fn feed(&mut self, store: &mut Shared, piece: &[u8]) -> Result<(), Fault>
         requires { self.old.spent ≡ false → Stands store.old self.old }
         ensures bytes { OnOk result (self.new.bytes ≡ self.old.bytes ++ piece.now) }

@@ -98,6 +98,9 @@ fn read_source<R: Source>(
 /// `ReadFault` where a read fails and `InputTooLong` where more than 2^30 bytes come, also behind a refused line; the fault of the file,
 /// once all of it was read; `Full` where the store holds its limit, and `Memory`, at once. After a fault too each Id of the store names the
 /// square that it named, and nothing stored is gone.
+///
+/// What is too long stays so with more bytes behind it (`laws::lengths_stay`), and hides no fault of a line that ended in its first 2^30
+/// bytes: they alone have that fault (`laws::length_hides_no_fault`), and `Reader`, which sets no limit, tells it.
 pub fn read_from<R: Source>(
     alloc: Global,
     store: &mut Shared,
