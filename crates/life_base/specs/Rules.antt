@@ -1,6 +1,6 @@
 -- Rule texts: what each text says, and the text of each rule. The B/S notation, and what its digits mean, are of Golly Help,
 -- QuickLife. The order of the tests, the kinds of fault, names and canonical texts are the project's own.
-use Rattle.std.specs.Prelude.{◌≡◌, ℕ, ◌+◌, ◌-◌, ◌/◌, ◌%◌, ◌^◌, ◌<◌, Bool, true, false, not, ◌&&◌, ◌||◌, List, [], ◌∷◌, ◌++◌, length, take, drop, map, filter, sum_by, nat_le, nat_lt, ◌==◌, if◌then◌else◌, bytes_eq, codes, is_some, Option, Some, None, Result, Ok, Err}
+use Rattle.std.specs.Prelude.{◌≡◌, ◌↔◌, ◌⊎◌, ℕ, ◌+◌, ◌-◌, ◌/◌, ◌%◌, ◌^◌, ◌<◌, Bool, true, false, not, ◌&&◌, ◌||◌, List, [], ◌∷◌, ◌++◌, length, take, drop, map, filter, sum_by, nat_le, nat_lt, ◌==◌, if◌then◌else◌, bytes_eq, codes, is_some, Option, Some, None, Result, Ok, Err}
 use Rattle.std.specs.Char.{is_ascii_graphic, to_ascii_uppercase}
 use Rattle.std.specs.List.{list_all, list_any, slice_split}
 use Rattle.std.specs.Str.{byte}
@@ -206,6 +206,13 @@ abbrev pub CountsEight : Rule → Type 0
 CountsEight (Life rule) = rule.near ≡ Moore
 CountsEight (Named name) = Unit {0}
 
--- a text that says a rule of the eight neighbours, or a name, where no other neighbours are known, says that rule
+-- What a text says now, and what it said where the eight neighbours were the only ones: the rules of the eight neighbours, and the names, are those of
+-- then; and a text that was refused is refused so now, but that of a von Neumann rule, which was an unsupported one.
+pub record MooreRuleStays (text : List ℕ) : Type 0 where
+  pub rules : (rule : Rule) → (moore_rule_of text ≡ Ok rule) ↔ ((rule_of text ≡ Ok rule) × CountsEight rule)
+  pub refusals : (kind : Kind) → moore_rule_of text ≡ Err kind
+      → (rule_of text ≡ Err kind) ⊎ ((kind ≡ kinds.UnsupportedRule) × (is_some (four_sets (trim text)) ≡ true))
+
+-- so of each text
 abbrev pub MooreRulesStay : Type 0
-MooreRulesStay = (text : List ℕ) (rule : Rule) → moore_rule_of text ≡ Ok rule → (rule_of text ≡ Ok rule) × CountsEight rule
+MooreRulesStay = (text : List ℕ) → MooreRuleStays text
