@@ -4,7 +4,7 @@ ghost use Rattle.std.specs.Prelude.{◌≡◌, ◌<◌, ◌^◌, ◌-◌, ◌≤
 ghost use Rattle.std.specs.Char.{is_ascii_digit};
 ghost use Rattle.std.specs.List.{list_all};
 ghost use Rattle.life_base.specs.Numbers.{number_up_to, u64_of, i64_of};
-ghost use Rattle.life_base.specs.Text.{trim, trim_start, trim_end, begins_with, is_blank, is_digit_text, is_whitespace};
+ghost use Rattle.life_base.specs.Text.{lines_of, numbered_from, trim, trim_start, trim_end, begins_with, is_blank, is_digit_text, is_whitespace};
 
 use crate::kind::Kind;
 use crate::line_iterator::Lines;
@@ -131,8 +131,7 @@ pub fn read_i64(text: &[u8]) -> Result<i64, Kind>
 
 /// The lines of an input, numbered from 1, each without its line feed.
 pub fn lines(bytes: &[u8]) -> Lines<'_>
-    ensures number { result.number ≡ 1 }
-    ensures rest { result.rest.now ≡ bytes.now }
+    ensures { result ≡ numbered_from 1 (lines_of bytes.now) }
 {
     Lines {
         rest: bytes,

@@ -32,7 +32,7 @@ returns-in-Err-clause-err c =
     let front : List (List ℕ) = c.loop-number.reader.lines in
     let line : List ℕ = c.in-Some.line.now in
     let fault : Fault = c.at.result in
-    let all : pairs ++ (c.in-Some.number, line) ∷ numbered_from c.next.new.self.number (lines_of c.next.new.self.rest.now) ≡ numbered_from 1 lines =
+    let all : pairs ++ (c.in-Some.number, line) ∷ c.next.new.self ≡ numbered_from 1 lines =
     ap (λ (t : List (ℕ × List ℕ)). pairs ++ t) (sym c.in-Some.ensures.steps) ∙ c.loop-number.invariant.all in
     let answer : OrMemory fault (Refuses MAX_LEVEL lines fault) = elim
     (at_line front line c.in-Some.number c.in-Err.kind fault c.at.ensures c.in-Err.ensures.fault) [

@@ -30,7 +30,7 @@ returns-in_err-take_numbered-clause-fault c =
     let fault : Fault = c.in_err-take_numbered.field-0.0 in
     let told : OrMemory fault (Breaks MAX_LEVEL front c.in-Some.line.now fault.kind × (fault.place.line ≡ c.in-Some.number))
     = c.in_err-take_numbered.ensures.fault in
-    let all : pairs ++ (c.in-Some.number, c.in-Some.line.now) ∷ numbered_from c.next.new.self.number (lines_of c.next.new.self.rest.now)
+    let all : pairs ++ (c.in-Some.number, c.in-Some.line.now) ∷ c.next.new.self
     ≡ numbered_from 1 lines =
     ap (λ (t : List (ℕ × List ℕ)). pairs ++ t) (sym c.in-Some.ensures.steps) ∙ c.loop-number.invariant.all in
     let answer : OrMemory fault (Refuses MAX_LEVEL lines fault) = elim told [
@@ -122,7 +122,7 @@ loop-number-preserved c =
     let one : List (ℕ × Bor (List ℕ)) = (c.in-Some.number, c.in-Some.line) ∷ [] in
     let line : List ℕ = c.in-Some.line.now in
     let here : List (ℕ × List ℕ) = (c.in-Some.number, line) ∷ [] in
-    let rest : List (ℕ × List ℕ) = numbered_from c.next.new.self.number (lines_of c.next.new.self.rest.now) in
+    let rest : List (ℕ × List ℕ) = c.next.new.self in
     let lines : List (List ℕ) = lines_of c.args.bytes.now in
     let old : List (List ℕ) = c.loop-number.reader.lines in
     let e = c.in_ok-take_numbered.ensures.lines in

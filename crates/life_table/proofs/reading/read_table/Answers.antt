@@ -31,7 +31,7 @@ returns-in_err-line-clause-err c =
     let directive : OrMemory fault
     ((parse_line c.loop-number.reader.parsed c.in-Some.number c.in-Some.line.now ≡ Err fault.kind) × (fault.place.line ≡ c.in-Some.number))
     = c.in_err-line.ensures.err in
-    let all : pairs ++ (c.in-Some.number, c.in-Some.line.now) ∷ numbered_from c.next.new.self.number (lines_of c.next.new.self.rest.now)
+    let all : pairs ++ (c.in-Some.number, c.in-Some.line.now) ∷ c.next.new.self
     ≡ numbered_from 1 (lines_of c.args.bytes.now) =
     ap (λ (t : List Numbered). pairs ++ t) (sym c.in-Some.ensures.steps) ∙ c.loop-number.invariant.all in
     let answer : OrMemory fault (Refuses (lines_of c.args.bytes.now) fault) = elim directive [
@@ -58,7 +58,7 @@ loop-number-preserved c =
     let lines : List (List ℕ) = lines_of c.args.bytes.now in
     let number : ℕ = c.in-Some.number in
     let line : List ℕ = c.in-Some.line.now in
-    let rest : List Numbered = numbered_from c.next.new.self.number (lines_of c.next.new.self.rest.now) in
+    let rest : List Numbered = c.next.new.self in
     let all : pairs ++ (number, line) ∷ rest ≡ numbered_from 1 lines = ap (λ (t : List Numbered). pairs ++ t) (sym c.in-Some.ensures.steps)
     ∙ c.loop-number.invariant.all in
     let more : map numbered (c.loop-number.yielded ++ (c.in-Some.number, c.in-Some.line) ∷ []) ≡ pairs ++ (number, line) ∷ [] =

@@ -9,7 +9,7 @@ numbered p = (p.0, p.1.now)
 
 abbrev pub invariant-loop-number : goal.invariant-loop-number
 invariant-loop-number l = record {
-  all : map numbered l.yielded ++ numbered_from l.number-iterator.number (lines_of l.number-iterator.rest.now) ≡ numbered_from 1 (lines_of l.bytes);
+  all : map numbered l.yielded ++ l.number-iterator ≡ numbered_from 1 (lines_of l.bytes);
   reads : Reads (map numbered l.yielded) l.reader.parsed l.reader.fits;
   next : l.next ≡ min (length (map numbered l.yielded) + 1) (2 ^ 64 - 1);
 }
