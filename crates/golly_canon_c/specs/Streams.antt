@@ -10,6 +10,11 @@ use Rattle.golly_canon_c.specs.Forms.{IsTextOf, RefusesTextOf, RefusesPiece}
 use Rattle.golly_canon_c.specs.declared.form.Form.{Form}
 use Rattle.golly_canon_c.specs.declared.session.Session.{Session}
 use Rattle.golly_canon_c.specs.declared.session.Session.TheVariants.{Reading, Written, Refused}
+use Rattle.golly_canon_c.specs.declared.stream.Stream.{Stream}
+
+-- the session of a stream, and none where it is closed
+abbrev pub session_of : Stream → Option Session
+session_of stream = stream.held.session
 
 -- the stream is open, and this holds of its session
 abbrev pub IsOpen : (Session → Type 0) → Option Session → Type 0

@@ -13,6 +13,7 @@ mod pieces;
 mod rooms;
 mod session;
 mod stepping;
+mod stream;
 mod streams;
 mod telling;
 mod texts;

@@ -1,75 +1,23 @@
 //! The calls on streams: a file in pieces, and one answer at its end.
 
-ghost use Rattle.std.specs.Prelude.{◌≡◌, ◌==◌, ◌++◌, ℕ, List, Some, None, MatchOption, IfSome, is_some};
+ghost use Rattle.std.specs.Prelude.{◌≡◌, ◌++◌, ℕ, List, None, IfSome};
 ghost use Rattle.life_base.specs.declared.fault.Fault.{Fault as FaultValue};
-ghost use Rattle.golly_canon_c.specs.Streams.{IsOpen, IsFed, HasText, HasFault, Opens, Takes, Ends, IsSpent, TellsPiece, TellsNothing, TellsEnd};
+ghost use Rattle.golly_canon_c.specs.Streams.{session_of, IsOpen, IsFed, HasText, HasFault, Opens, Takes, Ends, IsSpent, TellsPiece, TellsNothing, TellsEnd};
 ghost use Rattle.golly_canon_c.specs.declared.form.Form.{Form as FormValue};
 
 use crate::feeding::Feeding;
 use crate::form::Form;
-use crate::held::Held;
 use crate::pieces::{ended, fed};
 use crate::session::Session;
+use crate::stream::{Stream, put, take};
 use crate::telling::{give, refuse};
 use life_base::{Fault, Kind};
 use std::alloc::Global;
 use std::mem;
 
-/// What the caller holds. All bytes 0 make a closed one.
-#[repr(C)]
-pub struct Stream {
-    is_open: u32,
-    held: Held,
-    ghost ok: { is_some held.session ≡ (is_open == 1) },
-}
-
-impl Stream {
-    /// A closed stream.
-    fn closed() -> Stream
-        ensures { result.held.session ≡ None }
-    {
-        Stream {
-            is_open: 0,
-            held: Held::nothing(),
-        }
-    }
-
-    /// An open one.
-    fn of(session: Box<Session>) -> Stream
-        ensures { result.held.session ≡ Some session.value }
-    {
-        Stream {
-            is_open: 1,
-            held: Held::of(session),
-        }
-    }
-}
-
-/// Takes the session out of a stream, if it is open, which leaves it closed.
-fn take(alloc: Global, stream: &mut Stream) -> Option<Box<Session>>
-    ensures taken { MatchOption result (stream.old.held.session ≡ None) (λ session. stream.old.held.session ≡ Some session.value) }
-    ensures closed { stream.new.held.session ≡ None }
-{
-    let Stream { is_open, held } = mem::replace(stream, Stream::closed());
-    if is_open != 1 {
-        held.end();
-        return None;
-    }
-    Some(held.into_box(alloc))
-}
-
-/// Puts a session into a closed stream.
-fn put(stream: &mut Stream, session: Box<Session>)
-    requires { stream.old.held.session ≡ None }
-    ensures { stream.new.held.session ≡ Some session.value }
-{
-    let Stream { is_open: _, held } = mem::replace(stream, Stream::of(session));
-    held.end();
-}
-
 /// Opens a stream whose end gives a text of this form.
 fn open(alloc: Global, stream: &mut Stream, form: Form, limit: u64) -> u32
-    ensures { Opens form limit result stream.new.held.session }
+    ensures { Opens form limit result (session_of stream.new) }
 {
     golly_canon_close(alloc, stream);
     let feeding = Feeding::new(alloc, form, limit);
@@ -85,7 +33,7 @@ fn open(alloc: Global, stream: &mut Stream, form: Form, limit: u64) -> u32
 /// Opens a stream whose end gives the canonical text, and closes it first where it is open.
 #[unsafe(no_mangle)]
 pub extern "C" fn golly_canon_open_canon(alloc: Global, stream: &mut Stream, limit: u64) -> u32
-    ensures { Opens FormValue.Canonical limit result stream.new.held.session }
+    ensures { Opens FormValue.Canonical limit result (session_of stream.new) }
 {
     open(alloc, stream, Form::Canonical, limit)
 }
@@ -93,7 +41,7 @@ pub extern "C" fn golly_canon_open_canon(alloc: Global, stream: &mut Stream, lim
 /// Opens a stream whose end gives the pattern in extended RLE, and closes it first where it is open.
 #[unsafe(no_mangle)]
 pub extern "C" fn golly_canon_open_to_rle(alloc: Global, stream: &mut Stream, limit: u64) -> u32
-    ensures { Opens FormValue.Rle limit result stream.new.held.session }
+    ensures { Opens FormValue.Rle limit result (session_of stream.new) }
 {
     open(alloc, stream, Form::Rle, limit)
 }
@@ -101,7 +49,7 @@ pub extern "C" fn golly_canon_open_to_rle(alloc: Global, stream: &mut Stream, li
 /// Opens a stream whose end gives five lines on the pattern, and closes it first where it is open.
 #[unsafe(no_mangle)]
 pub extern "C" fn golly_canon_open_show(alloc: Global, stream: &mut Stream, limit: u64) -> u32
-    ensures { Opens FormValue.Lines limit result stream.new.held.session }
+    ensures { Opens FormValue.Lines limit result (session_of stream.new) }
 {
     open(alloc, stream, Form::Lines, limit)
 }
@@ -109,7 +57,7 @@ pub extern "C" fn golly_canon_open_show(alloc: Global, stream: &mut Stream, limi
 /// Opens a stream whose end gives the canonical text of the next generation under the file's B/S rule, and closes it first where it is open.
 #[unsafe(no_mangle)]
 pub extern "C" fn golly_canon_open_step(alloc: Global, stream: &mut Stream, limit: u64) -> u32
-    ensures { Opens FormValue.Next limit result stream.new.held.session }
+    ensures { Opens FormValue.Next limit result (session_of stream.new) }
 {
     open(alloc, stream, Form::Next, limit)
 }
@@ -165,11 +113,11 @@ pub extern "C" fn golly_canon_feed(
     piece: &[u8],
     line: &mut u64,
 ) -> u32
-    ensures closed { stream.old.held.session ≡ None → (stream.new.held.session ≡ None) × IsSpent result line.new }
-    ensures takes { (form : FormValue) (limit : ℕ) (bytes : List ℕ) → IsOpen (IsFed form limit bytes) stream.old.held.session → IsOpen (Takes form limit (bytes ++ piece.now)) stream.new.held.session }
-    ensures text { (text : List ℕ) → IsOpen (HasText text) stream.old.held.session → IsOpen (HasText text) stream.new.held.session }
-    ensures fault { (fault : FaultValue) → IsOpen (HasFault fault) stream.old.held.session → IsOpen (HasFault fault) stream.new.held.session }
-    ensures tells { IfSome stream.new.held.session (TellsPiece result line.new) }
+    ensures closed { session_of stream.old ≡ None → (session_of stream.new ≡ None) × IsSpent result line.new }
+    ensures takes { (form : FormValue) (limit : ℕ) (bytes : List ℕ) → IsOpen (IsFed form limit bytes) (session_of stream.old) → IsOpen (Takes form limit (bytes ++ piece.now)) (session_of stream.new) }
+    ensures text { (text : List ℕ) → IsOpen (HasText text) (session_of stream.old) → IsOpen (HasText text) (session_of stream.new) }
+    ensures fault { (fault : FaultValue) → IsOpen (HasFault fault) (session_of stream.old) → IsOpen (HasFault fault) (session_of stream.new) }
+    ensures tells { IfSome (session_of stream.new) (TellsPiece result line.new) }
 {
     let Some(mut session) = take(alloc, stream) else {
         return spent(line);
@@ -190,11 +138,11 @@ pub extern "C" fn golly_canon_finish(
     needed: &mut usize,
     line: &mut u64,
 ) -> u32
-    ensures closed { stream.old.held.session ≡ None → (stream.new.held.session ≡ None) × TellsNothing line.new (record { before = out.old; after = out.new; needed = needed.new; status = result }) }
-    ensures ends { (form : FormValue) (limit : ℕ) (bytes : List ℕ) → IsOpen (IsFed form limit bytes) stream.old.held.session → IsOpen (Ends form limit bytes) stream.new.held.session }
-    ensures text { (text : List ℕ) → IsOpen (HasText text) stream.old.held.session → IsOpen (HasText text) stream.new.held.session }
-    ensures fault { (fault : FaultValue) → IsOpen (HasFault fault) stream.old.held.session → IsOpen (HasFault fault) stream.new.held.session }
-    ensures tells { IfSome stream.new.held.session (TellsEnd line.new (record { before = out.old; after = out.new; needed = needed.new; status = result })) }
+    ensures closed { session_of stream.old ≡ None → (session_of stream.new ≡ None) × TellsNothing line.new (record { before = out.old; after = out.new; needed = needed.new; status = result }) }
+    ensures ends { (form : FormValue) (limit : ℕ) (bytes : List ℕ) → IsOpen (IsFed form limit bytes) (session_of stream.old) → IsOpen (Ends form limit bytes) (session_of stream.new) }
+    ensures text { (text : List ℕ) → IsOpen (HasText text) (session_of stream.old) → IsOpen (HasText text) (session_of stream.new) }
+    ensures fault { (fault : FaultValue) → IsOpen (HasFault fault) (session_of stream.old) → IsOpen (HasFault fault) (session_of stream.new) }
+    ensures tells { IfSome (session_of stream.new) (TellsEnd line.new (record { before = out.old; after = out.new; needed = needed.new; status = result })) }
 {
     let Some(mut session) = take(alloc, stream) else {
         *needed = 0;
@@ -210,7 +158,7 @@ pub extern "C" fn golly_canon_finish(
 /// Closes a stream.
 #[unsafe(no_mangle)]
 pub extern "C" fn golly_canon_close(alloc: Global, stream: &mut Stream)
-    ensures { stream.new.held.session ≡ None }
+    ensures { session_of stream.new ≡ None }
 {
     let _ = take(alloc, stream);
 }
