@@ -12,6 +12,9 @@ FOLDER has Golly's Patterns and Rules. Of each pattern there that the program ac
 - the macrocell that Golly makes of an RLE: the same cells one row further north;
 - the next generation by the rule or by the rule table, and Golly's: one pattern, but for its place.
 
+Of a rule table in a zip file it compares the last of these for each pattern beside it. A table that the program refuses as BadVariable is mended by the
+recipe of docs/QUESTIONS.md, and a line that is Ambiguous is split as it stands there.
+
 What it refuses of them is of another format, or its rule is of a kind that docs/FORMATS.md leaves out. The last line counts the checks.
 """
 
@@ -24,8 +27,10 @@ import re
 import subprocess
 import sys
 import tempfile
+import zipfile
 from concurrent.futures import ThreadPoolExecutor
 
+QUESTIONS = os.path.join(os.path.dirname(os.path.dirname(os.path.abspath(__file__))), "docs", "QUESTIONS.md")
 # The most cells of a pattern that is written as RLE or stepped.
 MOST_CELLS = 2**20
 LIFE = re.compile(r"B[0-8]*/S[0-8]*V?")
@@ -186,6 +191,72 @@ def rule_tables(folder):
     return found
 
 
+def zipped_tables(folder):
+    """The rule tables in zip files: the name of each, its text, and the patterns beside it."""
+    for at, _, names in sorted(os.walk(os.path.join(folder, "Patterns"))):
+        for name in sorted(it for it in names if it.endswith(".zip")):
+            with zipfile.ZipFile(os.path.join(at, name)) as it:
+                files = {name: it.read(name) for name in it.namelist()}
+            for name, data in files.items():
+                if name.endswith(".rule") and re.search(rb"^@TABLE\b", data, re.MULTILINE):
+                    yield os.path.basename(name).removesuffix(".rule"), data, [text for name, text in files.items() if name.endswith((".rle", ".mc"))]
+
+
+def mended(folder, table):
+    """The table with its variables mended by the recipe."""
+    with open(QUESTIONS, encoding="utf-8") as it:
+        recipe = re.search(r"<!-- recipe: variables -->\n```sh\n(.*?)\n```", it.read(), re.DOTALL)[1]
+    with open(os.path.join(folder, "Wind.rule"), "wb") as it:
+        it.write(table)
+    subprocess.run(["sh", "-c", recipe], cwd=folder, check=True)
+    with open(os.path.join(folder, "mended.rule"), "rb") as it:
+        return it.read()
+
+
+def split(table, number):
+    """The table with a line for each value of the output of this line, in the order of the variable's list."""
+    lines = table.split(b"\n")
+    entries = lines[number - 1].strip().split(b",")
+    states = re.search(rb"^var %s = \{([^}]*)\}" % re.escape(entries[-1]), table, re.MULTILINE)[1].split(b",")
+    lines[number - 1:number] = [b",".join(state if it == entries[-1] else it for it in entries) for state in states]
+    return b"\n".join(lines)
+
+
+class Zipped:
+    """The checks of a rule table in a zip file."""
+
+    def __init__(self, program, golly, folder):
+        self.program, self.golly, self.folder = program, golly, folder
+
+    def step(self, table, text):
+        path = os.path.join(self.folder, "given.rule")
+        with open(path, "wb") as it:
+            it.write(table)
+        return self.program.run("step", "--table", path, text=text)
+
+    def checks(self, rule, table, patterns):
+        with open(os.path.join(self.folder, f"{rule}.rule"), "wb") as it:
+            it.write(table)
+        blank = f"x = 0, y = 0, rule = {rule}\n!\n".encode()
+        run = self.step(table, blank)
+        yield "zipped table, refused as BadVariable" if run.stderr.endswith(b": BadVariable\n") else "zipped table"
+        if run.returncode:
+            table = mended(self.folder, table)
+            run = self.step(table, blank)
+            equal("the mended table", (run.returncode, run.stderr), (0, b""))
+        for text in patterns:
+            rle = self.program.answer("convert", "--to", "rle", text=text)
+            run = self.step(table, rle)
+            line = re.fullmatch(rb"table line (\d+): Ambiguous\n", run.stderr)
+            if line:
+                run = self.step(split(table, int(line[1])), rle)
+                yield "ambiguous line, split"
+            ours = self.program.answer("convert", "--to", "rle", text=run.stdout)
+            _, made = self.golly.made(rle, rule, "rle", generations=1)
+            equal("the next generation", placeless(ours), placeless(self.program.answer("convert", "--to", "rle", text=made)))
+            yield "step by a zipped table"
+
+
 def soup(rng, rule, states):
     """A random pattern of a rule as RLE, somewhere on the plane."""
     width, height, share = rng.randrange(1, 40), rng.randrange(1, 40), rng.choice([0.1, 0.3, 0.5])
@@ -248,6 +319,17 @@ class Judge:
         except (Difference, subprocess.TimeoutExpired) as error:
             return done, f"{name}: {error}"
 
+    def judged_zip(self, given):
+        """What was checked of a rule table in a zip file, and what is wrong, if anything."""
+        done = []
+        try:
+            with tempfile.TemporaryDirectory() as folder:
+                for check in Zipped(self.program, Golly(self.golly.path, folder), folder).checks(*given):
+                    done.append(check)
+            return done, None
+        except (Difference, subprocess.TimeoutExpired) as error:
+            return done, f"{given[0]} in a zip file: {error}"
+
 
 def main():
     words = argparse.ArgumentParser(description=__doc__.split("\n")[0])
@@ -262,7 +344,7 @@ def main():
     passed, failed, counts = 0, 0, collections.Counter()
     patterns = [*collection(given.folder), *random_patterns(tables, given.cases, given.seed)]
     with ThreadPoolExecutor(len(os.sched_getaffinity(0))) as pool:
-        for done, problem in pool.map(judge.judged, patterns):
+        for done, problem in (*pool.map(judge.judged, patterns), *pool.map(judge.judged_zip, zipped_tables(given.folder))):
             counts.update(done)
             passed += len(done)
             if problem:

@@ -1,7 +1,7 @@
 #!/bin/sh
-# Runs the recipes of README.md as they stand there, in sh and in bash, with the program, $1, on the PATH, in a folder of their own, and compares
-# what they come to with what is known of the patterns in examples/; and the examples and programs of README.md and docs/QUESTIONS.md, of which the
-# examples say themselves what is written. It needs git, GNU parallel, rsync and Python 3.
+# Runs the recipes of README.md and docs/QUESTIONS.md as they stand there, in sh and in bash, with the program, $1, on the PATH, in a folder of their
+# own, and compares what they come to with what is known of the patterns in examples/ and of tables; and the examples and programs of both, of which
+# the examples say themselves what is written. It needs git, GNU parallel, rsync and Python 3.
 
 program=${1:?usage: tests/recipes.sh PROGRAM}
 [ -x "$program" ] || { echo "there is no program $program"; exit 1; }
@@ -56,9 +56,9 @@ unnamed=$(awk -v folder="$folder/recipes" '
     /^```$/ { on = 0 }
     on { print > (folder "/" name) }
     /^```sh$/ { on = 1; split(last, words, " "); name = words[3] }
-    on && last !~ /^<!-- recipe: [a-z]+ -->$/ && /^```sh$/ { print " line " NR; name = "unnamed" }
-    { last = $0 }' "$top/README.md")
-verdict "each block of README.md has a name" "$unnamed"
+    on && last !~ /^<!-- recipe: [a-z]+ -->$/ && /^```sh$/ { print " line " FNR " of " FILENAME; name = "unnamed" }
+    { last = $0 }' "$top/README.md" "$top/docs/QUESTIONS.md")
+verdict "each block of README.md and docs/QUESTIONS.md has a name" "$unnamed"
 
 # Runs a recipe here, which must end well, and leaves what it wrote in `out` and `err`.
 recipe() { # NAME
@@ -75,6 +75,14 @@ wrote() { # TEXT
 
 equal() { # WHAT FOUND WANTED
     [ "$2" = "$3" ] || problems="$problems $1: '$2' and not '$3';"
+}
+
+# A program or a file of docs/QUESTIONS.md: the indented lines from one that has this text to the next paragraph.
+program_with() { # TEXT
+    awk -v text="$1" '
+        index($0, "    " text) == 1 { on = 1 }
+        on && /^[^ ]/ { exit }
+        on { print substr($0, 5) }' "$top/docs/QUESTIONS.md"
 }
 
 # ---- what is known: the glider's texts, and the same pattern in other spellings
@@ -165,7 +173,82 @@ x = 4, y = 4, rule = WireWorld
 .BA$C2.C$C2.C$.2C!'
     verdict "generations by a table, in $shell" "$problems"
 
+    table_recipes
     git_recipes
+}
+
+# What the pattern of a 2 and a 3, with a dead cell between them, is one step later, or why not.
+next_by() { # TABLE
+    golly_canon step between.rle --table "$1" > next.mc 2> told && golly_canon convert next.mc --to rle > told
+    tail -n 1 told
+}
+
+# The table of docs/QUESTIONS.md is refused, mended and split, and the order of its two lines counts: bgolly 3.3 gives a 2 by the table as it stands.
+# And a table with each form that the tables in Golly's zip files have, by lines of either end.
+table_recipes() {
+    printf 'x = 1, y = 3, rule = Wind\nB$$C!\n' > between.rle
+    wind='@RULE Wind
+@TABLE
+n_states:4
+neighborhood:vonNeumann
+symmetries:rotate4
+var a = {2,3}
+var b = {a}'
+    program_with '@RULE Wind' > Wind.rule
+    recipe variables
+    equal "the table as it stands" "$(next_by Wind.rule)" "table line 6: BadVariable"
+    equal "the mended table" "$(cat mended.rule)" "$wind
+0,a,0,b,0,a"
+    equal "the step by it" "$(next_by mended.rule)" "table line 8: Ambiguous"
+    verdict "a table with its variables mended, in $shell" "$problems"
+
+    recipe split
+    equal "the split table" "$(cat split.rule)" "$wind
+0,2,0,b,0,2
+0,3,0,b,0,3"
+    equal "the step by it" "$(next_by split.rule)" 'B$B$C!'
+    sed -e '8 { h; d }' -e '9 G' split.rule > turned.rule
+    equal "the step by the lines in the other order" "$(next_by turned.rule)" 'B$C$C!'
+    verdict "a table with its line split, in $shell" "$problems"
+
+    cat > forms <<'END'
+@RULE Wind
+@TABLE
+n_states:4
+neighborhood:Moore
+symmetries:none
+var a.0{0,1,2,3}
+var a.1=a.0
+	var	b {1, 2} # not = {a.0}
+var c = a.0
+var d = {3,b}
+var e= 1, b # two
+2,a.0,0,a.1,0,0,0,c,0,3
+3,d,0,0,0,0,0,e,0,1
+END
+    cat > wanted <<'END'
+@RULE Wind
+@TABLE
+n_states:4
+neighborhood:Moore
+symmetries:none
+var a.0 = {0,1,2,3}
+var a.1= {a.0}
+	var	b  = {1, 2} # not = {a.0}
+var c = {a.0}
+var d = {3,b}
+var e= {1, b} # two
+2,a.0,0,a.1,0,0,0,c,0,3
+3,d,0,0,0,0,0,e,0,1
+END
+    for ending in '' "$(printf '\r')"; do
+        sed "s/\$/$ending/" forms > Wind.rule
+        recipe variables
+        equal "the table as it stands" "$(next_by Wind.rule)" "table line 6: BadVariable"
+        equal "the mended table" "$(cat mended.rule)" "$(sed "s/\$/$ending/" wanted)"
+        equal "the step by it" "$(next_by mended.rule)" 'C2$C!'
+        verdict "each form of a variable, in $shell" "$problems"
+    done
 }
 
 # Behind a commit of two gliders: their other spellings are no difference, and a cell more is one of canonical texts.
@@ -236,14 +319,6 @@ for document in README.md docs/QUESTIONS.md; do
     done
     rm -r examples_of
 done
-
-# A program of docs/QUESTIONS.md: the indented lines from one that has this text to the next paragraph.
-program_with() { # TEXT
-    awk -v text="$1" '
-        index($0, "    " text) == 1 { on = 1 }
-        on && /^[^ ]/ { exit }
-        on { print substr($0, 5) }' "$top/docs/QUESTIONS.md"
-}
 
 # Keys that pass over the place and the direction: of a glider in two places, turned by a quarter, and reflected; and of another pattern.
 program_with '"""The key of what' > turned.py

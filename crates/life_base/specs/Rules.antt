@@ -46,8 +46,8 @@ marks text = map to_ascii_uppercase (filter (λ b. not (is_count_digit b)) text)
 abbrev pub sets : List ℕ → List ℕ → Option DigitSets
 sets births survivals = Some (record { births = digit_set births; survivals = digit_set survivals })
 
--- The five forms of a B/S rule, by the texts between its marks and by the marks: `B3/S23` and, survivals first, `23/3` (Golly
--- Help, QuickLife); `B3S23`, `S23/B3` and `S23B3` (the project's own). Each group of digits may be empty.
+-- The five forms of a B/S rule, by the texts between its marks and by the marks: `B3/S23` (Golly Help, QuickLife); `B3S23`,
+-- `S23/B3`, `S23B3` and, survivals first, `23/3` (the project's own). Each group of digits may be empty.
 abbrev pub life_form : List (List ℕ) → List ℕ → Option DigitSets
 life_form ([] ∷ first ∷ [] ∷ second ∷ []) marks =
     if bytes_eq marks (codes "B/S") then sets first second
@@ -62,8 +62,8 @@ life_form _ marks = None
 unfoldable pub life_sets : List ℕ → Option DigitSets
 life_sets text = life_form (digit_groups text) (marks text)
 
--- a B/S text followed by `V` for the von Neumann neighbourhood, or by `H` for the hexagonal one, in either case (Golly Help,
--- QuickLife)
+-- a B/S text followed by `V` for the von Neumann neighbourhood, or by `H` for the hexagonal one (Golly Help, QuickLife; the small
+-- letters, the project's own)
 abbrev pub names_other_neighbours : List ℕ → Bool
 names_other_neighbours text =
     is_some (life_sets (take (length text - 1) text))
@@ -76,7 +76,7 @@ up_to_four (Some sets) = if nat_lt sets.births 32 && nat_lt sets.survivals 32 th
 up_to_four None = None
 
 -- the births and survivals of a text of a von Neumann rule: `B`, births, `/S` or `S`, and survivals, with no digit above 4, and then `V`,
--- letters in either case (Golly Help, QuickLife; without the `/`, the project's own)
+-- letters in either case (Golly Help, QuickLife; without the `/`, and small letters, the project's own)
 unfoldable pub four_sets : List ℕ → Option DigitSets
 four_sets text =
     if bytes_eq (map to_ascii_uppercase (take 1 (take (length text - 1) text))) (codes "B")

@@ -1,4 +1,4 @@
--- The state of each cell of the plane in a macrocell file.
+-- The state of each cell of the plane in a macrocell file. The south-east quarter begins at (0, 0), which is the project's own (Golly Help: at (0, 1)).
 use Rattle.std.specs.Prelude.{ℕ, zero, suc, ◌-◌, ◌/◌, ◌%◌, ◌^◌, ◌&&◌, List, [], ◌∷◌, length, nat_lt, if◌then◌else◌, slice_index, Some, None, ℤ, pos, negsuc, ◌+ℤ◌}
 use Rattle.life_mc.specs.Macrocell.{Macrocell, level_of, numbered}
 use Rattle.life_mc.specs.declared.line.Line.{Line}

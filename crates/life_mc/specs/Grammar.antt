@@ -1,6 +1,6 @@
--- The macrocell format a second time and as a whole: what each line of a file is, without any word of how a fault is named.
--- Golly Help, "File Formats", states the header, `#R`, `#G` and both kinds of node line. This project's own are the limits of
--- lengths, levels and generations, the order of lines, that blank lines may stand anywhere, and that `#FRAME` is refused.
+-- The macrocell format a second time and as a whole: what each line of a file is, without any word of how a fault is named. Golly Help, File Formats,
+-- "Macrocell format", states the header and both kinds of node line. This project's own are limits, the order of lines, blank lines, no `#FRAME`, whitespace
+-- after `#R` and `#G` and about numbers, leaves and levels under any rule, how much of a leaf is written, a root of any size, and B3/S23 without `#R`.
 use Rattle.std.specs.Prelude.{◌≡◌, ◌↔◌, ℕ, ◌+◌, ◌^◌, ◌<◌, ◌≤◌, Bool, true, false, ◌&&◌, ◌||◌, List, [], ◌∷◌, ◌++◌, length, take, map, flat_map, filter_map, nat_le, ◌==◌, if◌then◌else◌, slice_index, codes, Option, Some, None, Ok}
 use Rattle.std.specs.List.{list_all, AllByRecursion, AllZip, slice_index_or}
 use Rattle.std.specs.Str.{byte}

@@ -1,5 +1,5 @@
--- Which lines are an RLE file, of which pattern, and which rule a line breaks. What `!` ends is of Golly Help (File Formats, Extended RLE format);
--- the limit of a line, which lines are data (those that begin with `x` and a letter too), the kinds and their order are the project's own.
+-- Which lines are an RLE file, of which pattern, and which rule a line breaks. What `!` ends, and which lines are data (those that begin with `x` and
+-- a letter too), is of Golly Help (File Formats, Extended RLE format); the limit of a line, the kinds and their order are the project's own.
 use Rattle.std.specs.Prelude.{◌≡◌, ℕ, ◌⊎◌, ◌||◌, Bool, List, [], ◌∷◌, ◌++◌, Option, Some, None, Result, Ok, Err, if◌then◌else◌, codes}
 use Rattle.life_base.specs.Kinds.{is_one_of, pattern_kinds}
 use Rattle.life_base.specs.declared.kind.Kind.{Kind}

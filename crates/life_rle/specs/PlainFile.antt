@@ -1,5 +1,5 @@
--- RLE files, said of whole texts: which lines are a file, and what each of them is put together from. What `!` ends, and what header lines and
--- items are, is of Golly Help (File Formats, Extended RLE format); the limit of a line, which lines are data, and the plane are the project's own.
+-- RLE files, said of whole texts: which lines are a file, and what each of them is put together from. What `!` ends, which lines are data, and what
+-- header lines and items are, is of Golly Help (File Formats, Extended RLE format); the limit of a line and the plane are the project's own.
 use Rattle.std.specs.Prelude.{◌≡◌, ◌↔◌, ◌⊎◌, ℕ, ◌≤◌, ◌^◌, true, false, List, [], ◌∷◌, ◌++◌, length, ℤ, pos, ◌+ℤ◌, ◌≤ℤ◌, ◌<ℤ◌, Some, None, Ok, codes}
 use Rattle.std.specs.Str.{byte}
 use Rattle.life_base.specs.declared.rule.Rule.{Rule}

@@ -1,5 +1,5 @@
 -- One generation of a pattern, and the text of the next one. A B/S rule is of Golly Help (QuickLife), a rule table of Golly Help (File
--- Formats, rule table).
+-- Formats, "@TABLE").
 use Rattle.std.specs.Prelude.{◌≡◌, ℕ, ◌+◌, List, ℤ, None}
 use Rattle.life_base.specs.declared.cell.TheConstants.{MAX_LEVEL}
 use Rattle.life_base.specs.Sets.{OuterTotalistic}

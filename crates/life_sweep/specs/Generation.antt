@@ -1,5 +1,5 @@
 -- The next state of every pair of whole numbers: under a B/S rule (Golly Help, QuickLife) and by a rule table (Golly Help, File Formats,
--- rule table). North is y - 1, east is x + 1. And the same by the states of a cell and its neighbours alone, which is what laws answer.
+-- "@TABLE"). North is y - 1, east is x + 1. And the same by the states of a cell and its neighbours alone, which is what laws answer.
 use Rattle.std.specs.Prelude.{◌≡◌, ◌↔◌, ℕ, ◌==◌, ◌&&◌, ◌||◌, if◌then◌else◌, ℤ, pos, negsuc, ◌+ℤ◌, List, [], ◌∷◌, drop, slice_index}
 use Rattle.life_base.specs.Sets.{DigitSets, OuterTotalistic}
 use Rattle.life_base.specs.Rules.{has_digit}

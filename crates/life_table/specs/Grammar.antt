@@ -1,6 +1,6 @@
 -- The file of a rule table a second time: what each line is behind the lines before it, without any word of how a fault is named.
--- Golly Help, "RuleTable", states the table line, the descriptors, the variables and the transitions. This project's own are the
--- limit of lengths, the order of lines, that each setting is given once and each name is new, and that cells of state 0 stay 0.
+-- Golly Help, File Formats, "@RULE" and "@TABLE", states the rule line, the table line, descriptors, variables and transitions. This project's own are limits,
+-- lines before the rule line, a table after a tree, `neighbourhood`, most symmetries, entries without commas anywhere, new names, and that 0 stays 0.
 use Rattle.std.specs.Prelude.{◌≡◌, ◌↔◌, ◌⊎◌, ◌≢◌, ℕ, ◌+◌, ◌-◌, ◌^◌, ◌≤◌, min, true, false, List, [], ◌∷◌, ◌++◌, length, codes, Some, None}
 use Rattle.std.specs.List.{AllZip}
 use Rattle.life_base.specs.Text.{is_digit_text, value_of}
