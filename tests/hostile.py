@@ -872,11 +872,11 @@ ASKED = [
 ]
 
 
-# ---- keys chosen against the set's hasher
+# ---- keys chosen against a hasher without secret words, which `indexmap` uses where it is given none (tests/crowds.py tries larger ones, and others)
 
 WORD = (1 << 64) - 1
 MULTIPLIER = 0x9E37_79B9_7F4A_7C15
-SEED = 0x243F_6A88_85A3_08D3  # it is fixed, so that whoever knows it can choose keys
+SEED = 0x243F_6A88_85A3_08D3  # it is fixed, so that whoever knows it can choose keys for such a hasher
 
 
 def folded(state, number, size):
@@ -925,7 +925,7 @@ def crowded_names(count, bits):
                     return
 
 
-# Whether they crowd is seen from the lines of the file, by what the set is given of each, written a second time.
+# That they would crowd is seen from the lines of the file, by what the hasher is given of each, written a second time.
 
 
 def written(*words):
@@ -1036,9 +1036,9 @@ def plain_names():
 
 
 CHOSEN_KEYS = [
-    accepted("73,000 squares that crowd in the set", [b"[M2]\n#R Foo\n", crowd_of_squares], [canonical(b"Foo"), last_of_the_crowd], each=6,
+    accepted("73,000 squares that crowd in the set", [b"[M2]\n#R Foo\n", crowd_of_squares], [canonical(b"Foo"), last_of_the_crowd],
              control=crowds(crowd_of_squares, hash_of_square)),
-    by_table("36,000 names that crowd in the map", table(b"none", crowd_of_names), BLANK, canonical(b"Foo", 1), each=6, times=20,
+    by_table("36,000 names that crowd in the map", table(b"none", crowd_of_names), BLANK, canonical(b"Foo", 1), times=20,
              control=crowds(crowd_of_names, hash_of_name)),
 ]
 
