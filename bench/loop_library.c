@@ -9,7 +9,7 @@ int main(int count, char **words) {
     size_t length = source ? fread(file, 1, sizeof file, source) : 0, needed, bytes = 0;
     uint64_t line;
     for (long turns = source ? atol(words[2]) : 0; turns; turns--) {
-        if (golly_canon_canon(file, length, GOLLY_CANON_SQUARES, text, sizeof text, &needed, &line) != GOLLY_CANON_OK) return 1;
+        if (golly_canon_canon(file, length, GOLLY_CANON_SQUARES, 0, text, sizeof text, &needed, &line) != GOLLY_CANON_OK) return 1;
         bytes += needed;
     }
     printf("%zu bytes\n", bytes);

@@ -5,11 +5,12 @@ import ctypes
 import gzip
 import hashlib
 import pathlib
+import secrets
 import sys
 import zlib
 
-library = ctypes.CDLL("libgolly_canon.so.0")
-SQUARES = ctypes.c_uint64(1 << 31)
+library = ctypes.CDLL("libgolly_canon.so.1")
+STORE = ctypes.c_uint64(1 << 31), ctypes.c_uint64(secrets.randbits(64))  # at most so many squares, and a seed
 NO_ROOM = 64
 
 
@@ -36,7 +37,7 @@ def finished(stream, text, needed, line):
 def text_of(stream, file):
     """The canonical text of an open file, which is read in pieces."""
     needed, line = ctypes.c_size_t(), ctypes.c_uint64()
-    status = library.golly_canon_open_canon(stream, SQUARES)
+    status = library.golly_canon_open_canon(stream, *STORE)
     while not status and (piece := file.read(1 << 16)):
         status = library.golly_canon_feed(stream, piece, ctypes.c_size_t(len(piece)), ctypes.byref(line))
     if not status:

@@ -2,6 +2,7 @@
 #include <golly_canon.h>
 #include <stdio.h>
 #include <stdlib.h>
+#include <sys/random.h>
 
 int main(void)
 {
@@ -9,8 +10,10 @@ int main(void)
     unsigned char *text = NULL;
     golly_canon_stream stream = {0};
     size_t length, needed;
-    uint64_t line = 0;
-    uint32_t status = golly_canon_open_canon(&stream, GOLLY_CANON_SQUARES);
+    uint64_t line = 0, seed;
+    if (getentropy(&seed, sizeof seed)) /* so that no file can be made that takes long to read */
+        return fputs("there is no random number\n", stderr), 3;
+    uint32_t status = golly_canon_open_canon(&stream, GOLLY_CANON_SQUARES, seed);
     while (status == GOLLY_CANON_OK && (length = fread(piece, 1, sizeof piece, stdin)) > 0)
         status = golly_canon_feed(&stream, piece, length, &line);
     if (ferror(stdin))

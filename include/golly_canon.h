@@ -7,8 +7,8 @@
  *
  *     static unsigned char text[4096];
  *     size_t needed;
- *     uint64_t line;
- *     uint32_t status = golly_canon_canon(bytes, length, GOLLY_CANON_SQUARES, text, sizeof text, &needed, &line);
+ *     uint64_t line, seed = 0;
+ *     uint32_t status = golly_canon_canon(bytes, length, GOLLY_CANON_SQUARES, seed, text, sizeof text, &needed, &line);
  *
  * Each call that gives bytes writes them into `room` bytes of memory at `out`, and their number into `*needed`:
  *
@@ -103,28 +103,33 @@ enum {
 
 /* `limit`, of each call: how many different squares the store of the call may hold, those on the way to the answer too. A call that comes to
  * more is refused as Full. A limit above 2^62 counts as 2^62; but beyond some 2^32 squares the answer is Memory, whatever the limit. As measured, a
- * square takes 32 to 39 bytes of the store, or less where it has at most 4 x 4 cells of the states 0 and 1. */
+ * square takes 32 to 39 bytes of the store, or less where it has at most 4 x 4 cells of the states 0 and 1.
+ *
+ * `seed`, of each call: a number by which the call finds its squares, and the names of its table. What a call answers never depends on it. Where
+ * strangers write the files, hand in a random number (as by getentropy, arc4random_buf or Python's secrets.randbits(64)) that they can't know, one for
+ * each call or one for the whole program. Else a file can be made for the number whose squares crowd, so that it takes a time that grows quadratically:
+ * some ten seconds for 2 MB. 0 is a number like any other, which everybody knows: it serves for files that nobody made against it. */
 
 /* The canonical text of the pattern of a file. Two files have one text exactly if they are one pattern.
  * The caller guarantees: `length` bytes to read at `bytes`; `room` bytes to write at `out`, `*needed` and `*line`, apart from each other and
  * from those. */
-uint32_t golly_canon_canon(const unsigned char *bytes, size_t length, uint64_t limit,
+uint32_t golly_canon_canon(const unsigned char *bytes, size_t length, uint64_t limit, uint64_t seed,
                            unsigned char *out, size_t room, size_t *needed, uint64_t *line);
 
 /* The pattern of a file in extended RLE; TooManyCells where more than 2^20 cells aren't 0.
  * The caller guarantees what golly_canon_canon names. */
-uint32_t golly_canon_to_rle(const unsigned char *bytes, size_t length, uint64_t limit,
+uint32_t golly_canon_to_rle(const unsigned char *bytes, size_t length, uint64_t limit, uint64_t seed,
                             unsigned char *out, size_t room, size_t *needed, uint64_t *line);
 
 /* Five lines on the pattern of a file: rule, generation, population, least box, and squares of the canonical text.
  * The caller guarantees what golly_canon_canon names. */
-uint32_t golly_canon_show(const unsigned char *bytes, size_t length, uint64_t limit,
+uint32_t golly_canon_show(const unsigned char *bytes, size_t length, uint64_t limit, uint64_t seed,
                           unsigned char *out, size_t room, size_t *needed, uint64_t *line);
 
 /* The canonical text of the next generation of the pattern of a file, under its B/S rule; NeedsTable where the rule is a name, TooManyCells where
  * more than 2^20 cells aren't 0 (docs/FORMATS.md of the project has every refusal of a step, and their order).
  * The caller guarantees what golly_canon_canon names. */
-uint32_t golly_canon_step(const unsigned char *bytes, size_t length, uint64_t limit,
+uint32_t golly_canon_step(const unsigned char *bytes, size_t length, uint64_t limit, uint64_t seed,
                           unsigned char *out, size_t room, size_t *needed, uint64_t *line);
 
 /* The same of a pattern under a name, by the rule table of that name: `table` is a .rule file; RuleMismatch under any other rule, a B/S rule too.
@@ -132,7 +137,7 @@ uint32_t golly_canon_step(const unsigned char *bytes, size_t length, uint64_t li
  * the table too, which was itself accepted.
  * The caller guarantees what golly_canon_canon names; `table_length` bytes to read at `table`; `*in_table` to write, apart from all else. */
 uint32_t golly_canon_step_by_table(const unsigned char *bytes, size_t length,
-                                   const unsigned char *table, size_t table_length, uint64_t limit,
+                                   const unsigned char *table, size_t table_length, uint64_t limit, uint64_t seed,
                                    unsigned char *out, size_t room, size_t *needed, uint64_t *line,
                                    uint32_t *in_table);
 
@@ -141,13 +146,13 @@ uint32_t golly_canon_step_by_table(const unsigned char *bytes, size_t length,
  * The caller guarantees: `first_length` bytes to read at `first`, and `second_length` at `second`, which may be the same memory; `*is_same`
  * and `*line` to write, apart from each other and from those. */
 uint32_t golly_canon_same(const unsigned char *first, size_t first_length,
-                          const unsigned char *second, size_t second_length, uint64_t limit,
+                          const unsigned char *second, size_t second_length, uint64_t limit, uint64_t seed,
                           uint32_t *is_same, uint64_t *line);
 
 /* A stream reads a file that comes in pieces, cut anywhere: open it, feed it each piece in turn, finish it, close it. The file need not be held.
  *
  *     golly_canon_stream stream = {0};
- *     uint32_t status = golly_canon_open_canon(&stream, GOLLY_CANON_SQUARES);
+ *     uint32_t status = golly_canon_open_canon(&stream, GOLLY_CANON_SQUARES, seed);
  *     while (status == GOLLY_CANON_OK && (length = fread(piece, 1, sizeof piece, file)) > 0)
  *         status = golly_canon_feed(&stream, piece, length, &line);
  *     if (status == GOLLY_CANON_OK)
@@ -165,13 +170,13 @@ typedef struct golly_canon_stream {
 } golly_canon_stream;
 
 /* Opens a stream for a file that begins. One that is open is closed first. The name says what golly_canon_finish gives: what golly_canon_canon,
- * golly_canon_to_rle, golly_canon_show or golly_canon_step gives of a whole file, with this `limit`. The status is OK, or Memory, and then the stream
- * is closed.
+ * golly_canon_to_rle, golly_canon_show or golly_canon_step gives of a whole file, with this `limit` and `seed`. The status is OK, or Memory, and then
+ * the stream is closed.
  * The caller guarantees what is said of `stream`. */
-uint32_t golly_canon_open_canon(golly_canon_stream *stream, uint64_t limit);
-uint32_t golly_canon_open_to_rle(golly_canon_stream *stream, uint64_t limit);
-uint32_t golly_canon_open_show(golly_canon_stream *stream, uint64_t limit);
-uint32_t golly_canon_open_step(golly_canon_stream *stream, uint64_t limit);
+uint32_t golly_canon_open_canon(golly_canon_stream *stream, uint64_t limit, uint64_t seed);
+uint32_t golly_canon_open_to_rle(golly_canon_stream *stream, uint64_t limit, uint64_t seed);
+uint32_t golly_canon_open_show(golly_canon_stream *stream, uint64_t limit, uint64_t seed);
+uint32_t golly_canon_open_step(golly_canon_stream *stream, uint64_t limit, uint64_t seed);
 
 /* Takes the next piece of the file, of any length, also 0. The status is OK, or the number of a kind of fault, with its line of the file in `*line`,
  * or 0. The fault of a line is told by the call that brings the line feed behind it, or the byte that makes the line too long. A stream that has told
@@ -196,7 +201,7 @@ void golly_canon_close(golly_canon_stream *stream);
  * The caller guarantees: `room` bytes to write at `out`, and `*needed`, apart from each other. */
 uint32_t golly_canon_status_name(uint32_t status, unsigned char *out, size_t room, size_t *needed);
 
-/* The version of the library, which is that of the program, as `0.1.0`.
+/* The version of the library, which is that of the program, as `0.2.0`. In 0.2 the calls with a `limit` take a `seed` behind it.
  * The caller guarantees: `room` bytes to write at `out`, and `*needed`, apart from each other. */
 uint32_t golly_canon_version(unsigned char *out, size_t room, size_t *needed);
 

@@ -1,7 +1,8 @@
 #!/usr/bin/env python3
 """Lets each call of the system that the built program, PROGRAM, makes on a device fail in turn: each read, also the one behind the last byte, each
-write, behind every front of the text, each opening, each look at a length, and each closing. A call that fails is told by its status and its line,
-what was written is a front of the text, and no file is touched. FAIL is tests/fail_calls.c, built. The last line is 'N passed, M failed'.
+write, behind every front of the text, each opening, each look at a length, each closing, and each draw of random bytes. A call that fails is told by
+its status and its line, what was written is a front of the text, and no file is touched. FAIL is tests/fail_calls.c, built. The last line is 'N
+passed, M failed'.
 
 usage: tests/devices.py PROGRAM FAIL
 """
@@ -105,6 +106,11 @@ def is_open_fault(found, failing, answer):
     return found == (answer if failing.first <= HELD or failing.error == errno.EINTR else READ_FAULT)
 
 
+def is_told_alone(found, _failing, _answer):
+    """Without random bytes nothing is read."""
+    return found == READ_FAULT
+
+
 def is_as_ever(found, _failing, answer):
     """The program does without what the call would have told."""
     return found == answer
@@ -118,6 +124,7 @@ CALLS = [
     ("open", (errno.EACCES, errno.EMFILE, errno.EINTR), (0,), (False,), is_open_fault),
     ("statx", (errno.EIO,), (0,), (False, True), is_as_ever),
     ("close", (errno.EIO, errno.EINTR), (0,), (False, True), is_as_ever),
+    ("getentropy", (errno.ENOSYS, errno.EIO), (0,), (False, True), is_told_alone),
 ]
 
 
@@ -147,7 +154,7 @@ def main(program, fail):
         rows = [(job, call, errors, piece, more, is_right) for call, errors, pieces, more, is_right in CALLS for job in JOBS for piece in pieces]
         for row, (total, problems) in zip(rows, pool.map(lambda it: problems_of(runs, *it), rows)):
             (words, _, _), call, _, piece, _, _ = row
-            if total == 0 and call in ("read", "write", "open"):
+            if total == 0 and call in ("read", "write", "open", "getentropy"):
                 problems = [*problems, "no call was seen"]
             name = f"{words}: each of {total} calls of {call}" + (f" in pieces of {piece}" if piece else "")
             passed, failed = passed + (not problems), failed + bool(problems)

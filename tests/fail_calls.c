@@ -1,5 +1,5 @@
 /* Loaded into a program before the C library (LD_PRELOAD), lets some of its calls of the system fail: those of the function that the variable
-   CALL names (read, write, open, statx or close), whose numbers, counted from 1, go from the variable FIRST to the variable LAST. They fail with
+   CALL names (read, write, open, statx, close or getentropy), whose numbers, counted from 1, go from the variable FIRST to the variable LAST. They fail with
    the error of the number ERROR; where that is 0, a read or a write moves no byte and doesn't fail. A read or a write that isn't among them moves
    as many bytes as the variable PIECE says at most, or any number where that is 0. At the end it writes, into the file that the variable REPORT
    names, how many of these calls there were and how many of them failed. */
@@ -107,4 +107,10 @@ int close(int file)
 {
     NEXT(close);
     return fails("close") ? -1 : next(file);
+}
+
+int getentropy(void *bytes, size_t size)
+{
+    NEXT(getentropy);
+    return fails("getentropy") ? -1 : next(bytes, size);
 }

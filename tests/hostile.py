@@ -872,11 +872,11 @@ ASKED = [
 ]
 
 
-# ---- keys chosen against the set's hasher
+# ---- keys chosen against a hasher without secret words, which `indexmap` uses where it is given none (tests/crowds.py tries larger ones, and others)
 
 WORD = (1 << 64) - 1
 MULTIPLIER = 0x9E37_79B9_7F4A_7C15
-SEED = 0x243F_6A88_85A3_08D3  # it is fixed, so that whoever knows it can choose keys
+SEED = 0x243F_6A88_85A3_08D3  # it is fixed, so that whoever knows it can choose keys for such a hasher
 
 
 def folded(state, number, size):
@@ -893,14 +893,18 @@ def hashed_byte(state, byte):
     return folded(state, byte * 0x10101, 1)
 
 
+def kept(state):
+    """What a table keeps of a hash."""
+    return (state ^ state >> 32) & 0xFFFF_FFFF
+
+
 def crowded_squares(count, bits):
     """Different squares of four states whose hash lacks these bits. The bits are the highest four of those that tell a key's place in the table, so
     that all have their places in a sixteenth of it. A key that finds no room there goes on to the next place, and a new one passes all of them."""
     for triple in itertools.product(range(2, 256), repeat=3):
-        state = functools.reduce(hashed_id, triple, hashed_byte(SEED, 1))
+        state = functools.reduce(hashed_id, triple, SEED)
         for last in range(2, 256):
-            found = hashed_id(state, last)
-            if (found ^ found >> 32) & bits == 0:
+            if kept(hashed_id(state, last)) & bits == 0:
                 yield (*triple, last)
                 count -= 1
                 if count == 0:
@@ -914,12 +918,65 @@ def crowded_names(count, bits):
     for front in itertools.product(letters, repeat=8):
         state = functools.reduce(hashed_byte, front, start)
         for last in letters:
-            found = hashed_byte(state, last)
-            if (found ^ found >> 32) & bits == 0:
+            if kept(hashed_byte(state, last)) & bits == 0:
                 yield bytes((*front, last))
                 count -= 1
                 if count == 0:
                     return
+
+
+# That they would crowd is seen from the lines of the file, by what the hasher is given of each, written a second time.
+
+
+def written(*words):
+    """The hash of numbers that are written one after another, each with its size in bytes."""
+    state = SEED
+    for number, size in words:
+        bytes_of = number.to_bytes(size, "little")
+        first, middle, last = bytes_of[0], bytes_of[size // 2], bytes_of[-1]
+        short = first | middle << 8 | last << 16
+        long = int.from_bytes(bytes_of[:4], "little") | int.from_bytes(bytes_of[-4:], "little") << 32
+        state = folded(state, long if size >= 4 else short, size)
+    return kept(state)
+
+
+def hash_of_square(line):
+    """That of a node, which is four numbers of 32 bits, by its line."""
+    return written(*((int(quarter), 4) for quarter in line.split()[1:]))
+
+
+def hash_of_name(line):
+    """That of a name, which is a number of bytes and the bytes, by the line of its variable."""
+    name = line.split(b"=")[0].split()[1]
+    return written((len(name), 8), *((byte, 1) for byte in name))
+
+
+GROUP, LOAD = 12, 9  # how many keys a group of a table holds, and how many it has on average at most
+
+
+def passed(hashes):
+    """How many groups of a table a key passes on average before the one where it has room, in the order in which they come."""
+    count = 1
+    while LOAD * count < len(hashes):
+        count *= 2
+    held, onward, steps = [0] * count, list(range(count)), 0
+    for found in hashes:
+        at = start = found % count
+        while onward[at] != at:
+            onward[at] = at = onward[onward[at]]
+        steps += (at - start) % count
+        held[at] += 1
+        if held[at] == GROUP:
+            onward[at] = (at + 1) % count
+    return steps / len(hashes)
+
+
+def crowds(lines, hash_of):
+    """The control of a case whose keys are to crowd: those of as many random hashes pass less than one group."""
+    def problems():
+        steps = passed([hash_of(line) for line in b"".join(lines()).splitlines()])
+        return [] if steps > 500 else [f"its keys pass {steps:.1f} groups each, and so don't crowd"]
+    return problems
 
 
 # ---- rule tables
@@ -960,13 +1017,18 @@ FIFTY, FIFTY_STEPPED = states_in_nodes(fifty), states_in_nodes(fifty, 1)
 UNION = [b"var a={%s}\n" % ALL_STATES, (b"var b={" + b"a," * 500_000 + b"a}\n", 1)]
 
 
-@functools.cache
+@once
 def crowd_of_squares():
-    return list(crowded_squares(73_000, 0x1E00))
+    return gathered(b"1 %d %d %d %d\n" % it for it in crowded_squares(73_000, 0x1E00))
 
 
+@once
 def crowd_of_names():
-    return crowded_names(36_000, 0x0F00)
+    return gathered(b"var %s={0}\n" % name for name in crowded_names(36_000, 0x0F00))
+
+
+def last_of_the_crowd():
+    yield b"".join(crowd_of_squares()).splitlines(keepends=True)[-1]
 
 
 def plain_names():
@@ -974,9 +1036,10 @@ def plain_names():
 
 
 CHOSEN_KEYS = [
-    accepted("73,000 squares that crowd in the set", [b"[M2]\n#R Foo\n", lambda: gathered(b"1 %d %d %d %d\n" % it for it in crowd_of_squares())],
-             [canonical(b"Foo"), lambda: [b"1 %d %d %d %d\n" % crowd_of_squares()[-1]]], each=6),
-    by_table("36,000 names that crowd in the map", table(b"none", variables(crowd_of_names)), BLANK, canonical(b"Foo", 1), each=6, times=20),
+    accepted("73,000 squares that crowd in the set", [b"[M2]\n#R Foo\n", crowd_of_squares], [canonical(b"Foo"), last_of_the_crowd],
+             control=crowds(crowd_of_squares, hash_of_square)),
+    by_table("36,000 names that crowd in the map", table(b"none", crowd_of_names), BLANK, canonical(b"Foo", 1), times=20,
+             control=crowds(crowd_of_names, hash_of_name)),
 ]
 
 TABLES = [

@@ -2,6 +2,7 @@
 
 import ctypes
 import os
+import random
 
 from independent import commands
 
@@ -9,6 +10,7 @@ from independent import commands
 OUTPUT, ERRORS = "standard-output", "standard-error"
 WRITTEN = os.O_WRONLY | os.O_CREAT | os.O_TRUNC
 SQUARES = 1 << 31
+SEEDS = random.Random(17)  # no answer depends on the seed, so each call has another
 # The statuses of the library that the program has too, by another number, and that of a text without room.
 SAME, DIFFERENT, REFUSED, WANTS = 0, 1, 2, 4
 FULL, MEMORY, AMBIGUOUS, NO_ROOM = 21, 22, 43, 64
@@ -37,6 +39,11 @@ class Program:
 def contents(name):
     with open(name, "rb") as it:
         return it.read()
+
+
+def store():
+    """The limit of a call's store, and a seed."""
+    return ctypes.c_uint64(SQUARES), ctypes.c_uint64(SEEDS.getrandbits(64))
 
 
 class Stream(ctypes.Structure):
@@ -88,12 +95,12 @@ class Library:
 
     def by_call(self, name, data):
         call = getattr(self.calls, f"golly_canon_{name}")
-        return self.asked(lambda *out: call(data, ctypes.c_size_t(len(data)), ctypes.c_uint64(SQUARES), *out))
+        return self.asked(lambda *out: call(data, ctypes.c_size_t(len(data)), *store(), *out))
 
     def by_stream(self, name, data):
         """The same with the file in some eight pieces. A refused piece ends it, as the stream tells the fault again at its end."""
         stream = Stream()
-        status = getattr(self.calls, f"golly_canon_open_{name}")(ctypes.byref(stream), ctypes.c_uint64(SQUARES))
+        status = getattr(self.calls, f"golly_canon_open_{name}")(ctypes.byref(stream), *store())
         size = len(data) // 8 + 1
         for at in range(0, len(data), size):
             piece = data[at: at + size]
@@ -106,12 +113,12 @@ class Library:
     def by_table(self, data, table):
         call = self.calls.golly_canon_step_by_table
         lengths = ctypes.c_size_t(len(data)), ctypes.c_size_t(len(table))
-        return self.asked(lambda *out: call(data, lengths[0], table, lengths[1], ctypes.c_uint64(SQUARES), *out, ctypes.byref(self.flag)))
+        return self.asked(lambda *out: call(data, lengths[0], table, lengths[1], *store(), *out, ctypes.byref(self.flag)))
 
     def compared(self, one, other):
         sizes = ctypes.c_size_t(len(one)), ctypes.c_size_t(len(other))
         answered = ctypes.byref(self.flag), ctypes.byref(self.line)
-        status = self.calls.golly_canon_same(one, sizes[0], other, sizes[1], ctypes.c_uint64(SQUARES), *answered)
+        status = self.calls.golly_canon_same(one, sizes[0], other, sizes[1], *store(), *answered)
         if status:
             return self.refusal(status, False)
         return commands.Answer(SAME, b"same\n") if self.flag.value else commands.Answer(DIFFERENT, b"different\n")

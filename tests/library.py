@@ -15,9 +15,10 @@ import threading
 from fuzz import small_files
 from independent import commands
 
-library = ctypes.CDLL("libgolly_canon.so.0")
+library = ctypes.CDLL("libgolly_canon.so.1")
 library.golly_canon_close.restype = None
 SQUARES = 1 << 31
+SEEDS = random.Random(23)  # no answer depends on the seed, so each call has another
 LINE_TOO_LONG = 20
 FULL = 21
 SPENT = 23
@@ -80,7 +81,7 @@ def text_of(call, file, limit=SQUARES, room=64):
     """Returns the text that a call gives, and what it tells where it refuses."""
     out, needed, line = ctypes.create_string_buffer(b"\xaa" * room, room), ctypes.c_size_t(7), ctypes.c_uint64(7)
     numbers = ctypes.c_size_t(room), ctypes.byref(needed), ctypes.byref(line)
-    status = call(file, ctypes.c_size_t(len(file)), ctypes.c_uint64(limit), out, *numbers)
+    status = call(file, ctypes.c_size_t(len(file)), ctypes.c_uint64(limit), ctypes.c_uint64(SEEDS.getrandbits(64)), out, *numbers)
     if status == NO_ROOM:
         assert out.raw == b"\xaa" * room and needed.value > room
         return text_of(call, file, limit, needed.value)
@@ -100,9 +101,9 @@ def stepped_by(table):
 
 def compared_with(other):
     """The call that compares with another file, with the arguments of the others. It writes the line of the program."""
-    def call(file, length, limit, out, room, needed, line):
+    def call(file, length, limit, seed, out, room, needed, line):
         is_same = ctypes.c_uint32()
-        status = library.golly_canon_same(file, length, other, ctypes.c_size_t(len(other)), limit, ctypes.byref(is_same), line)
+        status = library.golly_canon_same(file, length, other, ctypes.c_size_t(len(other)), limit, seed, ctypes.byref(is_same), line)
         text = b"" if status else (b"same\n" if is_same.value else b"different\n")
         ctypes.memmove(out, text, len(text))
         needed._obj.value = len(text)
@@ -122,10 +123,10 @@ def pieces_of(file, seed):
 def by_stream(open_stream, seed):
     """The call that feeds a stream a file in random pieces, with the arguments of the others. The fault of a line comes with its line feed, or at
     the end where it has none, and then again and again."""
-    def call(file, _, limit, out, room, needed, line):
+    def call(file, _, limit, seed, out, room, needed, line):
         stream = Stream()
         it, told, at = ctypes.byref(stream), (0, 0), 0
-        assert open_stream(it, limit) == 0
+        assert open_stream(it, limit, seed) == 0
         for piece in pieces_of(file, seed):
             answer = library.golly_canon_feed(it, piece, ctypes.c_size_t(len(piece)), line), line._obj.value
             before, at = file[:at].count(b"\n"), at + len(piece)

@@ -1,8 +1,8 @@
 #!/bin/sh
 # The library for C. Its header's promises, checked in C; each pattern of examples/, and files that are refused, given by the library as by the
 # program, whole and in pieces, with a checker of memory where valgrind is there, and with each request for memory refused in turn; the shared
-# object, from Python and beside the independent reader; the programs of examples/; and what `make install` puts in place. It builds the library of
-# crates/golly_canon_c first, over what `rt ci` has proved.
+# object, from Python, beside the independent reader, and on files that are chosen against its hashers; the programs of examples/; and what
+# `make install` puts in place. It builds the library of crates/golly_canon_c first, over what `rt ci` has proved.
 # It needs a C compiler, python3 and pkg-config, and the toolchain's rt.
 
 usage="usage: tests/library.sh PROGRAM"
@@ -247,6 +247,8 @@ python3 -B "$top/tests/library.py" "$program" "$top/examples" > said 2>&1
 counted "the library from Python" $?
 python3 -B "$top/tests/compare.py" built/libgolly_canon.so --cases 2000 --seed 2 > said 2>&1
 counted "the library beside the independent reader" $?
+python3 -B "$top/tests/crowds.py" built/libgolly_canon.so > said 2>&1
+counted "files that are chosen against the library's hashers" $?
 
 echo "$passed passed, $failed failed"
 [ $failed = 0 ]

@@ -56,6 +56,7 @@ class Case:
     by: str = ""  # what a shell does in place of "$@", the program and its words
     plays: object = None  # what is done with the program while it runs, given the process and the file for its output
     changes: bool = False  # whether a file changes while the program reads it
+    control: object = None  # what says what is wrong where the input isn't what the case means it to be
     seconds: float = SECONDS
     each: float = SECONDS_EACH_MEGABYTE
     times: float = TIMES
@@ -319,7 +320,7 @@ def result_of(case, number, program, top, texts):
         run, problems = tried(case, number, program, top, texts)
         if problems or not too_long(case, run):
             break
-    return run, problems + too_long(case, run)
+    return run, problems + too_long(case, run) + (case.control() if case.control else [])
 
 
 def said(case, run, problems):

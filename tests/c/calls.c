@@ -61,7 +61,10 @@ static int refused(uint32_t status, uint64_t line, int in_table)
     return status == GOLLY_CANON_FULL || status == GOLLY_CANON_MEMORY ? 4 : 2;
 }
 
-typedef uint32_t text_call(const unsigned char *, size_t, uint64_t, unsigned char *, size_t, size_t *, uint64_t *);
+/* A seed, on which no answer depends, so that each line has another. */
+#define SEED (0x9e3779b97f4a7c15u * __LINE__)
+
+typedef uint32_t text_call(const unsigned char *, size_t, uint64_t, uint64_t, unsigned char *, size_t, size_t *, uint64_t *);
 
 static int text(const char *word, struct bytes file, const struct bytes *table)
 {
@@ -75,10 +78,10 @@ static int text(const char *word, struct bytes file, const struct bytes *table)
     uint32_t in_table = 0, status;
     for (;;) {
         if (table)
-            status = golly_canon_step_by_table(file.at, file.length, table->at, table->length, GOLLY_CANON_SQUARES, answer.at, answer.length,
+            status = golly_canon_step_by_table(file.at, file.length, table->at, table->length, GOLLY_CANON_SQUARES, SEED, answer.at, answer.length,
                                                &needed, &line, &in_table);
         else
-            status = call(file.at, file.length, GOLLY_CANON_SQUARES, answer.at, answer.length, &needed, &line);
+            status = call(file.at, file.length, GOLLY_CANON_SQUARES, SEED, answer.at, answer.length, &needed, &line);
         if (status != GOLLY_CANON_NO_ROOM)
             break;
         free(answer.at);
@@ -95,14 +98,14 @@ static int same(struct bytes first, struct bytes second)
 {
     uint32_t is_same = 12345, status;
     uint64_t line;
-    status = golly_canon_same(first.at, first.length, second.at, second.length, GOLLY_CANON_SQUARES, &is_same, &line);
+    status = golly_canon_same(first.at, first.length, second.at, second.length, GOLLY_CANON_SQUARES, SEED, &is_same, &line);
     if (status != GOLLY_CANON_OK)
         return refused(status, line, 0);
     fputs(is_same ? "same\n" : "different\n", stdout);
     return is_same ? 0 : 1;
 }
 
-typedef uint32_t open_call(golly_canon_stream *, uint64_t);
+typedef uint32_t open_call(golly_canon_stream *, uint64_t, uint64_t);
 
 /* The fault that a stream has told, if each further call tells it too, and else no status. */
 static uint32_t told(golly_canon_stream *stream, uint32_t status, uint64_t line)
@@ -148,7 +151,7 @@ static int stream(const char *word, const char *name, size_t size)
     unsigned char *piece = calloc(size, 1);
     FILE *source = fopen(name, "rb");
     uint64_t line = 0;
-    uint32_t status = piece && source ? open(&stream, GOLLY_CANON_SQUARES) : GOLLY_CANON_MEMORY;
+    uint32_t status = piece && source ? open(&stream, GOLLY_CANON_SQUARES, SEED) : GOLLY_CANON_MEMORY;
     if (source)
         setvbuf(source, in, _IOFBF, sizeof in);
     if (status == GOLLY_CANON_OK)

@@ -21,7 +21,9 @@ static void check(int holds, const char *what)
 #define GLIDER "x = 3, y = 3, rule = 23/3\nbo$2bo$3o!\n"
 #define GLIDER_TEXT "[M2] (canonical 1)\n#R B3/S23\n$$$$.....*$......*$....***$$\n"
 #define WIDE 256
+/* The limit of the stores, and a seed, on which no answer depends, so that each line has another. */
 #define LIMIT 10000
+#define SEED (0x9e3779b97f4a7c15u * __LINE__)
 
 /* Memory that shows what a call wrote: each byte is 0xAA before it. */
 static unsigned char memory[WIDE];
@@ -64,55 +66,55 @@ static void texts(void)
 {
     uint64_t length = sizeof GLIDER_TEXT - 1;
 
-    check(is_text(golly_canon_canon(BYTES(GLIDER), LIMIT, fresh(), WIDE, &needed, &line), GLIDER_TEXT) && line == 0, "canon gives the text");
-    check(is_text(golly_canon_canon(BYTES(GLIDER), LIMIT, fresh(), length, &needed, &line), GLIDER_TEXT), "canon fills the memory to its end");
-    check(golly_canon_canon(BYTES(GLIDER), LIMIT, fresh(), length - 1, &needed, &line) == GOLLY_CANON_NO_ROOM && needed == length && line == 0
+    check(is_text(golly_canon_canon(BYTES(GLIDER), LIMIT, SEED, fresh(), WIDE, &needed, &line), GLIDER_TEXT) && line == 0, "canon gives the text");
+    check(is_text(golly_canon_canon(BYTES(GLIDER), LIMIT, SEED, fresh(), length, &needed, &line), GLIDER_TEXT), "canon fills the memory to its end");
+    check(golly_canon_canon(BYTES(GLIDER), LIMIT, SEED, fresh(), length - 1, &needed, &line) == GOLLY_CANON_NO_ROOM && needed == length && line == 0
               && untouched_from(0), "canon writes nothing where the text doesn't fit");
-    check(golly_canon_canon(BYTES(GLIDER), LIMIT, fresh(), 0, &needed, &line) == GOLLY_CANON_NO_ROOM && needed == length && untouched_from(0),
+    check(golly_canon_canon(BYTES(GLIDER), LIMIT, SEED, fresh(), 0, &needed, &line) == GOLLY_CANON_NO_ROOM && needed == length && untouched_from(0),
           "canon tells the length without memory");
-    check(is_fault(golly_canon_canon(BYTES("[M2]\n#R B3/S23\n....*$$$$$$$$\n4 0 0 0 9\n"), LIMIT, fresh(), WIDE, &needed, &line),
+    check(is_fault(golly_canon_canon(BYTES("[M2]\n#R B3/S23\n....*$$$$$$$$\n4 0 0 0 9\n"), LIMIT, SEED, fresh(), WIDE, &needed, &line),
                    GOLLY_CANON_BAD_CHILD, 4), "canon names the line and the kind");
-    check(is_fault(golly_canon_canon(BYTES(""), LIMIT, fresh(), WIDE, &needed, &line), GOLLY_CANON_NO_HEADER, 1), "an empty file has no header");
-    check(is_fault(golly_canon_canon(BYTES("x = 1, y = 1\no\0!\n"), LIMIT, fresh(), WIDE, &needed, &line), GOLLY_CANON_BAD_ITEM, 2),
+    check(is_fault(golly_canon_canon(BYTES(""), LIMIT, SEED, fresh(), WIDE, &needed, &line), GOLLY_CANON_NO_HEADER, 1), "an empty file has no header");
+    check(is_fault(golly_canon_canon(BYTES("x = 1, y = 1\no\0!\n"), LIMIT, SEED, fresh(), WIDE, &needed, &line), GOLLY_CANON_BAD_ITEM, 2),
           "a 0 byte is a byte");
 
     /* Each store needs a square for the glider. */
-    check(is_fault(golly_canon_canon(BYTES(GLIDER), 0, fresh(), WIDE, &needed, &line), GOLLY_CANON_FULL, 0), "a limit of 0 is full");
-    check(is_text(golly_canon_canon(BYTES(GLIDER), UINT64_MAX, fresh(), WIDE, &needed, &line), GLIDER_TEXT), "any limit may be asked for");
+    check(is_fault(golly_canon_canon(BYTES(GLIDER), 0, SEED, fresh(), WIDE, &needed, &line), GOLLY_CANON_FULL, 0), "a limit of 0 is full");
+    check(is_text(golly_canon_canon(BYTES(GLIDER), UINT64_MAX, SEED, fresh(), WIDE, &needed, &line), GLIDER_TEXT), "any limit may be asked for");
 
-    check(is_text(golly_canon_show(BYTES(GLIDER), LIMIT, fresh(), WIDE, &needed, &line),
+    check(is_text(golly_canon_show(BYTES(GLIDER), LIMIT, SEED, fresh(), WIDE, &needed, &line),
                   "rule B3/S23\ngeneration 0\npopulation 5\nbox 0 0 3 3\nnodes 1\n") && line == 0, "show gives five lines");
-    check(golly_canon_show(BYTES(GLIDER), LIMIT, fresh(), 10, &needed, &line) == GOLLY_CANON_NO_ROOM && untouched_from(0), "show may lack room");
-    check(is_fault(golly_canon_show(BYTES("x = 3\n"), LIMIT, fresh(), WIDE, &needed, &line), GOLLY_CANON_BAD_HEADER, 1), "show refuses");
+    check(golly_canon_show(BYTES(GLIDER), LIMIT, SEED, fresh(), 10, &needed, &line) == GOLLY_CANON_NO_ROOM && untouched_from(0), "show may lack room");
+    check(is_fault(golly_canon_show(BYTES("x = 3\n"), LIMIT, SEED, fresh(), WIDE, &needed, &line), GOLLY_CANON_BAD_HEADER, 1), "show refuses");
 
-    check(is_text(golly_canon_to_rle(BYTES(GLIDER_TEXT), LIMIT, fresh(), WIDE, &needed, &line),
+    check(is_text(golly_canon_to_rle(BYTES(GLIDER_TEXT), LIMIT, SEED, fresh(), WIDE, &needed, &line),
                   "#CXRLE Pos=0,0\nx = 3, y = 3, rule = B3/S23\nbo$2bo$3o!\n") && line == 0, "to_rle gives extended RLE");
-    check(golly_canon_to_rle(BYTES(GLIDER_TEXT), LIMIT, fresh(), 10, &needed, &line) == GOLLY_CANON_NO_ROOM && untouched_from(0),
+    check(golly_canon_to_rle(BYTES(GLIDER_TEXT), LIMIT, SEED, fresh(), 10, &needed, &line) == GOLLY_CANON_NO_ROOM && untouched_from(0),
           "to_rle may lack room");
-    check(is_fault(golly_canon_to_rle(BYTES("x = 2000000, y = 1\n2000000o!\n"), 1000, fresh(), WIDE, &needed, &line),
+    check(is_fault(golly_canon_to_rle(BYTES("x = 2000000, y = 1\n2000000o!\n"), 1000, SEED, fresh(), WIDE, &needed, &line),
                    GOLLY_CANON_TOO_MANY_CELLS, 0), "to_rle refuses too many cells");
 
-    check(is_text(golly_canon_step(BYTES("x = 3, y = 1\n3o!\n"), LIMIT, fresh(), WIDE, &needed, &line),
+    check(is_text(golly_canon_step(BYTES("x = 3, y = 1\n3o!\n"), LIMIT, SEED, fresh(), WIDE, &needed, &line),
                   "[M2] (canonical 1)\n#R B3/S23\n#G 1\n$$$.....*$.....*$.....*$$$\n") && line == 0, "step gives the next generation");
-    check(golly_canon_step(BYTES("x = 3, y = 1\n3o!\n"), LIMIT, fresh(), 10, &needed, &line) == GOLLY_CANON_NO_ROOM && untouched_from(0),
+    check(golly_canon_step(BYTES("x = 3, y = 1\n3o!\n"), LIMIT, SEED, fresh(), 10, &needed, &line) == GOLLY_CANON_NO_ROOM && untouched_from(0),
           "step may lack room");
-    check(is_fault(golly_canon_step(BYTES(WIRE), LIMIT, fresh(), WIDE, &needed, &line), GOLLY_CANON_NEEDS_TABLE, 0), "step wants a table for a name");
-    check(is_fault(golly_canon_step(BYTES("x = 1, y = 1\n\n0o!\n"), LIMIT, fresh(), WIDE, &needed, &line), GOLLY_CANON_ZERO_COUNT, 3),
+    check(is_fault(golly_canon_step(BYTES(WIRE), LIMIT, SEED, fresh(), WIDE, &needed, &line), GOLLY_CANON_NEEDS_TABLE, 0), "step wants a table for a name");
+    check(is_fault(golly_canon_step(BYTES("x = 1, y = 1\n\n0o!\n"), LIMIT, SEED, fresh(), WIDE, &needed, &line), GOLLY_CANON_ZERO_COUNT, 3),
           "step names the line of a refused file");
 }
 
 static void tables(void)
 {
     uint32_t in_table = 12345;
-    check(is_text(golly_canon_step_by_table(BYTES(WIRE), BYTES(SPREAD), LIMIT, fresh(), WIDE, &needed, &line, &in_table), SPREAD_TEXT)
+    check(is_text(golly_canon_step_by_table(BYTES(WIRE), BYTES(SPREAD), LIMIT, SEED, fresh(), WIDE, &needed, &line, &in_table), SPREAD_TEXT)
               && line == 0 && in_table == 0, "step_by_table gives the next generation");
-    check(golly_canon_step_by_table(BYTES(WIRE), BYTES(SPREAD), LIMIT, fresh(), 10, &needed, &line, &in_table) == GOLLY_CANON_NO_ROOM
+    check(golly_canon_step_by_table(BYTES(WIRE), BYTES(SPREAD), LIMIT, SEED, fresh(), 10, &needed, &line, &in_table) == GOLLY_CANON_NO_ROOM
               && untouched_from(0) && in_table == 0, "step_by_table may lack room");
-    check(is_fault(golly_canon_step_by_table(BYTES(WIRE), BYTES(TWO_WAYS), LIMIT, fresh(), WIDE, &needed, &line, &in_table),
+    check(is_fault(golly_canon_step_by_table(BYTES(WIRE), BYTES(TWO_WAYS), LIMIT, SEED, fresh(), WIDE, &needed, &line, &in_table),
                    GOLLY_CANON_BAD_TRANSITION, 8) && in_table == 1, "a refused table is told as one");
-    check(is_fault(golly_canon_step_by_table(BYTES("x = 1, y = 1, rule = Spread\n0A!\n"), BYTES(SPREAD), LIMIT, fresh(), WIDE, &needed, &line,
+    check(is_fault(golly_canon_step_by_table(BYTES("x = 1, y = 1, rule = Spread\n0A!\n"), BYTES(SPREAD), LIMIT, SEED, fresh(), WIDE, &needed, &line,
                                              &in_table), GOLLY_CANON_ZERO_COUNT, 2) && in_table == 0, "a refused pattern is told as one");
-    check(is_fault(golly_canon_step_by_table(BYTES(GLIDER), BYTES(SPREAD), LIMIT, fresh(), WIDE, &needed, &line, &in_table),
+    check(is_fault(golly_canon_step_by_table(BYTES(GLIDER), BYTES(SPREAD), LIMIT, SEED, fresh(), WIDE, &needed, &line, &in_table),
                    GOLLY_CANON_RULE_MISMATCH, 0) && in_table == 0, "another rule is refused");
 }
 
@@ -120,19 +122,19 @@ static void comparisons(void)
 {
     uint32_t is_same = 12345;
     line = 12345;
-    check(golly_canon_same(BYTES(GLIDER), BYTES(GLIDER_TEXT), LIMIT, &is_same, &line) == GOLLY_CANON_OK && is_same == 1 && line == 0,
+    check(golly_canon_same(BYTES(GLIDER), BYTES(GLIDER_TEXT), LIMIT, SEED, &is_same, &line) == GOLLY_CANON_OK && is_same == 1 && line == 0,
           "two spellings are the same");
-    check(golly_canon_same(BYTES(GLIDER), BYTES("x = 1, y = 1\no!\n"), LIMIT, &is_same, &line) == GOLLY_CANON_OK && is_same == 0 && line == 0,
+    check(golly_canon_same(BYTES(GLIDER), BYTES("x = 1, y = 1\no!\n"), LIMIT, SEED, &is_same, &line) == GOLLY_CANON_OK && is_same == 0 && line == 0,
           "two patterns are different");
     is_same = 12345;
-    check(golly_canon_same(BYTES(GLIDER), BYTES("x = 1, y = 1\n\n0o!\n"), LIMIT, &is_same, &line) == GOLLY_CANON_ZERO_COUNT && is_same == 0
+    check(golly_canon_same(BYTES(GLIDER), BYTES("x = 1, y = 1\n\n0o!\n"), LIMIT, SEED, &is_same, &line) == GOLLY_CANON_ZERO_COUNT && is_same == 0
               && line == 3, "same refuses the second file");
-    check(golly_canon_same(BYTES("\nx\n"), BYTES("x = 1, y = 1\n0o!\n"), LIMIT, &is_same, &line) == GOLLY_CANON_BAD_HEADER && is_same == 0
+    check(golly_canon_same(BYTES("\nx\n"), BYTES("x = 1, y = 1\n0o!\n"), LIMIT, SEED, &is_same, &line) == GOLLY_CANON_BAD_HEADER && is_same == 0
               && line == 2, "same refuses the first file first");
 }
 
 /* A file of a stream, and the text that its finish gives. */
-typedef uint32_t open_call(golly_canon_stream *, uint64_t);
+typedef uint32_t open_call(golly_canon_stream *, uint64_t, uint64_t);
 static const struct {
     const char *what;
     open_call *open;
@@ -237,7 +239,7 @@ static void texts_in_pieces(void)
         int holds = 1;
         for (size = 1; size <= given[i].length + 1; size++)
             for (offset = 0; offset < size; offset++)
-                holds = holds && given[i].open(&stream, LIMIT) == GOLLY_CANON_OK && are_fed(&stream, given[i].file, given[i].length, size, offset)
+                holds = holds && given[i].open(&stream, LIMIT, SEED) == GOLLY_CANON_OK && are_fed(&stream, given[i].file, given[i].length, size, offset)
                     && is_finished(&stream, given[i].text);
         check(holds && size > 1, given[i].what);
     }
@@ -254,14 +256,14 @@ static void refusals_in_pieces(void)
         uint32_t status = refusals[i].status;
         uint64_t where = refusals[i].line;
         size_t taken = refusals[i].taken_length, length = taken + strlen(refusals[i].refused);
-        int holds = refusals[i].open(&stream, LIMIT) == GOLLY_CANON_OK;
+        int holds = refusals[i].open(&stream, LIMIT, SEED) == GOLLY_CANON_OK;
         memcpy(file, refusals[i].taken, taken);
         memcpy(file + taken, refusals[i].refused, length - taken);
         for (at = 0; at < length; at++)
             holds = holds && (at < taken ? is_fed(&stream, file + at, 1) : is_told(&stream, file + at, 1, status, where));
         holds = holds && is_refused(&stream, status, where);
         for (at = 0; at <= length; at++) {
-            holds = holds && refusals[i].open(&stream, LIMIT) == GOLLY_CANON_OK;
+            holds = holds && refusals[i].open(&stream, LIMIT, SEED) == GOLLY_CANON_OK;
             holds = holds && (at <= taken ? is_fed(&stream, file, at) : is_told(&stream, file, at, status, where));
             holds = holds && (length == taken ? is_fed(&stream, file + at, length - at)
                                               : is_told(&stream, file + at, length - at, status, where));
@@ -278,9 +280,9 @@ static void long_lines(void)
     static unsigned char longest[1 << 20];
     golly_canon_stream stream = {0};
     memset(longest, '#', sizeof longest);
-    check(golly_canon_open_canon(&stream, LIMIT) == GOLLY_CANON_OK && is_fed(&stream, longest, sizeof longest) && is_fed(&stream, BYTES("\n"))
+    check(golly_canon_open_canon(&stream, LIMIT, SEED) == GOLLY_CANON_OK && is_fed(&stream, longest, sizeof longest) && is_fed(&stream, BYTES("\n"))
               && is_fed(&stream, BYTES(GLIDER)) && is_finished(&stream, GLIDER_TEXT), "a line of 2^20 bytes is taken");
-    check(golly_canon_open_canon(&stream, LIMIT) == GOLLY_CANON_OK && is_fed(&stream, BYTES("\n")) && is_fed(&stream, longest, sizeof longest)
+    check(golly_canon_open_canon(&stream, LIMIT, SEED) == GOLLY_CANON_OK && is_fed(&stream, BYTES("\n")) && is_fed(&stream, longest, sizeof longest)
               && is_told(&stream, BYTES("#"), GOLLY_CANON_LINE_TOO_LONG, 2) && is_refused(&stream, GOLLY_CANON_LINE_TOO_LONG, 2),
           "a byte more is told at once");
     golly_canon_close(&stream);
@@ -293,7 +295,7 @@ static void closed_streams(void)
     check(is_spent(&stream), "a stream of zeros is closed");
     golly_canon_close(&stream);
     check(is_spent(&stream), "a closed stream may be closed");
-    check(golly_canon_open_show(&stream, LIMIT) == GOLLY_CANON_OK && is_fed(&stream, BYTES(GLIDER)), "a closed stream may be opened");
+    check(golly_canon_open_show(&stream, LIMIT, SEED) == GOLLY_CANON_OK && is_fed(&stream, BYTES(GLIDER)), "a closed stream may be opened");
     golly_canon_close(&stream);
     check(is_spent(&stream), "a stream is closed before its end");
     golly_canon_close(&stream);
@@ -301,11 +303,11 @@ static void closed_streams(void)
     for (turn = 0; turn < 500; turn++) {
         size_t row = (size_t)turn % (sizeof given / sizeof *given);
         int stop = turn % 5;
-        holds = holds && given[row].open(&stream, LIMIT) == GOLLY_CANON_OK;
+        holds = holds && given[row].open(&stream, LIMIT, SEED) == GOLLY_CANON_OK;
         holds = holds && (stop < 1 || is_fed(&stream, given[row].file, given[row].length / 2));
         holds = holds && (stop < 2 || is_fed(&stream, given[row].file + given[row].length / 2, given[row].length - given[row].length / 2));
         holds = holds && (stop < 3 || is_finished(&stream, given[row].text));
-        holds = holds && (stop < 4 || given[row].open(&stream, LIMIT) == GOLLY_CANON_OK);
+        holds = holds && (stop < 4 || given[row].open(&stream, LIMIT, SEED) == GOLLY_CANON_OK);
         golly_canon_close(&stream);
         holds = holds && is_spent(&stream);
     }
@@ -316,13 +318,13 @@ static void closed_streams(void)
 static void open_streams(void)
 {
     golly_canon_stream stream = {0};
-    check(golly_canon_open_canon(&stream, LIMIT) == GOLLY_CANON_OK && is_fed(&stream, BYTES("[M2]\n#R B3"))
-              && golly_canon_open_show(&stream, LIMIT) == GOLLY_CANON_OK && is_fed(&stream, given[5].file, given[5].length)
+    check(golly_canon_open_canon(&stream, LIMIT, SEED) == GOLLY_CANON_OK && is_fed(&stream, BYTES("[M2]\n#R B3"))
+              && golly_canon_open_show(&stream, LIMIT, SEED) == GOLLY_CANON_OK && is_fed(&stream, given[5].file, given[5].length)
               && is_finished(&stream, given[5].text), "an open stream is opened");
-    check(golly_canon_open_canon(&stream, LIMIT) == GOLLY_CANON_OK && is_fed(&stream, BYTES(GLIDER)) && is_finished(&stream, GLIDER_TEXT),
+    check(golly_canon_open_canon(&stream, LIMIT, SEED) == GOLLY_CANON_OK && is_fed(&stream, BYTES(GLIDER)) && is_finished(&stream, GLIDER_TEXT),
           "a finished stream is opened");
-    check(golly_canon_open_step(&stream, LIMIT) == GOLLY_CANON_OK && is_told(&stream, BYTES("x\n"), GOLLY_CANON_BAD_HEADER, 1)
-              && golly_canon_open_canon(&stream, LIMIT) == GOLLY_CANON_OK && is_fed(&stream, BYTES(GLIDER)) && is_finished(&stream, GLIDER_TEXT),
+    check(golly_canon_open_step(&stream, LIMIT, SEED) == GOLLY_CANON_OK && is_told(&stream, BYTES("x\n"), GOLLY_CANON_BAD_HEADER, 1)
+              && golly_canon_open_canon(&stream, LIMIT, SEED) == GOLLY_CANON_OK && is_fed(&stream, BYTES(GLIDER)) && is_finished(&stream, GLIDER_TEXT),
           "a refused stream is opened");
     golly_canon_close(&stream);
 }
@@ -332,10 +334,10 @@ static void limited_streams(void)
 {
     golly_canon_stream stream = {0};
     uint32_t status;
-    check(golly_canon_open_canon(&stream, 0) == GOLLY_CANON_OK, "a limit of 0 may be asked for");
+    check(golly_canon_open_canon(&stream, 0, SEED) == GOLLY_CANON_OK, "a limit of 0 may be asked for");
     status = feed(&stream, BYTES(GLIDER));
     check((status == GOLLY_CANON_OK || status == GOLLY_CANON_FULL) && line == 0 && is_refused(&stream, GOLLY_CANON_FULL, 0), "a limit of 0 is full");
-    check(golly_canon_open_canon(&stream, UINT64_MAX) == GOLLY_CANON_OK && is_fed(&stream, BYTES(GLIDER)) && is_finished(&stream, GLIDER_TEXT),
+    check(golly_canon_open_canon(&stream, UINT64_MAX, SEED) == GOLLY_CANON_OK && is_fed(&stream, BYTES(GLIDER)) && is_finished(&stream, GLIDER_TEXT),
           "a stream takes any limit");
     golly_canon_close(&stream);
 }
@@ -346,14 +348,14 @@ static void two_streams(void)
     static const char spare[] = "#\n" GLIDER;
     golly_canon_stream one = {0}, two = {0};
     size_t at;
-    int holds = golly_canon_open_canon(&one, LIMIT) == GOLLY_CANON_OK && golly_canon_open_to_rle(&two, LIMIT) == GOLLY_CANON_OK;
+    int holds = golly_canon_open_canon(&one, LIMIT, SEED) == GOLLY_CANON_OK && golly_canon_open_to_rle(&two, LIMIT, SEED) == GOLLY_CANON_OK;
     for (at = 0; at < sizeof GLIDER_TEXT - 1 || at < sizeof spare - 1; at++) {
         holds = holds && (at >= sizeof spare - 1 || is_fed(&one, spare + at, 1));
         holds = holds && (at >= sizeof GLIDER_TEXT - 1 || is_fed(&two, GLIDER_TEXT + at, 1));
     }
     check(holds && at > 1 && is_finished(&two, given[4].text) && is_finished(&one, GLIDER_TEXT) && is_finished(&two, given[4].text),
           "two streams side by side");
-    check(golly_canon_open_canon(&two, LIMIT) == GOLLY_CANON_OK && is_told(&two, BYTES("x\n"), GOLLY_CANON_BAD_HEADER, 1)
+    check(golly_canon_open_canon(&two, LIMIT, SEED) == GOLLY_CANON_OK && is_told(&two, BYTES("x\n"), GOLLY_CANON_BAD_HEADER, 1)
               && is_finished(&one, GLIDER_TEXT), "a refused stream beside one with a text");
     golly_canon_close(&two);
     check(is_spent(&two) && is_finished(&one, GLIDER_TEXT), "a closed stream beside one with a text");
@@ -409,14 +411,14 @@ static void *thread(void *given_count)
     long *wrong = given_count;
     int turn;
     for (turn = 0; turn < 2000; turn++) {
-        uint32_t status = turn % 2 ? golly_canon_canon(BYTES(GLIDER), LIMIT, own, sizeof own, &length, &at)
-                                   : golly_canon_canon(BYTES("x = 1\n"), LIMIT, own, sizeof own, &length, &at);
+        uint32_t status = turn % 2 ? golly_canon_canon(BYTES(GLIDER), LIMIT, SEED, own, sizeof own, &length, &at)
+                                   : golly_canon_canon(BYTES("x = 1\n"), LIMIT, SEED, own, sizeof own, &length, &at);
         if (turn % 2 ? status != GOLLY_CANON_OK || length != sizeof GLIDER_TEXT - 1 || memcmp(own, GLIDER_TEXT, length)
                      : status != GOLLY_CANON_BAD_HEADER || at != 1)
             ++*wrong;
     }
     for (turn = 0; turn < 200; turn++) {
-        uint32_t status = golly_canon_open_canon(&stream, LIMIT);
+        uint32_t status = golly_canon_open_canon(&stream, LIMIT, SEED);
         for (at_byte = 0; at_byte < sizeof GLIDER - 1 && status == GOLLY_CANON_OK; at_byte++)
             status = golly_canon_feed(&stream, (const unsigned char *)GLIDER + at_byte, 1, &at);
         if (status != GOLLY_CANON_OK || golly_canon_finish(&stream, own, sizeof own, &length, &at) != GOLLY_CANON_OK
@@ -453,16 +455,16 @@ static void *deep_calls(void *given_count)
     uint64_t at;
     uint32_t same, in_table, status;
     long *wrong = given_count;
-    *wrong += golly_canon_canon(BYTES(CORNERS), LIMIT, own, sizeof own, &length, &at) != GOLLY_CANON_OK;
-    *wrong += golly_canon_show(BYTES(CORNERS), LIMIT, own, sizeof own, &length, &at) != GOLLY_CANON_OK;
-    *wrong += golly_canon_to_rle(BYTES(CORNERS), LIMIT, own, sizeof own, &length, &at) != GOLLY_CANON_OK;
-    *wrong += golly_canon_step(BYTES(CORNERS), LIMIT, own, sizeof own, &length, &at) != GOLLY_CANON_OK;
-    *wrong += golly_canon_step_by_table(BYTES(NAMED_CORNERS), BYTES(SPREAD), LIMIT, own, sizeof own, &length, &at, &in_table)
+    *wrong += golly_canon_canon(BYTES(CORNERS), LIMIT, SEED, own, sizeof own, &length, &at) != GOLLY_CANON_OK;
+    *wrong += golly_canon_show(BYTES(CORNERS), LIMIT, SEED, own, sizeof own, &length, &at) != GOLLY_CANON_OK;
+    *wrong += golly_canon_to_rle(BYTES(CORNERS), LIMIT, SEED, own, sizeof own, &length, &at) != GOLLY_CANON_OK;
+    *wrong += golly_canon_step(BYTES(CORNERS), LIMIT, SEED, own, sizeof own, &length, &at) != GOLLY_CANON_OK;
+    *wrong += golly_canon_step_by_table(BYTES(NAMED_CORNERS), BYTES(SPREAD), LIMIT, SEED, own, sizeof own, &length, &at, &in_table)
               != GOLLY_CANON_OUT_OF_PLANE;
-    *wrong += golly_canon_same(BYTES(CORNERS), BYTES(ROWS), LIMIT, &same, &at) != GOLLY_CANON_OK || same;
-    *wrong += golly_canon_canon(BYTES(ROWS), LIMIT, own, sizeof own, &length, &at) != GOLLY_CANON_OK;
-    *wrong += golly_canon_show(BYTES(ROWS), LIMIT, own, sizeof own, &length, &at) != GOLLY_CANON_OK;
-    status = golly_canon_open_step(&stream, LIMIT);
+    *wrong += golly_canon_same(BYTES(CORNERS), BYTES(ROWS), LIMIT, SEED, &same, &at) != GOLLY_CANON_OK || same;
+    *wrong += golly_canon_canon(BYTES(ROWS), LIMIT, SEED, own, sizeof own, &length, &at) != GOLLY_CANON_OK;
+    *wrong += golly_canon_show(BYTES(ROWS), LIMIT, SEED, own, sizeof own, &length, &at) != GOLLY_CANON_OK;
+    status = golly_canon_open_step(&stream, LIMIT, SEED);
     if (status == GOLLY_CANON_OK)
         status = golly_canon_feed(&stream, BYTES(CORNERS), &at);
     *wrong += status != GOLLY_CANON_OK || golly_canon_finish(&stream, own, sizeof own, &length, &at) != GOLLY_CANON_OK;

@@ -4,7 +4,7 @@ ghost use Rattle.life_base.specs.Tree.{depth};
 ghost use Rattle.life_quad.specs.declared.id.Id.{Id as IdValue};
 
 use life_base::{Kind, MAX_LEVEL, Run};
-use life_quad::{Id, Shared, SharedSquares, Squares, bounds, population, put_run};
+use life_quad::{Id, Seed, Shared, SharedSquares, Squares, bounds, population, put_run};
 use std::alloc::Global;
 use std::io;
 use std::time::Instant;
@@ -93,5 +93,5 @@ fn time_calls(rt: HostRuntime, squares: &mut Shared) -> io::Result<()> {
 }
 
 pub(crate) fn time(rt: HostRuntime) -> io::Result<()> {
-    time_calls(rt, &mut Shared::new(rt.alloc(), 1 << 31))
+    time_calls(rt, &mut Shared::new(rt.alloc(), Seed::fixed(), 1 << 31))
 }

@@ -8,7 +8,7 @@ use life_base::{LifeRule, Rule};
 use life_block::next_life_generation;
 use life_canon::laws::{files_are_on_plane, patterns_fit};
 use life_canon::read;
-use life_quad::Shared;
+use life_quad::{Seed, Shared};
 use life_step::step_life;
 use std::alloc::{AllocError, Global};
 use std::io;
@@ -39,7 +39,7 @@ fn soup(alloc: Global) -> Result<Vec<u8>, AllocError> {
 /// Times the next generation alone.
 fn time_generation(rt: HostRuntime, bytes: &[u8]) -> io::Result<()> {
     let alloc = rt.alloc();
-    let mut store = Shared::new(alloc, 1 << 31);
+    let mut store = Shared::new(alloc, Seed::fixed(), 1 << 31);
     let Ok(pattern) = read(alloc, &mut store, bytes) else {
         return println!(rt; "no pattern");
     };
@@ -61,7 +61,7 @@ fn time_generation(rt: HostRuntime, bytes: &[u8]) -> io::Result<()> {
 /// Times the whole step, from text to text.
 fn time_step(rt: HostRuntime, bytes: &[u8]) -> io::Result<()> {
     let alloc = rt.alloc();
-    let mut store = Shared::new(alloc, 1 << 31);
+    let mut store = Shared::new(alloc, Seed::fixed(), 1 << 31);
     let start = Instant::now(&rt)?;
     let stepped = step_life(alloc, &mut store, bytes);
     let spent = start.elapsed(&rt)?;

@@ -11,7 +11,7 @@ mod reach;
 mod soup;
 
 use crate::words::{has, number_of};
-use life_quad::Shared;
+use life_quad::{Seed, Shared};
 use patterns::{Pattern, listed};
 use reach::reached;
 use std::io;
@@ -67,7 +67,12 @@ pub(crate) fn time(rt: HostRuntime, words: &[String]) -> io::Result<()> {
         Pattern::Stripes(50_000)
     };
     for pattern in [Pattern::Soup(runs), second] {
-        tell(rt, &mut Shared::new(rt.alloc(), 1 << 40), pattern, task)?;
+        tell(
+            rt,
+            &mut Shared::new(rt.alloc(), Seed::fixed(), 1 << 40),
+            pattern,
+            task,
+        )?;
     }
     Ok(())
 }

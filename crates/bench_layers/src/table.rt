@@ -6,7 +6,7 @@ ghost use Rattle.std.specs.Prelude.{◌≡◌, ◌<◌, ◌≤◌, All};
 
 use crate::words::{has, number_of};
 use life_base::State;
-use life_table::{Neighborhood, Neighbours, Table, read_table};
+use life_table::{NameSeed, Neighborhood, Neighbours, Table, read_table};
 use std::io;
 use std::time::Instant;
 
@@ -84,7 +84,7 @@ fn report(rt: HostRuntime, table: &Table, words: &[String]) -> io::Result<()> {
 }
 
 pub(crate) fn time(rt: HostRuntime, words: &[String], bytes: &[u8]) -> io::Result<()> {
-    match read_table(rt.alloc(), bytes) {
+    match read_table(rt.alloc(), NameSeed::fixed(), bytes) {
         Ok(table) => report(rt, &table, words),
         Err(_) => println!(rt; "no rule table"),
     }

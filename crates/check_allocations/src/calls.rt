@@ -4,7 +4,7 @@ ghost use Rattle.std.specs.Prelude.{◌≡◌, ◌≤◌, ◌^◌};
 
 use crate::answer::told;
 use life_base::{Device, Fault, Kind, Sink, write_texts};
-use life_quad::{Plain, Shared, Squares};
+use life_quad::{Plain, Seed, Shared, Squares};
 use std::alloc::Global;
 
 /// A store without nodes.
@@ -15,7 +15,7 @@ pub(crate) trait New: Squares {
 
 impl New for Shared {
     fn new_store(alloc: Global, limit: u64) -> Shared {
-        Shared::new(alloc, limit)
+        Shared::new(alloc, Seed::fixed(), limit)
     }
 }
 

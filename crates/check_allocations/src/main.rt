@@ -13,7 +13,7 @@ mod strips;
 mod tables;
 
 use calls::{Calls, New};
-use life_quad::{Plain, Shared};
+use life_quad::{Plain, Seed, Shared};
 use patterns::{EXAMPLES, Example};
 use squares::{
     bounded, counted, grown, grown_and_trimmed, joined, levels_trimmed, list_refused, one_listed,
@@ -100,12 +100,12 @@ struct Stores {
 impl Stores {
     fn new(alloc: Global) -> Stores {
         Stores {
-            numbered: Shared::new(alloc, LIMIT),
-            canonical: Shared::new(alloc, LIMIT),
-            compared: Shared::new(alloc, LIMIT),
-            converted: Shared::new(alloc, LIMIT),
-            described: Shared::new(alloc, LIMIT),
-            pieced: Shared::new(alloc, LIMIT),
+            numbered: Shared::new(alloc, Seed::fixed(), LIMIT),
+            canonical: Shared::new(alloc, Seed::fixed(), LIMIT),
+            compared: Shared::new(alloc, Seed::fixed(), LIMIT),
+            converted: Shared::new(alloc, Seed::fixed(), LIMIT),
+            described: Shared::new(alloc, Seed::fixed(), LIMIT),
+            pieced: Shared::new(alloc, Seed::fixed(), LIMIT),
         }
     }
 }
@@ -143,7 +143,7 @@ fn pattern_calls(rt: &HostRuntime) {
 // Files in turn are stepped in one store.
 fn step_calls(rt: &HostRuntime) {
     let alloc = rt.alloc();
-    let mut store = Shared::new(alloc, LIMIT);
+    let mut store = Shared::new(alloc, Seed::fixed(), LIMIT);
     for time in ["", ", again"] {
         let calls = Calls::at(rt, "life_step", time);
         for (name, file, table, next) in STEPS {

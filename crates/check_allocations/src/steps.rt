@@ -3,7 +3,7 @@
 use life_base::Fault;
 use life_quad::Shared;
 use life_step::{step_life, step_table};
-use life_table::read_table;
+use life_table::{NameSeed, read_table};
 use std::alloc::Global;
 
 /// A table in which a cell takes the state of its one neighbour.
@@ -48,7 +48,12 @@ pub(crate) fn is_next(
 ) -> Result<bool, Fault> {
     let text = match table {
         None => step_life(alloc, store, file)?,
-        Some(table) => step_table(alloc, store, file, &read_table(alloc, table)?)?,
+        Some(table) => step_table(
+            alloc,
+            store,
+            file,
+            &read_table(alloc, NameSeed::fixed(), table)?,
+        )?,
     };
     Ok(text.as_slice() == next)
 }

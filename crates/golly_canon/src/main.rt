@@ -9,7 +9,7 @@ mod opening;
 
 use life_base::{Device, Fault, Kind};
 use life_cli::plans::{Plan, Usage};
-use life_cli::{Refusal, plan, status, tell, work};
+use life_cli::{Refusal, Seeds, plan, status, tell, work};
 use opening::{Input, hold_closed_streams, length, open};
 use std::alloc::{AllocError, Global};
 use std::process::ExitCode;
@@ -74,10 +74,13 @@ fn open_second(rt: &HostRuntime, plan: &Plan) -> io::Result<Option<Device<Input>
     }
 }
 
-/// Opens the plan's files, the first one first, and does its job.
+/// Draws the random words, opens the plan's files, the first one first, and does its job. Without random words nothing is read.
 fn carry_out(rt: &HostRuntime, plan: &Plan) -> u8
     requires { IsSome plan.now.second ↔ HasSecond plan.now.job }
 {
+    let Ok(seeds) = Seeds::drawn(rt) else {
+        return report_fault(rt, Kind::ReadFault);
+    };
     let Ok(mut first) = open_device(rt, plan.first.as_str()) else {
         return report_fault(rt, Kind::ReadFault);
     };
@@ -88,6 +91,7 @@ fn carry_out(rt: &HostRuntime, plan: &Plan) -> u8
     let mut err = Device::new(rt.stderr());
     work(
         rt.alloc(),
+        &seeds,
         &plan.job,
         &mut first,
         &mut second,

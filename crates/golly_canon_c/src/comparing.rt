@@ -14,12 +14,13 @@ pub extern "C" fn golly_canon_same(
     first: &[u8],
     second: &[u8],
     limit: u64,
+    seed: u64,
     is_same: &mut u32,
     line: &mut u64,
 ) -> u32
     ensures { ComparesWithin limit first.now second.now (record { status = result; is_same = is_same.new; line = line.new }) }
 {
-    let mut store = store_of(alloc, limit);
+    let mut store = store_of(alloc, limit, seed);
     match same(alloc, &mut store, first, second) {
         Ok(answer) => {
             *is_same = if answer { 1 } else { 0 };

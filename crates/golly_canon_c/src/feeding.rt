@@ -57,12 +57,12 @@ fn canonical_of(alloc: Global, store: &Shared, pattern: &Pattern) -> Result<Vec<
 
 impl Feeding {
     /// A file of which no byte came, and the text that its end gives. The store holds so many different squares.
-    pub(crate) fn new(alloc: Global, form: Form, limit: u64) -> Feeding
+    pub(crate) fn new(alloc: Global, form: Form, limit: u64, seed: u64) -> Feeding
         ensures { result ≡ record { form = form; room = room_of limit; bytes = [] } }
     {
         Feeding {
             reader: Reader::new(alloc),
-            store: store_of(alloc, limit),
+            store: store_of(alloc, limit, seed),
             form,
         }
     }

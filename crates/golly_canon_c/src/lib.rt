@@ -11,6 +11,7 @@ mod held;
 mod naming;
 mod pieces;
 mod rooms;
+mod seeding;
 mod session;
 mod stepping;
 mod stream;

@@ -10,7 +10,7 @@ use crate::telling::{NO_ROOM, give};
 use life_base::Kind;
 
 /// The version of the program, and so of the library.
-const VERSION: &[u8] = b"0.1.0";
+const VERSION: &[u8] = b"0.2.0";
 
 /// The kinds, by their numbers.
 const KINDS: [Kind; 41] = [
@@ -95,7 +95,7 @@ pub extern "C" fn golly_canon_status_name(number: u32, out: &mut [u8], needed: &
 /// The version of the library, which is that of the program.
 #[unsafe(no_mangle)]
 pub extern "C" fn golly_canon_version(out: &mut [u8], needed: &mut usize) -> u32
-    ensures { Gives (codes "0.1.0") (record { before = out.old; after = out.new; needed = needed.new; status = result }) }
+    ensures { Gives (codes "0.2.0") (record { before = out.old; after = out.new; needed = needed.new; status = result }) }
 {
     give(VERSION, out, needed)
 }

@@ -3,14 +3,15 @@
 ghost use Rattle.std.specs.Prelude.{◌≡◌};
 ghost use Rattle.golly_canon_c.specs.Answers.{room_of};
 
+use crate::seeding::seed_of_squares;
 use life_quad::Shared;
 use std::alloc::Global;
 
 /// How many different squares a store holds at most, whatever limit is asked for.
 const GREATEST_LIMIT: u64 = 1 << 62;
 
-/// An empty store for so many different squares, and for 2^62 where more are asked for.
-pub(crate) fn store_of(alloc: Global, limit: u64) -> Shared
+/// An empty store for so many different squares, and for 2^62 where more are asked for. The seed decides time alone.
+pub(crate) fn store_of(alloc: Global, limit: u64, seed: u64) -> Shared
     ensures { result.limit ≡ room_of limit }
 {
     let most = if limit < GREATEST_LIMIT {
@@ -18,5 +19,5 @@ pub(crate) fn store_of(alloc: Global, limit: u64) -> Shared
     } else {
         GREATEST_LIMIT
     };
-    Shared::new(alloc, most)
+    Shared::new(alloc, seed_of_squares(seed), most)
 }

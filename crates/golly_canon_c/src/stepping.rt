@@ -5,6 +5,7 @@ ghost use Rattle.life_step.specs.Stepped.{IsStepped, IsSteppedBy};
 ghost use Rattle.golly_canon_c.specs.Stepping.{RefusesStepByWithin, RefusesStepWithin, StepsByTable};
 
 use crate::rooms::store_of;
+use crate::seeding::seed_of_names;
 use crate::telling::{refuse, tell};
 use life_step::{step_life, step_table};
 use life_table::{Table, read_table};
@@ -16,13 +17,14 @@ pub extern "C" fn golly_canon_step(
     alloc: Global,
     bytes: &[u8],
     limit: u64,
+    seed: u64,
     out: &mut [u8],
     needed: &mut usize,
     line: &mut u64,
 ) -> u32
     ensures { Answers (IsStepped bytes.now) (RefusesStepWithin limit bytes.now) line.new (record { before = out.old; after = out.new; needed = needed.new; status = result }) }
 {
-    let mut store = store_of(alloc, limit);
+    let mut store = store_of(alloc, limit, seed);
     let found = step_life(alloc, &mut store, bytes);
     tell(found, out, needed, line)
 }
@@ -33,13 +35,14 @@ fn step_by(
     bytes: &[u8],
     table: &Table,
     limit: u64,
+    seed: u64,
     out: &mut [u8],
     needed: &mut usize,
     line: &mut u64,
 ) -> u32
     ensures { Answers (IsSteppedBy table.now bytes.now) (RefusesStepByWithin table.now limit bytes.now) line.new (record { before = out.old; after = out.new; needed = needed.new; status = result }) }
 {
-    let mut store = store_of(alloc, limit);
+    let mut store = store_of(alloc, limit, seed);
     let found = step_table(alloc, &mut store, bytes, table);
     tell(found, out, needed, line)
 }
@@ -52,6 +55,7 @@ pub extern "C" fn golly_canon_step_by_table(
     bytes: &[u8],
     table: &[u8],
     limit: u64,
+    seed: u64,
     out: &mut [u8],
     needed: &mut usize,
     line: &mut u64,
@@ -59,10 +63,10 @@ pub extern "C" fn golly_canon_step_by_table(
 ) -> u32
     ensures { StepsByTable limit bytes.now table.now in_table.new line.new (record { before = out.old; after = out.new; needed = needed.new; status = result }) }
 {
-    match read_table(alloc, table) {
+    match read_table(alloc, seed_of_names(seed), table) {
         Ok(table) => {
             *in_table = 0;
-            step_by(alloc, bytes, &table, limit, out, needed, line)
+            step_by(alloc, bytes, &table, limit, seed, out, needed, line)
         }
         Err(fault) => {
             *in_table = 1;

@@ -16,11 +16,11 @@ use std::alloc::Global;
 use std::mem;
 
 /// Opens a stream whose end gives a text of this form.
-fn open(alloc: Global, stream: &mut Stream, form: Form, limit: u64) -> u32
+fn open(alloc: Global, stream: &mut Stream, form: Form, limit: u64, seed: u64) -> u32
     ensures { Opens form limit result (session_of stream.new) }
 {
     golly_canon_close(alloc, stream);
-    let feeding = Feeding::new(alloc, form, limit);
+    let feeding = Feeding::new(alloc, form, limit, seed);
     match Box::new(alloc, Session::Reading(feeding)) {
         Ok(session) => {
             put(stream, session);
@@ -32,34 +32,54 @@ fn open(alloc: Global, stream: &mut Stream, form: Form, limit: u64) -> u32
 
 /// Opens a stream whose end gives the canonical text, and closes it first where it is open.
 #[unsafe(no_mangle)]
-pub extern "C" fn golly_canon_open_canon(alloc: Global, stream: &mut Stream, limit: u64) -> u32
+pub extern "C" fn golly_canon_open_canon(
+    alloc: Global,
+    stream: &mut Stream,
+    limit: u64,
+    seed: u64,
+) -> u32
     ensures { Opens FormValue.Canonical limit result (session_of stream.new) }
 {
-    open(alloc, stream, Form::Canonical, limit)
+    open(alloc, stream, Form::Canonical, limit, seed)
 }
 
 /// Opens a stream whose end gives the pattern in extended RLE, and closes it first where it is open.
 #[unsafe(no_mangle)]
-pub extern "C" fn golly_canon_open_to_rle(alloc: Global, stream: &mut Stream, limit: u64) -> u32
+pub extern "C" fn golly_canon_open_to_rle(
+    alloc: Global,
+    stream: &mut Stream,
+    limit: u64,
+    seed: u64,
+) -> u32
     ensures { Opens FormValue.Rle limit result (session_of stream.new) }
 {
-    open(alloc, stream, Form::Rle, limit)
+    open(alloc, stream, Form::Rle, limit, seed)
 }
 
 /// Opens a stream whose end gives five lines on the pattern, and closes it first where it is open.
 #[unsafe(no_mangle)]
-pub extern "C" fn golly_canon_open_show(alloc: Global, stream: &mut Stream, limit: u64) -> u32
+pub extern "C" fn golly_canon_open_show(
+    alloc: Global,
+    stream: &mut Stream,
+    limit: u64,
+    seed: u64,
+) -> u32
     ensures { Opens FormValue.Lines limit result (session_of stream.new) }
 {
-    open(alloc, stream, Form::Lines, limit)
+    open(alloc, stream, Form::Lines, limit, seed)
 }
 
 /// Opens a stream whose end gives the canonical text of the next generation under the file's B/S rule, and closes it first where it is open.
 #[unsafe(no_mangle)]
-pub extern "C" fn golly_canon_open_step(alloc: Global, stream: &mut Stream, limit: u64) -> u32
+pub extern "C" fn golly_canon_open_step(
+    alloc: Global,
+    stream: &mut Stream,
+    limit: u64,
+    seed: u64,
+) -> u32
     ensures { Opens FormValue.Next limit result (session_of stream.new) }
 {
-    open(alloc, stream, Form::Next, limit)
+    open(alloc, stream, Form::Next, limit, seed)
 }
 
 /// The status of a call that doesn't fit its stream.

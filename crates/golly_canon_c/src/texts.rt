@@ -16,13 +16,14 @@ pub extern "C" fn golly_canon_canon(
     alloc: Global,
     bytes: &[u8],
     limit: u64,
+    seed: u64,
     out: &mut [u8],
     needed: &mut usize,
     line: &mut u64,
 ) -> u32
     ensures { Answers (IsCanonicalText bytes.now) (RefusesWithin limit bytes.now) line.new (record { before = out.old; after = out.new; needed = needed.new; status = result }) }
 {
-    let mut store = store_of(alloc, limit);
+    let mut store = store_of(alloc, limit, seed);
     let found = canon(alloc, &mut store, bytes);
     tell(found, out, needed, line)
 }
@@ -33,13 +34,14 @@ pub extern "C" fn golly_canon_to_rle(
     alloc: Global,
     bytes: &[u8],
     limit: u64,
+    seed: u64,
     out: &mut [u8],
     needed: &mut usize,
     line: &mut u64,
 ) -> u32
     ensures { Answers (IsRleText bytes.now) (RefusesRleWithin limit bytes.now) line.new (record { before = out.old; after = out.new; needed = needed.new; status = result }) }
 {
-    let mut store = store_of(alloc, limit);
+    let mut store = store_of(alloc, limit, seed);
     let found = to_rle(alloc, &mut store, bytes);
     tell(found, out, needed, line)
 }
@@ -50,13 +52,14 @@ pub extern "C" fn golly_canon_show(
     alloc: Global,
     bytes: &[u8],
     limit: u64,
+    seed: u64,
     out: &mut [u8],
     needed: &mut usize,
     line: &mut u64,
 ) -> u32
     ensures { Answers (IsShown MAX_LEVEL bytes.now) (RefusesWithin limit bytes.now) line.new (record { before = out.old; after = out.new; needed = needed.new; status = result }) }
 {
-    let mut store = store_of(alloc, limit);
+    let mut store = store_of(alloc, limit, seed);
     let found = show(alloc, &mut store, bytes);
     tell(found, out, needed, line)
 }

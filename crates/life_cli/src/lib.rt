@@ -2,10 +2,12 @@
 #![tactic(auto)]
 
 pub mod plans;
+mod seeds;
 mod stepping;
 mod telling;
 mod working;
 
 pub use plans::planning::plan;
+pub use seeds::Seeds;
 pub use telling::{Refusal, status, tell};
 pub use working::work;

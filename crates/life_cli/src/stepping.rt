@@ -7,6 +7,7 @@ ghost use Rattle.life_base.specs.Refusal.{fault_of};
 ghost use Rattle.life_step.specs.Stepped.{IsStepped, IsSteppedBy};
 ghost use Rattle.life_cli.specs.Jobs.{InputRefuses, OfTable, HasText, HasNoText, RefusesStep, RefusesStepBy, HasTable, HasNoTable, HasTextByTable, HasNoTextByTable};
 
+use crate::seeds::Seeds;
 use crate::telling::Refusal;
 use crate::working::MOST_SQUARES;
 use life_base::{Fault, Kind, Source, read_within};
@@ -20,25 +21,34 @@ use std::alloc::Global;
 const LONGEST_TABLE: u64 = 1 << 30;
 
 /// The text of the next generation of a source's pattern, under its B/S rule.
-pub(crate) fn next_of<A: Source>(alloc: Global, first: &mut A) -> Result<Vec<u8>, Fault>
+pub(crate) fn next_of<A: Source>(
+    alloc: Global,
+    seeds: &Seeds,
+    first: &mut A,
+) -> Result<Vec<u8>, Fault>
     requires { A.failures first.old ≡ 0 }
     ensures ok { IfOk result (λ text. HasText IsStepped (source_run A.remaining A.failures first.old first.new) text.items) }
     ensures err { IfErr result (HasNoText RefusesStep (source_run A.remaining A.failures first.old first.new)) }
     ensures told { A.failures first.new ≡ 1 → IsErrAnd result (λ fault. fault.kind ≡ Kind.ReadFault) }
 {
-    let mut store = Shared::new(alloc, MOST_SQUARES);
+    let mut store = Shared::new(alloc, seeds.squares, MOST_SQUARES);
     let pattern = read_from(alloc, &mut store, first)?;
     next_by_rule(alloc, &mut store, pattern)
 }
 
 /// The text of the next generation of a source's pattern, by a table.
-fn next_by<A: Source>(alloc: Global, first: &mut A, table: &Table) -> Result<Vec<u8>, Fault>
+fn next_by<A: Source>(
+    alloc: Global,
+    seeds: &Seeds,
+    first: &mut A,
+    table: &Table,
+) -> Result<Vec<u8>, Fault>
     requires { A.failures first.old ≡ 0 }
     ensures ok { IfOk result (λ text. HasText (IsSteppedBy table.now) (source_run A.remaining A.failures first.old first.new) text.items) }
     ensures err { IfErr result (HasNoText (RefusesStepBy table.now) (source_run A.remaining A.failures first.old first.new)) }
     ensures told { A.failures first.new ≡ 1 → IsErrAnd result (λ fault. fault.kind ≡ Kind.ReadFault) }
 {
-    let mut store = Shared::new(alloc, MOST_SQUARES);
+    let mut store = Shared::new(alloc, seeds.squares, MOST_SQUARES);
     let pattern = read_from(alloc, &mut store, first)?;
     next_by_table(alloc, &mut store, pattern, table)
 }
@@ -54,24 +64,24 @@ fn read_whole<R: Source>(alloc: Global, reader: &mut R) -> Result<Vec<u8>, Fault
 }
 
 /// The rule table of a source.
-fn table_in<B: Source>(alloc: Global, source: &mut B) -> Result<Table, Fault>
+fn table_in<B: Source>(alloc: Global, seeds: &Seeds, source: &mut B) -> Result<Table, Fault>
     requires { B.failures source.old ≡ 0 }
     ensures ok { IfOk result (HasTable (source_run B.remaining B.failures source.old source.new)) }
     ensures err { IfErr result (HasNoTable (source_run B.remaining B.failures source.old source.new)) }
     ensures told { B.failures source.new ≡ 1 → IsErrAnd result (λ fault. fault.kind ≡ Kind.ReadFault) }
 {
     let bytes = read_whole(alloc, source)?;
-    read_table(alloc, bytes.as_slice())
+    read_table(alloc, seeds.names, bytes.as_slice())
 }
 
 /// The same, and a refusal that is the table's.
-fn table_of<B: Source>(alloc: Global, source: &mut B) -> Result<Table, Refusal>
+fn table_of<B: Source>(alloc: Global, seeds: &Seeds, source: &mut B) -> Result<Table, Refusal>
     requires { B.failures source.old ≡ 0 }
     ensures ok { IfOk result (HasTable (source_run B.remaining B.failures source.old source.new)) }
     ensures err { IfErr result (OfTable (HasNoTable (source_run B.remaining B.failures source.old source.new))) }
     ensures told { B.failures source.new ≡ 1 → IsErrAnd result (λ refusal. refusal.fault.kind ≡ Kind.ReadFault) }
 {
-    match table_in(alloc, source) {
+    match table_in(alloc, seeds, source) {
         Ok(table) => Ok(table),
         Err(fault) => Err(Refusal {
             fault,
@@ -83,6 +93,7 @@ fn table_of<B: Source>(alloc: Global, source: &mut B) -> Result<Table, Refusal>
 /// The text of the next generation of the first source's pattern, by the rule table of the second one, which is read before.
 pub(crate) fn next_by_table_of<A: Source, B: Source>(
     alloc: Global,
+    seeds: &Seeds,
     first: &mut A,
     second: &mut B,
 ) -> Result<Vec<u8>, Refusal>
@@ -92,6 +103,6 @@ pub(crate) fn next_by_table_of<A: Source, B: Source>(
     ensures err { IfErr result (HasNoTextByTable (source_run A.remaining A.failures first.old first.new) (source_run B.remaining B.failures second.old second.new)) }
     ensures told { (A.failures first.new ≡ 1) ⊎ (B.failures second.new ≡ 1) → IsErrAnd result (λ refusal. refusal.fault.kind ≡ Kind.ReadFault) }
 {
-    let table = table_of(alloc, second)?;
-    Ok(next_by(alloc, first, &table)?)
+    let table = table_of(alloc, seeds, second)?;
+    Ok(next_by(alloc, seeds, first, &table)?)
 }

@@ -12,6 +12,7 @@ ghost use Rattle.life_cli.specs.Jobs.{made_status, made_text, Makes, Worked, OfF
 ghost use Rattle.life_cli.specs.Plans.{HasSecond, WritesCanonical};
 
 use crate::plans::{Job, Target};
+use crate::seeds::Seeds;
 use crate::stepping::{next_by_table_of, next_of};
 use crate::telling::{Refusal, status, tell};
 use life_base::{Fault, Kind, MAX_LEVEL, Sink, Source, deliver};
@@ -71,25 +72,29 @@ fn write_whole<W: Sink>(writer: &mut W, text: &[u8]) -> Result<(), Refusal>
 }
 
 /// The text in extended RLE of a source's pattern.
-fn rle_of_source<A: Source>(alloc: Global, first: &mut A) -> Result<Vec<u8>, Fault>
+fn rle_of_source<A: Source>(alloc: Global, seeds: &Seeds, first: &mut A) -> Result<Vec<u8>, Fault>
     requires { A.failures first.old ≡ 0 }
     ensures ok { IfOk result (λ text. HasText (IsRleOf MAX_LEVEL (2 ^ 20)) (source_run A.remaining A.failures first.old first.new) text.items) }
     ensures err { IfErr result (HasNoText RefusesRle (source_run A.remaining A.failures first.old first.new)) }
     ensures told { A.failures first.new ≡ 1 → IsErrAnd result (λ fault. fault.kind ≡ Kind.ReadFault) }
 {
-    let mut store = Shared::new(alloc, MOST_SQUARES);
+    let mut store = Shared::new(alloc, seeds.squares, MOST_SQUARES);
     let pattern = read_from(alloc, &mut store, first)?;
     rle_of(alloc, &store, &pattern)
 }
 
 /// The five lines of a source's pattern.
-fn five_lines_of_source<A: Source>(alloc: Global, first: &mut A) -> Result<Vec<u8>, Fault>
+fn five_lines_of_source<A: Source>(
+    alloc: Global,
+    seeds: &Seeds,
+    first: &mut A,
+) -> Result<Vec<u8>, Fault>
     requires { A.failures first.old ≡ 0 }
     ensures ok { IfOk result (λ text. HasText (IsShown MAX_LEVEL) (source_run A.remaining A.failures first.old first.new) text.items) }
     ensures err { IfErr result (HasNoText (Refuses MAX_LEVEL) (source_run A.remaining A.failures first.old first.new)) }
     ensures told { A.failures first.new ≡ 1 → IsErrAnd result (λ fault. fault.kind ≡ Kind.ReadFault) }
 {
-    let mut store = Shared::new(alloc, MOST_SQUARES);
+    let mut store = Shared::new(alloc, seeds.squares, MOST_SQUARES);
     let pattern = read_from(alloc, &mut store, first)?;
     five_lines_of(alloc, &store, &pattern)
 }
@@ -125,7 +130,12 @@ fn held<A: Source>(
 }
 
 /// Whether two sources have the same pattern. What keeps `other` from being read is told before the fault of the file of `one`.
-fn compared<A: Source, B: Source>(alloc: Global, one: &mut A, other: &mut B) -> Result<bool, Fault>
+fn compared<A: Source, B: Source>(
+    alloc: Global,
+    seeds: &Seeds,
+    one: &mut A,
+    other: &mut B,
+) -> Result<bool, Fault>
     requires one { A.failures one.old ≡ 0 }
     requires other { B.failures other.old ≡ 0 }
     ensures ok { IfOk result (λ is_same. Makes Job.Same (source_run A.remaining A.failures one.old one.new) (source_run B.remaining B.failures other.old other.new) (Made.Comparison is_same)) }
@@ -134,7 +144,7 @@ fn compared<A: Source, B: Source>(alloc: Global, one: &mut A, other: &mut B) -> 
 {
     patterns_stay();
     patterns_tell_files();
-    let mut store = Shared::new(alloc, MOST_SQUARES);
+    let mut store = Shared::new(alloc, seeds.squares, MOST_SQUARES);
     let a = held(alloc, &mut store, one)?;
     let b = held(alloc, &mut store, other)?;
     Ok(are_same(&a?, &b?))
@@ -143,6 +153,7 @@ fn compared<A: Source, B: Source>(alloc: Global, one: &mut A, other: &mut B) -> 
 /// What is written for a job, of those that don't write the canonical text of a file.
 fn make<A: Source, B: Source>(
     alloc: Global,
+    seeds: &Seeds,
     job: &Job,
     first: &mut A,
     second: &mut Option<B>,
@@ -158,11 +169,13 @@ fn make<A: Source, B: Source>(
     ensures second_told { IfSome second.new (λ b. B.failures b ≡ 1 → IsErrAnd result (λ refusal. refusal.fault.kind ≡ Kind.ReadFault)) }
 {
     Ok(match (job, second) {
-        (Job::Convert(Target::Rle), _) => Made::Text(rle_of_source(alloc, first)?),
-        (Job::Same, Some(second)) => Made::Comparison(compared(alloc, first, second)?),
-        (Job::Show, _) => Made::Text(five_lines_of_source(alloc, first)?),
-        (Job::Step, _) => Made::Text(next_of(alloc, first)?),
-        (Job::StepTable, Some(second)) => Made::Text(next_by_table_of(alloc, first, second)?),
+        (Job::Convert(Target::Rle), _) => Made::Text(rle_of_source(alloc, seeds, first)?),
+        (Job::Same, Some(second)) => Made::Comparison(compared(alloc, seeds, first, second)?),
+        (Job::Show, _) => Made::Text(five_lines_of_source(alloc, seeds, first)?),
+        (Job::Step, _) => Made::Text(next_of(alloc, seeds, first)?),
+        (Job::StepTable, Some(second)) => Made::Text(next_by_table_of(
+            alloc, seeds, first, second,
+        )?),
         (Job::Same, None) | (Job::StepTable, None) => unreachable!(),
         (Job::Canon, _) | (Job::Convert(Target::Mc), _) => unreachable!(),
     })
@@ -178,6 +191,7 @@ fn writes_canonical(job: &Job) -> bool
 /// Writes the canonical text of the first file.
 fn run_canonical<A: Source, O: Sink>(
     alloc: Global,
+    seeds: &Seeds,
     first: &mut A,
     out: &mut O,
 ) -> Result<u8, Refusal>
@@ -194,7 +208,7 @@ fn run_canonical<A: Source, O: Sink>(
     ensures read_told { A.failures first.new ≡ 1 → IsErrAnd result (λ refusal. refusal.fault.kind ≡ Kind.ReadFault) }
     ensures write_told { (O.failures out.new ≡ 1) ⊎ (O.stalled out.new ≡ true) → IsErrAnd result (λ refusal. refusal.fault.kind ≡ Kind.WriteFault) }
 {
-    let mut store = Shared::new(alloc, MOST_SQUARES);
+    let mut store = Shared::new(alloc, seeds.squares, MOST_SQUARES);
     run_canon(alloc, &mut store, first, out)?;
     Ok(0)
 }
@@ -202,6 +216,7 @@ fn run_canonical<A: Source, O: Sink>(
 /// Does the job, and answers the status of one that is done.
 fn run<A: Source, B: Source, O: Sink>(
     alloc: Global,
+    seeds: &Seeds,
     job: &Job,
     first: &mut A,
     second: &mut Option<B>,
@@ -224,16 +239,17 @@ fn run<A: Source, B: Source, O: Sink>(
     ensures write_told { (O.failures out.new ≡ 1) ⊎ (O.stalled out.new ≡ true) → IsErrAnd result (λ refusal. refusal.fault.kind ≡ Kind.WriteFault) }
 {
     if writes_canonical(job) {
-        return run_canonical(alloc, first, out);
+        return run_canonical(alloc, seeds, first, out);
     }
-    let made = make(alloc, job, first, second)?;
+    let made = make(alloc, seeds, job, first, second)?;
     write_whole(out, made.text())?;
     Ok(made.status())
 }
 
-/// Does the job, and answers the status that the program ends with. `second` is the second file of a job that has one.
+/// Does the job, and answers the status that the program ends with. `second` is the second file of a job that has one. The seeds decide time alone.
 pub fn work<A: Source, B: Source, O: Sink, E: Sink>(
     alloc: Global,
+    seeds: &Seeds,
     job: &Job,
     first: &mut A,
     second: &mut Option<B>,
@@ -260,7 +276,7 @@ pub fn work<A: Source, B: Source, O: Sink, E: Sink>(
     ensures second_told { IfSome second.new (λ b. B.failures b ≡ 1 → result ≡ status_of Kind.ReadFault) }
     ensures write_told { (O.failures out.new ≡ 1) ⊎ (O.stalled out.new ≡ true) → result ≡ status_of Kind.WriteFault }
 {
-    match run(alloc, job, first, second, out) {
+    match run(alloc, seeds, job, first, second, out) {
         Ok(status) => status,
         Err(refusal) => {
             tell(err, &refusal);

@@ -13,3 +13,4 @@ pub mod IdList
 pub mod Pages
 pub mod IdMap
 pub mod IdNumbers
+pub mod Lanes

@@ -13,6 +13,7 @@ mod moves;
 mod plain;
 mod reads;
 mod runs;
+mod seed;
 mod shared;
 mod squares;
 
@@ -24,5 +25,6 @@ pub use moves::{Quarters, divide, grow, is_blank, is_blank_at, trim};
 pub use plain::Plain;
 pub use reads::{bounds, population};
 pub use runs::put_run;
+pub use seed::{Lanes, Seed};
 pub use shared::Shared;
 pub use squares::{SharedSquares, Squares};

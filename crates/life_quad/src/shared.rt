@@ -7,7 +7,7 @@ ghost use Rattle.life_base.specs.Tree.{Tree, depth, is_blank_tree};
 use crate::id::{FIRST_NODE, Node, are_blank, no_room, small_number};
 use crate::id_map::IdMap;
 use crate::join_log::JoinLog;
-use crate::{Id, SharedSquares, Squares};
+use crate::{Id, Seed, SharedSquares, Squares};
 use indexmap::IndexSet;
 use life_base::{Kind, State};
 use std::alloc::Global;
@@ -16,7 +16,7 @@ use std::marker::Model;
 /// Squares, each nonblank square once: small ones by a mark, the others by their nodes.
 #[derive(Drop)]
 pub struct Shared {
-    nodes: IndexSet<Node>,
+    nodes: IndexSet<Node, Seed>,
     /// The level of each node's square.
     levels: Vec<u8>,
     /// Whether a small square was joined.
@@ -76,14 +76,15 @@ impl Shared {
     ghost use Rattle.life_quad.specs.declared.id.TheConstants.{FIRST_SMALL};
 
     /// An empty store for at most `limit` distinct nonblank squares of level 1 and up. With 2^32 - 66,064 of them beside the small ones
-    /// (level 1 or 2, states 0 and 1) `join` answers `Memory` for a new one that isn't small, where the limit is higher.
-    pub fn new(alloc: Global, limit: u64) -> Shared
+    /// (level 1 or 2, states 0 and 1) `join` answers `Memory` for a new one that isn't small, where the limit is higher. The seed decides time
+    /// alone: two stores with different ones hold the same squares by the same Ids.
+    pub fn new(alloc: Global, seed: Seed, limit: u64) -> Shared
         requires { limit ≤ 2 ^ 62 }
         ensures stored { held result ≡ [] }
         ensures most { result.limit ≡ limit }
     {
         Shared {
-            nodes: IndexSet::new(alloc),
+            nodes: IndexSet::with_hasher(alloc, seed),
             levels: Vec::new(alloc),
             seen: IdMap::new(alloc, false),
             small: 0,

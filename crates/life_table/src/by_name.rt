@@ -4,6 +4,7 @@ ghost use Rattle.std.specs.Prelude.{◌≡◌, ◌++◌, ◌∷◌, [], None, sl
 ghost use Rattle.life_base.specs.declared.kind.Kind.TheVariants.{Memory};
 ghost use Rattle.life_table.specs.Reading.{variable_named};
 
+use crate::seed::NameSeed;
 use crate::table::Var;
 use indexmap::IndexMap;
 use life_base::{Items, Kind};
@@ -13,7 +14,7 @@ use std::marker::Model;
 /// Variables with different names, in the order of their lines. A name is found without a walk over the others.
 #[derive(Drop)]
 pub(crate) struct Variables {
-    states: IndexMap<Vec<u8>, [u64; 4]>,
+    states: IndexMap<Vec<u8>, [u64; 4], NameSeed>,
 }
 
 impl Model for Variables {
@@ -28,12 +29,12 @@ impl Model for Variables {
 }
 
 impl Variables {
-    /// No variables. It takes no memory.
-    pub(crate) fn new(alloc: Global) -> Variables
+    /// No variables, whose names will be found by this seed. It takes no memory.
+    pub(crate) fn new(alloc: Global, seed: NameSeed) -> Variables
         ensures { result ≡ [] }
     {
         Variables {
-            states: IndexMap::new(alloc),
+            states: IndexMap::with_hasher(alloc, seed),
         }
     }
 

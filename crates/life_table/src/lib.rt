@@ -16,6 +16,7 @@ mod lines;
 mod next;
 mod places;
 mod reading;
+mod seed;
 mod seen;
 mod site;
 mod table;
@@ -26,4 +27,5 @@ mod words;
 
 pub use next::Neighbours;
 pub use reading::read_table;
+pub use seed::NameSeed;
 pub use table::{Entry, Neighborhood, Symmetry, Table, Transition, Var};

@@ -8,6 +8,7 @@ ghost use Rattle.life_table.specs.Reader.{IsKept, after, fits_after, nothing_par
 
 use crate::by_name::Variables;
 use crate::directive::{Directive, Parsed, Section};
+use crate::seed::NameSeed;
 use crate::table::Var;
 use crate::transitions::fits_zero;
 use life_base::{Fault, Items, Kind};
@@ -23,7 +24,7 @@ pub(crate) struct TableLines {
 
 impl TableLines {
     /// No line came.
-    pub(crate) fn new(alloc: Global) -> TableLines
+    pub(crate) fn new(alloc: Global, seed: NameSeed) -> TableLines
         ensures parsed { result.parsed ≡ nothing_parsed }
         ensures fits { result.fits ≡ false }
     {
@@ -34,7 +35,7 @@ impl TableLines {
                 n_states: None,
                 neighborhood: None,
                 symmetry: None,
-                vars: Variables::new(alloc),
+                vars: Variables::new(alloc, seed),
                 lines: Items::new(alloc),
             },
             fits: false,

@@ -9,6 +9,7 @@ ghost use Rattle.life_table.specs.Reader.{IsGood};
 
 use crate::directive::{Parsed, Section};
 use crate::lines::TableLines;
+use crate::seed::NameSeed;
 use crate::table::Table;
 use life_base::{Fault, Kind, lines};
 use std::alloc::Global;
@@ -50,19 +51,19 @@ fn table_of(alloc: Global, parsed: Parsed, end: u64) -> Result<Table, Fault>
     }
 }
 
-/// The table that a `.rule` file writes.
+/// The table that a `.rule` file writes. The seed decides time alone.
 ///
 /// # Errors
 ///
 /// The place is the first line behind which the bytes can't be continued to a file with a table, or the number of lines plus 1 where they
 /// end before they have one, and the kind is that of the first rule which that line breaks, or of what is missing. Where a growth of memory
 /// is refused the fault is `Memory`, which names no line.
-pub fn read_table(alloc: Global, bytes: &[u8]) -> Result<Table, Fault>
+pub fn read_table(alloc: Global, seed: NameSeed, bytes: &[u8]) -> Result<Table, Fault>
     ensures ok { IfOk result (λ table. IsFile (lines_of bytes.now) table) }
     ensures err { IfErr result (λ fault. OrMemory fault (Refuses (lines_of bytes.now) fault)) }
     ensures kinds { IfErr result (λ fault. OrMemory fault (is_table_kind fault.kind ≡ true)) }
 {
-    let mut reader = TableLines::new(alloc);
+    let mut reader = TableLines::new(alloc, seed);
     let mut next: u64 = 1;
     for (number, line) in lines(bytes) {
         reader.line(alloc, number, line)?;

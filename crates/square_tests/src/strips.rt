@@ -4,7 +4,7 @@ ghost use Rattle.life_strip.specs.Filling.{IsFilling};
 ghost use Rattle.life_strip.specs.Given.{IsNext};
 
 use life_base::{Kind, MAX_LEVEL, Run, State};
-use life_quad::{Id, Plain, Shared, Squares, put_run, trim};
+use life_quad::{Id, Plain, Seed, Shared, Squares, put_run, trim};
 use life_strip::{Builder, laws};
 use std::alloc::Global;
 
@@ -102,7 +102,7 @@ fn agree<S: Squares + Drop>(alloc: Global, store: S) -> Result<bool, Kind> {
 
 #[test]
 fn runs_by_rows_give_the_square_of_runs_one_by_one(rt: HostRuntime) {
-    let store = Shared::new(rt.alloc(), 10_000);
+    let store = Shared::new(rt.alloc(), Seed::fixed(), 10_000);
     assert!(rt; agree(rt.alloc(), store) == Ok(true));
 }
 
@@ -132,7 +132,7 @@ fn quarter_states<S: Squares + Drop>(alloc: Global, store: S) -> Result<[Option<
 #[test]
 fn two_cells_give_the_square_joined_by_hand(rt: HostRuntime) {
     let alloc = rt.alloc();
-    assert!(rt; is_joined(alloc, Shared::new(alloc, 1000)) == Ok(true));
+    assert!(rt; is_joined(alloc, Shared::new(alloc, Seed::fixed(), 1000)) == Ok(true));
     let states = quarter_states(alloc, Plain::new(alloc, 1000));
     assert!(rt; states == Ok([Some(1), Some(0), Some(0), Some(2)]));
 }
@@ -146,14 +146,14 @@ fn gives_blank<S: Squares + Drop>(alloc: Global, store: S) -> Result<bool, Kind>
 
 #[test]
 fn no_cell_gives_the_blank_square(rt: HostRuntime) {
-    assert!(rt; gives_blank(rt.alloc(), Shared::new(rt.alloc(), 0)) == Ok(true));
+    assert!(rt; gives_blank(rt.alloc(), Shared::new(rt.alloc(), Seed::fixed(), 0)) == Ok(true));
 }
 
 // Whether a store of this limit takes a cell, and the number of its nodes.
 fn one_cell_within(alloc: Global, limit: u64) -> (Result<(), Kind>, u64)
     requires { limit ≤ 62 }
 {
-    let mut store = Shared::new(alloc, limit);
+    let mut store = Shared::new(alloc, Seed::fixed(), limit);
     let answer = one_cell(alloc, &mut store);
     (answer.map(|_root| ()), store.len())
 }
@@ -170,7 +170,7 @@ fn a_store_without_room_is_full(rt: HostRuntime) {
 fn five_rows_within(alloc: Global, limit: u64) -> (Result<(), Kind>, u64)
     requires { limit ≤ 62 }
 {
-    let mut store = Shared::new(alloc, limit);
+    let mut store = Shared::new(alloc, Seed::fixed(), limit);
     (five_rows(alloc, &mut store), store.len())
 }
 
@@ -185,7 +185,7 @@ fn a_run_in_a_full_store_is_refused(rt: HostRuntime) {
 
 // How many squares a store holds behind the runs.
 fn room_of_runs(alloc: Global) -> Result<u64, Kind> {
-    let mut ample = Shared::new(alloc, 10_000);
+    let mut ample = Shared::new(alloc, Seed::fixed(), 10_000);
     one_by_one(&mut ample)?;
     Ok(ample.len())
 }
@@ -194,7 +194,7 @@ fn room_of_runs(alloc: Global) -> Result<u64, Kind> {
 fn takes_again(alloc: Global, limit: u64) -> Result<[bool; 3], Kind>
     requires { limit ≤ 10_000 }
 {
-    let mut store = Shared::new(alloc, limit);
+    let mut store = Shared::new(alloc, Seed::fixed(), limit);
     let first = one_by_one(&mut store)?;
     let is_full = store.len() == store.limit();
     let again = one_by_one(&mut store)?;

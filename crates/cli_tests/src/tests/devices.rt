@@ -9,7 +9,7 @@ ghost use Rattle.life_cli.specs.Plans.{HasSecond};
 use super::JOBS;
 use life_base::{Device, Kind, Sink, Source};
 use life_cli::plans::Job;
-use life_cli::work;
+use life_cli::{Seeds, work};
 use std::alloc::Global;
 use std::io::{self, Read, Write};
 use std::process::Abort;
@@ -180,7 +180,15 @@ pub(super) fn assert_job<A: Source, B: Source + Drop>(
     let mut second = second;
     let mut out = sink_with(alloc, sink.0, sink.1);
     let mut err = sink_with(alloc, 99, 3);
-    let status = work(alloc, job, first, &mut second, &mut out, &mut err);
+    let status = work(
+        alloc,
+        &Seeds::fixed(),
+        job,
+        first,
+        &mut second,
+        &mut out,
+        &mut err,
+    );
     assert_left(rt, (status, out, err), wanted);
 }
 

@@ -7,7 +7,7 @@ use super::JOBS;
 use super::devices::{End, Limited, Narrow, WIDE, assert_job, assert_left, sink_with, source_of};
 use life_base::{Device, Source};
 use life_cli::plans::Job;
-use life_cli::work;
+use life_cli::{Seeds, work};
 use std::alloc::Global;
 use std::io::{self, Write};
 use std::process::Abort;
@@ -59,7 +59,15 @@ fn told<A: Source, B: Source, W: Write + Drop>(
 {
     let mut out = Device::new(writer);
     let mut err = sink_with(alloc, 99, 3);
-    let status = work(alloc, job, first, second, &mut out, &mut err);
+    let status = work(
+        alloc,
+        &Seeds::fixed(),
+        job,
+        first,
+        second,
+        &mut out,
+        &mut err,
+    );
     (status, err)
 }
 
@@ -138,6 +146,7 @@ fn assert_error_front(rt: &impl Abort, alloc: Global, room: usize, piece: usize,
     let mut err = sink_with(alloc, room, piece);
     let status = work(
         alloc,
+        &Seeds::fixed(),
         &Job::Canon,
         &mut first,
         &mut second,

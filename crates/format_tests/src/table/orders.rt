@@ -2,7 +2,9 @@
 ghost use Rattle.std.specs.Prelude.{◌≡◌, ◌<◌, All};
 
 use life_base::{Fault, Kind, Place, State};
-use life_table::{Entry, Neighborhood, Neighbours, Symmetry, Table, Transition, read_table};
+use life_table::{
+    Entry, NameSeed, Neighborhood, Neighbours, Symmetry, Table, Transition, read_table,
+};
 use std::alloc::{AllocError, Global};
 use std::process::Abort;
 use std::rt::HostRuntime;
@@ -16,7 +18,7 @@ fn read_texts(alloc: Global, texts: &[&str]) -> Result<Result<Table, Fault>, All
     for text in texts {
         bytes.extend_from_slice(text.as_bytes())?;
     }
-    Ok(read_table(alloc, &bytes))
+    Ok(read_table(alloc, NameSeed::fixed(), &bytes))
 }
 
 /// The table that texts write one behind another, and no refusal.

@@ -87,7 +87,7 @@ fn bare<'a>(alloc: Global) -> Result<Command<'a>, AllocError>
     ensures { IfOk result (λ command. ReadsAs named command) }
 {
     Command::new(alloc, "golly_canon")
-        .version("0.1.0")
+        .version("0.2.0")
         .about(PROGRAM.summary)
         .long_about(PROGRAM.about)
         .after_long_help(PROGRAM.notes)

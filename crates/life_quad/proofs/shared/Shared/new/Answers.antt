@@ -7,15 +7,15 @@ use Rattle.life_quad.proofs.shared.Shared.new.Goals as goal
 pub invariant_of-result : goal.invariant_of-result
 unfolding squares
 invariant_of-result c =
-    let s : Nodes = record { nodes = c.new.result.keys; log = c.new-4.result.ids; limit = c.args.limit } in
+    let s : Nodes = record { nodes = c.with_hasher.result.keys; log = c.new-3.result.ids; limit = c.args.limit } in
     let sound : IsSound s = search rules in
     let shared : IsShared s = search rules in
     let count : length s.log ≡ length s.nodes + 0 = search rules in
-    let levels : c.new-2.result.items ≡ levels_of c.new.result.keys = search rules in
-    (sound, shared, HasSeen-none (value_of c.new-3.result) s.log c.new-3.ensures c.new-4.ensures, count, levels)
+    let levels : c.new.result.items ≡ levels_of c.with_hasher.result.keys = search rules in
+    (sound, shared, HasSeen-none (value_of c.new-2.result) s.log c.new-2.ensures c.new-3.ensures, count, levels)
 
 pub returns-clause-stored : goal.returns-clause-stored
-returns-clause-stored c = held-none (record { nodes = c.new.result.keys; log = c.new-4.result.ids; limit = c.args.limit }) c.new-4.ensures
+returns-clause-stored c = held-none (record { nodes = c.with_hasher.result.keys; log = c.new-3.result.ids; limit = c.args.limit }) c.new-3.ensures
 
 pub returns-clause-most : goal.returns-clause-most
 returns-clause-most c = search rules
