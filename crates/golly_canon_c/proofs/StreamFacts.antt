@@ -4,7 +4,7 @@ use Rattle.life_base.specs.Refusal.{fault_of}
 use Rattle.life_base.specs.Rules.{IsRule}
 use Rattle.life_base.specs.declared.cell.TheConstants.{MAX_LEVEL}
 use Rattle.life_base.specs.declared.fault.Fault.{Fault}
-use Rattle.life_base.specs.declared.kind.Kind.TheVariants.{Memory, TooManyCells}
+use Rattle.life_base.specs.declared.kind.Kind.TheVariants.{Full, Memory, TooManyCells}
 use Rattle.life_mc.specs.Macrocell.{largest_state}
 use Rattle.life_mc.specs.Reading.{IsMacrocell}
 use Rattle.life_quad.specs.Store.{Nodes}
@@ -12,11 +12,12 @@ use Rattle.life_canon.specs.Feeding.{RefusesFront}
 use Rattle.life_canon.specs.Files.{Reads}
 use Rattle.life_canon.specs.Laws.{PatternsFit, FilesAreOnPlane, TextsTellUniverses, TextsAreFiles, CanonicalIsLeast}
 use Rattle.life_canon.specs.Listing.{canonical_file, canon_text}
-use Rattle.life_canon.specs.Store.{IsRead, IsWant, RefusesIn, universe_in}
+use Rattle.life_canon.specs.Needs.{LacksFor, LacksForFront}
+use Rattle.life_canon.specs.Store.{IsRead, IsWant, RefusesIn, content, universe_in}
 use Rattle.life_canon.specs.Texts.{HasMoreCells}
 use Rattle.life_canon.specs.Universe.{Universe, IsSame, IsOnPlane}
 use Rattle.life_canon.specs.declared.pattern.Pattern.{Pattern}
-use Rattle.life_step.specs.Refusals.{LifeRefusal}
+use Rattle.life_step.specs.Refusals.{LacksForLife, LacksForNext, LifeRefusal}
 use Rattle.golly_canon_c.specs.Answers.{IsCanonicalText, room_of}
 use Rattle.golly_canon_c.specs.Forms.{Piecewise, IsTextOf, RefusesTextOf, RefusesPiece}
 use Rattle.golly_canon_c.specs.Streams.{IsOpen, IsFed, HasText, HasFault, Takes, by_piece, Ends, by_text}
@@ -58,17 +59,21 @@ canonical fit plane tell files least bytes store pattern text is read =
       },
     )
 
+-- refused memory is no want of room
+not-full : {P : Type 0} (fault : Fault) → fault ≡ fault_of Memory → fault ≡ fault_of Full → P
+not-full fault memory full = let e : Memory ≡ Full = ap (λ (f : Fault). f.kind) (sym memory ∙ full) in absurd cc
+
 -- why a file is refused at its end, or room or memory wanted
 pub text-fault : (form : Form) (limit : ℕ) (bytes : List ℕ) (store : Nodes) (fault : Fault) → store.limit ≡ room_of limit
-    → RefusesIn MAX_LEVEL bytes store fault → RefusesTextOf form limit bytes fault
-text-fault Canonical limit bytes store fault is (inl refuses) = inl refuses
-text-fault Canonical limit bytes store fault is (inr want) = inr (store, is, want)
-text-fault Rle limit bytes store fault is (inl refuses) = inl (inl refuses)
-text-fault Rle limit bytes store fault is (inr want) = inl (inr (store, is, want))
-text-fault Lines limit bytes store fault is (inl refuses) = inl refuses
-text-fault Lines limit bytes store fault is (inr want) = inr (store, is, want)
-text-fault Next limit bytes store fault is (inl refuses) = inl refuses
-text-fault Next limit bytes store fault is (inr want) = inr (inl (store, is, want))
+    → RefusesIn MAX_LEVEL bytes store fault → (fault ≡ fault_of Full → LacksFor MAX_LEVEL bytes store) → RefusesTextOf form limit bytes fault
+text-fault Canonical limit bytes store fault is (inl refuses) lacks = inl refuses
+text-fault Canonical limit bytes store fault is (inr want) lacks = inr (store, is, want, lacks)
+text-fault Rle limit bytes store fault is (inl refuses) lacks = inl (inl refuses)
+text-fault Rle limit bytes store fault is (inr want) lacks = inl (inr (store, is, want, lacks))
+text-fault Lines limit bytes store fault is (inl refuses) lacks = inl refuses
+text-fault Lines limit bytes store fault is (inr want) lacks = inr (store, is, want, lacks)
+text-fault Next limit bytes store fault is (inl refuses) lacks = inl refuses
+text-fault Next limit bytes store fault is (inr want) lacks = inr (inl (store, is, want, λ full. inl (lacks full)))
 
 -- the same of a text in extended RLE, which may have too many cells
 pub rle-fault : (limit : ℕ) (bytes : List ℕ) (store : Nodes) (pattern : Pattern) (fault : Fault) → store.limit ≡ room_of limit
@@ -76,17 +81,26 @@ pub rle-fault : (limit : ℕ) (bytes : List ℕ) (store : Nodes) (pattern : Patt
     → (fault ≡ fault_of Memory) ⊎ ((fault ≡ fault_of TooManyCells)
     × ((bytes : List ℕ) → IsRead MAX_LEVEL bytes store pattern → HasMoreCells MAX_LEVEL bytes (2 ^ 20)))
     → RefusesTextOf Rle limit bytes fault
-rle-fault limit bytes store pattern fault is read (inl memory) = inl (inr (store, is, inl memory))
+rle-fault limit bytes store pattern fault is read (inl memory) = inl (inr (store, is, inl memory, not-full fault memory))
 rle-fault limit bytes store pattern fault is read (inr many) = inr (many.0, many.1 bytes read)
+
+-- what the step of a pattern lacks, the step of its bytes lacks
+next-lacks : (bytes : List ℕ) (old store : Nodes) (pattern : Pattern) → IsRead MAX_LEVEL bytes old pattern
+    → LacksForLife pattern.rule (content old pattern.root) store → LacksForNext bytes store
+next-lacks bytes old store pattern read lacks =
+    let u = read.universe in
+    let of_rule = subst (λ r. LacksForLife r (content old pattern.root) store) read.is.rule lacks in
+    (u, read.reads, subst (λ t. LacksForLife u.rule t store) read.is.root of_rule)
 
 -- the same of a step, which may be refused
 pub next-fault : (limit : ℕ) (bytes : List ℕ) (old store : Nodes) (pattern : Pattern) (fault : Fault) → store.limit ≡ room_of limit
     → IsRead MAX_LEVEL bytes old pattern
     → IsWant store fault ⊎ ((bytes : List ℕ) → IsRead MAX_LEVEL bytes old pattern → (u : Universe) × Reads MAX_LEVEL bytes u
     × LifeRefusal MAX_LEVEL u (Some fault))
-    → RefusesTextOf Next limit bytes fault
-next-fault limit bytes old store pattern fault is read (inl want) = inr (inl (store, is, want))
-next-fault limit bytes old store pattern fault is read (inr step) = inr (inr (step bytes read))
+    → (fault ≡ fault_of Full → LacksForLife pattern.rule (content old pattern.root) store) → RefusesTextOf Next limit bytes fault
+next-fault limit bytes old store pattern fault is read (inl want) lacks =
+    inr (inl (store, is, want, λ full. inr (next-lacks bytes old store pattern read (lacks full))))
+next-fault limit bytes old store pattern fault is read (inr step) lacks = inr (inr (step bytes read))
 
 -- the text of what was read is one of this form
 pub form-text : {X : Type 0} {form : Form} {inside self : Piecewise} {store : Nodes} {pattern : Pattern} (items : X → List ℕ) (r : Result X Fault)
@@ -105,13 +119,14 @@ pub wants : {X : Type 0} {inside self : Piecewise} (store : Nodes) (r : Result X
 wants store (Ok x) is room memory = tt
 wants {inside = inside} store (Err fault) is room memory = λ limit most.
     subst (λ (v : Piecewise). RefusesTextOf v.form limit v.bytes fault) is
-    (text-fault inside.form limit inside.bytes store fault (room ∙ ap (λ (v : Piecewise). v.room) is ∙ most) (inr (inl memory)))
+    (text-fault inside.form limit inside.bytes store fault (room ∙ ap (λ (v : Piecewise). v.room) is ∙ most) (inr (inl memory)) (not-full fault memory))
 
 -- why a piece is refused
 pub piece-fault : (limit : ℕ) (bytes : List ℕ) (store : Nodes) (fault : Fault) → store.limit ≡ room_of limit
-    → IsWant store fault ⊎ RefusesFront MAX_LEVEL bytes fault → RefusesPiece limit bytes fault
-piece-fault limit bytes store fault is (inl want) = inr (store, is, want)
-piece-fault limit bytes store fault is (inr front) = inl front
+    → IsWant store fault ⊎ RefusesFront MAX_LEVEL bytes fault → (fault ≡ fault_of Full → LacksForFront MAX_LEVEL bytes store)
+    → RefusesPiece limit bytes fault
+piece-fault limit bytes store fault is (inl want) lacks = inr (store, is, want, lacks)
+piece-fault limit bytes store fault is (inr front) lacks = inl front
 
 -- ---- sessions
 

@@ -4,10 +4,11 @@ use Rattle.life_base.specs.Kinds.{kind_number}
 use Rattle.life_base.specs.Refusal.{fault_of}
 use Rattle.life_base.specs.declared.cell.TheConstants.{MAX_LEVEL}
 use Rattle.life_base.specs.declared.fault.Fault.{Fault}
-use Rattle.life_base.specs.declared.kind.Kind.TheVariants.{TooManyCells}
+use Rattle.life_base.specs.declared.kind.Kind.TheVariants.{Full, TooManyCells}
 use Rattle.life_quad.specs.Store.{Nodes}
 use Rattle.life_canon.specs.Files.{Same, Refuses}
 use Rattle.life_canon.specs.Least.{IsLeastText}
+use Rattle.life_canon.specs.Needs.{LacksFor}
 use Rattle.life_canon.specs.Store.{IsWant}
 use Rattle.life_canon.specs.Texts.{IsCanonical, IsRleOf, HasMoreCells}
 
@@ -50,13 +51,13 @@ pub data Answers (IsText : List ℕ → Type 0) (IsFault : Fault → Type 0) (to
 abbrev pub room_of : ℕ → ℕ
 room_of limit = min limit (2 ^ 62)
 
--- memory was refused, or a store of this limit holds it
-abbrev pub Wants : ℕ → Fault → Type 0
-Wants limit fault = (store : Nodes) × (store.limit ≡ room_of limit) × IsWant store fault
+-- memory was refused, or a store of this limit holds it and lacks what the call needs
+abbrev pub Wants : (Nodes → Type 0) → ℕ → Fault → Type 0
+Wants Lacks limit fault = (store : Nodes) × (store.limit ≡ room_of limit) × IsWant store fault × (fault ≡ fault_of Full → Lacks store)
 
 -- why a call on these bytes is refused
 abbrev pub RefusesWithin : ℕ → List ℕ → Fault → Type 0
-RefusesWithin limit bytes fault = Refuses MAX_LEVEL bytes fault ⊎ Wants limit fault
+RefusesWithin limit bytes fault = Refuses MAX_LEVEL bytes fault ⊎ Wants (LacksFor MAX_LEVEL bytes) limit fault
 
 -- the same where the text is extended RLE, which may have too many cells
 abbrev pub RefusesRleWithin : ℕ → List ℕ → Fault → Type 0

@@ -3,7 +3,9 @@ use Rattle.std.specs.Prelude.{◌≡◌, ◌⊎◌, ℕ, List}
 use Rattle.life_base.specs.Kinds.{kind_number}
 use Rattle.life_base.specs.declared.cell.TheConstants.{MAX_LEVEL}
 use Rattle.life_base.specs.declared.fault.Fault.{Fault}
+use Rattle.life_quad.specs.Store.{Nodes}
 use Rattle.life_canon.specs.Files.{Accepted, Same, Refuses}
+use Rattle.life_canon.specs.Needs.{LacksFor}
 use Rattle.golly_canon_c.specs.Answers.{Wants}
 
 -- the status and the numbers that are told
@@ -16,10 +18,15 @@ pub record Compared : Type 0 where
 abbrev pub IsAnswerOf : List ℕ → List ℕ → ℕ → Type 0
 IsAnswerOf first second is_same = ((is_same ≡ 1) × Same MAX_LEVEL first second) ⊎ ((is_same ≡ 0) × (¬ Same MAX_LEVEL first second))
 
+-- the store lacks a square that the first file needs, or that the second one needs, where the first is a file
+abbrev pub LacksForEither : List ℕ → List ℕ → Nodes → Type 0
+LacksForEither first second store = LacksFor MAX_LEVEL first store ⊎ (Accepted MAX_LEVEL first × LacksFor MAX_LEVEL second store)
+
 -- why two files aren't compared: the first is none, or the second, or room or memory is wanted
 abbrev pub RefusesEither : ℕ → List ℕ → List ℕ → Fault → Type 0
 RefusesEither limit first second fault =
-    Refuses MAX_LEVEL first fault ⊎ (Accepted MAX_LEVEL first × Refuses MAX_LEVEL second fault) ⊎ Wants limit fault
+    Refuses MAX_LEVEL first fault ⊎ (Accepted MAX_LEVEL first × Refuses MAX_LEVEL second fault)
+    ⊎ Wants (LacksForEither first second) limit fault
 
 -- both are files, and the answer is told; or the fault that keeps it from being found
 pub data ComparesWithin (limit : ℕ) (first second : List ℕ) (told : Compared) : Type 0 where

@@ -3,6 +3,7 @@ use Rattle.std.specs.Prelude.{◌⊎◌, ℕ, List}
 use Rattle.life_base.specs.declared.cell.TheConstants.{MAX_LEVEL}
 use Rattle.life_base.specs.declared.fault.Fault.{Fault}
 use Rattle.life_canon.specs.Feeding.{RefusesFront}
+use Rattle.life_canon.specs.Needs.{LacksForFront}
 use Rattle.life_canon.specs.Texts.{IsShown}
 use Rattle.golly_canon_c.specs.Answers.{IsCanonicalText, IsRleText, RefusesWithin, RefusesRleWithin, Wants}
 use Rattle.life_step.specs.Stepped.{IsStepped}
@@ -24,9 +25,9 @@ RefusesTextOf Rle = RefusesRleWithin
 RefusesTextOf Lines = RefusesWithin
 RefusesTextOf Next = RefusesStepWithin
 
--- no file goes on from these bytes, or room or memory is wanted
+-- no file goes on from these bytes, or room or memory is wanted for their lines that have ended
 abbrev pub RefusesPiece : ℕ → List ℕ → Fault → Type 0
-RefusesPiece limit bytes fault = RefusesFront MAX_LEVEL bytes fault ⊎ Wants limit fault
+RefusesPiece limit bytes fault = RefusesFront MAX_LEVEL bytes fault ⊎ Wants (LacksForFront MAX_LEVEL bytes) limit fault
 
 -- What contracts see of a file that comes in pieces: which text its end gives, how many squares its store may hold, and the bytes that came.
 pub record Piecewise : Type 0 where

@@ -1,21 +1,24 @@
 -- From the parts of a job to what it did, or why it is refused.
-use Rattle.std.proofs.Common.{◌≡◌, ℕ, ◌^◌, ◌⊎◌, inl, inr, List, Bool, true, false, Result, Ok, Err, IfErr, IfOk, OnOk, refl, IsTrue, ◌↔◌, subst, sym}
+use Rattle.std.proofs.Common.{◌≡◌, ℕ, ◌^◌, ◌⊎◌, inl, inr, List, Bool, true, false, Result, Ok, Err, IfErr, IfOk, OnOk, ap, refl, IsTrue, ◌↔◌, subst, sym}
 use Rattle.std.specs.Io.KnownBytes.{Appends}
 use Rattle.life_base.specs.DeviceRuns.{SourceRun, SinkRun}
 use Rattle.life_base.specs.Inputs.{ReadAll}
 use Rattle.life_base.specs.Refusal.{fault_of, OrMemory}
 use Rattle.life_base.specs.Text.{lines_of}
+use Rattle.life_base.specs.Tree.{Tree}
 use Rattle.life_base.specs.declared.cell.TheConstants.{MAX_LEVEL}
 use Rattle.life_base.specs.declared.fault.Fault.{Fault}
 use Rattle.life_base.specs.declared.kind.Kind.{Kind}
 use Rattle.life_base.specs.declared.kind.Kind.TheVariants.{Full, Memory, TooManyCells, ReadFault, InputTooLong}
+use Rattle.life_base.specs.declared.rule.Rule.{Rule}
 use Rattle.life_quad.specs.Store.{Nodes}
-use Rattle.life_canon.specs.Files.{Accepted, Refuses, Same as AreSame, is_file_kind}
+use Rattle.life_canon.specs.Files.{Accepted, Reads, Refuses, Same as AreSame, is_file_kind}
 use Rattle.life_canon.specs.Laws.{RefusalsHaveKinds}
 use Rattle.life_canon.specs.Running.{HasRead, ReadRefuses, LacksForRead}
 use Rattle.life_canon.specs.Running as reading
-use Rattle.life_canon.specs.Store.{IsRead, IsWant}
+use Rattle.life_canon.specs.Store.{IsRead, IsWant, content}
 use Rattle.life_canon.specs.Texts.{HasMoreCells, IsRleOf, IsShown}
+use Rattle.life_canon.specs.Universe.{Universe, whole}
 use Rattle.life_canon.specs.declared.pattern.Pattern.{Pattern}
 use Rattle.life_table.specs.Grammar.{IsFile}
 use Rattle.life_table.specs.Reading.{Refuses as RefusesTable}
@@ -110,14 +113,27 @@ pub text_of_pattern : {X : Type 0} (gives : List ℕ → List ℕ → Type 0) (i
 text_of_pattern gives items source store pattern (Ok x) has is = record { bytes = has.bytes; read = has.read; is = is has.bytes has.is }
 text_of_pattern gives items source store pattern (Err fault) has is = tt
 
+-- what the step of a pattern needs, that of its file needs
+of_file : (needs : Rule → Tree → Type 0) (bytes : List ℕ) (store : Nodes) (pattern : Pattern) → IsRead MAX_LEVEL bytes store pattern
+    → needs pattern.rule (content store pattern.root) → (u : Universe) × Reads MAX_LEVEL bytes u × needs u.rule (whole MAX_LEVEL u)
+of_file needs bytes store pattern read of_pattern =
+    let u = read.universe in
+    let of_rule = subst (λ (rule : Rule). needs rule (content store pattern.root)) read.is.rule of_pattern in
+    (u, read.reads, subst (λ (root : Tree). needs u.rule root) read.is.root of_rule)
+
 -- nothing comes of a pattern that isn't stepped
-pub refused_step : {X : Type 0} (refuses : List ℕ → Fault → Type 0) (source : SourceRun) (old new : Nodes) (pattern : Pattern) (r : Result X Fault)
-    → HasRead MAX_LEVEL (2 ^ 30) old source pattern → new.limit ≡ 2 ^ 31
+pub refused_step : {X : Type 0} (lacks : Rule → Tree → Nodes → Type 0) (refuses : List ℕ → Fault → Type 0) (source : SourceRun) (old new : Nodes)
+    (pattern : Pattern) (r : Result X Fault) → HasRead MAX_LEVEL (2 ^ 30) old source pattern → new.limit ≡ 2 ^ 31
     → IfErr r (λ fault. IsWant new fault ⊎ ((bytes : List ℕ) → IsRead MAX_LEVEL bytes old pattern → refuses bytes fault))
-    → IfErr r (HasNoText (λ bytes fault. Refuses MAX_LEVEL bytes fault ⊎ (WantsToStep fault ⊎ refuses bytes fault)) source)
-refused_step refuses source old new pattern (Ok x) has limit h = tt
-refused_step refuses source old new pattern (Err fault) has limit (inl want) = by_file has.bytes has.read (inr (inl (new, limit, want)))
-refused_step refuses source old new pattern (Err fault) has limit (inr step) = by_file has.bytes has.read (inr (inr (step has.bytes has.is)))
+    → (r ≡ Err (fault_of Full) → lacks pattern.rule (content old pattern.root) new)
+    → IfErr r (HasNoText (λ bytes fault. Refuses MAX_LEVEL bytes fault
+    ⊎ (WantsToStep (λ store. (u : Universe) × Reads MAX_LEVEL bytes u × lacks u.rule (whole MAX_LEVEL u) store) fault ⊎ refuses bytes fault)) source)
+refused_step lacks refuses source old new pattern (Ok x) has limit h needed = tt
+refused_step lacks refuses source old new pattern (Err fault) has limit (inl want) needed =
+    let lacking : fault ≡ fault_of Full → (u : Universe) × Reads MAX_LEVEL has.bytes u × lacks u.rule (whole MAX_LEVEL u) new =
+    λ full. of_file (λ rule root. lacks rule root new) has.bytes old pattern has.is (needed (ap (λ (f : Fault). Err f) full)) in
+    by_file has.bytes has.read (inr (inl (new, limit, want, lacking)))
+refused_step lacks refuses source old new pattern (Err fault) has limit (inr step) needed = by_file has.bytes has.read (inr (inr (step has.bytes has.is)))
 
 -- a file gives a table, or none
 pub no_table_input : (source : SourceRun) (fault : Fault) → InputRefuses source fault ⊎ (fault ≡ fault_of Memory) → HasNoTable source fault

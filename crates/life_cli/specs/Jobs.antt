@@ -19,7 +19,7 @@ use Rattle.life_canon.specs.declared.pattern.Pattern.{Pattern}
 use Rattle.life_table.specs.Grammar.{IsFile}
 use Rattle.life_table.specs.Reading.{Refuses as RefusesTable}
 use Rattle.life_table.specs.declared.table.Table.{Table}
-use Rattle.life_step.specs.Refusals.{LifeRefusal, TableRefusal}
+use Rattle.life_step.specs.Refusals.{LacksForNext, LacksForNextBy, LifeRefusal, TableRefusal}
 use Rattle.life_step.specs.Stepped.{IsStepped, IsSteppedBy}
 use Rattle.life_cli.specs.Plans.{HasSecond}
 use Rattle.life_cli.specs.declared.plans.Job.{Job}
@@ -141,20 +141,22 @@ abbrev pub CanonRefuses : SourceRun → SinkRun → Fault → Type 0
 CanonRefuses first output fault = (store : Nodes) × (store.limit ≡ 2 ^ 31) × RunRefuses MAX_LEVEL (2 ^ 30) store first output fault
     × (fault ≡ fault_of Full → LacksForRead MAX_LEVEL (2 ^ 30) store first)
 
--- a step found that a store of 2^31 squares holds its limit, or a growth of memory was refused to it
-abbrev pub WantsToStep : Fault → Type 0
-WantsToStep fault = (store : Nodes) × (store.limit ≡ 2 ^ 31) × IsWant store fault
+-- a step found that a store of 2^31 squares holds its limit and lacks what the step needs, or a growth of memory was refused to it
+abbrev pub WantsToStep : (Nodes → Type 0) → Fault → Type 0
+WantsToStep Lacks fault = (store : Nodes) × (store.limit ≡ 2 ^ 31) × IsWant store fault × (fault ≡ fault_of Full → Lacks store)
 
 -- why bytes aren't stepped under their own rule: they are no file, room or memory is wanted, or they are one whose pattern has no next
 -- generation
 abbrev pub RefusesStep : List ℕ → Fault → Type 0
 RefusesStep bytes fault =
-    Refuses MAX_LEVEL bytes fault ⊎ (WantsToStep fault ⊎ ((u : Universe) × Reads MAX_LEVEL bytes u × LifeRefusal MAX_LEVEL u (Some fault)))
+    Refuses MAX_LEVEL bytes fault
+    ⊎ (WantsToStep (LacksForNext bytes) fault ⊎ ((u : Universe) × Reads MAX_LEVEL bytes u × LifeRefusal MAX_LEVEL u (Some fault)))
 
 -- the same by a table
 abbrev pub RefusesStepBy : Table → List ℕ → Fault → Type 0
 RefusesStepBy table bytes fault =
-    Refuses MAX_LEVEL bytes fault ⊎ (WantsToStep fault ⊎ ((u : Universe) × Reads MAX_LEVEL bytes u × TableRefusal MAX_LEVEL table u (Some fault)))
+    Refuses MAX_LEVEL bytes fault
+    ⊎ (WantsToStep (LacksForNextBy table bytes) fault ⊎ ((u : Universe) × Reads MAX_LEVEL bytes u × TableRefusal MAX_LEVEL table u (Some fault)))
 
 -- all of a file was read, and it is this rule table
 pub record HasTable (source : SourceRun) (table : Table) : Type 0 where

@@ -1,6 +1,6 @@
 -- Why a pattern has no next generation: the first condition in order that holds. The order and the limits are the project's own. And which
 -- square a refused step had to store, behind those that reading needs.
-use Rattle.std.specs.Prelude.{◌≡◌, ◌≢◌, ℕ, ◌-◌, ◌^◌, ◌<◌, ℤ, List, length, Option, Some, None}
+use Rattle.std.specs.Prelude.{◌≡◌, ◌≢◌, ◌⊎◌, ℕ, ◌-◌, ◌^◌, ◌<◌, ℤ, List, length, Option, Some, None}
 use Rattle.life_base.specs.Sets.{OuterTotalistic}
 use Rattle.life_base.specs.Refusal.{fault_of}
 use Rattle.life_base.specs.Tree.{Tree, depth, tree_cell, IsFull}
@@ -18,9 +18,10 @@ use Rattle.life_sweep.specs.Generation.{next_life, AnswersAt, TableAnswers}
 use Rattle.life_sweep.specs.Refused.{IfElse, HasStateFrom, fault_on, SomeNext}
 use Rattle.life_sweep.specs.Rows.{Precedes}
 use Rattle.life_block.specs.Needed.{SomeOfNext, level_behind}
-use Rattle.life_canon.specs.Needs.{IsNew}
+use Rattle.life_canon.specs.Files.{Reads}
+use Rattle.life_canon.specs.Needs.{IsNew, LacksFor}
 use Rattle.life_canon.specs.Texts.{AreCellsOf}
-use Rattle.life_canon.specs.Universe.{Universe, IsWithin, least_level}
+use Rattle.life_canon.specs.Universe.{Universe, IsWithin, least_level, whole}
 
 -- more cells than this aren't 0
 abbrev pub HasMoreCells : ℕ → Universe → Type 0
@@ -99,3 +100,19 @@ LacksForLife (Named name) root store = ⊥
 -- the store lacks a square that the step by the table of this rule needs
 abbrev pub LacksForTable : Table → Rule → Tree → Nodes → Type 0
 LacksForTable table rule root store = (rule ≡ Named table.name) × SomeOfTable (IsNew store) table root
+
+-- the bytes are a file, and the store lacks a square that the step of its pattern needs under its own rule
+abbrev pub LacksForNext : List ℕ → Nodes → Type 0
+LacksForNext bytes store = (u : Universe) × Reads MAX_LEVEL bytes u × LacksForLife u.rule (whole MAX_LEVEL u) store
+
+-- the same by a table
+abbrev pub LacksForNextBy : Table → List ℕ → Nodes → Type 0
+LacksForNextBy table bytes store = (u : Universe) × Reads MAX_LEVEL bytes u × LacksForTable table u.rule (whole MAX_LEVEL u) store
+
+-- the store lacks a square that the bytes need, to be read or to be stepped
+abbrev pub LacksForStep : List ℕ → Nodes → Type 0
+LacksForStep bytes store = LacksFor MAX_LEVEL bytes store ⊎ LacksForNext bytes store
+
+-- the same by a table
+abbrev pub LacksForStepBy : Table → List ℕ → Nodes → Type 0
+LacksForStepBy table bytes store = LacksFor MAX_LEVEL bytes store ⊎ LacksForNextBy table bytes store

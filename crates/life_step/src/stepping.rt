@@ -6,12 +6,12 @@ ghost use Rattle.life_base.specs.Rules.{IsRule};
 ghost use Rattle.life_base.specs.Tree.{depth, tree_cell};
 ghost use Rattle.life_base.specs.declared.rule.Rule.TheVariants.{Named as NamedRule};
 ghost use Rattle.life_canon.specs.Files.{Reads, Refuses};
-ghost use Rattle.life_canon.specs.Needs.{IsNew, LacksFor};
+ghost use Rattle.life_canon.specs.Needs.{IsNew};
 ghost use Rattle.life_canon.specs.Store.{Keeps, IsKnown, IsOfFile, IsRead, IsWant, content};
-ghost use Rattle.life_canon.specs.Universe.{Universe, IsSame, least_level, square_universe, whole};
+ghost use Rattle.life_canon.specs.Universe.{Universe, IsSame, least_level, square_universe};
 ghost use Rattle.life_mc.specs.Macrocell.{largest_state};
 ghost use Rattle.life_quad.specs.Refused.{SomeTrimmed};
-ghost use Rattle.life_step.specs.Refusals.{LacksForLife, LacksForTable, LifeRefusal, TableRefusal};
+ghost use Rattle.life_step.specs.Refusals.{LacksForLife, LacksForStep, LacksForStepBy, LacksForTable, LifeRefusal, TableRefusal};
 ghost use Rattle.life_step.specs.Stepped.{IsStepped, IsSteppedBy, IsTextOf};
 
 use life_base::{Fault, Kind, MAX_LEVEL, Rule};
@@ -124,7 +124,7 @@ pub fn next_by_rule(alloc: Global, store: &mut Shared, pattern: Pattern) -> Resu
 pub fn step_life(alloc: Global, store: &mut Shared, bytes: &[u8]) -> Result<Vec<u8>, Fault>
     ensures stepped { IfOk result (λ text. IsStepped bytes.now text.items) }
     ensures refused { IfErr result (λ fault. Refuses MAX_LEVEL bytes.now fault ⊎ (IsWant store.new fault ⊎ ((u : Universe) × Reads MAX_LEVEL bytes.now u × LifeRefusal MAX_LEVEL u (Some fault)))) }
-    ensures needed { result ≡ Err (fault_of Kind.Full) → LacksFor MAX_LEVEL bytes.now store.new ⊎ ((u : Universe) × Reads MAX_LEVEL bytes.now u × LacksForLife u.rule (whole MAX_LEVEL u) store.new) }
+    ensures needed { result ≡ Err (fault_of Kind.Full) → LacksForStep bytes.now store.new }
     ensures keeps { Keeps store.old store.new }
 {
     let pattern = read(alloc, store, bytes)?;
@@ -179,7 +179,7 @@ pub fn step_table(
 ) -> Result<Vec<u8>, Fault>
     ensures stepped { IfOk result (λ text. IsSteppedBy table.now bytes.now text.items) }
     ensures refused { IfErr result (λ fault. Refuses MAX_LEVEL bytes.now fault ⊎ (IsWant store.new fault ⊎ ((u : Universe) × Reads MAX_LEVEL bytes.now u × TableRefusal MAX_LEVEL table.now u (Some fault)))) }
-    ensures needed { result ≡ Err (fault_of Kind.Full) → LacksFor MAX_LEVEL bytes.now store.new ⊎ ((u : Universe) × Reads MAX_LEVEL bytes.now u × LacksForTable table.now u.rule (whole MAX_LEVEL u) store.new) }
+    ensures needed { result ≡ Err (fault_of Kind.Full) → LacksForStepBy table.now bytes.now store.new }
     ensures keeps { Keeps store.old store.new }
 {
     let pattern = read(alloc, store, bytes)?;

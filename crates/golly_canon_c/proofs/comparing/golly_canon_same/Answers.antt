@@ -7,4 +7,4 @@ pub returns : goal.returns
 returns c =
     by_fault c.in-Err.fault c.refuse.ensures.status c.refuse.ensures.line refl
     (either c.args.limit c.args.first.now c.args.second.now c.same.new.store c.in-Err.fault (c.same.ensures.keeps.limit ∙ c.store_of-store.ensures)
-    c.in-Err.ensures.fault)
+    c.in-Err.ensures.fault (λ e. c.in-Err.ensures.needed (cc)))

@@ -12,5 +12,5 @@ returns c =
     (both (λ text. IsCanonical MAX_LEVEL c.args.bytes.now text.items) (λ text. IsLeastText MAX_LEVEL c.args.bytes.now text.items) c.canon-found.result
     c.canon-found.ensures.text c.canon-found.ensures.least)
     (refused c.args.limit c.args.bytes.now c.canon-found.new.store c.canon-found.result
-    (c.canon-found.ensures.keeps.limit ∙ c.store_of-store.ensures) c.canon-found.ensures.fault)
+    (c.canon-found.ensures.keeps.limit ∙ c.store_of-store.ensures) c.canon-found.ensures.fault c.canon-found.ensures.needed)
     c.tell.ensures.gives c.tell.ensures.no_line c.tell.ensures.tells

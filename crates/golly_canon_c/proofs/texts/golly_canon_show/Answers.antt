@@ -10,5 +10,5 @@ returns c =
     answered (λ text. text.items) (IsShown MAX_LEVEL c.args.bytes.now) (RefusesWithin c.args.limit c.args.bytes.now) _ _ c.show-found.result
     c.show-found.ensures.text
     (refused c.args.limit c.args.bytes.now c.show-found.new.store c.show-found.result
-    (c.show-found.ensures.keeps.limit ∙ c.store_of-store.ensures) c.show-found.ensures.fault)
+    (c.show-found.ensures.keeps.limit ∙ c.store_of-store.ensures) c.show-found.ensures.fault c.show-found.ensures.needed)
     c.tell.ensures.gives c.tell.ensures.no_line c.tell.ensures.tells

@@ -12,5 +12,5 @@ returns c =
     (both (λ text. IsRleOf MAX_LEVEL (2 ^ 20) c.args.bytes.now text.items) (λ text. Same MAX_LEVEL c.args.bytes.now text.items) c.to_rle-found.result
     c.to_rle-found.ensures.text c.to_rle-found.ensures.same)
     (refused_rle c.args.limit c.args.bytes.now c.to_rle-found.new.store c.to_rle-found.result
-    (c.to_rle-found.ensures.keeps.limit ∙ c.store_of-store.ensures) c.to_rle-found.ensures.fault)
+    (c.to_rle-found.ensures.keeps.limit ∙ c.store_of-store.ensures) c.to_rle-found.ensures.fault c.to_rle-found.ensures.needed)
     c.tell.ensures.gives c.tell.ensures.no_line c.tell.ensures.tells

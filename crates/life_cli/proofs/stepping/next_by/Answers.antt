@@ -3,7 +3,7 @@ use Rattle.std.proofs.lemmas.Result.{err_from_is_err_and}
 use Rattle.life_base.specs.declared.cell.TheConstants.{MAX_LEVEL}
 use Rattle.life_canon.specs.Files.{Reads}
 use Rattle.life_canon.specs.Universe.{Universe}
-use Rattle.life_step.specs.Refusals.{TableRefusal}
+use Rattle.life_step.specs.Refusals.{LacksForTable, TableRefusal}
 use Rattle.life_step.specs.Stepped.{IsSteppedBy}
 use Rattle.life_cli.specs.Jobs.{RefusesStepBy}
 use Rattle.life_cli.proofs.WorkLemmas.{no_pattern, refused_step, text_of_pattern}
@@ -25,7 +25,8 @@ returns-clause-ok g c =
 
 pub returns-clause-err : goal.returns-clause-err
 returns-clause-err g c =
-    refused_step (λ bytes fault. (u : Universe) × Reads MAX_LEVEL bytes u × TableRefusal MAX_LEVEL c.args.table.now u (Some fault)) _ c.read_from.new.store
+    refused_step (LacksForTable c.args.table.now)
+    (λ bytes fault. (u : Universe) × Reads MAX_LEVEL bytes u × TableRefusal MAX_LEVEL c.args.table.now u (Some fault)) _ c.read_from.new.store
     c.next_by_table.new.store c.in_ok-pattern.pattern
     c.next_by_table.result c.in_ok-pattern.ensures.pattern (c.next_by_table.ensures.keeps.limit ∙ c.read_from.ensures.keeps.limit ∙ c.new-store.ensures.most)
-    c.next_by_table.ensures.refused
+    c.next_by_table.ensures.refused c.next_by_table.ensures.needed

@@ -12,7 +12,7 @@ returns-in_err-feed-clause-fault c =
     let p = err_from_is_err_and c.from_residual.result c.from_residual.ensures.1 in
     rw (p.1, p.2) (λ limit is. subst (λ (v : Piecewise). RefusesPiece limit (v.bytes ++ c.args.piece.now) c.in_err-feed.field-0.0) c.self.view_is
     (piece-fault limit _ c.feed.new.store c.in_err-feed.field-0.0 (c.feed.ensures.keeps.limit ∙ ap (λ (v : Piecewise). v.room) c.self.view_is ∙ is)
-    (c.in_err-feed.ensures.fault c.self.invariant.0)))
+    (c.in_err-feed.ensures.fault c.self.invariant.0) (λ e. c.in_err-feed.ensures.needed (cc))))
 
 pub returns-clause-front : goal.returns-clause-front
 returns-clause-front c =

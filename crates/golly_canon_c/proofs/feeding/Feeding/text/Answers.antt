@@ -2,7 +2,7 @@ use Rattle.std.proofs.Common.{◌∙◌, sym, ap, subst}
 use Rattle.std.proofs.lemmas.Result.{IfOk-weaker, IfErr-weaker, err_from_is_err_and}
 use Rattle.golly_canon_c.specs.Forms.{Piecewise, IsTextOf, RefusesTextOf}
 use Rattle.golly_canon_c.specs.declared.form.Form.{Form}
-use Rattle.golly_canon_c.proofs.Answering.{both}
+use Rattle.golly_canon_c.proofs.Answering.{and-lacks, both}
 use Rattle.golly_canon_c.proofs.StreamFacts.{form-text, text-fault, wants, rle-fault, next-fault}
 use Rattle.golly_canon_c.proofs.feeding.Feeding.text.Goals as goal
 
@@ -11,7 +11,7 @@ returns-in_err-pattern-clause-fault c =
     let p = err_from_is_err_and c.from_residual.result c.from_residual.ensures.1 in
     rw (p.1, p.2) (λ limit is. subst (λ (v : Piecewise). RefusesTextOf v.form limit v.bytes c.in_err-pattern.field-0.0) c.self.view_is
     (text-fault _ limit _ c.finish.new.store c.in_err-pattern.field-0.0 (c.finish.ensures.keeps.limit ∙ ap (λ (v : Piecewise). v.room) c.self.view_is ∙ is)
-    (c.in_err-pattern.ensures.fault c.self.invariant.0)))
+    (c.in_err-pattern.ensures.fault c.self.invariant.0) (λ e. c.in_err-pattern.ensures.needed (cc))))
 
 pub returns-in-Canonical-clause-text : goal.returns-in-Canonical-clause-text
 returns-in-Canonical-clause-text c =
@@ -45,8 +45,9 @@ returns-in-Lines-clause-fault c = wants c.finish.new.store c.five_lines_of.resul
 
 pub returns-clause-fault : goal.returns-clause-fault
 returns-clause-fault c =
-    IfErr-weaker c.next_by_rule.result _ _ (λ fault why limit is.
+    IfErr-weaker c.next_by_rule.result _ _ (λ fault h limit is.
     let room = c.next_by_rule.ensures.keeps.limit ∙ c.finish.ensures.keeps.limit ∙ ap (λ (v : Piecewise). v.room) c.self.view_is ∙ is in
     subst (λ (v : Piecewise). RefusesTextOf v.form limit v.bytes fault) c.self.view_is
     (subst (λ (form : Form). RefusesTextOf form limit c.self.inside.reader.bytes fault) (sym c.in-Next.is)
-    (next-fault limit _ c.finish.new.store c.next_by_rule.new.store _ fault room c.in_ok-pattern.ensures.pattern.1 why))) c.next_by_rule.ensures.refused
+    (next-fault limit _ c.finish.new.store c.next_by_rule.new.store _ fault room c.in_ok-pattern.ensures.pattern.1 h.0 h.1)))
+    (and-lacks _ c.next_by_rule.result c.next_by_rule.ensures.refused c.next_by_rule.ensures.needed)
