@@ -14,7 +14,6 @@ use Rattle.life_mc.specs.Macrocell.{AreSquares}
 use Rattle.life_mc.specs.Cells.{cell_of, cell as layer_cell}
 use Rattle.life_mc.specs.Reading.{AreMacrocell, broken, broken_after, rule_on, generation_on, square_on, rule_in_force, generation_in_force, squares_of, last_or}
 use Rattle.life_mc.specs.declared.line.Line.{Line}
-use Rattle.life_mc.proofs.Stands.{rule_more}
 use Rattle.life_mc.proofs.Accepted.{lines_are_valid}
 use Rattle.claims.specs.Outcomes.{◌>>=◌}
 use Rattle.claims.specs.Rules.{Rule}
@@ -55,6 +54,14 @@ option_on f y (Some z) e = rw e refl
 last_more : {X : Type 0} (x : X) (xs : List X) (o : Option X) → last_or x (xs ++ option_to_list o) ≡ unwrap_or o (last_or x xs)
 last_more {X} x xs None = ap (last_or x) (append-nil xs)
 last_more x xs (Some z) = last_of x z xs
+
+rule_more : (lines : List (List ℕ)) (line : List ℕ) → is_empty lines ≡ false
+    → rule_in_force (lines ++ line ∷ []) ≡ unwrap_or (rule_on line) (rule_in_force lines)
+rule_more [] line h = cc
+rule_more (header ∷ lines) line h =
+    ap (last_or layer_default) (filter_map-append rule_on lines (line ∷ [])
+    ∙ ap (λ (t : List LayerRule). filter_map rule_on lines ++ t) (option_on rule_on line _ refl))
+    ∙ last_more layer_default (filter_map rule_on lines) (rule_on line)
 
 generation_more : (lines : List (List ℕ)) (line : List ℕ) → is_empty lines ≡ false
     → generation_in_force (lines ++ line ∷ []) ≡ unwrap_or (generation_on line) (generation_in_force lines)
@@ -108,7 +115,7 @@ module _ (lines : List (List ℕ)) (file : Macrocell) (line : List ℕ) (some : 
         found.0,
         found.1,
         record {
-          is_rule = g.is_rule ∙ ap rule_in (sym (rule_more lines line (rule_on line) some refl));
+          is_rule = g.is_rule ∙ ap rule_in (sym (rule_more lines line some));
           is_generation = g.is_generation ∙ ap (unwrap_or (generation_on line)) s.is_generation ∙ sym (generation_more lines line some);
           are_nodes = g.are_nodes ∙ ap (λ (t : List Line). t ++ option_to_list (square_on line)) s.are_nodes ∙ sym (squares_more lines line some);
         },

@@ -13,12 +13,11 @@ use Rattle.life_base.specs.declared.kind.Kind.TheVariants as kinds
 use Rattle.life_base.specs.declared.rule.Rule.{Rule as LayerRule}
 use Rattle.life_mc.specs.Reading.{rule_on, generation_on, square_on, square_of, broken_after, broken_by_node}
 use Rattle.life_mc.specs.declared.line.Line.{Line}
-use Rattle.life_mc.proofs.Valid.{no_command, hash_not_blank}
-use Rattle.life_mc.proofs.Stands.{rule_parsed_so, generation_parsed_so}
 use Rattle.claims.specs.Outcomes.{◌>>=◌}
 use Rattle.claims.specs.Rules.{Rule, rule_of}
 use Rattle.claims.specs.Macrocell.{Node, Macrocell, node_of, with_node, is_command, generation_of, with_line}
 use Rattle.claims.proofs.RuleLaw.{rule_in, rule_of_is}
+use Rattle.claims.proofs.Commands.{no_command, hash_not_blank, rule_line_gives, generation_line_gives}
 use Rattle.claims.proofs.NodeLaw.{line_in, levels_of, Fits, passes, fails, moved, text_fits}
 
 -- a test has one of two answers
@@ -42,7 +41,7 @@ some_nodes (node ∷ nodes) = sym (positive (length (levels_of nodes)))
     positive n = grind (arith, nat_tests)
 
 no_hash : (line : List ℕ) → is_blank line ≡ true → begins_with line (codes "#") ≡ false
-no_hash line b = elim (decided (begins_with line (codes "#"))) [ inl h ↦ absurd (contra (is_blank line) b (hash_not_blank 0 line h)) | inr h ↦ h ]
+no_hash line b = elim (decided (begins_with line (codes "#"))) [ inl h ↦ absurd (contra (is_blank line) b (hash_not_blank line h)) | inr h ↦ h ]
   where
     contra : (v : Bool) → v ≡ true → v ≡ false → ⊥
     contra true e f = cc
@@ -100,7 +99,7 @@ module _ (rule : LayerRule) (generation : ℕ) (nodes : List Node) (line : List 
   rule_step : (found : Result LayerRule Kind) → layer_rule_of (drop 2 line) ≡ found → is_command (codes "#R") line ≡ true
       → Fits P (result_err found) (result_map rule_in found >>= λ r. Ok (record file { rule = r }))
   rule_step (Ok r) e c =
-      let told = rule_parsed_so line r c e in
+      let told = rule_line_gives line r c e in
       passes _ (given (Some r) None None told.0 told.1 told.2 _
       (record { is_rule = refl; is_generation = refl; are_nodes = sym (append-nil (map line_in nodes)) }))
   rule_step (Err kind) e c = fails kind
@@ -112,7 +111,7 @@ module _ (rule : LayerRule) (generation : ℕ) (nodes : List Node) (line : List 
   generation_step false small r g = fails kinds.BadNumber
   generation_step true false r g = fails kinds.TooLarge
   generation_step true true r g =
-      let told = generation_parsed_so line (value_of (trim (drop 2 line))) r g refl in
+      let told = generation_line_gives line (value_of (trim (drop 2 line))) r g refl in
       passes _ (given None (Some (value_of (trim (drop 2 line)))) None told.0 told.1 told.2 _
       (record { is_rule = refl; is_generation = refl; are_nodes = sym (append-nil (map line_in nodes)) }))
 
@@ -120,7 +119,7 @@ module _ (rule : LayerRule) (generation : ℕ) (nodes : List Node) (line : List 
       → Fits (λ next. map line_in next ≡ map line_in nodes ++ option_to_list (square_of (trim line))) o found
       → Fits P o (found >>= λ ns. Ok (record file { nodes = ns }))
   node_step o found b h (passes ns e) =
-      passes _ (given None None (square_of (trim line)) (no_rule (no_command 0 82 line h)) (no_generation (no_command 0 71 line h))
+      passes _ (given None None (square_of (trim line)) (no_rule (no_command 82 line h)) (no_generation (no_command 71 line h))
       (square_is false false b h) _
       (record { is_rule = refl; is_generation = refl; are_nodes = e }))
   node_step o found b h (fails kind) = fails kind
@@ -189,7 +188,7 @@ module _ (rule : LayerRule) (generation : ℕ) (nodes : List Node) (line : List 
     | inl b ↦
         let e : broken_here ≡ None = rw b refl in
         let w : with_short ≡ Ok file = rw b refl in
-        moved P e w (passes file (passed_over true b refl (no_command 0 82 line (no_hash line b)) (no_command 0 71 line (no_hash line b))))
+        moved P e w (passes file (passed_over true b refl (no_command 82 line (no_hash line b)) (no_command 71 line (no_hash line b))))
     | inr b ↦ elim (decided (begins_with line (codes "#FRAME"))) [
       | inl f ↦
           let e : broken_here ≡ Some kinds.Timeline = rw (b, f) refl in

@@ -2,13 +2,13 @@
 use Rattle.std.proofs.Common.{◌≡◌, ℕ, zero, suc, ◌+◌, ◌-◌, ◌/◌, ◌%◌, ◌^◌, ◌<◌, ◌≤◌, List, [], ◌∷◌, ◌++◌, length, take, map, replicate, Bool, true, false, cond, ◌&&◌, ◌||◌, refl, ap, ◌∙◌, sym, subst, arith}
 use Rattle.std.specs.Prelude.{nat_le, nat_lt, ◌==◌, slice_get, slice_index, slice_index_or, sum_by, Option, Some, None, ℤ, pos, negsuc, neg_ℤ, ◌+ℤ◌, int_le, int_lt, unsigned_abs}
 use Rattle.std.specs.List.{list_all}
-use Rattle.std.proofs.Math.Nat.{mod-lt}
+use Rattle.std.proofs.Math.Nat.{mod-lt, two-pow-succ}
 use Rattle.std.proofs.Math.Pow.{pow_pos}
 use Rattle.std.proofs.lemmas.Int.{ints}
 use Rattle.std.proofs.lemmas.Bool.Decides.{nat_tests}
 use Rattle.life_base.proofs.Numbers.{first, second}
 use Rattle.life_base.specs.declared.rule.Rule.{Rule as LayerRule}
-use Rattle.life_mc.specs.Macrocell.{AreSquares, is_level, is_quarter}
+use Rattle.life_mc.specs.Macrocell.{AreSquares, IsSquare, is_level, is_quarter}
 use Rattle.life_mc.specs.Macrocell.{level_of as line_level, largest_state as layer_largest}
 use Rattle.life_mc.specs.Cells.{cell_in, leaf_cell, cell_of, cell_from}
 use Rattle.life_mc.specs.Cells.{root_level as layer_root_level}
@@ -16,7 +16,6 @@ use Rattle.life_mc.specs.Reading.{row_byte, columns}
 use Rattle.life_mc.specs.declared.line.Line.{Line}
 use Rattle.life_mc.specs.declared.line.Line.TheVariants.{Leaf, Quad}
 use Rattle.claims.specs.Macrocell.{Node, leaf, quad, level_of, leaf_state, quarter_at, state_in, root_level, cell}
-use Rattle.life_mc.proofs.Squares.{some_level, twice as double_of}
 use Rattle.claims.proofs.Bits.{all_over, all_over_at, bit}
 use Rattle.claims.proofs.NodeLaw.{line_in, level_is}
 
@@ -221,6 +220,11 @@ pairs false b c d p q e f = ap (λ v. v && q) e
 below : (n m : ℕ) → nat_lt n m ≡ true → n < m
 below n m h = grind (arith, nat_tests)
 
+-- a square has level 1 or more
+some_level : (rule : LayerRule) (levels : List ℕ) (line : Line) → IsSquare 62 rule levels line → 1 ≤ line_level line
+some_level rule levels (Leaf rows) h = omega arith
+some_level rule levels (Quad level a b c d) h = h.0
+
 module _ (rule : LayerRule) (node : Node) (nodes : List Node) (valid : AreSquares 62 rule (map line_in (node ∷ nodes))) (x y : ℤ) where
   abbrev all : List Node
   all = node ∷ nodes
@@ -236,7 +240,7 @@ module _ (rule : LayerRule) (node : Node) (nodes : List Node) (valid : AreSquare
   some =
       let r = root_at node nodes in
       let e : line_level (line_in r.0) ≡ level = level_is r.0 ∙ r.2 in
-      let h : 1 ≤ line_level (line_in r.0) = some_level 62 rule (map line_level (take (length nodes) (map line_in all))) (line_in r.0)
+      let h : 1 ≤ line_level (line_in r.0) = some_level rule (map line_level (take (length nodes) (map line_in all))) (line_in r.0)
       (valid (length nodes) (line_in r.0) (in_lines all (length nodes) r.0 r.1)) in
       omega (arith, e, h)
 
@@ -245,7 +249,7 @@ module _ (rule : LayerRule) (node : Node) (nodes : List Node) (valid : AreSquare
     where
       double : (n : ℕ) → 1 ≤ n → 2 ^ n ≡ 2 ^ (n - 1) + 2 ^ (n - 1)
       double zero h = absurd (omega arith)
-      double (suc k) h = let e : k ≡ suc k - 1 = omega arith in double_of k ∙ ap (λ m. 2 ^ m + 2 ^ m) e
+      double (suc k) h = let e : k ≡ suc k - 1 = omega arith in two-pow-succ k ∙ ap (λ m. 2 ^ m + 2 ^ m) e
 
   root_names : (n : ℕ) → level ≡ n → Names all n (length all)
   root_names zero e = tt
