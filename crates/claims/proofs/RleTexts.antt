@@ -1,5 +1,5 @@
 -- The first text of a line of data is the item that the layer below reads in front of it.
-use Rattle.std.proofs.Common.{◌≡◌, ℕ, suc, ◌+◌, ◌-◌, ◌*◌, ◌^◌, ◌<◌, ◌≤◌, List, [], ◌∷◌, length, take, drop, Bool, true, false, cond, ◌&&◌, ◌||◌, refl, ap, ◌∙◌, sym, subst, arith, ◌⊎◌, inl, inr}
+use Rattle.std.proofs.Common.{◌≡◌, ℕ, suc, ◌+◌, ◌-◌, ◌*◌, ◌^◌, ◌<◌, ◌≤◌, List, [], ◌∷◌, take, drop, Bool, true, false, cond, ◌&&◌, ◌||◌, refl, ap, ◌∙◌, sym, subst, arith, ◌⊎◌, inl, inr}
 use Rattle.std.specs.Prelude.{nat_le, nat_lt, ◌==◌, bytes_eq, codes, take_while, Option, Some, None, Result, Ok, Err}
 use Rattle.std.specs.Char.{is_ascii_digit}
 use Rattle.std.specs.List.{prefix_len}
@@ -45,18 +45,6 @@ texts_cut b (c ∷ bytes) = ap (λ (t : List (List ℕ)). cond (inner b) (onto_f
         ≡ cond v (b ∷ text_of (c ∷ bytes)) (b ∷ []) ∷ texts_of (cond v (rest_of (c ∷ bytes)) (c ∷ bytes))
     by true e = refl
     by false e = refl
-
-pub shorter : (b : ℕ) (bytes : List ℕ) → length (rest_of (b ∷ bytes)) ≤ length bytes
-shorter b [] = by (inner b)
-  where
-    by : (v : Bool) → length (cond {A = List ℕ} v [] []) ≤ 0
-    by true = omega arith
-    by false = omega arith
-shorter b (c ∷ bytes) = by (inner b) (shorter c bytes)
-  where
-    by : (v : Bool) → length (rest_of (c ∷ bytes)) ≤ length bytes → length (cond v (rest_of (c ∷ bytes)) (c ∷ bytes)) ≤ suc (length bytes)
-    by true h = omega arith
-    by false h = omega arith
 
 -- ---- digits in front
 
