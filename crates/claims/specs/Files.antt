@@ -46,9 +46,13 @@ pattern_of bytes =
     if begins_with bytes (codes "[M2]") then macrocell_of (lines_of bytes)
     else read_lines with_rle_line end_of_rle 1 (before_header no_position) (lines_of bytes)
 
--- room in the store or memory was wanted
+-- the fault of no line
+abbrev pub fault_of : Kind → Fault
+fault_of kind = record { place = record { line = 0 }; kind = kind }
+
+-- room in the store or memory was wanted; that is of no line
 abbrev pub IsWant : Fault → Type 0
-IsWant fault = (fault.kind ≡ Full) ⊎ (fault.kind ≡ Memory)
+IsWant fault = (fault ≡ fault_of Full) ⊎ (fault ≡ fault_of Memory)
 
 -- Both are files, of one rule and one generation, and each cell has one state in both.
 pub record Same (a b : List ℕ) : Type 0 where

@@ -4,9 +4,11 @@ use Rattle.std.specs.Prelude.{◌≡◌, ◌≢◌, ℕ, ◌+◌, ◌-◌, ◌^�
 use Rattle.std.specs.List.{list_any}
 use Rattle.std.specs.Option.{unwrap_or}
 use Rattle.life_base.specs.declared.cell.Cell.{Cell}
+use Rattle.life_base.specs.declared.fault.Fault.{Fault}
+use Rattle.life_base.specs.declared.kind.Kind.TheVariants.{NeedsTable, GenerationTooLarge, TooManyCells, OutOfPlane}
 use Rattle.claims.specs.Rules.{counting, named}
 use Rattle.claims.specs.Table.{Table, Answer, becomes, decided}
-use Rattle.claims.specs.Files.{pattern_of}
+use Rattle.claims.specs.Files.{pattern_of, fault_of}
 use Rattle.claims.specs.Pattern.{Pattern, is_coordinate}
 
 -- the states of the neighbours of a cell from north clockwise, of four or of eight
@@ -39,6 +41,10 @@ pub record AreCells (cell : ℤ → ℤ → ℕ) (cells : List Cell) : Type 0 wh
 abbrev pub HasMoreCells : ℕ → (ℤ → ℤ → ℕ) → Type 0
 HasMoreCells most cell = (cells : List Cell) × AreCells cell cells × (most < length cells)
 
+-- the bytes are a file of a pattern in which more cells than this have a state other than 0
+abbrev pub SaysMoreCells : ℕ → List ℕ → Type 0
+SaysMoreCells most bytes = (pattern : Pattern) × (pattern_of bytes ≡ Ok pattern) × HasMoreCells most pattern.cell
+
 -- what a table decides for the cell (x, y)
 abbrev pub decided_at : Table → (ℤ → ℤ → ℕ) → ℤ → ℤ → Answer
 decided_at table cell x y =
@@ -58,6 +64,20 @@ pub record IsNext (neighbours : ℕ) (births survivals : List ℕ) (now next : P
   pub few : HasMoreCells (2 ^ 20) now.cell → ⊥
   pub inside : LeavesPlane (next_life neighbours births survivals now.cell) → ⊥
   pub cells : (x y : ℤ) → next.cell x y ≡ next_life neighbours births survivals now.cell x y
+
+-- why a pattern has no next one under its rule without a table: the first of four reasons that holds, which is the fault of no line
+pub data IsFirstReason (now : Pattern) : Fault → Type 0 where
+  no_table : (name : List ℕ) → now.rule ≡ named name → IsFirstReason now (fault_of NeedsTable)
+  last_generation : (neighbours : ℕ) (births survivals : List ℕ) → now.rule ≡ counting neighbours births survivals → now.generation ≡ 2 ^ 64 - 1
+      → IsFirstReason now (fault_of GenerationTooLarge)
+  many_cells : (neighbours : ℕ) (births survivals : List ℕ) → now.rule ≡ counting neighbours births survivals → now.generation ≢ 2 ^ 64 - 1
+      → HasMoreCells (2 ^ 20) now.cell → IsFirstReason now (fault_of TooManyCells)
+  leaves_plane : (neighbours : ℕ) (births survivals : List ℕ) → now.rule ≡ counting neighbours births survivals → now.generation ≢ 2 ^ 64 - 1
+      → (HasMoreCells (2 ^ 20) now.cell → ⊥) → LeavesPlane (next_life neighbours births survivals now.cell) → IsFirstReason now (fault_of OutOfPlane)
+
+-- the bytes are a file of a pattern that has no next one under its rule without a table, for this reason
+abbrev pub IsUnstepped : List ℕ → Fault → Type 0
+IsUnstepped bytes fault = (now : Pattern) × (pattern_of bytes ≡ Ok now) × IsFirstReason now fault
 
 -- a pattern has a next one by the table of its rule: none of the reasons against it holds, and each cell gets the state that the table decides
 pub record IsNextByTable (table : Table) (now next : Pattern) : Type 0 where
