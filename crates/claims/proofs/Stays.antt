@@ -13,10 +13,10 @@ use Rattle.claims.specs.Laws.{RefusedForGood}
 use Rattle.claims.proofs.Format.{first_line_of, begins_line}
 use Rattle.claims.proofs.RleFile.{begun}
 
-abbrev cap : ℕ
+abbrev pub cap : ℕ
 cap = 2 ^ 64 - 1
 
-line_of : {B : Type 0} (r : Result B Fault) (f g : Fault) → r ≡ Err f → r ≡ Err g → f.place.line ≡ g.place.line
+pub line_of : {B : Type 0} (r : Result B Fault) (f g : Fault) → r ≡ Err f → r ≡ Err g → f.place.line ≡ g.place.line
 line_of r f g e h = let same : f ≡ g = cc in ap (λ (x : Fault). x.place.line) same
 
 same_first : (a b : List ℕ) (s t : List (List ℕ)) → a ∷ s ≡ b ∷ t → a ≡ b
@@ -65,7 +65,7 @@ module _ {A B : Type 0} (step : A → List ℕ → Result A Kind) (at_end : A �
           subst (λ n. read_lines step at_end (start + 1) next other ≡ Err (fault_at n kind)) (sym plus)
           (below m next (omega (arith, p)) (omega arith) (subst (λ n. read_lines step at_end (start + 1) next lines ≡ Err (fault_at n kind)) plus e) t)
 
-abbrev end_of : Macrocell → Result Pattern Kind
+abbrev pub end_of : Macrocell → Result Pattern Kind
 end_of file = Ok (record { rule = file.rule; generation = file.generation; cell = cell file.nodes })
 
 macrocell_stays : (lines other : List (List ℕ)) (m : ℕ) (kind : Kind) → suc m < cap → m < length lines → macrocell_of lines ≡ Err (fault_at (suc m) kind)
