@@ -105,7 +105,7 @@ same_to a b s =
       cells = λ x y. p.cells x y ∙ s.same.cells x y ∙ sym (q.cells x y);
     }
 
-ok_of : (r : Result Pattern Fault) (p q : Pattern) → r ≡ Ok p → r ≡ Ok q → p ≡ q
+pub ok_of : (r : Result Pattern Fault) (p q : Pattern) → r ≡ Ok p → r ≡ Ok q → p ≡ q
 ok_of r p q e f = cc
 
 pub universes_are : FilesAreOnPlane 62 → (a b : List ℕ) (u v : Universe) → Reads 62 a u → Reads 62 b v → Same a b → IsSame u v

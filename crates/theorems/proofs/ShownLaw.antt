@@ -5,7 +5,6 @@ use Rattle.std.proofs.lemmas.List.{append-nil}
 use Rattle.life_base.specs.Text.{lines_of}
 use Rattle.life_base.specs.Rules.{rule_text as layer_text, digits_of, with_letter, most_neighbours}
 use Rattle.life_base.specs.declared.bounds.Bounds.{Bounds}
-use Rattle.life_base.specs.declared.cell.Cell.{Cell}
 use Rattle.life_base.specs.declared.rule.Near.{Near}
 use Rattle.life_base.specs.declared.rule.Near.TheVariants.{Moore, VonNeumann}
 use Rattle.life_base.specs.declared.rule.Rule.{Rule as LayerRule}
@@ -15,15 +14,15 @@ use Rattle.life_mc.proofs.NodeLines.{node_lines_counted}
 use Rattle.life_canon.specs.Universe.{Universe}
 use Rattle.life_canon.specs.Listing.{canon_text, canonical_file}
 use Rattle.life_canon.specs.Laws.{FilesAreOnPlane, FilesAreUnique, TextsAreFiles}
-use Rattle.life_canon.specs.Texts.{IsCanonical, AreCellsOf, box_text}
+use Rattle.life_canon.specs.Texts.{IsCanonical, box_text}
 use Rattle.life_canon.specs.Texts.{IsShown as LayerShown, IsBoxOf}
 use Rattle.claims.specs.Pattern.{Pattern}
 use Rattle.claims.specs.Files.{pattern_of}
 use Rattle.claims.specs.Counting.{node_lines}
-use Rattle.claims.specs.Generation.{AreCells}
 use Rattle.claims.specs.Shown.{rule_text, IsBox, box_line, IsShown}
 use Rattle.claims.proofs.RuleLaw.{rule_in}
 use Rattle.theorems.proofs.FileLaw.{files_agree}
+use Rattle.theorems.proofs.CellsLaw.{same_cells}
 
 rule_text_is : (rule : LayerRule) → rule_text (rule_in rule) ≡ layer_text rule
 rule_text_is (Named name) = refl
@@ -43,10 +42,6 @@ told population rule generation box nodes =
 box_line_is : (box : Option Bounds) → box_line box ≡ box_text box
 box_line_is None = refl
 box_line_is (Some box) = refl
-
-same_cells : (c d : ℤ → ℤ → ℕ) (cells : List Cell) → c ≡ d → AreCellsOf d cells → AreCells c cells
-same_cells c d cells e h = subst (λ (f : ℤ → ℤ → ℕ). AreCells f cells) (sym e)
-    (record { in_order = h.in_order; true_cells = h.true_cells; all_cells = h.all_cells })
 
 same_box : (d : ℤ → ℤ → ℕ) (box : Option Bounds) → IsBoxOf d box → IsBox d box
 same_box d None h = h
