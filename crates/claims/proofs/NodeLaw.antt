@@ -37,7 +37,7 @@ end_is ((b ∷ row) ∷ []) = refl
 end_is ([] ∷ next ∷ rows) = refl
 end_is ((b ∷ row) ∷ next ∷ rows) = refl
 
-largest_is : (rule : LayerRule) → largest_state (rule_in rule) ≡ layer_largest rule
+pub largest_is : (rule : LayerRule) → largest_state (rule_in rule) ≡ layer_largest rule
 largest_is (Life rule) = refl
 largest_is (Named name) = refl
 

@@ -24,7 +24,7 @@ use Rattle.claims.proofs.RuleLaw.{rule_in}
 use Rattle.theorems.proofs.FileLaw.{files_agree}
 use Rattle.theorems.proofs.CellsLaw.{same_cells}
 
-rule_text_is : (rule : LayerRule) → rule_text (rule_in rule) ≡ layer_text rule
+pub rule_text_is : (rule : LayerRule) → rule_text (rule_in rule) ≡ layer_text rule
 rule_text_is (Named name) = refl
 rule_text_is (Life rule) = by rule.near (digits_of rule.sets.births) (digits_of rule.sets.survivals)
   where

@@ -56,8 +56,8 @@ pub fn stream_writes_the_text<R: Source, W: Sink>(
         → IfOk result (λ text. W.contents writer.new ≡ Some (held ++ text.items)) }
 {
     files_are_unique();
-    let mut store = Shared::new(alloc, first_limit);
-    run_canon(alloc, &mut store, reader, writer)?;
-    let mut other_store = Shared::new(alloc, second_limit);
-    canon(alloc, &mut other_store, file)
+    let mut first_store = Shared::new(alloc, first_limit);
+    run_canon(alloc, &mut first_store, reader, writer)?;
+    let mut second_store = Shared::new(alloc, second_limit);
+    canon(alloc, &mut second_store, file)
 }
