@@ -1,0 +1,29 @@
+-- What is counted in the text of a macrocell file, and with which texts a canonical one is compared. All of it is this project's own.
+use Rattle.std.specs.Prelude.{◌≡◌, ◌⊎◌, ℕ, Bool, true, false, not, ◌&&◌, List, drop, count_by, slice_index, codes}
+use Rattle.std.specs.List.{list_any}
+use Rattle.life_base.specs.Text.{lines_of, is_blank, begins_with, trim}
+use Rattle.claims.specs.Rules.{Rule, counting, named}
+use Rattle.claims.specs.Macrocell.{is_leaf_byte}
+use Rattle.claims.specs.Files.{Same}
+
+-- a line that is neither blank nor begins with `#`; those after the first are node lines
+abbrev pub is_node_line : List ℕ → Bool
+is_node_line line = not (is_blank line) && not (begins_with line (codes "#"))
+
+abbrev pub node_lines : List ℕ → ℕ
+node_lines bytes = count_by is_node_line (drop 1 (lines_of bytes))
+
+-- some node line is a leaf line
+abbrev pub has_leaves : List ℕ → Bool
+has_leaves bytes = list_any (λ line. is_node_line line && is_leaf_byte (slice_index (trim line) 0)) (drop 1 (lines_of bytes))
+
+abbrev pub is_counting : Rule → Bool
+is_counting (counting neighbours births survivals) = true
+is_counting (named name) = false
+
+-- a macrocell file of the same pattern, and under a name one without leaf lines: a higher root, mixed levels, repeats and squares that the root
+-- doesn't reach are allowed
+pub record IsRival (file rival : List ℕ) : Type 0 where
+  pub same : Same file rival
+  pub format : begins_with rival (codes "[M2]") ≡ true
+  pub leaves : (is_counting same.second.rule ≡ true) ⊎ (has_leaves rival ≡ false)

@@ -1,0 +1,51 @@
+-- The text of a pattern that was read is the canonical text of its file.
+use Rattle.std.proofs.Common.{◌≡◌, ℕ, zero, suc, ◌+◌, ◌<◌, ◌≤◌, List, [], ◌∷◌, ◌++◌, length, take, get_or, refl, ap, ◌∙◌, sym, subst, arith, append_assoc, ◌^◌}
+use Rattle.std.specs.Global.{Vec}
+use Rattle.std.proofs.lemmas.List.{append-nil}
+use Rattle.life_base.specs.Rules.{IsRule}
+use Rattle.life_base.specs.declared.rule.Rule.{Rule as LayerRule}
+use Rattle.life_quad.specs.Store.{Nodes}
+use Rattle.life_mc.specs.Macrocell.{largest_state}
+use Rattle.life_canon.specs.Universe.{Universe, IsSame, IsOnPlane}
+use Rattle.life_canon.specs.Laws.{FilesAreOnPlane, PatternsFit, TextsTellUniverses}
+use Rattle.life_canon.specs.Listing.{canon_text}
+use Rattle.life_canon.specs.Store.{IsRead, universe_in}
+use Rattle.life_canon.specs.Texts.{IsCanonical}
+use Rattle.life_canon.specs.declared.pattern.Pattern.{Pattern}
+use Rattle.theorems.specs.Joined.{joined}
+
+same_plane : (u v : Universe) → IsSame u v → IsOnPlane 62 u → IsOnPlane 62 v
+same_plane u v s h = record {
+  rule = subst IsRule s.rule h.rule;
+  generation = subst (λ g. g < 2 ^ 64) s.generation h.generation;
+  states = λ x y. subst (λ (r : LayerRule). v.cell x y ≤ largest_state r) s.rule (subst (λ n. n ≤ largest_state u.rule) (s.cells x y) (h.states x y));
+  outside = λ x y out. sym (s.cells x y) ∙ h.outside x y out;
+}
+
+pub read_text : FilesAreOnPlane 62 → PatternsFit 62 → TextsTellUniverses 62 → (bytes : List ℕ) (store : Nodes) (pattern : Pattern) (text : List ℕ)
+    → IsRead 62 bytes store pattern → text ≡ canon_text 62 (universe_in store pattern) → IsCanonical 62 bytes text
+read_text on_plane fit tell bytes store pattern text r e =
+    let u = r.universe in
+    let same = (fit bytes store pattern r).1 in
+    let plane = on_plane bytes u r.reads in
+    record {
+      universe = u;
+      reads = r.reads;
+      is = e ∙ sym ((tell u (universe_in store pattern) plane (same_plane u (universe_in store pattern) same plane)).1 same);
+    }
+
+-- one piece more
+pub joined_more : (pieces : List (Vec ℕ)) (i : ℕ) (d : Vec ℕ) → i < length pieces
+    → joined (take (i + 1) pieces) ≡ joined (take i pieces) ++ (get_or pieces i d).items
+joined_more [] i d h = absurd (omega arith)
+joined_more (piece ∷ pieces) zero d h = append-nil piece.items
+joined_more (piece ∷ pieces) (suc i) d h =
+    let e : suc i + 1 ≡ suc (i + 1) = omega arith in
+    ap (λ n. joined (take n (piece ∷ pieces))) e ∙ ap (λ (t : List ℕ). piece.items ++ t) (joined_more pieces i d (omega arith))
+    ∙ sym (append_assoc piece.items (joined (take i pieces)) (get_or pieces i d).items)
+
+pub joined_all : (pieces : List (Vec ℕ)) (i : ℕ) → length pieces ≤ i → joined (take i pieces) ≡ joined pieces
+joined_all [] zero h = refl
+joined_all [] (suc i) h = refl
+joined_all (piece ∷ pieces) zero h = absurd (omega arith)
+joined_all (piece ∷ pieces) (suc i) h = ap (λ (t : List ℕ). piece.items ++ t) (joined_all pieces i (omega arith))

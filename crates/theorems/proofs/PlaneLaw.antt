@@ -1,0 +1,43 @@
+-- The plane of the claims is that of the layer below.
+use Rattle.std.proofs.Common.{◌≡◌, ℕ, ◌^◌, Bool, true, false, ◌&&◌, refl, arith}
+use Rattle.std.specs.Prelude.{ℤ, pos, neg_ℤ, ◌≤ℤ◌, ◌<ℤ◌, int_le, int_lt}
+use Rattle.std.proofs.lemmas.Int.{ints}
+use Rattle.life_canon.specs.Universe.{IsWithin, corner}
+use Rattle.claims.specs.Pattern.{is_coordinate}
+
+within : (x : ℤ) (h : ℕ) → neg_ℤ (pos h) ≤ℤ x → x <ℤ pos h → (int_le (neg_ℤ (pos h)) x && int_lt x (pos h)) ≡ true
+within x h l m = grind (arith, ints)
+
+coordinate : (x : ℤ) → IsWithin 62 x → is_coordinate x ≡ true
+unfolding corner
+coordinate x h = within x (2 ^ 61) h.0 h.1
+
+both : (a b : Bool) → a ≡ true → b ≡ true → (a && b) ≡ false → ⊥
+both true true e f h = cc
+both true false e f h = cc
+both false b e f h = cc
+
+-- a pair that is not of the plane
+pub not_of_plane : (x y : ℤ) → (is_coordinate x && is_coordinate y) ≡ false → IsWithin 62 x × IsWithin 62 y → ⊥
+not_of_plane x y e h = both (is_coordinate x) (is_coordinate y) (coordinate x h.0) (coordinate y h.1) e
+
+from_coordinate : (x : ℤ) → is_coordinate x ≡ true → IsWithin 62 x
+unfolding corner
+from_coordinate x e = at x (2 ^ 61) e
+  where
+    at : (x : ℤ) (h : ℕ) → (int_le (neg_ℤ (pos h)) x && int_lt x (pos h)) ≡ true → (neg_ℤ (pos h) ≤ℤ x) × (x <ℤ pos h)
+    at x h e = (low, high)
+      where
+        low : neg_ℤ (pos h) ≤ℤ x
+        low = grind (arith, ints, e)
+
+        high : x <ℤ pos h
+        high = grind (arith, ints, e)
+
+pub outside_is : (x y : ℤ) → (IsWithin 62 x × IsWithin 62 y → ⊥) → (is_coordinate x && is_coordinate y) ≡ false
+outside_is x y never = by (is_coordinate x) (is_coordinate y) refl refl
+  where
+    by : (a b : Bool) → is_coordinate x ≡ a → is_coordinate y ≡ b → (a && b) ≡ false
+    by true true e f = absurd (never (from_coordinate x e, from_coordinate y f))
+    by true false e f = refl
+    by false b e f = refl

@@ -1,0 +1,11 @@
+use Rattle.theorems.proofs.FileLaw.{both_ok, same_is}
+use Rattle.theorems.proofs.RefusalLaw.{map_err, uncompared_as}
+use Rattle.theorems.proofs.comparing.files_are_same.Goals as goal
+
+pub returns-clause-answer : goal.returns-clause-answer
+returns-clause-answer c =
+    both_ok c.same.result c.same.ensures.accepted (λ answer are h. same_is c.files_are_on_plane.ensures c.args.first.now c.args.second.now answer are h)
+    c.same.ensures.answer
+
+pub returns-clause-refused : goal.returns-clause-refused
+returns-clause-refused c = map_err c.same.result (λ fault h. uncompared_as c.args.first.now c.args.second.now _ fault h) c.same.ensures.fault

@@ -1,0 +1,13 @@
+use Rattle.theorems.proofs.FileLaw.{text_is_file}
+use Rattle.theorems.proofs.RefusalLaw.{map_err}
+use Rattle.theorems.proofs.StreamLaw.{has_run, stream_fault, map_on}
+use Rattle.theorems.proofs.streaming.stream_to_stream.Goals as goal
+
+pub returns-clause-done : goal.returns-clause-done
+returns-clause-done g c =
+    λ bytes held e f. map_on c.run_canon.result
+    (λ ran. let h = has_run _ _ _ bytes held ran e f in (h.text, h.written, text_is_file c.texts_keep_patterns.ensures bytes h.text h.canonical))
+    c.run_canon.ensures.ok
+
+pub returns-clause-refused : goal.returns-clause-refused
+returns-clause-refused g c = λ bytes e. map_err c.run_canon.result (λ fault h. stream_fault _ _ _ bytes fault h e) c.run_canon.ensures.err

@@ -1,0 +1,63 @@
+//! A file that comes from a source, and whose canonical text goes to a sink.
+
+ghost use Rattle.std.specs.Prelude.{◌≡◌, ◌≢◌, ◌≤◌, ◌^◌, ◌++◌, ℕ, List, false, Some, IfOk, IfErr, OnOk};
+ghost use Rattle.claims.specs.Files.{Same};
+ghost use Rattle.theorems.specs.Streams.{IsStreamFault};
+
+use life_base::{Fault, Kind, Sink, Source};
+use life_canon::laws::{files_are_unique, texts_keep_patterns};
+use life_canon::{canon, run_canon};
+use life_quad::Shared;
+use std::alloc::Global;
+
+/// From a source that tells its bytes to a sink that tells what it holds, a file of the same pattern is written after what
+/// the sink held, and the sink stays as it was where another fault than one of writing is told.
+///
+/// # Errors
+///
+/// The fault of the file; want of room or of memory; `InputTooLong` where more than 2^30 bytes come; `ReadFault` where the
+/// source failed; `WriteFault` where the sink failed or took no bytes.
+pub fn stream_to_stream<R: Source, W: Sink>(
+    alloc: Global,
+    reader: &mut R,
+    writer: &mut W,
+    limit: u64,
+) -> Result<(), Fault>
+    requires limit { limit ≤ 2 ^ 62 }
+    requires reads { R.failures reader.old ≡ 0 }
+    requires writes { W.failures writer.old ≡ 0 }
+    requires takes { W.stalled writer.old ≡ false }
+    ensures done { (bytes held : List ℕ) → R.remaining reader.old ≡ Some bytes → W.contents writer.old ≡ Some held
+        → OnOk result ((text : List ℕ) × (W.contents writer.new ≡ Some (held ++ text)) × Same bytes text) }
+    ensures untouched { IfErr result (λ fault. fault.kind ≢ Kind.WriteFault → writer.new ≡ writer.old) }
+    ensures refused { (bytes : List ℕ) → R.remaining reader.old ≡ Some bytes
+        → IfErr result (IsStreamFault bytes (R.failures reader.new) (W.failures writer.new) (W.stalled writer.new)) }
+{
+    texts_keep_patterns();
+    let mut store = Shared::new(alloc, limit);
+    run_canon(alloc, &mut store, reader, writer)
+}
+
+/// What is written to a sink that tells what it holds is the canonical text that `canon` makes of the bytes of the source.
+pub fn stream_writes_the_text<R: Source, W: Sink>(
+    alloc: Global,
+    reader: &mut R,
+    writer: &mut W,
+    file: &[u8],
+    first_limit: u64,
+    second_limit: u64,
+) -> Result<Vec<u8>, Fault>
+    requires first_limit { first_limit ≤ 2 ^ 62 }
+    requires second_limit { second_limit ≤ 2 ^ 62 }
+    requires reads { R.failures reader.old ≡ 0 }
+    requires writes { W.failures writer.old ≡ 0 }
+    requires takes { W.stalled writer.old ≡ false }
+    ensures { (held : List ℕ) → R.remaining reader.old ≡ Some file.now → W.contents writer.old ≡ Some held
+        → IfOk result (λ text. W.contents writer.new ≡ Some (held ++ text.items)) }
+{
+    files_are_unique();
+    let mut first_store = Shared::new(alloc, first_limit);
+    run_canon(alloc, &mut first_store, reader, writer)?;
+    let mut second_store = Shared::new(alloc, second_limit);
+    canon(alloc, &mut second_store, file)
+}
