@@ -1,0 +1,3 @@
+pub mod Given
+pub mod Imaged
+pub mod Decided
