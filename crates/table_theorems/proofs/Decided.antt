@@ -86,7 +86,8 @@ head_of [] = 0
 head_of (x ∷ xs) = x
 
 module _ (vars : List Var) (variables : List Variable) (same : AreVariables vars variables) where
-  some_state : (i : ℕ) (var : Var) (xs : List ℕ) → ((s : ℕ) → list_any (λ t. t == s) xs ≡ has_state var s) → ¬ ((s : ℕ) → ¬ (HasState var s)) → HasState var (head_of xs)
+  some_state : (i : ℕ) (var : Var) (xs : List ℕ) → ((s : ℕ) → list_any (λ t. t == s) xs ≡ has_state var s) → ¬ ((s : ℕ) → ¬ (HasState var s))
+      → HasState var (head_of xs)
   some_state i var [] h k = absurd (k (λ s e. let f : false ≡ true = h s ∙ e in cc))
   some_state i var (x ∷ xs) h k = sym (h x) ∙ or_first (x == x) _ (eq-eqb x x refl)
 
@@ -105,7 +106,8 @@ module _ (vars : List Var) (variables : List Variable) (same : AreVariables vars
       by : (o : Option Var) → slice_get vars i ≡ o → IfSome o (λ var. HasState var (head_of (states_of variables (variable i))))
       by None e = tt
       by (Some var) e =
-          some_state i var (states_of variables (variable i)) (λ s. same.states i s ∙ ap (λ (o : Option Var). option_map_or (λ (v : Var). has_state v s) o false) e)
+          some_state i var (states_of variables (variable i)) (λ s. same.states i s
+          ∙ ap (λ (o : Option Var). option_map_or (λ (v : Var). has_state v s) o false) e)
           (All-contains (IsVariable n) vars var all (there vars i var e)).some
 
 -- ---- lines
@@ -122,7 +124,8 @@ in_out : (a : LayerAnswer) → answer_out (answer_in a) ≡ a
 in_out (Becomes s) = refl
 in_out (Ambiguous number) = refl
 
-module _ (layer : LayerTable) (table : Table) (is : IsTable layer table) (centre : ℕ) (others : List ℕ) (count : length others ≡ neighbour_count layer.neighborhood) where
+module _ (layer : LayerTable) (table : Table) (is : IsTable layer table) (centre : ℕ) (others : List ℕ) (count : length others
+    ≡ neighbour_count layer.neighborhood) where
   agrees : Agrees layer.symmetry others
   agrees = images_agree layer.symmetry layer.neighborhood others layer.sound.listed count
 
@@ -148,7 +151,8 @@ module _ (layer : LayerTable) (table : Table) (is : IsTable layer table) (centre
         image = u.0;
         is_image = u.1;
         gives = given_is_choice layer.vars table.variables is.variables (base layer.vars table.variables is.variables)
-            (is_base layer.vars table.variables is.variables layer.n_states layer.sound.variables) line (centre ∷ u.0) s (omega (arith, long, inputs, count)) t.bound u.2;
+            (is_base layer.vars table.variables is.variables layer.n_states layer.sound.variables) line (centre ∷ u.0) s
+            (omega (arith, long, inputs, count)) t.bound u.2;
       }
 
   gets : (line : LayerTransition) → IsLine line → (s : ℕ) → GivesOne line s → Contains (gives table centre others (transition_in line)) s
@@ -174,7 +178,8 @@ module _ (layer : LayerTable) (table : Table) (is : IsTable layer table) (centre
   })
   behind line lines a silent (inr n) = inr (All-cons Silent line lines silent n.0, n.1)
 
-  at_first : (line : LayerTransition) (lines : List LayerTransition) (a : LayerAnswer) → LineAnswers layer.symmetry layer.vars centre others line a → Decide (line ∷ lines) a
+  at_first : (line : LayerTransition) (lines : List LayerTransition) (a : LayerAnswer) → LineAnswers layer.symmetry layer.vars centre others line a
+      → Decide (line ∷ lines) a
   at_first line lines a h = inl (record { before = []; line = line; after = lines; split = refl; silent = All-nil Silent; answers = h })
 
   decides : (lines : List LayerTransition) → All IsLine lines → Decide lines (answer_out (decided table centre others (map transition_in lines)))
@@ -184,7 +189,8 @@ module _ (layer : LayerTable) (table : Table) (is : IsTable layer table) (centre
       t : IsLine line
       t = All-head IsLine line lines all
 
-      by : (found : List ℕ) → gives table centre others (transition_in line) ≡ found → Decide lines (answer_out (decided table centre others (map transition_in lines)))
+      by : (found : List ℕ) → gives table centre others (transition_in line) ≡ found
+          → Decide lines (answer_out (decided table centre others (map transition_in lines)))
           → Decide (line ∷ lines) (answer_out (elim found [
             | [] ↦ decided table centre others (map transition_in lines)
             | s ∷ states ↦ cond (list_all (λ r. r == s) states) (becomes s) (ambiguous line.line)
@@ -196,7 +202,8 @@ module _ (layer : LayerTable) (table : Table) (is : IsTable layer table) (centre
             | inl h ↦ subst (λ v. Decide (line ∷ lines) (answer_out (cond v (becomes s) (ambiguous line.line)))) (sym h)
                 (at_first line lines (Becomes s) (
                   first_given,
-                  λ r g. elim (in_either s r states (subst (λ (xs : List ℕ). Contains xs r) e (gets line t r g))) [ inl k ↦ sym k | inr k ↦ all_same s states h r k ],
+                  λ r g. elim (in_either s r states
+                      (subst (λ (xs : List ℕ). Contains xs r) e (gets line t r g))) [ inl k ↦ sym k | inr k ↦ all_same s states h r k ],
                 ))
             | inr h ↦
                 let r = another s states h in
@@ -206,12 +213,14 @@ module _ (layer : LayerTable) (table : Table) (is : IsTable layer table) (centre
           ]
 
   decides_all : Decide layer.lines (answer_out (decided table centre others table.transitions))
-  decides_all = subst (λ (ts : List Transition). Decide layer.lines (answer_out (decided table centre others ts))) (sym is.transitions) (decides layer.lines layer.sound.transitions)
+  decides_all = subst (λ (ts : List Transition). Decide layer.lines (answer_out (decided table centre others ts))) (sym is.transitions)
+      (decides layer.lines layer.sound.transitions)
 
   alike : (a : LayerAnswer) → Decide layer.lines a ↔ (decided table centre others table.transitions ≡ answer_in a)
   alike a = (
     λ h. sym (out_in (decided table centre others table.transitions))
-        ∙ ap answer_in (one_law layer.symmetry layer.vars centre others layer.lines (answer_out (decided table centre others table.transitions)) a decides_all h),
+        ∙ ap answer_in (one_law layer.symmetry layer.vars centre others layer.lines
+        (answer_out (decided table centre others table.transitions)) a decides_all h),
     λ e. subst (Decide layer.lines) (ap answer_out e ∙ in_out a) decides_all,
   )
 

@@ -52,7 +52,8 @@ if_some : {X : Type 0} (p : X → Bool) (o : Option X) → option_map_or p o fal
 if_some p None h = cc
 if_some p (Some x) h = h
 
-some_if : {X : Type 0} (p : X → Bool) (xs : List X) (i : ℕ) → i < length xs → IfSome (slice_get xs i) (λ x. IsTrue (p x)) → option_map_or p (slice_get xs i) false ≡ true
+some_if : {X : Type 0} (p : X → Bool) (xs : List X) (i : ℕ) → i < length xs → IfSome (slice_get xs i) (λ x. IsTrue (p x))
+    → option_map_or p (slice_get xs i) false ≡ true
 some_if p [] i l h = absurd (omega arith)
 some_if p (x ∷ xs) zero l h = h
 some_if p (x ∷ xs) (suc i) l h = some_if p xs i (omega arith) h
@@ -61,7 +62,8 @@ module _ (vars : List Var) (variables : List Variable) (same : AreVariables vars
   has_state_of : (i s : ℕ) → list_any (λ t. t == s) (states_of variables (variable i)) ≡ true → IfSome (slice_get vars i) (λ var. HasState var s)
   has_state_of i s h = if_some (λ var. has_state var s) (slice_get vars i) (sym (same.states i s) ∙ h)
 
-  is_state_of : (i s : ℕ) → i < length vars → IfSome (slice_get vars i) (λ var. HasState var s) → list_any (λ t. t == s) (states_of variables (variable i)) ≡ true
+  is_state_of : (i s : ℕ) → i < length vars → IfSome (slice_get vars i) (λ var. HasState var s)
+      → list_any (λ t. t == s) (states_of variables (variable i)) ≡ true
   is_state_of i s l h = same.states i s ∙ some_if (λ var. has_state var s) vars i l h
 
   -- ---- a given state is that of a choice
@@ -99,9 +101,6 @@ module _ (vars : List Var) (variables : List Variable) (same : AreVariables vars
 
   module _ (base : ℕ → ℕ) (is_base : IsChoice vars base) (es : List LayerEntry) (ss : List ℕ) (l : length es ≡ length ss)
       (a : list_all (allows variables (taken (map entry_in es) ss)) (zip (map entry_in es) ss) ≡ true) where
-    value : ℕ → ℕ
-    value = taken (map entry_in es) ss
-
     choice : ℕ → ℕ
     choice i = cond (list_any (is_variable i) es) (taken (map entry_in es) ss i) (base i)
 
@@ -135,16 +134,15 @@ module _ (vars : List Var) (variables : List Variable) (same : AreVariables vars
     }
 
   -- what `given` gives where all inputs are allowed
-  output_state : (value : ℕ → ℕ) (output : LayerEntry) → ℕ
-  output_state value output = state_of value output
-
   shown : (line : LayerTransition) (ss : List ℕ)
       → given variables (transition_in line) ss
-      ≡ cond (list_all (allows variables (taken (map entry_in line.inputs) ss)) (zip (map entry_in line.inputs) ss)) (Some (state_of (taken (map entry_in line.inputs) ss) line.output)) None
+      ≡ cond (list_all (allows variables (taken (map entry_in line.inputs) ss)) (zip (map entry_in line.inputs) ss))
+      (Some (state_of (taken (map entry_in line.inputs) ss) line.output)) None
   shown line ss = by line.output
     where
       by : (output : LayerEntry) → given variables (record { line = line.line; inputs = map entry_in line.inputs; output = entry_in output }) ss
-          ≡ cond (list_all (allows variables (taken (map entry_in line.inputs) ss)) (zip (map entry_in line.inputs) ss)) (Some (state_of (taken (map entry_in line.inputs) ss) output)) None
+          ≡ cond (list_all (allows variables (taken (map entry_in line.inputs) ss)) (zip (map entry_in line.inputs) ss))
+          (Some (state_of (taken (map entry_in line.inputs) ss) output)) None
       by (entries.Fixed f) = refl
       by (entries.Var i) = refl
 
@@ -156,14 +154,16 @@ module _ (vars : List Var) (variables : List Variable) (same : AreVariables vars
       let h : cond all (Some (state_of (taken (map entry_in line.inputs) ss) line.output)) None ≡ Some s = sym (shown line ss) ∙ g in
       elim (known all) [
         | inl a ↦
-            let k : Some (state_of (taken (map entry_in line.inputs) ss) line.output) ≡ Some s = sym (ap (λ v. cond v (Some (state_of (taken (map entry_in line.inputs) ss) line.output)) None) a) ∙ h in
+            let k : Some (state_of (taken (map entry_in line.inputs) ss) line.output)
+            ≡ Some s = sym (ap (λ v. cond v (Some (state_of (taken (map entry_in line.inputs) ss) line.output)) None) a) ∙ h in
             gives_these base is_base line.inputs ss l a line.line line.output bound s (some_of _ s k)
         | inr a ↦ absurd (let k : None ≡ Some s = sym (ap (λ v. cond v (Some (state_of (taken (map entry_in line.inputs) ss) line.output)) None) a) ∙ h in cc)
       ]
 
   -- ---- the state of a choice is given
 
-  taken_is : (choice : ℕ → ℕ) (i : ℕ) (es : List LayerEntry) → list_any (is_variable i) es ≡ true → taken (map entry_in es) (map (state_of choice) es) i ≡ choice i
+  taken_is : (choice : ℕ → ℕ) (i : ℕ) (es : List LayerEntry) → list_any (is_variable i) es ≡ true
+      → taken (map entry_in es) (map (state_of choice) es) i ≡ choice i
   taken_is choice i [] m = cc
   taken_is choice i (entries.Fixed f ∷ es) m = taken_is choice i es m
   taken_is choice i (entries.Var j ∷ es) m = elim (eqb_tells j i) [
@@ -181,7 +181,8 @@ module _ (vars : List Var) (variables : List Variable) (same : AreVariables vars
   all_allowed n value choice is (entries.Var j ∷ es) there h =
       let below : j < length vars = (All-head (IsEntry n vars) (entries.Var j) es there).variable j refl in
       both (eqb (value j) (choice j) && list_any (λ t. t == choice j) (states_of variables (variable j))) _
-      (both (eqb (value j) (choice j)) _ (eq-eqb (value j) (choice j) (h j (or_first (eqb j j) _ (eq-eqb j j refl)))) (is_state_of j (choice j) below (is j below)))
+      (both (eqb (value j) (choice j)) _ (eq-eqb (value j) (choice j) (h j (or_first (eqb j j) _ (eq-eqb j j refl))))
+      (is_state_of j (choice j) below (is j below)))
       (all_allowed n value choice is es (All-tail (IsEntry n vars) (entries.Var j) es there) (λ i m. h i (or_second (eqb i j) _ m)))
 
   output_taken : (choice : ℕ → ℕ) (es : List LayerEntry) (output : LayerEntry) → ((i : ℕ) → output ≡ entries.Var i → list_any (is_variable i) es ≡ true)

@@ -33,7 +33,8 @@ insertions_are x (y ∷ ys) = ap (λ (t : List (List ℕ)). (x ∷ y ∷ ys) ∷
 
 inserted_are : (x : ℕ) (vs : List (List ℕ)) → flat_map (insertions x) vs ≡ flat_map (layer_insertions x) vs
 inserted_are x [] = refl
-inserted_are x (v ∷ vs) = ap (λ (t : List (List ℕ)). t ++ flat_map (insertions x) vs) (insertions_are x v) ∙ ap (λ (t : List (List ℕ)). layer_insertions x v ++ t) (inserted_are x vs)
+inserted_are x (v ∷ vs) = ap (λ (t : List (List ℕ)). t ++ flat_map (insertions x) vs) (insertions_are x v)
+    ∙ ap (λ (t : List (List ℕ)). layer_insertions x v ++ t) (inserted_are x vs)
 
 orders_are : (v : List ℕ) → orders v ≡ layer_orders v
 unfolding layer_orders
@@ -58,7 +59,9 @@ have_both n (v ∷ vs) ws h k = both (length v == n) _ (first (length v == n) _ 
 
 insertions_have : (x : ℕ) (ys : List ℕ) → have_length (suc (length ys)) (insertions x ys) ≡ true
 insertions_have x [] = refl
-insertions_have x (y ∷ ys) = both (suc (suc (length ys)) == suc (suc (length ys))) _ (itself (suc (suc (length ys)))) (in_front (suc (length ys)) y (insertions x ys) (insertions_have x ys))
+insertions_have x (y ∷ ys) =
+    both (suc (suc (length ys)) == suc (suc (length ys))) _ (itself (suc (suc (length ys))))
+    (in_front (suc (length ys)) y (insertions x ys) (insertions_have x ys))
   where
     itself : (n : ℕ) → (n == n) ≡ true
     itself n = grind arith
@@ -107,13 +110,15 @@ eight Permute a b c d e f g h = (orders_are (a ∷ b ∷ c ∷ d ∷ e ∷ f ∷
 eight Rotate8 a b c d e f g h = (refl, refl)
 eight Rotate8Reflect a b c d e f g h = (refl, refl)
 
-pub images_agree : (symmetry : Symmetry) (neighborhood : Neighborhood) (v : List ℕ) → IsTrue (is_listed neighborhood symmetry) → length v ≡ neighbour_count neighborhood
+pub images_agree : (symmetry : Symmetry) (neighborhood : Neighborhood) (v : List ℕ) → IsTrue (is_listed neighborhood symmetry)
+    → length v ≡ neighbour_count neighborhood
     → Agrees symmetry v
 images_agree symmetry VonNeumann v h l =
     subst (Agrees symmetry) (sym (four_of v l)) (four symmetry h (slice_index v 0) (slice_index v 1) (slice_index v 2) (slice_index v 3))
 images_agree symmetry Moore v h l =
     subst (Agrees symmetry) (sym (eight_of v l))
-    (eight symmetry (slice_index v 0) (slice_index v 1) (slice_index v 2) (slice_index v 3) (slice_index v 4) (slice_index v 5) (slice_index v 6) (slice_index v 7))
+    (eight symmetry (slice_index v 0) (slice_index v 1) (slice_index v 2) (slice_index v 3) (slice_index v 4) (slice_index v 5) (slice_index v 6)
+    (slice_index v 7))
 
 pub image_length : (symmetry : Symmetry) (v image : List ℕ) → Agrees symmetry v → Contains (layer_images symmetry v) image → length image ≡ length v
 image_length symmetry v image h c =
