@@ -7,7 +7,7 @@
 --   `neighbourhood` is as good as `neighborhood`; which orders a symmetry lists (those of Golly's program, since Golly Help has only the words);
 --   a variable line has `=` and braces, and gives a new name; without commas each byte is an entry, however many states and variables there are;
 --   a line that gives a cell two states is ambiguous, where Golly takes one of them; a table must leave a cell of state 0 among such cells as it is.
-use Rattle.std.specs.Prelude.{ℕ, ◌+◌, ◌-◌, ◌*◌, ◌/◌, ◌%◌, Bool, true, false, not, ◌&&◌, ◌||◌, List, [], ◌∷◌, ◌++◌, length, take, drop, map, filter, flat_map, nat_le, nat_lt, ◌==◌, if◌then◌else◌, bytes_eq, codes, slice_get, slice_index, Option, Some, None, Result, Ok, Err}
+use Rattle.std.specs.Prelude.{ℕ, ◌+◌, ◌-◌, ◌*◌, ◌/◌, ◌%◌, ◌^◌, min, Bool, true, false, not, ◌&&◌, ◌||◌, List, [], ◌∷◌, ◌++◌, length, take, drop, map, filter, flat_map, nat_le, nat_lt, ◌==◌, if◌then◌else◌, bytes_eq, codes, slice_get, slice_index, slice_index_or, Option, Some, None, Result, Ok, Err}
 use Rattle.std.specs.Char.{is_ascii_digit, is_ascii_graphic}
 use Rattle.std.specs.List.{list_all, list_any, slice_split, before_first, after_first, zip, filter_map, range_with_len, position}
 use Rattle.std.specs.Option.{is_some, is_none, unwrap_or}
@@ -30,7 +30,8 @@ pub record Variable : Type 0 where
   pub name : List ℕ
   pub states : List ℕ
 
--- a transition: the number of its line, the entries for the centre and its neighbours, and that for the next state
+-- a transition: the number of its line (one above 2 ^ 64 - 1 is told as that), the entries for the centre and its neighbours, and that for the next
+-- state
 pub record Transition : Type 0 where
   pub line : ℕ
   pub inputs : List Entry
@@ -151,7 +152,7 @@ leaves_zero (variable number) = false
 
 abbrev pub with_entries : Table → ℕ → List Entry → Entry → Result Table Kind
 with_entries table number inputs output =
-    let line : Transition = record { line = number; inputs = inputs; output = output } in
+    let line : Transition = record { line = min number (2 ^ 64 - 1); inputs = inputs; output = output } in
     if not (is_bound inputs output) then Err UnboundOutput
     else if fits_zero table.variables line && leaves_zero output && not (list_any (fits_zero table.variables) table.transitions) then Err NotQuiet
     else Ok (record table { transitions = table.transitions ++ line ∷ [] })
@@ -164,11 +165,8 @@ with_transition table number text =
     else elim (entries_of table (take inputs texts)) [
       | None ↦ Err BadTransition
       | Some entries ↦
-          elim (entry_of table (slice_index_text texts inputs)) [ None ↦ Err BadTransition | Some output ↦ with_entries table number entries output ]
+          elim (entry_of table (slice_index_or texts inputs [])) [ None ↦ Err BadTransition | Some output ↦ with_entries table number entries output ]
     ]
-  where
-    slice_index_text : List (List ℕ) → ℕ → List ℕ
-    slice_index_text texts n = unwrap_or (slice_get texts n) []
 
 -- ---- the lines
 

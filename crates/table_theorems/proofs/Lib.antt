@@ -1,0 +1,11 @@
+pub mod Given
+pub mod Imaged
+pub mod Decided
+pub mod Sets
+pub mod Words
+pub mod Named
+pub mod Text
+pub mod Written
+pub mod Transitions
+pub mod Line
+pub mod Read
