@@ -1,0 +1,66 @@
+"""Bytes, lines and numbers."""
+
+from transcribed.library import byte, digits_value, is_ascii_digit, list_all, take
+
+WHITESPACE = bytes([byte(" "), byte("\t"), byte("\r")])
+
+
+def is_whitespace(b):
+    return b in WHITESPACE
+
+
+def is_empty(text):
+    return len(text) == 0
+
+
+def is_blank(text):
+    return list_all(is_whitespace, text)
+
+
+def trim_start(text):
+    return text.lstrip(WHITESPACE)
+
+
+def trim_end(text):
+    return text.rstrip(WHITESPACE)
+
+
+def trim(text):
+    return trim_end(trim_start(text))
+
+
+def begins_with(text, front):
+    return take(len(front), text) == front
+
+
+def is_digit_text(text):
+    return not is_empty(text) and list_all(is_ascii_digit, text)
+
+
+def value_of(text):
+    return digits_value(text)
+
+
+def lines_of(data):
+    """Each line ends at a line feed, and the bytes after the last one are a line if there are any."""
+    lines, begin = [], 0
+    while begin < len(data):
+        end = data.find(b"\n", begin)
+        end = len(data) if end < 0 else end
+        lines.append(data[begin:end])
+        begin = end + 1
+    return lines
+
+
+def words_of(text):
+    words, begin = [], 0
+    for at, b in enumerate(text):
+        if is_whitespace(b):
+            begin = at + 1
+        elif is_blank(text[at + 1:at + 2]):
+            words.append(text[begin:at + 1])
+    return words
+
+
+def is_too_long(line):
+    return 2**20 < len(line)
