@@ -11,8 +11,8 @@ Of each random pattern file, about half of which are refused:
 - `same` tells whether it and another file are the same;
 - `step` writes a file of the next pattern, or names a reason why there is none, and so it does by a table, which is refused as `table_of` says.
 
-With --small the files are those of tests/fuzz/small_files.py, of which every byte is cut and changed. A difference is printed with its seed, its
-case and its files. The last line counts the cases.
+The files of tests/fuzz/edge_files.py come first, unless --first is given. With --small the files are those of tests/fuzz/small_files.py, of which
+every byte is cut and changed. A difference is printed with its seed, its case and its files. The last line counts the cases.
 """
 
 import argparse
@@ -28,7 +28,7 @@ from typing import NamedTuple
 sys.path.insert(0, os.path.dirname(os.path.abspath(__file__)))
 
 import compare  # noqa: E402
-from fuzz import random_files  # noqa: E402
+from fuzz import edge_files, random_files  # noqa: E402
 from judged import Library, Program  # noqa: E402
 from transcribed import counting, files, generation, rle, shown, table  # noqa: E402
 from transcribed.pattern import EDGE, is_coordinate  # noqa: E402
@@ -43,6 +43,8 @@ LONGEST_READ = 2**16
 # The cells of each pattern that are compared one by one: those of a window, and some others.
 WINDOW = range(-2, 3)
 OTHER_CELLS = 8
+# What is stepped by a table at a limit.
+STEPPED = b"x = 3, y = 3, rule = Foo\nA.B$2A$B!\n"
 # A run of so many random cases has to be refused as each kind, and to have each answer.
 ENOUGH = 3000
 ANSWERS = ["read", "shown", "same", "different", "written as RLE", "stepped", "changed by a table", "no longer than a rival"]
@@ -397,12 +399,67 @@ class Judge:
 
 
 def random_case(seed, number):
-    """The case of a number: one of `tests/compare.py`, and of some the pattern is changed once more."""
+    """The case of a number: one of `tests/compare.py`, of some of which the pattern is changed once more, or one with a table that fits its pattern."""
     case = compare.random_case(seed, number)
     source = random.Random(f"definitions {seed} {number}")
-    if source.random() < (0.1 if case.table else 0.4):
+    if source.random() < 0.2:
+        return fitted_case(source, case)
+    if source.random() < (0.2 if case.table else 0.7):
         case = case._replace(pattern=random_files.mutated(source, case.pattern, (0, 0.7, 0.3)))
     return case
+
+
+def edge_cases():
+    """The files of tests/fuzz/edge_files.py, each with the one before it."""
+    other = b"x=1,y=1\no!"
+    for number, data in enumerate(edge_files.pattern_files()):
+        yield compare.Case(f"pattern file {number} at a limit", data, other)
+        other = data
+    for number, data in enumerate(edge_files.table_files()):
+        yield compare.Case(f"table {number} at a limit", STEPPED, STEPPED, data, only_step=True)
+
+
+def fitted_case(source, case):
+    """A case with a pattern under a name, and a table with lines that give its cells something."""
+    name = random_files.name_text(source)
+    pattern = random_files.pattern_file(source, name, source.choice([1, 1, 2, 3, 5]))
+    planes = Planes()
+    read = reading(planes, pattern)
+    if read.fault or not isinstance(read.pattern.rule, Named) or planes.population(read.root) > MOST_STEPPED:
+        return case._replace(pattern=pattern, table=None)
+    rule_table = fitting_table(source, name, dict(planes.cells(read.root)))
+    return case._replace(pattern=pattern, table=random_files.mutated(source, rule_table, (0.9, 0.1)))
+
+
+def fitting_table(source, name, states):
+    """A table of this name with lines made from the cells of a pattern: some of their states give way to variables that have them."""
+    neighbours = source.choice([4, 8])
+    symmetry = source.choice(table.symmetries_of(neighbours))
+    most = max(states.values(), default=1)
+    n_states = min(most + source.choice([1, 1, 2]), 256)
+    variables = {name: source.sample(range(n_states), source.randint(1, min(n_states, 4))) for name in ["a", "b", "c", "d"]}
+    lines = [",".join(["0"] * (neighbours + 2))] if source.random() < 0.9 else []
+    places = sorted(around(states)) or [(0, 0)]
+    for _ in range(source.choice([1, 2, 4, 8])):
+        lines.append(fitting_line(source, states, source.choice(places), (neighbours, symmetry), n_states, variables))
+    named = [f"var {it}={{{','.join(map(str, listed))}}}" for it, listed in variables.items()]
+    head = ["@TABLE", f"n_states:{n_states}", f"neighborhood:{'Moore' if neighbours == 8 else 'vonNeumann'}", f"symmetries:{symmetry.decode()}"]
+    return b"@RULE " + name + b"\n" + "\n".join([*head, *named, *lines]).encode() + b"\n"
+
+
+def fitting_line(source, states, place, form, n_states, variables):
+    """A transition that gives the cell at a place a state."""
+    neighbours, symmetry = form
+    look = generation.four_around if neighbours == 4 else generation.eight_around
+    seen = look(lambda x, y: states.get((x, y), 0), *place)
+    seen = (states.get(place, 0), *(source.sample(seen, neighbours) if symmetry == b"permute" else source.choice(table.images(symmetry, seen))))
+    share, entries = source.choice([0, 0.2, 0.5, 0.9]), []
+    for state in seen:
+        fitting = [it for it, listed in variables.items() if state in listed]
+        entries.append(source.choice(fitting) if fitting and source.random() < share else str(state))
+    bound = [it for it in entries if it in variables]
+    output = source.choice(bound) if bound and source.random() < 0.5 else str(source.randrange(n_states))
+    return ",".join([*entries, output])
 
 
 def of_case(judged, parent, seed, given):
@@ -418,7 +475,8 @@ def findings(judged, options):
     if options.only is not None:
         cases = [options.only]
     else:
-        cases = compare.small_cases() if options.small else range(options.first, options.first + options.cases)
+        numbers = range(options.first, options.first + options.cases)
+        cases = compare.small_cases() if options.small else [*edge_cases(), *numbers] if options.first == 0 else numbers
     parent = compare.FAST_FOLDER if os.path.isdir(compare.FAST_FOLDER) else None
     with tempfile.TemporaryDirectory(dir=parent) as folder, multiprocessing.Pool(options.jobs) as pool:
         yield from pool.imap_unordered(functools.partial(of_case, judged, folder, options.seed), cases, 16)

@@ -1,5 +1,7 @@
 """Words of the language's library that the definitions are written with, and `Outcomes`."""
 
+import functools
+
 
 class Err(Exception):
     """A refusal: the name of its kind."""
@@ -110,12 +112,21 @@ def to_ascii_uppercase(b):
 
 
 def digits_value(text):
-    """The number that decimal digits write. A long text is halved: a digit more at a time would take the square of its length."""
+    """The number that decimal digits write."""
     text = text.lstrip(b"0")
-    if len(text) <= 1000:
-        return int(text or b"0")
+    return int(text or b"0") if len(text) <= LONG else long_value(text)
+
+
+LONG = 1000
+
+
+@functools.lru_cache(maxsize=16)
+def long_value(text):
+    """The same of a long text, by halves: a digit more at a time would take the square of its length."""
+    if len(text) <= LONG:
+        return int(text)
     half = len(text) // 2
-    return digits_value(text[:half]) * 10 ** (len(text) - half) + digits_value(text[half:])
+    return long_value.__wrapped__(text[:half]) * 10 ** (len(text) - half) + long_value.__wrapped__(text[half:])
 
 
 def decimal(n):

@@ -1,6 +1,6 @@
 """Bytes, lines and numbers."""
 
-from transcribed.library import byte, digits_value, is_ascii_digit, list_all, take
+from transcribed.library import byte, digits_value, list_all, take
 
 WHITESPACE = bytes([byte(" "), byte("\t"), byte("\r")])
 
@@ -34,7 +34,7 @@ def begins_with(text, front):
 
 
 def is_digit_text(text):
-    return not is_empty(text) and list_all(is_ascii_digit, text)
+    return not is_empty(text) and text.isdigit()
 
 
 def value_of(text):
