@@ -2,6 +2,8 @@
 
 import itertools
 
+from fuzz.random_files import LONGEST_LINE
+
 EDGE = 2**61
 PLACES = [-EDGE - 1, -EDGE, -EDGE + 1, -1, 0, 1, EDGE - 1, EDGE]
 COUNTS = [0, 1, 2, EDGE - 1, EDGE, EDGE + 1, 2 * EDGE - 1, 2 * EDGE, 2 * EDGE + 1]
@@ -112,9 +114,26 @@ def macrocell_files():
         yield macrocell("*$", *(f"{above} 0 {above - 3} 0 0" for above in range(4, level + 1)))
 
 
+def long_files():
+    """Pattern files with a line of 2^20 bytes, or of one more, in each place of a file."""
+    for more in (0, 1):
+        comment, blank, end = "#".ljust(LONGEST_LINE + more, "C"), " " * (LONGEST_LINE + more), "o!".ljust(LONGEST_LINE + more)
+        for line in (comment, blank):
+            yield f"{line}\n{rle()}"
+            yield rle(data=f"o\n{line}\no!")
+            yield rle(data=f"o!\n{line}")
+            yield macrocell("*$", line)
+        yield rle(data=end)
+        yield rle(data=f"o!\n{end}")
+        yield f"{'[M2]'.ljust(LONGEST_LINE + more)}\n*$"
+        yield macrocell("#G 7".ljust(LONGEST_LINE + more) + "\r")
+        yield macrocell(f"4 {'0'.rjust(LONGEST_LINE + more - 8, '0')} 0 0 0")
+        yield rle(position=f" Gen={'7'.rjust(LONGEST_LINE + more - 11, '0')}")
+
+
 def pattern_files():
     """Pattern files at limits."""
-    for text in [*rle_files(), *macrocell_files()]:
+    for text in [*rle_files(), *macrocell_files(), *long_files()]:
         yield text.encode("latin-1")
 
 
@@ -129,4 +148,7 @@ def table_files():
     texts += [table(head=it) for it in DESCRIPTORS]
     for line in TABLE_LINES:
         texts += [table(line), table("0,b,0,0,0,0", line), table("0,0,0,0,0,0", line, "0,a,0,0,0,a"), table(line, head=("n_states:2",))]
+    for more in (0, 1):
+        line = "#".ljust(LONGEST_LINE + more, "C")
+        texts += [f"{line}\n{table()}", f"@RULE Foo\n{line}\n{table()}", table(line), table("@x", line)]
     return [text.encode("latin-1") for text in texts]

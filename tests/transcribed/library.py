@@ -11,10 +11,12 @@ class Err(Exception):
         self.kind = kind
 
 
+@functools.cache
 def codes(text):
     return text.encode("ascii")
 
 
+@functools.cache
 def byte(text):
     return codes(text)[0]
 

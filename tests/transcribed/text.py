@@ -1,6 +1,6 @@
 """Bytes, lines and numbers."""
 
-from transcribed.library import byte, digits_value, list_all, take
+from transcribed.library import byte, digits_value, take
 
 WHITESPACE = bytes([byte(" "), byte("\t"), byte("\r")])
 
@@ -14,7 +14,7 @@ def is_empty(text):
 
 
 def is_blank(text):
-    return list_all(is_whitespace, text)
+    return is_empty(text.strip(WHITESPACE))
 
 
 def trim_start(text):
@@ -53,13 +53,9 @@ def lines_of(data):
 
 
 def words_of(text):
-    words, begin = [], 0
-    for at, b in enumerate(text):
-        if is_whitespace(b):
-            begin = at + 1
-        elif is_blank(text[at + 1:at + 2]):
-            words.append(text[begin:at + 1])
-    return words
+    for b in WHITESPACE:
+        text = text.replace(bytes([b]), b" ")
+    return [word for word in text.split(b" ") if word]
 
 
 def is_too_long(line):
