@@ -126,7 +126,7 @@ def long_files():
         yield rle(data=end)
         yield rle(data=f"o!\n{end}")
         yield f"{'[M2]'.ljust(LONGEST_LINE + more)}\n*$"
-        yield macrocell("#G 7".ljust(LONGEST_LINE + more) + "\r")
+        yield macrocell("#G 7".ljust(LONGEST_LINE + more - 1) + "\r")
         yield macrocell(f"4 {'0'.rjust(LONGEST_LINE + more - 8, '0')} 0 0 0")
         yield rle(position=f" Gen={'7'.rjust(LONGEST_LINE + more - 11, '0')}")
 
