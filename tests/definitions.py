@@ -46,7 +46,7 @@ OTHER_CELLS = 8
 # What is stepped by a table at a limit.
 STEPPED = b"x = 3, y = 3, rule = Foo\nA.B$2A$B!\n"
 # A run of so many random cases has to be refused as each kind, and to have each answer.
-ENOUGH = 1800
+ENOUGH = 1600
 ANSWERS = ["read", "shown", "same", "different", "written as RLE", "stepped", "changed by a table", "no longer than a rival"]
 ANSWERS += [f"stepped by {word.decode()} of {neighbours}" for neighbours in (4, 8) for word in table.symmetries_of(neighbours)]
 
