@@ -7,10 +7,10 @@ ghost use Rattle.claims.specs.Table.{Table, table_of};
 
 use life_base::Fault;
 use life_canon::laws::files_are_on_plane;
-use life_quad::Shared;
+use life_quad::{Seed, Shared};
 use life_step::step_table;
 use life_table::laws::grammars_agree;
-use life_table::read_table;
+use life_table::{NameSeed, read_table};
 use std::alloc::Global;
 use table_theorems::laws::{tables_decide, tables_read, tables_refuse};
 
@@ -26,6 +26,8 @@ pub fn next_generation_by_table(
     rules: &[u8],
     file: &[u8],
     limit: u64,
+    seed: Seed,
+    names: NameSeed,
 ) -> Result<Vec<u8>, Fault>
     requires { limit ≤ 2 ^ 62 }
     ensures stepped { IfOk result (λ text. (t : Table) × (table_of rules.now ≡ Ok t) × IsSteppedBy t file.now text.items) }
@@ -37,7 +39,7 @@ pub fn next_generation_by_table(
     tables_read();
     tables_refuse();
     tables_decide();
-    let table = read_table(alloc, rules)?;
-    let mut store = Shared::new(alloc, limit);
+    let table = read_table(alloc, names, rules)?;
+    let mut store = Shared::new(alloc, seed, limit);
     step_table(alloc, &mut store, file, &table)
 }

@@ -7,7 +7,7 @@ ghost use Rattle.theorems.specs.Streams.{IsStreamFault};
 use life_base::{Fault, Kind, Sink, Source};
 use life_canon::laws::{files_are_unique, texts_keep_patterns};
 use life_canon::{canon, run_canon};
-use life_quad::Shared;
+use life_quad::{Seed, Shared};
 use std::alloc::Global;
 
 /// From a source that tells its bytes to a sink that tells what it holds, a file of the same pattern is written after what
@@ -22,6 +22,7 @@ pub fn stream_to_stream<R: Source, W: Sink>(
     reader: &mut R,
     writer: &mut W,
     limit: u64,
+    seed: Seed,
 ) -> Result<(), Fault>
     requires limit { limit ≤ 2 ^ 62 }
     requires reads { R.failures reader.old ≡ 0 }
@@ -34,7 +35,7 @@ pub fn stream_to_stream<R: Source, W: Sink>(
         → IfErr result (IsStreamFault bytes (R.failures reader.new) (W.failures writer.new) (W.stalled writer.new)) }
 {
     texts_keep_patterns();
-    let mut store = Shared::new(alloc, limit);
+    let mut store = Shared::new(alloc, seed, limit);
     run_canon(alloc, &mut store, reader, writer)
 }
 
@@ -45,7 +46,9 @@ pub fn stream_writes_the_text<R: Source, W: Sink>(
     writer: &mut W,
     file: &[u8],
     first_limit: u64,
+    first_seed: Seed,
     second_limit: u64,
+    second_seed: Seed,
 ) -> Result<Vec<u8>, Fault>
     requires first_limit { first_limit ≤ 2 ^ 62 }
     requires second_limit { second_limit ≤ 2 ^ 62 }
@@ -56,8 +59,8 @@ pub fn stream_writes_the_text<R: Source, W: Sink>(
         → IfOk result (λ text. W.contents writer.new ≡ Some (held ++ text.items)) }
 {
     files_are_unique();
-    let mut first_store = Shared::new(alloc, first_limit);
+    let mut first_store = Shared::new(alloc, first_seed, first_limit);
     run_canon(alloc, &mut first_store, reader, writer)?;
-    let mut second_store = Shared::new(alloc, second_limit);
+    let mut second_store = Shared::new(alloc, second_seed, second_limit);
     canon(alloc, &mut second_store, file)
 }
