@@ -79,7 +79,8 @@ pub data IsFirstReason (now : Pattern) : Fault → Type 0 where
 abbrev pub IsUnstepped : List ℕ → Fault → Type 0
 IsUnstepped bytes fault = (now : Pattern) × (pattern_of bytes ≡ Ok now) × IsFirstReason now fault
 
--- a pattern has a next one by the table of its rule: none of the reasons against it holds, and each cell gets the state that the table decides
+-- a pattern has a next one by the table of its rule: none of the reasons against it (`IsFirstReasonBy`) holds, and each cell gets the state that the
+-- table decides
 pub record IsNextByTable (table : Table) (now next : Pattern) : Type 0 where
   pub rule : now.rule ≡ named table.name
   pub same_rule : next.rule ≡ now.rule
@@ -90,7 +91,7 @@ pub record IsNextByTable (table : Table) (now next : Pattern) : Type 0 where
   pub inside : (x y : ℤ) → (is_coordinate x && is_coordinate y) ≡ false → next.cell x y ≡ 0
   pub cells : (x y : ℤ) → decided_at table now.cell x y ≡ becomes (next.cell x y)
 
--- the bytes are a file with a next pattern under its B/S rule, and the text is a file of that one
+-- the bytes are a file with a next pattern under its B/S rule, and the text is a file of that one, canonical or not
 pub record IsStepped (bytes text : List ℕ) : Type 0 where
   pub now : Pattern
   pub next : Pattern

@@ -3,10 +3,10 @@
 -- and which lines after the header are data. This project's own are, each told again at its place:
 --   the plane and every limit, the kinds and the order of their tests, and what holds where a file names no place, no generation or no rule;
 --   a header must stand, and once: Golly reads items without one, and Golly Help doesn't speak of a second one;
---   `#CXRLE` may stand on any line before the header, after comments too, and nowhere after it; whitespace or the end of the line must follow the word;
+--   `#CXRLE` may stand on any line before the header, after comments too, and not between the header and `!`; whitespace or the line's end follows it;
 --   `Pos=X,Y` and `Gen=G` are written without whitespace inside; other fields are passed over; of several such lines the last counts, as a whole;
---   the header begins with the first byte of its line, its sizes are digits, and its rule is all that stands on the line after `rule =`;
---   a count is neither 0 nor above 2 ^ 62, and stands on the line of its item, with nothing between them;
+--   the header's sizes are digits, and its rule is all that stands on the line after `rule =`;
+--   a count is neither 0 nor above 2 ^ 62;
 --   a state must be one of the rule: of a B/S rule 0 or 1.
 use Rattle.std.specs.Prelude.{ℕ, ◌+◌, ◌-◌, ◌*◌, ◌^◌, Bool, true, false, not, ◌&&◌, ◌||◌, List, [], ◌∷◌, ◌++◌, length, drop, take_while, nat_le, nat_lt, ◌==◌, if◌then◌else◌, bytes_eq, codes, Option, Some, None, Result, Ok, Err, ℤ, pos, neg_ℤ, ◌+ℤ◌, int_le, int_lt}
 use Rattle.std.specs.Char.{is_ascii_digit}
@@ -205,8 +205,8 @@ header_of line = do
   rest ← behind_number rest
   rule_part rest
 
--- What the lines so far say with one more after them, or the first rule that this one breaks. A line that begins with `x` and another byte than a
--- space or `=` is data, as in Golly Help. After `!` every line is passed over, whatever its length.
+-- What the lines so far say with one more after them, or the first rule that this one breaks. After the header a line that begins with `x`, but not
+-- with `x ` or `x=`, is data, as in Golly Help. After `!` every line is passed over, whatever its length.
 unfoldable pub with_line : Lines → List ℕ → Result Lines Kind
 with_line (before_header position) line =
     if is_too_long line then Err LineTooLong

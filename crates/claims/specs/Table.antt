@@ -1,7 +1,7 @@
 -- Rule tables (Golly Help, File Formats, "Rule format", "@RULE" and "@TABLE"): what each line says, what a file says, which fault the first line has
 -- that breaks a rule, and which state a table gives a cell. Of Golly Help are the sections, the descriptors, variables and transitions, the order of
 -- the neighbours, and that the first line that fits decides. This project's own are, each told again at its place:
---   the limits, the kinds and the order of their tests; that the states, the neighbourhood and the symmetry are given once, before all other lines;
+--   the limits, the kinds and the order of their tests; that each of the three descriptors is given, and once;
 --   blank lines and comments may stand before `@RULE`, whose name isn't compared with that of the file;
 --   every line whose first byte is `@` begins a section, and the table counts also where a `@TREE` stands before it (in Golly the first one counts);
 --   `neighbourhood` is as good as `neighborhood`; which orders a symmetry lists (those of Golly's program, since Golly Help has only the words);
@@ -248,7 +248,7 @@ images word v =
     else if bytes_eq word (codes "rotate8reflect") then turns turn v 8 1 ++ turns reflected v 8 1
     else v ∷ []
 
--- the state that a variable takes: that of its first place
+-- the state that a variable takes: that of its first place, and 0 where it has none
 abbrev pub taken : List Entry → List ℕ → ℕ → ℕ
 taken [] states n = 0
 taken (entry ∷ entries) [] n = 0
