@@ -1,45 +1,38 @@
 -- A step in the words of the claims is one in the layer below.
-use Rattle.std.proofs.Common.{◌≡◌, ℕ, ◌+◌, ◌^◌, List, Bool, true, false, ◌&&◌, ap, ◌∙◌, sym, subst, arith, inl, inr}
-use Rattle.std.specs.Prelude.{filter, Some, None, ℤ, pos, neg_ℤ, ◌≤ℤ◌, ◌<ℤ◌, int_le, int_lt}
-use Rattle.std.proofs.lemmas.Int.{ints}
+use Rattle.std.proofs.Common.{◌≡◌, ℕ, ◌+◌, List, refl, ap, ◌∙◌, sym, subst, ◌⊎◌, inl, inr}
+use Rattle.std.specs.Prelude.{filter, Some, None, Err, ℤ}
 use Rattle.life_base.specs.declared.cell.Cell.{Cell}
+use Rattle.life_base.specs.Text.{lines_of}
 use Rattle.life_base.specs.declared.fault.Fault.{Fault}
+use Rattle.life_base.specs.declared.kind.Kind.TheVariants.{NeedsTable, GenerationTooLarge, TooManyCells, OutOfPlane}
+use Rattle.life_quad.specs.Store.{Nodes}
 use Rattle.life_base.specs.Rules.{IsRule, IsLifeRule, has_digit, counts, most_neighbours}
 use Rattle.life_base.specs.declared.rule.Rule.{Rule as LayerRule}
-use Rattle.life_base.specs.declared.rule.Rule.TheVariants.{Life}
+use Rattle.life_base.specs.declared.rule.Rule.TheVariants.{Life, Named}
 use Rattle.life_sweep.specs.Refused.{IfElse}
 use Rattle.life_sweep.specs.Generation.{next_life as layer_next}
-use Rattle.life_canon.specs.Universe.{IsWithin, corner}
-use Rattle.life_canon.specs.Laws.{FilesAreOnPlane}
-use Rattle.life_canon.specs.Texts.{AreCellsOf}
+use Rattle.life_canon.specs.Universe.{Universe}
+use Rattle.life_canon.specs.Files.{Reads, Refuses}
+use Rattle.life_canon.specs.Listing.{canon_text}
+use Rattle.life_canon.specs.Store.{IsWant}
+use Rattle.life_canon.specs.Laws.{FilesAreOnPlane, FilesAreUnique}
+use Rattle.life_canon.specs.Texts.{AreCellsOf, IsCanonical}
 use Rattle.life_step.specs.Stepped.{IsStepped as LayerStepped}
-use Rattle.life_step.specs.Refusals.{IsOfPlane, RuleRefusal}
-use Rattle.claims.specs.Pattern.{is_coordinate}
-use Rattle.claims.specs.Generation.{next_life, AreCells, IsStepped}
+use Rattle.life_step.specs.Refusals.{RuleRefusal, LifeRefusal}
+use Rattle.claims.specs.Files.{pattern_of, fault_of}
+use Rattle.claims.specs.Files.{IsWant as IsUnmet}
+use Rattle.claims.specs.Generation.{next_life, AreCells, IsStepped, IsUnstepped, IsFirstReason, no_table, last_generation, many_cells, leaves_plane}
 use Rattle.claims.proofs.RuleLaw.{rule_in}
-use Rattle.theorems.proofs.FileLaw.{files_agree}
+use Rattle.theorems.proofs.FileLaw.{Agrees, files_agree}
+use Rattle.theorems.proofs.CellsLaw.{same_cells as of_layer}
+use Rattle.theorems.proofs.PlaneLaw.{not_of_plane, outside_is}
+use Rattle.theorems.proofs.RefusalLaw.{refuses_agree, want_as}
 use Rattle.step_theorems.proofs.NextLaw.{next_is}
 
 -- a reason that is not told does not hold
 passes : {P A B : Type 0} → IfElse P A B → (A → ⊥) → (P → ⊥) × B
 passes (inl h) never = absurd (never h.1)
 passes (inr h) never = h
-
-within : (x : ℤ) (h : ℕ) → neg_ℤ (pos h) ≤ℤ x → x <ℤ pos h → (int_le (neg_ℤ (pos h)) x && int_lt x (pos h)) ≡ true
-within x h l m = grind (arith, ints)
-
-coordinate : (x : ℤ) → IsWithin 62 x → is_coordinate x ≡ true
-unfolding corner
-coordinate x h = within x (2 ^ 61) h.0 h.1
-
-both : (a b : Bool) → a ≡ true → b ≡ true → (a && b) ≡ false → ⊥
-both true true e f h = cc
-both true false e f h = cc
-both false b e f h = cc
-
--- a pair that is not of the plane
-not_of_plane : (x y : ℤ) → (is_coordinate x && is_coordinate y) ≡ false → IsOfPlane 62 x y → ⊥
-not_of_plane x y e h = both (is_coordinate x) (is_coordinate y) (coordinate x h.0) (coordinate y h.1) e
 
 same_cells : (c d : ℤ → ℤ → ℕ) (cells : List Cell) → c ≡ d → AreCells c cells → AreCellsOf d cells
 same_cells c d cells e h = subst (λ (f : ℤ → ℤ → ℕ). AreCellsOf f cells) e
@@ -85,3 +78,53 @@ stepped_is on_plane bytes text h =
         cells = λ x y. q.cells x y ∙ step.cells x y ∙ sym (next x y);
       };
     }
+
+-- ---- what is not stepped
+
+some_of : (f g : Fault) → Some f ≡ Some g → f ≡ g
+some_of f g e = cc
+
+unstepped_is : FilesAreOnPlane 62 → (bytes : List ℕ) (u : Universe) (fault : Fault) → Reads 62 bytes u → LifeRefusal 62 u (Some fault) → IsUnstepped bytes fault
+unstepped_is on_plane bytes u fault h refusal = (p.pattern, p.is, by u.rule refl refusal)
+  where
+    p : Agrees bytes u
+    p = files_agree bytes u h
+
+    cells : p.pattern.cell ≡ u.cell
+    cells = λ i x y. p.cells x y i
+
+    is : (reason : Fault) → Some fault ≡ Some reason → IsFirstReason p.pattern reason → IsFirstReason p.pattern fault
+    is reason e r = subst (IsFirstReason p.pattern) (sym (some_of fault reason e)) r
+
+    by : (rule : LayerRule) → u.rule ≡ rule → RuleRefusal 62 rule u (Some fault) → IsFirstReason p.pattern fault
+    by (Named name) r e = is (fault_of NeedsTable) e (no_table name (p.rule ∙ ap rule_in r))
+    by (Life life) r (inl f) =
+        is (fault_of GenerationTooLarge) f.1 (last_generation _ _ _ (p.rule ∙ ap rule_in r) (p.generation ∙ f.0))
+    by (Life life) r (inr (room, inl f)) =
+        is (fault_of TooManyCells) f.1
+        (many_cells _ _ _ (p.rule ∙ ap rule_in r) (λ e. room (sym p.generation ∙ e)) (f.0.0, of_layer p.pattern.cell u.cell f.0.0 cells f.0.1, f.0.2))
+    by (Life life) r (inr (room, inr (few, inl f))) =
+        let n = most_neighbours life.near in
+        let b = filter (has_digit life.sets.births) counts in
+        let s = filter (has_digit life.sets.survivals) counts in
+        let valid : IsLifeRule life = subst IsRule r (on_plane bytes u h).rule in
+        let next : (x y : ℤ) → next_life n b s p.pattern.cell x y ≡ layer_next life u.cell x y =
+        λ x y. ap (λ (c : ℤ → ℤ → ℕ). next_life n b s c x y) cells ∙ next_is life valid u.cell x y in
+        is (fault_of OutOfPlane) f.1
+        (leaves_plane n b s (p.rule ∙ ap rule_in r) (λ e. room (sym p.generation ∙ e))
+        (λ m. few (m.0, same_cells p.pattern.cell u.cell m.0 cells m.1, m.2))
+        (f.0.0, f.0.1, outside_is f.0.0 f.0.1 f.0.2, λ z. f.0.3 (sym (next f.0.0 f.0.1) ∙ z)))
+    by (Life life) r (inr (room, inr (few, inr (inside, e)))) = cc
+
+-- why a file is not stepped
+pub unstepped_as : FilesAreOnPlane 62 → (bytes : List ℕ) (store : Nodes) (fault : Fault)
+    → Refuses 62 bytes fault ⊎ (IsWant store fault ⊎ ((u : Universe) × Reads 62 bytes u × LifeRefusal 62 u (Some fault)))
+    → (pattern_of bytes ≡ Err fault) ⊎ (IsUnmet fault ⊎ IsUnstepped bytes fault)
+unstepped_as on_plane bytes store fault (inl r) = inl (refuses_agree bytes fault r)
+unstepped_as on_plane bytes store fault (inr (inl w)) = inr (inl (want_as store fault w))
+unstepped_as on_plane bytes store fault (inr (inr h)) = inr (inr (unstepped_is on_plane bytes h.0 fault h.1 h.2))
+
+-- the canonical text of a next generation's text is that text
+pub next_is_fixed : FilesAreUnique 62 → (bytes text again : List ℕ) → LayerStepped bytes text → IsCanonical 62 text again → text ≡ again
+next_is_fixed unique bytes text again h k =
+    let t = h.3 in t.canonical ∙ ap (canon_text 62) (unique (lines_of text) t.universe k.universe t.reads k.reads) ∙ sym k.is
