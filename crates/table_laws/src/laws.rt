@@ -1,0 +1,18 @@
+//! Laws over the definitions alone.
+
+ghost use Rattle.table_laws.specs.Laws.{TablesDecide, TablesRead, TablesRefuse};
+
+/// What a table decides for a cell and its neighbours is what the layer below says that it decides.
+pub fn tables_decide()
+    ensures { TablesDecide }
+{}
+
+/// A rule file that is a table's in the layer below says that table, and one that says a table is a table's there.
+pub fn tables_read()
+    ensures { TablesRead }
+{}
+
+/// A rule file is refused at the line and with the kind with which the layer below refuses it.
+pub fn tables_refuse()
+    ensures { TablesRefuse }
+{}
