@@ -580,6 +580,7 @@ DEVICES = [
     failing("a closed standard output, from standard input", "canon -", "WriteFault", source=FILES["input"], by=CLOSED),
     failing("a full output", "canon input", "WriteFault", by=TO_FULL),
     failing("help to a full output", "--help", "WriteFault", by=TO_FULL),
+    Case("words at fault with a full standard error", "canon", 5, by='exec "$@" 2> /dev/full'),
     failing("a full output and a full standard error", "canon input", "", by='exec "$@" > /dev/full 2> /dev/full'),
     Case("a refusal with standard error closed", status=2, files={"input": b"o!\n"}, by='exec "$@" 2>&-'),
     failing("a closed standard input", "canon -", "ReadFault", by=NO_SOURCE),
@@ -773,6 +774,7 @@ MOVING = [(b"[M2]\n" + GLIDER, 1), (b"# a comment\n", 2_000_000)]
 GROWS = '{ for i in 1 2 3 4 5 6 7 8 9; do echo "# $i" >> input; sleep 0.01; done; } & "$@"; status=$?; wait; exit $status'
 SHRINKS = '{ sleep 0.02; truncate -s 1000 input; } & "$@"; status=$?; wait; exit $status'
 GOES = '{ sleep 0.02; rm input; } & "$@"; status=$?; wait; exit $status'
+BY_PIPES = 'mkfifo one two; { cat pair.rle > one; cat pair.mc > two; } & "$@"; status=$?; kill $! 2> /dev/null; rm one two; exit $status'
 BY_A_PIPE = 'mkfifo pipe; { cat pair.mc; sleep 0.1; echo "#"; } > pipe & "$@"; status=$?; kill $! 2> /dev/null; rm pipe; exit $status'
 
 
@@ -804,6 +806,8 @@ CHANGES = [
     by_a_pipe("same pair.rle pipe", b"same\n"),
     by_a_pipe("convert pipe --to rle", PAIR_RLE),
     by_a_pipe("step pipe", canonical(b"B3/S23", 1)),
+    # Nobody writes to the second pipe until the first was read, so the program hangs where it opens the second one first.
+    Case("the first file is opened first", "same one two", output=b"same\n", by=BY_PIPES, files={it: FILES[it] for it in ("pair.mc", "pair.rle")}),
     told("standard input byte by byte", "canon -", PAIR_TEXT, source=slowly(FILES["pair.mc"])),
     told("a table byte by byte", "step spread.rle --table -", SPREAD_STEPPED, source=slowly(TABLE)),
     told("a source without bytes", "canon -", error="line 1: NoHeader", status=2, source=Piped()),
@@ -851,6 +855,13 @@ MISUSED = [
     misused("the empty word", ""),
     misused("a word that is no UTF-8 text", "canon", NO_TEXT),
     misused("a word of 100000 bytes", "n" * 100_000),
+    Case("the line for a word that is no UTF-8 text", ["canon", NO_TEXT], 5, "error: a word of the command line is no UTF-8 text"),
+]
+
+# Standard input, and the file beside the one that is named, hold another pattern.
+DASHES = [
+    Case("a file whose name begins with a dash", ["canon", "--", "-odd.mc"], output=PAIR_TEXT, files={"-odd.mc": FILES["pair.mc"]}, source=FILES["input"]),
+    Case("standard input behind --", ["canon", "--", "-"], output=PAIR_TEXT, files={"-": FILES["input"]}, source=FILES["pair.mc"]),
 ]
 
 ASKED = [
@@ -1053,7 +1064,7 @@ TABLES = [
 # ---- the run
 
 CASES = [
-    *FIRST_CASES, *LONG_LINES, *MANY_LINES, *RLE, *DEEP_SQUARES, *DEVICES, *JOBS, *STEPS, *SINKS, *SOURCES, *LONG_TEXTS, *CHANGES, *MISUSED, *ASKED,
+    *FIRST_CASES, *LONG_LINES, *MANY_LINES, *RLE, *DEEP_SQUARES, *DEVICES, *JOBS, *STEPS, *SINKS, *SOURCES, *LONG_TEXTS, *CHANGES, *MISUSED, *DASHES, *ASKED,
     *LARGE_RLE, *FEW_LINES, *CHOSEN_KEYS, *TABLES, *LONGEST_INPUTS,
 ]
 

@@ -1,5 +1,6 @@
 //! The files that the words name.
 
+use life_cli::{Opened, Origin};
 use std::fs;
 use std::fs::File;
 use std::io::{Read, Result};
@@ -32,16 +33,18 @@ fn held(rt: &HostRuntime) -> Option<File> {
     File::open(rt, "/").ok()
 }
 
-/// Opens the file of that name. `-` is standard input.
-pub(crate) fn open(rt: &HostRuntime, name: &str) -> Result<Input> {
-    if name == "-" {
-        return Ok(Input::Standard(rt.stdin()));
-    }
-    Ok(Input::File(File::open(rt, name)?))
+/// Opens what a word names.
+pub(crate) fn open(rt: &HostRuntime, origin: Origin<'_>) -> Result<Opened<Input>> {
+    let input = match origin {
+        Origin::Standard => Input::Standard(rt.stdin()),
+        Origin::File(name) => Input::File(File::open(rt, name)?),
+    };
+    let bytes = length(rt, &input);
+    Ok(Opened { input, bytes })
 }
 
 /// About how many bytes an input has, where the system tells it: of a file its length, of what is no file 0.
-pub(crate) fn length(rt: &HostRuntime, input: &Input) -> u64 {
+fn length(rt: &HostRuntime, input: &Input) -> u64 {
     let metadata = match input {
         Input::File(file) => file.metadata(),
         Input::Standard(_) => fs::metadata(rt, "/dev/stdin"),

@@ -2,3 +2,5 @@ pub mod Faults
 pub mod Jobs
 pub mod CommandLine
 pub mod Plans
+pub mod Opening
+pub mod Usages

@@ -1,15 +1,17 @@
 -- What the words of a command line ask for.
-use Rattle.std.specs.Prelude.{◌≡◌, ◌⊎◌, ◌<◌, ◌∷◌, [], ℕ, Bool, false, List, Option, Some, None, IsSome, codes, string_bytes, option_map, count_by}
+use Rattle.std.specs.Prelude.{◌≡◌, ◌≢◌, ◌⊎◌, ◌<◌, ◌∷◌, [], ℕ, Bool, false, List, Option, Some, None, IsSome, codes, string_bytes, option_map, count_by}
 use Rattle.std.specs.Option.{option_map_or}
 use Rattle.std.specs.Str.{bytes_eq}
-use Rattle.clap.specs.Words.{Row, Text, Kinds, HasKind, first_of}
+use Rattle.clap.specs.Words.{Row, Text, Kinds, IsAmong, first_of, kind_of}
+use Rattle.clap.specs.declared.error.Error.{Error}
+use Rattle.clap.specs.declared.error.kind.ErrorKind.TheVariants.{InvalidValue, OutOfMemory}
 use Rattle.life_cli.specs.declared.plans.Job.{Job}
 use Rattle.life_cli.specs.declared.plans.Job.TheVariants.{Canon, Convert, Same, Show, Step, StepTable}
 use Rattle.life_cli.specs.declared.plans.Target.{Target}
 use Rattle.life_cli.specs.declared.plans.Target.TheVariants.{Rle, Mc}
 use Rattle.life_cli.specs.declared.plans.Plan.{Plan}
 use Rattle.life_cli.specs.declared.plans.Usage.{Usage}
-use Rattle.life_cli.specs.declared.plans.Usage.TheVariants.{Words, TwoInputs, Memory}
+use Rattle.life_cli.specs.declared.plans.Usage.TheVariants.{Words, TwoInputs, NoText, Memory}
 
 -- the word of a format
 abbrev pub target_word : Target → Text
@@ -66,9 +68,36 @@ abbrev pub IsPlanOf : Option (Text × List Row) → Plan → Type 0
 IsPlanOf None p = ⊥
 IsPlanOf (Some matches) p = (matches.0 ≡ command_of p.job) × HoldsMatches p.job matches.1 p
 
--- the matches ask for nothing that can be done
-abbrev pub HasNoPlan : Option (Text × List Row) → Type 0
-HasNoPlan matches = (p : Plan) → ¬ IsPlanOf matches p
+-- something was found under this name
+abbrev pub IsFound : Text → List Row → Type 0
+IsFound id rows = IsSome (first_of id rows)
+
+-- the files and options were found without which the job can't be done
+abbrev pub HasWanted : Job → List Row → Type 0
+HasWanted (Convert target) rows = IsFound (codes "FILE") rows × IsFound (codes "to") rows
+HasWanted Same rows = IsFound (codes "A") rows × IsFound (codes "B") rows
+HasWanted _ rows = IsFound (codes "FILE") rows
+
+-- the matches are those of a job's command, with what the job wants
+abbrev pub AreWhole : Option (Text × List Row) → Type 0
+AreWhole None = ⊥
+AreWhole (Some matches) = (job : Job) × (matches.0 ≡ command_of job) × HasWanted job matches.1
+
+-- the word behind --to is that of no format
+abbrev pub HasNoFormat : List Row → Type 0
+HasNoFormat rows = (word : Text) × (first_of (codes "to") rows ≡ Some word) × ((t : Target) → word ≢ target_word t)
+
+-- the refusal of such a word, or for want of memory
+abbrev pub RefusesFormat : List Row → Usage → Type 0
+RefusesFormat rows (Words error) = HasNoFormat rows × (kind_of error ≡ InvalidValue)
+RefusesFormat rows TwoInputs = ⊥
+RefusesFormat rows NoText = ⊥
+RefusesFormat rows Memory = Unit {0}
+
+-- the matches are those of `convert` with such a word
+abbrev pub NamesNoFormat : Option (Text × List Row) → Type 0
+NamesNoFormat None = ⊥
+NamesNoFormat (Some matches) = (matches.0 ≡ codes "convert") × HasNoFormat matches.1
 
 -- the value is standard input
 abbrev pub is_input : Option Text → Bool
@@ -83,14 +112,15 @@ abbrev pub NamesInputTwice : Option (Text × List Row) → Type 0
 NamesInputTwice None = ⊥
 NamesInputTwice (Some matches) = 1 < input_count matches.1
 
--- why words are refused, where `clap` states these kinds of fault and these matches for them: by one of these kinds or for want of
--- memory; since the matches name standard input twice; or, where they don't, since there is no plan of them
+-- Why words are refused in which `clap` finds these faults and these matches: by the kind of a fault; in words without a fault, since the word
+-- behind --to is that of no format, or since standard input is named twice, which is told before that; or for want of memory.
 abbrev pub Explains : Kinds → Option (Text × List Row) → Usage → Type 0
-Explains kinds matches (Words error) = HasKind kinds error ⊎ (HasNoPlan matches × ¬ NamesInputTwice matches)
-Explains kinds matches TwoInputs = NamesInputTwice matches
-Explains kinds matches Memory = Unit {0}
+Explains faults matches (Words error) = IsAmong (kind_of error) faults
+    ⊎ ((faults ≡ []) × NamesNoFormat matches × ¬ NamesInputTwice matches × (kind_of error ≡ InvalidValue))
+Explains faults matches TwoInputs = (faults ≡ []) × NamesInputTwice matches
+Explains faults matches NoText = ⊥
+Explains faults matches Memory = Unit {0}
 
--- the refusal stands for all matches that name standard input once at most, and have no plan where this holds
-abbrev pub ExplainsWhere : Type 0 → Usage → Type 0
-ExplainsWhere lacking usage =
-    (matches : Option (Text × List Row)) → (lacking → HasNoPlan matches) → ¬ NamesInputTwice matches → Explains [] matches usage
+-- what an error of `clap` says: that memory is wanted, or what is wrong with the words
+abbrev pub Says : Error → Usage → Type 0
+Says error usage = ((kind_of error ≡ OutOfMemory) × (usage ≡ Memory)) ⊎ ((kind_of error ≢ OutOfMemory) × (usage ≡ Words error))

@@ -1,7 +1,9 @@
 //! What the words of the command line ask for.
 
 use clap::Error;
+use clap::error::ErrorKind;
 use std::alloc::AllocError;
+use std::io;
 
 /// What a run is asked to do.
 #[derive(Clone, Copy, PartialEq, Eq, Debug)]
@@ -37,11 +39,14 @@ pub struct Plan {
     pub second: Option<String>,
 }
 
-/// Why the words ask for nothing that can be done. `Words` also holds the text of `--help` and `--version`.
+/// Why the words ask for nothing that can be done. `Words` also holds the text of `--help` and `--version`, and no error for want of
+/// memory.
 #[derive(Drop)]
 pub enum Usage {
     Words(Error),
     TwoInputs,
+    /// A word is no UTF-8 text.
+    NoText,
     Memory,
 }
 
@@ -58,14 +63,30 @@ impl From<AllocError> for Usage {
 }
 
 impl From<Error> for Usage {
-    ghost use Rattle.std.specs.Prelude.{◌≡◌};
-    ghost use Rattle.life_cli.specs.declared.plans.Usage.TheVariants.{Words};
+    ghost use Rattle.life_cli.specs.Plans.{Says};
 
-    ghost from_gives = { λ error usage. usage ≡ Words error };
+    ghost from_gives = { λ error usage. Says error usage };
 
-    /// The words are at fault.
+    /// The words are at fault, or memory is wanted.
     fn from(error: Error) -> Usage {
-        Usage::Words(error)
+        match error.kind() {
+            ErrorKind::OutOfMemory => Usage::Memory,
+            _ => Usage::Words(error),
+        }
+    }
+}
+
+impl From<io::Error> for Usage {
+    ghost use Rattle.life_cli.specs.Usages.{SaysOfReading};
+
+    ghost from_gives = { λ error usage. SaysOfReading error usage };
+
+    /// Why the words of the command line can't be read: a word is no text, or memory is wanted.
+    fn from(error: io::Error) -> Usage {
+        match error.kind() {
+            io::ErrorKind::OutOfMemory => Usage::Memory,
+            _ => Usage::NoText,
+        }
     }
 }
 

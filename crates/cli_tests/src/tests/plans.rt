@@ -77,7 +77,7 @@ fn refusal_of<'a>(alloc: Global, words: &'a [&'a str]) -> Option<ErrorKind> {
         Ok(_plan) => None,
         Err(usage) => match usage {
             Usage::Words(error) => Some(error.kind()),
-            Usage::TwoInputs => None,
+            Usage::TwoInputs | Usage::NoText => None,
             Usage::Memory => None,
         },
     }
@@ -85,10 +85,12 @@ fn refusal_of<'a>(alloc: Global, words: &'a [&'a str]) -> Option<ErrorKind> {
 
 #[test]
 fn usages(rt: HostRuntime) {
-    let rows: [(&[&str], ErrorKind); 17] = [
+    let rows: [(&[&str], ErrorKind); 19] = [
         (&[NAME], ErrorKind::MissingSubcommand),
         (&[NAME, "canon"], ErrorKind::MissingRequiredArgument),
         (&[NAME, "canon", "a", "b"], ErrorKind::UnknownArgument),
+        (&[NAME, "canon", "a", "--bogus"], ErrorKind::UnknownArgument),
+        (&[NAME, "canon", "a", "--help"], ErrorKind::DisplayHelp),
         (&[NAME, "cannon", "a"], ErrorKind::InvalidSubcommand),
         (&[NAME, "same", "a"], ErrorKind::MissingRequiredArgument),
         (&[NAME, "show"], ErrorKind::MissingRequiredArgument),

@@ -1,12 +1,13 @@
 //! The commands, as `clap` reads them.
 
-ghost use Rattle.std.specs.Prelude.{◌≡◌, IfOk, IfErr, map, false};
-ghost use Rattle.clap.specs.Words.{App, rule_of, HasMatchesOf, HasKind, fault_of, with_subcommand};
+ghost use Rattle.std.specs.Prelude.{◌≡◌, IfOk, map, false};
+ghost use Rattle.clap.specs.Words.{App, rule_of, HasMatchesOf, FailsBy, fault_of, with_subcommand};
 ghost use Rattle.life_cli.specs.CommandLine.{required_file, option, required_option, one_file_line, convert_line, same_line, step_line, named, program, ReadsAs};
 
 use super::help::{CANON, CONVERT, Help, PROGRAM, SAME, SHOW, STEP};
 use clap::{Arg, ArgAction, ArgMatches, Command, Error};
 use std::alloc::{AllocError, Global};
+use std::convert::AsStr;
 
 /// An argument that has to be given, by its place.
 fn file<'a>(alloc: Global, id: &'a str) -> Arg<'a>
@@ -122,10 +123,11 @@ fn golly_canon<'a>(alloc: Global) -> Result<Command<'a>, AllocError>
 ///
 /// # Errors
 ///
-/// An error of one of the kinds that `clap` states for the words, which help and version are too, or for want of memory.
-pub fn parse<'a>(alloc: Global, words: &'a [&'a str]) -> Result<ArgMatches<'a>, Error>
-    ensures ok { IfOk result (HasMatchesOf program (map (λ word. word.now) words.entry.now)) }
-    ensures err { IfErr result (HasKind (fault_of program (map (λ word. word.now) words.entry.now))) }
+/// An error of one of the kinds that `clap` states for the words, which help and version are too, or for want of memory. Where it states
+/// none, only for want of memory.
+pub fn parse<'a, S: AsStr>(alloc: Global, words: &'a [S]) -> Result<ArgMatches<'a>, Error>
+    ensures ok { IfOk result (HasMatchesOf program (map S.text words.entry.now)) }
+    ensures kinds { FailsBy (fault_of program (map S.text words.entry.now)) result }
 {
     let command = golly_canon(alloc)?;
     command.try_get_matches_from(words)

@@ -1,9 +1,9 @@
 //! The plan that the words ask for.
 
-ghost use Rattle.std.specs.Prelude.{◌≡◌, ◌≢◌, ◌⊎◌, ◌↔◌, ⊤, [], IfOk, IfErr, OnOk, Some, None, IsSome, MatchOption, map, option_map, string_bytes, codes};
-ghost use Rattle.clap.specs.Words.{fault_of, found_of, first_of, rows_of, subcommand_of, subcommand_rows_of};
+ghost use Rattle.std.specs.Prelude.{◌≡◌, ◌≢◌, ◌↔◌, List, [], IfOk, IfErr, OnOk, Some, IsSome, MatchOption, map, option_map, string_bytes, codes};
+ghost use Rattle.clap.specs.Words.{Row, fault_of, found_of, first_of, rows_of, subcommand_of, subcommand_rows_of};
 ghost use Rattle.life_cli.specs.CommandLine.{program};
-ghost use Rattle.life_cli.specs.Plans.{IsPlanOf, HasSecond, HoldsFile, HoldsFiles, NamesInputTwice, Explains, ExplainsWhere, TakesFileAlone, command_of, input_count, is_input, target_word};
+ghost use Rattle.life_cli.specs.Plans.{AreWhole, IsFound, IsPlanOf, HasNoFormat, HasSecond, HoldsFile, HoldsFiles, NamesInputTwice, Explains, RefusesFormat, TakesFileAlone, command_of, input_count, is_input, target_word};
 ghost use Rattle.life_cli.specs.declared.plans.Target.{Target as TargetValue};
 
 use super::commands::parse;
@@ -11,23 +11,17 @@ use super::{Job, Plan, Target, Usage};
 use clap::error::ErrorKind;
 use clap::{ArgMatches, Command};
 use std::alloc::Global;
+use std::convert::AsStr;
 
-/// What stands for an answer of `clap` that it doesn't give.
-fn refusal(alloc: Global, kind: ErrorKind, message: &str) -> Usage
-    ensures { ExplainsWhere ⊤ result }
+/// The refusal of a word behind `--to`.
+fn refusal(alloc: Global) -> Usage
+    ensures { (rows : List Row) → HasNoFormat rows → RefusesFormat rows result }
 {
     let mut command = Command::new(alloc, "golly_canon").override_usage("golly_canon <COMMAND>");
-    match command.error(kind, message) {
+    match command.error(ErrorKind::InvalidValue, "the value of --to is rle or mc") {
         Ok(error) => Usage::Words(error),
-        Err(error) => Usage::Words(error.into()),
+        Err(_) => Usage::Memory,
     }
-}
-
-fn copied(alloc: Global, text: &str) -> Result<String, Usage>
-    ensures ok { IfOk result (λ s. string_bytes s ≡ text.now) }
-    ensures err { IfErr result (ExplainsWhere ⊥) }
-{
-    Ok(String::from_str(alloc, text)?)
 }
 
 /// The first value of an option or a file.
@@ -38,16 +32,13 @@ fn value<'a>(found: &ArgMatches<'a>, id: &str) -> Option<&'a str>
 }
 
 fn required(alloc: Global, found: &ArgMatches<'_>, id: &str) -> Result<String, Usage>
+    requires { IsFound id.now (rows_of (found_of found.now)) }
     ensures ok { IfOk result (λ s. first_of id.now (rows_of (found_of found.now)) ≡ Some (string_bytes s)) }
-    ensures err { IfErr result (ExplainsWhere (first_of id.now (rows_of (found_of found.now)) ≡ None)) }
+    ensures err { IfErr result (λ usage. usage ≡ Usage.Memory) }
 {
     match value(found, id) {
-        Some(text) => copied(alloc, text),
-        None => Err(refusal(
-            alloc,
-            ErrorKind::MissingRequiredArgument,
-            "a file is missing",
-        )),
+        Some(text) => Ok(String::from_str(alloc, text)?),
+        None => unreachable!(),
     }
 }
 
@@ -64,26 +55,24 @@ fn target_named(word: &str) -> Option<Target>
 
 /// The format that `--to` names.
 fn target(alloc: Global, found: &ArgMatches<'_>) -> Result<Target, Usage>
+    requires { IsFound (codes "to") (rows_of (found_of found.now)) }
     ensures ok { IfOk result (λ t. first_of (codes "to") (rows_of (found_of found.now)) ≡ Some (target_word t)) }
-    ensures err { IfErr result (ExplainsWhere ((t : TargetValue) → first_of (codes "to") (rows_of (found_of found.now)) ≢ Some (target_word t))) }
+    ensures err { IfErr result (RefusesFormat (rows_of (found_of found.now))) }
 {
-    let Some(word) = value(found, "to") else {
-        return Err(refusal(alloc, ErrorKind::MissingRequiredArgument, "--to is missing"));
-    };
-    match target_named(word) {
-        Some(target) => Ok(target),
-        None => Err(refusal(
-            alloc,
-            ErrorKind::InvalidValue,
-            "the value of --to is rle or mc",
-        )),
+    match value(found, "to") {
+        Some(word) => match target_named(word) {
+            Some(target) => Ok(target),
+            None => Err(refusal(alloc)),
+        },
+        None => unreachable!(),
     }
 }
 
 /// The plan of a job over one file.
 fn over_file(alloc: Global, found: &ArgMatches<'_>, job: Job) -> Result<Plan, Usage>
+    requires { IsFound (codes "FILE") (rows_of (found_of found.now)) }
     ensures ok { IfOk result (λ p. (p.job ≡ job) × HoldsFile (rows_of (found_of found.now)) p) }
-    ensures err { IfErr result (ExplainsWhere (first_of (codes "FILE") (rows_of (found_of found.now)) ≡ None)) }
+    ensures err { IfErr result (λ usage. usage ≡ Usage.Memory) }
 {
     let first = required(alloc, found, "FILE")?;
     Ok(Plan {
@@ -101,8 +90,10 @@ fn over_files(
     first: &str,
     second: &str,
 ) -> Result<Plan, Usage>
+    requires first { IsFound first.now (rows_of (found_of found.now)) }
+    requires second { IsFound second.now (rows_of (found_of found.now)) }
     ensures ok { IfOk result (λ p. (p.job ≡ job) × HoldsFiles first.now second.now (rows_of (found_of found.now)) p) }
-    ensures err { IfErr result (ExplainsWhere ((first_of first.now (rows_of (found_of found.now)) ≡ None) ⊎ (first_of second.now (rows_of (found_of found.now)) ≡ None))) }
+    ensures err { IfErr result (λ usage. usage ≡ Usage.Memory) }
 {
     let first = required(alloc, found, first)?;
     let second = required(alloc, found, second)?;
@@ -116,34 +107,36 @@ fn over_files(
 /// The plan of a command that takes a file and nothing more.
 fn plain(alloc: Global, found: &ArgMatches<'_>, job: Job) -> Result<Plan, Usage>
     requires plain { TakesFileAlone job }
-    requires once { ¬ NamesInputTwice (Some (command_of job, rows_of (found_of found.now))) }
+    requires whole { IsFound (codes "FILE") (rows_of (found_of found.now)) }
     ensures ok { IfOk result (IsPlanOf (Some (command_of job, rows_of (found_of found.now)))) }
-    ensures err { IfErr result (Explains [] (Some (command_of job, rows_of (found_of found.now)))) }
+    ensures err { IfErr result (λ usage. usage ≡ Usage.Memory) }
 {
     over_file(alloc, found, job)
 }
 
 fn convert(alloc: Global, found: &ArgMatches<'_>) -> Result<Plan, Usage>
-    requires { ¬ NamesInputTwice (Some (codes "convert", rows_of (found_of found.now))) }
+    requires file { IsFound (codes "FILE") (rows_of (found_of found.now)) }
+    requires to { IsFound (codes "to") (rows_of (found_of found.now)) }
     ensures ok { IfOk result (IsPlanOf (Some (codes "convert", rows_of (found_of found.now)))) }
-    ensures err { IfErr result (Explains [] (Some (codes "convert", rows_of (found_of found.now)))) }
+    ensures err { IfErr result (RefusesFormat (rows_of (found_of found.now))) }
 {
     let target = target(alloc, found)?;
     over_file(alloc, found, Job::Convert(target))
 }
 
 fn same(alloc: Global, found: &ArgMatches<'_>) -> Result<Plan, Usage>
-    requires { ¬ NamesInputTwice (Some (codes "same", rows_of (found_of found.now))) }
+    requires first { IsFound (codes "A") (rows_of (found_of found.now)) }
+    requires second { IsFound (codes "B") (rows_of (found_of found.now)) }
     ensures ok { IfOk result (IsPlanOf (Some (codes "same", rows_of (found_of found.now)))) }
-    ensures err { IfErr result (Explains [] (Some (codes "same", rows_of (found_of found.now)))) }
+    ensures err { IfErr result (λ usage. usage ≡ Usage.Memory) }
 {
     over_files(alloc, found, Job::Same, "A", "B")
 }
 
 fn step(alloc: Global, found: &ArgMatches<'_>) -> Result<Plan, Usage>
-    requires { ¬ NamesInputTwice (Some (codes "step", rows_of (found_of found.now))) }
+    requires { IsFound (codes "FILE") (rows_of (found_of found.now)) }
     ensures ok { IfOk result (IsPlanOf (Some (codes "step", rows_of (found_of found.now)))) }
-    ensures err { IfErr result (Explains [] (Some (codes "step", rows_of (found_of found.now)))) }
+    ensures err { IfErr result (λ usage. usage ≡ Usage.Memory) }
 {
     match value(found, "table") {
         Some(_) => over_files(alloc, found, Job::StepTable, "FILE", "table"),
@@ -182,7 +175,8 @@ fn inputs(found: &ArgMatches<'_>) -> u8
 
 /// The plan of matches that name standard input once at most.
 fn from_command(alloc: Global, matches: &ArgMatches<'_>) -> Result<Plan, Usage>
-    requires { ¬ NamesInputTwice (subcommand_rows_of matches.now) }
+    requires whole { AreWhole (subcommand_rows_of matches.now) }
+    requires once { ¬ NamesInputTwice (subcommand_rows_of matches.now) }
     ensures ok { IfOk result (IsPlanOf (subcommand_rows_of matches.now)) }
     ensures refused { IfErr result (Explains [] (subcommand_rows_of matches.now)) }
 {
@@ -201,10 +195,12 @@ fn from_command(alloc: Global, matches: &ArgMatches<'_>) -> Result<Plan, Usage>
     if let Some(found) = matches.subcommand_matches("step") {
         return step(alloc, found);
     }
-    Err(refusal(alloc, ErrorKind::MissingSubcommand, "a command is missing"))
+    unreachable!()
 }
 
+/// The plan of matches that have what their command wants.
 fn from_matches(alloc: Global, matches: &ArgMatches<'_>) -> Result<Plan, Usage>
+    requires { AreWhole (subcommand_rows_of matches.now) }
     ensures ok { IfOk result (IsPlanOf (subcommand_rows_of matches.now)) }
     ensures once { OnOk result (¬ NamesInputTwice (subcommand_rows_of matches.now)) }
     ensures refused { IfErr result (Explains [] (subcommand_rows_of matches.now)) }
@@ -221,13 +217,15 @@ fn from_matches(alloc: Global, matches: &ArgMatches<'_>) -> Result<Plan, Usage>
 ///
 /// # Errors
 ///
-/// `Words` with the text to show, where `clap` refuses the words, or answers `--help` or `--version`, or where there is no plan for them;
-/// `TwoInputs` where `-` stands for two files; `Memory`.
-pub fn plan<'a>(alloc: Global, words: &'a [&'a str]) -> Result<Plan, Usage>
-    ensures ok { IfOk result (IsPlanOf (subcommand_of program (map (λ word. word.now) words.entry.now))) }
+/// `Words` with the text to show, where `clap` finds a fault in the words, as which `--help` and `--version` count too, by its kind, and
+/// where the word behind `--to` is that of no format, as `InvalidValue`; `TwoInputs` where words without a fault name `-` for two files,
+/// whatever stands behind `--to`; `Memory`.
+pub fn plan<S: AsStr>(alloc: Global, words: &[S]) -> Result<Plan, Usage>
+    ensures faultless { OnOk result (fault_of program (map S.text words.entry.now) ≡ []) }
+    ensures ok { IfOk result (IsPlanOf (subcommand_of program (map S.text words.entry.now))) }
     ensures files { IfOk result (λ p. IsSome p.second ↔ HasSecond p.job) }
-    ensures once { OnOk result (¬ NamesInputTwice (subcommand_of program (map (λ word. word.now) words.entry.now))) }
-    ensures refused { IfErr result (Explains (fault_of program (map (λ word. word.now) words.entry.now)) (subcommand_of program (map (λ word. word.now) words.entry.now))) }
+    ensures once { OnOk result (¬ NamesInputTwice (subcommand_of program (map S.text words.entry.now))) }
+    ensures refused { IfErr result (Explains (fault_of program (map S.text words.entry.now)) (subcommand_of program (map S.text words.entry.now))) }
 {
     let matches = parse(alloc, words)?;
     from_matches(alloc, &matches)

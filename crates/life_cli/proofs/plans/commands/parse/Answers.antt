@@ -9,6 +9,6 @@ simple : is_simple_and_free program ≡ true
 unfolding clap_on_literals
 simple = refl
 
-pub returns-clause-err : goal.returns-clause-err
-returns-clause-err c =
-    fails_by_line program _ (map (λ word. word.now) c.args.words.now) _ c.in_ok-command.ensures.app c.try_get_matches_from.ensures.kinds simple
+pub returns-clause-kinds : goal.returns-clause-kinds
+returns-clause-kinds g c =
+    fails_by_line program _ (map g.S.AsStr.text c.args.words.now) _ c.in_ok-command.ensures.app c.try_get_matches_from.ensures.kinds simple

@@ -1,8 +1,8 @@
-use Rattle.std.proofs.Common.{◌≡◌, ◌⊎◌, None, Some, codes, sym}
-use Rattle.clap.specs.Words.{first_of, found_of, rows_of}
+use Rattle.std.proofs.Common.{codes, sym}
+use Rattle.clap.specs.Words.{found_of, rows_of}
 use Rattle.life_cli.specs.Plans.{HoldsFile, HoldsFiles}
 use Rattle.life_cli.specs.declared.plans.Job.TheVariants.{Step, StepTable}
-use Rattle.life_cli.proofs.MatchesLemmas.{explained, no_file, no_file_or_table, plan_of, step_or_same}
+use Rattle.life_cli.proofs.MatchesLemmas.{plan_of}
 use Rattle.life_cli.proofs.plans.planning.step.Goals as goal
 
 pub returns-in-Some-clause-ok : goal.returns-in-Some-clause-ok
@@ -10,21 +10,8 @@ returns-in-Some-clause-ok c =
     let rows = rows_of (found_of c.args.found.now) in
     plan_of (HoldsFiles (codes "FILE") (codes "table") rows) StepTable rows c.over_files.result (λ p files. files) c.over_files.ensures.ok
 
-pub returns-in-Some-clause-err : goal.returns-in-Some-clause-err
-returns-in-Some-clause-err c =
-    let rows = rows_of (found_of c.args.found.now) in
-    let read = rw c.in-Some.is at c.value.ensures in
-    explained ((first_of (codes "FILE") rows ≡ None) ⊎ (first_of (codes "table") rows ≡ None)) (Some (codes "step", rows)) c.over_files.result
-    (λ none. no_file_or_table rows _ read none) c.requires c.over_files.ensures.err
-
 pub returns-in-None-clause-ok : goal.returns-in-None-clause-ok
 returns-in-None-clause-ok c =
     let rows = rows_of (found_of c.args.found.now) in
     let read = rw c.in-None.is at c.value.ensures in
     plan_of (HoldsFile rows) Step rows c.over_file.result (λ p file. (file, sym read)) c.over_file.ensures.ok
-
-pub returns-in-None-clause-err : goal.returns-in-None-clause-err
-returns-in-None-clause-err c =
-    let rows = rows_of (found_of c.args.found.now) in
-    explained (first_of (codes "FILE") rows ≡ None) (Some (codes "step", rows)) c.over_file.result
-    (λ none. no_file (codes "step") rows none step_or_same) c.requires c.over_file.ensures.err
