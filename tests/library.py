@@ -11,6 +11,7 @@ import random
 import subprocess
 import sys
 import threading
+from typing import NamedTuple
 
 from fuzz import small_files
 from independent import commands
@@ -24,28 +25,47 @@ FULL = 21
 SPENT = 23
 NO_ROOM = 64
 
-# The greatest limit of a store that is tried, and files that few squares suffice for.
+# The greatest limit of a store that is tried.
 MOST_LIMIT = 4096
-BLANK = "a blank plane"
 IN_PIECES = " in pieces"
+
+
+class Limits(NamedTuple):
+    """The least limits of a store for a file, counted with the squares of the independent reader and found again by trying each limit: to read the file,
+    which every text of its pattern takes; to step it under its own rule; and to compare it with the file behind it here. So many different squares that
+    aren't blank are stored: of an RLE file those of the plane, of a macrocell file those of its node lines with the parts of leaves, and the roots up to
+    the least; then those of the next generation and of its roots."""
+
+    read: int
+    step: int
+    same: int
+
+
+# Files of both formats, with their least limits.
 WORKED = {
-    BLANK: b"x = 0, y = 0, rule = 23/3\n!\n",
-    **{
-        name: small_files.LIFE_FILES[name]
-        for name in (
-            "a glider",
-            "lines that end by CR LF",
-            "a rule of four neighbours",
-            "a row as wide as the plane",
-            "a root above its pattern",
-            "squares below the leaves",
-            "a line twice and one that is not reached",
-            "the example glider.mc",
-        )
-    },
-    **{name: small_files.NAMED_FILES[name][0] for name in ("two states at the corner", "levels and leaves under a name")},
+    "a blank plane": (b"x = 0, y = 0, rule = 23/3\n!\n", Limits(0, 0, 0)),
+    "a blank plane of node lines": (b"[M2]\n#R B3/S23\n$\n4 0 0 1 0\n", Limits(0, 0, 124)),
+    "a glider": (small_files.LIFE_FILES["a glider"], Limits(124, 129, 301)),
+    "lines that end by CR LF": (small_files.LIFE_FILES["lines that end by CR LF"], Limits(178, 178, 360)),
+    "a rule of four neighbours": (small_files.LIFE_FILES["a rule of four neighbours"], Limits(182, 198, 243)),
+    "a row as wide as the plane": (small_files.LIFE_FILES["a row as wide as the plane"], Limits(62, 62, 76)),
+    "a root above its pattern": (small_files.LIFE_FILES["a root above its pattern"], Limits(14, 14, 14)),
+    "squares below the leaves": (small_files.LIFE_FILES["squares below the leaves"], Limits(4, 4, 6)),
+    "a line twice and one that is not reached": (small_files.LIFE_FILES["a line twice and one that is not reached"], Limits(5, 5, 11)),
+    "the example glider.mc": (small_files.LIFE_FILES["the example glider.mc"], Limits(6, 14, 190)),
+    "two states at the corner": (small_files.NAMED_FILES["two states at the corner"][0], Limits(184, 184, 191)),
+    "levels and leaves under a name": (small_files.NAMED_FILES["levels and leaves under a name"][0], Limits(7, 7, 10)),
+    "a quarter that is no earlier line": (small_files.LIFE_FILES["a quarter that is no earlier line"], Limits(3, 3, 3)),
+    "no header": (b"o!\n", Limits(0, 0, 0)),
 }
-STEPPED = {name: small_files.NAMED_FILES[name] for name in ("the example wire.rle", "a state that spreads", "levels and leaves under a name")}
+
+# Files that are stepped by a table, with the least limit for that.
+STEPPED = {
+    "the example wire.rle": (*small_files.NAMED_FILES["the example wire.rle"], 245),
+    "a state that spreads": (*small_files.NAMED_FILES["a state that spreads"], 367),
+    "levels and leaves under a name": (*small_files.NAMED_FILES["levels and leaves under a name"], 256),
+    "no header": (b"o!\n", small_files.SPREAD_TABLE, 0),
+}
 
 # Each call on a whole file, and what opens a stream that ends with its answer.
 CALLS = {
@@ -172,43 +192,42 @@ def check_streams(files):
 
 
 def first_limit(call, file, wanted):
-    """The first limit of a store that suffices. Below it the call answers Full, and from it on, up to 4096, the text that is wanted. None where
-    it answers otherwise."""
+    """The first limit of a store that suffices. Below it the call answers Full, and from it on, up to 4096, what is wanted: a text and what is told.
+    None where it answers otherwise."""
     first = None
     for limit in range(MOST_LIMIT + 1):
-        answer = outcome_of(call, file, limit, max(64, len(wanted)))
+        answer = outcome_of(call, file, limit, max(64, len(wanted[0])))
         if first is None and answer != (b"", "Full\n"):
             first = limit
-        if first is not None and answer != (wanted, ""):
+        if first is not None and answer != wanted:
             return None
     return first
 
 
-def check_limits():
-    """Every limit from 0 on, by every call, over worked files of both formats. What is wanted the independent reader says."""
+def rows_of_limits():
+    """Each call on each worked file, with what the independent reader says and the least limit."""
     readers = {"canon": commands.canon, "show": commands.show, "to_rle": commands.convert_to_rle, "step": commands.step}
-    calls = {word: (call, readers[word]) for word, (call, _) in CALLS.items()}
     names = list(WORKED)
-    rows = []
-    for name, file in WORKED.items():
-        rows.extend((f"{word} of {name}", call, file, wanted(commands.File(file))) for word, (call, wanted) in calls.items())
-    for name in ("a glider", "squares below the leaves", "levels and leaves under a name"):
-        file = WORKED[name]
-        for word, (_, wanted) in calls.items():
-            rows.append((f"{word} of {name}{IN_PIECES}", by_stream(CALLS[word][1], 1), file, wanted(commands.File(file))))
-    for name, other in zip(names, names[1:] + names[:1]):
-        answer = commands.same(commands.File(WORKED[name]), commands.File(WORKED[other]))
-        rows.append((f"same of {name} and {other}", compared_with(WORKED[other]), WORKED[name], answer))
-    for name, (file, table) in STEPPED.items():
-        rows.append((f"step_by_table of {name}", stepped_by(table), file, commands.step(commands.File(file), commands.File(table))))
-    firsts = {}
-    for what, call, file, answer in rows:
-        if answer.status < 2:
-            first = firsts[what] = first_limit(call, file, answer.output)
-            check(first is not None and (first > 0 or what.endswith(BLANK)), f"each limit: {what}: {first}")
-    for what, first in firsts.items():
-        if what.endswith(IN_PIECES):
-            check(first == firsts[what.removesuffix(IN_PIECES)], f"the same limit: {what}: {first}")
+    for (name, (file, limits)), behind in zip(WORKED.items(), names[1:] + names[:1]):
+        for word, (call, open_stream) in CALLS.items():
+            answer, least = readers[word](commands.File(file)), limits.step if word == "step" else limits.read
+            yield f"{word} of {name}", call, file, answer, least
+            yield f"{word} of {name}{IN_PIECES}", by_stream(open_stream, 1), file, answer, least
+        other = WORKED[behind][0]
+        answer = commands.same(commands.File(file), commands.File(other))
+        yield f"same of {name} and {behind}", compared_with(other), file, answer, limits.same
+    for name, (file, table, least) in STEPPED.items():
+        yield f"step_by_table of {name}", stepped_by(table), file, commands.step(commands.File(file), commands.File(table)), least
+
+
+def check_limits():
+    """Every limit from 0 on, by every call, over worked files of both formats: Full below the least limit, and from it on what the independent reader
+    says, a fault too. A blank pattern wants no room, and a file that is refused none behind its fault."""
+    for what, call, file, answer, least in rows_of_limits():
+        if "TooManyCells" in answer.fault:
+            continue  # It counts 2^20 cells at each limit.
+        first = first_limit(call, file, (answer.output, answer.fault))
+        check(first == least, f"each limit: {what}: {first} and not {least}")
 
 
 def of_program(program, words, file):
