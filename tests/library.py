@@ -131,23 +131,23 @@ def compared_with(other):
     return call
 
 
-def pieces_of(file, seed):
+def pieces_of(file, cutting):
     """The file in random pieces, small and large, some of them empty."""
-    cuts, at = random.Random(seed), 0
+    cuts, at = random.Random(cutting), 0
     while at < len(file):
         size = cuts.randrange(cuts.choice((1, 2, 4, 16, 256, 65536)))
         yield file[at : at + size]
         at += size
 
 
-def by_stream(open_stream, seed):
+def by_stream(open_stream, cutting):
     """The call that feeds a stream a file in random pieces, with the arguments of the others. The fault of a line comes with its line feed, or at
     the end where it has none, and then again and again."""
     def call(file, _, limit, seed, out, room, needed, line):
         stream = Stream()
         it, told, at = ctypes.byref(stream), (0, 0), 0
         assert open_stream(it, limit, seed) == 0
-        for piece in pieces_of(file, seed):
+        for piece in pieces_of(file, cutting):
             answer = library.golly_canon_feed(it, piece, ctypes.c_size_t(len(piece)), line), line._obj.value
             before, at = file[:at].count(b"\n"), at + len(piece)
             if told != (0, 0):
