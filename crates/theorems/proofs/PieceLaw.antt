@@ -1,18 +1,24 @@
 -- The text of a pattern that was read is the canonical text of its file.
-use Rattle.std.proofs.Common.{◌≡◌, ℕ, zero, suc, ◌+◌, ◌<◌, ◌≤◌, List, [], ◌∷◌, ◌++◌, length, take, get_or, refl, ap, ◌∙◌, sym, subst, arith, append_assoc, ◌^◌}
+use Rattle.std.proofs.Common.{◌≡◌, ℕ, zero, suc, ◌+◌, ◌<◌, ◌≤◌, List, [], ◌∷◌, ◌++◌, length, take, drop, get_or, refl, ap, ◌∙◌, sym, subst, arith, append_assoc, ◌^◌, ◌⊎◌, inl, inr}
 use Rattle.std.specs.Global.{Vec}
+use Rattle.std.specs.Prelude.{Err}
 use Rattle.std.proofs.lemmas.List.{append-nil}
+use Rattle.life_base.specs.declared.fault.Fault.{Fault}
 use Rattle.life_base.specs.Rules.{IsRule}
 use Rattle.life_base.specs.declared.rule.Rule.{Rule as LayerRule}
 use Rattle.life_quad.specs.Store.{Nodes}
 use Rattle.life_mc.specs.Macrocell.{largest_state}
 use Rattle.life_canon.specs.Universe.{Universe, IsSame, IsOnPlane}
-use Rattle.life_canon.specs.Laws.{FilesAreOnPlane, PatternsFit, TextsTellUniverses}
+use Rattle.life_canon.specs.Laws.{FaultsStay, FilesAreOnPlane, PatternsFit, TextsTellUniverses}
 use Rattle.life_canon.specs.Listing.{canon_text}
-use Rattle.life_canon.specs.Store.{IsRead, universe_in}
+use Rattle.life_canon.specs.Feeding.{RefusesFront}
+use Rattle.life_canon.specs.Store.{IsRead, IsWant, RefusesIn, universe_in}
 use Rattle.life_canon.specs.Texts.{IsCanonical}
 use Rattle.life_canon.specs.declared.pattern.Pattern.{Pattern}
+use Rattle.claims.specs.Files.{pattern_of}
+use Rattle.claims.specs.Files.{IsWant as IsUnmet}
 use Rattle.theorems.specs.Joined.{joined}
+use Rattle.theorems.proofs.RefusalLaw.{refuses_agree, refused_as, want_as}
 
 same_plane : (u v : Universe) → IsSame u v → IsOnPlane 62 u → IsOnPlane 62 v
 same_plane u v s h = record {
@@ -49,3 +55,28 @@ joined_all [] zero h = refl
 joined_all [] (suc i) h = refl
 joined_all (piece ∷ pieces) zero h = absurd (omega arith)
 joined_all (piece ∷ pieces) (suc i) h = ap (λ (t : List ℕ). piece.items ++ t) (joined_all pieces i (omega arith))
+
+-- the pieces so far, and the rest
+joined_split : (pieces : List (Vec ℕ)) (n : ℕ) → joined pieces ≡ joined (take n pieces) ++ joined (drop n pieces)
+joined_split pieces zero = refl
+joined_split [] (suc n) = refl
+joined_split (piece ∷ pieces) (suc n) =
+    ap (λ (t : List ℕ). piece.items ++ t) (joined_split pieces n)
+    ∙ sym (append_assoc piece.items (joined (take n pieces)) (joined (drop n pieces)))
+
+-- a fault that is told of the pieces so far is that of all
+pub refused_so_far : FaultsStay 62 → (pieces : List (Vec ℕ)) (n : ℕ) (front : List ℕ) (store : Nodes) (fault : Fault) → front ≡ joined (take n pieces)
+    → IsWant store fault ⊎ RefusesFront 62 front fault → (pattern_of (joined pieces) ≡ Err fault) ⊎ IsUnmet fault
+refused_so_far stay pieces n front store fault e (inl w) = inr (want_as store fault w)
+refused_so_far stay pieces n front store fault e (inr r) =
+    let whole : front ++ joined (drop n pieces) ≡ joined pieces = ap (λ (t : List ℕ). t ++ joined (drop n pieces)) e ∙ sym (joined_split pieces n) in
+    inl
+    (subst (λ (b : List ℕ). pattern_of b ≡ Err fault) whole
+    (refuses_agree (front ++ joined (drop n pieces)) fault (stay front (joined (drop n pieces)) fault r).refuses))
+
+-- the same of bytes that are those of the pieces
+pub refused_there : (a b : List ℕ) (fault : Fault) → a ≡ b → (pattern_of a ≡ Err fault) ⊎ IsUnmet fault → (pattern_of b ≡ Err fault) ⊎ IsUnmet fault
+refused_there a b fault e h = subst (λ (t : List ℕ). (pattern_of t ≡ Err fault) ⊎ IsUnmet fault) e h
+
+pub refused_whole : (a b : List ℕ) (store : Nodes) (fault : Fault) → a ≡ b → RefusesIn 62 a store fault → (pattern_of b ≡ Err fault) ⊎ IsUnmet fault
+refused_whole a b store fault e r = refused_there a b fault e (refused_as a store fault r)

@@ -2,6 +2,6 @@ use Rattle.theorems.specs.Joined.{joined}
 use Rattle.theorems.proofs.FileLaw.{map_ok, text_is_file}
 use Rattle.theorems.proofs.feeding.canonical_text_of_pieces.Goals as goal
 
-pub returns : goal.returns
-returns c =
-    map_ok c.text_of_pieces.result (λ text h. text_is_file c.texts_keep_patterns.ensures (joined c.args.pieces.now) text.items h) c.text_of_pieces.ensures
+pub returns-clause-same : goal.returns-clause-same
+returns-clause-same c =
+    map_ok c.text_of_pieces.result (λ text h. text_is_file c.texts_keep_patterns.ensures (joined c.args.pieces.now) text.items h) c.text_of_pieces.ensures.text
