@@ -188,7 +188,8 @@ module _ (c : List Rule) (again : Bool) (all : ArePlain c) where
   unfolding flags_fault bundle_met
   flags_filled zero flags skip so_far h none rows = rows
   flags_filled (suc k) flags skip so_far h none rows =
-      letter_filled (slice_get (chars flags) 0) flags skip so_far h (flags_fault c again k) (bundle_met c k) (λ t n s g e f. flags_filled k t n s g e f) none rows
+      letter_filled (slice_get (chars flags) 0) flags skip so_far h (flags_fault c again k) (bundle_met c k)
+      (λ t n s g e f. flags_filled k t n s g e f) none rows
 
   plain_rows : (waiting : Waiting) (word : Text) (h : Held) → Filled h.rows → Filled (plain_word c waiting word h).0.rows
   plain_rows idle word h rows = rows

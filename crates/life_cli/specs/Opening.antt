@@ -43,4 +43,5 @@ module _ {F R : Type 0} (step : F → Origin → Result (Opened R) IoError → F
   -- the first file could not be opened; or it could, and then the second could not
   abbrev pub FailsToOpen : Plan → F → Type 0
   FailsToOpen plan opener = Fails (string_bytes plan.first) opener
-      ⊎ ((device : Device R) × (between : F) × (word : List ℕ) × Opens (string_bytes plan.first) opener device between × (second_word plan ≡ Some word) × Fails word between)
+      ⊎ ((device : Device R) × (between : F) × (word : List ℕ) × Opens (string_bytes plan.first) opener device between
+      × (second_word plan ≡ Some word) × Fails word between)
