@@ -271,6 +271,9 @@ pub fn work<A: Source, B: Source, O: Sink, E: Sink>(
         × JobRefuses job.now (source_run A.remaining A.failures first.old first.new)
         (optional_source_run B.remaining B.failures second.old second.new) (sink_run O.contents O.failures O.stalled out.old out.new) refusal
         × (refusal.fault.kind ≢ Kind.WriteFault → out.new ≡ out.old)
+        × (A.failures first.new ≡ 1 → refusal.fault.kind ≡ Kind.ReadFault)
+        × IfSome second.new (λ b. B.failures b ≡ 1 → refusal.fault.kind ≡ Kind.ReadFault)
+        × ((O.failures out.new ≡ 1) ⊎ (O.stalled out.new ≡ true) → refusal.fault.kind ≡ Kind.WriteFault)
         × Tells (sink_run E.contents E.failures E.stalled err.old err.new) (fault_line refusal) }
     ensures first_told { A.failures first.new ≡ 1 → result ≡ status_of Kind.ReadFault }
     ensures second_told { IfSome second.new (λ b. B.failures b ≡ 1 → result ≡ status_of Kind.ReadFault) }
