@@ -22,20 +22,20 @@ use Rattle.table_laws.proofs.Imaged.{images_agree, image_length, Agrees}
 
 -- ---- lists
 
-in_head : {X : Type 0} (x : X) (xs : List X) → Contains (x ∷ xs) x
+pub in_head : {X : Type 0} (x : X) (xs : List X) → Contains (x ∷ xs) x
 in_head x xs = (0, omega arith, refl)
 
-in_tail : {X : Type 0} (y x : X) (xs : List X) → Contains xs x → Contains (y ∷ xs) x
+pub in_tail : {X : Type 0} (y x : X) (xs : List X) → Contains xs x → Contains (y ∷ xs) x
 in_tail y x xs c = (suc c.0, (let l : c.0 < length xs = c.1 in omega (arith, l)), c.2)
 
-in_either : {X : Type 0} (y x : X) (xs : List X) → Contains (y ∷ xs) x → (y ≡ x) ⊎ Contains xs x
+pub in_either : {X : Type 0} (y x : X) (xs : List X) → Contains (y ∷ xs) x → (y ≡ x) ⊎ Contains xs x
 in_either y x xs c = by c.0 c.1 c.2
   where
     by : (k : ℕ) → k < length (y ∷ xs) → slice_index_or (y ∷ xs) k x ≡ x → (y ≡ x) ⊎ Contains xs x
     by zero l e = inl e
     by (suc k) l e = inr (k, omega (arith, l), e)
 
-in_none : {X : Type 0} (x : X) → Contains [] x → ⊥
+pub in_none : {X : Type 0} (x : X) → Contains [] x → ⊥
 in_none {X} x c = let l : c.0 < length {A = X} [] = c.1 in absurd (omega (arith, l))
 
 module _ {X : Type 0} (f : X → Option ℕ) where
@@ -136,13 +136,13 @@ module _ (layer : LayerTable) (table : Table) (is : IsTable layer table) (centre
   gives_are line =
       ap (λ (o : Option (List ℕ)). filter_map (given_for line) (images (unwrap_or o []) others)) is.symmetry ∙ ap (filter_map (given_for line)) agrees.0
 
-  abbrev GivesOne : LayerTransition → ℕ → Type 0
+  abbrev pub GivesOne : LayerTransition → ℕ → Type 0
   GivesOne line s = Gives layer.symmetry layer.vars line centre others s
 
-  abbrev IsLine : LayerTransition → Type 0
+  abbrev pub IsLine : LayerTransition → Type 0
   IsLine line = IsTransition layer.n_states (neighbour_count layer.neighborhood) layer.vars line
 
-  gave : (line : LayerTransition) → IsLine line → (s : ℕ) → Contains (gives table centre others (transition_in line)) s → GivesOne line s
+  pub gave : (line : LayerTransition) → IsLine line → (s : ℕ) → Contains (gives table centre others (transition_in line)) s → GivesOne line s
   gave line t s c =
       let u = unmapped (given_for line) (layer_images layer.symmetry others) s (subst (λ (xs : List ℕ). Contains xs s) (gives_are line) c) in
       let long : length u.0 ≡ length others = image_length layer.symmetry others u.0 agrees u.1 in
@@ -155,7 +155,7 @@ module _ (layer : LayerTable) (table : Table) (is : IsTable layer table) (centre
             (omega (arith, long, inputs, count)) t.bound u.2;
       }
 
-  gets : (line : LayerTransition) → IsLine line → (s : ℕ) → GivesOne line s → Contains (gives table centre others (transition_in line)) s
+  pub gets : (line : LayerTransition) → IsLine line → (s : ℕ) → GivesOne line s → Contains (gives table centre others (transition_in line)) s
   gets line t s g =
       subst (λ (xs : List ℕ). Contains xs s) (sym (gives_are line))
       (mapped (given_for line) (layer_images layer.symmetry others) g.image s g.is_image

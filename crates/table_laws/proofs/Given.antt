@@ -59,10 +59,10 @@ some_if p (x ∷ xs) zero l h = h
 some_if p (x ∷ xs) (suc i) l h = some_if p xs i (omega arith) h
 
 module _ (vars : List Var) (variables : List Variable) (same : AreVariables vars variables) where
-  has_state_of : (i s : ℕ) → list_any (λ t. t == s) (states_of variables (variable i)) ≡ true → IfSome (slice_get vars i) (λ var. HasState var s)
+  pub has_state_of : (i s : ℕ) → list_any (λ t. t == s) (states_of variables (variable i)) ≡ true → IfSome (slice_get vars i) (λ var. HasState var s)
   has_state_of i s h = if_some (λ var. has_state var s) (slice_get vars i) (sym (same.states i s) ∙ h)
 
-  is_state_of : (i s : ℕ) → i < length vars → IfSome (slice_get vars i) (λ var. HasState var s)
+  pub is_state_of : (i s : ℕ) → i < length vars → IfSome (slice_get vars i) (λ var. HasState var s)
       → list_any (λ t. t == s) (states_of variables (variable i)) ≡ true
   is_state_of i s l h = same.states i s ∙ some_if (λ var. has_state var s) vars i l h
 

@@ -9,3 +9,4 @@ pub mod Written
 pub mod Transitions
 pub mod Line
 pub mod Read
+pub mod ByCounts

@@ -75,7 +75,7 @@ agree_is (Some h) (Some y) = words_agree h y
 equal_texts : (a b : List ℕ) → bytes_eq a b ≡ true → a ≡ b
 equal_texts a b h = (bytes_eq-Decides a b).0 h
 
-word_listed : (y : Symmetry) → (list_any (bytes_eq (symmetry_word y)) (symmetries_of 8) ≡ true) × (symmetry_named (symmetry_word y) ≡ Some y)
+pub word_listed : (y : Symmetry) → (list_any (bytes_eq (symmetry_word y)) (symmetries_of 8) ≡ true) × (symmetry_named (symmetry_word y) ≡ Some y)
 word_listed Identity = (refl, refl)
 word_listed Rotate4 = (refl, refl)
 word_listed Rotate4Reflect = (refl, refl)

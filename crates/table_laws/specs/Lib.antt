@@ -1,2 +1,3 @@
 pub mod Tables
+pub mod ByCounts
 pub mod Laws
