@@ -23,7 +23,9 @@ use Rattle.life_table.specs.Reading.{AreTable}
 use Rattle.life_quad.specs.Store.{Nodes}
 use Rattle.life_canon.specs.Files.{Reads, Refuses}
 use Rattle.life_canon.specs.Store.{IsWant}
-use Rattle.life_canon.specs.Texts.{AreCellsOf}
+use Rattle.life_canon.specs.Laws.{FilesAreUnique}
+use Rattle.life_canon.specs.Listing.{canon_text}
+use Rattle.life_canon.specs.Texts.{AreCellsOf, IsCanonical}
 use Rattle.life_canon.specs.Universe.{Universe, IsWithin, corner}
 use Rattle.life_step.specs.Stepped.{IsSteppedBy as LayerSteppedBy}
 use Rattle.life_step.specs.Refusals.{IsOfPlane, TableRefusal}
@@ -284,3 +286,9 @@ unstepped_text read decide rules bytes store fault layer are h = by h
     by (inl r) = inr (inr (t.0, t.1, inl (refuses_agree bytes fault r)))
     by (inr (inl w)) = inr (inl (want_as store fault w))
     by (inr (inr h)) = inr (inr (t.0, t.1, inr (unstepped_is decide layer t.0 t.2 bytes h.0 h.1 fault h.2)))
+
+-- the canonical text of a next generation's text is that text
+pub next_by_is_fixed : FilesAreUnique 62 → (layer : LayerTable) (bytes text again : List ℕ) → LayerSteppedBy layer bytes text → IsCanonical 62 text again
+    → text ≡ again
+next_by_is_fixed unique layer bytes text again h k =
+    let t = h.3 in t.canonical ∙ ap (canon_text 62) (unique (lines_of text) t.universe k.universe t.reads k.reads) ∙ sym k.is

@@ -1,26 +1,29 @@
 //! One generation of a file by a rule table.
 
-ghost use Rattle.std.specs.Prelude.{◌≡◌, ◌⊎◌, ◌≤◌, ◌^◌, Ok, Err, IfOk, IfErr};
+ghost use Rattle.std.specs.Prelude.{◌≡◌, ◌⊎◌, ◌≤◌, ◌^◌, Ok, Err, IfOk, IfErr, IsTrue};
 ghost use Rattle.claims.specs.ByTable.{IsSteppedBy, IsUnsteppedBy};
 ghost use Rattle.claims.specs.Files.{pattern_of, IsWant};
 ghost use Rattle.claims.specs.Table.{Table, table_of};
 
 use life_base::Fault;
-use life_canon::laws::files_are_on_plane;
+use life_canon::canon;
+use life_canon::laws::{files_are_on_plane, files_are_unique};
 use life_quad::{Seed, Shared};
 use life_step::step_table;
 use life_table::laws::grammars_agree;
 use life_table::{NameSeed, read_table};
 use std::alloc::Global;
 use table_laws::laws::{tables_decide, tables_read, tables_refuse};
+use theorems::are_equal;
 
-/// The canonical text of the next generation of a file by a rule table: the rule is the table's name, the generation one more, and each cell
-/// of the plane gets the state that the table decides.
+/// The text of the next generation of a file by a rule table has the table's name for its rule and one generation more, and
+/// each cell has the state that the table decides for it.
 ///
 /// # Errors
 ///
-/// The fault of the rule file; that of the file; the first reason why its pattern has no next generation by the table; `Full` where the store
-/// would need more squares than `limit`, and `Memory`.
+/// The fault of the rule file; that of the file; want of room or of memory; or the first reason, in their order, why its
+/// pattern has no next one by the table: `RuleMismatch`, `GenerationTooLarge`, `TooManyCells`, `StateBeyondTable`,
+/// `Ambiguous`, `OutOfPlane`.
 pub fn next_generation_by_table(
     alloc: Global,
     rules: &[u8],
@@ -42,4 +45,28 @@ pub fn next_generation_by_table(
     let table = read_table(alloc, names, rules)?;
     let mut store = Shared::new(alloc, seed, limit);
     step_table(alloc, &mut store, file, &table)
+}
+
+/// The text of the next generation of a file by a rule table is its own canonical text.
+pub fn next_text_by_table_is_fixed(
+    alloc: Global,
+    rules: &[u8],
+    file: &[u8],
+    names: NameSeed,
+    first_limit: u64,
+    first_seed: Seed,
+    second_limit: u64,
+    second_seed: Seed,
+) -> Result<bool, Fault>
+    requires first_limit { first_limit ≤ 2 ^ 62 }
+    requires second_limit { second_limit ≤ 2 ^ 62 }
+    ensures { IfOk result (λ equal. IsTrue equal) }
+{
+    files_are_unique();
+    let table = read_table(alloc, names, rules)?;
+    let mut first_store = Shared::new(alloc, first_seed, first_limit);
+    let text = step_table(alloc, &mut first_store, file, &table)?;
+    let mut second_store = Shared::new(alloc, second_seed, second_limit);
+    let again = canon(alloc, &mut second_store, &text)?;
+    Ok(are_equal(&text, &again))
 }

@@ -1,6 +1,6 @@
 -- A refused file has the fault that it has in the layer below.
 use Rattle.std.proofs.Common.{◌≡◌, ℕ, zero, suc, ◌+◌, ◌-◌, ◌^◌, ◌<◌, ◌≤◌, min, List, [], ◌∷◌, ◌++◌, length, take, drop, Bool, true, false, cond, refl, ap, ◌∙◌, sym, subst, arith, ◌⊎◌, inl, inr, append_assoc}
-use Rattle.std.specs.Prelude.{Some, None, Result, Ok, Err, slice_index_or, MatchBool, IfErr, IsOk}
+use Rattle.std.specs.Prelude.{Some, None, Result, Ok, Err, slice_index_or, MatchBool, IfErr, IsOk, OnOk}
 use Rattle.life_base.specs.Refusal.{Prefix, kept, continuations}
 use Rattle.life_base.specs.Text.{lines_of}
 use Rattle.life_base.specs.declared.fault.Fault.{Fault}
@@ -219,6 +219,11 @@ accepted_is_ok bytes h = by (pattern_of bytes) (files_agree bytes h.0 h.1).patte
     by : (r : Result Pattern Fault) (p : Pattern) → r ≡ Ok p → IsOk r
     by (Ok x) p e = refl
     by (Err k) p e = cc
+
+pub both_files : {X E : Type 0} (a b : List ℕ) (r : Result X E) → OnOk r (Accepted 62 a × Accepted 62 b)
+    → OnOk r (IsOk (pattern_of a) × IsOk (pattern_of b))
+both_files a b (Ok x) h = (accepted_is_ok a h.0, accepted_is_ok b h.1)
+both_files a b (Err e) h = tt
 
 -- why two files are not compared
 pub uncompared_as : (a b : List ℕ) (store : Nodes) (fault : Fault)

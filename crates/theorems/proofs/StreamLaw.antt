@@ -1,7 +1,7 @@
 -- What a run from a source to a sink leaves, where both tell their bytes.
-use Rattle.std.proofs.Common.{◌≡◌, ℕ, ◌+◌, ◌^◌, ◌<◌, List, ◌++◌, length, length-append, ap, ◌∙◌, sym, subst, arith}
+use Rattle.std.proofs.Common.{◌≡◌, ℕ, ◌+◌, ◌^◌, ◌<◌, ◌≤◌, List, [], ◌++◌, length, length-append, ap, ◌∙◌, sym, subst, arith}
 use Rattle.std.specs.Prelude.{Option, Some, None, Result, Ok, Err, OnOk}
-use Rattle.std.specs.Io.KnownBytes.{Appends}
+use Rattle.std.specs.Io.KnownBytes.{Appends, Consumes, IsAtEnd}
 use Rattle.std.proofs.lemmas.List.{append-nil}
 use Rattle.life_base.specs.DeviceRuns.{SourceRun, SinkRun}
 use Rattle.life_base.specs.Inputs.{ReadAll, CameBeyond}
@@ -49,6 +49,19 @@ has_run source before after bytes held r e f = record {
   canonical = subst (λ (b : List ℕ). IsCanonical 62 b r.text) (all_read (2 ^ 30) source.before source.after bytes r.bytes r.read e) r.canonical;
   written = appended before after held r.text r.written f;
 }
+
+at_end : (old new : Option (List ℕ)) (bytes read : List ℕ) → Consumes old new read → IsAtEnd new → old ≡ Some bytes → new ≡ Some []
+at_end None new bytes read t a e = cc
+at_end (Some xs) None bytes read t a e = absurd t
+at_end (Some xs) (Some ys) bytes read t a e = ap Some a
+
+-- all was read, and it was no more than may be
+pub has_ended : (source : SourceRun) (before after : Option (List ℕ)) (bytes : List ℕ) → Wrote 62 (2 ^ 30) source (Appends before after)
+    → source.before ≡ Some bytes → (source.after ≡ Some []) × (length bytes ≤ 2 ^ 30)
+has_ended source before after bytes r e =
+    let same = all_read (2 ^ 30) source.before source.after bytes r.bytes r.read e in
+    let within : length bytes ≤ 2 ^ 30 = subst (λ (b : List ℕ). length b ≤ 2 ^ 30) same r.read.within in
+    (at_end source.before source.after bytes r.bytes r.read.taken r.read.ended e, within)
 
 pub stream_fault : (store : Nodes) (source : SourceRun) (sink : SinkRun) (bytes : List ℕ) (fault : Fault)
     → RunRefuses 62 (2 ^ 30) store source sink fault → source.before ≡ Some bytes → IsStreamFault bytes source.failures sink.failures sink.stalled fault

@@ -1,6 +1,6 @@
 //! A file that comes from a source, and whose canonical text goes to a sink.
 
-ghost use Rattle.std.specs.Prelude.{◌≡◌, ◌≢◌, ◌≤◌, ◌^◌, ◌++◌, ℕ, List, false, Some, IfOk, IfErr, OnOk};
+ghost use Rattle.std.specs.Prelude.{◌≡◌, ◌≢◌, ◌⊎◌, ◌≤◌, ◌^◌, ◌++◌, ℕ, List, [], length, true, false, Some, IfOk, IfErr, IsErrAnd, OnOk};
 ghost use Rattle.claims.specs.Files.{Same};
 ghost use Rattle.theorems.specs.Streams.{IsStreamFault};
 
@@ -30,9 +30,15 @@ pub fn stream_to_stream<R: Source, W: Sink>(
     requires takes { W.stalled writer.old ≡ false }
     ensures done { (bytes held : List ℕ) → R.remaining reader.old ≡ Some bytes → W.contents writer.old ≡ Some held
         → OnOk result ((text : List ℕ) × (W.contents writer.new ≡ Some (held ++ text)) × Same bytes text) }
+    ensures whole { (bytes : List ℕ) → R.remaining reader.old ≡ Some bytes
+        → OnOk result ((R.remaining reader.new ≡ Some []) × (length bytes ≤ 2 ^ 30)) }
+    ensures flushed { OnOk result (W.flushed writer.new ≡ true) }
     ensures untouched { IfErr result (λ fault. fault.kind ≢ Kind.WriteFault → writer.new ≡ writer.old) }
     ensures refused { (bytes : List ℕ) → R.remaining reader.old ≡ Some bytes
         → IfErr result (IsStreamFault bytes (R.failures reader.new) (W.failures writer.new) (W.stalled writer.new)) }
+    ensures read_told { R.failures reader.new ≡ 1 → IsErrAnd result (λ fault. fault.kind ≡ Kind.ReadFault) }
+    ensures write_told { (W.failures writer.new ≡ 1) ⊎ (W.stalled writer.new ≡ true)
+        → IsErrAnd result (λ fault. fault.kind ≡ Kind.WriteFault) }
 {
     texts_keep_patterns();
     let mut store = Shared::new(alloc, seed, limit);

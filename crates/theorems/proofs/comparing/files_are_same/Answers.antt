@@ -1,5 +1,5 @@
 use Rattle.theorems.proofs.FileLaw.{both_ok, same_is}
-use Rattle.theorems.proofs.RefusalLaw.{map_err, uncompared_as}
+use Rattle.theorems.proofs.RefusalLaw.{both_files, map_err, uncompared_as}
 use Rattle.theorems.proofs.comparing.files_are_same.Goals as goal
 
 pub returns-clause-answer : goal.returns-clause-answer
@@ -9,3 +9,6 @@ returns-clause-answer c =
 
 pub returns-clause-refused : goal.returns-clause-refused
 returns-clause-refused c = map_err c.same.result (λ fault h. uncompared_as c.args.first.now c.args.second.now _ fault h) c.same.ensures.fault
+
+pub returns-clause-files : goal.returns-clause-files
+returns-clause-files c = both_files c.args.first.now c.args.second.now c.same.result c.same.ensures.accepted

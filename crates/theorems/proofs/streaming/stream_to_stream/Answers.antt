@@ -1,6 +1,6 @@
 use Rattle.theorems.proofs.FileLaw.{text_is_file}
 use Rattle.theorems.proofs.RefusalLaw.{map_err}
-use Rattle.theorems.proofs.StreamLaw.{has_run, stream_fault, map_on}
+use Rattle.theorems.proofs.StreamLaw.{has_ended, has_run, stream_fault, map_on}
 use Rattle.theorems.proofs.streaming.stream_to_stream.Goals as goal
 
 pub returns-clause-done : goal.returns-clause-done
@@ -11,3 +11,6 @@ returns-clause-done g c =
 
 pub returns-clause-refused : goal.returns-clause-refused
 returns-clause-refused g c = λ bytes e. map_err c.run_canon.result (λ fault h. stream_fault _ _ _ bytes fault h e) c.run_canon.ensures.err
+
+pub returns-clause-whole : goal.returns-clause-whole
+returns-clause-whole g c = λ bytes e. map_on c.run_canon.result (λ ran. has_ended _ _ _ bytes ran e) c.run_canon.ensures.ok
