@@ -174,6 +174,7 @@ x = 4, y = 4, rule = WireWorld
     verdict "generations by a table, in $shell" "$problems"
 
     table_recipes
+    stranger_recipe
     git_recipes
 }
 
@@ -249,6 +250,26 @@ END
         equal "the step by it" "$(next_by mended.rule)" 'C2$C!'
         verdict "each form of a variable, in $shell" "$problems"
     done
+}
+
+# A file is replaced by its canonical text; one that is refused, and one whose text is too long, stay as they are, and nothing is left beside them.
+stranger_recipe() {
+    recipe stranger
+    cp glider.rle wanted.rle
+    ./in_place wanted.rle
+    equal "the status of a file" "$?" 0
+    equal "its text" "$(cat wanted.rle)" "$glider"
+    printf '[M2]\n4 0 0 0 9\n' > refused.mc
+    ./in_place refused.mc 2> told
+    equal "the status of a refused file" "$?" 2
+    equal "a refused file" "$(cat refused.mc)" "$(printf '[M2]\n4 0 0 0 9\n')"
+    equal "the fault of a refused file" "$(cat told)" "line 2: BadChild"
+    sed 's/ulimit -f 2000000/ulimit -f 0/' in_place > tight
+    cp glider.rle long.rle
+    sh tight long.rle 2> told && problems="$problems a text that is too long was taken;"
+    equal "a file whose text is too long" "$(cat long.rle)" "$(cat glider.rle)"
+    [ "$(echo ./*.new)" = './*.new' ] || problems="$problems a file was left:$(echo ./*.new);"
+    verdict "the canonical text in the place of a file, in $shell" "$problems"
 }
 
 # Behind a commit of two gliders: their other spellings are no difference, and a cell more is one of canonical texts.
