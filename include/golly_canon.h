@@ -102,7 +102,7 @@ enum {
 };
 
 /* `limit`, of each call: how many different squares the store of the call may hold, those on the way to the answer too. A call that comes to
- * more is refused as Full; one on files that give no cell a state other than 0 never is. A limit above 2^62 counts as 2^62; but beyond some 2^32
+ * more is refused as Full; one on files of which no line has a cell that isn't 0 never is. A limit above 2^62 counts as 2^62; but beyond some 2^32
  * squares the answer is Memory, whatever the limit. As measured, a square takes 32 to 39 bytes of the store, or less where it has at most 4 x 4 cells
  * of the states 0 and 1.
  *
