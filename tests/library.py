@@ -33,8 +33,8 @@ IN_PIECES = " in pieces"
 class Limits(NamedTuple):
     """The least limits of a store for a file, counted with the squares of the independent reader and found again by trying each limit: to read the file,
     which every text of its pattern takes; to step it under its own rule; and to compare it with the file behind it here. So many different squares that
-    aren't blank are stored: of an RLE file those of the plane, of a macrocell file those of its node lines with the parts of leaves, and the roots up to
-    the least; then those of the next generation and of its roots."""
+    aren't blank are stored: of an RLE file those of the plane, of a macrocell file those of its node lines with the parts of leaves, and the root of the
+    canonical file; then those of the next generation, and its root."""
 
     read: int
     step: int
@@ -44,16 +44,16 @@ class Limits(NamedTuple):
 # Files of both formats, with their least limits.
 WORKED = {
     "a blank plane": (b"x = 0, y = 0, rule = 23/3\n!\n", Limits(0, 0, 0)),
-    "a blank plane of node lines": (b"[M2]\n#R B3/S23\n$\n4 0 0 1 0\n", Limits(0, 0, 124)),
-    "a glider": (small_files.LIFE_FILES["a glider"], Limits(124, 129, 301)),
-    "lines that end by CR LF": (small_files.LIFE_FILES["lines that end by CR LF"], Limits(178, 178, 360)),
-    "a rule of four neighbours": (small_files.LIFE_FILES["a rule of four neighbours"], Limits(182, 198, 243)),
-    "a row as wide as the plane": (small_files.LIFE_FILES["a row as wide as the plane"], Limits(62, 62, 76)),
-    "a root above its pattern": (small_files.LIFE_FILES["a root above its pattern"], Limits(14, 14, 14)),
+    "a blank plane of node lines": (b"[M2]\n#R B3/S23\n$\n4 0 0 1 0\n", Limits(0, 0, 66)),
+    "a glider": (small_files.LIFE_FILES["a glider"], Limits(66, 71, 186)),
+    "lines that end by CR LF": (small_files.LIFE_FILES["lines that end by CR LF"], Limits(121, 121, 245)),
+    "a rule of four neighbours": (small_files.LIFE_FILES["a rule of four neighbours"], Limits(124, 140, 185)),
+    "a row as wide as the plane": (small_files.LIFE_FILES["a row as wide as the plane"], Limits(62, 62, 72)),
+    "a root above its pattern": (small_files.LIFE_FILES["a root above its pattern"], Limits(10, 10, 10)),
     "squares below the leaves": (small_files.LIFE_FILES["squares below the leaves"], Limits(4, 4, 6)),
     "a line twice and one that is not reached": (small_files.LIFE_FILES["a line twice and one that is not reached"], Limits(5, 5, 11)),
-    "the example glider.mc": (small_files.LIFE_FILES["the example glider.mc"], Limits(6, 14, 190)),
-    "two states at the corner": (small_files.NAMED_FILES["two states at the corner"][0], Limits(184, 184, 191)),
+    "the example glider.mc": (small_files.LIFE_FILES["the example glider.mc"], Limits(6, 14, 130)),
+    "two states at the corner": (small_files.NAMED_FILES["two states at the corner"][0], Limits(124, 124, 131)),
     "levels and leaves under a name": (small_files.NAMED_FILES["levels and leaves under a name"][0], Limits(7, 7, 10)),
     "a quarter that is no earlier line": (small_files.LIFE_FILES["a quarter that is no earlier line"], Limits(3, 3, 3)),
     "no header": (b"o!\n", Limits(0, 0, 0)),
@@ -61,9 +61,9 @@ WORKED = {
 
 # Files that are stepped by a table, with the least limit for that.
 STEPPED = {
-    "the example wire.rle": (*small_files.NAMED_FILES["the example wire.rle"], 245),
-    "a state that spreads": (*small_files.NAMED_FILES["a state that spreads"], 367),
-    "levels and leaves under a name": (*small_files.NAMED_FILES["levels and leaves under a name"], 256),
+    "the example wire.rle": (*small_files.NAMED_FILES["the example wire.rle"], 129),
+    "a state that spreads": (*small_files.NAMED_FILES["a state that spreads"], 248),
+    "levels and leaves under a name": (*small_files.NAMED_FILES["levels and leaves under a name"], 200),
     "no header": (b"o!\n", small_files.SPREAD_TABLE, 0),
 }
 

@@ -1,5 +1,5 @@
 -- The squares that a refused call lacked: of the root that is grown or trimmed, of runs, and of lines with more lines behind them.
-use Rattle.std.proofs.Common.{◌≡◌, ℕ, zero, suc, ◌+◌, ◌-◌, ◌<◌, ◌≤◌, true, List, [], ◌∷◌, ◌++◌, length, take, drop, get_or, max, refl, ap, sym, ◌∙◌, subst, arith, ◌⊎◌, inl, inr, append_assoc, drop-cons, ℤ, ◌+ℤ◌, pos}
+use Rattle.std.proofs.Common.{◌≡◌, ℕ, zero, suc, ◌+◌, ◌-◌, ◌<◌, ◌≤◌, true, List, [], ◌∷◌, ◌++◌, length, take, drop, get_or, max, ap, sym, ◌∙◌, subst, arith, append_assoc, drop-cons, ℤ, ◌+ℤ◌, pos}
 use Rattle.std.specs.Prelude.{nat_abs}
 use Rattle.std.proofs.lemmas.List.{append-nil, take-append-drop}
 use Rattle.life_base.proofs.Squares.{depth-blank}
@@ -21,14 +21,16 @@ use Rattle.life_canon.specs.Files.{is_macrocell}
 use Rattle.life_canon.specs.Taking.{IsGoing, IsEnd, taken}
 use Rattle.life_canon.specs.declared.feeding.Progress.{Progress}
 use Rattle.life_canon.proofs.FrontFacts.{whole-at, end-says, end-lines}
-use Rattle.life_quad.specs.Moves.{grown, inner, can_trim, trim_up_to}
-use Rattle.life_quad.specs.Refused.{SomePart, SomeTrimmed}
+use Rattle.life_quad.proofs.LawLemmas.{trimming_stops}
+use Rattle.life_quad.specs.Moves.{grown, trimmed}
+use Rattle.life_quad.specs.Refused.{SomePart, TrimmedTo}
 use Rattle.life_canon.specs.Needs.{SomeOfRuns, SomeOfLines, of_node_line, of_runs, grown_times, SomeGrown, SomeRoot, trimmed_root, grown_root, SomeOfFile, of_lines, SomeAtEnd, of_plane, of_root}
-use Rattle.life_canon.specs.Universe.{Universe, IsBlankOutside, centred, corner, least_level}
+use Rattle.life_canon.specs.Universe.{Universe, IsBlankOutside, centred, corner, least_level, whole}
 use Rattle.life_canon.proofs.Content.{least-one}
-use Rattle.life_canon.proofs.Planes.{full-depth, two-deep, can-not, can-by, stop, go, centred-tree_cell, tree_cell-outside}
-use Rattle.life_canon.proofs.TreeWords.{HasDepth}
-use Rattle.life_canon.proofs.Trees.{bool_cases, true_false, depth_is, square-same, centred-depth, middle-centred, centred-grown, outside-more, border-outside}
+use Rattle.life_canon.proofs.PatternFacts.{trimmed-whole}
+use Rattle.life_canon.proofs.Planes.{full-depth, centred-tree_cell, tree_cell-outside}
+use Rattle.life_canon.proofs.TreeWords.{HasDepth, below_top}
+use Rattle.life_canon.proofs.Trees.{square-same, centred-grown, outside-more}
 
 -- ---- a square that is grown
 
@@ -59,57 +61,6 @@ grown-centred f (suc n) k t e o =
     let level : suc (n + suc k) ≡ suc (suc n + k) = omega arith in
     grown-centred f n (suc k) (grown t) (ap grown e ∙ sym (centred-grown f k o)) (outside-more f k o) ∙ ap (centred f) level
 
--- what can be trimmed of it is one of the level below
-record Smaller (f : ℤ → ℤ → ℕ) (m k : ℕ) : Type 0 where
-  below : ℕ
-  is : k ≡ suc below
-  least : m ≤ suc below
-  inner_is : inner (centred f (suc k)) ≡ centred f (suc below)
-  outside : IsBlankOutside (suc below) f
-
-smaller-centred : (f : ℤ → ℤ → ℕ) (m k : ℕ) → 1 ≤ m → IsBlankOutside (suc k) f → can_trim (centred f (suc k)) m ≡ true → Smaller f m k
-smaller-centred f m zero le o can =
-    let d : depth (centred f 1) ≡ 1 = depth_is (centred-depth f 1) in
-    absurd (true_false (can_trim (centred f 1) m) can (can-not (centred f 1) m (omega (arith, d, le))))
-smaller-centred f m (suc k) le o can = elim (deeper m (suc (suc k))) [
-  | inl high ↦
-      let h = centred-depth f (suc (suc k)) in
-      let two = two-deep k (centred f (suc (suc k))) h in
-      let border = sym two.border ∙ sym (can-by (centred f (suc (suc k))) m (subst (λ (d : ℕ). m < d) (sym (depth_is h)) high)) ∙ can in
-      record { below = k; is = refl; least = omega (arith, high); inner_is = two.inner_is ∙ middle-centred f k; outside = border-outside f k border o }
-  | inr low ↦
-      let d : depth (centred f (suc (suc k))) ≡ suc (suc k) = depth_is (centred-depth f (suc (suc k))) in
-      absurd (true_false (can_trim (centred f (suc (suc k))) m) can (can-not (centred f (suc (suc k))) m (omega (arith, d, low))))
-]
-  where
-    deeper : (m n : ℕ) → (m < n) ⊎ (n ≤ m)
-    deeper m n = grind arith
-
--- so trimming goes through squares of lower levels
-record Through (P : Tree → Type 0) (f : ℤ → ℤ → ℕ) (m k : ℕ) : Type 0 where
-  level : ℕ
-  least : m ≤ level
-  lower : level < suc k
-  outside : IsBlankOutside level f
-  holds : P (centred f level)
-
-trimmed-through : (P : Tree → Type 0) (f : ℤ → ℤ → ℕ) (m n k : ℕ) → 1 ≤ m → IsBlankOutside (suc k) f → can_trim (trim_up_to n (centred f (suc k)) m) m ≡ true
-    → P (inner (trim_up_to n (centred f (suc k)) m)) → Through P f m k
-trimmed-through P f m zero k le o can p =
-    let s = smaller-centred f m k le o can in
-    record { level = suc s.below; least = s.least; lower = omega (arith, s.is); outside = s.outside; holds = subst P s.inner_is p }
-trimmed-through P f m (suc n) k le o can p = elim (bool_cases (can_trim (centred f (suc k)) m)) [
-  | inl can_be ↦
-      let s = smaller-centred f m k le o can_be in
-      let e : trim_up_to (suc n) (centred f (suc k)) m ≡ trim_up_to n (centred f (suc s.below)) m =
-      go n (centred f (suc k)) m can_be ∙ ap (λ (t : Tree). trim_up_to n t m) s.inner_is in
-      let r = trimmed-through P f m n s.below le s.outside (sym (ap (λ (t : Tree). can_trim t m) e) ∙ can) (subst (λ (t : Tree). P (inner t)) e p) in
-      record { level = r.level; least = r.least; lower = omega (arith, r.lower, s.is); outside = r.outside; holds = r.holds }
-  | inr cannot ↦
-      let e = stop (suc n) (centred f (suc k)) m cannot in
-      absurd (true_false (can_trim (centred f (suc k)) m) (sym (ap (λ (t : Tree). can_trim t m) e) ∙ can) cannot)
-]
-
 -- ---- the root of a pattern
 
 one-more : (n : ℕ) → 1 ≤ n → n ≡ suc (n - 1)
@@ -118,7 +69,7 @@ one-more n h = omega arith
 -- it is grown
 pub root-grown : (P : Tree → Type 0) (u : Universe) (t : Tree) → IsFull t → 1 ≤ depth t → ((x y : ℤ) → tree_cell t x y ≡ u.cell x y)
     → SomeGrown P t (least_level u.rule)
-    → SomeRoot P u (depth t)
+    → SomeRoot MAX_LEVEL P u (depth t)
 root-grown P u t full h cells s =
     let k : ℕ = depth t - 1 in
     let d : depth t ≡ suc k = one-more (depth t) h in
@@ -126,19 +77,16 @@ root-grown P u t full h cells s =
     let e : grown_times (suc s.more) t ≡ centred u.cell (suc (suc s.more + k)) = grown-centred u.cell (suc s.more) k t c.0 c.1 in
     grown_root (suc (suc s.more + k)) (omega (arith, d)) (omega (arith, d, s.low)) (subst (SomePart P) e s.part)
 
--- it is trimmed, from the level of the root or from the least one
-pub root-trimmed : (P : Tree → Type 0) (u : Universe) (t : Tree) (n : ℕ) → IsFull t → depth t ≡ max (least_level u.rule) n
+-- it is trimmed, from the level of the root and not from the least one, at which nothing is trimmed
+pub root-trimmed : (P : Tree → Type 0) (u : Universe) (t : Tree) (n : ℕ) → IsFull t → depth t ≤ MAX_LEVEL → depth t ≡ max (least_level u.rule) n
     → ((x y : ℤ) → tree_cell t x y ≡ u.cell x y)
-    → SomeTrimmed P t (least_level u.rule) → SomeRoot P u n
-root-trimmed P u t n full high cells s =
-    let m = least_level u.rule in
-    let one = least-one u.rule in
-    let k : ℕ = depth t - 1 in
-    let d : depth t ≡ suc k = one-more (depth t) (omega (arith, high, one)) in
-    let c = is-centred u.cell t k full d cells in
-    let r = trimmed-through P u.cell m s.steps k one c.1 (sym (ap (λ (v : Tree). can_trim (trim_up_to s.steps v m) m) (c.0)) ∙ s.can)
-    (subst (λ (v : Tree). P (inner (trim_up_to s.steps v m))) c.0 s.smaller) in
-    trimmed_root r.level r.least (omega (arith, r.least, r.lower, d, high)) r.outside r.holds
+    → TrimmedTo P t (least_level u.rule) → SomeRoot MAX_LEVEL P u n
+root-trimmed P u t n full low high cells s =
+    let least = least_level u.rule in
+    let is : trimmed t least ≡ whole MAX_LEVEL u = trimmed-whole below_top u t full low (omega (arith, high)) cells in
+    let stops : least ≤ depth (trimmed t least) = (trimming_stops t least full (least-one u.rule)).0 (omega (arith, high)) in
+    let lower : depth (trimmed t least) < n = omega (arith, stops, high, s.smaller) in
+    trimmed_root (subst (λ (r : Tree). depth r < n) is lower) (subst P is s.has)
 
 -- ---- runs
 
@@ -198,7 +146,7 @@ end-needs P bytes ended p e (of_plane u says rle some) =
     of_plane u (end-says bytes ended p u e says) (ap is_macrocell more.1 ∙ more.2 ∙ rle) some
 end-needs P bytes ended p e (of_root u says some) =
     let more = end-lines bytes ended p u e says in
-    of_root u (end-says bytes ended p u e says) (subst (SomeRoot P u) (sym more.3) some)
+    of_root u (end-says bytes ended p u e says) (subst (SomeRoot MAX_LEVEL P u) (sym more.3) some)
 
 -- ---- kinds
 

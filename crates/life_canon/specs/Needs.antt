@@ -1,5 +1,5 @@
--- The squares that are stored while a file is read: those of its node lines, or of the plane that its runs fill, and those through which its
--- root is grown or trimmed. After `Full` the store lacks one of them. The project's own.
+-- The squares that are stored while a file is read: those of its node lines, or of the plane that its runs fill, those through which its root is
+-- grown, and that to which it is trimmed. After `Full` the store lacks one of them. The project's own.
 use Rattle.std.specs.Prelude.{◌≡◌, ℕ, zero, suc, ◌+◌, ◌-◌, ◌^◌, ◌<◌, ◌≤◌, false, max, if◌then◌else◌, List, [], ◌∷◌, ◌++◌, Contains, nat_abs, ◌+ℤ◌, pos}
 use Rattle.life_base.specs.Lines.{whole_lines}
 use Rattle.life_base.specs.Refusal.{Prefix}
@@ -18,7 +18,7 @@ use Rattle.life_rle.specs.File.{HasRuns}
 use Rattle.life_strip.specs.Given.{half_plane, state_by, by_columns}
 use Rattle.life_strip.specs.Needed.{SomeSquare}
 use Rattle.life_canon.specs.Files.{Says, is_macrocell}
-use Rattle.life_canon.specs.Universe.{Universe, IsBlankOutside, least_level, centred}
+use Rattle.life_canon.specs.Universe.{Universe, least_level, centred, whole}
 
 -- a square that isn't blank and that the store doesn't hold
 abbrev pub IsNew : Nodes → Tree → Type 0
@@ -57,11 +57,11 @@ pub record SomeGrown (P : Tree → Type 0) (t : Tree) (level : ℕ) : Type 0 whe
   pub low : depth t + suc more ≤ level
   pub part : SomePart P (grown_times (suc more) t)
 
--- A square has a property through which the root of a pattern, of level n, goes: trimmed, the square about (0, 0) of a lower level, the least one
--- or above it, that has all nonzero cells; grown, that of a higher level, up to the least one, or a part of it.
-pub data SomeRoot (P : Tree → Type 0) (u : Universe) (n : ℕ) : Type 0 where
-  trimmed_root : (level : ℕ) → least_level u.rule ≤ level → level < n → IsBlankOutside level u.cell → P (centred u.cell level) → SomeRoot P u n
-  grown_root : (level : ℕ) → n < level → level ≤ least_level u.rule → SomePart P (centred u.cell level) → SomeRoot P u n
+-- A square has a property that the root of a pattern has to be made for, where lines give one of level n: trimmed, the root of the canonical file,
+-- of a lower level; grown, the square about (0, 0) of a higher level, up to the least one, or a part of it.
+pub data SomeRoot (top : ℕ) (P : Tree → Type 0) (u : Universe) (n : ℕ) : Type 0 where
+  trimmed_root : depth (whole top u) < n → P (whole top u) → SomeRoot top P u n
+  grown_root : (level : ℕ) → n < level → level ≤ least_level u.rule → SomePart P (centred u.cell level) → SomeRoot top P u n
 
 -- the level of the root that lines give: that of the last node line, 1 where there is none, or that of the whole plane under RLE
 abbrev pub level_of_root : ℕ → List (List ℕ) → ℕ
@@ -70,7 +70,7 @@ level_of_root top lines = if is_macrocell lines then max 1 (root_level (squares_
 -- a square at the end of a file has a property: of the whole plane, which is filled to its last row under RLE, or of the root
 pub data SomeAtEnd (top : ℕ) (P : Tree → Type 0) (lines : List (List ℕ)) : Type 0 where
   of_plane : (u : Universe) → Says top lines u → is_macrocell lines ≡ false → SomeSquare P (2 ^ top) (by_columns u.cell) → SomeAtEnd top P lines
-  of_root : (u : Universe) → Says top lines u → SomeRoot P u (level_of_root top lines) → SomeAtEnd top P lines
+  of_root : (u : Universe) → Says top lines u → SomeRoot top P u (level_of_root top lines) → SomeAtEnd top P lines
 
 -- a square of a file has a property
 pub data SomeOfFile (top : ℕ) (P : Tree → Type 0) (lines : List (List ℕ)) : Type 0 where

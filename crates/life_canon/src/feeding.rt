@@ -117,7 +117,7 @@ fn trimmed_pattern<S: Squares>(
     ensures refusals { IfErr result (IsWantKind (S.stored squares.new) (S.most squares.new)) }
     ensures keeps { KeepsSquares S.knows S.content S.stored S.most squares.old squares.new }
     ensures needed { result ≡ Err Full → (universe : Universe) → universe.rule ≡ rule → ((x y : ℤ) → tree_cell (S.content squares.old root) x y ≡ universe.cell x y)
-        → SomeRoot (S.needs_node squares.new) universe (depth (S.content squares.old root)) }
+        → SomeRoot MAX_LEVEL (S.needs_node squares.new) universe (depth (S.content squares.old root)) }
 {
     let least = least_level(&rule);
     let root = grow_to(squares, root, least)?;

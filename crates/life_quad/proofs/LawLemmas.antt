@@ -384,6 +384,17 @@ trimmed_form (suc n) t least full positive le = by (can_trim t least) refl (trim
 form_of : (t : Tree) (least : ℕ) → IsFull t → 1 ≤ least → IsTrimmedForm least t (trimmed t least)
 form_of t least full positive = trimmed_form (depth t) t least full positive (omega arith)
 
+-- a square that can be trimmed becomes smaller
+pub trimmed-lower : (t : Tree) (least : ℕ) → IsFull t → 1 ≤ least → can_trim t least ≡ true → depth (trimmed t least) < depth t
+trimmed-lower t least full positive can =
+    let above : nat_lt least (depth t) ≡ true = and_left _ _ can in
+    let deep : 2 ≤ depth t = grind arith in
+    let i = inner_cells t full deep (and_right (nat_lt least (depth t)) _ can) in
+    let high = (form_of (inner t) least i.0 positive).high in
+    let d = depth-inner t full deep in
+    let e = ap depth (trimmed-smaller t least full positive can) in
+    omega arith
+
 pub trimmed_is_fixed : TrimmedIsFixed
 trimmed_is_fixed t least full positive =
     let f = form_of t least full positive in (f.full, trimmed-stays (trimmed t least) least f.ends)

@@ -4,7 +4,8 @@ use Rattle.std.specs.List.{list_all}
 use Rattle.std.proofs.lemmas.Grind.{common_steps}
 use Rattle.life_quad.specs.declared.id.Id.{Id}
 use Rattle.life_base.specs.Tree.{Tree, point, quad, depth, quarters, blank, is_blank_tree, IsFull}
-use Rattle.life_quad.specs.Moves.{outer, inner, can_trim, trimmed, trim_up_to}
+use Rattle.life_quad.specs.declared.moves.Quarters.{Quarters}
+use Rattle.life_quad.specs.Moves.{AreQuarters, quad_of, outer, inner, can_trim, trimmed, trim_up_to}
 use Rattle.life_base.proofs.Squares.{is_blank-blank, blank_is, and_left}
 
 -- a test for the blank square of a level
@@ -30,6 +31,12 @@ levels_of_parts t a b c d full is =
     let f = subst IsFull is full in
     let e : depth t ≡ suc (depth a) = ap depth is in
     (omega (arith, e), omega (arith, e, f.4), omega (arith, e, f.5), omega (arith, e, f.6))
+
+-- four quarters make a full square
+pub full_quarters : (knows : Id → Type 0) (content : Id → Tree) (q : Quarters) → ((id : Id) → knows id → IsFull (content id))
+    → AreQuarters knows content (quad_of content q) q → IsFull (quad_of content q)
+full_quarters knows content q full a =
+    (full q.nw a.nw, full q.ne a.ne, full q.sw a.sw, full q.se a.se, omega (arith, a.ne_level), omega (arith, a.sw_level), omega (arith, a.se_level))
 
 -- the square of the inner grandchildren is one level lower
 pub depth-inner : (t : Tree) → IsFull t → 2 ≤ depth t → depth (inner t) + 1 ≡ depth t

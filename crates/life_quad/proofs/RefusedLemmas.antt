@@ -1,20 +1,14 @@
 -- Facts about what a refused call had to store.
-use Rattle.std.proofs.Common.{◌≡◌, ℕ, suc, ◌+◌, ◌-◌, ◌^◌, ◌≤◌, ◌<◌, Bool, true, false, nat_lt, ◌⊎◌, inl, inr, refl, sym, ◌∙◌, ap, subst, arith}
+use Rattle.std.proofs.Common.{◌≡◌, ℕ, ◌+◌, ◌-◌, ◌^◌, ◌≤◌, ◌<◌, Bool, true, false, nat_lt, ◌⊎◌, inl, inr, refl, sym, ◌∙◌, ap, subst, arith}
 use Rattle.std.specs.Prelude.{if◌then◌else◌, Result, Err, IsErrAnd}
 use Rattle.std.proofs.lemmas.Result.{err_from_is_err_and}
 use Rattle.life_base.specs.Tree.{Tree, point, quad, depth, blank, state_at, IsFull}
-use Rattle.life_quad.specs.Moves.{grown, inner, can_trim, trim_up_to}
-use Rattle.life_quad.specs.Refused.{SomePart, SomeTrimmed}
+use Rattle.life_quad.specs.Moves.{grown}
+use Rattle.life_quad.specs.Refused.{SomePart}
 use Rattle.life_quad.proofs.NonzeroLemmas.{double}
 use Rattle.life_quad.specs.declared.runs.Span.{Span}
 use Rattle.life_quad.specs.Span.{SetsSpan, SetsHalves}
 use Rattle.life_quad.proofs.SpanLemmas.{is_within, SetsSpan-north, SetsSpan-south}
-
--- a square that the inner one's trimming goes through
-pub SomeTrimmed-inner : (P : Tree → Type 0) (t : Tree) (least : ℕ) → can_trim t least ≡ true → SomeTrimmed P (inner t) least → SomeTrimmed P t least
-SomeTrimmed-inner P t least can s =
-    let e : trim_up_to (suc s.steps) t least ≡ trim_up_to s.steps (inner t) least = ap (λ b. if b then trim_up_to s.steps (inner t) least else t) can in
-    record { steps = suc s.steps; can = ap (λ u. can_trim u least) e ∙ s.can; smaller = subst (λ u. P (inner u)) (sym e) s.smaller }
 
 -- a part of a northern or of a southern quarter
 pub SomePart-north : (P : Tree → Type 0) (a b c d : Tree) → SomePart P a ⊎ SomePart P b → SomePart P (quad a b c d)

@@ -16,6 +16,10 @@ pub record AreQuarters (knows : Id → Type 0) (content : Id → Tree) (t : Tree
   pub sw_level : depth (content quarters.sw) + 1 ≡ depth t
   pub se_level : depth (content quarters.se) + 1 ≡ depth t
 
+-- the square of four quarters
+abbrev pub quad_of : (Id → Tree) → Quarters → Tree
+quad_of content q = quad (content q.nw) (content q.ne) (content q.sw) (content q.se)
+
 -- the twelve outer grandchildren
 abbrev pub outer : Tree → List Tree
 outer (quad (quad a b c _) (quad d e _ f) (quad g _ h i) (quad _ j k l)) =

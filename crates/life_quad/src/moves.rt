@@ -1,9 +1,9 @@
 //! Squares made of other squares.
-ghost use Rattle.std.specs.Prelude.{◌≡◌, ◌&&◌, ◌<◌, ◌≤◌, length, is_some, Err, IfOk, IfErr, OnErr, IfSome};
+ghost use Rattle.std.specs.Prelude.{◌≡◌, ◌&&◌, ◌+◌, ◌<◌, ◌≤◌, length, is_some, Err, IfOk, IfErr, OnErr, IfSome};
 ghost use Rattle.life_base.specs.declared.kind.Kind.TheVariants.{Full, Memory};
 ghost use Rattle.life_base.specs.Tree.{quad, depth, is_blank_tree};
-ghost use Rattle.life_quad.specs.Moves.{AreQuarters, grown, trimmed, inner, can_trim};
-ghost use Rattle.life_quad.specs.Refused.{SomePart, SomeTrimmed};
+ghost use Rattle.life_quad.specs.Moves.{AreQuarters, quad_of, grown, trimmed, inner, can_trim};
+ghost use Rattle.life_quad.specs.Refused.{SomePart, TrimmedTo};
 ghost use Rattle.life_quad.specs.Keeping.{KeepsSquares, IsWantKind};
 
 use crate::{Id, Squares};
@@ -78,26 +78,28 @@ pub fn is_blank_at<S: Squares>(squares: &S, level: u8, id: Id) -> bool
     id == squares.empty(level)
 }
 
-/// The four inner grandchildren, where the square is above the least level and its twelve outer grandchildren are blank.
-fn middle<S: Squares>(squares: &S, id: Id, least: u8) -> Option<Quarters>
-    requires known { S.knows squares.now id }
+/// The four inner grandchildren of the square of these quarters, where it is above the least level and its twelve outer grandchildren are blank.
+fn middle<S: Squares>(squares: &S, whole: Quarters, least: u8) -> Option<Quarters>
+    requires quarters { AreQuarters (S.knows squares.now) (S.content squares.now) (quad_of (S.content squares.now) whole) whole }
     requires positive { 1 ≤ least }
-    ensures trims { is_some result ≡ can_trim (S.content squares.now id) least }
-    ensures square { IfSome result (λ q. inner (S.content squares.now id) ≡ quad (S.content squares.now q.nw) (S.content squares.now q.ne) (S.content squares.now q.sw) (S.content squares.now q.se)) }
-    ensures quarters { IfSome result (λ q. AreQuarters (S.knows squares.now) (S.content squares.now) (inner (S.content squares.now id)) q) }
+    ensures trims { is_some result ≡ can_trim (quad_of (S.content squares.now) whole) least }
+    ensures square { IfSome result (λ q. inner (quad_of (S.content squares.now) whole) ≡ quad_of (S.content squares.now) q) }
+    ensures lower { IfSome result (λ q. depth (S.content squares.now q.nw) + 1 ≡ depth (S.content squares.now whole.nw)) }
+    ensures quarters { IfSome result (λ q. AreQuarters (S.knows squares.now) (S.content squares.now) (quad_of (S.content squares.now) q) q) }
 {
-    if squares.level(id) <= least {
+    let level = squares.level(whole.nw);
+    if level < least {
         return None;
     }
-    let whole = divide(squares, id);
     let nw = divide(squares, whole.nw);
     let ne = divide(squares, whole.ne);
     let sw = divide(squares, whole.sw);
     let se = divide(squares, whole.se);
-    let can_trim = are_three_blank(squares, nw.nw, nw.ne, nw.sw)
-        && are_three_blank(squares, ne.nw, ne.ne, ne.se)
-        && are_three_blank(squares, sw.nw, sw.sw, sw.se)
-        && are_three_blank(squares, se.ne, se.sw, se.se);
+    let level = level - 1;
+    let can_trim = are_three_blank(squares, level, nw.nw, nw.ne, nw.sw)
+        && are_three_blank(squares, level, ne.nw, ne.ne, ne.se)
+        && are_three_blank(squares, level, sw.nw, sw.sw, sw.se)
+        && are_three_blank(squares, level, se.ne, se.sw, se.se);
     if !can_trim {
         return None;
     }
@@ -109,21 +111,40 @@ fn middle<S: Squares>(squares: &S, id: Id, least: u8) -> Option<Quarters>
     })
 }
 
-/// Whether three squares are blank.
-fn are_three_blank<S: Squares>(squares: &S, a: Id, b: Id, c: Id) -> bool
+/// Whether three squares of a level are blank.
+fn are_three_blank<S: Squares>(squares: &S, level: u8, a: Id, b: Id, c: Id) -> bool
     requires a { S.knows squares.now a }
     requires b { S.knows squares.now b }
     requires c { S.knows squares.now c }
+    requires a_level { level ≡ depth (S.content squares.now a) }
+    requires b_level { level ≡ depth (S.content squares.now b) }
+    requires c_level { level ≡ depth (S.content squares.now c) }
     ensures { result ≡ (is_blank_tree (S.content squares.now a) && (is_blank_tree (S.content squares.now b) && is_blank_tree (S.content squares.now c))) }
 {
-    is_blank(squares, a) && is_blank(squares, b) && is_blank(squares, c)
+    is_blank_at(squares, level, a)
+        && is_blank_at(squares, level, b)
+        && is_blank_at(squares, level, c)
 }
 
-/// While the square is above the least level and its outer grandchildren are blank, the square of its inner ones.
+/// The quarters of what is trimmed of the square of these quarters. No square is made.
+fn innermost<S: Squares>(squares: &S, quarters: Quarters, least: u8) -> Quarters
+    requires quarters { AreQuarters (S.knows squares.now) (S.content squares.now) (quad_of (S.content squares.now) quarters) quarters }
+    requires positive { 1 ≤ least }
+    ensures square { quad_of (S.content squares.now) result ≡ trimmed (quad_of (S.content squares.now) quarters) least }
+    ensures low { depth (S.content squares.now result.nw) ≤ depth (S.content squares.now quarters.nw) }
+    ensures quarters { AreQuarters (S.knows squares.now) (S.content squares.now) (quad_of (S.content squares.now) result) result }
+{
+    match middle(squares, quarters, least) {
+        Some(inner) => innermost(squares, inner, least),
+        None => quarters,
+    }
+}
+
+/// While the square is above the least level and its outer grandchildren are blank, the square of its inner ones. Only the last one is joined.
 ///
 /// # Errors
 ///
-/// `Full` where a square is new and the store holds its limit, and `Memory`. After either each Id has its square.
+/// `Full` where that square is new and the store holds its limit, and `Memory`. After either each Id has its square.
 pub fn trim<S: Squares>(squares: &mut S, id: Id, least: u8) -> Result<Id, Kind>
     requires known { S.knows squares.old id }
     requires positive { 1 ≤ least }
@@ -132,11 +153,14 @@ pub fn trim<S: Squares>(squares: &mut S, id: Id, least: u8) -> Result<Id, Kind>
     ensures keeps { KeepsSquares S.knows S.content S.stored S.most squares.old squares.new }
     ensures refusals { IfErr result (IsWantKind (S.stored squares.new) (S.most squares.new)) }
     ensures room { result ≡ Err Memory → length (S.stored squares.new) < S.most squares.new }
-    ensures needed { OnErr result (SomeTrimmed (S.needs_node squares.new) (S.content squares.old id) least) }
+    ensures needed { OnErr result (TrimmedTo (S.needs_node squares.new) (S.content squares.old id) least) }
 {
-    let Some(Quarters { nw, ne, sw, se }) = middle(squares, id, least) else {
+    if squares.level(id) <= least {
+        return Ok(id);
+    }
+    let Some(inner) = middle(squares, divide(squares, id), least) else {
         return Ok(id);
     };
-    let smaller = squares.join(nw, ne, sw, se)?;
-    trim(squares, smaller, least)
+    let Quarters { nw, ne, sw, se } = innermost(squares, inner, least);
+    squares.join(nw, ne, sw, se)
 }

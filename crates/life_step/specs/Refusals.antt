@@ -10,7 +10,7 @@ use Rattle.life_base.specs.declared.fault.Fault.{Fault}
 use Rattle.life_base.specs.declared.kind.Kind.TheVariants as kinds
 use Rattle.life_base.specs.declared.rule.Rule.{Rule}
 use Rattle.life_base.specs.declared.rule.Rule.TheVariants.{Life, Named}
-use Rattle.life_quad.specs.Refused.{SomeTrimmed}
+use Rattle.life_quad.specs.Refused.{TrimmedTo}
 use Rattle.life_quad.specs.Store.{Nodes}
 use Rattle.life_table.specs.Meaning.{Answer, Becomes, Ambiguous}
 use Rattle.life_table.specs.declared.table.Table.{Table}
@@ -73,13 +73,13 @@ RuleRefusal top (Life rule) u refusal =
 abbrev pub LifeRefusal : ℕ → Universe → Option Fault → Type 0
 LifeRefusal top u refusal = RuleRefusal top u.rule u refusal
 
--- a square has a property through which that of this level with these cells is trimmed
+-- the square of this level with these cells is trimmed to a smaller one, which has a property
 pub record SomeOfRoot (P : Tree → Type 0) (cell : ℤ → ℤ → ℕ) (level least : ℕ) : Type 0 where
   pub square : Tree
   pub full : IsFull square
   pub is : depth square ≡ level
   pub cells : (x y : ℤ) → tree_cell square x y ≡ cell x y
-  pub smaller : SomeTrimmed P square least
+  pub smaller : TrimmedTo P square least
 
 -- a square has a property which the step of this root under a B/S rule needs: of the next generation, or of its root
 pub data SomeOfLife (P : Tree → Type 0) (rule : OuterTotalistic) (root : Tree) : Type 0 where

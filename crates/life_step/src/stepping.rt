@@ -10,7 +10,7 @@ ghost use Rattle.life_canon.specs.Needs.{IsNew};
 ghost use Rattle.life_canon.specs.Store.{Keeps, IsKnown, IsOfFile, IsRead, IsWant, content};
 ghost use Rattle.life_canon.specs.Universe.{Universe, IsSame, least_level, square_universe};
 ghost use Rattle.life_mc.specs.Macrocell.{largest_state};
-ghost use Rattle.life_quad.specs.Refused.{SomeTrimmed};
+ghost use Rattle.life_quad.specs.Refused.{TrimmedTo};
 ghost use Rattle.life_step.specs.Refusals.{LacksForLife, LacksForStep, LacksForStepBy, LacksForTable, LifeRefusal, TableRefusal};
 ghost use Rattle.life_step.specs.Stepped.{IsStepped, IsSteppedBy, IsTextOf};
 
@@ -74,7 +74,7 @@ fn text_of_square(
     requires states { (x y : ℤ) → tree_cell (content store.old square) x y ≤ largest_state rule }
     ensures text { IfOk result (λ text. IsTextOf MAX_LEVEL (IsSame (square_universe rule generation (content store.old square))) text.items) }
     ensures want { IfErr result (IsWant store.new) }
-    ensures needed { result ≡ Err (fault_of Kind.Full) → SomeTrimmed (IsNew store.new) (content store.old square) (least_level rule) }
+    ensures needed { result ≡ Err (fault_of Kind.Full) → TrimmedTo (IsNew store.new) (content store.old square) (least_level rule) }
     ensures keeps { Keeps store.old store.new }
 {
     files_are_on_plane();

@@ -1,7 +1,7 @@
 use Rattle.std.proofs.Common.{◌≡◌, ℕ, ◌≤◌, max, sym, ap, ◌∙◌, subst, arith}
 use Rattle.life_base.specs.Tree.{Tree, depth}
 use Rattle.life_quad.specs.Moves.{trimmed}
-use Rattle.life_quad.specs.Refused.{SomeTrimmed}
+use Rattle.life_quad.specs.Refused.{TrimmedTo}
 use Rattle.life_quad.proofs.KeepingLemmas.{keeps-then}
 use Rattle.life_canon.specs.Needs.{SomeGrown}
 use Rattle.life_canon.specs.Universe.{least_level}
@@ -39,8 +39,9 @@ returns-in_err-root-2-clause-needed g c = λ e u rule cells.
     let n : ℕ = depth (g.S.Squares.content c.args.squares.now c.args.root) in
     let least : least_level u.rule ≡ c.least_level-least.result = ap least_level rule ∙ sym c.least_level-least.ensures in
     let level : depth t ≡ max (least_level u.rule) n = c.in_ok-root.ensures.level ∙ ap (λ (m : ℕ). max m n) (sym least) in
-    root-trimmed P u t n (g.met.S.Squares.full _ _ c.in_ok-root.ensures.known) level (λ x y. c.in_ok-root.ensures.cells x y ∙ cells x y)
-    (subst (SomeTrimmed P t) (sym least) c.in_err-root-2.ensures.needed)
+    let known = c.in_ok-root.ensures.known in
+    root-trimmed P u t n (g.met.S.Squares.full _ _ known) (g.met.S.Squares.low _ _ known) level (λ x y. c.in_ok-root.ensures.cells x y ∙ cells x y)
+    (subst (TrimmedTo P t) (sym least) c.in_err-root-2.ensures.needed)
 
 pub returns-in_err-root-2-clause-keeps : goal.returns-in_err-root-2-clause-keeps
 returns-in_err-root-2-clause-keeps g c = keeps-then c.in_ok-root.ensures.keeps c.in_err-root-2.ensures.keeps

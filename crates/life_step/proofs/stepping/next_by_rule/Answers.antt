@@ -3,7 +3,7 @@ use Rattle.std.proofs.lemmas.Result.{IfOk-weaker, err_from_is_err_and}
 use Rattle.life_base.specs.Tree.{depth, tree_cell}
 use Rattle.life_base.specs.declared.cell.TheConstants.{MAX_LEVEL}
 use Rattle.life_mc.specs.Macrocell.{largest_state}
-use Rattle.life_quad.specs.Refused.{SomeTrimmed}
+use Rattle.life_quad.specs.Refused.{TrimmedTo}
 use Rattle.life_quad.proofs.LawLemmas.{known_squares_are_full}
 use Rattle.life_sweep.specs.Refused.{GenerationRefusal}
 use Rattle.life_sweep.specs.Generation.{LifeAnswers}
@@ -109,5 +109,5 @@ returns-clause-needed c full =
       full = (known_squares_are_full mid id c.in_ok-square.ensures.known.0).0;
       is = c.in_ok-square.ensures.level;
       cells = c.in_ok-square.ensures.next;
-      smaller = subst (λ q. SomeTrimmed (IsNew store) (content mid id) (least_level q)) c.in-Life.is (c.text_of_square.ensures.needed full);
+      smaller = subst (λ q. TrimmedTo (IsNew store) (content mid id) (least_level q)) c.in-Life.is (c.text_of_square.ensures.needed full);
     }))

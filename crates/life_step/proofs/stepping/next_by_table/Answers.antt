@@ -6,7 +6,7 @@ use Rattle.life_base.specs.Tree.{tree_cell}
 use Rattle.life_mc.specs.Macrocell.{largest_state}
 use Rattle.life_table.specs.declared.table.Table.{Table}
 use Rattle.life_table.specs.Meaning.{Becomes}
-use Rattle.life_quad.specs.Refused.{SomeTrimmed}
+use Rattle.life_quad.specs.Refused.{TrimmedTo}
 use Rattle.life_quad.proofs.LawLemmas.{known_squares_are_full}
 use Rattle.life_sweep.specs.Refused.{GenerationRefusal}
 use Rattle.life_sweep.specs.Generation.{TableAnswers, states_at}
@@ -119,6 +119,6 @@ returns-clause-needed c full =
         full = (known_squares_are_full mid id c.in_ok-square.ensures.known.0).0;
         is = c.in_ok-square.ensures.level;
         cells = λ x y. refl;
-        smaller = subst (λ q. SomeTrimmed (IsNew store) next (least_level q)) is (c.text_of_square.ensures.needed full);
+        smaller = subst (λ q. TrimmedTo (IsNew store) next (least_level q)) is (c.text_of_square.ensures.needed full);
       }),
     )

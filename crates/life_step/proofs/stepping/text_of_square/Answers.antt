@@ -1,7 +1,7 @@
 use Rattle.std.proofs.Common.{ℕ, ap, ◌∙◌, subst}
 use Rattle.std.proofs.lemmas.Result.{IfOk-weaker}
 use Rattle.life_quad.specs.Moves.{trimmed}
-use Rattle.life_quad.specs.Refused.{SomeTrimmed}
+use Rattle.life_quad.specs.Refused.{TrimmedTo}
 use Rattle.life_quad.proofs.LawLemmas.{known_squares_are_full}
 use Rattle.life_canon.specs.Needs.{IsNew}
 use Rattle.life_canon.specs.Store.{content}
@@ -29,4 +29,4 @@ returns-clause-text c =
 
 pub returns-in_err-root-clause-needed : goal.returns-in_err-root-clause-needed
 returns-in_err-root-clause-needed c full =
-    subst (λ (n : ℕ). SomeTrimmed (IsNew c.trim.new.squares) (content c.args.store.now c.args.square) n) c.least_level.ensures c.in_err-root.ensures.needed
+    subst (λ (n : ℕ). TrimmedTo (IsNew c.trim.new.squares) (content c.args.store.now c.args.square) n) c.least_level.ensures c.in_err-root.ensures.needed

@@ -98,7 +98,7 @@ returns-in-Rle-clause-needed c = λ e.
     let u = rle_universe found.0 in
     let level = c.in_ok-root-in-Rle.ensures.level ∙ sym (top-level (taken c.args.self) (ap is_macrocell lines ∙ begun.format)) in
     of_root u (subst (λ (ls : List (List ℕ)). Says MAX_LEVEL ls u) (sym lines) (as_rle found.0 found.1))
-    (subst (SomeRoot (IsNew c.trimmed_pattern.new.squares) u) level
+    (subst (SomeRoot MAX_LEVEL (IsNew c.trimmed_pattern.new.squares) u) level
     (c.trimmed_pattern.ensures.needed e u (sym found.2)
     (λ x y. c.in_ok-root-in-Rle.ensures.cells x y
     ∙ file-cells c.in-Rle.lines.lines c.in-Rle.builder.runs found.0 built.are found.1 x y)))
@@ -119,5 +119,5 @@ returns-clause-needed c = λ e.
     let level = c.last_square-root.ensures.level found.0 valid there ∙ ap (λ (ls : List Line). max 1 (root_level ls)) are.squares
     ∙ sym (ap (level_of_root MAX_LEVEL) lines ∙ macrocell-level c.in-Macrocell.lines.lines begun.format) in
     of_root u (subst (λ (ls : List (List ℕ)). Says MAX_LEVEL ls u) (sym lines) (as_macrocell found.0 are))
-    (subst (SomeRoot (IsNew c.trimmed_pattern-in-Macrocell.new.squares) u) level
+    (subst (SomeRoot MAX_LEVEL (IsNew c.trimmed_pattern-in-Macrocell.new.squares) u) level
     (c.trimmed_pattern-in-Macrocell.ensures.needed e u (sym found.2) (λ x y. c.last_square-root.ensures.cells found.0 valid there x y)))
