@@ -107,23 +107,18 @@ fn push_rows<S: Squares>(
     ensures refusals { IfErr result (IsWantKind (S.stored squares.new) (S.most squares.new)) }
     ensures needed { result ≡ Err Full → (i : ℕ) × (i < 16) × SomePart (S.needs_node squares.new) (four (cells_at upper lower i)) }
 {
+    let start = 16 * block;
     let next = end / 64;
     if block < next {
         let cells = cells_of(upper, lower, 0);
-        push_square(squares, spans, cells, 16 * block, 16 * next)?;
+        push_square(squares, spans, cells, start, 16 * next)?;
         return Ok(next);
     }
     let mut square = 0;
     while square < 16 {
         let cells = cells_of(upper, lower, square);
         let after = next_square(upper, lower, square, cells);
-        push_square(
-            squares,
-            spans,
-            cells,
-            16 * block + square,
-            16 * block + after,
-        )?;
+        push_square(squares, spans, cells, start + square, start + after)?;
         square = after;
     }
     Ok(block + 1)
