@@ -1,5 +1,5 @@
 -- Facts about the cells of the plane as far as it is filled.
-use Rattle.std.proofs.Common.{◌≡◌, ℕ, zero, suc, ◌+◌, ◌-◌, ◌*◌, ◌/◌, ◌%◌, ◌^◌, ◌≤◌, ◌<◌, Bool, true, false, ◌&&◌, nat_lt, nat_le, List, [], ◌∷◌, ◌++◌, length, get_or, All, Option, Some, None, refl, sym, ◌∙◌, ap, subst, arith}
+use Rattle.std.proofs.Common.{◌≡◌, ℕ, zero, suc, ◌+◌, ◌-◌, ◌*◌, ◌/◌, ◌%◌, ◌^◌, ◌≤◌, ◌<◌, Bool, true, false, ◌&&◌, nat_lt, nat_le, List, [], ◌∷◌, ◌++◌, get_or, All, Some, refl, sym, ◌∙◌, ap, subst, arith}
 use Rattle.std.proofs.Common.{ℤ, pos, ◌+ℤ◌, ◌≤ℤ◌, ◌<ℤ◌, w64, to_z, of_z}
 use Rattle.std.specs.Prelude.{if◌then◌else◌, unsigned_abs}
 use Rattle.std.proofs.lemmas.List.Elements.{All-push, All-append}
@@ -16,75 +16,14 @@ use Rattle.life_strip.specs.declared.spans.Span.{Span}
 use Rattle.life_strip.specs.declared.spans.Strip.{Strip}
 use Rattle.life_strip.specs.declared.pile.Pile.{Pile}
 use Rattle.life_strip.specs.declared.plane.Plane.{Plane}
-use Rattle.life_strip.specs.Strip.{id_at, id_or, square_at, IsStrip}
+use Rattle.life_strip.specs.Strip.{id_at, square_or_blank, square_at, IsStrip}
 use Rattle.life_strip.specs.Picture.{state_in, picture, height, IsRow, IsSound}
 use Rattle.life_strip.specs.Pile.{IsPile, strips_of}
 use Rattle.life_strip.specs.Given.{half_plane, IsOnPlane}
 use Rattle.life_strip.specs.Plane.{on_plane, cell_so_far, IsFilled, IsFree, AddsRun}
-use Rattle.life_strip.proofs.SpanLemmas.{Keeps, content_or, known_or, id_at-before, id_at-after}
+use Rattle.life_strip.proofs.SpanLemmas.{Keeps, Some-is}
 use Rattle.life_strip.proofs.GivenLemmas.{all_rest}
 use Rattle.life_strip.proofs.PictureLemmas.{state_in-keeps, sound-keeps, all-keeps, positive_power}
-
--- a span that ends after the column: some span is found there
-pub found_before : (xs : List Span) (k : ℕ) (d : Span) (c : ℕ) → k < length xs → c < (get_or xs k d).end → (id : Id) × (id_at xs c ≡ Some id)
-found_before [] k d c lt h = absurd (omega (arith, lt))
-found_before (x ∷ xs) zero d c lt h = (x.square, id_at-before x xs c h)
-found_before (x ∷ xs) (suc k) d c lt h = by (found_before xs k d c (omega (arith, lt)) h) (nat_lt c x.end) refl
-  where
-    by : ((id : Id) × (id_at xs c ≡ Some id)) → (b : Bool) → nat_lt c x.end ≡ b → (id : Id) × (id_at (x ∷ xs) c ≡ Some id)
-    by r true e = (x.square, id_at-before x xs c (grind arith))
-    by r false e = (r.0, id_at-after x xs c (grind arith) ∙ r.1)
-
--- what is found stays so when spans follow
-pub found-append : (xs ys : List Span) (c : ℕ) (id : Id) → id_at xs c ≡ Some id → id_at (xs ++ ys) c ≡ Some id
-found-append [] ys c id e = absurd cc
-found-append (x ∷ xs) ys c id e = by (found-append xs ys c id) (nat_lt c x.end) refl
-  where
-    by : (id_at xs c ≡ Some id → id_at (xs ++ ys) c ≡ Some id) → (b : Bool) → nat_lt c x.end ≡ b → id_at (x ∷ xs ++ ys) c ≡ Some id
-    by more true f = ap (λ b. if b then Some x.square else id_at (xs ++ ys) c) f ∙ sym (ap (λ b. if b then Some x.square else id_at xs c) f) ∙ e
-    by more false f =
-        ap (λ b. if b then Some x.square else id_at (xs ++ ys) c) f
-        ∙ more (sym (ap (λ b. if b then Some x.square else id_at xs c) f) ∙ e)
-
--- where nothing is found the spans that follow are searched
-pub none-append : (xs ys : List Span) (c : ℕ) → id_at xs c ≡ None → id_at (xs ++ ys) c ≡ id_at ys c
-none-append [] ys c e = refl
-none-append (x ∷ xs) ys c e = by (none-append xs ys c) (nat_lt c x.end) refl
-  where
-    by : (id_at xs c ≡ None → id_at (xs ++ ys) c ≡ id_at ys c) → (b : Bool) → nat_lt c x.end ≡ b → id_at (x ∷ xs ++ ys) c ≡ id_at ys c
-    by more true f = absurd (let g : Some x.square ≡ None = sym (ap (λ b. if b then Some x.square else id_at xs c) f) ∙ e in cc)
-    by more false f =
-        ap (λ b. if b then Some x.square else id_at (xs ++ ys) c) f
-        ∙ more (sym (ap (λ b. if b then Some x.square else id_at xs c) f) ∙ e)
-
--- nothing is found beyond the end of each span
-pub none_beyond : (xs : List Span) (n c : ℕ) → All (λ s. s.end ≤ n) xs → n ≤ c → id_at xs c ≡ None
-none_beyond [] n c h le = refl
-none_beyond (x ∷ xs) n c h le =
-    let first : x.end ≤ n = h 0 x (omega arith) in
-    id_at-after x xs c (omega (arith, first, le)) ∙ none_beyond xs n c (all_rest (λ s. s.end ≤ n) x xs h) le
-
--- one span after the others
-pub span_pushed : (old filled : List Span) (column len : ℕ) (b id : Id) → All (λ s. s.end ≤ column) old → All (λ s. s.end ≤ column) filled
-    → ((c : ℕ) → c < column → id_at filled c ≡ Some (id_or b (id_at old c)))
-    → (c : ℕ) → id_or b (id_at (filled ++ record { end = column + len; square = id } ∷ []) c)
-    ≡ (if nat_le column c && nat_lt c (column + len) then id else id_or b (id_at old c))
-span_pushed old filled column len b id ends ends' filling c = by (nat_le column c) refl (nat_lt c (column + len)) refl
-  where
-    s : Span
-    s = record { end = column + len; square = id }
-
-    by : (p : Bool) → nat_le column c ≡ p → (q : Bool) → nat_lt c (column + len) ≡ q
-        → id_or b (id_at (filled ++ s ∷ []) c) ≡ (if nat_le column c && nat_lt c (column + len) then id else id_or b (id_at old c))
-    by true e true f =
-        ap (id_or b) (none-append filled (s ∷ []) c (none_beyond filled column c ends' (grind arith)) ∙ id_at-before s [] c (grind arith))
-        ∙ sym ((λ i. if e i && f i then id else id_or b (id_at old c)))
-    by true e false f =
-        ap (id_or b) (none-append filled (s ∷ []) c (none_beyond filled column c ends' (grind arith)) ∙ id_at-after s [] c (grind arith))
-        ∙ sym ((λ i. if e i && f i then id else id_or b (id_at old c)) ∙ ap (id_or b) (none_beyond old column c ends (grind arith)))
-    by false e q f =
-        ap (id_or b) (found-append filled (s ∷ []) c (id_or b (id_at old c)) (filling c (grind arith)))
-        ∙ sym (ap (λ z. if z && nat_lt c (column + len) then id else id_or b (id_at old c)) e)
 
 -- the column and the row of a run, which fit their types, by the numbers that the code adds
 pub column_of_run : (run : Run) (column : ℕ) → IsOnPlane run.x run.y run.len → 1 ≤ run.len → pos column ≡ to_z w64 (of_z w64 run.x) +ℤ pos half_plane
@@ -113,13 +52,10 @@ beside_run b x y i column row len e f same ends beside =
     record { row = omega (arith, ints, f, same); column = λ h k d lt. let end = ends k d lt in omega (arith, ints, e, end, beside) }
 
 -- a row with one span more has its state in the span's columns
-pub row_pushed : (knows : Id → Type 0) (content : Id → Tree) (old new : Strip) (column len state : ℕ) (b id : Id) → IsSound knows content old → old.level ≡ 0
-    → new.level ≡ 0
-    → IsStrip knows content 0 new.spans.items
-    → knows b → content b ≡ point 0 → content id ≡ point state
-    → ((c : ℕ) → id_or b (id_at new.spans.items c) ≡ (if nat_le column c && nat_lt c (column + len) then id else id_or b (id_at old.spans.items c)))
+pub row_pushed : (content : Id → Tree) (old new : Strip) (column len state : ℕ) (id : Id) → old.level ≡ 0 → new.level ≡ 0 → content id ≡ point state
+    → ((c : ℕ) → id_at new.spans.items c ≡ (if nat_le column c && nat_lt c (column + len) then Some id else id_at old.spans.items c))
     → (i j : ℕ) → state_in content new i j ≡ (if nat_le column i && nat_lt i (column + len) then state else state_in content old i j)
-row_pushed knows content old new column len state b id sound e f strip known is_blank is_state columns i j =
+row_pushed content old new column len state id e f is_state columns i j =
     at new f ∙ ap (λ t. state_at t 0 j) square ∙ by (nat_le column i && nat_lt i (column + len))
     ∙ ap (λ z. if nat_le column i && nat_lt i (column + len) then state else z) (sym (at old e))
   where
@@ -139,16 +75,13 @@ row_pushed knows content old new column len state b id sound e f strip known is_
         rest : i % 1 ≡ 0
         rest = ap (λ z. z % 1) p ∙ mod-mul-add i 1 0 (omega arith)
 
-    before : IsStrip knows content 0 old.spans.items
-    before = subst (λ n. IsStrip knows content n old.spans.items) e sound.squares
-
     square : square_at content 0 new.spans.items i ≡ (if nat_le column i && nat_lt i (column + len) then point state else square_at content 0 old.spans.items i)
-    square = sym (content_or knows content 0 new.spans.items strip b known is_blank i) ∙ ap content (columns i)
-        ∙ cases (nat_le column i && nat_lt i (column + len))
+    square = ap (square_or_blank content 0) (columns i) ∙ cases (nat_le column i && nat_lt i (column + len))
       where
-        cases : (t : Bool) → content (if t then id else id_or b (id_at old.spans.items i)) ≡ (if t then point state else square_at content 0 old.spans.items i)
+        cases : (t : Bool) → square_or_blank content 0 (if t then Some id else id_at old.spans.items i)
+            ≡ (if t then point state else square_at content 0 old.spans.items i)
         cases true = is_state
-        cases false = content_or knows content 0 old.spans.items before b known is_blank i
+        cases false = refl
 
     by : (t : Bool) → state_at (if t then point state else square_at content 0 old.spans.items i) 0 j
         ≡ (if t then state else state_at (square_at content 0 old.spans.items i) 0 j)
@@ -156,20 +89,15 @@ row_pushed knows content old new column len state b id sound e f strip known is_
     by false = refl
 
 -- each square of the row is known
-pub row_strip : (knows : Id → Type 0) (content : Id → Tree) (old new : List Span) (column len : ℕ) (b id : Id) → IsStrip knows content 0 old
-    → knows b → content b ≡ point 0 → knows id → depth (content id) ≡ 0
-    → ((c : ℕ) → id_or b (id_at new c) ≡ (if nat_le column c && nat_lt c (column + len) then id else id_or b (id_at old c)))
+pub row_strip : (knows : Id → Type 0) (content : Id → Tree) (old new : List Span) (column len : ℕ) (id : Id) → IsStrip knows content 0 old
+    → knows id → depth (content id) ≡ 0
+    → ((c : ℕ) → id_at new c ≡ (if nat_le column c && nat_lt c (column + len) then Some id else id_at old c))
     → IsStrip knows content 0 new
-row_strip knows content old new column len b id strip known is_blank known' deep columns c q at =
-    subst (λ z. knows z × (depth (content z) ≡ 0)) (sym (columns c) ∙ ap (id_or b) at) (by (nat_le column c && nat_lt c (column + len)))
+row_strip knows content old new column len id strip known deep columns c q at = by (nat_le column c && nat_lt c (column + len)) (sym (columns c) ∙ at)
   where
-    by : (t : Bool) → knows (if t then id else id_or b (id_at old c)) × (depth (content (if t then id else id_or b (id_at old c))) ≡ 0)
-    by true = (known', deep)
-    by false = (known_or knows content 0 old strip b known is_blank c, cases (id_at old c) refl)
-      where
-        cases : (o : Option Id) → id_at old c ≡ o → depth (content (id_or b (id_at old c))) ≡ 0
-        cases None e = ap (λ o. depth (content (id_or b o))) e ∙ ap depth is_blank
-        cases (Some r) e = ap (λ o. depth (content (id_or b o))) e ∙ (strip c r e).1
+    by : (t : Bool) → (if t then Some id else id_at old c) ≡ Some q → knows q × (depth (content q) ≡ 0)
+    by true e = let same : id ≡ q = Some-is e in (subst knows same known, ap (λ z. depth (content z)) (sym same) ∙ deep)
+    by false e = strip c q e
 
 -- the picture with a span more in the last row
 pub picture_pushed : (content : Id → Tree) (xs : List Strip) (old new : Strip) (column len state : ℕ) → old.level ≡ 0 → new.level ≡ 0
@@ -270,22 +198,6 @@ picture-keeps {knows} {knows'} {old} {new} keeps (x ∷ xs) h i j =
     let here = state_in-keeps keeps x (h 0 x (omega arith)) i j in
     let more = picture-keeps {knows = knows} {knows' = knows'} {old = old} {new = new} keeps xs (all_rest (IsSound knows old) x xs h) i (j - 2 ^ x.level) in
     λ y. if nat_lt j (2 ^ x.level) then here y else more y
-
--- the blank square in the columns without a span
-pub gap_filled : (xs : List Span) (column : ℕ) (b : Id) (c : ℕ) → c < column → id_at (xs ++ record { end = column; square = b } ∷ []) c
-    ≡ Some (id_or b (id_at xs c))
-gap_filled xs column b c lt = by (id_at xs c) refl
-  where
-    s : Span
-    s = record { end = column; square = b }
-
-    by : (o : Option Id) → id_at xs c ≡ o → id_at (xs ++ s ∷ []) c ≡ Some (id_or b (id_at xs c))
-    by None e = none-append xs (s ∷ []) c e ∙ id_at-before s [] c lt ∙ ap (λ o. Some (id_or b o)) (sym e)
-    by (Some id) e = found-append xs (s ∷ []) c id e ∙ ap (λ o. Some (id_or b o)) (sym e)
-
--- where no column lacks a square
-pub no_gap : (xs : List Span) (b : Id) (c : ℕ) → (id : Id) × (id_at xs c ≡ Some id) → id_at xs c ≡ Some (id_or b (id_at xs c))
-no_gap xs b c h = h.1 ∙ ap (λ o. Some (id_or b o)) (sym h.1)
 
 module _ {knows knows' : Id → Type 0} {old new : Id → Tree} (keeps : Keeps knows knows' old new) where
   -- the squares are there in a store that keeps its Ids

@@ -1,7 +1,7 @@
 -- Facts about spans and strips.
 use Rattle.life_base.specs.declared.cell.TheConstants.{MAX_LEVEL}
-use Rattle.std.proofs.Common.{◌≡◌, ℕ, suc, ◌+◌, ◌-◌, ◌*◌, ◌^◌, ◌≤◌, ◌<◌, ◌⊎◌, inl, inr, Bool, true, false, nat_lt, List, [], ◌∷◌, ◌++◌, Option, Some, None, refl, sym, ◌∙◌, ap, subst, arith, append-nil}
-use Rattle.std.specs.Prelude.{if◌then◌else◌, MatchOption}
+use Rattle.std.proofs.Common.{◌≡◌, ℕ, suc, ◌+◌, ◌-◌, ◌*◌, ◌/◌, ◌^◌, ◌≤◌, ◌<◌, ◌⊎◌, inl, inr, Bool, true, false, ◌&&◌, nat_lt, nat_le, List, [], ◌∷◌, ◌++◌, Option, Some, None, refl, sym, ◌∙◌, ap, subst, arith}
+use Rattle.std.specs.Prelude.{if◌then◌else◌, MatchOption, IfSome}
 use Rattle.std.proofs.lemmas.List.Elements.{All-push}
 use Rattle.std.proofs.Math.Pow.{pow_mono}
 use Rattle.life_quad.specs.declared.id.Id.{Id}
@@ -10,28 +10,81 @@ use Rattle.life_base.specs.Tree.{Tree, quad, depth, blank}
 use Rattle.life_base.proofs.Squares.{depth-blank}
 use Rattle.life_strip.specs.declared.spans.Span.{Span}
 use Rattle.life_strip.specs.declared.spans.Stretch.{Stretch}
-use Rattle.life_strip.specs.Strip.{id_at, square_or_blank, square_at, id_or, quad_at, IsStrip, IsPast, IsFound, IsBefore, IsNearer, IsPaired, AreWithin}
+use Rattle.life_strip.specs.Strip.{id_at, square_or_blank, square_at, id_or, quad_at, IsStrip, IsPast, IsStart, IsFound, IsBefore, IsNearer, AreBefore, AreWithin, HaveColumns, FilledTo}
+use Rattle.life_strip.specs.Band.{IsExtended}
+use Rattle.life_strip.proofs.GivenLemmas.{all_rest}
 
 -- a store knows what it knew, with the same square
 abbrev pub Keeps : (Id → Type 0) → (Id → Type 0) → (Id → Tree) → (Id → Tree) → Type 0
 Keeps knows knows' old now = (q : Id) → knows q → knows' q × (now q ≡ old q)
 
--- the columns before this one have the squares of the two strips, and the others nothing yet
-pub record PairedTo (knows : Id → Type 0) (old now : Id → Tree) (level : ℕ) (upper lower spans : List Span) (column : ℕ) : Type 0 where
-  pub done : (c : ℕ) → c < column → (id : Id) × ((more : List Span) → id_at (spans ++ more) c ≡ Some id) × knows id × (now id ≡ quad_at old level upper lower c)
-  pub rest : (c : ℕ) → column ≤ c → (more : List Span) → id_at (spans ++ more) c ≡ id_at more c
-  pub within : AreWithin (suc level) spans
-
 pub double : (k : ℕ) → 2 ^ suc k ≡ 2 * 2 ^ k
 double k = grind arith
 
--- a span that ends after the column is the one found
-pub id_at-before : (s : Span) (rest : List Span) (c : ℕ) → c < s.end → id_at (s ∷ rest) c ≡ Some s.square
-id_at-before s rest c h = grind arith
+-- the span that has the column is the one found
+pub id_at-in : (s : Span) (rest : List Span) (c : ℕ) → s.start ≤ c → c < s.end → id_at (s ∷ rest) c ≡ Some s.square
+id_at-in s rest c from h = grind arith
+
+-- where a span comes later nothing is found
+pub id_at-none : (s : Span) (rest : List Span) (c : ℕ) → c < s.start → c < s.end → id_at (s ∷ rest) c ≡ None
+id_at-none s rest c from h = grind arith
 
 -- a span that ends before the column is passed
 pub id_at-after : (s : Span) (rest : List Span) (c : ℕ) → s.end ≤ c → id_at (s ∷ rest) c ≡ id_at rest c
 id_at-after s rest c h = grind arith
+
+-- and one that ends after it is not
+pub id_at-first : (s : Span) (rest more : List Span) (c : ℕ) → c < s.end → id_at (s ∷ rest) c ≡ id_at (s ∷ more) c
+id_at-first s rest more c h = grind arith
+
+-- nothing is found beyond the end of each span
+pub none_beyond : (xs : List Span) (n c : ℕ) → AreBefore n xs → n ≤ c → id_at xs c ≡ None
+none_beyond [] n c h le = refl
+none_beyond (x ∷ xs) n c h le =
+    let first : x.end ≤ n = (h 0 x (omega arith)).1 in
+    id_at-after x xs c (omega (arith, first, le)) ∙ none_beyond xs n c (all_rest (λ s. (s.start < s.end) × (s.end ≤ n)) x xs h) le
+
+-- a span east of the others
+pub id_at-push : (xs : List Span) (s : Span) → AreBefore s.start xs → (c : ℕ)
+    → id_at (xs ++ s ∷ []) c ≡ (if nat_le s.start c && nat_lt c s.end then Some s.square else id_at xs c)
+id_at-push xs s before c = by (nat_le s.start c) refl (nat_lt c s.end) refl
+  where
+    new : Bool → Bool → Option Id
+    new a b = if a && b then Some s.square else id_at xs c
+
+    -- a span that begins later is not found
+    earlier : (ys : List Span) → AreBefore s.start ys → c < s.start → id_at (ys ++ s ∷ []) c ≡ id_at ys c
+    earlier [] h lt = grind arith
+    earlier (y ∷ ys) h lt = cases (earlier ys (all_rest (λ t. (t.start < t.end) × (t.end ≤ s.start)) y ys h) lt) (nat_lt c y.end)
+      where
+        cases : id_at (ys ++ s ∷ []) c ≡ id_at ys c → (b : Bool)
+            → (if b then (if nat_le y.start c then Some y.square else None) else id_at (ys ++ s ∷ []) c)
+            ≡ (if b then (if nat_le y.start c then Some y.square else None) else id_at ys c)
+        cases e true = refl
+        cases e false = e
+
+    -- the others end before one that has begun
+    later : (ys : List Span) → AreBefore s.start ys → s.start ≤ c → id_at (ys ++ s ∷ []) c ≡ id_at (s ∷ []) c
+    later [] h le = refl
+    later (y ∷ ys) h le =
+        let end : y.end ≤ s.start = (h 0 y (omega arith)).1 in
+        id_at-after y (ys ++ s ∷ []) c (omega (arith, end, le)) ∙ later ys (all_rest (λ t. (t.start < t.end) × (t.end ≤ s.start)) y ys h) le
+
+    by : (a : Bool) → nat_le s.start c ≡ a → (b : Bool) → nat_lt c s.end ≡ b → id_at (xs ++ s ∷ []) c ≡ new (nat_le s.start c) (nat_lt c s.end)
+    by true e true f = later xs before (grind arith) ∙ id_at-in s [] c (grind arith) (grind arith) ∙ sym (λ i. new (e i) (f i))
+    by true e false f =
+        later xs before (grind arith) ∙ id_at-after s [] c (grind arith) ∙ sym (none_beyond xs s.start c before (grind arith)) ∙ sym (λ i. new (e i) (f i))
+    by false e b f = earlier xs before (grind arith) ∙ sym (ap (λ z. new z (nat_lt c s.end)) e)
+
+-- what holds of a stretch of columns ends no later
+pub before_more : (n m : ℕ) (xs : List Span) → AreBefore n xs → n ≤ m → AreBefore m xs
+before_more n m xs h le k d lt = let p = h k d lt in (p.0, omega (arith, p.1, le))
+
+pub before_columns : (n : ℕ) (xs : List Span) → AreBefore n xs → HaveColumns xs
+before_columns n xs h k d lt = (h k d lt).0
+
+pub before_push : (n m : ℕ) (xs : List Span) (s : Span) → AreBefore n xs → n ≤ m → s.start < s.end → s.end ≤ m → AreBefore m (xs ++ s ∷ [])
+before_push n m xs s h le some end = All-push (λ t. (t.start < t.end) × (t.end ≤ m)) xs s (before_more n m xs h le) (some, end)
 
 -- a later column
 pub past_later : (spans : List Span) (index a b : ℕ) → IsPast spans index a → a ≤ b → IsPast spans index b
@@ -43,14 +96,6 @@ Some-is {X} {a} e = ap (λ o. only a o) e
     only : X → Option X → X
     only z None = z
     only z (Some x) = x
-
--- the spans and one more
-pub append_one : (spans more : List Span) (s : Span) (c : ℕ) → id_at ((spans ++ s ∷ []) ++ more) c ≡ id_at (spans ++ s ∷ more) c
-append_one [] more s c = refl
-append_one (t ∷ rest) more s c = ap (λ o. if nat_lt c t.end then Some t.square else o) (append_one rest more s c)
-
-pub within_one : (level : ℕ) (spans : List Span) (s : Span) → AreWithin level spans → s.end ≤ 2 ^ (MAX_LEVEL - level) → AreWithin level (spans ++ s ∷ [])
-within_one level spans s h le = All-push (λ t. t.end ≤ 2 ^ (MAX_LEVEL - level)) spans s h le
 
 module _ {knows knows' : Id → Type 0} {old now : Id → Tree} (keeps : Keeps knows knows' old now) (level : ℕ) where
   -- a strip stays one
@@ -123,72 +168,84 @@ module _ (knows : Id → Type 0) (content : Id → Tree) (level : ℕ) (spans : 
         → square_at content level spans x ≡ square_at content level spans y
     found-same c x y f h xl xu yl yu = sym (content_or x) ∙ ap content (h.square x xl xu ∙ sym (h.square y yl yu)) ∙ content_or y
 
--- the columns up to the next are done
-pub PairedTo-push : {knows knows' : Id → Type 0} {old now now' : Id → Tree} (level : ℕ) (upper lower spans : List Span) (column next : ℕ) (r : Id)
-    → PairedTo knows old now level upper lower spans column → Keeps knows knows' now now'
-    → knows' r → now' r ≡ quad_at old level upper lower column
-    → column < next → next ≤ 2 ^ (MAX_LEVEL - suc level)
-    → ((c : ℕ) → column < c → c < next → quad_at old level upper lower c ≡ quad_at old level upper lower column)
-    → PairedTo knows' old now' level upper lower (spans ++ record { end = next; square = r } ∷ []) next
-PairedTo-push {knows} {knows'} {old} {now} {now'} level upper lower spans column next r p keeps kr er lt within same =
-    record { done = done; rest = rest; within = within_one (suc level) spans s p.within within }
+-- blank squares have no span
+pub filled-skip : (knows : Id → Type 0) (now : Id → Tree) (level : ℕ) (want : ℕ → Tree) (spans : List Span) (column next : ℕ)
+    → FilledTo knows now level want spans column → column ≤ next → ((c : ℕ) → column ≤ c → c < next → want c ≡ blank level)
+    → FilledTo knows now level want spans next
+filled-skip knows now level want spans column next p le none = record { before = before_more column next spans p.before le; strip = p.strip; done = done }
   where
-    s : Span
-    s = record { end = next; square = r }
-
-    done : (c : ℕ) → c < next → (id : Id) × ((more : List Span) → id_at ((spans ++ s ∷ []) ++ more) c ≡ Some id) × knows' id
-        × (now' id ≡ quad_at old level upper lower c)
+    done : (c : ℕ) → c < next → square_at now level spans c ≡ want c
     done c h = by (nat_lt c column) refl
       where
-        by : (b : Bool) → nat_lt c column ≡ b → (id : Id) × ((more : List Span) → id_at ((spans ++ s ∷ []) ++ more) c ≡ Some id) × knows' id
-            × (now' id ≡ quad_at old level upper lower c)
-        by true e =
-            let d = p.done c (grind arith) in
-            (d.0, (λ more. append_one spans more s c ∙ d.1 (s ∷ more)), (keeps d.0 d.2).0, (keeps d.0 d.2).1 ∙ d.3)
+        by : (b : Bool) → nat_lt c column ≡ b → square_at now level spans c ≡ want c
+        by true e = p.done c (grind arith)
         by false e =
             let above : column ≤ c = grind arith in
-            (r, (λ more. append_one spans more s c ∙ p.rest c above (s ∷ more) ∙ id_at-before s more c h), kr, er ∙ sym (at (nat_lt column c) refl above))
-          where
-            at : (b : Bool) → nat_lt column c ≡ b → column ≤ c → quad_at old level upper lower c ≡ quad_at old level upper lower column
-            at true f above = same c (grind arith) h
-            at false f above = let e : c ≡ column = grind arith in ap (quad_at old level upper lower) e
+            ap (square_or_blank now level) (none_beyond spans column c p.before above) ∙ sym (none c above h)
 
-    rest : (c : ℕ) → next ≤ c → (more : List Span) → id_at ((spans ++ s ∷ []) ++ more) c ≡ id_at more c
-    rest c h more = append_one spans more s c ∙ p.rest c (omega arith) (s ∷ more) ∙ id_at-after s more c h
+-- the square that was added is the one that is wanted
+pub filled-more : {knows knows' : Id → Type 0} {now now' : Id → Tree} → Keeps knows knows' now now'
+    → (level : ℕ) (want : ℕ → Tree) (spans after : List Span) (column end : ℕ) (id : Id)
+    → FilledTo knows now level want spans column → IsExtended spans after column end id → knows' id → depth (now' id) ≡ level
+    → ((c : ℕ) → column ≤ c → c < end → want c ≡ now' id)
+    → FilledTo knows' now' level want after end
+filled-more {knows} {knows'} {now} {now'} keeps level want spans after column end id p more known deep same =
+    record { before = more.before; strip = strip; done = done }
+  where
+    kept : IsStrip knows' now' level spans
+    kept = strip-keeps {knows = knows} {knows' = knows'} {old = now} {now = now'} keeps level spans p.strip
 
-module _ (knows : Id → Type 0) (old now : Id → Tree) (level : ℕ) (upper lower spans : List Span) (column : ℕ)
-    (p : PairedTo knows old now level upper lower spans column) where
-  -- nothing is left of the two strips
-  pub PairedTo-paired : ((c : ℕ) → 2 * column ≤ c → id_at upper c ≡ None) → ((c : ℕ) → 2 * column ≤ c → id_at lower c ≡ None)
-      → IsPaired old now level upper lower spans
-  PairedTo-paired u l c = by (nat_lt c column) refl
-    where
-      by : (b : Bool) → nat_lt c column ≡ b → square_at now (suc level) spans c ≡ quad_at old level upper lower c
-      by true e =
-          let d = p.done c (grind arith) in
-          ap (λ z. square_or_blank now (suc level) (id_at z c)) (sym (append-nil spans)) ∙ ap (square_or_blank now (suc level)) (d.1 []) ∙ d.3
-      by false e =
-          let above : column ≤ c = grind arith in
-          let a = u (2 * c) (omega (arith, above)) in
-          let b = u (2 * c + 1) (omega (arith, above)) in
-          let d = l (2 * c) (omega (arith, above)) in
-          let f = l (2 * c + 1) (omega (arith, above)) in
-          ap (λ z. square_or_blank now (suc level) (id_at z c)) (sym (append-nil spans)) ∙ ap (square_or_blank now (suc level)) (p.rest c above [])
-          ∙ (λ i. quad (square_or_blank old level (sym a i)) (square_or_blank old level (sym b i)) (square_or_blank old level (sym d i))
-          (square_or_blank old level (sym f i)))
+    strip : IsStrip knows' now' level after
+    strip c q at = by (nat_lt c column) refl (nat_lt c end) refl
+      where
+        by : (a : Bool) → nat_lt c column ≡ a → (b : Bool) → nat_lt c end ≡ b → knows' q × (depth (now' q) ≡ level)
+        by true e b f = kept c q (sym (more.earlier c (grind arith)) ∙ at)
+        by false e true f =
+            let is : id ≡ q = Some-is (sym (more.more c (grind arith) (grind arith)) ∙ at) in
+            (subst knows' is known, ap (λ z. depth (now' z)) (sym is) ∙ deep)
+        by false e false f =
+            let none : Some q ≡ None = sym at ∙ none_beyond after end c more.before (grind arith) in
+            absurd cc
 
-  pub PairedTo-strip : (k : Id → Type 0) → IsStrip k old level upper → IsStrip knows now (level + 1) spans
-  PairedTo-strip k u c id at = by (nat_lt c column) refl
-    where
-      by : (b : Bool) → nat_lt c column ≡ b → knows id × (depth (now id) ≡ level + 1)
-      by true e =
-          let d = p.done c (grind arith) in
-          let same : d.0 ≡ id = Some-is (sym (d.1 []) ∙ ap (λ z. id_at z c) (append-nil spans) ∙ at) in
-          let deep : depth (now d.0) ≡ suc level = ap depth d.3 ∙ ap suc (depth-square_at k old level upper u (2 * c)) in
-          (subst knows same d.2, ap (λ z. depth (now z)) (sym same) ∙ deep ∙ (omega arith))
-      by false e =
-          let none : Some id ≡ None = sym at ∙ ap (λ z. id_at z c) (sym (append-nil spans)) ∙ p.rest c (grind arith) [] in
-          absurd cc
+    done : (c : ℕ) → c < end → square_at now' level after c ≡ want c
+    done c h = by (nat_lt c column) refl
+      where
+        by : (b : Bool) → nat_lt c column ≡ b → square_at now' level after c ≡ want c
+        by true e =
+            let lt : c < column = grind arith in
+            ap (square_or_blank now' level) (more.earlier c lt)
+            ∙ square-keeps {knows = knows} {knows' = knows'} {old = now} {now = now'} keeps level spans p.strip c ∙ p.done c lt
+        by false e =
+            let above : column ≤ c = grind arith in
+            ap (square_or_blank now' level) (more.more c above h) ∙ sym (same c above h)
+
+module _ (column end : ℕ) (square : Id) (later : column < end) where
+  pub extended-push : (spans : List Span) → AreBefore column spans
+      → IsExtended spans (spans ++ record { start = column; end = end; square = square } ∷ []) column end square
+  extended-push spans p =
+      let s : Span = record { start = column; end = end; square = square } in
+      record {
+        before = before_push column end spans s p (omega (arith, later)) later (omega arith);
+        earlier = λ c h. id_at-push spans s p c ∙ (let e : nat_le column c ≡ false = grind arith in ap (λ b. if b && nat_lt c end then Some square else id_at spans c) e);
+        more = λ c le h. id_at-push spans s p c
+            ∙ (let e : nat_le column c ≡ true = grind arith in
+            let f : nat_lt c end ≡ true = grind arith in λ i. if e i && f i then Some square else id_at spans c);
+      }
+
+-- what goes on from a column is the same in that column too
+pub from-first : (want : ℕ → Tree) (t : Tree) (start end : ℕ) → want start ≡ t → ((c : ℕ) → start < c → c < end → want c ≡ want start)
+    → (c : ℕ) → start ≤ c → c < end → want c ≡ t
+from-first want t start end first on c le lt = by (nat_lt start c) refl
+  where
+    by : (b : Bool) → nat_lt start c ≡ b → want c ≡ t
+    by true e = on c (grind arith) lt ∙ first
+    by false e = let same : c ≡ start = grind arith in ap want same ∙ first
+
+-- beyond the column only blank squares are wanted
+pub filled-all : (knows : Id → Type 0) (now : Id → Tree) (level : ℕ) (want : ℕ → Tree) (spans : List Span) (column : ℕ)
+    → FilledTo knows now level want spans column → ((c : ℕ) → column ≤ c → want c ≡ blank level) → (c : ℕ) → square_at now level spans c ≡ want c
+filled-all knows now level want spans column p over c =
+    let all = filled-skip knows now level want spans column (column + suc c) p (omega arith) (λ d le lt. over d le) in all.done c (omega arith)
 
 -- an earlier column comes before the end too
 pub before_earlier : (a b : ℕ) (end : Option ℕ) → a ≤ b → IsBefore b end → IsBefore a end
@@ -226,35 +283,103 @@ half-side level low =
     let more : MAX_LEVEL - level ≡ suc (MAX_LEVEL - suc level) = omega (arith, low) in
     ap (λ n. 2 ^ n) more ∙ double (MAX_LEVEL - suc level)
 
--- no span goes on
-pub none-left : (spans : List Span) (column : ℕ) (b : Id) (f : Stretch) → IsFound spans column b f → f.end ≡ None → (c : ℕ) → column ≤ c → id_at spans c ≡ None
-none-left spans column b f h e =
-    subst (λ o. MatchOption o ((c : ℕ) → column ≤ c → id_at spans c ≡ None) (λ end. (level : ℕ) → AreWithin level spans → end ≤ 2 ^ (MAX_LEVEL - level))) e
-    h.last
+-- no span is left
+pub none-left : (spans : List Span) (column : ℕ) (b : Id) (f : Stretch) → IsFound spans column b f → f.start ≡ None → (c : ℕ) → column ≤ c → id_at spans c ≡ None
+none-left spans column b f h e = subst (λ o. MatchOption o ((c : ℕ) → column ≤ c → id_at spans c ≡ None) (IsStart spans column)) e h.start
 
--- the span found ends within the plane, if there is one
-pub found-within : (level : ℕ) (spans : List Span) → AreWithin level spans → (column : ℕ) (b : Id) (f : Stretch) (end : ℕ) → IsFound spans column b f
-    → f.end ≡ Some end → end ≤ 2 ^ (MAX_LEVEL - level)
-found-within level spans within column b f end h e =
-    subst (λ o. MatchOption o ((c : ℕ) → column ≤ c → id_at spans c ≡ None) (λ n. (l : ℕ) → AreWithin l spans → n ≤ 2 ^ (MAX_LEVEL - l))) e h.last level within
+-- nor does one end
+pub end-none : (spans : List Span) (column : ℕ) (b : Id) (f : Stretch) → IsFound spans column b f → f.end ≡ None → f.start ≡ None
+end-none spans column b f h e = subst (λ o. MatchOption o (f.start ≡ None) (λ end. (n : ℕ) → AreBefore n spans → end ≤ n)) e h.last
 
--- what comes before both ends comes before the nearer one
-pub before_nearer : (column end : ℕ) (north south : Option ℕ) → IsNearer end north south → IsBefore column north → IsBefore column south → column < end
-before_nearer column end north south near hn hs = by near.one
+-- what comes before the nearer end comes before both
+pub nearer-both : (o north south : Option ℕ) (column : ℕ) → MatchOption o ((north ≡ None) × (south ≡ None)) (λ e. IsNearer e north south) → IsBefore column o
+    → IsBefore column north × IsBefore column south
+nearer-both None north south column h e = (subst (IsBefore column) (sym h.0) tt, subst (IsBefore column) (sym h.1) tt)
+nearer-both (Some x) north south column h e = (h.upper column e, h.lower column e)
+
+-- the nearer of two is within what each is within
+pub nearer-within : (o north south : Option ℕ) (most : ℕ) → MatchOption o ((north ≡ None) × (south ≡ None)) (λ e. IsNearer e north south)
+    → IfSome north (λ e. e ≤ most) → IfSome south (λ e. e ≤ most) → IfSome o (λ e. e ≤ most)
+nearer-within None north south most h n s = tt
+nearer-within (Some x) north south most h n s = by h.one
   where
-    by : (north ≡ Some end) ⊎ (south ≡ Some end) → column < end
-    by (inl e) = subst (IsBefore column) e hn
-    by (inr e) = subst (IsBefore column) e hs
+    by : (north ≡ Some x) ⊎ (south ≡ Some x) → x ≤ most
+    by (inl e) = subst (λ o. IfSome o (λ z. z ≤ most)) e n
+    by (inr e) = subst (λ o. IfSome o (λ z. z ≤ most)) e s
 
--- a column of squares twice as wide that begins before the nearer end of two strips ends within the plane
-pub next-within : (level : ℕ) (upper lower : List Span) → level < MAX_LEVEL → AreWithin level upper → AreWithin level lower
-    → (column : ℕ) (b : Id) (n s : Stretch) (end : ℕ) → IsFound upper column b n → IsFound lower column b s → IsNearer end n.end s.end
-    → (next : ℕ) → 2 * next ≤ end + 1 → next ≤ 2 ^ (MAX_LEVEL - suc level)
-next-within level upper lower low u l column b n s end hn hs near next most = by near.one
+-- what comes before both comes before the nearer one
+pub nearer-beyond : (o north south : Option ℕ) (column : ℕ) → MatchOption o ((north ≡ None) × (south ≡ None)) (λ e. IsNearer e north south)
+    → IsBefore column north → IsBefore column south → IsBefore column o
+nearer-beyond None north south column h n s = tt
+nearer-beyond (Some x) north south column h n s = by h.one
   where
-    side : 2 ^ (MAX_LEVEL - level) ≡ 2 * 2 ^ (MAX_LEVEL - suc level)
-    side = half-side level low
+    by : (north ≡ Some x) ⊎ (south ≡ Some x) → column < x
+    by (inl e) = subst (IsBefore column) e n
+    by (inr e) = subst (IsBefore column) e s
 
-    by : (n.end ≡ Some end) ⊎ (s.end ≡ Some end) → next ≤ 2 ^ (MAX_LEVEL - suc level)
-    by (inl e) = let h = found-within level upper u column b n end hn e in omega (arith, h, side, most)
-    by (inr e) = let h = found-within level lower l column b s end hs e in omega (arith, h, side, most)
+-- what is found ends within the plane
+pub found-within : (side : ℕ) (spans : List Span) → AreBefore side spans → (column : ℕ) (b : Id) (f : Stretch) → IsFound spans column b f
+    → IfSome f.end (λ e. e ≤ side)
+found-within side spans within column b f h = by f.end h.last
+  where
+    by : (o : Option ℕ) → MatchOption o (f.start ≡ None) (λ end. (n : ℕ) → AreBefore n spans → end ≤ n) → IfSome o (λ e. e ≤ side)
+    by None l = tt
+    by (Some e) l = l side within
+
+-- the nearer of the columns where two strips have a span: before it both are blank
+pub record IsFirst (upper lower : List Span) (column first side : ℕ) : Type 0 where
+  pub from : column ≤ first
+  pub within : first < side
+  pub north : (c : ℕ) → column ≤ c → c < first → id_at upper c ≡ None
+  pub south : (c : ℕ) → column ≤ c → c < first → id_at lower c ≡ None
+
+module _ (side : ℕ) (upper lower : List Span) (u : AreBefore side upper) (l : AreBefore side lower) (column : ℕ) (b : Id) (n s : Stretch)
+    (hn : IsFound upper column b n) (hs : IsFound lower column b s) where
+  starts : (spans : List Span) (f : Stretch) → IsFound spans column b f → (first c : ℕ) → ((x : ℕ) → x < first → IsBefore x f.start) → column ≤ c → c < first
+      → id_at spans c ≡ None
+  starts spans f h first c before le lt = by f.start h.start (before c lt)
+    where
+      by : (o : Option ℕ) → MatchOption o ((x : ℕ) → column ≤ x → id_at spans x ≡ None) (IsStart spans column) → IsBefore c o → id_at spans c ≡ None
+      by None h e = h c le
+      by (Some x) h e = h.none c le e
+
+  pub first-column : (first : ℕ) → IsNearer first n.start s.start → IsFirst upper lower column first side
+  first-column first near = record {
+    from = (by near.one).0;
+    within = (by near.one).1;
+    north = λ c. starts upper n hn first c near.upper;
+    south = λ c. starts lower s hs first c near.lower;
+  }
+    where
+      at : (spans : List Span) (f : Stretch) → AreBefore side spans → IsFound spans column b f → f.start ≡ Some first → (column ≤ first) × (first < side)
+      at spans f within h e =
+          let p = subst (λ o. MatchOption o ((x : ℕ) → column ≤ x → id_at spans x ≡ None) (IsStart spans column)) e h.start in
+          (p.from, p.within side within)
+
+      by : (n.start ≡ Some first) ⊎ (s.start ≡ Some first) → (column ≤ first) × (first < side)
+      by (inl e) = at upper n u hn e
+      by (inr e) = at lower s l hs e
+
+-- a square of the next level begins in the plane, where one of two strips has the first span
+pub first-place : (level : ℕ) (upper lower : List Span) → level < MAX_LEVEL → AreWithin level upper → AreWithin level lower → (column : ℕ) (b : Id) (n s : Stretch)
+    → IsFound upper (2 * column) b n → IsFound lower (2 * column) b s → (first : ℕ) → IsNearer first n.start s.start
+    → (column ≤ first / 2) × (first / 2 < 2 ^ (MAX_LEVEL - suc level))
+first-place level upper lower low u l column b n s hn hs first near =
+    let side = half-side level low in
+    let p = first-column (2 ^ (MAX_LEVEL - level)) upper lower u l (2 * column) b n s hn hs first near in
+    let from = p.from in
+    let within = p.within in
+    (omega (arith, from), omega (arith, side, within))
+
+-- two columns of two strips without a span are blank
+pub quad-blank : (content : Id → Tree) (level : ℕ) (upper lower : List Span) (from c : ℕ) → ((x : ℕ) → from ≤ x → x ≤ 2 * c + 1 → id_at upper x ≡ None)
+    → ((x : ℕ) → from ≤ x → x ≤ 2 * c + 1 → id_at lower x ≡ None) → from ≤ 2 * c → quad_at content level upper lower c ≡ blank (suc level)
+quad-blank content level upper lower from c north south le =
+    let at = square_or_blank content level in
+    let west : 2 * c ≤ 2 * c + 1 = omega arith in
+    let east : from ≤ 2 * c + 1 = omega (arith, le) in
+    let nw = north (2 * c) le west in
+    let ne = north (2 * c + 1) east (omega arith) in
+    let sw = south (2 * c) le west in
+    let se = south (2 * c + 1) east (omega arith) in
+    λ i. quad (at (nw i)) (at (ne i)) (at (sw i)) (at (se i))

@@ -9,9 +9,9 @@ use Rattle.life_quad.specs.Store.{two}
 use Rattle.life_base.specs.Tree.{Tree, point, quad, depth, state_at}
 use Rattle.life_strip.specs.declared.spans.Span.{Span}
 use Rattle.life_strip.specs.declared.words.Words.{Words}
-use Rattle.life_strip.specs.Strip.{id_at, square_or_blank, square_at, quad_at, IsStrip, IsPast}
+use Rattle.life_strip.specs.Strip.{id_at, square_or_blank, square_at, quad_at, IsStrip, HaveColumns, IsPast}
 use Rattle.life_strip.specs.Band.{cell_in, binary, IsWord, nibble_of, west_at, east_at}
-use Rattle.life_strip.proofs.SpanLemmas.{double, depth-square_at, id_at-before, id_at-after}
+use Rattle.life_strip.proofs.SpanLemmas.{double, depth-square_at, id_at-in, id_at-none, id_at-after}
 
 -- the digits of two stretches, one behind the other
 pub binary-add : (f : ℕ → ℕ) (s m n : ℕ) → binary f s (m + n) ≡ binary f s m * 2 ^ n + binary f (s + m) n
@@ -48,31 +48,31 @@ stretch A B b M Q R d wide same rest =
     let first : A * R ≡ A * (M * Q) = ap (λ z. A * z) wide in
     omega (arith, whole, parts, first)
 
--- a word as far as it is read: it has the bits of the columns before this one, and `rest` has those of the others
-pub record IsBegun (f : ℕ → ℕ) (start column cells rest : ℕ) : Type 0 where
+-- a word as far as it is read: it has the bits of the columns before this one
+pub record IsBegun (f : ℕ → ℕ) (start column cells : ℕ) : Type 0 where
   pub from : start ≤ column
   pub within : column < start + 64
-  pub digits : cells ≡ binary f start (column - start) * (rest + 1)
-  pub others : rest + 1 ≡ 2 ^ (64 - (column - start))
+  pub digits : cells ≡ binary f start (column - start) * 2 ^ (64 - (column - start))
   pub states : (i : ℕ) → i < column - start → f (start + i) ≤ 1
 
-module _ (f : ℕ → ℕ) (start column cells rest : ℕ) (p : IsBegun f start column cells rest) where
+module _ (f : ℕ → ℕ) (start column cells : ℕ) (p : IsBegun f start column cells) where
   -- the columns from this one on to another one have one state
   module _ (end b : ℕ) (later : column ≤ end) (last : end ≤ start + 64) (small : b ≤ 1) (same : (c : ℕ) → column ≤ c → c < end → f c ≡ b) where
-    begun-digits : (after d : ℕ) → after + 1 ≡ 2 ^ (64 - (end - start)) → d + (after + 1) ≡ rest + 1
-        → cells + b * d ≡ binary f start (end - start) * (after + 1)
-    begun-digits after d others less =
+    begun-digits : (d : ℕ) → d + 2 ^ (64 - (end - start)) ≡ 2 ^ (64 - (column - start))
+        → cells + b * d ≡ binary f start (end - start) * 2 ^ (64 - (end - start))
+    begun-digits d less =
         let n = column - start in
         let m = end - column in
+        let q = 64 - (end - start) in
         let from = p.from in
         let sum : end - start ≡ n + m = omega (arith, from, later) in
-        let places : 64 - n ≡ m + (64 - (end - start)) = omega (arith, from, later, last) in
-        let wide : rest + 1 ≡ 2 ^ m * (after + 1) = p.others ∙ ap (λ k. 2 ^ k) places ∙ pow-add 2 m (64 - (end - start)) ∙ ap (λ k. 2 ^ m * k) (sym others) in
+        let places : 64 - n ≡ m + q = omega (arith, from, later, last) in
+        let wide : 2 ^ (64 - n) ≡ 2 ^ m * 2 ^ q = ap (λ k. 2 ^ k) places ∙ pow-add 2 m q in
         let equal : binary f (start + n) m + b ≡ b * 2 ^ m = binary-same f (start + n) m b
         (λ i lt. same (start + n + i) (omega (arith, from)) (omega (arith, from, lt))) in
         ap (λ z. z + b * d) p.digits
-        ∙ stretch (binary f start n) (binary f (start + n) m) b (2 ^ m) (after + 1) (rest + 1) d wide equal less
-        ∙ ap (λ z. z * (after + 1)) (sym (binary-add f start n m) ∙ ap (binary f start) (sym sum))
+        ∙ stretch (binary f start n) (binary f (start + n) m) b (2 ^ m) (2 ^ q) (2 ^ (64 - n)) d wide equal less
+        ∙ ap (λ z. z * 2 ^ q) (sym (binary-add f start n m) ∙ ap (binary f start) (sym sum))
 
     begun-states : (i : ℕ) → i < end - start → f (start + i) ≤ 1
     begun-states i lt = by (nat_lt i (column - start)) refl
@@ -84,27 +84,33 @@ module _ (f : ℕ → ℕ) (start column cells rest : ℕ) (p : IsBegun f start 
             let k : column - start ≤ i = grind arith in
             omega (arith, small, same (start + i) (omega (arith, from, k)) (omega (arith, lt)))
 
-    pub begun-step : (after : ℕ) → end < start + 64 → after + 1 ≡ 2 ^ (64 - (end - start)) → after ≤ rest
-        → IsBegun f start end (cells + b * (rest - after)) after
-    begun-step after within others less =
-        let from = p.from in
-        record {
-          from = omega (arith, from, later);
-          within = within;
-          digits = begun-digits after (rest - after) others (omega (arith, less));
-          others = others;
-          states = begun-states;
-        }
+    begun-on : (d : ℕ) → end < start + 64 → d + 2 ^ (64 - (end - start)) ≡ 2 ^ (64 - (column - start)) → IsBegun f start end (cells + b * d)
+    begun-on d within less =
+        let from = p.from in record { from = omega (arith, from, later); within = within; digits = begun-digits d less; states = begun-states }
 
   -- fewer columns are left
-  pub begun-less : (end after : ℕ) → column ≤ end → after + 1 ≡ 2 ^ (64 - (end - start)) → after ≤ rest
-  begun-less end after later others =
-      let fewer : 2 ^ (64 - (end - start)) ≤ 2 ^ (64 - (column - start)) = pow_mono {i = 64 - (end - start)} {j = 64 - (column - start)}
-      (omega (arith, later)) in
-      omega (arith, others, p.others, fewer)
+  begun-fewer : (end : ℕ) → column ≤ end → 2 ^ (64 - (end - start)) ≤ 2 ^ (64 - (column - start))
+  begun-fewer end later = pow_mono {i = 64 - (end - start)} {j = 64 - (column - start)} (omega (arith, later))
+
+  pub begun-less : (end bits after : ℕ) → column ≤ end → bits + 1 ≡ 2 ^ (64 - (column - start)) → after + 1 ≡ 2 ^ (64 - (end - start)) → after ≤ bits
+  begun-less end bits after later all others = let fewer = begun-fewer end later in omega (arith, all, others, fewer)
+
+  pub begun-step : (end b bits after : ℕ) → column ≤ end → end < start + 64 → b ≤ 1 → ((c : ℕ) → column ≤ c → c < end → f c ≡ b)
+      → bits + 1 ≡ 2 ^ (64 - (column - start)) → after + 1 ≡ 2 ^ (64 - (end - start)) → IsBegun f start end (cells + b * (bits - after))
+  begun-step end b bits after later within small same all others =
+      let less = begun-less end bits after later all others in
+      begun-on end b later (omega (arith, within)) small same (bits - after) within (omega (arith, less, all, others))
+
+  -- columns without a cell add no bit
+  pub begun-skip : (end : ℕ) → column ≤ end → end < start + 64 → ((c : ℕ) → column ≤ c → c < end → f c ≡ 0) → IsBegun f start end cells
+  begun-skip end later within none =
+      let fewer = begun-fewer end later in
+      let d = 2 ^ (64 - (column - start)) - 2 ^ (64 - (end - start)) in
+      let same : cells + 0 * d ≡ cells = omega arith in
+      subst (IsBegun f start end) same (begun-on end 0 later (omega (arith, within)) (omega arith) none d within (omega (arith, fewer)))
 
   -- the bits of a stretch have room
-  pub begun-room : cells + rest < 2 ^ 64
+  begun-room : cells + 2 ^ (64 - (column - start)) ≤ 2 ^ 64
   begun-room =
       let n = column - start in
       let from = p.from in
@@ -112,25 +118,36 @@ module _ (f : ℕ → ℕ) (start column cells rest : ℕ) (p : IsBegun f start 
       let digits = p.digits in
       let small : suc (binary f start n) ≤ 2 ^ n = binary-small f start n p.states in
       let places : 64 ≡ n + (64 - n) = omega (arith, from, within) in
-      let wide : suc (binary f start n) * (rest + 1) ≤ 2 ^ n * (rest + 1) = mul-le (suc (binary f start n)) (rest + 1) (2 ^ n) (rest + 1) small (omega arith) in
-      let all : 2 ^ n * (rest + 1) ≡ 2 ^ 64 = ap (λ z. 2 ^ n * z) p.others ∙ sym (pow-add 2 n (64 - n)) ∙ ap (λ k. 2 ^ k) (sym places) in
+      let wide : suc (binary f start n) * 2 ^ (64 - n) ≤ 2 ^ n * 2 ^ (64 - n) = mul-le (suc (binary f start n)) (2 ^ (64 - n)) (2 ^ n) (2 ^ (64 - n)) small
+      (omega arith) in
+      let all : 2 ^ n * 2 ^ (64 - n) ≡ 2 ^ 64 = sym (pow-add 2 n (64 - n)) ∙ ap (λ k. 2 ^ k) (sym places) in
       omega (arith, digits, wide, all)
 
-  pub begun-fits : (b d : ℕ) → b ≤ 1 → d ≤ rest → cells + b * d < 2 ^ 64
-  begun-fits b d small less =
+  pub begun-fits : (bits b d : ℕ) → bits + 1 ≡ 2 ^ (64 - (column - start)) → b ≤ 1 → d ≤ bits → cells + b * d < 2 ^ 64
+  begun-fits bits b d all small less =
       let most : b * d ≤ 1 * d = mul-le b d 1 d small (omega arith) in
-      omega (arith, begun-room, most, less)
+      omega (arith, begun-room, most, less, all)
 
   -- all columns that are left have one state
-  pub begun-end : (b : ℕ) → b ≤ 1 → ((c : ℕ) → column ≤ c → c < start + 64 → f c ≡ b) → IsWord f start (cells + b * rest)
-  begun-end b small same =
+  pub begun-end : (bits b : ℕ) → bits + 1 ≡ 2 ^ (64 - (column - start)) → b ≤ 1 → ((c : ℕ) → column ≤ c → c < start + 64 → f c ≡ b)
+      → IsWord f start (cells + b * bits)
+  begun-end bits b all small same =
       let within = p.within in
       let later : column ≤ start + 64 = omega (arith, within) in
-      let all : start + 64 - start ≡ 64 = omega arith in
-      let none : 0 + 1 ≡ 2 ^ (64 - (start + 64 - start)) = sym (ap (λ k. 2 ^ (64 - k)) all) in
-      let digits = begun-digits (start + 64) b later (omega arith) small same 0 rest none (omega arith) in
-      let whole : binary f start (start + 64 - start) * (0 + 1) ≡ binary f start 64 = ap (λ k. binary f start k * (0 + 1)) all ∙ omega arith in
-      record { digits = digits ∙ whole; states = λ i lt. begun-states (start + 64) b later (omega arith) small same i (omega (arith, lt)) }
+      let whole : start + 64 - start ≡ 64 = omega arith in
+      let none : 2 ^ (64 - (start + 64 - start)) ≡ 1 = ap (λ k. 2 ^ (64 - k)) whole in
+      let digits = begun-digits (start + 64) b later (omega arith) small same bits (omega (arith, none, all)) in
+      let word : binary f start (start + 64 - start) * 2 ^ (64 - (start + 64 - start)) ≡ binary f start 64 = (λ i. binary f start (whole i) * none i)
+      ∙ omega arith in
+      record { digits = digits ∙ word; states = λ i lt. begun-states (start + 64) b later (omega arith) small same i (omega (arith, lt)) }
+
+  -- no cell is left
+  pub begun-over : ((c : ℕ) → column ≤ c → c < start + 64 → f c ≡ 0) → IsWord f start cells
+  begun-over none =
+      let bits = 2 ^ (64 - (column - start)) - 1 in
+      let some = pow_pos (64 - (column - start)) in
+      let same : cells + 0 * bits ≡ cells = omega arith in
+      subst (IsWord f start) same (begun-end bits 0 (omega (arith, some)) (omega arith) none)
 
 -- a word of ones, moved
 pub ones-shifted : (k : ℕ) → k < 64 → 18446744073709551615 / 2 ^ k + 1 ≡ 2 ^ (64 - k)
@@ -153,8 +170,14 @@ ones-shifted k lt =
 
 module _ (row : List Span) (index column : ℕ) (d : Span) (past : IsPast row index column) (within : index < length row) where
   -- the square in the columns of a span
-  pub span-at : (c : ℕ) → column ≤ c → c < (get_or row index d).end → id_at row c ≡ Some (get_or row index d).square
-  span-at c le lt = past c le ∙ ap (λ z. id_at z c) (drop-cons row index d within) ∙ id_at-before (get_or row index d) (drop (suc index) row) c lt
+  pub span-at : (c : ℕ) → column ≤ c → (get_or row index d).start ≤ c → c < (get_or row index d).end → id_at row c ≡ Some (get_or row index d).square
+  span-at c le from lt =
+      past c le ∙ ap (λ z. id_at z c) (drop-cons row index d within) ∙ id_at-in (get_or row index d) (drop (suc index) row) c from lt
+
+  -- nothing before them
+  pub gap-at : (c : ℕ) → column ≤ c → c < (get_or row index d).start → c < (get_or row index d).end → id_at row c ≡ None
+  gap-at c le before lt =
+      past c le ∙ ap (λ z. id_at z c) (drop-cons row index d within) ∙ id_at-none (get_or row index d) (drop (suc index) row) c before lt
 
   -- the columns behind a span
   pub past-next : (later : ℕ) → column ≤ later → (get_or row index d).end ≤ later → IsPast row (index + 1) later
@@ -173,6 +196,15 @@ module _ (content : Id → Tree) (row : List Span) (c : ℕ) where
 
   pub cell-none : id_at row c ≡ None → cell_in content row c ≡ 0
   cell-none at = ap (λ o. state_at (square_or_blank content 0 o) 0 0) at
+
+-- a word goes on to the span that comes next
+pub begun-span : (content : Id → Tree) (row : List Span) (index column : ℕ) (d : Span) → IsPast row index column → index < length row → HaveColumns row
+    → (start cells first : ℕ) → IsBegun (cell_in content row) start column cells → column ≤ first → first < start + 64
+    → ((c : ℕ) → column ≤ c → c < first → c < (get_or row index d).start) → IsBegun (cell_in content row) start first cells
+begun-span content row index column d past within columns start cells first p later inside gap =
+    begun-skip (cell_in content row) start column cells p first later inside
+    (λ c le lt. let before = gap c le lt in let some = columns index d within in
+    cell-none content row c (gap-at row index column d past within c le before (omega (arith, before, some))))
 
 -- the cells of four columns, from the word with them
 pub nibble-cells : (f : ℕ → ℕ) (start word square : ℕ) → IsWord f start word → square < 16

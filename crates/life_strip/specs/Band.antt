@@ -1,10 +1,10 @@
 -- Four rows of cells, one below the other.
-use Rattle.std.specs.Prelude.{◌≡◌, ℕ, ◌+◌, ◌*◌, ◌≤◌, ◌<◌, ◌-◌, ◌/◌, ◌%◌, ◌^◌, zero, suc, List, All, Some}
+use Rattle.std.specs.Prelude.{◌≡◌, ℕ, ◌+◌, ◌*◌, ◌≤◌, ◌<◌, ◌-◌, ◌/◌, ◌%◌, ◌^◌, zero, suc, List, Some}
 use Rattle.life_quad.specs.declared.id.Id.{Id}
 use Rattle.life_base.specs.Tree.{Tree, quad, state_at}
 use Rattle.life_strip.specs.declared.spans.Span.{Span}
 use Rattle.life_strip.specs.declared.words.Words.{Words}
-use Rattle.life_strip.specs.Strip.{quad_at, id_at, square_at}
+use Rattle.life_strip.specs.Strip.{quad_at, id_at, square_at, AreBefore}
 
 -- the square of level 2 in a column of four rows of cells
 abbrev pub four_at : (Id → Tree) → List Span → List Span → List Span → List Span → ℕ → Tree
@@ -41,18 +41,8 @@ east_at rows square = nibble_of rows.north.cells square % 4 * 4 + nibble_of rows
 abbrev pub cells_at : Words → Words → ℕ → ℕ
 cells_at upper lower square = 4096 * west_at upper square + 256 * east_at upper square + 16 * west_at lower square + east_at lower square
 
--- the spans have the columns before this one, and no other
-pub record Covers (spans : List Span) (column : ℕ) : Type 0 where
-  pub ends : All (λ s. s.end ≤ column) spans
-  pub each : (c : ℕ) → c < column → (id : Id) × (id_at spans c ≡ Some id)
-
 -- from a column on one square goes on to an end
-pub record IsExtended (before after : List Span) (column end : ℕ) (square : Id) : Type 0 where
-  pub ends : All (λ s. s.end ≤ end) after
-  pub earlier : (c : ℕ) → c < column → id_at after c ≡ id_at before c
-  pub more : (c : ℕ) → column ≤ c → c < end → id_at after c ≡ Some square
-
--- the columns before this one have the squares that are wanted, and the others none
-pub record FilledTo (knows : Id → Type 0) (content : Id → Tree) (want : ℕ → Tree) (spans : List Span) (column : ℕ) : Type 0 where
-  pub ends : All (λ s. s.end ≤ column) spans
-  pub done : (c : ℕ) → c < column → (id : Id) × (id_at spans c ≡ Some id) × knows id × (content id ≡ want c)
+pub record IsExtended (old new : List Span) (column end : ℕ) (square : Id) : Type 0 where
+  pub before : AreBefore end new
+  pub earlier : (c : ℕ) → c < column → id_at new c ≡ id_at old c
+  pub more : (c : ℕ) → column ≤ c → c < end → id_at new c ≡ Some square

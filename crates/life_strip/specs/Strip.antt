@@ -1,15 +1,15 @@
 -- Strips: rows of squares of one level, side by side.
 use Rattle.life_base.specs.declared.cell.TheConstants.{MAX_LEVEL}
-use Rattle.std.specs.Prelude.{◌≡◌, ℕ, suc, ◌+◌, ◌-◌, ◌*◌, ◌^◌, ◌<◌, ◌≤◌, ◌⊎◌, nat_lt, if◌then◌else◌, List, [], ◌∷◌, drop, All, Option, Some, None, MatchOption}
+use Rattle.std.specs.Prelude.{◌≡◌, ℕ, suc, ◌+◌, ◌-◌, ◌*◌, ◌^◌, ◌<◌, ◌≤◌, ◌⊎◌, nat_lt, nat_le, if◌then◌else◌, List, [], ◌∷◌, drop, All, Option, Some, None, MatchOption}
 use Rattle.life_quad.specs.declared.id.Id.{Id}
 use Rattle.life_base.specs.Tree.{Tree, quad, depth, blank}
 use Rattle.life_strip.specs.declared.spans.Span.{Span}
 use Rattle.life_strip.specs.declared.spans.Stretch.{Stretch}
 
--- the Id in a column: that of the first span that ends after it
+-- the Id in a column: that of the first span that ends after it, if this has begun there
 abbrev pub id_at : List Span → ℕ → Option Id
 id_at [] column = None
-id_at (s ∷ rest) column = if nat_lt column s.end then Some s.square else id_at rest column
+id_at (s ∷ rest) column = if nat_lt column s.end then (if nat_le s.start column then Some s.square else None) else id_at rest column
 
 -- the square of a level for an Id, blank where there is none
 abbrev pub square_or_blank : (Id → Tree) → ℕ → Option Id → Tree
@@ -24,9 +24,23 @@ square_at content level spans column = square_or_blank content level (id_at span
 abbrev pub IsStrip : (Id → Type 0) → (Id → Tree) → ℕ → List Span → Type 0
 IsStrip knows content level spans = (column : ℕ) (id : Id) → id_at spans column ≡ Some id → knows id × (depth (content id) ≡ level)
 
+-- each span has a column
+abbrev pub HaveColumns : List Span → Type 0
+HaveColumns spans = All (λ s. s.start < s.end) spans
+
+-- each span has a column, and only such before this one
+abbrev pub AreBefore : ℕ → List Span → Type 0
+AreBefore column spans = All (λ s. (s.start < s.end) × (s.end ≤ column)) spans
+
 -- no span of squares of this level ends beyond the plane
 abbrev pub AreWithin : ℕ → List Span → Type 0
-AreWithin level spans = All (λ s. s.end ≤ 2 ^ (MAX_LEVEL - level)) spans
+AreWithin level spans = AreBefore (2 ^ (MAX_LEVEL - level)) spans
+
+-- the columns before this one have the squares of the level that are wanted, and the others none
+pub record FilledTo (knows : Id → Type 0) (content : Id → Tree) (level : ℕ) (want : ℕ → Tree) (spans : List Span) (column : ℕ) : Type 0 where
+  pub before : AreBefore column spans
+  pub strip : IsStrip knows content level spans
+  pub done : (c : ℕ) → c < column → square_at content level spans c ≡ want c
 
 -- the square of two columns of two strips, one above the other
 abbrev pub quad_at : (Id → Tree) → ℕ → List Span → List Span → ℕ → Tree
@@ -52,12 +66,19 @@ abbrev pub IsBefore : ℕ → Option ℕ → Type 0
 IsBefore column None = Unit {0}
 IsBefore column (Some end) = column < end
 
+-- from the column to before the start no span has a column, and one has the start
+pub record IsStart (spans : List Span) (column start : ℕ) : Type 0 where
+  pub from : column ≤ start
+  pub none : (c : ℕ) → column ≤ c → c < start → id_at spans c ≡ None
+  pub within : (side : ℕ) → AreBefore side spans → start < side
+
 -- one square goes on from the column to the end, or for ever where no span is left
 pub record IsFound (spans : List Span) (column : ℕ) (blank : Id) (found : Stretch) : Type 0 where
   pub past : IsPast spans found.index column
   pub square : (c : ℕ) → column ≤ c → IsBefore c found.end → id_or blank (id_at spans c) ≡ found.square
   pub beyond : IsBefore column found.end
-  pub last : MatchOption found.end ((c : ℕ) → column ≤ c → id_at spans c ≡ None) (λ end. (level : ℕ) → AreWithin level spans → end ≤ 2 ^ (MAX_LEVEL - level))
+  pub start : MatchOption found.start ((c : ℕ) → column ≤ c → id_at spans c ≡ None) (IsStart spans column)
+  pub last : MatchOption found.end (found.start ≡ None) (λ end. (side : ℕ) → AreBefore side spans → end ≤ side)
 
 -- the end is one of the two, and neither comes before it
 pub record IsNearer (end : ℕ) (north south : Option ℕ) : Type 0 where

@@ -5,8 +5,8 @@ ghost use Rattle.life_base.specs.Tree.{Tree};
 ghost use Rattle.life_quad.specs.Refused.{SomePart};
 ghost use Rattle.life_quad.specs.Store.{two, four};
 ghost use Rattle.life_quad.specs.Keeping.{KeepsSquares, IsWantKind};
-ghost use Rattle.life_strip.specs.Strip.{IsStrip, AreWithin, square_at};
-ghost use Rattle.life_strip.specs.Band.{four_at, Covers, IsExtended, FilledTo, cells_at};
+ghost use Rattle.life_strip.specs.Strip.{IsStrip, AreBefore, AreWithin, FilledTo, square_at};
+ghost use Rattle.life_strip.specs.Band.{four_at, IsExtended, cells_at};
 
 use crate::spans::{Span, find, nearer};
 use crate::words::{Words, cells_of, next_square, two_words};
@@ -48,35 +48,45 @@ fn join_four<S: Squares>(squares: &mut S, cells: u16) -> Result<Id, Kind>
     squares.join(nw, ne, sw, se)
 }
 
-// A square in the columns up to `end`, east of the others.
-fn extend(spans: &mut Vec<Span>, end: u64, square: Id) -> Result<(), Kind>
-    ensures columns { OnOk result ((column : ℕ) → Covers spans.old.items column → column < end → IsExtended spans.old.items spans.new.items column end square) }
+// A square from a column to before `end`, east of the others.
+fn extend(spans: &mut Vec<Span>, column: u64, end: u64, square: Id) -> Result<(), Kind>
+    requires { column < end }
+    ensures columns { OnOk result (AreBefore column spans.old.items → IsExtended spans.old.items spans.new.items column end square) }
     ensures refusals { IfErr result (λ e. e ≡ Memory) }
 {
     if let Some(last) = spans.last_mut() {
-        if last.square == square {
+        if last.end == column && last.square == square {
             last.end = end;
             return Ok(());
         }
     }
-    spans.push(Span { end, square })?;
+    spans.push(Span {
+        start: column,
+        end,
+        square,
+    })?;
     Ok(())
 }
 
-// A square of level 2 with these cells in the columns up to `end`, east of the others.
+// A square of level 2 with these cells from a column to before `end`, east of the others. A blank one has no span.
 fn push_square<S: Squares>(
     squares: &mut S,
     spans: &mut Vec<Span>,
     cells: u16,
+    column: u64,
     end: u64,
 ) -> Result<(), Kind>
-    ensures filled { OnOk result ((want : ℕ → Tree) (column : ℕ) → FilledTo (S.knows squares.old) (S.content squares.old) want spans.old.items column → column < end → ((c : ℕ) → column ≤ c → c < end → want c ≡ four cells) → FilledTo (S.knows squares.new) (S.content squares.new) want spans.new.items end) }
+    requires { column < end }
+    ensures filled { OnOk result ((want : ℕ → Tree) → FilledTo (S.knows squares.old) (S.content squares.old) 2 want spans.old.items column → ((c : ℕ) → column ≤ c → c < end → want c ≡ four cells) → FilledTo (S.knows squares.new) (S.content squares.new) 2 want spans.new.items end) }
     ensures keeps { KeepsSquares S.knows S.content S.stored S.most squares.old squares.new }
     ensures refusals { IfErr result (IsWantKind (S.stored squares.new) (S.most squares.new)) }
     ensures needed { result ≡ Err Full → SomePart (S.needs_node squares.new) (four cells) }
 {
+    if cells == 0 {
+        return Ok(());
+    }
     let id = join_four(squares, cells)?;
-    extend(spans, end, id)
+    extend(spans, column, end, id)
 }
 
 // The squares of level 2 of 64 columns, and the block of columns up to which they go on, where the rows go on to a column of cells.
@@ -92,21 +102,23 @@ fn push_rows<S: Squares>(
     requires within { end ≤ 2 ^ MAX_LEVEL }
     ensures beyond { IfOk result (λ next. block < next) }
     ensures within { IfOk result (λ next. 64 * next ≤ 2 ^ MAX_LEVEL) }
-    ensures filled { IfOk result (λ next. (want : ℕ → Tree) → FilledTo (S.knows squares.old) (S.content squares.old) want spans.old.items (16 * block) → ((i : ℕ) → i < 16 → want (16 * block + i) ≡ four (cells_at upper lower i)) → ((c : ℕ) → 16 * block < c → 4 * c + 3 < end → want c ≡ want (16 * block)) → FilledTo (S.knows squares.new) (S.content squares.new) want spans.new.items (16 * next)) }
+    ensures filled { IfOk result (λ next. (want : ℕ → Tree) → FilledTo (S.knows squares.old) (S.content squares.old) 2 want spans.old.items (16 * block) → ((i : ℕ) → i < 16 → want (16 * block + i) ≡ four (cells_at upper lower i)) → ((c : ℕ) → 16 * block < c → 4 * c + 3 < end → want c ≡ want (16 * block)) → FilledTo (S.knows squares.new) (S.content squares.new) 2 want spans.new.items (16 * next)) }
     ensures keeps { KeepsSquares S.knows S.content S.stored S.most squares.old squares.new }
     ensures refusals { IfErr result (IsWantKind (S.stored squares.new) (S.most squares.new)) }
     ensures needed { result ≡ Err Full → (i : ℕ) × (i < 16) × SomePart (S.needs_node squares.new) (four (cells_at upper lower i)) }
 {
+    let start = 16 * block;
     let next = end / 64;
     if block < next {
-        push_square(squares, spans, cells_of(upper, lower, 0), 16 * next)?;
+        let cells = cells_of(upper, lower, 0);
+        push_square(squares, spans, cells, start, 16 * next)?;
         return Ok(next);
     }
     let mut square = 0;
     while square < 16 {
         let cells = cells_of(upper, lower, square);
         let after = next_square(upper, lower, square, cells);
-        push_square(squares, spans, cells, 16 * block + after)?;
+        push_square(squares, spans, cells, start + square, start + after)?;
         square = after;
     }
     Ok(block + 1)

@@ -99,9 +99,8 @@ impl Plane {
         let column = offset(run.x);
         let row = offset(run.y);
         self.go_to_row(squares, row)?;
-        let blank = squares.cell(0);
         let square = squares.cell(run.state);
-        push_span(&mut self.row.spans, column, run.len, blank, square)
+        push_span(&mut self.row.spans, column, run.len, square)
     }
 
     // The square of the whole plane.

@@ -1,36 +1,37 @@
 //! Strips of squares, and how two of them make one of the next level.
-ghost use Rattle.std.specs.Prelude.{◌≡◌, ℕ, ◌+◌, ◌-◌, ◌*◌, ◌^◌, ◌<◌, ◌≤◌, ◌&&◌, nat_le, nat_lt, if◌then◌else◌, All, Some, None, MatchOption, length, slice_get, Err, IfOk, IfErr, OnOk, OnErr};
+ghost use Rattle.std.specs.Prelude.{◌≡◌, ℕ, ◌+◌, ◌-◌, ◌*◌, ◌^◌, ◌<◌, ◌≤◌, ◌&&◌, nat_le, nat_lt, if◌then◌else◌, Some, None, MatchOption, IfSome, length, slice_get, Err, IfOk, IfErr, OnOk, OnErr};
 ghost use Rattle.life_base.specs.declared.kind.Kind.TheVariants.{Full, Memory};
-ghost use Rattle.life_quad.specs.declared.id.Id.{Id as IdValue};
 ghost use Rattle.life_strip.specs.declared.spans.Span.{Span as SpanValue};
 ghost use Rattle.life_base.specs.Tree.{blank};
 ghost use Rattle.life_quad.specs.Keeping.{KeepsSquares, IsWantKind};
-ghost use Rattle.life_strip.specs.Strip.{IsStrip, AreWithin, IsPaired, IsPast, IsFound, IsNearer, id_at, id_or, quad_at};
+ghost use Rattle.life_strip.specs.Strip.{IsStrip, AreBefore, AreWithin, HaveColumns, IsPaired, IsPast, IsBefore, IsFound, IsNearer, id_at, quad_at};
 
 use life_base::{Kind, MAX_LEVEL};
 use life_quad::{Id, Squares};
 use std::alloc::Global;
 
-// Columns side by side with one square: those before `end` that no earlier span has.
+// Columns side by side with one square, from `start` to before `end`.
 #[derive(Clone, Copy)]
 pub(crate) struct Span {
+    pub(crate) start: u64,
     pub(crate) end: u64,
     pub(crate) square: Id,
 }
 
-// A row of squares of one level, blank after the last span.
+// A row of squares of one level, blank where no span is.
 #[derive(Drop)]
 pub(crate) struct Strip {
     pub(crate) level: u8,
     pub(crate) spans: Vec<Span>,
 }
 
-// The square in a column, how far it goes on, and where its span stands.
+// The square in a column, how far it goes on, and where the span stands that is there or comes next.
 #[derive(Clone, Copy)]
 pub(crate) struct Stretch {
     pub(crate) index: usize,
-
-    // The column where it ends, if a span does.
+    // The first column from this one on that a span has, if one does.
+    pub(crate) start: Option<u64>,
+    // The column where the square ends, if a span is left.
     pub(crate) end: Option<u64>,
     pub(crate) square: Id,
 }
@@ -45,6 +46,7 @@ struct Joined {
 
 // The square in a column, where the spans before `from` end before it.
 pub(crate) fn find(spans: &[Span], from: usize, column: u64, blank: Id) -> Stretch
+    requires columns { HaveColumns spans.now }
     requires past { IsPast spans.now from column }
     ensures { IsFound spans.now column blank result }
 {
@@ -56,18 +58,28 @@ pub(crate) fn find(spans: &[Span], from: usize, column: u64, blank: Id) -> Stret
     while index < spans.len() && spans[index].end <= column {
         index += 1;
     }
-    if index < spans.len() {
-        Stretch {
+    if index >= spans.len() {
+        return Stretch {
             index,
-            end: Some(spans[index].end),
-            square: spans[index].square,
-        }
-    } else {
-        Stretch {
-            index,
+            start: None,
             end: None,
             square: blank,
-        }
+        };
+    }
+    let span = spans[index];
+    if column < span.start {
+        return Stretch {
+            index,
+            start: Some(span.start),
+            end: Some(span.start),
+            square: blank,
+        };
+    }
+    Stretch {
+        index,
+        start: Some(column),
+        end: Some(span.end),
+        square: span.square,
     }
 }
 
@@ -86,6 +98,8 @@ fn join_at<S: Squares>(
     requires column { column ≤ 2 ^ MAX_LEVEL }
     requires upper { IsStrip (S.knows squares.old) (S.content squares.old) level upper.now }
     requires lower { IsStrip (S.knows squares.old) (S.content squares.old) level lower.now }
+    requires upper_columns { HaveColumns upper.now }
+    requires lower_columns { HaveColumns lower.now }
     requires known { S.knows squares.old empty }
     requires blank { S.content squares.old empty ≡ blank level }
     requires north { IsFound upper.now (2 * column) empty north }
@@ -120,14 +134,28 @@ pub(crate) fn nearer(north: Option<u64>, south: Option<u64>) -> Option<u64>
     }
 }
 
-// The column up to which one square goes on.
-fn next_column(column: u64, end: u64) -> u64
-    requires { 2 * column < end }
+// The column up to which one square goes on, of squares half as wide that go on to `end`.
+fn next_column(column: u64, end: Option<u64>) -> u64
+    requires { column < 2 ^ MAX_LEVEL }
     ensures beyond { column < result }
-    ensures within { 2 * result ≤ end + 1 }
-    ensures goes_on { (c : ℕ) → column < c → c < result → 2 * c + 1 < end }
+    ensures within { (most : ℕ) → column < most → IfSome end (λ e. e ≤ 2 * most) → result ≤ most }
+    ensures goes_on { (c : ℕ) → column < c → c < result → IsBefore (2 * c + 1) end }
+    ensures fits { result < 2 ^ 63 }
 {
-    (end / 2).max(column + 1)
+    match end {
+        Some(end) => (end / 2).max(column + 1),
+        None => column + 1,
+    }
+}
+
+// The column behind the last span.
+fn covered(spans: &[Span]) -> u64
+    ensures last { (span : SpanValue) → slice_get spans.now (length spans.now - 1) ≡ Some span → result ≡ span.end }
+{
+    match spans.last() {
+        Some(span) => span.end,
+        None => 0,
+    }
 }
 
 // The strip of the next level whose squares have two squares of the upper strip above two of the lower.
@@ -151,17 +179,22 @@ pub(crate) fn pair<S: Squares>(
     ensures needed { result ≡ Err Full → (column : ℕ) × (column < 2 ^ (MAX_LEVEL - (level + 1))) × S.needs_node squares.new (quad_at (S.content squares.old) level upper.now lower.now column) }
 {
     let blank = squares.empty(level);
-    // Each span has a column at least, and mostly ends where one of the two strips has an end.
+    // Mostly a span of the two strips is in one span, and each of these has a column at least.
     let columns = covered(upper).max(covered(lower)) / 2 + 1;
     let room = (upper.len() + lower.len()).min(columns as usize);
     let mut spans = Vec::with_capacity(alloc, room)?;
     let mut column: u64 = 0;
     let mut north = find(upper, 0, 0, blank);
     let mut south = find(lower, 0, 0, blank);
-    while let Some(end) = nearer(north.end, south.end) {
-        let joined = join_at(squares, upper, lower, level, blank, column, north, south)?;
-        column = next_column(column, end);
+    while let Some(first) = nearer(north.start, south.start) {
+        // Up to here all is blank.
+        let start = first / 2;
+        let nw = find(upper, north.index, 2 * start, blank);
+        let sw = find(lower, south.index, 2 * start, blank);
+        let joined = join_at(squares, upper, lower, level, blank, start, nw, sw)?;
+        column = next_column(start, nearer(nw.end, sw.end));
         spans.push(Span {
+            start,
             end: column,
             square: joined.square,
         })?;
@@ -171,49 +204,22 @@ pub(crate) fn pair<S: Squares>(
     Ok(spans)
 }
 
-// How many columns from the west have a square.
-fn covered(spans: &[Span]) -> u64
-    ensures columns { (c : ℕ) → c < result → (id : IdValue) × (id_at spans.now c ≡ Some id) }
-    ensures last { (span : SpanValue) → slice_get spans.now (length spans.now - 1) ≡ Some span → result ≡ span.end }
-{
-    match spans.last() {
-        Some(span) => span.end,
-        None => 0,
-    }
-}
-
-// The blank square in the columns before this one that have none.
-fn fill_gap(spans: &mut Vec<Span>, column: u64, blank: Id) -> Result<(), Kind>
-    requires ends { All (λ s. s.end ≤ column) spans.old.items }
-    ensures ends { OnOk result (All (λ s. s.end ≤ column) spans.new.items) }
-    ensures columns { OnOk result ((c : ℕ) → c < column → id_at spans.new.items c ≡ Some (id_or blank (id_at spans.old.items c))) }
-    ensures refusals { IfErr result (λ e. e ≡ Memory) }
-{
-    if covered(spans.as_slice()) < column {
-        spans.push(Span {
-            end: column,
-            square: blank,
-        })?;
-    }
-    Ok(())
-}
-
 // A square in `len` columns, east of the others.
 pub(crate) fn push_span(
     spans: &mut Vec<Span>,
     column: u64,
     len: u64,
-    blank: Id,
     square: Id,
 ) -> Result<(), Kind>
-    requires ends { All (λ s. s.end ≤ column) spans.old.items }
+    requires before { AreBefore column spans.old.items }
+    requires positive { 1 ≤ len }
     requires within { column + len ≤ 2 ^ MAX_LEVEL }
-    ensures ends { OnOk result (All (λ s. s.end ≤ column + len) spans.new.items) }
-    ensures columns { OnOk result ((c : ℕ) → id_or blank (id_at spans.new.items c) ≡ (if nat_le column c && nat_lt c (column + len) then square else id_or blank (id_at spans.old.items c))) }
+    ensures before { OnOk result (AreBefore (column + len) spans.new.items) }
+    ensures columns { OnOk result ((c : ℕ) → id_at spans.new.items c ≡ (if nat_le column c && nat_lt c (column + len) then Some square else id_at spans.old.items c)) }
     ensures refusals { IfErr result (λ e. e ≡ Memory) }
 {
-    fill_gap(spans, column, blank)?;
     spans.push(Span {
+        start: column,
         end: column + len,
         square,
     })?;

@@ -1,7 +1,7 @@
 //! Rows of cells of the states 0 and 1, 64 columns at a time: a word has a bit for each column, and that of the westernmost is the highest.
 ghost use Rattle.std.specs.Prelude.{◌≡◌, ℕ, ◌+◌, ◌-◌, ◌*◌, ◌/◌, ◌%◌, ◌^◌, ◌<◌, ◌≤◌, IfSome};
 ghost use Rattle.life_base.specs.Tree.{point};
-ghost use Rattle.life_strip.specs.Strip.{IsStrip, IsPast};
+ghost use Rattle.life_strip.specs.Strip.{IsStrip, HaveColumns, IsPast};
 ghost use Rattle.life_strip.specs.Band.{cell_in, IsWord, nibble_of, west_at, east_at, cells_at};
 
 use crate::spans::Span;
@@ -52,6 +52,7 @@ pub(crate) fn read_word<S: Squares>(
 ) -> Option<Word>
     requires start { start ≤ 2 ^ MAX_LEVEL }
     requires row { IsStrip (S.knows squares.now) (S.content squares.now) 0 row.now }
+    requires columns { HaveColumns row.now }
     requires past { IsPast row.now from start }
     ensures cells { IfSome result (λ w. IsWord (cell_in (S.content squares.now) row.now) start w.cells) }
     ensures past { IfSome result (λ w. IsPast row.now w.index (start + 64)) }
@@ -59,19 +60,19 @@ pub(crate) fn read_word<S: Squares>(
     let mut cells = 0;
     let mut index = from;
     let mut column = start;
-    let mut rest = u64::MAX;
     while index < row.len() && row[index].end < start + 64 {
         let span = row[index];
         if column < span.end {
+            let from = bits_after(column.max(span.start) - start);
             let after = bits_after(span.end - start);
-            cells += bit(squares, span.square)? * (rest - after);
+            cells += bit(squares, span.square)? * (from - after);
             column = span.end;
-            rest = after;
         }
         index += 1;
     }
-    if index < row.len() {
-        cells += bit(squares, row[index].square)? * rest;
+    if index < row.len() && row[index].start < start + 64 {
+        let from = bits_after(column.max(row[index].start) - start);
+        cells += bit(squares, row[index].square)? * from;
     }
     Some(Word { cells, index })
 }
@@ -88,6 +89,8 @@ pub(crate) fn two_words<S: Squares>(
     requires start { start ≤ 2 ^ MAX_LEVEL }
     requires upper { IsStrip (S.knows squares.now) (S.content squares.now) 0 upper.now }
     requires lower { IsStrip (S.knows squares.now) (S.content squares.now) 0 lower.now }
+    requires upper_columns { HaveColumns upper.now }
+    requires lower_columns { HaveColumns lower.now }
     requires north { IsPast upper.now north start }
     requires south { IsPast lower.now south start }
     ensures north { IfSome result (λ r. IsWord (cell_in (S.content squares.now) upper.now) start r.north.cells) }

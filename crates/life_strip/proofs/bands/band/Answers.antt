@@ -1,13 +1,14 @@
-use Rattle.std.proofs.Common.{◌≡◌, ℕ, ◌+◌, ◌*◌, ◌<◌, List, arith, sym, subst}
+use Rattle.life_base.specs.declared.cell.TheConstants.{MAX_LEVEL}
+use Rattle.std.proofs.Common.{◌≡◌, ℕ, ◌+◌, ◌-◌, ◌*◌, ◌^◌, ◌<◌, List, arith, sym, subst}
 use Rattle.std.proofs.lemmas.Result.{err_from_is_err_and}
 use Rattle.life_quad.specs.Refused.{SomePart}
 use Rattle.life_quad.proofs.KeepingLemmas.{keeps-same, keeps-then}
 use Rattle.life_strip.specs.declared.spans.Span.{Span}
-use Rattle.life_strip.specs.Strip.{IsFound, IsPast}
+use Rattle.life_strip.specs.Strip.{IsFound, IsPast, AreWithin, HaveColumns}
 use Rattle.life_strip.specs.Band.{four_at}
-use Rattle.life_strip.proofs.SpanLemmas.{strip-kept, past_later}
+use Rattle.life_strip.proofs.SpanLemmas.{strip-kept, past_later, filled-all, before_more, before_columns, nearer-both}
 use Rattle.life_strip.proofs.NeededLemmas.{err_again}
-use Rattle.life_strip.proofs.BandLemmas.{filled-all, filled-strip, filled-within, nearest, nearest-inside, nearer-none, words-wanted, four-same, four-blank, depth-four_at}
+use Rattle.life_strip.proofs.BandLemmas.{nearest-inside, nearer-none, words-wanted, four-same, four-blank}
 use Rattle.life_strip.proofs.bands.band.Goals as goal
 
 pub two_words-requires-clause-start : goal.two_words-requires-clause-start
@@ -90,20 +91,26 @@ returns-in_err-block-clause-needed g c =
     ))
 
 -- the row goes on from a later block
-from_block : (spans : List Span) (index block next : ℕ) → IsPast spans index (64 * block + 64) → block < next → record { past : IsPast spans index (64 * next) }
-from_block spans index block next h beyond = record { past = past_later spans index (64 * block + 64) (64 * next) h (omega (arith, beyond)) }
+from_block : (spans : List Span) (index block next : ℕ) → AreWithin 0 spans → IsPast spans index (64 * block + 64) → block < next
+    → record { columns : HaveColumns spans; past : IsPast spans index (64 * next) }
+from_block spans index block next within h beyond =
+    record { columns = before_columns (2 ^ MAX_LEVEL) spans within; past = past_later spans index (64 * block + 64) (64 * next) h (omega (arith, beyond)) }
 
 pub find-a-requires-in-Some : goal.find-a-requires-in-Some
-find-a-requires-in-Some g c = from_block c.args.first.now _ _ _ c.in-Some-two_words.ensures.north_past c.in_ok-block.ensures.beyond
+find-a-requires-in-Some g c =
+    from_block c.args.first.now _ _ _ c.requires.first_within c.in-Some-two_words.ensures.north_past c.in_ok-block.ensures.beyond
 
 pub find-b-requires-in-Some : goal.find-b-requires-in-Some
-find-b-requires-in-Some g c = from_block c.args.second.now _ _ _ c.in-Some-two_words.ensures.south_past c.in_ok-block.ensures.beyond
+find-b-requires-in-Some g c =
+    from_block c.args.second.now _ _ _ c.requires.second_within c.in-Some-two_words.ensures.south_past c.in_ok-block.ensures.beyond
 
 pub find-c-requires-in-Some : goal.find-c-requires-in-Some
-find-c-requires-in-Some g c = from_block c.args.third.now _ _ _ c.in-Some-two_words-2.ensures.north_past c.in_ok-block.ensures.beyond
+find-c-requires-in-Some g c =
+    from_block c.args.third.now _ _ _ c.requires.third_within c.in-Some-two_words-2.ensures.north_past c.in_ok-block.ensures.beyond
 
 pub find-d-requires-in-Some : goal.find-d-requires-in-Some
-find-d-requires-in-Some g c = from_block c.args.fourth.now _ _ _ c.in-Some-two_words-2.ensures.south_past c.in_ok-block.ensures.beyond
+find-d-requires-in-Some g c =
+    from_block c.args.fourth.now _ _ _ c.requires.fourth_within c.in-Some-two_words-2.ensures.south_past c.in_ok-block.ensures.beyond
 
 pub loop-end-preserved : goal.loop-end-preserved
 loop-end-preserved g c =
@@ -111,8 +118,7 @@ loop-end-preserved g c =
     let inv = c.loop-end.invariant in
     let K = g.S.Squares.knows c.args.squares.now in
     let C = g.S.Squares.content c.args.squares.now in
-    let n = nearest c.in-Some.end c.nearer.result c.nearer-in-loop-end.result c.loop-end.a.end c.loop-end.b.end c.loop-end.c.end c.loop-end.d.end
-    c.nearer.ensures c.nearer-in-loop-end.ensures c.in-Some.ensures in
+    let near = c.in-Some.ensures in
     let u = c.in-Some-two_words.ensures in
     let l = c.in-Some-two_words-2.ensures in
     let want = four_at C c.args.first.now c.args.second.now c.args.third.now c.args.fourth.now in
@@ -126,10 +132,12 @@ loop-end-preserved g c =
     let h = c.in_ok-block.ensures in
     let on : (x : ℕ) → 16 * c.loop-end.block < x → 4 * x + 3 < c.in-Some.end → want x ≡ want (16 * c.loop-end.block) =
     λ x lo before.
+    let north = nearer-both c.nearer.result c.loop-end.a.end c.loop-end.b.end (4 * x + 3) c.nearer.ensures (near.upper (4 * x + 3) before) in
+    let south = nearer-both c.nearer-in-loop-end.result c.loop-end.c.end c.loop-end.d.end (4 * x + 3) c.nearer-in-loop-end.ensures
+    (near.lower (4 * x + 3) before) in
     four-same K C c.empty-blank.result c.empty-blank.ensures.known c.empty-blank.ensures.square c.args.first.now c.args.second.now c.args.third.now
     c.args.fourth.now r.first r.second r.third r.fourth
-    (16 * c.loop-end.block) x c.loop-end.a c.loop-end.b c.loop-end.c c.loop-end.d fa fb fc fd lo (n.first (4 * x + 3) before) (n.second (4 * x + 3) before)
-    (n.third (4 * x + 3) before) (n.fourth (4 * x + 3) before) in (
+    (16 * c.loop-end.block) x c.loop-end.a c.loop-end.b c.loop-end.c c.loop-end.d fa fb fc fd lo north.0 north.1 south.0 south.1 in (
       h.filled want inv.0 (λ i lt. sym (wanted i lt)) on,
       c.find-a-in-Some.ensures,
       c.find-b-in-Some.ensures,
@@ -144,19 +152,11 @@ loop-end-smaller g c = omega (arith, c.in_ok-block.ensures.beyond, c.in_ok-block
 
 pub returns-clause-within : goal.returns-clause-within
 returns-clause-within g c =
-    let C = g.S.Squares.content in
-    filled-within (g.S.Squares.knows c.loop-end.squares) (C c.loop-end.squares)
-    (four_at (C c.args.squares.now) c.args.first.now c.args.second.now c.args.third.now c.args.fourth.now)
-    c.loop-end.spans.items (16 * c.loop-end.block) c.loop-end.invariant.0 (omega (arith, c.loop-end.invariant.6))
+    let inv = c.loop-end.invariant in
+    before_more (16 * c.loop-end.block) (2 ^ (MAX_LEVEL - 2)) c.loop-end.spans.items inv.0.before (omega (arith, inv.6))
 
 pub returns-clause-strip : goal.returns-clause-strip
-returns-clause-strip g c =
-    let C = g.S.Squares.content in
-    filled-strip (g.S.Squares.knows c.loop-end.squares) (C c.loop-end.squares)
-    (four_at (C c.args.squares.now) c.args.first.now c.args.second.now c.args.third.now c.args.fourth.now)
-    c.loop-end.spans.items (16 * c.loop-end.block) c.loop-end.invariant.0
-    (depth-four_at (g.S.Squares.knows c.args.squares.now) (C c.args.squares.now) c.args.first.now c.args.second.now c.args.third.now c.args.fourth.now
-    c.requires.first)
+returns-clause-strip g c = c.loop-end.invariant.0.strip
 
 pub returns-clause-squares : goal.returns-clause-squares
 returns-clause-squares g c =
@@ -170,7 +170,7 @@ returns-clause-squares g c =
     let fb = subst (λ k. IsFound c.args.second.now k c.empty-blank.result c.loop-end.b) at inv.2 in
     let fc = subst (λ k. IsFound c.args.third.now k c.empty-blank.result c.loop-end.c) at inv.3 in
     let fd = subst (λ k. IsFound c.args.fourth.now k c.empty-blank.result c.loop-end.d) at inv.4 in
-    filled-all (g.S.Squares.knows c.loop-end.squares) (C c.loop-end.squares)
+    filled-all (g.S.Squares.knows c.loop-end.squares) (C c.loop-end.squares) 2
     (four_at (C c.args.squares.now) c.args.first.now c.args.second.now c.args.third.now c.args.fourth.now)
     c.loop-end.spans.items (16 * c.loop-end.block) inv.0
     (four-blank (C c.args.squares.now) (16 * c.loop-end.block) c.empty-blank.result c.args.first.now c.args.second.now c.args.third.now c.args.fourth.now

@@ -1,13 +1,13 @@
 use Rattle.life_base.specs.declared.cell.TheConstants.{MAX_LEVEL}
 use Rattle.std.proofs.Common.{◌-◌, ◌*◌, ◌^◌, ◌≤◌}
 use Rattle.life_quad.specs.Keeping.{KeepsSquares}
-use Rattle.life_strip.specs.Strip.{IsFound}
-use Rattle.life_strip.specs.Band.{four_at, FilledTo}
+use Rattle.life_strip.specs.Strip.{IsFound, FilledTo}
+use Rattle.life_strip.specs.Band.{four_at}
 use Rattle.life_strip.proofs.bands.band.Given as goal
 
 abbrev pub invariant-loop-end : goal.invariant-loop-end
 invariant-loop-end g l =
-    FilledTo (g.S.Squares.knows l.squares) (g.S.Squares.content l.squares) (four_at (g.S.Squares.content l.fn.squares) l.first l.second l.third l.fourth)
+    FilledTo (g.S.Squares.knows l.squares) (g.S.Squares.content l.squares) 2 (four_at (g.S.Squares.content l.fn.squares) l.first l.second l.third l.fourth)
     l.spans.items (16 * l.block)
     × IsFound l.first (64 * l.block) l.blank l.a
     × IsFound l.second (64 * l.block) l.blank l.b

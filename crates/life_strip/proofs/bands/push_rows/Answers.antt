@@ -1,12 +1,13 @@
-use Rattle.std.proofs.Common.{◌≡◌, ℕ, ◌+◌, ◌*◌, ◌<◌, ◌≤◌, arith, sym, ◌∙◌, ap, subst}
+use Rattle.std.proofs.Common.{◌≡◌, ℕ, ◌+◌, ◌*◌, ◌/◌, ◌<◌, ◌≤◌, arith, sym, ◌∙◌, ap, subst}
 use Rattle.std.proofs.lemmas.Result.{err_from_is_err_and}
 use Rattle.life_base.specs.Tree.{Tree}
 use Rattle.life_quad.specs.Refused.{SomePart}
 use Rattle.life_quad.specs.Store.{four}
 use Rattle.life_quad.proofs.KeepingLemmas.{keeps-then}
-use Rattle.life_strip.specs.Band.{FilledTo, cells_at}
+use Rattle.life_strip.specs.Band.{cells_at}
+use Rattle.life_strip.specs.Strip.{FilledTo}
 use Rattle.life_strip.proofs.NeededLemmas.{err_again}
-use Rattle.life_strip.proofs.BandLemmas.{goes-on}
+use Rattle.life_strip.proofs.SpanLemmas.{from-first}
 use Rattle.life_strip.proofs.StretchLemmas.{same-columns}
 use Rattle.life_strip.proofs.bands.push_rows.Goals as goal
 
@@ -14,22 +15,21 @@ pub returns-in_err-push_square-clause-needed : goal.returns-in_err-push_square-c
 returns-in_err-push_square-clause-needed g c =
     let p = err_from_is_err_and c.from_residual.result c.from_residual.ensures.1 in
     let needs = λ (n : ℕ). SomePart (g.S.Squares.needs_node c.push_square.new.squares) (four n) in
-    rw (p.1, p.2) (λ e. (0, omega arith, subst needs c.cells_of.ensures (c.in_err-push_square.ensures.needed (err_again e))))
+    rw (p.1, p.2) (λ e. (0, omega arith, subst needs c.cells_of-cells.ensures (c.in_err-push_square.ensures.needed (err_again e))))
 
 pub returns-then-block-next-clause-filled : goal.returns-then-block-next-clause-filled
 returns-then-block-next-clause-filled g c want p squares on =
-    let more = c.if-block-next.true in
     let same : 16 * c.args.block ≡ 16 * c.args.block + 0 = omega arith in
-    let first : want (16 * c.args.block) ≡ four c.cells_of.result = ap want same ∙ squares 0 (omega arith) ∙ ap four (sym c.cells_of.ensures) in
-    c.in_ok-push_square.ensures.filled want (16 * c.args.block) p (omega (arith, more))
-    (goes-on want (four c.cells_of.result) (16 * c.args.block) c.args.end first on)
+    let first : want (16 * c.args.block) ≡ four c.cells_of-cells.result = ap want same ∙ squares 0 (omega arith) ∙ ap four (sym c.cells_of-cells.ensures) in
+    c.in_ok-push_square.ensures.filled want p
+    (from-first want (four c.cells_of-cells.result) (16 * c.args.block) (16 * (c.args.end / 64)) first (λ x lo hi. on x lo (omega (arith, hi))))
 
 pub returns-in_err-push_square-2-clause-needed : goal.returns-in_err-push_square-2-clause-needed
 returns-in_err-push_square-2-clause-needed g c =
     let p = err_from_is_err_and c.from_residual-in_err-push_square-2.result c.from_residual-in_err-push_square-2.ensures.1 in
     let needs = λ (n : ℕ). SomePart (g.S.Squares.needs_node c.push_square-in-loop-square.new.squares) (four n) in
     rw (p.1, p.2)
-    (λ e. (c.loop-square.square, c.loop-square-test.true, subst needs c.cells_of-cells.ensures (c.in_err-push_square-2.ensures.needed (err_again e))))
+    (λ e. (c.loop-square.square, c.loop-square-test.true, subst needs c.cells_of-cells-in-loop-square.ensures (c.in_err-push_square-2.ensures.needed (err_again e))))
 
 pub returns-in_err-push_square-2-clause-keeps : goal.returns-in_err-push_square-2-clause-keeps
 returns-in_err-push_square-2-clause-keeps g c = keeps-then c.loop-square.invariant.1 c.in_err-push_square-2.ensures.keeps
@@ -44,8 +44,8 @@ loop-square-preserved g c =
     let after = c.next_square-after.result in
     let alike = λ (want : ℕ → Tree) (squares : (i : ℕ) → i < 16 → want (16 * block + i) ≡ four (cells_at c.args.upper c.args.lower i)) (x : ℕ)
     (le : 16 * block + square ≤ x) (lt : x < 16 * block + after).
-    same-columns want c.args.upper c.args.lower block square after n.within squares n.goes_on x le lt ∙ ap four (sym c.cells_of-cells.ensures) in (
-      (λ want p squares. h.filled want (16 * block + square) (inv.0 want p squares) (omega (arith, n.beyond)) (alike want squares)),
+    same-columns want c.args.upper c.args.lower block square after n.within squares n.goes_on x le lt ∙ ap four (sym c.cells_of-cells-in-loop-square.ensures) in (
+      (λ want p squares. h.filled want (inv.0 want p squares) (alike want squares)),
       keeps-then inv.1 h.keeps,
       n.within,
     )
@@ -55,5 +55,5 @@ returns-clause-filled g c want p squares on =
     let inv = c.loop-square.invariant in
     let last : c.loop-square.square ≡ 16 = omega (arith, c.loop-square-test.false, inv.2) in
     let next : 16 * c.args.block + c.loop-square.square ≡ 16 * (c.args.block + 1) = omega (arith, last) in
-    subst (λ k. FilledTo (g.S.Squares.knows c.loop-square.squares) (g.S.Squares.content c.loop-square.squares) want c.loop-square.spans.items k) next
+    subst (λ k. FilledTo (g.S.Squares.knows c.loop-square.squares) (g.S.Squares.content c.loop-square.squares) 2 want c.loop-square.spans.items k) next
     (inv.0 want p squares)

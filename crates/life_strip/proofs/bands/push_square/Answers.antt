@@ -1,17 +1,24 @@
-use Rattle.std.proofs.Common.{sym, ◌∙◌}
+use Rattle.std.proofs.Common.{sym, ◌∙◌, ap, arith}
+use Rattle.life_base.specs.Tree.{depth}
+use Rattle.life_quad.specs.Store.{four}
 use Rattle.life_strip.proofs.PictureLemmas.{on_ok_map}
-use Rattle.life_strip.proofs.BandLemmas.{filled-covers, filled-more}
+use Rattle.life_strip.proofs.SpanLemmas.{filled-skip, filled-more}
 use Rattle.life_strip.proofs.bands.push_square.Goals as goal
+
+pub returns-then-cells-eq0-clause-filled : goal.returns-then-cells-eq0-clause-filled
+returns-then-cells-eq0-clause-filled g c want p same =
+    let zero = c.if-cells-eq0.true in
+    filled-skip (g.S.Squares.knows c.args.squares.now) (g.S.Squares.content c.args.squares.now) 2 want c.args.spans.now.items c.args.column c.args.end p
+    (omega (arith, c.requires)) (λ x le lt. same x le lt ∙ ap four zero)
 
 pub returns-clause-filled : goal.returns-clause-filled
 returns-clause-filled g c =
     let K = g.S.Squares.knows in
     let C = g.S.Squares.content in
+    let id = c.in_ok-id.ensures in
     on_ok_map c.extend.result
-    (λ columns want column p later same.
-    let more = columns column (filled-covers (K c.args.squares.now) (C c.args.squares.now) want c.args.spans.now.items column p) later in
-    filled-more {knows = K c.args.squares.now} {knows' = K c.join_four.new.squares} {now = C c.args.squares.now} {now' = C c.join_four.new.squares}
-    c.in_ok-id.ensures.keeps.contents
-    want c.args.spans.now.items c.extend.new.spans.items column c.args.end c.in_ok-id.id p more c.in_ok-id.ensures.known
-    (λ x le lt. same x le lt ∙ sym c.in_ok-id.ensures.square))
+    (λ columns want p same. filled-more {knows = K c.args.squares.now} {knows' = K c.join_four.new.squares} {now = C c.args.squares.now}
+    {now' = C c.join_four.new.squares} id.keeps.contents
+    2 want c.args.spans.now.items c.extend.new.spans.items c.args.column c.args.end c.in_ok-id.id p (columns p.before) id.known (ap depth id.square)
+    (λ x le lt. same x le lt ∙ sym id.square))
     c.extend.ensures.columns

@@ -49,10 +49,10 @@ module _ (K : Id → Type 0) (C : Id → Tree) (level : ℕ) (upper lower : List
       }
 
 pub find-ne-requires : goal.find-ne-requires
-find-ne-requires g c = record { past = past_later c.args.upper.now _ _ _ c.requires.north.past (omega arith) }
+find-ne-requires g c = record { columns = c.requires.upper_columns; past = past_later c.args.upper.now _ _ _ c.requires.north.past (omega arith) }
 
 pub find-se-requires : goal.find-se-requires
-find-se-requires g c = record { past = past_later c.args.lower.now _ _ _ c.requires.south.past (omega arith) }
+find-se-requires g c = record { columns = c.requires.lower_columns; past = past_later c.args.lower.now _ _ _ c.requires.south.past (omega arith) }
 
 pub join-requires : goal.join-requires
 join-requires g c =

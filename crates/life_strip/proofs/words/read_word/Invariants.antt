@@ -5,7 +5,10 @@ use Rattle.life_strip.proofs.WordLemmas.{IsBegun}
 use Rattle.life_strip.proofs.words.read_word.Given as goal
 
 abbrev pub invariant-loop-index : goal.invariant-loop-index
-invariant-loop-index g l = IsPast l.row l.index l.column × IsBegun (cell_in (g.S.Squares.content l.squares) l.row) l.start l.column l.cells l.rest
+invariant-loop-index g l = record {
+  past : IsPast l.row l.index l.column;
+  begun : IsBegun (cell_in (g.S.Squares.content l.squares) l.row) l.start l.column l.cells;
+}
 
 abbrev pub decreases-loop-index : goal.decreases-loop-index
 decreases-loop-index g l = length l.row - l.index

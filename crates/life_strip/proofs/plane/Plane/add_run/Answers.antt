@@ -1,4 +1,4 @@
-use Rattle.std.proofs.Common.{◌≡◌, ◌++◌, ◌∷◌, [], sym, ◌∙◌, ap, subst, arith}
+use Rattle.std.proofs.Common.{◌≡◌, ◌+◌, ◌^◌, ◌++◌, ◌∷◌, [], sym, ◌∙◌, ap, subst, arith}
 use Rattle.std.specs.Prelude.{if◌then◌else◌}
 use Rattle.std.proofs.lemmas.Int.{ints}
 use Rattle.life_base.specs.Tree.{depth}
@@ -8,16 +8,21 @@ use Rattle.life_strip.specs.Strip.{IsStrip, AreWithin}
 use Rattle.life_strip.specs.Picture.{picture, height}
 use Rattle.life_strip.specs.Pile.{strips_of}
 use Rattle.life_strip.specs.Plane.{state_so_far}
+use Rattle.life_base.specs.declared.cell.TheConstants.{MAX_LEVEL}
+use Rattle.life_strip.proofs.SpanLemmas.{before_more}
 use Rattle.life_strip.proofs.PictureLemmas.{on_ok_map, on_ok_map2}
 use Rattle.life_strip.proofs.PlaneLemmas.{column_of_run, row_of_run, next_ends, below_run, beside_run, row_pushed, row_strip, picture_pushed, AddsRun-span}
 use Rattle.life_strip.proofs.plane.Plane.add_run.Goals as goal
 
-pub push_span-requires-clause-ends : goal.push_span-requires-clause-ends
-push_span-requires-clause-ends g c =
+pub push_span-requires-clause-before : goal.push_span-requires-clause-before
+push_span-requires-clause-before g c k d lt =
     let ex = column_of_run c.args.run c.offset-column.result c.requires.inside c.requires.positive c.offset-column.ensures in
     let ey = row_of_run c.args.run c.offset-row.result c.requires.inside c.offset-row.ensures in
-    c.in_ok-go_to_row.ensures.ends c.offset-column.result
-    (next_ends c.args.self.now c.args.run.x c.args.run.y c.offset-column.result c.offset-row.result ex ey c.requires.free)
+    let fill = c.in_ok-go_to_row.ensures.filled in (
+      (fill.row.sound.within k d lt).0,
+      c.in_ok-go_to_row.ensures.ends c.offset-column.result
+          (next_ends c.args.self.now c.args.run.x c.args.run.y c.offset-column.result c.offset-row.result ex ey c.requires.free) k d lt,
+    )
 
 pub returns-clause-cells : goal.returns-clause-cells
 returns-clause-cells g c =
@@ -27,16 +32,12 @@ returns-clause-cells g c =
     let C = g.S.Squares.content c.go_to_row.new.squares in
     let self = c.go_to_row.new.self in
     let fill = c.in_ok-go_to_row.ensures.filled in
-    let begun : IsStrip K C 0 self.row.spans.items = subst (λ n. IsStrip K C n self.row.spans.items) fill.row.level fill.row.sound.squares in
     let row : Strip = record { level = self.row.level; spans = c.push_span.new.spans } in
     let height_is : height (strips_of self.pile) ≡ c.offset-row.result = fill.rows ∙ c.in_ok-go_to_row.ensures.rows in
     on_ok_map c.push_span.result
     (λ columns.
-    let strip = row_strip K C self.row.spans.items row.spans.items c.offset-column.result c.args.run.len c.cell-blank.result c.cell-square.result begun
-    c.cell-blank.ensures.known c.cell-blank.ensures.square c.cell-square.ensures.known (ap depth c.cell-square.ensures.square) columns in
-    let states = row_pushed K C self.row row c.offset-column.result c.args.run.len c.args.run.state c.cell-blank.result c.cell-square.result
-    fill.row.sound fill.row.level fill.row.level strip
-    c.cell-blank.ensures.known c.cell-blank.ensures.square c.cell-square.ensures.square columns in
+    let states = row_pushed C self.row row c.offset-column.result c.args.run.len c.args.run.state c.cell-square.result fill.row.level fill.row.level
+    c.cell-square.ensures.square columns in
     AddsRun-span (state_so_far (g.S.Squares.content c.args.squares.now) c.args.self.now)
     (picture C (strips_of self.pile ++ row ∷ []))
     c.args.run c.offset-column.result c.offset-row.result c.requires.inside ex ey
@@ -64,10 +65,11 @@ returns-clause-filled g c =
     let fill = c.in_ok-go_to_row.ensures.filled in
     let begun : IsStrip K C 0 old = subst (λ n. IsStrip K C n old) fill.row.level fill.row.sound.squares in
     on_ok_map2 c.push_span.result
-    (λ columns ends.
-    let strip = row_strip K C old new c.offset-column.result c.args.run.len c.cell-blank.result c.cell-square.result begun
-    c.cell-blank.ensures.known c.cell-blank.ensures.square c.cell-square.ensures.known (ap depth c.cell-square.ensures.square) columns in
-    let within : AreWithin 0 new = λ k d lt. let e = ends k d lt in omega (arith, ints, e, ex, c.requires.inside.east) in
+    (λ columns before.
+    let strip = row_strip K C old new c.offset-column.result c.args.run.len c.cell-square.result begun c.cell-square.ensures.known
+    (ap depth c.cell-square.ensures.square) columns in
+    let within : AreWithin 0 new = before_more (c.offset-column.result + c.args.run.len) (2 ^ MAX_LEVEL) new before
+    (omega (arith, ints, ex, c.requires.inside.east)) in
     record {
       pile = fill.pile;
       row = record {
@@ -80,22 +82,22 @@ returns-clause-filled g c =
       rows = fill.rows;
       most = fill.most;
     })
-    c.push_span.ensures.columns c.push_span.ensures.ends
+    c.push_span.ensures.columns c.push_span.ensures.before
 
 pub returns-clause-below : goal.returns-clause-below
 returns-clause-below g c =
     let ey = row_of_run c.args.run c.offset-row.result c.requires.inside c.offset-row.ensures in
     on_ok_map c.push_span.result
-    (λ ends i j below. below_run (record c.go_to_row.new.self { row = record c.go_to_row.new.self.row { spans = c.push_span.new.spans } }) c.args.run.y i j
+    (λ before i j below. below_run (record c.go_to_row.new.self { row = record c.go_to_row.new.self.row { spans = c.push_span.new.spans } }) c.args.run.y i j
     c.offset-row.result ey c.in_ok-go_to_row.ensures.rows below)
-    c.push_span.ensures.ends
+    c.push_span.ensures.before
 
 pub returns-clause-beside : goal.returns-clause-beside
 returns-clause-beside g c =
     let ex = column_of_run c.args.run c.offset-column.result c.requires.inside c.requires.positive c.offset-column.ensures in
     let ey = row_of_run c.args.run c.offset-row.result c.requires.inside c.offset-row.ensures in
     on_ok_map c.push_span.result
-    (λ ends i beside. beside_run (record c.go_to_row.new.self { row = record c.go_to_row.new.self.row { spans = c.push_span.new.spans } })
+    (λ before i beside. beside_run (record c.go_to_row.new.self { row = record c.go_to_row.new.self.row { spans = c.push_span.new.spans } })
     c.args.run.x c.args.run.y i c.offset-column.result c.offset-row.result c.args.run.len
-    ex ey c.in_ok-go_to_row.ensures.rows ends beside)
-    c.push_span.ensures.ends
+    ex ey c.in_ok-go_to_row.ensures.rows (λ k d lt. (before k d lt).1) beside)
+    c.push_span.ensures.before
