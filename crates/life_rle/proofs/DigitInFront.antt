@@ -1,14 +1,54 @@
--- A digit in front of a byte that is none is the count of an item.
-use Rattle.std.proofs.Common.{◌≡◌, ◌∷◌, ◌-◌, ◌≤◌, ℕ, List, true, false, refl, arith, nat_lt, []}
+-- What stands in an item's place, by the first byte.
+use Rattle.std.proofs.Common.{◌≡◌, ◌∷◌, ◌-◌, ◌≤◌, ◌<◌, ◌+◌, ℕ, List, [], true, false, refl, arith, nat_lt, add-one, length, drop, get_or, ap, sym, ◌∙◌}
 use Rattle.std.specs.Prelude.{◌==◌}
 use Rattle.std.specs.Char.{is_ascii_digit}
+use Rattle.std.specs.List.{prefix_len}
+use Rattle.std.proofs.Math.Seq.{drop-cons}
+use Rattle.std.proofs.lemmas.List.{drop-drop}
 use Rattle.std.proofs.lemmas.Bool.Decides.{nat_tests}
 use Rattle.std.proofs.lemmas.Str.{digit_value_digit}
-use Rattle.life_base.specs.Text.{is_whitespace, value_of}
+use Rattle.life_base.proofs.FrontDigits.{digit_text_in_front}
+use Rattle.life_base.specs.Text.{is_digit_text, is_whitespace, value_of}
 use Rattle.life_base.specs.declared.cell.TheConstants.{MAX_LEVEL}
-use Rattle.life_rle.specs.Items.{item_behind, next_of}
+use Rattle.life_rle.specs.Items.{counted, front_digits, behind_digits, item_behind, next_of}
 use Rattle.life_rle.specs.Plane.{most_count}
 
+-- the text from a place on
+pub text_at : (line : List ℕ) (at : ℕ) → at < length line → drop at line ≡ get_or line at 0 ∷ drop (at + 1) line
+text_at line at h = rw (add-one, drop-cons line at 0) refl
+
+-- digits in front
+pub digits_in_front : (level b : ℕ) (rest : List ℕ) → is_ascii_digit b ≡ true
+    → next_of level (b ∷ rest) ≡ counted level (front_digits (b ∷ rest)) (behind_digits (b ∷ rest))
+digits_in_front level b rest digit =
+    let space : is_whitespace b ≡ false = grind (arith, nat_tests) in
+    let mark : (b == 33) ≡ false = grind (arith, nat_tests) in
+    rw (space, mark) refl
+
+one_digit : (b : ℕ) (rest : List ℕ) → is_ascii_digit b ≡ true → 0 < prefix_len is_ascii_digit (b ∷ rest)
+one_digit b rest digit = rw digit (omega arith)
+
+-- digits at a place, which end at another
+pub record DigitsAt (level : ℕ) (line : List ℕ) (at count : ℕ) : Type 0 where
+  pub some : 0 < count
+  pub digits : is_digit_text (front_digits (drop at line)) ≡ true
+  pub told : next_of level (drop at line) ≡ counted level (front_digits (drop at line)) (drop (at + count) line)
+
+pub digits_at : (level : ℕ) (line : List ℕ) (at count : ℕ) → at < length line → is_ascii_digit (get_or line at 0) ≡ true
+    → count ≡ prefix_len is_ascii_digit (drop at line) → DigitsAt level line at count
+digits_at level line at count inside digit e =
+    let text : drop at line ≡ get_or line at 0 ∷ drop (at + 1) line = text_at line at inside in
+    let some : 0 < prefix_len is_ascii_digit (drop at line) = rw text (one_digit (get_or line at 0) (drop (at + 1) line) digit) in
+    record {
+      some = omega (arith, some, e);
+      digits = digit_text_in_front (drop at line) some;
+      told =
+          ap (next_of level) text ∙ digits_in_front level (get_or line at 0) (drop (at + 1) line) digit
+          ∙ ap (λ t. counted level (front_digits t) (behind_digits t)) (sym text)
+          ∙ ap (counted level (front_digits (drop at line))) (drop-drop (prefix_len is_ascii_digit (drop at line)) at line ∙ ap (λ n. drop (at + n) line) (sym e));
+    }
+
+-- a digit in front of a byte that is none
 pub digit_in_front : (d b : ℕ) (rest : List ℕ) → 49 ≤ d → d ≤ 57 → is_ascii_digit b ≡ false → next_of MAX_LEVEL (d ∷ b ∷ rest) ≡ item_behind (d - 48) (b ∷ rest)
 digit_in_front d b rest low high other =
     let space : is_whitespace d ≡ false = grind (arith, nat_tests) in

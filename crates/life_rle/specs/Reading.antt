@@ -1,6 +1,6 @@
 -- What a reader keeps while it goes over the items of a line.
-use Rattle.std.specs.Prelude.{◌≡◌, ℕ, Bool, true, false, ◌==◌, ◌||◌, List, ◌++◌, Option, Some, None, ℤ}
-use Rattle.std.specs.Str.{byte}
+use Rattle.std.specs.Prelude.{◌≡◌, ℕ, ◌+◌, ◌<◌, ◌≤◌, Bool, true, false, List, ◌++◌, length, drop, slice_index, Option, Some, None, ℤ}
+use Rattle.std.specs.Char.{is_ascii_digit}
 use Rattle.life_base.specs.declared.kind.Kind.{Kind}
 use Rattle.life_base.specs.declared.rule.Rule.{Rule}
 use Rattle.life_rle.specs.declared.item.Item.{Item}
@@ -8,22 +8,31 @@ use Rattle.life_rle.specs.declared.item.Token.{Token}
 use Rattle.life_rle.specs.declared.item.Token.TheVariants as found
 use Rattle.life_rle.specs.declared.cursor.Cursor.{Cursor}
 use Rattle.life_base.specs.declared.cell.Run.{Run}
-use Rattle.life_rle.specs.Items.{Next, End, Mark, Spelled, Broken, Spells}
+use Rattle.life_rle.specs.Items.{Next, End, Mark, Spelled, Broken, item_behind, next_of, Spells}
 use Rattle.life_rle.specs.Plane.{is_coordinate}
 use Rattle.life_rle.specs.Pattern.{item_fault, first_fault}
 use Rattle.life_rle.specs.Runs.{runs_of}
 use Rattle.life_rle.specs.Cursor.{IsNear, moved_behind, placed_at}
 
--- the bytes that most items end with: `b`, `o` and `$`
-abbrev pub is_short : ℕ → Bool
-is_short b = b == byte "b" || b == byte "o" || b == byte "$"
+-- the item at a place of a line has this count, whose digits end at another place; without digits it is 1
+pub data IsCount (level : ℕ) (line : List ℕ) (at count place : ℕ) : Type 0 where
+  none : is_ascii_digit (slice_index line at) ≡ false → count ≡ 1 → place ≡ at → IsCount level line at count place
+  digits : at < place → next_of level (drop at line) ≡ item_behind count (drop place line) → IsCount level line at count place
 
--- what was found in an item's place
-abbrev pub next_value : Token → Next
-next_value found.Nothing = End
-next_value found.Mark = Mark
-next_value (found.Spelled item rest) = Spelled item rest.now
-next_value (found.Broken kind) = Broken kind
+-- what was found behind a count
+abbrev pub IsItemAt : List ℕ → ℕ → ℕ → Token → Type 0
+IsItemAt line count place (found.Spelled item behind) =
+    (place < behind) × (behind ≤ length line) × (item_behind count (drop place line) ≡ Spelled item (drop behind line))
+IsItemAt line count place (found.Broken kind) = item_behind count (drop place line) ≡ Broken kind
+IsItemAt line count place _ = ⊥
+
+-- what was found at a place of a line
+abbrev pub IsTokenAt : ℕ → List ℕ → ℕ → Token → Type 0
+IsTokenAt level line at found.Space = next_of level (drop at line) ≡ next_of level (drop (at + 1) line)
+IsTokenAt level line at found.Mark = next_of level (drop at line) ≡ Mark
+IsTokenAt level line at (found.Spelled item behind) =
+    (at < behind) × (behind ≤ length line) × (next_of level (drop at line) ≡ Spelled item (drop behind line))
+IsTokenAt level line at (found.Broken kind) = next_of level (drop at line) ≡ Broken kind
 
 -- a number that was read; one that isn't exact lies outside the plane, as the number itself does
 abbrev pub IsNumberRead : ℕ → Option ℤ → Option ℤ → Type 0

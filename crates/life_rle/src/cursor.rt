@@ -31,6 +31,7 @@ pub(crate) fn start_of(position: Position) -> Cursor
 }
 
 /// Which rule cells break that stand there.
+#[inline(always)]
 fn cells_fault(rule: &Rule, cursor: Cursor, count: u64, state: State) -> Option<Kind>
     requires near { IsNear MAX_LEVEL cursor }
     requires count { count ≤ most_count MAX_LEVEL }
@@ -44,6 +45,7 @@ fn cells_fault(rule: &Rule, cursor: Cursor, count: u64, state: State) -> Option<
 }
 
 /// Which rule an item breaks that stands there.
+#[inline(always)]
 pub(crate) fn item_fault(rule: &Rule, cursor: Cursor, item: Item) -> Option<Kind>
     requires near { IsNear MAX_LEVEL cursor }
     requires count { item_count item ≤ most_count MAX_LEVEL }
@@ -57,6 +59,7 @@ pub(crate) fn item_fault(rule: &Rule, cursor: Cursor, item: Item) -> Option<Kind
 }
 
 /// The place behind an item.
+#[inline(always)]
 pub(crate) fn moved(cursor: Cursor, item: Item) -> Cursor
     requires near { IsNear MAX_LEVEL cursor }
     requires count { item_count item ≤ most_count MAX_LEVEL }

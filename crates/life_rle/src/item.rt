@@ -1,16 +1,16 @@
 //! The items of a line.
 
-ghost use Rattle.std.specs.Prelude.{◌≡◌, ◌∷◌, ◌==◌, ◌||◌, nat_le, ℕ, List, true, IfSome, IsSome};
-ghost use Rattle.std.specs.Option.{option_map};
+ghost use Rattle.std.specs.Prelude.{◌≡◌, ◌≢◌, ◌<◌, None, true, ℕ, List, drop, length, slice_index, OnOk, IfOk, IfErr};
+ghost use Rattle.std.specs.Char.{is_ascii_digit};
 ghost use Rattle.std.specs.Str.{byte};
 ghost use Rattle.life_base.specs.Numbers.{capped};
 ghost use Rattle.life_base.specs.Text.{is_digit_text, value_of};
-ghost use Rattle.life_rle.specs.States.{single_state, prefixed_state, state_at};
-ghost use Rattle.life_rle.specs.Items.{Spelled, item_behind, counted, next_of};
-ghost use Rattle.life_rle.specs.Reading.{is_short, next_value};
+ghost use Rattle.life_rle.specs.States.{single_state, prefixed_state};
+ghost use Rattle.life_rle.specs.Items.{Broken, item_behind, counted, next_of};
+ghost use Rattle.life_rle.specs.Reading.{IsCount, IsItemAt, IsTokenAt};
 
 use crate::plane::MOST_COUNT;
-use life_base::{Kind, MAX_LEVEL, State, leading_number, trimmed_start};
+use life_base::{Kind, MAX_LEVEL, State, is_whitespace, leading_number};
 
 /// Cells of one state side by side, or ends of rows, each with its count.
 #[derive(Clone, Copy, Debug, PartialEq, Eq)]
@@ -19,24 +19,42 @@ pub enum Item {
     RowEnds { count: u64 },
 }
 
-/// What stands in an item's place: nothing, the mark `!`, an item and the bytes behind it, or neither.
-pub(crate) enum Token<'a> {
-    Nothing,
+/// What stands at a place of a line: whitespace, the mark `!`, an item and the place behind it, or none of these.
+pub(crate) enum Token {
+    Space,
     Mark,
-    Spelled(Item, &'a [u8]),
+    Spelled(Item, usize),
     Broken(Kind),
 }
 
+/// Stands for no state in the table below.
+const NONE: u8 = 255;
+
+/// The state that each byte names by itself.
+static STATES: [u8; 256] = [
+    255, 255, 255, 255, 255, 255, 255, 255, 255, 255, 255, 255, 255, 255, 255, 255, 255, 255, 255,
+    255, 255, 255, 255, 255, 255, 255, 255, 255, 255, 255, 255, 255, 255, 255, 255, 255, 255, 255,
+    255, 255, 255, 255, 255, 255, 255, 255, 0, 255, 255, 255, 255, 255, 255, 255, 255, 255, 255,
+    255, 255, 255, 255, 255, 255, 255, 255, 1, 2, 3, 4, 5, 6, 7, 8, 9, 10, 11, 12, 13, 14, 15, 16,
+    17, 18, 19, 20, 21, 22, 23, 24, 255, 255, 255, 255, 255, 255, 255, 255, 255, 0, 255, 255, 255,
+    255, 255, 255, 255, 255, 255, 255, 255, 255, 1, 255, 255, 255, 255, 255, 255, 255, 255, 255,
+    255, 255, 255, 255, 255, 255, 255, 255, 255, 255, 255, 255, 255, 255, 255, 255, 255, 255, 255,
+    255, 255, 255, 255, 255, 255, 255, 255, 255, 255, 255, 255, 255, 255, 255, 255, 255, 255, 255,
+    255, 255, 255, 255, 255, 255, 255, 255, 255, 255, 255, 255, 255, 255, 255, 255, 255, 255, 255,
+    255, 255, 255, 255, 255, 255, 255, 255, 255, 255, 255, 255, 255, 255, 255, 255, 255, 255, 255,
+    255, 255, 255, 255, 255, 255, 255, 255, 255, 255, 255, 255, 255, 255, 255, 255, 255, 255, 255,
+    255, 255, 255, 255, 255, 255, 255, 255, 255, 255, 255, 255, 255, 255, 255, 255, 255, 255, 255,
+    255, 255, 255, 255, 255, 255, 255, 255, 255, 255, 255, 255, 255, 255, 255, 255, 255, 255, 255,
+    255, 255,
+];
+
 /// The state that one byte names.
+#[inline(always)]
 fn single_state(byte: u8) -> Option<State>
     ensures { result ≡ single_state byte }
 {
-    match byte {
-        b'b' | b'.' => Some(0),
-        b'o' => Some(1),
-        b'A'..=b'X' => Some(byte - b'A' + 1),
-        _ => None,
-    }
+    let state = STATES[usize::from(byte)];
+    if state == NONE { None } else { Some(state) }
 }
 
 /// The state that a prefix and a letter name.
@@ -54,151 +72,114 @@ fn prefixed_state(prefix: u8, letter: u8) -> Option<State>
     }
 }
 
-/// The state in front of the bytes, and what stands behind it.
-fn state_at(bytes: &[u8]) -> Option<(State, &[u8])>
-    ensures { option_map (λ found. (found.0, found.1.now)) result ≡ state_at bytes.now }
-{
-    match bytes {
-        [] => None,
-        [byte] => Some((single_state(*byte)?, &[])),
-        [byte, next, ..] => match single_state(*byte) {
-            Some(state) => Some((state, &bytes[1..])),
-            None => Some((prefixed_state(*byte, *next)?, &bytes[2..])),
-        },
-    }
-}
-
-/// The item with this count, whose `$` or state is in front of the bytes.
-fn item_behind(count: u64, bytes: &[u8]) -> Token<'_>
-    ensures { next_value result ≡ item_behind count bytes.now }
-{
-    match bytes {
-        [] => Token::Broken(Kind::BadItem),
-        [b'$', rest @ ..] => Token::Spelled(Item::RowEnds { count }, rest),
-        _ => match state_at(bytes) {
-            Some((state, rest)) => Token::Spelled(Item::Cells { count, state }, rest),
-            None => Token::Broken(Kind::BadItem),
-        },
-    }
-}
-
-/// The item with a count that digits write.
-fn counted_item(count: u64, bytes: &[u8]) -> Token<'_>
-    ensures { (digits : List ℕ) → is_digit_text digits ≡ true → count ≡ capped (value_of digits) → next_value result ≡ counted MAX_LEVEL digits bytes.now }
+/// Checks the count of an item.
+fn check_count(count: u64) -> Result<(), Kind>
+    ensures ok { OnOk result ((digits bytes : List ℕ) → is_digit_text digits ≡ true → count ≡ capped (value_of digits) → counted MAX_LEVEL digits bytes ≡ item_behind count bytes) }
+    ensures err { IfErr result (λ kind. (digits bytes : List ℕ) → is_digit_text digits ≡ true → count ≡ capped (value_of digits) → counted MAX_LEVEL digits bytes ≡ Broken kind) }
 {
     if count == 0 {
-        return Token::Broken(Kind::ZeroCount);
+        return Err(Kind::ZeroCount);
     }
     if count > MOST_COUNT {
-        return Token::Broken(Kind::TooLarge);
+        return Err(Kind::TooLarge);
     }
-    item_behind(count, bytes)
+    Ok(())
 }
 
-/// The item with this count that one byte names, as most do: `b`, `o` or `$`.
-fn short_item(count: u64, byte: u8) -> Option<Item>
-    ensures item { (rest : List ℕ) → IfSome result (λ item. item_behind count (byte ∷ rest) ≡ Spelled item rest) }
-    ensures byte { IsSome result → is_short byte ≡ true }
+/// The count that digits write from a place on, and the place behind them. It stays out of the loop over the items, few of which have more
+/// than one digit.
+#[cold]
+#[inline(never)]
+fn long_count(line: &[u8], at: usize) -> Result<(u64, usize), Kind>
+    requires inside { at < length line.now }
+    requires digit { is_ascii_digit (slice_index line.now at) ≡ true }
+    ensures count { IfOk result (λ found. IsCount MAX_LEVEL line.now at found.0 found.1) }
+    ensures inside { IfOk result (λ found. found.1 < length line.now) }
+    ensures fault { IfErr result (λ kind. next_of MAX_LEVEL (drop at line.now) ≡ Broken kind) }
 {
+    let (count, digits) = leading_number(&line[at..]);
+    check_count(count)?;
+    if at + digits == line.len() {
+        return Err(Kind::BadItem);
+    }
+    Ok((count, at + digits))
+}
+
+/// The same, its answer taken apart, so that it needs no place in memory.
+#[inline(always)]
+fn any_count(line: &[u8], at: usize) -> Result<(u64, usize), Kind>
+    requires inside { at < length line.now }
+    requires digit { is_ascii_digit (slice_index line.now at) ≡ true }
+    ensures count { IfOk result (λ found. IsCount MAX_LEVEL line.now at found.0 found.1) }
+    ensures inside { IfOk result (λ found. found.1 < length line.now) }
+    ensures fault { IfErr result (λ kind. next_of MAX_LEVEL (drop at line.now) ≡ Broken kind) }
+{
+    let (count, place) = long_count(line, at)?;
+    Ok((count, place))
+}
+
+/// The count at a place, which is 1 without digits, and the place behind it.
+#[inline(always)]
+fn count_at(line: &[u8], at: usize) -> Result<(u64, usize), Kind>
+    requires { at < length line.now }
+    ensures count { IfOk result (λ found. IsCount MAX_LEVEL line.now at found.0 found.1) }
+    ensures inside { IfOk result (λ found. found.1 < length line.now) }
+    ensures fault { IfErr result (λ kind. next_of MAX_LEVEL (drop at line.now) ≡ Broken kind) }
+{
+    let first = line[at];
+    if !first.is_ascii_digit() {
+        return Ok((1, at));
+    }
+    if first == b'0' || at + 1 == line.len() || line[at + 1].is_ascii_digit() {
+        return any_count(line, at);
+    }
+    Ok((u64::from(first - b'0'), at + 1))
+}
+
+/// The item with this count whose state is the two bytes at a place.
+#[inline(always)]
+fn prefixed_item(line: &[u8], count: u64, place: usize) -> Token
+    requires inside { place < length line.now }
+    requires row_end { slice_index line.now place ≢ byte "$" }
+    requires single { single_state (slice_index line.now place) ≡ None }
+    ensures { IsItemAt line.now count place result }
+{
+    if place + 1 == line.len() {
+        return Token::Broken(Kind::BadItem);
+    }
+    match prefixed_state(line[place], line[place + 1]) {
+        Some(state) => Token::Spelled(Item::Cells { count, state }, place + 2),
+        None => Token::Broken(Kind::BadItem),
+    }
+}
+
+/// What stands at a place whose count ends at another.
+#[inline(always)]
+fn behind_count(line: &[u8], at: usize, count: u64, place: usize) -> Token
+    requires inside { place < length line.now }
+    requires count { IsCount MAX_LEVEL line.now at count place }
+    ensures { IsTokenAt MAX_LEVEL line.now at result }
+{
+    let byte = line[place];
+    if let Some(state) = single_state(byte) {
+        return Token::Spelled(Item::Cells { count, state }, place + 1);
+    }
     match byte {
-        b'b' => Some(Item::Cells { count, state: 0 }),
-        b'o' => Some(Item::Cells { count, state: 1 }),
-        b'$' => Some(Item::RowEnds { count }),
-        _ => None,
+        b'$' => Token::Spelled(Item::RowEnds { count }, place + 1),
+        b'!' if place == at => Token::Mark,
+        _ if place == at && is_whitespace(byte) => Token::Space,
+        _ => prefixed_item(line, count, place),
     }
 }
 
-/// The item of one byte.
-fn single_item(byte: u8) -> Option<Item>
-    ensures { (rest : List ℕ) → IfSome result (λ item. next_of MAX_LEVEL (byte ∷ rest) ≡ Spelled item rest) }
+/// What stands at a place of a line.
+#[inline(always)]
+pub(crate) fn token_at(line: &[u8], at: usize) -> Token
+    requires { at < length line.now }
+    ensures { IsTokenAt MAX_LEVEL line.now at result }
 {
-    short_item(1, byte)
-}
-
-/// The item of a digit from 1 to 9 and one byte.
-fn digit_item(digit: u8, byte: u8) -> Option<Item>
-    ensures { (rest : List ℕ) → IfSome result (λ item. next_of MAX_LEVEL (digit ∷ byte ∷ rest) ≡ Spelled item rest) }
-{
-    if digit < b'1' || digit > b'9' {
-        return None;
+    match count_at(line, at) {
+        Ok((count, place)) => behind_count(line, at, count, place),
+        Err(kind) => Token::Broken(kind),
     }
-    short_item(u64::from(digit - b'0'), byte)
-}
-
-/// The item in front of the bytes, and what stands behind it, where it is one byte, or a digit and one byte.
-fn short_item_at(bytes: &[u8]) -> Option<(Item, &[u8])>
-    ensures { IfSome result (λ found. next_of MAX_LEVEL bytes.now ≡ Spelled found.0 found.1.now) }
-{
-    match bytes {
-        [] => None,
-        [byte] => Some((single_item(*byte)?, &[])),
-        [byte, next, ..] => match single_item(*byte) {
-            Some(item) => Some((item, &bytes[1..])),
-            None => Some((digit_item(*byte, *next)?, &bytes[2..])),
-        },
-    }
-}
-
-/// Whether a byte, of those that a state may begin with, is a letter or `.`: neither whitespace nor `!` nor a digit.
-fn is_letter_or_dot(first: u8) -> bool
-    ensures { result ≡ (nat_le (byte "A") first || first == byte ".") }
-{
-    first >= b'A' || first == b'.'
-}
-
-/// What stands in an item's place where that is a digit from 1 to 9 and a state.
-fn digit_and_state(digit: u8, bytes: &[u8]) -> Option<Token<'_>>
-    ensures { IfSome result (λ found. next_value found ≡ next_of MAX_LEVEL (digit ∷ bytes.now)) }
-{
-    let [first, ..] = bytes else {
-        return None;
-    };
-    if digit < b'1' || digit > b'9' || !is_letter_or_dot(*first) {
-        return None;
-    }
-    Some(item_behind(u64::from(digit - b'0'), bytes))
-}
-
-/// What stands in an item's place where that is a state, or a digit from 1 to 9 and a state.
-fn state_item_at(bytes: &[u8]) -> Option<Token<'_>>
-    ensures { IfSome result (λ found. next_value found ≡ next_of MAX_LEVEL bytes.now) }
-{
-    let [first, rest @ ..] = bytes else {
-        return None;
-    };
-    if is_letter_or_dot(*first) {
-        return Some(item_behind(1, bytes));
-    }
-    digit_and_state(*first, rest)
-}
-
-/// What stands in the next item's place.
-pub(crate) fn next_item(bytes: &[u8]) -> Token<'_>
-    ensures { next_value result ≡ next_of MAX_LEVEL bytes.now }
-{
-    if let Some((item, rest)) = short_item_at(bytes) {
-        return Token::Spelled(item, rest);
-    }
-    match state_item_at(bytes) {
-        Some(found) => found,
-        None => any_item(bytes),
-    }
-}
-
-/// The same of any item.
-fn any_item(bytes: &[u8]) -> Token<'_>
-    ensures { next_value result ≡ next_of MAX_LEVEL bytes.now }
-{
-    let text = trimmed_start(bytes);
-    if text.is_empty() {
-        return Token::Nothing;
-    }
-    if text[0] == b'!' {
-        return Token::Mark;
-    }
-    let (count, digits) = leading_number(text);
-    if digits == 0 {
-        return item_behind(1, text);
-    }
-    counted_item(count, &text[digits..])
 }

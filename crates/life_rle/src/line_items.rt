@@ -1,6 +1,6 @@
 //! The items of a line, read one after another.
 
-ghost use Rattle.std.specs.Prelude.{◌≡◌, ◌≤◌, ◌+◌, ◌⊎◌, ◌++◌, ◌==◌, not, [], Some, None, IfOk, IfErr, OnOk, OnErr, length, filter, position, take_while};
+ghost use Rattle.std.specs.Prelude.{◌≡◌, ◌≤◌, ◌+◌, ◌⊎◌, ◌∷◌, ◌++◌, ◌==◌, not, [], Some, None, IfOk, IfErr, OnOk, OnErr, length, filter, position, take_while};
 ghost use Rattle.std.specs.Vec.{vec_len, vec_capacity};
 ghost use Rattle.std.specs.Str.{byte};
 ghost use Rattle.life_rle.specs.Plane.{most_count};
@@ -11,7 +11,7 @@ ghost use Rattle.life_rle.specs.File.{IsFrontOf};
 ghost use Rattle.life_rle.specs.Reading.{ReadsItems, last_of, ItemsBreak};
 
 use crate::cursor::{Cursor, item_fault, moved};
-use crate::item::{Item, Token, next_item};
+use crate::item::{Item, Token, token_at};
 use bstr::ByteSlice;
 use life_base::{Kind, MAX_LEVEL, Rule, Run};
 
@@ -83,7 +83,20 @@ fn reserve_runs(line: &[u8], runs: &mut Vec<Run>) -> Result<(), Kind>
     Ok(())
 }
 
+/// Puts a run behind the runs. It is here for the vector to grow, out of the loop over the items: there is room as a rule.
+#[cold]
+#[inline(never)]
+fn push_growing(run: Run, runs: &mut Vec<Run>) -> Result<(), Kind>
+    ensures runs { OnOk result (runs.new.items ≡ runs.old.items ++ run ∷ []) }
+    ensures kept { OnErr result (runs.new.items ≡ runs.old.items) }
+    ensures memory { IfErr result (λ kind. kind ≡ Kind.Memory) }
+{
+    runs.push(run)?;
+    Ok(())
+}
+
 /// Puts the run of an item of nonzero state behind the runs.
+#[inline(always)]
 fn push_run(cursor: Cursor, item: Item, runs: &mut Vec<Run>) -> Result<(), Kind>
     ensures runs { OnOk result (runs.new.items ≡ runs.old.items ++ with_run cursor.y cursor.x item []) }
     ensures kept { OnErr result (runs.new.items ≡ runs.old.items) }
@@ -95,17 +108,29 @@ fn push_run(cursor: Cursor, item: Item, runs: &mut Vec<Run>) -> Result<(), Kind>
     if state == 0 {
         return Ok(());
     }
-    let run = Run {
-        x: cursor.x,
-        y: cursor.y,
+    let Cursor { x, y, .. } = cursor;
+    if runs.len() == runs.capacity() {
+        return push_growing(
+            Run {
+                x,
+                y,
+                len: count,
+                state,
+            },
+            runs,
+        );
+    }
+    runs.push(Run {
+        x,
+        y,
         len: count,
         state,
-    };
-    runs.push(run)?;
+    })?;
     Ok(())
 }
 
 /// Takes an item that stands at the cursor, and answers the place behind it.
+#[inline(always)]
 fn take_item(rule: &Rule, cursor: Cursor, item: Item, runs: &mut Vec<Run>) -> Result<Cursor, Kind>
     requires near { IsNear MAX_LEVEL cursor }
     requires count { item_count item ≤ most_count MAX_LEVEL }
@@ -124,6 +149,7 @@ fn take_item(rule: &Rule, cursor: Cursor, item: Item, runs: &mut Vec<Run>) -> Re
 }
 
 /// Reads the items of a line from the cursor on, and puts their runs behind the runs.
+#[inline(never)]
 pub(crate) fn read_items(
     rule: &Rule,
     from: Cursor,
@@ -137,15 +163,10 @@ pub(crate) fn read_items(
 {
     reserve_runs(line, runs)?;
     let mut cursor = from;
-    let mut rest = line;
-    loop {
-        match next_item(rest) {
-            Token::Nothing => {
-                return Ok(ItemsRead {
-                    cursor,
-                    marked: false,
-                });
-            }
+    let mut at = 0;
+    while at < line.len() {
+        match token_at(line, at) {
+            Token::Space => at += 1,
             Token::Mark => {
                 return Ok(ItemsRead {
                     cursor,
@@ -155,8 +176,12 @@ pub(crate) fn read_items(
             Token::Broken(kind) => return Err(kind),
             Token::Spelled(item, behind) => {
                 cursor = take_item(rule, cursor, item, runs)?;
-                rest = behind;
+                at = behind;
             }
         }
     }
+    Ok(ItemsRead {
+        cursor,
+        marked: false,
+    })
 }

@@ -1,12 +1,15 @@
-use Rattle.std.proofs.Common.{length}
+use Rattle.std.proofs.Common.{◌≤◌, ◌-◌, drop, length}
 use Rattle.life_base.specs.declared.cell.TheConstants.{MAX_LEVEL}
 use Rattle.life_rle.specs.Items.{next_of}
 use Rattle.life_rle.specs.Reading.{ReadsItems}
 use Rattle.life_rle.proofs.line_items.read_items.Given as goal
 
--- the items up to here were read
-abbrev pub invariant-loop-kind : goal.invariant-loop-kind
-invariant-loop-kind l = ReadsItems MAX_LEVEL l.rule l.fn.from l.line (next_of MAX_LEVEL l.rest) l.cursor l.initial.runs.items l.runs.items
+-- the items in front of the place were read
+abbrev pub invariant-loop-at : goal.invariant-loop-at
+invariant-loop-at l = record {
+  inside : l.at ≤ length l.line;
+  read : ReadsItems MAX_LEVEL l.rule l.fn.from l.line (next_of MAX_LEVEL (drop l.at l.line)) l.cursor l.initial.runs.items l.runs.items;
+}
 
-abbrev pub decreases-loop-kind : goal.decreases-loop-kind
-decreases-loop-kind l = length l.rest
+abbrev pub decreases-loop-at : goal.decreases-loop-at
+decreases-loop-at l = length l.line - l.at
