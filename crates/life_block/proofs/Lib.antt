@@ -2,6 +2,7 @@ pub mod BitmapLemmas
 pub mod CountLemmas
 pub mod GenerationLemmas
 pub mod PieceLemmas
+pub mod RememberedLemmas
 pub mod NeedLemmas
 pub mod RootLemmas
 pub mod Rows

@@ -11,6 +11,7 @@ mod blocks;
 mod counts;
 mod generation;
 mod grid;
+mod remembered;
 
 pub use blocks::next_life_square;
 pub use generation::next_life_generation;
