@@ -11,6 +11,8 @@ mod blocks;
 mod counts;
 mod generation;
 mod grid;
+mod leaf;
+mod words;
 
 pub use blocks::next_life_square;
 pub use generation::next_life_generation;
