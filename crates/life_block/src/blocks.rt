@@ -12,6 +12,7 @@ ghost use Rattle.life_block.specs.Pieces.{IsPiece, IsBinary, IsAt, InNine, InSix
 use crate::bitmap::{eight_rows, join_cells};
 use crate::counts::next_word;
 use crate::grid::{Corner, Nine, Sixteen};
+use crate::leaf::next_of_leaf;
 use crate::remembered::{recalled, remember};
 use life_base::{Kind, LifeRule, MAX_LEVEL};
 use life_quad::{Id, NeighbourhoodMemory, SharedSquares, Squares, divide};
@@ -102,6 +103,9 @@ fn next_of_middle<S: Squares>(
 {
     if level == 1 {
         return next_of_cells(squares, rule, sixteen);
+    }
+    if level == 2 {
+        return next_of_leaf(squares, rule, sixteen);
     }
     let nw = next_of(squares, memory, rule, level, &sixteen.front().western())?;
     let ne = next_of(squares, memory, rule, level, &sixteen.front().eastern())?;

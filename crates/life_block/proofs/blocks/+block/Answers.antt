@@ -32,6 +32,11 @@ next_of_middle-returns-then-level-eq1-clause-remembers g m c =
     let cells = c.next_of_cells.ensures in
     IfOk-weaker c.next_of_cells.result _ _ (λ r at. Remembers-kept cells.keeps c.requires.remembers) cells.at
 
+pub next_of_middle-returns-then-level-eq2-clause-remembers : goal.next_of_middle-returns-then-level-eq2-clause-remembers
+next_of_middle-returns-then-level-eq2-clause-remembers g m c =
+    let leaf = c.next_of_leaf.ensures in
+    IfOk-weaker c.next_of_leaf.result _ _ (λ r at. Remembers-kept leaf.keeps c.requires.remembers) leaf.at
+
 pub next_of_middle-returns-clause-remembers : goal.next_of_middle-returns-clause-remembers
 next_of_middle-returns-clause-remembers g m c =
     IfOk-weaker c.join.result _ _ (λ r known. Remembers-kept c.join.ensures.keeps c.in_ok-se.ensures.remembers) c.join.ensures.known
