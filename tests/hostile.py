@@ -735,11 +735,32 @@ def repeated(front, last, times):
     return front + single + chain(62 - times, 61, b"L C C C C\n", (front + single).count(b"\n"))
 
 
-# Blocks of four cells, and single cells, far apart over half the plane.
+def of_the_plane(lines):
+    """The node lines of the whole plane with this square of level 61 in its south-eastern quarter."""
+    return lines + b"62 0 0 0 %d\n" % lines.count(b"\n")
+
+
+# Blocks of four cells, rows of three cells that turn, and single cells, far apart over half the plane.
 BLOCK = b"**$**$$$$$$$\n"
-BLOCKS, FEW_BLOCKS = repeated(BLOCK, 3, 9), repeated(BLOCK, 3, 7)
-SPECKS = repeated(b"*$$$$$$$$\n", 3, 8)
+BLOCKS = repeated(BLOCK, 3, 9)
+BLINKERS, TURNED_BLINKERS = repeated(b"$$.***$$$$$$\n", 3, 9), repeated(b"$..*$..*$..*$$$$$\n", 3, 9)
+SPECKS = repeated(b"*$$$$$$$$\n", 3, 10)
 NAMED_SPECKS = repeated(b"1 1 0 0 0\n", 1, 8)
+
+
+@once
+def mixed_blocks():
+    """The node lines of about 2^20 cells in blocks: 400 chains of 48 levels, and above them squares of four others, all at random."""
+    order, nodes = random.Random(5), Nodes()
+    squares = []
+    for _ in range(400):
+        x, y = order.randrange(1, 6), order.randrange(1, 6)
+        squares.append(nodes.join(3, leaf(sum(3 << 56 - 8 * (y + j) + 6 - x for j in (0, 1)))))
+    for level in range(4, 52):
+        squares = [nodes.join(level, *order.sample((square, 0, 0, 0), 4)) for square in squares]
+    for level in range(52, 61):
+        squares = [nodes.join(level, *order.choices(squares, k=4)) for _ in range(2700)]
+    yield from gathered(nodes.lines(nodes.join(61, *squares[:3], 0)))
 
 
 def block_cells():
@@ -755,14 +776,15 @@ def few_lines(name, lines, output, words, more_files=(), rule=b"B3/S23", **more)
 
 BLOCKS_SHOWN = b"rule B3/S23\ngeneration 0\npopulation 1048576\nbox %d %d %d %d\nnodes 59\n" % (2 * (-HALF // 2,) + 2 * ((511 << 52) + 2,))
 STILL = {"still.rule": FILES["still.rule"]}.items()
-# A step visits each place of the plane beside which a cell is, and so takes the cells times the levels, however few lines say them. Such a file has
-# less than a kilobyte.
+# A step by a table visits each place of the plane beside which a cell is, and so takes the cells times the levels, however few lines say them. Such
+# a file has less than a kilobyte. One under a B/S rule remembers what it was told of the squares around a square.
 FEW_LINES = [
     few_lines("2^20 cells in 60 lines", BLOCKS, LIFE + BLOCKS, "canon input"),
     few_lines("2^20 cells in 60 lines that are shown", BLOCKS, BLOCKS_SHOWN, "show input"),
     few_lines("2^20 cells in 60 lines, to RLE", BLOCKS, rle_of(block_cells), "convert input --to rle", each=4000, little=60 * MEGABYTE),
-    few_lines("2^16 cells in 60 lines that stay", FEW_BLOCKS, LIFE + b"#G 1\n" + FEW_BLOCKS, "step input", each=6000),
-    few_lines("2^16 single cells in 60 lines that die", SPECKS, LIFE + b"#G 1\n", "step input", each=12_000),
+    few_lines("2^20 cells in 60 lines that stay", BLOCKS, LIFE + b"#G 1\n" + BLOCKS, "step input"),
+    few_lines("786,432 cells in 60 lines that turn", BLINKERS, LIFE + b"#G 1\n" + TURNED_BLINKERS, "step input"),
+    few_lines("2^20 single cells in 60 lines that die", SPECKS, LIFE + b"#G 1\n", "step input"),
     few_lines("2^16 single cells in 60 lines that stay by a table", NAMED_SPECKS, canonical(b"Still", 1) + NAMED_SPECKS,
               "step input --table still.rule", STILL, b"Still", each=4000),
 ]

@@ -11,7 +11,7 @@ const SPREAD: &[u8] =
     b"@RULE Spread\n@TABLE\nn_states:3\nneighborhood:vonNeumann\nsymmetries:rotate4\nvar a={1,2}\n0,a,0,0,0,a\n";
 
 /// Calls on files that are stepped by a table or under their own rule, and the canonical text of each next generation.
-pub(crate) const STEPS: [(&str, &[u8], Option<&[u8]>, &[u8]); 4] = [
+pub(crate) const STEPS: [(&str, &[u8], Option<&[u8]>, &[u8]); 5] = [
     (
         "step_life, glider",
         b"x = 3, y = 3, rule = B3/S23\nbo$2bo$3o!\n",
@@ -23,6 +23,13 @@ pub(crate) const STEPS: [(&str, &[u8], Option<&[u8]>, &[u8]); 4] = [
         b"x = 3, y = 1, rule = B3/S23\n3o!\n",
         None,
         b"[M2] (canonical 1)\n#R B3/S23\n#G 1\n$$$.....*$.....*$.....*$$$\n",
+    ),
+    // far enough apart for answers to be remembered
+    (
+        "step_life, four blocks",
+        b"[M2]\n#R B3/S23\n**$**$$$$$$$\n4 1 0 0 0\n5 2 2 2 2\n",
+        None,
+        b"[M2] (canonical 1)\n#R B3/S23\n#G 1\n**$**$$$$$$$\n4 1 0 0 0\n5 2 2 2 2\n",
     ),
     (
         "step_table, one cell",

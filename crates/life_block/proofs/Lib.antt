@@ -1,8 +1,12 @@
+pub mod BandLemmas
 pub mod BitmapLemmas
 pub mod CountLemmas
 pub mod GenerationLemmas
-pub mod PieceLemmas
 pub mod NeedLemmas
+pub mod PieceLemmas
+pub mod PlaceLemmas
+pub mod RememberedLemmas
 pub mod RootLemmas
 pub mod Rows
+pub mod SquareLemmas
 pub mod WordLemmas

@@ -17,7 +17,7 @@ use Rattle.life_block.proofs.BitmapLemmas.{HasInner, next-place}
 use Rattle.life_block.proofs.PieceLemmas.{IsPiece-moved, IsPiece-joined}
 use Rattle.life_block.proofs.WordLemmas.{bit-shr}
 
-quads : (a b c d s t u v : Tree) → a ≡ s → b ≡ t → c ≡ u → d ≡ v → quad a b c d ≡ quad s t u v
+pub quads : (a b c d s t u v : Tree) → a ≡ s → b ≡ t → c ≡ u → d ≡ v → quad a b c d ≡ quad s t u v
 quads a b c d s t u v ea eb ec ed = λ i. quad (ea i) (eb i) (ec i) (ed i)
 
 -- a piece is the square of its level

@@ -1,5 +1,5 @@
 -- Cells as words of 64 bits.
-use Rattle.std.specs.Prelude.{◌≡◌, ℕ, ◌+◌, ◌*◌, ◌<◌, ℤ, pos, ◌+ℤ◌, List, [], ◌∷◌}
+use Rattle.std.specs.Prelude.{◌≡◌, ℕ, ◌+◌, ◌-◌, ◌*◌, ◌/◌, ◌%◌, ◌^◌, ◌<◌, ◌==◌, if◌then◌else◌, ℤ, pos, ◌+ℤ◌, List, [], ◌∷◌}
 use Rattle.std.specs.Int.{bit_at}
 use Rattle.life_base.specs.declared.rule.Near.{Near}
 use Rattle.life_base.specs.declared.rule.Near.TheVariants.{Moore, VonNeumann}
@@ -37,3 +37,20 @@ HasCells cells x y width word = (i : ℕ) → i < width → bit_at word i ≡ ce
 abbrev pub HasRows : (ℤ → ℤ → ℕ) → ℤ → ℤ → ℕ → ℕ → Type 0
 HasRows cells x y rows word =
     (r i : ℕ) → r < rows → i < 8 → bit_at word (8 * r + i) ≡ cells (x +ℤ pos i) (y +ℤ pos r)
+
+-- the place of a cell among the sixteen of a square of level 2, by its row and its column, where the cells of each quarter stand together
+abbrev pub place_in : ℕ → ℕ → ℕ
+place_in r i = 8 * (r / 2) + 4 * (i / 2) + 2 * (r % 2) + i % 2
+
+-- the place from which bit i comes where each bit of a mask is exchanged with the one so far above it
+abbrev pub exchanged : ℕ → ℕ → ℕ → ℕ
+exchanged mask distance i =
+    if bit_at mask i == 1 then i + distance else if bit_at (mask * 2 ^ distance) i == 1 then i - distance else i
+
+-- the number has the states of a square of level 2 from the column x and the row y on, the north-western one in the highest of 16 bits
+abbrev pub HasSquare : (ℤ → ℤ → ℕ) → ℤ → ℤ → ℕ → Type 0
+HasSquare cells x y square = (r i : ℕ) → r < 4 → i < 4 → bit_at square (15 - place_in r i) ≡ cells (x +ℤ pos i) (y +ℤ pos r)
+
+-- the word has the states of four rows of sixteen cells from the column x and the row y on, the north-western one in the highest bit
+abbrev pub HasBand : (ℤ → ℤ → ℕ) → ℤ → ℤ → ℕ → Type 0
+HasBand cells x y word = (r i : ℕ) → r < 4 → i < 16 → bit_at word (63 - (16 * r + i)) ≡ cells (x +ℤ pos i) (y +ℤ pos r)

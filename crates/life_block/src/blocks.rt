@@ -6,14 +6,18 @@ ghost use Rattle.life_quad.specs.Refused.{SomePart};
 ghost use Rattle.life_quad.specs.Keeping.{KeepsSquares, IsWantKind};
 ghost use Rattle.life_sweep.specs.Generation.{next_life};
 ghost use Rattle.life_block.specs.Needed.{square_from, next_square};
+ghost use Rattle.life_block.specs.Remembered.{Remembers};
 ghost use Rattle.life_block.specs.Pieces.{IsPiece, IsBinary, IsAt, InNine, InSixteen, AreNine, AreSixteen};
 
 use crate::bitmap::{eight_rows, join_cells};
 use crate::counts::next_word;
 use crate::grid::{Corner, Nine, Sixteen};
+use crate::leaf::next_of_leaf;
+use crate::remembered::{recalled, remember};
 use life_base::{Kind, LifeRule, MAX_LEVEL};
-use life_quad::{Id, Squares, divide};
+use life_quad::{Id, NeighbourhoodMemory, SharedSquares, Squares, divide};
 use life_sweep::Column;
+use std::alloc::Global;
 
 // The next states of the four squares of level 1 amid twelve others, as one square.
 fn next_of_cells<S: Squares>(
@@ -44,13 +48,21 @@ fn next_of_cells<S: Squares>(
 
 #[cycle(block)]
 // The next states of a square of this level amid its neighbours.
-fn next_of<S: Squares>(squares: &mut S, rule: &LifeRule, level: u8, nine: &Nine) -> Result<Id, Kind>
+fn next_of<S: Squares>(
+    squares: &mut S,
+    memory: &mut NeighbourhoodMemory,
+    rule: &LifeRule,
+    level: u8,
+    nine: &Nine,
+) -> Result<Id, Kind>
+    requires remembers { Remembers (S.knows squares.old) (S.content squares.old) rule.now memory.old }
     requires known { InNine (IsAt (S.knows squares.old) (S.content squares.old) level) nine.now }
     requires low { 2 ≤ level }
     requires high { level ≤ MAX_LEVEL }
     requires quiet { has_digit rule.now.sets.births 0 ≡ false }
     ensures at { IfOk result (IsAt (S.knows squares.new) (S.content squares.new) level) }
     ensures next { IfOk result (λ r. (cells : ℤ → ℤ → ℕ) (x y : ℤ) → IsBinary cells → AreNine (S.content squares.old) cells (2 ^ level) x y nine.now → IsPiece (next_life rule.now cells) x y (S.content squares.new r)) }
+    ensures remembers { IfOk result (λ _. Remembers (S.knows squares.new) (S.content squares.new) rule.now memory.new) }
     ensures keeps { KeepsSquares S.knows S.content S.stored S.most squares.old squares.new }
     ensures refusals { IfErr result (IsWantKind (S.stored squares.new) (S.most squares.new)) }
     ensures needed { OnErr result ((cells : ℤ → ℤ → ℕ) (x y : ℤ) → IsBinary cells → AreNine (S.content squares.old) cells (2 ^ level) x y nine.now → SomePart (S.needs_node squares.new) (square_from (next_life rule.now cells) level x y)) }
@@ -59,24 +71,32 @@ fn next_of<S: Squares>(squares: &mut S, rule: &LifeRule, level: u8, nine: &Nine)
     if nine.are_all(blank) {
         return Ok(blank);
     }
+    if let Some(next) = recalled(memory, level, nine) {
+        return Ok(next);
+    }
     let sixteen = nine.quarters(squares, level - 1);
-    next_of_middle(squares, rule, level - 1, &sixteen)
+    let next = next_of_middle(squares, memory, rule, level - 1, &sixteen)?;
+    remember(memory, level, nine, next);
+    Ok(next)
 }
 
 #[cycle(block)]
 // The next states of the four squares of this level amid twelve others, as one square.
 fn next_of_middle<S: Squares>(
     squares: &mut S,
+    memory: &mut NeighbourhoodMemory,
     rule: &LifeRule,
     level: u8,
     sixteen: &Sixteen,
 ) -> Result<Id, Kind>
+    requires remembers { Remembers (S.knows squares.old) (S.content squares.old) rule.now memory.old }
     requires known { InSixteen (IsAt (S.knows squares.old) (S.content squares.old) level) sixteen.now }
     requires low { 1 ≤ level }
     requires high { level < MAX_LEVEL }
     requires quiet { has_digit rule.now.sets.births 0 ≡ false }
     ensures at { IfOk result (IsAt (S.knows squares.new) (S.content squares.new) (level + 1)) }
     ensures next { IfOk result (λ r. (cells : ℤ → ℤ → ℕ) (x y : ℤ) → IsBinary cells → AreSixteen (S.content squares.old) cells (2 ^ level) x y sixteen.now → IsPiece (next_life rule.now cells) x y (S.content squares.new r)) }
+    ensures remembers { IfOk result (λ _. Remembers (S.knows squares.new) (S.content squares.new) rule.now memory.new) }
     ensures keeps { KeepsSquares S.knows S.content S.stored S.most squares.old squares.new }
     ensures refusals { IfErr result (IsWantKind (S.stored squares.new) (S.most squares.new)) }
     ensures needed { OnErr result ((cells : ℤ → ℤ → ℕ) (x y : ℤ) → IsBinary cells → AreSixteen (S.content squares.old) cells (2 ^ level) x y sixteen.now → SomePart (S.needs_node squares.new) (square_from (next_life rule.now cells) (suc level) x y)) }
@@ -84,10 +104,13 @@ fn next_of_middle<S: Squares>(
     if level == 1 {
         return next_of_cells(squares, rule, sixteen);
     }
-    let nw = next_of(squares, rule, level, &sixteen.front().western())?;
-    let ne = next_of(squares, rule, level, &sixteen.front().eastern())?;
-    let sw = next_of(squares, rule, level, &sixteen.rear().western())?;
-    let se = next_of(squares, rule, level, &sixteen.rear().eastern())?;
+    if level == 2 {
+        return next_of_leaf(squares, rule, sixteen);
+    }
+    let nw = next_of(squares, memory, rule, level, &sixteen.front().western())?;
+    let ne = next_of(squares, memory, rule, level, &sixteen.front().eastern())?;
+    let sw = next_of(squares, memory, rule, level, &sixteen.rear().western())?;
+    let se = next_of(squares, memory, rule, level, &sixteen.rear().eastern())?;
     squares.join(nw, ne, sw, se)
 }
 
@@ -97,7 +120,12 @@ fn next_of_middle<S: Squares>(
 /// # Errors
 ///
 /// `Full` if the store holds its limit and a square of the generation is new, or `Memory`. After an error each Id has its square.
-pub fn next_life_square<S: Squares>(squares: &mut S, rule: &LifeRule, id: Id) -> Result<Id, Kind>
+pub fn next_life_square<S: SharedSquares>(
+    alloc: Global,
+    squares: &mut S,
+    rule: &LifeRule,
+    id: Id,
+) -> Result<Id, Kind>
     requires known { S.knows squares.old id }
     requires high { 2 ≤ depth (S.content squares.old id) }
     requires low { depth (S.content squares.old id) < MAX_LEVEL }
@@ -111,12 +139,18 @@ pub fn next_life_square<S: Squares>(squares: &mut S, rule: &LifeRule, id: Id) ->
 {
     // To read a field opens the invariant to the proof: no cell is born without live neighbours.
     let _ = &rule.births;
+    let mut memory = NeighbourhoodMemory::new(alloc, squares.seed());
+    let memory = &mut memory;
     let level = squares.level(id) - 1;
     let root = divide(squares, id);
     let blank = squares.empty(level);
-    let north_west = next_of_middle(squares, rule, level, &Corner::SouthEast.with(root, blank))?;
-    let north_east = next_of_middle(squares, rule, level, &Corner::SouthWest.with(root, blank))?;
-    let south_west = next_of_middle(squares, rule, level, &Corner::NorthEast.with(root, blank))?;
-    let south_east = next_of_middle(squares, rule, level, &Corner::NorthWest.with(root, blank))?;
+    let around = Corner::SouthEast.with(root, blank);
+    let north_west = next_of_middle(squares, memory, rule, level, &around)?;
+    let around = Corner::SouthWest.with(root, blank);
+    let north_east = next_of_middle(squares, memory, rule, level, &around)?;
+    let around = Corner::NorthEast.with(root, blank);
+    let south_west = next_of_middle(squares, memory, rule, level, &around)?;
+    let around = Corner::NorthWest.with(root, blank);
+    let south_east = next_of_middle(squares, memory, rule, level, &around)?;
     squares.join(north_west, north_east, south_west, south_east)
 }

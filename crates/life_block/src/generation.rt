@@ -49,5 +49,5 @@ pub fn next_life_generation<S: SharedSquares>(
     if population(alloc, squares, id)? > u128::from(most) {
         return Err(Fault::of(Kind::TooManyCells));
     }
-    Ok(next_life_square(squares, rule, id)?)
+    Ok(next_life_square(alloc, squares, rule, id)?)
 }

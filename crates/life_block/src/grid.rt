@@ -1,6 +1,7 @@
 //! Squares of one level side by side.
 ghost use Rattle.std.specs.Prelude.{◌≡◌, ℕ, ℤ, ◌+◌, ◌^◌, true};
 ghost use Rattle.life_block.specs.Pieces.{IsAt, InThree, InNine, InFour, InSixteen, AreThree, AreNine, AreFour, AreSixteen, ahead, four_of, front, rear, western, eastern, at_corner};
+ghost use Rattle.life_block.specs.Remembered.{ids_of};
 
 use life_quad::{Id, Quarters, Squares, divide};
 
@@ -73,6 +74,28 @@ impl Nine {
         ensures { result ≡ true → InNine (λ other. other ≡ id) self.now }
     {
         self.here.are_all(id) && self.before.are_all(id) && self.after.are_all(id)
+    }
+
+    /// The nine squares, row by row.
+    pub(crate) fn ids(&self) -> [Id; 9]
+        ensures { result ≡ ids_of self.now }
+    {
+        let Three {
+            before,
+            here,
+            after,
+        } = *self;
+        [
+            before.before,
+            before.here,
+            before.after,
+            here.before,
+            here.here,
+            here.after,
+            after.before,
+            after.here,
+            after.after,
+        ]
     }
 
     /// The four quarters of the square in the middle, and the twelve around them.

@@ -11,6 +11,9 @@ mod blocks;
 mod counts;
 mod generation;
 mod grid;
+mod leaf;
+mod remembered;
+mod words;
 
 pub use blocks::next_life_square;
 pub use generation::next_life_generation;

@@ -1,9 +1,15 @@
 -- Facts about the number of cells.
-use Rattle.std.proofs.Common.{◌≡◌, ℕ, suc, ◌+◌, ◌^◌, ◌≤◌, true, ◌&&◌, refl, ap, subst, arith}
+use Rattle.std.proofs.Common.{◌≡◌, ℕ, suc, ◌+◌, ◌*◌, ◌/◌, ◌%◌, ◌^◌, ◌<◌, ◌≤◌, true, ◌&&◌, refl, ◌∙◌, ap, subst, arith}
+use Rattle.std.specs.Prelude.{◌==◌}
+use Rattle.std.specs.Int.Count.{ones}
+use Rattle.std.proofs.lemmas.Bool.Decides.{nat_tests}
+use Rattle.std.proofs.lemmas.Nat.{ones_cat}
 use Rattle.std.proofs.Math.Nat.{pow-le-pow_right}
 use Rattle.life_base.specs.declared.cell.TheConstants.{MAX_LEVEL}
 use Rattle.life_base.specs.Tree.{Tree, point, quad, depth, is_blank_tree, IsFull}
 use Rattle.life_quad.specs.Cells.{population}
+use Rattle.life_quad.specs.Store.{two, four}
+use Rattle.life_base.proofs.RoundTrip.{all_below, all_below_at}
 use Rattle.life_base.proofs.Squares.{and_left, and_right}
 
 -- a blank square has no cell with a state
@@ -18,8 +24,8 @@ population-blank (quad a b c d) h =
     let pd = population-blank d (and_right (is_blank_tree a && is_blank_tree b && is_blank_tree c) (is_blank_tree d) h) in
     omega (arith, pa, pb, pc, pd)
 
-four : (n : ℕ) → 4 ^ suc n ≡ 4 ^ n + 4 ^ n + 4 ^ n + 4 ^ n
-four n = grind arith
+fourfold : (n : ℕ) → 4 ^ suc n ≡ 4 ^ n + 4 ^ n + 4 ^ n + 4 ^ n
+fourfold n = grind arith
 
 -- a full square has no more cells than its side allows
 pub population-small : (t : Tree) → IsFull t → population t ≤ 4 ^ depth t
@@ -29,7 +35,7 @@ population-small (quad a b c d) f =
     let pb : population b ≤ 4 ^ depth a = subst (λ n. population b ≤ 4 ^ n) f.4 (population-small b f.1) in
     let pc : population c ≤ 4 ^ depth a = subst (λ n. population c ≤ 4 ^ n) f.5 (population-small c f.2) in
     let pd : population d ≤ 4 ^ depth a = subst (λ n. population d ≤ 4 ^ n) f.6 (population-small d f.3) in
-    let e = four (depth a) in
+    let e = fourfold (depth a) in
     omega (arith, pa, pb, pc, pd, e)
 
 -- the number of a quarter, of level 61 at most
@@ -52,3 +58,28 @@ quarters_small t a b c d full low is =
       quarter_small c _ _ f.2 (ap (λ n. n + 1) f.5) one refl,
       quarter_small d _ _ f.3 (ap (λ n. n + 1) f.6) one refl,
     )
+
+-- the cells of a square of level 2 are the ones among its sixteen bits
+two-ones : all_below 16 (λ d. population (two d) == ones d) ≡ true
+unfolding ones
+two-ones = refl
+
+digit-ones : (d : ℕ) → d < 16 → population (two d) ≡ ones d
+digit-ones d l = equal _ _ (all_below_at 16 (λ d. population (two d) == ones d) d two-ones l)
+  where
+    equal : (a b : ℕ) → (a == b) ≡ true → a ≡ b
+    equal a b h = grind (arith, nat_tests)
+
+pub four-ones : (n : ℕ) → n < 65536 → population (four n) ≡ ones n
+four-ones n l =
+    let a = n / 4096 in
+    let b = n / 256 % 16 in
+    let c = n / 16 % 16 in
+    let d = n % 16 in
+    let na : n ≡ a * 2 ^ 12 + n % 4096 = omega arith in
+    let nb : n % 4096 ≡ b * 2 ^ 8 + n % 256 = omega arith in
+    let nc : n % 256 ≡ c * 2 ^ 4 + d = omega arith in
+    let oa : ones n ≡ ones a + ones (n % 4096) = ap ones na ∙ ones_cat 12 a (n % 4096) (omega arith) in
+    let ob : ones (n % 4096) ≡ ones b + ones (n % 256) = ap ones nb ∙ ones_cat 8 b (n % 256) (omega arith) in
+    let oc : ones (n % 256) ≡ ones c + ones d = ap ones nc ∙ ones_cat 4 c d (omega arith) in
+    omega (arith, oa, ob, oc, digit-ones a (omega (arith, l)), digit-ones b (omega arith), digit-ones c (omega arith), digit-ones d (omega arith))

@@ -14,3 +14,4 @@ pub mod Pages
 pub mod IdMap
 pub mod IdNumbers
 pub mod Lanes
+pub mod Memory

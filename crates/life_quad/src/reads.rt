@@ -39,6 +39,9 @@ fn count<S: Squares>(squares: &S, level: u8, id: Id, known: &mut IdMap<u128>) ->
     ensures right { (q : IdValue) → 0 < value_of known.new q → value_of known.new q ≡ population (S.content squares.now q) }
     ensures refusals { IfErr result (λ e. e ≡ Memory) }
 {
+    if let Some(cells) = squares.small_cells(id) {
+        return Ok(u128::from(cells.count_ones()));
+    }
     if let Some(state) = squares.state(id) {
         return Ok(if state == 0 { 0 } else { 1 });
     }

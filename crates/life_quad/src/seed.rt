@@ -47,6 +47,13 @@ impl Hasher for Lanes {
     }
 }
 
+/// The word that SplitMix64 makes of its state.
+fn mixed(state: u64) -> u64 {
+    let first = (state ^ (state >> 30)).wrapping_mul(0xbf58_476d_1ce4_e5b9);
+    let second = (first ^ (first >> 27)).wrapping_mul(0x94d0_49bb_1331_11eb);
+    second ^ (second >> 31)
+}
+
 /// The words by which a store finds its nodes. Which they are decides nothing but time: with random ones, drawn after the input was written, any two
 /// nodes meet in all 32 bits that the table uses with chance 2^-32, so no input can be made whose nodes crowd.
 #[derive(Clone, Copy, Drop)]
@@ -67,6 +74,17 @@ impl Seed {
                 fourth,
             },
         }
+    }
+
+    /// Nine words for another table, drawn from the first one by SplitMix64.
+    pub(crate) fn nine_words(&self) -> [u64; 9] {
+        let mut state = self.start.sum;
+        let mut words = [0; 9];
+        for word in words.iter_mut() {
+            state = state.wrapping_add(0x9e37_79b9_7f4a_7c15);
+            *word = mixed(state);
+        }
+        words
     }
 
     /// A seed that everybody knows, for inputs that nobody chose against it: the first 320 bits of π behind the point.

@@ -26,6 +26,7 @@ pub struct Shared {
     /// The Ids in the order of their first join.
     log: JoinLog,
     limit: u64,
+    seed: Seed,
 }
 
 impl Model for Shared {
@@ -90,6 +91,7 @@ impl Shared {
             small: 0,
             log: JoinLog::new(),
             limit,
+            seed,
         }
     }
 
@@ -236,5 +238,9 @@ impl Squares for Shared {
 }
 
 impl SharedSquares for Shared {
+    fn seed(&self) -> Seed {
+        self.seed
+    }
+
     ghost same_id = { λ s a b ha hb e. same_id s ha.1 a b ha.0 hb.0 e };
 }

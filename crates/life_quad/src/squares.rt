@@ -6,7 +6,7 @@ ghost use Rattle.life_base.specs.Tree.{Tree, point, quad, depth, blank, quarters
 ghost use Rattle.life_quad.specs.Store.{four};
 ghost use Rattle.life_quad.specs.Keeping.{KeepsSquares, IsWantKind};
 
-use crate::Id;
+use crate::{Id, Seed};
 use life_base::{Kind, MAX_LEVEL, State};
 
 /// A store of squares. A square is named by an `Id`.
@@ -105,6 +105,9 @@ pub trait Squares {
 
 /// A store that keeps each square once.
 pub trait SharedSquares: Squares {
+    /// The words by which the store finds its nodes: what else is kept for its squares may be found by words drawn from them.
+    fn seed(&self) -> Seed;
+
     // Two Ids are equal if their squares are.
     ghost same_id: { (store : Self) (a b : IdValue) → Self.knows store a → Self.knows store b → Self.content store a ≡ Self.content store b → a ≡ b };
 }

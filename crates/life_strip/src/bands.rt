@@ -30,8 +30,12 @@ fn join_two<S: Squares>(squares: &mut S, cells: u16) -> Result<Id, Kind>
     squares.join(nw, ne, sw, se)
 }
 
-// The square of level 2 with these cells, as `Squares::find_small` takes them.
-fn join_four<S: Squares>(squares: &mut S, cells: u16) -> Result<Id, Kind>
+/// The square of level 2 with these cells of the states 0 and 1, as `Squares::find_small` takes them.
+///
+/// # Errors
+///
+/// `Full` where a square is new and the store holds its limit, and `Memory`. After either each Id has its square.
+pub fn join_four<S: Squares>(squares: &mut S, cells: u16) -> Result<Id, Kind>
     ensures known { IfOk result (S.knows squares.new) }
     ensures square { IfOk result (λ r. S.content squares.new r ≡ four cells) }
     ensures keeps { KeepsSquares S.knows S.content S.stored S.most squares.old squares.new }

@@ -1,4 +1,4 @@
-use Rattle.std.proofs.Common.{inl, inr, ℤ, ℕ, ◌^◌, refl, ◌∙◌}
+use Rattle.std.proofs.Common.{◌≡◌, inl, inr, ℤ, ℕ, ◌+◌, ◌-◌, ◌^◌, refl, ◌∙◌, arith}
 use Rattle.std.proofs.lemmas.Result.{IfOk-weaker}
 use Rattle.life_base.proofs.Results.{on_err_any, on_err_both}
 use Rattle.life_quad.proofs.KeepingLemmas.{keeps-then}
@@ -6,6 +6,7 @@ use Rattle.life_sweep.specs.Generation.{next_life}
 use Rattle.life_block.specs.Pieces.{IsBinary, AreSixteen}
 use Rattle.life_block.proofs.NeedLemmas.{AreParts, is-piece, joined-is, parts-of_pieces, own-part, quarter-part, still-needs}
 use Rattle.life_block.proofs.PieceLemmas.{AreSixteen-kept, first-of_four, last-of_four, western-nine, eastern-nine, next-of_blank}
+use Rattle.life_block.proofs.RememberedLemmas.{Remembers-kept, Remembers-more, new-answer, recalled-at, recalled-next}
 use Rattle.life_block.proofs.blocks.+block.Given.{Over}
 use Rattle.life_block.proofs.blocks.+block.Goals as goal
 
@@ -13,6 +14,32 @@ pub next_of-returns-then-are_all-clause-next : goal.next_of-returns-then-are_all
 next_of-returns-then-are_all-clause-next g t c cells x y binary h =
     next-of_blank c.args.rule.now (g.S.Squares.content c.args.squares.now) cells c.args.level x y c.empty-blank.result c.args.nine.now c.requires.quiet
     c.empty-blank.ensures.square (c.are_all.ensures c.if-are_all.true) h
+
+pub next_of-returns-in-Some-clause-at : goal.next_of-returns-in-Some-clause-at
+next_of-returns-in-Some-clause-at g t c = recalled-at c.requires.remembers c.in-Some.ensures.answer c.requires.known
+
+pub next_of-returns-in-Some-clause-next : goal.next_of-returns-in-Some-clause-next
+next_of-returns-in-Some-clause-next g t c = recalled-next c.requires.remembers c.in-Some.ensures.answer c.requires.known
+
+pub next_of-returns-clause-remembers : goal.next_of-returns-clause-remembers
+next_of-returns-clause-remembers g t c =
+    let n = c.in_ok-next.ensures in
+    let level : c.args.level - 1 + 1 ≡ c.args.level = omega (arith, c.requires.low) in
+    Remembers-more (new-answer n.keeps (c.args.level - 1) c.args.level level c.requires.known n.at c.quarters-sixteen.ensures.pieces n.next) c.remember.ensures n.remembers
+
+pub next_of_middle-returns-then-level-eq1-clause-remembers : goal.next_of_middle-returns-then-level-eq1-clause-remembers
+next_of_middle-returns-then-level-eq1-clause-remembers g m c =
+    let cells = c.next_of_cells.ensures in
+    IfOk-weaker c.next_of_cells.result _ _ (λ r at. Remembers-kept cells.keeps c.requires.remembers) cells.at
+
+pub next_of_middle-returns-then-level-eq2-clause-remembers : goal.next_of_middle-returns-then-level-eq2-clause-remembers
+next_of_middle-returns-then-level-eq2-clause-remembers g m c =
+    let leaf = c.next_of_leaf.ensures in
+    IfOk-weaker c.next_of_leaf.result _ _ (λ r at. Remembers-kept leaf.keeps c.requires.remembers) leaf.at
+
+pub next_of_middle-returns-clause-remembers : goal.next_of_middle-returns-clause-remembers
+next_of_middle-returns-clause-remembers g m c =
+    IfOk-weaker c.join.result _ _ (λ r known. Remembers-kept c.join.ensures.keeps c.in_ok-se.ensures.remembers) c.join.ensures.known
 
 pub next_of_middle-returns-in_err-sw-clause-keeps : goal.next_of_middle-returns-in_err-sw-clause-keeps
 next_of_middle-returns-in_err-sw-clause-keeps g m c = keeps-then (keeps-then c.in_ok-nw.ensures.keeps c.in_ok-ne.ensures.keeps) c.in_err-sw.ensures.keeps

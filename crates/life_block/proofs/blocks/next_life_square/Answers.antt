@@ -7,10 +7,11 @@ use Rattle.life_quad.proofs.KeepingLemmas.{keeps-then}
 use Rattle.life_sweep.specs.Generation.{next_life}
 use Rattle.life_block.specs.Needed.{square_from}
 use Rattle.life_block.proofs.NeedLemmas.{AreParts, depth-square, is-piece, joined-is, parts-of_pieces, own-part, still-needs}
+use Rattle.life_block.proofs.RememberedLemmas.{Remembers-none}
 use Rattle.life_block.proofs.RootLemmas.{IsDivided, IsDivided-kept, quarters-at, outer, root-next, known-north_west, known-north_east, known-south_west, known-south_east, around-north_west, around-north_east, around-south_west, around-south_east, corner-part}
 use Rattle.life_block.proofs.blocks.next_life_square.Given.{Over}
 use Rattle.life_block.proofs.blocks.next_life_square.Goals as goal
-use Rattle.life_block.proofs.blocks.next_life_square.Goals.{After-empty-blank}
+use Rattle.life_block.proofs.blocks.next_life_square.Goals.{After-empty-blank, After-join}
 
 both : {T E : Type 0} {P Q R : T → Type 0} (r : Result T E) → ((x : T) → P x → Q x → R x) → IfOk r P → IfOk r Q → IfOk r R
 both (Ok x) f p q = f x p q
@@ -35,27 +36,30 @@ divided g c =
           d.square d.quarters.nw d.quarters.ne d.quarters.sw d.quarters.se e.known e.square e.level;
     }
 
+pub next_of_middle-requires-clause-remembers : goal.next_of_middle-requires-clause-remembers
+next_of_middle-requires-clause-remembers g c = Remembers-none c.new-memory.ensures
+
 pub next_of_middle-requires-clause-known : goal.next_of_middle-requires-clause-known
 next_of_middle-requires-clause-known g c =
     let d = divided g (goal.at.next_of_middle-requires-clause-known g c).After-empty-blank in
-    known-south_east d.quarters c.with.ensures
+    known-south_east d.quarters c.with-around.ensures
 
 pub next_of_middle-requires-2-clause-known : goal.next_of_middle-requires-2-clause-known
 next_of_middle-requires-2-clause-known g c =
     let d = divided g (goal.at.next_of_middle-requires-2-clause-known g c).After-empty-blank in
-    known-south_west (IsDivided-kept c.in_ok-north_west.ensures.keeps d).quarters c.with-2.ensures
+    known-south_west (IsDivided-kept c.in_ok-north_west.ensures.keeps d).quarters c.with-around-2.ensures
 
 pub next_of_middle-requires-3-clause-known : goal.next_of_middle-requires-3-clause-known
 next_of_middle-requires-3-clause-known g c =
     let d = divided g (goal.at.next_of_middle-requires-3-clause-known g c).After-empty-blank in
-    known-north_east (IsDivided-kept (keeps-then c.in_ok-north_west.ensures.keeps c.in_ok-north_east.ensures.keeps) d).quarters c.with-3.ensures
+    known-north_east (IsDivided-kept (keeps-then c.in_ok-north_west.ensures.keeps c.in_ok-north_east.ensures.keeps) d).quarters c.with-around-3.ensures
 
 pub next_of_middle-requires-4-clause-known : goal.next_of_middle-requires-4-clause-known
 next_of_middle-requires-4-clause-known g c =
     let d = divided g (goal.at.next_of_middle-requires-4-clause-known g c).After-empty-blank in
     known-north_west (IsDivided-kept
     (keeps-then (keeps-then c.in_ok-north_west.ensures.keeps c.in_ok-north_east.ensures.keeps) c.in_ok-south_west.ensures.keeps) d).quarters
-    c.with-4.ensures
+    c.with-around-4.ensures
 
 pub returns-in_err-south_west-clause-keeps : goal.returns-in_err-south_west-clause-keeps
 returns-in_err-south_west-clause-keeps g c =
@@ -72,7 +76,7 @@ returns-clause-keeps g c =
     c.in_ok-south_east.ensures.keeps) c.join.ensures.keeps
 
 -- the four answers are the quarters of the next square
-parts : (g : Over) (c : goal.After-join g) → let t = g.S.Squares.content c.args.squares.now c.args.id in
+parts : (g : Over) (c : After-join g) → let t = g.S.Squares.content c.args.squares.now c.args.id in
     let now = g.S.Squares.content c.next_of_middle-4.new.squares in
     IsDivided (g.S.Squares.knows c.args.squares.now) (g.S.Squares.content c.args.squares.now) t (c.level-level.result - 1) c.divide-root.result
     c.empty-blank.result
@@ -87,10 +91,10 @@ parts g c d =
     let se = c.in_ok-south_east.ensures in
     let north = keeps-then nw.keeps ne.keeps in
     parts-of_pieces _ _ g.met.S.Squares.full (sym d.level) _ _ ne.keeps sw.keeps se.keeps nw.at ne.at sw.at se.at
-    (nw.next _ _ _ states (around-north_west d c.with.ensures))
-    (ne.next _ _ _ states (around-north_east (IsDivided-kept nw.keeps d) c.with-2.ensures))
-    (sw.next _ _ _ states (around-south_west (IsDivided-kept north d) c.with-3.ensures))
-    (se.next _ _ _ states (around-south_east (IsDivided-kept (keeps-then north sw.keeps) d) c.with-4.ensures))
+    (nw.next _ _ _ states (around-north_west d c.with-around.ensures))
+    (ne.next _ _ _ states (around-north_east (IsDivided-kept nw.keeps d) c.with-around-2.ensures))
+    (sw.next _ _ _ states (around-south_west (IsDivided-kept north d) c.with-around-3.ensures))
+    (se.next _ _ _ states (around-south_east (IsDivided-kept (keeps-then north sw.keeps) d) c.with-around-4.ensures))
 
 pub returns-clause-next : goal.returns-clause-next
 returns-clause-next g c =
@@ -98,7 +102,7 @@ returns-clause-next g c =
     let f = next_life c.args.rule.now (tree_cell t) in
     let k = depth t in
     let quiet = ap (λ (d : OuterTotalistic). has_digit d.sets.births 0) (sym c.rule.view_is) ∙ c.rule.invariant.no_birth_on_zero in
-    let joined = joined-is (parts g c (divided g (goal.at.returns-clause-next g c).After-empty-blank)) in
+    let joined = joined-is (parts g (goal.at.returns-clause-next g c).After-join (divided g (goal.at.returns-clause-next g c).After-empty-blank)) in
     both c.join.result
     (λ r known e.
     let u = g.S.Squares.content c.join.new.self r in
@@ -113,14 +117,14 @@ returns-in_err-north_west-clause-needed g c =
     let d = divided g (goal.at.returns-in_err-north_west-clause-needed g c).After-empty-blank in
     on_err_any c.from_residual.result
     (corner-part d (g.S.Squares.needs_node c.next_of_middle.new.squares) _ (inl
-    (c.in_err-north_west.ensures.needed _ _ _ c.requires.states (around-north_west d c.with.ensures))))
+    (c.in_err-north_west.ensures.needed _ _ _ c.requires.states (around-north_west d c.with-around.ensures))))
 
 pub returns-in_err-north_east-clause-needed : goal.returns-in_err-north_east-clause-needed
 returns-in_err-north_east-clause-needed g c =
     let d = IsDivided-kept c.in_ok-north_west.ensures.keeps (divided g (goal.at.returns-in_err-north_east-clause-needed g c).After-empty-blank) in
     on_err_any c.from_residual-in_err-north_east.result
     (corner-part d (g.S.Squares.needs_node c.next_of_middle-2.new.squares) _ (inr (inl
-    (c.in_err-north_east.ensures.needed _ _ _ c.requires.states (around-north_east d c.with-2.ensures)))))
+    (c.in_err-north_east.ensures.needed _ _ _ c.requires.states (around-north_east d c.with-around-2.ensures)))))
 
 pub returns-in_err-south_west-clause-needed : goal.returns-in_err-south_west-clause-needed
 returns-in_err-south_west-clause-needed g c =
@@ -128,7 +132,7 @@ returns-in_err-south_west-clause-needed g c =
     (divided g (goal.at.returns-in_err-south_west-clause-needed g c).After-empty-blank) in
     on_err_any c.from_residual-in_err-south_west.result
     (corner-part d (g.S.Squares.needs_node c.next_of_middle-3.new.squares) _ (inr (inr (inl
-    (c.in_err-south_west.ensures.needed _ _ _ c.requires.states (around-south_west d c.with-3.ensures))))))
+    (c.in_err-south_west.ensures.needed _ _ _ c.requires.states (around-south_west d c.with-around-3.ensures))))))
 
 pub returns-in_err-south_east-clause-needed : goal.returns-in_err-south_east-clause-needed
 returns-in_err-south_east-clause-needed g c =
@@ -136,11 +140,11 @@ returns-in_err-south_east-clause-needed g c =
     (divided g (goal.at.returns-in_err-south_east-clause-needed g c).After-empty-blank) in
     on_err_any c.from_residual-in_err-south_east.result
     (corner-part d (g.S.Squares.needs_node c.next_of_middle-4.new.squares) _ (inr (inr (inr
-    (c.in_err-south_east.ensures.needed _ _ _ c.requires.states (around-south_east d c.with-4.ensures))))))
+    (c.in_err-south_east.ensures.needed _ _ _ c.requires.states (around-south_east d c.with-around-4.ensures))))))
 
 pub returns-clause-needed : goal.returns-clause-needed
 returns-clause-needed g c =
     let N = g.S.Squares.needs_node in
-    let joined = joined-is (parts g c (divided g (goal.at.returns-clause-needed g c).After-empty-blank)) in
+    let joined = joined-is (parts g (goal.at.returns-clause-needed g c).After-join (divided g (goal.at.returns-clause-needed g c).After-empty-blank)) in
     on_err_both c.join.result (λ needs same. own-part (N c.join.new.self) _ _ _ _ _ joined (still-needs N _ _ _ same needs))
     c.join.ensures.needed c.join.ensures.unchanged

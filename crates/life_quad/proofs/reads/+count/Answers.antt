@@ -3,9 +3,13 @@ use Rattle.life_base.specs.Tree.{Tree}
 use Rattle.life_quad.specs.declared.id.Id.{Id}
 use Rattle.life_quad.specs.Cells.{population}
 use Rattle.life_quad.specs.IdMap.{value_of}
-use Rattle.life_quad.proofs.CountLemmas.{population-blank, quarters_small}
+use Rattle.life_quad.proofs.CountLemmas.{population-blank, quarters_small, four-ones}
 use Rattle.life_quad.proofs.MapLemmas.{after_set}
 use Rattle.life_quad.proofs.reads.+count.Goals as goal
+
+pub returns-in-Some-clause-number : goal.returns-in-Some-clause-number
+returns-in-Some-clause-number g t c =
+    c.from.ensures ∙ sym (four-ones c.in-Some.cells (omega arith)) ∙ ap population (sym c.in-Some.ensures)
 
 pub returns-then-is_blank_at-clause-number : goal.returns-then-is_blank_at-clause-number
 returns-then-is_blank_at-clause-number g t c =

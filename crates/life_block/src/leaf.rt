@@ -1,0 +1,104 @@
+//! The next states of four squares of level 2 amid twelve others, by words of their cells.
+ghost use Rattle.std.specs.Prelude.{◌≡◌, ℕ, ℤ, ◌<◌, IfOk, IfErr, OnErr};
+ghost use Rattle.life_base.specs.Tree.{point};
+ghost use Rattle.life_quad.specs.Keeping.{KeepsSquares, IsWantKind};
+ghost use Rattle.life_quad.specs.Refused.{SomePart};
+ghost use Rattle.life_quad.specs.Store.{two, four};
+ghost use Rattle.life_sweep.specs.Generation.{next_life};
+ghost use Rattle.life_block.specs.Bits.{HasBand};
+ghost use Rattle.life_block.specs.Needed.{square_from};
+ghost use Rattle.life_block.specs.Pieces.{IsPiece, IsBinary, IsAt, InFour, InSixteen, AreFour, AreSixteen, back};
+
+use crate::grid::{Four, Sixteen};
+use crate::words::{next_squares, rows_of_squares};
+use life_base::{Kind, LifeRule};
+use life_quad::{Id, Quarters, Squares, divide};
+use life_strip::join_four;
+
+// The state of a cell that is 0 or 1.
+fn one_cell<S: Squares>(squares: &S, id: Id) -> u16
+    requires { IsAt (S.knows squares.now) (S.content squares.now) 0 id }
+    ensures small { result < 2 }
+    ensures square { (cells : ℤ → ℤ → ℕ) (x y : ℤ) → IsBinary cells → IsPiece cells x y (S.content squares.now id) → S.content squares.now id ≡ point result }
+{
+    match squares.state(id) {
+        Some(state) => u16::from(state) % 2,
+        None => unreachable!(),
+    }
+}
+
+// The cells of a square of level 1, the north-western one the highest bit.
+fn two_by_two<S: Squares>(squares: &S, id: Id) -> u16
+    requires { IsAt (S.knows squares.now) (S.content squares.now) 1 id }
+    ensures small { result < 16 }
+    ensures square { (cells : ℤ → ℤ → ℕ) (x y : ℤ) → IsBinary cells → IsPiece cells x y (S.content squares.now id) → S.content squares.now id ≡ two result }
+{
+    let Quarters { nw, ne, sw, se } = divide(squares, id);
+    one_cell(squares, nw) * 8
+        + one_cell(squares, ne) * 4
+        + one_cell(squares, sw) * 2
+        + one_cell(squares, se)
+}
+
+// The cells of a square of level 2 without a short cut of the store. It is never inlined, so that the way by one stays short.
+#[inline(never)]
+fn four_by_four<S: Squares>(squares: &S, id: Id) -> u16
+    requires { IsAt (S.knows squares.now) (S.content squares.now) 2 id }
+    ensures { (cells : ℤ → ℤ → ℕ) (x y : ℤ) → IsBinary cells → IsPiece cells x y (S.content squares.now id) → S.content squares.now id ≡ four result }
+{
+    let Quarters { nw, ne, sw, se } = divide(squares, id);
+    two_by_two(squares, nw) * 4096
+        + two_by_two(squares, ne) * 256
+        + two_by_two(squares, sw) * 16
+        + two_by_two(squares, se)
+}
+
+// The cells of a square of level 2, as `Squares::small_cells` takes them.
+fn cells_in<S: Squares>(squares: &S, id: Id) -> u64
+    requires { IsAt (S.knows squares.now) (S.content squares.now) 2 id }
+    ensures small { result < 65536 }
+    ensures square { (cells : ℤ → ℤ → ℕ) (x y : ℤ) → IsBinary cells → IsPiece cells x y (S.content squares.now id) → S.content squares.now id ≡ four result }
+{
+    match squares.small_cells(id) {
+        Some(cells) => u64::from(cells),
+        None => u64::from(four_by_four(squares, id)),
+    }
+}
+
+// The four rows of sixteen cells of four squares of level 2.
+fn band<S: Squares>(squares: &S, four: &Four<Id>) -> u64
+    requires { InFour (IsAt (S.knows squares.now) (S.content squares.now) 2) four.now }
+    ensures { (cells : ℤ → ℤ → ℕ) (x y : ℤ) → IsBinary cells → AreFour (S.content squares.now) cells 4 x y four.now → HasBand cells (back x 4) y result }
+{
+    let a = cells_in(squares, four.first);
+    let b = cells_in(squares, four.second);
+    let c = cells_in(squares, four.third);
+    let d = cells_in(squares, four.fourth);
+    rows_of_squares(((a * 65_536 + b) * 65_536 + c) * 65_536 + d)
+}
+
+/// The next states of the four squares of level 2 amid twelve others, as one square.
+pub(crate) fn next_of_leaf<S: Squares>(
+    squares: &mut S,
+    rule: &LifeRule,
+    sixteen: &Sixteen,
+) -> Result<Id, Kind>
+    requires { InSixteen (IsAt (S.knows squares.old) (S.content squares.old) 2) sixteen.now }
+    ensures at { IfOk result (IsAt (S.knows squares.new) (S.content squares.new) 3) }
+    ensures next { IfOk result (λ r. (cells : ℤ → ℤ → ℕ) (x y : ℤ) → IsBinary cells → AreSixteen (S.content squares.old) cells 4 x y sixteen.now → IsPiece (next_life rule.now cells) x y (S.content squares.new r)) }
+    ensures keeps { KeepsSquares S.knows S.content S.stored S.most squares.old squares.new }
+    ensures refusals { IfErr result (IsWantKind (S.stored squares.new) (S.most squares.new)) }
+    ensures needed { OnErr result ((cells : ℤ → ℤ → ℕ) (x y : ℤ) → IsBinary cells → AreSixteen (S.content squares.old) cells 4 x y sixteen.now → SomePart (S.needs_node squares.new) (square_from (next_life rule.now cells) 3 x y)) }
+{
+    let first = band(squares, &sixteen.first);
+    let second = band(squares, &sixteen.second);
+    let third = band(squares, &sixteen.third);
+    let fourth = band(squares, &sixteen.fourth);
+    let north = next_squares(first, second, third, rule);
+    let south = next_squares(second, third, fourth, rule);
+    let nw = join_four(squares, north.0)?;
+    let ne = join_four(squares, north.1)?;
+    let sw = join_four(squares, south.0)?;
+    let se = join_four(squares, south.1)?;
+    squares.join(nw, ne, sw, se)
+}

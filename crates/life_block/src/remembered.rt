@@ -1,0 +1,33 @@
+//! The next states of squares that were told before.
+ghost use Rattle.std.specs.Prelude.{◌≡◌, ◌⊎◌, IfSome};
+ghost use Rattle.life_quad.specs.Memory.{Recalls};
+ghost use Rattle.life_quad.specs.declared.id.Id.{Id as IdValue};
+ghost use Rattle.life_block.specs.Pieces.{Nine as NineValue};
+ghost use Rattle.life_block.specs.Remembered.{ids_of};
+
+use crate::grid::Nine;
+use life_quad::{Id, NeighbourhoodMemory};
+
+/// The least level of squares that are remembered: lower ones are told as fast anew.
+const LEAST_LEVEL: u8 = 4;
+
+/// The answer that is remembered for a square of this level amid its neighbours.
+pub(crate) fn recalled(memory: &mut NeighbourhoodMemory, level: u8, nine: &Nine) -> Option<Id>
+    ensures answer { IfSome result (Recalls memory.old (ids_of nine.now)) }
+    ensures same { memory.new ≡ memory.old }
+{
+    if level < LEAST_LEVEL {
+        return None;
+    }
+    memory.get(&nine.ids())
+}
+
+/// Remembers the answer for a square of this level amid its neighbours.
+pub(crate) fn remember(memory: &mut NeighbourhoodMemory, level: u8, nine: &Nine, answer: Id)
+    ensures { (other : NineValue) (next : IdValue) → Recalls memory.new (ids_of other) next → Recalls memory.old (ids_of other) next ⊎ ((other ≡ nine.now) × (next ≡ answer)) }
+{
+    if level < LEAST_LEVEL {
+        return;
+    }
+    memory.put(&nine.ids(), answer);
+}

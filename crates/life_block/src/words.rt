@@ -1,0 +1,75 @@
+//! Words of four rows of sixteen cells, and their next states. The highest bit is the north-western cell, then come the cells east of it, and
+//! then the rows south of it.
+ghost use Rattle.std.specs.Prelude.{◌≡◌, ℕ, ℤ, ◌+◌, ◌-◌, ◌*◌, ◌<◌, ◌^◌};
+ghost use Rattle.std.specs.Int.{bit_at};
+ghost use Rattle.std.specs.Int.Bits.{bit_and};
+ghost use Rattle.life_quad.specs.Store.{four};
+ghost use Rattle.life_sweep.specs.Generation.{before, after, next_life};
+ghost use Rattle.life_block.specs.Bits.{place_in, exchanged, HasBand};
+ghost use Rattle.life_block.specs.Needed.{square_from};
+ghost use Rattle.life_block.specs.Pieces.{back, ahead};
+
+use crate::counts::next_word;
+use life_base::LifeRule;
+use life_sweep::Column;
+
+// A word with each bit of a mask exchanged with the one so far above it.
+fn exchange(word: u64, mask: u64, distance: u32) -> u64
+    requires near { distance < 64 }
+    requires within { mask * 2 ^ distance < 2 ^ 64 }
+    requires apart { bit_and mask (mask * 2 ^ distance) ≡ 0 }
+    ensures { (i : ℕ) → bit_at result i ≡ bit_at word (exchanged mask distance i) }
+{
+    let different = (word ^ (word >> distance)) & mask;
+    word ^ different ^ (different << distance)
+}
+
+/// The rows of four squares of level 2 side by side, from their cells as `Squares::small_cells` takes them, the western square the highest.
+pub(crate) fn rows_of_squares(squares: u64) -> u64
+    ensures { (r q i : ℕ) → r < 4 → q < 4 → i < 4 → bit_at result (63 - (16 * r + 4 * q + i)) ≡ bit_at squares (63 - (16 * q + place_in r i)) }
+{
+    let pairs = exchange(squares, 0x0C0C_0C0C_0C0C_0C0C, 2);
+    let halves = exchange(pairs, 0x0000_0000_FF00_FF00, 24);
+    exchange(halves, 0x0000_F0F0_0000_F0F0, 12)
+}
+
+// And back.
+fn squares_of_rows(rows: u64) -> u64
+    ensures { (r q i : ℕ) → r < 4 → q < 4 → i < 4 → bit_at result (63 - (16 * q + place_in r i)) ≡ bit_at rows (63 - (16 * r + 4 * q + i)) }
+{
+    let halves = exchange(rows, 0x0000_F0F0_0000_F0F0, 12);
+    let pairs = exchange(halves, 0x0000_0000_FF00_FF00, 24);
+    exchange(pairs, 0x0C0C_0C0C_0C0C_0C0C, 2)
+}
+
+// The four rows that begin one row north of a word's, by the word of the four rows above.
+fn one_north(above: u64, here: u64) -> u64
+    ensures { (cells : ℤ → ℤ → ℕ) (x y : ℤ) → HasBand cells x (back y 4) above → HasBand cells x y here → HasBand cells x (before y) result }
+{
+    above % 0x1_0000 * 0x1_0000_0000_0000 + here / 0x1_0000
+}
+
+// Those that begin one row south, by the word of the four rows below.
+fn one_south(here: u64, below: u64) -> u64
+    ensures { (cells : ℤ → ℤ → ℕ) (x y : ℤ) → HasBand cells x y here → HasBand cells x (ahead y 4) below → HasBand cells x (after y) result }
+{
+    here % 0x1_0000_0000_0000 * 0x1_0000 + below / 0x1_0000_0000_0000
+}
+
+/// The cells of the two squares of level 2 in the middle of four rows of next states, from the rows and the four above and below.
+pub(crate) fn next_squares(above: u64, here: u64, below: u64, rule: &LifeRule) -> (u16, u16)
+    ensures west { (cells : ℤ → ℤ → ℕ) (x y : ℤ) → HasBand cells (back x 4) (back y 4) above → HasBand cells (back x 4) y here → HasBand cells (back x 4) (ahead y 4) below → four result.0 ≡ square_from (next_life rule.now cells) 2 x y }
+    ensures east { (cells : ℤ → ℤ → ℕ) (x y : ℤ) → HasBand cells (back x 4) (back y 4) above → HasBand cells (back x 4) y here → HasBand cells (back x 4) (ahead y 4) below → four result.1 ≡ square_from (next_life rule.now cells) 2 (ahead x 4) y }
+{
+    let words = Column {
+        north: one_north(above, here),
+        here,
+        south: one_south(here, below),
+    };
+    // The next states stand one place lower than their cells.
+    let next = squares_of_rows(next_word(&words, rule) << 1);
+    (
+        ((next >> 32) % 0x1_0000) as u16,
+        ((next >> 16) % 0x1_0000) as u16,
+    )
+}

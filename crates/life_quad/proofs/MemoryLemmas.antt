@@ -1,0 +1,38 @@
+-- Places of a memory, and the numbers of Ids.
+use Rattle.std.proofs.Common.{◌≡◌, ◌⊎◌, inl, inr, ℕ, List, [], ◌∷◌, length, get_or, map, refl, sym, ◌∙◌, ap, arith}
+use Rattle.life_quad.specs.declared.id.Id.{Id}
+use Rattle.life_quad.specs.declared.memory.Place.{Place}
+use Rattle.life_quad.specs.Memory.{number, Holds, Recalls}
+
+id_of : ℕ → Id
+id_of n = record { 0 = n }
+
+back-again : (ids : List Id) → map id_of (map number ids) ≡ ids
+unfolding id_of
+back-again [] = refl
+back-again (id ∷ ids) = ap (λ rest. id ∷ rest) (back-again ids)
+
+-- Ids of the same numbers are the same
+pub same-ids : (a b : List Id) → map number a ≡ map number b → a ≡ b
+same-ids a b e = sym (back-again a) ∙ ap (map id_of) e ∙ back-again b
+
+-- the numbers of nine Ids, one by one
+pub nine-numbers : (ids : List Id) (d : Id) → length ids ≡ 9
+    → map number ids
+    ≡ number (get_or ids 0 d) ∷ number (get_or ids 1 d) ∷ number (get_or ids 2 d) ∷ number (get_or ids 3 d) ∷ number (get_or ids 4 d)
+    ∷ number (get_or ids 5 d) ∷ number (get_or ids 6 d) ∷ number (get_or ids 7 d) ∷ number (get_or ids 8 d) ∷ []
+nine-numbers (a ∷ b ∷ c ∷ d ∷ e ∷ f ∷ g ∷ h ∷ i ∷ []) _ _ = refl
+nine-numbers _ _ l = absurd (omega (arith, l))
+
+-- one more answer
+pub put-one : {old mid new : List Place} {ids : List Id} {answer : Id} {place : Place}
+    → place ≡ record { around = map number ids; answer = number answer }
+    → ((p : Place) → Holds mid p → Holds old p) → ((p : Place) → Holds new p → Holds mid p ⊎ (p ≡ place))
+    → (around : List Id) (next : Id) → Recalls new around next → Recalls old around next ⊎ ((around ≡ ids) × (next ≡ answer))
+unfolding id_of
+put-one {old = old} {mid = mid} {ids = ids} {answer = answer} {place = place} is kept set around next h = by (set _ h)
+  where
+    by : Recalls mid around next ⊎ (record { around = map number around; answer = number next } ≡ place)
+        → Recalls old around next ⊎ ((around ≡ ids) × (next ≡ answer))
+    by (inl held) = inl (kept _ held)
+    by (inr e) = inr (same-ids around ids (ap (λ (q : Place). q.around) (e ∙ is)), ap (λ (q : Place). id_of q.answer) (e ∙ is))

@@ -1,0 +1,167 @@
+//! What was answered for squares amid their neighbours.
+ghost use Rattle.std.specs.Prelude.{◌≡◌, ◌⊎◌, List, map, IfSome, vec_len};
+ghost use Rattle.life_quad.specs.declared.id.Id.{Id as IdValue};
+ghost use Rattle.life_quad.specs.declared.memory.Place.{Place as PlaceValue};
+ghost use Rattle.life_quad.specs.Memory.{Recalls, Holds, number};
+
+use crate::{Id, Seed};
+use std::alloc::Global;
+use std::marker::Model;
+
+/// How many places a memory begins with.
+const FIRST_PLACES: usize = 1 << 10;
+
+/// How many it has at most, a power of four times as many.
+const MOST_PLACES: usize = 1 << 18;
+
+/// Nine squares and the answer for them, by the numbers of their Ids. Where the number of the answer is 0 there is none.
+#[derive(Clone, Copy)]
+pub(crate) struct Place {
+    pub(crate) around: [u32; 9],
+    pub(crate) answer: u32,
+}
+
+/// A place without an answer.
+const EMPTY: Place = Place {
+    around: [0; 9],
+    answer: 0,
+};
+
+/// Answers for nine squares side by side, found by the numbers of their Ids in constant time. It forgets: each nine have one place, which the last
+/// that came there hold. It begins with 1,024 places of 40 bytes when the first answer is put, and has four times as many each time that twice as
+/// many answers were recalled as it has places, up to 2^18. Where memory is refused it does without.
+#[derive(Drop)]
+pub struct NeighbourhoodMemory {
+    /// None, or a power of two.
+    places: Vec<Place>,
+    words: [u64; 9],
+    /// How many answers were recalled since it last grew.
+    hits: usize,
+}
+
+impl Model for NeighbourhoodMemory {
+    ghost use Rattle.std.specs.Prelude.{List};
+    ghost use Rattle.life_quad.specs.declared.memory.Place.{Place};
+
+    ghost Value = { List Place };
+
+    ghost view = { λ m. m.places.items };
+}
+
+/// The number of an Id, where 32 bits hold it.
+fn number_of(id: Id) -> Option<u32>
+    ensures { IfSome result (λ n. n ≡ number id) }
+{
+    u32::try_from(id.0).ok()
+}
+
+/// The numbers of nine Ids, where 32 bits hold each.
+fn numbers_of(ids: &[Id; 9]) -> Option<[u32; 9]>
+    ensures { IfSome result (λ numbers. numbers ≡ map number ids.now) }
+{
+    let [nw, n, ne, w, here, e, sw, s, se] = *ids;
+    Some([
+        number_of(nw)?,
+        number_of(n)?,
+        number_of(ne)?,
+        number_of(w)?,
+        number_of(here)?,
+        number_of(e)?,
+        number_of(sw)?,
+        number_of(s)?,
+        number_of(se)?,
+    ])
+}
+
+/// The sum of the numbers, each times a word of its own.
+fn hash(words: &[u64; 9], numbers: &[u32; 9]) -> u64 {
+    let mut sum = 0u64;
+    for (word, number) in words.iter().zip(numbers) {
+        sum = sum.wrapping_add(word.wrapping_mul(u64::from(*number)));
+    }
+    sum >> 32
+}
+
+/// Makes the first places, or four times as many.
+fn make_places(places: &mut Vec<Place>)
+    ensures { (p : PlaceValue) → Holds places.new.items p → Holds places.old.items p }
+{
+    let count = if places.is_empty() {
+        FIRST_PLACES
+    } else {
+        places.len().saturating_mul(4)
+    };
+    let _refused = places.resize(count, EMPTY).is_err();
+}
+
+/// Sets a place, if it is there.
+fn set_place(places: &mut Vec<Place>, index: usize, place: Place)
+    ensures { (p : PlaceValue) → Holds places.new.items p → Holds places.old.items p ⊎ (p ≡ place) }
+{
+    if index < places.len() {
+        places[index] = place;
+    }
+}
+
+impl NeighbourhoodMemory {
+    /// No answers. It takes no memory.
+    pub fn new(alloc: Global, seed: Seed) -> NeighbourhoodMemory
+        ensures { (ids : List IdValue) (answer : IdValue) → ¬ Recalls result ids answer }
+    {
+        NeighbourhoodMemory {
+            places: Vec::new(alloc),
+            words: seed.nine_words(),
+            hits: 0,
+        }
+    }
+
+    /// The index of the place of nine squares, where there are places.
+    fn index(&self, around: &[u32; 9]) -> usize {
+        hash(&self.words, around) as usize & self.places.len().wrapping_sub(1)
+    }
+
+    /// Makes more places where they are of use.
+    fn grow(&mut self)
+        ensures { (p : PlaceValue) → Holds self.new p → Holds self.old p }
+    {
+        let count = self.places.len();
+        if count == 0 || (count < MOST_PLACES && self.hits / 2 > count) {
+            make_places(&mut self.places);
+            self.hits = 0;
+        }
+    }
+
+    /// The answer that was put for these nine squares, unless it is forgotten.
+    pub fn get(&mut self, ids: &[Id; 9]) -> Option<Id>
+        ensures answer { IfSome result (λ answer. Recalls self.old ids.now answer) }
+        ensures same { self.new ≡ self.old }
+    {
+        let around = numbers_of(ids)?;
+        let index = self.index(&around);
+        let place = self.places.get(index)?;
+        if place.answer == 0 || place.around != around {
+            return None;
+        }
+        self.hits = self.hits.saturating_add(1);
+        Some(Id(u64::from(place.answer)))
+    }
+
+    /// Puts the answer for nine squares.
+    pub fn put(&mut self, ids: &[Id; 9], answer: Id)
+        ensures { (around : List IdValue) (next : IdValue) → Recalls self.new around next → Recalls self.old around next ⊎ ((around ≡ ids.now) × (next ≡ answer)) }
+    {
+        let Some(around) = numbers_of(ids) else {
+            return;
+        };
+        let Some(number) = number_of(answer) else {
+            return;
+        };
+        self.grow();
+        let index = self.index(&around);
+        let place = Place {
+            around,
+            answer: number,
+        };
+        set_place(&mut self.places, index, place);
+    }
+}
