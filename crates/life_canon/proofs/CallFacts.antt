@@ -19,6 +19,7 @@ use Rattle.life_rle.specs.Written.{rle_text}
 use Rattle.life_canon.specs.Universe.{Universe, IsOnPlane, whole, rle_universe}
 use Rattle.life_canon.specs.Files.{Reads, Refuses, Same, as_rle}
 use Rattle.life_canon.specs.Feeding.{RefusesFront}
+use Rattle.life_canon.specs.Laws.{RleTextsAreFiles, RleTextsKeepPatterns}
 use Rattle.life_canon.specs.Least.{IsLeastText}
 use Rattle.life_canon.specs.Listing.{canonical_file, canon_text}
 use Rattle.life_canon.specs.Store.{content, Keeps, IsRead, IsWant, RefusesIn, universe_in}
@@ -112,20 +113,22 @@ is-rle bytes store pattern r cells h most few text e = record {
   is = rle-is bytes store pattern r cells text e;
 }
 
-pub rle-same : RleTextReadsBack → (bytes : List ℕ) (store : Nodes) (pattern : Pattern) → IsRead MAX_LEVEL bytes store pattern → (cells : List Cell)
-    → IsCellList (content store pattern.root) cells
-    → (text : List ℕ) → text ≡ rle_text pattern.rule pattern.generation cells → Same MAX_LEVEL bytes text
-rle-same law bytes store pattern r cells h text e =
-    let u = r.universe in
-    let plane = on-plane bytes u r.reads in
-    let are = cells-read bytes store pattern r cells h in
-    let back = law u.rule u.generation cells plane.rule plane.generation (sorted-cells below_top u cells plane are) in
+-- the text of the cells of a pattern is a file of it, and so the text of a file says what the file says
+pub rle_texts_are_files : RleTextReadsBack → RleTextsAreFiles MAX_LEVEL
+rle_texts_are_files law = λ u cells h are.
+    let back = law u.rule u.generation cells h.rule h.generation (sorted-cells below_top u cells h are) in
+    (back.0, back.1, record { rule = sym back.2; generation = sym back.3; cells = λ x y. listed-cells u.cell cells are x y ∙ sym (back.4 x y) })
+
+pub rle_texts_keep_patterns : RleTextReadsBack → RleTextsKeepPatterns MAX_LEVEL
+rle_texts_keep_patterns law = λ most bytes text h.
+    let u = h.universe in
+    let file = rle_texts_are_files law u h.cells (on-plane bytes u h.reads) h.are in
     record {
       first = u;
-      second = rle_universe back.0;
-      reads_first = r.reads;
-      reads_second = subst (λ t. Reads MAX_LEVEL t (rle_universe back.0)) (sym (rle-is bytes store pattern r cells text e)) (as_rle back.0 back.1);
-      same = record { rule = sym back.2; generation = sym back.3; cells = λ x y. listed-cells u.cell cells are x y ∙ sym (back.4 x y) };
+      second = rle_universe file.0;
+      reads_first = h.reads;
+      reads_second = subst (λ t. Reads MAX_LEVEL t (rle_universe file.0)) (sym h.is) (as_rle file.0 file.1);
+      same = file.2;
     }
 
 -- the list of the root's cells

@@ -2,18 +2,22 @@
 use Rattle.std.specs.Prelude.{◌≡◌, ◌↔◌, ℕ, ◌≤◌, true, List, ◌++◌, length, take, Option, Some}
 use Rattle.life_base.specs.Inputs.{ReadAll, CameBeyond}
 use Rattle.life_base.specs.Lines.{whole_lines}
+use Rattle.life_base.specs.Text.{lines_of}
+use Rattle.life_base.specs.declared.cell.Cell.{Cell}
 use Rattle.life_base.specs.declared.fault.Fault.{Fault}
 use Rattle.life_mc.specs.Macrocell.{Macrocell}
 use Rattle.life_mc.specs.Cells.{node_lines}
 use Rattle.life_mc.specs.Reading.{AreMacrocell, IsMacrocell}
 use Rattle.life_rle.specs.Pattern.{Rle}
 use Rattle.life_rle.specs.Grammar.{IsRle}
-use Rattle.life_canon.specs.Universe.{Universe, IsSame, IsBlankOutside, IsOnPlane, macrocell_universe}
+use Rattle.life_rle.specs.Written.{rle_text}
+use Rattle.life_canon.specs.Universe.{Universe, IsSame, IsBlankOutside, IsOnPlane, macrocell_universe, rle_universe}
 use Rattle.life_canon.specs.Files.{Says, Reads, Same, Refuses, RefusesLines, is_file_kind}
 use Rattle.life_canon.specs.Listing.{canonical_file, canon_text}
 use Rattle.life_canon.specs.Least.{IsRival, IsLeast, HasPlaces}
 use Rattle.life_canon.specs.Feeding.{Fed, RefusesFront, Stands}
 use Rattle.life_canon.specs.Store.{Keeps, KeepsContents, IsRead, IsTrimmed, universe_in}
+use Rattle.life_canon.specs.Texts.{AreCellsOf, IsRleOf}
 use Rattle.life_canon.specs.declared.pattern.Pattern.{Pattern}
 use Rattle.life_quad.specs.Store.{Nodes}
 
@@ -49,6 +53,16 @@ TextsAreFiles top =
 -- the canonical text of a file is the same pattern as the file
 abbrev pub TextsKeepPatterns : ℕ → Type 0
 TextsKeepPatterns top = (a : List ℕ) (u : Universe) → Reads top a u → Same top a (canon_text top u)
+
+-- the text in extended RLE of the cells of a pattern is an RLE file of the same pattern
+abbrev pub RleTextsAreFiles : ℕ → Type 0
+RleTextsAreFiles top =
+    (u : Universe) (cells : List Cell) → IsOnPlane top u → AreCellsOf u.cell cells
+    → (file : Rle) × IsRle top (lines_of (rle_text u.rule u.generation cells)) file × IsSame u (rle_universe file)
+
+-- the text in extended RLE of a file is the same pattern as the file
+abbrev pub RleTextsKeepPatterns : ℕ → Type 0
+RleTextsKeepPatterns top = (most : ℕ) (bytes text : List ℕ) → IsRleOf top most bytes text → Same top bytes text
 
 -- two patterns have one canonical text exactly if they are the same
 abbrev pub TextsTellUniverses : ℕ → Type 0

@@ -4,6 +4,7 @@ ghost use Rattle.life_base.specs.declared.cell.TheConstants.{MAX_LEVEL};
 ghost use Rattle.life_quad.specs.Laws.{TrimmingIgnoresGrowth};
 ghost use Rattle.life_canon.specs.Laws.{FormatsDiffer, FilesAreUnique, FilesAreOnPlane, BlankOutside, FaultsAreUnique, RefusalsHaveKinds};
 ghost use Rattle.life_canon.specs.Laws.{TextsTellUniverses, TextsTellPatterns, TextsAreFiles, TextsKeepPatterns, TextsAreFixed};
+ghost use Rattle.life_canon.specs.Laws.{RleTextsAreFiles, RleTextsKeepPatterns};
 ghost use Rattle.life_canon.specs.Laws.{CanonicalIsLeast, SquaresHavePlaces, WiderPlaneKeepsTexts, WiderPlanesKeepFiles};
 ghost use Rattle.life_canon.specs.Laws.{PatternsFit, PatternsStay, PatternsTellFiles, ReadersStand};
 ghost use Rattle.life_canon.specs.Laws.{FaultsStay, LengthsStay, LengthHidesNoFault};
@@ -56,6 +57,16 @@ pub fn texts_are_files()
 /// The canonical text of a file is the same pattern as the file.
 pub fn texts_keep_patterns()
     ensures { TextsKeepPatterns MAX_LEVEL }
+{}
+
+/// The text in extended RLE of the cells of a pattern is an RLE file of the same pattern.
+pub fn rle_texts_are_files()
+    ensures { RleTextsAreFiles MAX_LEVEL }
+{}
+
+/// The text in extended RLE of a file is the same pattern as the file.
+pub fn rle_texts_keep_patterns()
+    ensures { RleTextsKeepPatterns MAX_LEVEL }
 {}
 
 /// The canonical text of a canonical text is itself.

@@ -7,7 +7,7 @@ use Rattle.life_rle.proofs.StatesRead.{states-read}
 use Rattle.life_rle.proofs.TextBack.{text-back}
 use Rattle.life_rle.specs.Sorted.{are_sorted_cells}
 use Rattle.life_rle.specs.Written.{rle_text}
-use Rattle.life_canon.proofs.CallFacts.{root-deep, cells-sorted, is-rle, rle-same, more-cells}
+use Rattle.life_canon.proofs.CallFacts.{root-deep, cells-sorted, is-rle, rle_texts_keep_patterns, more-cells}
 use Rattle.life_canon.proofs.converting.rle_of.Goals as goal
 
 pub cells-requires-clause-high : goal.cells-requires-clause-high
@@ -32,7 +32,8 @@ returns-clause-same c =
     IfOk-weaker c.write_rle.result _ _
     (λ text e bytes r.
     let f : text.items ≡ rle_text c.args.pattern.now.rule c.args.pattern.now.generation c.in_ok-list.list.items = cc in
-    rle-same (text-back states-read rules_read_back) bytes _ _ r c.in_ok-list.list.items c.in_ok-list.ensures.cells text.items f)
+    rle_texts_keep_patterns (text-back states-read rules_read_back) (2 ^ 20) bytes text.items
+    (is-rle bytes _ _ r c.in_ok-list.list.items c.in_ok-list.ensures.cells (2 ^ 20) c.in_ok-list.ensures.few text.items f))
     c.write_rle.ensures.text
 
 pub returns-in_err-list-clause-fault : goal.returns-in_err-list-clause-fault
