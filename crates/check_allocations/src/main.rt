@@ -17,7 +17,7 @@ use life_quad::{Plain, Seed, Shared};
 use patterns::{EXAMPLES, Example};
 use squares::{
     bounded, counted, grown, grown_and_trimmed, joined, levels_trimmed, list_refused, one_listed,
-    one_refused, put, row_refused, rows_measured, set_and_cleared, trimmed,
+    one_refused, put, row_refused, rows_measured, set_and_cleared, small, trimmed,
 };
 use std::alloc::Global;
 use steps::{STEPS, is_next};
@@ -58,6 +58,7 @@ fn filling_calls<S: New + Drop>(rt: &HostRuntime, place: &str) {
     let alloc = rt.alloc();
     let calls = Calls::of(rt, place);
     calls.tell_twice::<S, _>("join", LIMIT, |it| joined(it));
+    calls.tell_twice::<S, _>("small", LIMIT, |it| small(alloc, it));
     calls.tell_twice::<S, _>("put_run, cells", LIMIT, |it| put(alloc, it));
     calls.tell_twice::<S, _>("trim", LIMIT, |it| trimmed(alloc, it));
     calls.tell_twice::<S, _>("grow", LIMIT, |it| grown(alloc, it));

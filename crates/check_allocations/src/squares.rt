@@ -42,6 +42,15 @@ pub(crate) fn joined<S: Squares>(squares: &mut S) -> Result<bool, Fault> {
     Ok(squares.level(square) == 1 && squares.parts(square) == Some([first, second, dead, dead]))
 }
 
+/// A square of level 2 with a glider in its north-west, by its cells.
+pub(crate) fn small<S: Squares>(alloc: Global, squares: &mut S) -> Result<bool, Fault> {
+    let square = squares.small(0x42c8)?;
+    let list = cells(alloc, squares, square, 5)?;
+    let places = [(-1, -2), (0, -1), (-2, 0), (-1, 0), (0, 0)];
+    let glider = places.map(|(x, y)| Cell { x, y, state: 1 });
+    Ok(list.as_slice() == glider.as_slice())
+}
+
 // The plane with two cells, each put as a run.
 fn ends<S: Squares>(squares: &mut S) -> Result<Id, Kind>
     ensures known { IfOk result (S.knows squares.new) }

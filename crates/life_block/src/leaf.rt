@@ -13,7 +13,6 @@ use crate::grid::{Four, Sixteen};
 use crate::words::{next_squares, rows_of_squares};
 use life_base::{Kind, LifeRule};
 use life_quad::{Id, Quarters, Squares, divide};
-use life_strip::join_four;
 
 // The state of a cell that is 0 or 1.
 fn one_cell<S: Squares>(squares: &S, id: Id) -> u16
@@ -96,9 +95,9 @@ pub(crate) fn next_of_leaf<S: Squares>(
     let fourth = band(squares, &sixteen.fourth);
     let north = next_squares(first, second, third, rule);
     let south = next_squares(second, third, fourth, rule);
-    let nw = join_four(squares, north.0)?;
-    let ne = join_four(squares, north.1)?;
-    let sw = join_four(squares, south.0)?;
-    let se = join_four(squares, south.1)?;
+    let nw = squares.small(north.0)?;
+    let ne = squares.small(north.1)?;
+    let sw = squares.small(south.0)?;
+    let se = squares.small(south.1)?;
     squares.join(nw, ne, sw, se)
 }

@@ -53,30 +53,6 @@ has-id knows content rule lines ids (suc level) number d l n h s = by (quarter-o
 pub some-of : (n : ℕ) → ¬ (n ≡ 0) → 0 < n
 some-of n h = omega arith
 
--- half of a side
-pub halves : (level : ℕ) → 1 ≤ level → 2 ^ level ≡ 2 ^ (level - 1) + 2 ^ (level - 1)
-halves zero h = absurd (omega arith)
-halves (suc k) h = let e : suc k - 1 ≡ k = omega arith in rw e (omega arith)
-
--- a square of a leaf is made of its four quarters
-pub part-quarters : (f : ℕ → ℕ → ℕ) (level column row half : ℕ) → 1 ≤ level → half ≡ 2 ^ (level - 1)
-    → tree_at f level column row
-    ≡ quad (tree_at f (level - 1) column row) (tree_at f (level - 1) (column + half) row) (tree_at f (level - 1) column (row + half))
-    (tree_at f (level - 1) (column + half) (row + half))
-part-quarters f zero column row half h e = absurd (omega arith)
-part-quarters f (suc k) column row half h e =
-    let p : k ≡ suc k - 1 = omega arith in
-    let q : 2 ^ k ≡ half = ap (λ n. 2 ^ n) p ∙ sym e in
-    λ i. quad (tree_at f (p i) column row) (tree_at f (p i) (column + q i) row) (tree_at f (p i) column (row + q i))
-    (tree_at f (p i) (column + q i) (row + q i))
-
--- half of a side as the code shifts it
-pub half-is : (level : ℕ) → 1 ≤ level → level ≤ 3 → (1 * 2 ^ (level - 1)) % 256 ≡ 2 ^ (level - 1)
-half-is level low high = let p = pow_mono {i = level - 1} {j = 2} (omega arith) in small (2 ^ (level - 1)) (omega (arith, p))
-  where
-    small : (n : ℕ) → n ≤ 4 → (1 * n) % 256 ≡ n
-    small n h = omega arith
-
 -- the numbers of a node line above the leaves, each that of a quarter one level lower
 pub record Numbers (rule : Rule) (levels : List ℕ) (level a b c d : ℕ) : Type 0 where
   pub low : 1 ≤ level

@@ -5,7 +5,7 @@ ghost use Rattle.life_base.specs.declared.rule.Rule.{Rule as RuleValue};
 ghost use Rattle.life_base.specs.Tree.{depth, tree_cell};
 ghost use Rattle.life_mc.specs.Cells.{leaf_cell};
 ghost use Rattle.life_mc.specs.Macrocell.{level_of, IsSquare, is_quarter};
-ghost use Rattle.life_mc.specs.Squares.{tree_at, tree_of, line_tree};
+ghost use Rattle.life_mc.specs.Squares.{tree_at, tree_of, line_tree, leaf_tree};
 ghost use Rattle.life_mc.specs.declared.line.Line.{Line as LineValue};
 ghost use Rattle.life_quad.specs.Store.{two, four};
 ghost use Rattle.life_quad.specs.Refused.{SomePart};
@@ -17,33 +17,6 @@ ghost use Rattle.life_quad.specs.Keeping.{KeepsSquares, IsWantKind};
 use life_base::{Kind, MAX_LEVEL};
 use life_mc::Line;
 use life_quad::{Id, Squares, grow};
-
-/// The state of a cell of a leaf.
-fn leaf_state(rows: &[u8; 8], column: u8, row: u8) -> u8
-    requires column { column < 8 }
-    requires row { row < 8 }
-    ensures { result ≡ leaf_cell rows.now column row }
-{
-    (rows[row as usize] >> (7 - column)) & 1
-}
-
-/// The square of level 1 whose north-west cell stands in this column and row of a leaf.
-fn four_cells<S: Squares>(squares: &mut S, rows: &[u8; 8], column: u8, row: u8) -> Result<Id, Kind>
-    requires column { column < 7 }
-    requires row { row < 7 }
-    ensures known { IfOk result (S.knows squares.new) }
-    ensures square { IfOk result (λ id. S.content squares.new id ≡ tree_at (leaf_cell rows.now) 1 column row) }
-    ensures level { IfOk result (λ id. depth (S.content squares.new id) ≡ 1) }
-    ensures keeps { KeepsSquares S.knows S.content S.stored S.most squares.old squares.new }
-    ensures refusals { IfErr result (IsWantKind (S.stored squares.new) (S.most squares.new)) }
-    ensures needed { OnErr result (S.needs_node squares.new (tree_at (leaf_cell rows.now) 1 column row)) }
-{
-    let nw = squares.cell(leaf_state(rows, column, row));
-    let ne = squares.cell(leaf_state(rows, column + 1, row));
-    let sw = squares.cell(leaf_state(rows, column, row + 1));
-    let se = squares.cell(leaf_state(rows, column + 1, row + 1));
-    squares.join(nw, ne, sw, se)
-}
 
 /// The cells of the square of level 1 whose north-west cell stands in this column and row of a leaf: a bit each, the north-west one the
 /// highest.
@@ -58,7 +31,7 @@ fn four_bits(rows: &[u8; 8], column: u8, row: u8) -> u16
     u16::from(4 * north + south)
 }
 
-/// The cells of the square of level 2 whose north-west cell stands in this column and row of a leaf, as `Squares::find_small` takes them.
+/// The cells of the square of level 2 whose north-west cell stands in this column and row of a leaf, as `Squares::small` takes them.
 fn sixteen_bits(rows: &[u8; 8], column: u8, row: u8) -> u16
     requires column { column < 5 }
     requires row { row < 5 }
@@ -71,55 +44,18 @@ fn sixteen_bits(rows: &[u8; 8], column: u8, row: u8) -> u16
     4096 * nw + 256 * ne + 16 * sw + se
 }
 
-/// The square of a level whose north-west cell stands in this column and row of a leaf, where it is one of level 2 that the store finds by its
-/// cells.
-fn found_part<S: Squares>(squares: &S, rows: &[u8; 8], level: u8, column: u8, row: u8) -> Option<Id>
-    requires columns { column + 2 ^ level ≤ 8 }
-    requires rows { row + 2 ^ level ≤ 8 }
-    ensures known { IfSome result (S.knows squares.now) }
-    ensures square { IfSome result (λ id. S.content squares.now id ≡ tree_at (leaf_cell rows.now) level column row) }
-    ensures level { IfSome result (λ id. depth (S.content squares.now id) ≡ level) }
-{
-    if level == 2 {
-        squares.find_small(sixteen_bits(rows, column, row))
-    } else {
-        None
-    }
-}
-
-#[tactic(auto, using(crate::proofs::FillFacts::halves))]
-/// The square of a level, 3 at most, whose north-west cell stands in this column and row of a leaf.
-fn leaf_part<S: Squares>(
-    squares: &mut S,
-    rows: &[u8; 8],
-    level: u8,
-    column: u8,
-    row: u8,
-) -> Result<Id, Kind>
-    requires level { level ≤ 3 }
-    requires columns { column + 2 ^ level ≤ 8 }
-    requires rows { row + 2 ^ level ≤ 8 }
+/// The square of a leaf.
+fn leaf_square<S: Squares>(squares: &mut S, rows: &[u8; 8]) -> Result<Id, Kind>
     ensures known { IfOk result (S.knows squares.new) }
-    ensures square { IfOk result (λ id. S.content squares.new id ≡ tree_at (leaf_cell rows.now) level column row) }
-    ensures level { IfOk result (λ id. depth (S.content squares.new id) ≡ level) }
+    ensures square { IfOk result (λ id. S.content squares.new id ≡ leaf_tree rows.now) }
     ensures keeps { KeepsSquares S.knows S.content S.stored S.most squares.old squares.new }
     ensures refusals { IfErr result (IsWantKind (S.stored squares.new) (S.most squares.new)) }
-    ensures needed { OnErr result (SomePart (S.needs_node squares.new) (tree_at (leaf_cell rows.now) level column row)) }
+    ensures needed { OnErr result (SomePart (S.needs_node squares.new) (leaf_tree rows.now)) }
 {
-    if level == 0 {
-        return Ok(squares.cell(leaf_state(rows, column, row)));
-    }
-    if level == 1 {
-        return four_cells(squares, rows, column, row);
-    }
-    if let Some(id) = found_part(squares, rows, level, column, row) {
-        return Ok(id);
-    }
-    let half = 1 << (level - 1);
-    let nw = leaf_part(squares, rows, level - 1, column, row)?;
-    let ne = leaf_part(squares, rows, level - 1, column + half, row)?;
-    let sw = leaf_part(squares, rows, level - 1, column, row + half)?;
-    let se = leaf_part(squares, rows, level - 1, column + half, row + half)?;
+    let nw = squares.small(sixteen_bits(rows, 0, 0))?;
+    let ne = squares.small(sixteen_bits(rows, 4, 0))?;
+    let sw = squares.small(sixteen_bits(rows, 0, 4))?;
+    let se = squares.small(sixteen_bits(rows, 4, 4))?;
     squares.join(nw, ne, sw, se)
 }
 
@@ -154,7 +90,7 @@ pub(crate) fn line_square<S: Squares>(squares: &mut S, ids: &[Id], line: Line) -
         → OnErr result (SomeOfLine (S.needs_node squares.new) lines line) }
 {
     match line {
-        Line::Leaf(rows) => leaf_part(squares, &rows, 3, 0, 0),
+        Line::Leaf(rows) => leaf_square(squares, &rows),
         Line::Quad(level, nw, ne, sw, se) => {
             let nw = quarter(squares, ids, level - 1, nw);
             let ne = quarter(squares, ids, level - 1, ne);

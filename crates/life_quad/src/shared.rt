@@ -4,7 +4,7 @@ ghost use Rattle.life_base.specs.declared.kind.Kind.TheVariants.{Full, Memory};
 ghost use Rattle.life_quad.specs.declared.id.Id.{Id as IdValue};
 ghost use Rattle.life_base.specs.Tree.{Tree, depth, is_blank_tree};
 
-use crate::id::{FIRST_NODE, Node, are_blank, no_room, small_number};
+use crate::id::{FIRST_NODE, FIRST_SMALL, Node, are_blank, no_room, small_number};
 use crate::id_map::IdMap;
 use crate::join_log::JoinLog;
 use crate::{Id, Seed, SharedSquares, Squares};
@@ -218,6 +218,14 @@ impl Squares for Shared {
 
     fn level(&self, id: Id) -> u8 {
         id.level(self.levels.as_slice())
+    }
+
+    fn small_quarter(&mut self, cells: u16) -> Result<Id, Kind> {
+        let blank = self.empty(1);
+        if cells == 0 {
+            return Ok(blank);
+        }
+        self.mark(FIRST_SMALL + u64::from(cells))
     }
 
     fn find_small(&self, cells: u16) -> Option<Id> {

@@ -3,7 +3,8 @@ ghost use Rattle.std.specs.Prelude.{◌≡◌, ◌↔◌, ℕ, ◌<◌, ◌≤�
 ghost use Rattle.life_base.specs.declared.kind.Kind.TheVariants.{Full, Memory};
 ghost use Rattle.life_quad.specs.declared.id.Id.{Id as IdValue};
 ghost use Rattle.life_base.specs.Tree.{Tree, point, quad, depth, blank, quarters, IsFull};
-ghost use Rattle.life_quad.specs.Store.{four};
+ghost use Rattle.life_quad.specs.Store.{two, four};
+ghost use Rattle.life_quad.specs.Refused.{SomePart};
 ghost use Rattle.life_quad.specs.Keeping.{KeepsSquares, IsWantKind};
 
 use crate::{Id, Seed};
@@ -90,6 +91,44 @@ pub trait Squares {
     /// the south-east one, and the cells of a quarter stand in the same order.
     fn find_small(&self, cells: u16) -> Option<Id>
         ensures { IfSome result (λ id. knows self.now id × (content self.now id ≡ four cells)) };
+
+    /// The square of level 1 with these four cells of the states 0 and 1: the north-west one is the highest bit, then come the north-east, the
+    /// south-west and the south-east one. A refused call leaves each Id its square.
+    fn small_quarter(&mut self, cells: u16) -> Result<Id, Kind>
+        requires { cells < 16 }
+        ensures known { IfOk result (λ id. knows self.new id) }
+        ensures square { IfOk result (λ id. content self.new id ≡ two cells) }
+        ensures keeps { KeepsSquares knows content stored most self.old self.new }
+        ensures refusals { IfErr result (IsWantKind (stored self.new) (most self.new)) }
+        ensures room { result ≡ Err Memory → length (stored self.new) < most self.new }
+        ensures needed { OnErr result (needs_node self.new (two cells)) }
+    {
+        let nw = self.cell((cells / 8) as u8);
+        let ne = self.cell((cells / 4 % 2) as u8);
+        let sw = self.cell((cells / 2 % 2) as u8);
+        let se = self.cell((cells % 2) as u8);
+        self.join(nw, ne, sw, se)
+    }
+
+    /// The square of level 2 with these cells of the states 0 and 1, as `find_small` takes them, where it is not there made of its quarters. After a
+    /// refusal each Id has its square.
+    fn small(&mut self, cells: u16) -> Result<Id, Kind>
+        ensures known { IfOk result (λ id. knows self.new id) }
+        ensures square { IfOk result (λ id. content self.new id ≡ four cells) }
+        ensures keeps { KeepsSquares knows content stored most self.old self.new }
+        ensures refusals { IfErr result (IsWantKind (stored self.new) (most self.new)) }
+        ensures room { result ≡ Err Memory → length (stored self.new) < most self.new }
+        ensures needed { OnErr result (SomePart (needs_node self.new) (four cells)) }
+    {
+        if let Some(id) = self.find_small(cells) {
+            return Ok(id);
+        }
+        let nw = self.small_quarter(cells / 4096)?;
+        let ne = self.small_quarter(cells / 256 % 16)?;
+        let sw = self.small_quarter(cells / 16 % 16)?;
+        let se = self.small_quarter(cells % 16)?;
+        self.join(nw, ne, sw, se)
+    }
 
     /// The cells of a square of level 2 with the states 0 and 1, as `find_small` takes them, where the store can tell them without its
     /// quarters; `None` tells nothing.

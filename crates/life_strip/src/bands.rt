@@ -3,7 +3,7 @@ ghost use Rattle.std.specs.Prelude.{◌≡◌, ℕ, ◌+◌, ◌-◌, ◌*◌, �
 ghost use Rattle.life_base.specs.declared.kind.Kind.TheVariants.{Full, Memory};
 ghost use Rattle.life_base.specs.Tree.{Tree};
 ghost use Rattle.life_quad.specs.Refused.{SomePart};
-ghost use Rattle.life_quad.specs.Store.{two, four};
+ghost use Rattle.life_quad.specs.Store.{four};
 ghost use Rattle.life_quad.specs.Keeping.{KeepsSquares, IsWantKind};
 ghost use Rattle.life_strip.specs.Strip.{IsStrip, AreBefore, AreWithin, FilledTo, square_at};
 ghost use Rattle.life_strip.specs.Band.{four_at, IsExtended, cells_at};
@@ -13,44 +13,6 @@ use crate::words::{Words, cells_of, next_square, two_words};
 use life_base::{Kind, MAX_LEVEL};
 use life_quad::{Id, Squares};
 use std::alloc::Global;
-
-// The square of level 1 with these cells.
-fn join_two<S: Squares>(squares: &mut S, cells: u16) -> Result<Id, Kind>
-    requires small { cells < 16 }
-    ensures known { IfOk result (S.knows squares.new) }
-    ensures square { IfOk result (λ r. S.content squares.new r ≡ two cells) }
-    ensures keeps { KeepsSquares S.knows S.content S.stored S.most squares.old squares.new }
-    ensures refusals { IfErr result (IsWantKind (S.stored squares.new) (S.most squares.new)) }
-    ensures needed { OnErr result (S.needs_node squares.new (two cells)) }
-{
-    let nw = squares.cell((cells / 8) as u8);
-    let ne = squares.cell((cells / 4 % 2) as u8);
-    let sw = squares.cell((cells / 2 % 2) as u8);
-    let se = squares.cell((cells % 2) as u8);
-    squares.join(nw, ne, sw, se)
-}
-
-/// The square of level 2 with these cells of the states 0 and 1, as `Squares::find_small` takes them.
-///
-/// # Errors
-///
-/// `Full` where a square is new and the store holds its limit, and `Memory`. After either each Id has its square.
-pub fn join_four<S: Squares>(squares: &mut S, cells: u16) -> Result<Id, Kind>
-    ensures known { IfOk result (S.knows squares.new) }
-    ensures square { IfOk result (λ r. S.content squares.new r ≡ four cells) }
-    ensures keeps { KeepsSquares S.knows S.content S.stored S.most squares.old squares.new }
-    ensures refusals { IfErr result (IsWantKind (S.stored squares.new) (S.most squares.new)) }
-    ensures needed { OnErr result (SomePart (S.needs_node squares.new) (four cells)) }
-{
-    if let Some(id) = squares.find_small(cells) {
-        return Ok(id);
-    }
-    let nw = join_two(squares, cells / 4096)?;
-    let ne = join_two(squares, cells / 256 % 16)?;
-    let sw = join_two(squares, cells / 16 % 16)?;
-    let se = join_two(squares, cells % 16)?;
-    squares.join(nw, ne, sw, se)
-}
 
 // A square from a column to before `end`, east of the others.
 fn extend(spans: &mut Vec<Span>, column: u64, end: u64, square: Id) -> Result<(), Kind>
@@ -89,7 +51,7 @@ fn push_square<S: Squares>(
     if cells == 0 {
         return Ok(());
     }
-    let id = join_four(squares, cells)?;
+    let id = squares.small(cells)?;
     extend(spans, column, end, id)
 }
 

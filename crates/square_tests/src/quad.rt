@@ -475,6 +475,35 @@ fn small_squares_are_found_by_their_cells(rt: HostRuntime) {
     assert!(rt; blank == (false, [None, Some(0), None]));
 }
 
+// The square of a glider's cells made twice by them, whether the second one and that of its joins is the first one, and whether that of no cells is
+// the blank one.
+fn glider_made<S: Squares>(squares: &mut S) -> Result<[bool; 3], Kind> {
+    let glider = squares.small(GLIDER)?;
+    let again = squares.small(GLIDER)?;
+    let joined = four(squares, [4, 2, 12, 8])?;
+    let blank = squares.small(0)?;
+    Ok([again == glider, joined == glider, blank == squares.empty(2)])
+}
+
+// The same in a store that shares, of this limit, and the number of its squares.
+fn shared_glider(alloc: Global, limit: u64) -> (Result<[bool; 3], Kind>, u64)
+    requires { limit ≤ 100 }
+{
+    let mut squares = Shared::new(alloc, Seed::fixed(), limit);
+    (glider_made(&mut squares), squares.len())
+}
+
+#[test]
+fn small_squares_are_made_of_their_cells(rt: HostRuntime) {
+    // Four quarters and the square.
+    assert!(rt; shared_glider(rt.alloc(), 5) == (Ok([true; 3]), 5));
+    assert!(rt; shared_glider(rt.alloc(), 4) == (Err(Kind::Full), 4));
+    // Each time five nodes.
+    let plain = glider_made(&mut Plain::new(rt.alloc(), 15));
+    assert!(rt; plain == Ok([false, false, true]));
+    assert!(rt; glider_made(&mut Plain::new(rt.alloc(), 14)) == Err(Kind::Full));
+}
+
 // Whether a blank square and one with cells of states above 1 have their populations and boxes.
 fn measures<S: SharedSquares + Drop>(alloc: Global, store: S) -> Result<bool, Kind> {
     let mut squares = store;

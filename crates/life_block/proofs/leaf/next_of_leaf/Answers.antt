@@ -53,7 +53,7 @@ words g c cells x y binary h =
 parts : (g : Over) (c : goal.After-join g) (f : ℤ → ℤ → ℕ) (x y : ℤ)
     → (let north = c.next_squares-north.result in let south = c.next_squares-south.result in
     AreParts f 2 x y (four north.0) (four north.1) (four south.0) (four south.1))
-    → let now = g.S.Squares.content c.join_four-4.new.squares in
+    → let now = g.S.Squares.content c.small-4.new.self in
     AreParts f 2 x y (now c.in_ok-nw.nw) (now c.in_ok-ne.ne) (now c.in_ok-sw.sw) (now c.in_ok-se.se)
 parts g c f x y p =
     let nw = c.in_ok-nw.ensures in
@@ -81,7 +81,7 @@ part P t u e = subst (SomePart P) e
 
 pub returns-in_err-nw-clause-needed : goal.returns-in_err-nw-clause-needed
 returns-in_err-nw-clause-needed g c =
-    let P = g.S.Squares.needs_node c.join_four.new.squares in
+    let P = g.S.Squares.needs_node c.small.new.self in
     on_err_any c.from_residual.result
     (λ cells x y binary h.
     let p = words g (goal.at.returns-in_err-nw-clause-needed g c).After-next_squares-south cells x y binary h in
@@ -89,7 +89,7 @@ returns-in_err-nw-clause-needed g c =
 
 pub returns-in_err-ne-clause-needed : goal.returns-in_err-ne-clause-needed
 returns-in_err-ne-clause-needed g c =
-    let P = g.S.Squares.needs_node c.join_four-2.new.squares in
+    let P = g.S.Squares.needs_node c.small-2.new.self in
     on_err_any c.from_residual-in_err-ne.result
     (λ cells x y binary h.
     let p = words g (goal.at.returns-in_err-ne-clause-needed g c).After-next_squares-south cells x y binary h in
@@ -97,7 +97,7 @@ returns-in_err-ne-clause-needed g c =
 
 pub returns-in_err-sw-clause-needed : goal.returns-in_err-sw-clause-needed
 returns-in_err-sw-clause-needed g c =
-    let P = g.S.Squares.needs_node c.join_four-3.new.squares in
+    let P = g.S.Squares.needs_node c.small-3.new.self in
     on_err_any c.from_residual-in_err-sw.result
     (λ cells x y binary h.
     let p = words g (goal.at.returns-in_err-sw-clause-needed g c).After-next_squares-south cells x y binary h in
@@ -105,7 +105,7 @@ returns-in_err-sw-clause-needed g c =
 
 pub returns-in_err-se-clause-needed : goal.returns-in_err-se-clause-needed
 returns-in_err-se-clause-needed g c =
-    let P = g.S.Squares.needs_node c.join_four-4.new.squares in
+    let P = g.S.Squares.needs_node c.small-4.new.self in
     on_err_any c.from_residual-in_err-se.result
     (λ cells x y binary h.
     let p = words g (goal.at.returns-in_err-se-clause-needed g c).After-next_squares-south cells x y binary h in

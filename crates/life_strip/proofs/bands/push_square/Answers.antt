@@ -17,8 +17,8 @@ returns-clause-filled g c =
     let C = g.S.Squares.content in
     let id = c.in_ok-id.ensures in
     on_ok_map c.extend.result
-    (λ columns want p same. filled-more {knows = K c.args.squares.now} {knows' = K c.join_four.new.squares} {now = C c.args.squares.now}
-    {now' = C c.join_four.new.squares} id.keeps.contents
+    (λ columns want p same. filled-more {knows = K c.args.squares.now} {knows' = K c.small.new.self} {now = C c.args.squares.now}
+    {now' = C c.small.new.self} id.keeps.contents
     2 want c.args.spans.now.items c.extend.new.spans.items c.args.column c.args.end c.in_ok-id.id p (columns p.before) id.known (ap depth id.square)
     (λ x le lt. same x le lt ∙ sym id.square))
     c.extend.ensures.columns

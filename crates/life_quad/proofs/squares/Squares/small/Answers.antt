@@ -1,9 +1,6 @@
 -- A square of four that are made one behind the other: what the five calls keep.
 use Rattle.life_quad.proofs.KeepingLemmas.{keeps-then}
-use Rattle.life_strip.proofs.bands.join_four.Goals as goal
-
-pub returns-in_err-ne-clause-keeps : goal.returns-in_err-ne-clause-keeps
-returns-in_err-ne-clause-keeps g c = keeps-then c.in_ok-nw.ensures.keeps c.in_err-ne.ensures.keeps
+use Rattle.life_quad.proofs.squares.Squares.small.Goals as goal
 
 pub returns-in_err-sw-clause-keeps : goal.returns-in_err-sw-clause-keeps
 returns-in_err-sw-clause-keeps g c = keeps-then (keeps-then c.in_ok-nw.ensures.keeps c.in_ok-ne.ensures.keeps) c.in_err-sw.ensures.keeps
