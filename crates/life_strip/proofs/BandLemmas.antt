@@ -29,7 +29,8 @@ module _ (column end : ℕ) (square : Id) (later : column < end) where
       ∙ sym (ap (λ z. if z then (if nat_le t.start c then Some t.square else None) else id_at rest c) b)
       ∙ ap (λ z. id_at (z ∷ rest) c) (sym at)
   last-earlier (u ∷ rest) (suc n) t s len at to from e q c lt =
-      ap (λ o. if nat_lt c u.end then (if nat_le u.start c then Some u.square else None) else o) (last-earlier rest n t s (omega (arith, len)) at to from e q c lt)
+      ap (λ o. if nat_lt c u.end then (if nat_le u.start c then Some u.square else None) else o)
+      (last-earlier rest n t s (omega (arith, len)) at to from e q c lt)
 
   last-more : (spans : List Span) (n : ℕ) (s : Span) → n + 1 ≡ length spans → AreBefore column spans → s.start ≤ column → s.end ≡ end → (c : ℕ)
       → column ≤ c → c < end → id_at (set spans n s) c ≡ Some s.square
@@ -61,11 +62,6 @@ four-digits a b c d la lb lc ld =
     let sw : n / 16 % 16 ≡ c = omega arith in
     let se : n % 16 ≡ d = omega arith in
     λ i. quad (two (nw i)) (two (ne i)) (two (sw i)) (two (se i))
-
--- the square of four rows has level 2
-pub depth-four_at : (knows : Id → Type 0) (content : Id → Tree) (a b c d : List Span) → IsStrip knows content 0 a → (column : ℕ)
-    → depth (four_at content a b c d column) ≡ 2
-depth-four_at knows content a b c d strip column = ap (λ n. suc (suc n)) (depth-square_at knows content 0 a strip (2 * (2 * column)))
 
 pub four-keeps : {knows knows' : Id → Type 0} {old now : Id → Tree} → Keeps knows knows' old now → (a b c d : List Span) → IsStrip knows old 0 a
     → IsStrip knows old 0 b → IsStrip knows old 0 c → IsStrip knows old 0 d

@@ -4,7 +4,7 @@ ghost use Rattle.life_base.specs.declared.kind.Kind.TheVariants.{Full, Memory};
 ghost use Rattle.life_strip.specs.declared.spans.Span.{Span as SpanValue};
 ghost use Rattle.life_base.specs.Tree.{blank};
 ghost use Rattle.life_quad.specs.Keeping.{KeepsSquares, IsWantKind};
-ghost use Rattle.life_strip.specs.Strip.{IsStrip, AreBefore, AreWithin, HaveColumns, IsPaired, IsPast, IsBefore, IsFound, IsNearer, id_at, quad_at};
+ghost use Rattle.life_strip.specs.Strip.{IsStrip, AreBefore, AreWithin, HaveColumns, IsPaired, EndsAfter, IsPast, IsBefore, IsFound, IsNearer, id_at, quad_at};
 
 use life_base::{Kind, MAX_LEVEL};
 use life_quad::{Id, Squares};
@@ -58,6 +58,16 @@ pub(crate) fn find(spans: &[Span], from: usize, column: u64, blank: Id) -> Stret
     while index < spans.len() && spans[index].end <= column {
         index += 1;
     }
+    stretch_at(spans, index, column, blank)
+}
+
+// The same where the span at the index, if there is one, ends after the column.
+fn stretch_at(spans: &[Span], index: usize, column: u64, blank: Id) -> Stretch
+    requires columns { HaveColumns spans.now }
+    requires past { IsPast spans.now index column }
+    requires ends { EndsAfter spans.now index column }
+    ensures { IsFound spans.now column blank result }
+{
     if index >= spans.len() {
         return Stretch {
             index,
@@ -189,8 +199,8 @@ pub(crate) fn pair<S: Squares>(
     while let Some(first) = nearer(north.start, south.start) {
         // Up to here all is blank.
         let start = first / 2;
-        let nw = find(upper, north.index, 2 * start, blank);
-        let sw = find(lower, south.index, 2 * start, blank);
+        let nw = stretch_at(upper, north.index, 2 * start, blank);
+        let sw = stretch_at(lower, south.index, 2 * start, blank);
         let joined = join_at(squares, upper, lower, level, blank, start, nw, sw)?;
         column = next_column(start, nearer(nw.end, sw.end));
         spans.push(Span {
