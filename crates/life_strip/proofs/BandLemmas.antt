@@ -5,7 +5,7 @@ use Rattle.std.specs.Prelude.{MatchOption, if◌then◌else◌}
 use Rattle.life_quad.specs.declared.id.Id.{Id}
 use Rattle.life_quad.specs.Keeping.{KeepsSquares}
 use Rattle.life_quad.specs.Store.{two, four}
-use Rattle.life_base.specs.Tree.{Tree, quad, depth, blank}
+use Rattle.life_base.specs.Tree.{Tree, quad, blank}
 use Rattle.life_strip.specs.declared.spans.Span.{Span}
 use Rattle.life_strip.specs.declared.spans.Stretch.{Stretch}
 use Rattle.life_strip.specs.Strip.{id_at, square_or_blank, square_at, quad_at, IsStrip, IsFound, IsBefore, IsNearer, AreBefore, AreWithin}
@@ -15,7 +15,7 @@ use Rattle.std.proofs.Math.ListN.{set}
 use Rattle.std.proofs.lemmas.List.Elements.{All-set}
 use Rattle.life_strip.proofs.GivenLemmas.{all_rest}
 use Rattle.life_strip.proofs.WordLemmas.{west-square, east-square, west-small, east-small}
-use Rattle.life_strip.proofs.SpanLemmas.{Keeps, id_at-in, id_at-after, before_more, strip-kept, depth-square_at, quad-keeps, quad-same, nearer-beyond, nearer-within, found-within, before_earlier, none-left, end-none}
+use Rattle.life_strip.proofs.SpanLemmas.{Keeps, id_at-in, id_at-after, before_more, strip-kept, quad-keeps, quad-same, nearer-beyond, nearer-within, found-within, before_earlier, none-left, end-none}
 
 -- the last span goes on to a new end
 module _ (column end : ℕ) (square : Id) (later : column < end) where

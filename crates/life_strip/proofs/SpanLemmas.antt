@@ -3,7 +3,6 @@ use Rattle.life_base.specs.declared.cell.TheConstants.{MAX_LEVEL}
 use Rattle.std.proofs.Common.{◌≡◌, ℕ, zero, suc, ◌+◌, ◌-◌, ◌*◌, ◌/◌, ◌^◌, ◌≤◌, ◌<◌, ◌⊎◌, inl, inr, Bool, true, false, ◌&&◌, nat_lt, nat_le, List, [], ◌∷◌, ◌++◌, Option, Some, None, refl, sym, ◌∙◌, ap, subst, arith}
 use Rattle.std.specs.Prelude.{if◌then◌else◌, MatchOption, IfSome}
 use Rattle.std.proofs.lemmas.List.Elements.{All-push}
-use Rattle.std.proofs.Math.Pow.{pow_mono}
 use Rattle.life_quad.specs.declared.id.Id.{Id}
 use Rattle.life_quad.specs.Keeping.{KeepsSquares}
 use Rattle.life_base.specs.Tree.{Tree, quad, depth, blank}
