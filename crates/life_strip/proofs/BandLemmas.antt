@@ -8,9 +8,9 @@ use Rattle.life_quad.specs.Store.{two, four}
 use Rattle.life_base.specs.Tree.{Tree, quad, blank}
 use Rattle.life_strip.specs.declared.spans.Span.{Span}
 use Rattle.life_strip.specs.declared.spans.Stretch.{Stretch}
-use Rattle.life_strip.specs.Strip.{id_at, square_or_blank, square_at, quad_at, IsStrip, IsFound, IsBefore, IsNearer, AreBefore, AreWithin}
+use Rattle.life_strip.specs.Strip.{id_at, square_or_blank, square_at, quad_at, IsStrip, IsFound, IsBefore, IsNearer, AreBefore, AreWithin, IsExtended}
 use Rattle.life_strip.specs.declared.words.Words.{Words}
-use Rattle.life_strip.specs.Band.{four_at, cell_in, IsWord, west_at, east_at, cells_at, IsExtended}
+use Rattle.life_strip.specs.Band.{four_at, cell_in, IsWord, west_at, east_at, cells_at}
 use Rattle.std.proofs.Math.ListN.{set}
 use Rattle.std.proofs.lemmas.List.Elements.{All-set}
 use Rattle.life_strip.proofs.GivenLemmas.{all_rest}

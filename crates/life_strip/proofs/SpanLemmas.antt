@@ -9,8 +9,7 @@ use Rattle.life_base.specs.Tree.{Tree, quad, depth, blank}
 use Rattle.life_base.proofs.Squares.{depth-blank}
 use Rattle.life_strip.specs.declared.spans.Span.{Span}
 use Rattle.life_strip.specs.declared.spans.Stretch.{Stretch}
-use Rattle.life_strip.specs.Strip.{id_at, square_or_blank, square_at, id_or, quad_at, IsStrip, IsPast, EndsAfter, IsStart, IsFound, IsBefore, IsNearer, AreBefore, AreWithin, HaveColumns, FilledTo}
-use Rattle.life_strip.specs.Band.{IsExtended}
+use Rattle.life_strip.specs.Strip.{id_at, square_or_blank, square_at, id_or, quad_at, IsStrip, IsPast, EndsAfter, IsStart, IsFound, IsBefore, IsNearer, AreBefore, AreWithin, HaveColumns, IsExtended, FilledTo}
 use Rattle.life_strip.proofs.GivenLemmas.{all_rest}
 
 -- a store knows what it knew, with the same square
@@ -227,6 +226,20 @@ module _ (column end : ℕ) (square : Id) (later : column < end) where
             ∙ (let e : nat_le column c ≡ true = grind arith in
             let f : nat_lt c end ≡ true = grind arith in λ i. if e i && f i then Some square else id_at spans c);
       }
+
+-- the columns of a square that was added, and the others
+pub extended-columns : (old new : List Span) (column end : ℕ) (square : Id) → AreBefore column old → column < end
+    → IsExtended old new column end square → (c : ℕ) → id_at new c ≡ (if nat_le column c && nat_lt c end then Some square else id_at old c)
+extended-columns old new column end square before later more c = by (nat_le column c) refl (nat_lt c end) refl
+  where
+    all : Bool → Bool → Option Id
+    all a b = if a && b then Some square else id_at old c
+
+    by : (a : Bool) → nat_le column c ≡ a → (b : Bool) → nat_lt c end ≡ b → id_at new c ≡ all (nat_le column c) (nat_lt c end)
+    by true e true f = more.more c (grind arith) (grind arith) ∙ sym (λ i. all (e i) (f i))
+    by true e false f =
+        none_beyond new end c more.before (grind arith) ∙ sym (none_beyond old column c before (grind arith)) ∙ sym (λ i. all (e i) (f i))
+    by false e b f = more.earlier c (grind arith) ∙ sym (ap (λ z. all z (nat_lt c end)) e)
 
 -- what goes on from a column is the same in that column too
 pub from-first : (want : ℕ → Tree) (t : Tree) (start end : ℕ) → want start ≡ t → ((c : ℕ) → start < c → c < end → want c ≡ want start)

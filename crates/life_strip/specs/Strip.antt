@@ -42,6 +42,12 @@ pub record FilledTo (knows : Id → Type 0) (content : Id → Tree) (level : ℕ
   pub strip : IsStrip knows content level spans
   pub done : (c : ℕ) → c < column → square_at content level spans c ≡ want c
 
+-- from a column on one square goes on to an end
+pub record IsExtended (old new : List Span) (column end : ℕ) (square : Id) : Type 0 where
+  pub before : AreBefore end new
+  pub earlier : (c : ℕ) → c < column → id_at new c ≡ id_at old c
+  pub more : (c : ℕ) → column ≤ c → c < end → id_at new c ≡ Some square
+
 -- the square of two columns of two strips, one above the other
 abbrev pub quad_at : (Id → Tree) → ℕ → List Span → List Span → ℕ → Tree
 quad_at content level upper lower column =
