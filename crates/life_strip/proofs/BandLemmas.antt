@@ -5,17 +5,17 @@ use Rattle.std.specs.Prelude.{MatchOption, if◌then◌else◌}
 use Rattle.life_quad.specs.declared.id.Id.{Id}
 use Rattle.life_quad.specs.Keeping.{KeepsSquares}
 use Rattle.life_quad.specs.Store.{two, four}
-use Rattle.life_base.specs.Tree.{Tree, quad, depth, blank}
+use Rattle.life_base.specs.Tree.{Tree, quad, blank}
 use Rattle.life_strip.specs.declared.spans.Span.{Span}
 use Rattle.life_strip.specs.declared.spans.Stretch.{Stretch}
-use Rattle.life_strip.specs.Strip.{id_at, square_or_blank, square_at, quad_at, IsStrip, IsFound, IsBefore, IsNearer, AreBefore, AreWithin}
+use Rattle.life_strip.specs.Strip.{id_at, square_or_blank, square_at, quad_at, IsStrip, IsFound, IsBefore, IsNearer, AreBefore, AreWithin, IsExtended}
 use Rattle.life_strip.specs.declared.words.Words.{Words}
-use Rattle.life_strip.specs.Band.{four_at, cell_in, IsWord, west_at, east_at, cells_at, IsExtended}
+use Rattle.life_strip.specs.Band.{four_at, cell_in, IsWord, west_at, east_at, cells_at}
 use Rattle.std.proofs.Math.ListN.{set}
 use Rattle.std.proofs.lemmas.List.Elements.{All-set}
 use Rattle.life_strip.proofs.GivenLemmas.{all_rest}
 use Rattle.life_strip.proofs.WordLemmas.{west-square, east-square, west-small, east-small}
-use Rattle.life_strip.proofs.SpanLemmas.{Keeps, id_at-in, id_at-after, before_more, strip-kept, depth-square_at, quad-keeps, quad-same, nearer-beyond, nearer-within, found-within, before_earlier, none-left, end-none}
+use Rattle.life_strip.proofs.SpanLemmas.{Keeps, id_at-in, id_at-after, before_more, strip-kept, quad-keeps, quad-same, nearer-beyond, nearer-within, found-within, before_earlier, none-left, end-none}
 
 -- the last span goes on to a new end
 module _ (column end : ℕ) (square : Id) (later : column < end) where
@@ -29,7 +29,8 @@ module _ (column end : ℕ) (square : Id) (later : column < end) where
       ∙ sym (ap (λ z. if z then (if nat_le t.start c then Some t.square else None) else id_at rest c) b)
       ∙ ap (λ z. id_at (z ∷ rest) c) (sym at)
   last-earlier (u ∷ rest) (suc n) t s len at to from e q c lt =
-      ap (λ o. if nat_lt c u.end then (if nat_le u.start c then Some u.square else None) else o) (last-earlier rest n t s (omega (arith, len)) at to from e q c lt)
+      ap (λ o. if nat_lt c u.end then (if nat_le u.start c then Some u.square else None) else o)
+      (last-earlier rest n t s (omega (arith, len)) at to from e q c lt)
 
   last-more : (spans : List Span) (n : ℕ) (s : Span) → n + 1 ≡ length spans → AreBefore column spans → s.start ≤ column → s.end ≡ end → (c : ℕ)
       → column ≤ c → c < end → id_at (set spans n s) c ≡ Some s.square
@@ -61,11 +62,6 @@ four-digits a b c d la lb lc ld =
     let sw : n / 16 % 16 ≡ c = omega arith in
     let se : n % 16 ≡ d = omega arith in
     λ i. quad (two (nw i)) (two (ne i)) (two (sw i)) (two (se i))
-
--- the square of four rows has level 2
-pub depth-four_at : (knows : Id → Type 0) (content : Id → Tree) (a b c d : List Span) → IsStrip knows content 0 a → (column : ℕ)
-    → depth (four_at content a b c d column) ≡ 2
-depth-four_at knows content a b c d strip column = ap (λ n. suc (suc n)) (depth-square_at knows content 0 a strip (2 * (2 * column)))
 
 pub four-keeps : {knows knows' : Id → Type 0} {old now : Id → Tree} → Keeps knows knows' old now → (a b c d : List Span) → IsStrip knows old 0 a
     → IsStrip knows old 0 b → IsStrip knows old 0 c → IsStrip knows old 0 d

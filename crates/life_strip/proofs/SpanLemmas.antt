@@ -1,17 +1,15 @@
 -- Facts about spans and strips.
 use Rattle.life_base.specs.declared.cell.TheConstants.{MAX_LEVEL}
-use Rattle.std.proofs.Common.{◌≡◌, ℕ, suc, ◌+◌, ◌-◌, ◌*◌, ◌/◌, ◌^◌, ◌≤◌, ◌<◌, ◌⊎◌, inl, inr, Bool, true, false, ◌&&◌, nat_lt, nat_le, List, [], ◌∷◌, ◌++◌, Option, Some, None, refl, sym, ◌∙◌, ap, subst, arith}
+use Rattle.std.proofs.Common.{◌≡◌, ℕ, zero, suc, ◌+◌, ◌-◌, ◌*◌, ◌/◌, ◌^◌, ◌≤◌, ◌<◌, ◌⊎◌, inl, inr, Bool, true, false, ◌&&◌, nat_lt, nat_le, List, [], ◌∷◌, ◌++◌, Option, Some, None, refl, sym, ◌∙◌, ap, subst, arith}
 use Rattle.std.specs.Prelude.{if◌then◌else◌, MatchOption, IfSome}
 use Rattle.std.proofs.lemmas.List.Elements.{All-push}
-use Rattle.std.proofs.Math.Pow.{pow_mono}
 use Rattle.life_quad.specs.declared.id.Id.{Id}
 use Rattle.life_quad.specs.Keeping.{KeepsSquares}
 use Rattle.life_base.specs.Tree.{Tree, quad, depth, blank}
 use Rattle.life_base.proofs.Squares.{depth-blank}
 use Rattle.life_strip.specs.declared.spans.Span.{Span}
 use Rattle.life_strip.specs.declared.spans.Stretch.{Stretch}
-use Rattle.life_strip.specs.Strip.{id_at, square_or_blank, square_at, id_or, quad_at, IsStrip, IsPast, IsStart, IsFound, IsBefore, IsNearer, AreBefore, AreWithin, HaveColumns, FilledTo}
-use Rattle.life_strip.specs.Band.{IsExtended}
+use Rattle.life_strip.specs.Strip.{id_at, square_or_blank, square_at, id_or, quad_at, IsStrip, IsPast, EndsAfter, IsStart, IsFound, IsBefore, IsNearer, AreBefore, AreWithin, HaveColumns, IsExtended, FilledTo}
 use Rattle.life_strip.proofs.GivenLemmas.{all_rest}
 
 -- a store knows what it knew, with the same square
@@ -32,10 +30,6 @@ id_at-none s rest c from h = grind arith
 -- a span that ends before the column is passed
 pub id_at-after : (s : Span) (rest : List Span) (c : ℕ) → s.end ≤ c → id_at (s ∷ rest) c ≡ id_at rest c
 id_at-after s rest c h = grind arith
-
--- and one that ends after it is not
-pub id_at-first : (s : Span) (rest more : List Span) (c : ℕ) → c < s.end → id_at (s ∷ rest) c ≡ id_at (s ∷ more) c
-id_at-first s rest more c h = grind arith
 
 -- nothing is found beyond the end of each span
 pub none_beyond : (xs : List Span) (n c : ℕ) → AreBefore n xs → n ≤ c → id_at xs c ≡ None
@@ -76,7 +70,7 @@ id_at-push xs s before c = by (nat_le s.start c) refl (nat_lt c s.end) refl
         later xs before (grind arith) ∙ id_at-after s [] c (grind arith) ∙ sym (none_beyond xs s.start c before (grind arith)) ∙ sym (λ i. new (e i) (f i))
     by false e b f = earlier xs before (grind arith) ∙ sym (ap (λ z. new z (nat_lt c s.end)) e)
 
--- what holds of a stretch of columns ends no later
+-- spans that end before a column end before a later one
 pub before_more : (n m : ℕ) (xs : List Span) → AreBefore n xs → n ≤ m → AreBefore m xs
 before_more n m xs h le k d lt = let p = h k d lt in (p.0, omega (arith, p.1, le))
 
@@ -226,11 +220,26 @@ module _ (column end : ℕ) (square : Id) (later : column < end) where
       let s : Span = record { start = column; end = end; square = square } in
       record {
         before = before_push column end spans s p (omega (arith, later)) later (omega arith);
-        earlier = λ c h. id_at-push spans s p c ∙ (let e : nat_le column c ≡ false = grind arith in ap (λ b. if b && nat_lt c end then Some square else id_at spans c) e);
+        earlier = λ c h. id_at-push spans s p c
+            ∙ (let e : nat_le column c ≡ false = grind arith in ap (λ b. if b && nat_lt c end then Some square else id_at spans c) e);
         more = λ c le h. id_at-push spans s p c
             ∙ (let e : nat_le column c ≡ true = grind arith in
             let f : nat_lt c end ≡ true = grind arith in λ i. if e i && f i then Some square else id_at spans c);
       }
+
+-- the columns of a square that was added, and the others
+pub extended-columns : (old new : List Span) (column end : ℕ) (square : Id) → AreBefore column old → column < end
+    → IsExtended old new column end square → (c : ℕ) → id_at new c ≡ (if nat_le column c && nat_lt c end then Some square else id_at old c)
+extended-columns old new column end square before later more c = by (nat_le column c) refl (nat_lt c end) refl
+  where
+    all : Bool → Bool → Option Id
+    all a b = if a && b then Some square else id_at old c
+
+    by : (a : Bool) → nat_le column c ≡ a → (b : Bool) → nat_lt c end ≡ b → id_at new c ≡ all (nat_le column c) (nat_lt c end)
+    by true e true f = more.more c (grind arith) (grind arith) ∙ sym (λ i. all (e i) (f i))
+    by true e false f =
+        none_beyond new end c more.before (grind arith) ∙ sym (none_beyond old column c before (grind arith)) ∙ sym (λ i. all (e i) (f i))
+    by false e b f = more.earlier c (grind arith) ∙ sym (ap (λ z. all z (nat_lt c end)) e)
 
 -- what goes on from a column is the same in that column too
 pub from-first : (want : ℕ → Tree) (t : Tree) (start end : ℕ) → want start ≡ t → ((c : ℕ) → start < c → c < end → want c ≡ want start)
@@ -273,18 +282,15 @@ quad-same knows content level upper lower u l b known is_blank column c n s hn h
     (before_earlier (k + 1) (2 * c + 1) s.end east me) in
     λ i. quad (p i) (q i) (r i) (t i)
 
--- the plane has at most as many columns of squares as of cells
-pub at_most_side : (level : ℕ) → 2 ^ (MAX_LEVEL - level) ≤ 2 ^ MAX_LEVEL
-at_most_side level = pow_mono {i = MAX_LEVEL - level} {j = MAX_LEVEL} (omega arith)
-
--- and half as many of squares twice as wide
+-- the plane has half as many columns of squares twice as wide
 pub half-side : (level : ℕ) → level < MAX_LEVEL → 2 ^ (MAX_LEVEL - level) ≡ 2 * 2 ^ (MAX_LEVEL - suc level)
 half-side level low =
     let more : MAX_LEVEL - level ≡ suc (MAX_LEVEL - suc level) = omega (arith, low) in
     ap (λ n. 2 ^ n) more ∙ double (MAX_LEVEL - suc level)
 
 -- no span is left
-pub none-left : (spans : List Span) (column : ℕ) (b : Id) (f : Stretch) → IsFound spans column b f → f.start ≡ None → (c : ℕ) → column ≤ c → id_at spans c ≡ None
+pub none-left : (spans : List Span) (column : ℕ) (b : Id) (f : Stretch) → IsFound spans column b f → f.start ≡ None → (c : ℕ) → column ≤ c
+    → id_at spans c ≡ None
 none-left spans column b f h e = subst (λ o. MatchOption o ((c : ℕ) → column ≤ c → id_at spans c ≡ None) (IsStart spans column)) e h.start
 
 -- nor does one end
@@ -361,7 +367,8 @@ module _ (side : ℕ) (upper lower : List Span) (u : AreBefore side upper) (l : 
       by (inr e) = at lower s l hs e
 
 -- a square of the next level begins in the plane, where one of two strips has the first span
-pub first-place : (level : ℕ) (upper lower : List Span) → level < MAX_LEVEL → AreWithin level upper → AreWithin level lower → (column : ℕ) (b : Id) (n s : Stretch)
+pub first-place : (level : ℕ) (upper lower : List Span) → level < MAX_LEVEL → AreWithin level upper → AreWithin level lower
+    → (column : ℕ) (b : Id) (n s : Stretch)
     → IsFound upper (2 * column) b n → IsFound lower (2 * column) b s → (first : ℕ) → IsNearer first n.start s.start
     → (column ≤ first / 2) × (first / 2 < 2 ^ (MAX_LEVEL - suc level))
 first-place level upper lower low u l column b n s hn hs first near =
@@ -370,6 +377,21 @@ first-place level upper lower low u l column b n s hn hs first near =
     let from = p.from in
     let within = p.within in
     (omega (arith, from), omega (arith, side, within))
+
+-- what comes after all smaller numbers isn't smaller
+not-beyond : (n x : ℕ) → ((y : ℕ) → y < n → y < x) → n ≤ x
+not-beyond zero x h = omega arith
+not-beyond (suc n) x h = h n (omega arith)
+
+-- the span that stands at what was found ends after each column up to the nearer start
+pub ends-after : (spans : List Span) (column : ℕ) (b : Id) (f : Stretch) → IsFound spans column b f → (first c : ℕ)
+    → ((x : ℕ) → x < first → IsBefore x f.start) → c ≤ first → EndsAfter spans f.index c
+ends-after spans column b f h first c before le = by f.start h.ends before
+  where
+    by : (o : Option ℕ) → MatchOption o ((x : ℕ) → EndsAfter spans f.index x) (EndsAfter spans f.index) → ((x : ℕ) → x < first → IsBefore x o)
+        → EndsAfter spans f.index c
+    by None e lt d within = e c d within
+    by (Some x) e lt d within = omega (arith, not-beyond first x lt, le, e d within)
 
 -- two columns of two strips without a span are blank
 pub quad-blank : (content : Id → Tree) (level : ℕ) (upper lower : List Span) (from c : ℕ) → ((x : ℕ) → from ≤ x → x ≤ 2 * c + 1 → id_at upper x ≡ None)

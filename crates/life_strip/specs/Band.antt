@@ -1,10 +1,10 @@
 -- Four rows of cells, one below the other.
-use Rattle.std.specs.Prelude.{◌≡◌, ℕ, ◌+◌, ◌*◌, ◌≤◌, ◌<◌, ◌-◌, ◌/◌, ◌%◌, ◌^◌, zero, suc, List, Some}
+use Rattle.std.specs.Prelude.{◌≡◌, ℕ, ◌+◌, ◌*◌, ◌≤◌, ◌<◌, ◌-◌, ◌/◌, ◌%◌, ◌^◌, zero, suc, List}
 use Rattle.life_quad.specs.declared.id.Id.{Id}
 use Rattle.life_base.specs.Tree.{Tree, quad, state_at}
 use Rattle.life_strip.specs.declared.spans.Span.{Span}
 use Rattle.life_strip.specs.declared.words.Words.{Words}
-use Rattle.life_strip.specs.Strip.{quad_at, id_at, square_at, AreBefore}
+use Rattle.life_strip.specs.Strip.{quad_at, square_at}
 
 -- the square of level 2 in a column of four rows of cells
 abbrev pub four_at : (Id → Tree) → List Span → List Span → List Span → List Span → ℕ → Tree
@@ -40,9 +40,3 @@ east_at rows square = nibble_of rows.north.cells square % 4 * 4 + nibble_of rows
 -- the cells of a square of level 2 of four words
 abbrev pub cells_at : Words → Words → ℕ → ℕ
 cells_at upper lower square = 4096 * west_at upper square + 256 * east_at upper square + 16 * west_at lower square + east_at lower square
-
--- from a column on one square goes on to an end
-pub record IsExtended (old new : List Span) (column end : ℕ) (square : Id) : Type 0 where
-  pub before : AreBefore end new
-  pub earlier : (c : ℕ) → c < column → id_at new c ≡ id_at old c
-  pub more : (c : ℕ) → column ≤ c → c < end → id_at new c ≡ Some square

@@ -1,6 +1,6 @@
 -- Strips: rows of squares of one level, side by side.
 use Rattle.life_base.specs.declared.cell.TheConstants.{MAX_LEVEL}
-use Rattle.std.specs.Prelude.{◌≡◌, ℕ, suc, ◌+◌, ◌-◌, ◌*◌, ◌^◌, ◌<◌, ◌≤◌, ◌⊎◌, nat_lt, nat_le, if◌then◌else◌, List, [], ◌∷◌, drop, All, Option, Some, None, MatchOption}
+use Rattle.std.specs.Prelude.{◌≡◌, ℕ, suc, ◌+◌, ◌-◌, ◌*◌, ◌^◌, ◌<◌, ◌≤◌, ◌⊎◌, nat_lt, nat_le, if◌then◌else◌, List, [], ◌∷◌, drop, All, Option, Some, None, MatchOption, length, get_or}
 use Rattle.life_quad.specs.declared.id.Id.{Id}
 use Rattle.life_base.specs.Tree.{Tree, quad, depth, blank}
 use Rattle.life_strip.specs.declared.spans.Span.{Span}
@@ -42,6 +42,12 @@ pub record FilledTo (knows : Id → Type 0) (content : Id → Tree) (level : ℕ
   pub strip : IsStrip knows content level spans
   pub done : (c : ℕ) → c < column → square_at content level spans c ≡ want c
 
+-- from a column on one square goes on to an end
+pub record IsExtended (old new : List Span) (column end : ℕ) (square : Id) : Type 0 where
+  pub before : AreBefore end new
+  pub earlier : (c : ℕ) → c < column → id_at new c ≡ id_at old c
+  pub more : (c : ℕ) → column ≤ c → c < end → id_at new c ≡ Some square
+
 -- the square of two columns of two strips, one above the other
 abbrev pub quad_at : (Id → Tree) → ℕ → List Span → List Span → ℕ → Tree
 quad_at content level upper lower column =
@@ -55,6 +61,10 @@ IsPaired old new level upper lower spans = (column : ℕ) → square_at new (suc
 -- the spans from an index on have every column from this one on
 abbrev pub IsPast : List Span → ℕ → ℕ → Type 0
 IsPast spans index column = (c : ℕ) → column ≤ c → id_at spans c ≡ id_at (drop index spans) c
+
+-- the span at an index, if there is one, ends after the column
+abbrev pub EndsAfter : List Span → ℕ → ℕ → Type 0
+EndsAfter spans index column = (d : Span) → index < length spans → column < (get_or spans index d).end
 
 -- the Id, or that of the blank square
 abbrev pub id_or : Id → Option Id → Id
@@ -77,6 +87,7 @@ pub record IsFound (spans : List Span) (column : ℕ) (blank : Id) (found : Stre
   pub past : IsPast spans found.index column
   pub square : (c : ℕ) → column ≤ c → IsBefore c found.end → id_or blank (id_at spans c) ≡ found.square
   pub beyond : IsBefore column found.end
+  pub ends : MatchOption found.start ((c : ℕ) → EndsAfter spans found.index c) (EndsAfter spans found.index)
   pub start : MatchOption found.start ((c : ℕ) → column ≤ c → id_at spans c ≡ None) (IsStart spans column)
   pub last : MatchOption found.end (found.start ≡ None) (λ end. (side : ℕ) → AreBefore side spans → end ≤ side)
 

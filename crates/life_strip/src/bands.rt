@@ -6,33 +6,13 @@ ghost use Rattle.life_quad.specs.Refused.{SomePart};
 ghost use Rattle.life_quad.specs.Store.{four};
 ghost use Rattle.life_quad.specs.Keeping.{KeepsSquares, IsWantKind};
 ghost use Rattle.life_strip.specs.Strip.{IsStrip, AreBefore, AreWithin, FilledTo, square_at};
-ghost use Rattle.life_strip.specs.Band.{four_at, IsExtended, cells_at};
+ghost use Rattle.life_strip.specs.Band.{four_at, cells_at};
 
-use crate::spans::{Span, find, nearer};
+use crate::spans::{Span, extend, find, nearer};
 use crate::words::{Words, cells_of, next_square, two_words};
 use life_base::{Kind, MAX_LEVEL};
 use life_quad::{Id, Squares};
 use std::alloc::Global;
-
-// A square from a column to before `end`, east of the others.
-fn extend(spans: &mut Vec<Span>, column: u64, end: u64, square: Id) -> Result<(), Kind>
-    requires { column < end }
-    ensures columns { OnOk result (AreBefore column spans.old.items → IsExtended spans.old.items spans.new.items column end square) }
-    ensures refusals { IfErr result (λ e. e ≡ Memory) }
-{
-    if let Some(last) = spans.last_mut() {
-        if last.end == column && last.square == square {
-            last.end = end;
-            return Ok(());
-        }
-    }
-    spans.push(Span {
-        start: column,
-        end,
-        square,
-    })?;
-    Ok(())
-}
 
 // A square of level 2 with these cells from a column to before `end`, east of the others. A blank one has no span.
 fn push_square<S: Squares>(

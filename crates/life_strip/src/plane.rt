@@ -8,7 +8,7 @@ ghost use Rattle.life_strip.specs.Needed.{SomeSquare};
 ghost use Rattle.life_strip.specs.Plane.{IsFilled, IsUnfilled, IsFree, AddsRun, state_so_far, cell_so_far};
 
 use crate::pile::Pile;
-use crate::spans::{Strip, push_span};
+use crate::spans::{Strip, extend};
 use life_base::{Kind, MAX_LEVEL, Run};
 use life_quad::{Id, Squares};
 use std::alloc::Global;
@@ -100,7 +100,7 @@ impl Plane {
         let row = offset(run.y);
         self.go_to_row(squares, row)?;
         let square = squares.cell(run.state);
-        push_span(&mut self.row.spans, column, run.len, square)
+        extend(&mut self.row.spans, column, column + run.len, square)
     }
 
     // The square of the whole plane.

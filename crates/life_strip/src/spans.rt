@@ -1,10 +1,10 @@
 //! Strips of squares, and how two of them make one of the next level.
-ghost use Rattle.std.specs.Prelude.{◌≡◌, ℕ, ◌+◌, ◌-◌, ◌*◌, ◌^◌, ◌<◌, ◌≤◌, ◌&&◌, nat_le, nat_lt, if◌then◌else◌, Some, None, MatchOption, IfSome, length, slice_get, Err, IfOk, IfErr, OnOk, OnErr};
+ghost use Rattle.std.specs.Prelude.{◌≡◌, ℕ, ◌+◌, ◌-◌, ◌*◌, ◌^◌, ◌<◌, ◌≤◌, Some, None, MatchOption, IfSome, length, slice_get, Err, IfOk, IfErr, OnOk, OnErr};
 ghost use Rattle.life_base.specs.declared.kind.Kind.TheVariants.{Full, Memory};
 ghost use Rattle.life_strip.specs.declared.spans.Span.{Span as SpanValue};
 ghost use Rattle.life_base.specs.Tree.{blank};
 ghost use Rattle.life_quad.specs.Keeping.{KeepsSquares, IsWantKind};
-ghost use Rattle.life_strip.specs.Strip.{IsStrip, AreBefore, AreWithin, HaveColumns, IsPaired, IsPast, IsBefore, IsFound, IsNearer, id_at, quad_at};
+ghost use Rattle.life_strip.specs.Strip.{IsStrip, AreBefore, AreWithin, HaveColumns, IsPaired, EndsAfter, IsPast, IsBefore, IsFound, IsNearer, IsExtended, quad_at};
 
 use life_base::{Kind, MAX_LEVEL};
 use life_quad::{Id, Squares};
@@ -58,6 +58,16 @@ pub(crate) fn find(spans: &[Span], from: usize, column: u64, blank: Id) -> Stret
     while index < spans.len() && spans[index].end <= column {
         index += 1;
     }
+    stretch_at(spans, index, column, blank)
+}
+
+// The same where the span at the index, if there is one, ends after the column.
+fn stretch_at(spans: &[Span], index: usize, column: u64, blank: Id) -> Stretch
+    requires columns { HaveColumns spans.now }
+    requires past { IsPast spans.now index column }
+    requires ends { EndsAfter spans.now index column }
+    ensures { IsFound spans.now column blank result }
+{
     if index >= spans.len() {
         return Stretch {
             index,
@@ -189,8 +199,8 @@ pub(crate) fn pair<S: Squares>(
     while let Some(first) = nearer(north.start, south.start) {
         // Up to here all is blank.
         let start = first / 2;
-        let nw = find(upper, north.index, 2 * start, blank);
-        let sw = find(lower, south.index, 2 * start, blank);
+        let nw = stretch_at(upper, north.index, 2 * start, blank);
+        let sw = stretch_at(lower, south.index, 2 * start, blank);
         let joined = join_at(squares, upper, lower, level, blank, start, nw, sw)?;
         column = next_column(start, nearer(nw.end, sw.end));
         spans.push(Span {
@@ -204,23 +214,21 @@ pub(crate) fn pair<S: Squares>(
     Ok(spans)
 }
 
-// A square in `len` columns, east of the others.
-pub(crate) fn push_span(
-    spans: &mut Vec<Span>,
-    column: u64,
-    len: u64,
-    square: Id,
-) -> Result<(), Kind>
-    requires before { AreBefore column spans.old.items }
-    requires positive { 1 ≤ len }
-    requires within { column + len ≤ 2 ^ MAX_LEVEL }
-    ensures before { OnOk result (AreBefore (column + len) spans.new.items) }
-    ensures columns { OnOk result ((c : ℕ) → id_at spans.new.items c ≡ (if nat_le column c && nat_lt c (column + len) then Some square else id_at spans.old.items c)) }
+// A square from a column to before `end`, east of the others.
+pub(crate) fn extend(spans: &mut Vec<Span>, column: u64, end: u64, square: Id) -> Result<(), Kind>
+    requires { column < end }
+    ensures columns { OnOk result (AreBefore column spans.old.items → IsExtended spans.old.items spans.new.items column end square) }
     ensures refusals { IfErr result (λ e. e ≡ Memory) }
 {
+    if let Some(last) = spans.last_mut() {
+        if last.end == column && last.square == square {
+            last.end = end;
+            return Ok(());
+        }
+    }
     spans.push(Span {
         start: column,
-        end: column + len,
+        end,
         square,
     })?;
     Ok(())

@@ -29,7 +29,11 @@ returns-in_err-push_square-2-clause-needed g c =
     let p = err_from_is_err_and c.from_residual-in_err-push_square-2.result c.from_residual-in_err-push_square-2.ensures.1 in
     let needs = λ (n : ℕ). SomePart (g.S.Squares.needs_node c.push_square-in-loop-square.new.squares) (four n) in
     rw (p.1, p.2)
-    (λ e. (c.loop-square.square, c.loop-square-test.true, subst needs c.cells_of-cells-in-loop-square.ensures (c.in_err-push_square-2.ensures.needed (err_again e))))
+    (λ e. (
+      c.loop-square.square,
+      c.loop-square-test.true,
+      subst needs c.cells_of-cells-in-loop-square.ensures (c.in_err-push_square-2.ensures.needed (err_again e)),
+    ))
 
 pub returns-in_err-push_square-2-clause-keeps : goal.returns-in_err-push_square-2-clause-keeps
 returns-in_err-push_square-2-clause-keeps g c = keeps-then c.loop-square.invariant.1 c.in_err-push_square-2.ensures.keeps
@@ -44,7 +48,8 @@ loop-square-preserved g c =
     let after = c.next_square-after.result in
     let alike = λ (want : ℕ → Tree) (squares : (i : ℕ) → i < 16 → want (16 * block + i) ≡ four (cells_at c.args.upper c.args.lower i)) (x : ℕ)
     (le : 16 * block + square ≤ x) (lt : x < 16 * block + after).
-    same-columns want c.args.upper c.args.lower block square after n.within squares n.goes_on x le lt ∙ ap four (sym c.cells_of-cells-in-loop-square.ensures) in (
+    same-columns want c.args.upper c.args.lower block square after n.within squares n.goes_on x le lt
+    ∙ ap four (sym c.cells_of-cells-in-loop-square.ensures) in (
       (λ want p squares. h.filled want (inv.0 want p squares) (alike want squares)),
       keeps-then inv.1 h.keeps,
       n.within,

@@ -4,7 +4,7 @@ use Rattle.life_base.specs.declared.cell.TheConstants.{MAX_LEVEL}
 use Rattle.life_base.specs.Tree.{depth}
 use Rattle.life_quad.proofs.KeepingLemmas.{keeps-then}
 use Rattle.life_strip.specs.Strip.{FilledTo, quad_at}
-use Rattle.life_strip.proofs.SpanLemmas.{depth-square_at, filled-skip, filled-more, filled-all, extended-push, from-first, first-column, first-place, found-within, half-side, nearer-both, nearer-within, none-left, quad-blank, quad-keeps, quad-same}
+use Rattle.life_strip.proofs.SpanLemmas.{depth-square_at, filled-skip, filled-more, filled-all, extended-push, ends-after, from-first, first-column, first-place, found-within, half-side, nearer-both, nearer-within, none-left, quad-blank, quad-keeps, quad-same}
 use Rattle.life_strip.proofs.spans.pair.Given.{Over}
 use Rattle.life_strip.proofs.spans.pair.Goals as goal
 
@@ -24,9 +24,19 @@ ends g c =
     let place = 2 * (c.in-Some.first / 2) in
     c.next_column-column.ensures.within (2 ^ (MAX_LEVEL - suc c.args.level)) (begins g c).1
     (subst (λ n. IfSome c.nearer-in-Some.result (λ e. e ≤ n)) (half-side c.args.level r.low)
-    (nearer-within c.nearer-in-Some.result c.find-nw.result.end c.find-sw.result.end side c.nearer-in-Some.ensures
-    (found-within side c.args.upper.now r.upper_within place c.empty-blank.result c.find-nw.result c.find-nw.ensures)
-    (found-within side c.args.lower.now r.lower_within place c.empty-blank.result c.find-sw.result c.find-sw.ensures)))
+    (nearer-within c.nearer-in-Some.result c.stretch_at-nw.result.end c.stretch_at-sw.result.end side c.nearer-in-Some.ensures
+    (found-within side c.args.upper.now r.upper_within place c.empty-blank.result c.stretch_at-nw.result c.stretch_at-nw.ensures)
+    (found-within side c.args.lower.now r.lower_within place c.empty-blank.result c.stretch_at-sw.result c.stretch_at-sw.ensures)))
+
+pub stretch_at-nw-requires-clause-ends : goal.stretch_at-nw-requires-clause-ends
+stretch_at-nw-requires-clause-ends g c =
+    ends-after c.args.upper.now (2 * c.loop-first.column) c.empty-blank.result c.loop-first.north c.loop-first.invariant.north c.in-Some.first
+    (2 * (c.in-Some.first / 2)) c.in-Some.ensures.upper (omega arith)
+
+pub stretch_at-sw-requires-clause-ends : goal.stretch_at-sw-requires-clause-ends
+stretch_at-sw-requires-clause-ends g c =
+    ends-after c.args.lower.now (2 * c.loop-first.column) c.empty-blank.result c.loop-first.south c.loop-first.invariant.south c.in-Some.first
+    (2 * (c.in-Some.first / 2)) c.in-Some.ensures.lower (omega arith)
 
 pub loop-first-smaller : goal.loop-first-smaller
 loop-first-smaller g c =
@@ -63,12 +73,12 @@ loop-first-preserved g c =
     let deep : depth (C new c.in_ok-joined.joined.square) ≡ suc level = ap depth square
     ∙ ap suc (depth-square_at (K old) (C old) level upper r.upper (2 * start)) in
     let same : (x : ℕ) → start < x → x < next → want x ≡ want start =
-    λ x lo hi. let on = nearer-both c.nearer-in-Some.result c.find-nw.result.end c.find-sw.result.end (2 * x + 1) c.nearer-in-Some.ensures
+    λ x lo hi. let on = nearer-both c.nearer-in-Some.result c.stretch_at-nw.result.end c.stretch_at-sw.result.end (2 * x + 1) c.nearer-in-Some.ensures
     (c.next_column-column.ensures.goes_on x lo hi) in
     quad-same (K old) (C old) level upper lower r.upper r.lower blank c.empty-blank.ensures.known c.empty-blank.ensures.square
-    start x c.find-nw.result c.find-sw.result c.find-nw.ensures c.find-sw.ensures lo on.0 on.1 in
-    let pushed = filled-more {knows = K now} {knows' = K new} {now = C now} {now' = C new} h.keeps.contents (suc level) want c.loop-first.spans.items _ start next
-    c.in_ok-joined.joined.square skipped
+    start x c.stretch_at-nw.result c.stretch_at-sw.result c.stretch_at-nw.ensures c.stretch_at-sw.ensures lo on.0 on.1 in
+    let pushed = filled-more {knows = K now} {knows' = K new} {now = C now} {now' = C new} h.keeps.contents (suc level) want c.loop-first.spans.items _
+    start next c.in_ok-joined.joined.square skipped
     (extended-push start next c.in_ok-joined.joined.square c.next_column-column.ensures.beyond c.loop-first.spans.items skipped.before) h.known deep
     (from-first want (C new c.in_ok-joined.joined.square) start next (sym square) same) in record {
       filled = subst (λ z. FilledTo (K new) (C new) (suc level) want z next) (sym c.in_ok-push.ensures.items) pushed;

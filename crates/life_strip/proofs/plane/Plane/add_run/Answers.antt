@@ -4,22 +4,23 @@ use Rattle.std.proofs.lemmas.Int.{ints}
 use Rattle.life_base.specs.Tree.{depth}
 use Rattle.life_quad.specs.Span.{is_in_span}
 use Rattle.life_strip.specs.declared.spans.Strip.{Strip}
-use Rattle.life_strip.specs.Strip.{IsStrip, AreWithin}
+use Rattle.life_strip.specs.Strip.{IsStrip, AreBefore, AreWithin}
 use Rattle.life_strip.specs.Picture.{picture, height}
 use Rattle.life_strip.specs.Pile.{strips_of}
 use Rattle.life_strip.specs.Plane.{state_so_far}
 use Rattle.life_base.specs.declared.cell.TheConstants.{MAX_LEVEL}
-use Rattle.life_strip.proofs.SpanLemmas.{before_more}
-use Rattle.life_strip.proofs.PictureLemmas.{on_ok_map, on_ok_map2}
+use Rattle.life_strip.proofs.SpanLemmas.{before_more, extended-columns}
+use Rattle.life_strip.proofs.PictureLemmas.{on_ok_map}
 use Rattle.life_strip.proofs.PlaneLemmas.{column_of_run, row_of_run, next_ends, below_run, beside_run, row_pushed, row_strip, picture_pushed, AddsRun-span}
+use Rattle.life_strip.proofs.plane.Plane.add_run.Given.{Over}
 use Rattle.life_strip.proofs.plane.Plane.add_run.Goals as goal
 
-pub push_span-requires-clause-before : goal.push_span-requires-clause-before
-push_span-requires-clause-before g c k d lt =
+-- the spans of the row end before the run
+begun : (g : Over) (c : goal.After-extend g) → AreBefore c.offset-column.result c.go_to_row.new.self.row.spans.items
+begun g c k d lt =
     let ex = column_of_run c.args.run c.offset-column.result c.requires.inside c.requires.positive c.offset-column.ensures in
-    let ey = row_of_run c.args.run c.offset-row.result c.requires.inside c.offset-row.ensures in
-    let fill = c.in_ok-go_to_row.ensures.filled in (
-      (fill.row.sound.within k d lt).0,
+    let ey = row_of_run c.args.run c.offset-row.result c.requires.inside c.offset-row.ensures in (
+      (c.in_ok-go_to_row.ensures.filled.row.sound.within k d lt).0,
       c.in_ok-go_to_row.ensures.ends c.offset-column.result
           (next_ends c.args.self.now c.args.run.x c.args.run.y c.offset-column.result c.offset-row.result ex ey c.requires.free) k d lt,
     )
@@ -32,10 +33,12 @@ returns-clause-cells g c =
     let C = g.S.Squares.content c.go_to_row.new.squares in
     let self = c.go_to_row.new.self in
     let fill = c.in_ok-go_to_row.ensures.filled in
-    let row : Strip = record { level = self.row.level; spans = c.push_span.new.spans } in
+    let row : Strip = record { level = self.row.level; spans = c.extend.new.spans } in
     let height_is : height (strips_of self.pile) ≡ c.offset-row.result = fill.rows ∙ c.in_ok-go_to_row.ensures.rows in
-    on_ok_map c.push_span.result
-    (λ columns.
+    on_ok_map c.extend.result
+    (λ extended.
+    let columns = extended-columns self.row.spans.items row.spans.items c.offset-column.result (c.offset-column.result + c.args.run.len) c.cell-square.result
+    (begun g c) (omega (arith, c.requires.positive)) (extended (begun g c)) in
     let states = row_pushed C self.row row c.offset-column.result c.args.run.len c.args.run.state c.cell-square.result fill.row.level fill.row.level
     c.cell-square.ensures.square columns in
     AddsRun-span (state_so_far (g.S.Squares.content c.args.squares.now) c.args.self.now)
@@ -44,7 +47,7 @@ returns-clause-cells g c =
     (λ i j. picture_pushed C (strips_of self.pile) self.row row c.offset-column.result c.args.run.len c.args.run.state fill.row.level fill.row.level
     states i j
     ∙ (λ k. if is_in_span c.offset-column.result (height_is k) c.args.run.len i j then c.args.run.state else c.in_ok-go_to_row.ensures.picture i j k)))
-    c.push_span.ensures.columns
+    c.extend.ensures.columns
 
 pub go_to_row-requires-clause-filled : goal.go_to_row-requires-clause-filled
 go_to_row-requires-clause-filled g c = c.requires.filled
@@ -61,14 +64,17 @@ returns-clause-filled g c =
     let K = g.S.Squares.knows c.go_to_row.new.squares in
     let C = g.S.Squares.content c.go_to_row.new.squares in
     let old = c.go_to_row.new.self.row.spans.items in
-    let new = c.push_span.new.spans.items in
+    let new = c.extend.new.spans.items in
     let fill = c.in_ok-go_to_row.ensures.filled in
-    let begun : IsStrip K C 0 old = subst (λ n. IsStrip K C n old) fill.row.level fill.row.sound.squares in
-    on_ok_map2 c.push_span.result
-    (λ columns before.
-    let strip = row_strip K C old new c.offset-column.result c.args.run.len c.cell-square.result begun c.cell-square.ensures.known
+    let known : IsStrip K C 0 old = subst (λ n. IsStrip K C n old) fill.row.level fill.row.sound.squares in
+    on_ok_map c.extend.result
+    (λ extended.
+    let more = extended (begun g c) in
+    let columns = extended-columns old new c.offset-column.result (c.offset-column.result + c.args.run.len) c.cell-square.result (begun g c)
+    (omega (arith, c.requires.positive)) more in
+    let strip = row_strip K C old new c.offset-column.result c.args.run.len c.cell-square.result known c.cell-square.ensures.known
     (ap depth c.cell-square.ensures.square) columns in
-    let within : AreWithin 0 new = before_more (c.offset-column.result + c.args.run.len) (2 ^ MAX_LEVEL) new before
+    let within : AreWithin 0 new = before_more (c.offset-column.result + c.args.run.len) (2 ^ MAX_LEVEL) new more.before
     (omega (arith, ints, ex, c.requires.inside.east)) in
     record {
       pile = fill.pile;
@@ -82,22 +88,22 @@ returns-clause-filled g c =
       rows = fill.rows;
       most = fill.most;
     })
-    c.push_span.ensures.columns c.push_span.ensures.before
+    c.extend.ensures.columns
 
 pub returns-clause-below : goal.returns-clause-below
 returns-clause-below g c =
     let ey = row_of_run c.args.run c.offset-row.result c.requires.inside c.offset-row.ensures in
-    on_ok_map c.push_span.result
-    (λ before i j below. below_run (record c.go_to_row.new.self { row = record c.go_to_row.new.self.row { spans = c.push_span.new.spans } }) c.args.run.y i j
+    on_ok_map c.extend.result
+    (λ extended i j below. below_run (record c.go_to_row.new.self { row = record c.go_to_row.new.self.row { spans = c.extend.new.spans } }) c.args.run.y i j
     c.offset-row.result ey c.in_ok-go_to_row.ensures.rows below)
-    c.push_span.ensures.before
+    c.extend.ensures.columns
 
 pub returns-clause-beside : goal.returns-clause-beside
 returns-clause-beside g c =
     let ex = column_of_run c.args.run c.offset-column.result c.requires.inside c.requires.positive c.offset-column.ensures in
     let ey = row_of_run c.args.run c.offset-row.result c.requires.inside c.offset-row.ensures in
-    on_ok_map c.push_span.result
-    (λ before i beside. beside_run (record c.go_to_row.new.self { row = record c.go_to_row.new.self.row { spans = c.push_span.new.spans } })
+    on_ok_map c.extend.result
+    (λ extended i beside. beside_run (record c.go_to_row.new.self { row = record c.go_to_row.new.self.row { spans = c.extend.new.spans } })
     c.args.run.x c.args.run.y i c.offset-column.result c.offset-row.result c.args.run.len
-    ex ey c.in_ok-go_to_row.ensures.rows (λ k d lt. (before k d lt).1) beside)
-    c.push_span.ensures.before
+    ex ey c.in_ok-go_to_row.ensures.rows (λ k d lt. ((extended (begun g c)).before k d lt).1) beside)
+    c.extend.ensures.columns

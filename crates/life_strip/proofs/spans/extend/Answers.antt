@@ -1,11 +1,11 @@
 use Rattle.std.proofs.Common.{◌≡◌, ◌+◌, ◌-◌, ◌++◌, ◌∷◌, [], length, set, arith, refl, sym, ◌∙◌, ap, subst}
 use Rattle.std.proofs.lemmas.List.{set-get_or}
 use Rattle.life_strip.specs.declared.spans.Span.{Span}
-use Rattle.life_strip.specs.Band.{IsExtended}
+use Rattle.life_strip.specs.Strip.{IsExtended}
 use Rattle.life_strip.proofs.SpanLemmas.{extended-push}
 use Rattle.life_strip.proofs.BandLemmas.{extended-last}
-use Rattle.life_strip.proofs.bands.extend.Goals as goal
-use Rattle.life_strip.proofs.bands.extend.Goals.{in-Some+else-last-column, else-last-column-via-then-last-column+else-eq, else-last-column-via-else-last-column, in_default}
+use Rattle.life_strip.proofs.spans.extend.Goals as goal
+use Rattle.life_strip.proofs.spans.extend.Goals.{in-Some+else-last-column, else-last-column-via-then-last-column+else-eq, else-last-column-via-else-last-column, in_default}
 
 pub returns-then-eq-clause-columns : goal.returns-then-eq-clause-columns
 returns-then-eq-clause-columns c before =
