@@ -5,7 +5,7 @@ ghost use Rattle.life_base.specs.Tree.{depth, state_at};
 ghost use Rattle.life_mc.specs.Squares.{HasStatesUpTo};
 ghost use Rattle.life_canon.specs.Listing.{rows_of};
 ghost use Rattle.life_quad.specs.Store.{four};
-ghost use Rattle.life_canon.specs.Rows.{row_of_two, row_of_four};
+ghost use Rattle.life_canon.specs.Rows.{row_of_two, row_of_four, rows_side_by_side};
 
 use life_quad::{Id, Quarters, Squares, divide};
 
@@ -36,6 +36,7 @@ fn two_rows<S: Squares>(squares: &S, id: Id) -> [u8; 2]
 }
 
 /// The four rows of the square of level 2 with these cells, as `Squares::small_cells` tells them.
+#[inline(always)]
 fn rows_of_cells(cells: u16) -> [u8; 4]
     ensures rows { result ≡ row_of_four (four cells) 0 ∷ row_of_four (four cells) 1 ∷ row_of_four (four cells) 2 ∷ row_of_four (four cells) 3 ∷ [] }
     ensures small { (y : ℕ) → slice_index result y < 16 }
@@ -53,6 +54,7 @@ fn rows_of_cells(cells: u16) -> [u8; 4]
 }
 
 /// The four rows of a square of level 2.
+#[inline(never)]
 fn four_rows<S: Squares>(squares: &S, id: Id) -> [u8; 4]
     requires known { S.knows squares.now id }
     requires level { depth (S.content squares.now id) ≡ 2 }
@@ -77,6 +79,7 @@ fn four_rows<S: Squares>(squares: &S, id: Id) -> [u8; 4]
 }
 
 /// The rows of eight cells, by the four in the west and the four in the east of each.
+#[inline(always)]
 fn beside(west: [u8; 4], east: [u8; 4]) -> [u8; 4]
     requires west { (y : ℕ) → slice_index west y < 16 }
     requires east { (y : ℕ) → slice_index east y < 16 }
@@ -90,6 +93,23 @@ fn beside(west: [u8; 4], east: [u8; 4]) -> [u8; 4]
     ]
 }
 
+/// The rows of eight cells of two squares of level 2 side by side. Where the store tells the cells of both, no square is looked up.
+#[inline(always)]
+fn rows_beside<S: Squares>(squares: &S, west: Id, east: Id) -> [u8; 4]
+    requires west { S.knows squares.now west }
+    requires west_level { depth (S.content squares.now west) ≡ 2 }
+    requires west_states { HasStatesUpTo 1 (S.content squares.now west) }
+    requires east { S.knows squares.now east }
+    requires east_level { depth (S.content squares.now east) ≡ 2 }
+    requires east_states { HasStatesUpTo 1 (S.content squares.now east) }
+    ensures { result ≡ rows_side_by_side (S.content squares.now west) (S.content squares.now east) }
+{
+    match (squares.small_cells(west), squares.small_cells(east)) {
+        (Some(west), Some(east)) => beside(rows_of_cells(west), rows_of_cells(east)),
+        _ => beside(four_rows(squares, west), four_rows(squares, east)),
+    }
+}
+
 /// The eight rows of a square of level 3 as bytes, the western cell the highest bit.
 pub(crate) fn eight_rows<S: Squares>(squares: &S, id: Id) -> [u8; 8]
     requires known { S.knows squares.now id }
@@ -98,8 +118,8 @@ pub(crate) fn eight_rows<S: Squares>(squares: &S, id: Id) -> [u8; 8]
     ensures { result ≡ rows_of (S.content squares.now id) }
 {
     let Quarters { nw, ne, sw, se } = divide(squares, id);
-    let north = beside(four_rows(squares, nw), four_rows(squares, ne));
-    let south = beside(four_rows(squares, sw), four_rows(squares, se));
+    let north = rows_beside(squares, nw, ne);
+    let south = rows_beside(squares, sw, se);
     [
         north[0], north[1], north[2], north[3], south[0], south[1], south[2], south[3],
     ]

@@ -2,7 +2,7 @@ pub mod Rows
 pub mod Words
 pub mod Leaves
 pub mod ByLines
-pub mod RowCells
+pub mod RowTexts
 pub mod LineRoom
 pub mod ReadLines
 pub mod LinesTaken

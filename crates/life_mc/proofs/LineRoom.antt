@@ -1,17 +1,15 @@
 -- Rows and numbers in the room of a node line.
-use Rattle.std.proofs.Common.{◌≡◌, ℕ, ◌+◌, ◌≤◌, ◌<◌, ◌^◌, List, [], ◌∷◌, ◌++◌, take, length, decimal, codes, slice_set, refl, ap, sym, ◌∙◌, arith}
-use Rattle.std.proofs.lemmas.List.{take-take, take_more_set, take-append-le, append_assoc, length-take, length-take-le, length-append}
+use Rattle.std.proofs.Common.{◌≡◌, ℕ, ◌+◌, ◌≤◌, ◌<◌, ◌^◌, List, ◌++◌, take, length, decimal, codes, refl, ap, sym, ◌∙◌, arith}
+use Rattle.std.proofs.lemmas.List.{take-take, append_assoc, length-take-le}
 use Rattle.std.proofs.lemmas.Slice.{take-put_mid}
 use Rattle.std.proofs.lemmas.Fmt.{length-decimal-le}
 use Rattle.std.proofs.Math.Seq.{take-append-add}
 use borrow.Rule.Slice.PartMut.{put_mid}
-use Rattle.life_base.specs.Text.{without_last}
-use Rattle.life_mc.specs.Writing.{row_cells, row_text, node_text}
+use Rattle.life_mc.specs.Writing.{node_text}
 use Rattle.life_mc.specs.declared.line.Line.TheVariants.{Quad}
-use Rattle.life_mc.proofs.RowCells.{is_dot, length_cells}
 
 -- what stands up to a place within a part that was put
-within-part : (room text : List ℕ) (at n : ℕ) → at ≤ length room → n ≤ length text → (size : ℕ) → size ≡ length text
+pub within-part : (room text : List ℕ) (at n : ℕ) → at ≤ length room → n ≤ length text → (size : ℕ) → size ≡ length text
     → take (at + n) (put_mid at size room text) ≡ take at room ++ take n text
 within-part room text at n inside fits size e =
     let front = length-take-le at room inside in
@@ -19,24 +17,6 @@ within-part room text at n inside fits size e =
     ∙ ap (take (at + n)) (take-put_mid at size room text (at + length text) refl inside)
     ∙ ap (λ k. take (k + n) (take at room ++ text)) (sym front)
     ∙ take-append-add (take at room) text n
-
--- a row's cells and `$` at a place, and `$` again behind those that are told
-pub row-in-room : (room text : List ℕ) (at size w row : ℕ) → length room ≡ 105 → at ≤ 96 → w ≤ 8 → size ≡ 9 → text ≡ row_cells row ++ codes "$"
-    → without_last is_dot (row_cells row) ≡ take w (row_cells row)
-    → take (at + w + 1) (slice_set (put_mid at size room text) (at + w) 36) ≡ take at room ++ row_text row
-row-in-room room text at size w row long low short nine e directive =
-    let cells = length_cells row in
-    let nine_long = ap length e ∙ length-append (row_cells row) (codes "$") in
-    let whole = ap length (take-put_mid at size room text (at + 9) (omega (arith, nine_long, cells)) (omega (arith, long, low)))
-    ∙ length-append (take at room) text in
-    let m = put_mid at size room text in
-    let inside : at + w < length m = omega (arith, whole, nine_long, cells, short, length-take (at + 9) m, length-take-le at room (omega (arith, long, low))) in
-    take_more_set m (at + w) 36 inside
-    ∙ ap (λ l. l ++ 36 ∷ []) (within-part room text at w (omega (arith, long, low)) (omega (arith, nine_long, cells, short)) size
-    (omega (arith, nine, nine_long, cells)))
-    ∙ ap (λ l. take at room ++ take w l ++ 36 ∷ []) e
-    ∙ ap (λ l. take at room ++ l ++ 36 ∷ []) (take-append-le w (row_cells row) (codes "$") (omega (arith, cells, short)) ∙ sym directive)
-    ∙ append_assoc (take at room) (without_last is_dot (row_cells row)) (36 ∷ [])
 
 -- a number has at most 20 digits
 pub digits-fit : (n : ℕ) → n < 2 ^ 64 → length (decimal n) ≤ 20

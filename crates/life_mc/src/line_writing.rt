@@ -1,11 +1,9 @@
 //! Node lines as texts, made in a room of a fixed size.
 
-ghost use Rattle.std.specs.Prelude.{◌≡◌, ◌++◌, ◌∷◌, ◌+◌, ◌<◌, ◌≤◌, ◌==◌, take, drop, length, flat_map, decimal, codes, vec_len, vec_capacity, OnOk, OnErr, IfErr};
-ghost use Rattle.std.specs.Str.{byte};
+ghost use Rattle.std.specs.Prelude.{◌≡◌, ◌++◌, ◌∷◌, ◌+◌, ◌<◌, ◌≤◌, take, drop, length, flat_map, decimal, codes, vec_len, vec_capacity, OnOk, OnErr, IfErr};
 ghost use Rattle.life_base.specs.declared.kind.Kind.TheVariants.{Memory};
-ghost use Rattle.life_base.specs.Text.{without_last};
 ghost use Rattle.life_mc.specs.declared.line.Line.TheVariants.{Quad};
-ghost use Rattle.life_mc.specs.Writing.{node_text, row_text, row_cells, is_live, cell_byte};
+ghost use Rattle.life_mc.specs.Writing.{node_text, row_text};
 
 use crate::line::Line;
 use itoa::write_digits;
@@ -14,53 +12,56 @@ use life_base::Kind;
 /// The most bytes of a node line: five numbers of 20 digits, the four spaces between them, and a line feed.
 pub const LONGEST_NODE_LINE: usize = 105;
 
-/// Whether the cell in a column of a row is live.
-fn is_live(row: u8, column: u8) -> bool
-    requires { column < 8 }
-    ensures { result ≡ is_live row column }
+/// The text of each row, one behind another, with spaces behind it up to nine bytes.
+static ROW_TEXTS: [u8; 2304] = *b"\
+    $        .......*$......*$ ......**$.....*$  .....*.*$.....**$ .....***$\
+    ....*$   ....*..*$....*.*$ ....*.**$....**$  ....**.*$....***$ ....****$\
+    ...*$    ...*...*$...*..*$ ...*..**$...*.*$  ...*.*.*$...*.**$ ...*.***$\
+    ...**$   ...**..*$...**.*$ ...**.**$...***$  ...***.*$...****$ ...*****$\
+    ..*$     ..*....*$..*...*$ ..*...**$..*..*$  ..*..*.*$..*..**$ ..*..***$\
+    ..*.*$   ..*.*..*$..*.*.*$ ..*.*.**$..*.**$  ..*.**.*$..*.***$ ..*.****$\
+    ..**$    ..**...*$..**..*$ ..**..**$..**.*$  ..**.*.*$..**.**$ ..**.***$\
+    ..***$   ..***..*$..***.*$ ..***.**$..****$  ..****.*$..*****$ ..******$\
+    .*$      .*.....*$.*....*$ .*....**$.*...*$  .*...*.*$.*...**$ .*...***$\
+    .*..*$   .*..*..*$.*..*.*$ .*..*.**$.*..**$  .*..**.*$.*..***$ .*..****$\
+    .*.*$    .*.*...*$.*.*..*$ .*.*..**$.*.*.*$  .*.*.*.*$.*.*.**$ .*.*.***$\
+    .*.**$   .*.**..*$.*.**.*$ .*.**.**$.*.***$  .*.***.*$.*.****$ .*.*****$\
+    .**$     .**....*$.**...*$ .**...**$.**..*$  .**..*.*$.**..**$ .**..***$\
+    .**.*$   .**.*..*$.**.*.*$ .**.*.**$.**.**$  .**.**.*$.**.***$ .**.****$\
+    .***$    .***...*$.***..*$ .***..**$.***.*$  .***.*.*$.***.**$ .***.***$\
+    .****$   .****..*$.****.*$ .****.**$.*****$  .*****.*$.******$ .*******$\
+    *$       *......*$*.....*$ *.....**$*....*$  *....*.*$*....**$ *....***$\
+    *...*$   *...*..*$*...*.*$ *...*.**$*...**$  *...**.*$*...***$ *...****$\
+    *..*$    *..*...*$*..*..*$ *..*..**$*..*.*$  *..*.*.*$*..*.**$ *..*.***$\
+    *..**$   *..**..*$*..**.*$ *..**.**$*..***$  *..***.*$*..****$ *..*****$\
+    *.*$     *.*....*$*.*...*$ *.*...**$*.*..*$  *.*..*.*$*.*..**$ *.*..***$\
+    *.*.*$   *.*.*..*$*.*.*.*$ *.*.*.**$*.*.**$  *.*.**.*$*.*.***$ *.*.****$\
+    *.**$    *.**...*$*.**..*$ *.**..**$*.**.*$  *.**.*.*$*.**.**$ *.**.***$\
+    *.***$   *.***..*$*.***.*$ *.***.**$*.****$  *.****.*$*.*****$ *.******$\
+    **$      **.....*$**....*$ **....**$**...*$  **...*.*$**...**$ **...***$\
+    **..*$   **..*..*$**..*.*$ **..*.**$**..**$  **..**.*$**..***$ **..****$\
+    **.*$    **.*...*$**.*..*$ **.*..**$**.*.*$  **.*.*.*$**.*.**$ **.*.***$\
+    **.**$   **.**..*$**.**.*$ **.**.**$**.***$  **.***.*$**.****$ **.*****$\
+    ***$     ***....*$***...*$ ***...**$***..*$  ***..*.*$***..**$ ***..***$\
+    ***.*$   ***.*..*$***.*.*$ ***.*.**$***.**$  ***.**.*$***.***$ ***.****$\
+    ****$    ****...*$****..*$ ****..**$****.*$  ****.*.*$****.**$ ****.***$\
+    *****$   *****..*$*****.*$ *****.**$******$  ******.*$*******$ ********$";
+
+/// How many bytes the text of a row has: one for each cell up to the last live one, and `$`.
+fn row_length(row: u8) -> usize
+    ensures text { result ≡ length (row_text row) }
+    ensures within { result ≤ 9 }
 {
-    (row >> (7 - column)) & 1 == 1
+    9 - (u32::from(row) | 256).trailing_zeros() as usize
 }
 
-/// The byte for a cell.
-fn cell_byte(row: u8, column: u8) -> u8
-    requires { column < 8 }
-    ensures { result ≡ cell_byte row column }
+/// The text of a row, with spaces behind it.
+fn row_bytes(row: u8) -> &'static [u8]
+    ensures nine { length result.now ≡ 9 }
+    ensures text { take (length (row_text row)) result.now ≡ row_text row }
 {
-    if is_live(row, column) { b'*' } else { b'.' }
-}
-
-/// How many cells of a row are written: those up to the last live one.
-fn row_width(row: u8) -> u8
-    ensures within { result ≤ 8 }
-    ensures cells { without_last (λ b. b == byte ".") (row_cells row) ≡ take result (row_cells row) }
-{
-    let mut width = 8;
-    while width > 0 {
-        if is_live(row, width - 1) {
-            break;
-        }
-        width -= 1;
-    }
-    width
-}
-
-/// The eight cells of a row, and `$`.
-#[tactic(auto, unfolding(crate::specs::Writing::row_cells))]
-fn cells_and_end(row: u8) -> [u8; 9]
-    ensures { result ≡ row_cells row ++ codes "$" }
-{
-    [
-        cell_byte(row, 0),
-        cell_byte(row, 1),
-        cell_byte(row, 2),
-        cell_byte(row, 3),
-        cell_byte(row, 4),
-        cell_byte(row, 5),
-        cell_byte(row, 6),
-        cell_byte(row, 7),
-        b'$',
-    ]
+    let start = 9 * usize::from(row);
+    &ROW_TEXTS[start..start + 9]
 }
 
 /// Writes a row of a leaf from a place on, and answers where it ends. What stood behind it is written over.
@@ -69,10 +70,8 @@ fn write_row(room: &mut [u8; LONGEST_NODE_LINE], at: usize, row: u8) -> usize
     ensures written { take result room.new ≡ take at room.old ++ row_text row }
     ensures end { result ≤ at + 9 }
 {
-    room[at..at + 9].copy_from_slice(&cells_and_end(row));
-    let end = at + usize::from(row_width(row));
-    room[end] = b'$';
-    end + 1
+    room[at..at + 9].copy_from_slice(row_bytes(row));
+    at + row_length(row)
 }
 
 /// Writes the line of a leaf at the front of the room, and answers where it ends.
