@@ -1,5 +1,5 @@
 -- Four rows of sixteen cells as a word: from squares, moved, and a generation later.
-use Rattle.std.proofs.Common.{◌≡◌, ℕ, zero, suc, ◌+◌, ◌*◌, ◌-◌, ◌/◌, ◌%◌, ◌^◌, ◌<◌, ◌≤◌, inl, inr, ℤ, pos, ◌+ℤ◌, [], ◌∷◌, refl, sym, ◌∙◌, ap, subst, arith}
+use Rattle.std.proofs.Common.{◌≡◌, ℕ, zero, suc, ◌+◌, ◌*◌, ◌-◌, ◌/◌, ◌%◌, ◌^◌, ◌<◌, ◌≤◌, inl, inr, ℤ, pos, ◌+ℤ◌, [], ◌∷◌, refl, sym, ◌∙◌, ap, arith}
 use Rattle.std.specs.Int.{bit_at}
 use Rattle.std.proofs.lemmas.Int.{ints}
 use Rattle.std.proofs.lemmas.Bool.{cases_lt}
@@ -12,7 +12,6 @@ use Rattle.life_sweep.specs.Generation.{before, after, next_by_count, next_life}
 use Rattle.life_table.specs.Meaning.{count_of}
 use Rattle.life_block.specs.Bits.{Words, counted_in, place_in, HasSquare, HasBand}
 use Rattle.life_block.specs.Pieces.{ahead}
-use Rattle.life_block.proofs.BitmapLemmas.{behind}
 use Rattle.life_block.proofs.CountLemmas.{four, eight}
 use Rattle.life_block.proofs.PlaceLemmas.{shl-high}
 use Rattle.life_block.proofs.SquareLemmas.{place-small}
@@ -26,6 +25,12 @@ bit-mod : (n k i : ℕ) → i < k → bit_at (n % 2 ^ k) i ≡ bit_at n i
 bit-mod n k i l = sym (bit_at_cat_low (n / 2 ^ k) k (n % 2 ^ k) i l) ∙ ap (λ z. bit_at z i) (shr_split n k)
 
 -- ---- four squares side by side
+
+-- the bits of a word behind another one
+behind : (low high n m i : ℕ) → low < 2 ^ n → i ≡ n + m → bit_at (high * 2 ^ n + low) i ≡ bit_at high m
+behind low high n m i small is =
+    let back : i - n ≡ m = omega arith in
+    bit_at_cat_high high n low i small (omega arith) ∙ ap (bit_at high) back
 
 module _ (a b c d : ℕ) (lb : b < 65536) (lc : c < 65536) (ld : d < 65536) where
   abbrev together : ℕ

@@ -1,7 +1,7 @@
 pub mod BandLemmas
-pub mod BitmapLemmas
 pub mod CountLemmas
 pub mod GenerationLemmas
+pub mod LeastLemmas
 pub mod NeedLemmas
 pub mod PieceLemmas
 pub mod PlaceLemmas

@@ -1,21 +1,13 @@
 -- The squares that a refused call lacked are parts of the square with the states of the plane.
-use Rattle.std.proofs.Common.{◌≡◌, ◌⊎◌, ℕ, zero, suc, ◌+◌, ◌*◌, ◌/◌, ◌^◌, ◌<◌, inl, inr, ℤ, pos, ◌+ℤ◌, List, refl, sym, ◌∙◌, ap, subst, arith}
-use Rattle.std.specs.Int.{bit_at}
-use Rattle.std.proofs.lemmas.Int.{ints}
-use Rattle.life_base.specs.Sets.{OuterTotalistic}
+use Rattle.std.proofs.Common.{◌≡◌, ◌⊎◌, ℕ, zero, suc, ◌^◌, inl, inr, ℤ, List, refl, sym, ◌∙◌, ap, subst, arith, Result, Ok, Err, OnErr}
 use Rattle.life_base.specs.Tree.{Tree, point, quad, depth, IsFull}
 use Rattle.life_quad.specs.Keeping.{KeepsSquares}
 use Rattle.life_quad.specs.Refused.{SomePart}
 use Rattle.life_quad.specs.declared.id.Id.{Id}
 use Rattle.life_quad.proofs.KeepingLemmas.{keeps-then}
-use Rattle.life_sweep.specs.Generation.{next_by_count, next_life}
-use Rattle.life_table.specs.Meaning.{count_of}
-use Rattle.life_block.specs.Bits.{HasRows, counted_in}
 use Rattle.life_block.specs.Needed.{square_from}
-use Rattle.life_block.specs.Pieces.{IsPiece, IsAt, back, ahead}
-use Rattle.life_block.proofs.BitmapLemmas.{HasInner, next-place}
+use Rattle.life_block.specs.Pieces.{IsPiece, IsAt, ahead}
 use Rattle.life_block.proofs.PieceLemmas.{IsPiece-moved, IsPiece-joined}
-use Rattle.life_block.proofs.WordLemmas.{bit-shr}
 
 pub quads : (a b c d s t u v : Tree) → a ≡ s → b ≡ t → c ≡ u → d ≡ v → quad a b c d ≡ quad s t u v
 quads a b c d s t u v ea eb ec ed = λ i. quad (ea i) (eb i) (ec i) (ed i)
@@ -82,57 +74,6 @@ module _ (P : Tree → Type 0) (f : ℤ → ℤ → ℕ) (k : ℕ) (x y : ℤ) w
   unfolding square_from
   quarter-part s = inr s
 
--- ---- squares of a word's cells
-
--- two rows of two cells of a word
-abbrev pub bits : ℕ → ℕ → Tree
-bits word k = quad (point (bit_at (word / 2 ^ k) 0)) (point (bit_at (word / 2 ^ k) 1)) (point (bit_at (word / 2 ^ k) 8)) (point (bit_at (word / 2 ^ k) 9))
-
-bits-are : (f : ℤ → ℤ → ℕ) (x y : ℤ) (word k r i : ℕ) (u v : ℤ) → HasInner f x y word → r < 5 → i < 5 → k ≡ 8 * r + i → x +ℤ pos (i + 1) ≡ u
-    → y +ℤ pos (r + 1) ≡ v → bits word k ≡ square_from f 1 u v
-unfolding square_from
-bits-are f x y word k r i u v h lr li at eu ev =
-    let p0 : 0 + k ≡ 8 * r + i = omega (arith, at) in
-    let p1 : 1 + k ≡ 8 * r + (i + 1) = omega (arith, at) in
-    let p8 : 8 + k ≡ 8 * (r + 1) + i = omega (arith, at) in
-    let p9 : 9 + k ≡ 8 * (r + 1) + (i + 1) = omega (arith, at) in
-    let fu : x +ℤ pos (i + 1 + 1) ≡ u +ℤ pos 1 = omega (arith, ints, eu) in
-    let fv : y +ℤ pos (r + 1 + 1) ≡ v +ℤ pos 1 = omega (arith, ints, ev) in
-    quads _ _ _ _ _ _ _ _
-    (ap point (bit-shr word k 0 ∙ ap (bit_at word) p0 ∙ h r i (omega (arith, lr)) (omega (arith, li)) ∙ (λ j. f (eu j) (ev j))))
-    (ap point (bit-shr word k 1 ∙ ap (bit_at word) p1 ∙ h r (i + 1) (omega (arith, lr)) (omega (arith, li)) ∙ (λ j. f (fu j) (ev j))))
-    (ap point (bit-shr word k 8 ∙ ap (bit_at word) p8 ∙ h (r + 1) i (omega (arith, lr)) (omega (arith, li)) ∙ (λ j. f (eu j) (fv j))))
-    (ap point (bit-shr word k 9 ∙ ap (bit_at word) p9 ∙ h (r + 1) (i + 1) (omega (arith, lr)) (omega (arith, li)) ∙ (λ j. f (fu j) (fv j))))
-
--- the next states under a rule of the places amid eight rows
-abbrev pub IsNextWord : OuterTotalistic → ℕ → ℕ → Type 0
-IsNextWord rule rows word =
-    (i : ℕ) → i < 62 → bit_at word i ≡ next_by_count rule.sets (bit_at (rows / 2 ^ 8) (i + 1))
-    (count_of 1 (counted_in rule.near (record { north = rows; here = rows / 2 ^ 8; south = rows / 2 ^ 16 }) i))
-
-module _ (rule : OuterTotalistic) (cells : ℤ → ℤ → ℕ) (x y : ℤ) (rows word : ℕ) (next : IsNextWord rule rows word)
-    (h : HasRows cells (back x 2) (back y 2) 8 rows) where
-  inner : HasInner (next_life rule cells) (back x 2) (back y 2) word
-  inner r i lr li = next (8 * r + i) (omega (arith, lr, li)) ∙ next-place rule cells (back x 2) (back y 2) rows h r i lr li
-
-  near : (z : ℤ) → back z 2 +ℤ pos (1 + 1) ≡ z
-  near z = omega (arith, ints)
-
-  far : (z : ℤ) → back z 2 +ℤ pos (3 + 1) ≡ ahead z 2
-  far z = omega (arith, ints)
-
-  pub parts-of_word : AreParts (next_life rule cells) 1 x y (bits word 9) (bits word 11) (bits word 25) (bits word 27)
-  parts-of_word = record {
-    nw = bits-are _ (back x 2) (back y 2) word 9 1 1 x y inner (omega arith) (omega arith) refl (near x) (near y);
-    ne = bits-are _ (back x 2) (back y 2) word 11 1 3 (ahead x 2) y inner (omega arith) (omega arith) refl (far x) (near y);
-    sw = bits-are _ (back x 2) (back y 2) word 25 3 1 x (ahead y 2) inner (omega arith) (omega arith) refl (near x) (far y);
-    se = bits-are _ (back x 2) (back y 2) word 27 3 3 (ahead x 2) (ahead y 2) inner (omega arith) (omega arith) refl (far x) (far y);
-  }
-
-  pub part-of_word : (P : Tree → Type 0) → SomePart P (quad (bits word 9) (bits word 11) (bits word 25) (bits word 27))
-      → SomePart P (square_from (next_life rule cells) 2 x y)
-  part-of_word P = subst (SomePart P) (joined-is parts-of_word)
-
 -- ---- answers of calls on a store
 
 module _ {S : Type 0} {knows : S → Id → Type 0} {content : S → Id → Tree} {stored : S → List Tree} {most : S → ℕ} {n : ℕ} (f : ℤ → ℤ → ℕ) (k : ℕ)
@@ -160,3 +101,8 @@ module _ {S : Type 0} {knows : S → Id → Type 0} {content : S → Id → Tree
 -- in a store that stayed as it was
 pub still-needs : {X : Type 0} (N : X → Tree → Type 0) (old new : X) (t : Tree) → new ≡ old → N old t → N new t
 still-needs N old new t e = subst (λ s. N s t) (sym e)
+
+-- what follows from a refusal
+pub on_err_map : {T E P Q : Type 0} (r : Result T E) → (P → Q) → OnErr r P → OnErr r Q
+on_err_map (Ok x) f p = tt
+on_err_map (Err e) f p = f p

@@ -4,6 +4,8 @@ use Rattle.std.specs.Int.{bit_at}
 use Rattle.life_base.specs.declared.rule.Near.{Near}
 use Rattle.life_base.specs.declared.rule.Near.TheVariants.{Moore, VonNeumann}
 use Rattle.life_block.specs.declared.counts.Counts.{Counts}
+use Rattle.life_block.specs.declared.grid.Four.{Four}
+use Rattle.life_block.specs.Pieces.{AreFourAt, back}
 use Rattle.life_sweep.specs.declared.column.Column.{Column}
 
 -- the cells of 64 columns in three rows
@@ -29,15 +31,6 @@ counted_in VonNeumann = sides_in
 abbrev pub count_at : Counts → ℕ → ℕ
 count_at c i = bit_at c.ones i + 2 * bit_at c.twos i + 4 * bit_at c.fours i + 8 * bit_at c.eights i
 
--- the word has the states of so many cells of a row, from the column x on
-abbrev pub HasCells : (ℤ → ℤ → ℕ) → ℤ → ℤ → ℕ → ℕ → Type 0
-HasCells cells x y width word = (i : ℕ) → i < width → bit_at word i ≡ cells (x +ℤ pos i) y
-
--- the word has so many rows of eight cells, from the column x and the row y on: bit 8 * r + i is the cell i columns east and r rows south
-abbrev pub HasRows : (ℤ → ℤ → ℕ) → ℤ → ℤ → ℕ → ℕ → Type 0
-HasRows cells x y rows word =
-    (r i : ℕ) → r < rows → i < 8 → bit_at word (8 * r + i) ≡ cells (x +ℤ pos i) (y +ℤ pos r)
-
 -- the place of a cell among the sixteen of a square of level 2, by its row and its column, where the cells of each quarter stand together
 abbrev pub place_in : ℕ → ℕ → ℕ
 place_in r i = 8 * (r / 2) + 4 * (i / 2) + 2 * (r % 2) + i % 2
@@ -54,3 +47,7 @@ HasSquare cells x y square = (r i : ℕ) → r < 4 → i < 4 → bit_at square (
 -- the word has the states of four rows of sixteen cells from the column x and the row y on, the north-western one in the highest bit
 abbrev pub HasBand : (ℤ → ℤ → ℕ) → ℤ → ℤ → ℕ → Type 0
 HasBand cells x y word = (r i : ℕ) → r < 4 → i < 16 → bit_at word (63 - (16 * r + i)) ≡ cells (x +ℤ pos i) (y +ℤ pos r)
+
+-- four words have the states of sixteen rows of sixteen cells, of which the 64 in the middle are those from the column x and the row y on
+abbrev pub AreBands : (ℤ → ℤ → ℕ) → ℤ → ℤ → Four ℕ → Type 0
+AreBands cells x = AreFourAt (HasBand cells (back x 4)) 4

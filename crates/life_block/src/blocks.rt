@@ -9,42 +9,12 @@ ghost use Rattle.life_block.specs.Needed.{square_from, next_square};
 ghost use Rattle.life_block.specs.Remembered.{Remembers};
 ghost use Rattle.life_block.specs.Pieces.{IsPiece, IsBinary, IsAt, InNine, InSixteen, AreNine, AreSixteen};
 
-use crate::bitmap::{eight_rows, join_cells};
-use crate::counts::next_word;
 use crate::grid::{Corner, Nine, Sixteen};
-use crate::leaf::next_of_leaf;
+use crate::leaf::{next_of_leaf, next_of_least};
 use crate::remembered::{recalled, remember};
 use life_base::{Kind, LifeRule, MAX_LEVEL};
 use life_quad::{Id, NeighbourhoodMemory, SharedSquares, Squares, divide};
-use life_sweep::Column;
 use std::alloc::Global;
-
-// The next states of the four squares of level 1 amid twelve others, as one square.
-fn next_of_cells<S: Squares>(
-    squares: &mut S,
-    rule: &LifeRule,
-    sixteen: &Sixteen,
-) -> Result<Id, Kind>
-    requires { InSixteen (IsAt (S.knows squares.old) (S.content squares.old) 1) sixteen.now }
-    ensures at { IfOk result (IsAt (S.knows squares.new) (S.content squares.new) 2) }
-    ensures next { IfOk result (λ r. (cells : ℤ → ℤ → ℕ) (x y : ℤ) → IsBinary cells → AreSixteen (S.content squares.old) cells 2 x y sixteen.now → IsPiece (next_life rule.now cells) x y (S.content squares.new r)) }
-    ensures keeps { KeepsSquares S.knows S.content S.stored S.most squares.old squares.new }
-    ensures refusals { IfErr result (IsWantKind (S.stored squares.new) (S.most squares.new)) }
-    ensures needed { OnErr result ((cells : ℤ → ℤ → ℕ) (x y : ℤ) → IsBinary cells → AreSixteen (S.content squares.old) cells 2 x y sixteen.now → SomePart (S.needs_node squares.new) (square_from (next_life rule.now cells) 2 x y)) }
-{
-    let rows = eight_rows(squares, sixteen);
-    let words = Column {
-        north: rows,
-        here: rows >> 8,
-        south: rows >> 16,
-    };
-    let next = next_word(&words, rule);
-    let nw = join_cells(squares, next >> 9)?;
-    let ne = join_cells(squares, next >> 11)?;
-    let sw = join_cells(squares, next >> 25)?;
-    let se = join_cells(squares, next >> 27)?;
-    squares.join(nw, ne, sw, se)
-}
 
 #[cycle(block)]
 // The next states of a square of this level amid its neighbours.
@@ -57,7 +27,7 @@ fn next_of<S: Squares>(
 ) -> Result<Id, Kind>
     requires remembers { Remembers (S.knows squares.old) (S.content squares.old) rule.now memory.old }
     requires known { InNine (IsAt (S.knows squares.old) (S.content squares.old) level) nine.now }
-    requires low { 2 ≤ level }
+    requires low { 3 ≤ level }
     requires high { level ≤ MAX_LEVEL }
     requires quiet { has_digit rule.now.sets.births 0 ≡ false }
     ensures at { IfOk result (IsAt (S.knows squares.new) (S.content squares.new) level) }
@@ -91,7 +61,7 @@ fn next_of_middle<S: Squares>(
 ) -> Result<Id, Kind>
     requires remembers { Remembers (S.knows squares.old) (S.content squares.old) rule.now memory.old }
     requires known { InSixteen (IsAt (S.knows squares.old) (S.content squares.old) level) sixteen.now }
-    requires low { 1 ≤ level }
+    requires low { 2 ≤ level }
     requires high { level < MAX_LEVEL }
     requires quiet { has_digit rule.now.sets.births 0 ≡ false }
     ensures at { IfOk result (IsAt (S.knows squares.new) (S.content squares.new) (level + 1)) }
@@ -101,9 +71,6 @@ fn next_of_middle<S: Squares>(
     ensures refusals { IfErr result (IsWantKind (S.stored squares.new) (S.most squares.new)) }
     ensures needed { OnErr result ((cells : ℤ → ℤ → ℕ) (x y : ℤ) → IsBinary cells → AreSixteen (S.content squares.old) cells (2 ^ level) x y sixteen.now → SomePart (S.needs_node squares.new) (square_from (next_life rule.now cells) (suc level) x y)) }
 {
-    if level == 1 {
-        return next_of_cells(squares, rule, sixteen);
-    }
     if level == 2 {
         return next_of_leaf(squares, rule, sixteen);
     }
@@ -139,9 +106,13 @@ pub fn next_life_square<S: SharedSquares>(
 {
     // To read a field opens the invariant to the proof: no cell is born without live neighbours.
     let _ = &rule.births;
+    let level = squares.level(id);
+    if level == 2 {
+        return next_of_least(squares, rule, id);
+    }
     let mut memory = NeighbourhoodMemory::new(alloc, squares.seed());
     let memory = &mut memory;
-    let level = squares.level(id) - 1;
+    let level = level - 1;
     let root = divide(squares, id);
     let blank = squares.empty(level);
     let around = Corner::SouthEast.with(root, blank);

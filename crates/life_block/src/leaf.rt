@@ -1,11 +1,11 @@
 //! The next states of four squares of level 2 amid twelve others, by words of their cells.
-ghost use Rattle.std.specs.Prelude.{◌≡◌, ℕ, ℤ, ◌<◌, IfOk, IfErr, OnErr};
-ghost use Rattle.life_base.specs.Tree.{point};
+ghost use Rattle.std.specs.Prelude.{◌≡◌, ℕ, ℤ, pos, neg_ℤ, ◌<◌, IfOk, IfErr, OnErr};
+ghost use Rattle.life_base.specs.Tree.{point, tree_cell};
 ghost use Rattle.life_quad.specs.Keeping.{KeepsSquares, IsWantKind};
 ghost use Rattle.life_quad.specs.Refused.{SomePart};
 ghost use Rattle.life_quad.specs.Store.{two, four};
 ghost use Rattle.life_sweep.specs.Generation.{next_life};
-ghost use Rattle.life_block.specs.Bits.{HasBand};
+ghost use Rattle.life_block.specs.Bits.{HasBand, AreBands};
 ghost use Rattle.life_block.specs.Needed.{square_from};
 ghost use Rattle.life_block.specs.Pieces.{IsPiece, IsBinary, IsAt, InFour, InSixteen, AreFour, AreSixteen, back};
 
@@ -76,6 +76,27 @@ fn band<S: Squares>(squares: &S, four: &Four<Id>) -> u64
     rows_of_squares(((a * 65_536 + b) * 65_536 + c) * 65_536 + d)
 }
 
+// The next states of the 64 cells in the middle of sixteen rows of sixteen cells, as one square.
+fn next_of_bands<S: Squares>(
+    squares: &mut S,
+    rule: &LifeRule,
+    bands: &Four<u64>,
+) -> Result<Id, Kind>
+    ensures at { IfOk result (IsAt (S.knows squares.new) (S.content squares.new) 3) }
+    ensures next { IfOk result (λ r. (cells : ℤ → ℤ → ℕ) (x y : ℤ) → AreBands cells x y bands.now → IsPiece (next_life rule.now cells) x y (S.content squares.new r)) }
+    ensures keeps { KeepsSquares S.knows S.content S.stored S.most squares.old squares.new }
+    ensures refusals { IfErr result (IsWantKind (S.stored squares.new) (S.most squares.new)) }
+    ensures needed { OnErr result ((cells : ℤ → ℤ → ℕ) (x y : ℤ) → AreBands cells x y bands.now → SomePart (S.needs_node squares.new) (square_from (next_life rule.now cells) 3 x y)) }
+{
+    let north = next_squares(bands.first, bands.second, bands.third, rule);
+    let south = next_squares(bands.second, bands.third, bands.fourth, rule);
+    let nw = squares.small(north.0)?;
+    let ne = squares.small(north.1)?;
+    let sw = squares.small(south.0)?;
+    let se = squares.small(south.1)?;
+    squares.join(nw, ne, sw, se)
+}
+
 /// The next states of the four squares of level 2 amid twelve others, as one square.
 pub(crate) fn next_of_leaf<S: Squares>(
     squares: &mut S,
@@ -89,15 +110,36 @@ pub(crate) fn next_of_leaf<S: Squares>(
     ensures refusals { IfErr result (IsWantKind (S.stored squares.new) (S.most squares.new)) }
     ensures needed { OnErr result ((cells : ℤ → ℤ → ℕ) (x y : ℤ) → IsBinary cells → AreSixteen (S.content squares.old) cells 4 x y sixteen.now → SomePart (S.needs_node squares.new) (square_from (next_life rule.now cells) 3 x y)) }
 {
-    let first = band(squares, &sixteen.first);
-    let second = band(squares, &sixteen.second);
-    let third = band(squares, &sixteen.third);
-    let fourth = band(squares, &sixteen.fourth);
-    let north = next_squares(first, second, third, rule);
-    let south = next_squares(second, third, fourth, rule);
-    let nw = squares.small(north.0)?;
-    let ne = squares.small(north.1)?;
-    let sw = squares.small(south.0)?;
-    let se = squares.small(south.1)?;
-    squares.join(nw, ne, sw, se)
+    let bands = Four {
+        first: band(squares, &sixteen.first),
+        second: band(squares, &sixteen.second),
+        third: band(squares, &sixteen.third),
+        fourth: band(squares, &sixteen.fourth),
+    };
+    next_of_bands(squares, rule, &bands)
+}
+
+/// The next states of a square of level 2 about the middle of the plane and of the cells around it, as a square one level higher.
+pub(crate) fn next_of_least<S: Squares>(
+    squares: &mut S,
+    rule: &LifeRule,
+    id: Id,
+) -> Result<Id, Kind>
+    requires at { IsAt (S.knows squares.old) (S.content squares.old) 2 id }
+    requires states { (x y : ℤ) → tree_cell (S.content squares.old id) x y < 2 }
+    ensures at { IfOk result (IsAt (S.knows squares.new) (S.content squares.new) 3) }
+    ensures next { IfOk result (λ r. let corner = neg_ℤ (pos 4) in IsPiece (next_life rule.now (tree_cell (S.content squares.old id))) corner corner (S.content squares.new r)) }
+    ensures keeps { KeepsSquares S.knows S.content S.stored S.most squares.old squares.new }
+    ensures refusals { IfErr result (IsWantKind (S.stored squares.new) (S.most squares.new)) }
+    ensures needed { OnErr result (let corner = neg_ℤ (pos 4) in SomePart (S.needs_node squares.new) (square_from (next_life rule.now (tree_cell (S.content squares.old id))) 3 corner corner)) }
+{
+    // Its rows begin in column 6 of sixteen.
+    let rows = rows_of_squares(cells_in(squares, id) << 48) >> 6;
+    let bands = Four {
+        first: 0,
+        second: rows >> 32,
+        third: rows << 32,
+        fourth: 0,
+    };
+    next_of_bands(squares, rule, &bands)
 }

@@ -2,11 +2,10 @@
 //! next states, each amid the quarters around it.
 //!
 //! A `Nine` is a square amid its neighbours, a `Sixteen` four rows of four squares, whose middle four have all their neighbours. Where nine
-//! squares are blank, the next states of the one in their middle are blank too. Where the sixteen have level 1, `bitmap` makes one word of 64
-//! bits of their 64 cells, and `counts` tells the next states of the middle ones at once.
+//! squares are blank, the next states of the one in their middle are blank too. Where the sixteen have level 2, `leaf` makes four words
+//! of their 256 cells, `words` puts them in rows, and `counts` tells the next states of 64 places at once.
 #![tactic(auto)]
 
-mod bitmap;
 mod blocks;
 mod counts;
 mod generation;

@@ -1,4 +1,7 @@
-use Rattle.std.proofs.Common.{◌≡◌, inl, inr, suc, ◌+◌, ◌-◌, Result, Ok, Err, IfOk, sym, ◌∙◌, ap, arith, add-one}
+use Rattle.std.proofs.Common.{◌≡◌, inl, inr, ℕ, suc, ◌+◌, ◌-◌, ◌^◌, pos, neg_ℤ, Result, Ok, Err, IfOk, sym, ◌∙◌, ap, subst, arith, add-one}
+use Rattle.std.proofs.lemmas.Result.{IfOk-weaker}
+use Rattle.life_quad.specs.Refused.{SomePart}
+use Rattle.life_block.specs.Pieces.{IsPiece}
 use Rattle.life_base.proofs.Results.{on_err_any, on_err_both}
 use Rattle.life_base.specs.Rules.{has_digit}
 use Rattle.life_base.specs.Sets.{OuterTotalistic}
@@ -6,7 +9,7 @@ use Rattle.life_base.specs.Tree.{depth, tree_cell}
 use Rattle.life_quad.proofs.KeepingLemmas.{keeps-then}
 use Rattle.life_sweep.specs.Generation.{next_life}
 use Rattle.life_block.specs.Needed.{square_from}
-use Rattle.life_block.proofs.NeedLemmas.{AreParts, depth-square, is-piece, joined-is, parts-of_pieces, own-part, still-needs}
+use Rattle.life_block.proofs.NeedLemmas.{AreParts, depth-square, is-piece, joined-is, parts-of_pieces, own-part, still-needs, on_err_map}
 use Rattle.life_block.proofs.RememberedLemmas.{Remembers-none}
 use Rattle.life_block.proofs.RootLemmas.{IsDivided, IsDivided-kept, quarters-at, outer, root-next, known-north_west, known-north_east, known-south_west, known-south_east, around-north_west, around-north_east, around-south_west, around-south_east, corner-part}
 use Rattle.life_block.proofs.blocks.next_life_square.Given.{Over}
@@ -16,6 +19,40 @@ use Rattle.life_block.proofs.blocks.next_life_square.Goals.{After-empty-blank, A
 both : {T E : Type 0} {P Q R : T → Type 0} (r : Result T E) → ((x : T) → P x → Q x → R x) → IfOk r P → IfOk r Q → IfOk r R
 both (Ok x) f p q = f x p q
 both (Err e) f p q = tt
+
+pub next_of_least-requires-clause-at : goal.next_of_least-requires-clause-at
+next_of_least-requires-clause-at g c = record { known = c.requires.known; level = sym c.level-level.ensures.level ∙ c.if-level-eq2.true }
+
+pub returns-then-level-eq2-clause-known : goal.returns-then-level-eq2-clause-known
+returns-then-level-eq2-clause-known g c = IfOk-weaker c.next_of_least.result _ _ (λ r at. at.known) c.next_of_least.ensures.at
+
+pub returns-then-level-eq2-clause-level : goal.returns-then-level-eq2-clause-level
+returns-then-level-eq2-clause-level g c =
+    IfOk-weaker c.next_of_least.result _ _ (λ r at. at.level ∙ (let is = sym c.level-level.ensures.level ∙ c.if-level-eq2.true in omega (arith, is)))
+    c.next_of_least.ensures.at
+
+pub returns-then-level-eq2-clause-next : goal.returns-then-level-eq2-clause-next
+returns-then-level-eq2-clause-next g c =
+    let t = g.S.Squares.content c.args.squares.now c.args.id in
+    let is : depth t ≡ 2 = sym c.level-level.ensures.level ∙ c.if-level-eq2.true in
+    let f = next_life c.args.rule.now (tree_cell t) in
+    let quiet = ap (λ (d : OuterTotalistic). has_digit d.sets.births 0) (sym c.rule.view_is) ∙ c.rule.invariant.no_birth_on_zero in
+    both c.next_of_least.result
+    (λ r at piece.
+    let u = g.S.Squares.content c.next_of_least.new.squares r in
+    root-next c.args.rule.now t u quiet (omega (arith, is)) (g.met.S.Squares.full _ _ at.known) (at.level ∙ omega (arith, is))
+    (subst (λ (k : ℕ). IsPiece f (neg_ℤ (pos (2 ^ k))) (neg_ℤ (pos (2 ^ k))) u) (sym is) piece))
+    c.next_of_least.ensures.at c.next_of_least.ensures.next
+
+pub returns-then-level-eq2-clause-needed : goal.returns-then-level-eq2-clause-needed
+returns-then-level-eq2-clause-needed g c =
+    let t = g.S.Squares.content c.args.squares.now c.args.id in
+    let is : depth t ≡ 2 = sym c.level-level.ensures.level ∙ c.if-level-eq2.true in
+    let P = g.S.Squares.needs_node c.next_of_least.new.squares in
+    let f = next_life c.args.rule.now (tree_cell t) in
+    on_err_map c.next_of_least.result
+    (λ needed. subst (λ (k : ℕ). SomePart P (square_from f (suc k) (neg_ℤ (pos (2 ^ k))) (neg_ℤ (pos (2 ^ k))))) (sym is) needed)
+    c.next_of_least.ensures.needed
 
 -- the square's quarters, and a blank one of their level
 divided : (g : Over) (c : After-empty-blank g)

@@ -1,121 +1,26 @@
-use Rattle.std.proofs.Common.{◌≡◌, inl, inr, ℤ, ℕ, ◌∙◌, refl, subst, arith}
-use Rattle.std.proofs.lemmas.Int.{ints}
+use Rattle.std.proofs.Common.{ℤ, ℕ}
 use Rattle.std.proofs.lemmas.Result.{IfOk-weaker}
-use Rattle.life_base.specs.Tree.{Tree}
-use Rattle.life_base.proofs.Results.{on_err_any, on_err_both}
-use Rattle.life_quad.specs.Refused.{SomePart}
-use Rattle.life_quad.specs.Store.{four}
-use Rattle.life_quad.proofs.KeepingLemmas.{keeps-then}
-use Rattle.life_sweep.specs.Generation.{next_life}
-use Rattle.life_block.specs.Needed.{square_from}
-use Rattle.life_block.specs.Pieces.{IsBinary, AreSixteen, back, ahead}
-use Rattle.life_block.proofs.BandLemmas.{HasBand-moved}
-use Rattle.life_block.proofs.NeedLemmas.{AreParts, is-piece, joined-is, own-part, quarter-part, still-needs}
+use Rattle.life_block.specs.Bits.{AreBands}
+use Rattle.life_block.specs.Pieces.{IsBinary, AreSixteen, four_of}
+use Rattle.life_block.proofs.NeedLemmas.{on_err_map}
 use Rattle.life_block.proofs.leaf.next_of_leaf.Given.{Over}
 use Rattle.life_block.proofs.leaf.next_of_leaf.Goals as goal
-use Rattle.life_block.proofs.leaf.next_of_leaf.Goals.{After-next_squares-south}
 
-pub returns-in_err-sw-clause-keeps : goal.returns-in_err-sw-clause-keeps
-returns-in_err-sw-clause-keeps g c = keeps-then (keeps-then c.in_ok-nw.ensures.keeps c.in_ok-ne.ensures.keeps) c.in_err-sw.ensures.keeps
-
-pub returns-in_err-se-clause-keeps : goal.returns-in_err-se-clause-keeps
-returns-in_err-se-clause-keeps g c =
-    keeps-then (keeps-then (keeps-then c.in_ok-nw.ensures.keeps c.in_ok-ne.ensures.keeps) c.in_ok-sw.ensures.keeps) c.in_err-se.ensures.keeps
-
-pub returns-clause-keeps : goal.returns-clause-keeps
-returns-clause-keeps g c =
-    keeps-then (keeps-then (keeps-then (keeps-then c.in_ok-nw.ensures.keeps c.in_ok-ne.ensures.keeps) c.in_ok-sw.ensures.keeps) c.in_ok-se.ensures.keeps)
-    c.join.ensures.keeps
-
--- the cells of the four squares are those of the quarters of the next square
-words : (g : Over) (c : After-next_squares-south g) (cells : ℤ → ℤ → ℕ) (x y : ℤ) → IsBinary cells
+-- the words of the four rows of squares
+bands : (g : Over) (c : goal.After-next_of_bands g) (cells : ℤ → ℤ → ℕ) (x y : ℤ) → IsBinary cells
     → AreSixteen (g.S.Squares.content c.args.squares.now) cells 4 x y c.args.sixteen.now
-    → let north = c.next_squares-north.result in
-    let south = c.next_squares-south.result in
-    AreParts (next_life c.args.rule.now cells) 2 x y (four north.0) (four north.1) (four south.0) (four south.1)
-words g c cells x y binary h =
-    let first = c.band-first.ensures cells x _ binary h.first in
-    let second = c.band-second.ensures cells x y binary h.second in
-    let third = c.band-third.ensures cells x _ binary h.third in
-    let fourth = c.band-fourth.ensures cells x _ binary h.fourth in
-    let above : y ≡ back (ahead y 4) 4 = omega (arith, ints) in
-    let north = c.next_squares-north.ensures in
-    let south = c.next_squares-south.ensures in
-    let over = HasBand-moved cells (back x 4) y (back (ahead y 4) 4) c.band-second.result above second in
+    → AreBands cells x y (four_of c.band.result c.band-2.result c.band-3.result c.band-4.result)
+bands g c cells x y binary h =
     record {
-      nw = north.west cells x y first second third;
-      ne = north.east cells x y first second third;
-      sw = south.west cells x (ahead y 4) over third fourth;
-      se = south.east cells x (ahead y 4) over third fourth;
-    }
-
--- so the four answers are its quarters
-parts : (g : Over) (c : goal.After-join g) (f : ℤ → ℤ → ℕ) (x y : ℤ)
-    → (let north = c.next_squares-north.result in let south = c.next_squares-south.result in
-    AreParts f 2 x y (four north.0) (four north.1) (four south.0) (four south.1))
-    → let now = g.S.Squares.content c.small-4.new.self in
-    AreParts f 2 x y (now c.in_ok-nw.nw) (now c.in_ok-ne.ne) (now c.in_ok-sw.sw) (now c.in_ok-se.se)
-parts g c f x y p =
-    let nw = c.in_ok-nw.ensures in
-    let ne = c.in_ok-ne.ensures in
-    let sw = c.in_ok-sw.ensures in
-    let se = c.in_ok-se.ensures in
-    let south = keeps-then sw.keeps se.keeps in
-    record {
-      nw = ((keeps-then ne.keeps south).contents _ nw.known).1 ∙ nw.square ∙ p.nw;
-      ne = (south.contents _ ne.known).1 ∙ ne.square ∙ p.ne;
-      sw = (se.keeps.contents _ sw.known).1 ∙ sw.square ∙ p.sw;
-      se = se.square ∙ p.se;
+      first = c.band.ensures cells x _ binary h.first;
+      second = c.band-2.ensures cells x _ binary h.second;
+      third = c.band-3.ensures cells x _ binary h.third;
+      fourth = c.band-4.ensures cells x _ binary h.fourth;
     }
 
 pub returns-clause-next : goal.returns-clause-next
-returns-clause-next g c =
-    IfOk-weaker c.join.result _ _
-    (λ t e cells x y binary h.
-    let p = words g (goal.at.returns-clause-next g c).After-next_squares-south cells x y binary h in is-piece _ _ x y _ (e ∙ joined-is (parts g c _ x y p)))
-    c.join.ensures.square
-
--- a part that a refused call lacked
-part : (P : Tree → Type 0) (t u : Tree) → t ≡ u → SomePart P t → SomePart P u
-part P t u e = subst (SomePart P) e
-
-pub returns-in_err-nw-clause-needed : goal.returns-in_err-nw-clause-needed
-returns-in_err-nw-clause-needed g c =
-    let P = g.S.Squares.needs_node c.small.new.self in
-    on_err_any c.from_residual.result
-    (λ cells x y binary h.
-    let p = words g (goal.at.returns-in_err-nw-clause-needed g c).After-next_squares-south cells x y binary h in
-    quarter-part P _ 2 x y (inl (part P _ _ p.nw c.in_err-nw.ensures.needed)))
-
-pub returns-in_err-ne-clause-needed : goal.returns-in_err-ne-clause-needed
-returns-in_err-ne-clause-needed g c =
-    let P = g.S.Squares.needs_node c.small-2.new.self in
-    on_err_any c.from_residual-in_err-ne.result
-    (λ cells x y binary h.
-    let p = words g (goal.at.returns-in_err-ne-clause-needed g c).After-next_squares-south cells x y binary h in
-    quarter-part P _ 2 x y (inr (inl (part P _ _ p.ne c.in_err-ne.ensures.needed))))
-
-pub returns-in_err-sw-clause-needed : goal.returns-in_err-sw-clause-needed
-returns-in_err-sw-clause-needed g c =
-    let P = g.S.Squares.needs_node c.small-3.new.self in
-    on_err_any c.from_residual-in_err-sw.result
-    (λ cells x y binary h.
-    let p = words g (goal.at.returns-in_err-sw-clause-needed g c).After-next_squares-south cells x y binary h in
-    quarter-part P _ 2 x y (inr (inr (inl (part P _ _ p.sw c.in_err-sw.ensures.needed)))))
-
-pub returns-in_err-se-clause-needed : goal.returns-in_err-se-clause-needed
-returns-in_err-se-clause-needed g c =
-    let P = g.S.Squares.needs_node c.small-4.new.self in
-    on_err_any c.from_residual-in_err-se.result
-    (λ cells x y binary h.
-    let p = words g (goal.at.returns-in_err-se-clause-needed g c).After-next_squares-south cells x y binary h in
-    quarter-part P _ 2 x y (inr (inr (inr (part P _ _ p.se c.in_err-se.ensures.needed)))))
+returns-clause-next g c = IfOk-weaker c.next_of_bands.result _ _ (λ r next cells x y binary h. next cells x y (bands g c cells x y binary h)) c.next_of_bands.ensures.next
 
 pub returns-clause-needed : goal.returns-clause-needed
 returns-clause-needed g c =
-    let N = g.S.Squares.needs_node in
-    on_err_both c.join.result
-    (λ needs same cells x y binary h.
-    let p = words g (goal.at.returns-clause-needed g c).After-next_squares-south cells x y binary h in
-    own-part (N c.join.new.self) _ 2 x y _ (joined-is (parts g c _ x y p)) (still-needs N _ _ _ same needs))
-    c.join.ensures.needed c.join.ensures.unchanged
+    on_err_map c.next_of_bands.result (λ needed cells x y binary h. needed cells x y (bands g c cells x y binary h)) c.next_of_bands.ensures.needed

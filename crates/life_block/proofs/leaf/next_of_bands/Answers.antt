@@ -1,0 +1,116 @@
+use Rattle.std.proofs.Common.{◌≡◌, inl, inr, ℤ, ℕ, ◌∙◌, subst, arith}
+use Rattle.std.proofs.lemmas.Int.{ints}
+use Rattle.std.proofs.lemmas.Result.{IfOk-weaker}
+use Rattle.life_base.specs.Tree.{Tree}
+use Rattle.life_base.proofs.Results.{on_err_any, on_err_both}
+use Rattle.life_quad.specs.Refused.{SomePart}
+use Rattle.life_quad.specs.Store.{four}
+use Rattle.life_quad.proofs.KeepingLemmas.{keeps-then}
+use Rattle.life_sweep.specs.Generation.{next_life}
+use Rattle.life_block.specs.Bits.{AreBands}
+use Rattle.life_block.specs.Pieces.{back, ahead}
+use Rattle.life_block.proofs.BandLemmas.{HasBand-moved}
+use Rattle.life_block.proofs.NeedLemmas.{AreParts, is-piece, joined-is, own-part, quarter-part, still-needs}
+use Rattle.life_block.proofs.leaf.next_of_bands.Given.{Over}
+use Rattle.life_block.proofs.leaf.next_of_bands.Goals as goal
+use Rattle.life_block.proofs.leaf.next_of_bands.Goals.{After-next_squares-south}
+
+pub returns-in_err-sw-clause-keeps : goal.returns-in_err-sw-clause-keeps
+returns-in_err-sw-clause-keeps g c = keeps-then (keeps-then c.in_ok-nw.ensures.keeps c.in_ok-ne.ensures.keeps) c.in_err-sw.ensures.keeps
+
+pub returns-in_err-se-clause-keeps : goal.returns-in_err-se-clause-keeps
+returns-in_err-se-clause-keeps g c =
+    keeps-then (keeps-then (keeps-then c.in_ok-nw.ensures.keeps c.in_ok-ne.ensures.keeps) c.in_ok-sw.ensures.keeps) c.in_err-se.ensures.keeps
+
+pub returns-clause-keeps : goal.returns-clause-keeps
+returns-clause-keeps g c =
+    keeps-then (keeps-then (keeps-then (keeps-then c.in_ok-nw.ensures.keeps c.in_ok-ne.ensures.keeps) c.in_ok-sw.ensures.keeps) c.in_ok-se.ensures.keeps)
+    c.join.ensures.keeps
+
+-- the cells of the four squares are those of the quarters of the next square
+words : (g : Over) (c : After-next_squares-south g) (cells : ℤ → ℤ → ℕ) (x y : ℤ) → AreBands cells x y c.args.bands.now
+    → let north = c.next_squares-north.result in
+    let south = c.next_squares-south.result in
+    AreParts (next_life c.args.rule.now cells) 2 x y (four north.0) (four north.1) (four south.0) (four south.1)
+words g c cells x y h =
+    let above : y ≡ back (ahead y 4) 4 = omega (arith, ints) in
+    let north = c.next_squares-north.ensures in
+    let south = c.next_squares-south.ensures in
+    let over = HasBand-moved cells (back x 4) y (back (ahead y 4) 4) c.args.bands.now.second above h.second in
+    record {
+      nw = north.west cells x y h.first h.second h.third;
+      ne = north.east cells x y h.first h.second h.third;
+      sw = south.west cells x (ahead y 4) over h.third h.fourth;
+      se = south.east cells x (ahead y 4) over h.third h.fourth;
+    }
+
+-- so the four answers are its quarters
+parts : (g : Over) (c : goal.After-join g) (f : ℤ → ℤ → ℕ) (x y : ℤ)
+    → (let north = c.next_squares-north.result in let south = c.next_squares-south.result in
+    AreParts f 2 x y (four north.0) (four north.1) (four south.0) (four south.1))
+    → let now = g.S.Squares.content c.small-4.new.self in
+    AreParts f 2 x y (now c.in_ok-nw.nw) (now c.in_ok-ne.ne) (now c.in_ok-sw.sw) (now c.in_ok-se.se)
+parts g c f x y p =
+    let nw = c.in_ok-nw.ensures in
+    let ne = c.in_ok-ne.ensures in
+    let sw = c.in_ok-sw.ensures in
+    let se = c.in_ok-se.ensures in
+    let south = keeps-then sw.keeps se.keeps in
+    record {
+      nw = ((keeps-then ne.keeps south).contents _ nw.known).1 ∙ nw.square ∙ p.nw;
+      ne = (south.contents _ ne.known).1 ∙ ne.square ∙ p.ne;
+      sw = (se.keeps.contents _ sw.known).1 ∙ sw.square ∙ p.sw;
+      se = se.square ∙ p.se;
+    }
+
+pub returns-clause-next : goal.returns-clause-next
+returns-clause-next g c =
+    IfOk-weaker c.join.result _ _
+    (λ t e cells x y h.
+    let p = words g (goal.at.returns-clause-next g c).After-next_squares-south cells x y h in is-piece _ _ x y _ (e ∙ joined-is (parts g c _ x y p)))
+    c.join.ensures.square
+
+-- a part that a refused call lacked
+part : (P : Tree → Type 0) (t u : Tree) → t ≡ u → SomePart P t → SomePart P u
+part P t u e = subst (SomePart P) e
+
+pub returns-in_err-nw-clause-needed : goal.returns-in_err-nw-clause-needed
+returns-in_err-nw-clause-needed g c =
+    let P = g.S.Squares.needs_node c.small.new.self in
+    on_err_any c.from_residual.result
+    (λ cells x y h.
+    let p = words g (goal.at.returns-in_err-nw-clause-needed g c).After-next_squares-south cells x y h in
+    quarter-part P _ 2 x y (inl (part P _ _ p.nw c.in_err-nw.ensures.needed)))
+
+pub returns-in_err-ne-clause-needed : goal.returns-in_err-ne-clause-needed
+returns-in_err-ne-clause-needed g c =
+    let P = g.S.Squares.needs_node c.small-2.new.self in
+    on_err_any c.from_residual-in_err-ne.result
+    (λ cells x y h.
+    let p = words g (goal.at.returns-in_err-ne-clause-needed g c).After-next_squares-south cells x y h in
+    quarter-part P _ 2 x y (inr (inl (part P _ _ p.ne c.in_err-ne.ensures.needed))))
+
+pub returns-in_err-sw-clause-needed : goal.returns-in_err-sw-clause-needed
+returns-in_err-sw-clause-needed g c =
+    let P = g.S.Squares.needs_node c.small-3.new.self in
+    on_err_any c.from_residual-in_err-sw.result
+    (λ cells x y h.
+    let p = words g (goal.at.returns-in_err-sw-clause-needed g c).After-next_squares-south cells x y h in
+    quarter-part P _ 2 x y (inr (inr (inl (part P _ _ p.sw c.in_err-sw.ensures.needed)))))
+
+pub returns-in_err-se-clause-needed : goal.returns-in_err-se-clause-needed
+returns-in_err-se-clause-needed g c =
+    let P = g.S.Squares.needs_node c.small-4.new.self in
+    on_err_any c.from_residual-in_err-se.result
+    (λ cells x y h.
+    let p = words g (goal.at.returns-in_err-se-clause-needed g c).After-next_squares-south cells x y h in
+    quarter-part P _ 2 x y (inr (inr (inr (part P _ _ p.se c.in_err-se.ensures.needed)))))
+
+pub returns-clause-needed : goal.returns-clause-needed
+returns-clause-needed g c =
+    let N = g.S.Squares.needs_node in
+    on_err_both c.join.result
+    (λ needs same cells x y h.
+    let p = words g (goal.at.returns-clause-needed g c).After-next_squares-south cells x y h in
+    own-part (N c.join.new.self) _ 2 x y _ (joined-is (parts g c _ x y p)) (still-needs N _ _ _ same needs))
+    c.join.ensures.needed c.join.ensures.unchanged
