@@ -1,7 +1,7 @@
 -- What a job writes is what the bytes of its files ask for in the words of the claims.
-use Rattle.std.proofs.Common.{◌≡◌, ℕ, ◌+◌, ◌^◌, ◌<◌, ◌≤◌, List, [], ◌++◌, length, take, Bool, true, false, refl, ap, ◌∙◌, sym, subst, ◌⊎◌, inl, inr, ◌↔◌}
+use Rattle.std.proofs.Common.{◌≡◌, ℕ, ◌^◌, List, [], refl, ◌∙◌, sym, subst, ◌⊎◌, inl, inr, ◌↔◌}
 use Rattle.std.specs.Prelude.{codes, Option, Some, None, Ok, IsSome, IfSome, IsSomeAnd, option_and_then}
-use Rattle.life_base.specs.DeviceRuns.{SourceRun, SinkRun}
+use Rattle.life_base.specs.DeviceRuns.{SourceRun}
 use Rattle.life_base.specs.Inputs.{ReadAll}
 use Rattle.life_base.specs.Text.{lines_of}
 use Rattle.life_mc.specs.Reading.{IsMacrocell}

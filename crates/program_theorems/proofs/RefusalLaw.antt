@@ -1,5 +1,5 @@
 -- Why a job is refused, in the words of the claims.
-use Rattle.std.proofs.Common.{◌≡◌, ℕ, ◌^◌, ◌<◌, ◌≤◌, List, [], ◌++◌, length, take, Bool, true, false, refl, ap, ◌∙◌, sym, subst, ◌⊎◌, inl, inr}
+use Rattle.std.proofs.Common.{◌≡◌, ℕ, ◌^◌, List, [], ◌++◌, take, Bool, true, false, refl, ap, ◌∙◌, sym, subst, ◌⊎◌, inl, inr}
 use Rattle.std.specs.Prelude.{codes, Option, Some, None, Ok, Err, IsOk, IfSome, IsSomeAnd}
 use Rattle.std.specs.Option.{option_map_or}
 use Rattle.life_base.specs.DeviceRuns.{SourceRun, SinkRun}
@@ -12,7 +12,6 @@ use Rattle.life_base.specs.declared.kind.Kind.{Kind}
 use Rattle.life_base.specs.declared.kind.Kind.TheVariants as kinds
 use Rattle.life_quad.specs.Store.{Nodes}
 use Rattle.life_table.specs.Reading.{is_table_kind}
-use Rattle.life_table.specs.Reading.{Refuses as LayerRefusesTable}
 use Rattle.life_table.specs.declared.table.Table.{Table as LayerTable}
 use Rattle.life_canon.specs.Files.{Refuses as LayerRefuses, is_file_kind}
 use Rattle.life_canon.specs.Running.{RunRefuses, ReadRefuses}
@@ -41,7 +40,7 @@ use Rattle.theorems.proofs.StreamLaw.{all_read, appended, beyond}
 use Rattle.step_theorems.proofs.StepBy as by_table
 use Rattle.table_laws.specs.Tables.{IsTable}
 use Rattle.step_theorems.proofs.StepLaw.{unstepped_is}
-use Rattle.program_theorems.specs.Jobs.{HasSecond, IsShort, Answers, Refuses, IsReason, of_files, of_want, of_length, of_source, of_sink, Holds}
+use Rattle.program_theorems.specs.Jobs.{HasSecond, IsShort, Refuses, IsReason, of_files, of_want, of_length, of_source, of_sink, Holds}
 use Rattle.program_theorems.specs.Layers.{LayersAgree}
 use Rattle.program_theorems.specs.Telling.{fault_line, status_of}
 

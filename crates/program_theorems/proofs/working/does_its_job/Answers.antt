@@ -15,12 +15,12 @@ work-requires-clause-second_given g c = (
 
 pub returns-clause-done : goal.returns-clause-done
 returns-clause-done g c =
-    λ file other held e f h few.
+    λ file other e f few.
     let done = c.work.ensures.done few in (
       done.text,
       answered c.layers_agree.ensures c.args.job.now _ _ _ done.text done.answer file other e
           (λ has. second_before g.B.Source.remaining c.args.second.now other f (c.requires.second_given.1 has)),
-      appended _ _ held done.text done.written h,
+      λ held h. appended _ _ held done.text done.written h,
     )
 
 pub returns-clause-whole : goal.returns-clause-whole
@@ -52,7 +52,10 @@ returns-clause-refused g c =
         of_table = reason.of_table;
         fault = told.0.fault;
         reason = reason.reason;
-        unread = λ failed. elim failed [ inl one ↦ told.4 one | inr two ↦ told_of_some g.B.Source.failures c.work.new.second (told.0.fault.kind ≡ ReadFault) told.5 two ];
+        unread = λ failed. elim failed [
+          | inl one ↦ told.4 one
+          | inr two ↦ told_of_some g.B.Source.failures c.work.new.second (told.0.fault.kind ≡ ReadFault) told.5 two
+        ];
         unwritten = told.6;
         status_is = told.1 ∙ sym (same_status told.0.fault.kind);
         line_is = reason.line;
@@ -72,7 +75,7 @@ returns-clause-unwritten g c =
 
 pub returns-clause-broken : goal.returns-clause-broken
 returns-clause-broken g c =
-    λ file other held e f h failed.
+    λ file other e f failed.
     let first = source_run g.A.Source.remaining g.A.Source.failures c.args.first.now c.work.new.first in
     let second = optional_source_run g.B.Source.remaining g.B.Source.failures c.args.second.now c.work.new.second in
     let output = sink_run g.O.Sink.contents g.O.Sink.failures g.O.Sink.stalled c.args.out.now c.work.new.out in
@@ -87,7 +90,7 @@ returns-clause-broken g c =
         cut.text,
         answered c.layers_agree.ensures c.args.job.now first second cut.status cut.text cut.answer file other e
             (λ has. second_before g.B.Source.remaining c.args.second.now other f (c.requires.second_given.1 has)),
-        (cut.written.count, appended _ _ held (take cut.written.count cut.text) cut.written.written h),
+        λ held h. (cut.written.count, appended _ _ held (take cut.written.count cut.text) cut.written.written h),
       ),
     )
 
