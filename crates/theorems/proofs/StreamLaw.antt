@@ -18,18 +18,18 @@ use Rattle.theorems.proofs.RefusalLaw.{refuses_agree, want_as}
 some_of : (xs ys : List ℕ) → Some xs ≡ Some ys → xs ≡ ys
 some_of xs ys e = cc
 
-all_read : (most : ℕ) (old new : Option (List ℕ)) (bytes read : List ℕ) → ReadAll most old new read → old ≡ Some bytes → read ≡ bytes
+pub all_read : (most : ℕ) (old new : Option (List ℕ)) (bytes read : List ℕ) → ReadAll most old new read → old ≡ Some bytes → read ≡ bytes
 all_read most None new bytes read r e = cc
 all_read most (Some xs) None bytes read r e = absurd r.taken
 all_read most (Some xs) (Some ys) bytes read r e =
     sym (append-nil read) ∙ ap (λ (t : List ℕ). read ++ t) (sym r.ended) ∙ sym r.taken ∙ some_of xs bytes e
 
-appended : (old new : Option (List ℕ)) (held text : List ℕ) → Appends old new text → old ≡ Some held → new ≡ Some (held ++ text)
+pub appended : (old new : Option (List ℕ)) (held text : List ℕ) → Appends old new text → old ≡ Some held → new ≡ Some (held ++ text)
 appended None new held text h e = cc
 appended (Some xs) None held text h e = absurd h
 appended (Some xs) (Some ys) held text h e = ap Some (h ∙ ap (λ (t : List ℕ). t ++ text) (some_of xs held e))
 
-beyond : (most : ℕ) (old new : Option (List ℕ)) (bytes : List ℕ) → CameBeyond most old new → old ≡ Some bytes → most < length bytes
+pub beyond : (most : ℕ) (old new : Option (List ℕ)) (bytes : List ℕ) → CameBeyond most old new → old ≡ Some bytes → most < length bytes
 beyond most None new bytes h e = cc
 beyond most (Some xs) None bytes h e = absurd h.taken
 beyond most (Some xs) (Some ys) bytes h e =
@@ -50,7 +50,7 @@ has_run source before after bytes held r e f = record {
   written = appended before after held r.text r.written f;
 }
 
-at_end : (old new : Option (List ℕ)) (bytes read : List ℕ) → Consumes old new read → IsAtEnd new → old ≡ Some bytes → new ≡ Some []
+pub at_end : (old new : Option (List ℕ)) (bytes read : List ℕ) → Consumes old new read → IsAtEnd new → old ≡ Some bytes → new ≡ Some []
 at_end None new bytes read t a e = cc
 at_end (Some xs) None bytes read t a e = absurd t
 at_end (Some xs) (Some ys) bytes read t a e = ap Some a

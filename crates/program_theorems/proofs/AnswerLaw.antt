@@ -1,0 +1,179 @@
+-- What a job writes is what the bytes of its files ask for in the words of the claims.
+use Rattle.std.proofs.Common.{◌≡◌, ℕ, ◌^◌, List, [], refl, ◌∙◌, sym, subst, ◌⊎◌, inl, inr, ◌↔◌}
+use Rattle.std.specs.Prelude.{codes, Option, Some, None, Ok, IsSome, IfSome, IsSomeAnd, option_and_then}
+use Rattle.life_base.specs.DeviceRuns.{SourceRun}
+use Rattle.life_base.specs.Inputs.{ReadAll}
+use Rattle.life_base.specs.Text.{lines_of}
+use Rattle.life_mc.specs.Reading.{IsMacrocell}
+use Rattle.life_canon.specs.Files.{Accepted, Reads, as_macrocell}
+use Rattle.life_canon.specs.Universe.{macrocell_universe}
+use Rattle.life_canon.specs.Least.{IsLeastText}
+use Rattle.life_canon.specs.Listing.{canon_text, canonical_file}
+use Rattle.life_canon.specs.Texts.{IsCanonical}
+use Rattle.life_canon.specs.Texts.{IsShown as LayerShown}
+use Rattle.life_cli.specs.Jobs.{Compares, Writes, HasAnswer}
+use Rattle.life_cli.specs.Plans.{HasSecond as LayerSecond}
+use Rattle.life_cli.specs.declared.plans.Job.{Job}
+use Rattle.life_cli.specs.declared.plans.Job.TheVariants as jobs
+use Rattle.life_cli.specs.declared.plans.Target.TheVariants.{Rle, Mc}
+use Rattle.claims.specs.Counting.{node_lines}
+use Rattle.claims.specs.Files.{pattern_of, Same}
+use Rattle.claims.specs.Pattern.{Pattern}
+use Rattle.claims.specs.Shown.{IsShown}
+use Rattle.theorems.proofs.CellsLaw.{few_cells}
+use Rattle.theorems.proofs.FileLaw.{texts_are_exact, text_is_file, text_is_macrocell, text_is_least, same_to, same_from, rle_format}
+use Rattle.theorems.proofs.RefusalLaw.{accepted_is_ok}
+use Rattle.theorems.proofs.ShownLaw.{shown_is}
+use Rattle.theorems.proofs.StreamLaw.{all_read, at_end}
+use Rattle.step_theorems.proofs.StepLaw.{stepped_is}
+use Rattle.step_theorems.proofs.StepBy.{stepped_text}
+use Rattle.program_theorems.specs.Jobs.{HasSecond, WritesCanonical, IsLeastFile, Answers, IsShort}
+use Rattle.program_theorems.specs.Layers.{LayersAgree}
+
+-- ---- second files
+
+pub to_layer : (job : Job) → HasSecond job → LayerSecond job
+to_layer jobs.Same h = tt
+to_layer jobs.StepTable h = tt
+to_layer _ h = h
+
+pub from_layer : (job : Job) → LayerSecond job → HasSecond job
+from_layer jobs.Same h = tt
+from_layer jobs.StepTable h = tt
+from_layer _ h = h
+
+pub second_before : {B : Type 0} (remaining : B → Option (List ℕ)) (old : Option B) (other : List ℕ) → IfSome old (λ b. remaining b ≡ Some other) → IsSome old
+    → option_and_then remaining old ≡ Some other
+second_before remaining None other h is = cc
+second_before remaining (Some b) other h is = h
+
+pub second_after : {B : Type 0} (remaining : B → Option (List ℕ)) (new : Option B) → option_and_then remaining new ≡ Some []
+    → IsSomeAnd new (λ b. remaining b ≡ Some [])
+second_after remaining None e = cc
+second_after remaining (Some b) e = e
+
+-- ---- texts
+
+least_text : LayersAgree → (bytes text : List ℕ) → IsCanonical 62 bytes text → IsLeastText 62 bytes text
+least_text laws bytes text c =
+    let u = c.universe in
+    let h = laws.on_plane bytes u c.reads in
+    let file = laws.files u h in
+    record {
+      universe = u;
+      reads = c.reads;
+      file = canonical_file 62 u;
+      says = subst (λ (t : List ℕ). IsMacrocell 62 t (canonical_file 62 u)) (sym c.is) file.0;
+      same = file.1;
+      least = laws.least u h;
+    }
+
+least_file : LayersAgree → (bytes text : List ℕ) → IsCanonical 62 bytes text → IsLeastFile bytes text
+least_file laws bytes text c = record {
+  same = text_is_file laws.keep bytes text c;
+  format = text_is_macrocell laws.files laws.on_plane bytes text c;
+  least = text_is_least laws.on_plane bytes text (least_text laws bytes text c);
+}
+
+compares : LayersAgree → (a b : List ℕ) (status : ℕ) (text : List ℕ) → Accepted 62 a → Accepted 62 b → Compares a b status text
+    → ((status ≡ 0) × Same a b × (text ≡ codes "same\n")) ⊎ ((status ≡ 1) × (Same a b → ⊥) × (text ≡ codes "different\n"))
+compares laws a b status text p q (inl h) = inl (h.0, same_to a b h.1, h.2)
+compares laws a b status text p q (inr h) = inr (h.0, (λ s. h.1 (same_from laws.on_plane a b p.0 q.0 p.1 q.1 s)), h.2)
+
+answers : LayersAgree → (job : Job) (file second : List ℕ) (status : ℕ) (text : List ℕ) → Writes job file second status text
+    → Answers job file second status text
+answers laws jobs.Canon file second status text h = (h.0, least_file laws file text h.1)
+answers laws (jobs.Convert Rle) file second status text h =
+    (h.0, same_to file text (laws.rle (2 ^ 20) file text h.1), rle_format file text h.1, few_cells file text h.1)
+answers laws (jobs.Convert Mc) file second status text h = (h.0, least_file laws file text h.1)
+answers laws jobs.Same file second status text h =
+    (accepted_is_ok file h.0, accepted_is_ok second h.1, compares laws file second status text h.0 h.1 h.2)
+answers laws jobs.Show file second status text h =
+    let canonical = canon_text 62 h.1.universe in
+    let c : IsCanonical 62 file canonical = record { universe = h.1.universe; reads = h.1.reads; is = refl } in
+    let s = shown_is laws.on_plane laws.unique laws.files file text canonical h.1 c in
+    (h.0, (s.0, s.1, (canonical, least_file laws file canonical c, s.2)))
+answers laws jobs.Step file second status text h = (h.0, stepped_is laws.on_plane file text h.1)
+answers laws jobs.StepTable file second status text h =
+    (h.0, stepped_text laws.read laws.decide second file text h.1.0 ((laws.grammars (lines_of second) h.1.0).0 h.1.1) h.1.2)
+
+-- a job without a second file asks for nothing of one
+second_free : (job : Job) (file a b : List ℕ) (status : ℕ) (text : List ℕ) → (HasSecond job → a ≡ b) → Answers job file a status text
+    → Answers job file b status text
+second_free jobs.Canon file a b status text e h = h
+second_free (jobs.Convert Rle) file a b status text e h = h
+second_free (jobs.Convert Mc) file a b status text e h = h
+second_free jobs.Same file a b status text e h = subst (λ (s : List ℕ). Answers jobs.Same file s status text) (e tt) h
+second_free jobs.Show file a b status text e h = h
+second_free jobs.Step file a b status text e h = h
+second_free jobs.StepTable file a b status text e h = subst (λ (s : List ℕ). Answers jobs.StepTable file s status text) (e tt) h
+
+module _ (laws : LayersAgree) (job : Job) (first second : SourceRun) (status : ℕ) (text : List ℕ) (h : HasAnswer job first second status text) where
+  -- what was made of the files is what their bytes ask for
+  pub answered : (file other : List ℕ) → first.before ≡ Some file → (HasSecond job → second.before ≡ Some other) → Answers job file other status text
+  answered file other e f =
+      let one = all_read (2 ^ 30) first.before first.after file h.first_bytes h.first_read e in
+      let given = answers laws job h.first_bytes h.second_bytes status text h.writes in
+      second_free job file h.second_bytes other status text
+      (λ has. all_read (2 ^ 30) second.before second.after other h.second_bytes (h.second_read (to_layer job has)) (f has))
+      (subst (λ (b : List ℕ). Answers job b h.second_bytes status text) one given)
+
+ended : (source : SourceRun) (bytes read : List ℕ) → ReadAll (2 ^ 30) source.before source.after read → source.before ≡ Some bytes
+    → (source.after ≡ Some []) × IsShort bytes
+ended source bytes read r e = (
+  at_end source.before source.after bytes read r.taken r.ended e,
+  subst IsShort (all_read (2 ^ 30) source.before source.after bytes read r e) r.within,
+)
+
+-- each file was read to its end
+pub first_ended : (job : Job) (first second : SourceRun) (status : ℕ) (text : List ℕ) → HasAnswer job first second status text → (file : List ℕ)
+    → first.before ≡ Some file → (first.after ≡ Some []) × IsShort file
+first_ended job first second status text h file e = ended first file h.first_bytes h.first_read e
+
+pub second_ended : (job : Job) (first second : SourceRun) (status : ℕ) (text : List ℕ) → HasAnswer job first second status text → (other : List ℕ)
+    → HasSecond job → second.before ≡ Some other → (second.after ≡ Some []) × IsShort other
+second_ended job first second status text h other has e = ended second other h.second_bytes (h.second_read (to_layer job has)) e
+
+-- ---- the texts of two runs
+
+-- a canonical text is its own canonical text
+own_canonical : LayersAgree → (bytes text : List ℕ) → IsCanonical 62 bytes text → IsCanonical 62 text text
+own_canonical laws bytes text c =
+    let u = c.universe in
+    let h = laws.on_plane bytes u c.reads in
+    let v = macrocell_universe (canonical_file 62 u) in
+    let reads : Reads 62 (canon_text 62 u) v = as_macrocell (canonical_file 62 u) (laws.files u h).0 in
+    record { universe = v; reads = subst (λ (t : List ℕ). Reads 62 t v) (sym c.is) reads; is = c.is ∙ sym (laws.fixed u v h reads) }
+
+own_text : LayersAgree → (job : Job) (file second : List ℕ) (status : ℕ) (text : List ℕ) → WritesCanonical job → Writes job file second status text
+    → IsCanonical 62 text text
+own_text laws jobs.Canon file second status text w h = own_canonical laws file text h.1
+own_text laws (jobs.Convert Rle) file second status text w h = absurd w
+own_text laws (jobs.Convert Mc) file second status text w h = own_canonical laws file text h.1
+own_text laws jobs.Same file second status text w h = absurd w
+own_text laws jobs.Show file second status text w h = absurd w
+own_text laws jobs.Step file second status text w h = let t = h.1.3 in record { universe = t.universe; reads = t.reads; is = t.canonical }
+own_text laws jobs.StepTable file second status text w h = let t = h.1.2.3 in record { universe = t.universe; reads = t.reads; is = t.canonical }
+
+pub equal_outputs : LayersAgree → (job other_job : Job) (first second other_first other_second : SourceRun) (status other_status : ℕ) (text other : List ℕ)
+    → HasAnswer job first second status text → HasAnswer other_job other_first other_second other_status other
+    → WritesCanonical job → WritesCanonical other_job → (text ≡ other) ↔ Same text other
+equal_outputs laws job other_job first second other_first other_second status other_status text other h k w v =
+    texts_are_exact laws.tell laws.on_plane text other text other (own_text laws job h.first_bytes h.second_bytes status text w h.writes)
+    (own_text laws other_job k.first_bytes k.second_bytes other_status other v k.writes)
+
+-- what `show` and `canon` write of the same bytes
+pub shown_outputs : LayersAgree → (job other_job : Job) (first second other_first other_second : SourceRun) (status other_status : ℕ) (text lines file : List ℕ)
+    → HasAnswer job first second status text → HasAnswer other_job other_first other_second other_status lines → job ≡ jobs.Canon → other_job ≡ jobs.Show
+    → first.before ≡ Some file → other_first.before ≡ Some file
+    → (pattern : Pattern) × (pattern_of file ≡ Ok pattern) × IsShown pattern (node_lines text) lines
+shown_outputs laws job other_job first second other_first other_second status other_status text lines file h k is other_is e f =
+    shown_is laws.on_plane laws.unique laws.files file lines text
+    (subst (λ (b : List ℕ). LayerShown 62 b lines) (all_read (2 ^ 30) other_first.before other_first.after file k.first_bytes k.first_read f) shown.1)
+    (subst (λ (b : List ℕ). IsCanonical 62 b text) (all_read (2 ^ 30) first.before first.after file h.first_bytes h.first_read e) canonical.1)
+  where
+    canonical : Writes jobs.Canon h.first_bytes h.second_bytes status text
+    canonical = subst (λ (j : Job). Writes j h.first_bytes h.second_bytes status text) is h.writes
+
+    shown : Writes jobs.Show k.first_bytes k.second_bytes other_status lines
+    shown = subst (λ (j : Job). Writes j k.first_bytes k.second_bytes other_status lines) other_is k.writes

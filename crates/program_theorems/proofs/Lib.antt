@@ -1,0 +1,2 @@
+mod AnswerLaw
+mod RefusalLaw

@@ -1,0 +1,37 @@
+use Rattle.theorems.proofs.StreamLaw.{appended}
+use Rattle.program_theorems.proofs.AnswerLaw.{to_layer, from_layer, equal_outputs, shown_outputs}
+use Rattle.program_theorems.proofs.outputs.outputs_of_two_runs.Goals as goal
+
+pub work-status-requires-clause-second_given : goal.work-status-requires-clause-second_given
+work-status-requires-clause-second_given g c = (
+  λ is. to_layer c.args.job.now (c.requires.second_given.0 is),
+  λ has. c.requires.second_given.1 (from_layer c.args.job.now has),
+)
+
+pub work-other-requires-clause-second_given : goal.work-other-requires-clause-second_given
+work-other-requires-clause-second_given g c = (
+  λ is. to_layer c.args.other_job.now (c.requires.other_second_given.0 is),
+  λ has. c.requires.other_second_given.1 (from_layer c.args.other_job.now has),
+)
+
+pub returns-clause-equal : goal.returns-clause-equal
+returns-clause-equal g c = λ held kept e f few other_few w v.
+    let one = c.work-status.ensures.done few in
+    let two = c.work-other.ensures.done other_few in (
+      one.text,
+      two.text,
+      appended _ _ held one.text one.written e,
+      appended _ _ kept two.text two.written f,
+      equal_outputs c.layers_agree.ensures c.args.job.now c.args.other_job.now _ _ _ _ _ _ one.text two.text one.answer two.answer w v,
+    )
+
+pub returns-clause-shown : goal.returns-clause-shown
+returns-clause-shown g c = λ file held kept e f few other_few is other_is r s.
+    let one = c.work-status.ensures.done few in
+    let two = c.work-other.ensures.done other_few in (
+      one.text,
+      two.text,
+      appended _ _ held one.text one.written e,
+      appended _ _ kept two.text two.written f,
+      shown_outputs c.layers_agree.ensures c.args.job.now c.args.other_job.now _ _ _ _ _ _ one.text two.text file one.answer two.answer is other_is r s,
+    )

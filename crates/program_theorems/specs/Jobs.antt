@@ -1,0 +1,91 @@
+-- What the program does with each of its jobs, by the bytes of its files. The jobs, their words and their limits are this project's own.
+use Rattle.std.specs.Prelude.{◌≡◌, ◌⊎◌, ℕ, ◌^◌, ◌≤◌, ◌<◌, Bool, true, false, List, ◌++◌, length, take, codes, Option, Some, Ok, Err, IsOk}
+use Rattle.life_base.specs.Text.{begins_with}
+use Rattle.life_base.specs.declared.fault.Fault.{Fault}
+use Rattle.life_base.specs.declared.kind.Kind.TheVariants.{ReadFault, WriteFault, InputTooLong, TooManyCells}
+use Rattle.life_cli.specs.declared.plans.Job.{Job}
+use Rattle.life_cli.specs.declared.plans.Job.TheVariants as jobs
+use Rattle.life_cli.specs.declared.plans.Target.TheVariants.{Rle, Mc}
+use Rattle.claims.specs.Pattern.{Pattern}
+use Rattle.claims.specs.Files.{pattern_of, fault_of, Same, IsWant}
+use Rattle.claims.specs.Counting.{node_lines, IsRival}
+use Rattle.claims.specs.Shown.{IsShown}
+use Rattle.claims.specs.Generation.{SaysMoreCells, IsStepped, IsUnstepped}
+use Rattle.claims.specs.Table.{Table, table_of}
+use Rattle.claims.specs.ByTable.{IsSteppedBy, IsUnsteppedBy}
+use Rattle.program_theorems.specs.Telling.{status_of, fault_line}
+
+-- the job has a second file: the one that the first is compared with, or a rule table
+abbrev pub HasSecond : Job → Type 0
+HasSecond jobs.Same = Unit {0}
+HasSecond jobs.StepTable = Unit {0}
+HasSecond _ = ⊥
+
+-- the job writes the canonical text of a pattern: of the file, or of its next one
+abbrev pub WritesCanonical : Job → Type 0
+WritesCanonical jobs.Same = ⊥
+WritesCanonical jobs.Show = ⊥
+WritesCanonical (jobs.Convert Rle) = ⊥
+WritesCanonical _ = Unit {0}
+
+-- a macrocell file of the same pattern, with as few node lines as any
+pub record IsLeastFile (file text : List ℕ) : Type 0 where
+  pub same : Same file text
+  pub format : begins_with text (codes "[M2]") ≡ true
+  pub least : (rival : List ℕ) → IsRival file rival → node_lines text ≤ node_lines rival
+
+-- the status and the text of a job on the bytes of its files
+abbrev pub Answers : Job → (file second : List ℕ) → (status : ℕ) → (text : List ℕ) → Type 0
+Answers jobs.Canon file second status text = (status ≡ 0) × IsLeastFile file text
+Answers (jobs.Convert Mc) file second status text = (status ≡ 0) × IsLeastFile file text
+Answers (jobs.Convert Rle) file second status text =
+    (status ≡ 0) × Same file text × (begins_with text (codes "[M2]") ≡ false) × (SaysMoreCells (2 ^ 20) file → ⊥)
+Answers jobs.Same file second status text =
+    IsOk (pattern_of file) × IsOk (pattern_of second)
+    × (((status ≡ 0) × Same file second × (text ≡ codes "same\n")) ⊎ ((status ≡ 1) × (Same file second → ⊥) × (text ≡ codes "different\n")))
+Answers jobs.Show file second status text =
+    (status ≡ 0) × ((pattern : Pattern) × (pattern_of file ≡ Ok pattern)
+    × ((canonical : List ℕ) × IsLeastFile file canonical × IsShown pattern (node_lines canonical) text))
+Answers jobs.Step file second status text = (status ≡ 0) × IsStepped file text
+Answers jobs.StepTable file second status text = (status ≡ 0) × ((table : Table) × (table_of second ≡ Ok table) × IsSteppedBy table file text)
+
+-- a file that may be read
+abbrev pub IsShort : List ℕ → Type 0
+IsShort bytes = length bytes ≤ 2 ^ 30
+
+-- the fault for which a job refuses its files, and whether its line is one of a rule table
+abbrev pub Refuses : Job → (file second : List ℕ) → (of_table : Bool) → Fault → Type 0
+Refuses (jobs.Convert Rle) file second of_table fault =
+    IsShort file × (of_table ≡ false) × ((pattern_of file ≡ Err fault) ⊎ ((fault ≡ fault_of TooManyCells) × SaysMoreCells (2 ^ 20) file))
+Refuses jobs.Same file second of_table fault =
+    IsShort file × IsShort second × (of_table ≡ false)
+    × ((pattern_of file ≡ Err fault) ⊎ (IsOk (pattern_of file) × (pattern_of second ≡ Err fault)))
+Refuses jobs.Step file second of_table fault = IsShort file × (of_table ≡ false) × ((pattern_of file ≡ Err fault) ⊎ IsUnstepped file fault)
+Refuses jobs.StepTable file second of_table fault =
+    IsShort second × (((of_table ≡ true) × (table_of second ≡ Err fault)) ⊎ (IsShort file × ((table : Table) × (table_of second ≡ Ok table)
+    × (((of_table ≡ false) × (pattern_of file ≡ Err fault)) ⊎ ((of_table ≡ true) × IsUnsteppedBy table file fault)))))
+Refuses _ file second of_table fault = IsShort file × (of_table ≡ false) × (pattern_of file ≡ Err fault)
+
+-- Why a run has no answer: what its files say; room or memory was wanted; a file is too long; a file could not be read; or the text could not be
+-- written.
+pub data IsReason (job : Job) (file second : List ℕ) (is_unread is_unwritten : Type 0) : Bool → Fault → Type 0 where
+  of_files : (of_table : Bool) (fault : Fault) → Refuses job file second of_table fault → IsReason job file second is_unread is_unwritten of_table fault
+  of_want : (fault : Fault) → IsWant fault → IsReason job file second is_unread is_unwritten false fault
+  of_length : (2 ^ 30 < length file) ⊎ (HasSecond job × (2 ^ 30 < length second))
+      → IsReason job file second is_unread is_unwritten false (fault_of InputTooLong)
+  of_source : is_unread → IsReason job file second is_unread is_unwritten false (fault_of ReadFault)
+  of_sink : is_unwritten → IsReason job file second is_unread is_unwritten false (fault_of WriteFault)
+
+-- the run ends with this status and tells this line, for a reason; and where a device failed, that is the reason
+pub record IsRefused (job : Job) (file second : List ℕ) (is_unread is_unwritten : Type 0) (status : ℕ) (line : List ℕ) : Type 0 where
+  pub of_table : Bool
+  pub fault : Fault
+  pub reason : IsReason job file second is_unread is_unwritten of_table fault
+  pub unread : is_unread → fault.kind ≡ ReadFault
+  pub unwritten : is_unwritten → fault.kind ≡ WriteFault
+  pub status_is : status ≡ status_of fault.kind
+  pub line_is : line ≡ fault_line of_table fault
+
+-- what a device holds that was given this text behind what it held: all of it, or a front of it where the device failed
+abbrev pub Holds : (held text : List ℕ) → (is_broken : Type 0) → Option (List ℕ) → Type 0
+Holds held text is_broken after = (after ≡ Some (held ++ text)) ⊎ (is_broken × ((n : ℕ) × (after ≡ Some (held ++ take n text))))

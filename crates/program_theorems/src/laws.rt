@@ -1,0 +1,31 @@
+//! What ties the definitions to those of the layers.
+
+ghost use Rattle.program_theorems.specs.Layers.{LayersAgree};
+
+use life_canon::laws::{
+    canonical_is_least, files_are_on_plane, files_are_unique, refusals_have_kinds,
+    rle_texts_keep_patterns, texts_are_files, texts_are_fixed, texts_keep_patterns,
+    texts_tell_patterns,
+};
+use life_table::laws::{grammars_agree, refusals_have_kinds as table_refusals_have_kinds};
+use table_laws::laws::{tables_decide, tables_read, tables_refuse};
+
+/// What files, texts and tables are in the layers is what they are in the words of the formats.
+pub fn layers_agree()
+    ensures { LayersAgree }
+{
+    files_are_on_plane();
+    files_are_unique();
+    texts_are_files();
+    texts_keep_patterns();
+    texts_tell_patterns();
+    texts_are_fixed();
+    canonical_is_least();
+    rle_texts_keep_patterns();
+    refusals_have_kinds();
+    grammars_agree();
+    table_refusals_have_kinds();
+    tables_read();
+    tables_refuse();
+    tables_decide();
+}

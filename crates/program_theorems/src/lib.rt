@@ -1,0 +1,9 @@
+//! The theorems of what the program does with its jobs, from the bytes of its files to those that it writes.
+#![tactic(auto)]
+
+pub mod laws;
+mod outputs;
+mod working;
+
+pub use outputs::outputs_of_two_runs;
+pub use working::does_its_job;
