@@ -27,11 +27,6 @@ next_of-returns-clause-remembers g t c =
     let level : c.args.level - 1 + 1 ≡ c.args.level = omega (arith, c.requires.low) in
     Remembers-more (new-answer n.keeps (c.args.level - 1) c.args.level level c.requires.known n.at c.quarters-sixteen.ensures.pieces n.next) c.remember.ensures n.remembers
 
-pub next_of_middle-returns-then-level-eq1-clause-remembers : goal.next_of_middle-returns-then-level-eq1-clause-remembers
-next_of_middle-returns-then-level-eq1-clause-remembers g m c =
-    let cells = c.next_of_cells.ensures in
-    IfOk-weaker c.next_of_cells.result _ _ (λ r at. Remembers-kept cells.keeps c.requires.remembers) cells.at
-
 pub next_of_middle-returns-then-level-eq2-clause-remembers : goal.next_of_middle-returns-then-level-eq2-clause-remembers
 next_of_middle-returns-then-level-eq2-clause-remembers g m c =
     let leaf = c.next_of_leaf.ensures in
