@@ -409,7 +409,7 @@ RLE = [
              LIFE + b"*$$$$$$$$\n" + chain(4, 59, b"L C 0 0 0\n") + b"60 0 57 0 0\n61 0 0 0 58\n"),
     accepted("a row of 2^62 cells", WIDE_ROW, WIDE_ROW_TEXT),
     accepted("255 rows of 2^62 cells, each of another state", [lambda: wide_rows(range(1, 256))], [lambda: wide_rows_text(range(1, 256))]),
-    # A tooth of three bytes is two spans of 16.
+    # A tooth of three bytes is a span of 24.
     accepted("a comb of 2^19 teeth (18 times the input)", [HEADER, (b"ob\n", LONGEST // 2)], COMB_TEXT, times=18),
     accepted("lines of 2^20 and of 2^20 + 1 bytes with and behind !",
              HEADER + b"b!" + b"x" * (LONGEST - 2) + b"\n" + b"x" * (LONGEST + 1) + b"\n", LIFE),

@@ -215,6 +215,7 @@ pub(crate) fn pair<S: Squares>(
 }
 
 // A square from a column to before `end`, east of the others.
+#[inline(always)]
 pub(crate) fn extend(spans: &mut Vec<Span>, column: u64, end: u64, square: Id) -> Result<(), Kind>
     requires { column < end }
     ensures columns { OnOk result (AreBefore column spans.old.items → IsExtended spans.old.items spans.new.items column end square) }
