@@ -8,6 +8,7 @@ use Rattle.std.proofs.lemmas.List.{drop-drop}
 use Rattle.std.proofs.lemmas.Bool.Decides.{nat_tests}
 use Rattle.std.proofs.lemmas.Str.{digit_value_digit}
 use Rattle.life_base.proofs.FrontDigits.{digit_text_in_front}
+use Rattle.life_base.specs.Numbers.{capped}
 use Rattle.life_base.specs.Text.{is_digit_text, is_whitespace, value_of}
 use Rattle.life_base.specs.declared.cell.TheConstants.{MAX_LEVEL}
 use Rattle.life_rle.specs.Items.{counted, front_digits, behind_digits, item_behind, next_of}
@@ -28,24 +29,27 @@ digits_in_front level b rest digit =
 one_digit : (b : ℕ) (rest : List ℕ) → is_ascii_digit b ≡ true → 0 < prefix_len is_ascii_digit (b ∷ rest)
 one_digit b rest digit = rw digit (omega arith)
 
--- digits at a place, which end at another
-pub record DigitsAt (level : ℕ) (line : List ℕ) (at count : ℕ) : Type 0 where
+-- a number at a place, whose digits end at another
+pub record NumberAt (level : ℕ) (line : List ℕ) (at number count : ℕ) : Type 0 where
   pub some : 0 < count
   pub digits : is_digit_text (front_digits (drop at line)) ≡ true
+  pub value : number ≡ capped (value_of (front_digits (drop at line)))
   pub told : next_of level (drop at line) ≡ counted level (front_digits (drop at line)) (drop (at + count) line)
 
-pub digits_at : (level : ℕ) (line : List ℕ) (at count : ℕ) → at < length line → is_ascii_digit (get_or line at 0) ≡ true
-    → count ≡ prefix_len is_ascii_digit (drop at line) → DigitsAt level line at count
-digits_at level line at count inside digit e =
-    let text : drop at line ≡ get_or line at 0 ∷ drop (at + 1) line = text_at line at inside in
-    let some : 0 < prefix_len is_ascii_digit (drop at line) = rw text (one_digit (get_or line at 0) (drop (at + 1) line) digit) in
+pub number_at : (level : ℕ) (line text : List ℕ) (at number count : ℕ) → at < length line → is_ascii_digit (get_or line at 0) ≡ true → text ≡ drop at line
+    → number ≡ capped (value_of (front_digits text)) → count ≡ prefix_len is_ascii_digit text → NumberAt level line at number count
+number_at level line text at number count inside digit whole value e =
+    let parts : drop at line ≡ get_or line at 0 ∷ drop (at + 1) line = text_at line at inside in
+    let some : 0 < prefix_len is_ascii_digit (drop at line) = rw parts (one_digit (get_or line at 0) (drop (at + 1) line) digit) in
+    let end : count ≡ prefix_len is_ascii_digit (drop at line) = e ∙ ap (prefix_len is_ascii_digit) whole in
     record {
-      some = omega (arith, some, e);
+      some = omega (arith, some, end);
       digits = digit_text_in_front (drop at line) some;
+      value = value ∙ ap (λ t. capped (value_of (front_digits t))) whole;
       told =
-          ap (next_of level) text ∙ digits_in_front level (get_or line at 0) (drop (at + 1) line) digit
-          ∙ ap (λ t. counted level (front_digits t) (behind_digits t)) (sym text)
-          ∙ ap (counted level (front_digits (drop at line))) (drop-drop (prefix_len is_ascii_digit (drop at line)) at line ∙ ap (λ n. drop (at + n) line) (sym e));
+          ap (next_of level) parts ∙ digits_in_front level (get_or line at 0) (drop (at + 1) line) digit
+          ∙ ap (λ t. counted level (front_digits t) (behind_digits t)) (sym parts)
+          ∙ ap (counted level (front_digits (drop at line))) (drop-drop (prefix_len is_ascii_digit (drop at line)) at line ∙ ap (λ n. drop (at + n) line) (sym end));
     }
 
 -- a digit in front of a byte that is none
