@@ -54,9 +54,11 @@ module _ (f : ℤ → ℤ → ℕ) (alone : IsAlone f start 2) where
         record {
           first = empty-north (back start 6) (neg_ℤ (pos 8)) (omega (arith, ints));
           second = subst (HasBand f (back start 6) (neg_ℤ (pos 4))) upper
-              (rows-between f (back start 6) (neg_ℤ (pos 6)) 0 word 2 32 32 (omega arith) refl refl (omega arith) (empty-north (back start 6) (neg_ℤ (pos 6)) (omega (arith, ints))) moved-east);
+              (rows-between f (back start 6) (neg_ℤ (pos 6)) 0 word 2 32 32 (omega arith) refl refl (omega arith)
+              (empty-north (back start 6) (neg_ℤ (pos 6)) (omega (arith, ints))) moved-east);
           third = subst (HasBand f (back start 6) (pos 0)) lower
-              (rows-between f (back start 6) start word 0 2 32 32 (omega arith) refl refl (omega arith) moved-east (empty-south (back start 6) (pos 2) (omega (arith, ints))));
+              (rows-between f (back start 6) start word 0 2 32 32 (omega arith) refl refl (omega arith) moved-east
+              (empty-south (back start 6) (pos 2) (omega (arith, ints))));
           fourth = empty-south (back start 6) (pos 4) (omega (arith, ints));
         }
 

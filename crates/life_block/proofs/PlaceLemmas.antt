@@ -76,18 +76,22 @@ module _ (w mask d : ℕ) (within : mask * 2 ^ d < 2 ^ 64) (apart : bit_and mask
 equal : (a b : ℕ) → (a == b) ≡ true → a ≡ b
 equal a b h = grind (arith, nat_tests)
 
--- where the bits of four squares side by side stand among those of their rows
+-- where a bit of the rows of four squares comes from, and one of four squares of their rows
+abbrev pub row_from : ℕ → ℕ
+row_from p = exchanged 0x0C0C0C0C0C0C0C0C 2 (exchanged 0x00000000FF00FF00 24 (exchanged 0x0000F0F00000F0F0 12 p))
+
+abbrev pub square_from_row : ℕ → ℕ
+square_from_row p = exchanged 0x0000F0F00000F0F0 12 (exchanged 0x00000000FF00FF00 24 (exchanged 0x0C0C0C0C0C0C0C0C 2 p))
+
+-- by a test of each of the 64
 rows_test : (r q i : ℕ) → Bool
-rows_test r q i =
-    exchanged 0x0C0C0C0C0C0C0C0C 2 (exchanged 0x00000000FF00FF00 24 (exchanged 0x0000F0F00000F0F0 12 (63 - (16 * r + 4 * q + i)))) == 63 - (16 * q + place_in r i)
+rows_test r q i = row_from (63 - (16 * r + 4 * q + i)) == 63 - (16 * q + place_in r i)
 
 each_row : all_below 4 (λ r. all_below 4 (λ q. all_below 4 (rows_test r q))) ≡ true
 unfolding rows_test
 each_row = refl
 
-pub rows-place : (r q i : ℕ) → r < 4 → q < 4 → i < 4
-    → exchanged 0x0C0C0C0C0C0C0C0C 2 (exchanged 0x00000000FF00FF00 24 (exchanged 0x0000F0F00000F0F0 12 (63 - (16 * r + 4 * q + i))))
-    ≡ 63 - (16 * q + place_in r i)
+pub rows-place : (r q i : ℕ) → r < 4 → q < 4 → i < 4 → row_from (63 - (16 * r + 4 * q + i)) ≡ 63 - (16 * q + place_in r i)
 unfolding rows_test
 rows-place r q i lr lq li =
     equal _ _
@@ -95,18 +99,16 @@ rows-place r q i lr lq li =
     (all_below_at 4 (λ q. all_below 4 (rows_test r q)) q (all_below_at 4 (λ r. all_below 4 (λ q. all_below 4 (rows_test r q))) r each_row lr) lq) li)
 
 squares_test : (r q i : ℕ) → Bool
-squares_test r q i =
-    exchanged 0x0000F0F00000F0F0 12 (exchanged 0x00000000FF00FF00 24 (exchanged 0x0C0C0C0C0C0C0C0C 2 (63 - (16 * q + place_in r i)))) == 63 - (16 * r + 4 * q + i)
+squares_test r q i = square_from_row (63 - (16 * q + place_in r i)) == 63 - (16 * r + 4 * q + i)
 
 each_square : all_below 4 (λ r. all_below 4 (λ q. all_below 4 (squares_test r q))) ≡ true
 unfolding squares_test
 each_square = refl
 
-pub squares-place : (r q i : ℕ) → r < 4 → q < 4 → i < 4
-    → exchanged 0x0000F0F00000F0F0 12 (exchanged 0x00000000FF00FF00 24 (exchanged 0x0C0C0C0C0C0C0C0C 2 (63 - (16 * q + place_in r i))))
-    ≡ 63 - (16 * r + 4 * q + i)
+pub squares-place : (r q i : ℕ) → r < 4 → q < 4 → i < 4 → square_from_row (63 - (16 * q + place_in r i)) ≡ 63 - (16 * r + 4 * q + i)
 unfolding squares_test
 squares-place r q i lr lq li =
     equal _ _
     (all_below_at 4 (squares_test r q) i
-    (all_below_at 4 (λ q. all_below 4 (squares_test r q)) q (all_below_at 4 (λ r. all_below 4 (λ q. all_below 4 (squares_test r q))) r each_square lr) lq) li)
+    (all_below_at 4 (λ q. all_below 4 (squares_test r q)) q
+    (all_below_at 4 (λ r. all_below 4 (λ q. all_below 4 (squares_test r q))) r each_square lr) lq) li)

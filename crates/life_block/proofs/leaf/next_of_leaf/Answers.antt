@@ -19,7 +19,8 @@ bands g c cells x y binary h =
     }
 
 pub returns-clause-next : goal.returns-clause-next
-returns-clause-next g c = IfOk-weaker c.next_of_bands.result _ _ (λ r next cells x y binary h. next cells x y (bands g c cells x y binary h)) c.next_of_bands.ensures.next
+returns-clause-next g c =
+    IfOk-weaker c.next_of_bands.result _ _ (λ r next cells x y binary h. next cells x y (bands g c cells x y binary h)) c.next_of_bands.ensures.next
 
 pub returns-clause-needed : goal.returns-clause-needed
 returns-clause-needed g c =
