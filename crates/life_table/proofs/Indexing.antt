@@ -1,10 +1,10 @@
 -- The index of a table's lines: what is put into its sets, and that a line in none of the sets of an image gives nothing there.
-use Rattle.std.proofs.Common.{◌≡◌, ◌≢◌, ℕ, ◌+◌, ◌-◌, ◌*◌, ◌/◌, ◌%◌, ◌^◌, ◌<◌, ◌≤◌, ◌∷◌, ◌++◌, min, List, [], map, take, drop, length, get_or, set, slice_index, cond, Bool, true, false, refl, ap, sym, ◌∙◌, subst, ◌⊎◌, inl, inr, arith, bit_or, bit_and, length-take, length-drop}
+use Rattle.std.proofs.Common.{◌≡◌, ◌≢◌, ℕ, ◌+◌, ◌-◌, ◌*◌, ◌/◌, ◌%◌, ◌^◌, ◌<◌, ◌≤◌, ◌∷◌, ◌++◌, min, List, [], map, take, drop, length, get_or, set, slice_index, cond, Bool, true, false, ap, sym, ◌∙◌, subst, ◌⊎◌, inl, inr, arith, bit_or, bit_and, length-take, length-drop}
 use Rattle.std.specs.Prelude.{All, Contains}
 use Rattle.std.specs.Int.{bit_at, w64}
 use Rattle.std.specs.List.{range_with_len}
 use Rattle.std.proofs.lemmas.Bool.Decides.{eqb_tells, leb_tells}
-use Rattle.std.proofs.lemmas.List.{get_or-set_same, get_or-set_other, get_or-map, length-map, get_or_default, get_or-take, get_or_push, get_or_append_left, take_all, length_push}
+use Rattle.std.proofs.lemmas.List.{get_or-set_same, get_or-set_other, length-map, get_or-take, get_or_push, get_or_append_left, take_all, length_push}
 use Rattle.std.proofs.lemmas.List.Elements.{Contains-append_cases}
 use Rattle.std.proofs.lemmas.List.FromFn.{length-map-range_with_len, get_or-map-range_with_len}
 use Rattle.std.proofs.lemmas.Nat.{pow-add}
@@ -13,7 +13,6 @@ use Rattle.std.proofs.Math.Nat.{div-div-eq-div-mul}
 use Rattle.life_table.specs.Index.{Stay, HasLine, HasLines, AreBlocks, MayFit, IsImage, MayGive}
 use Rattle.life_table.specs.Meaning.{IsChoice, state_of, Gives, GivesNothing}
 use Rattle.life_table.specs.Orders.{turn, turns, reflected_turn, reflected_turns, family, images}
-use Rattle.life_table.specs.Taking.{can_be_state}
 use Rattle.life_table.specs.Valid.{IsEntry}
 use Rattle.life_table.proofs.Fitting.{input_is}
 use Rattle.life_table.proofs.Pairing.{may_be}

@@ -1,7 +1,6 @@
-use Rattle.std.proofs.Common.{◌≡◌, ℕ, ◌+◌, ◌*◌, ◌<◌, List, length, get_or, slice_index, ap, sym, ◌∙◌, subst, inl, inr, arith, true}
+use Rattle.std.proofs.Common.{◌≡◌, ℕ, ◌+◌, ◌*◌, ◌<◌, length, get_or, slice_index, ap, sym, ◌∙◌, subst, inl, inr, arith, true}
 use Rattle.std.specs.Int.{bit_at}
 use Rattle.std.proofs.lemmas.Bool.Decides.{eqb_tells}
-use Rattle.std.proofs.lemmas.List.{get_or_read}
 use Rattle.life_table.specs.Index.{entry_at}
 use Rattle.life_table.specs.Taking.{can_be_state}
 use Rattle.life_table.proofs.Indexing.{or_cases, bit_there}

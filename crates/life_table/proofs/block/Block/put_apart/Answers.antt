@@ -1,6 +1,6 @@
-use Rattle.std.proofs.Common.{◌≡◌, ◌≢◌, ℕ, ◌+◌, ◌*◌, List, length, slice_index, ap, sym, ◌∙◌, subst, true, false}
+use Rattle.std.proofs.Common.{◌≡◌, ◌≢◌, ℕ, ◌+◌, ◌*◌, List, length, slice_index, ap, sym, ◌∙◌, subst}
 use Rattle.std.specs.Int.{bit_at}
-use Rattle.life_table.specs.Index.{Stay, entry_at}
+use Rattle.life_table.specs.Index.{entry_at}
 use Rattle.life_table.proofs.Indexing.{one_bit, one_more_set, one_more_passed}
 use Rattle.life_table.specs.declared.block.Block.{Block}
 use Rattle.life_table.proofs.block.Block.put_apart.Goals as goal

@@ -1,4 +1,4 @@
-use Rattle.std.proofs.Common.{◌≡◌, ℕ, ◌*◌, cond, Bool, ap, sym, ◌∙◌, arith}
+use Rattle.std.proofs.Common.{◌≡◌, ◌*◌, cond, Bool, ap, sym, ◌∙◌, arith}
 use Rattle.life_table.proofs.Indexing.{family_stored}
 use Rattle.life_table.proofs.image_list.Images.new.Goals as goal
 use Rattle.life_table.proofs.image_list.Images.new.Goals.{then-ways, else-ways}
