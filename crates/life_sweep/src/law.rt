@@ -12,7 +12,7 @@ ghost use Rattle.life_sweep.specs.Generation.{neighborhood_of, LifeAnswers, Tabl
 ghost use Rattle.life_sweep.specs.LawFacts.{SameImages, two_positive, life_quiet, table_positive, table_quiet};
 
 use life_base::{Fault, Kind, LifeRule, Near, State};
-use life_table::{Neighborhood, Neighbours, Symmetry, Table};
+use life_table::{Index, Neighborhood, Neighbours, Symmetry, Table};
 use std::alloc::Global;
 use std::marker::Model;
 
@@ -114,10 +114,11 @@ pub(crate) struct Known {
     pub(crate) next: State,
 }
 
-/// The law of a table. It remembers some neighbourhoods and what becomes of them.
+/// The law of a table. It remembers some neighbourhoods and what becomes of them, and indexes more lines of the table with each that it
+/// decides.
 #[derive(Drop)]
 pub struct ByTable<'a> {
-    table: &'a Table,
+    index: Index<'a>,
     known: Vec<Known>,
 }
 
@@ -127,9 +128,9 @@ impl<'a> Model for ByTable<'a> {
 
     ghost Value = { TableValue };
 
-    ghost view = { λ law. law.table.now };
+    ghost view = { λ law. law.index };
 
-    ghost invariant = { λ law. IsMemory law.table.now law.known.items };
+    ghost invariant = { λ law. IsMemory law.index law.known.items };
 }
 
 // How many neighbourhoods are remembered.
@@ -219,19 +220,19 @@ fn representative(table: &Table, around: &[State; 9]) -> [State; 9]
 }
 
 // What a table answers.
-fn decide(table: &Table, around: &[State; 9]) -> Result<State, Fault>
-    requires { All (λ s. s < table.now.n_states) around.now }
-    ensures next { IfOk result (λ s. TableAnswers table.now around.now (Becomes s)) }
+fn decide(index: &Index, around: &[State; 9]) -> Result<State, Fault>
+    requires { All (λ s. s < index.now.n_states) around.now }
+    ensures next { IfOk result (λ s. TableAnswers index.now around.now (Becomes s)) }
     ensures kind { IfErr result (λ f. f.kind ≡ Kind.Ambiguous) }
-    ensures ambiguous { IfErr result (λ f. TableAnswers table.now around.now (Ambiguous f.place.line)) }
+    ensures ambiguous { IfErr result (λ f. TableAnswers index.now around.now (Ambiguous f.place.line)) }
 {
-    let neighbours = match table.neighborhood {
+    let neighbours = match index.table().neighborhood {
         Neighborhood::VonNeumann => {
             Neighbours::Four([around[0], around[1], around[3], around[5], around[7]])
         }
         Neighborhood::Moore => Neighbours::Eight(*around),
     };
-    table.next(&neighbours)
+    index.next(&neighbours)
 }
 
 impl<'a> ByTable<'a> {
@@ -249,7 +250,10 @@ impl<'a> ByTable<'a> {
             next: 0,
         };
         let known = Vec::from_elem(alloc, zeros, PLACES)?;
-        Ok(ByTable { table, known })
+        Ok(ByTable {
+            index: Index::new(alloc, table),
+            known,
+        })
     }
 }
 
@@ -259,17 +263,18 @@ impl<'a> Law for ByTable<'a> {
     ghost answers = { λ table v a. TableAnswers table v a };
 
     fn n_states(&self) -> u16 {
-        self.table.n_states
+        self.index.table().n_states
     }
 
     fn next(&mut self, around: &[State; 9]) -> Result<State, Fault> {
-        let seen = representative(self.table, around);
+        let seen = representative(self.index.table(), around);
         let place = place_of(&seen);
         let known = self.known[place];
         if known.around == seen {
             return Ok(known.next);
         }
-        let next = decide(self.table, &seen)?;
+        self.index.grow();
+        let next = decide(&self.index, &seen)?;
         self.known[place] = Known { around: seen, next };
         Ok(next)
     }

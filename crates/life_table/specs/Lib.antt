@@ -11,3 +11,4 @@ pub mod Around
 pub mod Seen
 pub mod Site
 pub mod Taking
+pub mod Index

@@ -1,6 +1,7 @@
 //! Rule tables: a cell's next state by the first line that fits it and its neighbours.
 #![tactic(auto)]
 
+mod block;
 mod by_name;
 mod choose;
 mod complete;
@@ -10,6 +11,8 @@ mod entries;
 mod fit;
 mod found;
 mod groups;
+mod image_list;
+mod index;
 pub mod laws;
 mod line;
 mod lines;
@@ -25,6 +28,7 @@ mod turn;
 mod variables;
 mod words;
 
+pub use index::Index;
 pub use next::Neighbours;
 pub use reading::read_table;
 pub use seed::NameSeed;

@@ -1,0 +1,9 @@
+use Rattle.std.proofs.Common.{◌*◌, take}
+use Rattle.std.specs.Prelude.{All}
+use Rattle.life_table.specs.Meaning.{GivesNothing}
+use Rattle.life_table.specs.Site.{centre_of, others_of}
+use Rattle.life_table.proofs.index.answer_by_blocks.Given as goal
+
+-- the lines so far give nothing
+abbrev pub invariant-loop-b : goal.invariant-loop-b
+invariant-loop-b l = All (GivesNothing l.symmetry l.site.vars.now (centre_of l.site) (others_of l.site)) (take (64 * l.b) l.lines)

@@ -1,0 +1,74 @@
+-- An index of the lines of a table: sets of lines, among which is each line that gives something at a cell.
+use Rattle.std.specs.Prelude.{◌≡◌, ◌≢◌, ℕ, ◌+◌, ◌-◌, ◌*◌, ◌<◌, ◌≤◌, ◌∷◌, [], List, All, Contains, take, drop, length, slice_index, slice_index_or, true, Option, Result, MatchOption, MatchResult}
+use Rattle.std.specs.Int.{bit_at}
+use Rattle.life_base.specs.declared.fault.Fault.{Fault}
+use Rattle.life_base.specs.declared.kind.Kind.TheVariants as kinds
+use Rattle.life_table.specs.Meaning.{Gives, GivesNothing, Decides, Becomes, Ambiguous}
+use Rattle.life_table.specs.Orders.{turn, reflected_turn, images}
+use Rattle.life_table.specs.Site.{centre_of, others_of}
+use Rattle.life_table.specs.Taking.{can_be_state}
+use Rattle.life_table.specs.declared.block.Block.{Block}
+use Rattle.life_table.specs.declared.image_list.Images.{Images}
+use Rattle.life_table.specs.declared.site.Site.{Site}
+use Rattle.life_table.specs.declared.table.Entry.{Entry}
+use Rattle.life_table.specs.declared.table.Entry.TheVariants as entries
+use Rattle.life_table.specs.declared.table.Symmetry.{Symmetry}
+use Rattle.life_table.specs.declared.table.Transition.{Transition}
+use Rattle.life_table.specs.declared.table.Var.{Var}
+use Rattle.life_table.specs.declared.turn.Turns.{Turns}
+
+-- what was in a set stays in it
+abbrev pub Stay : List ℕ → List ℕ → Type 0
+Stay old new = (i k : ℕ) → bit_at (slice_index old i) k ≡ 1 → bit_at (slice_index new i) k ≡ 1
+
+-- the entry of an input
+abbrev pub entry_at : List Entry → ℕ → Entry
+entry_at inputs p = slice_index_or inputs p (entries.Fixed 0)
+
+-- a line is in the set of each state that its entry at a place may be
+abbrev pub InSets : List Var → Entry → ℕ → ℕ → List ℕ → Type 0
+InSets vars entry p k sets = (s : ℕ) → s < 256 → can_be_state vars entry s ≡ true → bit_at (slice_index sets (256 * p + s)) k ≡ 1
+
+-- and in that of each place before it where it has another entry
+abbrev pub IsApart : List Entry → ℕ → ℕ → List ℕ → Type 0
+IsApart inputs p k apart = (q : ℕ) → q < p → entry_at inputs p ≢ entry_at inputs q → bit_at (slice_index apart (9 * p + q)) k ≡ 1
+
+pub record HasLine (vars : List Var) (inputs : List Entry) (k : ℕ) (block : Block) : Type 0 where
+  pub states : (p : ℕ) → p < length inputs → InSets vars (entry_at inputs p) p k block.sets
+  pub apart : (p : ℕ) → p < length inputs → IsApart inputs p k block.apart
+
+-- so are up to 64 lines, from a number on
+abbrev pub HasLines : List Var → List Transition → ℕ → Block → Type 0
+HasLines vars lines from block = (k : ℕ) (d : Transition) → k < 64 → from + k < length lines
+    → HasLine vars (slice_index_or lines (from + k) d).inputs k block
+
+-- the blocks have the first lines, 64 each
+abbrev pub AreBlocks : List Var → List Transition → List Block → Type 0
+AreBlocks vars lines blocks = (b : ℕ) (d : Block) → b < length blocks → HasLines vars lines (64 * b) (slice_index_or blocks b d)
+
+-- a line is in the sets of these states, and of each two places where they differ
+pub record MayFit (block : Block) (image : List ℕ) (k : ℕ) : Type 0 where
+  pub states : (p : ℕ) → p < length image → slice_index image p < 256 → bit_at (slice_index block.sets (256 * p + slice_index image p)) k ≡ 1
+  pub apart : (p q : ℕ) → p < length image → q < p → slice_index image p ≢ slice_index image q → bit_at (slice_index block.apart (9 * p + q)) k ≡ 1
+
+-- the cell before the image of that number: the turns come first, and then the reflected ones
+pub record IsImage (ways : Turns) (cells : List ℕ) (j : ℕ) (image : List ℕ) : Type 0 where
+  pub turned : j < ways.count → take (length cells) image ≡ slice_index cells 0 ∷ turn (drop 1 cells) (j * ways.step)
+  pub reflected : ways.count ≤ j → take (length cells) image ≡ slice_index cells 0 ∷ reflected_turn (drop 1 cells) ((j - ways.count) * ways.step)
+
+-- each image of the neighbours is there, behind the centre
+abbrev pub HasImages : Symmetry → Site → Images → Type 0
+HasImages symmetry site turned = (v : List ℕ) → Contains (images symmetry (others_of site)) v
+    → (j : ℕ) × (j < turned.count) × (take (length site.cells.now) (slice_index_or turned.cells j []) ≡ centre_of site ∷ v)
+
+module _ (symmetry : Symmetry) (vars : List Var) (centre : ℕ) (others : List ℕ) (lines : List Transition) where
+  -- each of 64 lines that gives something is in the set
+  abbrev pub MayGive : ℕ → ℕ → Type 0
+  MayGive from set = (k : ℕ) (d : Transition) → k < 64 → from + k < length lines
+      → (s : ℕ) → Gives symmetry vars (slice_index_or lines (from + k) d) centre others s → bit_at set k ≡ 1
+
+  -- the lines decide so, or those before a number give nothing
+  abbrev pub AnswersAmong : ℕ → Option (Result ℕ Fault) → Type 0
+  AnswersAmong end result = MatchOption result (All (GivesNothing symmetry vars centre others) (take end lines))
+      (λ answer. MatchResult answer (λ s. Decides symmetry vars centre others lines (Becomes s))
+      (λ fault. (fault.kind ≡ kinds.Ambiguous) × Decides symmetry vars centre others lines (Ambiguous fault.place.line)))

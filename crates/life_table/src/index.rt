@@ -1,0 +1,199 @@
+//! A table with an index of its lines.
+ghost use Rattle.std.specs.Prelude.{◌≡◌, ◌≢◌, ℕ, ◌+◌, ◌*◌, ◌<◌, ◌≤◌, ◌∷◌, [], List, Contains, length, take, drop, All, Option, MatchOption, MatchResult, slice_index, slice_index_or};
+ghost use Rattle.std.specs.Int.{bit_at};
+ghost use Rattle.life_table.specs.Meaning.{Gives, GivesNothing, Decides, Becomes, Ambiguous};
+ghost use Rattle.life_table.specs.Valid.{neighbour_count};
+ghost use Rattle.life_table.specs.Around.{cells_of};
+ghost use Rattle.life_table.specs.Orders.{images, family};
+ghost use Rattle.life_table.specs.Index.{AnswersAmong, MayGive, AreBlocks, HasImages};
+ghost use Rattle.life_table.specs.Site.{IsSite, IsLineAt, GoesRound, centre_of, others_of};
+ghost use Rattle.life_table.specs.declared.table.Symmetry.TheVariants.{Permute};
+
+use crate::block::{Block, LINES};
+use crate::found::Found;
+use crate::image_list::Images;
+use crate::next::{Neighbours, given_by};
+use crate::seen::Seen;
+use crate::site::Site;
+use crate::table::{Symmetry, Table, Transition};
+use crate::turn::turns_of;
+use life_base::{Fault, Kind, Place, State};
+use std::alloc::Global;
+use std::marker::Model;
+
+/// A table and an index of its first lines, by which those that give nothing at a cell are passed over, 64 at once. The rest is walked, as
+/// `Table::next` walks all. What is indexed is no part of its value: it is the table.
+#[derive(Drop)]
+pub struct Index<'a> {
+    table: &'a Table,
+    blocks: Vec<Block>,
+}
+
+impl<'a> Model for Index<'a> {
+    ghost use Rattle.life_table.specs.declared.table.Table.{Table as TableValue};
+    ghost use Rattle.life_table.specs.Index.{AreBlocks};
+
+    ghost Value = { TableValue };
+
+    ghost view = { λ index. index.table.now };
+
+    ghost invariant = { λ index. AreBlocks index.table.now.vars index.table.now.lines index.blocks.items };
+}
+
+// So many blocks are indexed at once.
+const GROWTH: usize = 8;
+
+/// The answer of the first line that gives anything, of at most 64 from a number on, if one of them does. Lines whose bit isn't set give
+/// nothing.
+fn answer_among(
+    symmetry: Symmetry,
+    site: &Site,
+    lines: &[Transition],
+    from: usize,
+    may: u64,
+) -> Option<Result<State, Fault>>
+    requires site { IsSite site.now }
+    requires turns { GoesRound site.now }
+    requires images { symmetry ≢ Symmetry.Permute → images symmetry (others_of site.now) ≡ family site.now.ways.reflect site.now.ways.step (others_of site.now) }
+    requires lines { All (IsLineAt site.now) lines.now }
+    requires from { from ≤ length lines.now }
+    requires may { MayGive symmetry site.now.vars.now (centre_of site.now) (others_of site.now) lines.now from may }
+    requires silent { All (GivesNothing symmetry site.now.vars.now (centre_of site.now) (others_of site.now)) (take from lines.now) }
+    ensures { AnswersAmong symmetry site.now.vars.now (centre_of site.now) (others_of site.now) lines.now (from + 64) result }
+{
+    for k in 0..LINES.min(lines.len() - from) {
+        if may >> k == 0 {
+            return None;
+        }
+        if may >> k & 1 == 1 {
+            let line = &lines[from + k];
+            match given_by(symmetry, site, line) {
+                Found::Nothing => {}
+                Found::One(state) => return Some(Ok(state)),
+                Found::Two => {
+                    return Some(Err(Fault {
+                        place: Place { line: line.line },
+                        kind: Kind::Ambiguous,
+                    }));
+                }
+            }
+        }
+    }
+    None
+}
+
+/// The answer of the first line that gives anything, if one does: of those that the blocks have by the blocks, and of the others one by one.
+fn answer_by_blocks(
+    symmetry: Symmetry,
+    site: &Site,
+    lines: &[Transition],
+    blocks: &[Block],
+    turned: &Images,
+) -> Option<Result<State, Fault>>
+    requires site { IsSite site.now }
+    requires turns { GoesRound site.now }
+    requires images { symmetry ≢ Symmetry.Permute → images symmetry (others_of site.now) ≡ family site.now.ways.reflect site.now.ways.step (others_of site.now) }
+    requires lines { All (IsLineAt site.now) lines.now }
+    requires blocks { AreBlocks site.now.vars.now lines.now blocks.now }
+    requires few { turned.now.count ≤ 16 }
+    requires each { HasImages symmetry site.now turned.now }
+    ensures { AnswersAmong symmetry site.now.vars.now (centre_of site.now) (others_of site.now) lines.now (length lines.now) result }
+{
+    for b in 0..lines.len() / LINES + 1 {
+        let may = if b < blocks.len() {
+            blocks[b].that_may_give(turned, site.cells.len())
+        } else {
+            u64::MAX
+        };
+        if let Some(answer) = answer_among(symmetry, site, lines, LINES * b, may) {
+            return Some(answer);
+        }
+    }
+    None
+}
+
+/// The next state of a cell by a table and blocks of its lines.
+fn next_by_blocks(table: &Table, blocks: &[Block], around: &Neighbours) -> Result<State, Fault>
+    requires neighbours { length (cells_of around.now) ≡ neighbour_count table.now.neighborhood + 1 }
+    requires orders { table.now.symmetry ≢ Symmetry.Permute }
+    requires blocks { AreBlocks table.now.vars table.now.lines blocks.now }
+    ensures { MatchResult result
+        (λ s. Decides table.now.symmetry table.now.vars (slice_index (cells_of around.now) 0) (drop 1 (cells_of around.now)) table.now.lines (Becomes s))
+        (λ fault. (fault.kind ≡ Kind.Ambiguous) × Decides table.now.symmetry table.now.vars (slice_index (cells_of around.now) 0) (drop 1 (cells_of around.now)) table.now.lines (Ambiguous fault.place.line)) }
+{
+    let cells = around.as_slice();
+    let vars = table.vars.as_slice();
+    let lines = table.lines.as_slice();
+    let seen = Seen::new(vars, &cells[1..]);
+    let ways = turns_of(table.symmetry, cells.len() - 1);
+    let site = Site {
+        vars,
+        cells,
+        seen: &seen,
+        ways,
+    };
+    let turned = Images::new(cells, ways);
+    match answer_by_blocks(table.symmetry, &site, lines, blocks, &turned) {
+        Some(answer) => answer,
+        None => Ok(cells[0]),
+    }
+}
+
+impl<'a> Index<'a> {
+    /// The table, with no line indexed.
+    pub fn new(alloc: Global, table: &'a Table) -> Index<'a>
+        ensures { result ≡ table.now }
+    {
+        Index {
+            table,
+            blocks: Vec::new(alloc),
+        }
+    }
+
+    /// The table.
+    pub fn table(&self) -> &'a Table
+        ensures { result.now ≡ self.now }
+    {
+        self.table
+    }
+
+    /// Indexes 64 lines more, if there are as many.
+    fn grow_by_block(&mut self)
+        ensures { self.new ≡ self.old }
+    {
+        let blocks = self.blocks.len();
+        if blocks <= self.table.lines.as_slice().len() / LINES {
+            let block = Block::new(self.table, LINES * blocks);
+            let _refused = self.blocks.push(block).is_err();
+        }
+    }
+
+    /// Indexes up to 512 more lines, with 19 KB for each 64. Under `permute` it indexes none. Where memory is refused it does without.
+    pub fn grow(&mut self)
+        ensures { self.new ≡ self.old }
+    {
+        if self.table.symmetry != Symmetry::Permute {
+            for _ in 0..GROWTH {
+                self.grow_by_block();
+            }
+        }
+    }
+
+    /// The next state of a cell, as `Table::next` answers it.
+    ///
+    /// # Errors
+    ///
+    /// `Ambiguous`, as there.
+    pub fn next(&self, around: &Neighbours) -> Result<State, Fault>
+        requires neighbours { length (cells_of around.now) ≡ neighbour_count self.now.neighborhood + 1 }
+        requires states { All (λ s. s < self.now.n_states) (cells_of around.now) }
+        ensures { MatchResult result
+            (λ s. Decides self.now.symmetry self.now.vars (slice_index (cells_of around.now) 0) (drop 1 (cells_of around.now)) self.now.lines (Becomes s))
+            (λ fault. (fault.kind ≡ Kind.Ambiguous) × Decides self.now.symmetry self.now.vars (slice_index (cells_of around.now) 0) (drop 1 (cells_of around.now)) self.now.lines (Ambiguous fault.place.line)) }
+    {
+        if self.blocks.is_empty() || self.table.symmetry == Symmetry::Permute {
+            return self.table.next(around);
+        }
+        next_by_blocks(self.table, self.blocks.as_slice(), around)
+    }
+}
