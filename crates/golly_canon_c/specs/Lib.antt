@@ -1,7 +1,1 @@
-pub mod Answers
-pub mod Comparing
-pub mod Stepping
 pub mod Naming
-pub mod Forms
-pub mod Owning
-pub mod Streams

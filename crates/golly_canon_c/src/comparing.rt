@@ -1,10 +1,8 @@
 //! The call that compares two files.
 
-ghost use Rattle.golly_canon_c.specs.Comparing.{ComparesWithin};
+ghost use Rattle.library_calls.specs.Comparing.{ComparesWithin};
 
-use crate::rooms::store_of;
-use crate::telling::refuse;
-use life_canon::same;
+use library_calls::same;
 use std::alloc::Global;
 
 /// Whether two files, each of either format, are one pattern: 1 or 0 in `is_same`. A refusal leaves 0 there.
@@ -20,16 +18,5 @@ pub extern "C" fn golly_canon_same(
 ) -> u32
     ensures { ComparesWithin limit first.now second.now (record { status = result; is_same = is_same.new; line = line.new }) }
 {
-    let mut store = store_of(alloc, limit, seed);
-    match same(alloc, &mut store, first, second) {
-        Ok(answer) => {
-            *is_same = if answer { 1 } else { 0 };
-            *line = 0;
-            0
-        }
-        Err(fault) => {
-            *is_same = 0;
-            refuse(&fault, line)
-        }
-    }
+    same(alloc, first, second, limit, seed, is_same, line)
 }

@@ -3,10 +3,10 @@
 ghost use Rattle.std.specs.Prelude.{◌≡◌, ◌≢◌, ◌==◌, [], codes, find};
 ghost use Rattle.life_base.specs.declared.kind.Kind.{Kind as KindValue};
 ghost use Rattle.life_base.specs.Kinds.{kind_number, kind_name};
-ghost use Rattle.golly_canon_c.specs.Answers.{Gives};
+ghost use Rattle.library_calls.specs.Told.{Gives};
 ghost use Rattle.golly_canon_c.specs.Naming.{status_name};
 
-use crate::telling::{NO_ROOM, give};
+use library_calls::{NO_ROOM, give};
 use life_base::Kind;
 
 /// The version of the program, and so of the library.

@@ -1,13 +1,11 @@
 //! The calls that give a text of one file.
 
-ghost use Rattle.std.specs.Prelude.{◌≡◌};
-ghost use Rattle.golly_canon_c.specs.Answers.{Answers, IsCanonicalText, IsRleText, RefusesWithin, RefusesRleWithin};
+ghost use Rattle.library_calls.specs.Answers.{IsCanonicalText, IsRleText, RefusesWithin, RefusesRleWithin};
+ghost use Rattle.library_calls.specs.Told.{Answers};
 ghost use Rattle.life_canon.specs.Texts.{IsShown};
 
-use crate::rooms::store_of;
-use crate::telling::tell;
+use library_calls::{canon, show, to_rle};
 use life_base::MAX_LEVEL;
-use life_canon::{canon, show, to_rle};
 use std::alloc::Global;
 
 /// The canonical text of the pattern of a file of either format.
@@ -23,9 +21,7 @@ pub extern "C" fn golly_canon_canon(
 ) -> u32
     ensures { Answers (IsCanonicalText bytes.now) (RefusesWithin limit bytes.now) line.new (record { before = out.old; after = out.new; needed = needed.new; status = result }) }
 {
-    let mut store = store_of(alloc, limit, seed);
-    let found = canon(alloc, &mut store, bytes);
-    tell(found, out, needed, line)
+    canon(alloc, bytes, limit, seed, out, needed, line)
 }
 
 /// The text in extended RLE of the pattern of a file of either format.
@@ -41,9 +37,7 @@ pub extern "C" fn golly_canon_to_rle(
 ) -> u32
     ensures { Answers (IsRleText bytes.now) (RefusesRleWithin limit bytes.now) line.new (record { before = out.old; after = out.new; needed = needed.new; status = result }) }
 {
-    let mut store = store_of(alloc, limit, seed);
-    let found = to_rle(alloc, &mut store, bytes);
-    tell(found, out, needed, line)
+    to_rle(alloc, bytes, limit, seed, out, needed, line)
 }
 
 /// Five lines on the pattern of a file of either format.
@@ -59,7 +53,5 @@ pub extern "C" fn golly_canon_show(
 ) -> u32
     ensures { Answers (IsShown MAX_LEVEL bytes.now) (RefusesWithin limit bytes.now) line.new (record { before = out.old; after = out.new; needed = needed.new; status = result }) }
 {
-    let mut store = store_of(alloc, limit, seed);
-    let found = show(alloc, &mut store, bytes);
-    tell(found, out, needed, line)
+    show(alloc, bytes, limit, seed, out, needed, line)
 }

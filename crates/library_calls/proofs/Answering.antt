@@ -1,0 +1,99 @@
+-- From what a call of the library answers to what its export tells.
+use Rattle.std.proofs.Common.{◌≡◌, ℕ, ◌^◌, ◌⊎◌, inl, inr, List, Some, ap, Result, Ok, Err, IfOk, IfErr}
+use Rattle.life_base.specs.Refusal.{fault_of}
+use Rattle.life_base.specs.declared.cell.TheConstants.{MAX_LEVEL}
+use Rattle.life_base.specs.declared.fault.Fault.{Fault}
+use Rattle.life_base.specs.declared.kind.Kind.TheVariants.{Full, TooManyCells}
+use Rattle.life_quad.specs.Store.{Nodes}
+use Rattle.life_canon.specs.Files.{Accepted, Reads, Refuses}
+use Rattle.life_canon.specs.Needs.{LacksFor}
+use Rattle.life_canon.specs.Store.{IsWant, RefusesIn}
+use Rattle.life_canon.specs.Texts.{HasMoreCells}
+use Rattle.life_canon.specs.Universe.{Universe}
+use Rattle.life_step.specs.Refusals.{LacksForStep, LacksForStepBy, LifeRefusal, TableRefusal}
+use Rattle.life_table.specs.declared.table.Table.{Table}
+use Rattle.library_calls.specs.Told.{Told, Gives, Tells, Answers, by_text, by_fault}
+use Rattle.library_calls.specs.Answers.{room_of, RefusesWithin, RefusesRleWithin}
+use Rattle.library_calls.specs.Comparing.{LacksForEither, RefusesEither}
+use Rattle.library_calls.specs.Stepping.{RefusesStepWithin, RefusesStepByWithin}
+
+-- a text or a fault, told
+pub answered : {X : Type 0} (items : X → List ℕ) (IsText : List ℕ → Type 0) (IsFault : Fault → Type 0) (line : ℕ) (told : Told) (r : Result X Fault)
+    → IfOk r (λ x. IsText (items x)) → IfErr r IsFault → IfOk r (λ x. Gives (items x) told) → IfOk r (λ _. line ≡ 0)
+    → IfErr r (λ fault. Tells fault line told) → Answers IsText IsFault line told
+answered items IsText IsFault line told (Ok x) is why gives no_line tells = by_text (items x) is gives no_line
+answered items IsText IsFault line told (Err fault) is why gives no_line tells = by_fault fault why tells
+
+-- two facts of one text
+pub both : {X : Type 0} (P Q : X → Type 0) (r : Result X Fault) → IfOk r P → IfOk r Q → IfOk r (λ x. P x × Q x)
+both P Q (Ok x) p q = (p, q)
+both P Q (Err fault) p q = tt
+
+-- why a call is refused, and what its store lacks where it has no room
+pub and-lacks : {X Lack : Type 0} (P : Fault → Type 0) (r : Result X Fault) → IfErr r P → (r ≡ Err (fault_of Full) → Lack)
+    → IfErr r (λ fault. P fault × (fault ≡ fault_of Full → Lack))
+and-lacks P (Ok x) p lacks = tt
+and-lacks P (Err fault) p lacks = (p, λ full. lacks (ap (λ (f : Fault). Err f) full))
+
+-- why a call is refused, by the limit of its store
+within : (limit : ℕ) (bytes : List ℕ) (store : Nodes) (fault : Fault) → store.limit ≡ room_of limit → RefusesIn MAX_LEVEL bytes store fault
+    → (fault ≡ fault_of Full → LacksFor MAX_LEVEL bytes store) → RefusesWithin limit bytes fault
+within limit bytes store fault is (inl refuses) lacks = inl refuses
+within limit bytes store fault is (inr want) lacks = inr (store, is, want, lacks)
+
+pub refused : {X : Type 0} (limit : ℕ) (bytes : List ℕ) (store : Nodes) (r : Result X Fault) → store.limit ≡ room_of limit
+    → IfErr r (RefusesIn MAX_LEVEL bytes store) → (r ≡ Err (fault_of Full) → LacksFor MAX_LEVEL bytes store) → IfErr r (RefusesWithin limit bytes)
+refused limit bytes store (Ok x) is h lacks = tt
+refused limit bytes store (Err fault) is h lacks = within limit bytes store fault is h (λ full. lacks (ap (λ (f : Fault). Err f) full))
+
+-- why two files aren't compared, by the limit of their store
+pub either : (limit : ℕ) (first second : List ℕ) (store : Nodes) (fault : Fault) → store.limit ≡ room_of limit
+    → Refuses MAX_LEVEL first fault ⊎ (Accepted MAX_LEVEL first × Refuses MAX_LEVEL second fault) ⊎ IsWant store fault
+    → (fault ≡ fault_of Full → LacksForEither first second store) → RefusesEither limit first second fault
+either limit first second store fault is (inl refuses) lacks = inl refuses
+either limit first second store fault is (inr (inl refuses)) lacks = inr (inl refuses)
+either limit first second store fault is (inr (inr want)) lacks = inr (inr (store, is, want, lacks))
+
+-- why a text in extended RLE is refused, by the limit of the store
+of_rle : (limit : ℕ) (bytes : List ℕ) (store : Nodes) (fault : Fault) → store.limit ≡ room_of limit
+    → RefusesIn MAX_LEVEL bytes store fault ⊎ ((fault ≡ fault_of TooManyCells) × HasMoreCells MAX_LEVEL bytes (2 ^ 20))
+    → (fault ≡ fault_of Full → LacksFor MAX_LEVEL bytes store) → RefusesRleWithin limit bytes fault
+of_rle limit bytes store fault is (inl why) lacks = inl (within limit bytes store fault is why lacks)
+of_rle limit bytes store fault is (inr many) lacks = inr many
+
+pub refused_rle : {X : Type 0} (limit : ℕ) (bytes : List ℕ) (store : Nodes) (r : Result X Fault) → store.limit ≡ room_of limit
+    → IfErr r (λ fault. RefusesIn MAX_LEVEL bytes store fault ⊎ ((fault ≡ fault_of TooManyCells) × HasMoreCells MAX_LEVEL bytes (2 ^ 20)))
+    → (r ≡ Err (fault_of Full) → LacksFor MAX_LEVEL bytes store) → IfErr r (RefusesRleWithin limit bytes)
+refused_rle limit bytes store (Ok x) is h lacks = tt
+refused_rle limit bytes store (Err fault) is h lacks = of_rle limit bytes store fault is h (λ full. lacks (ap (λ (f : Fault). Err f) full))
+
+-- why a step is refused, by the limit of the store
+of_step : (limit : ℕ) (bytes : List ℕ) (store : Nodes) (fault : Fault) → store.limit ≡ room_of limit
+    → Refuses MAX_LEVEL bytes fault ⊎ (IsWant store fault ⊎ ((u : Universe) × Reads MAX_LEVEL bytes u × LifeRefusal MAX_LEVEL u (Some fault)))
+    → (fault ≡ fault_of Full → LacksForStep bytes store) → RefusesStepWithin limit bytes fault
+of_step limit bytes store fault is (inl refuses) lacks = inl refuses
+of_step limit bytes store fault is (inr (inl want)) lacks = inr (inl (store, is, want, lacks))
+of_step limit bytes store fault is (inr (inr step)) lacks = inr (inr step)
+
+pub refused_step : {X : Type 0} (limit : ℕ) (bytes : List ℕ) (store : Nodes) (r : Result X Fault) → store.limit ≡ room_of limit
+    → IfErr r (λ fault. Refuses MAX_LEVEL bytes fault
+    ⊎ (IsWant store fault ⊎ ((u : Universe) × Reads MAX_LEVEL bytes u × LifeRefusal MAX_LEVEL u (Some fault))))
+    → (r ≡ Err (fault_of Full) → LacksForStep bytes store) → IfErr r (RefusesStepWithin limit bytes)
+refused_step limit bytes store (Ok x) is h lacks = tt
+refused_step limit bytes store (Err fault) is h lacks = of_step limit bytes store fault is h (λ full. lacks (ap (λ (f : Fault). Err f) full))
+
+-- the same by a table
+of_step_by : (table : Table) (limit : ℕ) (bytes : List ℕ) (store : Nodes) (fault : Fault) → store.limit ≡ room_of limit
+    → Refuses MAX_LEVEL bytes fault ⊎ (IsWant store fault ⊎ ((u : Universe) × Reads MAX_LEVEL bytes u × TableRefusal MAX_LEVEL table u (Some fault)))
+    → (fault ≡ fault_of Full → LacksForStepBy table bytes store) → RefusesStepByWithin table limit bytes fault
+of_step_by table limit bytes store fault is (inl refuses) lacks = inl refuses
+of_step_by table limit bytes store fault is (inr (inl want)) lacks = inr (inl (store, is, want, lacks))
+of_step_by table limit bytes store fault is (inr (inr step)) lacks = inr (inr step)
+
+pub refused_step_by : {X : Type 0} (table : Table) (limit : ℕ) (bytes : List ℕ) (store : Nodes) (r : Result X Fault) → store.limit ≡ room_of limit
+    → IfErr r (λ fault. Refuses MAX_LEVEL bytes fault
+    ⊎ (IsWant store fault ⊎ ((u : Universe) × Reads MAX_LEVEL bytes u × TableRefusal MAX_LEVEL table u (Some fault))))
+    → (r ≡ Err (fault_of Full) → LacksForStepBy table bytes store) → IfErr r (RefusesStepByWithin table limit bytes)
+refused_step_by table limit bytes store (Ok x) is h lacks = tt
+refused_step_by table limit bytes store (Err fault) is h lacks =
+    of_step_by table limit bytes store fault is h (λ full. lacks (ap (λ (f : Fault). Err f) full))

@@ -1,0 +1,20 @@
+use Rattle.std.proofs.Common.{◌++◌, ◌∙◌, ap, subst}
+use Rattle.std.proofs.lemmas.Result.{err_from_is_err_and}
+use Rattle.life_base.specs.declared.cell.TheConstants.{MAX_LEVEL}
+use Rattle.life_base.specs.declared.fault.Fault.{Fault}
+use Rattle.life_canon.specs.Feeding.{RefusesFront}
+use Rattle.library_calls.specs.Forms.{Piecewise, RefusesPiece}
+use Rattle.library_calls.proofs.StreamFacts.{piece-fault}
+use Rattle.library_calls.proofs.feeding.Feeding.fed.Goals as goal
+
+pub returns-in_err-feed-clause-fault : goal.returns-in_err-feed-clause-fault
+returns-in_err-feed-clause-fault c =
+    let p = err_from_is_err_and c.from_residual.result c.from_residual.ensures.1 in
+    rw (p.1, p.2) (λ limit is. subst (λ (v : Piecewise). RefusesPiece limit (v.bytes ++ c.args.piece.now) c.in_err-feed.field-0.0) c.self.view_is
+    (piece-fault limit _ c.feed.new.store c.in_err-feed.field-0.0 (c.feed.ensures.keeps.limit ∙ ap (λ (v : Piecewise). v.room) c.self.view_is ∙ is)
+    (c.in_err-feed.ensures.fault c.self.invariant.0) (λ e. c.in_err-feed.ensures.needed (cc))))
+
+pub returns-clause-front : goal.returns-clause-front
+returns-clause-front c =
+    subst (λ (v : Piecewise). (fault : Fault) → ¬ RefusesFront MAX_LEVEL (v.bytes ++ c.args.piece.now) fault) c.self.view_is (λ fault refuses.
+    c.in_ok-feed.ensures.front fault (rw c.in_ok-feed.ensures.bytes refuses))

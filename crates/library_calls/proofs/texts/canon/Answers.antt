@@ -1,0 +1,16 @@
+use Rattle.std.proofs.Common.{◌∙◌}
+use Rattle.life_base.specs.declared.cell.TheConstants.{MAX_LEVEL}
+use Rattle.life_canon.specs.Least.{IsLeastText}
+use Rattle.life_canon.specs.Texts.{IsCanonical}
+use Rattle.library_calls.specs.Answers.{IsCanonicalText, RefusesWithin}
+use Rattle.library_calls.proofs.Answering.{answered, both, refused}
+use Rattle.library_calls.proofs.texts.canon.Goals as goal
+
+pub returns : goal.returns
+returns c =
+    answered (λ text. text.items) (IsCanonicalText c.args.bytes.now) (RefusesWithin c.args.limit c.args.bytes.now) _ _ c.canon-found.result
+    (both (λ text. IsCanonical MAX_LEVEL c.args.bytes.now text.items) (λ text. IsLeastText MAX_LEVEL c.args.bytes.now text.items) c.canon-found.result
+    c.canon-found.ensures.text c.canon-found.ensures.least)
+    (refused c.args.limit c.args.bytes.now c.canon-found.new.store c.canon-found.result
+    (c.canon-found.ensures.keeps.limit ∙ c.store_of-store.ensures) c.canon-found.ensures.fault c.canon-found.ensures.needed)
+    c.tell.ensures.gives c.tell.ensures.no_line c.tell.ensures.tells

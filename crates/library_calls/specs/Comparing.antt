@@ -1,0 +1,36 @@
+-- What the comparison of two files tells.
+use Rattle.std.specs.Prelude.{◌≡◌, ◌⊎◌, ℕ, List}
+use Rattle.life_base.specs.Kinds.{kind_number}
+use Rattle.life_base.specs.declared.cell.TheConstants.{MAX_LEVEL}
+use Rattle.life_base.specs.declared.fault.Fault.{Fault}
+use Rattle.life_quad.specs.Store.{Nodes}
+use Rattle.life_canon.specs.Files.{Accepted, Same, Refuses}
+use Rattle.life_canon.specs.Needs.{LacksFor}
+use Rattle.library_calls.specs.Answers.{Wants}
+
+-- the status and the numbers that are told
+pub record Compared : Type 0 where
+  pub status : ℕ
+  pub is_same : ℕ
+  pub line : ℕ
+
+-- 1 where the files are one pattern, and 0 where they aren't
+abbrev pub IsAnswerOf : List ℕ → List ℕ → ℕ → Type 0
+IsAnswerOf first second is_same = ((is_same ≡ 1) × Same MAX_LEVEL first second) ⊎ ((is_same ≡ 0) × (¬ Same MAX_LEVEL first second))
+
+-- the store lacks a square that the first file needs, or that the second one needs, where the first is a file
+abbrev pub LacksForEither : List ℕ → List ℕ → Nodes → Type 0
+LacksForEither first second store = LacksFor MAX_LEVEL first store ⊎ (Accepted MAX_LEVEL first × LacksFor MAX_LEVEL second store)
+
+-- why two files aren't compared: the first is none, or the second, or room or memory is wanted
+abbrev pub RefusesEither : ℕ → List ℕ → List ℕ → Fault → Type 0
+RefusesEither limit first second fault =
+    Refuses MAX_LEVEL first fault ⊎ (Accepted MAX_LEVEL first × Refuses MAX_LEVEL second fault)
+    ⊎ Wants (LacksForEither first second) limit fault
+
+-- both are files, and the answer is told; or the fault that keeps it from being found
+pub data ComparesWithin (limit : ℕ) (first second : List ℕ) (told : Compared) : Type 0 where
+  by_answer : told.status ≡ 0 → told.line ≡ 0 → Accepted MAX_LEVEL first → Accepted MAX_LEVEL second → IsAnswerOf first second told.is_same
+      → ComparesWithin limit first second told
+  by_fault : (fault : Fault) → told.status ≡ kind_number fault.kind → told.line ≡ fault.place.line → told.is_same ≡ 0
+      → RefusesEither limit first second fault → ComparesWithin limit first second told

@@ -1,0 +1,36 @@
+-- The text that a stream gives at its end: that of the call on a file held whole.
+use Rattle.std.specs.Prelude.{◌⊎◌, ℕ, List}
+use Rattle.life_base.specs.declared.cell.TheConstants.{MAX_LEVEL}
+use Rattle.life_base.specs.declared.fault.Fault.{Fault}
+use Rattle.life_canon.specs.Feeding.{RefusesFront}
+use Rattle.life_canon.specs.Needs.{LacksForFront}
+use Rattle.life_canon.specs.Texts.{IsShown}
+use Rattle.library_calls.specs.Answers.{IsCanonicalText, IsRleText, RefusesWithin, RefusesRleWithin, Wants}
+use Rattle.life_step.specs.Stepped.{IsStepped}
+use Rattle.library_calls.specs.Stepping.{RefusesStepWithin}
+use Rattle.library_calls.specs.declared.form.Form.{Form}
+use Rattle.library_calls.specs.declared.form.Form.TheVariants.{Canonical, Rle, Lines, Next}
+
+-- the text is the one that this form asks of the bytes
+abbrev pub IsTextOf : Form → List ℕ → List ℕ → Type 0
+IsTextOf Canonical = IsCanonicalText
+IsTextOf Rle = IsRleText
+IsTextOf Lines = IsShown MAX_LEVEL
+IsTextOf Next = IsStepped
+
+-- why the bytes have none, within a limit of the store
+abbrev pub RefusesTextOf : Form → ℕ → List ℕ → Fault → Type 0
+RefusesTextOf Canonical = RefusesWithin
+RefusesTextOf Rle = RefusesRleWithin
+RefusesTextOf Lines = RefusesWithin
+RefusesTextOf Next = RefusesStepWithin
+
+-- no file goes on from these bytes, or room or memory is wanted for their lines that have ended
+abbrev pub RefusesPiece : ℕ → List ℕ → Fault → Type 0
+RefusesPiece limit bytes fault = RefusesFront MAX_LEVEL bytes fault ⊎ Wants (LacksForFront MAX_LEVEL bytes) limit fault
+
+-- What contracts see of a file that comes in pieces: which text its end gives, how many squares its store may hold, and the bytes that came.
+pub record Piecewise : Type 0 where
+  pub form : Form
+  pub room : ℕ
+  pub bytes : List ℕ

@@ -1,0 +1,75 @@
+-- What a stream holds, and what the calls on it tell of the bytes that were fed.
+use Rattle.std.specs.Prelude.{◌≡◌, ◌⊎◌, ℕ, Option, Some, None, List, []}
+use Rattle.life_base.specs.Kinds.{kind_number}
+use Rattle.life_base.specs.declared.cell.TheConstants.{MAX_LEVEL}
+use Rattle.life_base.specs.declared.fault.Fault.{Fault}
+use Rattle.life_base.specs.declared.kind.Kind.TheVariants.{Memory, Spent}
+use Rattle.life_canon.specs.Feeding.{RefusesFront}
+use Rattle.library_calls.specs.Told.{Told, Gives, Tells}
+use Rattle.library_calls.specs.Answers.{room_of}
+use Rattle.library_calls.specs.Forms.{IsTextOf, RefusesTextOf, RefusesPiece}
+use Rattle.library_calls.specs.declared.form.Form.{Form}
+use Rattle.library_calls.specs.declared.session.Session.{Session}
+use Rattle.library_calls.specs.declared.session.Session.TheVariants.{Reading, Written, Refused}
+use Rattle.library_calls.specs.declared.stream.Stream.{Stream}
+
+-- the session of a stream, and none where it is closed
+abbrev pub session_of : Stream → Option Session
+session_of stream = stream.held.session
+
+-- the stream is open, and this holds of its session
+abbrev pub IsOpen : (Session → Type 0) → Option Session → Type 0
+IsOpen Holds None = ⊥
+IsOpen Holds (Some session) = Holds session
+
+-- the bytes were fed to the session, whose end gives a text of this form, and whose store has the room of this limit
+abbrev pub IsFed : Form → ℕ → List ℕ → Session → Type 0
+IsFed form limit bytes (Reading feeding) = (feeding.form ≡ form) × (feeding.room ≡ room_of limit) × (feeding.bytes ≡ bytes)
+IsFed form limit bytes (Written text) = ⊥
+IsFed form limit bytes (Refused fault) = ⊥
+
+-- the session has this text
+abbrev pub HasText : List ℕ → Session → Type 0
+HasText text (Reading feeding) = ⊥
+HasText text (Written written) = written.items ≡ text
+HasText text (Refused fault) = ⊥
+
+-- the session was refused with this fault
+abbrev pub HasFault : Fault → Session → Type 0
+HasFault fault (Reading feeding) = ⊥
+HasFault fault (Written text) = ⊥
+HasFault fault (Refused refused) = refused ≡ fault
+
+-- the stream is open, and no byte was fed; or memory was refused, and it is closed
+abbrev pub Opens : Form → ℕ → ℕ → Option Session → Type 0
+Opens form limit status session = ((status ≡ 0) × IsOpen (IsFed form limit []) session) ⊎ ((status ≡ kind_number Memory) × (session ≡ None))
+
+-- What a piece makes of a session, with which the bytes are these: they were fed, and have no fault that can be told; or their fault.
+pub data Takes (form : Form) (limit : ℕ) (bytes : List ℕ) (session : Session) : Type 0 where
+  by_piece : IsFed form limit bytes session → ((fault : Fault) → ¬ RefusesFront MAX_LEVEL bytes fault) → Takes form limit bytes session
+  by_fault : (fault : Fault) → HasFault fault session → RefusesPiece limit bytes fault → Takes form limit bytes session
+
+-- what the end makes of it: the text of the bytes, or their fault
+pub data Ends (form : Form) (limit : ℕ) (bytes : List ℕ) (session : Session) : Type 0 where
+  by_text : (text : List ℕ) → HasText text session → IsTextOf form bytes text → Ends form limit bytes session
+  by_fault : (fault : Fault) → HasFault fault session → RefusesTextOf form limit bytes fault → Ends form limit bytes session
+
+-- the call doesn't fit the stream
+abbrev pub IsSpent : (status line : ℕ) → Type 0
+IsSpent status line = (status ≡ kind_number Spent) × (line ≡ 0)
+
+-- what `feed` tells of the session: that it was fed; a fault; or that its end came before
+abbrev pub TellsPiece : (status line : ℕ) → Session → Type 0
+TellsPiece status line (Reading feeding) = (status ≡ 0) × (line ≡ 0)
+TellsPiece status line (Written text) = IsSpent status line
+TellsPiece status line (Refused fault) = (status ≡ kind_number fault.kind) × (line ≡ fault.place.line)
+
+-- no text is given, as the call doesn't fit the stream
+abbrev pub TellsNothing : (line : ℕ) → Told → Type 0
+TellsNothing line told = IsSpent told.status line × (told.needed ≡ 0) × (told.after ≡ told.before)
+
+-- what `finish` tells of the session: its text or its fault
+abbrev pub TellsEnd : (line : ℕ) → Told → Session → Type 0
+TellsEnd line told (Reading feeding) = TellsNothing line told
+TellsEnd line told (Written text) = Gives text.items told × (line ≡ 0)
+TellsEnd line told (Refused fault) = Tells fault line told

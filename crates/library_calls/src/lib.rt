@@ -1,0 +1,26 @@
+//! The calls of the library for C: on slices of bytes, with the answers in memory of the caller. The exports of `golly_canon_c` hand on to
+//! them, and no call takes or gives more than C can.
+//!
+//! A call touches nothing but its arguments and what an open stream holds: calls on different memory and streams run side by side.
+#![tactic(auto)]
+
+mod comparing;
+mod feeding;
+mod form;
+mod held;
+mod pieces;
+mod rooms;
+mod seeding;
+mod session;
+mod stepping;
+mod stream;
+mod streams;
+mod telling;
+mod texts;
+
+pub use comparing::same;
+pub use stepping::{step, step_by_table};
+pub use stream::Stream;
+pub use streams::{close, feed, finish, open_canon, open_show, open_step, open_to_rle};
+pub use telling::{NO_ROOM, give};
+pub use texts::{canon, show, to_rle};
