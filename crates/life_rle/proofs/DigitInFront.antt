@@ -49,7 +49,8 @@ number_at level line text at number count inside digit whole value e =
       told =
           ap (next_of level) parts ∙ digits_in_front level (get_or line at 0) (drop (at + 1) line) digit
           ∙ ap (λ t. counted level (front_digits t) (behind_digits t)) (sym parts)
-          ∙ ap (counted level (front_digits (drop at line))) (drop-drop (prefix_len is_ascii_digit (drop at line)) at line ∙ ap (λ n. drop (at + n) line) (sym end));
+          ∙ ap (counted level (front_digits (drop at line)))
+          (drop-drop (prefix_len is_ascii_digit (drop at line)) at line ∙ ap (λ n. drop (at + n) line) (sym end));
     }
 
 -- a digit in front of a byte that is none

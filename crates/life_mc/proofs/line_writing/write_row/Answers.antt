@@ -8,6 +8,7 @@ returns-clause-written c =
     let at = c.args.at in
     let text = c.copy_from_slice.new.self in
     let nine : length text ≡ 9 = ap (λ (t : List ℕ). length t) c.copy_from_slice.ensures.after ∙ c.row_bytes.ensures.nine in
-    within-part room text at c.row_length.result (omega (arith, c.told-room)) (omega (arith, nine, c.row_length.ensures.within)) (at + 9 - at) (omega (arith, nine))
+    within-part room text at c.row_length.result (omega (arith, c.told-room)) (omega (arith, nine, c.row_length.ensures.within)) (at + 9 - at)
+    (omega (arith, nine))
     ∙ ap (λ t. take at room ++ take c.row_length.result t) c.copy_from_slice.ensures.after
     ∙ ap (λ n. take at room ++ take n c.row_bytes.result.now) c.row_length.ensures.text ∙ ap (λ t. take at room ++ t) c.row_bytes.ensures.text
