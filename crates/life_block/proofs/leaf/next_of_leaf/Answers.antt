@@ -1,4 +1,4 @@
-use Rattle.std.proofs.Common.{◌≡◌, inl, inr, ℤ, ℕ, ◌∙◌, refl, subst, arith}
+use Rattle.std.proofs.Common.{◌≡◌, inl, inr, ℤ, ℕ, ◌∙◌, subst, arith}
 use Rattle.std.proofs.lemmas.Int.{ints}
 use Rattle.std.proofs.lemmas.Result.{IfOk-weaker}
 use Rattle.life_base.specs.Tree.{Tree}
@@ -7,7 +7,6 @@ use Rattle.life_quad.specs.Refused.{SomePart}
 use Rattle.life_quad.specs.Store.{four}
 use Rattle.life_quad.proofs.KeepingLemmas.{keeps-then}
 use Rattle.life_sweep.specs.Generation.{next_life}
-use Rattle.life_block.specs.Needed.{square_from}
 use Rattle.life_block.specs.Pieces.{IsBinary, AreSixteen, back, ahead}
 use Rattle.life_block.proofs.BandLemmas.{HasBand-moved}
 use Rattle.life_block.proofs.NeedLemmas.{AreParts, is-piece, joined-is, own-part, quarter-part, still-needs}
