@@ -750,7 +750,7 @@ NAMED_SPECKS = repeated(b"1 1 0 0 0\n", 1, 8)
 
 @once
 def mixed_blocks():
-    """The node lines of about 2^20 cells in blocks: 400 chains of 48 levels, and above them squares of four others, all at random."""
+    """The node lines of 786,432 cells in blocks: 400 chains of 48 levels, and above them squares of four others, all at random."""
     order, nodes = random.Random(5), Nodes()
     squares = []
     for _ in range(400):
@@ -758,9 +758,9 @@ def mixed_blocks():
         squares.append(nodes.join(3, leaf(sum(3 << 56 - 8 * (y + j) + 6 - x for j in (0, 1)))))
     for level in range(4, 52):
         squares = [nodes.join(level, *order.sample((square, 0, 0, 0), 4)) for square in squares]
-    for level in range(52, 61):
-        squares = [nodes.join(level, *order.choices(squares, k=4)) for _ in range(2700)]
-    yield from gathered(nodes.lines(nodes.join(61, *squares[:3], 0)))
+    for level in range(52, 60):
+        squares = [nodes.join(level, *order.choices(squares, k=4)) for _ in range(12_000)]
+    yield from gathered(nodes.lines(nodes.join(60, *squares[:3], 0)))
 
 
 def block_cells():
@@ -785,6 +785,10 @@ FEW_LINES = [
     few_lines("2^20 cells in 60 lines that stay", BLOCKS, LIFE + b"#G 1\n" + BLOCKS, "step input"),
     few_lines("786,432 cells in 60 lines that turn", BLINKERS, LIFE + b"#G 1\n" + TURNED_BLINKERS, "step input"),
     few_lines("2^20 single cells in 60 lines that die", SPECKS, LIFE + b"#G 1\n", "step input"),
+    few_lines("2^20 cells of the whole plane that stay", of_the_plane(BLOCKS), LIFE + b"#G 1\n" + of_the_plane(BLOCKS), "step input"),
+    few_lines("786,432 cells of the whole plane that turn", of_the_plane(BLINKERS), LIFE + b"#G 1\n" + of_the_plane(TURNED_BLINKERS), "step input"),
+    few_lines("2^20 single cells of the whole plane that die", of_the_plane(SPECKS), LIFE + b"#G 1\n", "step input"),
+    accepted("40,000 lines of chains at random, of 786,432 cells that stay", [LIFE, mixed_blocks], [LIFE + b"#G 1\n", mixed_blocks], "step input", each=1),
     few_lines("2^16 single cells in 60 lines that stay by a table", NAMED_SPECKS, canonical(b"Still", 1) + NAMED_SPECKS,
               "step input --table still.rule", STILL, b"Still", each=4000),
 ]

@@ -5,6 +5,7 @@ pub mod LeastLemmas
 pub mod NeedLemmas
 pub mod PieceLemmas
 pub mod PlaceLemmas
+pub mod PlaneLemmas
 pub mod RememberedLemmas
 pub mod RootLemmas
 pub mod Rows

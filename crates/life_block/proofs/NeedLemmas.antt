@@ -35,7 +35,7 @@ unfolding square_from
 depth-square f zero x y = refl
 depth-square f (suc k) x y = ap suc (depth-square f k x y)
 
-square-piece : (f : ℤ → ℤ → ℕ) (k : ℕ) (x y : ℤ) → IsPiece f x y (square_from f k x y)
+pub square-piece : (f : ℤ → ℤ → ℕ) (k : ℕ) (x y : ℤ) → IsPiece f x y (square_from f k x y)
 unfolding square_from
 square-piece f zero x y = refl
 square-piece f (suc k) x y =

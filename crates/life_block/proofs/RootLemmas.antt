@@ -1,5 +1,5 @@
 -- A square about the middle of the plane, its pieces, and the four corners of the square one level higher.
-use Rattle.std.proofs.Common.{◌≡◌, inl, inr, ℕ, zero, suc, ◌+◌, ◌-◌, ◌^◌, ◌<◌, ◌≤◌, Bool, true, false, true≢false, ℤ, pos, neg_ℤ, ◌+ℤ◌, ◌≤ℤ◌, ◌<ℤ◌, List, refl, sym, ◌∙◌, ap, subst, arith, add-one}
+use Rattle.std.proofs.Common.{◌≡◌, ◌≢◌, ◌⊎◌, inl, inr, ℕ, zero, suc, ◌+◌, ◌-◌, ◌^◌, ◌<◌, ◌≤◌, Bool, true, false, true≢false, ℤ, pos, neg_ℤ, ◌+ℤ◌, ◌≤ℤ◌, ◌<ℤ◌, List, refl, sym, ◌∙◌, ap, subst, arith, add-one}
 use Rattle.std.proofs.lemmas.Int.{ints}
 use Rattle.std.proofs.lemmas.Bool.{cases_lt}
 use Rattle.std.proofs.Math.Pow.{pow_pos}
@@ -13,11 +13,14 @@ use Rattle.life_quad.specs.declared.id.Id.{Id}
 use Rattle.life_quad.specs.declared.moves.Quarters.{Quarters}
 use Rattle.life_block.specs.declared.grid.Corner.TheVariants.{NorthWest, NorthEast, SouthWest, SouthEast}
 use Rattle.life_block.specs.declared.grid.Four.{Four}
-use Rattle.life_sweep.specs.Generation.{next_life}
-use Rattle.life_block.specs.Needed.{square_from}
-use Rattle.life_block.specs.Pieces.{Sixteen, IsPiece, IsAt, InFour, InSixteen, AreFour, AreSixteen, back, ahead, four_of, at_corner}
+use Rattle.life_sweep.specs.Generation.{before, after, next_life}
+use Rattle.life_block.specs.Needed.{HasClearEdge, square_from}
+use Rattle.life_block.specs.Pieces.{Sixteen, IsPiece, IsAt, InFour, InSixteen, AreFour, AreSixteen, back, ahead, four_of, at_corner, in_middle}
 use Rattle.life_block.proofs.NeedLemmas.{SomeOfFour, quarter-part}
 use Rattle.life_block.proofs.PieceLemmas.{twice, IsPiece-moved, AreFour-moved, IsAt-kept, IsPiece-kept, blank-of_zero, next-zero}
+
+zero-or-not : (n : ℕ) → (n ≡ 0) ⊎ (n ≢ 0)
+zero-or-not n = grind arith
 
 double : (n : ℕ) → 2 ^ suc n ≡ 2 ^ n + 2 ^ n
 double n = grind arith
@@ -188,6 +191,60 @@ root-next rule t r quiet high full level piece x y = by (is_inside (half_side r)
           north = omega (arith, ints, halves, some, i.north, d);
           south = omega (arith, ints, halves, some, i.south, c);
         }))))
+
+-- outside a square whose edge is clear the next states are 0
+pub next-outside : (rule : OuterTotalistic) (t : Tree) → has_digit rule.sets.births 0 ≡ false → HasClearEdge t → (x y : ℤ)
+    → (Inside (half_side t) x y → ⊥) → next_life rule (tree_cell t) x y ≡ 0
+next-outside rule t quiet clear x y apart = next-zero rule (tree_cell t) x y quiet (λ u v a b c d. by u v a b c d (zero-or-not (tree_cell t u v)))
+  where
+    by : (u v : ℤ) → before x ≤ℤ u → u ≤ℤ after x → before y ≤ℤ v → v ≤ℤ after y → (tree_cell t u v ≡ 0) ⊎ (tree_cell t u v ≢ 0) → tree_cell t u v ≡ 0
+    by u v a b c d (inl e) = e
+    by u v a b c d (inr n) =
+        let i = clear u v n in
+        let west = i.0 in
+        let east = i.1 in
+        let north = i.2 in
+        let south = i.3 in
+        absurd (apart (record {
+          west = omega (arith, ints, west, b);
+          east = omega (arith, ints, east, a);
+          north = omega (arith, ints, north, d);
+          south = omega (arith, ints, south, c);
+        }))
+
+-- a square whose edge is clear, with the next states of its own places
+pub plane-next : (rule : OuterTotalistic) (t r : Tree) → has_digit rule.sets.births 0 ≡ false → 1 ≤ depth t → IsFull r → depth r ≡ depth t → HasClearEdge t
+    → IsPiece (next_life rule (tree_cell t)) (corner t) (corner t) r → (x y : ℤ) → tree_cell r x y ≡ next_life rule (tree_cell t) x y
+plane-next rule t r quiet high full level clear piece x y = by (is_inside (half_side r) x y) refl
+  where
+    next : ℤ → ℤ → ℕ
+    next = next_life rule (tree_cell t)
+
+    whole : half_side r + half_side r ≡ 2 ^ depth r
+    whole = side (depth r) (omega (arith, high, level))
+
+    halves : half_side t ≡ half_side r
+    halves = ap (λ n. 2 ^ (n - 1)) (sym level)
+
+    from : corner t ≡ corner r
+    from = ap (λ n. neg_ℤ (pos n)) halves
+
+    by : (b : Bool) → is_inside (half_side r) x y ≡ b → tree_cell r x y ≡ next_life rule (tree_cell t) x y
+    by true e =
+        let k = inside_facts (half_side r) x y e in
+        let a = inside_offset (half_side r) x k.west k.east in
+        let b = inside_offset (half_side r) y k.north k.south in
+        let at-x = a.1 in
+        let at-y = b.1 in
+        let ex : corner r +ℤ pos a.0 ≡ x = omega (arith, ints, at-x) in
+        let ey : corner r +ℤ pos b.0 ≡ y = omega (arith, ints, at-y) in
+        cell_inside r x y a.0 b.0 e a.1 b.1 ∙ cells-of_piece (next_life rule (tree_cell t)) r (corner r) (corner r) full
+        (IsPiece-moved next _ _ _ _ r from from piece) a.0 b.0 (omega (arith, whole, a.2)) (omega (arith, whole, b.2))
+        ∙ (λ z. next_life rule (tree_cell t) (ex z) (ey z))
+    by false e =
+        cell_outside r x y e
+        ∙ sym (next-outside rule t quiet clear x y
+        (λ i. true≢false (sym (inside_test (half_side r) x y (subst (λ n. Inside n x y) halves i)) ∙ e)))
 
 -- ---- the quarters of a square in a corner of sixteen squares
 
@@ -378,6 +435,21 @@ module _ (knows : Id → Type 0) (content : Id → Tree) (cells : ℤ → ℤ �
   pieces-north_west : AreSixteen content cells (2 ^ k) (ahead start (2 ^ k)) (ahead start (2 ^ k)) (at_corner NorthWest q b)
   pieces-north_west = in_north _ _ _ (west-row _ _ _ h.nw h.ne) (west-row _ _ _ h.sw h.se)
 
+  -- two squares in the middle of a row
+  middle-row : (y : ℤ) (a c : Id) → IsPiece cells start y (content a) → IsPiece cells (ahead start (2 ^ k)) y (content c)
+      → AreFour content cells (2 ^ k) start y (four_of b a c b)
+  middle-row y a c pa pc =
+      record { first = to-west _ y (omega (arith, ints)); second = pa; third = pc; fourth = to-east _ y (omega (arith, ints)) }
+
+  pieces-in_middle : AreSixteen content cells (2 ^ k) start start (in_middle q b)
+  pieces-in_middle =
+      record {
+        first = no-north _ _ (omega (arith, ints));
+        second = middle-row _ _ _ h.nw h.ne;
+        third = middle-row _ _ _ h.sw h.se;
+        fourth = no-south _ _ (omega (arith, ints));
+      }
+
 -- ---- the square one level higher
 
 -- a square, its quarters, and a blank square of their level
@@ -424,6 +496,10 @@ module _ {knows : Id → Type 0} {content : Id → Tree} {t : Tree} {k : ℕ} {q
   pub around-south_east : {s : Sixteen} → s ≡ at_corner NorthWest q b → AreSixteen content (tree_cell t) (2 ^ k) (ahead (outer t) (2 ^ depth t))
       (ahead (outer t) (2 ^ depth t)) s
   around-south_east e = at e middle middle (pieces-north_west knows content (tree_cell t) k (corner t) q b d.quarters alone)
+
+  -- and about its own middle
+  pub around-in_middle : {s : Sixteen} → s ≡ in_middle q b → AreSixteen content (tree_cell t) (2 ^ k) (corner t) (corner t) s
+  around-in_middle e = at e refl refl (pieces-in_middle knows content (tree_cell t) k (corner t) q b d.quarters alone)
 
   -- a part of a square about each corner is one of the square one level higher
   pub corner-part : (P : Tree → Type 0) (f : ℤ → ℤ → ℕ) → SomeOfFour P f (suc k) (2 ^ depth t) (outer t) (outer t)

@@ -59,6 +59,10 @@ at_corner NorthEast q b = four_of (four_of b b q.nw q.ne) (four_of b b q.sw q.se
 at_corner SouthWest q b = four_of (four_of b b b b) (four_of b b b b) (four_of q.nw q.ne b b) (four_of q.sw q.se b b)
 at_corner SouthEast q b = four_of (four_of b b b b) (four_of b b b b) (four_of b b q.nw q.ne) (four_of b b q.sw q.se)
 
+-- four quarters in the middle of sixteen squares that are another square everywhere else
+abbrev pub in_middle : Quarters → Id → Sixteen
+in_middle q b = four_of (four_of b b b b) (four_of b q.nw q.ne b) (four_of b q.sw q.se b) (four_of b b b b)
+
 -- a known square of this level
 pub record IsAt (knows : Id → Type 0) (content : Id → Tree) (k : ℕ) (id : Id) : Type 0 where
   pub known : knows id

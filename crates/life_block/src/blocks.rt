@@ -5,11 +5,11 @@ ghost use Rattle.life_base.specs.Tree.{depth, tree_cell};
 ghost use Rattle.life_quad.specs.Refused.{SomePart};
 ghost use Rattle.life_quad.specs.Keeping.{KeepsSquares, IsWantKind};
 ghost use Rattle.life_sweep.specs.Generation.{next_life};
-ghost use Rattle.life_block.specs.Needed.{square_from, next_square};
+ghost use Rattle.life_block.specs.Needed.{HasClearEdge, square_from, next_plane, next_square};
 ghost use Rattle.life_block.specs.Remembered.{Remembers};
 ghost use Rattle.life_block.specs.Pieces.{IsPiece, IsBinary, IsAt, InNine, InSixteen, AreNine, AreSixteen};
 
-use crate::grid::{Corner, Nine, Sixteen};
+use crate::grid::{Corner, Nine, Sixteen, in_middle};
 use crate::leaf::{next_of_leaf, next_of_least};
 use crate::remembered::{recalled, remember};
 use life_base::{Kind, LifeRule, MAX_LEVEL};
@@ -124,4 +124,37 @@ pub fn next_life_square<S: SharedSquares>(
     let around = Corner::NorthWest.with(root, blank);
     let south_east = next_of_middle(squares, memory, rule, level, &around)?;
     squares.join(north_west, north_east, south_west, south_east)
+}
+
+/// The square of the next generation under a B/S rule of the whole plane, of which no cell stands at the edge. Each square that it joins is part of
+/// that one.
+///
+/// # Errors
+///
+/// Those of `next_life_square`.
+pub(crate) fn next_life_plane<S: SharedSquares>(
+    alloc: Global,
+    squares: &mut S,
+    rule: &LifeRule,
+    id: Id,
+) -> Result<Id, Kind>
+    requires known { S.knows squares.old id }
+    requires whole { depth (S.content squares.old id) ≡ MAX_LEVEL }
+    requires states { (x y : ℤ) → tree_cell (S.content squares.old id) x y < 2 }
+    requires clear { HasClearEdge (S.content squares.old id) }
+    ensures quiet { has_digit rule.now.sets.births 0 ≡ false }
+    ensures known { IfOk result (S.knows squares.new) }
+    ensures level { IfOk result (λ r. depth (S.content squares.new r) ≡ MAX_LEVEL) }
+    ensures next { IfOk result (λ r. (x y : ℤ) → tree_cell (S.content squares.new r) x y ≡ next_life rule.now (tree_cell (S.content squares.old id)) x y) }
+    ensures keeps { KeepsSquares S.knows S.content S.stored S.most squares.old squares.new }
+    ensures refusals { IfErr result (IsWantKind (S.stored squares.new) (S.most squares.new)) }
+    ensures needed { OnErr result (SomePart (S.needs_node squares.new) (next_plane rule.now (S.content squares.old id))) }
+{
+    // To read a field opens the invariant to the proof: no cell is born without live neighbours.
+    let _ = &rule.births;
+    let mut memory = NeighbourhoodMemory::new(alloc, squares.seed());
+    let root = divide(squares, id);
+    let blank = squares.empty(MAX_LEVEL - 1);
+    let around = in_middle(root, blank);
+    next_of_middle(squares, &mut memory, rule, MAX_LEVEL - 1, &around)
 }

@@ -1,18 +1,59 @@
 //! The next generation of a pattern.
-ghost use Rattle.std.specs.Prelude.{◌≡◌, ◌⊎◌, ℤ, ◌<◌, ◌≤◌, Err, Some, None, IfOk, IfErr};
+ghost use Rattle.std.specs.Prelude.{◌≡◌, ◌⊎◌, ℤ, pos, neg_ℤ, ◌<ℤ◌, ◌^◌, ◌<◌, ◌≤◌, true, false, Err, Some, None, IfOk, IfErr};
 ghost use Rattle.life_base.specs.Refusal.{fault_of};
+ghost use Rattle.life_base.specs.declared.kind.Kind.TheVariants.{Memory};
 ghost use Rattle.life_base.specs.Tree.{depth, tree_cell};
 ghost use Rattle.life_quad.specs.Keeping.{KeepsSquares, IsWantFault};
-ghost use Rattle.life_sweep.specs.Generation.{next_life, LifeAnswers};
+ghost use Rattle.life_sweep.specs.Generation.{after, next_life, LifeAnswers};
 ghost use Rattle.life_sweep.specs.Refused.{GenerationRefusal};
-ghost use Rattle.life_block.specs.Needed.{SomeOfNext, level_behind};
+ghost use Rattle.life_block.specs.Needed.{HasClearEdge, SomeOfNext, level_behind};
 
-use crate::blocks::next_life_square;
-use life_base::{Fault, Kind, LifeRule, MAX_LEVEL};
-use life_quad::{Id, SharedSquares, population};
+use crate::blocks::{next_life_plane, next_life_square};
+use life_base::{Bounds, Fault, Kind, LifeRule, MAX_LEVEL};
+use life_quad::{Id, SharedSquares, bounds, population};
 use life_sweep::laws::life_answers_at;
 use life_sweep::{ByCounts, next_generation};
 use std::alloc::Global;
+
+/// Half of the side of the plane: its coordinates go from -HALF to HALF - 1.
+const HALF: i64 = 1 << (MAX_LEVEL - 1);
+
+/// Whether a box on the plane doesn't reach the plane's edge.
+fn is_off_edge(bounds: &Bounds) -> bool
+    ensures west { result ≡ true → neg_ℤ (pos (2 ^ 61)) <ℤ bounds.now.left }
+    ensures east { result ≡ true → after bounds.now.right <ℤ pos (2 ^ 61) }
+    ensures north { result ≡ true → neg_ℤ (pos (2 ^ 61)) <ℤ bounds.now.top }
+    ensures south { result ≡ true → after bounds.now.bottom <ℤ pos (2 ^ 61) }
+{
+    if bounds.left <= -HALF || bounds.right >= HALF - 1 {
+        return false;
+    }
+    if bounds.top <= -HALF || bounds.bottom >= HALF - 1 {
+        return false;
+    }
+    true
+}
+
+/// Whether a cell outside the plane may be born: the square is that of the whole plane, and a cell stands at its edge, or none at all.
+///
+/// # Errors
+///
+/// `Memory`, and nothing else.
+fn reaches_edge<S: SharedSquares>(alloc: Global, squares: &S, id: Id) -> Result<bool, Kind>
+    requires known { S.knows squares.now id }
+    ensures whole { IfOk result (λ reaches. reaches ≡ true → depth (S.content squares.now id) ≡ MAX_LEVEL) }
+    ensures clear { IfOk result (λ reaches. reaches ≡ false → depth (S.content squares.now id) ≡ MAX_LEVEL → HasClearEdge (S.content squares.now id)) }
+    ensures refusals { IfErr result (λ e. e ≡ Memory) }
+{
+    if squares.level(id) != MAX_LEVEL {
+        return Ok(false);
+    }
+    let found = bounds(alloc, squares, id)?;
+    let Some(least) = found else {
+        return Ok(true);
+    };
+    Ok(!is_off_edge(&least))
+}
 
 /// A square with the next generation under a B/S rule of a square's cells, of which at most `most` may have a state other than 0. It is one
 /// level higher, or the square of the whole plane where the square is that. It asks for a square of level 2 or more.
@@ -42,12 +83,15 @@ pub fn next_life_generation<S: SharedSquares>(
     ensures keeps { KeepsSquares S.knows S.content S.stored S.most squares.old squares.new }
 {
     life_answers_at();
-    if squares.level(id) == MAX_LEVEL {
+    if reaches_edge(alloc, squares, id)? {
         let mut law = ByCounts::new(*rule);
         return next_generation(alloc, squares, &mut law, id, most);
     }
     if population(alloc, squares, id)? > u128::from(most) {
         return Err(Fault::of(Kind::TooManyCells));
+    }
+    if squares.level(id) == MAX_LEVEL {
+        return Ok(next_life_plane(alloc, squares, rule, id)?);
     }
     Ok(next_life_square(alloc, squares, rule, id)?)
 }

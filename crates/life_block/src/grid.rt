@@ -1,6 +1,6 @@
 //! Squares of one level side by side.
 ghost use Rattle.std.specs.Prelude.{◌≡◌, ℕ, ℤ, ◌+◌, ◌^◌, true};
-ghost use Rattle.life_block.specs.Pieces.{IsAt, InThree, InNine, InFour, InSixteen, AreThree, AreNine, AreFour, AreSixteen, ahead, four_of, front, rear, western, eastern, at_corner};
+ghost use Rattle.life_block.specs.Pieces.{IsAt, InThree, InNine, InFour, InSixteen, AreThree, AreNine, AreFour, AreSixteen, ahead, four_of, front, rear, western, eastern, at_corner, in_middle};
 ghost use Rattle.life_block.specs.Remembered.{ids_of};
 
 use life_quad::{Id, Quarters, Squares, divide};
@@ -182,4 +182,18 @@ impl Corner {
             Corner::SouthEast => Four::of(none, none, north_east, south_east),
         }
     }
+}
+
+/// Four quarters in the middle of sixteen squares, and another square everywhere else.
+pub(crate) fn in_middle(quarters: Quarters, other: Id) -> Sixteen
+    ensures { result ≡ in_middle quarters other }
+{
+    let Quarters { nw, ne, sw, se } = quarters;
+    let none = Four::of(other, other, other, other);
+    Four::of(
+        none,
+        Four::of(other, nw, ne, other),
+        Four::of(other, sw, se, other),
+        none,
+    )
 }

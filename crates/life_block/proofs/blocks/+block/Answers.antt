@@ -25,7 +25,8 @@ pub next_of-returns-clause-remembers : goal.next_of-returns-clause-remembers
 next_of-returns-clause-remembers g t c =
     let n = c.in_ok-next.ensures in
     let level : c.args.level - 1 + 1 ≡ c.args.level = omega (arith, c.requires.low) in
-    Remembers-more (new-answer n.keeps (c.args.level - 1) c.args.level level c.requires.known n.at c.quarters-sixteen.ensures.pieces n.next) c.remember.ensures n.remembers
+    let answer = new-answer n.keeps (c.args.level - 1) c.args.level level c.requires.known n.at c.quarters-sixteen.ensures.pieces n.next in
+    Remembers-more answer c.remember.ensures n.remembers
 
 pub next_of_middle-returns-then-level-eq2-clause-remembers : goal.next_of_middle-returns-then-level-eq2-clause-remembers
 next_of_middle-returns-then-level-eq2-clause-remembers g m c =
