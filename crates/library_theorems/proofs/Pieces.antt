@@ -50,7 +50,8 @@ joined_split (piece ∷ pieces) (suc n) =
 of_all : FaultsStay 62 → (limit : ℕ) (pieces : List (Vec ℕ)) (k : ℕ) (fault : Fault) → RefusesPiece limit (joined (take k pieces)) fault
     → IsUnread (joined pieces) fault
 of_all stay limit pieces k fault (inl front) =
-    let whole = refuses_agree (joined (take k pieces) ++ joined (drop k pieces)) fault (stay (joined (take k pieces)) (joined (drop k pieces)) fault front).refuses in
+    let whole = refuses_agree (joined (take k pieces) ++ joined (drop k pieces)) fault
+    (stay (joined (take k pieces)) (joined (drop k pieces)) fault front).refuses in
     subst (λ (bytes : List ℕ). IsUnread bytes fault) (sym (joined_split pieces k)) (inl whole)
 of_all stay limit pieces k fault (inr w) = inr (want_as w.0 fault w.2)
 
@@ -59,7 +60,8 @@ abbrev pub IsEndFault : Form → ℕ → List ℕ → Fault → Type 0
 IsEndFault form limit bytes fault = IsUnread bytes fault ⊎ RefusesTextOf form limit bytes fault
 
 module _ (form : Form) (limit : ℕ) (bytes : List ℕ) (line : ℕ) (told : Told) where
-  end_told : (session : Session) → Ends form limit bytes session → TellsEnd line told session → Answers (IsTextOf form bytes) (IsEndFault form limit bytes) line told
+  end_told : (session : Session) → Ends form limit bytes session → TellsEnd line told session
+      → Answers (IsTextOf form bytes) (IsEndFault form limit bytes) line told
   end_told (Reading feeding) (streams.by_text text has good) tells = absurd has
   end_told (Reading feeding) (streams.by_fault fault has why) tells = absurd has
   end_told (Written written) (streams.by_text text has good) tells =

@@ -12,5 +12,6 @@ returns c = λ opened status.
     map_ok c.canon.result
     (λ text is. text_so c.files_are_unique.ensures (joined c.args.pieces.now) text.items _ _
     (subst (λ (bytes : List ℕ). IsCanonical 62 bytes text.items) c.requires.cut is)
-    (c.told_of_pieces-status.ensures Canonical c.args.limit (is_open Canonical c.args.limit c.open_canon-opened.result c.open_canon-opened.new.stream.held.session c.open_canon-opened.ensures opened)) status)
+    (c.told_of_pieces-status.ensures Canonical c.args.limit
+    (is_open Canonical c.args.limit c.open_canon-opened.result c.open_canon-opened.new.stream.held.session c.open_canon-opened.ensures opened)) status)
     c.canon.ensures.text
