@@ -84,7 +84,8 @@ stepped_is on_plane bytes text h =
 some_of : (f g : Fault) → Some f ≡ Some g → f ≡ g
 some_of f g e = cc
 
-unstepped_is : FilesAreOnPlane 62 → (bytes : List ℕ) (u : Universe) (fault : Fault) → Reads 62 bytes u → LifeRefusal 62 u (Some fault) → IsUnstepped bytes fault
+pub unstepped_is : FilesAreOnPlane 62 → (bytes : List ℕ) (u : Universe) (fault : Fault) → Reads 62 bytes u → LifeRefusal 62 u (Some fault)
+    → IsUnstepped bytes fault
 unstepped_is on_plane bytes u fault h refusal = (p.pattern, p.is, by u.rule refl refusal)
   where
     p : Agrees bytes u

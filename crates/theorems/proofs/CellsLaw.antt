@@ -31,7 +31,7 @@ few_cells bytes text h more =
     never_more p.pattern.cell h.cells (2 ^ 20) (same_cells p.pattern.cell h.universe.cell h.cells cells h.are) (not_above (length h.cells) (2 ^ 20) h.few)
     (subst (λ (q : Pattern). HasMoreCells (2 ^ 20) q.cell) e more.2)
 
-says_more : (bytes : List ℕ) → LayerMoreCells 62 bytes (2 ^ 20) → SaysMoreCells (2 ^ 20) bytes
+pub says_more : (bytes : List ℕ) → LayerMoreCells 62 bytes (2 ^ 20) → SaysMoreCells (2 ^ 20) bytes
 says_more bytes h =
     let u = h.1.universe in
     let p = files_agree bytes u h.1.reads in

@@ -213,7 +213,7 @@ pub map_err : {X E : Type 0} {P Q : E → Type 0} (r : Result X E) → ((e : E) 
 map_err (Ok x) f h = tt
 map_err (Err e) f h = f e h
 
-accepted_is_ok : (bytes : List ℕ) → Accepted 62 bytes → IsOk (pattern_of bytes)
+pub accepted_is_ok : (bytes : List ℕ) → Accepted 62 bytes → IsOk (pattern_of bytes)
 accepted_is_ok bytes h = by (pattern_of bytes) (files_agree bytes h.0 h.1).pattern (files_agree bytes h.0 h.1).is
   where
     by : (r : Result Pattern Fault) (p : Pattern) → r ≡ Ok p → IsOk r

@@ -1,0 +1,3 @@
+mod Reworded
+mod Numbered
+mod Pieces

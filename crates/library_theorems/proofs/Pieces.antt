@@ -1,0 +1,109 @@
+-- What a stream has of the pieces that were fed, and what its end tells of them.
+use Rattle.std.proofs.Common.{◌≡◌, ℕ, zero, suc, ◌+◌, ◌≤◌, ◌++◌, ◌⊎◌, inl, inr, List, [], ◌∷◌, take, drop, length, refl, ap, ◌∙◌, sym, subst, arith, append_assoc}
+use Rattle.std.specs.Global.{Vec}
+use Rattle.std.specs.Prelude.{Option, Some, None, IfSome}
+use Rattle.life_base.specs.Kinds.{kind_number}
+use Rattle.life_base.specs.declared.fault.Fault.{Fault}
+use Rattle.life_base.specs.declared.kind.Kind.TheVariants.{Memory}
+use Rattle.life_canon.specs.Laws.{FaultsStay}
+use Rattle.theorems.specs.Joined.{joined}
+use Rattle.theorems.proofs.PieceLaw.{joined_all}
+use Rattle.theorems.proofs.RefusalLaw.{refuses_agree, want_as}
+use Rattle.library_calls.specs.Forms.{IsTextOf, RefusesTextOf, RefusesPiece}
+use Rattle.library_calls.specs.Streams.{IsOpen, IsFed, HasFault, Opens, Takes, by_piece, Ends, TellsEnd}
+use Rattle.library_calls.specs.Streams as streams
+use Rattle.library_calls.specs.Told.{Told, Answers, by_text, by_fault}
+use Rattle.library_calls.specs.declared.form.Form.{Form}
+use Rattle.library_calls.specs.declared.session.Session.{Session}
+use Rattle.library_calls.specs.declared.session.Session.TheVariants.{Reading, Written, Refused}
+use Rattle.library_theorems.specs.Answered.{IsUnread}
+
+-- the pieces so far were fed, or one of them was refused
+pub data Took (form : Form) (limit : ℕ) (pieces : List (Vec ℕ)) (n : ℕ) (session : Option Session) : Type 0 where
+  fed : IsOpen (IsFed form limit (joined (take n pieces))) session → Took form limit pieces n session
+  refused : (k : ℕ) (fault : Fault) → IsOpen (HasFault fault) session → RefusesPiece limit (joined (take k pieces)) fault → Took form limit pieces n session
+
+-- one piece more
+pub took_more : (form : Form) (limit : ℕ) (pieces : List (Vec ℕ)) (n : ℕ) (piece : List ℕ) (old new : Option Session)
+    → joined (take n pieces) ++ piece ≡ joined (take (n + 1) pieces)
+    → (IsOpen (IsFed form limit (joined (take n pieces))) old → IsOpen (Takes form limit (joined (take n pieces) ++ piece)) new)
+    → ((fault : Fault) → IsOpen (HasFault fault) old → IsOpen (HasFault fault) new)
+    → Took form limit pieces n old → Took form limit pieces (n + 1) new
+took_more form limit pieces n piece old new more takes stays (fed whole) = by new (takes whole)
+  where
+    by : (it : Option Session) → IsOpen (Takes form limit (joined (take n pieces) ++ piece)) it → Took form limit pieces (n + 1) it
+    by None h = absurd h
+    by (Some session) (by_piece is front) = fed (subst (λ (bytes : List ℕ). IsFed form limit bytes session) more is)
+    by (Some session) (streams.by_fault fault has why) =
+        refused (n + 1) fault has (subst (λ (bytes : List ℕ). RefusesPiece limit bytes fault) more why)
+took_more form limit pieces n piece old new more takes stays (refused k fault has why) = refused k fault (stays fault has) why
+
+-- the pieces so far, and the rest
+joined_split : (pieces : List (Vec ℕ)) (n : ℕ) → joined pieces ≡ joined (take n pieces) ++ joined (drop n pieces)
+joined_split pieces zero = refl
+joined_split [] (suc n) = refl
+joined_split (piece ∷ pieces) (suc n) =
+    ap (λ (t : List ℕ). piece.items ++ t) (joined_split pieces n)
+    ∙ sym (append_assoc piece.items (joined (take n pieces)) (joined (drop n pieces)))
+
+-- the fault of the pieces so far is that of all
+of_all : FaultsStay 62 → (limit : ℕ) (pieces : List (Vec ℕ)) (k : ℕ) (fault : Fault) → RefusesPiece limit (joined (take k pieces)) fault
+    → IsUnread (joined pieces) fault
+of_all stay limit pieces k fault (inl front) =
+    let whole = refuses_agree (joined (take k pieces) ++ joined (drop k pieces)) fault
+    (stay (joined (take k pieces)) (joined (drop k pieces)) fault front).refuses in
+    subst (λ (bytes : List ℕ). IsUnread bytes fault) (sym (joined_split pieces k)) (inl whole)
+of_all stay limit pieces k fault (inr w) = inr (want_as w.0 fault w.2)
+
+-- why the end of a stream gives no text
+abbrev pub IsEndFault : Form → ℕ → List ℕ → Fault → Type 0
+IsEndFault form limit bytes fault = IsUnread bytes fault ⊎ RefusesTextOf form limit bytes fault
+
+module _ (form : Form) (limit : ℕ) (bytes : List ℕ) (line : ℕ) (told : Told) where
+  end_told : (session : Session) → Ends form limit bytes session → TellsEnd line told session
+      → Answers (IsTextOf form bytes) (IsEndFault form limit bytes) line told
+  end_told (Reading feeding) (streams.by_text text has good) tells = absurd has
+  end_told (Reading feeding) (streams.by_fault fault has why) tells = absurd has
+  end_told (Written written) (streams.by_text text has good) tells =
+      by_text written.items (subst (IsTextOf form bytes) (sym has) good) tells.0 tells.1
+  end_told (Written written) (streams.by_fault fault has why) tells = absurd has
+  end_told (Refused it) (streams.by_text text has good) tells = absurd has
+  end_told (Refused it) (streams.by_fault fault has why) tells = by_fault it (inr (subst (RefusesTextOf form limit bytes) (sym has) why)) tells
+
+  fault_told : (session : Session) (fault : Fault) → HasFault fault session → IsUnread bytes fault → TellsEnd line told session
+      → Answers (IsTextOf form bytes) (IsEndFault form limit bytes) line told
+  fault_told (Reading feeding) fault has why tells = absurd has
+  fault_told (Written written) fault has why tells = absurd has
+  fault_told (Refused it) fault has why tells = by_fault it (inl (subst (IsUnread bytes) (sym has) why)) tells
+
+-- what the end tells
+pub told_at_end : FaultsStay 62 → (form : Form) (limit : ℕ) (pieces : List (Vec ℕ)) (n : ℕ) (old new : Option Session) (line : ℕ) (told : Told)
+    → length pieces ≤ n
+    → (IsOpen (IsFed form limit (joined pieces)) old → IsOpen (Ends form limit (joined pieces)) new)
+    → ((fault : Fault) → IsOpen (HasFault fault) old → IsOpen (HasFault fault) new) → IfSome new (TellsEnd line told) → Took form limit pieces n old
+    → Answers (IsTextOf form (joined pieces)) (IsEndFault form limit (joined pieces)) line told
+told_at_end stay form limit pieces n old new line told all ends stays tells (fed whole) =
+    by new (ends (subst (λ (bytes : List ℕ). IsOpen (IsFed form limit bytes) old) (joined_all pieces n all) whole)) tells
+  where
+    by : (it : Option Session) → IsOpen (Ends form limit (joined pieces)) it → IfSome it (TellsEnd line told)
+        → Answers (IsTextOf form (joined pieces)) (IsEndFault form limit (joined pieces)) line told
+    by None h t = absurd h
+    by (Some session) h t = end_told form limit (joined pieces) line told session h t
+told_at_end stay form limit pieces n old new line told all ends stays tells (refused k fault has why) = by new (stays fault has) tells
+  where
+    by : (it : Option Session) → IsOpen (HasFault fault) it → IfSome it (TellsEnd line told)
+        → Answers (IsTextOf form (joined pieces)) (IsEndFault form limit (joined pieces)) line told
+    by None h t = absurd h
+    by (Some session) h t = fault_told form limit (joined pieces) line told session fault h (of_all stay limit pieces k fault why) t
+
+-- ---- the call that opens
+
+pub is_open : (form : Form) (limit status : ℕ) (session : Option Session) → Opens form limit status session → status ≡ 0
+    → IsOpen (IsFed form limit []) session
+is_open form limit status session (inl h) ok = h.1
+is_open form limit status session (inr h) ok = let e : 0 ≡ 22 = sym ok ∙ h.0 in absurd (omega (arith, e))
+
+pub status_is : (form : Form) (limit status : ℕ) (session : Option Session) → Opens form limit status session
+    → (status ≡ 0) ⊎ (status ≡ kind_number Memory)
+status_is form limit status session (inl h) = inl h.0
+status_is form limit status session (inr h) = inr h.0

@@ -1,0 +1,168 @@
+-- What the calls of the library tell, in the words of the formats.
+use Rattle.std.proofs.Common.{◌≡◌, ◌⊎◌, inl, inr, ℕ, List, refl, subst}
+use Rattle.std.specs.Prelude.{◌≢◌, Ok, Err, IsOk}
+use Rattle.life_base.specs.Kinds.{kind_number}
+use Rattle.life_base.specs.Refusal.{OrMemory}
+use Rattle.life_base.specs.Text.{lines_of}
+use Rattle.life_base.specs.declared.fault.Fault.{Fault}
+use Rattle.life_base.specs.declared.kind.Kind.TheVariants.{Memory}
+use Rattle.life_canon.specs.Files.{Accepted}
+use Rattle.life_canon.specs.Laws.{CanonicalIsLeast, FilesAreOnPlane, FilesAreUnique, TextsAreFiles, TextsKeepPatterns}
+use Rattle.life_canon.specs.Least.{IsLeastText}
+use Rattle.life_canon.specs.Listing.{canon_text, canonical_file}
+use Rattle.life_canon.specs.Texts.{IsCanonical, IsShown}
+use Rattle.life_table.specs.Grammar.{IsFile}
+use Rattle.life_table.specs.Reading.{Refuses as RefusesTable, AreTable}
+use Rattle.life_table.specs.declared.table.Table.{Table as LayerTable}
+use Rattle.claims.specs.ByTable.{IsSteppedBy, IsUnsteppedBy}
+use Rattle.claims.specs.Files.{pattern_of, Same, IsWant, fault_of}
+use Rattle.claims.specs.Generation.{IsUnstepped}
+use Rattle.claims.specs.Table.{Table, table_of}
+use Rattle.table_laws.specs.Laws.{TablesDecide, TablesRead, TablesRefuse}
+use Rattle.table_laws.specs.Tables.{IsTable}
+use Rattle.theorems.proofs.CellsLaw.{few_cells, says_more}
+use Rattle.theorems.proofs.FileLaw.{same_from, same_to, rle_format, text_is_file, text_is_least, text_is_macrocell}
+use Rattle.theorems.proofs.RefusalLaw.{accepted_is_ok, refuses_agree, want_as}
+use Rattle.theorems.proofs.ShownLaw.{shown_is}
+use Rattle.theorems.proofs.StreamLaw.{one_text}
+use Rattle.step_theorems.proofs.StepLaw.{unstepped_is}
+use Rattle.step_theorems.proofs.StepBy.{stepped_is, unstepped_is as unstepped_by_is}
+use Rattle.library_calls.specs.Answers.{RefusesWithin, RefusesRleWithin}
+use Rattle.library_calls.specs.Answers.{IsCanonicalText as LayerText, IsRleText as LayerRle}
+use Rattle.library_calls.specs.Comparing.{Compared, ComparesWithin, by_answer, IsAnswerOf, RefusesEither}
+use Rattle.library_calls.specs.Comparing as comparing
+use Rattle.library_calls.specs.Stepping.{RefusesStepWithin, RefusesStepByWithin, StepsByTable, by_table, by_no_table}
+use Rattle.library_calls.specs.Told.{Told, Gives, Tells, Answers, by_text, by_fault}
+use Rattle.library_theorems.specs.Answered.{IsCanonicalText, IsRleText, AreFiveLines, IsUnread, IsUnwritten}
+use Rattle.library_theorems.proofs.Numbered.{IsOfText, no_text}
+
+-- the same is told by what texts and faults imply
+pub reworded : {IsText IsOther : List ℕ → Type 0} {IsFault IsOtherFault : Fault → Type 0} {line : ℕ} {told : Told}
+    → Answers IsText IsFault line told → ((text : List ℕ) → IsText text → IsOther text) → ((fault : Fault) → IsFault fault → IsOtherFault fault)
+    → Answers IsOther IsOtherFault line told
+reworded (by_text t is gives none) text fault = by_text t (text t is) gives none
+reworded (by_fault f why tells) text fault = by_fault f (fault f why) tells
+
+-- ---- texts
+
+pub canonical_so : FilesAreOnPlane 62 → TextsAreFiles 62 → TextsKeepPatterns 62 → (file text : List ℕ) → LayerText file text → IsCanonicalText file text
+canonical_so on_plane files keep file text c = record {
+  same = text_is_file keep file text c.0;
+  macrocell = text_is_macrocell files on_plane file text c.0;
+  least = text_is_least on_plane file text c.1;
+}
+
+pub rle_so : (file text : List ℕ) → LayerRle file text → IsRleText file text
+rle_so file text r = record { same = same_to file text r.1; format = rle_format file text r.0; few = few_cells file text r.0 }
+
+pub lines_so : CanonicalIsLeast 62 → FilesAreOnPlane 62 → FilesAreUnique 62 → TextsAreFiles 62 → TextsKeepPatterns 62 → (file text : List ℕ)
+    → IsShown 62 file text → AreFiveLines file text
+lines_so least on_plane unique files keep file text s =
+    let u = s.universe in
+    let on = on_plane file u s.reads in
+    let written = files u on in
+    let canonical : IsCanonical 62 file (canon_text 62 u) = record { universe = u; reads = s.reads; is = refl } in
+    let fewest : IsLeastText 62 file (canon_text 62 u) = record {
+      universe = u;
+      reads = s.reads;
+      file = canonical_file 62 u;
+      says = written.0;
+      same = written.1;
+      least = least u on;
+    } in
+    let shown = shown_is on_plane unique files file text (canon_text 62 u) s canonical in
+    record {
+      pattern = shown.0;
+      is = shown.1;
+      canonical = canon_text 62 u;
+      is_canonical = canonical_so on_plane files keep file (canon_text 62 u) (canonical, fewest);
+      shown = shown.2;
+    }
+
+-- ---- why there is none
+
+pub unread : (limit : ℕ) (file : List ℕ) (fault : Fault) → RefusesWithin limit file fault → IsUnread file fault
+unread limit file fault (inl refuses) = inl (refuses_agree file fault refuses)
+unread limit file fault (inr w) = inr (want_as w.0 fault w.2)
+
+pub unwritten : (limit : ℕ) (file : List ℕ) (fault : Fault) → RefusesRleWithin limit file fault → IsUnwritten file fault
+unwritten limit file fault (inl refuses) = inl (unread limit file fault refuses)
+unwritten limit file fault (inr many) = inr (many.0, says_more file many.1)
+
+pub unstepped : FilesAreOnPlane 62 → (limit : ℕ) (file : List ℕ) (fault : Fault) → RefusesStepWithin limit file fault
+    → IsUnread file fault ⊎ IsUnstepped file fault
+unstepped on_plane limit file fault (inl refuses) = inl (inl (refuses_agree file fault refuses))
+unstepped on_plane limit file fault (inr (inl w)) = inl (inr (want_as w.0 fault w.2))
+unstepped on_plane limit file fault (inr (inr h)) = inr (unstepped_is on_plane file h.0 fault h.1 h.2)
+
+-- ---- by a table
+
+unstepped_by : TablesDecide → (layer : LayerTable) (table : Table) → IsTable layer table → (limit : ℕ) (file : List ℕ) (fault : Fault)
+    → RefusesStepByWithin layer limit file fault → IsUnread file fault ⊎ IsUnsteppedBy table file fault
+unstepped_by decide layer table is limit file fault (inl refuses) = inl (inl (refuses_agree file fault refuses))
+unstepped_by decide layer table is limit file fault (inr (inl w)) = inl (inr (want_as w.0 fault w.2))
+unstepped_by decide layer table is limit file fault (inr (inr h)) = inr (unstepped_by_is decide layer table is file h.0 h.1 fault h.2)
+
+-- what is told of a step by a table
+abbrev pub ToldByTable : (file rules : List ℕ) (in_table line : ℕ) → Told → Type 0
+ToldByTable file rules in_table line told =
+    ((in_table ≡ 0) × ((table : Table) × (table_of rules ≡ Ok table)
+    × Answers (IsSteppedBy table file) (λ fault. IsUnread file fault ⊎ IsUnsteppedBy table file fault) line told))
+    ⊎ ((in_table ≡ 1) × ((fault : Fault) × ((table_of rules ≡ Err fault) ⊎ (fault ≡ fault_of Memory)) × Tells fault line told))
+
+untabled : TablesRefuse → (rules : List ℕ) (fault : Fault) → OrMemory fault (RefusesTable (lines_of rules) fault)
+    → (table_of rules ≡ Err fault) ⊎ (fault ≡ fault_of Memory)
+untabled refuse rules fault (inl memory) = inr memory
+untabled refuse rules fault (inr refuses) = inl ((refuse rules fault).0 refuses)
+
+pub by_table_so : TablesRead → TablesRefuse → TablesDecide
+    → ((lines : List (List ℕ)) (layer : LayerTable) → IsFile lines layer → AreTable lines layer)
+    → (limit : ℕ) (file rules : List ℕ) (in_table line : ℕ) (told : Told) → StepsByTable limit file rules in_table line told
+    → ToldByTable file rules in_table line told
+by_table_so read refuse decide agree limit file rules in_table line told (by_table layer is zero answers) =
+    let t = (read rules).0 layer (agree (lines_of rules) layer is) in
+    inl (
+      zero,
+      (
+        t.0,
+        t.1,
+        reworded answers (stepped_is decide layer t.0 t.2 file) (unstepped_by decide layer t.0 t.2 limit file),
+      ),
+    )
+by_table_so read refuse decide agree limit file rules in_table line told (by_no_table fault why one tells) =
+    inr (one, (fault, untabled refuse rules fault why, tells))
+
+-- ---- two files
+
+answer_so : FilesAreOnPlane 62 → (first second : List ℕ) → Accepted 62 first → Accepted 62 second → (is_same : ℕ) → IsAnswerOf first second is_same
+    → ((is_same ≡ 1) × Same first second) ⊎ ((is_same ≡ 0) × (Same first second → ⊥))
+answer_so on_plane first second a b is_same (inl h) = inl (h.0, same_to first second h.1)
+answer_so on_plane first second a b is_same (inr h) = inr (h.0, λ s. h.1 (same_from on_plane first second a.0 b.0 a.1 b.1 s))
+
+uncompared : (limit : ℕ) (first second : List ℕ) (fault : Fault) → RefusesEither limit first second fault
+    → (pattern_of first ≡ Err fault) ⊎ ((IsOk (pattern_of first) × (pattern_of second ≡ Err fault)) ⊎ IsWant fault)
+uncompared limit first second fault (inl refuses) = inl (refuses_agree first fault refuses)
+uncompared limit first second fault (inr (inl h)) = inr (inl (accepted_is_ok first h.0, refuses_agree second fault h.1))
+uncompared limit first second fault (inr (inr w)) = inr (inr (want_as w.0 fault w.2))
+
+pub compared_so : FilesAreOnPlane 62 → (limit : ℕ) (first second : List ℕ) (told : Compared) → ComparesWithin limit first second told → told.status ≡ 0
+    → (told.line ≡ 0) × IsOk (pattern_of first) × IsOk (pattern_of second)
+    × (((told.is_same ≡ 1) × Same first second) ⊎ ((told.is_same ≡ 0) × (Same first second → ⊥)))
+compared_so on_plane limit first second told (by_answer status line a b answer) ok =
+    (line, accepted_is_ok first a, accepted_is_ok second b, answer_so on_plane first second a b told.is_same answer)
+compared_so on_plane limit first second told (comparing.by_fault fault status line none why) ok = no_text told.status fault.kind status (inl ok)
+
+pub uncompared_so : (limit : ℕ) (first second : List ℕ) (told : Compared) → ComparesWithin limit first second told → told.status ≢ 0
+    → (told.is_same ≡ 0) × ((fault : Fault) × (told.status ≡ kind_number fault.kind) × (told.line ≡ fault.place.line)
+    × ((pattern_of first ≡ Err fault) ⊎ ((IsOk (pattern_of first) × (pattern_of second ≡ Err fault)) ⊎ IsWant fault)))
+uncompared_so limit first second told (by_answer status line a b answer) not = absurd (not status)
+uncompared_so limit first second told (comparing.by_fault fault status line none why) not =
+    (none, (fault, status, line, uncompared limit first second fault why))
+
+-- ---- which text
+
+-- a status that is no fault's is that of the canonical text
+pub text_so : FilesAreUnique 62 → (file text : List ℕ) {IsFault : Fault → Type 0} (line : ℕ) (told : Told) → IsCanonical 62 file text
+    → Answers (LayerText file) IsFault line told → IsOfText told.status → Gives text told
+text_so unique file text line told c (by_text t is gives none) ok = subst (λ (it : List ℕ). Gives it told) (one_text unique file t text is.0 c) gives
+text_so unique file text line told c (by_fault fault why tells) ok = no_text told.status fault.kind tells.status ok

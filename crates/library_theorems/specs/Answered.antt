@@ -1,0 +1,38 @@
+-- What the calls of the library tell of a file, in the words of the formats.
+use Rattle.std.specs.Prelude.{◌≡◌, ◌⊎◌, ◌^◌, ◌≤◌, ℕ, List, true, false, codes, Ok, Err}
+use Rattle.life_base.specs.Text.{begins_with}
+use Rattle.life_base.specs.declared.fault.Fault.{Fault}
+use Rattle.life_base.specs.declared.kind.Kind.TheVariants.{TooManyCells}
+use Rattle.claims.specs.Counting.{node_lines, IsRival}
+use Rattle.claims.specs.Files.{pattern_of, Same, IsWant, fault_of}
+use Rattle.claims.specs.Generation.{SaysMoreCells}
+use Rattle.claims.specs.Pattern.{Pattern}
+use Rattle.claims.specs.Shown.{IsShown}
+
+-- the text is a macrocell file of the file's pattern, and none with which it is compared has fewer node lines
+pub record IsCanonicalText (file text : List ℕ) : Type 0 where
+  pub same : Same file text
+  pub macrocell : begins_with text (codes "[M2]") ≡ true
+  pub least : (rival : List ℕ) → IsRival file rival → node_lines text ≤ node_lines rival
+
+-- the text is a file of the file's pattern and no macrocell file, and no more than 2 ^ 20 cells have a state other than 0
+pub record IsRleText (file text : List ℕ) : Type 0 where
+  pub same : Same file text
+  pub format : begins_with text (codes "[M2]") ≡ false
+  pub few : SaysMoreCells (2 ^ 20) file → ⊥
+
+-- the text tells the file's pattern, and how many node lines its canonical text has
+pub record AreFiveLines (file text : List ℕ) : Type 0 where
+  pub pattern : Pattern
+  pub is : pattern_of file ≡ Ok pattern
+  pub canonical : List ℕ
+  pub is_canonical : IsCanonicalText file canonical
+  pub shown : IsShown pattern (node_lines canonical) text
+
+-- why a file isn't read: it has this fault, or room or memory was wanted
+abbrev pub IsUnread : List ℕ → Fault → Type 0
+IsUnread file fault = (pattern_of file ≡ Err fault) ⊎ IsWant fault
+
+-- why it isn't written in extended RLE
+abbrev pub IsUnwritten : List ℕ → Fault → Type 0
+IsUnwritten file fault = IsUnread file fault ⊎ ((fault ≡ fault_of TooManyCells) × SaysMoreCells (2 ^ 20) file)

@@ -1,0 +1,30 @@
+//! Two files, compared.
+
+ghost use Rattle.std.specs.Prelude.{◌≡◌, ◌≢◌, ◌⊎◌, Err, IsOk};
+ghost use Rattle.life_base.specs.Kinds.{kind_number};
+ghost use Rattle.life_base.specs.declared.fault.Fault.{Fault};
+ghost use Rattle.claims.specs.Files.{Same, IsWant, pattern_of};
+
+use library_calls::same;
+use life_canon::laws::files_are_on_plane;
+use std::alloc::Global;
+
+/// 1 is told where two files are of one rule and one generation and each cell has the same state in both, and 0 where they
+/// aren't; or the number and the line of the fault of the first file, or of the second one where the first is a file, and 0.
+pub fn files_are_compared(
+    alloc: Global,
+    first: &[u8],
+    second: &[u8],
+    limit: u64,
+    seed: u64,
+    is_same: &mut u32,
+    line: &mut u64,
+) -> u32
+    ensures answer { result ≡ 0 → (line.new ≡ 0) × IsOk (pattern_of first.now) × IsOk (pattern_of second.now)
+        × (((is_same.new ≡ 1) × Same first.now second.now) ⊎ ((is_same.new ≡ 0) × (Same first.now second.now → ⊥))) }
+    ensures refused { result ≢ 0 → (is_same.new ≡ 0) × ((fault : Fault) × (result ≡ kind_number fault.kind) × (line.new ≡ fault.place.line)
+        × ((pattern_of first.now ≡ Err fault) ⊎ ((IsOk (pattern_of first.now) × (pattern_of second.now ≡ Err fault)) ⊎ IsWant fault))) }
+{
+    files_are_on_plane();
+    same(alloc, first, second, limit, seed, is_same, line)
+}

@@ -1,0 +1,93 @@
+//! The texts of a file, put into memory of the caller.
+
+ghost use Rattle.std.specs.Prelude.{◌≡◌, ◌⊎◌, ◌≤◌, ◌^◌, IfOk};
+ghost use Rattle.library_calls.specs.Told.{Answers, Gives};
+ghost use Rattle.library_theorems.specs.Answered.{IsCanonicalText, IsRleText, AreFiveLines, IsUnread, IsUnwritten};
+
+use library_calls::{canon, show, to_rle};
+use life_base::Fault;
+use life_canon::canon as canonical_text;
+use life_canon::laws::{
+    canonical_is_least, files_are_on_plane, files_are_unique, texts_are_files, texts_keep_patterns,
+};
+use life_quad::{Seed, Shared};
+use std::alloc::Global;
+
+/// The canonical text of a file stands at the front of the caller's memory, or its length is told where it doesn't fit; or
+/// the number and the line of the file's fault are told.
+pub fn canonical_text_is_told(
+    alloc: Global,
+    file: &[u8],
+    limit: u64,
+    seed: u64,
+    out: &mut [u8],
+    needed: &mut usize,
+    line: &mut u64,
+) -> u32
+    ensures { Answers (IsCanonicalText file.now) (IsUnread file.now) line.new
+        (record { before = out.old; after = out.new; needed = needed.new; status = result }) }
+{
+    files_are_on_plane();
+    texts_are_files();
+    texts_keep_patterns();
+    canon(alloc, file, limit, seed, out, needed, line)
+}
+
+/// The text of which is told, by a status that isn't a fault's, is the one that `canon` of `life_canon` makes of the file.
+pub fn told_text_is_that_of_canon(
+    alloc: Global,
+    file: &[u8],
+    limit: u64,
+    seed: u64,
+    out: &mut [u8],
+    needed: &mut usize,
+    line: &mut u64,
+    other_limit: u64,
+    other_seed: Seed,
+) -> (u32, Result<Vec<u8>, Fault>)
+    requires { other_limit ≤ 2 ^ 62 }
+    ensures { (result.0 ≡ 0) ⊎ (result.0 ≡ 64) → IfOk result.1 (λ text. Gives text.items
+        (record { before = out.old; after = out.new; needed = needed.new; status = result.0 })) }
+{
+    files_are_unique();
+    let status = canon(alloc, file, limit, seed, out, needed, line);
+    let mut store = Shared::new(alloc, other_seed, other_limit);
+    (status, canonical_text(alloc, &mut store, file))
+}
+
+/// The same of a file in extended RLE, which may have too many cells.
+pub fn rle_is_told(
+    alloc: Global,
+    file: &[u8],
+    limit: u64,
+    seed: u64,
+    out: &mut [u8],
+    needed: &mut usize,
+    line: &mut u64,
+) -> u32
+    ensures { Answers (IsRleText file.now) (IsUnwritten file.now) line.new
+        (record { before = out.old; after = out.new; needed = needed.new; status = result }) }
+{
+    to_rle(alloc, file, limit, seed, out, needed, line)
+}
+
+/// The same of the five lines on a file.
+pub fn five_lines_are_told(
+    alloc: Global,
+    file: &[u8],
+    limit: u64,
+    seed: u64,
+    out: &mut [u8],
+    needed: &mut usize,
+    line: &mut u64,
+) -> u32
+    ensures { Answers (AreFiveLines file.now) (IsUnread file.now) line.new
+        (record { before = out.old; after = out.new; needed = needed.new; status = result }) }
+{
+    canonical_is_least();
+    files_are_on_plane();
+    files_are_unique();
+    texts_are_files();
+    texts_keep_patterns();
+    show(alloc, file, limit, seed, out, needed, line)
+}
