@@ -1,6 +1,6 @@
 //! Squares of a store, made from node lines.
 
-ghost use Rattle.std.specs.Prelude.{◌≡◌, ◌+◌, ◌-◌, ◌^◌, ◌<◌, ◌≤◌, IfSome, IfOk, IfErr, OnErr, max};
+ghost use Rattle.std.specs.Prelude.{◌≡◌, ◌+◌, ◌-◌, ◌<◌, ◌≤◌, IfOk, IfErr, OnErr, max};
 ghost use Rattle.life_base.specs.declared.rule.Rule.{Rule as RuleValue};
 ghost use Rattle.life_base.specs.Tree.{depth, tree_cell};
 ghost use Rattle.life_mc.specs.Cells.{leaf_cell};

@@ -1,5 +1,5 @@
 -- A square of four that are made one behind the other: what the five calls keep, and where a refused one is missing.
-use Rattle.std.proofs.Common.{◌⊎◌, inl, inr, subst}
+use Rattle.std.proofs.Common.{inl, inr, subst}
 use Rattle.life_base.proofs.Results.{on_err_any}
 use Rattle.life_quad.specs.Refused.{SomePart}
 use Rattle.life_quad.proofs.KeepingLemmas.{keeps-then}
