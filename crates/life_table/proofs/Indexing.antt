@@ -145,7 +145,8 @@ pub may_give_of : (symmetry : Symmetry) (vars : List Var) (line : Transition) (c
 may_give_of symmetry vars line centre others block k set n count cells has are each in_set s g =
     let there = each g.image g.is_image in
     in_set there.0 there.1
-    (subst (λ image. MayFit block image k) (sym there.2) (fits vars line.inputs k block has are g.gives.choice g.gives.is_choice (centre ∷ g.image) g.gives.inputs))
+    (subst (λ image. MayFit block image k) (sym there.2)
+    (fits vars line.inputs k block has are g.gives.choice g.gives.is_choice (centre ∷ g.image) g.gives.inputs))
 
 -- one more block
 pub block_more : (vars : List Var) (lines : List Transition) (blocks : List Block) (block : Block) → AreBlocks vars lines blocks
@@ -251,7 +252,8 @@ through P vars seen_vars cells seen_cells lines seen_lines same_vars same_cells 
     subst (λ v. P v cells lines) same_vars (subst (λ c. P seen_vars c lines) same_cells (subst (P seen_vars seen_cells) same_lines h))
 
 -- one more block, where there was memory for it
-pub block_pushed : (vars : List Var) (lines : List Transition) (blocks new : List Block) (block : Block) (done : Bool) → new ≡ cond done (blocks ++ block ∷ []) blocks
+pub block_pushed : (vars : List Var) (lines : List Transition) (blocks new : List Block) (block : Block) (done : Bool)
+    → new ≡ cond done (blocks ++ block ∷ []) blocks
     → AreBlocks vars lines blocks → HasLines vars lines (64 * length blocks) block → AreBlocks vars lines new
 block_pushed vars lines blocks new block true is are has = subst (AreBlocks vars lines) (sym is) (block_more vars lines blocks block are has)
 block_pushed vars lines blocks new block false is are has = subst (AreBlocks vars lines) (sym is) are

@@ -18,7 +18,8 @@ loop-k-preserved c =
     ∙ ap (λ (l : Transition). entry_at l.inputs c.args.p) (get_or_read lines i c.index-lines-k.result inside c.index-lines-k.is d) in
     elim c.if-is_same.branch [
       | then-is_same w ↦ record {
-        only = λ k d h below. one_more_found c.loop-k.found i (λ j. j < length lines → Has d j) room (λ here. sym (read d) ∙ c.is_same.ensures.0 w.if-is_same.true)
+        only = λ k d h below. one_more_found c.loop-k.found i (λ j. j < length lines → Has d j) room
+            (λ here. sym (read d) ∙ c.is_same.ensures.0 w.if-is_same.true)
             (λ j g. c.loop-k.invariant.only j d g) k (subst (λ n. bit_at n k ≡ 1) w.found-is h) below;
         all = λ k d below same. subst (λ n. bit_at n k ≡ 1) (sym w.found-is)
             (one_more_kept c.loop-k.found i (Has d) room (λ j before. c.loop-k.invariant.all j d before) k below same);
