@@ -7,7 +7,7 @@ use Rattle.life_base.specs.declared.fault.Fault.{Fault}
 use Rattle.life_base.specs.declared.kind.Kind.TheVariants.{Memory}
 use Rattle.life_canon.specs.Laws.{FaultsStay}
 use Rattle.theorems.specs.Joined.{joined}
-use Rattle.theorems.proofs.PieceLaw.{joined_all}
+use Rattle.theorems.proofs.PieceLaw.{joined_all, joined_split}
 use Rattle.theorems.proofs.RefusalLaw.{refuses_agree, want_as}
 use Rattle.library_calls.specs.Forms.{IsTextOf, RefusesTextOf, RefusesPiece}
 use Rattle.library_calls.specs.Streams.{IsOpen, IsFed, HasFault, Opens, Takes, by_piece, Ends, TellsEnd}
@@ -37,14 +37,6 @@ took_more form limit pieces n piece old new more takes stays (fed whole) = by ne
     by (Some session) (streams.by_fault fault has why) =
         refused (n + 1) fault has (subst (λ (bytes : List ℕ). RefusesPiece limit bytes fault) more why)
 took_more form limit pieces n piece old new more takes stays (refused k fault has why) = refused k fault (stays fault has) why
-
--- the pieces so far, and the rest
-joined_split : (pieces : List (Vec ℕ)) (n : ℕ) → joined pieces ≡ joined (take n pieces) ++ joined (drop n pieces)
-joined_split pieces zero = refl
-joined_split [] (suc n) = refl
-joined_split (piece ∷ pieces) (suc n) =
-    ap (λ (t : List ℕ). piece.items ++ t) (joined_split pieces n)
-    ∙ sym (append_assoc piece.items (joined (take n pieces)) (joined (drop n pieces)))
 
 -- the fault of the pieces so far is that of all
 of_all : FaultsStay 62 → (limit : ℕ) (pieces : List (Vec ℕ)) (k : ℕ) (fault : Fault) → RefusesPiece limit (joined (take k pieces)) fault

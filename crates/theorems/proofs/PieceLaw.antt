@@ -57,7 +57,7 @@ joined_all (piece ∷ pieces) zero h = absurd (omega arith)
 joined_all (piece ∷ pieces) (suc i) h = ap (λ (t : List ℕ). piece.items ++ t) (joined_all pieces i (omega arith))
 
 -- the pieces so far, and the rest
-joined_split : (pieces : List (Vec ℕ)) (n : ℕ) → joined pieces ≡ joined (take n pieces) ++ joined (drop n pieces)
+pub joined_split : (pieces : List (Vec ℕ)) (n : ℕ) → joined pieces ≡ joined (take n pieces) ++ joined (drop n pieces)
 joined_split pieces zero = refl
 joined_split [] (suc n) = refl
 joined_split (piece ∷ pieces) (suc n) =
