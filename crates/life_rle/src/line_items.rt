@@ -129,9 +129,9 @@ fn push_run(cursor: Cursor, item: Item, runs: &mut Vec<Run>) -> Result<(), Kind>
     Ok(())
 }
 
-/// Takes an item that stands at the cursor, and answers the place behind it.
+/// Takes an item of a kind that is known, and answers the place behind it.
 #[inline(always)]
-fn take_item(rule: &Rule, cursor: Cursor, item: Item, runs: &mut Vec<Run>) -> Result<Cursor, Kind>
+fn take_one(rule: &Rule, cursor: Cursor, item: Item, runs: &mut Vec<Run>) -> Result<Cursor, Kind>
     requires near { IsNear MAX_LEVEL cursor }
     requires count { item_count item ≤ most_count MAX_LEVEL }
     ensures cursor { IfOk result (λ next. next ≡ moved cursor item) }
@@ -146,6 +146,24 @@ fn take_item(rule: &Rule, cursor: Cursor, item: Item, runs: &mut Vec<Run>) -> Re
     }
     push_run(cursor, item, runs)?;
     Ok(moved(cursor, item))
+}
+
+/// Takes an item that stands at the cursor, and answers the place behind it.
+#[inline(always)]
+fn take_item(rule: &Rule, cursor: Cursor, item: Item, runs: &mut Vec<Run>) -> Result<Cursor, Kind>
+    requires near { IsNear MAX_LEVEL cursor }
+    requires count { item_count item ≤ most_count MAX_LEVEL }
+    ensures cursor { IfOk result (λ next. next ≡ moved cursor item) }
+    ensures near { IfOk result (λ next. IsNear MAX_LEVEL next) }
+    ensures sound { OnOk result (item_fault MAX_LEVEL rule.now cursor.y cursor.x item ≡ None) }
+    ensures runs { OnOk result (runs.new.items ≡ runs.old.items ++ with_run cursor.y cursor.x item []) }
+    ensures kept { OnErr result (runs.new.items ≡ runs.old.items) }
+    ensures fault { IfErr result (λ kind. (kind ≡ Kind.Memory) ⊎ (item_fault MAX_LEVEL rule.now cursor.y cursor.x item ≡ Some kind)) }
+{
+    match item {
+        Item::Cells { count, state } => take_one(rule, cursor, Item::Cells { count, state }, runs),
+        Item::RowEnds { count } => take_one(rule, cursor, Item::RowEnds { count }, runs),
+    }
 }
 
 /// Reads the items of a line from the cursor on, and puts their runs behind the runs.
