@@ -1082,7 +1082,7 @@ CHOSEN_KEYS = [
 TABLES = [
     by_table("a million variables", table(b"none", variables(plain_names)), BLANK, canonical(b"Foo", 1), times=20),
     by_table("a list of half a million variables", table(b"none", *UNION), BLANK, canonical(b"Foo", 1)),
-    by_table("2000 lines that give nothing, 450 cells", table(b"rotate8reflect", *TURNED), FIFTY, FIFTY_STEPPED, each=80),
+    by_table("2000 lines that give nothing, 450 cells", table(b"rotate8reflect", *TURNED), FIFTY, FIFTY_STEPPED),
     by_table("500 lines to search, 450 cells", table(b"permute", *SEARCHED), FIFTY, FIFTY_STEPPED, each=220),
 ]
 
