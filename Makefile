@@ -9,6 +9,7 @@
 #   make fuzz_library  the same of the library for C, its streams too, which takes half the time
 #   make times     runs `rt ci`, and says how much processor time it took for each crate, its tests and its edits
 #   make bench     times the program beside plain programs in C (with SMALL=1 on smaller inputs, within three minutes)
+#   make instructions   counts the instructions of both on the smaller inputs, which other work on the machine does not change
 #   make install   installs the proved program to $(DESTDIR)$(PREFIX)/bin, its man page and completions to $(DESTDIR)$(PREFIX)/share, and the
 #                  library with its header to $(DESTDIR)$(PREFIX)/lib and include
 #   make uninstall removes what make install put there, with the same PREFIX and DESTDIR
@@ -55,6 +56,9 @@ times:
 bench: golly_canon
 	@RT="$(RT)" SMALL="$(SMALL)" python3 bench/run.py ./golly_canon out/bench
 
+instructions: golly_canon
+	@python3 -B bench/instructions.py ./golly_canon out/bench_small
+
 install: golly_canon library
 	install -d "$(DESTDIR)$(PREFIX)/bin"
 	install -m 755 golly_canon "$(DESTDIR)$(PREFIX)/bin/golly_canon"
@@ -81,4 +85,4 @@ distclean: clean
 
 FORCE:
 
-.PHONY: all library quick test plants fuzz fuzz_library times bench install uninstall help clean distclean FORCE
+.PHONY: all library quick test plants fuzz fuzz_library times bench instructions install uninstall help clean distclean FORCE
