@@ -8,17 +8,17 @@ use Rattle.life_block.specs.declared.grid.Four.{Four}
 use Rattle.life_block.specs.Pieces.{AreFourAt, back}
 use Rattle.life_sweep.specs.declared.column.Column.{Column}
 
--- the cells of 64 columns in three rows
+-- a word of cells, and those of the rows one further north and south
 abbrev pub Words : Type 0
 Words = Column ℕ
 
--- the states of the neighbours of place i of the 62 places between the first column and the last, from north clockwise
+-- the states of the neighbours of place i of the 62 between the first bit and the last, from north around
 abbrev pub neighbours_in : Words → ℕ → List ℕ
 neighbours_in w i =
     bit_at w.north (i + 1) ∷ bit_at w.north (i + 2) ∷ bit_at w.here (i + 2) ∷ bit_at w.south (i + 2)
     ∷ bit_at w.south (i + 1) ∷ bit_at w.south i ∷ bit_at w.here i ∷ bit_at w.north i ∷ []
 
--- of the four of them that share a side with the place, from north clockwise
+-- of the four of them that share a side with the place, from north around
 abbrev pub sides_in : Words → ℕ → List ℕ
 sides_in w i = bit_at w.north (i + 1) ∷ bit_at w.here (i + 2) ∷ bit_at w.south (i + 1) ∷ bit_at w.here i ∷ []
 

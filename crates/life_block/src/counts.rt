@@ -1,4 +1,4 @@
-//! The live neighbours of 62 places side by side, counted at once: a number for each place, in four words, a binary digit a word.
+//! The live neighbours of the places of a word, counted at once: a number for each place, in four words, a binary digit a word.
 ghost use Rattle.std.specs.Prelude.{◌≡◌, ℕ, ◌+◌, ◌-◌, ◌*◌, ◌<◌, ◌≤◌, ◌^◌, ◌==◌, if◌then◌else◌};
 ghost use Rattle.std.specs.Int.{bit_at};
 ghost use Rattle.life_table.specs.Meaning.{count_of};
@@ -8,10 +8,10 @@ ghost use Rattle.life_block.specs.Bits.{count_at, neighbours_in, sides_in, count
 use life_base::{LifeRule, Near};
 use life_sweep::Column;
 
-/// The cells of 64 columns in three rows: bit i is the cell i columns east of the first.
+/// A word of cells, and those of the rows one further north and south. Bits i and i + 2 stand beside bit i + 1 in its row.
 pub(crate) type Words = Column<u64>;
 
-/// A number of 0 to 15 for each column.
+/// A number of 0 to 15 for each place.
 #[derive(Clone, Copy)]
 pub(crate) struct Counts {
     pub(crate) ones: u64,

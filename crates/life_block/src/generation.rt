@@ -34,7 +34,7 @@ fn is_off_edge(bounds: &Bounds) -> bool
     true
 }
 
-/// Whether a cell outside the plane may be born: the square is that of the whole plane, and a cell stands at its edge, or none at all.
+/// Whether the sweep has to answer: the square is that of the whole plane, and a cell stands at its edge, or it has no cell.
 ///
 /// # Errors
 ///

@@ -57,7 +57,7 @@ pub record SomeGrown (P : Tree → Type 0) (t : Tree) (level : ℕ) : Type 0 whe
   pub low : depth t + suc more ≤ level
   pub part : SomePart P (grown_times (suc more) t)
 
--- A square has a property that the root of a pattern has to be made for, where lines give one of level n: trimmed, the root of the canonical file,
+-- A square has a property, and has to be made for the root of a pattern whose lines give a root of level n: trimmed, the root of the canonical file,
 -- of a lower level; grown, the square about (0, 0) of a higher level, up to the least one, or a part of it.
 pub data SomeRoot (top : ℕ) (P : Tree → Type 0) (u : Universe) (n : ℕ) : Type 0 where
   trimmed_root : depth (whole top u) < n → P (whole top u) → SomeRoot top P u n

@@ -76,7 +76,7 @@ abbrev pub IsBefore : ℕ → Option ℕ → Type 0
 IsBefore column None = Unit {0}
 IsBefore column (Some end) = column < end
 
--- from the column to before the start no span has a column, and one has the start
+-- from the column to before the start no span has a column, and the start lies before the end of the spans
 pub record IsStart (spans : List Span) (column start : ℕ) : Type 0 where
   pub from : column ≤ start
   pub none : (c : ℕ) → column ≤ c → c < start → id_at spans c ≡ None

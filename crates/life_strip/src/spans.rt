@@ -29,7 +29,7 @@ pub(crate) struct Strip {
 #[derive(Clone, Copy)]
 pub(crate) struct Stretch {
     pub(crate) index: usize,
-    // The first column from this one on that a span has, if one does.
+    // A column from this one on before which no span has one, if a span is left.
     pub(crate) start: Option<u64>,
     // The column where the square ends, if a span is left.
     pub(crate) end: Option<u64>,
@@ -189,7 +189,7 @@ pub(crate) fn pair<S: Squares>(
     ensures needed { result ≡ Err Full → (column : ℕ) × (column < 2 ^ (MAX_LEVEL - (level + 1))) × S.needs_node squares.new (quad_at (S.content squares.old) level upper.now lower.now column) }
 {
     let blank = squares.empty(level);
-    // Mostly a span of the two strips is in one span, and each of these has a column at least.
+    // As a rule each span of the two strips adds one span at most, and never more spans than columns come of them.
     let columns = covered(upper).max(covered(lower)) / 2 + 1;
     let room = (upper.len() + lower.len()).min(columns as usize);
     let mut spans = Vec::with_capacity(alloc, room)?;

@@ -33,6 +33,7 @@ InSets vars entry p k sets = (s : ℕ) → s < 256 → can_be_state vars entry s
 abbrev pub IsApart : List Entry → ℕ → ℕ → List ℕ → Type 0
 IsApart inputs p k apart = (q : ℕ) → q < p → entry_at inputs p ≢ entry_at inputs q → bit_at (slice_index apart (9 * p + q)) k ≡ 1
 
+-- a block has a line: in the set of each state that one of its inputs may be, and of each two places with different inputs
 pub record HasLine (vars : List Var) (inputs : List Entry) (k : ℕ) (block : Block) : Type 0 where
   pub states : (p : ℕ) → p < length inputs → InSets vars (entry_at inputs p) p k block.sets
   pub apart : (p : ℕ) → p < length inputs → IsApart inputs p k block.apart

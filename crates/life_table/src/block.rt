@@ -184,7 +184,7 @@ impl Block {
         lines
     }
 
-    /// Those of these lines that have another entry at place `p` than wherever before it another state stands.
+    /// Of these lines those whose entry at place `p` is another one than at each place before it that has another state.
     fn apart_at(&self, image: &[State], p: usize, lines: u64) -> u64
         requires place { p < length image.now }
         requires few { length image.now ≤ 9 }
@@ -212,6 +212,7 @@ impl Block {
         }
         lines
     }
+
     /// The lines that may give something at one of the images of `n` cells.
     pub(crate) fn that_may_give(&self, images: &Images, n: usize) -> u64
         requires room { n ≤ 9 }

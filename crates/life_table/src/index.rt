@@ -157,7 +157,7 @@ impl<'a> Index<'a> {
         self.table
     }
 
-    /// Indexes 64 lines more, if there are as many.
+    /// Indexes the next 64 lines, or as many as are left (a block of none where all lines fill whole blocks).
     fn grow_by_block(&mut self)
         ensures { self.new ≡ self.old }
     {
