@@ -1,3 +1,4 @@
+mod Leafless
 mod Reworded
 mod Numbered
 mod Pieces

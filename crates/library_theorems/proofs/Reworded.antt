@@ -1,11 +1,12 @@
 -- What the calls of the library tell, in the words of the formats.
-use Rattle.std.proofs.Common.{◌≡◌, ◌⊎◌, inl, inr, ℕ, List, refl, subst}
+use Rattle.std.proofs.Common.{◌≡◌, ◌⊎◌, inl, inr, ℕ, List, [], ◌∷◌, ◌++◌, length, take, drop, refl, ap, ◌∙◌, sym, subst, arith}
 use Rattle.std.specs.Prelude.{◌≢◌, Ok, Err, IsOk}
 use Rattle.life_base.specs.Kinds.{kind_number}
 use Rattle.life_base.specs.Refusal.{OrMemory}
 use Rattle.life_base.specs.Text.{lines_of}
 use Rattle.life_base.specs.declared.fault.Fault.{Fault}
 use Rattle.life_base.specs.declared.kind.Kind.TheVariants.{Memory}
+use Rattle.life_mc.specs.Reading.{IsMacrocell}
 use Rattle.life_canon.specs.Files.{Accepted}
 use Rattle.life_canon.specs.Laws.{CanonicalIsLeast, FilesAreOnPlane, FilesAreUnique, TextsAreFiles, TextsKeepPatterns}
 use Rattle.life_canon.specs.Least.{IsLeastText}
@@ -15,25 +16,30 @@ use Rattle.life_table.specs.Grammar.{IsFile}
 use Rattle.life_table.specs.Reading.{Refuses as RefusesTable, AreTable}
 use Rattle.life_table.specs.declared.table.Table.{Table as LayerTable}
 use Rattle.claims.specs.ByTable.{IsSteppedBy, IsUnsteppedBy}
+use Rattle.claims.specs.Counting.{node_lines}
 use Rattle.claims.specs.Files.{pattern_of, Same, IsWant, fault_of}
 use Rattle.claims.specs.Generation.{IsUnstepped}
+use Rattle.claims.specs.Pattern.{Pattern}
+use Rattle.claims.specs.Shown.{IsShown as AreLines}
 use Rattle.claims.specs.Table.{Table, table_of}
+use Rattle.claims.proofs.RuleLaw.{rule_in}
 use Rattle.table_laws.specs.Laws.{TablesDecide, TablesRead, TablesRefuse}
 use Rattle.table_laws.specs.Tables.{IsTable}
 use Rattle.theorems.proofs.CellsLaw.{few_cells, says_more}
-use Rattle.theorems.proofs.FileLaw.{same_from, same_to, rle_format, text_is_file, text_is_least, text_is_macrocell}
+use Rattle.theorems.proofs.FileLaw.{files_agree, ok_of, same_from, same_to, rle_format, text_is_file, text_is_least, text_is_macrocell}
 use Rattle.theorems.proofs.RefusalLaw.{accepted_is_ok, refuses_agree, want_as}
 use Rattle.theorems.proofs.ShownLaw.{shown_is}
 use Rattle.theorems.proofs.StreamLaw.{one_text}
 use Rattle.step_theorems.proofs.StepLaw.{unstepped_is}
-use Rattle.step_theorems.proofs.StepBy.{stepped_is, unstepped_is as unstepped_by_is}
+use Rattle.step_theorems.proofs.StepBy.{next_by_is_fixed, stepped_is, unstepped_is as unstepped_by_is}
 use Rattle.library_calls.specs.Answers.{RefusesWithin, RefusesRleWithin}
 use Rattle.library_calls.specs.Answers.{IsCanonicalText as LayerText, IsRleText as LayerRle}
 use Rattle.library_calls.specs.Comparing.{Compared, ComparesWithin, by_answer, IsAnswerOf, RefusesEither}
 use Rattle.library_calls.specs.Comparing as comparing
 use Rattle.library_calls.specs.Stepping.{RefusesStepWithin, RefusesStepByWithin, StepsByTable, by_table, by_no_table}
-use Rattle.library_calls.specs.Told.{Told, Gives, Tells, Answers, by_text, by_fault}
+use Rattle.library_calls.specs.Told.{Told, Copies, LacksRoom, Gives, Tells, Answers, by_text, by_fault}
 use Rattle.library_theorems.specs.Answered.{IsCanonicalText, IsRleText, AreFiveLines, IsUnread, IsUnwritten}
+use Rattle.library_theorems.proofs.Leafless.{leaves_so}
 use Rattle.library_theorems.proofs.Numbered.{IsOfText, no_text}
 
 -- the same is told by what texts and faults imply
@@ -46,11 +52,22 @@ reworded (by_fault f why tells) text fault = by_fault f (fault f why) tells
 -- ---- texts
 
 pub canonical_so : FilesAreOnPlane 62 → TextsAreFiles 62 → TextsKeepPatterns 62 → (file text : List ℕ) → LayerText file text → IsCanonicalText file text
-canonical_so on_plane files keep file text c = record {
-  same = text_is_file keep file text c.0;
-  macrocell = text_is_macrocell files on_plane file text c.0;
-  least = text_is_least on_plane file text c.1;
-}
+canonical_so on_plane files keep file text c =
+    let u = c.0.universe in
+    let agrees = files_agree file u c.0.reads in
+    let same : Same file text = text_is_file keep file text c.0 in
+    let rule : same.second.rule ≡ rule_in u.rule =
+    sym same.rule ∙ ap (λ (p : Pattern). p.rule) (ok_of (pattern_of file) same.first agrees.pattern same.first_is agrees.is) ∙ agrees.rule in
+    let says : IsMacrocell 62 text (canonical_file 62 u) =
+    subst (λ (t : List ℕ). IsMacrocell 62 t (canonical_file 62 u)) (sym c.0.is) (files u (on_plane file u c.0.reads)).0 in
+    record {
+      rival = record {
+        same = same;
+        format = text_is_macrocell files on_plane file text c.0;
+        leaves = leaves_so text u same.second.rule rule says;
+      };
+      least = text_is_least on_plane file text c.1;
+    }
 
 pub rle_so : (file text : List ℕ) → LayerRle file text → IsRleText file text
 rle_so file text r = record { same = same_to file text r.1; format = rle_format file text r.0; few = few_cells file text r.0 }
@@ -166,3 +183,47 @@ pub text_so : FilesAreUnique 62 → (file text : List ℕ) {IsFault : Fault → 
     → Answers (LayerText file) IsFault line told → IsOfText told.status → Gives text told
 text_so unique file text line told c (by_text t is gives none) ok = subst (λ (it : List ℕ). Gives it told) (one_text unique file t text is.0 c) gives
 text_so unique file text line told c (by_fault fault why tells) ok = no_text told.status fault.kind tells.status ok
+
+-- the lines count the node lines of the canonical text
+pub counted_so : FilesAreOnPlane 62 → FilesAreUnique 62 → TextsAreFiles 62 → (file text : List ℕ) {IsFault : Fault → Type 0} (line : ℕ) (told : Told)
+    → IsCanonical 62 file text → Answers (IsShown 62 file) IsFault line told → IsOfText told.status
+    → (lines : List ℕ) × Gives lines told × ((pattern : Pattern) × (pattern_of file ≡ Ok pattern) × AreLines pattern (node_lines text) lines)
+counted_so on_plane unique files file text line told c (by_text lines is gives none) ok =
+    (lines, gives, shown_is on_plane unique files file lines text is c)
+counted_so on_plane unique files file text line told c (by_fault fault why tells) ok = no_text told.status fault.kind tells.status ok
+
+-- ---- a text in the memory
+
+take_front : (xs ys : List ℕ) → take (length xs) (xs ++ ys) ≡ xs
+take_front [] ys = refl
+take_front (x ∷ xs) ys = ap (λ (t : List ℕ). x ∷ t) (take_front xs ys)
+
+-- the memory has one text of the length that is told
+one_copy : (s t : List ℕ) (told : Told) → Gives s told → Gives t told → told.status ≡ 0 → s ≡ t
+one_copy s t told g h ok = by g.1 h.1
+  where
+    lengths : length s ≡ length t
+    lengths = sym g.0 ∙ h.0
+
+    by : Copies s told ⊎ LacksRoom s told → Copies t told ⊎ LacksRoom t told → s ≡ t
+    by (inl c) (inl d) =
+        sym (take_front s (drop (length s) told.before)) ∙ ap (λ (b : List ℕ). take (length s) b) (sym c.after ∙ d.after)
+        ∙ ap (λ n. take n (t ++ drop (length t) told.before)) lengths ∙ take_front t (drop (length t) told.before)
+    by (inl c) (inr l) = let e : 0 ≡ 64 = sym ok ∙ l.status in absurd (omega (arith, e))
+    by (inr l) d = let e : 0 ≡ 64 = sym ok ∙ l.status in absurd (omega (arith, e))
+
+-- a text that is its own canonical text is so where it stands in the memory
+pub fixed_so : {IsText : List ℕ → Type 0} {IsFault : Fault → Type 0} (text again : List ℕ) (line : ℕ) (told : Told)
+    → ((it : List ℕ) → IsText it → IsCanonical 62 it again → it ≡ again) → Answers IsText IsFault line told → told.status ≡ 0 → Gives text told
+    → IsCanonical 62 text again → again ≡ text
+fixed_so text again line told fixed (by_text it is gives none) ok here c =
+    let same : it ≡ text = one_copy it text told gives here ok in
+    sym (fixed it is (subst (λ (bytes : List ℕ). IsCanonical 62 bytes again) (sym same) c)) ∙ same
+fixed_so text again line told fixed (by_fault fault why tells) ok here c = no_text told.status fault.kind tells.status (inl ok)
+
+pub fixed_by_so : FilesAreUnique 62 → (limit : ℕ) (file rules text again : List ℕ) (in_table line : ℕ) (told : Told)
+    → StepsByTable limit file rules in_table line told → told.status ≡ 0 → Gives text told → IsCanonical 62 text again → again ≡ text
+fixed_by_so unique limit file rules text again in_table line told (by_table layer is zero answers) ok here c =
+    fixed_so text again line told (λ it stepped. next_by_is_fixed unique layer file it again stepped) answers ok here c
+fixed_by_so unique limit file rules text again in_table line told (by_no_table fault why one tells) ok here c =
+    no_text told.status fault.kind tells.status (inl ok)

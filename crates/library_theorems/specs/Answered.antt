@@ -1,5 +1,5 @@
 -- What the calls of the library tell of a file, in the words of the formats.
-use Rattle.std.specs.Prelude.{◌≡◌, ◌⊎◌, ◌^◌, ◌≤◌, ℕ, List, true, false, codes, Ok, Err}
+use Rattle.std.specs.Prelude.{◌≡◌, ◌⊎◌, ◌^◌, ◌≤◌, ℕ, List, false, codes, Ok, Err}
 use Rattle.life_base.specs.Text.{begins_with}
 use Rattle.life_base.specs.declared.fault.Fault.{Fault}
 use Rattle.life_base.specs.declared.kind.Kind.TheVariants.{TooManyCells}
@@ -9,10 +9,9 @@ use Rattle.claims.specs.Generation.{SaysMoreCells}
 use Rattle.claims.specs.Pattern.{Pattern}
 use Rattle.claims.specs.Shown.{IsShown}
 
--- the text is a macrocell file of the file's pattern, and none with which it is compared has fewer node lines
+-- the text is one of the macrocell files of the file's pattern with which it is compared, and none of these has fewer node lines
 pub record IsCanonicalText (file text : List ℕ) : Type 0 where
-  pub same : Same file text
-  pub macrocell : begins_with text (codes "[M2]") ≡ true
+  pub rival : IsRival file text
   pub least : (rival : List ℕ) → IsRival file rival → node_lines text ≤ node_lines rival
 
 -- the text is a file of the file's pattern and no macrocell file, and no more than 2 ^ 20 cells have a state other than 0

@@ -1,17 +1,19 @@
 //! The next generation of a file.
 
-ghost use Rattle.std.specs.Prelude.{◌≡◌, ◌⊎◌, Ok, Err};
+ghost use Rattle.std.specs.Prelude.{◌≡◌, ◌⊎◌, ◌≤◌, ◌^◌, Ok, Err, IfOk};
 ghost use Rattle.life_base.specs.declared.fault.Fault.{Fault};
 ghost use Rattle.claims.specs.ByTable.{IsSteppedBy, IsUnsteppedBy};
 ghost use Rattle.claims.specs.Files.{fault_of};
 ghost use Rattle.claims.specs.Generation.{IsStepped, IsUnstepped};
 ghost use Rattle.claims.specs.Table.{Table, table_of};
-ghost use Rattle.library_calls.specs.Told.{Answers, Tells};
+ghost use Rattle.library_calls.specs.Told.{Answers, Gives, Tells};
 ghost use Rattle.library_theorems.specs.Answered.{IsUnread};
 
 use library_calls::{step, step_by_table};
-use life_base::Kind;
-use life_canon::laws::files_are_on_plane;
+use life_base::{Fault, Kind};
+use life_canon::canon;
+use life_canon::laws::{files_are_on_plane, files_are_unique};
+use life_quad::{Seed, Shared};
 use life_table::laws::grammars_agree;
 use std::alloc::Global;
 use table_laws::laws::{tables_decide, tables_read, tables_refuse};
@@ -58,4 +60,52 @@ pub fn next_generation_by_table_is_told(
     tables_refuse();
     tables_decide();
     step_by_table(alloc, file, rules, limit, seed, out, needed, line, in_table)
+}
+
+/// The text of the next generation that was put into the caller's memory is its own canonical text.
+pub fn told_next_text_is_fixed(
+    alloc: Global,
+    file: &[u8],
+    limit: u64,
+    seed: u64,
+    out: &mut [u8],
+    needed: &mut usize,
+    line: &mut u64,
+    text: &[u8],
+    other_limit: u64,
+    other_seed: Seed,
+) -> (u32, Result<Vec<u8>, Fault>)
+    requires { other_limit ≤ 2 ^ 62 }
+    ensures { result.0 ≡ 0 → Gives text.now (record { before = out.old; after = out.new; needed = needed.new; status = result.0 })
+        → IfOk result.1 (λ again. again.items ≡ text.now) }
+{
+    files_are_unique();
+    let status = step(alloc, file, limit, seed, out, needed, line);
+    let mut store = Shared::new(alloc, other_seed, other_limit);
+    (status, canon(alloc, &mut store, text))
+}
+
+/// So is that of the next generation by a rule table.
+pub fn told_next_text_by_table_is_fixed(
+    alloc: Global,
+    file: &[u8],
+    rules: &[u8],
+    limit: u64,
+    seed: u64,
+    out: &mut [u8],
+    needed: &mut usize,
+    line: &mut u64,
+    in_table: &mut u32,
+    text: &[u8],
+    other_limit: u64,
+    other_seed: Seed,
+) -> (u32, Result<Vec<u8>, Fault>)
+    requires { other_limit ≤ 2 ^ 62 }
+    ensures { result.0 ≡ 0 → Gives text.now (record { before = out.old; after = out.new; needed = needed.new; status = result.0 })
+        → IfOk result.1 (λ again. again.items ≡ text.now) }
+{
+    files_are_unique();
+    let status = step_by_table(alloc, file, rules, limit, seed, out, needed, line, in_table);
+    let mut store = Shared::new(alloc, other_seed, other_limit);
+    (status, canon(alloc, &mut store, text))
 }

@@ -1,8 +1,12 @@
 //! A file that comes in pieces, and one answer at its end.
 
-ghost use Rattle.std.specs.Prelude.{◌≡◌, ◌⊎◌, ◌≤◌, ◌^◌, ℕ, [], IfOk};
+ghost use Rattle.std.specs.Prelude.{◌≡◌, ◌⊎◌, ◌≤◌, ◌^◌, ℕ, List, [], Ok, IfOk};
 ghost use Rattle.life_base.specs.Kinds.{kind_number};
+ghost use Rattle.claims.specs.Counting.{node_lines};
+ghost use Rattle.claims.specs.Files.{pattern_of};
 ghost use Rattle.claims.specs.Generation.{IsStepped, IsUnstepped};
+ghost use Rattle.claims.specs.Pattern.{Pattern};
+ghost use Rattle.claims.specs.Shown.{IsShown};
 ghost use Rattle.library_calls.specs.Forms.{IsTextOf, RefusesTextOf};
 ghost use Rattle.library_calls.specs.Streams.{session_of, IsOpen, IsFed};
 ghost use Rattle.library_calls.specs.Told.{Answers, Gives};
@@ -157,4 +161,59 @@ pub fn stream_gives_the_text(
     let status = told_of_pieces(alloc, stream, pieces, out, needed, line);
     let mut store = Shared::new(alloc, other_seed, other_limit);
     (opened, status, canon(alloc, &mut store, whole))
+}
+
+/// The five lines of a stream that was fed the file's pieces, cut anywhere, tell the file's pattern, and how many node lines the
+/// text has that `canon` of `life_canon` makes of the file.
+pub fn stream_counts_the_text(
+    alloc: Global,
+    stream: &mut Stream,
+    pieces: &[Vec<u8>],
+    whole: &[u8],
+    limit: u64,
+    seed: u64,
+    out: &mut [u8],
+    needed: &mut usize,
+    line: &mut u64,
+    other_limit: u64,
+    other_seed: Seed,
+) -> (u32, u32, Result<Vec<u8>, Fault>)
+    requires cut { whole.now ≡ joined pieces.now }
+    requires limit { other_limit ≤ 2 ^ 62 }
+    ensures { result.0 ≡ 0 → (result.1 ≡ 0) ⊎ (result.1 ≡ 64) → IfOk result.2 (λ text. (lines : List ℕ)
+        × Gives lines (record { before = out.old; after = out.new; needed = needed.new; status = result.1 })
+        × ((pattern : Pattern) × (pattern_of (joined pieces.now) ≡ Ok pattern) × IsShown pattern (node_lines text.items) lines)) }
+{
+    files_are_on_plane();
+    files_are_unique();
+    texts_are_files();
+    let opened = open_show(alloc, stream, limit, seed);
+    let status = told_of_pieces(alloc, stream, pieces, out, needed, line);
+    let mut store = Shared::new(alloc, other_seed, other_limit);
+    (opened, status, canon(alloc, &mut store, whole))
+}
+
+/// The text of the next generation that a stream put into the caller's memory is its own canonical text.
+pub fn next_text_of_stream_is_fixed(
+    alloc: Global,
+    stream: &mut Stream,
+    pieces: &[Vec<u8>],
+    limit: u64,
+    seed: u64,
+    out: &mut [u8],
+    needed: &mut usize,
+    line: &mut u64,
+    text: &[u8],
+    other_limit: u64,
+    other_seed: Seed,
+) -> (u32, u32, Result<Vec<u8>, Fault>)
+    requires { other_limit ≤ 2 ^ 62 }
+    ensures { result.0 ≡ 0 → result.1 ≡ 0 → Gives text.now (record { before = out.old; after = out.new; needed = needed.new; status = result.1 })
+        → IfOk result.2 (λ again. again.items ≡ text.now) }
+{
+    files_are_unique();
+    let opened = open_step(alloc, stream, limit, seed);
+    let status = told_of_pieces(alloc, stream, pieces, out, needed, line);
+    let mut store = Shared::new(alloc, other_seed, other_limit);
+    (opened, status, canon(alloc, &mut store, text))
 }

@@ -1,6 +1,10 @@
 //! The texts of a file, put into memory of the caller.
 
-ghost use Rattle.std.specs.Prelude.{◌≡◌, ◌⊎◌, ◌≤◌, ◌^◌, IfOk};
+ghost use Rattle.std.specs.Prelude.{◌≡◌, ◌⊎◌, ◌≤◌, ◌^◌, ℕ, List, Ok, IfOk};
+ghost use Rattle.claims.specs.Counting.{node_lines};
+ghost use Rattle.claims.specs.Files.{pattern_of};
+ghost use Rattle.claims.specs.Pattern.{Pattern};
+ghost use Rattle.claims.specs.Shown.{IsShown};
 ghost use Rattle.library_calls.specs.Told.{Answers, Gives};
 ghost use Rattle.library_theorems.specs.Answered.{IsCanonicalText, IsRleText, AreFiveLines, IsUnread, IsUnwritten};
 
@@ -90,4 +94,30 @@ pub fn five_lines_are_told(
     texts_are_files();
     texts_keep_patterns();
     show(alloc, file, limit, seed, out, needed, line)
+}
+
+/// The five lines of which is told, by a status that isn't a fault's, tell the file's pattern, and how many node lines the
+/// text has that `canon` of `life_canon` makes of the file.
+pub fn told_lines_count_the_text(
+    alloc: Global,
+    file: &[u8],
+    limit: u64,
+    seed: u64,
+    out: &mut [u8],
+    needed: &mut usize,
+    line: &mut u64,
+    other_limit: u64,
+    other_seed: Seed,
+) -> (u32, Result<Vec<u8>, Fault>)
+    requires { other_limit ≤ 2 ^ 62 }
+    ensures { (result.0 ≡ 0) ⊎ (result.0 ≡ 64) → IfOk result.1 (λ text. (lines : List ℕ)
+        × Gives lines (record { before = out.old; after = out.new; needed = needed.new; status = result.0 })
+        × ((pattern : Pattern) × (pattern_of file.now ≡ Ok pattern) × IsShown pattern (node_lines text.items) lines)) }
+{
+    files_are_on_plane();
+    files_are_unique();
+    texts_are_files();
+    let status = show(alloc, file, limit, seed, out, needed, line);
+    let mut store = Shared::new(alloc, other_seed, other_limit);
+    (status, canonical_text(alloc, &mut store, file))
 }

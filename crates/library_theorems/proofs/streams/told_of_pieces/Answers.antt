@@ -1,4 +1,4 @@
-use Rattle.std.proofs.Common.{◌+◌, ◌≡◌, ◌++◌, ℕ, List, ◌∙◌, ap, sym, take}
+use Rattle.std.proofs.Common.{◌++◌, ℕ, List, ◌∙◌, ap, sym, take}
 use Rattle.theorems.specs.Joined.{joined}
 use Rattle.theorems.proofs.PieceLaw.{joined_more}
 use Rattle.library_theorems.proofs.Pieces.{fed, took_more, told_at_end}
