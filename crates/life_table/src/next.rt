@@ -35,7 +35,8 @@ impl Neighbours {
     }
 }
 
-/// The states that a line gives at one cell: none, one or two.
+/// The states that a line gives at one cell: none, one or two. Inlined, since each of its two callers asks it of each line.
+#[inline(always)]
 pub(crate) fn given_by(symmetry: Symmetry, site: &Site, line: &Transition) -> Found
     requires site { IsSite site.now }
     requires line { IsLineAt site.now line.now }

@@ -28,7 +28,7 @@ WritesCanonical jobs.Show = ⊥
 WritesCanonical (jobs.Convert Rle) = ⊥
 WritesCanonical _ = Unit {0}
 
--- a macrocell file of the same pattern, with as few node lines as any
+-- a macrocell file of the same pattern, with as few node lines as any (under a name, as any without leaf lines)
 pub record IsLeastFile (file text : List ℕ) : Type 0 where
   pub same : Same file text
   pub format : begins_with text (codes "[M2]") ≡ true
