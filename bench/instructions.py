@@ -9,15 +9,18 @@ import os
 import re
 import subprocess
 import sys
+import tempfile
 
 os.environ["SMALL"] = "1"
 from run import SOUPS, jobs, kinds, output, plain, soup_of, tree_of
 
 
 def instructions(words):
-    """The instructions of a command, in millions."""
-    ran = subprocess.run(["valgrind", "--tool=callgrind", "--callgrind-out-file=/dev/null", *words], stdin=subprocess.DEVNULL,
-                         stdout=subprocess.DEVNULL, stderr=subprocess.PIPE, text=True)
+    """The instructions of a command, in millions. The profile goes into a file of its own: callgrind replaces the file that it is told, so a run as
+    root would put a plain file into the place of a device."""
+    with tempfile.TemporaryDirectory() as folder:
+        ran = subprocess.run(["valgrind", "--tool=callgrind", f"--callgrind-out-file={folder}/profile", *words], stdin=subprocess.DEVNULL,
+                             stdout=subprocess.DEVNULL, stderr=subprocess.PIPE, text=True)
     found = re.search(r"Collected : (\d+)", ran.stderr)
     if not found:
         sys.exit(f"{' '.join(words)}: {ran.stderr}")
