@@ -788,7 +788,7 @@ FEW_LINES = [
     few_lines("2^20 cells of the whole plane that stay", of_the_plane(BLOCKS), LIFE + b"#G 1\n" + of_the_plane(BLOCKS), "step input"),
     few_lines("786,432 cells of the whole plane that turn", of_the_plane(BLINKERS), LIFE + b"#G 1\n" + of_the_plane(TURNED_BLINKERS), "step input"),
     few_lines("2^20 single cells of the whole plane that die", of_the_plane(SPECKS), LIFE + b"#G 1\n", "step input"),
-    accepted("40,000 lines of chains at random, of 786,432 cells that stay", [LIFE, mixed_blocks], [LIFE + b"#G 1\n", mixed_blocks], "step input", each=3,
+    accepted("40,000 lines of chains at random, of 786,432 cells that stay", [LIFE, mixed_blocks], [LIFE + b"#G 1\n", mixed_blocks], "step input", each=6,
              little=20 * MEGABYTE),
     few_lines("2^16 single cells in 60 lines that stay by a table", NAMED_SPECKS, canonical(b"Still", 1) + NAMED_SPECKS,
               "step input --table still.rule", STILL, b"Still", each=4000),
