@@ -1,5 +1,5 @@
 -- What is counted in the text of a macrocell file, and with which texts a canonical one is compared. All of it is this project's own.
-use Rattle.std.specs.Prelude.{◌≡◌, ◌⊎◌, ℕ, Bool, true, false, not, ◌&&◌, List, drop, count_by, slice_index, codes}
+use Rattle.std.specs.Prelude.{◌≡◌, ◌⊎◌, ◌≤◌, ℕ, Bool, true, false, not, ◌&&◌, List, drop, count_by, slice_index, codes}
 use Rattle.std.specs.List.{list_any}
 use Rattle.life_base.specs.Text.{lines_of, is_blank, begins_with, trim}
 use Rattle.claims.specs.Rules.{Rule, counting, named}
@@ -21,9 +21,14 @@ abbrev pub is_counting : Rule → Bool
 is_counting (counting neighbours births survivals) = true
 is_counting (named name) = false
 
--- a macrocell file of the same pattern, and under a name one without leaf lines: a higher root, mixed levels, repeats and squares that the root
--- doesn't reach are allowed
+-- A file with which a canonical text is compared: a macrocell file of the same pattern, under a name one without leaf lines. A higher root, mixed levels,
+-- repeats and squares that the root doesn't reach are allowed.
 pub record IsRival (file rival : List ℕ) : Type 0 where
   pub same : Same file rival
   pub format : begins_with rival (codes "[M2]") ≡ true
   pub leaves : (is_counting same.second.rule ≡ true) ⊎ (has_leaves rival ≡ false)
+
+-- the text is a rival itself, and no rival has fewer node lines
+pub record IsCanonicalText (file text : List ℕ) : Type 0 where
+  pub rival : IsRival file text
+  pub least : (rival : List ℕ) → IsRival file rival → node_lines text ≤ node_lines rival

@@ -1,6 +1,6 @@
 -- Macrocell files (Golly Help, File Formats, "Macrocell format"): what each line says, what a file says, and which fault the first line has that
 -- breaks a rule. Of Golly Help are the first line, `#R`, `#G`, comments, the two kinds of node lines, their numbers, the order of the quarters, and
--- that the last node is the root. This project's own are, each told again at its place:
+-- that the last node is the root. This project's own are:
 --   the limits of lengths, levels and generations, the kinds and the order of their tests, and that a file without `#R` has the rule B3/S23;
 --   blank lines and comments may stand after any line, `#R` and `#G` before the first node alone, and `#FRAME` nowhere;
 --   after `#R` and `#G` whitespace or the end of the line must follow: `#RB36/S23` and `#G7` are a rule and a generation in Golly, and comments here;
@@ -90,7 +90,7 @@ with_node rule nodes (quad level nw ne sw se) =
 
 -- ---- the lines
 
--- The line is this word, and whitespace or the end of the line follows. (Golly Help asks for the word alone:
+-- The line begins with this word, and whitespace or its end follows. (Golly Help asks for the word alone:
 -- there `#RB36/S23` is a rule, and here it is a comment.)
 abbrev pub is_command : List ℕ → List ℕ → Bool
 is_command word line = begins_with line word && is_blank (take 1 (drop (length word) line))

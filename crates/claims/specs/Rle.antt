@@ -1,6 +1,7 @@
 -- Extended RLE files (Golly Help, File Formats, "Extended RLE format"): what each line says, what a file says, and which fault the first line has that
--- breaks a rule. Of Golly Help are the table of states, what `Pos`, `Gen`, `$` and `!` mean, the tokens of the header, that its sizes count for nothing,
--- and which lines after the header are data. This project's own are, each told again at its place:
+-- breaks a rule. Of Golly Help are that the header begins with `x` and is the first line that is neither blank nor begins with `#`, its tokens, that its
+-- sizes count for nothing, which lines after it are data, the table of states, that a count stands immediately before its item, and what `Pos`, `Gen`,
+-- `$` and `!` mean. This project's own are:
 --   the plane and every limit, the kinds and the order of their tests, and what holds where a file names no place, no generation or no rule;
 --   a header must stand, and once: Golly reads items without one, and Golly Help doesn't speak of a second one;
 --   `#CXRLE` may stand on any line before the header, after comments too, and not between the header and `!`; whitespace or the line's end follows it;
@@ -32,7 +33,7 @@ pub data Item : Type 0 where
   cells : (count state : ℕ) → Item
   row_ends : (count : ℕ) → Item
 
--- what the lines from the header on say
+-- what the lines from the header on say, and the position that the lines before it said
 pub record Rle : Type 0 where
   pub rule : Rule
   pub position : Position
@@ -124,8 +125,8 @@ item_of text =
     let last = drop (prefix_len is_ascii_digit text) text in
     if bytes_eq last (codes "$") then Ok (row_ends count) else cells_of count (state_of last)
 
--- The texts of a line: each ends with the first byte that is neither a digit nor a prefix of a state. So an item is one text, and so is `!`,
--- and a byte of whitespace between items. No text goes on into the next line.
+-- The texts of a line: each ends with the first byte that is neither a digit nor a prefix of a state, or with the line. So an item is one text, and so
+-- is `!`, and a byte of whitespace between items. No text goes on into the next line.
 abbrev pub texts_of : List ℕ → List (List ℕ)
 texts_of [] = []
 texts_of (b ∷ line) =
@@ -184,7 +185,7 @@ abbrev pub behind_number : List ℕ → Result (List ℕ) Kind
 behind_number text =
     if is_digit_text (take_while is_ascii_digit text) then Ok (trim_start (drop (prefix_len is_ascii_digit text) text)) else Err BadHeader
 
--- the rule of a header line, after its two sizes: all that follows `rule =`
+-- the rule of a header line, after its two sizes: all that follows `rule =`, or B3/S23 where the line ends there
 abbrev pub rule_part : List ℕ → Result Rule Kind
 rule_part [] = Ok default_rule
 rule_part (b ∷ text) = do

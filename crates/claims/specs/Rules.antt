@@ -1,7 +1,8 @@
 -- Which rule a text names, or why it names none. Of Golly Help (QuickLife) are `B`D`/S`D, what its digits count, and `V` after it for the four
 -- orthogonal neighbours. The rest is this project's own: the four other forms, digits in any order and more than once, small letters, at most 255
 -- bytes, and the kinds with the order of their tests. Golly Help has more, which is refused: `:` (a bounded grid), `H` (six neighbours), births on 0,
--- and letters after a digit, or no `S`, where the text has a `/`. Every other text without `/` and `:` is a name, whatever it means in Golly.
+-- and letters after a digit, or no `S`, where the text has a `/`. Every text of 1 to 255 visible bytes without `/` and `:` that is none of the five
+-- forms, with or without a letter `V` or `H` behind it, is a name, whatever it means in Golly.
 use Rattle.std.specs.Prelude.{ℕ, ◌+◌, ◌-◌, Bool, not, ◌&&◌, ◌||◌, List, [], ◌∷◌, ◌==◌, length, take, drop, map, filter, nat_le, nat_lt, if◌then◌else◌, bytes_eq, codes, Option, Some, None, Result, Ok, Err}
 use Rattle.std.specs.Char.{is_ascii_graphic, to_ascii_uppercase}
 use Rattle.std.specs.List.{list_all, list_any, slice_split}
@@ -66,7 +67,8 @@ abbrev pub other_rule : List ℕ → Result Rule Kind
 other_rule word = if has word (byte "/") then Err UnsupportedRule else Ok (named word)
 
 -- The rule of a word that may be one of the five forms with a letter after it. After a form that begins with `B`, and has no digit above 4, `V`
--- means four neighbours, north, east, south and west (Golly Help); any other `V`, and `H`, means neighbours that aren't supported.
+-- means four neighbours, north, east, south and west (Golly Help, after `BD/SD`; after `BDSD` it is this project's own); any other `V`, and `H`, means
+-- neighbours that aren't supported.
 abbrev pub lettered_rule : List ℕ → List ℕ → List ℕ → Option Digits → Result Rule Kind
 lettered_rule word front letter None = other_rule word
 lettered_rule word front letter (Some digits) =

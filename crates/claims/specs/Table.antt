@@ -1,11 +1,13 @@
 -- Rule tables (Golly Help, File Formats, "Rule format", "@RULE" and "@TABLE"): what each line says, what a file says, which fault the first line has
 -- that breaks a rule, and which state a table gives a cell. Of Golly Help are the sections, the descriptors, variables and transitions, the order of
--- the neighbours, and that the first line that fits decides. This project's own are, each told again at its place:
+-- the neighbours, and that the first line that fits decides. This project's own are:
 --   the limits, the kinds and the order of their tests; that each of the three descriptors is given, and once;
 --   blank lines and comments may stand before `@RULE`, whose name isn't compared with that of the file;
 --   every line whose first byte is `@` begins a section, and the table counts also where a `@TREE` stands before it (in Golly the first one counts);
---   `neighbourhood` is as good as `neighborhood`; which orders a symmetry lists (those of Golly's program, since Golly Help has only the words);
---   a variable line has `=` and braces, and gives a new name; without commas each byte is an entry, however many states and variables there are;
+--   `neighbourhood` is as good as `neighborhood`; which symmetries there are, and which orders each lists: those by which Golly's program steps (Golly
+--   Help names `none` and `permute`, and shows `rotate4` of four neighbours);
+--   a variable line has `=` and braces, and gives a new name; without commas each byte that isn't whitespace is an entry, however many states and
+--   variables there are;
 --   a line that gives a cell two states is ambiguous, where Golly takes one of them; a table must leave a cell of state 0 among such cells as it is.
 use Rattle.std.specs.Prelude.{ℕ, ◌+◌, ◌-◌, ◌*◌, ◌/◌, ◌%◌, ◌^◌, min, Bool, true, false, not, ◌&&◌, ◌||◌, List, [], ◌∷◌, ◌++◌, length, take, drop, map, filter, flat_map, nat_le, nat_lt, ◌==◌, if◌then◌else◌, bytes_eq, codes, slice_get, slice_index, slice_index_or, Option, Some, None, Result, Ok, Err}
 use Rattle.std.specs.Char.{is_ascii_digit, is_ascii_graphic}
@@ -142,7 +144,7 @@ abbrev pub is_bound : List Entry → Entry → Bool
 is_bound inputs (fixed state) = true
 is_bound inputs (variable n) = list_any (λ (e : Entry). elim e [ fixed state ↦ false | variable m ↦ m == n ]) inputs
 
--- a transition may stand among cells of state 0
+-- a transition fits a cell of state 0 whose neighbours all have state 0
 abbrev pub fits_zero : List Variable → Transition → Bool
 fits_zero variables line = list_all (λ entry. list_any (λ s. s == 0) (states_of variables entry)) line.inputs
 
@@ -186,8 +188,8 @@ rule_line line _ = Err NoRuleLine
 abbrev pub new_table : List ℕ → Table
 new_table name = record { name = name; n_states = None; neighbours = None; symmetry = None; variables = []; transitions = [] }
 
--- What the lines so far say with one more after them, or the first rule that this one breaks. Before the rule line blank lines and comments are
--- passed over, and between it and the table every line.
+-- What the lines so far say with one more after them, or the first rule that this one breaks. A line that is too long is refused wherever it stands.
+-- Of the others blank lines and comments before the rule line are passed over, and every line between it and the table line, and behind the table.
 unfoldable pub with_line : Section → ℕ → List ℕ → Result Section Kind
 with_line section number line = if is_too_long line then Err LineTooLong else short section
   where
@@ -255,7 +257,7 @@ taken (entry ∷ entries) [] n = 0
 taken (fixed s ∷ entries) (state ∷ states) n = taken entries states n
 taken (variable m ∷ entries) (state ∷ states) n = if m == n then state else taken entries states n
 
--- an entry allows a state, where variables have one state at all their places
+-- an entry allows its own state, and that of a variable one of the variable's states, which is the same at all its places
 abbrev pub allows : List Variable → (ℕ → ℕ) → Entry × ℕ → Bool
 allows variables value (fixed s, state) = s == state
 allows variables value (variable n, state) = value n == state && list_any (λ s. s == state) (states_of variables (variable n))

@@ -1,4 +1,3 @@
-mod Leafless
 mod Reworded
 mod Numbered
 mod Pieces

@@ -16,7 +16,7 @@ use Rattle.life_table.specs.Grammar.{IsFile}
 use Rattle.life_table.specs.Reading.{Refuses as RefusesTable, AreTable}
 use Rattle.life_table.specs.declared.table.Table.{Table as LayerTable}
 use Rattle.claims.specs.ByTable.{IsSteppedBy, IsUnsteppedBy}
-use Rattle.claims.specs.Counting.{node_lines}
+use Rattle.claims.specs.Counting.{node_lines, IsCanonicalText}
 use Rattle.claims.specs.Files.{pattern_of, Same, IsWant, fault_of}
 use Rattle.claims.specs.Generation.{IsUnstepped}
 use Rattle.claims.specs.Pattern.{Pattern}
@@ -25,8 +25,9 @@ use Rattle.claims.specs.Table.{Table, table_of}
 use Rattle.claims.proofs.RuleLaw.{rule_in}
 use Rattle.table_laws.specs.Laws.{TablesDecide, TablesRead, TablesRefuse}
 use Rattle.table_laws.specs.Tables.{IsTable}
+use Rattle.theorems.proofs.CanonicalLaw.{canonical_so}
 use Rattle.theorems.proofs.CellsLaw.{few_cells, says_more}
-use Rattle.theorems.proofs.FileLaw.{files_agree, ok_of, same_from, same_to, rle_format, text_is_file, text_is_least, text_is_macrocell}
+use Rattle.theorems.proofs.FileLaw.{files_agree, ok_of, same_from, same_to, rle_format}
 use Rattle.theorems.proofs.RefusalLaw.{accepted_is_ok, refuses_agree, want_as}
 use Rattle.theorems.proofs.ShownLaw.{shown_is}
 use Rattle.theorems.proofs.StreamLaw.{one_text}
@@ -38,8 +39,7 @@ use Rattle.library_calls.specs.Comparing.{Compared, ComparesWithin, by_answer, I
 use Rattle.library_calls.specs.Comparing as comparing
 use Rattle.library_calls.specs.Stepping.{RefusesStepWithin, RefusesStepByWithin, StepsByTable, by_table, by_no_table}
 use Rattle.library_calls.specs.Told.{Told, Copies, LacksRoom, Gives, Tells, Answers, by_text, by_fault}
-use Rattle.library_theorems.specs.Answered.{IsCanonicalText, IsRleText, AreFiveLines, IsUnread, IsUnwritten}
-use Rattle.library_theorems.proofs.Leafless.{leaves_so}
+use Rattle.library_theorems.specs.Answered.{IsRleText, AreFiveLines, IsUnread, IsUnwritten}
 use Rattle.library_theorems.proofs.Numbered.{IsOfText, no_text}
 
 -- the same is told by what texts and faults imply
@@ -51,23 +51,8 @@ reworded (by_fault f why tells) text fault = by_fault f (fault f why) tells
 
 -- ---- texts
 
-pub canonical_so : FilesAreOnPlane 62 → TextsAreFiles 62 → TextsKeepPatterns 62 → (file text : List ℕ) → LayerText file text → IsCanonicalText file text
-canonical_so on_plane files keep file text c =
-    let u = c.0.universe in
-    let agrees = files_agree file u c.0.reads in
-    let same : Same file text = text_is_file keep file text c.0 in
-    let rule : same.second.rule ≡ rule_in u.rule =
-    sym same.rule ∙ ap (λ (p : Pattern). p.rule) (ok_of (pattern_of file) same.first agrees.pattern same.first_is agrees.is) ∙ agrees.rule in
-    let says : IsMacrocell 62 text (canonical_file 62 u) =
-    subst (λ (t : List ℕ). IsMacrocell 62 t (canonical_file 62 u)) (sym c.0.is) (files u (on_plane file u c.0.reads)).0 in
-    record {
-      rival = record {
-        same = same;
-        format = text_is_macrocell files on_plane file text c.0;
-        leaves = leaves_so text u same.second.rule rule says;
-      };
-      least = text_is_least on_plane file text c.1;
-    }
+pub canonical_to : FilesAreOnPlane 62 → TextsAreFiles 62 → TextsKeepPatterns 62 → (file text : List ℕ) → LayerText file text → IsCanonicalText file text
+canonical_to on_plane files keep file text c = canonical_so on_plane files keep file text c.0 c.1
 
 pub rle_so : (file text : List ℕ) → LayerRle file text → IsRleText file text
 rle_so file text r = record { same = same_to file text r.1; format = rle_format file text r.0; few = few_cells file text r.0 }
@@ -92,7 +77,7 @@ lines_so least on_plane unique files keep file text s =
       pattern = shown.0;
       is = shown.1;
       canonical = canon_text 62 u;
-      is_canonical = canonical_so on_plane files keep file (canon_text 62 u) (canonical, fewest);
+      is_canonical = canonical_so on_plane files keep file (canon_text 62 u) canonical fewest;
       shown = shown.2;
     }
 

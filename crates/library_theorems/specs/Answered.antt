@@ -1,18 +1,13 @@
 -- What the calls of the library tell of a file, in the words of the formats.
-use Rattle.std.specs.Prelude.{◌≡◌, ◌⊎◌, ◌^◌, ◌≤◌, ℕ, List, false, codes, Ok, Err}
+use Rattle.std.specs.Prelude.{◌≡◌, ◌⊎◌, ◌^◌, ℕ, List, false, codes, Ok, Err}
 use Rattle.life_base.specs.Text.{begins_with}
 use Rattle.life_base.specs.declared.fault.Fault.{Fault}
 use Rattle.life_base.specs.declared.kind.Kind.TheVariants.{TooManyCells}
-use Rattle.claims.specs.Counting.{node_lines, IsRival}
+use Rattle.claims.specs.Counting.{node_lines, IsCanonicalText}
 use Rattle.claims.specs.Files.{pattern_of, Same, IsWant, fault_of}
 use Rattle.claims.specs.Generation.{SaysMoreCells}
 use Rattle.claims.specs.Pattern.{Pattern}
 use Rattle.claims.specs.Shown.{IsShown}
-
--- the text is one of the macrocell files of the file's pattern with which it is compared, and none of these has fewer node lines
-pub record IsCanonicalText (file text : List ℕ) : Type 0 where
-  pub rival : IsRival file text
-  pub least : (rival : List ℕ) → IsRival file rival → node_lines text ≤ node_lines rival
 
 -- the text is a file of the file's pattern and no macrocell file, and no more than 2 ^ 20 cells have a state other than 0
 pub record IsRleText (file text : List ℕ) : Type 0 where

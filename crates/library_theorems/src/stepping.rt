@@ -11,7 +11,6 @@ ghost use Rattle.library_theorems.specs.Answered.{IsUnread};
 
 use library_calls::{step, step_by_table};
 use life_base::{Fault, Kind};
-use life_canon::canon;
 use life_canon::laws::{files_are_on_plane, files_are_unique};
 use life_quad::{Seed, Shared};
 use life_table::laws::grammars_agree;
@@ -36,7 +35,8 @@ pub fn next_generation_is_told(
     step(alloc, file, limit, seed, out, needed, line)
 }
 
-/// The same by a rule table; or 1 is told with the number and the line of the fault of the table's file.
+/// The same by a rule table. Where 0 is told in `in_table`, the line of `Ambiguous` is one of the table's file. Where 1 is told,
+/// the number and the line are those of the fault of the table's file, or memory was wanted to read it.
 pub fn next_generation_by_table_is_told(
     alloc: Global,
     file: &[u8],
@@ -82,10 +82,10 @@ pub fn told_next_text_is_fixed(
     files_are_unique();
     let status = step(alloc, file, limit, seed, out, needed, line);
     let mut store = Shared::new(alloc, other_seed, other_limit);
-    (status, canon(alloc, &mut store, text))
+    (status, life_canon::canon(alloc, &mut store, text))
 }
 
-/// So is that of the next generation by a rule table.
+/// So is the text of the next generation by a rule table.
 pub fn told_next_text_by_table_is_fixed(
     alloc: Global,
     file: &[u8],
@@ -107,5 +107,5 @@ pub fn told_next_text_by_table_is_fixed(
     files_are_unique();
     let status = step_by_table(alloc, file, rules, limit, seed, out, needed, line, in_table);
     let mut store = Shared::new(alloc, other_seed, other_limit);
-    (status, canon(alloc, &mut store, text))
+    (status, life_canon::canon(alloc, &mut store, text))
 }

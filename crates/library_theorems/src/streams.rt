@@ -2,7 +2,7 @@
 
 ghost use Rattle.std.specs.Prelude.{◌≡◌, ◌⊎◌, ◌≤◌, ◌^◌, ℕ, List, [], Ok, IfOk};
 ghost use Rattle.life_base.specs.Kinds.{kind_number};
-ghost use Rattle.claims.specs.Counting.{node_lines};
+ghost use Rattle.claims.specs.Counting.{node_lines, IsCanonicalText};
 ghost use Rattle.claims.specs.Files.{pattern_of};
 ghost use Rattle.claims.specs.Generation.{IsStepped, IsUnstepped};
 ghost use Rattle.claims.specs.Pattern.{Pattern};
@@ -11,12 +11,11 @@ ghost use Rattle.library_calls.specs.Forms.{IsTextOf, RefusesTextOf};
 ghost use Rattle.library_calls.specs.Streams.{session_of, IsOpen, IsFed};
 ghost use Rattle.library_calls.specs.Told.{Answers, Gives};
 ghost use Rattle.library_calls.specs.declared.form.Form.{Form};
-ghost use Rattle.library_theorems.specs.Answered.{IsCanonicalText, IsRleText, AreFiveLines, IsUnread, IsUnwritten};
+ghost use Rattle.library_theorems.specs.Answered.{IsRleText, AreFiveLines, IsUnread, IsUnwritten};
 ghost use Rattle.theorems.specs.Joined.{joined};
 
 use library_calls::{Stream, close, feed, finish, open_canon, open_show, open_step, open_to_rle};
 use life_base::{Fault, Kind};
-use life_canon::canon;
 use life_canon::laws::{
     canonical_is_least, faults_stay, files_are_on_plane, files_are_unique, texts_are_files,
     texts_keep_patterns,
@@ -137,7 +136,8 @@ pub fn next_generation_of_stream(
     (opened, status)
 }
 
-/// So is that of a stream that was fed the file's pieces, cut anywhere.
+/// Where no fault is told, the text of a stream that was fed a file's pieces, cut anywhere, is the one that `canon` of
+/// `life_canon` makes of the file.
 pub fn stream_gives_the_text(
     alloc: Global,
     stream: &mut Stream,
@@ -160,11 +160,11 @@ pub fn stream_gives_the_text(
     let opened = open_canon(alloc, stream, limit, seed);
     let status = told_of_pieces(alloc, stream, pieces, out, needed, line);
     let mut store = Shared::new(alloc, other_seed, other_limit);
-    (opened, status, canon(alloc, &mut store, whole))
+    (opened, status, life_canon::canon(alloc, &mut store, whole))
 }
 
-/// The five lines of a stream that was fed the file's pieces, cut anywhere, tell the file's pattern, and how many node lines the
-/// text has that `canon` of `life_canon` makes of the file.
+/// Where no fault is told, the five lines of a stream that was fed a file's pieces, cut anywhere, tell the file's pattern, and
+/// how many node lines the text has that `canon` of `life_canon` makes of the file.
 pub fn stream_counts_the_text(
     alloc: Global,
     stream: &mut Stream,
@@ -190,7 +190,7 @@ pub fn stream_counts_the_text(
     let opened = open_show(alloc, stream, limit, seed);
     let status = told_of_pieces(alloc, stream, pieces, out, needed, line);
     let mut store = Shared::new(alloc, other_seed, other_limit);
-    (opened, status, canon(alloc, &mut store, whole))
+    (opened, status, life_canon::canon(alloc, &mut store, whole))
 }
 
 /// The text of the next generation that a stream put into the caller's memory is its own canonical text.
@@ -215,5 +215,5 @@ pub fn next_text_of_stream_is_fixed(
     let opened = open_step(alloc, stream, limit, seed);
     let status = told_of_pieces(alloc, stream, pieces, out, needed, line);
     let mut store = Shared::new(alloc, other_seed, other_limit);
-    (opened, status, canon(alloc, &mut store, text))
+    (opened, status, life_canon::canon(alloc, &mut store, text))
 }

@@ -1,16 +1,15 @@
 //! The texts of a file, put into memory of the caller.
 
 ghost use Rattle.std.specs.Prelude.{◌≡◌, ◌⊎◌, ◌≤◌, ◌^◌, ℕ, List, Ok, IfOk};
-ghost use Rattle.claims.specs.Counting.{node_lines};
+ghost use Rattle.claims.specs.Counting.{node_lines, IsCanonicalText};
 ghost use Rattle.claims.specs.Files.{pattern_of};
 ghost use Rattle.claims.specs.Pattern.{Pattern};
 ghost use Rattle.claims.specs.Shown.{IsShown};
 ghost use Rattle.library_calls.specs.Told.{Answers, Gives};
-ghost use Rattle.library_theorems.specs.Answered.{IsCanonicalText, IsRleText, AreFiveLines, IsUnread, IsUnwritten};
+ghost use Rattle.library_theorems.specs.Answered.{IsRleText, AreFiveLines, IsUnread, IsUnwritten};
 
 use library_calls::{canon, show, to_rle};
 use life_base::Fault;
-use life_canon::canon as canonical_text;
 use life_canon::laws::{
     canonical_is_least, files_are_on_plane, files_are_unique, texts_are_files, texts_keep_patterns,
 };
@@ -37,7 +36,7 @@ pub fn canonical_text_is_told(
     canon(alloc, file, limit, seed, out, needed, line)
 }
 
-/// The text of which is told, by a status that isn't a fault's, is the one that `canon` of `life_canon` makes of the file.
+/// Where no fault is told, the text is the one that `canon` of `life_canon` makes of the file.
 pub fn told_text_is_that_of_canon(
     alloc: Global,
     file: &[u8],
@@ -56,10 +55,10 @@ pub fn told_text_is_that_of_canon(
     files_are_unique();
     let status = canon(alloc, file, limit, seed, out, needed, line);
     let mut store = Shared::new(alloc, other_seed, other_limit);
-    (status, canonical_text(alloc, &mut store, file))
+    (status, life_canon::canon(alloc, &mut store, file))
 }
 
-/// The same of a file in extended RLE, which may have too many cells.
+/// The same of the text in extended RLE of a file, for which the file may have too many cells.
 pub fn rle_is_told(
     alloc: Global,
     file: &[u8],
@@ -75,7 +74,7 @@ pub fn rle_is_told(
     to_rle(alloc, file, limit, seed, out, needed, line)
 }
 
-/// The same of the five lines on a file.
+/// The same of the five lines that tell a file's pattern.
 pub fn five_lines_are_told(
     alloc: Global,
     file: &[u8],
@@ -96,8 +95,8 @@ pub fn five_lines_are_told(
     show(alloc, file, limit, seed, out, needed, line)
 }
 
-/// The five lines of which is told, by a status that isn't a fault's, tell the file's pattern, and how many node lines the
-/// text has that `canon` of `life_canon` makes of the file.
+/// Where no fault is told, the five lines tell the file's pattern, and how many node lines the text has that `canon` of
+/// `life_canon` makes of the file.
 pub fn told_lines_count_the_text(
     alloc: Global,
     file: &[u8],
@@ -119,5 +118,5 @@ pub fn told_lines_count_the_text(
     texts_are_files();
     let status = show(alloc, file, limit, seed, out, needed, line);
     let mut store = Shared::new(alloc, other_seed, other_limit);
-    (status, canonical_text(alloc, &mut store, file))
+    (status, life_canon::canon(alloc, &mut store, file))
 }

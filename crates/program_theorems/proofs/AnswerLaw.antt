@@ -16,18 +16,19 @@ use Rattle.life_cli.specs.Plans.{HasSecond as LayerSecond}
 use Rattle.life_cli.specs.declared.plans.Job.{Job}
 use Rattle.life_cli.specs.declared.plans.Job.TheVariants as jobs
 use Rattle.life_cli.specs.declared.plans.Target.TheVariants.{Rle, Mc}
-use Rattle.claims.specs.Counting.{node_lines}
+use Rattle.claims.specs.Counting.{node_lines, IsCanonicalText}
 use Rattle.claims.specs.Files.{pattern_of, Same}
 use Rattle.claims.specs.Pattern.{Pattern}
 use Rattle.claims.specs.Shown.{IsShown}
 use Rattle.theorems.proofs.CellsLaw.{few_cells}
-use Rattle.theorems.proofs.FileLaw.{texts_are_exact, text_is_file, text_is_macrocell, text_is_least, same_to, same_from, rle_format}
+use Rattle.theorems.proofs.CanonicalLaw.{canonical_so}
+use Rattle.theorems.proofs.FileLaw.{texts_are_exact, same_to, same_from, rle_format}
 use Rattle.theorems.proofs.RefusalLaw.{accepted_is_ok}
 use Rattle.theorems.proofs.ShownLaw.{shown_is}
 use Rattle.theorems.proofs.StreamLaw.{all_read, at_end}
 use Rattle.step_theorems.proofs.StepLaw.{stepped_is}
 use Rattle.step_theorems.proofs.StepBy.{stepped_text}
-use Rattle.program_theorems.specs.Jobs.{HasSecond, WritesCanonical, IsLeastFile, Answers, IsShort}
+use Rattle.program_theorems.specs.Jobs.{HasSecond, WritesCanonical, Answers, IsShort}
 use Rattle.program_theorems.specs.Layers.{LayersAgree}
 
 -- ---- second files
@@ -68,12 +69,8 @@ least_text laws bytes text c =
       least = laws.least u h;
     }
 
-least_file : LayersAgree → (bytes text : List ℕ) → IsCanonical 62 bytes text → IsLeastFile bytes text
-least_file laws bytes text c = record {
-  same = text_is_file laws.keep bytes text c;
-  format = text_is_macrocell laws.files laws.on_plane bytes text c;
-  least = text_is_least laws.on_plane bytes text (least_text laws bytes text c);
-}
+canonical : LayersAgree → (bytes text : List ℕ) → IsCanonical 62 bytes text → IsCanonicalText bytes text
+canonical laws bytes text c = canonical_so laws.on_plane laws.files laws.keep bytes text c (least_text laws bytes text c)
 
 compares : LayersAgree → (a b : List ℕ) (status : ℕ) (text : List ℕ) → Accepted 62 a → Accepted 62 b → Compares a b status text
     → ((status ≡ 0) × Same a b × (text ≡ codes "same\n")) ⊎ ((status ≡ 1) × (Same a b → ⊥) × (text ≡ codes "different\n"))
@@ -82,17 +79,17 @@ compares laws a b status text p q (inr h) = inr (h.0, (λ s. h.1 (same_from laws
 
 answers : LayersAgree → (job : Job) (file second : List ℕ) (status : ℕ) (text : List ℕ) → Writes job file second status text
     → Answers job file second status text
-answers laws jobs.Canon file second status text h = (h.0, least_file laws file text h.1)
+answers laws jobs.Canon file second status text h = (h.0, canonical laws file text h.1)
 answers laws (jobs.Convert Rle) file second status text h =
     (h.0, same_to file text (laws.rle (2 ^ 20) file text h.1), rle_format file text h.1, few_cells file text h.1)
-answers laws (jobs.Convert Mc) file second status text h = (h.0, least_file laws file text h.1)
+answers laws (jobs.Convert Mc) file second status text h = (h.0, canonical laws file text h.1)
 answers laws jobs.Same file second status text h =
     (accepted_is_ok file h.0, accepted_is_ok second h.1, compares laws file second status text h.0 h.1 h.2)
 answers laws jobs.Show file second status text h =
-    let canonical = canon_text 62 h.1.universe in
-    let c : IsCanonical 62 file canonical = record { universe = h.1.universe; reads = h.1.reads; is = refl } in
-    let s = shown_is laws.on_plane laws.unique laws.files file text canonical h.1 c in
-    (h.0, (s.0, s.1, (canonical, least_file laws file canonical c, s.2)))
+    let told = canon_text 62 h.1.universe in
+    let c : IsCanonical 62 file told = record { universe = h.1.universe; reads = h.1.reads; is = refl } in
+    let s = shown_is laws.on_plane laws.unique laws.files file text told h.1 c in
+    (h.0, (s.0, s.1, (told, canonical laws file told c, s.2)))
 answers laws jobs.Step file second status text h = (h.0, stepped_is laws.on_plane file text h.1)
 answers laws jobs.StepTable file second status text h =
     (h.0, stepped_text laws.read laws.decide second file text h.1.0 ((laws.grammars (lines_of second) h.1.0).0 h.1.1) h.1.2)
@@ -177,3 +174,13 @@ shown_outputs laws job other_job first second other_first other_second status ot
 
     shown : Writes jobs.Show k.first_bytes k.second_bytes other_status lines
     shown = subst (λ (j : Job). Writes j k.first_bytes k.second_bytes other_status lines) other_is k.writes
+
+-- what a job for the canonical text of a file writes is that of the file's bytes
+pub written_canonical : (job : Job) (first second : SourceRun) (status : ℕ) (text file : List ℕ) → HasAnswer job first second status text
+    → first.before ≡ Some file → (job ≡ jobs.Canon) ⊎ (job ≡ jobs.Convert Mc) → IsCanonical 62 file text
+written_canonical job first second status text file h e is =
+    subst (λ (b : List ℕ). IsCanonical 62 b text) (all_read (2 ^ 30) first.before first.after file h.first_bytes h.first_read e) (of_job is)
+  where
+    of_job : (job ≡ jobs.Canon) ⊎ (job ≡ jobs.Convert Mc) → IsCanonical 62 h.first_bytes text
+    of_job (inl canon) = (subst (λ (j : Job). Writes j h.first_bytes h.second_bytes status text) canon h.writes).1
+    of_job (inr convert) = (subst (λ (j : Job). Writes j h.first_bytes h.second_bytes status text) convert h.writes).1

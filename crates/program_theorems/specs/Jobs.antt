@@ -8,7 +8,7 @@ use Rattle.life_cli.specs.declared.plans.Job.TheVariants as jobs
 use Rattle.life_cli.specs.declared.plans.Target.TheVariants.{Rle, Mc}
 use Rattle.claims.specs.Pattern.{Pattern}
 use Rattle.claims.specs.Files.{pattern_of, fault_of, Same, IsWant}
-use Rattle.claims.specs.Counting.{node_lines, IsRival}
+use Rattle.claims.specs.Counting.{node_lines, IsCanonicalText}
 use Rattle.claims.specs.Shown.{IsShown}
 use Rattle.claims.specs.Generation.{SaysMoreCells, IsStepped, IsUnstepped}
 use Rattle.claims.specs.Table.{Table, table_of}
@@ -28,16 +28,10 @@ WritesCanonical jobs.Show = ⊥
 WritesCanonical (jobs.Convert Rle) = ⊥
 WritesCanonical _ = Unit {0}
 
--- a macrocell file of the same pattern, with as few node lines as any (under a name, as any without leaf lines)
-pub record IsLeastFile (file text : List ℕ) : Type 0 where
-  pub same : Same file text
-  pub format : begins_with text (codes "[M2]") ≡ true
-  pub least : (rival : List ℕ) → IsRival file rival → node_lines text ≤ node_lines rival
-
 -- the status and the text of a job on the bytes of its files
 abbrev pub Answers : Job → (file second : List ℕ) → (status : ℕ) → (text : List ℕ) → Type 0
-Answers jobs.Canon file second status text = (status ≡ 0) × IsLeastFile file text
-Answers (jobs.Convert Mc) file second status text = (status ≡ 0) × IsLeastFile file text
+Answers jobs.Canon file second status text = (status ≡ 0) × IsCanonicalText file text
+Answers (jobs.Convert Mc) file second status text = (status ≡ 0) × IsCanonicalText file text
 Answers (jobs.Convert Rle) file second status text =
     (status ≡ 0) × Same file text × (begins_with text (codes "[M2]") ≡ false) × (SaysMoreCells (2 ^ 20) file → ⊥)
 Answers jobs.Same file second status text =
@@ -45,7 +39,7 @@ Answers jobs.Same file second status text =
     × (((status ≡ 0) × Same file second × (text ≡ codes "same\n")) ⊎ ((status ≡ 1) × (Same file second → ⊥) × (text ≡ codes "different\n")))
 Answers jobs.Show file second status text =
     (status ≡ 0) × ((pattern : Pattern) × (pattern_of file ≡ Ok pattern)
-    × ((canonical : List ℕ) × IsLeastFile file canonical × IsShown pattern (node_lines canonical) text))
+    × ((canonical : List ℕ) × IsCanonicalText file canonical × IsShown pattern (node_lines canonical) text))
 Answers jobs.Step file second status text = (status ≡ 0) × IsStepped file text
 Answers jobs.StepTable file second status text = (status ≡ 0) × ((table : Table) × (table_of second ≡ Ok table) × IsSteppedBy table file text)
 

@@ -5,5 +5,5 @@ pub mod laws;
 mod outputs;
 mod working;
 
-pub use outputs::outputs_of_two_runs;
+pub use outputs::{outputs_of_two_runs, written_text_is_that_of_canon};
 pub use working::does_its_job;

@@ -1,6 +1,6 @@
-//! What two runs write.
+//! What runs write.
 
-ghost use Rattle.std.specs.Prelude.{◌≡◌, ◌↔◌, ◌<◌, ◌++◌, ℕ, List, false, Some, Ok, IsSome, IfSome};
+ghost use Rattle.std.specs.Prelude.{◌≡◌, ◌⊎◌, ◌↔◌, ◌<◌, ◌≤◌, ◌^◌, ◌++◌, ℕ, List, false, Some, Ok, IsSome, IfSome, IfOk};
 ghost use Rattle.claims.specs.Counting.{node_lines};
 ghost use Rattle.claims.specs.Files.{Same, pattern_of};
 ghost use Rattle.claims.specs.Pattern.{Pattern};
@@ -8,10 +8,43 @@ ghost use Rattle.claims.specs.Shown.{IsShown};
 ghost use Rattle.program_theorems.specs.Jobs.{HasSecond, WritesCanonical};
 
 use crate::laws::layers_agree;
-use life_base::{Sink, Source};
-use life_cli::plans::Job;
+use life_base::{Fault, Sink, Source};
+use life_canon::canon;
+use life_cli::plans::{Job, Target};
 use life_cli::{Seeds, work};
+use life_quad::{Seed, Shared};
 use std::alloc::Global;
+
+/// What `canon` and `convert --to mc` write is the canonical text that `canon` of `life_canon` makes of the bytes of the file.
+pub fn written_text_is_that_of_canon<A: Source, B: Source, O: Sink, E: Sink>(
+    alloc: Global,
+    seeds: &Seeds,
+    job: &Job,
+    first: &mut A,
+    second: &mut Option<B>,
+    out: &mut O,
+    err: &mut E,
+    file: &[u8],
+    limit: u64,
+    seed: Seed,
+) -> (u8, Result<Vec<u8>, Fault>)
+    requires first_reads { A.failures first.old ≡ 0 }
+    requires second_reads { IfSome second.old (λ b. B.failures b ≡ 0) }
+    requires second_given { IsSome second.old ↔ HasSecond job.now }
+    requires writes { O.failures out.old ≡ 0 }
+    requires takes { O.stalled out.old ≡ false }
+    requires tells { E.failures err.old ≡ 0 }
+    requires hears { E.stalled err.old ≡ false }
+    requires limit { limit ≤ 2 ^ 62 }
+    ensures { (held : List ℕ) → A.remaining first.old ≡ Some file.now → O.contents out.old ≡ Some held → result.0 < 2
+        → (job.now ≡ Job.Canon) ⊎ (job.now ≡ Job.Convert Target.Mc)
+        → IfOk result.1 (λ text. O.contents out.new ≡ Some (held ++ text.items)) }
+{
+    layers_agree();
+    let status = work(alloc, seeds, job, first, second, out, err);
+    let mut store = Shared::new(alloc, seed, limit);
+    (status, canon(alloc, &mut store, file))
+}
 
 /// Two runs that write canonical texts, of files or of next generations, write the same bytes exactly if these are files of the
 /// same pattern; and `show` tells how many node lines the text has that `canon` writes of the same bytes.

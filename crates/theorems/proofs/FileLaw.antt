@@ -186,3 +186,7 @@ text_is_least on_plane a s l rival r =
 pub map_ok : {X E : Type 0} {P Q : X → Type 0} (r : Result X E) → ((x : X) → P x → Q x) → IfOk r P → IfOk r Q
 map_ok (Ok x) f h = f x h
 map_ok (Err e) f h = tt
+
+pub map_two : {X E : Type 0} {P Q R : X → Type 0} (r : Result X E) → ((x : X) → P x → Q x → R x) → IfOk r P → IfOk r Q → IfOk r R
+map_two (Ok x) f h k = f x h k
+map_two (Err e) f h k = tt

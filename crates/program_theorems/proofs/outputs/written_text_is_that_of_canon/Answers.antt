@@ -1,0 +1,23 @@
+use Rattle.std.proofs.Common.{List, ℕ, ◌++◌, ap, ◌∙◌}
+use Rattle.std.specs.Prelude.{Some}
+use Rattle.theorems.proofs.FileLaw.{map_ok}
+use Rattle.theorems.proofs.StreamLaw.{appended, one_text}
+use Rattle.program_theorems.proofs.AnswerLaw.{to_layer, from_layer, written_canonical}
+use Rattle.program_theorems.proofs.outputs.written_text_is_that_of_canon.Goals as goal
+
+pub work-status-requires-clause-second_given : goal.work-status-requires-clause-second_given
+work-status-requires-clause-second_given g c = (
+  λ is. to_layer c.args.job.now (c.requires.second_given.0 is),
+  λ has. c.requires.second_given.1 (from_layer c.args.job.now has),
+)
+
+pub returns : goal.returns
+returns g c =
+    λ held e f few is.
+    let done = c.work-status.ensures.done few in
+    let text = done.text in
+    map_ok c.canon.result
+    (λ other k. appended _ _ held text done.written f
+    ∙ ap (λ (t : List ℕ). Some (held ++ t))
+    (one_text c.layers_agree.ensures.unique c.args.file.now text other.items (written_canonical c.args.job.now _ _ _ text c.args.file.now done.answer e is) k))
+    c.canon.ensures.text
