@@ -137,16 +137,12 @@ fits vars inputs k block has are choice is image values =
     }
 
 -- a line of a block that gives something is in the set that has those that may fit an image
-pub may_give_of : (symmetry : Symmetry) (vars : List Var) (line : Transition) (centre : ℕ) (others : List ℕ) (block : Block) (k set n : ℕ) (count : ℕ)
-    (cells : List (List ℕ)) → HasLine vars line.inputs k block → All (IsEntry 256 vars) line.inputs
-    → ((v : List ℕ) → Contains (images symmetry others) v → (j : ℕ) × (j < count) × (take n (get_or cells j []) ≡ centre ∷ v))
-    → ((j : ℕ) → j < count → MayFit block (take n (get_or cells j [])) k → bit_at set k ≡ 1)
+pub may_give_of : (symmetry : Symmetry) (vars : List Var) (line : Transition) (centre : ℕ) (others : List ℕ) (block : Block) (k set : ℕ)
+    → HasLine vars line.inputs k block → All (IsEntry 256 vars) line.inputs
+    → ((v : List ℕ) → Contains (images symmetry others) v → MayFit block (centre ∷ v) k → bit_at set k ≡ 1)
     → (s : ℕ) → Gives symmetry vars line centre others s → bit_at set k ≡ 1
-may_give_of symmetry vars line centre others block k set n count cells has are each in_set s g =
-    let there = each g.image g.is_image in
-    in_set there.0 there.1
-    (subst (λ image. MayFit block image k) (sym there.2)
-    (fits vars line.inputs k block has are g.gives.choice g.gives.is_choice (centre ∷ g.image) g.gives.inputs))
+may_give_of symmetry vars line centre others block k set has are in_set s g =
+    in_set g.image g.is_image (fits vars line.inputs k block has are g.gives.choice g.gives.is_choice (centre ∷ g.image) g.gives.inputs)
 
 -- one more block
 pub block_more : (vars : List Var) (lines : List Transition) (blocks : List Block) (block : Block) → AreBlocks vars lines blocks

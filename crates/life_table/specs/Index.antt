@@ -1,10 +1,11 @@
 -- An index of the lines of a table: sets of lines, among which is each line that gives something at a cell.
-use Rattle.std.specs.Prelude.{◌≡◌, ◌≢◌, ℕ, ◌+◌, ◌-◌, ◌*◌, ◌<◌, ◌≤◌, ◌∷◌, [], List, All, Contains, take, drop, length, slice_index, slice_index_or, true, Option, Result, MatchOption, MatchResult}
+use Rattle.std.specs.Prelude.{◌≡◌, ◌≢◌, ℕ, ◌+◌, ◌-◌, ◌*◌, ◌<◌, ◌≤◌, ◌∷◌, [], List, All, Contains, take, drop, length, slice_index, slice_index_or, Bool, true, nat_eq, Option, Result, MatchOption, MatchResult}
 use Rattle.std.specs.Int.{bit_at}
+use Rattle.std.specs.List.{list_any}
 use Rattle.life_base.specs.declared.fault.Fault.{Fault}
 use Rattle.life_base.specs.declared.kind.Kind.TheVariants as kinds
 use Rattle.life_table.specs.Meaning.{Gives, GivesNothing, Decides, Becomes, Ambiguous}
-use Rattle.life_table.specs.Orders.{turn, reflected_turn, images}
+use Rattle.life_table.specs.Orders.{turn, reflected_turn, images, orders}
 use Rattle.life_table.specs.Site.{centre_of, others_of}
 use Rattle.life_table.specs.Taking.{can_be_state}
 use Rattle.life_table.specs.declared.block.Block.{Block}
@@ -51,6 +52,20 @@ AreBlocks vars lines blocks = (b : ℕ) (d : Block) → b < length blocks → Ha
 pub record MayFit (block : Block) (image : List ℕ) (k : ℕ) : Type 0 where
   pub states : (p : ℕ) → p < length image → slice_index image p < 256 → bit_at (slice_index block.sets (256 * p + slice_index image p)) k ≡ 1
   pub apart : (p q : ℕ) → p < length image → q < p → slice_index image p ≢ slice_index image q → bit_at (slice_index block.apart (9 * p + q)) k ≡ 1
+
+-- a state is one of these
+abbrev pub is_among : List ℕ → ℕ → Bool
+is_among states s = list_any (λ t. nat_eq t s) states
+
+-- a line is in the sets of these states, one for each input behind the centre's
+abbrev pub MayBeBehind : Block → List ℕ → ℕ → Type 0
+MayBeBehind block v k = (p : ℕ) → p < length v → slice_index v p < 256 → bit_at (slice_index block.sets (256 * (p + 1) + slice_index v p)) k ≡ 1
+
+-- a line may fit some order of the neighbours
+pub record MayFitInSomeOrder (block : Block) (cells : List ℕ) (k : ℕ) : Type 0 where
+  pub order : List ℕ
+  pub is_order : Contains (orders (drop 1 cells)) order
+  pub fits : MayFit block (slice_index cells 0 ∷ order) k
 
 -- the cell before the image of that number: the turns come first, and then the reflected ones
 pub record IsImage (ways : Turns) (cells : List ℕ) (j : ℕ) (image : List ℕ) : Type 0 where

@@ -5,7 +5,7 @@ ghost use Rattle.life_table.specs.Meaning.{Gives, GivesNothing, Decides, Becomes
 ghost use Rattle.life_table.specs.Valid.{neighbour_count};
 ghost use Rattle.life_table.specs.Around.{cells_of};
 ghost use Rattle.life_table.specs.Orders.{images, family};
-ghost use Rattle.life_table.specs.Index.{AnswersAmong, MayGive, AreBlocks, HasImages};
+ghost use Rattle.life_table.specs.Index.{AnswersAmong, MayGive, MayFit, AreBlocks, HasImages};
 ghost use Rattle.life_table.specs.Site.{IsSite, IsLineAt, GoesRound, centre_of, others_of};
 ghost use Rattle.life_table.specs.declared.table.Symmetry.TheVariants.{Permute};
 
@@ -82,6 +82,20 @@ fn answer_among(
     None
 }
 
+/// The lines of a block that may give something: all of them that do are there.
+fn of_block(symmetry: Symmetry, site: &Site, block: &Block, turned: &Images) -> u64
+    requires some { 0 < length site.now.cells.now }
+    requires room { length site.now.cells.now ≤ 9 }
+    requires few { turned.now.count ≤ 16 }
+    requires each { symmetry ≢ Symmetry.Permute → HasImages symmetry site.now turned.now }
+    ensures { (k : ℕ) (v : List ℕ) → k < 64 → Contains (images symmetry (others_of site.now)) v → MayFit block.now (centre_of site.now ∷ v) k → bit_at result k ≡ 1 }
+{
+    match symmetry {
+        Symmetry::Permute => block.that_may_give_in_some_order(site.cells),
+        _ => block.that_may_give(turned, site.cells.len()),
+    }
+}
+
 /// The answer of the first line that gives anything, if one does: of those that the blocks have by the blocks, and of the others one by one.
 fn answer_by_blocks(
     symmetry: Symmetry,
@@ -96,12 +110,12 @@ fn answer_by_blocks(
     requires lines { All (IsLineAt site.now) lines.now }
     requires blocks { AreBlocks site.now.vars.now lines.now blocks.now }
     requires few { turned.now.count ≤ 16 }
-    requires each { HasImages symmetry site.now turned.now }
+    requires each { symmetry ≢ Symmetry.Permute → HasImages symmetry site.now turned.now }
     ensures { AnswersAmong symmetry site.now.vars.now (centre_of site.now) (others_of site.now) lines.now (length lines.now) result }
 {
     for b in 0..lines.len() / LINES + 1 {
         let may = if b < blocks.len() {
-            blocks[b].that_may_give(turned, site.cells.len())
+            of_block(symmetry, site, &blocks[b], turned)
         } else {
             u64::MAX
         };
@@ -115,7 +129,6 @@ fn answer_by_blocks(
 /// The next state of a cell by a table and blocks of its lines.
 fn next_by_blocks(table: &Table, blocks: &[Block], around: &Neighbours) -> Result<State, Fault>
     requires neighbours { length (cells_of around.now) ≡ neighbour_count table.now.neighborhood + 1 }
-    requires orders { table.now.symmetry ≢ Symmetry.Permute }
     requires blocks { AreBlocks table.now.vars table.now.lines blocks.now }
     ensures { MatchResult result
         (λ s. Decides table.now.symmetry table.now.vars (slice_index (cells_of around.now) 0) (drop 1 (cells_of around.now)) table.now.lines (Becomes s))
@@ -168,14 +181,12 @@ impl<'a> Index<'a> {
         }
     }
 
-    /// Indexes up to 512 more lines, with 19 KB for each 64. Under `permute` it indexes none. Where memory is refused it does without.
+    /// Indexes up to 512 more lines, with 19 KB for each 64. Where memory is refused it does without.
     pub fn grow(&mut self)
         ensures { self.new ≡ self.old }
     {
-        if self.table.symmetry != Symmetry::Permute {
-            for _ in 0..GROWTH {
-                self.grow_by_block();
-            }
+        for _ in 0..GROWTH {
+            self.grow_by_block();
         }
     }
 
@@ -191,7 +202,7 @@ impl<'a> Index<'a> {
             (λ s. Decides self.now.symmetry self.now.vars (slice_index (cells_of around.now) 0) (drop 1 (cells_of around.now)) self.now.lines (Becomes s))
             (λ fault. (fault.kind ≡ Kind.Ambiguous) × Decides self.now.symmetry self.now.vars (slice_index (cells_of around.now) 0) (drop 1 (cells_of around.now)) self.now.lines (Ambiguous fault.place.line)) }
     {
-        if self.blocks.is_empty() || self.table.symmetry == Symmetry::Permute {
+        if self.blocks.is_empty() {
             return self.table.next(around);
         }
         next_by_blocks(self.table, self.blocks.as_slice(), around)

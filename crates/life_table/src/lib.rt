@@ -22,6 +22,7 @@ mod reading;
 mod seed;
 mod seen;
 mod site;
+mod some_order;
 mod table;
 mod transitions;
 mod turn;

@@ -19,9 +19,8 @@ answer_among-requires-clause-may c = λ k d room inside s g.
       | then-b-blocks w ↦ subst (λ n. bit_at n k ≡ 1) (sym w.may-is)
           (let empty : Block = record { sets = []; apart = []; twice = [] } in
           may_give_of c.args.symmetry site.vars.now (get_or lines (64 * b + k) d) (centre_of site) (others_of site) (get_or c.args.blocks.now b empty) k
-          w.that_may_give-may.result (length site.cells.now) c.args.turned.now.count c.args.turned.now.cells
-          (c.requires.blocks b empty w.if-b-blocks.true k d room inside) (c.requires.lines (64 * b + k) d inside).inputs c.requires.each
-          (λ j below. w.that_may_give-may.ensures k j room below) s g)
+          w.of_block-may.result (c.requires.blocks b empty w.if-b-blocks.true k d room inside) (c.requires.lines (64 * b + k) d inside).inputs
+          (λ v h fit. w.of_block-may.ensures k v room h fit) s g)
       | else-b-blocks w ↦ subst (λ n. bit_at n k ≡ 1) (sym w.may-is) (bit_at_ones 64 k room)
     ]
 

@@ -34,10 +34,10 @@ answer_by_blocks-requires-clause-blocks c =
     (subst (λ (l : List Transition). AreBlocks c.args.table.now.vars l c.args.blocks.now) (sym c.as_slice-lines.ensures) c.requires.blocks)
 
 pub answer_by_blocks-requires-clause-each : goal.answer_by_blocks-requires-clause-each
-answer_by_blocks-requires-clause-each c = λ v h.
+answer_by_blocks-requires-clause-each c = λ other v h.
     c.new-turned.ensures.each v
     (subst (λ (ws : List (List ℕ)). Contains ws v)
-    (c.turns_of-ways.ensures.images c.requires.orders (drop 1 c.as_slice-cells.result.now) (length-drop 1 c.as_slice-cells.result.now)) h)
+    (c.turns_of-ways.ensures.images other (drop 1 c.as_slice-cells.result.now) (length-drop 1 c.as_slice-cells.result.now)) h)
 
 pub returns-in-Some : goal.returns-in-Some
 returns-in-Some c =

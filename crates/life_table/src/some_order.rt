@@ -1,0 +1,181 @@
+//! The lines of a block that may give something in some order of the neighbours. However many of them have one of some states, as many inputs
+//! must be able to be one of these.
+ghost use Rattle.std.specs.Prelude.{◌≡◌, ℕ, ◌+◌, ◌*◌, ◌<◌, ◌≤◌, List, Contains, count_by, length, slice_index};
+ghost use Rattle.std.specs.Int.{bit_at};
+ghost use Rattle.life_table.specs.Orders.{orders};
+ghost use Rattle.life_table.specs.Index.{Stay, is_among, MayBeBehind, MayFitInSomeOrder};
+
+use crate::block::Block;
+use life_base::State;
+
+// Where more lines of a block are left, every choice of states is looked at.
+const FEW: u32 = 8;
+
+/// How many of the neighbours have one of these states.
+fn count_among(others: &[State], states: &[State]) -> usize
+    ensures { result ≡ count_by (is_among states.now) others.now }
+{
+    let mut count = 0;
+    for s in others {
+        if states.contains(s) {
+            count += 1;
+        }
+    }
+    count
+}
+
+/// The states of the neighbours, each once, and how many they are.
+fn each_once(others: &[State]) -> ([State; 8], usize)
+    requires { length others.now ≤ 8 }
+    ensures { result.1 ≤ 8 }
+{
+    let mut states = [0; 8];
+    let mut count = 0;
+    for (i, s) in others.iter().enumerate() {
+        if !others[..i].contains(s) {
+            states[count] = *s;
+            count += 1;
+        }
+    }
+    (states, count)
+}
+
+/// The states whose bits are set, and how many they are.
+fn chosen(states: &[State], bits: usize) -> ([State; 8], usize)
+    requires { length states.now ≤ 8 }
+    ensures { result.1 ≤ 8 }
+{
+    let mut found = [0; 8];
+    let mut count = 0;
+    for (i, s) in states.iter().enumerate() {
+        if bits >> i & 1 == 1 {
+            found[count] = *s;
+            count += 1;
+        }
+    }
+    (found, count)
+}
+
+/// With one set of lines more, those that were in `c` sets before and are in this one are in `c + 1`, for `c` from one number to another.
+fn count_set(reached: &mut [u64; 9], set: u64, from: usize, to: usize)
+    requires { to ≤ 8 }
+    ensures stay { Stay reached.old reached.new }
+    ensures more { (k c : ℕ) → from ≤ c → c < to → bit_at (slice_index reached.old c) k ≡ 1 → bit_at set k ≡ 1 → bit_at (slice_index reached.new (c + 1)) k ≡ 1 }
+{
+    for c in (from..to).rev() {
+        reached[c + 1] |= reached[c] & set;
+    }
+}
+
+impl Block {
+    /// The lines whose input at place `p` may be one of these states.
+    fn with_input_among(&self, p: usize, states: &[State]) -> u64
+        requires { p < 9 }
+        ensures { (k i : ℕ) → i < length states.now → (slice_index states.now i < 256 → bit_at (slice_index self.now.sets (256 * p + slice_index states.now i)) k ≡ 1) → bit_at result k ≡ 1 }
+    {
+        let mut lines = 0;
+        for s in states {
+            lines |= self.sets[256 * p + *s as usize];
+        }
+        lines
+    }
+
+    /// The lines of which so many inputs of the first `n` behind the centre's may be one of these states.
+    fn with_inputs_among(&self, n: usize, states: &[State], times: usize) -> u64
+        requires room { n ≤ 8 }
+        requires few { times ≤ n }
+        ensures { (k : ℕ) (v : List ℕ) → k < 64 → length v ≡ n → MayBeBehind self.now v k → times ≤ count_by (is_among states.now) v → bit_at result k ≡ 1 }
+    {
+        let mut reached = [0; 9];
+        reached[0] = u64::MAX;
+        for p in 0..n {
+            let set = self.with_input_among(p + 1, states);
+            count_set(
+                &mut reached,
+                set,
+                times.saturating_sub(n - p),
+                times.min(p + 1),
+            );
+        }
+        reached[times]
+    }
+
+    /// The lines that have inputs enough for the neighbours of these states.
+    fn with_enough_among(&self, others: &[State], states: &[State]) -> u64
+        requires { length others.now ≤ 8 }
+        ensures { (k : ℕ) (v : List ℕ) → k < 64 → Contains (orders others.now) v → MayBeBehind self.now v k → bit_at result k ≡ 1 }
+    {
+        let times = count_among(others, states);
+        self.with_inputs_among(others.len(), states, times)
+    }
+
+    /// Of these lines those that have inputs enough for the neighbours of each state.
+    fn with_each_state(&self, others: &[State], states: &[State], lines: u64) -> u64
+        requires { length others.now ≤ 8 }
+        ensures { (k : ℕ) (v : List ℕ) → k < 64 → Contains (orders others.now) v → MayBeBehind self.now v k → bit_at lines k ≡ 1 → bit_at result k ≡ 1 }
+    {
+        let mut rest = lines;
+        for i in 0..states.len() {
+            if rest == 0 {
+                return rest;
+            }
+            rest &= self.with_enough_among(others, &states[i..i + 1]);
+        }
+        rest
+    }
+
+    /// Of these lines those that have inputs enough for the neighbours of all states but one, whichever that is.
+    fn with_all_but_one(&self, others: &[State], states: &[State], lines: u64) -> u64
+        requires room { length others.now ≤ 8 }
+        requires few { length states.now ≤ 8 }
+        ensures { (k : ℕ) (v : List ℕ) → k < 64 → Contains (orders others.now) v → MayBeBehind self.now v k → bit_at lines k ≡ 1 → bit_at result k ≡ 1 }
+    {
+        let mut rest = lines;
+        for i in 0..states.len() {
+            if rest == 0 {
+                return rest;
+            }
+            let (some, count) = chosen(states, 255 ^ 1 << i);
+            rest &= self.with_enough_among(others, &some[..count]);
+        }
+        rest
+    }
+
+    /// Of these lines those that have inputs enough for the neighbours of every choice of states.
+    fn with_every_choice(&self, others: &[State], states: &[State], lines: u64) -> u64
+        requires room { length others.now ≤ 8 }
+        requires few { length states.now ≤ 8 }
+        ensures { (k : ℕ) (v : List ℕ) → k < 64 → Contains (orders others.now) v → MayBeBehind self.now v k → bit_at lines k ≡ 1 → bit_at result k ≡ 1 }
+    {
+        let mut rest = lines;
+        for bits in 1..1 << states.len() {
+            if rest == 0 {
+                return rest;
+            }
+            let (some, count) = chosen(states, bits);
+            rest &= self.with_enough_among(others, &some[..count]);
+        }
+        rest
+    }
+
+    /// The lines that may give something at a cell in some order of its neighbours.
+    pub(crate) fn that_may_give_in_some_order(&self, cells: &[State]) -> u64
+        requires some { 0 < length cells.now }
+        requires room { length cells.now ≤ 9 }
+        ensures { (k : ℕ) → k < 64 → MayFitInSomeOrder self.now cells.now k → bit_at result k ≡ 1 }
+    {
+        let others = &cells[1..];
+        let (states, count) = each_once(others);
+        let states = &states[..count];
+        let mut lines = self.sets[cells[0] as usize];
+        if lines != 0 {
+            lines &= self.with_enough_among(others, states);
+        }
+        lines = self.with_each_state(others, states, lines);
+        if lines.count_ones() <= FEW {
+            return lines;
+        }
+        lines = self.with_all_but_one(others, states, lines);
+        self.with_every_choice(others, states, lines)
+    }
+}
