@@ -1,6 +1,6 @@
 -- Facts about four rows of cells.
 use Rattle.life_base.specs.declared.cell.TheConstants.{MAX_LEVEL}
-use Rattle.std.proofs.Common.{◌≡◌, ℕ, suc, ◌+◌, ◌-◌, ◌*◌, ◌/◌, ◌%◌, ◌^◌, ◌≤◌, ◌<◌, true, nat_lt, nat_le, List, [], ◌∷◌, length, get_or, zero, Option, Some, None, sym, ◌∙◌, ap, subst, arith}
+use Rattle.std.proofs.Common.{◌≡◌, ℕ, suc, ◌+◌, ◌-◌, ◌*◌, ◌/◌, ◌%◌, ◌^◌, ◌≤◌, ◌<◌, ◌⊎◌, inl, inr, true, nat_lt, nat_le, List, [], ◌∷◌, length, get_or, zero, Option, Some, None, sym, ◌∙◌, ap, subst, arith}
 use Rattle.std.specs.Prelude.{MatchOption, if◌then◌else◌}
 use Rattle.life_quad.specs.declared.id.Id.{Id}
 use Rattle.life_quad.specs.Keeping.{KeepsSquares}
@@ -15,7 +15,7 @@ use Rattle.std.proofs.Math.ListN.{set}
 use Rattle.std.proofs.lemmas.List.Elements.{All-set}
 use Rattle.life_strip.proofs.GivenLemmas.{all_rest}
 use Rattle.life_strip.proofs.WordLemmas.{west-square, east-square, west-small, east-small}
-use Rattle.life_strip.proofs.SpanLemmas.{Keeps, id_at-in, id_at-after, before_more, strip-kept, quad-keeps, quad-same, nearer-beyond, nearer-within, found-within, before_earlier, none-left, end-none}
+use Rattle.life_strip.proofs.SpanLemmas.{Keeps, id_at-in, id_at-after, before_more, strip-kept, quad-keeps, quad-same, nearer-beyond, nearer-within, found-within, before_earlier, none-left, nearer-both, first-column, quad-blank}
 
 -- the last span goes on to a new end
 module _ (column end : ℕ) (square : Id) (later : column < end) where
@@ -109,18 +109,18 @@ nearer-none (Some x) a b h e = absurd cc
 
 -- where no span is left all is blank
 module _ (content : Id → Tree) (column : ℕ) (i : Id) where
-  none-blank : (r : List Span) (f : Stretch) → IsFound r (4 * column) i f → f.end ≡ None → (c : ℕ) → 4 * column ≤ c → square_at content 0 r c ≡ blank 0
-  none-blank r f h e c le = ap (square_or_blank content 0) (none-left r (4 * column) i f h (end-none r (4 * column) i f h e) c le)
+  none-blank : (r : List Span) (f : Stretch) → IsFound r (4 * column) i f → f.start ≡ None → (c : ℕ) → 4 * column ≤ c → square_at content 0 r c ≡ blank 0
+  none-blank r f h e c le = ap (square_or_blank content 0) (none-left r (4 * column) i f h e c le)
 
   pub four-blank : (a b c d : List Span) (fa fb fc fd : Stretch) → IsFound a (4 * column) i fa → IsFound b (4 * column) i fb → IsFound c (4 * column) i fc
       → IsFound d (4 * column) i fd
-      → fa.end ≡ None → fb.end ≡ None → fc.end ≡ None → fd.end ≡ None → (x : ℕ) → column ≤ x → four_at content a b c d x ≡ blank 2
+      → fa.start ≡ None → fb.start ≡ None → fc.start ≡ None → fd.start ≡ None → (x : ℕ) → column ≤ x → four_at content a b c d x ≡ blank 2
   four-blank a b c d fa fb fc fd ha hb hc hd ea eb ec ed x le =
       let p = two a b fa fb ha hb ea eb in
       let q = two c d fc fd hc hd ec ed in
       λ j. quad (p (2 * x) (omega arith) j) (p (2 * x + 1) (omega arith) j) (q (2 * x) (omega arith) j) (q (2 * x + 1) (omega arith) j)
     where
-      two : (u l : List Span) (fu fl : Stretch) → IsFound u (4 * column) i fu → IsFound l (4 * column) i fl → fu.end ≡ None → fl.end ≡ None → (k : ℕ)
+      two : (u l : List Span) (fu fl : Stretch) → IsFound u (4 * column) i fu → IsFound l (4 * column) i fl → fu.start ≡ None → fl.start ≡ None → (k : ℕ)
           → 2 * x ≤ k → quad_at content 0 u l k ≡ blank 1
       two u l fu fl hu hl eu el k more =
           let nw = none-blank u fu hu eu (2 * k) (omega (arith, le, more)) in
@@ -128,6 +128,58 @@ module _ (content : Id → Tree) (column : ℕ) (i : Id) where
           let sw = none-blank l fl hl el (2 * k) (omega (arith, le, more)) in
           let se = none-blank l fl hl el (2 * k + 1) (omega (arith, le, more)) in
           λ j. quad (nw j) (ne j) (sw j) (se j)
+
+-- four rows without a span in the columns of a square of level 2
+pub four-unbegun : (content : Id → Tree) (a b c d : List Span) (column first : ℕ) → ((y : ℕ) → column ≤ y → y < first → id_at a y ≡ None)
+    → ((y : ℕ) → column ≤ y → y < first → id_at b y ≡ None) → ((y : ℕ) → column ≤ y → y < first → id_at c y ≡ None)
+    → ((y : ℕ) → column ≤ y → y < first → id_at d y ≡ None)
+    → (x : ℕ) → column ≤ 4 * x → 4 * x + 3 < first → four_at content a b c d x ≡ blank 2
+four-unbegun content a b c d column first na nb nc nd x le lt =
+    let west : column ≤ 2 * (2 * x) = omega (arith, le) in
+    let east : column ≤ 2 * (2 * x + 1) = omega (arith, le) in
+    let nw = quad-blank content 0 a b column (2 * x) (λ y from to. na y from (omega (arith, to, lt))) (λ y from to. nb y from (omega (arith, to, lt))) west in
+    let ne = quad-blank content 0 a b column (2 * x + 1) (λ y from to. na y from (omega (arith, to, lt))) (λ y from to. nb y from (omega (arith, to, lt)))
+    east in
+    let sw = quad-blank content 0 c d column (2 * x) (λ y from to. nc y from (omega (arith, to, lt))) (λ y from to. nd y from (omega (arith, to, lt))) west in
+    let se = quad-blank content 0 c d column (2 * x + 1) (λ y from to. nc y from (omega (arith, to, lt))) (λ y from to. nd y from (omega (arith, to, lt)))
+    east in
+    λ i. quad (nw i) (ne i) (sw i) (se i)
+
+-- the nearest of the columns where four rows have a span: none of them starts before it
+pub record IsNearest (fa fb fc fd : Stretch) (column first : ℕ) : Type 0 where
+  pub from : column ≤ first
+  pub within : first < 2 ^ MAX_LEVEL
+  pub a : (x : ℕ) → x < first → IsBefore x fa.start
+  pub b : (x : ℕ) → x < first → IsBefore x fb.start
+  pub c : (x : ℕ) → x < first → IsBefore x fc.start
+  pub d : (x : ℕ) → x < first → IsBefore x fd.start
+
+pub nearest-start : {a b c d : List Span} {column first : ℕ} {i : Id} {fa fb fc fd : Stretch} {n s : Option ℕ}
+    → IsFound a column i fa → IsFound b column i fb → IsFound c column i fc → IsFound d column i fd → AreWithin 0 a → AreWithin 0 b → AreWithin 0 c
+    → AreWithin 0 d
+    → MatchOption n ((fa.start ≡ None) × (fb.start ≡ None)) (λ e. IsNearer e fa.start fb.start)
+    → MatchOption s ((fc.start ≡ None) × (fd.start ≡ None)) (λ e. IsNearer e fc.start fd.start) → IsNearer first n s
+    → IsNearest fa fb fc fd column first
+nearest-start {a} {b} {c} {d} {column} {first} {i} {fa} {fb} {fc} {fd} {n} {s} ha hb hc hd wa wb wc wd north south near =
+    let place = by near.one in
+    record {
+      from = place.0;
+      within = place.1;
+      a = λ x lt. (nearer-both n fa.start fb.start x north (near.upper x lt)).0;
+      b = λ x lt. (nearer-both n fa.start fb.start x north (near.upper x lt)).1;
+      c = λ x lt. (nearer-both s fc.start fd.start x south (near.lower x lt)).0;
+      d = λ x lt. (nearer-both s fc.start fd.start x south (near.lower x lt)).1;
+    }
+  where
+    by : (n ≡ Some first) ⊎ (s ≡ Some first) → (column ≤ first) × (first < 2 ^ MAX_LEVEL)
+    by (inl e) =
+        let one = subst (λ o. MatchOption o ((fa.start ≡ None) × (fb.start ≡ None)) (λ x. IsNearer x fa.start fb.start)) e north in
+        let p = first-column (2 ^ MAX_LEVEL) a b wa wb column i fa fb ha hb first one in
+        (p.from, p.within)
+    by (inr e) =
+        let one = subst (λ o. MatchOption o ((fc.start ≡ None) × (fd.start ≡ None)) (λ x. IsNearer x fc.start fd.start)) e south in
+        let p = first-column (2 ^ MAX_LEVEL) c d wc wd column i fc fd hc hd first one in
+        (p.from, p.within)
 
 -- the nearest of four ends is beyond the column, and one of the plane
 pub nearest-inside : {a b c d : List Span} {column end : ℕ} {i : Id} {fa fb fc fd : Stretch} {n s : Option ℕ}

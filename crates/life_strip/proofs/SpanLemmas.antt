@@ -332,6 +332,15 @@ found-within side spans within column b f h = by f.end h.last
     by None l = tt
     by (Some e) l = l side within
 
+-- up to a column before which what was found does not start all is blank
+pub blank-before : (spans : List Span) (column : ℕ) (b : Id) (f : Stretch) → IsFound spans column b f → (first : ℕ)
+    → ((x : ℕ) → x < first → IsBefore x f.start) → (c : ℕ) → column ≤ c → c < first → id_at spans c ≡ None
+blank-before spans column b f h first before c le lt = by f.start h.start (before c lt)
+  where
+    by : (o : Option ℕ) → MatchOption o ((x : ℕ) → column ≤ x → id_at spans x ≡ None) (IsStart spans column) → IsBefore c o → id_at spans c ≡ None
+    by None h e = h c le
+    by (Some x) h e = h.none c le e
+
 -- the nearer of the columns where two strips have a span: before it both are blank
 pub record IsFirst (upper lower : List Span) (column first side : ℕ) : Type 0 where
   pub from : column ≤ first
@@ -341,20 +350,12 @@ pub record IsFirst (upper lower : List Span) (column first side : ℕ) : Type 0 
 
 module _ (side : ℕ) (upper lower : List Span) (u : AreBefore side upper) (l : AreBefore side lower) (column : ℕ) (b : Id) (n s : Stretch)
     (hn : IsFound upper column b n) (hs : IsFound lower column b s) where
-  starts : (spans : List Span) (f : Stretch) → IsFound spans column b f → (first c : ℕ) → ((x : ℕ) → x < first → IsBefore x f.start) → column ≤ c → c < first
-      → id_at spans c ≡ None
-  starts spans f h first c before le lt = by f.start h.start (before c lt)
-    where
-      by : (o : Option ℕ) → MatchOption o ((x : ℕ) → column ≤ x → id_at spans x ≡ None) (IsStart spans column) → IsBefore c o → id_at spans c ≡ None
-      by None h e = h c le
-      by (Some x) h e = h.none c le e
-
   pub first-column : (first : ℕ) → IsNearer first n.start s.start → IsFirst upper lower column first side
   first-column first near = record {
     from = (by near.one).0;
     within = (by near.one).1;
-    north = λ c. starts upper n hn first c near.upper;
-    south = λ c. starts lower s hs first c near.lower;
+    north = blank-before upper column b n hn first near.upper;
+    south = blank-before lower column b s hs first near.lower;
   }
     where
       at : (spans : List Span) (f : Stretch) → AreBefore side spans → IsFound spans column b f → f.start ≡ Some first → (column ≤ first) × (first < side)

@@ -8,11 +8,11 @@ ghost use Rattle.life_quad.specs.Keeping.{KeepsSquares, IsWantKind};
 ghost use Rattle.life_strip.specs.Strip.{IsStrip, AreBefore, AreWithin, FilledTo, square_at};
 ghost use Rattle.life_strip.specs.Band.{four_at, cells_at};
 
-use crate::spans::{Span, extend, find, nearer};
+use crate::spans::{Span, extend, find, nearer, stretch_at};
+use crate::spare::Spare;
 use crate::words::{Words, cells_of, next_square, two_words};
 use life_base::{Kind, MAX_LEVEL};
 use life_quad::{Id, Squares};
-use std::alloc::Global;
 
 // A square of level 2 with these cells from a column to before `end`, east of the others. A blank one has no span.
 fn push_square<S: Squares>(
@@ -73,7 +73,7 @@ fn push_rows<S: Squares>(
 // The strip of level 2 of four rows of cells, if none of their cells has a state above 1.
 pub(crate) fn band<S: Squares>(
     squares: &mut S,
-    alloc: Global,
+    spare: &mut Spare,
     first: &[Span],
     second: &[Span],
     third: &[Span],
@@ -100,14 +100,24 @@ pub(crate) fn band<S: Squares>(
         .max(second.len())
         .max(third.len())
         .max(fourth.len());
-    let mut spans = Vec::with_capacity(alloc, room)?;
+    let mut spans = spare.take(room)?;
     let mut block: u64 = 0;
     let mut a = find(first, 0, 0, blank);
     let mut b = find(second, 0, 0, blank);
     let mut c = find(third, 0, 0, blank);
     let mut d = find(fourth, 0, 0, blank);
-    while let Some(end) = nearer(nearer(a.end, b.end), nearer(c.end, d.end)) {
+    while let Some(first_column) = nearer(nearer(a.start, b.start), nearer(c.start, d.start)) {
+        // Up to this block all is blank.
+        block = first_column / 64;
         let start = 64 * block;
+        a = stretch_at(first, a.index, start, blank);
+        b = stretch_at(second, b.index, start, blank);
+        c = stretch_at(third, c.index, start, blank);
+        d = stretch_at(fourth, d.index, start, blank);
+        // A row that has a span has an end.
+        let Some(end) = nearer(nearer(a.end, b.end), nearer(c.end, d.end)) else {
+            return Ok(None);
+        };
         let Some(upper) = two_words(squares, first, second, a.index, b.index, start) else {
             return Ok(None);
         };

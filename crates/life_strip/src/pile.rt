@@ -9,6 +9,7 @@ ghost use Rattle.life_strip.specs.Pile.{IsPile, IsClosed, strips_of};
 
 use crate::rows::{band_strip, blank_level, push_strip, whole};
 use crate::spans::Strip;
+use crate::spare::Spare;
 use life_base::{Kind, MAX_LEVEL};
 use life_quad::{Id, Squares};
 use std::alloc::Global;
@@ -16,7 +17,8 @@ use std::alloc::Global;
 // The rows that are over, from the north: whole bands of four in strips of falling levels, and the rows of the next band.
 #[derive(Drop)]
 pub(crate) struct Pile {
-    pub(crate) alloc: Global,
+    alloc: Global,
+    pub(crate) spare: Spare,
     strips: Vec<Strip>,
     band: Vec<Strip>,
 }
@@ -29,6 +31,7 @@ impl Pile {
     {
         Pile {
             alloc,
+            spare: Spare::new(alloc),
             strips: Vec::new(alloc),
             band: Vec::new(alloc),
         }
@@ -48,7 +51,7 @@ impl Pile {
             return Ok(());
         };
         self.push_rows(squares)?;
-        push_strip(squares, self.alloc, &mut self.strips, last)
+        push_strip(squares, &mut self.spare, &mut self.strips, last)
     }
 
     // A whole band below the strips.
@@ -63,11 +66,11 @@ impl Pile {
         ensures refusals { IfErr result (IsWantKind (S.stored squares.new) (S.most squares.new)) }
         ensures needed { result ≡ Err Full → SomeSquare (S.needs_node squares.new) (height (strips_of self.old)) (picture (S.content squares.old) (strips_of self.old)) }
     {
-        let Some(strip) = band_strip(squares, self.alloc, self.band.as_slice())? else {
+        let Some(strip) = band_strip(squares, &mut self.spare, self.band.as_slice())? else {
             return self.push_rows(squares);
         };
-        self.band.clear();
-        push_strip(squares, self.alloc, &mut self.strips, strip)
+        self.spare.give_all(&mut self.band);
+        push_strip(squares, &mut self.spare, &mut self.strips, strip)
     }
 
     // One row more, below the others. Four rows become a strip of level 2.
@@ -116,7 +119,7 @@ impl Pile {
             level,
             spans: Vec::new(self.alloc),
         };
-        push_strip(squares, self.alloc, &mut self.strips, strip)?;
+        push_strip(squares, &mut self.spare, &mut self.strips, strip)?;
         self.skip_rows(squares, count - (1 << level))
     }
 

@@ -54,7 +54,32 @@ impl Plane {
         }
     }
 
+    // Begins a row below the one that was begun.
+    #[inline(never)]
+    fn begin_row<S: Squares>(&mut self, squares: &mut S, row: u64) -> Result<(), Kind>
+        requires filled { IsFilled (S.knows squares.old) (S.content squares.old) self.old }
+        requires later { self.old.rows < row }
+        requires inside { row < 2 ^ MAX_LEVEL }
+        ensures filled { OnOk result (IsFilled (S.knows squares.new) (S.content squares.new) self.new) }
+        ensures rows { OnOk result (self.new.rows ≡ row) }
+        ensures ends { OnOk result ((n : ℕ) → (self.old.rows ≡ row → All (λ s. s.end ≤ n) self.old.row.spans.items) → All (λ s. s.end ≤ n) self.new.row.spans.items) }
+        ensures picture { OnOk result ((i j : ℕ) → state_so_far (S.content squares.new) self.new i j ≡ state_so_far (S.content squares.old) self.old i j) }
+        ensures keeps { KeepsSquares S.knows S.content S.stored S.most squares.old squares.new }
+        ensures refusals { IfErr result (IsWantKind (S.stored squares.new) (S.most squares.new)) }
+        ensures needed { result ≡ Err Full → SomeSquare (S.needs_node squares.new) row (state_so_far (S.content squares.old) self.old) }
+    {
+        // Rows that follow one another are mostly alike, so a row gets room for a few more spans than the one before it has.
+        let room = self.row.spans.len() / 8 * 9 + 2;
+        let spans = self.pile.spare.take(room)?;
+        let next = Strip { level: 0, spans };
+        let begun = mem::replace(&mut self.row, next);
+        self.pile.end_row(squares, begun, row - self.rows - 1)?;
+        self.rows = row;
+        Ok(())
+    }
+
     // Begins a row, if it isn't the one that was begun.
+    #[inline(always)]
     fn go_to_row<S: Squares>(&mut self, squares: &mut S, row: u64) -> Result<(), Kind>
         requires filled { IsFilled (S.knows squares.old) (S.content squares.old) self.old }
         requires later { self.old.rows ≤ row }
@@ -70,16 +95,7 @@ impl Plane {
         if self.rows == row {
             return Ok(());
         }
-        // Rows that follow one another are mostly alike, so a row gets room for a few more spans than the one before it has.
-        let room = self.row.spans.len() / 8 * 9 + 2;
-        let next = Strip {
-            level: 0,
-            spans: Vec::with_capacity(self.pile.alloc, room)?,
-        };
-        let begun = mem::replace(&mut self.row, next);
-        self.pile.end_row(squares, begun, row - self.rows - 1)?;
-        self.rows = row;
-        Ok(())
+        self.begin_row(squares, row)
     }
 
     // Gives the cells of a run its state.

@@ -9,14 +9,14 @@ ghost use Rattle.life_strip.specs.Needed.{SomeSquare};
 
 use crate::bands::band;
 use crate::spans::{Strip, find, pair};
+use crate::spare::Spare;
 use life_base::{Kind, MAX_LEVEL};
 use life_quad::{Id, Squares};
-use std::alloc::Global;
 
 // The strip of the next level with the upper strip above the lower.
 fn merge<S: Squares>(
     squares: &mut S,
-    alloc: Global,
+    spare: &mut Spare,
     upper: &Strip,
     lower: &Strip,
 ) -> Result<Strip, Kind>
@@ -33,7 +33,7 @@ fn merge<S: Squares>(
 {
     let spans = pair(
         squares,
-        alloc,
+        spare,
         upper.level,
         upper.spans.as_slice(),
         lower.spans.as_slice(),
@@ -47,7 +47,7 @@ fn merge<S: Squares>(
 // One strip more, below the others. While the last two have one level, they become one of the next.
 pub(crate) fn push_strip<S: Squares>(
     squares: &mut S,
-    alloc: Global,
+    spare: &mut Spare,
     strips: &mut Vec<Strip>,
     strip: Strip,
 ) -> Result<(), Kind>
@@ -67,8 +67,10 @@ pub(crate) fn push_strip<S: Squares>(
         return Ok(());
     };
     if last.level == strip.level {
-        let merged = merge(squares, alloc, &last, &strip)?;
-        return push_strip(squares, alloc, strips, merged);
+        let merged = merge(squares, spare, &last, &strip)?;
+        spare.give(last.spans);
+        spare.give(strip.spans);
+        return push_strip(squares, spare, strips, merged);
     }
     strips.push(last)?;
     strips.push(strip)?;
@@ -95,7 +97,7 @@ pub(crate) fn blank_level(strips: &[Strip], rows: u64) -> u8
 // The strip of level 2 of four rows, if none of their cells has a state above 1.
 pub(crate) fn band_strip<S: Squares>(
     squares: &mut S,
-    alloc: Global,
+    spare: &mut Spare,
     rows: &[Strip],
 ) -> Result<Option<Strip>, Kind>
     requires count { length rows.now ≡ 4 }
@@ -111,7 +113,7 @@ pub(crate) fn band_strip<S: Squares>(
     let second = rows[1].spans.as_slice();
     let third = rows[2].spans.as_slice();
     let fourth = rows[3].spans.as_slice();
-    match band(squares, alloc, first, second, third, fourth)? {
+    match band(squares, spare, first, second, third, fourth)? {
         Some(spans) => Ok(Some(Strip { level: 2, spans })),
         None => Ok(None),
     }

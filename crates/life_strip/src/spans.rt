@@ -6,9 +6,9 @@ ghost use Rattle.life_base.specs.Tree.{blank};
 ghost use Rattle.life_quad.specs.Keeping.{KeepsSquares, IsWantKind};
 ghost use Rattle.life_strip.specs.Strip.{IsStrip, AreBefore, AreWithin, HaveColumns, IsPaired, EndsAfter, IsPast, IsBefore, IsFound, IsNearer, IsExtended, quad_at};
 
+use crate::spare::Spare;
 use life_base::{Kind, MAX_LEVEL};
 use life_quad::{Id, Squares};
-use std::alloc::Global;
 
 // Columns side by side with one square, from `start` to before `end`.
 #[derive(Clone, Copy)]
@@ -62,7 +62,7 @@ pub(crate) fn find(spans: &[Span], from: usize, column: u64, blank: Id) -> Stret
 }
 
 // The same where the span at the index, if there is one, ends after the column.
-fn stretch_at(spans: &[Span], index: usize, column: u64, blank: Id) -> Stretch
+pub(crate) fn stretch_at(spans: &[Span], index: usize, column: u64, blank: Id) -> Stretch
     requires columns { HaveColumns spans.now }
     requires past { IsPast spans.now index column }
     requires ends { EndsAfter spans.now index column }
@@ -171,7 +171,7 @@ fn covered(spans: &[Span]) -> u64
 // The strip of the next level whose squares have two squares of the upper strip above two of the lower.
 pub(crate) fn pair<S: Squares>(
     squares: &mut S,
-    alloc: Global,
+    spare: &mut Spare,
     level: u8,
     upper: &[Span],
     lower: &[Span],
@@ -192,7 +192,7 @@ pub(crate) fn pair<S: Squares>(
     // As a rule each span of the two strips adds one span at most, and never more spans than columns come of them.
     let columns = covered(upper).max(covered(lower)) / 2 + 1;
     let room = (upper.len() + lower.len()).min(columns as usize);
-    let mut spans = Vec::with_capacity(alloc, room)?;
+    let mut spans = spare.take(room)?;
     let mut column: u64 = 0;
     let mut north = find(upper, 0, 0, blank);
     let mut south = find(lower, 0, 0, blank);

@@ -5,8 +5,8 @@ use Rattle.life_strip.specs.Strip.{IsFound, FilledTo}
 use Rattle.life_strip.specs.Band.{four_at}
 use Rattle.life_strip.proofs.bands.band.Given as goal
 
-abbrev pub invariant-loop-end : goal.invariant-loop-end
-invariant-loop-end g l =
+abbrev pub invariant-loop-first_column : goal.invariant-loop-first_column
+invariant-loop-first_column g l =
     FilledTo (g.S.Squares.knows l.squares) (g.S.Squares.content l.squares) 2 (four_at (g.S.Squares.content l.fn.squares) l.first l.second l.third l.fourth)
     l.spans.items (16 * l.block)
     × IsFound l.first (64 * l.block) l.blank l.a
@@ -16,5 +16,5 @@ invariant-loop-end g l =
     × KeepsSquares g.S.Squares.knows g.S.Squares.content g.S.Squares.stored g.S.Squares.most l.fn.squares l.squares
     × (64 * l.block ≤ 2 ^ MAX_LEVEL)
 
-abbrev pub decreases-loop-end : goal.decreases-loop-end
-decreases-loop-end g l = 2 ^ MAX_LEVEL - l.block
+abbrev pub decreases-loop-first_column : goal.decreases-loop-first_column
+decreases-loop-first_column g l = 2 ^ MAX_LEVEL - l.block

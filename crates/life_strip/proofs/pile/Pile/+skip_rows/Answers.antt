@@ -65,7 +65,7 @@ skip_rows-requires-2 g t c κs within =
     let four = four-divides level deep in
     let r = c.in_ok-push_strip.ensures in
     let pile = pile-alone (g.S.Squares.knows c.push_strip.new.squares) (g.S.Squares.content c.push_strip.new.squares)
-    (record c.args.self.now { strips = c.push_strip.new.strips }) none r.strips
+    (record c.args.self.now { spare = c.push_strip.new.spare; strips = c.push_strip.new.strips }) none r.strips
     (lowest-more xs strips (2 ^ level) (2 ^ (level - 2)) c.requires.pile.lowest r.strips.falling r.height four) in
     let h = skipped-height xs ys strips (2 ^ level) none r.height in
     (search rules, (search rules, (pile, omega (arith, h, c.requires.room, c.blank_level-level.ensures.fits))))

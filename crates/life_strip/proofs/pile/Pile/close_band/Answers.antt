@@ -104,7 +104,7 @@ returns-clause-closed g c =
     c.requires.rows c.requires.whole c.in-Some.is r.level in
     let e = c.push_strip.ensures in
     on_ok_map3 c.push_strip.result (λ strips more cells. record {
-      empty = c.clear.ensures.items;
+      empty = c.give_all.ensures;
       strips = strips;
       height = more ∙ h;
       picture = λ i j. cells i j ∙ band-cells r.keeps pile.strips.items pile.band.items _ _ c.in-Some.strip c.requires.strips.sound c.in-Some.is
