@@ -8,6 +8,7 @@ mod Leaves
 mod Content
 mod Planes
 mod Canonical
+mod CentredFacts
 mod Least
 mod Keys
 mod NumberFacts

@@ -1,11 +1,8 @@
 -- The quarters of a listed square.
-use Rattle.std.proofs.Common.{◌≡◌, ℕ, suc, ◌+◌, ◌-◌, ◌^◌, ◌<◌, ◌≤◌, true, false, ◌&&◌, List, [], ◌∷◌, ◌++◌, length, take, map, get_or, refl, ap, sym}
-use Rattle.std.proofs.Common.{◌∙◌, subst, arith, add-one}
-use Rattle.std.proofs.Math.Seq.{take-suc}
-use Rattle.std.proofs.lemmas.Grind.{flat_map-append}
-use Rattle.std.specs.Prelude.{◌==◌, ℤ, Contains, flat_map}
+use Rattle.std.proofs.Common.{◌≡◌, ℕ, suc, ◌+◌, ◌-◌, ◌^◌, ◌<◌, ◌≤◌, true, false, ◌&&◌, List, length, map, get_or, refl, ap, sym, ◌∙◌, subst, arith}
+use Rattle.std.specs.Prelude.{◌==◌, ℤ, Contains}
 use Rattle.std.proofs.lemmas.Bool.Decides.{nat_tests}
-use Rattle.std.proofs.lemmas.List.{append_assoc, append-nil, length-map, get_or-map}
+use Rattle.std.proofs.lemmas.List.{length-map, get_or-map}
 use Rattle.life_base.specs.Tree.{Tree, quad, depth, is_blank_tree as is_blank}
 use Rattle.life_base.specs.declared.rule.Rule.{Rule}
 use Rattle.life_base.specs.declared.rule.Rule.TheVariants.{Life, Named}
@@ -136,15 +133,3 @@ listed-at {K} content keys items rule i d each e l =
     let P : List K → Type 0 = λ ks. i < length ks → IsListed rule (map content keys) (content (get_or ks i d)) in
     subst P (sym e)
     (λ h. each _ (i, subst (λ n. i < n) (sym (length-map keys content)) h, get_or-map content keys i d (content (get_or keys i d)) h)) l
-
--- the lines of one more key
-pub more-lines : {K : Type 0} (text : K → List ℕ) (before now new : List ℕ) (keys items : List K) (i : ℕ) (d : K) → items ≡ keys → i < length items
-    → now ≡ before ++ flat_map text (take i keys) → new ≡ now ++ text (get_or items i d) → new ≡ before ++ flat_map text (take (i + 1) keys)
-more-lines {K} text before now new keys items i d e l was is =
-    let P : List K → Type 0 = λ ks. i < length ks → new ≡ now ++ text (get_or ks i d) → new ≡ before ++ flat_map text (take (i + 1) keys) in
-    subst P (sym e)
-    (λ h n. n ∙ ap (λ t. t ++ text (get_or keys i d)) was ∙ append_assoc before (flat_map text (take i keys)) (text (get_or keys i d))
-    ∙ ap (λ t. before ++ (flat_map text (take i keys) ++ t)) (sym (append-nil (text (get_or keys i d))))
-    ∙ sym (ap (λ t. before ++ t) (ap (λ n. flat_map text (take n keys)) (add-one i) ∙ ap (flat_map text) (take-suc keys i d h) ∙ flat_map-append text
-    (take i keys) (get_or keys i d ∷ []))))
-    l is

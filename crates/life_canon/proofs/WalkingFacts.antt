@@ -138,6 +138,10 @@ pub broken : {T E P : Type 0} (r : Result T E) → P → OnErr r P
 broken (Ok x) p = tt
 broken (Err e) p = p
 
+-- nothing is a prefix of every text
+pub none-written : (a : Option (List ℕ)) (text : List ℕ) → WritesPrefix a a text
+none-written a text = record { count = 0; within = omega arith; written = Appends-nil a }
+
 -- nothing is written
 pub writes-none : (rule : Rule) {a : Option (List ℕ)} {h : List ℕ} (old : List Tree) → WritesOn rule a a h h old old
 writes-none rule old = λ start begun all rest e w. w

@@ -1,8 +1,9 @@
 -- The laws of files, of canonical texts and of canonical files.
-use Rattle.std.specs.Prelude.{◌≡◌, ◌↔◌, ℕ, ◌≤◌, true, List, ◌++◌, length, take, Option, Some}
+use Rattle.std.specs.Prelude.{◌≡◌, ◌↔◌, ℕ, ◌≤◌, true, ℤ, List, ◌++◌, length, take, Option, Some}
 use Rattle.life_base.specs.Inputs.{ReadAll, CameBeyond}
 use Rattle.life_base.specs.Lines.{whole_lines}
 use Rattle.life_base.specs.Text.{lines_of}
+use Rattle.life_base.specs.Tree.{Tree, depth, tree_cell, IsFull}
 use Rattle.life_base.specs.declared.cell.Cell.{Cell}
 use Rattle.life_base.specs.declared.fault.Fault.{Fault}
 use Rattle.life_mc.specs.Macrocell.{Macrocell}
@@ -11,7 +12,7 @@ use Rattle.life_mc.specs.Reading.{AreMacrocell, IsMacrocell}
 use Rattle.life_rle.specs.Pattern.{Rle}
 use Rattle.life_rle.specs.Grammar.{IsRle}
 use Rattle.life_rle.specs.Written.{rle_text}
-use Rattle.life_canon.specs.Universe.{Universe, IsSame, IsBlankOutside, IsOnPlane, macrocell_universe, rle_universe}
+use Rattle.life_canon.specs.Universe.{Universe, IsSame, IsBlankOutside, IsOnPlane, centred, macrocell_universe, rle_universe}
 use Rattle.life_canon.specs.Files.{Says, Reads, Same, Refuses, RefusesLines, is_file_kind}
 use Rattle.life_canon.specs.Listing.{canonical_file, canon_text}
 use Rattle.life_canon.specs.Least.{IsRival, IsLeast, HasPlaces}
@@ -99,6 +100,15 @@ abbrev pub WiderPlanesKeepFiles : Type 0
 WiderPlanesKeepFiles =
     (top wider : ℕ) (bytes : List ℕ) (u : Universe) → 3 ≤ top → top ≤ wider → wider ≤ 62 → Reads top bytes u
     → Reads wider bytes u × (canon_text wider u ≡ canon_text top u)
+
+-- a full square of level 1 or more is the square about (0, 0) of its own cells, and every cell outside has state 0
+abbrev pub SquaresAreCentred : Type 0
+SquaresAreCentred = (t : Tree) → IsFull t → 1 ≤ depth t → (centred (tree_cell t) (depth t) ≡ t) × IsBlankOutside (depth t) (tree_cell t)
+
+-- planes that are blank outside the squares of one level about (0, 0) have the same cells, if these squares are equal
+abbrev pub CentredSquaresTellCells : Type 0
+CentredSquaresTellCells =
+    (level : ℕ) (f g : ℤ → ℤ → ℕ) → IsBlankOutside level f → IsBlankOutside level g → centred f level ≡ centred g level → (x y : ℤ) → f x y ≡ g x y
 
 -- a pattern that was read may be numbered, and has the cells of the file
 abbrev pub PatternsFit : ℕ → Type 0

@@ -1,8 +1,10 @@
 -- A text that is written in pieces.
-use Rattle.std.specs.Prelude.{◌≡◌, ℕ, List, Option, ◌++◌, map, flat_map}
+use Rattle.std.specs.Prelude.{◌≡◌, ◌⊎◌, ℕ, ◌<◌, Bool, true, List, Option, Result, OnOk, IfErr, ◌++◌, map, flat_map}
 use Rattle.std.specs.Io.KnownBytes.{Appends}
 use Rattle.life_base.specs.Tree.{Tree}
 use Rattle.life_base.specs.Writing.{WritesPrefix}
+use Rattle.life_base.specs.declared.kind.Kind.{Kind}
+use Rattle.life_base.specs.declared.kind.Kind.TheVariants.{Memory, WriteFault}
 use Rattle.life_base.specs.declared.rule.Rule.{Rule}
 use Rattle.life_mc.specs.Writing.{node_text}
 use Rattle.life_quad.specs.declared.id.Id.{Id}
@@ -36,3 +38,20 @@ abbrev pub BreaksIn : Rule → Option (List ℕ) → Option (List ℕ) → List 
 BreaksIn rule before after held old new =
     (start : Option (List ℕ)) (begun : List ℕ) (all rest : List Tree) → all ≡ new ++ rest
     → WritesFront start before (begun ++ lines_text rule all old) held → WritesPrefix start after (begun ++ lines_text rule all all)
+
+-- some Id has no room for its number, where there is room for so many numbers of Ids
+abbrev pub LacksRoom : (Id → Type 0) → ℕ → Type 0
+LacksRoom knows bound = ¬ ((id : Id) → knows id → id.0 < bound)
+
+-- What a call that gives numbers and writes leaves of its sink, as `LeavesSink` says it of a call that writes; but memory may be refused too, where
+-- room was lacking.
+pub record LeavesNumbered {W A : Type 0} (lacks : Type 0) (failures : W → ℕ) (has_stalled : W → Bool) (old new : W) (result : Result A Kind) : Type 0 where
+  -- no call on the sink has failed, unless a write was refused
+  pub works : OnOk result (failures new ≡ 0)
+  pub kind : IfErr result (λ kind. (kind ≡ WriteFault) ⊎ ((kind ≡ Memory) × lacks))
+  -- at such a refusal the sink has failed, or it has stalled
+  pub cause : IfErr result (λ kind. kind ≡ WriteFault → (failures new ≡ 1) ⊎ (has_stalled new ≡ true))
+  -- at Ok it has stalled exactly if it had before
+  pub stalled : OnOk result (has_stalled new ≡ has_stalled old)
+  -- and so has a sink that failed
+  pub failed : failures new ≡ 1 → has_stalled new ≡ has_stalled old

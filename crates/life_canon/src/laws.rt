@@ -6,6 +6,7 @@ ghost use Rattle.life_canon.specs.Laws.{FormatsDiffer, FilesAreUnique, FilesAreO
 ghost use Rattle.life_canon.specs.Laws.{TextsTellUniverses, TextsTellPatterns, TextsAreFiles, TextsKeepPatterns, TextsAreFixed};
 ghost use Rattle.life_canon.specs.Laws.{RleTextsAreFiles, RleTextsKeepPatterns};
 ghost use Rattle.life_canon.specs.Laws.{CanonicalIsLeast, SquaresHavePlaces, WiderPlaneKeepsTexts, WiderPlanesKeepFiles};
+ghost use Rattle.life_canon.specs.Laws.{SquaresAreCentred, CentredSquaresTellCells};
 ghost use Rattle.life_canon.specs.Laws.{PatternsFit, PatternsStay, PatternsTellFiles, ReadersStand};
 ghost use Rattle.life_canon.specs.Laws.{FaultsStay, LengthsStay, LengthHidesNoFault};
 
@@ -98,6 +99,16 @@ pub fn wider_plane_keeps_texts()
 /// Every file of a plane is one of each wider plane, up to level 62, says the same there, and has the same canonical text.
 pub fn wider_planes_keep_files()
     ensures { WiderPlanesKeepFiles }
+{}
+
+/// A full square of level 1 or more is the square about (0, 0) of its own cells, and all cells outside are 0.
+pub fn squares_are_centred()
+    ensures { SquaresAreCentred }
+{}
+
+/// Two planes that are blank outside the squares of one level about (0, 0) have the same cells, if these squares are equal.
+pub fn centred_squares_tell_cells()
+    ensures { CentredSquaresTellCells }
 {}
 
 /// A pattern that was read may be numbered, and has the cells of the file.

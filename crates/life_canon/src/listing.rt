@@ -60,11 +60,14 @@ fn visit<S: SharedSquares>(
     ensures closed { OnOk result (IsClosed least (map (S.content squares.now) known.new)) }
     ensures kind { IfErr result (λ kind. kind ≡ Memory) }
 {
-    if is_small(squares, least, level, id) || holds(squares, known, id) {
+    if is_small(squares, least, level, id) {
         return Ok(());
     }
     if level == least {
         return add(squares, known, id);
+    }
+    if holds(squares, known, id) {
+        return Ok(());
     }
     let Quarters { nw, ne, sw, se } = divide(squares, id);
     visit(squares, least, level - 1, known, nw)?;

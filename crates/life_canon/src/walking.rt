@@ -6,12 +6,10 @@ ghost use Rattle.life_base.specs.Tree.{depth, is_blank_tree};
 ghost use Rattle.life_mc.specs.Macrocell.{largest_state};
 ghost use Rattle.life_mc.specs.Squares.{HasStatesUpTo};
 ghost use Rattle.life_mc.specs.Writing.{node_text};
-ghost use Rattle.life_quad.specs.declared.id.Id.{Id as IdValue};
-ghost use Rattle.life_quad.specs.IdNumbers.{HasNumberRoom};
 ghost use Rattle.life_canon.specs.Universe.{is_life, least_level};
 ghost use Rattle.life_canon.specs.Listing.{is_small, is_in, with_all, walk, number_of};
 ghost use Rattle.life_canon.specs.Closed.{IsClosed};
-ghost use Rattle.life_canon.specs.Pieces.{WritesFront, WritesWalk, BreaksIn};
+ghost use Rattle.life_canon.specs.Pieces.{WritesFront, WritesWalk, BreaksIn, LacksRoom, LeavesNumbered};
 
 use crate::numbering::{is_leaf, leaf};
 use crate::writing::make_way;
@@ -57,7 +55,10 @@ fn write_line<W: Sink>(line: &Line, piece: &mut Vec<u8>, writer: &mut W) -> Resu
 }
 
 /// Writes the lines of the squares of the walk over a square of a level that have no number yet, each behind those of its quarters, and gives
-/// them numbers. It answers the number that stands for the square in a node line.
+/// them numbers. It answers the number that stands for the square in a node line. Memory is refused only where a square of the store had no room
+/// for its number.
+#[cycle(walk)]
+#[inline(always)]
 pub(crate) fn write_square<S: SharedSquares, W: Sink>(
     squares: &S,
     rule: &Rule,
@@ -73,7 +74,6 @@ pub(crate) fn write_square<S: SharedSquares, W: Sink>(
     requires states { HasStatesUpTo (largest_state rule.now) (S.content squares.now id) }
     requires numbers { All (S.knows squares.now) numbers.old.ids }
     requires closed { IsClosed (least_level rule.now) (map (S.content squares.now) numbers.old.ids) }
-    requires bound { (q : IdValue) → S.knows squares.now q → HasNumberRoom numbers.old q }
     requires room { 65536 ≤ vec_capacity piece.old }
     requires works { W.failures writer.old ≡ 0 }
     ensures wrote { OnOk result (WritesWalk (S.content squares.now) rule.now id (W.contents writer.old) (W.contents writer.new) piece.old.items piece.new.items numbers.old.ids numbers.new.ids) }
@@ -83,20 +83,56 @@ pub(crate) fn write_square<S: SharedSquares, W: Sink>(
     ensures closed { OnOk result (IsClosed (least_level rule.now) (map (S.content squares.now) numbers.new.ids)) }
     ensures bound { OnOk result (numbers.new.bound ≡ numbers.old.bound) }
     ensures room { 65536 ≤ vec_capacity piece.new }
-    ensures sink { LeavesSink W.failures W.stalled writer.old writer.new result }
+    ensures sink { LeavesNumbered (LacksRoom (S.knows squares.now) numbers.old.bound) W.failures W.stalled writer.old writer.new result }
 {
     if let Some(number) = known_number(squares, level, numbers, id) {
         return Ok(number);
     }
+    write_new_square(squares, rule, level, id, numbers, piece, writer)
+}
+
+/// The same of a square that needs a line and has no number yet.
+#[cycle(walk)]
+#[inline(never)]
+fn write_new_square<S: SharedSquares, W: Sink>(
+    squares: &S,
+    rule: &Rule,
+    level: u8,
+    id: Id,
+    numbers: &mut IdNumbers,
+    piece: &mut Vec<u8>,
+    writer: &mut W,
+) -> Result<u64, Kind>
+    requires id { S.knows squares.now id }
+    requires level { level ≡ depth (S.content squares.now id) }
+    requires high { is_life rule.now ≡ true → 3 ≤ level }
+    requires states { HasStatesUpTo (largest_state rule.now) (S.content squares.now id) }
+    requires numbers { All (S.knows squares.now) numbers.old.ids }
+    requires more { (1 ≤ depth (S.content squares.now id)) × (is_blank_tree (S.content squares.now id) ≡ false) }
+    requires new { is_in (map (S.content squares.now) numbers.old.ids) (S.content squares.now id) ≡ false }
+    requires closed { IsClosed (least_level rule.now) (map (S.content squares.now) numbers.old.ids) }
+    requires room { 65536 ≤ vec_capacity piece.old }
+    requires works { W.failures writer.old ≡ 0 }
+    ensures wrote { OnOk result (WritesWalk (S.content squares.now) rule.now id (W.contents writer.old) (W.contents writer.new) piece.old.items piece.new.items numbers.old.ids numbers.new.ids) }
+    ensures number { IfOk result (λ number. number ≡ number_of (map (S.content squares.now) numbers.new.ids) (S.content squares.now id)) }
+    ensures prefix { OnErr result (BreaksIn rule.now (W.contents writer.old) (W.contents writer.new) piece.old.items (map (S.content squares.now) numbers.old.ids) (with_all (map (S.content squares.now) numbers.old.ids) (walk (S.content squares.now id) (least_level rule.now)))) }
+    ensures numbers { OnOk result (All (S.knows squares.now) numbers.new.ids) }
+    ensures closed { OnOk result (IsClosed (least_level rule.now) (map (S.content squares.now) numbers.new.ids)) }
+    ensures bound { OnOk result (numbers.new.bound ≡ numbers.old.bound) }
+    ensures room { 65536 ≤ vec_capacity piece.new }
+    ensures sink { LeavesNumbered (LacksRoom (S.knows squares.now) numbers.old.bound) W.failures W.stalled writer.old writer.new result }
+{
     if is_leaf(rule, level) {
+        let number = numbers.push(id)?;
         write_line(&leaf(squares, id), piece, writer)?;
-        return Ok(numbers.push(id));
+        return Ok(number);
     }
     let Quarters { nw, ne, sw, se } = divide(squares, id);
     let nw = write_square(squares, rule, level - 1, nw, numbers, piece, writer)?;
     let ne = write_square(squares, rule, level - 1, ne, numbers, piece, writer)?;
     let sw = write_square(squares, rule, level - 1, sw, numbers, piece, writer)?;
     let se = write_square(squares, rule, level - 1, se, numbers, piece, writer)?;
+    let number = numbers.push(id)?;
     write_line(&Line::Quad(level, nw, ne, sw, se), piece, writer)?;
-    Ok(numbers.push(id))
+    Ok(number)
 }

@@ -1,84 +1,69 @@
 //! The canonical text of a pattern, without a file value between, whole or in pieces.
 
-ghost use Rattle.std.specs.Prelude.{◌≡◌, ◌+◌, ◌++◌, ◌≤◌, [], true, map, flat_map, vec_len, vec_capacity, All, Contains, OnOk, OnErr, IfOk, IfErr};
+ghost use Rattle.std.proofs.Common.{rules};
+ghost use Rattle.std.specs.Prelude.{◌≡◌, ◌+◌, ◌++◌, ◌≤◌, [], true, false, Some, flat_map, vec_len, vec_capacity, OnOk, OnErr, IfOk, IfErr};
 ghost use Rattle.life_base.specs.declared.kind.Kind.TheVariants.{Memory};
 ghost use Rattle.life_base.specs.Refusal.{fault_of};
 ghost use Rattle.life_base.specs.Writing.{WritesText, WritesPrefix, LeavesSink};
-ghost use Rattle.life_base.specs.Tree.{Tree, depth};
+ghost use Rattle.life_base.specs.Devices.{count_of};
+ghost use Rattle.life_base.specs.Tree.{depth};
 ghost use Rattle.life_quad.specs.declared.id.Id.{Id as IdValue};
 ghost use Rattle.life_quad.specs.IdNumbers.{HasNumberRoom};
 ghost use Rattle.life_quad.specs.Store.{Knows};
 ghost use Rattle.life_mc.specs.Macrocell.{largest_state};
 ghost use Rattle.life_mc.specs.Squares.{HasStatesUpTo};
-ghost use Rattle.life_mc.specs.Writing.{front_text, node_text, mc_text};
+ghost use Rattle.life_mc.specs.Writing.{front_text, node_text};
 ghost use Rattle.life_canon.specs.Universe.{least_level};
-ghost use Rattle.life_canon.specs.Listing.{listed, lines_for, square_file, canon_text};
-ghost use Rattle.life_canon.specs.Store.{IsTrimmed, universe_in, IsListed};
-ghost use Rattle.life_canon.specs.Pieces.{WritesFront};
+ghost use Rattle.life_canon.specs.Listing.{listed, lines_for, canon_text};
+ghost use Rattle.life_canon.specs.Store.{IsTrimmed, universe_in};
+ghost use Rattle.life_canon.specs.Pieces.{WritesFront, LacksRoom, LeavesNumbered};
 
-use crate::listing::listed;
-use crate::numbering::line_of;
-use crate::pattern::{Pattern, least_level};
+use crate::pattern::Pattern;
 use crate::walking::write_square;
-use life_base::{Fault, Kind, MAX_LEVEL, Rule, Sink, deliver, write_text};
-use life_mc::{LONGEST_NODE_LINE, append_front, append_line};
-use life_quad::{IdList, IdNumbers, Shared, SharedSquares, Squares};
+use life_base::{Fault, Kind, MAX_LEVEL, Sink, deliver, write_text};
+use life_mc::{LONGEST_NODE_LINE, append_front};
+use life_quad::{IdNumbers, Shared, SharedSquares, Squares};
 use std::alloc::Global;
 
 /// How many bytes are read, or held before they are written, at once.
 pub(crate) const PIECE: usize = 65536;
 
-/// How many bytes a text that is made whole has room for from the start: a small pattern's text needs no more.
-const FIRST_ROOM: usize = 512;
+/// A sink that keeps what is written to it. It fails where memory is refused.
+#[derive(Drop)]
+struct Text {
+    bytes: Vec<u8>,
+    failed: bool,
+    flushed: bool,
+}
 
-/// Adds the lines of the squares of the list at the end, in its order, each ended by a line feed.
-fn append_lines<S: SharedSquares>(
-    squares: &S,
-    rule: &Rule,
-    known: &IdList,
-    out: &mut Vec<u8>,
-) -> Result<(), Kind>
-    requires known { All (S.knows squares.now) known.now }
-    requires listed { (t : Tree) → Contains (map (S.content squares.now) known.now) t → IsListed rule.now (map (S.content squares.now) known.now) t }
-    ensures lines { OnOk result (out.new.items ≡ out.old.items ++ flat_map node_text (lines_for rule.now (map (S.content squares.now) known.now))) }
-    ensures kind { IfErr result (λ kind. kind ≡ Memory) }
-{
-    for id in known.as_slice() {
-        append_line(out, &line_of(squares, rule, known, *id))?;
+impl Sink for Text {
+    ghost failures = { λ s. count_of s.failed };
+
+    ghost contents = { λ s. Some s.bytes.items };
+
+    ghost stalled = { λ _. false };
+
+    ghost flushed = { λ s. s.flushed };
+
+    ghost at_most_one = { λ s. elim s.failed as (λ f. count_of f ≤ 1) [ true ↦ Prim.search rules | false ↦ Prim.search rules ] };
+
+    fn failed(&self) -> bool {
+        self.failed
     }
-    Ok(())
-}
 
-/// The squares of a pattern that have lines, in their order.
-pub(crate) fn squares_of<S: SharedSquares>(
-    alloc: Global,
-    squares: &S,
-    pattern: &Pattern,
-) -> Result<IdList, Kind>
-    requires known { S.knows squares.now pattern.now.root }
-    requires states { HasStatesUpTo (largest_state pattern.now.rule) (S.content squares.now pattern.now.root) }
-    ensures listed { IfOk result (λ known. map (S.content squares.now) known ≡ listed (S.content squares.now pattern.now.root) (least_level pattern.now.rule)) }
-    ensures known { IfOk result (λ known. All (S.knows squares.now) known) }
-    ensures each { IfOk result (λ known. (t : Tree) → Contains (map (S.content squares.now) known) t → IsListed pattern.now.rule (map (S.content squares.now) known) t) }
-    ensures kind { IfErr result (λ kind. kind ≡ Memory) }
-{
-    let known = listed(alloc, squares, least_level(&pattern.rule), pattern.root)?;
-    Ok(known)
-}
+    fn write(&mut self, buf: &[u8]) -> Result<usize, Kind> {
+        self.flushed = false;
+        if self.bytes.extend_from_slice(buf).is_err() {
+            self.failed = true;
+            return Err(Kind::WriteFault);
+        }
+        Ok(buf.len())
+    }
 
-/// The macrocell text of a pattern, with one node line for each of its squares.
-fn written<S: SharedSquares>(alloc: Global, squares: &S, pattern: &Pattern) -> Result<Vec<u8>, Kind>
-    requires known { S.knows squares.now pattern.now.root }
-    requires states { HasStatesUpTo (largest_state pattern.now.rule) (S.content squares.now pattern.now.root) }
-    ensures text { IfOk result (λ text. text.items ≡ mc_text (square_file pattern.now.rule pattern.now.generation (S.content squares.now pattern.now.root))) }
-    ensures kind { IfErr result (λ kind. kind ≡ Memory) }
-{
-    let known = squares_of(alloc, squares, pattern)?;
-    let mut out = Vec::new(alloc);
-    out.reserve(FIRST_ROOM)?;
-    append_front(&mut out, &pattern.rule, pattern.generation)?;
-    append_lines(squares, &pattern.rule, &known, &mut out)?;
-    Ok(out)
+    fn flush(&mut self) -> Result<(), Kind> {
+        self.flushed = true;
+        Ok(())
+    }
 }
 
 /// The canonical text of a pattern in its least square: that of `number`'s file, which is not made.
@@ -91,7 +76,29 @@ pub fn text_of(alloc: Global, store: &Shared, pattern: &Pattern) -> Result<Vec<u
     ensures text { IfOk result (λ text. text.items ≡ canon_text MAX_LEVEL (universe_in store.now pattern.now)) }
     ensures memory { IfErr result (λ fault. fault ≡ fault_of Memory) }
 {
-    Ok(written(alloc, store, pattern)?)
+    let front = begin_front(alloc, pattern)?;
+    let mut text = Text {
+        bytes: Vec::new(alloc),
+        failed: false,
+        flushed: false,
+    };
+    let numbers = IdNumbers::growing(alloc);
+    match write_squares(store, pattern, numbers, front, &mut text) {
+        Ok(()) => Ok(text.bytes),
+        Err(_) => Err(Fault::of(Kind::Memory)),
+    }
+}
+
+/// The first lines of a pattern's text, with room for a piece behind them.
+fn begin_front(alloc: Global, pattern: &Pattern) -> Result<Vec<u8>, Kind>
+    ensures front { IfOk result (λ front. front.items ≡ front_text pattern.now.rule pattern.now.generation) }
+    ensures room { IfOk result (λ front. 65536 ≤ vec_capacity front) }
+    ensures kind { IfErr result (λ kind. kind ≡ Memory) }
+{
+    let mut front = Vec::new(alloc);
+    append_front(&mut front, &pattern.rule, pattern.generation)?;
+    front.reserve(PIECE)?;
+    Ok(front)
 }
 
 /// What a pattern's text is written with: the numbers, of which no square has one yet, and the front, with room for a piece behind it.
@@ -107,9 +114,7 @@ pub(crate) fn begin_text(
     ensures kind { IfErr result (λ kind. kind ≡ Memory) }
 {
     let numbers = IdNumbers::new(alloc, store)?;
-    let mut front = Vec::new(alloc);
-    append_front(&mut front, &pattern.rule, pattern.generation)?;
-    front.reserve(PIECE)?;
+    let front = begin_front(alloc, pattern)?;
     Ok((numbers, front))
 }
 
@@ -131,8 +136,8 @@ pub(crate) fn make_way<W: Sink>(piece: &mut Vec<u8>, writer: &mut W) -> Result<(
 }
 
 /// Writes the front and then the lines of the squares of a pattern, in their order, and flushes. The text is gathered in the front's room,
-/// and written whenever a line may not fit. It takes no memory.
-pub(crate) fn deliver_squares<S: SharedSquares, W: Sink>(
+/// and written whenever a line may not fit. Memory is refused only where a square of the store has no room for its number.
+fn write_squares<S: SharedSquares, W: Sink>(
     squares: &S,
     pattern: &Pattern,
     mut numbers: IdNumbers,
@@ -143,11 +148,10 @@ pub(crate) fn deliver_squares<S: SharedSquares, W: Sink>(
     requires level { least_level pattern.now.rule ≤ depth (S.content squares.now pattern.now.root) }
     requires states { HasStatesUpTo (largest_state pattern.now.rule) (S.content squares.now pattern.now.root) }
     requires none { numbers.ids ≡ [] }
-    requires bound { (id : IdValue) → S.knows squares.now id → HasNumberRoom numbers id }
     requires room { 65536 ≤ vec_capacity front }
     requires works { W.failures writer.old ≡ 0 }
     ensures text { WritesText (W.contents writer.old) (W.contents writer.new) (front.items ++ flat_map node_text (lines_for pattern.now.rule (listed (S.content squares.now pattern.now.root) (least_level pattern.now.rule)))) result }
-    ensures sink { LeavesSink W.failures W.stalled writer.old writer.new result }
+    ensures sink { LeavesNumbered (LacksRoom (S.knows squares.now) numbers.bound) W.failures W.stalled writer.old writer.new result }
     ensures flushed { OnOk result (W.flushed writer.new ≡ true) }
 {
     let mut piece = front;
@@ -162,4 +166,26 @@ pub(crate) fn deliver_squares<S: SharedSquares, W: Sink>(
         writer,
     )?;
     deliver(writer, &piece)
+}
+
+/// The same, where there is room for every number. It takes no memory.
+pub(crate) fn deliver_squares<S: SharedSquares, W: Sink>(
+    squares: &S,
+    pattern: &Pattern,
+    numbers: IdNumbers,
+    front: Vec<u8>,
+    writer: &mut W,
+) -> Result<(), Kind>
+    requires known { S.knows squares.now pattern.now.root }
+    requires level { least_level pattern.now.rule ≤ depth (S.content squares.now pattern.now.root) }
+    requires states { HasStatesUpTo (largest_state pattern.now.rule) (S.content squares.now pattern.now.root) }
+    requires none { numbers.ids ≡ [] }
+    requires bound { (id : IdValue) → S.knows squares.now id → HasNumberRoom numbers id }
+    requires room { 65536 ≤ vec_capacity front }
+    requires works { W.failures writer.old ≡ 0 }
+    ensures text { WritesText (W.contents writer.old) (W.contents writer.new) (front.items ++ flat_map node_text (lines_for pattern.now.rule (listed (S.content squares.now pattern.now.root) (least_level pattern.now.rule)))) result }
+    ensures sink { LeavesSink W.failures W.stalled writer.old writer.new result }
+    ensures flushed { OnOk result (W.flushed writer.new ≡ true) }
+{
+    write_squares(squares, pattern, numbers, front, writer)
 }

@@ -10,7 +10,7 @@ use Rattle.std.proofs.Common.{length-append}
 use Rattle.life_quad.specs.declared.id.Id.{Id}
 use Rattle.indexmap.proofs.IndexTableLemmas.Probe.{pigeonhole}
 use Rattle.life_quad.specs.IdList.{HasPlaces}
-use Rattle.life_quad.specs.IdNumbers.{number_at}
+use Rattle.life_quad.specs.IdNumbers.{number_at, number_by}
 use Rattle.life_quad.specs.Store.{id_of}
 use Rattle.life_quad.proofs.MapLemmas.{same_number}
 
@@ -113,6 +113,43 @@ pub number_left : (ids : List Id) (numbers : List ℕ) (id : Id) → HasPlaces i
 number_left ids numbers id h absent room =
     let p = few (ids ++ id ∷ []) (set numbers id.0 (length ids + 1)) (one_numbered ids numbers id (length ids + 1) h absent room refl) in
     omega (arith, p, length-append ids (id ∷ []), length-set numbers id.0 (length ids + 1))
+
+-- places that are the same for each Id
+pub same_places : (ids : List Id) (old new : Id → ℕ) → ((q : Id) → new q ≡ old q) → HasPlaces ids old → HasPlaces ids new
+same_places ids old new same h = record {
+  listed = λ i id e. same id ∙ h.listed i id e;
+  placed = λ id i e. h.placed id i (sym (same id) ∙ e);
+}
+
+-- pages have the numbers where the list has none
+pub in_pages : (numbers : List ℕ) (paged : Id → ℕ) → length numbers ≡ 0 → (q : Id) → number_by numbers paged q ≡ paged q
+in_pages [] paged none q = refl
+in_pages (n ∷ numbers) paged none q = absurd (omega arith)
+
+-- and else the list
+pub in_list : (numbers : List ℕ) (paged : Id → ℕ) → 0 < length numbers → (q : Id) → number_by numbers paged q ≡ number_at numbers q
+in_list [] paged some q = absurd (omega arith)
+in_list (n ∷ numbers) paged some q = refl
+
+pub listed_places : (ids : List Id) (numbers : List ℕ) (paged : Id → ℕ) → 0 < length numbers → HasPlaces ids (number_by numbers paged)
+    → HasPlaces ids (number_at numbers)
+listed_places ids numbers paged some h = same_places ids (number_by numbers paged) (number_at numbers) (λ q. sym (in_list numbers paged some q)) h
+
+-- one more Id, with the next number, in pages
+pub one_paged : (ids : List Id) (numbers : List ℕ) (old new : Id → ℕ) (id : Id) (number : ℕ) → length numbers ≡ 0 → HasPlaces ids (number_by numbers old)
+    → new id ≡ number → ((q : Id) → q ≢ id → new q ≡ old q) → ¬ Contains ids id → number ≡ length ids + 1
+    → HasPlaces (ids ++ id ∷ []) (number_by numbers new)
+one_paged ids numbers old new id number none h set others absent is =
+    same_places (ids ++ id ∷ []) new (number_by numbers new) (in_pages numbers new none)
+    (one_more ids old new id number (same_places ids (number_by numbers old) old (λ q. sym (in_pages numbers old none q)) h) set others absent is)
+
+-- the same in the list
+pub one_listed : (ids : List Id) (numbers : List ℕ) (paged : Id → ℕ) (id : Id) (number : ℕ) → HasPlaces ids (number_by numbers paged) → ¬ Contains ids id
+    → id.0 < length numbers → number ≡ length ids + 1 → HasPlaces (ids ++ id ∷ []) (number_by (set numbers id.0 number) paged)
+one_listed ids numbers paged id number h absent room is =
+    same_places (ids ++ id ∷ []) (number_at (set numbers id.0 number)) (number_by (set numbers id.0 number) paged)
+    (in_list (set numbers id.0 number) paged (omega (arith, length-set numbers id.0 number)))
+    (one_numbered ids numbers id number (listed_places ids numbers paged (omega arith) h) absent room is)
 
 -- the numbers of a list's Ids, and one more
 pub ids_more : (log more : List ℕ) (id : Id) → more ≡ log ++ id.0 ∷ [] → map id_of more ≡ map id_of log ++ id ∷ []

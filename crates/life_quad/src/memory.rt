@@ -28,8 +28,8 @@ const EMPTY: Place = Place {
 };
 
 /// Answers for nine squares side by side, found by the numbers of their Ids in constant time. It forgets: each nine have one place, which the last
-/// that came there hold. It begins with 1,024 places of 40 bytes when the first answer is put, and has four times as many each time that twice as
-/// many answers were recalled as it has places, up to 2^18. Where memory is refused it does without.
+/// that came there hold. It begins with 1,024 places of 40 bytes when the first answer is put, and has four times as many each time that an eighth
+/// as many answers were recalled as it has places, up to 2^18. Where memory is refused it does without.
 #[derive(Drop)]
 pub struct NeighbourhoodMemory {
     /// None, or a power of two.
@@ -125,7 +125,7 @@ impl NeighbourhoodMemory {
         ensures { (p : PlaceValue) → Holds self.new p → Holds self.old p }
     {
         let count = self.places.len();
-        if count == 0 || (count < MOST_PLACES && self.hits / 2 > count) {
+        if count == 0 || (count < MOST_PLACES && self.hits > count / 8) {
             make_places(&mut self.places);
             self.hits = 0;
         }

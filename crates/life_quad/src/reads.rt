@@ -1,5 +1,5 @@
 //! What a square has: the number of its nonzero cells, and their least box.
-ghost use Rattle.std.specs.Prelude.{◌≡◌, ◌+◌, ◌^◌, ◌+ℤ◌, pos, ◌<◌, ◌≤◌, true, IfOk, IfErr, MatchOption};
+ghost use Rattle.std.specs.Prelude.{◌≡◌, ◌+◌, ◌^◌, ◌+ℤ◌, pos, ◌<◌, ◌≤◌, true, IfOk, IfErr, IfSome, MatchOption};
 ghost use Rattle.life_base.specs.declared.kind.Kind.TheVariants.{Memory};
 ghost use Rattle.life_quad.specs.declared.id.Id.{Id as IdValue};
 ghost use Rattle.life_base.specs.Tree.{depth, is_blank_tree};
@@ -29,6 +29,23 @@ pub fn population<S: SharedSquares>(alloc: Global, squares: &S, id: Id) -> Resul
     count(squares, squares.level(id), id, &mut known)
 }
 
+/// The number of cells with a state in a square of level 3, where the store tells the cells of its quarters; `None` tells nothing.
+fn count_leaf<S: Squares>(squares: &S, level: u8, id: Id) -> Option<u128>
+    requires known { S.knows squares.now id }
+    requires level { level ≡ depth (S.content squares.now id) }
+    ensures number { IfSome result (λ n. n ≡ population (S.content squares.now id)) }
+{
+    if level != 3 {
+        return None;
+    }
+    let Quarters { nw, ne, sw, se } = divide(squares, id);
+    let nw = squares.small_cells(nw)?.count_ones();
+    let ne = squares.small_cells(ne)?.count_ones();
+    let sw = squares.small_cells(sw)?.count_ones();
+    let se = squares.small_cells(se)?.count_ones();
+    Some(u128::from(nw + ne + sw + se))
+}
+
 /// The number of cells with a state in a square of a level, where `known` has the numbers of squares that were visited, and 0 for others:
 /// no square that isn't blank has that number.
 fn count<S: Squares>(squares: &S, level: u8, id: Id, known: &mut IdMap<u128>) -> Result<u128, Kind>
@@ -44,6 +61,9 @@ fn count<S: Squares>(squares: &S, level: u8, id: Id, known: &mut IdMap<u128>) ->
     }
     if let Some(state) = squares.state(id) {
         return Ok(if state == 0 { 0 } else { 1 });
+    }
+    if let Some(number) = count_leaf(squares, level, id) {
+        return Ok(number);
     }
     let number = known.get(id);
     if number != 0 {

@@ -2,7 +2,7 @@ use Rattle.std.proofs.Common.{ap, arith, map, refl}
 use Rattle.std.proofs.lemmas.Result.{err_from_is_err_and}
 use Rattle.life_canon.proofs.PieceFacts.{front-told}
 use Rattle.life_canon.proofs.WalkingFacts.{none-numbered, root-high, whole-written, whole-broken}
-use Rattle.life_canon.proofs.writing.deliver_squares.Goals as goal
+use Rattle.life_canon.proofs.writing.write_squares.Goals as goal
 
 pub write_square-requires-clause-numbers : goal.write_square-requires-clause-numbers
 write_square-requires-clause-numbers g c = rw c.requires.none (λ k d l. absurd (omega arith))

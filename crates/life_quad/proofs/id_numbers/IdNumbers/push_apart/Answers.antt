@@ -1,0 +1,39 @@
+use Rattle.std.proofs.Common.{◌≡◌, ◌≢◌, ℕ, ◌+◌, ◌++◌, ◌∷◌, [], ap, sym, ◌∙◌, subst, rules, length, length-append, map}
+use Rattle.std.specs.Prelude.{Contains}
+use Rattle.life_quad.specs.declared.id.Id.{Id}
+use Rattle.life_quad.specs.IdMap.{value_of}
+use Rattle.life_quad.specs.Store.{id_of}
+use Rattle.life_quad.specs.IdNumbers.{Numbered, number_by}
+use Rattle.life_quad.proofs.PlaceLemmas.{same_places, in_pages, one_paged, ids_more}
+use Rattle.life_quad.proofs.id_numbers.IdNumbers.push_apart.Goals as goal
+
+pub invariant_of-self : goal.invariant_of-self
+invariant_of-self c =
+    let numbers = c.self.inside.numbers.items in
+    let old : Id → ℕ = value_of c.self.inside.pages in
+    let new : Id → ℕ = value_of c.make_room.new.self in
+    let none : length numbers ≡ 0 = search rules in (
+      same_places (map id_of c.self.inside.log.ids) (number_by numbers old) (number_by numbers new)
+          (λ q. in_pages numbers new none q ∙ c.make_room.ensures.same q ∙ sym (in_pages numbers old none q)) c.self.invariant.0,
+      c.self.invariant.1,
+      c.self.invariant.2,
+    )
+
+pub invariant_of-self-2 : goal.invariant_of-self-2
+invariant_of-self-2 c =
+    let ids = map id_of c.self.inside.log.ids in
+    let numbers = c.self.inside.numbers.items in
+    let none : length numbers ≡ 0 = search rules in
+    let absent : ¬ Contains ids c.args.id = subst (λ (v : Numbered). ¬ Contains v.ids c.args.id) (sym c.self.view_is) c.requires.new in
+    let count : c.in-Some.count ≡ c.self.inside.count + 1 = search rules in
+    let number : c.in-Some.count ≡ length ids + 1 = count ∙ ap (λ n. n + 1) c.self.invariant.1 in
+    let more : map id_of c.then-self-inside.result.ids ≡ ids ++ c.args.id ∷ [] = ids_more c.self.inside.log.ids c.then-self-inside.result.ids c.args.id
+    c.then-self-inside.ensures in
+    let others : (q : Id) → q ≢ c.args.id → value_of c.put.new.self q ≡ value_of c.self.inside.pages q = λ q o. c.put.ensures.others q o
+    ∙ c.make_room.ensures.same q in
+    let placed = one_paged ids numbers (value_of c.self.inside.pages) (value_of c.put.new.self) c.args.id c.in-Some.count none c.self.invariant.0
+    c.put.ensures.set others absent number in (
+      rw more placed,
+      number ∙ sym (ap length more ∙ length-append ids (c.args.id ∷ [])),
+      c.self.invariant.2,
+    )
