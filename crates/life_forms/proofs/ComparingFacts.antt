@@ -1,0 +1,94 @@
+-- Patterns of one store, compared in a form.
+use Rattle.std.proofs.Common.{◌≡◌, ◌≤◌, ℕ, List, Bool, sym, ap, ◌∙◌, subst, lit≤}
+use Rattle.std.specs.Prelude.{◌↔◌, ◌^◌, ◌<◌, IsTrue}
+use Rattle.life_base.specs.Rules.{IsRule}
+use Rattle.life_base.specs.Tree.{Tree, depth, tree_cell}
+use Rattle.life_base.specs.declared.cell.TheConstants.{MAX_LEVEL}
+use Rattle.life_base.specs.declared.rule.Rule.{Rule}
+use Rattle.life_mc.specs.Macrocell.{largest_state}
+use Rattle.life_mc.specs.Squares.{HasStatesUpTo}
+use Rattle.life_quad.specs.Moves.{trimmed}
+use Rattle.life_quad.specs.Store.{Nodes}
+use Rattle.life_quad.proofs.LawLemmas.{known_squares_are_full, equal_squares_have_one_id, trimmed_by_cells}
+use Rattle.life_canon.specs.Laws.{TextsTellUniverses}
+use Rattle.life_canon.specs.Listing.{canon_text}
+use Rattle.life_canon.specs.Store.{Keeps, IsTrimmed, content, universe_in}
+use Rattle.life_canon.specs.Universe.{Universe, IsSame, IsOnPlane, least_level, square_universe}
+use Rattle.life_canon.specs.declared.pattern.Pattern.{Pattern}
+use Rattle.life_forms.specs.Forms.{IsShift, IsMoved, IsTurnedShift}
+use Rattle.life_forms.specs.Images.{IsTurnedText}
+use Rattle.life_forms.proofs.LeastFacts.{turned-texts}
+use Rattle.life_forms.proofs.PatternFacts.{cell-up-to, least-one}
+use Rattle.life_forms.proofs.PlaneFacts.{outside-blank}
+use Rattle.life_forms.proofs.ShiftFacts.{forms-of-shifts, shift-of-forms}
+
+-- ---- a store that keeps its squares
+
+pub stays-trimmed : (old new : Nodes) (p : Pattern) → Keeps old new → IsTrimmed old p → IsTrimmed new p
+stays-trimmed old new p keeps h =
+    let m = least_level p.rule in
+    let k = keeps.contents p.root h.known in
+    record {
+      known = k.0;
+      level = subst (λ (t : Tree). m ≤ depth t) (sym k.1) h.level;
+      trimmed = subst (λ (t : Tree). trimmed t m ≡ t) (sym k.1) h.trimmed;
+      states = subst (HasStatesUpTo (largest_state p.rule)) (sym k.1) h.states;
+    }
+
+pub stays-same : (old new : Nodes) (p : Pattern) → Keeps old new → IsTrimmed old p → universe_in new p ≡ universe_in old p
+stays-same old new p keeps h = ap (square_universe p.rule p.generation) (keeps.contents p.root h.known).1
+
+-- ---- by their roots
+
+abbrev pub HaveOneRoot : Pattern → Pattern → Type 0
+HaveOneRoot x y = (x.rule ≡ y.rule) × (x.generation ≡ y.generation) × (x.root ≡ y.root)
+
+same-roots : (store : Nodes) (x y : Pattern) → IsTrimmed store x → IsTrimmed store y → IsSame (universe_in store x) (universe_in store y) → x.root ≡ y.root
+same-roots store x y h k same =
+    let s = content store x.root in
+    let t = content store y.root in
+    let m = least_level x.rule in
+    let trims = subst (λ (r : Rule). trimmed t (least_level r) ≡ t) (sym same.rule) k.trimmed in
+    let high = subst (λ (r : Rule). least_level r ≤ depth t) (sym same.rule) k.level in
+    let equal = (trimmed_by_cells s t m (known_squares_are_full store x.root h.known.0).0 (known_squares_are_full store y.root k.known.0).0
+    (least-one x.rule) h.level high).1 same.cells in
+    equal_squares_have_one_id store h.known.1 x.root y.root h.known.0 k.known.0 (sym h.trimmed ∙ equal ∙ trims)
+
+roots-tell : (store : Nodes) (x y : Pattern) → IsTrimmed store x → IsTrimmed store y → HaveOneRoot x y ↔ IsSame (universe_in store x) (universe_in store y)
+roots-tell store x y h k = (
+  λ e. record { rule = e.0; generation = e.1; cells = λ a b. ap (λ id. tree_cell (content store id) a b) e.2 },
+  λ same. (same.rule, same.generation, same-roots store x y h k same),
+)
+
+pub shifts-told : (old mid new : Nodes) (a b first second : Pattern) (answer : Bool) → Keeps old mid → Keeps mid new → IsTrimmed old a → IsTrimmed old b
+    → IsTrimmed mid first → IsMoved MAX_LEVEL (universe_in old a) (universe_in mid first)
+    → IsTrimmed new second → IsMoved MAX_LEVEL (universe_in mid b) (universe_in new second)
+    → (IsTrue answer ↔ HaveOneRoot first second) → IsTrue answer ↔ IsShift (universe_in old a) (universe_in old b)
+shifts-told old mid new a b first second answer k l h g one moved two also test =
+    let u = universe_in old a in
+    let v = universe_in old b in
+    let x = universe_in new first in
+    let y = universe_in new second in
+    let p = subst (λ (w : Universe). IsMoved MAX_LEVEL u w) (sym (stays-same mid new first l one)) moved in
+    let q = subst (λ (w : Universe). IsMoved MAX_LEVEL w y) (stays-same old mid b k g) also in
+    let roots = roots-tell new first second (stays-trimmed mid new first l one) two in
+    let outside = outside-blank (content old a.root) (known_squares_are_full old a.root h.known.0).1 in (
+      λ t. shift-of-forms MAX_LEVEL u v x y p q (roots.0 (test.0 t)),
+      λ s. test.1 (roots.1 (forms-of-shifts MAX_LEVEL u v x y outside p q s)),
+    )
+
+-- ---- by their texts
+
+pub on-plane : (store : Nodes) (p : Pattern) → IsTrimmed store p → IsRule p.rule → p.generation < 2 ^ 64 → IsOnPlane MAX_LEVEL (universe_in store p)
+on-plane store p h rule generation = record {
+  rule = rule;
+  generation = generation;
+  states = cell-up-to (largest_state p.rule) (content store p.root) h.states;
+  outside = outside-blank (content store p.root) (known_squares_are_full store p.root h.known.0).1;
+}
+
+pub turns-told : TextsTellUniverses MAX_LEVEL → (u v : Universe) (first second : List ℕ) → IsOnPlane MAX_LEVEL u → IsOnPlane MAX_LEVEL v
+    → IsTurnedText MAX_LEVEL u first → IsTurnedText MAX_LEVEL v second → (first ≡ second) ↔ IsTurnedShift u v
+turns-told tells u v first second plane other h k =
+    let told = turned-texts MAX_LEVEL (canon_text MAX_LEVEL) tells (lit≤ tt) u v h.form k.form plane other h.turned k.turned in
+    (λ e. told.0 (sym h.is ∙ e ∙ k.is), λ s. h.is ∙ told.1 s ∙ sym k.is)

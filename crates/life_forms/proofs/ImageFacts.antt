@@ -1,0 +1,175 @@
+-- Squares of a plane, turned, are squares of its image.
+use Rattle.std.proofs.Common.{◌≡◌, ◌==◌, ℕ, zero, suc, ◌+◌, ◌^◌, ◌≤◌, Bool, true, false, refl, sym, ap, ap₂, ◌∙◌, subst, ℤ, pos, neg_ℤ, ◌+ℤ◌, arith, if◌then◌else◌}
+use Rattle.std.proofs.lemmas.Bool.Decides.{nat_tests}
+use Rattle.std.proofs.lemmas.Int.{ints}
+use Rattle.life_base.specs.Tree.{Tree, point, quad, depth, blank, is_blank_tree, tree_cell, IsFull}
+use Rattle.life_quad.specs.Cells.{population}
+use Rattle.life_canon.specs.Laws.{SquaresAreCentred, CentredSquaresTellCells}
+use Rattle.life_canon.specs.Universe.{square, centred, corner, IsBlankOutside}
+use Rattle.life_forms.specs.Turns.{Turn, turn_of, counted, differ, column_of, row_of}
+use Rattle.life_forms.specs.Trees.{one_of_four, side_of, end_of, turned_tree}
+use Rattle.life_forms.proofs.TurnFacts.{backwards-is, pow_suc, image_cells, image-outside}
+use Rattle.life_forms.proofs.PlaneFacts.{both-true}
+
+-- a coordinate, or the one so many further
+abbrev stepped : Bool → ℕ → ℤ → ℤ
+stepped false n x = x
+stepped true n x = x +ℤ pos n
+
+zero-test : (n : ℕ) → (n == 0) ≡ true → n ≡ 0
+zero-test n e = grind (arith, nat_tests)
+
+-- where a side of a square begins that goes to one that begins at x
+abbrev pub begin : Bool → ℕ → ℤ → ℤ
+begin false k x = x
+begin true k x = neg_ℤ (x +ℤ pos (2 ^ k))
+
+-- half a side further, in the image and before
+axis : (c e : Bool) (n : ℕ) (x : ℤ) → stepped (differ c e) (2 ^ n) (begin c (suc n) x) ≡ begin c n (stepped e (2 ^ n) x)
+axis false e n x = refl
+axis true false n x = let p = pow_suc n in omega (arith, ints)
+axis true true n x = let p = pow_suc n in omega (arith, ints)
+
+single : (c : Bool) (x : ℤ) → begin c 0 x ≡ counted c x
+single false x = refl
+single true x = let b = backwards-is x in omega (arith, ints)
+
+one-of-squares : (cell : ℤ → ℤ → ℕ) (n : ℕ) (x y : ℤ) (u v : Bool)
+    → one_of_four u v (square cell n x y) (square cell n (x +ℤ pos (2 ^ n)) y) (square cell n x (y +ℤ pos (2 ^ n)))
+    (square cell n (x +ℤ pos (2 ^ n)) (y +ℤ pos (2 ^ n)))
+    ≡ square cell n (stepped u (2 ^ n) x) (stepped v (2 ^ n) y)
+one-of-squares cell n x y false false = refl
+one-of-squares cell n x y true false = refl
+one-of-squares cell n x y false true = refl
+one-of-squares cell n x y true true = refl
+
+one-of-turned : (t : Turn) (u v : Bool) (a b c d : Tree)
+    → one_of_four u v (turned_tree t a) (turned_tree t b) (turned_tree t c) (turned_tree t d) ≡ turned_tree t (one_of_four u v a b c d)
+one-of-turned t false false a b c d = refl
+one-of-turned t true false a b c d = refl
+one-of-turned t false true a b c d = refl
+one-of-turned t true true a b c d = refl
+
+-- the pair of which a turn makes (x, y), along one line
+abbrev pub line : Bool → ℤ → ℤ → ℤ
+line false x y = x
+line true x y = y
+
+stepped-line : (e east south : Bool) (h : ℕ) (x y : ℤ)
+    → stepped (if e then south else east) h (line e x y) ≡ line e (stepped east h x) (stepped south h y)
+stepped-line false east south h x y = refl
+stepped-line true east south h x y = refl
+
+line-is : (e : Bool) (x y : ℤ) → line e x y ≡ (if e then y else x)
+line-is false x y = refl
+line-is true x y = refl
+
+-- the square that goes to the one that begins at (x, y)
+abbrev pub before : Turn → (ℤ → ℤ → ℕ) → ℕ → ℤ → ℤ → Tree
+before t cell k x y = square cell k (begin t.columns k (line t.exchange x y)) (begin t.rows k (line t.exchange y x))
+
+pub turned-square : (t : Turn) (cell : ℤ → ℤ → ℕ) (k : ℕ) (x y : ℤ) → turned_tree t (before t cell k x y) ≡ square (image_cells t cell) k x y
+unfolding square
+turned-square t cell zero x y =
+    ap point (ap₂ cell (single t.columns (line t.exchange x y) ∙ ap (counted t.columns) (line-is t.exchange x y))
+    (single t.rows (line t.exchange y x) ∙ ap (counted t.rows) (line-is t.exchange y x)))
+turned-square t cell (suc n) x y =
+    let h = 2 ^ n in
+    let left = begin t.columns (suc n) (line t.exchange x y) in
+    let top = begin t.rows (suc n) (line t.exchange y x) in
+    let at = λ (east south : Bool).
+    one-of-turned t (side_of t east south) (end_of t east south) (square cell n left top) (square cell n (left +ℤ pos h) top)
+    (square cell n left (top +ℤ pos h)) (square cell n (left +ℤ pos h) (top +ℤ pos h))
+    ∙ ap (turned_tree t) (one-of-squares cell n left top (side_of t east south) (end_of t east south)
+    ∙ ap₂ (square cell n)
+    (axis t.columns (if t.exchange then south else east) n (line t.exchange x y) ∙ ap (begin t.columns n) (stepped-line t.exchange east south h x y))
+    (axis t.rows (if t.exchange then east else south) n (line t.exchange y x) ∙ ap (begin t.rows n) (stepped-line t.exchange south east h y x)))
+    ∙ turned-square t cell n (stepped east h x) (stepped south h y) in
+    λ i. quad (at false false i) (at true false i) (at false true i) (at true true i)
+
+-- ---- squares that a turn leaves
+
+one-of-same : (u v : Bool) (t : Tree) → one_of_four u v t t t t ≡ t
+one-of-same false false t = refl
+one-of-same true false t = refl
+one-of-same false true t = refl
+one-of-same true true t = refl
+
+turned-blank : (turn : Turn) (k : ℕ) → turned_tree turn (blank k) ≡ blank k
+turned-blank turn zero = refl
+turned-blank turn (suc k) =
+    let at = λ (u v : Bool). one-of-same u v (turned_tree turn (blank k)) ∙ turned-blank turn k in
+    λ i. quad (at (side_of turn false false) (end_of turn false false) i) (at (side_of turn true false) (end_of turn true false) i)
+    (at (side_of turn false true) (end_of turn false true) i) (at (side_of turn true true) (end_of turn true true) i)
+
+pub full-blank : (t : Tree) → IsFull t → is_blank_tree t ≡ true → t ≡ blank (depth t)
+full-blank (point s) full e = ap point (zero-test s e)
+full-blank (quad a b c d) full e =
+    let one = both-true _ _ e in
+    let two = both-true _ _ one.0 in
+    let three = both-true _ _ two.0 in
+    let p = full-blank a full.0 three.0 in
+    let q = full-blank b full.1 three.1 ∙ ap blank full.4 in
+    let r = full-blank c full.2 two.1 ∙ ap blank full.5 in
+    let s = full-blank d full.3 one.1 ∙ ap blank full.6 in
+    λ i. quad (p i) (q i) (r i) (s i)
+
+pub blank-turned : (turn : Turn) (t : Tree) → IsFull t → is_blank_tree t ≡ true → t ≡ turned_tree turn t
+blank-turned turn t full e = full-blank t full e ∙ sym (turned-blank turn (depth t)) ∙ ap (turned_tree turn) (sym (full-blank t full e))
+
+-- ---- squares about (0, 0)
+
+-- each side of such a square begins where it began
+begin-corner : (b : Bool) (k : ℕ) → 1 ≤ k → begin b k (corner k) ≡ corner k
+unfolding corner
+begin-corner b zero high = absurd (omega arith)
+begin-corner false (suc k) high = refl
+begin-corner true (suc k) high = let p = pow_suc k in omega (arith, ints)
+
+line-itself : (e : Bool) (x : ℤ) → line e x x ≡ x
+line-itself false x = refl
+line-itself true x = refl
+
+turned-centred : (turn : Turn) (cell : ℤ → ℤ → ℕ) (k : ℕ) → 1 ≤ k → turned_tree turn (centred cell k) ≡ centred (image_cells turn cell) k
+unfolding centred
+turned-centred turn cell k high =
+    let side = λ (b : Bool). ap (begin b k) (line-itself turn.exchange (corner k)) ∙ begin-corner b k high in
+    ap (turned_tree turn) (sym (ap₂ (square cell k) (side turn.columns) (side turn.rows))) ∙ turned-square turn cell k (corner k) (corner k)
+
+-- the turned square has the cells of the image
+pub turned-cells : SquaresAreCentred → CentredSquaresTellCells → (turn : Turn) (t image : Tree) → IsFull t → IsFull image → 1 ≤ depth t → depth image ≡ depth t
+    → image ≡ turned_tree turn t → (x y : ℤ) → tree_cell image x y ≡ tree_cell t (column_of turn x y) (row_of turn x y)
+turned-cells centre tell turn t image full also high level is =
+    let k = depth t in
+    let here = centre t full high in
+    let there = centre image also (subst (λ (n : ℕ). 1 ≤ n) (sym level) high) in
+    tell k (tree_cell image) (image_cells turn (tree_cell t)) (subst (λ (n : ℕ). IsBlankOutside n (tree_cell image)) level there.1)
+    (image-outside k high turn (tree_cell t) here.1)
+    (ap (centred (tree_cell image)) (sym level) ∙ there.0 ∙ is ∙ ap (turned_tree turn) (sym here.0) ∙ turned-centred turn (tree_cell t) k high)
+
+-- ---- how many cells have a state
+
+four-cells : (e c r : Bool) (nw ne sw se : Tree)
+    → population (one_of_four (side_of (turn_of e c r) false false) (end_of (turn_of e c r) false false) nw ne sw se)
+    + population (one_of_four (side_of (turn_of e c r) true false) (end_of (turn_of e c r) true false) nw ne sw se)
+    + population (one_of_four (side_of (turn_of e c r) false true) (end_of (turn_of e c r) false true) nw ne sw se)
+    + population (one_of_four (side_of (turn_of e c r) true true) (end_of (turn_of e c r) true true) nw ne sw se)
+    ≡ population nw + population ne + population sw + population se
+four-cells false false false nw ne sw se = refl
+four-cells false true false nw ne sw se = omega arith
+four-cells true true false nw ne sw se = omega arith
+four-cells true true true nw ne sw se = omega arith
+four-cells false true true nw ne sw se = omega arith
+four-cells false false true nw ne sw se = omega arith
+four-cells true false true nw ne sw se = omega arith
+four-cells true false false nw ne sw se = omega arith
+
+pub population-turned : (turn : Turn) (t : Tree) → population (turned_tree turn t) ≡ population t
+population-turned turn (point s) = refl
+population-turned turn (quad nw ne sw se) =
+    let a = population-turned turn nw in
+    let b = population-turned turn ne in
+    let c = population-turned turn sw in
+    let d = population-turned turn se in
+    let all = four-cells turn.exchange turn.columns turn.rows (turned_tree turn nw) (turned_tree turn ne) (turned_tree turn sw) (turned_tree turn se) in
+    all ∙ (λ i. a i + b i + c i + d i)

@@ -1,0 +1,12 @@
+pub mod TurnFacts
+pub mod ShiftFacts
+pub mod LeastFacts
+pub mod FileLaws
+mod Rows
+pub mod CellMoves
+pub mod PlaneFacts
+pub mod ImageFacts
+pub mod PatternFacts
+pub mod TextFacts
+pub mod RefusalFacts
+pub mod ComparingFacts

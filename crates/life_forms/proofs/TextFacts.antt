@@ -1,0 +1,75 @@
+-- The least of the texts of eight images is that of the turned form.
+use Rattle.std.proofs.Common.{◌≡◌, ◌⊎◌, inl, inr, ℕ, ◌+◌, ◌<◌, ◌≤◌, List, refl, sym, ap, ◌∙◌, subst, arith}
+use Rattle.std.proofs.lemmas.Bool.Decides.{nat_tests}
+use Rattle.std.proofs.lemmas.Option.{get_or_from_slice_get, slice_get-get_or}
+use Rattle.life_canon.specs.Listing.{canon_text}
+use Rattle.life_canon.specs.Universe.{Universe, IsSame, IsBlankOutside}
+use Rattle.life_forms.specs.Turns.{Turn, image, turns, upright}
+use Rattle.life_forms.specs.Forms.{IsMoved, IsUpTo}
+use Rattle.life_forms.specs.Images.{IsImageText, IsLeastOfFirst, IsTurnedText, numbered}
+use Rattle.life_forms.proofs.TurnFacts.{turns-are-eight, image-outside}
+use Rattle.life_forms.proofs.ShiftFacts.{same-refl, still, forms-of-shifts}
+use Rattle.life_forms.proofs.LeastFacts.{up-to-itself, up-to-on}
+
+-- patterns that are the same have one text, on the plane or not
+same-text : (top : ℕ) (u v : Universe) → IsSame u v → canon_text top u ≡ canon_text top v
+same-text top u v same = ap (canon_text top) (λ i. record { rule = same.rule i; generation = same.generation i; cell = λ x y. same.cells x y i })
+
+-- an image has one text
+pub one-text : (top : ℕ) (u : Universe) → 1 ≤ top → IsBlankOutside top u.cell → (turn : Turn) (a b : List ℕ) → IsImageText top u turn a
+    → IsImageText top u turn b → a ≡ b
+one-text top u some outside turn a b first second =
+    first.is
+    ∙ same-text top first.form second.form
+    (forms-of-shifts top (image turn u) (image turn u) first.form second.form (image-outside top some turn u.cell outside) first.moved second.moved
+    (still _ _ (same-refl (image turn u))))
+    ∙ sym second.is
+
+pub first-text : (top : ℕ) (u : Universe) → 1 ≤ top → IsBlankOutside top u.cell → (text : List ℕ) → IsImageText top u (numbered 0) text
+    → IsLeastOfFirst top u 1 text
+first-text top u some outside text is = record {
+  turn = numbered 0;
+  of_image = is;
+  least = λ k other low also. first k other low also;
+}
+  where
+    first : (k : ℕ) (other : List ℕ) → k < 1 → IsImageText top u (numbered k) other → IsUpTo text other
+    first k other low also =
+        let none : k ≡ 0 = omega arith in
+        let here = subst (λ (n : ℕ). IsImageText top u (numbered n) other) none also in
+        subst (λ (t : List ℕ). IsUpTo text t) (one-text top u some outside (numbered 0) text other is here) (up-to-itself text)
+
+pub next-text : (top : ℕ) (u : Universe) → 1 ≤ top → IsBlankOutside top u.cell → (n : ℕ) (best text lesser : List ℕ) → IsLeastOfFirst top u n best
+    → IsImageText top u (numbered n) text → (lesser ≡ best) ⊎ (lesser ≡ text) → IsUpTo lesser best → IsUpTo lesser text → IsLeastOfFirst top u (n + 1) lesser
+next-text top u some outside n best text lesser so_far is one below_best below_text = elim one [
+  | inl e ↦ record { turn = so_far.turn; of_image = subst (λ (t : List ℕ). IsImageText top u so_far.turn t) (sym e) so_far.of_image; least = below }
+  | inr e ↦ record { turn = numbered n; of_image = subst (λ (t : List ℕ). IsImageText top u (numbered n) t) (sym e) is; least = below }
+]
+  where
+    earlier : (k : ℕ) → k < n + 1 → (k < n) ⊎ (k ≡ n)
+    earlier k low = grind (arith, nat_tests)
+
+    below : (k : ℕ) (other : List ℕ) → k < n + 1 → IsImageText top u (numbered k) other → IsUpTo lesser other
+    below k other low also = elim (earlier k low) [
+      | inl before ↦ up-to-on lesser best other below_best (so_far.least k other before also)
+      | inr last ↦
+          let here = subst (λ (m : ℕ). IsImageText top u (numbered m) other) last also in
+          subst (λ (t : List ℕ). IsUpTo lesser t) (one-text top u some outside (numbered n) text other is here) below_text
+    ]
+
+pub turned-text : (top : ℕ) (u : Universe) (text : List ℕ) → IsLeastOfFirst top u 8 text → IsTurnedText top u text
+turned-text top u text h = record {
+  form = h.of_image.form;
+  turned = record {
+    turn = h.turn;
+    moved = h.of_image.moved;
+    least = λ other w moved. subst (λ (t : List ℕ). IsUpTo t (canon_text top w)) h.of_image.is (below other w moved);
+  };
+  is = h.of_image.is;
+}
+  where
+    below : (other : Turn) (w : Universe) → IsMoved top (image other u) w → IsUpTo text (canon_text top w)
+    below other w moved =
+        let place = turns-are-eight other in
+        let e : numbered place.0 ≡ other = get_or_from_slice_get turns place.0 _ upright (slice_get-get_or turns place.0 other place.1) ∙ place.2 in
+        h.least place.0 (canon_text top w) place.1 (record { form = w; moved = subst (λ (t : Turn). IsMoved top (image t u) w) (sym e) moved; is = refl })

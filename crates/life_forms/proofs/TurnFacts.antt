@@ -1,0 +1,157 @@
+-- The eight turns: their table, and what they do to shifts and to the plane.
+use Rattle.std.proofs.Common.{◌≡◌, ℕ, zero, suc, ◌+◌, ◌≤◌, ◌^◌, Bool, true, false, refl, ap₂, ◌∙◌, ℤ, pos, negsuc, neg_ℤ, ◌+ℤ◌, arith, Contains, lit<}
+use Rattle.std.proofs.lemmas.Int.{ints}
+use Rattle.life_canon.specs.Universe.{Universe, IsBlankOutside, IsWithin, corner}
+use Rattle.life_forms.specs.Turns.{Turn, turn_of, turns, backwards, counted, column_of, row_of, image, differ, after, back}
+use Rattle.life_forms.specs.Forms.{IsShift, edge}
+use Rattle.life_forms.specs.Laws.{TurnsAreEight, TurnsAreClosed, TurnsHaveInverses, ImagesStayOnPlane, ImagesKeepShifts}
+
+pub backwards-twice : (x : ℤ) → backwards (backwards x) ≡ x
+backwards-twice (pos n) = refl
+backwards-twice (negsuc n) = refl
+
+pub backwards-is : (x : ℤ) → backwards x +ℤ x ≡ negsuc 0
+backwards-is (pos n) = omega (arith, ints)
+backwards-is (negsuc n) = omega (arith, ints)
+
+-- ---- the eight
+
+eight : (a b c : Bool) → Contains turns (turn_of a b c)
+eight false false false = (0, lit< tt, refl)
+eight false true false = (1, lit< tt, refl)
+eight true true false = (2, lit< tt, refl)
+eight true true true = (3, lit< tt, refl)
+eight false true true = (4, lit< tt, refl)
+eight false false true = (5, lit< tt, refl)
+eight true false true = (6, lit< tt, refl)
+eight true false false = (7, lit< tt, refl)
+
+pub turns-are-eight : TurnsAreEight
+turns-are-eight turn = eight turn.exchange turn.columns turn.rows
+
+-- ---- one after the other
+
+pub counted-twice : (a b : Bool) (x : ℤ) → counted a (counted b x) ≡ counted (differ a b) x
+counted-twice false b x = refl
+counted-twice true false x = refl
+counted-twice true true x = backwards-twice x
+
+column-after : (fe fc fr se sc sr : Bool) (x y : ℤ)
+    → column_of (turn_of fe fc fr) (column_of (turn_of se sc sr) x y) (row_of (turn_of se sc sr) x y)
+    ≡ column_of (after (turn_of fe fc fr) (turn_of se sc sr)) x y
+column-after false fc fr se sc sr x y = counted-twice fc sc _
+column-after true fc fr true sc sr x y = counted-twice fc sr x
+column-after true fc fr false sc sr x y = counted-twice fc sr y
+
+row-after : (fe fc fr se sc sr : Bool) (x y : ℤ)
+    → row_of (turn_of fe fc fr) (column_of (turn_of se sc sr) x y) (row_of (turn_of se sc sr) x y)
+    ≡ row_of (after (turn_of fe fc fr) (turn_of se sc sr)) x y
+row-after false fc fr se sc sr x y = counted-twice fr sr _
+row-after true fc fr true sc sr x y = counted-twice fr sc y
+row-after true fc fr false sc sr x y = counted-twice fr sc x
+
+pub turns-are-closed : TurnsAreClosed
+turns-are-closed f s u = record {
+  rule = refl;
+  generation = refl;
+  cells = λ x y. ap₂ u.cell (column-after f.exchange f.columns f.rows s.exchange s.columns s.rows x y)
+      (row-after f.exchange f.columns f.rows s.exchange s.columns s.rows x y);
+}
+
+-- ---- taken back
+
+counted-back : (a : Bool) (x : ℤ) → counted a (counted a x) ≡ x
+counted-back false x = refl
+counted-back true x = backwards-twice x
+
+column-back : (e c r : Bool) (x y : ℤ)
+    → column_of (turn_of e c r) (column_of (back (turn_of e c r)) x y) (row_of (back (turn_of e c r)) x y) ≡ x
+column-back false c r x y = counted-back c x
+column-back true c r x y = counted-back c x
+
+row-back : (e c r : Bool) (x y : ℤ)
+    → row_of (turn_of e c r) (column_of (back (turn_of e c r)) x y) (row_of (back (turn_of e c r)) x y) ≡ y
+row-back false c r x y = counted-back r y
+row-back true c r x y = counted-back r y
+
+pub turns-have-inverses : TurnsHaveInverses
+turns-have-inverses t u = record {
+  rule = refl;
+  generation = refl;
+  cells = λ x y. ap₂ u.cell (column-back t.exchange t.columns t.rows x y) (row-back t.exchange t.columns t.rows x y);
+}
+
+-- ---- shifts
+
+-- so far the image moves along a line
+abbrev signed : Bool → ℤ → ℤ
+signed false d = d
+signed true d = neg_ℤ d
+
+counted-shifted : (b : Bool) (x d : ℤ) → counted b (x +ℤ signed b d) ≡ counted b x +ℤ d
+counted-shifted false x d = refl
+counted-shifted true x d =
+    let there = backwards-is (x +ℤ neg_ℤ d) in
+    let here = backwards-is x in
+    omega (arith, ints)
+
+shifts-kept : (e c r : Bool) (u v : Universe) → IsShift u v → IsShift (image (turn_of e c r) u) (image (turn_of e c r) v)
+shifts-kept false c r u v s = record {
+  rule = s.rule;
+  generation = s.generation;
+  columns = signed c s.columns;
+  rows = signed r s.rows;
+  cells = λ x y. ap₂ v.cell (counted-shifted c x s.columns) (counted-shifted r y s.rows) ∙ s.cells (counted c x) (counted r y);
+}
+shifts-kept true c r u v s = record {
+  rule = s.rule;
+  generation = s.generation;
+  columns = signed r s.rows;
+  rows = signed c s.columns;
+  cells = λ x y. ap₂ v.cell (counted-shifted c y s.columns) (counted-shifted r x s.rows) ∙ s.cells (counted c y) (counted r x);
+}
+
+pub images-keep-shifts : ImagesKeepShifts
+images-keep-shifts t u v s = shifts-kept t.exchange t.columns t.rows u v s
+
+-- ---- the plane
+
+pub pow_suc : (k : ℕ) → 2 ^ suc k ≡ 2 ^ k + 2 ^ k
+pow_suc k = omega arith
+
+-- the middle of the plane lies between -1 and 0
+pub middle : (top : ℕ) → 1 ≤ top → corner top +ℤ edge top ≡ pos 0
+unfolding corner
+middle zero h = absurd (omega arith)
+middle (suc k) h = let p = pow_suc k in omega (arith, ints)
+
+within-backwards : (top : ℕ) → 1 ≤ top → (x : ℤ) → IsWithin top (backwards x) → IsWithin top x
+within-backwards top h x w =
+    let m = middle top h in
+    let b = backwards-is x in
+    (omega (arith, ints), omega (arith, ints))
+
+within-counted : (top : ℕ) → 1 ≤ top → (b : Bool) (x : ℤ) → IsWithin top (counted b x) → IsWithin top x
+within-counted top h false x w = w
+within-counted top h true x w = within-backwards top h x w
+
+-- the cells of an image
+abbrev pub image_cells : Turn → (ℤ → ℤ → ℕ) → ℤ → ℤ → ℕ
+image_cells turn cell x y = cell (column_of turn x y) (row_of turn x y)
+
+blank-outside : (top : ℕ) → 1 ≤ top → (e c r : Bool) (cell : ℤ → ℤ → ℕ) → IsBlankOutside top cell → IsBlankOutside top (image_cells (turn_of e c r) cell)
+blank-outside top h false c r cell outside x y out =
+    outside _ _ (λ w. out (within-counted top h c x w.0, within-counted top h r y w.1))
+blank-outside top h true c r cell outside x y out =
+    outside _ _ (λ w. out (within-counted top h r x w.1, within-counted top h c y w.0))
+
+pub image-outside : (top : ℕ) → 1 ≤ top → (turn : Turn) (cell : ℤ → ℤ → ℕ) → IsBlankOutside top cell → IsBlankOutside top (image_cells turn cell)
+image-outside top h turn cell outside = blank-outside top h turn.exchange turn.columns turn.rows cell outside
+
+pub images-stay-on-plane : (top : ℕ) → ImagesStayOnPlane top
+images-stay-on-plane top h t u plane = record {
+  rule = plane.rule;
+  generation = plane.generation;
+  states = λ x y. plane.states _ _;
+  outside = image-outside top h t u.cell plane.outside;
+}

@@ -1,0 +1,7 @@
+pub mod Turns
+pub mod Forms
+pub mod Laws
+pub mod Cells
+pub mod Needed
+pub mod Trees
+pub mod Images

@@ -1,0 +1,34 @@
+-- The squares that a refused call had to store while cells were moved.
+use Rattle.std.specs.Prelude.{ℕ, ◌^◌, ◌⊎◌, ℤ, List}
+use Rattle.life_base.specs.Tree.{Tree}
+use Rattle.life_base.specs.declared.cell.Cell.{Cell}
+use Rattle.life_base.specs.declared.cell.Run.{Run}
+use Rattle.life_base.specs.declared.cell.TheConstants.{MAX_LEVEL}
+use Rattle.life_quad.specs.Refused.{TrimmedTo}
+use Rattle.life_quad.specs.Store.{Nodes}
+use Rattle.life_strip.specs.Given.{state_by, by_columns}
+use Rattle.life_strip.specs.Needed.{SomeSquare}
+use Rattle.life_canon.specs.Needs.{IsNew, SomeOfRuns}
+use Rattle.life_canon.specs.Texts.{AreCellsOf}
+use Rattle.life_canon.specs.Universe.{Universe, least_level, square_universe}
+use Rattle.life_forms.specs.Forms.{IsMoved}
+use Rattle.life_forms.specs.Cells.{moved_runs, IsWay}
+
+-- a square of the plane that these runs fill has a property: one above a run, or one of the whole plane
+abbrev pub SomeOfPlane : (Tree → Type 0) → List Run → Type 0
+SomeOfPlane P runs = SomeOfRuns P runs ⊎ SomeSquare P (2 ^ MAX_LEVEL) (by_columns (state_by runs))
+
+-- so does one of the plane of these cells, moved into their place
+pub record SomeOfMoved (P : Tree → Type 0) (cell : ℤ → ℤ → ℕ) : Type 0 where
+  pub cells : List Cell
+  pub are : AreCellsOf cell cells
+  pub columns : ℤ
+  pub rows : ℤ
+  pub way : IsWay cell columns rows
+  pub square : SomeOfPlane P (moved_runs columns rows cells)
+
+-- the store lacks a square of the plane of the moved pattern, or the one to which that plane is trimmed
+abbrev pub LacksForMoved : Universe → Nodes → Type 0
+LacksForMoved u store =
+    SomeOfMoved (IsNew store) u.cell
+    ⊎ ((t : Tree) × IsMoved MAX_LEVEL u (square_universe u.rule u.generation t) × TrimmedTo (IsNew store) t (least_level u.rule))

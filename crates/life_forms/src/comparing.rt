@@ -1,0 +1,73 @@
+//! Two patterns, compared in a form.
+
+ghost use Rattle.std.specs.Prelude.{◌≡◌, ◌↔◌, ◌⊎◌, ◌^◌, ◌<◌, Err, IfOk, IfErr, IsTrue};
+ghost use Rattle.life_base.specs.Refusal.{fault_of};
+ghost use Rattle.life_base.specs.Rules.{IsRule};
+ghost use Rattle.life_base.specs.declared.kind.Kind.TheVariants.{Full, Memory, TooManyCells};
+ghost use Rattle.life_quad.specs.Cells.{population};
+ghost use Rattle.life_canon.specs.Store.{Keeps, IsTrimmed, IsWant, content, universe_in};
+ghost use Rattle.life_forms.specs.Forms.{IsShift, IsTurnedShift};
+ghost use Rattle.life_forms.specs.Needed.{LacksForMoved};
+
+use crate::images::turned_text;
+use crate::patterns::moved_of;
+use life_base::Fault;
+use life_canon::laws::texts_tell_universes;
+use life_canon::{Pattern, are_same};
+use life_quad::Shared;
+use std::alloc::Global;
+
+/// Whether two patterns of one store have one rule and one generation, and a shift takes the cells of the one to those of the other: whether
+/// their moved forms are the same.
+///
+/// # Errors
+///
+/// Those of `moved_of`, for the first pattern and then for the second.
+pub fn are_shifts(
+    alloc: Global,
+    store: &mut Shared,
+    a: &Pattern,
+    b: &Pattern,
+) -> Result<bool, Fault>
+    requires a { IsTrimmed store.old a.now }
+    requires b { IsTrimmed store.old b.now }
+    ensures answer { IfOk result (λ answer. IsTrue answer ↔ IsShift (universe_in store.old a.now) (universe_in store.old b.now)) }
+    ensures fault { IfErr result (λ fault. ((fault ≡ fault_of TooManyCells) × ((2 ^ 20 < population (content store.old a.now.root)) ⊎ (2 ^ 20 < population (content store.old b.now.root)))) ⊎ IsWant store.new fault) }
+    ensures needed { result ≡ Err (fault_of Full) → LacksForMoved (universe_in store.old a.now) store.new ⊎ LacksForMoved (universe_in store.old b.now) store.new }
+    ensures keeps { Keeps store.old store.new }
+{
+    let first = moved_of(alloc, store, a)?;
+    let second = moved_of(alloc, store, b)?;
+    Ok(are_same(&first, &second))
+}
+
+/// Whether two texts are the same.
+fn are_equal(first: &[u8], second: &[u8]) -> bool
+    ensures { IsTrue result ↔ (first.now ≡ second.now) }
+{
+    first == second
+}
+
+/// Whether two patterns of one store have one rule and one generation, and a shift behind one of the eight turns and reflections takes the cells of
+/// the one to those of the other: whether their turned forms have one text.
+///
+/// # Errors
+///
+/// Those of `turned_text`, for the first pattern and then for the second, if their generations are one.
+pub fn are_turns(alloc: Global, store: &Shared, a: &Pattern, b: &Pattern) -> Result<bool, Fault>
+    requires a { IsTrimmed store.now a.now }
+    requires b { IsTrimmed store.now b.now }
+    requires a_rule { IsRule a.now.rule }
+    requires b_rule { IsRule b.now.rule }
+    ensures answer { IfOk result (λ answer. IsTrue answer ↔ IsTurnedShift (universe_in store.now a.now) (universe_in store.now b.now)) }
+    ensures fault { IfErr result (λ fault. (fault ≡ fault_of Memory)
+        ⊎ ((fault ≡ fault_of TooManyCells) × ((2 ^ 20 < population (content store.now a.now.root)) ⊎ (2 ^ 20 < population (content store.now b.now.root))))) }
+{
+    if a.generation != b.generation {
+        return Ok(false);
+    }
+    texts_tell_universes();
+    let first = turned_text(alloc, store, a)?;
+    let second = turned_text(alloc, store, b)?;
+    Ok(are_equal(&first, &second))
+}

@@ -1,0 +1,196 @@
+//! Texts of a pattern's images.
+
+ghost use Rattle.std.specs.Prelude.{◌≡◌, ◌≢◌, ◌⊎◌, ◌^◌, ◌<◌, ◌≤◌, IfOk, IfErr, OnOk};
+ghost use Rattle.life_base.specs.Refusal.{fault_of};
+ghost use Rattle.life_base.specs.Tree.{depth};
+ghost use Rattle.life_base.specs.declared.cell.TheConstants.{MAX_LEVEL};
+ghost use Rattle.life_base.specs.declared.kind.Kind.TheVariants.{Memory, TooManyCells};
+ghost use Rattle.life_quad.specs.Cells.{population};
+ghost use Rattle.life_quad.specs.Keeping.{KeepsSquares, IsWantKind};
+ghost use Rattle.life_canon.specs.Store.{IsTrimmed, content, universe_in};
+ghost use Rattle.life_quad.specs.Store.{held};
+ghost use Rattle.life_forms.specs.Forms.{IsMoved, IsUpTo};
+ghost use Rattle.life_forms.specs.Images.{IsImageText, IsTurnedText, numbered};
+ghost use Rattle.life_forms.specs.Trees.{turned_tree};
+ghost use Rattle.life_forms.specs.Turns.{image};
+
+use crate::moving::MOST_CELLS;
+use crate::patterns::moved_pattern;
+use crate::turn::Turn;
+use crate::turning::placed;
+use life_base::{Fault, Kind};
+use life_canon::laws::{centred_squares_tell_cells, squares_are_centred};
+use life_canon::{Pattern, text_of};
+use life_quad::{Id, Shared, SharedSquares, Squares, divide, is_blank_at, population};
+use std::alloc::Global;
+
+/// A store of an image is bounded by memory alone.
+const MOST_SQUARES: u64 = 1 << 62;
+
+/// The image of a square about its middle, in another store.
+///
+/// # Errors
+///
+/// `Full` where a square is new and the store holds its limit, and `Memory`. After either each Id has its square.
+fn image_of<S: Squares, T: Squares>(
+    from: &S,
+    squares: &mut T,
+    turn: Turn,
+    level: u8,
+    id: Id,
+) -> Result<Id, Kind>
+    requires known { S.knows from.now id }
+    requires level { depth (S.content from.now id) ≡ level }
+    ensures known { IfOk result (T.knows squares.new) }
+    ensures level { IfOk result (λ image. depth (T.content squares.new image) ≡ level) }
+    ensures square { IfOk result (λ image. T.content squares.new image ≡ turned_tree turn (S.content from.now id)) }
+    ensures keeps { KeepsSquares T.knows T.content T.stored T.most squares.old squares.new }
+    ensures refusals { IfErr result (IsWantKind (T.stored squares.new) (T.most squares.new)) }
+{
+    if let Some(state) = from.state(id) {
+        return Ok(squares.cell(state));
+    }
+    if is_blank_at(from, level, id) {
+        return Ok(squares.empty(level));
+    }
+    let parts = divide(from, id);
+    let nw = image_of(
+        from,
+        squares,
+        turn,
+        level - 1,
+        placed(turn, parts, false, false),
+    )?;
+    let ne = image_of(
+        from,
+        squares,
+        turn,
+        level - 1,
+        placed(turn, parts, true, false),
+    )?;
+    let sw = image_of(
+        from,
+        squares,
+        turn,
+        level - 1,
+        placed(turn, parts, false, true),
+    )?;
+    let se = image_of(
+        from,
+        squares,
+        turn,
+        level - 1,
+        placed(turn, parts, true, true),
+    )?;
+    squares.join(nw, ne, sw, se)
+}
+
+/// The turn with this number.
+fn numbered(number: u8) -> Turn
+    ensures { result ≡ numbered number }
+{
+    let (exchange, columns, rows) = match number {
+        1 => (false, true, false),
+        2 => (true, true, false),
+        3 => (true, true, true),
+        4 => (false, true, true),
+        5 => (false, false, true),
+        6 => (true, false, true),
+        7 => (true, false, false),
+        _ => (false, false, false),
+    };
+    Turn {
+        exchange,
+        columns,
+        rows,
+    }
+}
+
+/// Want of room in a store that is bounded by memory alone is want of memory.
+fn without_limit(kind: Kind) -> Kind
+    ensures kind { (result ≡ kind) ⊎ (result ≡ Memory) }
+    ensures room { result ≢ Kind.Full }
+{
+    match kind {
+        Kind::Full => Kind::Memory,
+        other => other,
+    }
+}
+
+/// The image of a pattern, moved, in another store.
+fn moved_image(
+    alloc: Global,
+    squares: &mut Shared,
+    store: &Shared,
+    pattern: &Pattern,
+    turn: Turn,
+) -> Result<Pattern, Kind>
+    requires { IsTrimmed store.now pattern.now }
+    ensures trimmed { IfOk result (IsTrimmed squares.new) }
+    ensures moved { IfOk result (λ moved. IsMoved MAX_LEVEL (image turn (universe_in store.now pattern.now)) (universe_in squares.new moved)) }
+    ensures many { IfErr result (λ kind. kind ≡ TooManyCells → 2 ^ 20 < population (content store.now pattern.now.root)) }
+    ensures refusals { IfErr result (λ kind. (kind ≡ TooManyCells) ⊎ IsWantKind (held squares.new) squares.new.limit kind) }
+{
+    squares_are_centred();
+    centred_squares_tell_cells();
+    let rule = pattern.rule.copy(alloc)?;
+    let level = store.level(pattern.root);
+    let square = image_of(store, squares, turn, level, pattern.root)?;
+    moved_pattern(alloc, squares, rule, pattern.generation, square)
+}
+
+/// The canonical text of an image of a pattern, moved, which is made in a store of its own.
+fn image_text(
+    alloc: Global,
+    store: &Shared,
+    pattern: &Pattern,
+    turn: Turn,
+) -> Result<Vec<u8>, Fault>
+    requires { IsTrimmed store.now pattern.now }
+    ensures text { IfOk result (λ text. IsImageText MAX_LEVEL (universe_in store.now pattern.now) turn text.items) }
+    ensures fault { IfErr result (λ fault. (fault ≡ fault_of Memory) ⊎ ((fault ≡ fault_of TooManyCells) × (2 ^ 20 < population (content store.now pattern.now.root)))) }
+{
+    let mut squares = Shared::new(alloc, store.seed(), MOST_SQUARES);
+    match moved_image(alloc, &mut squares, store, pattern, turn) {
+        Ok(moved) => text_of(alloc, &squares, &moved),
+        Err(kind) => Err(Fault::of(without_limit(kind))),
+    }
+}
+
+/// The first of two texts, unless the second is less, byte by byte.
+fn lesser(first: Vec<u8>, second: Vec<u8>) -> Vec<u8>
+    ensures one { (result.items ≡ first.items) ⊎ (result.items ≡ second.items) }
+    ensures first { IsUpTo result.items first.items }
+    ensures second { IsUpTo result.items second.items }
+{
+    if first.as_slice().cmp(second.as_slice()).is_gt() {
+        second
+    } else {
+        first
+    }
+}
+
+/// The canonical text of the turned form of a pattern: of the eight turns and reflections of the pattern, each moved as by `moved_of`, the one
+/// whose canonical text is least, byte by byte. The texts of two patterns are one exactly if a shift behind a turn takes the one pattern to
+/// the other (`laws::turned_texts_tell_turns`). Whether the rule is the same from each side is not asked.
+///
+/// # Errors
+///
+/// `TooManyCells` where more than 2^20 cells aren't 0, and only there, and `Memory`, at no line. The store and its limit have no part in
+/// it: each image is made in a store of its own.
+pub fn turned_text(alloc: Global, store: &Shared, pattern: &Pattern) -> Result<Vec<u8>, Fault>
+    requires { IsTrimmed store.now pattern.now }
+    ensures text { IfOk result (λ text. IsTurnedText MAX_LEVEL (universe_in store.now pattern.now) text.items) }
+    ensures few { OnOk result (population (content store.now pattern.now.root) ≤ 2 ^ 20) }
+    ensures fault { IfErr result (λ fault. (fault ≡ fault_of Memory) ⊎ ((fault ≡ fault_of TooManyCells) × (2 ^ 20 < population (content store.now pattern.now.root)))) }
+{
+    if population(alloc, store, pattern.root)? > u128::from(MOST_CELLS) {
+        return Err(Fault::of(Kind::TooManyCells));
+    }
+    let mut best = image_text(alloc, store, pattern, numbered(0))?;
+    for number in 1..8u8 {
+        let text = image_text(alloc, store, pattern, numbered(number))?;
+        best = lesser(best, text);
+    }
+    Ok(best)
+}

@@ -1,0 +1,84 @@
+//! Patterns, moved.
+
+ghost use Rattle.std.specs.Prelude.{◌≡◌, ◌⊎◌, ◌^◌, ◌<◌, ◌≤◌, ℤ, Err, IfOk, IfErr, OnOk};
+ghost use Rattle.life_base.specs.Refusal.{fault_of};
+ghost use Rattle.life_base.specs.Tree.{depth, tree_cell};
+ghost use Rattle.life_base.specs.declared.cell.TheConstants.{MAX_LEVEL};
+ghost use Rattle.life_base.specs.declared.kind.Kind.TheVariants.{Full, TooManyCells};
+ghost use Rattle.life_mc.specs.Macrocell.{largest_state};
+ghost use Rattle.life_quad.specs.Cells.{population};
+ghost use Rattle.life_quad.specs.Keeping.{IsWantKind};
+ghost use Rattle.life_quad.specs.Store.{held};
+ghost use Rattle.life_canon.specs.Store.{Keeps, IsKnown, IsTrimmed, IsWant, content, universe_in};
+ghost use Rattle.life_canon.specs.Universe.{least_level, square_universe};
+ghost use Rattle.life_forms.specs.Forms.{IsMoved};
+ghost use Rattle.life_forms.specs.Needed.{LacksForMoved};
+
+use crate::moving::moved_plane;
+use life_base::{Fault, Kind, Rule};
+use life_canon::Pattern;
+use life_canon::laws::squares_are_centred;
+use life_quad::{Id, Shared, trim};
+use std::alloc::Global;
+
+/// The least level of the root of a pattern with this rule.
+fn least_level(rule: &Rule) -> u8
+    ensures { result ≡ least_level rule.now }
+{
+    match rule {
+        Rule::Life(_) => 3,
+        Rule::Named(_) => 1,
+    }
+}
+
+/// The cells of a square, moved into their place, as a pattern under this rule and in this generation.
+pub(crate) fn moved_pattern(
+    alloc: Global,
+    store: &mut Shared,
+    rule: Rule,
+    generation: u64,
+    square: Id,
+) -> Result<Pattern, Kind>
+    requires known { IsKnown store.old square }
+    requires high { 1 ≤ depth (content store.old square) }
+    requires states { (x y : ℤ) → tree_cell (content store.old square) x y ≤ largest_state rule }
+    ensures trimmed { IfOk result (IsTrimmed store.new) }
+    ensures moved { IfOk result (λ moved. IsMoved MAX_LEVEL (square_universe rule generation (content store.old square)) (universe_in store.new moved)) }
+    ensures few { OnOk result (population (content store.old square) ≤ 2 ^ 20) }
+    ensures many { IfErr result (λ kind. kind ≡ TooManyCells → 2 ^ 20 < population (content store.old square)) }
+    ensures refusals { IfErr result (λ kind. (kind ≡ TooManyCells) ⊎ IsWantKind (held store.new) store.new.limit kind) }
+    ensures needed { result ≡ Err Full → LacksForMoved (square_universe rule generation (content store.old square)) store.new }
+    ensures keeps { Keeps store.old store.new }
+{
+    squares_are_centred();
+    let plane = moved_plane(alloc, store, square)?;
+    let root = trim(store, plane, least_level(&rule))?;
+    Ok(Pattern {
+        rule,
+        generation,
+        root,
+    })
+}
+
+/// The moved form of a pattern, in its store: the pattern with its least box at (0, 0), or, where the box would leave the plane so, ending with
+/// the plane, columns and rows each for themselves. Two patterns have one moved form exactly if a shift takes the one to the other
+/// (`laws::moved_forms_tell_shifts`).
+///
+/// # Errors
+///
+/// `TooManyCells` where more than 2^20 cells aren't 0, and only there; `Full` where the store holds its limit and lacks a square of the moved
+/// pattern, and `Memory`. They name no line. After a fault too each Id of the store names the square that it named, and nothing stored is
+/// gone.
+pub fn moved_of(alloc: Global, store: &mut Shared, pattern: &Pattern) -> Result<Pattern, Fault>
+    requires { IsTrimmed store.old pattern.now }
+    ensures trimmed { IfOk result (IsTrimmed store.new) }
+    ensures moved { IfOk result (λ moved. IsMoved MAX_LEVEL (universe_in store.old pattern.now) (universe_in store.new moved)) }
+    ensures few { OnOk result (population (content store.old pattern.now.root) ≤ 2 ^ 20) }
+    ensures fault { IfErr result (λ fault. ((fault ≡ fault_of TooManyCells) × (2 ^ 20 < population (content store.old pattern.now.root))) ⊎ IsWant store.new fault) }
+    ensures needed { result ≡ Err (fault_of Full) → LacksForMoved (universe_in store.old pattern.now) store.new }
+    ensures keeps { Keeps store.old store.new }
+{
+    let rule = pattern.rule.copy(alloc)?;
+    let moved = moved_pattern(alloc, store, rule, pattern.generation, pattern.root)?;
+    Ok(moved)
+}
