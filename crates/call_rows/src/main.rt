@@ -1,4 +1,4 @@
-//! Answers rows of standard input: tests of `life_base`, `life_rle`, `life_mc`, `life_table`, `life_canon` and `life_step` for what no
+//! Answers rows of standard input: tests of `life_base`, `life_rle`, `life_mc`, `life_table`, `life_canon`, `life_forms` and `life_step` for what no
 //! clause says, where they are tables of inputs and answers. The inputs stand in the file `stdin` of this crate and the answers in
 //! `stdout`, so that a row more is nothing more to prove.
 //!
@@ -16,6 +16,7 @@ mod answer;
 mod base;
 mod canon;
 mod escaped;
+mod forms;
 mod mc;
 mod rle;
 mod row;

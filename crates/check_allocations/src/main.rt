@@ -1,11 +1,12 @@
 //! Makes each call that takes memory on worked inputs, and prints a line for each: `ok`, `wrong`, or the name of the fault.
-//! tests/allocations.sh runs it once for each of its requests for memory, and refuses that one.
+//! tests/devices/allocations.py runs it once for each of its requests for memory, and refuses that one.
 #![tactic(auto)]
 
 mod answer;
 mod base;
 mod calls;
 mod files;
+mod forms;
 mod patterns;
 mod squares;
 mod steps;
@@ -141,6 +142,15 @@ fn pattern_calls(rt: &HostRuntime) {
     }
 }
 
+// The forms of a pattern, in one store.
+fn form_calls(rt: &HostRuntime) {
+    let alloc = rt.alloc();
+    let calls = Calls::of(rt, "life_forms");
+    let mut store = Shared::new(alloc, Seed::fixed(), LIMIT);
+    calls.tell("moved_of", forms::is_moved(alloc, &mut store));
+    calls.tell("turned_text", forms::is_turned(alloc, &mut store));
+}
+
 // Files in turn are stepped in one store.
 fn step_calls(rt: &HostRuntime) {
     let alloc = rt.alloc();
@@ -160,5 +170,6 @@ fn main(rt: HostRuntime) {
     shared_calls(&rt);
     plain_calls(&rt);
     pattern_calls(&rt);
+    form_calls(&rt);
     step_calls(&rt);
 }
