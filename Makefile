@@ -10,16 +10,25 @@
 #   make times     runs `rt ci`, and says how much processor time it took for each crate, its tests and its edits
 #   make bench     times the program beside plain programs in C (with SMALL=1 on smaller inputs, within three minutes)
 #   make instructions   counts the instructions of both on the smaller inputs, which other work on the machine does not change
-#   make install   installs the proved program to $(DESTDIR)$(PREFIX)/bin, its man page and completions to $(DESTDIR)$(PREFIX)/share, and the
-#                  library with its header to $(DESTDIR)$(PREFIX)/lib and include
-#   make uninstall removes what make install put there, with the same PREFIX and DESTDIR
+#   make install   puts in place what make and make library have built, and proves nothing: the two below
+#   make install_program  puts ./golly_canon into $(DESTDIR)$(PREFIX)/bin, its man page into $(DESTDIR)$(MANDIR), and its completions into
+#                  $(DESTDIR)$(PREFIX)/share
+#   make install_library  puts the header into $(DESTDIR)$(PREFIX)/include, the library into $(DESTDIR)$(LIBDIR), and the Python module into
+#                  $(DESTDIR)$(PYTHONDIR)
+#   make uninstall removes what make install put there, with the same PREFIX, LIBDIR, MANDIR, PYTHONDIR and DESTDIR
 #   make help      prints these lines
 #   make clean     removes what was built; the proofs' work in crates/*/out stays
 #   make distclean removes that too
 
 PREFIX = /usr/local
+LIBDIR = $(PREFIX)/lib
+MANDIR = $(PREFIX)/share/man
+PYTHONDIR = $(PREFIX)/share/golly_canon
 DESTDIR =
 SHARE = $(DESTDIR)$(PREFIX)/share
+# What the C compiler is given where it links the shared object.
+CFLAGS ?=
+LDFLAGS ?=
 RT ?= rt
 EXAMPLE = examples/gosper_glider_gun.mc
 CASES = 100000
@@ -33,7 +42,7 @@ golly_canon: FORCE
 	@RT="$(RT)" sh scripts/build
 
 library: FORCE
-	@RT="$(RT)" sh scripts/library "$(PREFIX)"
+	@RT="$(RT)" CC="$(CC)" CFLAGS="$(CFLAGS)" LDFLAGS="$(LDFLAGS)" sh scripts/library "$(PREFIX)"
 
 quick:
 	@RT="$(RT)" FILE="$(FILE)" sh scripts/quick
@@ -45,10 +54,10 @@ plants:
 	@RT="$(RT)" sh scripts/plants
 
 fuzz: golly_canon
-	@python3 -B tests/compare.py ./golly_canon --cases "$(CASES)" --seed "$(SEED)"
+	@python3 -B tests/program/compare.py ./golly_canon --cases "$(CASES)" --seed "$(SEED)"
 
 fuzz_library: library
-	@python3 -B tests/compare.py out/library/libgolly_canon.so --cases "$(CASES)" --seed "$(SEED)"
+	@python3 -B tests/program/compare.py out/library/libgolly_canon.so --cases "$(CASES)" --seed "$(SEED)"
 
 times:
 	@RT="$(RT)" python3 scripts/times
@@ -59,30 +68,45 @@ bench: golly_canon
 instructions: golly_canon
 	@python3 -B bench/instructions.py ./golly_canon out/bench_small
 
-install: golly_canon library
-	install -d "$(DESTDIR)$(PREFIX)/bin"
+# Nothing is put in place where a part is not built.
+install: program_is_built library_is_built
+	@$(MAKE) --no-print-directory install_program install_library
+
+program_is_built:
+	@[ -x golly_canon ] || { echo "there is no ./golly_canon: make builds it" >&2; exit 1; }
+
+library_is_built:
+	@[ -f out/library/libgolly_canon.so ] || { \
+	    echo "there is no library in out/library: make library builds it, and make install_program installs the program without it" >&2; exit 1; }
+
+install_program: program_is_built
+	install -d "$(DESTDIR)$(PREFIX)/bin" "$(DESTDIR)$(MANDIR)/man1"
 	install -m 755 golly_canon "$(DESTDIR)$(PREFIX)/bin/golly_canon"
-	install -d "$(SHARE)/man/man1" "$(SHARE)/bash-completion/completions" "$(SHARE)/zsh/site-functions" "$(SHARE)/fish/vendor_completions.d"
-	install -m 644 docs/golly_canon.1 "$(SHARE)/man/man1/golly_canon.1"
+	install -m 644 docs/golly_canon.1 "$(DESTDIR)$(MANDIR)/man1/golly_canon.1"
+	install -d "$(SHARE)/bash-completion/completions" "$(SHARE)/zsh/site-functions" "$(SHARE)/fish/vendor_completions.d"
 	install -m 644 completions/golly_canon.bash "$(SHARE)/bash-completion/completions/golly_canon"
 	install -m 644 completions/_golly_canon "$(SHARE)/zsh/site-functions/_golly_canon"
 	install -m 644 completions/golly_canon.fish "$(SHARE)/fish/vendor_completions.d/golly_canon.fish"
-	@sh scripts/install_library out/library "$(PREFIX)" "$(DESTDIR)"
+
+install_library: library_is_built
+	@sh scripts/install_library out/library "$(PREFIX)" "$(DESTDIR)" "$(LIBDIR)" "$(PYTHONDIR)"
 
 uninstall:
-	rm -f "$(DESTDIR)$(PREFIX)/bin/golly_canon" "$(SHARE)/man/man1/golly_canon.1" "$(SHARE)/bash-completion/completions/golly_canon"
+	rm -f "$(DESTDIR)$(PREFIX)/bin/golly_canon" "$(DESTDIR)$(MANDIR)/man1/golly_canon.1" "$(SHARE)/bash-completion/completions/golly_canon"
 	rm -f "$(SHARE)/zsh/site-functions/_golly_canon" "$(SHARE)/fish/vendor_completions.d/golly_canon.fish"
-	rm -f "$(DESTDIR)$(PREFIX)/include/golly_canon.h" "$(DESTDIR)$(PREFIX)/lib/pkgconfig/golly_canon.pc" "$(DESTDIR)$(PREFIX)"/lib/libgolly_canon.*
+	rm -f "$(DESTDIR)$(PREFIX)/include/golly_canon.h" "$(DESTDIR)$(LIBDIR)/pkgconfig/golly_canon.pc" "$(DESTDIR)$(LIBDIR)"/libgolly_canon.*
+	rm -f "$(DESTDIR)$(PYTHONDIR)/golly_canon.py"
 
 help:
 	@sed -n 's/^#  //p' Makefile
 
 clean:
-	rm -rf golly_canon out
+	rm -rf golly_canon out build python/*.egg-info
 
 distclean: clean
 	rm -rf crates/*/out
 
 FORCE:
 
-.PHONY: all library quick test plants fuzz fuzz_library times bench instructions install uninstall help clean distclean FORCE
+.PHONY: all library quick test plants fuzz fuzz_library times bench instructions install program_is_built library_is_built install_program install_library \
+    uninstall help clean distclean FORCE

@@ -3,7 +3,7 @@
 _golly_canon() {
     local commands="canon convert same show step help"
     local formats="rle mc"
-    local word=${COMP_WORDS[COMP_CWORD]} previous=${COMP_WORDS[COMP_CWORD - 1]}
+    local word=${COMP_WORDS[COMP_CWORD]} previous=${COMP_WORDS[COMP_CWORD - 1]} front=
     COMPREPLY=()
     if [ "$COMP_CWORD" -eq 1 ]; then
         COMPREPLY=($(compgen -W "$commands --help --version -h -V" -- "$word"))
@@ -13,8 +13,16 @@ _golly_canon() {
         [ "$COMP_CWORD" -gt 2 ] || COMPREPLY=($(compgen -W "$commands" -- "$word"))
         return
     fi
+    # bash breaks `--to=rle` into the words `--to`, `=` and `rle`. Where COMP_WORDBREAKS lacks `=` it is one word, and stays in front of the answer.
+    if [ "$word" = = ]; then
+        word=
+    elif [ "$previous" = = ]; then
+        previous=${COMP_WORDS[COMP_CWORD - 2]}
+    elif [[ $word = --*=* ]]; then
+        previous=${word%%=*} front=$previous= word=${word#*=}
+    fi
     if [ "${COMP_WORDS[1]}" = convert ] && [ "$previous" = --to ]; then
-        COMPREPLY=($(compgen -W "$formats" -- "$word"))
+        COMPREPLY=($(compgen -P "$front" -W "$formats" -- "$word"))
         return
     fi
     case $word in
@@ -28,7 +36,7 @@ _golly_canon() {
         *)
             # One file a line, as a name may have spaces.
             compopt -o filenames 2> /dev/null
-            mapfile -t COMPREPLY < <(compgen -f -- "$word")
+            mapfile -t COMPREPLY < <(compgen -P "$front" -f -- "$word")
             ;;
     esac
 }

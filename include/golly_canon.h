@@ -2,8 +2,8 @@
  *
  * A file is bytes in extended RLE or in macrocell. A call reads the bytes that it is handed, answers a status, and keeps nothing, but for the calls
  * on a stream, which keep in it what came of its file so far. There is no other state behind the calls, so threads may call at the same time, each on
- * memory and streams of its own. No call prints, opens a file or ends the process. What the calls answer is proved for any bytes (docs/PROOFS.md of the project says what). The proof takes for granted
- * what stands here under "The caller guarantees".
+ * memory and streams of its own. No call prints, opens a file or ends the process. What the calls answer is proved for any bytes (docs/PROOFS.md of the
+ * project says what). The proof takes for granted what stands here under "The caller guarantees".
  *
  *     static unsigned char text[4096];
  *     size_t needed;
@@ -23,9 +23,10 @@
  * The caller guarantees, in each call:
  *
  *  - A pointer to bytes points to as many bytes as the number behind it says, and a pointer to a number to a number of that type, aligned as
- *    the type is. No pointer is null or dangling, also where the number of bytes is 0: any address of the caller's own memory serves there.
+ *    the type is. No pointer of any call may be NULL or dangle, also where the number of bytes is 0: any address of the caller's own memory serves
+ *    there.
  *  - No number of bytes is more than PTRDIFF_MAX.
- *  - What is read has been written before, the memory at `out` too: set it once, as by calloc or memset.
+ *  - What is read has been written before. The memory at `out` has been written before too: set it once, as by calloc or memset.
  *  - The memory that a call writes (`out`, `needed`, `line`, `is_same`, `in_table`, `stream`) overlaps no other memory that it is handed.
  *  - Until the call returns, no other thread writes what it reads, or touches what it writes.
  *  - malloc, realloc and free are those of one allocator, which aligns a block to each power of two up to 16 that divides its size.
@@ -112,31 +113,32 @@ enum {
  * some ten seconds for 2 MB. 0 is a number like any other, which everybody knows: it serves for files that nobody made against it. */
 
 /* The canonical text of the pattern of a file. Two files have one text exactly if they are one pattern.
- * The caller guarantees: `length` bytes to read at `bytes`; `room` bytes to write at `out`, `*needed` and `*line`, apart from each other and
- * from those. */
+ * The caller guarantees: `length` bytes to read at `bytes`; `room` bytes to write at `out`, which were written before; `*needed` and `*line` to
+ * write, apart from each other, from `out` and from `bytes`. NULL is allowed for none of `bytes`, `out`, `needed` and `line`. */
 uint32_t golly_canon_canon(const unsigned char *bytes, size_t length, uint64_t limit, uint64_t seed,
                            unsigned char *out, size_t room, size_t *needed, uint64_t *line);
 
 /* The pattern of a file in extended RLE; TooManyCells where more than 2^20 cells aren't 0.
- * The caller guarantees what golly_canon_canon names. */
+ * The caller guarantees what golly_canon_canon names: `out` was written before, and none of `bytes`, `out`, `needed` and `line` is NULL. */
 uint32_t golly_canon_to_rle(const unsigned char *bytes, size_t length, uint64_t limit, uint64_t seed,
                             unsigned char *out, size_t room, size_t *needed, uint64_t *line);
 
 /* Five lines on the pattern of a file: rule, generation, population, least box, and squares of the canonical text.
- * The caller guarantees what golly_canon_canon names. */
+ * The caller guarantees what golly_canon_canon names: `out` was written before, and none of `bytes`, `out`, `needed` and `line` is NULL. */
 uint32_t golly_canon_show(const unsigned char *bytes, size_t length, uint64_t limit, uint64_t seed,
                           unsigned char *out, size_t room, size_t *needed, uint64_t *line);
 
 /* The canonical text of the next generation of the pattern of a file, under its B/S rule; NeedsTable where the rule is a name, TooManyCells where
  * more than 2^20 cells aren't 0 (docs/FORMATS.md of the project has every refusal of a step, and their order).
- * The caller guarantees what golly_canon_canon names. */
+ * The caller guarantees what golly_canon_canon names: `out` was written before, and none of `bytes`, `out`, `needed` and `line` is NULL. */
 uint32_t golly_canon_step(const unsigned char *bytes, size_t length, uint64_t limit, uint64_t seed,
                           unsigned char *out, size_t room, size_t *needed, uint64_t *line);
 
 /* The same of a pattern under a name, by the rule table of that name: `table` is a .rule file; RuleMismatch under any other rule, a B/S rule too.
  * `*in_table` is 1 where the table is refused, so that `*line` is a line of the table, and else 0. With the status Ambiguous `*line` is a line of
  * the table too, which was itself accepted.
- * The caller guarantees what golly_canon_canon names; `table_length` bytes to read at `table`; `*in_table` to write, apart from all else. */
+ * The caller guarantees what golly_canon_canon names; `table_length` bytes to read at `table`, apart from all that is written; `*in_table` to write,
+ * apart from all else. `out` was written before, and none of `bytes`, `table`, `out`, `needed`, `line` and `in_table` is NULL. */
 uint32_t golly_canon_step_by_table(const unsigned char *bytes, size_t length,
                                    const unsigned char *table, size_t table_length, uint64_t limit, uint64_t seed,
                                    unsigned char *out, size_t room, size_t *needed, uint64_t *line,
@@ -145,7 +147,7 @@ uint32_t golly_canon_step_by_table(const unsigned char *bytes, size_t length,
 /* Whether two files are one pattern: `*is_same` is 1 or 0, and 0 where the status isn't GOLLY_CANON_OK. The fault is that of the first file
  * where that is refused, and else that of the second one.
  * The caller guarantees: `first_length` bytes to read at `first`, and `second_length` at `second`, which may be the same memory; `*is_same`
- * and `*line` to write, apart from each other and from those. */
+ * and `*line` to write, apart from each other and from those. NULL is allowed for none of `first`, `second`, `is_same` and `line`. */
 uint32_t golly_canon_same(const unsigned char *first, size_t first_length,
                           const unsigned char *second, size_t second_length, uint64_t limit, uint64_t seed,
                           uint32_t *is_same, uint64_t *line);
@@ -163,8 +165,8 @@ uint32_t golly_canon_same(const unsigned char *first, size_t first_length,
  * While pieces come, the stream keeps the squares of the pattern, and the bytes of the line that has not ended; behind the end, the text or the
  * fault. The struct is the caller's memory, and what its members hold is the library's. A stream whose members are 0 is closed. An open one also has
  * memory that the library took, and gives back when the stream is closed.
- * The caller guarantees, of `stream` in each call below: its members are 0, or as the last call on it left them, and no copy of them that is older
- * than that is ever used; an open stream is used by the thread that opened it alone. */
+ * The caller guarantees, of `stream` in each call below: it isn't NULL; its members are 0, or as the last call on it left them, and no copy of them
+ * that is older than that is ever used; an open stream is used by the thread that opened it alone. */
 typedef struct golly_canon_stream {
     uint32_t is_open;
     void *session;
@@ -173,7 +175,7 @@ typedef struct golly_canon_stream {
 /* Opens a stream for a file that begins. One that is open is closed first. The name says what golly_canon_finish gives: what golly_canon_canon,
  * golly_canon_to_rle, golly_canon_show or golly_canon_step gives of a whole file, with this `limit` and `seed`. The status is OK, or Memory, and then
  * the stream is closed.
- * The caller guarantees what is said of `stream`. */
+ * The caller guarantees what is said of `stream`, which isn't NULL. */
 uint32_t golly_canon_open_canon(golly_canon_stream *stream, uint64_t limit, uint64_t seed);
 uint32_t golly_canon_open_to_rle(golly_canon_stream *stream, uint64_t limit, uint64_t seed);
 uint32_t golly_canon_open_show(golly_canon_stream *stream, uint64_t limit, uint64_t seed);
@@ -183,27 +185,30 @@ uint32_t golly_canon_open_step(golly_canon_stream *stream, uint64_t limit, uint6
  * or 0. The fault of a line is told by the call that brings the line feed behind it, or the byte that makes the line too long. A stream that has told
  * a fault stays refused: each further golly_canon_feed or golly_canon_finish tells the same fault and line. Spent is told, with 0 in `*line`, where
  * the stream is closed, or has ended with a text, given or without room; it then stays as it is.
- * The caller guarantees what is said of `stream`; `length` bytes to read at `piece`; `*line` to write, apart from those and from the stream. */
+ * The caller guarantees what is said of `stream`; `length` bytes to read at `piece`; `*line` to write, apart from those and from the stream. NULL is
+ * allowed for none of `stream`, `piece` and `line`. */
 uint32_t golly_canon_feed(golly_canon_stream *stream, const unsigned char *piece, size_t length, uint64_t *line);
 
 /* Ends the file, and answers what the call on a whole file answers of all the bytes that were fed: status, text, `*needed` and `*line`. A last line
  * without a line feed is read here. Called again it gives the same text, or tells the same fault, and computes nothing anew: behind NoRoom hand over
  * more memory. A closed stream is Spent, with 0 in `*needed` and `*line`.
- * The caller guarantees what is said of `stream`; `room` bytes to write at `out`, `*needed` and `*line`, apart from each other and from the
- * stream. */
+ * The caller guarantees what is said of `stream`; `room` bytes to write at `out`, which were written before; `*needed` and `*line` to write, apart from
+ * each other, from `out` and from the stream. NULL is allowed for none of `stream`, `out`, `needed` and `line`. */
 uint32_t golly_canon_finish(golly_canon_stream *stream, unsigned char *out, size_t room, size_t *needed, uint64_t *line);
 
 /* Closes a stream, finished or not, and gives its memory back. A closed one stays closed.
- * The caller guarantees what is said of `stream`. */
+ * The caller guarantees what is said of `stream`, which isn't NULL. */
 void golly_canon_close(golly_canon_stream *stream);
 
 /* The name of a status, as `BadChild` of GOLLY_CANON_BAD_CHILD, `OK` and `NoRoom`; no byte for a number that no kind has. The names are
  * those that the program prints. None has more than 23 bytes.
- * The caller guarantees: `room` bytes to write at `out`, and `*needed`, apart from each other. */
+ * The caller guarantees: `room` bytes to write at `out`, which were written before, and `*needed` to write, apart from each other. NULL is allowed for
+ * neither `out` nor `needed`. */
 uint32_t golly_canon_status_name(uint32_t status, unsigned char *out, size_t room, size_t *needed);
 
 /* The version of the library, which is that of the program, as `0.2.0`. In 0.2 the calls with a `limit` take a `seed` behind it.
- * The caller guarantees: `room` bytes to write at `out`, and `*needed`, apart from each other. */
+ * The caller guarantees: `room` bytes to write at `out`, which were written before, and `*needed` to write, apart from each other. NULL is allowed for
+ * neither `out` nor `needed`. */
 uint32_t golly_canon_version(unsigned char *out, size_t room, size_t *needed);
 
 #ifdef __cplusplus
