@@ -1,0 +1,139 @@
+#!/usr/bin/env python3
+"""Holds the documents against the repository: each file and heading that they link to, and each file that they name by its path, is there; the table
+of sizes in docs/PROOFS.md is what scripts/sizes prints; each planted bug of its table is an edit that turns what the table says, and nothing else; no
+line of documents, definitions and proofs is too wide; the man page has a date and the version; and each place that names the kinds of fault has them
+all, with their numbers (scripts/kinds says which places). And each check in the folders of tests/ is run, by tests/all or by another one.
+
+usage: tests/documents/documents.py
+"""
+import glob
+import os
+import re
+import subprocess
+import sys
+
+sys.path.insert(0, os.path.dirname(os.path.dirname(os.path.abspath(__file__))))
+
+from shared import counting  # noqa: E402
+
+TOP = os.path.dirname(os.path.dirname(os.path.dirname(os.path.abspath(__file__))))
+DOCUMENTS = ["README.md", "CHANGELOG.md", "tests/README.md", *sorted(f"docs/{it}" for it in os.listdir(os.path.join(TOP, "docs")) if it.endswith(".md"))]
+SIZES = "docs/PROOFS.md"
+# A path in backticks: of a folder at the top, or of a crate, whose name may stand without `crates/`.
+NAMED = re.compile(r"`((?:docs|tests|scripts|bench|examples|include|completions|python|crates)/[\w./*-]+|(?:[a-z]+_)+[a-z]+/(?:src|specs|proofs)/[\w./+*-]+)`")
+LINKED = re.compile(r"\]\(([^)#:\s]*)(?:#([^)\s]+))?\)")
+# A row of the table of planted bugs: the crate, the function, what is wrong, what is right, what is planted, and the edit.
+PLANTED = re.compile(r"\| `(\w+)` \| `([\w:]+)` \| [^|]+ \| `([^`]+)` \| `([^`]+)` \| `(\w+)` \|")
+BUGS = 20
+# The most columns of a line, and what stands on one line however wide it is: a row of a table, a line of a program, and an import.
+WIDTH = 160
+WIDE = re.compile(r"\||    |(?:pub )?use ")
+PAGE = "docs/golly_canon.1"
+# A file or folder that a document names by its pattern, as `proofs/MODULE/FUNCTION/`, names no file.
+PATTERN = re.compile(r"[A-Z]{3,}/|/[A-Z]{3,}\b(?!\.(?:md|antt))")
+
+
+def text_of(path):
+    with open(os.path.join(TOP, path), encoding="utf-8") as it:
+        return it.read()
+
+
+def is_there(path):
+    return bool(glob.glob(os.path.join(TOP, path)) or glob.glob(os.path.join(TOP, "crates", path)))
+
+
+def headings(path):
+    """The anchors of a document's headings, as they are made where it is shown."""
+    names = re.findall(r"^#+ (.*)$", text_of(path), re.MULTILINE)
+    return {re.sub(r"[^\w\- ]", "", name.lower()).replace(" ", "-") for name in names}
+
+
+def leads_somewhere(document, file, anchor):
+    path = os.path.normpath(os.path.join(os.path.dirname(document), file)) if file else document
+    return is_there(path) and (not anchor or anchor in headings(path))
+
+
+def wide_lines(path, kept):
+    """The numbers of the lines of a file that are too wide, but for those that are kept."""
+    return [number for number, line in enumerate(text_of(path).splitlines(), 1) if len(line) > WIDTH and not kept.match(line)]
+
+
+def widths():
+    """Whether no line is too wide: of each document, and of the definitions and proofs of each crate."""
+    for document in DOCUMENTS:
+        found = wide_lines(document, WIDE)
+        yield f"{document}: lines of more than {WIDTH} columns: {found}", not found
+    for crate in sorted(os.listdir(os.path.join(TOP, "crates"))):
+        files = [it for part in ("specs", "proofs") for it in glob.glob(f"crates/{crate}/{part}/**/*.antt", root_dir=TOP, recursive=True)]
+        found = [f"{it}:{number}" for it in files for number in wide_lines(it, re.compile("(?:pub )?use "))]
+        yield f"{crate}: lines of more than {WIDTH} columns: {' '.join(found)}", not found
+
+
+def of_page():
+    """Whether the man page has a date and the version of the library."""
+    version = re.search(r'^const VERSION: .* = b"([0-9.]+)";$', text_of("crates/golly_canon_c/src/naming.rt"), re.MULTILINE)[1]
+    head = rf'\.TH GOLLY_CANON 1 "\d{{4}}-\d\d-\d\d" "golly_canon {re.escape(version)}" "User Commands"\n'
+    yield f"{PAGE}: a date and the version {version} in line 1", bool(re.match(head, text_of(PAGE)))
+
+
+def of_kinds():
+    """What scripts/kinds says: each place that lacks a kind of fault, and how many lack none."""
+    said = subprocess.run([sys.executable, "-B", "scripts/kinds", "--check"], cwd=TOP, stdout=subprocess.PIPE, text=True, check=False).stdout.splitlines()
+    yield from ((it.removeprefix("FAILED  "), False) for it in said[:-1])
+    passed = re.fullmatch(r"(\d+) passed, \d+ failed", said[-1] if said else "")
+    yield "scripts/kinds counts its checks", bool(passed)
+    yield from [("scripts/kinds", True)] * int(passed[1] if passed else 0)
+
+
+def of_checks():
+    """Whether each script in tests/ is named by tests/all, or by a check that tests/all names."""
+    runs = text_of("tests/all") + text_of("tests/library/library.sh")
+    for path in sorted(glob.glob("tests/*/*.sh", root_dir=TOP) + glob.glob("tests/*/*.py", root_dir=TOP)):
+        if "/shared/" not in path and (path.endswith(".sh") or '__name__ == "__main__"' in text_of(path)):
+            yield f"{path}: it is run", path in runs
+
+
+def plants(crate, right, planted, edit):
+    """Whether an edit of the crate puts `planted` in the place of `right`, once, and changes nothing else."""
+    found = glob.glob(os.path.join(TOP, "crates", crate, "*must-fail", f"{edit}.edit"))
+    if len(found) != 1:
+        return False
+    lines = text_of(found[0]).splitlines()
+    old, new = [[it[5:] for it in lines if it.startswith(word)] for word in ("old: ", "new: ")]
+    if len(old) != 1 or len(new) != 1:
+        return False
+    places = [at.start() for at in re.finditer(re.escape(right), old[0])]
+    return any(old[0][:at] + planted + old[0][at + len(right):] == new[0] for at in places)
+
+
+def findings():
+    """What was looked at, and whether it holds."""
+    for document in DOCUMENTS:
+        text = text_of(document)
+        for file, anchor in sorted(set(LINKED.findall(text))):
+            yield f"{document}: link to {file}#{anchor}", leads_somewhere(document, file, anchor)
+        for name in sorted(set(NAMED.findall(text))):
+            if not PATTERN.search(name):
+                yield f"{document}: {name}", is_there(name)
+    planted = PLANTED.findall(text_of(SIZES))
+    yield f"{SIZES}: {BUGS} planted bugs, and not {len(planted)}", len(planted) == BUGS
+    for crate, function, right, wrong, edit in planted:
+        yield f"{SIZES}: {edit} of {function}", plants(crate, right, wrong, edit)
+    printed = subprocess.run(["sh", "scripts/sizes"], cwd=TOP, stdout=subprocess.PIPE, text=True, check=True).stdout.splitlines()
+    table = set(text_of(SIZES).splitlines())
+    for line in printed:
+        yield f"{SIZES}: {line}", line in table
+    yield from of_page()
+    yield from of_kinds()
+    yield from of_checks()
+    yield from widths()
+
+
+def main():
+    for what, holds in findings():
+        counting.check(holds, what)
+    return counting.ended()
+
+
+if __name__ == "__main__":
+    sys.exit(main())

@@ -1,0 +1,348 @@
+#!/bin/sh
+# Runs the recipes of README.md and docs/QUESTIONS.md as they stand there, in sh and in bash, with the program, $1, on the PATH, in a folder of their
+# own, and compares what they come to with what is known of the patterns in examples/ and of tables; and the examples and programs of both, of which
+# the examples say themselves what is written. It needs git, GNU parallel, rsync and Python 3.
+
+program=${1:?usage: tests/documents/recipes.sh PROGRAM}
+[ -x "$program" ] || { echo "there is no program $program"; exit 1; }
+for tool in git rsync; do
+    $tool --version > /dev/null 2>&1 || { echo "$tool is missing: apt-get install $tool"; exit 1; }
+done
+parallel --version 2> /dev/null | grep -q '^GNU parallel' || { echo "GNU parallel is missing: apt-get install parallel"; exit 1; }
+top=$(cd "$(dirname "$0")/../.." && pwd)
+folder=$(mktemp -d) || exit 1
+trap 'rm -rf "$folder"' EXIT
+mkdir "$folder/bin" "$folder/home" "$folder/recipes" || exit 1
+# In the place of other machines: each has a home folder of its own, and, as from a real one, SHELL is set there whether or not it is here.
+cat > "$folder/bin/ssh" <<'END' && chmod 755 "$folder/bin/ssh" || exit 1
+#!/bin/sh
+while [ "${1#-}" != "$1" ]; do
+    [ "$1" != -l ] || shift
+    shift
+done
+home=$FAR/$1
+shift
+[ "$1" != -- ] || shift
+mkdir -p "$home" && cd "$home" && HOME=$home SHELL=/bin/sh exec sh -c "$*"
+END
+cp "$program" "$folder/bin/golly_canon" && chmod 755 "$folder/bin/golly_canon" || exit 1
+PATH=$folder/bin:$PATH
+HOME=$folder/home
+LC_ALL=C
+GIT_CONFIG_NOSYSTEM=1
+export PATH HOME LC_ALL GIT_CONFIG_NOSYSTEM
+unset GIT_DIR GIT_WORK_TREE GIT_INDEX_FILE XDG_CONFIG_HOME
+git config --global user.name nobody
+git config --global user.email nobody@localhost
+git config --global init.defaultBranch main
+git config --global core.autocrlf false
+
+. "$top/tests/shared/counting.sh"
+
+# ---- the recipes: a block behind each line <!-- recipe: NAME -->
+
+unnamed=$(awk -v folder="$folder/recipes" '
+    /^```$/ { on = 0 }
+    on { print > (folder "/" name) }
+    /^```sh$/ { on = 1; split(last, words, " "); name = words[3] }
+    on && last !~ /^<!-- recipe: [a-z]+ -->$/ && /^```sh$/ { print " line " FNR " of " FILENAME; name = "unnamed" }
+    { last = $0 }' "$top/README.md" "$top/docs/QUESTIONS.md")
+verdict "each block of README.md and docs/QUESTIONS.md has a name" "$unnamed"
+
+# Runs a recipe here, which must end well, and leaves what it wrote in `out` and `err`.
+recipe() { # NAME
+    problems=
+    echo "$1" >> "$folder/made"
+    $shell "$folder/recipes/$1" > "$folder/out" 2> "$folder/err" || problems=" status $?: $(head -c 500 "$folder/err");"
+}
+
+# What the last recipe, or what was run behind it, wrote.
+wrote() { # TEXT
+    printf '%s\n' "$1" > "$folder/wanted"
+    cmp -s "$folder/out" "$folder/wanted" || problems="$problems wrote '$(head -c 2000 "$folder/out")' and not '$1';"
+}
+
+equal() { # WHAT FOUND WANTED
+    [ "$2" = "$3" ] || problems="$problems $1: '$2' and not '$3';"
+}
+
+# A program or a file of docs/QUESTIONS.md: the indented lines from one that has this text to the next paragraph.
+program_with() { # TEXT
+    awk -v text="$1" '
+        index($0, "    " text) == 1 { on = 1 }
+        on && /^[^ ]/ { exit }
+        on { print substr($0, 5) }' "$top/docs/QUESTIONS.md"
+}
+
+# ---- what is known: the glider's texts, and the same pattern in other spellings
+
+glider='[M2] (canonical 1)
+#R B3/S23
+$$..*$...*$.***$$$$'
+glider_rle='#CXRLE Pos=-3,-2
+x = 3, y = 3, rule = B3/S23
+bo$2bo$3o!'
+glider_key=$(printf '%s\n' "$glider" | sha256sum | cut -c 1-64)
+
+spellings() { # FOLDER
+    cp "$top/examples/glider.mc" "$1/glider.mc"
+    printf '[M2]\r\n#C in a larger square\r\n#R s23b3\r\n$$$$$$......*$.......*$\r\n.....***$\r\n4 1 0 2 0\r\n' > "$1/other.mc"
+    printf '#CXRLE Pos=-3,-2\r\nx = 3, y = 3, rule = 23/3\r\nbo$2bo$3o!\r\n' > "$1/glider.rle"
+    printf '#C row by row\n#CXRLE Gen=0 Pos=-3,-2\nx=0,y=0\n.o.$\n..o$ooo' > "$1/other.rle"
+}
+
+# What the doubles of the folder `patterns` are, and which of its files have no key.
+told_doubles() {
+    wrote "$glider_key  patterns/a folder/\$(other) 'name'.mc
+$glider_key  patterns/a folder/of two
+lines.rle
+$glider_key  patterns/glider.mc
+$glider_key  patterns/glider.rle"
+    equal "standard error" "$(grep 'has no key' "$folder/err" | sort | tr '\n' ' ')" \
+        "patterns/empty has no key patterns/more has no key patterns/notes has no key "
+}
+
+each_recipe() {
+    spellings .
+    cp "$top/examples/gosper_glider_gun.mc" gun.mc
+    cp "$top/examples/wire.rle" "$top/examples/WireWorld.rule" .
+
+    recipe key
+    wrote "$glider_key  -
+$glider_key  -"
+    verdict "the key of a pattern, in $shell" "$problems"
+
+    recipe keys
+    : > empty
+    cp gun.mc ./-gun.mc
+    ./keys glider.mc empty -gun.mc absent other.mc 2> "$folder/err" | tr '\0' '\n' > "$folder/out"
+    equal "names" "$(cut -c 67- "$folder/out" | tr '\n' ' ')" "glider.mc -gun.mc other.mc "
+    equal "keys" "$(awk '{ print ($1 == key ? "glider" : "another") }' key="$glider_key" "$folder/out" | tr '\n' ' ')" "glider another glider "
+    equal "standard error" "$(grep 'has no key' "$folder/err" | tr '\n' ' ')" "empty has no key absent has no key "
+    verdict "keys of files, in $shell" "$problems"
+
+    # Four gliders, one more elsewhere and one of another generation, a gun, and files that are no patterns, two of them the same.
+    mkdir -p "patterns/a folder"
+    spellings patterns
+    mv patterns/other.rle "patterns/a folder/of two
+lines.rle"
+    mv patterns/other.mc "patterns/a folder/\$(other) 'name'.mc"
+    printf 'x = 3, y = 3\nbo$2bo$3o!\n' > patterns/shifted.rle
+    printf '[M2]\n#G 4\n$$..*$...*$.***$\n' > patterns/later.mc
+    cp gun.mc patterns/gun.mc
+    : > patterns/empty
+    echo "notes" > patterns/notes
+    echo "notes" > patterns/more
+    recipe doubles
+    told_doubles
+    verdict "doubles, in $shell" "$problems"
+
+    for machines in : one,two; do
+        export machines FAR="$PWD/far"
+        recipe machines
+        told_doubles
+        verdict "doubles by the machines $machines, in $shell" "$problems"
+    done
+    problems=
+    equal "how many files the machines got" "$(find far/*/patterns -type f -exec echo one \; | wc -l)" "$(find patterns -type f -exec echo one \; | wc -l)"
+    verdict "files are copied to the machines, in $shell" "$problems"
+
+    recipe formats
+    wrote same
+    equal "the gun in RLE" "$(tail -n +2 gun.rle)" 'x = 36, y = 9, rule = B3/S23
+24bo$22bobo$12b2o6b2o12b2o$11bo3bo4b2o12b2o$2o8bo5bo3b2o$2o8bo3bob2o4b
+obo$10bo5bo7bo$11bo3bo$12b2o!'
+    equal "the gun again" "$(golly_canon same gun.mc again.mc)" same
+    verdict "both formats, in $shell" "$problems"
+
+    # The wire has eight cells, so that its electron is back behind eight generations.
+    recipe table
+    wrote '#CXRLE Pos=0,0 Gen=8
+x = 4, y = 4, rule = WireWorld
+.BA$C2.C$C2.C$.2C!'
+    verdict "generations by a table, in $shell" "$problems"
+
+    table_recipes
+    stranger_recipe
+    git_recipes
+}
+
+# What the pattern of a 2 and a 3, with a dead cell between them, is one step later, or why not.
+next_by() { # TABLE
+    golly_canon step between.rle --table "$1" > next.mc 2> told && golly_canon convert next.mc --to rle > told
+    tail -n 1 told
+}
+
+# The table of docs/QUESTIONS.md is refused, mended and split, and the order of its two lines counts: bgolly 3.3 gives a 2 by the table as it stands.
+# And a table with each form that the tables in Golly's zip files have, by lines of either end.
+table_recipes() {
+    printf 'x = 1, y = 3, rule = Wind\nB$$C!\n' > between.rle
+    wind='@RULE Wind
+@TABLE
+n_states:4
+neighborhood:vonNeumann
+symmetries:rotate4
+var a = {2,3}
+var b = {a}'
+    program_with '@RULE Wind' > Wind.rule
+    recipe variables
+    equal "the table as it stands" "$(next_by Wind.rule)" "table line 6: BadVariable"
+    equal "the mended table" "$(cat mended.rule)" "$wind
+0,a,0,b,0,a"
+    equal "the step by it" "$(next_by mended.rule)" "table line 8: Ambiguous"
+    verdict "a table with its variables mended, in $shell" "$problems"
+
+    recipe split
+    equal "the split table" "$(cat split.rule)" "$wind
+0,2,0,b,0,2
+0,3,0,b,0,3"
+    equal "the step by it" "$(next_by split.rule)" 'B$B$C!'
+    sed -e '8 { h; d }' -e '9 G' split.rule > turned.rule
+    equal "the step by the lines in the other order" "$(next_by turned.rule)" 'B$C$C!'
+    verdict "a table with its line split, in $shell" "$problems"
+
+    cat > forms <<'END'
+@RULE Wind
+@TABLE
+n_states:4
+neighborhood:Moore
+symmetries:none
+var a.0{0,1,2,3}
+var a.1=a.0
+	var	b {1, 2} # not = {a.0}
+var c = a.0
+var d = {3,b}
+var e= 1, b # two
+2,a.0,0,a.1,0,0,0,c,0,3
+3,d,0,0,0,0,0,e,0,1
+END
+    cat > wanted <<'END'
+@RULE Wind
+@TABLE
+n_states:4
+neighborhood:Moore
+symmetries:none
+var a.0 = {0,1,2,3}
+var a.1= {a.0}
+	var	b  = {1, 2} # not = {a.0}
+var c = {a.0}
+var d = {3,b}
+var e= {1, b} # two
+2,a.0,0,a.1,0,0,0,c,0,3
+3,d,0,0,0,0,0,e,0,1
+END
+    for ending in '' "$(printf '\r')"; do
+        sed "s/\$/$ending/" forms > Wind.rule
+        recipe variables
+        equal "the table as it stands" "$(next_by Wind.rule)" "table line 6: BadVariable"
+        equal "the mended table" "$(cat mended.rule)" "$(sed "s/\$/$ending/" wanted)"
+        equal "the step by it" "$(next_by mended.rule)" 'C2$C!'
+        verdict "each form of a variable, in $shell" "$problems"
+    done
+}
+
+# A file is replaced by its canonical text; one that is refused, and one whose text is too long, stay as they are, and nothing is left beside them.
+stranger_recipe() {
+    recipe stranger
+    cp glider.rle wanted.rle
+    ./in_place wanted.rle
+    equal "the status of a file" "$?" 0
+    equal "its text" "$(cat wanted.rle)" "$glider"
+    printf '[M2]\n4 0 0 0 9\n' > refused.mc
+    ./in_place refused.mc 2> told
+    equal "the status of a refused file" "$?" 2
+    equal "a refused file" "$(cat refused.mc)" "$(printf '[M2]\n4 0 0 0 9\n')"
+    equal "the fault of a refused file" "$(cat told)" "line 2: BadChild"
+    sed 's/ulimit -f 2000000/ulimit -f 0/' in_place > tight
+    cp glider.rle long.rle
+    sh tight long.rle 2> told && problems="$problems a text that is too long was taken;"
+    equal "a file whose text is too long" "$(cat long.rle)" "$(cat glider.rle)"
+    [ "$(echo ./*.new)" = './*.new' ] || problems="$problems a file was left:$(echo ./*.new);"
+    verdict "the canonical text in the place of a file, in $shell" "$problems"
+}
+
+# Behind a commit of two gliders: their other spellings are no difference, and a cell more is one of canonical texts.
+git_recipes() {
+    mkdir diff clean
+    spellings diff
+    cd diff || exit 1
+    git init -q
+    recipe diff
+    git add . && git commit -q -m gliders
+    cp other.mc glider.mc
+    cp other.rle glider.rle
+    equal "the files that git sees changed" "$(git diff --name-only | tr '\n' ' ')" "glider.mc glider.rle "
+    equal "the difference of spellings" "$(git diff)" ""
+    sed -i 's/ooo$/oooo/' glider.rle
+    equal "the difference of patterns" "$(git diff | tail -n +4)" '+++ b/glider.rle
+@@ -1,3 +1,3 @@
+ [M2] (canonical 1)
+ #R B3/S23
+-$$..*$...*$.***$$$$
++$$..*$...*$.****$$$$'
+    echo "notes" > glider.rle
+    equal "the difference to no pattern" "$(git diff | tail -n 1)" "+notes"
+    verdict "differences in git, in $shell" "$problems"
+
+    cd ../clean || exit 1
+    spellings .
+    git init -q
+    recipe clean
+    git add . && git commit -q -m gliders
+    for format in mc rle; do
+        text=$glider
+        [ $format = mc ] || text=$glider_rle
+        blob=$(printf '%s\n' "$text" | git hash-object --stdin)
+        equal "the blobs of .$format" "$(git ls-files -s "*.$format" | cut -d ' ' -f 2 | tr '\n' ' ')" "$blob $blob "
+        rm "other.$format" && git checkout -q -- "other.$format"
+        equal "other.$format as it is checked out" "$(cat "other.$format")" "$text"
+    done
+    echo "notes" > notes.mc
+    git add notes.mc 2> "$folder/err" && problems="$problems a file that is no pattern was added;"
+    equal "the files that are kept" "$(git ls-files | tr '\n' ' ')" ".gitattributes glider.mc glider.rle other.mc other.rle "
+    verdict "one text in git, in $shell" "$problems"
+    cd .. || exit 1
+}
+
+for shell in sh bash; do
+    command -v $shell > /dev/null || continue
+    mkdir "$folder/$shell" && cd "$folder/$shell" || exit 1
+    each_recipe
+done
+verdict "each recipe is run" "$(ls "$folder/recipes" | while read -r name; do grep -qx "$name" "$folder/made" || echo " $name isn't"; done)"
+
+# ---- the examples of README.md and docs/QUESTIONS.md: an indented command behind `$ `, and the lines that it writes
+
+mkdir "$folder/top" && cd "$folder/top" || exit 1
+cp -r "$top/examples" "$folder/bin/golly_canon" .
+cp examples/glider.mc .
+printf 'x = 3, y = 3\nbob$2bo$3o!\n' > glider.rle
+for document in README.md docs/QUESTIONS.md; do
+    mkdir examples_of && awk '
+        /^    \$ / { number = NR; on = 1; print substr($0, 7) > ("examples_of/" number); printf "" > ("examples_of/" number ".wanted"); next }
+        !/^    / { on = 0 }
+        on { print substr($0, 5) > ("examples_of/" number ".wanted") }' "$top/$document"
+    for wanted in examples_of/*.wanted; do
+        example=${wanted%.wanted}
+        sh "$example" > out 2>&1
+        verdict "the example in line ${example#*/} of $document" "$(diff out "$wanted")"
+    done
+    rm -r examples_of
+done
+
+# Keys that pass over the place and the direction: of a glider in two places, turned by a quarter, and reflected; and of another pattern.
+program_with '"""The key of what' > turned.py
+printf 'x = 3, y = 3\n3o$o$bo!\n' > turned.rle
+printf 'x = 3, y = 3\n3o$o$2o!\n' > other.rle
+for file in glider.rle glider.mc turned.rle other.rle; do
+    golly_canon convert --to rle $file | python3 -B turned.py || echo "$file has no key"
+done > out 2>&1
+problems=
+equal "how many keys" "$(sort out | uniq -c | sort -n | awk '{ print $1, length($2) }' | tr '\n' ' ')" "1 64 3 64 "
+verdict "keys of what is turned" "$problems"
+
+# Without the toolchain, at the top of the repository.
+cp -r "$top/tests" . && program_with "cat > canon.py" > without && sh without > out 2>&1
+verdict "the canonical text without the toolchain" "$(./golly_canon canon examples/glider.mc | diff out -)"
+
+ended

@@ -1,0 +1,256 @@
+#!/usr/bin/env python3
+"""Calls the shared library by ctypes, beside the program, on each file of a folder and on files that are refused, by each limit of a store in turn
+beside the independent reader, and from two threads at once; and streams, fed in random pieces, beside the calls on whole files. The last line is
+'N passed, M failed'.
+
+usage: tests/library/library.py PROGRAM FOLDER"""
+
+import ctypes
+import os
+import pathlib
+import random
+import sys
+import threading
+from typing import NamedTuple
+
+sys.path.insert(0, os.path.dirname(os.path.dirname(os.path.abspath(__file__))))
+
+from independent import commands  # noqa: E402
+from independent.fuzz import small_files  # noqa: E402
+from shared import c_interface, processes  # noqa: E402
+from shared.c_interface import FULL, LINE_TOO_LONG, NO_ROOM, SPENT, SQUARES, Stream  # noqa: E402
+from shared.counting import check, ended  # noqa: E402
+
+library = c_interface.loaded()
+
+# The greatest limit of a store that is tried.
+MOST_LIMIT = 4096
+IN_PIECES = " in pieces"
+
+
+class Limits(NamedTuple):
+    """The least limits of a store for a file, counted with the squares of the independent reader and found again by trying each limit: to read the file,
+    which every text of its pattern takes; to step it under its own rule; and to compare it with the file behind it here. So many different squares that
+    aren't blank are stored: of an RLE file those of the plane, of a macrocell file those of its node lines with the parts of leaves, and the root of the
+    canonical file; then those of the next generation, and its root."""
+
+    read: int
+    step: int
+    same: int
+
+
+# Files of both formats, with their least limits.
+WORKED = {
+    "a blank plane": (b"x = 0, y = 0, rule = 23/3\n!\n", Limits(0, 0, 0)),
+    "a blank plane of node lines": (b"[M2]\n#R B3/S23\n$\n4 0 0 1 0\n", Limits(0, 0, 66)),
+    "a glider": (small_files.LIFE_FILES["a glider"], Limits(66, 71, 186)),
+    "lines that end by CR LF": (small_files.LIFE_FILES["lines that end by CR LF"], Limits(121, 121, 245)),
+    "a rule of four neighbours": (small_files.LIFE_FILES["a rule of four neighbours"], Limits(124, 140, 185)),
+    "a row as wide as the plane": (small_files.LIFE_FILES["a row as wide as the plane"], Limits(62, 62, 72)),
+    "a root above its pattern": (small_files.LIFE_FILES["a root above its pattern"], Limits(10, 10, 10)),
+    "squares below the leaves": (small_files.LIFE_FILES["squares below the leaves"], Limits(4, 4, 6)),
+    "a line twice and one that is not reached": (small_files.LIFE_FILES["a line twice and one that is not reached"], Limits(5, 5, 11)),
+    "the example glider.mc": (small_files.LIFE_FILES["the example glider.mc"], Limits(6, 14, 130)),
+    "two states at the corner": (small_files.NAMED_FILES["two states at the corner"][0], Limits(124, 124, 131)),
+    "levels and leaves under a name": (small_files.NAMED_FILES["levels and leaves under a name"][0], Limits(7, 7, 10)),
+    "a quarter that is no earlier line": (small_files.LIFE_FILES["a quarter that is no earlier line"], Limits(3, 3, 3)),
+    "no header": (b"o!\n", Limits(0, 0, 0)),
+}
+
+# Files that are stepped by a table, with the least limit for that.
+STEPPED = {
+    "the example wire.rle": (*small_files.NAMED_FILES["the example wire.rle"], 129),
+    "a state that spreads": (*small_files.NAMED_FILES["a state that spreads"], 248),
+    "levels and leaves under a name": (*small_files.NAMED_FILES["levels and leaves under a name"], 200),
+    "no header": (b"o!\n", small_files.SPREAD_TABLE, 0),
+}
+
+# Each call on a whole file, and what opens a stream that ends with its answer.
+CALLS = {
+    "canon": (library.golly_canon_canon, library.golly_canon_open_canon),
+    "show": (library.golly_canon_show, library.golly_canon_open_show),
+    "to_rle": (library.golly_canon_to_rle, library.golly_canon_open_to_rle),
+    "step": (library.golly_canon_step, library.golly_canon_open_step),
+}
+
+
+def name_of(status):
+    return c_interface.name_of(library, status)
+
+
+def text_of(call, file, limit=SQUARES, room=64):
+    """Returns the text that a call gives, and what it tells where it refuses."""
+    out, needed, line = ctypes.create_string_buffer(b"\xaa" * room, room), ctypes.c_size_t(7), ctypes.c_uint64(7)
+    numbers = ctypes.c_size_t(room), ctypes.byref(needed), ctypes.byref(line)
+    status = call(file, ctypes.c_size_t(len(file)), ctypes.c_uint64(limit), c_interface.seed(), out, *numbers)
+    if status == NO_ROOM:
+        assert out.raw == b"\xaa" * room and needed.value > room
+        return text_of(call, file, limit, needed.value)
+    if status:
+        assert out.raw == b"\xaa" * room and needed.value == 0
+        return b"", f"line {line.value}: {name_of(status)}\n" if line.value else f"{name_of(status)}\n"
+    return out.raw[: needed.value], ""
+
+
+def stepped_by(table):
+    """The call that steps by this table, with the arguments of the others."""
+    def call(file, length, *others):
+        in_table = ctypes.c_uint32()
+        return library.golly_canon_step_by_table(file, length, table, ctypes.c_size_t(len(table)), *others, ctypes.byref(in_table))
+    return call
+
+
+def compared_with(other):
+    """The call that compares with another file, with the arguments of the others. It writes the line of the program."""
+    def call(file, length, limit, seed, out, room, needed, line):
+        is_same = ctypes.c_uint32()
+        status = library.golly_canon_same(file, length, other, ctypes.c_size_t(len(other)), limit, seed, ctypes.byref(is_same), line)
+        text = b"" if status else (b"same\n" if is_same.value else b"different\n")
+        ctypes.memmove(out, text, len(text))
+        needed._obj.value = len(text)
+        return status
+    return call
+
+
+def pieces_of(file, cutting):
+    """The file in random pieces, small and large, some of them empty."""
+    cuts, at = random.Random(cutting), 0
+    while at < len(file):
+        size = cuts.randrange(cuts.choice((1, 2, 4, 16, 256, 65536)))
+        yield file[at : at + size]
+        at += size
+
+
+def by_stream(open_stream, cutting):
+    """The call that feeds a stream a file in random pieces, with the arguments of the others. The fault of a line comes with its line feed, or at
+    the end where it has none, and then again and again."""
+    def call(file, _, limit, seed, out, room, needed, line):
+        stream = Stream()
+        it, told, at = ctypes.byref(stream), (0, 0), 0
+        assert open_stream(it, limit, seed) == 0
+        for piece in pieces_of(file, cutting):
+            answer = library.golly_canon_feed(it, piece, ctypes.c_size_t(len(piece)), line), line._obj.value
+            before, at = file[:at].count(b"\n"), at + len(piece)
+            if told != (0, 0):
+                assert answer == told
+            elif answer[1] == 0:
+                assert answer[0] in (0, FULL)
+            else:
+                assert answer[0] == LINE_TOO_LONG or before < answer[1] <= file[:at].count(b"\n")
+            told = answer
+        for _ in range(2):
+            status = library.golly_canon_finish(it, out, room, needed, line)
+            assert told == (status, line._obj.value) if told != (0, 0) else line._obj.value == 0 or line._obj.value > file.count(b"\n")
+            told = status, line._obj.value
+        if status in (0, NO_ROOM):
+            assert library.golly_canon_feed(it, b"x", ctypes.c_size_t(1), line) == SPENT
+        library.golly_canon_close(it)
+        return status
+    return call
+
+
+def outcome_of(call, *arguments):
+    """What a call gives or tells, or that it breaks a promise."""
+    try:
+        return text_of(call, *arguments)
+    except AssertionError:
+        return None
+
+
+def check_streams(files):
+    """Each file, a random front of it, and it with a random byte in place of another, in random pieces: what the call on a whole file answers."""
+    chosen = random.Random(31)
+    files = {**files, **small_files.LIFE_FILES, **{name: file for name, (file, _) in small_files.NAMED_FILES.items()}}
+    for name, file in files.items():
+        for word, (call, open_stream) in CALLS.items():
+            wrong = []
+            for seed in range(12):
+                at = chosen.randrange(len(file) + 1)
+                for other in (file, file[:at], file[:at] + chosen.choice((b"\n", b"!", b"0", b"$", b"\xff")) + file[at + 1 :]):
+                    if outcome_of(by_stream(open_stream, seed), other) != text_of(call, other):
+                        wrong.append(other)
+            check(not wrong, f"{word} of {name}{IN_PIECES}: {wrong[:1]}")
+
+
+def first_limit(call, file, wanted):
+    """The first limit of a store that suffices. Below it the call answers Full, and from it on, up to 4096, what is wanted: a text and what is told.
+    None where it answers otherwise."""
+    first = None
+    for limit in range(MOST_LIMIT + 1):
+        answer = outcome_of(call, file, limit, max(64, len(wanted[0])))
+        if first is None and answer != (b"", "Full\n"):
+            first = limit
+        if first is not None and answer != wanted:
+            return None
+    return first
+
+
+def rows_of_limits():
+    """Each call on each worked file, with what the independent reader says and the least limit."""
+    readers = {"canon": commands.canon, "show": commands.show, "to_rle": commands.convert_to_rle, "step": commands.step}
+    names = list(WORKED)
+    for (name, (file, limits)), behind in zip(WORKED.items(), names[1:] + names[:1]):
+        for word, (call, open_stream) in CALLS.items():
+            answer, least = readers[word](commands.File(file)), limits.step if word == "step" else limits.read
+            yield f"{word} of {name}", call, file, answer, least
+            yield f"{word} of {name}{IN_PIECES}", by_stream(open_stream, 1), file, answer, least
+        other = WORKED[behind][0]
+        answer = commands.same(commands.File(file), commands.File(other))
+        yield f"same of {name} and {behind}", compared_with(other), file, answer, limits.same
+    for name, (file, table, least) in STEPPED.items():
+        yield f"step_by_table of {name}", stepped_by(table), file, commands.step(commands.File(file), commands.File(table)), least
+
+
+def check_limits():
+    """Every limit from 0 on, by every call, over worked files of both formats: Full below the least limit, and from it on what the independent reader
+    says, a fault too. A blank pattern wants no room, and a file that is refused none behind its fault."""
+    for what, call, file, answer, least in rows_of_limits():
+        if "TooManyCells" in answer.fault:
+            continue  # It counts 2^20 cells at each limit.
+        first = first_limit(call, file, (answer.output, answer.fault))
+        check(first == least, f"each limit: {what}: {first} and not {least}")
+
+
+def of_program(program, words, file):
+    run = processes.run([program, *words], file)
+    return run.output, run.error.decode()
+
+
+def main(program, folder):
+    files = {it.name: it.read_bytes() for it in sorted(pathlib.Path(folder).iterdir()) if it.is_file()}
+    files["child"] = b"[M2]\n#R B3/S23\n....*$$$$$$$$\n4 0 0 0 9\n"
+    files["count"] = b"x = 1, y = 1\n\n0o!\n"
+    files["nothing"] = b""
+    words_of = {"canon": ("canon", "-"), "show": ("show", "-"), "to_rle": ("convert", "-", "--to", "rle"), "step": ("step", "-")}
+    for name, file in files.items():
+        for word, (call, open_stream) in CALLS.items():
+            answer = of_program(program, words_of[word], file)
+            check(text_of(call, file) == answer, f"{word} of {name}")
+            check(outcome_of(by_stream(open_stream, 0), file) == answer, f"{word} of {name}{IN_PIECES}")
+    check(text_of(library.golly_canon_canon, files["child"])[1] == "line 4: BadChild\n", "the line of a refusal")
+    check(text_of(library.golly_canon_canon, files["glider.mc"], 0)[1] == "Full\n", "a limit of 0")
+    check(text_of(library.golly_canon_canon, files["glider.mc"], 2**64 - 1)[0] != b"", "the greatest limit")
+
+    check_streams(files)
+    check_limits()
+
+    # Two threads at once: ctypes lets go of the interpreter while a call runs. Each stream stays with its thread.
+    wanted = {name: text_of(library.golly_canon_canon, file) for name, file in files.items()}
+    wrong = []
+
+    def work():
+        for turn in range(50):
+            call = by_stream(library.golly_canon_open_canon, turn) if turn % 5 == 0 else library.golly_canon_canon
+            wrong.extend(name for name, file in files.items() if outcome_of(call, file) != wanted[name])
+
+    threads = [threading.Thread(target=work) for _ in range(2)]
+    for it in threads:
+        it.start()
+    for it in threads:
+        it.join()
+    check(not wrong, f"two threads at once: {wrong[:3]}")
+    return ended()
+
+
+if __name__ == "__main__":
+    sys.exit(main(*sys.argv[1:]))

@@ -1,0 +1,219 @@
+#!/usr/bin/env python3
+"""The Python module python/golly_canon.py: its example and that of README.md, worked rows and refusals, streams, its errors, and random files beside the
+program. The module is found by PYTHONPATH. The last line is 'N passed, M failed'.
+
+usage: tests/library/module.py PROGRAM"""
+
+import doctest
+import io
+import os
+import random
+import re
+import subprocess
+import sys
+import tempfile
+import textwrap
+import threading
+
+sys.path.insert(0, os.path.dirname(os.path.dirname(os.path.abspath(__file__))))
+
+import golly_canon  # noqa: E402
+from golly_canon import Box, Refused, Shown, Stream  # noqa: E402
+from independent.fuzz import random_files  # noqa: E402
+from shared import processes  # noqa: E402
+from shared.counting import check, ended  # noqa: E402
+from shared.fixtures import FILES, LIFE, LINE_STEPPED, PAIR_RLE, PAIR_SHOWN, PAIR_TEXT, SPREAD_STEPPED  # noqa: E402
+
+README = os.path.join(os.path.dirname(os.path.abspath(__file__)), "../../README.md")
+RANDOM_FILES = 200
+GLIDER = b"x = 3, y = 3, rule = 23/3\nbo$2bo$3o!\n"
+GLIDER_TEXT = LIFE + b"$$$$.....*$......*$....***$$\n"
+CHILD = b"[M2]\n#R B3/S23\n....*$$$$$$$$\n4 0 0 0 9\n"
+
+
+def outcome_of(call, *arguments, **more):
+    """What a call returns, or the kind, the line and the text of its refusal, or the name of another error."""
+    try:
+        return call(*arguments, **more)
+    except Refused as why:
+        return why.kind, why.line, why.in_table, str(why)
+    except Exception as error:
+        return type(error).__name__
+
+
+def fed(chunks, gives="canon"):
+    """What a stream gives that is fed one chunk after another."""
+    with Stream(gives) as it:
+        for chunk in chunks:
+            it.feed(chunk)
+        return it.finish()
+
+
+def after_closing():
+    it = Stream()
+    it.close()
+    return it.finish()
+
+
+def in_another_thread():
+    """What a stream answers in another thread than its own."""
+    with Stream() as it:
+        found = []
+        thread = threading.Thread(target=lambda: found.append(outcome_of(it.feed, GLIDER)))
+        thread.start()
+        thread.join()
+        return found[0]
+
+
+def twice():
+    """A stream gives its text again, and then takes no chunk."""
+    with Stream() as it:
+        it.feed(GLIDER)
+        return it.finish(), it.finish(), outcome_of(it.feed, b"x")
+
+
+def refused_again():
+    """A stream that has refused tells the same again."""
+    with Stream() as it:
+        return outcome_of(it.feed, CHILD), outcome_of(it.feed, b"$\n"), outcome_of(it.finish)
+
+
+NO_CHILD = ("BadChild", 4, False, "line 4: BadChild")
+SPENT = ("Spent", None, False, "Spent")
+
+# A name, what comes of it, and what is wanted.
+ROWS = [
+    ("canon", outcome_of(golly_canon.canon, GLIDER), GLIDER_TEXT),
+    ("canon of macrocell", outcome_of(golly_canon.canon, FILES["pair.mc"]), PAIR_TEXT),
+    ("canon of a bytearray", outcome_of(golly_canon.canon, bytearray(GLIDER)), GLIDER_TEXT),
+    ("canon of a part of a memoryview", outcome_of(golly_canon.canon, memoryview(b".." + GLIDER)[2:]), GLIDER_TEXT),
+    ("to_rle", outcome_of(golly_canon.to_rle, FILES["pair.mc"]), PAIR_RLE),
+    ("show", outcome_of(golly_canon.show, FILES["pair.rle"]), Shown("B3/S23", 0, 2, Box(-4, 0, 9, 1), 2)),
+    ("show of a blank plane", outcome_of(golly_canon.show, FILES["input"]), Shown("B3/S23", 0, 0, None, 0)),
+    ("same", outcome_of(golly_canon.same, FILES["pair.rle"], FILES["pair.mc"]), True),
+    ("same of others", outcome_of(golly_canon.same, FILES["pair.rle"], FILES["named.rle"]), False),
+    ("step", outcome_of(golly_canon.step, FILES["line.rle"]), LINE_STEPPED),
+    ("step by a table", outcome_of(golly_canon.step, FILES["spread.rle"], FILES["spread.rule"]), SPREAD_STEPPED),
+    ("a stream of bytes", outcome_of(fed, (GLIDER[at:at + 1] for at in range(len(GLIDER)))), GLIDER_TEXT),
+    ("a stream of nothing and more", outcome_of(fed, [b"", GLIDER, b""]), GLIDER_TEXT),
+    ("a stream to RLE", outcome_of(fed, [FILES["pair.mc"]], "to_rle"), PAIR_RLE),
+    ("a stream that is shown", outcome_of(fed, [FILES["pair.mc"]], "show"), PAIR_SHOWN),
+    ("a stream that is stepped", outcome_of(fed, [FILES["line.rle"]], "step"), LINE_STEPPED),
+    ("an open file", outcome_of(golly_canon.stream, io.BytesIO(GLIDER)), GLIDER_TEXT),
+    ("an open file to RLE", outcome_of(golly_canon.stream, io.BytesIO(FILES["pair.mc"]), "to_rle"), PAIR_RLE),
+    ("a long file", outcome_of(golly_canon.stream, io.BytesIO(b"#C a comment\n" * 20_000 + GLIDER)), GLIDER_TEXT),
+    ("chunks", outcome_of(golly_canon.stream, [GLIDER[:9], GLIDER[9:]]), GLIDER_TEXT),
+    ("a stream that is finished twice", outcome_of(twice), (GLIDER_TEXT, GLIDER_TEXT, SPENT)),
+    ("the greatest limit", outcome_of(golly_canon.canon, GLIDER, limit=2**64), GLIDER_TEXT),
+    ("a file that is refused", outcome_of(golly_canon.canon, CHILD), NO_CHILD),
+    ("no bytes", outcome_of(golly_canon.canon, b""), ("NoHeader", 1, False, "line 1: NoHeader")),
+    ("the first of two", outcome_of(golly_canon.same, CHILD, b""), NO_CHILD),
+    ("the second of two", outcome_of(golly_canon.same, GLIDER, CHILD), NO_CHILD),
+    ("too many cells", outcome_of(golly_canon.to_rle, FILES["many.rle"]), ("TooManyCells", None, False, "TooManyCells")),
+    ("a name without its table", outcome_of(golly_canon.step, FILES["spread.rle"]), ("NeedsTable", None, False, "NeedsTable")),
+    ("a table of another name", outcome_of(golly_canon.step, GLIDER, FILES["spread.rule"]), ("RuleMismatch", None, False, "RuleMismatch")),
+    ("a refused table", outcome_of(golly_canon.step, GLIDER, FILES["bad.rule"]), ("NoTable", 2, True, "table line 2: NoTable")),
+    ("a refused file behind a table", outcome_of(golly_canon.step, CHILD, FILES["spread.rule"]), NO_CHILD),
+    ("two states for a cell", outcome_of(golly_canon.step, FILES["two.rle"], FILES["two.rule"]), ("Ambiguous", 8, True, "table line 8: Ambiguous")),
+    ("a stream that refuses", outcome_of(refused_again), (NO_CHILD,) * 3),
+    ("an open file that is refused", outcome_of(golly_canon.stream, io.BytesIO(CHILD)), NO_CHILD),
+    ("a limit of 0", outcome_of(golly_canon.canon, GLIDER, limit=0), ("Full", None, False, "Full")),
+    ("a limit below 0", outcome_of(golly_canon.canon, GLIDER, limit=-1), "ValueError"),
+    ("a closed stream", outcome_of(after_closing), SPENT),
+    ("a stream in another thread", in_another_thread(), "RuntimeError"),
+    ("another thing to give", outcome_of(Stream, "mc"), "ValueError"),
+    ("a text", outcome_of(golly_canon.canon, GLIDER.decode()), "TypeError"),
+    ("a number", outcome_of(golly_canon.canon, 5), "TypeError"),
+    ("a file that is open for text", outcome_of(golly_canon.stream, io.StringIO(GLIDER.decode())), "TypeError"),
+    ("bytes for chunks", outcome_of(golly_canon.stream, GLIDER), "TypeError"),
+]
+
+
+def told(call, *arguments):
+    """What a call comes to, as the program says it: its output and its standard error."""
+    try:
+        found = call(*arguments)
+    except Refused as why:
+        return b"", f"{why}\n".encode()
+    return found, b""
+
+
+def as_the_program(program, pattern, other, rule_table):
+    """Whether each call answers as the program does on these files. What `show` returns is compared by the program's lines."""
+    with tempfile.TemporaryDirectory() as folder:
+        for name, data in (("pattern", pattern), ("other", other), ("table", rule_table)):
+            with open(os.path.join(folder, name), "wb") as it:
+                it.write(data)
+        runs = [
+            (["canon", "pattern"], told(golly_canon.canon, pattern)),
+            (["convert", "pattern", "--to", "rle"], told(golly_canon.to_rle, pattern)),
+            (["show", "pattern"], told(golly_canon.show, pattern)),
+            (["step", "pattern"], told(golly_canon.step, pattern)),
+            (["step", "pattern", "--table", "table"], told(golly_canon.step, pattern, rule_table)),
+            (["same", "pattern", "other"], told(golly_canon.same, pattern, other)),
+        ]
+        for words, found in runs:
+            answer = processes.run([program, *words], cwd=folder)
+            wanted = answer.output, answer.error
+            if words[0] == "show" and answer.output:
+                wanted = Shown.of(answer.output), b""
+            if words[0] == "same" and answer.output:
+                wanted = answer.output == b"same\n", b""
+            if found != wanted:
+                return False
+    return True
+
+
+def random_triple(number):
+    """A pattern file, another one and a rule table, which are right or nearly so."""
+    source = random.Random(f"module {number}")
+    rule, greatest = random_files.rule_text(source)
+    name = random_files.name_text(source)
+    table, states = random_files.table_file(source, name)
+    if source.random() < 0.5:
+        rule, greatest = name, min(255, states - 1)
+    pattern = random_files.pattern_file(source, rule, greatest)
+    return random_files.mutated(source, pattern), random_files.mutated(source, pattern), random_files.mutated(source, table, (0.7, 0.3))
+
+
+def names_of_readme():
+    """What the example of README.md gives its names, beside the file that it opens."""
+    with open(README, encoding="utf-8") as it:
+        example = re.search(r"^\*\*From Python\*\*.*\n\n((?:    .*\n)+)", it.read(), re.MULTILINE)[1]
+    with tempfile.TemporaryDirectory() as folder:
+        path = os.path.join(folder, "glider.rle")
+        with open(path, "wb") as it:
+            it.write(GLIDER)
+        names = {}
+        exec(textwrap.dedent(example).replace('open("glider.rle", "rb").read()', f"open({path!r}, 'rb').read()"), names)
+    return names["text"], names["population"], names["is_double"]
+
+
+def without_library(path):
+    """What the module says where the library isn't there."""
+    given = {**os.environ, "GOLLY_CANON_LIBRARY": path}
+    run = subprocess.run([sys.executable, "-B", "-c", "import golly_canon"], env=given, capture_output=True, text=True, check=False)
+    return run.returncode, run.stderr.splitlines()[-1]
+
+
+def main(program):
+    program = processes.program_of(program)
+    results = doctest.testmod(golly_canon)
+    check(results.attempted == 3 and results.failed == 0, f"the example of the module: {results}")
+    found = outcome_of(names_of_readme)
+    check(found == (GLIDER_TEXT, 5, True), f"the example of README.md: {found}")
+    for name, found, wanted in ROWS:
+        check(found == wanted, f"{name}: {found!r} and not {wanted!r}")
+    wrong = [number for number in range(RANDOM_FILES) if not as_the_program(program, *random_triple(number))]
+    check(not wrong, f"{RANDOM_FILES} random files as the program has them: {wrong[:5]}")
+    version = processes.run([program, "--version"]).output.decode().split()[-1]
+    check(golly_canon.__version__ == version, f"the version is the program's: {golly_canon.__version__} and not {version}")
+    status, said = without_library("/nowhere/libgolly_canon.so.1")
+    check(status == 1 and said.startswith("ImportError: the library of golly_canon isn't found. "), f"without the library: {said}")
+    return ended()
+
+
+if __name__ == "__main__":
+    if len(sys.argv) != 2:
+        sys.exit("usage: tests/library/module.py PROGRAM")
+    sys.exit(main(sys.argv[1]))

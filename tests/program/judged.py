@@ -1,0 +1,114 @@
+"""What `compare.py` compares with the independent reader: the built program, or the shared library, which starts no process."""
+
+import ctypes
+
+from independent import commands
+from shared import c_interface, processes
+from shared.c_interface import AMBIGUOUS, FULL, MEMORY, NO_ROOM, Stream
+
+# The statuses of the program.
+SAME, DIFFERENT, REFUSED, WANTS = 0, 1, 2, 4
+CALLS = {"canon": "canon", "show": "show", "step": "step", "rle": "to_rle", "mc": "canon"}
+
+
+class Program:
+    """The program. Its files stand in the folder of the cases."""
+
+    def __init__(self, path):
+        self.path = path
+
+    def put(self, name, data):
+        with open(name, "wb") as it:
+            it.write(data)
+
+    def answer(self, words, given):
+        """Runs it on these words."""
+        found = processes.spawned([self.path, *words], given)
+        return commands.Answer(found.status, found.output, found.error.decode("latin-1"))
+
+
+def store():
+    """The limit of a call's store, and a seed."""
+    return ctypes.c_uint64(c_interface.SQUARES), c_interface.seed()
+
+
+class Library:
+    """The calls of the shared library for the words of the program. What the program would read from a pipe comes in pieces by a stream."""
+
+    def __init__(self, path):
+        self.path = path
+        self.files = {}
+        self.room = 1 << 16
+        self.calls = None
+
+    def put(self, name, data):
+        self.files[name] = data
+
+    def loaded(self):
+        """The library, loaded at the first call in each process, and the memory for its answers."""
+        if self.calls is None:
+            self.calls = c_interface.loaded(self.path)
+            self.out = ctypes.create_string_buffer(self.room)
+            self.needed, self.line, self.flag = ctypes.c_size_t(), ctypes.c_uint64(), ctypes.c_uint32()
+        return self.calls
+
+    def refusal(self, status, in_table):
+        """What the program leaves where the library answers this status."""
+        place = f"line {self.line.value}: " if self.line.value else ""
+        table = "table " if place and (in_table or status == AMBIGUOUS) else ""
+        return commands.Answer(WANTS if status in (FULL, MEMORY) else REFUSED, b"", f"{table}{place}{c_interface.name_of(self.calls, status)}\n")
+
+    def asked(self, call):
+        """What a call answers, which takes the memory for its answer, and is made again where that lacks room."""
+        while True:
+            status = call(self.out, ctypes.c_size_t(self.room), ctypes.byref(self.needed), ctypes.byref(self.line))
+            if status != NO_ROOM:
+                return status
+            self.room = 2 * self.needed.value
+            self.out = ctypes.create_string_buffer(self.room)
+
+    def by_call(self, name, data):
+        call = getattr(self.calls, f"golly_canon_{name}")
+        return self.asked(lambda *out: call(data, ctypes.c_size_t(len(data)), *store(), *out))
+
+    def by_stream(self, name, data):
+        """The same with the file in some eight pieces. A refused piece ends it, as the stream tells the fault again at its end."""
+        stream = Stream()
+        status = getattr(self.calls, f"golly_canon_open_{name}")(ctypes.byref(stream), *store())
+        size = len(data) // 8 + 1
+        for at in range(0, len(data), size):
+            piece = data[at: at + size]
+            if status == 0:
+                status = self.calls.golly_canon_feed(ctypes.byref(stream), piece, ctypes.c_size_t(len(piece)), ctypes.byref(self.line))
+        ended = self.asked(lambda *out: self.calls.golly_canon_finish(ctypes.byref(stream), *out))
+        self.calls.golly_canon_close(ctypes.byref(stream))
+        return ended if status in (0, ended) else status
+
+    def by_table(self, data, table):
+        call = self.calls.golly_canon_step_by_table
+        lengths = ctypes.c_size_t(len(data)), ctypes.c_size_t(len(table))
+        return self.asked(lambda *out: call(data, lengths[0], table, lengths[1], *store(), *out, ctypes.byref(self.flag)))
+
+    def compared(self, one, other):
+        sizes = ctypes.c_size_t(len(one)), ctypes.c_size_t(len(other))
+        answered = ctypes.byref(self.flag), ctypes.byref(self.line)
+        status = self.calls.golly_canon_same(one, sizes[0], other, sizes[1], *store(), *answered)
+        if status:
+            return self.refusal(status, False)
+        return commands.Answer(SAME, b"same\n") if self.flag.value else commands.Answer(DIFFERENT, b"different\n")
+
+    def answer(self, words, given):
+        """Calls the library as these words of the program say. `-` is the file whose name is given."""
+        self.loaded()
+        first = self.files[given if words[1] == "-" else words[1]]
+        if words[0] == "same":
+            return self.compared(first, self.files[given if words[2] == "-" else words[2]])
+        self.flag.value = 0
+        if words[-2] == "--table":
+            status = self.by_table(first, self.files[words[-1]])
+        else:
+            name = CALLS[words[-1] if words[0] == "convert" else words[0]]
+            status = (self.by_stream if words[1] == "-" else self.by_call)(name, first)
+        if status:
+            return self.refusal(status, self.flag.value)
+        return commands.Answer(0, self.out[: self.needed.value])
