@@ -48,9 +48,14 @@ def headings(path):
     return {re.sub(r"[^\w\- ]", "", name.lower()).replace(" ", "-") for name in names}
 
 
+def has_line(path, anchor):
+    """Whether an anchor is that of a line of code, as `L12`, and the file has it."""
+    return bool(re.fullmatch(r"L\d+", anchor)) and int(anchor[1:]) <= text_of(path).count("\n")
+
+
 def leads_somewhere(document, file, anchor):
     path = os.path.normpath(os.path.join(os.path.dirname(document), file)) if file else document
-    return is_there(path) and (not anchor or anchor in headings(path))
+    return is_there(path) and (not anchor or (anchor in headings(path) if path.endswith(".md") else has_line(path, anchor)))
 
 
 def wide_lines(path, kept):
