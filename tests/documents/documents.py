@@ -1,5 +1,5 @@
 #!/usr/bin/env python3
-"""Holds the documents against the repository: each file and heading that they link to, and each file that they name by its path, is there; the table
+"""Holds the documents against the repository: each file, heading and line of code that they link to, and each file that they name, is there; the table
 of sizes in docs/PROOFS.md is what scripts/sizes prints; each planted bug of its table is an edit that turns what the table says, and nothing else; no
 line of documents, definitions and proofs is too wide; the man page has a date and the version; and each place that names the kinds of fault has them
 all, with their numbers (scripts/kinds says which places). And each check in the folders of tests/ is run, by tests/all or by another one.
