@@ -1,5 +1,5 @@
 #!/bin/sh
-# Runs the recipes of README.md and docs/QUESTIONS.md as they stand there, in sh and in bash, with the program, $1, on the PATH, in a folder of their
+# Runs the recipes of docs/RECIPES.md and docs/QUESTIONS.md as they stand there, in sh and in bash, with the program, $1, on the PATH, in a folder of their
 # own, and compares what they come to with what is known of the patterns in examples/ and of tables; and the examples and programs of both, of which
 # the examples say themselves what is written. It needs git, GNU parallel, rsync and Python 3.
 
@@ -46,8 +46,8 @@ unnamed=$(awk -v folder="$folder/recipes" '
     on { print > (folder "/" name) }
     /^```sh$/ { on = 1; split(last, words, " "); name = words[3] }
     on && last !~ /^<!-- recipe: [a-z]+ -->$/ && /^```sh$/ { print " line " FNR " of " FILENAME; name = "unnamed" }
-    { last = $0 }' "$top/README.md" "$top/docs/QUESTIONS.md")
-verdict "each block of README.md and docs/QUESTIONS.md has a name" "$unnamed"
+    { last = $0 }' "$top/docs/RECIPES.md" "$top/docs/QUESTIONS.md")
+verdict "each block of docs/RECIPES.md and docs/QUESTIONS.md has a name" "$unnamed"
 
 # Runs a recipe here, which must end well, and leaves what it wrote in `out` and `err`.
 recipe() { # NAME

@@ -183,7 +183,7 @@ wanted="$(printf '[M2] (canonical 1)\n#R B3/S23\n$$$$.....*$......*$....***$$')"
 verdict "the version is the program's" "$([ "golly_canon $(pkg-config --modversion golly_canon)" = "$("$program" --version)" ] || "$program" --version)"
 "$CC" -std=c11 -Wall -Wextra -Werror -o canon "$top/examples/canon.c" $(pkg-config --cflags --libs golly_canon) > said 2>&1
 verdict "examples/canon.c finds the library" "$(cat said)"
-verdict "the README shows examples/canon.c" "$(awk '/^```$/ { on = 0 } on { print } /^```c$/ { on = 1 }' "$top/README.md" | diff - "$top/examples/canon.c")"
+verdict "docs/LIBRARY.md shows examples/canon.c" "$(awk '/^```$/ { on = 0 } on { print } /^```c$/ { on = 1 }' "$top/docs/LIBRARY.md" | diff - "$top/examples/canon.c")"
 verdict "examples/canon.c" "$([ "$(./canon < files/glider.rle)" = "$wanted" ] || ./canon < files/glider.rle 2>&1)"
 verdict "examples/canon.c refuses" "$([ "$(./canon < files/child.mc 2>&1)" = "line 4: BadChild" ] || ./canon < files/child.mc 2>&1)"
 verdict "examples/canon.py" "$([ "$(python3 -B "$top/examples/canon.py" < files/glider.rle)" = "$wanted" ] || echo another)"

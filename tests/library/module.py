@@ -1,5 +1,5 @@
 #!/usr/bin/env python3
-"""The Python module python/golly_canon.py: its example and that of README.md, worked rows and refusals, streams, its errors, and random files beside the
+"""The Python module python/golly_canon.py: its example and that of docs/LIBRARY.md, worked rows and refusals, streams, its errors, and random files beside the
 program. The module is found by PYTHONPATH. The last line is 'N passed, M failed'.
 
 usage: tests/library/module.py PROGRAM"""
@@ -24,7 +24,7 @@ from shared import processes  # noqa: E402
 from shared.counting import check, ended  # noqa: E402
 from shared.fixtures import FILES, LIFE, LINE_STEPPED, PAIR_RLE, PAIR_SHOWN, PAIR_TEXT, SPREAD_STEPPED  # noqa: E402
 
-README = os.path.join(os.path.dirname(os.path.abspath(__file__)), "../../README.md")
+PAGE = os.path.join(os.path.dirname(os.path.abspath(__file__)), "../../docs/LIBRARY.md")
 RANDOM_FILES = 200
 GLIDER = b"x = 3, y = 3, rule = 23/3\nbo$2bo$3o!\n"
 GLIDER_TEXT = LIFE + b"$$$$.....*$......*$....***$$\n"
@@ -177,8 +177,8 @@ def random_triple(number):
 
 
 def names_of_readme():
-    """What the example of README.md gives its names, beside the file that it opens."""
-    with open(README, encoding="utf-8") as it:
+    """What the example of docs/LIBRARY.md gives its names, beside the file that it opens."""
+    with open(PAGE, encoding="utf-8") as it:
         example = re.search(r"^\*\*From Python\*\*.*\n\n((?:    .*\n)+)", it.read(), re.MULTILINE)[1]
     with tempfile.TemporaryDirectory() as folder:
         path = os.path.join(folder, "glider.rle")
@@ -201,7 +201,7 @@ def main(program):
     results = doctest.testmod(golly_canon)
     check(results.attempted == 3 and results.failed == 0, f"the example of the module: {results}")
     found = outcome_of(names_of_readme)
-    check(found == (GLIDER_TEXT, 5, True), f"the example of README.md: {found}")
+    check(found == (GLIDER_TEXT, 5, True), f"the example of docs/LIBRARY.md: {found}")
     for name, found, wanted in ROWS:
         check(found == wanted, f"{name}: {found!r} and not {wanted!r}")
     wrong = [number for number in range(RANDOM_FILES) if not as_the_program(program, *random_triple(number))]
