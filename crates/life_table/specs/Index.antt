@@ -9,7 +9,6 @@ use Rattle.life_table.specs.Orders.{turn, reflected_turn, orders}
 use Rattle.life_table.specs.Site.{centre_of, others_of}
 use Rattle.life_table.specs.Taking.{can_be_state}
 use Rattle.life_table.specs.declared.block.Block.{Block}
-use Rattle.life_table.specs.declared.image_list.Images.{Images}
 use Rattle.life_table.specs.declared.index.Query.{Query}
 use Rattle.life_table.specs.declared.index.Query.TheVariants as queries
 use Rattle.life_table.specs.declared.site.Site.{Site}

@@ -1,9 +1,9 @@
 //! The lines of a block that may give something in some order of the neighbours. However many of them have one of some states, as many inputs
 //! must be able to be one of these.
-ghost use Rattle.std.specs.Prelude.{◌≡◌, ℕ, ◌+◌, ◌*◌, ◌<◌, ◌≤◌, List, Contains, count_by, drop, length, slice_index};
+ghost use Rattle.std.specs.Prelude.{◌≡◌, ℕ, ◌+◌, ◌*◌, ◌<◌, ◌≤◌, ◌∷◌, List, Contains, count_by, drop, length, slice_index};
 ghost use Rattle.std.specs.Int.{bit_at};
 ghost use Rattle.life_table.specs.Orders.{orders};
-ghost use Rattle.life_table.specs.Index.{Stay, is_among, AreCounts, MayBeBehind, MayFitInSomeOrder};
+ghost use Rattle.life_table.specs.Index.{Stay, is_among, AreCounts, MayBeBehind, MayFit, MayFitInSomeOrder};
 
 use crate::block::Block;
 use life_base::State;
@@ -152,6 +152,52 @@ impl Block {
         rest
     }
 
+    /// The lines whose input at place `p` may be a state that more than one neighbour has.
+    fn with_input_of_two(&self, counts: &Counts, p: usize) -> u64
+        requires place { p < 9 }
+        requires few { counts.now.count ≤ 8 }
+        ensures { (k i : ℕ) → i < counts.now.count → 1 < slice_index counts.now.times i → (slice_index counts.now.states i < 256 → bit_at (slice_index self.now.sets (256 * p + slice_index counts.now.states i)) k ≡ 1) → bit_at result k ≡ 1 }
+    {
+        let mut lines = 0;
+        for i in 0..counts.count {
+            if counts.times[i] > 1 {
+                lines |= self.with_input_among(p, &[counts.states[i]]);
+            }
+        }
+        lines
+    }
+
+    /// Of these lines those whose input at place `p` behind the centre's is another entry than each before it, or may be a state that more than one
+    /// neighbour has.
+    fn with_pair_at(&self, others: &[State], counts: &Counts, p: usize, lines: u64) -> u64
+        requires place { p < length others.now }
+        requires room { length others.now ≤ 8 }
+        requires counts { AreCounts others.now counts.now }
+        ensures { (k centre : ℕ) (v : List ℕ) → k < 64 → Contains (orders others.now) v → MayFit self.now (centre ∷ v) k → bit_at lines k ≡ 1 → bit_at result k ≡ 1 }
+    {
+        let of_two = self.with_input_of_two(counts, p + 1);
+        let mut rest = lines;
+        for q in 0..p {
+            rest &= self.apart[9 * (p + 1) + (q + 1)] | of_two;
+        }
+        rest
+    }
+
+    /// Of these lines those that have two neighbours of one state for each two inputs that are one entry.
+    fn with_pairs(&self, others: &[State], counts: &Counts, lines: u64) -> u64
+        requires room { length others.now ≤ 8 }
+        requires counts { AreCounts others.now counts.now }
+        ensures { (k centre : ℕ) (v : List ℕ) → k < 64 → Contains (orders others.now) v → MayFit self.now (centre ∷ v) k → bit_at lines k ≡ 1 → bit_at result k ≡ 1 }
+    {
+        let mut rest = lines;
+        for p in 0..others.len() {
+            if rest & self.twice[p + 1] != 0 {
+                rest = self.with_pair_at(others, counts, p, rest);
+            }
+        }
+        rest
+    }
+
     /// Of these lines those that have inputs enough for the neighbours of all states but one, whichever that is.
     fn with_all_but_one(&self, others: &[State], states: &[State], lines: u64) -> u64
         requires room { length others.now ≤ 8 }
@@ -197,6 +243,7 @@ impl Block {
         let states = &counts.states[..counts.count];
         let mut lines = self.with_each_input(others, counts, self.sets[cells[0] as usize]);
         lines = self.with_each_state(others, counts, lines);
+        lines = self.with_pairs(others, counts, lines);
         if lines.count_ones() <= FEW {
             return lines;
         }

@@ -1,5 +1,5 @@
-use Rattle.std.proofs.Common.{◌≡◌, ℕ, ◌+◌, List, length, drop, refl, ap, sym, ◌∙◌, subst, slice_index, arith, length-drop}
-use Rattle.std.specs.Prelude.{Contains, MatchResult}
+use Rattle.std.proofs.Common.{◌≡◌, ◌+◌, List, length, drop, refl, ap, sym, ◌∙◌, subst, slice_index, arith}
+use Rattle.std.specs.Prelude.{MatchResult}
 use Rattle.life_base.specs.declared.fault.Fault.{Fault}
 use Rattle.life_base.specs.declared.kind.Kind.TheVariants as kinds
 use Rattle.life_table.specs.Around.{cells_of}

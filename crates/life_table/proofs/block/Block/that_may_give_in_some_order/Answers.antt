@@ -17,7 +17,8 @@ returns c = λ k room fit.
     let first = centre_may block centre v k fit.fits small in
     c.with_every_choice.ensures k v room order may
     (c.with_all_but_one-lines.ensures k v room order may
-    (c.with_each_state-lines.ensures k v room order may (c.with_each_input-lines.ensures k v room order may first)))
+    (c.with_pairs-lines.ensures k centre v room order fit.fits
+    (c.with_each_state-lines.ensures k v room order may (c.with_each_input-lines.ensures k v room order may first))))
 
 pub returns-then-lines-le-FEW : goal.returns-then-lines-le-FEW
 returns-then-lines-le-FEW c = λ k room fit.
@@ -29,4 +30,5 @@ returns-then-lines-le-FEW c = λ k room fit.
     let may = behind block centre v k fit.fits in
     let small : centre < 256 = omega (arith, c.type_inv.cells 0) in
     let first = centre_may block centre v k fit.fits small in
-    c.with_each_state-lines.ensures k v room order may (c.with_each_input-lines.ensures k v room order may first)
+    c.with_pairs-lines.ensures k centre v room order fit.fits
+    (c.with_each_state-lines.ensures k v room order may (c.with_each_input-lines.ensures k v room order may first))
